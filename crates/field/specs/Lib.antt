@@ -1,0 +1,4 @@
+pub mod Modulus
+pub mod Arithmetic
+pub mod Algebra
+pub mod Element

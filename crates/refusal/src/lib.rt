@@ -1,0 +1,60 @@
+// Refusals: the first of several in order, and the conditions that several calls share.
+ghost use mathlib.Core.Path.{_≡_};
+ghost use mathlib.Core.List.{[], _∷_};
+ghost use Rattle.refusal.specs.Refusal.{first, orElse, _when_};
+ghost use Rattle.refusal.specs.Conditions.{postsTests, beyond, anyBeyond, badPoint};
+
+// The refusal of one group of checks, or else of the next.
+pub fn or_else(a: u8, b: u8) -> u8
+    ensures { λ r. ⌜ r ≡ orElse a b ⌝ }
+{
+    if a != 0 { a } else { b }
+}
+
+// 1 and 2: the number of posts, and t.
+pub fn posts(n: usize, t: usize) -> u8
+    ensures { λ r. ⌜ r ≡ first (postsTests n t) ⌝ }
+{
+    if n < 2 {
+        return 1;
+    }
+    if 32 < n {
+        return 1;
+    }
+    if t < 1 {
+        return 2;
+    }
+    if n - 1 < t {
+        return 2;
+    }
+    0
+}
+
+// 4, of one check point.
+pub fn point(w: u32) -> u8
+    ensures { λ r. ⌜ r ≡ first (4 when badPoint w ∷ []) ⌝ }
+{
+    if w == 0 {
+        return 4;
+    }
+    if w < 2147483647 { 0 } else { 4 }
+}
+
+// 8, of one number.
+pub fn number(x: u32) -> u8
+    ensures { λ r. ⌜ r ≡ first (8 when beyond x ∷ []) ⌝ }
+{
+    if x < 2147483647 { 0 } else { 8 }
+}
+
+// 8, of every number of a list.
+pub fn numbers(list: &[u32]) -> u8
+    ensures { λ r. ⌜ r ≡ first (8 when anyBeyond (now (list .entry)) ∷ []) ⌝ }
+{
+    for i in 0..list.len() {
+        if 2147483647 <= list[i] {
+            return 8;
+        }
+    }
+    0
+}
