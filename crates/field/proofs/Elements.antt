@@ -1,8 +1,8 @@
 -- The p elements are a field, and arithmetic on plain numbers is arithmetic on the elements that they stand for.
-use mathlib.Core.Path.{_≡_, refl, sym, _∙_, ap, ap₂}
+use mathlib.Core.Path.{_≡_, refl, sym, _∙_, ap}
 use mathlib.Core.Logic.{_≢_}
-use Prim.Native.Nat.{ℕ, _+_, _*_, _-_, _%_, _≤_, _<_, Fin}
-use native.Mathlib.Nat.{mod-lt, mod-eq-of-lt, mod-mod, add-mod, add-mod-mod}
+use Prim.Native.Nat.{ℕ, _+_, _*_, _-_, _%_, _<_}
+use native.Mathlib.Nat.{mod-eq-of-lt, mod-mod, add-mod}
 use native.Mathlib.Decide.{ℕ-discrete}
 use native.Mathlib.Omega.{arith}
 use lib.Dec.{lit<}
@@ -38,18 +38,6 @@ element-injective x y h k e =
 pub element-mod : (x : ℕ) → element (x % p) ≡ element x
 unfolding element
 element-mod x = element-path (element (x % p)) (element x) (mod-mod x p)
-
--- every result of the arithmetic is an element's number
-pub sum-below : (a b : ℕ) → sum a b < p
-unfolding sum
-sum-below a b = mod-lt (a + b) (lit< tt)
-
-pub difference-below : (a b : ℕ) → difference a b < p
-unfolding difference
-difference-below a b = mod-lt (a + (p - b % p)) (lit< tt)
-
-pub inverse-below : (a : ℕ) → inverse a < p
-inverse-below a = inverse-is a .below
 
 -- the field
 inverse-law : (a : Element) → a ≢ residues p above-one .zero → residues p above-one .mul a (element (inverse (a .0))) ≡ residues p above-one .one

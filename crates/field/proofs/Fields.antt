@@ -18,7 +18,7 @@ module _ {R : Type 0} (𝓡 : CommutativeRing R) where
 
 module _ {R : Type 0} (𝓕 : Field R) where
   open Field 𝓕 using (ring, inv, mul-inv)
-  open CommutativeRing ring using (add as _⊕_, mul as _⊗_, neg, zero, one)
+  open CommutativeRing ring using (add as _⊕_, mul as _⊗_, neg, zero)
 
   infixl 65 _⊕_
   infixl 70 _⊗_
@@ -35,9 +35,3 @@ module _ {R : Type 0} (𝓕 : Field R) where
 
   pub difference-nonzero : (a b : R) → a ≢ b → a ⊕ neg b ≢ zero
   difference-nonzero a b h e = h (equal-of-difference-zero ring a b e)
-
-  pub quotient-times : (a y : R) → a ≢ zero → y ⊗ inv a ⊗ a ≡ y
-  unfolding Same
-  quotient-times a y h =
-      solve ring (y ∷ inv a ∷ a ∷ []) (A :* B :* C) (A :* (C :* B)) refl ∙ ap (λ (z : R). y ⊗ z) (mul-inv a h)
-      ∙ ring .mul-one y

@@ -1,5 +1,5 @@
 -- p is prime: a test that the checker computes, no number from 2 to 46340 divides p, and the lemma that the test is enough.
-use mathlib.Core.Path.{_≡_, sym, _∙_, ap, subst}
+use mathlib.Core.Path.{_≡_, _∙_, ap, subst}
 use mathlib.Core.Bool.{Bool, true, false}
 use mathlib.Core.Logic.{_⊎_, inl, inr}
 use Prim.Native.Nat.{ℕ, zero, suc, _+_, _*_, _/_, _%_, _≤_, _<_}
@@ -8,12 +8,7 @@ use native.Mathlib.Decide.{decLe, ℕ-discrete}
 use native.Mathlib.Omega.{arith}
 use lib.Dec.{T, leb, leb→le, lit≤, lit<}
 use Rattle.field.specs.Modulus.{p}
-use Rattle.field.specs.Algebra.{Prime}
-
--- none of the k numbers from d on divides m
-undivided : ℕ → ℕ → ℕ → Bool
-undivided m zero d = true
-undivided m (suc k) d = elim (leb 1 (m % d)) [ true ↦ undivided m k (suc d) | false ↦ false ]
+use Rattle.field.specs.Primality.{Prime, undivided}
 
 both : (a b : Bool) → T (elim a as (λ x. Bool) [ true ↦ b | false ↦ false ]) → T a × T b
 both true b t = (tt, t)

@@ -28,7 +28,7 @@ monomials-eq (x ∷ xs) (y ∷ ys) h = go (compare x y) refl (monomials-eq xs ys
     go Ordering·gt e ih u = absurd u
 
 module _ {R : Type 0} (𝓡 : CommutativeRing R) where
-  open CommutativeRing 𝓡 using (add as _⊕_, mul as _⊗_, neg, zero as 0ᴿ, one as 1ᴿ, add-assoc, add-comm, add-zero, add-neg, mul-assoc, mul-comm, mul-one, mul-add)
+  open CommutativeRing 𝓡 using (add as _⊕_, mul as _⊗_, neg, zero as 0ᴿ, one as 1ᴿ, add-assoc, add-comm, add-zero, add-neg, mul-assoc, mul-one, mul-add)
 
   infixl 65 _⊕_
   infixl 70 _⊗_

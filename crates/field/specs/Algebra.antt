@@ -1,12 +1,6 @@
--- What a prime, a commutative ring and a field are.
-use Prim.Native.Nat.{ℕ, _*_, _<_}
+-- What a commutative ring and a field are.
 use mathlib.Core.Path.{_≡_}
-use mathlib.Core.Logic.{_⊎_, _≢_}
-
--- A number above 1 that is no product of two others.
-pub record Prime (m : ℕ) : Type 0 where
-  pub above-one : 1 < m
-  pub only : (a b : ℕ) → a * b ≡ m → (a ≡ 1) ⊎ (b ≡ 1)
+use mathlib.Core.Logic.{_≢_}
 
 pub record CommutativeRing (R : Type 0) : Type 0 where
   pub add : R → R → R

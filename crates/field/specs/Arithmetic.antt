@@ -1,7 +1,7 @@
 -- Arithmetic modulo p on plain numbers: what the contracts cite. Each result is an element whatever the arguments are.
 use Prim.Native.Nat.{ℕ, zero, suc, _+_, _*_, _-_, _/_, _%_, _<_}
 use mathlib.Core.Path.{_≡_}
-use mathlib.Core.Bool.{Bool, true, false}
+use mathlib.Core.Bool.{true, false}
 use lib.Dec.{leb}
 use Rattle.field.specs.Modulus.{p}
 

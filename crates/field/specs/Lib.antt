@@ -1,4 +1,5 @@
 pub mod Modulus
 pub mod Arithmetic
+pub mod Primality
 pub mod Algebra
 pub mod Element

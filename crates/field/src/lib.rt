@@ -5,24 +5,26 @@
 ghost use mathlib.Core.Path.{_≡_};
 ghost use Rattle.field.specs.Arithmetic.{sum, difference, product, inverse, IsInverse};
 
-pub const MODULUS: u32 = 2147483647;
+pub const P: u32 = 2147483647;
+
+const WIDE_P: u64 = 2147483647;
 
 pub fn add(a: u32, b: u32) -> u32
     ensures { λ r. ⌜ r ≡ sum a b ⌝ }
 {
-    ((a as u64 + b as u64) % 2147483647) as u32
+    ((a as u64 + b as u64) % WIDE_P) as u32
 }
 
 pub fn sub(a: u32, b: u32) -> u32
     ensures { λ r. ⌜ r ≡ difference a b ⌝ }
 {
-    ((a as u64 + (2147483647 - b as u64 % 2147483647)) % 2147483647) as u32
+    ((a as u64 + (WIDE_P - b as u64 % WIDE_P)) % WIDE_P) as u32
 }
 
 pub fn mul(a: u32, b: u32) -> u32
     ensures { λ r. ⌜ r ≡ product a b ⌝ }
 {
-    ((a as u64 * b as u64) % 2147483647) as u32
+    ((a as u64 * b as u64) % WIDE_P) as u32
 }
 
 // The inverse of x, and 0 for 0: with p = q u + r, 1/u is (p - q)/r, and r is smaller than u.
@@ -30,14 +32,14 @@ pub fn inverse(x: u32) -> u32
     ensures value { λ r. ⌜ r ≡ inverse x ⌝ }
     ensures meaning { λ r. ⌜ IsInverse x r ⌝ }
 {
-    let mut u = x % 2147483647;
+    let mut u = x % P;
     if u == 0 {
         return 0;
     }
     let mut scale: u32 = 1;
     while 1 < u {
-        scale = mul(2147483647 - 2147483647 / u, scale);
-        u = 2147483647 % u;
+        scale = mul(P - P / u, scale);
+        u = P % u;
     }
     scale
 }

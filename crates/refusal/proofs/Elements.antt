@@ -1,8 +1,8 @@
 -- The search for a number that is no element: its turns, and what it says where it finds none.
-use Prim.Native.Nat.{ℕ, suc, _+_, _≤_, _<_}
-use mathlib.Core.Path.{_≡_, refl, ap, ap₂}
-use mathlib.Core.Bool.{Bool, true, false, not}
-use mathlib.Core.List.{List, [], _∷_, _++_}
+use Prim.Native.Nat.{ℕ, _+_, _≤_, _<_}
+use mathlib.Core.Path.{_≡_, ap}
+use mathlib.Core.Bool.{Bool, false, not}
+use mathlib.Core.List.{List, [], _∷_}
 use native.Mathlib.Numerals.{add-one}
 use borrow.Author.Tests.{lt-ltb, le-ltb, ltb-true, not-false}
 use lib.Dec.{ltb}
@@ -10,8 +10,7 @@ use lib.ListN.{length, drop, getD, drop-of-length-le}
 use lib.Seq.{drop-cons}
 use Rattle.field.specs.Modulus.{p}
 use Rattle.refusal.specs.Refusal.{_when_, first}
-use Rattle.refusal.specs.Conditions.{or, beyond, anyBeyond}
-use Rattle.refusal.proofs.Laws.{or-false}
+use Rattle.refusal.specs.Conditions.{beyond, anyBeyond}
 
 -- one turn of the search: the answer for the rest of the list is the answer for the whole
 module _ (l : List ℕ) (i : ℕ) (b : Bool) where

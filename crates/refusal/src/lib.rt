@@ -37,14 +37,14 @@ pub fn point(w: u32) -> u8
     if w == 0 {
         return 4;
     }
-    if w < 2147483647 { 0 } else { 4 }
+    if w < field::P { 0 } else { 4 }
 }
 
 // 8, of one number.
 pub fn number(x: u32) -> u8
     ensures { λ r. ⌜ r ≡ first (8 when beyond x ∷ []) ⌝ }
 {
-    if x < 2147483647 { 0 } else { 8 }
+    if x < field::P { 0 } else { 8 }
 }
 
 // 8, of every number of a list.
@@ -52,7 +52,7 @@ pub fn numbers(list: &[u32]) -> u8
     ensures { λ r. ⌜ r ≡ first (8 when anyBeyond (now (list .entry)) ∷ []) ⌝ }
 {
     for i in 0..list.len() {
-        if 2147483647 <= list[i] {
+        if field::P <= list[i] {
             return 8;
         }
     }

@@ -1,12 +1,13 @@
 -- `field::inverse` meets its contract. The loop's invariant: x times `scale` is u modulo p, and u is neither 0 nor p.
-use mathlib.Core.Path.{_≡_, refl, sym, _∙_, ap}
-use Prim.Native.Nat.{ℕ, _≤_, _<_, _-_, _/_, _%_}
+use mathlib.Core.Path.{_≡_}
+use Prim.Native.Nat.{_<_, _%_}
 use native.Mathlib.Nat.{mod-lt, div-le-self}
 use native.Mathlib.Omega.{arith}
 use borrow.Author.Needs.{needs}
 use Rattle.field.specs.Modulus.{p}
 use Rattle.field.specs.Arithmetic.{product}
-use Rattle.field.proofs.Euclid.{turn, next-positive, product-below, none-for-zero, found, started}
+use Rattle.field.proofs.Euclid.{turn, next-positive, none-for-zero, found, started}
+use Rattle.field.proofs.Modular.{product-below}
 use Rattle.field.proofs.inverse.Statement.{statement}
 use Rattle.field.proofs.inverse.Tie as tie
 

@@ -1,0 +1,34 @@
+-- Every value, sum and interpolation is an element.
+use Prim.Native.Nat.{ℕ, _<_}
+use mathlib.Core.List.{List, [], _∷_}
+use lib.Dec.{lit<}
+use Rattle.field.specs.Modulus.{p}
+use Rattle.field.proofs.Modular.{sum-below, product-below}
+use Rattle.poly.specs.Polynomial.{value, weighted}
+use Rattle.poly.specs.Interpolation.{nodal, terms, interpolated}
+
+pub value-below : (cs : List ℕ) (x : ℕ) → value cs x < p
+unfolding value
+value-below [] x = lit< tt
+value-below (c ∷ cs) x = sum-below _ _
+
+pub weighted-below : (cs ws : List ℕ) → weighted cs ws < p
+unfolding weighted
+weighted-below [] ws = lit< tt
+weighted-below (c ∷ cs) [] = lit< tt
+weighted-below (c ∷ cs) (w ∷ ws) = sum-below _ _
+
+pub nodal-below : (xs : List ℕ) (z : ℕ) → nodal xs z < p
+unfolding nodal
+nodal-below [] z = lit< tt
+nodal-below (x ∷ xs) z = product-below _ _
+
+pub terms-below : (z : ℕ) (passed xs ys : List ℕ) → terms z passed xs ys < p
+unfolding terms
+terms-below z passed [] ys = lit< tt
+terms-below z passed (x ∷ xs) [] = lit< tt
+terms-below z passed (x ∷ xs) (y ∷ ys) = sum-below _ _
+
+pub interpolated-below : (xs ys : List ℕ) (z : ℕ) → interpolated xs ys z < p
+unfolding interpolated
+interpolated-below xs ys z = terms-below z [] xs ys

@@ -1,0 +1,149 @@
+-- The turns of the loops in src/lib.rt, each as a fact about plain lists and numbers.
+use Prim.Native.Nat.{ℕ, suc, _+_, _-_, _≤_, _<_}
+use mathlib.Core.Path.{_≡_, refl, sym, _∙_, ap}
+use mathlib.Core.List.{List, [], _∷_, _++_, append-assoc, append-nil}
+use native.Mathlib.Numerals.{add-one}
+use native.Mathlib.Decide.{decLe}
+use native.Mathlib.Omega.{arith}
+use lib.ListN.{length, take, drop, getD, set, length-drop, drop-of-length-le}
+use lib.Seq.{drop-cons, drop-length, take-suc, take-suc-set, take-all}
+use Rattle.field.specs.Modulus.{p}
+use Rattle.field.specs.Arithmetic.{sum, difference, product}
+use Rattle.field.proofs.Modular.{sum-assoc, sum-comm, sum-zero, product-assoc, product-comm, product-one}
+use Rattle.poly.specs.Polynomial.{value, powersFrom, weighted}
+use Rattle.poly.specs.Interpolation.{nodal, others, weight, terms, interpolated}
+use Rattle.poly.proofs.Bounds.{weighted-below, nodal-below, interpolated-below}
+
+-- Horner's rule, from the last coefficient down
+module _ (cs : List ℕ) (x : ℕ) where
+  pub horner-start : 0 ≡ value (drop (length cs) cs) x
+  unfolding value
+  horner-start = rw (drop-length cs)
+
+  pub horner-turn : (i r m v : ℕ) → 0 < i → i ≤ length cs → r ≡ value (drop i cs) x → m ≡ product x r
+      → v ≡ sum (getD cs (i - 1) 0) m → v ≡ value (drop (i - 1) cs) x
+  unfolding value
+  horner-turn i r m v h k e f g =
+      let q : i ≡ suc (i - 1) = omega arith in
+      g ∙ ap (sum (getD cs (i - 1) 0)) (f ∙ ap (product x) (e ∙ ap (λ (j : ℕ). value (drop j cs) x) q))
+      ∙ sym (ap (λ (l : List ℕ). value l x) (drop-cons cs (i - 1) 0 (omega arith)))
+
+  pub horner-end : (i r : ℕ) → i ≤ 0 → r ≡ value (drop i cs) x → r ≡ value cs x
+  horner-end i r h e = let z : i ≡ 0 = omega arith in e ∙ ap (λ (j : ℕ). value (drop j cs) x) z
+
+-- the list of powers, from the front: the powers to come complete it
+module _ (x : ℕ) where
+  pub powers-start : (l : List ℕ) → take 0 l ++ powersFrom 1 x (length l - 0) ≡ powersFrom 1 x (length l)
+  powers-start l = ap (powersFrom 1 x) (omega arith)
+
+  pub powers-turn : (l l₀ : List ℕ) (i y v : ℕ) → i < length l₀ → length l ≡ length l₀
+      → take i l ++ powersFrom y x (length l₀ - i) ≡ powersFrom 1 x (length l₀) → v ≡ product y x
+      → take (i + 1) (set l i y) ++ powersFrom v x (length l₀ - (i + 1)) ≡ powersFrom 1 x (length l₀)
+  unfolding powersFrom
+  powers-turn l l₀ i y v h k e f =
+      let q : length l₀ - i ≡ suc (length l₀ - (i + 1)) = omega arith in
+      let j : i < length l = omega arith in
+      rw (f, add-one i, take-suc-set l i y j, append-assoc, ← add-one i) (rw q at e)
+
+  pub powers-end : (l l₀ : List ℕ) (i y : ℕ) → length l₀ ≤ i → length l ≡ length l₀
+      → take i l ++ powersFrom y x (length l₀ - i) ≡ powersFrom 1 x (length l₀) → l ≡ powersFrom 1 x (length l₀)
+  unfolding powersFrom
+  powers-end l l₀ i y h k e =
+      let q : length l₀ - i ≡ 0 = omega arith in
+      sym (append-nil l) ∙ rw (q, take-all i l (omega arith)) at e
+
+-- a running sum: with the sum of what is to come it makes the whole
+sum-turn : (r s rest whole : ℕ) → sum r (sum s rest) ≡ whole → sum (sum r s) rest ≡ whole
+sum-turn r s rest whole f = sum-assoc r s rest ∙ f
+
+sum-end : (r whole : ℕ) → r < p → sum r 0 ≡ whole → r ≡ whole
+sum-end r whole h e = sym (sum-comm r 0 ∙ sum-zero r h) ∙ e
+
+-- the sum of two lists' products, to the end of the shorter
+module _ (xs ys : List ℕ) (whole : ℕ) where
+  pub weighted-start : weighted xs ys ≡ whole → sum 0 (weighted (drop 0 xs) (drop 0 ys)) ≡ whole
+  weighted-start e = sum-zero (weighted xs ys) (weighted-below xs ys) ∙ e
+
+  pub weighted-turn : (i m r s v : ℕ) → i < m → m ≤ length xs → m ≤ length ys → sum r (weighted (drop i xs) (drop i ys)) ≡ whole
+      → s ≡ product (getD xs i 0) (getD ys i 0) → v ≡ sum r s → sum v (weighted (drop (i + 1) xs) (drop (i + 1) ys)) ≡ whole
+  unfolding weighted
+  weighted-turn i m r s v j h′ k′ e f g =
+      let h : i < length xs = omega arith in
+      let k : i < length ys = omega arith in
+      rw (g, f, add-one i) (sum-turn r _ _ whole (rw (drop-cons xs i 0 h, drop-cons ys i 0 k) at e))
+
+  weighted-none : (l : List ℕ) → weighted l [] ≡ 0
+  unfolding weighted
+  weighted-none [] = refl
+  weighted-none (x ∷ l) = refl
+
+  pub weighted-end : (i r m : ℕ) → m ≤ i → (m < length xs → length ys ≤ m) → r < p
+      → sum r (weighted (drop i xs) (drop i ys)) ≡ whole → r ≡ whole
+  unfolding weighted
+  weighted-end i r m h k l e = sum-end r whole l (go (decLe (length xs) m))
+    where
+      go : Dec (length xs ≤ m) → sum r 0 ≡ whole
+      go (yes a) = let b : length xs ≤ i = omega arith in rw (drop-of-length-le xs b) at e
+      go (no a) =
+          let b : length ys ≤ i = omega (arith, k (omega arith)) in
+          rw (drop-of-length-le ys b, weighted-none (drop i xs)) at e
+
+-- the product of z less each node
+module _ (xs : List ℕ) (z : ℕ) where
+  pub nodal-start : product 1 (nodal (drop 0 xs) z) ≡ nodal xs z
+  nodal-start = product-comm 1 (nodal xs z) ∙ product-one (nodal xs z) (nodal-below xs z)
+
+  pub nodal-turn : (i r d v : ℕ) → i < length xs → product r (nodal (drop i xs) z) ≡ nodal xs z → d ≡ difference z (getD xs i 0)
+      → v ≡ product r d → product v (nodal (drop (i + 1) xs) z) ≡ nodal xs z
+  unfolding nodal
+  nodal-turn i r d v h e f g = rw (g, f, add-one i) (product-assoc r _ _ ∙ rw (drop-cons xs i 0 h) at e)
+
+  pub nodal-end : (i r : ℕ) → length xs ≤ i → r < p → product r (nodal (drop i xs) z) ≡ nodal xs z → r ≡ nodal xs z
+  unfolding nodal
+  nodal-end i r h l e = sym (product-one r l) ∙ rw (drop-of-length-le xs h) at e
+
+-- the product over the nodes but the j-th
+pub nodal-join : (xs ys : List ℕ) (z : ℕ) → product (nodal xs z) (nodal ys z) ≡ nodal (xs ++ ys) z
+unfolding nodal
+nodal-join [] ys z = product-comm 1 (nodal ys z) ∙ product-one (nodal ys z) (nodal-below ys z)
+nodal-join (x ∷ xs) ys z =
+    product-assoc (difference z x) (nodal xs z) (nodal ys z) ∙ ap (product (difference z x)) (nodal-join xs ys z)
+
+pub others-join : (xs : List ℕ) (j z l r v : ℕ) → l ≡ nodal (take j xs) z
+    → r ≡ nodal (take (length xs - (j + 1)) (drop (j + 1) xs)) z → v ≡ product l r → v ≡ nodal (others j xs) z
+others-join xs j z l r v e f g =
+    rw (g, e, f, add-one j, take-all (length xs - suc j) (drop (suc j) xs) (omega (arith, length-drop (suc j) xs)))
+    (nodal-join (take j xs) (drop (suc j) xs) z)
+
+-- Lagrange's terms
+module _ (xs ys : List ℕ) (z : ℕ) where
+  pub terms-start : sum 0 (terms z (take 0 xs) (drop 0 xs) (drop 0 ys)) ≡ interpolated xs ys z
+  unfolding interpolated
+  terms-start = sum-zero (interpolated xs ys z) (interpolated-below xs ys z)
+
+  pub terms-turn : (j m r w s v : ℕ) → j < m → m ≤ length xs → m ≤ length ys
+      → sum r (terms z (take j xs) (drop j xs) (drop j ys)) ≡ interpolated xs ys z
+      → w ≡ weight (others j xs) (getD xs j 0) z → s ≡ product (getD ys j 0) w → v ≡ sum r s
+      → sum v (terms z (take (j + 1) xs) (drop (j + 1) xs) (drop (j + 1) ys)) ≡ interpolated xs ys z
+  unfolding terms
+  terms-turn j m r w s v i h′ k′ e d f g =
+      let h : j < length xs = omega arith in
+      let k : j < length ys = omega arith in
+      rw (g, f, d, add-one j, take-suc xs j 0 h)
+      (sum-turn r _ _ (interpolated xs ys z) (rw (drop-cons xs j 0 h, drop-cons ys j 0 k) at e))
+
+  terms-none : (passed l : List ℕ) → terms z passed l [] ≡ 0
+  unfolding terms
+  terms-none passed [] = refl
+  terms-none passed (x ∷ l) = refl
+
+  pub terms-end : (j r m : ℕ) → m ≤ j → (m < length xs → length ys ≤ m) → r < p
+      → sum r (terms z (take j xs) (drop j xs) (drop j ys)) ≡ interpolated xs ys z → r ≡ interpolated xs ys z
+  unfolding terms
+  terms-end j r m h k l e = sum-end r (interpolated xs ys z) l (go (decLe (length xs) m))
+    where
+      go : Dec (length xs ≤ m) → sum r 0 ≡ interpolated xs ys z
+      go (yes a) = let b : length xs ≤ j = omega arith in rw (drop-of-length-le xs b) at e
+      go (no a) =
+          let b : length ys ≤ j = omega (arith, k (omega arith)) in
+          rw (drop-of-length-le ys b, terms-none (take j xs) (drop j xs)) at e

@@ -1,0 +1,4 @@
+pub mod Polynomial
+pub mod Interpolation
+pub mod Counting
+pub mod Claims

@@ -1,0 +1,98 @@
+// Polynomials over the p elements: values, and interpolation. Coefficients stand constant first.
+//
+// Every function is total: the lists have any length and hold any numbers, one of p or more standing for its remainder.
+ghost use mathlib.Core.Path.{_≡_};
+ghost use Prim.Native.Nat.{_≤_, _<_};
+ghost use lib.ListN.{length, getD};
+ghost use Rattle.poly.specs.Polynomial.{value, powers, weighted};
+ghost use Rattle.poly.specs.Interpolation.{nodal, others, weight, interpolated};
+
+// The value at x, by Horner's rule.
+pub fn evaluate(coefficients: &[u32], x: u32) -> u32
+    ensures { λ r. ⌜ r ≡ value (now (coefficients .entry)) x ⌝ }
+{
+    let mut r: u32 = 0;
+    let mut i = coefficients.len();
+    while 0 < i {
+        i -= 1;
+        r = field::add(coefficients[i], field::mul(x, r));
+    }
+    r
+}
+
+// The powers of x from 1 on fill the list. With `weigh` they give the value of every polynomial at x
+// (`weighted-powers` in proofs/Values.antt), with no chain of dependent products.
+pub fn powers(x: u32, list: &mut [u32])
+    ensures { λ r. ⌜ now (list .exit) ≡ powers x (length (now (list .entry))) ⌝ }
+{
+    let mut y: u32 = 1;
+    for i in 0..list.len() {
+        list[i] = y;
+        y = field::mul(y, x);
+    }
+}
+
+fn least(a: usize, b: usize) -> usize
+    ensures { λ r. ⌜ (r ≤ a) × (r ≤ b) × ((r < a → b ≤ r)) ⌝ }
+{
+    if a < b { a } else { b }
+}
+
+// The sum of the products of the two lists' numbers.
+pub fn weigh(list: &[u32], weights: &[u32]) -> u32
+    ensures { λ r. ⌜ r ≡ weighted (now (list .entry)) (now (weights .entry)) ⌝ }
+{
+    let m = least(list.len(), weights.len());
+    let mut r: u32 = 0;
+    for i in 0..m {
+        r = field::add(r, field::mul(list[i], weights[i]));
+    }
+    r
+}
+
+// The product of z - x over the nodes x.
+pub fn node_product(nodes: &[u32], z: u32) -> u32
+    ensures { λ r. ⌜ r ≡ nodal (now (nodes .entry)) z ⌝ }
+{
+    let mut r: u32 = 1;
+    for i in 0..nodes.len() {
+        r = field::mul(r, field::sub(z, nodes[i]));
+    }
+    r
+}
+
+// The product of z - x over the nodes x but the j-th.
+fn others_product(nodes: &[u32], j: usize, z: u32) -> u32
+    requires { ⌜ j < length (now nodes) ⌝ }
+    ensures { λ r. ⌜ r ≡ nodal (others j (now (nodes .entry))) z ⌝ }
+{
+    let after = j + 1;
+    field::mul(
+        node_product(&nodes[..j], z),
+        node_product(&nodes[after..], z),
+    )
+}
+
+// The weight of node j at z.
+fn node_weight(nodes: &[u32], j: usize, z: u32) -> u32
+    requires { ⌜ j < length (now nodes) ⌝ }
+    ensures { λ r. ⌜ r ≡ weight (others j (now (nodes .entry))) (getD (now (nodes .entry)) j 0) z ⌝ }
+{
+    let node = nodes[j];
+    field::mul(
+        others_product(nodes, j, z),
+        field::inverse(others_product(nodes, j, node)),
+    )
+}
+
+// The interpolation through the values at the nodes, at the point z.
+pub fn interpolate(nodes: &[u32], values: &[u32], z: u32) -> u32
+    ensures { λ r. ⌜ r ≡ interpolated (now (nodes .entry)) (now (values .entry)) z ⌝ }
+{
+    let m = least(nodes.len(), values.len());
+    let mut r: u32 = 0;
+    for j in 0..m {
+        r = field::add(r, field::mul(values[j], node_weight(nodes, j, z)));
+    }
+    r
+}
