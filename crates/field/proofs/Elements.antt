@@ -39,18 +39,6 @@ pub element-mod : (x : ℕ) → element (x % p) ≡ element x
 unfolding element
 element-mod x = element-path (element (x % p)) (element x) (mod-mod x p)
 
--- every result of the arithmetic is an element's number
-pub sum-below : (a b : ℕ) → sum a b < p
-unfolding sum
-sum-below a b = mod-lt (a + b) (lit< tt)
-
-pub difference-below : (a b : ℕ) → difference a b < p
-unfolding difference
-difference-below a b = mod-lt (a + (p - b % p)) (lit< tt)
-
-pub inverse-below : (a : ℕ) → inverse a < p
-inverse-below a = inverse-is a .below
-
 -- the field
 inverse-law : (a : Element) → a ≢ residues p above-one .zero → residues p above-one .mul a (element (inverse (a .0))) ≡ residues p above-one .one
 unfolding residues element product

@@ -10,7 +10,8 @@ use lib.Dec.{leb, lit<}
 use Rattle.field.specs.Modulus.{p}
 use Rattle.field.specs.Arithmetic.{product, euclid, inverse, IsInverse}
 use Rattle.field.proofs.Primality.{p-prime, remainder-positive}
-use Rattle.field.proofs.Residues.{mod-mul-mod, mul-mod-mod}
+use Rattle.field.proofs.Residues.{mul-mod-mod}
+use Rattle.field.proofs.Modular.{product-below, product-one, product-assoc, product-comm, product-mod-left}
 
 -- Euclid's step: with m = q u + r, u (m - q) is r and a multiple of m
 euclid-step : (m u : ℕ) → 0 < u → u < m → (u * (m - m / u)) % m ≡ m % u
@@ -40,23 +41,6 @@ turn x a u h k e =
 pub next-positive : (u : ℕ) → 1 < u → u < p → 0 < p % u
 next-positive = remainder-positive p p-prime
 
-pub product-below : (a b : ℕ) → product a b < p
-unfolding product
-product-below a b = mod-lt (a * b) (lit< tt)
-
-times-one : (x : ℕ) → x < p → product x 1 ≡ x
-unfolding product
-times-one x h = ap (λ (z : ℕ). z % p) (mul-one x) ∙ mod-eq-of-lt h
-
-product-assoc : (a b c : ℕ) → product (product a b) c ≡ product a (product b c)
-unfolding product
-product-assoc a b c =
-    mod-mul-mod (a * b) c p ∙ ap (λ (z : ℕ). z % p) (mul-assoc a b c) ∙ sym (mul-mod-mod a (b * c) p)
-
-product-comm : (a b : ℕ) → product a b ≡ product b a
-unfolding product
-product-comm a b = ap (λ (z : ℕ). z % p) (mul-comm a b)
-
 -- Euclid's steps end at the inverse
 euclid-times : (fuel u : ℕ) → u ≤ fuel → 0 < u → u < p → product u (euclid fuel u) ≡ 1
 unfolding euclid
@@ -70,7 +54,7 @@ euclid-times (suc fuel) u l h k = go (leb 2 u) refl (euclid-times fuel (p % u))
         sym (product-assoc u (p - p / u) (euclid fuel (p % u)))
         ∙ ap (λ (z : ℕ). product z (euclid fuel (p % u))) (product-step u h k)
         ∙ ih (omega arith) (next-positive u (leb-true 2 u e) k) (omega arith)
-    go false e ih = ap₂ product one one ∙ times-one 1 (lit< tt)
+    go false e ih = ap₂ product one one ∙ product-one 1 (lit< tt)
       where
         one : u ≡ 1
         one = omega (arith, leb-false 2 u e)
@@ -84,16 +68,12 @@ euclid-below (suc fuel) u h = go (leb 2 u)
     go true = product-below (p - p / u) (euclid fuel (p % u))
     go false = h
 
-product-mod : (x y : ℕ) → product (x % p) y ≡ product x y
-unfolding product
-product-mod x y = mod-mul-mod x y p
-
 pub inverse-is : (x : ℕ) → IsInverse x (inverse x)
 unfolding inverse euclid
 inverse-is x = record {
   below = euclid-below (x % p) (x % p) small;
   of-zero = λ e. ap₂ euclid e e;
-  times = λ h. sym (product-mod x (inverse x)) ∙ euclid-times (x % p) (x % p) (le-refl (x % p)) h small;
+  times = λ h. sym (product-mod-left x (inverse x)) ∙ euclid-times (x % p) (x % p) (le-refl (x % p)) h small;
 }
   where
     small : x % p < p
@@ -106,12 +86,12 @@ inverse-unique x r s u v = go (ℕ-discrete (x % p) 0)
     go (yes e) = u .of-zero e ∙ sym (v .of-zero e)
     go (no f) =
         let pos : 0 < x % p = omega arith in
-        sym (times-one r (u .below))
+        sym (product-one r (u .below))
         ∙ ap (product r) (sym (v .times pos))
         ∙ sym (product-assoc r x s)
         ∙ ap (λ (z : ℕ). product z s) (product-comm r x ∙ u .times pos)
         ∙ product-comm 1 s
-        ∙ times-one s (v .below)
+        ∙ product-one s (v .below)
 
 -- the two places where the loop's function returns
 module _ (x : ℕ) where

@@ -6,7 +6,8 @@ use native.Mathlib.Omega.{arith}
 use borrow.Author.Needs.{needs}
 use Rattle.field.specs.Modulus.{p}
 use Rattle.field.specs.Arithmetic.{product}
-use Rattle.field.proofs.Euclid.{turn, next-positive, product-below, none-for-zero, found, started}
+use Rattle.field.proofs.Euclid.{turn, next-positive, none-for-zero, found, started}
+use Rattle.field.proofs.Modular.{product-below}
 use Rattle.field.proofs.inverse.Statement.{statement}
 use Rattle.field.proofs.inverse.Tie as tie
 
