@@ -2,7 +2,7 @@
 ghost use mathlib.Core.Path.{_≡_};
 ghost use mathlib.Core.List.{[], _∷_};
 ghost use Rattle.refusal.specs.Refusal.{first, orElse, _when_};
-ghost use Rattle.refusal.specs.Conditions.{postsTests, beyond, anyBeyond, badPoint};
+ghost use Rattle.refusal.specs.Conditions.{postsTests, outside, beyond, anyBeyond, badPoint};
 
 // The refusal of one group of checks, or else of the next.
 pub fn or_else(a: u8, b: u8) -> u8
@@ -28,6 +28,16 @@ pub fn posts(n: usize, t: usize) -> u8
         return 2;
     }
     0
+}
+
+// 3: a post outside 1..n.
+pub fn post(n: usize, post: usize) -> u8
+    ensures { λ r. ⌜ r ≡ first (3 when outside 1 n post ∷ []) ⌝ }
+{
+    if post < 1 {
+        return 3;
+    }
+    if n < post { 3 } else { 0 }
 }
 
 // 4, of one check point.
