@@ -1,4 +1,4 @@
--- A call's tests as groups, one after the other: how code that asks group after group meets the one flat list.
+-- Code asks one check after the other and joins the answers by `or_else`: how that meets one flat list of tests.
 use Prim.Native.Nat.{ℕ, zero, suc}
 use mathlib.Core.Path.{_≡_, refl, sym, _∙_, ap}
 use mathlib.Core.Bool.{Bool, true, false}
@@ -7,33 +7,18 @@ use Rattle.refusal.specs.Refusal.{Test, _when_, first, orElse}
 use Rattle.refusal.proofs.Laws.{Numbered, AllFail, first-join}
 use Rattle.refusal.proofs.Endings.{orElse-first}
 
--- the flat list, and the refusal of the groups joined by `or_else` from the right
-abbrev pub flat : List (List Test) → List Test
-flat [] = []
-flat (xs ∷ []) = xs
-flat (xs ∷ ys ∷ rest) = xs ++ flat (ys ∷ rest)
+-- the answers of single tests, joined from the right
+abbrev pub chain : List Test → ℕ
+chain [] = 0
+chain (t ∷ []) = first (t ∷ [])
+chain (t ∷ u ∷ ts) = orElse (first (t ∷ [])) (chain (u ∷ ts))
 
-abbrev pub joined : List (List Test) → ℕ
-joined [] = 0
-joined (xs ∷ []) = first xs
-joined (xs ∷ ys ∷ rest) = orElse (first xs) (joined (ys ∷ rest))
-
-numbered-left : (xs ys : List Test) → Numbered (xs ++ ys) → Numbered xs
-numbered-left [] ys n = tt
-numbered-left (zero when b ∷ xs) ys n = n
-numbered-left (suc k when b ∷ xs) ys n = numbered-left xs ys n
-
-numbered-right : (xs ys : List Test) → Numbered (xs ++ ys) → Numbered ys
-numbered-right [] ys n = n
-numbered-right (zero when b ∷ xs) ys n = absurd n
-numbered-right (suc k when b ∷ xs) ys n = numbered-right xs ys n
-
-pub first-flat : (groups : List (List Test)) → Numbered (flat groups) → first (flat groups) ≡ joined groups
-first-flat [] n = refl
-first-flat (xs ∷ []) n = refl
-first-flat (xs ∷ ys ∷ rest) n =
-    first-join xs (flat (ys ∷ rest)) (numbered-left xs (flat (ys ∷ rest)) n)
-    ∙ ap (orElse (first xs)) (first-flat (ys ∷ rest) (numbered-right xs (flat (ys ∷ rest)) n))
+pub first-chain : (ts : List Test) → Numbered ts → first ts ≡ chain ts
+first-chain [] n = refl
+first-chain (t ∷ []) n = refl
+first-chain (zero when b ∷ u ∷ ts) n = absurd n
+first-chain (suc k when true ∷ u ∷ ts) n = refl
+first-chain (suc k when false ∷ u ∷ ts) n = first-chain (u ∷ ts) n
 
 -- a call that stops after its early tests, or goes on to the late ones
 module _ (early late : List Test) (n : Numbered early) (a : ℕ) (e : a ≡ first early) where
@@ -44,10 +29,6 @@ module _ (early late : List Test) (n : Numbered early) (a : ℕ) (e : a ≡ firs
   went-on b z q = q ∙ ap (λ (k : ℕ). orElse k (first late)) (sym z ∙ e) ∙ sym (first-join early late n)
 
 -- what fails in a joined list fails in both parts
-pub fail-left : (xs ys : List Test) → AllFail (xs ++ ys) → AllFail xs
-fail-left [] ys h = tt
-fail-left (k when b ∷ xs) ys h = (h .0, fail-left xs ys (h .1))
-
-pub fail-right : (xs ys : List Test) → AllFail (xs ++ ys) → AllFail ys
-fail-right [] ys h = h
-fail-right (k when b ∷ xs) ys h = fail-right xs ys (h .1)
+pub fail-parts : (xs ys : List Test) → AllFail (xs ++ ys) → AllFail xs × AllFail ys
+fail-parts [] ys h = (tt, h)
+fail-parts (k when b ∷ xs) ys h = let q = fail-parts xs ys (h .1) in ((h .0, q .0), q .1)
