@@ -7,13 +7,11 @@ use native.Mathlib.Nat.{mul-le-mul-right, pos-of-ne-zero}
 use native.Mathlib.Omega.{arith}
 use borrow.Author.Tests.{ltb-false, eqb-false}
 use lib.Dec.{eqb}
-use lib.ListN.{length}
 use Rattle.refusal.specs.Refusal.{Test, _when_, first, orElse}
 use Rattle.refusal.specs.Conditions.{postsTests, outside, missized, beyond, badPoint}
-use Rattle.refusal.proofs.Laws.{AllFail, or-false, inside, equal, all-fail}
+use Rattle.refusal.proofs.Laws.{AllFail, or-false, inside, equal, all-fail, first-join}
 use Rattle.refusal.proofs.Elements.{below-p}
-use Rattle.refusal.proofs.Groups.{first-flat, stopped, went-on}
-use Rattle.refusal.proofs.Endings.{tests}
+use Rattle.refusal.proofs.Groups.{chain, first-chain, stopped, went-on}
 use Rattle.session.specs.declared.Session.{Session}
 use Rattle.session.specs.Sessions.{sessionTests}
 use Rattle.session.specs.Rows.{width}
@@ -30,23 +28,24 @@ framed s rows h =
       length-is = equal _ _ (h .1 .1 .1 .1 .0);
     }
 
-pub row-in : (s : Session) (r : ℕ) → noRow r ≡ false → RowIn s r
-row-in s r e =
-    let h = ltb-false 95 r e in
-    record { row-in = h; room = mul-le-mul-right (width s) h }
+pub row-below : (s : Session) (r : ℕ) → r ≤ 95 → RowIn s r
+row-below s r h = record { row-in = h; room = mul-le-mul-right (width s) h }
 
--- n and t are small, so a row's width does not wrap
-pub settled : (n t post point r : ℕ) → r ≡ first (sessionTests n t post point) → r ≡ 0 → (n ≤ 32) × (t ≤ 32)
+pub row-in : (s : Session) (r : ℕ) → noRow r ≡ false → RowIn s r
+row-in s r e = row-below s r (ltb-false 95 r e)
+
+-- n and t are small, so a row's length does not wrap
+pub settled : (n t post point r : ℕ) → r ≡ first (sessionTests n t post point) → r ≡ 0 → (n ≤ 4096) × (t ≤ 4096)
 settled n t post point r e z =
     let h = all-fail (sessionTests n t post point) tt (sym e ∙ z) in
     let u = inside 2 32 n (h .0) in
     let v = inside 1 (n - 1) t (h .1 .0) in
-    (u .1, omega arith)
+    (omega arith, omega arith)
 
 pub settings-joined : (n t post point a b c d r : ℕ) → a ≡ first (postsTests n t) → b ≡ first (3 when outside 1 n post ∷ [])
     → c ≡ first (4 when badPoint point ∷ []) → d ≡ orElse b c → r ≡ orElse a d → r ≡ first (sessionTests n t post point)
 settings-joined n t post point a b c d r ea eb ec ed er =
-    cc (first-flat (postsTests n t ∷ (3 when outside 1 n post ∷ []) ∷ (4 when badPoint point ∷ []) ∷ []) tt)
+    cc (first-join (postsTests n t) (3 when outside 1 n post ∷ 4 when badPoint point ∷ []) tt, first-chain (3 when outside 1 n post ∷ 4 when badPoint point ∷ []) tt)
 
 -- the frame stops at 1 to 4, or goes on to 5
 module _ (s : Session) (rows : List ℕ) (r : ℕ) where
@@ -54,14 +53,8 @@ module _ (s : Session) (rows : List ℕ) (r : ℕ) where
   frame-stopped e =
       stopped (sessionTests (s .n) (s .t) (s .post) (s .point)) (5 when missized rows (96 * width s) ∷ []) tt r e
 
-  pub frame-right : r ≡ first (sessionTests (s .n) (s .t) (s .post) (s .point)) → r ≡ 0 → length rows ≡ 96 * width s
-      → 0 ≡ first (frameTests s rows)
-  frame-right e z h =
-      went-on (sessionTests (s .n) (s .t) (s .post) (s .point)) (5 when missized rows (96 * width s) ∷ []) tt r e 0 z
-      (search tests)
-
-  pub frame-missized : r ≡ first (sessionTests (s .n) (s .t) (s .post) (s .point)) → r ≡ 0 → (length rows ≡ 96 * width s → ⊥)
-      → 5 ≡ first (frameTests s rows)
-  frame-missized e z h =
-      went-on (sessionTests (s .n) (s .t) (s .post) (s .point)) (5 when missized rows (96 * width s) ∷ []) tt r e 5 z
-      (search tests)
+  pub frame-sized : (w q : ℕ) → r ≡ first (sessionTests (s .n) (s .t) (s .post) (s .point)) → r ≡ 0 → w ≡ width s
+      → q ≡ first (5 when missized rows (96 * w) ∷ []) → q ≡ first (frameTests s rows)
+  frame-sized w q e z h g =
+      went-on (sessionTests (s .n) (s .t) (s .post) (s .point)) (5 when missized rows (96 * width s) ∷ []) tt r e q z
+      (rw h at g)

@@ -6,7 +6,7 @@ ghost use Rattle.refusal.specs.Refusal.{first, _when_};
 ghost use Rattle.refusal.specs.Conditions.{anyBeyond};
 ghost use Rattle.session.specs.Sessions.{sessionTests};
 ghost use Rattle.session.specs.Rows.{width, rowAt};
-ghost use Rattle.session.specs.Checks.{frameTests, noRow, noTriple, unlike, Framed, RowIn};
+ghost use Rattle.session.specs.Checks.{frameTests, noRow, noTriple, unlike, Framed};
 
 // 1 to 4, of a session's settings.
 pub fn settings(n: usize, t: usize, post: usize, point: u32) -> u8
@@ -37,17 +37,11 @@ impl Session {
     pub fn frame(self, rows: &[u32]) -> u8
         ensures { λ r. ⌜ r ≡ first (frameTests self (now (rows .entry))) ⌝ }
     {
-        let n = self.n;
-        let t = self.t;
-        let refusal = settings(n, t, self.post, self.point);
+        let refusal = settings(self.n, self.t, self.post, self.point);
         if refusal != 0 {
             return refusal;
         }
-        if rows.len() == 96 * (t + 1 + 2 * n) {
-            0
-        } else {
-            5
-        }
+        refusal::size(rows, 96 * self.width())
     }
 
     // 7, of the mark that a call needs on a row.
@@ -59,12 +53,12 @@ impl Session {
 
     // 8, of every number of a row.
     pub fn numbers(self, rows: &[u32], row: usize) -> u8
-        requires { ⌜ Framed self (now rows) × RowIn self row ⌝ }
+        requires { ⌜ Framed self (now rows) ⌝ }
         ensures { λ r. ⌜ r ≡ first (8 when anyBeyond (rowAt (width self) (now (rows .entry)) row) ∷ []) ⌝ }
     {
-        let width = self.t + 1 + 2 * self.n;
-        let from = row * width;
-        let end = from + width;
-        refusal::numbers(&rows[from..end])
+        if 95 < row {
+            return 0;
+        }
+        refusal::numbers(self.row(rows, row))
     }
 }

@@ -2,6 +2,7 @@
 //
 // A session goes in by value and comes back by value; its rows stand in one list that the caller lends.
 pub mod checks;
+pub mod rows;
 
 ghost use mathlib.Core.Path.{_≡_};
 ghost use Prim.Native.Nat.{_+_, _≤_};
