@@ -1,10 +1,13 @@
--- Every value, sum and interpolation is an element.
-use Prim.Native.Nat.{ℕ, _<_}
+-- Every value, sum and interpolation is an element; lengths.
+use Prim.Native.Nat.{ℕ, zero, suc, _<_}
+use mathlib.Core.Path.{_≡_, refl, ap}
 use mathlib.Core.List.{List, [], _∷_}
 use lib.Dec.{lit<}
+use lib.ListN.{length}
 use Rattle.field.specs.Modulus.{p}
+use Rattle.field.specs.Arithmetic.{product}
 use Rattle.field.proofs.Modular.{sum-below, product-below}
-use Rattle.poly.specs.Polynomial.{value, weighted}
+use Rattle.poly.specs.Polynomial.{value, powersFrom, weighted}
 use Rattle.poly.specs.Interpolation.{nodal, terms, interpolated}
 
 pub value-below : (cs : List ℕ) (x : ℕ) → value cs x < p
@@ -32,3 +35,8 @@ terms-below z passed (x ∷ xs) (y ∷ ys) = sum-below _ _
 pub interpolated-below : (xs ys : List ℕ) (z : ℕ) → interpolated xs ys z < p
 unfolding interpolated
 interpolated-below xs ys z = terms-below z [] xs ys
+
+pub length-powersFrom : (y x k : ℕ) → length (powersFrom y x k) ≡ k
+unfolding powersFrom
+length-powersFrom y x zero = refl
+length-powersFrom y x (suc k) = ap suc (length-powersFrom (product y x) x k)

@@ -1,12 +1,12 @@
 -- Document 01, "Where each refusal is checked": the tests that the calls on a session share, and what holds where they fail.
-use Prim.Native.Nat.{ℕ, _+_, _*_, _-_, _≤_, _<_}
+use Prim.Native.Nat.{ℕ, _*_, _-_, _≤_, _<_}
 use mathlib.Core.Path.{_≡_}
 use mathlib.Core.Bool.{Bool, not}
 use mathlib.Core.List.{List, [], _∷_, _++_}
 use lib.Dec.{ltb, eqb}
 use lib.ListN.{length}
 use Rattle.field.specs.Modulus.{p}
-use Rattle.refusal.specs.Refusal.{Test, _when_, first}
+use Rattle.refusal.specs.Refusal.{Test, _when_}
 use Rattle.refusal.specs.Conditions.{missized}
 use Rattle.session.specs.declared.Session.{Session}
 use Rattle.session.specs.Sessions.{sessionTests, mark}

@@ -1,0 +1,4 @@
+pub mod Blocks
+pub mod Walks
+pub mod Fronts
+pub mod Opens

@@ -1,0 +1,10 @@
+use borrow.Author.Needs.{needs}
+use Rattle.opening.proofs.Opens.{own-fits, own-checked}
+use Rattle.opening.proofs.own_checks.Statement.{statement}
+use Rattle.opening.proofs.own_checks.Tie as tie
+
+pub own-checks-spec : {M : Type 1} → statement M
+own-checks-spec =
+    tie.close
+    (tie.spec (λ c κs. search needs) (λ c κs. search (needs, own-fits)) (λ c κs. search needs) (λ c κs. search needs)
+    (λ c κs. search needs) (λ c κs. search needs) (λ c κs. search needs) (λ c. search (needs, own-checked)))

@@ -1,0 +1,23 @@
+-- `record::refusal` meets its contract: what the blocks from j on say, all say.
+use Prim.Native.Nat.{_+_, _-_, _≤_}
+use mathlib.Core.Path.{_≡_}
+use borrow.Author.Needs.{needs}
+use Rattle.opening.specs.Walking.{badBlocks, badRecord}
+use Rattle.opening.proofs.Blocks.{post-in, blocks-start, block-bad, block-good, blocks-end}
+use Rattle.opening.proofs.record.refusal.Statement.{statement}
+use Rattle.opening.proofs.record.refusal.Tie as tie
+
+abbrev Inv-loop : tie.InvT-loop
+Inv-loop session blocks n j₀ j =
+    (1 ≤ j) × (j ≤ session .n + 1) × (badBlocks session blocks j (session .n + 1 - j) ≡ badRecord session blocks)
+
+abbrev μ-loop : tie.MeasureT-loop
+μ-loop session blocks n j₀ j = session .n + 1 - j
+
+ruleset turns = (needs, post-in, blocks-start, block-bad, block-good, blocks-end)
+
+pub refusal-spec : {M : Type 1} → statement M
+refusal-spec =
+    tie.close
+    (tie.spec Inv-loop μ-loop (λ c. search turns) (λ c κs. search turns) (λ c. search turns) (λ c. search turns) (λ c. search turns)
+    (λ c. search turns) (λ c. search turns))

@@ -1,0 +1,13 @@
+use borrow.Author.Needs.{needs}
+use Rattle.opening.proofs.Blocks.{own-fits, sent-own, sent-block, sent-none}
+use Rattle.opening.proofs.record.sent.Statement.{statement}
+use Rattle.opening.proofs.record.sent.Tie as tie
+
+ruleset ways = (needs, own-fits, sent-own, sent-block, sent-none)
+
+pub sent-spec : {M : Type 1} → statement M
+sent-spec =
+    tie.close
+    (tie.spec (λ c. search ways) (λ c. search ways) (λ c. search ways) (λ c. search ways) (λ c. search ways)
+    (λ c. search ways) (λ c. search ways) (λ c. search ways) (λ c. search ways) (λ c. search ways) (λ c. search ways)
+    (λ c. search ways) (λ c. search ways) (λ c. search ways) (λ c. search ways) (λ c. search ways) (λ c. search ways))

@@ -1,0 +1,12 @@
+use borrow.Author.Needs.{needs}
+use Rattle.opening.proofs.Blocks.{accepted-none, accepted-value}
+use Rattle.opening.proofs.walking.accepts.Statement.{statement}
+use Rattle.opening.proofs.walking.accepts.Tie as tie
+
+ruleset ways = (needs, accepted-none, accepted-value)
+
+pub accepts-spec : {M : Type 1} → statement M
+accepts-spec =
+    tie.close
+    (tie.spec (λ c κs. search ways) (λ c. search ways) (λ c. search ways) (λ c κs. search ways) (λ c. search ways)
+    (λ c. search ways) (λ c. search ways))

@@ -1,0 +1,74 @@
+// Opening: a post checks what the others sent of a row, and brings the number out.
+//
+// The walk over the posts works on one row and one record of blocks, so that a product opens its masks by it too.
+pub mod record;
+pub mod walking;
+
+use session::Answer;
+use session::Session;
+ghost use mathlib.Core.Path.{_≡_};
+ghost use Rattle.refusal.specs.Refusal.{first};
+ghost use lib.ListN.{length};
+ghost use Rattle.session.specs.Checks.{Framed};
+ghost use Rattle.opening.specs.Walking.{recordLength};
+ghost use Rattle.opening.specs.Opening.{ownChecks, openChecks, openAnswer};
+
+// How the walk over the posts ends.
+pub enum Walk {
+    // t+1 accepted, the last of them at this post
+    Enough(usize),
+    TooFew,
+}
+
+// A number brought out, or the refusal.
+pub struct Opened {
+    pub refusal: u8,
+    pub value: u32,
+}
+
+// 6 to 8 of an opening, once 1 to 5 have passed.
+fn own_checks(session: Session, rows: &[u32], row: usize, blocks: &[u32]) -> u8
+    requires { ⌜ Framed session (now rows) × (length (now blocks) ≡ recordLength session) ⌝ }
+    ensures { λ r. ⌜ r ≡ first (ownChecks session (now (rows .entry)) row (now (blocks .entry))) ⌝ }
+{
+    let numbers = refusal::or_else(session.numbers(rows, row), record::refusal(session, blocks));
+    refusal::or_else(
+        session::checks::row(row),
+        refusal::or_else(session.unlike(row, 2), numbers),
+    )
+}
+
+// 1 to 8 of an opening; 9 is the walk's.
+fn open_checks(session: Session, rows: &[u32], row: usize, blocks: &[u32]) -> u8
+    ensures { λ r. ⌜ r ≡ first (openChecks session (now (rows .entry)) row (now (blocks .entry))) ⌝ }
+{
+    let frame = session.frame(rows);
+    if frame != 0 {
+        return frame;
+    }
+    let size = refusal::size(blocks, session.n * (session.t + 2));
+    if size != 0 {
+        return size;
+    }
+    own_checks(session, rows, row, blocks)
+}
+
+// Opens a held row with a record of what the posts sent. Session and rows stay as they are.
+pub fn open<'a>(session: Session, rows: &'a [u32], row: usize, blocks: &'a [u32]) -> Answer
+    ensures { λ r. ⌜ r ≡ openAnswer session (now (rows .entry)) row (now (blocks .entry)) ⌝ }
+{
+    let refusal = open_checks(session, rows, row, blocks);
+    if refusal != 0 {
+        return Answer {
+            refusal,
+            value: 0,
+            session,
+        };
+    }
+    let opened = walking::open_row(session, session.row(rows, row), blocks);
+    Answer {
+        refusal: opened.refusal,
+        value: opened.value,
+        session,
+    }
+}
