@@ -53,6 +53,7 @@ impl Session {
     pub fn row<'a>(self, rows: &'a [u32], row: usize) -> &'a [u32]
         requires { ⌜ Framed self (now rows) × RowIn self row ⌝ }
         ensures { λ r. ⌜ now r ≡ rowAt (width self) (now (rows .entry)) row ⌝ }
+        ensures { λ r. ⌜ length (now r) ≡ width self ⌝ }
     {
         let width = self.t + 1 + 2 * self.n;
         let from = row * width;

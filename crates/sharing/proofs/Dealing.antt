@@ -4,6 +4,7 @@ use mathlib.Core.Path.{_≡_}
 use mathlib.Core.List.{List, [], _∷_}
 use Rattle.refusal.specs.Refusal.{Test, _when_, first, orElse}
 use Rattle.refusal.specs.Conditions.{beyond, anyBeyond}
+use Rattle.refusal.proofs.Groups.{chained}
 use Rattle.session.specs.declared.Session.{Session}
 use Rattle.session.specs.Rows.{width, rowAt}
 use Rattle.session.specs.Checks.{frameTests, noRow, unlike, Framed, RowIn}
@@ -24,7 +25,7 @@ module _ (s : Session) (rows : List ℕ) (r c : ℕ) where
       → q9 ≡ first (8 when anyBeyond (rowAt (width s) rows r) ∷ []) → x ≡ orElse q8 q9 → y ≡ orElse q7 x → z ≡ orElse q6 y
       → z ≡ dealRefusal s rows r c
   unfolding dealRefusal
-  deal-checked f q6 q7 q8 q9 x y z e n e6 e7 e8 e9 ex ey ez = past-frame s rows own tt f z e n (cc)
+  deal-checked f q6 q7 q8 q9 x y z e n e6 e7 e8 e9 ex ey ez = past-frame s rows own f z e n (chained own tt z (cc))
 
   pub deal-allowed : (f : ℕ) → f ≡ dealRefusal s rows r c → f ≡ 0 → Framed s rows × RowIn s r
   unfolding dealRefusal

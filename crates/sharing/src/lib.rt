@@ -3,3 +3,6 @@
 // Each call is three functions: the first refusal in document 01's order; what the call does where nothing is refused; and the
 // call itself, which has no `requires`: any session, any list of any length and any row number gets an answer.
 pub mod deal;
+pub mod linear;
+pub mod load;
+pub mod message;
