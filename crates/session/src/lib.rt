@@ -102,14 +102,22 @@ impl Session {
         self
     }
 
+    // The marks of a triple's three rows.
+    pub fn with_triple(mut self, first: usize, a: u8, b: u8, c: u8) -> Session
+        requires { ⌜ first ≤ 93 ⌝ }
+        ensures { λ r. ⌜ r ≡ marked (marked (marked self first a) (first + 1) b) (first + 2) c ⌝ }
+    {
+        self.marks[first] = a;
+        self.marks[first + 1] = b;
+        self.marks[first + 2] = c;
+        self
+    }
+
     // The product of the triple at `first` stands in its third row.
     pub fn finished(mut self, first: usize) -> Session
         requires { ⌜ first ≤ 93 ⌝ }
         ensures { λ r. ⌜ r ≡ marked (marked (marked self first 6) (first + 1) 6) (first + 2) 2 ⌝ }
     {
-        self.marks[first] = 6;
-        self.marks[first + 1] = 6;
-        self.marks[first + 2] = 2;
-        self
+        self.with_triple(first, 6, 6, 2)
     }
 }

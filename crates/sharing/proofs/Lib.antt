@@ -1,2 +1,5 @@
 pub mod Dealing
 pub mod Messages
+pub mod Loading
+pub mod Triples
+pub mod Sums

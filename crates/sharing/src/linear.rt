@@ -34,7 +34,6 @@ fn linear_refusal(session: Session, rows: &[u32], dest: usize, a: usize, b: usiz
     )
 }
 
-// The sum is made beside the rows, so the row written may be any of the three.
 fn linear_accepted(
     session: Session,
     rows: &mut [u32],
@@ -48,13 +47,7 @@ fn linear_accepted(
     ensures { λ r. ⌜ now (rows .exit) ≡ withRow (width session) dest (combined scale (rowAt (width session) (now (rows .entry)) a) (rowAt (width session) (now (rows .entry)) b)) (now (rows .entry)) ⌝ }
 {
     let width = session.width();
-    let mut sum = [0u32; 96];
-    session::rows::combine(
-        scale,
-        session.row(rows, a),
-        session.row(rows, b),
-        &mut sum[0..width],
-    );
+    let sum = session::rows::combined_row(scale, session.row(rows, a), session.row(rows, b));
     session.put_row(rows, dest, &sum[0..width]);
     session.dealt(dest)
 }
