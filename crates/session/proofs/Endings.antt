@@ -7,7 +7,7 @@ use Rattle.session.specs.declared.Session.{Session}
 use Rattle.session.specs.declared.Answer.{Answer}
 use Rattle.session.specs.Sessions.{answer}
 
-abbrev holding : ℕ → ℕ → Session → Answer
+abbrev pub holding : ℕ → ℕ → Session → Answer
 holding refusal value session = record { refusal = refusal; value = value; session = session }
 
 pub refused-answer : (r x value : ℕ) (new old : Session) → r ≡ x → (r ≡ 0 → ⊥) → holding r 0 old ≡ answer x value new old

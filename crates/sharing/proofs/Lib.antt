@@ -3,3 +3,4 @@ pub mod Messages
 pub mod Loading
 pub mod Triples
 pub mod Sums
+pub mod Theorems
