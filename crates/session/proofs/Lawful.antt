@@ -24,7 +24,7 @@ lawful tests o value new old written before =
     let x = first tests in
     record {
       refusal = decides 1 tests o;
-      untouched = λ n. (sym (refused-answer x x value new old refl n), sym (refused x x written before refl n));
+      untouched = λ n. (sym (refused-answer x x value old new old refl n refl), sym (refused x x written before refl n));
       done = λ z. (sym (accepted-answer x x value value new new old refl z refl refl), sym (accepted x x written written before refl z refl));
     }
 
@@ -38,7 +38,7 @@ module _ (n t post point : ℕ) where
   unfolding created
   new-refused h =
       let x = first (sessionTests n t post point) in
-      sym (refused-answer x x 0 (sessionOf n t post point) (sessionOf 0 0 0 0) refl h)
+      sym (refused-answer x x 0 (sessionOf 0 0 0 0) (sessionOf n t post point) (sessionOf 0 0 0 0) refl h refl)
 
   pub new-accepted : first (sessionTests n t post point) ≡ 0 → created n t post point ≡ holding 0 0 (sessionOf n t post point)
   unfolding created
