@@ -2,3 +2,4 @@ pub mod Blocks
 pub mod Walks
 pub mod Fronts
 pub mod Opens
+pub mod Theorems

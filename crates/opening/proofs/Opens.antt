@@ -75,7 +75,8 @@ module _ (s : Session) (rows : List ℕ) (r : ℕ) (blocks : List ℕ) where
     pub open-refused : (f ≡ 0 → ⊥) → holding f 0 s ≡ openAnswer s rows r blocks
     unfolding openRefusal
     open-refused n =
-        refused-answer f (openRefusal s rows r blocks) (opened s row blocks) s s (stopped (openChecks s rows r blocks) few tt f e n) n
+        refused-answer f (openRefusal s rows r blocks) (opened s row blocks) s s s (stopped (openChecks s rows r blocks) few tt f e n)
+        n refl
 
     pub open-allowed : f ≡ 0 → Framed s rows × RowIn s r × (length blocks ≡ recordLength s)
     open-allowed z =

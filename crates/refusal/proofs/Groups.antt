@@ -20,6 +20,9 @@ first-chain (zero when b ∷ u ∷ ts) n = absurd n
 first-chain (suc k when true ∷ u ∷ ts) n = refl
 first-chain (suc k when false ∷ u ∷ ts) n = first-chain (u ∷ ts) n
 
+pub chained : (ts : List Test) → Numbered ts → (q : ℕ) → q ≡ chain ts → q ≡ first ts
+chained ts n q e = e ∙ sym (first-chain ts n)
+
 -- a call that stops after its early tests, or goes on to the late ones
 module _ (early late : List Test) (n : Numbered early) (a : ℕ) (e : a ≡ first early) where
   pub stopped : (a ≡ 0 → ⊥) → a ≡ first (early ++ late)

@@ -2,3 +2,4 @@ pub mod Laws
 pub mod Endings
 pub mod Elements
 pub mod Groups
+pub mod Decided

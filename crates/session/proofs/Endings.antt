@@ -1,6 +1,6 @@
 -- The two ways in which a call on a session ends, as its answer shows them.
 use Prim.Native.Nat.{ℕ}
-use mathlib.Core.Path.{_≡_, _∙_, ap}
+use mathlib.Core.Path.{_≡_, sym, _∙_, ap, ap₂}
 use borrow.Author.Needs.{needs}
 use Rattle.refusal.proofs.Endings.{refused, accepted}
 use Rattle.session.specs.declared.Session.{Session}
@@ -10,9 +10,9 @@ use Rattle.session.specs.Sessions.{answer}
 abbrev pub holding : ℕ → ℕ → Session → Answer
 holding refusal value session = record { refusal = refusal; value = value; session = session }
 
-pub refused-answer : (r x value : ℕ) (new old : Session) → r ≡ x → (r ≡ 0 → ⊥) → holding r 0 old ≡ answer x value new old
-refused-answer r x value new old e n =
-    ap (λ (k : ℕ). holding k 0 old) e ∙ refused r x (holding 0 value new) (holding x 0 old) e n
+pub refused-answer : (r x value : ℕ) (s new old : Session) → r ≡ x → (r ≡ 0 → ⊥) → s ≡ old → holding r 0 s ≡ answer x value new old
+refused-answer r x value s new old e n q =
+    ap₂ (λ (k : ℕ) (z : Session). holding k 0 z) e q ∙ refused r x (holding 0 value new) (holding x 0 old) e n
 
 pub accepted-answer : (r x v value : ℕ) (s new old : Session) → r ≡ x → r ≡ 0 → v ≡ value → s ≡ new
     → holding 0 v s ≡ answer x value new old

@@ -5,3 +5,4 @@ pub mod RowLaws
 pub mod Filled
 pub mod Writers
 pub mod Calls
+pub mod Lawful

@@ -52,16 +52,35 @@ module _ (a k : ℕ) (l x : List ℕ) (room : a + k ≤ length l) (wide : length
       ∙ drop-drop (b - (a + k)) (a + k) l
       ∙ ap (λ (z : ℕ). drop z l) e)
 
+drop-on : (a k m : ℕ) (l : List ℕ) → drop m (drop (a + k) l) ≡ drop (k + m) (drop a l)
+drop-on a k m l =
+    let e : a + k + m ≡ a + (k + m) = omega arith in
+    drop-drop m (a + k) l ∙ ap (λ (z : ℕ). drop z l) e ∙ sym (drop-drop (k + m) a l)
+
+-- front, y and rest, grouped anew
+regroup : (a k m : ℕ) (l x y : List ℕ)
+    → (take a l ++ x) ++ (y ++ drop m (drop (a + k) l)) ≡ take a l ++ ((x ++ y) ++ drop (k + m) (drop a l))
+regroup a k m l x y =
+    append-assoc (take a l) x (y ++ drop m (drop (a + k) l))
+    ∙ ap (λ (z : List ℕ). take a l ++ z)
+    (sym (append-assoc x y (drop m (drop (a + k) l))) ∙ ap (λ (z : List ℕ). (x ++ y) ++ z) (drop-on a k m l))
+
 -- the last m elements of a part are put: the part with its first k elements as they were
 pub put-tail : (a k m : ℕ) (l y : List ℕ) → putMid (a + k) m l y ≡ putMid a (k + m) l (take k (drop a l) ++ y)
 put-tail a k m l y =
-    let e : a + k + m ≡ a + (k + m) = omega arith in
-    ap (λ (z : List ℕ). z ++ (y ++ drop m (drop (a + k) l))) (take-add a k l)
-    ∙ append-assoc (take a l) (take k (drop a l)) (y ++ drop m (drop (a + k) l))
-    ∙ ap (λ (z : List ℕ). take a l ++ z)
-    (sym (append-assoc (take k (drop a l)) y (drop m (drop (a + k) l)))
-    ∙ ap (λ (z : List ℕ). (take k (drop a l) ++ y) ++ z)
-    (drop-drop m (a + k) l ∙ ap (λ (z : ℕ). drop z l) e ∙ sym (drop-drop (k + m) a l)))
+    ap (λ (z : List ℕ). z ++ (y ++ drop m (drop (a + k) l))) (take-add a k l) ∙ regroup a k m l (take k (drop a l)) y
+
+-- two parts that touch, put one after the other
+pub put-join : (a k m : ℕ) (l x y : List ℕ) → a + k ≤ length l → length x ≡ k
+    → putMid (a + k) m (putMid a k l x) y ≡ putMid a (k + m) l (x ++ y)
+put-join a k m l x y h e =
+    let front : take (a + k) (putMid a k l x) ≡ take a l ++ x =
+    take-add a k (putMid a k l x)
+    ∙ ap (λ (z : List ℕ). z ++ take k (drop a (putMid a k l x))) (take-put a k l x (omega arith))
+    ∙ ap (λ (z : List ℕ). take a l ++ z) (part-same a k l x h e) in
+    ap (λ (z : List ℕ). z ++ (y ++ drop m (drop (a + k) (putMid a k l x)))) front
+    ∙ ap (λ (z : List ℕ). (take a l ++ x) ++ (y ++ drop m z)) (rest-same a k l x h e)
+    ∙ regroup a k m l x y
 
 pub drop-front : (k m : ℕ) (l : List ℕ) → drop k (take (k + m) l) ≡ take m (drop k l)
 drop-front k m l =

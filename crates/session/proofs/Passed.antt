@@ -1,21 +1,21 @@
 -- What holds where the shared checks refuse nothing.
 use Prim.Native.Nat.{ℕ, _*_, _-_, _≤_}
 use mathlib.Core.Path.{_≡_, sym, _∙_}
-use mathlib.Core.Bool.{false}
-use mathlib.Core.List.{List, [], _∷_}
+use mathlib.Core.Bool.{Bool, true, false}
+use mathlib.Core.List.{List, [], _∷_, _++_}
 use native.Mathlib.Nat.{mul-le-mul-right, pos-of-ne-zero}
 use native.Mathlib.Omega.{arith}
 use borrow.Author.Tests.{ltb-false, eqb-false}
 use lib.Dec.{eqb}
-use Rattle.refusal.specs.Refusal.{_when_, first, orElse}
+use Rattle.refusal.specs.Refusal.{Test, _when_, first, orElse}
 use Rattle.refusal.specs.Conditions.{postsTests, outside, missized, beyond, badPoint}
 use Rattle.refusal.proofs.Laws.{AllFail, or-false, inside, equal, all-fail, first-join}
 use Rattle.refusal.proofs.Elements.{below-p}
-use Rattle.refusal.proofs.Groups.{first-chain, stopped, went-on}
+use Rattle.refusal.proofs.Groups.{chain, first-chain, stopped, went-on}
 use Rattle.session.specs.declared.Session.{Session}
 use Rattle.session.specs.Sessions.{sessionTests}
 use Rattle.session.specs.Rows.{width}
-use Rattle.session.specs.Checks.{frameTests, noRow, Framed, RowIn}
+use Rattle.session.specs.Checks.{frameTests, noRow, noTriple, Framed, RowIn, TripleIn}
 
 pub framed : (s : Session) (rows : List ℕ) → AllFail (frameTests s rows) → Framed s rows
 framed s rows h =
@@ -33,6 +33,9 @@ row-below s r h = record { row-in = h; room = mul-le-mul-right (width s) h }
 
 pub row-in : (s : Session) (r : ℕ) → noRow r ≡ false → RowIn s r
 row-in s r e = row-below s r (ltb-false 95 r e)
+
+pub triple-in : (s : Session) (r : ℕ) → noTriple r ≡ false → TripleIn s r
+triple-in s r e = let h = ltb-false 93 r e in record { triple-in = h; room = mul-le-mul-right (width s) h }
 
 -- n and t are small, so a row's length does not wrap
 pub settled : (n t post point r : ℕ) → r ≡ first (sessionTests n t post point) → r ≡ 0 → (n ≤ 4096) × (t ≤ 4096)

@@ -3,14 +3,14 @@ use Prim.Native.Nat.{ℕ, suc, _+_, _*_, _-_, _≤_, _<_}
 use mathlib.Core.Path.{_≡_, sym, _∙_, ap, ap₂}
 use mathlib.Core.Logic.{_≢_}
 use mathlib.Core.List.{List, _++_, map}
-use native.Mathlib.Nat.{suc-mul, mul-le-mul-right, add-sub-cancel-left}
+use native.Mathlib.Nat.{add-mul, suc-mul, mul-le-mul-right, add-sub-cancel-left}
 use native.Mathlib.Decide.{decLe}
 use native.Mathlib.Omega.{arith}
 use lib.ListN.{length, take, drop}
-use lib.Seq.{take-take, drop-drop}
+use lib.Seq.{take-take, take-add, drop-drop, length-take-le}
 use borrow.Rule.Slice.PartMut.{putMid}
 use Rattle.session.specs.Rows.{rowAt, withRow}
-use Rattle.session.proofs.Parts.{part-length, length-put, part-same, part-before, part-after, put-tail, drop-front}
+use Rattle.session.proofs.Parts.{part-length, length-put, part-same, part-before, part-after, put-tail, put-join, drop-front}
 
 -- a row ends where the next begins
 next : (q r w : ℕ) → q < r → q * w + w ≤ r * w
@@ -37,6 +37,17 @@ module _ (w k : ℕ) (rows : List ℕ) (r : ℕ) (size : length rows ≡ k * w) 
         by-side : Dec (q ≤ r) → rowAt w (withRow w r x rows) q ≡ rowAt w rows q
         by-side (yes h) = part-before (r * w) w rows x row-room wide (q * w) w (next q r w (omega arith))
         by-side (no h) = part-after (r * w) w rows x row-room wide (q * w) w (next r q w (omega arith))
+
+-- one more row of a pack, behind the k rows of it that were put from row r on
+pub next-row-put : (w r k : ℕ) (rows pack : List ℕ) → r * w + k * w ≤ length rows → k * w ≤ length pack
+    → withRow w (r + k) (rowAt w pack k) (putMid (r * w) (k * w) rows (take (k * w) pack))
+    ≡ putMid (r * w) (suc k * w) rows (take (suc k * w) pack)
+next-row-put w r k rows pack h g =
+    let e : k * w + w ≡ suc k * w = sym (suc-mul k w) in
+    ap (λ (z : ℕ). putMid z w (putMid (r * w) (k * w) rows (take (k * w) pack)) (rowAt w pack k)) (add-mul r k w)
+    ∙ put-join (r * w) (k * w) w rows (take (k * w) pack) (rowAt w pack k) h (length-take-le (k * w) pack g)
+    ∙ ap (putMid (r * w) (k * w + w) rows) (sym (take-add (k * w) w pack))
+    ∙ ap (λ (z : ℕ). putMid (r * w) z rows (take z pack)) e
 
 -- f done to the last n numbers of a row of t+1+2n, its public sums
 module _ (f : ℕ → ℕ) (t n r : ℕ) (rows : List ℕ) where

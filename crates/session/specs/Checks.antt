@@ -39,3 +39,8 @@ pub record Framed (s : Session) (rows : List ℕ) : Type 0 where
 pub record RowIn (s : Session) (r : ℕ) : Type 0 where
   pub row-in : r ≤ 95
   pub room : r * width s ≤ 95 * width s
+
+-- A triple's first row that 6 leaves, with room for its three rows in the list.
+pub record TripleIn (s : Session) (r : ℕ) : Type 0 where
+  pub triple-in : r ≤ 93
+  pub room : r * width s ≤ 93 * width s

@@ -9,6 +9,10 @@ use Rattle.session.specs.declared.Session.{Session}
 abbrev pub width : Session → ℕ
 width s = s .t + 1 + 2 * s .n
 
+-- the longest row: 32 posts, t = 31
+abbrev pub longest : ℕ
+longest = 96
+
 -- where the public sums m1 to mn begin in a row
 abbrev pub sumsAt : Session → ℕ
 sumsAt s = s .t + 1 + s .n

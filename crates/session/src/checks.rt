@@ -1,6 +1,7 @@
 // The checks that calls on a session share. Each gives its refusal, or 0; a call joins them in the order of their numbers.
 use crate::Session;
 ghost use mathlib.Core.Path.{_≡_};
+ghost use Prim.Native.Nat.{_+_, _≤_};
 ghost use mathlib.Core.List.{[], _∷_};
 ghost use Rattle.refusal.specs.Refusal.{first, _when_};
 ghost use Rattle.refusal.specs.Conditions.{anyBeyond};
@@ -49,6 +50,17 @@ impl Session {
         ensures { λ r. ⌜ r ≡ first (7 when unlike self row need ∷ []) ⌝ }
     {
         if self.mark(row) == need { 0 } else { 7 }
+    }
+
+    // 7, of the marks that a call needs on a triple's three rows.
+    pub fn unlike_triple(self, row: usize, a: u8, b: u8, c: u8) -> u8
+        requires { ⌜ row ≤ 93 ⌝ }
+        ensures { λ r. ⌜ r ≡ first (7 when unlike self row a ∷ 7 when unlike self (row + 1) b ∷ 7 when unlike self (row + 2) c ∷ []) ⌝ }
+    {
+        refusal::or_else(
+            self.unlike(row, a),
+            refusal::or_else(self.unlike(row + 1, b), self.unlike(row + 2, c)),
+        )
     }
 
     // 8, of every number of a row.

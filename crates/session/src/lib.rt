@@ -6,7 +6,7 @@ pub mod rows;
 
 ghost use mathlib.Core.Path.{_≡_};
 ghost use Prim.Native.Nat.{_+_, _≤_};
-ghost use Rattle.session.specs.Sessions.{mark, marked, remembering, created};
+ghost use Rattle.session.specs.Sessions.{mark, marked, remembering, sessionOf, created};
 
 #[repr(C)]
 pub struct Session {
@@ -30,28 +30,11 @@ pub struct Answer {
 }
 
 impl Session {
-    // All 96 rows are empty; a refused session has 0 in every field.
-    pub fn new(n: usize, t: usize, post: usize, point: u32) -> Answer
-        ensures { λ r. ⌜ r ≡ created n t post point ⌝ }
+    // All 96 rows have mark 0, and no factor rows are remembered.
+    fn empty(n: usize, t: usize, post: usize, point: u32) -> Session
+        ensures { λ r. ⌜ r ≡ sessionOf n t post point ⌝ }
     {
-        let refusal = checks::settings(n, t, post, point);
-        if refusal != 0 {
-            let session = Session {
-                n: 0,
-                t: 0,
-                post: 0,
-                point: 0,
-                marks: [0; 96],
-                left: [0; 96],
-                right: [0; 96],
-            };
-            return Answer {
-                refusal,
-                value: 0,
-                session,
-            };
-        }
-        let session = Session {
+        Session {
             n,
             t,
             post,
@@ -59,7 +42,23 @@ impl Session {
             marks: [0; 96],
             left: [0; 96],
             right: [0; 96],
-        };
+        }
+    }
+
+    // A new session; a refused one has 0 in every field.
+    pub fn new(n: usize, t: usize, post: usize, point: u32) -> Answer
+        ensures { λ r. ⌜ r ≡ created n t post point ⌝ }
+    {
+        let refusal = checks::settings(n, t, post, point);
+        if refusal != 0 {
+            let zero = Session::empty(0, 0, 0, 0);
+            return Answer {
+                refusal,
+                value: 0,
+                session: zero,
+            };
+        }
+        let session = Session::empty(n, t, post, point);
         Answer {
             refusal: 0,
             value: 0,
@@ -102,14 +101,22 @@ impl Session {
         self
     }
 
+    // The marks of a triple's three rows.
+    pub fn with_triple(mut self, first: usize, a: u8, b: u8, c: u8) -> Session
+        requires { ⌜ first ≤ 93 ⌝ }
+        ensures { λ r. ⌜ r ≡ marked (marked (marked self first a) (first + 1) b) (first + 2) c ⌝ }
+    {
+        self.marks[first] = a;
+        self.marks[first + 1] = b;
+        self.marks[first + 2] = c;
+        self
+    }
+
     // The product of the triple at `first` stands in its third row.
     pub fn finished(mut self, first: usize) -> Session
         requires { ⌜ first ≤ 93 ⌝ }
         ensures { λ r. ⌜ r ≡ marked (marked (marked self first 6) (first + 1) 6) (first + 2) 2 ⌝ }
     {
-        self.marks[first] = 6;
-        self.marks[first + 1] = 6;
-        self.marks[first + 2] = 2;
-        self
+        self.with_triple(first, 6, 6, 2)
     }
 }

@@ -3,12 +3,12 @@ use crate::Session;
 ghost use mathlib.Core.Path.{_≡_};
 ghost use Prim.Native.Nat.{_≤_};
 ghost use mathlib.Core.List.{map};
-ghost use lib.ListN.{length};
+ghost use lib.ListN.{length, take};
 ghost use Rattle.field.specs.Arithmetic.{sum};
-ghost use Rattle.session.specs.Rows.{width, sumsAt, rowAt, withRow, combined, plusSums};
+ghost use Rattle.session.specs.Rows.{width, sumsAt, rowAt, withRow, combined, plusSums, longest};
 ghost use Rattle.session.specs.Checks.{Framed, RowIn};
 
-// Room for the longest row, of 32 posts with t = 31.
+// The length of the longest row, of 32 posts with t = 31: the only bound on a row made beside the list.
 pub const LONGEST: usize = 96;
 
 // The numbers of `from`, into `to`.
@@ -40,6 +40,25 @@ pub fn combine(scale: u32, x: &[u32], y: &[u32], out: &mut [u32])
     }
 }
 
+// Room for any row.
+fn room() -> [u32; LONGEST]
+    ensures { λ r. ⌜ length r ≡ longest ⌝ }
+{
+    [0; LONGEST]
+}
+
+// x plus scale times y, in an array of its own, so that the row it is put into may be any.
+pub fn combined_row(scale: u32, x: &[u32], y: &[u32]) -> [u32; LONGEST]
+    requires { ⌜ (length (now x) ≤ longest) × (length (now y) ≡ length (now x)) ⌝ }
+    ensures { λ r. ⌜ length r ≡ longest ⌝ }
+    ensures { λ r. ⌜ take (length (now (x .entry))) r ≡ combined scale (now (x .entry)) (now (y .entry)) ⌝ }
+{
+    let count = x.len();
+    let mut sum = room();
+    combine(scale, x, y, &mut sum[0..count]);
+    sum
+}
+
 impl Session {
     // The length of a row, t+1+2n.
     pub fn width(self) -> usize
@@ -53,6 +72,7 @@ impl Session {
     pub fn row<'a>(self, rows: &'a [u32], row: usize) -> &'a [u32]
         requires { ⌜ Framed self (now rows) × RowIn self row ⌝ }
         ensures { λ r. ⌜ now r ≡ rowAt (width self) (now (rows .entry)) row ⌝ }
+        ensures { λ r. ⌜ length (now r) ≡ width self ⌝ }
     {
         let width = self.t + 1 + 2 * self.n;
         let from = row * width;

@@ -15,14 +15,14 @@ open-row-requires c κs =
     let a = e .before .before .before .before .args in
     row-openable (a .session) (a .rows .now) (a .row) (a .blocks .now)
     (open-allowed (a .session) (a .rows .now) (a .row) (a .blocks .now) _ (e .before .open-checks .ensures) (e .if1 .left)) _
-    (c .row .ensures)
+    (c .row .ensures .0)
 
 returns-2 : tie.Need-returns-2
 returns-2 c =
     let e = c .before .before in
     let a = e .before .before .before .before .args in
     open-walked (a .session) (a .rows .now) (a .row) (a .blocks .now) _ (e .before .open-checks .ensures) (e .if1 .left) _
-    (c .before .row .ensures) _ (c .open-row .ensures)
+    (c .before .row .ensures .0) _ (c .open-row .ensures)
 
 pub open-spec : {M : Type 1} → statement M
 open-spec =

@@ -1,0 +1,6 @@
+pub mod Dealing
+pub mod Messages
+pub mod Loading
+pub mod Triples
+pub mod Sums
+pub mod Theorems

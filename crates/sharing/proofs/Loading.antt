@@ -1,0 +1,83 @@
+-- The refusals of the two loads from the checks that their code joins, and what holds where there is none.
+use Prim.Native.Nat.{ℕ, _+_, _*_, _≤_}
+use mathlib.Core.Path.{_≡_, sym, _∙_}
+use mathlib.Core.List.{List, [], _∷_, _++_}
+use borrow.Author.Tests.{ltb-false}
+use lib.ListN.{length}
+use Rattle.refusal.specs.Refusal.{Test, _when_, first, orElse}
+use Rattle.refusal.specs.Conditions.{missized, anyBeyond}
+use Rattle.refusal.proofs.Laws.{equal, first-join, orElse-zero, all-fail}
+use Rattle.refusal.proofs.Groups.{chained, stopped, went-on}
+use Rattle.session.specs.declared.Session.{Session}
+use Rattle.session.specs.Rows.{width}
+use Rattle.session.specs.Checks.{frameTests, noRow, noTriple, unlike, Framed, RowIn, TripleIn}
+use Rattle.session.proofs.Passed.{row-in, triple-in}
+use Rattle.session.proofs.Calls.{stopped-at-frame, past-frame, allowed}
+use Rattle.sharing.specs.Load.{loadRowRefusal, loadTripleRefusal}
+
+module _ (s : Session) (rows : List ℕ) (r : ℕ) (pack : List ℕ) where
+  abbrev own-row : List Test
+  own-row = 5 when missized pack (width s) ∷ 6 when noRow r ∷ 7 when unlike s r 0 ∷ 8 when anyBeyond pack ∷ []
+
+  pub load-row-stopped : (f : ℕ) → f ≡ first (frameTests s rows) → (f ≡ 0 → ⊥) → f ≡ loadRowRefusal s rows r pack
+  unfolding loadRowRefusal
+  load-row-stopped f e n = stopped-at-frame s rows own-row f e n
+
+  pub load-row-checked : (f w q5 q6 q7 q8 x y z : ℕ) → f ≡ first (frameTests s rows) → f ≡ 0 → w ≡ width s
+      → q5 ≡ first (5 when missized pack w ∷ []) → q6 ≡ first (6 when noRow r ∷ [])
+      → q7 ≡ first (7 when unlike s r 0 ∷ []) → q8 ≡ first (8 when anyBeyond pack ∷ [])
+      → x ≡ orElse q7 q8 → y ≡ orElse q6 x → z ≡ orElse q5 y → z ≡ loadRowRefusal s rows r pack
+  unfolding loadRowRefusal
+  load-row-checked f w q5 q6 q7 q8 x y z e n ew e5 e6 e7 e8 ex ey ez =
+      let h : q5 ≡ first (5 when missized pack (width s) ∷ []) = rw ew at e5 in
+      past-frame s rows own-row f z e n (chained own-row tt z (cc))
+
+  pub load-row-allowed : (f : ℕ) → f ≡ loadRowRefusal s rows r pack → f ≡ 0
+      → Framed s rows × RowIn s r × (length pack ≡ width s)
+  unfolding loadRowRefusal
+  load-row-allowed f e n =
+      let h = allowed s rows own-row tt f e n in
+      (h .0, row-in s r (h .1 .1 .0), equal (length pack) (width s) (h .1 .0))
+
+  abbrev placed : List Test
+  placed = 5 when missized pack (3 * width s) ∷ 6 when noTriple r ∷ []
+
+  abbrev marks : List Test
+  marks = 7 when unlike s r 0 ∷ 7 when unlike s (r + 1) 0 ∷ 7 when unlike s (r + 2) 0 ∷ []
+
+  abbrev late : List Test
+  late = marks ++ (8 when anyBeyond pack ∷ [])
+
+  pub load-triple-stopped : (f : ℕ) → f ≡ first (frameTests s rows) → (f ≡ 0 → ⊥) → f ≡ loadTripleRefusal s rows r pack
+  unfolding loadTripleRefusal
+  load-triple-stopped f e n = stopped-at-frame s rows (placed ++ late) f e n
+
+  -- p is the refusal for the pack's length and the triple's place
+  module _ (f w q5 q6 p : ℕ) (e : f ≡ first (frameTests s rows)) (n : f ≡ 0) (ew : w ≡ width s)
+      (e5 : q5 ≡ first (5 when missized pack (3 * w) ∷ [])) (e6 : q6 ≡ first (6 when noTriple r ∷ [])) (ep : p ≡ orElse q5 q6) where
+    place : p ≡ first placed
+    place = let h : q5 ≡ first (5 when missized pack (3 * width s) ∷ []) = rw ew at e5 in chained placed tt p (cc)
+
+    pub load-triple-misplaced : (p ≡ 0 → ⊥) → p ≡ loadTripleRefusal s rows r pack
+    unfolding loadTripleRefusal
+    load-triple-misplaced h = past-frame s rows (placed ++ late) f p e n (stopped placed late tt p place h)
+
+    pub load-triple-checked : (q7 q8 z : ℕ) → p ≡ 0 → q7 ≡ first marks → q8 ≡ first (8 when anyBeyond pack ∷ [])
+        → z ≡ orElse q7 q8 → z ≡ loadTripleRefusal s rows r pack
+    unfolding loadTripleRefusal
+    load-triple-checked q7 q8 z h e7 e8 ez =
+        past-frame s rows (placed ++ late) f z e n
+        (went-on placed late tt p place z h (cc (first-join marks (8 when anyBeyond pack ∷ []) tt)))
+
+  pub load-triple-allowed : (f : ℕ) → f ≡ loadTripleRefusal s rows r pack → f ≡ 0
+      → Framed s rows × TripleIn s r × (length pack ≡ 3 * width s)
+  unfolding loadTripleRefusal
+  load-triple-allowed f e n =
+      let h = allowed s rows (placed ++ late) tt f e n in
+      (h .0, triple-in s r (h .1 .1 .0), equal (length pack) (3 * width s) (h .1 .0))
+
+-- a triple's place was not refused
+pub placed-below : (r q5 q6 p : ℕ) → q6 ≡ first (6 when noTriple r ∷ []) → p ≡ orElse q5 q6 → p ≡ 0 → r ≤ 93
+placed-below r q5 q6 p e6 ep h =
+    let z : q6 ≡ 0 = orElse-zero q5 q6 (sym ep ∙ h) .1 in
+    ltb-false 93 r (all-fail (6 when noTriple r ∷ []) tt (sym e6 ∙ z) .0)

@@ -1,0 +1,15 @@
+use borrow.Author.Needs.{needs}
+use Rattle.session.proofs.Calls.{frame-passed}
+use Rattle.sharing.proofs.Sums.{linear-stopped, linear-checked}
+use Rattle.sharing.proofs.linear.linear_refusal.Statement.{statement}
+use Rattle.sharing.proofs.linear.linear_refusal.Tie as tie
+
+ruleset steps = (needs, frame-passed, linear-stopped, linear-checked)
+
+pub linear-refusal-spec : {M : Type 1} → statement M
+linear-refusal-spec =
+    tie.close
+    (tie.spec (λ c κs. search needs) (λ c. search steps) (λ c κs. search needs) (λ c κs. search steps) (λ c κs. search steps)
+    (λ c κs. search needs) (λ c κs. search needs) (λ c κs. search needs) (λ c κs. search needs) (λ c κs. search needs)
+    (λ c κs. search needs) (λ c κs. search needs) (λ c κs. search needs) (λ c κs. search needs) (λ c κs. search needs)
+    (λ c κs. search needs) (λ c κs. search needs) (λ c κs. search needs) (λ c κs. search needs) (λ c. search steps))

@@ -1,0 +1,4 @@
+pub mod Load
+pub mod Deal
+pub mod Message
+pub mod Linear
