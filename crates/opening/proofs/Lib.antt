@@ -3,3 +3,4 @@ pub mod Walks
 pub mod Fronts
 pub mod Opens
 pub mod Theorems
+pub mod Accepted

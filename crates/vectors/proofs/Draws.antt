@@ -1,0 +1,116 @@
+-- What the factory writes for a post is its row of the draw's vector.
+use Prim.Native.Nat.{ℕ, zero, suc, _+_, _*_, _≤_, _<_}
+use mathlib.Core.Path.{_≡_, refl, sym, _∙_, ap, ap₂, fun-ext}
+use mathlib.Core.List.{List, [], _∷_, _++_}
+use native.Mathlib.Nat.{add-zero, suc-mul, mul-comm, mul-le-mul, le-refl, zero-mul}
+use native.Mathlib.Omega.{arith}
+use lib.Dec.{lit<}
+use lib.ListN.{length, take, drop, getD}
+use lib.Seq.{drop-cons}
+use Rattle.field.specs.Modulus.{p}
+use Rattle.field.specs.Arithmetic.{sum}
+use Rattle.field.specs.Algebra.{CommutativeRing}
+use Rattle.field.specs.Element.{Element, element}
+use Rattle.field.proofs.Expression.{A, B, 𝟘, _:+_, Same}
+use Rattle.field.proofs.Solver.{solve}
+use Rattle.field.proofs.Elements.{𝓡, element-of-number, number-below}
+use Rattle.poly.specs.Polynomial.{value}
+use Rattle.poly.specs.Counting.{Elements}
+use Rattle.poly.proofs.Bounds.{value-below}
+use Rattle.poly.proofs.Coefficients.{ev}
+use Rattle.poly.proofs.Numbers.{toElements, element-value}
+use Rattle.factory.specs.Draw.{polynomial, drawLength, eachFrom, sumOf, part}
+use Rattle.vectors.specs.Vector.{Vector, firsts, numbers, valueAt, checkOf, sumAt, rowOf, vectorOf}
+use Rattle.vectors.proofs.Linear.{sum-number}
+open CommutativeRing 𝓡 using (add as _⊕_, zero as 0ᴱ)
+
+infixl 65 _⊕_
+elements-of-numbers : (k : ℕ) (a : ℕ → Element) → toElements (numbers k a) ≡ firsts k a
+unfolding numbers firsts
+elements-of-numbers zero a = refl
+elements-of-numbers (suc k) a = ap₂ _∷_ (element-of-number (a 0)) (elements-of-numbers k (λ i. a (suc i)))
+
+pub value-numbers : (k : ℕ) (a : ℕ → Element) (x : ℕ) → value (numbers k a) x ≡ valueAt k a (element x) .0
+unfolding valueAt
+value-numbers k a x =
+    sym (number-below (value (numbers k a) x) (value-below (numbers k a) x))
+    ∙ ap (λ (z : Element). z .0)
+    (element-value (numbers k a) x ∙ ap (λ (l : List Element). ev 𝓡 l (element x)) (elements-of-numbers k a))
+
+pub each-numbers : (j n : ℕ) (f : ℕ → ℕ) (a : ℕ → Element) → ((i : ℕ) → i < n → f (j + i) ≡ a i .0) → eachFrom j n f ≡ numbers n a
+unfolding eachFrom numbers
+each-numbers j zero f a h = refl
+each-numbers j (suc n) f a h =
+    ap₂ _∷_ (ap f (sym (add-zero j)) ∙ h 0 (omega arith))
+    (each-numbers (suc j) n f (λ i. a (suc i)) (λ i l. ap f (next i) ∙ h (suc i) (omega arith)))
+  where
+    next : (i : ℕ) → suc j + i ≡ j + suc i
+    next i = omega arith
+
+pub element-at : (xs : List ℕ) → Elements xs → (i : ℕ) → getD xs i 0 < p
+element-at [] e i = lit< tt
+element-at (x ∷ xs) e zero = e .0
+element-at (x ∷ xs) e (suc i) = element-at xs (e .1) i
+
+slice-numbers : (k a : ℕ) (xs : List ℕ) → Elements xs → a + k ≤ length xs
+    → take k (drop a xs) ≡ numbers k (λ i. element (getD xs (a + i) 0))
+unfolding numbers
+slice-numbers zero a xs e h = refl
+slice-numbers (suc k) a xs e h =
+    ap (take (suc k)) (drop-cons xs a 0 (omega arith))
+    ∙ ap₂ _∷_
+    (sym (number-below (getD xs a 0) (element-at xs e a)) ∙ ap (λ (z : ℕ). element (getD xs z 0) .0) (sym (add-zero a)))
+    (slice-numbers k (suc a) xs e (omega arith)
+    ∙ ap (numbers k) (fun-ext (λ i. ap (λ (z : ℕ). element (getD xs z 0)) (next i))))
+  where
+    next : (i : ℕ) → suc a + i ≡ a + suc i
+    next i = omega arith
+
+module _ (n k : ℕ) (draw : List ℕ) (low : Elements draw) (size : length draw ≡ drawLength n k) (positive : 1 ≤ k) where
+  room : (j : ℕ) → j ≤ n → j * k + k ≤ length draw
+  room j h = omega (arith, size, suc-mul j k, mul-comm k (n + 1), mul-le-mul {n₁ = suc j} {m₁ = k} {n₂ = n + 1} {m₂ = k} (omega arith) (le-refl k))
+
+  pub polynomial-numbers : (j : ℕ) → j ≤ n → polynomial k draw j ≡ numbers k (λ i. element (getD draw (j * k + i) 0))
+  polynomial-numbers j h = slice-numbers k (j * k) draw low (room j h)
+
+  first-of : (a : ℕ → Element) → getD (numbers k a) 0 0 ≡ a 0 .0
+  unfolding numbers
+  first-of a = go k positive
+    where
+      go : (m : ℕ) → 1 ≤ m → getD (numbers m a) 0 0 ≡ a 0 .0
+      go zero h = absurd (omega arith)
+      go (suc m) h = refl
+
+  pub part-is-row : (i w : ℕ) → i ≤ n → part n k i w draw ≡ rowOf k n i (element w) (vectorOf k draw)
+  unfolding part rowOf vectorOf Same
+  part-is-row i w h =
+      ap₂ _++_ (polynomial-numbers i h)
+      (ap₂ _++_ (each-numbers 1 n (λ j. value (polynomial k draw j) w) _ checks) (each-numbers 1 n (sumOf k draw) _ sums))
+    where
+      S : Vector
+      S = vectorOf k draw
+
+      one-more : (j : ℕ) → 1 + j ≡ suc j
+      one-more j = omega arith
+
+      checks : (j : ℕ) → j < n → value (polynomial k draw (1 + j)) w ≡ checkOf k (element w) S j .0
+      checks j l =
+          ap (λ (q : List ℕ). value q w) (polynomial-numbers (1 + j) (omega arith)) ∙ value-numbers k _ w
+          ∙ ap (λ (m : ℕ). valueAt k (λ i. element (getD draw (m * k + i) 0)) (element w) .0) (one-more j)
+
+      first : (i : ℕ) → 0 * k + i ≡ i
+      first i = omega (arith, zero-mul k)
+
+      join : (x y : Element) → sum (x .0) (y .0) ≡ (x ⊕ y ⊕ 0ᴱ) .0
+      join x y =
+          sum-number x (y .0) ∙ ap (λ (z : Element). (x ⊕ z) .0) (element-of-number y)
+          ∙ ap (λ (z : Element). z .0) (solve 𝓡 (x ∷ y ∷ []) (A :+ B) (A :+ B :+ 𝟘) refl)
+
+      sums : (j : ℕ) → j < n → sumOf k draw (1 + j) ≡ sumAt k S j .0
+      sums j l =
+          ap₂ sum
+          (ap (λ (q : List ℕ). getD q 0 0) (polynomial-numbers (1 + j) (omega arith)) ∙ first-of _
+          ∙ ap (λ (m : ℕ). element (getD draw (m * k + 0) 0) .0) (one-more j))
+          (ap (λ (q : List ℕ). value q (1 + j)) (polynomial-numbers 0 (omega arith)) ∙ value-numbers k _ (1 + j)
+          ∙ ap₂ (λ (a : ℕ → Element) (m : ℕ). valueAt k a (element m) .0) (fun-ext (λ i. ap (λ (z : ℕ). element (getD draw z 0)) (first i))) (one-more j))
+          ∙ join (S .v (suc j) 0) (valueAt k (S .f) (element (suc j)))

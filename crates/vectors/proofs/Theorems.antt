@@ -1,0 +1,185 @@
+-- The claims of specs/Claims.antt.
+use Prim.Native.Nat.{ℕ, zero, suc, _+_, _*_, _<_}
+use mathlib.Core.Path.{_≡_, refl, sym, _∙_, ap, ap₂, fun-ext}
+use mathlib.Core.Bool.{false}
+use mathlib.Core.List.{List, [], _∷_, _++_, map}
+use native.Mathlib.Numerals.{add-one}
+use native.Mathlib.Omega.{arith}
+use lib.ListN.{length, getD}
+use lib.Seq.{getD-append-add}
+use Rattle.field.specs.Modulus.{p}
+use Rattle.field.specs.Arithmetic.{product, difference}
+use Rattle.field.specs.Algebra.{CommutativeRing}
+use Rattle.field.specs.Element.{Element, element}
+use Rattle.field.proofs.Expression.{A, B, C, D, 𝟘, _:+_, _:*_, _:-_, Same}
+use Rattle.field.proofs.Solver.{solve}
+use Rattle.field.proofs.Elements.{𝓡, element-zero, element-sum, element-product, element-difference, element-of-number, number-below}
+use Rattle.field.proofs.Modular.{sum-below, difference-below}
+use Rattle.poly.specs.Polynomial.{value}
+use Rattle.poly.specs.Interpolation.{interpolated}
+use Rattle.poly.specs.Counting.{All, Elements}
+use Rattle.poly.proofs.Coefficients.{ev}
+use Rattle.poly.proofs.Lists.{all-map}
+use Rattle.poly.proofs.Theorems.{interpolation-is-exact}
+use Rattle.session.specs.declared.Session.{Session}
+use Rattle.session.specs.Rows.{publicSum, combined}
+use Rattle.opening.specs.Walking.{sent, accepts, share, acceptedPosts, tooFew, opened}
+use Rattle.opening.proofs.Accepted.{Accepted, all-accepted, distinct-accepted, accepted-enough}
+use Rattle.vectors.specs.Vector.{Vector, plusTimes, number, firsts, numbers, valueAt, checkOf, sumAt, rowOf, vectorOf}
+use Rattle.vectors.specs.Claims.{PartLinear, heldRow, OpeningExact}
+use Rattle.vectors.proofs.Linear.{length-numbers, row-plusTimes}
+use Rattle.vectors.proofs.Draws.{value-numbers, part-is-row}
+open CommutativeRing 𝓡 using (add as _⊕_, mul as _⊗_, neg)
+
+infixl 65 _⊕_
+infixl 70 _⊗_
+-- ---- the factory's part is linear
+
+length-combined : (s : ℕ) (xs ys : List ℕ) → length xs ≡ length ys → length (combined s xs ys) ≡ length xs
+unfolding combined
+length-combined s [] ys e = refl
+length-combined s (x ∷ xs) [] e = absurd (omega arith)
+length-combined s (x ∷ xs) (y ∷ ys) e = ap suc (length-combined s xs ys (omega arith))
+
+elements-combined : (s : ℕ) (xs ys : List ℕ) → Elements (combined s xs ys)
+unfolding combined
+elements-combined s [] ys = tt
+elements-combined s (x ∷ xs) [] = tt
+elements-combined s (x ∷ xs) (y ∷ ys) = (sum-below x (product s y), elements-combined s xs ys)
+
+combined-at : (s : ℕ) (xs ys : List ℕ) → length xs ≡ length ys → (i : ℕ)
+    → element (getD (combined s xs ys) i 0) ≡ element (getD xs i 0) ⊕ element s ⊗ element (getD ys i 0)
+unfolding combined Same
+combined-at s [] [] e i =
+    element-zero ∙ solve 𝓡 (element s ∷ []) 𝟘 (𝟘 :+ A :* 𝟘) refl
+    ∙ sym (ap (λ (z : Element). z ⊕ element s ⊗ z) element-zero)
+combined-at s [] (y ∷ ys) e i = absurd (omega arith)
+combined-at s (x ∷ xs) [] e i = absurd (omega arith)
+combined-at s (x ∷ xs) (y ∷ ys) e zero =
+    element-sum x (product s y) ∙ ap (λ (z : Element). element x ⊕ z) (element-product s y)
+combined-at s (x ∷ xs) (y ∷ ys) e (suc i) = combined-at s xs ys (omega arith) i
+
+vector-combined : (k s : ℕ) (xs ys : List ℕ) → length xs ≡ length ys
+    → vectorOf k (combined s xs ys) ≡ plusTimes (element s) (vectorOf k xs) (vectorOf k ys)
+unfolding vectorOf Same
+vector-combined k s xs ys e =
+    let c = solve 𝓡 (element s ∷ []) 𝟘 (𝟘 :+ A :* 𝟘) refl in
+    let f = fun-ext (λ (i : ℕ). combined-at s xs ys e i) in
+    let v = fun-ext (λ (j : ℕ). fun-ext (λ (i : ℕ). combined-at s xs ys e (j * k + i))) in
+    λ t. record { c = c t; f = f t; v = v t }
+
+pub part-linear : PartLinear
+part-linear n k i w s draw draw' pos hi e e' l l' =
+    part-is-row n k (combined s draw draw') (elements-combined s draw draw') (length-combined s draw draw' same ∙ l) pos i w hi
+    ∙ ap (rowOf k n i (element w)) (vector-combined k s draw draw' same)
+    ∙ row-plusTimes k n i s (element w) (vectorOf k draw) (vectorOf k draw')
+    ∙ sym (ap₂ (combined s) (part-is-row n k draw e l pos i w hi) (part-is-row n k draw' e' l' pos i w hi))
+  where
+    same : length draw ≡ length draw'
+    same = l ∙ sym l'
+
+-- ---- one opening
+
+-- the j-th of some numbers
+number-at : (k : ℕ) (a : ℕ → Element) (j : ℕ) → j < k → getD (numbers k a) j 0 ≡ a j .0
+unfolding numbers
+number-at zero a j h = absurd (omega arith)
+number-at (suc k) a zero h = refl
+number-at (suc k) a (suc j) h = number-at k (λ i. a (suc i)) j (omega arith)
+
+-- f with c added to its constant: the polynomial that the shares lie on
+shareOf : Vector → ℕ → Element
+shareOf S zero = S .f 0 ⊕ S .c
+shareOf S (suc i) = S .f (suc i)
+
+valueAt-share : (k : ℕ) (S : Vector) (x : Element) → valueAt (suc k) (shareOf S) x ≡ valueAt (suc k) (S .f) x ⊕ S .c
+unfolding valueAt firsts ev shareOf Same
+valueAt-share k S x =
+    solve 𝓡 (S .f 0 ∷ S .c ∷ x ∷ valueAt k (λ i. S .f (suc i)) x ∷ []) (A :+ B :+ C :* D) (A :+ C :* D :+ B) refl
+
+valueAt-zero : (k : ℕ) (a : ℕ → Element) → valueAt (suc k) a (element 0) ≡ a 0
+unfolding valueAt firsts ev Same
+valueAt-zero k a =
+    ap (λ (z : Element). a 0 ⊕ z ⊗ rest) element-zero ∙ solve 𝓡 (a 0 ∷ rest ∷ []) (A :+ 𝟘 :* B) A refl
+  where
+    rest : Element
+    rest = valueAt k (λ i. a (suc i)) (element 0)
+
+module _ (s : Session) (S : Vector) (blocks : List ℕ) (few : s .n < p) where
+  row : List ℕ
+  row = heldRow s S
+
+  sum-of-row : (j : ℕ) → j < s .n → publicSum s row (suc j) ≡ sumAt (s .t + 1) S j .0
+  unfolding row rowOf
+  sum-of-row j h =
+      ap (λ (z : ℕ). getD (a ++ (b ++ m)) z 0) place ∙ getD-append-add a (b ++ m) (s .n + j) 0
+      ∙ ap (λ (z : ℕ). getD (b ++ m) (z + j) 0) (sym (length-numbers (s .n) (checkOf (s .t + 1) (element (s .point)) S)))
+      ∙ getD-append-add b m j 0 ∙ number-at (s .n) (sumAt (s .t + 1) S) j h
+    where
+      a : List ℕ
+      a = numbers (s .t + 1) (S .v (s .post))
+
+      b : List ℕ
+      b = numbers (s .n) (checkOf (s .t + 1) (element (s .point)) S)
+
+      m : List ℕ
+      m = numbers (s .n) (sumAt (s .t + 1) S)
+
+      place : s .t + s .n + suc j ≡ length a + (s .n + j)
+      place = omega (arith, length-numbers (s .t + 1) (S .v (s .post)))
+
+  -- the share of a post whose own polynomial was accepted
+  share-true : (j : ℕ) → j < s .n → sent s row blocks (suc j) ≡ numbers (s .t + 1) (S .v (suc j))
+      → share s row blocks (suc j) ≡ value (numbers (s .t + 1) (shareOf S)) (suc j)
+  unfolding share Same
+  share-true j h e =
+      ap₂ difference (sum-of-row j h)
+      (ap (λ (q : List ℕ). getD q 0 0) e ∙ number-at (s .t + 1) (S .v (suc j)) 0 (omega arith))
+      ∙ sym (number-below (difference (m .0) (v .0)) (difference-below (m .0) (v .0)))
+      ∙ ap (λ (z : Element). z .0)
+      (element-difference (m .0) (v .0) ∙ ap₂ (λ (x y : Element). x ⊕ neg y) (element-of-number m) (element-of-number v)
+      ∙ solve 𝓡 (v ∷ f ∷ S .c ∷ []) (A :+ B :+ C :- A) (B :+ C) refl ∙ sym lies)
+      ∙ sym (value-numbers (s .t + 1) (shareOf S) (suc j))
+    where
+      v : Element
+      v = S .v (suc j) 0
+
+      f : Element
+      f = valueAt (s .t + 1) (S .f) (element (suc j))
+
+      m : Element
+      m = sumAt (s .t + 1) S j
+
+      lies : valueAt (s .t + 1) (shareOf S) (element (suc j)) ≡ f ⊕ S .c
+      lies = rw (add-one (s .t)) (valueAt-share (s .t) S (element (suc j)))
+
+  posts : List ℕ
+  posts = acceptedPosts s row blocks
+
+  in-range : All (Accepted (accepts s row blocks) 1 (s .n)) posts
+  unfolding posts
+  in-range = all-accepted (accepts s row blocks) 1 (s .n) (s .t + 1)
+
+  shares-true : (l : List ℕ) → All (Accepted (accepts s row blocks) 1 (s .n)) l
+      → All (λ j. sent s row blocks j ≡ numbers (s .t + 1) (S .v j)) l
+      → map (share s row blocks) l ≡ map (value (numbers (s .t + 1) (shareOf S))) l
+  shares-true [] a b = refl
+  shares-true (zero ∷ l) a b = absurd (omega (arith, a .0 .from-on))
+  shares-true (suc j ∷ l) a b = ap₂ _∷_ (share-true j (omega (arith, a .0 .before)) (b .0)) (shares-true l (a .1) (b .1))
+
+  exact : All (λ j. sent s row blocks j ≡ numbers (s .t + 1) (S .v j)) posts → tooFew s row blocks ≡ false
+      → opened s row blocks ≡ number S .0
+  unfolding opened posts shareOf Same
+  exact true-all enough =
+      ap (λ (ys : List ℕ). interpolated posts ys 0) (shares-true posts in-range true-all)
+      ∙ interpolation-is-exact posts (all-map (λ j a. omega (arith, a .before)) posts in-range)
+      (distinct-accepted (accepts s row blocks) 1 (s .n) (s .t + 1)) (numbers (s .t + 1) (shareOf S))
+      (omega (arith, length-numbers (s .t + 1) (shareOf S), accepted-enough (accepts s row blocks) 1 (s .n) (s .t + 1) enough)) 0
+      ∙ value-numbers (s .t + 1) (shareOf S) 0 ∙ ap (λ (z : Element). z .0) at-zero
+    where
+      at-zero : valueAt (s .t + 1) (shareOf S) (element 0) ≡ number S
+      at-zero = rw (add-one (s .t)) (valueAt-zero (s .t) (shareOf S) ∙ solve 𝓡 (S .f 0 ∷ S .c ∷ []) (A :+ B) (B :+ A) refl)
+
+pub opening-exact : OpeningExact
+unfolding row posts
+opening-exact s S blocks few true-all enough = exact s S blocks few true-all enough

@@ -1,0 +1,58 @@
+-- Everything that all posts hold of one shared number is a linear image of one vector: the dealer's number c, f's
+-- coefficients, and those of v1 to vn. As functions of the place, so that no law about them has a condition on lengths.
+use Prim.Native.Nat.{ℕ, zero, suc, _+_, _*_}
+use mathlib.Core.List.{List, [], _∷_, _++_}
+use lib.ListN.{getD}
+use Rattle.field.specs.Algebra.{CommutativeRing}
+use Rattle.field.specs.Element.{Element, element}
+use Rattle.field.proofs.Elements.{𝓡}
+use Rattle.poly.proofs.Coefficients.{ev}
+open CommutativeRing 𝓡 using (add as _⊕_, mul as _⊗_, zero as 0ᴱ)
+
+infixl 65 _⊕_
+infixl 70 _⊗_
+pub record Vector : Type 0 where
+  pub c : Element
+  pub f : ℕ → Element
+  pub v : ℕ → ℕ → Element
+
+-- S + s S'
+abbrev pub plusTimes : Element → Vector → Vector → Vector
+plusTimes s S S' =
+    record { c = S .c ⊕ s ⊗ S' .c; f = λ k. S .f k ⊕ s ⊗ S' .f k; v = λ j k. S .v j k ⊕ s ⊗ S' .v j k }
+
+-- c added to the dealer's number
+abbrev pub raised : Element → Vector → Vector
+raised c S = record { c = S .c ⊕ c; f = S .f; v = S .v }
+
+-- the shared number
+abbrev pub number : Vector → Element
+number S = S .c ⊕ S .f 0
+
+-- the first k of a sequence, and their numbers
+unfoldable pub firsts : ℕ → (ℕ → Element) → List Element
+firsts zero a = []
+firsts (suc k) a = a 0 ∷ firsts k (λ i. a (suc i))
+
+unfoldable pub numbers : ℕ → (ℕ → Element) → List ℕ
+numbers zero a = []
+numbers (suc k) a = a 0 .0 ∷ numbers k (λ i. a (suc i))
+
+-- the value of the polynomial with the k coefficients a
+unfoldable pub valueAt : ℕ → (ℕ → Element) → Element → Element
+valueAt k a x = ev 𝓡 (firsts k a) x
+
+-- check value and public sum of post j + 1
+abbrev pub checkOf : ℕ → Element → Vector → ℕ → Element
+checkOf k w S j = valueAt k (S .v (suc j)) w
+
+abbrev pub sumAt : ℕ → Vector → ℕ → Element
+sumAt k S j = S .v (suc j) 0 ⊕ valueAt k (S .f) (element (suc j)) ⊕ S .c
+
+-- post i's row, with check point w: k coefficients, n check values, n sums
+unfoldable pub rowOf : ℕ → ℕ → ℕ → Element → Vector → List ℕ
+rowOf k n i w S = numbers k (S .v i) ++ (numbers n (checkOf k w S) ++ numbers n (sumAt k S))
+
+-- the vector of a draw, with the dealer's number 0
+unfoldable pub vectorOf : ℕ → List ℕ → Vector
+vectorOf k draw = record { c = 0ᴱ; f = λ i. element (getD draw i 0); v = λ j i. element (getD draw (j * k + i) 0) }
