@@ -1,6 +1,6 @@
 -- The two ways in which a call on a session ends, as its answer shows them.
 use Prim.Native.Nat.{ℕ}
-use mathlib.Core.Path.{_≡_, sym, _∙_, ap, ap₂}
+use mathlib.Core.Path.{_≡_, _∙_, ap, ap₂}
 use borrow.Author.Needs.{needs}
 use Rattle.refusal.proofs.Endings.{refused, accepted}
 use Rattle.session.specs.declared.Session.{Session}

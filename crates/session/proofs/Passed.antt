@@ -1,17 +1,17 @@
 -- What holds where the shared checks refuse nothing.
 use Prim.Native.Nat.{ℕ, _*_, _-_, _≤_}
 use mathlib.Core.Path.{_≡_, sym, _∙_}
-use mathlib.Core.Bool.{Bool, true, false}
-use mathlib.Core.List.{List, [], _∷_, _++_}
+use mathlib.Core.Bool.{false}
+use mathlib.Core.List.{List, [], _∷_}
 use native.Mathlib.Nat.{mul-le-mul-right, pos-of-ne-zero}
 use native.Mathlib.Omega.{arith}
 use borrow.Author.Tests.{ltb-false, eqb-false}
 use lib.Dec.{eqb}
-use Rattle.refusal.specs.Refusal.{Test, _when_, first, orElse}
+use Rattle.refusal.specs.Refusal.{_when_, first, orElse}
 use Rattle.refusal.specs.Conditions.{postsTests, outside, missized, beyond, badPoint}
 use Rattle.refusal.proofs.Laws.{AllFail, or-false, inside, equal, all-fail, first-join}
 use Rattle.refusal.proofs.Elements.{below-p}
-use Rattle.refusal.proofs.Groups.{chain, first-chain, stopped, went-on}
+use Rattle.refusal.proofs.Groups.{first-chain, stopped, went-on}
 use Rattle.session.specs.declared.Session.{Session}
 use Rattle.session.specs.Sessions.{sessionTests}
 use Rattle.session.specs.Rows.{width}
@@ -48,7 +48,8 @@ settled n t post point r e z =
 pub settings-joined : (n t post point a b c d r : ℕ) → a ≡ first (postsTests n t) → b ≡ first (3 when outside 1 n post ∷ [])
     → c ≡ first (4 when badPoint point ∷ []) → d ≡ orElse b c → r ≡ orElse a d → r ≡ first (sessionTests n t post point)
 settings-joined n t post point a b c d r ea eb ec ed er =
-    cc (first-join (postsTests n t) (3 when outside 1 n post ∷ 4 when badPoint point ∷ []) tt, first-chain (3 when outside 1 n post ∷ 4 when badPoint point ∷ []) tt)
+    let own = 3 when outside 1 n post ∷ 4 when badPoint point ∷ [] in
+    cc (first-join (postsTests n t) own tt, first-chain own tt)
 
 -- the frame stops at 1 to 4, or goes on to 5
 module _ (s : Session) (rows : List ℕ) (r : ℕ) where

@@ -6,10 +6,11 @@ use mathlib.Core.List.{List, _++_, map}
 use native.Mathlib.Nat.{add-mul, suc-mul, mul-le-mul-right, add-sub-cancel-left}
 use native.Mathlib.Decide.{decLe}
 use native.Mathlib.Omega.{arith}
-use lib.ListN.{length, take, drop}
+use lib.ListN.{length, take, drop, length-append, length-map, take-append-drop}
 use lib.Seq.{take-take, take-add, drop-drop, length-take-le}
 use borrow.Rule.Slice.PartMut.{putMid}
-use Rattle.session.specs.Rows.{rowAt, withRow}
+use Rattle.field.specs.Arithmetic.{sum}
+use Rattle.session.specs.Rows.{rowAt, withRow, plusSums}
 use Rattle.session.proofs.Parts.{part-length, length-put, part-same, part-before, part-after, put-tail, put-join, drop-front}
 
 -- a row ends where the next begins
@@ -37,6 +38,14 @@ module _ (w k : ℕ) (rows : List ℕ) (r : ℕ) (size : length rows ≡ k * w) 
         by-side : Dec (q ≤ r) → rowAt w (withRow w r x rows) q ≡ rowAt w rows q
         by-side (yes h) = part-before (r * w) w rows x row-room wide (q * w) w (next q r w (omega arith))
         by-side (no h) = part-after (r * w) w rows x row-room wide (q * w) w (next r q w (omega arith))
+
+pub length-plus-sums : (k c : ℕ) (row : List ℕ) → length (plusSums k c row) ≡ length row
+unfolding plusSums
+length-plus-sums k c row =
+    length-append (take k row) (map (λ m. sum m c) (drop k row))
+    ∙ ap (λ (z : ℕ). length (take k row) + z) (length-map (drop k row) (λ m. sum m c))
+    ∙ sym (length-append (take k row) (drop k row))
+    ∙ ap length (take-append-drop k row)
 
 -- one more row of a pack, behind the k rows of it that were put from row r on
 pub next-row-put : (w r k : ℕ) (rows pack : List ℕ) → r * w + k * w ≤ length rows → k * w ≤ length pack

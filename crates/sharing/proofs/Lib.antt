@@ -2,5 +2,5 @@ pub mod Dealing
 pub mod Messages
 pub mod Loading
 pub mod Triples
-pub mod Sums
+pub mod Combining
 pub mod Theorems

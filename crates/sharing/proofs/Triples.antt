@@ -1,8 +1,8 @@
 -- A pack of three rows, copied in one go, is the three rows put one after the other.
 use Prim.Native.Nat.{ℕ, _+_, _*_, _-_, _≤_}
-use mathlib.Core.Path.{_≡_, sym, _∙_, ap, ap₂}
+use mathlib.Core.Path.{_≡_, sym, _∙_, ap}
 use mathlib.Core.List.{List}
-use native.Mathlib.Nat.{zero-mul, one-mul, add-sub-cancel-left, le-refl}
+use native.Mathlib.Nat.{zero-mul, one-mul, add-sub-cancel-left}
 use native.Mathlib.Omega.{arith}
 use lib.ListN.{length, take, drop}
 use lib.Seq.{take-all}

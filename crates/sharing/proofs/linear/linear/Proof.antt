@@ -1,6 +1,6 @@
 use borrow.Author.Needs.{needs}
 use Rattle.session.proofs.Endings.{endings}
-use Rattle.sharing.proofs.Sums.{linear-allowed}
+use Rattle.sharing.proofs.Combining.{linear-allowed}
 use Rattle.sharing.proofs.linear.linear.Statement.{statement}
 use Rattle.sharing.proofs.linear.linear.Tie as tie
 

@@ -1,5 +1,5 @@
 use borrow.Author.Needs.{needs}
-use Rattle.sharing.proofs.Sums.{sum-put}
+use Rattle.sharing.proofs.Combining.{sum-put}
 use Rattle.sharing.proofs.linear.linear_accepted.Statement.{statement}
 use Rattle.sharing.proofs.linear.linear_accepted.Tie as tie
 

@@ -1,6 +1,6 @@
 use borrow.Author.Needs.{needs}
 use Rattle.session.proofs.Calls.{frame-passed}
-use Rattle.sharing.proofs.Sums.{linear-stopped, linear-checked}
+use Rattle.sharing.proofs.Combining.{linear-stopped, linear-checked}
 use Rattle.sharing.proofs.linear.linear_refusal.Statement.{statement}
 use Rattle.sharing.proofs.linear.linear_refusal.Tie as tie
 
