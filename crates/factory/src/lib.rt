@@ -1,4 +1,6 @@
 // The factory: the posts' parts of a drawn row, and of a drawn triple.
+mod part;
+
 pub struct Number {
     pub refusal: u8,
     pub value: u32,

@@ -1,0 +1,46 @@
+-- What the writers of a part are held to, and what they need of their lists.
+use Prim.Native.Nat.{ℕ, _+_, _*_, _<_}
+use mathlib.Core.Path.{_≡_}
+use mathlib.Core.List.{List}
+use lib.ListN.{length, getD}
+use Rattle.field.specs.Arithmetic.{sum}
+use Rattle.poly.specs.Polynomial.{value}
+use Rattle.factory.specs.Draw.{polynomial, drawLength, eachFrom}
+use Rattle.factory.specs.Packs.{packsLength}
+
+-- `vs` are v1 to vm, with k coefficients each, the posts counted from 0: v1(w) to vm(w), and v1(0) + f(1) to vm(0) + f(m)
+unfoldable pub checkAt : ℕ → ℕ → List ℕ → ℕ → ℕ
+checkAt k w vs i = value (polynomial k vs i) w
+
+abbrev pub checkValues : ℕ → ℕ → ℕ → List ℕ → List ℕ
+checkValues m k w vs = eachFrom 0 m (checkAt k w vs)
+
+unfoldable pub sumAt : ℕ → List ℕ → List ℕ → ℕ → ℕ
+sumAt k f vs i = sum (getD (polynomial k vs i) 0 0) (value f (i + 1))
+
+abbrev pub sums : ℕ → ℕ → List ℕ → List ℕ → List ℕ
+sums m k f vs = eachFrom 0 m (sumAt k f vs)
+
+-- A post's number is a u32, as the points are at which f is taken.
+abbrev pub Narrow : ℕ → Type 0
+Narrow n = n < 4294967296
+
+-- one post's part: `higher` are f's coefficients behind its constant
+pub record PartRoom (n i : ℕ) (higher vs part : List ℕ) : Type 0 where
+  pub narrow : Narrow n
+  pub post : i < n
+  pub drawn : length vs ≡ n * (length higher + 1)
+  pub room : length part ≡ length higher + 1 + 2 * n
+
+-- all posts' parts: `rest` is a draw but for its first number
+pub record PacksRoom (n t : ℕ) (rest out : List ℕ) : Type 0 where
+  pub narrow : Narrow n
+  pub drawn : length rest + 1 ≡ drawLength n (t + 1)
+  pub room : length out ≡ packsLength n t
+
+-- what a factory call that is not refused was lent
+pub record Fine (n : ℕ) (points draw : List ℕ) (drawn : ℕ) (out : List ℕ) (written : ℕ) : Type 0 where
+  pub narrow : Narrow n
+  pub points-length : length points ≡ n
+  pub draw-length : length draw ≡ drawn
+  pub out-length : length out ≡ written
