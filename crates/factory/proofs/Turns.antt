@@ -10,31 +10,29 @@ use lib.Seq.{drop-cons, take-suc-set, take-all, length-take-le}
 use Rattle.field.specs.Arithmetic.{sum}
 use Rattle.poly.specs.Polynomial.{value}
 use Rattle.factory.specs.Draw.{polynomial, eachFrom}
-use Rattle.factory.specs.Writers.{checkAt, checkValues, sumAt, sums}
+use Rattle.factory.specs.Writers.{checkAt, sumAt}
 
 -- block i of n blocks of k numbers lies in their list
 pub block-room : (i n k m : ℕ) → i < n → m ≡ n * k → i * k + k ≤ m
 block-room i n k m h e = omega (arith, mul-le-mul-right k h, suc-mul i k)
 
 -- a list filled from the front with f 0, f 1, ..: what is written and what is to come make the whole
-module _ (f : ℕ → ℕ) (l₀ : List ℕ) where
-  pub fill-start : take 0 l₀ ++ eachFrom 0 (length l₀ - 0) f ≡ eachFrom 0 (length l₀) f
+module _ (f : ℕ → ℕ) (n : ℕ) (l : List ℕ) where
+  pub fill-start : take 0 l ++ eachFrom 0 (n - 0) f ≡ eachFrom 0 n f
   fill-start = ap (λ (m : ℕ). eachFrom 0 m f) (omega arith)
 
-  pub fill-turn : (l : List ℕ) (i v : ℕ) → i < length l₀ → length l ≡ length l₀
-      → take i l ++ eachFrom i (length l₀ - i) f ≡ eachFrom 0 (length l₀) f → v ≡ f i
-      → take (i + 1) (set l i v) ++ eachFrom (i + 1) (length l₀ - (i + 1)) f ≡ eachFrom 0 (length l₀) f
+  pub fill-turn : (i v : ℕ) → i < n → length l ≡ n → take i l ++ eachFrom i (n - i) f ≡ eachFrom 0 n f → v ≡ f i
+      → take (i + 1) (set l i v) ++ eachFrom (i + 1) (n - (i + 1)) f ≡ eachFrom 0 n f
   unfolding eachFrom
-  fill-turn l i v h k e g =
-      let q : length l₀ - i ≡ suc (length l₀ - suc i) = omega arith in
+  fill-turn i v h k e g =
+      let q : n - i ≡ suc (n - suc i) = omega arith in
       let j : i < length l = omega arith in
       rw (g, add-one i, take-suc-set l i (f i) j, append-assoc) (rw q at e)
 
-  pub fill-end : (l : List ℕ) (i : ℕ) → length l₀ ≤ i → length l ≡ length l₀
-      → take i l ++ eachFrom i (length l₀ - i) f ≡ eachFrom 0 (length l₀) f → l ≡ eachFrom 0 (length l₀) f
+  pub fill-end : (i : ℕ) → n ≤ i → length l ≡ n → take i l ++ eachFrom i (n - i) f ≡ eachFrom 0 n f → l ≡ eachFrom 0 n f
   unfolding eachFrom
-  fill-end l i h k e =
-      let q : length l₀ - i ≡ 0 = omega arith in
+  fill-end i h k e =
+      let q : n - i ≡ 0 = omega arith in
       sym (append-nil l) ∙ rw (q, take-all i l (omega arith)) at e
 
 -- a list copied from the front
@@ -51,13 +49,10 @@ module _ (list l l₀ : List ℕ) (i : ℕ) (sized : length l₀ ≡ length list
       let j : length list ≤ i = omega arith in
       sym (append-nil l) ∙ rw (drop-of-length-le list j, take-all i l (omega arith)) at e
 
--- the check values
-pub check-turn : (vs l l₀ q : List ℕ) (k w i v : ℕ) → i < length l₀ → length l ≡ length l₀
-    → take i l ++ eachFrom i (length l₀ - i) (checkAt k w vs) ≡ checkValues (length l₀) k w vs
-    → q ≡ polynomial k vs i → v ≡ value q w
-    → take (i + 1) (set l i v) ++ eachFrom (i + 1) (length l₀ - (i + 1)) (checkAt k w vs) ≡ checkValues (length l₀) k w vs
+-- a check value
+pub check-is : (vs q : List ℕ) (k w i v : ℕ) → q ≡ polynomial k vs i → v ≡ value q w → v ≡ checkAt k w vs i
 unfolding checkAt
-check-turn vs l l₀ q k w i v h g e a b = fill-turn (checkAt k w vs) l₀ l i v h g e (b ∙ ap (λ (c : List ℕ). value c w) a)
+check-is vs q k w i v a b = rw (← a) b
 
 -- a sum
 pub some-coefficient : (vs q : List ℕ) (i k : ℕ) → i * (k + 1) + (k + 1) ≤ length vs → q ≡ polynomial (k + 1) vs i → 0 < length q

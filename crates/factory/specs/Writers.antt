@@ -1,7 +1,7 @@
 -- What the writers of a part are held to, and what they need of their lists.
 use Prim.Native.Nat.{ℕ, _+_, _*_, _<_}
 use mathlib.Core.Path.{_≡_}
-use mathlib.Core.List.{List}
+use mathlib.Core.List.{List, _++_}
 use lib.ListN.{length, getD}
 use Rattle.field.specs.Arithmetic.{sum}
 use Rattle.poly.specs.Polynomial.{value}
@@ -21,16 +21,25 @@ sumAt k f vs i = sum (getD (polynomial k vs i) 0 0) (value f (i + 1))
 abbrev pub sums : ℕ → ℕ → List ℕ → List ℕ → List ℕ
 sums m k f vs = eachFrom 0 m (sumAt k f vs)
 
+abbrev pub valuesOf : ℕ → ℕ → List ℕ → List ℕ → List ℕ → List ℕ
+valuesOf n w higher f vs = checkValues n (length higher + 1) w vs ++ sums n (length higher + 1) f vs
+
 -- A post's number is a u32, as the points are at which f is taken.
 abbrev pub Narrow : ℕ → Type 0
 Narrow n = n < 4294967296
 
--- one post's part: `higher` are f's coefficients behind its constant
+-- the numbers behind the coefficients: `higher` are f's coefficients behind its constant
+pub record ValuesRoom (n : ℕ) (higher vs part : List ℕ) : Type 0 where
+  pub narrow : Narrow n
+  pub drawn : length vs ≡ n * (length higher + 1)
+  pub room : length part ≡ n + n
+
+-- one post's part
 pub record PartRoom (n i : ℕ) (higher vs part : List ℕ) : Type 0 where
   pub narrow : Narrow n
   pub post : i < n
   pub drawn : length vs ≡ n * (length higher + 1)
-  pub room : length part ≡ length higher + 1 + 2 * n
+  pub room : length part ≡ length higher + 1 + (n + n)
 
 -- all posts' parts: `rest` is a draw but for its first number
 pub record PacksRoom (n t : ℕ) (rest out : List ℕ) : Type 0 where

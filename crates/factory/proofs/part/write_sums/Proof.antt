@@ -11,13 +11,13 @@ use Rattle.factory.proofs.part.write_sums.Statement.{statement}
 use Rattle.factory.proofs.part.write_sums.Tie as tie
 
 abbrev Inv-loop : tie.InvT-loop
-Inv-loop constant higher vs part₀ i₀ i-end part i =
-    (i ≤ length part₀) × (length part ≡ length part₀)
-    × (take i part ++ eachFrom i (length part₀ - i) (sumAt (length higher + 1) (constant ∷ higher) vs)
-    ≡ sums (length part₀) (length higher + 1) (constant ∷ higher) vs)
+Inv-loop n constant higher vs part₀ i₀ part i =
+    (i ≤ n) × (length part ≡ n)
+    × (take i part ++ eachFrom i (n - i) (sumAt (length higher + 1) (constant ∷ higher) vs)
+    ≡ sums n (length higher + 1) (constant ∷ higher) vs)
 
 abbrev μ-loop : tie.MeasureT-loop
-μ-loop constant higher vs part₀ i₀ i-end part i = length part₀ - i
+μ-loop n constant higher vs part₀ i₀ part i = n - i
 
 ruleset turns = (needs, block-room, fill-start, fill-turn, fill-end)
 
