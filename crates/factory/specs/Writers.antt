@@ -41,7 +41,13 @@ pub record PartRoom (n i : ℕ) (higher vs part : List ℕ) : Type 0 where
   pub drawn : length vs ≡ n * (length higher + 1)
   pub room : length part ≡ length higher + 1 + (n + n)
 
--- all posts' parts: `rest` is a draw but for its first number
+-- all posts' parts
+pub record PartsRoom (n : ℕ) (higher vs out : List ℕ) : Type 0 where
+  pub narrow : Narrow n
+  pub drawn : length vs ≡ n * (length higher + 1)
+  pub room : length out ≡ n * (length higher + 1 + (n + n))
+
+-- the same, where `rest` is a draw but for its first number
 pub record PacksRoom (n t : ℕ) (rest out : List ℕ) : Type 0 where
   pub narrow : Narrow n
   pub drawn : length rest + 1 ≡ drawLength n (t + 1)

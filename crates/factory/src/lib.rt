@@ -1,4 +1,5 @@
 // The factory: the posts' parts of a drawn row, and of a drawn triple.
+mod packs;
 mod part;
 
 pub struct Number {
