@@ -1,3 +1,4 @@
 pub mod Laws
 pub mod Endings
 pub mod Elements
+pub mod Groups

@@ -2,7 +2,7 @@
 ghost use mathlib.Core.Path.{_≡_};
 ghost use mathlib.Core.List.{[], _∷_};
 ghost use Rattle.refusal.specs.Refusal.{first, orElse, _when_};
-ghost use Rattle.refusal.specs.Conditions.{postsTests, beyond, anyBeyond, badPoint};
+ghost use Rattle.refusal.specs.Conditions.{postsTests, outside, missized, beyond, anyBeyond, badPoint};
 
 // The refusal of one group of checks, or else of the next.
 pub fn or_else(a: u8, b: u8) -> u8
@@ -30,6 +30,16 @@ pub fn posts(n: usize, t: usize) -> u8
     0
 }
 
+// 3: a post outside 1..n.
+pub fn post(n: usize, post: usize) -> u8
+    ensures { λ r. ⌜ r ≡ first (3 when outside 1 n post ∷ []) ⌝ }
+{
+    if post < 1 {
+        return 3;
+    }
+    if n < post { 3 } else { 0 }
+}
+
 // 4, of one check point.
 pub fn point(w: u32) -> u8
     ensures { λ r. ⌜ r ≡ first (4 when badPoint w ∷ []) ⌝ }
@@ -38,6 +48,13 @@ pub fn point(w: u32) -> u8
         return 4;
     }
     if w < field::P { 0 } else { 4 }
+}
+
+// 5, of one list: its length isn't exactly the one stated.
+pub fn size(list: &[u32], length: usize) -> u8
+    ensures { λ r. ⌜ r ≡ first (5 when missized (now (list .entry)) length ∷ []) ⌝ }
+{
+    if list.len() == length { 0 } else { 5 }
 }
 
 // 8, of one number.

@@ -1,0 +1,22 @@
+-- The two ways in which a call on a session ends, as its answer shows them.
+use Prim.Native.Nat.{ℕ}
+use mathlib.Core.Path.{_≡_, sym, _∙_, ap}
+use borrow.Author.Needs.{needs}
+use Rattle.refusal.proofs.Endings.{refused, accepted}
+use Rattle.session.specs.declared.Session.{Session}
+use Rattle.session.specs.declared.Answer.{Answer}
+use Rattle.session.specs.Sessions.{answer}
+
+abbrev holding : ℕ → ℕ → Session → Answer
+holding refusal value session = record { refusal = refusal; value = value; session = session }
+
+pub refused-answer : (r x value : ℕ) (new old : Session) → r ≡ x → (r ≡ 0 → ⊥) → holding r 0 old ≡ answer x value new old
+refused-answer r x value new old e n =
+    ap (λ (k : ℕ). holding k 0 old) e ∙ refused r x (holding 0 value new) (holding x 0 old) e n
+
+pub accepted-answer : (r x v value : ℕ) (s new old : Session) → r ≡ x → r ≡ 0 → v ≡ value → s ≡ new
+    → holding 0 v s ≡ answer x value new old
+accepted-answer r x v value s new old e z p q =
+    accepted r x (holding 0 v s) (holding 0 value new) (holding x 0 old) e z (ap (λ (k : ℕ). holding 0 k s) p ∙ ap (holding 0 value) q)
+
+pub ruleset endings = (needs, refused, accepted, refused-answer, accepted-answer)

@@ -1,0 +1,10 @@
+use borrow.Author.Needs.{needs}
+use Rattle.session.proofs.Passed.{settings-joined}
+use Rattle.session.proofs.checks.settings.Statement.{statement}
+use Rattle.session.proofs.checks.settings.Tie as tie
+
+pub settings-spec : {M : Type 1} → statement M
+settings-spec =
+    tie.close
+    (tie.spec (λ c κs. search needs) (λ c κs. search needs) (λ c κs. search needs) (λ c κs. search needs) (λ c κs. search needs)
+    (λ c. search (needs, settings-joined)))

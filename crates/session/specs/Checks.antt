@@ -1,0 +1,41 @@
+-- Document 01, "Where each refusal is checked": the tests that the calls on a session share, and what holds where they fail.
+use Prim.Native.Nat.{ℕ, _+_, _*_, _-_, _≤_, _<_}
+use mathlib.Core.Path.{_≡_}
+use mathlib.Core.Bool.{Bool, not}
+use mathlib.Core.List.{List, [], _∷_, _++_}
+use lib.Dec.{ltb, eqb}
+use lib.ListN.{length}
+use Rattle.field.specs.Modulus.{p}
+use Rattle.refusal.specs.Refusal.{Test, _when_, first}
+use Rattle.refusal.specs.Conditions.{missized}
+use Rattle.session.specs.declared.Session.{Session}
+use Rattle.session.specs.Sessions.{sessionTests, mark}
+use Rattle.session.specs.Rows.{width}
+
+-- 1 to 4 on the session handed in, whose fields may hold anything, and 5 for its list of rows.
+abbrev pub frameTests : Session → List ℕ → List Test
+frameTests s rows = sessionTests (s .n) (s .t) (s .post) (s .point) ++ (5 when missized rows (96 * width s) ∷ [])
+
+-- 6: row above 95, or a triple's first above 93.
+abbrev pub noRow : ℕ → Bool
+noRow r = ltb 95 r
+
+abbrev pub noTriple : ℕ → Bool
+noTriple r = ltb 93 r
+
+-- 7: the mark of row r isn't what the call needs.
+abbrev pub unlike : Session → ℕ → ℕ → Bool
+unlike s r m = not (eqb (mark s r) m)
+
+-- What 1 to 5 leave to a call.
+pub record Framed (s : Session) (rows : List ℕ) : Type 0 where
+  pub n-in : (2 ≤ s .n) × (s .n ≤ 32)
+  pub t-in : (1 ≤ s .t) × (s .t ≤ s .n - 1)
+  pub post-in : (1 ≤ s .post) × (s .post ≤ s .n)
+  pub point-in : (0 < s .point) × (s .point < p)
+  pub length-is : length rows ≡ 96 * width s
+
+-- A row number that 6 leaves, with room for the row in the list.
+pub record RowIn (s : Session) (r : ℕ) : Type 0 where
+  pub row-in : r ≤ 95
+  pub room : r * width s ≤ 95 * width s

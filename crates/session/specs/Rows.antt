@@ -1,0 +1,43 @@
+-- Document 01, "Field, posts, rows": a session's rows in one lent list.
+use Prim.Native.Nat.{ℕ, _+_, _*_}
+use mathlib.Core.List.{List, [], _∷_, _++_, map}
+use lib.ListN.{take, drop, getD}
+use Rattle.field.specs.Arithmetic.{sum, product}
+use Rattle.session.specs.declared.Session.{Session}
+
+-- "t+1+2n elements"
+abbrev pub width : Session → ℕ
+width s = s .t + 1 + 2 * s .n
+
+-- where the public sums m1 to mn begin in a row
+abbrev pub sumsAt : Session → ℕ
+sumsAt s = s .t + 1 + s .n
+
+-- A row's parts: "the coefficients of its own polynomial vi, constant first; the check values v1(wi) to vn(wi), its own
+-- included; the public sums m1 to mn".
+abbrev pub coefficients : Session → List ℕ → List ℕ
+coefficients s row = take (s .t + 1) row
+
+abbrev pub checkValue : Session → List ℕ → ℕ → ℕ
+checkValue s row j = getD row (s .t + j) 0
+
+abbrev pub publicSum : Session → List ℕ → ℕ → ℕ
+publicSum s row j = getD row (s .t + s .n + j) 0
+
+-- Row r of a list of rows of w numbers.
+abbrev pub rowAt : ℕ → List ℕ → ℕ → List ℕ
+rowAt w rows r = take w (drop (r * w) rows)
+
+-- The list with x in the place of row r, every other number as it was.
+abbrev pub withRow : ℕ → ℕ → List ℕ → List ℕ → List ℕ
+withRow w r x rows = take (r * w) rows ++ (x ++ drop w (drop (r * w) rows))
+
+-- x plus s times y, element by element over whole rows.
+unfoldable pub combined : ℕ → List ℕ → List ℕ → List ℕ
+combined s [] ys = []
+combined s (x ∷ xs) [] = []
+combined s (x ∷ xs) (y ∷ ys) = sum x (product s y) ∷ combined s xs ys
+
+-- c added to m1..mn, which stand from the k-th number of a row on, and to nothing else.
+unfoldable pub plusSums : ℕ → ℕ → List ℕ → List ℕ
+plusSums k c row = take k row ++ map (λ m. sum m c) (drop k row)

@@ -1,0 +1,64 @@
+// The checks that calls on a session share. Each gives its refusal, or 0; a call joins them in the order of their numbers.
+use crate::Session;
+ghost use mathlib.Core.Path.{_≡_};
+ghost use mathlib.Core.List.{[], _∷_};
+ghost use Rattle.refusal.specs.Refusal.{first, _when_};
+ghost use Rattle.refusal.specs.Conditions.{anyBeyond};
+ghost use Rattle.session.specs.Sessions.{sessionTests};
+ghost use Rattle.session.specs.Rows.{width, rowAt};
+ghost use Rattle.session.specs.Checks.{frameTests, noRow, noTriple, unlike, Framed};
+
+// 1 to 4, of a session's settings.
+pub fn settings(n: usize, t: usize, post: usize, point: u32) -> u8
+    ensures { λ r. ⌜ r ≡ first (sessionTests n t post point) ⌝ }
+{
+    refusal::or_else(
+        refusal::posts(n, t),
+        refusal::or_else(refusal::post(n, post), refusal::point(point)),
+    )
+}
+
+// 6, of a row.
+pub fn row(row: usize) -> u8
+    ensures { λ r. ⌜ r ≡ first (6 when noRow row ∷ []) ⌝ }
+{
+    if 95 < row { 6 } else { 0 }
+}
+
+// 6, of a triple's first row.
+pub fn triple(row: usize) -> u8
+    ensures { λ r. ⌜ r ≡ first (6 when noTriple row ∷ []) ⌝ }
+{
+    if 93 < row { 6 } else { 0 }
+}
+
+impl Session {
+    // 1 to 4 of the session, whose fields may hold anything, and 5 of its list of rows.
+    pub fn frame(self, rows: &[u32]) -> u8
+        ensures { λ r. ⌜ r ≡ first (frameTests self (now (rows .entry))) ⌝ }
+    {
+        let refusal = settings(self.n, self.t, self.post, self.point);
+        if refusal != 0 {
+            return refusal;
+        }
+        refusal::size(rows, 96 * self.width())
+    }
+
+    // 7, of the mark that a call needs on a row.
+    pub fn unlike(self, row: usize, need: u8) -> u8
+        ensures { λ r. ⌜ r ≡ first (7 when unlike self row need ∷ []) ⌝ }
+    {
+        if self.mark(row) == need { 0 } else { 7 }
+    }
+
+    // 8, of every number of a row.
+    pub fn numbers(self, rows: &[u32], row: usize) -> u8
+        requires { ⌜ Framed self (now rows) ⌝ }
+        ensures { λ r. ⌜ r ≡ first (8 when anyBeyond (rowAt (width self) (now (rows .entry)) row) ∷ []) ⌝ }
+    {
+        if 95 < row {
+            return 0;
+        }
+        refusal::numbers(self.row(rows, row))
+    }
+}
