@@ -1,0 +1,9 @@
+use borrow.Author.Needs.{needs}
+use Rattle.factory.proofs.Refusals.{lists-joined}
+use Rattle.factory.proofs.checks.lists.Statement.{statement}
+use Rattle.factory.proofs.checks.lists.Tie as tie
+
+pub lists-spec : {M : Type 1} → statement M
+lists-spec =
+    tie.close
+    (tie.spec (λ c κs. search (needs, lists-joined)) (λ c κs. search (needs, lists-joined)) (λ c κs. search (needs, lists-joined)) (λ c κs. search (needs, lists-joined)) (λ c κs. search (needs, lists-joined)) (λ c κs. search (needs, lists-joined)) (λ c κs. search (needs, lists-joined)) (λ c κs. search (needs, lists-joined)) (λ c κs. search (needs, lists-joined)) (λ c. search (needs, lists-joined)))
