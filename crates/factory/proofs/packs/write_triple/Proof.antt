@@ -1,0 +1,15 @@
+use mathlib.Core.Path.{sym}
+use borrow.Author.Needs.{needs}
+use Rattle.factory.proofs.Factors.{factors-lent, factors-room, third-room, triple-written}
+use Rattle.factory.proofs.packs.write_triple.Statement.{statement}
+use Rattle.factory.proofs.packs.write_triple.Tie as tie
+
+ruleset halves = (needs, factors-lent, factors-room, third-room, triple-written)
+
+lent : tie.Need-slice-aggregate-write-factors
+lent c = sym (search halves)
+
+pub write-triple-spec : {M : Type 1} → statement M
+write-triple-spec =
+    tie.close
+    (tie.spec (λ c κs. search halves) (λ c κs. search halves) (λ c. search halves) (λ c. search halves) (λ c. search halves) (λ c κs. search halves) (λ c. search halves) (λ c. search halves) (λ c. search halves) lent (λ c κs. search halves) (λ c. search halves) (λ c. search halves) (λ c. search halves) (λ c. search halves) (λ c. search halves) (λ c. search halves) (λ c. search halves) (λ c. search halves) (λ c κs. search halves) (λ c. search halves) (λ c. search halves))

@@ -1,0 +1,42 @@
+-- Document 01, "From the factory": the draw of a row, and what post i gets of it.
+use Prim.Native.Nat.{ℕ, zero, suc, _+_, _*_}
+use mathlib.Core.List.{List, [], _∷_, _++_}
+use lib.ListN.{take, drop, getD}
+use Rattle.field.specs.Arithmetic.{sum, product}
+use Rattle.poly.specs.Polynomial.{value}
+
+-- "t+1 coefficients of f, then t+1 for each of v1 to vn": with k coefficients, polynomial 0 is f and polynomial j is vj.
+abbrev pub polynomial : ℕ → List ℕ → ℕ → List ℕ
+polynomial k draw j = take k (drop (j * k) draw)
+
+abbrev pub drawLength : ℕ → ℕ → ℕ
+drawLength n k = k * (n + 1)
+
+-- f j, f (j + 1), .., m of them
+unfoldable pub eachFrom : ℕ → ℕ → (ℕ → ℕ) → List ℕ
+eachFrom j zero f = []
+eachFrom j (suc m) f = f j ∷ eachFrom (suc j) m f
+
+-- the posts 1 to n
+abbrev pub eachPost : ℕ → (ℕ → ℕ) → List ℕ
+eachPost n f = eachFrom 1 n f
+
+-- "mj = vj(0) + f(j)"; vj(0) is vj's constant.
+abbrev pub sumOf : ℕ → List ℕ → ℕ → ℕ
+sumOf k draw j = sum (getD (polynomial k draw j) 0 0) (value (polynomial k draw 0) j)
+
+-- Post i's row, with its check point w: "the coefficients of its own polynomial vi, constant first; the check values v1(wi) to
+-- vn(wi), its own included; the public sums m1 to mn".
+unfoldable pub part : ℕ → ℕ → ℕ → ℕ → List ℕ → List ℕ
+part n k i w draw =
+    polynomial k draw i ++ (eachPost n (λ j. value (polynomial k draw j) w) ++ eachPost n (sumOf k draw))
+
+-- "Three such draws for l, l' and l'', but the third lacks f's constant, which is f(0) of l × f(0) of l'."
+abbrev pub firstDraw : ℕ → List ℕ → List ℕ
+firstDraw d draw = take d draw
+
+abbrev pub secondDraw : ℕ → List ℕ → List ℕ
+secondDraw d draw = take d (drop d draw)
+
+abbrev pub thirdDraw : ℕ → List ℕ → List ℕ
+thirdDraw d draw = product (getD draw 0 0) (getD draw d 0) ∷ drop (d + d) draw

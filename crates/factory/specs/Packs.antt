@@ -1,0 +1,67 @@
+-- Document 01, "From the factory": the factory's calls.
+use Prim.Native.Nat.{ℕ, zero, suc, _+_, _*_, _-_}
+use mathlib.Core.Bool.{Bool, true, false}
+use mathlib.Core.List.{List, [], _∷_, _++_}
+use lib.ListN.{getD}
+use Rattle.field.specs.Arithmetic.{difference}
+use Rattle.refusal.specs.Refusal.{Test, _when_, first, outcome}
+use Rattle.refusal.specs.Conditions.{or, missized, beyond, anyBeyond, badPoint, postsTests}
+use Rattle.factory.specs.Draw.{drawLength, part, firstDraw, secondDraw, thirdDraw}
+use Rattle.factory.specs.declared.Number.{Number}
+
+-- "each post's row is written into its own part of the lent list, post 1 first": the rows of m posts from post i on.
+unfoldable pub packsFrom : ℕ → ℕ → List ℕ → List ℕ → ℕ → ℕ → List ℕ
+packsFrom n k points draw i zero = []
+packsFrom n k points draw i (suc m) =
+    part n k i (getD points (i - 1) 0) draw ++ packsFrom n k points draw (suc i) m
+
+abbrev pub packs : ℕ → ℕ → List ℕ → List ℕ → List ℕ
+packs n k points draw = packsFrom n k points draw 1 n
+
+-- "The lent list holds all posts' rows of l, then of l', then of l''."
+unfoldable pub triplePacks : ℕ → ℕ → List ℕ → List ℕ → List ℕ
+triplePacks n k points draw =
+    packs n k points (firstDraw (drawLength n k) draw)
+    ++ (packs n k points (secondDraw (drawLength n k) draw) ++ packs n k points (thirdDraw (drawLength n k) draw))
+
+-- 4, of every number of the list of check points as it was lent
+unfoldable pub anyBadPoint : List ℕ → Bool
+anyBadPoint [] = false
+anyBadPoint (w ∷ ws) = or (badPoint w) (anyBadPoint ws)
+
+-- n rows of t+1+2n numbers
+abbrev pub packsLength : ℕ → ℕ → ℕ
+packsLength n t = n * (t + 1 + 2 * n)
+
+-- 1, 2, 4, then 5 for the check points, the draw and the list that is written, then 8.
+abbrev pub factoryTests : ℕ → ℕ → List ℕ → List ℕ → ℕ → List ℕ → ℕ → List Test
+factoryTests n t points draw drawn out written =
+    postsTests n t
+    ++ (4 when anyBadPoint points
+    ∷ 5 when missized points n
+    ∷ 5 when missized draw drawn
+    ∷ 5 when missized out written
+    ∷ 8 when anyBeyond draw
+    ∷ [])
+
+unfoldable pub rowRefusal : ℕ → ℕ → List ℕ → List ℕ → List ℕ → ℕ
+rowRefusal n t points draw out = first (factoryTests n t points draw (drawLength n (t + 1)) out (packsLength n t))
+
+abbrev pub rowOut : ℕ → ℕ → List ℕ → List ℕ → List ℕ → List ℕ
+rowOut n t points draw out = outcome (rowRefusal n t points draw out) (packs n (t + 1) points draw) out
+
+unfoldable pub tripleRefusal : ℕ → ℕ → List ℕ → List ℕ → List ℕ → ℕ
+tripleRefusal n t points draw out =
+    first (factoryTests n t points draw (3 * drawLength n (t + 1) - 1) out (3 * packsLength n t))
+
+abbrev pub tripleOut : ℕ → ℕ → List ℕ → List ℕ → List ℕ → List ℕ
+tripleOut n t points draw out = outcome (tripleRefusal n t points draw out) (triplePacks n (t + 1) points draw) out
+
+-- Deal: "The dealer's number is c = u − f(0)."
+unfoldable pub dealerRefusal : ℕ → ℕ → ℕ
+dealerRefusal u constant = first (8 when beyond u ∷ 8 when beyond constant ∷ [])
+
+abbrev pub dealerNumber : ℕ → ℕ → Number
+dealerNumber u constant =
+    outcome (dealerRefusal u constant) (record { refusal = 0; value = difference u constant })
+    (record { refusal = dealerRefusal u constant; value = 0 })

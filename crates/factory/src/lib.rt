@@ -1,0 +1,52 @@
+// The factory: the posts' parts of a drawn row, and of a drawn triple.
+ghost use mathlib.Core.Path.{_≡_};
+ghost use Rattle.factory.specs.Packs.{rowRefusal, rowOut, tripleRefusal, tripleOut, dealerNumber};
+
+mod checks;
+mod packs;
+mod part;
+
+pub struct Number {
+    pub refusal: u8,
+    pub value: u32,
+}
+
+// All posts' parts of one drawn row.
+pub fn row(n: usize, t: usize, points: &[u32], draw: &[u32], out: &mut [u32]) -> u8
+    ensures { λ r. ⌜ r ≡ rowRefusal n t (now (points .entry)) (now (draw .entry)) (now (out .entry)) ⌝ }
+    ensures { λ r. ⌜ now (out .exit) ≡ rowOut n t (now (points .entry)) (now (draw .entry)) (now (out .entry)) ⌝ }
+{
+    let refusal = checks::row_refusal(n, t, points, draw, out);
+    if refusal != 0 {
+        return refusal;
+    }
+    packs::write_row(n, t, points, draw, out);
+    0
+}
+
+// All posts' parts of a drawn triple: of l, then of l', then of l''.
+pub fn triple(n: usize, t: usize, points: &[u32], draw: &[u32], out: &mut [u32]) -> u8
+    ensures { λ r. ⌜ r ≡ tripleRefusal n t (now (points .entry)) (now (draw .entry)) (now (out .entry)) ⌝ }
+    ensures { λ r. ⌜ now (out .exit) ≡ tripleOut n t (now (points .entry)) (now (draw .entry)) (now (out .entry)) ⌝ }
+{
+    let refusal = checks::triple_refusal(n, t, points, draw, out);
+    if refusal != 0 {
+        return refusal;
+    }
+    packs::write_triple(n, t, points, draw, out);
+    0
+}
+
+// The number c that the dealer of u broadcasts, where `constant` is f(0).
+pub fn dealer_number(u: u32, constant: u32) -> Number
+    ensures { λ r. ⌜ r ≡ dealerNumber u constant ⌝ }
+{
+    let refusal = refusal::or_else(refusal::number(u), refusal::number(constant));
+    if refusal != 0 {
+        return Number { refusal, value: 0 };
+    }
+    Number {
+        refusal: 0,
+        value: field::sub(u, constant),
+    }
+}
