@@ -1,5 +1,5 @@
 -- Document 01, "Field, posts, rows": what a session remembers, and a new one.
-use Prim.Native.Nat.{ℕ, _+_}
+use Prim.Native.Nat.{ℕ}
 use mathlib.Core.List.{List, [], _∷_, _++_}
 use lib.ListN.{getD, set, replicate}
 use Rattle.refusal.specs.Refusal.{Test, _when_, first, outcome}
