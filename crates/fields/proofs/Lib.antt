@@ -1,0 +1,9 @@
+pub mod Digits
+pub mod Sizes
+pub mod Numerals
+pub mod Positions
+pub mod Scanning
+pub mod Spelling
+pub mod Overwriting
+pub mod Passing
+pub mod Reading
