@@ -1,9 +1,4 @@
-pub mod Digits
-pub mod Sizes
-pub mod Numerals
-pub mod Positions
-pub mod Scanning
-pub mod Spelling
 pub mod Overwriting
+pub mod Laying
 pub mod Passing
 pub mod Reading

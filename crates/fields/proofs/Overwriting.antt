@@ -10,10 +10,10 @@ use mir.Syntax.{w64}
 use mir.Val.{Fits}
 use lib.ListN.{length, getD, set, take, drop, length-append, length-drop, length-set, take-append-drop}
 use lib.Seq.{drop-drop, drop-at, take-at, take-suc, take-all, length-take-le, set-split}
-use Rattle.fields.specs.Numeral.{lastDigits, size, numeral}
+use Rattle.decimal.specs.Numeral.{lastDigits, size, numeral}
 use Rattle.fields.specs.Fields.{field, fields, overwrite}
-use Rattle.fields.proofs.Sizes.{size-le}
-use Rattle.fields.proofs.Numerals.{length-numeral}
+use Rattle.decimal.proofs.Sizes.{size-le}
+use Rattle.decimal.proofs.Numerals.{length-numeral}
 
 pub overwrite-nothing : (l : List ℕ) (at : ℕ) → l ≡ overwrite at [] l
 overwrite-nothing l at = let e : at + 0 ≡ at = omega arith in rw e (sym (take-append-drop at l))
@@ -69,7 +69,7 @@ pub field-same : (l ys : List ℕ) (at k : ℕ) → length ys ≡ length (take k
 field-same l ys at k e = same-len-mid (at + 1) k (set l at 44) ys e ∙ length-set l at 44
 
 -- ---- the fields of a list
-fields-append : (xs ys : List ℕ) → fields (xs ++ ys) ≡ fields xs ++ fields ys
+pub fields-append : (xs ys : List ℕ) → fields (xs ++ ys) ≡ fields xs ++ fields ys
 unfolding fields
 fields-append [] ys = refl
 fields-append (x ∷ xs) ys = ap (λ (l : List ℕ). field x ++ l) (fields-append xs ys) ∙ sym (append-assoc (field x) (fields xs) (fields ys))

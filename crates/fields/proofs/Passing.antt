@@ -12,13 +12,13 @@ use mir.Val.{Fits}
 use lib.ListN.{length, getD, set, take, drop, replicate, length-set, List·getD-eq-default}
 use lib.Seq.{take-suc-set, take-all, drop-length}
 use lib.Dec.{eqb, ltb}
-use Rattle.fields.specs.declared.Field.{Field}
-use Rattle.fields.specs.declared.Field.the-variants.{Number, Wrong}
+use Rattle.decimal.specs.declared.Field.{Field}
+use Rattle.decimal.specs.declared.Field.the-variants.{Number, Wrong}
 use Rattle.fields.specs.declared.Run.{Run}
 use Rattle.fields.specs.declared.Run.the-variants.{Fields, Broken}
-use Rattle.fields.specs.Numeral.{choose, fieldAt}
+use Rattle.decimal.specs.Numeral.{choose, fieldAt}
 use Rattle.fields.specs.Fields.{Parsed, parsed, malformed, push, behind, fieldsAt, numbersOf, runFrom, runOf, Fillable}
-use Rattle.fields.proofs.Positions.{inside}
+use Rattle.decimal.proofs.Positions.{inside}
 
 -- ---- the first pass: what is known so far with what the rest says is what the whole says
 pub record Passed (s : List ℕ) (at k pos largest i : ℕ) : Type 0 where

@@ -8,13 +8,13 @@ use borrow.Author.Tests.{eqb-true}
 use lib.ListN.{length, getD, drop, length-append}
 use lib.Seq.{drop-drop}
 use lib.Dec.{eqb}
-use Rattle.fields.specs.declared.Field.{Field}
-use Rattle.fields.specs.declared.Field.the-variants.{Number, Wrong}
-use Rattle.fields.specs.Numeral.{choose, tens, size, numeral, leading, fieldOf, fieldAt}
+use Rattle.decimal.specs.declared.Field.{Field}
+use Rattle.decimal.specs.declared.Field.the-variants.{Number, Wrong}
+use Rattle.decimal.specs.Numeral.{choose, tens, size, numeral, leading, fieldOf, fieldAt}
 use Rattle.fields.specs.Fields.{field, fields, Parsed, parsed, malformed, push, behind, fieldsAt, Small}
-use Rattle.fields.proofs.Numerals.{length-numeral, numeral-reads, number-is-numeral}
+use Rattle.decimal.proofs.Numerals.{length-numeral, numeral-reads, number-is-numeral}
 use Rattle.fields.proofs.Overwriting.{length-field}
-use Rattle.fields.proofs.Positions.{head-at, drop-past, drop-head}
+use Rattle.decimal.proofs.Positions.{head-at, drop-past, drop-head}
 
 -- ---- what is written is read
 no-digit : (xs rest : List ℕ) → leading rest ≡ 0 → leading (fields xs ++ rest) ≡ 0

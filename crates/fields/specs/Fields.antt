@@ -4,11 +4,11 @@ use mathlib.Core.List.{List, [], _∷_, _++_}
 use mathlib.Core.Bool.{Bool, true, false}
 use lib.ListN.{length, getD, take, drop, replicate}
 use lib.Dec.{eqb, ltb}
-use Rattle.fields.specs.declared.Field.{Field}
-use Rattle.fields.specs.declared.Field.the-variants.{Number, Wrong}
+use Rattle.decimal.specs.declared.Field.{Field}
+use Rattle.decimal.specs.declared.Field.the-variants.{Number, Wrong}
 use Rattle.fields.specs.declared.Run.{Run}
 use Rattle.fields.specs.declared.Run.the-variants.{Fields, Broken}
-use Rattle.fields.specs.Numeral.{choose, tens, numeral, fieldAt}
+use Rattle.decimal.specs.Numeral.{choose, tens, numeral, fieldAt}
 
 -- A comma and a number.
 abbrev pub field : ℕ → List ℕ
@@ -17,6 +17,10 @@ field x = 44 ∷ numeral x
 unfoldable pub fields : List ℕ → List ℕ
 fields [] = []
 fields (x ∷ xs) = field x ++ fields xs
+
+-- "one line feed at the end": a line is a letter, fields and a line feed.
+abbrev pub written : ℕ → List ℕ → List ℕ
+written letter xs = letter ∷ (fields xs ++ (10 ∷ []))
 
 -- Every number of a list has a numeral of at most 10 digits.
 abbrev pub Small : List ℕ → Type 0
@@ -72,3 +76,7 @@ Narrow (x ∷ xs) = (x < 4294967296) × Narrow xs
 abbrev pub Fillable : Parsed → Type 0
 Fillable (parsed xs next) = Narrow xs
 Fillable malformed = ⊥
+
+-- "the places behind are set to 0": k places, of which l takes the first.
+abbrev pub padded : ℕ → List ℕ → List ℕ
+padded k l = l ++ replicate (k - length l) 0

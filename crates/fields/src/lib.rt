@@ -1,47 +1,17 @@
-// Decimal numbers and comma-parted number fields: written into a part of bytes, and read at a position of a line.
+// Comma-parted number fields: written into a part of bytes, and read from a position of a line on.
 ghost use mathlib.Core.Path.{_≡_};
-ghost use Prim.Native.Nat.{_+_, _≤_, _<_};
-ghost use lib.ListN.{length, take, drop, replicate};
+ghost use mathlib.Core.List.{_++_};
+ghost use Prim.Native.Nat.{_+_, _≤_};
+ghost use lib.ListN.{length, replicate};
 ghost use lib.Dec.{ltb};
-ghost use Rattle.fields.specs.Numeral.{choose, size, lastDigits, leading, valueAfter, fieldAt};
-ghost use Rattle.fields.specs.Fields.{field, fields, overwrite, fieldsAt, runOf, numbersOf, Fillable};
-
-// What stands at a position: a number and the position behind it, or none.
-pub enum Field {
-    Number { value: u64, next: usize },
-    Wrong,
-}
+ghost use Rattle.decimal.specs.Numeral.{choose};
+ghost use Rattle.fields.specs.Fields.{field, fields, written, overwrite, fieldsAt, runOf, numbersOf, Fillable, padded};
+use decimal::Field;
 
 // What a first pass over fields tells of them: the largest number, and the position behind them.
 pub enum Run {
     Fields { largest: u64, next: usize },
     Broken,
-}
-
-// How many digits a number has.
-pub fn size_of(x: u32) -> usize
-    ensures { λ r. ⌜ r ≡ size x ⌝ }
-{
-    let mut k: usize = 1;
-    let mut y = x;
-    while 10 <= y {
-        y = y / 10;
-        k += 1;
-    }
-    k
-}
-
-// A number's last digits, as many as the part has places.
-fn put_digits(part: &mut [u8], x: u32)
-    ensures { λ r. ⌜ now (part .exit) ≡ lastDigits (length (now (part .entry))) x ⌝ }
-{
-    let mut i = part.len();
-    let mut y = x;
-    while 0 < i {
-        i -= 1;
-        part[i] = 48 + (y % 10) as u8;
-        y = y / 10;
-    }
 }
 
 // A comma and a number from a position on; the position behind.
@@ -51,8 +21,8 @@ pub fn put_field(out: &mut [u8], at: usize, x: u32) -> usize
 {
     out[at] = 44;
     let from = at + 1;
-    let end = from + size_of(x);
-    put_digits(&mut out[from..end], x);
+    let end = from + decimal::size_of(x);
+    decimal::put_digits(&mut out[from..end], x);
     end
 }
 
@@ -75,68 +45,30 @@ pub fn fields_len(xs: &[u32]) -> usize
 {
     let mut sum: usize = 0;
     for i in 0..xs.len() {
-        sum = sum + 1 + size_of(xs[i]);
+        sum = sum + 1 + decimal::size_of(xs[i]);
     }
     sum
 }
 
-fn wide(b: u8) -> u64
-    ensures { λ r. ⌜ r ≡ b ⌝ }
+// How many bytes a line takes that has the fields of two lists.
+pub fn line_len(head: &[u32], rest: &[u32]) -> usize
+    requires { ⌜ (length (now head) ≤ 4294967296) × (length (now rest) ≤ 4294967296) ⌝ }
+    ensures { λ r. ⌜ r ≡ length (written 0 (now (head .entry) ++ now (rest .entry))) ⌝ }
 {
-    b as u64
+    fields_len(head) + fields_len(rest) + 2
 }
 
-// How far the digits from a position reach.
-fn digits_end(line: &[u8], at: usize) -> usize
-    ensures { λ r. ⌜ r ≡ at + leading (drop at (now (line .entry))) ⌝ }
+// A whole line at the start of a part: a letter, the fields of two lists, a line feed. Its length.
+pub fn put_line(letter: u8, head: &[u32], rest: &[u32], out: &mut [u8]) -> usize
+    requires { ⌜ length (written letter (now head ++ now rest)) ≤ length (now out) ⌝ }
+    ensures { λ r. ⌜ r ≡ length (written letter (now (head .entry) ++ now (rest .entry))) ⌝ }
+    ensures { λ r. ⌜ now (out .exit) ≡ overwrite 0 (written letter (now (head .entry) ++ now (rest .entry))) (now (out .entry)) ⌝ }
 {
-    let mut i = at;
-    while i < line.len() {
-        if line[i] < 48 {
-            return i;
-        }
-        if 57 < line[i] {
-            return i;
-        }
-        i += 1;
-    }
-    i
-}
-
-// What the digits from a position say.
-fn value_of(line: &[u8], at: usize, end: usize) -> u64
-    requires { ⌜ (end ≡ at + leading (drop at (now line))) × (leading (drop at (now line)) ≤ 10) ⌝ }
-    ensures { λ r. ⌜ r ≡ valueAfter 0 (take (leading (drop at (now (line .entry)))) (drop at (now (line .entry)))) ⌝ }
-{
-    let mut sum: u64 = 0;
-    let mut i = at;
-    while i < end {
-        sum = sum * 10 + wide(line[i] - 48);
-        i += 1;
-    }
-    sum
-}
-
-// The number at a position.
-pub fn field_at(line: &[u8], at: usize) -> Field
-    ensures { λ r. ⌜ r ≡ fieldAt (now (line .entry)) at ⌝ }
-{
-    let end = digits_end(line, at);
-    let k = end - at;
-    if k < 1 {
-        return Field::Wrong;
-    }
-    if 10 < k {
-        return Field::Wrong;
-    }
-    let value = value_of(line, at, end);
-    if k == 1 {
-        return Field::Number { value, next: end };
-    }
-    if line[at] == 48 {
-        return Field::Wrong;
-    }
-    Field::Number { value, next: end }
+    out[0] = letter;
+    let behind = put_fields(out, 1, head);
+    let end = put_fields(out, behind, rest);
+    out[end] = 10;
+    end + 1
 }
 
 fn greater(a: u64, b: u64) -> u64
@@ -158,7 +90,7 @@ pub fn fields_at(line: &[u8], at: usize, k: usize) -> Run
         if line[pos] != 44 {
             return Run::Broken;
         }
-        let f = field_at(line, pos + 1);
+        let f = decimal::read_field(line, pos + 1);
         match f {
             Field::Number { value, next } => {
                 largest = greater(largest, value);
@@ -179,7 +111,7 @@ pub fn fill(line: &[u8], at: usize, out: &mut [u32])
 {
     let mut pos = at;
     for i in 0..out.len() {
-        let f = field_at(line, pos + 1);
+        let f = decimal::read_field(line, pos + 1);
         match f {
             Field::Number { value, next } => {
                 out[i] = value as u32;
@@ -199,4 +131,13 @@ pub fn clear(out: &mut [u32])
     for i in 0..out.len() {
         out[i] = 0;
     }
+}
+
+// The numbers of `count` fields from a position at the start of a list, and 0 in the places behind.
+pub fn fill_front(line: &[u8], at: usize, count: usize, out: &mut [u32])
+    requires { ⌜ (count ≤ length (now out)) × Fillable (fieldsAt count (now line) at) ⌝ }
+    ensures { λ r. ⌜ now (out .exit) ≡ padded (length (now (out .entry))) (numbersOf (fieldsAt count (now (line .entry)) at)) ⌝ }
+{
+    fill(line, at, &mut out[..count]);
+    clear(&mut out[count..]);
 }

@@ -7,8 +7,8 @@ use native.Mathlib.Omega.{arith}
 use borrow.Author.Tests.{lt-ltb, le-ltb, ltb-true, ltb-false}
 use lib.ListN.{length, getD, List·getD-append}
 use lib.Dec.{ltb}
-use Rattle.fields.specs.Numeral.{choose, tens, lastDigits, sizeWithin, size, valueAfter}
-use Rattle.fields.proofs.Digits.{Digits, length-digits}
+use Rattle.decimal.specs.Numeral.{choose, tens, lastDigits, sizeWithin, size, valueAfter}
+use Rattle.decimal.proofs.Digits.{Digits, length-digits}
 
 pub size-pos : (f x : ℕ) → 1 ≤ sizeWithin f x
 unfolding sizeWithin

@@ -2,10 +2,10 @@ use Prim.Native.Nat.{_+_, _-_}
 use mathlib.Core.Path.{_≡_}
 use lib.ListN.{length, drop}
 use borrow.Author.Needs.{needs}
-use Rattle.fields.specs.Numeral.{leading}
-use Rattle.fields.proofs.Scanning.{stops-below, stops-above, goes-on, stops-at-end}
-use Rattle.fields.proofs.digits_end.Statement.{statement}
-use Rattle.fields.proofs.digits_end.Tie as tie
+use Rattle.decimal.specs.Numeral.{leading}
+use Rattle.decimal.proofs.Scanning.{stops-below, stops-above, goes-on, stops-at-end}
+use Rattle.decimal.proofs.digits_end.Statement.{statement}
+use Rattle.decimal.proofs.digits_end.Tie as tie
 
 abbrev Inv-loop : tie.InvT-loop
 Inv-loop line at i₀ i = i + leading (drop i line) ≡ at + leading (drop at line)

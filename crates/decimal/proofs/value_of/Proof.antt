@@ -1,10 +1,10 @@
 use Prim.Native.Nat.{_-_}
 use lib.ListN.{take, drop}
 use borrow.Author.Needs.{needs}
-use Rattle.fields.specs.Numeral.{leading, valueAfter}
-use Rattle.fields.proofs.Scanning.{Valued, valued-start, valued-within, valued-low, valued-mul, valued-add, valued-more, valued-end}
-use Rattle.fields.proofs.value_of.Statement.{statement}
-use Rattle.fields.proofs.value_of.Tie as tie
+use Rattle.decimal.specs.Numeral.{leading, valueAfter}
+use Rattle.decimal.proofs.Scanning.{Valued, valued-start, valued-within, valued-low, valued-mul, valued-add, valued-more, valued-end}
+use Rattle.decimal.proofs.value_of.Statement.{statement}
+use Rattle.decimal.proofs.value_of.Tie as tie
 
 abbrev Inv-loop : tie.InvT-loop
 Inv-loop line at end sum₀ i₀ sum i = Valued line at end (valueAfter 0 (take (leading (drop at line)) (drop at line))) sum i

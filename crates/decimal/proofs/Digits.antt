@@ -7,7 +7,7 @@ use native.Mathlib.Omega.{arith}
 use borrow.Author.Tests.{le-leb, leb-true}
 use lib.ListN.{length, take, length-append}
 use lib.Dec.{leb}
-use Rattle.fields.specs.Numeral.{choose, tens, lastDigits, isDigit, leading, valueAfter}
+use Rattle.decimal.specs.Numeral.{choose, tens, lastDigits, isDigit, leading, valueAfter}
 
 abbrev pub Digits : List ℕ → Type 0
 Digits [] = Unit {0}

@@ -1,7 +1,7 @@
 use borrow.Author.Needs.{needs}
-use Rattle.fields.proofs.Scanning.{field-within, field-none, field-long, field-zero, field-digit, field-digits}
-use Rattle.fields.proofs.field_at.Statement.{statement}
-use Rattle.fields.proofs.field_at.Tie as tie
+use Rattle.decimal.proofs.Scanning.{field-within, field-none, field-long, field-zero, field-digit, field-digits}
+use Rattle.decimal.proofs.field_at.Statement.{statement}
+use Rattle.decimal.proofs.field_at.Tie as tie
 
 ruleset ends = (needs, field-within, field-none, field-long, field-zero, field-digit, field-digits)
 

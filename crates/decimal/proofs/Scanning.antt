@@ -11,11 +11,11 @@ use mir.Val.{Fits}
 use lib.ListN.{length, getD, take, drop, drop-of-length-le}
 use lib.Seq.{drop-cons}
 use lib.Dec.{ltb}
-use Rattle.fields.specs.declared.Field.{Field}
-use Rattle.fields.specs.declared.Field.the-variants.{Number, Wrong}
-use Rattle.fields.specs.Numeral.{choose, tens, isDigit, leading, valueAfter, fieldOf, fieldAt}
-use Rattle.fields.proofs.Digits.{tens-grow, is-digit, digit-is}
-use Rattle.fields.proofs.Positions.{head-at}
+use Rattle.decimal.specs.declared.Field.{Field}
+use Rattle.decimal.specs.declared.Field.the-variants.{Number, Wrong}
+use Rattle.decimal.specs.Numeral.{choose, tens, isDigit, leading, valueAfter, fieldOf, fieldAt}
+use Rattle.decimal.proofs.Digits.{tens-grow, is-digit, digit-is}
+use Rattle.decimal.proofs.Positions.{head-at}
 
 -- ---- how far digits reach, where v is the position that they reach to
 module _ (s : List ℕ) (i v : ℕ) where

@@ -4,8 +4,8 @@ use mathlib.Core.List.{List, [], _∷_, _++_}
 use mathlib.Core.Bool.{Bool, true, false, not, _&&_, _||_}
 use lib.ListN.{getD, take, drop}
 use lib.Dec.{leb, eqb, ltb}
-use Rattle.fields.specs.declared.Field.{Field}
-use Rattle.fields.specs.declared.Field.the-variants.{Number, Wrong}
+use Rattle.decimal.specs.declared.Field.{Field}
+use Rattle.decimal.specs.declared.Field.the-variants.{Number, Wrong}
 
 abbrev pub choose : {A : Type 0} → Bool → A → A → A
 choose true a b = a

@@ -1,7 +1,7 @@
 use borrow.Author.Needs.{needs}
-use Rattle.fields.proofs.Spelling.{Counted, counted-start, counted-fits, counted-more, counted-end}
-use Rattle.fields.proofs.size_of.Statement.{statement}
-use Rattle.fields.proofs.size_of.Tie as tie
+use Rattle.decimal.proofs.Spelling.{Counted, counted-start, counted-fits, counted-more, counted-end}
+use Rattle.decimal.proofs.size_of.Statement.{statement}
+use Rattle.decimal.proofs.size_of.Tie as tie
 
 abbrev Inv-loop : tie.InvT-loop
 Inv-loop x k₀ y₀ k y = Counted x k y

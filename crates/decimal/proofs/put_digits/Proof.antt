@@ -3,10 +3,10 @@ use mathlib.Core.Path.{_≡_}
 use mathlib.Core.List.{_++_}
 use lib.ListN.{length, drop}
 use borrow.Author.Needs.{needs}
-use Rattle.fields.specs.Numeral.{lastDigits}
-use Rattle.fields.proofs.Spelling.{digits-start, digits-more, digits-end}
-use Rattle.fields.proofs.put_digits.Statement.{statement}
-use Rattle.fields.proofs.put_digits.Tie as tie
+use Rattle.decimal.specs.Numeral.{lastDigits}
+use Rattle.decimal.proofs.Spelling.{digits-start, digits-more, digits-end}
+use Rattle.decimal.proofs.put_digits.Statement.{statement}
+use Rattle.decimal.proofs.put_digits.Tie as tie
 
 abbrev Inv-loop : tie.InvT-loop
 Inv-loop part₀ x i₀ y₀ part i y =

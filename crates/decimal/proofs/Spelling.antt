@@ -10,8 +10,8 @@ use mir.Val.{Fits}
 use lib.ListN.{length, set, drop, length-set}
 use lib.Seq.{drop-cons, getD-set-same, drop-set-lt, drop-length}
 use lib.Dec.{ltb}
-use Rattle.fields.specs.Numeral.{tens, lastDigits, sizeWithin, size}
-use Rattle.fields.proofs.Sizes.{size-one}
+use Rattle.decimal.specs.Numeral.{tens, lastDigits, sizeWithin, size}
+use Rattle.decimal.proofs.Sizes.{size-one}
 
 -- k digits of x are counted, and y is what stands in front of the last of them
 pub record Counted (x k y : ℕ) : Type 0 where

@@ -8,11 +8,11 @@ use borrow.Author.Tests.{le-leb, ne-eqb, leb-true, eqb-false, not-true}
 use lib.ListN.{length, getD, take, drop, take-append-drop, List·getD-append}
 use lib.Seq.{take-at, length-take-le, getD-take}
 use lib.Dec.{leb, eqb}
-use Rattle.fields.specs.declared.Field.{Field}
-use Rattle.fields.specs.declared.Field.the-variants.{Number, Wrong}
-use Rattle.fields.specs.Numeral.{choose, tens, lastDigits, sizeWithin, size, numeral, leading, valueAfter, wellFormed, fieldOf}
-use Rattle.fields.proofs.Digits.{Digits, and-true, tens-grow, length-digits, digits-are-digits, leading-append, leading-le, leading-are-digits, value-digits, digits-value, value-below}
-use Rattle.fields.proofs.Sizes.{size-pos, size-le, size-bound, size-one, size-value, first-digit}
+use Rattle.decimal.specs.declared.Field.{Field}
+use Rattle.decimal.specs.declared.Field.the-variants.{Number, Wrong}
+use Rattle.decimal.specs.Numeral.{choose, tens, lastDigits, sizeWithin, size, numeral, leading, valueAfter, wellFormed, fieldOf}
+use Rattle.decimal.proofs.Digits.{Digits, and-true, tens-grow, length-digits, digits-are-digits, leading-append, leading-le, leading-are-digits, value-digits, digits-value, value-below}
+use Rattle.decimal.proofs.Sizes.{size-pos, size-le, size-bound, size-one, size-value, first-digit}
 
 -- ---- what is written is read
 pub length-numeral : (x : ℕ) → length (numeral x) ≡ size x
