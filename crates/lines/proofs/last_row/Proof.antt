@@ -1,0 +1,11 @@
+use borrow.Author.Needs.{needs}
+use Rattle.refusal.proofs.Endings.{tests}
+use Rattle.lines.proofs.last_row.Statement.{statement}
+use Rattle.lines.proofs.last_row.Tie as tie
+
+ruleset turns = (needs, tests)
+
+pub last-row-spec : {M : Type 1} → statement M
+last-row-spec =
+    tie.close
+    (tie.spec (λ c. search turns) (λ c. search turns))
