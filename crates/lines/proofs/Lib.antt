@@ -1,1 +1,4 @@
 pub mod Refusing
+pub mod Forms
+pub mod Scanning
+pub mod Ranging

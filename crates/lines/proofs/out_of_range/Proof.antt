@@ -1,0 +1,12 @@
+use borrow.Author.Needs.{needs}
+use Rattle.lines.proofs.Ranging.{largest-beyond, row-beyond, deal-within, post-zero, post-beyond, all-within}
+use Rattle.lines.proofs.out_of_range.Statement.{statement}
+use Rattle.lines.proofs.out_of_range.Tie as tie
+
+ruleset turns = (needs, largest-beyond, row-beyond, deal-within, post-zero, post-beyond, all-within)
+
+pub out-of-range-spec : {M : Type 1} → statement M
+out-of-range-spec =
+    tie.close
+    (tie.spec (λ c. search turns) (λ c κs. search turns) (λ c. search turns) (λ c. search turns) (λ c. search turns)
+    (λ c. search turns) (λ c. search turns))

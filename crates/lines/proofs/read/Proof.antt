@@ -1,0 +1,14 @@
+use borrow.Author.Needs.{needs}
+use Rattle.lines.proofs.Refusing.{posts-keep, posts-one, posts-add, posts-mul}
+use Rattle.lines.proofs.Ranging.{posts-line, missized-line, missized-list, sized-line, sized-list}
+use Rattle.lines.proofs.read.Statement.{statement}
+use Rattle.lines.proofs.read.Tie as tie
+
+ruleset turns = (needs, posts-keep, posts-one, posts-add, posts-mul, posts-line, missized-line, missized-list, sized-line, sized-list)
+
+pub read-spec : {M : Type 1} → statement M
+read-spec =
+    tie.close
+    (tie.spec (λ c κs. search turns) (λ c κs. search turns) (λ c. search turns) (λ c. search turns)
+    (λ c. search turns) (λ c κs. search turns) (λ c. search turns) (λ c. search turns) (λ c κs. search turns)
+    (λ c. search turns) (λ c. search turns))

@@ -1,0 +1,14 @@
+use borrow.Author.Needs.{needs}
+use Rattle.lines.proofs.Scanning.{scan-empty, scan-letter, scan-no-row, scan-deal, scan-no-post, scan-posted}
+use Rattle.lines.proofs.scan.Statement.{statement}
+use Rattle.lines.proofs.scan.Tie as tie
+
+ruleset turns = (needs, scan-empty, scan-letter, scan-no-row, scan-deal, scan-no-post, scan-posted)
+
+pub scan-spec : {M : Type 1} → statement M
+scan-spec =
+    tie.close
+    (tie.spec (λ c. search turns) (λ c. search turns) (λ c κs. search turns) (λ c. search turns)
+    (λ c κs. search turns) (λ c. search turns) (λ c κs. search turns) (λ c. search turns) (λ c κs. search turns)
+    (λ c. search turns) (λ c κs. search turns) (λ c. search turns) (λ c. search turns) (λ c. search turns)
+    (λ c. search turns) (λ c. search turns))
