@@ -82,6 +82,13 @@ lineAs refusal m = outcome refusal (record { refusal = 0; letter = m .letter; ro
 abbrev pub listAs : ℕ → Message → List ℕ → List ℕ
 listAs refusal m out = outcome refusal (padded (length out) (m .numbers)) out
 
+-- A message that posts send: what a line may say, where a message has k coefficients.
+pub record Sent (n k : ℕ) (m : Message) : Type 0 where
+  pub letter-is : isLetter (m .letter) ≡ true
+  pub count : length (m .numbers) ≡ numberCount k (m .letter)
+  pub no-post : m .letter ≡ 68 → m .post ≡ 0
+  pub in-range : beyondRange n m ≡ false
+
 -- ---- between the functions of the code
 -- The row and the post of a line, as fields.
 abbrev pub headOf : ℕ → ℕ → ℕ → List ℕ
