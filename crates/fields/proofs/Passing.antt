@@ -2,11 +2,11 @@
 use Prim.Native.Nat.{ℕ, zero, suc, _+_, _-_, _≤_, _<_, _^_}
 use mathlib.Core.Path.{_≡_, refl, ap, sym, _∙_}
 use mathlib.Core.List.{List, [], _∷_, _++_, append-assoc, append-nil}
-use mathlib.Core.Bool.{Bool, true, false}
+use mathlib.Core.Bool.{Bool, true, false, _&&_}
 use native.Mathlib.Omega.{arith}
 use native.Mathlib.Numerals.{add-one}
 use borrow.Author.Fill.{fill-more}
-use borrow.Author.Tests.{eqb-true, ne-eqb}
+use borrow.Author.Tests.{eqb-true, eq-eqb, ne-eqb}
 use mir.Syntax.{w32, w64}
 use mir.Val.{Fits}
 use lib.ListN.{length, getD, set, take, drop, replicate, length-set, List·getD-eq-default}
@@ -17,7 +17,7 @@ use Rattle.decimal.specs.declared.Field.the-variants.{Number, Wrong}
 use Rattle.fields.specs.declared.Run.{Run}
 use Rattle.fields.specs.declared.Run.the-variants.{Fields, Broken}
 use Rattle.decimal.specs.Numeral.{choose, fieldAt}
-use Rattle.fields.specs.Fields.{Parsed, parsed, malformed, push, behind, fieldsAt, numbersOf, runFrom, runOf, Fillable}
+use Rattle.fields.specs.Fields.{Parsed, parsed, malformed, push, behind, fieldsAt, ended, numbersOf, largestFrom, runFrom, runOf, Fillable}
 use Rattle.decimal.proofs.Positions.{inside}
 
 -- ---- the first pass: what is known so far with what the rest says is what the whole says
@@ -64,6 +64,44 @@ module _ (s : List ℕ) (at k pos largest i : ℕ) (inv : Passed s at k pos larg
   pub passed-end : k ≤ i → Fields largest pos ≡ runOf (fieldsAt k s at)
   unfolding fieldsAt
   passed-end h = let n : k - i ≡ 0 = omega arith in rw n at (inv .says)
+
+-- ---- what stands behind the fields
+module _ (s : List ℕ) (o : Parsed) (r : Run) (e : r ≡ runOf o) where
+  pub end-broken : r ≡ Broken → Broken ≡ runOf (ended s o)
+  end-broken w = go o (sym e ∙ w)
+    where
+      go : (o : Parsed) → runOf o ≡ Broken → Broken ≡ runOf (ended s o)
+      go malformed q = refl
+      go (parsed xs next) q = let z : _≡_ {A = ℕ} 0 1 = cc in absurd (omega arith)
+
+  module _ (largest next : ℕ) (w : r ≡ Fields largest next) where
+    -- by the test of the line's end
+    end-is : (v : Run) (t : Bool) → (eqb (getD s next 0) 10 && eqb (length s) (next + 1)) ≡ t → v ≡ choose t (Fields largest next) Broken → v ≡ runOf (ended s o)
+    end-is v t h q = go o (sym e ∙ w)
+      where
+        last : (xs : List ℕ) (u : Bool) → u ≡ t → largestFrom 0 xs ≡ largest → v ≡ runOf (choose u (parsed xs next) malformed)
+        last xs true i a = q ∙ rw (← i, a)
+        last xs false i a = q ∙ rw (← i)
+
+        go : (o : Parsed) → runOf o ≡ Fields largest next → v ≡ runOf (ended s o)
+        go malformed q = let z : _≡_ {A = ℕ} 0 1 = cc in absurd (omega arith)
+        go (parsed xs then) q =
+            let a : largestFrom 0 xs ≡ largest = cc in
+            let b : then ≡ next = cc in
+            rw b (last xs (eqb (getD s next 0) 10 && eqb (length s) (next + 1)) h a)
+
+    pub end-short : length s ≤ next → Broken ≡ runOf (ended s o)
+    end-short h = end-is Broken false (rw (List·getD-eq-default s 0 h)) refl
+
+    pub end-byte : (getD s next 0 ≡ 10 → ⊥) → Broken ≡ runOf (ended s o)
+    end-byte h = end-is Broken false (rw (ne-eqb (getD s next 0) 10 h)) refl
+
+    module _ (f : getD s next 0 ≡ 10) where
+      pub end-long : (length s ≡ next + 1 → ⊥) → Broken ≡ runOf (ended s o)
+      end-long h = end-is Broken false (rw (f, ne-eqb (length s) (next + 1) h)) refl
+
+      pub end-there : length s ≡ next + 1 → Fields largest next ≡ runOf (ended s o)
+      end-there h = end-is (Fields largest next) true (rw (f, eq-eqb (length s) (next + 1) h)) refl
 
 -- ---- a field that can be taken
 record Takeable (s : List ℕ) (pos j : ℕ) : Type 0 where

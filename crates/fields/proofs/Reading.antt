@@ -2,16 +2,17 @@
 use Prim.Native.Nat.{ℕ, zero, suc, _+_, _-_, _≤_, _<_}
 use mathlib.Core.Path.{_≡_, refl, ap, sym, _∙_}
 use mathlib.Core.List.{List, [], _∷_, _++_, append-assoc}
-use mathlib.Core.Bool.{Bool, true, false}
+use mathlib.Core.Bool.{Bool, true, false, _&&_}
 use native.Mathlib.Omega.{arith}
-use borrow.Author.Tests.{eqb-true}
-use lib.ListN.{length, getD, drop, length-append}
-use lib.Seq.{drop-drop}
+use borrow.Author.Tests.{eq-eqb, eqb-true}
+use lib.ListN.{length, getD, drop, length-append, drop-of-length-le}
+use lib.Seq.{drop-drop, getD-at}
 use lib.Dec.{eqb}
 use Rattle.decimal.specs.declared.Field.{Field}
 use Rattle.decimal.specs.declared.Field.the-variants.{Number, Wrong}
 use Rattle.decimal.specs.Numeral.{choose, tens, size, numeral, leading, fieldOf, fieldAt}
-use Rattle.fields.specs.Fields.{field, fields, Parsed, parsed, malformed, push, behind, fieldsAt, Small}
+use Rattle.fields.specs.Fields.{field, fields, written, Parsed, parsed, malformed, push, behind, fieldsAt, ended, Small}
+use Rattle.decimal.proofs.Digits.{and-true}
 use Rattle.decimal.proofs.Numerals.{length-numeral, numeral-reads, number-is-numeral}
 use Rattle.fields.proofs.Overwriting.{length-field}
 use Rattle.decimal.proofs.Positions.{head-at, drop-past, drop-head}
@@ -91,3 +92,44 @@ fields-spelled (suc k) s at xs next e = comma (eqb (getD s at 0) 44) refl (field
         → choose t (behind (fieldAt s (at + 1)) (λ x then. push x (fieldsAt k s then))) malformed ≡ parsed xs next → Spells s at (suc k) xs next
     comma true c ih e = found (fieldAt s (at + 1)) (eqb-true (getD s at 0) 44 c) refl ih e
     comma false c ih e = not-parsed xs next e
+
+-- ---- whole lines: a letter, fields, a line feed
+pub line-read : (b : ℕ) (xs : List ℕ) → Small xs → ended (written b xs) (fieldsAt (length xs) (written b xs) 1) ≡ parsed xs (1 + length (fields xs))
+unfolding leading
+line-read b xs h =
+    let s : List ℕ = written b xs in
+    let f : fieldsAt (length xs) s 1 ≡ parsed xs (1 + length (fields xs)) = fields-read xs s (10 ∷ []) 1 h refl refl in
+    let m : length s ≡ 1 + length (fields xs) + 1 = omega (arith, length-append (fields xs) (10 ∷ [])) in
+    let c : 1 + length (fields xs) ≡ length (b ∷ fields xs) = omega arith in
+    let g : getD s (1 + length (fields xs)) 0 ≡ 10 = rw c (getD-at (b ∷ fields xs) 10 [] 0 (length (b ∷ fields xs)) refl) in
+    rw (f, g, eq-eqb (length s) (1 + length (fields xs) + 1) m)
+
+ended-is : (s xs : List ℕ) (next : ℕ) (o : Parsed) → ended s o ≡ parsed xs next → (o ≡ parsed xs next) × (length s ≡ next + 1) × (getD s next 0 ≡ 10)
+ended-is s xs next malformed e = not-parsed xs next e
+ended-is s xs next (parsed ys then) e = go (eqb (getD s then 0) 10 && eqb (length s) (then + 1)) refl e
+  where
+    go : (t : Bool) → (eqb (getD s then 0) 10 && eqb (length s) (then + 1)) ≡ t → choose t (parsed ys then) malformed ≡ parsed xs next
+        → (parsed ys then ≡ parsed xs next) × (length s ≡ next + 1) × (getD s next 0 ≡ 10)
+    go true h e =
+        let g = and-true (eqb (getD s then 0) 10) _ h in
+        let b : then ≡ next = cc in
+        (e, rw (← b) (eqb-true (length s) (then + 1) (g .1)), rw (← b) (eqb-true (getD s then 0) 10 (g .0)))
+    go false h e = not-parsed xs next e
+
+-- a line whose first byte is b + 1, and whose k fields end it
+pub record SpellsLine (s : List ℕ) (b k : ℕ) (xs : List ℕ) : Type 0 where
+  pub text : s ≡ written (suc b) xs
+  pub number : length xs ≡ k
+  pub small : Small xs
+
+pub line-spelled : (s : List ℕ) (b k : ℕ) (xs : List ℕ) (next : ℕ) → getD s 0 0 ≡ suc b → ended s (fieldsAt k s 1) ≡ parsed xs next → SpellsLine s b k xs
+line-spelled s b k xs next l e =
+    let d = ended-is s xs next (fieldsAt k s 1) e in
+    let r = fields-spelled k s 1 xs next (d .0) in
+    let z : length s ≤ next + 1 = omega (arith, d .1) in
+    let f : drop next s ≡ 10 ∷ [] = drop-head s next 9 (d .2) ∙ ap (λ (l : List ℕ). 10 ∷ l) (drop-of-length-le s z) in
+    record {
+      text = drop-head s 0 b l ∙ ap (λ (l : List ℕ). suc b ∷ l) (r .text ∙ ap (λ (l : List ℕ). fields xs ++ l) f);
+      number = r .number;
+      small = r .small;
+    }

@@ -1,7 +1,7 @@
 -- Document 01, "Broadcast lines": "fields parted by commas". Here every field stands behind its comma.
 use Prim.Native.Nat.{ℕ, zero, suc, _+_, _-_, _<_}
 use mathlib.Core.List.{List, [], _∷_, _++_}
-use mathlib.Core.Bool.{Bool, true, false}
+use mathlib.Core.Bool.{Bool, true, false, _&&_}
 use lib.ListN.{length, getD, take, drop, replicate}
 use lib.Dec.{eqb, ltb}
 use Rattle.decimal.specs.declared.Field.{Field}
@@ -49,6 +49,11 @@ behind Wrong rest = malformed
 unfoldable pub fieldsAt : ℕ → List ℕ → ℕ → Parsed
 fieldsAt zero s at = parsed [] at
 fieldsAt (suc k) s at = choose (eqb (getD s at 0) 44) (behind (fieldAt s (at + 1)) (λ x next. push x (fieldsAt k s next))) malformed
+
+-- "one line feed at the end": fields that a line feed follows, and nothing more.
+abbrev pub ended : List ℕ → Parsed → Parsed
+ended s (parsed xs next) = choose (eqb (getD s next 0) 10 && eqb (length s) (next + 1)) (parsed xs next) malformed
+ended s malformed = malformed
 
 abbrev pub numbersOf : Parsed → List ℕ
 numbersOf (parsed xs next) = xs

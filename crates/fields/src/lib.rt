@@ -5,7 +5,7 @@ ghost use Prim.Native.Nat.{_+_, _≤_};
 ghost use lib.ListN.{length, replicate};
 ghost use lib.Dec.{ltb};
 ghost use Rattle.decimal.specs.Numeral.{choose};
-ghost use Rattle.fields.specs.Fields.{field, fields, written, overwrite, fieldsAt, runOf, numbersOf, Fillable, padded};
+ghost use Rattle.fields.specs.Fields.{field, fields, written, overwrite, fieldsAt, ended, runOf, numbersOf, Fillable, padded};
 use decimal::Field;
 
 // What a first pass over fields tells of them: the largest number, and the position behind them.
@@ -102,6 +102,28 @@ pub fn fields_at(line: &[u8], at: usize, k: usize) -> Run
         }
     }
     Run::Fields { largest, next: pos }
+}
+
+// The same for the last k fields of a line: behind them stands a line feed, and nothing more.
+pub fn last_fields_at(line: &[u8], at: usize, k: usize) -> Run
+    ensures { λ r. ⌜ r ≡ runOf (ended (now (line .entry)) (fieldsAt k (now (line .entry)) at)) ⌝ }
+{
+    let run = fields_at(line, at, k);
+    match run {
+        Run::Fields { largest, next } => {
+            if line.len() <= next {
+                return Run::Broken;
+            }
+            if line[next] != 10 {
+                return Run::Broken;
+            }
+            if line.len() != next + 1 {
+                return Run::Broken;
+            }
+            Run::Fields { largest, next }
+        }
+        Run::Broken => Run::Broken,
+    }
 }
 
 // The numbers of as many fields from a position as the list has places.

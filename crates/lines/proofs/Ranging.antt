@@ -2,7 +2,6 @@
 use Prim.Native.Nat.{ℕ, zero, suc, _+_, _-_, _*_, _≤_, _<_}
 use mathlib.Core.Path.{_≡_, refl, ap, sym, _∙_}
 use mathlib.Core.List.{List, [], _∷_, _++_}
-use mathlib.Core.Option.{Option, none, some}
 use mathlib.Core.Bool.{Bool, true, false, not}
 use native.Mathlib.Omega.{arith}
 use borrow.Author.Tests.{lt-ltb, le-ltb, eq-eqb, ne-eqb, ltb-true, ltb-false, eqb-true}
@@ -15,14 +14,14 @@ use Rattle.refusal.proofs.Laws.{or-false}
 use Rattle.refusal.proofs.Elements.{below-p}
 use Rattle.refusal.proofs.Endings.{refused, accepted}
 use Rattle.decimal.specs.Numeral.{choose}
-use Rattle.fields.specs.Fields.{parsed, fieldsAt, largestFrom, numbersOf, Fillable, padded}
+use Rattle.fields.specs.Fields.{Parsed, parsed, fieldsAt, largestFrom, numbersOf, Fillable, padded}
 use Rattle.fields.proofs.Single.{largest-narrow}
 use Rattle.fields.proofs.Reading.{fields-spelled}
 use Rattle.lines.specs.declared.Line.{Line}
 use Rattle.lines.specs.declared.Form.{Form}
 use Rattle.lines.specs.declared.Form.the-variants.{Right, Wrong}
 use Rattle.lines.specs.Lines.{Message, lastRow, lineRefusal}
-use Rattle.lines.specs.Reading.{numberCount, fieldCount, formOf, messageOf, message, isNone, orEmpty, outOfRange, beyondRange, lineTests, noLine, lineAs, listAs, headOf, Scanned, ScanOf}
+use Rattle.lines.specs.Reading.{numberCount, fieldCount, formOf, messageOf, message, outOfRange, beyondRange, lineTests, noLine, lineAs, listAs, headOf, Scanned, ScanOf}
 use Rattle.lines.proofs.Forms.{form-spelled}
 use Rattle.lines.proofs.Refusing.{posts-refuse, posts-pass}
 
@@ -111,7 +110,7 @@ module _ (n k : ℕ) (s out : List ℕ) (f : Form) (form : ScanOf (formOf k s) s
 
     message-is : message k s ≡ said
     message-is =
-        ap (λ (o : Option (List ℕ)). messageOf (getD s 0 0) (orEmpty o)) (scanned .all)
+        ap (λ (o : Parsed). messageOf (getD s 0 0) (numbersOf o)) (scanned .all)
         ∙ ap (λ (b : ℕ). messageOf b (headOf letter row post ++ scanned .numbers)) (sym (scanned .letter-is))
         ∙ go (eqb letter 68) refl
       where
@@ -162,7 +161,7 @@ module _ (n k : ℕ) (s out : List ℕ) (f : Form) (form : ScanOf (formOf k s) s
 
     pub taken-room : length out ≡ 2 * k → 1 ≤ k → count ≤ length out
     taken-room l h =
-        let g = form-spelled k s (headOf letter row post ++ scanned .numbers) (scanned .all) in
+        let g = form-spelled k s (headOf letter row post ++ scanned .numbers) (scanned .next) (scanned .all) in
         let c = fields-spelled count s at (scanned .numbers) (scanned .next) (scanned .rest) in
         let m : length (headOf letter row post) + length (scanned .numbers) ≡ fieldCount k letter =
         sym (length-append (headOf letter row post) (scanned .numbers)) ∙ g .number ∙ ap (fieldCount k) (sym (scanned .letter-is)) in

@@ -2,7 +2,6 @@
 use Prim.Native.Nat.{ℕ, zero, suc, _+_, _-_, _*_, _≤_, _<_}
 use mathlib.Core.Path.{_≡_, refl, ap, sym, _∙_}
 use mathlib.Core.List.{List, [], _∷_, _++_}
-use mathlib.Core.Option.{Option, none, some}
 use mathlib.Core.Bool.{Bool, true, false}
 use native.Mathlib.Omega.{arith}
 use borrow.Author.Tests.{eq-eqb, ltb-false, eqb-true}
@@ -13,9 +12,9 @@ use Rattle.refusal.specs.Conditions.{or, outside, beyond, anyBeyond}
 use Rattle.refusal.proofs.Laws.{or-false, inside, all-fail}
 use Rattle.refusal.proofs.Elements.{below-p}
 use Rattle.decimal.specs.Numeral.{choose, tens}
-use Rattle.fields.specs.Fields.{written, Small}
+use Rattle.fields.specs.Fields.{fields, written, Parsed, parsed, malformed, numbersOf, Small}
 use Rattle.lines.specs.Lines.{Message, fieldsOf, text, lastRow}
-use Rattle.lines.specs.Reading.{isLetter, numberCount, fieldCount, formOf, messageOf, message, isNone, orEmpty, outOfRange, beyondRange, lineTests, Sent}
+use Rattle.lines.specs.Reading.{isLetter, numberCount, fieldCount, formOf, messageOf, message, isMalformed, outOfRange, beyondRange, lineTests, Sent}
 use Rattle.lines.proofs.Forms.{form-spelled, form-read}
 use Rattle.lines.proofs.Refusing.{last-row-le}
 
@@ -90,10 +89,10 @@ field-count-two k b = go (eqb b 68) (eqb b 79)
 -- ---- read (written m) = m
 pub written-reads-back : (n k : ℕ) (m : Message) → n < tens 10 → Sent n k m → (first (lineTests n k (text m)) ≡ 0) × (message k (text m) ≡ m)
 written-reads-back n k m l h =
-    let f : formOf k (text m) ≡ some (fieldsOf m) =
+    let f : formOf k (text m) ≡ parsed (fieldsOf m) (1 + length (fields (fieldsOf m))) =
     form-read k (m .letter) (fieldsOf m) (h .letter-is) (fields-count n k m h) (fields-small n m l (in-range n m (h .in-range))) in
     let q = message-of-fields m (h .no-post) in
-    let g : message k (text m) ≡ m = ap (λ (o : Option (List ℕ)). messageOf (m .letter) (orEmpty o)) f ∙ q in
+    let g : message k (text m) ≡ m = ap (λ (o : Parsed). messageOf (m .letter) (numbersOf o)) f ∙ q in
     let r : beyondRange n (message k (text m)) ≡ false = ap (beyondRange n) g ∙ h .in-range in
     (rw (r, f), g)
 
@@ -110,11 +109,11 @@ read-is-written n k s e =
         by-letter true q = omega (arith, length-drop 1 xs)
         by-letter false q = omega (arith, length-drop 2 xs)
 
-    go : (o : Option (List ℕ)) → formOf k s ≡ o → isNone o ≡ false → beyondRange n (messageOf (getD s 0 0) (orEmpty o)) ≡ false
-        → (s ≡ text (messageOf (getD s 0 0) (orEmpty o))) × Sent n k (messageOf (getD s 0 0) (orEmpty o))
-    go none f x r = let z : _≡_ {A = ℕ} 0 1 = cc in absurd (omega arith)
-    go (some xs) f x r =
-        let w = form-spelled k s xs f in
+    go : (o : Parsed) → formOf k s ≡ o → isMalformed o ≡ false → beyondRange n (messageOf (getD s 0 0) (numbersOf o)) ≡ false
+        → (s ≡ text (messageOf (getD s 0 0) (numbersOf o))) × Sent n k (messageOf (getD s 0 0) (numbersOf o))
+    go malformed f x r = let z : _≡_ {A = ℕ} 0 1 = cc in absurd (omega arith)
+    go (parsed xs next) f x r =
+        let w = form-spelled k s xs next f in
         let h : 2 ≤ length xs = omega (arith, w .number, field-count-two k (getD s 0 0)) in (
           w .text ∙ ap (written (getD s 0 0)) (sym (fields-of-message (getD s 0 0) xs h)),
           record {

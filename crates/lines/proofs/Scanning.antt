@@ -2,7 +2,6 @@
 use Prim.Native.Nat.{ℕ, zero, suc, _+_, _-_, _*_, _≤_, _<_, _^_}
 use mathlib.Core.Path.{_≡_, refl, ap, sym, _∙_}
 use mathlib.Core.List.{List, [], _∷_, _++_}
-use mathlib.Core.Option.{Option, none, some}
 use mathlib.Core.Bool.{Bool, true, false, _&&_, _||_}
 use native.Mathlib.Omega.{arith}
 use borrow.Author.Tests.{eq-eqb, ne-eqb}
@@ -11,48 +10,28 @@ use lib.Dec.{eqb}
 use Rattle.decimal.specs.Numeral.{choose}
 use Rattle.fields.specs.declared.Run.{Run}
 use Rattle.fields.specs.declared.Run.the-variants.{Fields, Broken}
-use Rattle.fields.specs.Fields.{Parsed, parsed, malformed, push, fieldsAt, runOf, largestFrom}
+use Rattle.fields.specs.Fields.{Parsed, parsed, malformed, push, fieldsAt, ended, runOf, largestFrom}
 use Rattle.fields.proofs.Single.{first-found, first-broken}
 use Rattle.lines.specs.declared.Form.{Form}
 use Rattle.lines.specs.declared.Form.the-variants.{Right, Wrong}
-use Rattle.lines.specs.Reading.{isLetter, numberCount, fieldCount, ended, formOf, headOf, Scanned, ScanOf, scanRest}
+use Rattle.lines.specs.Reading.{isLetter, numberCount, fieldCount, formOf, headOf, Scanned, ScanOf, scanRest}
 
 -- ---- the numbers behind row and post
-module _ (s : List ℕ) (letter row post at count : ℕ) (r : Run) (e : r ≡ runOf (fieldsAt count s at)) where
-  abbrev rest : Form
-  rest = scanRest letter row post at count (ended s (fieldsAt count s at))
-
-  pub rest-broken : r ≡ Broken → Wrong ≡ rest
-  rest-broken w = go (fieldsAt count s at) (sym e ∙ w)
+module _ (s : List ℕ) (letter row post at count : ℕ) (r : Run) (e : r ≡ runOf (ended s (fieldsAt count s at))) where
+  pub rest-broken : r ≡ Broken → Wrong ≡ scanRest letter row post at count (ended s (fieldsAt count s at))
+  rest-broken w = go (ended s (fieldsAt count s at)) (sym e ∙ w)
     where
-      go : (o : Parsed) → runOf o ≡ Broken → Wrong ≡ scanRest letter row post at count (ended s o)
+      go : (o : Parsed) → runOf o ≡ Broken → Wrong ≡ scanRest letter row post at count o
       go malformed q = refl
       go (parsed xs next) q = let z : _≡_ {A = ℕ} 0 1 = cc in absurd (omega arith)
 
-  module _ (largest next : ℕ) (w : r ≡ Fields largest next) where
-    -- by what stands behind the numbers
-    rest-is : (form : Form) → ((xs : List ℕ) → largest ≡ largestFrom 0 xs → form ≡ scanRest letter row post at count (ended s (parsed xs next))) → form ≡ rest
-    rest-is form h = go (fieldsAt count s at) (sym e ∙ w)
-      where
-        go : (o : Parsed) → runOf o ≡ Fields largest next → form ≡ scanRest letter row post at count (ended s o)
-        go malformed q = let z : _≡_ {A = ℕ} 0 1 = cc in absurd (omega arith)
-        go (parsed xs then) q =
-            let a : largest ≡ largestFrom 0 xs = cc in
-            let b : then ≡ next = cc in
-            h xs a ∙ ap (λ (n : ℕ). scanRest letter row post at count (ended s (parsed xs n))) (sym b)
-
-    pub rest-short : length s ≤ next → Wrong ≡ rest
-    rest-short h = rest-is Wrong (λ xs a. rw (List·getD-eq-default s 0 h))
-
-    pub rest-byte : (getD s next 0 ≡ 10 → ⊥) → Wrong ≡ rest
-    rest-byte h = rest-is Wrong (λ xs a. rw (ne-eqb (getD s next 0) 10 h))
-
-    module _ (f : getD s next 0 ≡ 10) where
-      pub rest-long : (length s ≡ next + 1 → ⊥) → Wrong ≡ rest
-      rest-long h = rest-is Wrong (λ xs a. rw (f, ne-eqb (length s) (next + 1) h))
-
-      pub rest-right : length s ≡ next + 1 → Right letter row post at count largest ≡ rest
-      rest-right h = rest-is (Right letter row post at count largest) (λ xs a. rw (f, eq-eqb (length s) (next + 1) h, a))
+  pub rest-found : (largest next : ℕ) → r ≡ Fields largest next
+      → Right letter row post at count largest ≡ scanRest letter row post at count (ended s (fieldsAt count s at))
+  rest-found largest next w = go (ended s (fieldsAt count s at)) (sym e ∙ w)
+    where
+      go : (o : Parsed) → runOf o ≡ Fields largest next → Right letter row post at count largest ≡ scanRest letter row post at count o
+      go malformed q = let z : _≡_ {A = ℕ} 0 1 = cc in absurd (omega arith)
+      go (parsed xs then) q = let a : largest ≡ largestFrom 0 xs = cc in ap (Right letter row post at count) a
 
 -- ---- the letter
 module _ (k b count : ℕ) (h : 1 ≤ k) (e : count ≡ choose (isLetter b) (numberCount k b) 0) where
@@ -76,29 +55,29 @@ module _ (k b count : ℕ) (h : 1 ≤ k) (e : count ≡ choose (isLetter b) (num
       go false l q = refl
 
 -- ---- the scan of a line, which is the form's
-abbrev before : List ℕ → Option (List ℕ) → Option (List ℕ)
-before hs none = none
-before hs (some xs) = some (hs ++ xs)
+abbrev before : List ℕ → Parsed → Parsed
+before hs (parsed xs next) = parsed (hs ++ xs) next
+before hs malformed = malformed
 
 ended-push : (s : List ℕ) (x : ℕ) (o : Parsed) → ended s (push x o) ≡ before (x ∷ []) (ended s o)
 ended-push s x malformed = refl
 ended-push s x (parsed xs next) = go (eqb (getD s next 0) 10 && eqb (length s) (next + 1))
   where
-    go : (t : Bool) → choose t (some (x ∷ xs)) none ≡ before (x ∷ []) (choose t (some xs) none)
+    go : (t : Bool) → choose t (parsed (x ∷ xs) next) malformed ≡ before (x ∷ []) (choose t (parsed xs next) malformed)
     go true = refl
     go false = refl
 
-before-before : (x y : ℕ) (o : Option (List ℕ)) → before (x ∷ []) (before (y ∷ []) o) ≡ before (x ∷ y ∷ []) o
-before-before x y none = refl
-before-before x y (some xs) = refl
+before-before : (x y : ℕ) (o : Parsed) → before (x ∷ []) (before (y ∷ []) o) ≡ before (x ∷ y ∷ []) o
+before-before x y malformed = refl
+before-before x y (parsed xs next) = refl
 
 -- the scan ends as its last part does
-scan-is : (o : Option (List ℕ)) (s : List ℕ) (letter row post at count : ℕ) (r : Form) → letter ≡ getD s 0 0 → (letter ≡ 68 → post ≡ 0)
+scan-is : (o : Parsed) (s : List ℕ) (letter row post at count : ℕ) (r : Form) → letter ≡ getD s 0 0 → (letter ≡ 68 → post ≡ 0)
     → o ≡ before (headOf letter row post) (ended s (fieldsAt count s at)) → r ≡ scanRest letter row post at count (ended s (fieldsAt count s at)) → ScanOf o s r
 scan-is o s letter row post at count r l p e q = go (fieldsAt count s at) refl e q
   where
-    last : (xs : List ℕ) (next : ℕ) (t : Bool) → fieldsAt count s at ≡ parsed xs next → o ≡ before (headOf letter row post) (choose t (some xs) none)
-        → r ≡ scanRest letter row post at count (choose t (some xs) none) → ScanOf o s r
+    last : (xs : List ℕ) (next : ℕ) (t : Bool) → fieldsAt count s at ≡ parsed xs next → o ≡ before (headOf letter row post) (choose t (parsed xs next) malformed)
+        → r ≡ scanRest letter row post at count (choose t (parsed xs next) malformed) → ScanOf o s r
     last xs next true f e q =
         rw q record { numbers = xs; next = next; letter-is = l; post-is = p; all = e; rest = f; largest-is = refl }
     last xs next false f e q = rw q e
@@ -108,12 +87,12 @@ scan-is o s letter row post at count r l p e q = go (fieldsAt count s at) refl e
     go (parsed xs next) f e q = last xs next (eqb (getD s next 0) 10 && eqb (length s) (next + 1)) f e q
 
 module _ (k : ℕ) (s : List ℕ) where
-  pub scan-empty : length s < 1 → formOf k s ≡ none
+  pub scan-empty : length s < 1 → formOf k s ≡ malformed
   unfolding formOf
   scan-empty h = let l : length s ≤ 0 = omega arith in rw (List·getD-eq-default s 0 l)
 
   module _ (h : 1 ≤ k) (count : ℕ) (c : count ≡ choose (isLetter (getD s 0 0)) (numberCount k (getD s 0 0)) 0) where
-    pub scan-letter : count < 1 → formOf k s ≡ none
+    pub scan-letter : count < 1 → formOf k s ≡ malformed
     unfolding formOf
     scan-letter g = rw (no-letter k (getD s 0 0) count h c g)
 
@@ -133,7 +112,7 @@ module _ (k : ℕ) (s : List ℕ) where
           go true q = omega arith
           go false q = omega arith
 
-      pub scan-no-row : r ≡ Broken → formOf k s ≡ none
+      pub scan-no-row : r ≡ Broken → formOf k s ≡ malformed
       scan-no-row w = fields-are (suc left) one-more ∙ ap (ended s) (first-broken left s 1 r e w)
 
       module _ (row next : ℕ) (w : r ≡ Fields row next) where
@@ -150,7 +129,7 @@ module _ (k : ℕ) (s : List ℕ) where
           one : left ≡ suc count
           one = rw (ne-eqb (getD s 0 0) 68 d) (omega arith)
 
-          pub scan-no-post : p ≡ Broken → formOf k s ≡ none
+          pub scan-no-post : p ≡ Broken → formOf k s ≡ malformed
           scan-no-post u = behind-row ∙ rw (one, first-broken count s next p f u)
 
           pub scan-posted : (v : Form) (post at : ℕ) → p ≡ Fields post at

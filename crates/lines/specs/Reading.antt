@@ -2,14 +2,13 @@
 use Prim.Native.Nat.{ℕ, _+_, _*_}
 use mathlib.Core.Path.{_≡_}
 use mathlib.Core.List.{List, [], _∷_, _++_}
-use mathlib.Core.Option.{Option, none, some}
-use mathlib.Core.Bool.{Bool, true, false, _&&_, _||_}
+use mathlib.Core.Bool.{Bool, true, false, _||_}
 use lib.ListN.{length, getD, drop}
 use lib.Dec.{eqb, ltb}
 use Rattle.refusal.specs.Refusal.{Test, _when_, outcome}
 use Rattle.refusal.specs.Conditions.{or, outside, missized, anyBeyond}
 use Rattle.decimal.specs.Numeral.{choose}
-use Rattle.fields.specs.Fields.{Parsed, parsed, malformed, fieldsAt, largestFrom, padded}
+use Rattle.fields.specs.Fields.{Parsed, parsed, malformed, fieldsAt, ended, numbersOf, largestFrom, padded}
 use Rattle.lines.specs.declared.Line.{Line}
 use Rattle.lines.specs.declared.Form.{Form}
 use Rattle.lines.specs.declared.Form.the-variants.{Right, Wrong}
@@ -26,14 +25,9 @@ numberCount k b = choose (eqb b 68) 1 (choose (eqb b 79) k (2 * k))
 abbrev pub fieldCount : ℕ → ℕ → ℕ
 fieldCount k b = choose (eqb b 68) 1 2 + numberCount k b
 
--- "one line feed at the end": the numbers of fields that one line feed follows, and nothing more.
-abbrev pub ended : List ℕ → Parsed → Option (List ℕ)
-ended s (parsed xs next) = choose (eqb (getD s next 0) 10 && eqb (length s) (next + 1)) (some xs) none
-ended s malformed = none
-
--- The numbers of a line of the right form: "letter, field count, digits, .. final line feed".
-unfoldable pub formOf : ℕ → List ℕ → Option (List ℕ)
-formOf k s = choose (isLetter (getD s 0 0)) (ended s (fieldsAt (fieldCount k (getD s 0 0)) s 1)) none
+-- The fields of a line of the right form: "letter, field count, digits, .. final line feed".
+unfoldable pub formOf : ℕ → List ℕ → Parsed
+formOf k s = choose (isLetter (getD s 0 0)) (ended s (fieldsAt (fieldCount k (getD s 0 0)) s 1)) malformed
 
 -- What a letter and a line's numbers say.
 abbrev pub messageOf : ℕ → List ℕ → Message
@@ -45,17 +39,13 @@ messageOf b xs =
       numbers = drop (choose (eqb b 68) 1 2) xs;
     }
 
-abbrev pub isNone : {A : Type 0} → Option A → Bool
-isNone none = true
-isNone (some a) = false
-
-abbrev pub orEmpty : Option (List ℕ) → List ℕ
-orEmpty none = []
-orEmpty (some xs) = xs
+abbrev pub isMalformed : Parsed → Bool
+isMalformed (parsed xs next) = false
+isMalformed malformed = true
 
 -- What a line says.
 abbrev pub message : ℕ → List ℕ → Message
-message k s = messageOf (getD s 0 0) (orEmpty (formOf k s))
+message k s = messageOf (getD s 0 0) (numbersOf (formOf k s))
 
 -- "element at least p, row above 95 (a triple's first above 93), post outside 1..n"; `big` says the first.
 abbrev pub outOfRange : ℕ → ℕ → ℕ → ℕ → Bool → Bool
@@ -66,7 +56,7 @@ beyondRange n m = outOfRange n (m .letter) (m .row) (m .post) (anyBeyond (m .num
 
 -- 10 and 11 of a line.
 abbrev pub lineTests : ℕ → ℕ → List ℕ → List Test
-lineTests n k s = 10 when isNone (formOf k s) ∷ 11 when beyondRange n (message k s) ∷ []
+lineTests n k s = 10 when isMalformed (formOf k s) ∷ 11 when beyondRange n (message k s) ∷ []
 
 abbrev pub readRefusal : ℕ → ℕ → List ℕ → List ℕ → ℕ
 readRefusal n t s out = lineRefusal n t (5 when missized out (2 * (t + 1)) ∷ lineTests n (t + 1) s)
@@ -95,21 +85,21 @@ abbrev pub headOf : ℕ → ℕ → ℕ → List ℕ
 headOf letter row post = choose (eqb letter 68) (row ∷ []) (row ∷ post ∷ [])
 
 -- A line whose numbers behind row and post stand at a position.
-pub record Scanned (o : Option (List ℕ)) (s : List ℕ) (letter row post at count largest : ℕ) : Type 0 where
+pub record Scanned (o : Parsed) (s : List ℕ) (letter row post at count largest : ℕ) : Type 0 where
   pub numbers : List ℕ
   pub next : ℕ
   pub letter-is : letter ≡ getD s 0 0
   pub post-is : letter ≡ 68 → post ≡ 0
-  pub all : o ≡ some (headOf letter row post ++ numbers)
+  pub all : o ≡ parsed (headOf letter row post ++ numbers) next
   pub rest : fieldsAt count s at ≡ parsed numbers next
   pub largest-is : largest ≡ largestFrom 0 numbers
 
 -- What the scan of a line finds.
-abbrev pub ScanOf : Option (List ℕ) → List ℕ → Form → Type 0
+abbrev pub ScanOf : Parsed → List ℕ → Form → Type 0
 ScanOf o s (Right letter row post at count largest) = Scanned o s letter row post at count largest
-ScanOf o s Wrong = o ≡ none
+ScanOf o s Wrong = o ≡ malformed
 
 -- The scan of the numbers behind a line's row and post, once these are known.
-abbrev pub scanRest : ℕ → ℕ → ℕ → ℕ → ℕ → Option (List ℕ) → Form
-scanRest letter row post at count none = Wrong
-scanRest letter row post at count (some xs) = Right letter row post at count (largestFrom 0 xs)
+abbrev pub scanRest : ℕ → ℕ → ℕ → ℕ → ℕ → Parsed → Form
+scanRest letter row post at count (parsed xs next) = Right letter row post at count (largestFrom 0 xs)
+scanRest letter row post at count malformed = Wrong

@@ -6,10 +6,10 @@ ghost use lib.ListN.{length};
 ghost use Rattle.refusal.specs.Refusal.{first};
 ghost use Rattle.refusal.specs.Conditions.{beyond};
 ghost use Rattle.decimal.specs.Numeral.{choose};
-ghost use Rattle.fields.specs.Fields.{written, fieldsAt};
+ghost use Rattle.fields.specs.Fields.{written, fieldsAt, ended};
 ghost use Rattle.lines.specs.Lines.{text, deal, opening, masks, lastRow};
 ghost use Rattle.lines.specs.Writing.{postedTests, dealtTests, dealRefusal, openingRefusal, masksRefusal, writtenAs, partAs};
-ghost use Rattle.lines.specs.Reading.{isLetter, numberCount, formOf, message, outOfRange, lineTests, readRefusal, noLine, lineAs, listAs, ended, ScanOf, scanRest};
+ghost use Rattle.lines.specs.Reading.{isLetter, numberCount, formOf, message, outOfRange, lineTests, readRefusal, noLine, lineAs, listAs, ScanOf, scanRest};
 use fields::Run;
 
 // The answer of a writer: the refusal, and the line's length.
@@ -95,9 +95,12 @@ fn write_posted(
     ensures { λ r. ⌜ r ≡ writtenAs (first (postedTests n letter count row post (now (numbers .entry)) (length (now (out .entry))))) (written letter (row ∷ post ∷ now (numbers .entry))) ⌝ }
     ensures { λ r. ⌜ now (out .exit) ≡ partAs (first (postedTests n letter count row post (now (numbers .entry)) (length (now (out .entry))))) (written letter (row ∷ post ∷ now (numbers .entry))) (now (out .entry)) ⌝ }
 {
-    let refusal = posted_refusal(n, letter, count, row, post, numbers, out.len());
-    if refusal != 0 {
-        return Written { refusal, len: 0 };
+    let posted = posted_refusal(n, letter, count, row, post, numbers, out.len());
+    if posted != 0 {
+        return Written {
+            refusal: posted,
+            len: 0,
+        };
     }
     let head = [row as u32, post as u32];
     let len = fields::put_line(letter, &head, numbers, out);
@@ -128,9 +131,12 @@ fn write_dealt(row: usize, c: u32, out: &mut [u8]) -> Written
     ensures { λ r. ⌜ r ≡ writtenAs (first (dealtTests row c (length (now (out .entry))))) (text (deal row c)) ⌝ }
     ensures { λ r. ⌜ now (out .exit) ≡ partAs (first (dealtTests row c (length (now (out .entry))))) (text (deal row c)) (now (out .entry)) ⌝ }
 {
-    let refusal = dealt_refusal(row, c, out.len());
-    if refusal != 0 {
-        return Written { refusal, len: 0 };
+    let dealt = dealt_refusal(row, c, out.len());
+    if dealt != 0 {
+        return Written {
+            refusal: dealt,
+            len: 0,
+        };
     }
     let head = [row as u32];
     let number = [c];
@@ -218,27 +224,16 @@ fn number_count(letter: u8, k: usize) -> usize
 fn scan_rest(line: &[u8], letter: u8, row: u64, post: u64, at: usize, count: usize) -> Form
     ensures { λ r. ⌜ r ≡ scanRest letter row post at count (ended (now (line .entry)) (fieldsAt count (now (line .entry)) at)) ⌝ }
 {
-    let run = fields::fields_at(line, at, count);
+    let run = fields::last_fields_at(line, at, count);
     match run {
-        Run::Fields { largest, next } => {
-            if line.len() <= next {
-                return Form::Wrong;
-            }
-            if line[next] != 10 {
-                return Form::Wrong;
-            }
-            if line.len() != next + 1 {
-                return Form::Wrong;
-            }
-            Form::Right {
-                letter,
-                row,
-                post,
-                at,
-                count,
-                largest,
-            }
-        }
+        Run::Fields { largest, next: _ } => Form::Right {
+            letter,
+            row,
+            post,
+            at,
+            count,
+            largest,
+        },
         Run::Broken => Form::Wrong,
     }
 }

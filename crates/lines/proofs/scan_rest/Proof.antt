@@ -1,12 +1,11 @@
 use borrow.Author.Needs.{needs}
-use Rattle.lines.proofs.Scanning.{rest-broken, rest-short, rest-byte, rest-long, rest-right}
+use Rattle.lines.proofs.Scanning.{rest-broken, rest-found}
 use Rattle.lines.proofs.scan_rest.Statement.{statement}
 use Rattle.lines.proofs.scan_rest.Tie as tie
 
-ruleset turns = (needs, rest-broken, rest-short, rest-byte, rest-long, rest-right)
+ruleset turns = (needs, rest-broken, rest-found)
 
 pub scan-rest-spec : {M : Type 1} → statement M
 scan-rest-spec =
     tie.close
-    (tie.spec (λ c κs. search turns) (λ c. search turns) (λ c. search turns) (λ c. search turns) (λ c. search turns)
-    (λ c. search turns) (λ c. search turns) (λ c. search turns) (λ c. search turns) (λ c. search turns))
+    (tie.spec (λ c κs. search turns) (λ c. search turns) (λ c. search turns) (λ c. search turns) (λ c. search turns))
