@@ -2,13 +2,12 @@
 use Prim.Native.Nat.{ℕ, zero, suc, _+_, _-_, _*_, _≤_, _<_}
 use mathlib.Core.Path.{_≡_, refl, ap, sym, _∙_}
 use mathlib.Core.List.{List, [], _∷_, _++_}
-use mathlib.Core.Bool.{Bool, true, false, not, _&&_, _||_, or-true}
+use mathlib.Core.Bool.{Bool, true, false, not, _||_, or-true}
 use native.Mathlib.Omega.{arith}
 use borrow.Author.Tests.{le-leb, ne-eqb, leb-true, eqb-false, not-true}
 use lib.ListN.{length, getD, take, drop, take-append-drop, List·getD-append}
 use lib.Seq.{take-at, length-take-le, getD-take}
 use lib.Dec.{leb, eqb}
-use Rattle.decimal.specs.declared.Field.{Field}
 use Rattle.decimal.specs.declared.Field.the-variants.{Number, Wrong}
 use Rattle.decimal.specs.Numeral.{choose, tens, lastDigits, sizeWithin, size, numeral, leading, valueAfter, wellFormed, fieldOf}
 use Rattle.decimal.proofs.Digits.{Digits, and-true, tens-grow, length-digits, digits-are-digits, leading-append, leading-le, leading-are-digits, value-digits, digits-value, value-below}

@@ -7,7 +7,7 @@ use native.Mathlib.Omega.{arith}
 use borrow.Author.Tests.{lt-ltb, le-ltb, ltb-true, ltb-false}
 use lib.ListN.{length, getD, List·getD-append}
 use lib.Dec.{ltb}
-use Rattle.decimal.specs.Numeral.{choose, tens, lastDigits, sizeWithin, size, valueAfter}
+use Rattle.decimal.specs.Numeral.{choose, tens, lastDigits, sizeWithin, valueAfter}
 use Rattle.decimal.proofs.Digits.{Digits, length-digits}
 
 pub size-pos : (f x : ℕ) → 1 ≤ sizeWithin f x

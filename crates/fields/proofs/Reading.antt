@@ -1,5 +1,5 @@
 -- Fields, both ways: what is written is read, and what is read is what is written.
-use Prim.Native.Nat.{ℕ, zero, suc, _+_, _-_, _≤_, _<_}
+use Prim.Native.Nat.{ℕ, zero, suc, _+_, _≤_}
 use mathlib.Core.Path.{_≡_, refl, ap, sym, _∙_}
 use mathlib.Core.List.{List, [], _∷_, _++_, append-assoc}
 use mathlib.Core.Bool.{Bool, true, false, _&&_}
@@ -10,7 +10,7 @@ use lib.Seq.{drop-drop, getD-at}
 use lib.Dec.{eqb}
 use Rattle.decimal.specs.declared.Field.{Field}
 use Rattle.decimal.specs.declared.Field.the-variants.{Number, Wrong}
-use Rattle.decimal.specs.Numeral.{choose, tens, size, numeral, leading, fieldOf, fieldAt}
+use Rattle.decimal.specs.Numeral.{choose, size, numeral, leading, fieldOf, fieldAt}
 use Rattle.fields.specs.Fields.{field, fields, written, Parsed, parsed, malformed, push, behind, fieldsAt, ended, Small}
 use Rattle.decimal.proofs.Digits.{and-true}
 use Rattle.decimal.proofs.Numerals.{length-numeral, numeral-reads, number-is-numeral}

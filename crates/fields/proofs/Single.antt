@@ -1,6 +1,6 @@
 -- The first of several fields, read alone; the largest of their numbers.
-use Prim.Native.Nat.{ℕ, zero, suc, _+_, _≤_, _<_}
-use mathlib.Core.Path.{_≡_, refl, ap, sym, _∙_}
+use Prim.Native.Nat.{ℕ, suc, _+_, _≤_, _<_}
+use mathlib.Core.Path.{_≡_, refl, sym, _∙_}
 use mathlib.Core.List.{List, [], _∷_}
 use mathlib.Core.Bool.{Bool, true, false}
 use native.Mathlib.Omega.{arith}
@@ -12,7 +12,7 @@ use Rattle.decimal.specs.declared.Field.the-variants.{Number, Wrong}
 use Rattle.fields.specs.declared.Run.{Run}
 use Rattle.fields.specs.declared.Run.the-variants.{Fields, Broken}
 use Rattle.decimal.specs.Numeral.{choose, fieldAt}
-use Rattle.fields.specs.Fields.{Parsed, parsed, malformed, push, behind, fieldsAt, runOf, largestFrom, Narrow}
+use Rattle.fields.specs.Fields.{parsed, malformed, push, behind, fieldsAt, runOf, largestFrom, Narrow}
 
 -- the largest of one number is the number
 largest-one : (x : ℕ) → choose (ltb 0 x) x 0 ≡ x

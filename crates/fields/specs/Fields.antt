@@ -1,7 +1,7 @@
 -- Document 01, "Broadcast lines": "fields parted by commas". Here every field stands behind its comma.
 use Prim.Native.Nat.{ℕ, zero, suc, _+_, _-_, _<_}
 use mathlib.Core.List.{List, [], _∷_, _++_}
-use mathlib.Core.Bool.{Bool, true, false, _&&_}
+use mathlib.Core.Bool.{_&&_}
 use lib.ListN.{length, getD, take, drop, replicate}
 use lib.Dec.{eqb, ltb}
 use Rattle.decimal.specs.declared.Field.{Field}

@@ -1,21 +1,21 @@
 -- "The longest line has 712 bytes": a formula in n and the number of coefficients, and the line that has it.
-use Prim.Native.Nat.{ℕ, zero, suc, _+_, _-_, _*_, _≤_, _<_}
-use mathlib.Core.Path.{_≡_, refl, ap, sym, _∙_}
-use mathlib.Core.List.{List, [], _∷_, _++_}
+use Prim.Native.Nat.{ℕ, zero, suc, _+_, _-_, _*_, _≤_}
+use mathlib.Core.Path.{_≡_, refl}
+use mathlib.Core.List.{[], _∷_, _++_}
 use mathlib.Core.Bool.{Bool, true, false}
 use native.Mathlib.Omega.{arith}
 use borrow.Author.Tests.{le-ltb}
 use lib.ListN.{length, replicate, length-append, length-replicate}
 use lib.Dec.{eqb}
-use Rattle.refusal.specs.Conditions.{or, outside, beyond, anyBeyond}
+use Rattle.refusal.specs.Conditions.{outside, anyBeyond}
 use Rattle.refusal.proofs.Laws.{inside}
 use Rattle.decimal.specs.Numeral.{choose, sizeWithin, size}
 use Rattle.decimal.proofs.Sizes.{size-pos, size-grows}
 use Rattle.fields.specs.Fields.{field, fields, written}
 use Rattle.fields.proofs.Overwriting.{length-field, length-fields-le}
 use Rattle.fields.proofs.Laying.{length-written}
-use Rattle.lines.specs.Lines.{Message, masks, fieldsOf, text, lastRow}
-use Rattle.lines.specs.Reading.{numberCount, Sent}
+use Rattle.lines.specs.Lines.{Message, masks, text}
+use Rattle.lines.specs.Reading.{Sent}
 use Rattle.lines.proofs.Refusing.{last-row-le}
 use Rattle.lines.proofs.RoundTrip.{InRange, in-range}
 

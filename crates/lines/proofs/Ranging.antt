@@ -1,5 +1,5 @@
 -- The range of a line's numbers, and the ways in which reading ends.
-use Prim.Native.Nat.{ℕ, zero, suc, _+_, _-_, _*_, _≤_, _<_}
+use Prim.Native.Nat.{ℕ, _+_, _*_, _≤_, _<_}
 use mathlib.Core.Path.{_≡_, refl, ap, sym, _∙_}
 use mathlib.Core.List.{List, [], _∷_, _++_}
 use mathlib.Core.Bool.{Bool, true, false, not}
@@ -12,16 +12,16 @@ use Rattle.refusal.specs.Refusal.{Test, _when_, first, outcome}
 use Rattle.refusal.specs.Conditions.{or, outside, missized, beyond, anyBeyond, postsTests}
 use Rattle.refusal.proofs.Laws.{or-false}
 use Rattle.refusal.proofs.Elements.{below-p}
-use Rattle.refusal.proofs.Endings.{refused, accepted}
+use Rattle.refusal.proofs.Endings.{refused}
 use Rattle.decimal.specs.Numeral.{choose}
-use Rattle.fields.specs.Fields.{Parsed, parsed, fieldsAt, largestFrom, numbersOf, Fillable, padded}
+use Rattle.fields.specs.Fields.{Parsed, fieldsAt, largestFrom, numbersOf, Fillable, padded}
 use Rattle.fields.proofs.Single.{largest-narrow}
 use Rattle.fields.proofs.Reading.{fields-spelled}
 use Rattle.lines.specs.declared.Line.{Line}
 use Rattle.lines.specs.declared.Form.{Form}
 use Rattle.lines.specs.declared.Form.the-variants.{Right, Wrong}
 use Rattle.lines.specs.Lines.{Message, lastRow, lineRefusal}
-use Rattle.lines.specs.Reading.{numberCount, fieldCount, formOf, messageOf, message, outOfRange, beyondRange, lineTests, noLine, lineAs, listAs, headOf, Scanned, ScanOf}
+use Rattle.lines.specs.Reading.{fieldCount, formOf, messageOf, message, outOfRange, beyondRange, lineTests, noLine, lineAs, listAs, headOf, Scanned, ScanOf}
 use Rattle.lines.proofs.Forms.{form-spelled}
 use Rattle.lines.proofs.Refusing.{posts-refuse, posts-pass}
 

@@ -1,5 +1,5 @@
 -- The checks of a line to be written, one after the other, and the two ways in which writing ends.
-use Prim.Native.Nat.{ℕ, suc, _+_, _-_, _*_, _≤_, _<_}
+use Prim.Native.Nat.{ℕ, _+_, _-_, _*_, _≤_, _<_}
 use mathlib.Core.Path.{_≡_, refl, ap, sym, _∙_}
 use mathlib.Core.List.{List, [], _∷_, _++_}
 use mathlib.Core.Bool.{Bool, true, false}
@@ -10,7 +10,7 @@ use mir.Val.{Fits}
 use lib.ListN.{length}
 use lib.Dec.{ltb, eqb}
 use Rattle.refusal.specs.Refusal.{Test, _when_, first, outcome}
-use Rattle.refusal.specs.Conditions.{outside, beyond, anyBeyond, postsTests}
+use Rattle.refusal.specs.Conditions.{beyond, anyBeyond, postsTests}
 use Rattle.refusal.proofs.Laws.{AllFail, joined-first, joined-rest, all-fail, inside}
 use Rattle.refusal.proofs.Endings.{refused, accepted}
 use Rattle.decimal.specs.Numeral.{choose}

@@ -1,20 +1,20 @@
 -- Whole lines, both ways: a written line reads back to its message, and a line read is the one that is written.
-use Prim.Native.Nat.{ℕ, zero, suc, _+_, _-_, _*_, _≤_, _<_}
+use Prim.Native.Nat.{ℕ, _+_, _*_, _≤_, _<_}
 use mathlib.Core.Path.{_≡_, refl, ap, sym, _∙_}
-use mathlib.Core.List.{List, [], _∷_, _++_}
+use mathlib.Core.List.{List, [], _∷_}
 use mathlib.Core.Bool.{Bool, true, false}
 use native.Mathlib.Omega.{arith}
 use borrow.Author.Tests.{eq-eqb, ltb-false, eqb-true}
 use lib.ListN.{length, getD, drop, length-drop}
 use lib.Dec.{ltb, eqb}
-use Rattle.refusal.specs.Refusal.{_when_, first}
-use Rattle.refusal.specs.Conditions.{or, outside, beyond, anyBeyond}
+use Rattle.refusal.specs.Refusal.{first}
+use Rattle.refusal.specs.Conditions.{outside, beyond, anyBeyond}
 use Rattle.refusal.proofs.Laws.{or-false, inside, all-fail}
 use Rattle.refusal.proofs.Elements.{below-p}
 use Rattle.decimal.specs.Numeral.{choose, tens}
 use Rattle.fields.specs.Fields.{fields, written, Parsed, parsed, malformed, numbersOf, Small}
 use Rattle.lines.specs.Lines.{Message, fieldsOf, text, lastRow}
-use Rattle.lines.specs.Reading.{isLetter, numberCount, fieldCount, formOf, messageOf, message, isMalformed, outOfRange, beyondRange, lineTests, Sent}
+use Rattle.lines.specs.Reading.{numberCount, fieldCount, formOf, messageOf, message, isMalformed, beyondRange, lineTests, Sent}
 use Rattle.lines.proofs.Forms.{form-spelled, form-read}
 use Rattle.lines.proofs.Refusing.{last-row-le}
 

@@ -1,8 +1,8 @@
 -- The scan of a line: each way in which it ends.
-use Prim.Native.Nat.{ℕ, zero, suc, _+_, _-_, _*_, _≤_, _<_, _^_}
+use Prim.Native.Nat.{ℕ, suc, _+_, _*_, _≤_, _<_}
 use mathlib.Core.Path.{_≡_, refl, ap, sym, _∙_}
 use mathlib.Core.List.{List, [], _∷_, _++_}
-use mathlib.Core.Bool.{Bool, true, false, _&&_, _||_}
+use mathlib.Core.Bool.{Bool, true, false, _&&_}
 use native.Mathlib.Omega.{arith}
 use borrow.Author.Tests.{eq-eqb, ne-eqb}
 use lib.ListN.{length, getD, List·getD-eq-default}
@@ -14,7 +14,7 @@ use Rattle.fields.specs.Fields.{Parsed, parsed, malformed, push, fieldsAt, ende
 use Rattle.fields.proofs.Single.{first-found, first-broken}
 use Rattle.lines.specs.declared.Form.{Form}
 use Rattle.lines.specs.declared.Form.the-variants.{Right, Wrong}
-use Rattle.lines.specs.Reading.{isLetter, numberCount, fieldCount, formOf, headOf, Scanned, ScanOf, scanRest}
+use Rattle.lines.specs.Reading.{isLetter, numberCount, fieldCount, formOf, headOf, ScanOf, scanRest}
 
 -- ---- the numbers behind row and post
 module _ (s : List ℕ) (letter row post at count : ℕ) (r : Run) (e : r ≡ runOf (ended s (fieldsAt count s at))) where

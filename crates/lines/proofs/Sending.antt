@@ -1,14 +1,12 @@
 -- From writing to reading: a line that a writer takes is one that posts send, and the reader takes it back.
-use Prim.Native.Nat.{ℕ, zero, suc, _+_, _-_, _*_, _≤_, _<_}
-use mathlib.Core.Path.{_≡_, refl, ap, sym, _∙_}
-use mathlib.Core.List.{List, [], _∷_, _++_}
-use mathlib.Core.Bool.{Bool, true, false}
+use Prim.Native.Nat.{ℕ, _+_, _*_, _<_}
+use mathlib.Core.Path.{_≡_, refl, sym, _∙_}
+use mathlib.Core.List.{List, _∷_}
 use native.Mathlib.Omega.{arith}
 use borrow.Author.Tests.{eq-eqb}
 use lib.ListN.{length}
-use lib.Dec.{ltb}
 use Rattle.refusal.specs.Refusal.{Test, _when_, first}
-use Rattle.refusal.specs.Conditions.{or, outside, missized, beyond, anyBeyond, postsTests}
+use Rattle.refusal.specs.Conditions.{missized, anyBeyond, postsTests}
 use Rattle.refusal.proofs.Laws.{first-join, orElse-zero, all-fail, inside, equal}
 use Rattle.decimal.specs.Numeral.{tens}
 use Rattle.lines.specs.Lines.{Message, deal, opening, masks, text, lineRefusal}
