@@ -80,17 +80,17 @@ pub fn field_at(line: &[u8], at: usize) -> Field
     let end = digits_end(line, at);
     let k = end - at;
     if k < 1 {
-        return Field::Wrong;
+        return Field::Wrong; // no digit
     }
     if 10 < k {
-        return Field::Wrong;
+        return Field::Wrong; // too many digits
     }
     let value = value_of(line, at, end);
     if k == 1 {
         return Field::Number { value, next: end };
     }
     if line[at] == 48 {
-        return Field::Wrong;
+        return Field::Wrong; // a leading zero
     }
     Field::Number { value, next: end }
 }

@@ -85,10 +85,10 @@ pub fn fields_at(line: &[u8], at: usize, k: usize) -> Run
     let mut largest: u64 = 0;
     for i in 0..k {
         if line.len() <= pos {
-            return Run::Broken;
+            return Run::Broken; // the line has ended
         }
         if line[pos] != 44 {
-            return Run::Broken;
+            return Run::Broken; // no comma
         }
         let f = decimal::read_field(line, pos + 1);
         match f {
@@ -112,13 +112,13 @@ pub fn last_fields_at(line: &[u8], at: usize, k: usize) -> Run
     match run {
         Run::Fields { largest, next } => {
             if line.len() <= next {
-                return Run::Broken;
+                return Run::Broken; // nothing behind the fields
             }
             if line[next] != 10 {
-                return Run::Broken;
+                return Run::Broken; // no line feed
             }
             if line.len() != next + 1 {
-                return Run::Broken;
+                return Run::Broken; // bytes behind the line feed
             }
             Run::Fields { largest, next }
         }

@@ -1,8 +1,3 @@
 pub mod Refusing
-pub mod Forms
-pub mod Scanning
-pub mod Ranging
-pub mod RoundTrip
+pub mod Answers
 pub mod Sending
-pub mod Longest
-pub mod Cases

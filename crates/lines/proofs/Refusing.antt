@@ -2,29 +2,22 @@
 use Prim.Native.Nat.{ℕ, _+_, _-_, _*_, _≤_, _<_}
 use mathlib.Core.Path.{_≡_, refl, ap, sym, _∙_}
 use mathlib.Core.List.{List, [], _∷_, _++_}
-use mathlib.Core.Bool.{Bool, true, false}
 use native.Mathlib.Omega.{arith}
 use borrow.Author.Tests.{lt-ltb, le-ltb, eq-eqb, ne-eqb, ltb-false}
 use mir.Syntax.{w32, w64}
 use mir.Val.{Fits}
 use lib.ListN.{length}
-use lib.Dec.{ltb, eqb}
+use lib.Dec.{ltb}
 use Rattle.refusal.specs.Refusal.{Test, _when_, first, outcome}
 use Rattle.refusal.specs.Conditions.{beyond, anyBeyond, postsTests}
 use Rattle.refusal.proofs.Laws.{AllFail, joined-first, joined-rest, all-fail, inside}
 use Rattle.refusal.proofs.Endings.{refused, accepted}
-use Rattle.decimal.specs.Numeral.{choose}
 use Rattle.fields.specs.Fields.{written}
+use Rattle.forms.specs.Lines.{deal, text, lastRow}
+use Rattle.forms.proofs.Ranges.{last-row-le}
 use Rattle.lines.specs.declared.Written.{Written}
-use Rattle.lines.specs.Lines.{deal, text, lastRow, lineRefusal}
+use Rattle.lines.specs.Order.{lineRefusal}
 use Rattle.lines.specs.Writing.{postedTests, dealtTests, writtenAs}
-
-pub last-row-le : (letter : ℕ) → lastRow letter ≤ 95
-last-row-le letter = go (eqb letter 77)
-  where
-    go : (b : Bool) → choose b 93 95 ≤ 95
-    go true = omega arith
-    go false = omega arith
 
 -- ---- 3, 5, 6, 8 and 12 of a line with a post
 module _ (n letter count row post : ℕ) (xs : List ℕ) (room : ℕ) where

@@ -9,10 +9,12 @@ use Rattle.refusal.specs.Refusal.{Test, _when_, first}
 use Rattle.refusal.specs.Conditions.{missized, anyBeyond, postsTests}
 use Rattle.refusal.proofs.Laws.{first-join, orElse-zero, all-fail, inside, equal}
 use Rattle.decimal.specs.Numeral.{tens}
-use Rattle.lines.specs.Lines.{Message, deal, opening, masks, text, lineRefusal}
+use Rattle.forms.specs.Lines.{Message, deal, opening, masks, text}
+use Rattle.lines.specs.Order.{lineRefusal}
 use Rattle.lines.specs.Writing.{postedTests, dealtTests, dealRefusal, openingRefusal, masksRefusal}
-use Rattle.lines.specs.Reading.{message, lineTests, readRefusal, Sent}
-use Rattle.lines.proofs.RoundTrip.{written-reads-back}
+use Rattle.forms.specs.Forms.{message, lineTests, Sent}
+use Rattle.lines.specs.Reading.{readRefusal}
+use Rattle.forms.proofs.RoundTrip.{written-reads-back}
 
 -- what stands behind 1 and 2
 both-zero : (n t : ℕ) (ys : List Test) → lineRefusal n t ys ≡ 0 → (first (postsTests n t) ≡ 0) × (first ys ≡ 0)

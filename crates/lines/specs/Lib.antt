@@ -1,3 +1,3 @@
-pub mod Lines
+pub mod Order
 pub mod Writing
 pub mod Reading

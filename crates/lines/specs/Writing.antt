@@ -6,8 +6,9 @@ use lib.Dec.{ltb}
 use Rattle.refusal.specs.Refusal.{Test, _when_, outcome}
 use Rattle.refusal.specs.Conditions.{outside, missized, beyond, anyBeyond}
 use Rattle.fields.specs.Fields.{written, overwrite}
+use Rattle.forms.specs.Lines.{deal, text, lastRow}
 use Rattle.lines.specs.declared.Written.{Written}
-use Rattle.lines.specs.Lines.{deal, text, lastRow, lineRefusal}
+use Rattle.lines.specs.Order.{lineRefusal}
 
 -- 3, 5, 6, 8 and 12 of a line with a post and `count` numbers.
 abbrev pub postedTests : ℕ → ℕ → ℕ → ℕ → ℕ → List ℕ → ℕ → List Test

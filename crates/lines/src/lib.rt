@@ -4,13 +4,12 @@ ghost use Prim.Native.Nat.{_+_, _*_, _≤_};
 ghost use mathlib.Core.List.{_∷_};
 ghost use lib.ListN.{length};
 ghost use Rattle.refusal.specs.Refusal.{first};
-ghost use Rattle.refusal.specs.Conditions.{beyond};
-ghost use Rattle.decimal.specs.Numeral.{choose};
-ghost use Rattle.fields.specs.Fields.{written, fieldsAt, ended};
-ghost use Rattle.lines.specs.Lines.{text, deal, opening, masks, lastRow};
+ghost use Rattle.fields.specs.Fields.{written};
+ghost use Rattle.forms.specs.Lines.{text, deal, opening, masks};
+ghost use Rattle.forms.specs.Forms.{message, lineTests};
 ghost use Rattle.lines.specs.Writing.{postedTests, dealtTests, dealRefusal, openingRefusal, masksRefusal, writtenAs, partAs};
-ghost use Rattle.lines.specs.Reading.{isLetter, numberCount, formOf, message, outOfRange, lineTests, readRefusal, noLine, lineAs, listAs, ScanOf, scanRest};
-use fields::Run;
+ghost use Rattle.lines.specs.Reading.{readRefusal, noLine, lineAs, listAs};
+use forms::Form;
 
 // The answer of a writer: the refusal, and the line's length.
 pub struct Written {
@@ -24,25 +23,6 @@ pub struct Line {
     pub letter: u8,
     pub row: usize,
     pub post: usize,
-}
-
-// What the scan of a line finds: where its numbers stand behind row and post, how many, and the largest.
-enum Form {
-    Right {
-        letter: u8,
-        row: u64,
-        post: u64,
-        at: usize,
-        count: usize,
-        largest: u64,
-    },
-    Wrong,
-}
-
-fn last_row(letter: u8) -> usize
-    ensures { λ r. ⌜ r ≡ lastRow letter ⌝ }
-{
-    if letter == 77 { 93 } else { 95 }
 }
 
 // 3, 5, 6, 8 and 12 of a line with a post.
@@ -67,7 +47,7 @@ fn posted_refusal(
     if numbers.len() != count {
         return 5;
     }
-    if last_row(letter) < row {
+    if forms::last_row(letter) < row {
         return 6;
     }
     let beyond = refusal::numbers(numbers);
@@ -203,93 +183,6 @@ pub fn write_masks(
     write_posted(n, 77, 2 * (t + 1), row, post, coefficients, out)
 }
 
-// How many numbers stand behind row and post; 0 where the byte is no letter of a line.
-fn number_count(letter: u8, k: usize) -> usize
-    requires { ⌜ k ≤ 4294967296 ⌝ }
-    ensures { λ r. ⌜ r ≡ choose (isLetter letter) (numberCount k letter) 0 ⌝ }
-{
-    if letter == 68 {
-        return 1;
-    }
-    if letter == 79 {
-        return k;
-    }
-    if letter == 77 {
-        return 2 * k;
-    }
-    0
-}
-
-// The numbers behind a line's row and post, up to the line feed that ends it.
-fn scan_rest(line: &[u8], letter: u8, row: u64, post: u64, at: usize, count: usize) -> Form
-    ensures { λ r. ⌜ r ≡ scanRest letter row post at count (ended (now (line .entry)) (fieldsAt count (now (line .entry)) at)) ⌝ }
-{
-    let run = fields::last_fields_at(line, at, count);
-    match run {
-        Run::Fields { largest, next: _ } => Form::Right {
-            letter,
-            row,
-            post,
-            at,
-            count,
-            largest,
-        },
-        Run::Broken => Form::Wrong,
-    }
-}
-
-// The scan of a line: its letter, row and post, and where its numbers stand.
-fn scan(line: &[u8], k: usize) -> Form
-    requires { ⌜ (1 ≤ k) × (k ≤ 4294967296) ⌝ }
-    ensures { λ r. ⌜ ScanOf (formOf k (now (line .entry))) (now (line .entry)) r ⌝ }
-{
-    if line.len() < 1 {
-        return Form::Wrong;
-    }
-    let letter = line[0];
-    let count = number_count(letter, k);
-    if count < 1 {
-        return Form::Wrong;
-    }
-    let run = fields::fields_at(line, 1, 1);
-    match run {
-        Run::Fields { largest, next } => {
-            let row = largest;
-            if letter == 68 {
-                return scan_rest(line, letter, row, 0, next, count);
-            }
-            let second = fields::fields_at(line, next, 1);
-            match second {
-                Run::Fields { largest, next } => scan_rest(line, letter, row, largest, next, count),
-                Run::Broken => Form::Wrong,
-            }
-        }
-        Run::Broken => Form::Wrong,
-    }
-}
-
-// 11, of a line's row and post and the largest of its numbers.
-fn out_of_range(n: usize, letter: u8, row: u64, post: u64, largest: u64) -> bool
-    ensures { λ r. ⌜ r ≡ outOfRange n letter row post (beyond largest) ⌝ }
-{
-    if 2147483647 <= largest {
-        return true;
-    }
-    if (last_row(letter) as u64) < row {
-        return true;
-    }
-    if letter == 68 {
-        return false;
-    }
-    if post < 1 {
-        return true;
-    }
-    if (n as u64) < post {
-        return true;
-    }
-    false
-}
-
 fn no_line(refusal: u8) -> Line
     ensures { λ r. ⌜ r ≡ noLine refusal ⌝ }
 {
@@ -307,7 +200,7 @@ fn read_line(n: usize, k: usize, line: &[u8], out: &mut [u32]) -> Line
     ensures { λ r. ⌜ r ≡ lineAs (first (lineTests n k (now (line .entry)))) (message k (now (line .entry))) ⌝ }
     ensures { λ r. ⌜ now (out .exit) ≡ listAs (first (lineTests n k (now (line .entry)))) (message k (now (line .entry))) (now (out .entry)) ⌝ }
 {
-    let form = scan(line, k);
+    let form = forms::scan(line, k);
     match form {
         Form::Right {
             letter,
@@ -317,7 +210,7 @@ fn read_line(n: usize, k: usize, line: &[u8], out: &mut [u32]) -> Line
             count,
             largest,
         } => {
-            if out_of_range(n, letter, row, post, largest) {
+            if forms::out_of_range(n, letter, row, post, largest) {
                 return no_line(11);
             }
             fields::fill_front(line, at, count, out);

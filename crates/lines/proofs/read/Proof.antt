@@ -1,6 +1,6 @@
 use borrow.Author.Needs.{needs}
 use Rattle.lines.proofs.Refusing.{posts-keep, posts-one, posts-add, posts-mul}
-use Rattle.lines.proofs.Ranging.{posts-line, missized-line, missized-list, sized-line, sized-list}
+use Rattle.lines.proofs.Answers.{posts-line, missized-line, missized-list, sized-line, sized-list}
 use Rattle.lines.proofs.read.Statement.{statement}
 use Rattle.lines.proofs.read.Tie as tie
 

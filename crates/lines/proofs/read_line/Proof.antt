@@ -1,5 +1,5 @@
 use borrow.Author.Needs.{needs}
-use Rattle.lines.proofs.Ranging.{malformed-line, malformed-list, beyond-line, beyond-list, taken-line, taken-list, taken-fillable, taken-room}
+use Rattle.lines.proofs.Answers.{malformed-line, malformed-list, beyond-line, beyond-list, taken-line, taken-list, taken-fillable, taken-room}
 use Rattle.lines.proofs.read_line.Statement.{statement}
 use Rattle.lines.proofs.read_line.Tie as tie
 

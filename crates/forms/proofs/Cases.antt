@@ -6,8 +6,8 @@ use Rattle.refusal.specs.Refusal.{first}
 use Rattle.refusal.specs.Conditions.{anyBeyond}
 use Rattle.decimal.specs.Numeral.{lastDigits, sizeWithin, leading, valueAfter, fieldOf}
 use Rattle.fields.specs.Fields.{fields, fieldsAt}
-use Rattle.lines.specs.Lines.{deal, text}
-use Rattle.lines.specs.Reading.{formOf, message, lineTests}
+use Rattle.forms.specs.Lines.{deal, text}
+use Rattle.forms.specs.Forms.{formOf, message, lineTests}
 
 -- `D,0,93` and a line feed
 abbrev pub dealt93 : List ℕ

@@ -1,7 +1,7 @@
 use borrow.Author.Needs.{needs}
-use Rattle.lines.proofs.Ranging.{largest-beyond, row-beyond, deal-within, post-zero, post-beyond, all-within}
-use Rattle.lines.proofs.out_of_range.Statement.{statement}
-use Rattle.lines.proofs.out_of_range.Tie as tie
+use Rattle.forms.proofs.Ranges.{largest-beyond, row-beyond, deal-within, post-zero, post-beyond, all-within}
+use Rattle.forms.proofs.out_of_range.Statement.{statement}
+use Rattle.forms.proofs.out_of_range.Tie as tie
 
 ruleset turns = (needs, largest-beyond, row-beyond, deal-within, post-zero, post-beyond, all-within)
 

@@ -1,9 +1,7 @@
 -- Document 01, "Broadcast lines": the three lines and their text. 68, 79 and 77 are `D`, `O` and `M`.
 use Prim.Native.Nat.{ℕ}
-use mathlib.Core.List.{List, [], _∷_, _++_}
+use mathlib.Core.List.{List, [], _∷_}
 use lib.Dec.{eqb}
-use Rattle.refusal.specs.Refusal.{Test, first}
-use Rattle.refusal.specs.Conditions.{postsTests}
 use Rattle.decimal.specs.Numeral.{choose}
 use Rattle.fields.specs.Fields.{written}
 
@@ -35,7 +33,3 @@ text m = written (m .letter) (fieldsOf m)
 -- "row above 95, or a triple's first above 93"
 abbrev pub lastRow : ℕ → ℕ
 lastRow letter = choose (eqb letter 77) 93 95
-
--- "Reading and writing lines check 1 and 2 first": then the tests of the call.
-unfoldable pub lineRefusal : ℕ → ℕ → List Test → ℕ
-lineRefusal n t tests = first (postsTests n t ++ tests)

@@ -1,7 +1,7 @@
 use borrow.Author.Needs.{needs}
-use Rattle.lines.proofs.Scanning.{rest-broken, rest-found}
-use Rattle.lines.proofs.scan_rest.Statement.{statement}
-use Rattle.lines.proofs.scan_rest.Tie as tie
+use Rattle.forms.proofs.Scanning.{rest-broken, rest-found}
+use Rattle.forms.proofs.scan_rest.Statement.{statement}
+use Rattle.forms.proofs.scan_rest.Tie as tie
 
 ruleset turns = (needs, rest-broken, rest-found)
 

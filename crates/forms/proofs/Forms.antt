@@ -8,7 +8,7 @@ use lib.ListN.{length, getD}
 use Rattle.decimal.specs.Numeral.{choose}
 use Rattle.fields.specs.Fields.{fields, written, parsed, malformed, fieldsAt, ended, Small}
 use Rattle.fields.proofs.Reading.{line-read, line-spelled}
-use Rattle.lines.specs.Reading.{isLetter, fieldCount, formOf}
+use Rattle.forms.specs.Forms.{isLetter, fieldCount, formOf}
 
 -- a line of the right form
 pub record Formed (k : ℕ) (s xs : List ℕ) : Type 0 where

@@ -1,7 +1,7 @@
 use borrow.Author.Needs.{needs}
-use Rattle.lines.proofs.Scanning.{scan-empty, scan-letter, scan-no-row, scan-deal, scan-no-post, scan-posted}
-use Rattle.lines.proofs.scan.Statement.{statement}
-use Rattle.lines.proofs.scan.Tie as tie
+use Rattle.forms.proofs.Scanning.{scan-empty, scan-letter, scan-no-row, scan-deal, scan-no-post, scan-posted}
+use Rattle.forms.proofs.scan.Statement.{statement}
+use Rattle.forms.proofs.scan.Tie as tie
 
 ruleset turns = (needs, scan-empty, scan-letter, scan-no-row, scan-deal, scan-no-post, scan-posted)
 

@@ -14,10 +14,10 @@ use Rattle.decimal.proofs.Sizes.{size-pos, size-grows}
 use Rattle.fields.specs.Fields.{field, fields, written}
 use Rattle.fields.proofs.Overwriting.{length-field, length-fields-le}
 use Rattle.fields.proofs.Laying.{length-written}
-use Rattle.lines.specs.Lines.{Message, masks, text}
-use Rattle.lines.specs.Reading.{Sent}
-use Rattle.lines.proofs.Refusing.{last-row-le}
-use Rattle.lines.proofs.RoundTrip.{InRange, in-range}
+use Rattle.forms.specs.Lines.{Message, masks, text}
+use Rattle.forms.specs.Forms.{Sent}
+use Rattle.forms.proofs.Ranges.{last-row-le}
+use Rattle.forms.proofs.RoundTrip.{InRange, in-range}
 
 -- letter, row, post, 2k coefficients of 10 digits, line feed, and the commas
 abbrev pub longest : ℕ → ℕ → ℕ

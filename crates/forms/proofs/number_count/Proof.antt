@@ -1,7 +1,7 @@
 use borrow.Author.Needs.{needs}
 use Rattle.refusal.proofs.Endings.{tests}
-use Rattle.lines.proofs.number_count.Statement.{statement}
-use Rattle.lines.proofs.number_count.Tie as tie
+use Rattle.forms.proofs.number_count.Statement.{statement}
+use Rattle.forms.proofs.number_count.Tie as tie
 
 ruleset turns = (needs, tests)
 

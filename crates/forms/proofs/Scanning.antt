@@ -12,9 +12,9 @@ use Rattle.fields.specs.declared.Run.{Run}
 use Rattle.fields.specs.declared.Run.the-variants.{Fields, Broken}
 use Rattle.fields.specs.Fields.{Parsed, parsed, malformed, push, fieldsAt, ended, runOf, largestFrom}
 use Rattle.fields.proofs.Single.{first-found, first-broken}
-use Rattle.lines.specs.declared.Form.{Form}
-use Rattle.lines.specs.declared.Form.the-variants.{Right, Wrong}
-use Rattle.lines.specs.Reading.{isLetter, numberCount, fieldCount, formOf, headOf, ScanOf, scanRest}
+use Rattle.forms.specs.declared.Form.{Form}
+use Rattle.forms.specs.declared.Form.the-variants.{Right, Wrong}
+use Rattle.forms.specs.Forms.{isLetter, numberCount, fieldCount, formOf, headOf, ScanOf, scanRest}
 
 -- ---- the numbers behind row and post
 module _ (s : List ℕ) (letter row post at count : ℕ) (r : Run) (e : r ≡ runOf (ended s (fieldsAt count s at))) where

@@ -1,7 +1,7 @@
 use borrow.Author.Needs.{needs}
 use Rattle.refusal.proofs.Endings.{tests}
-use Rattle.lines.proofs.last_row.Statement.{statement}
-use Rattle.lines.proofs.last_row.Tie as tie
+use Rattle.forms.proofs.last_row.Statement.{statement}
+use Rattle.forms.proofs.last_row.Tie as tie
 
 ruleset turns = (needs, tests)
 

@@ -13,10 +13,10 @@ use Rattle.refusal.proofs.Laws.{or-false, inside, all-fail}
 use Rattle.refusal.proofs.Elements.{below-p}
 use Rattle.decimal.specs.Numeral.{choose, tens}
 use Rattle.fields.specs.Fields.{fields, written, Parsed, parsed, malformed, numbersOf, Small}
-use Rattle.lines.specs.Lines.{Message, fieldsOf, text, lastRow}
-use Rattle.lines.specs.Reading.{numberCount, fieldCount, formOf, messageOf, message, isMalformed, beyondRange, lineTests, Sent}
-use Rattle.lines.proofs.Forms.{form-spelled, form-read}
-use Rattle.lines.proofs.Refusing.{last-row-le}
+use Rattle.forms.specs.Lines.{Message, fieldsOf, text, lastRow}
+use Rattle.forms.specs.Forms.{numberCount, fieldCount, formOf, messageOf, message, isMalformed, beyondRange, lineTests, Sent}
+use Rattle.forms.proofs.Forms.{form-spelled, form-read}
+use Rattle.forms.proofs.Ranges.{last-row-le}
 
 -- ---- what the range says
 none-beyond : (xs : List ℕ) → anyBeyond xs ≡ false → Small xs
