@@ -1,12 +1,13 @@
 -- Writing a line: which refusal, and what a call leaves.
 use Prim.Native.Nat.{ℕ, _+_, _*_}
 use mathlib.Core.List.{List, [], _∷_}
-use lib.ListN.{length}
-use lib.Dec.{ltb}
+use lib.ListN.{length, getD}
+use lib.Dec.{eqb, ltb}
 use Rattle.refusal.specs.Refusal.{Test, _when_, outcome}
 use Rattle.refusal.specs.Conditions.{outside, missized, beyond, anyBeyond}
+use Rattle.decimal.specs.Numeral.{choose}
 use Rattle.fields.specs.Fields.{written, overwrite}
-use Rattle.forms.specs.Lines.{deal, text, lastRow}
+use Rattle.forms.specs.Lines.{Message, deal, text, lastRow}
 use Rattle.lines.specs.declared.Written.{Written}
 use Rattle.lines.specs.Order.{lineRefusal}
 
@@ -32,6 +33,13 @@ openingRefusal n t row post xs room = lineRefusal n t (postedTests n 79 (t + 1) 
 
 abbrev pub masksRefusal : ℕ → ℕ → ℕ → ℕ → List ℕ → ℕ → ℕ
 masksRefusal n t row post xs room = lineRefusal n t (postedTests n 77 (2 * (t + 1)) row post xs room)
+
+-- The refusal of the call that writes a message, by its letter.
+abbrev pub writeRefusal : ℕ → ℕ → Message → ℕ → ℕ
+writeRefusal n t m room =
+    choose (eqb (m .letter) 68) (dealRefusal n t (m .row) (getD (m .numbers) 0 0) room)
+    (choose (eqb (m .letter) 79) (openingRefusal n t (m .row) (m .post) (m .numbers) room)
+    (masksRefusal n t (m .row) (m .post) (m .numbers) room))
 
 -- The answer: the line's length, or the refusal and 0.
 abbrev pub writtenAs : ℕ → List ℕ → Written
