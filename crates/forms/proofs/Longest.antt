@@ -1,5 +1,5 @@
 -- "The longest line has 712 bytes": a formula in n and the number of coefficients, and the line that has it.
-use Prim.Native.Nat.{ℕ, zero, suc, _+_, _-_, _*_, _≤_}
+use Prim.Native.Nat.{ℕ, zero, suc, _+_, _*_, _≤_}
 use mathlib.Core.Path.{_≡_, refl}
 use mathlib.Core.List.{[], _∷_, _++_}
 use mathlib.Core.Bool.{Bool, true, false}
@@ -89,6 +89,10 @@ pub longest-lines : (longest 32 32 ≡ 712) × (longest 255 255 ≡ 5619) × (lo
 unfolding sizeWithin
 longest-lines = (refl, refl, refl)
 
--- whatever t is, a line of n posts is at most as long as at t = n - 1
-pub longest-at : (n t : ℕ) → t ≤ n - 1 → 1 ≤ n → longest n (t + 1) ≤ longest n n
-longest-at n t h g = omega arith
+-- fewer posts, or a smaller t, make no line longer
+longest-grows : (n m t : ℕ) → n ≤ m → t + 1 ≤ n → longest n (t + 1) ≤ longest m m
+longest-grows n m t h g = omega (arith, size-grows 9 n m h)
+
+-- "The longest line has 712 bytes."
+pub at-most-712 : (n t : ℕ) (m : Message) → n ≤ 32 → t + 1 ≤ n → Sent n (t + 1) m → length (text m) ≤ 712
+at-most-712 n t m h g s = omega (arith, none-longer n (t + 1) m (omega arith) s, longest-grows n 32 t h g, longest-lines .0)

@@ -17,7 +17,7 @@ use Rattle.forms.specs.Lines.{deal, text, lastRow}
 use Rattle.forms.proofs.Ranges.{last-row-le}
 use Rattle.lines.specs.declared.Written.{Written}
 use Rattle.lines.specs.Order.{lineRefusal}
-use Rattle.lines.specs.Writing.{postedTests, dealtTests, writtenAs}
+use Rattle.lines.specs.Writing.{postedTests, dealtTests, notWritten, writtenAs}
 
 -- ---- 3, 5, 6, 8 and 12 of a line with a post
 module _ (n letter count row post : ℕ) (xs : List ℕ) (room : ℕ) where
@@ -147,13 +147,12 @@ module _ (n t f : ℕ) (e : f ≡ first (postsTests n t)) where
     posts-pass ys = joined-rest (postsTests n t) ys f (first ys) tt e z refl
 
 -- ---- the two ways in which writing ends
-pub refused-answer : (r x : ℕ) (line : List ℕ) → r ≡ x → (r ≡ 0 → ⊥) → _≡_ {A = Written} (record { refusal = r; len = 0 }) (writtenAs x line)
-refused-answer r x line e n =
-    ap (λ (k : ℕ). record { refusal = k; len = 0 }) e ∙ refused r x (record { refusal = 0; len = length line }) (record { refusal = x; len = 0 }) e n
+pub refused-answer : (v : Written) (r x : ℕ) (line : List ℕ) → v ≡ notWritten r → r ≡ x → (r ≡ 0 → ⊥) → v ≡ writtenAs x line
+refused-answer v r x line q e n = q ∙ ap notWritten e ∙ refused r x (record { refusal = 0; len = length line }) (notWritten x) e n
 
 pub written-answer : (r x k : ℕ) (line : List ℕ) → r ≡ x → r ≡ 0 → k ≡ length line → _≡_ {A = Written} (record { refusal = 0; len = k }) (writtenAs x line)
 written-answer r x k line e z q =
-    accepted r x (record { refusal = 0; len = k }) (record { refusal = 0; len = length line }) (record { refusal = x; len = 0 }) e z
+    accepted r x (record { refusal = 0; len = k }) (record { refusal = 0; len = length line }) (notWritten x) e z
     (ap (λ (m : ℕ). record { refusal = 0; len = m }) q)
 
 module _ (n t f : ℕ) (e : f ≡ first (postsTests n t)) (z : f ≡ 0) (ys : List Test) where

@@ -41,9 +41,12 @@ writeRefusal n t m room =
     (choose (eqb (m .letter) 79) (openingRefusal n t (m .row) (m .post) (m .numbers) room)
     (masksRefusal n t (m .row) (m .post) (m .numbers) room))
 
+abbrev pub notWritten : ℕ → Written
+notWritten refusal = record { refusal = refusal; len = 0 }
+
 -- The answer: the line's length, or the refusal and 0.
 abbrev pub writtenAs : ℕ → List ℕ → Written
-writtenAs refusal line = outcome refusal (record { refusal = 0; len = length line }) (record { refusal = refusal; len = 0 })
+writtenAs refusal line = outcome refusal (record { refusal = 0; len = length line }) (notWritten refusal)
 
 -- The part: the line at its start and "the rest of its part untouched", or nothing written.
 abbrev pub partAs : ℕ → List ℕ → List ℕ → List ℕ

@@ -7,7 +7,7 @@ ghost use Rattle.refusal.specs.Refusal.{first};
 ghost use Rattle.fields.specs.Fields.{written};
 ghost use Rattle.forms.specs.Lines.{text, deal, opening, masks};
 ghost use Rattle.forms.specs.Forms.{message, lineTests};
-ghost use Rattle.lines.specs.Writing.{postedTests, dealtTests, dealRefusal, openingRefusal, masksRefusal, writtenAs, partAs};
+ghost use Rattle.lines.specs.Writing.{postedTests, dealtTests, dealRefusal, openingRefusal, masksRefusal, notWritten, writtenAs, partAs};
 ghost use Rattle.lines.specs.Reading.{readRefusal, noLine, lineAs, listAs};
 use forms::Form;
 
@@ -23,6 +23,12 @@ pub struct Line {
     pub letter: u8,
     pub row: usize,
     pub post: usize,
+}
+
+fn not_written(refusal: u8) -> Written
+    ensures { λ r. ⌜ r ≡ notWritten refusal ⌝ }
+{
+    Written { refusal, len: 0 }
 }
 
 // 3, 5, 6, 8 and 12 of a line with a post.
@@ -77,10 +83,7 @@ fn write_posted(
 {
     let posted = posted_refusal(n, letter, count, row, post, numbers, out.len());
     if posted != 0 {
-        return Written {
-            refusal: posted,
-            len: 0,
-        };
+        return not_written(posted);
     }
     let head = [row as u32, post as u32];
     let len = fields::put_line(letter, &head, numbers, out);
@@ -113,10 +116,7 @@ fn write_dealt(row: usize, c: u32, out: &mut [u8]) -> Written
 {
     let dealt = dealt_refusal(row, c, out.len());
     if dealt != 0 {
-        return Written {
-            refusal: dealt,
-            len: 0,
-        };
+        return not_written(dealt);
     }
     let head = [row as u32];
     let number = [c];
@@ -131,10 +131,7 @@ pub fn write_deal(n: usize, t: usize, row: usize, c: u32, out: &mut [u8]) -> Wri
 {
     let posts = refusal::posts(n, t);
     if posts != 0 {
-        return Written {
-            refusal: posts,
-            len: 0,
-        };
+        return not_written(posts);
     }
     write_dealt(row, c, out)
 }
@@ -153,10 +150,7 @@ pub fn write_opening(
 {
     let posts = refusal::posts(n, t);
     if posts != 0 {
-        return Written {
-            refusal: posts,
-            len: 0,
-        };
+        return not_written(posts);
     }
     write_posted(n, 79, t + 1, row, post, coefficients, out)
 }
@@ -175,10 +169,7 @@ pub fn write_masks(
 {
     let posts = refusal::posts(n, t);
     if posts != 0 {
-        return Written {
-            refusal: posts,
-            len: 0,
-        };
+        return not_written(posts);
     }
     write_posted(n, 77, 2 * (t + 1), row, post, coefficients, out)
 }

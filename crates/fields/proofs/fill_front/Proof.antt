@@ -3,10 +3,10 @@ use Rattle.fields.proofs.Laying.{front-count, front-fillable, front-fil
 use Rattle.fields.proofs.fill_front.Statement.{statement}
 use Rattle.fields.proofs.fill_front.Tie as tie
 
-ruleset turns = (needs, front-count, front-fillable, front-filled)
+ruleset ends = (needs, front-count, front-fillable, front-filled)
 
 pub fill-front-spec : {M : Type 1} → statement M
 fill-front-spec =
     tie.close
-    (tie.spec (λ c. search turns) (λ c. search turns) (λ c κs. search turns) (λ c. search turns) (λ c. search turns)
-    (λ c. search turns) (λ c. search turns) (λ c κs. search turns) (λ c. search turns) (λ c. search turns))
+    (tie.spec (λ c. search ends) (λ c. search ends) (λ c κs. search ends) (λ c. search ends) (λ c. search ends)
+    (λ c. search ends) (λ c. search ends) (λ c κs. search ends) (λ c. search ends) (λ c. search ends))

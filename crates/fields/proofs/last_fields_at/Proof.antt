@@ -3,10 +3,10 @@ use Rattle.fields.proofs.Passing.{end-broken, end-short, end-byte, end-
 use Rattle.fields.proofs.last_fields_at.Statement.{statement}
 use Rattle.fields.proofs.last_fields_at.Tie as tie
 
-ruleset turns = (needs, end-broken, end-short, end-byte, end-long, end-there)
+ruleset ends = (needs, end-broken, end-short, end-byte, end-long, end-there)
 
 pub last-fields-at-spec : {M : Type 1} → statement M
 last-fields-at-spec =
     tie.close
-    (tie.spec (λ c κs. search turns) (λ c. search turns) (λ c. search turns) (λ c. search turns) (λ c. search turns)
-    (λ c. search turns) (λ c. search turns) (λ c. search turns) (λ c. search turns) (λ c. search turns))
+    (tie.spec (λ c κs. search ends) (λ c. search ends) (λ c. search ends) (λ c. search ends) (λ c. search ends)
+    (λ c. search ends) (λ c. search ends) (λ c. search ends) (λ c. search ends) (λ c. search ends))

@@ -3,10 +3,10 @@ use Rattle.fields.proofs.Overwriting.{field-fits, field-room, field-end
 use Rattle.fields.proofs.put_field.Statement.{statement}
 use Rattle.fields.proofs.put_field.Tie as tie
 
-ruleset turns = (needs, field-fits, field-room, field-end, field-written, field-same)
+ruleset ends = (needs, field-fits, field-room, field-end, field-written, field-same)
 
 pub put-field-spec : {M : Type 1} → statement M
 put-field-spec =
     tie.close
-    (tie.spec (λ c. search turns) (λ c. search turns) (λ c κs. search turns) (λ c. search turns) (λ c. search turns)
-    (λ c. search turns) (λ c. search turns) (λ c κs. search turns) (λ c. search turns) (λ c. search turns))
+    (tie.spec (λ c. search ends) (λ c. search ends) (λ c κs. search ends) (λ c. search ends) (λ c. search ends)
+    (λ c. search ends) (λ c. search ends) (λ c κs. search ends) (λ c. search ends) (λ c. search ends))

@@ -3,10 +3,10 @@ use Rattle.forms.proofs.Ranges.{largest-beyond, row-beyond, deal-within
 use Rattle.forms.proofs.out_of_range.Statement.{statement}
 use Rattle.forms.proofs.out_of_range.Tie as tie
 
-ruleset turns = (needs, largest-beyond, row-beyond, deal-within, post-zero, post-beyond, all-within)
+ruleset ends = (needs, largest-beyond, row-beyond, deal-within, post-zero, post-beyond, all-within)
 
 pub out-of-range-spec : {M : Type 1} → statement M
 out-of-range-spec =
     tie.close
-    (tie.spec (λ c. search turns) (λ c κs. search turns) (λ c. search turns) (λ c. search turns) (λ c. search turns)
-    (λ c. search turns) (λ c. search turns))
+    (tie.spec (λ c. search ends) (λ c κs. search ends) (λ c. search ends) (λ c. search ends) (λ c. search ends)
+    (λ c. search ends) (λ c. search ends))

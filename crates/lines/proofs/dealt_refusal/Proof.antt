@@ -3,10 +3,10 @@ use Rattle.lines.proofs.Refusing.{deal-above, deal-beyond, deal-short, 
 use Rattle.lines.proofs.dealt_refusal.Statement.{statement}
 use Rattle.lines.proofs.dealt_refusal.Tie as tie
 
-ruleset turns = (needs, deal-above, deal-beyond, deal-short, deal-fits)
+ruleset ends = (needs, deal-above, deal-beyond, deal-short, deal-fits)
 
 pub dealt-refusal-spec : {M : Type 1} → statement M
 dealt-refusal-spec =
     tie.close
-    (tie.spec (λ c. search turns) (λ c κs. search turns) (λ c. search turns) (λ c. search turns) (λ c. search turns)
-    (λ c. search turns) (λ c κs. search turns) (λ c. search turns) (λ c. search turns))
+    (tie.spec (λ c. search ends) (λ c κs. search ends) (λ c. search ends) (λ c. search ends) (λ c. search ends)
+    (λ c. search ends) (λ c κs. search ends) (λ c. search ends) (λ c. search ends))

@@ -3,11 +3,11 @@ use Rattle.lines.proofs.Refusing.{post-low, post-high, numbers-missized
 use Rattle.lines.proofs.posted_refusal.Statement.{statement}
 use Rattle.lines.proofs.posted_refusal.Tie as tie
 
-ruleset turns = (needs, post-low, post-high, numbers-missized, row-above, number-beyond, part-short, part-fits, row-fits)
+ruleset ends = (needs, post-low, post-high, numbers-missized, row-above, number-beyond, part-short, part-fits, row-fits)
 
 pub posted-refusal-spec : {M : Type 1} → statement M
 posted-refusal-spec =
     tie.close
-    (tie.spec (λ c. search turns) (λ c. search turns) (λ c. search turns) (λ c κs. search turns) (λ c. search turns)
-    (λ c κs. search turns) (λ c. search turns) (λ c. search turns) (λ c. search turns) (λ c. search turns)
-    (λ c κs. search turns) (λ c. search turns) (λ c. search turns))
+    (tie.spec (λ c. search ends) (λ c. search ends) (λ c. search ends) (λ c κs. search ends) (λ c. search ends)
+    (λ c κs. search ends) (λ c. search ends) (λ c. search ends) (λ c. search ends) (λ c. search ends)
+    (λ c κs. search ends) (λ c. search ends) (λ c. search ends))

@@ -4,11 +4,11 @@ use Rattle.lines.proofs.Answers.{posts-line, missized-line, missized-li
 use Rattle.lines.proofs.read.Statement.{statement}
 use Rattle.lines.proofs.read.Tie as tie
 
-ruleset turns = (needs, posts-keep, posts-one, posts-add, posts-mul, posts-line, missized-line, missized-list, sized-line, sized-list)
+ruleset ends = (needs, posts-keep, posts-one, posts-add, posts-mul, posts-line, missized-line, missized-list, sized-line, sized-list)
 
 pub read-spec : {M : Type 1} → statement M
 read-spec =
     tie.close
-    (tie.spec (λ c κs. search turns) (λ c κs. search turns) (λ c. search turns) (λ c. search turns)
-    (λ c. search turns) (λ c κs. search turns) (λ c. search turns) (λ c. search turns) (λ c κs. search turns)
-    (λ c. search turns) (λ c. search turns))
+    (tie.spec (λ c κs. search ends) (λ c κs. search ends) (λ c. search ends) (λ c. search ends)
+    (λ c. search ends) (λ c κs. search ends) (λ c. search ends) (λ c. search ends) (λ c κs. search ends)
+    (λ c. search ends) (λ c. search ends))

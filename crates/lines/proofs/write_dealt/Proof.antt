@@ -4,10 +4,10 @@ use Rattle.lines.proofs.Refusing.{deal-row, deal-line, refused-answer, 
 use Rattle.lines.proofs.write_dealt.Statement.{statement}
 use Rattle.lines.proofs.write_dealt.Tie as tie
 
-ruleset turns = (needs, deal-row, deal-line, refused-answer, written-answer, refused, accepted)
+ruleset ends = (needs, refused, accepted, deal-row, deal-line, refused-answer, written-answer)
 
 pub write-dealt-spec : {M : Type 1} → statement M
 write-dealt-spec =
     tie.close
-    (tie.spec (λ c κs. search turns) (λ c. search turns) (λ c. search turns) (λ c. search turns) (λ c. search turns)
-    (λ c κs. search turns) (λ c. search turns) (λ c. search turns))
+    (tie.spec (λ c κs. search ends) (λ c κs. search ends) (λ c. search ends) (λ c. search ends)
+    (λ c. search ends) (λ c. search ends) (λ c κs. search ends) (λ c. search ends) (λ c. search ends))

@@ -4,10 +4,10 @@ use Rattle.lines.proofs.Refusing.{posted-row, posted-post, posted-room,
 use Rattle.lines.proofs.write_posted.Statement.{statement}
 use Rattle.lines.proofs.write_posted.Tie as tie
 
-ruleset turns = (needs, posted-row, posted-post, posted-room, refused-answer, written-answer, refused, accepted)
+ruleset ends = (needs, refused, accepted, posted-row, posted-post, posted-room, refused-answer, written-answer)
 
 pub write-posted-spec : {M : Type 1} → statement M
 write-posted-spec =
     tie.close
-    (tie.spec (λ c κs. search turns) (λ c. search turns) (λ c. search turns) (λ c. search turns) (λ c. search turns)
-    (λ c κs. search turns) (λ c. search turns) (λ c. search turns))
+    (tie.spec (λ c κs. search ends) (λ c κs. search ends) (λ c. search ends) (λ c. search ends)
+    (λ c. search ends) (λ c. search ends) (λ c κs. search ends) (λ c. search ends) (λ c. search ends))
