@@ -1,0 +1,6 @@
+pub mod Digits
+pub mod Sizes
+pub mod Numerals
+pub mod Positions
+pub mod Scanning
+pub mod Spelling

@@ -1,0 +1,18 @@
+use borrow.Author.Needs.{needs}
+use Rattle.decimal.proofs.Spelling.{Counted, counted-start, counted-fits, counted-more, counted-end}
+use Rattle.decimal.proofs.size_of.Statement.{statement}
+use Rattle.decimal.proofs.size_of.Tie as tie
+
+abbrev Inv-loop : tie.InvT-loop
+Inv-loop x k₀ y₀ k y = Counted x k y
+
+abbrev μ-loop : tie.MeasureT-loop
+μ-loop x k₀ y₀ k y = y
+
+ruleset turns = (needs, counted-start, counted-fits, counted-more, counted-end)
+
+pub size-of-spec : {M : Type 1} → statement M
+size-of-spec =
+    tie.close
+    (tie.spec Inv-loop μ-loop (λ c. search turns) (λ c. search turns) (λ c. search turns) (λ c. search turns)
+    (λ c. search turns))

@@ -1,0 +1,202 @@
+-- The loops over the fields of a line: the first pass, which tells what they are like, and the second, which takes their numbers.
+use Prim.Native.Nat.{ℕ, suc, _+_, _-_, _≤_, _<_, _^_}
+use mathlib.Core.Path.{_≡_, refl, sym, _∙_}
+use mathlib.Core.List.{List, [], _∷_, _++_, append-assoc, append-nil}
+use mathlib.Core.Bool.{Bool, true, false, _&&_}
+use native.Mathlib.Omega.{arith}
+use native.Mathlib.Numerals.{add-one}
+use borrow.Author.Fill.{fill-more}
+use borrow.Author.Tests.{eqb-true, eq-eqb, ne-eqb}
+use mir.Syntax.{w32, w64}
+use mir.Val.{Fits}
+use lib.ListN.{length, getD, set, take, drop, replicate, length-set, List·getD-eq-default}
+use lib.Seq.{take-suc-set, take-all, drop-length}
+use lib.Dec.{eqb, ltb}
+use Rattle.decimal.specs.declared.Field.{Field}
+use Rattle.decimal.specs.declared.Field.the-variants.{Number, Wrong}
+use Rattle.fields.specs.declared.Run.{Run}
+use Rattle.fields.specs.declared.Run.the-variants.{Fields, Broken}
+use Rattle.decimal.specs.Numeral.{choose, fieldAt}
+use Rattle.fields.specs.Fields.{Parsed, parsed, malformed, push, behind, fieldsAt, ended, numbersOf, largestFrom, runFrom, runOf, Fillable}
+use Rattle.decimal.proofs.Positions.{inside}
+
+-- ---- the first pass: what is known so far with what the rest says is what the whole says
+pub record Passed (s : List ℕ) (at k pos largest i : ℕ) : Type 0 where
+  pub within : i ≤ k
+  pub says : runFrom largest (fieldsAt (k - i) s pos) ≡ runOf (fieldsAt k s at)
+
+pub passed-start : (s : List ℕ) (at k : ℕ) → Passed s at k at 0 0
+passed-start s at k = record { within = omega arith; says = let e : k - 0 ≡ k = omega arith in rw e }
+
+module _ (s : List ℕ) (at k pos largest i : ℕ) (inv : Passed s at k pos largest i) where
+  broken : fieldsAt (k - i) s pos ≡ malformed → Broken ≡ runOf (fieldsAt k s at)
+  broken e = rw e at (inv .says)
+
+  module _ (h : i < k) where
+    one-more : k - i ≡ suc (k - (i + 1))
+    one-more = omega arith
+
+    pub passed-short : length s ≤ pos → Broken ≡ runOf (fieldsAt k s at)
+    unfolding fieldsAt
+    passed-short l = broken (rw (one-more, List·getD-eq-default s 0 l))
+
+    pub passed-comma : (getD s pos 0 ≡ 44 → ⊥) → Broken ≡ runOf (fieldsAt k s at)
+    unfolding fieldsAt
+    passed-comma l = broken (rw (one-more, ne-eqb (getD s pos 0) 44 l))
+
+    module _ (f : Field) (l : getD s pos 0 ≡ 44) (e : f ≡ fieldAt s (pos + 1)) where
+      pub passed-wrong : f ≡ Wrong → Broken ≡ runOf (fieldsAt k s at)
+      unfolding fieldsAt
+      passed-wrong w = broken (rw (one-more, l, ← e, w))
+
+      push-run : (v m : ℕ) (o : Parsed) → m ≡ choose (ltb largest v) v largest → runFrom largest (push v o) ≡ runFrom m o
+      push-run v m (parsed xs next) q = rw q
+      push-run v m malformed q = refl
+
+      pub passed-more : (v next m : ℕ) → f ≡ Number v next → m ≡ choose (ltb largest v) v largest → Passed s at k next m (i + 1)
+      unfolding fieldsAt
+      passed-more v next m w q =
+          record {
+            within = omega arith;
+            says = sym (push-run v m (fieldsAt (k - (i + 1)) s next) q) ∙ (rw (one-more, l, ← e, w) at (inv .says));
+          }
+
+  pub passed-end : k ≤ i → Fields largest pos ≡ runOf (fieldsAt k s at)
+  unfolding fieldsAt
+  passed-end h = let n : k - i ≡ 0 = omega arith in rw n at (inv .says)
+
+-- ---- what stands behind the fields
+module _ (s : List ℕ) (o : Parsed) (r : Run) (e : r ≡ runOf o) where
+  pub end-broken : r ≡ Broken → Broken ≡ runOf (ended s o)
+  end-broken w = go o (sym e ∙ w)
+    where
+      go : (o : Parsed) → runOf o ≡ Broken → Broken ≡ runOf (ended s o)
+      go malformed q = refl
+      go (parsed xs next) q = let z : _≡_ {A = ℕ} 0 1 = cc in absurd (omega arith)
+
+  module _ (largest next : ℕ) (w : r ≡ Fields largest next) where
+    -- by the test of the line's end
+    end-is : (v : Run) (t : Bool) → (eqb (getD s next 0) 10 && eqb (length s) (next + 1)) ≡ t → v ≡ choose t (Fields largest next) Broken → v ≡ runOf (ended s o)
+    end-is v t h q = go o (sym e ∙ w)
+      where
+        last : (xs : List ℕ) (u : Bool) → u ≡ t → largestFrom 0 xs ≡ largest → v ≡ runOf (choose u (parsed xs next) malformed)
+        last xs true i a = q ∙ rw (← i, a)
+        last xs false i a = q ∙ rw (← i)
+
+        go : (o : Parsed) → runOf o ≡ Fields largest next → v ≡ runOf (ended s o)
+        go malformed q = let z : _≡_ {A = ℕ} 0 1 = cc in absurd (omega arith)
+        go (parsed xs then) q =
+            let a : largestFrom 0 xs ≡ largest = cc in
+            let b : then ≡ next = cc in
+            rw b (last xs (eqb (getD s next 0) 10 && eqb (length s) (next + 1)) h a)
+
+    pub end-short : length s ≤ next → Broken ≡ runOf (ended s o)
+    end-short h = end-is Broken false (rw (List·getD-eq-default s 0 h)) refl
+
+    pub end-byte : (getD s next 0 ≡ 10 → ⊥) → Broken ≡ runOf (ended s o)
+    end-byte h = end-is Broken false (rw (ne-eqb (getD s next 0) 10 h)) refl
+
+    module _ (f : getD s next 0 ≡ 10) where
+      pub end-long : (length s ≡ next + 1 → ⊥) → Broken ≡ runOf (ended s o)
+      end-long h = end-is Broken false (rw (f, ne-eqb (length s) (next + 1) h)) refl
+
+      pub end-there : length s ≡ next + 1 → Fields largest next ≡ runOf (ended s o)
+      end-there h = end-is (Fields largest next) true (rw (f, eq-eqb (length s) (next + 1) h)) refl
+
+-- ---- a field that can be taken
+record Takeable (s : List ℕ) (pos j : ℕ) : Type 0 where
+  x : ℕ
+  next : ℕ
+  comma : getD s pos 0 ≡ 44
+  number : fieldAt s (pos + 1) ≡ Number x next
+  narrow : x < 4294967296
+  rest : Fillable (fieldsAt j s next)
+  says : numbersOf (fieldsAt (suc j) s pos) ≡ x ∷ numbersOf (fieldsAt j s next)
+
+takeable : (s : List ℕ) (pos j : ℕ) → Fillable (fieldsAt (suc j) s pos) → Takeable s pos j
+unfolding fieldsAt
+takeable s pos j h = comma (eqb (getD s pos 0) 44) refl h
+  where
+    taken : (x next : ℕ) (o : Parsed) → fieldsAt j s next ≡ o → getD s pos 0 ≡ 44 → fieldAt s (pos + 1) ≡ Number x next → Fillable (push x o) → Takeable s pos j
+    taken x next (parsed xs end) e c f h =
+        record { x = x; next = next; comma = c; number = f; narrow = h .0; rest = rw e (h .1); says = rw (c, f, e) }
+    taken x next malformed e c f h = absurd h
+
+    found : (f : Field) → fieldAt s (pos + 1) ≡ f → getD s pos 0 ≡ 44 → Fillable (behind f (λ x next. push x (fieldsAt j s next))) → Takeable s pos j
+    found (Number x next) e c h = taken x next (fieldsAt j s next) refl c e h
+    found Wrong e c h = absurd h
+
+    comma : (t : Bool) → eqb (getD s pos 0) 44 ≡ t → Fillable (choose t (behind (fieldAt s (pos + 1)) (λ x next. push x (fieldsAt j s next))) malformed) → Takeable s pos j
+    comma true e h = found (fieldAt s (pos + 1)) refl (eqb-true (getD s pos 0) 44 e) h
+    comma false e h = absurd h
+
+-- ---- the second pass: the numbers taken, and then those of the rest, are those of the whole
+pub record Taken (s : List ℕ) (at k : ℕ) (out : List ℕ) (pos i : ℕ) : Type 0 where
+  pub within : i ≤ k
+  pub same : length out ≡ k
+  pub rest : Fillable (fieldsAt (k - i) s pos)
+  pub says : take i out ++ numbersOf (fieldsAt (k - i) s pos) ≡ numbersOf (fieldsAt k s at)
+
+pub taken-start : (s out : List ℕ) (at : ℕ) → Fillable (fieldsAt (length out) s at) → Taken s at (length out) out at 0
+taken-start s out at h =
+    let e : length out - 0 ≡ length out = omega arith in
+    record { within = omega arith; same = refl; rest = rw e h; says = rw e }
+
+module _ (s : List ℕ) (at k : ℕ) (out : List ℕ) (pos i : ℕ) (inv : Taken s at k out pos i) where
+  pub taken-same : length out ≡ k
+  taken-same = inv .same
+
+  pub taken-end : k ≤ i → out ≡ numbersOf (fieldsAt k s at)
+  unfolding fieldsAt
+  taken-end h =
+      let n : k - i ≡ 0 = omega arith in
+      let l : length out ≤ i = omega (arith, inv .same) in
+      sym (append-nil out) ∙ (rw (n, take-all i out l) at (inv .says))
+
+  module _ (h : i < k) where
+    field-there : Takeable s pos (k - (i + 1))
+    field-there = let n : k - i ≡ suc (k - (i + 1)) = omega arith in takeable s pos (k - (i + 1)) (rw n at (inv .rest))
+
+    pub taken-fits : length s < 2 ^ 64 → Fits w64 (pos + 1)
+    taken-fits b = omega (arith, inside s pos 43 (field-there .comma))
+
+    pub taken-index : i < length out
+    taken-index = omega (arith, inv .same)
+
+    module _ (f : Field) (e : f ≡ fieldAt s (pos + 1)) where
+      pub taken-never : (o : List ℕ) → f ≡ Wrong → o ≡ numbersOf (fieldsAt k s at)
+      taken-never o w =
+          let q : fieldAt s (pos + 1) ≡ Number (field-there .x) (field-there .next) = field-there .number in
+          let z : _≡_ {A = ℕ} 0 1 = cc in absurd (omega arith)
+
+      module _ (v next : ℕ) (w : f ≡ Number v next) where
+        same-value : v ≡ field-there .x
+        same-value = let q = field-there .number in cc
+
+        same-next : next ≡ field-there .next
+        same-next = let q = field-there .number in cc
+
+        pub taken-narrow : Fits w32 v
+        taken-narrow = omega (arith, same-value, field-there .narrow)
+
+        pub taken-more : Taken s at k (set out i v) next (i + 1)
+        taken-more =
+            let d = field-there in
+            let n : k - i ≡ suc (k - (i + 1)) = omega arith in
+            let b : i < length out = taken-index in
+            record {
+              within = omega arith;
+              same = length-set out i v ∙ inv .same;
+              rest = rw same-next (d .rest);
+              says =
+                  rw (add-one i, take-suc-set out i v b, same-next, same-value)
+                  (append-assoc (take i out) (d .x ∷ []) _ ∙ (rw (n, d .says, add-one i) at (inv .says)));
+            }
+
+-- ---- zeros in every place
+module _ (d out : List ℕ) (i : ℕ) (e : out ≡ replicate i 0 ++ drop i d) where
+  pub cleared-more : i < length d → set out i 0 ≡ replicate (i + 1) 0 ++ drop (i + 1) d
+  cleared-more h = rw e (fill-more i 0 d h)
+
+  pub cleared-end : i ≤ length d → length d ≤ i → out ≡ replicate (length d) 0
+  cleared-end a b = let n : i ≡ length d = omega arith in e ∙ rw (n, drop-length d) (append-nil (replicate (length d) 0))

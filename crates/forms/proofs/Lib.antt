@@ -1,0 +1,6 @@
+pub mod Forms
+pub mod Scanning
+pub mod Ranges
+pub mod RoundTrip
+pub mod Longest
+pub mod Cases

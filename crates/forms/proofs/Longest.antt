@@ -1,0 +1,98 @@
+-- "The longest line has 712 bytes": a formula in n and the number of coefficients, and the line that has it.
+use Prim.Native.Nat.{ℕ, zero, suc, _+_, _*_, _≤_}
+use mathlib.Core.Path.{_≡_, refl}
+use mathlib.Core.List.{[], _∷_, _++_}
+use mathlib.Core.Bool.{Bool, true, false}
+use native.Mathlib.Omega.{arith}
+use borrow.Author.Tests.{le-ltb}
+use lib.ListN.{length, replicate, length-append, length-replicate}
+use lib.Dec.{eqb}
+use Rattle.refusal.specs.Conditions.{outside, anyBeyond}
+use Rattle.refusal.proofs.Laws.{inside}
+use Rattle.decimal.specs.Numeral.{choose, sizeWithin, size}
+use Rattle.decimal.proofs.Sizes.{size-pos, size-grows}
+use Rattle.fields.specs.Fields.{field, fields, written}
+use Rattle.fields.proofs.Overwriting.{length-field, length-fields-le}
+use Rattle.fields.proofs.Laying.{length-written}
+use Rattle.forms.specs.Lines.{Message, masks, text}
+use Rattle.forms.specs.Forms.{Sent}
+use Rattle.forms.proofs.Ranges.{last-row-le}
+use Rattle.forms.proofs.RoundTrip.{InRange, in-range}
+
+-- letter, row, post, 2k coefficients of 10 digits, line feed, and the commas
+abbrev pub longest : ℕ → ℕ → ℕ
+longest n k = 6 + size n + 22 * k
+
+-- one field
+one-field : (x : ℕ) → length (fields (x ∷ [])) ≡ 1 + size x
+unfolding fields
+one-field x = omega (arith, length-append (field x) [], length-field x)
+
+two-fields : (x y : ℕ) → length (fields (x ∷ y ∷ [])) ≡ 2 + size x + size y
+unfolding fields
+two-fields x y = omega (arith, length-append (field x) (field y ++ []), length-append (field y) [], length-field x, length-field y)
+
+size-95 : size 95 ≡ 2
+unfolding sizeWithin
+size-95 = refl
+
+-- no line that posts send is longer
+pub none-longer : (n k : ℕ) (m : Message) → 1 ≤ k → Sent n k m → length (text m) ≤ longest n k
+none-longer n k m l h = go (eqb (m .letter) 68) (eqb (m .letter) 79) (h .count) (r .post)
+  where
+    r : InRange n m
+    r = in-range n m (h .in-range)
+
+    row : size (m .row) ≤ 2
+    row = omega (arith, size-95, size-grows 9 (m .row) 95 (omega (arith, r .row, last-row-le (m .letter))))
+
+    go : (x y : Bool) → length (m .numbers) ≡ choose x 1 (choose y k (2 * k)) → choose x false (outside 1 n (m .post)) ≡ false
+        → length (written (m .letter) (choose x (m .row ∷ m .numbers) (m .row ∷ m .post ∷ m .numbers))) ≤ longest n k
+    go true y c p =
+        omega (arith, length-written (m .letter) (m .row ∷ []) (m .numbers), one-field (m .row), length-fields-le (m .numbers), row, size-pos 9 n)
+    go false true c p =
+        let q = size-grows 9 (m .post) n (inside 1 n (m .post) p .1) in
+        omega (arith, length-written (m .letter) (m .row ∷ m .post ∷ []) (m .numbers), two-fields (m .row) (m .post), length-fields-le (m .numbers), row)
+    go false false c p =
+        let q = size-grows 9 (m .post) n (inside 1 n (m .post) p .1) in
+        omega (arith, length-written (m .letter) (m .row ∷ m .post ∷ []) (m .numbers), two-fields (m .row) (m .post), length-fields-le (m .numbers), row)
+
+-- and one is as long: the last triple's masks from the last post, with every coefficient p - 1
+ten-digits : (j : ℕ) → length (fields (replicate j 2147483646)) ≡ 11 * j
+unfolding fields sizeWithin
+ten-digits zero = refl
+ten-digits (suc j) =
+    omega (arith, length-append (field 2147483646) (fields (replicate j 2147483646)), length-field 2147483646, ten-digits j)
+
+elements : (j : ℕ) → anyBeyond (replicate j 2147483646) ≡ false
+unfolding anyBeyond
+elements zero = refl
+elements (suc j) = elements j
+
+abbrev pub longestMasks : ℕ → ℕ → Message
+longestMasks n k = masks 93 n (replicate (2 * k) 2147483646)
+
+pub one-as-long : (n k : ℕ) → 1 ≤ n → Sent n k (longestMasks n k) × (length (text (longestMasks n k)) ≡ longest n k)
+unfolding sizeWithin
+one-as-long n k h = (
+  record {
+    letter-is = refl;
+    count = length-replicate (2 * k) 2147483646;
+    no-post = λ q. absurd (omega arith);
+    in-range = rw (le-ltb n 1 h, le-ltb n n (omega arith)) (elements (2 * k));
+  },
+  omega (arith, length-written 77 (93 ∷ n ∷ []) (replicate (2 * k) 2147483646), two-fields 93 n, ten-digits (2 * k)),
+)
+
+-- document 01's 712, at 32 posts; document 02's 5,619 at 255, and 11,207 with two check points a post
+pub longest-lines : (longest 32 32 ≡ 712) × (longest 255 255 ≡ 5619) × (longest 255 509 ≡ 11207)
+unfolding sizeWithin
+longest-lines = (refl, refl, refl)
+
+-- fewer posts, or a smaller t, make no line longer
+longest-grows : (n m t : ℕ) → n ≤ m → t + 1 ≤ n → longest n (t + 1) ≤ longest m m
+longest-grows n m t h g = omega (arith, size-grows 9 n m h)
+
+-- "The longest line has 712 bytes."
+pub at-most-712 : (n t : ℕ) (m : Message) → n ≤ 32 → t + 1 ≤ n → Sent n (t + 1) m → length (text m) ≤ 712
+at-most-712 n t m h g s = omega (arith, none-longer n (t + 1) m (omega arith) s, longest-grows n 32 t h g, longest-lines .0)

@@ -1,0 +1,90 @@
+-- Document 01, "Broadcast lines" and refusals 10 and 11: the form of a line, and the range of its numbers.
+use Prim.Native.Nat.{ℕ, _+_, _*_}
+use mathlib.Core.Path.{_≡_}
+use mathlib.Core.List.{List, [], _∷_, _++_}
+use mathlib.Core.Bool.{Bool, true, false, _||_}
+use lib.ListN.{length, getD, drop}
+use lib.Dec.{eqb, ltb}
+use Rattle.refusal.specs.Refusal.{Test, _when_}
+use Rattle.refusal.specs.Conditions.{or, outside, anyBeyond}
+use Rattle.decimal.specs.Numeral.{choose}
+use Rattle.fields.specs.Fields.{Parsed, parsed, malformed, fieldsAt, ended, numbersOf, largestFrom}
+use Rattle.forms.specs.declared.Form.{Form}
+use Rattle.forms.specs.declared.Form.the-variants.{Right, Wrong}
+use Rattle.forms.specs.Lines.{Message, lastRow}
+
+abbrev pub isLetter : ℕ → Bool
+isLetter b = eqb b 68 || (eqb b 79 || eqb b 77)
+
+-- How many numbers stand behind row and post, where a message has k coefficients.
+abbrev pub numberCount : ℕ → ℕ → ℕ
+numberCount k b = choose (eqb b 68) 1 (choose (eqb b 79) k (2 * k))
+
+-- How many fields a line has in all.
+abbrev pub fieldCount : ℕ → ℕ → ℕ
+fieldCount k b = choose (eqb b 68) 1 2 + numberCount k b
+
+-- The fields of a line of the right form: "letter, field count, digits, .. final line feed".
+unfoldable pub formOf : ℕ → List ℕ → Parsed
+formOf k s = choose (isLetter (getD s 0 0)) (ended s (fieldsAt (fieldCount k (getD s 0 0)) s 1)) malformed
+
+-- What a letter and a line's numbers say.
+abbrev pub messageOf : ℕ → List ℕ → Message
+messageOf b xs =
+    record {
+      letter = b;
+      row = getD xs 0 0;
+      post = choose (eqb b 68) 0 (getD xs 1 0);
+      numbers = drop (choose (eqb b 68) 1 2) xs;
+    }
+
+abbrev pub isMalformed : Parsed → Bool
+isMalformed (parsed xs next) = false
+isMalformed malformed = true
+
+-- What a line says.
+abbrev pub message : ℕ → List ℕ → Message
+message k s = messageOf (getD s 0 0) (numbersOf (formOf k s))
+
+-- "element at least p, row above 95 (a triple's first above 93), post outside 1..n"; `big` says the first.
+abbrev pub outOfRange : ℕ → ℕ → ℕ → ℕ → Bool → Bool
+outOfRange n letter row post big = or (ltb (lastRow letter) row) (or (choose (eqb letter 68) false (outside 1 n post)) big)
+
+abbrev pub beyondRange : ℕ → Message → Bool
+beyondRange n m = outOfRange n (m .letter) (m .row) (m .post) (anyBeyond (m .numbers))
+
+-- 10 and 11 of a line.
+abbrev pub lineTests : ℕ → ℕ → List ℕ → List Test
+lineTests n k s = 10 when isMalformed (formOf k s) ∷ 11 when beyondRange n (message k s) ∷ []
+
+-- A message that posts send: what a line may say, where a message has k coefficients.
+pub record Sent (n k : ℕ) (m : Message) : Type 0 where
+  pub letter-is : isLetter (m .letter) ≡ true
+  pub count : length (m .numbers) ≡ numberCount k (m .letter)
+  pub no-post : m .letter ≡ 68 → m .post ≡ 0
+  pub in-range : beyondRange n m ≡ false
+
+-- ---- between the functions of the code
+-- The row and the post of a line, as fields.
+abbrev pub headOf : ℕ → ℕ → ℕ → List ℕ
+headOf letter row post = choose (eqb letter 68) (row ∷ []) (row ∷ post ∷ [])
+
+-- A line whose numbers behind row and post stand at a position.
+pub record Scanned (o : Parsed) (s : List ℕ) (letter row post at count largest : ℕ) : Type 0 where
+  pub numbers : List ℕ
+  pub next : ℕ
+  pub letter-is : letter ≡ getD s 0 0
+  pub post-is : letter ≡ 68 → post ≡ 0
+  pub all : o ≡ parsed (headOf letter row post ++ numbers) next
+  pub rest : fieldsAt count s at ≡ parsed numbers next
+  pub largest-is : largest ≡ largestFrom 0 numbers
+
+-- What the scan of a line finds.
+abbrev pub ScanOf : Parsed → List ℕ → Form → Type 0
+ScanOf o s (Right letter row post at count largest) = Scanned o s letter row post at count largest
+ScanOf o s Wrong = o ≡ malformed
+
+-- The scan of the numbers behind a line's row and post, once these are known.
+abbrev pub scanRest : ℕ → ℕ → ℕ → ℕ → ℕ → Parsed → Form
+scanRest letter row post at count (parsed xs next) = Right letter row post at count (largestFrom 0 xs)
+scanRest letter row post at count malformed = Wrong

@@ -1,0 +1,163 @@
+-- The checks of a line to be written, one after the other, and the two ways in which writing ends.
+use Prim.Native.Nat.{ℕ, _+_, _-_, _*_, _≤_, _<_}
+use mathlib.Core.Path.{_≡_, refl, ap, sym, _∙_}
+use mathlib.Core.List.{List, [], _∷_, _++_}
+use native.Mathlib.Omega.{arith}
+use borrow.Author.Tests.{lt-ltb, le-ltb, eq-eqb, ne-eqb, ltb-false}
+use mir.Syntax.{w32, w64}
+use mir.Val.{Fits}
+use lib.ListN.{length}
+use lib.Dec.{ltb}
+use Rattle.refusal.specs.Refusal.{Test, _when_, first, outcome}
+use Rattle.refusal.specs.Conditions.{beyond, anyBeyond, postsTests}
+use Rattle.refusal.proofs.Laws.{AllFail, joined-first, joined-rest, all-fail, inside}
+use Rattle.refusal.proofs.Endings.{refused, accepted}
+use Rattle.fields.specs.Fields.{written}
+use Rattle.forms.specs.Lines.{deal, text, lastRow}
+use Rattle.forms.proofs.Ranges.{last-row-le}
+use Rattle.lines.specs.declared.Written.{Written}
+use Rattle.lines.specs.Order.{lineRefusal}
+use Rattle.lines.specs.Writing.{postedTests, dealtTests, notWritten, writtenAs}
+
+-- ---- 3, 5, 6, 8 and 12 of a line with a post
+module _ (n letter count row post : ℕ) (xs : List ℕ) (room : ℕ) where
+  abbrev refusal : ℕ
+  refusal = first (postedTests n letter count row post xs room)
+
+  pub post-low : post < 1 → 3 ≡ refusal
+  post-low a = rw (lt-ltb post 1 a)
+
+  module _ (a : 1 ≤ post) where
+    pub post-high : n < post → 3 ≡ refusal
+    post-high b = rw (le-ltb post 1 a, lt-ltb n post b)
+
+    module _ (b : post ≤ n) where
+      pub numbers-missized : (length xs ≡ count → ⊥) → 5 ≡ refusal
+      numbers-missized c = rw (le-ltb post 1 a, le-ltb n post b, ne-eqb (length xs) count c)
+
+      module _ (c : length xs ≡ count) (last : ℕ) (l : last ≡ lastRow letter) where
+        pub row-above : last < row → 6 ≡ refusal
+        row-above d = rw (le-ltb post 1 a, le-ltb n post b, eq-eqb (length xs) count c, ← l, lt-ltb last row d)
+
+        module _ (d : row ≤ last) (g : ℕ) (e : g ≡ first (8 when anyBeyond xs ∷ [])) where
+          abbrev room-test : List Test
+          room-test = 12 when ltb room (length (written letter (row ∷ post ∷ xs))) ∷ []
+
+          behind : first (8 when anyBeyond xs ∷ room-test) ≡ refusal
+          behind = rw (le-ltb post 1 a, le-ltb n post b, eq-eqb (length xs) count c, ← l, le-ltb last row d)
+
+          pub number-beyond : (g ≡ 0 → ⊥) → g ≡ refusal
+          number-beyond h = joined-first (8 when anyBeyond xs ∷ []) room-test g tt e h ∙ behind
+
+          module _ (z : g ≡ 0) (m : ℕ) (w : m ≡ length (written 0 (row ∷ post ∷ xs))) where
+            ends : (r : ℕ) → r ≡ first room-test → r ≡ refusal
+            ends r q = joined-rest (8 when anyBeyond xs ∷ []) room-test g r tt e z q ∙ behind
+
+            pub part-short : room < m → 12 ≡ refusal
+            part-short h = ends 12 (rw (← w, lt-ltb room m h))
+
+            pub part-fits : m ≤ room → 0 ≡ refusal
+            part-fits h = ends 0 (rw (← w, le-ltb room m h))
+
+  -- a line that is not refused
+  module _ (r : ℕ) (e : r ≡ refusal) (z : r ≡ 0) where
+    none-holds : AllFail (postedTests n letter count row post xs room)
+    none-holds = all-fail (postedTests n letter count row post xs room) tt (sym e ∙ z)
+
+    pub posted-row : Fits w32 row
+    posted-row = omega (arith, ltb-false (lastRow letter) row (none-holds .1 .1 .0), last-row-le letter)
+
+    pub posted-post : n ≤ 4294967295 → Fits w32 post
+    posted-post h = let b = inside 1 n post (none-holds .0) in omega arith
+
+    pub posted-room : length (written letter ((row ∷ post ∷ []) ++ xs)) ≤ room
+    posted-room = ltb-false room _ (none-holds .1 .1 .1 .1 .0)
+
+pub row-fits : (letter row last : ℕ) → last ≡ lastRow letter → row ≤ last → Fits w32 row
+row-fits letter row last l h = omega (arith, last-row-le letter)
+
+-- ---- 6, 8 and 12 of a `D`
+module _ (row c room : ℕ) where
+  pub deal-above : 95 < row → 6 ≡ first (dealtTests row c room)
+  deal-above d = rw (lt-ltb 95 row d)
+
+  module _ (d : row ≤ 95) (g : ℕ) (e : g ≡ first (8 when beyond c ∷ [])) where
+    abbrev deal-room : List Test
+    deal-room = 12 when ltb room (length (text (deal row c))) ∷ []
+
+    deal-behind : first (8 when beyond c ∷ deal-room) ≡ first (dealtTests row c room)
+    deal-behind = rw (le-ltb 95 row d)
+
+    pub deal-beyond : (g ≡ 0 → ⊥) → g ≡ first (dealtTests row c room)
+    deal-beyond h = joined-first (8 when beyond c ∷ []) deal-room g tt e h ∙ deal-behind
+
+    module _ (z : g ≡ 0) (m : ℕ) (w : m ≡ length (written 0 (row ∷ c ∷ []))) where
+      deal-ends : (r : ℕ) → r ≡ first deal-room → r ≡ first (dealtTests row c room)
+      deal-ends r q = joined-rest (8 when beyond c ∷ []) deal-room g r tt e z q ∙ deal-behind
+
+      pub deal-short : room < m → 12 ≡ first (dealtTests row c room)
+      deal-short h = deal-ends 12 (rw (← w, lt-ltb room m h))
+
+      pub deal-fits : m ≤ room → 0 ≡ first (dealtTests row c room)
+      deal-fits h = deal-ends 0 (rw (← w, le-ltb room m h))
+
+  -- a `D` that is not refused
+  module _ (r : ℕ) (e : r ≡ first (dealtTests row c room)) (z : r ≡ 0) where
+    none-of-deal : AllFail (dealtTests row c room)
+    none-of-deal = all-fail (dealtTests row c room) tt (sym e ∙ z)
+
+    pub deal-row : Fits w32 row
+    deal-row = omega (arith, ltb-false 95 row (none-of-deal .0))
+
+    pub deal-line : length (written 68 ((row ∷ []) ++ (c ∷ []))) ≤ room
+    deal-line = ltb-false room _ (none-of-deal .1 .1 .0)
+
+-- ---- 1 and 2 first, then the tests ys
+module _ (n t f : ℕ) (e : f ≡ first (postsTests n t)) where
+  pub posts-refuse : (ys : List Test) → (f ≡ 0 → ⊥) → f ≡ lineRefusal n t ys
+  unfolding lineRefusal
+  posts-refuse ys h = joined-first (postsTests n t) ys f tt e h
+
+  pub posts-keep : (ys : List Test) (new old : List ℕ) → (f ≡ 0 → ⊥) → old ≡ outcome (lineRefusal n t ys) new old
+  posts-keep ys new old h = refused f (lineRefusal n t ys) new old (posts-refuse ys h) h
+
+  module _ (z : f ≡ 0) where
+    posts-fine : (n ≤ 32) × (t ≤ n - 1)
+    posts-fine =
+        let a = all-fail (postsTests n t) tt (sym e ∙ z) in
+        (inside 2 32 n (a .0) .1, inside 1 (n - 1) t (a .1 .0) .1)
+
+    pub posts-n : n ≤ 4294967295
+    posts-n = omega (arith, posts-fine .0)
+
+    pub posts-one : t + 1 ≤ 4294967296
+    posts-one = let b = posts-fine in omega arith
+
+    pub posts-two : 2 * (t + 1) ≤ 4294967296
+    posts-two = let b = posts-fine in omega arith
+
+    pub posts-add : Fits w64 (t + 1)
+    posts-add = omega (arith, posts-one)
+
+    pub posts-mul : Fits w64 (2 * (t + 1))
+    posts-mul = omega (arith, posts-two)
+
+    pub posts-pass : (ys : List Test) → first ys ≡ lineRefusal n t ys
+    unfolding lineRefusal
+    posts-pass ys = joined-rest (postsTests n t) ys f (first ys) tt e z refl
+
+-- ---- the two ways in which writing ends
+pub refused-answer : (v : Written) (r x : ℕ) (line : List ℕ) → v ≡ notWritten r → r ≡ x → (r ≡ 0 → ⊥) → v ≡ writtenAs x line
+refused-answer v r x line q e n = q ∙ ap notWritten e ∙ refused r x (record { refusal = 0; len = length line }) (notWritten x) e n
+
+pub written-answer : (r x k : ℕ) (line : List ℕ) → r ≡ x → r ≡ 0 → k ≡ length line → _≡_ {A = Written} (record { refusal = 0; len = k }) (writtenAs x line)
+written-answer r x k line e z q =
+    accepted r x (record { refusal = 0; len = k }) (record { refusal = 0; len = length line }) (notWritten x) e z
+    (ap (λ (m : ℕ). record { refusal = 0; len = m }) q)
+
+module _ (n t f : ℕ) (e : f ≡ first (postsTests n t)) (z : f ≡ 0) (ys : List Test) where
+  pub answer-then : (v : Written) (line : List ℕ) → v ≡ writtenAs (first ys) line → v ≡ writtenAs (lineRefusal n t ys) line
+  answer-then v line h = h ∙ ap (λ (r : ℕ). writtenAs r line) (posts-pass n t f e z ys)
+
+  pub list-then : (v new old : List ℕ) → v ≡ outcome (first ys) new old → v ≡ outcome (lineRefusal n t ys) new old
+  list-then v new old h = h ∙ ap (λ (r : ℕ). outcome r new old) (posts-pass n t f e z ys)

@@ -1,0 +1,128 @@
+-- Between writer and reader: the reader takes every line that a writer makes, and a writer makes every line that the reader takes.
+use Prim.Native.Nat.{ℕ, _+_, _*_, _≤_, _<_}
+use mathlib.Core.Path.{_≡_, refl, ap, sym, _∙_}
+use mathlib.Core.List.{List, [], _∷_}
+use mathlib.Core.Bool.{Bool, true, false, not, _||_}
+use native.Mathlib.Omega.{arith}
+use borrow.Author.Tests.{le-ltb, eq-eqb, eqb-true, eqb-false}
+use lib.ListN.{length, getD}
+use lib.Dec.{ltb, eqb}
+use Rattle.refusal.specs.Refusal.{Test, _when_, first}
+use Rattle.refusal.specs.Conditions.{outside, missized, beyond, anyBeyond, postsTests}
+use Rattle.refusal.proofs.Laws.{first-join, orElse-zero, all-fail, not-refused, or-false, inside, equal}
+use Rattle.decimal.specs.Numeral.{choose, tens}
+use Rattle.forms.specs.Lines.{Message, deal, opening, masks, text, lastRow}
+use Rattle.forms.specs.Forms.{isLetter, numberCount, message, lineTests, Sent}
+use Rattle.forms.proofs.RoundTrip.{written-reads-back, read-is-written}
+use Rattle.lines.specs.Order.{lineRefusal}
+use Rattle.lines.specs.Writing.{postedTests, dealtTests, dealRefusal, openingRefusal, masksRefusal, writeRefusal}
+use Rattle.lines.specs.Reading.{readRefusal}
+
+-- ---- 1 and 2, and what stands behind them
+module _ (n t : ℕ) (ys : List Test) where
+  both-zero : lineRefusal n t ys ≡ 0 → (first (postsTests n t) ≡ 0) × (first ys ≡ 0)
+  unfolding lineRefusal
+  both-zero e = orElse-zero (first (postsTests n t)) (first ys) (sym (first-join (postsTests n t) ys tt) ∙ e)
+
+  zero-both : first (postsTests n t) ≡ 0 → first ys ≡ 0 → lineRefusal n t ys ≡ 0
+  unfolding lineRefusal
+  zero-both e f = first-join (postsTests n t) ys tt ∙ rw (e, f)
+
+-- ---- what a writer takes is a message that posts send
+module _ (n t : ℕ) where
+  pub deal-sent : (row c room : ℕ) → dealRefusal n t row c room ≡ 0 → Sent n (t + 1) (deal row c)
+  unfolding anyBeyond
+  deal-sent row c room e =
+      let a = all-fail (dealtTests row c room) tt (both-zero n t (dealtTests row c room) e .1) in
+      record { letter-is = refl; count = refl; no-post = λ q. refl; in-range = rw (a .0, a .1 .0) }
+
+  -- a line with a post, whatever its letter
+  abbrev posted : ℕ → ℕ → ℕ → List ℕ → Message
+  posted letter row post xs = record { letter = letter; row = row; post = post; numbers = xs }
+
+  module _ (row post : ℕ) (xs : List ℕ) (room : ℕ) where
+    posted-sent : (letter count : ℕ) → isLetter letter ≡ true → eqb letter 68 ≡ false → count ≡ numberCount (t + 1) letter
+        → lineRefusal n t (postedTests n letter count row post xs room) ≡ 0 → Sent n (t + 1) (posted letter row post xs)
+    posted-sent letter count l d c e =
+        let ys : List Test = postedTests n letter count row post xs room in
+        let a = all-fail ys tt (both-zero n t ys e .1) in
+        record {
+          letter-is = l;
+          count = equal (length xs) count (a .1 .0) ∙ c;
+          no-post = λ q. absurd (eqb-false letter 68 d q);
+          in-range = rw (a .1 .1 .0, d, a .0, a .1 .1 .1 .0);
+        }
+
+    pub opening-sent : openingRefusal n t row post xs room ≡ 0 → Sent n (t + 1) (opening row post xs)
+    opening-sent e = posted-sent 79 (t + 1) refl refl refl e
+
+    pub masks-sent : masksRefusal n t row post xs room ≡ 0 → Sent n (t + 1) (masks row post xs)
+    masks-sent e = posted-sent 77 (2 * (t + 1)) refl refl refl e
+
+  -- and the reader takes its line back, whatever the tests ys of the writer were
+  pub writer-to-reader : (ys : List Test) (m : Message) (out : List ℕ) → lineRefusal n t ys ≡ 0 → Sent n (t + 1) m → length out ≡ 2 * (t + 1)
+      → (readRefusal n t (text m) out ≡ 0) × (message (t + 1) (text m) ≡ m)
+  writer-to-reader ys m out e h l =
+      let p = both-zero n t ys e .0 in
+      let a = all-fail (postsTests n t) tt p in
+      let b : n < tens 10 = omega (arith, inside 2 32 n (a .0) .1) in
+      let r = written-reads-back n (t + 1) m b h in
+      let zs : List Test = 5 when missized out (2 * (t + 1)) ∷ lineTests n (t + 1) (text m) in
+      let f : first zs ≡ 0 = rw (eq-eqb (length out) (2 * (t + 1)) l) (r .0) in
+      (zero-both n t zs p f, r .1)
+
+  -- ---- a message that posts send is taken by its writer, where the part has room
+  sent-row : (m : Message) → Sent n (t + 1) m → ltb (lastRow (m .letter)) (m .row) ≡ false
+  sent-row m h = or-false (ltb (lastRow (m .letter)) (m .row)) _ (h .in-range) .0
+
+  sent-rest : (m : Message) → Sent n (t + 1) m → (choose (eqb (m .letter) 68) false (outside 1 n (m .post)) ≡ false) × (anyBeyond (m .numbers) ≡ false)
+  sent-rest m h =
+      or-false (choose (eqb (m .letter) 68) false (outside 1 n (m .post))) (anyBeyond (m .numbers))
+      (or-false (ltb (lastRow (m .letter)) (m .row)) _ (h .in-range) .1)
+
+  module _ (p : first (postsTests n t) ≡ 0) (row post : ℕ) (xs : List ℕ) (room : ℕ) where
+    sent-posted : (letter count : ℕ) → eqb letter 68 ≡ false → count ≡ numberCount (t + 1) letter → Sent n (t + 1) (posted letter row post xs)
+        → length (text (posted letter row post xs)) ≤ room → lineRefusal n t (postedTests n letter count row post xs room) ≡ 0
+    sent-posted letter count d c h l =
+        let r = sent-rest (posted letter row post xs) h in
+        let ys : List Test = postedTests n letter count row post xs room in
+        zero-both n t ys p
+        (not-refused ys
+        (rw d at (r .0), (ap not (eq-eqb (length xs) count (h .count ∙ sym c)), (sent-row (posted letter row post xs) h, (r .1, (le-ltb room _ (rw d at l), tt))))))
+
+    sent-deal : Sent n (t + 1) (posted 68 row post xs)
+        → length (text (posted 68 row post xs)) ≤ room → dealRefusal n t row (getD xs 0 0) room ≡ 0
+    unfolding anyBeyond
+    sent-deal h l = go xs (h .count) (sent-rest _ h .1) l
+      where
+        go : (ys : List ℕ) → length ys ≡ 1 → anyBeyond ys ≡ false → length (text (posted 68 row post ys)) ≤ room
+            → dealRefusal n t row (getD ys 0 0) room ≡ 0
+        go [] c b l = absurd (omega arith)
+        go (c ∷ []) q b l =
+            let zs : List Test = dealtTests row c room in
+            zero-both n t zs p (not-refused zs (sent-row (posted 68 row post xs) h, (or-false (beyond c) false b .0, (le-ltb room _ l, tt))))
+        go (c ∷ d ∷ ys) q b l = absurd (omega arith)
+
+    -- by the letter
+    by-letter : (letter : ℕ) (x y z : Bool) → eqb letter 68 ≡ x → eqb letter 79 ≡ y → eqb letter 77 ≡ z → (x || (y || z)) ≡ true
+        → Sent n (t + 1) (posted letter row post xs) → length (text (posted letter row post xs)) ≤ room
+        → choose x (dealRefusal n t row (getD xs 0 0) room) (choose y (openingRefusal n t row post xs room) (masksRefusal n t row post xs room)) ≡ 0
+    by-letter letter true y z d o m i h l = let e = eqb-true letter 68 d in sent-deal (rw e at h) (rw e at l)
+    by-letter letter false true z d o m i h l = let e = eqb-true letter 79 o in sent-posted 79 (t + 1) refl refl (rw e at h) (rw e at l)
+    by-letter letter false false true d o m i h l = let e = eqb-true letter 77 m in sent-posted 77 (2 * (t + 1)) refl refl (rw e at h) (rw e at l)
+    by-letter letter false false false d o m i h l = let z : _≡_ {A = ℕ} 0 1 = cc in absurd (omega arith)
+
+    pub sent-is-written : (letter : ℕ) → Sent n (t + 1) (posted letter row post xs) → length (text (posted letter row post xs)) ≤ room → writeRefusal n t (posted letter row post xs) room ≡ 0
+    sent-is-written letter h l = by-letter letter (eqb letter 68) (eqb letter 79) (eqb letter 77) refl refl refl (h .letter-is) h l
+
+-- ---- every line that the reader takes is the one that the writer makes of its message
+pub reader-to-writer : (n t : ℕ) (s out : List ℕ) → readRefusal n t s out ≡ 0
+    → (s ≡ text (message (t + 1) s)) × (writeRefusal n t (message (t + 1) s) (length s) ≡ 0)
+reader-to-writer n t s out e =
+    let ys : List Test = 5 when missized out (2 * (t + 1)) ∷ lineTests n (t + 1) s in
+    let b = both-zero n t ys e in
+    let a = all-fail ys tt (b .1) in
+    let r = read-is-written n (t + 1) s (not-refused (lineTests n (t + 1) s) (a .1)) in
+    let m : Message = message (t + 1) s in
+    let l : length (text m) ≤ length s = omega (arith, ap length (r .0)) in
+    (r .0, sent-is-written n t (b .0) (m .row) (m .post) (m .numbers) (length s) (m .letter) (r .1) l)

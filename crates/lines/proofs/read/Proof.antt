@@ -1,0 +1,14 @@
+use borrow.Author.Needs.{needs}
+use Rattle.lines.proofs.Refusing.{posts-keep, posts-one, posts-add, posts-mul}
+use Rattle.lines.proofs.Answers.{posts-line, missized-line, missized-list, sized-line, sized-list}
+use Rattle.lines.proofs.read.Statement.{statement}
+use Rattle.lines.proofs.read.Tie as tie
+
+ruleset ends = (needs, posts-keep, posts-one, posts-add, posts-mul, posts-line, missized-line, missized-list, sized-line, sized-list)
+
+pub read-spec : {M : Type 1} → statement M
+read-spec =
+    tie.close
+    (tie.spec (λ c κs. search ends) (λ c κs. search ends) (λ c. search ends) (λ c. search ends)
+    (λ c. search ends) (λ c κs. search ends) (λ c. search ends) (λ c. search ends) (λ c κs. search ends)
+    (λ c. search ends) (λ c. search ends))

@@ -1,0 +1,12 @@
+use borrow.Author.Needs.{needs}
+use Rattle.lines.proofs.Refusing.{posts-refuse, posts-keep, posts-n, posts-one, posts-add, refused-answer, answer-then, list-then}
+use Rattle.lines.proofs.write_opening.Statement.{statement}
+use Rattle.lines.proofs.write_opening.Tie as tie
+
+ruleset ends = (needs, posts-refuse, posts-keep, posts-n, posts-one, posts-add, refused-answer, answer-then, list-then)
+
+pub write-opening-spec : {M : Type 1} → statement M
+write-opening-spec =
+    tie.close
+    (tie.spec (λ c κs. search ends) (λ c κs. search ends) (λ c. search ends) (λ c. search ends)
+    (λ c κs. search ends) (λ c. search ends) (λ c. search ends))

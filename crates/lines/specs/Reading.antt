@@ -1,0 +1,25 @@
+-- Reading a line: which refusal, and what a call leaves.
+use Prim.Native.Nat.{ℕ, _+_, _*_}
+use mathlib.Core.List.{List, _∷_}
+use lib.ListN.{length}
+use Rattle.refusal.specs.Refusal.{_when_, outcome}
+use Rattle.refusal.specs.Conditions.{missized}
+use Rattle.fields.specs.Fields.{padded}
+use Rattle.forms.specs.Lines.{Message}
+use Rattle.forms.specs.Forms.{lineTests}
+use Rattle.lines.specs.declared.Line.{Line}
+use Rattle.lines.specs.Order.{lineRefusal}
+
+abbrev pub readRefusal : ℕ → ℕ → List ℕ → List ℕ → ℕ
+readRefusal n t s out = lineRefusal n t (5 when missized out (2 * (t + 1)) ∷ lineTests n (t + 1) s)
+
+abbrev pub noLine : ℕ → Line
+noLine refusal = record { refusal = refusal; letter = 0; row = 0; post = 0 }
+
+-- The answer: letter, row and post, or the refusal and zeros.
+abbrev pub lineAs : ℕ → Message → Line
+lineAs refusal m = outcome refusal (record { refusal = 0; letter = m .letter; row = m .row; post = m .post }) (noLine refusal)
+
+-- The list: "from its start; the places behind are set to 0", or as it was.
+abbrev pub listAs : ℕ → Message → List ℕ → List ℕ
+listAs refusal m out = outcome refusal (padded (length out) (m .numbers)) out

@@ -1,0 +1,53 @@
+-- Writing a line: which refusal, and what a call leaves.
+use Prim.Native.Nat.{ℕ, _+_, _*_}
+use mathlib.Core.List.{List, [], _∷_}
+use lib.ListN.{length, getD}
+use lib.Dec.{eqb, ltb}
+use Rattle.refusal.specs.Refusal.{Test, _when_, outcome}
+use Rattle.refusal.specs.Conditions.{outside, missized, beyond, anyBeyond}
+use Rattle.decimal.specs.Numeral.{choose}
+use Rattle.fields.specs.Fields.{written, overwrite}
+use Rattle.forms.specs.Lines.{Message, deal, text, lastRow}
+use Rattle.lines.specs.declared.Written.{Written}
+use Rattle.lines.specs.Order.{lineRefusal}
+
+-- 3, 5, 6, 8 and 12 of a line with a post and `count` numbers.
+abbrev pub postedTests : ℕ → ℕ → ℕ → ℕ → ℕ → List ℕ → ℕ → List Test
+postedTests n letter count row post xs room =
+    3 when outside 1 n post
+    ∷ 5 when missized xs count
+    ∷ 6 when ltb (lastRow letter) row
+    ∷ 8 when anyBeyond xs
+    ∷ 12 when ltb room (length (written letter (row ∷ post ∷ xs)))
+    ∷ []
+
+-- 6, 8 and 12 of a `D`.
+abbrev pub dealtTests : ℕ → ℕ → ℕ → List Test
+dealtTests row c room = 6 when ltb 95 row ∷ 8 when beyond c ∷ 12 when ltb room (length (text (deal row c))) ∷ []
+
+abbrev pub dealRefusal : ℕ → ℕ → ℕ → ℕ → ℕ → ℕ
+dealRefusal n t row c room = lineRefusal n t (dealtTests row c room)
+
+abbrev pub openingRefusal : ℕ → ℕ → ℕ → ℕ → List ℕ → ℕ → ℕ
+openingRefusal n t row post xs room = lineRefusal n t (postedTests n 79 (t + 1) row post xs room)
+
+abbrev pub masksRefusal : ℕ → ℕ → ℕ → ℕ → List ℕ → ℕ → ℕ
+masksRefusal n t row post xs room = lineRefusal n t (postedTests n 77 (2 * (t + 1)) row post xs room)
+
+-- The refusal of the call that writes a message, by its letter.
+abbrev pub writeRefusal : ℕ → ℕ → Message → ℕ → ℕ
+writeRefusal n t m room =
+    choose (eqb (m .letter) 68) (dealRefusal n t (m .row) (getD (m .numbers) 0 0) room)
+    (choose (eqb (m .letter) 79) (openingRefusal n t (m .row) (m .post) (m .numbers) room)
+    (masksRefusal n t (m .row) (m .post) (m .numbers) room))
+
+abbrev pub notWritten : ℕ → Written
+notWritten refusal = record { refusal = refusal; len = 0 }
+
+-- The answer: the line's length, or the refusal and 0.
+abbrev pub writtenAs : ℕ → List ℕ → Written
+writtenAs refusal line = outcome refusal (record { refusal = 0; len = length line }) (notWritten refusal)
+
+-- The part: the line at its start and "the rest of its part untouched", or nothing written.
+abbrev pub partAs : ℕ → List ℕ → List ℕ → List ℕ
+partAs refusal line part = outcome refusal (overwrite 0 line part) part

@@ -1,0 +1,232 @@
+// Broadcast lines: `D`, `O` and `M` written into a lent part of bytes and read from a lent line.
+ghost use mathlib.Core.Path.{_≡_};
+ghost use Prim.Native.Nat.{_+_, _*_, _≤_};
+ghost use mathlib.Core.List.{_∷_};
+ghost use lib.ListN.{length};
+ghost use Rattle.refusal.specs.Refusal.{first};
+ghost use Rattle.fields.specs.Fields.{written};
+ghost use Rattle.forms.specs.Lines.{text, deal, opening, masks};
+ghost use Rattle.forms.specs.Forms.{message, lineTests};
+ghost use Rattle.lines.specs.Writing.{postedTests, dealtTests, dealRefusal, openingRefusal, masksRefusal, notWritten, writtenAs, partAs};
+ghost use Rattle.lines.specs.Reading.{readRefusal, noLine, lineAs, listAs};
+use forms::Form;
+
+// The answer of a writer: the refusal, and the line's length.
+pub struct Written {
+    pub refusal: u8,
+    pub len: usize,
+}
+
+// The answer of the reader: the refusal, or the letter, the row and the post; a `D` has post 0.
+pub struct Line {
+    pub refusal: u8,
+    pub letter: u8,
+    pub row: usize,
+    pub post: usize,
+}
+
+fn not_written(refusal: u8) -> Written
+    ensures { λ r. ⌜ r ≡ notWritten refusal ⌝ }
+{
+    Written { refusal, len: 0 }
+}
+
+// 3, 5, 6, 8 and 12 of a line with a post.
+fn posted_refusal(
+    n: usize,
+    letter: u8,
+    count: usize,
+    row: usize,
+    post: usize,
+    numbers: &[u32],
+    room: usize,
+) -> u8
+    requires { ⌜ (n ≤ 4294967295) × (count ≤ 4294967296) ⌝ }
+    ensures { λ r. ⌜ r ≡ first (postedTests n letter count row post (now (numbers .entry)) room) ⌝ }
+{
+    if post < 1 {
+        return 3;
+    }
+    if n < post {
+        return 3;
+    }
+    if numbers.len() != count {
+        return 5;
+    }
+    if forms::last_row(letter) < row {
+        return 6;
+    }
+    let beyond = refusal::numbers(numbers);
+    if beyond != 0 {
+        return beyond;
+    }
+    let head = [row as u32, post as u32];
+    if room < fields::line_len(&head, numbers) {
+        return 12;
+    }
+    0
+}
+
+// A line with a post, once 1 and 2 are checked.
+fn write_posted(
+    n: usize,
+    letter: u8,
+    count: usize,
+    row: usize,
+    post: usize,
+    numbers: &[u32],
+    out: &mut [u8],
+) -> Written
+    requires { ⌜ (n ≤ 4294967295) × (count ≤ 4294967296) ⌝ }
+    ensures { λ r. ⌜ r ≡ writtenAs (first (postedTests n letter count row post (now (numbers .entry)) (length (now (out .entry))))) (written letter (row ∷ post ∷ now (numbers .entry))) ⌝ }
+    ensures { λ r. ⌜ now (out .exit) ≡ partAs (first (postedTests n letter count row post (now (numbers .entry)) (length (now (out .entry))))) (written letter (row ∷ post ∷ now (numbers .entry))) (now (out .entry)) ⌝ }
+{
+    let posted = posted_refusal(n, letter, count, row, post, numbers, out.len());
+    if posted != 0 {
+        return not_written(posted);
+    }
+    let head = [row as u32, post as u32];
+    let len = fields::put_line(letter, &head, numbers, out);
+    Written { refusal: 0, len }
+}
+
+// 6, 8 and 12 of a `D`, once 1 and 2 are checked.
+fn dealt_refusal(row: usize, c: u32, room: usize) -> u8
+    ensures { λ r. ⌜ r ≡ first (dealtTests row c room) ⌝ }
+{
+    if 95 < row {
+        return 6;
+    }
+    let beyond = refusal::number(c);
+    if beyond != 0 {
+        return beyond;
+    }
+    let head = [row as u32];
+    let number = [c];
+    if room < fields::line_len(&head, &number) {
+        return 12;
+    }
+    0
+}
+
+// A `D`, once 1 and 2 are checked.
+fn write_dealt(row: usize, c: u32, out: &mut [u8]) -> Written
+    ensures { λ r. ⌜ r ≡ writtenAs (first (dealtTests row c (length (now (out .entry))))) (text (deal row c)) ⌝ }
+    ensures { λ r. ⌜ now (out .exit) ≡ partAs (first (dealtTests row c (length (now (out .entry))))) (text (deal row c)) (now (out .entry)) ⌝ }
+{
+    let dealt = dealt_refusal(row, c, out.len());
+    if dealt != 0 {
+        return not_written(dealt);
+    }
+    let head = [row as u32];
+    let number = [c];
+    let len = fields::put_line(68, &head, &number, out);
+    Written { refusal: 0, len }
+}
+
+// `D,row,c`.
+pub fn write_deal(n: usize, t: usize, row: usize, c: u32, out: &mut [u8]) -> Written
+    ensures { λ r. ⌜ r ≡ writtenAs (dealRefusal n t row c (length (now (out .entry)))) (text (deal row c)) ⌝ }
+    ensures { λ r. ⌜ now (out .exit) ≡ partAs (dealRefusal n t row c (length (now (out .entry)))) (text (deal row c)) (now (out .entry)) ⌝ }
+{
+    let posts = refusal::posts(n, t);
+    if posts != 0 {
+        return not_written(posts);
+    }
+    write_dealt(row, c, out)
+}
+
+// `O,row,post,` and the t+1 coefficients.
+pub fn write_opening(
+    n: usize,
+    t: usize,
+    row: usize,
+    post: usize,
+    coefficients: &[u32],
+    out: &mut [u8],
+) -> Written
+    ensures { λ r. ⌜ r ≡ writtenAs (openingRefusal n t row post (now (coefficients .entry)) (length (now (out .entry)))) (text (opening row post (now (coefficients .entry)))) ⌝ }
+    ensures { λ r. ⌜ now (out .exit) ≡ partAs (openingRefusal n t row post (now (coefficients .entry)) (length (now (out .entry)))) (text (opening row post (now (coefficients .entry)))) (now (out .entry)) ⌝ }
+{
+    let posts = refusal::posts(n, t);
+    if posts != 0 {
+        return not_written(posts);
+    }
+    write_posted(n, 79, t + 1, row, post, coefficients, out)
+}
+
+// `M,row,post,` and the t+1 coefficients of each of the two masks.
+pub fn write_masks(
+    n: usize,
+    t: usize,
+    row: usize,
+    post: usize,
+    coefficients: &[u32],
+    out: &mut [u8],
+) -> Written
+    ensures { λ r. ⌜ r ≡ writtenAs (masksRefusal n t row post (now (coefficients .entry)) (length (now (out .entry)))) (text (masks row post (now (coefficients .entry)))) ⌝ }
+    ensures { λ r. ⌜ now (out .exit) ≡ partAs (masksRefusal n t row post (now (coefficients .entry)) (length (now (out .entry)))) (text (masks row post (now (coefficients .entry)))) (now (out .entry)) ⌝ }
+{
+    let posts = refusal::posts(n, t);
+    if posts != 0 {
+        return not_written(posts);
+    }
+    write_posted(n, 77, 2 * (t + 1), row, post, coefficients, out)
+}
+
+fn no_line(refusal: u8) -> Line
+    ensures { λ r. ⌜ r ≡ noLine refusal ⌝ }
+{
+    Line {
+        refusal,
+        letter: 0,
+        row: 0,
+        post: 0,
+    }
+}
+
+// 10 and 11 of a line with messages of k coefficients, or its numbers.
+fn read_line(n: usize, k: usize, line: &[u8], out: &mut [u32]) -> Line
+    requires { ⌜ (1 ≤ k) × (k ≤ 4294967296) × (length (now out) ≡ 2 * k) ⌝ }
+    ensures { λ r. ⌜ r ≡ lineAs (first (lineTests n k (now (line .entry)))) (message k (now (line .entry))) ⌝ }
+    ensures { λ r. ⌜ now (out .exit) ≡ listAs (first (lineTests n k (now (line .entry)))) (message k (now (line .entry))) (now (out .entry)) ⌝ }
+{
+    let form = forms::scan(line, k);
+    match form {
+        Form::Right {
+            letter,
+            row,
+            post,
+            at,
+            count,
+            largest,
+        } => {
+            if forms::out_of_range(n, letter, row, post, largest) {
+                return no_line(11);
+            }
+            fields::fill_front(line, at, count, out);
+            Line {
+                refusal: 0,
+                letter,
+                row: row as usize,
+                post: post as usize,
+            }
+        }
+        Form::Wrong => no_line(10),
+    }
+}
+
+// Any of the three lines, into a list of 2(t+1) numbers.
+pub fn read(n: usize, t: usize, line: &[u8], out: &mut [u32]) -> Line
+    ensures { λ r. ⌜ r ≡ lineAs (readRefusal n t (now (line .entry)) (now (out .entry))) (message (t + 1) (now (line .entry))) ⌝ }
+    ensures { λ r. ⌜ now (out .exit) ≡ listAs (readRefusal n t (now (line .entry)) (now (out .entry))) (message (t + 1) (now (line .entry))) (now (out .entry)) ⌝ }
+{
+    let posts = refusal::posts(n, t);
+    if posts != 0 {
+        return no_line(posts);
+    }
+    if out.len() != 2 * (t + 1) {
+        return no_line(5);
+    }
+    read_line(n, t + 1, line, out)
+}
