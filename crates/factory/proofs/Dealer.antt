@@ -13,7 +13,8 @@ use Rattle.factory.specs.declared.Number.{Number}
 abbrev number : ℕ → ℕ → Number
 number r v = record { refusal = r; value = v }
 
-module _ (u constant a b r : ℕ) (first-test : a ≡ first (8 when beyond u ∷ [])) (second-test : b ≡ first (8 when beyond constant ∷ [])) (joined : r ≡ orElse a b) where
+module _ (u constant a b r : ℕ) (first-test : a ≡ first (8 when beyond u ∷ []))
+    (second-test : b ≡ first (8 when beyond constant ∷ [])) (joined : r ≡ orElse a b) where
   refusal-is : r ≡ dealerRefusal u constant
   unfolding dealerRefusal
   refusal-is =
@@ -21,7 +22,8 @@ module _ (u constant a b r : ℕ) (first-test : a ≡ first (8 when beyond u ∷
 
   pub number-refused : (r ≡ 0 → ⊥) → number r 0 ≡ dealerNumber u constant
   number-refused h =
-      ap (λ (k : ℕ). number k 0) refusal-is ∙ refused r (dealerRefusal u constant) _ (number (dealerRefusal u constant) 0) refusal-is h
+      ap (λ (k : ℕ). number k 0) refusal-is
+      ∙ refused r (dealerRefusal u constant) _ (number (dealerRefusal u constant) 0) refusal-is h
 
   pub number-given : (v : ℕ) → r ≡ 0 → v ≡ difference u constant → number 0 v ≡ dealerNumber u constant
   number-given v z e = accepted r (dealerRefusal u constant) (number 0 v) _ _ refusal-is z (ap (number 0) e)

@@ -1,6 +1,6 @@
 -- A triple: the packs of l and l', and behind them those of l''.
-use Prim.Native.Nat.{ℕ, _+_, _*_, _-_, _≤_}
-use mathlib.Core.Path.{_≡_, sym, _∙_, ap, ap₂}
+use Prim.Native.Nat.{ℕ, _+_, _*_, _-_}
+use mathlib.Core.Path.{_≡_, _∙_, ap}
 use mathlib.Core.List.{List, _∷_, _++_, append-assoc}
 use native.Mathlib.Nat.{add-sub-cancel-left}
 use native.Mathlib.Omega.{arith}
@@ -81,7 +81,8 @@ module _ (n t d s : ℕ) (points draw out : List ℕ) (fine : Fine n t points dr
         → ys ≡ packs n (t + 1) points (firstDraw d draw) ++ packs n (t + 1) points (secondDraw d draw)
         → c ≡ product (getD draw 0 0) (getD draw d 0)
         → zs ≡ packs (length points) (t + 1) points (c ∷ take (length draw - (d + d)) (drop (d + d) draw))
-        → putMid (s + s) (length (fronted (s + s) out ys) - (s + s)) (fronted (s + s) out ys) zs ≡ triplePacks n (t + 1) points draw
+        → putMid (s + s) (length (fronted (s + s) out ys) - (s + s)) (fronted (s + s) out ys) zs
+        ≡ triplePacks n (t + 1) points draw
     unfolding triplePacks
     triple-written zs c e f g =
         joined (s + s) s out out-length ys kept zs _ _ e (g ∙ rw (fine .points-length, third-is, f))

@@ -1,7 +1,7 @@
 -- A list whose first n numbers are lent and written, and then the rest.
 use Prim.Native.Nat.{ℕ, _+_, _-_, _≤_}
-use mathlib.Core.Path.{_≡_, sym, _∙_, ap}
-use mathlib.Core.List.{List, [], _++_, append-nil}
+use mathlib.Core.Path.{_≡_, _∙_, ap}
+use mathlib.Core.List.{List, _++_, append-nil}
 use native.Mathlib.Omega.{arith}
 use lib.ListN.{length, take, drop, length-append, length-drop, drop-of-length-le}
 use lib.Seq.{length-take-le, take-at, drop-at, take-all}
@@ -29,7 +29,8 @@ module _ (n m : ℕ) (l : List ℕ) (sized : length l ≡ n + m) where
     pub back-length : length (back n l ys) ≡ m
     back-length = rw back-is (omega (arith, length-drop n l))
 
-    pub joined : (zs a b : List ℕ) → ys ≡ a → zs ≡ b → putMid n (length (fronted n l ys) - n) (fronted n l ys) zs ≡ a ++ b
+    pub joined : (zs a b : List ℕ) → ys ≡ a → zs ≡ b
+        → putMid n (length (fronted n l ys) - n) (fronted n l ys) zs ≡ a ++ b
     joined zs a b f g =
         let e : length ys ≡ n = kept ∙ front-length in
         let h : length (drop n l) ≤ length (fronted n l ys) - n = omega (arith, length-append ys (drop n l)) in

@@ -1,6 +1,6 @@
 -- Laws of parts and packs, for the crates above: lengths, a post's part in the packs, and that a part holds elements.
 use Prim.Native.Nat.{ℕ, zero, suc, _+_, _*_, _-_, _≤_, _<_}
-use mathlib.Core.Path.{_≡_, refl, sym, _∙_, ap}
+use mathlib.Core.Path.{_≡_, refl, sym, ap}
 use mathlib.Core.List.{List, [], _∷_, _++_}
 use native.Mathlib.Nat.{mul-le-mul-right, suc-mul, zero-mul, mul-comm, add-comm, add-zero}
 use native.Mathlib.Omega.{arith}
@@ -42,13 +42,8 @@ module _ (n k : ℕ) (draw : List ℕ) (drawn : length draw ≡ drawLength n k) 
     unfolding packsFrom
     length-packsFrom i zero h = sym (zero-mul (k + 2 * n))
     length-packsFrom i (suc m) h =
-        length-append (part n k i (getD points (i - 1) 0) draw) (packsFrom n k points draw (suc i) m)
-        ∙ omega (
-          arith,
-          length-part i (getD points (i - 1) 0) (omega arith),
-          length-packsFrom (suc i) m (omega arith),
-          suc-mul m (k + 2 * n),
-        )
+        let q : i ≤ n = omega arith in
+        rw (length-append, length-part, length-packsFrom (suc i) m (omega arith)) (omega (arith, suc-mul m (k + 2 * n)))
 
     pub length-packs : length (packs n k points draw) ≡ n * (k + 2 * n)
     length-packs = length-packsFrom 1 n (omega arith)

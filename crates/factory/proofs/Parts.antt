@@ -1,14 +1,13 @@
 -- A part, from f and from v1 to vn apart.
 use Prim.Native.Nat.{ℕ, zero, suc, _+_, _*_, _-_, _≤_}
 use mathlib.Core.Path.{_≡_, refl, sym, _∙_, ap, ap₂}
-use mathlib.Core.List.{List, [], _∷_, _++_}
+use mathlib.Core.List.{List, _∷_, _++_}
 use native.Mathlib.Numerals.{add-one}
 use native.Mathlib.Nat.{suc-mul, zero-mul, add-comm}
 use native.Mathlib.Omega.{arith}
-use lib.ListN.{length, take, drop, getD, length-drop}
+use lib.ListN.{length, take, drop, length-drop}
 use lib.Seq.{take-at, drop-append-add, length-take-le}
 use borrow.Rule.Slice.PartMut.{putMid}
-use Rattle.field.specs.Arithmetic.{sum}
 use Rattle.poly.specs.Polynomial.{value}
 use Rattle.factory.specs.Draw.{polynomial, eachFrom, eachPost, sumOf, part}
 use Rattle.factory.specs.Writers.{checkAt, checkValues, sumAt, sums, valuesOf, PartRoom}
@@ -26,10 +25,10 @@ polynomial-length k i l h = length-take-le k (drop (i * k) l) (omega (arith, len
 
 -- f's k coefficients in front of v1 to vn
 module _ (f vs : List ℕ) (k : ℕ) (sized : length f ≡ k) where
-  pub polynomial-first : polynomial k (f ++ vs) 0 ≡ f
+  polynomial-first : polynomial k (f ++ vs) 0 ≡ f
   polynomial-first = rw (zero-mul k) (take-at f vs k sized)
 
-  pub polynomial-next : (j : ℕ) → polynomial k (f ++ vs) (suc j) ≡ polynomial k vs j
+  polynomial-next : (j : ℕ) → polynomial k (f ++ vs) (suc j) ≡ polynomial k vs j
   polynomial-next j =
       ap (take k)
       (ap (λ (m : ℕ). drop m (f ++ vs)) (suc-mul j k ∙ add-comm (j * k) k ∙ ap (λ (m : ℕ). m + j * k) (sym sized))
@@ -46,20 +45,25 @@ module _ (f vs : List ℕ) (k : ℕ) (sized : length f ≡ k) where
   public-sums n =
       each-next (sumOf k (f ++ vs)) (sumAt k f vs) (λ i. rw (polynomial-next i, polynomial-first, add-one i)) 0 n
 
-  pub part-split : (n i w : ℕ) → part n k (suc i) w (f ++ vs) ≡ polynomial k vs i ++ (checkValues n k w vs ++ sums n k f vs)
+  part-split : (n i w : ℕ) → part n k (suc i) w (f ++ vs) ≡ polynomial k vs i ++ (checkValues n k w vs ++ sums n k f vs)
   unfolding part
   part-split n i w = ap₂ _++_ (polynomial-next i) (ap₂ _++_ (check-values n w) (public-sums n))
 
 -- `write_part` wrote the coefficients of vi, and then the values
-module _ (n i w c : ℕ) (higher vs out : List ℕ) (room : PartRoom n i higher vs out) (q : List ℕ) (own : q ≡ polynomial (length higher + 1) vs i) where
+module _ (n i w c : ℕ) (higher vs out : List ℕ) (room : PartRoom n i higher vs out) (q : List ℕ)
+    (own : q ≡ polynomial (length higher + 1) vs i) where
   pub coefficients-fit : length (take (length higher + 1) out) ≡ length q
   coefficients-fit =
       front-length (length higher + 1) (n + n) out (room .room)
-      ∙ sym (ap length own ∙ polynomial-length (length higher + 1) i vs (block-room i n (length higher + 1) (length vs) (room .post) (room .drawn)))
+      ∙ sym
+      (ap length own
+      ∙ polynomial-length (length higher + 1) i vs
+      (block-room i n (length higher + 1) (length vs) (room .post) (room .drawn)))
 
   pub part-written : (ys zs : List ℕ) → length ys ≡ length (take (length higher + 1) out) → ys ≡ q
       → zs ≡ valuesOf n w higher (c ∷ higher) vs
-      → putMid (length higher + 1) (length (fronted (length higher + 1) out ys) - (length higher + 1)) (fronted (length higher + 1) out ys) zs
+      → putMid (length higher + 1) (length (fronted (length higher + 1) out ys) - (length higher + 1))
+      (fronted (length higher + 1) out ys) zs
       ≡ part n (length higher + 1) (i + 1) w ((c ∷ higher) ++ vs)
   part-written ys zs kept f g =
       joined (length higher + 1) (n + n) out (room .room) ys kept zs _ _ (f ∙ own) g

@@ -1,7 +1,7 @@
 -- The turns of the loop over the posts, each of whose parts is written into its own place of one list.
 use Prim.Native.Nat.{ℕ, suc, _+_, _*_, _-_, _≤_, _<_}
 use mathlib.Core.Path.{_≡_, sym, _∙_, ap}
-use mathlib.Core.List.{List, [], _∷_, _++_, append-assoc, append-nil}
+use mathlib.Core.List.{List, _++_, append-assoc, append-nil}
 use native.Mathlib.Numerals.{add-one}
 use native.Mathlib.Nat.{suc-mul, add-sub-cancel-left, mul-le-mul-right}
 use native.Mathlib.Omega.{arith}
@@ -25,7 +25,8 @@ part-room l at w h =
     ap (λ (k : ℕ). length (take k (drop at l))) (add-sub-cancel-left at w)
     ∙ length-take-le w (drop at l) (omega (arith, length-drop at l))
 
-pub out-kept : (l ys : List ℕ) (a k m : ℕ) → length l ≡ m → length ys ≡ length (take k (drop a l)) → length (putMid a k l ys) ≡ m
+pub out-kept : (l ys : List ℕ) (a k m : ℕ) → length l ≡ m → length ys ≡ length (take k (drop a l))
+    → length (putMid a k l ys) ≡ m
 out-kept l ys a k m e f = same-len-mid a k l ys f ∙ e
 
 module _ (n k : ℕ) (points draw l : List ℕ) where
@@ -35,7 +36,8 @@ module _ (n k : ℕ) (points draw l : List ℕ) where
   pub posts-turn : (i at w : ℕ) (ys : List ℕ) → i < n → at ≡ i * w → length l ≡ n * w
       → take at l ++ packsFrom n k points draw (i + 1) (n - i) ≡ packs n k points draw
       → length ys ≡ length (take (at + w - at) (drop at l)) → ys ≡ part n k (i + 1) (getD points i 0) draw
-      → take (at + w) (putMid at (at + w - at) l ys) ++ packsFrom n k points draw (i + 1 + 1) (n - (i + 1)) ≡ packs n k points draw
+      → take (at + w) (putMid at (at + w - at) l ys) ++ packsFrom n k points draw (i + 1 + 1) (n - (i + 1))
+      ≡ packs n k points draw
   unfolding packsFrom
   posts-turn i at w ys h p e inv kept f =
       let r : at + w ≤ length l = end-room i n w at (length l) p h e in

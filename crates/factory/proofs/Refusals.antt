@@ -1,6 +1,6 @@
 -- The refusals of the factory's calls: the search among the check points, lengths, and the tests joined in order.
 use Prim.Native.Nat.{ℕ, _+_, _*_, _-_, _≤_, _<_}
-use mathlib.Core.Path.{_≡_, refl, sym, _∙_, ap}
+use mathlib.Core.Path.{_≡_, refl, sym, _∙_}
 use mathlib.Core.Bool.{Bool, true, false}
 use mathlib.Core.List.{List, [], _∷_}
 use native.Mathlib.Numerals.{add-one}
@@ -53,7 +53,8 @@ fits-small m h = record { fits = lt-of-lt-of-le h (lit≤ tt) }
 
 module _ (n t : ℕ) (few : Few n t) where
   pub draw-sized : Length ((t + 1) * (n + 1)) (drawLength n (t + 1))
-  draw-sized = product-length (t + 1) (n + 1) (omega arith) (omega (arith, few .narrow, few .less)) (omega arith) (omega (arith, few .narrow))
+  draw-sized =
+      product-length (t + 1) (n + 1) (omega arith) (omega (arith, few .narrow, few .less)) (omega arith) (omega (arith, few .narrow))
 
   pub packs-sized : Length (n * (t + 1 + 2 * n)) (packsLength n t)
   packs-sized =

@@ -49,10 +49,11 @@ module _ (n t : ℕ) (points draw out : List ℕ) (fine : Fine n t points draw (
   pub row-room : PacksRoom (length points) t (take (length draw - 1) (drop 1 draw)) out
   row-room = rw (fine .points-length) (record {
     narrow = fine .few .narrow;
-    drawn = omega (arith, ap length (rest-of draw some-drawn), add-one (length (take (length draw - 1) (drop 1 draw))), fine .draw-length);
+    drawn = add-one _ ∙ ap length (rest-of draw some-drawn) ∙ fine .draw-length;
     room = fine .out-length;
   })
 
   pub row-written : (l : List ℕ)
-      → l ≡ packs (length points) (t + 1) points (getD draw 0 0 ∷ take (length draw - 1) (drop 1 draw)) → l ≡ packs n (t + 1) points draw
+      → l ≡ packs (length points) (t + 1) points (getD draw 0 0 ∷ take (length draw - 1) (drop 1 draw))
+      → l ≡ packs n (t + 1) points draw
   row-written l e = e ∙ rw (fine .points-length, rest-of draw some-drawn)

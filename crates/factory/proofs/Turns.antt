@@ -1,7 +1,7 @@
 -- The turns of the loops in src/, each as a fact about plain lists and numbers.
 use Prim.Native.Nat.{ℕ, suc, _+_, _*_, _-_, _≤_, _<_}
-use mathlib.Core.Path.{_≡_, refl, sym, _∙_, ap}
-use mathlib.Core.List.{List, [], _∷_, _++_, append-assoc, append-nil}
+use mathlib.Core.Path.{_≡_, sym, _∙_, ap}
+use mathlib.Core.List.{List, _++_, append-assoc, append-nil}
 use native.Mathlib.Numerals.{add-one}
 use native.Mathlib.Nat.{mul-le-mul-right, suc-mul}
 use native.Mathlib.Omega.{arith}
@@ -59,6 +59,7 @@ pub some-coefficient : (vs q : List ℕ) (i k : ℕ) → i * (k + 1) + (k + 1) �
 some-coefficient vs q i k h a =
     rw (a, length-take-le (k + 1) (drop (i * (k + 1)) vs) (omega (arith, length-drop (i * (k + 1)) vs))) (omega arith)
 
-pub sum-is : (f vs q : List ℕ) (k i u v : ℕ) → q ≡ polynomial k vs i → u ≡ value f (i + 1) → v ≡ sum (getD q 0 0) u → v ≡ sumAt k f vs i
+pub sum-is : (f vs q : List ℕ) (k i u v : ℕ) → q ≡ polynomial k vs i → u ≡ value f (i + 1)
+    → v ≡ sum (getD q 0 0) u → v ≡ sumAt k f vs i
 unfolding sumAt
 sum-is f vs q k i u v a b d = rw (← a, ← b) d

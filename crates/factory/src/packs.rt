@@ -12,7 +12,9 @@ use crate::part;
 // The middle part of `out` is lent for one post after the other, post 1 first.
 fn write_parts(points: &[u32], constant: u32, higher: &[u32], vs: &[u32], out: &mut [u32])
     requires { ⌜ PartsRoom (length (now points)) (now higher) (now vs) (now out) ⌝ }
-    ensures { λ r. ⌜ now (out .exit) ≡ packs (length (now (points .entry))) (length (now (higher .entry)) + 1) (now (points .entry)) ((constant ∷ now (higher .entry)) ++ now (vs .entry)) ⌝ }
+    ensures { λ r. ⌜ now (out .exit)
+        ≡ packs (length (now (points .entry))) (length (now (higher .entry)) + 1) (now (points .entry))
+        ((constant ∷ now (higher .entry)) ++ now (vs .entry)) ⌝ }
 {
     let n = points.len();
     let width = higher.len() + 1 + (n + n);
@@ -27,7 +29,8 @@ fn write_parts(points: &[u32], constant: u32, higher: &[u32], vs: &[u32], out: &
 // A draw is its first number and the rest, so that f's constant need not stand in it.
 pub fn write_packs(points: &[u32], t: usize, constant: u32, rest: &[u32], out: &mut [u32])
     requires { ⌜ PacksRoom (length (now points)) t (now rest) (now out) ⌝ }
-    ensures { λ r. ⌜ now (out .exit) ≡ packs (length (now (points .entry))) (t + 1) (now (points .entry)) (constant ∷ now (rest .entry)) ⌝ }
+    ensures { λ r. ⌜ now (out .exit)
+        ≡ packs (length (now (points .entry))) (t + 1) (now (points .entry)) (constant ∷ now (rest .entry)) ⌝ }
 {
     write_parts(points, constant, &rest[..t], &rest[t..], out);
 }
@@ -51,7 +54,9 @@ fn write_factors(
     out: &mut [u32],
 )
     requires { ⌜ FactorsRoom n t d s (now points) (now draw) (now out) ⌝ }
-    ensures { λ r. ⌜ now (out .exit) ≡ packs n (t + 1) (now (points .entry)) (firstDraw d (now (draw .entry))) ++ packs n (t + 1) (now (points .entry)) (secondDraw d (now (draw .entry))) ⌝ }
+    ensures { λ r. ⌜ now (out .exit)
+        ≡ packs n (t + 1) (now (points .entry)) (firstDraw d (now (draw .entry)))
+        ++ packs n (t + 1) (now (points .entry)) (secondDraw d (now (draw .entry))) ⌝ }
 {
     let end = d + d;
     write_row(n, t, points, &draw[..d], &mut out[..s]);

@@ -57,7 +57,8 @@ fn public_sum(constant: u32, higher: &[u32], vs: &[u32], i: usize) -> u32
 // m1 to mn.
 fn write_sums(n: usize, constant: u32, higher: &[u32], vs: &[u32], out: &mut [u32])
     requires { ⌜ Narrow n × (length (now out) ≡ n) × (length (now vs) ≡ n * (length (now higher) + 1)) ⌝ }
-    ensures { λ r. ⌜ now (out .exit) ≡ sums n (length (now (higher .entry)) + 1) (constant ∷ now (higher .entry)) (now (vs .entry)) ⌝ }
+    ensures { λ r. ⌜ now (out .exit)
+        ≡ sums n (length (now (higher .entry)) + 1) (constant ∷ now (higher .entry)) (now (vs .entry)) ⌝ }
 {
     for i in 0..n {
         out[i] = public_sum(constant, higher, vs, i);
@@ -67,7 +68,8 @@ fn write_sums(n: usize, constant: u32, higher: &[u32], vs: &[u32], out: &mut [u3
 // What stands behind the coefficients: v1(w) to vn(w), then m1 to mn.
 fn write_values(n: usize, w: u32, constant: u32, higher: &[u32], vs: &[u32], out: &mut [u32])
     requires { ⌜ ValuesRoom n (now higher) (now vs) (now out) ⌝ }
-    ensures { λ r. ⌜ now (out .exit) ≡ valuesOf n w (now (higher .entry)) (constant ∷ now (higher .entry)) (now (vs .entry)) ⌝ }
+    ensures { λ r. ⌜ now (out .exit)
+        ≡ valuesOf n w (now (higher .entry)) (constant ∷ now (higher .entry)) (now (vs .entry)) ⌝ }
 {
     write_check_values(n, w, higher.len() + 1, vs, &mut out[..n]);
     write_sums(n, constant, higher, vs, &mut out[n..]);
@@ -84,7 +86,8 @@ pub fn write_part(
     out: &mut [u32],
 )
     requires { ⌜ PartRoom n i (now higher) (now vs) (now out) ⌝ }
-    ensures { λ r. ⌜ now (out .exit) ≡ part n (length (now (higher .entry)) + 1) (i + 1) w ((constant ∷ now (higher .entry)) ++ now (vs .entry)) ⌝ }
+    ensures { λ r. ⌜ now (out .exit)
+        ≡ part n (length (now (higher .entry)) + 1) (i + 1) w ((constant ∷ now (higher .entry)) ++ now (vs .entry)) ⌝ }
 {
     let k = higher.len() + 1;
     copy(polynomial(vs, k, i), &mut out[..k]);

@@ -8,4 +8,5 @@ ruleset endings = (needs, number-refused, number-given)
 pub dealer-number-spec : {M : Type 1} → statement M
 dealer-number-spec =
     tie.close
-    (tie.spec (λ c κs. search endings) (λ c κs. search endings) (λ c κs. search endings) (λ c. search endings) (λ c κs. search endings) (λ c. search endings))
+    (tie.spec (λ c κs. search endings) (λ c κs. search endings) (λ c κs. search endings) (λ c. search endings)
+    (λ c κs. search endings) (λ c. search endings))

@@ -9,4 +9,5 @@ ruleset endings = (needs, refused, accepted, row-fine)
 pub row-spec : {M : Type 1} → statement M
 row-spec =
     tie.close
-    (tie.spec (λ c κs. search endings) (λ c. search endings) (λ c. search endings) (λ c κs. search endings) (λ c. search endings) (λ c. search endings))
+    (tie.spec (λ c κs. search endings) (λ c. search endings) (λ c. search endings) (λ c κs. search endings)
+    (λ c. search endings) (λ c. search endings))

@@ -8,4 +8,5 @@ ruleset groups = (needs, few-posts, row-stopped, row-went-on)
 pub row-refusal-spec : {M : Type 1} → statement M
 row-refusal-spec =
     tie.close
-    (tie.spec (λ c κs. search groups) (λ c. search groups) (λ c κs. search groups) (λ c κs. search groups) (λ c κs. search groups) (λ c. search groups))
+    (tie.spec (λ c κs. search groups) (λ c. search groups) (λ c κs. search groups) (λ c κs. search groups)
+    (λ c κs. search groups) (λ c. search groups))

@@ -8,4 +8,5 @@ ruleset groups = (needs, few-posts, triple-stopped, triple-went-on)
 pub triple-refusal-spec : {M : Type 1} → statement M
 triple-refusal-spec =
     tie.close
-    (tie.spec (λ c κs. search groups) (λ c. search groups) (λ c κs. search groups) (λ c. search groups) (λ c. search groups) (λ c κs. search groups) (λ c. search groups) (λ c κs. search groups) (λ c. search groups))
+    (tie.spec (λ c κs. search groups) (λ c. search groups) (λ c κs. search groups) (λ c. search groups)
+    (λ c. search groups) (λ c κs. search groups) (λ c. search groups) (λ c κs. search groups) (λ c. search groups))

@@ -16,4 +16,6 @@ lent c = sym (search halves)
 pub write-factors-spec : {M : Type 1} → statement M
 write-factors-spec =
     tie.close
-    (tie.spec (λ c. search halves) drawn (λ c. search halves) lent (λ c κs. search halves) (λ c. search halves) (λ c. search halves) (λ c. search halves) (λ c. search halves) (λ c. search halves) (λ c. search halves) (λ c. search halves) (λ c. search halves) (λ c κs. search halves) (λ c. search halves) (λ c. search halves))
+    (tie.spec (λ c. search halves) drawn (λ c. search halves) lent (λ c κs. search halves) (λ c. search halves)
+    (λ c. search halves) (λ c. search halves) (λ c. search halves) (λ c. search halves) (λ c. search halves)
+    (λ c. search halves) (λ c. search halves) (λ c κs. search halves) (λ c. search halves) (λ c. search halves))

@@ -12,4 +12,5 @@ slice-aggregate c = sym (search split)
 pub write-packs-spec : {M : Type 1} → statement M
 write-packs-spec =
     tie.close
-    (tie.spec slice-aggregate (λ c. search split) (λ c. search split) (λ c. search split) (λ c. search split) (λ c κs. search split) (λ c. search split) (λ c. search split))
+    (tie.spec slice-aggregate (λ c. search split) (λ c. search split) (λ c. search split) (λ c. search split)
+    (λ c κs. search split) (λ c. search split) (λ c. search split))

@@ -35,4 +35,6 @@ loop-again c = (search needs, search (needs, next-place), search (needs, out-kep
 pub write-parts-spec : {M : Type 1} → statement M
 write-parts-spec =
     tie.close
-    (tie.spec Inv-loop μ-loop (λ c. search turns) (λ c. search turns) (λ c. search turns) (λ c. search turns) end-fits (λ c. search turns) (λ c. search turns) place-fits (λ c. search turns) (λ c. search turns) (λ c. search turns) (λ c κs. search turns) (λ c. search turns) (λ c. search turns) loop-again (λ c. search turns) (λ c. search turns))
+    (tie.spec Inv-loop μ-loop (λ c. search turns) (λ c. search turns) (λ c. search turns) (λ c. search turns) end-fits
+    (λ c. search turns) (λ c. search turns) place-fits (λ c. search turns) (λ c. search turns) (λ c. search turns)
+    (λ c κs. search turns) (λ c. search turns) (λ c. search turns) loop-again (λ c. search turns) (λ c. search turns))

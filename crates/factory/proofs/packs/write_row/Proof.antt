@@ -8,4 +8,5 @@ ruleset split = (needs, some-drawn, row-room, row-written)
 pub write-row-spec : {M : Type 1} → statement M
 write-row-spec =
     tie.close
-    (tie.spec (λ c. search split) (λ c. search split) (λ c. search split) (λ c. search split) (λ c κs. search split) (λ c. search split) (λ c. search split))
+    (tie.spec (λ c. search split) (λ c. search split) (λ c. search split) (λ c. search split) (λ c κs. search split)
+    (λ c. search split) (λ c. search split))

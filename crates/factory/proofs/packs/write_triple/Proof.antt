@@ -12,4 +12,8 @@ lent c = sym (search halves)
 pub write-triple-spec : {M : Type 1} → statement M
 write-triple-spec =
     tie.close
-    (tie.spec (λ c κs. search halves) (λ c κs. search halves) (λ c. search halves) (λ c. search halves) (λ c. search halves) (λ c κs. search halves) (λ c. search halves) (λ c. search halves) (λ c. search halves) lent (λ c κs. search halves) (λ c. search halves) (λ c. search halves) (λ c. search halves) (λ c. search halves) (λ c. search halves) (λ c. search halves) (λ c. search halves) (λ c. search halves) (λ c κs. search halves) (λ c. search halves) (λ c. search halves))
+    (tie.spec (λ c κs. search halves) (λ c κs. search halves) (λ c. search halves) (λ c. search halves)
+    (λ c. search halves) (λ c κs. search halves) (λ c. search halves) (λ c. search halves) (λ c. search halves) lent
+    (λ c κs. search halves) (λ c. search halves) (λ c. search halves) (λ c. search halves) (λ c. search halves)
+    (λ c. search halves) (λ c. search halves) (λ c. search halves) (λ c. search halves) (λ c κs. search halves)
+    (λ c. search halves) (λ c. search halves))

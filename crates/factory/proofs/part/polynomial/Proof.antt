@@ -1,5 +1,4 @@
 use native.Mathlib.Nat.{add-sub-cancel-left}
-use native.Mathlib.Omega.{arith}
 use borrow.Author.Needs.{needs}
 use Rattle.factory.proofs.part.polynomial.Statement.{statement}
 use Rattle.factory.proofs.part.polynomial.Tie as tie
@@ -10,4 +9,5 @@ returns c = rw add-sub-cancel-left
 pub polynomial-spec : {M : Type 1} → statement M
 polynomial-spec =
     tie.close
-    (tie.spec (λ c. search needs) (λ c. search needs) (λ c. search needs) (λ c. search needs) (λ c. search needs) (λ c. search needs) returns)
+    (tie.spec (λ c. search needs) (λ c. search needs) (λ c. search needs) (λ c. search needs) (λ c. search needs)
+    (λ c. search needs) returns)

@@ -8,4 +8,5 @@ ruleset turns = (needs, some-coefficient, sum-is)
 pub public-sum-spec : {M : Type 1} → statement M
 public-sum-spec =
     tie.close
-    (tie.spec (λ c. search turns) (λ c κs. search turns) (λ c. search turns) (λ c. search turns) (λ c. search turns) (λ c κs. search turns) (λ c κs. search turns) (λ c. search turns))
+    (tie.spec (λ c. search turns) (λ c κs. search turns) (λ c. search turns) (λ c. search turns) (λ c. search turns)
+    (λ c κs. search turns) (λ c κs. search turns) (λ c. search turns))

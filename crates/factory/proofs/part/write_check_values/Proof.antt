@@ -22,4 +22,6 @@ ruleset turns = (needs, block-room, fill-start, fill-turn, check-is, fill-end)
 pub write-check-values-spec : {M : Type 1} → statement M
 write-check-values-spec =
     tie.close
-    (tie.spec Inv-loop μ-loop (λ c. search turns) (λ c κs. search turns) (λ c κs. search turns) (λ c. search turns) (λ c. search turns) (λ c. search turns) (λ c. search turns) (λ c. search turns) (λ c. search turns) (λ c. search turns))
+    (tie.spec Inv-loop μ-loop (λ c. search turns) (λ c κs. search turns) (λ c κs. search turns) (λ c. search turns)
+    (λ c. search turns) (λ c. search turns) (λ c. search turns) (λ c. search turns) (λ c. search turns)
+    (λ c. search turns))

@@ -24,4 +24,5 @@ ruleset turns = (needs, block-room, fill-start, fill-turn, fill-end)
 pub write-sums-spec : {M : Type 1} → statement M
 write-sums-spec =
     tie.close
-    (tie.spec Inv-loop μ-loop (λ c. search turns) (λ c κs. search turns) (λ c. search turns) (λ c. search turns) (λ c. search turns) (λ c. search turns) (λ c. search turns) (λ c. search turns) (λ c. search turns))
+    (tie.spec Inv-loop μ-loop (λ c. search turns) (λ c κs. search turns) (λ c. search turns) (λ c. search turns)
+    (λ c. search turns) (λ c. search turns) (λ c. search turns) (λ c. search turns) (λ c. search turns))

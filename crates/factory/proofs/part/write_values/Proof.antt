@@ -12,4 +12,6 @@ slice-aggregate c = sym (search halves)
 pub write-values-spec : {M : Type 1} → statement M
 write-values-spec =
     tie.close
-    (tie.spec (λ c. search halves) (λ c. search halves) slice-aggregate (λ c κs. search halves) (λ c. search halves) (λ c. search halves) (λ c. search halves) (λ c. search halves) (λ c κs. search halves) (λ c. search halves) (λ c. search halves))
+    (tie.spec (λ c. search halves) (λ c. search halves) slice-aggregate (λ c κs. search halves) (λ c. search halves)
+    (λ c. search halves) (λ c. search halves) (λ c. search halves) (λ c κs. search halves) (λ c. search halves)
+    (λ c. search halves))
