@@ -2,12 +2,12 @@
 use Prim.Native.Nat.{ℕ, zero, suc, _+_, _-_, _*_, _/_, _%_, _≤_, _<_}
 use mathlib.Core.Path.{_≡_, refl, sym, _∙_}
 use mathlib.Core.List.{List, [], _∷_, _++_, append-assoc, append-nil}
-use mathlib.Core.Bool.{Bool, true, false, _&&_}
+use mathlib.Core.Bool.{Bool, true, false, _&&_, cond}
 use native.Mathlib.Omega.{arith}
 use borrow.Author.Tests.{le-leb, leb-true}
 use lib.ListN.{length, take, length-append}
 use lib.Dec.{leb}
-use Rattle.decimal.specs.Numeral.{choose, tens, lastDigits, isDigit, leading, valueAfter}
+use Rattle.decimal.specs.Numeral.{tens, lastDigits, isDigit, leading, valueAfter}
 
 abbrev pub Digits : List ℕ → Type 0
 Digits [] = Unit {0}
@@ -53,7 +53,7 @@ unfolding leading
 leading-le [] = omega arith
 leading-le (b ∷ s) = go (isDigit b) (leading-le s)
   where
-    go : (t : Bool) → leading s ≤ length s → choose t (suc (leading s)) 0 ≤ suc (length s)
+    go : (t : Bool) → leading s ≤ length s → cond t (suc (leading s)) 0 ≤ suc (length s)
     go true h = omega arith
     go false h = omega arith
 
@@ -62,7 +62,7 @@ unfolding leading
 leading-are-digits [] = tt
 leading-are-digits (b ∷ s) = go (isDigit b) refl (leading-are-digits s)
   where
-    go : (t : Bool) → isDigit b ≡ t → Digits (take (leading s) s) → Digits (take (choose t (suc (leading s)) 0) (b ∷ s))
+    go : (t : Bool) → isDigit b ≡ t → Digits (take (leading s) s) → Digits (take (cond t (suc (leading s)) 0) (b ∷ s))
     go true e h = (digit-is b e, h)
     go false e h = tt
 

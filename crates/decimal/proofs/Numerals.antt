@@ -2,14 +2,14 @@
 use Prim.Native.Nat.{ℕ, zero, suc, _+_, _-_, _*_, _≤_, _<_}
 use mathlib.Core.Path.{_≡_, refl, ap, sym, _∙_}
 use mathlib.Core.List.{List, [], _∷_, _++_}
-use mathlib.Core.Bool.{Bool, true, false, not, _||_, or-true}
+use mathlib.Core.Bool.{Bool, true, false, not, _||_, or-true, cond}
 use native.Mathlib.Omega.{arith}
 use borrow.Author.Tests.{le-leb, ne-eqb, leb-true, eqb-false, not-true}
 use lib.ListN.{length, getD, take, drop, take-append-drop, List·getD-append}
 use lib.Seq.{take-at, length-take-le, getD-take}
 use lib.Dec.{leb, eqb}
 use Rattle.decimal.specs.declared.Field.the-variants.{Number, Wrong}
-use Rattle.decimal.specs.Numeral.{choose, tens, lastDigits, sizeWithin, size, numeral, leading, valueAfter, wellFormed, fieldOf}
+use Rattle.decimal.specs.Numeral.{tens, lastDigits, sizeWithin, size, numeral, leading, valueAfter, wellFormed, fieldOf}
 use Rattle.decimal.proofs.Digits.{Digits, and-true, tens-grow, length-digits, digits-are-digits, leading-append, leading-le, leading-are-digits, value-digits, digits-value, value-below}
 use Rattle.decimal.proofs.Sizes.{size-pos, size-le, size-bound, size-one, size-value, first-digit}
 
@@ -93,7 +93,7 @@ pub number-is-numeral : (s : List ℕ) (at x next : ℕ) → fieldOf s at ≡ Nu
 unfolding fieldOf
 number-is-numeral s at x next = go (wellFormed (leading s) (getD s 0 0)) refl
   where
-    go : (t : Bool) → wellFormed (leading s) (getD s 0 0) ≡ t → choose t (Number (valueAfter 0 (take (leading s) s)) (at + leading s)) Wrong ≡ Number x next
+    go : (t : Bool) → wellFormed (leading s) (getD s 0 0) ≡ t → cond t (Number (valueAfter 0 (take (leading s) s)) (at + leading s)) Wrong ≡ Number x next
         → BeginsWith s x × (next ≡ at + leading s)
     go true f e =
         let p : valueAfter 0 (take (leading s) s) ≡ x = cc in

@@ -2,7 +2,7 @@
 use Prim.Native.Nat.{ℕ, suc, _+_, _-_, _*_, _≤_, _<_}
 use mathlib.Core.Path.{_≡_, refl, ap, sym}
 use mathlib.Core.List.{List}
-use mathlib.Core.Bool.{Bool, true, false, and-false}
+use mathlib.Core.Bool.{Bool, true, false, and-false, cond}
 use native.Mathlib.Omega.{arith}
 use native.Mathlib.Numerals.{add-one}
 use borrow.Author.Tests.{le-leb, lt-leb, eq-eqb, ne-eqb, ltb-true, ltb-false}
@@ -12,7 +12,7 @@ use lib.ListN.{length, getD, take, drop, drop-of-length-le}
 use lib.Seq.{drop-cons}
 use lib.Dec.{ltb}
 use Rattle.decimal.specs.declared.Field.the-variants.{Number, Wrong}
-use Rattle.decimal.specs.Numeral.{choose, tens, isDigit, leading, valueAfter, fieldOf, fieldAt}
+use Rattle.decimal.specs.Numeral.{tens, isDigit, leading, valueAfter, fieldOf, fieldAt}
 use Rattle.decimal.proofs.Digits.{tens-grow, is-digit, digit-is}
 use Rattle.decimal.proofs.Positions.{head-at}
 
@@ -45,7 +45,7 @@ digit-at : (s : List ℕ) (i : ℕ) → 1 ≤ leading (drop i s) → DigitAt s i
 unfolding leading
 digit-at s i h = go (ltb i (length s)) refl
   where
-    digit : i < length s → (t : Bool) → isDigit (getD s i 0) ≡ t → 1 ≤ choose t (suc (leading (drop (suc i) s))) 0 → DigitAt s i
+    digit : i < length s → (t : Bool) → isDigit (getD s i 0) ≡ t → 1 ≤ cond t (suc (leading (drop (suc i) s))) 0 → DigitAt s i
     digit w true e h =
         let d = digit-is (getD s i 0) e in
         record { within = w; low = d .0; high = d .1; next = rw (drop-cons s i 0 w, e, add-one i) }

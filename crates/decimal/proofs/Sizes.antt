@@ -2,12 +2,12 @@
 use Prim.Native.Nat.{ℕ, zero, suc, _+_, _-_, _*_, _/_, _≤_, _<_}
 use mathlib.Core.Path.{_≡_, refl, sym, _∙_}
 use mathlib.Core.List.{List, [], _∷_}
-use mathlib.Core.Bool.{Bool, true, false}
+use mathlib.Core.Bool.{Bool, true, false, cond}
 use native.Mathlib.Omega.{arith}
 use borrow.Author.Tests.{lt-ltb, le-ltb, ltb-true, ltb-false}
 use lib.ListN.{length, getD, List·getD-append}
 use lib.Dec.{ltb}
-use Rattle.decimal.specs.Numeral.{choose, tens, lastDigits, sizeWithin, valueAfter}
+use Rattle.decimal.specs.Numeral.{tens, lastDigits, sizeWithin, valueAfter}
 use Rattle.decimal.proofs.Digits.{Digits, length-digits}
 
 pub size-pos : (f x : ℕ) → 1 ≤ sizeWithin f x
@@ -15,7 +15,7 @@ unfolding sizeWithin
 size-pos zero x = omega arith
 size-pos (suc f) x = go (ltb x 10)
   where
-    go : (t : Bool) → 1 ≤ choose t 1 (suc (sizeWithin f (x / 10)))
+    go : (t : Bool) → 1 ≤ cond t 1 (suc (sizeWithin f (x / 10)))
     go true = omega arith
     go false = omega arith
 
@@ -24,7 +24,7 @@ unfolding sizeWithin
 size-le zero x = omega arith
 size-le (suc f) x = go (ltb x 10) (size-le f (x / 10))
   where
-    go : (t : Bool) → sizeWithin f (x / 10) ≤ suc f → choose t 1 (suc (sizeWithin f (x / 10))) ≤ suc (suc f)
+    go : (t : Bool) → sizeWithin f (x / 10) ≤ suc f → cond t 1 (suc (sizeWithin f (x / 10))) ≤ suc (suc f)
     go true h = omega arith
     go false h = omega arith
 
@@ -34,7 +34,7 @@ size-grows zero x y h = omega arith
 size-grows (suc f) x y h = go (ltb x 10) (ltb y 10) refl refl (size-grows f (x / 10) (y / 10) (omega arith))
   where
     go : (a b : Bool) → ltb x 10 ≡ a → ltb y 10 ≡ b → sizeWithin f (x / 10) ≤ sizeWithin f (y / 10)
-        → choose a 1 (suc (sizeWithin f (x / 10))) ≤ choose b 1 (suc (sizeWithin f (y / 10)))
+        → cond a 1 (suc (sizeWithin f (x / 10))) ≤ cond b 1 (suc (sizeWithin f (y / 10)))
     go true true d e g = omega arith
     go true false d e g = omega arith
     go false true d e g = absurd (omega (arith, ltb-false x 10 d, ltb-true y 10 e))
@@ -45,7 +45,7 @@ unfolding sizeWithin
 size-bound zero x h = h
 size-bound (suc f) x h = go (ltb x 10) refl (size-bound f (x / 10) (omega arith))
   where
-    go : (t : Bool) → ltb x 10 ≡ t → x / 10 < tens (sizeWithin f (x / 10)) → x < tens (choose t 1 (suc (sizeWithin f (x / 10))))
+    go : (t : Bool) → ltb x 10 ≡ t → x / 10 < tens (sizeWithin f (x / 10)) → x < tens (cond t 1 (suc (sizeWithin f (x / 10))))
     go true e g = omega (arith, ltb-true x 10 e)
     go false e g = omega arith
 
@@ -72,7 +72,7 @@ first-digit zero x h l = λ e. omega arith
 first-digit (suc f) x h l = go (ltb x 10) refl (first-digit f (x / 10))
   where
     go : (t : Bool) → ltb x 10 ≡ t → (1 ≤ x / 10 → x / 10 < tens (suc f) → getD (lastDigits (sizeWithin f (x / 10)) (x / 10)) 0 0 ≡ 48 → ⊥)
-        → getD (lastDigits (choose t 1 (suc (sizeWithin f (x / 10)))) x) 0 0 ≡ 48 → ⊥
+        → getD (lastDigits (cond t 1 (suc (sizeWithin f (x / 10)))) x) 0 0 ≡ 48 → ⊥
     go true e g z = omega (arith, ltb-true x 10 e)
     go false e g z =
         let b = ltb-false x 10 e in

@@ -1,15 +1,11 @@
 -- Document 01, "Broadcast lines": "A number has 1 to 10 digits, no sign and no leading zero (0 is `0`)."
 use Prim.Native.Nat.{ℕ, zero, suc, _+_, _-_, _*_, _/_, _%_}
 use mathlib.Core.List.{List, [], _∷_, _++_}
-use mathlib.Core.Bool.{Bool, true, false, not, _&&_, _||_}
+use mathlib.Core.Bool.{Bool, not, _&&_, _||_, cond}
 use lib.ListN.{getD, take, drop}
 use lib.Dec.{leb, eqb, ltb}
 use Rattle.decimal.specs.declared.Field.{Field}
 use Rattle.decimal.specs.declared.Field.the-variants.{Number, Wrong}
-
-abbrev pub choose : {A : Type 0} → Bool → A → A → A
-choose true a b = a
-choose false a b = b
 
 -- Powers of ten.
 abbrev pub tens : ℕ → ℕ
@@ -24,7 +20,7 @@ lastDigits (suc k) x = lastDigits k (x / 10) ++ ((48 + x % 10) ∷ [])
 -- How many digits x has, at most f + 1.
 unfoldable pub sizeWithin : ℕ → ℕ → ℕ
 sizeWithin zero x = 1
-sizeWithin (suc f) x = choose (ltb x 10) 1 (suc (sizeWithin f (x / 10)))
+sizeWithin (suc f) x = cond (ltb x 10) 1 (suc (sizeWithin f (x / 10)))
 
 -- How many digits a number below 10^10 has.
 abbrev pub size : ℕ → ℕ
@@ -40,7 +36,7 @@ isDigit b = leb 48 b && leb b 57
 -- How many digits a list begins with.
 unfoldable pub leading : List ℕ → ℕ
 leading [] = 0
-leading (b ∷ s) = choose (isDigit b) (suc (leading s)) 0
+leading (b ∷ s) = cond (isDigit b) (suc (leading s)) 0
 
 -- The number that digits ds say behind digits that say a.
 unfoldable pub valueAfter : ℕ → List ℕ → ℕ
@@ -53,7 +49,7 @@ wellFormed k b = leb 1 k && (leb k 10 && (eqb k 1 || not (eqb b 48)))
 
 -- The number that s begins with, where s is what a line has from position `at` on.
 unfoldable pub fieldOf : List ℕ → ℕ → Field
-fieldOf s at = choose (wellFormed (leading s) (getD s 0 0)) (Number (valueAfter 0 (take (leading s) s)) (at + leading s)) Wrong
+fieldOf s at = cond (wellFormed (leading s) (getD s 0 0)) (Number (valueAfter 0 (take (leading s) s)) (at + leading s)) Wrong
 
 -- The number at a position of a line.
 abbrev pub fieldAt : List ℕ → ℕ → Field

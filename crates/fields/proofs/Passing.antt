@@ -2,7 +2,7 @@
 use Prim.Native.Nat.{ℕ, suc, _+_, _-_, _≤_, _<_, _^_}
 use mathlib.Core.Path.{_≡_, refl, sym, _∙_}
 use mathlib.Core.List.{List, [], _∷_, _++_, append-assoc, append-nil}
-use mathlib.Core.Bool.{Bool, true, false, _&&_}
+use mathlib.Core.Bool.{Bool, true, false, _&&_, cond}
 use native.Mathlib.Omega.{arith}
 use native.Mathlib.Numerals.{add-one}
 use borrow.Author.Fill.{fill-more}
@@ -16,7 +16,7 @@ use Rattle.decimal.specs.declared.Field.{Field}
 use Rattle.decimal.specs.declared.Field.the-variants.{Number, Wrong}
 use Rattle.fields.specs.declared.Run.{Run}
 use Rattle.fields.specs.declared.Run.the-variants.{Fields, Broken}
-use Rattle.decimal.specs.Numeral.{choose, fieldAt}
+use Rattle.decimal.specs.Numeral.{fieldAt}
 use Rattle.fields.specs.Fields.{Parsed, parsed, malformed, push, behind, fieldsAt, ended, numbersOf, largestFrom, runFrom, runOf, Fillable}
 use Rattle.decimal.proofs.Positions.{inside}
 
@@ -49,11 +49,11 @@ module _ (s : List ℕ) (at k pos largest i : ℕ) (inv : Passed s at k pos larg
       unfolding fieldsAt
       passed-wrong w = broken (rw (one-more, l, ← e, w))
 
-      push-run : (v m : ℕ) (o : Parsed) → m ≡ choose (ltb largest v) v largest → runFrom largest (push v o) ≡ runFrom m o
+      push-run : (v m : ℕ) (o : Parsed) → m ≡ cond (ltb largest v) v largest → runFrom largest (push v o) ≡ runFrom m o
       push-run v m (parsed xs next) q = rw q
       push-run v m malformed q = refl
 
-      pub passed-more : (v next m : ℕ) → f ≡ Number v next → m ≡ choose (ltb largest v) v largest → Passed s at k next m (i + 1)
+      pub passed-more : (v next m : ℕ) → f ≡ Number v next → m ≡ cond (ltb largest v) v largest → Passed s at k next m (i + 1)
       unfolding fieldsAt
       passed-more v next m w q =
           record {
@@ -76,10 +76,10 @@ module _ (s : List ℕ) (o : Parsed) (r : Run) (e : r ≡ runOf o) where
 
   module _ (largest next : ℕ) (w : r ≡ Fields largest next) where
     -- by the test of the line's end
-    end-is : (v : Run) (t : Bool) → (eqb (getD s next 0) 10 && eqb (length s) (next + 1)) ≡ t → v ≡ choose t (Fields largest next) Broken → v ≡ runOf (ended s o)
+    end-is : (v : Run) (t : Bool) → (eqb (getD s next 0) 10 && eqb (length s) (next + 1)) ≡ t → v ≡ cond t (Fields largest next) Broken → v ≡ runOf (ended s o)
     end-is v t h q = go o (sym e ∙ w)
       where
-        last : (xs : List ℕ) (u : Bool) → u ≡ t → largestFrom 0 xs ≡ largest → v ≡ runOf (choose u (parsed xs next) malformed)
+        last : (xs : List ℕ) (u : Bool) → u ≡ t → largestFrom 0 xs ≡ largest → v ≡ runOf (cond u (parsed xs next) malformed)
         last xs true i a = q ∙ rw (← i, a)
         last xs false i a = q ∙ rw (← i)
 
@@ -126,7 +126,7 @@ takeable s pos j h = comma (eqb (getD s pos 0) 44) refl h
     found (Number x next) e c h = taken x next (fieldsAt j s next) refl c e h
     found Wrong e c h = absurd h
 
-    comma : (t : Bool) → eqb (getD s pos 0) 44 ≡ t → Fillable (choose t (behind (fieldAt s (pos + 1)) (λ x next. push x (fieldsAt j s next))) malformed) → Takeable s pos j
+    comma : (t : Bool) → eqb (getD s pos 0) 44 ≡ t → Fillable (cond t (behind (fieldAt s (pos + 1)) (λ x next. push x (fieldsAt j s next))) malformed) → Takeable s pos j
     comma true e h = found (fieldAt s (pos + 1)) refl (eqb-true (getD s pos 0) 44 e) h
     comma false e h = absurd h
 

@@ -2,7 +2,7 @@
 use Prim.Native.Nat.{ℕ, zero, suc, _+_, _≤_}
 use mathlib.Core.Path.{_≡_, refl, ap, sym, _∙_}
 use mathlib.Core.List.{List, [], _∷_, _++_, append-assoc}
-use mathlib.Core.Bool.{Bool, true, false, _&&_}
+use mathlib.Core.Bool.{Bool, true, false, _&&_, cond}
 use native.Mathlib.Omega.{arith}
 use borrow.Author.Tests.{eq-eqb, eqb-true}
 use lib.ListN.{length, getD, drop, length-append, drop-of-length-le}
@@ -10,7 +10,7 @@ use lib.Seq.{drop-drop, getD-at}
 use lib.Dec.{eqb}
 use Rattle.decimal.specs.declared.Field.{Field}
 use Rattle.decimal.specs.declared.Field.the-variants.{Number, Wrong}
-use Rattle.decimal.specs.Numeral.{choose, size, numeral, leading, fieldOf, fieldAt}
+use Rattle.decimal.specs.Numeral.{size, numeral, leading, fieldOf, fieldAt}
 use Rattle.fields.specs.Fields.{field, fields, written, Parsed, parsed, malformed, push, behind, fieldsAt, ended, Small}
 use Rattle.decimal.proofs.Digits.{and-true}
 use Rattle.decimal.proofs.Numerals.{length-numeral, numeral-reads, number-is-numeral}
@@ -89,7 +89,7 @@ fields-spelled (suc k) s at xs next e = comma (eqb (getD s at 0) 44) refl (field
 
     comma : (t : Bool) → eqb (getD s at 0) 44 ≡ t
         → ((then : ℕ) (ys : List ℕ) (end : ℕ) → fieldsAt k s then ≡ parsed ys end → Spells s then k ys end)
-        → choose t (behind (fieldAt s (at + 1)) (λ x then. push x (fieldsAt k s then))) malformed ≡ parsed xs next → Spells s at (suc k) xs next
+        → cond t (behind (fieldAt s (at + 1)) (λ x then. push x (fieldsAt k s then))) malformed ≡ parsed xs next → Spells s at (suc k) xs next
     comma true c ih e = found (fieldAt s (at + 1)) (eqb-true (getD s at 0) 44 c) refl ih e
     comma false c ih e = not-parsed xs next e
 
@@ -108,7 +108,7 @@ ended-is : (s xs : List ℕ) (next : ℕ) (o : Parsed) → ended s o ≡ parsed 
 ended-is s xs next malformed e = not-parsed xs next e
 ended-is s xs next (parsed ys then) e = go (eqb (getD s then 0) 10 && eqb (length s) (then + 1)) refl e
   where
-    go : (t : Bool) → (eqb (getD s then 0) 10 && eqb (length s) (then + 1)) ≡ t → choose t (parsed ys then) malformed ≡ parsed xs next
+    go : (t : Bool) → (eqb (getD s then 0) 10 && eqb (length s) (then + 1)) ≡ t → cond t (parsed ys then) malformed ≡ parsed xs next
         → (parsed ys then ≡ parsed xs next) × (length s ≡ next + 1) × (getD s next 0 ≡ 10)
     go true h e =
         let g = and-true (eqb (getD s then 0) 10) _ h in

@@ -2,7 +2,7 @@
 use Prim.Native.Nat.{ℕ, suc, _+_, _≤_, _<_}
 use mathlib.Core.Path.{_≡_, refl, sym, _∙_}
 use mathlib.Core.List.{List, [], _∷_}
-use mathlib.Core.Bool.{Bool, true, false}
+use mathlib.Core.Bool.{Bool, true, false, cond}
 use native.Mathlib.Omega.{arith}
 use borrow.Author.Tests.{ltb-true, ltb-false}
 use lib.ListN.{getD}
@@ -11,14 +11,14 @@ use Rattle.decimal.specs.declared.Field.{Field}
 use Rattle.decimal.specs.declared.Field.the-variants.{Number, Wrong}
 use Rattle.fields.specs.declared.Run.{Run}
 use Rattle.fields.specs.declared.Run.the-variants.{Fields, Broken}
-use Rattle.decimal.specs.Numeral.{choose, fieldAt}
+use Rattle.decimal.specs.Numeral.{fieldAt}
 use Rattle.fields.specs.Fields.{parsed, malformed, push, behind, fieldsAt, runOf, largestFrom, Narrow}
 
 -- the largest of one number is the number
-largest-one : (x : ℕ) → choose (ltb 0 x) x 0 ≡ x
+largest-one : (x : ℕ) → cond (ltb 0 x) x 0 ≡ x
 largest-one x = go (ltb 0 x) refl
   where
-    go : (t : Bool) → ltb 0 x ≡ t → choose t x 0 ≡ x
+    go : (t : Bool) → ltb 0 x ≡ t → cond t x 0 ≡ x
     go true e = refl
     go false e = omega (arith, ltb-false 0 x e)
 
@@ -35,8 +35,8 @@ module _ (k : ℕ) (s : List ℕ) (at : ℕ) (r : Run) (e : r ≡ runOf (fieldsA
           rw (a, b)
       found Wrong q = let z : _≡_ {A = ℕ} 0 1 = cc in absurd (omega arith)
 
-      comma : (t : Bool) (f : Field) → runOf (choose t (behind f (λ y then. push y (parsed [] then))) malformed) ≡ Fields x next
-          → choose t (behind f (λ y then. push y (fieldsAt k s then))) malformed ≡ push x (fieldsAt k s next)
+      comma : (t : Bool) (f : Field) → runOf (cond t (behind f (λ y then. push y (parsed [] then))) malformed) ≡ Fields x next
+          → cond t (behind f (λ y then. push y (fieldsAt k s then))) malformed ≡ push x (fieldsAt k s next)
       comma true f q = found f q
       comma false f q = let z : _≡_ {A = ℕ} 0 1 = cc in absurd (omega arith)
 
@@ -48,25 +48,25 @@ module _ (k : ℕ) (s : List ℕ) (at : ℕ) (r : Run) (e : r ≡ runOf (fieldsA
       found (Number y then) q = let z : _≡_ {A = ℕ} 0 1 = cc in absurd (omega arith)
       found Wrong q = refl
 
-      comma : (t : Bool) (f : Field) → runOf (choose t (behind f (λ y then. push y (parsed [] then))) malformed) ≡ Broken
-          → choose t (behind f (λ y then. push y (fieldsAt k s then))) malformed ≡ malformed
+      comma : (t : Bool) (f : Field) → runOf (cond t (behind f (λ y then. push y (parsed [] then))) malformed) ≡ Broken
+          → cond t (behind f (λ y then. push y (fieldsAt k s then))) malformed ≡ malformed
       comma true f q = found f q
       comma false f q = refl
 
 -- ---- the largest
-larger-above : (m x : ℕ) → (m ≤ choose (ltb m x) x m) × (x ≤ choose (ltb m x) x m)
+larger-above : (m x : ℕ) → (m ≤ cond (ltb m x) x m) × (x ≤ cond (ltb m x) x m)
 larger-above m x = go (ltb m x) refl
   where
-    go : (t : Bool) → ltb m x ≡ t → (m ≤ choose t x m) × (x ≤ choose t x m)
+    go : (t : Bool) → ltb m x ≡ t → (m ≤ cond t x m) × (x ≤ cond t x m)
     go true e = (omega (arith, ltb-true m x e), omega arith)
     go false e = (omega arith, omega (arith, ltb-false m x e))
 
 largest-above : (m : ℕ) (xs : List ℕ) → m ≤ largestFrom m xs
 largest-above m [] = omega arith
-largest-above m (x ∷ xs) = omega (arith, larger-above m x .0, largest-above (choose (ltb m x) x m) xs)
+largest-above m (x ∷ xs) = omega (arith, larger-above m x .0, largest-above (cond (ltb m x) x m) xs)
 
 pub largest-narrow : (m : ℕ) (xs : List ℕ) → largestFrom m xs < 4294967296 → Narrow xs
 largest-narrow m [] h = tt
 largest-narrow m (x ∷ xs) h =
-    let k : ℕ = choose (ltb m x) x m in
+    let k : ℕ = cond (ltb m x) x m in
     (omega (arith, larger-above m x .1, largest-above k xs), largest-narrow k xs h)

@@ -1,14 +1,14 @@
 -- Document 01, "Broadcast lines": "fields parted by commas". Here every field stands behind its comma.
 use Prim.Native.Nat.{ℕ, zero, suc, _+_, _-_, _<_}
 use mathlib.Core.List.{List, [], _∷_, _++_}
-use mathlib.Core.Bool.{_&&_}
+use mathlib.Core.Bool.{_&&_, cond}
 use lib.ListN.{length, getD, take, drop, replicate}
 use lib.Dec.{eqb, ltb}
 use Rattle.decimal.specs.declared.Field.{Field}
 use Rattle.decimal.specs.declared.Field.the-variants.{Number, Wrong}
 use Rattle.fields.specs.declared.Run.{Run}
 use Rattle.fields.specs.declared.Run.the-variants.{Fields, Broken}
-use Rattle.decimal.specs.Numeral.{choose, tens, numeral, fieldAt}
+use Rattle.decimal.specs.Numeral.{tens, numeral, fieldAt}
 
 -- A comma and a number.
 abbrev pub field : ℕ → List ℕ
@@ -48,11 +48,11 @@ behind Wrong rest = malformed
 -- The k number fields from a position of a line.
 unfoldable pub fieldsAt : ℕ → List ℕ → ℕ → Parsed
 fieldsAt zero s at = parsed [] at
-fieldsAt (suc k) s at = choose (eqb (getD s at 0) 44) (behind (fieldAt s (at + 1)) (λ x next. push x (fieldsAt k s next))) malformed
+fieldsAt (suc k) s at = cond (eqb (getD s at 0) 44) (behind (fieldAt s (at + 1)) (λ x next. push x (fieldsAt k s next))) malformed
 
 -- "one line feed at the end": fields that a line feed follows, and nothing more.
 abbrev pub ended : List ℕ → Parsed → Parsed
-ended s (parsed xs next) = choose (eqb (getD s next 0) 10 && eqb (length s) (next + 1)) (parsed xs next) malformed
+ended s (parsed xs next) = cond (eqb (getD s next 0) 10 && eqb (length s) (next + 1)) (parsed xs next) malformed
 ended s malformed = malformed
 
 abbrev pub numbersOf : Parsed → List ℕ
@@ -62,7 +62,7 @@ numbersOf malformed = []
 -- The largest of m and the numbers of a list.
 abbrev pub largestFrom : ℕ → List ℕ → ℕ
 largestFrom m [] = m
-largestFrom m (x ∷ xs) = largestFrom (choose (ltb m x) x m) xs
+largestFrom m (x ∷ xs) = largestFrom (cond (ltb m x) x m) xs
 
 -- What a first pass over fields tells of them.
 abbrev pub runFrom : ℕ → Parsed → Run

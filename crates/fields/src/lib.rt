@@ -1,10 +1,10 @@
 // Comma-parted number fields: written into a part of bytes, and read from a position of a line on.
 ghost use mathlib.Core.Path.{_≡_};
+ghost use mathlib.Core.Bool.{cond};
 ghost use mathlib.Core.List.{_++_};
 ghost use Prim.Native.Nat.{_+_, _≤_};
 ghost use lib.ListN.{length, replicate};
 ghost use lib.Dec.{ltb};
-ghost use Rattle.decimal.specs.Numeral.{choose};
 ghost use Rattle.fields.specs.Fields.{field, fields, written, overwrite, fieldsAt, ended, runOf, numbersOf, Fillable, padded};
 use decimal::Field;
 
@@ -72,7 +72,7 @@ pub fn put_line(letter: u8, head: &[u32], rest: &[u32], out: &mut [u8]) -> usize
 }
 
 fn greater(a: u64, b: u64) -> u64
-    ensures { λ r. ⌜ r ≡ choose (ltb a b) b a ⌝ }
+    ensures { λ r. ⌜ r ≡ cond (ltb a b) b a ⌝ }
 {
     if a < b { b } else { a }
 }

@@ -2,10 +2,9 @@
 use Prim.Native.Nat.{ℕ, zero, suc, _+_}
 use mathlib.Core.Path.{_≡_, refl, ap, sym, _∙_}
 use mathlib.Core.List.{List}
-use mathlib.Core.Bool.{Bool, true, false}
+use mathlib.Core.Bool.{Bool, true, false, cond}
 use native.Mathlib.Omega.{arith}
 use lib.ListN.{length, getD}
-use Rattle.decimal.specs.Numeral.{choose}
 use Rattle.fields.specs.Fields.{fields, written, parsed, malformed, fieldsAt, ended, Small}
 use Rattle.fields.proofs.Reading.{line-read, line-spelled}
 use Rattle.forms.specs.Forms.{isLetter, fieldCount, formOf}
@@ -26,7 +25,7 @@ pub form-spelled : (k : ℕ) (s xs : List ℕ) (next : ℕ) → formOf k s ≡ p
 unfolding formOf
 form-spelled k s xs next e = go (isLetter (getD s 0 0)) refl e
   where
-    go : (t : Bool) → isLetter (getD s 0 0) ≡ t → choose t (ended s (fieldsAt (fieldCount k (getD s 0 0)) s 1)) malformed ≡ parsed xs next → Formed k s xs
+    go : (t : Bool) → isLetter (getD s 0 0) ≡ t → cond t (ended s (fieldsAt (fieldCount k (getD s 0 0)) s 1)) malformed ≡ parsed xs next → Formed k s xs
     go true l e =
         let a = letter-pos (getD s 0 0) l in
         let r = line-spelled s (a .0) (fieldCount k (getD s 0 0)) xs next (a .1) e in

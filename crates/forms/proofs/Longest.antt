@@ -2,14 +2,14 @@
 use Prim.Native.Nat.{ℕ, zero, suc, _+_, _*_, _≤_}
 use mathlib.Core.Path.{_≡_, refl}
 use mathlib.Core.List.{[], _∷_, _++_}
-use mathlib.Core.Bool.{Bool, true, false}
+use mathlib.Core.Bool.{Bool, true, false, cond}
 use native.Mathlib.Omega.{arith}
 use borrow.Author.Tests.{le-ltb}
 use lib.ListN.{length, replicate, length-append, length-replicate}
 use lib.Dec.{eqb}
 use Rattle.refusal.specs.Conditions.{outside, anyBeyond}
 use Rattle.refusal.proofs.Laws.{inside}
-use Rattle.decimal.specs.Numeral.{choose, sizeWithin, size}
+use Rattle.decimal.specs.Numeral.{sizeWithin, size}
 use Rattle.decimal.proofs.Sizes.{size-pos, size-grows}
 use Rattle.fields.specs.Fields.{field, fields, written}
 use Rattle.fields.proofs.Overwriting.{length-field, length-fields-le}
@@ -46,8 +46,8 @@ none-longer n k m l h = go (eqb (m .letter) 68) (eqb (m .letter) 79) (h .count) 
     row : size (m .row) ≤ 2
     row = omega (arith, size-95, size-grows 9 (m .row) 95 (omega (arith, r .row, last-row-le (m .letter))))
 
-    go : (x y : Bool) → length (m .numbers) ≡ choose x 1 (choose y k (2 * k)) → choose x false (outside 1 n (m .post)) ≡ false
-        → length (written (m .letter) (choose x (m .row ∷ m .numbers) (m .row ∷ m .post ∷ m .numbers))) ≤ longest n k
+    go : (x y : Bool) → length (m .numbers) ≡ cond x 1 (cond y k (2 * k)) → cond x false (outside 1 n (m .post)) ≡ false
+        → length (written (m .letter) (cond x (m .row ∷ m .numbers) (m .row ∷ m .post ∷ m .numbers))) ≤ longest n k
     go true y c p =
         omega (arith, length-written (m .letter) (m .row ∷ []) (m .numbers), one-field (m .row), length-fields-le (m .numbers), row, size-pos 9 n)
     go false true c p =

@@ -2,13 +2,12 @@
 use Prim.Native.Nat.{ℕ, _≤_, _<_}
 use mathlib.Core.Path.{_≡_, refl, sym, _∙_}
 use mathlib.Core.List.{List, [], _∷_}
-use mathlib.Core.Bool.{Bool, true, false, not}
+use mathlib.Core.Bool.{Bool, true, false, not, cond}
 use native.Mathlib.Omega.{arith}
 use borrow.Author.Tests.{lt-ltb, le-ltb, eq-eqb, ne-eqb, ltb-true, ltb-false}
 use lib.Dec.{ltb, eqb}
 use Rattle.field.specs.Modulus.{p}
 use Rattle.refusal.specs.Conditions.{or, outside, beyond, anyBeyond}
-use Rattle.decimal.specs.Numeral.{choose}
 use Rattle.fields.specs.Fields.{largestFrom}
 use Rattle.forms.specs.Lines.{lastRow}
 use Rattle.forms.specs.Forms.{outOfRange}
@@ -16,7 +15,7 @@ use Rattle.forms.specs.Forms.{outOfRange}
 pub last-row-le : (letter : ℕ) → lastRow letter ≤ 95
 last-row-le letter = go (eqb letter 77)
   where
-    go : (b : Bool) → choose b 93 95 ≤ 95
+    go : (b : Bool) → cond b 93 95 ≤ 95
     go true = omega arith
     go false = omega arith
 
@@ -31,7 +30,7 @@ module _ (n letter row post largest : ℕ) where
   broken = outOfRange n letter row post (beyond largest)
 
   pub largest-beyond : p ≤ largest → true ≡ broken
-  largest-beyond h = rw (le-ltb largest p h) (sym (or-true (ltb (lastRow letter) row) (choose (eqb letter 68) false (outside 1 n post))))
+  largest-beyond h = rw (le-ltb largest p h) (sym (or-true (ltb (lastRow letter) row) (cond (eqb letter 68) false (outside 1 n post))))
 
   module _ (h : largest < p) (last : ℕ) (l : last ≡ lastRow letter) where
     pub row-beyond : last < row → true ≡ broken
@@ -60,7 +59,7 @@ largest-any m [] = go (beyond m)
     go : (b : Bool) → or b false ≡ b
     go true = refl
     go false = refl
-largest-any m (x ∷ xs) = larger (ltb m x) refl ∙ largest-any (choose (ltb m x) x m) xs
+largest-any m (x ∷ xs) = larger (ltb m x) refl ∙ largest-any (cond (ltb m x) x m) xs
   where
     both : (a b : Bool) (c : Bool) → (a ≡ true → b ≡ true) → or a (or b c) ≡ or b c
     both true true c h = refl
@@ -79,6 +78,6 @@ largest-any m (x ∷ xs) = larger (ltb m x) refl ∙ largest-any (choose (ltb m 
         go true q = let z : not (ltb a p) ≡ false = rw (lt-ltb a p (omega (arith, ltb-true b p q))) in sym z ∙ e
         go false q = refl
 
-    larger : (t : Bool) → ltb m x ≡ t → or (beyond m) (or (beyond x) (anyBeyond xs)) ≡ or (beyond (choose t x m)) (anyBeyond xs)
+    larger : (t : Bool) → ltb m x ≡ t → or (beyond m) (or (beyond x) (anyBeyond xs)) ≡ or (beyond (cond t x m)) (anyBeyond xs)
     larger true e = both (beyond m) (beyond x) (anyBeyond xs) (up m x (omega (arith, ltb-true m x e)))
     larger false e = other (beyond m) (beyond x) (anyBeyond xs) (up x m (ltb-false m x e))

@@ -2,7 +2,7 @@
 use Prim.Native.Nat.{ℕ, _+_, _*_, _≤_, _<_}
 use mathlib.Core.Path.{_≡_, refl, ap, sym, _∙_}
 use mathlib.Core.List.{List, [], _∷_}
-use mathlib.Core.Bool.{Bool, true, false}
+use mathlib.Core.Bool.{Bool, true, false, cond}
 use native.Mathlib.Omega.{arith}
 use borrow.Author.Tests.{eq-eqb, ltb-false, eqb-true}
 use lib.ListN.{length, getD, drop, length-drop}
@@ -11,7 +11,7 @@ use Rattle.refusal.specs.Refusal.{first}
 use Rattle.refusal.specs.Conditions.{outside, beyond, anyBeyond}
 use Rattle.refusal.proofs.Laws.{or-false, inside, all-fail}
 use Rattle.refusal.proofs.Elements.{below-p}
-use Rattle.decimal.specs.Numeral.{choose, tens}
+use Rattle.decimal.specs.Numeral.{tens}
 use Rattle.fields.specs.Fields.{fields, written, Parsed, parsed, malformed, numbersOf, Small}
 use Rattle.forms.specs.Lines.{Message, fieldsOf, text, lastRow}
 use Rattle.forms.specs.Forms.{numberCount, fieldCount, formOf, messageOf, message, isMalformed, beyondRange, lineTests, Sent}
@@ -29,13 +29,13 @@ none-beyond (x ∷ xs) e =
 -- row, post and numbers of a message in range
 pub record InRange (n : ℕ) (m : Message) : Type 0 where
   pub row : m .row ≤ lastRow (m .letter)
-  pub post : choose (eqb (m .letter) 68) false (outside 1 n (m .post)) ≡ false
+  pub post : cond (eqb (m .letter) 68) false (outside 1 n (m .post)) ≡ false
   pub numbers : Small (m .numbers)
 
 pub in-range : (n : ℕ) (m : Message) → beyondRange n m ≡ false → InRange n m
 in-range n m e =
     let a = or-false (ltb (lastRow (m .letter)) (m .row)) _ e in
-    let b = or-false (choose (eqb (m .letter) 68) false (outside 1 n (m .post))) _ (a .1) in
+    let b = or-false (cond (eqb (m .letter) 68) false (outside 1 n (m .post))) _ (a .1) in
     record { row = ltb-false (lastRow (m .letter)) (m .row) (a .0); post = b .0; numbers = none-beyond (m .numbers) (b .1) }
 
 fields-small : (n : ℕ) (m : Message) → n < tens 10 → InRange n m → Small (fieldsOf m)
@@ -44,7 +44,7 @@ fields-small n m l h = go (eqb (m .letter) 68) (h .post)
     row : m .row < tens 10
     row = omega (arith, h .row, last-row-le (m .letter))
 
-    go : (t : Bool) → choose t false (outside 1 n (m .post)) ≡ false → Small (choose t (m .row ∷ m .numbers) (m .row ∷ m .post ∷ m .numbers))
+    go : (t : Bool) → cond t false (outside 1 n (m .post)) ≡ false → Small (cond t (m .row ∷ m .numbers) (m .row ∷ m .post ∷ m .numbers))
     go true p = (row, h .numbers)
     go false p = (row, (omega (arith, inside 1 n (m .post) p .1), h .numbers))
 
@@ -53,7 +53,7 @@ fields-count : (n k : ℕ) (m : Message) → Sent n k m → length (fieldsOf m) 
 fields-count n k m h = go (eqb (m .letter) 68) (h .count)
   where
     go : (t : Bool) → length (m .numbers) ≡ numberCount k (m .letter)
-        → length (choose t (m .row ∷ m .numbers) (m .row ∷ m .post ∷ m .numbers)) ≡ choose t 1 2 + numberCount k (m .letter)
+        → length (cond t (m .row ∷ m .numbers) (m .row ∷ m .post ∷ m .numbers)) ≡ cond t 1 2 + numberCount k (m .letter)
     go true e = omega arith
     go false e = omega arith
 
@@ -61,10 +61,10 @@ message-of-fields : (m : Message) → (m .letter ≡ 68 → m .post ≡ 0) → m
 message-of-fields m z = go (eqb (m .letter) 68) refl
   where
     xs : Bool → List ℕ
-    xs t = choose t (m .row ∷ m .numbers) (m .row ∷ m .post ∷ m .numbers)
+    xs t = cond t (m .row ∷ m .numbers) (m .row ∷ m .post ∷ m .numbers)
 
     go : (t : Bool) → eqb (m .letter) 68 ≡ t
-        → _≡_ {A = Message} (record { letter = m .letter; row = getD (xs t) 0 0; post = choose t 0 (getD (xs t) 1 0); numbers = drop (choose t 1 2) (xs t) }) m
+        → _≡_ {A = Message} (record { letter = m .letter; row = getD (xs t) 0 0; post = cond t 0 (getD (xs t) 1 0); numbers = drop (cond t 1 2) (xs t) }) m
     go true e = ap (λ (p : ℕ). record { letter = m .letter; row = m .row; post = p; numbers = m .numbers }) (sym (z (eqb-true (m .letter) 68 e)))
     go false e = refl
 
@@ -73,7 +73,7 @@ fields-of-message b [] h = absurd (omega arith)
 fields-of-message b (x ∷ []) h = absurd (omega arith)
 fields-of-message b (x ∷ y ∷ xs) h = go (eqb b 68)
   where
-    go : (t : Bool) → choose t (x ∷ drop (choose t 1 2) (x ∷ y ∷ xs)) (x ∷ choose t 0 y ∷ drop (choose t 1 2) (x ∷ y ∷ xs)) ≡ x ∷ y ∷ xs
+    go : (t : Bool) → cond t (x ∷ drop (cond t 1 2) (x ∷ y ∷ xs)) (x ∷ cond t 0 y ∷ drop (cond t 1 2) (x ∷ y ∷ xs)) ≡ x ∷ y ∷ xs
     go true = refl
     go false = refl
 
@@ -81,7 +81,7 @@ fields-of-message b (x ∷ y ∷ xs) h = go (eqb b 68)
 field-count-two : (k b : ℕ) → 2 ≤ fieldCount k b
 field-count-two k b = go (eqb b 68) (eqb b 79)
   where
-    go : (x y : Bool) → 2 ≤ choose x 1 2 + choose x 1 (choose y k (2 * k))
+    go : (x y : Bool) → 2 ≤ cond x 1 2 + cond x 1 (cond y k (2 * k))
     go true y = omega arith
     go false true = omega arith
     go false false = omega arith
@@ -105,7 +105,7 @@ read-is-written n k s e =
     rest : (xs : List ℕ) → length xs ≡ fieldCount k (getD s 0 0) → length (messageOf (getD s 0 0) xs .numbers) ≡ numberCount k (getD s 0 0)
     rest xs = by-letter (eqb (getD s 0 0) 68)
       where
-        by-letter : (t : Bool) → length xs ≡ choose t 1 2 + numberCount k (getD s 0 0) → length (drop (choose t 1 2) xs) ≡ numberCount k (getD s 0 0)
+        by-letter : (t : Bool) → length xs ≡ cond t 1 2 + numberCount k (getD s 0 0) → length (drop (cond t 1 2) xs) ≡ numberCount k (getD s 0 0)
         by-letter true q = omega (arith, length-drop 1 xs)
         by-letter false q = omega (arith, length-drop 2 xs)
 

@@ -2,12 +2,11 @@
 use Prim.Native.Nat.{ℕ, suc, _+_, _*_, _≤_, _<_}
 use mathlib.Core.Path.{_≡_, refl, ap, sym, _∙_}
 use mathlib.Core.List.{List, [], _∷_, _++_}
-use mathlib.Core.Bool.{Bool, true, false, _&&_}
+use mathlib.Core.Bool.{Bool, true, false, _&&_, cond}
 use native.Mathlib.Omega.{arith}
 use borrow.Author.Tests.{eq-eqb, ne-eqb}
 use lib.ListN.{length, getD, List·getD-eq-default}
 use lib.Dec.{eqb}
-use Rattle.decimal.specs.Numeral.{choose}
 use Rattle.fields.specs.declared.Run.{Run}
 use Rattle.fields.specs.declared.Run.the-variants.{Fields, Broken}
 use Rattle.fields.specs.Fields.{Parsed, parsed, malformed, push, fieldsAt, ended, runOf, largestFrom}
@@ -34,23 +33,23 @@ module _ (s : List ℕ) (letter row post at count : ℕ) (r : Run) (e : r ≡ ru
       go (parsed xs then) q = let a : largest ≡ largestFrom 0 xs = cc in ap (Right letter row post at count) a
 
 -- ---- the letter
-module _ (k b count : ℕ) (h : 1 ≤ k) (e : count ≡ choose (isLetter b) (numberCount k b) 0) where
+module _ (k b count : ℕ) (h : 1 ≤ k) (e : count ≡ cond (isLetter b) (numberCount k b) 0) where
   letter-there : 1 ≤ count → (isLetter b ≡ true) × (count ≡ numberCount k b)
   letter-there g = go (isLetter b) refl e
     where
-      go : (t : Bool) → isLetter b ≡ t → count ≡ choose t (numberCount k b) 0 → (t ≡ true) × (count ≡ numberCount k b)
+      go : (t : Bool) → isLetter b ≡ t → count ≡ cond t (numberCount k b) 0 → (t ≡ true) × (count ≡ numberCount k b)
       go true l q = (refl, q)
       go false l q = absurd (omega arith)
 
   no-letter : count < 1 → isLetter b ≡ false
   no-letter g = go (isLetter b) refl e
     where
-      some-number : (x y : Bool) → 1 ≤ choose x 1 (choose y k (2 * k))
+      some-number : (x y : Bool) → 1 ≤ cond x 1 (cond y k (2 * k))
       some-number true y = omega arith
       some-number false true = omega arith
       some-number false false = omega arith
 
-      go : (t : Bool) → isLetter b ≡ t → count ≡ choose t (numberCount k b) 0 → t ≡ false
+      go : (t : Bool) → isLetter b ≡ t → count ≡ cond t (numberCount k b) 0 → t ≡ false
       go true l q = absurd (omega (arith, some-number (eqb b 68) (eqb b 79)))
       go false l q = refl
 
@@ -63,7 +62,7 @@ ended-push : (s : List ℕ) (x : ℕ) (o : Parsed) → ended s (push x o) ≡ be
 ended-push s x malformed = refl
 ended-push s x (parsed xs next) = go (eqb (getD s next 0) 10 && eqb (length s) (next + 1))
   where
-    go : (t : Bool) → choose t (parsed (x ∷ xs) next) malformed ≡ before (x ∷ []) (choose t (parsed xs next) malformed)
+    go : (t : Bool) → cond t (parsed (x ∷ xs) next) malformed ≡ before (x ∷ []) (cond t (parsed xs next) malformed)
     go true = refl
     go false = refl
 
@@ -76,8 +75,8 @@ scan-is : (o : Parsed) (s : List ℕ) (letter row post at count : ℕ) (r : Form
     → o ≡ before (headOf letter row post) (ended s (fieldsAt count s at)) → r ≡ scanRest letter row post at count (ended s (fieldsAt count s at)) → ScanOf o s r
 scan-is o s letter row post at count r l p e q = go (fieldsAt count s at) refl e q
   where
-    last : (xs : List ℕ) (next : ℕ) (t : Bool) → fieldsAt count s at ≡ parsed xs next → o ≡ before (headOf letter row post) (choose t (parsed xs next) malformed)
-        → r ≡ scanRest letter row post at count (choose t (parsed xs next) malformed) → ScanOf o s r
+    last : (xs : List ℕ) (next : ℕ) (t : Bool) → fieldsAt count s at ≡ parsed xs next → o ≡ before (headOf letter row post) (cond t (parsed xs next) malformed)
+        → r ≡ scanRest letter row post at count (cond t (parsed xs next) malformed) → ScanOf o s r
     last xs next true f e q =
         rw q record { numbers = xs; next = next; letter-is = l; post-is = p; all = e; rest = f; largest-is = refl }
     last xs next false f e q = rw q e
@@ -91,7 +90,7 @@ module _ (k : ℕ) (s : List ℕ) where
   unfolding formOf
   scan-empty h = let l : length s ≤ 0 = omega arith in rw (List·getD-eq-default s 0 l)
 
-  module _ (h : 1 ≤ k) (count : ℕ) (c : count ≡ choose (isLetter (getD s 0 0)) (numberCount k (getD s 0 0)) 0) where
+  module _ (h : 1 ≤ k) (count : ℕ) (c : count ≡ cond (isLetter (getD s 0 0)) (numberCount k (getD s 0 0)) 0) where
     pub scan-letter : count < 1 → formOf k s ≡ malformed
     unfolding formOf
     scan-letter g = rw (no-letter k (getD s 0 0) count h c g)
@@ -103,12 +102,12 @@ module _ (k : ℕ) (s : List ℕ) where
 
       -- the fields behind the row
       abbrev left : ℕ
-      left = choose (eqb (getD s 0 0) 68) 0 1 + count
+      left = cond (eqb (getD s 0 0) 68) 0 1 + count
 
       one-more : fieldCount k (getD s 0 0) ≡ suc left
       one-more = go (eqb (getD s 0 0) 68) (letter-there k (getD s 0 0) count h c g .1)
         where
-          go : (t : Bool) → count ≡ numberCount k (getD s 0 0) → choose t 1 2 + numberCount k (getD s 0 0) ≡ suc (choose t 0 1 + count)
+          go : (t : Bool) → count ≡ numberCount k (getD s 0 0) → cond t 1 2 + numberCount k (getD s 0 0) ≡ suc (cond t 0 1 + count)
           go true q = omega arith
           go false q = omega arith
 

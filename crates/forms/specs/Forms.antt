@@ -2,12 +2,11 @@
 use Prim.Native.Nat.{ℕ, _+_, _*_}
 use mathlib.Core.Path.{_≡_}
 use mathlib.Core.List.{List, [], _∷_, _++_}
-use mathlib.Core.Bool.{Bool, true, false, _||_}
+use mathlib.Core.Bool.{Bool, true, false, _||_, cond}
 use lib.ListN.{length, getD, drop}
 use lib.Dec.{eqb, ltb}
 use Rattle.refusal.specs.Refusal.{Test, _when_}
 use Rattle.refusal.specs.Conditions.{or, outside, anyBeyond}
-use Rattle.decimal.specs.Numeral.{choose}
 use Rattle.fields.specs.Fields.{Parsed, parsed, malformed, fieldsAt, ended, numbersOf, largestFrom}
 use Rattle.forms.specs.declared.Form.{Form}
 use Rattle.forms.specs.declared.Form.the-variants.{Right, Wrong}
@@ -18,15 +17,15 @@ isLetter b = eqb b 68 || (eqb b 79 || eqb b 77)
 
 -- How many numbers stand behind row and post, where a message has k coefficients.
 abbrev pub numberCount : ℕ → ℕ → ℕ
-numberCount k b = choose (eqb b 68) 1 (choose (eqb b 79) k (2 * k))
+numberCount k b = cond (eqb b 68) 1 (cond (eqb b 79) k (2 * k))
 
 -- How many fields a line has in all.
 abbrev pub fieldCount : ℕ → ℕ → ℕ
-fieldCount k b = choose (eqb b 68) 1 2 + numberCount k b
+fieldCount k b = cond (eqb b 68) 1 2 + numberCount k b
 
 -- The fields of a line of the right form: "letter, field count, digits, .. final line feed".
 unfoldable pub formOf : ℕ → List ℕ → Parsed
-formOf k s = choose (isLetter (getD s 0 0)) (ended s (fieldsAt (fieldCount k (getD s 0 0)) s 1)) malformed
+formOf k s = cond (isLetter (getD s 0 0)) (ended s (fieldsAt (fieldCount k (getD s 0 0)) s 1)) malformed
 
 -- What a letter and a line's numbers say.
 abbrev pub messageOf : ℕ → List ℕ → Message
@@ -34,8 +33,8 @@ messageOf b xs =
     record {
       letter = b;
       row = getD xs 0 0;
-      post = choose (eqb b 68) 0 (getD xs 1 0);
-      numbers = drop (choose (eqb b 68) 1 2) xs;
+      post = cond (eqb b 68) 0 (getD xs 1 0);
+      numbers = drop (cond (eqb b 68) 1 2) xs;
     }
 
 abbrev pub isMalformed : Parsed → Bool
@@ -48,7 +47,7 @@ message k s = messageOf (getD s 0 0) (numbersOf (formOf k s))
 
 -- "element at least p, row above 95 (a triple's first above 93), post outside 1..n"; `big` says the first.
 abbrev pub outOfRange : ℕ → ℕ → ℕ → ℕ → Bool → Bool
-outOfRange n letter row post big = or (ltb (lastRow letter) row) (or (choose (eqb letter 68) false (outside 1 n post)) big)
+outOfRange n letter row post big = or (ltb (lastRow letter) row) (or (cond (eqb letter 68) false (outside 1 n post)) big)
 
 abbrev pub beyondRange : ℕ → Message → Bool
 beyondRange n m = outOfRange n (m .letter) (m .row) (m .post) (anyBeyond (m .numbers))
@@ -67,7 +66,7 @@ pub record Sent (n k : ℕ) (m : Message) : Type 0 where
 -- ---- between the functions of the code
 -- The row and the post of a line, as fields.
 abbrev pub headOf : ℕ → ℕ → ℕ → List ℕ
-headOf letter row post = choose (eqb letter 68) (row ∷ []) (row ∷ post ∷ [])
+headOf letter row post = cond (eqb letter 68) (row ∷ []) (row ∷ post ∷ [])
 
 -- A line whose numbers behind row and post stand at a position.
 pub record Scanned (o : Parsed) (s : List ℕ) (letter row post at count largest : ℕ) : Type 0 where

@@ -1,8 +1,8 @@
 -- Document 01, "Broadcast lines": the three lines and their text. 68, 79 and 77 are `D`, `O` and `M`.
+use mathlib.Core.Bool.{cond}
 use Prim.Native.Nat.{ℕ}
 use mathlib.Core.List.{List, [], _∷_}
 use lib.Dec.{eqb}
-use Rattle.decimal.specs.Numeral.{choose}
 use Rattle.fields.specs.Fields.{written}
 
 -- What a line says. A `D` has no post, which counts as 0.
@@ -25,11 +25,11 @@ abbrev pub masks : ℕ → ℕ → List ℕ → Message
 masks row post xs = record { letter = 77; row = row; post = post; numbers = xs }
 
 abbrev pub fieldsOf : Message → List ℕ
-fieldsOf m = choose (eqb (m .letter) 68) (m .row ∷ m .numbers) (m .row ∷ m .post ∷ m .numbers)
+fieldsOf m = cond (eqb (m .letter) 68) (m .row ∷ m .numbers) (m .row ∷ m .post ∷ m .numbers)
 
 abbrev pub text : Message → List ℕ
 text m = written (m .letter) (fieldsOf m)
 
 -- "row above 95, or a triple's first above 93"
 abbrev pub lastRow : ℕ → ℕ
-lastRow letter = choose (eqb letter 77) 93 95
+lastRow letter = cond (eqb letter 77) 93 95

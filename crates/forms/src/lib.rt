@@ -1,8 +1,8 @@
 // The form of broadcast lines: what a line says, and where its numbers stand.
 ghost use mathlib.Core.Path.{_≡_};
+ghost use mathlib.Core.Bool.{cond};
 ghost use Prim.Native.Nat.{_≤_};
 ghost use Rattle.refusal.specs.Conditions.{beyond};
-ghost use Rattle.decimal.specs.Numeral.{choose};
 ghost use Rattle.fields.specs.Fields.{fieldsAt, ended};
 ghost use Rattle.forms.specs.Lines.{lastRow};
 ghost use Rattle.forms.specs.Forms.{isLetter, numberCount, formOf, outOfRange, ScanOf, scanRest};
@@ -31,7 +31,7 @@ pub fn last_row(letter: u8) -> usize
 // How many numbers stand behind row and post; 0 where the byte is no letter of a line.
 fn number_count(letter: u8, k: usize) -> usize
     requires { ⌜ k ≤ 4294967296 ⌝ }
-    ensures { λ r. ⌜ r ≡ choose (isLetter letter) (numberCount k letter) 0 ⌝ }
+    ensures { λ r. ⌜ r ≡ cond (isLetter letter) (numberCount k letter) 0 ⌝ }
 {
     if letter == 68 {
         return 1;

@@ -2,7 +2,7 @@
 use Prim.Native.Nat.{ℕ, _+_, _*_, _≤_, _<_}
 use mathlib.Core.Path.{_≡_, refl, ap, sym, _∙_}
 use mathlib.Core.List.{List, [], _∷_, _++_}
-use mathlib.Core.Bool.{Bool, true, false}
+use mathlib.Core.Bool.{Bool, true, false, cond}
 use native.Mathlib.Omega.{arith}
 use borrow.Author.Tests.{eq-eqb, ne-eqb, eqb-true}
 use lib.ListN.{length, getD, drop, length-append}
@@ -13,7 +13,6 @@ use Rattle.refusal.specs.Conditions.{outside, missized, beyond, postsTests}
 use Rattle.refusal.proofs.Laws.{or-false}
 use Rattle.refusal.proofs.Elements.{below-p}
 use Rattle.refusal.proofs.Endings.{refused}
-use Rattle.decimal.specs.Numeral.{choose}
 use Rattle.fields.specs.Fields.{Parsed, fieldsAt, numbersOf, Fillable, padded}
 use Rattle.forms.proofs.Ranges.{largest-any}
 use Rattle.fields.proofs.Single.{largest-narrow}
@@ -55,10 +54,10 @@ module _ (n k : ℕ) (s out : List ℕ) (f : Form) (form : ScanOf (formOf k s) s
         ∙ go (eqb letter 68) refl
       where
         xs : Bool → List ℕ
-        xs t = choose t (row ∷ []) (row ∷ post ∷ []) ++ scanned .numbers
+        xs t = cond t (row ∷ []) (row ∷ post ∷ []) ++ scanned .numbers
 
         go : (t : Bool) → eqb letter 68 ≡ t
-            → _≡_ {A = Message} (record { letter = letter; row = getD (xs t) 0 0; post = choose t 0 (getD (xs t) 1 0); numbers = drop (choose t 1 2) (xs t) }) said
+            → _≡_ {A = Message} (record { letter = letter; row = getD (xs t) 0 0; post = cond t 0 (getD (xs t) 1 0); numbers = drop (cond t 1 2) (xs t) }) said
         go true e = ap (λ (q : ℕ). record { letter = letter; row = row; post = q; numbers = scanned .numbers }) (sym (scanned .post-is (eqb-true letter 68 e)))
         go false e = refl
 
@@ -95,7 +94,7 @@ module _ (n k : ℕ) (s out : List ℕ) (f : Form) (form : ScanOf (formOf k s) s
         pub taken-fillable : Fillable (fieldsAt count s at)
         taken-fillable =
             let a = or-false (ltb (lastRow letter) row) _ (sym e ∙ h) in
-            let c = or-false (choose (eqb letter 68) false (outside 1 n post)) _ (a .1) in
+            let c = or-false (cond (eqb letter 68) false (outside 1 n post)) _ (a .1) in
             let l : largest < p = below-p largest (c .1) in
             rw (scanned .rest) (largest-narrow 0 (scanned .numbers) (omega (arith, scanned .largest-is)))
 
@@ -107,7 +106,7 @@ module _ (n k : ℕ) (s out : List ℕ) (f : Form) (form : ScanOf (formOf k s) s
         sym (length-append (headOf letter row post) (scanned .numbers)) ∙ g .number ∙ ap (fieldCount k) (sym (scanned .letter-is)) in
         omega (arith, c .number, few (eqb letter 68) (eqb letter 79) m)
       where
-        few : (x y : Bool) → length (choose x (row ∷ []) (row ∷ post ∷ [])) + length (scanned .numbers) ≡ choose x 1 2 + choose x 1 (choose y k (2 * k))
+        few : (x y : Bool) → length (cond x (row ∷ []) (row ∷ post ∷ [])) + length (scanned .numbers) ≡ cond x 1 2 + cond x 1 (cond y k (2 * k))
             → length (scanned .numbers) ≤ 2 * k
         few true y e = omega arith
         few false true e = omega arith

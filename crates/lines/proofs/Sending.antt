@@ -2,7 +2,7 @@
 use Prim.Native.Nat.{ℕ, _+_, _*_, _≤_, _<_}
 use mathlib.Core.Path.{_≡_, refl, ap, sym, _∙_}
 use mathlib.Core.List.{List, [], _∷_}
-use mathlib.Core.Bool.{Bool, true, false, not, _||_}
+use mathlib.Core.Bool.{Bool, true, false, not, _||_, cond}
 use native.Mathlib.Omega.{arith}
 use borrow.Author.Tests.{le-ltb, eq-eqb, eqb-true, eqb-false}
 use lib.ListN.{length, getD}
@@ -10,7 +10,7 @@ use lib.Dec.{ltb, eqb}
 use Rattle.refusal.specs.Refusal.{Test, _when_, first}
 use Rattle.refusal.specs.Conditions.{outside, missized, beyond, anyBeyond, postsTests}
 use Rattle.refusal.proofs.Laws.{first-join, orElse-zero, all-fail, not-refused, or-false, inside, equal}
-use Rattle.decimal.specs.Numeral.{choose, tens}
+use Rattle.decimal.specs.Numeral.{tens}
 use Rattle.forms.specs.Lines.{Message, deal, opening, masks, text, lastRow}
 use Rattle.forms.specs.Forms.{isLetter, numberCount, message, lineTests, Sent}
 use Rattle.forms.proofs.RoundTrip.{written-reads-back, read-is-written}
@@ -75,9 +75,9 @@ module _ (n t : ℕ) where
   sent-row : (m : Message) → Sent n (t + 1) m → ltb (lastRow (m .letter)) (m .row) ≡ false
   sent-row m h = or-false (ltb (lastRow (m .letter)) (m .row)) _ (h .in-range) .0
 
-  sent-rest : (m : Message) → Sent n (t + 1) m → (choose (eqb (m .letter) 68) false (outside 1 n (m .post)) ≡ false) × (anyBeyond (m .numbers) ≡ false)
+  sent-rest : (m : Message) → Sent n (t + 1) m → (cond (eqb (m .letter) 68) false (outside 1 n (m .post)) ≡ false) × (anyBeyond (m .numbers) ≡ false)
   sent-rest m h =
-      or-false (choose (eqb (m .letter) 68) false (outside 1 n (m .post))) (anyBeyond (m .numbers))
+      or-false (cond (eqb (m .letter) 68) false (outside 1 n (m .post))) (anyBeyond (m .numbers))
       (or-false (ltb (lastRow (m .letter)) (m .row)) _ (h .in-range) .1)
 
   module _ (p : first (postsTests n t) ≡ 0) (row post : ℕ) (xs : List ℕ) (room : ℕ) where
@@ -106,7 +106,7 @@ module _ (n t : ℕ) where
     -- by the letter
     by-letter : (letter : ℕ) (x y z : Bool) → eqb letter 68 ≡ x → eqb letter 79 ≡ y → eqb letter 77 ≡ z → (x || (y || z)) ≡ true
         → Sent n (t + 1) (posted letter row post xs) → length (text (posted letter row post xs)) ≤ room
-        → choose x (dealRefusal n t row (getD xs 0 0) room) (choose y (openingRefusal n t row post xs room) (masksRefusal n t row post xs room)) ≡ 0
+        → cond x (dealRefusal n t row (getD xs 0 0) room) (cond y (openingRefusal n t row post xs room) (masksRefusal n t row post xs room)) ≡ 0
     by-letter letter true y z d o m i h l = let e = eqb-true letter 68 d in sent-deal (rw e at h) (rw e at l)
     by-letter letter false true z d o m i h l = let e = eqb-true letter 79 o in sent-posted 79 (t + 1) refl refl (rw e at h) (rw e at l)
     by-letter letter false false true d o m i h l = let e = eqb-true letter 77 m in sent-posted 77 (2 * (t + 1)) refl refl (rw e at h) (rw e at l)

@@ -1,11 +1,11 @@
 -- Writing a line: which refusal, and what a call leaves.
+use mathlib.Core.Bool.{cond}
 use Prim.Native.Nat.{ℕ, _+_, _*_}
 use mathlib.Core.List.{List, [], _∷_}
 use lib.ListN.{length, getD}
 use lib.Dec.{eqb, ltb}
 use Rattle.refusal.specs.Refusal.{Test, _when_, outcome}
 use Rattle.refusal.specs.Conditions.{outside, missized, beyond, anyBeyond}
-use Rattle.decimal.specs.Numeral.{choose}
 use Rattle.fields.specs.Fields.{written, overwrite}
 use Rattle.forms.specs.Lines.{Message, deal, text, lastRow}
 use Rattle.lines.specs.declared.Written.{Written}
@@ -37,8 +37,8 @@ masksRefusal n t row post xs room = lineRefusal n t (postedTests n 77 (2 * (t + 
 -- The refusal of the call that writes a message, by its letter.
 abbrev pub writeRefusal : ℕ → ℕ → Message → ℕ → ℕ
 writeRefusal n t m room =
-    choose (eqb (m .letter) 68) (dealRefusal n t (m .row) (getD (m .numbers) 0 0) room)
-    (choose (eqb (m .letter) 79) (openingRefusal n t (m .row) (m .post) (m .numbers) room)
+    cond (eqb (m .letter) 68) (dealRefusal n t (m .row) (getD (m .numbers) 0 0) room)
+    (cond (eqb (m .letter) 79) (openingRefusal n t (m .row) (m .post) (m .numbers) room)
     (masksRefusal n t (m .row) (m .post) (m .numbers) room))
 
 abbrev pub notWritten : ℕ → Written

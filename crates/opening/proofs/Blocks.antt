@@ -1,7 +1,7 @@
 -- A post's part of a record, as the code takes it: a fact for each place where it returns.
 use Prim.Native.Nat.{ℕ, zero, suc, _+_, _*_, _-_, _≤_, _<_}
 use mathlib.Core.Path.{_≡_, refl, sym, _∙_, ap}
-use mathlib.Core.Bool.{Bool, true, false, not}
+use mathlib.Core.Bool.{Bool, true, false, not, cond}
 use mathlib.Core.List.{List, [], _∷_}
 use native.Mathlib.Nat.{add-sub-cancel-left, mul-le-mul-right, suc-mul}
 use native.Mathlib.Numerals.{add-one}
@@ -15,7 +15,7 @@ use Rattle.poly.proofs.Numbers.{weighted-powers}
 use Rattle.refusal.specs.Refusal.{_when_, first}
 use Rattle.refusal.specs.Conditions.{anyBeyond}
 use Rattle.session.specs.declared.Session.{Session}
-use Rattle.opening.specs.Walking.{choose, badBlock, badBlocks, sent, accepts, PostIn}
+use Rattle.opening.specs.Walking.{badBlock, badBlocks, sent, accepts, PostIn}
 
 -- j - 1 blocks before a block, and the block itself, are j blocks
 pub post-in : (s : Session) (j : ℕ) → 1 ≤ j → j ≤ s .n → PostIn s j
@@ -58,7 +58,7 @@ module _ (s : Session) (row blocks : List ℕ) (j : ℕ) where
       cut : (l : List ℕ) → length (take (s .t + 1) l) ≤ s .t + 1
       cut l = omega (arith, length-take (s .t + 1) l)
 
-      go : (a b : Bool) → length (choose a (take (s .t + 1) row) (choose b (take (s .t + 1) (drop (mark + 1) blocks)) [])) ≤ s .t + 1
+      go : (a b : Bool) → length (cond a (take (s .t + 1) row) (cond b (take (s .t + 1) (drop (mark + 1) blocks)) [])) ≤ s .t + 1
       go true b = cut row
       go false true = cut (drop (mark + 1) blocks)
       go false false = omega arith

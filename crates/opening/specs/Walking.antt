@@ -2,7 +2,7 @@
 -- t+1 coefficients."
 use Prim.Native.Nat.{ℕ, zero, suc, _+_, _*_, _-_, _≤_}
 use mathlib.Core.Path.{_≡_}
-use mathlib.Core.Bool.{Bool, true, false}
+use mathlib.Core.Bool.{Bool, true, false, cond}
 use mathlib.Core.List.{List, [], _∷_, map}
 use lib.Dec.{ltb, eqb}
 use lib.ListN.{length, take, drop, getD}
@@ -27,15 +27,11 @@ blockCoefficients k blocks j = take k (drop ((j - 1) * (k + 1) + 1) blocks)
 abbrev pub recordLength : Session → ℕ
 recordLength s = s .n * (s .t + 2)
 
-abbrev pub choose : {A : Type 0} → Bool → A → A → A
-choose true a b = a
-choose false a b = b
-
 -- 8, of one block: "each block's mark and each present block's coefficients except in the post's own block"
 unfoldable pub badBlock : Session → List ℕ → ℕ → Bool
 badBlock s blocks j =
-    choose (eqb j (s .post)) false
-    (choose (eqb (blockMark (s .t + 1) blocks j) 0) false
+    cond (eqb j (s .post)) false
+    (cond (eqb (blockMark (s .t + 1) blocks j) 0) false
     (or (ltb 1 (blockMark (s .t + 1) blocks j)) (anyBeyond (blockCoefficients (s .t + 1) blocks j))))
 
 -- of the blocks of k posts from j on
@@ -50,13 +46,13 @@ badRecord s blocks = badBlocks s blocks 1 (s .n)
 -- absent block)"
 unfoldable pub sent : Session → List ℕ → List ℕ → ℕ → List ℕ
 sent s row blocks j =
-    choose (eqb j (s .post)) (coefficients s row)
-    (choose (eqb (blockMark (s .t + 1) blocks j) 1) (blockCoefficients (s .t + 1) blocks j) [])
+    cond (eqb j (s .post)) (coefficients s row)
+    (cond (eqb (blockMark (s .t + 1) blocks j) 1) (blockCoefficients (s .t + 1) blocks j) [])
 
 -- "Post j is accepted when its polynomial at wi equals the check value for j"; an empty part is not.
 unfoldable pub accepts : Session → List ℕ → List ℕ → ℕ → Bool
 accepts s row blocks j =
-    choose (eqb (length (sent s row blocks j)) 0) false (eqb (value (sent s row blocks j) (s .point)) (checkValue s row j))
+    cond (eqb (length (sent s row blocks j)) 0) false (eqb (value (sent s row blocks j) (s .point)) (checkValue s row j))
 
 -- "Its share is mj minus the constant coefficient."
 unfoldable pub share : Session → List ℕ → List ℕ → ℕ → ℕ
