@@ -6,6 +6,7 @@ mod checks;
 mod packs;
 mod part;
 
+#[repr(C)]
 pub struct Number {
     pub refusal: u8,
     pub value: u32,

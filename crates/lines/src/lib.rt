@@ -12,12 +12,14 @@ ghost use Rattle.lines.specs.Reading.{readRefusal, noLine, lineAs, listA
 use forms::Form;
 
 // The answer of a writer: the refusal, and the line's length.
+#[repr(C)]
 pub struct Written {
     pub refusal: u8,
     pub len: usize,
 }
 
 // The answer of the reader: the refusal, or the letter, the row and the post; a `D` has post 0.
+#[repr(C)]
 pub struct Line {
     pub refusal: u8,
     pub letter: u8,
