@@ -1,0 +1,41 @@
+//! Verifiable secret sharing for dock posts: a second implementation of document 01, in plain
+//! Rust, written from the paper alone.
+//!
+//! Each call is a function over the modulus `P`, so that the same code runs over
+//! p = [`MODULUS`] and over the small primes of the leak test. [`Library`] names every call once
+//! more as a trait, which another implementation can fulfil to be compared with [`REFERENCE`];
+//! [`random`] makes the calls to compare them with.
+//!
+//! ```
+//! use reference::{Library, REFERENCE};
+//!
+//! let (refusal, c) = REFERENCE.dealer_number(100, 7);
+//! assert_eq!((refusal, c), (0, 93));
+//! ```
+
+mod calls;
+mod factory;
+mod field;
+mod library;
+mod lines;
+mod opening;
+pub mod polynomial;
+mod product;
+pub mod random;
+mod refusal;
+mod row;
+mod session;
+mod shape;
+mod street;
+
+pub use calls::{deal, linear, load_row, load_triple, opening_message};
+pub use factory::{dealer_number, factory_row, factory_triple};
+pub use field::{Element, MODULUS};
+pub use library::{Library, Reference, REFERENCE};
+pub use lines::{read, write_deal, write_masks, write_opening, ReadLine, Written};
+pub use opening::open;
+pub use product::{finish, masks};
+pub use refusal::Refusal;
+pub use session::{mark, new_session, Answer, Session};
+pub use shape::{Shape, MAX_POSTS, ROWS, TRIPLE};
+pub use street::{street, Street, LONGEST_LINE};

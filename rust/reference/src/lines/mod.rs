@@ -1,0 +1,10 @@
+//! Broadcast lines: "ASCII, fields parted by commas, no quoting, one line feed at the end."
+
+mod parse;
+mod read;
+mod write;
+
+pub(crate) use parse::{body, number, numbers};
+pub(crate) use read::try_read;
+pub use read::{read, ReadLine};
+pub use write::{write_deal, write_masks, write_opening, Written};

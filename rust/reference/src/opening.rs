@@ -1,0 +1,124 @@
+//! Opening with verification.
+
+use crate::field::{expect_elements, Element};
+use crate::polynomial::{evaluate, interpolate_at_zero};
+use crate::refusal::{require, Refusal};
+use crate::session::{mark, Answer, Session};
+use crate::shape::{expect_length, expect_row, Shape};
+
+/// What a post has heard for one opening: "n blocks, each a mark (0 absent, 1 present) and t+1
+/// coefficients".
+#[derive(Clone, Copy)]
+pub(crate) struct Record<'a> {
+    shape: Shape,
+    numbers: &'a [u32],
+}
+
+impl<'a> Record<'a> {
+    /// Check 5.
+    pub(crate) fn checked_length(shape: Shape, numbers: &'a [u32]) -> Result<Self, Refusal> {
+        expect_length(numbers, shape.record())?;
+        Ok(Self { shape, numbers })
+    }
+
+    /// Check 8: "each block's mark and each present block's coefficients except in the post's own
+    /// block, also those behind the place where the walk stops".
+    pub(crate) fn expect_numbers<const P: u32>(self, own_post: usize) -> Result<(), Refusal> {
+        for post in (1..=self.shape.posts()).filter(|&post| post != own_post) {
+            require(self.block(post)[0] <= 1, Refusal::Number)?;
+            if let Some(coefficients) = self.message(post) {
+                expect_elements::<P>(coefficients)?;
+            }
+        }
+        Ok(())
+    }
+
+    /// The block of `post`, 1 to n, its mark first.
+    fn block(self, post: usize) -> &'a [u32] {
+        &self.numbers[(post - 1) * self.shape.block()..][..self.shape.block()]
+    }
+
+    /// The coefficients in the block of `post`, when present.
+    fn message(self, post: usize) -> Option<&'a [u32]> {
+        match self.block(post) {
+            [1, coefficients @ ..] => Some(coefficients),
+            _ => None,
+        }
+    }
+}
+
+/// The number that a post reads from `row`, its part of the shared number, and from a record.
+///
+/// "The walk from post 1 upward stops at the post that completes t+1 accepted ones, and the
+/// number is the interpolation of those at 0."
+pub(crate) fn reconstruct<const P: u32>(
+    shape: Shape,
+    session: &Session,
+    row: &[u32],
+    record: Record,
+) -> Result<Element<P>, Refusal> {
+    let accepted: Vec<_> = (1..=shape.posts())
+        .filter_map(|post| {
+            let polynomial = polynomial_of(shape, session, row, record, post)?;
+            accepted_share(shape, session, row, post, polynomial)
+        })
+        .take(shape.shares_needed())
+        .collect();
+    require(accepted.len() == shape.shares_needed(), Refusal::TooFew)?;
+    Ok(interpolate_at_zero(&accepted))
+}
+
+/// "For its own number the post takes the coefficients in its own row, otherwise the block of the
+/// record."
+fn polynomial_of<'a>(
+    shape: Shape,
+    session: &Session,
+    row: &'a [u32],
+    record: Record<'a>,
+    post: usize,
+) -> Option<&'a [u32]> {
+    if post == session.post {
+        Some(&row[shape.polynomial()])
+    } else {
+        record.message(post)
+    }
+}
+
+/// The share (j, mj minus the constant coefficient) of post j, "accepted when its polynomial at
+/// wi equals the check value for j".
+fn accepted_share<const P: u32>(
+    shape: Shape,
+    session: &Session,
+    row: &[u32],
+    post: usize,
+    polynomial: &[u32],
+) -> Option<(Element<P>, Element<P>)> {
+    let check: Element<P> = row[shape.check_values()][post - 1].into();
+    let sum: Element<P> = row[shape.sums()][post - 1].into();
+    (evaluate(polynomial, session.point.into()) == check)
+        .then(|| (Element::new(post as u64), sum - polynomial[0].into()))
+}
+
+/// "Takes a held row and a record"; the answer's value is the number. "Session and rows don't
+/// change."
+pub fn open<const P: u32>(s: Session, rows: &[u32], row: usize, record: &[u32]) -> Answer {
+    s.answer(try_open::<P>(s, rows, row, record))
+}
+
+pub(crate) fn try_open<const P: u32>(
+    s: Session,
+    rows: &[u32],
+    row: usize,
+    record: &[u32],
+) -> Result<(u32, Session), Refusal> {
+    let shape = s.checked::<P>()?;
+    expect_length(rows, shape.all_rows())?;
+    let record = Record::checked_length(shape, record)?;
+    expect_row(row)?;
+    s.expect_mark(row, mark::HELD)?;
+    let numbers = &rows[shape.at(row)];
+    expect_elements::<P>(numbers)?;
+    record.expect_numbers::<P>(s.post)?;
+    let number = reconstruct::<P>(shape, &s, numbers, record)?;
+    Ok((number.value(), s))
+}

@@ -1,0 +1,131 @@
+//! The calls on a session as data.
+
+use crate::{Answer, Library, Session};
+
+/// What a post keeps between two calls.
+#[derive(Clone, Debug, PartialEq, Eq)]
+pub struct State {
+    /// The session.
+    pub session: Session,
+    /// The lent list of rows.
+    pub rows: Vec<u32>,
+}
+
+/// One call with its arguments, beside the session and the rows. Lists to be filled are given by
+/// their length.
+#[derive(Clone, Debug, PartialEq, Eq)]
+#[allow(missing_docs)]
+pub enum Call {
+    NewSession { n: usize, t: usize, post: usize, point: u32 },
+    LoadRow { row: usize, pack: Vec<u32> },
+    LoadTriple { first: usize, pack: Vec<u32> },
+    Deal { row: usize, c: u32 },
+    OpeningMessage { row: usize, out: usize },
+    Open { row: usize, record: Vec<u32> },
+    Linear { dest: usize, a: usize, b: usize, scale: u32 },
+    Masks { a: usize, b: usize, first: usize, out: usize },
+    Finish { first: usize, record: Vec<u32>, record2: Vec<u32> },
+}
+
+/// Everything that a call hands back or may have changed.
+#[derive(Clone, Debug, PartialEq, Eq)]
+pub struct Outcome {
+    /// The refusal, 0 for none.
+    pub refusal: u8,
+    /// The number opened.
+    pub value: u32,
+    /// Session and rows after the call.
+    pub state: State,
+    /// The list that was lent to be filled.
+    pub out: Vec<u32>,
+}
+
+impl Call {
+    /// Makes the call on a copy of `state`.
+    pub fn perform(&self, library: &impl Library, state: &State) -> Outcome {
+        let s = state.session;
+        let mut rows = state.rows.clone();
+        let mut out = unwritten(self.out_length());
+        let answer: Answer = match *self {
+            Self::NewSession { n, t, post, point } => library.new_session(n, t, post, point),
+            Self::LoadRow { row, ref pack } => library.load_row(s, &mut rows, row, pack),
+            Self::LoadTriple { first, ref pack } => library.load_triple(s, &mut rows, first, pack),
+            Self::Deal { row, c } => library.deal(s, &mut rows, row, c),
+            Self::OpeningMessage { row, .. } => library.opening_message(s, &rows, row, &mut out),
+            Self::Open { row, ref record } => library.open(s, &rows, row, record),
+            Self::Linear { dest, a, b, scale } => library.linear(s, &mut rows, dest, a, b, scale),
+            Self::Masks { a, b, first, .. } => library.masks(s, &rows, a, b, first, &mut out),
+            Self::Finish { first, ref record, ref record2 } => {
+                library.finish(s, &mut rows, first, record, record2)
+            }
+        };
+        Outcome {
+            refusal: answer.refusal,
+            value: answer.value,
+            state: State { session: answer.session, rows },
+            out,
+        }
+    }
+
+    /// The length of the list that the call fills.
+    fn out_length(&self) -> usize {
+        match *self {
+            Self::OpeningMessage { out, .. } | Self::Masks { out, .. } => out,
+            _ => 0,
+        }
+    }
+
+    /// The lists that the call reads.
+    pub(super) fn lists(&mut self) -> Vec<&mut Vec<u32>> {
+        match self {
+            Self::LoadRow { pack, .. } | Self::LoadTriple { pack, .. } => vec![pack],
+            Self::Open { record, .. } => vec![record],
+            Self::Finish { record, record2, .. } => vec![record, record2],
+            _ => vec![],
+        }
+    }
+
+    /// Row numbers, post numbers and lengths.
+    pub(super) fn sizes(&mut self) -> Vec<&mut usize> {
+        match self {
+            Self::NewSession { n, t, post, .. } => vec![n, t, post],
+            Self::LoadRow { row, .. } | Self::Deal { row, .. } | Self::Open { row, .. } => {
+                vec![row]
+            }
+            Self::LoadTriple { first, .. } | Self::Finish { first, .. } => vec![first],
+            Self::OpeningMessage { row, out } => vec![row, out],
+            Self::Linear { dest, a, b, .. } => vec![dest, a, b],
+            Self::Masks { a, b, first, out } => vec![a, b, first, out],
+        }
+    }
+
+    /// Elements given by themselves.
+    pub(super) fn scalars(&mut self) -> Vec<&mut u32> {
+        match self {
+            Self::NewSession { point, .. } => vec![point],
+            Self::Deal { c, .. } => vec![c],
+            Self::Linear { scale, .. } => vec![scale],
+            _ => vec![],
+        }
+    }
+
+    /// The rows that the call names, the factor rows of a finish aside.
+    pub fn rows(&self) -> Vec<usize> {
+        let triple = |first: usize| [first, first.saturating_add(1), first.saturating_add(2)];
+        match *self {
+            Self::NewSession { .. } => vec![],
+            Self::LoadRow { row, .. }
+            | Self::Deal { row, .. }
+            | Self::OpeningMessage { row, .. }
+            | Self::Open { row, .. } => vec![row],
+            Self::LoadTriple { first, .. } | Self::Finish { first, .. } => triple(first).to_vec(),
+            Self::Linear { dest, a, b, .. } => vec![dest, a, b],
+            Self::Masks { a, b, first, .. } => [&[a, b], &triple(first)[..]].concat(),
+        }
+    }
+}
+
+/// A list of `length` numbers, no two alike, none an element, so that every write is seen.
+pub fn unwritten(length: usize) -> Vec<u32> {
+    (0..length.min(1 << 16)).map(|place| 0xC0DE_0000 + place as u32).collect()
+}

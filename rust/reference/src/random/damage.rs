@@ -1,0 +1,151 @@
+//! Damage to calls and to what a post keeps.
+
+use super::{Call, Rng, State};
+use crate::{Shape, ROWS};
+
+/// Something wrong with session or rows.
+#[derive(Clone, Copy, Debug, PartialEq, Eq)]
+#[allow(missing_docs)]
+pub enum Damage {
+    Mark { row: usize, mark: u8 },
+    Left { first: usize, row: u8 },
+    Right { first: usize, row: u8 },
+    Number { place: usize, number: u32 },
+    Posts(usize),
+    Threshold(usize),
+    Post(usize),
+    Point(u32),
+    Length(usize),
+}
+
+impl Damage {
+    /// Does the damage.
+    pub fn apply(self, state: &mut State) {
+        let session = &mut state.session;
+        match self {
+            Self::Mark { row, mark } => session.marks[row] = mark,
+            Self::Left { first, row } => session.left[first] = row,
+            Self::Right { first, row } => session.right[first] = row,
+            Self::Number { place, number } => {
+                if let Some(place) = state.rows.get_mut(place) {
+                    *place = number;
+                }
+            }
+            Self::Posts(n) => session.n = n,
+            Self::Threshold(t) => session.t = t,
+            Self::Post(post) => session.post = post,
+            Self::Point(point) => session.point = point,
+            Self::Length(length) => state.rows.resize(length, u32::MAX),
+        }
+    }
+
+    /// Damage that concerns `call` more often than not.
+    pub(super) fn random(rng: &mut Rng, shape: Shape, call: &Call) -> Self {
+        let named: Vec<usize> = call.rows().into_iter().filter(|&row| row < ROWS).collect();
+        let some_row = rng.below(ROWS);
+        let row = match rng.pick_any(&named) {
+            Some(row) if !rng.one_in(5) => row,
+            _ => some_row,
+        };
+        match rng.below(12) {
+            0..=2 => Self::Mark { row, mark: random_mark(rng) },
+            3 => Self::Left { first: row, row: random_factor(rng) },
+            4 => Self::Right { first: row, row: random_factor(rng) },
+            5..=7 => {
+                Self::Number { place: random_place(rng, shape, row), number: rng.no_element() }
+            }
+            8 => Self::Length(random_length(rng, shape.all_rows())),
+            _ => Self::random_heading(rng),
+        }
+    }
+
+    /// Damage to n, t, post or check point.
+    fn random_heading(rng: &mut Rng) -> Self {
+        match rng.below(4) {
+            0 => Self::Posts(rng.size()),
+            1 => Self::Threshold(rng.size()),
+            2 => Self::Post(rng.size()),
+            _ => Self::Point(rng.pick(&[0, crate::MODULUS, u32::MAX, 1, 7])),
+        }
+    }
+}
+
+fn random_mark(rng: &mut Rng) -> u8 {
+    match rng.below(8) {
+        0 => rng.pick(&[7, 8, 255]),
+        _ => rng.below(7) as u8,
+    }
+}
+
+fn random_factor(rng: &mut Rng) -> u8 {
+    match rng.below(3) {
+        0 => rng.pick(&[95, 96, 97, 254, 255]),
+        _ => rng.below(ROWS) as u8,
+    }
+}
+
+/// A place in row `row`, often its first or last.
+fn random_place(rng: &mut Rng, shape: Shape, row: usize) -> usize {
+    let place = shape.at(row);
+    match rng.below(3) {
+        0 => place.start,
+        1 => place.end - 1,
+        _ => rng.between(place.start, place.end - 1),
+    }
+}
+
+/// A length near `right`, mostly one off.
+pub(super) fn random_length(rng: &mut Rng, right: usize) -> usize {
+    match rng.below(6) {
+        0 | 1 => right.saturating_sub(1),
+        2 | 3 => right + 1,
+        4 => 0,
+        _ => rng.below(2 * right + 2),
+    }
+}
+
+/// One thing about `list` made wrong: a number, or its length.
+pub(super) fn damage_list(rng: &mut Rng, list: &mut Vec<u32>) {
+    let length = list.len();
+    match rng.below(4) {
+        0 => list.resize(random_length(rng, length), u32::MAX),
+        1 if length > 0 => list[length - 1] = rng.no_element(),
+        _ if length > 0 => {
+            let place = rng.below(length);
+            list[place] = rng.number();
+        }
+        _ => list.push(0),
+    }
+}
+
+/// The call with one argument made wrong, or at least different.
+pub(super) fn damaged(rng: &mut Rng, call: &Call) -> Call {
+    let mut call = call.clone();
+    match rng.below(3) {
+        0 if !call.lists().is_empty() => {
+            let mut lists = call.lists();
+            let choice = rng.below(lists.len());
+            damage_list(rng, lists[choice]);
+        }
+        1 if !call.scalars().is_empty() => {
+            for scalar in call.scalars() {
+                *scalar = rng.number();
+            }
+        }
+        _ => {
+            let mut sizes = call.sizes();
+            let choice = rng.below(sizes.len());
+            damage_size(rng, sizes[choice]);
+        }
+    }
+    call
+}
+
+/// Another size, often one off.
+pub(super) fn damage_size(rng: &mut Rng, size: &mut usize) {
+    *size = match rng.below(3) {
+        0 => size.wrapping_add(1),
+        1 => size.wrapping_sub(1),
+        _ => rng.size(),
+    };
+}

@@ -1,0 +1,52 @@
+//! The numbers of "Where each refusal is checked".
+
+/// Why a call refused. "Order of checks is the order of numbers."
+#[derive(Clone, Copy, Debug, PartialEq, Eq, PartialOrd, Ord)]
+#[repr(u8)]
+pub enum Refusal {
+    /// n outside 2..32
+    Posts = 1,
+    /// t outside 1..n − 1
+    Threshold = 2,
+    /// own post, or the post of a line to be written, outside 1..n
+    Post = 3,
+    /// a check point is 0 or at least p
+    CheckPoint = 4,
+    /// a length isn't exactly the one stated
+    Length = 5,
+    /// row above 95, or a triple's first above 93
+    Row = 6,
+    /// a mark, or remembered factor row, isn't what the call needs
+    Mark = 7,
+    /// a scalar, or a number the call reads in a list, is at least p; a record's mark is above 1
+    Number = 8,
+    /// fewer than t+1 accepted, in either record of a finish
+    TooFew = 9,
+    /// wrong form: letter, field count, digits, no final line feed
+    Form = 10,
+    /// element at least p, row above 95 (a triple's first above 93), post outside 1..n
+    Range = 11,
+    /// the lent part is shorter than the line
+    Space = 12,
+}
+
+impl Refusal {
+    /// The number of this refusal in document 01's table.
+    pub const fn number(self) -> u8 {
+        self as u8
+    }
+}
+
+/// `refusal` unless the condition holds.
+pub(crate) fn require(condition: bool, refusal: Refusal) -> Result<(), Refusal> {
+    if condition {
+        Ok(())
+    } else {
+        Err(refusal)
+    }
+}
+
+/// The number of a check's outcome: 0 for none.
+pub(crate) fn number_of(outcome: Result<(), Refusal>) -> u8 {
+    outcome.map_or_else(Refusal::number, |()| 0)
+}

@@ -1,0 +1,117 @@
+//! The session that a post keeps, and the checks that every call makes on it.
+
+use crate::refusal::{require, Refusal};
+use crate::shape::{Shape, ROWS};
+
+/// "Each row has a mark."
+pub mod mark {
+    /// Empty.
+    pub const EMPTY: u8 = 0;
+    /// Raw: random, not dealt.
+    pub const RAW: u8 = 1;
+    /// Held.
+    pub const HELD: u8 = 2;
+    /// First row of an unused triple.
+    pub const UNUSED: u8 = 3;
+    /// Second or third row of a triple.
+    pub const FOLLOWING: u8 = 4;
+    /// First row of a triple whose masks were sent.
+    pub const MASKED: u8 = 5;
+    /// Spent.
+    pub const SPENT: u8 = 6;
+}
+
+/// "The session remembers n, t, post, check point, the marks, and for mark 5 the two factor rows."
+///
+/// The fields may hold anything; each call checks them anew.
+#[derive(Clone, Copy, Debug, PartialEq, Eq)]
+pub struct Session {
+    /// The number of posts.
+    pub n: usize,
+    /// The threshold: t posts learn nothing, t+1 open.
+    pub t: usize,
+    /// This post's number, from 1.
+    pub post: usize,
+    /// This post's check point.
+    pub point: u32,
+    /// The mark of each row.
+    pub marks: [u8; ROWS],
+    /// At a triple's first row: the first factor row, "0 before the masks, kept after the finish".
+    pub left: [u8; ROWS],
+    /// At a triple's first row: the second factor row.
+    pub right: [u8; ROWS],
+}
+
+impl Session {
+    /// "A refused new session has 0 in every field."
+    pub const BLANK: Self = Self {
+        n: 0,
+        t: 0,
+        post: 0,
+        point: 0,
+        marks: [mark::EMPTY; ROWS],
+        left: [0; ROWS],
+        right: [0; ROWS],
+    };
+
+    /// Checks 1 to 4.
+    pub(crate) fn checked<const P: u32>(&self) -> Result<Shape, Refusal> {
+        let shape = Shape::checked(self.n, self.t)?;
+        shape.expect_post(self.post)?;
+        expect_check_point::<P>(self.point)?;
+        Ok(shape)
+    }
+
+    /// Check 7: row `row`, at most 95, has the mark `mark`.
+    pub(crate) fn expect_mark(&self, row: usize, mark: u8) -> Result<(), Refusal> {
+        require(self.marks[row] == mark, Refusal::Mark)
+    }
+
+    /// Check 7 for the rows from `first` on.
+    pub(crate) fn expect_marks(&self, first: usize, marks: [u8; 3]) -> Result<(), Refusal> {
+        require(self.marks[first..].starts_with(&marks), Refusal::Mark)
+    }
+
+    /// The session with another mark at row `row`.
+    pub(crate) fn with_mark(mut self, row: usize, mark: u8) -> Self {
+        self.marks[row] = mark;
+        self
+    }
+
+    /// The session with other marks from row `first` on.
+    pub(crate) fn with_marks(mut self, first: usize, marks: [u8; 3]) -> Self {
+        self.marks[first..first + marks.len()].copy_from_slice(&marks);
+        self
+    }
+
+    /// What a call hands back: the new value and session or, refused, 0 and the old session.
+    pub(crate) fn answer(self, outcome: Result<(u32, Self), Refusal>) -> Answer {
+        let (refusal, (value, session)) = match outcome {
+            Ok(done) => (0, done),
+            Err(refusal) => (refusal.number(), (0, self)),
+        };
+        Answer { refusal, value, session }
+    }
+}
+
+/// "Calls take the session and hand it back."
+#[derive(Clone, Copy, Debug, PartialEq, Eq)]
+pub struct Answer {
+    /// The refusal, 0 for none.
+    pub refusal: u8,
+    /// The number opened; 0 when refused and in calls that open nothing.
+    pub value: u32,
+    /// The session after the call; as it was given when refused.
+    pub session: Session,
+}
+
+/// Check 4: a check point is "1 to p − 1".
+pub(crate) fn expect_check_point<const P: u32>(point: u32) -> Result<(), Refusal> {
+    require((1..P).contains(&point), Refusal::CheckPoint)
+}
+
+/// "A new session has 96 rows, all with mark 0. A refused new session has 0 in every field."
+pub fn new_session<const P: u32>(n: usize, t: usize, post: usize, point: u32) -> Answer {
+    let session = Session { n, t, post, point, ..Session::BLANK };
+    Session::BLANK.answer(session.checked::<P>().map(|_| (0, session)))
+}

@@ -1,0 +1,171 @@
+//! A station of posts that run every call in step, for the tests.
+#![allow(dead_code)]
+
+use reference::random::{unwritten, Call, Outcome, SharedRow, State};
+use reference::{Library, Session, Shape, REFERENCE};
+
+/// "n = 3, t = 1, check points 2, 3, 5; f = 7 + 4z; v1 = 1 + 2z, v2 = 3 + z, v3 = 5 + 6z."
+pub const HAND_POINTS: [u32; 3] = [2, 3, 5];
+pub const HAND_DRAW: [u32; 8] = [7, 4, 1, 2, 3, 1, 5, 6];
+
+/// The row with these hand-reckoned polynomials v, and this f.
+pub fn hand_row(f: [u32; 2]) -> SharedRow {
+    SharedRow { f: f.to_vec(), v: vec![vec![1, 2], vec![3, 1], vec![5, 6]] }
+}
+
+/// What one post sent, `None` for nothing.
+pub type Message = Option<Vec<u32>>;
+
+/// The record that these messages fill, an absent block over zeros.
+pub fn record(shape: Shape, messages: &[Message]) -> Vec<u32> {
+    messages
+        .iter()
+        .flat_map(|message| match message {
+            Some(coefficients) => [&[1], coefficients.as_slice()].concat(),
+            None => vec![0; shape.block()],
+        })
+        .collect()
+}
+
+/// Asserts that a call is refused with `number`, has value 0 and changes nothing.
+#[track_caller]
+pub fn assert_refused(state: &State, call: Call, number: u8) {
+    let outcome = call.perform(&REFERENCE, state);
+    assert_eq!(outcome.refusal, number, "{call:?}");
+    assert_eq!(outcome.value, 0, "{call:?}");
+    assert_eq!(outcome.out, unwritten(outcome.out.len()), "{call:?}");
+    if !matches!(call, Call::NewSession { .. }) {
+        assert!(outcome.state == *state, "{call:?} changed something");
+    }
+}
+
+/// Asserts that a call is taken, and gives what it did.
+#[track_caller]
+pub fn assert_taken(state: &State, call: Call) -> Outcome {
+    let outcome = call.perform(&REFERENCE, state);
+    assert_eq!(outcome.refusal, 0, "{call:?}");
+    outcome
+}
+
+/// All posts of a session.
+pub struct Station {
+    pub shape: Shape,
+    pub points: Vec<u32>,
+    pub posts: Vec<State>,
+}
+
+impl Station {
+    pub fn new(n: usize, t: usize, points: &[u32]) -> Self {
+        let shape = Shape::checked(n, t).unwrap();
+        let start = |(post, &point): (usize, &u32)| {
+            let blank = State { session: Session::BLANK, rows: vec![0; shape.all_rows()] };
+            let call = Call::NewSession { n, t, post, point };
+            assert_taken(&blank, call).state
+        };
+        Self { shape, points: points.to_vec(), posts: (1..).zip(points).map(start).collect() }
+    }
+
+    pub fn hand() -> Self {
+        Self::new(3, 1, &HAND_POINTS)
+    }
+
+    pub fn n(&self) -> usize {
+        self.shape.posts()
+    }
+
+    pub fn t(&self) -> usize {
+        self.shape.shares_needed() - 1
+    }
+
+    /// Makes a call at every post, which must take it.
+    #[track_caller]
+    pub fn each(&mut self, call: impl Fn(usize) -> Call) -> Vec<Outcome> {
+        let mut outcomes = vec![];
+        for (index, state) in self.posts.iter_mut().enumerate() {
+            let outcome = assert_taken(state, call(index + 1));
+            *state = outcome.state.clone();
+            outcomes.push(outcome);
+        }
+        outcomes
+    }
+
+    /// Loads a row from the factory at every post.
+    pub fn load(&mut self, row: usize, shared: &SharedRow) {
+        let mut packs = vec![0; self.shape.row_packs()];
+        let (n, t) = (self.n(), self.t());
+        let refusal = REFERENCE.factory_row(n, t, &self.points, &shared.draw(), &mut packs);
+        assert_eq!(refusal, 0);
+        let parts: Vec<_> = packs.chunks(self.shape.row()).map(<[u32]>::to_vec).collect();
+        self.each(|post| Call::LoadRow { row, pack: parts[post - 1].clone() });
+    }
+
+    /// Loads a triple from the factory at every post.
+    pub fn load_triple(&mut self, first: usize, triple: &[SharedRow; 3]) {
+        let mut packs = vec![0; 3 * self.shape.row_packs()];
+        let draw = SharedRow::triple_draw(triple);
+        let refusal = REFERENCE.factory_triple(self.n(), self.t(), &self.points, &draw, &mut packs);
+        assert_eq!(refusal, 0);
+        let parts: Vec<_> = packs.chunks(self.shape.row()).map(<[u32]>::to_vec).collect();
+        let n = self.n();
+        self.each(|post| Call::LoadTriple {
+            first,
+            pack: [0, n, 2 * n].map(|of| parts[of + post - 1].clone()).concat(),
+        });
+    }
+
+    /// Loads a row and deals `secret` in it.
+    pub fn share(&mut self, row: usize, shared: &SharedRow, secret: u32) {
+        self.load(row, shared);
+        let (refusal, c) = REFERENCE.dealer_number(secret, shared.f[0]);
+        assert_eq!(refusal, 0);
+        self.each(|_| Call::Deal { row, c });
+    }
+
+    /// Every post's opening message for a row.
+    pub fn messages(&mut self, row: usize) -> Vec<Message> {
+        let out = self.shape.coefficients();
+        let outcomes = self.each(|_| Call::OpeningMessage { row, out });
+        outcomes.into_iter().map(|outcome| Some(outcome.out)).collect()
+    }
+
+    /// What every post opens with all messages.
+    pub fn open(&mut self, row: usize) -> Vec<u32> {
+        let messages = self.messages(row);
+        let record = record(self.shape, &messages);
+        let outcomes = self.each(|_| Call::Open { row, record: record.clone() });
+        outcomes.into_iter().map(|outcome| outcome.value).collect()
+    }
+
+    /// Every post's two masks.
+    pub fn masks(&mut self, a: usize, b: usize, first: usize) -> [Vec<Message>; 2] {
+        let out = self.shape.masks();
+        let outcomes = self.each(|_| Call::Masks { a, b, first, out });
+        let half = self.shape.coefficients();
+        let left = outcomes.iter().map(|o| Some(o.out[..half].to_vec()));
+        let right = outcomes.iter().map(|o| Some(o.out[half..].to_vec()));
+        [left.collect(), right.collect()]
+    }
+
+    /// The product of two rows into a triple's third row.
+    pub fn multiply(&mut self, a: usize, b: usize, first: usize) {
+        let records = self.masks(a, b, first).map(|masks| record(self.shape, &masks));
+        let [left, right] = records;
+        self.each(|_| Call::Finish { first, record: left.clone(), record2: right.clone() });
+    }
+}
+
+/// A station as reckoned by hand: row 0 raw; rows 1 and 2 hold 6 and 7; rows 3 to 5 are an unused
+/// triple with l = 2 and l' = 5; rows 6 to 8 one whose masks of rows 1 and 2 were sent. Row 9 holds
+/// 100, the others are empty.
+pub fn furnished() -> (Station, [Vec<Message>; 2]) {
+    let mut station = Station::hand();
+    let triple = [hand_row([2, 9]), hand_row([5, 1]), hand_row([10, 8])];
+    station.load(0, &hand_row([7, 4]));
+    station.share(1, &hand_row([11, 3]), 6);
+    station.share(2, &hand_row([13, 5]), 7);
+    station.load_triple(3, &triple);
+    station.load_triple(6, &triple);
+    let masks = station.masks(1, 2, 6);
+    station.share(9, &hand_row([7, 4]), 100);
+    (station, masks)
+}

@@ -1,0 +1,213 @@
+//! The random scripts, paperwork and street inputs, run on the reference alone: they reach every
+//! refusal, valid steps are taken, and refused ones change nothing.
+
+use std::collections::BTreeMap;
+use std::mem::discriminant;
+
+use reference::random::{
+    paperwork, script, script_for, street_input, unwritten, Call, Outcome, Paperwork,
+    PaperworkOutcome, Rng, Script, State,
+};
+use reference::{Library, Session, Shape, LONGEST_LINE, REFERENCE};
+
+/// Replays a script; every step is checked against what document 01 says of all calls.
+fn check(script: &Script, seen: &mut BTreeMap<String, u32>) {
+    let mut state = State { session: Session::BLANK, rows: script.rows.clone() };
+    for (step, outcome) in script.steps.iter().zip(script.replay(&REFERENCE)) {
+        *seen.entry(format!("{} {}", name(&step.call), outcome.refusal)).or_default() += 1;
+        if step.trial {
+            let mut before = state.clone();
+            step.damage.iter().for_each(|damage| damage.apply(&mut before));
+            check_refused(&step.call, &before, &outcome);
+        } else {
+            assert_eq!(outcome.refusal, 0, "{step:?}");
+            assert_eq!(outcome.value, step.opens_to.unwrap_or(0), "{step:?}");
+            state = outcome.state;
+        }
+    }
+    let shape = Shape::checked(state.session.n, state.session.t).unwrap();
+    assert_eq!(state.session.marks, script.marks);
+    for row in 0..96 {
+        let written = script.written.iter().find(|(written, _)| *written == row);
+        let expected = written.map_or(&script.rows[shape.at(row)], |(_, numbers)| numbers);
+        assert_eq!(&state.rows[shape.at(row)], expected, "row {row}");
+    }
+}
+
+/// "Refused calls change nothing and give value 0."
+fn check_refused(call: &Call, before: &State, outcome: &Outcome) {
+    if outcome.refusal != 0 {
+        assert_eq!(outcome.value, 0);
+        assert_eq!(outcome.out, unwritten(outcome.out.len()));
+        assert_eq!(outcome.state.rows, before.rows);
+        let new =
+            discriminant(call) == discriminant(&Call::NewSession { n: 0, t: 0, post: 0, point: 0 });
+        let expected = if new { Session::BLANK } else { before.session };
+        assert_eq!(outcome.state.session, expected);
+    }
+}
+
+fn name(call: &impl std::fmt::Debug) -> String {
+    let shown = format!("{call:?}");
+    shown.split(' ').next().unwrap().to_string()
+}
+
+/// Asserts that each of these kinds met each of its refusals.
+fn assert_seen(seen: &BTreeMap<String, u32>, expected: &[(&str, &[u8])]) {
+    for (call, refusals) in expected {
+        for refusal in *refusals {
+            let key = format!("{call} {refusal}");
+            assert!(seen.contains_key(&key), "no {key} in {seen:?}");
+        }
+    }
+}
+
+#[test]
+fn random_sessions() {
+    let mut seen = BTreeMap::new();
+    for seed in 0..300 {
+        check(&script(seed, 60), &mut seen);
+    }
+    let session = [0, 1, 2, 3, 4, 5, 6, 7, 8];
+    let opening = [0, 1, 2, 3, 4, 5, 6, 7, 8, 9];
+    let expected: [(&str, &[u8]); 9] = [
+        ("NewSession", &[0, 1, 2, 3, 4]),
+        ("LoadRow", &session),
+        ("LoadTriple", &session),
+        ("Deal", &session),
+        ("OpeningMessage", &session),
+        ("Open", &opening),
+        ("Linear", &session),
+        ("Masks", &session),
+        ("Finish", &opening),
+    ];
+    assert_seen(&seen, &expected);
+}
+
+#[test]
+fn every_n_and_t() {
+    let mut seen = BTreeMap::new();
+    let mut rng = Rng::new(77);
+    for n in 2..=32 {
+        for t in 1..n {
+            check(&script_for(&mut rng, n, t, 30), &mut seen);
+        }
+    }
+    assert_seen(&seen, &[("Open", &[0, 9]), ("Finish", &[0, 9])]);
+}
+
+/// The refusal, and whether a list lent for writing is as it was.
+fn refusal_and_untouched(outcome: &PaperworkOutcome) -> (u8, bool) {
+    match outcome {
+        PaperworkOutcome::Factory { refusal, out } => (*refusal, *out == unwritten(out.len())),
+        PaperworkOutcome::DealerNumber { refusal, c } => (*refusal, *c == 0),
+        PaperworkOutcome::Written { written, out } => {
+            let high = |(place, &byte): (usize, &u8)| byte == 128 | place as u8;
+            let rest_untouched = out.iter().enumerate().skip(written.length).all(high);
+            assert!(rest_untouched);
+            (written.refusal, written.length == 0)
+        }
+        PaperworkOutcome::Read { read, out } => (read.refusal, *out == unwritten(out.len())),
+    }
+}
+
+#[test]
+fn random_paperwork() {
+    let mut seen = BTreeMap::new();
+    for seed in 0..40_000 {
+        let work: Paperwork = paperwork(seed);
+        let outcome = work.perform(&REFERENCE);
+        let (refusal, untouched) = refusal_and_untouched(&outcome);
+        assert!(refusal == 0 || untouched, "{work:?} gave {outcome:?}");
+        *seen.entry(format!("{} {refusal}", name(&work))).or_default() += 1;
+    }
+    let expected: [(&str, &[u8]); 7] = [
+        ("FactoryRow", &[0, 1, 2, 4, 5, 8]),
+        ("FactoryTriple", &[0, 1, 2, 4, 5, 8]),
+        ("DealerNumber", &[0, 8]),
+        ("WriteDeal", &[0, 1, 2, 6, 8, 12]),
+        ("WriteOpening", &[0, 1, 2, 3, 5, 6, 8, 12]),
+        ("WriteMasks", &[0, 1, 2, 3, 5, 6, 8, 12]),
+        ("Read", &[0, 1, 2, 5, 10, 11]),
+    ];
+    assert_seen(&seen, &expected);
+}
+
+#[test]
+fn random_street_inputs() {
+    let mut seen = [0; 13];
+    let (mut opened, mut longest) = (0, 0);
+    for seed in 0..1500 {
+        let input = street_input(seed, 60);
+        let output = String::from_utf8(REFERENCE.street(&input)).unwrap();
+        let lines = input.split_inclusive(|&byte| byte == b'\n').count();
+        assert_eq!(output.lines().count(), lines + 1);
+        for (line, answer) in input.split_inclusive(|&b| b == b'\n').zip(output.lines().skip(1)) {
+            longest += usize::from(line.len() == LONGEST_LINE && answer.ends_with(",0,0"));
+        }
+        for line in output.lines().skip(1) {
+            let fields: Vec<usize> = line.split(',').map(|field| field.parse().unwrap()).collect();
+            seen[fields[1]] += 1;
+            opened += usize::from(fields[2] > 0);
+        }
+    }
+    for refusal in [0, 1, 2, 3, 4, 7, 9, 10, 11] {
+        assert!(seen[refusal] > 0, "no {refusal} in {seen:?}");
+    }
+    assert!(opened > 1000, "only {opened} numbers opened");
+    assert!(longest > 20, "only {longest} longest lines taken");
+}
+
+/// A session for two posts with right lengths, or one with nothing right.
+fn wild_state(rng: &mut Rng, sane: bool) -> State {
+    let bytes = |rng: &mut Rng, bound: usize| std::array::from_fn(|_| rng.below(bound) as u8);
+    let session = Session {
+        n: if sane { 2 } else { rng.size() },
+        t: if sane { 1 } else { rng.size() },
+        post: if sane { rng.between(1, 2) } else { rng.size() },
+        point: if sane { 3 } else { rng.number() },
+        marks: bytes(rng, 8),
+        left: bytes(rng, 100),
+        right: bytes(rng, 256),
+    };
+    let length = if sane { 96 * 6 } else { rng.below(600) };
+    let rows = match rng.below(2) {
+        0 => rng.elements(length),
+        _ => (0..length).map(|_| rng.number()).collect(),
+    };
+    State { session, rows }
+}
+
+fn wild_calls(rng: &mut Rng) -> [Call; 8] {
+    let list = |rng: &mut Rng| {
+        let length = rng.pick(&[6, 6, 6, 18, 18, 5, 7, 0]);
+        (0..length).map(|_| rng.number()).collect::<Vec<_>>()
+    };
+    let (a, b, c) = (rng.size(), rng.size(), rng.size());
+    [
+        Call::LoadRow { row: a, pack: list(rng) },
+        Call::LoadTriple { first: a, pack: list(rng) },
+        Call::Deal { row: a, c: rng.number() },
+        Call::OpeningMessage { row: a, out: 2 },
+        Call::Open { row: a, record: list(rng) },
+        Call::Linear { dest: a, a: b, b: c, scale: rng.number() },
+        Call::Masks { a, b, first: c, out: 4 },
+        Call::Finish { first: a, record: list(rng), record2: list(rng) },
+    ]
+}
+
+/// "No argument makes them panic": every number at random, most of them wild.
+#[test]
+fn wild_arguments_never_panic() {
+    let mut rng = Rng::new(5);
+    let mut seen = [0; 10];
+    for round in 0..20_000 {
+        let state = wild_state(&mut rng, round % 2 == 0);
+        for call in wild_calls(&mut rng) {
+            let outcome = call.perform(&REFERENCE, &state);
+            check_refused(&call, &state, &outcome);
+            seen[usize::from(outcome.refusal)] += 1;
+        }
+    }
+    assert!(seen.iter().all(|&count| count > 0), "{seen:?}");
+}
