@@ -16,8 +16,8 @@ use Rattle.refusal.specs.Conditions.{missized, badPoint, anyBeyond, postsTests}
 use Rattle.refusal.proofs.Laws.{all-fail, not-refused, inside, equal}
 use Rattle.refusal.proofs.Groups.{first-chain, stopped, went-on, fail-parts}
 use Rattle.factory.specs.Draw.{drawLength}
-use Rattle.factory.specs.Packs.{anyBadPoint, packsLength, factoryTests, rowRefusal, tripleRefusal}
-use Rattle.factory.specs.Writers.{Few, Length, Fine, listsTests}
+use Rattle.factory.specs.Packs.{anyBadPoint, packsLength, factoryTests, rowRefusal, tripleRefusal, listsTests}
+use Rattle.factory.specs.Writers.{Few, Length, Fine}
 
 -- one turn of the search: the answer for the rest of the points is the answer for all
 module _ (l : List ℕ) (i : ℕ) (b : Bool) where

@@ -33,16 +33,18 @@ anyBadPoint (w ∷ ws) = or (badPoint w) (anyBadPoint ws)
 abbrev pub packsLength : ℕ → ℕ → ℕ
 packsLength n t = n * (t + 1 + 2 * n)
 
--- 1, 2, 4, then 5 for the check points, the draw and the list that is written, then 8.
-abbrev pub factoryTests : ℕ → ℕ → List ℕ → List ℕ → ℕ → List ℕ → ℕ → List Test
-factoryTests n t points draw drawn out written =
-    postsTests n t
-    ++ (4 when anyBadPoint points
+-- 4, then 5 for the check points, the draw and the list that is written, then 8
+abbrev pub listsTests : ℕ → List ℕ → List ℕ → ℕ → List ℕ → ℕ → List Test
+listsTests n points draw drawn out written =
+    4 when anyBadPoint points
     ∷ 5 when missized points n
     ∷ 5 when missized draw drawn
     ∷ 5 when missized out written
     ∷ 8 when anyBeyond draw
-    ∷ [])
+    ∷ []
+
+abbrev pub factoryTests : ℕ → ℕ → List ℕ → List ℕ → ℕ → List ℕ → ℕ → List Test
+factoryTests n t points draw drawn out written = postsTests n t ++ listsTests n points draw drawn out written
 
 unfoldable pub rowRefusal : ℕ → ℕ → List ℕ → List ℕ → List ℕ → ℕ
 rowRefusal n t points draw out = first (factoryTests n t points draw (drawLength n (t + 1)) out (packsLength n t))

@@ -1,14 +1,12 @@
 -- What the writers of a part are held to, and what they need of their lists.
 use Prim.Native.Nat.{ℕ, _+_, _*_, _≤_, _<_}
 use mathlib.Core.Path.{_≡_}
-use mathlib.Core.List.{List, [], _∷_, _++_}
+use mathlib.Core.List.{List, _++_}
 use lib.ListN.{length, getD}
 use Rattle.field.specs.Arithmetic.{sum}
 use Rattle.poly.specs.Polynomial.{value}
-use Rattle.refusal.specs.Refusal.{Test, _when_}
-use Rattle.refusal.specs.Conditions.{missized, anyBeyond}
 use Rattle.factory.specs.Draw.{polynomial, drawLength, eachFrom}
-use Rattle.factory.specs.Packs.{anyBadPoint, packsLength}
+use Rattle.factory.specs.Packs.{packsLength}
 
 -- `vs` are v1 to vm, with k coefficients each, the posts counted from 0: v1(w) to vm(w), and v1(0) + f(1) to vm(0) + f(m)
 unfoldable pub checkAt : ℕ → ℕ → List ℕ → ℕ → ℕ
@@ -80,13 +78,3 @@ pub record FactorsRoom (n t d s : ℕ) (points draw out : List ℕ) : Type 0 whe
   pub points-length : length points ≡ n
   pub draws : d + d ≤ length draw
   pub room : length out ≡ s + s
-
--- the tests of a factory call behind 1 and 2
-abbrev pub listsTests : ℕ → List ℕ → List ℕ → ℕ → List ℕ → ℕ → List Test
-listsTests n points draw drawn out written =
-    4 when anyBadPoint points
-    ∷ 5 when missized points n
-    ∷ 5 when missized draw drawn
-    ∷ 5 when missized out written
-    ∷ 8 when anyBeyond draw
-    ∷ []

@@ -4,8 +4,8 @@ ghost use mathlib.Core.List.{[], _∷_};
 ghost use Prim.Native.Nat.{_+_};
 ghost use Rattle.refusal.specs.Refusal.{first, _when_};
 ghost use Rattle.factory.specs.Draw.{drawLength};
-ghost use Rattle.factory.specs.Packs.{anyBadPoint, packsLength, rowRefusal, tripleRefusal};
-ghost use Rattle.factory.specs.Writers.{Few, Length, listsTests};
+ghost use Rattle.factory.specs.Packs.{anyBadPoint, packsLength, rowRefusal, tripleRefusal, listsTests};
+ghost use Rattle.factory.specs.Writers.{Few, Length};
 
 // 4, of every check point.
 fn check_points(points: &[u32]) -> u8

@@ -8,9 +8,10 @@ use mir.Syntax.{w32, w64}
 use mir.Val.{Fits}
 use lib.ListN.{length}
 use lib.Dec.{ltb}
-use Rattle.refusal.specs.Refusal.{Test, _when_, first, outcome}
+use Rattle.refusal.specs.Refusal.{Test, _when_, first, outcome, AllFail}
 use Rattle.refusal.specs.Conditions.{beyond, anyBeyond, postsTests}
-use Rattle.refusal.proofs.Laws.{AllFail, joined-first, joined-rest, all-fail, inside}
+use Rattle.refusal.proofs.Groups.{stopped, went-on}
+use Rattle.refusal.proofs.Laws.{all-fail, inside}
 use Rattle.refusal.proofs.Endings.{refused, accepted}
 use Rattle.fields.specs.Fields.{written}
 use Rattle.forms.specs.Lines.{deal, text, lastRow}
@@ -47,11 +48,11 @@ module _ (n letter count row post : ℕ) (xs : List ℕ) (room : ℕ) where
           behind = rw (le-ltb post 1 a, le-ltb n post b, eq-eqb (length xs) count c, ← l, le-ltb last row d)
 
           pub number-beyond : (g ≡ 0 → ⊥) → g ≡ refusal
-          number-beyond h = joined-first (8 when anyBeyond xs ∷ []) room-test g tt e h ∙ behind
+          number-beyond h = stopped (8 when anyBeyond xs ∷ []) room-test tt g e h ∙ behind
 
           module _ (z : g ≡ 0) (m : ℕ) (w : m ≡ length (written 0 (row ∷ post ∷ xs))) where
             ends : (r : ℕ) → r ≡ first room-test → r ≡ refusal
-            ends r q = joined-rest (8 when anyBeyond xs ∷ []) room-test g r tt e z q ∙ behind
+            ends r q = went-on (8 when anyBeyond xs ∷ []) room-test tt g e r z q ∙ behind
 
             pub part-short : room < m → 12 ≡ refusal
             part-short h = ends 12 (rw (← w, lt-ltb room m h))
@@ -89,11 +90,11 @@ module _ (row c room : ℕ) where
     deal-behind = rw (le-ltb 95 row d)
 
     pub deal-beyond : (g ≡ 0 → ⊥) → g ≡ first (dealtTests row c room)
-    deal-beyond h = joined-first (8 when beyond c ∷ []) deal-room g tt e h ∙ deal-behind
+    deal-beyond h = stopped (8 when beyond c ∷ []) deal-room tt g e h ∙ deal-behind
 
     module _ (z : g ≡ 0) (m : ℕ) (w : m ≡ length (written 0 (row ∷ c ∷ []))) where
       deal-ends : (r : ℕ) → r ≡ first deal-room → r ≡ first (dealtTests row c room)
-      deal-ends r q = joined-rest (8 when beyond c ∷ []) deal-room g r tt e z q ∙ deal-behind
+      deal-ends r q = went-on (8 when beyond c ∷ []) deal-room tt g e r z q ∙ deal-behind
 
       pub deal-short : room < m → 12 ≡ first (dealtTests row c room)
       deal-short h = deal-ends 12 (rw (← w, lt-ltb room m h))
@@ -116,7 +117,7 @@ module _ (row c room : ℕ) where
 module _ (n t f : ℕ) (e : f ≡ first (postsTests n t)) where
   pub posts-refuse : (ys : List Test) → (f ≡ 0 → ⊥) → f ≡ lineRefusal n t ys
   unfolding lineRefusal
-  posts-refuse ys h = joined-first (postsTests n t) ys f tt e h
+  posts-refuse ys h = stopped (postsTests n t) ys tt f e h
 
   pub posts-keep : (ys : List Test) (new old : List ℕ) → (f ≡ 0 → ⊥) → old ≡ outcome (lineRefusal n t ys) new old
   posts-keep ys new old h = refused f (lineRefusal n t ys) new old (posts-refuse ys h) h
@@ -144,7 +145,7 @@ module _ (n t f : ℕ) (e : f ≡ first (postsTests n t)) where
 
     pub posts-pass : (ys : List Test) → first ys ≡ lineRefusal n t ys
     unfolding lineRefusal
-    posts-pass ys = joined-rest (postsTests n t) ys f (first ys) tt e z refl
+    posts-pass ys = went-on (postsTests n t) ys tt f e (first ys) z refl
 
 -- ---- the two ways in which writing ends
 pub refused-answer : (v : Written) (r x : ℕ) (line : List ℕ) → v ≡ notWritten r → r ≡ x → (r ≡ 0 → ⊥) → v ≡ writtenAs x line

@@ -11,11 +11,11 @@ use Rattle.refusal.specs.Conditions.{missized, anyBeyond}
 use Rattle.refusal.proofs.Laws.{equal, all-fail}
 use Rattle.refusal.proofs.Groups.{first-chain, stopped, went-on, fail-parts}
 use Rattle.session.specs.declared.Session.{Session}
-use Rattle.session.specs.Sessions.{answer}
+use Rattle.session.specs.Sessions.{holding, answer}
 use Rattle.session.specs.Rows.{width, rowAt}
 use Rattle.session.specs.Checks.{frameTests, noRow, unlike, Framed, RowIn}
 use Rattle.session.proofs.Passed.{framed, row-in}
-use Rattle.session.proofs.Endings.{holding, refused-answer}
+use Rattle.session.proofs.Endings.{refused-answer}
 use Rattle.session.proofs.Calls.{frame-passed}
 use Rattle.session.proofs.RowLaws.{length-row}
 use Rattle.opening.specs.declared.Opened.{Opened}

@@ -1,15 +1,21 @@
 -- An opening keeps to the law of every call: refusal 0 exactly when no condition of document 01's table applies, otherwise
--- the smallest number that does; session and rows are never changed.
+-- the smallest number that does; session and rows are never changed. And what it answers where only 9 is left to decide.
 use Prim.Native.Nat.{ℕ, zero, suc}
-use mathlib.Core.Path.{_≡_, refl, subst}
-use mathlib.Core.List.{List}
+use mathlib.Core.Path.{_≡_, refl, sym, subst}
+use mathlib.Core.Bool.{true, false}
+use mathlib.Core.List.{List, [], _∷_}
 use native.Mathlib.Omega.{arith}
-use Rattle.refusal.specs.Refusal.{first, outcome}
+use Rattle.refusal.specs.Refusal.{_when_, first, outcome}
+use Rattle.refusal.proofs.Groups.{went-on}
 use Rattle.session.specs.declared.Session.{Session}
+use Rattle.session.specs.Sessions.{holding}
 use Rattle.session.specs.Rows.{width, rowAt}
-use Rattle.session.proofs.Lawful.{Lawful, lawful}
-use Rattle.opening.specs.Walking.{opened}
-use Rattle.opening.specs.Opening.{openTests, openRefusal, openAnswer}
+use Rattle.session.specs.Law.{Lawful}
+use Rattle.session.proofs.Lawful.{lawful}
+use Rattle.session.proofs.Endings.{refused-answer, accepted-answer}
+use Rattle.opening.specs.Walking.{tooFew, opened}
+use Rattle.opening.specs.Opening.{openChecks, openTests, openRefusal, openAnswer}
+use Rattle.opening.specs.Table.{openTable}
 
 kept : (k : ℕ) (l : List ℕ) → outcome k l l ≡ l
 unfolding outcome
@@ -23,3 +29,29 @@ open-lawful s rows r blocks =
     let number = opened s (rowAt (width s) rows r) blocks in
     subst (λ (l : List ℕ). Lawful (openTests s rows r blocks) number s s rows rows (openAnswer s rows r blocks) l)
     (kept (first (openTests s rows r blocks)) rows) (lawful (openTests s rows r blocks) (omega arith) number s s rows rows)
+
+-- the tests of an opening are document 01's table
+pub open-table : (s : Session) (rows : List ℕ) (r : ℕ) (blocks : List ℕ) → openTests s rows r blocks ≡ openTable s rows r blocks
+open-table s rows r blocks = refl
+
+-- 1 to 8 refuse nothing, and fewer than t+1 are accepted: 9
+pub open-nine : (s : Session) (rows : List ℕ) (r : ℕ) (blocks : List ℕ) → first (openChecks s rows r blocks) ≡ 0
+    → tooFew s (rowAt (width s) rows r) blocks ≡ true → openAnswer s rows r blocks ≡ holding 9 0 s
+unfolding openRefusal
+open-nine s rows r blocks clear e =
+    let row = rowAt (width s) rows r in
+    sym
+    (refused-answer 9 (openRefusal s rows r blocks) (opened s row blocks) s s s
+    (went-on (openChecks s rows r blocks) (9 when tooFew s row blocks ∷ []) tt 0 (sym clear) 9 refl (rw e))
+    (λ z. omega arith) refl)
+
+-- and t+1 or more: the number
+pub open-number : (s : Session) (rows : List ℕ) (r : ℕ) (blocks : List ℕ) → first (openChecks s rows r blocks) ≡ 0
+    → tooFew s (rowAt (width s) rows r) blocks ≡ false
+    → openAnswer s rows r blocks ≡ holding 0 (opened s (rowAt (width s) rows r) blocks) s
+unfolding openRefusal
+open-number s rows r blocks clear e =
+    let row = rowAt (width s) rows r in
+    sym
+    (accepted-answer 0 (openRefusal s rows r blocks) (opened s row blocks) (opened s row blocks) s s s
+    (went-on (openChecks s rows r blocks) (9 when tooFew s row blocks ∷ []) tt 0 (sym clear) 0 refl (rw e)) refl refl refl)

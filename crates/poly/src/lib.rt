@@ -1,6 +1,6 @@
 // Polynomials over the p elements: values, and interpolation. Coefficients stand constant first.
 //
-// Every function is total: the lists have any length and hold any numbers, one of p or more standing for its remainder.
+// Every public function is total: the lists have any length and hold any numbers, one of p or more standing for its remainder.
 ghost use mathlib.Core.Path.{_≡_};
 ghost use Prim.Native.Nat.{_≤_, _<_};
 ghost use lib.ListN.{length, getD};
@@ -21,7 +21,7 @@ pub fn evaluate(coefficients: &[u32], x: u32) -> u32
 }
 
 // The powers of x from 1 on fill the list. With `weigh` they give the value of every polynomial at x
-// (`weighted-powers` in proofs/Values.antt), with no chain of dependent products.
+// (`weighted-powers` in proofs/Numbers.antt), with no chain of dependent products.
 pub fn powers(x: u32, list: &mut [u32])
     ensures { λ r. ⌜ now (list .exit) ≡ powers x (length (now (list .entry))) ⌝ }
 {

@@ -3,8 +3,8 @@ use Prim.Native.Nat.{ℕ, zero, suc}
 use mathlib.Core.Path.{_≡_, refl, sym, _∙_, ap}
 use mathlib.Core.Bool.{true, false}
 use mathlib.Core.List.{List, [], _∷_, _++_}
-use Rattle.refusal.specs.Refusal.{Test, _when_, first, orElse}
-use Rattle.refusal.proofs.Laws.{Numbered, AllFail, first-join}
+use Rattle.refusal.specs.Refusal.{Test, _when_, first, orElse, AllFail}
+use Rattle.refusal.proofs.Laws.{Numbered, first-join}
 use Rattle.refusal.proofs.Endings.{orElse-first}
 
 -- the answers of single tests, joined from the right

@@ -1,19 +1,14 @@
 -- What `first` means: the first refusal in document 01's order, and how groups of tests are joined.
 use Prim.Native.Nat.{ℕ, zero, suc, _≤_, _<_}
-use mathlib.Core.Path.{_≡_, refl, sym, _∙_}
+use mathlib.Core.Path.{_≡_, refl}
 use mathlib.Core.Bool.{Bool, true, false, not}
 use mathlib.Core.List.{List, [], _∷_, _++_}
 use native.Mathlib.Omega.{arith}
 use native.Mathlib.Nat.{le-refl, le-trans}
 use borrow.Author.Tests.{ltb-false, eqb-true, not-false}
 use lib.Dec.{ltb, eqb}
-use Rattle.refusal.specs.Refusal.{Test, _when_, first, orElse, Applies, here, later, Ordered}
+use Rattle.refusal.specs.Refusal.{Test, _when_, first, orElse, Applies, here, later, AllFail, Ordered}
 use Rattle.refusal.specs.Conditions.{or, outside}
-
--- every test of the list fails
-abbrev pub AllFail : List Test → Type 0
-AllFail [] = Unit {0}
-AllFail (k when b ∷ ts) = (b ≡ false) × AllFail ts
 
 -- no number is 0, as it is where the numbers are written out
 abbrev pub Numbered : List Test → Type 0
@@ -34,21 +29,6 @@ first-join [] ys n = refl
 first-join (zero when b ∷ xs) ys n = absurd n
 first-join (suc k when true ∷ xs) ys n = refl
 first-join (suc k when false ∷ xs) ys n = first-join xs ys n
-
--- two groups joined, as code goes through them: refused by the first, or left to the second
-pub joined-first : (xs ys : List Test) (r : ℕ) → Numbered xs → r ≡ first xs → (r ≡ 0 → ⊥) → r ≡ first (xs ++ ys)
-joined-first xs ys r n e h = go (first xs) e ∙ sym (first-join xs ys n)
-  where
-    go : (f : ℕ) → r ≡ f → r ≡ orElse f (first ys)
-    go zero e = absurd (h e)
-    go (suc k) e = e
-
-pub joined-rest : (xs ys : List Test) (r q : ℕ) → Numbered xs → r ≡ first xs → r ≡ 0 → q ≡ first ys → q ≡ first (xs ++ ys)
-joined-rest xs ys r q n e z f = go (first xs) e ∙ sym (first-join xs ys n)
-  where
-    go : (k : ℕ) → r ≡ k → q ≡ orElse k (first ys)
-    go zero e = f
-    go (suc k) e = let w : suc k ≡ 0 = sym e ∙ z in absurd (never w)
 
 -- not refused: no test holds
 pub all-fail : (ts : List Test) → Numbered ts → first ts ≡ 0 → AllFail ts

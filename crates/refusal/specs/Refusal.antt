@@ -1,5 +1,6 @@
 -- Document 01, "Where each refusal is checked": numbered tests, and the first that holds.
 use Prim.Native.Nat.{ℕ, zero, suc, _≤_, _<_}
+use mathlib.Core.Path.{_≡_}
 use mathlib.Core.Bool.{Bool, true, false}
 use mathlib.Core.List.{List, [], _∷_}
 
@@ -28,6 +29,18 @@ outcome (suc k) new old = old
 pub data Applies (k : ℕ) : List Test → Type 0 where
   here : {ts : List Test} → Applies k (k when true ∷ ts)
   later : {t : Test} {ts : List Test} → Applies k ts → Applies k (t ∷ ts)
+
+-- Every test of the list fails.
+abbrev pub AllFail : List Test → Type 0
+AllFail [] = Unit {0}
+AllFail (k when b ∷ ts) = (b ≡ false) × AllFail ts
+
+-- What "the first refusal in order" says: 0 exactly when every test fails; otherwise the smallest number whose test applies.
+pub record Decides (ts : List Test) : Type 0 where
+  pub accepts : first ts ≡ 0 → AllFail ts
+  pub only : AllFail ts → first ts ≡ 0
+  pub applies : (first ts ≡ 0 → ⊥) → Applies (first ts) ts
+  pub least : (j : ℕ) → Applies j ts → (0 < first ts) × (first ts ≤ j)
 
 -- The numbers are at least k, at least 1, and in order: as document 01's table has them.
 abbrev pub Ordered : ℕ → List Test → Type 0

@@ -3,8 +3,8 @@ use Prim.Native.Nat.{ℕ, _≤_}
 use mathlib.Core.Path.{_≡_, sym, _∙_}
 use mathlib.Core.List.{List, _++_}
 use native.Mathlib.Omega.{arith}
-use Rattle.refusal.specs.Refusal.{Test, first}
-use Rattle.refusal.proofs.Laws.{Numbered, AllFail, all-fail}
+use Rattle.refusal.specs.Refusal.{Test, first, AllFail}
+use Rattle.refusal.proofs.Laws.{Numbered, all-fail}
 use Rattle.refusal.proofs.Groups.{stopped, went-on, fail-parts}
 use Rattle.session.specs.declared.Session.{Session}
 use Rattle.session.specs.Checks.{frameTests, Framed}

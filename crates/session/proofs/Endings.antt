@@ -4,11 +4,7 @@ use mathlib.Core.Path.{_≡_, _∙_, ap, ap₂}
 use borrow.Author.Needs.{needs}
 use Rattle.refusal.proofs.Endings.{refused, accepted}
 use Rattle.session.specs.declared.Session.{Session}
-use Rattle.session.specs.declared.Answer.{Answer}
-use Rattle.session.specs.Sessions.{answer}
-
-abbrev pub holding : ℕ → ℕ → Session → Answer
-holding refusal value session = record { refusal = refusal; value = value; session = session }
+use Rattle.session.specs.Sessions.{holding, answer}
 
 pub refused-answer : (r x value : ℕ) (s new old : Session) → r ≡ x → (r ≡ 0 → ⊥) → s ≡ old → holding r 0 s ≡ answer x value new old
 refused-answer r x value s new old e n q =

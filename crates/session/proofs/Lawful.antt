@@ -3,20 +3,13 @@ use Prim.Native.Nat.{ℕ}
 use mathlib.Core.Path.{_≡_, refl, sym}
 use mathlib.Core.List.{List}
 use native.Mathlib.Omega.{arith}
-use Rattle.refusal.specs.Refusal.{Test, first, outcome, Ordered}
+use Rattle.refusal.specs.Refusal.{Test, first, outcome, Ordered, Decides}
 use Rattle.refusal.proofs.Endings.{refused, accepted}
-use Rattle.refusal.proofs.Decided.{Decides, decides}
+use Rattle.refusal.proofs.Decided.{decides}
 use Rattle.session.specs.declared.Session.{Session}
-use Rattle.session.specs.declared.Answer.{Answer}
-use Rattle.session.specs.Sessions.{answer, sessionOf, sessionTests, created}
-use Rattle.session.proofs.Endings.{holding, refused-answer, accepted-answer}
-
--- A call with these tests, which came with the session `old` and the list `before`, gave `given` and left `after`.
-pub record Lawful (tests : List Test) (value : ℕ) (new old : Session) (written before : List ℕ) (given : Answer) (after : List ℕ) : Type 0 where
-  pub refusal : Decides tests
-  -- refused: the number, 0 for a value, session and list as they came
-  pub untouched : (first tests ≡ 0 → ⊥) → (given ≡ holding (first tests) 0 old) × (after ≡ before)
-  pub done : first tests ≡ 0 → (given ≡ holding 0 value new) × (after ≡ written)
+use Rattle.session.specs.Sessions.{holding, answer, sessionOf, sessionTests, created}
+use Rattle.session.specs.Law.{Lawful}
+use Rattle.session.proofs.Endings.{refused-answer, accepted-answer}
 
 pub lawful : (tests : List Test) → Ordered 1 tests → (value : ℕ) (new old : Session) (written before : List ℕ)
     → Lawful tests value new old written before (answer (first tests) value new old) (outcome (first tests) written before)

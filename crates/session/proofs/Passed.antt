@@ -7,9 +7,9 @@ use native.Mathlib.Nat.{mul-le-mul-right, pos-of-ne-zero}
 use native.Mathlib.Omega.{arith}
 use borrow.Author.Tests.{ltb-false, eqb-false}
 use lib.Dec.{eqb}
-use Rattle.refusal.specs.Refusal.{_when_, first, orElse}
+use Rattle.refusal.specs.Refusal.{_when_, first, orElse, AllFail}
 use Rattle.refusal.specs.Conditions.{postsTests, outside, missized, beyond, badPoint}
-use Rattle.refusal.proofs.Laws.{AllFail, or-false, inside, equal, all-fail, first-join}
+use Rattle.refusal.proofs.Laws.{or-false, inside, equal, all-fail, first-join}
 use Rattle.refusal.proofs.Elements.{below-p}
 use Rattle.refusal.proofs.Groups.{first-chain, stopped, went-on}
 use Rattle.session.specs.declared.Session.{Session}

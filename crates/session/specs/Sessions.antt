@@ -26,10 +26,13 @@ marked s r m = record { n = s .n; t = s .t; post = s .post; point = s .point; ma
 abbrev pub remembering : Session → ℕ → ℕ → ℕ → Session
 remembering s r a b = record { n = s .n; t = s .t; post = s .post; point = s .point; marks = s .marks; left = set (s .left) r a; right = set (s .right) r b }
 
--- What a call hands back: "the first refusal, with 0 for a value, the session as it came", or 0, its value and the new session.
+-- An answer that holds these three.
+abbrev pub holding : ℕ → ℕ → Session → Answer
+holding refusal value session = record { refusal = refusal; value = value; session = session }
+
+-- What a call hands back. Refused: its number, 0 for a value and the session as it came; else 0, its value and the new session.
 abbrev pub answer : ℕ → ℕ → Session → Session → Answer
-answer refusal value new old =
-    outcome refusal (record { refusal = 0; value = value; session = new }) (record { refusal = refusal; value = 0; session = old })
+answer refusal value new old = outcome refusal (holding 0 value new) (holding refusal 0 old)
 
 abbrev pub sessionOf : ℕ → ℕ → ℕ → ℕ → Session
 sessionOf n t post point =

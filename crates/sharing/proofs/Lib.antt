@@ -4,3 +4,4 @@ pub mod Loading
 pub mod Triples
 pub mod Combining
 pub mod Theorems
+pub mod Tables

@@ -6,7 +6,8 @@ use native.Mathlib.Omega.{arith}
 use Rattle.session.specs.declared.Session.{Session}
 use Rattle.session.specs.Sessions.{marked}
 use Rattle.session.specs.Rows.{width, sumsAt, rowAt, withRow, coefficients, combined, plusSums}
-use Rattle.session.proofs.Lawful.{Lawful, lawful}
+use Rattle.session.specs.Law.{Lawful}
+use Rattle.session.proofs.Lawful.{lawful}
 use Rattle.sharing.specs.Load.{loadRowTests, loadRowRefusal, loadRowAnswer, loadRowRows, loadTripleTests, loadTripleRefusal, loadTripleAnswer, loadTripleRows, withTriple}
 use Rattle.sharing.specs.Deal.{dealTests, dealRefusal, dealAnswer, dealRows}
 use Rattle.sharing.specs.Message.{messageTests, messageRefusal, messageAnswer, messageOut}

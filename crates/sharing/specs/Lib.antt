@@ -2,3 +2,4 @@ pub mod Load
 pub mod Deal
 pub mod Message
 pub mod Linear
+pub mod Table

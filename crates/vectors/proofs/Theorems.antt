@@ -1,11 +1,13 @@
 -- The claims of specs/Claims.antt.
 use Prim.Native.Nat.{ℕ, zero, suc, _+_, _*_, _<_}
 use mathlib.Core.Path.{_≡_, refl, sym, _∙_, ap, ap₂, fun-ext}
-use mathlib.Core.Bool.{false}
+use mathlib.Core.Bool.{Bool, true, false, cond}
 use mathlib.Core.List.{List, [], _∷_, _++_, map}
 use native.Mathlib.Numerals.{add-one}
 use native.Mathlib.Omega.{arith}
-use lib.ListN.{length, getD}
+use borrow.Author.Tests.{eq-eqb, ne-eqb, eqb-true}
+use lib.Dec.{eqb}
+use lib.ListN.{length, getD, List·getD-append}
 use lib.Seq.{getD-append-add}
 use Rattle.field.specs.Modulus.{p}
 use Rattle.field.specs.Arithmetic.{product, difference}
@@ -22,11 +24,15 @@ use Rattle.poly.proofs.Coefficients.{ev}
 use Rattle.poly.proofs.Lists.{all-map}
 use Rattle.poly.proofs.Theorems.{interpolation-is-exact}
 use Rattle.session.specs.declared.Session.{Session}
-use Rattle.session.specs.Rows.{publicSum, combined}
+use Rattle.session.specs.Sessions.{holding}
+use Rattle.session.specs.Rows.{checkValue, publicSum, combined}
+use Rattle.session.proofs.Writers.{length-combined}
 use Rattle.opening.specs.Walking.{sent, accepts, share, acceptedPosts, tooFew, opened}
+use Rattle.opening.proofs.Opens.{open-allowed}
+use Rattle.opening.proofs.Theorems.{open-nine, open-number}
 use Rattle.opening.proofs.Accepted.{Accepted, all-accepted, distinct-accepted, accepted-enough}
 use Rattle.vectors.specs.Vector.{Vector, plusTimes, number, firsts, numbers, valueAt, checkOf, sumAt, rowOf, vectorOf}
-use Rattle.vectors.specs.Claims.{PartLinear, heldRow, OpeningExact}
+use Rattle.vectors.specs.Claims.{PartLinear, heldRow, AcceptedAgrees, TrueAccepted, OpeningExact}
 use Rattle.vectors.proofs.Linear.{length-numbers, row-plusTimes}
 use Rattle.vectors.proofs.Draws.{value-numbers, part-is-row}
 open CommutativeRing 𝓡 using (add as _⊕_, mul as _⊗_, neg)
@@ -34,12 +40,6 @@ open CommutativeRing 𝓡 using (add as _⊕_, mul as _⊗_, neg)
 infixl 65 _⊕_
 infixl 70 _⊗_
 -- ---- the factory's part is linear
-
-length-combined : (s : ℕ) (xs ys : List ℕ) → length xs ≡ length ys → length (combined s xs ys) ≡ length xs
-unfolding combined
-length-combined s [] ys e = refl
-length-combined s (x ∷ xs) [] e = absurd (omega arith)
-length-combined s (x ∷ xs) (y ∷ ys) e = ap suc (length-combined s xs ys (omega arith))
 
 elements-combined : (s : ℕ) (xs ys : List ℕ) → Elements (combined s xs ys)
 unfolding combined
@@ -105,7 +105,7 @@ valueAt-zero k a =
     rest : Element
     rest = valueAt k (λ i. a (suc i)) (element 0)
 
-module _ (s : Session) (S : Vector) (blocks : List ℕ) (few : s .n < p) where
+module _ (s : Session) (S : Vector) (blocks : List ℕ) where
   row : List ℕ
   row = heldRow s S
 
@@ -167,10 +167,10 @@ module _ (s : Session) (S : Vector) (blocks : List ℕ) (few : s .n < p) where
   shares-true (zero ∷ l) a b = absurd (omega (arith, a .0 .from-on))
   shares-true (suc j ∷ l) a b = ap₂ _∷_ (share-true j (omega (arith, a .0 .before)) (b .0)) (shares-true l (a .1) (b .1))
 
-  exact : All (λ j. sent s row blocks j ≡ numbers (s .t + 1) (S .v j)) posts → tooFew s row blocks ≡ false
+  exact : s .n < p → All (λ j. sent s row blocks j ≡ numbers (s .t + 1) (S .v j)) posts → tooFew s row blocks ≡ false
       → opened s row blocks ≡ number S .0
   unfolding opened posts shareOf Same
-  exact true-all enough =
+  exact few true-all enough =
       ap (λ (ys : List ℕ). interpolated posts ys 0) (shares-true posts in-range true-all)
       ∙ interpolation-is-exact posts (all-map (λ j a. omega (arith, a .before)) posts in-range)
       (distinct-accepted (accepts s row blocks) 1 (s .n) (s .t + 1)) (numbers (s .t + 1) (shareOf S))
@@ -180,6 +180,60 @@ module _ (s : Session) (S : Vector) (blocks : List ℕ) (few : s .n < p) where
       at-zero : valueAt (s .t + 1) (shareOf S) (element 0) ≡ number S
       at-zero = rw (add-one (s .t)) (valueAt-zero (s .t) (shareOf S) ∙ solve 𝓡 (S .f 0 ∷ S .c ∷ []) (A :+ B) (B :+ A) refl)
 
+  -- the check value of a post, and what passing means
+  check-of-row : (j : ℕ) → j < s .n → checkValue s row (suc j) ≡ value (numbers (s .t + 1) (S .v (suc j))) (s .point)
+  unfolding row rowOf
+  check-of-row j h =
+      ap (λ (z : ℕ). getD (a ++ (b ++ m)) z 0) place ∙ getD-append-add a (b ++ m) j 0
+      ∙ List·getD-append b m 0 j (omega (arith, length-numbers (s .n) (checkOf (s .t + 1) (element (s .point)) S)))
+      ∙ number-at (s .n) (checkOf (s .t + 1) (element (s .point)) S) j h
+      ∙ sym (value-numbers (s .t + 1) (S .v (suc j)) (s .point))
+    where
+      a : List ℕ
+      a = numbers (s .t + 1) (S .v (s .post))
+      b : List ℕ
+      b = numbers (s .n) (checkOf (s .t + 1) (element (s .point)) S)
+      m : List ℕ
+      m = numbers (s .n) (sumAt (s .t + 1) S)
+      place : s .t + suc j ≡ length a + j
+      place = omega (arith, length-numbers (s .t + 1) (S .v (s .post)))
+
+  passes : (j : ℕ) → j < s .n → accepts s row blocks (suc j) ≡ true
+      → value (sent s row blocks (suc j)) (s .point) ≡ value (numbers (s .t + 1) (S .v (suc j))) (s .point)
+  unfolding accepts
+  passes j h e = eqb-true _ _ (go (eqb (length (sent s row blocks (suc j))) 0) e) ∙ check-of-row j h
+    where
+      test : Bool
+      test = eqb (value (sent s row blocks (suc j)) (s .point)) (checkValue s row (suc j))
+      go : (b : Bool) → cond b false test ≡ true → test ≡ true
+      go true g = let z : _≡_ {A = ℕ} 0 1 = cc in absurd (omega arith)
+      go false g = g
+
+  true-passes : (j : ℕ) → j < s .n → sent s row blocks (suc j) ≡ numbers (s .t + 1) (S .v (suc j))
+      → accepts s row blocks (suc j) ≡ true
+  unfolding accepts
+  true-passes j h e =
+      rw (e, ne-eqb (length (numbers (s .t + 1) (S .v (suc j)))) 0 (λ z. omega (arith, length-numbers (s .t + 1) (S .v (suc j)))))
+      (eq-eqb (value (numbers (s .t + 1) (S .v (suc j))) (s .point)) (checkValue s row (suc j)) (sym (check-of-row j h)))
+
+pub accepted-agrees : AcceptedAgrees
+unfolding row
+accepted-agrees s S blocks zero lo hi e = absurd (omega arith)
+accepted-agrees s S blocks (suc j) lo hi e = passes s S blocks j (omega arith) e
+
+pub true-accepted : TrueAccepted
+unfolding row
+true-accepted s S blocks zero lo hi e = absurd (omega arith)
+true-accepted s S blocks (suc j) lo hi e = true-passes s S blocks j (omega arith) e
+
 pub opening-exact : OpeningExact
 unfolding row posts
-opening-exact s S blocks few true-all enough = exact s S blocks few true-all enough
+opening-exact s S rows r blocks clear held =
+    ((λ few. open-nine s rows r blocks clear (rw held few)),
+    λ enough true-all.
+      open-number s rows r blocks clear (rw held enough)
+      ∙ ap (λ (x : List ℕ). holding 0 (opened s x blocks) s) held
+      ∙ ap (λ (v : ℕ). holding 0 v s) (exact s S blocks posts-few true-all enough))
+  where
+    posts-few : s .n < p
+    posts-few = let h = open-allowed s rows r blocks 0 (sym clear) refl in omega (arith, h .0 .n-in)

@@ -1,16 +1,20 @@
 -- What is claimed of one row and of one opening; proved in proofs/Theorems.antt.
 use Prim.Native.Nat.{ℕ, _+_, _≤_, _<_}
 use mathlib.Core.Path.{_≡_}
-use mathlib.Core.Bool.{false}
+use mathlib.Core.Bool.{true, false}
 use mathlib.Core.List.{List}
 use lib.ListN.{length}
 use Rattle.field.specs.Modulus.{p}
 use Rattle.field.specs.Element.{element}
+use Rattle.poly.specs.Polynomial.{value}
+use Rattle.refusal.specs.Refusal.{first}
 use Rattle.poly.specs.Counting.{All, Elements}
 use Rattle.session.specs.declared.Session.{Session}
-use Rattle.session.specs.Rows.{combined}
+use Rattle.session.specs.Sessions.{holding}
+use Rattle.session.specs.Rows.{width, rowAt, combined}
 use Rattle.factory.specs.Draw.{drawLength, part}
-use Rattle.opening.specs.Walking.{sent, acceptedPosts, tooFew, opened}
+use Rattle.opening.specs.Walking.{sent, accepts, acceptedPosts, tooFew}
+use Rattle.opening.specs.Opening.{openChecks, openAnswer}
 use Rattle.vectors.specs.Vector.{Vector, number, numbers, rowOf}
 
 -- What the factory writes for a post is linear in the draw.
@@ -23,9 +27,29 @@ PartLinear =
 abbrev pub heldRow : Session → Vector → List ℕ
 heldRow s S = rowOf (s .t + 1) (s .n) (s .post) (element (s .point)) S
 
--- Demand 2, one opening: where each polynomial accepted is its sender's and they are enough, the number is f(0) + c.
+-- A record shows of post j the polynomial that j really has.
+abbrev pub Truly : Session → Vector → List ℕ → ℕ → Type 0
+Truly s S blocks j = sent s (heldRow s S) blocks j ≡ numbers (s .t + 1) (S .v j)
+
+-- "Post j is accepted when its polynomial at wi equals the check value for j": a post's acceptance is agreement with j's own
+-- polynomial at the check point, at which two different ones agree at no more than t of the p − 1 points (FalsePolynomialsPass).
+abbrev pub AcceptedAgrees : Type 0
+AcceptedAgrees =
+    (s : Session) (S : Vector) (blocks : List ℕ) (j : ℕ) → 1 ≤ j → j ≤ s .n → accepts s (heldRow s S) blocks j ≡ true
+    → value (sent s (heldRow s S) blocks j) (s .point) ≡ value (numbers (s .t + 1) (S .v j)) (s .point)
+
+-- A true polynomial is accepted.
+abbrev pub TrueAccepted : Type 0
+TrueAccepted =
+    (s : Session) (S : Vector) (blocks : List ℕ) (j : ℕ) → 1 ≤ j → j ≤ s .n → Truly s S blocks j
+    → accepts s (heldRow s S) blocks j ≡ true
+
+-- Demand 2, one opening, of a row that 1 to 8 let pass and that is the post's part of a vector: fewer than t+1 accepted give 9;
+-- t+1 or more, where each polynomial accepted is its sender's, give f(0) + c.
 abbrev pub OpeningExact : Type 0
 OpeningExact =
-    (s : Session) (S : Vector) (blocks : List ℕ) → s .n < p
-    → All (λ j. sent s (heldRow s S) blocks j ≡ numbers (s .t + 1) (S .v j)) (acceptedPosts s (heldRow s S) blocks)
-    → tooFew s (heldRow s S) blocks ≡ false → opened s (heldRow s S) blocks ≡ number S .0
+    (s : Session) (S : Vector) (rows : List ℕ) (r : ℕ) (blocks : List ℕ) → first (openChecks s rows r blocks) ≡ 0
+    → rowAt (width s) rows r ≡ heldRow s S
+    → (tooFew s (heldRow s S) blocks ≡ true → openAnswer s rows r blocks ≡ holding 9 0 s)
+    × (tooFew s (heldRow s S) blocks ≡ false → All (Truly s S blocks) (acceptedPosts s (heldRow s S) blocks)
+      → openAnswer s rows r blocks ≡ holding 0 (number S .0) s)

@@ -1,0 +1,81 @@
+-- Document 01's table, line by line, for the calls of this crate: one flat list of numbered tests for each. The calls' own
+-- definitions are made of groups that they share; proofs/Tables.antt shows that they are these lists.
+use Prim.Native.Nat.{ℕ, _+_, _*_, _-_}
+use mathlib.Core.List.{List, [], _∷_}
+use Rattle.refusal.specs.Refusal.{Test, _when_}
+use Rattle.refusal.specs.Conditions.{outside, missized, beyond, anyBeyond, badPoint}
+use Rattle.session.specs.declared.Session.{Session}
+use Rattle.session.specs.Rows.{width, rowAt}
+use Rattle.session.specs.Checks.{noRow, noTriple, unlike}
+
+abbrev pub loadRowTable : Session → List ℕ → ℕ → List ℕ → List Test
+loadRowTable s rows r pack =
+    1 when outside 2 32 (s .n)
+    ∷ 2 when outside 1 (s .n - 1) (s .t)
+    ∷ 3 when outside 1 (s .n) (s .post)
+    ∷ 4 when badPoint (s .point)
+    ∷ 5 when missized rows (96 * width s)
+    ∷ 5 when missized pack (width s)
+    ∷ 6 when noRow r
+    ∷ 7 when unlike s r 0
+    ∷ 8 when anyBeyond pack
+    ∷ []
+
+abbrev pub loadTripleTable : Session → List ℕ → ℕ → List ℕ → List Test
+loadTripleTable s rows r pack =
+    1 when outside 2 32 (s .n)
+    ∷ 2 when outside 1 (s .n - 1) (s .t)
+    ∷ 3 when outside 1 (s .n) (s .post)
+    ∷ 4 when badPoint (s .point)
+    ∷ 5 when missized rows (96 * width s)
+    ∷ 5 when missized pack (3 * width s)
+    ∷ 6 when noTriple r
+    ∷ 7 when unlike s r 0
+    ∷ 7 when unlike s (r + 1) 0
+    ∷ 7 when unlike s (r + 2) 0
+    ∷ 8 when anyBeyond pack
+    ∷ []
+
+abbrev pub dealTable : Session → List ℕ → ℕ → ℕ → List Test
+dealTable s rows r c =
+    1 when outside 2 32 (s .n)
+    ∷ 2 when outside 1 (s .n - 1) (s .t)
+    ∷ 3 when outside 1 (s .n) (s .post)
+    ∷ 4 when badPoint (s .point)
+    ∷ 5 when missized rows (96 * width s)
+    ∷ 6 when noRow r
+    ∷ 7 when unlike s r 1
+    ∷ 8 when beyond c
+    ∷ 8 when anyBeyond (rowAt (width s) rows r)
+    ∷ []
+
+abbrev pub messageTable : Session → List ℕ → ℕ → List ℕ → List Test
+messageTable s rows r out =
+    1 when outside 2 32 (s .n)
+    ∷ 2 when outside 1 (s .n - 1) (s .t)
+    ∷ 3 when outside 1 (s .n) (s .post)
+    ∷ 4 when badPoint (s .point)
+    ∷ 5 when missized rows (96 * width s)
+    ∷ 5 when missized out (s .t + 1)
+    ∷ 6 when noRow r
+    ∷ 7 when unlike s r 2
+    ∷ 8 when anyBeyond (rowAt (width s) rows r)
+    ∷ []
+
+abbrev pub linearTable : Session → List ℕ → ℕ → ℕ → ℕ → ℕ → List Test
+linearTable s rows r a b scale =
+    1 when outside 2 32 (s .n)
+    ∷ 2 when outside 1 (s .n - 1) (s .t)
+    ∷ 3 when outside 1 (s .n) (s .post)
+    ∷ 4 when badPoint (s .point)
+    ∷ 5 when missized rows (96 * width s)
+    ∷ 6 when noRow r
+    ∷ 6 when noRow a
+    ∷ 6 when noRow b
+    ∷ 7 when unlike s r 0
+    ∷ 7 when unlike s a 2
+    ∷ 7 when unlike s b 2
+    ∷ 8 when beyond scale
+    ∷ 8 when anyBeyond (rowAt (width s) rows a)
+    ∷ 8 when anyBeyond (rowAt (width s) rows b)
+    ∷ []
