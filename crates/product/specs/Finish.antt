@@ -11,34 +11,68 @@ use Rattle.session.specs.Sessions.{marked, factorA, factorB, answer}
 use Rattle.session.specs.Rows.{width, sumsAt, rowAt, withRow, combined, plusSums}
 use Rattle.session.specs.Checks.{frameTests, noRow, noTriple}
 use Rattle.opening.specs.Walking.{recordLength, badRecord, tooFew, opened}
-use Rattle.product.specs.Masks.{less, tripleMarks, maskNumbers}
+use Rattle.product.specs.declared.OpenedMasks.{OpenedMasks}
+use Rattle.product.specs.Masks.{maskRow, tripleMarks, maskNumbers}
 
 -- The rows that are opened: a − l and b − l', with the factor rows that the masks remembered.
 abbrev pub maskA : Session → List ℕ → ℕ → List ℕ
-maskA s rows r = less (rowAt (width s) rows (factorA s r)) (rowAt (width s) rows r)
+maskA s rows r = maskRow s rows (factorA s r) r
 
 abbrev pub maskB : Session → List ℕ → ℕ → List ℕ
-maskB s rows r = less (rowAt (width s) rows (factorB s r)) (rowAt (width s) rows (r + 1))
+maskB s rows r = maskRow s rows (factorB s r) (r + 1)
 
--- A remembered row above 95 gets 7, as one that is not held does.
+-- 5 of the two records, and 6.
+abbrev pub finishPlace : Session → ℕ → List ℕ → List ℕ → List Test
+finishPlace s r blocks blocks' =
+    5 when missized blocks (recordLength s) ∷ 5 when missized blocks' (recordLength s) ∷ 6 when noTriple r ∷ []
+
+-- 7: a remembered row above 95 gets it, as one that is not held does.
+abbrev pub finishMarks : Session → ℕ → ℕ → ℕ → List Test
+finishMarks s a b r = (7 when noRow a ∷ 7 when noRow b ∷ []) ++ tripleMarks s a b r 5
+
+-- 8 of the factor rows, the triple and both records.
+abbrev pub finishNumbers : Session → List ℕ → ℕ → ℕ → ℕ → List ℕ → List ℕ → List Test
+finishNumbers s rows a b r blocks blocks' =
+    maskNumbers s rows a b r
+    ++ (8 when anyBeyond (rowAt (width s) rows (r + 2)) ∷ 8 when badRecord s blocks ∷ 8 when badRecord s blocks' ∷ [])
+
+-- 1 to 8
+abbrev pub finishChecks : Session → List ℕ → ℕ → List ℕ → List ℕ → List Test
+finishChecks s rows r blocks blocks' =
+    frameTests s rows
+    ++ finishPlace s r blocks blocks'
+    ++ finishMarks s (factorA s r) (factorB s r) r
+    ++ finishNumbers s rows (factorA s r) (factorB s r) r blocks blocks'
+
+abbrev pub finishChecked : Session → List ℕ → ℕ → List ℕ → List ℕ → ℕ
+finishChecked s rows r blocks blocks' = first (finishChecks s rows r blocks blocks')
+
+-- 9: "in either record of a finish", for the rows x and x' that are opened.
+abbrev pub tooFewOf : Session → List ℕ → List ℕ → List ℕ → List ℕ → List Test
+tooFewOf s x x' blocks blocks' = 9 when tooFew s x blocks ∷ 9 when tooFew s x' blocks' ∷ []
+
+-- Two numbers opened, or the refusal.
+abbrev pub found : ℕ → ℕ → ℕ → OpenedMasks
+found refusal y y' =
+    outcome refusal (record { refusal = 0; y = y; z = y' }) (record { refusal = refusal; y = 0; z = 0 })
+
+-- The rows x and x', opened with their records, or 9.
+abbrev pub openedBoth : Session → List ℕ → List ℕ → List ℕ → List ℕ → OpenedMasks
+openedBoth s x x' blocks blocks' = found (first (tooFewOf s x x' blocks blocks')) (opened s x blocks) (opened s x' blocks')
+
 abbrev pub finishTests : Session → List ℕ → ℕ → List ℕ → List ℕ → List Test
 finishTests s rows r blocks blocks' =
-    frameTests s rows
-    ++ (5 when missized blocks (recordLength s) ∷ 5 when missized blocks' (recordLength s) ∷ 6 when noTriple r ∷ [])
-    ++ (7 when noRow (factorA s r) ∷ 7 when noRow (factorB s r) ∷ [])
-    ++ tripleMarks s (factorA s r) (factorB s r) r 5
-    ++ maskNumbers s rows (factorA s r) (factorB s r) r
-    ++ (8 when anyBeyond (rowAt (width s) rows (r + 2))
-    ∷ 8 when badRecord s blocks
-    ∷ 8 when badRecord s blocks'
-    ∷ 9 when tooFew s (maskA s rows r) blocks
-    ∷ 9 when tooFew s (maskB s rows r) blocks'
-    ∷ [])
+    finishChecks s rows r blocks blocks' ++ tooFewOf s (maskA s rows r) (maskB s rows r) blocks blocks'
 
 unfoldable pub finishRefusal : Session → List ℕ → ℕ → List ℕ → List ℕ → ℕ
 finishRefusal s rows r blocks blocks' = first (finishTests s rows r blocks blocks')
 
--- "l'' + y l' + y' l + y y'", with y y' added to the public sums only
+-- The first step of a finish: y and y', or the refusal with 0 for both.
+abbrev pub openedMasks : Session → List ℕ → ℕ → List ℕ → List ℕ → OpenedMasks
+openedMasks s rows r blocks blocks' =
+    found (finishRefusal s rows r blocks blocks') (opened s (maskA s rows r) blocks) (opened s (maskB s rows r) blocks')
+
+-- The second step: "l'' + y l' + y' l + y y'", with y y' added to the public sums only
 unfoldable pub productRow : Session → ℕ → ℕ → List ℕ → List ℕ → List ℕ → List ℕ
 productRow s y y' l l' l'' = plusSums (sumsAt s) (product y y') (combined y' (combined y l'' l') l)
 

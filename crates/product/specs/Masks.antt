@@ -15,6 +15,10 @@ use Rattle.session.specs.Checks.{frameTests, noRow, noTriple, unlike}
 abbrev pub less : List ℕ → List ℕ → List ℕ
 less x y = combined (p - 1) x y
 
+-- A factor row less a row of the triple.
+abbrev pub maskRow : Session → List ℕ → ℕ → ℕ → List ℕ
+maskRow s rows factor r = less (rowAt (width s) rows factor) (rowAt (width s) rows r)
+
 -- 7 of the factor rows and of a triple whose first row has mark m.
 abbrev pub tripleMarks : Session → ℕ → ℕ → ℕ → ℕ → List Test
 tripleMarks s a b r m =
@@ -34,13 +38,15 @@ maskNumbers s rows a b r =
     ∷ 8 when anyBeyond (rowAt (width s) rows (r + 1))
     ∷ []
 
--- The masks fill a lent list of 2(t+1) numbers; l'' is not read.
+-- 5 of the lent list, which the masks fill with 2(t+1) numbers, and 6.
+abbrev pub masksPlace : Session → ℕ → ℕ → ℕ → List ℕ → List Test
+masksPlace s a b r out =
+    5 when missized out (2 * (s .t + 1)) ∷ 6 when noRow a ∷ 6 when noRow b ∷ 6 when noTriple r ∷ []
+
+-- l'' is not read.
 abbrev pub masksTests : Session → List ℕ → ℕ → ℕ → ℕ → List ℕ → List Test
 masksTests s rows a b r out =
-    frameTests s rows
-    ++ (5 when missized out (2 * (s .t + 1)) ∷ 6 when noRow a ∷ 6 when noRow b ∷ 6 when noTriple r ∷ [])
-    ++ tripleMarks s a b r 3
-    ++ maskNumbers s rows a b r
+    frameTests s rows ++ masksPlace s a b r out ++ tripleMarks s a b r 3 ++ maskNumbers s rows a b r
 
 unfoldable pub masksRefusal : Session → List ℕ → ℕ → ℕ → ℕ → List ℕ → ℕ
 masksRefusal s rows a b r out = first (masksTests s rows a b r out)
@@ -50,9 +56,7 @@ masksAnswer s rows a b r out = answer (masksRefusal s rows a b r out) 0 (remembe
 
 -- the coefficients of a − l, then of b − l'
 unfoldable pub maskNumbersOf : Session → List ℕ → ℕ → ℕ → ℕ → List ℕ
-maskNumbersOf s rows a b r =
-    coefficients s (less (rowAt (width s) rows a) (rowAt (width s) rows r))
-    ++ coefficients s (less (rowAt (width s) rows b) (rowAt (width s) rows (r + 1)))
+maskNumbersOf s rows a b r = coefficients s (maskRow s rows a r) ++ coefficients s (maskRow s rows b (r + 1))
 
 abbrev pub masksOut : Session → List ℕ → ℕ → ℕ → ℕ → List ℕ → List ℕ
 masksOut s rows a b r out = outcome (masksRefusal s rows a b r out) (maskNumbersOf s rows a b r) out
