@@ -36,13 +36,14 @@ finishNumbers s rows a b r blocks blocks' =
     maskNumbers s rows a b r
     ++ (8 when anyBeyond (rowAt (width s) rows (r + 2)) ∷ 8 when badRecord s blocks ∷ 8 when badRecord s blocks' ∷ [])
 
+-- 7 and 8
+abbrev pub finishOwn : Session → List ℕ → ℕ → List ℕ → List ℕ → List Test
+finishOwn s rows r blocks blocks' =
+    finishMarks s (factorA s r) (factorB s r) r ++ finishNumbers s rows (factorA s r) (factorB s r) r blocks blocks'
+
 -- 1 to 8
 abbrev pub finishChecks : Session → List ℕ → ℕ → List ℕ → List ℕ → List Test
-finishChecks s rows r blocks blocks' =
-    frameTests s rows
-    ++ finishPlace s r blocks blocks'
-    ++ finishMarks s (factorA s r) (factorB s r) r
-    ++ finishNumbers s rows (factorA s r) (factorB s r) r blocks blocks'
+finishChecks s rows r blocks blocks' = frameTests s rows ++ finishPlace s r blocks blocks' ++ finishOwn s rows r blocks blocks'
 
 abbrev pub finishChecked : Session → List ℕ → ℕ → List ℕ → List ℕ → ℕ
 finishChecked s rows r blocks blocks' = first (finishChecks s rows r blocks blocks')

@@ -16,7 +16,7 @@ ghost use Rattle.session.specs.Rows.{width, rowAt, combined, longest};
 ghost use Rattle.session.specs.Checks.{noRow, Framed, RowIn, TripleIn};
 ghost use Rattle.opening.specs.Walking.{recordLength, openedRow};
 ghost use Rattle.product.specs.Masks.{maskRow};
-ghost use Rattle.product.specs.Finish.{finishPlace, finishMarks, finishNumbers, finishChecked, openedBoth, openedMasks, productRow, withProduct, finishAnswer, finishRows};
+ghost use Rattle.product.specs.Finish.{maskA, maskB, finishPlace, finishMarks, finishNumbers, finishOwn, finishChecked, openedBoth, openedMasks, productRow, withProduct, finishAnswer, finishRows};
 
 // 5 of the two records, and 6.
 fn finish_place(session: Session, row: usize, left: &[u32], right: &[u32]) -> u8
@@ -72,7 +72,20 @@ fn finish_numbers(
     )
 }
 
-// 1 to 8 of a finish; 9 is the openings'.
+// 7 and 8, once 1 to 6 have passed.
+fn finish_own(session: Session, rows: &[u32], row: usize, left: &[u32], right: &[u32]) -> u8
+    requires { ⌜ Framed session (now rows) × (row ≤ 93) × (length (now left) ≡ recordLength session) × (length (now right) ≡ recordLength session) ⌝ }
+    ensures { λ r. ⌜ r ≡ first (finishOwn session (now (rows .entry)) row (now (left .entry)) (now (right .entry))) ⌝ }
+{
+    let a = session.left[row] as usize;
+    let b = session.right[row] as usize;
+    refusal::or_else(
+        finish_marks(session, a, b, row),
+        finish_numbers(session, rows, a, b, row, left, right),
+    )
+}
+
+// 1 to 8; 9 is the openings'.
 fn finish_checks(
     session: Session,
     rows: &[u32],
@@ -90,12 +103,7 @@ fn finish_checks(
     if place != 0 {
         return place;
     }
-    let a = session.left[first] as usize;
-    let b = session.right[first] as usize;
-    refusal::or_else(
-        finish_marks(session, a, b, first),
-        finish_numbers(session, rows, a, b, first, left, right),
-    )
+    finish_own(session, rows, first, left, right)
 }
 
 // A factor row less a row of the triple, opened with its record.
@@ -109,21 +117,15 @@ fn open_mask(session: Session, rows: &[u32], factor: usize, row: usize, blocks: 
 }
 
 // y and y', or 9.
-fn open_both(
-    session: Session,
-    rows: &[u32],
-    a: usize,
-    b: usize,
-    row: usize,
-    left: &[u32],
-    right: &[u32],
-) -> OpenedMasks
-    requires { ⌜ Framed session (now rows) × RowIn session a × RowIn session b × TripleIn session row × (length (now left) ≡ recordLength session) × (length (now right) ≡ recordLength session) ⌝ }
-    ensures { λ r. ⌜ r ≡ openedBoth session (maskRow session (now (rows .entry)) a row) (maskRow session (now (rows .entry)) b (row + 1)) (now (left .entry)) (now (right .entry)) ⌝ }
+fn open_both(session: Session, rows: &[u32], row: usize, left: &[u32], right: &[u32]) -> OpenedMasks
+    requires { ⌜ Framed session (now rows) × RowIn session (factorA session row) × RowIn session (factorB session row) × TripleIn session row × (length (now left) ≡ recordLength session) × (length (now right) ≡ recordLength session) ⌝ }
+    ensures { λ r. ⌜ r ≡ openedBoth session (maskA session (now (rows .entry)) row) (maskB session (now (rows .entry)) row) (now (left .entry)) (now (right .entry)) ⌝ }
 {
-    let first = open_mask(session, rows, a, row, left);
-    let second = open_mask(session, rows, b, row + 1, right);
-    let refusal = refusal::or_else(first.refusal, second.refusal);
+    let a = session.left[row] as usize;
+    let b = session.right[row] as usize;
+    let y = open_mask(session, rows, a, row, left);
+    let z = open_mask(session, rows, b, row + 1, right);
+    let refusal = refusal::or_else(y.refusal, z.refusal);
     if refusal != 0 {
         return OpenedMasks {
             refusal,
@@ -133,8 +135,8 @@ fn open_both(
     }
     OpenedMasks {
         refusal: 0,
-        y: first.value,
-        z: second.value,
+        y: y.value,
+        z: z.value,
     }
 }
 
@@ -156,9 +158,7 @@ fn open_masks(
             z: 0,
         };
     }
-    let a = session.left[first] as usize;
-    let b = session.right[first] as usize;
-    open_both(session, rows, a, b, first, left, right)
+    open_both(session, rows, first, left, right)
 }
 
 // l'' + y l' + y' l, in an array of its own.
