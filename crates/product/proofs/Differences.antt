@@ -47,7 +47,7 @@ halves k l x y size ex =
     ∙ append-nil (x ++ y))
 
 module _ (s : Session) (rows : List ℕ) where
-  pub length-mask : (k r : ℕ) → Framed s rows → k ≤ 95 → r ≤ 95 → length (maskRow s rows k r) ≡ width s
+  length-mask : (k r : ℕ) → Framed s rows → k ≤ 95 → r ≤ 95 → length (maskRow s rows k r) ≡ width s
   length-mask k r f hk hr =
       let lk = length-row (width s) 96 rows k (f .length-is) (omega arith) in
       let lr = length-row (width s) 96 rows r (f .length-is) (omega arith) in

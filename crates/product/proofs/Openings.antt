@@ -125,8 +125,7 @@ module _ (s : Session) (rows : List ℕ) (r : ℕ) (l l' : List ℕ) where
     finish-done z new out en eo =
         let h = found-numbers (finishRefusal s rows r l l') y y' (rw refusal-is at z) in
         let ey : o .y ≡ y = ap (λ (a : OpenedMasks). a .y) e ∙ h .0 in
-        let ez : o .z ≡ y' = ap (λ (a : OpenedMasks). a .z) e ∙ h .1 in
-        (
+        let ez : o .z ≡ y' = ap (λ (a : OpenedMasks). a .z) e ∙ h .1 in (
           accepted-answer (o .refusal) (finishRefusal s rows r l l') 0 0 new done s refusal-is z refl en,
           accepted (o .refusal) (finishRefusal s rows r l l') out (withProduct s y y' r rows) rows refusal-is z
               (eo ∙ ap₂ (λ (a b : ℕ). withProduct s a b r rows) ey ez),

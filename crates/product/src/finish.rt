@@ -26,10 +26,7 @@ fn finish_place(session: Session, row: usize, left: &[u32], right: &[u32]) -> u8
     let count = session.n * (session.t + 2);
     refusal::or_else(
         refusal::size(left, count),
-        refusal::or_else(
-            refusal::size(right, count),
-            session::checks::triple(row),
-        ),
+        refusal::or_else(refusal::size(right, count), session::checks::triple(row)),
     )
 }
 
@@ -86,13 +83,7 @@ fn finish_own(session: Session, rows: &[u32], row: usize, left: &[u32], right: &
 }
 
 // 1 to 8; 9 is the openings'.
-fn finish_checks(
-    session: Session,
-    rows: &[u32],
-    first: usize,
-    left: &[u32],
-    right: &[u32],
-) -> u8
+fn finish_checks(session: Session, rows: &[u32], first: usize, left: &[u32], right: &[u32]) -> u8
     ensures { λ r. ⌜ r ≡ finishChecked session (now (rows .entry)) first (now (left .entry)) (now (right .entry)) ⌝ }
 {
     let frame = session.frame(rows);
@@ -202,13 +193,7 @@ fn product_row(
 }
 
 // The second step: the product of the triple at `first`, into its third row.
-fn finish_accepted(
-    session: Session,
-    rows: &mut [u32],
-    first: usize,
-    y: u32,
-    z: u32,
-) -> Session
+fn finish_accepted(session: Session, rows: &mut [u32], first: usize, y: u32, z: u32) -> Session
     requires { ⌜ Framed session (now rows) × TripleIn session first ⌝ }
     ensures { λ r. ⌜ r ≡ marked (marked (marked session first 6) (first + 1) 6) (first + 2) 2 ⌝ }
     ensures { λ r. ⌜ now (rows .exit) ≡ withProduct session y z first (now (rows .entry)) ⌝ }

@@ -35,7 +35,12 @@ pub fn mask_numbers(session: Session, rows: &[u32], a: usize, b: usize, row: usi
 }
 
 // A factor row less a row of the triple, in an array of its own.
-pub fn masked_row(session: Session, rows: &[u32], factor: usize, row: usize) -> [u32; session::rows::LONGEST]
+pub fn masked_row(
+    session: Session,
+    rows: &[u32],
+    factor: usize,
+    row: usize,
+) -> [u32; session::rows::LONGEST]
     requires { ⌜ Framed session (now rows) × RowIn session factor × RowIn session row ⌝ }
     ensures { λ r. ⌜ length r ≡ longest ⌝ }
     ensures { λ r. ⌜ take (width session) r ≡ maskRow session (now (rows .entry)) factor row ⌝ }
