@@ -191,10 +191,13 @@ module _ (s : Session) (S : Vector) (blocks : List ℕ) where
     where
       a : List ℕ
       a = numbers (s .t + 1) (S .v (s .post))
+
       b : List ℕ
       b = numbers (s .n) (checkOf (s .t + 1) (element (s .point)) S)
+
       m : List ℕ
       m = numbers (s .n) (sumAt (s .t + 1) S)
+
       place : s .t + suc j ≡ length a + j
       place = omega (arith, length-numbers (s .t + 1) (S .v (s .post)))
 
@@ -205,6 +208,7 @@ module _ (s : Session) (S : Vector) (blocks : List ℕ) where
     where
       test : Bool
       test = eqb (value (sent s row blocks (suc j)) (s .point)) (checkValue s row (suc j))
+
       go : (b : Bool) → cond b false test ≡ true → test ≡ true
       go true g = let z : _≡_ {A = ℕ} 0 1 = cc in absurd (omega arith)
       go false g = g
@@ -228,12 +232,13 @@ true-accepted s S blocks (suc j) lo hi e = true-passes s S blocks j (omega arith
 
 pub opening-exact : OpeningExact
 unfolding row posts
-opening-exact s S rows r blocks clear held =
-    ((λ few. open-nine s rows r blocks clear (rw held few)),
-    λ enough true-all.
+opening-exact s S rows r blocks clear held = (
+  (λ few. open-nine s rows r blocks clear (rw held few)),
+  λ enough true-all.
       open-number s rows r blocks clear (rw held enough)
       ∙ ap (λ (x : List ℕ). holding 0 (opened s x blocks) s) held
-      ∙ ap (λ (v : ℕ). holding 0 v s) (exact s S blocks posts-few true-all enough))
+      ∙ ap (λ (v : ℕ). holding 0 v s) (exact s S blocks posts-few true-all enough),
+)
   where
     posts-few : s .n < p
     posts-few = let h = open-allowed s rows r blocks 0 (sym clear) refl in omega (arith, h .0 .n-in)

@@ -1,10 +1,9 @@
 -- What is claimed of one row and of one opening; proved in proofs/Theorems.antt.
-use Prim.Native.Nat.{ℕ, _+_, _≤_, _<_}
+use Prim.Native.Nat.{ℕ, _+_, _≤_}
 use mathlib.Core.Path.{_≡_}
 use mathlib.Core.Bool.{true, false}
 use mathlib.Core.List.{List}
 use lib.ListN.{length}
-use Rattle.field.specs.Modulus.{p}
 use Rattle.field.specs.Element.{element}
 use Rattle.poly.specs.Polynomial.{value}
 use Rattle.refusal.specs.Refusal.{first}
@@ -52,4 +51,4 @@ OpeningExact =
     → rowAt (width s) rows r ≡ heldRow s S
     → (tooFew s (heldRow s S) blocks ≡ true → openAnswer s rows r blocks ≡ holding 9 0 s)
     × (tooFew s (heldRow s S) blocks ≡ false → All (Truly s S blocks) (acceptedPosts s (heldRow s S) blocks)
-      → openAnswer s rows r blocks ≡ holding 0 (number S .0) s)
+    → openAnswer s rows r blocks ≡ holding 0 (number S .0) s)

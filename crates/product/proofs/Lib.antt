@@ -1,0 +1,7 @@
+pub mod Joining
+pub mod Masking
+pub mod Differences
+pub mod Finishing
+pub mod Openings
+pub mod Sums
+pub mod Theorems

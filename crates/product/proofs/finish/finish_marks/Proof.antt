@@ -1,0 +1,10 @@
+use borrow.Author.Needs.{needs}
+use Rattle.product.proofs.Finishing.{marks-joined}
+use Rattle.product.proofs.finish.finish_marks.Statement.{statement}
+use Rattle.product.proofs.finish.finish_marks.Tie as tie
+
+pub finish-marks-spec : {M : Type 1} → statement M
+finish-marks-spec =
+    tie.close
+    (tie.spec (λ c κs. search needs) (λ c κs. search needs) (λ c κs. search needs) (λ c κs. search needs) (λ c κs. search needs)
+    (λ c. search (needs, marks-joined)))

@@ -1,0 +1,10 @@
+use borrow.Author.Needs.{needs}
+use Rattle.product.proofs.Joining.{marks-joined}
+use Rattle.product.proofs.masks.triple_marks.Statement.{statement}
+use Rattle.product.proofs.masks.triple_marks.Tie as tie
+
+pub triple-marks-spec : {M : Type 1} → statement M
+triple-marks-spec =
+    tie.close
+    (tie.spec (λ c κs. search needs) (λ c κs. search needs) (λ c κs. search needs) (λ c κs. search needs) (λ c κs. search needs)
+    (λ c. search (needs, marks-joined)))

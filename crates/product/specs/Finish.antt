@@ -1,0 +1,95 @@
+-- Document 01, "Calls on a session", Finish: "Takes a triple marked 5, 4, 4 and two records, opens y = a − l and y' = b − l' as
+-- above, and writes l'' + y l' + y' l + y y' into the third row (y y' is added to m1..mn only). Marks become 6, 6, 2."
+use Prim.Native.Nat.{ℕ, _+_}
+use mathlib.Core.List.{List, [], _∷_, _++_}
+use Rattle.field.specs.Arithmetic.{product}
+use Rattle.refusal.specs.Refusal.{Test, _when_, first, outcome}
+use Rattle.refusal.specs.Conditions.{missized, anyBeyond}
+use Rattle.session.specs.declared.Session.{Session}
+use Rattle.session.specs.declared.Answer.{Answer}
+use Rattle.session.specs.Sessions.{marked, factorA, factorB, answer}
+use Rattle.session.specs.Rows.{width, sumsAt, rowAt, withRow, combined, plusSums}
+use Rattle.session.specs.Checks.{frameTests, noRow, noTriple}
+use Rattle.opening.specs.Walking.{recordLength, badRecord, tooFew, opened}
+use Rattle.product.specs.declared.OpenedMasks.{OpenedMasks}
+use Rattle.product.specs.Masks.{maskRow, tripleMarks, maskNumbers}
+
+-- The rows that are opened: a − l and b − l', with the factor rows that the masks remembered.
+abbrev pub maskA : Session → List ℕ → ℕ → List ℕ
+maskA s rows r = maskRow s rows (factorA s r) r
+
+abbrev pub maskB : Session → List ℕ → ℕ → List ℕ
+maskB s rows r = maskRow s rows (factorB s r) (r + 1)
+
+-- 5 of the two records, and 6.
+abbrev pub finishPlace : Session → ℕ → List ℕ → List ℕ → List Test
+finishPlace s r blocks blocks' =
+    5 when missized blocks (recordLength s) ∷ 5 when missized blocks' (recordLength s) ∷ 6 when noTriple r ∷ []
+
+-- 7: a remembered row above 95 gets it, as one that is not held does.
+abbrev pub finishMarks : Session → ℕ → ℕ → ℕ → List Test
+finishMarks s a b r = (7 when noRow a ∷ 7 when noRow b ∷ []) ++ tripleMarks s a b r 5
+
+-- 8 of the factor rows, the triple and both records.
+abbrev pub finishNumbers : Session → List ℕ → ℕ → ℕ → ℕ → List ℕ → List ℕ → List Test
+finishNumbers s rows a b r blocks blocks' =
+    maskNumbers s rows a b r
+    ++ (8 when anyBeyond (rowAt (width s) rows (r + 2)) ∷ 8 when badRecord s blocks ∷ 8 when badRecord s blocks' ∷ [])
+
+-- 7 and 8
+abbrev pub finishOwn : Session → List ℕ → ℕ → List ℕ → List ℕ → List Test
+finishOwn s rows r blocks blocks' =
+    finishMarks s (factorA s r) (factorB s r) r ++ finishNumbers s rows (factorA s r) (factorB s r) r blocks blocks'
+
+-- 1 to 8
+abbrev pub finishChecks : Session → List ℕ → ℕ → List ℕ → List ℕ → List Test
+finishChecks s rows r blocks blocks' = frameTests s rows ++ finishPlace s r blocks blocks' ++ finishOwn s rows r blocks blocks'
+
+abbrev pub finishChecked : Session → List ℕ → ℕ → List ℕ → List ℕ → ℕ
+finishChecked s rows r blocks blocks' = first (finishChecks s rows r blocks blocks')
+
+-- 9: "in either record of a finish", for the rows x and x' that are opened.
+abbrev pub tooFewOf : Session → List ℕ → List ℕ → List ℕ → List ℕ → List Test
+tooFewOf s x x' blocks blocks' = 9 when tooFew s x blocks ∷ 9 when tooFew s x' blocks' ∷ []
+
+-- Two numbers opened, or the refusal.
+abbrev pub found : ℕ → ℕ → ℕ → OpenedMasks
+found refusal y y' =
+    outcome refusal (record { refusal = 0; y = y; z = y' }) (record { refusal = refusal; y = 0; z = 0 })
+
+-- The rows x and x', opened with their records, or 9.
+abbrev pub openedBoth : Session → List ℕ → List ℕ → List ℕ → List ℕ → OpenedMasks
+openedBoth s x x' blocks blocks' = found (first (tooFewOf s x x' blocks blocks')) (opened s x blocks) (opened s x' blocks')
+
+abbrev pub finishTests : Session → List ℕ → ℕ → List ℕ → List ℕ → List Test
+finishTests s rows r blocks blocks' =
+    finishChecks s rows r blocks blocks' ++ tooFewOf s (maskA s rows r) (maskB s rows r) blocks blocks'
+
+unfoldable pub finishRefusal : Session → List ℕ → ℕ → List ℕ → List ℕ → ℕ
+finishRefusal s rows r blocks blocks' = first (finishTests s rows r blocks blocks')
+
+-- The first step of a finish: y and y', or the refusal with 0 for both.
+abbrev pub openedMasks : Session → List ℕ → ℕ → List ℕ → List ℕ → OpenedMasks
+openedMasks s rows r blocks blocks' =
+    found (finishRefusal s rows r blocks blocks') (opened s (maskA s rows r) blocks) (opened s (maskB s rows r) blocks')
+
+-- The second step: "l'' + y l' + y' l + y y'", with y y' added to the public sums only
+unfoldable pub productRow : Session → ℕ → ℕ → List ℕ → List ℕ → List ℕ → List ℕ
+productRow s y y' l l' l'' = plusSums (sumsAt s) (product y y') (combined y' (combined y l'' l') l)
+
+-- The product of the triple at r, written into its third row, from y and y'.
+unfoldable pub withProduct : Session → ℕ → ℕ → ℕ → List ℕ → List ℕ
+withProduct s y y' r rows =
+    withRow (width s) (r + 2)
+    (productRow s y y' (rowAt (width s) rows r) (rowAt (width s) rows (r + 1)) (rowAt (width s) rows (r + 2)))
+    rows
+
+abbrev pub finishAnswer : Session → List ℕ → ℕ → List ℕ → List ℕ → Answer
+finishAnswer s rows r blocks blocks' =
+    answer (finishRefusal s rows r blocks blocks') 0 (marked (marked (marked s r 6) (r + 1) 6) (r + 2) 2) s
+
+abbrev pub finishRows : Session → List ℕ → ℕ → List ℕ → List ℕ → List ℕ
+finishRows s rows r blocks blocks' =
+    outcome (finishRefusal s rows r blocks blocks')
+    (withProduct s (opened s (maskA s rows r) blocks) (opened s (maskB s rows r) blocks') r rows)
+    rows
