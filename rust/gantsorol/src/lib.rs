@@ -18,6 +18,8 @@
 //! # Ok::<(), gantsorol::Refusal>(())
 //! ```
 
+#![deny(missing_docs)]
+
 mod broadcast;
 mod lengths;
 mod refusal;
