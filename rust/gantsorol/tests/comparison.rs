@@ -62,7 +62,7 @@ fn compare(seed: u64, script: &Script, seen: &mut Seen) {
 #[test]
 fn random_sessions() {
     let mut seen = Seen::default();
-    for seed in seeds(6_000) {
+    for seed in seeds(4_000) {
         let mut rng = Rng::new(seed);
         let (n, t) = shape(&mut rng);
         compare(seed, &write(&mut rng, n, t, 60), &mut seen);
@@ -108,7 +108,7 @@ fn refusal(outcome: &PaperworkOutcome) -> u8 {
 #[test]
 fn factory_and_lines() {
     let mut seen = Seen::default();
-    for seed in seeds(200_000) {
+    for seed in seeds(150_000) {
         let work: Paperwork = paperwork(seed);
         if let Some(difference) = compare_paperwork(&work, &Verified, &REFERENCE) {
             panic!("seed {seed}, the verified library on the left:\n{difference}");
@@ -169,7 +169,7 @@ fn wild_calls(rng: &mut Rng) -> [Call; 7] {
 /// Every number at random, most of them wild, in calls that never were part of a session.
 #[test]
 fn wild_arguments() {
-    for seed in seeds(150_000) {
+    for seed in seeds(100_000) {
         let mut rng = Rng::new(seed);
         let state = wild_state(&mut rng, seed % 2 == 0);
         for call in wild_calls(&mut rng) {
