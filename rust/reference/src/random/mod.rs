@@ -24,6 +24,6 @@ pub use damage::Damage;
 pub use lines::{join, mutate};
 pub use paperwork::{paperwork, Paperwork, PaperworkOutcome};
 pub use rng::Rng;
-pub use script::{script, script_for, Script, Step};
+pub use script::{script, script_for, script_without_products, Script, Step};
 pub use shared::{check_points, shape, SharedRow};
 pub use street::street_input;

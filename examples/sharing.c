@@ -1,0 +1,45 @@
+/* Three posts share 100; two of them bring it out, one alone does not. */
+#include <stdio.h>
+
+#include "gantsorol.h"
+
+enum { N = 3, T = 1, ROW = GANTSOROL_ROW_LEN(N, T), BLOCK = GANTSOROL_BLOCK_LEN(T) };
+
+static uint32_t rows[N][GANTSOROL_ROWS_LEN(N, T)];
+static gantsorol_session posts[N];
+
+/* Keeps the session that a call hands back. */
+static uint32_t keep(int post, gantsorol_answer answer) {
+    posts[post] = answer.session;
+    if (answer.refusal != 0)
+        printf("post %d: refusal %d\n", post + 1, answer.refusal);
+    return answer.value;
+}
+
+int main(void) {
+    /* The factory: f = 7 + 4z, v1 = 1 + 2z, v2 = 3 + z, v3 = 5 + 6z. Real ones are drawn at random. */
+    const uint32_t points[N] = {2, 3, 5}, draw[GANTSOROL_ROW_DRAW_LEN(N, T)] = {7, 4, 1, 2, 3, 1, 5, 6};
+    uint32_t packs[N * ROW];
+    if (gantsorol_factory_row(N, T, points, N, draw, GANTSOROL_ROW_DRAW_LEN(N, T), packs, N * ROW) != 0)
+        return 1;
+
+    /* Each post loads its part into row 0; the dealer broadcasts c, and each post deals it. */
+    uint32_t c = gantsorol_dealer_number(100, draw[0]).value;
+    for (int i = 0; i < N; i++) {
+        keep(i, gantsorol_new(N, T, i + 1, points[i]));
+        keep(i, gantsorol_load_row(posts[i], rows[i], GANTSOROL_ROWS_LEN(N, T), 0, packs + i * ROW, ROW));
+        keep(i, gantsorol_deal(posts[i], rows[i], GANTSOROL_ROWS_LEN(N, T), 0, c));
+    }
+
+    /* Post 2 sends its message; post 1 opens the number with it, and post 3 is absent. */
+    uint32_t record[GANTSOROL_RECORD_LEN(N, T)] = {0};
+    record[1 * BLOCK] = 1;
+    keep(1, gantsorol_opening_message(posts[1], rows[1], GANTSOROL_ROWS_LEN(N, T), 0, &record[1 * BLOCK + 1], T + 1));
+    printf("c = %u, opened %u\n", c,
+           keep(0, gantsorol_open(posts[0], rows[0], GANTSOROL_ROWS_LEN(N, T), 0, record, N * BLOCK)));
+
+    /* Without it post 1 is alone, and too few is refusal 9. */
+    record[1 * BLOCK] = 0;
+    keep(0, gantsorol_open(posts[0], rows[0], GANTSOROL_ROWS_LEN(N, T), 0, record, N * BLOCK));
+    return 0;
+}

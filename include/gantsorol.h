@@ -1,0 +1,226 @@
+/*
+ * Gantsorol: verifiable secret sharing for dock posts.
+ *
+ * The library is libexports.a (`rt staticlib exports`). It needs no initialisation, allocates nothing, keeps nothing
+ * between calls and may be called from several threads.
+ *
+ * Any values are allowed. Every call, whatever it is given, does its one job or answers with a refusal, the number of
+ * the first condition below that applies; 0 means none. A refused call changes no list and no session, and its value
+ * is 0.
+ *
+ *    1  the number of posts n is outside 2 to 32
+ *    2  t is outside 1 to n - 1
+ *    3  the session's post, or the post of a line to be written, is outside 1 to n
+ *    4  a check point is 0 or at least p
+ *    5  a list's length is not exactly the one stated
+ *    6  a row is above 95, or a triple's first row above 93
+ *    7  a row's mark is not what the call needs
+ *    8  a number that the call is given or reads is at least p, or a record's mark is above 1
+ *    9  fewer than t+1 posts were accepted
+ *   10  a line read has the wrong form
+ *   11  a line read has a number out of range
+ *   12  the list lent for a line is shorter than the line
+ *
+ * What a caller has to see to, because no call can: a list is passed as a pointer to its first number, aligned for its
+ * type, and its length in numbers (bytes for a line), which the memory really has. The lists of one call must not
+ * overlap. Where the length is 0 the pointer is not used and may be NULL.
+ *
+ * A number is an element, 0 to p - 1. A post keeps a session, which each call takes by value and hands back, and a list
+ * of GANTSOROL_ROWS_LEN(n, t) numbers, its 96 rows, which it lends to each call. Use the session that the last call
+ * handed back, never an older one: a row would be opened or dealt that no longer is what the old marks say.
+ *
+ * A row is a post's part of one shared number: the t+1 coefficients of the post's own polynomial, constant first; n
+ * check values; n public sums.
+ */
+#ifndef GANTSOROL_H
+#define GANTSOROL_H
+
+#include <stddef.h>
+#include <stdint.h>
+
+#ifdef __cplusplus
+extern "C" {
+#endif
+
+/* p, the number of elements. */
+#define GANTSOROL_MODULUS 2147483647u
+/* The largest number of posts. */
+#define GANTSOROL_MAX_POSTS 32
+/* The rows of a session. */
+#define GANTSOROL_ROWS 96
+/* The bytes of the longest line, its line feed included. */
+#define GANTSOROL_LONGEST_LINE 712
+
+/* Lengths of lists, for n posts and threshold t. */
+
+/* A row. */
+#define GANTSOROL_ROW_LEN(n, t) ((t) + 1 + 2 * (n))
+/* A session's rows. */
+#define GANTSOROL_ROWS_LEN(n, t) (GANTSOROL_ROWS * GANTSOROL_ROW_LEN(n, t))
+/* A record's block: a mark, 0 absent or 1 present, then t+1 coefficients. */
+#define GANTSOROL_BLOCK_LEN(t) ((t) + 2)
+/* A record: a block for each post, post 1 first. */
+#define GANTSOROL_RECORD_LEN(n, t) ((n) * GANTSOROL_BLOCK_LEN(t))
+/* The draw of a row: the t+1 coefficients of f, then those of v1 to vn. */
+#define GANTSOROL_ROW_DRAW_LEN(n, t) (((t) + 1) * ((n) + 1))
+/* The draw of a triple: three draws of a row, the third without f's constant. */
+#define GANTSOROL_TRIPLE_DRAW_LEN(n, t) (3 * GANTSOROL_ROW_DRAW_LEN(n, t) - 1)
+/* The list that a line read fills. */
+#define GANTSOROL_LINE_LIST_LEN(t) (2 * ((t) + 1))
+
+/* What a post remembers beside its rows. Each call checks the fields anew. */
+typedef struct gantsorol_session {
+    size_t n;
+    size_t t;
+    /* the post's own number, from 1 */
+    size_t post;
+    /* the post's check point, 1 to p - 1 */
+    uint32_t point;
+    /* of each row: 0 empty, 1 raw (random, not dealt), 2 held; 3 first row of an unused triple, 4 its second or third,
+       5 first row of a triple whose masks were sent, 6 spent */
+    uint8_t marks[GANTSOROL_ROWS];
+    /* the two factor rows that a triple's masks were sent for, at its first row */
+    uint8_t left[GANTSOROL_ROWS];
+    uint8_t right[GANTSOROL_ROWS];
+} gantsorol_session;
+
+/* What a call on a session hands back. */
+typedef struct gantsorol_answer {
+    uint8_t refusal;
+    /* the number opened; 0 when refused, and from calls that open nothing */
+    uint32_t value;
+    /* the session after the call; when refused, as it was given */
+    gantsorol_session session;
+} gantsorol_answer;
+
+/* The dealer's number. */
+typedef struct gantsorol_number {
+    uint8_t refusal;
+    /* 0 when refused */
+    uint32_t value;
+} gantsorol_number;
+
+/* A writer's answer. */
+typedef struct gantsorol_written {
+    uint8_t refusal;
+    /* the line's length, its line feed included; 0 when refused */
+    size_t len;
+} gantsorol_written;
+
+/* The reader's answer; all 0 but the refusal when refused. */
+typedef struct gantsorol_line {
+    uint8_t refusal;
+    /* 'D', 'O' or 'M' */
+    uint8_t letter;
+    /* the row, or the triple's first row */
+    size_t row;
+    /* the sender; 0 for a 'D', which names none */
+    size_t post;
+} gantsorol_line;
+
+/* ---- Sessions ---- */
+
+/* A new session, all rows empty; a refused one has 0 in every field. Refusals 1 to 4. */
+gantsorol_answer gantsorol_new(size_t n, size_t t, size_t post, uint32_t point);
+
+/*
+ * Loads the post's part of a drawn row into an empty row, which becomes raw.
+ * rows: GANTSOROL_ROWS_LEN, written. pack: GANTSOROL_ROW_LEN, read. Refusals 1 to 8.
+ */
+gantsorol_answer gantsorol_load_row(gantsorol_session session, uint32_t *rows, size_t rows_len, size_t row,
+                                    const uint32_t *pack, size_t pack_len);
+
+/*
+ * Loads the post's part of a drawn triple into the empty rows first, first + 1 and first + 2, which get the marks 3, 4
+ * and 4.
+ * rows: GANTSOROL_ROWS_LEN, written. pack: 3 * GANTSOROL_ROW_LEN, read. Refusals 1 to 8.
+ */
+gantsorol_answer gantsorol_load_triple(gantsorol_session session, uint32_t *rows, size_t rows_len, size_t first,
+                                       const uint32_t *pack, size_t pack_len);
+
+/*
+ * Adds the dealer's number c to the public sums of a raw row, which becomes held.
+ * rows: GANTSOROL_ROWS_LEN, written. Refusals 1 to 8.
+ */
+gantsorol_answer gantsorol_deal(gantsorol_session session, uint32_t *rows, size_t rows_len, size_t row, uint32_t c);
+
+/*
+ * Writes the t+1 coefficients of a held row, which the post sends to open it, to out.
+ * rows: GANTSOROL_ROWS_LEN, read. out: t+1, written. Refusals 1 to 8.
+ */
+gantsorol_answer gantsorol_opening_message(gantsorol_session session, const uint32_t *rows, size_t rows_len, size_t row,
+                                           uint32_t *out, size_t out_len);
+
+/*
+ * Opens a held row with a record: the number is the answer's value. The post's own block is not looked at, nor are the
+ * coefficients of an absent one. A block whose polynomial does not have the row's check value at the post's check point
+ * is not accepted; the t+1 accepted posts with the lowest numbers are used.
+ * rows: GANTSOROL_ROWS_LEN, read. blocks: GANTSOROL_RECORD_LEN, read. Refusals 1 to 9.
+ */
+gantsorol_answer gantsorol_open(gantsorol_session session, const uint32_t *rows, size_t rows_len, size_t row,
+                                const uint32_t *blocks, size_t blocks_len);
+
+/*
+ * Writes row a plus scale times row b, both held and perhaps the same, into the empty row dest, which becomes held.
+ * rows: GANTSOROL_ROWS_LEN, written. Refusals 1 to 8.
+ */
+gantsorol_answer gantsorol_linear(gantsorol_session session, uint32_t *rows, size_t rows_len, size_t dest, size_t a,
+                                  size_t b, uint32_t scale);
+
+/* ---- The factory and the dealer ---- */
+
+/*
+ * Writes all posts' parts of a drawn row to out, post 1 first; the refusal. The numbers drawn are the caller's to
+ * make: each uniform, independent and used once. The dealer gets f, the start of the draw.
+ * points: the n check points, read. draw: GANTSOROL_ROW_DRAW_LEN, read. out: n * GANTSOROL_ROW_LEN, written.
+ * Refusals 1, 2, 4, 5 and 8.
+ */
+uint8_t gantsorol_factory_row(size_t n, size_t t, const uint32_t *points, size_t points_len, const uint32_t *draw,
+                              size_t draw_len, uint32_t *out, size_t out_len);
+
+/*
+ * Writes all posts' parts of a drawn triple to out: the n rows of l, then those of l', then those of l'', whose number
+ * is the product of the other two; the refusal. Nobody gets the draw.
+ * points: the n check points, read. draw: GANTSOROL_TRIPLE_DRAW_LEN, read. out: 3 * n * GANTSOROL_ROW_LEN, written.
+ * Refusals 1, 2, 4, 5 and 8.
+ */
+uint8_t gantsorol_factory_triple(size_t n, size_t t, const uint32_t *points, size_t points_len, const uint32_t *draw,
+                                 size_t draw_len, uint32_t *out, size_t out_len);
+
+/* The number c = u - f(0) that the dealer of u broadcasts, where constant is f(0). Refusal 8. */
+gantsorol_number gantsorol_dealer_number(uint32_t u, uint32_t constant);
+
+/* ---- Broadcast lines ---- */
+
+/*
+ * Writes "D,row,c" and a line feed at the start of out; the rest of out stays as it is.
+ * out: at least the line's length. Refusals 1, 2, 6, 8 and 12.
+ */
+gantsorol_written gantsorol_write_deal(size_t n, size_t t, size_t row, uint32_t c, uint8_t *out, size_t out_len);
+
+/*
+ * Writes "O,row,post," the coefficients and a line feed at the start of out; the rest of out stays as it is.
+ * coefficients: t+1, read. out: at least the line's length. Refusals 1, 2, 3, 5, 6, 8 and 12.
+ */
+gantsorol_written gantsorol_write_opening(size_t n, size_t t, size_t row, size_t post, const uint32_t *coefficients,
+                                          size_t coefficients_len, uint8_t *out, size_t out_len);
+
+/*
+ * Writes "M,row,post," the coefficients of both masks and a line feed at the start of out, where row is a triple's
+ * first; the rest of out stays as it is.
+ * coefficients: 2(t+1), read. out: at least the line's length. Refusals 1, 2, 3, 5, 6, 8 and 12.
+ */
+gantsorol_written gantsorol_write_masks(size_t n, size_t t, size_t row, size_t post, const uint32_t *coefficients,
+                                        size_t coefficients_len, uint8_t *out, size_t out_len);
+
+/*
+ * Reads a line, its line feed included, and fills out with its numbers (c, or the coefficients) and then with zeros.
+ * line: of any length, read. out: GANTSOROL_LINE_LIST_LEN, written. Refusals 1, 2, 5, 10 and 11.
+ */
+gantsorol_line gantsorol_read(size_t n, size_t t, const uint8_t *line, size_t line_len, uint32_t *out, size_t out_len);
+
+#ifdef __cplusplus
+}
+#endif
+
+#endif

@@ -1,0 +1,35 @@
+//! Verifiable secret sharing for dock posts: a safe binding of the verified library.
+//!
+//! The calls are those of `include/gantsorol.h`, on slices. Each is total: any values and any
+//! lengths get an answer, which is the call's one job done or the number of the first refusal that
+//! applies (see [`Refusal`]). A refused call changes nothing. The library's one condition, that
+//! the lists of a call don't overlap, is kept by Rust's borrows.
+//!
+//! A post keeps a [`Session`], which every call takes and hands back, and a list of
+//! [`rows_len`]`(n, t)` numbers, its rows, which it lends to each call. Numbers are elements 0 to
+//! [`MODULUS`] − 1.
+//!
+//! ```
+//! // The factory's draw for three posts, two of which open: f = 7 + 4z, and v1, v2, v3.
+//! let draw = [7, 4, 1, 2, 3, 1, 5, 6];
+//! let mut packs = [0; 3 * gantsorol::row_len(3, 1)];
+//! gantsorol::factory_row(3, 1, &[2, 3, 5], &draw, &mut packs)?;
+//! assert_eq!(packs[..8], [1, 2, 5, 5, 17, 12, 18, 24]);
+//! # Ok::<(), gantsorol::Refusal>(())
+//! ```
+
+#![deny(missing_docs)]
+
+mod broadcast;
+mod lengths;
+mod refusal;
+mod session;
+mod sys;
+mod works;
+
+pub use broadcast::{read, write_deal, write_masks, write_opening, Line, Written};
+pub use lengths::{block_len, line_list_len, record_len, row_draw_len, row_len, rows_len};
+pub use lengths::{triple_draw_len, LONGEST_LINE, MAX_POSTS, MODULUS, ROWS};
+pub use refusal::Refusal;
+pub use session::{Answer, Session};
+pub use works::{dealer_number, factory_row, factory_triple, Number};

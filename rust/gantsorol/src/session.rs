@@ -1,0 +1,128 @@
+//! A post's session, and the calls on it.
+
+use crate::{sys, Refusal, ROWS};
+
+/// What a post remembers beside its rows.
+///
+/// The fields may hold anything: each call checks what it needs. A call takes the session and hands
+/// it back, so that none is used twice; a copy has to be asked for.
+#[repr(C)]
+#[derive(Clone, Debug, PartialEq, Eq)]
+pub struct Session {
+    /// The number of posts.
+    pub n: usize,
+    /// t posts learn nothing, t+1 open.
+    pub t: usize,
+    /// The post's own number, from 1.
+    pub post: usize,
+    /// The post's check point.
+    pub point: u32,
+    /// The mark of each row: 0 empty, 1 raw, 2 held; 3, 4 and 5 belong to triples, 6 is spent.
+    pub marks: [u8; ROWS],
+    /// At the first row of a triple whose masks were sent: the first factor's row.
+    pub left: [u8; ROWS],
+    /// At the first row of a triple whose masks were sent: the second factor's row.
+    pub right: [u8; ROWS],
+}
+
+/// What a call on a session hands back.
+#[repr(C)]
+#[derive(Clone, Debug, PartialEq, Eq)]
+#[must_use = "the answer holds the session, and says whether the call was refused"]
+pub struct Answer {
+    /// The refusal's number, 0 for none.
+    pub refusal: u8,
+    /// The number opened; 0 when refused, and from calls that open nothing.
+    pub value: u32,
+    /// The session after the call: when refused, as it was given.
+    pub session: Session,
+}
+
+impl Answer {
+    /// The session and the number opened, or the refusal.
+    ///
+    /// A refused call's session is dropped here; the field [`Answer::session`] still has it.
+    pub fn accepted(self) -> Result<(Session, u32), Refusal> {
+        Refusal::check(self.refusal)?;
+        Ok((self.session, self.value))
+    }
+}
+
+impl Session {
+    /// A new session, all rows empty; a refused one has 0 in every field. Refusals 1 to 4.
+    #[allow(clippy::new_ret_no_self)]
+    pub fn new(n: usize, t: usize, post: usize, point: u32) -> Answer {
+        // SAFETY: the function takes any values.
+        unsafe { sys::gantsorol_new(n, t, post, point) }
+    }
+
+    /// Loads the post's part of a drawn row, [`row_len`](crate::row_len) numbers, into an empty
+    /// row, which becomes raw. Refusals 1 to 8.
+    pub fn load_row(self, rows: &mut [u32], row: usize, pack: &[u32]) -> Answer {
+        // SAFETY: each list is a borrowed slice's pointer and length, and `rows` overlaps no other.
+        unsafe {
+            sys::gantsorol_load_row(
+                self,
+                rows.as_mut_ptr(),
+                rows.len(),
+                row,
+                pack.as_ptr(),
+                pack.len(),
+            )
+        }
+    }
+
+    /// Loads the post's part of a drawn triple, three rows' numbers, into the empty rows `first`,
+    /// `first` + 1 and `first` + 2. Refusals 1 to 8.
+    pub fn load_triple(self, rows: &mut [u32], first: usize, pack: &[u32]) -> Answer {
+        // SAFETY: each list is a borrowed slice's pointer and length, and `rows` overlaps no other.
+        unsafe {
+            sys::gantsorol_load_triple(
+                self,
+                rows.as_mut_ptr(),
+                rows.len(),
+                first,
+                pack.as_ptr(),
+                pack.len(),
+            )
+        }
+    }
+
+    /// Adds the dealer's number c to the public sums of a raw row, which becomes held.
+    /// Refusals 1 to 8.
+    pub fn deal(self, rows: &mut [u32], row: usize, c: u32) -> Answer {
+        // SAFETY: the list is a borrowed slice's pointer and length.
+        unsafe { sys::gantsorol_deal(self, rows.as_mut_ptr(), rows.len(), row, c) }
+    }
+
+    /// Writes the t+1 coefficients of a held row into `out`. Refusals 1 to 8.
+    pub fn opening_message(self, rows: &[u32], row: usize, out: &mut [u32]) -> Answer {
+        // SAFETY: each list is a borrowed slice's pointer and length, and `out` overlaps no other.
+        unsafe {
+            sys::gantsorol_opening_message(
+                self,
+                rows.as_ptr(),
+                rows.len(),
+                row,
+                out.as_mut_ptr(),
+                out.len(),
+            )
+        }
+    }
+
+    /// Opens a held row with a record: for each post a mark, 0 absent or 1 present, and t+1
+    /// coefficients. The number opened is the answer's value. Refusals 1 to 9.
+    pub fn open(self, rows: &[u32], row: usize, record: &[u32]) -> Answer {
+        // SAFETY: each list is a borrowed slice's pointer and length; neither is written.
+        unsafe {
+            sys::gantsorol_open(self, rows.as_ptr(), rows.len(), row, record.as_ptr(), record.len())
+        }
+    }
+
+    /// Writes row a plus `scale` times row b, both held, into the empty row `dest`, which becomes
+    /// held. Refusals 1 to 8.
+    pub fn linear(self, rows: &mut [u32], dest: usize, a: usize, b: usize, scale: u32) -> Answer {
+        // SAFETY: the list is a borrowed slice's pointer and length.
+        unsafe { sys::gantsorol_linear(self, rows.as_mut_ptr(), rows.len(), dest, a, b, scale) }
+    }
+}

@@ -1,0 +1,125 @@
+//! The library's functions, as `crates/exports/src` has them: `tests/declarations.rs` compares.
+
+use crate::{Answer, Line, Number, Session, Written};
+
+extern "C" {
+    pub fn gantsorol_new(n: usize, t: usize, post: usize, point: u32) -> Answer;
+
+    pub fn gantsorol_load_row(
+        session: Session,
+        rows: *mut u32,
+        rows_len: usize,
+        row: usize,
+        pack: *const u32,
+        pack_len: usize,
+    ) -> Answer;
+
+    pub fn gantsorol_load_triple(
+        session: Session,
+        rows: *mut u32,
+        rows_len: usize,
+        first: usize,
+        pack: *const u32,
+        pack_len: usize,
+    ) -> Answer;
+
+    pub fn gantsorol_deal(
+        session: Session,
+        rows: *mut u32,
+        rows_len: usize,
+        row: usize,
+        c: u32,
+    ) -> Answer;
+
+    pub fn gantsorol_opening_message(
+        session: Session,
+        rows: *const u32,
+        rows_len: usize,
+        row: usize,
+        out: *mut u32,
+        out_len: usize,
+    ) -> Answer;
+
+    pub fn gantsorol_open(
+        session: Session,
+        rows: *const u32,
+        rows_len: usize,
+        row: usize,
+        blocks: *const u32,
+        blocks_len: usize,
+    ) -> Answer;
+
+    pub fn gantsorol_linear(
+        session: Session,
+        rows: *mut u32,
+        rows_len: usize,
+        dest: usize,
+        a: usize,
+        b: usize,
+        scale: u32,
+    ) -> Answer;
+
+    pub fn gantsorol_factory_row(
+        n: usize,
+        t: usize,
+        points: *const u32,
+        points_len: usize,
+        draw: *const u32,
+        draw_len: usize,
+        out: *mut u32,
+        out_len: usize,
+    ) -> u8;
+
+    pub fn gantsorol_factory_triple(
+        n: usize,
+        t: usize,
+        points: *const u32,
+        points_len: usize,
+        draw: *const u32,
+        draw_len: usize,
+        out: *mut u32,
+        out_len: usize,
+    ) -> u8;
+
+    pub fn gantsorol_dealer_number(u: u32, constant: u32) -> Number;
+
+    pub fn gantsorol_write_deal(
+        n: usize,
+        t: usize,
+        row: usize,
+        c: u32,
+        out: *mut u8,
+        out_len: usize,
+    ) -> Written;
+
+    pub fn gantsorol_write_opening(
+        n: usize,
+        t: usize,
+        row: usize,
+        post: usize,
+        coefficients: *const u32,
+        coefficients_len: usize,
+        out: *mut u8,
+        out_len: usize,
+    ) -> Written;
+
+    pub fn gantsorol_write_masks(
+        n: usize,
+        t: usize,
+        row: usize,
+        post: usize,
+        coefficients: *const u32,
+        coefficients_len: usize,
+        out: *mut u8,
+        out_len: usize,
+    ) -> Written;
+
+    pub fn gantsorol_read(
+        n: usize,
+        t: usize,
+        line: *const u8,
+        line_len: usize,
+        out: *mut u32,
+        out_len: usize,
+    ) -> Line;
+}

@@ -1,0 +1,79 @@
+//! The factory's calls, and the dealer's number.
+
+use crate::{sys, Refusal};
+
+/// The dealer's number.
+#[repr(C)]
+#[derive(Clone, Copy, Debug, PartialEq, Eq)]
+pub struct Number {
+    /// The refusal's number, 0 for none.
+    pub refusal: u8,
+    /// The number; 0 when refused.
+    pub value: u32,
+}
+
+impl Number {
+    /// The number, or the refusal.
+    pub fn accepted(self) -> Result<u32, Refusal> {
+        Refusal::check(self.refusal)?;
+        Ok(self.value)
+    }
+}
+
+/// Writes all posts' parts of a drawn row into `out`, post 1 first.
+///
+/// `points` are the n check points, `draw` has [`row_draw_len`](crate::row_draw_len) numbers, `out`
+/// n rows. Refusals 1, 2, 4, 5 and 8.
+pub fn factory_row(
+    n: usize,
+    t: usize,
+    points: &[u32],
+    draw: &[u32],
+    out: &mut [u32],
+) -> Result<(), Refusal> {
+    // SAFETY: each list is a borrowed slice's pointer and length, and `out` overlaps no other.
+    Refusal::check(unsafe {
+        sys::gantsorol_factory_row(
+            n,
+            t,
+            points.as_ptr(),
+            points.len(),
+            draw.as_ptr(),
+            draw.len(),
+            out.as_mut_ptr(),
+            out.len(),
+        )
+    })
+}
+
+/// Writes all posts' parts of a drawn triple into `out`: of l, then of l', then of l''.
+///
+/// `points` are the n check points, `draw` has [`triple_draw_len`](crate::triple_draw_len) numbers,
+/// `out` 3n rows. Refusals 1, 2, 4, 5 and 8.
+pub fn factory_triple(
+    n: usize,
+    t: usize,
+    points: &[u32],
+    draw: &[u32],
+    out: &mut [u32],
+) -> Result<(), Refusal> {
+    // SAFETY: each list is a borrowed slice's pointer and length, and `out` overlaps no other.
+    Refusal::check(unsafe {
+        sys::gantsorol_factory_triple(
+            n,
+            t,
+            points.as_ptr(),
+            points.len(),
+            draw.as_ptr(),
+            draw.len(),
+            out.as_mut_ptr(),
+            out.len(),
+        )
+    })
+}
+
+/// The number c = u − f(0) that the dealer of u broadcasts, where `constant` is f(0). Refusal 8.
+pub fn dealer_number(u: u32, constant: u32) -> Number {
+    // SAFETY: the function takes any values.
+    unsafe { sys::gantsorol_dealer_number(u, constant) }
+}

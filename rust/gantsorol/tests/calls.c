@@ -1,0 +1,121 @@
+/* Every call of the library once from C, and the layout of every struct: what tests/header.rs expects to be printed. */
+#include <stdio.h>
+#include <string.h>
+
+#include "gantsorol.h"
+
+enum { N = 3, T = 1, ROW = GANTSOROL_ROW_LEN(N, T), BLOCK = GANTSOROL_BLOCK_LEN(T), ALL = GANTSOROL_ROWS_LEN(N, T) };
+
+#define FIELD(type, field) printf("%s.%s at %zu\n", #type, #field, offsetof(type, field))
+#define SIZE(type) printf("%s has %zu\n", #type, sizeof(type))
+
+static void layout(void) {
+    SIZE(gantsorol_session);
+    FIELD(gantsorol_session, n);
+    FIELD(gantsorol_session, t);
+    FIELD(gantsorol_session, post);
+    FIELD(gantsorol_session, point);
+    FIELD(gantsorol_session, marks);
+    FIELD(gantsorol_session, left);
+    FIELD(gantsorol_session, right);
+    SIZE(gantsorol_answer);
+    FIELD(gantsorol_answer, refusal);
+    FIELD(gantsorol_answer, value);
+    FIELD(gantsorol_answer, session);
+    SIZE(gantsorol_number);
+    FIELD(gantsorol_number, refusal);
+    FIELD(gantsorol_number, value);
+    SIZE(gantsorol_written);
+    FIELD(gantsorol_written, refusal);
+    FIELD(gantsorol_written, len);
+    SIZE(gantsorol_line);
+    FIELD(gantsorol_line, refusal);
+    FIELD(gantsorol_line, letter);
+    FIELD(gantsorol_line, row);
+    FIELD(gantsorol_line, post);
+}
+
+static void print(const char *what, const uint32_t *list, size_t len) {
+    printf("%s:", what);
+    for (size_t i = 0; i < len; i++)
+        printf(" %u", list[i]);
+    printf("\n");
+}
+
+static gantsorol_session posts[N];
+static uint32_t rows[N][ALL];
+
+static uint32_t keep(int i, gantsorol_answer answer) {
+    if (answer.refusal != 0)
+        printf("post %d refuses: %d\n", i + 1, answer.refusal);
+    posts[i] = answer.session;
+    return answer.value;
+}
+
+static void write_lines(void) {
+    uint8_t text[GANTSOROL_LONGEST_LINE];
+    const uint32_t two[] = {3, 1}, four[] = {1, 0, 2147483646, 4};
+    uint32_t out[GANTSOROL_LINE_LIST_LEN(T)];
+    gantsorol_written written = gantsorol_write_deal(N, T, 0, 93, text, sizeof text);
+    printf("%d %zu %.*s", written.refusal, written.len, (int)written.len, (const char *)text);
+    gantsorol_line line = gantsorol_read(N, T, text, written.len, out, 4);
+    printf("%d %c %zu %zu\n", line.refusal, line.letter, line.row, line.post);
+    print("numbers", out, 4);
+    written = gantsorol_write_opening(N, T, 95, 2, two, 2, text, sizeof text);
+    printf("%d %zu %.*s", written.refusal, written.len, (int)written.len, (const char *)text);
+    line = gantsorol_read(N, T, text, written.len, out, 4);
+    printf("%d %c %zu %zu\n", line.refusal, line.letter, line.row, line.post);
+    print("numbers", out, 4);
+    written = gantsorol_write_masks(N, T, 93, 3, four, 4, text, sizeof text);
+    printf("%d %zu %.*s", written.refusal, written.len, (int)written.len, (const char *)text);
+    line = gantsorol_read(N, T, text, written.len, out, 4);
+    printf("%d %c %zu %zu\n", line.refusal, line.letter, line.row, line.post);
+    print("numbers", out, 4);
+    line = gantsorol_read(N, T, (const uint8_t *)"D,0,093\n", 8, out, 4);
+    printf("%d %d %zu %zu\n", line.refusal, line.letter, line.row, line.post);
+}
+
+int main(void) {
+    layout();
+
+    const uint32_t points[N] = {2, 3, 5}, draw[GANTSOROL_ROW_DRAW_LEN(N, T)] = {7, 4, 1, 2, 3, 1, 5, 6};
+    uint32_t packs[N * ROW], triple[GANTSOROL_TRIPLE_DRAW_LEN(N, T)], triples[3 * N * ROW];
+    printf("row %d\n", gantsorol_factory_row(N, T, points, N, draw, 8, packs, N * ROW));
+    print("packs", packs, N * ROW);
+    for (int i = 0; i < 23; i++)
+        triple[i] = (uint32_t)i + 2;
+    printf("triple %d\n", gantsorol_factory_triple(N, T, points, N, triple, 23, triples, 3 * N * ROW));
+    print("triples", triples, 3 * N * ROW);
+    gantsorol_number c = gantsorol_dealer_number(100, draw[0]), bad = gantsorol_dealer_number(GANTSOROL_MODULUS, 0);
+    printf("c %d %u, %d %u\n", c.refusal, c.value, bad.refusal, bad.value);
+
+    uint32_t record[N * BLOCK];
+    for (int i = 0; i < N; i++) {
+        uint32_t three[3 * ROW];
+        for (int of = 0; of < 3; of++)
+            memcpy(three + of * ROW, triples + (of * N + i) * ROW, ROW * sizeof *three);
+        keep(i, gantsorol_new(N, T, i + 1, points[i]));
+        keep(i, gantsorol_load_row(posts[i], rows[i], ALL, 0, packs + i * ROW, ROW));
+        keep(i, gantsorol_load_triple(posts[i], rows[i], ALL, 93, three, 3 * ROW));
+        keep(i, gantsorol_deal(posts[i], rows[i], ALL, 0, c.value));
+        keep(i, gantsorol_linear(posts[i], rows[i], ALL, 1, 0, 0, 2));
+        record[i * BLOCK] = 1;
+        keep(i, gantsorol_opening_message(posts[i], rows[i], ALL, 1, record + i * BLOCK + 1, T + 1));
+    }
+    print("record", record, N * BLOCK);
+    for (int i = 0; i < N; i++)
+        printf("post %d opens %u\n", i + 1, keep(i, gantsorol_open(posts[i], rows[i], ALL, 1, record, N * BLOCK)));
+    printf("marks %d %d %d %d %d\n", posts[2].marks[0], posts[2].marks[1], posts[2].marks[93], posts[2].marks[94],
+           posts[2].marks[95]);
+
+    /* Refused: t posts alone, empty lists, and a new session that has 0 in every field. */
+    record[0] = record[BLOCK] = record[2 * BLOCK] = 0;
+    keep(0, gantsorol_open(posts[0], rows[0], ALL, 1, record, N * BLOCK));
+    keep(0, gantsorol_open(posts[0], NULL, 0, 1, NULL, 0));
+    keep(0, gantsorol_deal(posts[0], NULL, 0, 1, 0));
+    gantsorol_answer none = gantsorol_new(33, T, 1, 2);
+    gantsorol_session zero = {0};
+    printf("none %d %u %d\n", none.refusal, none.value, memcmp(none.session.marks, zero.marks, sizeof zero.marks));
+    write_lines();
+    return 0;
+}

@@ -1,0 +1,189 @@
+//! The verified library as the second implementation's trait, so that both can be compared.
+#![allow(dead_code)]
+
+use std::env;
+use std::ops::Range;
+use std::str::FromStr;
+
+use gantsorol::{Refusal, Session};
+use reference::{Answer, Library, ReadLine, Written};
+
+/// The verified library.
+pub struct Verified;
+
+/// The seeds of a test: from 0 on in the gate. `GANTSOROL_SEED` gives another first one,
+/// `GANTSOROL_CASES` another count.
+pub fn seeds(count: u64) -> Range<u64> {
+    let first = from_environment("GANTSOROL_SEED").unwrap_or(0);
+    let count = from_environment("GANTSOROL_CASES").unwrap_or(count);
+    first..first.checked_add(count).expect("GANTSOROL_SEED + GANTSOROL_CASES is below 2^64")
+}
+
+fn from_environment<T: FromStr>(name: &str) -> Option<T> {
+    let text = env::var(name).ok()?;
+    match text.parse() {
+        Ok(number) => Some(number),
+        Err(_) => panic!("{name}={text} is no number"),
+    }
+}
+
+fn given(s: reference::Session) -> Session {
+    let reference::Session { n, t, post, point, marks, left, right } = s;
+    Session { n, t, post, point, marks, left, right }
+}
+
+fn answered(answer: gantsorol::Answer) -> Answer {
+    let gantsorol::Answer { refusal, value, session } = answer;
+    let Session { n, t, post, point, marks, left, right } = session;
+    let session = reference::Session { n, t, post, point, marks, left, right };
+    Answer { refusal, value, session }
+}
+
+fn number_of(refused: Result<(), Refusal>) -> u8 {
+    refused.err().map_or(0, |Refusal(number)| number)
+}
+
+fn written(gantsorol::Written { refusal, len }: gantsorol::Written) -> Written {
+    Written { refusal, length: len }
+}
+
+impl Library for Verified {
+    // Masks, finish and the street program come with a later delivery.
+    fn has_products(&self) -> bool {
+        false
+    }
+
+    fn new_session(&self, n: usize, t: usize, post: usize, point: u32) -> Answer {
+        answered(Session::new(n, t, post, point))
+    }
+
+    fn load_row(
+        &self,
+        s: reference::Session,
+        rows: &mut [u32],
+        row: usize,
+        pack: &[u32],
+    ) -> Answer {
+        answered(given(s).load_row(rows, row, pack))
+    }
+
+    fn load_triple(
+        &self,
+        s: reference::Session,
+        rows: &mut [u32],
+        first: usize,
+        pack: &[u32],
+    ) -> Answer {
+        answered(given(s).load_triple(rows, first, pack))
+    }
+
+    fn deal(&self, s: reference::Session, rows: &mut [u32], row: usize, c: u32) -> Answer {
+        answered(given(s).deal(rows, row, c))
+    }
+
+    fn opening_message(
+        &self,
+        s: reference::Session,
+        rows: &[u32],
+        row: usize,
+        out: &mut [u32],
+    ) -> Answer {
+        answered(given(s).opening_message(rows, row, out))
+    }
+
+    fn open(&self, s: reference::Session, rows: &[u32], row: usize, record: &[u32]) -> Answer {
+        answered(given(s).open(rows, row, record))
+    }
+
+    fn linear(
+        &self,
+        s: reference::Session,
+        rows: &mut [u32],
+        dest: usize,
+        a: usize,
+        b: usize,
+        scale: u32,
+    ) -> Answer {
+        answered(given(s).linear(rows, dest, a, b, scale))
+    }
+
+    fn masks(
+        &self,
+        _: reference::Session,
+        _: &[u32],
+        _: usize,
+        _: usize,
+        _: usize,
+        _: &mut [u32],
+    ) -> Answer {
+        unreachable!("masks are not exported")
+    }
+
+    fn finish(
+        &self,
+        _: reference::Session,
+        _: &mut [u32],
+        _: usize,
+        _: &[u32],
+        _: &[u32],
+    ) -> Answer {
+        unreachable!("finish is not exported")
+    }
+
+    fn factory_row(&self, n: usize, t: usize, points: &[u32], draw: &[u32], out: &mut [u32]) -> u8 {
+        number_of(gantsorol::factory_row(n, t, points, draw, out))
+    }
+
+    fn factory_triple(
+        &self,
+        n: usize,
+        t: usize,
+        points: &[u32],
+        draw: &[u32],
+        out: &mut [u32],
+    ) -> u8 {
+        number_of(gantsorol::factory_triple(n, t, points, draw, out))
+    }
+
+    fn dealer_number(&self, u: u32, f0: u32) -> (u8, u32) {
+        let number = gantsorol::dealer_number(u, f0);
+        (number.refusal, number.value)
+    }
+
+    fn write_deal(&self, n: usize, t: usize, row: usize, c: u32, out: &mut [u8]) -> Written {
+        written(gantsorol::write_deal(n, t, row, c, out))
+    }
+
+    fn write_opening(
+        &self,
+        n: usize,
+        t: usize,
+        row: usize,
+        post: usize,
+        coefficients: &[u32],
+        out: &mut [u8],
+    ) -> Written {
+        written(gantsorol::write_opening(n, t, row, post, coefficients, out))
+    }
+
+    fn write_masks(
+        &self,
+        n: usize,
+        t: usize,
+        first: usize,
+        post: usize,
+        numbers: &[u32],
+        out: &mut [u8],
+    ) -> Written {
+        written(gantsorol::write_masks(n, t, first, post, numbers, out))
+    }
+
+    fn read(&self, n: usize, t: usize, line: &[u8], out: &mut [u32]) -> ReadLine {
+        let gantsorol::Line { refusal, letter, row, post } = gantsorol::read(n, t, line, out);
+        ReadLine { refusal, letter, row, post }
+    }
+
+    fn street(&self, _: &[u8]) -> Vec<u8> {
+        unreachable!("the street program is no exported call")
+    }
+}

@@ -1,0 +1,239 @@
+//! Whole stations through the binding, their numbers sent as lines: numbers opened equal the plain
+//! sums, t posts get 9, and forged polynomials are rejected.
+
+mod common;
+
+use common::seeds;
+use gantsorol::{block_len, line_list_len, row_len, rows_len, Refusal, Session, LONGEST_LINE};
+use reference::random::{check_points, shape, Rng, SharedRow};
+use reference::{Element, Shape, MODULUS};
+
+type Field = Element<MODULUS>;
+
+/// One post between two calls.
+struct Post {
+    session: Option<Session>,
+    rows: Vec<u32>,
+}
+
+impl Post {
+    /// Makes a call, which must be accepted; the number opened.
+    fn call(&mut self, call: impl FnOnce(Session, &mut [u32]) -> gantsorol::Answer) -> u32 {
+        let session = self.session.take().expect("every call hands the session back");
+        let (session, value) = call(session, &mut self.rows).accepted().expect("a valid call");
+        self.session = Some(session);
+        value
+    }
+
+    /// The answer to a record, the post being left as it is.
+    fn try_open(&self, row: usize, record: &[u32]) -> Result<u32, Refusal> {
+        let session = self.session.clone().expect("every call hands the session back");
+        session.open(&self.rows, row, record).accepted().map(|(_, value)| value)
+    }
+}
+
+struct Station {
+    n: usize,
+    t: usize,
+    points: Vec<u32>,
+    posts: Vec<Post>,
+}
+
+impl Station {
+    fn random(rng: &mut Rng) -> Self {
+        let (n, t) = shape(rng);
+        Self::new(rng, n, t)
+    }
+
+    fn new(rng: &mut Rng, n: usize, t: usize) -> Self {
+        let points = check_points(rng, n);
+        let post = |(post, &point): (usize, &u32)| {
+            let (session, _) = Session::new(n, t, post, point).accepted().expect("right settings");
+            let rows = (0..rows_len(n, t)).map(|_| rng.number()).collect();
+            Post { session: Some(session), rows }
+        };
+        let posts = (1..).zip(&points).map(post).collect();
+        Self { n, t, points, posts }
+    }
+
+    fn random_row(&self, rng: &mut Rng) -> SharedRow {
+        SharedRow::random(rng, Shape::checked(self.n, self.t).expect("right settings"))
+    }
+
+    /// The posts in another order, with their numbers from 0.
+    fn shuffled(&mut self, rng: &mut Rng) -> Vec<(usize, &mut Post)> {
+        let mut posts: Vec<_> = self.posts.iter_mut().enumerate().collect();
+        for end in (1..posts.len()).rev() {
+            posts.swap(end, rng.below(end + 1));
+        }
+        posts
+    }
+
+    /// Shares `secret`: the factory's packs, the dealer's line, and a deal at every post.
+    fn share(&mut self, rng: &mut Rng, row: usize, secret: u32) {
+        let (n, t) = (self.n, self.t);
+        let draw = self.random_row(rng).draw();
+        let mut packs = vec![0; n * row_len(n, t)];
+        gantsorol::factory_row(n, t, &self.points, &draw, &mut packs).expect("a right draw");
+        let c = gantsorol::dealer_number(secret, draw[0]).accepted().expect("elements");
+        let mut line = [0; LONGEST_LINE];
+        let length = gantsorol::write_deal(n, t, row, c, &mut line).accepted().expect("room");
+        for (index, post) in self.shuffled(rng) {
+            let pack = &packs[index * row_len(n, t)..][..row_len(n, t)];
+            post.call(|session, rows| session.load_row(rows, row, pack));
+            let mut numbers = vec![7; line_list_len(t)];
+            let dealt = gantsorol::read(n, t, &line[..length], &mut numbers);
+            let dealt = dealt.accepted().expect("a line as written");
+            assert_eq!((dealt.letter, dealt.row, dealt.post), (b'D', row, 0));
+            post.call(|session, rows| session.deal(rows, dealt.row, numbers[0]));
+        }
+    }
+
+    /// Every post's message for a row, as an `O` line.
+    fn lines(&mut self, rng: &mut Rng, row: usize) -> Vec<Vec<u8>> {
+        let (n, t) = (self.n, self.t);
+        let mut lines = vec![vec![]; n];
+        for (index, post) in self.shuffled(rng) {
+            let mut message = vec![0; t + 1];
+            post.call(|session, rows| session.opening_message(rows, row, &mut message));
+            let mut line = vec![0; LONGEST_LINE];
+            let written = gantsorol::write_opening(n, t, row, index + 1, &message, &mut line);
+            line.truncate(written.accepted().expect("room"));
+            lines[index] = line;
+        }
+        lines
+    }
+
+    /// The record that these lines fill, in whatever order they come; an absent block is nonsense.
+    fn record<'a>(&self, rng: &mut Rng, lines: impl IntoIterator<Item = &'a Vec<u8>>) -> Vec<u32> {
+        let block = block_len(self.t);
+        let nonsense = |place| if place % block == 0 { 0 } else { rng.number() };
+        let mut record: Vec<u32> = (0..self.n * block).map(nonsense).collect();
+        for line in lines {
+            let mut numbers = vec![0; line_list_len(self.t)];
+            let read = gantsorol::read(self.n, self.t, line, &mut numbers);
+            let post = read.accepted().expect("a line as written").post;
+            let place = &mut record[(post - 1) * block..][..block];
+            place[0] = 1;
+            place[1..].copy_from_slice(&numbers[..=self.t]);
+        }
+        record
+    }
+
+    /// What every post opens with all messages.
+    fn open(&mut self, rng: &mut Rng, row: usize) -> Vec<u32> {
+        let lines = self.lines(rng, row);
+        let record = self.record(rng, lines.iter().rev());
+        let open = |post: &mut Post| post.call(|session, rows| session.open(rows, row, &record));
+        self.posts.iter_mut().map(open).collect()
+    }
+}
+
+fn check_sums(rng: &mut Rng, mut station: Station, seed: u64) {
+    let [a, b, scale] = [(); 3].map(|()| Field::from(rng.element()));
+    station.share(rng, 0, a.value());
+    station.share(rng, 95, b.value());
+    let minus_one = MODULUS - 1;
+    for (_, post) in station.shuffled(rng) {
+        post.call(|session, rows| session.linear(rows, 1, 0, 95, scale.value()));
+        post.call(|session, rows| session.linear(rows, 2, 1, 1, scale.value()));
+        post.call(|session, rows| session.linear(rows, 3, 2, 2, minus_one));
+    }
+    let sum = a + scale * b;
+    for (row, plain) in [(0, a), (95, b), (1, sum), (2, sum + scale * sum), (3, 0.into())] {
+        let opened = station.open(rng, row);
+        assert_eq!(opened, vec![plain.value(); station.n], "seed {seed}, row {row}");
+    }
+}
+
+#[test]
+fn sums_open_to_the_plain_ones() {
+    for seed in seeds(300) {
+        let mut rng = Rng::new(seed);
+        let station = Station::random(&mut rng);
+        check_sums(&mut rng, station, seed);
+    }
+}
+
+#[test]
+fn sums_for_every_n_and_t() {
+    for n in 2..=32 {
+        for t in 1..n {
+            let mut rng = Rng::new((n * 32 + t) as u64);
+            let station = Station::new(&mut rng, n, t);
+            check_sums(&mut rng, station, 0);
+        }
+    }
+}
+
+/// One secret in row 7, one post, and the lines of the others in random order.
+fn shared_secret(rng: &mut Rng) -> (Station, u32, usize, Vec<Vec<u8>>) {
+    let mut station = Station::random(rng);
+    let secret = rng.element();
+    station.share(rng, 7, secret);
+    let mut lines = station.lines(rng, 7);
+    let own = rng.below(station.n);
+    lines.remove(own);
+    for end in (1..lines.len()).rev() {
+        lines.swap(end, rng.below(end + 1));
+    }
+    (station, secret, own, lines)
+}
+
+#[test]
+fn t_posts_get_9_and_any_t_plus_1_the_number() {
+    for seed in seeds(500) {
+        let mut rng = Rng::new(seed);
+        let (station, secret, own, lines) = shared_secret(&mut rng);
+        // The post itself is one of them.
+        for (others, expected) in [(station.t - 1, Err(Refusal(9))), (station.t, Ok(secret))] {
+            let record = station.record(&mut rng, &lines[..others]);
+            assert_eq!(station.posts[own].try_open(7, &record), expected, "seed {seed}");
+        }
+    }
+}
+
+#[test]
+fn forged_polynomials_are_rejected() {
+    for seed in seeds(500) {
+        let mut rng = Rng::new(seed);
+        let (station, secret, own, lines) = shared_secret(&mut rng);
+        let (n, t) = (station.n, station.t);
+        // With n − 1 − t liars among the others t are left, with one more t − 1.
+        for (liars, expected) in [(n - 1 - t, Ok(secret)), (n - t, Err(Refusal(9)))] {
+            let mut record = station.record(&mut rng, &lines);
+            let others: Vec<usize> = (0..n).filter(|&post| post != own).collect();
+            let from = rng.below(others.len());
+            for liar in others.iter().cycle().skip(from).take(liars) {
+                forge(&mut rng, &mut record[liar * block_len(t) + 1..][..=t]);
+            }
+            assert_eq!(station.posts[own].try_open(7, &record), expected, "seed {seed}");
+        }
+    }
+}
+
+/// Another polynomial: one coefficient changed, which no check point but 0 hides.
+fn forge(rng: &mut Rng, polynomial: &mut [u32]) {
+    let place = rng.below(polynomial.len());
+    let change = 1 + rng.below(MODULUS as usize - 1) as u32;
+    polynomial[place] = (Field::from(polynomial[place]) + change.into()).value();
+}
+
+/// A liar who knows the post's check point passes there, and shifts the number: 3(z − w) added.
+#[test]
+fn a_forged_polynomial_passes_only_where_it_meets_the_true_one() {
+    let mut rng = Rng::new(1);
+    let mut station = Station::new(&mut rng, 2, 1);
+    station.share(&mut rng, 7, 5);
+    let lines = station.lines(&mut rng, 7);
+    let honest = station.record(&mut rng, &lines);
+    let w = Field::from(station.points[0]);
+    for (shift, passes) in [(0, true), (1, false), (MODULUS - 1, false)] {
+        let mut record = honest.clone();
+        record[4] = (Field::from(record[4]) - Field::from(3) * w + shift.into()).value();
+        record[5] = (Field::from(record[5]) + 3.into()).value();
+        let opened = station.posts[0].try_open(7, &record);
+        assert_eq!(opened.is_ok(), passes);
+        assert_ne!(opened, Ok(5));
+    }
+}
