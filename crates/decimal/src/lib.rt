@@ -95,29 +95,16 @@ pub fn field_at(line: &[u8], at: usize) -> Field
     Field::Number { value, next: end }
 }
 
-// The caller's line and how far it has been read: no copy. Its functions only take it apart; the work is `field_at`'s.
+// The caller's line and how far it has been read: no copy.
 pub struct Reader<'a> {
     pub line: &'a [u8],
     pub at: usize,
 }
 
-// A line that has been read up to a position.
-pub fn reader_at<'a>(line: &'a [u8], at: usize) -> Reader<'a>
-    ensures { λ r. ⌜ (r .line ≡ line .entry) × (r .at ≡ at) ⌝ }
-{
-    Reader { line, at }
-}
-
-// The number where the reader stands, and the position behind it.
-pub fn next_field<'a>(r: Reader<'a>) -> Field
-    ensures { λ f. ⌜ f ≡ fieldAt (now (r .entry .line)) (r .entry .at) ⌝ }
-{
-    field_at(r.line, r.at)
-}
-
-// The number at a position, through a reader. Whoever calls this one needs no walk by hand.
+// The number where a reader stands. The reader only holds what `field_at` works on; whoever calls this one never sees it.
 pub fn read_field(line: &[u8], at: usize) -> Field
     ensures { λ r. ⌜ r ≡ fieldAt (now (line .entry)) at ⌝ }
 {
-    next_field(reader_at(line, at))
+    let reader = Reader { line, at };
+    field_at(reader.line, reader.at)
 }
