@@ -18,7 +18,7 @@ use Rattle.session.proofs.Passed.{row-in, triple-in}
 use Rattle.session.proofs.Calls.{frame-passed, stopped-at-frame, past-frame, allowed}
 use Rattle.opening.specs.Walking.{recordLength, badRecord}
 use Rattle.product.specs.Masks.{tripleMarks, maskNumbers}
-use Rattle.product.specs.Finish.{finishPlace, finishMarks, finishNumbers, finishOwn, finishChecked}
+use Rattle.product.specs.Finish.{finishPlace, finishMarks, finishNumbers, finishOwn, finishChecks}
 use Rattle.product.proofs.Joining.{joined}
 
 pub small-record : (s : Session) → s .n ≤ 32 → s .t ≤ 32 → s .n * (s .t + 2) ≤ 32 * 34
@@ -58,14 +58,14 @@ module _ (s : Session) (rows : List ℕ) (r : ℕ) (l l' : List ℕ) where
 
   -- the frame stops the call, or the places do, or it goes on
   module _ (f : ℕ) (e : f ≡ first (frameTests s rows)) where
-    pub checks-stopped : (f ≡ 0 → ⊥) → f ≡ finishChecked s rows r l l'
+    pub checks-stopped : (f ≡ 0 → ⊥) → f ≡ first (finishChecks s rows r l l')
     checks-stopped = stopped-at-frame s rows (place ++ own) f e
 
     pub small-settings : f ≡ 0 → (s .n ≤ 32) × (s .t ≤ 32)
     small-settings z = let h = frame-passed s rows f e z in (omega arith, omega arith)
 
     module _ (z : f ≡ 0) (q : ℕ) (g : q ≡ first (finishPlace s r l l')) where
-      pub checks-misplaced : (q ≡ 0 → ⊥) → q ≡ finishChecked s rows r l l'
+      pub checks-misplaced : (q ≡ 0 → ⊥) → q ≡ first (finishChecks s rows r l l')
       checks-misplaced n = past-frame s rows (place ++ own) f q e z (stopped place own tt q g n)
 
       pub finish-placed : q ≡ 0 → Framed s rows × (r ≤ 93) × (length l ≡ recordLength s) × (length l' ≡ recordLength s)
@@ -73,10 +73,10 @@ module _ (s : Session) (rows : List ℕ) (r : ℕ) (l l' : List ℕ) where
           let h = all-fail place tt (sym g ∙ y) in
           (frame-passed s rows f e z, ltb-false 93 r (h .1 .1 .0), equal (length l) (recordLength s) (h .0), equal (length l') (recordLength s) (h .1 .0))
 
-      pub checks-done : q ≡ 0 → (w : ℕ) → w ≡ first (finishOwn s rows r l l') → w ≡ finishChecked s rows r l l'
+      pub checks-done : q ≡ 0 → (w : ℕ) → w ≡ first (finishOwn s rows r l l') → w ≡ first (finishChecks s rows r l l')
       checks-done y w h = past-frame s rows (place ++ own) f w e z (went-on place own tt q g w y h)
 
-  pub checks-allowed : (f : ℕ) → f ≡ finishChecked s rows r l l' → f ≡ 0
+  pub checks-allowed : (f : ℕ) → f ≡ first (finishChecks s rows r l l') → f ≡ 0
       → Framed s rows × RowIn s (factorA s r) × RowIn s (factorB s r) × TripleIn s r × (length l ≡ recordLength s) × (length l' ≡ recordLength s)
   checks-allowed f e n =
       let h = allowed s rows (place ++ own) tt f e n in

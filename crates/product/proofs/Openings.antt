@@ -18,7 +18,7 @@ use Rattle.session.proofs.Calls.{allowed}
 use Rattle.opening.specs.declared.Opened.{Opened}
 use Rattle.opening.specs.Walking.{tooFew, opened, openedRow}
 use Rattle.product.specs.declared.OpenedMasks.{OpenedMasks}
-use Rattle.product.specs.Finish.{maskA, maskB, finishPlace, finishOwn, finishChecks, finishChecked, tooFewOf, found, openedBoth, openedMasks, finishRefusal, withProduct, finishAnswer, finishRows}
+use Rattle.product.specs.Finish.{maskA, maskB, finishPlace, finishOwn, finishChecks, tooFewOf, found, openedBoth, openedMasks, finishRefusal, withProduct, finishAnswer, finishRows}
 use Rattle.product.proofs.Differences.{start}
 
 abbrev shown : ℕ → ℕ → ℕ → OpenedMasks
@@ -86,7 +86,7 @@ module _ (s : Session) (rows : List ℕ) (r : ℕ) (l l' : List ℕ) where
   nine = tooFewOf s (maskA s rows r) (maskB s rows r) l l'
 
   -- 1 to 8 stop the call, or the openings settle it
-  module _ (f : ℕ) (e : f ≡ finishChecked s rows r l l') where
+  module _ (f : ℕ) (e : f ≡ first (finishChecks s rows r l l')) where
     pub masks-unopened : (f ≡ 0 → ⊥) → shown f 0 0 ≡ openedMasks s rows r l l'
     unfolding finishRefusal
     masks-unopened n =

@@ -30,13 +30,13 @@ triple-combined s rows part made u v x w r y z ew eu lu ev lv ex ep em =
 pub sums-added : (s : Session) (rows l ys : List ℕ) (w r y z c : ℕ) → Framed s rows → length l ≡ longest
     → take (width s) l
     ≡ combined z (combined y (rowAt (width s) rows (r + 2)) (rowAt (width s) rows (r + 1))) (rowAt (width s) rows r)
-    → w ≡ width s → c ≡ product y z → ys ≡ map (λ m. sum m c) (take (w - sumsAt s) (drop (sumsAt s) l))
-    → (length (putMid (sumsAt s) (w - sumsAt s) l ys) ≡ longest)
-    × (take (width s) (putMid (sumsAt s) (w - sumsAt s) l ys)
+    → w ≡ width s → c ≡ product y z → ys ≡ map (λ m. sum m c) (take (w - (w - s .n)) (drop (w - s .n) l))
+    → (length (putMid (w - s .n) (w - (w - s .n)) l ys) ≡ longest)
+    × (take (width s) (putMid (w - s .n) (w - (w - s .n)) l ys)
     ≡ productRow s y z (rowAt (width s) rows r) (rowAt (width s) rows (r + 1)) (rowAt (width s) rows (r + 2)))
 unfolding productRow plusSums
 sums-added s rows l ys w r y z c f ll el ew ec ey =
-    (rw last (length-put k n l ys room wide ∙ ll), rw last (ap (λ (j : ℕ). take j (putMid k n l ys)) (sym whole) ∙ split))
+    (rw (last, from) (length-put k n l ys room wide ∙ ll), rw (last, from) (ap (λ (j : ℕ). take j (putMid k n l ys)) (sym whole) ∙ split))
   where
     k : ℕ
     k = sumsAt s
@@ -47,14 +47,20 @@ sums-added s rows l ys w r y z c f ll el ew ec ey =
     whole : k + n ≡ width s
     whole = omega arith
 
-    last : w - k ≡ n
+    from : w - n ≡ k
+    from = omega arith
+
+    last : w - (w - n) ≡ n
     last = omega arith
 
     room : k + n ≤ length l
     room = omega (arith, f .n-in, f .t-in)
 
     put : ys ≡ map (λ m. sum m (product y z)) (take n (drop k l))
-    put = ey ∙ ap₂ (λ (d j : ℕ). map (λ m. sum m d) (take j (drop k l))) ec last
+    put =
+        ey
+        ∙ ap₂ (λ (i j : ℕ). map (λ m. sum m c) (take i (drop j l))) last from
+        ∙ ap (λ (d : ℕ). map (λ m. sum m d) (take n (drop k l))) ec
 
     wide : length ys ≡ n
     wide = ap length put ∙ length-map (take n (drop k l)) (λ m. sum m (product y z)) ∙ part-length k n l room

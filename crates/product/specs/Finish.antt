@@ -45,9 +45,6 @@ finishOwn s rows r blocks blocks' =
 abbrev pub finishChecks : Session → List ℕ → ℕ → List ℕ → List ℕ → List Test
 finishChecks s rows r blocks blocks' = frameTests s rows ++ finishPlace s r blocks blocks' ++ finishOwn s rows r blocks blocks'
 
-abbrev pub finishChecked : Session → List ℕ → ℕ → List ℕ → List ℕ → ℕ
-finishChecked s rows r blocks blocks' = first (finishChecks s rows r blocks blocks')
-
 -- 9: "in either record of a finish", for the rows x and x' that are opened.
 abbrev pub tooFewOf : Session → List ℕ → List ℕ → List ℕ → List ℕ → List Test
 tooFewOf s x x' blocks blocks' = 9 when tooFew s x blocks ∷ 9 when tooFew s x' blocks' ∷ []

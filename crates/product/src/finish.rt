@@ -16,7 +16,7 @@ ghost use Rattle.session.specs.Rows.{width, rowAt, combined, longest};
 ghost use Rattle.session.specs.Checks.{noRow, Framed, RowIn, TripleIn};
 ghost use Rattle.opening.specs.Walking.{recordLength, openedRow};
 ghost use Rattle.product.specs.Masks.{maskRow};
-ghost use Rattle.product.specs.Finish.{maskA, maskB, finishPlace, finishMarks, finishNumbers, finishOwn, finishChecked, openedBoth, openedMasks, productRow, withProduct, finishAnswer, finishRows};
+ghost use Rattle.product.specs.Finish.{maskA, maskB, finishPlace, finishMarks, finishNumbers, finishOwn, finishChecks, openedBoth, openedMasks, productRow, withProduct, finishAnswer, finishRows};
 
 // 5 of the two records, and 6.
 fn finish_place(session: Session, row: usize, left: &[u32], right: &[u32]) -> u8
@@ -83,18 +83,18 @@ fn finish_own(session: Session, rows: &[u32], row: usize, left: &[u32], right: &
 }
 
 // 1 to 8; 9 is the openings'.
-fn finish_checks(session: Session, rows: &[u32], first: usize, left: &[u32], right: &[u32]) -> u8
-    ensures { λ r. ⌜ r ≡ finishChecked session (now (rows .entry)) first (now (left .entry)) (now (right .entry)) ⌝ }
+fn finish_checks(session: Session, rows: &[u32], row: usize, left: &[u32], right: &[u32]) -> u8
+    ensures { λ r. ⌜ r ≡ first (finishChecks session (now (rows .entry)) row (now (left .entry)) (now (right .entry))) ⌝ }
 {
     let frame = session.frame(rows);
     if frame != 0 {
         return frame;
     }
-    let place = finish_place(session, first, left, right);
+    let place = finish_place(session, row, left, right);
     if place != 0 {
         return place;
     }
-    finish_own(session, rows, first, left, right)
+    finish_own(session, rows, row, left, right)
 }
 
 // A factor row less a row of the triple, opened with its record.
@@ -185,8 +185,9 @@ fn product_row(
     ensures { λ r. ⌜ length r ≡ longest ⌝ }
     ensures { λ r. ⌜ take (width session) r ≡ productRow session y z (rowAt (width session) (now (rows .entry)) row) (rowAt (width session) (now (rows .entry)) (row + 1)) (rowAt (width session) (now (rows .entry)) (row + 2)) ⌝ }
 {
-    let sums = session.t + 1 + session.n;
     let width = session.width();
+    let n = session.n;
+    let sums = width - n;
     let mut numbers = combined_triple(session, rows, row, y, z);
     session::rows::add_to_each(&mut numbers[sums..width], field::mul(y, z));
     numbers

@@ -6,13 +6,13 @@ use Rattle.product.proofs.finish.finish_checks.Tie as tie
 finish-place-requires : tie.Need-finish-place-requires
 finish-place-requires c κs =
     let a = c .before .before .before .before .before .args in
-    small-settings (a .session) (a .rows .now) (a .first) (a .left .now) (a .right .now) _ (c .before .frame .ensures) (c .if1 .left)
+    small-settings (a .session) (a .rows .now) (a .row) (a .left .now) (a .right .now) _ (c .before .frame .ensures) (c .if1 .left)
 
 finish-own-requires : tie.Need-finish-own-requires
 finish-own-requires c κs =
     let d = c .before .before in
     let a = d .before .before .before .before .before .args in
-    finish-placed (a .session) (a .rows .now) (a .first) (a .left .now) (a .right .now) _ (d .before .frame .ensures) (d .if1 .left) _
+    finish-placed (a .session) (a .rows .now) (a .row) (a .left .now) (a .right .now) _ (d .before .frame .ensures) (d .if1 .left) _
     (c .before .finish-place .ensures) (c .if2 .left)
 
 pub finish-checks-spec : {M : Type 1} → statement M
