@@ -1,0 +1,6 @@
+pub mod Settings
+pub mod RowLines
+pub mod Hearing
+pub mod Calling
+pub mod Keeping
+pub mod Ends

@@ -1,0 +1,12 @@
+use borrow.Author.Needs.{needs}
+use Rattle.station.proofs.Settings.{start-long, start-wrong, start-settings}
+use Rattle.station.proofs.starting.start.Statement.{statement}
+use Rattle.station.proofs.starting.start.Tie as tie
+
+ruleset ends = (needs, start-long, start-wrong, start-settings)
+
+pub start-spec : {M : Type 1} → statement M
+start-spec =
+    tie.close
+    (tie.spec (λ c κs. search ends) (λ c. search ends) (λ c κs. search ends) (λ c. search ends) (λ c κs. search ends)
+    (λ c. search ends) (λ c κs. search ends) (λ c. search ends) (λ c. search ends))
