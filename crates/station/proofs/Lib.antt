@@ -4,3 +4,4 @@ pub mod Hearing
 pub mod Calling
 pub mod Keeping
 pub mod Ends
+pub mod Ranges

@@ -1,0 +1,5 @@
+pub mod Counting
+pub mod Answering
+pub mod Segments
+pub mod Feeding
+pub mod Chunks
