@@ -5,3 +5,4 @@ pub mod Calling
 pub mod Keeping
 pub mod Ends
 pub mod Ranges
+pub mod Cutting

@@ -18,7 +18,7 @@ fed-append p [] t = refl
 fed-append p (b ∷ s) t = fed-append (taken p b) s t
 
 -- ---- bytes that are kept one by one are kept together
-cut-again : (n : ℕ) (l x : List ℕ) → take n (take n l ++ x) ≡ take n (l ++ x)
+pub cut-again : (n : ℕ) (l x : List ℕ) → take n (take n l ++ x) ≡ take n (l ++ x)
 cut-again zero l x = refl
 cut-again (suc n) [] x = refl
 cut-again (suc n) (y ∷ l) x = ap (λ (z : List ℕ). y ∷ z) (cut-again n l x)

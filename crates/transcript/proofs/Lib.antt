@@ -3,3 +3,4 @@ pub mod Answering
 pub mod Segments
 pub mod Feeding
 pub mod Chunks
+pub mod Whole

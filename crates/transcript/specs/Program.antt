@@ -75,9 +75,32 @@ begun =
       out = header;
     }
 
--- The whole program.
+-- The whole program, byte by byte.
 unfoldable pub output : List ℕ → List ℕ
 output input = closed (fed begun input) .out
+
+-- ---- the same by lines
+-- The lines of an input, of whose first line these bytes were read before: each up to its line feed, the last one perhaps without.
+unfoldable pub linesFrom : List ℕ → List ℕ → List (List ℕ)
+linesFrom line [] = cond (eqb (length line) 0) [] (line ∷ [])
+linesFrom line (b ∷ s) = cond (eqb b 10) ((line ++ (b ∷ [])) ∷ linesFrom [] s) (linesFrom (line ++ (b ∷ [])) s)
+
+-- The answers to lines, one after the other, the first of which has this number.
+abbrev pub withAnswer : ℕ → After → (After → List ℕ) → List ℕ
+withAnswer number a rest = answerText number (a .given .refusal) (a .given .value) ++ rest a
+
+unfoldable pub answers : State → List ℕ → List ℕ → ℕ → List (List ℕ) → List ℕ
+answers st rows blocks number [] = []
+answers st rows blocks number (l ∷ ls) =
+    withAnswer number (step st rows blocks l) (λ a. answers (a .given .state) (a .rows) (a .blocks) (number + 1) ls)
+
+-- The header, and an answer to each line.
+unfoldable pub printed : List ℕ → List ℕ
+printed input = header ++ answers firstState (replicate 9216 0) (replicate 1056 0) 1 (linesFrom [] input)
+
+-- The program prints that, for every input.
+abbrev pub PrintsAnswers : Type 0
+PrintsAnswers = (input : List ℕ) → output input ≡ printed input
 
 -- ---- between the functions of the code
 -- What the code's values stand for.
