@@ -8,7 +8,7 @@ use lib.Seq.{length-take-le}
 use Rattle.station.specs.Step.{Ready}
 use Rattle.transcript.specs.declared.Feed.{Feed}
 use Rattle.transcript.specs.Program.{firstState, firstFeed, Open, Fed}
-use Rattle.street.specs.Holding.{Held}
+use Rattle.console.specs.Holding.{Held}
 
 pub open-none : (f : Feed) (rows blocks line out : List ℕ) (k : ℕ) → Open f rows blocks line out k → Open f rows blocks line out 0
 open-none f rows blocks line out k o =

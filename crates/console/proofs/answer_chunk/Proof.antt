@@ -1,7 +1,7 @@
 use borrow.Author.Needs.{needs}
-use Rattle.street.proofs.Turns.{answers-in, answers-size, chunk-open, chunk-numbers}
-use Rattle.street.proofs.answer_chunk.Statement.{statement}
-use Rattle.street.proofs.answer_chunk.Tie as tie
+use Rattle.console.proofs.Turns.{answers-in, answers-size, chunk-open, chunk-numbers}
+use Rattle.console.proofs.answer_chunk.Statement.{statement}
+use Rattle.console.proofs.answer_chunk.Tie as tie
 
 ruleset ends = (needs, answers-in, answers-size, chunk-open, chunk-numbers)
 

@@ -1,7 +1,7 @@
 use borrow.Author.Needs.{needs}
-use Rattle.street.proofs.Turns.{open-none}
-use Rattle.street.proofs.serve_chunk.Statement.{statement}
-use Rattle.street.proofs.serve_chunk.Tie as tie
+use Rattle.console.proofs.Turns.{open-none}
+use Rattle.console.proofs.serve_chunk.Statement.{statement}
+use Rattle.console.proofs.serve_chunk.Tie as tie
 
 ruleset ends = (needs, open-none)
 

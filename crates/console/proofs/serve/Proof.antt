@@ -1,8 +1,8 @@
 use borrow.Author.Needs.{needs}
-use Rattle.street.specs.Holding.{Held}
-use Rattle.street.proofs.Turns.{held-start, held-open, held-end, held-printed, held-room, held-more, held-last, last-in, last-size}
-use Rattle.street.proofs.serve.Statement.{statement}
-use Rattle.street.proofs.serve.Tie as tie
+use Rattle.console.specs.Holding.{Held}
+use Rattle.console.proofs.Turns.{held-start, held-open, held-end, held-printed, held-room, held-more, held-last, last-in, last-size}
+use Rattle.console.proofs.serve.Statement.{statement}
+use Rattle.console.proofs.serve.Tie as tie
 
 abbrev Inv-loop : tie.InvT-loop
 Inv-loop rows₀ blocks₀ line₀ out₀ feed₀ turns₀ rows blocks line out feed turns = Held feed rows blocks line out turns
