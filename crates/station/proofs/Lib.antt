@@ -4,3 +4,5 @@ pub mod Hearing
 pub mod Calling
 pub mod Keeping
 pub mod Ends
+pub mod Ranges
+pub mod Cutting

@@ -1,0 +1,4 @@
+// The street program on an empty input.
+fn main() {
+    console::run();
+}

@@ -1,0 +1,6 @@
+pub mod Counting
+pub mod Answering
+pub mod Segments
+pub mod Feeding
+pub mod Chunks
+pub mod Whole

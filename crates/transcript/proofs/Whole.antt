@@ -1,0 +1,103 @@
+-- The whole program: byte by byte it prints an answer to each line, whatever the chunks, and what was printed before stays.
+use Prim.Native.Nat.{ℕ, _+_}
+use mathlib.Core.Path.{_≡_, refl, ap, sym, _∙_}
+use mathlib.Core.List.{List, [], _∷_, _++_, append-assoc, append-nil}
+use mathlib.Core.Bool.{Bool, true, false, cond}
+use native.Mathlib.Omega.{arith}
+use borrow.Author.Tests.{ne-eqb}
+use lib.ListN.{length, replicate}
+use lib.Dec.{eqb}
+use Rattle.station.specs.declared.State.{State}
+use Rattle.station.specs.Step.{After, step}
+use Rattle.station.proofs.Cutting.{step-cut}
+use Rattle.transcript.specs.Text.{header}
+use Rattle.transcript.specs.Lines.{keptLength, cut}
+use Rattle.transcript.specs.Program.{Running, leftBy, answered, grown, taken, fed, closed, firstState, output, linesFrom, withAnswer, answers, printed, PrintsAnswers}
+use Rattle.transcript.proofs.Chunks.{cut-again}
+
+-- ---- by lines
+abbrev at : State → List ℕ → List ℕ → ℕ → List ℕ → List ℕ → Running
+at st rows blocks number out line = record { state = st; rows = rows; blocks = blocks; line = cut line; number = number; out = out }
+
+module _ (st : State) (rows blocks : List ℕ) (number : ℕ) (out : List ℕ) where
+  -- a line answered, cut or not
+  answered-at : (line : List ℕ) → answered (at st rows blocks number out line) ≡ leftBy (at st rows blocks number out line) (step st rows blocks line)
+  unfolding answered
+  answered-at line = ap (leftBy (at st rows blocks number out line)) (step-cut st rows blocks line keptLength (omega arith))
+
+  grown-at : (line : List ℕ) (b : ℕ) → grown (at st rows blocks number out line) (b ∷ []) ≡ at st rows blocks number out (line ++ (b ∷ []))
+  unfolding grown
+  grown-at line b =
+      ap (λ (z : List ℕ). record { state = st; rows = rows; blocks = blocks; line = z; number = number; out = out }) (cut-again keptLength line (b ∷ []))
+
+  last-line : (line : List ℕ) → closed (at st rows blocks number out line) .out ≡ out ++ answers st rows blocks (number + 1) (linesFrom line [])
+  unfolding closed linesFrom answers
+  last-line [] = sym (append-nil out)
+  last-line (x ∷ line) =
+      let n : eqb (length (cut (x ∷ line))) 0 ≡ false = ne-eqb (length (cut (x ∷ line))) 0 (λ e. omega arith) in
+      let m : eqb (length (x ∷ line)) 0 ≡ false = ne-eqb (length (x ∷ line)) 0 (λ e. omega arith) in
+      rw (n, m) (ap (λ (p : Running). p .out) (answered-at (x ∷ line)) ∙ ap (λ (z : List ℕ). out ++ z) (sym (append-nil _)))
+
+by-lines : (s line : List ℕ) (st : State) (rows blocks : List ℕ) (number : ℕ) (out : List ℕ)
+    → closed (fed (at st rows blocks number out line) s) .out ≡ out ++ answers st rows blocks (number + 1) (linesFrom line s)
+unfolding fed linesFrom answers
+by-lines [] line st rows blocks number out = last-line st rows blocks number out line
+by-lines (b ∷ s) line st rows blocks number out =
+    go (eqb b 10) (by-lines s (line ++ (b ∷ [])) st rows blocks number out) (by-lines s [])
+  where
+    ended : (a : After)
+        → ((st' : State) (rows' blocks' : List ℕ) (number' : ℕ) (out' : List ℕ)
+        → closed (fed (at st' rows' blocks' number' out' []) s) .out ≡ out' ++ answers st' rows' blocks' (number' + 1) (linesFrom [] s))
+        → closed (fed (leftBy (at st rows blocks number out (line ++ (b ∷ []))) a) s) .out
+        ≡ out ++ withAnswer (number + 1) a (λ a. answers (a .given .state) (a .rows) (a .blocks) (number + 1 + 1) (linesFrom [] s))
+    ended a ih = ih (a .given .state) (a .rows) (a .blocks) (number + 1) _ ∙ append-assoc out _ _
+
+    go : (t : Bool)
+        → closed (fed (at st rows blocks number out (line ++ (b ∷ []))) s) .out ≡ out ++ answers st rows blocks (number + 1) (linesFrom (line ++ (b ∷ [])) s)
+        → ((st' : State) (rows' blocks' : List ℕ) (number' : ℕ) (out' : List ℕ)
+        → closed (fed (at st' rows' blocks' number' out' []) s) .out ≡ out' ++ answers st' rows' blocks' (number' + 1) (linesFrom [] s))
+        → closed (fed (cond t (answered (grown (at st rows blocks number out line) (b ∷ []))) (grown (at st rows blocks number out line) (b ∷ []))) s) .out
+        ≡ out ++ answers st rows blocks (number + 1) (cond t ((line ++ (b ∷ [])) ∷ linesFrom [] s) (linesFrom (line ++ (b ∷ [])) s))
+    go true keep ih =
+        ap (λ (p : Running). closed (fed p s) .out)
+        (ap answered (grown-at st rows blocks number out line b) ∙ answered-at st rows blocks number out (line ++ (b ∷ [])))
+        ∙ ended (step st rows blocks (line ++ (b ∷ []))) ih
+    go false keep ih = ap (λ (p : Running). closed (fed p s) .out) (grown-at st rows blocks number out line b) ∙ keep
+
+pub prints-answers : PrintsAnswers
+unfolding output printed
+prints-answers input = by-lines input [] firstState (replicate 9216 0) (replicate 1056 0) 0 header
+
+-- ---- what was printed before stays: the program prints and goes on with nothing printed
+abbrev pub behind : List ℕ → Running → Running
+behind o p = record { state = p .state; rows = p .rows; blocks = p .blocks; line = p .line; number = p .number; out = o ++ p .out }
+
+module _ (o : List ℕ) where
+  answered-behind : (p : Running) → answered (behind o p) ≡ behind o (answered p)
+  unfolding answered
+  answered-behind p =
+      let a : After = step (p .state) (p .rows) (p .blocks) (p .line) in
+      ap (λ (z : List ℕ). record { state = a .given .state; rows = a .rows; blocks = a .blocks; line = []; number = p .number + 1; out = z })
+      (append-assoc o (p .out) _)
+
+  taken-behind : (p : Running) (b : ℕ) → taken (behind o p) b ≡ behind o (taken p b)
+  unfolding grown
+  taken-behind p b = go (eqb b 10)
+    where
+      go : (t : Bool) → cond t (answered (grown (behind o p) (b ∷ []))) (grown (behind o p) (b ∷ []))
+          ≡ behind o (cond t (answered (grown p (b ∷ []))) (grown p (b ∷ [])))
+      go true = answered-behind (grown p (b ∷ []))
+      go false = refl
+
+  pub fed-behind : (p : Running) (s : List ℕ) → fed (behind o p) s ≡ behind o (fed p s)
+  unfolding fed
+  fed-behind p [] = refl
+  fed-behind p (b ∷ s) = ap (λ (z : Running). fed z s) (taken-behind p b) ∙ fed-behind (taken p b) s
+
+  pub closed-behind : (p : Running) → closed (behind o p) ≡ behind o (closed p)
+  unfolding closed
+  closed-behind p = go (eqb (length (p .line)) 0)
+    where
+      go : (t : Bool) → cond t (behind o p) (answered (behind o p)) ≡ behind o (cond t p (answered p))
+      go true = refl
+      go false = answered-behind p

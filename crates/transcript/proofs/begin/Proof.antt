@@ -1,0 +1,11 @@
+use borrow.Author.Needs.{needs}
+use Rattle.transcript.proofs.Feeding.{begin-is}
+use Rattle.transcript.proofs.begin.Statement.{statement}
+use Rattle.transcript.proofs.begin.Tie as tie
+
+ruleset ends = (needs, begin-is)
+
+pub begin-spec : {M : Type 1} → statement M
+begin-spec =
+    tie.close
+    (tie.spec (λ c κs. search ends) (λ c. search ends))

@@ -1,0 +1,11 @@
+use borrow.Author.Needs.{needs}
+use Rattle.transcript.proofs.Segments.{least-first, least-second}
+use Rattle.transcript.proofs.least.Statement.{statement}
+use Rattle.transcript.proofs.least.Tie as tie
+
+ruleset ends = (needs, least-first, least-second)
+
+pub least-spec : {M : Type 1} → statement M
+least-spec =
+    tie.close
+    (tie.spec (λ c. search ends) (λ c. search ends))

@@ -1,0 +1,18 @@
+-- Splitting input bytes into lines.
+use Prim.Native.Nat.{ℕ, suc}
+use mathlib.Core.List.{List, [], _∷_}
+use mathlib.Core.Bool.{cond}
+use lib.ListN.{take}
+use lib.Dec.{eqb}
+
+-- How many bytes reach up to the first line feed, itself included, or to the end.
+unfoldable pub segment : List ℕ → ℕ
+segment [] = 0
+segment (b ∷ s) = cond (eqb b 10) 1 (suc (segment s))
+
+-- Of a line that is too long, one byte more than the longest line has is kept: enough to tell.
+abbrev pub keptLength : ℕ
+keptLength = 1062
+
+abbrev pub cut : List ℕ → List ℕ
+cut line = take keptLength line

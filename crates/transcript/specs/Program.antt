@@ -1,0 +1,138 @@
+-- Document 01, "The street program", whole: from the bytes that it reads to the bytes that it prints.
+use Prim.Native.Nat.{ℕ, _+_, _-_, _*_, _≤_, _<_, _^_}
+use mathlib.Core.Path.{_≡_}
+use mathlib.Core.List.{List, [], _∷_, _++_}
+use mathlib.Core.Bool.{false, cond}
+use lib.ListN.{length, getD, take, replicate}
+use lib.Dec.{eqb}
+use Rattle.session.specs.Sessions.{sessionOf}
+use Rattle.station.specs.declared.State.{State}
+use Rattle.station.specs.Step.{step, After, Ready}
+use Rattle.transcript.specs.declared.Feed.{Feed}
+use Rattle.transcript.specs.Text.{header, answerText, longestAnswer}
+use Rattle.transcript.specs.Lines.{cut, keptLength}
+
+-- The program between two bytes: what it keeps, the line begun, how many lines were answered, and what was printed.
+pub record Running : Type 0 where
+  pub state : State
+  pub rows : List ℕ
+  pub blocks : List ℕ
+  pub line : List ℕ
+  pub number : ℕ
+  pub out : List ℕ
+
+-- The line begun is taken, and its answer printed.
+abbrev pub leftBy : Running → After → Running
+leftBy p a =
+    record {
+      state = a .given .state;
+      rows = a .rows;
+      blocks = a .blocks;
+      line = [];
+      number = p .number + 1;
+      out = p .out ++ answerText (p .number + 1) (a .given .refusal) (a .given .value);
+    }
+
+unfoldable pub answered : Running → Running
+answered p = leftBy p (step (p .state) (p .rows) (p .blocks) (p .line))
+
+-- Bytes of the line begun.
+unfoldable pub grown : Running → List ℕ → Running
+grown p s =
+    record {
+      state = p .state;
+      rows = p .rows;
+      blocks = p .blocks;
+      line = cut (p .line ++ s);
+      number = p .number;
+      out = p .out;
+    }
+
+-- One byte more: a line feed ends the line.
+abbrev pub taken : Running → ℕ → Running
+taken p b = cond (eqb b 10) (answered (grown p (b ∷ []))) (grown p (b ∷ []))
+
+unfoldable pub fed : Running → List ℕ → Running
+fed p [] = p
+fed p (b ∷ s) = fed (taken p b) s
+
+-- "The end of input without a line feed ends a line."
+unfoldable pub closed : Running → Running
+closed p = cond (eqb (length (p .line)) 0) p (answered p)
+
+-- Before the first byte: no `S` accepted, an empty record, the header printed.
+abbrev pub firstState : State
+firstState = record { session = sessionOf 0 0 0 0; started = false; kept = 0 }
+
+abbrev pub begun : Running
+begun =
+    record {
+      state = firstState;
+      rows = replicate 9216 0;
+      blocks = replicate 1056 0;
+      line = [];
+      number = 0;
+      out = header;
+    }
+
+-- The whole program, byte by byte.
+unfoldable pub output : List ℕ → List ℕ
+output input = closed (fed begun input) .out
+
+-- ---- the same by lines
+-- The lines of an input, of whose first line these bytes were read before: each up to its line feed, the last one perhaps without.
+unfoldable pub linesFrom : List ℕ → List ℕ → List (List ℕ)
+linesFrom line [] = cond (eqb (length line) 0) [] (line ∷ [])
+linesFrom line (b ∷ s) = cond (eqb b 10) ((line ++ (b ∷ [])) ∷ linesFrom [] s) (linesFrom (line ++ (b ∷ [])) s)
+
+-- The answers to lines, one after the other, the first of which has this number.
+abbrev pub withAnswer : ℕ → After → (After → List ℕ) → List ℕ
+withAnswer number a rest = answerText number (a .given .refusal) (a .given .value) ++ rest a
+
+unfoldable pub answers : State → List ℕ → List ℕ → ℕ → List (List ℕ) → List ℕ
+answers st rows blocks number [] = []
+answers st rows blocks number (l ∷ ls) =
+    withAnswer number (step st rows blocks l) (λ a. answers (a .given .state) (a .rows) (a .blocks) (number + 1) ls)
+
+-- The header, and an answer to each line.
+unfoldable pub printed : List ℕ → List ℕ
+printed input = header ++ answers firstState (replicate 9216 0) (replicate 1056 0) 1 (linesFrom [] input)
+
+-- The program prints that, for every input.
+abbrev pub PrintsAnswers : Type 0
+PrintsAnswers = (input : List ℕ) → output input ≡ printed input
+
+-- ---- between the functions of the code
+-- What the code's values stand for.
+abbrev pub running : Feed → List ℕ → List ℕ → List ℕ → List ℕ → Running
+running f rows blocks line out =
+    record {
+      state = f .state;
+      rows = rows;
+      blocks = blocks;
+      line = take (f .len) line;
+      number = f .number;
+      out = take (f .at) out;
+    }
+
+abbrev pub firstFeed : Feed
+firstFeed = record { state = firstState; number = 0; len = 0; at = 0 }
+
+-- What holds between bytes, with room for k more.
+pub record Open (f : Feed) (rows blocks line out : List ℕ) (k : ℕ) : Type 0 where
+  pub ready : Ready (f .state) rows blocks
+  pub line-room : length line ≡ keptLength
+  pub len-in : f .len ≤ keptLength
+  pub numbers : f .number + k < 2 ^ 64
+  pub room : f .at + longestAnswer * k ≤ length out
+
+-- A part of a line, which a line feed may end.
+abbrev pub segmented : Running → List ℕ → Running
+segmented p s = cond (eqb (getD s (length s - 1) 0) 10) (answered (grown p s)) (grown p s)
+
+-- What is left after k bytes more.
+pub record Fed (f r : Feed) (rows blocks : List ℕ) (k : ℕ) : Type 0 where
+  pub ready : Ready (r .state) rows blocks
+  pub len-in : r .len ≤ keptLength
+  pub numbers : r .number ≤ f .number + k
+  pub room : r .at ≤ f .at + longestAnswer * k

@@ -1,0 +1,25 @@
+-- Document 01, "The street program": "It prints a header, then per input line its number from 1, the refusal (0 for none) and
+-- the number opened (0 if none)."
+use Prim.Native.Nat.{ℕ}
+use mathlib.Core.List.{List, [], _∷_, _++_}
+use Rattle.decimal.specs.Numeral.{lastDigits, sizeWithin}
+use Rattle.fields.specs.Fields.{fields}
+
+-- `line,refusal,value`
+abbrev pub header : List ℕ
+header = 108 ∷ 105 ∷ 110 ∷ 101 ∷ 44 ∷ 114 ∷ 101 ∷ 102 ∷ 117 ∷ 115 ∷ 97 ∷ 108 ∷ 44 ∷ 118 ∷ 97 ∷ 108 ∷ 117 ∷ 101 ∷ 10 ∷ []
+
+-- How many digits a number of 64 bits has, and the number as it is written.
+abbrev pub longSize : ℕ → ℕ
+longSize x = sizeWithin 19 x
+
+abbrev pub longNumeral : ℕ → List ℕ
+longNumeral x = lastDigits (longSize x) x
+
+-- The answer to one line.
+abbrev pub answerText : ℕ → ℕ → ℕ → List ℕ
+answerText number refusal value = longNumeral number ++ (fields (refusal ∷ value ∷ []) ++ (10 ∷ []))
+
+-- No answer is longer.
+abbrev pub longestAnswer : ℕ
+longestAnswer = 43

@@ -1,0 +1,235 @@
+// The transcript: input bytes split into lines, and the answers as text.
+use session::Session;
+use station::State;
+ghost use mathlib.Core.Path.{_≡_};
+ghost use mathlib.Core.Bool.{cond};
+ghost use mathlib.Core.List.{_++_};
+ghost use Prim.Native.Nat.{_+_, _≤_};
+ghost use lib.ListN.{length, take, drop};
+ghost use lib.Dec.{ltb};
+ghost use Rattle.station.specs.Step.{Ready};
+ghost use Rattle.decimal.specs.Numeral.{lastDigits};
+ghost use Rattle.fields.specs.Fields.{overwrite};
+ghost use Rattle.transcript.specs.Text.{header, longSize, longNumeral, answerText, longestAnswer};
+ghost use Rattle.transcript.specs.Lines.{segment, keptLength, cut};
+ghost use Rattle.transcript.specs.Program.{running, answered, segmented, fed, closed, firstFeed, Open, Fed};
+
+// `line,refusal,value`
+pub fn header() -> [u8; 19]
+    ensures { λ r. ⌜ r ≡ header ⌝ }
+{
+    *b"line,refusal,value\n"
+}
+
+// How many digits a number has.
+fn long_size(x: u64) -> usize
+    ensures { λ r. ⌜ r ≡ longSize x ⌝ }
+{
+    let mut k: usize = 1;
+    let mut y = x;
+    while 10 <= y {
+        y = y / 10;
+        k += 1;
+    }
+    k
+}
+
+// A number's last digits, as many as the part has places.
+fn put_digits(part: &mut [u8], x: u64)
+    ensures { λ r. ⌜ now (part .exit) ≡ lastDigits (length (now (part .entry))) x ⌝ }
+{
+    let mut i = part.len();
+    let mut y = x;
+    while 0 < i {
+        i -= 1;
+        part[i] = 48 + (y % 10) as u8;
+        y = y / 10;
+    }
+}
+
+// A number from a position on; the position behind.
+fn put_number(out: &mut [u8], at: usize, x: u64) -> usize
+    requires { ⌜ at + length (longNumeral x) ≤ length (now out) ⌝ }
+    ensures { λ r. ⌜ (r ≡ at + length (longNumeral x)) × (now (out .exit) ≡ overwrite at (longNumeral x) (now (out .entry))) ⌝ }
+{
+    let end = at + long_size(x);
+    put_digits(&mut out[at..end], x);
+    end
+}
+
+// An answer from a position on; the position behind.
+pub fn put_answer(out: &mut [u8], at: usize, number: u64, refusal: u8, value: u32) -> usize
+    requires { ⌜ at + longestAnswer ≤ length (now out) ⌝ }
+    ensures { λ r. ⌜ (r ≡ at + length (answerText number refusal value)) × (now (out .exit) ≡ overwrite at (answerText number refusal value) (now (out .entry))) ⌝ }
+{
+    let behind = put_number(out, at, number);
+    let list = [refusal as u32, value];
+    let end = fields::put_fields(out, behind, &list);
+    out[end] = 10;
+    end + 1
+}
+
+// The position behind the next line feed, or the chunk's end.
+pub fn line_end(chunk: &[u8], from: usize) -> usize
+    ensures { λ r. ⌜ r ≡ from + segment (drop from (now (chunk .entry))) ⌝ }
+{
+    let mut i = from;
+    while i < chunk.len() {
+        if chunk[i] == 10 {
+            return i + 1;
+        }
+        i += 1;
+    }
+    i
+}
+
+fn least(a: usize, b: usize) -> usize
+    ensures { λ r. ⌜ (r ≤ a) × (r ≤ b) × (r ≡ cond (ltb a b) a b) ⌝ }
+{
+    if a < b { a } else { b }
+}
+
+// The bytes of `from`, into `to`.
+fn copy(from: &[u8], to: &mut [u8])
+    requires { ⌜ length (now from) ≡ length (now to) ⌝ }
+    ensures { λ r. ⌜ now (to .exit) ≡ now (from .entry) ⌝ }
+{
+    for i in 0..from.len() {
+        to[i] = from[i];
+    }
+}
+
+// Bytes behind the first `len` of a line, as far as there is room; how many the line has then.
+pub fn append(line: &mut [u8], len: usize, part: &[u8]) -> usize
+    requires { ⌜ (len ≤ keptLength) × (length (now line) ≡ keptLength) ⌝ }
+    ensures { λ r. ⌜ (r ≤ keptLength) × (take r (now (line .exit)) ≡ cut (take len (now (line .entry)) ++ now (part .entry))) ⌝ }
+{
+    let count = least(1062 - len, part.len());
+    let end = len + count;
+    copy(&part[..count], &mut line[len..end]);
+    end
+}
+
+// The program between two bytes, beside the rows, the record, the line begun and the answers.
+pub struct Feed {
+    pub state: State,
+    // how many lines were answered
+    pub number: u64,
+    // how many bytes of the line begun are kept
+    pub len: usize,
+    // how many bytes of answers there are
+    pub at: usize,
+}
+
+// The line begun is taken, and its answer written.
+pub fn end_line(
+    feed: Feed,
+    rows: &mut [u32],
+    blocks: &mut [u32],
+    line: &[u8],
+    out: &mut [u8],
+) -> Feed
+    requires { ⌜ Open feed (now rows) (now blocks) (now line) (now out) 1 ⌝ }
+    ensures { λ r. ⌜ running r (now (rows .exit)) (now (blocks .exit)) (now (line .entry)) (now (out .exit)) ≡ answered (running feed (now (rows .entry)) (now (blocks .entry)) (now (line .entry)) (now (out .entry))) ⌝ }
+    ensures { λ r. ⌜ Ready (r .state) (now (rows .exit)) (now (blocks .exit)) × (r .len ≡ 0) × (r .number ≡ feed .number + 1) × (r .at ≤ feed .at + longestAnswer) ⌝ }
+{
+    let len = feed.len;
+    let stepped = station::step(feed.state, rows, blocks, &line[..len]);
+    let number = feed.number + 1;
+    let at = put_answer(out, feed.at, number, stepped.refusal, stepped.value);
+    let state = stepped.state;
+    Feed {
+        state,
+        number,
+        len: 0,
+        at,
+    }
+}
+
+// A part of a line: its bytes are kept, and a line feed at its end ends the line.
+fn take_part(
+    feed: Feed,
+    rows: &mut [u32],
+    blocks: &mut [u32],
+    line: &mut [u8],
+    part: &[u8],
+    out: &mut [u8],
+) -> Feed
+    requires { ⌜ Open feed (now rows) (now blocks) (now line) (now out) 1 × (1 ≤ length (now part)) ⌝ }
+    ensures { λ r. ⌜ running r (now (rows .exit)) (now (blocks .exit)) (now (line .exit)) (now (out .exit)) ≡ segmented (running feed (now (rows .entry)) (now (blocks .entry)) (now (line .entry)) (now (out .entry))) (now (part .entry)) ⌝ }
+    ensures { λ r. ⌜ Fed feed r (now (rows .exit)) (now (blocks .exit)) 1 ⌝ }
+{
+    let len = append(line, feed.len, part);
+    let state = feed.state;
+    let grown = Feed {
+        state,
+        number: feed.number,
+        len,
+        at: feed.at,
+    };
+    let last = part.len() - 1;
+    if part[last] == 10 {
+        return end_line(grown, rows, blocks, line, out);
+    }
+    grown
+}
+
+// A chunk of the input.
+pub fn read_chunk(
+    feed: Feed,
+    rows: &mut [u32],
+    blocks: &mut [u32],
+    line: &mut [u8],
+    chunk: &[u8],
+    out: &mut [u8],
+) -> Feed
+    requires { ⌜ Open feed (now rows) (now blocks) (now line) (now out) (length (now chunk)) ⌝ }
+    ensures { λ r. ⌜ running r (now (rows .exit)) (now (blocks .exit)) (now (line .exit)) (now (out .exit)) ≡ fed (running feed (now (rows .entry)) (now (blocks .entry)) (now (line .entry)) (now (out .entry))) (now (chunk .entry)) ⌝ }
+    ensures { λ r. ⌜ Fed feed r (now (rows .exit)) (now (blocks .exit)) (length (now (chunk .entry))) ⌝ }
+{
+    let mut present = feed;
+    let mut i = 0;
+    while i < chunk.len() {
+        let end = line_end(chunk, i);
+        present = take_part(present, rows, blocks, line, &chunk[i..end], out);
+        i = end;
+    }
+    present
+}
+
+// Before the first byte: no `S` was accepted, and nothing is kept.
+pub fn begin() -> Feed
+    ensures { λ r. ⌜ r ≡ firstFeed ⌝ }
+{
+    let none = Session::new(0, 0, 0, 0);
+    let session = none.session;
+    let state = State {
+        session,
+        started: false,
+        kept: 0,
+    };
+    Feed {
+        state,
+        number: 0,
+        len: 0,
+        at: 0,
+    }
+}
+
+// The end of the input ends a line that was begun.
+pub fn end_input(
+    feed: Feed,
+    rows: &mut [u32],
+    blocks: &mut [u32],
+    line: &[u8],
+    out: &mut [u8],
+) -> Feed
+    requires { ⌜ Open feed (now rows) (now blocks) (now line) (now out) 1 ⌝ }
+    ensures { λ r. ⌜ running r (now (rows .exit)) (now (blocks .exit)) (now (line .entry)) (now (out .exit)) ≡ closed (running feed (now (rows .entry)) (now (blocks .entry)) (now (line .entry)) (now (out .entry))) ⌝ }
+    ensures { λ r. ⌜ r .at ≤ feed .at + longestAnswer ⌝ }
+{
+    if feed.len == 0 {
+        return feed;
+    }
+    end_line(feed, rows, blocks, line, out)
+}
