@@ -1,0 +1,116 @@
+-- What a call that is not refused makes of a session's marks and of the rows' vectors: by the call alone, whoever makes it.
+use Prim.Native.Nat.{ℕ, _+_, _*_, _-_}
+use mathlib.Core.Path.{_≡_, ap}
+use mathlib.Core.Bool.{Bool, cond}
+use mathlib.Core.Logic.{_≢_}
+use mathlib.Core.List.{List}
+use borrow.Author.Tests.{eq-eqb, ne-eqb}
+use lib.ListN.{length, getD, set}
+use Rattle.field.specs.Modulus.{p}
+use Rattle.field.specs.Arithmetic.{product}
+use Rattle.field.specs.Element.{element}
+use Rattle.session.specs.declared.Session.{Session}
+use Rattle.vectors.specs.Vector.{Vector, plusTimes, raised, number, vectorOf}
+use Rattle.runs.specs.Draws.{Plan, Draw, pointOf, rawDraw, drawA, drawB, drawAB}
+use Rattle.runs.specs.Calls.{Call, loadRow, loadTriple, deal, message, opening, linear, masks, finish, at}
+
+-- a function changed at one place
+pub at-same : {A : Type 0} (f : ℕ → A) (r : ℕ) (x : A) → at f r x r ≡ x
+unfolding at
+at-same f r x = ap (λ (b : Bool). cond b x (f r)) (eq-eqb r r refl)
+  where
+    refl : r ≡ r
+    refl = λ i. r
+
+pub at-other : {A : Type 0} (f : ℕ → A) (r : ℕ) (x : A) (q : ℕ) → q ≢ r → at f r x q ≡ f q
+unfolding at
+at-other f r x q ne = ap (λ (b : Bool). cond b x (f q)) (ne-eqb q r ne)
+
+-- what sessions of all posts have in common
+pub record Marks : Type 0 where
+  pub marks : List ℕ
+  pub left : List ℕ
+  pub right : List ℕ
+
+abbrev pub markOf : Marks → ℕ → ℕ
+markOf M r = getD (M .marks) r 0
+
+abbrev pub leftOf : Marks → ℕ → ℕ
+leftOf M r = getD (M .left) r 0
+
+abbrev pub rightOf : Marks → ℕ → ℕ
+rightOf M r = getD (M .right) r 0
+
+pub record Sized (M : Marks) : Type 0 where
+  pub marks : length (M .marks) ≡ 96
+  pub left : length (M .left) ≡ 96
+  pub right : length (M .right) ≡ 96
+
+abbrev pub remarked : Marks → ℕ → ℕ → Marks
+remarked M r m = record { marks = set (M .marks) r m; left = M .left; right = M .right }
+
+abbrev pub masked : Marks → ℕ → ℕ → ℕ → Marks
+masked M r a b = record { marks = set (M .marks) r 5; left = set (M .left) r a; right = set (M .right) r b }
+
+abbrev pub tripled : Marks → ℕ → Marks
+tripled M r = remarked (remarked (remarked M r 3) (r + 1) 4) (r + 2) 4
+
+abbrev pub finished : Marks → ℕ → Marks
+finished M r = remarked (remarked (remarked M r 6) (r + 1) 6) (r + 2) 2
+
+-- the session of post i with these marks
+abbrev pub sessionAt : Plan → Draw → ℕ → Marks → Session
+sessionAt plan draw i M =
+    record { n = plan .n; t = plan .t; post = i; point = pointOf draw i; marks = M .marks; left = M .left; right = M .right }
+
+-- the vectors of what was drawn
+abbrev pub rawVector : Plan → Draw → ℕ → Vector
+rawVector plan draw r = vectorOf (plan .t + 1) (rawDraw draw r)
+
+abbrev pub vectorA : Plan → Draw → ℕ → Vector
+vectorA plan draw r = vectorOf (plan .t + 1) (drawA plan draw r)
+
+abbrev pub vectorB : Plan → Draw → ℕ → Vector
+vectorB plan draw r = vectorOf (plan .t + 1) (drawB plan draw r)
+
+abbrev pub vectorAB : Plan → Draw → ℕ → Vector
+vectorAB plan draw r = vectorOf (plan .t + 1) (drawAB plan draw r)
+
+-- a − l; and l'' + y l' + y' l + y y'
+abbrev pub less : Vector → Vector → Vector
+less S L = plusTimes (element (p - 1)) S L
+
+abbrev pub productVector : ℕ → ℕ → Vector → Vector → Vector → Vector
+productVector y y' l l' l'' = raised (element (product y y')) (plusTimes (element y') (plusTimes (element y) l'' l') l)
+
+-- the vectors that a finish of the triple at r opens
+abbrev pub maskA : Marks → (ℕ → Vector) → ℕ → Vector
+maskA M vec r = less (vec (leftOf M r)) (vec r)
+
+abbrev pub maskB : Marks → (ℕ → Vector) → ℕ → Vector
+maskB M vec r = less (vec (rightOf M r)) (vec (r + 1))
+
+abbrev pub written : Marks → (ℕ → Vector) → ℕ → Vector
+written M vec r = productVector (number (maskA M vec r) .0) (number (maskB M vec r) .0) (vec r) (vec (r + 1)) (vec (r + 2))
+
+-- after a call that is not refused
+abbrev pub marksAfter : Call → Marks → Marks
+marksAfter (loadRow r pack) M = remarked M r 1
+marksAfter (loadTriple r pack) M = tripled M r
+marksAfter (deal r c) M = remarked M r 2
+marksAfter (message r lent) M = M
+marksAfter (opening r blocks) M = M
+marksAfter (linear r a b scale) M = remarked M r 2
+marksAfter (masks a b r lent) M = masked M r a b
+marksAfter (finish r blocks blocks') M = finished M r
+
+abbrev pub vectorsAfter : Plan → Draw → Call → Marks → (ℕ → Vector) → ℕ → Vector
+vectorsAfter plan draw (loadRow r pack) M vec = at vec r (rawVector plan draw r)
+vectorsAfter plan draw (loadTriple r pack) M vec =
+    at (at (at vec r (vectorA plan draw r)) (r + 1) (vectorB plan draw r)) (r + 2) (vectorAB plan draw r)
+vectorsAfter plan draw (deal r c) M vec = at vec r (raised (element c) (vec r))
+vectorsAfter plan draw (message r lent) M vec = vec
+vectorsAfter plan draw (opening r blocks) M vec = vec
+vectorsAfter plan draw (linear r a b scale) M vec = at vec r (plusTimes (element scale) (vec a) (vec b))
+vectorsAfter plan draw (masks a b r lent) M vec = vec
+vectorsAfter plan draw (finish r blocks blocks') M vec = at vec (r + 2) (written M vec r)

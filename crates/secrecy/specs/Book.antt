@@ -1,0 +1,60 @@
+-- Document 01, "The plain book is fed the calls with the row numbers and fixed elements they name, the secrets and, of the
+-- answers, only which calls are refused."
+use Prim.Native.Nat.{ℕ, _+_}
+use mathlib.Core.Path.{_≡_}
+use mathlib.Core.List.{List, [], _∷_}
+use Rattle.field.specs.Arithmetic.{sum, product}
+use Rattle.refusal.specs.Refusal.{outcome}
+use Rattle.runs.specs.Calls.{at}
+use Rattle.secrecy.specs.Steps
+use Rattle.secrecy.specs.Steps.{Secrets, Step, loadRow, loadTriple, deal, message, opening, linear, masks, finish}
+use Rattle.secrecy.specs.Seen.{Entry}
+use Rattle.secrecy.specs.Rules.{refusalOf}
+
+-- "It has a place for each of the 96 rows and two for each triple, all blank at first."
+pub record Book : Type 0 where
+  pub place : ℕ → ℕ
+  pub factorA : ℕ → ℕ
+  pub factorB : ℕ → ℕ
+
+unfoldable pub blank : Book
+blank = record { place = λ r. 0; factorA = λ r. 0; factorB = λ r. 0 }
+
+abbrev pub placed : Book → ℕ → ℕ → Book
+placed b r x = record { place = at (b .place) r x; factorA = b .factorA; factorB = b .factorB }
+
+abbrev pub noted : Book → ℕ → ℕ → ℕ → Book
+noted b r x y = record { place = b .place; factorA = at (b .factorA) r x; factorB = at (b .factorB) r y }
+
+-- "Deal puts u in its row's place. Linear puts a's number plus s times b's in the new row's. Masks keep the numbers of a and b
+-- with the triple; when its product is written, the third row gets one times the other. Other calls ... change nothing."
+abbrev pub entered : Secrets → Step → Book → Book
+entered u (loadRow r pack) b = b
+entered u (loadTriple r pack) b = b
+entered u (deal r c) b = placed b r (u r)
+entered u (message r lent) b = b
+entered u (opening r blocks) b = b
+entered u (linear r x y scale) b = placed b r (sum (b .place x) (product scale (b .place y)))
+entered u (masks x y r lent) b = noted b r (b .place x) (b .place y)
+entered u (finish r blocks blocks') b = placed b (r + 2) (product (b .factorA r) (b .factorB r))
+
+-- "and refused ones, change nothing"
+abbrev pub booked : Secrets → Step → ℕ → Book → Book
+booked u c refusal b = outcome refusal (entered u c b) b
+
+-- "A number agrees when, at each opening message not refused, its row's place is the same under both lists of secrets."
+abbrev pub Agrees : Step → ℕ → Book → Book → Type 0
+Agrees (loadRow r pack) k b b' = Unit {0}
+Agrees (loadTriple r pack) k b b' = Unit {0}
+Agrees (deal r c) k b b' = Unit {0}
+Agrees (message r lent) k b b' = k ≡ 0 → b .place r ≡ b' .place r
+Agrees (opening r blocks) k b b' = Unit {0}
+Agrees (linear r x y scale) k b b' = Unit {0}
+Agrees (masks x y r lent) k b b' = Unit {0}
+Agrees (finish r blocks blocks') k b b' = Unit {0}
+
+abbrev pub Agree : Secrets → Secrets → List Step → List Entry → Book → Book → Type 0
+Agree u u' [] es b b' = Unit {0}
+Agree u u' (c ∷ cs) [] b b' = Unit {0}
+Agree u u' (c ∷ cs) (e ∷ es) b b' =
+    Agrees c (refusalOf e) b b' × Agree u u' cs es (booked u c (refusalOf e) b) (booked u' c (refusalOf e) b')

@@ -1,0 +1,5 @@
+pub mod Steps
+pub mod Seen
+pub mod Rules
+pub mod Book
+pub mod Claim

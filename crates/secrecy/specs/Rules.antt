@@ -1,0 +1,82 @@
+-- Document 01, "What a group of posts sees": "To keep the rules", and that all posts get the same answers. Both are properties
+-- of a record, whatever the draw.
+use Prim.Native.Nat.{ℕ, _+_, _*_, _≤_}
+use mathlib.Core.Path.{_≡_}
+use mathlib.Core.Bool.{true}
+use mathlib.Core.Logic.{_≢_, _⊎_}
+use mathlib.Core.List.{List, [], _∷_, _++_}
+use lib.ListN.{length, take, drop, getD}
+use Rattle.poly.specs.Counting.{All, Elements}
+use Rattle.opening.specs.Walking.{blockMark, blockCoefficients}
+use Rattle.runs.specs.Draws.{Plan, IsRaw}
+use Rattle.runs.specs.Calls.{openingLine, masksLine}
+use Rattle.secrecy.specs.Steps
+use Rattle.secrecy.specs.Steps.{Pack, Number, Step, own, sent, loadRow, loadTriple, deal, message, opening, linear, masks, finish}
+use Rattle.secrecy.specs.Seen.{Entry}
+
+-- a member of a list
+abbrev pub Among : {A : Type 0} → A → List A → Type 0
+Among x [] = ⊥
+Among x (y ∷ ys) = (x ≡ y) ⊎ Among x ys
+
+-- The refusal of a call, at post 1; and "the same answers" at every post: of them only the refusals are asked for, since the
+-- numbers opened are then the same.
+abbrev pub refusalOf : Entry → ℕ
+refusalOf e = getD (e .refusals) 0 0
+
+abbrev pub AllSame : List ℕ → Type 0
+AllSame [] = Unit {0}
+AllSame (x ∷ xs) = All (λ y. y ≡ x) xs
+
+abbrev pub SameAnswers : List Entry → Type 0
+SameAnswers es = All (λ e. AllSame (e .refusals)) es
+
+-- "to load ... nothing but its own part of drawn rows and triples, each at most once, as drawn and into the rows it was drawn
+-- for". Once, since a row that was loaded is never empty again.
+abbrev pub OwnPack : Pack → ℕ → Type 0 → Type 0
+OwnPack (own k) r Drawn = (k ≡ r) × Drawn
+OwnPack (Pack.fixed xs) r Drawn = ⊥
+
+-- "to deal a row with the c its dealer broadcast"
+abbrev pub FromDealer : Number → Type 0
+FromDealer sent = Unit {0}
+FromDealer (Number.fixed x) = ⊥
+
+-- "to put in records only what its sender broadcast for that row": each present block, but the post's own. `Shown j xs` says
+-- that post j broadcast xs.
+abbrev pub OnlySent : Plan → (ℕ → List ℕ → Type 0) → (ℕ → List ℕ) → Type 0
+OnlySent plan Shown blocks =
+    (i j : ℕ) → 1 ≤ i → i ≤ plan .n → 1 ≤ j → j ≤ plan .n → j ≢ i → blockMark (plan .t + 1) (blocks i) j ≡ 1
+    → Shown j (blockCoefficients (plan .t + 1) (blocks i) j)
+
+-- Post j broadcast xs for row r.
+abbrev pub ShownFor : ℕ → List (List ℕ) → ℕ → List ℕ → Type 0
+ShownFor r lines j xs = Among (openingLine r j xs) lines
+
+-- "or for that factor of that triple": xs is one half of an M line of post j, which has 2(t+1) elements.
+abbrev pub ShownHalf : Plan → ℕ → (List ℕ → List ℕ) → List (List ℕ) → ℕ → List ℕ → Type 0
+ShownHalf plan r half lines j xs =
+    (both : List ℕ) × (length both ≡ 2 * (plan .t + 1)) × Elements both × Among (masksLine r j both) lines × (xs ≡ half both)
+
+-- An opening that comes to the walk: not refused, or refused with 9.
+abbrev pub Walks : ℕ → Type 0
+Walks k = (k ≡ 0) ⊎ (k ≡ 9)
+
+-- The rules for one call with the refusal k, after the lines broadcast before it.
+abbrev pub Rule : Plan → Step → ℕ → List (List ℕ) → Type 0
+Rule plan (loadRow r pack) k lines = k ≡ 0 → OwnPack pack r (IsRaw (plan .raw r))
+Rule plan (loadTriple r pack) k lines = k ≡ 0 → OwnPack pack r (plan .triple r ≡ true)
+Rule plan (deal r c) k lines = k ≡ 0 → FromDealer c
+Rule plan (message r lent) k lines = Unit {0}
+Rule plan (opening r blocks) k lines = Walks k → OnlySent plan (ShownFor r lines) (λ i. blocks i lines)
+Rule plan (linear r a b scale) k lines = Unit {0}
+Rule plan (masks a b r lent) k lines = Unit {0}
+Rule plan (finish r blocks blocks') k lines =
+    Walks k
+    → OnlySent plan (ShownHalf plan r (take (plan .t + 1)) lines) (λ i. blocks i lines)
+    × OnlySent plan (ShownHalf plan r (drop (plan .t + 1)) lines) (λ i. blocks' i lines)
+
+abbrev pub Rules : Plan → List Step → List Entry → List (List ℕ) → Type 0
+Rules plan [] es lines = Unit {0}
+Rules plan (c ∷ cs) [] lines = Unit {0}
+Rules plan (c ∷ cs) (e ∷ es) lines = Rule plan c (refusalOf e) lines × Rules plan cs es (lines ++ e .lines)
