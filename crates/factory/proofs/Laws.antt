@@ -72,12 +72,12 @@ module _ (n k : ℕ) (draw : List ℕ) (drawn : length draw ≡ drawLength n k) 
         rw e at (part-from (i - 1) 1 n (omega arith) (omega arith))
 
 -- a part's numbers are elements where the draw's are
-elements-take : (m : ℕ) (l : List ℕ) → Elements l → Elements (take m l)
+pub elements-take : (m : ℕ) (l : List ℕ) → Elements l → Elements (take m l)
 elements-take zero l a = tt
 elements-take (suc m) [] a = tt
 elements-take (suc m) (x ∷ l) a = (a .0, elements-take m l (a .1))
 
-elements-drop : (m : ℕ) (l : List ℕ) → Elements l → Elements (drop m l)
+pub elements-drop : (m : ℕ) (l : List ℕ) → Elements l → Elements (drop m l)
 elements-drop zero l a = a
 elements-drop (suc m) [] a = tt
 elements-drop (suc m) (x ∷ l) a = elements-drop m l (a .1)

@@ -1,1 +1,4 @@
 pub mod Marks
+pub mod Outcomes
+pub mod Packs
+pub mod Holds

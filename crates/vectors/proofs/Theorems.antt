@@ -32,7 +32,7 @@ use Rattle.opening.proofs.Opens.{open-allowed}
 use Rattle.opening.proofs.Theorems.{open-nine, open-number}
 use Rattle.opening.proofs.Accepted.{Accepted, all-accepted, distinct-accepted, accepted-enough}
 use Rattle.vectors.specs.Vector.{Vector, plusTimes, number, firsts, numbers, valueAt, checkOf, sumAt, rowOf, vectorOf}
-use Rattle.vectors.specs.Claims.{PartLinear, heldRow, AcceptedAgrees, TrueAccepted, OpeningExact}
+use Rattle.vectors.specs.Claims.{PartLinear, heldRow, Truly, AcceptedAgrees, TrueAccepted, OpeningExact}
 use Rattle.vectors.proofs.Linear.{length-numbers, row-plusTimes}
 use Rattle.vectors.proofs.Draws.{value-numbers, part-is-row}
 open CommutativeRing 𝓡 using (add as _⊕_, mul as _⊗_, neg)
@@ -220,6 +220,13 @@ module _ (s : Session) (S : Vector) (blocks : List ℕ) where
       rw (e, ne-eqb (length (numbers (s .t + 1) (S .v (suc j)))) 0 (λ z. omega (arith, length-numbers (s .t + 1) (S .v (suc j)))))
       (eq-eqb (value (numbers (s .t + 1) (S .v (suc j))) (s .point)) (checkValue s row (suc j)) (sym (check-of-row j h)))
 
+-- the number that the walk's posts give, where each is true
+pub opened-exact : (s : Session) (S : Vector) (blocks : List ℕ) → s .n < p
+    → All (Truly s S blocks) (acceptedPosts s (heldRow s S) blocks) → tooFew s (heldRow s S) blocks ≡ false
+    → opened s (heldRow s S) blocks ≡ number S .0
+unfolding row posts
+opened-exact s S blocks = exact s S blocks
+
 pub accepted-agrees : AcceptedAgrees
 unfolding row
 accepted-agrees s S blocks zero lo hi e = absurd (omega arith)
@@ -237,7 +244,7 @@ opening-exact s S rows r blocks clear held = (
   λ enough true-all.
       open-number s rows r blocks clear (rw held enough)
       ∙ ap (λ (x : List ℕ). holding 0 (opened s x blocks) s) held
-      ∙ ap (λ (v : ℕ). holding 0 v s) (exact s S blocks posts-few true-all enough),
+      ∙ ap (λ (v : ℕ). holding 0 v s) (opened-exact s S blocks posts-few true-all enough),
 )
   where
     posts-few : s .n < p
