@@ -1,41 +1,31 @@
 -- One post: each row with a mark is its part of the row's vector; and each call that is not refused keeps that.
-use Prim.Native.Nat.{ℕ, suc, _+_, _*_, _-_, _≤_, _<_}
-use mathlib.Core.Path.{_≡_, refl, sym, _∙_, ap, ap₂, subst}
+use Prim.Native.Nat.{ℕ, suc, _+_, _*_, _≤_, _<_}
+use mathlib.Core.Path.{_≡_, sym, _∙_, ap, ap₂, subst}
 use mathlib.Core.Bool.{false}
 use mathlib.Core.Logic.{_≢_}
-use mathlib.Core.List.{List, [], _∷_, _++_, append-assoc}
+use mathlib.Core.List.{List, _++_, append-assoc}
 use native.Mathlib.Nat.{zero-mul, one-mul}
 use native.Mathlib.Decide.{ℕ-discrete}
 use native.Mathlib.Omega.{arith}
 use borrow.Author.Tests.{ltb-false}
 use lib.ListN.{length, take, drop, getD, set, length-append}
 use lib.Seq.{take-at, drop-at, take-all, getD-set-other}
-use Rattle.field.specs.Modulus.{p}
-use Rattle.field.specs.Arithmetic.{product}
 use Rattle.field.specs.Element.{element}
-use Rattle.poly.specs.Counting.{All}
-use Rattle.refusal.specs.Refusal.{first}
 use Rattle.refusal.proofs.Laws.{equal}
 use Rattle.session.specs.declared.Session.{Session}
-use Rattle.session.specs.Sessions.{mark, marked, remembering}
-use Rattle.session.specs.Rows.{width, sumsAt, rowAt, withRow, combined, plusSums}
-use Rattle.session.specs.Checks.{unlike, noRow}
+use Rattle.session.specs.Sessions.{mark}
+use Rattle.session.specs.Rows.{sumsAt, rowAt, withRow, combined, plusSums}
+use Rattle.session.specs.Checks.{unlike}
 use Rattle.session.proofs.RowLaws.{length-with-row, row-same, row-other}
 use Rattle.sharing.specs.Load.{loadRowTests, loadRowRefusal, loadTripleTests, loadTripleRefusal, withTriple}
 use Rattle.sharing.specs.Deal.{dealTests, dealRefusal}
 use Rattle.sharing.specs.Linear.{linearTests, linearRefusal}
-use Rattle.opening.specs.Walking.{acceptedPosts, tooFew, opened}
 use Rattle.product.specs.Masks.{masksTests, masksRefusal}
-use Rattle.product.specs.Finish as Finish
-use Rattle.product.specs.Finish.{finishTests, finishRefusal, productRow, withProduct}
-use Rattle.vectors.specs.Vector.{Vector, plusTimes, raised, number, numbers, rowOf}
-use Rattle.vectors.specs.Claims.{heldRow, Truly}
+use Rattle.vectors.specs.Vector.{Vector, plusTimes, raised, numbers, rowOf}
 use Rattle.vectors.proofs.Linear.{length-numbers, row-plusTimes, row-raised}
-use Rattle.vectors.proofs.Theorems.{opened-exact}
 use Rattle.runs.specs.Draws.{Plan, Draw, pointOf}
-use Rattle.runs.specs.Calls.{Post, at}
-use Rattle.runs.proofs.Marks
-use Rattle.runs.proofs.Marks.{Marks, markOf, leftOf, rightOf, remarked, masked, tripled, finished, sessionAt, less, productVector, maskA, maskB, at-same, at-other}
+use Rattle.runs.specs.Calls.{at}
+use Rattle.runs.proofs.Marks.{Marks, markOf, remarked, masked, tripled, sessionAt, at-same, at-other}
 use Rattle.runs.proofs.Outcomes.{conditionAt, passed}
 use Rattle.runs.proofs.Packs.{rowFor}
 

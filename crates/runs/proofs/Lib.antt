@@ -2,3 +2,5 @@ pub mod Marks
 pub mod Outcomes
 pub mod Packs
 pub mod Holds
+pub mod Finishing
+pub mod Steps

@@ -44,6 +44,11 @@ unfolding outcome
 answer-value zero v new old z = refl
 answer-value (suc k) v new old z = absurd (omega arith)
 
+pub done-is : {A : Type 0} (k : ℕ) (new old : A) → k ≡ 0 → outcome k new old ≡ new
+unfolding outcome
+done-is zero new old z = refl
+done-is (suc k) new old z = absurd (omega arith)
+
 -- the post after an answer with the refusal k
 pub settled : (k v : ℕ) (new old : Session) (l' l : List ℕ) → k ≡ 0
     → _≡_ {A = Post} (record { session = answer k v new old .session; rows = outcome k l' l }) (record { session = new; rows = l' })

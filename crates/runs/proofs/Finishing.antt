@@ -1,0 +1,118 @@
+-- One post's finish: where the polynomials it accepted are truly their senders', the third row is its part of the product.
+use Prim.Native.Nat.{ℕ, suc, _+_, _*_, _-_, _≤_, _<_}
+use mathlib.Core.Path.{_≡_, refl, sym, _∙_, ap, ap₂, subst}
+use mathlib.Core.Bool.{false}
+use mathlib.Core.Logic.{_≢_}
+use mathlib.Core.List.{List, []}
+use native.Mathlib.Decide.{ℕ-discrete}
+use native.Mathlib.Omega.{arith}
+use borrow.Author.Tests.{ltb-false}
+use lib.ListN.{length, getD, set}
+use lib.Seq.{getD-set-other}
+use Rattle.field.specs.Modulus.{p}
+use Rattle.field.specs.Arithmetic.{product}
+use Rattle.field.specs.Element.{element}
+use Rattle.poly.specs.Counting.{All}
+use Rattle.refusal.proofs.Laws.{inside, equal}
+use Rattle.session.specs.declared.Session.{Session}
+use Rattle.session.specs.Rows.{sumsAt, rowAt, combined, plusSums}
+use Rattle.opening.specs.Walking.{acceptedPosts, tooFew, opened}
+use Rattle.product.specs.Finish as Finish
+use Rattle.product.specs.Finish.{finishTests, finishRefusal, productRow, withProduct}
+use Rattle.vectors.specs.Vector.{Vector, plusTimes, raised, number}
+use Rattle.vectors.specs.Claims.{heldRow, Truly}
+use Rattle.vectors.proofs.Linear.{row-plusTimes, row-raised}
+use Rattle.vectors.proofs.Theorems.{opened-exact}
+use Rattle.runs.specs.Draws.{Plan, Draw, pointOf}
+use Rattle.runs.specs.Calls.{at}
+use Rattle.runs.proofs.Marks.{Marks, markOf, leftOf, rightOf, remarked, finished, sessionAt, productVector, maskA, maskB, written}
+use Rattle.runs.proofs.Outcomes.{conditionAt, passed}
+use Rattle.runs.proofs.Packs.{rowFor}
+use Rattle.runs.proofs.Holds.{Holds, put-holds, keep-holds, held-row, combined-row}
+
+-- the accepted polynomials are the senders' own of the vector S
+abbrev pub AllTrue : Session → Vector → List ℕ → Type 0
+AllTrue s S blocks = All (Truly s S blocks) (acceptedPosts s (heldRow s S) blocks)
+
+module _ (plan : Plan) (draw : Draw) (len i : ℕ) (M : Marks) (vec : ℕ → Vector) (l : List ℕ) (h : Holds plan draw len i M vec l) where
+  abbrev s : Session
+  s = sessionAt plan draw i M
+
+  abbrev W : ℕ
+  W = plan .t + 1 + 2 * plan .n
+
+  row-of-product : (y y' : ℕ) (a b c : Vector)
+      → productRow s y y' (rowFor plan draw i a) (rowFor plan draw i b) (rowFor plan draw i c)
+      ≡ rowFor plan draw i (productVector y y' a b c)
+  unfolding productRow
+  row-of-product y y' a b c =
+      let w = element (pointOf draw i) in
+      ap (plusSums (sumsAt s) (product y y'))
+      (ap (λ (x : List ℕ). combined y' x (rowFor plan draw i a)) (sym (row-plusTimes (plan .t + 1) (plan .n) i y w c b))
+      ∙ sym (row-plusTimes (plan .t + 1) (plan .n) i y' w (plusTimes (element y) c b) a))
+      ∙ sym (row-raised (plan .t + 1) (plan .n) i (product y y') w _)
+
+  module _ (r : ℕ) (blocks blocks' : List ℕ) (z : finishRefusal s l r blocks blocks' ≡ 0) where
+    f : (k : ℕ) → conditionAt (finishTests s l r blocks blocks') k ≡ false
+    unfolding finishRefusal
+    f = passed (finishTests s l r blocks blocks') tt z
+
+    low : r ≤ 93
+    low = ltb-false 93 r (f 7)
+
+    few : plan .n < p
+    few = let n-in = inside 2 32 (plan .n) (f 0) in omega arith
+
+    -- the rows of the triple, and those that are opened
+    row-a : rowAt W l r ≡ rowFor plan draw i (vec r)
+    row-a = held-row plan draw len i M vec l h r 4 (omega (arith, low)) (f 12)
+
+    row-b : rowAt W l (r + 1) ≡ rowFor plan draw i (vec (r + 1))
+    row-b = held-row plan draw len i M vec l h (r + 1) 3 (omega (arith, low)) (f 13)
+
+    row-ab : rowAt W l (r + 2) ≡ rowFor plan draw i (vec (r + 2))
+    row-ab = held-row plan draw len i M vec l h (r + 2) 3 (omega (arith, low)) (f 14)
+
+    pub opens-a : Finish.maskA s l r ≡ heldRow s (maskA M vec r)
+    opens-a =
+        combined-row plan draw len i M vec l h (p - 1) (leftOf M r) r
+        (held-row plan draw len i M vec l h (leftOf M r) 1 (ltb-false 95 (leftOf M r) (f 8)) (f 10)) row-a
+
+    pub opens-b : Finish.maskB s l r ≡ heldRow s (maskB M vec r)
+    opens-b =
+        combined-row plan draw len i M vec l h (p - 1) (rightOf M r) (r + 1)
+        (held-row plan draw len i M vec l h (rightOf M r) 1 (ltb-false 95 (rightOf M r) (f 9)) (f 11)) row-b
+
+    opened-is : (x : List ℕ) (S : Vector) (bl : List ℕ) → x ≡ heldRow s S → AllTrue s S bl → tooFew s x bl ≡ false
+        → opened s x bl ≡ number S .0
+    opened-is x S bl e true-all enough =
+        ap (λ (y : List ℕ). opened s y bl) e
+        ∙ opened-exact s S bl few true-all (sym (ap (λ (y : List ℕ). tooFew s y bl) e) ∙ enough)
+
+    before : (q : ℕ) → q < 96 → markOf (remarked (remarked M r 6) (r + 1) 6) q ≢ 0 → markOf M q ≢ 0
+    before q lq ne = go (ℕ-discrete q r) (ℕ-discrete q (r + 1))
+      where
+        go : Dec (q ≡ r) → Dec (q ≡ r + 1) → markOf M q ≢ 0
+        go (yes e) d = λ g. omega (arith, equal (markOf M r) 5 (f 12), ap (markOf M) e)
+        go (no e) (yes d) = λ g. omega (arith, equal (markOf M (r + 1)) 4 (f 13), ap (markOf M) d)
+        go (no e) (no d) =
+            subst (λ (m : ℕ). m ≢ 0) (getD-set-other (set (M .marks) r 6) (r + 1) q 6 0 d ∙ getD-set-other (M .marks) r q 6 0 e) ne
+
+    pub finish-holds : AllTrue s (maskA M vec r) blocks → AllTrue s (maskB M vec r) blocks'
+        → Holds plan draw len i (finished M r) (at vec (r + 2) (written M vec r))
+        (withProduct s (opened s (Finish.maskA s l r) blocks) (opened s (Finish.maskB s l r) blocks') r l)
+    unfolding withProduct
+    finish-holds ta tb =
+        put-holds plan draw len i (remarked (remarked M r 6) (r + 1) 6) vec l
+        (keep-holds plan draw len i M (remarked (remarked M r 6) (r + 1) 6) vec l h before) (equal _ _ (f 4)) (r + 2) 2
+        (omega (arith, low)) _ _ (ap₂ (λ (y y' : ℕ). productRow s y y' (rowAt W l r) (rowAt W l (r + 1)) (rowAt W l (r + 2))) ya yb ∙ rows-are ∙ row-of-product _ _ _ _ _)
+      where
+        ya : opened s (Finish.maskA s l r) blocks ≡ number (maskA M vec r) .0
+        ya = opened-is (Finish.maskA s l r) (maskA M vec r) blocks opens-a ta (f 22)
+
+        yb : opened s (Finish.maskB s l r) blocks' ≡ number (maskB M vec r) .0
+        yb = opened-is (Finish.maskB s l r) (maskB M vec r) blocks' opens-b tb (f 23)
+
+        rows-are : productRow s (number (maskA M vec r) .0) (number (maskB M vec r) .0) (rowAt W l r) (rowAt W l (r + 1)) (rowAt W l (r + 2))
+            ≡ productRow s (number (maskA M vec r) .0) (number (maskB M vec r) .0) (rowFor plan draw i (vec r)) (rowFor plan draw i (vec (r + 1))) (rowFor plan draw i (vec (r + 2)))
+        rows-are = λ j. productRow s (number (maskA M vec r) .0) (number (maskB M vec r) .0) (row-a j) (row-b j) (row-ab j)
