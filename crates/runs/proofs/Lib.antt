@@ -4,3 +4,5 @@ pub mod Packs
 pub mod Holds
 pub mod Finishing
 pub mod Steps
+pub mod Lines
+pub mod Records

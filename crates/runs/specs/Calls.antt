@@ -1,6 +1,8 @@
 -- Document 01, "Calls on a session", as steps of a run: each call by the definitions that its contract cites, and what it
 -- broadcasts.
 use Prim.Native.Nat.{ℕ, zero, suc}
+use mathlib.Core.Path.{_≡_}
+use mathlib.Core.Logic.{_⊎_}
 use mathlib.Core.Bool.{cond}
 use mathlib.Core.List.{List, [], _∷_}
 use lib.Dec.{eqb}
@@ -85,6 +87,11 @@ broadcast i (opening r blocks) o = []
 broadcast i (linear r a b scale) o = []
 broadcast i (masks a b r lent) o = sentIf (o .answer .refusal) (masksLine r i (o .lent))
 broadcast i (finish r blocks blocks') o = []
+
+-- A member of a list.
+abbrev pub Among : {A : Type 0} → A → List A → Type 0
+Among x [] = ⊥
+Among x (y ∷ ys) = (x ≡ y) ⊎ Among x ys
 
 -- A function changed at one place.
 unfoldable pub at : {A : Type 0} → (ℕ → A) → ℕ → A → ℕ → A

@@ -9,15 +9,10 @@ use lib.ListN.{length, take, drop, getD}
 use Rattle.poly.specs.Counting.{All, Elements}
 use Rattle.opening.specs.Walking.{blockMark, blockCoefficients}
 use Rattle.runs.specs.Draws.{Plan, IsRaw}
-use Rattle.runs.specs.Calls.{openingLine, masksLine}
+use Rattle.runs.specs.Calls.{openingLine, masksLine, Among}
 use Rattle.secrecy.specs.Steps
 use Rattle.secrecy.specs.Steps.{Pack, Number, Step, own, sent, loadRow, loadTriple, deal, message, opening, linear, masks, finish}
 use Rattle.secrecy.specs.Seen.{Entry}
-
--- a member of a list
-abbrev pub Among : {A : Type 0} → A → List A → Type 0
-Among x [] = ⊥
-Among x (y ∷ ys) = (x ≡ y) ⊎ Among x ys
 
 -- The refusal of a call, at post 1; and "the same answers" at every post: of them only the refusals are asked for, since the
 -- numbers opened are then the same.

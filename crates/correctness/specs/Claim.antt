@@ -1,0 +1,83 @@
+-- Demand 2 over whole runs: "where each polynomial accepted in every post's finishes before it, and in this opening, is truly
+-- its sender's, an opening that accepts t+1 or more gives exactly the plain number, and one that accepts fewer is refused with 9".
+use Prim.Native.Nat.{ℕ, _+_, _≤_}
+use mathlib.Core.Path.{_≡_}
+use mathlib.Core.Bool.{true, false}
+use mathlib.Core.Logic.{_≢_, _⊎_}
+use mathlib.Core.List.{List}
+use lib.ListN.{length}
+use Rattle.poly.specs.Counting.{All, count}
+use Rattle.session.specs.declared.Session.{Session}
+use Rattle.session.specs.Sessions.{mark}
+use Rattle.session.specs.Rows.{width, rowAt}
+use Rattle.opening.specs.Walking.{recordLength, badRecord, sent, accepts}
+use Rattle.opening.specs.Opening.{openAnswer}
+use Rattle.product.specs.Finish.{maskA, maskB, finishAnswer}
+use Rattle.runs.specs.Draws.{Plan, Draw, IsDraw, Sound}
+use Rattle.runs.specs.Calls.{Post}
+use Rattle.correctness.specs.History.{Event, World, history, begin, Each}
+use Rattle.correctness.specs.Ledger.{Ledger, Written, Plain}
+use Rattle.correctness.specs.Truth.{OwnPart, Told, Owned, TrueOf, TrueFinish}
+
+-- The premises: posts 1 to n; sessions of one draw; the same deals, sums and masks; true polynomials in every post's finishes.
+pub record Premises (plan : Plan) (draw : Draw) (L : Ledger) (es : List Event) (w : World) : Type 0 where
+  pub sound : Sound plan
+  pub is-draw : IsDraw plan draw
+  pub posts : All (λ e. (1 ≤ e .post) × (e .post ≤ plan .n)) es
+  pub parts : Each (λ e v. OwnPart plan draw (e .post) (e .call)) es w
+  pub ledger : Each (λ e v. Written draw L (e .call)) es w
+  pub finishes : Each (λ e v. TrueFinish (v .posts (e .post)) (v .lines) (e .call)) es w
+
+-- A record that 5 and 8 let pass.
+pub record Proper (s : Session) (blocks : List ℕ) : Type 0 where
+  pub long : length blocks ≡ recordLength s
+  pub low : badRecord s blocks ≡ false
+
+-- How many polynomials a post accepts for a row, those behind the place where its walk stops too.
+abbrev pub accepted : Session → List ℕ → List ℕ → ℕ
+accepted s row blocks = count (accepts s row blocks) 1 (s .n)
+
+-- Post q opens the held row r with a record. P j xs says that xs is truly j's polynomial of that row.
+pub record Opens (L : Ledger) (P : ℕ → List ℕ → Type 0) (q : Post) (r : ℕ) (blocks : List ℕ) : Type 0 where
+  pub few : accepted (q .session) (rowAt (width (q .session)) (q .rows) r) blocks ≤ q .session .t
+      → openAnswer (q .session) (q .rows) r blocks .refusal ≡ 9
+  pub enough : q .session .t + 1 ≤ accepted (q .session) (rowAt (width (q .session)) (q .rows) r) blocks
+      → openAnswer (q .session) (q .rows) r blocks .refusal ≡ 0
+  pub exact : q .session .t + 1 ≤ accepted (q .session) (rowAt (width (q .session)) (q .rows) r) blocks
+      → TrueOf P (q .session) (rowAt (width (q .session)) (q .rows) r) blocks
+      → Plain L r (openAnswer (q .session) (q .rows) r blocks .value)
+
+-- Post q finishes the triple at r, whose masks it made: 9, or done and the third row held.
+pub record Finishes (q : Post) (r : ℕ) (blocks blocks' : List ℕ) : Type 0 where
+  pub few : (accepted (q .session) (maskA (q .session) (q .rows) r) blocks ≤ q .session .t)
+      ⊎ (accepted (q .session) (maskB (q .session) (q .rows) r) blocks' ≤ q .session .t)
+      → finishAnswer (q .session) (q .rows) r blocks blocks' .refusal ≡ 9
+  pub enough : q .session .t + 1 ≤ accepted (q .session) (maskA (q .session) (q .rows) r) blocks
+      → q .session .t + 1 ≤ accepted (q .session) (maskB (q .session) (q .rows) r) blocks'
+      → (finishAnswer (q .session) (q .rows) r blocks blocks' .refusal ≡ 0)
+      × (mark (finishAnswer (q .session) (q .rows) r blocks blocks' .session) (r + 2) ≡ 2)
+
+-- What is so at a post: of every opening of a held row and every finish, with records that 5 and 8 let pass; and a polynomial
+-- that is truly its sender's is accepted. P r j xs says that xs is truly j's polynomial of row r.
+pub record Right (L : Ledger) (P : ℕ → ℕ → List ℕ → Type 0) (q : Post) : Type 0 where
+  pub opens : (r : ℕ) (blocks : List ℕ) → mark (q .session) r ≡ 2 → Proper (q .session) blocks → Opens L (P r) q r blocks
+  pub accepts-true : (r : ℕ) (blocks : List ℕ) (j : ℕ) → mark (q .session) r ≡ 2 → Proper (q .session) blocks
+      → 1 ≤ j → j ≤ q .session .n → j ≢ q .session .post
+      → P r j (sent (q .session) (rowAt (width (q .session)) (q .rows) r) blocks j)
+      → accepts (q .session) (rowAt (width (q .session)) (q .rows) r) blocks j ≡ true
+  pub finishes : (r : ℕ) (blocks blocks' : List ℕ) → mark (q .session) r ≡ 5 → Proper (q .session) blocks
+      → Proper (q .session) blocks' → Finishes q r blocks blocks'
+
+-- At every post, after any run: a polynomial is truly its sender's when the sender's own call made it, or when the sender
+-- holds it though it was never sent.
+abbrev pub Correct : Type 0
+Correct =
+    (plan : Plan) (draw : Draw) (L : Ledger) (rows : ℕ → List ℕ) (es : List Event) → Premises plan draw L es (begin plan draw rows)
+    → (i : ℕ) → 1 ≤ i → i ≤ plan .n
+    → Right L (Told (history es (begin plan draw rows) .lines)) (history es (begin plan draw rows) .posts i)
+
+abbrev pub CorrectHeld : Type 0
+CorrectHeld =
+    (plan : Plan) (draw : Draw) (L : Ledger) (rows : ℕ → List ℕ) (es : List Event) → Premises plan draw L es (begin plan draw rows)
+    → (i : ℕ) → 1 ≤ i → i ≤ plan .n
+    → Right L (Owned (history es (begin plan draw rows))) (history es (begin plan draw rows) .posts i)

@@ -1,0 +1,4 @@
+pub mod History
+pub mod Ledger
+pub mod Truth
+pub mod Claim

@@ -1,0 +1,60 @@
+-- A polynomial that is "truly its sender's": what the sender's own call made, earlier in the order.
+use Prim.Native.Nat.{ℕ, _+_, _*_}
+use mathlib.Core.Path.{_≡_}
+use mathlib.Core.Bool.{true}
+use mathlib.Core.Logic.{_≢_}
+use mathlib.Core.List.{List}
+use lib.ListN.{length, take, drop}
+use Rattle.poly.specs.Counting.{All, Elements}
+use Rattle.session.specs.declared.Session.{Session}
+use Rattle.session.specs.Sessions.{mark}
+use Rattle.session.specs.Rows.{width, coefficients, rowAt}
+use Rattle.opening.specs.Walking.{sent, acceptedPosts}
+use Rattle.product.specs.Finish.{maskA, maskB}
+use Rattle.runs.specs.Draws.{Plan, Draw, IsRaw, rawPack, triplePack}
+use Rattle.runs.specs.Calls.{Post, Call, loadRow, loadTriple, deal, message, opening, linear, masks, finish, openingLine, masksLine, Among}
+use Rattle.correctness.specs.History.{World}
+
+-- "sessions of one draw": what a post loads is its own part of what was drawn for those rows.
+abbrev pub OwnPart : Plan → Draw → ℕ → Call → Type 0
+OwnPart plan draw i (loadRow r pack) = IsRaw (plan .raw r) × (pack ≡ rawPack plan draw i r)
+OwnPart plan draw i (loadTriple r pack) = (plan .triple r ≡ true) × (pack ≡ triplePack plan draw i r)
+OwnPart plan draw i (deal r c) = Unit {0}
+OwnPart plan draw i (message r lent) = Unit {0}
+OwnPart plan draw i (opening r blocks) = Unit {0}
+OwnPart plan draw i (linear r a b s) = Unit {0}
+OwnPart plan draw i (masks a b r lent) = Unit {0}
+OwnPart plan draw i (finish r blocks blocks') = Unit {0}
+
+-- xs is j's opening message of row r.
+abbrev pub Told : List (List ℕ) → ℕ → ℕ → List ℕ → Type 0
+Told lines r j xs = Among (openingLine r j xs) lines
+
+-- Or, whether it was sent or not, what j holds now of row r.
+abbrev pub Owned : World → ℕ → ℕ → List ℕ → Type 0
+Owned w r j xs =
+    let s = w .posts j .session in
+    (mark s r ≡ 2) × (xs ≡ coefficients s (rowAt (width s) (w .posts j .rows) r))
+
+-- xs is a half of j's masks of the triple at r: of a − l the first t+1 numbers, of b − l' the others.
+abbrev pub ToldHalf : ℕ → (List ℕ → List ℕ) → ℕ → List (List ℕ) → ℕ → List ℕ → Type 0
+ToldHalf t half r lines j xs =
+    (both : List ℕ) × (length both ≡ 2 * (t + 1)) × Elements both × Among (masksLine r j both) lines × (xs ≡ half both)
+
+-- Of each post that is accepted, but the own one, the polynomial that counted is its: P j xs says that xs is j's.
+abbrev pub TrueOf : (ℕ → List ℕ → Type 0) → Session → List ℕ → List ℕ → Type 0
+TrueOf P s row blocks = All (λ j. j ≢ s .post → P j (sent s row blocks j)) (acceptedPosts s row blocks)
+
+-- In a finish: of both records.
+abbrev pub TrueFinish : Post → List (List ℕ) → Call → Type 0
+TrueFinish q lines (loadRow r pack) = Unit {0}
+TrueFinish q lines (loadTriple r pack) = Unit {0}
+TrueFinish q lines (deal r c) = Unit {0}
+TrueFinish q lines (message r lent) = Unit {0}
+TrueFinish q lines (opening r blocks) = Unit {0}
+TrueFinish q lines (linear r a b s) = Unit {0}
+TrueFinish q lines (masks a b r lent) = Unit {0}
+TrueFinish q lines (finish r blocks blocks') =
+    let s = q .session in
+    TrueOf (ToldHalf (s .t) (take (s .t + 1)) r lines) s (maskA s (q .rows) r) blocks
+    × TrueOf (ToldHalf (s .t) (drop (s .t + 1)) r lines) s (maskB s (q .rows) r) blocks'

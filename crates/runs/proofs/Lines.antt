@@ -1,0 +1,93 @@
+-- A broadcast line shows one message: whose it is, for which row, and its numbers.
+use Prim.Native.Nat.{ℕ, zero, suc, _+_, _*_, _≤_, _<_}
+use mathlib.Core.Path.{_≡_, refl, sym, _∙_, ap, ap₂}
+use mathlib.Core.Bool.{Bool, true, false}
+use mathlib.Core.List.{List, [], _∷_, _++_}
+use native.Mathlib.Omega.{arith}
+use borrow.Author.Tests.{le-ltb}
+use lib.Dec.{ltb}
+use lib.ListN.{length}
+use Rattle.field.specs.Element.{Element}
+use Rattle.poly.specs.Counting.{Elements}
+use Rattle.refusal.specs.Conditions.{or, beyond, anyBeyond, outside}
+use Rattle.refusal.proofs.Laws.{or-false}
+use Rattle.refusal.proofs.Elements.{below-p, element-test}
+use Rattle.decimal.specs.Numeral.{tens}
+use Rattle.forms.specs.Lines as Line
+use Rattle.forms.specs.Lines.{Message, text}
+use Rattle.forms.specs.Forms.{Sent}
+use Rattle.forms.proofs.RoundTrip.{one-message}
+use Rattle.vectors.specs.Vector.{numbers}
+use Rattle.runs.specs.Calls.{openingLine, masksLine}
+
+-- ---- elements
+
+pub elements-pass : (xs : List ℕ) → Elements xs → anyBeyond xs ≡ false
+unfolding anyBeyond
+elements-pass [] e = refl
+elements-pass (x ∷ xs) e = ap₂ or (element-test x (e .0)) (elements-pass xs (e .1))
+
+pub elements-of : (xs : List ℕ) → anyBeyond xs ≡ false → Elements xs
+unfolding anyBeyond
+elements-of [] e = tt
+elements-of (x ∷ xs) e = let h = or-false (beyond x) (anyBeyond xs) e in (below-p x (h .0), elements-of xs (h .1))
+
+pub numbers-elements : (k : ℕ) (a : ℕ → Element) → Elements (numbers k a)
+unfolding numbers
+numbers-elements zero a = tt
+numbers-elements (suc k) a = (a 0 .1, numbers-elements k (λ i. a (suc i)))
+
+pub elements-both : (xs ys : List ℕ) → Elements xs → Elements ys → Elements (xs ++ ys)
+elements-both [] ys e g = g
+elements-both (x ∷ xs) ys e g = (e .0, elements-both xs ys (e .1) g)
+
+-- ---- messages that posts send
+
+within : (low high x : ℕ) → low ≤ x → x ≤ high → outside low high x ≡ false
+within low high x a b = ap₂ or (le-ltb x low a) (le-ltb high x b)
+
+-- post j of n posts, with k coefficients to a polynomial
+module _ (n k : ℕ) (small : n < tens 10) where
+  pub record Opening (r j : ℕ) (xs : List ℕ) : Type 0 where
+    pub row : r ≤ 95
+    pub post : (1 ≤ j) × (j ≤ n)
+    pub many : length xs ≡ k
+    pub low : Elements xs
+
+  pub record Masks (r j : ℕ) (xs : List ℕ) : Type 0 where
+    pub row : r ≤ 93
+    pub post : (1 ≤ j) × (j ≤ n)
+    pub many : length xs ≡ 2 * k
+    pub low : Elements xs
+
+  in-range : (last r j : ℕ) (xs : List ℕ) → r ≤ last → (1 ≤ j) × (j ≤ n) → Elements xs
+      → or (ltb last r) (or (outside 1 n j) (anyBeyond xs)) ≡ false
+  in-range last r j xs low post e =
+      ap₂ or (le-ltb last r low) (ap₂ or (within 1 n j (post .0) (post .1)) (elements-pass xs e))
+
+  opening-sent : (r j : ℕ) (xs : List ℕ) → Opening r j xs → Sent n k (Line.opening r j xs)
+  opening-sent r j xs o =
+      record { letter-is = refl; count = o .many; no-post = λ e. absurd (omega arith); in-range = in-range 95 r j xs (o .row) (o .post) (o .low) }
+
+  masks-sent : (r j : ℕ) (xs : List ℕ) → Masks r j xs → Sent n k (Line.masks r j xs)
+  masks-sent r j xs o =
+      record { letter-is = refl; count = o .many; no-post = λ e. absurd (omega arith); in-range = in-range 93 r j xs (o .row) (o .post) (o .low) }
+
+  same-parts : (a b : Message) → a ≡ b → (a .row ≡ b .row) × (a .post ≡ b .post) × (a .numbers ≡ b .numbers)
+  same-parts a b e = (ap (λ (m : Message). m .row) e, ap (λ (m : Message). m .post) e, ap (λ (m : Message). m .numbers) e)
+
+  pub same-opening : (r j r' j' : ℕ) (xs xs' : List ℕ) → Opening r j xs → Opening r' j' xs' → openingLine r j xs ≡ openingLine r' j' xs'
+      → (r ≡ r') × (j ≡ j') × (xs ≡ xs')
+  same-opening r j r' j' xs xs' o o' e =
+      same-parts _ _ (one-message n k _ _ small (opening-sent r j xs o) (opening-sent r' j' xs' o') e)
+
+  pub same-masks : (r j r' j' : ℕ) (xs xs' : List ℕ) → Masks r j xs → Masks r' j' xs' → masksLine r j xs ≡ masksLine r' j' xs'
+      → (r ≡ r') × (j ≡ j') × (xs ≡ xs')
+  same-masks r j r' j' xs xs' o o' e =
+      same-parts _ _ (one-message n k _ _ small (masks-sent r j xs o) (masks-sent r' j' xs' o') e)
+
+  -- an O line is no M line
+  pub not-both : (r j r' j' : ℕ) (xs xs' : List ℕ) → Opening r j xs → Masks r' j' xs' → openingLine r j xs ≡ masksLine r' j' xs' → ⊥
+  not-both r j r' j' xs xs' o o' e =
+      let z : _≡_ {A = ℕ} 79 77 = ap (λ (m : Message). m .letter) (one-message n k _ _ small (opening-sent r j xs o) (masks-sent r' j' xs' o') e) in
+      omega arith
