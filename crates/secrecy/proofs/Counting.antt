@@ -1,9 +1,9 @@
 -- One-to-one matchings and counts: of a list without repetitions as many pass one test as another, where those that pass the
 -- one are matched with those that pass the other. No test of equality is asked for.
-use Prim.Native.Nat.{ℕ, suc, _≤_}
+use Prim.Native.Nat.{suc, _≤_}
 use mathlib.Core.Path.{_≡_, refl, sym, _∙_, ap, subst}
-use mathlib.Core.Bool.{Bool, true, false, cond, false≢true}
-use mathlib.Core.Logic.{_≢_, _⊎_, inl, inr}
+use mathlib.Core.Bool.{Bool, true, false, cond}
+use mathlib.Core.Logic.{_≢_, inl, inr}
 use mathlib.Core.List.{List, [], _∷_, map}
 use native.Mathlib.Omega.{arith}
 use lib.ListN.{length, length-map}
@@ -45,7 +45,7 @@ module _ {A : Type 0} where
   inside-length (x ∷ xs) ys d f =
       let m : Among x ys = f x (inl refl) in
       let rest : length xs ≤ length (without x ys m) =
-        inside-length xs (without x ys m) (d .1) (λ a k. without-among x ys m a (all-among (λ s. s ≢ x) xs (d .0) a k) (f a (inr k))) in
+      inside-length xs (without x ys m) (d .1) (λ a k. without-among x ys m a (all-among (λ s. s ≢ x) xs (d .0) a k) (f a (inr k))) in
       omega (arith, without-length x ys m)
 
   -- those that pass a test
@@ -115,10 +115,11 @@ module _ {A B : Type 0} (h : A → B) where
   pub map-distinct : (xs : List A) → ((a b : A) → Among a xs → Among b xs → h a ≡ h b → a ≡ b) → Distinct xs
       → Distinct (map h xs)
   map-distinct [] i d = tt
-  map-distinct (x ∷ xs) i d =
-      (among-all (map h xs) (λ b m e. let (a, k, q) = map-among xs b m in
+  map-distinct (x ∷ xs) i d = (
+    among-all (map h xs) (λ b m e. let (a, k, q) = map-among xs b m in
         all-among (λ s. s ≢ x) xs (d .0) a k (i a x (inr k) (inl refl) (sym q ∙ e))),
-      map-distinct xs (λ a b k l. i a b (inr k) (inr l)) (d .1))
+    map-distinct xs (λ a b k l. i a b (inr k) (inr l)) (d .1),
+  )
 
 module _ {A : Type 0} where
   -- those of a list that pass a test
@@ -131,13 +132,13 @@ module _ {A : Type 0} where
   not-fewer all f g to from d ok back =
       let images : List A = map to (passing f all) in
       let apart : Distinct images =
-        map-distinct to (passing f all)
-        (λ a b k l e. sym (back a (passing-of f all a k)) ∙ ap from e ∙ back b (passing-of f all b l))
-        (passing-distinct f all d) in
+      map-distinct to (passing f all)
+      (λ a b k l e. sym (back a (passing-of f all a k)) ∙ ap from e ∙ back b (passing-of f all b l))
+      (passing-distinct f all d) in
       let inside : (b : A) → Among b images → Among b (passing g all) =
-        λ b m. let (a, k, e) = map-among to (passing f all) b m in
-        let fine = ok a (passing-of f all a k) in
-        subst (λ (c : A). Among c (passing g all)) (sym e) (of-passing g all (to a) (fine .0) (fine .1)) in
+      λ b m. let (a, k, e) = map-among to (passing f all) b m in
+      let fine = ok a (passing-of f all a k) in
+      subst (λ (c : A). Among c (passing g all)) (sym e) (of-passing g all (to a) (fine .0) (fine .1)) in
       let short : length images ≤ length (passing g all) = inside-length images (passing g all) apart inside in
       omega (arith, length-map (passing f all) to, passing-length f all, passing-length g all)
 

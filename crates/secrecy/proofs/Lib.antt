@@ -1,4 +1,5 @@
-
 pub mod Counting
 pub mod Tests
 pub mod Selections
+pub mod Listed
+pub mod Counts

@@ -1,6 +1,6 @@
 -- The lists that take one member of each of several lists: which they are, and that each is listed once.
 use Prim.Native.Nat.{ℕ, zero, suc, _+_, _≤_, _<_}
-use mathlib.Core.Path.{_≡_, refl, sym, _∙_, ap, ap₂, subst}
+use mathlib.Core.Path.{_≡_, refl, sym, _∙_, ap, subst}
 use mathlib.Core.Logic.{_≢_, _⊎_, inl, inr}
 use mathlib.Core.List.{List, [], _∷_, _++_, map}
 use native.Mathlib.Nat.{suc-inj, not-suc-le-zero}
@@ -35,9 +35,10 @@ module _ {A : Type 0} where
   append-distinct : (xs ys : List A) → Distinct xs → Distinct ys → ((a : A) → Among a xs → Among a ys → ⊥)
       → Distinct (xs ++ ys)
   append-distinct [] ys d d′ apart = d′
-  append-distinct (x ∷ xs) ys d d′ apart =
-      (among-all (xs ++ ys) (λ a m. other a (among-either xs ys a m)),
-      append-distinct xs ys (d .1) d′ (λ a m. apart a (inr m)))
+  append-distinct (x ∷ xs) ys d d′ apart = (
+    among-all (xs ++ ys) (λ a m. other a (among-either xs ys a m)),
+    append-distinct xs ys (d .1) d′ (λ a m. apart a (inr m)),
+  )
     where
       other : (a : A) → Among a xs ⊎ Among a ys → a ≢ x
       other a (inl m) = all-among (λ s. s ≢ x) xs (d .0) a m
@@ -107,9 +108,9 @@ module _ {A : Type 0} where
       each-distinct (λ y. map (λ ys. y ∷ ys) (choices cs)) c (d .0)
       (λ y. map-distinct (λ ys. y ∷ ys) (choices cs) (λ a b k l e. same-tail y y a b e) (choices-distinct cs (d .1)))
       (λ a b l m k.
-        let (r, _, e) = map-among (λ ys. a ∷ ys) (choices cs) l m in
-        let (s, _, q) = map-among (λ ys. b ∷ ys) (choices cs) l k in
-        same-head a b r s (sym e ∙ q))
+      let (r, _, e) = map-among (λ ys. a ∷ ys) (choices cs) l m in
+      let (s, _, q) = map-among (λ ys. b ∷ ys) (choices cs) l k in
+      same-head a b r s (sym e ∙ q))
 
   -- the same candidates k times
   pub fits-same : (k : ℕ) (c : List A) (xs : List A) → Fits xs (replicate k c) → (length xs ≡ k) × All (λ x. Among x c) xs
@@ -175,6 +176,7 @@ among-numbers low (suc many) x a b = go (among-numbers (suc low) many x) (ℕ-di
 pub numbers-distinct : (low many : ℕ) → Distinct (eachFrom low many (λ r. r))
 unfolding eachFrom
 numbers-distinct low zero = tt
-numbers-distinct low (suc many) =
-    (among-all (eachFrom (suc low) many (λ r. r)) (λ a m e. let (l, _) = numbers-among (suc low) many a m in omega arith),
-    numbers-distinct (suc low) many)
+numbers-distinct low (suc many) = (
+  among-all (eachFrom (suc low) many (λ r. r)) (λ a m e. let (l, _) = numbers-among (suc low) many a m in omega arith),
+  numbers-distinct (suc low) many,
+)

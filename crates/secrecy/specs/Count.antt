@@ -42,8 +42,8 @@ allLists many = choices (map (λ r. listsOf 0 p (many r)) allRows)
 unfoldable pub draws : Plan → List Draw
 draws plan =
     forEach (listsOf 1 (p - 1) (plan .n)) (λ points.
-      forEach (allLists (rawLength plan)) (λ raws.
-        map (λ triples. record { points = points; raws = raws; triples = triples }) (allLists (tripleLength plan))))
+    forEach (allLists (rawLength plan)) (λ raws.
+    map (λ triples. record { points = points; raws = raws; triples = triples }) (allLists (tripleLength plan))))
 
 -- The list has every draw of the plan, nothing else, and each once.
 abbrev pub AllDraws : Type 0
@@ -70,13 +70,13 @@ sameLines = sameList sameNumbers
 unfoldable pub sameEntry : Entry → Entry → Bool
 sameEntry e e' =
     sameNumbers (e .refusals) (e' .refusals) && (sameNumbers (e .values) (e' .values)
-      && (sameLines (e .lines) (e' .lines) && sameLines (e .rows) (e' .rows)))
+    && (sameLines (e .lines) (e' .lines) && sameLines (e .rows) (e' .rows)))
 
 unfoldable pub sameSeen : Seen → Seen → Bool
 sameSeen R R' =
     sameNumbers (R .points) (R' .points) && (sameList sameLines (R .raws) (R' .raws)
-      && (sameList sameLines (R .triples) (R' .triples) && (sameLines (R .polynomials) (R' .polynomials)
-      && (sameLines (R .deals) (R' .deals) && sameList sameEntry (R .entries) (R' .entries)))))
+    && (sameList sameLines (R .triples) (R' .triples) && (sameLines (R .polynomials) (R' .polynomials)
+    && (sameLines (R .deals) (R' .deals) && sameList sameEntry (R .entries) (R' .entries)))))
 
 -- whether the draw shows the record R under the secrets u
 unfoldable pub shows : Plan → List ℕ → (ℕ → List ℕ) → List Step → Secrets → Seen → Draw → Bool
