@@ -91,7 +91,8 @@ module _ (plan : Plan) where
       → (d .points ≡ points) × (d .raws ≡ raws) × Lists (tripleLength plan) (d .triples)
   unfolding withRaws
   in-raws points raws d m =
-      let (triples, k, e) = map-among {B = Draw} (λ l. record { points = points; raws = raws; triples = l }) (allLists (tripleLength plan)) d m in
+      let (triples, k, e) =
+      map-among {B = Draw} (λ l. record { points = points; raws = raws; triples = l }) (allLists (tripleLength plan)) d m in
       let q : d .triples ≡ triples = ap (λ (c : Draw). c .triples) e in (
         ap (λ (c : Draw). c .points) e,
         ap (λ (c : Draw). c .raws) e,

@@ -1,7 +1,7 @@
 -- The test of a draw is right: it passes exactly where the draw shows the record.
 use Prim.Native.Nat.{ℕ}
 use mathlib.Core.Path.{_≡_, refl, ap₂, subst}
-use mathlib.Core.Bool.{Bool, true, false, _&&_, false≢true}
+use mathlib.Core.Bool.{Bool, true, false, _&&_, false≢true, and-assoc}
 use mathlib.Core.List.{List, [], _∷_}
 use borrow.Author.Tests.{eq-eqb, eqb-true}
 use lib.Dec.{eqb}
@@ -16,7 +16,8 @@ pub record Right {A : Type 0} (same : A → A → Bool) : Type 0 where
   pub self : (x : A) → same x x ≡ true
 
 -- the first of two tests, and what is left to pass
-split : {A : Type 0} {same : A → A → Bool} → Right same → (x y : A) (b : Bool) → (same x y && b) ≡ true → (x ≡ y) × (b ≡ true)
+split : {A : Type 0} {same : A → A → Bool} → Right same → (x y : A) (b : Bool) → (same x y && b) ≡ true
+    → (x ≡ y) × (b ≡ true)
 split {A} {same} right x y b e = go (same x y) refl e
   where
     go : (a : Bool) → same x y ≡ a → (a && b) ≡ true → (x ≡ y) × (b ≡ true)
@@ -58,7 +59,7 @@ lines-lists-right = list-right sameLines lines-right
 entry-equal : (x y : Entry) → sameEntry x y ≡ true → x ≡ y
 unfolding sameEntry
 entry-equal x y e =
-    let (refusals, e₁) = split numbers-lists-right (x .refusals) (y .refusals) _ e in
+    let (refusals, e₁) = split numbers-lists-right (x .refusals) (y .refusals) _ (simp and-assoc at e) in
     let (values, e₂) = split numbers-lists-right (x .values) (y .values) _ e₁ in
     let (lines, e₃) = split lines-right (x .lines) (y .lines) _ e₂ in
     let rows = lines-right .equal (x .rows) (y .rows) e₃ in
@@ -67,9 +68,10 @@ entry-equal x y e =
 entry-self : (x : Entry) → sameEntry x x ≡ true
 unfolding sameEntry
 entry-self x =
-    both-true (numbers-lists-right .self (x .refusals))
+    simp and-assoc
+    (both-true (numbers-lists-right .self (x .refusals))
     (both-true (numbers-lists-right .self (x .values))
-    (both-true (lines-right .self (x .lines)) (lines-right .self (x .rows))))
+    (both-true (lines-right .self (x .lines)) (lines-right .self (x .rows)))))
 
 pub entries-right : Right (sameList sameEntry)
 entries-right = list-right sameEntry (record { equal = entry-equal; self = entry-self })
@@ -77,7 +79,7 @@ entries-right = list-right sameEntry (record { equal = entry-equal; self = entry
 seen-equal : (x y : Seen) → sameSeen x y ≡ true → x ≡ y
 unfolding sameSeen
 seen-equal x y e =
-    let (points, e₁) = split numbers-lists-right (x .points) (y .points) _ e in
+    let (points, e₁) = split numbers-lists-right (x .points) (y .points) _ (simp and-assoc at e) in
     let (raws, e₂) = split lines-lists-right (x .raws) (y .raws) _ e₁ in
     let (triples, e₃) = split lines-lists-right (x .triples) (y .triples) _ e₂ in
     let (polynomials, e₄) = split lines-right (x .polynomials) (y .polynomials) _ e₃ in
@@ -95,11 +97,12 @@ seen-equal x y e =
 seen-self : (x : Seen) → sameSeen x x ≡ true
 unfolding sameSeen
 seen-self x =
-    both-true (numbers-lists-right .self (x .points))
+    simp and-assoc
+    (both-true (numbers-lists-right .self (x .points))
     (both-true (lines-lists-right .self (x .raws))
     (both-true (lines-lists-right .self (x .triples))
     (both-true (lines-right .self (x .polynomials))
-    (both-true (lines-right .self (x .deals)) (entries-right .self (x .entries))))))
+    (both-true (lines-right .self (x .deals)) (entries-right .self (x .entries)))))))
 
 pub seen-right : Right sameSeen
 seen-right = record { equal = seen-equal; self = seen-self }

@@ -69,14 +69,19 @@ sameLines = sameList sameNumbers
 -- whether two entries, two records are the same
 unfoldable pub sameEntry : Entry → Entry → Bool
 sameEntry e e' =
-    sameNumbers (e .refusals) (e' .refusals) && (sameNumbers (e .values) (e' .values)
-    && (sameLines (e .lines) (e' .lines) && sameLines (e .rows) (e' .rows)))
+    sameNumbers (e .refusals) (e' .refusals)
+    && sameNumbers (e .values) (e' .values)
+    && sameLines (e .lines) (e' .lines)
+    && sameLines (e .rows) (e' .rows)
 
 unfoldable pub sameSeen : Seen → Seen → Bool
 sameSeen R R' =
-    sameNumbers (R .points) (R' .points) && (sameList sameLines (R .raws) (R' .raws)
-    && (sameList sameLines (R .triples) (R' .triples) && (sameLines (R .polynomials) (R' .polynomials)
-    && (sameLines (R .deals) (R' .deals) && sameList sameEntry (R .entries) (R' .entries)))))
+    sameNumbers (R .points) (R' .points)
+    && sameList sameLines (R .raws) (R' .raws)
+    && sameList sameLines (R .triples) (R' .triples)
+    && sameLines (R .polynomials) (R' .polynomials)
+    && sameLines (R .deals) (R' .deals)
+    && sameList sameEntry (R .entries) (R' .entries)
 
 -- whether the draw shows the record R under the secrets u
 unfoldable pub shows : Plan → List ℕ → (ℕ → List ℕ) → List Step → Secrets → Seen → Draw → Bool
