@@ -1,1 +1,5 @@
-
+pub mod Counting
+pub mod Tests
+pub mod Selections
+pub mod Listed
+pub mod Counts

@@ -3,3 +3,4 @@ pub mod Seen
 pub mod Rules
 pub mod Book
 pub mod Claim
+pub mod Count
