@@ -8,7 +8,7 @@ use mathlib.Core.List.{List, [], _∷_, map}
 use native.Mathlib.Omega.{arith}
 use lib.ListN.{length, length-map}
 use Rattle.poly.specs.Counting.{All, Distinct}
-use Rattle.secrecy.specs.Rules.{Among}
+use Rattle.runs.specs.Calls.{Among}
 use Rattle.secrecy.specs.Claim.{Matching}
 use Rattle.secrecy.specs.Count.{count}
 

@@ -1,3 +1,7 @@
+pub mod Kernel
+pub mod Near
+pub mod Shift
+pub mod Link
 pub mod Counting
 pub mod Tests
 pub mod Selections

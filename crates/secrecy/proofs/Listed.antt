@@ -10,7 +10,7 @@ use Rattle.poly.proofs.Lists.{all-map}
 use Rattle.factory.specs.Draw.{eachFrom}
 use Rattle.runs.specs.Draws.{Plan, Draw, IsDraw, Lists, rawLength, tripleLength}
 use Rattle.secrecy.specs.Seen.{allRows}
-use Rattle.secrecy.specs.Rules.{Among}
+use Rattle.runs.specs.Calls.{Among}
 use Rattle.secrecy.specs.Count.{forEach, listsOf, allLists, draws, AllDraws}
 use Rattle.secrecy.proofs.Counting.{among-map, map-among, map-distinct}
 use Rattle.secrecy.proofs.Selections.{among-each, each-among, each-distinct, choices-fit, fit-choices, choices-distinct, fits-same, same-fits, fits-rows, rows-fit, numbers-among, among-numbers, numbers-distinct}

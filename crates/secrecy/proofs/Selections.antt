@@ -9,7 +9,7 @@ use native.Mathlib.Omega.{arith}
 use lib.ListN.{length, getD, replicate}
 use Rattle.poly.specs.Counting.{All, Distinct}
 use Rattle.factory.specs.Draw.{eachFrom}
-use Rattle.secrecy.specs.Rules.{Among}
+use Rattle.runs.specs.Calls.{Among}
 use Rattle.secrecy.specs.Count.{forEach, choices}
 use Rattle.secrecy.proofs.Counting.{all-among, among-all, among-map, map-among, map-distinct}
 

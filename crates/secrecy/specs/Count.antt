@@ -10,9 +10,9 @@ use Rattle.field.specs.Modulus.{p}
 use Rattle.poly.specs.Counting.{Distinct}
 use Rattle.factory.specs.Draw.{eachFrom}
 use Rattle.runs.specs.Draws.{Plan, Draw, IsDraw, rawLength, tripleLength}
+use Rattle.runs.specs.Calls.{Among}
 use Rattle.secrecy.specs.Steps.{Secrets, Step}
 use Rattle.secrecy.specs.Seen.{Entry, Seen, allRows, seen}
-use Rattle.secrecy.specs.Rules.{Among}
 use Rattle.secrecy.specs.Claim.{Premises}
 
 -- how many of a list pass a test

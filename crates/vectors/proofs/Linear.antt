@@ -58,7 +58,7 @@ unfolding combined numbers
 combined-last s zero a b = refl
 combined-last s (suc k) a b = ap₂ _∷_ (combined-number s (a 0) (b 0)) (combined-last s k (λ i. a (suc i)) (λ i. b (suc i)))
 
-sumAt-plusTimes : (k : ℕ) (s : Element) (S S' : Vector) (j : ℕ) → sumAt k (plusTimes s S S') j ≡ sumAt k S j ⊕ s ⊗ sumAt k S' j
+pub sumAt-plusTimes : (k : ℕ) (s : Element) (S S' : Vector) (j : ℕ) → sumAt k (plusTimes s S S') j ≡ sumAt k S j ⊕ s ⊗ sumAt k S' j
 unfolding Same
 sumAt-plusTimes k s S S' j =
     ap (λ (z : Element). S .v (suc j) 0 ⊕ s ⊗ S' .v (suc j) 0 ⊕ z ⊕ (S .c ⊕ s ⊗ S' .c))

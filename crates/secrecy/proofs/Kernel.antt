@@ -1,0 +1,128 @@
+-- The vector that a group of posts cannot see: its number is one, but its public sums are all zero, and so are the
+-- polynomials and the check values of everyone in the group. Added to a shared number's vector, it changes the number and no
+-- row of the group.
+use Prim.Native.Nat.{ℕ, zero, suc, _≤_}
+use mathlib.Core.Path.{_≡_, refl, sym, _∙_, ap, ap₂}
+use mathlib.Core.Logic.{_≢_}
+use mathlib.Core.List.{List, [], _∷_}
+use native.Mathlib.Nat.{not-suc-le-zero, le-of-suc-le-suc}
+use native.Mathlib.Omega.{arith}
+use lib.ListN.{length, getD}
+use Rattle.field.specs.Algebra.{CommutativeRing}
+use Rattle.field.specs.Element.{Element, element}
+use Rattle.field.proofs.Ring.{zero-add, mul-zero, zero-mul}
+use Rattle.field.proofs.Expression.{A, B, C, D, 𝟘, 𝟙, _:+_, _:*_, :-_, Same}
+use Rattle.field.proofs.Solver.{solve}
+use Rattle.field.proofs.Elements.{elements, 𝓡}
+use Rattle.poly.specs.Counting.{All}
+use Rattle.poly.proofs.Lists.{all-map}
+use Rattle.poly.proofs.Coefficients.{ev, timesNodes, nodalAt, ev-timesNodes, ev-constant, length-timesNodes, nodalAt-self}
+use Rattle.poly.proofs.Lagrange.{nodalAt-nonzero}
+use Rattle.vectors.specs.Vector.{Vector, number, firsts, valueAt, checkOf, sumAt}
+open CommutativeRing 𝓡 using (add as _⊕_, mul as _⊗_, neg, zero as 0ᴱ, one as 1ᴱ)
+
+infixl 65 _⊕_
+infixl 70 _⊗_
+-- ---- one at zero, and zero at each of some nodes
+
+-- its coefficients
+pub hiding : List Element → List Element
+hiding rs = timesNodes 𝓡 rs (elements .inv (nodalAt 𝓡 0ᴱ rs) ∷ [])
+
+hiding-value : (rs : List Element) (x : Element) → ev 𝓡 (hiding rs) x ≡ nodalAt 𝓡 x rs ⊗ elements .inv (nodalAt 𝓡 0ᴱ rs)
+unfolding hiding
+hiding-value rs x =
+    ev-timesNodes 𝓡 rs _ x ∙ ap (λ (z : Element). nodalAt 𝓡 x rs ⊗ z) (ev-constant 𝓡 (elements .inv (nodalAt 𝓡 0ᴱ rs)) x)
+
+pub hiding-at-zero : (rs : List Element) → All (λ r. r ≢ 0ᴱ) rs → ev 𝓡 (hiding rs) 0ᴱ ≡ 1ᴱ
+hiding-at-zero rs a = hiding-value rs 0ᴱ ∙ elements .mul-inv (nodalAt 𝓡 0ᴱ rs) (nodalAt-nonzero elements 0ᴱ rs a)
+
+pub hiding-at-nodes : (rs : List Element) → All (λ r. ev 𝓡 (hiding rs) r ≡ 0ᴱ) rs
+hiding-at-nodes rs =
+    all-map (λ r e. hiding-value rs r ∙ ap (λ (z : Element). z ⊗ elements .inv (nodalAt 𝓡 0ᴱ rs)) e ∙ zero-mul 𝓡 _)
+    rs (nodalAt-self 𝓡 rs)
+
+pub length-hiding : (rs : List Element) → length (hiding rs) ≤ suc (length rs)
+unfolding hiding
+length-hiding rs = omega (arith, length-timesNodes 𝓡 rs (elements .inv (nodalAt 𝓡 0ᴱ rs) ∷ []))
+
+-- ---- coefficients by their place
+
+-- the coefficient of a list at a place: zero behind its end
+abbrev pub coefficient : List Element → ℕ → Element
+coefficient l m = getD l m 0ᴱ
+
+valueAt-coefficient : (k : ℕ) (l : List Element) (x : Element) → length l ≤ k → valueAt k (coefficient l) x ≡ ev 𝓡 l x
+unfolding valueAt firsts ev Same
+valueAt-coefficient zero [] x h = refl
+valueAt-coefficient zero (c ∷ cs) x h = absurd (not-suc-le-zero h)
+valueAt-coefficient (suc k) [] x h =
+    ap (λ (z : Element). 0ᴱ ⊕ x ⊗ z) (valueAt-coefficient k [] x (omega arith)) ∙ solve 𝓡 (x ∷ []) (𝟘 :+ A :* 𝟘) 𝟘 refl
+valueAt-coefficient (suc k) (c ∷ cs) x h =
+    ap (λ (z : Element). c ⊕ x ⊗ z) (valueAt-coefficient k cs x (le-of-suc-le-suc h))
+
+valueAt-times : (k : ℕ) (s : Element) (a : ℕ → Element) (x : Element) → valueAt k (λ m. s ⊗ a m) x ≡ s ⊗ valueAt k a x
+unfolding valueAt firsts ev Same
+valueAt-times zero s a x = sym (mul-zero 𝓡 s)
+valueAt-times (suc k) s a x =
+    ap (λ (z : Element). s ⊗ a 0 ⊕ x ⊗ z) (valueAt-times k s (λ m. a (suc m)) x)
+    ∙ solve 𝓡 (s ∷ a 0 ∷ x ∷ valueAt k (λ m. a (suc m)) x ∷ []) (A :* B :+ C :* (A :* D)) (A :* (B :+ C :* D)) refl
+
+constant-is-value : (l : List Element) → coefficient l 0 ≡ ev 𝓡 l 0ᴱ
+unfolding ev Same
+constant-is-value [] = refl
+constant-is-value (c ∷ cs) = solve 𝓡 (c ∷ ev 𝓡 cs 0ᴱ ∷ []) A (A :+ 𝟘 :* B) refl
+
+-- ---- the kernel
+
+-- gs: the group's post numbers; ws: the check points that the group holds
+module _ (gs ws : List Element) where
+  -- the value of L, which hides the number: one at zero, zero at every post of the group
+  pub L : Element → Element
+  L x = ev 𝓡 (hiding gs) x
+
+  -- f is L, and vj is -L(j) W, where W is one at zero and zero at every check point of the group
+  pub kernel : Vector
+  kernel = record { c = 0ᴱ; f = coefficient (hiding gs); v = λ j m. neg (L (element j)) ⊗ coefficient (hiding ws) m }
+
+  pub L-at : All (λ r. L r ≡ 0ᴱ) gs
+  unfolding L
+  L-at = hiding-at-nodes gs
+
+  pub kernel-c : kernel .c ≡ 0ᴱ
+  unfolding kernel
+  kernel-c = refl
+
+  -- the polynomials of the group's posts are nothing
+  pub kernel-own : (i : ℕ) → L (element i) ≡ 0ᴱ → (m : ℕ) → kernel .v i m ≡ 0ᴱ
+  unfolding kernel Same
+  kernel-own i e m =
+      ap (λ (z : Element). neg z ⊗ coefficient (hiding ws) m) e
+      ∙ solve 𝓡 (coefficient (hiding ws) m ∷ []) (:- 𝟘 :* A) 𝟘 refl
+
+  pub kernel-constant : All (λ r. r ≢ 0ᴱ) gs → kernel .f 0 ≡ 1ᴱ
+  unfolding kernel
+  kernel-constant a = constant-is-value (hiding gs) ∙ hiding-at-zero gs a
+
+  pub kernel-number : All (λ r. r ≢ 0ᴱ) gs → number kernel ≡ 1ᴱ
+  kernel-number a = ap₂ _⊕_ kernel-c (kernel-constant a) ∙ zero-add 𝓡 1ᴱ
+
+  -- the public sums of all posts are nothing: -L(j) W(0) + L(j)
+  pub kernel-sums : (t : ℕ) → length gs ≤ t → All (λ r. r ≢ 0ᴱ) ws → (j : ℕ) → sumAt (suc t) kernel j ≡ 0ᴱ
+  unfolding kernel L Same
+  kernel-sums t few a j =
+      ap₂ (λ (x y : Element). neg (L (element (suc j))) ⊗ x ⊕ y ⊕ 0ᴱ) (constant-is-value (hiding ws) ∙ hiding-at-zero ws a)
+      (valueAt-coefficient (suc t) (hiding gs) (element (suc j)) (omega (arith, length-hiding gs)))
+      ∙ solve 𝓡 (L (element (suc j)) ∷ []) (:- A :* 𝟙 :+ A :+ 𝟘) 𝟘 refl
+
+  -- the check values at the group's check points are nothing
+  pub kernel-checks : (t : ℕ) → length ws ≤ t → All (λ w. (j : ℕ) → checkOf (suc t) w kernel j ≡ 0ᴱ) ws
+  unfolding kernel
+  kernel-checks t few = all-map none ws (hiding-at-nodes ws)
+    where
+      none : (w : Element) → ev 𝓡 (hiding ws) w ≡ 0ᴱ → (j : ℕ) → checkOf (suc t) w kernel j ≡ 0ᴱ
+      none w e j =
+          valueAt-times (suc t) (neg (L (element (suc j)))) (coefficient (hiding ws)) w
+          ∙ ap (λ (z : Element). neg (L (element (suc j))) ⊗ z)
+          (valueAt-coefficient (suc t) (hiding ws) w (omega (arith, length-hiding ws)) ∙ e)
+          ∙ mul-zero 𝓡 _

@@ -1,0 +1,185 @@
+-- Two vectors that differ, as far as any post can see, by a multiple of the kernel: the same shared number in two runs. The
+-- calls keep them near; where the two numbers agree so do the rows of all posts, and in the group the rows always agree.
+use Prim.Native.Nat.{ℕ, suc, _+_, _-_, _≤_, _<_}
+use mathlib.Core.Path.{_≡_, refl, sym, _∙_, ap, ap₂, fun-ext}
+use mathlib.Core.Logic.{_≢_}
+use mathlib.Core.List.{List, [], _∷_, _++_, map}
+use native.Mathlib.Omega.{arith}
+use lib.Dec.{lit<}
+use lib.ListN.{length, length-map}
+use Rattle.field.specs.Modulus.{p}
+use Rattle.field.specs.Arithmetic.{difference}
+use Rattle.field.specs.Algebra.{CommutativeRing}
+use Rattle.field.specs.Element.{Element, element}
+use Rattle.field.proofs.Ring.{zero-add, mul-zero}
+use Rattle.field.proofs.Expression.{A, B, C, D, E, F, 𝟘, 𝟙, _:+_, _:*_, _:-_, :-_, Same}
+use Rattle.field.proofs.Solver.{solve}
+use Rattle.field.proofs.Elements.{𝓡, element-injective, element-zero, element-one, element-difference}
+use Rattle.poly.specs.Counting.{All}
+use Rattle.poly.proofs.Lists.{all-zip}
+use Rattle.session.specs.Rows.{combined, plusSums}
+use Rattle.vectors.specs.Vector.{Vector, plusTimes, raised, number, numbers, checkOf, sumAt, rowOf}
+use Rattle.vectors.proofs.Linear.{valueAt-plusTimes, sumAt-plusTimes, row-plusTimes, number-plusTimes, row-raised}
+use Rattle.secrecy.proofs.Kernel.{kernel, L-at, kernel-own, kernel-sums, kernel-checks}
+open CommutativeRing 𝓡 using (add as _⊕_, mul as _⊗_, neg, zero as 0ᴱ, one as 1ᴱ, add-zero, add-neg)
+
+infixl 65 _⊕_
+infixl 70 _⊗_
+-- by how much the number is greater in the second run
+abbrev pub gap : Vector → Vector → Element
+gap S S' = number S' ⊕ neg (number S)
+
+-- nothing added
+pub plusTimes-none : (δ : Element) (S K : Vector) → δ ≡ 0ᴱ → plusTimes δ S K ≡ S
+unfolding Same
+plusTimes-none δ S K e =
+    λ t. record { c = gone (S .c) (K .c) t; f = λ m. gone (S .f m) (K .f m) t; v = λ j m. gone (S .v j m) (K .v j m) t }
+  where
+    gone : (a k : Element) → a ⊕ δ ⊗ k ≡ a
+    gone a k = ap (λ (z : Element). a ⊕ z ⊗ k) e ∙ solve 𝓡 (a ∷ k ∷ []) (A :+ 𝟘 :* B) A refl
+
+-- ---- masks
+
+-- The numbers of a - l agree in both runs when a and l differ by the same.
+pub mask-number : (a a' l l' : Vector) → gap a a' ≡ gap l l'
+    → number (plusTimes (element (p - 1)) a l) ≡ number (plusTimes (element (p - 1)) a' l')
+unfolding difference Same
+mask-number a a' l l' e =
+    minus a l
+    ∙ solve 𝓡 (number a ∷ number a' ∷ number l ∷ []) (A :- C) (B :- (B :- A) :- C) refl
+    ∙ ap (λ (z : Element). number a' ⊕ neg z ⊕ neg (number l)) e
+    ∙ solve 𝓡 (number a' ∷ number l ∷ number l' ∷ []) (A :- (C :- B) :- B) (A :- C) refl
+    ∙ sym (minus a' l')
+  where
+    minus-one : element (p - 1) ≡ neg 1ᴱ
+    minus-one = element-difference 0 1 ∙ ap₂ (λ (x y : Element). x ⊕ neg y) element-zero element-one ∙ zero-add 𝓡 (neg 1ᴱ)
+
+    minus : (x y : Vector) → number (plusTimes (element (p - 1)) x y) ≡ number x ⊕ neg (number y)
+    minus x y =
+        number-plusTimes (element (p - 1)) x y ∙ ap (λ (s : Element). number x ⊕ s ⊗ number y) minus-one
+        ∙ solve 𝓡 (number x ∷ number y ∷ []) (A :+ :- 𝟙 :* B) (A :- B) refl
+
+-- ---- near
+
+-- n posts with the check points pts, k coefficients, and the kernel K
+module _ (n k : ℕ) (pts : ℕ → ℕ) (K : Vector) where
+  row : ℕ → Vector → List ℕ
+  row i S = rowOf k n i (element (pts i)) S
+
+  abbrev pub Near : Vector → Vector → Type 0
+  Near S S' =
+      (i : ℕ) → 1 ≤ i → i ≤ n → rowOf k n i (element (pts i)) S' ≡ rowOf k n i (element (pts i)) (plusTimes (gap S S') S K)
+
+  pub near-plusTimes : (s : ℕ) (S S' Z Z' : Vector) → Near S S' → Near Z Z'
+      → Near (plusTimes (element s) S Z) (plusTimes (element s) S' Z')
+  unfolding row Same
+  near-plusTimes s S S' Z Z' h g i lo hi =
+      row-plusTimes k n i s (element (pts i)) S' Z' ∙ ap₂ (combined s) (h i lo hi) (g i lo hi)
+      ∙ sym (row-plusTimes k n i s (element (pts i)) (plusTimes (gap S S') S K) (plusTimes (gap Z Z') Z K))
+      ∙ ap (row i)
+      (λ t. record {
+        c = mix (S .c) (Z .c) (K .c) t;
+        f = λ m. mix (S .f m) (Z .f m) (K .f m) t;
+        v = λ j m. mix (S .v j m) (Z .v j m) (K .v j m) t;
+      })
+    where
+      whole : Element
+      whole = gap (plusTimes (element s) S Z) (plusTimes (element s) S' Z')
+
+      gaps : gap S S' ⊕ element s ⊗ gap Z Z' ≡ whole
+      gaps =
+          solve 𝓡 (element s ∷ number S ∷ number S' ∷ number Z ∷ number Z' ∷ [])
+          (C :- B :+ A :* (E :- D)) (C :+ A :* E :- (B :+ A :* D)) refl
+          ∙ sym (ap₂ (λ (x y : Element). x ⊕ neg y) (number-plusTimes (element s) S' Z') (number-plusTimes (element s) S Z))
+
+      mix : (a b e : Element) → a ⊕ gap S S' ⊗ e ⊕ element s ⊗ (b ⊕ gap Z Z' ⊗ e) ≡ a ⊕ element s ⊗ b ⊕ whole ⊗ e
+      mix a b e =
+          solve 𝓡 (a ∷ b ∷ e ∷ element s ∷ gap S S' ∷ gap Z Z' ∷ [])
+          (A :+ E :* C :+ D :* (B :+ F :* C)) (A :+ D :* B :+ (E :+ D :* F) :* C) refl
+          ∙ ap (λ (z : Element). a ⊕ element s ⊗ b ⊕ z ⊗ e) gaps
+
+  pub near-raised : (c : ℕ) (S S' : Vector) → Near S S' → Near (raised (element c) S) (raised (element c) S')
+  unfolding row Same
+  near-raised c S S' h i lo hi =
+      row-raised k n i c (element (pts i)) S' ∙ ap (plusSums (k + n) c) (h i lo hi)
+      ∙ sym (row-raised k n i c (element (pts i)) (plusTimes (gap S S') S K))
+      ∙ ap (row i) (λ t. record { c = mix t; f = λ m. S .f m ⊕ gaps t ⊗ K .f m; v = λ j m. S .v j m ⊕ gaps t ⊗ K .v j m })
+    where
+      whole : Element
+      whole = gap (raised (element c) S) (raised (element c) S')
+
+      gaps : gap S S' ≡ whole
+      gaps =
+          solve 𝓡 (S .c ∷ S .f 0 ∷ S' .c ∷ S' .f 0 ∷ element c ∷ []) (C :+ D :- (A :+ B)) (C :+ E :+ D :- (A :+ E :+ B)) refl
+
+      mix : S .c ⊕ gap S S' ⊗ K .c ⊕ element c ≡ S .c ⊕ element c ⊕ whole ⊗ K .c
+      mix =
+          solve 𝓡 (S .c ∷ gap S S' ∷ K .c ∷ element c ∷ []) (A :+ B :* C :+ D) (A :+ D :+ B :* C) refl
+          ∙ ap (λ (z : Element). S .c ⊕ element c ⊕ z ⊗ K .c) gaps
+
+  -- with one number, every post has one row
+  pub near-same : (S S' : Vector) → Near S S' → number S ≡ number S' → (i : ℕ) → 1 ≤ i → i ≤ n
+      → rowOf k n i (element (pts i)) S ≡ rowOf k n i (element (pts i)) S'
+  unfolding row
+  near-same S S' h e i lo hi =
+      sym
+      (h i lo hi
+      ∙ ap (row i) (plusTimes-none (gap S S') S K (ap (λ (z : Element). number S' ⊕ neg z) e ∙ add-neg (number S'))))
+
+-- ---- the group
+
+-- Nothing of K is in the row of post i, whose check point is w.
+pub record Unseen (k i : ℕ) (w : Element) (K : Vector) : Type 0 where
+  pub own : (m : ℕ) → K .v i m ≡ 0ᴱ
+  pub checks : (j : ℕ) → checkOf k w K j ≡ 0ᴱ
+  pub sums : (j : ℕ) → sumAt k K j ≡ 0ᴱ
+
+-- What is not in a row cannot change it.
+pub blind : (k n i : ℕ) (w δ : Element) (S K : Vector) → Unseen k i w K → rowOf k n i w (plusTimes δ S K) ≡ rowOf k n i w S
+unfolding rowOf
+blind k n i w δ S K u =
+    ap₂ _++_ (ap (numbers k) (fun-ext (λ m. gone (S .v i m) (K .v i m) (u .own m))))
+    (ap₂ _++_
+    (ap (numbers n) (fun-ext (λ j. valueAt-plusTimes k (S .v (suc j)) (K .v (suc j)) δ w ∙ gone _ _ (u .checks j))))
+    (ap (numbers n) (fun-ext (λ j. sumAt-plusTimes k δ S K j ∙ gone _ _ (u .sums j)))))
+  where
+    gone : (a e : Element) → e ≡ 0ᴱ → a ⊕ δ ⊗ e ≡ a
+    gone a e z = ap (λ (x : Element). a ⊕ δ ⊗ x) z ∙ ap (λ (x : Element). a ⊕ x) (mul-zero 𝓡 δ) ∙ add-zero a
+
+-- near vectors have one row at a post that sees nothing of the kernel
+pub near-blind : (n k : ℕ) (pts : ℕ → ℕ) (K S S' : Vector) → Near n k pts K S S' → (i : ℕ) → 1 ≤ i → i ≤ n
+    → Unseen k i (element (pts i)) K → rowOf k n i (element (pts i)) S ≡ rowOf k n i (element (pts i)) S'
+near-blind n k pts K S S' h i lo hi u = sym (h i lo hi ∙ blind k n i (element (pts i)) (gap S S') S K u)
+
+all-mapped : (P : Element → Type 0) (e : ℕ → Element) (l : List ℕ) → All P (map e l) → All (λ i. P (e i)) l
+all-mapped P e [] a = tt
+all-mapped P e (i ∷ l) a = (a .0, all-mapped P e l (a .1))
+
+-- numbers from 1 to p - 1 are nodes that are not zero
+pub nonzero-nodes : (e : ℕ → ℕ) (l : List ℕ) → All (λ i. (1 ≤ e i) × (e i < p)) l → All (λ r. r ≢ 0ᴱ) (map (λ i. element (e i)) l)
+nonzero-nodes e [] a = tt
+nonzero-nodes e (i ∷ l) a = (
+  (λ z. omega (arith, a .0 .0, element-injective (e i) 0 (a .0 .1) (lit< tt) (z ∙ sym element-zero))),
+  nonzero-nodes e l (a .1),
+)
+
+-- The kernel of a group of posts with the check points pts, and that each of them sees nothing of it.
+module _ (pts : ℕ → ℕ) (group : List ℕ) where
+  abbrev pub groupPosts : List Element
+  groupPosts = map element group
+
+  abbrev pub groupPoints : List Element
+  groupPoints = map (λ i. element (pts i)) group
+
+  abbrev pub groupKernel : Vector
+  groupKernel = kernel groupPosts groupPoints
+
+  pub kernel-unseen : (t : ℕ) → length group ≤ t → All (λ w. w ≢ 0ᴱ) groupPoints
+      → All (λ i. Unseen (suc t) i (element (pts i)) groupKernel) group
+  kernel-unseen t few nonzero =
+      all-zip (λ i e c. record { own = kernel-own groupPosts groupPoints i e; checks = c; sums = sums }) group
+      (all-mapped _ element group (L-at groupPosts groupPoints))
+      (all-mapped _ (λ i. element (pts i)) group (kernel-checks groupPosts groupPoints t (omega (arith, length-map group (λ i. element (pts i))))))
+    where
+      sums : (j : ℕ) → sumAt (suc t) groupKernel j ≡ 0ᴱ
+      sums = kernel-sums groupPosts groupPoints t (omega (arith, length-map group element)) nonzero
