@@ -1,1 +1,4 @@
 pub mod Marks
+pub mod Facts
+pub mod Rows
+pub mod Kept
