@@ -6,3 +6,6 @@ pub mod Finishing
 pub mod Steps
 pub mod Lines
 pub mod Records
+pub mod Facts
+pub mod Rows
+pub mod Kept

@@ -1,0 +1,152 @@
+-- A call that is not refused keeps what the marks say of the vectors.
+use Prim.Native.Nat.{ℕ, _+_, _≤_, _<_}
+use mathlib.Core.Path.{_≡_, refl, sym, _∙_, ap}
+use mathlib.Core.Logic.{_≢_, _⊎_, inl, inr}
+use native.Mathlib.Omega.{arith}
+use lib.Seq.{getD-set-same}
+use Rattle.vectors.specs.Vector.{Vector}
+use Rattle.runs.specs.Draws.{Plan, Draw, IsRaw}
+use Rattle.runs.specs.Calls.{Call, masks, at}
+use Rattle.runs.proofs.Marks.{at-same, at-other, Marks, markOf, leftOf, rightOf, Sized, rawVector, finished, marksAfter, vectorsAfter}
+use Rattle.runs.proofs.Facts.{Multiplying, Allowed, Triple, Waiting, Fact, Facts, Meant}
+use Rattle.runs.proofs.Rows.{Turn, raw, first, second, third, dealt, summed, waiting, spent, spent', multiplied, Same, off-masks, on-three, turned, same, course, held-stays}
+
+-- ---- The fact of a row, by its mark.
+
+module _ {plan : Plan} {draw : Draw} {Held : ℕ → Vector → Type 0} {Waits : ℕ → ℕ → ℕ → Type 0} {M : Marks} {vec : ℕ → Vector} {r : ℕ} where
+  raw-fact : markOf M r ≡ 1 → IsRaw (plan .raw r) → vec r ≡ rawVector plan draw r → Fact plan draw Held Waits M vec r
+  raw-fact e is v = record {
+    raw = λ h. (is, v);
+    held = λ h. absurd (omega arith);
+    triple = λ h. elim h [ inl k ↦ absurd (omega arith) | inr k ↦ absurd (omega arith) ];
+    waiting = λ h. absurd (omega arith);
+  }
+
+  held-fact : markOf M r ≡ 2 → Held r (vec r) → Fact plan draw Held Waits M vec r
+  held-fact e is = record {
+    raw = λ h. absurd (omega arith);
+    held = λ h. is;
+    triple = λ h. elim h [ inl k ↦ absurd (omega arith) | inr k ↦ absurd (omega arith) ];
+    waiting = λ h. absurd (omega arith);
+  }
+
+  triple-fact : 3 ≤ markOf M r → Triple plan draw M vec r → (markOf M r ≡ 5 → Waiting plan draw Held Waits M r) → Fact plan draw Held Waits M vec r
+  triple-fact e is waits = record { raw = λ h. absurd (omega arith); held = λ h. absurd (omega arith); triple = λ h. is; waiting = waits }
+
+  -- 4 and 6 say nothing
+  idle-fact : 4 ≤ markOf M r → markOf M r ≢ 5 → Fact plan draw Held Waits M vec r
+  idle-fact e ne = record {
+    raw = λ h. absurd (omega arith);
+    held = λ h. absurd (omega arith);
+    triple = λ h. elim h [ inl k ↦ absurd (omega arith) | inr k ↦ absurd (ne k) ];
+    waiting = λ h. absurd (ne h);
+  }
+
+-- ---- A triple's second and third row stay while its first does: of the calls only finish turns 4, and it turns the first row too.
+
+first-spent : (M : Marks) (r q : ℕ) → Sized M → Multiplying 5 M (leftOf M r) (rightOf M r) r → q ≡ r → markOf (finished M r) q ≡ markOf M q → ⊥
+first-spent M r q z ok e s =
+    omega (arith, ok .first, ap (markOf M) e, ap (markOf (finished M r)) e, on-three M r 6 6 2 z (ok .r-low) .0)
+
+apart : {c : Call} {x m : ℕ} → Turn c x 4 m → (M : Marks) (q : ℕ) → Sized M → Allowed c M → (q + 1 ≡ x) ⊎ (q + 2 ≡ x)
+    → markOf (marksAfter c M) q ≡ markOf M q → markOf M q ≢ 4 → markOf M (q + 1) ≡ 4 → ⊥
+apart (spent' {r}) M q z ok (inl e) s ne h = first-spent M r q z ok (omega arith) s
+apart (spent' {r}) M q z ok (inr e) s ne h = let k : q + 1 ≡ r = omega arith in omega (arith, ap (markOf M) k)
+apart (multiplied {r}) M q z ok (inl e) s ne h = let k : q ≡ r + 1 = omega arith in ne (ap (markOf M) k ∙ ok .second)
+apart (multiplied {r}) M q z ok (inr e) s ne h = first-spent M r q z ok (omega arith) s
+
+-- ---- The facts after a call, where what is meant may change with it.
+
+module _ (plan : Plan) (draw : Draw) where
+  abbrev vecs : Call → Marks → (ℕ → Vector) → ℕ → Vector
+  vecs c M vec = vectorsAfter plan draw c M vec
+
+  -- x is the second or third row of a triple whose first stays
+  beside : (c : Call) (M : Marks) (vec : ℕ → Vector) → Sized M → Allowed c M → (q x : ℕ) → (q + 1 ≡ x) ⊎ (q + 2 ≡ x)
+      → markOf (marksAfter c M) q ≡ markOf M q → markOf M q ≢ 4 → markOf M (q + 1) ≡ 4 → markOf M x ≡ 4
+      → Same M (marksAfter c M) vec (vecs c M vec) x
+  beside c M vec z ok q x e s ne h h' =
+      elim (course plan draw c M vec z ok x) [ turned t ↦ absurd (apart (rw h' at t) M q z ok e s ne h) | same s' ↦ s' ]
+
+  stays : {M M' : Marks} {vec vec' : ℕ → Vector} {q : ℕ} → vec' q ≡ vec q → Same M M' vec vec' (q + 1) → Same M M' vec vec' (q + 2)
+      → Triple plan draw M vec q → Triple plan draw M' vec' q
+  stays v s s' t = record {
+    drawn = t .drawn;
+    second = s .mark ∙ t .second;
+    third = s' .mark ∙ t .third;
+    is-a = v ∙ t .is-a;
+    is-b = s .vector ∙ t .is-b;
+    is-ab = s' .vector ∙ t .is-ab;
+  }
+
+  module _ (Held : ℕ → Vector → Type 0) (Waits : ℕ → ℕ → ℕ → Type 0) (Held' : ℕ → Vector → Type 0) (Waits' : ℕ → ℕ → ℕ → Type 0) where
+    -- the factors of a waiting triple are held after the call too
+    waits : (c : Call) (M : Marks) → Sized M → Allowed c M → (q a b : ℕ) → leftOf (marksAfter c M) q ≡ a → rightOf (marksAfter c M) q ≡ b
+        → a < 96 → b < 96 → markOf M a ≡ 2 → markOf M b ≡ 2 → Waits' q a b → Waiting plan draw Held' Waits' (marksAfter c M) q
+    waits c M z ok q a b e e' low low' h h' means = record {
+      means = rw (e, e') means;
+      a-low = rw e low;
+      a-held = rw e (held-stays plan draw c M (rawVector plan draw) z ok a h .0);
+      b-low = rw e' low';
+      b-held = rw e' (held-stays plan draw c M (rawVector plan draw) z ok b h' .0);
+    }
+
+    -- a row that the call leaves as it is
+    kept : (c : Call) (M : Marks) (vec : ℕ → Vector) → Sized M → Allowed c M → (q : ℕ)
+        → (markOf M q ≡ 2 → Held q (vec q) → Held' q (vec q))
+        → (markOf M q ≡ 5 → markOf (marksAfter c M) q ≡ 5 → Waits q (leftOf M q) (rightOf M q) → Waits' q (leftOf M q) (rightOf M q))
+        → Same M (marksAfter c M) vec (vecs c M vec) q → Fact plan draw Held Waits M vec q
+        → Fact plan draw Held' Waits' (marksAfter c M) (vecs c M vec) q
+    kept c M vec z ok q up up' s f = record {
+      raw = λ h. let y = f .raw (sym (s .mark) ∙ h) in (y .0, s .vector ∙ y .1);
+      held = λ h. let e = sym (s .mark) ∙ h in rw (s .vector) (up e (f .held e));
+      triple = λ h.
+          let k : (markOf M q ≡ 3) ⊎ (markOf M q ≡ 5) = rw (s .mark) at h in
+          let ne : markOf M q ≢ 4 = elim k [ inl e ↦ omega arith | inr e ↦ omega arith ] in
+          let t = f .triple k in
+          stays (s .vector)
+          (beside c M vec z ok q (q + 1) (inl refl) (s .mark) ne (t .second) (t .second))
+          (beside c M vec z ok q (q + 2) (inr refl) (s .mark) ne (t .second) (t .third))
+          t;
+      waiting = λ h. let e = sym (s .mark) ∙ h in let w = f .waiting e in
+          waits c M z ok q (leftOf M q) (rightOf M q) (s .left) (s .right) (w .a-low) (w .b-low) (w .a-held) (w .b-held) (up' e h (w .means));
+    }
+
+    -- a row that it writes
+    new : {c : Call} {q m m' : ℕ} → Turn c q m m' → (M : Marks) (vec : ℕ → Vector) → Sized M → Allowed c M
+        → Meant plan draw Held' Waits' c M vec → Facts plan draw Held Waits M vec → markOf (marksAfter c M) q ≡ m'
+        → Fact plan draw Held' Waits' (marksAfter c M) (vecs c M vec) q
+    new (raw {r}) M vec z ok me g e = raw-fact e me (at-same vec r _)
+    new (first {r}) M vec z ok me g e =
+        let k = on-three M r 3 4 4 z (ok .0) in
+        triple-fact (omega arith) (record {
+          drawn = me;
+          second = k .1;
+          third = k .2;
+          is-a = at-other _ (r + 2) _ r (omega arith) ∙ at-other _ (r + 1) _ r (omega arith) ∙ at-same vec r _;
+          is-b = at-other _ (r + 2) _ (r + 1) (omega arith) ∙ at-same _ (r + 1) _;
+          is-ab = at-same _ (r + 2) _;
+        }) (λ h. absurd (omega arith))
+    new second M vec z ok me g e = idle-fact (omega arith) (omega arith)
+    new third M vec z ok me g e = idle-fact (omega arith) (omega arith)
+    new dealt M vec z ok me g e = held-fact e (rw at-same me)
+    new summed M vec z ok me g e = held-fact e (rw at-same me)
+    new (waiting {a} {b} {r} {lent}) M vec z ok me g e =
+        let next = off-masks M r a b vec (r + 1) (omega arith) in
+        let last = off-masks M r a b vec (r + 2) (omega arith) in
+        triple-fact (omega arith)
+        (stays refl next last (g r (omega arith) .triple (inl (ok .first))))
+        (λ h. waits (masks a b r lent) M z ok r a b (getD-set-same (M .left) r a 0 (omega arith))
+        (getD-set-same (M .right) r b 0 (omega arith)) (ok .a-low) (ok .b-low) (ok .a-held) (ok .b-held) me)
+    new spent M vec z ok me g e = idle-fact (omega arith) (omega arith)
+    new spent' M vec z ok me g e = idle-fact (omega arith) (omega arith)
+    new multiplied M vec z ok me g e = held-fact e (rw at-same me)
+
+    pub facts-after : (c : Call) (M : Marks) (vec : ℕ → Vector) → Sized M → Allowed c M → Meant plan draw Held' Waits' c M vec
+        → ((q : ℕ) → q < 96 → markOf M q ≡ 2 → Held q (vec q) → Held' q (vec q))
+        → ((q : ℕ) → q < 96 → markOf M q ≡ 5 → markOf (marksAfter c M) q ≡ 5 → Waits q (leftOf M q) (rightOf M q) → Waits' q (leftOf M q) (rightOf M q))
+        → Facts plan draw Held Waits M vec → Facts plan draw Held' Waits' (marksAfter c M) (vectorsAfter plan draw c M vec)
+    facts-after c M vec z ok me up up' g q low = elim (course plan draw c M vec z ok q) [
+      | turned t ↦ new t M vec z ok me g refl
+      | same s ↦ kept c M vec z ok q (up q low) (up' q low) s (g q low)
+    ]
