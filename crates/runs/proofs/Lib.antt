@@ -9,3 +9,4 @@ pub mod Records
 pub mod Facts
 pub mod Rows
 pub mod Kept
+pub mod Allowed
