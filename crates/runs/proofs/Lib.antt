@@ -1,4 +1,5 @@
 pub mod Marks
+pub mod Numbers
 pub mod Outcomes
 pub mod Packs
 pub mod Holds
@@ -9,3 +10,4 @@ pub mod Records
 pub mod Facts
 pub mod Rows
 pub mod Kept
+pub mod Allowed
