@@ -27,7 +27,7 @@ pub record Drawn (k : ℕ) (xs : List ℕ) : Type 0 where
   pub low : Elements xs
 
 module _ (plan : Plan) (draw : Draw) (is : IsDraw plan draw) where
-  positive : 1 ≤ rowLength plan
+  pub positive : 1 ≤ rowLength plan
   positive = mul-le-mul {n₁ = 1} {m₁ = 1} {n₂ = plan .t + 1} {m₂ = plan .n + 1} (omega arith) (omega arith)
 
   part-row : (xs : List ℕ) → Drawn (rowLength plan) xs → (i : ℕ) → i ≤ plan .n → partOf plan draw i xs ≡ rowFor plan draw i (vectorOf (plan .t + 1) xs)

@@ -2,6 +2,7 @@ pub mod Kernel
 pub mod Near
 pub mod Shift
 pub mod Link
+pub mod State
 pub mod Counting
 pub mod Tests
 pub mod Selections
