@@ -3,6 +3,7 @@ pub mod Near
 pub mod Shift
 pub mod Link
 pub mod State
+pub mod Advance
 pub mod Counting
 pub mod Tests
 pub mod Selections
