@@ -2,6 +2,7 @@ pub mod Kernel
 pub mod Near
 pub mod Shift
 pub mod Link
+pub mod Twins
 pub mod State
 pub mod Advance
 pub mod Counting
