@@ -29,7 +29,6 @@ open CommutativeRing 𝓡 using (add as _⊕_, mul as _⊗_, neg, zero as 0ᴱ, 
 
 infixl 65 _⊕_
 infixl 70 _⊗_
-
 -- ---- dealt
 
 -- the dealer's number of an element

@@ -24,7 +24,7 @@ conditionAt [] k = false
 conditionAt (j when b ∷ ts) zero = b
 conditionAt (j when b ∷ ts) (suc k) = conditionAt ts k
 
-fails : (ts : List Test) → AllFail ts → (k : ℕ) → conditionAt ts k ≡ false
+pub fails : (ts : List Test) → AllFail ts → (k : ℕ) → conditionAt ts k ≡ false
 fails [] h k = refl
 fails (j when b ∷ ts) h zero = h .0
 fails (j when b ∷ ts) h (suc k) = fails ts (h .1) k

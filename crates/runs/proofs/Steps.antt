@@ -146,6 +146,6 @@ module _ (plan : Plan) (draw : Draw) where
       masks-say a b r lent =
           subst
           (λ (x : Post). refusalOf (masks a b r lent) x ≡ 0
-              → perform (masks a b r lent) x .lent
-              ≡ numbers (plan .t + 1) (less (vec a) (vec r) .v i) ++ numbers (plan .t + 1) (less (vec b) (vec (r + 1)) .v i))
+          → perform (masks a b r lent) x .lent
+          ≡ numbers (plan .t + 1) (less (vec a) (vec r) .v i) ++ numbers (plan .t + 1) (less (vec b) (vec (r + 1)) .v i))
           (sym (named len i M vec q h)) (masks-at (q .rows) (h .holds) a b r lent)

@@ -135,10 +135,11 @@ module _ (plan : Plan) (draw : Draw) (u : Secrets) (ok : Setting plan draw u) (l
     new-opening (Steps.message r' lent) z al r j xs o a =
         let c = Calls.message r' (lent i) in
         let e = one-line _ _ _ (not-refused c z) a in
-        let same = same-opening (plan .n) (plan .t + 1) (sizes plan (ok .sound) .n-high) r j r' i xs (perform c (q i) .lent) o (made-opening r' (lent i) z (al .0)) e in
-        (ap (markOf M) (same .0) ∙ al .1,
-        same .2 ∙ message-says plan draw (ok .is-draw) (len i) i hi M vec (q i) (S .posts i lo hi) r' (lent i) z
-        ∙ sym (ap₂ (λ (x y : ℕ). numbers (plan .t + 1) (vec x .v y)) (same .0) (same .1)))
+        let same = same-opening (plan .n) (plan .t + 1) (sizes plan (ok .sound) .n-high) r j r' i xs (perform c (q i) .lent) o (made-opening r' (lent i) z (al .0)) e in (
+          ap (markOf M) (same .0) ∙ al .1,
+          same .2 ∙ message-says plan draw (ok .is-draw) (len i) i hi M vec (q i) (S .posts i lo hi) r' (lent i) z
+              ∙ sym (ap₂ (λ (x y : ℕ). numbers (plan .t + 1) (vec x .v y)) (same .0) (same .1)),
+        )
     new-opening (Steps.opening r' blocks) z al r j xs o a = absurd a
     new-opening (Steps.linear r' x y scale) z al r j xs o a = absurd a
     new-opening (Steps.masks x y r' lent) z al r j xs o a =
@@ -163,12 +164,13 @@ module _ (plan : Plan) (draw : Draw) (u : Secrets) (ok : Setting plan draw u) (l
     new-masks (Steps.masks x y r' lent) z al r j xs o a =
         let c = Calls.masks x y r' (lent i) in
         let e = one-line _ _ _ (not-refused c z) a in
-        let same = same-masks (plan .n) (plan .t + 1) (sizes plan (ok .sound) .n-high) r j r' i xs (perform c (q i) .lent) o (made-masks x y r' (lent i) z (al .r-low)) e in
-        (ap (markOf (masked M r' x y)) (same .0) ∙ getD-set-same (M .marks) r' 5 0 (omega (arith, al .r-low, S .sized .marks)),
-        same .2 ∙ masks-say plan draw (ok .is-draw) (len i) i hi M vec (q i) (S .posts i lo hi) x y r' (lent i) z
-        ∙ ap₂ (λ (a' b' : ℕ). numbers (plan .t + 1) (less (vec a') (vec r') .v i) ++ numbers (plan .t + 1) (less (vec b') (vec (r' + 1)) .v i))
-        (sym (getD-set-same (M .left) r' x 0 (omega (arith, al .r-low, S .sized .left)))) (sym (getD-set-same (M .right) r' y 0 (omega (arith, al .r-low, S .sized .right))))
-        ∙ sym (ap₂ (λ (x' y' : ℕ). maskNumbers plan draw u ok (masked M r' x y) vec x' y') (same .0) (same .1)))
+        let same = same-masks (plan .n) (plan .t + 1) (sizes plan (ok .sound) .n-high) r j r' i xs (perform c (q i) .lent) o (made-masks x y r' (lent i) z (al .r-low)) e in (
+          ap (markOf (masked M r' x y)) (same .0) ∙ getD-set-same (M .marks) r' 5 0 (omega (arith, al .r-low, S .sized .marks)),
+          same .2 ∙ masks-say plan draw (ok .is-draw) (len i) i hi M vec (q i) (S .posts i lo hi) x y r' (lent i) z
+              ∙ ap₂ (λ (a' b' : ℕ). numbers (plan .t + 1) (less (vec a') (vec r') .v i) ++ numbers (plan .t + 1) (less (vec b') (vec (r' + 1)) .v i))
+              (sym (getD-set-same (M .left) r' x 0 (omega (arith, al .r-low, S .sized .left)))) (sym (getD-set-same (M .right) r' y 0 (omega (arith, al .r-low, S .sized .right))))
+              ∙ sym (ap₂ (λ (x' y' : ℕ). maskNumbers plan draw u ok (masked M r' x y) vec x' y') (same .0) (same .1)),
+        )
     new-masks (Steps.finish r' blocks blocks') z al r j xs o a = absurd a
 
   -- masks are made of an unused triple
@@ -212,9 +214,10 @@ module _ (plan : Plan) (draw : Draw) (u : Secrets) (ok : Setting plan draw u) (l
         → Waits (entered u c b) x (leftOf M x) (rightOf M x)
     waits-on x lx five five' w =
         let n = notes-stay plan draw u ok len M vec b lines q S 1 c al x five in
-        let f = S .facts x lx .waiting five in
-        (n .0 ∙ w .0 ∙ sym (place-stays plan draw u ok len M vec b lines q S 1 c al (leftOf M x) (f .a-held)),
-        n .1 ∙ w .1 ∙ sym (place-stays plan draw u ok len M vec b lines q S 1 c al (rightOf M x) (f .b-held)))
+        let f = S .facts x lx .waiting five in (
+          n .0 ∙ w .0 ∙ sym (place-stays plan draw u ok len M vec b lines q S 1 c al (leftOf M x) (f .a-held)),
+          n .1 ∙ w .1 ∙ sym (place-stays plan draw u ok len M vec b lines q S 1 c al (rightOf M x) (f .b-held)),
+        )
 
     facts' : Facts plan draw (Held (entered u c b)) (Waits (entered u c b)) M' vec'
     facts' =
@@ -259,12 +262,14 @@ module _ (plan : Plan) (draw : Draw) (u : Secrets) (ok : Setting plan draw u) (l
           posts = stand;
           facts = facts';
           openings = λ r j xs o a. elim (among-append (openingLine r j xs) lines (linesOf plan draw u lines c q) a) [
-              inl l ↦ old-opening r j xs o l
+            | inl l ↦ old-opening r j xs o l
             | inr l ↦ (let w = among-posts (openingLine r j xs) (λ i. broadcast i (call i c) (perform (call i c) (q i))) (plan .n) l in
-              new-opening (w .0) (w .1) (w .2) c (z (w .0) (w .1) (w .2)) (allowed-at c z (w .0) (w .1) (w .2)) r j xs o (w .3)) ];
+                new-opening (w .0) (w .1) (w .2) c (z (w .0) (w .1) (w .2)) (allowed-at c z (w .0) (w .1) (w .2)) r j xs o (w .3))
+          ];
           maskings = λ r j xs o a. elim (among-append (masksLine r j xs) lines (linesOf plan draw u lines c q) a) [
-              inl l ↦ old-masks r j xs o l
+            | inl l ↦ old-masks r j xs o l
             | inr l ↦ (let w = among-posts (masksLine r j xs) (λ i. broadcast i (call i c) (perform (call i c) (q i))) (plan .n) l in
-              let n = new-masks (w .0) (w .1) (w .2) c (z (w .0) (w .1) (w .2)) (allowed-at c z (w .0) (w .1) (w .2)) r j xs o (w .3) in
-              (inl (n .0), λ five'. n .1)) ];
+                let n = new-masks (w .0) (w .1) (w .2) c (z (w .0) (w .1) (w .2)) (allowed-at c z (w .0) (w .1) (w .2)) r j xs o (w .3) in
+                (inl (n .0), λ five'. n .1))
+          ];
         }

@@ -5,6 +5,8 @@ pub mod Link
 pub mod Twins
 pub mod State
 pub mod Advance
+pub mod Pair
+pub mod Answers
 pub mod Counting
 pub mod Tests
 pub mod Selections

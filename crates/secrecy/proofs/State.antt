@@ -39,7 +39,6 @@ use Rattle.secrecy.specs.Book.{Book, entered}
 open CommutativeRing 𝓡 using (mul as _⊗_)
 
 infixl 70 _⊗_
-
 -- what a run is made with
 pub record Setting (plan : Plan) (draw : Draw) (u : Secrets) : Type 0 where
   pub sound : Sound plan
@@ -124,15 +123,16 @@ module _ (plan : Plan) (draw : Draw) (u : Secrets) (ok : Setting plan draw u) wh
     fits i lo hi (Steps.opening r blocks) al rule = tt
     fits i lo hi (Steps.linear r x y scale) al rule = tt
     fits i lo hi (Steps.masks x y r lent) al rule = tt
-    fits i lo hi (Steps.finish r blocks blocks') al rule =
-        (all-true (sessionAt plan draw i M) (blocks i lines) (maskA M vec r) (λ j lj hj ne there.
-            let o = rule (inl refl) .0 i j lo hi lj hj ne there in
-            o .4 ∙ ap (take (plan .t + 1)) (both-are r low (al .first) j lj hj (o .0) (mask j lj hj (o .0) (o .1) (o .2)) (o .3))
-            ∙ take-at (numbers (plan .t + 1) (maskA M vec r .v j)) _ (plan .t + 1) (length-numbers (plan .t + 1) (maskA M vec r .v j))),
-        all-true (sessionAt plan draw i M) (blocks' i lines) (maskB M vec r) (λ j lj hj ne there.
-            let o = rule (inl refl) .1 i j lo hi lj hj ne there in
-            o .4 ∙ ap (drop (plan .t + 1)) (both-are r low (al .first) j lj hj (o .0) (mask j lj hj (o .0) (o .1) (o .2)) (o .3))
-            ∙ drop-at (numbers (plan .t + 1) (maskA M vec r .v j)) _ (plan .t + 1) (length-numbers (plan .t + 1) (maskA M vec r .v j))))
+    fits i lo hi (Steps.finish r blocks blocks') al rule = (
+      all-true (sessionAt plan draw i M) (blocks i lines) (maskA M vec r) (λ j lj hj ne there.
+          let o = rule (inl refl) .0 i j lo hi lj hj ne there in
+          o .4 ∙ ap (take (plan .t + 1)) (both-are r low (al .first) j lj hj (o .0) (mask j lj hj (o .0) (o .1) (o .2)) (o .3))
+          ∙ take-at (numbers (plan .t + 1) (maskA M vec r .v j)) _ (plan .t + 1) (length-numbers (plan .t + 1) (maskA M vec r .v j))),
+      all-true (sessionAt plan draw i M) (blocks' i lines) (maskB M vec r) (λ j lj hj ne there.
+          let o = rule (inl refl) .1 i j lo hi lj hj ne there in
+          o .4 ∙ ap (drop (plan .t + 1)) (both-are r low (al .first) j lj hj (o .0) (mask j lj hj (o .0) (o .1) (o .2)) (o .3))
+          ∙ drop-at (numbers (plan .t + 1) (maskA M vec r .v j)) _ (plan .t + 1) (length-numbers (plan .t + 1) (maskA M vec r .v j))),
+    )
       where
         low : r ≤ 93
         low = omega (arith, al .r-low)

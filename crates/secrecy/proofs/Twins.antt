@@ -1,6 +1,6 @@
 -- One post in two runs, whose rows differ by multiples of the kernel: the same refusals.
 use Prim.Native.Nat.{ℕ, zero, suc, _+_, _*_, _-_, _≤_, _<_}
-use mathlib.Core.Path.{_≡_, refl, sym, _∙_, ap, ap₂}
+use mathlib.Core.Path.{_≡_, refl, sym, _∙_, ap, ap₂, subst}
 use mathlib.Core.Bool.{Bool, true, false, not}
 use mathlib.Core.Logic.{_≢_}
 use mathlib.Core.List.{List, [], _∷_, _++_}
@@ -183,18 +183,18 @@ module _ (plan : Plan) (d : Draw) (K : Vector) (M : Marks) (vec vec' : ℕ → V
 
   -- an opening, that has as few in both runs where it comes to the walk
   pub open-same : (r : ℕ) (blocks : List ℕ)
-      → (AllFail (openChecks s l' r blocks) → tooFew s (rowAt W l r) blocks ≡ tooFew s (rowAt W l' r) blocks)
+      → (AllFail (openChecks s l r blocks) → tooFew s (rowAt W l r) blocks ≡ tooFew s (rowAt W l' r) blocks)
       → openRefusal s l r blocks ≡ openRefusal s l' r blocks
   unfolding openRefusal
   open-same r blocks few =
       behind (5 when missized blocks (recordLength s) ∷ 6 when noRow r ∷ 7 when unlike s r 2 ∷ []) (late l) (late l') (λ fr f.
       ap (λ (b : Bool). first (8 when b ∷ 8 when badRecord s blocks ∷ 9 when tooFew s (rowAt W l r) blocks ∷ [])) (low r 1 (f .1 .0) (f .1 .1 .0))
       ∙ same-after (8 when anyBeyond (rowAt W l' r) ∷ 8 when badRecord s blocks ∷ []) (9 when tooFew s (rowAt W l r) blocks ∷ []) (9 when tooFew s (rowAt W l' r) blocks ∷ []) (λ g.
-      ap (λ (b : Bool). first (9 when b ∷ [])) (few (joined fr f g))))
+      ap (λ (b : Bool). first (9 when b ∷ [])) (few (joined (subst AllFail (sym frame-same) fr) f (low r 1 (f .1 .0) (f .1 .1 .0) ∙ g .0, g .1)))))
     where
       late : List ℕ → List Test
       late rows = 8 when anyBeyond (rowAt W rows r) ∷ 8 when badRecord s blocks ∷ 9 when tooFew s (rowAt W rows r) blocks ∷ []
 
-      joined : AllFail (frameTests s l') → AllFail (5 when missized blocks (recordLength s) ∷ 6 when noRow r ∷ 7 when unlike s r 2 ∷ [])
-          → AllFail (8 when anyBeyond (rowAt W l' r) ∷ 8 when badRecord s blocks ∷ []) → AllFail (openChecks s l' r blocks)
+      joined : AllFail (frameTests s l) → AllFail (5 when missized blocks (recordLength s) ∷ 6 when noRow r ∷ 7 when unlike s r 2 ∷ [])
+          → AllFail (8 when anyBeyond (rowAt W l r) ∷ 8 when badRecord s blocks ∷ []) → AllFail (openChecks s l r blocks)
       joined fr f g = (fr .0, (fr .1 .0, (fr .1 .1 .0, (fr .1 .1 .1 .0, (fr .1 .1 .1 .1 .0, (f .0, (f .1 .0, (f .1 .1 .0, (g .0, (g .1 .0, tt))))))))))

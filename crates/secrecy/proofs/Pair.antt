@@ -1,0 +1,210 @@
+-- Two runs side by side, of one list of calls, under the two lists of secrets and with the two draws: the same answers and lines.
+use Prim.Native.Nat.{ℕ, zero, suc, _+_, _*_, _-_, _≤_, _<_}
+use mathlib.Core.Path.{_≡_, refl, sym, _∙_, ap, ap₂, subst}
+use mathlib.Core.Bool.{Bool, true, false}
+use mathlib.Core.Logic.{_≢_, _⊎_, inl, inr}
+use mathlib.Core.List.{List, [], _∷_, _++_}
+use native.Mathlib.Decide.{ℕ-discrete}
+use native.Mathlib.Omega.{arith}
+use borrow.Author.Tests.{ltb-false}
+use lib.ListN.{length, take}
+use Rattle.field.specs.Modulus.{p}
+use Rattle.field.specs.Algebra.{CommutativeRing}
+use Rattle.field.specs.Element.{Element, element}
+use Rattle.field.proofs.Elements.{𝓡, element-path}
+use Rattle.poly.specs.Counting.{All}
+use Rattle.refusal.specs.Refusal.{Test, _when_, first, outcome, AllFail}
+use Rattle.refusal.proofs.Laws.{equal, all-fail}
+use Rattle.session.specs.declared.Session.{Session}
+use Rattle.session.specs.Rows.{rowAt, coefficients}
+use Rattle.opening.specs.Walking.{blockCoefficients, tooFew, opened}
+use Rattle.opening.specs.Opening.{openRefusal, openChecks, openTests}
+use Rattle.vectors.specs.Vector.{Vector, number, rowOf}
+use Rattle.runs.specs.Draws.{Plan, Draw, pointOf}
+use Rattle.runs.specs.Calls.{Post, Call, openingLine, masksLine, Among}
+use Rattle.runs.proofs.Marks.{Marks, markOf, leftOf, rightOf, sessionAt, less, maskA, maskB}
+use Rattle.runs.proofs.Outcomes.{conditionAt, fails, passed, refusalOf}
+use Rattle.runs.proofs.Holds.{Holds}
+use Rattle.runs.proofs.Steps.{Stands, postAt}
+use Rattle.runs.proofs.Records.{Proper, Present, block-many, block-low, alone}
+use Rattle.runs.proofs.Lines.{Opening}
+use Rattle.secrecy.specs.Steps as Steps
+use Rattle.secrecy.specs.Steps.{Secrets, Step, Pack, Number, Record, own, sent, callAt, dealtNumber}
+use Rattle.secrecy.specs.Rules.{Rule, Walks}
+use Rattle.secrecy.specs.Book.{Book, Agrees}
+use Rattle.secrecy.proofs.Near.{gap, Near, mask-number}
+use Rattle.secrecy.proofs.Link.{Gaps, Alike, Link}
+use Rattle.secrecy.proofs.Twins.{row-same, load-same, triple-same, deal-same, message-same, linear-same, masks-same, finish-same, open-same}
+use Rattle.secrecy.proofs.State.{Setting, sizes, AnOpening, State}
+open CommutativeRing 𝓡 using (add as _⊕_, neg)
+
+infixl 65 _⊕_
+-- by how much the numbers in a place differ
+abbrev pub apart : ℕ → ℕ → Element
+apart x x' = element x' ⊕ neg (element x)
+
+-- the two runs
+pub record Two : Type 0 where
+  pub plan : Plan
+  pub group : List ℕ
+  pub d : Draw
+  pub d' : Draw
+  pub u : Secrets
+  pub u' : Secrets
+  pub ok : Setting plan d u
+  pub ok' : Setting plan d' u'
+  pub len : ℕ → ℕ
+  pub K : Vector
+  pub Δ : ℕ → Gaps
+  pub link : Link plan group d d' u u' K Δ
+
+module _ (T : Two) where
+  abbrev n : ℕ
+  n = T .plan .n
+
+  abbrev Nearly : Vector → Vector → Type 0
+  Nearly = Near (T .plan .n) (T .plan .t + 1) (pointOf (T .d)) (T .K)
+
+  pub record Pair (M : Marks) (vec vec' : ℕ → Vector) (b b' : Book) (lines : List (List ℕ)) (q q' : ℕ → Post) : Type 0 where
+    pub one : State (T .plan) (T .d) (T .u) (T .ok) (T .len) M vec b lines q
+    pub two : State (T .plan) (T .d') (T .u') (T .ok') (T .len) M vec' b' lines q'
+    pub near : (r : ℕ) → r < 96 → markOf M r ≢ 0 → Near (T .plan .n) (T .plan .t + 1) (pointOf (T .d)) (T .K) (vec r) (vec' r)
+    pub group-same : All (λ i. q i ≡ q' i) (T .group)
+    pub agreed : (r j : ℕ) (xs : List ℕ) → AnOpening (T .plan) (T .d) (T .u) (T .ok) r j xs → Among (openingLine r j xs) lines
+        → b .place r ≡ b' .place r
+    pub waiting : (r : ℕ) → r < 96 → markOf M r ≡ 5
+        → (apart (b .factorA r) (b' .factorA r) ≡ T .Δ r .left) × (apart (b .factorB r) (b' .factorB r) ≡ T .Δ r .right)
+
+  module _ (M : Marks) (vec vec' : ℕ → Vector) (b b' : Book) (lines : List (List ℕ)) (q q' : ℕ → Post) (R : Pair M vec vec' b b' lines q q') where
+    -- ---- numbers in the two runs
+
+    held-one : (r : ℕ) → r < 96 → markOf M r ≡ 2 → number (vec r) ≡ element (b .place r)
+    held-one r lr two = R .one .facts r lr .held two
+
+    held-two : (r : ℕ) → r < 96 → markOf M r ≡ 2 → number (vec' r) ≡ element (b' .place r)
+    held-two r lr two = R .two .facts r lr .held two
+
+    -- a held row with one place in both books has one number
+    pub place-number : (r : ℕ) → r < 96 → markOf M r ≡ 2 → b .place r ≡ b' .place r → number (vec r) ≡ number (vec' r)
+    place-number r lr two e = held-one r lr two ∙ ap element e ∙ sym (held-two r lr two)
+
+    held-gap : (r : ℕ) → r < 96 → markOf M r ≡ 2 → gap (vec r) (vec' r) ≡ apart (b .place r) (b' .place r)
+    held-gap r lr two = ap₂ (λ (x y : Element). x ⊕ neg y) (held-two r lr two) (held-one r lr two)
+
+    triple-gap : (r : ℕ) → r < 96 → (markOf M r ≡ 3) ⊎ (markOf M r ≡ 5)
+        → (gap (vec r) (vec' r) ≡ T .Δ r .left) × (gap (vec (r + 1)) (vec' (r + 1)) ≡ T .Δ r .right)
+    triple-gap r lr m =
+        let x = R .one .facts r lr .triple m in
+        let y = R .two .facts r lr .triple m in
+        (ap₂ gap (x .is-a) (y .is-a) ∙ T .link .gap-a r lr (x .drawn), ap₂ gap (x .is-b) (y .is-b) ∙ T .link .gap-b r lr (x .drawn))
+
+    -- the masks have one number in both runs
+    pub masks-number : (r x y : ℕ) → r < 96 → (markOf M r ≡ 3) ⊎ (markOf M r ≡ 5) → x < 96 → markOf M x ≡ 2 → y < 96 → markOf M y ≡ 2
+        → apart (b .place x) (b' .place x) ≡ T .Δ r .left → apart (b .place y) (b' .place y) ≡ T .Δ r .right
+        → (number (less (vec x) (vec r)) ≡ number (less (vec' x) (vec' r)))
+        × (number (less (vec y) (vec (r + 1))) ≡ number (less (vec' y) (vec' (r + 1))))
+    masks-number r x y lr m lx hx ly hy ea eb =
+        let g = triple-gap r lr m in (
+          mask-number (vec x) (vec' x) (vec r) (vec' r) (held-gap x lx hx ∙ ea ∙ sym (g .0)),
+          mask-number (vec y) (vec' y) (vec (r + 1)) (vec' (r + 1)) (held-gap y ly hy ∙ eb ∙ sym (g .1)),
+        )
+
+    pub wait-numbers : (r : ℕ) → markOf M r ≡ 5 → r < 96
+        → (number (maskA M vec r) ≡ number (maskA M vec' r)) × (number (maskB M vec r) ≡ number (maskB M vec' r))
+    wait-numbers r five lr =
+        let w = R .one .facts r lr .waiting five in
+        let w' = R .two .facts r lr .waiting five in
+        let e = R .waiting r lr five in
+        masks-number r (leftOf M r) (rightOf M r) lr (inr five) (w .a-low) (w .a-held) (w .b-low) (w .b-held)
+        (ap₂ apart (sym (w .means .0)) (sym (w' .means .0)) ∙ e .0) (ap₂ apart (sym (w .means .1)) (sym (w' .means .1)) ∙ e .1)
+
+    -- what the call's place in the list says of masks: they are those that the matching reckoned with
+    abbrev pub Fit : Step → Type 0
+    Fit (Steps.loadRow r pack) = Unit {0}
+    Fit (Steps.loadTriple r pack) = Unit {0}
+    Fit (Steps.deal r c) = Unit {0}
+    Fit (Steps.message r lent) = Unit {0}
+    Fit (Steps.opening r blocks) = Unit {0}
+    Fit (Steps.linear r x y scale) = Unit {0}
+    Fit (Steps.masks x y r lent) =
+        (apart (b .place x) (b' .place x) ≡ T .Δ r .left) × (apart (b .place y) (b' .place y) ≡ T .Δ r .right)
+    Fit (Steps.finish r blocks blocks') = Unit {0}
+
+    -- ---- one post
+
+    module _ (i : ℕ) (lo : 1 ≤ i) (hi : i ≤ T .plan .n) where
+      abbrev s : Session
+      s = sessionAt (T .plan) (T .d) i M
+
+      abbrev l : List ℕ
+      l = q i .rows
+
+      abbrev l' : List ℕ
+      l' = q' i .rows
+
+      pub h : Holds (T .plan) (T .d) (T .len i) i M vec (q i .rows)
+      h = R .one .posts i lo hi .holds
+
+      -- the second run's post, with the first draw's check point, which is the same
+      pub h' : Holds (T .plan) (T .d) (T .len i) i M vec' (q' i .rows)
+      h' =
+          let g = R .two .posts i lo hi .holds in
+          record {
+            long = g .long;
+            rows = λ r lr ne. g .rows r lr ne ∙ ap (λ (f : ℕ → ℕ). rowOf (T .plan .t + 1) (T .plan .n) i (element (f i)) (vec' r)) (T .link .points);
+          }
+
+      -- an opening that comes to the walk finds one number in both runs, or nobody's polynomial but the own
+      module _ (r : ℕ) (blocks : Record) (rule : Rule (T .plan) (Steps.opening r blocks) (openRefusal s l r (blocks i lines)) lines) where
+        walks-of : (xs : List Test) → AllFail xs → (t : Bool) → Walks (first (xs ++ (9 when t ∷ [])))
+        walks-of [] f true = inr refl
+        walks-of [] f false = inl refl
+        walks-of (k when true ∷ xs) f t = let z : _≡_ {A = ℕ} 0 1 = cc in absurd (omega arith)
+        walks-of (k when false ∷ xs) f t = walks-of xs (f .1) t
+
+        walks : AllFail (openChecks s l r (blocks i lines)) → Walks (openRefusal s l r (blocks i lines))
+        unfolding openRefusal
+        walks f = walks-of (openChecks s l r (blocks i lines)) f (tooFew s (rowAt (T .plan .t + 1 + 2 * T .plan .n) l r) (blocks i lines))
+
+        -- others' polynomials in the record were broadcast, so the number agrees
+        told : AllFail (openChecks s l r (blocks i lines)) → (j : ℕ) → 1 ≤ j → j ≤ T .plan .n → j ≢ i → Present s (blocks i lines) j
+            → number (vec r) ≡ number (vec' r)
+        told f j lj hj ne there = place-number r lr two (R .agreed r j _ message (rule (walks f) i j lo hi lj hj ne there))
+          where
+            g : (k : ℕ) → conditionAt (openChecks s l r (blocks i lines)) k ≡ false
+            g = fails (openChecks s l r (blocks i lines)) f
+
+            lr : r < 96
+            lr = omega (arith, ltb-false 95 r (g 6))
+
+            two : markOf M r ≡ 2
+            two = equal (markOf M r) 2 (g 7)
+
+            proper : Proper s (blocks i lines)
+            proper = record { long = equal _ _ (g 5); low = g 9 }
+
+            message : AnOpening (T .plan) (T .d) (T .u) (T .ok) r j (blockCoefficients (T .plan .t + 1) (blocks i lines) j)
+            message =
+                record {
+                  row = ltb-false 95 r (g 6);
+                  post = (lj, hj);
+                  many = block-many s (blocks i lines) j lj hj ne proper there;
+                  low = block-low s (blocks i lines) j lj hj ne proper there;
+                }
+
+        pub few-same : AllFail (openChecks s l r (blocks i lines))
+            → (number (vec r) ≡ number (vec' r))
+            ⊎ ((tooFew s (rowAt (T .plan .t + 1 + 2 * T .plan .n) l r) (blocks i lines) ≡ true) × (tooFew s (rowAt (T .plan .t + 1 + 2 * T .plan .n) l' r) (blocks i lines) ≡ true))
+        few-same f = go (ℕ-discrete (number (vec r) .0) (number (vec' r) .0))
+          where
+            t-low : 1 ≤ T .plan .t
+            t-low = sizes (T .plan) (T .ok .sound) .t-low
+
+            nobody : number (vec r) .0 ≢ number (vec' r) .0 → (j : ℕ) → 1 ≤ j → j ≤ T .plan .n → j ≢ i → Present s (blocks i lines) j → ⊥
+            nobody ne j lj hj ji there = ne (ap (λ (z : Element). z .0) (told f j lj hj ji there))
+
+            go : Dec (number (vec r) .0 ≡ number (vec' r) .0)
+                → (number (vec r) ≡ number (vec' r))
+                ⊎ ((tooFew s (rowAt (T .plan .t + 1 + 2 * T .plan .n) l r) (blocks i lines) ≡ true) × (tooFew s (rowAt (T .plan .t + 1 + 2 * T .plan .n) l' r) (blocks i lines) ≡ true))
+            go (yes e) = inl (element-path _ _ e)
+            go (no ne) = inr (alone s (blocks i lines) _ t-low (nobody ne), alone s (blocks i lines) _ t-low (nobody ne))
