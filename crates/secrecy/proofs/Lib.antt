@@ -2,6 +2,9 @@ pub mod Kernel
 pub mod Near
 pub mod Shift
 pub mod Link
+pub mod Triples
+pub mod Moved
+pub mod Linked
 pub mod Counting
 pub mod Tests
 pub mod Selections
