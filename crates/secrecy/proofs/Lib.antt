@@ -5,6 +5,8 @@ pub mod Link
 pub mod Triples
 pub mod Moved
 pub mod Linked
+pub mod Unchanged
+pub mod Back
 pub mod Counting
 pub mod Tests
 pub mod Selections

@@ -5,7 +5,6 @@ use mathlib.Core.Path.{_≡_, refl, sym, _∙_, ap, ap₂, subst}
 use mathlib.Core.Bool.{Bool, true, false, cond}
 use mathlib.Core.Logic.{_⊎_, inl, inr}
 use mathlib.Core.List.{List, [], _∷_, _++_}
-use native.Mathlib.Nat.{mul-le-mul}
 use native.Mathlib.Omega.{arith}
 use lib.ListN.{length, getD, length-append}
 use Rattle.field.specs.Modulus.{p}
@@ -39,7 +38,7 @@ use Rattle.secrecy.proofs.Near.{gap, Near, Unseen, groupPosts, groupPoi
 use Rattle.secrecy.proofs.Shift.{shift, gap-shift, near-shift}
 use Rattle.secrecy.proofs.Link.{Gaps, Alike, Link}
 use Rattle.secrecy.proofs.Triples.{shift-empty, shift-constant, movedTriple, triple-none}
-use Rattle.secrecy.proofs.Moved.{lists-nothing, layout, secretGap, productGap, moved, moved-points, moved-raw, moved-triple, moved-is, all-at, kernel-unit, layout-unit, group-unseen, moved-a, moved-b, moved-ab}
+use Rattle.secrecy.proofs.Moved.{lists-nothing, layout, secretGap, productGap, moved, moved-points, moved-raw, moved-triple, moved-is, row-some, all-at, kernel-unit, layout-unit, group-unseen, moved-a, moved-b, moved-ab}
 open CommutativeRing 𝓡 using (add as _⊕_, neg)
 
 infixl 65 _⊕_
@@ -115,15 +114,14 @@ module _ (plan : Plan) (group : List ℕ) (u u' : Secrets) (Δ : ℕ → Gaps) (
       (near-shift (plan .t + 1) K δ (omega arith) (plan .n) (pointOf d) xs
       (kernel-c (groupPosts (pointOf d) group) (groupPoints (pointOf d) group)) (kernel-unit plan group d sound few is) (h .many))
 
-  row-some : (xs : List ℕ) → Drawn (rowLength plan) xs → 1 ≤ length xs
-  row-some xs h =
-      omega (arith, h .many, mul-le-mul {n₁ = 1} {m₁ = 1} {n₂ = plan .t + 1} {m₂ = plan .n + 1} (omega arith) (omega arith))
+  some-drawn : (xs : List ℕ) → Drawn (rowLength plan) xs → 1 ≤ length xs
+  some-drawn xs h = omega (arith, h .many, row-some plan)
 
   gap-is : (δ : Element) (xs ys : List ℕ) → ys ≡ shift (layout plan group d) δ xs → Drawn (rowLength plan) xs
       → gap (vector xs) (vector ys) ≡ δ
   gap-is δ xs ys e h =
       ap (λ (l : List ℕ). gap (vector xs) (vector l)) e
-      ∙ gap-shift (plan .t + 1) K δ (omega arith) xs (kernel-unit plan group d sound few is) (row-some xs h)
+      ∙ gap-shift (plan .t + 1) K δ (omega arith) xs (kernel-unit plan group d sound few is) (some-drawn xs h)
 
   near-raw : (r : ℕ) → r < 96 → IsRaw (plan .raw r) → Nearly (rawVector plan d r) (rawVector plan d' r)
   near-raw r row h = nearly (secretGap u u' r) _ _ (moved-raw plan group u u' Δ d r) (raw-drawn plan d is r row h)
@@ -140,7 +138,7 @@ module _ (plan : Plan) (group : List ℕ) (u u' : Secrets) (Δ : ℕ → Gaps) (
 
   -- ---- the dealers' numbers
 
-  pub same-deals : (r : ℕ) → dealtNumber plan d u r ≡ dealtNumber plan d' u' r
+  same-deals : (r : ℕ) → dealtNumber plan d u r ≡ dealtNumber plan d' u' r
   unfolding dealtNumber Same
   same-deals r = go (plan .raw r) refl
     where
@@ -151,7 +149,7 @@ module _ (plan : Plan) (group : List ℕ) (u u' : Secrets) (Δ : ℕ → Gaps) (
       f1 = getD (rawDraw d' r) 0 0
 
       low : (xs : List ℕ) → Drawn (rowLength plan) xs → getD xs 0 0 < p
-      low xs h = all-at (λ x. x < p) xs (h .low) 0 (row-some xs h)
+      low xs h = all-at (λ x. x < p) xs (h .low) 0 (some-drawn xs h)
 
       go : (k : Raw) → plan .raw r ≡ k → whenRaw k (dealerNumber (u r) f0 .value) 0 ≡ whenRaw k (dealerNumber (u' r) f1 .value) 0
       go none e = refl
@@ -161,7 +159,7 @@ module _ (plan : Plan) (group : List ℕ) (u u' : Secrets) (Δ : ℕ → Gaps) (
           let drawn = raw-drawn plan d is r row raw in
           let new : element f1 ≡ element f0 ⊕ secretGap u u' r =
           ap (λ (l : List ℕ). element (getD l 0 0)) (moved-raw plan group u u' Δ d r)
-          ∙ shift-constant (layout plan group d) (secretGap u u' r) (rawDraw d r) (layout-unit plan group d sound few is) (row-some _ drawn) in
+          ∙ shift-constant (layout plan group d) (secretGap u u' r) (rawDraw d r) (layout-unit plan group d sound few is) (some-drawn _ drawn) in
           dealer-value (u r) f0 (secrets r raw .0) (low _ drawn)
           ∙ element-injective _ _ (difference-below (u r) f0) (difference-below (u' r) f1)
           (element-difference (u r) f0

@@ -168,36 +168,40 @@ module _ (plan : Plan) (group : List ℕ) (d : Draw) (sound : Sound plan) (few :
 
 -- ---- a triple's three draws
 
+pub row-some : (plan : Plan) → 1 ≤ rowLength plan
+row-some plan = mul-le-mul {n₁ = 1} {m₁ = 1} {n₂ = plan .t + 1} {m₂ = plan .n + 1} (omega arith) (omega arith)
+
+pub triple-long : (plan : Plan) (d : Draw) → IsDraw plan d → (r : ℕ) → r < 96 → plan .triple r ≡ true
+    → rowLength plan + rowLength plan ≤ length (tripleDraw d r)
+unfolding tripleDraw
+triple-long plan d is r row drawn =
+    omega (arith, row-some plan, is .triples .each r row .0 ∙ ap (λ (b : Bool). cond b (3 * rowLength plan - 1) 0) drawn)
+
 module _ (plan : Plan) (group : List ℕ) (u u' : Secrets) (Δ : ℕ → Gaps) (d : Draw) (sound : Sound plan)
     (few : Group plan group) (is : IsDraw plan d) (r : ℕ) (row : r < 96) (drawn : plan .triple r ≡ true) where
-  row-some : 1 ≤ rowLength plan
-  row-some = mul-le-mul {n₁ = 1} {m₁ = 1} {n₂ = plan .t + 1} {m₂ = plan .n + 1} (omega arith) (omega arith)
-
-  triple-long : rowLength plan + rowLength plan ≤ length (tripleDraw d r)
-  unfolding tripleDraw
-  triple-long =
-      omega (arith, row-some, is .triples .each r row .0 ∙ ap (λ (b : Bool). cond b (3 * rowLength plan - 1) 0) drawn)
+  long : rowLength plan + rowLength plan ≤ length (tripleDraw d r)
+  long = triple-long plan d is r row drawn
 
   pub moved-a : drawA plan (moved plan group u u' Δ d) r ≡ shift (layout plan group d) (Δ r .left) (drawA plan d r)
   moved-a =
       ap (take (rowLength plan)) (moved-triple plan group u u' Δ d r)
-      ∙ triple-first (rowLength plan) (layout plan group d) (Δ r .left) (Δ r .right) (tripleDraw d r) triple-long
+      ∙ triple-first (rowLength plan) (layout plan group d) (Δ r .left) (Δ r .right) (tripleDraw d r) long
 
   pub moved-b : drawB plan (moved plan group u u' Δ d) r ≡ shift (layout plan group d) (Δ r .right) (drawB plan d r)
   moved-b =
       ap (λ (l : List ℕ). take (rowLength plan) (drop (rowLength plan) l)) (moved-triple plan group u u' Δ d r)
-      ∙ triple-second (rowLength plan) (layout plan group d) (Δ r .left) (Δ r .right) (tripleDraw d r) triple-long
+      ∙ triple-second (rowLength plan) (layout plan group d) (Δ r .left) (Δ r .right) (tripleDraw d r) long
 
   pub moved-ab : drawAB plan (moved plan group u u' Δ d) r ≡ shift (layout plan group d) (productGap plan Δ d r) (drawAB plan d r)
   unfolding Same
   moved-ab =
       ap (thirdDraw (rowLength plan)) (moved-triple plan group u u' Δ d r)
-      ∙ ap (λ (l : List ℕ). product m0 m1 ∷ l) (triple-rest (rowLength plan) fl a b (tripleDraw d r) triple-long)
+      ∙ ap (λ (l : List ℕ). product m0 m1 ∷ l) (triple-rest (rowLength plan) fl a b (tripleDraw d r) long)
       ∙ shift-cons (plan .t + 1) (groupKernel (pointOf d) group) (productGap plan Δ d r) (omega arith) (product l0 l1) (product m0 m1)
       (drop (rowLength plan + rowLength plan) (tripleDraw d r)) (kernel-unit plan group d sound few is) (product-below m0 m1)
       (element-product m0 m1
-      ∙ ap₂ _⊗_ (triple-left (rowLength plan) fl a b (tripleDraw d r) triple-long row-some unit)
-      (triple-right (rowLength plan) fl a b (tripleDraw d r) triple-long row-some unit)
+      ∙ ap₂ _⊗_ (triple-left (rowLength plan) fl a b (tripleDraw d r) long (row-some plan) unit)
+      (triple-right (rowLength plan) fl a b (tripleDraw d r) long (row-some plan) unit)
       ∙ solve 𝓡 (element l0 ∷ element l1 ∷ a ∷ b ∷ []) ((A :+ C) :* (B :+ D)) (A :* B :+ (A :* D :+ B :* C :+ C :* D)) refl
       ∙ ap (λ (z : Element). z ⊕ productGap plan Δ d r) (sym (element-product l0 l1)))
     where
