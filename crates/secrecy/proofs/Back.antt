@@ -36,7 +36,8 @@ module _ (plan : Plan) (group : List ℕ) (u u' : Secrets) (Δ Δ' : ℕ → Gap
   raws-back =
       each-back (λ r. shift fl (secretGap u u' r)) (λ r. shift fl (secretGap u' u r)) (d .raws)
       (λ r l.
-      shift-back fl (secretGap u u' r) (secretGap u' u r) (getD (d .raws) r []) (lists-elements (rawLength plan) (d .raws) (is .raws) r)
+      shift-back fl (secretGap u u' r) (secretGap u' u r) (getD (d .raws) r [])
+      (lists-elements (rawLength plan) (d .raws) (is .raws) r)
       (solve 𝓡 (element (u r) ∷ element (u' r) ∷ []) (A :- B) (:- (B :- A)) refl))
 
   triple-here : (r : ℕ) → r < 96 → (b : Bool) → plan .triple r ≡ b
@@ -54,7 +55,8 @@ module _ (plan : Plan) (group : List ℕ) (u u' : Secrets) (Δ Δ' : ℕ → Gap
       (lists-elements (tripleLength plan) (d .triples) (is .triples) r) (left r) (right r)
 
   triples-back : each hither (each forth (d .triples)) ≡ d .triples
-  triples-back = each-back forth hither (d .triples) (λ r l. triple-here r (omega (arith, is .triples .count)) (plan .triple r) refl)
+  triples-back =
+      each-back forth hither (d .triples) (λ r l. triple-here r (omega (arith, is .triples .count)) (plan .triple r) refl)
 
   pub back : moved plan group u' u Δ' (moved plan group u u' Δ d) ≡ d
   unfolding moved pointOf

@@ -86,7 +86,8 @@ row-elements : (k n i : ℕ) (w : Element) (S : Vector) → Elements (rowOf k n 
 unfolding rowOf
 row-elements k n i w S =
     elements-both (numbers k (S .v i)) _ (numbers-elements k (S .v i))
-    (elements-both (numbers n (checkOf k w S)) (numbers n (sumAt k S)) (numbers-elements n (checkOf k w S)) (numbers-elements n (sumAt k S)))
+    (elements-both (numbers n (checkOf k w S)) (numbers n (sumAt k S)) (numbers-elements n (checkOf k w S))
+    (numbers-elements n (sumAt k S)))
 
 module _ (plan : Plan) (group : List ℕ) (u u' : Secrets) (Δ : ℕ → Gaps) (d : Draw) (sound : Sound plan)
     (few : Group plan group) (secrets : (r : ℕ) → IsRaw (plan .raw r) → (u r < p) × (u' r < p)) (is : IsDraw plan d) where
@@ -159,7 +160,8 @@ module _ (plan : Plan) (group : List ℕ) (u u' : Secrets) (Δ : ℕ → Gaps) (
           let drawn = raw-drawn plan d is r row raw in
           let new : element f1 ≡ element f0 ⊕ secretGap u u' r =
           ap (λ (l : List ℕ). element (getD l 0 0)) (moved-raw plan group u u' Δ d r)
-          ∙ shift-constant (layout plan group d) (secretGap u u' r) (rawDraw d r) (layout-unit plan group d sound few is) (some-drawn _ drawn) in
+          ∙ shift-constant (layout plan group d) (secretGap u u' r) (rawDraw d r) (layout-unit plan group d sound few is)
+          (some-drawn _ drawn) in
           dealer-value (u r) f0 (secrets r raw .0) (low _ drawn)
           ∙ element-injective _ _ (difference-below (u r) f0) (difference-below (u' r) f1)
           (element-difference (u r) f0
@@ -189,12 +191,15 @@ module _ (plan : Plan) (group : List ℕ) (u u' : Secrets) (Δ : ℕ → Gaps) (
       ap₂
       (λ (w : ℕ) (l : List ℕ).
       part (plan .n) (plan .t + 1) i w (firstDraw (rowLength plan) l)
-      ++ (part (plan .n) (plan .t + 1) i w (secondDraw (rowLength plan) l) ++ part (plan .n) (plan .t + 1) i w (thirdDraw (rowLength plan) l)))
+      ++ (part (plan .n) (plan .t + 1) i w (secondDraw (rowLength plan) l)
+      ++ part (plan .n) (plan .t + 1) i w (thirdDraw (rowLength plan) l)))
       (point-same i)
       (empty ∙ sym (moved-triple plan group u u' Δ d r ∙ ap (movedTriple _ _ _ _) empty ∙ triple-none _ _ _ _))
     where
       empty : tripleDraw d r ≡ []
-      empty = lists-nothing (tripleLength plan) (d .triples) (is .triples) r (ap (λ (b : Bool). cond b (3 * rowLength plan - 1) 0) e)
+      empty =
+          lists-nothing (tripleLength plan) (d .triples) (is .triples) r
+          (ap (λ (b : Bool). cond b (3 * rowLength plan - 1) 0) e)
 
   -- all posts: packs of elements, and as long
   both-rows : (i : ℕ) (X Y : Vector) → Both (rowFor plan d i X) (rowFor plan d' i Y)
@@ -240,7 +245,8 @@ module _ (plan : Plan) (group : List ℕ) (u u' : Secrets) (Δ : ℕ → Gaps) (
           | inl e ↦ raw-same i k e
           | inr h ↦
               let row : k < 96 = omega (arith, sound .raws k h) in
-              raw-pack plan d is k row h i (post .1) ∙ same-row _ _ (near-raw k row h) ∙ sym (raw-pack plan d' is' k row h i (post .1))
+              raw-pack plan d is k row h i (post .1) ∙ same-row _ _ (near-raw k row h)
+              ∙ sym (raw-pack plan d' is' k row h i (post .1))
         ]
 
     triple-blind : (k : ℕ) → triplePack plan d i k ≡ triplePack plan d' i k
@@ -250,7 +256,8 @@ module _ (plan : Plan) (group : List ℕ) (u u' : Secrets) (Δ : ℕ → Gaps) (
           | inr h ↦
               let row : k < 96 = omega (arith, sound .triples k h) in
               triple-pack plan d is k row h i (post .1)
-              ∙ ap₂ _++_ (same-row _ _ (near-a k row h)) (ap₂ _++_ (same-row _ _ (near-b k row h)) (same-row _ _ (near-ab k row h)))
+              ∙ ap₂ _++_ (same-row _ _ (near-a k row h))
+              (ap₂ _++_ (same-row _ _ (near-b k row h)) (same-row _ _ (near-ab k row h)))
               ∙ sym (triple-pack plan d' is' k row h i (post .1))
         ]
 

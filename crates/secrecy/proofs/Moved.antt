@@ -101,6 +101,12 @@ abbrev pub productGap : Plan → (ℕ → Gaps) → Draw → ℕ → Element
 productGap plan Δ d r = cross (rowLength plan) (Δ r .left) (Δ r .right) (tripleDraw d r)
 
 module _ (plan : Plan) (group : List ℕ) (u u' : Secrets) (Δ : ℕ → Gaps) (d : Draw) where
+  abbrev fl : ℕ → Element
+  fl = layout plan group d
+
+  abbrev atTriple : ℕ → List ℕ → List ℕ
+  atTriple r = movedTriple (rowLength plan) (layout plan group d) (Δ r .left) (Δ r .right)
+
   -- Where nothing was drawn the list is empty, and stays so.
   unfoldable pub moved : Draw
   moved =
@@ -116,11 +122,12 @@ module _ (plan : Plan) (group : List ℕ) (u u' : Secrets) (Δ : ℕ → Gaps) (
 
   pub moved-raw : (r : ℕ) → rawDraw moved r ≡ shift (layout plan group d) (secretGap u u' r) (rawDraw d r)
   unfolding moved rawDraw
-  moved-raw = each-at (λ r. shift (layout plan group d) (secretGap u u' r)) (λ r. shift-empty _ _) (d .raws)
+  moved-raw = each-at (λ r. shift fl (secretGap u u' r)) (λ r. shift-empty _ _) (d .raws)
 
-  pub moved-triple : (r : ℕ) → tripleDraw moved r ≡ movedTriple (rowLength plan) (layout plan group d) (Δ r .left) (Δ r .right) (tripleDraw d r)
+  pub moved-triple : (r : ℕ)
+      → tripleDraw moved r ≡ movedTriple (rowLength plan) (layout plan group d) (Δ r .left) (Δ r .right) (tripleDraw d r)
   unfolding moved tripleDraw
-  moved-triple = each-at _ (λ r. triple-none (rowLength plan) (layout plan group d) (Δ r .left) (Δ r .right)) (d .triples)
+  moved-triple = each-at atTriple (λ r. triple-none _ _ _ _) (d .triples)
 
   pub moved-is : IsDraw plan d → IsDraw plan moved
   unfolding moved
@@ -128,11 +135,13 @@ module _ (plan : Plan) (group : List ℕ) (u u' : Secrets) (Δ : ℕ → Gaps) (
       record {
         posts = is .posts;
         points = is .points;
-        raws = each-lists (rawLength plan) _ (d .raws) (λ r. shift-empty _ _)
-            (λ r. length-shift (layout plan group d) (secretGap u u' r)) (λ r. elements-shift (layout plan group d) (secretGap u u' r)) (is .raws);
-        triples = each-lists (tripleLength plan) _ (d .triples) (λ r. triple-none (rowLength plan) (layout plan group d) (Δ r .left) (Δ r .right))
-            (λ r. length-triple (rowLength plan) (layout plan group d) (Δ r .left) (Δ r .right))
-            (λ r. elements-triple (rowLength plan) (layout plan group d) (Δ r .left) (Δ r .right)) (is .triples);
+        raws =
+            each-lists (rawLength plan) _ (d .raws) (λ r. shift-empty _ _) (λ r. length-shift fl (secretGap u u' r))
+            (λ r. elements-shift fl (secretGap u u' r)) (is .raws);
+        triples =
+            each-lists (tripleLength plan) atTriple (d .triples) (λ r. triple-none _ _ _ _)
+            (λ r. length-triple (rowLength plan) fl (Δ r .left) (Δ r .right))
+            (λ r. elements-triple (rowLength plan) fl (Δ r .left) (Δ r .right)) (is .triples);
       }
 
 -- ---- the kernel of a group of posts
@@ -197,8 +206,9 @@ module _ (plan : Plan) (group : List ℕ) (u u' : Secrets) (Δ : ℕ → Gaps) (
   moved-ab =
       ap (thirdDraw (rowLength plan)) (moved-triple plan group u u' Δ d r)
       ∙ ap (λ (l : List ℕ). product m0 m1 ∷ l) (triple-rest (rowLength plan) fl a b (tripleDraw d r) long)
-      ∙ shift-cons (plan .t + 1) (groupKernel (pointOf d) group) (productGap plan Δ d r) (omega arith) (product l0 l1) (product m0 m1)
-      (drop (rowLength plan + rowLength plan) (tripleDraw d r)) (kernel-unit plan group d sound few is) (product-below m0 m1)
+      ∙ shift-cons (plan .t + 1) (groupKernel (pointOf d) group) (productGap plan Δ d r) (omega arith) (product l0 l1)
+      (product m0 m1) (drop (rowLength plan + rowLength plan) (tripleDraw d r)) (kernel-unit plan group d sound few is)
+      (product-below m0 m1)
       (element-product m0 m1
       ∙ ap₂ _⊗_ (triple-left (rowLength plan) fl a b (tripleDraw d r) long (row-some plan) unit)
       (triple-right (rowLength plan) fl a b (tripleDraw d r) long (row-some plan) unit)

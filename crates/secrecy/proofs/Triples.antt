@@ -81,7 +81,8 @@ module _ (d : ℕ) (fl : ℕ → Element) (a b : Element) where
   unfolding movedTriple
   elements-triple l =
       elements-both (one l) (two l ++ rest l) (elements-shift fl a (take d l))
-      (elements-both (two l) (rest l) (elements-shift fl b (take d (drop d l))) (elements-shift (λ m. fl (suc m)) (cross d a b l) (drop (d + d) l)))
+      (elements-both (two l) (rest l) (elements-shift fl b (take d (drop d l)))
+      (elements-shift (λ m. fl (suc m)) (cross d a b l) (drop (d + d) l)))
 
   pub triple-none : movedTriple [] ≡ []
   triple-none = nothing (movedTriple []) (length-triple [])
