@@ -7,6 +7,11 @@ pub mod State
 pub mod Advance
 pub mod Pair
 pub mod Answers
+pub mod Triples
+pub mod Moved
+pub mod Linked
+pub mod Unchanged
+pub mod Back
 pub mod Counting
 pub mod Tests
 pub mod Selections
