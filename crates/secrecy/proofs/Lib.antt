@@ -4,6 +4,7 @@ pub mod Shift
 pub mod Link
 pub mod Twins
 pub mod State
+pub mod Broadcasts
 pub mod Advance
 pub mod Pair
 pub mod Answers
