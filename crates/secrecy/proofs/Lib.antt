@@ -8,6 +8,7 @@ pub mod Broadcasts
 pub mod Advance
 pub mod Pair
 pub mod Answers
+pub mod Together
 pub mod Triples
 pub mod Moved
 pub mod Linked
