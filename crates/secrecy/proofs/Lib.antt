@@ -9,6 +9,7 @@ pub mod Advance
 pub mod Pair
 pub mod Answers
 pub mod Together
+pub mod Onward
 pub mod Triples
 pub mod Moved
 pub mod Linked

@@ -52,7 +52,7 @@ module _ (T : Two) (M : Marks) (vec vec' : ℕ → Vector) (b b' : Book) (lines 
   c2 i c = callAt (T .plan) (T .d') (T .u') lines i c
 
   -- marks after the call are the same in both runs
-  marks-two : (c : Step) → marksAfter (c2 1 c) M ≡ marksAfter (c1 1 c) M
+  pub marks-two : (c : Step) → marksAfter (c2 1 c) M ≡ marksAfter (c1 1 c) M
   marks-two (Steps.loadRow r pack) = refl
   marks-two (Steps.loadTriple r pack) = refl
   marks-two (Steps.deal r c) = refl
@@ -175,7 +175,7 @@ module _ (T : Two) (M : Marks) (vec vec' : ℕ → Vector) (b b' : Book) (lines 
           (near-plusTimes (T .plan .n) (T .plan .t + 1) (pointOf (T .d)) (T .K) y' (part vec) (part vec') (vec x) (vec' x)
           (near-plusTimes (T .plan .n) (T .plan .t + 1) (pointOf (T .d)) (T .K) y (vec (x + 2)) (vec' (x + 2)) (vec (x + 1)) (vec' (x + 1)) n2 n1) n0))
 
-  near-after : (c : Step) → Allowed (c1 1 c) M → Rule (T .plan) c 0 lines
+  pub near-after : (c : Step) → Allowed (c1 1 c) M → Rule (T .plan) c 0 lines
       → AllNear (marksAfter (c1 1 c) M) (vectorsAfter (T .plan) (T .d) (c1 1 c) M vec) (vectorsAfter (T .plan) (T .d') (c2 1 c) M vec')
   near-after (Steps.loadRow r (own m)) al rule = near-put M vec vec' (R .near) r 1 _ _ (T .link .near-raw r (al .0) (rule refl .1))
   near-after (Steps.loadRow r (Pack.fixed xs)) al rule = absurd (rule refl)
