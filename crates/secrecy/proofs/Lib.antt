@@ -10,6 +10,8 @@ pub mod Pair
 pub mod Answers
 pub mod Together
 pub mod Onward
+pub mod Reckoned
+pub mod Runs
 pub mod Triples
 pub mod Moved
 pub mod Linked
