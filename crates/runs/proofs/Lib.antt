@@ -10,3 +10,4 @@ pub mod Facts
 pub mod Rows
 pub mod Kept
 pub mod Allowed
+pub mod Numbers
