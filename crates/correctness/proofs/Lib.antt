@@ -1,2 +1,3 @@
 pub mod Meanings
 pub mod Standing
+pub mod Said
