@@ -1,3 +1,5 @@
 pub mod Meanings
 pub mod Standing
 pub mod Said
+pub mod Fitting
+pub mod Walking

@@ -69,12 +69,14 @@ among-all P (y ∷ ys) a x (inr m) = among-all P ys (a .1) x m
 
 -- ---- lines by the ledger
 
+-- j's masks by the triple at r, of rows with the vectors X and Y
+abbrev pub halves : Plan → Draw → ℕ → ℕ → Vector → Vector → List ℕ
+halves plan draw r j X Y =
+    numbers (plan .t + 1) (less X (vectorA plan draw r) .v j) ++ numbers (plan .t + 1) (less Y (vectorB plan draw r) .v j)
+
 module _ (plan : Plan) (draw : Draw) (L : Ledger) (small : plan .n < tens 10) where
   abbrev k : ℕ
   k = plan .t + 1
-
-  abbrev halves : ℕ → ℕ → Vector → Vector → List ℕ
-  halves r j X Y = numbers k (less X (vectorA plan draw r) .v j) ++ numbers k (less Y (vectorB plan draw r) .v j)
 
   module _ (r j : ℕ) (X Y : Vector) where
     first-half : List ℕ
@@ -83,11 +85,11 @@ module _ (plan : Plan) (draw : Draw) (L : Ledger) (small : plan .n < tens 10) wh
     second-half : List ℕ
     second-half = numbers k (less Y (vectorB plan draw r) .v j)
 
-    halves-many : length (halves r j X Y) ≡ 2 * k
+    halves-many : length (halves plan draw r j X Y) ≡ 2 * k
     unfolding first-half second-half
     halves-many = length-append first-half second-half ∙ omega (arith, length-numbers k (less X (vectorA plan draw r) .v j), length-numbers k (less Y (vectorB plan draw r) .v j))
 
-    halves-low : Elements (halves r j X Y)
+    halves-low : Elements (halves plan draw r j X Y)
     unfolding first-half second-half
     halves-low = elements-both first-half second-half (numbers-elements k _) (numbers-elements k _)
 
@@ -114,7 +116,7 @@ module _ (plan : Plan) (draw : Draw) (L : Ledger) (small : plan .n < tens 10) wh
     pub Y : Vector
     pub meant-a : Is plan draw L a X
     pub meant-b : Is plan draw L b Y
-    pub says : xs ≡ halves row post X Y
+    pub says : xs ≡ halves plan draw row post X Y
 
   abbrev pub Said : List ℕ → Type 0
   Said line = OpeningSaid line ⊎ MasksSaid line
@@ -149,7 +151,7 @@ module _ (plan : Plan) (draw : Draw) (L : Ledger) (small : plan .n < tens 10) wh
 
     -- masks that were broadcast are their sender's of the ledger's vectors
     pub told-masks : (r j : ℕ) (both : List ℕ) → Masks (plan .n) k small r j both → Among (masksLine r j both) lines
-        → (a b : ℕ) → L (r + 2) ≡ product r a b → (X Y : Vector) → Is plan draw L a X → Is plan draw L b Y → both ≡ halves r j X Y
+        → (a b : ℕ) → L (r + 2) ≡ product r a b → (X Y : Vector) → Is plan draw L a X → Is plan draw L b Y → both ≡ halves plan draw r j X Y
     told-masks r j both o m a b me X Y ia ib = elim (among-all Said lines all (masksLine r j both) m) [
       | inl l ↦ absurd (not-both (plan .n) k small (l .row) (l .post) r j (l .xs) both (l .form) o (sym (l .is)))
       | inr l ↦
@@ -157,8 +159,8 @@ module _ (plan : Plan) (draw : Draw) (L : Ledger) (small : plan .n < tens 10) wh
           let means : L (r + 2) ≡ product r (l .a) (l .b) = subst (λ (y : ℕ). L (y + 2) ≡ product y (l .a) (l .b)) (sym (e .0)) (l .means) in
           let ga : l .a ≡ a = cc in let gb : l .b ≡ b = cc in
           e .2 ∙ l .says
-          ∙ ap₂ (λ (y z : ℕ). halves y z (l .X) (l .Y)) (sym (e .0)) (sym (e .1))
-          ∙ ap₂ (halves r j) (one plan draw L (subst (λ (y : ℕ). Is plan draw L y (l .X)) ga (l .meant-a)) ia)
+          ∙ ap₂ (λ (y z : ℕ). halves plan draw y z (l .X) (l .Y)) (sym (e .0)) (sym (e .1))
+          ∙ ap₂ (halves plan draw r j) (one plan draw L (subst (λ (y : ℕ). Is plan draw L y (l .X)) ga (l .meant-a)) ia)
           (one plan draw L (subst (λ (y : ℕ). Is plan draw L y (l .Y)) gb (l .meant-b)) ib)
     ]
 
@@ -222,7 +224,7 @@ module _ (plan : Plan) (draw : Draw) (L : Ledger) (small : plan .n < tens 10) wh
         t : Triple plan draw (g .marks) (g .vec) r
         t = g .facts r (omega (arith, ok .r-low)) .triple (inl (ok .first))
 
-        says : perform (masks a b r lent) q .lent ≡ halves r i (g .vec a) (g .vec b)
+        says : perform (masks a b r lent) q .lent ≡ halves plan draw r i (g .vec a) (g .vec b)
         says =
             masks-say plan draw is len i hi (g .marks) (g .vec) q (g .stands) a b r lent z
             ∙ ap₂ (λ (X Y : Vector). numbers k (less (g .vec a) X .v i) ++ numbers k (less (g .vec b) Y .v i)) (t .is-a) (t .is-b)
