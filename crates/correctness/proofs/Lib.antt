@@ -3,3 +3,4 @@ pub mod Standing
 pub mod Said
 pub mod Fitting
 pub mod Walking
+pub mod Openings
