@@ -4,3 +4,4 @@ pub mod Said
 pub mod Fitting
 pub mod Walking
 pub mod Openings
+pub mod Theorems
