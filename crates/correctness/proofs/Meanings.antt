@@ -1,7 +1,6 @@
 -- The vector of a row, by ledger and draw: a row has one at most, and the number of it is the row's plain number.
 use Prim.Native.Nat.{ℕ, _<_}
-use mathlib.Core.Path.{_≡_, refl, sym, _∙_, ap, ap₂, subst}
-use mathlib.Core.List.{[], _∷_}
+use mathlib.Core.Path.{_≡_, sym, _∙_, ap, ap₂, subst}
 use native.Mathlib.Omega.{arith}
 use lib.ListN.{getD}
 use Rattle.field.specs.Modulus.{p}
@@ -16,7 +15,7 @@ use Rattle.vectors.proofs.Linear.{number-plusTimes, combined-number}
 use Rattle.runs.specs.Draws.{Plan, Draw, IsDraw, rawDraw}
 use Rattle.runs.proofs.Marks.{less, productVector, rawVector, vectorA, vectorB, vectorAB}
 use Rattle.runs.proofs.Numbers.{product-number, third-number, dealt-number}
-use Rattle.correctness.specs.Ledger.{Meaning, dealt, sum, product, Ledger, Plain, of-deal, of-sum, of-product, OneNumber}
+use Rattle.correctness.specs.Ledger.{dealt, sum, product, Ledger, Plain, of-deal, of-sum, of-product, OneNumber}
 open CommutativeRing 𝓡 using (mul as _⊗_)
 
 infixl 70 _⊗_

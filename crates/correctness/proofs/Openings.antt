@@ -1,97 +1,49 @@
 -- One post that stands by the ledger: what its openings and finishes give, for every record that 5 and 8 let pass.
-use Prim.Native.Nat.{ℕ, zero, suc, _+_, _*_, _-_, _≤_, _<_, min}
+use Prim.Native.Nat.{ℕ, suc, _+_, _*_, _-_, _≤_, _<_}
 use mathlib.Core.Path.{_≡_, refl, sym, _∙_, ap, ap₂, subst}
 use mathlib.Core.Bool.{Bool, true, false, not}
 use mathlib.Core.Logic.{_≢_, _⊎_, inl, inr}
-use mathlib.Core.List.{List, [], _∷_, _++_}
-use native.Mathlib.Decide.{ℕ-discrete}
+use mathlib.Core.List.{List, [], _∷_}
 use native.Mathlib.Omega.{arith}
-use borrow.Author.Tests.{lt-ltb, le-ltb, eq-eqb, ne-eqb}
-use lib.Dec.{ltb}
+use borrow.Author.Tests.{le-ltb, eq-eqb}
 use lib.ListN.{length}
-use Rattle.field.specs.Element.{Element, element}
-use Rattle.poly.specs.Counting.{Elements, count}
-use Rattle.refusal.specs.Refusal.{Test, _when_, first, orElse}
+use Rattle.refusal.specs.Refusal.{_when_, first, orElse}
 use Rattle.refusal.specs.Conditions.{outside, missized, anyBeyond, postsTests}
 use Rattle.refusal.proofs.Laws.{all-fail, not-refused, first-join}
 use Rattle.session.specs.declared.Session.{Session}
 use Rattle.session.specs.declared.Answer.{Answer}
-use Rattle.session.specs.Sessions.{mark, marked}
+use Rattle.session.specs.Sessions.{mark}
 use Rattle.session.specs.Rows.{width, rowAt}
 use Rattle.session.specs.Checks.{unlike}
-use Rattle.opening.specs.Walking.{blockMark, recordLength, sent, accepts, walk, acceptedPosts, tooFew, opened}
-use Rattle.opening.specs.Opening.{openChecks, openAnswer}
+use Rattle.opening.specs.Walking.{recordLength, sent, accepts, tooFew}
+use Rattle.opening.specs.Opening.{openChecks}
 use Rattle.opening.proofs.Theorems.{open-nine, open-number}
 use Rattle.product.specs.Finish as Finish
-use Rattle.product.specs.Finish.{finishChecks, finishRefusal, finishAnswer, tooFewOf}
-use Rattle.vectors.specs.Vector.{Vector, number, numbers, rowOf}
+use Rattle.product.specs.Finish.{finishChecks, finishRefusal, tooFewOf}
+use Rattle.vectors.specs.Vector.{Vector, numbers, rowOf}
 use Rattle.vectors.proofs.Theorems.{true-accepted, opening-exact}
-use Rattle.runs.specs.Draws.{Plan, Draw, IsDraw, Sound, pointOf}
+use Rattle.runs.specs.Draws.{Plan, Draw, IsDraw, Sound}
 use Rattle.runs.specs.Calls.{Post}
 use Rattle.runs.proofs.Marks.{Marks, markOf, leftOf, rightOf, Sized, sessionAt}
 use Rattle.runs.proofs.Outcomes.{answer-refusal, settled}
 use Rattle.runs.proofs.Packs.{rowFor}
 use Rattle.runs.proofs.Holds.{Holds}
 use Rattle.runs.proofs.Lines.{elements-pass, elements-both, numbers-elements}
-use Rattle.runs.proofs.Records as Records
-use Rattle.runs.proofs.Records.{sent-there, block-many, block-low}
 use Rattle.runs.proofs.Steps.{postAt}
 use Rattle.runs.proofs.Facts.{Triple, Waiting}
 use Rattle.runs.proofs.Rows.{marked-low, on-three}
 use Rattle.correctness.specs.Ledger.{Ledger, Plain}
-use Rattle.correctness.specs.Truth.{TrueOf}
 use Rattle.correctness.specs.Claim.{Proper, accepted, Opens, Finishes, Right}
 use Rattle.correctness.proofs.Meanings.{Is, plain}
 use Rattle.correctness.proofs.Standing.{Waits, Known}
+use Rattle.correctness.proofs.Accepting.{Formed, too-few, not-few, formed}
 use Rattle.correctness.proofs.Fitting.{all-true-of}
 use Rattle.correctness.proofs.Walking.{post-passes, point-passes}
-
--- a walk takes all that pass, up to so many
-pub walk-length : (test : ℕ → Bool) (j k need : ℕ) → length (walk test j k need) ≡ min need (count test j k)
-unfolding walk count
-walk-length test j zero need = omega arith
-walk-length test j (suc k) zero = omega arith
-walk-length test j (suc k) (suc need) = go (test j) (walk-length test (suc j) k need) (walk-length test (suc j) k (suc need))
-  where
-    go : (b : Bool) → length (walk test (suc j) k need) ≡ min need (count test (suc j) k)
-        → length (walk test (suc j) k (suc need)) ≡ min (suc need) (count test (suc j) k)
-        → length {A = ℕ} (elim b as (λ z. List ℕ) [ true ↦ j ∷ walk test (suc j) k need | false ↦ walk test (suc j) k (suc need) ])
-        ≡ min (suc need) (elim b as (λ z. ℕ) [ true ↦ suc (count test (suc j) k) | false ↦ count test (suc j) k ])
-    go true a c = omega arith
-    go false a c = c
-
--- 9, by the number of those that pass
-module _ (s : Session) (row blocks : List ℕ) where
-  pub too-few : accepted s row blocks ≤ s .t → tooFew s row blocks ≡ true
-  too-few h =
-      lt-ltb (length (acceptedPosts s row blocks)) (s .t + 1) (omega (arith, walk-length (accepts s row blocks) 1 (s .n) (s .t + 1)))
-
-  pub not-few : s .t + 1 ≤ accepted s row blocks → tooFew s row blocks ≡ false
-  not-few h =
-      le-ltb (length (acceptedPosts s row blocks)) (s .t + 1) (omega (arith, walk-length (accepts s row blocks) 1 (s .n) (s .t + 1)))
-
-  -- what counts for another post is nothing, or t+1 elements
-  abbrev pub Formed : ℕ → List ℕ → Type 0
-  Formed k xs = (xs ≡ []) ⊎ ((length xs ≡ k) × Elements xs)
-
-  pub formed : Proper s blocks → (j : ℕ) → 1 ≤ j → j ≤ s .n → j ≢ s .post → Formed (s .t + 1) (sent s row blocks j)
-  unfolding sent
-  formed pr j lo hi ne = go (ℕ-discrete (blockMark (s .t + 1) blocks j) 1)
-    where
-      proper : Records.Proper s blocks
-      proper = record { long = pr .long; low = pr .low }
-
-      go : Dec (blockMark (s .t + 1) blocks j ≡ 1) → Formed (s .t + 1) (sent s row blocks j)
-      go (yes e) = inr (
-        ap length (sent-there s blocks j lo hi ne row e) ∙ block-many s blocks j lo hi ne proper e,
-        rw (sent-there s blocks j lo hi ne row e) (block-low s blocks j lo hi ne proper e),
-      )
-      go (no e) = inl (rw (ne-eqb j (s .post) ne, ne-eqb (blockMark (s .t + 1) blocks j) 1 e))
 
 -- what a truth of polynomials must give, to be used in an opening
 abbrev pub Reliable : Plan → Draw → Ledger → (ℕ → ℕ → List ℕ → Type 0) → Type 0
 Reliable plan draw L P =
-    (r j : ℕ) (xs : List ℕ) → r ≤ 95 → 1 ≤ j → j ≤ plan .n → (xs ≡ []) ⊎ ((length xs ≡ plan .t + 1) × Elements xs) → P r j xs
+    (r j : ℕ) (xs : List ℕ) → r ≤ 95 → 1 ≤ j → j ≤ plan .n → Formed (plan .t + 1) xs → P r j xs
     → (X : Vector) → Is plan draw L r X → xs ≡ numbers (plan .t + 1) (X .v j)
 
 module _ (plan : Plan) (draw : Draw) (L : Ledger) (sound : Sound plan) (is : IsDraw plan draw) (len i : ℕ) (lo : 1 ≤ i) (hi : i ≤ plan .n) (M : Marks) (vec : ℕ → Vector) (l : List ℕ) (sized : Sized M) (h : Holds plan draw len i M vec l) (f : Known plan draw L M vec) (full : (r : ℕ) → markOf M r ≢ 0 → len ≡ 96 * (plan .t + 1 + 2 * plan .n)) where

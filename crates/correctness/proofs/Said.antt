@@ -16,7 +16,7 @@ use Rattle.vectors.specs.Vector.{Vector, numbers}
 use Rattle.vectors.proofs.Linear.{length-numbers}
 use Rattle.runs.specs.Draws.{Plan, Draw, IsDraw}
 use Rattle.runs.specs.Calls.{Post, Call, loadRow, loadTriple, deal, message, opening, linear, masks, finish, perform, sentIf, openingLine, masksLine, broadcast, Among}
-use Rattle.runs.proofs.Marks.{Marks, less, vectorA, vectorB}
+use Rattle.runs.proofs.Marks.{less, vectorA, vectorB}
 use Rattle.runs.proofs.Outcomes.{refusalOf, refusal-is}
 use Rattle.runs.proofs.Facts.{Allowed, Multiplying, Triple}
 use Rattle.runs.proofs.Lines.{Opening, Masks, same-opening, same-masks, not-both, numbers-elements, elements-both}

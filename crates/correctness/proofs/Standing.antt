@@ -1,6 +1,6 @@
 -- One post by the ledger: each row it holds is its part of the ledger's vector, and each call that is not refused keeps that.
 use Prim.Native.Nat.{ℕ, _+_, _*_, _≤_, _<_}
-use mathlib.Core.Path.{_≡_, refl, sym, _∙_, ap, ap₂, subst}
+use mathlib.Core.Path.{_≡_, refl, sym, _∙_, ap₂, subst}
 use mathlib.Core.Logic.{_≢_, inr}
 use native.Mathlib.Omega.{arith}
 use lib.ListN.{length}
@@ -10,7 +10,7 @@ use Rattle.runs.specs.Draws.{Plan, Draw, IsDraw}
 use Rattle.runs.specs.Calls.{Post, Call, loadRow, loadTriple, deal, message, opening, linear, masks, finish, perform, after}
 use Rattle.runs.proofs.Marks.{Marks, markOf, leftOf, rightOf, Sized, less, productVector, written}
 use Rattle.runs.proofs.Outcomes.{refusalOf}
-use Rattle.runs.proofs.Steps.{postAt, Stands, named, Fits, stands-after}
+use Rattle.runs.proofs.Steps.{Stands, named, Fits, stands-after}
 use Rattle.runs.proofs.Facts.{Allowed, Multiplying, Triple, Facts, Meant}
 use Rattle.runs.proofs.Rows.{sized-after}
 use Rattle.runs.proofs.Kept.{facts-after}

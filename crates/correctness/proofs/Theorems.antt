@@ -1,8 +1,8 @@
 -- Demand 2 over whole runs, as specs/Claim.antt has it; at any time of a longer run; and a post's state by its own calls alone.
-use Prim.Native.Nat.{ℕ, _+_, _≤_, _<_}
+use Prim.Native.Nat.{ℕ, _+_, _≤_}
 use mathlib.Core.Path.{_≡_, refl, sym, _∙_, ap, subst}
 use mathlib.Core.Bool.{Bool, cond}
-use mathlib.Core.Logic.{_⊎_, inl, inr}
+use mathlib.Core.Logic.{inl, inr}
 use mathlib.Core.List.{List, [], _∷_, _++_}
 use native.Mathlib.Decide.{ℕ-discrete}
 use native.Mathlib.Omega.{arith}
@@ -10,11 +10,11 @@ use borrow.Author.Tests.{eq-eqb, ne-eqb}
 use lib.Dec.{eqb}
 use lib.ListN.{length, take}
 use Rattle.field.specs.Element.{element}
-use Rattle.poly.specs.Counting.{All, Elements}
+use Rattle.poly.specs.Counting.{All}
 use Rattle.session.specs.Sessions.{mark}
 use Rattle.session.specs.Rows.{width, coefficients, rowAt}
 use Rattle.vectors.specs.Vector.{Vector, numbers}
-use Rattle.runs.specs.Draws.{Plan, Draw, IsDraw, Sound, pointOf}
+use Rattle.runs.specs.Draws.{Plan, Draw, pointOf}
 use Rattle.runs.specs.Calls.{Post, Call, perform, after, openingLine, Among, at}
 use Rattle.runs.proofs.Marks.{at-same, at-other}
 use Rattle.runs.proofs.Steps.{own-numbers, named}
@@ -26,7 +26,7 @@ use Rattle.correctness.specs.Claim.{Premises, Right, Correct, CorrectHel
 use Rattle.correctness.proofs.Meanings.{Is, one}
 use Rattle.correctness.proofs.Standing.{Good}
 use Rattle.correctness.proofs.Said.{told, never-bare}
-use Rattle.correctness.proofs.Fitting.{Line, small}
+use Rattle.correctness.proofs.Fitting.{small}
 use Rattle.correctness.proofs.Walking.{Inv, after-all, beginning}
 use Rattle.correctness.proofs.Openings.{Reliable, right}
 

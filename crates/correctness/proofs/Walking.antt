@@ -1,8 +1,8 @@
 -- All posts, event by event: each stands by the ledger, and so does each line.
-use Prim.Native.Nat.{ℕ, zero, suc, _+_, _*_, _-_, _≤_, _<_}
-use mathlib.Core.Path.{_≡_, refl, sym, _∙_, ap, ap₂, subst}
+use Prim.Native.Nat.{ℕ, zero, suc, _-_, _≤_, _<_}
+use mathlib.Core.Path.{_≡_, refl, sym, _∙_, ap₂, subst}
 use mathlib.Core.Bool.{false}
-use mathlib.Core.Logic.{_≢_, inl, inr}
+use mathlib.Core.Logic.{inl, inr}
 use mathlib.Core.List.{List, [], _∷_, _++_}
 use native.Mathlib.Decide.{ℕ-discrete, decLt}
 use native.Mathlib.Omega.{arith}
@@ -10,24 +10,21 @@ use borrow.Author.Tests.{le-ltb, ne-eqb}
 use lib.ListN.{length, getD, replicate, length-replicate, getD-replicate, List·getD-eq-default}
 use Rattle.field.specs.Modulus.{p}
 use Rattle.poly.specs.Counting.{All}
-use Rattle.refusal.specs.Refusal.{Test, _when_, first, orElse, outcome}
+use Rattle.refusal.specs.Refusal.{_when_, first, orElse, outcome}
 use Rattle.refusal.specs.Conditions.{or, outside, badPoint, postsTests}
 use Rattle.refusal.proofs.Laws.{first-join, not-refused}
 use Rattle.refusal.proofs.Elements.{element-test}
-use Rattle.session.specs.declared.Session.{Session}
 use Rattle.session.specs.Sessions.{sessionOf, sessionTests, created, answer}
-use Rattle.vectors.specs.Vector.{Vector}
 use Rattle.runs.specs.Draws.{Plan, Draw, IsDraw, Sound, pointOf}
-use Rattle.runs.specs.Calls.{Post, Call, perform, after, broadcast, newPost, at}
+use Rattle.runs.specs.Calls.{Post, after, broadcast, newPost, at}
 use Rattle.runs.proofs.Marks.{Marks, markOf, Sized, sessionAt, at-same, at-other, rawVector}
 use Rattle.runs.proofs.Outcomes.{refusalOf, refusal-is, refused}
 use Rattle.correctness.specs.History.{Event, World, doneBy, turn, history, begin, Each}
 use Rattle.correctness.specs.Ledger.{Ledger, Written}
 use Rattle.correctness.specs.Truth.{OwnPart, TrueFinish}
-use Rattle.correctness.specs.Claim.{Premises}
 use Rattle.correctness.proofs.Standing.{Good, good-after}
-use Rattle.correctness.proofs.Said.{Said, new-said}
-use Rattle.correctness.proofs.Fitting.{Line, small, few-posts, fits}
+use Rattle.correctness.proofs.Said.{new-said}
+use Rattle.correctness.proofs.Fitting.{Line, small, fits}
 
 all-append : {A : Type 0} (P : A → Type 0) (xs ys : List A) → All P xs → All P ys → All P (xs ++ ys)
 all-append P [] ys a b = b

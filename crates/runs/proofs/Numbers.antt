@@ -1,7 +1,6 @@
 -- The shared number of a vector that a deal, a triple or a finish makes.
-use Prim.Native.Nat.{ℕ, _+_, _*_, _-_, _≤_, _<_}
+use Prim.Native.Nat.{ℕ, _+_, _-_, _≤_, _<_}
 use mathlib.Core.Path.{_≡_, refl, sym, _∙_, ap, ap₂}
-use mathlib.Core.Bool.{Bool}
 use mathlib.Core.List.{List, [], _∷_}
 use native.Mathlib.Nat.{add-zero, mul-le-mul}
 use native.Mathlib.Decide.{decLe}
@@ -16,7 +15,7 @@ use Rattle.field.proofs.Expression.{A, B, C, D, 𝟘, 𝟙, _:+_, _:*_, _:-_, :
 use Rattle.field.proofs.Solver.{solve}
 use Rattle.field.proofs.Elements.{𝓡, element-zero, element-one, element-product, element-difference, element-of-number}
 use Rattle.poly.specs.Counting.{Elements}
-use Rattle.refusal.specs.Refusal.{_when_, first, outcome}
+use Rattle.refusal.specs.Refusal.{outcome}
 use Rattle.refusal.proofs.Elements.{element-test}
 use Rattle.factory.specs.Packs.{dealerRefusal, dealerNumber}
 use Rattle.vectors.specs.Vector.{Vector, plusTimes, raised, number, vectorOf}
