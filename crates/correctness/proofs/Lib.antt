@@ -6,3 +6,5 @@ pub mod Walking
 pub mod Accepting
 pub mod Openings
 pub mod Theorems
+pub mod Computing
+pub mod Example
