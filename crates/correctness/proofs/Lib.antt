@@ -8,3 +8,4 @@ pub mod Openings
 pub mod Theorems
 pub mod Computing
 pub mod Example
+pub mod Fooled
