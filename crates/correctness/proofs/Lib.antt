@@ -1,0 +1,11 @@
+pub mod Meanings
+pub mod Standing
+pub mod Said
+pub mod Fitting
+pub mod Walking
+pub mod Accepting
+pub mod Openings
+pub mod Theorems
+pub mod Computing
+pub mod Example
+pub mod Fooled

@@ -8,6 +8,7 @@ pub mod Steps
 pub mod Lines
 pub mod Records
 pub mod Facts
+pub mod Start
 pub mod Rows
 pub mod Kept
 pub mod Allowed

@@ -18,7 +18,8 @@ use Rattle.secrecy.specs.Steps.{Secrets, Step, callAt}
 use Rattle.secrecy.specs.Seen.{linesOf}
 use Rattle.secrecy.specs.Rules.{Rule}
 use Rattle.secrecy.specs.Book.{Book, entered}
-use Rattle.secrecy.proofs.State.{Setting, sizes, Past, Held, Waits, AnOpening, AMask, maskNumbers, State, fits, meant, place-stays, notes-stay}
+use Rattle.secrecy.proofs.State.{Setting, Past, Held, Waits, AnOpening, AMask, maskNumbers, State, fits, meant, place-stays, notes-stay}
+use Rattle.runs.proofs.Start.{sizes}
 use Rattle.secrecy.proofs.Broadcasts as Broadcasts
 use Rattle.secrecy.proofs.Broadcasts.{among-append, among-posts}
 

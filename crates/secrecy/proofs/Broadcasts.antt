@@ -23,7 +23,8 @@ use Rattle.secrecy.specs.Steps as Steps
 use Rattle.secrecy.specs.Steps.{Secrets, Step, callAt}
 use Rattle.secrecy.specs.Seen.{posts, joined}
 use Rattle.secrecy.specs.Book.{Book}
-use Rattle.secrecy.proofs.State.{Setting, sizes, AnOpening, AMask, maskNumbers, State}
+use Rattle.secrecy.proofs.State.{Setting, AnOpening, AMask, maskNumbers, State}
+use Rattle.runs.proofs.Start.{sizes}
 
 -- ---- members of joined lists
 

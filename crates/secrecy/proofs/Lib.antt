@@ -22,3 +22,4 @@ pub mod Tests
 pub mod Selections
 pub mod Listed
 pub mod Counts
+pub mod Theorems

@@ -20,7 +20,8 @@ use Rattle.secrecy.specs.Steps.{Secrets, Step, callAt}
 use Rattle.secrecy.specs.Seen.{posts, joined, linesOf}
 use Rattle.secrecy.specs.Rules.{Rule}
 use Rattle.secrecy.specs.Book.{Book, Agrees, entered}
-use Rattle.secrecy.proofs.State.{Setting, sizes, AnOpening, State, place-stays, notes-stay}
+use Rattle.secrecy.proofs.State.{Setting, AnOpening, State, place-stays, notes-stay}
+use Rattle.runs.proofs.Start.{sizes}
 use Rattle.secrecy.proofs.Broadcasts.{among-append, among-posts, allowed-at, MessageAt, new-opening}
 use Rattle.secrecy.proofs.Advance.{advance}
 use Rattle.secrecy.proofs.Pair.{Two, Pair, apart, Fit}
@@ -53,7 +54,7 @@ module _ (plan : Plan) (draw : Draw) (u : Secrets) (ok : Setting plan draw u) (l
   unfolding nothing
   no-lines =
       ap joined (posts-same _ nothing (plan .n) (λ i lo hi.
-        silent i (callAt plan draw u lines i c) (perform (callAt plan draw u lines i c) (q i)) k (refusal-is (callAt plan draw u lines i c) (q i) ∙ z i lo hi)))
+      silent i (callAt plan draw u lines i c) (perform (callAt plan draw u lines i c) (q i)) k (refusal-is (callAt plan draw u lines i c) (q i) ∙ z i lo hi)))
       ∙ joined-none (posts (plan .n))
 
   as-before : lines ++ linesOf plan draw u lines c q ≡ lines
@@ -92,7 +93,7 @@ module _ (T : Two) (M : Marks) (vec vec' : ℕ → Vector) (b b' : Book) (lines 
       record {
         one = idle-state (T .plan) (T .d) (T .u) (T .ok) (T .len) M vec b lines q c k z (R .one);
         two = shared M M vec' b' _ _ _ refl (lines-two T M vec vec' b b' lines q q' R c (suc k) z rule agree none)
-          (idle-state (T .plan) (T .d') (T .u') (T .ok') (T .len) M vec' b' lines q' c k (refused-two T M vec vec' b b' lines q q' R c (suc k) z rule agree none) (R .two));
+            (idle-state (T .plan) (T .d') (T .u') (T .ok') (T .len) M vec' b' lines q' c k (refused-two T M vec vec' b b' lines q q' R c (suc k) z rule agree none) (R .two));
         near = R .near;
         group-same = all-map (λ i e. ap after e) (T .group) (group-two T M vec vec' b b' lines q q' R c (suc k) z rule agree none);
         agreed = λ r j xs o a. R .agreed r j xs o (subst (Among (openingLine r j xs)) (as-before (T .plan) (T .d) (T .u) (T .ok) (T .len) M vec b lines q c k z) a);
@@ -156,10 +157,11 @@ module _ (T : Two) (M : Marks) (vec vec' : ℕ → Vector) (b b' : Book) (lines 
   masked-now (Steps.masks x y r' lent) fit r m =
       subst
       (λ (w : ℕ). (apart (entered (T .u) (Steps.masks x y r' lent) b .factorA w) (entered (T .u') (Steps.masks x y r' lent) b' .factorA w) ≡ T .Δ w .left)
-          × (apart (entered (T .u) (Steps.masks x y r' lent) b .factorB w) (entered (T .u') (Steps.masks x y r' lent) b' .factorB w) ≡ T .Δ w .right))
-      (sym m)
-      (ap₂ apart (at-same (b .factorA) r' (b .place x)) (at-same (b' .factorA) r' (b' .place x)) ∙ fit .0,
-      ap₂ apart (at-same (b .factorB) r' (b .place y)) (at-same (b' .factorB) r' (b' .place y)) ∙ fit .1)
+      × (apart (entered (T .u) (Steps.masks x y r' lent) b .factorB w) (entered (T .u') (Steps.masks x y r' lent) b' .factorB w) ≡ T .Δ w .right))
+      (sym m) (
+        ap₂ apart (at-same (b .factorA) r' (b .place x)) (at-same (b' .factorA) r' (b' .place x)) ∙ fit .0,
+        ap₂ apart (at-same (b .factorB) r' (b .place y)) (at-same (b' .factorB) r' (b' .place y)) ∙ fit .1,
+      )
   masked-now (Steps.finish r' blocks blocks') fit r m = absurd m
 
   pub live : (c : Step) → ((i : ℕ) → 1 ≤ i → i ≤ T .plan .n → refusalOf (c1 i c) (q i) ≡ 0) → Rule (T .plan) c 0 lines
@@ -171,7 +173,7 @@ module _ (T : Two) (M : Marks) (vec vec' : ℕ → Vector) (b b' : Book) (lines 
       record {
         one = advance (T .plan) (T .d) (T .u) (T .ok) (T .len) M vec b lines q (R .one) c rule z;
         two = shared _ _ _ _ _ _ _ (marks-two T M vec vec' b b' lines q q' R c) (lines-two T M vec vec' b b' lines q q' R c 0 z rule agree (λ e. fit))
-          (advance (T .plan) (T .d') (T .u') (T .ok') (T .len) M vec' b' lines q' (R .two) c rule (z' c z rule agree fit));
+            (advance (T .plan) (T .d') (T .u') (T .ok') (T .len) M vec' b' lines q' (R .two) c rule (z' c z rule agree fit));
         near = near-after T M vec vec' b b' lines q q' R c (al c z rule agree fit) rule;
         group-same = all-map (λ i e. ap after e) (T .group) (group-two T M vec vec' b b' lines q q' R c 0 z rule agree (λ e. fit));
         agreed = λ r j xs o a. by-line r j xs o (among-append (openingLine r j xs) lines (linesOf (T .plan) (T .d) (T .u) lines c q) a);

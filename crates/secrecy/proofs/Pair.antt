@@ -35,7 +35,8 @@ use Rattle.secrecy.specs.Book.{Book, Agrees}
 use Rattle.secrecy.proofs.Near.{gap, Near, mask-number}
 use Rattle.secrecy.proofs.Link.{Gaps, Alike, Link}
 use Rattle.secrecy.proofs.Twins.{row-same, load-same, triple-same, deal-same, message-same, linear-same, masks-same, finish-same, open-same}
-use Rattle.secrecy.proofs.State.{Setting, sizes, AnOpening, State}
+use Rattle.secrecy.proofs.State.{Setting, AnOpening, State}
+use Rattle.runs.proofs.Start.{sizes}
 open CommutativeRing 𝓡 using (add as _⊕_, neg)
 
 infixl 65 _⊕_

@@ -25,7 +25,8 @@ use Rattle.secrecy.specs.Seen.{Entry, posts, joined, doneAt, linesOf, en
 use Rattle.secrecy.specs.Rules.{AllSame, SameAnswers, Rule, Rules, refusalOf}
 use Rattle.secrecy.specs.Book.{Book, Agrees, Agree, entered, booked}
 use Rattle.secrecy.proofs.Link.{Gaps}
-use Rattle.secrecy.proofs.State.{sizes, Past}
+use Rattle.secrecy.proofs.State.{Past}
+use Rattle.runs.proofs.Start.{sizes}
 use Rattle.secrecy.proofs.Broadcasts.{allowed-at}
 use Rattle.secrecy.proofs.Pair.{Two, Pair, apart, Fit}
 use Rattle.secrecy.proofs.Reckoned.{factorsApart, reckonedHere, reckoned, here-refused}
@@ -143,14 +144,14 @@ module _ (T : Two) where
       joinup k z rule ag fit ih =
           let same-here = same-at T M vec vec' b b' lines q q' R c k z rule ag fit in
           let refusals : map (λ i. doneAt (T .plan) (T .d) (T .u) lines c q i .answer .refusal) (posts (T .plan .n))
-              ≡ map (λ i. doneAt (T .plan) (T .d') (T .u') lines c q' i .answer .refusal) (posts (T .plan .n)) =
+          ≡ map (λ i. doneAt (T .plan) (T .d') (T .u') lines c q' i .answer .refusal) (posts (T .plan .n)) =
           posts-same _ _ (T .plan .n) (λ i lo hi. same-here i lo hi .refusal) in
           let values : map (λ i. doneAt (T .plan) (T .d) (T .u) lines c q i .answer .value) (posts (T .plan .n))
-              ≡ map (λ i. doneAt (T .plan) (T .d') (T .u') lines c q' i .answer .value) (posts (T .plan .n)) =
+          ≡ map (λ i. doneAt (T .plan) (T .d') (T .u') lines c q' i .answer .value) (posts (T .plan .n)) =
           posts-same _ _ (T .plan .n) (λ i lo hi. same-here i lo hi .value) in
           let said = lines-two T M vec vec' b b' lines q q' R c k z rule ag fit in
           let rows : map (λ i. doneAt (T .plan) (T .d) (T .u) lines c q i .rows) (T .group)
-              ≡ map (λ i. doneAt (T .plan) (T .d') (T .u') lines c q' i .rows) (T .group) =
+          ≡ map (λ i. doneAt (T .plan) (T .d') (T .u') lines c q' i .rows) (T .group) =
           rows-all (doneAt (T .plan) (T .d) (T .u) lines c q) (doneAt (T .plan) (T .d') (T .u') lines c q') (T .group)
           (group-two T M vec vec' b b' lines q q' R c k z rule ag fit) in
           ap₂ _∷_ (λ j. record { refusals = refusals j; values = values j; lines = said j; rows = rows j })
@@ -158,7 +159,7 @@ module _ (T : Two) where
 
       go : (k : ℕ) → refusalOf e ≡ k
           → ((N : Marks) (v v' : ℕ → Vector) (x x' : Book) → Pair T N v v' x x' lines' after1 after2 → Rules (T .plan) cs es lines'
-              → Agree (T .u) (T .u') cs es x x' → Foreseen cs N es x x' → es ≡ run (T .plan) (T .group) (T .d') (T .u') cs lines' after2)
+          → Agree (T .u) (T .u') cs es x x' → Foreseen cs N es x x' → es ≡ run (T .plan) (T .group) (T .d') (T .u') cs lines' after2)
           → run (T .plan) (T .group) (T .d) (T .u) (c ∷ cs) lines q ≡ run (T .plan) (T .group) (T .d') (T .u') (c ∷ cs) lines q'
       go zero ek ih =
           joinup 0 z rule ag (λ g. fit)

@@ -27,6 +27,7 @@ use Rattle.runs.specs.Calls.{Post, Call, openingLine, masksLine, Among, at}
 use Rattle.runs.proofs.Marks.{Marks, Sized, markOf, leftOf, rightOf, less, maskA, maskB, written, sessionAt, marksAfter, vectorsAfter, at-same, at-other}
 use Rattle.runs.proofs.Numbers.{dealt-number, summed-number, product-number, third-number}
 use Rattle.runs.proofs.Packs.{raw-drawn, positive}
+use Rattle.runs.proofs.Start.{Sizes, sizes}
 use Rattle.runs.proofs.Steps.{Stands, Fits}
 use Rattle.runs.proofs.Lines.{Opening, Masks}
 use Rattle.runs.proofs.Records.{all-true, Present}
@@ -44,21 +45,6 @@ pub record Setting (plan : Plan) (draw : Draw) (u : Secrets) : Type 0 where
   pub sound : Sound plan
   pub is-draw : IsDraw plan draw
   pub low : (r : ℕ) → IsRaw (plan .raw r) → u r < p
-
--- n and t as 1 and 2 leave them
-pub record Sizes (plan : Plan) : Type 0 where
-  pub n-low : 2 ≤ plan .n
-  pub n-high : plan .n < tens 10
-  pub n-element : plan .n < p
-  pub t-low : 1 ≤ plan .t
-  pub t-high : plan .t < plan .n
-
-pub sizes : (plan : Plan) → Sound plan → Sizes plan
-sizes plan s =
-    let h = all-fail (postsTests (plan .n) (plan .t)) tt (s .posts) in
-    let n-in = inside 2 32 (plan .n) (h .0) in
-    let t-in = inside 1 (plan .n - 1) (plan .t) (h .1 .0) in
-    record { n-low = n-in .0; n-high = omega arith; n-element = omega arith; t-low = t-in .0; t-high = omega arith }
 
 -- the masks of the triple at r were made
 abbrev pub Past : Marks → ℕ → Type 0
@@ -152,7 +138,7 @@ module _ (plan : Plan) (draw : Draw) (u : Secrets) (ok : Setting plan draw u) wh
         let f = S .facts r lr .raw one in
         ap (λ (X : Vector). number (raised (element (dealtNumber plan draw u r)) X)) (f .1)
         ∙ ap (λ (c : ℕ). number (raised (element c) (vectorOf (plan .t + 1) (rawDraw draw r)))) (go (plan .raw r) (f .0))
-        ∙ dealt-number (plan .t + 1) (u r) (rawDraw draw r) (ok .low r (f .0)) (element-at (rawDraw draw r) (raw-drawn plan draw (ok .is-draw) r lr (f .0) .low) 0)
+        ∙ dealt-number plan draw (ok .is-draw) r (u r) (ok .low r (f .0))
       where
         go : (w : Raw) → IsRaw w → whenRaw w (dealerNumber (u r) (getD (rawDraw draw r) 0 0) .value) 0 ≡ dealerNumber (u r) (getD (rawDraw draw r) 0 0) .value
         go none x = absurd x
@@ -165,7 +151,7 @@ module _ (plan : Plan) (draw : Draw) (u : Secrets) (ok : Setting plan draw u) wh
         let t = f .triple (inr (al .first)) in
         let w = f .waiting (al .first) in
         product-number (vec (leftOf M r)) (vec (rightOf M r)) (vec r) (vec (r + 1)) (vec (r + 2))
-        (ap number (t .is-ab) ∙ third-number plan draw r (positive plan draw (ok .is-draw)) ∙ sym (ap₂ (λ (X Y : Vector). number X ⊗ number Y) (t .is-a) (t .is-b)))
+        (ap number (t .is-ab) ∙ third-number plan draw r ∙ sym (ap₂ (λ (X Y : Vector). number X ⊗ number Y) (t .is-a) (t .is-b)))
         ∙ ap₂ _⊗_
         (S .facts (leftOf M r) (al .a-low) .held (al .a-held) ∙ ap element (sym (w .means .0)))
         (S .facts (rightOf M r) (al .b-low) .held (al .b-held) ∙ ap element (sym (w .means .1)))

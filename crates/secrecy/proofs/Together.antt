@@ -27,7 +27,8 @@ use Rattle.secrecy.specs.Rules.{Rule}
 use Rattle.secrecy.specs.Book.{Book, Agrees, entered}
 use Rattle.secrecy.proofs.Near.{Near, near-plusTimes, near-raised}
 use Rattle.secrecy.proofs.Link.{Gaps}
-use Rattle.secrecy.proofs.State.{Setting, sizes, AnOpening, State, place-stays, notes-stay}
+use Rattle.secrecy.proofs.State.{Setting, AnOpening, State, place-stays, notes-stay}
+use Rattle.runs.proofs.Start.{sizes}
 use Rattle.secrecy.proofs.Broadcasts.{among-append, among-posts, Done, allowed-at, MessageAt, new-opening}
 use Rattle.secrecy.proofs.Advance.{advance}
 use Rattle.secrecy.proofs.Pair.{Two, Pair, apart, Fit, wait-numbers}

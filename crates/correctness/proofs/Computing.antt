@@ -1,0 +1,191 @@
+-- What the example and the counterexamples share: three posts, two raw rows and a triple; and how premises are shown by computing.
+use Prim.Native.Nat.{ℕ, zero, suc, _≤_, _<_}
+use mathlib.Core.Path.{_≡_, refl}
+use mathlib.Core.Bool.{Bool, true, false, _&&_}
+use mathlib.Core.List.{List, [], _∷_, _++_}
+use native.Mathlib.Omega.{arith}
+use borrow.Author.Tests.{eqb-true, ne-eqb}
+use lib.Dec.{T, eqb, leb, lit<, lit≤}
+use lib.ListN.{length, getD, replicate}
+use Rattle.field.specs.Arithmetic as Arithmetic
+use Rattle.poly.specs.Counting.{All, Elements, count}
+use Rattle.poly.specs.Polynomial.{value}
+use Rattle.poly.specs.Interpolation.{nodal, weight, terms, interpolated}
+use Rattle.refusal.specs.Refusal.{outcome}
+use Rattle.refusal.specs.Conditions.{anyBeyond}
+use Rattle.factory.specs.Draw.{eachFrom, part}
+use Rattle.factory.specs.Packs.{dealerRefusal, dealerNumber}
+use Rattle.session.specs.Rows.{combined, plusSums}
+use Rattle.session.specs.Sessions.{created}
+use Rattle.sharing.specs.Load.{loadRowRefusal, loadTripleRefusal, withTriple}
+use Rattle.sharing.specs.Deal.{dealRefusal}
+use Rattle.sharing.specs.Linear.{linearRefusal}
+use Rattle.sharing.specs.Message.{messageRefusal}
+use Rattle.opening.specs.Walking.{badBlock, badBlocks, sent, accepts, share, walk, opened}
+use Rattle.opening.specs.Opening.{openRefusal}
+use Rattle.product.specs.Masks.{masksRefusal, maskNumbersOf}
+use Rattle.product.specs.Finish.{finishRefusal, productRow, withProduct}
+use Rattle.fields.specs.Fields.{fields}
+use Rattle.decimal.specs.Numeral.{lastDigits, sizeWithin}
+use Rattle.runs.specs.Draws.{Plan, Draw, IsRaw, Sound, IsDraw, rawLength, tripleLength, none, by, pointOf, rawDraw, tripleDraw, rawPack, triplePack}
+use Rattle.runs.specs.Calls.{Post, Call, loadRow, loadTriple, deal, message, opening, linear, masks, finish, perform, newPost, at}
+use Rattle.runs.proofs.Lines.{elements-of}
+use Rattle.correctness.specs.History.{Event, World, doneBy, turn, history, Each}
+use Rattle.correctness.specs.Ledger.{Ledger, nothing, dealt, sum, product, Plain, of-deal, of-product}
+use Rattle.correctness.specs.Truth.{TrueFinish}
+
+-- `refl` proves it where `unfolding Computes` opens the calls' definitions
+unfoldable pub Computes : {A : Type 0} → A → A → Type 0
+unfolding Arithmetic.sum Arithmetic.product Arithmetic.difference Arithmetic.euclid Arithmetic.inverse value count nodal weight terms interpolated outcome anyBeyond eachFrom part dealerRefusal combined plusSums created loadRowRefusal loadTripleRefusal withTriple dealRefusal linearRefusal messageRefusal badBlock badBlocks sent accepts share walk opened openRefusal masksRefusal maskNumbersOf finishRefusal productRow withProduct fields lastDigits sizeWithin pointOf rawDraw tripleDraw rawPack triplePack perform newPost at
+Computes x y = x ≡ y
+
+-- ---- plan, draws and ledger
+
+-- rows 0 and 1 raw, a triple at 2
+unfoldable pub plan : Plan
+plan = record {
+  n = 3;
+  t = 1;
+  raw = λ r. elim r [ zero ↦ by 0 | suc r ↦ elim r [ zero ↦ by 0 | suc r ↦ none ] ];
+  triple = λ r. eqb r 2;
+}
+
+pub sound : Sound plan
+unfolding plan
+sound = record { posts = refl; raws = raws; triples = λ r e. let g = eqb-true r 2 e in omega arith }
+  where
+    raws : (r : ℕ) → IsRaw (plan .raw r) → r ≤ 95
+    raws zero h = lit≤ tt
+    raws (suc zero) h = lit≤ tt
+    raws (suc (suc r)) h = absurd h
+
+-- with x drawn for the triple
+unfoldable pub drawWith : List ℕ → Draw
+drawWith x = record {
+  points = 2 ∷ 3 ∷ 5 ∷ [];
+  raws = (7 ∷ 4 ∷ 1 ∷ 2 ∷ 3 ∷ 1 ∷ 5 ∷ 6 ∷ []) ∷ (3 ∷ 5 ∷ 2 ∷ 1 ∷ 1 ∷ 1 ∷ 4 ∷ 2 ∷ []) ∷ replicate 94 [];
+  triples = [] ∷ [] ∷ x ∷ replicate 93 [];
+}
+
+none-there : (k r : ℕ) → _≡_ {A = List ℕ} (getD (replicate k []) r []) []
+none-there zero r = refl
+none-there (suc k) zero = refl
+none-there (suc k) (suc r) = none-there k r
+
+pub is-draw : (x : List ℕ) → length x ≡ 23 → Elements x → IsDraw plan (drawWith x)
+unfolding Computes plan drawWith
+is-draw x many low = record {
+  posts = refl;
+  points = ((lit≤ tt, lit< tt), ((lit≤ tt, lit< tt), ((lit≤ tt, lit< tt), tt)));
+  raws = record { count = refl; each = raws };
+  triples = record { count = refl; each = triples };
+}
+  where
+    raws : (r : ℕ) → r < 96 → (length (getD (drawWith x .raws) r []) ≡ rawLength plan r) × Elements (getD (drawWith x .raws) r [])
+    raws zero h = (refl, elements-of (getD (drawWith x .raws) 0 []) refl)
+    raws (suc zero) h = (refl, elements-of (getD (drawWith x .raws) 1 []) refl)
+    raws (suc (suc r)) h = rw (none-there 94 r) (refl, tt)
+
+    triples : (r : ℕ) → r < 96 → (length (getD (drawWith x .triples) r []) ≡ tripleLength plan r) × Elements (getD (drawWith x .triples) r [])
+    triples zero h = (refl, tt)
+    triples (suc zero) h = (refl, tt)
+    triples (suc (suc zero)) h = (many, low)
+    triples (suc (suc (suc r))) h = rw (none-there 93 r, ne-eqb (suc (suc (suc r))) 2 (omega arith)) (refl, tt)
+
+-- row 0 is 6, row 1 is 7, row 4 their product by the triple at 2, row 5 is 6 + 2 · 7
+unfoldable pub ledger : Ledger
+ledger r = getD (dealt 6 ∷ dealt 7 ∷ nothing ∷ nothing ∷ product 2 0 1 ∷ sum 0 1 2 ∷ []) r nothing
+
+pub plain-42 : Plain ledger 4 42
+unfolding Computes ledger
+plain-42 = of-product {k = 2} {a = 0} {b = 1} {x = 6} {y = 7} refl (of-deal refl) (of-deal refl)
+
+-- ---- events
+
+abbrev pub call : ℕ → Call → Event
+call i c = record { post = i; call = c }
+
+abbrev pub load : Draw → ℕ → ℕ → Event
+load draw i r = call i (loadRow r (rawPack plan draw i r))
+
+abbrev pub loadThree : Draw → ℕ → Event
+loadThree draw i = call i (loadTriple 2 (triplePack plan draw i 2))
+
+abbrev pub dealOf : Draw → ℕ → ℕ → ℕ → Event
+dealOf draw i r u = call i (deal r (dealerNumber u (getD (rawDraw draw r) 0 0) .value))
+
+-- room for an opening message and for masks, and a record without blocks
+abbrev pub room : List ℕ
+room = 0 ∷ 0 ∷ []
+
+abbrev pub rooms : List ℕ
+rooms = 0 ∷ 0 ∷ 0 ∷ 0 ∷ []
+
+abbrev pub nobody : List ℕ
+nobody = 0 ∷ 0 ∷ 0 ∷ 0 ∷ 0 ∷ 0 ∷ 0 ∷ 0 ∷ 0 ∷ []
+
+unfoldable pub refusals : List Event → World → List ℕ
+refusals [] w = []
+refusals (e ∷ es) w = doneBy e w .answer .refusal ∷ refusals es (turn e w)
+
+-- ---- premises, part by part
+
+pub all-join : (P : Event → Type 0) (xs ys : List Event) → All P xs → All P ys → All P (xs ++ ys)
+all-join P [] ys a b = b
+all-join P (x ∷ xs) ys a b = (a .0, all-join P xs ys (a .1) b)
+
+pub each-join : (P : Event → World → Type 0) (xs ys : List Event) (w : World) → Each P xs w → Each P ys (history xs w) → Each P (xs ++ ys) w
+each-join P [] ys w a b = b
+each-join P (x ∷ xs) ys w a b = (a .0, each-join P xs ys (turn x w) (a .1) b)
+
+-- posts 1 to n, by a test
+unfoldable pub within : ℕ → List Event → Bool
+within n [] = true
+within n (e ∷ es) = leb 1 (e .post) && (leb (e .post) n && within n es)
+
+both : (a b : Bool) → T (a && b) → T a × T b
+both true b h = (tt, h)
+both false b h = absurd h
+
+pub posts-in : (n : ℕ) (es : List Event) → T (within n es) → All (λ e. (1 ≤ e .post) × (e .post ≤ n)) es
+unfolding within
+posts-in n [] h = tt
+posts-in n (e ∷ es) h =
+    let a = both (leb 1 (e .post)) (leb (e .post) n && within n es) h in let b = both (leb (e .post) n) (within n es) (a .1) in
+    ((lit≤ (a .0), lit≤ (b .0)), posts-in n es (b .1))
+
+-- what holds of all events, whatever the posts are then
+pub each-of : (P : Event → Type 0) (es : List Event) (w : World) → All P es → Each (λ e v. P e) es w
+each-of P [] w a = tt
+each-of P (e ∷ es) w a = ((λ z. a .0), each-of P es (turn e w) (a .1))
+
+-- no finish among the events
+abbrev pub QuietThen : Call → Type 0 → Type 0
+QuietThen (loadRow r pack) A = A
+QuietThen (loadTriple r pack) A = A
+QuietThen (deal r c) A = A
+QuietThen (message r lent) A = A
+QuietThen (opening r blocks) A = A
+QuietThen (linear r a b s) A = A
+QuietThen (masks a b r lent) A = A
+QuietThen (finish r blocks blocks') A = ⊥
+
+abbrev pub Quiet : List Event → Type 0
+Quiet [] = Unit {0}
+Quiet (e ∷ es) = QuietThen (e .call) (Quiet es)
+
+quiet-call : (q : Post) (lines : List (List ℕ)) (A : Type 0) (c : Call) → QuietThen c A → TrueFinish q lines c × A
+quiet-call q lines A (loadRow r pack) a = (tt, a)
+quiet-call q lines A (loadTriple r pack) a = (tt, a)
+quiet-call q lines A (deal r c) a = (tt, a)
+quiet-call q lines A (message r lent) a = (tt, a)
+quiet-call q lines A (opening r blocks) a = (tt, a)
+quiet-call q lines A (linear r a' b s) a = (tt, a)
+quiet-call q lines A (masks a' b r lent) a = (tt, a)
+quiet-call q lines A (finish r blocks blocks') a = absurd a
+
+pub each-quiet : (es : List Event) (w : World) → Quiet es → Each (λ e v. TrueFinish (v .posts (e .post)) (v .lines) (e .call)) es w
+each-quiet [] w h = tt
+each-quiet (e ∷ es) w h =
+    let k = quiet-call (w .posts (e .post)) (w .lines) (Quiet es) (e .call) h in
+    ((λ z. k .0), each-quiet es (turn e w) (k .1))

@@ -1,0 +1,119 @@
+-- A finish whose polynomials are truly their senders' is one that fits the vectors.
+use Prim.Native.Nat.{ℕ, _+_, _-_, _≤_, _<_}
+use mathlib.Core.Path.{_≡_, sym, _∙_, ap, subst}
+use mathlib.Core.Logic.{_≢_, inr}
+use mathlib.Core.List.{List}
+use native.Mathlib.Decide.{ℕ-discrete}
+use native.Mathlib.Omega.{arith}
+use lib.ListN.{take, drop}
+use lib.Seq.{take-at, drop-at}
+use Rattle.poly.specs.Counting.{All}
+use Rattle.poly.proofs.Lists.{all-zip}
+use Rattle.refusal.specs.Conditions.{postsTests}
+use Rattle.refusal.proofs.Laws.{inside, all-fail}
+use Rattle.decimal.specs.Numeral.{tens}
+use Rattle.session.specs.declared.Session.{Session}
+use Rattle.opening.specs.Walking.{sent, accepts, acceptedPosts}
+use Rattle.opening.proofs.Accepted.{Accepted, all-accepted}
+use Rattle.product.specs.Finish as Finish
+use Rattle.vectors.specs.Vector.{Vector, numbers}
+use Rattle.vectors.specs.Claims.{heldRow, Truly}
+use Rattle.vectors.proofs.Linear.{length-numbers}
+use Rattle.runs.specs.Draws.{Plan, Draw, IsDraw, Sound}
+use Rattle.runs.specs.Calls.{Post, Call, loadRow, loadTriple, deal, message, opening, linear, masks, finish}
+use Rattle.runs.proofs.Marks.{Marks, leftOf, rightOf, sessionAt, less, vectorA, maskA, maskB}
+use Rattle.runs.proofs.Outcomes.{refusalOf}
+use Rattle.runs.proofs.Holds.{Holds}
+use Rattle.runs.proofs.Finishing.{AllTrue, opens-a, opens-b}
+use Rattle.runs.proofs.Records.{own-true}
+use Rattle.runs.proofs.Start.{sizes}
+use Rattle.runs.proofs.Steps.{postAt, named, Fits}
+use Rattle.runs.proofs.Facts.{Multiplying, Triple}
+use Rattle.runs.proofs.Allowed.{allowed}
+use Rattle.correctness.specs.Ledger.{Ledger}
+use Rattle.correctness.specs.Truth.{OwnPart, ToldHalf, TrueOf, TrueFinish}
+use Rattle.correctness.proofs.Standing.{Known, Good}
+use Rattle.correctness.proofs.Said.{Said, told-masks, halves}
+
+-- where each polynomial that counted, but the own one, is its sender's of S, all are
+pub all-true-of : (s : Session) (S : Vector) (blocks : List ℕ) (P : ℕ → List ℕ → Type 0) (row : List ℕ) → row ≡ heldRow s S
+    → ((j : ℕ) → 1 ≤ j → j ≤ s .n → j ≢ s .post → P j (sent s row blocks j) → sent s row blocks j ≡ numbers (s .t + 1) (S .v j))
+    → TrueOf P s row blocks → AllTrue s S blocks
+all-true-of s S blocks P row e =
+    subst
+    (λ (x : List ℕ). ((j : ℕ) → 1 ≤ j → j ≤ s .n → j ≢ s .post → P j (sent s x blocks j) → sent s x blocks j ≡ numbers (s .t + 1) (S .v j))
+    → TrueOf P s x blocks → AllTrue s S blocks)
+    (sym e)
+    (λ f t.
+    all-zip (λ j a h. go f j a h (ℕ-discrete j (s .post))) (acceptedPosts s (heldRow s S) blocks)
+    (all-accepted (accepts s (heldRow s S) blocks) 1 (s .n) (s .t + 1)) t)
+  where
+    go : ((j : ℕ) → 1 ≤ j → j ≤ s .n → j ≢ s .post → P j (sent s (heldRow s S) blocks j) → Truly s S blocks j) → (j : ℕ)
+        → Accepted (accepts s (heldRow s S) blocks) 1 (s .n) j → (j ≢ s .post → P j (sent s (heldRow s S) blocks j)) → Dec (j ≡ s .post)
+        → Truly s S blocks j
+    go f j a h (yes g) = subst (Truly s S blocks) (sym g) (own-true s blocks S)
+    go f j a h (no g) = f j (a .from-on) (omega (arith, a .before)) g (h g)
+
+pub small : (plan : Plan) → Sound plan → plan .n < tens 10
+small plan sound = sizes plan sound .n-high
+
+module _ (plan : Plan) (draw : Draw) (L : Ledger) (sound : Sound plan) (is : IsDraw plan draw) where
+  abbrev pub Line : List ℕ → Type 0
+  Line = Said plan draw L (small plan sound)
+
+  -- ---- a finish whose polynomials are truly their senders'
+
+  module _ (len i : ℕ) (hi : i ≤ plan .n) (lines : List (List ℕ)) (all : All Line lines) where
+    module _ (M : Marks) (vec : ℕ → Vector) (f : Known plan draw L M vec) (l : List ℕ) (h : Holds plan draw len i M vec l) (r : ℕ) (blocks blocks' : List ℕ) (z : refusalOf (finish r blocks blocks') (postAt plan draw i M l) ≡ 0) where
+      abbrev s : Session
+      s = sessionAt plan draw i M
+
+      ok : Multiplying 5 M (leftOf M r) (rightOf M r) r
+      ok = allowed plan draw i M l (finish r blocks blocks') z
+
+      low : r < 96
+      low = omega (arith, ok .r-low)
+
+      t : Triple plan draw M vec r
+      t = f r low .triple (inr (ok .first))
+
+      both-are : (j : ℕ) → 1 ≤ j → j ≤ plan .n → (half : List ℕ → List ℕ) (xs : List ℕ) → ToldHalf (plan .t) half r lines j xs
+          → xs ≡ half (halves plan draw r j (vec (leftOf M r)) (vec (rightOf M r)))
+      both-are j lj hj half xs o =
+          o .4
+          ∙ ap half
+          (told-masks plan draw L (small plan sound) lines all r j (o .0)
+          (record { row = omega (arith, ok .r-low); post = (lj, hj); many = o .1; low = o .2 }) (o .3) (leftOf M r) (rightOf M r)
+          (f r low .waiting (ok .first) .means) (vec (leftOf M r)) (vec (rightOf M r))
+          (f (leftOf M r) (ok .a-low) .held (ok .a-held)) (f (rightOf M r) (ok .b-low) .held (ok .b-held)))
+
+      true-a : TrueOf (ToldHalf (plan .t) (take (plan .t + 1)) r lines) s (Finish.maskA s l r) blocks → AllTrue s (maskA M vec r) blocks
+      true-a =
+          all-true-of s (maskA M vec r) blocks (ToldHalf (plan .t) (take (plan .t + 1)) r lines) (Finish.maskA s l r) (opens-a plan draw len i M vec l h r blocks blocks' z)
+          (λ j lj hj ne o.
+          both-are j lj hj (take (plan .t + 1)) _ o ∙ take-at (numbers (plan .t + 1) (less (vec (leftOf M r)) (vectorA plan draw r) .v j)) _ (plan .t + 1) (length-numbers (plan .t + 1) _)
+          ∙ ap (λ (X : Vector). numbers (plan .t + 1) (less (vec (leftOf M r)) X .v j)) (sym (t .is-a)))
+
+      true-b : TrueOf (ToldHalf (plan .t) (drop (plan .t + 1)) r lines) s (Finish.maskB s l r) blocks' → AllTrue s (maskB M vec r) blocks'
+      true-b =
+          all-true-of s (maskB M vec r) blocks' (ToldHalf (plan .t) (drop (plan .t + 1)) r lines) (Finish.maskB s l r) (opens-b plan draw len i M vec l h r blocks blocks' z)
+          (λ j lj hj ne o.
+          both-are j lj hj (drop (plan .t + 1)) _ o ∙ drop-at (numbers (plan .t + 1) (less (vec (leftOf M r)) (vectorA plan draw r) .v j)) _ (plan .t + 1) (length-numbers (plan .t + 1) _)
+          ∙ ap (λ (X : Vector). numbers (plan .t + 1) (less (vec (rightOf M r)) X .v j)) (sym (t .is-b)))
+
+    pub fits : (q : Post) (g : Good plan draw L len i q) (c : Call) → refusalOf c q ≡ 0 → OwnPart plan draw i c → TrueFinish q lines c
+        → Fits plan draw i (g .marks) (g .vec) c
+    fits q g (loadRow r pack) z own y = own
+    fits q g (loadTriple r pack) z own y = own
+    fits q g (deal r c) z own y = tt
+    fits q g (message r lent) z own y = tt
+    fits q g (opening r blocks) z own y = tt
+    fits q g (linear r a b scale) z own y = tt
+    fits q g (masks a b r lent) z own y = tt
+    fits q g (finish r blocks blocks') z own y =
+        subst
+        (λ (x : Post). refusalOf (finish r blocks blocks') x ≡ 0 → TrueFinish x lines (finish r blocks blocks')
+        → Fits plan draw i (g .marks) (g .vec) (finish r blocks blocks'))
+        (sym (named plan draw len i (g .marks) (g .vec) q (g .stands)))
+        (λ e o. (true-a (g .marks) (g .vec) (g .facts) (q .rows) (g .stands .holds) r blocks blocks' e (o .0), true-b (g .marks) (g .vec) (g .facts) (q .rows) (g .stands .holds) r blocks blocks' e (o .1)))
+        z y

@@ -1,0 +1,93 @@
+-- One post by the ledger: each row it holds is its part of the ledger's vector, and each call that is not refused keeps that.
+use Prim.Native.Nat.{ℕ, _+_, _*_, _≤_, _<_}
+use mathlib.Core.Path.{_≡_, refl, sym, _∙_, ap₂, subst}
+use mathlib.Core.Logic.{_≢_, inr}
+use native.Mathlib.Omega.{arith}
+use lib.ListN.{length}
+use Rattle.field.specs.Element.{element}
+use Rattle.vectors.specs.Vector.{Vector, raised, number}
+use Rattle.runs.specs.Draws.{Plan, Draw, IsDraw}
+use Rattle.runs.specs.Calls.{Post, Call, loadRow, loadTriple, deal, message, opening, linear, masks, finish, perform, after}
+use Rattle.runs.proofs.Marks.{Marks, markOf, leftOf, rightOf, Sized, less, productVector, written}
+use Rattle.runs.proofs.Outcomes.{refusalOf}
+use Rattle.runs.proofs.Steps.{Stands, named, Fits, stands-after}
+use Rattle.runs.proofs.Facts.{Allowed, Multiplying, Triple, Facts, Meant}
+use Rattle.runs.proofs.Rows.{sized-after}
+use Rattle.runs.proofs.Kept.{facts-after}
+use Rattle.runs.proofs.Allowed.{allowed, room}
+use Rattle.correctness.specs.Ledger.{Ledger, product, Written}
+use Rattle.correctness.specs.Truth.{OwnPart}
+use Rattle.correctness.proofs.Meanings.{Is, is-dealt, is-sum, is-product}
+
+module _ (plan : Plan) (draw : Draw) (L : Ledger) where
+  -- the ledger has a product of a and b by the triple at r
+  abbrev pub Waits : ℕ → ℕ → ℕ → Type 0
+  Waits r a b = L (r + 2) ≡ product r a b
+
+  abbrev pub Known : Marks → (ℕ → Vector) → Type 0
+  Known M vec = Facts plan draw (Is plan draw L) Waits M vec
+
+  -- post i, whose list of rows has `len` numbers: marks and vectors, by which it stands
+  pub record Good (len i : ℕ) (q : Post) : Type 0 where
+    pub marks : Marks
+    pub vec : ℕ → Vector
+    pub sized : Sized marks
+    pub stands : Stands plan draw len i marks vec q
+    pub facts : Known marks vec
+    pub full : (r : ℕ) → markOf marks r ≢ 0 → len ≡ 96 * (plan .t + 1 + 2 * plan .n)
+
+  module _ (len i : ℕ) (q : Post) (g : Good len i q) where
+    -- a call that is not refused is allowed by the marks, and finds room
+    pub allowed-at : (c : Call) → refusalOf c q ≡ 0 → Allowed c (g .marks)
+    allowed-at c =
+        subst (λ (x : Post). refusalOf c x ≡ 0 → Allowed c (g .marks)) (sym (named plan draw len i (g .marks) (g .vec) q (g .stands)))
+        (allowed plan draw i (g .marks) (q .rows) c)
+
+    room-at : (c : Call) → refusalOf c q ≡ 0 → len ≡ 96 * (plan .t + 1 + 2 * plan .n)
+    room-at c z =
+        sym (g .stands .holds .long)
+        ∙ subst (λ (x : Post). refusalOf c x ≡ 0 → length (q .rows) ≡ 96 * (plan .t + 1 + 2 * plan .n))
+        (sym (named plan draw len i (g .marks) (g .vec) q (g .stands))) (room plan draw i (g .marks) (q .rows) c) z
+
+  -- what a call that does what the ledger says brings
+  module _ (M : Marks) (vec : ℕ → Vector) (f : Known M vec) where
+    finished-is : (r : ℕ) → Multiplying 5 M (leftOf M r) (rightOf M r) r → Is plan draw L (r + 2) (written M vec r)
+    finished-is r ok =
+        is-product (f r low .waiting (ok .first) .means) (f (leftOf M r) (ok .a-low) .held (ok .a-held))
+        (f (rightOf M r) (ok .b-low) .held (ok .b-held))
+        (λ j.
+        productVector (number (less (vec (leftOf M r)) (t .is-a j)) .0) (number (less (vec (rightOf M r)) (t .is-b j)) .0)
+        (t .is-a j) (t .is-b j) (t .is-ab j))
+      where
+        low : r < 96
+        low = omega (arith, ok .r-low)
+
+        t : Triple plan draw M vec r
+        t = f r low .triple (inr (ok .first))
+
+    meant : (i : ℕ) (c : Call) → Allowed c M → OwnPart plan draw i c → Written draw L c → Meant plan draw (Is plan draw L) Waits c M vec
+    meant i (loadRow r pack) ok own w = own .0
+    meant i (loadTriple r pack) ok own w = own .0
+    meant i (deal r c) ok own w =
+        is-dealt (w .2) (w .1) (ap₂ (λ (x : ℕ) (X : Vector). raised (element x) X) (w .3) (f r (ok .0) .raw (ok .1) .1))
+    meant i (message r lent) ok own w = tt
+    meant i (opening r blocks) ok own w = tt
+    meant i (linear r a b scale) ok own w =
+        is-sum w (f a (ok .a-low) .held (ok .a-held)) (f b (ok .b-low) .held (ok .b-held)) refl
+    meant i (masks a b r lent) ok own w = w
+    meant i (finish r blocks blocks') ok own w = finished-is r ok
+
+  pub good-after : IsDraw plan draw → (len i : ℕ) → i ≤ plan .n → (q : Post) (g : Good len i q) (c : Call) → refusalOf c q ≡ 0
+      → OwnPart plan draw i c → Written draw L c → Fits plan draw i (g .marks) (g .vec) c → Good len i (after (perform c q))
+  good-after is len i hi q g c z own w fit =
+      let ok = allowed-at len i q g c z in
+      record {
+        marks = _;
+        vec = _;
+        sized = sized-after c (g .marks) (g .sized);
+        stands = stands-after plan draw is len i hi (g .marks) (g .vec) q (g .stands) c z fit;
+        facts =
+            facts-after plan draw (Is plan draw L) Waits (Is plan draw L) Waits c (g .marks) (g .vec) (g .sized) ok
+            (meant (g .marks) (g .vec) (g .facts) i c ok own w) (λ r low e h. h) (λ r low e e' h. h) (g .facts);
+        full = λ r ne. room-at len i q g c z;
+      }

@@ -1,0 +1,171 @@
+-- Demand 3: the draws that show a record under one list of secrets are matched one to one with those that show it under the
+-- other; and so there are as many.
+use Prim.Native.Nat.{ℕ, _≤_, _<_}
+use mathlib.Core.Path.{_≡_, refl, sym, _∙_, ap, subst}
+use mathlib.Core.List.{List, [], _∷_, map}
+use native.Mathlib.Omega.{arith}
+use lib.ListN.{length}
+use Rattle.session.specs.Sessions.{created}
+use Rattle.field.specs.Algebra.{CommutativeRing}
+use Rattle.field.specs.Element.{Element}
+use Rattle.field.proofs.Elements.{𝓡}
+use Rattle.poly.specs.Counting.{All}
+use Rattle.poly.proofs.Lists.{all-of}
+use Rattle.vectors.specs.Vector.{Vector}
+use Rattle.runs.specs.Draws.{Plan, Draw, IsDraw, Sound, pointOf}
+use Rattle.runs.specs.Calls.{Post, newPost}
+use Rattle.runs.proofs.Marks.{Marks, markOf}
+use Rattle.runs.proofs.Start.{start, start-sized, start-mark, start-stands, start-facts}
+use Rattle.secrecy.specs.Steps as Steps
+use Rattle.secrecy.specs.Steps.{Secrets, Step}
+use Rattle.secrecy.specs.Seen.{Entry, Seen, run, seen}
+use Rattle.secrecy.specs.Rules.{SameAnswers, Rules, refusalOf}
+use Rattle.secrecy.specs.Book.{Book, blank, booked, Agrees, Agree}
+use Rattle.secrecy.specs.Claim.{Premises, Shows, Secrecy}
+use Rattle.secrecy.specs.Count.{EqualCounts}
+use Rattle.secrecy.proofs.Near.{groupKernel}
+use Rattle.secrecy.proofs.Link.{Gaps}
+use Rattle.secrecy.proofs.Moved.{moved, moved-is, moved-points}
+use Rattle.secrecy.proofs.Linked.{link}
+use Rattle.secrecy.proofs.Unchanged.{same-points, same-raws, same-triples, same-polynomials, same-deals}
+use Rattle.secrecy.proofs.Back.{back}
+use Rattle.secrecy.proofs.State.{Setting, State}
+use Rattle.secrecy.proofs.Pair.{Two, Pair}
+use Rattle.secrecy.proofs.Reckoned as Reckoned
+use Rattle.secrecy.proofs.Reckoned.{reckoned, reckoned-back}
+use Rattle.secrecy.proofs.Runs.{runs}
+use Rattle.secrecy.proofs.Counts as Counts
+open CommutativeRing 𝓡 using (zero as 0ᴱ)
+
+-- ---- the premises with the two lists of secrets exchanged
+
+agrees-back : (c : Step) (k : ℕ) (b b' : Book) → Agrees c k b b' → Agrees c k b' b
+agrees-back (Steps.loadRow r pack) k b b' e = tt
+agrees-back (Steps.loadTriple r pack) k b b' e = tt
+agrees-back (Steps.deal r c) k b b' e = tt
+agrees-back (Steps.message r lent) k b b' e = λ z. sym (e z)
+agrees-back (Steps.opening r blocks) k b b' e = tt
+agrees-back (Steps.linear r x y scale) k b b' e = tt
+agrees-back (Steps.masks x y r lent) k b b' e = tt
+agrees-back (Steps.finish r blocks blocks') k b b' e = tt
+
+agree-back : (u u' : Secrets) (cs : List Step) (es : List Entry) (b b' : Book) → Agree u u' cs es b b' → Agree u' u cs es b' b
+agree-back u u' [] es b b' a = tt
+agree-back u u' (c ∷ cs) [] b b' a = tt
+agree-back u u' (c ∷ cs) (e ∷ es) b b' a =
+    (agrees-back c (refusalOf e) b b' (a .0), agree-back u u' cs es (booked u c (refusalOf e) b) (booked u' c (refusalOf e) b') (a .1))
+
+exchanged : (plan : Plan) (group : List ℕ) (u u' : Secrets) (cs : List Step) (R : Seen) → Premises plan group u u' cs R → Premises plan group u' u cs R
+exchanged plan group u u' cs R h =
+    record {
+      sound = h .sound;
+      group-few = h .group-few;
+      secrets = λ r raw. (h .secrets r raw .1, h .secrets r raw .0);
+      dealers = λ r dealer e m. sym (h .dealers r dealer e m);
+      same-answers = h .same-answers;
+      rules = h .rules;
+      agree = agree-back u u' cs (R .entries) blank blank (h .agree);
+    }
+
+-- ---- from one draw to the matched one
+
+module _ (plan : Plan) (group : List ℕ) (rows : ℕ → List ℕ) (cs : List Step) (u u' : Secrets) (R : Seen) (h : Premises plan group u u' cs R) where
+  -- the masks that the list makes
+  Δ : ℕ → Gaps
+  Δ r = reckoned u u' cs (R .entries) blank blank r
+
+  module _ (d : Draw) (s : Shows plan group rows cs u R d) where
+    is' : IsDraw plan (moved plan group u u' Δ d)
+    is' = moved-is plan group u u' Δ d (s .is-draw)
+
+    two : Two
+    two =
+        record {
+          plan = plan;
+          group = group;
+          d = d;
+          d' = moved plan group u u' Δ d;
+          u = u;
+          u' = u';
+          ok = record { sound = h .sound; is-draw = s .is-draw; low = λ r raw. h .secrets r raw .0 };
+          ok' = record { sound = h .sound; is-draw = is'; low = λ r raw. h .secrets r raw .1 };
+          len = λ i. length (rows i);
+          K = groupKernel (pointOf d) group;
+          Δ = Δ;
+          link = link plan group u u' Δ d (h .sound) (h .group-few) (h .secrets) (s .is-draw);
+        }
+
+    none : Vector
+    none = record { c = 0ᴱ; f = λ i. 0ᴱ; v = λ j i. 0ᴱ }
+
+    -- the runs start side by side
+    begins : (e : Draw) (w : Secrets) (ok : Setting plan e w) (is : IsDraw plan e)
+        → State plan e w ok (λ i. length (rows i)) start (λ r. none) blank [] (λ i. newPost plan e (rows i) i)
+    begins e w ok is =
+        record {
+          sized = start-sized;
+          posts = λ i lo hi. start-stands plan e (h .sound) is (λ r. none) (rows i) i lo hi;
+          facts = start-facts plan e (h .sound) is _ _ (λ r. none);
+          openings = λ r j xs o a. absurd a;
+          maskings = λ r j xs o a. absurd a;
+        }
+
+    pair : Pair two start (λ r. none) (λ r. none) blank blank [] (λ i. newPost plan d (rows i) i) (λ i. newPost plan (moved plan group u u' Δ d) (rows i) i)
+    unfolding two newPost
+    pair =
+        record {
+          one = begins d u _ (s .is-draw);
+          two = begins (moved plan group u u' Δ d) u' _ is';
+          near = λ r lr ne. absurd (ne (start-mark r));
+          group-same = all-of (λ i. ap (λ (f : ℕ → ℕ). record { session = created (plan .n) (plan .t) i (f i) .session; rows = rows i }) (sym (moved-points plan group u u' Δ d))) group;
+          agreed = λ r j xs o a. absurd a;
+          waiting = λ r lr five. absurd (omega (arith, start-mark r));
+        }
+
+    entries-same : run plan group d u cs [] (λ i. newPost plan d (rows i) i)
+        ≡ run plan group (moved plan group u u' Δ d) u' cs [] (λ i. newPost plan (moved plan group u u' Δ d) (rows i) i)
+    unfolding two Δ seen
+    entries-same =
+        let e : run plan group d u cs [] (λ i. newPost plan d (rows i) i) ≡ R .entries = ap (λ (x : Seen). x .entries) (s .same) in
+        runs two cs start (λ r. none) (λ r. none) blank blank [] _ _ pair (subst SameAnswers (sym e) (h .same-answers))
+        (subst (λ (x : List Entry). Rules plan cs x []) (sym e) (h .rules))
+        (subst (λ (x : List Entry). Agree u u' cs x blank blank) (sym e) (h .agree))
+        (λ r lr np. ap (λ (x : List Entry). reckoned u u' cs x blank blank r) e)
+
+    transfer : Shows plan group rows cs u' R (moved plan group u u' Δ d)
+    unfolding seen
+    transfer =
+        let points = same-points plan group u u' Δ d (h .sound) (h .group-few) (h .secrets) (s .is-draw) in
+        let raws = same-raws plan group u u' Δ d (h .sound) (h .group-few) (h .secrets) (s .is-draw) in
+        let triples = same-triples plan group u u' Δ d (h .sound) (h .group-few) (h .secrets) (s .is-draw) in
+        let polynomials = same-polynomials plan group u u' Δ d (h .sound) (h .group-few) (h .secrets) (s .is-draw) (h .dealers) in
+        let deals = same-deals plan group u u' Δ d (h .sound) (h .group-few) (h .secrets) (s .is-draw) in
+        let all : seen plan group d u rows cs ≡ seen plan group (moved plan group u u' Δ d) u' rows cs =
+        λ j. record { points = points j; raws = raws j; triples = triples j; polynomials = polynomials j; deals = deals j; entries = entries-same j } in
+        record { is-draw = is'; same = sym all ∙ s .same }
+
+-- ---- the theorems
+
+pub secrecy : Secrecy
+unfolding Δ
+secrecy plan group rows cs u u' R h =
+    record {
+      to = moved plan group u u' (Δ plan group rows cs u u' R h);
+      from = moved plan group u' u (Δ plan group rows cs u' u R h');
+      to-ok = transfer plan group rows cs u u' R h;
+      from-ok = transfer plan group rows cs u' u R h';
+      from-to = λ d s. back plan group u u' _ _ d (h .sound) (h .group-few) (s .is-draw) (λ r. opposite r .0) (λ r. opposite r .1);
+      to-from = λ d s. back plan group u' u _ _ d (h .sound) (h .group-few) (s .is-draw) (λ r. opposite' r .0) (λ r. opposite' r .1);
+    }
+  where
+    h' : Premises plan group u' u cs R
+    h' = exchanged plan group u u' cs R h
+
+    opposite : (r : ℕ) → Reckoned.Opposite (reckoned u u' cs (R .entries) blank blank r) (reckoned u' u cs (R .entries) blank blank r)
+    opposite r = reckoned-back u u' cs (R .entries) blank blank r
+
+    opposite' : (r : ℕ) → Reckoned.Opposite (reckoned u' u cs (R .entries) blank blank r) (reckoned u u' cs (R .entries) blank blank r)
+    opposite' r = reckoned-back u' u cs (R .entries) blank blank r
+
+pub equal-counts : EqualCounts
+equal-counts = Counts.equal-counts secrecy
