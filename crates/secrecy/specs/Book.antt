@@ -42,6 +42,12 @@ entered u (finish r blocks blocks') b = placed b (r + 2) (product (b .factorA r)
 abbrev pub booked : Secrets → Step → ℕ → Book → Book
 booked u c refusal b = outcome refusal (entered u c b) b
 
+-- The book after the calls with these answers.
+unfoldable pub bookAfter : Secrets → List Step → List Entry → Book → Book
+bookAfter u [] es b = b
+bookAfter u (c ∷ cs) [] b = b
+bookAfter u (c ∷ cs) (e ∷ es) b = bookAfter u cs es (booked u c (refusalOf e) b)
+
 -- "A number agrees when, at each opening message not refused, its row's place is the same under both lists of secrets."
 abbrev pub Agrees : Step → ℕ → Book → Book → Type 0
 Agrees (loadRow r pack) k b b' = Unit {0}

@@ -7,11 +7,14 @@ use mathlib.Core.List.{List, []}
 use lib.ListN.{length}
 use Rattle.field.specs.Modulus.{p}
 use Rattle.poly.specs.Counting.{All}
+use Rattle.session.specs.Sessions.{mark}
+use Rattle.session.specs.Rows.{width, rowAt}
 use Rattle.runs.specs.Draws.{Plan, Draw, IsDraw, IsRaw, Sound, by}
+use Rattle.runs.specs.Calls.{newPost}
 use Rattle.secrecy.specs.Steps.{Secrets, Step}
-use Rattle.secrecy.specs.Seen.{Seen, member, seen}
+use Rattle.secrecy.specs.Seen.{Seen, member, postsAfter, seen}
 use Rattle.secrecy.specs.Rules.{SameAnswers, Rules}
-use Rattle.secrecy.specs.Book.{blank, Agree}
+use Rattle.secrecy.specs.Book.{blank, bookAfter, Agree}
 
 -- A group of at most t posts.
 pub record Group (plan : Plan) (group : List ℕ) : Type 0 where
@@ -43,7 +46,25 @@ pub record Matching {A : Type 0} (P Q : A → Type 0) : Type 0 where
   pub from-to : (a : A) → P a → from (to a) ≡ a
   pub to-from : (a : A) → Q a → to (from a) ≡ a
 
+-- Demand 3, as a matching of the draws.
 abbrev pub Secrecy : Type 0
 Secrecy =
     (plan : Plan) (group : List ℕ) (rows : ℕ → List ℕ) (cs : List Step) (u u' : Secrets) (R : Seen)
     → Premises plan group u u' cs R → Matching (Shows plan group rows cs u R) (Shows plan group rows cs u' R)
+
+-- Of a draw d and the one matched with it: at every post, not only in the group, a held row whose place is the same in both
+-- books is the same in both runs.
+abbrev pub AgreeingRows : Plan → (ℕ → List ℕ) → List Step → Secrets → Secrets → Seen → Draw → Draw → Type 0
+AgreeingRows plan rows cs u u' R d d' =
+    let q = postsAfter plan d u cs [] (λ i. newPost plan d (rows i) i) in
+    let q' = postsAfter plan d' u' cs [] (λ i. newPost plan d' (rows i) i) in
+    (i : ℕ) → 1 ≤ i → i ≤ plan .n → (r : ℕ) → r ≤ 95 → mark (q i .session) r ≡ 2
+    → bookAfter u cs (R .entries) blank .place r ≡ bookAfter u' cs (R .entries) blank .place r
+    → rowAt (width (q i .session)) (q i .rows) r ≡ rowAt (width (q i .session)) (q' i .rows) r
+
+-- The same matching, with that.
+abbrev pub SecrecyEverywhere : Type 0
+SecrecyEverywhere =
+    (plan : Plan) (group : List ℕ) (rows : ℕ → List ℕ) (cs : List Step) (u u' : Secrets) (R : Seen) → Premises plan group u u' cs R
+    → (m : Matching (Shows plan group rows cs u R) (Shows plan group rows cs u' R))
+    × ((d : Draw) → Shows plan group rows cs u R d → AgreeingRows plan rows cs u u' R d (m .to d))

@@ -55,6 +55,11 @@ module _ (plan : Plan) (draw : Draw) (u : Secrets) where
   abbrev pub linesOf : List (List ℕ) → Step → (ℕ → Post) → List (List ℕ)
   linesOf lines c q = joined (map (λ i. broadcast i (callAt plan draw u lines i c) (doneAt lines c q i)) (posts (plan .n)))
 
+  -- the posts after the calls, each of which gets what the one before handed back
+  unfoldable pub postsAfter : List Step → List (List ℕ) → (ℕ → Post) → ℕ → Post
+  postsAfter [] lines q = q
+  postsAfter (c ∷ cs) lines q = postsAfter cs (lines ++ linesOf lines c q) (λ i. after (doneAt lines c q i))
+
 module _ (plan : Plan) (group : List ℕ) (draw : Draw) (u : Secrets) where
   unfoldable pub entryOf : List (List ℕ) → Step → (ℕ → Post) → Entry
   entryOf lines c q =
