@@ -17,3 +17,4 @@ pub mod Tests
 pub mod Selections
 pub mod Listed
 pub mod Counts
+pub mod Example
