@@ -23,3 +23,4 @@ pub mod Selections
 pub mod Listed
 pub mod Counts
 pub mod Theorems
+pub mod Example

@@ -4,3 +4,5 @@ pub mod Rules
 pub mod Book
 pub mod Claim
 pub mod Count
+pub mod Scene
+pub mod Told

@@ -1,0 +1,50 @@
+-- P1 to P10 of document 01, by computing.
+use mathlib.Core.Path.{refl}
+use Rattle.field.specs.Arithmetic.{sum, product, difference, euclid, inverse}
+use Rattle.poly.specs.Polynomial.{value}
+use Rattle.poly.specs.Interpolation.{nodal, weight, terms, interpolated}
+use Rattle.refusal.specs.Refusal.{outcome}
+use Rattle.refusal.specs.Conditions.{anyBeyond}
+use Rattle.factory.specs.Draw.{eachFrom, part}
+use Rattle.factory.specs.Packs.{dealerRefusal}
+use Rattle.session.specs.Rows.{combined, plusSums}
+use Rattle.session.specs.Sessions.{created}
+use Rattle.opening.specs.Walking.{sent, accepts, share, walk, opened}
+use Rattle.product.specs.Finish.{productRow}
+use Rattle.decimal.specs.Numeral.{lastDigits, sizeWithin, leading, valueAfter, fieldOf}
+use Rattle.fields.specs.Fields.{fields, fieldsAt}
+use Rattle.forms.specs.Forms.{formOf}
+use Rattle.lines.specs.Order.{lineRefusal}
+use Rattle.table.specs.Table.{pointAt, drawn, drawnA, drawnB, drawnTriple, Reads, Writes, Table}
+
+reads : Reads
+unfolding anyBeyond outcome leading valueAfter fieldOf fieldsAt formOf lineRefusal
+reads = record { line = refl; numbers = refl }
+
+writes : Writes
+unfolding outcome lastDigits sizeWithin fields lineRefusal
+writes = record { answer = refl; bytes = refl }
+
+pub table : Table
+unfolding sum product difference euclid inverse value nodal weight terms interpolated anyBeyond outcome eachFrom part dealerRefusal combined plusSums created sent accepts share walk opened productRow leading valueAfter fieldOf fieldsAt formOf lineRefusal pointAt drawn drawnA drawnB drawnTriple
+table =
+    record {
+      p1 = refl;
+      p2 = refl;
+      p3 = refl;
+      p4 = refl;
+      p5 = refl;
+      p6 = refl;
+      p7 = refl;
+      p7' = refl;
+      p8 = refl;
+      p8-by = refl;
+      p8-gives = refl;
+      p8-by' = refl;
+      p8-gives' = refl;
+      p9 = refl;
+      p9-product = refl;
+      p10-reads = reads;
+      p10-writes = writes;
+      p10-refused = refl;
+    }
