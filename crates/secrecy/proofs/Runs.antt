@@ -21,9 +21,9 @@ use Rattle.runs.proofs.Facts.{Allowed}
 use Rattle.runs.proofs.Rows.{past-stays}
 use Rattle.secrecy.specs.Steps as Steps
 use Rattle.secrecy.specs.Steps.{Step, callAt}
-use Rattle.secrecy.specs.Seen.{Entry, posts, joined, doneAt, linesOf, entryOf, run}
+use Rattle.secrecy.specs.Seen.{Entry, posts, joined, doneAt, linesOf, postsAfter, entryOf, run}
 use Rattle.secrecy.specs.Rules.{AllSame, SameAnswers, Rule, Rules, refusalOf}
-use Rattle.secrecy.specs.Book.{Book, Agrees, Agree, entered, booked}
+use Rattle.secrecy.specs.Book.{Book, Agrees, Agree, entered, booked, bookAfter}
 use Rattle.secrecy.proofs.Link.{Gaps}
 use Rattle.secrecy.proofs.State.{Past}
 use Rattle.runs.proofs.Start.{sizes}
@@ -106,14 +106,25 @@ module _ (T : Two) where
   abbrev pub Foreseen : List Step → Marks → List Entry → Book → Book → Type 0
   Foreseen cs M es b b' = (r : ℕ) → r < 96 → (Past M r → ⊥) → reckoned (T .u) (T .u') cs es b b' r ≡ T .Δ r
 
+  -- the two runs from here to the end: the same entries, and side by side after them
+  pub record Ended (cs : List Step) (b b' : Book) (lines : List (List ℕ)) (q q' : ℕ → Post) : Type 0 where
+    pub entries : run (T .plan) (T .group) (T .d) (T .u) cs lines q ≡ run (T .plan) (T .group) (T .d') (T .u') cs lines q'
+    pub marks : Marks
+    pub vec : ℕ → Vector
+    pub vec' : ℕ → Vector
+    pub lines-after : List (List ℕ)
+    pub pair : Pair T marks vec vec' (bookAfter (T .u) cs (run (T .plan) (T .group) (T .d) (T .u) cs lines q) b)
+        (bookAfter (T .u') cs (run (T .plan) (T .group) (T .d) (T .u) cs lines q) b') lines-after
+        (postsAfter (T .plan) (T .d) (T .u) cs lines q) (postsAfter (T .plan) (T .d') (T .u') cs lines q')
+
   pub runs : (cs : List Step) (M : Marks) (vec vec' : ℕ → Vector) (b b' : Book) (lines : List (List ℕ)) (q q' : ℕ → Post)
       → Pair T M vec vec' b b' lines q q' → SameAnswers (run (T .plan) (T .group) (T .d) (T .u) cs lines q)
       → Rules (T .plan) cs (run (T .plan) (T .group) (T .d) (T .u) cs lines q) lines
       → Agree (T .u) (T .u') cs (run (T .plan) (T .group) (T .d) (T .u) cs lines q) b b'
-      → Foreseen cs M (run (T .plan) (T .group) (T .d) (T .u) cs lines q) b b'
-      → run (T .plan) (T .group) (T .d) (T .u) cs lines q ≡ run (T .plan) (T .group) (T .d') (T .u') cs lines q'
-  unfolding run entryOf reckoned outcome
-  runs [] M vec vec' b b' lines q q' R same rules agree fore = refl
+      → Foreseen cs M (run (T .plan) (T .group) (T .d) (T .u) cs lines q) b b' → Ended cs b b' lines q q'
+  unfolding run entryOf reckoned outcome postsAfter bookAfter
+  runs [] M vec vec' b b' lines q q' R same rules agree fore =
+      record { entries = refl; marks = M; vec = vec; vec' = vec'; lines-after = lines; pair = R }
   runs (c ∷ cs) M vec vec' b b' lines q q' R same rules agree fore =
       go (refusalOf e) refl (λ N v v' x x' Q. runs cs N v v' x x' lines' after1 after2 Q (same .1))
     where
@@ -138,10 +149,15 @@ module _ (T : Two) where
           sym (refusal-is (c1 lines i c) (q i))
           ∙ same-refusal (λ i. doneAt (T .plan) (T .d) (T .u) lines c q i .answer .refusal) (T .plan .n) (same .0) i lo hi
 
-      joinup : (k : ℕ) → ((i : ℕ) → 1 ≤ i → i ≤ T .plan .n → Outcomes.refusalOf (c1 lines i c) (q i) ≡ k) → Rule (T .plan) c k lines
-          → Agrees c k b b' → (k ≡ 0 → Fit T M vec vec' b b' lines q q' R c) → run (T .plan) (T .group) (T .d) (T .u) cs lines' after1 ≡ run (T .plan) (T .group) (T .d') (T .u') cs lines' after2
-          → run (T .plan) (T .group) (T .d) (T .u) (c ∷ cs) lines q ≡ run (T .plan) (T .group) (T .d') (T .u') (c ∷ cs) lines q'
-      joinup k z rule ag fit ih =
+      said : (k : ℕ) → ((i : ℕ) → 1 ≤ i → i ≤ T .plan .n → Outcomes.refusalOf (c1 lines i c) (q i) ≡ k) → Rule (T .plan) c k lines
+          → Agrees c k b b' → (k ≡ 0 → Fit T M vec vec' b b' lines q q' R c)
+          → linesOf (T .plan) (T .d) (T .u) lines c q ≡ linesOf (T .plan) (T .d') (T .u') lines c q'
+      said = lines-two T M vec vec' b b' lines q q' R c
+
+      entry-same : (k : ℕ) → ((i : ℕ) → 1 ≤ i → i ≤ T .plan .n → Outcomes.refusalOf (c1 lines i c) (q i) ≡ k) → Rule (T .plan) c k lines
+          → Agrees c k b b' → (k ≡ 0 → Fit T M vec vec' b b' lines q q' R c)
+          → entryOf (T .plan) (T .group) (T .d) (T .u) lines c q ≡ entryOf (T .plan) (T .group) (T .d') (T .u') lines c q'
+      entry-same k z rule ag fit =
           let same-here = same-at T M vec vec' b b' lines q q' R c k z rule ag fit in
           let refusals : map (λ i. doneAt (T .plan) (T .d) (T .u) lines c q i .answer .refusal) (posts (T .plan .n))
           ≡ map (λ i. doneAt (T .plan) (T .d') (T .u') lines c q' i .answer .refusal) (posts (T .plan .n)) =
@@ -149,20 +165,44 @@ module _ (T : Two) where
           let values : map (λ i. doneAt (T .plan) (T .d) (T .u) lines c q i .answer .value) (posts (T .plan .n))
           ≡ map (λ i. doneAt (T .plan) (T .d') (T .u') lines c q' i .answer .value) (posts (T .plan .n)) =
           posts-same _ _ (T .plan .n) (λ i lo hi. same-here i lo hi .value) in
-          let said = lines-two T M vec vec' b b' lines q q' R c k z rule ag fit in
+          let lines-same = said k z rule ag fit in
           let rows : map (λ i. doneAt (T .plan) (T .d) (T .u) lines c q i .rows) (T .group)
           ≡ map (λ i. doneAt (T .plan) (T .d') (T .u') lines c q' i .rows) (T .group) =
           rows-all (doneAt (T .plan) (T .d) (T .u) lines c q) (doneAt (T .plan) (T .d') (T .u') lines c q') (T .group)
           (group-two T M vec vec' b b' lines q q' R c k z rule ag fit) in
-          ap₂ _∷_ (λ j. record { refusals = refusals j; values = values j; lines = said j; rows = rows j })
-          (ih ∙ ap (λ (x : List (List ℕ)). run (T .plan) (T .group) (T .d') (T .u') cs (lines ++ x) after2) said)
+          λ j. record { refusals = refusals j; values = values j; lines = lines-same j; rows = rows j }
+
+      joinup : (k : ℕ) → ((i : ℕ) → 1 ≤ i → i ≤ T .plan .n → Outcomes.refusalOf (c1 lines i c) (q i) ≡ k) → Rule (T .plan) c k lines
+          → Agrees c k b b' → (k ≡ 0 → Fit T M vec vec' b b' lines q q' R c) → (x x' : Book) → x ≡ booked (T .u) c (refusalOf e) b
+          → x' ≡ booked (T .u') c (refusalOf e) b' → Ended cs x x' lines' after1 after2 → Ended (c ∷ cs) b b' lines q q'
+      joinup k z rule ag fit x x' ex ex' ih =
+          let lines-same = said k z rule ag fit in
+          record {
+            entries = ap₂ _∷_ (entry-same k z rule ag fit)
+                (ih .entries ∙ ap (λ (w : List (List ℕ)). run (T .plan) (T .group) (T .d') (T .u') cs (lines ++ w) after2) lines-same);
+            marks = ih .marks;
+            vec = ih .vec;
+            vec' = ih .vec';
+            lines-after = ih .lines-after;
+            pair = subst
+                (λ (w : List (List ℕ)). Pair T (ih .marks) (ih .vec) (ih .vec') (bookAfter (T .u) cs es (booked (T .u) c (refusalOf e) b))
+                (bookAfter (T .u') cs es (booked (T .u') c (refusalOf e) b')) (ih .lines-after) (postsAfter (T .plan) (T .d) (T .u) cs lines' after1)
+                (postsAfter (T .plan) (T .d') (T .u') cs (lines ++ w) after2)) lines-same
+                (subst
+                (λ (y : Book). Pair T (ih .marks) (ih .vec) (ih .vec') (bookAfter (T .u) cs es y)
+                (bookAfter (T .u') cs es (booked (T .u') c (refusalOf e) b')) (ih .lines-after) (postsAfter (T .plan) (T .d) (T .u) cs lines' after1)
+                (postsAfter (T .plan) (T .d') (T .u') cs lines' after2)) ex
+                (subst
+                (λ (y : Book). Pair T (ih .marks) (ih .vec) (ih .vec') (bookAfter (T .u) cs es x) (bookAfter (T .u') cs es y) (ih .lines-after)
+                (postsAfter (T .plan) (T .d) (T .u) cs lines' after1) (postsAfter (T .plan) (T .d') (T .u') cs lines' after2)) ex' (ih .pair)));
+          }
 
       go : (k : ℕ) → refusalOf e ≡ k
           → ((N : Marks) (v v' : ℕ → Vector) (x x' : Book) → Pair T N v v' x x' lines' after1 after2 → Rules (T .plan) cs es lines'
-          → Agree (T .u) (T .u') cs es x x' → Foreseen cs N es x x' → es ≡ run (T .plan) (T .group) (T .d') (T .u') cs lines' after2)
-          → run (T .plan) (T .group) (T .d) (T .u) (c ∷ cs) lines q ≡ run (T .plan) (T .group) (T .d') (T .u') (c ∷ cs) lines q'
+          → Agree (T .u) (T .u') cs es x x' → Foreseen cs N es x x' → Ended cs x x' lines' after1 after2)
+          → Ended (c ∷ cs) b b' lines q q'
       go zero ek ih =
-          joinup 0 z rule ag (λ g. fit)
+          joinup 0 z rule ag (λ g. fit) _ _ (ap (λ (k : ℕ). booked (T .u) c k b) (sym ek)) (ap (λ (k : ℕ). booked (T .u') c k b') (sym ek))
           (ih _ _ _ _ _ (live T M vec vec' b b' lines q q' R c z rule ag fit) (rules .1)
           (subst (λ (k : ℕ). Agree (T .u) (T .u') cs es (booked (T .u) c k b) (booked (T .u') c k b')) ek (agree .1))
           (λ r lr np. sym (here-other M vec vec' b b' lines q q' R c al r lr np _) ∙ now r lr (λ past. np (past-stays (T .plan) (T .d) (c1 lines 1 c) M (R .one .sized) al r past))))
@@ -189,7 +229,7 @@ module _ (T : Two) where
           fit : Fit T M vec vec' b b' lines q q' R c
           fit = fit-of M vec vec' b b' lines q q' R c al (reckoned (T .u) (T .u') cs es (entered (T .u) c b) (entered (T .u') c b')) now
       go (suc k) ek ih =
-          joinup (suc k) z rule ag (λ g. absurd (omega arith))
+          joinup (suc k) z rule ag (λ g. absurd (omega arith)) _ _ (ap (λ (m : ℕ). booked (T .u) c m b) (sym ek)) (ap (λ (m : ℕ). booked (T .u') c m b') (sym ek))
           (ih _ _ _ _ _ (idle T M vec vec' b b' lines q q' R c k z rule ag) (rules .1)
           (subst (λ (m : ℕ). Agree (T .u) (T .u') cs es (booked (T .u) c m b) (booked (T .u') c m b')) ek (agree .1))
           (λ r lr np. sym (here-refused c k b b' r _) ∙ subst (λ (m : ℕ). reckonedHere c m b b' r (reckoned (T .u) (T .u') cs es (booked (T .u) c m b) (booked (T .u') c m b') r) ≡ T .Δ r) ek (fore r lr np)))

@@ -2,10 +2,14 @@
 -- other; and so there are as many.
 use Prim.Native.Nat.{ℕ, _≤_, _<_}
 use mathlib.Core.Path.{_≡_, refl, sym, _∙_, ap, subst}
+use mathlib.Core.Bool.{not}
 use mathlib.Core.List.{List, [], _∷_, map}
+use lib.Dec.{eqb}
 use native.Mathlib.Omega.{arith}
 use lib.ListN.{length}
-use Rattle.session.specs.Sessions.{created}
+use Rattle.session.specs.declared.Session.{Session}
+use Rattle.session.specs.Sessions.{mark, created}
+use Rattle.session.specs.Rows.{width, rowAt}
 use Rattle.field.specs.Algebra.{CommutativeRing}
 use Rattle.field.specs.Element.{Element}
 use Rattle.field.proofs.Elements.{𝓡}
@@ -14,14 +18,14 @@ use Rattle.poly.proofs.Lists.{all-of}
 use Rattle.vectors.specs.Vector.{Vector}
 use Rattle.runs.specs.Draws.{Plan, Draw, IsDraw, Sound, pointOf}
 use Rattle.runs.specs.Calls.{Post, newPost}
-use Rattle.runs.proofs.Marks.{Marks, markOf}
+use Rattle.runs.proofs.Marks.{Marks, markOf, sessionAt}
 use Rattle.runs.proofs.Start.{start, start-sized, start-mark, start-stands, start-facts}
 use Rattle.secrecy.specs.Steps as Steps
 use Rattle.secrecy.specs.Steps.{Secrets, Step}
-use Rattle.secrecy.specs.Seen.{Entry, Seen, run, seen}
+use Rattle.secrecy.specs.Seen.{Entry, Seen, postsAfter, run, seen}
 use Rattle.secrecy.specs.Rules.{SameAnswers, Rules, refusalOf}
-use Rattle.secrecy.specs.Book.{Book, blank, booked, Agrees, Agree}
-use Rattle.secrecy.specs.Claim.{Premises, Shows, Secrecy}
+use Rattle.secrecy.specs.Book.{Book, blank, booked, bookAfter, Agrees, Agree}
+use Rattle.secrecy.specs.Claim.{Premises, Shows, AgreeingRows, SecrecyEverywhere, Secrecy}
 use Rattle.secrecy.specs.Count.{EqualCounts}
 use Rattle.secrecy.proofs.Near.{groupKernel}
 use Rattle.secrecy.proofs.Link.{Gaps}
@@ -30,10 +34,12 @@ use Rattle.secrecy.proofs.Linked.{link}
 use Rattle.secrecy.proofs.Unchanged.{same-points, same-raws, same-triples, same-polynomials, same-deals}
 use Rattle.secrecy.proofs.Back.{back}
 use Rattle.secrecy.proofs.State.{Setting, State}
-use Rattle.secrecy.proofs.Pair.{Two, Pair}
+use Rattle.secrecy.proofs.Twins.{row-same}
+use Rattle.secrecy.proofs.Pair as Pairs
+use Rattle.secrecy.proofs.Pair.{Two, Pair, place-number}
 use Rattle.secrecy.proofs.Reckoned as Reckoned
 use Rattle.secrecy.proofs.Reckoned.{reckoned, reckoned-back}
-use Rattle.secrecy.proofs.Runs.{runs}
+use Rattle.secrecy.proofs.Runs.{Ended, runs}
 use Rattle.secrecy.proofs.Counts as Counts
 open CommutativeRing 𝓡 using (zero as 0ᴱ)
 
@@ -122,15 +128,62 @@ module _ (plan : Plan) (group : List ℕ) (rows : ℕ → List ℕ) (cs : List S
           waiting = λ r lr five. absurd (omega (arith, start-mark r));
         }
 
+    -- the entries of the run are the record's
+    shown : run plan group d u cs [] (λ i. newPost plan d (rows i) i) ≡ R .entries
+    unfolding seen
+    shown = ap (λ (x : Seen). x .entries) (s .same)
+
+    ended : Ended two cs blank blank [] (λ i. newPost plan d (rows i) i) (λ i. newPost plan (moved plan group u u' Δ d) (rows i) i)
+    unfolding two Δ
+    ended =
+        runs two cs start (λ r. none) (λ r. none) blank blank [] _ _ pair (subst SameAnswers (sym shown) (h .same-answers))
+        (subst (λ (x : List Entry). Rules plan cs x []) (sym shown) (h .rules))
+        (subst (λ (x : List Entry). Agree u u' cs x blank blank) (sym shown) (h .agree))
+        (λ r lr np. ap (λ (x : List Entry). reckoned u u' cs x blank blank r) shown)
+
     entries-same : run plan group d u cs [] (λ i. newPost plan d (rows i) i)
         ≡ run plan group (moved plan group u u' Δ d) u' cs [] (λ i. newPost plan (moved plan group u u' Δ d) (rows i) i)
-    unfolding two Δ seen
-    entries-same =
-        let e : run plan group d u cs [] (λ i. newPost plan d (rows i) i) ≡ R .entries = ap (λ (x : Seen). x .entries) (s .same) in
-        runs two cs start (λ r. none) (λ r. none) blank blank [] _ _ pair (subst SameAnswers (sym e) (h .same-answers))
-        (subst (λ (x : List Entry). Rules plan cs x []) (sym e) (h .rules))
-        (subst (λ (x : List Entry). Agree u u' cs x blank blank) (sym e) (h .agree))
-        (λ r lr np. ap (λ (x : List Entry). reckoned u u' cs x blank blank r) e)
+    unfolding two
+    entries-same = ended .entries
+
+    -- a held row whose place agrees is the same at every post
+    everywhere : AgreeingRows plan rows cs u u' R d (moved plan group u u' Δ d)
+    unfolding two
+    everywhere i lo hi r low held agree =
+        ap (λ (w : ℕ). rowAt w (q i .rows) r) (ap width session)
+        ∙ row-same plan d (groupKernel (pointOf d) group) M (ended .vec) (ended .vec') (P .near) i lo hi (length (rows i)) (q i .rows) (q' i .rows)
+        (Pairs.h two M (ended .vec) (ended .vec') b b' (ended .lines-after) q q' P i lo hi)
+        (Pairs.h' two M (ended .vec) (ended .vec') b b' (ended .lines-after) q q' P i lo hi) r 1 low (ap (λ (m : ℕ). not (eqb m 2)) two-is)
+        (place-number two M (ended .vec) (ended .vec') b b' (ended .lines-after) q q' P r (omega arith) two-is places)
+        ∙ sym (ap (λ (w : ℕ). rowAt w (q' i .rows) r) (ap width session))
+      where
+        M : Marks
+        M = ended .marks
+
+        q : ℕ → Post
+        q = postsAfter plan d u cs [] (λ i. newPost plan d (rows i) i)
+
+        q' : ℕ → Post
+        q' = postsAfter plan (moved plan group u u' Δ d) u' cs [] (λ i. newPost plan (moved plan group u u' Δ d) (rows i) i)
+
+        b : Book
+        b = bookAfter u cs (run plan group d u cs [] (λ i. newPost plan d (rows i) i)) blank
+
+        b' : Book
+        b' = bookAfter u' cs (run plan group d u cs [] (λ i. newPost plan d (rows i) i)) blank
+
+        P : Pair two M (ended .vec) (ended .vec') b b' (ended .lines-after) q q'
+        P = ended .pair
+
+        session : q i .session ≡ sessionAt plan d i M
+        session = P .one .posts i lo hi .session
+
+        two-is : markOf M r ≡ 2
+        two-is = sym (ap (λ (x : Session). mark x r) session) ∙ held
+
+        places : b .place r ≡ b' .place r
+        places =
+            subst (λ (es : List Entry). bookAfter u cs es blank .place r ≡ bookAfter u' cs es blank .place r) (sym shown) agree
 
     transfer : Shows plan group rows cs u' R (moved plan group u u' Δ d)
     unfolding seen
@@ -146,17 +199,20 @@ module _ (plan : Plan) (group : List ℕ) (rows : ℕ → List ℕ) (cs : List S
 
 -- ---- the theorems
 
-pub secrecy : Secrecy
+-- the matching, and rows whose book numbers agree
+pub secrecy-everywhere : SecrecyEverywhere
 unfolding Δ
-secrecy plan group rows cs u u' R h =
-    record {
-      to = moved plan group u u' (Δ plan group rows cs u u' R h);
-      from = moved plan group u' u (Δ plan group rows cs u' u R h');
-      to-ok = transfer plan group rows cs u u' R h;
-      from-ok = transfer plan group rows cs u' u R h';
-      from-to = λ d s. back plan group u u' _ _ d (h .sound) (h .group-few) (s .is-draw) (λ r. opposite r .0) (λ r. opposite r .1);
-      to-from = λ d s. back plan group u' u _ _ d (h .sound) (h .group-few) (s .is-draw) (λ r. opposite' r .0) (λ r. opposite' r .1);
-    }
+secrecy-everywhere plan group rows cs u u' R h = (
+  record {
+    to = moved plan group u u' (Δ plan group rows cs u u' R h);
+    from = moved plan group u' u (Δ plan group rows cs u' u R h');
+    to-ok = transfer plan group rows cs u u' R h;
+    from-ok = transfer plan group rows cs u' u R h';
+    from-to = λ d s. back plan group u u' _ _ d (h .sound) (h .group-few) (s .is-draw) (λ r. opposite r .0) (λ r. opposite r .1);
+    to-from = λ d s. back plan group u' u _ _ d (h .sound) (h .group-few) (s .is-draw) (λ r. opposite' r .0) (λ r. opposite' r .1);
+  },
+  everywhere plan group rows cs u u' R h,
+)
   where
     h' : Premises plan group u' u cs R
     h' = exchanged plan group u u' cs R h
@@ -166,6 +222,9 @@ secrecy plan group rows cs u u' R h =
 
     opposite' : (r : ℕ) → Reckoned.Opposite (reckoned u' u cs (R .entries) blank blank r) (reckoned u u' cs (R .entries) blank blank r)
     opposite' r = reckoned-back u' u cs (R .entries) blank blank r
+
+pub secrecy : Secrecy
+secrecy plan group rows cs u u' R h = secrecy-everywhere plan group rows cs u u' R h .0
 
 pub equal-counts : EqualCounts
 equal-counts = Counts.equal-counts secrecy
