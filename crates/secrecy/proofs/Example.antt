@@ -37,14 +37,14 @@ use Rattle.secrecy.specs.Steps.{dealtNumber}
 use Rattle.secrecy.specs.Seen.{Seen, member, posts, allRows, joined, entryOf, run, polynomialSeen, dealSeen, rawSeen, tripleSeen, seen}
 use Rattle.secrecy.specs.Rules.{SameAnswers, OnlySent, ShownFor, ShownHalf, Rules}
 use Rattle.secrecy.specs.Book.{blank, Agree}
-use Rattle.secrecy.specs.Claim.{Shows, Premises, Secrecy}
+use Rattle.secrecy.specs.Claim.{Shows, Premises}
 use Rattle.secrecy.specs.Count as Count
 use Rattle.secrecy.specs.Count.{count, draws}
 use Rattle.secrecy.specs.Scene.{plan, group, draw, secrets, zeros, nothing, masksA, masksB, products, sums, steps}
 use Rattle.secrecy.specs.Told.{masks1, masks2, masks3, masksLines, entry, productLines, sumLines, told, shown}
 use Rattle.secrecy.proofs.Tests.{shows-of-same}
 use Rattle.secrecy.proofs.Listed.{all-draws}
-use Rattle.secrecy.proofs.Counts.{equal-counts}
+use Rattle.secrecy.proofs.Theorems.{equal-counts}
 
 -- the run, by computing
 pub seen-is : seen plan group draw (secrets 6 7) zeros steps ≡ shown
@@ -255,8 +255,8 @@ some-show =
     (shows-of-same plan group zeros steps (secrets 6 7) shown draw seen-is)
 
 -- and so, by demand 3, as many under 7 and 6, which is another list of secrets
-pub as-many : Secrecy → showing 6 7 ≡ showing 7 6
-as-many secrecy = equal-counts secrecy plan group zeros steps (secrets 6 7) (secrets 7 6) shown premises
+pub as-many : showing 6 7 ≡ showing 7 6
+as-many = equal-counts plan group zeros steps (secrets 6 7) (secrets 7 6) shown premises
 
 pub different : secrets 6 7 0 ≢ secrets 7 6 0
 unfolding secrets
