@@ -13,7 +13,8 @@ use Rattle.session.specs.declared.Session.{Session}
 use Rattle.opening.specs.Walking.{blockMark, sent, accepts, walk, acceptedPosts, tooFew}
 use Rattle.runs.proofs.Records as Records
 use Rattle.runs.proofs.Records.{sent-there, block-many, block-low}
-use Rattle.correctness.specs.Claim.{Proper, accepted}
+use Rattle.runs.specs.Calls.{Proper}
+use Rattle.correctness.specs.Claim.{accepted}
 
 -- a walk takes all that pass, up to so many
 pub walk-length : (test : ℕ → Bool) (j k need : ℕ) → length (walk test j k need) ≡ min need (count test j k)
@@ -48,12 +49,9 @@ module _ (s : Session) (row blocks : List ℕ) where
   unfolding sent
   formed pr j lo hi ne = go (ℕ-discrete (blockMark (s .t + 1) blocks j) 1)
     where
-      proper : Records.Proper s blocks
-      proper = record { long = pr .long; low = pr .low }
-
       go : Dec (blockMark (s .t + 1) blocks j ≡ 1) → Formed (s .t + 1) (sent s row blocks j)
       go (yes e) = inr (
-        ap length (sent-there s blocks j lo hi ne row e) ∙ block-many s blocks j lo hi ne proper e,
-        rw (sent-there s blocks j lo hi ne row e) (block-low s blocks j lo hi ne proper e),
+        ap length (sent-there s blocks j lo hi ne row e) ∙ block-many s blocks j lo hi ne pr e,
+        rw (sent-there s blocks j lo hi ne row e) (block-low s blocks j lo hi ne pr e),
       )
       go (no e) = inl (rw (ne-eqb j (s .post) ne, ne-eqb (blockMark (s .t + 1) blocks j) 1 e))

@@ -6,6 +6,7 @@ pub mod Walking
 pub mod Accepting
 pub mod Openings
 pub mod Theorems
+pub mod Caught
 pub mod Computing
 pub mod Example
 pub mod Fooled

@@ -23,7 +23,7 @@ use Rattle.product.specs.Finish.{finishChecks, finishRefusal, tooFewOf}
 use Rattle.vectors.specs.Vector.{Vector, numbers, rowOf}
 use Rattle.vectors.proofs.Theorems.{true-accepted, opening-exact}
 use Rattle.runs.specs.Draws.{Plan, Draw, IsDraw, Sound}
-use Rattle.runs.specs.Calls.{Post}
+use Rattle.runs.specs.Calls.{Proper, Post}
 use Rattle.runs.proofs.Marks.{Marks, markOf, leftOf, rightOf, Sized, sessionAt}
 use Rattle.runs.proofs.Outcomes.{answer-refusal, settled}
 use Rattle.runs.proofs.Packs.{rowFor}
@@ -33,7 +33,7 @@ use Rattle.runs.proofs.Steps.{postAt}
 use Rattle.runs.proofs.Facts.{Triple, Waiting}
 use Rattle.runs.proofs.Rows.{marked-low, on-three}
 use Rattle.correctness.specs.Ledger.{Ledger, Plain}
-use Rattle.correctness.specs.Claim.{Proper, accepted, Opens, Finishes, Right}
+use Rattle.correctness.specs.Claim.{accepted, Opens, Finishes, Right}
 use Rattle.correctness.proofs.Meanings.{Is, plain}
 use Rattle.correctness.proofs.Standing.{Waits, Known}
 use Rattle.correctness.proofs.Accepting.{Formed, too-few, not-few, formed}

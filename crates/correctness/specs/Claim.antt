@@ -1,20 +1,22 @@
 -- Demand 2 over whole runs: "where each polynomial accepted in every post's finishes before it, and in this opening, is truly
 -- its sender's, an opening that accepts t+1 or more gives exactly the plain number, and one that accepts fewer is refused with 9".
-use Prim.Native.Nat.{ℕ, _+_, _≤_}
+use Prim.Native.Nat.{ℕ, _+_, _-_, _≤_}
 use mathlib.Core.Path.{_≡_}
 use mathlib.Core.Bool.{true, false}
 use mathlib.Core.Logic.{_≢_, _⊎_}
 use mathlib.Core.List.{List}
-use lib.ListN.{length}
+use Rattle.field.specs.Modulus.{p}
 use Rattle.poly.specs.Counting.{All, count}
 use Rattle.session.specs.declared.Session.{Session}
 use Rattle.session.specs.Sessions.{mark}
 use Rattle.session.specs.Rows.{width, rowAt}
-use Rattle.opening.specs.Walking.{recordLength, badRecord, sent, accepts}
+use Rattle.opening.specs.Walking.{sent, accepts}
 use Rattle.opening.specs.Opening.{openAnswer}
 use Rattle.product.specs.Finish.{maskA, maskB, finishAnswer}
+use Rattle.vectors.specs.Vector.{Vector, numbers}
+use Rattle.vectors.specs.Claims.{heldRow}
 use Rattle.runs.specs.Draws.{Plan, Draw, IsDraw, Sound}
-use Rattle.runs.specs.Calls.{Post}
+use Rattle.runs.specs.Calls.{Post, Proper}
 use Rattle.correctness.specs.History.{Event, World, history, begin, Each}
 use Rattle.correctness.specs.Ledger.{Ledger, Written, Plain}
 use Rattle.correctness.specs.Truth.{OwnPart, Told, Owned, TrueOf, TrueFinish}
@@ -27,11 +29,6 @@ pub record Premises (plan : Plan) (draw : Draw) (L : Ledger) (es : List Event) (
   pub parts : Each (λ e v. OwnPart plan draw (e .post) (e .call)) es w
   pub ledger : Each (λ e v. Written draw L (e .call)) es w
   pub finishes : Each (λ e v. TrueFinish (v .posts (e .post)) (v .lines) (e .call)) es w
-
--- A record that 5 and 8 let pass.
-pub record Proper (s : Session) (blocks : List ℕ) : Type 0 where
-  pub long : length blocks ≡ recordLength s
-  pub low : badRecord s blocks ≡ false
 
 -- How many polynomials a post accepts for a row, those behind the place where its walk stops too.
 abbrev pub accepted : Session → List ℕ → List ℕ → ℕ
@@ -81,3 +78,14 @@ CorrectHeld =
     (plan : Plan) (draw : Draw) (L : Ledger) (rows : ℕ → List ℕ) (es : List Event) → Premises plan draw L es (begin plan draw rows)
     → (i : ℕ) → 1 ≤ i → i ≤ plan .n
     → Right L (Owned (history es (begin plan draw rows))) (history es (begin plan draw rows) .posts i)
+
+-- "False polynomials pass at no more than t of the p − 1 check points": of the points that the post might have, those at which it
+-- accepts a polynomial that is not j's. The row is the post's part of a vector, and the record one that 5 and 8 let pass.
+abbrev pub atPoint : Session → ℕ → Session
+atPoint s w = record { n = s .n; t = s .t; post = s .post; point = w; marks = s .marks; left = s .left; right = s .right }
+
+abbrev pub FalseCaught : Type 0
+FalseCaught =
+    (s : Session) (S : Vector) (blocks : List ℕ) (j : ℕ) → 1 ≤ j → j ≤ s .n → j ≢ s .post → Proper s blocks
+    → (sent s (heldRow s S) blocks j ≡ numbers (s .t + 1) (S .v j) → ⊥)
+    → count (λ w. accepts (atPoint s w) (heldRow (atPoint s w) S) blocks j) 1 (p - 1) ≤ s .t

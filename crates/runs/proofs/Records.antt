@@ -22,14 +22,10 @@ use Rattle.opening.proofs.Blocks.{post-in}
 use Rattle.opening.proofs.Accepted.{Accepted, all-accepted, distinct-accepted}
 use Rattle.vectors.specs.Vector.{Vector, numbers}
 use Rattle.vectors.specs.Claims.{heldRow, Truly}
+use Rattle.runs.specs.Calls.{Proper}
 use Rattle.runs.proofs.Finishing.{AllTrue}
 use Rattle.runs.proofs.Lines.{elements-of}
 use Rattle.runs.proofs.Steps.{own-numbers}
-
--- a record of the stated length whose marks and numbers 8 lets pass
-pub record Proper (s : Session) (blocks : List ℕ) : Type 0 where
-  pub long : length blocks ≡ recordLength s
-  pub low : badRecord s blocks ≡ false
 
 module _ (s : Session) (blocks : List ℕ) where
   -- post j's block is there

@@ -3,9 +3,10 @@
 use Prim.Native.Nat.{ℕ, zero, suc}
 use mathlib.Core.Path.{_≡_}
 use mathlib.Core.Logic.{_⊎_}
-use mathlib.Core.Bool.{cond}
+use mathlib.Core.Bool.{false, cond}
 use mathlib.Core.List.{List, [], _∷_}
 use lib.Dec.{eqb}
+use lib.ListN.{length}
 use Rattle.session.specs.declared.Session.{Session}
 use Rattle.session.specs.declared.Answer.{Answer}
 use Rattle.session.specs.Sessions.{created}
@@ -13,6 +14,7 @@ use Rattle.sharing.specs.Load.{loadRowAnswer, loadRowRows, loadTripleAnswer, lo
 use Rattle.sharing.specs.Deal.{dealAnswer, dealRows}
 use Rattle.sharing.specs.Message.{messageAnswer, messageOut}
 use Rattle.sharing.specs.Linear.{linearAnswer, linearRows}
+use Rattle.opening.specs.Walking.{recordLength, badRecord}
 use Rattle.opening.specs.Opening.{openAnswer}
 use Rattle.product.specs.Masks.{masksAnswer, masksOut}
 use Rattle.product.specs.Finish.{finishAnswer, finishRows}
@@ -87,6 +89,11 @@ broadcast i (opening r blocks) o = []
 broadcast i (linear r a b scale) o = []
 broadcast i (masks a b r lent) o = sentIf (o .answer .refusal) (masksLine r i (o .lent))
 broadcast i (finish r blocks blocks') o = []
+
+-- A record that 5 and 8 let pass.
+pub record Proper (s : Session) (blocks : List ℕ) : Type 0 where
+  pub long : length blocks ≡ recordLength s
+  pub low : badRecord s blocks ≡ false
 
 -- A member of a list.
 abbrev pub Among : {A : Type 0} → A → List A → Type 0

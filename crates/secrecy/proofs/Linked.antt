@@ -26,6 +26,7 @@ use Rattle.factory.specs.Packs.{dealerRefusal, dealerNumber}
 use Rattle.factory.specs.declared.Number.{Number}
 use Rattle.vectors.specs.Vector.{Vector, numbers, checkOf, sumAt, rowOf, vectorOf}
 use Rattle.runs.specs.Draws.{Plan, Raw, none, by, IsRaw, whenRaw, Sound, Draw, IsDraw, rowLength, rawLength, tripleLength, pointOf, rawDraw, tripleDraw, rawPack, triplePack}
+use Rattle.runs.proofs.Start.{all-at}
 use Rattle.runs.proofs.Marks.{rawVector, vectorA, vectorB, vectorAB}
 use Rattle.runs.proofs.Outcomes.{done-is}
 use Rattle.runs.proofs.Lines.{elements-pass, elements-both, numbers-elements}
@@ -38,7 +39,7 @@ use Rattle.secrecy.proofs.Near.{gap, Near, Unseen, groupPosts, groupPoi
 use Rattle.secrecy.proofs.Shift.{shift, gap-shift, near-shift}
 use Rattle.secrecy.proofs.Link.{Gaps, Alike, Link}
 use Rattle.secrecy.proofs.Triples.{shift-empty, shift-constant, movedTriple, triple-none}
-use Rattle.secrecy.proofs.Moved.{lists-nothing, layout, secretGap, productGap, moved, moved-points, moved-raw, moved-triple, moved-is, row-some, all-at, kernel-unit, layout-unit, group-unseen, moved-a, moved-b, moved-ab}
+use Rattle.secrecy.proofs.Moved.{lists-nothing, layout, secretGap, productGap, moved, moved-points, moved-raw, moved-triple, moved-is, row-some, kernel-unit, layout-unit, group-unseen, moved-a, moved-b, moved-ab}
 open CommutativeRing 𝓡 using (add as _⊕_, neg)
 
 infixl 65 _⊕_

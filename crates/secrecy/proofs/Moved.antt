@@ -21,6 +21,7 @@ use Rattle.poly.proofs.Lists.{all-map}
 use Rattle.refusal.specs.Conditions.{postsTests}
 use Rattle.refusal.proofs.Laws.{all-fail, inside}
 use Rattle.factory.specs.Draw.{thirdDraw}
+use Rattle.runs.proofs.Start.{all-at}
 use Rattle.runs.specs.Draws.{Plan, Sound, Draw, Lists, IsDraw, rowLength, rawLength, tripleLength, pointOf, rawDraw, tripleDraw, drawA, drawB, drawAB}
 use Rattle.secrecy.specs.Steps.{Secrets}
 use Rattle.secrecy.specs.Claim.{Group}
@@ -145,11 +146,6 @@ module _ (plan : Plan) (group : List ℕ) (u u' : Secrets) (Δ : ℕ → Gaps) (
       }
 
 -- ---- the kernel of a group of posts
-
-pub all-at : (P : ℕ → Type 0) (xs : List ℕ) → All P xs → (i : ℕ) → i < length xs → P (getD xs i 0)
-all-at P [] a i h = absurd (omega arith)
-all-at P (x ∷ xs) a zero h = a .0
-all-at P (x ∷ xs) a (suc i) h = all-at P xs (a .1) i (omega arith)
 
 module _ (plan : Plan) (group : List ℕ) (d : Draw) (sound : Sound plan) (few : Group plan group) (is : IsDraw plan d) where
   few-posts : plan .n ≤ 32

@@ -21,6 +21,7 @@ use Rattle.session.specs.Rows.{combined, plusSums}
 use Rattle.vectors.specs.Vector.{Vector, plusTimes, raised, number, numbers, checkOf, sumAt, rowOf}
 use Rattle.vectors.proofs.Linear.{valueAt-plusTimes, sumAt-plusTimes, row-plusTimes, number-plusTimes, row-raised}
 use Rattle.secrecy.proofs.Kernel.{kernel, L-at, kernel-own, kernel-sums, kernel-checks}
+use Rattle.runs.proofs.Numbers.{less-number}
 open CommutativeRing 𝓡 using (add as _⊕_, mul as _⊗_, neg, zero as 0ᴱ, one as 1ᴱ, add-zero, add-neg)
 
 infixl 65 _⊕_
@@ -43,21 +44,13 @@ plusTimes-none δ S K e =
 -- The numbers of a - l agree in both runs when a and l differ by the same.
 pub mask-number : (a a' l l' : Vector) → gap a a' ≡ gap l l'
     → number (plusTimes (element (p - 1)) a l) ≡ number (plusTimes (element (p - 1)) a' l')
-unfolding difference Same
+unfolding Same
 mask-number a a' l l' e =
-    minus a l
-    ∙ solve 𝓡 (number a ∷ number a' ∷ number l ∷ []) (A :- C) (B :- (B :- A) :- C) refl
+    less-number a l
+    ∙ solve 𝓡 (number a ∷ number a' ∷ number l ∷ []) (A :+ :- 𝟙 :* C) (B :- (B :- A) :- C) refl
     ∙ ap (λ (z : Element). number a' ⊕ neg z ⊕ neg (number l)) e
-    ∙ solve 𝓡 (number a' ∷ number l ∷ number l' ∷ []) (A :- (C :- B) :- B) (A :- C) refl
-    ∙ sym (minus a' l')
-  where
-    minus-one : element (p - 1) ≡ neg 1ᴱ
-    minus-one = element-difference 0 1 ∙ ap₂ (λ (x y : Element). x ⊕ neg y) element-zero element-one ∙ zero-add 𝓡 (neg 1ᴱ)
-
-    minus : (x y : Vector) → number (plusTimes (element (p - 1)) x y) ≡ number x ⊕ neg (number y)
-    minus x y =
-        number-plusTimes (element (p - 1)) x y ∙ ap (λ (s : Element). number x ⊕ s ⊗ number y) minus-one
-        ∙ solve 𝓡 (number x ∷ number y ∷ []) (A :+ :- 𝟙 :* B) (A :- B) refl
+    ∙ solve 𝓡 (number a' ∷ number l ∷ number l' ∷ []) (A :- (C :- B) :- B) (A :+ :- 𝟙 :* C) refl
+    ∙ sym (less-number a' l')
 
 -- ---- near
 

@@ -21,12 +21,12 @@ use Rattle.opening.specs.Walking.{blockCoefficients, tooFew, opened}
 use Rattle.opening.specs.Opening.{openRefusal, openChecks, openTests}
 use Rattle.vectors.specs.Vector.{Vector, number, rowOf}
 use Rattle.runs.specs.Draws.{Plan, Draw, pointOf}
-use Rattle.runs.specs.Calls.{Post, Call, openingLine, masksLine, Among}
+use Rattle.runs.specs.Calls.{Proper, Post, Call, openingLine, masksLine, Among}
 use Rattle.runs.proofs.Marks.{Marks, markOf, leftOf, rightOf, sessionAt, less, maskA, maskB}
 use Rattle.runs.proofs.Outcomes.{conditionAt, fails, passed, refusalOf}
 use Rattle.runs.proofs.Holds.{Holds}
 use Rattle.runs.proofs.Steps.{Stands, postAt}
-use Rattle.runs.proofs.Records.{Proper, Present, block-many, block-low, alone}
+use Rattle.runs.proofs.Records.{Present, block-many, block-low, alone}
 use Rattle.runs.proofs.Lines.{Opening}
 use Rattle.secrecy.specs.Steps as Steps
 use Rattle.secrecy.specs.Steps.{Secrets, Step, Pack, Number, Record, own, sent, callAt, dealtNumber}

@@ -35,10 +35,10 @@ use Rattle.secrecy.proofs.Onward.{idle, live}
 
 -- ---- "the same answers": each post's refusal is the first post's
 
-all-at : (f : ℕ → ℕ) (x j m : ℕ) → All (λ y. y ≡ x) (map f (eachFrom j m (λ i. i))) → (i : ℕ) → j ≤ i → i < j + m → f i ≡ x
+each-is : (f : ℕ → ℕ) (x j m : ℕ) → All (λ y. y ≡ x) (map f (eachFrom j m (λ i. i))) → (i : ℕ) → j ≤ i → i < j + m → f i ≡ x
 unfolding eachFrom
-all-at f x j zero a i lo hi = absurd (omega arith)
-all-at f x j (suc m) a i lo hi = go (ℕ-discrete i j) (λ ne. all-at f x (suc j) m (a .1) i (omega arith) (omega arith))
+each-is f x j zero a i lo hi = absurd (omega arith)
+each-is f x j (suc m) a i lo hi = go (ℕ-discrete i j) (λ ne. each-is f x (suc j) m (a .1) i (omega arith) (omega arith))
   where
     go : Dec (i ≡ j) → (i ≢ j → f i ≡ x) → f i ≡ x
     go (yes e) later = ap f e ∙ a .0
@@ -51,11 +51,7 @@ same-refusal f (suc n) a i lo hi = go (ℕ-discrete i 1)
   where
     go : Dec (i ≡ 1) → f i ≡ f 1
     go (yes e) = ap f e
-    go (no ne) = all-at f (f 1) 2 n a i (omega arith) (omega arith)
-
-map-all : {A B : Type 0} (f g : A → B) (l : List A) → All (λ i. f i ≡ g i) l → map f l ≡ map g l
-map-all f g [] a = refl
-map-all f g (i ∷ l) a = ap₂ _∷_ (a .0) (map-all f g l (a .1))
+    go (no ne) = each-is f (f 1) 2 n a i (omega arith) (omega arith)
 
 rows-all : (f g : ℕ → Left) (l : List ℕ) → All (λ i. f i ≡ g i) l → map (λ i. f i .rows) l ≡ map (λ i. g i .rows) l
 rows-all f g [] a = refl

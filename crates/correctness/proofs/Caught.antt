@@ -1,0 +1,74 @@
+-- A false polynomial is caught at all but t of the check points that the post might have.
+use Prim.Native.Nat.{ℕ, zero, suc, _+_, _-_, _≤_}
+use mathlib.Core.Path.{_≡_, refl, sym, _∙_, ap}
+use mathlib.Core.Bool.{Bool, true, false}
+use mathlib.Core.Logic.{_≢_}
+use mathlib.Core.List.{List}
+use native.Mathlib.Nat.{le-refl, le-trans}
+use native.Mathlib.Decide.{ℕ-discrete}
+use native.Mathlib.Omega.{arith}
+use borrow.Author.Tests.{eq-eqb}
+use lib.Dec.{eqb}
+use Rattle.field.specs.Modulus.{p}
+use Rattle.poly.specs.Counting.{count, agreements}
+use Rattle.poly.specs.Polynomial.{value}
+use Rattle.poly.proofs.Theorems.{false-polynomials-pass}
+use Rattle.session.specs.declared.Session.{Session}
+use Rattle.opening.specs.Walking.{blockMark, blockCoefficients, sent, accepts}
+use Rattle.vectors.specs.Vector.{Vector, numbers}
+use Rattle.vectors.specs.Claims.{heldRow}
+use Rattle.vectors.proofs.Linear.{length-numbers}
+use Rattle.vectors.proofs.Theorems.{accepted-agrees}
+use Rattle.runs.proofs.Lines.{numbers-elements}
+use Rattle.runs.proofs.Records.{Present, sent-there, accepted-there, block-many, block-low}
+use Rattle.runs.specs.Calls.{Proper}
+use Rattle.correctness.specs.Claim.{atPoint, FalseCaught}
+
+-- a test that passes wherever another does
+count-within : (f g : ℕ → Bool) → ((w : ℕ) → f w ≡ true → g w ≡ true) → (from k : ℕ) → count f from k ≤ count g from k
+unfolding count
+count-within f g h from zero = le-refl 0
+count-within f g h from (suc k) = go (f from) (g from) (h from) (count-within f g h (suc from) k)
+  where
+    go : (a b : Bool) → (a ≡ true → b ≡ true) → count f (suc from) k ≤ count g (suc from) k
+        → (elim a as (λ x. ℕ) [ true ↦ suc (count f (suc from) k) | false ↦ count f (suc from) k ])
+        ≤ (elim b as (λ x. ℕ) [ true ↦ suc (count g (suc from) k) | false ↦ count g (suc from) k ])
+    go true true i l = omega arith
+    go true false i l = let e = i refl in let z : _≡_ {A = ℕ} 0 1 = cc in absurd (omega arith)
+    go false true i l = omega arith
+    go false false i l = l
+
+count-none : (from k : ℕ) → count (λ w. false) from k ≡ 0
+unfolding count
+count-none from zero = refl
+count-none from (suc k) = count-none (suc from) k
+
+pub false-caught : FalseCaught
+unfolding agreements
+false-caught s S blocks j lo hi other proper untrue = go (ℕ-discrete (blockMark (s .t + 1) blocks j) 1)
+  where
+    block : List ℕ
+    block = blockCoefficients (s .t + 1) blocks j
+
+    own : List ℕ
+    own = numbers (s .t + 1) (S .v j)
+
+    there-at : (w : ℕ) → accepts (atPoint s w) (heldRow (atPoint s w) S) blocks j ≡ true → Present s blocks j
+    there-at w a = accepted-there (atPoint s w) blocks j lo hi other (heldRow (atPoint s w) S) a
+
+    -- accepted at w: the two have one value there
+    agrees-at : (w : ℕ) → accepts (atPoint s w) (heldRow (atPoint s w) S) blocks j ≡ true → eqb (value block w) (value own w) ≡ true
+    agrees-at w a =
+        eq-eqb (value block w) (value own w)
+        (sym (ap (λ (q : List ℕ). value q w) (sent-there (atPoint s w) blocks j lo hi other (heldRow (atPoint s w) S) (there-at w a)))
+        ∙ accepted-agrees (atPoint s w) S blocks j lo hi a)
+
+    go : Dec (Present s blocks j) → count (λ w. accepts (atPoint s w) (heldRow (atPoint s w) S) blocks j) 1 (p - 1) ≤ s .t
+    go (yes there) =
+        le-trans (count-within (λ w. accepts (atPoint s w) (heldRow (atPoint s w) S) blocks j) (λ w. eqb (value block w) (value own w)) agrees-at 1 (p - 1))
+        (false-polynomials-pass (s .t) block own (block-low s blocks j lo hi other proper there) (numbers-elements (s .t + 1) (S .v j))
+        (block-many s blocks j lo hi other proper there) (length-numbers (s .t + 1) (S .v j))
+        (λ e. untrue (sent-there s blocks j lo hi other (heldRow s S) there ∙ e)))
+    go (no absent) =
+        le-trans (count-within (λ w. accepts (atPoint s w) (heldRow (atPoint s w) S) blocks j) (λ w. false) (λ w a. absurd (absent (there-at w a))) 1 (p - 1))
+        (omega (arith, count-none 1 (p - 1)))
