@@ -20,6 +20,7 @@ use Rattle.opening.specs.Opening.{openChecks}
 use Rattle.opening.proofs.Theorems.{open-nine, open-number}
 use Rattle.product.specs.Finish as Finish
 use Rattle.product.specs.Finish.{finishChecks, finishRefusal, tooFewOf}
+use Rattle.factory.proofs.Laws.{elements-append}
 use Rattle.vectors.specs.Vector.{Vector, numbers, rowOf}
 use Rattle.vectors.proofs.Theorems.{true-accepted, opening-exact}
 use Rattle.runs.specs.Draws.{Plan, Draw, IsDraw, Sound}
@@ -28,7 +29,7 @@ use Rattle.runs.proofs.Marks.{Marks, markOf, leftOf, rightOf, Sized, sessionAt}
 use Rattle.runs.proofs.Outcomes.{answer-refusal, settled}
 use Rattle.runs.proofs.Packs.{rowFor}
 use Rattle.runs.proofs.Holds.{Holds}
-use Rattle.runs.proofs.Lines.{elements-pass, elements-both, numbers-elements}
+use Rattle.runs.proofs.Lines.{elements-pass, numbers-elements}
 use Rattle.runs.proofs.Steps.{postAt}
 use Rattle.runs.proofs.Facts.{Triple, Waiting}
 use Rattle.runs.proofs.Rows.{marked-low, on-three}
@@ -84,8 +85,8 @@ module _ (plan : Plan) (draw : Draw) (L : Ledger) (sound : Sound plan) (is : IsD
   numbers-pass r m e =
       ap anyBeyond (is-row r m e)
       ∙ elements-pass (rowFor plan draw i (vec r))
-      (elements-both (numbers (plan .t + 1) _) _ (numbers-elements (plan .t + 1) _)
-      (elements-both (numbers (plan .n) _) _ (numbers-elements (plan .n) _) (numbers-elements (plan .n) _)))
+      (elements-append (numbers (plan .t + 1) _) _ (numbers-elements (plan .t + 1) _)
+      (elements-append (numbers (plan .n) _) _ (numbers-elements (plan .n) _) (numbers-elements (plan .n) _)))
 
   -- ---- a finish
 

@@ -12,6 +12,7 @@ use Rattle.decimal.specs.Numeral.{tens, leading}
 use Rattle.fields.specs.Fields.{fields, written, Parsed, parsed, malformed, fieldsAt, Small}
 use Rattle.fields.proofs.Overwriting.{fields-append}
 use Rattle.fields.proofs.Reading.{fields-read}
+use Rattle.factory.proofs.Laws.{elements-append}
 use Rattle.vectors.specs.Vector.{Vector, numbers}
 use Rattle.vectors.proofs.Linear.{length-numbers}
 use Rattle.runs.specs.Draws.{Plan, Draw, IsDraw}
@@ -19,7 +20,7 @@ use Rattle.runs.specs.Calls.{Post, Call, loadRow, loadTriple, deal, message, op
 use Rattle.runs.proofs.Marks.{less, vectorA, vectorB}
 use Rattle.runs.proofs.Outcomes.{refusalOf, refusal-is}
 use Rattle.runs.proofs.Facts.{Allowed, Multiplying, Triple}
-use Rattle.runs.proofs.Lines.{Opening, Masks, same-opening, same-masks, not-both, numbers-elements, elements-both}
+use Rattle.runs.proofs.Lines.{Opening, Masks, same-opening, same-masks, not-both, numbers-elements}
 use Rattle.runs.proofs.Steps.{message-says, masks-say}
 use Rattle.correctness.specs.Ledger.{Ledger, product, Written}
 use Rattle.correctness.proofs.Meanings.{Is, one}
@@ -91,7 +92,7 @@ module _ (plan : Plan) (draw : Draw) (L : Ledger) (small : plan .n < tens 10) wh
 
     halves-low : Elements (halves plan draw r j X Y)
     unfolding first-half second-half
-    halves-low = elements-both first-half second-half (numbers-elements k _) (numbers-elements k _)
+    halves-low = elements-append first-half second-half (numbers-elements k _) (numbers-elements k _)
 
   pub record OpeningSaid (line : List ℕ) : Type 0 where
     pub row : ℕ

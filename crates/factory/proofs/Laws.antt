@@ -71,7 +71,7 @@ module _ (n k : ℕ) (draw : List ℕ) (drawn : length draw ≡ drawLength n k) 
         let e : 1 + (i - 1) ≡ i = omega arith in
         rw e at (part-from (i - 1) 1 n (omega arith) (omega arith))
 
--- a part's numbers are elements where the draw's are
+-- elements, of parts of a list and of two lists joined
 pub elements-take : (m : ℕ) (l : List ℕ) → Elements l → Elements (take m l)
 elements-take zero l a = tt
 elements-take (suc m) [] a = tt
@@ -82,19 +82,6 @@ elements-drop zero l a = a
 elements-drop (suc m) [] a = tt
 elements-drop (suc m) (x ∷ l) a = elements-drop m l (a .1)
 
-elements-append : (l r : List ℕ) → Elements l → Elements r → Elements (l ++ r)
+pub elements-append : (l r : List ℕ) → Elements l → Elements r → Elements (l ++ r)
 elements-append [] r a b = b
 elements-append (x ∷ l) r a b = (a .0, elements-append l r (a .1) b)
-
-elements-each : (f : ℕ → ℕ) → ((j : ℕ) → f j < p) → (j m : ℕ) → Elements (eachFrom j m f)
-unfolding eachFrom
-elements-each f h j zero = tt
-elements-each f h j (suc m) = (h j, elements-each f h (suc j) m)
-
-pub part-elements : (n k i w : ℕ) (draw : List ℕ) → Elements draw → Elements (part n k i w draw)
-unfolding part
-part-elements n k i w draw a =
-    elements-append (polynomial k draw i) _ (elements-take k (drop (i * k) draw) (elements-drop (i * k) draw a))
-    (elements-append (eachPost n (λ j. value (polynomial k draw j) w)) _
-    (elements-each (λ j. value (polynomial k draw j) w) (λ j. value-below (polynomial k draw j) w) 1 n)
-    (elements-each (sumOf k draw) (λ j. sum-below _ _) 1 n))

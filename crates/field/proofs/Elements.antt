@@ -20,10 +20,6 @@ above-one = lit< tt
 pub element-path : (x y : Element) → x .0 ≡ y .0 → x ≡ y
 element-path = residue-path
 
-pub number-of-element : (x : ℕ) → element x .0 ≡ x % p
-unfolding element
-number-of-element x = refl
-
 pub number-below : (x : ℕ) → x < p → element x .0 ≡ x
 unfolding element
 number-below x h = mod-eq-of-lt h
@@ -34,10 +30,6 @@ element-of-number x = element-path (element (x .0)) x (number-below (x .0) (x .1
 pub element-injective : (x y : ℕ) → x < p → y < p → element x ≡ element y → x ≡ y
 element-injective x y h k e =
     sym (number-below x h) ∙ ap (λ (z : Element). z .0) e ∙ number-below y k
-
-pub element-mod : (x : ℕ) → element (x % p) ≡ element x
-unfolding element
-element-mod x = element-path (element (x % p)) (element x) (mod-mod x p)
 
 -- the field
 inverse-law : (a : Element) → a ≢ residues p above-one .zero → residues p above-one .mul a (element (inverse (a .0))) ≡ residues p above-one .one

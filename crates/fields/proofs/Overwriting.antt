@@ -21,7 +21,7 @@ overwrite-nothing l at = let e : at + 0 ≡ at = omega arith in rw e (sym (take-
 pub overwrite-byte : (l : List ℕ) (at v : ℕ) → at < length l → set l at v ≡ overwrite at (v ∷ []) l
 overwrite-byte l at v h = rw (set-split l at v h, add-one at)
 
-overwrite-part : (l ys : List ℕ) (at k : ℕ) → length ys ≡ k → putMid at k l ys ≡ overwrite at ys l
+pub overwrite-part : (l ys : List ℕ) (at k : ℕ) → length ys ≡ k → putMid at k l ys ≡ overwrite at ys l
 overwrite-part l ys at k e = rw (← e) (ap (λ (r : List ℕ). take at l ++ (ys ++ r)) (drop-drop (length ys) at l))
 
 -- two texts, one behind the other

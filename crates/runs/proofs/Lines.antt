@@ -37,10 +37,6 @@ unfolding numbers
 numbers-elements zero a = tt
 numbers-elements (suc k) a = (a 0 .1, numbers-elements k (λ i. a (suc i)))
 
-pub elements-both : (xs ys : List ℕ) → Elements xs → Elements ys → Elements (xs ++ ys)
-elements-both [] ys e g = g
-elements-both (x ∷ xs) ys e g = (e .0, elements-both xs ys (e .1) g)
-
 -- ---- messages that posts send
 
 within : (low high x : ℕ) → low ≤ x → x ≤ high → outside low high x ≡ false

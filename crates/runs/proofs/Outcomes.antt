@@ -39,11 +39,6 @@ unfolding outcome
 answer-refusal zero v new old = refl
 answer-refusal (suc k) v new old = refl
 
-answer-value : (k v : ℕ) (new old : Session) → k ≡ 0 → answer k v new old .value ≡ v
-unfolding outcome
-answer-value zero v new old z = refl
-answer-value (suc k) v new old z = absurd (omega arith)
-
 pub done-is : {A : Type 0} (k : ℕ) (new old : A) → k ≡ 0 → outcome k new old ≡ new
 unfolding outcome
 done-is zero new old z = refl

@@ -8,6 +8,7 @@ use lib.ListN.{length, length-append}
 use lib.Seq.{getD-set-same}
 use Rattle.poly.specs.Counting.{Elements}
 use Rattle.factory.specs.Draw.{eachFrom}
+use Rattle.factory.proofs.Laws.{elements-append}
 use Rattle.vectors.specs.Vector.{Vector, numbers}
 use Rattle.vectors.proofs.Linear.{length-numbers}
 use Rattle.runs.specs.Draws.{Plan, Draw}
@@ -16,7 +17,7 @@ use Rattle.runs.specs.Calls.{Post, Call, perform, after, broadcast, sentIf, ope
 use Rattle.runs.proofs.Marks.{Marks, markOf, less, masked, marksAfter, vectorsAfter}
 use Rattle.runs.proofs.Outcomes.{refusalOf, refusal-is}
 use Rattle.runs.proofs.Steps.{named, message-says, masks-say}
-use Rattle.runs.proofs.Lines.{same-opening, same-masks, not-both, numbers-elements, elements-both}
+use Rattle.runs.proofs.Lines.{same-opening, same-masks, not-both, numbers-elements}
 use Rattle.runs.proofs.Facts.{Allowed}
 use Rattle.runs.proofs.Allowed.{allowed}
 use Rattle.secrecy.specs.Steps as Steps
@@ -130,7 +131,7 @@ module _ (plan : Plan) (draw : Draw) (u : Secrets) (ok : Setting plan draw u) (l
           row = omega arith;
           post = (lo, hi);
           many = ap length e ∙ length-append (numbers k va) (numbers k vb) ∙ ap₂ _+_ (length-numbers k va) (length-numbers k vb) ∙ omega arith;
-          low = subst Elements (sym e) (elements-both (numbers k va) (numbers k vb) (numbers-elements k va) (numbers-elements k vb));
+          low = subst Elements (sym e) (elements-append (numbers k va) (numbers k vb) (numbers-elements k va) (numbers-elements k vb));
         }
 
     pub new-opening : (c : Step) → refusalOf (call i c) (q i) ≡ 0 → Allowed (call i c) M → (r j : ℕ) (xs : List ℕ) → AnOpening plan draw u ok r j xs

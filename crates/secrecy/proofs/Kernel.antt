@@ -104,9 +104,6 @@ module _ (gs ws : List Element) where
   unfolding kernel
   kernel-constant a = constant-is-value (hiding gs) ∙ hiding-at-zero gs a
 
-  pub kernel-number : All (λ r. r ≢ 0ᴱ) gs → number kernel ≡ 1ᴱ
-  kernel-number a = ap₂ _⊕_ kernel-c (kernel-constant a) ∙ zero-add 𝓡 1ᴱ
-
   -- the public sums of all posts are nothing: -L(j) W(0) + L(j)
   pub kernel-sums : (t : ℕ) → length gs ≤ t → All (λ r. r ≢ 0ᴱ) ws → (j : ℕ) → sumAt (suc t) kernel j ≡ 0ᴱ
   unfolding kernel L Same

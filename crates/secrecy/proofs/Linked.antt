@@ -24,12 +24,13 @@ use Rattle.refusal.proofs.Elements.{element-test}
 use Rattle.factory.specs.Draw.{part, firstDraw, secondDraw, thirdDraw}
 use Rattle.factory.specs.Packs.{dealerRefusal, dealerNumber}
 use Rattle.factory.specs.declared.Number.{Number}
+use Rattle.factory.proofs.Laws.{elements-append}
 use Rattle.vectors.specs.Vector.{Vector, numbers, checkOf, sumAt, rowOf, vectorOf}
 use Rattle.runs.specs.Draws.{Plan, Raw, none, by, IsRaw, whenRaw, Sound, Draw, IsDraw, rowLength, rawLength, tripleLength, pointOf, rawDraw, tripleDraw, rawPack, triplePack}
 use Rattle.runs.proofs.Start.{all-at}
 use Rattle.runs.proofs.Marks.{rawVector, vectorA, vectorB, vectorAB}
 use Rattle.runs.proofs.Outcomes.{done-is}
-use Rattle.runs.proofs.Lines.{elements-pass, elements-both, numbers-elements}
+use Rattle.runs.proofs.Lines.{elements-pass, numbers-elements}
 use Rattle.runs.proofs.Packs.{rowFor, Drawn, raw-drawn, a-drawn, b-drawn, ab-drawn, raw-pack, triple-pack}
 use Rattle.runs.proofs.Holds.{row-wide}
 use Rattle.secrecy.specs.Steps.{Secrets, dealtNumber}
@@ -69,8 +70,8 @@ Both xs ys = (length xs ≡ length ys) × Elements xs × Elements ys
 both-join : (a b x y : List ℕ) → Both a b → Both x y → Both (a ++ x) (b ++ y)
 both-join a b x y h g = (
   length-append a x ∙ ap₂ _+_ (h .0) (g .0) ∙ sym (length-append b y),
-  elements-both a x (h .1) (g .1),
-  elements-both b y (h .2) (g .2),
+  elements-append a x (h .1) (g .1),
+  elements-append b y (h .2) (g .2),
 )
 
 alike : (xs ys a b : List ℕ) → xs ≡ a → ys ≡ b → Both a b → Alike xs ys
@@ -86,8 +87,8 @@ same-alike xs ys e = record { long = ap length e; low = ap anyBeyond e }
 row-elements : (k n i : ℕ) (w : Element) (S : Vector) → Elements (rowOf k n i w S)
 unfolding rowOf
 row-elements k n i w S =
-    elements-both (numbers k (S .v i)) _ (numbers-elements k (S .v i))
-    (elements-both (numbers n (checkOf k w S)) (numbers n (sumAt k S)) (numbers-elements n (checkOf k w S))
+    elements-append (numbers k (S .v i)) _ (numbers-elements k (S .v i))
+    (elements-append (numbers n (checkOf k w S)) (numbers n (sumAt k S)) (numbers-elements n (checkOf k w S))
     (numbers-elements n (sumAt k S)))
 
 module _ (plan : Plan) (group : List ℕ) (u u' : Secrets) (Δ : ℕ → Gaps) (d : Draw) (sound : Sound plan)

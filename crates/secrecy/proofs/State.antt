@@ -128,10 +128,6 @@ module _ (plan : Plan) (draw : Draw) (u : Secrets) (ok : Setting plan draw u) wh
 
     -- ---- what the book says after the call
 
-    -- the book after the call
-    abbrev after-book : Step → Book
-    after-book c = entered u c b
-
     dealt-is : (r : ℕ) → r < 96 → markOf M r ≡ 1 → number (raised (element (dealtNumber plan draw u r)) (vec r)) ≡ element (u r)
     unfolding dealtNumber
     dealt-is r lr one =

@@ -13,8 +13,7 @@ use Rattle.field.proofs.Expression.{A, B, C, D, 𝟙, _:+_, _:*_, :-_, Same}
 use Rattle.field.proofs.Solver.{solve}
 use Rattle.field.proofs.Elements.{𝓡}
 use Rattle.poly.specs.Counting.{Elements}
-use Rattle.factory.proofs.Laws.{elements-take, elements-drop}
-use Rattle.runs.proofs.Lines.{elements-both}
+use Rattle.factory.proofs.Laws.{elements-append, elements-take, elements-drop}
 use Rattle.secrecy.proofs.Shift.{shift, length-shift, elements-shift, shift-at, shift-back}
 open CommutativeRing 𝓡 using (add as _⊕_, mul as _⊗_, neg, one as 1ᴱ)
 
@@ -80,8 +79,8 @@ module _ (d : ℕ) (fl : ℕ → Element) (a b : Element) where
   pub elements-triple : (l : List ℕ) → Elements (movedTriple l)
   unfolding movedTriple
   elements-triple l =
-      elements-both (one l) (two l ++ rest l) (elements-shift fl a (take d l))
-      (elements-both (two l) (rest l) (elements-shift fl b (take d (drop d l)))
+      elements-append (one l) (two l ++ rest l) (elements-shift fl a (take d l))
+      (elements-append (two l) (rest l) (elements-shift fl b (take d (drop d l)))
       (elements-shift (λ m. fl (suc m)) (cross d a b l) (drop (d + d) l)))
 
   pub triple-none : movedTriple [] ≡ []

@@ -27,12 +27,13 @@ use Rattle.opening.specs.Opening.{openRefusal, openTests, openChecks}
 use Rattle.product.specs.Masks.{masksRefusal, masksTests, masksPlace, tripleMarks, maskNumbers}
 use Rattle.product.specs.Finish as Finish
 use Rattle.product.specs.Finish.{finishRefusal, finishTests, finishPlace, finishMarks, finishNumbers, tooFewOf}
+use Rattle.factory.proofs.Laws.{elements-append}
 use Rattle.vectors.specs.Vector.{Vector, number, numbers, rowOf}
 use Rattle.runs.specs.Draws.{Plan, Draw, pointOf}
 use Rattle.runs.proofs.Marks.{Marks, markOf, leftOf, rightOf, sessionAt, less, maskA, maskB}
 use Rattle.runs.proofs.Packs.{rowFor}
 use Rattle.runs.proofs.Holds.{Holds, held-row, combined-row}
-use Rattle.runs.proofs.Lines.{elements-pass, elements-both, numbers-elements}
+use Rattle.runs.proofs.Lines.{elements-pass, numbers-elements}
 use Rattle.secrecy.proofs.Near.{Near, near-plusTimes, near-same}
 use Rattle.secrecy.proofs.Link.{Alike}
 
@@ -49,8 +50,8 @@ pub row-low : (plan : Plan) (d : Draw) (i : ℕ) (X : Vector) → anyBeyond (row
 unfolding rowOf
 row-low plan d i X =
     elements-pass (rowFor plan d i X)
-    (elements-both (numbers (plan .t + 1) (X .v i)) _ (numbers-elements (plan .t + 1) (X .v i))
-    (elements-both (numbers (plan .n) _) (numbers (plan .n) _) (numbers-elements (plan .n) _) (numbers-elements (plan .n) _)))
+    (elements-append (numbers (plan .t + 1) (X .v i)) _ (numbers-elements (plan .t + 1) (X .v i))
+    (elements-append (numbers (plan .n) _) (numbers (plan .n) _) (numbers-elements (plan .n) _) (numbers-elements (plan .n) _)))
 
 module _ (plan : Plan) (d : Draw) (K : Vector) (M : Marks) (vec vec' : ℕ → Vector)
     (near : (r : ℕ) → r < 96 → markOf M r ≢ 0 → Near (plan .n) (plan .t + 1) (pointOf d) K (vec r) (vec' r)) (i : ℕ) (lo : 1 ≤ i) (hi : i ≤ plan .n)

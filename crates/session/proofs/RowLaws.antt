@@ -39,14 +39,6 @@ module _ (w k : ℕ) (rows : List ℕ) (r : ℕ) (size : length rows ≡ k * w) 
         by-side (yes h) = part-before (r * w) w rows x row-room wide (q * w) w (next q r w (omega arith))
         by-side (no h) = part-after (r * w) w rows x row-room wide (q * w) w (next r q w (omega arith))
 
-pub length-plus-sums : (k c : ℕ) (row : List ℕ) → length (plusSums k c row) ≡ length row
-unfolding plusSums
-length-plus-sums k c row =
-    length-append (take k row) (map (λ m. sum m c) (drop k row))
-    ∙ ap (λ (z : ℕ). length (take k row) + z) (length-map (drop k row) (λ m. sum m c))
-    ∙ sym (length-append (take k row) (drop k row))
-    ∙ ap length (take-append-drop k row)
-
 -- one more row of a pack, behind the k rows of it that were put from row r on
 pub next-row-put : (w r k : ℕ) (rows pack : List ℕ) → r * w + k * w ≤ length rows → k * w ≤ length pack
     → withRow w (r + k) (rowAt w pack k) (putMid (r * w) (k * w) rows (take (k * w) pack))

@@ -16,7 +16,7 @@ use Rattle.refusal.specs.Conditions.{or, outside, anyBeyond}
 use Rattle.refusal.proofs.Laws.{or-false, all-fail, inside}
 use Rattle.refusal.proofs.Endings.{refused, accepted}
 use Rattle.fields.specs.Fields.{Parsed, parsed, malformed, overwrite}
-use Rattle.fields.proofs.Overwriting.{overwrite-byte, overwrite-twice}
+use Rattle.fields.proofs.Overwriting.{overwrite-part, overwrite-byte, overwrite-twice}
 use Rattle.forms.specs.Lines.{lastRow}
 use Rattle.forms.specs.Forms.{formOf, isMalformed, lineTests}
 use Rattle.forms.proofs.Forms.{form-spelled}
@@ -28,9 +28,6 @@ use Rattle.station.specs.Starting.{refusing}
 use Rattle.station.specs.Letters.{heardRefusal, heard, withBlock, recordFor, keeping, keepStep, keptBlocks, InRange, HeardAs}
 
 -- ---- a block put into the record
-overwrite-part : (l ys : List ℕ) (at k : ℕ) → length ys ≡ k → putMid at k l ys ≡ overwrite at ys l
-overwrite-part l ys at k e = rw (← e) (ap (λ (r : List ℕ). take at l ++ (ys ++ r)) (drop-drop (length ys) at l))
-
 module _ (l xs : List ℕ) (at : ℕ) (h : at + 1 + length xs ≤ length l) where
   pub block-put : (ys : List ℕ) → ys ≡ xs → putMid (at + 1) (at + 1 + length xs - (at + 1)) (set l at 1) ys ≡ overwrite at (1 ∷ xs) l
   block-put ys e =

@@ -13,11 +13,8 @@ use Rattle.decimal.specs.Numeral.{lastDigits}
 use Rattle.decimal.proofs.Digits.{length-digits}
 use Rattle.decimal.proofs.Sizes.{size-le}
 use Rattle.fields.specs.Fields.{fields, overwrite}
-use Rattle.fields.proofs.Overwriting.{overwrite-byte, overwrite-twice, length-fields-le}
+use Rattle.fields.proofs.Overwriting.{overwrite-part, overwrite-byte, overwrite-twice, length-fields-le}
 use Rattle.transcript.specs.Text.{longSize, longNumeral, answerText}
-
-overwrite-part : (l ys : List ℕ) (at k : ℕ) → length ys ≡ k → putMid at k l ys ≡ overwrite at ys l
-overwrite-part l ys at k e = rw (← e) (ap (λ (r : List ℕ). take at l ++ (ys ++ r)) (drop-drop (length ys) at l))
 
 -- ---- a number
 module _ (l : List ℕ) (at k x : ℕ) (h : at + length (longNumeral x) ≤ length l) (e : k ≡ longSize x) where

@@ -23,9 +23,6 @@ use Rattle.transcript.specs.Text.{longSize, longNumeral, answerText, lon
 use Rattle.transcript.specs.Lines.{keptLength, cut}
 use Rattle.transcript.specs.Program.{Running, leftBy, answered, grown, closed, firstFeed, running, segmented, Open, Fed}
 
-pub front-length : (k m : ℕ) (l : List ℕ) → k ≤ m → length l ≡ m → k ≡ length (take k l)
-front-length k m l h e = sym (length-take-le k l (omega arith))
-
 -- ---- an answer behind those before it
 written-front : (at : ℕ) (w l : List ℕ) → at ≤ length l → take (at + length w) (overwrite at w l) ≡ take at l ++ w
 written-front at w l h =

@@ -1,5 +1,6 @@
+use Rattle.opening.proofs.Fronts.{front-length}
 use borrow.Author.Needs.{needs}
-use Rattle.transcript.proofs.Feeding.{front-length, answer-bound, line-answered, line-ready}
+use Rattle.transcript.proofs.Feeding.{answer-bound, line-answered, line-ready}
 use Rattle.transcript.proofs.end_line.Statement.{statement}
 use Rattle.transcript.proofs.end_line.Tie as tie
 
