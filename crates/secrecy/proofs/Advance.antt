@@ -2,7 +2,8 @@
 use Prim.Native.Nat.{ℕ, _+_, _≤_, _<_}
 use mathlib.Core.Path.{_≡_, sym, _∙_, ap, subst}
 use mathlib.Core.Logic.{_⊎_, inl, inr}
-use mathlib.Core.List.{List, _++_}
+use mathlib.Core.Bool.{cond}
+use mathlib.Core.List.{List, [], _++_}
 use native.Mathlib.Omega.{arith}
 use Rattle.field.specs.Element.{element}
 use Rattle.vectors.specs.Vector.{Vector, numbers}
@@ -14,14 +15,14 @@ use Rattle.runs.proofs.Facts.{Allowed, Facts, MasksAt}
 use Rattle.runs.proofs.Rows.{sized-after, held-stays, past-stays, five-before}
 use Rattle.runs.proofs.Kept.{facts-after}
 use Rattle.secrecy.specs.Steps as Steps
-use Rattle.secrecy.specs.Steps.{Secrets, Step, callAt}
+use Rattle.secrecy.specs.Steps.{Secrets, Step, callAt, heardFrom}
 use Rattle.secrecy.specs.Seen.{linesOf}
 use Rattle.secrecy.specs.Rules.{Rule}
 use Rattle.secrecy.specs.Book.{Book, entered}
 use Rattle.secrecy.proofs.State.{Setting, Past, Held, Waits, AnOpening, AMask, maskNumbers, State, fits, meant, place-stays, notes-stay}
 use Rattle.runs.proofs.Start.{sizes}
 use Rattle.secrecy.proofs.Broadcasts as Broadcasts
-use Rattle.secrecy.proofs.Broadcasts.{among-append, among-posts}
+use Rattle.secrecy.proofs.Broadcasts.{among-append, among-posts, among-heard}
 
 module _ (plan : Plan) (draw : Draw) (u : Secrets) (ok : Setting plan draw u) (len : ℕ → ℕ) (M : Marks) (vec : ℕ → Vector) (b : Book)
     (lines : List (List ℕ)) (q : ℕ → Post) (S : State plan draw u ok len M vec b lines q) where
@@ -33,7 +34,7 @@ module _ (plan : Plan) (draw : Draw) (u : Secrets) (ok : Setting plan draw u) (l
   unmasked (Steps.loadRow r' pack) al r at past = at
   unmasked (Steps.loadTriple r' pack) al r at past = at
   unmasked (Steps.deal r' c) al r at past = at
-  unmasked (Steps.message r' lent) al r at past = at
+  unmasked (Steps.message r' lent heard) al r at past = at
   unmasked (Steps.opening r' blocks) al r at past = at
   unmasked (Steps.linear r' x y scale) al r at past = at
   unmasked (Steps.masks x y r' lent) al r at (inl five) = omega (arith, ap (markOf M) at, al .first, five)
@@ -118,14 +119,14 @@ module _ (plan : Plan) (draw : Draw) (u : Secrets) (ok : Setting plan draw u) (l
           facts = facts';
           openings = λ r j xs o a. elim (among-append (openingLine r j xs) lines (linesOf plan draw u lines c q) a) [
             | inl l ↦ old-opening r j xs o l
-            | inr l ↦ (let w = among-posts (openingLine r j xs) (λ i. broadcast i (call i c) (perform (call i c) (q i))) (plan .n) l in
-                let n = Broadcasts.new-opening plan draw u ok len M vec b lines q S (w .0) (w .1) (w .2) c (z (w .0) (w .1) (w .2)) (Broadcasts.allowed-at plan draw u ok len M vec b lines q S c z (w .0) (w .1) (w .2)) r j xs o (w .3) in
+            | inr l ↦ (let w = among-posts (openingLine r j xs) (λ i. cond (heardFrom c i) (broadcast i (call i c) (perform (call i c) (q i))) []) (plan .n) l in
+                let n = Broadcasts.new-opening plan draw u ok len M vec b lines q S (w .0) (w .1) (w .2) c (z (w .0) (w .1) (w .2)) (Broadcasts.allowed-at plan draw u ok len M vec b lines q S c z (w .0) (w .1) (w .2)) r j xs o (among-heard _ (heardFrom c (w .0)) _ (w .3)) in
                 (n .1, n .2))
           ];
           maskings = λ r j xs o a. elim (among-append (masksLine r j xs) lines (linesOf plan draw u lines c q) a) [
             | inl l ↦ old-masks r j xs o l
-            | inr l ↦ (let w = among-posts (masksLine r j xs) (λ i. broadcast i (call i c) (perform (call i c) (q i))) (plan .n) l in
-                let n = Broadcasts.new-masks plan draw u ok len M vec b lines q S (w .0) (w .1) (w .2) c (z (w .0) (w .1) (w .2)) (Broadcasts.allowed-at plan draw u ok len M vec b lines q S c z (w .0) (w .1) (w .2)) r j xs o (w .3) in
+            | inr l ↦ (let w = among-posts (masksLine r j xs) (λ i. cond (heardFrom c i) (broadcast i (call i c) (perform (call i c) (q i))) []) (plan .n) l in
+                let n = Broadcasts.new-masks plan draw u ok len M vec b lines q S (w .0) (w .1) (w .2) c (z (w .0) (w .1) (w .2)) (Broadcasts.allowed-at plan draw u ok len M vec b lines q S c z (w .0) (w .1) (w .2)) r j xs o (among-heard _ (heardFrom c (w .0)) _ (w .3)) in
                 (inl (n .0), λ five'. n .1))
           ];
         }

@@ -140,7 +140,7 @@ module _ (T : Two) (M : Marks) (vec vec' : ℕ → Vector) (b b' : Book) (lines 
       Twins.deal-same (T .plan) (T .d) (T .K) M vec vec' near i lo hi (T .len i) l l' h h' r (dealtNumber (T .plan) (T .d) (T .u) r)
       ∙ ap (dealRefusal s l' r) (T .link .deals r)
   refusals (Steps.deal r (Number.fixed x)) rule = Twins.deal-same (T .plan) (T .d) (T .K) M vec vec' near i lo hi (T .len i) l l' h h' r x
-  refusals (Steps.message r lent) rule = Twins.message-same (T .plan) (T .d) (T .K) M vec vec' near i lo hi (T .len i) l l' h h' r (lent i)
+  refusals (Steps.message r lent heard) rule = Twins.message-same (T .plan) (T .d) (T .K) M vec vec' near i lo hi (T .len i) l l' h h' r (lent i)
   refusals (Steps.opening r blocks) rule =
       Twins.open-same (T .plan) (T .d) (T .K) M vec vec' near i lo hi (T .len i) l l' h h' r (blocks i lines) (few-same-at r blocks rule)
   refusals (Steps.linear r x y scale) rule = Twins.linear-same (T .plan) (T .d) (T .K) M vec vec' near i lo hi (T .len i) l l' h h' r x y scale
@@ -177,7 +177,7 @@ module _ (T : Two) (M : Marks) (vec vec' : ℕ → Vector) (b b' : Book) (lines 
   values (Steps.loadRow r pack) rule = value-none _ _ _ ∙ sym (value-none _ _ _)
   values (Steps.loadTriple r pack) rule = value-none _ _ _ ∙ sym (value-none _ _ _)
   values (Steps.deal r c) rule = value-none _ _ _ ∙ sym (value-none _ _ _)
-  values (Steps.message r lent) rule = value-none _ _ _ ∙ sym (value-none _ _ _)
+  values (Steps.message r lent heard) rule = value-none _ _ _ ∙ sym (value-none _ _ _)
   values (Steps.opening r blocks) rule = value-one _ _ _ _ s (refusals (Steps.opening r blocks) rule) (opened-same r blocks rule)
   values (Steps.linear r x y scale) rule = value-none _ _ _ ∙ sym (value-none _ _ _)
   values (Steps.masks x y r lent) rule = value-none _ _ _ ∙ sym (value-none _ _ _)
@@ -229,8 +229,8 @@ module _ (T : Two) (M : Marks) (vec vec' : ℕ → Vector) (b b' : Book) (lines 
   broadcasts (Steps.loadRow r pack) rule agree fit = refl
   broadcasts (Steps.loadTriple r pack) rule agree fit = refl
   broadcasts (Steps.deal r c) rule agree fit = refl
-  broadcasts (Steps.message r lent) rule agree fit =
-      line-one _ _ _ _ (refusal-is (Calls.message r (lent i)) p1 ∙ refusals (Steps.message r lent) rule ∙ sym (refusal-is (Calls.message r (lent i)) p2))
+  broadcasts (Steps.message r lent heard) rule agree fit =
+      line-one _ _ _ _ (refusal-is (Calls.message r (lent i)) p1 ∙ refusals (Steps.message r lent heard) rule ∙ sym (refusal-is (Calls.message r (lent i)) p2))
       (λ z. let k = sym (refusal-is (Calls.message r (lent i)) p1) ∙ z in ap (openingLine r i) (message-one r (lent i) (agree k) k))
   broadcasts (Steps.opening r blocks) rule agree fit = refl
   broadcasts (Steps.linear r x y scale) rule agree fit = refl

@@ -1,6 +1,7 @@
 -- What a call of the list broadcasts, not refused: a line shows its sender's part of the row's vector, or of the masks'.
 use Prim.Native.Nat.{ℕ, zero, suc, _+_, _≤_, _<_}
 use mathlib.Core.Path.{_≡_, refl, sym, _∙_, ap, ap₂, subst}
+use mathlib.Core.Bool.{Bool, true, false, cond}
 use mathlib.Core.Logic.{_⊎_, inl, inr}
 use mathlib.Core.List.{List, [], _∷_, _++_, map}
 use native.Mathlib.Omega.{arith}
@@ -51,6 +52,11 @@ pub among-posts : {A : Type 0} (x : A) (f : ℕ → List A) (n : ℕ) → Among 
 unfolding posts
 among-posts x f n a = let o = among-joined x f 1 n a in (o .0, o .1, omega (arith, o .2), o .3)
 
+-- a line that was heard
+pub among-heard : {A : Type 0} (x : A) (t : Bool) (l : List A) → Among x (cond t l []) → Among x l
+among-heard x true l a = a
+among-heard x false l a = absurd a
+
 -- a line that a call broadcast
 one-line : (x line : List ℕ) (k : ℕ) → k ≡ 0 → Among x (sentIf k line) → x ≡ line
 one-line x line zero z (inl e) = e
@@ -67,7 +73,7 @@ module _ (plan : Plan) (draw : Draw) (u : Secrets) (ok : Setting plan draw u) (l
   same-marks i j (Steps.loadRow r pack) = refl
   same-marks i j (Steps.loadTriple r pack) = refl
   same-marks i j (Steps.deal r c) = refl
-  same-marks i j (Steps.message r lent) = refl
+  same-marks i j (Steps.message r lent heard) = refl
   same-marks i j (Steps.opening r blocks) = refl
   same-marks i j (Steps.linear r x y scale) = refl
   same-marks i j (Steps.masks x y r lent) = refl
@@ -77,7 +83,7 @@ module _ (plan : Plan) (draw : Draw) (u : Secrets) (ok : Setting plan draw u) (l
   same-vectors i j (Steps.loadRow r pack) = refl
   same-vectors i j (Steps.loadTriple r pack) = refl
   same-vectors i j (Steps.deal r c) = refl
-  same-vectors i j (Steps.message r lent) = refl
+  same-vectors i j (Steps.message r lent heard) = refl
   same-vectors i j (Steps.opening r blocks) = refl
   same-vectors i j (Steps.linear r x y scale) = refl
   same-vectors i j (Steps.masks x y r lent) = refl
@@ -97,7 +103,7 @@ module _ (plan : Plan) (draw : Draw) (u : Secrets) (ok : Setting plan draw u) (l
   MessageAt (Steps.loadRow r' pack) r = ⊥
   MessageAt (Steps.loadTriple r' pack) r = ⊥
   MessageAt (Steps.deal r' c) r = ⊥
-  MessageAt (Steps.message r' lent) r = r ≡ r'
+  MessageAt (Steps.message r' lent heard) r = r ≡ r'
   MessageAt (Steps.opening r' blocks) r = ⊥
   MessageAt (Steps.linear r' x y scale) r = ⊥
   MessageAt (Steps.masks x y r' lent) r = ⊥
@@ -140,7 +146,7 @@ module _ (plan : Plan) (draw : Draw) (u : Secrets) (ok : Setting plan draw u) (l
     new-opening (Steps.loadRow r' pack) z al r j xs o a = absurd a
     new-opening (Steps.loadTriple r' pack) z al r j xs o a = absurd a
     new-opening (Steps.deal r' c) z al r j xs o a = absurd a
-    new-opening (Steps.message r' lent) z al r j xs o a =
+    new-opening (Steps.message r' lent heard) z al r j xs o a =
         let c = Calls.message r' (lent i) in
         let e = one-line _ _ _ (not-refused c z) a in
         let same = same-opening (plan .n) (plan .t + 1) (sizes plan (ok .sound) .n-high) r j r' i xs (perform c (q i) .lent) o (made-opening r' (lent i) z (al .0)) e in (
@@ -164,7 +170,7 @@ module _ (plan : Plan) (draw : Draw) (u : Secrets) (ok : Setting plan draw u) (l
     new-masks (Steps.loadRow r' pack) z al r j xs o a = absurd a
     new-masks (Steps.loadTriple r' pack) z al r j xs o a = absurd a
     new-masks (Steps.deal r' c) z al r j xs o a = absurd a
-    new-masks (Steps.message r' lent) z al r j xs o a =
+    new-masks (Steps.message r' lent heard) z al r j xs o a =
         let c = Calls.message r' (lent i) in
         absurd (not-both (plan .n) (plan .t + 1) (sizes plan (ok .sound) .n-high) r' i r j (perform c (q i) .lent) xs
         (made-opening r' (lent i) z (al .0)) o (sym (one-line _ _ _ (not-refused c z) a)))

@@ -1,6 +1,7 @@
 -- The two runs after one more call: not refused at any post, or refused at all of them.
 use Prim.Native.Nat.{ℕ, zero, suc, _+_, _≤_, _<_}
 use mathlib.Core.Path.{_≡_, refl, sym, _∙_, ap, ap₂, subst}
+use mathlib.Core.Bool.{Bool, true, false, cond}
 use mathlib.Core.Logic.{_≢_, _⊎_, inl, inr}
 use mathlib.Core.List.{List, [], _∷_, _++_, map, append-nil}
 use native.Mathlib.Omega.{arith}
@@ -16,13 +17,13 @@ use Rattle.runs.proofs.Steps.{Stands}
 use Rattle.runs.proofs.Facts.{Allowed, MasksAt}
 use Rattle.runs.proofs.Rows.{five-before}
 use Rattle.secrecy.specs.Steps as Steps
-use Rattle.secrecy.specs.Steps.{Secrets, Step, callAt}
+use Rattle.secrecy.specs.Steps.{Secrets, Step, callAt, heardFrom}
 use Rattle.secrecy.specs.Seen.{posts, joined, linesOf}
 use Rattle.secrecy.specs.Rules.{Rule}
 use Rattle.secrecy.specs.Book.{Book, Agrees, entered}
 use Rattle.secrecy.proofs.State.{Setting, AnOpening, State, place-stays, notes-stay}
 use Rattle.runs.proofs.Start.{sizes}
-use Rattle.secrecy.proofs.Broadcasts.{among-append, among-posts, allowed-at, MessageAt, new-opening}
+use Rattle.secrecy.proofs.Broadcasts.{among-append, among-posts, among-heard, allowed-at, MessageAt, new-opening}
 use Rattle.secrecy.proofs.Advance.{advance}
 use Rattle.secrecy.proofs.Pair.{Two, Pair, apart, Fit}
 use Rattle.secrecy.proofs.Together.{posts-same, marks-two, refused-two, lines-two, group-two, near-after}
@@ -31,6 +32,10 @@ use Rattle.secrecy.proofs.Together.{posts-same, marks-two, refused-two,
 
 nothing : ℕ → List (List ℕ)
 nothing i = []
+
+either-none : (t : Bool) → _≡_ {A = List (List ℕ)} (cond t [] []) []
+either-none true = refl
+either-none false = refl
 
 joined-none : (l : List ℕ) → joined (map nothing l) ≡ []
 unfolding joined nothing
@@ -54,7 +59,10 @@ module _ (plan : Plan) (draw : Draw) (u : Secrets) (ok : Setting plan draw u) (l
   unfolding nothing
   no-lines =
       ap joined (posts-same _ nothing (plan .n) (λ i lo hi.
-      silent i (callAt plan draw u lines i c) (perform (callAt plan draw u lines i c) (q i)) k (refusal-is (callAt plan draw u lines i c) (q i) ∙ z i lo hi)))
+      ap (λ (l : List (List ℕ)). cond (heardFrom c i) l [])
+      (silent i (callAt plan draw u lines i c) (perform (callAt plan draw u lines i c) (q i)) k
+      (refusal-is (callAt plan draw u lines i c) (q i) ∙ z i lo hi))
+      ∙ either-none (heardFrom c i)))
       ∙ joined-none (posts (plan .n))
 
   as-before : lines ++ linesOf plan draw u lines c q ≡ lines
@@ -138,7 +146,7 @@ module _ (T : Two) (M : Marks) (vec vec' : ℕ → Vector) (b b' : Book) (lines 
   told-now (Steps.loadRow r' pack) agree r m = absurd m
   told-now (Steps.loadTriple r' pack) agree r m = absurd m
   told-now (Steps.deal r' c) agree r m = absurd m
-  told-now (Steps.message r' lent) agree r m = ap (b .place) m ∙ agree refl ∙ sym (ap (b' .place) m)
+  told-now (Steps.message r' lent heard) agree r m = ap (b .place) m ∙ agree refl ∙ sym (ap (b' .place) m)
   told-now (Steps.opening r' blocks) agree r m = absurd m
   told-now (Steps.linear r' x y scale) agree r m = absurd m
   told-now (Steps.masks x y r' lent) agree r m = absurd m
@@ -151,7 +159,7 @@ module _ (T : Two) (M : Marks) (vec vec' : ℕ → Vector) (b b' : Book) (lines 
   masked-now (Steps.loadRow r' pack) fit r m = absurd m
   masked-now (Steps.loadTriple r' pack) fit r m = absurd m
   masked-now (Steps.deal r' c) fit r m = absurd m
-  masked-now (Steps.message r' lent) fit r m = absurd m
+  masked-now (Steps.message r' lent heard) fit r m = absurd m
   masked-now (Steps.opening r' blocks) fit r m = absurd m
   masked-now (Steps.linear r' x y scale) fit r m = absurd m
   masked-now (Steps.masks x y r' lent) fit r m =
@@ -185,10 +193,10 @@ module _ (T : Two) (M : Marks) (vec vec' : ℕ → Vector) (b b' : Book) (lines 
           → entered (T .u) c b .place r ≡ entered (T .u') c b' .place r
       by-line r j xs o (inl a) = places c z rule agree fit r (R .one .openings r j xs o a .0) (R .agreed r j xs o a)
       by-line r j xs o (inr a) =
-          let w = among-posts (openingLine r j xs) (λ i. broadcast i (c1 i c) (perform (c1 i c) (q i))) (T .plan .n) a in
+          let w = among-posts (openingLine r j xs) (λ i. cond (heardFrom c i) (broadcast i (c1 i c) (perform (c1 i c) (q i))) []) (T .plan .n) a in
           told-now c agree r
           (new-opening (T .plan) (T .d) (T .u) (T .ok) (T .len) M vec b lines q (R .one) (w .0) (w .1) (w .2) c (z (w .0) (w .1) (w .2))
-          (allowed-at (T .plan) (T .d) (T .u) (T .ok) (T .len) M vec b lines q (R .one) c z (w .0) (w .1) (w .2)) r j xs o (w .3) .0)
+          (allowed-at (T .plan) (T .d) (T .u) (T .ok) (T .len) M vec b lines q (R .one) c z (w .0) (w .1) (w .2)) r j xs o (among-heard _ (heardFrom c (w .0)) _ (w .3)) .0)
 
       by-mark : (r : ℕ) → r < 96
           → ((markOf M r ≡ 5) × (leftOf (marksAfter (c1 1 c) M) r ≡ leftOf M r) × (rightOf (marksAfter (c1 1 c) M) r ≡ rightOf M r)) ⊎ MasksAt (c1 1 c) r

@@ -124,7 +124,7 @@ module _ (T : Two) where
     Fit (Steps.loadRow r pack) = Unit {0}
     Fit (Steps.loadTriple r pack) = Unit {0}
     Fit (Steps.deal r c) = Unit {0}
-    Fit (Steps.message r lent) = Unit {0}
+    Fit (Steps.message r lent heard) = Unit {0}
     Fit (Steps.opening r blocks) = Unit {0}
     Fit (Steps.linear r x y scale) = Unit {0}
     Fit (Steps.masks x y r lent) =

@@ -30,7 +30,7 @@ abbrev pub reckonedHere : Step → ℕ → Book → Book → ℕ → Gaps → Ga
 reckonedHere (Steps.loadRow r' pack) k b b' r rest = rest
 reckonedHere (Steps.loadTriple r' pack) k b b' r rest = rest
 reckonedHere (Steps.deal r' c) k b b' r rest = rest
-reckonedHere (Steps.message r' lent) k b b' r rest = rest
+reckonedHere (Steps.message r' lent heard) k b b' r rest = rest
 reckonedHere (Steps.opening r' blocks) k b b' r rest = rest
 reckonedHere (Steps.linear r' x y scale) k b b' r rest = rest
 reckonedHere (Steps.masks x y r' lent) zero b b' r rest = cond (eqb r r') (factorsApart b b' x y) rest
@@ -47,7 +47,7 @@ pub here-refused : (c : Step) (k : ℕ) (b b' : Book) (r : ℕ) (rest : Gaps) �
 here-refused (Steps.loadRow r' pack) k b b' r rest = refl
 here-refused (Steps.loadTriple r' pack) k b b' r rest = refl
 here-refused (Steps.deal r' c) k b b' r rest = refl
-here-refused (Steps.message r' lent) k b b' r rest = refl
+here-refused (Steps.message r' lent heard) k b b' r rest = refl
 here-refused (Steps.opening r' blocks) k b b' r rest = refl
 here-refused (Steps.linear r' x y scale) k b b' r rest = refl
 here-refused (Steps.masks x y r' lent) k b b' r rest = refl
@@ -70,7 +70,7 @@ here-back : (c : Step) (k : ℕ) (b b' : Book) (r : ℕ) (g g' : Gaps) → Oppos
 here-back (Steps.loadRow r' pack) k b b' r g g' o = o
 here-back (Steps.loadTriple r' pack) k b b' r g g' o = o
 here-back (Steps.deal r' c) k b b' r g g' o = o
-here-back (Steps.message r' lent) k b b' r g g' o = o
+here-back (Steps.message r' lent heard) k b b' r g g' o = o
 here-back (Steps.opening r' blocks) k b b' r g g' o = o
 here-back (Steps.linear r' x y scale) k b b' r g g' o = o
 here-back (Steps.masks x y r' lent) zero b b' r g g' o = go (eqb r r')

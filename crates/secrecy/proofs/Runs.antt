@@ -68,7 +68,7 @@ module _ (T : Two) where
     here-other (Steps.loadRow r' pack) al r lr np rest = refl
     here-other (Steps.loadTriple r' pack) al r lr np rest = refl
     here-other (Steps.deal r' c) al r lr np rest = refl
-    here-other (Steps.message r' lent) al r lr np rest = refl
+    here-other (Steps.message r' lent heard) al r lr np rest = refl
     here-other (Steps.opening r' blocks) al r lr np rest = refl
     here-other (Steps.linear r' x y scale) al r lr np rest = refl
     here-other (Steps.masks x y r' lent) al r lr np rest = ap (λ (t : Bool). cond t (factorsApart b b' x y) rest) (ne-eqb r r' ne)
@@ -83,7 +83,7 @@ module _ (T : Two) where
     fit-of (Steps.loadRow r' pack) al rest h = tt
     fit-of (Steps.loadTriple r' pack) al rest h = tt
     fit-of (Steps.deal r' c) al rest h = tt
-    fit-of (Steps.message r' lent) al rest h = tt
+    fit-of (Steps.message r' lent heard) al rest h = tt
     fit-of (Steps.opening r' blocks) al rest h = tt
     fit-of (Steps.linear r' x y scale) al rest h = tt
     fit-of (Steps.masks x y r' lent) al rest h = (ap (λ (g : Gaps). g .left) now, ap (λ (g : Gaps). g .right) now)

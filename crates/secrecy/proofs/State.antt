@@ -105,7 +105,7 @@ module _ (plan : Plan) (draw : Draw) (u : Secrets) (ok : Setting plan draw u) wh
         let o = rule refl in (o .1, ap (triplePack plan draw i) (o .0))
     fits i lo hi (Steps.loadTriple r (Pack.fixed x)) al rule = absurd (rule refl)
     fits i lo hi (Steps.deal r c) al rule = tt
-    fits i lo hi (Steps.message r lent) al rule = tt
+    fits i lo hi (Steps.message r lent heard) al rule = tt
     fits i lo hi (Steps.opening r blocks) al rule = tt
     fits i lo hi (Steps.linear r x y scale) al rule = tt
     fits i lo hi (Steps.masks x y r lent) al rule = tt
@@ -161,7 +161,7 @@ module _ (plan : Plan) (draw : Draw) (u : Secrets) (ok : Setting plan draw u) wh
     meant i (Steps.loadTriple r (Pack.fixed x)) al rule = absurd (rule refl)
     meant i (Steps.deal r sent) al rule = dealt-is r (al .0) (al .1) ∙ ap element (sym (at-same (b .place) r (u r)))
     meant i (Steps.deal r (Number.fixed x)) al rule = absurd (rule refl)
-    meant i (Steps.message r lent) al rule = tt
+    meant i (Steps.message r lent heard) al rule = tt
     meant i (Steps.opening r blocks) al rule = tt
     meant i (Steps.linear r x y scale) al rule =
         summed-number scale (b .place x) (b .place y) (vec x) (vec y) (S .facts x (al .a-low) .held (al .a-held)) (S .facts y (al .b-low) .held (al .b-held))
@@ -174,7 +174,7 @@ module _ (plan : Plan) (draw : Draw) (u : Secrets) (ok : Setting plan draw u) wh
     place-stays i (Steps.loadRow r pack) al x two = refl
     place-stays i (Steps.loadTriple r pack) al x two = refl
     place-stays i (Steps.deal r c) al x two = at-other (b .place) r (u r) x (λ e. omega (arith, ap (markOf M) e, al .1))
-    place-stays i (Steps.message r lent) al x two = refl
+    place-stays i (Steps.message r lent heard) al x two = refl
     place-stays i (Steps.opening r blocks) al x two = refl
     place-stays i (Steps.linear r y z scale) al x two = at-other (b .place) r _ x (λ e. omega (arith, ap (markOf M) e, al .r-empty))
     place-stays i (Steps.masks y z r lent) al x two = refl
@@ -185,7 +185,7 @@ module _ (plan : Plan) (draw : Draw) (u : Secrets) (ok : Setting plan draw u) wh
     notes-stay i (Steps.loadRow r pack) al x five = (refl, refl)
     notes-stay i (Steps.loadTriple r pack) al x five = (refl, refl)
     notes-stay i (Steps.deal r c) al x five = (refl, refl)
-    notes-stay i (Steps.message r lent) al x five = (refl, refl)
+    notes-stay i (Steps.message r lent heard) al x five = (refl, refl)
     notes-stay i (Steps.opening r blocks) al x five = (refl, refl)
     notes-stay i (Steps.linear r y z scale) al x five = (refl, refl)
     notes-stay i (Steps.masks y z r lent) al x five =

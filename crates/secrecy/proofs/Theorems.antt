@@ -26,7 +26,7 @@ use Rattle.secrecy.specs.Seen.{Entry, Seen, postsAfter, run, seen}
 use Rattle.secrecy.specs.Rules.{SameAnswers, Rules, refusalOf}
 use Rattle.secrecy.specs.Book.{Book, blank, booked, bookAfter, Agrees, Agree}
 use Rattle.secrecy.specs.Claim.{Premises, Shows, AgreeingRows, SecrecyEverywhere, Secrecy}
-use Rattle.secrecy.specs.Count.{EqualCounts}
+use Rattle.secrecy.specs.Count.{EqualCounts, ShowsRight}
 use Rattle.secrecy.proofs.Near.{groupKernel}
 use Rattle.secrecy.proofs.Link.{Gaps}
 use Rattle.secrecy.proofs.Moved.{moved, moved-is, moved-points}
@@ -40,6 +40,7 @@ use Rattle.secrecy.proofs.Pair.{Two, Pair, place-number}
 use Rattle.secrecy.proofs.Reckoned as Reckoned
 use Rattle.secrecy.proofs.Reckoned.{reckoned, reckoned-back}
 use Rattle.secrecy.proofs.Runs.{Ended, runs}
+use Rattle.secrecy.proofs.Tests.{same-of-shows, shows-of-same}
 use Rattle.secrecy.proofs.Counts as Counts
 open CommutativeRing 𝓡 using (zero as 0ᴱ)
 
@@ -49,7 +50,7 @@ agrees-back : (c : Step) (k : ℕ) (b b' : Book) → Agrees c k b b' → Agrees 
 agrees-back (Steps.loadRow r pack) k b b' e = tt
 agrees-back (Steps.loadTriple r pack) k b b' e = tt
 agrees-back (Steps.deal r c) k b b' e = tt
-agrees-back (Steps.message r lent) k b b' e = λ z. sym (e z)
+agrees-back (Steps.message r lent heard) k b b' e = λ z. sym (e z)
 agrees-back (Steps.opening r blocks) k b b' e = tt
 agrees-back (Steps.linear r x y scale) k b b' e = tt
 agrees-back (Steps.masks x y r lent) k b b' e = tt
@@ -228,3 +229,7 @@ secrecy plan group rows cs u u' R h = secrecy-everywhere plan group rows cs u u'
 
 pub equal-counts : EqualCounts
 equal-counts = Counts.equal-counts secrecy
+
+-- what is counted: the list has every draw once, and the test is right
+pub shows-right : ShowsRight
+shows-right plan group rows cs u R d = (same-of-shows plan group rows cs u R d, shows-of-same plan group rows cs u R d)

@@ -1,6 +1,7 @@
 -- One call of the list in both runs, not refused at any post: the two runs stay side by side.
 use Prim.Native.Nat.{ℕ, zero, suc, _+_, _*_, _-_, _≤_, _<_}
 use mathlib.Core.Path.{_≡_, refl, sym, _∙_, ap, ap₂, subst}
+use mathlib.Core.Bool.{cond}
 use mathlib.Core.Logic.{_≢_, _⊎_, inl, inr}
 use mathlib.Core.List.{List, [], _∷_, _++_, map}
 use native.Mathlib.Decide.{ℕ-discrete}
@@ -21,7 +22,7 @@ use Rattle.runs.proofs.Outcomes.{refusalOf, refusal-is}
 use Rattle.runs.proofs.Facts.{Allowed, MasksAt, Multiplying}
 use Rattle.runs.proofs.Rows.{held-stays, five-before}
 use Rattle.secrecy.specs.Steps as Steps
-use Rattle.secrecy.specs.Steps.{Secrets, Step, Pack, Number, own, sent, callAt, dealtNumber}
+use Rattle.secrecy.specs.Steps.{Secrets, Step, Pack, Number, own, sent, callAt, heardFrom, dealtNumber}
 use Rattle.secrecy.specs.Seen.{posts, joined, linesOf}
 use Rattle.secrecy.specs.Rules.{Rule}
 use Rattle.secrecy.specs.Book.{Book, Agrees, entered}
@@ -57,7 +58,7 @@ module _ (T : Two) (M : Marks) (vec vec' : ℕ → Vector) (b b' : Book) (lines 
   marks-two (Steps.loadRow r pack) = refl
   marks-two (Steps.loadTriple r pack) = refl
   marks-two (Steps.deal r c) = refl
-  marks-two (Steps.message r lent) = refl
+  marks-two (Steps.message r lent heard) = refl
   marks-two (Steps.opening r blocks) = refl
   marks-two (Steps.linear r x y scale) = refl
   marks-two (Steps.masks x y r lent) = refl
@@ -75,7 +76,7 @@ module _ (T : Two) (M : Marks) (vec vec' : ℕ → Vector) (b b' : Book) (lines 
     refused-two i lo hi = sym (refusal-is (c2 i c) (q' i)) ∙ sym (same-at i lo hi .refusal) ∙ refusal-is (c1 i c) (q i) ∙ z i lo hi
 
     pub lines-two : linesOf (T .plan) (T .d) (T .u) lines c q ≡ linesOf (T .plan) (T .d') (T .u') lines c q'
-    lines-two = ap joined (posts-same _ _ (T .plan .n) (λ i lo hi. same-at i lo hi .lines-same))
+    lines-two = ap joined (posts-same _ _ (T .plan .n) (λ i lo hi. ap (λ (l : List (List ℕ)). cond (heardFrom c i) l []) (same-at i lo hi .lines-same)))
 
     -- a post of the group makes the same call of the same post
     calls-same : (i : ℕ) (x : Step) → ((m : ℕ) → rawPack (T .plan) (T .d) i m ≡ rawPack (T .plan) (T .d') i m)
@@ -86,7 +87,7 @@ module _ (T : Two) (M : Marks) (vec vec' : ℕ → Vector) (b b' : Book) (lines 
     calls-same i (Steps.loadTriple r (Pack.fixed xs)) e f = refl
     calls-same i (Steps.deal r sent) e f = ap (Calls.deal r) (T .link .deals r)
     calls-same i (Steps.deal r (Number.fixed x)) e f = refl
-    calls-same i (Steps.message r lent) e f = refl
+    calls-same i (Steps.message r lent heard) e f = refl
     calls-same i (Steps.opening r blocks) e f = refl
     calls-same i (Steps.linear r x y scale) e f = refl
     calls-same i (Steps.masks x y r lent) e f = refl
@@ -192,7 +193,7 @@ module _ (T : Two) (M : Marks) (vec vec' : ℕ → Vector) (b b' : Book) (lines 
       (subst (λ (c : ℕ). Near (T .plan .n) (T .plan .t + 1) (pointOf (T .d)) (T .K) (raised (element (dealtNumber (T .plan) (T .d) (T .u) r)) (vec r)) (raised (element c) (vec' r))) (T .link .deals r)
       (near-raised (T .plan .n) (T .plan .t + 1) (pointOf (T .d)) (T .K) (dealtNumber (T .plan) (T .d) (T .u) r) (vec r) (vec' r) (R .near r (al .0) (nonzero r 0 (al .1)))))
   near-after (Steps.deal r (Number.fixed x)) al rule = absurd (rule refl)
-  near-after (Steps.message r lent) al rule = R .near
+  near-after (Steps.message r lent heard) al rule = R .near
   near-after (Steps.opening r blocks) al rule = R .near
   near-after (Steps.linear r x y scale) al rule =
       near-put M vec vec' (R .near) r 2 _ _

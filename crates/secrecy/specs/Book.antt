@@ -32,7 +32,7 @@ abbrev pub entered : Secrets → Step → Book → Book
 entered u (loadRow r pack) b = b
 entered u (loadTriple r pack) b = b
 entered u (deal r c) b = placed b r (u r)
-entered u (message r lent) b = b
+entered u (message r lent heard) b = b
 entered u (opening r blocks) b = b
 entered u (linear r x y scale) b = placed b r (sum (b .place x) (product scale (b .place y)))
 entered u (masks x y r lent) b = noted b r (b .place x) (b .place y)
@@ -53,7 +53,7 @@ abbrev pub Agrees : Step → ℕ → Book → Book → Type 0
 Agrees (loadRow r pack) k b b' = Unit {0}
 Agrees (loadTriple r pack) k b b' = Unit {0}
 Agrees (deal r c) k b b' = Unit {0}
-Agrees (message r lent) k b b' = k ≡ 0 → b .place r ≡ b' .place r
+Agrees (message r lent heard) k b b' = k ≡ 0 → b .place r ≡ b' .place r
 Agrees (opening r blocks) k b b' = Unit {0}
 Agrees (linear r x y scale) k b b' = Unit {0}
 Agrees (masks x y r lent) k b b' = Unit {0}

@@ -87,6 +87,13 @@ sameSeen R R' =
 unfoldable pub shows : Plan → List ℕ → (ℕ → List ℕ) → List Step → Secrets → Seen → Draw → Bool
 shows plan group rows cs u R draw = sameSeen (seen plan group draw u rows cs) R
 
+-- The test says exactly that.
+abbrev pub ShowsRight : Type 0
+ShowsRight =
+    (plan : Plan) (group : List ℕ) (rows : ℕ → List ℕ) (cs : List Step) (u : Secrets) (R : Seen) (d : Draw)
+    → (shows plan group rows cs u R d ≡ true → seen plan group d u rows cs ≡ R)
+    × (seen plan group d u rows cs ≡ R → shows plan group rows cs u R d ≡ true)
+
 -- Of all draws, as many show R under u as under u'.
 abbrev pub EqualCounts : Type 0
 EqualCounts =

@@ -62,7 +62,7 @@ abbrev pub Rule : Plan → Step → ℕ → List (List ℕ) → Type 0
 Rule plan (loadRow r pack) k lines = k ≡ 0 → OwnPack pack r (IsRaw (plan .raw r))
 Rule plan (loadTriple r pack) k lines = k ≡ 0 → OwnPack pack r (plan .triple r ≡ true)
 Rule plan (deal r c) k lines = k ≡ 0 → FromDealer c
-Rule plan (message r lent) k lines = Unit {0}
+Rule plan (message r lent heard) k lines = Unit {0}
 Rule plan (opening r blocks) k lines = Walks k → OnlySent plan (ShownFor r lines) (λ i. blocks i lines)
 Rule plan (linear r a b scale) k lines = Unit {0}
 Rule plan (masks a b r lent) k lines = Unit {0}

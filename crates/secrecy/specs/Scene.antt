@@ -78,8 +78,8 @@ steps =
     ∷ masks 0 1 3 (λ i. replicate 4 0)
     ∷ finish 3 masksA masksB
     ∷ opening 5 nothing
-    ∷ message 5 (λ i. replicate 2 0)
+    ∷ message 5 (λ i. replicate 2 0) (λ i. true)
     ∷ opening 5 products
-    ∷ message 6 (λ i. replicate 2 0)
+    ∷ message 6 (λ i. replicate 2 0) (λ i. true)
     ∷ opening 6 sums
     ∷ []

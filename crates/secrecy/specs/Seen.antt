@@ -10,7 +10,7 @@ use Rattle.forms.specs.Lines as Line
 use Rattle.forms.specs.Lines.{text}
 use Rattle.runs.specs.Draws.{Plan, Draw, Raw, none, by, whenRaw, pointOf, rawDraw, rawPack, triplePack}
 use Rattle.runs.specs.Calls.{Post, Left, perform, after, broadcast, newPost}
-use Rattle.secrecy.specs.Steps.{Secrets, Step, callAt, dealtNumber}
+use Rattle.secrecy.specs.Steps.{Secrets, Step, callAt, heardFrom, dealtNumber}
 
 -- the posts 1 to n; the rows 0 to 95
 unfoldable pub posts : ℕ → List ℕ
@@ -51,9 +51,10 @@ module _ (plan : Plan) (draw : Draw) (u : Secrets) where
   abbrev pub doneAt : List (List ℕ) → Step → (ℕ → Post) → ℕ → Left
   doneAt lines c q i = perform (callAt plan draw u lines i c) (q i)
 
-  -- the lines that the call broadcasts, post 1's first
+  -- the lines that the call broadcasts, post 1's first; "however few posts send one"
   abbrev pub linesOf : List (List ℕ) → Step → (ℕ → Post) → List (List ℕ)
-  linesOf lines c q = joined (map (λ i. broadcast i (callAt plan draw u lines i c) (doneAt lines c q i)) (posts (plan .n)))
+  linesOf lines c q =
+      joined (map (λ i. cond (heardFrom c i) (broadcast i (callAt plan draw u lines i c) (doneAt lines c q i)) []) (posts (plan .n)))
 
   -- the posts after the calls, each of which gets what the one before handed back
   unfoldable pub postsAfter : List Step → List (List ℕ) → (ℕ → Post) → ℕ → Post

@@ -1,6 +1,7 @@
 -- Document 01, "What a group of posts sees": "Demand 3's list holds loads and calls on a session." One list for all posts, who
 -- make its calls in step; of each call what is fixed, and what follows the draw.
 use Prim.Native.Nat.{ℕ}
+use mathlib.Core.Bool.{Bool, true}
 use mathlib.Core.List.{List}
 use lib.ListN.{getD}
 use Rattle.factory.specs.Packs.{dealerNumber}
@@ -31,12 +32,13 @@ pub data Number : Type 0 where
 abbrev pub Record : Type 0
 Record = ℕ → List (List ℕ) → List ℕ
 
--- A call of the list, with the numbers fixed in it; lent lists, which may differ from post to post, too.
+-- A call of the list, with the numbers fixed in it; lent lists, which may differ from post to post, too. An opening message may
+-- be made by few posts: `heard` says by which. It changes nothing at a post, so one that is not heard stands for none.
 pub data Step : Type 0 where
   loadRow : (r : ℕ) (pack : Pack) → Step
   loadTriple : (r : ℕ) (pack : Pack) → Step
   deal : (r : ℕ) (c : Number) → Step
-  message : (r : ℕ) (lent : ℕ → List ℕ) → Step
+  message : (r : ℕ) (lent : ℕ → List ℕ) (heard : ℕ → Bool) → Step
   opening : (r : ℕ) (blocks : Record) → Step
   linear : (r a b scale : ℕ) → Step
   masks : (a b r : ℕ) (lent : ℕ → List ℕ) → Step
@@ -55,8 +57,19 @@ abbrev pub callAt : Plan → Draw → Secrets → List (List ℕ) → ℕ → St
 callAt plan draw u lines i (loadRow r pack) = Calls.loadRow r (packed pack (rawPack plan draw) i)
 callAt plan draw u lines i (loadTriple r pack) = Calls.loadTriple r (packed pack (triplePack plan draw) i)
 callAt plan draw u lines i (deal r c) = Calls.deal r (dealtWith c (dealtNumber plan draw u r))
-callAt plan draw u lines i (message r lent) = Calls.message r (lent i)
+callAt plan draw u lines i (message r lent heard) = Calls.message r (lent i)
 callAt plan draw u lines i (opening r blocks) = Calls.opening r (blocks i lines)
 callAt plan draw u lines i (linear r a b scale) = Calls.linear r a b scale
 callAt plan draw u lines i (masks a b r lent) = Calls.masks a b r (lent i)
 callAt plan draw u lines i (finish r blocks blocks') = Calls.finish r (blocks i lines) (blocks' i lines)
+
+-- Whether a post's message of this call is made, and broadcast.
+abbrev pub heardFrom : Step → ℕ → Bool
+heardFrom (loadRow r pack) i = true
+heardFrom (loadTriple r pack) i = true
+heardFrom (deal r c) i = true
+heardFrom (message r lent heard) i = heard i
+heardFrom (opening r blocks) i = true
+heardFrom (linear r a b scale) i = true
+heardFrom (masks a b r lent) i = true
+heardFrom (finish r blocks blocks') i = true
