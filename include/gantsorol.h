@@ -14,9 +14,9 @@
  *    4  a check point is 0 or at least p
  *    5  a list's length is not exactly the one stated
  *    6  a row is above 95, or a triple's first row above 93
- *    7  a row's mark is not what the call needs
+ *    7  a row's mark, or a remembered row, is not what the call needs
  *    8  a number that the call is given or reads is at least p, or a record's mark is above 1
- *    9  fewer than t+1 posts were accepted
+ *    9  fewer than t+1 posts were accepted, in either record of a finish
  *   10  a line read has the wrong form
  *   11  a line read has a number out of range
  *   12  the list lent for a line is shorter than the line
@@ -65,6 +65,8 @@ extern "C" {
 #define GANTSOROL_ROW_DRAW_LEN(n, t) (((t) + 1) * ((n) + 1))
 /* The draw of a triple: three draws of a row, the third without f's constant. */
 #define GANTSOROL_TRIPLE_DRAW_LEN(n, t) (3 * GANTSOROL_ROW_DRAW_LEN(n, t) - 1)
+/* The masks of a product: t+1 coefficients for each factor. */
+#define GANTSOROL_MASKS_LEN(t) (2 * ((t) + 1))
 /* The list that a line read fills. */
 #define GANTSOROL_LINE_LIST_LEN(t) (2 * ((t) + 1))
 
@@ -167,6 +169,25 @@ gantsorol_answer gantsorol_open(gantsorol_session session, const uint32_t *rows,
 gantsorol_answer gantsorol_linear(gantsorol_session session, uint32_t *rows, size_t rows_len, size_t dest, size_t a,
                                   size_t b, uint32_t scale);
 
+/*
+ * The first half of a product: for the held rows a and b, perhaps the same, and the unused triple l, l', l'' (marks 3, 4
+ * and 4) that begins at the row first, writes the masks that the post sends to out: the t+1 coefficients of a - l, then
+ * the t+1 of b - l'. The row first gets mark 5, so that a triple serves one product only, and a and b are remembered.
+ * rows: GANTSOROL_ROWS_LEN, read. out: GANTSOROL_MASKS_LEN, written. Refusals 1 to 8.
+ */
+gantsorol_answer gantsorol_masks(gantsorol_session session, const uint32_t *rows, size_t rows_len, size_t a, size_t b,
+                                 size_t first, uint32_t *out, size_t out_len);
+
+/*
+ * The second half: opens a - l with the record left and b - l' with the record right, each as gantsorol_open does, and
+ * writes the product of a and b into the row first + 2. The marks 5, 4 and 4 of the triple become 6, 6 and 2: the
+ * product is held like a dealt number. A sender's block has the first t+1 numbers of its masks in left, the last t+1 in
+ * right. The rows remembered must still be held. A refused finish may be called again, with other records.
+ * rows: GANTSOROL_ROWS_LEN, written. left, right: GANTSOROL_RECORD_LEN each, read. Refusals 1 to 9.
+ */
+gantsorol_answer gantsorol_finish(gantsorol_session session, uint32_t *rows, size_t rows_len, size_t first,
+                                  const uint32_t *left, size_t left_len, const uint32_t *right, size_t right_len);
+
 /* ---- The factory and the dealer ---- */
 
 /*
@@ -208,7 +229,7 @@ gantsorol_written gantsorol_write_opening(size_t n, size_t t, size_t row, size_t
 /*
  * Writes "M,row,post," the coefficients of both masks and a line feed at the start of out, where row is a triple's
  * first; the rest of out stays as it is.
- * coefficients: 2(t+1), read. out: at least the line's length. Refusals 1, 2, 3, 5, 6, 8 and 12.
+ * coefficients: GANTSOROL_MASKS_LEN, read. out: at least the line's length. Refusals 1, 2, 3, 5, 6, 8 and 12.
  */
 gantsorol_written gantsorol_write_masks(size_t n, size_t t, size_t row, size_t post, const uint32_t *coefficients,
                                         size_t coefficients_len, uint8_t *out, size_t out_len);

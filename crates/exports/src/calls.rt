@@ -8,6 +8,8 @@ ghost use Rattle.sharing.specs.Deal.{dealAnswer, dealRows};
 ghost use Rattle.sharing.specs.Message.{messageAnswer, messageOut};
 ghost use Rattle.sharing.specs.Linear.{linearAnswer, linearRows};
 ghost use Rattle.opening.specs.Opening.{openAnswer};
+ghost use Rattle.product.specs.Masks.{masksAnswer, masksOut};
+ghost use Rattle.product.specs.Finish.{finishAnswer, finishRows};
 
 #[no_mangle]
 pub extern "C" fn gantsorol_new(n: usize, t: usize, post: usize, point: u32) -> Answer
@@ -88,4 +90,33 @@ pub extern "C" fn gantsorol_linear(
     ensures { λ r. ⌜ now (rows .exit) ≡ linearRows session (now (rows .entry)) dest a b scale ⌝ }
 {
     sharing::linear::linear(session, rows, dest, a, b, scale)
+}
+
+#[no_mangle]
+pub extern "C" fn gantsorol_masks(
+    session: Session,
+    rows: &[u32],
+    a: usize,
+    b: usize,
+    first: usize,
+    out: &mut [u32],
+) -> Answer
+    ensures { λ r. ⌜ r ≡ masksAnswer session (now (rows .entry)) a b first (now (out .entry)) ⌝ }
+    ensures { λ r. ⌜ now (out .exit) ≡ masksOut session (now (rows .entry)) a b first (now (out .entry)) ⌝ }
+{
+    product::masks::masks(session, rows, a, b, first, out)
+}
+
+#[no_mangle]
+pub extern "C" fn gantsorol_finish(
+    session: Session,
+    rows: &mut [u32],
+    first: usize,
+    left: &[u32],
+    right: &[u32],
+) -> Answer
+    ensures { λ r. ⌜ r ≡ finishAnswer session (now (rows .entry)) first (now (left .entry)) (now (right .entry)) ⌝ }
+    ensures { λ r. ⌜ now (rows .exit) ≡ finishRows session (now (rows .entry)) first (now (left .entry)) (now (right .entry)) ⌝ }
+{
+    product::finish::finish(session, rows, first, left, right)
 }

@@ -205,8 +205,13 @@ fn finish_accepted(session: Session, rows: &mut [u32], first: usize, y: u32, z: 
     session.finished(first)
 }
 
-// Not public yet: document 01 asks that demand 3 stands with the first delivery in which a finish can be called.
-fn finish(session: Session, rows: &mut [u32], first: usize, left: &[u32], right: &[u32]) -> Answer
+pub fn finish(
+    session: Session,
+    rows: &mut [u32],
+    first: usize,
+    left: &[u32],
+    right: &[u32],
+) -> Answer
     ensures { λ r. ⌜ r ≡ finishAnswer session (now (rows .entry)) first (now (left .entry)) (now (right .entry)) ⌝ }
     ensures { λ r. ⌜ now (rows .exit) ≡ finishRows session (now (rows .entry)) first (now (left .entry)) (now (right .entry)) ⌝ }
 {

@@ -42,6 +42,11 @@ pub const fn triple_draw_len(n: usize, t: usize) -> usize {
     3 * row_draw_len(n, t) - 1
 }
 
+/// The numbers of a product's masks: t+1 coefficients for each factor.
+pub const fn masks_len(t: usize) -> usize {
+    2 * (t + 1)
+}
+
 /// The numbers of the list that a line read fills.
 pub const fn line_list_len(t: usize) -> usize {
     2 * (t + 1)

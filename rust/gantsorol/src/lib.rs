@@ -28,8 +28,8 @@ mod sys;
 mod works;
 
 pub use broadcast::{read, write_deal, write_masks, write_opening, Line, Written};
-pub use lengths::{block_len, line_list_len, record_len, row_draw_len, row_len, rows_len};
-pub use lengths::{triple_draw_len, LONGEST_LINE, MAX_POSTS, MODULUS, ROWS};
+pub use lengths::{block_len, line_list_len, masks_len, record_len, row_draw_len, row_len};
+pub use lengths::{rows_len, triple_draw_len, LONGEST_LINE, MAX_POSTS, MODULUS, ROWS};
 pub use refusal::Refusal;
 pub use session::{Answer, Session};
 pub use works::{dealer_number, factory_row, factory_triple, Number};

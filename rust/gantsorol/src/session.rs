@@ -125,4 +125,43 @@ impl Session {
         // SAFETY: the list is a borrowed slice's pointer and length.
         unsafe { sys::gantsorol_linear(self, rows.as_mut_ptr(), rows.len(), dest, a, b, scale) }
     }
+
+    /// The first half of a product: for held a and b, perhaps the same, and the unused triple at
+    /// `first`, writes the masks into `out`, [`masks_len`](crate::masks_len) numbers: the
+    /// coefficients of a − l, then of b − l'. The triple serves no other product.
+    /// Refusals 1 to 8.
+    pub fn masks(self, rows: &[u32], a: usize, b: usize, first: usize, out: &mut [u32]) -> Answer {
+        // SAFETY: each list is a borrowed slice's pointer and length, and `out` overlaps no other.
+        unsafe {
+            sys::gantsorol_masks(
+                self,
+                rows.as_ptr(),
+                rows.len(),
+                a,
+                b,
+                first,
+                out.as_mut_ptr(),
+                out.len(),
+            )
+        }
+    }
+
+    /// The second half: opens a − l with the record `left` and b − l' with `right`, each like
+    /// [`open`](Self::open), and writes the product into row `first` + 2, which becomes held. A
+    /// refused finish may be called again. Refusals 1 to 9.
+    pub fn finish(self, rows: &mut [u32], first: usize, left: &[u32], right: &[u32]) -> Answer {
+        // SAFETY: each list is a borrowed slice's pointer and length, and `rows` overlaps no other.
+        unsafe {
+            sys::gantsorol_finish(
+                self,
+                rows.as_mut_ptr(),
+                rows.len(),
+                first,
+                left.as_ptr(),
+                left.len(),
+                right.as_ptr(),
+                right.len(),
+            )
+        }
+    }
 }

@@ -59,6 +59,28 @@ extern "C" {
         scale: u32,
     ) -> Answer;
 
+    pub fn gantsorol_masks(
+        session: Session,
+        rows: *const u32,
+        rows_len: usize,
+        a: usize,
+        b: usize,
+        first: usize,
+        out: *mut u32,
+        out_len: usize,
+    ) -> Answer;
+
+    pub fn gantsorol_finish(
+        session: Session,
+        rows: *mut u32,
+        rows_len: usize,
+        first: usize,
+        left: *const u32,
+        left_len: usize,
+        right: *const u32,
+        right_len: usize,
+    ) -> Answer;
+
     pub fn gantsorol_factory_row(
         n: usize,
         t: usize,

@@ -1,10 +1,11 @@
-/* Every call of the library once from C, and the layout of every struct: what tests/header.rs expects to be printed. */
+/* Every call of the library once from C, and the layout of every struct: what tests/from_c.rs expects to be printed. */
 #include <stdio.h>
 #include <string.h>
 
 #include "gantsorol.h"
 
 enum { N = 3, T = 1, ROW = GANTSOROL_ROW_LEN(N, T), BLOCK = GANTSOROL_BLOCK_LEN(T), ALL = GANTSOROL_ROWS_LEN(N, T) };
+enum { MASKS = GANTSOROL_MASKS_LEN(T), RECORD = GANTSOROL_RECORD_LEN(N, T) };
 
 #define FIELD(type, field) printf("%s.%s at %zu\n", #type, #field, offsetof(type, field))
 #define SIZE(type) printf("%s has %zu\n", #type, sizeof(type))
@@ -52,6 +53,55 @@ static uint32_t keep(int i, gantsorol_answer answer) {
     return answer.value;
 }
 
+/* One record for each of the two masks, from every post's. */
+static void fill(uint32_t *left, uint32_t *right, const uint32_t *masks) {
+    for (int i = 0; i < N; i++) {
+        left[i * BLOCK] = right[i * BLOCK] = 1;
+        memcpy(left + i * BLOCK + 1, masks + i * MASKS, (T + 1) * sizeof *masks);
+        memcpy(right + i * BLOCK + 1, masks + i * MASKS + T + 1, (T + 1) * sizeof *masks);
+    }
+}
+
+/* Rows 0 and 1, which hold 100 and 300, multiplied with the triple at row 93, and the product opened. */
+static void multiply(void) {
+    uint32_t masks[N * MASKS], left[RECORD], right[RECORD], record[RECORD], none[RECORD] = {0};
+    for (int i = 0; i < N; i++)
+        keep(i, gantsorol_masks(posts[i], rows[i], ALL, 0, 1, 93, masks + i * MASKS, MASKS));
+    print("masks", masks, N * MASKS);
+    printf("marks %d %d %d, of rows %d and %d\n", posts[0].marks[93], posts[0].marks[94], posts[0].marks[95],
+           posts[0].left[93], posts[0].right[93]);
+    fill(left, right, masks);
+
+    /* Refused: one triple for two products, one block only, p, no records, rows above 93, an empty triple. */
+    keep(0, gantsorol_masks(posts[0], rows[0], ALL, 0, 1, 93, masks, MASKS));
+    keep(0, gantsorol_finish(posts[0], rows[0], ALL, 93, left, RECORD, none, RECORD));
+    keep(0, gantsorol_finish(posts[0], rows[0], ALL, 93, none, RECORD, right, RECORD));
+    uint32_t true_one = right[BLOCK + 1];
+    right[BLOCK + 1] = GANTSOROL_MODULUS;
+    keep(0, gantsorol_finish(posts[0], rows[0], ALL, 93, left, RECORD, right, RECORD));
+    right[BLOCK + 1] = true_one;
+    keep(0, gantsorol_finish(posts[0], rows[0], ALL, 93, NULL, 0, NULL, 0));
+    keep(0, gantsorol_finish(posts[0], rows[0], ALL, 94, left, RECORD, right, RECORD));
+    keep(0, gantsorol_finish(posts[0], rows[0], ALL, 92, left, RECORD, right, RECORD));
+
+    /* A false polynomial for b - l' from post 2 is not accepted where another post is there. */
+    right[BLOCK + 1]++;
+    keep(0, gantsorol_finish(posts[0], rows[0], ALL, 93, left, RECORD, right, RECORD));
+    right[BLOCK + 1]--;
+    for (int i = 1; i < N; i++)
+        keep(i, gantsorol_finish(posts[i], rows[i], ALL, 93, left, RECORD, right, RECORD));
+    for (int i = 0; i < N; i++) {
+        print("product", rows[i] + 95 * ROW, ROW);
+        record[i * BLOCK] = 1;
+        keep(i, gantsorol_opening_message(posts[i], rows[i], ALL, 95, record + i * BLOCK + 1, T + 1));
+    }
+    for (int i = 0; i < N; i++)
+        printf("post %d opens %u\n", i + 1, keep(i, gantsorol_open(posts[i], rows[i], ALL, 95, record, RECORD)));
+    printf("marks %d %d %d, of rows %d and %d\n", posts[2].marks[93], posts[2].marks[94], posts[2].marks[95],
+           posts[2].left[93], posts[2].right[93]);
+    keep(0, gantsorol_finish(posts[0], rows[0], ALL, 93, left, RECORD, right, RECORD));
+}
+
 static void write_lines(void) {
     uint8_t text[GANTSOROL_LONGEST_LINE];
     const uint32_t two[] = {3, 1}, four[] = {1, 0, 2147483646, 4};
@@ -89,7 +139,7 @@ int main(void) {
     gantsorol_number c = gantsorol_dealer_number(100, draw[0]), bad = gantsorol_dealer_number(GANTSOROL_MODULUS, 0);
     printf("c %d %u, %d %u\n", c.refusal, c.value, bad.refusal, bad.value);
 
-    uint32_t record[N * BLOCK];
+    uint32_t record[RECORD];
     for (int i = 0; i < N; i++) {
         uint32_t three[3 * ROW];
         for (int of = 0; of < 3; of++)
@@ -102,15 +152,16 @@ int main(void) {
         record[i * BLOCK] = 1;
         keep(i, gantsorol_opening_message(posts[i], rows[i], ALL, 1, record + i * BLOCK + 1, T + 1));
     }
-    print("record", record, N * BLOCK);
+    print("record", record, RECORD);
     for (int i = 0; i < N; i++)
-        printf("post %d opens %u\n", i + 1, keep(i, gantsorol_open(posts[i], rows[i], ALL, 1, record, N * BLOCK)));
+        printf("post %d opens %u\n", i + 1, keep(i, gantsorol_open(posts[i], rows[i], ALL, 1, record, RECORD)));
     printf("marks %d %d %d %d %d\n", posts[2].marks[0], posts[2].marks[1], posts[2].marks[93], posts[2].marks[94],
            posts[2].marks[95]);
+    multiply();
 
     /* Refused: t posts alone, empty lists, and a new session that has 0 in every field. */
     record[0] = record[BLOCK] = record[2 * BLOCK] = 0;
-    keep(0, gantsorol_open(posts[0], rows[0], ALL, 1, record, N * BLOCK));
+    keep(0, gantsorol_open(posts[0], rows[0], ALL, 1, record, RECORD));
     keep(0, gantsorol_open(posts[0], NULL, 0, 1, NULL, 0));
     keep(0, gantsorol_deal(posts[0], NULL, 0, 1, 0));
     gantsorol_answer none = gantsorol_new(33, T, 1, 2);

@@ -5,43 +5,16 @@ mod common;
 
 use common::{seeds, Verified};
 use reference::random::{
-    compare_paperwork, compare_script, paperwork, script_for, script_without_products, shape, Call,
-    Paperwork, PaperworkOutcome, Rng, Script, State,
+    compare_paperwork, compare_script, odd_triple, paperwork, script, script_for, wild_calls,
+    wild_state, Call, Paperwork, PaperworkOutcome, Rng, Script, Seen, State, CALL_REFUSALS,
+    PAPERWORK_REFUSALS,
 };
 use reference::{Library, Reference, Session, REFERENCE};
-
-/// How often each kind of call met each refusal.
-#[derive(Default)]
-struct Seen(std::collections::BTreeMap<String, u64>);
-
-impl Seen {
-    fn note(&mut self, call: &impl std::fmt::Debug, refusal: u8) {
-        let shown = format!("{call:?}");
-        let kind = shown.split(' ').next().unwrap_or_default();
-        *self.0.entry(format!("{kind} {refusal}")).or_default() += 1;
-    }
-
-    fn assert_all(&self, expected: &[(&str, &[u8])]) {
-        for (kind, refusals) in expected {
-            for refusal in *refusals {
-                let met = self.0.contains_key(&format!("{kind} {refusal}"));
-                assert!(met, "no {kind} with {refusal}: {:?}", self.0);
-            }
-        }
-    }
-}
 
 /// Whether the seeds are the gate's, so that what they reach is known.
 fn fixed_seeds() -> bool {
     let set = |name| std::env::var_os(name).is_some();
     !set("GANTSOROL_SEED") && !set("GANTSOROL_CASES")
-}
-
-fn write(rng: &mut Rng, n: usize, t: usize, length: usize) -> Script {
-    match Verified.has_products() {
-        true => script_for(rng, n, t, length),
-        false => script_without_products(rng, n, t, length),
-    }
 }
 
 /// Compares a script, and checks the valid steps against what the works knows.
@@ -63,22 +36,10 @@ fn compare(seed: u64, script: &Script, seen: &mut Seen) {
 fn random_sessions() {
     let mut seen = Seen::default();
     for seed in seeds(4_000) {
-        let mut rng = Rng::new(seed);
-        let (n, t) = shape(&mut rng);
-        compare(seed, &write(&mut rng, n, t, 60), &mut seen);
+        compare(seed, &script(seed, 60), &mut seen);
     }
     if fixed_seeds() {
-        let session = [0, 1, 2, 3, 4, 5, 6, 7, 8];
-        let expected: [(&str, &[u8]); 7] = [
-            ("NewSession", &[0, 1, 2, 3, 4]),
-            ("LoadRow", &session),
-            ("LoadTriple", &session),
-            ("Deal", &session),
-            ("OpeningMessage", &session),
-            ("Open", &[0, 1, 2, 3, 4, 5, 6, 7, 8, 9]),
-            ("Linear", &session),
-        ];
-        seen.assert_all(&expected);
+        seen.assert_met(CALL_REFUSALS);
     }
 }
 
@@ -89,10 +50,10 @@ fn every_n_and_t() {
     let mut seen = Seen::default();
     for seed in seeds(4 * pairs.len() as u64) {
         let (n, t) = pairs[(seed % pairs.len() as u64) as usize];
-        compare(seed, &write(&mut Rng::new(seed), n, t, 30), &mut seen);
+        compare(seed, &script_for(&mut Rng::new(seed), n, t, 30), &mut seen);
     }
     if fixed_seeds() {
-        seen.assert_all(&[("Open", &[0, 9])]);
+        seen.assert_met(&[("Open", &[0, 9]), ("Masks", &[0]), ("Finish", &[0, 9])]);
     }
 }
 
@@ -116,54 +77,16 @@ fn factory_and_lines() {
         seen.note(&work, refusal(&work.perform(&Verified)));
     }
     if fixed_seeds() {
-        let expected: [(&str, &[u8]); 7] = [
-            ("FactoryRow", &[0, 1, 2, 4, 5, 8]),
-            ("FactoryTriple", &[0, 1, 2, 4, 5, 8]),
-            ("DealerNumber", &[0, 8]),
-            ("WriteDeal", &[0, 1, 2, 6, 8, 12]),
-            ("WriteOpening", &[0, 1, 2, 3, 5, 6, 8, 12]),
-            ("WriteMasks", &[0, 1, 2, 3, 5, 6, 8, 12]),
-            ("Read", &[0, 1, 2, 5, 10, 11]),
-        ];
-        seen.assert_all(&expected);
+        seen.assert_met(PAPERWORK_REFUSALS);
     }
 }
 
-/// A session with right settings and lengths over random marks and numbers, or with nothing right.
-fn wild_state(rng: &mut Rng, sane: bool) -> State {
-    let bytes = |rng: &mut Rng, bound: usize| std::array::from_fn(|_| rng.below(bound) as u8);
-    let session = Session {
-        n: if sane { 2 } else { rng.size() },
-        t: if sane { 1 } else { rng.size() },
-        post: if sane { rng.between(1, 2) } else { rng.size() },
-        point: if sane { 3 } else { rng.number() },
-        marks: bytes(rng, 8),
-        left: bytes(rng, 100),
-        right: bytes(rng, 256),
-    };
-    let length = if sane { 96 * 6 } else { rng.below(600) };
-    let rows = match rng.below(2) {
-        0 => rng.elements(length),
-        _ => (0..length).map(|_| rng.number()).collect(),
-    };
-    State { session, rows }
-}
-
-fn wild_calls(rng: &mut Rng) -> [Call; 7] {
-    let list = |rng: &mut Rng| {
-        let length = rng.pick(&[6, 6, 6, 18, 18, 5, 7, 0]);
-        (0..length).map(|_| rng.number()).collect::<Vec<_>>()
-    };
-    let (a, b, c) = (rng.size(), rng.size(), rng.size());
-    [
-        Call::NewSession { n: a, t: b, post: c, point: rng.number() },
-        Call::LoadRow { row: a, pack: list(rng) },
-        Call::LoadTriple { first: a, pack: list(rng) },
-        Call::Deal { row: a, c: rng.number() },
-        Call::OpeningMessage { row: a, out: rng.pick(&[2, 2, 2, 0, 1, 3]) },
-        Call::Open { row: a, record: list(rng) },
-        Call::Linear { dest: a, a: b, b: c, scale: rng.number() },
-    ]
+/// Makes a call on both libraries, which must answer alike; the refusal.
+#[track_caller]
+fn compare_call(seed: u64, call: &Call, state: &State) -> u8 {
+    let (ours, second) = (call.perform(&Verified, state), call.perform(&REFERENCE, state));
+    assert_eq!(ours, second, "seed {seed}: {call:?} on {state:?}");
+    ours.refusal
 }
 
 /// Every number at random, most of them wild, in calls that never were part of a session.
@@ -173,11 +96,55 @@ fn wild_arguments() {
         let mut rng = Rng::new(seed);
         let state = wild_state(&mut rng, seed % 2 == 0);
         for call in wild_calls(&mut rng) {
-            let (ours, second) =
-                (call.perform(&Verified, &state), call.perform(&REFERENCE, &state));
-            assert_eq!(ours, second, "seed {seed}: {call:?} on {state:?}");
+            compare_call(seed, &call, &state);
         }
     }
+}
+
+/// Products over rows and records that no factory and no post made: whatever is accepted, opened
+/// and written, it is the same.
+#[test]
+fn products_of_odd_numbers() {
+    let mut seen = Seen::default();
+    for seed in seeds(30_000) {
+        let mut rng = Rng::new(seed);
+        let sending = rng.one_in(3);
+        let (state, first) = odd_triple(&mut rng, if sending { 3 } else { 5 });
+        let record = |rng: &mut Rng| match rng.below(12) {
+            0 => (0..6).map(|_| rng.number()).collect(),
+            _ => (0..6).map(|place| u32::from(place % 3 == 0 || rng.one_in(12))).collect(),
+        };
+        let call = match sending {
+            true => Call::Masks { a: rng.below(96), b: rng.below(96), first, out: 4 },
+            false => Call::Finish { first, record: record(&mut rng), record2: record(&mut rng) },
+        };
+        seen.note(&call, compare_call(seed, &call, &state));
+    }
+    if fixed_seeds() {
+        seen.assert_met(&[("Masks", &[0, 7, 8]), ("Finish", &[0, 7, 8, 9])]);
+        assert!(seen.count("Finish", 0) > 500, "{seen:?}");
+    }
+}
+
+/// Lists that are only read may be one list: both records here are parts of it.
+#[test]
+fn two_records_that_are_parts_of_one_list() {
+    let mut finished = 0;
+    for seed in seeds(5_000) {
+        let mut rng = Rng::new(seed);
+        let (State { session, rows }, first) = odd_triple(&mut rng, 5);
+        let list: Vec<u32> =
+            (0..9).map(|place| u32::from(place % 3 == 0 || rng.one_in(9))).collect();
+        let [left, right] =
+            [(); 2].map(|()| rng.pick(&[0, 0, 3, 3, 1, 2])).map(|start| &list[start..start + 6]);
+        let (mut ours, mut second) = (rows.clone(), rows);
+        let answer = Verified.finish(session, &mut ours, first, left, right);
+        let expected =
+            REFERENCE.finish(session, &mut second, first, &left.to_vec(), &right.to_vec());
+        assert_eq!((&answer, ours), (&expected, second), "seed {seed}");
+        finished += u64::from(answer.refusal == 0);
+    }
+    assert!(!fixed_seeds() || finished > 50, "only {finished} products");
 }
 
 /// Lists that are only read may be one list: the record here is a part of the rows.
@@ -204,9 +171,7 @@ fn another_prime_is_told_apart() {
     let other = Reference::<2_147_483_629>;
     let mut found = 0;
     for seed in 0..20 {
-        let mut rng = Rng::new(seed);
-        let (n, t) = shape(&mut rng);
-        if let Some(difference) = compare_script(&write(&mut rng, n, t, 60), &Verified, &other) {
+        if let Some(difference) = compare_script(&script(seed, 60), &Verified, &other) {
             found += 1;
             assert!(difference.case.len() <= 6, "{difference}");
         }

@@ -37,12 +37,24 @@ fn run(program: &str, source: &Path, options: &[&str]) -> String {
 const C: [&str; 1] = ["-std=c99"];
 const CPP: [&str; 3] = ["-std=c++11", "-x", "c++"];
 
+/// An example prints this, compiled as C and as C++.
+#[track_caller]
+fn check_example(name: &str, printed: &str) {
+    let source = repository().join(format!("examples/{name}.c"));
+    assert_eq!(run(&format!("{name}_c"), &source, &C), printed);
+    assert_eq!(run(&format!("{name}_cpp"), &source, &CPP), printed);
+}
+
 #[test]
 fn the_example_in_c() {
-    let source = repository().join("examples/sharing.c");
-    let printed = "c = 93, opened 100\npost 1: refusal 9\n";
-    assert_eq!(run("sharing_c", &source, &C), printed);
-    assert_eq!(run("sharing_cpp", &source, &CPP), printed);
+    check_example("sharing", "c = 93, opened 100\npost 1: refusal 9\n");
+}
+
+/// The first finish is alone with its post; the second has heard the others.
+#[test]
+fn a_product_in_c() {
+    let opened: String = (1..=3).map(|post| format!("post {post}: 6 x 7 = 42\n")).collect();
+    check_example("product", &format!("post 1: refusal 9\n{opened}"));
 }
 
 /// The README's examples are those that the tests compile and run.

@@ -4,7 +4,8 @@
 mod common;
 
 use common::seeds;
-use gantsorol::{block_len, line_list_len, row_len, rows_len, Refusal, Session, LONGEST_LINE};
+use gantsorol::{block_len, line_list_len, masks_len, row_len, rows_len};
+use gantsorol::{Refusal, Session, LONGEST_LINE};
 use reference::random::{check_points, shape, Rng, SharedRow};
 use reference::{Element, Shape, MODULUS};
 
@@ -29,6 +30,18 @@ impl Post {
     fn try_open(&self, row: usize, record: &[u32]) -> Result<u32, Refusal> {
         let session = self.session.clone().expect("every call hands the session back");
         session.open(&self.rows, row, record).accepted().map(|(_, value)| value)
+    }
+
+    /// Finishes a product; refused, the post is as it was.
+    fn finish(&mut self, first: usize, [left, right]: &[Vec<u32>; 2]) -> Result<(), Refusal> {
+        let session = self.session.take().expect("every call hands the session back");
+        let before = (session.clone(), self.rows.clone());
+        let answer = session.finish(&mut self.rows, first, left, right);
+        self.session = Some(answer.session.clone());
+        if answer.refusal != 0 {
+            assert_eq!((&answer.session, &self.rows), (&before.0, &before.1));
+        }
+        answer.accepted().map(|(_, value)| assert_eq!(value, 0))
     }
 }
 
@@ -89,6 +102,20 @@ impl Station {
         }
     }
 
+    /// Loads a random triple at every post.
+    fn load_triple(&mut self, rng: &mut Rng, first: usize) {
+        let (n, t) = (self.n, self.t);
+        let shape = Shape::checked(n, t).expect("right settings");
+        let draw = SharedRow::triple_draw(&SharedRow::random_triple(rng, shape));
+        let mut packs = vec![0; 3 * n * row_len(n, t)];
+        gantsorol::factory_triple(n, t, &self.points, &draw, &mut packs).expect("a right draw");
+        for (index, post) in self.shuffled(rng) {
+            let rows = packs.chunks(row_len(n, t)).skip(index).step_by(n);
+            let pack = rows.collect::<Vec<_>>().concat();
+            post.call(|session, rows| session.load_triple(rows, first, &pack));
+        }
+    }
+
     /// Every post's message for a row, as an `O` line.
     fn lines(&mut self, rng: &mut Rng, row: usize) -> Vec<Vec<u8>> {
         let (n, t) = (self.n, self.t);
@@ -104,20 +131,58 @@ impl Station {
         lines
     }
 
-    /// The record that these lines fill, in whatever order they come; an absent block is nonsense.
-    fn record<'a>(&self, rng: &mut Rng, lines: impl IntoIterator<Item = &'a Vec<u8>>) -> Vec<u32> {
-        let block = block_len(self.t);
-        let nonsense = |place| if place % block == 0 { 0 } else { rng.number() };
-        let mut record: Vec<u32> = (0..self.n * block).map(nonsense).collect();
+    /// Every post's masks for a product, as an `M` line.
+    fn masks(&mut self, rng: &mut Rng, a: usize, b: usize, first: usize) -> Vec<Vec<u8>> {
+        let (n, t) = (self.n, self.t);
+        let mut lines = vec![vec![]; n];
+        for (index, post) in self.shuffled(rng) {
+            let mut masks = vec![0; masks_len(t)];
+            post.call(|session, rows| session.masks(rows, a, b, first, &mut masks));
+            let mut line = vec![0; LONGEST_LINE];
+            let written = gantsorol::write_masks(n, t, first, index + 1, &masks, &mut line);
+            line.truncate(written.accepted().expect("room"));
+            lines[index] = line;
+        }
+        lines
+    }
+
+    /// The records that these lines fill, in whatever order they come: the second is for the masks
+    /// of the second factor. An absent block is nonsense.
+    fn records<'a>(
+        &self,
+        rng: &mut Rng,
+        lines: impl IntoIterator<Item = &'a Vec<u8>>,
+    ) -> [Vec<u32>; 2] {
+        let (count, block) = (self.t + 1, block_len(self.t));
+        let mut nonsense = |place| if place % block == 0 { 0 } else { rng.number() };
+        let mut records: [Vec<u32>; 2] =
+            [(); 2].map(|()| (0..self.n * block).map(&mut nonsense).collect());
         for line in lines {
             let mut numbers = vec![0; line_list_len(self.t)];
             let read = gantsorol::read(self.n, self.t, line, &mut numbers);
             let post = read.accepted().expect("a line as written").post;
-            let place = &mut record[(post - 1) * block..][..block];
-            place[0] = 1;
-            place[1..].copy_from_slice(&numbers[..=self.t]);
+            for (record, half) in records.iter_mut().zip(numbers.chunks(count)) {
+                let place = &mut record[(post - 1) * block..][..block];
+                place[0] = 1;
+                place[1..].copy_from_slice(half);
+            }
         }
+        records
+    }
+
+    /// The record of an opening that these lines fill.
+    fn record<'a>(&self, rng: &mut Rng, lines: impl IntoIterator<Item = &'a Vec<u8>>) -> Vec<u32> {
+        let [record, _] = self.records(rng, lines);
         record
+    }
+
+    /// The product of rows a and b with the triple at `first`, at every post.
+    fn multiply(&mut self, rng: &mut Rng, a: usize, b: usize, first: usize) {
+        let lines = self.masks(rng, a, b, first);
+        let records = self.records(rng, lines.iter().rev());
+        for (_, post) in self.shuffled(rng) {
+            post.finish(first, &records).expect("all masks are there");
+        }
     }
 
     /// What every post opens with all messages.
@@ -166,18 +231,110 @@ fn sums_for_every_n_and_t() {
     }
 }
 
-/// One secret in row 7, one post, and the lines of the others in random order.
-fn shared_secret(rng: &mut Rng) -> (Station, u32, usize, Vec<Vec<u8>>) {
-    let mut station = Station::random(rng);
-    let secret = rng.element();
-    station.share(rng, 7, secret);
-    let mut lines = station.lines(rng, 7);
-    let own = rng.below(station.n);
+/// ab, ab + sa, its square, and the square times b, each a factor of the next.
+fn check_products(rng: &mut Rng, mut station: Station, seed: u64) {
+    let [a, b, scale] = [(); 3].map(|()| Field::from(rng.element()));
+    station.share(rng, 0, a.value());
+    station.share(rng, 1, b.value());
+    for first in [2, 93, 10] {
+        station.load_triple(rng, first);
+    }
+    station.multiply(rng, 0, 1, 2);
+    for (_, post) in station.shuffled(rng) {
+        post.call(|session, rows| session.linear(rows, 5, 4, 0, scale.value()));
+    }
+    station.multiply(rng, 5, 5, 93);
+    station.multiply(rng, 95, 1, 10);
+    let sum = a * b + scale * a;
+    let square = sum * sum;
+    for (row, plain) in [(4, a * b), (5, sum), (95, square), (12, square * b)] {
+        let opened = station.open(rng, row);
+        assert_eq!(opened, vec![plain.value(); station.n], "seed {seed}, row {row}");
+    }
+}
+
+#[test]
+fn products_open_to_the_plain_ones() {
+    for seed in seeds(200) {
+        let mut rng = Rng::new(seed);
+        let station = Station::random(&mut rng);
+        check_products(&mut rng, station, seed);
+    }
+}
+
+#[test]
+fn products_for_every_n_and_t() {
+    for n in 2..=32 {
+        for t in 1..n {
+            let mut rng = Rng::new((n * 32 + t) as u64);
+            let station = Station::new(&mut rng, n, t);
+            check_products(&mut rng, station, 0);
+        }
+    }
+}
+
+/// A post, and the lines of the others in random order.
+fn one_post(rng: &mut Rng, mut lines: Vec<Vec<u8>>) -> (usize, Vec<Vec<u8>>) {
+    let own = rng.below(lines.len());
     lines.remove(own);
     for end in (1..lines.len()).rev() {
         lines.swap(end, rng.below(end + 1));
     }
+    (own, lines)
+}
+
+/// One secret in row 7, one post, and the lines of the others.
+fn shared_secret(rng: &mut Rng) -> (Station, u32, usize, Vec<Vec<u8>>) {
+    let mut station = Station::random(rng);
+    let secret = rng.element();
+    station.share(rng, 7, secret);
+    let lines = station.lines(rng, 7);
+    let (own, lines) = one_post(rng, lines);
     (station, secret, own, lines)
+}
+
+/// Secrets in rows 0 and 1, whose masks by the triple at row 2 are sent.
+struct Masked {
+    station: Station,
+    product: u32,
+    /// The two records with every post's line.
+    all: [Vec<u32>; 2],
+    own: usize,
+    /// The lines of the others.
+    lines: Vec<Vec<u8>>,
+}
+
+impl Masked {
+    fn random(rng: &mut Rng) -> Self {
+        let mut station = Station::random(rng);
+        let [a, b] = [(); 2].map(|()| rng.element());
+        station.share(rng, 0, a);
+        station.share(rng, 1, b);
+        station.load_triple(rng, 2);
+        let lines = station.masks(rng, 0, 1, 2);
+        let all = station.records(rng, &lines);
+        let (own, lines) = one_post(rng, lines);
+        Self { station, product: (Field::from(a) * b.into()).value(), all, own, lines }
+    }
+
+    /// The post gets 9 with any of the `short` records and then finishes with `enough`, the others
+    /// with all; whatever each of them opens is the product.
+    #[track_caller]
+    fn check(mut self, rng: &mut Rng, short: &[[Vec<u32>; 2]], enough: &[Vec<u32>; 2]) {
+        for records in short {
+            assert_eq!(self.station.posts[self.own].finish(2, records), Err(Refusal(9)));
+        }
+        for (index, post) in self.station.shuffled(rng) {
+            let records = if index == self.own { enough } else { &self.all };
+            assert_eq!(post.finish(2, records), Ok(()));
+        }
+        assert_eq!(self.station.open(rng, 4), vec![self.product; self.station.n]);
+    }
+}
+
+/// Two records with either of them taken from the second pair.
+fn mixed([a, b]: &[Vec<u32>; 2], [x, y]: &[Vec<u32>; 2]) -> [[Vec<u32>; 2]; 2] {
+    [[x.clone(), b.clone()], [a.clone(), y.clone()]]
 }
 
 #[test]
@@ -193,6 +350,15 @@ fn t_posts_get_9_and_any_t_plus_1_the_number() {
     }
 }
 
+/// The record with `liars` of the blocks that are not the own post's forged.
+fn with_liars(rng: &mut Rng, station: &Station, own: usize, liars: usize, record: &mut [u32]) {
+    let others: Vec<usize> = (0..station.n).filter(|&post| post != own).collect();
+    let from = rng.below(others.len());
+    for liar in others.iter().cycle().skip(from).take(liars) {
+        forge(rng, &mut record[liar * block_len(station.t) + 1..][..=station.t]);
+    }
+}
+
 #[test]
 fn forged_polynomials_are_rejected() {
     for seed in seeds(500) {
@@ -202,13 +368,40 @@ fn forged_polynomials_are_rejected() {
         // With n − 1 − t liars among the others t are left, with one more t − 1.
         for (liars, expected) in [(n - 1 - t, Ok(secret)), (n - t, Err(Refusal(9)))] {
             let mut record = station.record(&mut rng, &lines);
-            let others: Vec<usize> = (0..n).filter(|&post| post != own).collect();
-            let from = rng.below(others.len());
-            for liar in others.iter().cycle().skip(from).take(liars) {
-                forge(&mut rng, &mut record[liar * block_len(t) + 1..][..=t]);
-            }
+            with_liars(&mut rng, &station, own, liars, &mut record);
             assert_eq!(station.posts[own].try_open(7, &record), expected, "seed {seed}");
         }
+    }
+}
+
+/// Either record of a finish may be the short one.
+#[test]
+fn t_masks_get_9_and_any_t_plus_1_the_product() {
+    for seed in seeds(200) {
+        let mut rng = Rng::new(seed);
+        let masked = Masked::random(&mut rng);
+        let t = masked.station.t;
+        let records = |others| masked.station.records(&mut rng, &masked.lines[..others]);
+        let [few, enough] = [t - 1, t].map(records);
+        masked.check(&mut rng, &mixed(&enough, &few), &enough);
+    }
+}
+
+/// The liars of the two records are other posts.
+#[test]
+fn forged_masks_are_rejected() {
+    for seed in seeds(200) {
+        let mut rng = Rng::new(seed);
+        let masked = Masked::random(&mut rng);
+        let (n, t, own) = (masked.station.n, masked.station.t, masked.own);
+        let [enough, few] = [n - 1 - t, n - t].map(|liars| {
+            let mut records = masked.all.clone();
+            for record in &mut records {
+                with_liars(&mut rng, &masked.station, own, liars, record);
+            }
+            records
+        });
+        masked.check(&mut rng, &mixed(&enough, &few), &enough);
     }
 }
 

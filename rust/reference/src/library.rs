@@ -8,11 +8,6 @@ use crate::{calls, factory, lines, opening, product, session, street, MODULUS};
 ///
 /// Lists are lent; a refused call leaves every one of them as it was.
 pub trait Library {
-    /// Whether masks and finish are there. A comparison makes neither call where they are not.
-    fn has_products(&self) -> bool {
-        true
-    }
-
     /// A new session; refused, one with 0 in every field.
     fn new_session(&self, n: usize, t: usize, post: usize, point: u32) -> Answer;
 

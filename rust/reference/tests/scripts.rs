@@ -1,20 +1,19 @@
 //! The random scripts, paperwork and street inputs, run on the reference alone: they reach every
 //! refusal, valid steps are taken, and refused ones change nothing.
 
-use std::collections::BTreeMap;
 use std::mem::discriminant;
 
 use reference::random::{
-    paperwork, script, script_for, street_input, unwritten, Call, Outcome, Paperwork,
-    PaperworkOutcome, Rng, Script, State,
+    paperwork, script, script_for, street_input, unwritten, wild_calls, wild_state, Call, Outcome,
+    Paperwork, PaperworkOutcome, Rng, Script, Seen, State, CALL_REFUSALS, PAPERWORK_REFUSALS,
 };
 use reference::{Library, Session, Shape, LONGEST_LINE, REFERENCE};
 
 /// Replays a script; every step is checked against what document 01 says of all calls.
-fn check(script: &Script, seen: &mut BTreeMap<String, u32>) {
+fn check(script: &Script, seen: &mut Seen) {
     let mut state = State { session: Session::BLANK, rows: script.rows.clone() };
     for (step, outcome) in script.steps.iter().zip(script.replay(&REFERENCE)) {
-        *seen.entry(format!("{} {}", name(&step.call), outcome.refusal)).or_default() += 1;
+        seen.note(&step.call, outcome.refusal);
         if step.trial {
             let mut before = state.clone();
             step.damage.iter().for_each(|damage| damage.apply(&mut before));
@@ -47,53 +46,25 @@ fn check_refused(call: &Call, before: &State, outcome: &Outcome) {
     }
 }
 
-fn name(call: &impl std::fmt::Debug) -> String {
-    let shown = format!("{call:?}");
-    shown.split(' ').next().unwrap().to_string()
-}
-
-/// Asserts that each of these kinds met each of its refusals.
-fn assert_seen(seen: &BTreeMap<String, u32>, expected: &[(&str, &[u8])]) {
-    for (call, refusals) in expected {
-        for refusal in *refusals {
-            let key = format!("{call} {refusal}");
-            assert!(seen.contains_key(&key), "no {key} in {seen:?}");
-        }
-    }
-}
-
 #[test]
 fn random_sessions() {
-    let mut seen = BTreeMap::new();
+    let mut seen = Seen::default();
     for seed in 0..300 {
         check(&script(seed, 60), &mut seen);
     }
-    let session = [0, 1, 2, 3, 4, 5, 6, 7, 8];
-    let opening = [0, 1, 2, 3, 4, 5, 6, 7, 8, 9];
-    let expected: [(&str, &[u8]); 9] = [
-        ("NewSession", &[0, 1, 2, 3, 4]),
-        ("LoadRow", &session),
-        ("LoadTriple", &session),
-        ("Deal", &session),
-        ("OpeningMessage", &session),
-        ("Open", &opening),
-        ("Linear", &session),
-        ("Masks", &session),
-        ("Finish", &opening),
-    ];
-    assert_seen(&seen, &expected);
+    seen.assert_met(CALL_REFUSALS);
 }
 
 #[test]
 fn every_n_and_t() {
-    let mut seen = BTreeMap::new();
+    let mut seen = Seen::default();
     let mut rng = Rng::new(77);
     for n in 2..=32 {
         for t in 1..n {
             check(&script_for(&mut rng, n, t, 30), &mut seen);
         }
     }
-    assert_seen(&seen, &[("Open", &[0, 9]), ("Finish", &[0, 9])]);
+    seen.assert_met(&[("Open", &[0, 9]), ("Finish", &[0, 9])]);
 }
 
 /// The refusal, and whether a list lent for writing is as it was.
@@ -113,24 +84,15 @@ fn refusal_and_untouched(outcome: &PaperworkOutcome) -> (u8, bool) {
 
 #[test]
 fn random_paperwork() {
-    let mut seen = BTreeMap::new();
+    let mut seen = Seen::default();
     for seed in 0..40_000 {
         let work: Paperwork = paperwork(seed);
         let outcome = work.perform(&REFERENCE);
         let (refusal, untouched) = refusal_and_untouched(&outcome);
         assert!(refusal == 0 || untouched, "{work:?} gave {outcome:?}");
-        *seen.entry(format!("{} {refusal}", name(&work))).or_default() += 1;
+        seen.note(&work, refusal);
     }
-    let expected: [(&str, &[u8]); 7] = [
-        ("FactoryRow", &[0, 1, 2, 4, 5, 8]),
-        ("FactoryTriple", &[0, 1, 2, 4, 5, 8]),
-        ("DealerNumber", &[0, 8]),
-        ("WriteDeal", &[0, 1, 2, 6, 8, 12]),
-        ("WriteOpening", &[0, 1, 2, 3, 5, 6, 8, 12]),
-        ("WriteMasks", &[0, 1, 2, 3, 5, 6, 8, 12]),
-        ("Read", &[0, 1, 2, 5, 10, 11]),
-    ];
-    assert_seen(&seen, &expected);
+    seen.assert_met(PAPERWORK_REFUSALS);
 }
 
 #[test]
@@ -156,44 +118,6 @@ fn random_street_inputs() {
     }
     assert!(opened > 1000, "only {opened} numbers opened");
     assert!(longest > 20, "only {longest} longest lines taken");
-}
-
-/// A session for two posts with right lengths, or one with nothing right.
-fn wild_state(rng: &mut Rng, sane: bool) -> State {
-    let bytes = |rng: &mut Rng, bound: usize| std::array::from_fn(|_| rng.below(bound) as u8);
-    let session = Session {
-        n: if sane { 2 } else { rng.size() },
-        t: if sane { 1 } else { rng.size() },
-        post: if sane { rng.between(1, 2) } else { rng.size() },
-        point: if sane { 3 } else { rng.number() },
-        marks: bytes(rng, 8),
-        left: bytes(rng, 100),
-        right: bytes(rng, 256),
-    };
-    let length = if sane { 96 * 6 } else { rng.below(600) };
-    let rows = match rng.below(2) {
-        0 => rng.elements(length),
-        _ => (0..length).map(|_| rng.number()).collect(),
-    };
-    State { session, rows }
-}
-
-fn wild_calls(rng: &mut Rng) -> [Call; 8] {
-    let list = |rng: &mut Rng| {
-        let length = rng.pick(&[6, 6, 6, 18, 18, 5, 7, 0]);
-        (0..length).map(|_| rng.number()).collect::<Vec<_>>()
-    };
-    let (a, b, c) = (rng.size(), rng.size(), rng.size());
-    [
-        Call::LoadRow { row: a, pack: list(rng) },
-        Call::LoadTriple { first: a, pack: list(rng) },
-        Call::Deal { row: a, c: rng.number() },
-        Call::OpeningMessage { row: a, out: 2 },
-        Call::Open { row: a, record: list(rng) },
-        Call::Linear { dest: a, a: b, b: c, scale: rng.number() },
-        Call::Masks { a, b, first: c, out: 4 },
-        Call::Finish { first: a, record: list(rng), record2: list(rng) },
-    ]
 }
 
 /// "No argument makes them panic": every number at random, most of them wild.

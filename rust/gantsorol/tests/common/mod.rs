@@ -48,11 +48,6 @@ fn written(gantsorol::Written { refusal, len }: gantsorol::Written) -> Written {
 }
 
 impl Library for Verified {
-    // Masks, finish and the street program come with a later delivery.
-    fn has_products(&self) -> bool {
-        false
-    }
-
     fn new_session(&self, n: usize, t: usize, post: usize, point: u32) -> Answer {
         answered(Session::new(n, t, post, point))
     }
@@ -109,25 +104,25 @@ impl Library for Verified {
 
     fn masks(
         &self,
-        _: reference::Session,
-        _: &[u32],
-        _: usize,
-        _: usize,
-        _: usize,
-        _: &mut [u32],
+        s: reference::Session,
+        rows: &[u32],
+        a: usize,
+        b: usize,
+        first: usize,
+        out: &mut [u32],
     ) -> Answer {
-        unreachable!("masks are not exported")
+        answered(given(s).masks(rows, a, b, first, out))
     }
 
     fn finish(
         &self,
-        _: reference::Session,
-        _: &mut [u32],
-        _: usize,
-        _: &[u32],
-        _: &[u32],
+        s: reference::Session,
+        rows: &mut [u32],
+        first: usize,
+        record: &[u32],
+        record2: &[u32],
     ) -> Answer {
-        unreachable!("finish is not exported")
+        answered(given(s).finish(rows, first, record, record2))
     }
 
     fn factory_row(&self, n: usize, t: usize, points: &[u32], draw: &[u32], out: &mut [u32]) -> u8 {

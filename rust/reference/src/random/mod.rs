@@ -4,6 +4,7 @@
 //!   trials in which the call or the session is damaged.
 //! - [`Paperwork`]: calls without a session: the factory, the dealer's number, lines.
 //! - [`street_input`]: an input of the street program.
+//! - [`wild_state`], [`wild_calls`], [`odd_triple`]: numbers that no session would come to.
 //!
 //! [`compare_script`], [`compare_paperwork`] and [`compare_street`] run them on two libraries and
 //! cut down what sets these apart to a case that can be read.
@@ -15,8 +16,10 @@ mod lines;
 mod paperwork;
 mod rng;
 mod script;
+mod seen;
 mod shared;
 mod street;
+mod wild;
 
 pub use call::{unwritten, Call, Outcome, State};
 pub use compare::{compare_paperwork, compare_script, compare_street, Difference};
@@ -24,6 +27,8 @@ pub use damage::Damage;
 pub use lines::{join, mutate};
 pub use paperwork::{paperwork, Paperwork, PaperworkOutcome};
 pub use rng::Rng;
-pub use script::{script, script_for, script_without_products, Script, Step};
+pub use script::{script, script_for, Script, Step};
+pub use seen::{Met, Seen, CALL_REFUSALS, PAPERWORK_REFUSALS};
 pub use shared::{check_points, shape, SharedRow};
 pub use street::street_input;
+pub use wild::{odd_triple, wild_calls, wild_state};

@@ -56,35 +56,25 @@ pub fn script(seed: u64, length: usize) -> Script {
 
 /// A script for n posts, 2 to 32, and threshold t, 1 to n − 1.
 pub fn script_for(rng: &mut Rng, n: usize, t: usize, length: usize) -> Script {
-    author(rng, n, t, true).script(length)
-}
-
-/// The like with neither masks nor a finish, for a library that has no products.
-pub fn script_without_products(rng: &mut Rng, n: usize, t: usize, length: usize) -> Script {
-    author(rng, n, t, false).script(length)
-}
-
-fn author(rng: &mut Rng, n: usize, t: usize, products: bool) -> Author<'_> {
     let shape = Shape::checked(n, t).expect("n and t of a script are in range");
     let points = check_points(rng, n);
-    Author {
+    let author = Author {
         post: rng.between(1, n),
         points,
         shape,
-        products,
         marks: [mark::EMPTY; ROWS],
         shared: vec![None; ROWS],
         factors: [(0, 0); ROWS],
         steps: vec![],
         rng,
-    }
+    };
+    author.script(length)
 }
 
 /// Writes a script, with the plain polynomials of every row in mind.
 struct Author<'r> {
     rng: &'r mut Rng,
     shape: Shape,
-    products: bool,
     points: Vec<u32>,
     post: usize,
     marks: [u8; ROWS],
@@ -175,10 +165,8 @@ impl Author<'_> {
             5 => self.opening_message(),
             6 | 7 => self.open(),
             8 => self.linear(),
-            9 if self.products => self.masks(),
-            _ if self.products => self.finish(),
-            9 => self.linear(),
-            _ => self.open(),
+            9 => self.masks(),
+            _ => self.finish(),
         };
     }
 

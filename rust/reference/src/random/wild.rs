@@ -1,0 +1,60 @@
+//! States and calls with every number at random, which never were part of a session.
+
+use super::{Call, Rng, State};
+use crate::{Session, ROWS};
+
+/// Numbers of a row, of two posts of which either opens with the other.
+const ROW: usize = 6;
+
+/// A session of two posts with right lengths over random marks and numbers, or with nothing right.
+pub fn wild_state(rng: &mut Rng, sane: bool) -> State {
+    let bytes = |rng: &mut Rng, bound: usize| std::array::from_fn(|_| rng.below(bound) as u8);
+    let session = Session {
+        n: if sane { 2 } else { rng.size() },
+        t: if sane { 1 } else { rng.size() },
+        post: if sane { rng.between(1, 2) } else { rng.size() },
+        point: if sane { 3 } else { rng.number() },
+        marks: bytes(rng, 8),
+        left: bytes(rng, 100),
+        right: bytes(rng, 256),
+    };
+    let length = if sane { ROWS * ROW } else { rng.below(600) };
+    let rows = match rng.below(2) {
+        0 => rng.elements(length),
+        _ => (0..length).map(|_| rng.number()).collect(),
+    };
+    State { session, rows }
+}
+
+/// Each call once, most of them wild.
+pub fn wild_calls(rng: &mut Rng) -> [Call; 9] {
+    let list = |rng: &mut Rng| {
+        let length = rng.pick(&[6, 6, 6, 18, 18, 5, 7, 0]);
+        (0..length).map(|_| rng.number()).collect::<Vec<_>>()
+    };
+    let (a, b, c) = (rng.size(), rng.size(), rng.size());
+    [
+        Call::NewSession { n: a, t: b, post: c, point: rng.number() },
+        Call::LoadRow { row: a, pack: list(rng) },
+        Call::LoadTriple { first: a, pack: list(rng) },
+        Call::Deal { row: a, c: rng.number() },
+        Call::OpeningMessage { row: a, out: rng.pick(&[2, 2, 2, 0, 1, 3]) },
+        Call::Open { row: a, record: list(rng) },
+        Call::Linear { dest: a, a: b, b: c, scale: rng.number() },
+        Call::Masks { a, b, first: c, out: rng.pick(&[4, 4, 4, 0, 3, 5]) },
+        Call::Finish { first: a, record: list(rng), record2: list(rng) },
+    ]
+}
+
+/// A session of two posts in which every row is held but a triple's, over numbers that no factory
+/// made: mostly zeros, so that now and then a polynomial is accepted. The triple's first row, which
+/// has this mark and these factors remembered.
+pub fn odd_triple(rng: &mut Rng, mark: u8) -> (State, usize) {
+    let first = rng.below(ROWS - 2);
+    let mut session = Session { marks: [2; ROWS], ..wild_state(rng, true).session };
+    session.marks[first..first + 3].copy_from_slice(&[mark, 4, 4]);
+    (session.left[first], session.right[first]) = (rng.below(98) as u8, rng.below(98) as u8);
+    let mut number = || if rng.one_in(400) { rng.number() } else { u32::from(rng.one_in(10)) };
+    let rows = (0..ROWS * ROW).map(|_| number()).collect();
+    (State { session, rows }, first)
+}
