@@ -1,3 +1,4 @@
 pub mod Refusing
 pub mod Answers
 pub mod Sending
+pub mod Theorems
