@@ -15,7 +15,7 @@ use Rattle.runs.proofs.Lines.{elements-of}
 use Rattle.correctness.specs.History.{Event, World, history, begin, Each}
 use Rattle.correctness.specs.Ledger.{Written, Plain}
 use Rattle.correctness.specs.Truth.{OwnPart, Told}
-use Rattle.correctness.specs.Claim.{Right}
+use Rattle.correctness.specs.Claim.{Opens, Right}
 use Rattle.correctness.proofs.Meanings.{one-number}
 use Rattle.correctness.proofs.Computing.{Computes, plan, sound, drawWith, is-draw, ledger, plain-42, call, load, loadThree, dealOf, room, rooms, refusals, all-join, within, posts-in, each-of}
 use Rattle.correctness.proofs.Example as Example
@@ -35,12 +35,10 @@ opens-80 = refl
 not-plain : (x y : ℕ) → x ≡ y → y ≢ 42 → Plain ledger 4 x → ⊥
 not-plain x y e ne h = ne (sym e ∙ one-number ledger 4 x 42 h plain-42)
 
--- so what is claimed is false where any polynomial counts as its sender's
-any-fails : Right ledger (λ r j xs. Unit {0}) last → ⊥
+-- so what is claimed of an opening is false where any polynomial counts as its sender's
+any-fails : Opens ledger (λ j xs. Unit {0}) last 4 false-record → ⊥
 unfolding Computes plan drawWith Example.drawn Example.draw Example.loads Example.deals Example.sums Example.ends
-any-fails h =
-    not-plain _ 80 opens-80 (omega arith)
-    (h .opens 4 false-record refl (record { long = refl; low = refl }) .exact (lit≤ tt) ((λ ne. tt), ((λ ne. tt), tt)))
+any-fails h = not-plain _ 80 opens-80 (omega arith) (h .exact (lit≤ tt) ((λ ne. tt), ((λ ne. tt), tt)))
 
 -- ---- without truth in an earlier finish
 
@@ -118,9 +116,11 @@ unfolding Computes plan drawWith drawn draw loads deals ends
 opens-24 = refl
 
 -- an opening in which each polynomial accepted was truly sent gives another number
-told-fails : Right ledger (Told (end .lines)) (end .posts 1) → ⊥
+told-fails : Opens ledger (Told (end .lines) 4) (end .posts 1) 4 sent-record → ⊥
 unfolding Computes plan drawWith drawn draw loads deals ends
 told-fails h =
-    not-plain _ 24 opens-24 (omega arith)
-    (h .opens 4 sent-record refl (record { long = refl; low = refl }) .exact (lit≤ tt)
-    ((λ ne. absurd (ne refl)), ((λ ne. inr (inr (inl refl))), tt)))
+    not-plain _ 24 opens-24 (omega arith) (h .exact (lit≤ tt) ((λ ne. absurd (ne refl)), ((λ ne. inr (inr (inl refl))), tt)))
+
+right-fails : (H : (List ℕ → List ℕ) → ℕ → ℕ → List ℕ → Type 0) → Right ledger (Told (end .lines)) H (end .posts 1) → ⊥
+unfolding Computes plan drawWith drawn draw loads deals ends
+right-fails H h = told-fails (h .opens 4 sent-record refl (record { long = refl; low = refl }))

@@ -4,6 +4,7 @@ pub mod Said
 pub mod Fitting
 pub mod Walking
 pub mod Accepting
+pub mod Permitted
 pub mod Openings
 pub mod Theorems
 pub mod Caught

@@ -4,7 +4,8 @@ use Prim.Native.Nat.{ℕ, _+_, _-_, _≤_}
 use mathlib.Core.Path.{_≡_}
 use mathlib.Core.Bool.{true, false}
 use mathlib.Core.Logic.{_≢_, _⊎_}
-use mathlib.Core.List.{List}
+use mathlib.Core.List.{List, _++_}
+use lib.ListN.{take, drop}
 use Rattle.field.specs.Modulus.{p}
 use Rattle.poly.specs.Counting.{All, count}
 use Rattle.session.specs.declared.Session.{Session}
@@ -19,7 +20,7 @@ use Rattle.runs.specs.Draws.{Plan, Draw, IsDraw, Sound}
 use Rattle.runs.specs.Calls.{Post, Proper}
 use Rattle.correctness.specs.History.{Event, World, history, begin, Each}
 use Rattle.correctness.specs.Ledger.{Ledger, Written, Plain}
-use Rattle.correctness.specs.Truth.{OwnPart, Told, Owned, TrueOf, TrueFinish}
+use Rattle.correctness.specs.Truth.{OwnPart, Told, Owned, ToldHalf, TrueOf, TrueFinish}
 
 -- The premises: posts 1 to n; sessions of one draw; the same deals, sums and masks; true polynomials in every post's finishes.
 pub record Premises (plan : Plan) (draw : Draw) (L : Ledger) (es : List Event) (w : World) : Type 0 where
@@ -55,29 +56,53 @@ pub record Finishes (q : Post) (r : ℕ) (blocks blocks' : List ℕ) : Type 0 wh
       × (mark (finishAnswer (q .session) (q .rows) r blocks blocks' .session) (r + 2) ≡ 2)
 
 -- What is so at a post: of every opening of a held row and every finish, with records that 5 and 8 let pass; and a polynomial
--- that is truly its sender's is accepted. P r j xs says that xs is truly j's polynomial of row r.
-pub record Right (L : Ledger) (P : ℕ → ℕ → List ℕ → Type 0) (q : Post) : Type 0 where
+-- that is truly its sender's is accepted. P r j xs says that xs is truly j's polynomial of row r, and H half r j xs that xs is
+-- truly that half of j's masks of the triple at r.
+pub record Right (L : Ledger) (P : ℕ → ℕ → List ℕ → Type 0) (H : (List ℕ → List ℕ) → ℕ → ℕ → List ℕ → Type 0) (q : Post) : Type 0 where
   pub opens : (r : ℕ) (blocks : List ℕ) → mark (q .session) r ≡ 2 → Proper (q .session) blocks → Opens L (P r) q r blocks
+  -- of a held row: the own polynomial always, another's where it is truly its
   pub accepts-true : (r : ℕ) (blocks : List ℕ) (j : ℕ) → mark (q .session) r ≡ 2 → Proper (q .session) blocks
-      → 1 ≤ j → j ≤ q .session .n → j ≢ q .session .post
-      → P r j (sent (q .session) (rowAt (width (q .session)) (q .rows) r) blocks j)
+      → 1 ≤ j → j ≤ q .session .n
+      → (j ≢ q .session .post → P r j (sent (q .session) (rowAt (width (q .session)) (q .rows) r) blocks j))
       → accepts (q .session) (rowAt (width (q .session)) (q .rows) r) blocks j ≡ true
   pub finishes : (r : ℕ) (blocks blocks' : List ℕ) → mark (q .session) r ≡ 5 → Proper (q .session) blocks
       → Proper (q .session) blocks' → Finishes q r blocks blocks'
+  -- of a − l, in a finish's first record: the own polynomial always, another's where it is truly the first half of its masks
+  pub accepts-a : (r : ℕ) (blocks : List ℕ) (j : ℕ) → mark (q .session) r ≡ 5 → Proper (q .session) blocks
+      → 1 ≤ j → j ≤ q .session .n
+      → (j ≢ q .session .post → H (take (q .session .t + 1)) r j (sent (q .session) (maskA (q .session) (q .rows) r) blocks j))
+      → accepts (q .session) (maskA (q .session) (q .rows) r) blocks j ≡ true
+  -- of b − l', in its second record: so with the second half
+  pub accepts-b : (r : ℕ) (blocks : List ℕ) (j : ℕ) → mark (q .session) r ≡ 5 → Proper (q .session) blocks
+      → 1 ≤ j → j ≤ q .session .n
+      → (j ≢ q .session .post → H (drop (q .session .t + 1)) r j (sent (q .session) (maskB (q .session) (q .rows) r) blocks j))
+      → accepts (q .session) (maskB (q .session) (q .rows) r) blocks j ≡ true
 
 -- At every post, after any run: a polynomial is truly its sender's when the sender's own call made it, or when the sender
--- holds it though it was never sent.
+-- holds it though it was never sent. Of masks it is always what the sender's own call made.
 abbrev pub Correct : Type 0
 Correct =
     (plan : Plan) (draw : Draw) (L : Ledger) (rows : ℕ → List ℕ) (es : List Event) → Premises plan draw L es (begin plan draw rows)
     → (i : ℕ) → 1 ≤ i → i ≤ plan .n
-    → Right L (Told (history es (begin plan draw rows) .lines)) (history es (begin plan draw rows) .posts i)
+    → Right L (Told (history es (begin plan draw rows) .lines))
+    (λ half r j xs. ToldHalf (plan .t) half r (history es (begin plan draw rows) .lines) j xs) (history es (begin plan draw rows) .posts i)
 
 abbrev pub CorrectHeld : Type 0
 CorrectHeld =
     (plan : Plan) (draw : Draw) (L : Ledger) (rows : ℕ → List ℕ) (es : List Event) → Premises plan draw L es (begin plan draw rows)
     → (i : ℕ) → 1 ≤ i → i ≤ plan .n
-    → Right L (Owned (history es (begin plan draw rows))) (history es (begin plan draw rows) .posts i)
+    → Right L (Owned (history es (begin plan draw rows)))
+    (λ half r j xs. ToldHalf (plan .t) half r (history es (begin plan draw rows) .lines) j xs) (history es (begin plan draw rows) .posts i)
+
+-- At any time of a longer run, for the sake of "every post's finishes before it": what comes later asks for nothing.
+abbrev pub CorrectEver : Type 0
+CorrectEver =
+    (plan : Plan) (draw : Draw) (L : Ledger) (rows : ℕ → List ℕ) (xs ys : List Event)
+    → Premises plan draw L (xs ++ ys) (begin plan draw rows) → (i : ℕ) → 1 ≤ i → i ≤ plan .n
+    → Right L (Told (history xs (begin plan draw rows) .lines))
+    (λ half r j zs. ToldHalf (plan .t) half r (history xs (begin plan draw rows) .lines) j zs) (history xs (begin plan draw rows) .posts i)
+    × Right L (Owned (history xs (begin plan draw rows)))
+    (λ half r j zs. ToldHalf (plan .t) half r (history xs (begin plan draw rows) .lines) j zs) (history xs (begin plan draw rows) .posts i)
 
 -- "False polynomials pass at no more than t of the p − 1 check points": of the points that the post might have, those at which it
 -- accepts a polynomial that is not j's. The row is the post's part of a vector, and the record one that 5 and 8 let pass.
