@@ -9,8 +9,6 @@ use lib.ListN.{take, drop}
 use lib.Seq.{take-at, drop-at}
 use Rattle.poly.specs.Counting.{All}
 use Rattle.poly.proofs.Lists.{all-zip}
-use Rattle.refusal.specs.Conditions.{postsTests}
-use Rattle.refusal.proofs.Laws.{inside, all-fail}
 use Rattle.decimal.specs.Numeral.{tens}
 use Rattle.session.specs.declared.Session.{Session}
 use Rattle.opening.specs.Walking.{sent, accepts, acceptedPosts}

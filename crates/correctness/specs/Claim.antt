@@ -2,13 +2,14 @@
 -- its sender's, an opening that accepts t+1 or more gives exactly the plain number, and one that accepts fewer is refused with 9".
 use Prim.Native.Nat.{ℕ, _+_, _-_, _≤_}
 use mathlib.Core.Path.{_≡_}
-use mathlib.Core.Bool.{true, false}
+use mathlib.Core.Bool.{true}
 use mathlib.Core.Logic.{_≢_, _⊎_}
-use mathlib.Core.List.{List, _++_}
+use mathlib.Core.List.{List, _∷_, _++_}
 use lib.ListN.{take, drop}
 use Rattle.field.specs.Modulus.{p}
 use Rattle.poly.specs.Counting.{All, count}
 use Rattle.session.specs.declared.Session.{Session}
+use Rattle.session.specs.declared.Answer.{Answer}
 use Rattle.session.specs.Sessions.{mark}
 use Rattle.session.specs.Rows.{width, rowAt}
 use Rattle.opening.specs.Walking.{sent, accepts}
@@ -17,8 +18,8 @@ use Rattle.product.specs.Finish.{maskA, maskB, finishAnswer}
 use Rattle.vectors.specs.Vector.{Vector, numbers}
 use Rattle.vectors.specs.Claims.{heldRow}
 use Rattle.runs.specs.Draws.{Plan, Draw, IsDraw, Sound}
-use Rattle.runs.specs.Calls.{Post, Proper}
-use Rattle.correctness.specs.History.{Event, World, history, begin, Each}
+use Rattle.runs.specs.Calls.{Post, opening, Proper}
+use Rattle.correctness.specs.History.{Event, World, doneBy, history, begin, Each}
 use Rattle.correctness.specs.Ledger.{Ledger, Written, Plain}
 use Rattle.correctness.specs.Truth.{OwnPart, Told, Owned, ToldHalf, TrueOf, TrueFinish}
 
@@ -35,15 +36,15 @@ pub record Premises (plan : Plan) (draw : Draw) (L : Ledger) (es : List Event) (
 abbrev pub accepted : Session → List ℕ → List ℕ → ℕ
 accepted s row blocks = count (accepts s row blocks) 1 (s .n)
 
--- Post q opens the held row r with a record. P j xs says that xs is truly j's polynomial of that row.
-pub record Opens (L : Ledger) (P : ℕ → List ℕ → Type 0) (q : Post) (r : ℕ) (blocks : List ℕ) : Type 0 where
-  pub few : accepted (q .session) (rowAt (width (q .session)) (q .rows) r) blocks ≤ q .session .t
-      → openAnswer (q .session) (q .rows) r blocks .refusal ≡ 9
-  pub enough : q .session .t + 1 ≤ accepted (q .session) (rowAt (width (q .session)) (q .rows) r) blocks
-      → openAnswer (q .session) (q .rows) r blocks .refusal ≡ 0
+-- Post q opens the held row r with a record, and o is the answer. P j xs says that xs is truly j's polynomial of that row.
+pub record Answered (L : Ledger) (P : ℕ → List ℕ → Type 0) (q : Post) (r : ℕ) (blocks : List ℕ) (o : Answer) : Type 0 where
+  pub few : accepted (q .session) (rowAt (width (q .session)) (q .rows) r) blocks ≤ q .session .t → o .refusal ≡ 9
+  pub enough : q .session .t + 1 ≤ accepted (q .session) (rowAt (width (q .session)) (q .rows) r) blocks → o .refusal ≡ 0
   pub exact : q .session .t + 1 ≤ accepted (q .session) (rowAt (width (q .session)) (q .rows) r) blocks
-      → TrueOf P (q .session) (rowAt (width (q .session)) (q .rows) r) blocks
-      → Plain L r (openAnswer (q .session) (q .rows) r blocks .value)
+      → TrueOf P (q .session) (rowAt (width (q .session)) (q .rows) r) blocks → Plain L r (o .value)
+
+abbrev pub Opens : Ledger → (ℕ → List ℕ → Type 0) → Post → ℕ → List ℕ → Type 0
+Opens L P q r blocks = Answered L P q r blocks (openAnswer (q .session) (q .rows) r blocks)
 
 -- Post q finishes the triple at r, whose masks it made: 9, or done and the third row held.
 pub record Finishes (q : Post) (r : ℕ) (blocks blocks' : List ℕ) : Type 0 where
@@ -103,6 +104,18 @@ CorrectEver =
     (λ half r j zs. ToldHalf (plan .t) half r (history xs (begin plan draw rows) .lines) j zs) (history xs (begin plan draw rows) .posts i)
     × Right L (Owned (history xs (begin plan draw rows)))
     (λ half r j zs. ToldHalf (plan .t) half r (history xs (begin plan draw rows) .lines) j zs) (history xs (begin plan draw rows) .posts i)
+
+-- "an opening that accepts t+1 or more gives exactly the plain number, and one that accepts fewer is refused with 9": of the call's
+-- own answer, where it stands in a run, at whatever post and time.
+abbrev pub OpeningsAnswered : Type 0
+OpeningsAnswered =
+    (plan : Plan) (draw : Draw) (L : Ledger) (rows : ℕ → List ℕ) (xs ys : List Event) (i r : ℕ) (blocks : List ℕ)
+    → Premises plan draw L (xs ++ (record { post = i; call = opening r blocks } ∷ ys)) (begin plan draw rows)
+    → 1 ≤ i → i ≤ plan .n
+    → mark (history xs (begin plan draw rows) .posts i .session) r ≡ 2
+    → Proper (history xs (begin plan draw rows) .posts i .session) blocks
+    → Answered L (Told (history xs (begin plan draw rows) .lines) r) (history xs (begin plan draw rows) .posts i) r blocks
+    (doneBy (record { post = i; call = opening r blocks }) (history xs (begin plan draw rows)) .answer)
 
 -- "False polynomials pass at no more than t of the p − 1 check points": of the points that the post might have, those at which it
 -- accepts a polynomial that is not j's. The row is the post's part of a vector, and the record one that 5 and 8 let pass.
