@@ -138,6 +138,10 @@ pub each-join : (P : Event → World → Type 0) (xs ys : List Event) (w : World
 each-join P [] ys w a b = b
 each-join P (x ∷ xs) ys w a b = (a .0, each-join P xs ys (turn x w) (a .1) b)
 
+pub each-map : (P Q : Event → World → Type 0) → ((e : Event) (v : World) → P e v → Q e v) → (es : List Event) (w : World) → Each P es w → Each Q es w
+each-map P Q f [] w a = tt
+each-map P Q f (e ∷ es) w a = ((λ z. f e w (a .0 z)), each-map P Q f es (turn e w) (a .1))
+
 -- posts 1 to n, by a test
 unfoldable pub within : ℕ → List Event → Bool
 within n [] = true

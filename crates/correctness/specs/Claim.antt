@@ -95,7 +95,7 @@ CorrectHeld =
     → Right L (Owned (history es (begin plan draw rows)))
     (λ half r j xs. ToldHalf (plan .t) half r (history es (begin plan draw rows) .lines) j xs) (history es (begin plan draw rows) .posts i)
 
--- At any time of a longer run, for the sake of "every post's finishes before it": what comes later asks for nothing.
+-- "every post's finishes before it": the same at any time of a longer run, by what was told or held up to then.
 abbrev pub CorrectEver : Type 0
 CorrectEver =
     (plan : Plan) (draw : Draw) (L : Ledger) (rows : ℕ → List ℕ) (xs ys : List Event)

@@ -40,7 +40,7 @@ abbrev pub Each : (Event → World → Type 0) → List Event → World → Type
 Each P [] w = Unit {0}
 Each P (e ∷ es) w = (doneBy e w .answer .refusal ≡ 0 → P e w) × Each P es (turn e w)
 
--- "each in its own order": the calls of post i, in order; and a post after calls.
+-- The calls of post i, in its own order; and a post after calls.
 abbrev pub callsOf : ℕ → List Event → List Call
 callsOf i [] = []
 callsOf i (e ∷ es) = cond (eqb i (e .post)) (e .call ∷ callsOf i es) (callsOf i es)
