@@ -10,4 +10,5 @@ pub mod Theorems
 pub mod Caught
 pub mod Computing
 pub mod Example
+pub mod Nested
 pub mod Fooled
