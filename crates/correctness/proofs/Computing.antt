@@ -92,9 +92,9 @@ is-draw x many low = record {
     triples (suc (suc zero)) h = (many, low)
     triples (suc (suc (suc r))) h = rw (none-there 93 r, ne-eqb (suc (suc (suc r))) 2 (omega arith)) (refl, tt)
 
--- row 0 is 6, row 1 is 7, row 4 their product by the triple at 2, row 5 is 6 + 2 · 7
+-- row 0 is 6, row 1 is 7, row 4 their product by the triple at 2, row 5 is 6 + 2 · 7, row 6 is 6 + 2 · (6 · 7)
 unfoldable pub ledger : Ledger
-ledger r = getD (dealt 6 ∷ dealt 7 ∷ nothing ∷ nothing ∷ product 2 0 1 ∷ sum 0 1 2 ∷ []) r nothing
+ledger r = getD (dealt 6 ∷ dealt 7 ∷ nothing ∷ nothing ∷ product 2 0 1 ∷ sum 0 1 2 ∷ sum 0 4 2 ∷ []) r nothing
 
 pub plain-42 : Plain ledger 4 42
 unfolding Computes ledger
@@ -137,6 +137,10 @@ all-join P (x ∷ xs) ys a b = (a .0, all-join P xs ys (a .1) b)
 pub each-join : (P : Event → World → Type 0) (xs ys : List Event) (w : World) → Each P xs w → Each P ys (history xs w) → Each P (xs ++ ys) w
 each-join P [] ys w a b = b
 each-join P (x ∷ xs) ys w a b = (a .0, each-join P xs ys (turn x w) (a .1) b)
+
+pub each-map : (P Q : Event → World → Type 0) → ((e : Event) (v : World) → P e v → Q e v) → (es : List Event) (w : World) → Each P es w → Each Q es w
+each-map P Q f [] w a = tt
+each-map P Q f (e ∷ es) w a = ((λ z. f e w (a .0 z)), each-map P Q f es (turn e w) (a .1))
 
 -- posts 1 to n, by a test
 unfoldable pub within : ℕ → List Event → Bool

@@ -9,8 +9,6 @@ use lib.ListN.{take, drop}
 use lib.Seq.{take-at, drop-at}
 use Rattle.poly.specs.Counting.{All}
 use Rattle.poly.proofs.Lists.{all-zip}
-use Rattle.refusal.specs.Conditions.{postsTests}
-use Rattle.refusal.proofs.Laws.{inside, all-fail}
 use Rattle.decimal.specs.Numeral.{tens}
 use Rattle.session.specs.declared.Session.{Session}
 use Rattle.opening.specs.Walking.{sent, accepts, acceptedPosts}
@@ -64,13 +62,8 @@ module _ (plan : Plan) (draw : Draw) (L : Ledger) (sound : Sound plan) (is : IsD
   -- ---- a finish whose polynomials are truly their senders'
 
   module _ (len i : ℕ) (hi : i ≤ plan .n) (lines : List (List ℕ)) (all : All Line lines) where
-    module _ (M : Marks) (vec : ℕ → Vector) (f : Known plan draw L M vec) (l : List ℕ) (h : Holds plan draw len i M vec l) (r : ℕ) (blocks blocks' : List ℕ) (z : refusalOf (finish r blocks blocks') (postAt plan draw i M l) ≡ 0) where
-      abbrev s : Session
-      s = sessionAt plan draw i M
-
-      ok : Multiplying 5 M (leftOf M r) (rightOf M r) r
-      ok = allowed plan draw i M l (finish r blocks blocks') z
-
+    -- of a triple whose masks were made, a half of j's is its polynomial of a − l, or of b − l'
+    module _ (M : Marks) (vec : ℕ → Vector) (f : Known plan draw L M vec) (r : ℕ) (ok : Multiplying 5 M (leftOf M r) (rightOf M r) r) where
       low : r < 96
       low = omega (arith, ok .r-low)
 
@@ -87,19 +80,35 @@ module _ (plan : Plan) (draw : Draw) (L : Ledger) (sound : Sound plan) (is : IsD
           (f r low .waiting (ok .first) .means) (vec (leftOf M r)) (vec (rightOf M r))
           (f (leftOf M r) (ok .a-low) .held (ok .a-held)) (f (rightOf M r) (ok .b-low) .held (ok .b-held)))
 
+      pub told-a : (j : ℕ) → 1 ≤ j → j ≤ plan .n → (xs : List ℕ) → ToldHalf (plan .t) (take (plan .t + 1)) r lines j xs
+          → xs ≡ numbers (plan .t + 1) (maskA M vec r .v j)
+      told-a j lj hj xs o =
+          both-are j lj hj (take (plan .t + 1)) xs o ∙ take-at (numbers (plan .t + 1) (less (vec (leftOf M r)) (vectorA plan draw r) .v j)) _ (plan .t + 1) (length-numbers (plan .t + 1) _)
+          ∙ ap (λ (X : Vector). numbers (plan .t + 1) (less (vec (leftOf M r)) X .v j)) (sym (t .is-a))
+
+      pub told-b : (j : ℕ) → 1 ≤ j → j ≤ plan .n → (xs : List ℕ) → ToldHalf (plan .t) (drop (plan .t + 1)) r lines j xs
+          → xs ≡ numbers (plan .t + 1) (maskB M vec r .v j)
+      told-b j lj hj xs o =
+          both-are j lj hj (drop (plan .t + 1)) xs o ∙ drop-at (numbers (plan .t + 1) (less (vec (leftOf M r)) (vectorA plan draw r) .v j)) _ (plan .t + 1) (length-numbers (plan .t + 1) _)
+          ∙ ap (λ (X : Vector). numbers (plan .t + 1) (less (vec (rightOf M r)) X .v j)) (sym (t .is-b))
+
+    -- a finish that is not refused
+    module _ (M : Marks) (vec : ℕ → Vector) (f : Known plan draw L M vec) (l : List ℕ) (h : Holds plan draw len i M vec l) (r : ℕ) (blocks blocks' : List ℕ) (z : refusalOf (finish r blocks blocks') (postAt plan draw i M l) ≡ 0) where
+      abbrev s : Session
+      s = sessionAt plan draw i M
+
+      ok : Multiplying 5 M (leftOf M r) (rightOf M r) r
+      ok = allowed plan draw i M l (finish r blocks blocks') z
+
       true-a : TrueOf (ToldHalf (plan .t) (take (plan .t + 1)) r lines) s (Finish.maskA s l r) blocks → AllTrue s (maskA M vec r) blocks
       true-a =
           all-true-of s (maskA M vec r) blocks (ToldHalf (plan .t) (take (plan .t + 1)) r lines) (Finish.maskA s l r) (opens-a plan draw len i M vec l h r blocks blocks' z)
-          (λ j lj hj ne o.
-          both-are j lj hj (take (plan .t + 1)) _ o ∙ take-at (numbers (plan .t + 1) (less (vec (leftOf M r)) (vectorA plan draw r) .v j)) _ (plan .t + 1) (length-numbers (plan .t + 1) _)
-          ∙ ap (λ (X : Vector). numbers (plan .t + 1) (less (vec (leftOf M r)) X .v j)) (sym (t .is-a)))
+          (λ j lj hj ne o. told-a M vec f r ok j lj hj _ o)
 
       true-b : TrueOf (ToldHalf (plan .t) (drop (plan .t + 1)) r lines) s (Finish.maskB s l r) blocks' → AllTrue s (maskB M vec r) blocks'
       true-b =
           all-true-of s (maskB M vec r) blocks' (ToldHalf (plan .t) (drop (plan .t + 1)) r lines) (Finish.maskB s l r) (opens-b plan draw len i M vec l h r blocks blocks' z)
-          (λ j lj hj ne o.
-          both-are j lj hj (drop (plan .t + 1)) _ o ∙ drop-at (numbers (plan .t + 1) (less (vec (leftOf M r)) (vectorA plan draw r) .v j)) _ (plan .t + 1) (length-numbers (plan .t + 1) _)
-          ∙ ap (λ (X : Vector). numbers (plan .t + 1) (less (vec (rightOf M r)) X .v j)) (sym (t .is-b)))
+          (λ j lj hj ne o. told-b M vec f r ok j lj hj _ o)
 
     pub fits : (q : Post) (g : Good plan draw L len i q) (c : Call) → refusalOf c q ≡ 0 → OwnPart plan draw i c → TrueFinish q lines c
         → Fits plan draw i (g .marks) (g .vec) c

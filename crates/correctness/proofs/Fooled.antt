@@ -1,23 +1,25 @@
--- Why truth is asked for, of this opening and of every earlier finish: two runs in which one of the two is missing, and an
--- opening gives another number than the plain one.
+-- Why truth is asked for, of this opening and of every post's earlier finishes: three runs in which it is missing, in the
+-- opening, in the opener's own finish, and in another post's finish. An opening then gives another number than the plain one.
 use Prim.Native.Nat.{ℕ, _≤_}
 use mathlib.Core.Path.{_≡_, refl, sym, _∙_}
 use mathlib.Core.Logic.{_≢_, inl, inr}
 use mathlib.Core.List.{List, [], _∷_, _++_}
 use native.Mathlib.Omega.{arith}
-use lib.Dec.{lit<, lit≤}
+use lib.Dec.{T, lit<, lit≤}
 use lib.ListN.{replicate}
 use Rattle.poly.specs.Counting.{All}
+use Rattle.opening.specs.Walking.{opened}
 use Rattle.opening.specs.Opening.{openAnswer}
+use Rattle.product.specs.Finish.{maskA}
 use Rattle.runs.specs.Draws.{Draw, IsDraw, Sound}
 use Rattle.runs.specs.Calls.{message, masks, finish}
 use Rattle.runs.proofs.Lines.{elements-of}
 use Rattle.correctness.specs.History.{Event, World, history, begin, Each}
 use Rattle.correctness.specs.Ledger.{Written, Plain}
-use Rattle.correctness.specs.Truth.{OwnPart, Told}
-use Rattle.correctness.specs.Claim.{Right}
+use Rattle.correctness.specs.Truth.{OwnPart, Told, TrueFinish}
+use Rattle.correctness.specs.Claim.{Opens, Right}
 use Rattle.correctness.proofs.Meanings.{one-number}
-use Rattle.correctness.proofs.Computing.{Computes, plan, sound, drawWith, is-draw, ledger, plain-42, call, load, loadThree, dealOf, room, rooms, refusals, all-join, within, posts-in, each-of}
+use Rattle.correctness.proofs.Computing.{Computes, plan, sound, drawWith, is-draw, ledger, plain-42, call, load, loadThree, dealOf, room, rooms, refusals, all-join, each-join, within, posts-in, each-of, each-map, each-quiet}
 use Rattle.correctness.proofs.Example as Example
 use Rattle.correctness.proofs.Example.{last}
 
@@ -35,14 +37,12 @@ opens-80 = refl
 not-plain : (x y : ℕ) → x ≡ y → y ≢ 42 → Plain ledger 4 x → ⊥
 not-plain x y e ne h = ne (sym e ∙ one-number ledger 4 x 42 h plain-42)
 
--- so what is claimed is false where any polynomial counts as its sender's
-any-fails : Right ledger (λ r j xs. Unit {0}) last → ⊥
+-- so what is claimed of an opening is false where any polynomial counts as its sender's
+any-fails : Opens ledger (λ j xs. Unit {0}) last 4 false-record → ⊥
 unfolding Computes plan drawWith Example.drawn Example.draw Example.loads Example.deals Example.sums Example.ends
-any-fails h =
-    not-plain _ 80 opens-80 (omega arith)
-    (h .opens 4 false-record refl (record { long = refl; low = refl }) .exact (lit≤ tt) ((λ ne. tt), ((λ ne. tt), tt)))
+any-fails h = not-plain _ 80 opens-80 (omega arith) (h .exact (lit≤ tt) ((λ ne. tt), ((λ ne. tt), tt)))
 
--- ---- without truth in an earlier finish
+-- ---- two runs, alike up to the masks
 
 -- l' of another triple has p − 2 + z for post 2, which vanishes at post 1's check point
 unfoldable drawn : List ℕ
@@ -55,56 +55,96 @@ unfoldable loads : List Event
 loads = load draw 1 0 ∷ load draw 1 1 ∷ loadThree draw 1 ∷ load draw 2 0 ∷ load draw 2 1 ∷ loadThree draw 2 ∷ []
 
 unfoldable deals : List Event
-deals = dealOf draw 1 0 6 ∷ dealOf draw 1 1 7 ∷ dealOf draw 2 0 6 ∷ dealOf draw 2 1 7 ∷ []
+deals =
+    dealOf draw 1 0 6 ∷ dealOf draw 1 1 7 ∷ dealOf draw 2 0 6 ∷ dealOf draw 2 1 7
+    ∷ call 1 (masks 0 1 2 rooms) ∷ call 2 (masks 0 1 2 rooms) ∷ []
+
+abbrev before : List Event
+before = loads ++ deals
+
+abbrev new : World
+new = begin plan draw (λ i. replicate 768 0)
+
+abbrev Own : Event → Type 0
+Own e = OwnPart plan draw (e .post) (e .call)
+
+abbrev Wrote : Event → Type 0
+Wrote e = Written draw ledger (e .call)
+
+own-parts : (ends : List Event) → All Own ends → All Own (before ++ ends)
+unfolding plan loads deals
+own-parts ends a =
+    all-join Own before ends
+    (all-join Own loads deals ((tt, refl), ((tt, refl), ((refl, refl), ((tt, refl), ((tt, refl), ((refl, refl), tt)))))) (tt, (tt, (tt, (tt, (tt, (tt, tt)))))))
+    a
+
+all-written : (ends : List Event) → All Wrote ends → All Wrote (before ++ ends)
+unfolding loads deals ledger
+all-written ends a =
+    all-join Wrote before ends
+    (all-join Wrote loads deals (tt, (tt, (tt, (tt, (tt, (tt, tt))))))
+    ((6, lit< tt, refl, refl), ((7, lit< tt, refl, refl), ((6, lit< tt, refl, refl), ((7, lit< tt, refl, refl), (refl, (refl, tt)))))))
+    a
+
+-- every premise but the truth of finishes; and that of all posts' but one's
+abbrev ButTruth : List Event → Type 0
+ButTruth es =
+    Sound plan × IsDraw plan draw × All (λ e. (1 ≤ e .post) × (e .post ≤ plan .n)) es
+    × Each (λ e v. OwnPart plan draw (e .post) (e .call)) es new × Each (λ e v. Written draw ledger (e .call)) es new
+
+abbrev TrueBut : ℕ → Event → World → Type 0
+TrueBut i e v = e .post ≢ i → TrueFinish (v .posts (e .post)) (v .lines) (e .call)
+
+but-truth : (ends : List Event) → T (within 3 (before ++ ends)) → All Own ends → All Wrote ends → ButTruth (before ++ ends)
+unfolding Computes plan drawn draw
+but-truth ends t a b = (
+  sound,
+  is-draw drawn refl (elements-of drawn refl),
+  posts-in 3 (before ++ ends) t,
+  each-of Own (before ++ ends) new (own-parts ends a),
+  each-of Wrote (before ++ ends) new (all-written ends b),
+)
+
+true-but : (i : ℕ) (ends : List Event) → Each (TrueBut i) ends (history before new) → Each (TrueBut i) (before ++ ends) new
+unfolding loads deals
+true-but i ends a =
+    each-join (TrueBut i) before ends new (each-map (λ e v. TrueFinish (v .posts (e .post)) (v .lines) (e .call)) (TrueBut i) (λ e v h ne. h) before new (each-quiet before new tt)) a
+
+-- what posts 1 and 2 sent of masks
+m1 : List ℕ
+m1 = 2147483643 ∷ 1 ∷ 1 ∷ 0 ∷ []
+
+m2 : List ℕ
+m2 = 0 ∷ 2147483646 ∷ 3 ∷ 0 ∷ []
+
+-- ---- without truth in the opener's finish
 
 -- of a − l post 1 takes the false p − 2 + 0z for post 2's; all else that the two accept is true
 unfoldable ends : List Event
 ends =
-    call 1 (masks 0 1 2 rooms) ∷ call 2 (masks 0 1 2 rooms)
-    ∷ call 1 (finish 2 (0 ∷ 0 ∷ 0 ∷ 1 ∷ 2147483645 ∷ 0 ∷ 0 ∷ 0 ∷ 0 ∷ []) (0 ∷ 0 ∷ 0 ∷ 1 ∷ 3 ∷ 0 ∷ 0 ∷ 0 ∷ 0 ∷ []))
+    call 1 (finish 2 (0 ∷ 0 ∷ 0 ∷ 1 ∷ 2147483645 ∷ 0 ∷ 0 ∷ 0 ∷ 0 ∷ []) (0 ∷ 0 ∷ 0 ∷ 1 ∷ 3 ∷ 0 ∷ 0 ∷ 0 ∷ 0 ∷ []))
     ∷ call 2 (finish 2 (1 ∷ 2147483643 ∷ 1 ∷ 0 ∷ 0 ∷ 0 ∷ 0 ∷ 0 ∷ 0 ∷ []) (1 ∷ 1 ∷ 0 ∷ 0 ∷ 0 ∷ 0 ∷ 0 ∷ 0 ∷ 0 ∷ []))
     ∷ call 2 (message 4 room) ∷ []
 
 abbrev events : List Event
-events = loads ++ (deals ++ ends)
-
-abbrev new : World
-new = begin plan draw (λ i. replicate 768 0)
+events = before ++ ends
 
 answered : refusals events new ≡ 0 ∷ 0 ∷ 0 ∷ 0 ∷ 0 ∷ 0 ∷ 0 ∷ 0 ∷ 0 ∷ 0 ∷ 0 ∷ 0 ∷ 0 ∷ 0 ∷ 0 ∷ []
 unfolding Computes plan drawWith drawn draw loads deals ends refusals
 answered = refl
 
-module _ (P : Event → Type 0) where
-  together : All P loads → All P deals → All P ends → All P events
-  together a b c = all-join P loads (deals ++ ends) a (all-join P deals ends b c)
-
-own-parts : All (λ e. OwnPart plan draw (e .post) (e .call)) events
-unfolding plan loads deals ends
-own-parts =
-    together (λ e. OwnPart plan draw (e .post) (e .call))
-    ((tt, refl), ((tt, refl), ((refl, refl), ((tt, refl), ((tt, refl), ((refl, refl), tt))))))
-    (tt, (tt, (tt, (tt, tt))))
-    (tt, (tt, (tt, (tt, (tt, tt)))))
-
-all-written : All (λ e. Written draw ledger (e .call)) events
-unfolding loads deals ends ledger
-all-written =
-    together (λ e. Written draw ledger (e .call))
-    (tt, (tt, (tt, (tt, (tt, (tt, tt))))))
-    ((6, lit< tt, refl, refl), ((7, lit< tt, refl, refl), ((6, lit< tt, refl, refl), ((7, lit< tt, refl, refl), tt))))
-    (refl, (refl, (tt, (tt, (tt, tt)))))
-
--- every premise holds but the truth of finishes
-but-truth : Sound plan × IsDraw plan draw × All (λ e. (1 ≤ e .post) × (e .post ≤ plan .n)) events
-    × Each (λ e v. OwnPart plan draw (e .post) (e .call)) events new × Each (λ e v. Written draw ledger (e .call)) events new
-unfolding Computes plan drawn draw loads deals ends within
-but-truth = (
-  sound,
-  is-draw drawn refl (elements-of drawn refl),
-  posts-in 3 events tt,
-  each-of (λ e. OwnPart plan draw (e .post) (e .call)) events new own-parts,
-  each-of (λ e. Written draw ledger (e .call)) events new all-written,
+-- every premise holds but the truth of post 1's finish
+all-but-one : ButTruth events × Each (TrueBut 1) events new
+unfolding Computes plan drawWith drawn draw loads deals ends within m1
+all-but-one = (
+  but-truth ends tt (tt, (tt, (tt, tt))) (tt, (tt, (tt, tt))),
+  true-but 1 ends (
+    (λ z ne. absurd (ne refl)),
+    (
+      (λ z ne. (((λ o. (m1, refl, elements-of m1 refl, inl refl, refl)), ((λ o. absurd (o refl)), tt)), ((λ o. (m1, refl, elements-of m1 refl, inl refl, refl)), ((λ o. absurd (o refl)), tt)))),
+      ((λ z ne. tt), tt),
+    ),
+  ),
 )
 
 abbrev end : World
@@ -118,9 +158,68 @@ unfolding Computes plan drawWith drawn draw loads deals ends
 opens-24 = refl
 
 -- an opening in which each polynomial accepted was truly sent gives another number
-told-fails : Right ledger (Told (end .lines)) (end .posts 1) → ⊥
+told-fails : Opens ledger (Told (end .lines) 4) (end .posts 1) 4 sent-record → ⊥
 unfolding Computes plan drawWith drawn draw loads deals ends
 told-fails h =
-    not-plain _ 24 opens-24 (omega arith)
-    (h .opens 4 sent-record refl (record { long = refl; low = refl }) .exact (lit≤ tt)
-    ((λ ne. absurd (ne refl)), ((λ ne. inr (inr (inl refl))), tt)))
+    not-plain _ 24 opens-24 (omega arith) (h .exact (lit≤ tt) ((λ ne. absurd (ne refl)), ((λ ne. inr (inr (inl refl))), tt)))
+
+right-fails : (H : (List ℕ → List ℕ) → ℕ → ℕ → List ℕ → Type 0) → Right ledger (Told (end .lines)) H (end .posts 1) → ⊥
+unfolding Computes plan drawWith drawn draw loads deals ends
+right-fails H h = told-fails (h .opens 4 sent-record refl (record { long = refl; low = refl }))
+
+-- ---- without truth in another post's finish
+
+-- Post 1 finishes truly, with y = 4 and y' = 2. Post 2 takes the false p − 1 + 0z for post 1's −4 + z of a − l, which has its value at
+-- post 2's check point 3, finishes with y = p − 2, and sends in good faith what it then holds of row 4.
+unfoldable ends' : List Event
+ends' =
+    call 1 (finish 2 (0 ∷ 0 ∷ 0 ∷ 1 ∷ 0 ∷ 2147483646 ∷ 0 ∷ 0 ∷ 0 ∷ []) (0 ∷ 0 ∷ 0 ∷ 1 ∷ 3 ∷ 0 ∷ 0 ∷ 0 ∷ 0 ∷ []))
+    ∷ call 2 (finish 2 (1 ∷ 2147483646 ∷ 0 ∷ 0 ∷ 0 ∷ 0 ∷ 0 ∷ 0 ∷ 0 ∷ []) (1 ∷ 1 ∷ 0 ∷ 0 ∷ 0 ∷ 0 ∷ 0 ∷ 0 ∷ 0 ∷ []))
+    ∷ call 2 (message 4 room) ∷ []
+
+abbrev events' : List Event
+events' = before ++ ends'
+
+answered' : refusals events' new ≡ 0 ∷ 0 ∷ 0 ∷ 0 ∷ 0 ∷ 0 ∷ 0 ∷ 0 ∷ 0 ∷ 0 ∷ 0 ∷ 0 ∷ 0 ∷ 0 ∷ 0 ∷ []
+unfolding Computes plan drawWith drawn draw loads deals ends' refusals
+answered' = refl
+
+-- the numbers that the two finishes open of a − l
+opens-4 : (let q = history before new .posts 1 in opened (q .session) (maskA (q .session) (q .rows) 2) (0 ∷ 0 ∷ 0 ∷ 1 ∷ 0 ∷ 2147483646 ∷ 0 ∷ 0 ∷ 0 ∷ [])) ≡ 4
+unfolding Computes plan drawWith drawn draw loads deals
+opens-4 = refl
+
+opens-less-2 : (let q = history before new .posts 2 in opened (q .session) (maskA (q .session) (q .rows) 2) (1 ∷ 2147483646 ∷ 0 ∷ 0 ∷ 0 ∷ 0 ∷ 0 ∷ 0 ∷ 0 ∷ [])) ≡ 2147483645
+unfolding Computes plan drawWith drawn draw loads deals
+opens-less-2 = refl
+
+-- every premise holds but the truth of post 2's finish
+all-but-two : ButTruth events' × Each (TrueBut 2) events' new
+unfolding Computes plan drawWith drawn draw loads deals ends' within m2
+all-but-two = (
+  but-truth ends' tt (tt, (tt, (tt, tt))) (tt, (tt, (tt, tt))),
+  true-but 2 ends' (
+    (λ z ne. (((λ o. absurd (o refl)), ((λ o. (m2, refl, elements-of m2 refl, inr (inl refl), refl)), tt)), ((λ o. absurd (o refl)), ((λ o. (m2, refl, elements-of m2 refl, inr (inl refl), refl)), tt)))),
+    ((λ z ne. absurd (ne refl)), ((λ z ne. absurd (ne refl)), tt)),
+  ),
+)
+
+abbrev end' : World
+end' = history events' new
+
+abbrev faithful-record : List ℕ
+faithful-record = 0 ∷ 0 ∷ 0 ∷ 1 ∷ 18 ∷ 5 ∷ 0 ∷ 0 ∷ 0 ∷ []
+
+opens-54 : openAnswer (end' .posts 1 .session) (end' .posts 1 .rows) 4 faithful-record .value ≡ 54
+unfolding Computes plan drawWith drawn draw loads deals ends'
+opens-54 = refl
+
+-- post 1, never fooled, accepts what post 2 truly sent, and opens another number
+told-fails' : Opens ledger (Told (end' .lines) 4) (end' .posts 1) 4 faithful-record → ⊥
+unfolding Computes plan drawWith drawn draw loads deals ends'
+told-fails' h =
+    not-plain _ 54 opens-54 (omega arith) (h .exact (lit≤ tt) ((λ ne. absurd (ne refl)), ((λ ne. inr (inr (inl refl))), tt)))
+
+right-fails' : (H : (List ℕ → List ℕ) → ℕ → ℕ → List ℕ → Type 0) → Right ledger (Told (end' .lines)) H (end' .posts 1) → ⊥
+unfolding Computes plan drawWith drawn draw loads deals ends'
+right-fails' H h = told-fails' (h .opens 4 faithful-record refl (record { long = refl; low = refl }))

@@ -4,9 +4,11 @@ pub mod Said
 pub mod Fitting
 pub mod Walking
 pub mod Accepting
+pub mod Permitted
 pub mod Openings
 pub mod Theorems
 pub mod Caught
 pub mod Computing
 pub mod Example
+pub mod Nested
 pub mod Fooled

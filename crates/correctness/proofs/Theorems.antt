@@ -15,14 +15,14 @@ use Rattle.session.specs.Sessions.{mark}
 use Rattle.session.specs.Rows.{width, coefficients, rowAt}
 use Rattle.vectors.specs.Vector.{Vector, numbers}
 use Rattle.runs.specs.Draws.{Plan, Draw, pointOf}
-use Rattle.runs.specs.Calls.{Post, Call, perform, after, openingLine, Among, at}
+use Rattle.runs.specs.Calls.{Post, opening, perform, after, openingLine, Among, at}
 use Rattle.runs.proofs.Marks.{at-same, at-other}
 use Rattle.runs.proofs.Steps.{own-numbers, named}
 use Rattle.runs.proofs.Rows.{marked-low}
-use Rattle.correctness.specs.History.{Event, World, doneBy, turn, history, begin, Each}
+use Rattle.correctness.specs.History.{Event, World, doneBy, turn, history, begin, Each, callsOf, afterCalls, OwnList}
 use Rattle.correctness.specs.Ledger.{Ledger}
-use Rattle.correctness.specs.Truth.{Told, Owned}
-use Rattle.correctness.specs.Claim.{Premises, Right, Correct, CorrectHeld}
+use Rattle.correctness.specs.Truth.{Told, Owned, ToldHalf}
+use Rattle.correctness.specs.Claim.{Premises, Right, Correct, CorrectHeld, CorrectEver, OpeningsAnswered}
 use Rattle.correctness.proofs.Meanings.{Is, one}
 use Rattle.correctness.proofs.Standing.{Good}
 use Rattle.correctness.proofs.Said.{told, never-bare}
@@ -44,11 +44,12 @@ module _ (plan : Plan) (draw : Draw) (L : Ledger) (rows : ℕ → List ℕ) (es 
       (beginning plan draw L (h .sound) (h .is-draw) rows) (h .posts) (h .parts) (h .ledger) (h .finishes)
 
   -- at every post, with any truth that gives the ledger's vector
-  everywhere : (P : ℕ → ℕ → List ℕ → Type 0) → Reliable plan draw L P → (i : ℕ) → 1 ≤ i → i ≤ plan .n → Right L P (end .posts i)
+  everywhere : (P : ℕ → ℕ → List ℕ → Type 0) → Reliable plan draw L P → (i : ℕ) → 1 ≤ i → i ≤ plan .n
+      → Right L P (λ half r j xs. ToldHalf (plan .t) half r (end .lines) j xs) (end .posts i)
   everywhere P truth i lo hi =
       let g = stands .posts i lo hi in
-      subst (Right L P) (sym (named plan draw (lens i) i (g .marks) (g .vec) (end .posts i) (g .stands)))
-      (right plan draw L (h .sound) (h .is-draw) (lens i) i lo hi (g .marks) (g .vec) (end .posts i .rows) (g .sized) (g .stands .holds) (g .facts) (g .full) P truth)
+      subst (Right L P (λ half r j xs. ToldHalf (plan .t) half r (end .lines) j xs)) (sym (named plan draw (lens i) i (g .marks) (g .vec) (end .posts i) (g .stands)))
+      (right plan draw L (h .sound) (h .is-draw) (lens i) i lo hi (g .marks) (g .vec) (end .posts i .rows) (g .sized) (g .stands .holds) (g .facts) (g .full) P truth (end .lines) (stands .lines))
 
   -- what was told
   telling : Reliable plan draw L (Told (end .lines))
@@ -104,26 +105,20 @@ premises-before plan draw L xs ys w h = record {
   finishes = sooner _ xs ys w (h .finishes);
 }
 
-pub correct-ever : (plan : Plan) (draw : Draw) (L : Ledger) (rows : ℕ → List ℕ) (xs ys : List Event)
-    → Premises plan draw L (xs ++ ys) (begin plan draw rows) → (i : ℕ) → 1 ≤ i → i ≤ plan .n
-    → Right L (Told (history xs (begin plan draw rows) .lines)) (history xs (begin plan draw rows) .posts i)
-    × Right L (Owned (history xs (begin plan draw rows))) (history xs (begin plan draw rows) .posts i)
+pub correct-ever : CorrectEver
 correct-ever plan draw L rows xs ys h i lo hi =
     let g = premises-before plan draw L xs ys (begin plan draw rows) h in
     (correct plan draw L rows xs g i lo hi, correct-held plan draw L rows xs g i lo hi)
 
+-- an opening's own answer
+pub openings-answered : OpeningsAnswered
+unfolding perform
+openings-answered plan draw L rows xs ys i r blocks h lo hi held proper =
+    correct-ever plan draw L rows xs (record { post = i; call = opening r blocks } ∷ ys) h i lo hi .0 .opens r blocks held proper
+
 -- ---- a post is where its own calls bring it: the order between posts counts for the lines alone
 
--- the calls of post i, in order; and a post after calls
-abbrev pub callsOf : ℕ → List Event → List Call
-callsOf i [] = []
-callsOf i (e ∷ es) = cond (eqb i (e .post)) (e .call ∷ callsOf i es) (callsOf i es)
-
-abbrev pub afterCalls : List Call → Post → Post
-afterCalls [] q = q
-afterCalls (c ∷ cs) q = afterCalls cs (after (perform c q))
-
-pub own-list : (i : ℕ) (es : List Event) (w : World) → history es w .posts i ≡ afterCalls (callsOf i es) (w .posts i)
+pub own-list : OwnList
 own-list i [] w = refl
 own-list i (e ∷ es) w = own-list i es (turn e w) ∙ go (ℕ-discrete i (e .post))
   where

@@ -12,3 +12,4 @@ pub mod Start
 pub mod Rows
 pub mod Kept
 pub mod Allowed
+pub mod Delivered

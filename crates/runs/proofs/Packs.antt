@@ -41,7 +41,7 @@ module _ (plan : Plan) (draw : Draw) (is : IsDraw plan draw) where
       go none x = absurd x
       go (by m) x = refl
 
-  triple-drawn : (r : ℕ) → r < 96 → plan .triple r ≡ true → Drawn (3 * rowLength plan - 1) (tripleDraw draw r)
+  pub triple-drawn : (r : ℕ) → r < 96 → plan .triple r ≡ true → Drawn (3 * rowLength plan - 1) (tripleDraw draw r)
   unfolding tripleDraw
   triple-drawn r lr d =
       let e = is .triples .each r lr in
