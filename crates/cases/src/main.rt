@@ -1,0 +1,91 @@
+// Document 01, "Reckoned by hand": the cases that are not in the proved table, run by the library's calls. Each prints what
+// it is, the refusal and the value.
+ghost use mathlib.Core.Path.{_≡_};
+ghost use Prim.Native.Nat.{_≤_};
+ghost use lib.ListN.{length};
+use libc::STDOUT_FILENO;
+use session::Session;
+
+// A comma and the refusal, a comma and the value, a line feed; how many bytes they take.
+fn lay(out: &mut [u8], refusal: u8, value: u32) -> usize
+    requires { ⌜ length (now out) ≡ 32 ⌝ }
+    ensures { λ r. ⌜ r ≤ 32 ⌝ }
+{
+    let numbers = [refusal as u32, value];
+    let end = fields::put_fields(out, 0, &numbers);
+    out[end] = 10;
+    end + 1
+}
+
+fn show(case: &[u8], refusal: u8, value: u32) {
+    let mut out = [0u8; 32];
+    let end = lay(&mut out, refusal, value);
+    io::write_all(STDOUT_FILENO, case);
+    io::write_all(STDOUT_FILENO, &out[..end]);
+}
+
+// A line read for three posts, t = 1: its first number.
+fn read_line(case: &[u8], line: &[u8]) {
+    let mut numbers = [0u32; 4];
+    let read = lines::read(3, 1, line, &mut numbers);
+    show(case, read.refusal, numbers[0]);
+}
+
+// A new session for n posts and this t.
+fn begin(case: &[u8], n: usize, t: usize) {
+    let answer = Session::new(n, t, 1, 2);
+    show(case, answer.refusal, answer.value);
+}
+
+// Post 1's row loaded into this row of a new session.
+fn load_into(case: &[u8], row: usize) {
+    let mut rows = [0u32; 768];
+    let session = Session::new(3, 1, 1, 2).session;
+    let answer = sharing::load::load_row(session, &mut rows, row, &[1, 2, 5, 5, 17, 12, 18, 24]);
+    show(case, answer.refusal, answer.value);
+}
+
+// A post of three that holds a = 100 in row 0 and a + (p − 1) a in row 1.
+fn prepared(post: usize, point: u32, rows: &mut [u32], pack: &[u32]) -> Session {
+    let session = Session::new(3, 1, post, point).session;
+    let loaded = sharing::load::load_row(session, rows, 0, pack).session;
+    let dealt = sharing::deal::deal(loaded, rows, 0, 93).session;
+    sharing::linear::linear(dealt, rows, 1, 0, 0, 2147483646).session
+}
+
+// Post 1 opens this row with post 2's message.
+fn open_with_two(case: &[u8], row: usize) {
+    let mut rows = [0u32; 768];
+    let mut other = [0u32; 768];
+    let mut sent = [0u32; 2];
+    let first = prepared(1, 2, &mut rows, &[1, 2, 5, 5, 17, 12, 18, 24]);
+    let second = prepared(2, 3, &mut other, &[3, 1, 7, 6, 23, 12, 18, 24]);
+    sharing::message::opening_message(second, &other, row, &mut sent);
+    let blocks = [0, 0, 0, 1, sent[0], sent[1], 0, 0, 0];
+    let answer = opening::open(first, &rows, row, &blocks);
+    show(case, answer.refusal, answer.value);
+}
+
+// Post 1 opens row 0 with an empty record.
+fn open_alone(case: &[u8]) {
+    let mut rows = [0u32; 768];
+    let session = prepared(1, 2, &mut rows, &[1, 2, 5, 5, 17, 12, 18, 24]);
+    let answer = opening::open(session, &rows, 0, &[0; 9]);
+    show(case, answer.refusal, answer.value);
+}
+
+fn main() {
+    io::write_all(STDOUT_FILENO, b"case,refusal,value\n");
+    read_line(b"D with 2147483646", b"D,0,2147483646\n");
+    read_line(b"D with 2147483647", b"D,0,2147483647\n");
+    begin(b"n = 32", 32, 1);
+    begin(b"n = 33", 33, 1);
+    begin(b"t = n - 1", 3, 2);
+    begin(b"t = 0", 3, 0);
+    begin(b"t = n", 3, 3);
+    open_with_two(b"a", 0);
+    open_with_two(b"a + (p - 1) a", 1);
+    load_into(b"row 95", 95);
+    load_into(b"row 96", 96);
+    open_alone(b"record empty with t = 1");
+}
