@@ -4,3 +4,4 @@ pub mod Numerals
 pub mod Positions
 pub mod Scanning
 pub mod Spelling
+pub mod Handing

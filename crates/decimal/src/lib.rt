@@ -101,10 +101,16 @@ pub struct Reader<'a> {
     pub at: usize,
 }
 
-// The number where a reader stands. The reader only holds what `field_at` works on; whoever calls this one never sees it.
+// The number where a reader stands.
+pub fn next_field(reader: Reader) -> Field
+    ensures { λ r. ⌜ r ≡ fieldAt (now (reader .entry .line)) (reader .entry .at) ⌝ }
+{
+    field_at(reader.line, reader.at)
+}
+
+// The same for whoever has a line and a position, and never sees a reader.
 pub fn read_field(line: &[u8], at: usize) -> Field
     ensures { λ r. ⌜ r ≡ fieldAt (now (line .entry)) at ⌝ }
 {
-    let reader = Reader { line, at };
-    field_at(reader.line, reader.at)
+    next_field(Reader { line, at })
 }
