@@ -19,13 +19,15 @@ use Rattle.secrecy.specs.Steps.{Secrets, Step, callAt, heardFrom}
 use Rattle.secrecy.specs.Seen.{linesOf}
 use Rattle.secrecy.specs.Rules.{Rule}
 use Rattle.secrecy.specs.Book.{Book, entered}
-use Rattle.secrecy.proofs.State.{Setting, Past, Held, Waits, AnOpening, AMask, maskNumbers, State, fits, meant, place-stays, notes-stay}
+use Rattle.secrecy.proofs.State.{Run, Moment, Past, Held, Waits, AnOpening, AMask, maskNumbers, State, fits, meant, place-stays, notes-stay}
 use Rattle.runs.proofs.Start.{sizes}
 use Rattle.secrecy.proofs.Broadcasts as Broadcasts
 use Rattle.secrecy.proofs.Broadcasts.{among-append, among-posts, among-heard}
 
-module _ (plan : Plan) (draw : Draw) (u : Secrets) (ok : Setting plan draw u) (len : ℕ → ℕ) (M : Marks) (vec : ℕ → Vector) (b : Book)
-    (lines : List (List ℕ)) (q : ℕ → Post) (S : State plan draw u ok len M vec b lines q) where
+module _ (C : Run) (m : Moment) (S : State C m) where
+  open Run C using (plan, draw, u, len)
+  open Moment m using (marks as M, vec, book as b, lines, posts as q)
+
   abbrev call : ℕ → Step → Call
   call i c = callAt plan draw u lines i c
 
@@ -43,7 +45,7 @@ module _ (plan : Plan) (draw : Draw) (u : Secrets) (ok : Setting plan draw u) (l
 
   -- ---- the state after the call
 
-  module _ (c : Step) (rule : Rule plan c 0 lines) (z : Broadcasts.Done plan draw u ok len M vec b lines q S c) where
+  module _ (c : Step) (rule : Rule plan c 0 lines) (z : Broadcasts.Done C m S c) where
     abbrev M' : Marks
     M' = marksAfter (call 1 c) M
 
@@ -51,45 +53,45 @@ module _ (plan : Plan) (draw : Draw) (u : Secrets) (ok : Setting plan draw u) (l
     vec' = vectorsAfter plan draw (call 1 c) M vec
 
     one-post : 1 ≤ plan .n
-    one-post = omega (arith, sizes plan (ok .sound) .n-low)
+    one-post = omega (arith, sizes plan (C .sound) .n-low)
 
     al : Allowed (call 1 c) M
-    al = Broadcasts.allowed-at plan draw u ok len M vec b lines q S c z 1 (omega arith) one-post
+    al = Broadcasts.allowed-at C m S c z 1 (omega arith) one-post
 
     stand : (i : ℕ) → 1 ≤ i → i ≤ plan .n → Stands plan draw (len i) i M' vec' (after (perform (call i c) (q i)))
     stand i lo hi =
-        subst (λ (N : Marks). Stands plan draw (len i) i N vec' (after (perform (call i c) (q i)))) (Broadcasts.same-marks plan draw u ok len M vec b lines q S i 1 c)
-        (subst (λ (v : ℕ → Vector). Stands plan draw (len i) i (marksAfter (call i c) M) v (after (perform (call i c) (q i)))) (Broadcasts.same-vectors plan draw u ok len M vec b lines q S i 1 c)
-        (stands-after plan draw (ok .is-draw) (len i) i hi M vec (q i) (S .posts i lo hi) (call i c) (z i lo hi)
-        (fits plan draw u ok len M vec b lines q S i lo hi c (Broadcasts.allowed-at plan draw u ok len M vec b lines q S c z i lo hi) rule)))
+        subst (λ (N : Marks). Stands plan draw (len i) i N vec' (after (perform (call i c) (q i)))) (Broadcasts.same-marks C m S i 1 c)
+        (subst (λ (v : ℕ → Vector). Stands plan draw (len i) i (marksAfter (call i c) M) v (after (perform (call i c) (q i)))) (Broadcasts.same-vectors C m S i 1 c)
+        (stands-after plan draw (C .is-draw) (len i) i hi M vec (q i) (S .posts i lo hi) (call i c) (z i lo hi)
+        (fits C m S i lo hi c (Broadcasts.allowed-at C m S c z i lo hi) rule)))
 
     held-on : (x : ℕ) → x < 96 → markOf M x ≡ 2 → Held b x (vec x) → Held (entered u c b) x (vec x)
-    held-on x lx two h = h ∙ ap element (sym (place-stays plan draw u ok len M vec b lines q S 1 c al x two))
+    held-on x lx two h = h ∙ ap element (sym (place-stays C m S 1 c al x two))
 
     waits-on : (x : ℕ) → x < 96 → markOf M x ≡ 5 → markOf M' x ≡ 5 → Waits b x (leftOf M x) (rightOf M x)
         → Waits (entered u c b) x (leftOf M x) (rightOf M x)
     waits-on x lx five five' w =
-        let n = notes-stay plan draw u ok len M vec b lines q S 1 c al x five in
+        let n = notes-stay C m S 1 c al x five in
         let f = S .facts x lx .waiting five in (
-          n .0 ∙ w .0 ∙ sym (place-stays plan draw u ok len M vec b lines q S 1 c al (leftOf M x) (f .a-held)),
-          n .1 ∙ w .1 ∙ sym (place-stays plan draw u ok len M vec b lines q S 1 c al (rightOf M x) (f .b-held)),
+          n .0 ∙ w .0 ∙ sym (place-stays C m S 1 c al (leftOf M x) (f .a-held)),
+          n .1 ∙ w .1 ∙ sym (place-stays C m S 1 c al (rightOf M x) (f .b-held)),
         )
 
     facts' : Facts plan draw (Held (entered u c b)) (Waits (entered u c b)) M' vec'
     facts' =
         facts-after plan draw (Held b) (Waits b) (Held (entered u c b)) (Waits (entered u c b)) (call 1 c) M vec (S .sized) al
-        (meant plan draw u ok len M vec b lines q S 1 c al rule) held-on waits-on (S .facts)
+        (meant C m S 1 c al rule) held-on waits-on (S .facts)
 
     -- a line broadcast before still shows what it showed
-    old-opening : (r j : ℕ) (xs : List ℕ) → AnOpening plan draw u ok r j xs → Among (openingLine r j xs) lines
+    old-opening : (r j : ℕ) (xs : List ℕ) → AnOpening C r j xs → Among (openingLine r j xs) lines
         → (markOf M' r ≡ 2) × (xs ≡ numbers (plan .t + 1) (vec' r .v j))
     old-opening r j xs o a =
         let old = S .openings r j xs o a in
         let stays = held-stays plan draw (call 1 c) M vec (S .sized) al r (old .0) in
         (stays .0, old .1 ∙ sym (ap (λ (X : Vector). numbers (plan .t + 1) (X .v j)) (stays .1)))
 
-    old-masks : (r j : ℕ) (xs : List ℕ) → AMask plan draw u ok r j xs → Among (masksLine r j xs) lines
-        → Past M' r × (markOf M' r ≡ 5 → xs ≡ maskNumbers plan draw u ok M' vec' r j)
+    old-masks : (r j : ℕ) (xs : List ℕ) → AMask C r j xs → Among (masksLine r j xs) lines
+        → Past M' r × (markOf M' r ≡ 5 → xs ≡ maskNumbers C M' vec' r j)
     old-masks r j xs o a =
         let old = S .maskings r j xs o a in
         (past-stays plan draw (call 1 c) M (S .sized) al r (old .0), λ five'. go (five-before plan draw (call 1 c) M (S .sized) al r lr five') five' old)
@@ -98,7 +100,7 @@ module _ (plan : Plan) (draw : Draw) (u : Secrets) (ok : Setting plan draw u) (l
         lr = omega (arith, o .row)
 
         go : ((markOf M r ≡ 5) × (leftOf M' r ≡ leftOf M r) × (rightOf M' r ≡ rightOf M r)) ⊎ MasksAt (call 1 c) r → markOf M' r ≡ 5
-            → Past M r × (markOf M r ≡ 5 → xs ≡ maskNumbers plan draw u ok M vec r j) → xs ≡ maskNumbers plan draw u ok M' vec' r j
+            → Past M r × (markOf M r ≡ 5 → xs ≡ maskNumbers C M vec r j) → xs ≡ maskNumbers C M' vec' r j
         go (inr at) five' old = absurd (unmasked c al r at (old .0))
         go (inl (five, el, er)) five' old =
             let w = S .facts r lr .waiting five in
@@ -111,7 +113,17 @@ module _ (plan : Plan) (draw : Draw) (u : Secrets) (ok : Setting plan draw u) (l
             old .1 five
             ∙ (λ m. numbers (plan .t + 1) (less (ea m) (e0 m) .v j) ++ numbers (plan .t + 1) (less (eb m) (e1 m) .v j))
 
-    pub advance : State plan draw u ok len M' vec' (entered u c b) (lines ++ linesOf plan draw u lines c q) (λ i. after (perform (call i c) (q i)))
+    abbrev pub onward : Moment
+    onward =
+        record {
+          marks = M';
+          vec = vec';
+          book = entered u c b;
+          lines = lines ++ linesOf plan draw u lines c q;
+          posts = λ i. after (perform (call i c) (q i));
+        }
+
+    pub advance : State C onward
     advance =
         record {
           sized = sized-after (call 1 c) M (S .sized);
@@ -120,13 +132,13 @@ module _ (plan : Plan) (draw : Draw) (u : Secrets) (ok : Setting plan draw u) (l
           openings = λ r j xs o a. elim (among-append (openingLine r j xs) lines (linesOf plan draw u lines c q) a) [
             | inl l ↦ old-opening r j xs o l
             | inr l ↦ (let w = among-posts (openingLine r j xs) (λ i. cond (heardFrom c i) (broadcast i (call i c) (perform (call i c) (q i))) []) (plan .n) l in
-                let n = Broadcasts.new-opening plan draw u ok len M vec b lines q S (w .0) (w .1) (w .2) c (z (w .0) (w .1) (w .2)) (Broadcasts.allowed-at plan draw u ok len M vec b lines q S c z (w .0) (w .1) (w .2)) r j xs o (among-heard _ (heardFrom c (w .0)) _ (w .3)) in
+                let n = Broadcasts.new-opening C m S (w .0) (w .1) (w .2) c (z (w .0) (w .1) (w .2)) (Broadcasts.allowed-at C m S c z (w .0) (w .1) (w .2)) r j xs o (among-heard _ (heardFrom c (w .0)) _ (w .3)) in
                 (n .1, n .2))
           ];
           maskings = λ r j xs o a. elim (among-append (masksLine r j xs) lines (linesOf plan draw u lines c q) a) [
             | inl l ↦ old-masks r j xs o l
             | inr l ↦ (let w = among-posts (masksLine r j xs) (λ i. cond (heardFrom c i) (broadcast i (call i c) (perform (call i c) (q i))) []) (plan .n) l in
-                let n = Broadcasts.new-masks plan draw u ok len M vec b lines q S (w .0) (w .1) (w .2) c (z (w .0) (w .1) (w .2)) (Broadcasts.allowed-at plan draw u ok len M vec b lines q S c z (w .0) (w .1) (w .2)) r j xs o (among-heard _ (heardFrom c (w .0)) _ (w .3)) in
+                let n = Broadcasts.new-masks C m S (w .0) (w .1) (w .2) c (z (w .0) (w .1) (w .2)) (Broadcasts.allowed-at C m S c z (w .0) (w .1) (w .2)) r j xs o (among-heard _ (heardFrom c (w .0)) _ (w .3)) in
                 (inl (n .0), λ five'. n .1))
           ];
         }

@@ -37,7 +37,7 @@ use Rattle.secrecy.proofs.Near.{Near}
 use Rattle.secrecy.proofs.Link.{Alike}
 use Rattle.secrecy.proofs.Twins as Twins
 use Rattle.secrecy.proofs.Pair as Pairs
-use Rattle.secrecy.proofs.Pair.{Two, Pair, apart, place-number, masks-number, wait-numbers, Fit, few-same}
+use Rattle.secrecy.proofs.Pair.{Two, runOne, runTwo, Moments, momentOne, momentTwo, Pair, apart, place-number, masks-number, wait-numbers, Fit, few-same}
 
 -- an answer with no number
 value-none : (k : ℕ) (new old : Session) → answer k 0 new old .value ≡ 0
@@ -59,8 +59,10 @@ line-one zero (suc j) x y e h = absurd (omega arith)
 line-one (suc k) zero x y e h = absurd (omega arith)
 line-one (suc k) (suc j) x y e h = refl
 
-module _ (T : Two) (M : Marks) (vec vec' : ℕ → Vector) (b b' : Book) (lines : List (List ℕ)) (q q' : ℕ → Post) (R : Pair T M vec vec' b b' lines q q')
+module _ (T : Two) (m : Moments) (R : Pair T m)
     (i : ℕ) (lo : 1 ≤ i) (hi : i ≤ T .plan .n) where
+  open Moments m using (marks as M, vec, vec', book as b, book' as b', lines, posts as q, posts' as q')
+
   abbrev s : Session
   s = sessionAt (T .plan) (T .d) i M
 
@@ -107,14 +109,14 @@ module _ (T : Two) (M : Marks) (vec vec' : ℕ → Vector) (b b' : Book) (lines 
   near = R .near
 
   abbrev h : Holds (T .plan) (T .d) (T .len i) i M vec l
-  h = Pairs.h T M vec vec' b b' lines q q' R i lo hi
+  h = Pairs.h T m R i lo hi
 
   abbrev h' : Holds (T .plan) (T .d) (T .len i) i M vec' l'
-  h' = Pairs.h' T M vec vec' b b' lines q q' R i lo hi
+  h' = Pairs.h' T m R i lo hi
 
   few-same-at : (r : ℕ) (blocks : Record) → Rule (T .plan) (Steps.opening r blocks) (openRefusal s l r (blocks i lines)) lines
       → AllFail (openChecks s l r (blocks i lines)) → tooFew s (rowAt W l r) (blocks i lines) ≡ tooFew s (rowAt W l' r) (blocks i lines)
-  few-same-at r blocks rule f = go (few-same T M vec vec' b b' lines q q' R i lo hi r blocks rule f)
+  few-same-at r blocks rule f = go (few-same T m R i lo hi r blocks rule f)
     where
       g : (k : ℕ) → conditionAt (openChecks s l r (blocks i lines)) k ≡ false
       g = fails (openChecks s l r (blocks i lines)) f
@@ -147,14 +149,14 @@ module _ (T : Two) (M : Marks) (vec vec' : ℕ → Vector) (b b' : Book) (lines 
   refusals (Steps.masks x y r lent) rule = Twins.masks-same (T .plan) (T .d) (T .K) M vec vec' near i lo hi (T .len i) l l' h h' x y r (lent i)
   refusals (Steps.finish r blocks blocks') rule =
       Twins.finish-same (T .plan) (T .d) (T .K) M vec vec' near i lo hi (T .len i) l l' h h' r (blocks i lines) (blocks' i lines)
-      (wait-numbers T M vec vec' b b' lines q q' R r)
+      (wait-numbers T m R r)
 
   -- ---- the number opened
 
   opened-same : (r : ℕ) (blocks : Record) → Rule (T .plan) (Steps.opening r blocks) (openRefusal s l r (blocks i lines)) lines
       → openRefusal s l r (blocks i lines) ≡ 0 → opened s (rowAt W l r) (blocks i lines) ≡ opened s (rowAt W l' r) (blocks i lines)
   unfolding openRefusal
-  opened-same r blocks rule z = go (few-same T M vec vec' b b' lines q q' R i lo hi r blocks rule (parts .0))
+  opened-same r blocks rule z = go (few-same T m R i lo hi r blocks rule (parts .0))
     where
       parts : AllFail (openChecks s l r (blocks i lines)) × (AllFail (9 when tooFew s (rowAt W l r) (blocks i lines) ∷ []))
       parts =
@@ -192,7 +194,7 @@ module _ (T : Two) (M : Marks) (vec vec' : ℕ → Vector) (b b' : Book) (lines 
       done-is (messageRefusal s l r lent) _ _ z
       ∙ ap (take (T .plan .t + 1))
       (Twins.row-same (T .plan) (T .d) (T .K) M vec vec' near i lo hi (T .len i) l l' h h' r 1 (ltb-false 95 r (f 6)) (f 7)
-      (place-number T M vec vec' b b' lines q q' R r (omega (arith, ltb-false 95 r (f 6))) (equal (markOf M r) 2 (f 7)) e))
+      (place-number T m R r (omega (arith, ltb-false 95 r (f 6))) (equal (markOf M r) 2 (f 7)) e))
       ∙ sym (done-is (messageRefusal s l' r lent) _ _ (sym (Twins.message-same (T .plan) (T .d) (T .K) M vec vec' near i lo hi (T .len i) l l' h h' r lent) ∙ z))
     where
       f : (k : ℕ) → conditionAt (messageTests s l r lent) k ≡ false
@@ -217,12 +219,12 @@ module _ (T : Two) (M : Marks) (vec vec' : ℕ → Vector) (b b' : Book) (lines 
       e : (number (less (vec x) (vec r)) ≡ number (less (vec' x) (vec' r)))
           × (number (less (vec y) (vec (r + 1))) ≡ number (less (vec' y) (vec' (r + 1))))
       e =
-          masks-number T M vec vec' b b' lines q q' R r x y (omega (arith, low)) (inl (equal (markOf M r) 3 (f 11)))
+          masks-number T m R r x y (omega (arith, low)) (inl (equal (markOf M r) 3 (f 11)))
           (omega (arith, ltb-false 95 x (f 6))) (equal (markOf M x) 2 (f 9)) (omega (arith, ltb-false 95 y (f 7))) (equal (markOf M y) 2 (f 10))
           (fit .0) (fit .1)
 
   abbrev FitIf : ℕ → Step → Type 0
-  FitIf k c = k ≡ 0 → Fit T M vec vec' b b' lines q q' R c
+  FitIf k c = k ≡ 0 → Fit T m R c
 
   broadcasts : (c : Step) → Rule (T .plan) c (refusalOf (c1 c) p1) lines → Agrees c (refusalOf (c1 c) p1) b b' → FitIf (refusalOf (c1 c) p1) c
       → broadcast i (c1 c) (perform (c1 c) p1) ≡ broadcast i (c2 c) (perform (c2 c) p2)

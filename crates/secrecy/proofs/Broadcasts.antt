@@ -25,7 +25,7 @@ use Rattle.secrecy.specs.Steps as Steps
 use Rattle.secrecy.specs.Steps.{Secrets, Step, callAt}
 use Rattle.secrecy.specs.Seen.{posts, joined}
 use Rattle.secrecy.specs.Book.{Book}
-use Rattle.secrecy.proofs.State.{Setting, AnOpening, AMask, maskNumbers, State}
+use Rattle.secrecy.proofs.State.{Run, Moment, AnOpening, AMask, maskNumbers, State}
 use Rattle.runs.proofs.Start.{sizes}
 
 -- ---- members of joined lists
@@ -63,8 +63,10 @@ one-line x line zero z (inl e) = e
 one-line x line zero z (inr a) = absurd a
 one-line x line (suc k) z a = absurd a
 
-module _ (plan : Plan) (draw : Draw) (u : Secrets) (ok : Setting plan draw u) (len : ℕ → ℕ) (M : Marks) (vec : ℕ → Vector) (b : Book)
-    (lines : List (List ℕ)) (q : ℕ → Post) (S : State plan draw u ok len M vec b lines q) where
+module _ (C : Run) (m : Moment) (S : State C m) where
+  open Run C using (plan, draw, u, len)
+  open Moment m using (marks as M, vec, book as b, lines, posts as q)
+
   abbrev call : ℕ → Step → Call
   call i c = callAt plan draw u lines i c
 
@@ -116,9 +118,9 @@ module _ (plan : Plan) (draw : Draw) (u : Secrets) (ok : Setting plan draw u) (l
     not-refused c z = refusal-is c (q i) ∙ z
 
     made-opening : (r : ℕ) (lent : List ℕ) → refusalOf (Calls.message r lent) (q i) ≡ 0 → r < 96
-        → AnOpening plan draw u ok r i (perform (Calls.message r lent) (q i) .lent)
+        → AnOpening C r i (perform (Calls.message r lent) (q i) .lent)
     made-opening r lent z low =
-        let e = message-says plan draw (ok .is-draw) (len i) i hi M vec (q i) (S .posts i lo hi) r lent z in
+        let e = message-says plan draw (C .is-draw) (len i) i hi M vec (q i) (S .posts i lo hi) r lent z in
         record {
           row = omega arith;
           post = (lo, hi);
@@ -127,9 +129,9 @@ module _ (plan : Plan) (draw : Draw) (u : Secrets) (ok : Setting plan draw u) (l
         }
 
     made-masks : (x y r : ℕ) (lent : List ℕ) → refusalOf (Calls.masks x y r lent) (q i) ≡ 0 → r < 94
-        → AMask plan draw u ok r i (perform (Calls.masks x y r lent) (q i) .lent)
+        → AMask C r i (perform (Calls.masks x y r lent) (q i) .lent)
     made-masks x y r lent z low =
-        let e = masks-say plan draw (ok .is-draw) (len i) i hi M vec (q i) (S .posts i lo hi) x y r lent z in
+        let e = masks-say plan draw (C .is-draw) (len i) i hi M vec (q i) (S .posts i lo hi) x y r lent z in
         let k = plan .t + 1 in
         let va = less (vec x) (vec r) .v i in
         let vb = less (vec y) (vec (r + 1)) .v i in
@@ -140,7 +142,7 @@ module _ (plan : Plan) (draw : Draw) (u : Secrets) (ok : Setting plan draw u) (l
           low = subst Elements (sym e) (elements-append (numbers k va) (numbers k vb) (numbers-elements k va) (numbers-elements k vb));
         }
 
-    pub new-opening : (c : Step) → refusalOf (call i c) (q i) ≡ 0 → Allowed (call i c) M → (r j : ℕ) (xs : List ℕ) → AnOpening plan draw u ok r j xs
+    pub new-opening : (c : Step) → refusalOf (call i c) (q i) ≡ 0 → Allowed (call i c) M → (r j : ℕ) (xs : List ℕ) → AnOpening C r j xs
         → Among (openingLine r j xs) (broadcast i (call i c) (perform (call i c) (q i)))
         → MessageAt c r × (markOf (marksAfter (call 1 c) M) r ≡ 2) × (xs ≡ numbers (plan .t + 1) (vectorsAfter plan draw (call 1 c) M vec r .v j))
     new-opening (Steps.loadRow r' pack) z al r j xs o a = absurd a
@@ -149,41 +151,41 @@ module _ (plan : Plan) (draw : Draw) (u : Secrets) (ok : Setting plan draw u) (l
     new-opening (Steps.message r' lent heard) z al r j xs o a =
         let c = Calls.message r' (lent i) in
         let e = one-line _ _ _ (not-refused c z) a in
-        let same = same-opening (plan .n) (plan .t + 1) (sizes plan (ok .sound) .n-high) r j r' i xs (perform c (q i) .lent) o (made-opening r' (lent i) z (al .0)) e in (
+        let same = same-opening (plan .n) (plan .t + 1) (sizes plan (C .sound) .n-high) r j r' i xs (perform c (q i) .lent) o (made-opening r' (lent i) z (al .0)) e in (
           same .0,
           ap (markOf M) (same .0) ∙ al .1,
-          same .2 ∙ message-says plan draw (ok .is-draw) (len i) i hi M vec (q i) (S .posts i lo hi) r' (lent i) z
+          same .2 ∙ message-says plan draw (C .is-draw) (len i) i hi M vec (q i) (S .posts i lo hi) r' (lent i) z
               ∙ sym (ap₂ (λ (x y : ℕ). numbers (plan .t + 1) (vec x .v y)) (same .0) (same .1)),
         )
     new-opening (Steps.opening r' blocks) z al r j xs o a = absurd a
     new-opening (Steps.linear r' x y scale) z al r j xs o a = absurd a
     new-opening (Steps.masks x y r' lent) z al r j xs o a =
         let c = Calls.masks x y r' (lent i) in
-        absurd (not-both (plan .n) (plan .t + 1) (sizes plan (ok .sound) .n-high) r j r' i xs (perform c (q i) .lent) o
+        absurd (not-both (plan .n) (plan .t + 1) (sizes plan (C .sound) .n-high) r j r' i xs (perform c (q i) .lent) o
         (made-masks x y r' (lent i) z (al .r-low)) (one-line _ _ _ (not-refused c z) a))
     new-opening (Steps.finish r' blocks blocks') z al r j xs o a = absurd a
 
-    pub new-masks : (c : Step) → refusalOf (call i c) (q i) ≡ 0 → Allowed (call i c) M → (r j : ℕ) (xs : List ℕ) → AMask plan draw u ok r j xs
+    pub new-masks : (c : Step) → refusalOf (call i c) (q i) ≡ 0 → Allowed (call i c) M → (r j : ℕ) (xs : List ℕ) → AMask C r j xs
         → Among (masksLine r j xs) (broadcast i (call i c) (perform (call i c) (q i)))
         → (markOf (marksAfter (call 1 c) M) r ≡ 5)
-        × (xs ≡ maskNumbers plan draw u ok (marksAfter (call 1 c) M) (vectorsAfter plan draw (call 1 c) M vec) r j)
+        × (xs ≡ maskNumbers C (marksAfter (call 1 c) M) (vectorsAfter plan draw (call 1 c) M vec) r j)
     new-masks (Steps.loadRow r' pack) z al r j xs o a = absurd a
     new-masks (Steps.loadTriple r' pack) z al r j xs o a = absurd a
     new-masks (Steps.deal r' c) z al r j xs o a = absurd a
     new-masks (Steps.message r' lent heard) z al r j xs o a =
         let c = Calls.message r' (lent i) in
-        absurd (not-both (plan .n) (plan .t + 1) (sizes plan (ok .sound) .n-high) r' i r j (perform c (q i) .lent) xs
+        absurd (not-both (plan .n) (plan .t + 1) (sizes plan (C .sound) .n-high) r' i r j (perform c (q i) .lent) xs
         (made-opening r' (lent i) z (al .0)) o (sym (one-line _ _ _ (not-refused c z) a)))
     new-masks (Steps.opening r' blocks) z al r j xs o a = absurd a
     new-masks (Steps.linear r' x y scale) z al r j xs o a = absurd a
     new-masks (Steps.masks x y r' lent) z al r j xs o a =
         let c = Calls.masks x y r' (lent i) in
         let e = one-line _ _ _ (not-refused c z) a in
-        let same = same-masks (plan .n) (plan .t + 1) (sizes plan (ok .sound) .n-high) r j r' i xs (perform c (q i) .lent) o (made-masks x y r' (lent i) z (al .r-low)) e in (
+        let same = same-masks (plan .n) (plan .t + 1) (sizes plan (C .sound) .n-high) r j r' i xs (perform c (q i) .lent) o (made-masks x y r' (lent i) z (al .r-low)) e in (
           ap (markOf (masked M r' x y)) (same .0) ∙ getD-set-same (M .marks) r' 5 0 (omega (arith, al .r-low, S .sized .marks)),
-          same .2 ∙ masks-say plan draw (ok .is-draw) (len i) i hi M vec (q i) (S .posts i lo hi) x y r' (lent i) z
+          same .2 ∙ masks-say plan draw (C .is-draw) (len i) i hi M vec (q i) (S .posts i lo hi) x y r' (lent i) z
               ∙ ap₂ (λ (a' b' : ℕ). numbers (plan .t + 1) (less (vec a') (vec r') .v i) ++ numbers (plan .t + 1) (less (vec b') (vec (r' + 1)) .v i))
               (sym (getD-set-same (M .left) r' x 0 (omega (arith, al .r-low, S .sized .left)))) (sym (getD-set-same (M .right) r' y 0 (omega (arith, al .r-low, S .sized .right))))
-              ∙ sym (ap₂ (λ (x' y' : ℕ). maskNumbers plan draw u ok (masked M r' x y) vec x' y') (same .0) (same .1)),
+              ∙ sym (ap₂ (λ (x' y' : ℕ). maskNumbers C (masked M r' x y) vec x' y') (same .0) (same .1)),
         )
     new-masks (Steps.finish r' blocks blocks') z al r j xs o a = absurd a

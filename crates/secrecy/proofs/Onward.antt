@@ -21,11 +21,11 @@ use Rattle.secrecy.specs.Steps.{Secrets, Step, callAt, heardFrom}
 use Rattle.secrecy.specs.Seen.{posts, joined, linesOf}
 use Rattle.secrecy.specs.Rules.{Rule}
 use Rattle.secrecy.specs.Book.{Book, Agrees, entered}
-use Rattle.secrecy.proofs.State.{Setting, AnOpening, State, place-stays, notes-stay}
+use Rattle.secrecy.proofs.State.{Run, Moment, AnOpening, State, place-stays, notes-stay}
 use Rattle.runs.proofs.Start.{sizes}
 use Rattle.secrecy.proofs.Broadcasts.{among-append, among-posts, among-heard, allowed-at, MessageAt, new-opening}
 use Rattle.secrecy.proofs.Advance.{advance}
-use Rattle.secrecy.proofs.Pair.{Two, Pair, apart, Fit}
+use Rattle.secrecy.proofs.Pair.{Two, runOne, runTwo, Moments, momentOne, momentTwo, Pair, apart, Fit}
 use Rattle.secrecy.proofs.Together.{posts-same, marks-two, refused-two, lines-two, group-two, near-after}
 
 -- ---- refused: nothing is broadcast, and the posts are as they were
@@ -52,9 +52,11 @@ silent i (Calls.linear r a b scale) o k e = refl
 silent i (Calls.masks a b r lent) o k e = ap (λ (m : ℕ). sentIf m (masksLine r i (o .lent))) e
 silent i (Calls.finish r blocks blocks') o k e = refl
 
-module _ (plan : Plan) (draw : Draw) (u : Secrets) (ok : Setting plan draw u) (len : ℕ → ℕ) (M : Marks) (vec : ℕ → Vector) (b : Book)
-    (lines : List (List ℕ)) (q : ℕ → Post) (c : Step) (k : ℕ)
-    (z : (i : ℕ) → 1 ≤ i → i ≤ plan .n → refusalOf (callAt plan draw u lines i c) (q i) ≡ suc k) where
+module _ (C : Run) (m : Moment) (c : Step) (k : ℕ)
+    (z : (i : ℕ) → 1 ≤ i → i ≤ C .plan .n → refusalOf (callAt (C .plan) (C .draw) (C .u) (m .lines) i c) (m .posts i) ≡ suc k) where
+  open Run C using (plan, draw, u, len)
+  open Moment m using (marks as M, vec, book as b, lines, posts as q)
+
   no-lines : linesOf plan draw u lines c q ≡ []
   unfolding nothing
   no-lines =
@@ -68,8 +70,17 @@ module _ (plan : Plan) (draw : Draw) (u : Secrets) (ok : Setting plan draw u) (l
   as-before : lines ++ linesOf plan draw u lines c q ≡ lines
   as-before = ap (λ (x : List (List ℕ)). lines ++ x) no-lines ∙ append-nil lines
 
-  pub idle-state : State plan draw u ok len M vec b lines q
-      → State plan draw u ok len M vec b (lines ++ linesOf plan draw u lines c q) (λ i. after (perform (callAt plan draw u lines i c) (q i)))
+  abbrev pub idleMoment : Moment
+  idleMoment =
+      record {
+        marks = m .marks;
+        vec = m .vec;
+        book = m .book;
+        lines = m .lines ++ linesOf (C .plan) (C .draw) (C .u) (m .lines) c (m .posts);
+        posts = λ i. after (perform (callAt (C .plan) (C .draw) (C .u) (m .lines) i c) (m .posts i));
+      }
+
+  pub idle-state : State C m → State C idleMoment
   idle-state S =
       record {
         sized = S .sized;
@@ -79,69 +90,97 @@ module _ (plan : Plan) (draw : Draw) (u : Secrets) (ok : Setting plan draw u) (l
         maskings = λ r j xs o a. S .maskings r j xs o (subst (Among (masksLine r j xs)) as-before a);
       }
 
-module _ (T : Two) (M : Marks) (vec vec' : ℕ → Vector) (b b' : Book) (lines : List (List ℕ)) (q q' : ℕ → Post)
-    (R : Pair T M vec vec' b b' lines q q') where
+module _ (T : Two) (m : Moments) (R : Pair T m) where
+  open Moments m using (marks as M, vec, vec', book as b, book' as b', lines, posts as q, posts' as q')
+
   abbrev c1 : ℕ → Step → Call
   c1 i c = callAt (T .plan) (T .d) (T .u) lines i c
 
   abbrev c2 : ℕ → Step → Call
   c2 i c = callAt (T .plan) (T .d') (T .u') lines i c
 
+  -- the moments after a call: refused at all posts, done at all posts
+  abbrev pub idleMoments : Step → Moments
+  idleMoments c =
+      record {
+        marks = M;
+        vec = vec;
+        vec' = vec';
+        book = b;
+        book' = b';
+        lines = lines ++ linesOf (T .plan) (T .d) (T .u) lines c q;
+        posts = λ i. after (perform (c1 i c) (q i));
+        posts' = λ i. after (perform (c2 i c) (q' i));
+      }
+
+  abbrev pub liveMoments : Step → Moments
+  liveMoments c =
+      record {
+        marks = marksAfter (c1 1 c) M;
+        vec = vectorsAfter (T .plan) (T .d) (c1 1 c) M vec;
+        vec' = vectorsAfter (T .plan) (T .d') (c2 1 c) M vec';
+        book = entered (T .u) c b;
+        book' = entered (T .u') c b';
+        lines = lines ++ linesOf (T .plan) (T .d) (T .u) lines c q;
+        posts = λ i. after (perform (c1 i c) (q i));
+        posts' = λ i. after (perform (c2 i c) (q' i));
+      }
+
   -- the second run's state, with the marks and lines that it shares with the first
   shared : (N N' : Marks) (v : ℕ → Vector) (e : Book) (x y : List (List ℕ)) (p : ℕ → Post) → N' ≡ N → x ≡ y
-      → State (T .plan) (T .d') (T .u') (T .ok') (T .len) N' v e (lines ++ y) p → State (T .plan) (T .d') (T .u') (T .ok') (T .len) N v e (lines ++ x) p
+      → State (runTwo T) (record { marks = N'; vec = v; book = e; lines = lines ++ y; posts = p })
+      → State (runTwo T) (record { marks = N; vec = v; book = e; lines = lines ++ x; posts = p })
   shared N N' v e x y p f g S =
-      subst (λ (w : List (List ℕ)). State (T .plan) (T .d') (T .u') (T .ok') (T .len) N v e (lines ++ w) p) (sym g)
-      (subst (λ (w : Marks). State (T .plan) (T .d') (T .u') (T .ok') (T .len) w v e (lines ++ y) p) f S)
+      subst (λ (w : List (List ℕ)). State (runTwo T) (record { marks = N; vec = v; book = e; lines = lines ++ w; posts = p })) (sym g)
+      (subst (λ (w : Marks). State (runTwo T) (record { marks = w; vec = v; book = e; lines = lines ++ y; posts = p })) f S)
 
   pub idle : (c : Step) (k : ℕ) → ((i : ℕ) → 1 ≤ i → i ≤ T .plan .n → refusalOf (c1 i c) (q i) ≡ suc k) → Rule (T .plan) c (suc k) lines
-      → Agrees c (suc k) b b'
-      → Pair T M vec vec' b b' (lines ++ linesOf (T .plan) (T .d) (T .u) lines c q) (λ i. after (perform (c1 i c) (q i))) (λ i. after (perform (c2 i c) (q' i)))
+      → Agrees c (suc k) b b' → Pair T (idleMoments c)
   idle c k z rule agree =
       record {
-        one = idle-state (T .plan) (T .d) (T .u) (T .ok) (T .len) M vec b lines q c k z (R .one);
-        two = shared M M vec' b' _ _ _ refl (lines-two T M vec vec' b b' lines q q' R c (suc k) z rule agree none)
-            (idle-state (T .plan) (T .d') (T .u') (T .ok') (T .len) M vec' b' lines q' c k (refused-two T M vec vec' b b' lines q q' R c (suc k) z rule agree none) (R .two));
+        one = idle-state (runOne T) (momentOne m) c k z (R .one);
+        two = shared M M vec' b' _ _ _ refl (lines-two T m R c (suc k) z rule agree none)
+            (idle-state (runTwo T) (momentTwo m) c k (refused-two T m R c (suc k) z rule agree none) (R .two));
         near = R .near;
-        group-same = all-map (λ i e. ap after e) (T .group) (group-two T M vec vec' b b' lines q q' R c (suc k) z rule agree none);
-        agreed = λ r j xs o a. R .agreed r j xs o (subst (Among (openingLine r j xs)) (as-before (T .plan) (T .d) (T .u) (T .ok) (T .len) M vec b lines q c k z) a);
+        group-same = all-map (λ i e. ap after e) (T .group) (group-two T m R c (suc k) z rule agree none);
+        agreed = λ r j xs o a. R .agreed r j xs o (subst (Among (openingLine r j xs)) (as-before (runOne T) (momentOne m) c k z) a);
         waiting = R .waiting;
       }
     where
-      none : suc k ≡ 0 → Fit T M vec vec' b b' lines q q' R c
+      none : suc k ≡ 0 → Fit T m R c
       none e = absurd (omega arith)
 
   module _ (c : Step) (z : (i : ℕ) → 1 ≤ i → i ≤ T .plan .n → refusalOf (c1 i c) (q i) ≡ 0) (rule : Rule (T .plan) c 0 lines)
-      (agree : Agrees c 0 b b') (fit : Fit T M vec vec' b b' lines q q' R c) where
+      (agree : Agrees c 0 b b') (fit : Fit T m R c) where
     one-post : 1 ≤ T .plan .n
-    one-post = omega (arith, sizes (T .plan) (T .ok .sound) .n-low)
+    one-post = omega (arith, sizes (T .plan) (T .sound) .n-low)
 
     z' : (i : ℕ) → 1 ≤ i → i ≤ T .plan .n → refusalOf (c2 i c) (q' i) ≡ 0
-    z' = refused-two T M vec vec' b b' lines q q' R c 0 z rule agree (λ e. fit)
+    z' = refused-two T m R c 0 z rule agree (λ e. fit)
 
     al : Allowed (c1 1 c) M
-    al = allowed-at (T .plan) (T .d) (T .u) (T .ok) (T .len) M vec b lines q (R .one) c z 1 (omega arith) one-post
+    al = allowed-at (runOne T) (momentOne m) (R .one) c z 1 (omega arith) one-post
 
     al' : Allowed (c2 1 c) M
-    al' = allowed-at (T .plan) (T .d') (T .u') (T .ok') (T .len) M vec' b' lines q' (R .two) c z' 1 (omega arith) one-post
+    al' = allowed-at (runTwo T) (momentTwo m) (R .two) c z' 1 (omega arith) one-post
 
     -- a row that was opened keeps its place in both books
     places : (r : ℕ) → markOf M r ≡ 2 → b .place r ≡ b' .place r → entered (T .u) c b .place r ≡ entered (T .u') c b' .place r
     places r two e =
-        place-stays (T .plan) (T .d) (T .u) (T .ok) (T .len) M vec b lines q (R .one) 1 c al r two ∙ e
-        ∙ sym (place-stays (T .plan) (T .d') (T .u') (T .ok') (T .len) M vec' b' lines q' (R .two) 1 c al' r two)
+        place-stays (runOne T) (momentOne m) (R .one) 1 c al r two ∙ e
+        ∙ sym (place-stays (runTwo T) (momentTwo m) (R .two) 1 c al' r two)
 
     notes : (r : ℕ) → r < 96 → markOf M r ≡ 5
         → (apart (entered (T .u) c b .factorA r) (entered (T .u') c b' .factorA r) ≡ T .Δ r .left)
         × (apart (entered (T .u) c b .factorB r) (entered (T .u') c b' .factorB r) ≡ T .Δ r .right)
     notes r lr five =
-        let s = notes-stay (T .plan) (T .d) (T .u) (T .ok) (T .len) M vec b lines q (R .one) 1 c al r five in
-        let s' = notes-stay (T .plan) (T .d') (T .u') (T .ok') (T .len) M vec' b' lines q' (R .two) 1 c al' r five in
+        let s = notes-stay (runOne T) (momentOne m) (R .one) 1 c al r five in
+        let s' = notes-stay (runTwo T) (momentTwo m) (R .two) 1 c al' r five in
         let w = R .waiting r lr five in
         (ap₂ apart (s .0) (s' .0) ∙ w .0, ap₂ apart (s .1) (s' .1) ∙ w .1)
 
   -- a row whose opening message the call is: its places agree
-  told-now : (c : Step) → Agrees c 0 b b' → (r : ℕ) → MessageAt (T .plan) (T .d) (T .u) (T .ok) (T .len) M vec b lines q (R .one) c r
+  told-now : (c : Step) → Agrees c 0 b b' → (r : ℕ) → MessageAt (runOne T) (momentOne m) (R .one) c r
       → entered (T .u) c b .place r ≡ entered (T .u') c b' .place r
   told-now (Steps.loadRow r' pack) agree r m = absurd m
   told-now (Steps.loadTriple r' pack) agree r m = absurd m
@@ -153,7 +192,7 @@ module _ (T : Two) (M : Marks) (vec vec' : ℕ → Vector) (b b' : Book) (lines 
   told-now (Steps.finish r' blocks blocks') agree r m = absurd m
 
   -- a triple whose masks the call makes: they are those that were reckoned with
-  masked-now : (c : Step) → Fit T M vec vec' b b' lines q q' R c → (r : ℕ) → MasksAt (c1 1 c) r
+  masked-now : (c : Step) → Fit T m R c → (r : ℕ) → MasksAt (c1 1 c) r
       → (apart (entered (T .u) c b .factorA r) (entered (T .u') c b' .factorA r) ≡ T .Δ r .left)
       × (apart (entered (T .u) c b .factorB r) (entered (T .u') c b' .factorB r) ≡ T .Δ r .right)
   masked-now (Steps.loadRow r' pack) fit r m = absurd m
@@ -173,30 +212,27 @@ module _ (T : Two) (M : Marks) (vec vec' : ℕ → Vector) (b b' : Book) (lines 
   masked-now (Steps.finish r' blocks blocks') fit r m = absurd m
 
   pub live : (c : Step) → ((i : ℕ) → 1 ≤ i → i ≤ T .plan .n → refusalOf (c1 i c) (q i) ≡ 0) → Rule (T .plan) c 0 lines
-      → Agrees c 0 b b' → Fit T M vec vec' b b' lines q q' R c
-      → Pair T (marksAfter (c1 1 c) M) (vectorsAfter (T .plan) (T .d) (c1 1 c) M vec) (vectorsAfter (T .plan) (T .d') (c2 1 c) M vec')
-      (entered (T .u) c b) (entered (T .u') c b') (lines ++ linesOf (T .plan) (T .d) (T .u) lines c q)
-      (λ i. after (perform (c1 i c) (q i))) (λ i. after (perform (c2 i c) (q' i)))
+      → Agrees c 0 b b' → Fit T m R c → Pair T (liveMoments c)
   live c z rule agree fit =
       record {
-        one = advance (T .plan) (T .d) (T .u) (T .ok) (T .len) M vec b lines q (R .one) c rule z;
-        two = shared _ _ _ _ _ _ _ (marks-two T M vec vec' b b' lines q q' R c) (lines-two T M vec vec' b b' lines q q' R c 0 z rule agree (λ e. fit))
-            (advance (T .plan) (T .d') (T .u') (T .ok') (T .len) M vec' b' lines q' (R .two) c rule (z' c z rule agree fit));
-        near = near-after T M vec vec' b b' lines q q' R c (al c z rule agree fit) rule;
-        group-same = all-map (λ i e. ap after e) (T .group) (group-two T M vec vec' b b' lines q q' R c 0 z rule agree (λ e. fit));
+        one = advance (runOne T) (momentOne m) (R .one) c rule z;
+        two = shared _ _ _ _ _ _ _ (marks-two T m R c) (lines-two T m R c 0 z rule agree (λ e. fit))
+            (advance (runTwo T) (momentTwo m) (R .two) c rule (z' c z rule agree fit));
+        near = near-after T m R c (al c z rule agree fit) rule;
+        group-same = all-map (λ i e. ap after e) (T .group) (group-two T m R c 0 z rule agree (λ e. fit));
         agreed = λ r j xs o a. by-line r j xs o (among-append (openingLine r j xs) lines (linesOf (T .plan) (T .d) (T .u) lines c q) a);
         waiting = λ r lr five. by-mark r lr (five-before (T .plan) (T .d) (c1 1 c) M (R .one .sized) (al c z rule agree fit) r lr five);
       }
     where
-      by-line : (r j : ℕ) (xs : List ℕ) → AnOpening (T .plan) (T .d) (T .u) (T .ok) r j xs
+      by-line : (r j : ℕ) (xs : List ℕ) → AnOpening (runOne T) r j xs
           → Among (openingLine r j xs) lines ⊎ Among (openingLine r j xs) (linesOf (T .plan) (T .d) (T .u) lines c q)
           → entered (T .u) c b .place r ≡ entered (T .u') c b' .place r
       by-line r j xs o (inl a) = places c z rule agree fit r (R .one .openings r j xs o a .0) (R .agreed r j xs o a)
       by-line r j xs o (inr a) =
           let w = among-posts (openingLine r j xs) (λ i. cond (heardFrom c i) (broadcast i (c1 i c) (perform (c1 i c) (q i))) []) (T .plan .n) a in
           told-now c agree r
-          (new-opening (T .plan) (T .d) (T .u) (T .ok) (T .len) M vec b lines q (R .one) (w .0) (w .1) (w .2) c (z (w .0) (w .1) (w .2))
-          (allowed-at (T .plan) (T .d) (T .u) (T .ok) (T .len) M vec b lines q (R .one) c z (w .0) (w .1) (w .2)) r j xs o (among-heard _ (heardFrom c (w .0)) _ (w .3)) .0)
+          (new-opening (runOne T) (momentOne m) (R .one) (w .0) (w .1) (w .2) c (z (w .0) (w .1) (w .2))
+          (allowed-at (runOne T) (momentOne m) (R .one) c z (w .0) (w .1) (w .2)) r j xs o (among-heard _ (heardFrom c (w .0)) _ (w .3)) .0)
 
       by-mark : (r : ℕ) → r < 96
           → ((markOf M r ≡ 5) × (leftOf (marksAfter (c1 1 c) M) r ≡ leftOf M r) × (rightOf (marksAfter (c1 1 c) M) r ≡ rightOf M r)) ⊎ MasksAt (c1 1 c) r

@@ -20,7 +20,7 @@ use Rattle.session.specs.Rows.{rowAt, coefficients}
 use Rattle.opening.specs.Walking.{blockCoefficients, tooFew, opened}
 use Rattle.opening.specs.Opening.{openRefusal, openChecks, openTests}
 use Rattle.vectors.specs.Vector.{Vector, number, rowOf}
-use Rattle.runs.specs.Draws.{Plan, Draw, pointOf}
+use Rattle.runs.specs.Draws.{Plan, Draw, IsDraw, Sound, IsRaw, pointOf}
 use Rattle.runs.specs.Calls.{Proper, Post, Call, openingLine, masksLine, Among}
 use Rattle.runs.proofs.Marks.{Marks, markOf, leftOf, rightOf, sessionAt, less, maskA, maskB}
 use Rattle.runs.proofs.Outcomes.{conditionAt, fails, passed, refusalOf}
@@ -35,7 +35,7 @@ use Rattle.secrecy.specs.Book.{Book, Agrees}
 use Rattle.secrecy.proofs.Near.{gap, Near, mask-number}
 use Rattle.secrecy.proofs.Link.{Gaps, Alike, Link}
 use Rattle.secrecy.proofs.Twins.{row-same, load-same, triple-same, deal-same, message-same, linear-same, masks-same, finish-same, open-same}
-use Rattle.secrecy.proofs.State.{Setting, AnOpening, State}
+use Rattle.secrecy.proofs.State.{Run, Moment, AnOpening, State}
 use Rattle.runs.proofs.Start.{sizes}
 open CommutativeRing 𝓡 using (add as _⊕_, neg)
 
@@ -48,35 +48,59 @@ apart x x' = element x' ⊕ neg (element x)
 pub record Two : Type 0 where
   pub plan : Plan
   pub group : List ℕ
+  pub sound : Sound plan
+  pub len : ℕ → ℕ
   pub d : Draw
   pub d' : Draw
   pub u : Secrets
   pub u' : Secrets
-  pub ok : Setting plan d u
-  pub ok' : Setting plan d' u'
-  pub len : ℕ → ℕ
+  pub is-draw : IsDraw plan d
+  pub is-draw' : IsDraw plan d'
+  pub low : (r : ℕ) → IsRaw (plan .raw r) → u r < p
+  pub low' : (r : ℕ) → IsRaw (plan .raw r) → u' r < p
   pub K : Vector
   pub Δ : ℕ → Gaps
   pub link : Link plan group d d' u u' K Δ
 
+abbrev pub runOne : Two → Run
+runOne T = record { plan = T .plan; draw = T .d; u = T .u; len = T .len; sound = T .sound; is-draw = T .is-draw; low = T .low }
+
+abbrev pub runTwo : Two → Run
+runTwo T = record { plan = T .plan; draw = T .d'; u = T .u'; len = T .len; sound = T .sound; is-draw = T .is-draw'; low = T .low' }
+
+-- where they stand: marks and lines are the same in both
+pub record Moments : Type 0 where
+  pub marks : Marks
+  pub vec : ℕ → Vector
+  pub vec' : ℕ → Vector
+  pub book : Book
+  pub book' : Book
+  pub lines : List (List ℕ)
+  pub posts : ℕ → Post
+  pub posts' : ℕ → Post
+
+abbrev pub momentOne : Moments → Moment
+momentOne m = record { marks = m .marks; vec = m .vec; book = m .book; lines = m .lines; posts = m .posts }
+
+abbrev pub momentTwo : Moments → Moment
+momentTwo m = record { marks = m .marks; vec = m .vec'; book = m .book'; lines = m .lines; posts = m .posts' }
+
 module _ (T : Two) where
-  abbrev n : ℕ
-  n = T .plan .n
+  pub record Pair (m : Moments) : Type 0 where
+    pub one : State (runOne T) (momentOne m)
+    pub two : State (runTwo T) (momentTwo m)
+    pub near : (r : ℕ) → r < 96 → markOf (m .marks) r ≢ 0
+        → Near (T .plan .n) (T .plan .t + 1) (pointOf (T .d)) (T .K) (m .vec r) (m .vec' r)
+    pub group-same : All (λ i. m .posts i ≡ m .posts' i) (T .group)
+    pub agreed : (r j : ℕ) (xs : List ℕ) → AnOpening (runOne T) r j xs → Among (openingLine r j xs) (m .lines)
+        → m .book .place r ≡ m .book' .place r
+    pub waiting : (r : ℕ) → r < 96 → markOf (m .marks) r ≡ 5
+        → (apart (m .book .factorA r) (m .book' .factorA r) ≡ T .Δ r .left)
+        × (apart (m .book .factorB r) (m .book' .factorB r) ≡ T .Δ r .right)
 
-  abbrev Nearly : Vector → Vector → Type 0
-  Nearly = Near (T .plan .n) (T .plan .t + 1) (pointOf (T .d)) (T .K)
+  module _ (m : Moments) (R : Pair m) where
+    open Moments m using (marks as M, vec, vec', book as b, book' as b', lines, posts as q, posts' as q')
 
-  pub record Pair (M : Marks) (vec vec' : ℕ → Vector) (b b' : Book) (lines : List (List ℕ)) (q q' : ℕ → Post) : Type 0 where
-    pub one : State (T .plan) (T .d) (T .u) (T .ok) (T .len) M vec b lines q
-    pub two : State (T .plan) (T .d') (T .u') (T .ok') (T .len) M vec' b' lines q'
-    pub near : (r : ℕ) → r < 96 → markOf M r ≢ 0 → Near (T .plan .n) (T .plan .t + 1) (pointOf (T .d)) (T .K) (vec r) (vec' r)
-    pub group-same : All (λ i. q i ≡ q' i) (T .group)
-    pub agreed : (r j : ℕ) (xs : List ℕ) → AnOpening (T .plan) (T .d) (T .u) (T .ok) r j xs → Among (openingLine r j xs) lines
-        → b .place r ≡ b' .place r
-    pub waiting : (r : ℕ) → r < 96 → markOf M r ≡ 5
-        → (apart (b .factorA r) (b' .factorA r) ≡ T .Δ r .left) × (apart (b .factorB r) (b' .factorB r) ≡ T .Δ r .right)
-
-  module _ (M : Marks) (vec vec' : ℕ → Vector) (b b' : Book) (lines : List (List ℕ)) (q q' : ℕ → Post) (R : Pair M vec vec' b b' lines q q') where
     -- ---- numbers in the two runs
 
     held-one : (r : ℕ) → r < 96 → markOf M r ≡ 2 → number (vec r) ≡ element (b .place r)
@@ -184,7 +208,7 @@ module _ (T : Two) where
             proper : Proper s (blocks i lines)
             proper = record { long = equal _ _ (g 5); low = g 9 }
 
-            message : AnOpening (T .plan) (T .d) (T .u) (T .ok) r j (blockCoefficients (T .plan .t + 1) (blocks i lines) j)
+            message : AnOpening (runOne T) r j (blockCoefficients (T .plan .t + 1) (blocks i lines) j)
             message =
                 record {
                   row = ltb-false 95 r (g 6);
@@ -199,7 +223,7 @@ module _ (T : Two) where
         few-same f = go (ℕ-discrete (number (vec r) .0) (number (vec' r) .0))
           where
             t-low : 1 ≤ T .plan .t
-            t-low = sizes (T .plan) (T .ok .sound) .t-low
+            t-low = sizes (T .plan) (T .sound) .t-low
 
             nobody : number (vec r) .0 ≢ number (vec' r) .0 → (j : ℕ) → 1 ≤ j → j ≤ T .plan .n → j ≢ i → Present s (blocks i lines) j → ⊥
             nobody ne j lj hj ji there = ne (ap (λ (z : Element). z .0) (told f j lj hj ji there))

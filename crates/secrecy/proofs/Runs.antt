@@ -28,7 +28,7 @@ use Rattle.secrecy.proofs.Link.{Gaps}
 use Rattle.secrecy.proofs.State.{Past}
 use Rattle.runs.proofs.Start.{sizes}
 use Rattle.secrecy.proofs.Broadcasts.{allowed-at}
-use Rattle.secrecy.proofs.Pair.{Two, Pair, apart, Fit}
+use Rattle.secrecy.proofs.Pair.{Two, runOne, runTwo, Moments, momentOne, momentTwo, Pair, apart, Fit}
 use Rattle.secrecy.proofs.Reckoned.{factorsApart, reckonedHere, reckoned, here-refused}
 use Rattle.secrecy.proofs.Together.{posts-same, same-at, lines-two, group-two}
 use Rattle.secrecy.proofs.Onward.{idle, live}
@@ -62,7 +62,9 @@ module _ (T : Two) where
   c1 lines i c = callAt (T .plan) (T .d) (T .u) lines i c
 
   -- masks are made of a triple that has none yet
-  module _ (M : Marks) (vec vec' : ℕ → Vector) (b b' : Book) (lines : List (List ℕ)) (q q' : ℕ → Post) (R : Pair T M vec vec' b b' lines q q') where
+  module _ (m : Moments) (R : Pair T m) where
+    open Moments m using (marks as M, vec, vec', book as b, book' as b', lines, posts as q, posts' as q')
+
     here-other : (c : Step) → Allowed (c1 lines 1 c) M → (r : ℕ) → r < 96 → (Past (marksAfter (c1 lines 1 c) M) r → ⊥) → (rest : Gaps)
         → reckonedHere c 0 b b' r rest ≡ rest
     here-other (Steps.loadRow r' pack) al r lr np rest = refl
@@ -79,7 +81,7 @@ module _ (T : Two) where
 
     -- the masks made now are those that were reckoned with
     fit-of : (c : Step) → Allowed (c1 lines 1 c) M → (rest : ℕ → Gaps)
-        → ((r : ℕ) → r < 96 → (Past M r → ⊥) → reckonedHere c 0 b b' r (rest r) ≡ T .Δ r) → Fit T M vec vec' b b' lines q q' R c
+        → ((r : ℕ) → r < 96 → (Past M r → ⊥) → reckonedHere c 0 b b' r (rest r) ≡ T .Δ r) → Fit T m R c
     fit-of (Steps.loadRow r' pack) al rest h = tt
     fit-of (Steps.loadTriple r' pack) al rest h = tt
     fit-of (Steps.deal r' c) al rest h = tt
@@ -102,42 +104,67 @@ module _ (T : Two) where
   abbrev pub Foreseen : List Step → Marks → List Entry → Book → Book → Type 0
   Foreseen cs M es b b' = (r : ℕ) → r < 96 → (Past M r → ⊥) → reckoned (T .u) (T .u') cs es b b' r ≡ T .Δ r
 
-  -- the two runs from here to the end: the same entries, and side by side after them
-  pub record Ended (cs : List Step) (b b' : Book) (lines : List (List ℕ)) (q q' : ℕ → Post) : Type 0 where
-    pub entries : run (T .plan) (T .group) (T .d) (T .u) cs lines q ≡ run (T .plan) (T .group) (T .d') (T .u') cs lines q'
-    pub marks : Marks
-    pub vec : ℕ → Vector
-    pub vec' : ℕ → Vector
-    pub lines-after : List (List ℕ)
-    pub pair : Pair T marks vec vec' (bookAfter (T .u) cs (run (T .plan) (T .group) (T .d) (T .u) cs lines q) b)
-        (bookAfter (T .u') cs (run (T .plan) (T .group) (T .d) (T .u) cs lines q) b') lines-after
-        (postsAfter (T .plan) (T .d) (T .u) cs lines q) (postsAfter (T .plan) (T .d') (T .u') cs lines q')
+  -- what the two runs show from here on
+  abbrev pub shownOne : List Step → Moments → List Entry
+  shownOne cs m = run (T .plan) (T .group) (T .d) (T .u) cs (m .lines) (m .posts)
 
-  pub runs : (cs : List Step) (M : Marks) (vec vec' : ℕ → Vector) (b b' : Book) (lines : List (List ℕ)) (q q' : ℕ → Post)
-      → Pair T M vec vec' b b' lines q q' → SameAnswers (run (T .plan) (T .group) (T .d) (T .u) cs lines q)
-      → Rules (T .plan) cs (run (T .plan) (T .group) (T .d) (T .u) cs lines q) lines
-      → Agree (T .u) (T .u') cs (run (T .plan) (T .group) (T .d) (T .u) cs lines q) b b'
-      → Foreseen cs M (run (T .plan) (T .group) (T .d) (T .u) cs lines q) b b' → Ended cs b b' lines q q'
+  abbrev pub shownTwo : List Step → Moments → List Entry
+  shownTwo cs m = run (T .plan) (T .group) (T .d') (T .u') cs (m .lines) (m .posts')
+
+  -- the two runs to the end: the same entries, and side by side after them
+  pub record Ended (cs : List Step) (m : Moments) : Type 0 where
+    pub entries : shownOne cs m ≡ shownTwo cs m
+    pub end : Moments
+    pub pair : Pair T end
+    pub book-is : end .book ≡ bookAfter (T .u) cs (shownOne cs m) (m .book)
+    pub book-is' : end .book' ≡ bookAfter (T .u') cs (shownOne cs m) (m .book')
+    pub posts-are : end .posts ≡ postsAfter (T .plan) (T .d) (T .u) cs (m .lines) (m .posts)
+    pub posts-are' : end .posts' ≡ postsAfter (T .plan) (T .d') (T .u') cs (m .lines) (m .posts')
+
+  pub runs : (cs : List Step) (m : Moments) → Pair T m → SameAnswers (shownOne cs m) → Rules (T .plan) cs (shownOne cs m) (m .lines)
+      → Agree (T .u) (T .u') cs (shownOne cs m) (m .book) (m .book') → Foreseen cs (m .marks) (shownOne cs m) (m .book) (m .book') → Ended cs m
   unfolding run entryOf reckoned outcome postsAfter bookAfter
-  runs [] M vec vec' b b' lines q q' R same rules agree fore =
-      record { entries = refl; marks = M; vec = vec; vec' = vec'; lines-after = lines; pair = R }
-  runs (c ∷ cs) M vec vec' b b' lines q q' R same rules agree fore =
-      go (refusalOf e) refl (λ N v v' x x' Q. runs cs N v v' x x' lines' after1 after2 Q (same .1))
+  runs [] m R same rules agree fore =
+      record { entries = refl; end = m; pair = R; book-is = refl; book-is' = refl; posts-are = refl; posts-are' = refl }
+  runs (c ∷ cs) m R same rules agree fore =
+      go (refusalOf e) refl (λ N v v' x x' Q. runs cs (next N v v' x x') Q (same .1))
     where
+      b : Book
+      b = m .book
+
+      b' : Book
+      b' = m .book'
+
+      lines : List (List ℕ)
+      lines = m .lines
+
+      q : ℕ → Post
+      q = m .posts
+
+      q' : ℕ → Post
+      q' = m .posts'
+
       e : Entry
       e = entryOf (T .plan) (T .group) (T .d) (T .u) lines c q
 
-      lines' : List (List ℕ)
-      lines' = lines ++ linesOf (T .plan) (T .d) (T .u) lines c q
-
-      after1 : ℕ → Post
-      after1 i = after (doneAt (T .plan) (T .d) (T .u) lines c q i)
-
-      after2 : ℕ → Post
-      after2 i = after (doneAt (T .plan) (T .d') (T .u') lines c q' i)
+      -- the moment after the call, but for what the call makes of marks, vectors and books
+      next : Marks → (ℕ → Vector) → (ℕ → Vector) → Book → Book → Moments
+      next N v v' x x' =
+          record {
+            marks = N;
+            vec = v;
+            vec' = v';
+            book = x;
+            book' = x';
+            lines = lines ++ linesOf (T .plan) (T .d) (T .u) lines c q;
+            posts = λ i. after (doneAt (T .plan) (T .d) (T .u) lines c q i);
+            posts' = λ i. after (doneAt (T .plan) (T .d') (T .u') lines c q' i);
+          }
 
       es : List Entry
-      es = run (T .plan) (T .group) (T .d) (T .u) cs lines' after1
+      es =
+          run (T .plan) (T .group) (T .d) (T .u) cs (lines ++ linesOf (T .plan) (T .d) (T .u) lines c q)
+          (λ i. after (doneAt (T .plan) (T .d) (T .u) lines c q i))
 
       -- every post gives the refusal that the record has for the call
       answers : (i : ℕ) → 1 ≤ i → i ≤ T .plan .n → Outcomes.refusalOf (c1 lines i c) (q i) ≡ refusalOf e
@@ -145,63 +172,55 @@ module _ (T : Two) where
           sym (refusal-is (c1 lines i c) (q i))
           ∙ same-refusal (λ i. doneAt (T .plan) (T .d) (T .u) lines c q i .answer .refusal) (T .plan .n) (same .0) i lo hi
 
-      said : (k : ℕ) → ((i : ℕ) → 1 ≤ i → i ≤ T .plan .n → Outcomes.refusalOf (c1 lines i c) (q i) ≡ k) → Rule (T .plan) c k lines
-          → Agrees c k b b' → (k ≡ 0 → Fit T M vec vec' b b' lines q q' R c)
-          → linesOf (T .plan) (T .d) (T .u) lines c q ≡ linesOf (T .plan) (T .d') (T .u') lines c q'
-      said = lines-two T M vec vec' b b' lines q q' R c
+      -- every post answers with k
+      Answered : ℕ → Type 0
+      Answered k = (i : ℕ) → 1 ≤ i → i ≤ T .plan .n → Outcomes.refusalOf (c1 lines i c) (q i) ≡ k
 
-      entry-same : (k : ℕ) → ((i : ℕ) → 1 ≤ i → i ≤ T .plan .n → Outcomes.refusalOf (c1 lines i c) (q i) ≡ k) → Rule (T .plan) c k lines
-          → Agrees c k b b' → (k ≡ 0 → Fit T M vec vec' b b' lines q q' R c)
+      entry-same : (k : ℕ) → Answered k → Rule (T .plan) c k lines → Agrees c k b b' → (k ≡ 0 → Fit T m R c)
           → entryOf (T .plan) (T .group) (T .d) (T .u) lines c q ≡ entryOf (T .plan) (T .group) (T .d') (T .u') lines c q'
       entry-same k z rule ag fit =
-          let same-here = same-at T M vec vec' b b' lines q q' R c k z rule ag fit in
+          let same-here = same-at T m R c k z rule ag fit in
           let refusals : map (λ i. doneAt (T .plan) (T .d) (T .u) lines c q i .answer .refusal) (posts (T .plan .n))
           ≡ map (λ i. doneAt (T .plan) (T .d') (T .u') lines c q' i .answer .refusal) (posts (T .plan .n)) =
           posts-same _ _ (T .plan .n) (λ i lo hi. same-here i lo hi .refusal) in
           let values : map (λ i. doneAt (T .plan) (T .d) (T .u) lines c q i .answer .value) (posts (T .plan .n))
           ≡ map (λ i. doneAt (T .plan) (T .d') (T .u') lines c q' i .answer .value) (posts (T .plan .n)) =
           posts-same _ _ (T .plan .n) (λ i lo hi. same-here i lo hi .value) in
-          let lines-same = said k z rule ag fit in
+          let said = lines-two T m R c k z rule ag fit in
           let rows : map (λ i. doneAt (T .plan) (T .d) (T .u) lines c q i .rows) (T .group)
           ≡ map (λ i. doneAt (T .plan) (T .d') (T .u') lines c q' i .rows) (T .group) =
           rows-all (doneAt (T .plan) (T .d) (T .u) lines c q) (doneAt (T .plan) (T .d') (T .u') lines c q') (T .group)
-          (group-two T M vec vec' b b' lines q q' R c k z rule ag fit) in
-          λ j. record { refusals = refusals j; values = values j; lines = lines-same j; rows = rows j }
+          (group-two T m R c k z rule ag fit) in
+          λ j. record { refusals = refusals j; values = values j; lines = said j; rows = rows j }
 
-      joinup : (k : ℕ) → ((i : ℕ) → 1 ≤ i → i ≤ T .plan .n → Outcomes.refusalOf (c1 lines i c) (q i) ≡ k) → Rule (T .plan) c k lines
-          → Agrees c k b b' → (k ≡ 0 → Fit T M vec vec' b b' lines q q' R c) → (x x' : Book) → x ≡ booked (T .u) c (refusalOf e) b
-          → x' ≡ booked (T .u') c (refusalOf e) b' → Ended cs x x' lines' after1 after2 → Ended (c ∷ cs) b b' lines q q'
-      joinup k z rule ag fit x x' ex ex' ih =
-          let lines-same = said k z rule ag fit in
+      joinup : (k : ℕ) → Answered k → Rule (T .plan) c k lines → Agrees c k b b' → (k ≡ 0 → Fit T m R c)
+          → (N : Marks) (v v' : ℕ → Vector) (x x' : Book) → x ≡ booked (T .u) c (refusalOf e) b → x' ≡ booked (T .u') c (refusalOf e) b'
+          → Ended cs (next N v v' x x') → Ended (c ∷ cs) m
+      joinup k z rule ag fit N v v' x x' ex ex' ih =
+          let said = lines-two T m R c k z rule ag fit in
           record {
             entries = ap₂ _∷_ (entry-same k z rule ag fit)
-                (ih .entries ∙ ap (λ (w : List (List ℕ)). run (T .plan) (T .group) (T .d') (T .u') cs (lines ++ w) after2) lines-same);
-            marks = ih .marks;
-            vec = ih .vec;
-            vec' = ih .vec';
-            lines-after = ih .lines-after;
-            pair = subst
-                (λ (w : List (List ℕ)). Pair T (ih .marks) (ih .vec) (ih .vec') (bookAfter (T .u) cs es (booked (T .u) c (refusalOf e) b))
-                (bookAfter (T .u') cs es (booked (T .u') c (refusalOf e) b')) (ih .lines-after) (postsAfter (T .plan) (T .d) (T .u) cs lines' after1)
-                (postsAfter (T .plan) (T .d') (T .u') cs (lines ++ w) after2)) lines-same
-                (subst
-                (λ (y : Book). Pair T (ih .marks) (ih .vec) (ih .vec') (bookAfter (T .u) cs es y)
-                (bookAfter (T .u') cs es (booked (T .u') c (refusalOf e) b')) (ih .lines-after) (postsAfter (T .plan) (T .d) (T .u) cs lines' after1)
-                (postsAfter (T .plan) (T .d') (T .u') cs lines' after2)) ex
-                (subst
-                (λ (y : Book). Pair T (ih .marks) (ih .vec) (ih .vec') (bookAfter (T .u) cs es x) (bookAfter (T .u') cs es y) (ih .lines-after)
-                (postsAfter (T .plan) (T .d) (T .u) cs lines' after1) (postsAfter (T .plan) (T .d') (T .u') cs lines' after2)) ex' (ih .pair)));
+                (ih .entries
+                ∙ ap (λ (w : List (List ℕ)). run (T .plan) (T .group) (T .d') (T .u') cs (lines ++ w) (λ i. after (doneAt (T .plan) (T .d') (T .u') lines c q' i))) said);
+            end = ih .end;
+            pair = ih .pair;
+            book-is = ih .book-is ∙ ap (bookAfter (T .u) cs es) ex;
+            book-is' = ih .book-is' ∙ ap (bookAfter (T .u') cs es) ex';
+            posts-are = ih .posts-are;
+            posts-are' = ih .posts-are'
+                ∙ ap (λ (w : List (List ℕ)). postsAfter (T .plan) (T .d') (T .u') cs (lines ++ w) (λ i. after (doneAt (T .plan) (T .d') (T .u') lines c q' i))) said;
           }
 
       go : (k : ℕ) → refusalOf e ≡ k
-          → ((N : Marks) (v v' : ℕ → Vector) (x x' : Book) → Pair T N v v' x x' lines' after1 after2 → Rules (T .plan) cs es lines'
-          → Agree (T .u) (T .u') cs es x x' → Foreseen cs N es x x' → Ended cs x x' lines' after1 after2)
-          → Ended (c ∷ cs) b b' lines q q'
+          → ((N : Marks) (v v' : ℕ → Vector) (x x' : Book) → Pair T (next N v v' x x')
+          → Rules (T .plan) cs es (lines ++ linesOf (T .plan) (T .d) (T .u) lines c q) → Agree (T .u) (T .u') cs es x x' → Foreseen cs N es x x'
+          → Ended cs (next N v v' x x'))
+          → Ended (c ∷ cs) m
       go zero ek ih =
-          joinup 0 z rule ag (λ g. fit) _ _ (ap (λ (k : ℕ). booked (T .u) c k b) (sym ek)) (ap (λ (k : ℕ). booked (T .u') c k b') (sym ek))
-          (ih _ _ _ _ _ (live T M vec vec' b b' lines q q' R c z rule ag fit) (rules .1)
+          joinup 0 z rule ag (λ g. fit) _ _ _ _ _ (ap (λ (k : ℕ). booked (T .u) c k b) (sym ek)) (ap (λ (k : ℕ). booked (T .u') c k b') (sym ek))
+          (ih _ _ _ _ _ (live T m R c z rule ag fit) (rules .1)
           (subst (λ (k : ℕ). Agree (T .u) (T .u') cs es (booked (T .u) c k b) (booked (T .u') c k b')) ek (agree .1))
-          (λ r lr np. sym (here-other M vec vec' b b' lines q q' R c al r lr np _) ∙ now r lr (λ past. np (past-stays (T .plan) (T .d) (c1 lines 1 c) M (R .one .sized) al r past))))
+          (λ r lr np. sym (here-other m R c al r lr np _) ∙ now r lr (λ past. np (past-stays (T .plan) (T .d) (c1 lines 1 c) (m .marks) (R .one .sized) al r past))))
         where
           z : (i : ℕ) → 1 ≤ i → i ≤ T .plan .n → Outcomes.refusalOf (c1 lines i c) (q i) ≡ 0
           z i lo hi = answers i lo hi ∙ ek
@@ -212,29 +231,31 @@ module _ (T : Two) where
           ag : Agrees c 0 b b'
           ag = subst (λ (k : ℕ). Agrees c k b b') ek (agree .0)
 
-          al : Allowed (c1 lines 1 c) M
+          al : Allowed (c1 lines 1 c) (m .marks)
           al =
-              allowed-at (T .plan) (T .d) (T .u) (T .ok) (T .len) M vec b lines q (R .one) c z 1 (omega arith)
-              (omega (arith, sizes (T .plan) (T .ok .sound) .n-low))
+              allowed-at (runOne T) (momentOne m) (R .one) c z 1 (omega arith) (omega (arith, sizes (T .plan) (T .sound) .n-low))
 
-          now : (r : ℕ) → r < 96 → (Past M r → ⊥)
+          now : (r : ℕ) → r < 96 → (Past (m .marks) r → ⊥)
               → reckonedHere c 0 b b' r (reckoned (T .u) (T .u') cs es (entered (T .u) c b) (entered (T .u') c b') r) ≡ T .Δ r
           now r lr np =
-              subst (λ (k : ℕ). reckonedHere c k b b' r (reckoned (T .u) (T .u') cs es (booked (T .u) c k b) (booked (T .u') c k b') r) ≡ T .Δ r) ek (fore r lr np)
+              subst (λ (k : ℕ). reckonedHere c k b b' r (reckoned (T .u) (T .u') cs es (booked (T .u) c k b) (booked (T .u') c k b') r) ≡ T .Δ r) ek
+              (fore r lr np)
 
-          fit : Fit T M vec vec' b b' lines q q' R c
-          fit = fit-of M vec vec' b b' lines q q' R c al (reckoned (T .u) (T .u') cs es (entered (T .u) c b) (entered (T .u') c b')) now
+          fit : Fit T m R c
+          fit = fit-of m R c al (reckoned (T .u) (T .u') cs es (entered (T .u) c b) (entered (T .u') c b')) now
       go (suc k) ek ih =
-          joinup (suc k) z rule ag (λ g. absurd (omega arith)) _ _ (ap (λ (m : ℕ). booked (T .u) c m b) (sym ek)) (ap (λ (m : ℕ). booked (T .u') c m b') (sym ek))
-          (ih _ _ _ _ _ (idle T M vec vec' b b' lines q q' R c k z rule ag) (rules .1)
-          (subst (λ (m : ℕ). Agree (T .u) (T .u') cs es (booked (T .u) c m b) (booked (T .u') c m b')) ek (agree .1))
-          (λ r lr np. sym (here-refused c k b b' r _) ∙ subst (λ (m : ℕ). reckonedHere c m b b' r (reckoned (T .u) (T .u') cs es (booked (T .u) c m b) (booked (T .u') c m b') r) ≡ T .Δ r) ek (fore r lr np)))
+          joinup (suc k) z rule ag (λ g. absurd (omega arith)) _ _ _ _ _ (ap (λ (j : ℕ). booked (T .u) c j b) (sym ek))
+          (ap (λ (j : ℕ). booked (T .u') c j b') (sym ek))
+          (ih _ _ _ _ _ (idle T m R c k z rule ag) (rules .1)
+          (subst (λ (j : ℕ). Agree (T .u) (T .u') cs es (booked (T .u) c j b) (booked (T .u') c j b')) ek (agree .1))
+          (λ r lr np. sym (here-refused c k b b' r _)
+          ∙ subst (λ (j : ℕ). reckonedHere c j b b' r (reckoned (T .u) (T .u') cs es (booked (T .u) c j b) (booked (T .u') c j b') r) ≡ T .Δ r) ek (fore r lr np)))
         where
           z : (i : ℕ) → 1 ≤ i → i ≤ T .plan .n → Outcomes.refusalOf (c1 lines i c) (q i) ≡ suc k
           z i lo hi = answers i lo hi ∙ ek
 
           rule : Rule (T .plan) c (suc k) lines
-          rule = subst (λ (m : ℕ). Rule (T .plan) c m lines) ek (rules .0)
+          rule = subst (λ (j : ℕ). Rule (T .plan) c j lines) ek (rules .0)
 
           ag : Agrees c (suc k) b b'
-          ag = subst (λ (m : ℕ). Agrees c m b b') ek (agree .0)
+          ag = subst (λ (j : ℕ). Agrees c j b b') ek (agree .0)

@@ -27,7 +27,7 @@ use Rattle.runs.specs.Calls.{Post, Call, openingLine, masksLine, Among, at}
 use Rattle.runs.proofs.Marks.{Marks, Sized, markOf, leftOf, rightOf, less, maskA, maskB, written, sessionAt, marksAfter, vectorsAfter, at-same, at-other}
 use Rattle.runs.proofs.Numbers.{dealt-number, summed-number, product-number, third-number}
 use Rattle.runs.proofs.Packs.{raw-drawn, positive}
-use Rattle.runs.proofs.Start.{Sizes, sizes}
+use Rattle.runs.proofs.Start.{sizes}
 use Rattle.runs.proofs.Steps.{Stands, Fits}
 use Rattle.runs.proofs.Lines.{Opening, Masks}
 use Rattle.runs.proofs.Records.{all-true, Present}
@@ -40,11 +40,23 @@ use Rattle.secrecy.specs.Book.{Book, entered}
 open CommutativeRing 𝓡 using (mul as _⊗_)
 
 infixl 70 _⊗_
--- what a run is made with
-pub record Setting (plan : Plan) (draw : Draw) (u : Secrets) : Type 0 where
+-- what a run is made with; `len` is how long each post's list of rows is
+pub record Run : Type 0 where
+  pub plan : Plan
+  pub draw : Draw
+  pub u : Secrets
+  pub len : ℕ → ℕ
   pub sound : Sound plan
   pub is-draw : IsDraw plan draw
   pub low : (r : ℕ) → IsRaw (plan .raw r) → u r < p
+
+-- where it stands: the marks and the rows' vectors, the same at every post; the book; what was broadcast; the posts
+pub record Moment : Type 0 where
+  pub marks : Marks
+  pub vec : ℕ → Vector
+  pub book : Book
+  pub lines : List (List ℕ)
+  pub posts : ℕ → Post
 
 -- the masks of the triple at r were made
 abbrev pub Past : Marks → ℕ → Type 0
@@ -57,35 +69,32 @@ Held b r X = number X ≡ element (b .place r)
 abbrev pub Waits : Book → ℕ → ℕ → ℕ → Type 0
 Waits b r x y = (b .factorA r ≡ b .place x) × (b .factorB r ≡ b .place y)
 
-module _ (plan : Plan) (draw : Draw) (u : Secrets) (ok : Setting plan draw u) where
-  abbrev k : ℕ
-  k = plan .t + 1
-
-  size : Sizes plan
-  size = sizes plan (ok .sound)
+module _ (C : Run) where
+  open Run C using (plan, draw, u, len)
 
   -- a well-formed O line; a well-formed M line
   abbrev pub AnOpening : ℕ → ℕ → List ℕ → Type 0
-  AnOpening r j xs = Opening (plan .n) (plan .t + 1) (sizes plan (ok .sound) .n-high) r j xs
+  AnOpening r j xs = Opening (C .plan .n) (C .plan .t + 1) (sizes (C .plan) (C .sound) .n-high) r j xs
 
   abbrev pub AMask : ℕ → ℕ → List ℕ → Type 0
-  AMask r j xs = Masks (plan .n) (plan .t + 1) (sizes plan (ok .sound) .n-high) r j xs
+  AMask r j xs = Masks (C .plan .n) (C .plan .t + 1) (sizes (C .plan) (C .sound) .n-high) r j xs
 
   -- what an M line of the triple at r shows of post j
   abbrev pub maskNumbers : Marks → (ℕ → Vector) → ℕ → ℕ → List ℕ
-  maskNumbers M vec r j = numbers (plan .t + 1) (maskA M vec r .v j) ++ numbers (plan .t + 1) (maskB M vec r .v j)
+  maskNumbers M vec r j = numbers (C .plan .t + 1) (maskA M vec r .v j) ++ numbers (C .plan .t + 1) (maskB M vec r .v j)
 
-  pub record State (len : ℕ → ℕ) (M : Marks) (vec : ℕ → Vector) (b : Book) (lines : List (List ℕ)) (q : ℕ → Post) : Type 0 where
-    pub sized : Sized M
-    pub posts : (i : ℕ) → 1 ≤ i → i ≤ plan .n → Stands plan draw (len i) i M vec (q i)
-    pub facts : Facts plan draw (Held b) (Waits b) M vec
-    pub openings : (r j : ℕ) (xs : List ℕ) → AnOpening r j xs → Among (openingLine r j xs) lines
-        → (markOf M r ≡ 2) × (xs ≡ numbers (plan .t + 1) (vec r .v j))
-    pub maskings : (r j : ℕ) (xs : List ℕ) → AMask r j xs → Among (masksLine r j xs) lines
-        → Past M r × (markOf M r ≡ 5 → xs ≡ maskNumbers M vec r j)
+  pub record State (m : Moment) : Type 0 where
+    pub sized : Sized (m .marks)
+    pub posts : (i : ℕ) → 1 ≤ i → i ≤ C .plan .n → Stands (C .plan) (C .draw) (C .len i) i (m .marks) (m .vec) (m .posts i)
+    pub facts : Facts (C .plan) (C .draw) (Held (m .book)) (Waits (m .book)) (m .marks) (m .vec)
+    pub openings : (r j : ℕ) (xs : List ℕ) → AnOpening r j xs → Among (openingLine r j xs) (m .lines)
+        → (markOf (m .marks) r ≡ 2) × (xs ≡ numbers (C .plan .t + 1) (m .vec r .v j))
+    pub maskings : (r j : ℕ) (xs : List ℕ) → AMask r j xs → Among (masksLine r j xs) (m .lines)
+        → Past (m .marks) r × (markOf (m .marks) r ≡ 5 → xs ≡ maskNumbers (m .marks) (m .vec) r j)
 
-  module _ (len : ℕ → ℕ) (M : Marks) (vec : ℕ → Vector) (b : Book) (lines : List (List ℕ)) (q : ℕ → Post)
-      (S : State len M vec b lines q) where
+  module _ (m : Moment) (S : State m) where
+    open Moment m using (marks as M, vec, book as b, lines)
+
     -- the call of the list at post i
     abbrev call : ℕ → Step → Call
     call i c = callAt plan draw u lines i c
@@ -134,7 +143,7 @@ module _ (plan : Plan) (draw : Draw) (u : Secrets) (ok : Setting plan draw u) wh
         let f = S .facts r lr .raw one in
         ap (λ (X : Vector). number (raised (element (dealtNumber plan draw u r)) X)) (f .1)
         ∙ ap (λ (c : ℕ). number (raised (element c) (vectorOf (plan .t + 1) (rawDraw draw r)))) (go (plan .raw r) (f .0))
-        ∙ dealt-number plan draw (ok .is-draw) r (u r) (ok .low r (f .0))
+        ∙ dealt-number plan draw (C .is-draw) r (u r) (C .low r (f .0))
       where
         go : (w : Raw) → IsRaw w → whenRaw w (dealerNumber (u r) (getD (rawDraw draw r) 0 0) .value) 0 ≡ dealerNumber (u r) (getD (rawDraw draw r) 0 0) .value
         go none x = absurd x

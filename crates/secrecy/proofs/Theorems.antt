@@ -1,6 +1,6 @@
 -- Demand 3: the draws that show a record under one list of secrets are matched one to one with those that show it under the
 -- other; and so there are as many.
-use Prim.Native.Nat.{ℕ, _≤_, _<_}
+use Prim.Native.Nat.{ℕ, _+_, _*_, _≤_, _<_}
 use mathlib.Core.Path.{_≡_, refl, sym, _∙_, ap, subst}
 use mathlib.Core.Bool.{not}
 use mathlib.Core.List.{List, [], _∷_, map}
@@ -16,7 +16,8 @@ use Rattle.field.proofs.Elements.{𝓡}
 use Rattle.poly.specs.Counting.{All}
 use Rattle.poly.proofs.Lists.{all-of}
 use Rattle.vectors.specs.Vector.{Vector}
-use Rattle.runs.specs.Draws.{Plan, Draw, IsDraw, Sound, pointOf}
+use Rattle.field.specs.Modulus.{p}
+use Rattle.runs.specs.Draws.{Plan, Draw, IsDraw, IsRaw, Sound, pointOf}
 use Rattle.runs.specs.Calls.{Post, newPost}
 use Rattle.runs.proofs.Marks.{Marks, markOf, sessionAt}
 use Rattle.runs.proofs.Start.{start, start-sized, start-mark, start-stands, start-facts}
@@ -33,10 +34,10 @@ use Rattle.secrecy.proofs.Moved.{moved, moved-is, moved-points}
 use Rattle.secrecy.proofs.Linked.{link}
 use Rattle.secrecy.proofs.Unchanged.{same-points, same-raws, same-triples, same-polynomials, same-deals}
 use Rattle.secrecy.proofs.Back.{back}
-use Rattle.secrecy.proofs.State.{Setting, State}
+use Rattle.secrecy.proofs.State.{Run, Moment, State}
 use Rattle.secrecy.proofs.Twins.{row-same}
 use Rattle.secrecy.proofs.Pair as Pairs
-use Rattle.secrecy.proofs.Pair.{Two, Pair, place-number}
+use Rattle.secrecy.proofs.Pair.{Two, Moments, Pair, place-number}
 use Rattle.secrecy.proofs.Reckoned as Reckoned
 use Rattle.secrecy.proofs.Reckoned.{reckoned, reckoned-back}
 use Rattle.secrecy.proofs.Runs.{Ended, runs}
@@ -90,13 +91,16 @@ module _ (plan : Plan) (group : List ℕ) (rows : ℕ → List ℕ) (cs : List S
         record {
           plan = plan;
           group = group;
+          sound = h .sound;
+          len = λ i. length (rows i);
           d = d;
           d' = moved plan group u u' Δ d;
           u = u;
           u' = u';
-          ok = record { sound = h .sound; is-draw = s .is-draw; low = λ r raw. h .secrets r raw .0 };
-          ok' = record { sound = h .sound; is-draw = is'; low = λ r raw. h .secrets r raw .1 };
-          len = λ i. length (rows i);
+          is-draw = s .is-draw;
+          is-draw' = is';
+          low = λ r raw. h .secrets r raw .0;
+          low' = λ r raw. h .secrets r raw .1;
           K = groupKernel (pointOf d) group;
           Δ = Δ;
           link = link plan group u u' Δ d (h .sound) (h .group-few) (h .secrets) (s .is-draw);
@@ -105,10 +109,29 @@ module _ (plan : Plan) (group : List ℕ) (rows : ℕ → List ℕ) (cs : List S
     none : Vector
     none = record { c = 0ᴱ; f = λ i. 0ᴱ; v = λ j i. 0ᴱ }
 
+    -- new posts of a draw
+    new : Draw → ℕ → Post
+    new e i = newPost plan e (rows i) i
+
+    beginning : Moments
+    beginning =
+        record {
+          marks = start;
+          vec = λ r. none;
+          vec' = λ r. none;
+          book = blank;
+          book' = blank;
+          lines = [];
+          posts = new d;
+          posts' = new (moved plan group u u' Δ d);
+        }
+
     -- the runs start side by side
-    begins : (e : Draw) (w : Secrets) (ok : Setting plan e w) (is : IsDraw plan e)
-        → State plan e w ok (λ i. length (rows i)) start (λ r. none) blank [] (λ i. newPost plan e (rows i) i)
-    begins e w ok is =
+    begins : (e : Draw) (w : Secrets) (is : IsDraw plan e) (low : (r : ℕ) → IsRaw (plan .raw r) → w r < p)
+        → State (record { plan = plan; draw = e; u = w; len = λ i. length (rows i); sound = h .sound; is-draw = is; low = low })
+        (record { marks = start; vec = λ r. none; book = blank; lines = []; posts = new e })
+    unfolding new
+    begins e w is low =
         record {
           sized = start-sized;
           posts = λ i lo hi. start-stands plan e (h .sound) is (λ r. none) (rows i) i lo hi;
@@ -117,12 +140,12 @@ module _ (plan : Plan) (group : List ℕ) (rows : ℕ → List ℕ) (cs : List S
           maskings = λ r j xs o a. absurd a;
         }
 
-    pair : Pair two start (λ r. none) (λ r. none) blank blank [] (λ i. newPost plan d (rows i) i) (λ i. newPost plan (moved plan group u u' Δ d) (rows i) i)
-    unfolding two newPost
+    pair : Pair two beginning
+    unfolding two beginning new newPost
     pair =
         record {
-          one = begins d u _ (s .is-draw);
-          two = begins (moved plan group u u' Δ d) u' _ is';
+          one = begins d u (s .is-draw) (λ r raw. h .secrets r raw .0);
+          two = begins (moved plan group u u' Δ d) u' is' (λ r raw. h .secrets r raw .1);
           near = λ r lr ne. absurd (ne (start-mark r));
           group-same = all-of (λ i. ap (λ (f : ℕ → ℕ). record { session = created (plan .n) (plan .t) i (f i) .session; rows = rows i }) (sym (moved-points plan group u u' Δ d))) group;
           agreed = λ r j xs o a. absurd a;
@@ -130,61 +153,60 @@ module _ (plan : Plan) (group : List ℕ) (rows : ℕ → List ℕ) (cs : List S
         }
 
     -- the entries of the run are the record's
-    shown : run plan group d u cs [] (λ i. newPost plan d (rows i) i) ≡ R .entries
-    unfolding seen
+    shown : run plan group d u cs [] (new d) ≡ R .entries
+    unfolding seen new
     shown = ap (λ (x : Seen). x .entries) (s .same)
 
-    ended : Ended two cs blank blank [] (λ i. newPost plan d (rows i) i) (λ i. newPost plan (moved plan group u u' Δ d) (rows i) i)
-    unfolding two Δ
+    ended : Ended two cs beginning
+    unfolding two beginning Δ
     ended =
-        runs two cs start (λ r. none) (λ r. none) blank blank [] _ _ pair (subst SameAnswers (sym shown) (h .same-answers))
-        (subst (λ (x : List Entry). Rules plan cs x []) (sym shown) (h .rules))
+        runs two cs beginning pair (subst SameAnswers (sym shown) (h .same-answers)) (subst (λ (x : List Entry). Rules plan cs x []) (sym shown) (h .rules))
         (subst (λ (x : List Entry). Agree u u' cs x blank blank) (sym shown) (h .agree))
         (λ r lr np. ap (λ (x : List Entry). reckoned u u' cs x blank blank r) shown)
 
     entries-same : run plan group d u cs [] (λ i. newPost plan d (rows i) i)
         ≡ run plan group (moved plan group u u' Δ d) u' cs [] (λ i. newPost plan (moved plan group u u' Δ d) (rows i) i)
-    unfolding two
+    unfolding two beginning new
     entries-same = ended .entries
 
     -- a held row whose place agrees is the same at every post
     everywhere : AgreeingRows plan rows cs u u' R d (moved plan group u u' Δ d)
-    unfolding two
+    unfolding two beginning new
     everywhere i lo hi r low held agree =
-        ap (λ (w : ℕ). rowAt w (q i .rows) r) (ap width session)
-        ∙ row-same plan d (groupKernel (pointOf d) group) M (ended .vec) (ended .vec') (P .near) i lo hi (length (rows i)) (q i .rows) (q' i .rows)
-        (Pairs.h two M (ended .vec) (ended .vec') b b' (ended .lines-after) q q' P i lo hi)
-        (Pairs.h' two M (ended .vec) (ended .vec') b b' (ended .lines-after) q q' P i lo hi) r 1 low (ap (λ (m : ℕ). not (eqb m 2)) two-is)
-        (place-number two M (ended .vec) (ended .vec') b b' (ended .lines-after) q q' P r (omega arith) two-is places)
+        ap (λ (w : ℕ). rowAt w (q i .rows) r) (ap width session) ∙ same
         ∙ sym (ap (λ (w : ℕ). rowAt w (q' i .rows) r) (ap width session))
       where
-        M : Marks
-        M = ended .marks
-
         q : ℕ → Post
         q = postsAfter plan d u cs [] (λ i. newPost plan d (rows i) i)
 
         q' : ℕ → Post
         q' = postsAfter plan (moved plan group u u' Δ d) u' cs [] (λ i. newPost plan (moved plan group u u' Δ d) (rows i) i)
 
-        b : Book
-        b = bookAfter u cs (run plan group d u cs [] (λ i. newPost plan d (rows i) i)) blank
+        end : Moments
+        end = ended .end
 
-        b' : Book
-        b' = bookAfter u' cs (run plan group d u cs [] (λ i. newPost plan d (rows i) i)) blank
-
-        P : Pair two M (ended .vec) (ended .vec') b b' (ended .lines-after) q q'
+        P : Pair two (ended .end)
         P = ended .pair
 
-        session : q i .session ≡ sessionAt plan d i M
-        session = P .one .posts i lo hi .session
+        session : q i .session ≡ sessionAt plan d i (ended .end .marks)
+        session = sym (ap (λ (f : ℕ → Post). f i .session) (ended .posts-are)) ∙ P .one .posts i lo hi .session
 
-        two-is : markOf M r ≡ 2
+        two-is : markOf (ended .end .marks) r ≡ 2
         two-is = sym (ap (λ (x : Session). mark x r) session) ∙ held
 
-        places : b .place r ≡ b' .place r
+        places : ended .end .book .place r ≡ ended .end .book' .place r
         places =
-            subst (λ (es : List Entry). bookAfter u cs es blank .place r ≡ bookAfter u' cs es blank .place r) (sym shown) agree
+            ap (λ (x : Book). x .place r) (ended .book-is)
+            ∙ subst (λ (es : List Entry). bookAfter u cs es blank .place r ≡ bookAfter u' cs es blank .place r) (sym shown) agree
+            ∙ sym (ap (λ (x : Book). x .place r) (ended .book-is'))
+
+        same : rowAt (plan .t + 1 + 2 * plan .n) (q i .rows) r ≡ rowAt (plan .t + 1 + 2 * plan .n) (q' i .rows) r
+        same =
+            ap (λ (f : ℕ → Post). rowAt (plan .t + 1 + 2 * plan .n) (f i .rows) r) (sym (ended .posts-are))
+            ∙ row-same plan d (groupKernel (pointOf d) group) (ended .end .marks) (ended .end .vec) (ended .end .vec') (P .near) i lo hi (length (rows i)) _ _
+            (Pairs.h two (ended .end) P i lo hi) (Pairs.h' two (ended .end) P i lo hi) r 1 low (ap (λ (m : ℕ). not (eqb m 2)) two-is)
+            (place-number two (ended .end) P r (omega arith) two-is places)
+            ∙ ap (λ (f : ℕ → Post). rowAt (plan .t + 1 + 2 * plan .n) (f i .rows) r) (ended .posts-are')
 
     transfer : Shows plan group rows cs u' R (moved plan group u u' Δ d)
     unfolding seen

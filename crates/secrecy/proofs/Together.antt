@@ -28,11 +28,11 @@ use Rattle.secrecy.specs.Rules.{Rule}
 use Rattle.secrecy.specs.Book.{Book, Agrees, entered}
 use Rattle.secrecy.proofs.Near.{Near, near-plusTimes, near-raised}
 use Rattle.secrecy.proofs.Link.{Gaps}
-use Rattle.secrecy.proofs.State.{Setting, AnOpening, State, place-stays, notes-stay}
+use Rattle.secrecy.proofs.State.{Run, Moment, AnOpening, State, place-stays, notes-stay}
 use Rattle.runs.proofs.Start.{sizes}
 use Rattle.secrecy.proofs.Broadcasts.{among-append, among-posts, Done, allowed-at, MessageAt, new-opening}
 use Rattle.secrecy.proofs.Advance.{advance}
-use Rattle.secrecy.proofs.Pair.{Two, Pair, apart, Fit, wait-numbers}
+use Rattle.secrecy.proofs.Pair.{Two, runOne, runTwo, Moments, momentOne, momentTwo, Pair, apart, Fit, wait-numbers}
 use Rattle.secrecy.proofs.Answers.{Same, same-answers}
 
 -- a map over the posts 1 to n
@@ -45,8 +45,9 @@ pub posts-same : {A : Type 0} (f g : ℕ → A) (n : ℕ) → ((i : ℕ) → 1 �
 unfolding posts
 posts-same f g n h = each-same f g 1 n (λ i a c. h i a (omega arith))
 
-module _ (T : Two) (M : Marks) (vec vec' : ℕ → Vector) (b b' : Book) (lines : List (List ℕ)) (q q' : ℕ → Post)
-    (R : Pair T M vec vec' b b' lines q q') where
+module _ (T : Two) (m : Moments) (R : Pair T m) where
+  open Moments m using (marks as M, vec, vec', book as b, book' as b', lines, posts as q, posts' as q')
+
   abbrev c1 : ℕ → Step → Call
   c1 i c = callAt (T .plan) (T .d) (T .u) lines i c
 
@@ -66,10 +67,10 @@ module _ (T : Two) (M : Marks) (vec vec' : ℕ → Vector) (b b' : Book) (lines 
 
   -- what every post answers to the call, with the refusal k
   module _ (c : Step) (k : ℕ) (z : (i : ℕ) → 1 ≤ i → i ≤ T .plan .n → refusalOf (c1 i c) (q i) ≡ k)
-      (rule : Rule (T .plan) c k lines) (agree : Agrees c k b b') (fit : k ≡ 0 → Fit T M vec vec' b b' lines q q' R c) where
-    pub same-at : (i : ℕ) (lo : 1 ≤ i) (hi : i ≤ T .plan .n) → Same T M vec vec' b b' lines q q' R i lo hi (perform (c1 i c) (q i)) (perform (c2 i c) (q' i)) (c1 i c) (c2 i c)
+      (rule : Rule (T .plan) c k lines) (agree : Agrees c k b b') (fit : k ≡ 0 → Fit T m R c) where
+    pub same-at : (i : ℕ) (lo : 1 ≤ i) (hi : i ≤ T .plan .n) → Same T m R i lo hi (perform (c1 i c) (q i)) (perform (c2 i c) (q' i)) (c1 i c) (c2 i c)
     same-at i lo hi =
-        same-answers T M vec vec' b b' lines q q' R i lo hi c (subst (λ (m : ℕ). Rule (T .plan) c m lines) (sym (z i lo hi)) rule)
+        same-answers T m R i lo hi c (subst (λ (m : ℕ). Rule (T .plan) c m lines) (sym (z i lo hi)) rule)
         (subst (λ (m : ℕ). Agrees c m b b') (sym (z i lo hi)) agree) (λ e. fit (sym (z i lo hi) ∙ e))
 
     pub refused-two : (i : ℕ) → 1 ≤ i → i ≤ T .plan .n → refusalOf (c2 i c) (q' i) ≡ k
@@ -149,7 +150,7 @@ module _ (T : Two) (M : Marks) (vec vec' : ℕ → Vector) (b b' : Book) (lines 
       low = al .r-low
 
       w : (number (maskA M vec x) ≡ number (maskA M vec' x)) × (number (maskB M vec x) ≡ number (maskB M vec' x))
-      w = wait-numbers T M vec vec' b b' lines q q' R x (al .first) (omega (arith, low))
+      w = wait-numbers T m R x (al .first) (omega (arith, low))
 
       y : ℕ
       y = number (maskA M vec x) .0
