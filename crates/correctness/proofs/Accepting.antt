@@ -11,7 +11,6 @@ use lib.ListN.{length}
 use Rattle.poly.specs.Counting.{Elements, count}
 use Rattle.session.specs.declared.Session.{Session}
 use Rattle.opening.specs.Walking.{blockMark, sent, accepts, walk, acceptedPosts, tooFew}
-use Rattle.runs.proofs.Records as Records
 use Rattle.runs.proofs.Records.{sent-there, block-many, block-low}
 use Rattle.runs.specs.Calls.{Proper}
 use Rattle.correctness.specs.Claim.{accepted}

@@ -2,7 +2,6 @@
 use Prim.Native.Nat.{ℕ, zero, suc, _+_, _-_, _≤_}
 use mathlib.Core.Path.{_≡_, refl, sym, _∙_, ap}
 use mathlib.Core.Bool.{Bool, true, false}
-use mathlib.Core.Logic.{_≢_}
 use mathlib.Core.List.{List}
 use native.Mathlib.Nat.{le-refl, le-trans}
 use native.Mathlib.Decide.{ℕ-discrete}
@@ -13,15 +12,13 @@ use Rattle.field.specs.Modulus.{p}
 use Rattle.poly.specs.Counting.{count, agreements}
 use Rattle.poly.specs.Polynomial.{value}
 use Rattle.poly.proofs.Theorems.{false-polynomials-pass}
-use Rattle.session.specs.declared.Session.{Session}
-use Rattle.opening.specs.Walking.{blockMark, blockCoefficients, sent, accepts}
-use Rattle.vectors.specs.Vector.{Vector, numbers}
+use Rattle.opening.specs.Walking.{blockMark, blockCoefficients, accepts}
+use Rattle.vectors.specs.Vector.{numbers}
 use Rattle.vectors.specs.Claims.{heldRow}
 use Rattle.vectors.proofs.Linear.{length-numbers}
 use Rattle.vectors.proofs.Theorems.{accepted-agrees}
 use Rattle.runs.proofs.Lines.{numbers-elements}
 use Rattle.runs.proofs.Records.{Present, sent-there, accepted-there, block-many, block-low}
-use Rattle.runs.specs.Calls.{Proper}
 use Rattle.correctness.specs.Claim.{atPoint, FalseCaught}
 
 -- a test that passes wherever another does

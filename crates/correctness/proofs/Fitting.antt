@@ -1,5 +1,5 @@
 -- A finish whose polynomials are truly their senders' is one that fits the vectors.
-use Prim.Native.Nat.{ℕ, _+_, _-_, _≤_, _<_}
+use Prim.Native.Nat.{ℕ, _+_, _≤_, _<_}
 use mathlib.Core.Path.{_≡_, sym, _∙_, ap, subst}
 use mathlib.Core.Logic.{_≢_, inr}
 use mathlib.Core.List.{List}

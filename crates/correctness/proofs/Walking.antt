@@ -1,23 +1,14 @@
 -- All posts, event by event: each stands by the ledger, and so does each line.
-use Prim.Native.Nat.{ℕ, zero, suc, _-_, _≤_, _<_}
-use mathlib.Core.Path.{_≡_, refl, sym, _∙_, ap₂, subst}
-use mathlib.Core.Bool.{false}
-use mathlib.Core.Logic.{inl, inr}
+use Prim.Native.Nat.{ℕ, zero, suc, _≤_}
+use mathlib.Core.Path.{_≡_, refl, sym, _∙_, subst}
 use mathlib.Core.List.{List, [], _∷_, _++_}
-use native.Mathlib.Decide.{ℕ-discrete, decLt}
-use native.Mathlib.Omega.{arith}
-use borrow.Author.Tests.{le-ltb, ne-eqb}
-use lib.ListN.{length, getD, replicate, length-replicate, getD-replicate, List·getD-eq-default}
-use Rattle.field.specs.Modulus.{p}
+use native.Mathlib.Decide.{ℕ-discrete}
+use lib.ListN.{length}
 use Rattle.poly.specs.Counting.{All}
-use Rattle.refusal.specs.Refusal.{_when_, first, orElse, outcome}
-use Rattle.refusal.specs.Conditions.{or, outside, badPoint, postsTests}
-use Rattle.refusal.proofs.Laws.{first-join, not-refused}
-use Rattle.refusal.proofs.Elements.{element-test}
-use Rattle.session.specs.Sessions.{sessionOf, sessionTests, created, answer}
-use Rattle.runs.specs.Draws.{Plan, Draw, IsDraw, Sound, pointOf}
-use Rattle.runs.specs.Calls.{Post, after, broadcast, newPost, at}
-use Rattle.runs.proofs.Marks.{Marks, markOf, Sized, sessionAt, at-same, at-other, rawVector}
+use Rattle.session.specs.Sessions.{answer}
+use Rattle.runs.specs.Draws.{Plan, Draw, IsDraw, Sound}
+use Rattle.runs.specs.Calls.{Post, after, broadcast, at}
+use Rattle.runs.proofs.Marks.{at-same, at-other, rawVector}
 use Rattle.runs.proofs.Start.{start, start-sized, start-mark, start-stands, start-facts}
 use Rattle.runs.proofs.Outcomes.{refusalOf, refusal-is, refused}
 use Rattle.correctness.specs.History.{Event, World, doneBy, turn, history, begin, Each}

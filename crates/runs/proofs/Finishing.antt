@@ -1,13 +1,13 @@
 -- One post's finish: where the polynomials it accepted are truly their senders', the third row is its part of the product.
-use Prim.Native.Nat.{ℕ, suc, _+_, _*_, _-_, _≤_, _<_}
-use mathlib.Core.Path.{_≡_, refl, sym, _∙_, ap, ap₂, subst}
+use Prim.Native.Nat.{ℕ, _+_, _*_, _-_, _≤_, _<_}
+use mathlib.Core.Path.{_≡_, sym, _∙_, ap, ap₂, subst}
 use mathlib.Core.Bool.{false}
 use mathlib.Core.Logic.{_≢_}
-use mathlib.Core.List.{List, []}
+use mathlib.Core.List.{List}
 use native.Mathlib.Decide.{ℕ-discrete}
 use native.Mathlib.Omega.{arith}
 use borrow.Author.Tests.{ltb-false}
-use lib.ListN.{length, getD, set}
+use lib.ListN.{set}
 use lib.Seq.{getD-set-other}
 use Rattle.field.specs.Modulus.{p}
 use Rattle.field.specs.Arithmetic.{product}
@@ -19,7 +19,7 @@ use Rattle.session.specs.Rows.{sumsAt, rowAt, combined, plusSums}
 use Rattle.opening.specs.Walking.{acceptedPosts, tooFew, opened}
 use Rattle.product.specs.Finish as Finish
 use Rattle.product.specs.Finish.{finishTests, finishRefusal, productRow, withProduct}
-use Rattle.vectors.specs.Vector.{Vector, plusTimes, raised, number}
+use Rattle.vectors.specs.Vector.{Vector, plusTimes, number}
 use Rattle.vectors.specs.Claims.{heldRow, Truly}
 use Rattle.vectors.proofs.Linear.{row-plusTimes, row-raised}
 use Rattle.vectors.proofs.Theorems.{opened-exact}

@@ -1,8 +1,8 @@
 -- A broadcast line shows one message: whose it is, for which row, and its numbers.
-use Prim.Native.Nat.{ℕ, zero, suc, _+_, _*_, _≤_, _<_}
-use mathlib.Core.Path.{_≡_, refl, sym, _∙_, ap, ap₂}
-use mathlib.Core.Bool.{Bool, true, false}
-use mathlib.Core.List.{List, [], _∷_, _++_}
+use Prim.Native.Nat.{ℕ, zero, suc, _*_, _≤_, _<_}
+use mathlib.Core.Path.{_≡_, refl, ap, ap₂}
+use mathlib.Core.Bool.{false}
+use mathlib.Core.List.{List, [], _∷_}
 use native.Mathlib.Omega.{arith}
 use borrow.Author.Tests.{le-ltb}
 use lib.Dec.{ltb}
@@ -14,7 +14,7 @@ use Rattle.refusal.proofs.Laws.{or-false}
 use Rattle.refusal.proofs.Elements.{below-p, element-test}
 use Rattle.decimal.specs.Numeral.{tens}
 use Rattle.forms.specs.Lines as Line
-use Rattle.forms.specs.Lines.{Message, text}
+use Rattle.forms.specs.Lines.{Message}
 use Rattle.forms.specs.Forms.{Sent}
 use Rattle.forms.proofs.RoundTrip.{one-message}
 use Rattle.vectors.specs.Vector.{numbers}

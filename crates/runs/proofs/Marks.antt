@@ -1,5 +1,5 @@
 -- What a call that is not refused makes of a session's marks and of the rows' vectors: by the call alone, whoever makes it.
-use Prim.Native.Nat.{ℕ, _+_, _*_, _-_}
+use Prim.Native.Nat.{ℕ, _+_, _-_}
 use mathlib.Core.Path.{_≡_, ap}
 use mathlib.Core.Bool.{Bool, cond}
 use mathlib.Core.Logic.{_≢_}

@@ -1,20 +1,19 @@
 -- A post's pack is its row of the drawn vector.
-use Prim.Native.Nat.{ℕ, suc, _+_, _*_, _-_, _≤_, _<_}
-use mathlib.Core.Path.{_≡_, refl, sym, _∙_, ap, ap₂}
-use mathlib.Core.Bool.{Bool, true, false, cond}
-use mathlib.Core.List.{List, [], _∷_, _++_}
-use native.Mathlib.Nat.{mul-le-mul, le-refl, mul-comm, add-mul}
+use Prim.Native.Nat.{ℕ, _+_, _*_, _-_, _≤_, _<_}
+use mathlib.Core.Path.{_≡_, refl, _∙_, ap, ap₂}
+use mathlib.Core.Bool.{Bool, true, cond}
+use mathlib.Core.List.{List, _++_}
+use native.Mathlib.Nat.{mul-le-mul}
 use native.Mathlib.Omega.{arith}
-use lib.ListN.{length, take, drop, getD, length-drop}
+use lib.ListN.{length, drop, length-drop}
 use lib.Seq.{length-take-le}
 use Rattle.field.specs.Element.{element}
 use Rattle.field.proofs.Modular.{product-below}
 use Rattle.poly.specs.Counting.{Elements}
-use Rattle.factory.specs.Draw.{drawLength, part, firstDraw, secondDraw, thirdDraw}
 use Rattle.factory.proofs.Laws.{elements-take, elements-drop}
 use Rattle.vectors.specs.Vector.{Vector, rowOf, vectorOf}
 use Rattle.vectors.proofs.Draws.{part-is-row}
-use Rattle.runs.specs.Draws.{Plan, Draw, Raw, none, by, IsRaw, whenRaw, IsDraw, Lists, rowLength, rawLength, tripleLength, pointOf, rawDraw, tripleDraw, drawA, drawB, drawAB, partOf, rawPack, triplePack}
+use Rattle.runs.specs.Draws.{Plan, Draw, Raw, none, by, IsRaw, whenRaw, IsDraw, rowLength, pointOf, rawDraw, tripleDraw, drawA, drawB, drawAB, partOf, rawPack, triplePack}
 use Rattle.runs.proofs.Marks.{rawVector, vectorA, vectorB, vectorAB}
 
 -- post i's row of a vector

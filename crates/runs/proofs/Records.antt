@@ -1,25 +1,22 @@
 -- Records: what the checks leave of a block, whose polynomials the walk can take, and a post that is alone.
 use Prim.Native.Nat.{ℕ, zero, suc, _+_, _*_, _-_, _≤_, _<_}
 use mathlib.Core.Path.{_≡_, refl, sym, _∙_, ap, subst}
-use mathlib.Core.Bool.{Bool, true, false, cond}
+use mathlib.Core.Bool.{true, false}
 use mathlib.Core.Logic.{_≢_}
 use mathlib.Core.List.{List, [], _∷_}
-use native.Mathlib.Nat.{mul-le-mul-right, suc-mul}
 use native.Mathlib.Decide.{ℕ-discrete}
 use native.Mathlib.Omega.{arith}
-use borrow.Author.Tests.{eq-eqb, ne-eqb, lt-ltb, eqb-true}
-use lib.Dec.{eqb, ltb}
+use borrow.Author.Tests.{eq-eqb, ne-eqb, lt-ltb}
 use lib.ListN.{length, take, drop, length-drop}
 use lib.Seq.{length-take-le}
 use Rattle.field.specs.Element.{element}
 use Rattle.poly.specs.Counting.{All, Distinct, Elements}
 use Rattle.poly.proofs.Lists.{all-map}
-use Rattle.refusal.specs.Conditions.{or, anyBeyond}
 use Rattle.refusal.proofs.Laws.{or-false}
 use Rattle.session.specs.declared.Session.{Session}
-use Rattle.opening.specs.Walking.{blockMark, blockCoefficients, recordLength, badBlock, badBlocks, badRecord, sent, accepts, acceptedPosts, tooFew, walk}
+use Rattle.opening.specs.Walking.{blockMark, blockCoefficients, badBlock, badBlocks, sent, accepts, acceptedPosts, tooFew, walk}
 use Rattle.opening.proofs.Blocks.{post-in}
-use Rattle.opening.proofs.Accepted.{Accepted, all-accepted, distinct-accepted}
+use Rattle.opening.proofs.Accepted.{all-accepted, distinct-accepted}
 use Rattle.vectors.specs.Vector.{Vector, numbers}
 use Rattle.vectors.specs.Claims.{heldRow, Truly}
 use Rattle.runs.specs.Calls.{Proper}

@@ -1,16 +1,14 @@
 -- One post, one call that is not refused: the post still holds its part of every row's vector; and what it then sends.
-use Prim.Native.Nat.{ℕ, suc, _+_, _*_, _-_, _≤_, _<_}
+use Prim.Native.Nat.{ℕ, _+_, _*_, _-_, _≤_, _<_}
 use mathlib.Core.Path.{_≡_, refl, sym, _∙_, ap, ap₂, subst}
 use mathlib.Core.Bool.{true, false}
-use mathlib.Core.List.{List, [], _++_}
+use mathlib.Core.List.{List, _++_}
 use native.Mathlib.Omega.{arith}
 use borrow.Author.Tests.{ltb-false}
 use lib.ListN.{take}
 use lib.Seq.{take-at}
 use Rattle.field.specs.Modulus.{p}
 use Rattle.field.specs.Element.{Element, element}
-use Rattle.refusal.specs.Refusal.{outcome}
-use Rattle.refusal.proofs.Laws.{equal}
 use Rattle.session.specs.declared.Session.{Session}
 use Rattle.session.specs.Rows.{rowAt, combined}
 use Rattle.sharing.specs.Load.{loadRowTests, loadRowRefusal, loadTripleTests, loadTripleRefusal}
@@ -20,7 +18,7 @@ use Rattle.vectors.specs.Vector.{Vector, numbers, rowOf}
 use Rattle.vectors.proofs.Linear.{length-numbers}
 use Rattle.runs.specs.Draws.{Plan, Draw, IsDraw, IsRaw, rawPack, triplePack, pointOf}
 use Rattle.runs.specs.Calls.{Post, Call, loadRow, loadTriple, deal, message, opening, linear, masks, finish, perform, after}
-use Rattle.runs.proofs.Marks.{Marks, markOf, sessionAt, less, maskA, maskB, marksAfter, vectorsAfter}
+use Rattle.runs.proofs.Marks.{Marks, sessionAt, less, maskA, maskB, marksAfter, vectorsAfter}
 use Rattle.runs.proofs.Outcomes.{conditionAt, passed, refusalOf, settled, resettled, unmoved, done-is}
 use Rattle.runs.proofs.Packs.{rowFor, raw-pack, triple-pack}
 use Rattle.runs.proofs.Holds.{Holds, held-row, combined-row, load-holds, triple-holds, deal-holds, linear-holds, masks-holds}

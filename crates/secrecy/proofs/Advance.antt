@@ -7,18 +7,17 @@ use mathlib.Core.List.{List, [], _++_}
 use native.Mathlib.Omega.{arith}
 use Rattle.field.specs.Element.{element}
 use Rattle.vectors.specs.Vector.{Vector, numbers}
-use Rattle.runs.specs.Draws.{Plan, Draw}
-use Rattle.runs.specs.Calls.{Post, Call, perform, after, broadcast, openingLine, masksLine, Among}
+use Rattle.runs.specs.Calls.{Call, perform, after, broadcast, openingLine, masksLine, Among}
 use Rattle.runs.proofs.Marks.{Marks, markOf, leftOf, rightOf, less, marksAfter, vectorsAfter}
 use Rattle.runs.proofs.Steps.{Stands, stands-after}
 use Rattle.runs.proofs.Facts.{Allowed, Facts, MasksAt}
 use Rattle.runs.proofs.Rows.{sized-after, held-stays, past-stays, five-before}
 use Rattle.runs.proofs.Kept.{facts-after}
 use Rattle.secrecy.specs.Steps as Steps
-use Rattle.secrecy.specs.Steps.{Secrets, Step, callAt, heardFrom}
+use Rattle.secrecy.specs.Steps.{Step, callAt, heardFrom}
 use Rattle.secrecy.specs.Seen.{linesOf}
 use Rattle.secrecy.specs.Rules.{Rule}
-use Rattle.secrecy.specs.Book.{Book, entered}
+use Rattle.secrecy.specs.Book.{entered}
 use Rattle.secrecy.proofs.State.{Run, Moment, Past, Held, Waits, AnOpening, AMask, maskNumbers, State, fits, meant, place-stays, notes-stay}
 use Rattle.runs.proofs.Start.{sizes}
 use Rattle.secrecy.proofs.Broadcasts as Broadcasts

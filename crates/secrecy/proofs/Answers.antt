@@ -1,43 +1,40 @@
 -- One post in the two runs: the same refusal, the same number opened, the same lines.
-use Prim.Native.Nat.{ℕ, zero, suc, _+_, _*_, _-_, _≤_, _<_}
+use Prim.Native.Nat.{ℕ, zero, suc, _+_, _*_, _≤_, _<_}
 use mathlib.Core.Path.{_≡_, refl, sym, _∙_, ap, ap₂, subst}
-use mathlib.Core.Bool.{Bool, true, false}
+use mathlib.Core.Bool.{true, false}
 use mathlib.Core.Logic.{_≢_, _⊎_, inl, inr}
 use mathlib.Core.List.{List, [], _∷_, _++_}
 use native.Mathlib.Omega.{arith}
 use borrow.Author.Tests.{ltb-false}
 use lib.ListN.{take}
-use Rattle.field.specs.Modulus.{p}
-use Rattle.field.specs.Element.{element}
-use Rattle.poly.specs.Counting.{All}
-use Rattle.refusal.specs.Refusal.{_when_, first, outcome, AllFail}
+use Rattle.refusal.specs.Refusal.{_when_, outcome, AllFail}
 use Rattle.refusal.proofs.Laws.{equal, all-fail}
 use Rattle.refusal.proofs.Groups.{fail-parts}
 use Rattle.session.specs.declared.Session.{Session}
 use Rattle.session.specs.Sessions.{answer}
-use Rattle.session.specs.Rows.{rowAt, combined}
+use Rattle.session.specs.Rows.{rowAt}
 use Rattle.sharing.specs.Deal.{dealRefusal}
 use Rattle.sharing.specs.Message.{messageRefusal, messageTests}
 use Rattle.opening.specs.Walking.{tooFew, opened}
 use Rattle.opening.specs.Opening.{openRefusal, openChecks, openTests}
 use Rattle.product.specs.Masks.{masksRefusal, masksTests, maskNumbersOf}
-use Rattle.vectors.specs.Vector.{Vector, number}
-use Rattle.runs.specs.Draws.{Plan, Draw, pointOf}
+use Rattle.vectors.specs.Vector.{number}
+use Rattle.runs.specs.Draws.{pointOf}
 use Rattle.runs.specs.Calls as Calls
 use Rattle.runs.specs.Calls.{Post, Call, Left, perform, broadcast, sentIf, openingLine, masksLine}
-use Rattle.runs.proofs.Marks.{Marks, markOf, sessionAt, less}
+use Rattle.runs.proofs.Marks.{markOf, sessionAt, less}
 use Rattle.runs.proofs.Outcomes.{conditionAt, fails, passed, refusalOf, refusal-is, done-is}
 use Rattle.runs.proofs.Holds.{Holds}
 use Rattle.runs.proofs.Steps.{postAt, named}
 use Rattle.secrecy.specs.Steps as Steps
 use Rattle.secrecy.specs.Steps.{Step, Pack, Number, Record, own, sent, callAt, dealtNumber}
 use Rattle.secrecy.specs.Rules.{Rule}
-use Rattle.secrecy.specs.Book.{Book, Agrees}
+use Rattle.secrecy.specs.Book.{Agrees}
 use Rattle.secrecy.proofs.Near.{Near}
 use Rattle.secrecy.proofs.Link.{Alike}
 use Rattle.secrecy.proofs.Twins as Twins
 use Rattle.secrecy.proofs.Pair as Pairs
-use Rattle.secrecy.proofs.Pair.{Two, runOne, runTwo, Moments, momentOne, momentTwo, Pair, apart, place-number, masks-number, wait-numbers, Fit, few-same}
+use Rattle.secrecy.proofs.Pair.{Two, Moments, Pair, apart, place-number, masks-number, wait-numbers, Fit, few-same}
 
 -- an answer with no number
 value-none : (k : ℕ) (new old : Session) → answer k 0 new old .value ≡ 0

@@ -10,21 +10,19 @@ use lib.Seq.{getD-set-same}
 use Rattle.poly.specs.Counting.{Elements}
 use Rattle.factory.specs.Draw.{eachFrom}
 use Rattle.factory.proofs.Laws.{elements-append}
-use Rattle.vectors.specs.Vector.{Vector, numbers}
+use Rattle.vectors.specs.Vector.{numbers}
 use Rattle.vectors.proofs.Linear.{length-numbers}
-use Rattle.runs.specs.Draws.{Plan, Draw}
 use Rattle.runs.specs.Calls as Calls
 use Rattle.runs.specs.Calls.{Post, Call, perform, after, broadcast, sentIf, openingLine, masksLine, Among}
-use Rattle.runs.proofs.Marks.{Marks, markOf, less, masked, marksAfter, vectorsAfter}
+use Rattle.runs.proofs.Marks.{markOf, less, masked, marksAfter, vectorsAfter}
 use Rattle.runs.proofs.Outcomes.{refusalOf, refusal-is}
 use Rattle.runs.proofs.Steps.{named, message-says, masks-say}
 use Rattle.runs.proofs.Lines.{same-opening, same-masks, not-both, numbers-elements}
 use Rattle.runs.proofs.Facts.{Allowed}
 use Rattle.runs.proofs.Allowed.{allowed}
 use Rattle.secrecy.specs.Steps as Steps
-use Rattle.secrecy.specs.Steps.{Secrets, Step, callAt}
+use Rattle.secrecy.specs.Steps.{Step, callAt}
 use Rattle.secrecy.specs.Seen.{posts, joined}
-use Rattle.secrecy.specs.Book.{Book}
 use Rattle.secrecy.proofs.State.{Run, Moment, AnOpening, AMask, maskNumbers, State}
 use Rattle.runs.proofs.Start.{sizes}
 

@@ -8,13 +8,12 @@ use native.Mathlib.Omega.{arith}
 use lib.Dec.{lit<}
 use lib.ListN.{length, length-map}
 use Rattle.field.specs.Modulus.{p}
-use Rattle.field.specs.Arithmetic.{difference}
 use Rattle.field.specs.Algebra.{CommutativeRing}
 use Rattle.field.specs.Element.{Element, element}
-use Rattle.field.proofs.Ring.{zero-add, mul-zero}
+use Rattle.field.proofs.Ring.{mul-zero}
 use Rattle.field.proofs.Expression.{A, B, C, D, E, F, 𝟘, 𝟙, _:+_, _:*_, _:-_, :-_, Same}
 use Rattle.field.proofs.Solver.{solve}
-use Rattle.field.proofs.Elements.{𝓡, element-injective, element-zero, element-one, element-difference}
+use Rattle.field.proofs.Elements.{𝓡, element-injective, element-zero}
 use Rattle.poly.specs.Counting.{All}
 use Rattle.poly.proofs.Lists.{all-zip}
 use Rattle.session.specs.Rows.{combined, plusSums}

@@ -1,14 +1,12 @@
 -- The two runs after one more call: not refused at any post, or refused at all of them.
-use Prim.Native.Nat.{ℕ, zero, suc, _+_, _≤_, _<_}
+use Prim.Native.Nat.{ℕ, suc, _+_, _≤_, _<_}
 use mathlib.Core.Path.{_≡_, refl, sym, _∙_, ap, ap₂, subst}
 use mathlib.Core.Bool.{Bool, true, false, cond}
-use mathlib.Core.Logic.{_≢_, _⊎_, inl, inr}
+use mathlib.Core.Logic.{_⊎_, inl, inr}
 use mathlib.Core.List.{List, [], _∷_, _++_, map, append-nil}
 use native.Mathlib.Omega.{arith}
-use Rattle.poly.specs.Counting.{All}
 use Rattle.poly.proofs.Lists.{all-map}
 use Rattle.vectors.specs.Vector.{Vector}
-use Rattle.runs.specs.Draws.{Plan, Draw}
 use Rattle.runs.specs.Calls as Calls
 use Rattle.runs.specs.Calls.{Post, Call, Left, perform, after, broadcast, sentIf, openingLine, masksLine, Among}
 use Rattle.runs.proofs.Marks.{Marks, markOf, leftOf, rightOf, marksAfter, vectorsAfter, at-same}
@@ -17,7 +15,7 @@ use Rattle.runs.proofs.Steps.{Stands}
 use Rattle.runs.proofs.Facts.{Allowed, MasksAt}
 use Rattle.runs.proofs.Rows.{five-before}
 use Rattle.secrecy.specs.Steps as Steps
-use Rattle.secrecy.specs.Steps.{Secrets, Step, callAt, heardFrom}
+use Rattle.secrecy.specs.Steps.{Step, callAt, heardFrom}
 use Rattle.secrecy.specs.Seen.{posts, joined, linesOf}
 use Rattle.secrecy.specs.Rules.{Rule}
 use Rattle.secrecy.specs.Book.{Book, Agrees, entered}

@@ -1,40 +1,36 @@
 -- Two runs side by side, of one list of calls, under the two lists of secrets and with the two draws: the same answers and lines.
-use Prim.Native.Nat.{ℕ, zero, suc, _+_, _*_, _-_, _≤_, _<_}
-use mathlib.Core.Path.{_≡_, refl, sym, _∙_, ap, ap₂, subst}
+use Prim.Native.Nat.{ℕ, _+_, _*_, _≤_, _<_}
+use mathlib.Core.Path.{_≡_, refl, sym, _∙_, ap, ap₂}
 use mathlib.Core.Bool.{Bool, true, false}
 use mathlib.Core.Logic.{_≢_, _⊎_, inl, inr}
 use mathlib.Core.List.{List, [], _∷_, _++_}
 use native.Mathlib.Decide.{ℕ-discrete}
 use native.Mathlib.Omega.{arith}
 use borrow.Author.Tests.{ltb-false}
-use lib.ListN.{length, take}
 use Rattle.field.specs.Modulus.{p}
 use Rattle.field.specs.Algebra.{CommutativeRing}
 use Rattle.field.specs.Element.{Element, element}
 use Rattle.field.proofs.Elements.{𝓡, element-path}
 use Rattle.poly.specs.Counting.{All}
-use Rattle.refusal.specs.Refusal.{Test, _when_, first, outcome, AllFail}
-use Rattle.refusal.proofs.Laws.{equal, all-fail}
+use Rattle.refusal.specs.Refusal.{Test, _when_, first, AllFail}
+use Rattle.refusal.proofs.Laws.{equal}
 use Rattle.session.specs.declared.Session.{Session}
-use Rattle.session.specs.Rows.{rowAt, coefficients}
-use Rattle.opening.specs.Walking.{blockCoefficients, tooFew, opened}
-use Rattle.opening.specs.Opening.{openRefusal, openChecks, openTests}
+use Rattle.session.specs.Rows.{rowAt}
+use Rattle.opening.specs.Walking.{blockCoefficients, tooFew}
+use Rattle.opening.specs.Opening.{openRefusal, openChecks}
 use Rattle.vectors.specs.Vector.{Vector, number, rowOf}
 use Rattle.runs.specs.Draws.{Plan, Draw, IsDraw, Sound, IsRaw, pointOf}
-use Rattle.runs.specs.Calls.{Proper, Post, Call, openingLine, masksLine, Among}
+use Rattle.runs.specs.Calls.{Proper, Post, openingLine, Among}
 use Rattle.runs.proofs.Marks.{Marks, markOf, leftOf, rightOf, sessionAt, less, maskA, maskB}
-use Rattle.runs.proofs.Outcomes.{conditionAt, fails, passed, refusalOf}
+use Rattle.runs.proofs.Outcomes.{conditionAt, fails}
 use Rattle.runs.proofs.Holds.{Holds}
-use Rattle.runs.proofs.Steps.{Stands, postAt}
 use Rattle.runs.proofs.Records.{Present, block-many, block-low, alone}
-use Rattle.runs.proofs.Lines.{Opening}
 use Rattle.secrecy.specs.Steps as Steps
-use Rattle.secrecy.specs.Steps.{Secrets, Step, Pack, Number, Record, own, sent, callAt, dealtNumber}
+use Rattle.secrecy.specs.Steps.{Secrets, Step, Record, own}
 use Rattle.secrecy.specs.Rules.{Rule, Walks}
-use Rattle.secrecy.specs.Book.{Book, Agrees}
+use Rattle.secrecy.specs.Book.{Book}
 use Rattle.secrecy.proofs.Near.{gap, Near, mask-number}
-use Rattle.secrecy.proofs.Link.{Gaps, Alike, Link}
-use Rattle.secrecy.proofs.Twins.{row-same, load-same, triple-same, deal-same, message-same, linear-same, masks-same, finish-same, open-same}
+use Rattle.secrecy.proofs.Link.{Gaps, Link}
 use Rattle.secrecy.proofs.State.{Run, Moment, AnOpening, State}
 use Rattle.runs.proofs.Start.{sizes}
 open CommutativeRing 𝓡 using (add as _⊕_, neg)

@@ -1,11 +1,11 @@
 -- The masks to come: by how much the two factors of each triple differ in the two books when its masks are made.
 use Prim.Native.Nat.{ℕ, zero, suc}
-use mathlib.Core.Path.{_≡_, refl, ap}
+use mathlib.Core.Path.{_≡_, refl}
 use mathlib.Core.Bool.{Bool, true, false, cond}
 use mathlib.Core.List.{List, [], _∷_}
 use lib.Dec.{eqb}
 use Rattle.field.specs.Algebra.{CommutativeRing}
-use Rattle.field.specs.Element.{Element, element}
+use Rattle.field.specs.Element.{element}
 use Rattle.field.proofs.Expression.{A, B, 𝟘, _:-_, :-_, Same}
 use Rattle.field.proofs.Solver.{solve}
 use Rattle.field.proofs.Elements.{𝓡}

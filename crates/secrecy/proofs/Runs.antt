@@ -2,7 +2,7 @@
 use Prim.Native.Nat.{ℕ, zero, suc, _+_, _≤_, _<_}
 use mathlib.Core.Path.{_≡_, refl, sym, _∙_, ap, ap₂, subst}
 use mathlib.Core.Bool.{Bool, cond}
-use mathlib.Core.Logic.{_≢_, _⊎_, inl, inr}
+use mathlib.Core.Logic.{_≢_, inl, inr}
 use mathlib.Core.List.{List, [], _∷_, _++_, map}
 use native.Mathlib.Decide.{ℕ-discrete}
 use native.Mathlib.Omega.{arith}
@@ -13,22 +13,22 @@ use Rattle.poly.specs.Counting.{All}
 use Rattle.refusal.specs.Refusal.{outcome}
 use Rattle.factory.specs.Draw.{eachFrom}
 use Rattle.vectors.specs.Vector.{Vector}
-use Rattle.runs.specs.Calls.{Post, Call, Left, perform, after, broadcast}
-use Rattle.runs.proofs.Marks.{Marks, markOf, marksAfter, vectorsAfter}
+use Rattle.runs.specs.Calls.{Post, Call, Left, after}
+use Rattle.runs.proofs.Marks.{Marks, marksAfter}
 use Rattle.runs.proofs.Outcomes as Outcomes
 use Rattle.runs.proofs.Outcomes.{refusal-is}
 use Rattle.runs.proofs.Facts.{Allowed}
 use Rattle.runs.proofs.Rows.{past-stays}
 use Rattle.secrecy.specs.Steps as Steps
 use Rattle.secrecy.specs.Steps.{Step, callAt}
-use Rattle.secrecy.specs.Seen.{Entry, posts, joined, doneAt, linesOf, postsAfter, entryOf, run}
+use Rattle.secrecy.specs.Seen.{Entry, posts, doneAt, linesOf, postsAfter, entryOf, run}
 use Rattle.secrecy.specs.Rules.{AllSame, SameAnswers, Rule, Rules, refusalOf}
 use Rattle.secrecy.specs.Book.{Book, Agrees, Agree, entered, booked, bookAfter}
 use Rattle.secrecy.proofs.Link.{Gaps}
 use Rattle.secrecy.proofs.State.{Past}
 use Rattle.runs.proofs.Start.{sizes}
 use Rattle.secrecy.proofs.Broadcasts.{allowed-at}
-use Rattle.secrecy.proofs.Pair.{Two, runOne, runTwo, Moments, momentOne, momentTwo, Pair, apart, Fit}
+use Rattle.secrecy.proofs.Pair.{Two, runOne, Moments, momentOne, Pair, Fit}
 use Rattle.secrecy.proofs.Reckoned.{factorsApart, reckonedHere, reckoned, here-refused}
 use Rattle.secrecy.proofs.Together.{posts-same, same-at, lines-two, group-two}
 use Rattle.secrecy.proofs.Onward.{idle, live}

@@ -1,36 +1,29 @@
 -- One run of the list: what every post holds, what the marks say of vectors and book, and what was broadcast.
-use Prim.Native.Nat.{ℕ, suc, _+_, _*_, _-_, _≤_, _<_}
-use mathlib.Core.Path.{_≡_, refl, sym, _∙_, ap, ap₂, subst}
-use mathlib.Core.Bool.{true}
+use Prim.Native.Nat.{ℕ, _+_, _*_, _≤_, _<_}
+use mathlib.Core.Path.{_≡_, refl, sym, _∙_, ap, ap₂}
 use mathlib.Core.Logic.{_≢_, _⊎_, inl, inr}
-use mathlib.Core.List.{List, [], _∷_, _++_, map}
-use native.Mathlib.Decide.{ℕ-discrete}
+use mathlib.Core.List.{List, _++_}
 use native.Mathlib.Omega.{arith}
 use lib.ListN.{length, take, drop, getD}
 use lib.Seq.{take-at, drop-at}
 use Rattle.field.specs.Modulus.{p}
 use Rattle.field.specs.Arithmetic.{product}
 use Rattle.field.specs.Algebra.{CommutativeRing}
-use Rattle.field.specs.Element.{Element, element}
+use Rattle.field.specs.Element.{element}
 use Rattle.field.proofs.Elements.{𝓡, element-product}
 use Rattle.poly.specs.Counting.{Elements}
-use Rattle.refusal.specs.Refusal.{first, outcome}
-use Rattle.refusal.specs.Conditions.{postsTests}
-use Rattle.refusal.proofs.Laws.{all-fail, inside}
-use Rattle.decimal.specs.Numeral.{tens}
+use Rattle.refusal.specs.Refusal.{first}
 use Rattle.factory.specs.Packs.{dealerNumber}
 use Rattle.vectors.specs.Vector.{Vector, raised, number, numbers, vectorOf}
-use Rattle.vectors.proofs.Draws.{element-at}
 use Rattle.vectors.proofs.Linear.{length-numbers}
-use Rattle.runs.specs.Draws.{Plan, Draw, IsDraw, Sound, IsRaw, Raw, none, by, whenRaw, rawDraw, rawPack, triplePack, rowLength}
+use Rattle.runs.specs.Draws.{Plan, Draw, IsDraw, Sound, IsRaw, Raw, none, by, whenRaw, rawDraw, rawPack, triplePack}
 use Rattle.runs.specs.Calls.{Post, Call, openingLine, masksLine, Among, at}
-use Rattle.runs.proofs.Marks.{Marks, Sized, markOf, leftOf, rightOf, less, maskA, maskB, written, sessionAt, marksAfter, vectorsAfter, at-same, at-other}
+use Rattle.runs.proofs.Marks.{Marks, Sized, markOf, leftOf, rightOf, maskA, maskB, written, sessionAt, at-same, at-other}
 use Rattle.runs.proofs.Numbers.{dealt-number, summed-number, product-number, third-number}
-use Rattle.runs.proofs.Packs.{raw-drawn, positive}
 use Rattle.runs.proofs.Start.{sizes}
 use Rattle.runs.proofs.Steps.{Stands, Fits}
 use Rattle.runs.proofs.Lines.{Opening, Masks}
-use Rattle.runs.proofs.Records.{all-true, Present}
+use Rattle.runs.proofs.Records.{all-true}
 use Rattle.runs.proofs.Facts as Facts
 use Rattle.runs.proofs.Facts.{Allowed, Facts, Meant}
 use Rattle.secrecy.specs.Steps as Steps

@@ -1,9 +1,9 @@
 -- Demand 3: the draws that show a record under one list of secrets are matched one to one with those that show it under the
 -- other; and so there are as many.
-use Prim.Native.Nat.{ℕ, _+_, _*_, _≤_, _<_}
-use mathlib.Core.Path.{_≡_, refl, sym, _∙_, ap, subst}
+use Prim.Native.Nat.{ℕ, _+_, _*_, _<_}
+use mathlib.Core.Path.{_≡_, sym, _∙_, ap, subst}
 use mathlib.Core.Bool.{not}
-use mathlib.Core.List.{List, [], _∷_, map}
+use mathlib.Core.List.{List, [], _∷_}
 use lib.Dec.{eqb}
 use native.Mathlib.Omega.{arith}
 use lib.ListN.{length}
@@ -11,15 +11,13 @@ use Rattle.session.specs.declared.Session.{Session}
 use Rattle.session.specs.Sessions.{mark, created}
 use Rattle.session.specs.Rows.{width, rowAt}
 use Rattle.field.specs.Algebra.{CommutativeRing}
-use Rattle.field.specs.Element.{Element}
 use Rattle.field.proofs.Elements.{𝓡}
-use Rattle.poly.specs.Counting.{All}
 use Rattle.poly.proofs.Lists.{all-of}
 use Rattle.vectors.specs.Vector.{Vector}
 use Rattle.field.specs.Modulus.{p}
-use Rattle.runs.specs.Draws.{Plan, Draw, IsDraw, IsRaw, Sound, pointOf}
+use Rattle.runs.specs.Draws.{Plan, Draw, IsDraw, IsRaw, pointOf}
 use Rattle.runs.specs.Calls.{Post, newPost}
-use Rattle.runs.proofs.Marks.{Marks, markOf, sessionAt}
+use Rattle.runs.proofs.Marks.{markOf, sessionAt}
 use Rattle.runs.proofs.Start.{start, start-sized, start-mark, start-stands, start-facts}
 use Rattle.secrecy.specs.Steps as Steps
 use Rattle.secrecy.specs.Steps.{Secrets, Step}
@@ -34,7 +32,7 @@ use Rattle.secrecy.proofs.Moved.{moved, moved-is, moved-points}
 use Rattle.secrecy.proofs.Linked.{link}
 use Rattle.secrecy.proofs.Unchanged.{same-points, same-raws, same-triples, same-polynomials, same-deals}
 use Rattle.secrecy.proofs.Back.{back}
-use Rattle.secrecy.proofs.State.{Run, Moment, State}
+use Rattle.secrecy.proofs.State.{State}
 use Rattle.secrecy.proofs.Twins.{row-same}
 use Rattle.secrecy.proofs.Pair as Pairs
 use Rattle.secrecy.proofs.Pair.{Two, Moments, Pair, place-number}

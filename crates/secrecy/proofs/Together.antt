@@ -1,38 +1,30 @@
 -- One call of the list in both runs, not refused at any post: the two runs stay side by side.
-use Prim.Native.Nat.{ℕ, zero, suc, _+_, _*_, _-_, _≤_, _<_}
+use Prim.Native.Nat.{ℕ, zero, suc, _+_, _≤_, _<_}
 use mathlib.Core.Path.{_≡_, refl, sym, _∙_, ap, ap₂, subst}
 use mathlib.Core.Bool.{cond}
-use mathlib.Core.Logic.{_≢_, _⊎_, inl, inr}
-use mathlib.Core.List.{List, [], _∷_, _++_, map}
+use mathlib.Core.Logic.{_≢_}
+use mathlib.Core.List.{List, [], _∷_, map}
 use native.Mathlib.Decide.{ℕ-discrete}
 use native.Mathlib.Omega.{arith}
-use lib.ListN.{getD, set}
 use lib.Seq.{getD-set-other}
 use Rattle.field.specs.Arithmetic.{product}
 use Rattle.field.specs.Element.{Element, element}
 use Rattle.poly.specs.Counting.{All}
-use Rattle.poly.proofs.Lists.{all-zip}
 use Rattle.factory.specs.Draw.{eachFrom}
 use Rattle.vectors.specs.Vector.{Vector, plusTimes, raised, number}
 use Rattle.runs.specs.Draws.{pointOf, rawPack, triplePack}
 use Rattle.runs.specs.Calls as Calls
-use Rattle.runs.specs.Calls.{Post, Call, perform, after, broadcast, openingLine, Among, at}
-use Rattle.runs.proofs.Marks.{Marks, Sized, markOf, leftOf, rightOf, remarked, maskA, maskB, productVector, written, rawVector, vectorA, vectorB, vectorAB, marksAfter, vectorsAfter, at-same, at-other}
+use Rattle.runs.specs.Calls.{Call, perform, after, at}
+use Rattle.runs.proofs.Marks.{Marks, markOf, leftOf, rightOf, remarked, maskA, maskB, productVector, written, marksAfter, vectorsAfter, at-same, at-other}
 use Rattle.runs.proofs.Outcomes.{refusalOf, refusal-is}
-use Rattle.runs.proofs.Facts.{Allowed, MasksAt, Multiplying}
-use Rattle.runs.proofs.Rows.{held-stays, five-before}
+use Rattle.runs.proofs.Facts.{Allowed, Multiplying}
 use Rattle.secrecy.specs.Steps as Steps
-use Rattle.secrecy.specs.Steps.{Secrets, Step, Pack, Number, own, sent, callAt, heardFrom, dealtNumber}
+use Rattle.secrecy.specs.Steps.{Step, Pack, Number, own, sent, callAt, heardFrom, dealtNumber}
 use Rattle.secrecy.specs.Seen.{posts, joined, linesOf}
 use Rattle.secrecy.specs.Rules.{Rule}
-use Rattle.secrecy.specs.Book.{Book, Agrees, entered}
+use Rattle.secrecy.specs.Book.{Agrees}
 use Rattle.secrecy.proofs.Near.{Near, near-plusTimes, near-raised}
-use Rattle.secrecy.proofs.Link.{Gaps}
-use Rattle.secrecy.proofs.State.{Run, Moment, AnOpening, State, place-stays, notes-stay}
-use Rattle.runs.proofs.Start.{sizes}
-use Rattle.secrecy.proofs.Broadcasts.{among-append, among-posts, Done, allowed-at, MessageAt, new-opening}
-use Rattle.secrecy.proofs.Advance.{advance}
-use Rattle.secrecy.proofs.Pair.{Two, runOne, runTwo, Moments, momentOne, momentTwo, Pair, apart, Fit, wait-numbers}
+use Rattle.secrecy.proofs.Pair.{Two, Moments, Pair, Fit, wait-numbers}
 use Rattle.secrecy.proofs.Answers.{Same, same-answers}
 
 -- a map over the posts 1 to n

@@ -1,5 +1,5 @@
 -- One post in two runs, whose rows differ by multiples of the kernel: the same refusals.
-use Prim.Native.Nat.{ℕ, zero, suc, _+_, _*_, _-_, _≤_, _<_}
+use Prim.Native.Nat.{ℕ, suc, _+_, _*_, _-_, _≤_, _<_}
 use mathlib.Core.Path.{_≡_, refl, sym, _∙_, ap, ap₂, subst}
 use mathlib.Core.Bool.{Bool, true, false, not}
 use mathlib.Core.Logic.{_≢_}
@@ -9,24 +9,22 @@ use borrow.Author.Tests.{ltb-false, le-ltb}
 use lib.Dec.{eqb}
 use lib.ListN.{length}
 use Rattle.field.specs.Modulus.{p}
-use Rattle.field.specs.Element.{element}
-use Rattle.poly.specs.Counting.{Elements}
 use Rattle.refusal.specs.Refusal.{Test, _when_, first, AllFail}
 use Rattle.refusal.specs.Conditions.{missized, beyond, anyBeyond}
 use Rattle.refusal.proofs.Laws.{equal}
 use Rattle.session.specs.declared.Session.{Session}
 use Rattle.session.specs.Sessions.{sessionTests}
-use Rattle.session.specs.Rows.{width, rowAt, combined}
+use Rattle.session.specs.Rows.{rowAt, combined}
 use Rattle.session.specs.Checks.{frameTests, noRow, noTriple, unlike}
-use Rattle.sharing.specs.Load.{loadRowRefusal, loadRowTests, loadTripleRefusal, loadTripleTests}
-use Rattle.sharing.specs.Deal.{dealRefusal, dealTests}
-use Rattle.sharing.specs.Message.{messageRefusal, messageTests}
-use Rattle.sharing.specs.Linear.{linearRefusal, linearTests}
+use Rattle.sharing.specs.Load.{loadRowRefusal, loadTripleRefusal}
+use Rattle.sharing.specs.Deal.{dealRefusal}
+use Rattle.sharing.specs.Message.{messageRefusal}
+use Rattle.sharing.specs.Linear.{linearRefusal}
 use Rattle.opening.specs.Walking.{recordLength, badRecord, tooFew}
-use Rattle.opening.specs.Opening.{openRefusal, openTests, openChecks}
-use Rattle.product.specs.Masks.{masksRefusal, masksTests, masksPlace, tripleMarks, maskNumbers}
+use Rattle.opening.specs.Opening.{openRefusal, openChecks}
+use Rattle.product.specs.Masks.{masksRefusal, masksPlace, tripleMarks, maskNumbers}
 use Rattle.product.specs.Finish as Finish
-use Rattle.product.specs.Finish.{finishRefusal, finishTests, finishPlace, finishMarks, finishNumbers, tooFewOf}
+use Rattle.product.specs.Finish.{finishRefusal, finishPlace, finishMarks, finishNumbers, tooFewOf}
 use Rattle.factory.proofs.Laws.{elements-append}
 use Rattle.vectors.specs.Vector.{Vector, number, numbers, rowOf}
 use Rattle.runs.specs.Draws.{Plan, Draw, pointOf}

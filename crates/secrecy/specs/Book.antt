@@ -6,7 +6,6 @@ use mathlib.Core.List.{List, [], _∷_}
 use Rattle.field.specs.Arithmetic.{sum, product}
 use Rattle.refusal.specs.Refusal.{outcome}
 use Rattle.runs.specs.Calls.{at}
-use Rattle.secrecy.specs.Steps
 use Rattle.secrecy.specs.Steps.{Secrets, Step, loadRow, loadTriple, deal, message, opening, linear, masks, finish}
 use Rattle.secrecy.specs.Seen.{Entry}
 use Rattle.secrecy.specs.Rules.{refusalOf}

@@ -10,7 +10,6 @@ use Rattle.poly.specs.Counting.{All, Elements}
 use Rattle.opening.specs.Walking.{blockMark, blockCoefficients}
 use Rattle.runs.specs.Draws.{Plan, IsRaw}
 use Rattle.runs.specs.Calls.{openingLine, masksLine, Among}
-use Rattle.secrecy.specs.Steps
 use Rattle.secrecy.specs.Steps.{Pack, Number, Step, own, sent, loadRow, loadTriple, deal, message, opening, linear, masks, finish}
 use Rattle.secrecy.specs.Seen.{Entry}
 

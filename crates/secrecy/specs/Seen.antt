@@ -1,6 +1,6 @@
 -- Document 01, "What a group of posts sees": the run of a list of calls, and the record of a group.
 use Prim.Native.Nat.{ℕ, _+_}
-use mathlib.Core.Bool.{Bool, true, false, cond}
+use mathlib.Core.Bool.{Bool, false, cond}
 use mathlib.Core.List.{List, [], _∷_, _++_, map}
 use lib.Dec.{eqb}
 use lib.ListN.{take}
@@ -8,7 +8,7 @@ use Rattle.refusal.specs.Conditions.{or}
 use Rattle.factory.specs.Draw.{eachFrom}
 use Rattle.forms.specs.Lines as Line
 use Rattle.forms.specs.Lines.{text}
-use Rattle.runs.specs.Draws.{Plan, Draw, Raw, none, by, whenRaw, pointOf, rawDraw, rawPack, triplePack}
+use Rattle.runs.specs.Draws.{Plan, Draw, none, by, whenRaw, pointOf, rawDraw, rawPack, triplePack}
 use Rattle.runs.specs.Calls.{Post, Left, perform, after, broadcast, newPost}
 use Rattle.secrecy.specs.Steps.{Secrets, Step, callAt, heardFrom, dealtNumber}
 
