@@ -1,5 +1,6 @@
 //! Times each call of the library, of the second implementation and, for the opening, of the
-//! fastest plain Rust, one after the other in every round.
+//! fastest plain Rust, in another order in every round: what else the machine does at regular times
+//! then meets them all alike.
 //!
 //! A ratio is of times taken in the same round: the median of all rounds, and the quartiles, since
 //! the extremes are the machine's. The library's own time is taken twice in a round; how far that
@@ -14,13 +15,13 @@ use std::hint::black_box;
 use std::time::{Duration, Instant};
 
 use inputs::Inputs;
-use reference::random::{script, Call, State};
+use reference::random::{script, Call, Rng, State};
 use reference::{Library, Session, REFERENCE};
 
-const ROUNDS: usize = 41;
+const ROUNDS: usize = 101;
 
 /// So long is one measurement, about.
-const PART: Duration = Duration::from_millis(3);
+const PART: Duration = Duration::from_millis(1);
 
 /// Makes a call so many times.
 type Run<'a> = Box<dyn FnMut(u32) + 'a>;
@@ -79,8 +80,8 @@ fn calls_on_a_session(i: &Inputs) -> Vec<Contest<'_>> {
     vec![
         contest(
             "new",
-            on_ours(i, move |_, _| gantsorol::Session::new(n, t, 1, point)),
-            on_second(i, move |_, _| REFERENCE.new_session(n, t, 1, point)),
+            repeated(move || gantsorol::Session::new(n, t, 1, black_box(point)), |a| a.refusal),
+            repeated(move || REFERENCE.new_session(n, t, 1, black_box(point)), |a| a.refusal),
         ),
         contest(
             "load row",
@@ -215,6 +216,15 @@ fn other_calls(i: &Inputs) -> Vec<Contest<'_>> {
     ]
 }
 
+/// The numbers below `count` in random order.
+fn shuffled(rng: &mut Rng, count: usize) -> Vec<usize> {
+    let mut order: Vec<usize> = (0..count).collect();
+    for end in (1..count).rev() {
+        order.swap(end, rng.below(end + 1));
+    }
+    order
+}
+
 fn time(run: &mut Run, times: u32) -> f64 {
     let start = Instant::now();
     run(times);
@@ -242,24 +252,39 @@ fn ratios(above: &[f64], below: &[f64]) -> String {
     format!("{median:.2} ({lower:.2}-{upper:.2})")
 }
 
-fn hold(Contest { name, mut runs }: Contest) {
-    let counts: Vec<u32> = runs.iter_mut().map(times).collect();
-    // The library, the others, and the library once more.
-    let order: Vec<usize> = (0..runs.len()).chain([0]).collect();
-    let mut taken = vec![vec![]; order.len()];
-    for _ in 0..ROUNDS {
-        for (list, &run) in taken.iter_mut().zip(&order) {
-            list.push(time(&mut runs[run], counts[run]));
+/// A contest with how often each run makes its call in a part, and the times taken, round by round.
+struct Held<'a> {
+    contest: Contest<'a>,
+    counts: Vec<u32>,
+    taken: Vec<Vec<f64>>,
+}
+
+impl<'a> Held<'a> {
+    fn new(mut contest: Contest<'a>) -> Self {
+        let counts: Vec<u32> = contest.runs.iter_mut().map(times).collect();
+        let taken = vec![vec![]; counts.len() + 1];
+        Self { contest, counts, taken }
+    }
+
+    /// The library, the others, and the library once more, in random order.
+    fn round(&mut self, rng: &mut Rng) {
+        for part in shuffled(rng, self.taken.len()) {
+            let run = part % self.counts.len();
+            self.taken[part].push(time(&mut self.contest.runs[run], self.counts[run]));
         }
     }
-    let [ours, second] = [0, 1].map(|run| 1e9 * spread(taken[run].clone())[0]);
-    let against = |other: usize| ratios(&taken[0], &taken[other]);
-    let fastest = if runs.len() == 3 { against(2) } else { String::new() };
-    println!(
-        "{name:<16} {ours:>10.0} {second:>10.0}   {:<18} {:<18} {fastest}",
-        against(1),
-        against(runs.len())
-    );
+
+    fn print(&self) {
+        let [ours, second] = [0, 1].map(|run| 1e9 * spread(self.taken[run].clone())[0]);
+        let against = |other: usize| ratios(&self.taken[0], &self.taken[other]);
+        let fastest = if self.counts.len() == 3 { against(2) } else { String::new() };
+        println!(
+            "{:<16} {ours:>10.0} {second:>10.0}   {:<18} {:<18} {fastest}",
+            self.contest.name,
+            against(1),
+            against(self.counts.len())
+        );
+    }
 }
 
 /// The fastest opening answers as the second implementation does, on every opening of some scripts.
@@ -290,6 +315,7 @@ fn check_fastest() {
 
 fn main() {
     check_fastest();
+    let mut rng = Rng::new(0);
     for (n, t) in [(3, 1), (32, 15), (32, 31)] {
         let inputs = Inputs::new(n, t);
         println!("n = {n}, t = {t}: {ROUNDS} rounds");
@@ -297,9 +323,14 @@ fn main() {
             "{:<16} {:>10} {:>10}   {:<18} {:<18} ours/fastest",
             "call", "ours, ns", "second, ns", "ours/second", "ours/ours again"
         );
-        for contests in [calls_on_a_session(&inputs), other_calls(&inputs)] {
-            contests.into_iter().for_each(hold);
+        let contests = [calls_on_a_session(&inputs), other_calls(&inputs)];
+        let mut held: Vec<Held> = contests.into_iter().flatten().map(Held::new).collect();
+        for _ in 0..ROUNDS {
+            for contest in shuffled(&mut rng, held.len()) {
+                held[contest].round(&mut rng);
+            }
         }
+        held.iter().for_each(Held::print);
         println!();
     }
 }
