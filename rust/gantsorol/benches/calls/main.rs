@@ -294,9 +294,8 @@ fn check_fastest() {
         let script = script(seed, 60);
         let mut state = State { session: Session::BLANK, rows: script.rows.clone() };
         for (step, outcome) in script.steps.iter().zip(script.replay(&REFERENCE)) {
-            let mut copy = state.clone();
-            step.damage.iter().for_each(|damage| damage.apply(&mut copy));
             if let Call::Open { row, record } = &step.call {
+                let copy = step.damaged(&state);
                 let Session { n, t, post, point, marks, left, right } = copy.session;
                 let session = gantsorol::Session { n, t, post, point, marks, left, right };
                 let answer = fastest::open(session, &copy.rows, *row, record);
