@@ -139,8 +139,7 @@ fn two_records_that_are_parts_of_one_list() {
             [(); 2].map(|()| rng.pick(&[0, 0, 3, 3, 1, 2])).map(|start| &list[start..start + 6]);
         let (mut ours, mut second) = (rows.clone(), rows);
         let answer = Verified.finish(session, &mut ours, first, left, right);
-        let expected =
-            REFERENCE.finish(session, &mut second, first, &left.to_vec(), &right.to_vec());
+        let expected = REFERENCE.finish(session, &mut second, first, left, right);
         assert_eq!((&answer, ours), (&expected, second), "seed {seed}");
         finished += u64::from(answer.refusal == 0);
     }

@@ -5,7 +5,7 @@ mod common;
 
 use common::seeds;
 use gantsorol::{block_len, line_list_len, masks_len, row_len, rows_len};
-use gantsorol::{Refusal, Session, LONGEST_LINE};
+use gantsorol::{Refusal, Session, Written, LONGEST_LINE};
 use reference::random::{check_points, shape, Rng, SharedRow};
 use reference::{Element, Shape, MODULUS};
 
@@ -116,34 +116,40 @@ impl Station {
         }
     }
 
-    /// Every post's message for a row, as an `O` line.
-    fn lines(&mut self, rng: &mut Rng, row: usize) -> Vec<Vec<u8>> {
-        let (n, t) = (self.n, self.t);
-        let mut lines = vec![vec![]; n];
+    /// A line from every post, which makes its call and writes it with its own number.
+    fn sent(
+        &mut self,
+        rng: &mut Rng,
+        write: impl Fn(&mut Post, usize, &mut [u8]) -> Written,
+    ) -> Vec<Vec<u8>> {
+        let mut lines = vec![vec![]; self.n];
         for (index, post) in self.shuffled(rng) {
-            let mut message = vec![0; t + 1];
-            post.call(|session, rows| session.opening_message(rows, row, &mut message));
             let mut line = vec![0; LONGEST_LINE];
-            let written = gantsorol::write_opening(n, t, row, index + 1, &message, &mut line);
+            let written = write(post, index + 1, &mut line);
             line.truncate(written.accepted().expect("room"));
             lines[index] = line;
         }
         lines
     }
 
+    /// Every post's message for a row, as an `O` line.
+    fn lines(&mut self, rng: &mut Rng, row: usize) -> Vec<Vec<u8>> {
+        let (n, t) = (self.n, self.t);
+        self.sent(rng, |post, number, line| {
+            let mut message = vec![0; t + 1];
+            post.call(|session, rows| session.opening_message(rows, row, &mut message));
+            gantsorol::write_opening(n, t, row, number, &message, line)
+        })
+    }
+
     /// Every post's masks for a product, as an `M` line.
     fn masks(&mut self, rng: &mut Rng, a: usize, b: usize, first: usize) -> Vec<Vec<u8>> {
         let (n, t) = (self.n, self.t);
-        let mut lines = vec![vec![]; n];
-        for (index, post) in self.shuffled(rng) {
+        self.sent(rng, |post, number, line| {
             let mut masks = vec![0; masks_len(t)];
             post.call(|session, rows| session.masks(rows, a, b, first, &mut masks));
-            let mut line = vec![0; LONGEST_LINE];
-            let written = gantsorol::write_masks(n, t, first, index + 1, &masks, &mut line);
-            line.truncate(written.accepted().expect("room"));
-            lines[index] = line;
-        }
-        lines
+            gantsorol::write_masks(n, t, first, number, &masks, line)
+        })
     }
 
     /// The records that these lines fill, in whatever order they come: the second is for the masks
@@ -211,26 +217,6 @@ fn check_sums(rng: &mut Rng, mut station: Station, seed: u64) {
     }
 }
 
-#[test]
-fn sums_open_to_the_plain_ones() {
-    for seed in seeds(300) {
-        let mut rng = Rng::new(seed);
-        let station = Station::random(&mut rng);
-        check_sums(&mut rng, station, seed);
-    }
-}
-
-#[test]
-fn sums_for_every_n_and_t() {
-    for n in 2..=32 {
-        for t in 1..n {
-            let mut rng = Rng::new((n * 32 + t) as u64);
-            let station = Station::new(&mut rng, n, t);
-            check_sums(&mut rng, station, 0);
-        }
-    }
-}
-
 /// ab, ab + sa, its square, and the square times b, each a factor of the next.
 fn check_products(rng: &mut Rng, mut station: Station, seed: u64) {
     let [a, b, scale] = [(); 3].map(|()| Field::from(rng.element()));
@@ -253,24 +239,44 @@ fn check_products(rng: &mut Rng, mut station: Station, seed: u64) {
     }
 }
 
-#[test]
-fn products_open_to_the_plain_ones() {
-    for seed in seeds(200) {
+/// A check of one station with a seed.
+type Check = fn(&mut Rng, Station, u64);
+
+fn random_stations(count: u64, check: Check) {
+    for seed in seeds(count) {
         let mut rng = Rng::new(seed);
         let station = Station::random(&mut rng);
-        check_products(&mut rng, station, seed);
+        check(&mut rng, station, seed);
+    }
+}
+
+fn stations_of_every_n_and_t(check: Check) {
+    for (n, t) in (2..=32).flat_map(|n| (1..n).map(move |t| (n, t))) {
+        let seed = (n * 32 + t) as u64;
+        let mut rng = Rng::new(seed);
+        let station = Station::new(&mut rng, n, t);
+        check(&mut rng, station, seed);
     }
 }
 
 #[test]
+fn sums_open_to_the_plain_ones() {
+    random_stations(300, check_sums);
+}
+
+#[test]
+fn sums_for_every_n_and_t() {
+    stations_of_every_n_and_t(check_sums);
+}
+
+#[test]
+fn products_open_to_the_plain_ones() {
+    random_stations(200, check_products);
+}
+
+#[test]
 fn products_for_every_n_and_t() {
-    for n in 2..=32 {
-        for t in 1..n {
-            let mut rng = Rng::new((n * 32 + t) as u64);
-            let station = Station::new(&mut rng, n, t);
-            check_products(&mut rng, station, 0);
-        }
-    }
+    stations_of_every_n_and_t(check_products);
 }
 
 /// A post, and the lines of the others in random order.

@@ -15,9 +15,7 @@ fn check(script: &Script, seen: &mut Seen) {
     for (step, outcome) in script.steps.iter().zip(script.replay(&REFERENCE)) {
         seen.note(&step.call, outcome.refusal);
         if step.trial {
-            let mut before = state.clone();
-            step.damage.iter().for_each(|damage| damage.apply(&mut before));
-            check_refused(&step.call, &before, &outcome);
+            check_refused(&step.call, &step.damaged(&state), &outcome);
         } else {
             assert_eq!(outcome.refusal, 0, "{step:?}");
             assert_eq!(outcome.value, step.opens_to.unwrap_or(0), "{step:?}");

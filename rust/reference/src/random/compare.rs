@@ -32,6 +32,7 @@ pub fn compare_script(
     left: &impl Library,
     right: &impl Library,
 ) -> Option<Difference> {
+    parting_step(script, left, right)?;
     let parts = |script: &Script| parting_step(script, left, right).is_some();
     let steps = shortest(script.steps.clone(), |steps| parts(&with_steps(script, steps)))?;
     let short = with_steps(script, &steps);

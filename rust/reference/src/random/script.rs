@@ -18,6 +18,15 @@ pub struct Step {
     pub opens_to: Option<u32>,
 }
 
+impl Step {
+    /// The copy that a trial is made on.
+    pub fn damaged(&self, state: &State) -> State {
+        let mut copy = state.clone();
+        self.damage.iter().for_each(|damage| damage.apply(&mut copy));
+        copy
+    }
+}
+
 /// A session from its start.
 #[derive(Clone, Debug)]
 pub struct Script {
@@ -36,9 +45,10 @@ impl Script {
     pub fn replay<'a, L: Library>(&'a self, library: &'a L) -> impl Iterator<Item = Outcome> + 'a {
         let mut state = State { session: Session::BLANK, rows: self.rows.clone() };
         self.steps.iter().map(move |step| {
-            let mut copy = state.clone();
-            step.damage.iter().for_each(|damage| damage.apply(&mut copy));
-            let outcome = step.call.perform(library, &copy);
+            let outcome = match step.damage.is_empty() {
+                true => step.call.perform(library, &state),
+                false => step.call.perform(library, &step.damaged(&state)),
+            };
             if !step.trial {
                 state = outcome.state.clone();
             }

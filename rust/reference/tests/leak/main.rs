@@ -15,7 +15,8 @@ use std::collections::HashMap;
 use draws::{for_each_draw, Condition, ALL};
 use record::{Plan, Raw, Station, Step};
 use reference::Shape;
-use Step::{Deal, Finish, LoadAgain, LoadRow, LoadTriple, Message, Open, Overwrite};
+use Step::{Deal, Finish, FinishWithConstant, LoadAgain, LoadRow, LoadTriple, LoadTripleAgain};
+use Step::{Message, Open, Overwrite};
 
 /// Whether every record of the group occurs equally often under both lists of secrets.
 fn equal_counts<const P: u32>(
@@ -64,5 +65,8 @@ const SEEN_BY_1: Condition = Condition { own: &[1], checks: true, sums: &[] };
 
 /// The same, and m1: of a raw row, f(0) and v2 are left to chance.
 const SEEN_BY_1_WITH_SUM: Condition = Condition { own: &[1], checks: true, sums: &[1] };
+
+/// All that post 1 of two sees of a pack: f(0) alone is left to chance.
+const ALL_SEEN_BY_1: Condition = Condition { own: &[1], checks: true, sums: &[1, 2] };
 
 const POINTS_5: [[u32; 2]; 3] = [[2, 2], [1, 3], [4, 1]];

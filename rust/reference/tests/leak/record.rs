@@ -1,9 +1,9 @@
 //! One run of a plan at all posts, and the record that a group has of it.
 
 use reference::{
-    deal, dealer_number, factory_row, factory_triple, finish, linear, load_row, load_triple, masks,
-    new_session, open, opening_message, read, write_deal, write_masks, write_opening, Answer,
-    Session, Shape, TRIPLE,
+    deal, dealer_number, factory_row, factory_triple, finish, linear, load_row, load_triple, mark,
+    masks, new_session, open, opening_message, read, write_deal, write_masks, write_opening,
+    Answer, Element, Session, Shape, ROWS, TRIPLE,
 };
 
 use crate::draws::Draw;
@@ -42,6 +42,14 @@ pub enum Step {
         of: usize,
         into: usize,
     },
+    /// Breaks a rule: the triple drawn for row `of` is loaded into others too.
+    LoadTripleAgain {
+        of: usize,
+        into: usize,
+    },
+    /// Breaks a rule: a finish that adds y y' "to the polynomial's constant too, so it counts
+    /// nothing". The check values follow, or nobody would accept the polynomials.
+    FinishWithConstant(usize),
 }
 
 /// A row drawn raw.
@@ -72,6 +80,25 @@ struct Sent {
     numbers: Vec<u32>,
 }
 
+/// The number of a factor row less a row of the triple, opened with its record: on copies in which
+/// both are held, and the last row is empty.
+fn masked_number<const P: u32>(
+    mut s: Session,
+    rows: &[u32],
+    factor: usize,
+    row: usize,
+    record: &[u32],
+) -> Element<P> {
+    const LAST: usize = ROWS - 1;
+    s.marks = [mark::HELD; ROWS];
+    s.marks[LAST] = mark::EMPTY;
+    let mut rows = rows.to_vec();
+    let masked = linear::<P>(s, &mut rows, LAST, factor, row, P - 1).session;
+    let opened = open::<P>(masked, &rows, LAST, record);
+    assert_eq!(opened.refusal, 0, "the finish was accepted");
+    opened.value.into()
+}
+
 /// So many numbers are compared at once, to find those that a call changed.
 const CHUNK: usize = 48;
 
@@ -88,6 +115,8 @@ pub struct Station<'a, const P: u32> {
     group: &'a [usize],
     shape: Shape,
     posts: Vec<Post>,
+    /// "Any fixed numbers in the row list": some of these are no elements.
+    fixed: Vec<u32>,
     /// Each raw row's packs, of all posts.
     row_packs: Vec<Vec<u32>>,
     /// Each triple's packs, of all posts.
@@ -112,6 +141,7 @@ impl<'a, const P: u32> Station<'a, P> {
             group,
             shape,
             posts: (0..plan.n).map(|_| post()).collect(),
+            fixed: (0..shape.all_rows()).map(|place| place as u32 & 127).collect(),
             row_packs: vec![vec![0; shape.row_packs()]; plan.raw.len()],
             triple_packs: vec![vec![0; TRIPLE * shape.row_packs()]; plan.triples.len()],
             cs: vec![],
@@ -131,7 +161,7 @@ impl<'a, const P: u32> Station<'a, P> {
         &self.record
     }
 
-    /// New sessions, "with any fixed numbers in the row list", and the packs of the draw.
+    /// New sessions, and the packs of the draw.
     fn start(&mut self, draw: &Draw) {
         let Plan { n, t, .. } = *self.plan;
         self.cs.clear();
@@ -139,9 +169,9 @@ impl<'a, const P: u32> Station<'a, P> {
         self.record.clear();
         for ((post, number), &point) in self.posts.iter_mut().zip(1..).zip(draw.points) {
             post.session = new_session::<P>(n, t, number, point).session;
-            for list in [&mut post.rows, &mut post.seen] {
-                // Some of these are no elements.
-                list.iter_mut().zip(0..).for_each(|(place, index)| *place = index & 127);
+            post.rows.copy_from_slice(&self.fixed);
+            if self.group.contains(&number) {
+                post.seen.copy_from_slice(&self.fixed);
             }
         }
         for (out, numbers) in self.row_packs.iter_mut().zip(&draw.rows) {
@@ -264,19 +294,10 @@ impl<'a, const P: u32> Station<'a, P> {
         let mut rows = std::mem::take(&mut self.posts[post - 1].rows);
         let mut line = None;
         let answer = match step {
-            Step::LoadRow(row) => {
-                let pack = self.row_pack(self.index_of(row), post);
-                load_row::<P>(s, &mut rows, row, &pack)
-            }
-            Step::LoadAgain { of, into } => {
-                let pack = self.row_pack(self.index_of(of), post);
-                load_row::<P>(s, &mut rows, into, &pack)
-            }
-            Step::LoadTriple(first) => {
-                let triple = self.plan.triples.iter().position(|&drawn| drawn == first);
-                let pack = self.triple_pack(triple.expect("the triple is drawn"), post);
-                load_triple::<P>(s, &mut rows, first, &pack)
-            }
+            Step::LoadRow(into) => self.load_row(s, &mut rows, into, into),
+            Step::LoadAgain { of, into } => self.load_row(s, &mut rows, of, into),
+            Step::LoadTriple(into) => self.load_triple(s, &mut rows, into, into),
+            Step::LoadTripleAgain { of, into } => self.load_triple(s, &mut rows, of, into),
             Step::Deal(row) => deal::<P>(s, &mut rows, row, self.cs[self.index_of(row)]),
             Step::Message(row) => {
                 let mut out = vec![0; self.shape.coefficients()];
@@ -292,9 +313,13 @@ impl<'a, const P: u32> Station<'a, P> {
                 line = Some(self.line(post, first, &out));
                 answer
             }
-            Step::Finish(first) => {
-                let (left, right) = (self.heard(b'M', first, 0), self.heard(b'M', first, 1));
-                finish::<P>(s, &mut rows, first, &left, &right)
+            Step::Finish(first) => self.finish(s, &mut rows, first),
+            Step::FinishWithConstant(first) => {
+                let answer = self.finish(s, &mut rows, first);
+                if answer.refusal == 0 {
+                    self.add_to_constant(s, &mut rows, first);
+                }
+                answer
             }
             Step::Overwrite { row, mark } => {
                 let mut session = s;
@@ -304,6 +329,37 @@ impl<'a, const P: u32> Station<'a, P> {
         };
         self.posts[post - 1].rows = rows;
         (answer, line)
+    }
+
+    fn load_row(&self, s: Session, rows: &mut [u32], of: usize, into: usize) -> Answer {
+        load_row::<P>(s, rows, into, &self.row_pack(self.index_of(of), s.post))
+    }
+
+    fn load_triple(&self, s: Session, rows: &mut [u32], of: usize, into: usize) -> Answer {
+        let triple = self.plan.triples.iter().position(|&drawn| drawn == of);
+        let pack = self.triple_pack(triple.expect("the triple is drawn"), s.post);
+        load_triple::<P>(s, rows, into, &pack)
+    }
+
+    /// The records of a triple's two masks.
+    fn heard_masks(&self, first: usize) -> [Vec<u32>; 2] {
+        [0, 1].map(|part| self.heard(b'M', first, part))
+    }
+
+    fn finish(&self, s: Session, rows: &mut [u32], first: usize) -> Answer {
+        let [left, right] = self.heard_masks(first);
+        finish::<P>(s, rows, first, &left, &right)
+    }
+
+    /// Adds y y' to a product's polynomial, and so to the check values.
+    fn add_to_constant(&self, s: Session, rows: &mut [u32], first: usize) {
+        let [left, right] = self.heard_masks(first);
+        let y = masked_number::<P>(s, rows, s.left[first].into(), first, &left);
+        let y2 = masked_number::<P>(s, rows, s.right[first].into(), first + 1, &right);
+        let third = &mut rows[self.shape.at(first + 2)];
+        for place in self.shape.check_values().chain([self.shape.polynomial().start]) {
+            third[place] = (Element::<P>::from(third[place]) + y * y2).value();
+        }
     }
 
     /// The line of a message, or of masks when there are twice as many numbers.

@@ -1,0 +1,71 @@
+//! What the calls are timed on: post 1 of a station with honest posts.
+
+use reference::random::{check_points, Rng, SharedRow};
+use reference::Shape;
+
+/// Rows: 0 raw, 1 and 2 held, 3 to 5 an unused triple, 6 to 8 one whose masks of rows 1 and 2 were
+/// sent; the others empty.
+pub struct Inputs {
+    pub n: usize,
+    pub t: usize,
+    pub points: Vec<u32>,
+    pub ours: gantsorol::Session,
+    pub second: reference::Session,
+    pub rows: Vec<u32>,
+    pub row_draw: Vec<u32>,
+    pub triple_draw: Vec<u32>,
+    pub pack: Vec<u32>,
+    pub triple_pack: Vec<u32>,
+    /// Of row 1: all posts, and so few that the last is needed.
+    pub record: Vec<u32>,
+    pub scattered: Vec<u32>,
+    /// Of a − l and b − l' of the second triple.
+    pub masked: [Vec<u32>; 2],
+    /// Elements to be written into lines.
+    pub numbers: Vec<u32>,
+}
+
+impl Inputs {
+    pub fn new(n: usize, t: usize) -> Self {
+        let shape = Shape::checked(n, t).expect("n and t are in range");
+        let mut rng = Rng::new((n * 32 + t) as u64);
+        let points = check_points(&mut rng, n);
+        let [raw, a, b] = [(); 3].map(|()| SharedRow::random(&mut rng, shape));
+        let triples = [(); 2].map(|()| SharedRow::random_triple(&mut rng, shape));
+        let pack = |shared: &SharedRow| shared.row_of(1, points[0]);
+        let shared = [&[raw.clone(), a.clone(), b.clone()], &triples.concat()[..]].concat();
+        let mut rows: Vec<u32> = shared.iter().flat_map(pack).collect();
+        rows.resize(shape.all_rows(), 0);
+        let mut second = reference::new_session::<{ reference::MODULUS }>(n, t, 1, points[0]);
+        second.session.marks[..9].copy_from_slice(&[1, 2, 2, 3, 4, 4, 5, 4, 4]);
+        (second.session.left[6], second.session.right[6]) = (1, 2);
+        let reference::Session { post, point, marks, left, right, .. } = second.session;
+        let [l, l2, _] = &triples[1];
+        let masked = [a.minus(l), b.minus(l2)].map(|row| record(&row, |_| true));
+        // Post 1 is there in any case; of the others the last t, or every second one.
+        let step = if 2 * t < n { 2 } else { 1 };
+        let heard = |post: usize| (n - post).is_multiple_of(step) && (n - post) / step < t;
+        Self {
+            n,
+            t,
+            ours: gantsorol::Session { n, t, post, point, marks, left, right },
+            second: second.session,
+            rows,
+            row_draw: raw.draw(),
+            triple_draw: SharedRow::triple_draw(&triples[0]),
+            pack: pack(&raw),
+            triple_pack: triples[0].iter().flat_map(pack).collect(),
+            record: record(&a, |_| true),
+            scattered: record(&a, heard),
+            masked,
+            numbers: rng.elements(shape.masks()),
+            points,
+        }
+    }
+}
+
+/// A record for a row in which these posts are present.
+fn record(shared: &SharedRow, present: impl Fn(usize) -> bool) -> Vec<u32> {
+    let block = |(v, post): (&Vec<u32>, usize)| [&[u32::from(present(post))], &v[..]].concat();
+    shared.v.iter().zip(1..).flat_map(block).collect()
+}
