@@ -79,6 +79,31 @@ begun =
 unfoldable pub output : List ℕ → List ℕ
 output input = closed (fed begun input) .out
 
+-- ---- the same by chunks
+-- What was answered is taken out to be printed; the rest stays.
+abbrev pub drained : Running → Running
+drained p = record { state = p .state; rows = p .rows; blocks = p .blocks; line = p .line; number = p .number; out = [] }
+
+-- The program after chunks, each of which was taken and its answers printed.
+unfoldable pub passed : Running → List (List ℕ) → Running
+passed p [] = p
+passed p (c ∷ cs) = passed (drained (fed p c)) cs
+
+-- What was printed for them, one after the other.
+unfoldable pub printedFor : Running → List (List ℕ) → List ℕ
+printedFor p [] = []
+printedFor p (c ∷ cs) = fed p c .out ++ printedFor (drained (fed p c)) cs
+
+unfoldable pub joined : List (List ℕ) → List ℕ
+joined [] = []
+joined (c ∷ cs) = c ++ joined cs
+
+-- The header, what is printed for the chunks, and the answer to a last line: however the input was cut, the program's output.
+abbrev pub ChunksPrint : Type 0
+ChunksPrint =
+    (chunks : List (List ℕ))
+    → header ++ (printedFor (drained begun) chunks ++ closed (passed (drained begun) chunks) .out) ≡ output (joined chunks)
+
 -- ---- the same by lines
 -- The lines of an input, of whose first line these bytes were read before: each up to its line feed, the last one perhaps without.
 unfoldable pub linesFrom : List ℕ → List ℕ → List (List ℕ)
@@ -117,6 +142,9 @@ running f rows blocks line out =
 
 abbrev pub firstFeed : Feed
 firstFeed = record { state = firstState; number = 0; len = 0; at = 0 }
+
+abbrev pub drainedFeed : Feed → Feed
+drainedFeed f = record { state = f .state; number = f .number; len = f .len; at = 0 }
 
 -- What holds between bytes, with room for k more.
 pub record Open (f : Feed) (rows blocks line out : List ℕ) (k : ℕ) : Type 0 where

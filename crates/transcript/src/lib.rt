@@ -12,7 +12,7 @@ ghost use Rattle.decimal.specs.Numeral.{lastDigits};
 ghost use Rattle.fields.specs.Fields.{overwrite};
 ghost use Rattle.transcript.specs.Text.{header, longSize, longNumeral, answerText, longestAnswer};
 ghost use Rattle.transcript.specs.Lines.{segment, keptLength, cut};
-ghost use Rattle.transcript.specs.Program.{running, answered, segmented, fed, closed, firstFeed, Open, Fed};
+ghost use Rattle.transcript.specs.Program.{running, answered, segmented, fed, closed, drainedFeed, firstFeed, Open, Fed};
 
 // `line,refusal,value`
 pub fn header() -> [u8; 19]
@@ -195,6 +195,19 @@ pub fn read_chunk(
         i = end;
     }
     present
+}
+
+// What was answered is taken out to be printed; the rest goes on to the next chunk.
+pub fn drain(feed: Feed) -> Feed
+    ensures { λ r. ⌜ r ≡ drainedFeed feed ⌝ }
+{
+    let state = feed.state;
+    Feed {
+        state,
+        number: feed.number,
+        len: feed.len,
+        at: 0,
+    }
 }
 
 // Before the first byte: no `S` was accepted, and nothing is kept.
