@@ -202,9 +202,10 @@ pub fn drain(feed: Feed) -> Feed
     ensures { λ r. ⌜ r ≡ drainedFeed feed ⌝ }
 {
     let state = feed.state;
+    let number = feed.number;
     Feed {
         state,
-        number: feed.number,
+        number,
         len: feed.len,
         at: 0,
     }
