@@ -1,3 +1,4 @@
+pub mod Zeros
 pub mod Settings
 pub mod RowLines
 pub mod Hearing
