@@ -3,14 +3,14 @@ use Prim.Native.Nat.{ℕ, _+_, _-_, _*_, _≤_, _<_, _^_}
 use mathlib.Core.Path.{_≡_}
 use mathlib.Core.List.{List, [], _∷_, _++_}
 use mathlib.Core.Bool.{false, cond}
-use lib.ListN.{length, getD, take, replicate}
+use lib.ListN.{length, getD, take, drop, replicate}
 use lib.Dec.{eqb}
 use Rattle.session.specs.Sessions.{sessionOf}
 use Rattle.station.specs.declared.State.{State}
 use Rattle.station.specs.Step.{step, After, Ready}
 use Rattle.transcript.specs.declared.Feed.{Feed}
 use Rattle.transcript.specs.Text.{header, answerText, longestAnswer}
-use Rattle.transcript.specs.Lines.{cut, keptLength}
+use Rattle.transcript.specs.Lines.{cut, keptLength, laid}
 
 -- The program between two bytes: what it keeps, the line begun, how many lines were answered, and what was printed.
 pub record Running : Type 0 where
@@ -157,6 +157,16 @@ pub record Open (f : Feed) (rows blocks line out : List ℕ) (k : ℕ) : Type 0 
 -- A part of a line, which a line feed may end.
 abbrev pub segmented : Running → List ℕ → Running
 segmented p s = cond (eqb (getD s (length s - 1) 0) 10) (answered (grown p s)) (grown p s)
+
+-- The lent line after bytes were taken one by one: a line feed ends a line, and the next is kept from the list's start on.
+unfoldable pub lineAfter : Running → List ℕ → List ℕ → List ℕ
+lineAfter p line [] = line
+lineAfter p line (b ∷ s) = lineAfter (taken p b) (laid (length (p .line)) (b ∷ []) line) s
+
+-- Answers were put behind those before them, and what stands behind is as it was.
+pub record Added (f r : Feed) (out out' : List ℕ) : Type 0 where
+  pub grows : f .at ≤ r .at
+  pub behind : drop (r .at) out' ≡ drop (r .at) out
 
 -- What is left after k bytes more.
 pub record Fed (f r : Feed) (rows blocks : List ℕ) (k : ℕ) : Type 0 where
