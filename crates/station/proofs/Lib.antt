@@ -7,3 +7,4 @@ pub mod Keeping
 pub mod Ends
 pub mod Ranges
 pub mod Cutting
+pub mod Room

@@ -16,8 +16,9 @@ use Rattle.session.specs.declared.Session.{Session}
 use Rattle.session.specs.declared.Answer.{Answer}
 use Rattle.session.specs.Sessions.{sessionOf, created}
 use Rattle.station.specs.declared.Stepped.{Stepped}
-use Rattle.station.specs.Step.{step, leaving, Ready}
+use Rattle.station.specs.Step.{step, checkedStep, leaving, Ready}
 use Rattle.station.proofs.Ranges.{step-ready}
+use Rattle.station.proofs.Room.{ready-step}
 use Rattle.transcript.specs.declared.Feed.{Feed}
 use Rattle.transcript.specs.Text.{longSize, longNumeral, answerText, longestAnswer}
 use Rattle.transcript.specs.Lines.{keptLength, cut}
@@ -40,7 +41,10 @@ answer-bound at e number refusal value q =
     omega (arith, length-append (longNumeral number) (rest ++ (10 ∷ [])), length-append rest (10 ∷ []), length-digits (longSize number) number, size-le 19 number, length-fields-le (refusal ∷ value ∷ []))
 
 module _ (f : Feed) (rows blocks line out : List ℕ) (o : Open f rows blocks line out 1) (v : Stepped) (rows' blocks' out' : List ℕ) (at' : ℕ)
-    (e : leaving v rows' blocks' ≡ step (f .state) rows blocks (take (f .len) line)) where
+    (c : leaving v rows' blocks' ≡ checkedStep (f .state) rows blocks (take (f .len) line)) where
+  e : leaving v rows' blocks' ≡ step (f .state) rows blocks (take (f .len) line)
+  e = c ∙ ready-step (f .state) rows blocks (take (f .len) line) (o .ready)
+
   pub line-answered : at' ≡ f .at + length (answerText (f .number + 1) (v .refusal) (v .value))
       → out' ≡ overwrite (f .at) (answerText (f .number + 1) (v .refusal) (v .value)) out
       → running (record { state = v .state; number = f .number + 1; len = 0; at = at' }) rows' blocks' line out'

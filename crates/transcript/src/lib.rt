@@ -58,7 +58,7 @@ fn put_number(out: &mut [u8], at: usize, x: u64) -> usize
 }
 
 // An answer from a position on; the position behind.
-pub fn put_answer(out: &mut [u8], at: usize, number: u64, refusal: u8, value: u32) -> usize
+fn put_answer(out: &mut [u8], at: usize, number: u64, refusal: u8, value: u32) -> usize
     requires { ⌜ at + longestAnswer ≤ length (now out) ⌝ }
     ensures { λ r. ⌜ (r ≡ at + length (answerText number refusal value)) × (now (out .exit) ≡ overwrite at (answerText number refusal value) (now (out .entry))) ⌝ }
 {
@@ -70,7 +70,7 @@ pub fn put_answer(out: &mut [u8], at: usize, number: u64, refusal: u8, value: u3
 }
 
 // The position behind the next line feed, or the chunk's end.
-pub fn line_end(chunk: &[u8], from: usize) -> usize
+fn line_end(chunk: &[u8], from: usize) -> usize
     ensures { λ r. ⌜ r ≡ from + segment (drop from (now (chunk .entry))) ⌝ }
 {
     let mut i = from;
@@ -100,7 +100,7 @@ fn copy(from: &[u8], to: &mut [u8])
 }
 
 // Bytes behind the first `len` of a line, as far as there is room; how many the line has then.
-pub fn append(line: &mut [u8], len: usize, part: &[u8]) -> usize
+fn append(line: &mut [u8], len: usize, part: &[u8]) -> usize
     requires { ⌜ (len ≤ keptLength) × (length (now line) ≡ keptLength) ⌝ }
     ensures { λ r. ⌜ (r ≤ keptLength) × (take r (now (line .exit)) ≡ cut (take len (now (line .entry)) ++ now (part .entry))) ⌝ }
     ensures { λ r. ⌜ now (line .exit) ≡ laid len (now (part .entry)) (now (line .entry)) ⌝ }
@@ -123,13 +123,7 @@ pub struct Feed {
 }
 
 // The line begun is taken, and its answer written.
-pub fn end_line(
-    feed: Feed,
-    rows: &mut [u32],
-    blocks: &mut [u32],
-    line: &[u8],
-    out: &mut [u8],
-) -> Feed
+fn end_line(feed: Feed, rows: &mut [u32], blocks: &mut [u32], line: &[u8], out: &mut [u8]) -> Feed
     requires { ⌜ Open feed (now rows) (now blocks) (now line) (now out) 1 ⌝ }
     ensures { λ r. ⌜ running r (now (rows .exit)) (now (blocks .exit)) (now (line .entry)) (now (out .exit)) ≡ answered (running feed (now (rows .entry)) (now (blocks .entry)) (now (line .entry)) (now (out .entry))) ⌝ }
     ensures { λ r. ⌜ Ready (r .state) (now (rows .exit)) (now (blocks .exit)) × (r .len ≡ 0) × (r .number ≡ feed .number + 1) × (r .at ≤ feed .at + longestAnswer) ⌝ }
