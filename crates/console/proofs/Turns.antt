@@ -1,14 +1,16 @@
 -- The turns of the program: what holds between two chunks.
 use Prim.Native.Nat.{ℕ, _+_, _-_, _≤_, _<_}
-use mathlib.Core.Path.{_≡_, refl, sym, _∙_}
-use mathlib.Core.List.{List}
+use mathlib.Core.Path.{_≡_, refl, ap, sym, _∙_}
+use mathlib.Core.Bool.{Bool, true, false, cond}
+use mathlib.Core.List.{List, [], _∷_, _++_}
 use native.Mathlib.Omega.{arith}
-use lib.ListN.{length, take}
+use lib.ListN.{length, take, replicate, length-replicate}
 use lib.Seq.{length-take-le}
 use Rattle.station.specs.Step.{Ready}
 use Rattle.transcript.specs.declared.Feed.{Feed}
-use Rattle.transcript.specs.Program.{firstState, firstFeed, Open, Fed}
-use Rattle.console.specs.Holding.{Held}
+use Rattle.transcript.specs.Program.{Running, running, fed, closed, drained, drainedFeed, passed, begun, firstState, firstFeed, Open, Fed}
+use Rattle.transcript.proofs.Whole.{passed-more}
+use Rattle.console.specs.Holding.{Handed, Passing, Held, Ended}
 
 pub open-none : (f : Feed) (rows blocks line out : List ℕ) (k : ℕ) → Open f rows blocks line out k → Open f rows blocks line out 0
 open-none f rows blocks line out k o =
@@ -23,9 +25,9 @@ module _ (f r : Feed) (rows blocks line out rows' blocks' line' out' : List ℕ)
   pub answers-size : r .at ≡ length (take (r .at) out')
   answers-size = sym (length-take-le (r .at) out' answers-in)
 
-  pub chunk-open : length line' ≡ length line
-      → Open (record { state = r .state; number = r .number; len = r .len; at = 0 }) rows' blocks' line' out' 0
-  chunk-open ll =
+  pub chunk-open : (v : Feed) → v ≡ drainedFeed r → length line' ≡ length line → Open v rows' blocks' line' out' 0
+  chunk-open v q ll =
+      rw q
       record {
         ready = d .ready;
         line-room = ll ∙ o .line-room;
@@ -34,23 +36,61 @@ module _ (f r : Feed) (rows blocks line out rows' blocks' line' out' : List ℕ)
         room = omega arith;
       }
 
-  pub chunk-numbers : r .number ≤ f .number + 4096
-  chunk-numbers = omega (arith, d .numbers)
+  pub chunk-numbers : (v : Feed) → v ≡ drainedFeed r → v .number ≤ f .number + 4096
+  chunk-numbers v q = rw q (omega (arith, d .numbers))
+
+pub chunk-printed : (r v : Feed) → v ≡ drainedFeed r → v .at ≡ 0
+chunk-printed r v q = rw q
+
+pub chunk-drained : (r v : Feed) (rows blocks line out : List ℕ) (p : Running) → running r rows blocks line out ≡ p → v ≡ drainedFeed r
+    → running v rows blocks line out ≡ drained p
+chunk-drained r v rows blocks line out p e q = rw q (ap drained e)
+
+-- ---- what was read
+pub handed-none : (f : Feed) (rows blocks line out : List ℕ) → f .at ≡ 0 → Handed (running f rows blocks line out) (running f rows blocks line out) false
+unfolding fed
+handed-none f rows blocks line out z =
+    record {
+      chunk = [];
+      says =
+          ap (λ (k : ℕ). record { state = f .state; rows = rows; blocks = blocks; line = take (f .len) line; number = f .number; out = take k out }) z;
+      none = λ e. refl;
+    }
+
+pub handed-some : (p v : Running) (chunk : List ℕ) → v ≡ drained (fed p chunk) → Handed p v true
+handed-some p v chunk q = record { chunk = chunk; says = q; none = λ e. let z : _≡_ {A = ℕ} 0 1 = cc in absurd (omega arith) }
 
 -- ---- from chunk to chunk
 first-ready : (rows blocks : List ℕ) → length rows ≡ 9216 → length blocks ≡ 1056 → Ready firstState rows blocks
 first-ready rows blocks a b =
     record { rows-room = a; blocks-room = b; in-range = λ e. let z : _≡_ {A = ℕ} 0 1 = cc in absurd (omega arith) }
 
-pub held-start : (f : Feed) (rows blocks line out : List ℕ) → length rows ≡ 9216 → length blocks ≡ 1056 → length line ≡ 1062 → length out ≡ 176128
-    → f ≡ firstFeed → Held f rows blocks line out 2251799813685248
+pub same-zeros : (k : ℕ) (l l₀ : List ℕ) → l₀ ≡ replicate k 0 → length l ≡ k → length l ≡ length l₀
+same-zeros k l l₀ e h = h ∙ sym (ap length e ∙ length-replicate {A = ℕ} k 0)
+
+first-passing : (rows blocks line out : List ℕ) → rows ≡ replicate 9216 0 → blocks ≡ replicate 1056 0 → Passing (running firstFeed rows blocks line out)
+unfolding passed
+first-passing rows blocks line out a b = record { chunks = []; says = rw (a, b) }
+
+pub held-start : (f : Feed) (rows blocks line out : List ℕ) → rows ≡ replicate 9216 0 → blocks ≡ replicate 1056 0 → length line ≡ 1062
+    → length out ≡ 176128 → f ≡ firstFeed → Held f rows blocks line out 2251799813685248
 held-start f rows blocks line out a b c d e =
+    let la : length rows ≡ 9216 = ap length a ∙ length-replicate {A = ℕ} 9216 0 in
+    let lb : length blocks ≡ 1056 = ap length b ∙ length-replicate {A = ℕ} 1056 0 in
     rw e
     record {
-      fine = record { ready = first-ready rows blocks a b; line-room = c; len-in = omega arith; numbers = omega arith; room = omega arith };
+      fine = record { ready = first-ready rows blocks la lb; line-room = c; len-in = omega arith; numbers = omega arith; room = omega arith };
       printed = refl;
       out-room = d;
       numbers = omega arith;
+      passing = first-passing rows blocks line out a b;
+    }
+
+passing-more : (p v : Running) (more : Bool) → Passing p → Handed p v more → Passing v
+passing-more p v more h g =
+    record {
+      chunks = h .chunks ++ (g .chunk ∷ []);
+      says = g .says ∙ ap (λ (z : Running). drained (fed z (g .chunk))) (h .says) ∙ sym (passed-more (drained begun) (h .chunks) (g .chunk));
     }
 
 module _ (f : Feed) (rows blocks line out : List ℕ) (turns : ℕ) (h : Held f rows blocks line out turns) where
@@ -71,16 +111,31 @@ module _ (f : Feed) (rows blocks line out : List ℕ) (turns : ℕ) (h : Held f 
   pub held-room : length out ≡ 176128
   held-room = h .out-room
 
+  pub held-done : Held f rows blocks line out 0
+  held-done = record { fine = h .fine; printed = h .printed; out-room = h .out-room; numbers = omega (arith, h .numbers); passing = h .passing }
+
   module _ (t : 0 < turns) (r : Feed) (rows' blocks' line' out' : List ℕ) (o : Open r rows' blocks' line' out' 0) (z : r .at ≡ 0)
-      (n : r .number ≤ f .number + 4096) (l : length out' ≡ length out) where
+      (n : r .number ≤ f .number + 4096) (l : length out' ≡ length out) (more : Bool)
+      (g : Handed (running f rows blocks line out) (running r rows' blocks' line' out') more) where
     pub held-more : Held r rows' blocks' line' out' (turns - 1)
-    held-more = record { fine = o; printed = z; out-room = l ∙ h .out-room; numbers = omega (arith, h .numbers) }
+    held-more = record { fine = o; printed = z; out-room = l ∙ h .out-room; numbers = omega (arith, h .numbers); passing = passing-more _ _ more (h .passing) g }
 
     pub held-last : Held r rows' blocks' line' out' 0
-    held-last = record { fine = o; printed = z; out-room = l ∙ h .out-room; numbers = omega (arith, h .numbers) }
+    held-last = record { fine = o; printed = z; out-room = l ∙ h .out-room; numbers = omega (arith, h .numbers); passing = passing-more _ _ more (h .passing) g }
 
+  -- ---- the end
   pub last-in : (at : ℕ) (out' : List ℕ) → at ≤ f .at + 43 → length out' ≡ length out → at ≤ length out'
   last-in at out' a l = omega (arith, h .printed, h .out-room)
 
   pub last-size : (at : ℕ) (out' : List ℕ) → at ≤ f .at + 43 → length out' ≡ length out → at ≡ length (take at out')
   last-size at out' a l = sym (length-take-le at out' (last-in at out' a l))
+
+  pub all-served : (failed : Bool) (v : Running) → v ≡ cond failed (running f rows blocks line out) (closed (running f rows blocks line out)) → Ended failed v
+  all-served failed v q =
+      record { chunks = h .passing .chunks; says = q ∙ ap (λ (z : Running). cond failed z (closed z)) (h .passing .says) }
+
+pub finish-failed : (b : Bool) (p v : Running) → b ≡ true → v ≡ p → v ≡ cond b p (closed p)
+finish-failed b p v e q = q ∙ rw e
+
+pub finish-closed : (b : Bool) (p v : Running) → b ≡ false → v ≡ closed p → v ≡ cond b p (closed p)
+finish-closed b p v e q = q ∙ rw e

@@ -7,7 +7,7 @@ use native.Mathlib.Omega.{arith}
 use borrow.Author.Tests.{eq-eqb, ne-eqb}
 use mir.Syntax.{w64}
 use mir.Val.{Fits}
-use lib.ListN.{length, getD, take, drop, replicate, length-append, length-drop}
+use lib.ListN.{length, getD, take, drop, replicate, length-append, length-drop, length-replicate}
 use lib.Seq.{length-take-le, take-at, getD-take}
 use Rattle.refusal.specs.Refusal.{outcome}
 use Rattle.refusal.proofs.Endings.{refused, accepted}
@@ -25,7 +25,8 @@ use Rattle.station.specs.declared.Named.{Named}
 use Rattle.station.specs.declared.Pack.{Pack}
 use Rattle.station.specs.declared.Heard.{Heard}
 use Rattle.station.specs.Starting.{refusing}
-use Rattle.station.specs.Letters.{rowRefusal, rowNamed, elements, namedAs, rowsLength, sessionRows, withFront, answering, loadStep, loadedRows, heard, dealStep, dealtRows, recordFor, openStep, InRange, PackAs, HeardAs}
+use Rattle.station.specs.Letters.{rowRefusal, rowNamed, elements, namedAs, rowsLength, sessionRows, withFront, answering, loadRefusal, loadStep, loadedRows, heardRefusal, heard, dealStep, dealtRows, recordFor, openStep, InRange, PackAs, HeardAs}
+use Rattle.station.proofs.Zeros.{taken, zeros-filled}
 
 -- ---- a call on the session's part of the rows
 pub answered-as : (st : State) (v : Stepped) (a b : Answer) → v ≡ answering st a → a ≡ b → v ≡ answering st b
@@ -53,22 +54,20 @@ unfolding outcome
 named-refusal zero y = refl
 named-refusal (suc k) y = refl
 
-named-row : (x y : ℕ) → x ≡ 0 → namedAs x y .row ≡ y
+named-row : (x y : ℕ) → namedAs x y .row ≡ outcome x y 0
 unfolding outcome
-named-row zero y e = refl
-named-row (suc k) y e = absurd (omega arith)
+named-row zero y = refl
+named-row (suc k) y = refl
 
-taken : (x : ℕ) (new old : List ℕ) → x ≡ 0 → outcome x new old ≡ new
-unfolding outcome
-taken zero new old e = refl
-taken (suc k) new old e = absurd (omega arith)
+module _ (s : Session) (line part : List ℕ) (named : Named) (i : InRange s) where
+  abbrev zeros : List ℕ
+  zeros = replicate 96 0
 
-module _ (s : Session) (line zeros part : List ℕ) (named : Named) (i : InRange s) (z : length zeros ≡ 96) where
   abbrev out : List ℕ
   out = take (width s) zeros
 
   size : length out ≡ width s
-  size = length-take-le (width s) zeros (omega (arith, i .n-in .1, i .t-in .1))
+  size = length-take-le (width s) zeros (omega (arith, i .n-in .1, i .t-in .1, length-replicate {A = ℕ} 96 0))
 
   pub pack-as : named ≡ namedAs (rowRefusal (length out) line) (rowNamed (length out) line)
       → part ≡ outcome (rowRefusal (length out) line) (elements (length out) line) out → length part ≡ length out
@@ -80,9 +79,10 @@ module _ (s : Session) (line zeros part : List ℕ) (named : Named) (i : InRange
       let d : named .refusal ≡ x = ap (λ (v : Named). v .refusal) e' ∙ named-refusal x _ in
       record {
         refusal-is = d;
-        row-is = λ h. ap (λ (v : Named). v .row) e' ∙ named-row x _ (sym d ∙ h);
-        numbers-are = λ h. take-at part (drop (width s) zeros) (width s) (l ∙ size) ∙ f' ∙ taken x _ out (sym d ∙ h);
-        room = length-append part (drop (width s) zeros) ∙ omega (arith, l, size, length-drop (width s) zeros, i .n-in .1, i .t-in .1);
+        row-is = ap (λ (v : Named). v .row) e' ∙ named-row x _;
+        numbers-are = zeros-filled x (width s) 96 part (elements (width s) line) f';
+        front-is = λ h. take-at part (drop (width s) zeros) (width s) (l ∙ size) ∙ f' ∙ taken x _ out (sym d ∙ h);
+        room = length-append part (drop (width s) zeros) ∙ omega (arith, l, size, length-drop (width s) zeros, length-replicate {A = ℕ} 96 0, i .n-in .1, i .t-in .1);
       }
 
 -- ---- `R`
@@ -100,14 +100,17 @@ module _ (st : State) (rows line : List ℕ) (h : Pack) (a : PackAs (st .session
     abbrev s : Session
     s = st .session
 
+    row-read : h .row ≡ rowNamed (width s) line
+    row-read = a .row-is ∙ taken (loadRefusal s line) _ 0 (sym (a .refusal-is) ∙ z)
+
     pub load-answered : (v : Stepped) → v ≡ answering st (loadRowAnswer s (sessionRows s rows) (h .row) (take (width s) (h .numbers))) → v ≡ loadStep st rows line
     unfolding loadStep
-    load-answered v q = accepted (h .refusal) _ v _ _ (a .refusal-is) z (q ∙ rw (a .row-is z, a .numbers-are z))
+    load-answered v q = accepted (h .refusal) _ v _ _ (a .refusal-is) z (q ∙ rw (row-read, a .front-is z))
 
     pub load-written : (l : List ℕ) → l ≡ withFront (rowsLength s) (loadRowRows s (sessionRows s rows) (h .row) (take (width s) (h .numbers))) rows
         → l ≡ loadedRows st rows line
     unfolding loadedRows
-    load-written l q = accepted (h .refusal) _ l _ _ (a .refusal-is) z (q ∙ rw (a .row-is z, a .numbers-are z))
+    load-written l q = accepted (h .refusal) _ l _ _ (a .refusal-is) z (q ∙ rw (row-read, a .front-is z))
 
 -- ---- `D`
 padded-first : (k : ℕ) (l : List ℕ) → getD (padded k l) 0 0 ≡ getD l 0 0
@@ -126,21 +129,24 @@ module _ (st : State) (rows line : List ℕ) (h : Heard) (a : HeardAs (st .sessi
     deal-kept = refused (h .refusal) _ _ rows (a .refusal-is) n
 
   module _ (z : h .refusal ≡ 0) where
+    row-heard : h .row ≡ heard (st .session) line .row
+    row-heard = a .row-is ∙ taken (heardRefusal (st .session) line) _ 0 (sym (a .refusal-is) ∙ z)
+
     first-number : getD (h .numbers) 0 0 ≡ getD (heard (st .session) line .numbers) 0 0
     first-number =
         let k : ℕ = 2 * (st .session .t + 1) in
-        sym (getD-take k (h .numbers) 0 0 (omega arith)) ∙ ap (λ (l : List ℕ). getD l 0 0) (a .numbers-are z) ∙ padded-first k (heard (st .session) line .numbers)
+        sym (getD-take k (h .numbers) 0 0 (omega arith)) ∙ ap (λ (l : List ℕ). getD l 0 0) (a .front-is z) ∙ padded-first k (heard (st .session) line .numbers)
 
     pub deal-answered : (v : Stepped) → v ≡ answering st (dealAnswer (st .session) (sessionRows (st .session) rows) (h .row) (getD (h .numbers) 0 0))
         → v ≡ dealStep st rows line
     unfolding dealStep
-    deal-answered v q = accepted (h .refusal) _ v _ _ (a .refusal-is) z (q ∙ rw (a .row-is z, first-number))
+    deal-answered v q = accepted (h .refusal) _ v _ _ (a .refusal-is) z (q ∙ rw (row-heard, first-number))
 
     pub deal-written : (l : List ℕ)
         → l ≡ withFront (rowsLength (st .session)) (dealRows (st .session) (sessionRows (st .session) rows) (h .row) (getD (h .numbers) 0 0)) rows
         → l ≡ dealtRows st rows line
     unfolding dealtRows
-    deal-written l q = accepted (h .refusal) _ l _ _ (a .refusal-is) z (q ∙ rw (a .row-is z, first-number))
+    deal-written l q = accepted (h .refusal) _ l _ _ (a .refusal-is) z (q ∙ rw (row-heard, first-number))
 
 -- ---- `G`
 module _ (st : State) (rows blocks : List ℕ) where
@@ -166,5 +172,6 @@ module _ (st : State) (rows blocks : List ℕ) where
     pub open-answered : (v : Stepped) → named .refusal ≡ 0 → v ≡ with (named .row) (recordFor (st .kept) (named .row) blocks) → v ≡ openStep st rows blocks line
     unfolding openStep
     open-answered v z q =
-        let r : named .row ≡ rowNamed 0 line = ap (λ (v : Named). v .row) e ∙ named-row (rowRefusal 0 line) _ (sym refusal-is ∙ z) in
+        let r : named .row ≡ rowNamed 0 line =
+        ap (λ (v : Named). v .row) e ∙ named-row (rowRefusal 0 line) _ ∙ taken (rowRefusal 0 line) _ 0 (sym refusal-is ∙ z) in
         accepted (named .refusal) _ v _ _ refusal-is z (q ∙ rw r)

@@ -4,7 +4,7 @@ use mathlib.Core.Path.{_≡_, refl, ap, sym, _∙_}
 use mathlib.Core.List.{List, _++_}
 use native.Mathlib.Omega.{arith}
 use borrow.Author.Tests.{le-ltb, eq-eqb}
-use lib.ListN.{length, take, drop, length-append, length-drop}
+use lib.ListN.{length, take, drop, replicate, length-append, length-drop, length-replicate}
 use lib.Seq.{length-take-le, take-at}
 use Rattle.refusal.specs.Refusal.{outcome}
 use Rattle.fields.specs.Fields.{padded}
@@ -13,7 +13,8 @@ use Rattle.lines.specs.declared.Line.{Line}
 use Rattle.lines.specs.Order.{lineRefusal}
 use Rattle.lines.specs.Reading.{readRefusal, lineAs, listAs}
 use Rattle.session.specs.declared.Session.{Session}
-use Rattle.station.specs.Letters.{heardRefusal, heard, InRange, HeardAs}
+use Rattle.station.specs.Letters.{heardRefusal, heard, heardNumbers, InRange, HeardAs}
+use Rattle.station.proofs.Zeros.{taken, zeros-filled}
 
 -- 1, 2 and 5 hold nothing against the line's session and list
 no-posts : (s : Session) (line out : List ℕ) → InRange s → length out ≡ 2 * (s .t + 1) → readRefusal (s .n) (s .t) line out ≡ heardRefusal s line
@@ -26,25 +27,23 @@ unfolding outcome
 line-refusal zero m = refl
 line-refusal (suc k) m = refl
 
-line-row : (x : ℕ) (m : Message) → x ≡ 0 → lineAs x m .row ≡ m .row
+line-row : (x : ℕ) (m : Message) → lineAs x m .row ≡ outcome x (m .row) 0
 unfolding outcome
-line-row zero m e = refl
-line-row (suc k) m e = absurd (omega arith)
+line-row zero m = refl
+line-row (suc k) m = refl
 
-line-post : (x : ℕ) (m : Message) → x ≡ 0 → lineAs x m .post ≡ m .post
+line-post : (x : ℕ) (m : Message) → lineAs x m .post ≡ outcome x (m .post) 0
 unfolding outcome
-line-post zero m e = refl
-line-post (suc k) m e = absurd (omega arith)
-
-list-read : (x : ℕ) (m : Message) (out : List ℕ) → x ≡ 0 → listAs x m out ≡ padded (length out) (m .numbers)
-unfolding outcome
-list-read zero m out e = refl
-list-read (suc k) m out e = absurd (omega arith)
+line-post zero m = refl
+line-post (suc k) m = refl
 
 pub prefix-length : (k : ℕ) (l : List ℕ) → k ≤ length l → k ≡ length (take k l)
 prefix-length k l h = sym (length-take-le k l h)
 
-module _ (s : Session) (line zeros part : List ℕ) (said : Line) (i : InRange s) (z : length zeros ≡ 64) where
+module _ (s : Session) (line part : List ℕ) (said : Line) (i : InRange s) where
+  abbrev zeros : List ℕ
+  zeros = replicate 64 0
+
   abbrev k : ℕ
   k = 2 * (s .t + 1)
 
@@ -55,16 +54,22 @@ module _ (s : Session) (line zeros part : List ℕ) (said : Line) (i : InRange s
   r = readRefusal (s .n) (s .t) line out
 
   size : length out ≡ k
-  size = length-take-le k zeros (omega (arith, i .n-in .1, i .t-in .1))
+  size = length-take-le k zeros (omega (arith, i .n-in .1, i .t-in .1, length-replicate {A = ℕ} 64 0))
 
   pub heard-as : said ≡ lineAs r (heard s line) → part ≡ listAs r (heard s line) out → length part ≡ length out
       → HeardAs s line (record { refusal = said .refusal; row = said .row; post = said .post; numbers = part ++ drop k zeros })
   heard-as e f l =
-      let d : said .refusal ≡ r = ap (λ (v : Line). v .refusal) e ∙ line-refusal r (heard s line) in
+      let x : ℕ = heardRefusal s line in
+      let q : r ≡ x = no-posts s line out i size in
+      let e' : said ≡ lineAs x (heard s line) = e ∙ ap (λ (y : ℕ). lineAs y (heard s line)) q in
+      let f' : part ≡ outcome x (heardNumbers s line) out =
+      f ∙ ap (λ (y : ℕ). listAs y (heard s line) out) q ∙ ap (λ (j : ℕ). outcome x (padded j (heard s line .numbers)) out) size in
+      let d : said .refusal ≡ x = ap (λ (v : Line). v .refusal) e' ∙ line-refusal x (heard s line) in
       record {
-        refusal-is = d ∙ no-posts s line out i size;
-        row-is = λ h. ap (λ (v : Line). v .row) e ∙ line-row r (heard s line) (sym d ∙ h);
-        post-is = λ h. ap (λ (v : Line). v .post) e ∙ line-post r (heard s line) (sym d ∙ h);
-        numbers-are = λ h. take-at part (drop k zeros) k (l ∙ size) ∙ f ∙ list-read r (heard s line) out (sym d ∙ h) ∙ ap (λ (j : ℕ). padded j (heard s line .numbers)) size;
-        room = length-append part (drop k zeros) ∙ omega (arith, l, size, length-drop k zeros, i .n-in .1, i .t-in .1);
+        refusal-is = d;
+        row-is = ap (λ (v : Line). v .row) e' ∙ line-row x (heard s line);
+        post-is = ap (λ (v : Line). v .post) e' ∙ line-post x (heard s line);
+        numbers-are = zeros-filled x k 64 part (heardNumbers s line) f';
+        front-is = λ h. take-at part (drop k zeros) k (l ∙ size) ∙ f' ∙ taken x _ out (sym d ∙ h);
+        room = length-append part (drop k zeros) ∙ omega (arith, l, size, length-drop k zeros, length-replicate {A = ℕ} 64 0, i .n-in .1, i .t-in .1);
       }

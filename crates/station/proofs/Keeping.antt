@@ -26,6 +26,7 @@ use Rattle.station.specs.declared.Stepped.{Stepped}
 use Rattle.station.specs.declared.Heard.{Heard}
 use Rattle.station.specs.Starting.{refusing}
 use Rattle.station.specs.Letters.{heardRefusal, heard, withBlock, recordFor, keeping, keepStep, keptBlocks, InRange, HeardAs}
+use Rattle.station.proofs.Zeros.{taken}
 
 -- ---- a block put into the record
 module _ (l xs : List ℕ) (at : ℕ) (h : at + 1 + length xs ≤ length l) where
@@ -72,7 +73,7 @@ module _ (s : Session) (line : List ℕ) (h : Heard) (a : HeardAs s line h) (i :
       (f .0, skip (eqb (getD line 0 0) 68) (outside 1 (s .n) (m .post)) (rw o) (c .0))
 
   post-in : (1 ≤ h .post) × (h .post ≤ s .n)
-  post-in = rw (a .post-is z) (inside 1 (s .n) (heard s line .post) (none-holds .1))
+  post-in = rw (a .post-is, taken (heardRefusal s line) (heard s line .post) 0 (sym (a .refusal-is) ∙ z)) (inside 1 (s .n) (heard s line .post) (none-holds .1))
 
   numbers-length : length (heard s line .numbers) ≡ k
   numbers-length = go (formOf k line) refl (none-holds .0)
@@ -86,7 +87,7 @@ module _ (s : Session) (line : List ℕ) (h : Heard) (a : HeardAs s line h) (i :
 
   pub own-numbers : take k (h .numbers) ≡ heard s line .numbers
   own-numbers =
-      sym (take-take k (2 * k) (h .numbers) (omega arith)) ∙ ap (take k) (a .numbers-are z) ∙ take-at (heard s line .numbers) _ k numbers-length
+      sym (take-take k (2 * k) (h .numbers) (omega arith)) ∙ ap (take k) (a .front-is z) ∙ take-at (heard s line .numbers) _ k numbers-length
 
   pub post-low : 1 ≤ h .post
   post-low = post-in .0
@@ -130,16 +131,25 @@ module _ (st : State) (blocks line : List ℕ) (h : Heard) (a : HeardAs (st .ses
     keep-kept = refused (h .refusal) _ _ blocks (a .refusal-is) n
 
   module _ (i : InRange (st .session)) (o : getD line 0 0 ≡ 79) (z : h .refusal ≡ 0) where
+    none : heardRefusal (st .session) line ≡ 0
+    none = sym (a .refusal-is) ∙ z
+
+    row-kept : h .row ≡ heard (st .session) line .row
+    row-kept = a .row-is ∙ taken (heardRefusal (st .session) line) _ 0 none
+
+    post-kept : h .post ≡ heard (st .session) line .post
+    post-kept = a .post-is ∙ taken (heardRefusal (st .session) line) _ 0 none
+
     pub keep-accepted : (v : Stepped) → v ≡ keeping st (h .row) → v ≡ keepStep st line
     unfolding keepStep
-    keep-accepted v q = accepted (h .refusal) _ v _ _ (a .refusal-is) z (q ∙ rw (a .row-is z))
+    keep-accepted v q = accepted (h .refusal) _ v _ _ (a .refusal-is) z (q ∙ rw row-kept)
 
     pub keep-written : (l : List ℕ) → l ≡ withBlock (st .session .t + 1) (h .post) (take (st .session .t + 1) (h .numbers)) (recordFor (st .kept) (h .row) blocks)
         → l ≡ keptBlocks st blocks line
     unfolding keptBlocks
     keep-written l q =
         accepted (h .refusal) _ l _ _ (a .refusal-is) z
-        (q ∙ rw (own-numbers (st .session) line h a i o z, a .row-is z, a .post-is z))
+        (q ∙ rw (own-numbers (st .session) line h a i o z, row-kept, post-kept))
 
 pub kept-room : (kept row : ℕ) (l new : List ℕ) → new ≡ recordFor kept row l → length l ≡ 1056 → length new ≡ 1056
 kept-room kept row l new e h = ap length e ∙ kept-length kept row l ∙ h

@@ -1,3 +1,4 @@
+pub mod Zeros
 pub mod Settings
 pub mod RowLines
 pub mod Hearing
@@ -6,3 +7,4 @@ pub mod Keeping
 pub mod Ends
 pub mod Ranges
 pub mod Cutting
+pub mod Room

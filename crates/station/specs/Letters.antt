@@ -151,17 +151,22 @@ pub record InRange (s : Session) : Type 0 where
   pub n-in : (2 ≤ s .n) × (s .n ≤ 32)
   pub t-in : (1 ≤ s .t) × (s .t ≤ s .n - 1)
 
--- What the reader of a row's numbers hands on.
+-- What the reader of a row's numbers hands on: row and numbers with zeros behind them, or the refusal and zeros.
 pub record PackAs (s : Session) (line : List ℕ) (h : Pack) : Type 0 where
   pub refusal-is : h .refusal ≡ loadRefusal s line
-  pub row-is : h .refusal ≡ 0 → h .row ≡ rowNamed (width s) line
-  pub numbers-are : h .refusal ≡ 0 → take (width s) (h .numbers) ≡ elements (width s) line
+  pub row-is : h .row ≡ outcome (loadRefusal s line) (rowNamed (width s) line) 0
+  pub numbers-are : h .numbers ≡ outcome (loadRefusal s line) (elements (width s) line ++ replicate (96 - width s) 0) (replicate 96 0)
+  pub front-is : h .refusal ≡ 0 → take (width s) (h .numbers) ≡ elements (width s) line
   pub room : length (h .numbers) ≡ 96
 
--- What the broadcast reader hands on.
+-- What the broadcast reader hands on: row, post and numbers with zeros behind them, or the refusal and zeros.
+abbrev pub heardNumbers : Session → List ℕ → List ℕ
+heardNumbers s line = padded (2 * (s .t + 1)) (heard s line .numbers)
+
 pub record HeardAs (s : Session) (line : List ℕ) (h : Heard) : Type 0 where
   pub refusal-is : h .refusal ≡ heardRefusal s line
-  pub row-is : h .refusal ≡ 0 → h .row ≡ heard s line .row
-  pub post-is : h .refusal ≡ 0 → h .post ≡ heard s line .post
-  pub numbers-are : h .refusal ≡ 0 → take (2 * (s .t + 1)) (h .numbers) ≡ padded (2 * (s .t + 1)) (heard s line .numbers)
+  pub row-is : h .row ≡ outcome (heardRefusal s line) (heard s line .row) 0
+  pub post-is : h .post ≡ outcome (heardRefusal s line) (heard s line .post) 0
+  pub numbers-are : h .numbers ≡ outcome (heardRefusal s line) (heardNumbers s line ++ replicate (64 - 2 * (s .t + 1)) 0) (replicate 64 0)
+  pub front-is : h .refusal ≡ 0 → take (2 * (s .t + 1)) (h .numbers) ≡ heardNumbers s line
   pub room : length (h .numbers) ≡ 64

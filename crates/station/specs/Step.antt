@@ -1,10 +1,12 @@
 -- Document 01, "The street program": what one line does to the program's state.
 use Prim.Native.Nat.{ℕ}
 use mathlib.Core.Path.{_≡_}
-use mathlib.Core.List.{List}
+use mathlib.Core.List.{List, [], _∷_}
 use mathlib.Core.Bool.{true, cond}
 use lib.ListN.{length, getD}
 use lib.Dec.{eqb, ltb}
+use Rattle.refusal.specs.Refusal.{_when_, first, orElse, outcome}
+use Rattle.refusal.specs.Conditions.{missized, postsTests}
 use Rattle.station.specs.declared.State.{State}
 use Rattle.station.specs.declared.Stepped.{Stepped}
 use Rattle.station.specs.Starting.{refusing, longestLine, earlyStep}
@@ -32,6 +34,21 @@ lateStep st rows blocks s =
 -- One line.
 unfoldable pub step : State → List ℕ → List ℕ → List ℕ → After
 step st rows blocks s = cond (st .started) (lateStep st rows blocks s) (leaving (earlyStep st s) rows blocks)
+
+-- Before the line is looked at: 1 and 2 of a session that no `S` can have made, 5 of the lent lists, which have room for the
+-- largest session.
+abbrev pub postsRefusal : State → ℕ
+postsRefusal st = cond (st .started) (first (postsTests (st .session .n) (st .session .t))) 0
+
+abbrev pub listsRefusal : List ℕ → List ℕ → ℕ
+listsRefusal rows blocks = orElse (first (5 when missized rows 9216 ∷ [])) (first (5 when missized blocks 1056 ∷ []))
+
+unfoldable pub roomRefusal : State → List ℕ → List ℕ → ℕ
+roomRefusal st rows blocks = orElse (postsRefusal st) (listsRefusal rows blocks)
+
+unfoldable pub checkedStep : State → List ℕ → List ℕ → List ℕ → After
+checkedStep st rows blocks s =
+    outcome (roomRefusal st rows blocks) (step st rows blocks s) (leaving (refusing st (roomRefusal st rows blocks)) rows blocks)
 
 -- What holds between lines: the lent lists have room for the largest session, and a session that was accepted is in range.
 pub record Ready (st : State) (rows blocks : List ℕ) : Type 0 where

@@ -1,15 +1,15 @@
 // The station: what each line of the street program does to its state.
 //
 // The state goes in by value and comes back; the rows and the record of the `O` lines are lent.
-pub mod letters;
-pub mod reading;
-pub mod starting;
+mod letters;
+mod reading;
+mod starting;
 
 use session::Session;
 ghost use mathlib.Core.Path.{_≡_};
 ghost use Rattle.station.specs.Starting.{refusing};
 ghost use Rattle.station.specs.Letters.{InRange};
-ghost use Rattle.station.specs.Step.{leaving, step, lateStep, Ready};
+ghost use Rattle.station.specs.Step.{leaving, step, lateStep, postsRefusal, listsRefusal, roomRefusal, checkedStep, Ready};
 
 // What the program keeps from line to line, beside the rows and the record.
 pub struct State {
@@ -60,7 +60,7 @@ pub struct Heard {
 }
 
 // A refused line leaves the state as it was.
-pub fn refused(state: State, refusal: u8) -> Stepped
+fn refused(state: State, refusal: u8) -> Stepped
     ensures { λ r. ⌜ r ≡ refusing state refusal ⌝ }
 {
     Stepped {
@@ -90,8 +90,8 @@ fn late(state: State, rows: &mut [u32], blocks: &mut [u32], line: &[u8]) -> Step
     }
 }
 
-// One line, of any bytes, with or without a line feed at its end.
-pub fn step(state: State, rows: &mut [u32], blocks: &mut [u32], line: &[u8]) -> Stepped
+// A line, where the lent lists have room for it.
+fn take_line(state: State, rows: &mut [u32], blocks: &mut [u32], line: &[u8]) -> Stepped
     requires { ⌜ Ready state (now rows) (now blocks) ⌝ }
     ensures { λ r. ⌜ leaving r (now (rows .exit)) (now (blocks .exit)) ≡ step state (now (rows .entry)) (now (blocks .entry)) (now (line .entry)) ⌝ }
 {
@@ -99,4 +99,39 @@ pub fn step(state: State, rows: &mut [u32], blocks: &mut [u32], line: &[u8]) -> 
         return late(state, rows, blocks, line);
     }
     starting::early(state, line)
+}
+
+// 1 and 2 of a session that no `S` can have made.
+fn posts_refusal(state: State) -> u8
+    ensures { λ r. ⌜ r ≡ postsRefusal state ⌝ }
+{
+    if state.started {
+        let session = state.session;
+        return refusal::posts(session.n, session.t);
+    }
+    0
+}
+
+// 5 of the lent lists.
+fn lists_refusal<'a>(rows: &'a [u32], blocks: &'a [u32]) -> u8
+    ensures { λ r. ⌜ r ≡ listsRefusal (now (rows .entry)) (now (blocks .entry)) ⌝ }
+{
+    refusal::or_else(refusal::size(rows, 9216), refusal::size(blocks, 1056))
+}
+
+fn room_refusal<'a>(state: State, rows: &'a [u32], blocks: &'a [u32]) -> u8
+    ensures { λ r. ⌜ r ≡ roomRefusal state (now (rows .entry)) (now (blocks .entry)) ⌝ }
+{
+    refusal::or_else(posts_refusal(state), lists_refusal(rows, blocks))
+}
+
+// One line, of any bytes, with or without a line feed at its end.
+pub fn step(state: State, rows: &mut [u32], blocks: &mut [u32], line: &[u8]) -> Stepped
+    ensures { λ r. ⌜ leaving r (now (rows .exit)) (now (blocks .exit)) ≡ checkedStep state (now (rows .entry)) (now (blocks .entry)) (now (line .entry)) ⌝ }
+{
+    let room = room_refusal(state, rows, blocks);
+    if room != 0 {
+        return refused(state, room);
+    }
+    take_line(state, rows, blocks, line)
 }

@@ -6,7 +6,7 @@ use mathlib.Core.List.{List, [], _∷_, _++_, append-assoc}
 use native.Mathlib.Omega.{arith}
 use borrow.Author.Tests.{ne-eqb}
 use lib.ListN.{length, getD, take, drop, length-append}
-use lib.Seq.{take-at, length-take-le}
+use lib.Seq.{take-at, drop-at, length-take-le}
 use Rattle.decimal.proofs.Digits.{length-digits}
 use Rattle.decimal.proofs.Sizes.{size-le}
 use Rattle.fields.specs.Fields.{fields, overwrite}
@@ -16,12 +16,13 @@ use Rattle.session.specs.declared.Session.{Session}
 use Rattle.session.specs.declared.Answer.{Answer}
 use Rattle.session.specs.Sessions.{sessionOf, created}
 use Rattle.station.specs.declared.Stepped.{Stepped}
-use Rattle.station.specs.Step.{step, leaving, Ready}
+use Rattle.station.specs.Step.{step, checkedStep, leaving, Ready}
 use Rattle.station.proofs.Ranges.{step-ready}
+use Rattle.station.proofs.Room.{ready-step}
 use Rattle.transcript.specs.declared.Feed.{Feed}
 use Rattle.transcript.specs.Text.{longSize, longNumeral, answerText, longestAnswer}
 use Rattle.transcript.specs.Lines.{keptLength, cut}
-use Rattle.transcript.specs.Program.{Running, leftBy, answered, grown, closed, firstFeed, running, segmented, Open, Fed}
+use Rattle.transcript.specs.Program.{Running, leftBy, answered, grown, closed, firstFeed, running, segmented, Open, Added, Fed}
 
 -- ---- an answer behind those before it
 written-front : (at : ℕ) (w l : List ℕ) → at ≤ length l → take (at + length w) (overwrite at w l) ≡ take at l ++ w
@@ -29,13 +30,21 @@ written-front at w l h =
     let n : length (take at l ++ w) ≡ at + length w = length-append (take at l) w ∙ omega (arith, length-take-le at l h) in
     ap (take (at + length w)) (sym (append-assoc (take at l) w (drop (at + length w) l))) ∙ take-at (take at l ++ w) _ (at + length w) n
 
+written-behind : (at : ℕ) (w l : List ℕ) → at ≤ length l → drop (at + length w) (overwrite at w l) ≡ drop (at + length w) l
+written-behind at w l h =
+    let n : length (take at l ++ w) ≡ at + length w = length-append (take at l) w ∙ omega (arith, length-take-le at l h) in
+    ap (drop (at + length w)) (sym (append-assoc (take at l) w (drop (at + length w) l))) ∙ drop-at (take at l ++ w) _ (at + length w) n
+
 pub answer-bound : (at e number refusal value : ℕ) → e ≡ at + length (answerText number refusal value) → e ≤ at + longestAnswer
 answer-bound at e number refusal value q =
     let rest : List ℕ = fields (refusal ∷ value ∷ []) in
     omega (arith, length-append (longNumeral number) (rest ++ (10 ∷ [])), length-append rest (10 ∷ []), length-digits (longSize number) number, size-le 19 number, length-fields-le (refusal ∷ value ∷ []))
 
 module _ (f : Feed) (rows blocks line out : List ℕ) (o : Open f rows blocks line out 1) (v : Stepped) (rows' blocks' out' : List ℕ) (at' : ℕ)
-    (e : leaving v rows' blocks' ≡ step (f .state) rows blocks (take (f .len) line)) where
+    (c : leaving v rows' blocks' ≡ checkedStep (f .state) rows blocks (take (f .len) line)) where
+  e : leaving v rows' blocks' ≡ step (f .state) rows blocks (take (f .len) line)
+  e = c ∙ ready-step (f .state) rows blocks (take (f .len) line) (o .ready)
+
   pub line-answered : at' ≡ f .at + length (answerText (f .number + 1) (v .refusal) (v .value))
       → out' ≡ overwrite (f .at) (answerText (f .number + 1) (v .refusal) (v .value)) out
       → running (record { state = v .state; number = f .number + 1; len = 0; at = at' }) rows' blocks' line out'
@@ -48,8 +57,23 @@ module _ (f : Feed) (rows blocks line out : List ℕ) (o : Open f rows blocks li
       ap (λ (z : List ℕ). record { state = v .state; rows = rows'; blocks = blocks'; line = []; number = f .number + 1; out = z }) t
       ∙ ap (leftBy p₀) e
 
+  pub line-added : at' ≡ f .at + length (answerText (f .number + 1) (v .refusal) (v .value))
+      → out' ≡ overwrite (f .at) (answerText (f .number + 1) (v .refusal) (v .value)) out
+      → Added f (record { state = v .state; number = f .number + 1; len = 0; at = at' }) out out'
+  line-added p q =
+      record {
+        grows = omega arith;
+        behind = rw (p, q) (written-behind (f .at) (answerText (f .number + 1) (v .refusal) (v .value)) out (omega (arith, o .room)));
+      }
+
   pub line-ready : length rows' ≡ length rows → length blocks' ≡ length blocks → Ready (v .state) rows' blocks'
   line-ready p q = step-ready (f .state) rows blocks (take (f .len) line) v rows' blocks' (o .ready) e p q
+
+pub none-added : (f r : Feed) (out : List ℕ) → r .at ≡ f .at → Added f r out out
+none-added f r out e = record { grows = omega arith; behind = refl }
+
+pub behind-added : (f g r : Feed) (out out' : List ℕ) → g .at ≡ f .at → Added g r out out' → Added f r out out'
+behind-added f g r out out' e a = record { grows = omega (arith, a .grows); behind = a .behind }
 
 -- ---- a part of a line
 module _ (f : Feed) (rows blocks line line' out part : List ℕ) (len : ℕ) (o : Open f rows blocks line out 1) (w : 1 ≤ length part) where

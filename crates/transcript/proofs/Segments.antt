@@ -13,7 +13,9 @@ use mir.Val.{Fits}
 use lib.ListN.{length, getD, take, drop, length-append, length-drop, drop-of-length-le}
 use lib.Seq.{drop-cons, take-at, take-all, take-append-add, length-take-le}
 use lib.Dec.{ltb}
-use Rattle.transcript.specs.Lines.{segment, keptLength, cut}
+use Rattle.fields.specs.Fields.{overwrite}
+use Rattle.fields.proofs.Overwriting.{overwrite-part}
+use Rattle.transcript.specs.Lines.{segment, keptLength, cut, laid}
 
 -- ---- the end of a line
 module _ (s : List ℕ) (from i : ℕ) (inv : i + segment (drop i s) ≡ from + segment (drop from s)) where
@@ -74,6 +76,12 @@ module _ (l part : List ℕ) (len count : ℕ) (h : len ≤ keptLength) (r : len
       go false e q =
           let g : length part ≤ 1062 - len = ltb-false (1062 - len) (length part) e in
           ap (λ (k : ℕ). take k part) q ∙ take-all (length part) part (omega arith) ∙ sym (take-all (1062 - len) part g)
+
+  pub appended-laid : (ys : List ℕ) → ys ≡ take count part → putMid len (len + count - len) l ys ≡ laid len part l
+  appended-laid ys q =
+      let d : len + count - len ≡ count = add-sub-cancel-left len count in
+      let w : length ys ≡ count = ap length q ∙ length-take-le count part c₂ in
+      rw d (overwrite-part l ys len count w ∙ ap (λ (z : List ℕ). overwrite len z l) (q ∙ short))
 
   pub appended : (ys : List ℕ) → ys ≡ take count part → take (len + count) (putMid len (len + count - len) l ys) ≡ cut (take len l ++ part)
   appended ys q =

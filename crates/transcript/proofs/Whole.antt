@@ -12,8 +12,8 @@ use Rattle.station.specs.Step.{After, step}
 use Rattle.station.proofs.Cutting.{step-cut}
 use Rattle.transcript.specs.Text.{header}
 use Rattle.transcript.specs.Lines.{keptLength, cut}
-use Rattle.transcript.specs.Program.{Running, leftBy, answered, grown, taken, fed, closed, firstState, output, linesFrom, withAnswer, answers, printed, PrintsAnswers}
-use Rattle.transcript.proofs.Chunks.{cut-again}
+use Rattle.transcript.specs.Program.{Running, leftBy, answered, grown, taken, fed, closed, drained, passed, printedFor, joined, ChunksPrint, firstState, begun, output, linesFrom, withAnswer, answers, printed, PrintsAnswers}
+use Rattle.transcript.proofs.Chunks.{cut-again, fed-append}
 
 -- ---- by lines
 abbrev at : State → List ℕ → List ℕ → ℕ → List ℕ → List ℕ → Running
@@ -101,3 +101,33 @@ module _ (o : List ℕ) where
       go : (t : Bool) → cond t (behind o p) (answered (behind o p)) ≡ behind o (cond t p (answered p))
       go true = refl
       go false = answered-behind p
+
+-- ---- chunk by chunk, each printed before the next
+apart : (p : Running) → p ≡ behind (p .out) (drained p)
+apart p =
+    ap (λ (z : List ℕ). record { state = p .state; rows = p .rows; blocks = p .blocks; line = p .line; number = p .number; out = z })
+    (sym (append-nil (p .out)))
+
+-- what was printed, and what the rest prints
+closed-apart : (o : List ℕ) (p : Running) (s : List ℕ) → closed (fed (behind o p) s) .out ≡ o ++ closed (fed p s) .out
+closed-apart o p s = ap (λ (z : Running). closed z .out) (fed-behind o p s) ∙ ap (λ (z : Running). z .out) (closed-behind o (fed p s))
+
+chunks-closed : (p : Running) (cs : List (List ℕ)) → printedFor p cs ++ closed (passed p cs) .out ≡ closed (fed p (joined cs)) .out
+unfolding printedFor passed joined fed
+chunks-closed p [] = refl
+chunks-closed p (c ∷ cs) =
+    append-assoc (fed p c .out) _ _ ∙ ap (λ (z : List ℕ). fed p c .out ++ z) (chunks-closed (drained (fed p c)) cs)
+    ∙ sym (closed-apart (fed p c .out) (drained (fed p c)) (joined cs))
+    ∙ ap (λ (z : Running). closed (fed z (joined cs)) .out) (sym (apart (fed p c)))
+    ∙ ap (λ (z : Running). closed z .out) (sym (fed-append p c (joined cs)))
+
+pub chunks-print : ChunksPrint
+unfolding output
+chunks-print cs =
+    ap (λ (z : List ℕ). header ++ z) (chunks-closed (drained begun) cs) ∙ sym (closed-apart header (drained begun) (joined cs))
+
+-- one chunk more
+pub passed-more : (p : Running) (cs : List (List ℕ)) (c : List ℕ) → passed p (cs ++ (c ∷ [])) ≡ drained (fed (passed p cs) c)
+unfolding passed
+passed-more p [] c = refl
+passed-more p (d ∷ cs) c = passed-more (drained (fed p d)) cs c

@@ -1,9 +1,10 @@
 -- Splitting input bytes into lines.
-use Prim.Native.Nat.{ℕ, suc}
+use Prim.Native.Nat.{ℕ, suc, _-_}
 use mathlib.Core.List.{List, [], _∷_}
 use mathlib.Core.Bool.{cond}
 use lib.ListN.{take}
 use lib.Dec.{eqb}
+use Rattle.fields.specs.Fields.{overwrite}
 
 -- How many bytes reach up to the first line feed, itself included, or to the end.
 unfoldable pub segment : List ℕ → ℕ
@@ -16,3 +17,7 @@ keptLength = 1062
 
 abbrev pub cut : List ℕ → List ℕ
 cut line = take keptLength line
+
+-- The lent line, after bytes were put behind its first len, as far as there is room. What they don't reach stays.
+abbrev pub laid : ℕ → List ℕ → List ℕ → List ℕ
+laid len part line = overwrite len (take (keptLength - len) part) line

@@ -3,14 +3,14 @@ use Prim.Native.Nat.{ℕ, _+_, _-_, _*_, _≤_, _<_, _^_}
 use mathlib.Core.Path.{_≡_}
 use mathlib.Core.List.{List, [], _∷_, _++_}
 use mathlib.Core.Bool.{false, cond}
-use lib.ListN.{length, getD, take, replicate}
+use lib.ListN.{length, getD, take, drop, replicate}
 use lib.Dec.{eqb}
 use Rattle.session.specs.Sessions.{sessionOf}
 use Rattle.station.specs.declared.State.{State}
 use Rattle.station.specs.Step.{step, After, Ready}
 use Rattle.transcript.specs.declared.Feed.{Feed}
 use Rattle.transcript.specs.Text.{header, answerText, longestAnswer}
-use Rattle.transcript.specs.Lines.{cut, keptLength}
+use Rattle.transcript.specs.Lines.{cut, keptLength, laid}
 
 -- The program between two bytes: what it keeps, the line begun, how many lines were answered, and what was printed.
 pub record Running : Type 0 where
@@ -79,6 +79,31 @@ begun =
 unfoldable pub output : List ℕ → List ℕ
 output input = closed (fed begun input) .out
 
+-- ---- the same by chunks
+-- What was answered is taken out to be printed; the rest stays.
+abbrev pub drained : Running → Running
+drained p = record { state = p .state; rows = p .rows; blocks = p .blocks; line = p .line; number = p .number; out = [] }
+
+-- The program after chunks, each of which was taken and its answers printed.
+unfoldable pub passed : Running → List (List ℕ) → Running
+passed p [] = p
+passed p (c ∷ cs) = passed (drained (fed p c)) cs
+
+-- What was printed for them, one after the other.
+unfoldable pub printedFor : Running → List (List ℕ) → List ℕ
+printedFor p [] = []
+printedFor p (c ∷ cs) = fed p c .out ++ printedFor (drained (fed p c)) cs
+
+unfoldable pub joined : List (List ℕ) → List ℕ
+joined [] = []
+joined (c ∷ cs) = c ++ joined cs
+
+-- The header, what is printed for the chunks, and the answer to a last line: however the input was cut, the program's output.
+abbrev pub ChunksPrint : Type 0
+ChunksPrint =
+    (chunks : List (List ℕ))
+    → header ++ (printedFor (drained begun) chunks ++ closed (passed (drained begun) chunks) .out) ≡ output (joined chunks)
+
 -- ---- the same by lines
 -- The lines of an input, of whose first line these bytes were read before: each up to its line feed, the last one perhaps without.
 unfoldable pub linesFrom : List ℕ → List ℕ → List (List ℕ)
@@ -118,6 +143,9 @@ running f rows blocks line out =
 abbrev pub firstFeed : Feed
 firstFeed = record { state = firstState; number = 0; len = 0; at = 0 }
 
+abbrev pub drainedFeed : Feed → Feed
+drainedFeed f = record { state = f .state; number = f .number; len = f .len; at = 0 }
+
 -- What holds between bytes, with room for k more.
 pub record Open (f : Feed) (rows blocks line out : List ℕ) (k : ℕ) : Type 0 where
   pub ready : Ready (f .state) rows blocks
@@ -129,6 +157,16 @@ pub record Open (f : Feed) (rows blocks line out : List ℕ) (k : ℕ) : Type 0 
 -- A part of a line, which a line feed may end.
 abbrev pub segmented : Running → List ℕ → Running
 segmented p s = cond (eqb (getD s (length s - 1) 0) 10) (answered (grown p s)) (grown p s)
+
+-- The lent line after bytes were taken one by one: a line feed ends a line, and the next is kept from the list's start on.
+unfoldable pub lineAfter : Running → List ℕ → List ℕ → List ℕ
+lineAfter p line [] = line
+lineAfter p line (b ∷ s) = lineAfter (taken p b) (laid (length (p .line)) (b ∷ []) line) s
+
+-- Answers were put behind those before them, and what stands behind is as it was.
+pub record Added (f r : Feed) (out out' : List ℕ) : Type 0 where
+  pub grows : f .at ≤ r .at
+  pub behind : drop (r .at) out' ≡ drop (r .at) out
 
 -- What is left after k bytes more.
 pub record Fed (f r : Feed) (rows blocks : List ℕ) (k : ℕ) : Type 0 where

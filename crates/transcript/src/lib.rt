@@ -11,8 +11,8 @@ ghost use Rattle.station.specs.Step.{Ready};
 ghost use Rattle.decimal.specs.Numeral.{lastDigits};
 ghost use Rattle.fields.specs.Fields.{overwrite};
 ghost use Rattle.transcript.specs.Text.{header, longSize, longNumeral, answerText, longestAnswer};
-ghost use Rattle.transcript.specs.Lines.{segment, keptLength, cut};
-ghost use Rattle.transcript.specs.Program.{running, answered, segmented, fed, closed, firstFeed, Open, Fed};
+ghost use Rattle.transcript.specs.Lines.{segment, keptLength, cut, laid};
+ghost use Rattle.transcript.specs.Program.{running, answered, segmented, fed, closed, lineAfter, drainedFeed, firstFeed, Open, Added, Fed};
 
 // `line,refusal,value`
 pub fn header() -> [u8; 19]
@@ -58,7 +58,7 @@ fn put_number(out: &mut [u8], at: usize, x: u64) -> usize
 }
 
 // An answer from a position on; the position behind.
-pub fn put_answer(out: &mut [u8], at: usize, number: u64, refusal: u8, value: u32) -> usize
+fn put_answer(out: &mut [u8], at: usize, number: u64, refusal: u8, value: u32) -> usize
     requires { ⌜ at + longestAnswer ≤ length (now out) ⌝ }
     ensures { λ r. ⌜ (r ≡ at + length (answerText number refusal value)) × (now (out .exit) ≡ overwrite at (answerText number refusal value) (now (out .entry))) ⌝ }
 {
@@ -70,7 +70,7 @@ pub fn put_answer(out: &mut [u8], at: usize, number: u64, refusal: u8, value: u3
 }
 
 // The position behind the next line feed, or the chunk's end.
-pub fn line_end(chunk: &[u8], from: usize) -> usize
+fn line_end(chunk: &[u8], from: usize) -> usize
     ensures { λ r. ⌜ r ≡ from + segment (drop from (now (chunk .entry))) ⌝ }
 {
     let mut i = from;
@@ -100,9 +100,10 @@ fn copy(from: &[u8], to: &mut [u8])
 }
 
 // Bytes behind the first `len` of a line, as far as there is room; how many the line has then.
-pub fn append(line: &mut [u8], len: usize, part: &[u8]) -> usize
+fn append(line: &mut [u8], len: usize, part: &[u8]) -> usize
     requires { ⌜ (len ≤ keptLength) × (length (now line) ≡ keptLength) ⌝ }
     ensures { λ r. ⌜ (r ≤ keptLength) × (take r (now (line .exit)) ≡ cut (take len (now (line .entry)) ++ now (part .entry))) ⌝ }
+    ensures { λ r. ⌜ now (line .exit) ≡ laid len (now (part .entry)) (now (line .entry)) ⌝ }
 {
     let count = least(1062 - len, part.len());
     let end = len + count;
@@ -122,16 +123,11 @@ pub struct Feed {
 }
 
 // The line begun is taken, and its answer written.
-pub fn end_line(
-    feed: Feed,
-    rows: &mut [u32],
-    blocks: &mut [u32],
-    line: &[u8],
-    out: &mut [u8],
-) -> Feed
+fn end_line(feed: Feed, rows: &mut [u32], blocks: &mut [u32], line: &[u8], out: &mut [u8]) -> Feed
     requires { ⌜ Open feed (now rows) (now blocks) (now line) (now out) 1 ⌝ }
     ensures { λ r. ⌜ running r (now (rows .exit)) (now (blocks .exit)) (now (line .entry)) (now (out .exit)) ≡ answered (running feed (now (rows .entry)) (now (blocks .entry)) (now (line .entry)) (now (out .entry))) ⌝ }
     ensures { λ r. ⌜ Ready (r .state) (now (rows .exit)) (now (blocks .exit)) × (r .len ≡ 0) × (r .number ≡ feed .number + 1) × (r .at ≤ feed .at + longestAnswer) ⌝ }
+    ensures { λ r. ⌜ Added feed r (now (out .entry)) (now (out .exit)) ⌝ }
 {
     let len = feed.len;
     let stepped = station::step(feed.state, rows, blocks, &line[..len]);
@@ -157,7 +153,8 @@ fn take_part(
 ) -> Feed
     requires { ⌜ Open feed (now rows) (now blocks) (now line) (now out) 1 × (1 ≤ length (now part)) ⌝ }
     ensures { λ r. ⌜ running r (now (rows .exit)) (now (blocks .exit)) (now (line .exit)) (now (out .exit)) ≡ segmented (running feed (now (rows .entry)) (now (blocks .entry)) (now (line .entry)) (now (out .entry))) (now (part .entry)) ⌝ }
-    ensures { λ r. ⌜ Fed feed r (now (rows .exit)) (now (blocks .exit)) 1 ⌝ }
+    ensures { λ r. ⌜ Fed feed r (now (rows .exit)) (now (blocks .exit)) 1 × Added feed r (now (out .entry)) (now (out .exit)) ⌝ }
+    ensures { λ r. ⌜ now (line .exit) ≡ laid (feed .len) (now (part .entry)) (now (line .entry)) ⌝ }
 {
     let len = append(line, feed.len, part);
     let state = feed.state;
@@ -185,7 +182,8 @@ pub fn read_chunk(
 ) -> Feed
     requires { ⌜ Open feed (now rows) (now blocks) (now line) (now out) (length (now chunk)) ⌝ }
     ensures { λ r. ⌜ running r (now (rows .exit)) (now (blocks .exit)) (now (line .exit)) (now (out .exit)) ≡ fed (running feed (now (rows .entry)) (now (blocks .entry)) (now (line .entry)) (now (out .entry))) (now (chunk .entry)) ⌝ }
-    ensures { λ r. ⌜ Fed feed r (now (rows .exit)) (now (blocks .exit)) (length (now (chunk .entry))) ⌝ }
+    ensures { λ r. ⌜ Fed feed r (now (rows .exit)) (now (blocks .exit)) (length (now (chunk .entry))) × Added feed r (now (out .entry)) (now (out .exit)) ⌝ }
+    ensures { λ r. ⌜ now (line .exit) ≡ lineAfter (running feed (now (rows .entry)) (now (blocks .entry)) (now (line .entry)) (now (out .entry))) (now (line .entry)) (now (chunk .entry)) ⌝ }
 {
     let mut present = feed;
     let mut i = 0;
@@ -195,6 +193,20 @@ pub fn read_chunk(
         i = end;
     }
     present
+}
+
+// What was answered is taken out to be printed; the rest goes on to the next chunk.
+pub fn drain(feed: Feed) -> Feed
+    ensures { λ r. ⌜ r ≡ drainedFeed feed ⌝ }
+{
+    let state = feed.state;
+    let number = feed.number;
+    Feed {
+        state,
+        number,
+        len: feed.len,
+        at: 0,
+    }
 }
 
 // Before the first byte: no `S` was accepted, and nothing is kept.
@@ -226,7 +238,7 @@ pub fn end_input(
 ) -> Feed
     requires { ⌜ Open feed (now rows) (now blocks) (now line) (now out) 1 ⌝ }
     ensures { λ r. ⌜ running r (now (rows .exit)) (now (blocks .exit)) (now (line .entry)) (now (out .exit)) ≡ closed (running feed (now (rows .entry)) (now (blocks .entry)) (now (line .entry)) (now (out .entry))) ⌝ }
-    ensures { λ r. ⌜ r .at ≤ feed .at + longestAnswer ⌝ }
+    ensures { λ r. ⌜ (r .at ≤ feed .at + longestAnswer) × Added feed r (now (out .entry)) (now (out .exit)) ⌝ }
 {
     if feed.len == 0 {
         return feed;

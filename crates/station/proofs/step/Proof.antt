@@ -1,12 +1,12 @@
 use borrow.Author.Needs.{needs}
-use Rattle.station.proofs.Ends.{step-late, step-early, ready-range}
+use Rattle.station.proofs.Room.{none-ready, step-refused, step-taken}
 use Rattle.station.proofs.step.Statement.{statement}
 use Rattle.station.proofs.step.Tie as tie
 
-ruleset ends = (needs, step-late, step-early, ready-range)
+ruleset ends = (needs, none-ready, step-refused, step-taken)
 
 pub step-spec : {M : Type 1} → statement M
 step-spec =
     tie.close
-    (tie.spec (λ c κs. search ends) (λ c. search ends) (λ c. search ends) (λ c. search ends) (λ c κs. search ends)
-    (λ c. search ends))
+    (tie.spec (λ c κs. search ends) (λ c κs. search ends) (λ c. search ends) (λ c. search ends) (λ c. search ends)
+    (λ c κs. search ends) (λ c. search ends) (λ c. search ends) (λ c. search ends))

@@ -1,9 +1,9 @@
 use borrow.Author.Needs.{needs}
-use Rattle.transcript.proofs.Segments.{appended-fits, appended-room, appended-within, appended-prefix, appended-size, appended}
+use Rattle.transcript.proofs.Segments.{appended-fits, appended-room, appended-within, appended-prefix, appended-size, appended-laid, appended}
 use Rattle.transcript.proofs.append.Statement.{statement}
 use Rattle.transcript.proofs.append.Tie as tie
 
-ruleset ends = (needs, appended-fits, appended-room, appended-within, appended-prefix, appended-size, appended)
+ruleset ends = (needs, appended-fits, appended-room, appended-within, appended-prefix, appended-size, appended-laid, appended)
 
 pub append-spec : {M : Type 1} → statement M
 append-spec =

@@ -1,13 +1,13 @@
 use Rattle.opening.proofs.Fronts.{front-length}
 use borrow.Author.Needs.{needs}
-use Rattle.transcript.proofs.Feeding.{answer-bound, line-answered, line-ready}
+use Rattle.transcript.proofs.Feeding.{answer-bound, line-answered, line-added, line-ready}
 use Rattle.transcript.proofs.end_line.Statement.{statement}
 use Rattle.transcript.proofs.end_line.Tie as tie
 
-ruleset ends = (needs, answer-bound, line-answered, line-ready)
+ruleset ends = (needs, answer-bound, line-answered, line-added, line-ready)
 
 pub end-line-spec : {M : Type 1} → statement M
 end-line-spec =
     tie.close
     (tie.spec (λ c. front-length _ 1062 _ (search needs) (search needs)) (λ c κs. search needs) (λ c. search needs)
-    (λ c κs. search needs) (λ c. search needs) (λ c. search needs) (λ c. search needs) (λ c. search ends))
+    (λ c κs. search needs) (λ c. search needs) (λ c. search needs) (λ c. search needs) (λ c. (search ends, (search ends, search ends))))

@@ -1,7 +1,7 @@
 use Prim.Native.Nat.{_-_}
 use lib.ListN.{length}
 use borrow.Author.Needs.{needs}
-use Rattle.transcript.proofs.Chunks.{Midway, midway-start, midway-done, midway-fed, chunk-behind, chunk-within, chunk-less, chunk-part, chunk-room, midway-more}
+use Rattle.transcript.proofs.Looping.{Midway, midway-start, midway-done, midway-fed, midway-added, midway-line, chunk-behind, chunk-within, chunk-less, chunk-part, chunk-room, midway-more}
 use Rattle.transcript.proofs.read_chunk.Statement.{statement}
 use Rattle.transcript.proofs.read_chunk.Tie as tie
 
@@ -12,11 +12,11 @@ Inv-loop rows₀ blocks₀ line₀ chunk out₀ present₀ i₀ rows blocks line
 abbrev μ-loop : tie.MeasureT-loop
 μ-loop rows₀ blocks₀ line₀ chunk out₀ present₀ i₀ rows blocks line out present i = length chunk - i
 
-ruleset turns = (needs, midway-start, midway-done, midway-fed, chunk-behind, chunk-within, chunk-less, chunk-part, chunk-room, midway-more)
+ruleset turns = (needs, midway-start, midway-done, midway-fed, midway-added, midway-line, chunk-behind, chunk-within, chunk-less, chunk-part, chunk-room, midway-more)
 
 pub read-chunk-spec : {M : Type 1} → statement M
 read-chunk-spec =
     tie.close
     (tie.spec Inv-loop μ-loop (λ c. search turns) (λ c κs. search turns) (λ c. search turns) (λ c. search turns)
     (λ c. search turns) (λ c κs. search turns) (λ c. search turns) (λ c. search turns) (λ c. search turns)
-    (λ c. search turns) (λ c. search turns) (λ c. search turns) (λ c. search turns))
+    (λ c. search turns) (λ c. search turns) (λ c. search turns) (λ c. (search turns, ((search turns, search turns), search turns))))

@@ -1,0 +1,12 @@
+use borrow.Author.Needs.{needs}
+use Rattle.console.proofs.Turns.{held-end, last-in, finish-failed, finish-closed}
+use Rattle.console.proofs.finish.Statement.{statement}
+use Rattle.console.proofs.finish.Tie as tie
+
+ruleset ends = (needs, held-end, last-in, finish-failed, finish-closed)
+
+pub finish-spec : {M : Type 1} → statement M
+finish-spec =
+    tie.close
+    (tie.spec (λ c. search ends) (λ c κs. search ends) (λ c κs. search ends) (λ c. search ends) (λ c. search ends)
+    (λ c. search ends) (λ c. search ends))
