@@ -5,27 +5,37 @@ use mathlib.Core.Bool.{Bool, true, false, cond}
 use mathlib.Core.List.{List, [], _∷_, _++_}
 use native.Mathlib.Omega.{arith}
 use lib.ListN.{length, take, replicate, length-replicate}
-use lib.Seq.{length-take-le}
 use Rattle.station.specs.Step.{Ready}
 use Rattle.transcript.specs.declared.Feed.{Feed}
 use Rattle.transcript.specs.Program.{Running, running, fed, closed, drained, drainedFeed, passed, begun, firstState, firstFeed, Open, Fed}
+use Rattle.transcript.specs.declared.Progress.{Progress}
+use Rattle.transcript.specs.Limits.{openRefusal, Moved}
 use Rattle.transcript.proofs.Whole.{passed-more}
+use Rattle.transcript.proofs.Admitting.{open-none}
 use Rattle.console.specs.Holding.{Handed, Passing, Held, Ended}
 
-pub open-none : (f : Feed) (rows blocks line out : List ℕ) (k : ℕ) → Open f rows blocks line out k → Open f rows blocks line out 0
-open-none f rows blocks line out k o =
+pub open-idle : (f : Feed) (rows blocks line out : List ℕ) (k : ℕ) → Open f rows blocks line out k → Open f rows blocks line out 0
+open-idle f rows blocks line out k o =
     record { ready = o .ready; line-room = o .line-room; len-in = o .len-in; numbers = omega (arith, o .numbers); room = omega (arith, o .room) }
 
--- ---- one chunk
-module _ (f r : Feed) (rows blocks line out rows' blocks' line' out' : List ℕ) (k : ℕ) (o : Open f rows blocks line out 4096) (z : f .at ≡ 0)
-    (e : length out ≡ 176128) (d : Fed f r rows' blocks' k) (h : k ≤ 4096) (lo : length out' ≡ length out) where
-  pub answers-in : r .at ≤ length out'
-  answers-in = omega (arith, d .room)
+open-fewer : (f : Feed) (rows blocks line out : List ℕ) (k n : ℕ) → k ≤ n → Open f rows blocks line out n → Open f rows blocks line out k
+open-fewer f rows blocks line out k n h o =
+    record { ready = o .ready; line-room = o .line-room; len-in = o .len-in; numbers = omega (arith, o .numbers); room = omega (arith, o .room) }
 
-  pub answers-size : r .at ≡ length (take (r .at) out')
-  answers-size = sym (length-take-le (r .at) out' answers-in)
+-- ---- one chunk, which is not refused
+module _ (f : Feed) (rows blocks line out : List ℕ) (k : ℕ) (new : Running) (newLine : List ℕ) (g : Progress) (rows' blocks' line' out' : List ℕ)
+    (m : Moved (openRefusal f rows blocks line out k) k f rows blocks line out new newLine g rows' blocks' line' out')
+    (o : Open f rows blocks line out 4096) (h : k ≤ 4096) where
+  none : openRefusal f rows blocks line out k ≡ 0
+  none = open-none f rows blocks line out k (open-fewer f rows blocks line out k 4096 h o)
 
-  pub chunk-open : (v : Feed) → v ≡ drainedFeed r → length line' ≡ length line → Open v rows' blocks' line' out' 0
+  d : Fed f (g .feed) rows' blocks' k
+  d = m .left none
+
+  pub answers-in : f .at ≡ 0 → length out ≡ 176128 → length out' ≡ length out → g .feed .at ≤ length out'
+  answers-in z e lo = omega (arith, d .room)
+
+  pub chunk-open : (v : Feed) → v ≡ drainedFeed (g .feed) → length line' ≡ length line → Open v rows' blocks' line' out' 0
   chunk-open v q ll =
       rw q
       record {
@@ -36,15 +46,14 @@ module _ (f r : Feed) (rows blocks line out rows' blocks' line' out' : List ℕ)
         room = omega arith;
       }
 
-  pub chunk-numbers : (v : Feed) → v ≡ drainedFeed r → v .number ≤ f .number + 4096
+  pub chunk-numbers : (v : Feed) → v ≡ drainedFeed (g .feed) → v .number ≤ f .number + 4096
   chunk-numbers v q = rw q (omega (arith, d .numbers))
+
+  pub chunk-drained : (v : Feed) → v ≡ drainedFeed (g .feed) → running v rows' blocks' line' out' ≡ drained new
+  chunk-drained v q = rw q (ap drained (m .says none))
 
 pub chunk-printed : (r v : Feed) → v ≡ drainedFeed r → v .at ≡ 0
 chunk-printed r v q = rw q
-
-pub chunk-drained : (r v : Feed) (rows blocks line out : List ℕ) (p : Running) → running r rows blocks line out ≡ p → v ≡ drainedFeed r
-    → running v rows blocks line out ≡ drained p
-chunk-drained r v rows blocks line out p e q = rw q (ap drained e)
 
 -- ---- what was read
 pub handed-none : (f : Feed) (rows blocks line out : List ℕ) → f .at ≡ 0 → Handed (running f rows blocks line out) (running f rows blocks line out) false
@@ -124,11 +133,16 @@ module _ (f : Feed) (rows blocks line out : List ℕ) (turns : ℕ) (h : Held f 
     held-last = record { fine = o; printed = z; out-room = l ∙ h .out-room; numbers = omega (arith, h .numbers); passing = passing-more _ _ more (h .passing) g }
 
   -- ---- the end
-  pub last-in : (at : ℕ) (out' : List ℕ) → at ≤ f .at + 43 → length out' ≡ length out → at ≤ length out'
-  last-in at out' a l = omega (arith, h .printed, h .out-room)
+  module _ (new : Running) (newLine : List ℕ) (g : Progress) (rows' blocks' line' out' : List ℕ)
+      (m : Moved (openRefusal f rows blocks line out 1) 1 f rows blocks line out new newLine g rows' blocks' line' out') where
+    last-none : openRefusal f rows blocks line out 1 ≡ 0
+    last-none = open-none f rows blocks line out 1 held-end
 
-  pub last-size : (at : ℕ) (out' : List ℕ) → at ≤ f .at + 43 → length out' ≡ length out → at ≡ length (take at out')
-  last-size at out' a l = sym (length-take-le at out' (last-in at out' a l))
+    pub last-in : length out' ≡ length out → g .feed .at ≤ length out'
+    last-in l = omega (arith, h .printed, h .out-room, m .left last-none .room)
+
+    pub last-closed : running (g .feed) rows' blocks' line' out' ≡ new
+    last-closed = m .says last-none
 
   pub all-served : (failed : Bool) (v : Running) → v ≡ cond failed (running f rows blocks line out) (closed (running f rows blocks line out)) → Ended failed v
   all-served failed v q =

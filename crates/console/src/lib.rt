@@ -38,7 +38,8 @@ fn answer_chunk(
     ensures { λ r. ⌜ running r (now (rows .exit)) (now (blocks .exit)) (now (line .exit)) (now (out .exit)) ≡ drained (fed (running feed (now (rows .entry)) (now (blocks .entry)) (now (line .entry)) (now (out .entry))) (now (chunk .entry))) ⌝ }
     ensures { λ r. ⌜ Open r (now (rows .exit)) (now (blocks .exit)) (now (line .exit)) (now (out .exit)) 0 × (r .at ≡ 0) × (r .number ≤ feed .number + 4096) ⌝ }
 {
-    let fed = transcript::read_chunk(feed, rows, blocks, line, chunk, out);
+    let taken = transcript::read_chunk(feed, rows, blocks, line, chunk, out);
+    let fed = taken.feed;
     print(out, fed.at);
     transcript::drain(fed)
 }
@@ -108,7 +109,8 @@ fn finish(served: Served, rows: &mut [u32], blocks: &mut [u32], line: &[u8], out
     if served.failed {
         return feed;
     }
-    let ended = transcript::end_input(feed, rows, blocks, line, out);
+    let taken = transcript::end_input(feed, rows, blocks, line, out);
+    let ended = taken.feed;
     print(out, ended.at);
     ended
 }

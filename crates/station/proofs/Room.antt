@@ -49,7 +49,7 @@ none-ready st rows blocks r e z =
       in-range = posts-range st (a .0);
     }
 
-ready-none : (st : State) (rows blocks : List ℕ) → Ready st rows blocks → roomRefusal st rows blocks ≡ 0
+pub ready-none : (st : State) (rows blocks : List ℕ) → Ready st rows blocks → roomRefusal st rows blocks ≡ 0
 unfolding roomRefusal
 ready-none st rows blocks h =
     rw (range-posts st (h .in-range), eq-eqb (length rows) 9216 (h .rows-room), eq-eqb (length blocks) 1056 (h .blocks-room))

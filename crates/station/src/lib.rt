@@ -119,7 +119,8 @@ fn lists_refusal<'a>(rows: &'a [u32], blocks: &'a [u32]) -> u8
     refusal::or_else(refusal::size(rows, 9216), refusal::size(blocks, 1056))
 }
 
-fn room_refusal<'a>(state: State, rows: &'a [u32], blocks: &'a [u32]) -> u8
+// 1, 2 and 5 of a step, before its line is looked at.
+pub fn room_refusal<'a>(state: State, rows: &'a [u32], blocks: &'a [u32]) -> u8
     ensures { λ r. ⌜ r ≡ roomRefusal state (now (rows .entry)) (now (blocks .entry)) ⌝ }
 {
     refusal::or_else(posts_refusal(state), lists_refusal(rows, blocks))

@@ -1,4 +1,6 @@
 // The transcript: input bytes split into lines, and the answers as text.
+mod limits;
+
 use session::Session;
 use station::State;
 ghost use mathlib.Core.Path.{_≡_};
@@ -12,6 +14,7 @@ ghost use Rattle.decimal.specs.Numeral.{lastDigits};
 ghost use Rattle.fields.specs.Fields.{overwrite};
 ghost use Rattle.transcript.specs.Text.{header, longSize, longNumeral, answerText, longestAnswer};
 ghost use Rattle.transcript.specs.Lines.{segment, keptLength, cut, laid};
+ghost use Rattle.transcript.specs.Limits.{openRefusal, Moved};
 ghost use Rattle.transcript.specs.Program.{running, answered, segmented, fed, closed, lineAfter, drainedFeed, firstFeed, Open, Added, Fed};
 
 // `line,refusal,value`
@@ -122,6 +125,12 @@ pub struct Feed {
     pub at: usize,
 }
 
+// What a call on bytes hands back: the refusal, and the program afterwards.
+pub struct Progress {
+    pub refusal: u8,
+    pub feed: Feed,
+}
+
 // The line begun is taken, and its answer written.
 fn end_line(feed: Feed, rows: &mut [u32], blocks: &mut [u32], line: &[u8], out: &mut [u8]) -> Feed
     requires { ⌜ Open feed (now rows) (now blocks) (now line) (now out) 1 ⌝ }
@@ -171,8 +180,8 @@ fn take_part(
     grown
 }
 
-// A chunk of the input.
-pub fn read_chunk(
+// A chunk of the input, where there is room.
+fn take_chunk(
     feed: Feed,
     rows: &mut [u32],
     blocks: &mut [u32],
@@ -228,6 +237,40 @@ pub fn begin() -> Feed
     }
 }
 
+// The end of the input ends a line that was begun, where there is room.
+fn take_end(feed: Feed, rows: &mut [u32], blocks: &mut [u32], line: &[u8], out: &mut [u8]) -> Feed
+    requires { ⌜ Open feed (now rows) (now blocks) (now line) (now out) 1 ⌝ }
+    ensures { λ r. ⌜ running r (now (rows .exit)) (now (blocks .exit)) (now (line .entry)) (now (out .exit)) ≡ closed (running feed (now (rows .entry)) (now (blocks .entry)) (now (line .entry)) (now (out .entry))) ⌝ }
+    ensures { λ r. ⌜ Fed feed r (now (rows .exit)) (now (blocks .exit)) 1 × Added feed r (now (out .entry)) (now (out .exit)) ⌝ }
+{
+    if feed.len == 0 {
+        return feed;
+    }
+    end_line(feed, rows, blocks, line, out)
+}
+
+// A chunk of the input.
+pub fn read_chunk(
+    feed: Feed,
+    rows: &mut [u32],
+    blocks: &mut [u32],
+    line: &mut [u8],
+    chunk: &[u8],
+    out: &mut [u8],
+) -> Progress
+    ensures { λ r. ⌜ Moved (openRefusal feed (now (rows .entry)) (now (blocks .entry)) (now (line .entry)) (now (out .entry)) (length (now (chunk .entry)))) (length (now (chunk .entry))) feed (now (rows .entry)) (now (blocks .entry)) (now (line .entry)) (now (out .entry)) (fed (running feed (now (rows .entry)) (now (blocks .entry)) (now (line .entry)) (now (out .entry))) (now (chunk .entry))) (lineAfter (running feed (now (rows .entry)) (now (blocks .entry)) (now (line .entry)) (now (out .entry))) (now (line .entry)) (now (chunk .entry))) r (now (rows .exit)) (now (blocks .exit)) (now (line .exit)) (now (out .exit)) ⌝ }
+{
+    let refusal = limits::open_refusal(feed, rows, blocks, line, out, chunk.len());
+    if refusal != 0 {
+        return Progress { refusal, feed };
+    }
+    let after = take_chunk(feed, rows, blocks, line, chunk, out);
+    Progress {
+        refusal: 0,
+        feed: after,
+    }
+}
+
 // The end of the input ends a line that was begun.
 pub fn end_input(
     feed: Feed,
@@ -235,13 +278,16 @@ pub fn end_input(
     blocks: &mut [u32],
     line: &[u8],
     out: &mut [u8],
-) -> Feed
-    requires { ⌜ Open feed (now rows) (now blocks) (now line) (now out) 1 ⌝ }
-    ensures { λ r. ⌜ running r (now (rows .exit)) (now (blocks .exit)) (now (line .entry)) (now (out .exit)) ≡ closed (running feed (now (rows .entry)) (now (blocks .entry)) (now (line .entry)) (now (out .entry))) ⌝ }
-    ensures { λ r. ⌜ (r .at ≤ feed .at + longestAnswer) × Added feed r (now (out .entry)) (now (out .exit)) ⌝ }
+) -> Progress
+    ensures { λ r. ⌜ Moved (openRefusal feed (now (rows .entry)) (now (blocks .entry)) (now (line .entry)) (now (out .entry)) 1) 1 feed (now (rows .entry)) (now (blocks .entry)) (now (line .entry)) (now (out .entry)) (closed (running feed (now (rows .entry)) (now (blocks .entry)) (now (line .entry)) (now (out .entry)))) (now (line .entry)) r (now (rows .exit)) (now (blocks .exit)) (now (line .entry)) (now (out .exit)) ⌝ }
 {
-    if feed.len == 0 {
-        return feed;
+    let refusal = limits::open_refusal(feed, rows, blocks, line, out, 1);
+    if refusal != 0 {
+        return Progress { refusal, feed };
     }
-    end_line(feed, rows, blocks, line, out)
+    let after = take_end(feed, rows, blocks, line, out);
+    Progress {
+        refusal: 0,
+        feed: after,
+    }
 }

@@ -8,9 +8,9 @@ ruleset ends = (needs, answers-in, chunk-open, chunk-numbers, chunk-printed, chu
 -- what the function requires lies too deep for `search` to find
 returns : tie.Need-returns
 returns c =
-    let middle = c .before .before .before .before .before .before .before .before .before .before in
-    let start = middle .before .before .before .before .before .before .before .before .before .before .before in
-    (search ends, search (ends, start .pre))
+    let read = c .before .before .before .before .before .before .before .before .before .before .before .before in
+    let start = read .before .before .before .before .before .before .before .before .before .before in
+    (search (ends, read .read-chunk .ensures, start .pre), search (ends, read .read-chunk .ensures, start .pre))
 
 pub answer-chunk-spec : {M : Type 1} → statement M
 answer-chunk-spec =

@@ -1,9 +1,9 @@
 use borrow.Author.Needs.{needs}
-use Rattle.console.proofs.Turns.{held-end, last-in, finish-failed, finish-closed}
+use Rattle.console.proofs.Turns.{last-in, last-closed, finish-failed, finish-closed}
 use Rattle.console.proofs.finish.Statement.{statement}
 use Rattle.console.proofs.finish.Tie as tie
 
-ruleset ends = (needs, held-end, last-in, finish-failed, finish-closed)
+ruleset ends = (needs, last-in, last-closed, finish-failed, finish-closed)
 
 pub finish-spec : {M : Type 1} → statement M
 finish-spec =

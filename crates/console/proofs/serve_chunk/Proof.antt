@@ -1,9 +1,9 @@
 use borrow.Author.Needs.{needs}
-use Rattle.console.proofs.Turns.{open-none, handed-none, handed-some}
+use Rattle.console.proofs.Turns.{open-idle, handed-none, handed-some}
 use Rattle.console.proofs.serve_chunk.Statement.{statement}
 use Rattle.console.proofs.serve_chunk.Tie as tie
 
-ruleset ends = (needs, open-none, handed-none, handed-some)
+ruleset ends = (needs, open-idle, handed-none, handed-some)
 
 -- what the function requires lies too deep for `search` to find
 returns : tie.Need-returns

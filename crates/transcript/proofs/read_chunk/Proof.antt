@@ -1,22 +1,26 @@
-use Prim.Native.Nat.{_-_}
-use lib.ListN.{length}
 use borrow.Author.Needs.{needs}
-use Rattle.transcript.proofs.Looping.{Midway, midway-start, midway-done, midway-fed, midway-added, midway-line, chunk-behind, chunk-within, chunk-less, chunk-part, chunk-room, midway-more}
+use Rattle.transcript.proofs.Admitting.{none-open, moved-nothing, moved}
 use Rattle.transcript.proofs.read_chunk.Statement.{statement}
 use Rattle.transcript.proofs.read_chunk.Tie as tie
 
-abbrev Inv-loop : tie.InvT-loop
-Inv-loop rows₀ blocks₀ line₀ chunk out₀ present₀ i₀ rows blocks line out present i =
-    Midway present₀ rows₀ blocks₀ line₀ chunk out₀ present rows blocks line out i
+ruleset ends = (needs, moved-nothing)
 
-abbrev μ-loop : tie.MeasureT-loop
-μ-loop rows₀ blocks₀ line₀ chunk out₀ present₀ i₀ rows blocks line out present i = length chunk - i
+-- what the calls ensured and the test lie too deep for `search` to find
+take-chunk-requires : tie.Need-take-chunk-requires
+take-chunk-requires c κs =
+    let fine = c .before .before .before .before in
+    none-open _ _ _ _ _ _ _ (fine .before .open-refusal .ensures) (fine .if1 .left)
 
-ruleset turns = (needs, midway-start, midway-done, midway-fed, midway-added, midway-line, chunk-behind, chunk-within, chunk-less, chunk-part, chunk-room, midway-more)
+returns-2 : tie.Need-returns-2
+returns-2 c =
+    let done = c .before .before .before .before .before .before .before .before in
+    let fine = done .before .before .before .before .before in
+    let e = done .take-chunk .ensures in
+    moved _ _ _ _ _ _ _ _ _ (fine .before .open-refusal .ensures) _ _ _ _ _ (fine .if1 .left) (e .0) (e .1 .1) (e .1 .0 .0) (e .1 .0 .1)
 
 pub read-chunk-spec : {M : Type 1} → statement M
 read-chunk-spec =
     tie.close
-    (tie.spec Inv-loop μ-loop (λ c. search turns) (λ c κs. search turns) (λ c. search turns) (λ c. search turns)
-    (λ c. search turns) (λ c κs. search turns) (λ c. search turns) (λ c. search turns) (λ c. search turns)
-    (λ c. search turns) (λ c. search turns) (λ c. search turns) (λ c. (search turns, ((search turns, search turns), search turns))))
+    (tie.spec (λ c κs. search ends) (λ c. search ends) (λ c. search ends) (λ c. search ends) (λ c. search ends)
+    (λ c. search ends) take-chunk-requires (λ c. search ends) (λ c. search ends) (λ c. search ends)
+    (λ c. search ends) returns-2)

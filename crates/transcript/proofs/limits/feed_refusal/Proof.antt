@@ -1,0 +1,12 @@
+use borrow.Author.Needs.{needs}
+use Rattle.transcript.proofs.Admitting.{line-missized, len-beyond, at-beyond, room-small, number-beyond, feed-fine}
+use Rattle.transcript.proofs.limits.feed_refusal.Statement.{statement}
+use Rattle.transcript.proofs.limits.feed_refusal.Tie as tie
+
+ruleset ends = (needs, line-missized, len-beyond, at-beyond, room-small, number-beyond, feed-fine)
+
+pub feed-refusal-spec : {M : Type 1} → statement M
+feed-refusal-spec =
+    tie.close
+    (tie.spec (λ c. search ends) (λ c. search ends) (λ c. search ends) (λ c. search ends) (λ c. search ends)
+    (λ c. search ends) (λ c. search ends))

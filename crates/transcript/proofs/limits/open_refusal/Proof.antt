@@ -1,0 +1,11 @@
+use borrow.Author.Needs.{needs}
+use Rattle.transcript.proofs.Admitting.{refusal-joined}
+use Rattle.transcript.proofs.limits.open_refusal.Statement.{statement}
+use Rattle.transcript.proofs.limits.open_refusal.Tie as tie
+
+ruleset ends = (needs, refusal-joined)
+
+pub open-refusal-spec : {M : Type 1} → statement M
+open-refusal-spec =
+    tie.close
+    (tie.spec (λ c κs. search ends) (λ c κs. search ends) (λ c κs. search ends) (λ c. search ends))
