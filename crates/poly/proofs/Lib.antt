@@ -5,4 +5,5 @@ pub mod Coefficients
 pub mod Roots
 pub mod Lagrange
 pub mod Numbers
+pub mod Fractions
 pub mod Theorems

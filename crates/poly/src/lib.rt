@@ -5,7 +5,10 @@ ghost use mathlib.Core.Path.{_≡_};
 ghost use Prim.Native.Nat.{_≤_, _<_};
 ghost use lib.ListN.{length, getD};
 ghost use Rattle.poly.specs.Polynomial.{value, powers, weighted};
+ghost use Rattle.field.specs.Modulus.{p};
+ghost use Rattle.field.specs.Arithmetic.{sum, product, inverse};
 ghost use Rattle.poly.specs.Interpolation.{nodal, others, weight, interpolated};
+ghost use Rattle.poly.specs.Quotients.{quotient, Proper};
 
 // The value at x, by Horner's rule.
 pub fn evaluate(coefficients: &[u32], x: u32) -> u32
@@ -73,16 +76,34 @@ fn others_product(nodes: &[u32], j: usize, z: u32) -> u32
     )
 }
 
-// The weight of node j at z.
-fn node_weight(nodes: &[u32], j: usize, z: u32) -> u32
-    requires { ⌜ j < length (now nodes) ⌝ }
-    ensures { λ r. ⌜ r ≡ weight (others j (now (nodes .entry))) (getD (now (nodes .entry)) j 0) z ⌝ }
+// A sum of quotients, as one: one inverse is then enough for all of them.
+struct Fraction {
+    top: u32,
+    bottom: u32,
+}
+
+// The fraction plus above / below; nothing where below is 0, which has no inverse.
+fn plus_quotient(f: Fraction, above: u32, below: u32) -> Fraction
+    requires { ⌜ Proper f × (below < p) ⌝ }
+    ensures { λ r. ⌜ Proper r × (quotient r ≡ sum (quotient f) (product above (inverse below))) ⌝ }
+{
+    if below == 0 {
+        return f;
+    }
+    Fraction {
+        top: field::add(field::mul(f.top, below), field::mul(above, f.bottom)),
+        bottom: field::mul(f.bottom, below),
+    }
+}
+
+// The fraction plus the term of node j at z.
+fn plus_term(f: Fraction, nodes: &[u32], value: u32, j: usize, z: u32) -> Fraction
+    requires { ⌜ Proper f × (j < length (now nodes)) ⌝ }
+    ensures { λ r. ⌜ Proper r × (quotient r ≡ sum (quotient f) (product value (weight (others j (now (nodes .entry))) (getD (now (nodes .entry)) j 0) z))) ⌝ }
 {
     let node = nodes[j];
-    field::mul(
-        others_product(nodes, j, z),
-        field::inverse(others_product(nodes, j, node)),
-    )
+    let above = field::mul(value, others_product(nodes, j, z));
+    plus_quotient(f, above, others_product(nodes, j, node))
 }
 
 // The interpolation through the values at the nodes, at the point z.
@@ -90,9 +111,9 @@ pub fn interpolate(nodes: &[u32], values: &[u32], z: u32) -> u32
     ensures { λ r. ⌜ r ≡ interpolated (now (nodes .entry)) (now (values .entry)) z ⌝ }
 {
     let m = least(nodes.len(), values.len());
-    let mut r: u32 = 0;
+    let mut f = Fraction { top: 0, bottom: 1 };
     for j in 0..m {
-        r = field::add(r, field::mul(values[j], node_weight(nodes, j, z)));
+        f = plus_term(f, nodes, values[j], j, z);
     }
-    r
+    field::mul(f.top, field::inverse(f.bottom))
 }

@@ -1,0 +1,108 @@
+-- Quotients added up as one fraction.
+use Prim.Native.Nat.{ℕ, _%_, _≤_, _<_}
+use mathlib.Core.Path.{_≡_, refl, sym, _∙_, ap, ap₂}
+use mathlib.Core.Logic.{_≢_}
+use mathlib.Core.List.{List, [], _∷_}
+use native.Mathlib.Nat.{pos-of-ne-zero, mul-zero}
+use native.Mathlib.Omega.{arith}
+use lib.Dec.{lit<}
+use lib.ListN.{length, take, drop}
+use Rattle.field.specs.Modulus.{p}
+use Rattle.field.specs.Arithmetic.{sum, product, inverse, euclid}
+use Rattle.field.specs.Algebra.{CommutativeRing, Field}
+use Rattle.field.specs.Element.{Element, element}
+use Rattle.field.proofs.Expression.{A, B, C, D, E, F, 𝟘, 𝟙, _:+_, _:*_, Same}
+use Rattle.field.proofs.Solver.{solve}
+use Rattle.field.proofs.Fields.{product-nonzero}
+use Rattle.field.proofs.Elements.{𝓡, elements, element-zero, element-sum, element-product, element-inverse, element-injective}
+use Rattle.field.proofs.Modular.{sum-below, sum-comm, sum-zero, product-below, product-assoc}
+use Rattle.poly.specs.Interpolation.{nodal, weight, terms, interpolated}
+use Rattle.poly.specs.declared.Fraction.{Fraction}
+use Rattle.poly.specs.Quotients.{quotient, Proper}
+use Rattle.poly.proofs.Turns.{terms-end}
+open CommutativeRing 𝓡 using (add as _⊕_, mul as _⊗_, zero as 0ᴱ, one as 1ᴱ)
+open Field elements using (inv, mul-inv)
+
+infixl 65 _⊕_
+infixl 70 _⊗_
+
+-- the inverse of a product
+inv-product : (b d : Element) → b ≢ 0ᴱ → d ≢ 0ᴱ → inv (b ⊗ d) ≡ inv b ⊗ inv d
+unfolding Same
+inv-product b d hb hd =
+    solve 𝓡 (inv (b ⊗ d) ∷ []) A (A :* (𝟙 :* 𝟙)) refl
+    ∙ sym (ap₂ (λ (x y : Element). inv (b ⊗ d) ⊗ (x ⊗ y)) (mul-inv b hb) (mul-inv d hd))
+    ∙ solve 𝓡 (b ∷ d ∷ inv b ∷ inv d ∷ inv (b ⊗ d) ∷ []) (E :* (A :* C :* (B :* D))) (A :* B :* E :* (C :* D)) refl
+    ∙ ap (λ (x : Element). x ⊗ (inv b ⊗ inv d)) (mul-inv (b ⊗ d) (product-nonzero elements b d hb hd))
+    ∙ solve 𝓡 (inv b ∷ inv d ∷ []) (𝟙 :* (A :* B)) (A :* B) refl
+
+-- (t d + a b) / (b d) = t / b + a / d
+quotients : (t b a d : Element) → b ≢ 0ᴱ → d ≢ 0ᴱ → (t ⊗ d ⊕ a ⊗ b) ⊗ inv (b ⊗ d) ≡ t ⊗ inv b ⊕ a ⊗ inv d
+unfolding Same
+quotients t b a d hb hd =
+    ap (λ (x : Element). (t ⊗ d ⊕ a ⊗ b) ⊗ x) (inv-product b d hb hd)
+    ∙ solve 𝓡 (t ∷ b ∷ a ∷ d ∷ inv b ∷ inv d ∷ []) ((A :* D :+ C :* B) :* (E :* F)) (A :* E :* (D :* F) :+ C :* F :* (B :* E)) refl
+    ∙ ap₂ (λ (x y : Element). t ⊗ inv b ⊗ x ⊕ a ⊗ inv d ⊗ y) (mul-inv d hd) (mul-inv b hb)
+    ∙ solve 𝓡 (t ⊗ inv b ∷ a ⊗ inv d ∷ []) (A :* 𝟙 :+ B :* 𝟙) (A :+ B) refl
+
+nonzero : (x : ℕ) → 0 < x → x < p → element x ≢ 0ᴱ
+nonzero x some low e = absurd (omega (arith, element-injective x 0 low (lit< tt) (e ∙ sym element-zero)))
+
+quotient-element : (t b : ℕ) → element (product t (inverse b)) ≡ element t ⊗ inv (element b)
+quotient-element t b = element-product t (inverse b) ∙ ap (λ (x : Element). element t ⊗ x) (element-inverse b)
+
+zero-quotient : (a : ℕ) → product a (inverse 0) ≡ 0
+unfolding product inverse euclid
+zero-quotient a = ap (λ (x : ℕ). x % p) (mul-zero a)
+
+module _ (f : Fraction) (above below : ℕ) (fine : Proper f) (low : below < p) where
+  -- below has no inverse: nothing is added
+  pub quotient-none : below ≡ 0 → quotient f ≡ sum (quotient f) (product above (inverse below))
+  quotient-none z =
+      sym (ap (λ (d : ℕ). sum (quotient f) (product above (inverse d))) z ∙ ap (sum (quotient f)) (zero-quotient above)
+      ∙ sum-comm (quotient f) 0 ∙ sum-zero (quotient f) (product-below _ _))
+
+  bottom-nonzero : element (f .bottom) ≢ 0ᴱ
+  bottom-nonzero = nonzero (f .bottom) (fine .some) (fine .element)
+
+  below-nonzero : (below ≡ 0 → ⊥) → element below ≢ 0ᴱ
+  below-nonzero some = nonzero below (pos-of-ne-zero some) low
+
+  pub bottom-some : (b : ℕ) → (below ≡ 0 → ⊥) → b ≡ product (f .bottom) below → 0 < b
+  bottom-some b some e =
+      pos-of-ne-zero (λ z. product-nonzero elements (element (f .bottom)) (element below) bottom-nonzero (below-nonzero some)
+      (sym (element-product (f .bottom) below) ∙ ap element (sym e ∙ z) ∙ element-zero))
+
+  pub quotient-more : (u v t b : ℕ) → (below ≡ 0 → ⊥) → u ≡ product (f .top) below → v ≡ product above (f .bottom) → t ≡ sum u v
+      → b ≡ product (f .bottom) below → product t (inverse b) ≡ sum (quotient f) (product above (inverse below))
+  quotient-more u v t b some eu ev et eb =
+      element-injective _ _ (product-below _ _) (sum-below _ _)
+      (quotient-element t b
+      ∙ ap₂ (λ (x y : Element). x ⊗ inv y)
+      (ap element (et ∙ ap₂ sum eu ev) ∙ element-sum _ _ ∙ ap₂ _⊕_ (element-product _ _) (element-product _ _))
+      (ap element eb ∙ element-product _ _)
+      ∙ quotients (element (f .top)) (element (f .bottom)) (element above) (element below) bottom-nonzero (below-nonzero some)
+      ∙ sym (element-sum _ _ ∙ ap₂ _⊕_ (quotient-element _ _) (quotient-element _ _)))
+
+pub bottom-element : (a b d : ℕ) → b ≡ product a d → b < p
+bottom-element a b d e = rw e (product-below a d)
+
+-- before the first term
+pub quotient-zero : product 0 (inverse 1) ≡ 0
+unfolding product inverse euclid
+quotient-zero = refl
+
+-- a term, as a quotient
+pub quotient-term : (f r : Fraction) (y node z above below whole : ℕ) (rest : List ℕ) → whole ≡ nodal rest z → above ≡ product y whole
+    → below ≡ nodal rest node → quotient r ≡ sum (quotient f) (product above (inverse below))
+    → quotient r ≡ sum (quotient f) (product y (weight rest node z))
+unfolding weight
+quotient-term f r y node z above below whole rest ew ea eb e =
+    e ∙ ap (sum (quotient f)) (ap₂ (λ (a b : ℕ). product a (inverse b)) (ea ∙ ap (product y) ew) eb ∙ product-assoc _ _ _)
+
+-- after the last term: the one inverse
+pub quotient-end : (xs ys : List ℕ) (z : ℕ) (f : Fraction) (j m i r : ℕ) → m ≤ j → (m < length xs → length ys ≤ m)
+    → sum (quotient f) (terms z (take j xs) (drop j xs) (drop j ys)) ≡ interpolated xs ys z → i ≡ inverse (f .bottom)
+    → r ≡ product (f .top) i → r ≡ interpolated xs ys z
+quotient-end xs ys z f j m i r h k e ei er =
+    er ∙ ap (product (f .top)) ei ∙ terms-end xs ys z j (quotient f) m h k (product-below _ _) e
