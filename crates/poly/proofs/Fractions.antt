@@ -25,7 +25,6 @@ open Field elements using (inv, mul-inv)
 
 infixl 65 _⊕_
 infixl 70 _⊗_
-
 -- the inverse of a product
 inv-product : (b d : Element) → b ≢ 0ᴱ → d ≢ 0ᴱ → inv (b ⊗ d) ≡ inv b ⊗ inv d
 unfolding Same
