@@ -1,25 +1,24 @@
 -- Quotients added up as one fraction.
-use Prim.Native.Nat.{ℕ, _%_, _≤_, _<_}
+use Prim.Native.Nat.{ℕ, _%_, _<_}
 use mathlib.Core.Path.{_≡_, refl, sym, _∙_, ap, ap₂}
 use mathlib.Core.Logic.{_≢_}
 use mathlib.Core.List.{List, [], _∷_}
 use native.Mathlib.Nat.{pos-of-ne-zero, mul-zero}
 use native.Mathlib.Omega.{arith}
 use lib.Dec.{lit<}
-use lib.ListN.{length, take, drop}
+use lib.ListN.{getD}
 use Rattle.field.specs.Modulus.{p}
-use Rattle.field.specs.Arithmetic.{sum, product, inverse, euclid}
+use Rattle.field.specs.Arithmetic.{sum, difference, product, inverse, euclid}
 use Rattle.field.specs.Algebra.{CommutativeRing, Field}
 use Rattle.field.specs.Element.{Element, element}
 use Rattle.field.proofs.Expression.{A, B, C, D, E, F, 𝟘, 𝟙, _:+_, _:*_, Same}
 use Rattle.field.proofs.Solver.{solve}
 use Rattle.field.proofs.Fields.{product-nonzero}
 use Rattle.field.proofs.Elements.{𝓡, elements, element-zero, element-sum, element-product, element-inverse, element-injective}
-use Rattle.field.proofs.Modular.{sum-below, sum-comm, sum-zero, product-below, product-assoc}
-use Rattle.poly.specs.Interpolation.{nodal, weight, terms, interpolated}
+use Rattle.field.proofs.Modular.{sum-below, sum-comm, sum-zero, product-below, product-comm, product-assoc}
+use Rattle.poly.specs.Interpolation.{nodal, others}
 use Rattle.poly.specs.declared.Fraction.{Fraction}
-use Rattle.poly.specs.Quotients.{quotient, Proper}
-use Rattle.poly.proofs.Turns.{terms-end}
+use Rattle.poly.specs.Quotients.{quotient, Proper, joined}
 open CommutativeRing 𝓡 using (add as _⊕_, mul as _⊗_, zero as 0ᴱ, one as 1ᴱ)
 open Field elements using (inv, mul-inv)
 
@@ -86,22 +85,14 @@ module _ (f : Fraction) (above below : ℕ) (fine : Proper f) (low : below < p) 
 pub bottom-element : (a b d : ℕ) → b ≡ product a d → b < p
 bottom-element a b d e = rw e (product-below a d)
 
--- before the first term
-pub quotient-zero : product 0 (inverse 1) ≡ 0
-unfolding product inverse euclid
-quotient-zero = refl
+-- a fraction times a number
+moved : (t b d : ℕ) → product (product t d) (inverse b) ≡ product (product t (inverse b)) d
+moved t b d = product-assoc t d (inverse b) ∙ ap (product t) (product-comm d (inverse b)) ∙ sym (product-assoc t (inverse b) d)
 
--- a term, as a quotient
-pub quotient-term : (f r : Fraction) (y node z above below whole : ℕ) (rest : List ℕ) → whole ≡ nodal rest z → above ≡ product y whole
-    → below ≡ nodal rest node → quotient r ≡ sum (quotient f) (product above (inverse below))
-    → quotient r ≡ sum (quotient f) (product y (weight rest node z))
-unfolding weight
-quotient-term f r y node z above below whole rest ew ea eb e =
-    e ∙ ap (sum (quotient f)) (ap₂ (λ (a b : ℕ). product a (inverse b)) (ea ∙ ap (product y) ew) eb ∙ product-assoc _ _ _)
-
--- after the last term: the one inverse
-pub quotient-end : (xs ys : List ℕ) (z : ℕ) (f : Fraction) (j m i r : ℕ) → m ≤ j → (m < length xs → length ys ≤ m)
-    → sum (quotient f) (terms z (take j xs) (drop j xs) (drop j ys)) ≡ interpolated xs ys z → i ≡ inverse (f .bottom)
-    → r ≡ product (f .top) i → r ≡ interpolated xs ys z
-quotient-end xs ys z f j m i r h k e ei er =
-    er ∙ ap (product (f .top)) ei ∙ terms-end xs ys z j (quotient f) m h k (product-below _ _) e
+pub node-joined : (f r : Fraction) (xs : List ℕ) (y passed j z d t above below : ℕ) → d ≡ difference z (getD xs j 0)
+    → t ≡ product (f .top) d → above ≡ product y passed → below ≡ nodal (others j xs) (getD xs j 0)
+    → quotient r ≡ sum (product t (inverse (f .bottom))) (product above (inverse below)) → quotient r ≡ joined (quotient f) xs y passed j z
+node-joined f r xs y passed j z d t above below ed et ea eb e =
+    e
+    ∙ ap₂ sum (ap (λ (x : ℕ). product x (inverse (f .bottom))) (et ∙ ap (product (f .top)) ed) ∙ moved (f .top) (f .bottom) _)
+    (ap₂ (λ (a b : ℕ). product a (inverse b)) ea eb)

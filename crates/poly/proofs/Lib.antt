@@ -6,4 +6,5 @@ pub mod Roots
 pub mod Lagrange
 pub mod Numbers
 pub mod Fractions
+pub mod Passing
 pub mod Theorems

@@ -117,20 +117,9 @@ others-join xs j z l r v e f g =
 
 -- Lagrange's terms
 module _ (xs ys : List ℕ) (z : ℕ) where
-  pub terms-start : (r : ℕ) → r ≡ 0 → sum r (terms z (take 0 xs) (drop 0 xs) (drop 0 ys)) ≡ interpolated xs ys z
+  pub terms-start : (r : ℕ) → r ≡ 0 → sum r (terms z [] xs ys) ≡ interpolated xs ys z
   unfolding interpolated
   terms-start r e = rw e (sum-zero (interpolated xs ys z) (interpolated-below xs ys z))
-
-  pub terms-turn : (j m r v : ℕ) → j < m → m ≤ length xs → m ≤ length ys
-      → sum r (terms z (take j xs) (drop j xs) (drop j ys)) ≡ interpolated xs ys z
-      → v ≡ sum r (product (getD ys j 0) (weight (others j xs) (getD xs j 0) z))
-      → sum v (terms z (take (j + 1) xs) (drop (j + 1) xs) (drop (j + 1) ys)) ≡ interpolated xs ys z
-  unfolding terms
-  terms-turn j m r v i h′ k′ e g =
-      let h : j < length xs = omega arith in
-      let k : j < length ys = omega arith in
-      rw (g, add-one j, take-suc xs j 0 h)
-      (sum-turn r _ _ (interpolated xs ys z) (rw (drop-cons xs j 0 h, drop-cons ys j 0 k) at e))
 
   terms-none : (passed l : List ℕ) → terms z passed l [] ≡ 0
   unfolding terms

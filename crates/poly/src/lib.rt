@@ -7,8 +7,8 @@ ghost use lib.ListN.{length, getD};
 ghost use Rattle.poly.specs.Polynomial.{value, powers, weighted};
 ghost use Rattle.field.specs.Modulus.{p};
 ghost use Rattle.field.specs.Arithmetic.{sum, product, inverse};
-ghost use Rattle.poly.specs.Interpolation.{nodal, others, weight, interpolated};
-ghost use Rattle.poly.specs.Quotients.{quotient, Proper};
+ghost use Rattle.poly.specs.Interpolation.{nodal, others, interpolated};
+ghost use Rattle.poly.specs.Quotients.{quotient, Proper, joined};
 
 // The value at x, by Horner's rule.
 pub fn evaluate(coefficients: &[u32], x: u32) -> u32
@@ -96,14 +96,22 @@ fn plus_quotient(f: Fraction, above: u32, below: u32) -> Fraction
     }
 }
 
-// The fraction plus the term of node j at z.
-fn plus_term(f: Fraction, nodes: &[u32], value: u32, j: usize, z: u32) -> Fraction
+// The fraction with the node at j passed: times z less the node, plus the value there times what was passed before, divided by
+// the product of the node's distances.
+fn plus_node(f: Fraction, nodes: &[u32], value: u32, passed: u32, j: usize, z: u32) -> Fraction
     requires { ⌜ Proper f × (j < length (now nodes)) ⌝ }
-    ensures { λ r. ⌜ Proper r × (quotient r ≡ sum (quotient f) (product value (weight (others j (now (nodes .entry))) (getD (now (nodes .entry)) j 0) z))) ⌝ }
+    ensures { λ r. ⌜ Proper r × (quotient r ≡ joined (quotient f) (now (nodes .entry)) value passed j z) ⌝ }
 {
     let node = nodes[j];
-    let above = field::mul(value, others_product(nodes, j, z));
-    plus_quotient(f, above, others_product(nodes, j, node))
+    let moved = Fraction {
+        top: field::mul(f.top, field::sub(z, node)),
+        bottom: f.bottom,
+    };
+    plus_quotient(
+        moved,
+        field::mul(value, passed),
+        others_product(nodes, j, node),
+    )
 }
 
 // The interpolation through the values at the nodes, at the point z.
@@ -112,8 +120,11 @@ pub fn interpolate(nodes: &[u32], values: &[u32], z: u32) -> u32
 {
     let m = least(nodes.len(), values.len());
     let mut f = Fraction { top: 0, bottom: 1 };
+    let mut passed: u32 = 1;
     for j in 0..m {
-        f = plus_term(f, nodes, values[j], j, z);
+        f = plus_node(f, nodes, values[j], passed, j, z);
+        passed = field::mul(passed, field::sub(z, nodes[j]));
     }
-    field::mul(f.top, field::inverse(f.bottom))
+    let last = field::mul(f.top, field::inverse(f.bottom));
+    field::mul(last, node_product(&nodes[m..], z))
 }
