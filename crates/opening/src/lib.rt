@@ -34,7 +34,7 @@ fn own_checks(session: Session, rows: &[u32], row: usize, blocks: &[u32]) -> u8
     let numbers = refusal::or_else(session.numbers(rows, row), record::refusal(session, blocks));
     refusal::or_else(
         session::checks::row(row),
-        refusal::or_else(session.unlike(row, 2), numbers),
+        refusal::or_else(session::checks::unlike(&session.marks, row, 2), numbers),
     )
 }
 

@@ -15,10 +15,10 @@ pub fn triple_marks(session: Session, a: usize, b: usize, row: usize, mark: u8) 
     requires { ⌜ row ≤ 93 ⌝ }
     ensures { λ r. ⌜ r ≡ first (tripleMarks session a b row mark) ⌝ }
 {
-    let triple = session.unlike_triple(row, mark, 4, 4);
+    let triple = session::checks::unlike_triple(&session.marks, row, mark, 4, 4);
     refusal::or_else(
-        session.unlike(a, 2),
-        refusal::or_else(session.unlike(b, 2), triple),
+        session::checks::unlike(&session.marks, a, 2),
+        refusal::or_else(session::checks::unlike(&session.marks, b, 2), triple),
     )
 }
 

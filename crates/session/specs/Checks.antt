@@ -9,7 +9,7 @@ use Rattle.field.specs.Modulus.{p}
 use Rattle.refusal.specs.Refusal.{Test, _when_}
 use Rattle.refusal.specs.Conditions.{missized}
 use Rattle.session.specs.declared.Session.{Session}
-use Rattle.session.specs.Sessions.{sessionTests, mark}
+use Rattle.session.specs.Sessions.{sessionTests, markIn}
 use Rattle.session.specs.Rows.{width}
 
 -- 1 to 4 on the session handed in, whose fields may hold anything, and 5 for its list of rows.
@@ -24,8 +24,11 @@ abbrev pub noTriple : ℕ → Bool
 noTriple r = ltb 93 r
 
 -- 7: the mark of row r isn't what the call needs.
+abbrev pub unlikeIn : List ℕ → ℕ → ℕ → Bool
+unlikeIn marks r m = not (eqb (markIn marks r) m)
+
 abbrev pub unlike : Session → ℕ → ℕ → Bool
-unlike s r m = not (eqb (mark s r) m)
+unlike s r m = unlikeIn (s .marks) r m
 
 -- What 1 to 5 leave to a call.
 pub record Framed (s : Session) (rows : List ℕ) : Type 0 where

@@ -8,8 +8,11 @@ use Rattle.session.specs.declared.Session.{Session}
 use Rattle.session.specs.declared.Answer.{Answer}
 
 -- "Each row has a mark".
+abbrev pub markIn : List ℕ → ℕ → ℕ
+markIn marks r = getD marks r 0
+
 abbrev pub mark : Session → ℕ → ℕ
-mark s r = getD (s .marks) r 0
+mark s r = markIn (s .marks) r
 
 -- "for mark 5 the two factor rows": they stand at the triple's first row.
 abbrev pub factorA : Session → ℕ → ℕ

@@ -5,9 +5,9 @@ ghost use Prim.Native.Nat.{_+_, _≤_};
 ghost use mathlib.Core.List.{[], _∷_};
 ghost use Rattle.refusal.specs.Refusal.{first, _when_};
 ghost use Rattle.refusal.specs.Conditions.{anyBeyond};
-ghost use Rattle.session.specs.Sessions.{sessionTests};
+ghost use Rattle.session.specs.Sessions.{markIn, sessionTests};
 ghost use Rattle.session.specs.Rows.{width, rowAt};
-ghost use Rattle.session.specs.Checks.{frameTests, noRow, noTriple, unlike, Framed};
+ghost use Rattle.session.specs.Checks.{frameTests, noRow, noTriple, unlikeIn, Framed};
 
 // 1 to 4, of a session's settings.
 pub fn settings(n: usize, t: usize, post: usize, point: u32) -> u8
@@ -33,6 +33,31 @@ pub fn triple(row: usize) -> u8
     if 93 < row { 6 } else { 0 }
 }
 
+// The mark of a row; 0 for a row that is none. Marks are lent and the session is not handed over: it would be copied for each look.
+fn mark(marks: &[u8], row: usize) -> u8
+    ensures { λ r. ⌜ r ≡ markIn (now (marks .entry)) row ⌝ }
+{
+    if row < marks.len() { marks[row] } else { 0 }
+}
+
+// 7, of the mark that a call needs on a row.
+pub fn unlike(marks: &[u8], row: usize, need: u8) -> u8
+    ensures { λ r. ⌜ r ≡ first (7 when unlikeIn (now (marks .entry)) row need ∷ []) ⌝ }
+{
+    if mark(marks, row) == need { 0 } else { 7 }
+}
+
+// 7, of the marks that a call needs on a triple's three rows.
+pub fn unlike_triple(marks: &[u8], row: usize, a: u8, b: u8, c: u8) -> u8
+    requires { ⌜ row ≤ 93 ⌝ }
+    ensures { λ r. ⌜ r ≡ first (7 when unlikeIn (now (marks .entry)) row a ∷ 7 when unlikeIn (now (marks .entry)) (row + 1) b ∷ 7 when unlikeIn (now (marks .entry)) (row + 2) c ∷ []) ⌝ }
+{
+    refusal::or_else(
+        unlike(marks, row, a),
+        refusal::or_else(unlike(marks, row + 1, b), unlike(marks, row + 2, c)),
+    )
+}
+
 impl Session {
     // 1 to 4 of the session, whose fields may hold anything, and 5 of its list of rows.
     pub fn frame(self, rows: &[u32]) -> u8
@@ -43,24 +68,6 @@ impl Session {
             return refusal;
         }
         refusal::size(rows, 96 * self.width())
-    }
-
-    // 7, of the mark that a call needs on a row.
-    pub fn unlike(self, row: usize, need: u8) -> u8
-        ensures { λ r. ⌜ r ≡ first (7 when unlike self row need ∷ []) ⌝ }
-    {
-        if self.mark(row) == need { 0 } else { 7 }
-    }
-
-    // 7, of the marks that a call needs on a triple's three rows.
-    pub fn unlike_triple(self, row: usize, a: u8, b: u8, c: u8) -> u8
-        requires { ⌜ row ≤ 93 ⌝ }
-        ensures { λ r. ⌜ r ≡ first (7 when unlike self row a ∷ 7 when unlike self (row + 1) b ∷ 7 when unlike self (row + 2) c ∷ []) ⌝ }
-    {
-        refusal::or_else(
-            self.unlike(row, a),
-            refusal::or_else(self.unlike(row + 1, b), self.unlike(row + 2, c)),
-        )
     }
 
     // 8, of every number of a row.

@@ -6,7 +6,7 @@ pub mod rows;
 
 ghost use mathlib.Core.Path.{_≡_};
 ghost use Prim.Native.Nat.{_+_, _≤_};
-ghost use Rattle.session.specs.Sessions.{mark, marked, remembering, sessionOf, created};
+ghost use Rattle.session.specs.Sessions.{marked, remembering, sessionOf, created};
 
 #[repr(C)]
 pub struct Session {
@@ -64,13 +64,6 @@ impl Session {
             value: 0,
             session,
         }
-    }
-
-    // The mark of a row; 0 for a row that is none.
-    pub fn mark(self, row: usize) -> u8
-        ensures { λ r. ⌜ r ≡ mark self row ⌝ }
-    {
-        if row < 96 { self.marks[row] } else { 0 }
     }
 
     pub fn with_mark(mut self, row: usize, mark: u8) -> Session

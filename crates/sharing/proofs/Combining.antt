@@ -1,12 +1,13 @@
 -- The refusal of a linear call from the checks that its code joins, and what holds where there is none.
 use Prim.Native.Nat.{ℕ, _-_}
 use mathlib.Core.Path.{_≡_, sym, _∙_, ap, ap₂}
-use mathlib.Core.List.{List, [], _∷_}
+use mathlib.Core.List.{List, [], _∷_, _++_}
 use native.Mathlib.Nat.{sub-zero}
 use lib.ListN.{length, take, drop}
 use Rattle.refusal.specs.Refusal.{Test, _when_, first, orElse}
 use Rattle.refusal.specs.Conditions.{beyond, anyBeyond}
-use Rattle.refusal.proofs.Groups.{chained}
+use Rattle.refusal.proofs.Laws.{first-join}
+use Rattle.refusal.proofs.Groups.{first-chain}
 use Rattle.session.specs.declared.Session.{Session}
 use Rattle.session.specs.Rows.{width, rowAt, withRow, combined}
 use Rattle.session.specs.Checks.{frameTests, noRow, unlike, Framed, RowIn}
@@ -15,33 +16,35 @@ use Rattle.session.proofs.Calls.{stopped-at-frame, past-frame, allowed}
 use Rattle.sharing.specs.Linear.{linearRefusal}
 
 module _ (s : Session) (rows : List ℕ) (r a b scale : ℕ) where
+  abbrev marks : List Test
+  marks = 7 when unlike s r 0 ∷ 7 when unlike s a 2 ∷ 7 when unlike s b 2 ∷ []
+
+  abbrev numbers : List Test
+  numbers =
+      8 when beyond scale ∷ 8 when anyBeyond (rowAt (width s) rows a) ∷ 8 when anyBeyond (rowAt (width s) rows b) ∷ []
+
   abbrev own : List Test
-  own =
-      6 when noRow r
-      ∷ 6 when noRow a
-      ∷ 6 when noRow b
-      ∷ 7 when unlike s r 0
-      ∷ 7 when unlike s a 2
-      ∷ 7 when unlike s b 2
-      ∷ 8 when beyond scale
-      ∷ 8 when anyBeyond (rowAt (width s) rows a)
-      ∷ 8 when anyBeyond (rowAt (width s) rows b)
-      ∷ []
+  own = 6 when noRow r ∷ 6 when noRow a ∷ 6 when noRow b ∷ (marks ++ numbers)
 
   pub linear-stopped : (f : ℕ) → f ≡ first (frameTests s rows) → (f ≡ 0 → ⊥) → f ≡ linearRefusal s rows r a b scale
   unfolding linearRefusal
   linear-stopped f e n = stopped-at-frame s rows own f e n
 
-  pub linear-checked : (f x1 x2 x3 x4 x5 x6 x7 x8 x9 y1 y2 y3 y4 y5 y6 y7 y8 : ℕ) → f ≡ first (frameTests s rows) → f ≡ 0
-      → x1 ≡ first (6 when noRow r ∷ []) → x2 ≡ first (6 when noRow a ∷ []) → x3 ≡ first (6 when noRow b ∷ [])
-      → x4 ≡ first (7 when unlike s r 0 ∷ []) → x5 ≡ first (7 when unlike s a 2 ∷ []) → x6 ≡ first (7 when unlike s b 2 ∷ [])
+  pub linear-checked : (f x1 x2 x3 q x7 x8 x9 y1 y2 y3 y4 y7 y8 : ℕ) → f ≡ first (frameTests s rows) → f ≡ 0
+      → x1 ≡ first (6 when noRow r ∷ []) → x2 ≡ first (6 when noRow a ∷ []) → x3 ≡ first (6 when noRow b ∷ []) → q ≡ first marks
       → x7 ≡ first (8 when beyond scale ∷ []) → x8 ≡ first (8 when anyBeyond (rowAt (width s) rows a) ∷ [])
-      → x9 ≡ first (8 when anyBeyond (rowAt (width s) rows b) ∷ []) → y8 ≡ orElse x8 x9 → y7 ≡ orElse x7 y8 → y6 ≡ orElse x6 y7
-      → y5 ≡ orElse x5 y6 → y4 ≡ orElse x4 y5 → y3 ≡ orElse x3 y4 → y2 ≡ orElse x2 y3 → y1 ≡ orElse x1 y2
-      → y1 ≡ linearRefusal s rows r a b scale
+      → x9 ≡ first (8 when anyBeyond (rowAt (width s) rows b) ∷ []) → y8 ≡ orElse x8 x9 → y7 ≡ orElse x7 y8 → y4 ≡ orElse q y7
+      → y3 ≡ orElse x3 y4 → y2 ≡ orElse x2 y3 → y1 ≡ orElse x1 y2 → y1 ≡ linearRefusal s rows r a b scale
   unfolding linearRefusal
-  linear-checked f x1 x2 x3 x4 x5 x6 x7 x8 x9 y1 y2 y3 y4 y5 y6 y7 y8 e n e1 e2 e3 e4 e5 e6 e7 e8 e9 d8 d7 d6 d5 d4 d3 d2 d1 =
-      past-frame s rows own f y1 e n (chained own tt y1 (cc))
+  linear-checked f x1 x2 x3 q x7 x8 x9 y1 y2 y3 y4 y7 y8 e n e1 e2 e3 eq e7 e8 e9 d8 d7 d4 d3 d2 d1 =
+      past-frame s rows own f y1 e n
+      (cc (
+        first-join (6 when noRow r ∷ []) (6 when noRow a ∷ 6 when noRow b ∷ (marks ++ numbers)) tt,
+        first-join (6 when noRow a ∷ []) (6 when noRow b ∷ (marks ++ numbers)) tt,
+        first-join (6 when noRow b ∷ []) (marks ++ numbers) tt,
+        first-join marks numbers tt,
+        first-chain numbers tt,
+      ))
 
   pub linear-allowed : (f : ℕ) → f ≡ linearRefusal s rows r a b scale → f ≡ 0
       → Framed s rows × RowIn s r × RowIn s a × RowIn s b

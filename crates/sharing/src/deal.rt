@@ -17,7 +17,7 @@ fn deal_refusal(session: Session, rows: &[u32], row: usize, c: u32) -> u8
     let numbers = refusal::or_else(refusal::number(c), session.numbers(rows, row));
     refusal::or_else(
         session::checks::row(row),
-        refusal::or_else(session.unlike(row, 1), numbers),
+        refusal::or_else(session::checks::unlike(&session.marks, row, 1), numbers),
     )
 }
 

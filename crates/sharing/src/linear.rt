@@ -2,10 +2,25 @@
 use session::Answer;
 use session::Session;
 ghost use mathlib.Core.Path.{_≡_};
+ghost use mathlib.Core.List.{[], _∷_};
+ghost use Rattle.refusal.specs.Refusal.{first, _when_};
 ghost use Rattle.session.specs.Sessions.{marked};
 ghost use Rattle.session.specs.Rows.{width, rowAt, withRow, combined};
-ghost use Rattle.session.specs.Checks.{Framed, RowIn};
+ghost use Rattle.session.specs.Checks.{unlikeIn, Framed, RowIn};
 ghost use Rattle.sharing.specs.Linear.{linearRefusal, linearAnswer, linearRows};
+
+// 7, of the three rows.
+fn linear_marks(marks: &[u8], dest: usize, a: usize, b: usize) -> u8
+    ensures { λ r. ⌜ r ≡ first (7 when unlikeIn (now (marks .entry)) dest 0 ∷ 7 when unlikeIn (now (marks .entry)) a 2 ∷ 7 when unlikeIn (now (marks .entry)) b 2 ∷ []) ⌝ }
+{
+    refusal::or_else(
+        session::checks::unlike(marks, dest, 0),
+        refusal::or_else(
+            session::checks::unlike(marks, a, 2),
+            session::checks::unlike(marks, b, 2),
+        ),
+    )
+}
 
 fn linear_refusal(session: Session, rows: &[u32], dest: usize, a: usize, b: usize, scale: u32) -> u8
     ensures { λ r. ⌜ r ≡ linearRefusal session (now (rows .entry)) dest a b scale ⌝ }
@@ -18,18 +33,12 @@ fn linear_refusal(session: Session, rows: &[u32], dest: usize, a: usize, b: usiz
         refusal::number(scale),
         refusal::or_else(session.numbers(rows, a), session.numbers(rows, b)),
     );
-    let marks = refusal::or_else(
-        session.unlike(dest, 0),
-        refusal::or_else(
-            session.unlike(a, 2),
-            refusal::or_else(session.unlike(b, 2), numbers),
-        ),
-    );
+    let marked = refusal::or_else(linear_marks(&session.marks, dest, a, b), numbers);
     refusal::or_else(
         session::checks::row(dest),
         refusal::or_else(
             session::checks::row(a),
-            refusal::or_else(session::checks::row(b), marks),
+            refusal::or_else(session::checks::row(b), marked),
         ),
     )
 }

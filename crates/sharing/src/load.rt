@@ -17,7 +17,10 @@ fn load_row_refusal(session: Session, rows: &[u32], row: usize, pack: &[u32]) ->
         return frame;
     }
     let size = refusal::size(pack, session.width());
-    let empty = refusal::or_else(session.unlike(row, 0), refusal::numbers(pack));
+    let empty = refusal::or_else(
+        session::checks::unlike(&session.marks, row, 0),
+        refusal::numbers(pack),
+    );
     refusal::or_else(size, refusal::or_else(session::checks::row(row), empty))
 }
 
@@ -63,7 +66,7 @@ fn load_triple_refusal(session: Session, rows: &[u32], first: usize, pack: &[u32
         return placed;
     }
     refusal::or_else(
-        session.unlike_triple(first, 0, 0, 0),
+        session::checks::unlike_triple(&session.marks, first, 0, 0, 0),
         refusal::numbers(pack),
     )
 }

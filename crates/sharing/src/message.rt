@@ -16,7 +16,10 @@ fn message_refusal(session: Session, rows: &[u32], row: usize, out: &[u32]) -> u
         return frame;
     }
     let size = refusal::size(out, session.t + 1);
-    let held = refusal::or_else(session.unlike(row, 2), session.numbers(rows, row));
+    let held = refusal::or_else(
+        session::checks::unlike(&session.marks, row, 2),
+        session.numbers(rows, row),
+    );
     refusal::or_else(size, refusal::or_else(session::checks::row(row), held))
 }
 

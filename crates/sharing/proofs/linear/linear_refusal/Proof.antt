@@ -12,4 +12,4 @@ linear-refusal-spec =
     (tie.spec (λ c κs. search needs) (λ c. search steps) (λ c κs. search needs) (λ c κs. search steps) (λ c κs. search steps)
     (λ c κs. search needs) (λ c κs. search needs) (λ c κs. search needs) (λ c κs. search needs) (λ c κs. search needs)
     (λ c κs. search needs) (λ c κs. search needs) (λ c κs. search needs) (λ c κs. search needs) (λ c κs. search needs)
-    (λ c κs. search needs) (λ c κs. search needs) (λ c κs. search needs) (λ c κs. search needs) (λ c. search steps))
+    (λ c. search steps))

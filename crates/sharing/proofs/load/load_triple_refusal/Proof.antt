@@ -10,12 +10,12 @@ ruleset steps = (needs, load-triple-stopped, load-triple-misplaced, load-triple-
 width-requires : tie.Need-width-requires
 width-requires c κs =
     let a = c .before .before .before .before .args in
-    frame-small (a .session) (a .rows .now) _ (c .before .frame .ensures) (c .if1 .left)
+    frame-small (a .t1) (a .rows .now) _ (c .before .frame .ensures) (c .if1 .left)
 
 mul-size : tie.Need-mul-size
 mul-size c =
     let a = c .before .before .before .before .before .args in
-    omega (arith, frame-small (a .session) (a .rows .now) _ (c .before .before .frame .ensures) (c .before .if1 .left))
+    omega (arith, frame-small (a .t1) (a .rows .now) _ (c .before .before .frame .ensures) (c .before .if1 .left))
 
 unlike-triple-requires : tie.Need-unlike-triple-requires
 unlike-triple-requires c κs = search (needs, placed-below)

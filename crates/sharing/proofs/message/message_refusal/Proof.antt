@@ -9,8 +9,8 @@ ruleset steps = (needs, frame-passed, message-stopped, message-checked)
 
 add-size : tie.Need-add-size
 add-size c =
-    let a = c .before .before .before .before .before .args in
-    omega (arith, frame-small (a .session) (a .rows .now) _ (c .before .before .frame .ensures) (c .before .if1 .left))
+    let a = c .before .before .before .before .args in
+    omega (arith, frame-small (a .t1) (a .rows .now) _ (c .before .frame .ensures) (c .if1 .left))
 
 pub message-refusal-spec : {M : Type 1} → statement M
 message-refusal-spec =

@@ -6,8 +6,8 @@ use lib.Dec.{eqb}
 use borrow.Author.Needs.{needs}
 use borrow.Author.Tests.{eq-eqb, ne-eqb}
 use Rattle.refusal.specs.Refusal.{first, _when_}
-use Rattle.session.proofs.Session.unlike.Statement.{statement}
-use Rattle.session.proofs.Session.unlike.Tie as tie
+use Rattle.session.proofs.checks.unlike.Statement.{statement}
+use Rattle.session.proofs.checks.unlike.Tie as tie
 
 -- the mark r that was read is m
 module _ (r m need : ℕ) (e : r ≡ m) where
