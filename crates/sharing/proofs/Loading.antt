@@ -15,6 +15,12 @@ use Rattle.session.proofs.Passed.{row-in, triple-in}
 use Rattle.session.proofs.Calls.{stopped-at-frame, past-frame, allowed}
 use Rattle.sharing.specs.Load.{loadRowRefusal, loadTripleRefusal}
 
+-- a triple's place was not refused
+placed-below : (r q5 q6 p : ℕ) → q6 ≡ first (6 when noTriple r ∷ []) → p ≡ orElse q5 q6 → p ≡ 0 → r ≤ 93
+placed-below r q5 q6 p e6 ep h =
+    let z : q6 ≡ 0 = orElse-zero q5 q6 (sym ep ∙ h) .1 in
+    ltb-false 93 r (all-fail (6 when noTriple r ∷ []) tt (sym e6 ∙ z) .0)
+
 module _ (s : Session) (rows : List ℕ) (r : ℕ) (pack : List ℕ) where
   abbrev own-row : List Test
   own-row = 5 when missized pack (width s) ∷ 6 when noRow r ∷ 7 when unlike s r 0 ∷ 8 when anyBeyond pack ∷ []
@@ -62,10 +68,11 @@ module _ (s : Session) (rows : List ℕ) (r : ℕ) (pack : List ℕ) where
     unfolding loadTripleRefusal
     load-triple-misplaced h = past-frame s rows (placed ++ late) f p e n (stopped placed late tt p place h)
 
-    pub load-triple-checked : (q7 q8 z : ℕ) → p ≡ 0 → q7 ≡ first marks → q8 ≡ first (8 when anyBeyond pack ∷ [])
+    pub load-triple-checked : (q7 q8 z : ℕ) → p ≡ 0 → (r ≤ 93 → q7 ≡ first marks) → q8 ≡ first (8 when anyBeyond pack ∷ [])
         → z ≡ orElse q7 q8 → z ≡ loadTripleRefusal s rows r pack
     unfolding loadTripleRefusal
-    load-triple-checked q7 q8 z h e7 e8 ez =
+    load-triple-checked q7 q8 z h e7′ e8 ez =
+        let e7 : q7 ≡ first marks = e7′ (placed-below r q5 q6 p e6 ep h) in
         past-frame s rows (placed ++ late) f z e n
         (went-on placed late tt p place z h (cc (first-join marks (8 when anyBeyond pack ∷ []) tt)))
 
@@ -75,9 +82,3 @@ module _ (s : Session) (rows : List ℕ) (r : ℕ) (pack : List ℕ) where
   load-triple-allowed f e n =
       let h = allowed s rows (placed ++ late) tt f e n in
       (h .0, triple-in s r (h .1 .1 .0), equal (length pack) (3 * width s) (h .1 .0))
-
--- a triple's place was not refused
-pub placed-below : (r q5 q6 p : ℕ) → q6 ≡ first (6 when noTriple r ∷ []) → p ≡ orElse q5 q6 → p ≡ 0 → r ≤ 93
-placed-below r q5 q6 p e6 ep h =
-    let z : q6 ≡ 0 = orElse-zero q5 q6 (sym ep ∙ h) .1 in
-    ltb-false 93 r (all-fail (6 when noTriple r ∷ []) tt (sym e6 ∙ z) .0)

@@ -2,14 +2,18 @@
 use session::Answer;
 use session::Session;
 ghost use mathlib.Core.Path.{_≡_};
-ghost use Prim.Native.Nat.{_+_, _*_};
+ghost use Prim.Native.Nat.{_+_, _*_, _≤_};
 ghost use lib.ListN.{length};
+ghost use mathlib.Core.List.{[], _∷_};
+ghost use Rattle.refusal.specs.Refusal.{first, _when_};
 ghost use Rattle.session.specs.Sessions.{marked};
 ghost use Rattle.session.specs.Rows.{width, withRow};
-ghost use Rattle.session.specs.Checks.{Framed, RowIn, TripleIn};
+ghost use Rattle.session.specs.Checks.{unlike, unlikeIn, Framed, RowIn, TripleIn};
 ghost use Rattle.sharing.specs.Load.{loadRowRefusal, loadRowAnswer, loadRowRows, loadTripleRefusal, loadTripleAnswer, loadTripleRows, withTriple};
 
-fn load_row_refusal(session: Session, rows: &[u32], row: usize, pack: &[u32]) -> u8
+// The refusal, where 7 has been looked up.
+fn load_row_refusal(session: Session, rows: &[u32], row: usize, pack: &[u32], marks: u8) -> u8
+    requires { ⌜ marks ≡ first (7 when unlike session row 0 ∷ []) ⌝ }
     ensures { λ r. ⌜ r ≡ loadRowRefusal session (now (rows .entry)) row (now (pack .entry)) ⌝ }
 {
     let frame = session.frame(rows);
@@ -17,10 +21,7 @@ fn load_row_refusal(session: Session, rows: &[u32], row: usize, pack: &[u32]) ->
         return frame;
     }
     let size = refusal::size(pack, session.width());
-    let empty = refusal::or_else(
-        session::checks::unlike(&session.marks, row, 0),
-        refusal::numbers(pack),
-    );
+    let empty = refusal::or_else(marks, refusal::numbers(pack));
     refusal::or_else(size, refusal::or_else(session::checks::row(row), empty))
 }
 
@@ -37,7 +38,8 @@ pub fn load_row(session: Session, rows: &mut [u32], row: usize, pack: &[u32]) ->
     ensures { λ r. ⌜ r ≡ loadRowAnswer session (now (rows .entry)) row (now (pack .entry)) ⌝ }
     ensures { λ r. ⌜ now (rows .exit) ≡ loadRowRows session (now (rows .entry)) row (now (pack .entry)) ⌝ }
 {
-    let refusal = load_row_refusal(session, rows, row, pack);
+    let marks = session::checks::unlike(&session.marks, row, 0);
+    let refusal = load_row_refusal(session, rows, row, pack, marks);
     if refusal != 0 {
         return Answer {
             refusal,
@@ -53,22 +55,31 @@ pub fn load_row(session: Session, rows: &mut [u32], row: usize, pack: &[u32]) ->
     }
 }
 
-fn load_triple_refusal(session: Session, rows: &[u32], first: usize, pack: &[u32]) -> u8
-    ensures { λ r. ⌜ r ≡ loadTripleRefusal session (now (rows .entry)) first (now (pack .entry)) ⌝ }
+// 7, of the three rows from `row` on, if there are three.
+fn triple_marks(marks: &[u8], row: usize) -> u8
+    ensures { λ r. ⌜ (row ≤ 93 → r ≡ first (7 when unlikeIn (now (marks .entry)) row 0 ∷ 7 when unlikeIn (now (marks .entry)) (row + 1) 0 ∷ 7 when unlikeIn (now (marks .entry)) (row + 2) 0 ∷ [])) ⌝ }
+{
+    if 93 < row {
+        return 0;
+    }
+    session::checks::unlike_triple(marks, row, 0, 0, 0)
+}
+
+// The refusal, where 7 has been looked up.
+fn load_triple_refusal(session: Session, rows: &[u32], row: usize, pack: &[u32], marks: u8) -> u8
+    requires { ⌜ (row ≤ 93 → marks ≡ first (7 when unlike session row 0 ∷ 7 when unlike session (row + 1) 0 ∷ 7 when unlike session (row + 2) 0 ∷ [])) ⌝ }
+    ensures { λ r. ⌜ r ≡ loadTripleRefusal session (now (rows .entry)) row (now (pack .entry)) ⌝ }
 {
     let frame = session.frame(rows);
     if frame != 0 {
         return frame;
     }
     let size = refusal::size(pack, 3 * session.width());
-    let placed = refusal::or_else(size, session::checks::triple(first));
+    let placed = refusal::or_else(size, session::checks::triple(row));
     if placed != 0 {
         return placed;
     }
-    refusal::or_else(
-        session::checks::unlike_triple(&session.marks, first, 0, 0, 0),
-        refusal::numbers(pack),
-    )
+    refusal::or_else(marks, refusal::numbers(pack))
 }
 
 // The three rows stand one after the other in the pack and in the list.
@@ -88,7 +99,8 @@ pub fn load_triple(session: Session, rows: &mut [u32], first: usize, pack: &[u32
     ensures { λ r. ⌜ r ≡ loadTripleAnswer session (now (rows .entry)) first (now (pack .entry)) ⌝ }
     ensures { λ r. ⌜ now (rows .exit) ≡ loadTripleRows session (now (rows .entry)) first (now (pack .entry)) ⌝ }
 {
-    let refusal = load_triple_refusal(session, rows, first, pack);
+    let marks = triple_marks(&session.marks, first);
+    let refusal = load_triple_refusal(session, rows, first, pack, marks);
     if refusal != 0 {
         return Answer {
             refusal,

@@ -4,11 +4,15 @@ use session::Session;
 ghost use mathlib.Core.Path.{_≡_};
 ghost use Prim.Native.Nat.{_+_};
 ghost use lib.ListN.{length};
+ghost use mathlib.Core.List.{[], _∷_};
+ghost use Rattle.refusal.specs.Refusal.{first, _when_};
 ghost use Rattle.session.specs.Rows.{width, rowAt, coefficients};
-ghost use Rattle.session.specs.Checks.{Framed, RowIn};
+ghost use Rattle.session.specs.Checks.{unlike, Framed, RowIn};
 ghost use Rattle.sharing.specs.Message.{messageRefusal, messageAnswer, messageOut};
 
-fn message_refusal(session: Session, rows: &[u32], row: usize, out: &[u32]) -> u8
+// The refusal, where 7 has been looked up.
+fn message_refusal(session: Session, rows: &[u32], row: usize, out: &[u32], marks: u8) -> u8
+    requires { ⌜ marks ≡ first (7 when unlike session row 2 ∷ []) ⌝ }
     ensures { λ r. ⌜ r ≡ messageRefusal session (now (rows .entry)) row (now (out .entry)) ⌝ }
 {
     let frame = session.frame(rows);
@@ -16,10 +20,7 @@ fn message_refusal(session: Session, rows: &[u32], row: usize, out: &[u32]) -> u
         return frame;
     }
     let size = refusal::size(out, session.t + 1);
-    let held = refusal::or_else(
-        session::checks::unlike(&session.marks, row, 2),
-        session.numbers(rows, row),
-    );
+    let held = refusal::or_else(marks, session.numbers(rows, row));
     refusal::or_else(size, refusal::or_else(session::checks::row(row), held))
 }
 
@@ -36,7 +37,8 @@ pub fn opening_message(session: Session, rows: &[u32], row: usize, out: &mut [u3
     ensures { λ r. ⌜ r ≡ messageAnswer session (now (rows .entry)) row (now (out .entry)) ⌝ }
     ensures { λ r. ⌜ now (out .exit) ≡ messageOut session (now (rows .entry)) row (now (out .entry)) ⌝ }
 {
-    let refusal = message_refusal(session, rows, row, out);
+    let marks = session::checks::unlike(&session.marks, row, 2);
+    let refusal = message_refusal(session, rows, row, out, marks);
     if refusal != 0 {
         return Answer {
             refusal,

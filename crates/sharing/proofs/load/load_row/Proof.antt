@@ -10,5 +10,5 @@ load-row-accepted-requires c κs = load-row-allowed _ _ _ _ _ (c .before .before
 pub load-row-spec : {M : Type 1} → statement M
 load-row-spec =
     tie.close
-    (tie.spec (λ c κs. search needs) (λ c. search needs) (λ c. search endings) load-row-accepted-requires (λ c. search needs)
+    (tie.spec (λ c κs. search needs) (λ c κs. search needs) (λ c. search needs) (λ c. search endings) load-row-accepted-requires (λ c. search needs)
     (λ c. search endings))

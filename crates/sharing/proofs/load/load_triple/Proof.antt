@@ -10,5 +10,5 @@ load-triple-accepted-requires c κs = load-triple-allowed _ _ _ _ _ (c .before .
 pub load-triple-spec : {M : Type 1} → statement M
 load-triple-spec =
     tie.close
-    (tie.spec (λ c κs. search needs) (λ c. search needs) (λ c. search endings) load-triple-accepted-requires (λ c. search needs)
+    (tie.spec (λ c κs. search needs) (λ c κs. search needs) (λ c. search needs) (λ c. search endings) load-triple-accepted-requires (λ c. search needs)
     (λ c. search endings))

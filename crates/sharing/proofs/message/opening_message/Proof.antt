@@ -10,5 +10,5 @@ message-accepted-requires c κs = message-allowed _ _ _ _ _ (c .before .before .
 pub opening-message-spec : {M : Type 1} → statement M
 opening-message-spec =
     tie.close
-    (tie.spec (λ c κs. search needs) (λ c. search needs) (λ c. search endings) message-accepted-requires (λ c. search needs)
+    (tie.spec (λ c κs. search needs) (λ c κs. search needs) (λ c. search needs) (λ c. search endings) message-accepted-requires (λ c. search needs)
     (λ c. search endings))
