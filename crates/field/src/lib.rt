@@ -15,10 +15,11 @@ pub fn add(a: u32, b: u32) -> u32
     ((a as u64 + b as u64) % WIDE_P) as u32
 }
 
+// Three times p is more than any number of 32 bits, so one remainder is enough.
 pub fn sub(a: u32, b: u32) -> u32
     ensures { λ r. ⌜ r ≡ difference a b ⌝ }
 {
-    ((a as u64 + (WIDE_P - b as u64 % WIDE_P)) % WIDE_P) as u32
+    ((a as u64 + (3 * WIDE_P - b as u64)) % WIDE_P) as u32
 }
 
 pub fn mul(a: u32, b: u32) -> u32

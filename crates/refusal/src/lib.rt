@@ -64,14 +64,20 @@ pub fn number(x: u32) -> u8
     if x < field::P { 0 } else { 8 }
 }
 
-// 8, of every number of a list.
+// 8, of one more number.
+fn one_more(x: u32, before: u8) -> u8
+    ensures { λ r. ⌜ r ≡ orElse (first (8 when beyond x ∷ [])) before ⌝ }
+{
+    if x < field::P { before } else { 8 }
+}
+
+// 8, of every number of a list. There is no early end, so that several numbers are looked at at once.
 pub fn numbers(list: &[u32]) -> u8
     ensures { λ r. ⌜ r ≡ first (8 when anyBeyond (now (list .entry)) ∷ []) ⌝ }
 {
+    let mut refusal: u8 = 0;
     for i in 0..list.len() {
-        if field::P <= list[i] {
-            return 8;
-        }
+        refusal = one_more(list[i], refusal);
     }
-    0
+    refusal
 }
