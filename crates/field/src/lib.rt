@@ -3,6 +3,8 @@
 // Every function is total: a number of p or more stands for its remainder modulo p, and every result is an element.
 // The time of `inverse` depends on its argument, so it is for public values only.
 ghost use mathlib.Core.Path.{_≡_};
+ghost use Prim.Native.Nat.{_+_, _*_, _%_, _<_};
+ghost use Rattle.field.specs.Modulus.{p};
 ghost use Rattle.field.specs.Arithmetic.{sum, difference, product, inverse, IsInverse};
 
 pub const P: u32 = 2147483647;
@@ -22,10 +24,25 @@ pub fn sub(a: u32, b: u32) -> u32
     ((a as u64 + (3 * WIDE_P - b as u64)) % WIDE_P) as u32
 }
 
+// The product as it is, with no remainder taken.
+pub fn whole_product(a: u32, b: u32) -> u64
+    ensures { λ r. ⌜ r ≡ a * b ⌝ }
+{
+    a as u64 * b as u64
+}
+
 pub fn mul(a: u32, b: u32) -> u32
     ensures { λ r. ⌜ r ≡ product a b ⌝ }
 {
-    ((a as u64 * b as u64) % WIDE_P) as u32
+    (whole_product(a, b) % WIDE_P) as u32
+}
+
+// The remainder of a number that was added up from halves: `low` and 2^31 times `high`. 2^31 is 1 modulo p.
+pub fn reduce(low: u64, high: u64) -> u32
+    requires { ⌜ low + high < 18446744073709551616 ⌝ }
+    ensures { λ r. ⌜ r ≡ (low + high * 2147483648) % p ⌝ }
+{
+    ((low + high) % WIDE_P) as u32
 }
 
 // The inverse of x, and 0 for 0: with p = q u + r, 1/u is (p - q)/r, and r is smaller than u.

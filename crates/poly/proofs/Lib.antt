@@ -1,5 +1,6 @@
 pub mod Bounds
 pub mod Turns
+pub mod Halves
 pub mod Lists
 pub mod Coefficients
 pub mod Roots

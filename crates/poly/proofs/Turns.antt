@@ -2,11 +2,12 @@
 use Prim.Native.Nat.{ℕ, suc, _+_, _-_, _≤_, _<_}
 use mathlib.Core.Path.{_≡_, refl, sym, _∙_, ap}
 use mathlib.Core.List.{List, [], _∷_, _++_, append-assoc, append-nil}
+use native.Mathlib.Nat.{sub-zero, le-of-suc-le-suc, not-suc-le-zero}
 use native.Mathlib.Numerals.{add-one}
-use native.Mathlib.Decide.{decLe}
+use native.Mathlib.Decide.{decLe, decLt}
 use native.Mathlib.Omega.{arith}
 use lib.ListN.{length, take, drop, getD, set, length-drop, drop-of-length-le}
-use lib.Seq.{drop-cons, drop-length, take-suc, take-suc-set, take-all}
+use lib.Seq.{drop-cons, drop-drop, drop-length, take-suc, take-suc-set, take-all}
 use Rattle.field.specs.Modulus.{p}
 use Rattle.field.specs.Arithmetic.{sum, difference, product}
 use Rattle.field.proofs.Modular.{sum-assoc, sum-comm, sum-zero, product-assoc, product-comm, product-one}
@@ -59,18 +60,39 @@ sum-turn r s rest whole f = sum-assoc r s rest ∙ f
 sum-end : (r whole : ℕ) → r < p → sum r 0 ≡ whole → r ≡ whole
 sum-end r whole h e = sym (sum-comm r 0 ∙ sum-zero r h) ∙ e
 
--- the sum of two lists' products, to the end of the shorter
-module _ (xs ys : List ℕ) (whole : ℕ) where
-  pub weighted-start : weighted xs ys ≡ whole → sum 0 (weighted (drop 0 xs) (drop 0 ys)) ≡ whole
-  weighted-start e = sum-zero (weighted xs ys) (weighted-below xs ys) ∙ e
+-- the sum of two lists' products, in two parts
+weighted-split : (xs ys : List ℕ) (k : ℕ) → k ≤ length xs → k ≤ length ys
+    → sum (weighted (take k xs) (take k ys)) (weighted (drop k xs) (drop k ys)) ≡ weighted xs ys
+unfolding weighted
+weighted-split xs ys ℕ.zero h j = sum-zero (weighted xs ys) (weighted-below xs ys)
+weighted-split [] ys (suc k) h j = absurd (not-suc-le-zero h)
+weighted-split (x ∷ xs) [] (suc k) h j = absurd (not-suc-le-zero j)
+weighted-split (x ∷ xs) (y ∷ ys) (suc k) h j =
+    sum-assoc (product x y) (weighted (take k xs) (take k ys)) (weighted (drop k xs) (drop k ys))
+    ∙ ap (sum (product x y)) (weighted-split xs ys k (le-of-suc-le-suc h) (le-of-suc-le-suc j))
 
-  pub weighted-turn : (i m r s v : ℕ) → i < m → m ≤ length xs → m ≤ length ys → sum r (weighted (drop i xs) (drop i ys)) ≡ whole
-      → s ≡ product (getD xs i 0) (getD ys i 0) → v ≡ sum r s → sum v (weighted (drop (i + 1) xs) (drop (i + 1) ys)) ≡ whole
-  unfolding weighted
-  weighted-turn i m r s v j h′ k′ e f g =
-      let h : i < length xs = omega arith in
-      let k : i < length ys = omega arith in
-      rw (g, f, add-one i) (sum-turn r _ _ whole (rw (drop-cons xs i 0 h, drop-cons ys i 0 k) at e))
+-- a part is not empty
+pub weighted-less : (i j m : ℕ) → (j < m - i → 65536 ≤ j) → i < m → m - (i + j) < m - i
+weighted-less i j m h l = go (decLt j (m - i))
+  where
+    go : Dec (j < m - i) → m - (i + j) < m - i
+    go (yes a) = omega (arith, h a)
+    go (no a) = omega arith
+
+-- to the end of the shorter, part by part
+module _ (xs ys : List ℕ) where
+  pub weighted-start : (i m r : ℕ) → i ≤ m → m ≤ length xs → m ≤ length ys
+      → r ≡ weighted (take (i - 0) (drop 0 xs)) (take (i - 0) (drop 0 ys)) → sum r (weighted (drop i xs) (drop i ys)) ≡ weighted xs ys
+  weighted-start i m r l h k e = rw (e, sub-zero i) (weighted-split xs ys i (omega arith) (omega arith))
+
+  pub weighted-turn : (i j m r s v : ℕ) → i < m → j ≤ m - i → m ≤ length xs → m ≤ length ys
+      → sum r (weighted (drop i xs) (drop i ys)) ≡ weighted xs ys
+      → s ≡ weighted (take (i + j - i) (drop i xs)) (take (i + j - i) (drop i ys)) → v ≡ sum r s
+      → sum v (weighted (drop (i + j) xs) (drop (i + j) ys)) ≡ weighted xs ys
+  weighted-turn i j m r s v o l h k e f g =
+      let q : i + j - i ≡ j = omega arith in
+      let t = weighted-split (drop i xs) (drop i ys) j (omega (arith, length-drop i xs)) (omega (arith, length-drop i ys)) in
+      rw (g, f, q) (sum-turn r _ _ (weighted xs ys) (ap (sum r) (rw (drop-drop j i xs, drop-drop j i ys) at t) ∙ e))
 
   weighted-none : (l : List ℕ) → weighted l [] ≡ 0
   unfolding weighted
@@ -78,11 +100,11 @@ module _ (xs ys : List ℕ) (whole : ℕ) where
   weighted-none (x ∷ l) = refl
 
   pub weighted-end : (i r m : ℕ) → m ≤ i → (m < length xs → length ys ≤ m) → r < p
-      → sum r (weighted (drop i xs) (drop i ys)) ≡ whole → r ≡ whole
+      → sum r (weighted (drop i xs) (drop i ys)) ≡ weighted xs ys → r ≡ weighted xs ys
   unfolding weighted
-  weighted-end i r m h k l e = sum-end r whole l (go (decLe (length xs) m))
+  weighted-end i r m h k l e = sum-end r (weighted xs ys) l (go (decLe (length xs) m))
     where
-      go : Dec (length xs ≤ m) → sum r 0 ≡ whole
+      go : Dec (length xs ≤ m) → sum r 0 ≡ weighted xs ys
       go (yes a) = let b : length xs ≤ i = omega arith in rw (drop-of-length-le xs b) at e
       go (no a) =
           let b : length ys ≤ i = omega (arith, k (omega arith)) in

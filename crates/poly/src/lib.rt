@@ -2,8 +2,8 @@
 //
 // Every public function is total: the lists have any length and hold any numbers, one of p or more standing for its remainder.
 ghost use mathlib.Core.Path.{_≡_};
-ghost use Prim.Native.Nat.{_≤_, _<_};
-ghost use lib.ListN.{length, getD};
+ghost use Prim.Native.Nat.{_-_, _≤_, _<_};
+ghost use lib.ListN.{length, take, drop, getD};
 ghost use Rattle.poly.specs.Polynomial.{value, powers, weighted};
 ghost use Rattle.field.specs.Modulus.{p};
 ghost use Rattle.field.specs.Arithmetic.{sum, product, inverse};
@@ -41,14 +41,46 @@ fn least(a: usize, b: usize) -> usize
     if a < b { a } else { b }
 }
 
+// So many products are added up before a remainder is taken.
+const FEW: usize = 65536;
+
+// 2^31: a product is added up in two halves, so that a remainder is taken of the sums and not of each product.
+const HALF: u64 = 2147483648;
+
+// The sum of the products of two short lists' numbers.
+fn weigh_few(list: &[u32], weights: &[u32]) -> u32
+    requires { ⌜ (length (now list) ≤ 65536) × (length (now weights) ≡ length (now list)) ⌝ }
+    ensures { λ r. ⌜ r ≡ weighted (now (list .entry)) (now (weights .entry)) ⌝ }
+{
+    let mut low: u64 = 0;
+    let mut high: u64 = 0;
+    for i in 0..list.len() {
+        let product = field::whole_product(list[i], weights[i]);
+        low += product % HALF;
+        high += product / HALF;
+    }
+    field::reduce(low, high)
+}
+
+// The sum of the products of a short part of two lists.
+fn weigh_part(list: &[u32], weights: &[u32], from: usize, end: usize) -> u32
+    requires { ⌜ (from ≤ end) × (end ≤ length (now list)) × (end ≤ length (now weights)) × (end - from ≤ 65536) ⌝ }
+    ensures { λ r. ⌜ r ≡ weighted (take (end - from) (drop from (now (list .entry)))) (take (end - from) (drop from (now (weights .entry)))) ⌝ }
+{
+    weigh_few(&list[from..end], &weights[from..end])
+}
+
 // The sum of the products of the two lists' numbers.
 pub fn weigh(list: &[u32], weights: &[u32]) -> u32
     ensures { λ r. ⌜ r ≡ weighted (now (list .entry)) (now (weights .entry)) ⌝ }
 {
     let m = least(list.len(), weights.len());
-    let mut r: u32 = 0;
-    for i in 0..m {
-        r = field::add(r, field::mul(list[i], weights[i]));
+    let mut i = least(m, FEW);
+    let mut r = weigh_part(list, weights, 0, i);
+    while i < m {
+        let end = i + least(m - i, FEW);
+        r = field::add(r, weigh_part(list, weights, i, end));
+        i = end;
     }
     r
 }
