@@ -8,7 +8,7 @@ ghost use Rattle.poly.specs.Polynomial.{value, powers, weighted};
 ghost use Rattle.field.specs.Modulus.{p};
 ghost use Rattle.field.specs.Arithmetic.{sum, product, inverse};
 ghost use Rattle.poly.specs.Interpolation.{nodal, others, interpolated};
-ghost use Rattle.poly.specs.Quotients.{quotient, Proper, joined};
+ghost use Rattle.poly.specs.Quotients.{quotient, Invertible, nodePassed};
 
 // The value at x, by Horner's rule.
 pub fn evaluate(coefficients: &[u32], x: u32) -> u32
@@ -84,8 +84,8 @@ struct Fraction {
 
 // The fraction plus above / below; nothing where below is 0, which has no inverse.
 fn plus_quotient(f: Fraction, above: u32, below: u32) -> Fraction
-    requires { ⌜ Proper f × (below < p) ⌝ }
-    ensures { λ r. ⌜ Proper r × (quotient r ≡ sum (quotient f) (product above (inverse below))) ⌝ }
+    requires { ⌜ Invertible f × (below < p) ⌝ }
+    ensures { λ r. ⌜ Invertible r × (quotient r ≡ sum (quotient f) (product above (inverse below))) ⌝ }
 {
     if below == 0 {
         return f;
@@ -99,8 +99,8 @@ fn plus_quotient(f: Fraction, above: u32, below: u32) -> Fraction
 // The fraction with the node at j passed: times z less the node, plus the value there times what was passed before, divided by
 // the product of the node's distances.
 fn plus_node(f: Fraction, nodes: &[u32], value: u32, passed: u32, j: usize, z: u32) -> Fraction
-    requires { ⌜ Proper f × (j < length (now nodes)) ⌝ }
-    ensures { λ r. ⌜ Proper r × (quotient r ≡ joined (quotient f) (now (nodes .entry)) value passed j z) ⌝ }
+    requires { ⌜ Invertible f × (j < length (now nodes)) ⌝ }
+    ensures { λ r. ⌜ Invertible r × (quotient r ≡ nodePassed (quotient f) (now (nodes .entry)) value passed j z) ⌝ }
 {
     let node = nodes[j];
     let moved = Fraction {

@@ -5,14 +5,14 @@ use lib.ListN.{take}
 use denote.Ref.{now}
 use borrow.Author.Needs.{needs}
 use Rattle.poly.specs.Interpolation.{nodal}
-use Rattle.poly.specs.Quotients.{quotient, Proper}
+use Rattle.poly.specs.Quotients.{quotient, Invertible}
 use Rattle.poly.proofs.Passing.{Halfway, passed-start, passed-turn, passing-start, passing-turn, passing-end}
 use Rattle.poly.proofs.interpolate.Statement.{statement}
 use Rattle.poly.proofs.interpolate.Tie as tie
 
 abbrev Inv-loop : tie.InvT-loop
 Inv-loop nodes values z m f₀ passed₀ j₀ f passed j =
-    (j ≤ m) × Proper f × (passed ≡ nodal (take j nodes) z) × Halfway nodes values z (quotient f) j
+    (j ≤ m) × Invertible f × (passed ≡ nodal (take j nodes) z) × Halfway nodes values z (quotient f) j
 
 abbrev μ-loop : tie.MeasureT-loop
 μ-loop nodes values z m f₀ passed₀ j₀ f passed j = m - j
