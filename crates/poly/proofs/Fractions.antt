@@ -22,10 +22,10 @@ open Field elements using (inv)
 
 infixl 65 _⊕_
 infixl 70 _⊗_
-nonzero : (x : ℕ) → 0 < x → x < p → element x ≢ 0ᴱ
+pub nonzero : (x : ℕ) → 0 < x → x < p → element x ≢ 0ᴱ
 nonzero x some low e = absurd (omega (arith, element-injective x 0 low (lit< tt) (e ∙ sym element-zero)))
 
-quotient-element : (t b : ℕ) → element (product t (inverse b)) ≡ element t ⊗ inv (element b)
+pub quotient-element : (t b : ℕ) → element (product t (inverse b)) ≡ element t ⊗ inv (element b)
 quotient-element t b = element-product t (inverse b) ∙ ap (λ (x : Element). element t ⊗ x) (element-inverse b)
 
 zero-quotient : (a : ℕ) → product a (inverse 0) ≡ 0
