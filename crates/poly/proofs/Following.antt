@@ -4,9 +4,12 @@ use mathlib.Core.Path.{_≡_, refl, sym, _∙_, ap, ap₂}
 use mathlib.Core.Logic.{_≢_}
 use mathlib.Core.List.{List, [], _∷_, _++_}
 use native.Mathlib.Nat.{mod-eq-of-lt, mod-mod}
+use native.Mathlib.Numerals.{add-one}
 use native.Mathlib.Omega.{arith}
+use lib.ListN.{length, take, getD}
+use lib.Seq.{take-suc, take-all}
 use Rattle.field.specs.Modulus.{p}
-use Rattle.field.specs.Arithmetic.{sum, difference, product}
+use Rattle.field.specs.Arithmetic.{sum, difference}
 use Rattle.field.specs.Algebra.{CommutativeRing, Field}
 use Rattle.field.specs.Element.{Element, element}
 use Rattle.field.proofs.Ring.{zero-add}
@@ -95,3 +98,20 @@ nodal-behind z (suc k) =
     ∙ ap (λ (u : Element). u ⊕ neg (element (suc z))) (ap element (omega arith) ∙ element-add (suc z) (suc k)))
     (ap (λ (n : ℕ). element (nodal (following (suc z) k) n)) (omega arith) ∙ nodal-behind (suc z) k)
     ∙ solve 𝓡 (element (suc z) ∷ element (suc k) ∷ factorial k ∷ []) ((A :+ B :- A) :* C) (B :* C) refl
+
+-- the turns of `consecutive`: the first i nodes are the i numbers that follow z
+module _ (xs : List ℕ) (z : ℕ) where
+  pub following-start : take 0 xs ≡ following z 0
+  unfolding following
+  following-start = refl
+
+  pub following-turn : (i x : ℕ) → i < length xs → take i xs ≡ following z i → x ≡ z + 1 + i → getD xs i 0 ≡ x
+      → take (i + 1) xs ≡ following z (i + 1)
+  following-turn i x h e ex en =
+      let q : getD xs i 0 ≡ suc (z + i) = omega arith in
+      rw add-one (take-suc xs i 0 h ∙ ap₂ (λ (l : List ℕ) (n : ℕ). l ++ (n ∷ [])) e q ∙ sym (following-end z i))
+
+  pub following-all : (i : ℕ) → i ≤ length xs → length xs ≤ i → take i xs ≡ following z i → xs ≡ following z (length xs)
+  following-all i h k e =
+      let q : i ≡ length xs = omega arith in
+      sym (take-all i xs k) ∙ e ∙ ap (following z) q

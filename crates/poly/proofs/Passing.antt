@@ -16,7 +16,7 @@ use Rattle.field.proofs.Expression.{A, B, C, D, E, F, G, _:+_, _:*_, Same}
 use Rattle.field.proofs.Solver.{solve}
 use Rattle.field.proofs.Elements.{𝓡, element-sum, element-product, element-injective}
 use Rattle.field.proofs.Modular.{sum-below, difference-below, product-below, product-one}
-use Rattle.poly.specs.Interpolation.{nodal, others, weight, terms, interpolated}
+use Rattle.poly.specs.Interpolation.{nodal, weight, terms, interpolated}
 use Rattle.poly.specs.declared.Fraction.{Fraction}
 use Rattle.poly.specs.Quotients.{quotient, nodePassed}
 use Rattle.poly.proofs.Turns.{nodal-join, terms-start, terms-end}

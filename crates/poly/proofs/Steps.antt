@@ -1,15 +1,16 @@
 -- Values at nodes that follow the point: one step for each value, from the last, makes the interpolation's fraction.
-use Prim.Native.Nat.{ℕ, suc, _+_, _-_, _<_}
+use Prim.Native.Nat.{ℕ, suc, _+_, _-_, _≤_, _<_}
 use mathlib.Core.Path.{_≡_, refl, sym, _∙_, ap, ap₂}
 use mathlib.Core.List.{List, [], _∷_, _++_, append-assoc}
 use native.Mathlib.Omega.{arith}
-use lib.ListN.{length}
+use lib.ListN.{length, drop, getD, length-drop}
+use lib.Seq.{drop-cons, drop-length}
 use Rattle.field.specs.Modulus.{p}
 use Rattle.field.specs.Arithmetic.{sum, difference, product, inverse}
 use Rattle.field.specs.Algebra.{CommutativeRing, Field}
 use Rattle.field.specs.Element.{Element, element}
 use Rattle.field.proofs.Ring.{one-mul, zero-add}
-use Rattle.field.proofs.Expression.{var, A, B, C, D, E, F, G, 𝟘, _:+_, _:*_, _:-_, :-_, Same}
+use Rattle.field.proofs.Expression.{A, B, C, D, E, F, G, 𝟘, _:+_, _:*_, _:-_, :-_, Same}
 use Rattle.field.proofs.Solver.{solve}
 use Rattle.field.proofs.Fields.{product-nonzero, quotient-unique}
 use Rattle.field.proofs.Elements.{𝓡, elements, element-zero, element-one, element-sum, element-product, element-difference, element-inverse, element-injective}
@@ -19,7 +20,7 @@ use Rattle.poly.proofs.Bounds.{interpolated-below}
 use Rattle.poly.proofs.Turns.{nodal-join}
 use Rattle.poly.proofs.Fractions.{quotient-element}
 use Rattle.poly.proofs.Following.{element-add, element-opposite, upTo, factorial, signed, factorial-nonzero, signed-nonzero, following-end, nodal-ahead, nodal-behind}
-open CommutativeRing 𝓡 using (add as _⊕_, mul as _⊗_, neg, zero as 0ᴱ, one as 1ᴱ, mul-one)
+open CommutativeRing 𝓡 using (add as _⊕_, mul as _⊗_, neg, one as 1ᴱ, mul-one)
 open Field elements using (inv, mul-inv)
 
 infixl 65 _⊕_
@@ -149,3 +150,54 @@ steps-interpolate z ys small =
 
     v : Element
     v = element (interpolated (following z m) ys z)
+
+-- the turns of `extrapolate`, from the last value down
+module _ (ys : List ℕ) where
+  pub top-start : 0 ≡ topFrom (length ys) (drop (length ys) ys)
+  unfolding topFrom
+  top-start = rw (drop-length ys)
+
+  pub bottom-start : 1 ≡ bottomFrom (length ys) (drop (length ys) ys)
+  unfolding bottomFrom
+  bottom-start = rw (drop-length ys)
+
+  next : (j : ℕ) → 0 < j → j ≤ length ys → drop (j - 1) ys ≡ getD ys (j - 1) 0 ∷ drop j ys
+  next j h k =
+      let q : suc (j - 1) ≡ j = omega arith in
+      drop-cons ys (j - 1) 0 (omega arith) ∙ ap (λ (i : ℕ). getD ys (j - 1) 0 ∷ drop i ys) q
+
+  pub bottom-turn : (j b v : ℕ) → 0 < j → j ≤ length ys → b ≡ bottomFrom j (drop j ys) → v ≡ product (j - 1 + 1) b
+      → v ≡ bottomFrom (j - 1) (drop (j - 1) ys)
+  unfolding bottomFrom
+  bottom-turn j b v h k eb ev =
+      let q : j - 1 + 1 ≡ suc (j - 1) = omega arith in
+      let r : j ≡ suc (j - 1) = omega arith in
+      rw (next j h k) (ev ∙ ap₂ product q (eb ∙ ap (λ (i : ℕ). bottomFrom i (drop j ys)) r))
+
+  pub top-turn : (j b t u s v : ℕ) → 0 < j → j ≤ length ys → b ≡ bottomFrom j (drop j ys) → t ≡ topFrom j (drop j ys)
+      → u ≡ product (getD ys (j - 1) 0) b → s ≡ sum u t → v ≡ product (p - (length ys - (j - 1))) s
+      → v ≡ topFrom (j - 1) (drop (j - 1) ys)
+  unfolding topFrom
+  top-turn j b t u s v h k eb et eu es ev =
+      let q : length ys - (j - 1) ≡ suc (length (drop j ys)) = omega (arith, length-drop j ys) in
+      let r : j ≡ suc (j - 1) = omega arith in
+      rw (next j h k)
+      (ev
+      ∙ ap₂ (λ (a b : ℕ). product (p - a) b) q
+      (es
+      ∙ ap₂ sum (eu ∙ ap (product (getD ys (j - 1) 0)) (eb ∙ ap (λ (i : ℕ). bottomFrom i (drop j ys)) r))
+      (et ∙ ap (λ (i : ℕ). topFrom i (drop j ys)) r)))
+
+  pub steps-end : (j t b s i r : ℕ) → j ≤ 0 → length ys < p → t ≡ topFrom j (drop j ys) → b ≡ bottomFrom j (drop j ys)
+      → s ≡ difference 0 t → i ≡ inverse b → r ≡ product s i → (z : ℕ) → r ≡ interpolated (following z (length ys)) ys z
+  steps-end j t b s i r h small et eb es ei er z =
+      let q : j ≡ 0 = omega arith in
+      er
+      ∙ ap₂ product (es ∙ ap (difference 0) (et ∙ ap (λ (k : ℕ). topFrom k (drop k ys)) q))
+      (ei ∙ ap inverse (eb ∙ ap (λ (k : ℕ). bottomFrom k (drop k ys)) q))
+      ∙ steps-interpolate z ys small
+
+  pub interpolated-following : (xs : List ℕ) (z r : ℕ) → xs ≡ following z (length xs) → length xs ≡ length ys
+      → r ≡ interpolated (following z (length ys)) ys z → r ≡ interpolated xs ys z
+  interpolated-following xs z r e h er =
+      er ∙ ap (λ (l : List ℕ). interpolated l ys z) (ap (following z) (sym h) ∙ sym e)
