@@ -13,28 +13,50 @@ use Rattle.field.specs.Arithmetic.{sum, difference}
 use Rattle.field.specs.Algebra.{CommutativeRing, Field}
 use Rattle.field.specs.Element.{Element, element}
 use Rattle.field.proofs.Ring.{zero-add}
-use Rattle.field.proofs.Expression.{A, B, C, 𝟘, 𝟙, _:+_, _:*_, _:-_, :-_, Same}
+use Rattle.field.proofs.Expression.{A, B, 𝟘, _:+_, _:-_, :-_, Same}
 use Rattle.field.proofs.Solver.{solve}
 use Rattle.field.proofs.Fields.{product-nonzero}
 use Rattle.field.proofs.Elements.{𝓡, elements, element-path, element-zero, element-one, element-sum, element-product, element-difference}
+use Rattle.field.proofs.Modular.{difference-below, product-one}
 use Rattle.poly.specs.Interpolation.{nodal, following}
 use Rattle.poly.proofs.Turns.{nodal-join}
 use Rattle.poly.proofs.Fractions.{nonzero}
-open CommutativeRing 𝓡 using (add as _⊕_, mul as _⊗_, neg, zero as 0ᴱ, one as 1ᴱ)
+open CommutativeRing 𝓡 using (add as _⊕_, mul as _⊗_, neg, zero as 0ᴱ, one as 1ᴱ, mul-comm)
 open Field elements using (one-ne-zero)
 
 infixl 65 _⊕_
 infixl 70 _⊗_
-pub element-add : (a b : ℕ) → element (a + b) ≡ element a ⊕ element b
+element-add : (a b : ℕ) → element (a + b) ≡ element a ⊕ element b
 unfolding element sum
 element-add a b = element-path (element (a + b)) (element (sum a b)) (sym (mod-mod (a + b) p)) ∙ element-sum a b
+
+-- 0 - n, and p - n for short
+pub element-negative : (n : ℕ) → element (difference 0 n) ≡ neg (element n)
+element-negative n =
+    element-difference 0 n ∙ ap (λ (u : Element). u ⊕ neg (element n)) element-zero ∙ zero-add 𝓡 (neg (element n))
 
 pub element-opposite : (n : ℕ) → n < p → element (p - n) ≡ neg (element n)
 unfolding element difference
 element-opposite n h =
     element-path (element (p - n)) (element (difference 0 n))
     (sym (mod-mod (0 + (p - n % p)) p ∙ ap (λ (k : ℕ). k % p) (let e = mod-eq-of-lt h in omega arith)))
-    ∙ element-difference 0 n ∙ ap (λ (u : Element). u ⊕ neg (element n)) element-zero ∙ zero-add 𝓡 (neg (element n))
+    ∙ element-negative n
+
+-- z and the number suc k after it, less each other
+after : (z k : ℕ) → element (suc (z + k)) ≡ element z ⊕ element (suc k)
+after z k = ap element (omega arith) ∙ element-add z (suc k)
+
+pub less-after : (z k : ℕ) → element (difference z (suc (z + k))) ≡ neg (element (suc k))
+unfolding Same
+less-after z k =
+    element-difference z (suc (z + k)) ∙ ap (λ (u : Element). element z ⊕ neg u) (after z k)
+    ∙ solve 𝓡 (element z ∷ element (suc k) ∷ []) (A :- (A :+ B)) (:- B) refl
+
+after-less : (z k : ℕ) → element (difference (suc (z + k)) z) ≡ element (suc k)
+unfolding Same
+after-less z k =
+    element-difference (suc (z + k)) z ∙ ap (λ (u : Element). u ⊕ neg (element z)) (after z k)
+    ∙ solve 𝓡 (element z ∷ element (suc k) ∷ []) (A :+ B :- A) B refl
 
 -- f 1 times .. times f k
 unfoldable pub upTo : (ℕ → Element) → ℕ → Element
@@ -74,30 +96,20 @@ following-end z (suc k) =
 
 -- z less each of the k numbers that follow it
 pub nodal-ahead : (z k : ℕ) → element (nodal (following z k) z) ≡ signed k
-unfolding following nodal upTo Same
+unfolding following nodal upTo
 nodal-ahead z zero = element-one
 nodal-ahead z (suc k) =
     ap (λ (l : List ℕ). element (nodal l z)) (following-end z k)
-    ∙ ap element (sym (nodal-join (following z k) (suc (z + k) ∷ []) z)) ∙ element-product _ _
-    ∙ ap₂ _⊗_ (nodal-ahead z k)
-    (element-product _ _
-    ∙ ap₂ _⊗_
-    (element-difference z (suc (z + k))
-    ∙ ap (λ (u : Element). element z ⊕ neg u) (ap element (omega arith) ∙ element-add z (suc k)))
-    element-one)
-    ∙ solve 𝓡 (element z ∷ element (suc k) ∷ signed k ∷ []) (C :* ((A :- (A :+ B)) :* 𝟙)) (:- B :* C) refl
+    ∙ ap element (sym (nodal-join (following z k) (suc (z + k) ∷ []) z)) ∙ element-product _ _ ∙ mul-comm _ _
+    ∙ ap₂ _⊗_ (ap element (product-one _ (difference-below z (suc (z + k)))) ∙ less-after z k) (nodal-ahead z k)
 
 -- the number after them less each of them
 pub nodal-behind : (z k : ℕ) → element (nodal (following z k) (suc (z + k))) ≡ factorial k
-unfolding following nodal upTo Same
+unfolding following nodal upTo
 nodal-behind z zero = element-one
 nodal-behind z (suc k) =
-    element-product _ _
-    ∙ ap₂ _⊗_
-    (element-difference (suc (z + suc k)) (suc z)
-    ∙ ap (λ (u : Element). u ⊕ neg (element (suc z))) (ap element (omega arith) ∙ element-add (suc z) (suc k)))
-    (ap (λ (n : ℕ). element (nodal (following (suc z) k) n)) (omega arith) ∙ nodal-behind (suc z) k)
-    ∙ solve 𝓡 (element (suc z) ∷ element (suc k) ∷ factorial k ∷ []) ((A :+ B :- A) :* C) (B :* C) refl
+    let q : suc (z + suc k) ≡ suc (suc z + k) = omega arith in
+    rw q (element-product _ _ ∙ ap₂ _⊗_ (after-less (suc z) k) (nodal-behind (suc z) k))
 
 -- the turns of `consecutive`: the first i nodes are the i numbers that follow z
 module _ (xs : List ℕ) (z : ℕ) where
