@@ -144,8 +144,8 @@ fn consecutive(nodes: &[u32], z: u32) -> bool
     true
 }
 
-// The interpolation through the values at z + 1, z + 2 and so on, at z. The weights of such nodes are binomial coefficients
-// with alternating signs, so no distances are multiplied out.
+// The interpolation through the values at z + 1, .., z + m, at z, whatever z is. The weight of z + 1 + j is the binomial
+// coefficient of m and j + 1 with the sign of (-1)^j, so no distances are multiplied out.
 fn extrapolate(values: &[u32]) -> u32
     requires { ⌜ length (now values) < p ⌝ }
     ensures { λ r. ⌜ ((z : ℕ) → r ≡ interpolated (following z (length (now (values .entry)))) (now (values .entry)) z) ⌝ }
@@ -163,7 +163,7 @@ fn extrapolate(values: &[u32]) -> u32
     field::mul(field::sub(0, top), field::inverse(bottom))
 }
 
-// The interpolation through the values at the nodes, at the point z.
+// The interpolation through the values at the nodes, at the point z. Nodes that follow z are the usual case.
 pub fn interpolate(nodes: &[u32], values: &[u32], z: u32) -> u32
     ensures { λ r. ⌜ r ≡ interpolated (now (nodes .entry)) (now (values .entry)) z ⌝ }
 {
