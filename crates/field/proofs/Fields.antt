@@ -1,10 +1,10 @@
--- Laws that hold in every field: what is not zero may be cancelled.
-use mathlib.Core.Path.{_≡_, refl, sym, _∙_, ap}
+-- Laws that hold in every field: what is not zero may be cancelled, and quotients add up.
+use mathlib.Core.Path.{_≡_, refl, sym, _∙_, ap, ap₂}
 use mathlib.Core.Logic.{_≢_}
 use mathlib.Core.List.{[], _∷_}
 use Rattle.field.specs.Algebra.{CommutativeRing, Field}
 use Rattle.field.proofs.Ring.{zero-add, one-mul, mul-zero}
-use Rattle.field.proofs.Expression.{A, B, C, _:+_, _:*_, _:-_, Same}
+use Rattle.field.proofs.Expression.{A, B, C, D, E, F, 𝟙, _:+_, _:*_, _:-_, Same}
 use Rattle.field.proofs.Solver.{solve}
 
 module _ {R : Type 0} (𝓡 : CommutativeRing R) where
@@ -18,7 +18,7 @@ module _ {R : Type 0} (𝓡 : CommutativeRing R) where
 
 module _ {R : Type 0} (𝓕 : Field R) where
   open Field 𝓕 using (ring, inv, mul-inv)
-  open CommutativeRing ring using (add as _⊕_, mul as _⊗_, neg, zero)
+  open CommutativeRing ring using (add as _⊕_, mul as _⊗_, neg, zero, mul-assoc, mul-one)
 
   infixl 65 _⊕_
   infixl 70 _⊗_
@@ -35,3 +35,28 @@ module _ {R : Type 0} (𝓕 : Field R) where
 
   pub difference-nonzero : (a b : R) → a ≢ b → a ⊕ neg b ≢ zero
   difference-nonzero a b h e = h (equal-of-difference-zero ring a b e)
+
+  -- what gives c when it is multiplied by b is the quotient c / b
+  pub quotient-unique : (a b c : R) → b ≢ zero → a ⊗ b ≡ c → a ≡ c ⊗ inv b
+  quotient-unique a b c h e =
+      sym (mul-one a) ∙ ap (λ (x : R). a ⊗ x) (sym (mul-inv b h)) ∙ sym (mul-assoc a b (inv b)) ∙ ap (λ (x : R). x ⊗ inv b) e
+
+  pub cancel : (a b c : R) → c ≢ zero → a ⊗ c ≡ b ⊗ c → a ≡ b
+  cancel a b c h e = quotient-unique a c (b ⊗ c) h e ∙ sym (quotient-unique b c (b ⊗ c) h refl)
+
+  pub inv-product : (b d : R) → b ≢ zero → d ≢ zero → inv (b ⊗ d) ≡ inv b ⊗ inv d
+  unfolding Same
+  inv-product b d hb hd =
+      solve ring (inv (b ⊗ d) ∷ []) A (A :* (𝟙 :* 𝟙)) refl
+      ∙ sym (ap₂ (λ (x y : R). inv (b ⊗ d) ⊗ (x ⊗ y)) (mul-inv b hb) (mul-inv d hd))
+      ∙ solve ring (b ∷ d ∷ inv b ∷ inv d ∷ inv (b ⊗ d) ∷ []) (E :* (A :* C :* (B :* D))) (A :* B :* E :* (C :* D)) refl
+      ∙ ap (λ (x : R). x ⊗ (inv b ⊗ inv d)) (mul-inv (b ⊗ d) (product-nonzero b d hb hd)) ∙ one-mul ring (inv b ⊗ inv d)
+
+  -- (t d + a b) / (b d) = t / b + a / d
+  pub quotients : (t b a d : R) → b ≢ zero → d ≢ zero → (t ⊗ d ⊕ a ⊗ b) ⊗ inv (b ⊗ d) ≡ t ⊗ inv b ⊕ a ⊗ inv d
+  unfolding Same
+  quotients t b a d hb hd =
+      ap (λ (x : R). (t ⊗ d ⊕ a ⊗ b) ⊗ x) (inv-product b d hb hd)
+      ∙ solve ring (t ∷ b ∷ a ∷ d ∷ inv b ∷ inv d ∷ []) ((A :* D :+ C :* B) :* (E :* F)) (A :* E :* (D :* F) :+ C :* F :* (B :* E)) refl
+      ∙ ap₂ (λ (x y : R). t ⊗ inv b ⊗ x ⊕ a ⊗ inv d ⊗ y) (mul-inv d hd) (mul-inv b hb)
+      ∙ solve ring (t ⊗ inv b ∷ a ⊗ inv d ∷ []) (A :* 𝟙 :+ B :* 𝟙) (A :+ B) refl

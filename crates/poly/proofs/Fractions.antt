@@ -1,8 +1,8 @@
 -- Quotients added up as one fraction.
 use Prim.Native.Nat.{ℕ, _%_, _<_}
-use mathlib.Core.Path.{_≡_, refl, sym, _∙_, ap, ap₂}
+use mathlib.Core.Path.{_≡_, sym, _∙_, ap, ap₂}
 use mathlib.Core.Logic.{_≢_}
-use mathlib.Core.List.{List, [], _∷_}
+use mathlib.Core.List.{List}
 use native.Mathlib.Nat.{pos-of-ne-zero, mul-zero}
 use native.Mathlib.Omega.{arith}
 use lib.Dec.{lit<}
@@ -11,49 +11,28 @@ use Rattle.field.specs.Modulus.{p}
 use Rattle.field.specs.Arithmetic.{sum, difference, product, inverse, euclid}
 use Rattle.field.specs.Algebra.{CommutativeRing, Field}
 use Rattle.field.specs.Element.{Element, element}
-use Rattle.field.proofs.Expression.{A, B, C, D, E, F, 𝟘, 𝟙, _:+_, _:*_, Same}
-use Rattle.field.proofs.Solver.{solve}
-use Rattle.field.proofs.Fields.{product-nonzero}
+use Rattle.field.proofs.Fields.{product-nonzero, quotients}
 use Rattle.field.proofs.Elements.{𝓡, elements, element-zero, element-sum, element-product, element-inverse, element-injective}
 use Rattle.field.proofs.Modular.{sum-below, sum-comm, sum-zero, product-below, product-comm, product-assoc}
 use Rattle.poly.specs.Interpolation.{nodal, others}
 use Rattle.poly.specs.declared.Fraction.{Fraction}
-use Rattle.poly.specs.Quotients.{quotient, Proper, joined}
-open CommutativeRing 𝓡 using (add as _⊕_, mul as _⊗_, zero as 0ᴱ, one as 1ᴱ)
-open Field elements using (inv, mul-inv)
+use Rattle.poly.specs.Quotients.{quotient, Invertible, nodePassed}
+open CommutativeRing 𝓡 using (add as _⊕_, mul as _⊗_, zero as 0ᴱ)
+open Field elements using (inv)
 
 infixl 65 _⊕_
 infixl 70 _⊗_
--- the inverse of a product
-inv-product : (b d : Element) → b ≢ 0ᴱ → d ≢ 0ᴱ → inv (b ⊗ d) ≡ inv b ⊗ inv d
-unfolding Same
-inv-product b d hb hd =
-    solve 𝓡 (inv (b ⊗ d) ∷ []) A (A :* (𝟙 :* 𝟙)) refl
-    ∙ sym (ap₂ (λ (x y : Element). inv (b ⊗ d) ⊗ (x ⊗ y)) (mul-inv b hb) (mul-inv d hd))
-    ∙ solve 𝓡 (b ∷ d ∷ inv b ∷ inv d ∷ inv (b ⊗ d) ∷ []) (E :* (A :* C :* (B :* D))) (A :* B :* E :* (C :* D)) refl
-    ∙ ap (λ (x : Element). x ⊗ (inv b ⊗ inv d)) (mul-inv (b ⊗ d) (product-nonzero elements b d hb hd))
-    ∙ solve 𝓡 (inv b ∷ inv d ∷ []) (𝟙 :* (A :* B)) (A :* B) refl
-
--- (t d + a b) / (b d) = t / b + a / d
-quotients : (t b a d : Element) → b ≢ 0ᴱ → d ≢ 0ᴱ → (t ⊗ d ⊕ a ⊗ b) ⊗ inv (b ⊗ d) ≡ t ⊗ inv b ⊕ a ⊗ inv d
-unfolding Same
-quotients t b a d hb hd =
-    ap (λ (x : Element). (t ⊗ d ⊕ a ⊗ b) ⊗ x) (inv-product b d hb hd)
-    ∙ solve 𝓡 (t ∷ b ∷ a ∷ d ∷ inv b ∷ inv d ∷ []) ((A :* D :+ C :* B) :* (E :* F)) (A :* E :* (D :* F) :+ C :* F :* (B :* E)) refl
-    ∙ ap₂ (λ (x y : Element). t ⊗ inv b ⊗ x ⊕ a ⊗ inv d ⊗ y) (mul-inv d hd) (mul-inv b hb)
-    ∙ solve 𝓡 (t ⊗ inv b ∷ a ⊗ inv d ∷ []) (A :* 𝟙 :+ B :* 𝟙) (A :+ B) refl
-
-nonzero : (x : ℕ) → 0 < x → x < p → element x ≢ 0ᴱ
+pub nonzero : (x : ℕ) → 0 < x → x < p → element x ≢ 0ᴱ
 nonzero x some low e = absurd (omega (arith, element-injective x 0 low (lit< tt) (e ∙ sym element-zero)))
 
-quotient-element : (t b : ℕ) → element (product t (inverse b)) ≡ element t ⊗ inv (element b)
+pub quotient-element : (t b : ℕ) → element (product t (inverse b)) ≡ element t ⊗ inv (element b)
 quotient-element t b = element-product t (inverse b) ∙ ap (λ (x : Element). element t ⊗ x) (element-inverse b)
 
 zero-quotient : (a : ℕ) → product a (inverse 0) ≡ 0
 unfolding product inverse euclid
 zero-quotient a = ap (λ (x : ℕ). x % p) (mul-zero a)
 
-module _ (f : Fraction) (above below : ℕ) (fine : Proper f) (low : below < p) where
+module _ (f : Fraction) (above below : ℕ) (fine : Invertible f) (low : below < p) where
   -- below has no inverse: nothing is added
   pub quotient-none : below ≡ 0 → quotient f ≡ sum (quotient f) (product above (inverse below))
   quotient-none z =
@@ -79,7 +58,7 @@ module _ (f : Fraction) (above below : ℕ) (fine : Proper f) (low : below < p) 
       ∙ ap₂ (λ (x y : Element). x ⊗ inv y)
       (ap element (et ∙ ap₂ sum eu ev) ∙ element-sum _ _ ∙ ap₂ _⊕_ (element-product _ _) (element-product _ _))
       (ap element eb ∙ element-product _ _)
-      ∙ quotients (element (f .top)) (element (f .bottom)) (element above) (element below) bottom-nonzero (below-nonzero some)
+      ∙ quotients elements (element (f .top)) (element (f .bottom)) (element above) (element below) bottom-nonzero (below-nonzero some)
       ∙ sym (element-sum _ _ ∙ ap₂ _⊕_ (quotient-element _ _) (quotient-element _ _)))
 
 pub bottom-element : (a b d : ℕ) → b ≡ product a d → b < p
@@ -89,10 +68,10 @@ bottom-element a b d e = rw e (product-below a d)
 moved : (t b d : ℕ) → product (product t d) (inverse b) ≡ product (product t (inverse b)) d
 moved t b d = product-assoc t d (inverse b) ∙ ap (product t) (product-comm d (inverse b)) ∙ sym (product-assoc t (inverse b) d)
 
-pub node-joined : (f r : Fraction) (xs : List ℕ) (y passed j z d t above below : ℕ) → d ≡ difference z (getD xs j 0)
+pub node-passed : (f r : Fraction) (xs : List ℕ) (y passed j z d t above below : ℕ) → d ≡ difference z (getD xs j 0)
     → t ≡ product (f .top) d → above ≡ product y passed → below ≡ nodal (others j xs) (getD xs j 0)
-    → quotient r ≡ sum (product t (inverse (f .bottom))) (product above (inverse below)) → quotient r ≡ joined (quotient f) xs y passed j z
-node-joined f r xs y passed j z d t above below ed et ea eb e =
+    → quotient r ≡ sum (product t (inverse (f .bottom))) (product above (inverse below)) → quotient r ≡ nodePassed (quotient f) xs y passed j z
+node-passed f r xs y passed j z d t above below ed et ea eb e =
     e
     ∙ ap₂ sum (ap (λ (x : ℕ). product x (inverse (f .bottom))) (et ∙ ap (product (f .top)) ed) ∙ moved (f .top) (f .bottom) _)
     (ap₂ (λ (a b : ℕ). product a (inverse b)) ea eb)

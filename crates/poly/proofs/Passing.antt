@@ -16,9 +16,9 @@ use Rattle.field.proofs.Expression.{A, B, C, D, E, F, G, _:+_, _:*_, Same}
 use Rattle.field.proofs.Solver.{solve}
 use Rattle.field.proofs.Elements.{𝓡, element-sum, element-product, element-injective}
 use Rattle.field.proofs.Modular.{sum-below, difference-below, product-below, product-one}
-use Rattle.poly.specs.Interpolation.{nodal, others, weight, terms, interpolated}
+use Rattle.poly.specs.Interpolation.{nodal, weight, terms, interpolated}
 use Rattle.poly.specs.declared.Fraction.{Fraction}
-use Rattle.poly.specs.Quotients.{quotient, joined}
+use Rattle.poly.specs.Quotients.{quotient, nodePassed}
 use Rattle.poly.proofs.Turns.{nodal-join, terms-start, terms-end}
 open CommutativeRing 𝓡 using (add as _⊕_, mul as _⊗_)
 
@@ -71,7 +71,7 @@ module _ (xs ys : List ℕ) (z : ℕ) where
   unfolding product inverse euclid
   passing-start = terms-start xs ys z _ (ap (λ (n : ℕ). n % p) (zero-mul (nodal xs z)))
 
-  pub passing-turn : (j q v a : ℕ) → a ≡ nodal (take j xs) z → Halfway q j → v ≡ joined q xs (getD ys j 0) a j z → j < length xs
+  pub passing-turn : (j q v a : ℕ) → a ≡ nodal (take j xs) z → Halfway q j → v ≡ nodePassed q xs (getD ys j 0) a j z → j < length xs
       → j < length ys → Halfway v (j + 1)
   unfolding nodal terms weight
   passing-turn j q v a ea e ev h k =

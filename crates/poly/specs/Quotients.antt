@@ -12,11 +12,11 @@ abbrev pub quotient : Fraction → ℕ
 quotient f = product (f .top) (inverse (f .bottom))
 
 -- Its lower number is an element that has an inverse.
-pub record Proper (f : Fraction) : Type 0 where
+pub record Invertible (f : Fraction) : Type 0 where
   pub some : 0 < f .bottom
   pub element : f .bottom < p
 
 -- What it stands for once the node at j is passed too: q (z - x) + y passed / (the product of x less each other node).
-abbrev pub joined : ℕ → List ℕ → ℕ → ℕ → ℕ → ℕ → ℕ
-joined q xs y passed j z =
+abbrev pub nodePassed : ℕ → List ℕ → ℕ → ℕ → ℕ → ℕ → ℕ
+nodePassed q xs y passed j z =
     sum (product q (difference z (getD xs j 0))) (product (product y passed) (inverse (nodal (others j xs) (getD xs j 0))))

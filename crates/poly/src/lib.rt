@@ -2,13 +2,14 @@
 //
 // Every public function is total: the lists have any length and hold any numbers, one of p or more standing for its remainder.
 ghost use mathlib.Core.Path.{_≡_};
-ghost use Prim.Native.Nat.{_-_, _≤_, _<_};
-ghost use lib.ListN.{length, take, drop, getD};
+ghost use mathlib.Core.Bool.{true};
+ghost use Prim.Native.Nat.{ℕ, _-_, _≤_, _<_};
+ghost use lib.ListN.{length, take, drop};
 ghost use Rattle.poly.specs.Polynomial.{value, powers, weighted};
 ghost use Rattle.field.specs.Modulus.{p};
 ghost use Rattle.field.specs.Arithmetic.{sum, product, inverse};
-ghost use Rattle.poly.specs.Interpolation.{nodal, others, interpolated};
-ghost use Rattle.poly.specs.Quotients.{quotient, Proper, joined};
+ghost use Rattle.poly.specs.Interpolation.{nodal, others, interpolated, following};
+ghost use Rattle.poly.specs.Quotients.{quotient, Invertible, nodePassed};
 
 // The value at x, by Horner's rule.
 pub fn evaluate(coefficients: &[u32], x: u32) -> u32
@@ -116,8 +117,8 @@ struct Fraction {
 
 // The fraction plus above / below; nothing where below is 0, which has no inverse.
 fn plus_quotient(f: Fraction, above: u32, below: u32) -> Fraction
-    requires { ⌜ Proper f × (below < p) ⌝ }
-    ensures { λ r. ⌜ Proper r × (quotient r ≡ sum (quotient f) (product above (inverse below))) ⌝ }
+    requires { ⌜ Invertible f × (below < p) ⌝ }
+    ensures { λ r. ⌜ Invertible r × (quotient r ≡ sum (quotient f) (product above (inverse below))) ⌝ }
 {
     if below == 0 {
         return f;
@@ -131,8 +132,8 @@ fn plus_quotient(f: Fraction, above: u32, below: u32) -> Fraction
 // The fraction with the node at j passed: times z less the node, plus the value there times what was passed before, divided by
 // the product of the node's distances.
 fn plus_node(f: Fraction, nodes: &[u32], value: u32, passed: u32, j: usize, z: u32) -> Fraction
-    requires { ⌜ Proper f × (j < length (now nodes)) ⌝ }
-    ensures { λ r. ⌜ Proper r × (quotient r ≡ joined (quotient f) (now (nodes .entry)) value passed j z) ⌝ }
+    requires { ⌜ Invertible f × (j < length (now nodes)) ⌝ }
+    ensures { λ r. ⌜ Invertible r × (quotient r ≡ nodePassed (quotient f) (now (nodes .entry)) value passed j z) ⌝ }
 {
     let node = nodes[j];
     let moved = Fraction {
@@ -146,8 +147,8 @@ fn plus_node(f: Fraction, nodes: &[u32], value: u32, passed: u32, j: usize, z: u
     )
 }
 
-// The interpolation through the values at the nodes, at the point z.
-pub fn interpolate(nodes: &[u32], values: &[u32], z: u32) -> u32
+// The interpolation through the values at any nodes, at the point z.
+fn interpolate_any(nodes: &[u32], values: &[u32], z: u32) -> u32
     ensures { λ r. ⌜ r ≡ interpolated (now (nodes .entry)) (now (values .entry)) z ⌝ }
 {
     let m = least(nodes.len(), values.len());
@@ -159,4 +160,52 @@ pub fn interpolate(nodes: &[u32], values: &[u32], z: u32) -> u32
     }
     let last = field::mul(f.top, field::inverse(f.bottom));
     field::mul(last, node_product(&nodes[m..], z))
+}
+
+// Whether the nodes are z + 1, z + 2 and so on.
+fn consecutive(nodes: &[u32], z: u32) -> bool
+    ensures { λ r. ⌜ (r ≡ true → now (nodes .entry) ≡ following z (length (now (nodes .entry)))) ⌝ }
+{
+    let mut node = z as u64 + 1;
+    for i in 0..nodes.len() {
+        if nodes[i] as u64 != node {
+            return false;
+        }
+        node += 1;
+    }
+    true
+}
+
+// The interpolation through the values at z + 1, .., z + m, at z, whatever z is. The weight of z + 1 + j is the binomial
+// coefficient of m and j + 1 with the sign of (-1)^j, so no distances are multiplied out.
+fn extrapolate(values: &[u32]) -> u32
+    requires { ⌜ length (now values) < p ⌝ }
+    ensures { λ r. ⌜ ((z : ℕ) → r ≡ interpolated (following z (length (now (values .entry)))) (now (values .entry)) z) ⌝ }
+{
+    let m = values.len();
+    let mut top: u32 = 0;
+    let mut bottom: u32 = 1;
+    let mut j = m;
+    while 0 < j {
+        j -= 1;
+        let minus = field::P - (m - j) as u32;
+        top = field::mul(minus, field::add(field::mul(values[j], bottom), top));
+        bottom = field::mul((j + 1) as u32, bottom);
+    }
+    field::mul(field::sub(0, top), field::inverse(bottom))
+}
+
+// The interpolation through the values at the nodes, at the point z. Nodes that follow z are the usual case.
+pub fn interpolate(nodes: &[u32], values: &[u32], z: u32) -> u32
+    ensures { λ r. ⌜ r ≡ interpolated (now (nodes .entry)) (now (values .entry)) z ⌝ }
+{
+    let m = values.len();
+    if nodes.len() == m {
+        if m < field::P as usize {
+            if consecutive(nodes, z) {
+                return extrapolate(values);
+            }
+        }
+    }
+    interpolate_any(nodes, values, z)
 }

@@ -1,0 +1,129 @@
+-- The products that Lagrange's weights are made of, where the nodes follow the point: factorials.
+use Prim.Native.Nat.{ℕ, zero, suc, _+_, _-_, _%_, _≤_, _<_}
+use mathlib.Core.Path.{_≡_, refl, sym, _∙_, ap, ap₂}
+use mathlib.Core.Logic.{_≢_}
+use mathlib.Core.List.{List, [], _∷_, _++_}
+use native.Mathlib.Nat.{mod-eq-of-lt, mod-mod}
+use native.Mathlib.Numerals.{add-one}
+use native.Mathlib.Omega.{arith}
+use lib.ListN.{length, take, getD}
+use lib.Seq.{take-suc, take-all}
+use Rattle.field.specs.Modulus.{p}
+use Rattle.field.specs.Arithmetic.{sum, difference}
+use Rattle.field.specs.Algebra.{CommutativeRing, Field}
+use Rattle.field.specs.Element.{Element, element}
+use Rattle.field.proofs.Ring.{zero-add}
+use Rattle.field.proofs.Expression.{A, B, 𝟘, _:+_, _:-_, :-_, Same}
+use Rattle.field.proofs.Solver.{solve}
+use Rattle.field.proofs.Fields.{product-nonzero}
+use Rattle.field.proofs.Elements.{𝓡, elements, element-path, element-zero, element-one, element-sum, element-product, element-difference}
+use Rattle.field.proofs.Modular.{difference-below, product-one}
+use Rattle.poly.specs.Interpolation.{nodal, following}
+use Rattle.poly.proofs.Turns.{nodal-join}
+use Rattle.poly.proofs.Fractions.{nonzero}
+open CommutativeRing 𝓡 using (add as _⊕_, mul as _⊗_, neg, zero as 0ᴱ, one as 1ᴱ, mul-comm)
+open Field elements using (one-ne-zero)
+
+infixl 65 _⊕_
+infixl 70 _⊗_
+element-add : (a b : ℕ) → element (a + b) ≡ element a ⊕ element b
+unfolding element sum
+element-add a b = element-path (element (a + b)) (element (sum a b)) (sym (mod-mod (a + b) p)) ∙ element-sum a b
+
+-- 0 - n, and p - n for short
+pub element-negative : (n : ℕ) → element (difference 0 n) ≡ neg (element n)
+element-negative n =
+    element-difference 0 n ∙ ap (λ (u : Element). u ⊕ neg (element n)) element-zero ∙ zero-add 𝓡 (neg (element n))
+
+pub element-opposite : (n : ℕ) → n < p → element (p - n) ≡ neg (element n)
+unfolding element difference
+element-opposite n h =
+    element-path (element (p - n)) (element (difference 0 n))
+    (sym (mod-mod (0 + (p - n % p)) p ∙ ap (λ (k : ℕ). k % p) (let e = mod-eq-of-lt h in omega arith)))
+    ∙ element-negative n
+
+-- z and the number suc k after it, less each other
+after : (z k : ℕ) → element (suc (z + k)) ≡ element z ⊕ element (suc k)
+after z k = ap element (omega arith) ∙ element-add z (suc k)
+
+pub less-after : (z k : ℕ) → element (difference z (suc (z + k))) ≡ neg (element (suc k))
+unfolding Same
+less-after z k =
+    element-difference z (suc (z + k)) ∙ ap (λ (u : Element). element z ⊕ neg u) (after z k)
+    ∙ solve 𝓡 (element z ∷ element (suc k) ∷ []) (A :- (A :+ B)) (:- B) refl
+
+after-less : (z k : ℕ) → element (difference (suc (z + k)) z) ≡ element (suc k)
+unfolding Same
+after-less z k =
+    element-difference (suc (z + k)) z ∙ ap (λ (u : Element). u ⊕ neg (element z)) (after z k)
+    ∙ solve 𝓡 (element z ∷ element (suc k) ∷ []) (A :+ B :- A) B refl
+
+-- f 1 times .. times f k
+unfoldable pub upTo : (ℕ → Element) → ℕ → Element
+upTo f zero = 1ᴱ
+upTo f (suc k) = f (suc k) ⊗ upTo f k
+
+upTo-nonzero : (f : ℕ → Element) (k : ℕ) → ((i : ℕ) → 0 < i → i ≤ k → f i ≢ 0ᴱ) → upTo f k ≢ 0ᴱ
+unfolding upTo
+upTo-nonzero f zero h = one-ne-zero
+upTo-nonzero f (suc k) h =
+    product-nonzero elements (f (suc k)) (upTo f k) (h (suc k) (omega arith) (omega arith))
+    (upTo-nonzero f k (λ i a b. h i a (omega arith)))
+
+-- k!, and the same with the sign of (-1)^k
+abbrev pub factorial : ℕ → Element
+factorial = upTo element
+
+abbrev pub signed : ℕ → Element
+signed = upTo (λ i. neg (element i))
+
+pub factorial-nonzero : (k : ℕ) → k < p → factorial k ≢ 0ᴱ
+factorial-nonzero k h = upTo-nonzero element k (λ i a b. nonzero i a (omega arith))
+
+pub signed-nonzero : (k : ℕ) → k < p → signed k ≢ 0ᴱ
+unfolding Same
+signed-nonzero k h =
+    upTo-nonzero (λ i. neg (element i)) k
+    (λ i a b e. nonzero i a (omega arith)
+    (solve 𝓡 (element i ∷ []) A (:- (:- A)) refl ∙ ap neg e ∙ solve 𝓡 [] (:- 𝟘) 𝟘 refl))
+
+pub following-end : (z k : ℕ) → following z (suc k) ≡ following z k ++ (suc (z + k) ∷ [])
+unfolding following
+following-end z zero = ap (λ (n : ℕ). suc n ∷ []) (omega arith)
+following-end z (suc k) =
+    ap (λ (l : List ℕ). suc z ∷ l)
+    (following-end (suc z) k ∙ ap (λ (n : ℕ). following (suc z) k ++ (suc n ∷ [])) (omega arith))
+
+-- z less each of the k numbers that follow it
+pub nodal-ahead : (z k : ℕ) → element (nodal (following z k) z) ≡ signed k
+unfolding following nodal upTo
+nodal-ahead z zero = element-one
+nodal-ahead z (suc k) =
+    ap (λ (l : List ℕ). element (nodal l z)) (following-end z k)
+    ∙ ap element (sym (nodal-join (following z k) (suc (z + k) ∷ []) z)) ∙ element-product _ _ ∙ mul-comm _ _
+    ∙ ap₂ _⊗_ (ap element (product-one _ (difference-below z (suc (z + k)))) ∙ less-after z k) (nodal-ahead z k)
+
+-- the number after them less each of them
+pub nodal-behind : (z k : ℕ) → element (nodal (following z k) (suc (z + k))) ≡ factorial k
+unfolding following nodal upTo
+nodal-behind z zero = element-one
+nodal-behind z (suc k) =
+    let q : suc (z + suc k) ≡ suc (suc z + k) = omega arith in
+    rw q (element-product _ _ ∙ ap₂ _⊗_ (after-less (suc z) k) (nodal-behind (suc z) k))
+
+-- the turns of `consecutive`: the first i nodes are the i numbers that follow z
+module _ (xs : List ℕ) (z : ℕ) where
+  pub following-start : take 0 xs ≡ following z 0
+  unfolding following
+  following-start = refl
+
+  pub following-turn : (i x : ℕ) → i < length xs → take i xs ≡ following z i → x ≡ z + 1 + i → getD xs i 0 ≡ x
+      → take (i + 1) xs ≡ following z (i + 1)
+  following-turn i x h e ex en =
+      let q : getD xs i 0 ≡ suc (z + i) = omega arith in
+      rw add-one (take-suc xs i 0 h ∙ ap₂ (λ (l : List ℕ) (n : ℕ). l ++ (n ∷ [])) e q ∙ sym (following-end z i))
+
+  pub following-all : (i : ℕ) → i ≤ length xs → length xs ≤ i → take i xs ≡ following z i → xs ≡ following z (length xs)
+  following-all i h k e =
+      let q : i ≡ length xs = omega arith in
+      sym (take-all i xs k) ∙ e ∙ ap (following z) q
