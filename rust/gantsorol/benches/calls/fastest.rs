@@ -147,9 +147,14 @@ fn value(coefficients: &[u32], powers: &[u64; MAX_POSTS]) -> u64 {
 fn interpolated(nodes: u32, shares: &[u64; MAX_POSTS]) -> u64 {
     let first = nodes.trailing_zeros() as usize;
     let last = nodes.ilog2() as usize;
-    let gaps = || (first..last).filter(|index| nodes >> index & 1 == 0);
+    let (mut list, mut count) = ([0; MAX_POSTS], 0);
+    for gap in (first..last).filter(|index| nodes >> index & 1 == 0) {
+        list[count] = gap;
+        count += 1;
+    }
+    let gaps = &list[..count];
     let all = product(TABLE.factorial[last + 1], TABLE.inverse_factorial[first]);
-    let all = gaps().fold(all, |all, gap| product(all, TABLE.inverse[gap + 1]));
+    let all = gaps.iter().fold(all, |all, gap| product(all, TABLE.inverse[gap + 1]));
     let mut sum = 0;
     for (index, &share) in shares.iter().enumerate().take(last + 1).skip(first) {
         if nodes >> index & 1 == 0 {
@@ -158,7 +163,8 @@ fn interpolated(nodes: u32, shares: &[u64; MAX_POSTS]) -> u64 {
         let below = TABLE.inverse_factorial[index - first];
         let above = TABLE.inverse_factorial[last - index];
         let term = product(product(share, TABLE.inverse[index + 1]), product(below, above));
-        let term = gaps().fold(term, |term, gap| product(term, P + gap as u64 - index as u64));
+        let away = |gap: usize| P + gap as u64 - index as u64;
+        let term = gaps.iter().fold(term, |term, &gap| product(term, away(gap)));
         sum += if (index - first).is_multiple_of(2) { term } else { P - term };
     }
     product(all, reduced(sum))
