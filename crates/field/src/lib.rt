@@ -37,6 +37,13 @@ pub fn mul(a: u32, b: u32) -> u32
     (whole_product(a, b) % WIDE_P) as u32
 }
 
+// c plus the product, with one remainder.
+pub fn add_product(c: u32, a: u32, b: u32) -> u32
+    ensures { λ r. ⌜ r ≡ sum c (product a b) ⌝ }
+{
+    ((whole_product(a, b) + c as u64) % WIDE_P) as u32
+}
+
 // The remainder of a number that was added up from halves: `low` and 2^31 times `high`. 2^31 is 1 modulo p.
 pub fn reduce(low: u64, high: u64) -> u32
     requires { ⌜ low + high < 18446744073709551616 ⌝ }

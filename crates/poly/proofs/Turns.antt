@@ -21,12 +21,12 @@ module _ (cs : List ℕ) (x : ℕ) where
   unfolding value
   horner-start = rw (drop-length cs)
 
-  pub horner-turn : (i r m v : ℕ) → 0 < i → i ≤ length cs → r ≡ value (drop i cs) x → m ≡ product x r
-      → v ≡ sum (getD cs (i - 1) 0) m → v ≡ value (drop (i - 1) cs) x
+  pub horner-turn : (i r v : ℕ) → 0 < i → i ≤ length cs → r ≡ value (drop i cs) x → v ≡ sum (getD cs (i - 1) 0) (product x r)
+      → v ≡ value (drop (i - 1) cs) x
   unfolding value
-  horner-turn i r m v h k e f g =
+  horner-turn i r v h k e g =
       let q : i ≡ suc (i - 1) = omega arith in
-      g ∙ ap (sum (getD cs (i - 1) 0)) (f ∙ ap (product x) (e ∙ ap (λ (j : ℕ). value (drop j cs) x) q))
+      g ∙ ap (λ (y : ℕ). sum (getD cs (i - 1) 0) (product x y)) (e ∙ ap (λ (j : ℕ). value (drop j cs) x) q)
       ∙ sym (ap (λ (l : List ℕ). value l x) (drop-cons cs (i - 1) 0 (omega arith)))
 
   pub horner-end : (i r : ℕ) → i ≤ 0 → r ≡ value (drop i cs) x → r ≡ value cs x

@@ -19,7 +19,7 @@ pub fn evaluate(coefficients: &[u32], x: u32) -> u32
     let mut i = coefficients.len();
     while 0 < i {
         i -= 1;
-        r = field::add(coefficients[i], field::mul(x, r));
+        r = field::add_product(coefficients[i], x, r);
     }
     r
 }
@@ -189,7 +189,7 @@ fn extrapolate(values: &[u32]) -> u32
     while 0 < j {
         j -= 1;
         let minus = field::P - (m - j) as u32;
-        top = field::mul(minus, field::add(field::mul(values[j], bottom), top));
+        top = field::mul(minus, field::add_product(top, values[j], bottom));
         bottom = field::mul((j + 1) as u32, bottom);
     }
     field::mul(field::sub(0, top), field::inverse(bottom))

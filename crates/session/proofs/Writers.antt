@@ -41,13 +41,13 @@ module _ (f : ℕ → ℕ) (l m : List ℕ) (i : ℕ) where
   mapped-end h inv = let e = length-map l f in filled-end (map f l) l m i (omega arith) e inv
 
 module _ (s : ℕ) (xs ys before m : List ℕ) (i : ℕ) where
-  pub combined-more : (q v : ℕ) → i < length before → length xs ≡ length before → length ys ≡ length before
-      → m ≡ take i (combined s xs ys) ++ drop i before → q ≡ product s (getD ys i 0) → v ≡ sum (getD xs i 0) q
+  pub combined-more : (v : ℕ) → i < length before → length xs ≡ length before → length ys ≡ length before
+      → m ≡ take i (combined s xs ys) ++ drop i before → v ≡ sum (getD xs i 0) (product s (getD ys i 0))
       → set m i v ≡ take (i + 1) (combined s xs ys) ++ drop (i + 1) before
-  combined-more q v h ex ey inv eq ev =
+  combined-more v h ex ey inv ev =
       let e : length (combined s xs ys) ≡ length xs = length-combined s xs ys (ex ∙ sym ey) in
       filled-more (combined s xs ys) before m i v (omega arith) (e ∙ ex) inv
-      (ev ∙ ap (sum (getD xs i 0)) eq ∙ sym (getD-combined s xs ys i (omega arith) (ex ∙ sym ey)))
+      (ev ∙ sym (getD-combined s xs ys i (omega arith) (ex ∙ sym ey)))
 
   pub combined-end : length before ≤ i → length xs ≡ length before → length ys ≡ length before
       → m ≡ take i (combined s xs ys) ++ drop i before → m ≡ combined s xs ys

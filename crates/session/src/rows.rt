@@ -36,7 +36,7 @@ pub fn combine(scale: u32, x: &[u32], y: &[u32], out: &mut [u32])
     ensures { λ r. ⌜ now (out .exit) ≡ combined scale (now (x .entry)) (now (y .entry)) ⌝ }
 {
     for i in 0..out.len() {
-        out[i] = field::add(x[i], field::mul(scale, y[i]));
+        out[i] = field::add_product(x[i], scale, y[i]);
     }
 }
 

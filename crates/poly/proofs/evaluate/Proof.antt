@@ -24,4 +24,4 @@ pub evaluate-spec : {M : Type 1} → statement M
 evaluate-spec =
     tie.close
     (tie.spec Inv-loop μ-loop (λ c. search (needs, horner-start)) (λ c. search needs) (λ c. search needs) (λ c. search needs)
-    (λ c κs. search needs) (λ c κs. search needs) (λ c. search needs) loop-again returns)
+    (λ c κs. search needs) (λ c. search needs) loop-again returns)
