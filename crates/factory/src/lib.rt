@@ -48,6 +48,6 @@ pub fn dealer_number(u: u32, constant: u32) -> Number
     }
     Number {
         refusal: 0,
-        value: field::sub(u, constant),
+        value: field::add(u, field::P - constant),
     }
 }
