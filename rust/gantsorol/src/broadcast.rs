@@ -14,6 +14,7 @@ pub struct Written {
 
 impl Written {
     /// The line's length, or the refusal.
+    #[inline]
     pub fn accepted(self) -> Result<usize, Refusal> {
         Refusal::check(self.refusal)?;
         Ok(self.len)
@@ -36,6 +37,7 @@ pub struct Line {
 
 impl Line {
     /// The line, or the refusal.
+    #[inline]
     pub fn accepted(self) -> Result<Self, Refusal> {
         Refusal::check(self.refusal)?;
         Ok(self)
@@ -43,6 +45,7 @@ impl Line {
 }
 
 /// Writes `D,row,c` at the start of `out`; the rest stays as it is. Refusals 1, 2, 6, 8 and 12.
+#[inline]
 pub fn write_deal(n: usize, t: usize, row: usize, c: u32, out: &mut [u8]) -> Written {
     // SAFETY: the list is a borrowed slice's pointer and length.
     unsafe { sys::gantsorol_write_deal(n, t, row, c, out.as_mut_ptr(), out.len()) }
@@ -50,6 +53,7 @@ pub fn write_deal(n: usize, t: usize, row: usize, c: u32, out: &mut [u8]) -> Wri
 
 /// Writes `O,row,post,` and t+1 coefficients at the start of `out`; the rest stays as it is.
 /// Refusals 1, 2, 3, 5, 6, 8 and 12.
+#[inline]
 pub fn write_opening(
     n: usize,
     t: usize,
@@ -75,6 +79,7 @@ pub fn write_opening(
 
 /// Writes `M,row,post,` and 2(t+1) coefficients at the start of `out`, where `row` is a triple's
 /// first; the rest stays as it is. Refusals 1, 2, 3, 5, 6, 8 and 12.
+#[inline]
 pub fn write_masks(
     n: usize,
     t: usize,
@@ -100,6 +105,7 @@ pub fn write_masks(
 
 /// Reads a line, its line feed included, and fills `out`, 2(t+1) numbers, with its elements and
 /// then with zeros. Refusals 1, 2, 5, 10 and 11.
+#[inline]
 pub fn read(n: usize, t: usize, line: &[u8], out: &mut [u32]) -> Line {
     // SAFETY: each list is a borrowed slice's pointer and length, and `out` overlaps no other.
     unsafe { sys::gantsorol_read(n, t, line.as_ptr(), line.len(), out.as_mut_ptr(), out.len()) }

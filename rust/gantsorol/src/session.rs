@@ -42,6 +42,7 @@ impl Answer {
     /// The session and the number opened, or the refusal.
     ///
     /// A refused call's session is dropped here; the field [`Answer::session`] still has it.
+    #[inline]
     pub fn accepted(self) -> Result<(Session, u32), Refusal> {
         Refusal::check(self.refusal)?;
         Ok((self.session, self.value))
@@ -51,6 +52,7 @@ impl Answer {
 impl Session {
     /// A new session, all rows empty; a refused one has 0 in every field. Refusals 1 to 4.
     #[allow(clippy::new_ret_no_self)]
+    #[inline]
     pub fn new(n: usize, t: usize, post: usize, point: u32) -> Answer {
         // SAFETY: the function takes any values.
         unsafe { sys::gantsorol_new(n, t, post, point) }
@@ -58,6 +60,7 @@ impl Session {
 
     /// Loads the post's part of a drawn row, [`row_len`](crate::row_len) numbers, into an empty
     /// row, which becomes raw. Refusals 1 to 8.
+    #[inline]
     pub fn load_row(self, rows: &mut [u32], row: usize, pack: &[u32]) -> Answer {
         // SAFETY: each list is a borrowed slice's pointer and length, and `rows` overlaps no other.
         unsafe {
@@ -74,6 +77,7 @@ impl Session {
 
     /// Loads the post's part of a drawn triple, three rows' numbers, into the empty rows `first`,
     /// `first` + 1 and `first` + 2. Refusals 1 to 8.
+    #[inline]
     pub fn load_triple(self, rows: &mut [u32], first: usize, pack: &[u32]) -> Answer {
         // SAFETY: each list is a borrowed slice's pointer and length, and `rows` overlaps no other.
         unsafe {
@@ -90,12 +94,14 @@ impl Session {
 
     /// Adds the dealer's number c to the public sums of a raw row, which becomes held.
     /// Refusals 1 to 8.
+    #[inline]
     pub fn deal(self, rows: &mut [u32], row: usize, c: u32) -> Answer {
         // SAFETY: the list is a borrowed slice's pointer and length.
         unsafe { sys::gantsorol_deal(self, rows.as_mut_ptr(), rows.len(), row, c) }
     }
 
     /// Writes the t+1 coefficients of a held row into `out`. Refusals 1 to 8.
+    #[inline]
     pub fn opening_message(self, rows: &[u32], row: usize, out: &mut [u32]) -> Answer {
         // SAFETY: each list is a borrowed slice's pointer and length, and `out` overlaps no other.
         unsafe {
@@ -112,6 +118,7 @@ impl Session {
 
     /// Opens a held row with a record: for each post a mark, 0 absent or 1 present, and t+1
     /// coefficients. The number opened is the answer's value. Refusals 1 to 9.
+    #[inline]
     pub fn open(self, rows: &[u32], row: usize, record: &[u32]) -> Answer {
         // SAFETY: each list is a borrowed slice's pointer and length; neither is written.
         unsafe {
@@ -121,6 +128,7 @@ impl Session {
 
     /// Writes row a plus `scale` times row b, both held, into the empty row `dest`, which becomes
     /// held. Refusals 1 to 8.
+    #[inline]
     pub fn linear(self, rows: &mut [u32], dest: usize, a: usize, b: usize, scale: u32) -> Answer {
         // SAFETY: the list is a borrowed slice's pointer and length.
         unsafe { sys::gantsorol_linear(self, rows.as_mut_ptr(), rows.len(), dest, a, b, scale) }
@@ -130,6 +138,7 @@ impl Session {
     /// `first`, writes the masks into `out`, [`masks_len`](crate::masks_len) numbers: the
     /// coefficients of a − l, then of b − l'. The triple serves no other product.
     /// Refusals 1 to 8.
+    #[inline]
     pub fn masks(self, rows: &[u32], a: usize, b: usize, first: usize, out: &mut [u32]) -> Answer {
         // SAFETY: each list is a borrowed slice's pointer and length, and `out` overlaps no other.
         unsafe {
@@ -149,6 +158,7 @@ impl Session {
     /// The second half: opens a − l with the record `left` and b − l' with `right`, each like
     /// [`open`](Self::open), and writes the product into row `first` + 2, which becomes held. A
     /// refused finish may be called again. Refusals 1 to 9.
+    #[inline]
     pub fn finish(self, rows: &mut [u32], first: usize, left: &[u32], right: &[u32]) -> Answer {
         // SAFETY: each list is a borrowed slice's pointer and length, and `rows` overlaps no other.
         unsafe {

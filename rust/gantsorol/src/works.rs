@@ -14,6 +14,7 @@ pub struct Number {
 
 impl Number {
     /// The number, or the refusal.
+    #[inline]
     pub fn accepted(self) -> Result<u32, Refusal> {
         Refusal::check(self.refusal)?;
         Ok(self.value)
@@ -24,6 +25,7 @@ impl Number {
 ///
 /// `points` are the n check points, `draw` has [`row_draw_len`](crate::row_draw_len) numbers, `out`
 /// n rows. Refusals 1, 2, 4, 5 and 8.
+#[inline]
 pub fn factory_row(
     n: usize,
     t: usize,
@@ -50,6 +52,7 @@ pub fn factory_row(
 ///
 /// `points` are the n check points, `draw` has [`triple_draw_len`](crate::triple_draw_len) numbers,
 /// `out` 3n rows. Refusals 1, 2, 4, 5 and 8.
+#[inline]
 pub fn factory_triple(
     n: usize,
     t: usize,
@@ -73,6 +76,7 @@ pub fn factory_triple(
 }
 
 /// The number c = u − f(0) that the dealer of u broadcasts, where `constant` is f(0). Refusal 8.
+#[inline]
 pub fn dealer_number(u: u32, constant: u32) -> Number {
     // SAFETY: the function takes any values.
     unsafe { sys::gantsorol_dealer_number(u, constant) }

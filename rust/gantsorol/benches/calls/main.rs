@@ -20,6 +20,9 @@ use reference::{Library, Session, REFERENCE};
 
 const ROUNDS: usize = 101;
 
+/// A measurement starts below fewer frames than these, which fill a page.
+const FRAMES: usize = 64;
+
 /// So long is one measurement, about.
 const PART: Duration = Duration::from_millis(1);
 
@@ -191,7 +194,12 @@ fn other_calls(i: &Inputs) -> Vec<Contest<'_>> {
                 move || gantsorol::dealer_number(black_box(i.numbers[0]), i.numbers[1]),
                 |a| a.refusal,
             ),
-            repeated(|| REFERENCE.dealer_number(black_box(i.numbers[0]), i.numbers[1]), |a| a.0),
+            {
+                // Called as ours is: inlined, so short a function is nearly gone.
+                let second: fn(u32, u32) -> (u8, u32) = |u, f| REFERENCE.dealer_number(u, f);
+                let second = black_box(second);
+                repeated(move || second(black_box(i.numbers[0]), i.numbers[1]), |a| a.0)
+            },
         ),
         contest(
             "write D",
@@ -229,6 +237,16 @@ fn time(run: &mut Run, times: u32) -> f64 {
     let start = Instant::now();
     run(times);
     start.elapsed().as_secs_f64() / f64::from(times)
+}
+
+/// The time, so many frames further down the stack: where the stack stands to the lists makes a
+/// short call up to half as slow again, and without this a run would measure its own luck.
+#[inline(never)]
+fn time_below(frames: usize, run: &mut Run, times: u32) -> f64 {
+    let room = black_box([0_u8; 48]);
+    let taken = if frames == 0 { time(run, times) } else { time_below(frames - 1, run, times) };
+    black_box(room);
+    taken
 }
 
 /// How many calls fill a part.
@@ -270,7 +288,8 @@ impl<'a> Held<'a> {
     fn round(&mut self, rng: &mut Rng) {
         for part in shuffled(rng, self.taken.len()) {
             let run = part % self.counts.len();
-            self.taken[part].push(time(&mut self.contest.runs[run], self.counts[run]));
+            let (frames, times) = (rng.below(FRAMES), self.counts[run]);
+            self.taken[part].push(time_below(frames, &mut self.contest.runs[run], times));
         }
     }
 
