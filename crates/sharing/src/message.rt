@@ -37,19 +37,17 @@ pub fn opening_message(session: Session, rows: &[u32], row: usize, out: &mut [u3
     ensures { λ r. ⌜ r ≡ messageAnswer session (now (rows .entry)) row (now (out .entry)) ⌝ }
     ensures { λ r. ⌜ now (out .exit) ≡ messageOut session (now (rows .entry)) row (now (out .entry)) ⌝ }
 {
-    let marks = session::checks::unlike(&session.marks, row, 2);
-    let refusal = message_refusal(session, rows, row, out, marks);
-    if refusal != 0 {
-        return Answer {
-            refusal,
-            value: 0,
-            session,
-        };
-    }
-    message_accepted(session, rows, row, out);
-    Answer {
+    let mut answer = Answer {
         refusal: 0,
         value: 0,
         session,
+    };
+    let marks = session::checks::unlike(&answer.session.marks, row, 2);
+    let refusal = message_refusal(session, rows, row, out, marks);
+    if refusal != 0 {
+        answer.refusal = refusal;
+        return answer;
     }
+    message_accepted(session, rows, row, out);
+    answer
 }
