@@ -18,7 +18,7 @@ use Rattle.vectors.specs.Vector.{Vector, numbers}
 use Rattle.vectors.specs.Claims.{heldRow, Truly}
 use Rattle.vectors.proofs.Linear.{length-numbers}
 use Rattle.runs.specs.Draws.{Plan, Draw, IsDraw, Sound}
-use Rattle.runs.specs.Calls.{Post, Call, loadRow, loadTriple, deal, message, opening, linear, masks, finish}
+use Rattle.runs.specs.Calls.{Post, Call, loadRow, loadTriple, deal, message, opening, linear, masks, finish, ToldHalf}
 use Rattle.runs.proofs.Marks.{Marks, leftOf, rightOf, sessionAt, less, vectorA, maskA, maskB}
 use Rattle.runs.proofs.Outcomes.{refusalOf}
 use Rattle.runs.proofs.Holds.{Holds}
@@ -29,7 +29,7 @@ use Rattle.runs.proofs.Steps.{postAt, named, Fits}
 use Rattle.runs.proofs.Facts.{Multiplying, Triple}
 use Rattle.runs.proofs.Allowed.{allowed}
 use Rattle.correctness.specs.Ledger.{Ledger}
-use Rattle.correctness.specs.Truth.{OwnPart, ToldHalf, TrueOf, TrueFinish}
+use Rattle.correctness.specs.Truth.{OwnPart, TrueOf, TrueFinish}
 use Rattle.correctness.proofs.Standing.{Known, Good}
 use Rattle.correctness.proofs.Said.{Said, told-masks, halves}
 

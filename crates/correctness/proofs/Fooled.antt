@@ -12,11 +12,11 @@ use Rattle.opening.specs.Walking.{opened}
 use Rattle.opening.specs.Opening.{openAnswer}
 use Rattle.product.specs.Finish.{maskA}
 use Rattle.runs.specs.Draws.{Draw, IsDraw, Sound}
-use Rattle.runs.specs.Calls.{message, masks, finish}
+use Rattle.runs.specs.Calls.{message, masks, finish, Told}
 use Rattle.runs.proofs.Lines.{elements-of}
 use Rattle.correctness.specs.History.{Event, World, history, begin, Each}
 use Rattle.correctness.specs.Ledger.{Written, Plain}
-use Rattle.correctness.specs.Truth.{OwnPart, Told, TrueFinish}
+use Rattle.correctness.specs.Truth.{OwnPart, TrueFinish}
 use Rattle.correctness.specs.Claim.{Opens, Right}
 use Rattle.correctness.proofs.Meanings.{one-number}
 use Rattle.correctness.proofs.Computing.{Computes, plan, sound, drawWith, is-draw, ledger, plain-42, call, load, loadThree, dealOf, room, rooms, refusals, all-join, each-join, within, posts-in, each-of, each-map, each-quiet}

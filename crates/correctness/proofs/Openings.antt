@@ -21,7 +21,7 @@ use Rattle.vectors.specs.Vector.{Vector, numbers}
 use Rattle.vectors.specs.Claims.{heldRow, Truly}
 use Rattle.vectors.proofs.Theorems.{true-accepted, opening-exact}
 use Rattle.runs.specs.Draws.{Plan, Draw, IsDraw, Sound}
-use Rattle.runs.specs.Calls.{Proper, Post}
+use Rattle.runs.specs.Calls.{Proper, Post, ToldHalf}
 use Rattle.runs.proofs.Marks.{Marks, markOf, leftOf, rightOf, Sized, sessionAt, maskA, maskB}
 use Rattle.runs.proofs.Packs.{rowFor}
 use Rattle.runs.proofs.Holds.{Holds, combined-row}
@@ -30,7 +30,6 @@ use Rattle.runs.proofs.Steps.{postAt}
 use Rattle.runs.proofs.Facts.{Multiplying}
 use Rattle.runs.proofs.Rows.{marked-low}
 use Rattle.correctness.specs.Ledger.{Ledger, Plain}
-use Rattle.correctness.specs.Truth.{ToldHalf}
 use Rattle.correctness.specs.Claim.{Opens, Right}
 use Rattle.correctness.proofs.Meanings.{Is, plain}
 use Rattle.correctness.proofs.Standing.{Known}

@@ -15,13 +15,13 @@ use Rattle.session.specs.Sessions.{mark}
 use Rattle.session.specs.Rows.{width, coefficients, rowAt}
 use Rattle.vectors.specs.Vector.{Vector, numbers}
 use Rattle.runs.specs.Draws.{Plan, Draw, pointOf}
-use Rattle.runs.specs.Calls.{Post, opening, perform, after, openingLine, Among, at}
+use Rattle.runs.specs.Calls.{Post, opening, perform, after, openingLine, Among, Told, ToldHalf, at}
 use Rattle.runs.proofs.Marks.{at-same, at-other}
 use Rattle.runs.proofs.Steps.{own-numbers, named}
 use Rattle.runs.proofs.Rows.{marked-low}
 use Rattle.correctness.specs.History.{Event, World, doneBy, turn, history, begin, Each, callsOf, afterCalls, OwnList}
 use Rattle.correctness.specs.Ledger.{Ledger}
-use Rattle.correctness.specs.Truth.{Told, Owned, ToldHalf}
+use Rattle.correctness.specs.Truth.{Owned}
 use Rattle.correctness.specs.Claim.{Premises, Right, Correct, CorrectHeld, CorrectEver, OpeningsAnswered}
 use Rattle.correctness.proofs.Meanings.{Is, one}
 use Rattle.correctness.proofs.Standing.{Good}

@@ -18,10 +18,10 @@ use Rattle.product.specs.Finish.{maskA, maskB, finishAnswer}
 use Rattle.vectors.specs.Vector.{Vector, numbers}
 use Rattle.vectors.specs.Claims.{heldRow}
 use Rattle.runs.specs.Draws.{Plan, Draw, IsDraw, Sound}
-use Rattle.runs.specs.Calls.{Post, opening, Proper}
+use Rattle.runs.specs.Calls.{Post, opening, Proper, Told, ToldHalf}
 use Rattle.correctness.specs.History.{Event, World, doneBy, history, begin, Each}
 use Rattle.correctness.specs.Ledger.{Ledger, Written, Plain}
-use Rattle.correctness.specs.Truth.{OwnPart, Told, Owned, ToldHalf, TrueOf, TrueFinish}
+use Rattle.correctness.specs.Truth.{OwnPart, Owned, TrueOf, TrueFinish}
 
 -- The premises: posts 1 to n; sessions of one draw; the same deals, sums and masks; true polynomials in every post's finishes.
 pub record Premises (plan : Plan) (draw : Draw) (L : Ledger) (es : List Event) (w : World) : Type 0 where

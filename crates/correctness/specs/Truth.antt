@@ -1,18 +1,18 @@
 -- A polynomial that is "truly its sender's": what the sender's own call made, earlier in the order.
-use Prim.Native.Nat.{ℕ, _+_, _*_}
+use Prim.Native.Nat.{ℕ, _+_}
 use mathlib.Core.Path.{_≡_}
 use mathlib.Core.Bool.{true}
 use mathlib.Core.Logic.{_≢_}
 use mathlib.Core.List.{List}
-use lib.ListN.{length, take, drop}
-use Rattle.poly.specs.Counting.{All, Elements}
+use lib.ListN.{take, drop}
+use Rattle.poly.specs.Counting.{All}
 use Rattle.session.specs.declared.Session.{Session}
 use Rattle.session.specs.Sessions.{mark}
 use Rattle.session.specs.Rows.{width, coefficients, rowAt}
 use Rattle.opening.specs.Walking.{sent, acceptedPosts}
 use Rattle.product.specs.Finish.{maskA, maskB}
 use Rattle.runs.specs.Draws.{Plan, Draw, IsRaw, rawPack, triplePack}
-use Rattle.runs.specs.Calls.{Post, Call, loadRow, loadTriple, deal, message, opening, linear, masks, finish, openingLine, masksLine, Among}
+use Rattle.runs.specs.Calls.{Post, Call, loadRow, loadTriple, deal, message, opening, linear, masks, finish, ToldHalf}
 use Rattle.correctness.specs.History.{World}
 
 -- "sessions of one draw": what a post loads is its own part of what was drawn for those rows.
@@ -26,20 +26,11 @@ OwnPart plan draw i (linear r a b s) = Unit {0}
 OwnPart plan draw i (masks a b r lent) = Unit {0}
 OwnPart plan draw i (finish r blocks blocks') = Unit {0}
 
--- xs is j's opening message of row r.
-abbrev pub Told : List (List ℕ) → ℕ → ℕ → List ℕ → Type 0
-Told lines r j xs = Among (openingLine r j xs) lines
-
--- Or, whether it was sent or not, what j holds now of row r.
+-- What j holds now of row r, whether it was sent or not; what it sent is `Told`.
 abbrev pub Owned : World → ℕ → ℕ → List ℕ → Type 0
 Owned w r j xs =
     let s = w .posts j .session in
     (mark s r ≡ 2) × (xs ≡ coefficients s (rowAt (width s) (w .posts j .rows) r))
-
--- xs is a half of j's masks of the triple at r: of a − l the first t+1 numbers, of b − l' the others.
-abbrev pub ToldHalf : ℕ → (List ℕ → List ℕ) → ℕ → List (List ℕ) → ℕ → List ℕ → Type 0
-ToldHalf t half r lines j xs =
-    (both : List ℕ) × (length both ≡ 2 * (t + 1)) × Elements both × Among (masksLine r j both) lines × (xs ≡ half both)
 
 -- Of each post that is accepted, but the own one, the polynomial that counted is its: P j xs says that xs is j's.
 abbrev pub TrueOf : (ℕ → List ℕ → Type 0) → Session → List ℕ → List ℕ → Type 0

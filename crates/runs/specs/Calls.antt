@@ -1,12 +1,13 @@
 -- Document 01, "Calls on a session", as steps of a run: each call by the definitions that its contract cites, and what it
 -- broadcasts.
-use Prim.Native.Nat.{ℕ, zero, suc}
+use Prim.Native.Nat.{ℕ, zero, suc, _+_, _*_}
 use mathlib.Core.Path.{_≡_}
 use mathlib.Core.Logic.{_⊎_}
 use mathlib.Core.Bool.{false, cond}
 use mathlib.Core.List.{List, [], _∷_}
 use lib.Dec.{eqb}
 use lib.ListN.{length}
+use Rattle.poly.specs.Counting.{Elements}
 use Rattle.session.specs.declared.Session.{Session}
 use Rattle.session.specs.declared.Answer.{Answer}
 use Rattle.session.specs.Sessions.{created}
@@ -99,6 +100,16 @@ pub record Proper (s : Session) (blocks : List ℕ) : Type 0 where
 abbrev pub Among : {A : Type 0} → A → List A → Type 0
 Among x [] = ⊥
 Among x (y ∷ ys) = (x ≡ y) ⊎ Among x ys
+
+-- "to put in records only what its sender broadcast for that row": xs is the opening message of row r that post j broadcast.
+abbrev pub Told : List (List ℕ) → ℕ → ℕ → List ℕ → Type 0
+Told lines r j xs = Among (openingLine r j xs) lines
+
+-- "or for that factor of that triple": xs is a half of the masks of the triple at r that post j broadcast, of a − l the first t+1
+-- numbers, of b − l' the others.
+abbrev pub ToldHalf : ℕ → (List ℕ → List ℕ) → ℕ → List (List ℕ) → ℕ → List ℕ → Type 0
+ToldHalf t half r lines j xs =
+    (both : List ℕ) × (length both ≡ 2 * (t + 1)) × Elements both × Among (masksLine r j both) lines × (xs ≡ half both)
 
 -- A function changed at one place.
 unfoldable pub at : {A : Type 0} → (ℕ → A) → ℕ → A → ℕ → A

@@ -31,11 +31,11 @@ use Rattle.product.specs.Finish.{finishRefusal, productRow, withProduct}
 use Rattle.decimal.specs.Numeral.{lastDigits, sizeWithin}
 use Rattle.fields.specs.Fields.{fields}
 use Rattle.runs.specs.Draws.{Raw, none, by, IsRaw, Sound, IsDraw, rawLength, tripleLength, pointOf, rawDraw, tripleDraw, rawPack, triplePack}
-use Rattle.runs.specs.Calls.{Among, masksLine, at, perform, newPost}
+use Rattle.runs.specs.Calls.{Among, Told, ToldHalf, masksLine, at, perform, newPost}
 use Rattle.runs.proofs.Lines.{elements-of}
 use Rattle.secrecy.specs.Steps.{dealtNumber}
 use Rattle.secrecy.specs.Seen.{Seen, member, posts, allRows, joined, entryOf, run, polynomialSeen, dealSeen, rawSeen, tripleSeen, seen}
-use Rattle.secrecy.specs.Rules.{SameAnswers, OnlySent, ShownFor, ShownHalf, Rules}
+use Rattle.secrecy.specs.Rules.{SameAnswers, OnlySent, Rules}
 use Rattle.secrecy.specs.Book.{blank, Agree}
 use Rattle.secrecy.specs.Claim.{Shows, Premises}
 use Rattle.secrecy.specs.Count as Count
@@ -144,37 +144,37 @@ module _ (Shown : ℕ → List ℕ → Type 0) (blocks : List ℕ) where
 
 -- one half of an M line, by its four numbers and its place
 half : (side : List ℕ → List ℕ) (j : ℕ) (both xs : List ℕ) → length both ≡ 4 → anyBeyond both ≡ false
-    → Among (masksLine 3 j both) masksLines → xs ≡ side both → ShownHalf plan 3 side masksLines j xs
+    → Among (masksLine 3 j both) masksLines → xs ≡ side both → ToldHalf (plan .t) side 3 masksLines j xs
 unfolding plan
 half side j both xs many fine m e = (both, many, elements-of both fine, m, e)
 
-firsts : OnlySent plan (ShownHalf plan 3 (take 2) masksLines) (λ i. masksA i masksLines)
+firsts : OnlySent plan (ToldHalf (plan .t) (take 2) 3 masksLines) (λ i. masksA i masksLines)
 unfolding masksA anyBeyond
 firsts =
-    only-sent (ShownHalf plan 3 (take 2) masksLines) (masksA 0 [])
+    only-sent (ToldHalf (plan .t) (take 2) 3 masksLines) (masksA 0 [])
     (λ e. half (take 2) 1 masks1 (2147483643 ∷ 1 ∷ []) refl refl (inl refl) refl)
     (λ e. half (take 2) 2 masks2 (0 ∷ 2147483646 ∷ []) refl refl (inr (inl refl)) refl)
     (λ e. half (take 2) 3 masks3 (4 ∷ 2147483646 ∷ []) refl refl (inr (inr (inl refl))) refl)
 
-seconds : OnlySent plan (ShownHalf plan 3 (drop 2) masksLines) (λ i. masksB i masksLines)
+seconds : OnlySent plan (ToldHalf (plan .t) (drop 2) 3 masksLines) (λ i. masksB i masksLines)
 unfolding masksB anyBeyond
 seconds =
-    only-sent (ShownHalf plan 3 (drop 2) masksLines) (masksB 0 [])
+    only-sent (ToldHalf (plan .t) (drop 2) 3 masksLines) (masksB 0 [])
     (λ e. half (drop 2) 1 masks1 (1 ∷ 0 ∷ []) refl refl (inl refl) refl)
     (λ e. half (drop 2) 2 masks2 (2147483642 ∷ 2147483645 ∷ []) refl refl (inr (inl refl)) refl)
     (λ e. half (drop 2) 3 masks3 (2 ∷ 0 ∷ []) refl refl (inr (inr (inl refl))) refl)
 
-nobody : OnlySent plan (ShownFor 5 masksLines) (λ i. nothing i masksLines)
+nobody : OnlySent plan (Told masksLines 5) (λ i. nothing i masksLines)
 unfolding nothing
-nobody = only-sent (ShownFor 5 masksLines) (nothing 0 []) no no no
+nobody = only-sent (Told masksLines 5) (nothing 0 []) no no no
   where
     no : {Q : Type 0} → _≡_ {A = ℕ} 0 1 → Q
     no e = absurd (omega (arith, e))
 
-all-products : OnlySent plan (ShownFor 5 (masksLines ++ productLines)) (λ i. products i (masksLines ++ productLines))
+all-products : OnlySent plan (Told (masksLines ++ productLines) 5) (λ i. products i (masksLines ++ productLines))
 unfolding products
 all-products =
-    only-sent (ShownFor 5 (masksLines ++ productLines)) (products 0 [])
+    only-sent (Told (masksLines ++ productLines) 5) (products 0 [])
     (λ e. inr (inr (inr (inl refl))))
     (λ e. inr (inr (inr (inr (inl refl)))))
     (λ e. inr (inr (inr (inr (inr (inl refl))))))
@@ -182,10 +182,10 @@ all-products =
 abbrev all-lines : List (List ℕ)
 all-lines = (masksLines ++ productLines) ++ sumLines
 
-all-sums : OnlySent plan (ShownFor 6 all-lines) (λ i. sums i all-lines)
+all-sums : OnlySent plan (Told all-lines 6) (λ i. sums i all-lines)
 unfolding sums
 all-sums =
-    only-sent (ShownFor 6 all-lines) (sums 0 [])
+    only-sent (Told all-lines 6) (sums 0 [])
     (λ e. inr (inr (inr (inr (inr (inr (inl refl)))))))
     (λ e. inr (inr (inr (inr (inr (inr (inr (inl refl))))))))
     (λ e. inr (inr (inr (inr (inr (inr (inr (inr (inl refl)))))))))

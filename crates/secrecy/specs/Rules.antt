@@ -1,15 +1,15 @@
 -- Document 01, "What a group of posts sees": "To keep the rules", and that all posts get the same answers. Both are properties
 -- of a record, whatever the draw.
-use Prim.Native.Nat.{ℕ, _+_, _*_, _≤_}
+use Prim.Native.Nat.{ℕ, _+_, _≤_}
 use mathlib.Core.Path.{_≡_}
 use mathlib.Core.Bool.{true}
 use mathlib.Core.Logic.{_≢_, _⊎_}
 use mathlib.Core.List.{List, [], _∷_, _++_}
-use lib.ListN.{length, take, drop, getD}
-use Rattle.poly.specs.Counting.{All, Elements}
+use lib.ListN.{take, drop, getD}
+use Rattle.poly.specs.Counting.{All}
 use Rattle.opening.specs.Walking.{blockMark, blockCoefficients}
 use Rattle.runs.specs.Draws.{Plan, IsRaw}
-use Rattle.runs.specs.Calls.{openingLine, masksLine, Among}
+use Rattle.runs.specs.Calls.{Told, ToldHalf}
 use Rattle.secrecy.specs.Steps.{Pack, Number, Step, own, sent, loadRow, loadTriple, deal, message, opening, linear, masks, finish}
 use Rattle.secrecy.specs.Seen.{Entry}
 
@@ -31,7 +31,8 @@ abbrev pub OwnPack : Pack → ℕ → Type 0 → Type 0
 OwnPack (own k) r Drawn = (k ≡ r) × Drawn
 OwnPack (Pack.fixed xs) r Drawn = ⊥
 
--- "to deal a row with the c its dealer broadcast"
+-- "to deal a row with the c its dealer broadcast": asked of deals that are not refused. "a row never drawn raw takes any fixed c":
+-- by the rule for loads such a row never becomes raw, so its deal is refused, and nothing is asked of its c.
 abbrev pub FromDealer : Number → Type 0
 FromDealer sent = Unit {0}
 FromDealer (Number.fixed x) = ⊥
@@ -43,15 +44,6 @@ OnlySent plan Shown blocks =
     (i j : ℕ) → 1 ≤ i → i ≤ plan .n → 1 ≤ j → j ≤ plan .n → j ≢ i → blockMark (plan .t + 1) (blocks i) j ≡ 1
     → Shown j (blockCoefficients (plan .t + 1) (blocks i) j)
 
--- Post j broadcast xs for row r.
-abbrev pub ShownFor : ℕ → List (List ℕ) → ℕ → List ℕ → Type 0
-ShownFor r lines j xs = Among (openingLine r j xs) lines
-
--- "or for that factor of that triple": xs is one half of an M line of post j, which has 2(t+1) elements.
-abbrev pub ShownHalf : Plan → ℕ → (List ℕ → List ℕ) → List (List ℕ) → ℕ → List ℕ → Type 0
-ShownHalf plan r half lines j xs =
-    (both : List ℕ) × (length both ≡ 2 * (plan .t + 1)) × Elements both × Among (masksLine r j both) lines × (xs ≡ half both)
-
 -- An opening that comes to the walk: not refused, or refused with 9.
 abbrev pub Walks : ℕ → Type 0
 Walks k = (k ≡ 0) ⊎ (k ≡ 9)
@@ -62,13 +54,13 @@ Rule plan (loadRow r pack) k lines = k ≡ 0 → OwnPack pack r (IsRaw (plan .ra
 Rule plan (loadTriple r pack) k lines = k ≡ 0 → OwnPack pack r (plan .triple r ≡ true)
 Rule plan (deal r c) k lines = k ≡ 0 → FromDealer c
 Rule plan (message r lent heard) k lines = Unit {0}
-Rule plan (opening r blocks) k lines = Walks k → OnlySent plan (ShownFor r lines) (λ i. blocks i lines)
+Rule plan (opening r blocks) k lines = Walks k → OnlySent plan (Told lines r) (λ i. blocks i lines)
 Rule plan (linear r a b scale) k lines = Unit {0}
 Rule plan (masks a b r lent) k lines = Unit {0}
 Rule plan (finish r blocks blocks') k lines =
     Walks k
-    → OnlySent plan (ShownHalf plan r (take (plan .t + 1)) lines) (λ i. blocks i lines)
-    × OnlySent plan (ShownHalf plan r (drop (plan .t + 1)) lines) (λ i. blocks' i lines)
+    → OnlySent plan (ToldHalf (plan .t) (take (plan .t + 1)) r lines) (λ i. blocks i lines)
+    × OnlySent plan (ToldHalf (plan .t) (drop (plan .t + 1)) r lines) (λ i. blocks' i lines)
 
 abbrev pub Rules : Plan → List Step → List Entry → List (List ℕ) → Type 0
 Rules plan [] es lines = Unit {0}
