@@ -1,5 +1,5 @@
 -- Document 01, "Where each refusal is checked": the tests that the calls on a session share, and what holds where they fail.
-use Prim.Native.Nat.{ℕ, _*_, _-_, _≤_, _<_}
+use Prim.Native.Nat.{ℕ, _+_, _*_, _-_, _≤_, _<_}
 use mathlib.Core.Path.{_≡_}
 use mathlib.Core.Bool.{Bool, not}
 use mathlib.Core.List.{List, [], _∷_, _++_}
@@ -29,6 +29,11 @@ unlikeIn marks r m = not (eqb (markIn marks r) m)
 
 abbrev pub unlike : Session → ℕ → ℕ → Bool
 unlike s r m = unlikeIn (s .marks) r m
+
+-- 7, of the marks that a call needs on a triple's three rows.
+abbrev pub unlikeTriple : List ℕ → ℕ → ℕ → ℕ → ℕ → List Test
+unlikeTriple marks r a b c =
+    7 when unlikeIn marks r a ∷ 7 when unlikeIn marks (r + 1) b ∷ 7 when unlikeIn marks (r + 2) c ∷ []
 
 -- What 1 to 5 leave to a call.
 pub record Framed (s : Session) (rows : List ℕ) : Type 0 where

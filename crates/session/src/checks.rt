@@ -1,13 +1,13 @@
 // The checks that calls on a session share. Each gives its refusal, or 0; a call joins them in the order of their numbers.
 use crate::Session;
 ghost use mathlib.Core.Path.{_≡_};
-ghost use Prim.Native.Nat.{_+_, _≤_};
+ghost use Prim.Native.Nat.{_≤_};
 ghost use mathlib.Core.List.{[], _∷_};
 ghost use Rattle.refusal.specs.Refusal.{first, _when_};
 ghost use Rattle.refusal.specs.Conditions.{anyBeyond};
 ghost use Rattle.session.specs.Sessions.{markIn, sessionTests};
 ghost use Rattle.session.specs.Rows.{width, rowAt};
-ghost use Rattle.session.specs.Checks.{frameTests, noRow, noTriple, unlikeIn, Framed};
+ghost use Rattle.session.specs.Checks.{frameTests, noRow, noTriple, unlikeIn, unlikeTriple, Framed};
 
 // 1 to 4, of a session's settings.
 pub fn settings(n: usize, t: usize, post: usize, point: u32) -> u8
@@ -50,7 +50,7 @@ pub fn unlike(marks: &[u8], row: usize, need: u8) -> u8
 // 7, of the marks that a call needs on a triple's three rows.
 pub fn unlike_triple(marks: &[u8], row: usize, a: u8, b: u8, c: u8) -> u8
     requires { ⌜ row ≤ 93 ⌝ }
-    ensures { λ r. ⌜ r ≡ first (7 when unlikeIn (now (marks .entry)) row a ∷ 7 when unlikeIn (now (marks .entry)) (row + 1) b ∷ 7 when unlikeIn (now (marks .entry)) (row + 2) c ∷ []) ⌝ }
+    ensures { λ r. ⌜ r ≡ first (unlikeTriple (now (marks .entry)) row a b c) ⌝ }
 {
     refusal::or_else(
         unlike(marks, row, a),

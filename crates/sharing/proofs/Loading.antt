@@ -10,7 +10,7 @@ use Rattle.refusal.proofs.Laws.{equal, first-join, orElse-zero, all-fail}
 use Rattle.refusal.proofs.Groups.{chained, stopped, went-on}
 use Rattle.session.specs.declared.Session.{Session}
 use Rattle.session.specs.Rows.{width}
-use Rattle.session.specs.Checks.{frameTests, noRow, noTriple, unlike, Framed, RowIn, TripleIn}
+use Rattle.session.specs.Checks.{frameTests, noRow, noTriple, unlike, unlikeTriple, Framed, RowIn, TripleIn}
 use Rattle.session.proofs.Passed.{row-in, triple-in}
 use Rattle.session.proofs.Calls.{stopped-at-frame, past-frame, allowed}
 use Rattle.sharing.specs.Load.{loadRowRefusal, loadTripleRefusal}
@@ -49,7 +49,7 @@ module _ (s : Session) (rows : List ℕ) (r : ℕ) (pack : List ℕ) where
   placed = 5 when missized pack (3 * width s) ∷ 6 when noTriple r ∷ []
 
   abbrev marks : List Test
-  marks = 7 when unlike s r 0 ∷ 7 when unlike s (r + 1) 0 ∷ 7 when unlike s (r + 2) 0 ∷ []
+  marks = unlikeTriple (s .marks) r 0 0 0
 
   abbrev late : List Test
   late = marks ++ (8 when anyBeyond pack ∷ [])

@@ -8,7 +8,7 @@ ghost use mathlib.Core.List.{[], _∷_};
 ghost use Rattle.refusal.specs.Refusal.{first, _when_};
 ghost use Rattle.session.specs.Sessions.{marked};
 ghost use Rattle.session.specs.Rows.{width, withRow};
-ghost use Rattle.session.specs.Checks.{unlike, unlikeIn, Framed, RowIn, TripleIn};
+ghost use Rattle.session.specs.Checks.{unlike, unlikeTriple, Framed, RowIn, TripleIn};
 ghost use Rattle.sharing.specs.Load.{loadRowRefusal, loadRowAnswer, loadRowRows, loadTripleRefusal, loadTripleAnswer, loadTripleRows, withTriple};
 
 // The refusal, where 7 has been looked up.
@@ -57,7 +57,7 @@ pub fn load_row(session: Session, rows: &mut [u32], row: usize, pack: &[u32]) ->
 
 // 7, of the three rows from `row` on, if there are three.
 fn triple_marks(marks: &[u8], row: usize) -> u8
-    ensures { λ r. ⌜ (row ≤ 93 → r ≡ first (7 when unlikeIn (now (marks .entry)) row 0 ∷ 7 when unlikeIn (now (marks .entry)) (row + 1) 0 ∷ 7 when unlikeIn (now (marks .entry)) (row + 2) 0 ∷ [])) ⌝ }
+    ensures { λ r. ⌜ (row ≤ 93 → r ≡ first (unlikeTriple (now (marks .entry)) row 0 0 0)) ⌝ }
 {
     if 93 < row {
         return 0;
@@ -67,7 +67,7 @@ fn triple_marks(marks: &[u8], row: usize) -> u8
 
 // The refusal, where 7 has been looked up.
 fn load_triple_refusal(session: Session, rows: &[u32], row: usize, pack: &[u32], marks: u8) -> u8
-    requires { ⌜ (row ≤ 93 → marks ≡ first (7 when unlike session row 0 ∷ 7 when unlike session (row + 1) 0 ∷ 7 when unlike session (row + 2) 0 ∷ [])) ⌝ }
+    requires { ⌜ (row ≤ 93 → marks ≡ first (unlikeTriple (session .marks) row 0 0 0)) ⌝ }
     ensures { λ r. ⌜ r ≡ loadTripleRefusal session (now (rows .entry)) row (now (pack .entry)) ⌝ }
 {
     let frame = session.frame(rows);

@@ -4,15 +4,15 @@ use mathlib.Core.List.{List, [], _∷_}
 use borrow.Author.Needs.{needs}
 use Rattle.refusal.specs.Refusal.{first, _when_, orElse}
 use Rattle.refusal.proofs.Groups.{chained}
-use Rattle.session.specs.Checks.{unlikeIn}
+use Rattle.session.specs.Checks.{unlikeIn, unlikeTriple}
 use Rattle.session.proofs.checks.unlike_triple.Statement.{statement}
 use Rattle.session.proofs.checks.unlike_triple.Tie as tie
 
-three : (s : List ℕ) (r a b c x y z p q : ℕ) → x ≡ first (7 when unlikeIn s r a ∷ []) → y ≡ first (7 when unlikeIn s (r + 1) b ∷ [])
-    → z ≡ first (7 when unlikeIn s (r + 2) c ∷ []) → p ≡ orElse y z → q ≡ orElse x p
-    → q ≡ first (7 when unlikeIn s r a ∷ 7 when unlikeIn s (r + 1) b ∷ 7 when unlikeIn s (r + 2) c ∷ [])
-three s r a b c x y z p q ex ey ez ep eq =
-    chained (7 when unlikeIn s r a ∷ 7 when unlikeIn s (r + 1) b ∷ 7 when unlikeIn s (r + 2) c ∷ []) tt q (cc)
+three : (l : List ℕ) (r a b c x y z p q : ℕ) → x ≡ first (7 when unlikeIn l r a ∷ []) → y ≡ first (7 when unlikeIn l (r + 1) b ∷ [])
+    → z ≡ first (7 when unlikeIn l (r + 2) c ∷ []) → p ≡ orElse y z → q ≡ orElse x p
+    → q ≡ first (unlikeTriple l r a b c)
+three l r a b c x y z p q ex ey ez ep eq =
+    chained (unlikeTriple l r a b c) tt q (cc)
 
 pub unlike-triple-spec : {M : Type 1} → statement M
 unlike-triple-spec =
