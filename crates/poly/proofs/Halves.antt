@@ -1,8 +1,8 @@
 -- Sums of products as plain numbers: what `weigh_few` adds up in two halves, and the one remainder at its end.
 use Prim.Native.Nat.{ℕ, _+_, _*_, _/_, _%_, _≤_, _<_}
-use mathlib.Core.Path.{_≡_, refl, sym, _∙_, ap, ap₂}
+use mathlib.Core.Path.{_≡_, refl, sym, _∙_, ap}
 use mathlib.Core.List.{List, [], _∷_}
-use native.Mathlib.Nat.{mod-add-mod, add-mod-mod, div-add-mod', mod-lt, zero-mod}
+use native.Mathlib.Nat.{mod-add-mod, add-mod-mod, div-add-mod', mod-lt}
 use native.Mathlib.Numerals.{add-one}
 use native.Mathlib.Omega.{arith}
 use lib.Dec.{lit<}

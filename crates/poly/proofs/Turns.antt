@@ -7,12 +7,12 @@ use native.Mathlib.Numerals.{add-one}
 use native.Mathlib.Decide.{decLe, decLt}
 use native.Mathlib.Omega.{arith}
 use lib.ListN.{length, take, drop, getD, set, length-drop, drop-of-length-le}
-use lib.Seq.{drop-cons, drop-drop, drop-length, take-suc, take-suc-set, take-all}
+use lib.Seq.{drop-cons, drop-drop, drop-length, take-suc-set, take-all}
 use Rattle.field.specs.Modulus.{p}
 use Rattle.field.specs.Arithmetic.{sum, difference, product}
 use Rattle.field.proofs.Modular.{sum-assoc, sum-comm, sum-zero, product-assoc, product-comm, product-one}
 use Rattle.poly.specs.Polynomial.{value, powersFrom, weighted}
-use Rattle.poly.specs.Interpolation.{nodal, others, weight, terms, interpolated}
+use Rattle.poly.specs.Interpolation.{nodal, others, terms, interpolated}
 use Rattle.poly.proofs.Bounds.{weighted-below, nodal-below, interpolated-below}
 
 -- Horner's rule, from the last coefficient down
