@@ -3,7 +3,7 @@ use Prim.Native.Nat.{ℕ, zero, suc, _+_, _-_, _%_, _≤_, _<_}
 use mathlib.Core.Path.{_≡_, refl, sym, _∙_, ap, ap₂}
 use mathlib.Core.Logic.{_≢_}
 use mathlib.Core.List.{List, [], _∷_, _++_}
-use native.Mathlib.Nat.{mod-eq-of-lt, mod-mod}
+use native.Mathlib.Nat.{mod-eq-of-lt, mod-mod, le-of-suc-le-suc, not-suc-le-zero}
 use native.Mathlib.Numerals.{add-one}
 use native.Mathlib.Omega.{arith}
 use lib.ListN.{length, take, getD}
@@ -127,3 +127,13 @@ module _ (xs : List ℕ) (z : ℕ) where
   following-all i h k e =
       let q : i ≡ length xs = omega arith in
       sym (take-all i xs k) ∙ e ∙ ap (following z) q
+
+  following-at : (w k i : ℕ) → i < k → getD (following w k) i 0 ≡ suc (w + i)
+  unfolding following
+  following-at w zero i h = absurd (not-suc-le-zero h)
+  following-at w (suc k) zero h = omega arith
+  following-at w (suc k) (suc i) h = following-at (suc w) k i (le-of-suc-le-suc h) ∙ omega arith
+
+  pub following-not : (i x : ℕ) → i < length xs → x ≡ z + 1 + i → (getD xs i 0 ≡ x → ⊥) → xs ≢ following z (length xs)
+  following-not i x h ex n e =
+      n (ap (λ (l : List ℕ). getD l i 0) e ∙ following-at z (length xs) i h ∙ (omega (arith, ex)))

@@ -2,7 +2,8 @@
 //
 // Every public function is total: the lists have any length and hold any numbers, one of p or more standing for its remainder.
 ghost use mathlib.Core.Path.{_≡_};
-ghost use mathlib.Core.Bool.{true};
+ghost use mathlib.Core.Bool.{true, false};
+ghost use mathlib.Core.Logic.{_≢_};
 ghost use Prim.Native.Nat.{ℕ, _-_, _≤_, _<_};
 ghost use lib.ListN.{length, take, drop};
 ghost use Rattle.poly.specs.Polynomial.{value, powers, weighted};
@@ -164,7 +165,7 @@ fn interpolate_any(nodes: &[u32], values: &[u32], z: u32) -> u32
 
 // Whether the nodes are z + 1, z + 2 and so on.
 fn consecutive(nodes: &[u32], z: u32) -> bool
-    ensures { λ r. ⌜ (r ≡ true → now (nodes .entry) ≡ following z (length (now (nodes .entry)))) ⌝ }
+    ensures { λ r. ⌜ (r ≡ true → now (nodes .entry) ≡ following z (length (now (nodes .entry)))) × (r ≡ false → now (nodes .entry) ≢ following z (length (now (nodes .entry)))) ⌝ }
 {
     let mut node = z as u64 + 1;
     for i in 0..nodes.len() {

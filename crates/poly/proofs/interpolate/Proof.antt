@@ -6,7 +6,7 @@ use Rattle.poly.proofs.interpolate.Tie as tie
 
 returns : tie.Need-returns
 returns c =
-    let nodes-follow = c .before .before .consecutive .ensures (c .before .if3 .taken) in
+    let nodes-follow = c .before .before .consecutive .ensures .0 (c .before .if3 .taken) in
     let extrapolated = c .extrapolate .ensures (c .before .before .before .before .before .before .before .args .z) in
     search (needs, interpolated-following)
 
