@@ -1,0 +1,48 @@
+//! Sums and products of a station against the plain ones.
+
+use reference::random::Rng;
+use reference::MODULUS;
+
+use crate::station::Station;
+use crate::Field;
+
+pub fn check_sums(rng: &mut Rng, mut station: Station, seed: u64) {
+    let [a, b, scale] = [(); 3].map(|()| Field::from(rng.element()));
+    station.share(rng, 0, a.value());
+    station.share(rng, 95, b.value());
+    let minus_one = MODULUS - 1;
+    for (_, post) in station.shuffled(rng) {
+        post.call(|session, rows| session.linear(rows, 1, 0, 95, scale.value()));
+        post.call(|session, rows| session.linear(rows, 2, 1, 1, scale.value()));
+        post.call(|session, rows| session.linear(rows, 3, 2, 2, minus_one));
+    }
+    let sum = a + scale * b;
+    let rows = [(0, a), (95, b), (1, sum), (2, sum + scale * sum), (3, 0.into())];
+    check_opened(rng, station, seed, &rows);
+}
+
+/// ab, ab + sa, its square, and the square times b, each a factor of the next.
+pub fn check_products(rng: &mut Rng, mut station: Station, seed: u64) {
+    let [a, b, scale] = [(); 3].map(|()| Field::from(rng.element()));
+    station.share(rng, 0, a.value());
+    station.share(rng, 1, b.value());
+    for first in [2, 93, 10] {
+        station.load_triple(rng, first);
+    }
+    station.multiply(rng, 0, 1, 2);
+    station.linear(rng, 5, 4, 0, scale.value());
+    station.multiply(rng, 5, 5, 93);
+    station.multiply(rng, 95, 1, 10);
+    let sum = a * b + scale * a;
+    let square = sum * sum;
+    let rows = [(4, a * b), (5, sum), (95, square), (12, square * b)];
+    check_opened(rng, station, seed, &rows);
+}
+
+/// Every post opens each of these rows to the plain number.
+fn check_opened(rng: &mut Rng, mut station: Station, seed: u64, rows: &[(usize, Field)]) {
+    for &(row, plain) in rows {
+        let opened = station.open(rng, row);
+        assert_eq!(opened, vec![plain.value(); station.n], "seed {seed}, row {row}");
+    }
+}

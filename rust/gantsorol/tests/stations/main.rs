@@ -1,0 +1,140 @@
+//! Whole stations through the binding, their numbers sent as lines: numbers opened equal the plain
+//! sums, t posts get 9, and forged polynomials are rejected.
+
+#[path = "../common/mod.rs"]
+mod common;
+
+mod arithmetic;
+mod liars;
+mod post;
+mod secrets;
+mod station;
+
+use arithmetic::{check_products, check_sums};
+use common::seeds;
+use gantsorol::Refusal;
+use liars::with_liars;
+use reference::random::Rng;
+use reference::{Element, MODULUS};
+use secrets::{mixed, shared_secret, Masked};
+use station::Station;
+
+type Field = Element<MODULUS>;
+
+/// A check of one station with a seed.
+type Check = fn(&mut Rng, Station, u64);
+
+fn random_stations(count: u64, check: Check) {
+    for seed in seeds(count) {
+        let mut rng = Rng::new(seed);
+        let station = Station::random(&mut rng);
+        check(&mut rng, station, seed);
+    }
+}
+
+fn stations_of_every_n_and_t(check: Check) {
+    for (n, t) in (2..=32).flat_map(|n| (1..n).map(move |t| (n, t))) {
+        let seed = (n * 32 + t) as u64;
+        let mut rng = Rng::new(seed);
+        let station = Station::new(&mut rng, n, t);
+        check(&mut rng, station, seed);
+    }
+}
+
+#[test]
+fn sums_open_to_the_plain_ones() {
+    random_stations(300, check_sums);
+}
+
+#[test]
+fn sums_for_every_n_and_t() {
+    stations_of_every_n_and_t(check_sums);
+}
+
+#[test]
+fn products_open_to_the_plain_ones() {
+    random_stations(200, check_products);
+}
+
+#[test]
+fn products_for_every_n_and_t() {
+    stations_of_every_n_and_t(check_products);
+}
+
+#[test]
+fn t_posts_get_9_and_any_t_plus_1_the_number() {
+    for seed in seeds(500) {
+        let mut rng = Rng::new(seed);
+        let (station, secret, own, lines) = shared_secret(&mut rng);
+        // The post itself is one of them.
+        for (others, expected) in [(station.t - 1, Err(Refusal(9))), (station.t, Ok(secret))] {
+            let record = station.record(&mut rng, &lines[..others]);
+            assert_eq!(station.posts[own].try_open(7, &record), expected, "seed {seed}");
+        }
+    }
+}
+
+#[test]
+fn forged_polynomials_are_rejected() {
+    for seed in seeds(500) {
+        let mut rng = Rng::new(seed);
+        let (station, secret, own, lines) = shared_secret(&mut rng);
+        let (n, t) = (station.n, station.t);
+        // With n − 1 − t liars among the others t are left, with one more t − 1.
+        for (liars, expected) in [(n - 1 - t, Ok(secret)), (n - t, Err(Refusal(9)))] {
+            let mut record = station.record(&mut rng, &lines);
+            with_liars(&mut rng, &station, own, liars, &mut record);
+            assert_eq!(station.posts[own].try_open(7, &record), expected, "seed {seed}");
+        }
+    }
+}
+
+/// Either record of a finish may be the short one.
+#[test]
+fn t_masks_get_9_and_any_t_plus_1_the_product() {
+    for seed in seeds(200) {
+        let mut rng = Rng::new(seed);
+        let masked = Masked::random(&mut rng);
+        let t = masked.station.t;
+        let records = |others| masked.station.records(&mut rng, &masked.lines[..others]);
+        let [few, enough] = [t - 1, t].map(records);
+        masked.check(&mut rng, &mixed(&enough, &few), &enough);
+    }
+}
+
+/// The liars of the two records are other posts.
+#[test]
+fn forged_masks_are_rejected() {
+    for seed in seeds(200) {
+        let mut rng = Rng::new(seed);
+        let masked = Masked::random(&mut rng);
+        let (n, t, own) = (masked.station.n, masked.station.t, masked.own);
+        let [enough, few] = [n - 1 - t, n - t].map(|liars| {
+            let mut records = masked.all.clone();
+            for record in &mut records {
+                with_liars(&mut rng, &masked.station, own, liars, record);
+            }
+            records
+        });
+        masked.check(&mut rng, &mixed(&enough, &few), &enough);
+    }
+}
+
+/// A liar who knows the post's check point passes there, and shifts the number: 3(z − w) added.
+#[test]
+fn a_forged_polynomial_passes_only_where_it_meets_the_true_one() {
+    let mut rng = Rng::new(1);
+    let mut station = Station::new(&mut rng, 2, 1);
+    station.share(&mut rng, 7, 5);
+    let lines = station.lines(&mut rng, 7);
+    let honest = station.record(&mut rng, &lines);
+    let w = Field::from(station.points[0]);
+    for (shift, passes) in [(0, true), (1, false), (MODULUS - 1, false)] {
+        let mut record = honest.clone();
+        record[4] = (Field::from(record[4]) - Field::from(3) * w + shift.into()).value();
+        record[5] = (Field::from(record[5]) + 3.into()).value();
+        let opened = station.posts[0].try_open(7, &record);
+        assert_eq!(opened.is_ok(), passes);
+        assert_ne!(opened, Ok(5));
+    }
+}

@@ -1,0 +1,174 @@
+//! A station: posts in random order, whose messages are lines.
+
+use gantsorol::{block_len, line_list_len, masks_len, row_len, rows_len};
+use gantsorol::{Session, Written, LONGEST_LINE};
+use reference::random::{check_points, shape, Rng, SharedRow};
+use reference::Shape;
+
+use crate::post::Post;
+
+pub struct Station {
+    pub n: usize,
+    pub t: usize,
+    pub points: Vec<u32>,
+    pub posts: Vec<Post>,
+}
+
+impl Station {
+    pub fn random(rng: &mut Rng) -> Self {
+        let (n, t) = shape(rng);
+        Self::new(rng, n, t)
+    }
+
+    pub fn new(rng: &mut Rng, n: usize, t: usize) -> Self {
+        let points = check_points(rng, n);
+        let post = |(post, &point): (usize, &u32)| {
+            let (session, _) = Session::new(n, t, post, point).accepted().expect("right settings");
+            let rows = (0..rows_len(n, t)).map(|_| rng.number()).collect();
+            Post::new(session, rows)
+        };
+        let posts = (1..).zip(&points).map(post).collect();
+        Self { n, t, points, posts }
+    }
+
+    fn random_row(&self, rng: &mut Rng) -> SharedRow {
+        SharedRow::random(rng, Shape::checked(self.n, self.t).expect("right settings"))
+    }
+
+    /// The posts in another order, with their numbers from 0.
+    pub fn shuffled(&mut self, rng: &mut Rng) -> Vec<(usize, &mut Post)> {
+        let mut posts: Vec<_> = self.posts.iter_mut().enumerate().collect();
+        for end in (1..posts.len()).rev() {
+            posts.swap(end, rng.below(end + 1));
+        }
+        posts
+    }
+
+    /// Shares `secret`: the factory's packs, the dealer's line, and a deal at every post.
+    pub fn share(&mut self, rng: &mut Rng, row: usize, secret: u32) {
+        let (n, t) = (self.n, self.t);
+        let draw = self.random_row(rng).draw();
+        let mut packs = vec![0; n * row_len(n, t)];
+        gantsorol::factory_row(n, t, &self.points, &draw, &mut packs).expect("a right draw");
+        let c = gantsorol::dealer_number(secret, draw[0]).accepted().expect("elements");
+        let mut line = [0; LONGEST_LINE];
+        let length = gantsorol::write_deal(n, t, row, c, &mut line).accepted().expect("room");
+        for (index, post) in self.shuffled(rng) {
+            let pack = &packs[index * row_len(n, t)..][..row_len(n, t)];
+            post.call(|session, rows| session.load_row(rows, row, pack));
+            let mut numbers = vec![7; line_list_len(t)];
+            let dealt = gantsorol::read(n, t, &line[..length], &mut numbers);
+            let dealt = dealt.accepted().expect("a line as written");
+            assert_eq!((dealt.letter, dealt.row, dealt.post), (b'D', row, 0));
+            post.call(|session, rows| session.deal(rows, dealt.row, numbers[0]));
+        }
+    }
+
+    /// Loads a random triple at every post.
+    pub fn load_triple(&mut self, rng: &mut Rng, first: usize) {
+        let (n, t) = (self.n, self.t);
+        let shape = Shape::checked(n, t).expect("right settings");
+        let draw = SharedRow::triple_draw(&SharedRow::random_triple(rng, shape));
+        let mut packs = vec![0; 3 * n * row_len(n, t)];
+        gantsorol::factory_triple(n, t, &self.points, &draw, &mut packs).expect("a right draw");
+        for (index, post) in self.shuffled(rng) {
+            let rows = packs.chunks(row_len(n, t)).skip(index).step_by(n);
+            let pack = rows.collect::<Vec<_>>().concat();
+            post.call(|session, rows| session.load_triple(rows, first, &pack));
+        }
+    }
+
+    /// A line from every post, which makes its call and writes it with its own number.
+    fn sent(
+        &mut self,
+        rng: &mut Rng,
+        write: impl Fn(&mut Post, usize, &mut [u8]) -> Written,
+    ) -> Vec<Vec<u8>> {
+        let mut lines = vec![vec![]; self.n];
+        for (index, post) in self.shuffled(rng) {
+            let mut line = vec![0; LONGEST_LINE];
+            let written = write(post, index + 1, &mut line);
+            line.truncate(written.accepted().expect("room"));
+            lines[index] = line;
+        }
+        lines
+    }
+
+    /// Every post's message for a row, as an `O` line.
+    pub fn lines(&mut self, rng: &mut Rng, row: usize) -> Vec<Vec<u8>> {
+        let (n, t) = (self.n, self.t);
+        self.sent(rng, |post, number, line| {
+            let mut message = vec![0; t + 1];
+            post.call(|session, rows| session.opening_message(rows, row, &mut message));
+            gantsorol::write_opening(n, t, row, number, &message, line)
+        })
+    }
+
+    /// Every post's masks for a product, as an `M` line.
+    pub fn masks(&mut self, rng: &mut Rng, a: usize, b: usize, first: usize) -> Vec<Vec<u8>> {
+        let (n, t) = (self.n, self.t);
+        self.sent(rng, |post, number, line| {
+            let mut masks = vec![0; masks_len(t)];
+            post.call(|session, rows| session.masks(rows, a, b, first, &mut masks));
+            gantsorol::write_masks(n, t, first, number, &masks, line)
+        })
+    }
+
+    /// The records that these lines fill, in whatever order they come: the second is for the masks
+    /// of the second factor. An absent block is nonsense.
+    pub fn records<'a>(
+        &self,
+        rng: &mut Rng,
+        lines: impl IntoIterator<Item = &'a Vec<u8>>,
+    ) -> [Vec<u32>; 2] {
+        let (count, block) = (self.t + 1, block_len(self.t));
+        let mut nonsense = |place| if place % block == 0 { 0 } else { rng.number() };
+        let mut records: [Vec<u32>; 2] =
+            [(); 2].map(|()| (0..self.n * block).map(&mut nonsense).collect());
+        for line in lines {
+            let mut numbers = vec![0; line_list_len(self.t)];
+            let read = gantsorol::read(self.n, self.t, line, &mut numbers);
+            let post = read.accepted().expect("a line as written").post;
+            for (record, half) in records.iter_mut().zip(numbers.chunks(count)) {
+                let place = &mut record[(post - 1) * block..][..block];
+                place[0] = 1;
+                place[1..].copy_from_slice(half);
+            }
+        }
+        records
+    }
+
+    /// The record of an opening that these lines fill.
+    pub fn record<'a>(
+        &self,
+        rng: &mut Rng,
+        lines: impl IntoIterator<Item = &'a Vec<u8>>,
+    ) -> Vec<u32> {
+        let [record, _] = self.records(rng, lines);
+        record
+    }
+
+    /// The product of rows a and b with the triple at `first`, at every post.
+    pub fn multiply(&mut self, rng: &mut Rng, a: usize, b: usize, first: usize) {
+        let lines = self.masks(rng, a, b, first);
+        let records = self.records(rng, lines.iter().rev());
+        for (_, post) in self.shuffled(rng) {
+            post.finish(first, &records).expect("all masks are there");
+        }
+    }
+
+    /// A row plus `scale` times another, at every post.
+    pub fn linear(&mut self, rng: &mut Rng, dest: usize, a: usize, b: usize, scale: u32) {
+        for (_, post) in self.shuffled(rng) {
+            post.call(|session, rows| session.linear(rows, dest, a, b, scale));
+        }
+    }
+
+    /// What every post opens with all messages.
+    pub fn open(&mut self, rng: &mut Rng, row: usize) -> Vec<u32> {
+        let lines = self.lines(rng, row);
+        let record = self.record(rng, lines.iter().rev());
+        let open = |post: &mut Post| post.call(|session, rows| session.open(rows, row, &record));
+        self.posts.iter_mut().map(open).collect()
+    }
+}

@@ -1,0 +1,112 @@
+//! The valid calls of a script, one kind each.
+
+use super::{Author, Step};
+use crate::random::{Call, SharedRow};
+use crate::{mark, ROWS, TRIPLE};
+
+impl Author<'_> {
+    /// One valid call of a random kind; none when no row suits it.
+    pub(super) fn act(&mut self) {
+        let _ = match self.rng.below(12) {
+            0 | 1 => self.load_row(),
+            2 => self.load_triple(),
+            3 | 4 => self.deal(),
+            5 => self.opening_message(),
+            6 | 7 => self.open(),
+            8 => self.linear(),
+            9 => self.masks(),
+            _ => self.finish(),
+        };
+    }
+
+    fn load_row(&mut self) -> Option<()> {
+        let row = self.pick(mark::EMPTY)?;
+        let shared = SharedRow::random(self.rng, self.shape);
+        let pack = shared.row_of(self.post, self.point());
+        self.keep(row, mark::RAW, shared);
+        self.step(Call::LoadRow { row, pack }, None);
+        Some(())
+    }
+
+    fn load_triple(&mut self) -> Option<()> {
+        let empty = |first: &usize| self.marks[*first..][..TRIPLE] == [mark::EMPTY; TRIPLE];
+        let firsts: Vec<usize> = (0..=ROWS - TRIPLE).filter(empty).collect();
+        let first = self.rng.pick_any(&firsts)?;
+        let triple = SharedRow::random_triple(self.rng, self.shape);
+        let rows = triple.iter().map(|row| row.row_of(self.post, self.point()));
+        let pack = rows.collect::<Vec<_>>().concat();
+        let marks = [mark::UNUSED, mark::FOLLOWING, mark::FOLLOWING];
+        for ((shared, mark), row) in triple.into_iter().zip(marks).zip(first..) {
+            self.keep(row, mark, shared);
+        }
+        self.step(Call::LoadTriple { first, pack }, None);
+        Some(())
+    }
+
+    fn deal(&mut self) -> Option<()> {
+        let row = self.pick(mark::RAW)?;
+        let c = self.rng.element();
+        let dealt = self.shared(row).plus_public(c);
+        self.keep(row, mark::HELD, dealt);
+        self.step(Call::Deal { row, c }, None);
+        Some(())
+    }
+
+    fn opening_message(&mut self) -> Option<()> {
+        let row = self.pick(mark::HELD)?;
+        let out = self.shape.coefficients();
+        self.step(Call::OpeningMessage { row, out }, None);
+        Some(())
+    }
+
+    fn open(&mut self) -> Option<()> {
+        let row = self.pick(mark::HELD)?;
+        let shared = self.shared(row);
+        let too_few = Call::Open { row, record: self.record(&shared, false) };
+        self.steps.push(Step { trial: true, damage: vec![], call: too_few, opens_to: None });
+        let record = self.record(&shared, true);
+        self.step(Call::Open { row, record }, Some(shared.number()));
+        Some(())
+    }
+
+    fn linear(&mut self) -> Option<()> {
+        let (a, b) = (self.pick(mark::HELD)?, self.pick(mark::HELD)?);
+        let dest = self.pick(mark::EMPTY)?;
+        let scale = self.rng.element();
+        let sum = self.shared(a).plus_scaled(scale, &self.shared(b));
+        self.keep(dest, mark::HELD, sum);
+        self.step(Call::Linear { dest, a, b, scale }, None);
+        Some(())
+    }
+
+    fn masks(&mut self) -> Option<()> {
+        let (a, b) = (self.pick(mark::HELD)?, self.pick(mark::HELD)?);
+        let first = self.pick(mark::UNUSED)?;
+        let out = 2 * self.shape.coefficients();
+        self.marks[first] = mark::MASKED;
+        self.factors[first] = (a, b);
+        self.step(Call::Masks { a, b, first, out }, None);
+        Some(())
+    }
+
+    fn finish(&mut self) -> Option<()> {
+        let first = self.pick(mark::MASKED)?;
+        let (a, b) = self.factors[first];
+        let (a, b) = (self.shared(a), self.shared(b));
+        let triple = [first, first + 1, first + 2].map(|row| self.shared(row));
+        let (y, y2) = (a.minus(&triple[0]), b.minus(&triple[1]));
+        let short = self.rng.below(2);
+        let too_few = Call::Finish {
+            first,
+            record: self.record(&y, short != 0),
+            record2: self.record(&y2, short != 1),
+        };
+        self.steps.push(Step { trial: true, damage: vec![], call: too_few, opens_to: None });
+        let record = self.record(&y, true);
+        let record2 = self.record(&y2, true);
+        self.marks[first..first + 2].fill(mark::SPENT);
+        self.keep(first + 2, mark::HELD, SharedRow::product(&a, &b, &triple));
+        self.step(Call::Finish { first, record, record2 }, None);
+        Some(())
+    }
+}

@@ -1,0 +1,171 @@
+//! A random session of one post, as a list of steps.
+
+mod calls;
+mod record;
+
+use super::damage::damaged;
+use super::{check_points, Call, Damage, Outcome, Rng, SharedRow, State};
+use crate::{mark, Library, Session, Shape, ROWS};
+
+/// One call of a script.
+#[derive(Clone, Debug, PartialEq, Eq)]
+pub struct Step {
+    /// A trial is made on a copy of session and rows: whatever it does is seen and then forgotten.
+    /// Every other step is valid, and is not refused.
+    pub trial: bool,
+    /// What is made wrong with the copy before a trial.
+    pub damage: Vec<Damage>,
+    /// The call.
+    pub call: Call,
+    /// The number that an honest opening gives.
+    pub opens_to: Option<u32>,
+}
+
+impl Step {
+    /// The copy that a trial is made on.
+    pub fn damaged(&self, state: &State) -> State {
+        let mut copy = state.clone();
+        self.damage.iter().for_each(|damage| damage.apply(&mut copy));
+        copy
+    }
+}
+
+/// A session from its start.
+#[derive(Clone, Debug)]
+pub struct Script {
+    /// The numbers that stand in the row list at first.
+    pub rows: Vec<u32>,
+    /// The calls, in order.
+    pub steps: Vec<Step>,
+    /// What stands in the rows that were written, after the last step.
+    pub written: Vec<(usize, Vec<u32>)>,
+    /// The marks after the last step.
+    pub marks: [u8; ROWS],
+}
+
+impl Script {
+    /// What `library` answers, step by step.
+    pub fn replay<'a, L: Library>(&'a self, library: &'a L) -> impl Iterator<Item = Outcome> + 'a {
+        let mut state = State { session: Session::BLANK, rows: self.rows.clone() };
+        self.steps.iter().map(move |step| {
+            let outcome = match step.damage.is_empty() {
+                true => step.call.perform(library, &state),
+                false => step.call.perform(library, &step.damaged(&state)),
+            };
+            if !step.trial {
+                state = outcome.state.clone();
+            }
+            outcome
+        })
+    }
+}
+
+/// The script of `seed`: about `length` valid calls, and as many trials.
+pub fn script(seed: u64, length: usize) -> Script {
+    let mut rng = Rng::new(seed);
+    let (n, t) = super::shape(&mut rng);
+    script_for(&mut rng, n, t, length)
+}
+
+/// A script for n posts, 2 to 32, and threshold t, 1 to n − 1.
+pub fn script_for(rng: &mut Rng, n: usize, t: usize, length: usize) -> Script {
+    let shape = Shape::checked(n, t).expect("n and t of a script are in range");
+    let points = check_points(rng, n);
+    let author = Author {
+        post: rng.between(1, n),
+        points,
+        shape,
+        marks: [mark::EMPTY; ROWS],
+        shared: vec![None; ROWS],
+        factors: [(0, 0); ROWS],
+        steps: vec![],
+        rng,
+    };
+    author.script(length)
+}
+
+/// Writes a script, with the plain polynomials of every row in mind.
+struct Author<'r> {
+    rng: &'r mut Rng,
+    shape: Shape,
+    points: Vec<u32>,
+    post: usize,
+    marks: [u8; ROWS],
+    shared: Vec<Option<SharedRow>>,
+    factors: [(usize, usize); ROWS],
+    steps: Vec<Step>,
+}
+
+impl Author<'_> {
+    fn script(mut self, length: usize) -> Script {
+        self.start();
+        for _ in 0..length {
+            self.act();
+        }
+        self.finished()
+    }
+
+    fn point(&self) -> u32 {
+        self.points[self.post - 1]
+    }
+
+    fn start(&mut self) {
+        let (n, t) = (self.shape.posts(), self.shape.shares_needed() - 1);
+        let call = Call::NewSession { n, t, post: self.post, point: self.point() };
+        self.step(call, None);
+    }
+
+    fn finished(self) -> Script {
+        let point = self.point();
+        let rows = (0..self.shape.all_rows()).map(|_| self.rng.number()).collect();
+        let written = self.shared.iter().enumerate();
+        let written = written
+            .filter_map(|(row, shared)| Some((row, shared.as_ref()?.row_of(self.post, point))))
+            .collect();
+        Script { rows, steps: self.steps, written, marks: self.marks }
+    }
+
+    /// A valid call, with trials of it before and after.
+    fn step(&mut self, call: Call, opens_to: Option<u32>) {
+        for _ in 0..self.rng.below(3) {
+            self.trial(&call);
+        }
+        let repeat = self.rng.one_in(4).then(|| call.clone());
+        self.steps.push(Step { trial: false, damage: vec![], call, opens_to });
+        if let Some(call) = repeat {
+            self.steps.push(Step { trial: true, damage: vec![], call, opens_to: None });
+        }
+    }
+
+    fn trial(&mut self, call: &Call) {
+        let mut call = call.clone();
+        let mut damage = vec![];
+        for _ in 0..self.rng.between(1, 2) {
+            if self.rng.one_in(2) {
+                call = damaged(self.rng, &call);
+            } else {
+                damage.push(Damage::random(self.rng, self.shape, &call));
+            }
+        }
+        self.steps.push(Step { trial: true, damage, call, opens_to: None });
+    }
+
+    /// The rows with `mark`.
+    fn marked(&self, mark: u8) -> Vec<usize> {
+        (0..ROWS).filter(|&row| self.marks[row] == mark).collect()
+    }
+
+    fn pick(&mut self, mark: u8) -> Option<usize> {
+        let rows = self.marked(mark);
+        self.rng.pick_any(&rows)
+    }
+
+    fn shared(&self, row: usize) -> SharedRow {
+        self.shared[row].clone().expect("a marked row was written")
+    }
+
+    fn keep(&mut self, row: usize, mark: u8, shared: SharedRow) {
+        self.marks[row] = mark;
+        self.shared[row] = Some(shared);
+    }
+}

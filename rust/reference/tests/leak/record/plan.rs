@@ -1,0 +1,65 @@
+//! What is run: a list of steps, and what is drawn for it.
+
+/// A load or a call that all posts make, or a rule broken on purpose.
+#[derive(Clone, Copy, Debug)]
+pub enum Step {
+    LoadRow(usize),
+    LoadTriple(usize),
+    Deal(usize),
+    /// Makes the opening message and broadcasts it.
+    Message(usize),
+    /// Opens with all that was broadcast for the row before.
+    Open(usize),
+    Linear {
+        dest: usize,
+        a: usize,
+        b: usize,
+        scale: u32,
+    },
+    /// Makes the masks and broadcasts them.
+    Masks {
+        a: usize,
+        b: usize,
+        first: usize,
+    },
+    /// Finishes with all that was broadcast for the triple before.
+    Finish(usize),
+    /// Breaks a rule: the session's mark of a row is overwritten.
+    Overwrite {
+        row: usize,
+        mark: u8,
+    },
+    /// Breaks a rule: the pack drawn for row `of` is loaded into another one too.
+    LoadAgain {
+        of: usize,
+        into: usize,
+    },
+    /// Breaks a rule: the triple drawn for row `of` is loaded into others too.
+    LoadTripleAgain {
+        of: usize,
+        into: usize,
+    },
+    /// Breaks a rule: a finish that adds y y' "to the polynomial's constant too, so it counts
+    /// nothing". The check values follow, or nobody would accept the polynomials.
+    FinishWithConstant(usize),
+}
+
+/// A row drawn raw.
+#[derive(Clone, Copy, Debug)]
+pub struct Raw {
+    pub row: usize,
+    /// The pad of which row its dealer uses: its own, unless a rule is broken.
+    pub pad_of: usize,
+    /// The post that deals it; 0 for somebody who is no post.
+    pub dealer: usize,
+}
+
+/// A fixed list of calls, and what is drawn for it.
+pub struct Plan {
+    pub n: usize,
+    pub t: usize,
+    pub raw: Vec<Raw>,
+    /// The first rows of the triples drawn.
+    pub triples: Vec<usize>,
+    pub steps: Vec<Step>,
+}
