@@ -56,11 +56,8 @@ fn opening<'a>(name: &'static str, i: &'a Inputs, record: &'a [u32]) -> Contest<
     Contest { name, runs: vec![ours, second, fastest] }
 }
 
-pub fn calls_on_a_session(i: &Inputs) -> Vec<Contest<'_>> {
+fn loading_and_dealing(i: &Inputs) -> Vec<Contest<'_>> {
     let (n, t, point) = (i.n, i.t, i.points[0]);
-    let message = || vec![0; t + 1];
-    let masks = || vec![0; 2 * (t + 1)];
-    let [left, right] = &i.masked;
     vec![
         contest(
             "new",
@@ -82,6 +79,12 @@ pub fn calls_on_a_session(i: &Inputs) -> Vec<Contest<'_>> {
             on_ours(i, move |s, rows| s.deal(rows, 0, i.numbers[0])),
             on_second(i, move |s, rows| REFERENCE.deal(s, rows, 0, i.numbers[0])),
         ),
+    ]
+}
+
+fn openings(i: &Inputs) -> Vec<Contest<'_>> {
+    let message = || vec![0; i.t + 1];
+    vec![
         contest(
             "opening message",
             {
@@ -95,6 +98,13 @@ pub fn calls_on_a_session(i: &Inputs) -> Vec<Contest<'_>> {
         ),
         opening("open", i, &i.record),
         opening("open, few there", i, &i.scattered),
+    ]
+}
+
+fn sums_and_products(i: &Inputs) -> Vec<Contest<'_>> {
+    let masks = || vec![0; gantsorol::masks_len(i.t)];
+    let [left, right] = &i.masked;
+    vec![
         contest(
             "linear",
             on_ours(i, move |s, rows| s.linear(rows, 95, 1, 2, i.numbers[0])),
@@ -140,15 +150,11 @@ extern "C" fn second_number(u: u32, constant: u32) -> gantsorol::Number {
     gantsorol::Number { refusal, value }
 }
 
-pub fn other_calls(i: &Inputs) -> Vec<Contest<'_>> {
+fn factory(i: &Inputs) -> Vec<Contest<'_>> {
     let (n, t) = (i.n, i.t);
-    let (packs, half) = (n * gantsorol::row_len(n, t), &i.numbers[..=t]);
-    let (lines, list) = (gantsorol::LONGEST_LINE, gantsorol::line_list_len(t));
-    let mut line = vec![0; lines];
-    let written = gantsorol::write_masks(n, t, 93, 1, &i.numbers, &mut line);
-    line.truncate(written.len);
-    let other = line.clone();
-    let (ours, second) = (|a: &gantsorol::Written| a.refusal, |a: &reference::Written| a.refusal);
+    let packs = n * gantsorol::row_len(n, t);
+    let second: extern "C" fn(u32, u32) -> gantsorol::Number = second_number;
+    let second = black_box(second);
     vec![
         contest(
             "factory row",
@@ -182,15 +188,20 @@ pub fn other_calls(i: &Inputs) -> Vec<Contest<'_>> {
                 move || gantsorol::dealer_number(black_box(i.numbers[0]), i.numbers[1]),
                 |a| a.refusal,
             ),
-            repeated(
-                {
-                    let call: extern "C" fn(u32, u32) -> gantsorol::Number = second_number;
-                    let call = black_box(call);
-                    move || call(black_box(i.numbers[0]), i.numbers[1])
-                },
-                |a| a.refusal,
-            ),
+            repeated(move || second(black_box(i.numbers[0]), i.numbers[1]), |a| a.refusal),
         ),
+    ]
+}
+
+fn lines(i: &Inputs) -> Vec<Contest<'_>> {
+    let (n, t, half) = (i.n, i.t, &i.numbers[..=i.t]);
+    let (lines, list) = (gantsorol::LONGEST_LINE, gantsorol::line_list_len(t));
+    let mut line = vec![0; lines];
+    let written = gantsorol::write_masks(n, t, 93, 1, &i.numbers, &mut line);
+    line.truncate(written.len);
+    let other = line.clone();
+    let (ours, second) = (|a: &gantsorol::Written| a.refusal, |a: &reference::Written| a.refusal);
+    vec![
         contest(
             "write D",
             filling(lines, move |out| gantsorol::write_deal(n, t, 95, i.numbers[0], out), ours),
@@ -212,4 +223,12 @@ pub fn other_calls(i: &Inputs) -> Vec<Contest<'_>> {
             filling(list, move |out| REFERENCE.read(n, t, &other, out), |a| a.refusal),
         ),
     ]
+}
+
+/// Every call, in the order of the library's document.
+pub fn all(i: &Inputs) -> Vec<Contest<'_>> {
+    [loading_and_dealing, openings, sums_and_products, factory, lines]
+        .into_iter()
+        .flat_map(|calls| calls(i))
+        .collect()
 }

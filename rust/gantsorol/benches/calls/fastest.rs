@@ -60,7 +60,8 @@ pub fn open(session: Session, rows: &[u32], row: usize, record: &[u32]) -> Answe
     Answer { refusal, value, session }
 }
 
-fn number(session: &Session, rows: &[u32], row: usize, record: &[u32]) -> Result<u32, u8> {
+/// Refusals 1 to 7.
+fn checked(session: &Session, rows: &[u32], row: usize, record: &[u32]) -> Result<(), u8> {
     let Session { n, t, post, point, .. } = *session;
     if !(2..=MAX_POSTS).contains(&n) {
         return Err(1);
@@ -83,6 +84,12 @@ fn number(session: &Session, rows: &[u32], row: usize, record: &[u32]) -> Result
     if session.marks[row] != 2 {
         return Err(7);
     }
+    Ok(())
+}
+
+fn number(session: &Session, rows: &[u32], row: usize, record: &[u32]) -> Result<u32, u8> {
+    checked(session, rows, row, record)?;
+    let Session { n, t, post, point, .. } = *session;
     let numbers = &rows[row * row_len(n, t)..][..row_len(n, t)];
     let (own, seen) = numbers.split_at(t + 1);
     let (checks, sums) = seen.split_at(n);

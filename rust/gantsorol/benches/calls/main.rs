@@ -13,7 +13,6 @@ mod fastest;
 mod inputs;
 mod timing;
 
-use contests::{calls_on_a_session, other_calls};
 use inputs::Inputs;
 use reference::random::{script, Call, Rng, State};
 use reference::{Session, REFERENCE};
@@ -56,8 +55,7 @@ fn main() {
             "{:<16} {:>10} {:>10}   {:<18} {:<18} ours/fastest",
             "call", "ours, ns", "second, ns", "ours/second", "ours/ours again"
         );
-        let contests = [calls_on_a_session(&inputs), other_calls(&inputs)];
-        let mut held: Vec<Held> = contests.into_iter().flatten().map(Held::new).collect();
+        let mut held: Vec<Held> = contests::all(&inputs).into_iter().map(Held::new).collect();
         for _ in 0..ROUNDS {
             for contest in shuffled(&mut rng, held.len()) {
                 held[contest].round(&mut rng);
