@@ -15,7 +15,7 @@ use Rattle.field.proofs.Expression.{A, B, C, D, E, F, G, 𝟘, _:+_, _:*_, _:-_
 use Rattle.field.proofs.Solver.{solve}
 use Rattle.field.proofs.Fields.{product-nonzero, quotient-unique, cancel}
 use Rattle.field.proofs.Elements.{𝓡, elements, element-zero, element-one, element-sum, element-product, element-injective}
-use Rattle.field.proofs.Modular.{sum-comm, product-below}
+use Rattle.field.proofs.Modular.{product-below, product-sum}
 use Rattle.poly.specs.Interpolation.{nodal, weight, terms, interpolated, following}
 use Rattle.poly.proofs.Bounds.{interpolated-below}
 use Rattle.poly.proofs.Turns.{nodal-join}
@@ -183,18 +183,17 @@ module _ (ys : List ℕ) where
       let r : j ≡ suc (j - 1) = omega arith in
       rw (next j h k) (ev ∙ ap₂ product q (eb ∙ ap (λ (i : ℕ). bottomFrom i (drop j ys)) r))
 
-  pub top-turn : (j b t s v : ℕ) → 0 < j → j ≤ length ys → b ≡ bottomFrom j (drop j ys) → t ≡ topFrom j (drop j ys)
-      → s ≡ sum t (product (getD ys (j - 1) 0) b) → v ≡ product (p - (length ys - (j - 1))) s
-      → v ≡ topFrom (j - 1) (drop (j - 1) ys)
+  pub top-turn : (j b t u o v : ℕ) → 0 < j → j ≤ length ys → b ≡ bottomFrom j (drop j ys) → t ≡ topFrom j (drop j ys)
+      → u ≡ product (getD ys (j - 1) 0) b → o ≡ product (p - (length ys - (j - 1))) u
+      → v ≡ sum o (product (p - (length ys - (j - 1))) t) → v ≡ topFrom (j - 1) (drop (j - 1) ys)
   unfolding topFrom
-  top-turn j b t s v h k eb et es ev =
+  top-turn j b t u o v h k eb et eu eo ev =
       let q : length ys - (j - 1) ≡ suc (length (drop j ys)) = omega (arith, length-drop j ys) in
       let r : j ≡ suc (j - 1) = omega arith in
       rw (next j h k)
-      (ev
+      (ev ∙ ap (λ (x : ℕ). sum x (product (p - (length ys - (j - 1))) t)) eo ∙ sym (product-sum (p - (length ys - (j - 1))) u t)
       ∙ ap₂ (λ (a b : ℕ). product (p - a) b) q
-      (es ∙ sum-comm t _
-      ∙ ap₂ sum (ap (product (getD ys (j - 1) 0)) (eb ∙ ap (λ (i : ℕ). bottomFrom i (drop j ys)) r))
+      (ap₂ sum (eu ∙ ap (product (getD ys (j - 1) 0)) (eb ∙ ap (λ (i : ℕ). bottomFrom i (drop j ys)) r))
       (et ∙ ap (λ (i : ℕ). topFrom i (drop j ys)) r)))
 
   pub steps-end : (j t b s i r : ℕ) → j ≤ 0 → length ys < p → t ≡ topFrom j (drop j ys) → b ≡ bottomFrom j (drop j ys)

@@ -190,7 +190,9 @@ fn extrapolate(values: &[u32]) -> u32
     while 0 < j {
         j -= 1;
         let minus = field::P - (m - j) as u32;
-        top = field::mul(minus, field::add_product(top, values[j], bottom));
+        // apart from `top`, so that it waits for no other step's result but the factorial's
+        let own = field::mul(minus, field::mul(values[j], bottom));
+        top = field::add_product(own, minus, top);
         bottom = field::mul((j + 1) as u32, bottom);
     }
     field::mul(field::sub(0, top), field::inverse(bottom))

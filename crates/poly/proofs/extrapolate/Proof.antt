@@ -21,5 +21,5 @@ extrapolate-spec =
     tie.close
     (tie.spec Inv-loop μ-loop (λ c. search turns) (λ c. search needs) (λ c. search needs) (λ c. search needs)
     (λ c. search needs) (λ c. search needs) (λ c. search needs) (λ c κs. search needs) (λ c κs. search needs)
-    (λ c. search needs) (λ c. search needs) (λ c κs. search needs) (λ c. search needs)
+    (λ c κs. search needs) (λ c. search needs) (λ c. search needs) (λ c κs. search needs) (λ c. search needs)
     (λ c. search turns) (λ c κs. search needs) (λ c κs. search needs) (λ c κs. search needs) (λ c. search (needs, steps-end)))
