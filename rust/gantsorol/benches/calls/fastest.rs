@@ -15,8 +15,15 @@ const fn reduced(x: u64) -> u64 {
     }
 }
 
+/// a b modulo p, for elements: once folded, less than 2p is left.
 const fn product(a: u64, b: u64) -> u64 {
-    reduced(a * b)
+    let whole = a * b;
+    let once = (whole & P) + (whole >> 31);
+    if once >= P {
+        once - P
+    } else {
+        once
+    }
 }
 
 const fn inverse(x: u64) -> u64 {
@@ -94,7 +101,7 @@ fn number(session: &Session, rows: &[u32], row: usize, record: &[u32]) -> Result
     let (own, seen) = numbers.split_at(t + 1);
     let (checks, sums) = seen.split_at(n);
 
-    let powers = powers(point.into(), t + 1);
+    let powers = powers(point, t + 1);
     let mut beyond = any_beyond(numbers);
     let (mut nodes, mut left, mut shares) = (0u32, t + 1, [0; MAX_POSTS]);
     for (index, block) in record.chunks_exact(t + 2).enumerate() {
@@ -127,20 +134,22 @@ fn any_beyond(numbers: &[u32]) -> bool {
 }
 
 /// The powers of x, each from two that are about half as high, so that they don't wait in a row.
-fn powers(x: u64, count: usize) -> [u64; MAX_POSTS] {
+/// Numbers of 32 bits, so that their products with others are taken two at a time.
+fn powers(x: u32, count: usize) -> [u32; MAX_POSTS] {
     let mut powers = [1; MAX_POSTS];
     powers[1] = x;
     for exponent in 2..count {
-        powers[exponent] = product(powers[exponent / 2], powers[exponent - exponent / 2]);
+        let (half, rest) = (powers[exponent / 2], powers[exponent - exponent / 2]);
+        powers[exponent] = product(half.into(), rest.into()) as u32;
     }
     powers
 }
 
 /// A polynomial's value: the low and the high halves of the products are added up by themselves.
-fn value(coefficients: &[u32], powers: &[u64; MAX_POSTS]) -> u64 {
+fn value(coefficients: &[u32], powers: &[u32; MAX_POSTS]) -> u64 {
     let (mut low, mut high) = (0, 0);
     for (&coefficient, &power) in coefficients.iter().zip(powers) {
-        let term = u64::from(coefficient) * power;
+        let term = u64::from(coefficient) * u64::from(power);
         low += term & P;
         high += term >> 31;
     }
@@ -156,12 +165,12 @@ fn interpolated(nodes: u32, shares: &[u64; MAX_POSTS]) -> u64 {
     let last = nodes.ilog2() as usize;
     let (mut list, mut count) = ([0; MAX_POSTS], 0);
     for gap in (first..last).filter(|index| nodes >> index & 1 == 0) {
-        list[count] = gap;
+        list[count] = gap as i64;
         count += 1;
     }
     let gaps = &list[..count];
     let all = product(TABLE.factorial[last + 1], TABLE.inverse_factorial[first]);
-    let all = gaps.iter().fold(all, |all, gap| product(all, TABLE.inverse[gap + 1]));
+    let all = gaps.iter().fold(all, |all, &gap| product(all, TABLE.inverse[gap as usize + 1]));
     let mut sum = 0;
     for (index, &share) in shares.iter().enumerate().take(last + 1).skip(first) {
         if nodes >> index & 1 == 0 {
@@ -169,10 +178,15 @@ fn interpolated(nodes: u32, shares: &[u64; MAX_POSTS]) -> u64 {
         }
         let below = TABLE.inverse_factorial[index - first];
         let above = TABLE.inverse_factorial[last - index];
-        let term = product(product(share, TABLE.inverse[index + 1]), product(below, above));
-        let away = |gap: usize| P + gap as u64 - index as u64;
-        let term = gaps.iter().fold(term, |term, &gap| product(term, away(gap)));
-        sum += if (index - first).is_multiple_of(2) { term } else { P - term };
+        let mut term = product(product(share, TABLE.inverse[index + 1]), product(below, above));
+        let mut minus = (index - first) % 2 == 1;
+        // A distance is at most 31, and twelve of them less than 2^62.
+        for part in gaps.chunks(12) {
+            let away: i64 = part.iter().map(|gap| gap - index as i64).product();
+            minus ^= away < 0;
+            term = product(term, reduced(away.unsigned_abs()));
+        }
+        sum += if minus { P - term } else { term };
     }
     product(all, reduced(sum))
 }
