@@ -41,7 +41,7 @@ fn write_check_values(n: usize, w: u32, k: usize, vs: &[u32], out: &mut [u32])
 fn shared_value(constant: u32, higher: &[u32], x: u32) -> u32
     ensures { λ r. ⌜ r ≡ value (constant ∷ now (higher .entry)) x ⌝ }
 {
-    field::add(constant, field::mul(x, poly::evaluate(higher, x)))
+    field::add_product(constant, x, poly::evaluate(higher, x))
 }
 
 // mj = vj(0) + f(j), of post j = i + 1.

@@ -41,9 +41,11 @@ module _ {R : Type 0} (𝓕 : Field R) where
   quotient-unique a b c h e =
       sym (mul-one a) ∙ ap (λ (x : R). a ⊗ x) (sym (mul-inv b h)) ∙ sym (mul-assoc a b (inv b)) ∙ ap (λ (x : R). x ⊗ inv b) e
 
+  -- a factor that is not zero may be left out
   pub cancel : (a b c : R) → c ≢ zero → a ⊗ c ≡ b ⊗ c → a ≡ b
   cancel a b c h e = quotient-unique a c (b ⊗ c) h e ∙ sym (quotient-unique b c (b ⊗ c) h refl)
 
+  -- the inverse of a product
   pub inv-product : (b d : R) → b ≢ zero → d ≢ zero → inv (b ⊗ d) ≡ inv b ⊗ inv d
   unfolding Same
   inv-product b d hb hd =

@@ -1,6 +1,7 @@
 // The p elements: arithmetic modulo the prime p = 2147483647.
 //
-// Every function is total: a number of p or more stands for its remainder modulo p, and every result is an element.
+// Every function but `reduce` is total: a number of p or more stands for its remainder modulo p. Every result but that of
+// `whole_product` is an element.
 // The time of `inverse` depends on its argument, so it is for public values only.
 ghost use mathlib.Core.Path.{_≡_};
 ghost use Prim.Native.Nat.{_+_, _*_, _%_, _<_};

@@ -9,7 +9,7 @@ use Rattle.session.specs.declared.Session.{Session}
 use Rattle.session.specs.declared.Answer.{Answer}
 use Rattle.session.specs.Sessions.{marked, remembering, answer}
 use Rattle.session.specs.Rows.{width, rowAt, coefficients, combined}
-use Rattle.session.specs.Checks.{frameTests, noRow, noTriple, unlike}
+use Rattle.session.specs.Checks.{frameTests, noRow, noTriple, unlike, unlikeTriple}
 
 -- A row less another, element by element: −1 is p − 1.
 abbrev pub less : List ℕ → List ℕ → List ℕ
@@ -22,12 +22,7 @@ maskRow s rows factor r = less (rowAt (width s) rows factor) (rowAt (width s) ro
 -- 7 of the factor rows and of a triple whose first row has mark m.
 abbrev pub tripleMarks : Session → ℕ → ℕ → ℕ → ℕ → List Test
 tripleMarks s a b r m =
-    7 when unlike s a 2
-    ∷ 7 when unlike s b 2
-    ∷ 7 when unlike s r m
-    ∷ 7 when unlike s (r + 1) 4
-    ∷ 7 when unlike s (r + 2) 4
-    ∷ []
+    7 when unlike s a 2 ∷ 7 when unlike s b 2 ∷ unlikeTriple (s .marks) r m 4 4
 
 -- 8 of the factor rows and of l and l'.
 abbrev pub maskNumbers : Session → List ℕ → ℕ → ℕ → ℕ → List Test

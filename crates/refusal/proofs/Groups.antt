@@ -23,6 +23,10 @@ first-chain (suc k when false ∷ u ∷ ts) n = first-chain (u ∷ ts) n
 pub chained : (ts : List Test) → Numbered ts → (q : ℕ) → q ≡ chain ts → q ≡ first ts
 chained ts n q e = e ∙ sym (first-chain ts n)
 
+pub three : (t u v : Test) → Numbered (t ∷ u ∷ v ∷ []) → (x y z p q : ℕ) → x ≡ first (t ∷ []) → y ≡ first (u ∷ [])
+    → z ≡ first (v ∷ []) → p ≡ orElse y z → q ≡ orElse x p → q ≡ first (t ∷ u ∷ v ∷ [])
+three t u v n x y z p q ex ey ez ep eq = chained (t ∷ u ∷ v ∷ []) n q (cc)
+
 -- a call that stops after its early tests, or goes on to the late ones
 module _ (early late : List Test) (n : Numbered early) (a : ℕ) (e : a ≡ first early) where
   pub stopped : (a ≡ 0 → ⊥) → a ≡ first (early ++ late)

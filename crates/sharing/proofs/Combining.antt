@@ -10,14 +10,14 @@ use Rattle.refusal.proofs.Laws.{first-join}
 use Rattle.refusal.proofs.Groups.{first-chain}
 use Rattle.session.specs.declared.Session.{Session}
 use Rattle.session.specs.Rows.{width, rowAt, withRow, combined}
-use Rattle.session.specs.Checks.{frameTests, noRow, unlike, Framed, RowIn}
+use Rattle.session.specs.Checks.{frameTests, noRow, Framed, RowIn}
 use Rattle.session.proofs.Passed.{row-in}
 use Rattle.session.proofs.Calls.{stopped-at-frame, past-frame, allowed}
-use Rattle.sharing.specs.Linear.{linearRefusal}
+use Rattle.sharing.specs.Linear.{linearMarks, linearRefusal}
 
 module _ (s : Session) (rows : List ℕ) (r a b scale : ℕ) where
   abbrev marks : List Test
-  marks = 7 when unlike s r 0 ∷ 7 when unlike s a 2 ∷ 7 when unlike s b 2 ∷ []
+  marks = linearMarks (s .marks) r a b
 
   abbrev numbers : List Test
   numbers =

@@ -8,7 +8,11 @@ use Rattle.session.specs.declared.Session.{Session}
 use Rattle.session.specs.declared.Answer.{Answer}
 use Rattle.session.specs.Sessions.{marked, answer}
 use Rattle.session.specs.Rows.{width, rowAt, withRow, combined}
-use Rattle.session.specs.Checks.{frameTests, noRow, unlike}
+use Rattle.session.specs.Checks.{frameTests, noRow, unlikeIn}
+
+-- 7, of the three rows' marks.
+abbrev pub linearMarks : List ℕ → ℕ → ℕ → ℕ → List Test
+linearMarks marks r a b = 7 when unlikeIn marks r 0 ∷ 7 when unlikeIn marks a 2 ∷ 7 when unlikeIn marks b 2 ∷ []
 
 -- 8 covers the scale and the rows a and b, not the row that is written.
 abbrev pub linearTests : Session → List ℕ → ℕ → ℕ → ℕ → ℕ → List Test
@@ -17,13 +21,8 @@ linearTests s rows r a b scale =
     ++ (6 when noRow r
     ∷ 6 when noRow a
     ∷ 6 when noRow b
-    ∷ 7 when unlike s r 0
-    ∷ 7 when unlike s a 2
-    ∷ 7 when unlike s b 2
-    ∷ 8 when beyond scale
-    ∷ 8 when anyBeyond (rowAt (width s) rows a)
-    ∷ 8 when anyBeyond (rowAt (width s) rows b)
-    ∷ [])
+    ∷ (linearMarks (s .marks) r a b
+    ++ (8 when beyond scale ∷ 8 when anyBeyond (rowAt (width s) rows a) ∷ 8 when anyBeyond (rowAt (width s) rows b) ∷ [])))
 
 unfoldable pub linearRefusal : Session → List ℕ → ℕ → ℕ → ℕ → ℕ → ℕ
 linearRefusal s rows r a b scale = first (linearTests s rows r a b scale)

@@ -7,7 +7,7 @@ use Rattle.session.specs.declared.Session.{Session}
 use Rattle.session.specs.declared.Answer.{Answer}
 use Rattle.session.specs.Sessions.{marked, answer}
 use Rattle.session.specs.Rows.{width, rowAt, withRow}
-use Rattle.session.specs.Checks.{frameTests, noRow, noTriple, unlike}
+use Rattle.session.specs.Checks.{frameTests, noRow, noTriple, unlike, unlikeTriple}
 
 -- The pack is one row's numbers; 8 covers the pack, not the row that it goes to.
 abbrev pub loadRowTests : Session → List ℕ → ℕ → List ℕ → List Test
@@ -30,11 +30,7 @@ loadTripleTests s rows r pack =
     frameTests s rows
     ++ (5 when missized pack (3 * width s)
     ∷ 6 when noTriple r
-    ∷ 7 when unlike s r 0
-    ∷ 7 when unlike s (r + 1) 0
-    ∷ 7 when unlike s (r + 2) 0
-    ∷ 8 when anyBeyond pack
-    ∷ [])
+    ∷ (unlikeTriple (s .marks) r 0 0 0 ++ (8 when anyBeyond pack ∷ [])))
 
 unfoldable pub loadTripleRefusal : Session → List ℕ → ℕ → List ℕ → ℕ
 loadTripleRefusal s rows r pack = first (loadTripleTests s rows r pack)

@@ -2,16 +2,15 @@
 use session::Answer;
 use session::Session;
 ghost use mathlib.Core.Path.{_≡_};
-ghost use mathlib.Core.List.{[], _∷_};
-ghost use Rattle.refusal.specs.Refusal.{first, _when_};
+ghost use Rattle.refusal.specs.Refusal.{first};
 ghost use Rattle.session.specs.Sessions.{marked};
 ghost use Rattle.session.specs.Rows.{width, rowAt, withRow, combined};
-ghost use Rattle.session.specs.Checks.{unlikeIn, Framed, RowIn};
-ghost use Rattle.sharing.specs.Linear.{linearRefusal, linearAnswer, linearRows};
+ghost use Rattle.session.specs.Checks.{Framed, RowIn};
+ghost use Rattle.sharing.specs.Linear.{linearMarks, linearRefusal, linearAnswer, linearRows};
 
 // 7, of the three rows.
 fn linear_marks(marks: &[u8], dest: usize, a: usize, b: usize) -> u8
-    ensures { λ r. ⌜ r ≡ first (7 when unlikeIn (now (marks .entry)) dest 0 ∷ 7 when unlikeIn (now (marks .entry)) a 2 ∷ 7 when unlikeIn (now (marks .entry)) b 2 ∷ []) ⌝ }
+    ensures { λ r. ⌜ r ≡ first (linearMarks (now (marks .entry)) dest a b) ⌝ }
 {
     refusal::or_else(
         session::checks::unlike(marks, dest, 0),

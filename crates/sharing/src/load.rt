@@ -2,7 +2,7 @@
 use session::Answer;
 use session::Session;
 ghost use mathlib.Core.Path.{_≡_};
-ghost use Prim.Native.Nat.{_+_, _*_, _≤_};
+ghost use Prim.Native.Nat.{_+_, _*_, _≤_, _<_};
 ghost use lib.ListN.{length};
 ghost use mathlib.Core.List.{[], _∷_};
 ghost use Rattle.refusal.specs.Refusal.{first, _when_};
@@ -55,9 +55,9 @@ pub fn load_row(session: Session, rows: &mut [u32], row: usize, pack: &[u32]) ->
     }
 }
 
-// 7, of the three rows from `row` on, if there are three.
-fn triple_marks(marks: &[u8], row: usize) -> u8
-    ensures { λ r. ⌜ (row ≤ 93 → r ≡ first (unlikeTriple (now (marks .entry)) row 0 0 0)) ⌝ }
+// 7, of the three rows from `row` on, which have to be empty; 0 where there are no three.
+fn full_triple(marks: &[u8], row: usize) -> u8
+    ensures { λ r. ⌜ (row ≤ 93 → r ≡ first (unlikeTriple (now (marks .entry)) row 0 0 0)) × (93 < row → r ≡ 0) ⌝ }
 {
     if 93 < row {
         return 0;
@@ -99,7 +99,7 @@ pub fn load_triple(session: Session, rows: &mut [u32], first: usize, pack: &[u32
     ensures { λ r. ⌜ r ≡ loadTripleAnswer session (now (rows .entry)) first (now (pack .entry)) ⌝ }
     ensures { λ r. ⌜ now (rows .exit) ≡ loadTripleRows session (now (rows .entry)) first (now (pack .entry)) ⌝ }
 {
-    let marks = triple_marks(&session.marks, first);
+    let marks = full_triple(&session.marks, first);
     let refusal = load_triple_refusal(session, rows, first, pack, marks);
     if refusal != 0 {
         return Answer {

@@ -9,7 +9,7 @@ use Rattle.field.proofs.sub.Statement.{statement}
 use Rattle.field.proofs.sub.Tie as tie
 
 -- b is p times at most 2, and a remainder
-pub one-remainder : (a b : ℕ) → b < 4294967296 → (a + (6442450941 - b)) % p ≡ difference a b
+one-remainder : (a b : ℕ) → b < 4294967296 → (a + (6442450941 - b)) % p ≡ difference a b
 unfolding difference
 one-remainder a b h = ap (λ (x : ℕ). x % p) split ∙ mul-add-mod-self-right (2 - b / p) p (a + (p - b % p))
   where

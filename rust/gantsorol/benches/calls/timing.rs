@@ -7,8 +7,8 @@ use reference::random::Rng;
 
 use crate::contests::{Contest, Run};
 
-/// A measurement starts below fewer frames than these, which fill a page.
-const FRAMES: usize = 64;
+/// A measurement starts below fewer frames than these, which fill a page: 128 bytes each.
+const FRAMES: usize = 32;
 
 /// So long is one measurement, about.
 const PART: Duration = Duration::from_millis(1);

@@ -9,4 +9,4 @@ returns c = cc
 
 pub shared-value-spec : {M : Type 1} → statement M
 shared-value-spec =
-    tie.close (tie.spec (λ c κs. search needs) (λ c κs. search needs) (λ c κs. search needs) returns)
+    tie.close (tie.spec (λ c κs. search needs) (λ c κs. search needs) returns)
