@@ -6,7 +6,7 @@ use native.Mathlib.Nat.{sub-zero, le-of-suc-le-suc, not-suc-le-zero}
 use native.Mathlib.Numerals.{add-one}
 use native.Mathlib.Decide.{decLe, decLt}
 use native.Mathlib.Omega.{arith}
-use lib.ListN.{length, take, drop, getD, set, length-drop, drop-of-length-le}
+use lib.ListN.{length, take, drop, getD, set, length-drop, length-set, drop-of-length-le}
 use lib.Seq.{drop-cons, drop-drop, drop-length, take-suc-set, take-all}
 use Rattle.field.specs.Modulus.{p}
 use Rattle.field.specs.Arithmetic.{sum, difference, product}
@@ -37,21 +37,45 @@ module _ (x : ℕ) where
   pub powers-start : (l : List ℕ) → take 0 l ++ powersFrom 1 x (length l - 0) ≡ powersFrom 1 x (length l)
   powers-start l = ap (powersFrom 1 x) (omega arith)
 
-  pub powers-turn : (l l₀ : List ℕ) (i y v : ℕ) → i < length l₀ → length l ≡ length l₀
-      → take i l ++ powersFrom y x (length l₀ - i) ≡ powersFrom 1 x (length l₀) → v ≡ product y x
-      → take (i + 1) (set l i y) ++ powersFrom v x (length l₀ - (i + 1)) ≡ powersFrom 1 x (length l₀)
+  pub powers-turn : (l : List ℕ) (n i y v : ℕ) → i < n → length l ≡ n
+      → take i l ++ powersFrom y x (n - i) ≡ powersFrom 1 x n → v ≡ product y x
+      → take (i + 1) (set l i y) ++ powersFrom v x (n - (i + 1)) ≡ powersFrom 1 x n
   unfolding powersFrom
-  powers-turn l l₀ i y v h k e f =
-      let q : length l₀ - i ≡ suc (length l₀ - (i + 1)) = omega arith in
+  powers-turn l n i y v h k e f =
+      let q : n - i ≡ suc (n - (i + 1)) = omega arith in
       let j : i < length l = omega arith in
       rw (f, add-one i, take-suc-set l i y j, append-assoc, ← add-one i) (rw q at e)
 
-  pub powers-end : (l l₀ : List ℕ) (i y : ℕ) → length l₀ ≤ i → length l ≡ length l₀
-      → take i l ++ powersFrom y x (length l₀ - i) ≡ powersFrom 1 x (length l₀) → l ≡ powersFrom 1 x (length l₀)
+  -- two numbers at once: z is the power after y
+  pub powers-two : (l : List ℕ) (n i y z v : ℕ) → length l ≡ n
+      → take i l ++ powersFrom y x (n - i) ≡ powersFrom 1 x n → z ≡ product y x → v ≡ product z x
+      → i + 1 < n → take (i + 2) (set (set l i y) (i + 1) z) ++ powersFrom v x (n - (i + 2)) ≡ powersFrom 1 x n
+  powers-two l n i y z v k e ez ev h =
+      let once = powers-turn l n i y z (omega arith) k e ez in
+      let q : i + 1 + 1 ≡ i + 2 = omega arith in
+      rw q at (powers-turn (set l i y) n (i + 1) z v h (length-set l i y ∙ k) once ev)
+
+  -- the chains of even and odd powers: the next of each
+  pub even-next : (y z v s : ℕ) → z ≡ product y x → s ≡ product x x → v ≡ product y s → v ≡ product z x
+  even-next y z v s ez es ev =
+      ev ∙ ap (product y) es ∙ sym (product-assoc y x x) ∙ ap (λ (u : ℕ). product u x) (sym ez)
+
+  pub odd-next : (y z v w s : ℕ) → z ≡ product y x → s ≡ product x x → v ≡ product y s → w ≡ product z s → w ≡ product v x
+  odd-next y z v w s ez es ev ew =
+      even-next z (product z x) w s refl es ew ∙ ap (λ (u : ℕ). product u x) (sym (even-next y z v s ez es ev))
+
+  pub powers-end : (l : List ℕ) (n i y : ℕ) → n ≤ i → length l ≡ n
+      → take i l ++ powersFrom y x (n - i) ≡ powersFrom 1 x n → l ≡ powersFrom 1 x n
   unfolding powersFrom
-  powers-end l l₀ i y h k e =
-      let q : length l₀ - i ≡ 0 = omega arith in
+  powers-end l n i y h k e =
+      let q : n - i ≡ 0 = omega arith in
       sym (append-nil l) ∙ rw (q, take-all i l (omega arith)) at e
+
+  -- the last of an odd number
+  pub powers-last : (l : List ℕ) (n i y : ℕ) → i < n → n - i ≤ 1 → length l ≡ n
+      → take i l ++ powersFrom y x (n - i) ≡ powersFrom 1 x n → set l i y ≡ powersFrom 1 x n
+  powers-last l n i y h last k e =
+      powers-end (set l i y) n (i + 1) (product y x) (omega arith) (length-set l i y ∙ k) (powers-turn l n i y (product y x) h k e refl)
 
 -- a running sum: with the sum of what is to come it makes the whole
 sum-turn : (r s rest whole : ℕ) → sum r (sum s rest) ≡ whole → sum (sum r s) rest ≡ whole

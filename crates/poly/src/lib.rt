@@ -26,15 +26,26 @@ pub fn evaluate(coefficients: &[u32], x: u32) -> u32
 }
 
 // The powers of x from 1 on fill the list. With `weigh` they give the value of every polynomial at x
-// (`weighted-powers` in proofs/Numbers.antt), with no chain of dependent products.
+// (`weighted-powers` in proofs/Numbers.antt). Even and odd powers are two chains of products, so that neither waits for the other.
 pub fn powers(x: u32, list: &mut [u32])
     ensures { λ r. ⌜ now (list .exit) ≡ powers x (length (now (list .entry))) ⌝ }
 {
+    let m = list.len();
+    let square = field::mul(x, x);
     let mut y: u32 = 1;
-    for i in 0..list.len() {
+    let mut z = field::mul(1, x);
+    let mut i = 0;
+    while 1 < m - i {
         list[i] = y;
-        y = field::mul(y, x);
+        list[i + 1] = z;
+        y = field::mul(y, square);
+        z = field::mul(z, square);
+        i += 2;
     }
+    if m <= i {
+        return;
+    }
+    list[i] = y;
 }
 
 fn least(a: usize, b: usize) -> usize
