@@ -10,8 +10,9 @@ ghost use Rattle.poly.specs.Polynomial.{value, powers, weighted};
 ghost use Rattle.field.specs.Modulus.{p};
 ghost use Rattle.field.specs.Arithmetic.{sum, product, inverse};
 ghost use Rattle.poly.specs.Interpolation.{nodal, others, interpolated, following};
-ghost use Rattle.poly.specs.Factorials.{factorial, signed, binomialWeights};
 ghost use Rattle.poly.specs.Quotients.{quotient, Invertible, nodePassed};
+
+mod tables;
 
 // The value at x, by Horner's rule.
 pub fn evaluate(coefficients: &[u32], x: u32) -> u32
@@ -178,150 +179,6 @@ fn consecutive(nodes: &[u32], z: u32) -> bool
     true
 }
 
-// 1 / k! modulo p, for k from 0 to 32: `inverse_factorial`'s proof tests every entry.
-const INVERSE_FACTORIALS: [u32; 33] = [
-    1,
-    1,
-    1073741824,
-    1789569706,
-    1521134250,
-    304226850,
-    50704475,
-    1234377009,
-    422732582,
-    285579581,
-    1531796511,
-    1701060517,
-    1036539896,
-    905689087,
-    831650523,
-    914436827,
-    1533547309,
-    1100789205,
-    419068897,
-    1378361719,
-    391040633,
-    1041232243,
-    1511522134,
-    1933095438,
-    617416555,
-    883690121,
-    446965706,
-    573309305,
-    403954555,
-    1420901512,
-    1049522419,
-    241676560,
-    1081294216,
-];
-
-fn inverse_factorial(k: usize) -> u32
-    requires { ⌜ k ≤ 32 ⌝ }
-    ensures { λ r. ⌜ r ≡ inverse (factorial k) ⌝ }
-{
-    INVERSE_FACTORIALS[k]
-}
-
-// (-1) (-2) .. (-k) modulo p, for k from 0 to 32: `signed_factorial`'s proof tests every entry.
-const SIGNED_FACTORIALS: [u32; 33] = [
-    1,
-    2147483646,
-    2,
-    2147483641,
-    24,
-    2147483527,
-    720,
-    2147478607,
-    40320,
-    2147120767,
-    3628800,
-    2107566847,
-    479001600,
-    215430141,
-    1278945320,
-    143173023,
-    2004198926,
-    288356610,
-    1252031961,
-    1981196505,
-    1178259193,
-    1026360711,
-    1042384475,
-    1794960839,
-    2018096451,
-    1087196253,
-    1797668480,
-    855074921,
-    1827705976,
-    683617871,
-    966300340,
-    109460518,
-    792230718,
-];
-
-fn signed_factorial(k: usize) -> u32
-    requires { ⌜ k ≤ 32 ⌝ }
-    ensures { λ r. ⌜ r ≡ signed k ⌝ }
-{
-    SIGNED_FACTORIALS[k]
-}
-
-// 1 / ((-1) (-2) .. (-k)) modulo p, for k from 0 to 32: `inverse_signed`'s proof tests every entry.
-const INVERSE_SIGNED: [u32; 33] = [
-    1,
-    2147483646,
-    1073741824,
-    357913941,
-    1521134250,
-    1843256797,
-    50704475,
-    913106638,
-    422732582,
-    1861904066,
-    1531796511,
-    446423130,
-    1036539896,
-    1241794560,
-    831650523,
-    1233046820,
-    1533547309,
-    1046694442,
-    419068897,
-    769121928,
-    391040633,
-    1106251404,
-    1511522134,
-    214388209,
-    617416555,
-    1263793526,
-    446965706,
-    1574174342,
-    403954555,
-    726582135,
-    1049522419,
-    1905807087,
-    1081294216,
-];
-
-fn inverse_signed(k: usize) -> u32
-    requires { ⌜ k ≤ 32 ⌝ }
-    ensures { λ r. ⌜ r ≡ inverse (signed k) ⌝ }
-{
-    INVERSE_SIGNED[k]
-}
-
-// The weights of the nodes z + 1, .., z + m but for a factor that all have.
-fn binomial_weights(m: usize) -> [u32; 32]
-    requires { ⌜ m ≤ 32 ⌝ }
-    ensures { λ r. ⌜ take m r ≡ binomialWeights 0 m ⌝ }
-{
-    let mut list: [u32; 32] = [0; 32];
-    for j in 0..m {
-        list[j] = field::mul(inverse_factorial(j + 1), inverse_signed(m - 1 - j));
-    }
-    list
-}
-
 // The interpolation through the values at z + 1, .., z + m, at z, whatever z is. The weight of z + 1 + j is the binomial
 // coefficient of m and j + 1 with the sign of (-1)^j: tables make it, so that no step waits for another and no inverse is taken.
 fn extrapolate(values: &[u32]) -> u32
@@ -329,9 +186,9 @@ fn extrapolate(values: &[u32]) -> u32
     ensures { λ r. ⌜ ((z : ℕ) → r ≡ interpolated (following z (length (now (values .entry)))) (now (values .entry)) z) ⌝ }
 {
     let m = values.len();
-    let weights = binomial_weights(m);
+    let weights = tables::binomial_weights(m);
     let r = weigh(values, &weights[..m]);
-    field::sub(0, field::mul(signed_factorial(m), r))
+    field::sub(0, field::mul(tables::signed_factorial(m), r))
 }
 
 // The interpolation through the values at the nodes, at the point z. Nodes that follow z are the usual case.

@@ -1,4 +1,4 @@
--- `poly::binomial_weights` meets its contract: the weights of the nodes to come complete the list's first j numbers.
+-- `poly::tables::binomial_weights` meets its contract: the weights of the nodes to come complete the list's first j numbers.
 use Prim.Native.Nat.{_≤_, _-_}
 use mathlib.Core.Path.{_≡_}
 use mathlib.Core.List.{_++_}
@@ -6,8 +6,8 @@ use lib.ListN.{length, take}
 use borrow.Author.Needs.{needs}
 use Rattle.poly.specs.Factorials.{binomialWeights}
 use Rattle.poly.proofs.Steps.{weights-start, weights-turn, weights-end}
-use Rattle.poly.proofs.binomial_weights.Statement.{statement}
-use Rattle.poly.proofs.binomial_weights.Tie as tie
+use Rattle.poly.proofs.tables.binomial_weights.Statement.{statement}
+use Rattle.poly.proofs.tables.binomial_weights.Tie as tie
 
 abbrev Inv-loop : tie.InvT-loop
 Inv-loop m list₀ j₀ list j =
