@@ -19,6 +19,7 @@ use Rattle.field.proofs.Fields.{product-nonzero}
 use Rattle.field.proofs.Elements.{𝓡, elements, element-path, element-zero, element-one, element-sum, element-product, element-difference}
 use Rattle.field.proofs.Modular.{difference-below, product-one}
 use Rattle.poly.specs.Interpolation.{nodal, following}
+use Rattle.poly.specs.Factorials.{upTo, factorial, signed}
 use Rattle.poly.proofs.Turns.{nodal-join}
 use Rattle.poly.proofs.Fractions.{nonzero}
 open CommutativeRing 𝓡 using (add as _⊕_, mul as _⊗_, neg, zero as 0ᴱ, one as 1ᴱ, mul-comm)
@@ -30,17 +31,10 @@ element-add : (a b : ℕ) → element (a + b) ≡ element a ⊕ element b
 unfolding element sum
 element-add a b = element-path (element (a + b)) (element (sum a b)) (sym (mod-mod (a + b) p)) ∙ element-sum a b
 
--- 0 - n, and p - n for short
+-- 0 - n
 pub element-negative : (n : ℕ) → element (difference 0 n) ≡ neg (element n)
 element-negative n =
     element-difference 0 n ∙ ap (λ (u : Element). u ⊕ neg (element n)) element-zero ∙ zero-add 𝓡 (neg (element n))
-
-pub element-opposite : (n : ℕ) → n < p → element (p - n) ≡ neg (element n)
-unfolding element difference
-element-opposite n h =
-    element-path (element (p - n)) (element (difference 0 n))
-    (sym (mod-mod (0 + (p - n % p)) p ∙ ap (λ (k : ℕ). k % p) (let e = mod-eq-of-lt h in omega arith)))
-    ∙ element-negative n
 
 -- z and the number suc k after it, less each other
 after : (z k : ℕ) → element (suc (z + k)) ≡ element z ⊕ element (suc k)
@@ -58,34 +52,22 @@ after-less z k =
     element-difference (suc (z + k)) z ∙ ap (λ (u : Element). u ⊕ neg (element z)) (after z k)
     ∙ solve 𝓡 (element z ∷ element (suc k) ∷ []) (A :+ B :- A) B refl
 
--- f 1 times .. times f k
-unfoldable pub upTo : (ℕ → Element) → ℕ → Element
-upTo f zero = 1ᴱ
-upTo f (suc k) = f (suc k) ⊗ upTo f k
-
-upTo-nonzero : (f : ℕ → Element) (k : ℕ) → ((i : ℕ) → 0 < i → i ≤ k → f i ≢ 0ᴱ) → upTo f k ≢ 0ᴱ
+upTo-nonzero : (f : ℕ → ℕ) (k : ℕ) → ((i : ℕ) → 0 < i → i ≤ k → element (f i) ≢ 0ᴱ) → element (upTo f k) ≢ 0ᴱ
 unfolding upTo
-upTo-nonzero f zero h = one-ne-zero
-upTo-nonzero f (suc k) h =
-    product-nonzero elements (f (suc k)) (upTo f k) (h (suc k) (omega arith) (omega arith))
-    (upTo-nonzero f k (λ i a b. h i a (omega arith)))
+upTo-nonzero f zero h e = one-ne-zero (sym element-one ∙ e)
+upTo-nonzero f (suc k) h e =
+    product-nonzero elements (element (f (suc k))) (element (upTo f k)) (h (suc k) (omega arith) (omega arith))
+    (upTo-nonzero f k (λ i a b. h i a (omega arith))) (sym (element-product (f (suc k)) (upTo f k)) ∙ e)
 
--- k!, and the same with the sign of (-1)^k
-abbrev pub factorial : ℕ → Element
-factorial = upTo element
+pub factorial-nonzero : (k : ℕ) → k < p → element (factorial k) ≢ 0ᴱ
+factorial-nonzero k h = upTo-nonzero (λ i. i) k (λ i a b. nonzero i a (omega arith))
 
-abbrev pub signed : ℕ → Element
-signed = upTo (λ i. neg (element i))
-
-pub factorial-nonzero : (k : ℕ) → k < p → factorial k ≢ 0ᴱ
-factorial-nonzero k h = upTo-nonzero element k (λ i a b. nonzero i a (omega arith))
-
-pub signed-nonzero : (k : ℕ) → k < p → signed k ≢ 0ᴱ
+pub signed-nonzero : (k : ℕ) → k < p → element (signed k) ≢ 0ᴱ
 unfolding Same
 signed-nonzero k h =
-    upTo-nonzero (λ i. neg (element i)) k
+    upTo-nonzero (difference 0) k
     (λ i a b e. nonzero i a (omega arith)
-    (solve 𝓡 (element i ∷ []) A (:- (:- A)) refl ∙ ap neg e ∙ solve 𝓡 [] (:- 𝟘) 𝟘 refl))
+    (solve 𝓡 (element i ∷ []) A (:- (:- A)) refl ∙ ap neg (sym (element-negative i) ∙ e) ∙ solve 𝓡 [] (:- 𝟘) 𝟘 refl))
 
 pub following-end : (z k : ℕ) → following z (suc k) ≡ following z k ++ (suc (z + k) ∷ [])
 unfolding following
@@ -95,21 +77,24 @@ following-end z (suc k) =
     (following-end (suc z) k ∙ ap (λ (n : ℕ). following (suc z) k ++ (suc n ∷ [])) (omega arith))
 
 -- z less each of the k numbers that follow it
-pub nodal-ahead : (z k : ℕ) → element (nodal (following z k) z) ≡ signed k
+pub nodal-ahead : (z k : ℕ) → element (nodal (following z k) z) ≡ element (signed k)
 unfolding following nodal upTo
-nodal-ahead z zero = element-one
+nodal-ahead z zero = refl
 nodal-ahead z (suc k) =
     ap (λ (l : List ℕ). element (nodal l z)) (following-end z k)
     ∙ ap element (sym (nodal-join (following z k) (suc (z + k) ∷ []) z)) ∙ element-product _ _ ∙ mul-comm _ _
-    ∙ ap₂ _⊗_ (ap element (product-one _ (difference-below z (suc (z + k)))) ∙ less-after z k) (nodal-ahead z k)
+    ∙ ap₂ _⊗_
+    (ap element (product-one _ (difference-below z (suc (z + k)))) ∙ less-after z k ∙ sym (element-negative (suc k)))
+    (nodal-ahead z k)
+    ∙ sym (element-product _ _)
 
 -- the number after them less each of them
-pub nodal-behind : (z k : ℕ) → element (nodal (following z k) (suc (z + k))) ≡ factorial k
+pub nodal-behind : (z k : ℕ) → element (nodal (following z k) (suc (z + k))) ≡ element (factorial k)
 unfolding following nodal upTo
-nodal-behind z zero = element-one
+nodal-behind z zero = refl
 nodal-behind z (suc k) =
     let q : suc (z + suc k) ≡ suc (suc z + k) = omega arith in
-    rw q (element-product _ _ ∙ ap₂ _⊗_ (after-less (suc z) k) (nodal-behind (suc z) k))
+    rw q (element-product _ _ ∙ ap₂ _⊗_ (after-less (suc z) k) (nodal-behind (suc z) k) ∙ sym (element-product _ _))
 
 -- the turns of `consecutive`: the first i nodes are the i numbers that follow z
 module _ (xs : List ℕ) (z : ℕ) where

@@ -11,3 +11,4 @@ pub mod Passing
 pub mod Following
 pub mod Steps
 pub mod Theorems
+pub mod Table

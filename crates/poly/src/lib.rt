@@ -12,6 +12,8 @@ ghost use Rattle.field.specs.Arithmetic.{sum, product, inverse};
 ghost use Rattle.poly.specs.Interpolation.{nodal, others, interpolated, following};
 ghost use Rattle.poly.specs.Quotients.{quotient, Invertible, nodePassed};
 
+mod tables;
+
 // The value at x, by Horner's rule.
 pub fn evaluate(coefficients: &[u32], x: u32) -> u32
     ensures { λ r. ⌜ r ≡ value (now (coefficients .entry)) x ⌝ }
@@ -189,24 +191,15 @@ fn consecutive(nodes: &[u32], z: u32) -> bool
 }
 
 // The interpolation through the values at z + 1, .., z + m, at z, whatever z is. The weight of z + 1 + j is the binomial
-// coefficient of m and j + 1 with the sign of (-1)^j, so no distances are multiplied out.
+// coefficient of m and j + 1 with the sign of (-1)^j: tables make it, so that no step waits for another and no inverse is taken.
 fn extrapolate(values: &[u32]) -> u32
-    requires { ⌜ length (now values) < p ⌝ }
+    requires { ⌜ length (now values) ≤ 32 ⌝ }
     ensures { λ r. ⌜ ((z : ℕ) → r ≡ interpolated (following z (length (now (values .entry)))) (now (values .entry)) z) ⌝ }
 {
     let m = values.len();
-    let mut top: u32 = 0;
-    let mut bottom: u32 = 1;
-    let mut j = m;
-    while 0 < j {
-        j -= 1;
-        let minus = field::P - (m - j) as u32;
-        // apart from `top`, so that it waits for no other step's result but the factorial's
-        let own = field::mul(minus, field::mul(values[j], bottom));
-        top = field::add_product(own, minus, top);
-        bottom = field::mul((j + 1) as u32, bottom);
-    }
-    field::mul(field::sub(0, top), field::inverse(bottom))
+    let weights = tables::binomial_weights(m);
+    let r = weigh(values, &weights[..m]);
+    field::sub(0, field::mul(tables::signed_factorial(m), r))
 }
 
 // The interpolation through the values at the nodes, at the point z. Nodes that follow z are the usual case.
@@ -215,7 +208,7 @@ pub fn interpolate(nodes: &[u32], values: &[u32], z: u32) -> u32
 {
     let m = values.len();
     if nodes.len() == m {
-        if m < field::P as usize {
+        if m <= 32 {
             if consecutive(nodes, z) {
                 return extrapolate(values);
             }

@@ -1,0 +1,14 @@
+-- `poly::tables::inverse_signed` meets its contract: antt computes the test over the whole table.
+use borrow.Author.Needs.{needs}
+use Rattle.field.specs.Arithmetic.{difference, product, inverse, euclid}
+use Rattle.poly.specs.Factorials.{upTo, signed}
+use Rattle.poly.proofs.Table.{agree-at}
+use Rattle.poly.proofs.tables.inverse_signed.Statement.{statement}
+use Rattle.poly.proofs.tables.inverse_signed.Tie as tie
+
+returns : tie.Need-returns
+unfolding upTo difference product inverse euclid
+returns c = search (needs, agree-at (λ k. inverse (signed k)) 32)
+
+pub inverse-signed-spec : {M : Type 1} → statement M
+inverse-signed-spec = tie.close (tie.spec (λ c. search needs) (λ c. search needs) returns)
