@@ -8,7 +8,7 @@ use native.Mathlib.Omega.{arith}
 use lib.ListN.{length, take, set}
 use lib.Seq.{take-suc-set}
 use Rattle.field.specs.Modulus.{p}
-use Rattle.field.specs.Arithmetic.{sum, difference, product, inverse}
+use Rattle.field.specs.Arithmetic.{difference, product, inverse}
 use Rattle.field.specs.Algebra.{CommutativeRing, Field}
 use Rattle.field.specs.Element.{Element, element}
 use Rattle.field.proofs.Expression.{A, B, C, D, E, 𝟘, _:+_, _:*_, _:-_, :-_, Same}
