@@ -1,8 +1,8 @@
 // Tables of factorials modulo p. No entry is trusted: each table's rule is a test over all of its entries, which the proof of the
 // function under it computes (`agree` in proofs/Table.antt).
 ghost use mathlib.Core.Path.{_≡_};
-ghost use Prim.Native.Nat.{_≤_};
-ghost use lib.ListN.{take};
+ghost use Prim.Native.Nat.{ℕ, _≤_};
+ghost use lib.ListN.{length, getD, take};
 ghost use Rattle.field.specs.Arithmetic.{inverse};
 ghost use Rattle.poly.specs.Factorials.{factorial, signed, binomialWeights};
 
@@ -43,11 +43,10 @@ const INVERSE_FACTORIALS: [u32; 33] = [
     1081294216,
 ];
 
-fn inverse_factorial(k: usize) -> u32
-    requires { ⌜ k ≤ 32 ⌝ }
-    ensures { λ r. ⌜ r ≡ inverse (factorial k) ⌝ }
+fn inverse_factorials() -> [u32; 33]
+    ensures { λ r. ⌜ (length r ≡ 33) × ((k : ℕ) → k ≤ 32 → getD r k 0 ≡ inverse (factorial k)) ⌝ }
 {
-    INVERSE_FACTORIALS[k]
+    INVERSE_FACTORIALS
 }
 
 // (-1) (-2) .. (-k)
@@ -131,11 +130,10 @@ const INVERSE_SIGNED: [u32; 33] = [
     1081294216,
 ];
 
-fn inverse_signed(k: usize) -> u32
-    requires { ⌜ k ≤ 32 ⌝ }
-    ensures { λ r. ⌜ r ≡ inverse (signed k) ⌝ }
+fn inverse_signed() -> [u32; 33]
+    ensures { λ r. ⌜ (length r ≡ 33) × ((k : ℕ) → k ≤ 32 → getD r k 0 ≡ inverse (signed k)) ⌝ }
 {
-    INVERSE_SIGNED[k]
+    INVERSE_SIGNED
 }
 
 // The weights of the nodes z + 1, .., z + m but for a factor that all have.
@@ -143,9 +141,11 @@ pub fn binomial_weights(m: usize) -> [u32; 32]
     requires { ⌜ m ≤ 32 ⌝ }
     ensures { λ r. ⌜ take m r ≡ binomialWeights 0 m ⌝ }
 {
+    let below = inverse_factorials();
+    let above = inverse_signed();
     let mut list: [u32; 32] = [0; 32];
     for j in 0..m {
-        list[j] = field::mul(inverse_factorial(j + 1), inverse_signed(m - 1 - j));
+        list[j] = field::mul(below[j + 1], above[m - 1 - j]);
     }
     list
 }

@@ -8,7 +8,7 @@ use Rattle.poly.proofs.tables.inverse_signed.Tie as tie
 
 returns : tie.Need-returns
 unfolding upTo difference product inverse euclid
-returns c = search (needs, agree-at (λ k. inverse (signed k)) 32)
+returns c = (search needs, λ k h. search (needs, agree-at (λ k. inverse (signed k)) 32))
 
 pub inverse-signed-spec : {M : Type 1} → statement M
-inverse-signed-spec = tie.close (tie.spec (λ c. search needs) (λ c. search needs) returns)
+inverse-signed-spec = tie.close (tie.spec returns)
