@@ -10,6 +10,7 @@ use Rattle.field.specs.Modulus.{p}
 use Rattle.field.specs.Arithmetic.{sum, difference, product, inverse, IsInverse}
 use Rattle.field.specs.Algebra.{CommutativeRing, Field}
 use Rattle.field.specs.Element.{Element, element}
+use Rattle.field.proofs.Ring.{zero-add}
 use Rattle.field.proofs.Residues.{residues, residue-path, mod-mul-mod, mul-mod-mod}
 use Rattle.field.proofs.Euclid.{inverse-is, inverse-unique}
 
@@ -79,6 +80,16 @@ element-product a b = element-path _ _ (mod-mod (a * b) p ∙ sym (mod-mul-mod a
 pub element-difference : (a b : ℕ) → element (difference a b) ≡ element a ⊕ neg (element b)
 unfolding elements residues element difference
 element-difference a b = element-path _ _ (mod-mod (a + (p - b % p)) p ∙ add-mod a (p - b % p) p)
+
+-- a plain sum, with no remainder taken
+pub element-add : (a b : ℕ) → element (a + b) ≡ element a ⊕ element b
+unfolding element sum
+element-add a b = element-path (element (a + b)) (element (sum a b)) (sym (mod-mod (a + b) p)) ∙ element-sum a b
+
+-- 0 - n
+pub element-negative : (n : ℕ) → element (difference 0 n) ≡ neg (element n)
+element-negative n =
+    element-difference 0 n ∙ ap (λ (u : Element). u ⊕ neg (element n)) element-zero ∙ zero-add 𝓡 (neg (element n))
 
 pub element-inverse : (a : ℕ) → element (inverse a) ≡ elements .inv (element a)
 unfolding elements element product

@@ -18,7 +18,7 @@ module _ {R : Type 0} (𝓡 : CommutativeRing R) where
 
 module _ {R : Type 0} (𝓕 : Field R) where
   open Field 𝓕 using (ring, inv, mul-inv)
-  open CommutativeRing ring using (add as _⊕_, mul as _⊗_, neg, zero, mul-assoc, mul-one)
+  open CommutativeRing ring using (add as _⊕_, mul as _⊗_, neg, zero)
 
   infixl 65 _⊕_
   infixl 70 _⊗_
@@ -35,15 +35,6 @@ module _ {R : Type 0} (𝓕 : Field R) where
 
   pub difference-nonzero : (a b : R) → a ≢ b → a ⊕ neg b ≢ zero
   difference-nonzero a b h e = h (equal-of-difference-zero ring a b e)
-
-  -- what gives c when it is multiplied by b is the quotient c / b
-  pub quotient-unique : (a b c : R) → b ≢ zero → a ⊗ b ≡ c → a ≡ c ⊗ inv b
-  quotient-unique a b c h e =
-      sym (mul-one a) ∙ ap (λ (x : R). a ⊗ x) (sym (mul-inv b h)) ∙ sym (mul-assoc a b (inv b)) ∙ ap (λ (x : R). x ⊗ inv b) e
-
-  -- a factor that is not zero may be left out
-  pub cancel : (a b c : R) → c ≢ zero → a ⊗ c ≡ b ⊗ c → a ≡ b
-  cancel a b c h e = quotient-unique a c (b ⊗ c) h e ∙ sym (quotient-unique b c (b ⊗ c) h refl)
 
   -- the inverse of a product
   pub inv-product : (b d : R) → b ≢ zero → d ≢ zero → inv (b ⊗ d) ≡ inv b ⊗ inv d

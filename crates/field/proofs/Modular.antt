@@ -1,7 +1,7 @@
 -- Laws of the arithmetic on plain numbers: every result is an element, and order and grouping do not matter.
 use mathlib.Core.Path.{_≡_, sym, _∙_, ap}
 use Prim.Native.Nat.{ℕ, _+_, _*_, _-_, _%_, _<_}
-use native.Mathlib.Nat.{mod-lt, mod-eq-of-lt, mod-add-mod, add-mod-mod, add-assoc, add-comm, zero-add, mul-one, mul-comm, mul-assoc, mul-add}
+use native.Mathlib.Nat.{mod-lt, mod-eq-of-lt, mod-add-mod, add-mod-mod, add-assoc, add-comm, zero-add, mul-one, mul-comm, mul-assoc}
 use lib.Dec.{lit<}
 use Rattle.field.specs.Modulus.{p}
 use Rattle.field.specs.Arithmetic.{sum, difference, product}
@@ -40,12 +40,6 @@ pub product-assoc : (a b c : ℕ) → product (product a b) c ≡ product a (pro
 unfolding product
 product-assoc a b c =
     mod-mul-mod (a * b) c p ∙ ap (λ (z : ℕ). z % p) (mul-assoc a b c) ∙ sym (mul-mod-mod a (b * c) p)
-
-pub product-sum : (a b c : ℕ) → product a (sum b c) ≡ sum (product a b) (product a c)
-unfolding sum product
-product-sum a b c =
-    mul-mod-mod a (b + c) p ∙ ap (λ (z : ℕ). z % p) (mul-add a b c)
-    ∙ sym (mod-add-mod (a * b) p (a * c % p) ∙ add-mod-mod (a * b) (a * c) p)
 
 pub product-one : (x : ℕ) → x < p → product x 1 ≡ x
 unfolding product

@@ -3,20 +3,20 @@ use Prim.Native.Nat.{ℕ, zero, suc, _+_, _-_, _≤_, _<_}
 use mathlib.Core.Path.{_≡_, refl, sym, _∙_, ap, ap₂}
 use mathlib.Core.Logic.{_≢_}
 use mathlib.Core.List.{List, [], _∷_, _++_}
-use native.Mathlib.Nat.{mod-mod, le-of-suc-le-suc, not-suc-le-zero}
+use native.Mathlib.Nat.{le-of-suc-le-suc, not-suc-le-zero}
 use native.Mathlib.Numerals.{add-one}
 use native.Mathlib.Omega.{arith}
 use lib.ListN.{length, take, getD}
 use lib.Seq.{take-suc, take-all}
 use Rattle.field.specs.Modulus.{p}
-use Rattle.field.specs.Arithmetic.{sum, difference}
+use Rattle.field.specs.Arithmetic.{difference}
 use Rattle.field.specs.Algebra.{CommutativeRing, Field}
 use Rattle.field.specs.Element.{Element, element}
-use Rattle.field.proofs.Ring.{zero-add}
+use Rattle.field.proofs.Ring.}
 use Rattle.field.proofs.Expression.{A, B, 𝟘, _:+_, _:-_, :-_, Same}
 use Rattle.field.proofs.Solver.{solve}
 use Rattle.field.proofs.Fields.{product-nonzero}
-use Rattle.field.proofs.Elements.{𝓡, elements, element-path, element-zero, element-one, element-sum, element-product, element-difference}
+use Rattle.field.proofs.Elements.{𝓡, elements, element-one, element-product, element-difference, element-add, element-negative}
 use Rattle.field.proofs.Modular.{difference-below, product-one}
 use Rattle.poly.specs.Interpolation.{nodal, following}
 use Rattle.poly.specs.Factorials.{upTo, factorial, signed}
@@ -27,15 +27,6 @@ open Field elements using (one-ne-zero)
 
 infixl 65 _⊕_
 infixl 70 _⊗_
-element-add : (a b : ℕ) → element (a + b) ≡ element a ⊕ element b
-unfolding element sum
-element-add a b = element-path (element (a + b)) (element (sum a b)) (sym (mod-mod (a + b) p)) ∙ element-sum a b
-
--- 0 - n
-pub element-negative : (n : ℕ) → element (difference 0 n) ≡ neg (element n)
-element-negative n =
-    element-difference 0 n ∙ ap (λ (u : Element). u ⊕ neg (element n)) element-zero ∙ zero-add 𝓡 (neg (element n))
-
 -- z and the number suc k after it, less each other
 after : (z k : ℕ) → element (suc (z + k)) ≡ element z ⊕ element (suc k)
 after z k = ap element (omega arith) ∙ element-add z (suc k)

@@ -14,7 +14,7 @@ use Rattle.field.specs.Element.{Element, element}
 use Rattle.field.proofs.Expression.{A, B, C, D, E, 𝟘, _:+_, _:*_, _:-_, :-_, Same}
 use Rattle.field.proofs.Solver.{solve}
 use Rattle.field.proofs.Fields.{inv-product}
-use Rattle.field.proofs.Elements.{𝓡, elements, element-zero, element-sum, element-product, element-inverse, element-injective}
+use Rattle.field.proofs.Elements.{𝓡, elements, element-zero, element-sum, element-product, element-negative, element-inverse, element-injective}
 use Rattle.field.proofs.Modular.{difference-below}
 use Rattle.poly.specs.Interpolation.{nodal, weight, terms, interpolated, following}
 use Rattle.poly.specs.Polynomial.{weighted}
@@ -22,7 +22,7 @@ use Rattle.poly.specs.Factorials.{upTo, factorial, signed, binomialWeigh
 use Rattle.poly.proofs.Bounds.{interpolated-below}
 use Rattle.poly.proofs.Turns.{nodal-join}
 use Rattle.poly.proofs.Fractions.{nonzero, quotient-element}
-use Rattle.poly.proofs.Following.{element-negative, less-after, factorial-nonzero, signed-nonzero, following-end, nodal-ahead, nodal-behind}
+use Rattle.poly.proofs.Following.{less-after, factorial-nonzero, signed-nonzero, following-end, nodal-ahead, nodal-behind}
 open CommutativeRing 𝓡 using (add as _⊕_, mul as _⊗_, neg, zero as 0ᴱ, one as 1ᴱ, mul-one)
 open Field elements using (inv, mul-inv)
 
