@@ -12,7 +12,6 @@ use Rattle.field.specs.Modulus.{p}
 use Rattle.field.specs.Arithmetic.{difference}
 use Rattle.field.specs.Algebra.{CommutativeRing, Field}
 use Rattle.field.specs.Element.{Element, element}
-use Rattle.field.proofs.Ring.}
 use Rattle.field.proofs.Expression.{A, B, 𝟘, _:+_, _:-_, :-_, Same}
 use Rattle.field.proofs.Solver.{solve}
 use Rattle.field.proofs.Fields.{product-nonzero}
