@@ -6,11 +6,11 @@ use native.Mathlib.Nat.{mod-eq-of-lt}
 use native.Mathlib.Omega.{arith}
 use Rattle.field.specs.Modulus.{p}
 use Rattle.field.specs.Arithmetic.{sum, difference}
-use Rattle.refusal.specs.Refusal.{_when_, first, orElse}
+use Rattle.refusal.specs.Refusal.{_when_, first}
 use Rattle.refusal.specs.Conditions.{beyond}
 use Rattle.refusal.proofs.Laws.{all-fail}
 use Rattle.refusal.proofs.Elements.{below-p}
-use Rattle.refusal.proofs.Groups.{first-chain}
+use Rattle.refusal.proofs.Groups.{stopped, went-on}
 use Rattle.refusal.proofs.Endings.{refused, accepted}
 use Rattle.factory.specs.Packs.{dealerRefusal, dealerNumber}
 use Rattle.factory.specs.declared.Number.{Number}
@@ -18,29 +18,34 @@ use Rattle.factory.specs.declared.Number.{Number}
 abbrev number : ℕ → ℕ → Number
 number r v = record { refusal = r; value = v }
 
-module _ (u constant a b r : ℕ) (first-test : a ≡ first (8 when beyond u ∷ []))
-    (second-test : b ≡ first (8 when beyond constant ∷ [])) (joined : r ≡ orElse a b) where
-  refusal-is : r ≡ dealerRefusal u constant
+module _ (u constant a : ℕ) (first-test : a ≡ first (8 when beyond u ∷ [])) where
+  abbrev given : Number
+  given = number 0 (difference u constant)
+
+  stops : (r : ℕ) → r ≡ dealerRefusal u constant → (r ≡ 0 → ⊥) → number r 0 ≡ dealerNumber u constant
+  stops r e h = ap (λ (k : ℕ). number k 0) e ∙ refused r (dealerRefusal u constant) given (number (dealerRefusal u constant) 0) e h
+
+  pub first-refused : (a ≡ 0 → ⊥) → number a 0 ≡ dealerNumber u constant
   unfolding dealerRefusal
-  refusal-is =
-      rw (joined, first-test, second-test) (sym (first-chain (8 when beyond u ∷ 8 when beyond constant ∷ []) tt))
+  first-refused h = stops a (stopped (8 when beyond u ∷ []) (8 when beyond constant ∷ []) tt a first-test h) h
 
-  pub number-refused : (r ≡ 0 → ⊥) → number r 0 ≡ dealerNumber u constant
-  number-refused h =
-      ap (λ (k : ℕ). number k 0) refusal-is
-      ∙ refused r (dealerRefusal u constant) _ (number (dealerRefusal u constant) 0) refusal-is h
+  module _ (b : ℕ) (second-test : b ≡ first (8 when beyond constant ∷ [])) where
+    refusal-is : a ≡ 0 → b ≡ dealerRefusal u constant
+    unfolding dealerRefusal
+    refusal-is z = went-on (8 when beyond u ∷ []) (8 when beyond constant ∷ []) tt a first-test b z second-test
 
-  constant-below : r ≡ 0 → constant < p
-  unfolding dealerRefusal
-  constant-below z =
-      below-p constant (all-fail (8 when beyond u ∷ 8 when beyond constant ∷ []) tt (sym refusal-is ∙ z) .1 .0)
+    pub second-refused : a ≡ 0 → (b ≡ 0 → ⊥) → number b 0 ≡ dealerNumber u constant
+    second-refused z h = stops b (refusal-is z) h
 
-  pub constant-most : r ≡ 0 → constant ≤ p
-  constant-most z = omega (arith, constant-below z)
+    constant-below : b ≡ 0 → constant < p
+    constant-below z = below-p constant (all-fail (8 when beyond constant ∷ []) tt (sym second-test ∙ z) .0)
 
-  -- the difference of elements
-  pub number-given : (v : ℕ) → r ≡ 0 → v ≡ sum u (p - constant) → number 0 v ≡ dealerNumber u constant
-  unfolding sum difference
-  number-given v z e =
-      accepted r (dealerRefusal u constant) (number 0 v) _ _ refusal-is z
-      (ap (number 0) (e ∙ ap (λ (x : ℕ). (u + (p - x)) % p) (sym (mod-eq-of-lt (constant-below z)))))
+    pub constant-most : b ≡ 0 → constant ≤ p
+    constant-most z = omega (arith, constant-below z)
+
+    -- the difference of elements
+    pub number-given : (v : ℕ) → a ≡ 0 → b ≡ 0 → v ≡ sum u (p - constant) → number 0 v ≡ dealerNumber u constant
+    unfolding sum difference
+    number-given v z y e =
+        accepted b (dealerRefusal u constant) (number 0 v) given (number (dealerRefusal u constant) 0) (refusal-is z) y
+        (ap (number 0) (e ∙ ap (λ (x : ℕ). (u + (p - x)) % p) (sym (mod-eq-of-lt (constant-below y)))))

@@ -42,7 +42,14 @@ pub fn triple(n: usize, t: usize, points: &[u32], draw: &[u32], out: &mut [u32])
 pub fn dealer_number(u: u32, constant: u32) -> Number
     ensures { λ r. ⌜ r ≡ dealerNumber u constant ⌝ }
 {
-    let refusal = refusal::or_else(refusal::number(u), refusal::number(constant));
+    let first = refusal::number(u);
+    if first != 0 {
+        return Number {
+            refusal: first,
+            value: 0,
+        };
+    }
+    let refusal = refusal::number(constant);
     if refusal != 0 {
         return Number { refusal, value: 0 };
     }
