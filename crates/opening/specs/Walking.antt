@@ -42,8 +42,8 @@ badBlocks s blocks j (suc k) = or (badBlock s blocks j) (badBlocks s blocks (suc
 abbrev pub badRecord : Session → List ℕ → Bool
 badRecord s blocks = badBlocks s blocks 1 (s .n)
 
--- "For its own number the post takes the coefficients in its own row, otherwise the block of the record (an empty part for an
--- absent block)"
+-- "For its own number the post takes the coefficients in its own row, otherwise the block of the record"; "an empty part for an
+-- absent block"
 unfoldable pub sent : Session → List ℕ → List ℕ → ℕ → List ℕ
 sent s row blocks j =
     cond (eqb j (s .post)) (coefficients s row)
