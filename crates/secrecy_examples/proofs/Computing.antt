@@ -1,5 +1,4 @@
 -- What an example's group sees, by computing: `unfolding sees` opens the definitions of the calls.
-use mathlib.Core.List.{List}
 use Rattle.field.specs.Arithmetic.{sum, product, difference, euclid, inverse}
 use Rattle.poly.specs.Polynomial.{value}
 use Rattle.poly.specs.Interpolation.{nodal, weight, terms, interpolated}
@@ -23,8 +22,8 @@ use Rattle.runs.specs.Draws.{pointOf, rawDraw, tripleDraw, rawPack, triplePack}
 use Rattle.runs.specs.Calls.{perform, newPost, at}
 use Rattle.secrecy.specs.Steps.{dealtNumber}
 use Rattle.secrecy.specs.Seen.{Seen, posts, allRows, joined, entryOf, run, polynomialSeen, dealSeen, rawSeen, tripleSeen, seen}
-use Rattle.secrecy_examples.specs.Example.{Example, planOf, secretsOf}
+use Rattle.secrecy_examples.specs.Example.{Example, seenOf}
 
 unfoldable pub sees : Example → Seen
 unfolding sum product difference euclid inverse value nodal weight terms interpolated outcome anyBeyond eachFrom part dealerRefusal combined plusSums created loadRowRefusal loadTripleRefusal withTriple dealRefusal messageRefusal linearRefusal badBlock badBlocks sent accepts share walk opened openRefusal masksRefusal maskNumbersOf finishRefusal productRow withProduct lastDigits sizeWithin fields pointOf rawDraw tripleDraw rawPack triplePack perform newPost at dealtNumber posts allRows joined entryOf run polynomialSeen dealSeen rawSeen tripleSeen seen
-sees x = seen (planOf x) (x .group) (x .draw) (secretsOf (x .secrets)) (x .rows) (x .steps)
+sees x = seenOf x

@@ -11,7 +11,7 @@ use lib.Dec.{eqb, leb, ltb}
 use Rattle.poly.specs.Counting.{All}
 use Rattle.runs.specs.Calls.{Among}
 use Rattle.secrecy.specs.Count.{sameList, sameNumbers}
-use Rattle.secrecy.proofs.Tests.{Right, numbers-lists-right}
+use Rattle.secrecy.proofs.Tests.{numbers-lists-right}
 
 pub found : {A : Type 0} (o : Option A) → IsSome o → A
 found none s = absurd s

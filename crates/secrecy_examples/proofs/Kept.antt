@@ -55,7 +55,8 @@ unfoldable pub told : (lines : List (List ℕ)) (r j : ℕ) (xs : List ℕ) → 
 unfolding among
 told lines r j xs = among (openingLine r j xs) lines
 
-unfoldable pub told-half : (sent : List (List ℕ)) (t : ℕ) (half : List ℕ → List ℕ) (r : ℕ) (lines : List (List ℕ)) (j : ℕ) (xs : List ℕ) → Option (ToldHalf t half r lines j xs)
+unfoldable pub told-half : (sent : List (List ℕ)) (t : ℕ) (half : List ℕ → List ℕ) (r : ℕ) (lines : List (List ℕ)) (j : ℕ) (xs : List ℕ)
+    → Option (ToldHalf t half r lines j xs)
 unfolding either _also_ equal elements among same
 told-half [] t half r lines j xs = none
 told-half (m ∷ sent) t half r lines j xs =

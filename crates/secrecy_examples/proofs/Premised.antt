@@ -4,7 +4,7 @@ use mathlib.Core.Path.{_≡_, refl, sym, subst}
 use mathlib.Core.Bool.{Bool, true, false, cond, not, false≢true}
 use mathlib.Core.Logic.{inl, inr}
 use mathlib.Core.List.{List, [], _∷_}
-use mathlib.Core.Option.{Option, some}
+use mathlib.Core.Option.{Option, some, IsSome}
 use native.Mathlib.Omega.{arith}
 use borrow.Author.Tests.{eqb-true, eqb-false, not-true}
 use lib.Dec.{eqb, lit<}
@@ -26,7 +26,7 @@ use Rattle.secrecy.proofs.Listed.{all-draws}
 use Rattle.secrecy.proofs.Theorems.{equal-counts}
 use Rattle.secrecy_examples.specs.Example.{Example, AtWork, planOf, secretsOf}
 use Rattle.secrecy_examples.proofs.Computing.{sees}
-use Rattle.secrecy_examples.proofs.Found.{_also_, both, either, tested, equal, at-most, below, each, each-below}
+use Rattle.secrecy_examples.proofs.Found.{found, _also_, both, either, tested, equal, at-most, below, each, each-below}
 use Rattle.secrecy_examples.proofs.Kept.{elements, same-answers, rules, agree}
 
 -- ---- the draw
@@ -116,11 +116,9 @@ module _ (x : Example) where
       also at-most (length (x .group)) (x .t)
       also each (λ i. both (at-most 1 i) (at-most i (x .n))) (x .group)
 
-  abbrev pub Met : Type 0
-  Met = Premises (planOf x) (x .group) (secretsOf (x .secrets)) (secretsOf (x .secrets')) (x .steps) (x .shown)
-
   -- `sent` are the masks that posts broadcast
-  unfoldable pub premises : (sent : List (List ℕ)) → Option Met
+  unfoldable pub premises : (sent : List (List ℕ))
+      → Option (Premises (planOf x) (x .group) (secretsOf (x .secrets)) (secretsOf (x .secrets')) (x .steps) (x .shown))
   unfolding _also_ sound group-few elements dealers same-answers rules agree blank
   premises sent =
       some (λ s g e e' d a k q. record {
@@ -157,10 +155,13 @@ module _ (x : Example) where
   abbrev u : Secrets
   u = secretsOf (x .secrets)
 
-  pub at-work : sees x ≡ x .shown → IsDraw (planOf x) (x .draw) → Met x
-      → (r : ℕ) → IsRaw (planOf x .raw r) → eqb (secretsOf (x .secrets) r) (secretsOf (x .secrets') r) ≡ false → AtWork x
+  -- row r is one in which the two lists differ
+  pub at-work : (sent : List (List ℕ)) (r : ℕ) → sees x ≡ x .shown → IsSome (is-draw (planOf x) (x .draw)) → IsSome (premises x sent)
+      → IsRaw (planOf x .raw r) → eqb (secretsOf (x .secrets) r) (secretsOf (x .secrets') r) ≡ false → AtWork x
   unfolding sees
-  at-work seen-is drawn met r raw ne =
+  at-work sent r seen-is d h raw ne =
+      let drawn = found (is-draw (planOf x) (x .draw)) d in
+      let met = found (premises x sent) h in
       record {
         premises = met;
         differ = (r, raw, eqb-false (u r) (secretsOf (x .secrets') r) ne);

@@ -26,7 +26,7 @@ pub record Example : Type 0 where
   -- the two lists of secrets, row 0's first
   pub secrets : List ℕ
   pub secrets' : List ℕ
-  -- what the group sees of the draw under the first
+  -- the record: what the group is shown of the draw under the first
   pub shown : Seen
 
 abbrev pub planOf : Example → Plan
@@ -34,6 +34,10 @@ planOf x = record { n = x .n; t = x .t; raw = λ r. getD (x .raws) r none; tripl
 
 abbrev pub secretsOf : List ℕ → Secrets
 secretsOf us r = getD us r 0
+
+-- what the group sees under the first list
+abbrev pub seenOf : Example → Seen
+seenOf x = seen (planOf x) (x .group) (x .draw) (secretsOf (x .secrets)) (x .rows) (x .steps)
 
 -- how many of all draws of the plan show the record under these secrets
 abbrev pub showing : Example → List ℕ → ℕ
@@ -50,8 +54,7 @@ pub record AtWork (x : Example) : Type 0 where
 
 -- the number that the k-th call of the list, counted from 0, opened at each post
 abbrev pub openedBy : Example → ℕ → List ℕ
-openedBy x k =
-    getD (map (λ (e : Entry). e .values) (seen (planOf x) (x .group) (x .draw) (secretsOf (x .secrets)) (x .rows) (x .steps) .entries)) k []
+openedBy x k = getD (map (λ (e : Entry). e .values) (seenOf x .entries)) k []
 
 -- the number of row r in the plain book at the end, under these secrets
 abbrev pub bookedAt : Example → List ℕ → ℕ → ℕ

@@ -2,7 +2,7 @@
 -- the first with half the second, 8, are opened, each after messages of three posts; their sum is made and not opened.
 use Prim.Native.Nat.{ℕ}
 use mathlib.Core.Bool.{cond}
-use mathlib.Core.List.{List, [], _∷_}
+use mathlib.Core.List.{List, [], _∷_, _++_}
 use lib.Dec.{eqb}
 use lib.ListN.{take, drop, replicate}
 use Rattle.field.specs.Modulus.{p}
@@ -42,7 +42,9 @@ draw =
           ∷ []
           ∷ []
           ∷ []
-          ∷ (2 ∷ 1 ∷ 3 ∷ 5 ∷ 1 ∷ 2 ∷ 3 ∷ 2 ∷ 1 ∷ 1 ∷ 7 ∷ 4 ∷ 4 ∷ 1 ∷ 0 ∷ 5 ∷ 2 ∷ 1 ∷ 1 ∷ 1 ∷ 3 ∷ 6 ∷ 3 ∷ 2 ∷ 2 ∷ 2 ∷ 1 ∷ 3 ∷ 5 ∷ 2 ∷ 9 ∷ 4 ∷ 1 ∷ 8 ∷ 2 ∷ 3 ∷ 5 ∷ 1 ∷ 2 ∷ 1 ∷ 6 ∷ 7 ∷ 2 ∷ 3 ∷ [])
+          ∷ ((2 ∷ 1 ∷ 3 ∷ 5 ∷ 1 ∷ 2 ∷ 3 ∷ 2 ∷ 1 ∷ 1 ∷ 7 ∷ 4 ∷ 4 ∷ 1 ∷ 0 ∷ [])
+          ++ ((5 ∷ 2 ∷ 1 ∷ 1 ∷ 1 ∷ 3 ∷ 6 ∷ 3 ∷ 2 ∷ 2 ∷ 2 ∷ 1 ∷ 3 ∷ 5 ∷ 2 ∷ [])
+          ++ (9 ∷ 4 ∷ 1 ∷ 8 ∷ 2 ∷ 3 ∷ 5 ∷ 1 ∷ 2 ∷ 1 ∷ 6 ∷ 7 ∷ 2 ∷ 3 ∷ [])))
           ∷ []);
     }
 

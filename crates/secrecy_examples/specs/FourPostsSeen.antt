@@ -5,10 +5,12 @@ use mathlib.Core.List.{List, [], _∷_, _++_, map}
 use lib.ListN.{getD, replicate}
 use Rattle.forms.specs.Lines.{text}
 use Rattle.forms.specs.Lines as Line
+use Rattle.runs.specs.Draws.{rawPack}
 use Rattle.runs.specs.Calls.{openingLine, masksLine}
 use Rattle.secrecy.specs.Seen.{Entry, Seen, posts, joined}
-use Rattle.secrecy_examples.specs.Example.{Example, openedBy, bookedAt, padded, of, filled, entry}
-use Rattle.secrecy_examples.specs.FourPosts.{raws, triples, group, draw, start, raw0at2, foreign, masksSent, productSent, sumSent, heardBy, masksA, masksB, steps}
+use Rattle.secrecy_examples.specs.Example.{Example, planOf, openedBy, bookedAt, padded, of, filled, entry}
+use Rattle.secrecy_examples.specs.FourPosts.{raws, triples, group, draw, start, raw0at1, raw0at2}
+use Rattle.secrecy_examples.specs.FourPosts.{foreign, masksSent, productSent, sumSent, heardBy, masksA, masksB, steps}
 
 -- Row 0 as it comes from the factory, at post 2 and at post 4; rows 1, 2 and 3; the triple's three rows.
 abbrev pub raw0 : List (List ℕ)
@@ -157,3 +159,7 @@ FourBooks =
     × (bookedAt four (four .secrets') 6 ≡ 30)
     × (bookedAt four (four .secrets) 7 ≡ 13)
     × (bookedAt four (four .secrets') 7 ≡ 11)
+
+-- What each post is lent in the second call is another's pack.
+abbrev pub FourForeign : Type 0
+FourForeign = (raw0at1 ≡ rawPack (planOf four) draw 1 0) × (raw0at2 ≡ rawPack (planOf four) draw 2 0)

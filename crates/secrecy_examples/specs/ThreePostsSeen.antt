@@ -8,7 +8,8 @@ use Rattle.forms.specs.Lines as Line
 use Rattle.runs.specs.Calls.{openingLine, masksLine}
 use Rattle.secrecy.specs.Seen.{Entry, Seen, posts}
 use Rattle.secrecy_examples.specs.Example.{Example, openedBy, padded, of, filled, entry}
-use Rattle.secrecy_examples.specs.ThreePosts.{raws, triples, group, zeros, masksSent, productSent, sumSent, nothing, masksA, masksB, products, sums, steps, draw}
+use Rattle.secrecy_examples.specs.ThreePosts.{raws, triples, group, zeros}
+use Rattle.secrecy_examples.specs.ThreePosts.{masksSent, productSent, sumSent, nothing, masksA, masksB, products, sums, steps, draw}
 
 -- Post 3's rows as they come from the factory; the first is P4 of document 01.
 abbrev pub raw0 : List ℕ
