@@ -1,21 +1,19 @@
 -- An example for demand 3, with numbers of document 01, "Reckoned by hand": n = 3, t = 1, check points 2, 3, 5; post 3 is the
 -- group. 6 and 7 are dealt, or 7 and 6; their sum and their product are made and opened.
 use Prim.Native.Nat.{ℕ}
-use mathlib.Core.Bool.{true, false}
+use mathlib.Core.Bool.{true}
 use mathlib.Core.List.{List, [], _∷_}
-use lib.ListN.{getD, replicate}
-use Rattle.runs.specs.Draws.{Plan, Draw, none, by}
-use Rattle.secrecy.specs.Steps.{Secrets, Record, Step, own, sent, loadRow, loadTriple, deal, message, opening, linear, masks, finish}
+use lib.ListN.{take, drop, replicate}
+use Rattle.runs.specs.Draws.{Raw, Draw, by}
+use Rattle.secrecy.specs.Steps.{Record, Step, own, sent, loadRow, loadTriple, deal, message, opening, linear, masks, finish}
+use Rattle.secrecy_examples.specs.Example.{padded, of, blocks, present}
 
 -- Row 0 is dealt by post 1, row 1 by someone who is no post, row 2 by post 3, which is in the group; one triple, at row 3.
-unfoldable pub plan : Plan
-plan =
-    record {
-      n = 3;
-      t = 1;
-      raw = λ r. getD (by 1 ∷ by 0 ∷ by 3 ∷ []) r none;
-      triple = λ r. getD (false ∷ false ∷ false ∷ true ∷ []) r false;
-    }
+unfoldable pub raws : List Raw
+raws = by 1 ∷ by 0 ∷ by 3 ∷ []
+
+unfoldable pub triples : List ℕ
+triples = 3 ∷ []
 
 unfoldable pub group : List ℕ
 group = 3 ∷ []
@@ -26,41 +24,53 @@ draw =
     record {
       points = 2 ∷ 3 ∷ 5 ∷ [];
       raws =
-          (7 ∷ 4 ∷ 1 ∷ 2 ∷ 3 ∷ 1 ∷ 5 ∷ 6 ∷ [])
+          padded
+          ((7 ∷ 4 ∷ 1 ∷ 2 ∷ 3 ∷ 1 ∷ 5 ∷ 6 ∷ [])
           ∷ (3 ∷ 5 ∷ 2 ∷ 1 ∷ 1 ∷ 1 ∷ 4 ∷ 2 ∷ [])
           ∷ (8 ∷ 1 ∷ 6 ∷ 3 ∷ 2 ∷ 9 ∷ 7 ∷ 4 ∷ [])
-          ∷ replicate 93 [];
+          ∷ []);
       triples =
-          []
+          padded
+          ([]
           ∷ []
           ∷ []
           ∷ (2 ∷ 1 ∷ 5 ∷ 1 ∷ 3 ∷ 2 ∷ 1 ∷ 7 ∷ 5 ∷ 2 ∷ 1 ∷ 1 ∷ 6 ∷ 3 ∷ 2 ∷ 2 ∷ 9 ∷ 4 ∷ 1 ∷ 8 ∷ 3 ∷ 5 ∷ 2 ∷ [])
-          ∷ replicate 92 [];
+          ∷ []);
     }
-
--- a for row 0, b for row 1, and 9 for row 2
-unfoldable pub secrets : ℕ → ℕ → Secrets
-secrets a b r = getD (a ∷ b ∷ 9 ∷ []) r 0
 
 -- 96 rows of 8 numbers, all 0
 unfoldable pub zeros : ℕ → List ℕ
 zeros i = replicate 768 0
 
--- Records, the same for all three posts: nothing; what was sent of the triple's masks; of the product; of the sum.
+-- The posts' masks, and their messages of the product and of the sum.
+abbrev pub masksSent : List (List ℕ)
+masksSent =
+    (2147483643 ∷ 1 ∷ 1 ∷ 0 ∷ [])
+    ∷ (0 ∷ 2147483646 ∷ 2147483642 ∷ 2147483645 ∷ [])
+    ∷ (4 ∷ 2147483646 ∷ 2 ∷ 0 ∷ [])
+    ∷ []
+
+abbrev pub productSent : List (List ℕ)
+productSent = (18 ∷ 7 ∷ []) ∷ (38 ∷ 19 ∷ []) ∷ (15 ∷ 24 ∷ []) ∷ []
+
+abbrev pub sumSent : List (List ℕ)
+sumSent = (3 ∷ 3 ∷ []) ∷ (4 ∷ 2 ∷ []) ∷ (9 ∷ 8 ∷ []) ∷ []
+
+-- Records, the same for all three posts: nothing, or what was sent.
 unfoldable pub nothing : Record
 nothing i lines = replicate 9 0
 
 unfoldable pub masksA : Record
-masksA i lines = 1 ∷ 2147483643 ∷ 1 ∷ 1 ∷ 0 ∷ 2147483646 ∷ 1 ∷ 4 ∷ 2147483646 ∷ []
+masksA i lines = blocks 3 (λ j. present (take 2 (of masksSent j)))
 
 unfoldable pub masksB : Record
-masksB i lines = 1 ∷ 1 ∷ 0 ∷ 1 ∷ 2147483642 ∷ 2147483645 ∷ 1 ∷ 2 ∷ 0 ∷ []
+masksB i lines = blocks 3 (λ j. present (drop 2 (of masksSent j)))
 
 unfoldable pub products : Record
-products i lines = 1 ∷ 18 ∷ 7 ∷ 1 ∷ 38 ∷ 19 ∷ 1 ∷ 15 ∷ 24 ∷ []
+products i lines = blocks 3 (λ j. present (of productSent j))
 
 unfoldable pub sums : Record
-sums i lines = 1 ∷ 3 ∷ 3 ∷ 1 ∷ 4 ∷ 2 ∷ 1 ∷ 9 ∷ 8 ∷ []
+sums i lines = blocks 3 (λ j. present (of sumSent j))
 
 -- A second deal of row 0 is refused (7), a sum into row 96 too (6), and an opening of the product before any message (9).
 unfoldable pub steps : List Step
