@@ -1,11 +1,10 @@
 -- What the example and the counterexamples share: three posts, two raw rows and a triple; and how premises are shown by computing.
 use Prim.Native.Nat.{ℕ, zero, suc, _≤_, _<_}
 use mathlib.Core.Path.{_≡_, refl}
-use mathlib.Core.Bool.{Bool, true, false, _&&_}
 use mathlib.Core.List.{List, [], _∷_, _++_}
 use native.Mathlib.Omega.{arith}
 use borrow.Author.Tests.{eqb-true, ne-eqb}
-use lib.Dec.{T, eqb, leb, lit<, lit≤}
+use lib.Dec.{eqb, lit<, lit≤}
 use lib.ListN.{length, getD, replicate}
 use Rattle.field.specs.Arithmetic as Arithmetic
 use Rattle.poly.specs.Counting.{All, Elements, count}
@@ -130,38 +129,23 @@ refusals (e ∷ es) w = doneBy e w .answer .refusal ∷ refusals es (turn e w)
 
 -- ---- premises, part by part
 
+-- all posts
+abbrev pub Everyone : ℕ → Type 0
+Everyone i = Unit {0}
+
 pub all-join : (P : Event → Type 0) (xs ys : List Event) → All P xs → All P ys → All P (xs ++ ys)
 all-join P [] ys a b = b
 all-join P (x ∷ xs) ys a b = (a .0, all-join P xs ys (a .1) b)
 
-pub each-join : (P : Event → World → Type 0) (xs ys : List Event) (w : World) → Each P xs w → Each P ys (history xs w) → Each P (xs ++ ys) w
-each-join P [] ys w a b = b
-each-join P (x ∷ xs) ys w a b = (a .0, each-join P xs ys (turn x w) (a .1) b)
+module _ (S : ℕ → Type 0) where
+  pub each-join : (P : Event → World → Type 0) (xs ys : List Event) (w : World) → Each S P xs w → Each S P ys (history xs w) → Each S P (xs ++ ys) w
+  each-join P [] ys w a b = b
+  each-join P (x ∷ xs) ys w a b = (a .0, each-join P xs ys (turn x w) (a .1) b)
 
-pub each-map : (P Q : Event → World → Type 0) → ((e : Event) (v : World) → P e v → Q e v) → (es : List Event) (w : World) → Each P es w → Each Q es w
-each-map P Q f [] w a = tt
-each-map P Q f (e ∷ es) w a = ((λ z. f e w (a .0 z)), each-map P Q f es (turn e w) (a .1))
-
--- posts 1 to n, by a test
-unfoldable pub within : ℕ → List Event → Bool
-within n [] = true
-within n (e ∷ es) = leb 1 (e .post) && (leb (e .post) n && within n es)
-
-both : (a b : Bool) → T (a && b) → T a × T b
-both true b h = (tt, h)
-both false b h = absurd h
-
-pub posts-in : (n : ℕ) (es : List Event) → T (within n es) → All (λ e. (1 ≤ e .post) × (e .post ≤ n)) es
-unfolding within
-posts-in n [] h = tt
-posts-in n (e ∷ es) h =
-    let a = both (leb 1 (e .post)) (leb (e .post) n && within n es) h in let b = both (leb (e .post) n) (within n es) (a .1) in
-    ((lit≤ (a .0), lit≤ (b .0)), posts-in n es (b .1))
-
--- what holds of all events, whatever the posts are then
-pub each-of : (P : Event → Type 0) (es : List Event) (w : World) → All P es → Each (λ e v. P e) es w
-each-of P [] w a = tt
-each-of P (e ∷ es) w a = ((λ z. a .0), each-of P es (turn e w) (a .1))
+  -- what holds of all events, whatever the posts are then
+  pub each-of : (P : Event → Type 0) (es : List Event) (w : World) → All P es → Each S (λ e v. P e) es w
+  each-of P [] w a = tt
+  each-of P (e ∷ es) w a = ((λ m z. a .0), each-of P es (turn e w) (a .1))
 
 -- no finish among the events
 abbrev pub QuietThen : Call → Type 0 → Type 0
@@ -178,18 +162,20 @@ abbrev pub Quiet : List Event → Type 0
 Quiet [] = Unit {0}
 Quiet (e ∷ es) = QuietThen (e .call) (Quiet es)
 
-quiet-call : (q : Post) (lines : List (List ℕ)) (A : Type 0) (c : Call) → QuietThen c A → TrueFinish q lines c × A
-quiet-call q lines A (loadRow r pack) a = (tt, a)
-quiet-call q lines A (loadTriple r pack) a = (tt, a)
-quiet-call q lines A (deal r c) a = (tt, a)
-quiet-call q lines A (message r lent) a = (tt, a)
-quiet-call q lines A (opening r blocks) a = (tt, a)
-quiet-call q lines A (linear r a' b s) a = (tt, a)
-quiet-call q lines A (masks a' b r lent) a = (tt, a)
-quiet-call q lines A (finish r blocks blocks') a = absurd a
+quiet-call : (S : ℕ → Type 0) (w : World) (q : Post) (A : Type 0) (c : Call) → QuietThen c A → TrueFinish S w q c × A
+quiet-call S w q A (loadRow r pack) a = (tt, a)
+quiet-call S w q A (loadTriple r pack) a = (tt, a)
+quiet-call S w q A (deal r c) a = (tt, a)
+quiet-call S w q A (message r lent) a = (tt, a)
+quiet-call S w q A (opening r blocks) a = (tt, a)
+quiet-call S w q A (linear r a' b s) a = (tt, a)
+quiet-call S w q A (masks a' b r lent) a = (tt, a)
+quiet-call S w q A (finish r blocks blocks') a = absurd a
 
-pub each-quiet : (es : List Event) (w : World) → Quiet es → Each (λ e v. TrueFinish (v .posts (e .post)) (v .lines) (e .call)) es w
-each-quiet [] w h = tt
-each-quiet (e ∷ es) w h =
-    let k = quiet-call (w .posts (e .post)) (w .lines) (Quiet es) (e .call) h in
-    ((λ z. k .0), each-quiet es (turn e w) (k .1))
+-- of calls of the posts S, with truth by the posts T
+pub each-quiet : (S T : ℕ → Type 0) (es : List Event) (w : World) → Quiet es
+    → Each S (λ e v. TrueFinish T v (v .posts (e .post)) (e .call)) es w
+each-quiet S T [] w h = tt
+each-quiet S T (e ∷ es) w h =
+    let k = quiet-call T w (w .posts (e .post)) (Quiet es) (e .call) h in
+    ((λ m z. k .0), each-quiet S T es (turn e w) (k .1))
