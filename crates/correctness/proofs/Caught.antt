@@ -28,7 +28,7 @@ use Rattle.runs.proofs.Records.{Present, sent-there, accepted-there, block-many
 use Rattle.runs.proofs.Packs.{rowFor}
 use Rattle.runs.proofs.Rows.{marked-low}
 use Rattle.runs.proofs.Steps.{named}
-use Rattle.correctness.specs.History.{Event, World, history, begin}
+use Rattle.correctness.specs.History.{Event, World, begin}
 use Rattle.correctness.specs.Ledger.{Ledger}
 use Rattle.correctness.specs.Truth.{TruePolynomial}
 use Rattle.correctness.specs.Claim.{Premises}

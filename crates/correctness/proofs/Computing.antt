@@ -1,6 +1,7 @@
 -- What the example and the counterexamples share: three posts, two raw rows and a triple; and how premises are shown by computing.
 use Prim.Native.Nat.{ℕ, zero, suc, _≤_, _<_}
 use mathlib.Core.Path.{_≡_, refl}
+use mathlib.Core.Logic.{_≢_}
 use mathlib.Core.List.{List, [], _∷_, _++_}
 use native.Mathlib.Omega.{arith}
 use borrow.Author.Tests.{eqb-true, ne-eqb}
@@ -30,8 +31,8 @@ use Rattle.runs.specs.Draws.{Plan, Draw, IsRaw, Sound, IsDraw, rawLength, tripl
 use Rattle.runs.specs.Calls.{Post, Call, loadRow, loadTriple, deal, message, opening, linear, masks, finish, perform, newPost, at}
 use Rattle.runs.proofs.Lines.{elements-of}
 use Rattle.correctness.specs.History.{Event, World, doneBy, turn, history, Each}
-use Rattle.correctness.specs.Ledger.{Ledger, nothing, dealt, sum, product, Plain, of-deal, of-product}
-use Rattle.correctness.specs.Truth.{TrueFinish}
+use Rattle.correctness.specs.Ledger.{Ledger, nothing, dealt, sum, product, Written, Plain, of-deal, of-sum, of-product}
+use Rattle.correctness.specs.Truth.{OwnPart, TrueFinish}
 
 -- `refl` proves it where `unfolding Computes` opens the calls' definitions
 unfoldable pub Computes : {A : Type 0} → A → A → Type 0
@@ -91,9 +92,17 @@ is-draw x many low = record {
     triples (suc (suc zero)) h = (many, low)
     triples (suc (suc (suc r))) h = rw (none-there 93 r, ne-eqb (suc (suc (suc r))) 2 (omega arith)) (refl, tt)
 
--- row 0 is 6, row 1 is 7, row 4 their product by the triple at 2, row 5 is 6 + 2 · 7, row 6 is 6 + 2 · (6 · 7)
+-- row 0 is 6, row 1 is 7, row 4 their product by the triple at 2, row 5 is 6 + 2 · 7, row 6 is 6 + 2 · (6 · 7), row 7 is 6 + 2 · 6
 unfoldable pub ledger : Ledger
-ledger r = getD (dealt 6 ∷ dealt 7 ∷ nothing ∷ nothing ∷ product 2 0 1 ∷ sum 0 1 2 ∷ sum 0 4 2 ∷ []) r nothing
+ledger r = getD (dealt 6 ∷ dealt 7 ∷ nothing ∷ nothing ∷ product 2 0 1 ∷ sum 0 1 2 ∷ sum 0 4 2 ∷ sum 0 0 2 ∷ []) r nothing
+
+pub plain-6 : Plain ledger 0 6
+unfolding ledger
+plain-6 = of-deal refl
+
+pub plain-18 : Plain ledger 7 18
+unfolding Computes ledger
+plain-18 = of-sum {a = 0} {b = 0} {s = 2} {x = 6} {y = 6} refl (of-deal refl) (of-deal refl)
 
 pub plain-42 : Plain ledger 4 42
 unfolding Computes ledger
@@ -129,9 +138,19 @@ refusals (e ∷ es) w = doneBy e w .answer .refusal ∷ refusals es (turn e w)
 
 -- ---- premises, part by part
 
--- all posts
+-- all posts, and all but one
 abbrev pub Everyone : ℕ → Type 0
 Everyone i = Unit {0}
+
+abbrev pub AllBut : ℕ → ℕ → Type 0
+AllBut k i = i ≢ k
+
+-- the premises with truth by all posts, each asked of posts of its own: A load their own parts, B keep to the ledger, C finish truly
+pub record Asked (draw : Draw) (A B C : ℕ → Type 0) (es : List Event) (w : World) : Type 0 where
+  pub is-draw : IsDraw plan draw
+  pub parts : Each A (λ e v. OwnPart plan draw (e .post) (e .call)) es w
+  pub ledger : Each B (λ e v. Written draw ledger (e .call)) es w
+  pub finishes : Each C (λ e v. TrueFinish Everyone v (v .posts (e .post)) (e .call)) es w
 
 pub all-join : (P : Event → Type 0) (xs ys : List Event) → All P xs → All P ys → All P (xs ++ ys)
 all-join P [] ys a b = b

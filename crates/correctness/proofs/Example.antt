@@ -13,7 +13,7 @@ use Rattle.factory.specs.Packs.{dealerNumber}
 use Rattle.opening.specs.Walking.{acceptedPosts}
 use Rattle.opening.specs.Opening.{openAnswer}
 use Rattle.product.specs.Finish.{maskA}
-use Rattle.runs.specs.Draws.{Draw, rawDraw}
+use Rattle.runs.specs.Draws.{Draw, IsDraw, rawDraw}
 use Rattle.runs.specs.Calls.{Post, message, linear, masks, finish}
 use Rattle.runs.proofs.Lines.{elements-of}
 use Rattle.correctness.specs.History.{Event, World, history, begin, Each}
@@ -29,6 +29,10 @@ drawn = 2 ∷ 1 ∷ 5 ∷ 1 ∷ 3 ∷ 2 ∷ 1 ∷ 7 ∷ 5 ∷ 2 ∷ 1 ∷ 1 ∷ 
 
 unfoldable pub draw : Draw
 draw = drawWith drawn
+
+pub draw-is : IsDraw plan draw
+unfolding Computes drawn draw
+draw-is = is-draw drawn refl (elements-of drawn refl)
 
 -- ---- the run
 
@@ -130,7 +134,7 @@ pub premises : Premises plan draw ledger Everyone events (begin plan draw (λ i.
 unfolding Computes plan drawn draw loads deals sums ends
 premises = record {
   sound = sound;
-  is-draw = is-draw drawn refl (elements-of drawn refl);
+  is-draw = draw-is;
   parts = each-of Everyone (λ e. OwnPart plan draw (e .post) (e .call)) events new own-parts;
   ledger = each-of Everyone (λ e. Written draw ledger (e .call)) events new all-written;
   finishes =

@@ -11,7 +11,7 @@ use Rattle.poly.specs.Counting.{All}
 use Rattle.opening.specs.Walking.{opened}
 use Rattle.opening.specs.Opening.{openAnswer}
 use Rattle.product.specs.Finish.{maskA}
-use Rattle.runs.specs.Draws.{Draw, IsDraw, Sound}
+use Rattle.runs.specs.Draws.{Draw}
 use Rattle.runs.specs.Calls.{message, masks, finish}
 use Rattle.runs.proofs.Lines.{elements-of}
 use Rattle.correctness.specs.History.{Event, World, history, begin, Each}
@@ -19,7 +19,7 @@ use Rattle.correctness.specs.Ledger.{Written, Plain}
 use Rattle.correctness.specs.Truth.{OwnPart, TruePolynomial, TrueFinish}
 use Rattle.correctness.specs.Claim.{Opens, Right}
 use Rattle.correctness.proofs.Meanings.{one-number}
-use Rattle.correctness.proofs.Computing.{Computes, plan, sound, drawWith, is-draw, ledger, plain-42, call, load, loadThree, dealOf, room, rooms, refusals, Everyone, all-join, each-join, each-of, each-quiet}
+use Rattle.correctness.proofs.Computing.{Computes, plan, drawWith, is-draw, ledger, plain-42, call, load, loadThree, dealOf, room, rooms, refusals, Everyone, AllBut, Asked, all-join, each-join, each-of, each-quiet}
 use Rattle.correctness.proofs.Example as Example
 use Rattle.correctness.proofs.Example.{last}
 
@@ -86,29 +86,19 @@ all-written ends a =
     ((6, lit< tt, refl, refl), ((7, lit< tt, refl, refl), ((6, lit< tt, refl, refl), ((7, lit< tt, refl, refl), (refl, (refl, tt)))))))
     a
 
--- every premise but the truth of finishes; and that of all posts' but one's
-abbrev ButTruth : List Event → Type 0
-ButTruth es =
-    Sound plan × IsDraw plan draw × Each Everyone (λ e v. OwnPart plan draw (e .post) (e .call)) es new
-    × Each Everyone (λ e v. Written draw ledger (e .call)) es new
-
-abbrev TrueBut : ℕ → List Event → World → Type 0
-TrueBut i = Each (λ j. j ≢ i) (λ e v. TrueFinish Everyone v (v .posts (e .post)) (e .call))
-
-but-truth : (ends : List Event) → All Own ends → All Wrote ends → ButTruth (before ++ ends)
-unfolding Computes plan drawn draw
-but-truth ends a b = (
-  sound,
-  is-draw drawn refl (elements-of drawn refl),
-  each-of Everyone Own (before ++ ends) new (own-parts ends a),
-  each-of Everyone Wrote (before ++ ends) new (all-written ends b),
-)
-
-true-but : (i : ℕ) (ends : List Event) → TrueBut i ends (history before new) → TrueBut i (before ++ ends) new
-unfolding loads deals
-true-but i ends a =
-    each-join (λ j. j ≢ i) (λ e v. TrueFinish Everyone v (v .posts (e .post)) (e .call)) before ends new
-    (each-quiet (λ j. j ≢ i) Everyone before new tt) a
+-- every premise, with truth in all posts' finishes but one's
+asked : (k : ℕ) (ends : List Event) → All Own ends → All Wrote ends
+    → Each (AllBut k) (λ e v. TrueFinish Everyone v (v .posts (e .post)) (e .call)) ends (history before new)
+    → Asked draw Everyone Everyone (AllBut k) (before ++ ends) new
+unfolding Computes plan drawn draw loads deals
+asked k ends a b c = record {
+  is-draw = is-draw drawn refl (elements-of drawn refl);
+  parts = each-of Everyone Own (before ++ ends) new (own-parts ends a);
+  ledger = each-of Everyone Wrote (before ++ ends) new (all-written ends b);
+  finishes =
+      each-join (AllBut k) (λ e v. TrueFinish Everyone v (v .posts (e .post)) (e .call)) before ends new
+      (each-quiet (AllBut k) Everyone before new tt) c;
+}
 
 -- what posts 1 and 2 sent of masks
 m1 : List ℕ
@@ -134,16 +124,13 @@ unfolding Computes plan drawWith drawn draw loads deals ends refusals
 answered = refl
 
 -- every premise holds but the truth of post 1's finish
-all-but-one : ButTruth events × TrueBut 1 events new
+all-but-one : Asked draw Everyone Everyone (AllBut 1) events new
 unfolding Computes plan drawWith drawn draw loads deals ends m1
-all-but-one = (
-  but-truth ends (tt, (tt, (tt, tt))) (tt, (tt, (tt, tt))),
-  true-but 1 ends (
-    (λ ne z. absurd (ne refl)),
-    (
-      (λ ne z. (((λ o. (tt, (m1, refl, elements-of m1 refl, inl refl, refl))), ((λ o. absurd (o refl)), tt)), ((λ o. (tt, (m1, refl, elements-of m1 refl, inl refl, refl))), ((λ o. absurd (o refl)), tt)))),
-      ((λ ne z. tt), tt),
-    ),
+all-but-one = asked 1 ends (tt, (tt, (tt, tt))) (tt, (tt, (tt, tt))) (
+  (λ ne z. absurd (ne refl)),
+  (
+    (λ ne z. (((λ o. (tt, (m1, refl, elements-of m1 refl, inl refl, refl))), ((λ o. absurd (o refl)), tt)), ((λ o. (tt, (m1, refl, elements-of m1 refl, inl refl, refl))), ((λ o. absurd (o refl)), tt)))),
+    ((λ ne z. tt), tt),
   ),
 )
 
@@ -194,14 +181,11 @@ unfolding Computes plan drawWith drawn draw loads deals
 opens-less-2 = refl
 
 -- every premise holds but the truth of post 2's finish
-all-but-two : ButTruth events' × TrueBut 2 events' new
+all-but-two : Asked draw Everyone Everyone (AllBut 2) events' new
 unfolding Computes plan drawWith drawn draw loads deals ends' m2
-all-but-two = (
-  but-truth ends' (tt, (tt, (tt, tt))) (tt, (tt, (tt, tt))),
-  true-but 2 ends' (
-    (λ ne z. (((λ o. absurd (o refl)), ((λ o. (tt, (m2, refl, elements-of m2 refl, inl refl, refl))), tt)), ((λ o. absurd (o refl)), ((λ o. (tt, (m2, refl, elements-of m2 refl, inl refl, refl))), tt)))),
-    ((λ ne z. absurd (ne refl)), ((λ ne z. absurd (ne refl)), tt)),
-  ),
+all-but-two = asked 2 ends' (tt, (tt, (tt, tt))) (tt, (tt, (tt, tt))) (
+  (λ ne z. (((λ o. absurd (o refl)), ((λ o. (tt, (m2, refl, elements-of m2 refl, inl refl, refl))), tt)), ((λ o. absurd (o refl)), ((λ o. (tt, (m2, refl, elements-of m2 refl, inl refl, refl))), tt)))),
+  ((λ ne z. absurd (ne refl)), ((λ ne z. absurd (ne refl)), tt)),
 )
 
 abbrev end' : World

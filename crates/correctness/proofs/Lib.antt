@@ -12,3 +12,5 @@ pub mod Computing
 pub mod Example
 pub mod Nested
 pub mod Fooled
+pub mod Needed
+pub mod Unheard

@@ -2,7 +2,7 @@
 use Prim.Native.Nat.{ℕ, _+_, _≤_}
 use mathlib.Core.Path.{_≡_, refl, sym, _∙_, ap, subst}
 use mathlib.Core.Bool.{Bool, cond}
-use mathlib.Core.Logic.{_⊎_, inl, inr}
+use mathlib.Core.Logic.{inl, inr}
 use mathlib.Core.List.{List, [], _∷_, _++_}
 use native.Mathlib.Decide.{ℕ-discrete}
 use native.Mathlib.Omega.{arith}
@@ -10,7 +10,6 @@ use borrow.Author.Tests.{eq-eqb, ne-eqb}
 use lib.Dec.{eqb}
 use lib.ListN.{length, getD, take}
 use Rattle.field.specs.Element.{element}
-use Rattle.poly.specs.Counting.{All}
 use Rattle.session.specs.declared.Answer.{Answer}
 use Rattle.session.specs.Sessions.{mark}
 use Rattle.session.specs.Rows.{width, coefficients, rowAt}
@@ -22,7 +21,7 @@ use Rattle.runs.proofs.Steps.{own-numbers, named}
 use Rattle.runs.proofs.Rows.{marked-low}
 use Rattle.correctness.specs.History.{Event, World, doneBy, turn, history, answers, begin, callsOf, afterCalls, OwnList}
 use Rattle.correctness.specs.Ledger.{Ledger}
-use Rattle.correctness.specs.Truth.{Owned, TruePolynomial, TrueMask}
+use Rattle.correctness.specs.Truth.{TruePolynomial, TrueMask}
 use Rattle.correctness.specs.Claim.{Premises, Answered, Right, Correct, OpeningsAnswered}
 use Rattle.correctness.proofs.Meanings.{Is, one}
 use Rattle.correctness.proofs.Standing.{Good}

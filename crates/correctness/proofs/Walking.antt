@@ -5,7 +5,6 @@ use mathlib.Core.List.{List, [], _∷_, _++_}
 use native.Mathlib.Decide.{ℕ-discrete}
 use lib.ListN.{length}
 use Rattle.poly.specs.Counting.{All}
-use Rattle.session.specs.Sessions.{answer}
 use Rattle.runs.specs.Draws.{Plan, Draw, IsDraw, Sound}
 use Rattle.runs.specs.Calls.{Post, after, broadcast, at}
 use Rattle.runs.proofs.Marks.{at-same, at-other, rawVector}
