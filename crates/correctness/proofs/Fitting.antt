@@ -66,7 +66,7 @@ module _ (plan : Plan) (draw : Draw) (L : Ledger) (sound : Sound plan) (is : IsD
   abbrev pub AllSaid : (ℕ → Type 0) → World → Type 0
   AllSaid S w = (j : ℕ) → 1 ≤ j → j ≤ plan .n → S j → All Line (w .lines j)
 
-  module _ (S : ℕ → Type 0) (w : World) (all : AllSaid S w) (len i : ℕ) where
+  module _ (S : ℕ → Type 0) (w : World) (all : AllSaid S w) where
     -- of a triple whose masks were made, a half of j's is its polynomial of a − l, or of b − l'
     module _ (M : Marks) (vec : ℕ → Vector) (f : Known plan draw L M vec) (r : ℕ) (ok : Multiplying 5 M (leftOf M r) (rightOf M r) r) where
       low : r < 96
@@ -98,7 +98,7 @@ module _ (plan : Plan) (draw : Draw) (L : Ledger) (sound : Sound plan) (is : IsD
           ∙ ap (λ (X : Vector). numbers (plan .t + 1) (less (vec (rightOf M r)) X .v j)) (sym (t .is-b))
 
     -- a finish that is not refused
-    module _ (M : Marks) (vec : ℕ → Vector) (f : Known plan draw L M vec) (l : List ℕ) (h : Holds plan draw len i M vec l) (r : ℕ) (blocks blocks' : List ℕ) (z : refusalOf (finish r blocks blocks') (postAt plan draw i M l) ≡ 0) where
+    module _ (len i : ℕ) (M : Marks) (vec : ℕ → Vector) (f : Known plan draw L M vec) (l : List ℕ) (h : Holds plan draw len i M vec l) (r : ℕ) (blocks blocks' : List ℕ) (z : refusalOf (finish r blocks blocks') (postAt plan draw i M l) ≡ 0) where
       abbrev s : Session
       s = sessionAt plan draw i M
 
@@ -115,19 +115,19 @@ module _ (plan : Plan) (draw : Draw) (L : Ledger) (sound : Sound plan) (is : IsD
           all-true-of s (maskB M vec r) blocks' (TrueMask S w (plan .t) (drop (plan .t + 1)) r) (Finish.maskB s l r) (opens-b plan draw len i M vec l h r blocks blocks' z)
           (λ j lj hj ne o. told-b M vec f r ok j lj hj _ o)
 
-    pub fits : (q : Post) (g : Good plan draw L len i q) (c : Call) → refusalOf c q ≡ 0 → OwnPart plan draw i c → TrueFinish S w q c
+    pub fits : (len i : ℕ) (q : Post) (g : Good plan draw L len i q) (c : Call) → refusalOf c q ≡ 0 → OwnPart plan draw i c → TrueFinish S w q c
         → Fits plan draw i (g .marks) (g .vec) c
-    fits q g (loadRow r pack) z own y = own
-    fits q g (loadTriple r pack) z own y = own
-    fits q g (deal r c) z own y = tt
-    fits q g (message r lent) z own y = tt
-    fits q g (opening r blocks) z own y = tt
-    fits q g (linear r a b scale) z own y = tt
-    fits q g (masks a b r lent) z own y = tt
-    fits q g (finish r blocks blocks') z own y =
+    fits len i q g (loadRow r pack) z own y = own
+    fits len i q g (loadTriple r pack) z own y = own
+    fits len i q g (deal r c) z own y = tt
+    fits len i q g (message r lent) z own y = tt
+    fits len i q g (opening r blocks) z own y = tt
+    fits len i q g (linear r a b scale) z own y = tt
+    fits len i q g (masks a b r lent) z own y = tt
+    fits len i q g (finish r blocks blocks') z own y =
         subst
         (λ (x : Post). refusalOf (finish r blocks blocks') x ≡ 0 → TrueFinish S w x (finish r blocks blocks')
         → Fits plan draw i (g .marks) (g .vec) (finish r blocks blocks'))
         (sym (named plan draw len i (g .marks) (g .vec) q (g .stands)))
-        (λ e o. (true-a (g .marks) (g .vec) (g .facts) (q .rows) (g .stands .holds) r blocks blocks' e (o .0), true-b (g .marks) (g .vec) (g .facts) (q .rows) (g .stands .holds) r blocks blocks' e (o .1)))
+        (λ e o. (true-a len i (g .marks) (g .vec) (g .facts) (q .rows) (g .stands .holds) r blocks blocks' e (o .0), true-b len i (g .marks) (g .vec) (g .facts) (q .rows) (g .stands .holds) r blocks blocks' e (o .1)))
         z y

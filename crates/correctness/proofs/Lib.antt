@@ -8,6 +8,7 @@ pub mod Permitted
 pub mod Openings
 pub mod Theorems
 pub mod Caught
+pub mod Parts
 pub mod Computing
 pub mod Example
 pub mod Nested

@@ -73,7 +73,7 @@ module _ (plan : Plan) (draw : Draw) (L : Ledger) (sound : Sound plan) (is : IsD
       go (no g) = sym (ap (λ (y : List ℕ). sent s y blocks j) e) ∙ truly g
 
   module _ (r : ℕ) (five : markOf M r ≡ 5) where
-    waiting : Multiplying 5 M (leftOf M r) (rightOf M r) r
+    pub waiting : Multiplying 5 M (leftOf M r) (rightOf M r) r
     waiting =
         let w = f r (low r 4 five) .waiting five in let t = f r (low r 4 five) .triple (inr five) in
         record {
@@ -87,10 +87,10 @@ module _ (plan : Plan) (draw : Draw) (L : Ledger) (sound : Sound plan) (is : IsD
           third = t .third;
         }
 
-    mask-a : Finish.maskA s l r ≡ heldRow s (maskA M vec r)
+    pub mask-a : Finish.maskA s l r ≡ heldRow s (maskA M vec r)
     mask-a = combined-row plan draw len i M vec l h (p - 1) (leftOf M r) r (is-row (leftOf M r) 1 (waiting .a-held)) (is-row r 4 five)
 
-    mask-b : Finish.maskB s l r ≡ heldRow s (maskB M vec r)
+    pub mask-b : Finish.maskB s l r ≡ heldRow s (maskB M vec r)
     mask-b =
         combined-row plan draw len i M vec l h (p - 1) (rightOf M r) (r + 1) (is-row (rightOf M r) 1 (waiting .b-held))
         (is-row (r + 1) 3 (waiting .second))
@@ -134,8 +134,8 @@ module _ (plan : Plan) (draw : Draw) (L : Ledger) (sound : Sound plan) (is : IsD
         finishes = finishes plan draw L sound is len i lo hi M vec l sized h f full;
         accepts-a = λ r blocks j five pr lj hj x.
             true-taken (Finish.maskA s l r) (maskA M vec r) (mask-a r five) blocks j lj hj
-            (λ ne. told-a plan draw L sound is S w all len i M vec f r (waiting r five) j lj hj _ (x ne));
+            (λ ne. told-a plan draw L sound is S w all M vec f r (waiting r five) j lj hj _ (x ne));
         accepts-b = λ r blocks j five pr lj hj x.
             true-taken (Finish.maskB s l r) (maskB M vec r) (mask-b r five) blocks j lj hj
-            (λ ne. told-b plan draw L sound is S w all len i M vec f r (waiting r five) j lj hj _ (x ne));
+            (λ ne. told-b plan draw L sound is S w all M vec f r (waiting r five) j lj hj _ (x ne));
       }

@@ -76,8 +76,8 @@ pub record Right (L : Ledger) (P : ℕ → ℕ → List ℕ → Type 0) (H : (Li
       → (j ≢ q .session .post → H (drop (q .session .t + 1)) r j (sent (q .session) (maskB (q .session) (q .rows) r) blocks j))
       → accepts (q .session) (maskB (q .session) (q .rows) r) blocks j ≡ true
 
--- At every post of S, after any run of all posts: what counts as truly its sender's is what a post of S sent or holds. With all
--- posts in S nobody is left out; a post that does not belong there is one whose polynomials must not count.
+-- At every post of S, after any run of all posts. S may be all posts, or those alone whose polynomials count: what the others do
+-- stands in the run, and nothing is asked of it.
 abbrev pub Correct : Type 1
 Correct =
     (plan : Plan) (draw : Draw) (L : Ledger) (S : ℕ → Type 0) (rows : ℕ → List ℕ) (es : List Event)
@@ -85,8 +85,8 @@ Correct =
     → Right L (TruePolynomial S (history es (begin plan draw rows)))
     (TrueMask S (history es (begin plan draw rows)) (plan .t)) (history es (begin plan draw rows) .posts i)
 
--- "finishes before it": the answer of an opening in a run, at its place among the answers, whatever the posts do behind it.
--- Premises are on what was before it. (`none` is looked at in a place without an answer only, and this place has one.)
+-- "before it": the answer of an opening that stands in a run, with premises on the calls before it, whatever is done behind it.
+-- (The answer at its place in the list of answers; `none` would be that of a place beyond the list.)
 abbrev pub OpeningsAnswered : Type 1
 OpeningsAnswered =
     (plan : Plan) (draw : Draw) (L : Ledger) (S : ℕ → Type 0) (rows : ℕ → List ℕ) (before behind : List Event) (i r : ℕ) (blocks : List ℕ)
