@@ -4,6 +4,7 @@ pub mod Moving
 pub mod Calls
 pub mod Locals
 pub mod Carrying
+pub mod Stepping
 pub mod Passing
 pub mod Single
 pub mod Reading

@@ -50,9 +50,8 @@ use Rattle.fields.proofs.Passing.{restRun, passed-more, fewer-left, pas
 use Rattle.fields.proofs.Calls.{Said, asked, outcome, returned, finished}
 use Rattle.fields.proofs.Locals.{tests, rooms, frees-all}
 use Rattle.fields.proofs.Carrying.{bytes, spell, step-val, lent, readers, steps, two, one, apart, together, opened}
-use Rattle.fields.proofs.Reader as Held
+use Rattle.fields.proofs.Stepping.{Next, right, to-next, asks-next, next-gives, field-typed, reader-typed, step-typed}
 use Rattle.fields.proofs.Reader.Laws as Held′
-use Rattle.fields.proofs.Step as Stepped
 use Rattle.fields.proofs.Step.Laws as Stepped′
 use Rattle.fields.proofs.Tally as Counted
 use Rattle.fields.proofs.Tally.Laws as Counted′
@@ -107,8 +106,8 @@ abbrev counting : Tally → Fml
 counting t = Counted.the-row .own t (Counted′.lowered t ∷ [])
 
 module _ {M : Type 1} (𝓤 : URA M) (H : Heap 𝓤) (A : Atoms 𝓤) (mem : Memory → SProp 𝓤) (run : Routine → Fun 𝓤) where
-  abbrev Next : Contract 𝓤
-  Next = Said 𝓤 H A next.ended (next.clauses 𝓤 H A mem run)
+  abbrev Nexts : Contract 𝓤
+  Nexts = Next 𝓤 H A mem run
 
   abbrev Count : Contract 𝓤
   Count = Said 𝓤 H A count.ended (count.clauses 𝓤 H A mem run)
@@ -119,7 +118,7 @@ module _ {M : Type 1} (𝓤 : URA M) (H : Heap 𝓤) (A : Atoms 𝓤) (mem : Mem
   abbrev Own : Contract 𝓤
   Own = Said 𝓤 H A own.ended (own.clauses 𝓤 H A mem run)
 
-  module _ (W : Given 𝓤 H A) (𝓣 : Tables 𝓤 H) (nexts : Triple 𝓤 (𝓣 .C next-code.name) Next) (counts : Triple 𝓤 (𝓣 .C count-code.name) Count)
+  module _ (W : Given 𝓤 H A) (𝓣 : Tables 𝓤 H) (nexts : Triple 𝓤 (𝓣 .C next-code.name) Nexts) (counts : Triple 𝓤 (𝓣 .C count-code.name) Count)
       (settles : Triple 𝓤 (𝓣 .C settle-code.name) Settle) (κ : Lft) (q : Share) (x : RefT (List ℕ)) (from-at k : ℕ) where
     abbrev At-stage : Type 0
     At-stage = Stage (x .now) from-at k
@@ -127,8 +126,8 @@ module _ {M : Type 1} (𝓤 : URA M) (H : Heap 𝓤) (A : Atoms 𝓤) (mem : Mem
     abbrev outside : Own .Ghost
     outside = (((κ, tt), (q, tt), tt, (x, (from-at, (k, tt))), (bytes x ∷ [], (vint w64 from-at ∷ [], (vint w64 k ∷ [], tt)))), tt)
 
-    abbrev right : SProp 𝓤
-    right = alive 𝓤 H A own.signature (κ, tt) (q, tt)
+    abbrev lends : SProp 𝓤
+    lends = right 𝓤 H A mem run W κ q
 
     abbrev reader : At-stage → Reader
     reader t = record { line = x; at = t .at }
@@ -137,14 +136,6 @@ module _ {M : Type 1} (𝓤 : URA M) (H : Heap 𝓤) (A : Atoms 𝓤) (mem : Mem
     found t = commaField (x .now) (t .at)
 
     -- ---- the calls
-    abbrev to-next : At-stage → Next .Ghost
-    to-next t = (((κ, tt), (q, tt), tt, (reader t, tt), (Held′.lowered (reader t) ∷ [], tt)), tt)
-
-    asks-next : (t : At-stage) → ent 𝓤 (sep 𝓤 right (sem 𝓤 H A (one κ (reader t)))) (Next .pre (to-next t))
-    asks-next t =
-        asked 𝓤 H A next.ended (next.clauses 𝓤 H A mem run) (to-next t) (id⊢ 𝓤 right)
-        (qed W (‵ (one κ (reader t)) ∷ []) ∵ nothing ! $ move ! (1 ∷ 0 ∷ []) $ fjoin ! $ done !) (id⊢ 𝓤 (emp 𝓤))
-
     abbrev to-count : At-stage → Count .Ghost
     to-count t = ((tt, tt, tt, (t .tally, (found t, tt)), (Counted′.lowered (t .tally) ∷ [], (spell (found t) ∷ [], tt))), tt)
 
@@ -168,19 +159,12 @@ module _ {M : Type 1} (𝓤 : URA M) (H : Heap 𝓤) (A : Atoms 𝓤) (mem : Mem
         (id⊢ 𝓤 (emp 𝓤)))
 
     -- ---- the way out
-    leaves : (r : Run) (v : Val) → r ≡ runOf (fieldsAt k (x .now) from-at) → ent 𝓤 (sep 𝓤 right (sem 𝓤 H A (Told.the-row .own r (v ∷ [])))) (Own .post outside v)
+    leaves : (r : Run) (v : Val) → r ≡ runOf (fieldsAt k (x .now) from-at) → ent 𝓤 (sep 𝓤 lends (sem 𝓤 H A (Told.the-row .own r (v ∷ [])))) (Own .post outside v)
     leaves r v e =
-        via 𝓤 _ (qed W (raw (sep 𝓤 right (sem 𝓤 H A (Told.the-row .own r (v ∷ [])))) ∷ []) ∵ nothing ! $ move ! (1 ∷ 0 ∷ []) $ done !)
+        via 𝓤 _ (qed W (raw (sep 𝓤 lends (sem 𝓤 H A (Told.the-row .own r (v ∷ [])))) ∷ []) ∵ nothing ! $ move ! (1 ∷ 0 ∷ []) $ done !)
         (finished 𝓤 H A own.ended (own.clauses 𝓤 H A mem run) outside v W r (tt, (tt, (tt, tt))) (emp 𝓤)
-        (qed W ([]) ∵ nothing ! $ nothing ! $ fjoin ! $ nothing ! $ fjoin ! $ nothing ! $ fjoin ! $ done !)
+        (qed W [] ∵ nothing ! $ nothing ! $ fjoin ! $ nothing ! $ fjoin ! $ nothing ! $ fjoin ! $ done !)
         (guardI 𝓤 (r ≡ runOf (fieldsAt k (x .now) from-at)) (emp 𝓤) e))
-
-    -- ---- what is of its type
-    field-typed : (f : Field) → Is Found.the-row f (spell f ∷ []) → Typed (Found.the-row .mir) (spell f ∷ [])
-    field-typed f = EL.lawful Found.the-type Found′.the-laws 𝓤 H A W tt .typed f (spell f ∷ [])
-
-    reader-typed : (r : Reader) → Is (readers κ) r (Held′.lowered r ∷ []) → Typed (readers κ .mir) (Held′.lowered r ∷ [])
-    reader-typed r = LL.lawful (Held.the-type (lent κ)) (Held′.the-laws (lent κ)) 𝓤 H A W .typed r (Held′.lowered r ∷ [])
 
     -- ---- the locals
     module _ (a₀ a₁ a₂ a₃ a₄ a₅ a₆ a₇ a₈ a₉ a₁₀ : ℕ) where
@@ -189,7 +173,7 @@ module _ {M : Type 1} (𝓤 : URA M) (H : Heap 𝓤) (A : Atoms 𝓤) (mem : Mem
           ∷ (tyBool, a₇) ∷ (Held′.mir erased, a₈) ∷ (Found′.mir, a₉) ∷ (word, a₁₀) ∷ []
 
       abbrev At : At-stage → List (Item 𝓤)
-      At t = raw right ∷ ‵ (one κ (reader t)) ∷ ‵ (counting (t .tally))
+      At t = raw lends ∷ ‵ (one κ (reader t)) ∷ ‵ (counting (t .tally))
           ∷ ‵ (froom Told′.mir a₀ 0) ∷ ‵ (fdies Told′.mir a₀)
           ∷ ‵ (fat fullShare slice a₁ 0 (bytes x)) ∷ ‵ (fdies slice a₁)
           ∷ ‵ (fat fullShare word a₂ 0 (vint w64 from-at)) ∷ ‵ (fdies word a₂)
@@ -209,18 +193,18 @@ module _ {M : Type 1} (𝓤 : URA M) (H : Heap 𝓤) (A : Atoms 𝓤) (mem : Mem
           tests ! (load ! (from ! (stop !)) (look ! 17 refl))
           (λ less. let h : 0 < t .tally .left = ltb→lt 0 (t .tally .left) less in
           move ! (1 ∷ []) $ peeks ! (readers κ) (Is (readers κ)) (shows 𝓤 H A (readers κ)) (reader t) (Held′.lowered (reader t) ∷ []) (λ r-is. move ! (1 ∷ 0 ∷ []) $
-          assigns ! (of-opd ! (load ! (from ! (stop !)) (look ! 11 refl))) (from ! (stop !)) (init ! 19 refl (tt, reader-typed (reader t) r-is .0 .1)) $
-          use2 W (raw (Next .pre (to-next t))) (asks-next t) $
-          calls-at ! (fmOf 𝓤 H (W .laws) 𝓣) Next nexts (to-next t) (and-then ! (load ! (from ! (stop !)) (look ! 18 refl)) (no-more !)) (λ u.
-          use1 W (outcome 𝓤 H A next.ended (next.clauses 𝓤 H A mem run) (to-next t) u (stepFrom (reader t)))
-          (returned 𝓤 H A next.ended (next.clauses 𝓤 H A mem run) (to-next t) u W (stepFrom (reader t)) (λ r ws. id⊢ 𝓤 _)) $ await ! tt $ learn ! (λ is. split ! $
-          land ! (from ! (stop !)) (init ! 15 refl (LL.lawful (Stepped.the-type (record { mir = erased; lft = κ })) (Stepped′.the-laws (record { mir = erased; lft = κ })) 𝓤 H A W .typed (stepFrom (reader t)) (u ∷ []) is .0)) $
+          assigns ! (of-opd ! (load ! (from ! (stop !)) (look ! 11 refl))) (from ! (stop !)) (init ! 19 refl (tt, reader-typed 𝓤 H A W κ (reader t) r-is .0 .1)) $
+          use2 W (raw (Nexts .pre (to-next 𝓤 H A mem run W κ q (reader t)))) (asks-next 𝓤 H A mem run W κ q (reader t)) $
+          calls-at ! (fmOf 𝓤 H (W .laws) 𝓣) Nexts nexts (to-next 𝓤 H A mem run W κ q (reader t)) (and-then ! (load ! (from ! (stop !)) (look ! 18 refl)) (no-more !)) (λ u.
+          use1 W (outcome 𝓤 H A next.ended (next.clauses 𝓤 H A mem run) (to-next 𝓤 H A mem run W κ q (reader t)) u (stepFrom (reader t)))
+          (next-gives 𝓤 H A mem run W κ q (reader t) u) $ await ! tt $ learn ! (λ is. split ! $
+          land ! (from ! (stop !)) (init ! 15 refl (step-typed 𝓤 H A W κ (stepFrom (reader t)) u is .0)) $
           -- the step is opened: [the field; the reader behind it; the right to the line; the tally; the locals]
           move ! (1 ∷ []) $ use1 W (given (u ∷ [] ≡ step-val (stepFrom (reader t)) ∷ []) (‵ (Found.the-row .own (found t) (spell (found t) ∷ [])) ⊛ ‵ (one κ (stepFrom (reader t) .reader))))
           (opened 𝓤 H A W κ (stepFrom (reader t)) u) $ learn ! (λ e. split ! $
           rewrite ! 16 (λ (v : Val). ‵ (fat fullShare (Stepped′.mir erased) a₆ 0 v)) (ap only e) refl $
           peeks ! Found.the-row (Is Found.the-row) (shows 𝓤 H A Found.the-row) (found t) (spell (found t) ∷ []) (λ f-is.
-          assigns ! (of-opd ! (load ! (from ! (fld ! refl (stop !))) (look-in ! 16 (sub ! 0 refl (whole !))))) (from ! (stop !)) (init ! 22 refl (field-typed (found t) f-is .0)) $
+          assigns ! (of-opd ! (load ! (from ! (fld ! refl (stop !))) (look-in ! 16 (sub ! 0 refl (whole !))))) (from ! (stop !)) (init ! 22 refl (field-typed 𝓤 H A W κ (found t) f-is .0)) $
           move ! (3 ∷ 0 ∷ []) $ use2 W (raw (Count .pre (to-count t))) (asks-count t h) $
           calls-at ! (fmOf 𝓤 H (W .laws) 𝓣) Count counts (to-count t) (and-then ! (load ! (from ! (stop !)) (look ! 13 refl)) (and-then ! (load ! (from ! (stop !)) (look ! 21 refl)) (no-more !))) (λ w.
           use1 W (outcome 𝓤 H A count.ended (count.clauses 𝓤 H A mem run) (to-count t) w (counted (t .tally) (found t)))
@@ -230,12 +214,12 @@ module _ {M : Type 1} (𝓤 : URA M) (H : Heap 𝓤) (A : Atoms 𝓤) (mem : Mem
           rewrite ! 13 (λ (v : Val). ‵ (fat fullShare Counted′.mir a₅ 0 v)) (ap only (Counted′.lowers .val-is (counted (t .tally) (found t)) (w ∷ []) c-is)) refl $
           rewrite ! 0 (λ (v : Val). ‵ (Counted.the-row .own (counted (t .tally) (found t)) (v ∷ []))) (ap only (Counted′.lowers .val-is (counted (t .tally) (found t)) (w ∷ []) c-is)) refl $
           move ! (1 ∷ []) $ peeks ! (readers κ) (Is (readers κ)) (shows 𝓤 H A (readers κ)) (stepFrom (reader t) .reader) (Held′.lowered (stepFrom (reader t) .reader) ∷ []) (λ n-is.
-          assigns-last ! (of-opd ! (load ! (from ! (fld ! refl (stop !))) (look-in ! 15 (sub ! 1 refl (whole !))))) (from ! (stop !)) (store ! 11 refl (tt, reader-typed (stepFrom (reader t) .reader) n-is .0 .1)) $
+          assigns-last ! (of-opd ! (load ! (from ! (fld ! refl (stop !))) (look-in ! 15 (sub ! 1 refl (whole !))))) (from ! (stop !)) (store ! 11 refl (tt, reader-typed 𝓤 H A W κ (stepFrom (reader t) .reader) n-is .0 .1)) $
           forget ! 15 refl $ forget ! 17 refl $ forget ! 19 refl $ forget ! 21 refl $ move ! (2 ∷ 0 ∷ 1 ∷ []) $
           again ! (Nearer (x .now) from-at k) At t (further (x .now) from-at k t h) (fewer-left (x .now) (t .at) (t .tally) (found t) h))))))))))
           (λ over. exec ! (𝓣 .C) (𝓣 .Λ) En body.t-4 (atRet En (Own .post outside)) $
           move ! (1 ∷ []) $ peeks ! (readers κ) (Is (readers κ)) (shows 𝓤 H A (readers κ)) (reader t) (Held′.lowered (reader t) ∷ []) (λ r-is.
-          assigns ! (of-opd ! (load ! (from ! (fld ! refl (stop !))) (look-in ! 11 (sub ! 1 refl (whole !))))) (from ! (stop !)) (init ! 23 refl (tt, reader-typed (reader t) r-is .0 .1 .1 .0)) $
+          assigns ! (of-opd ! (load ! (from ! (fld ! refl (stop !))) (look-in ! 11 (sub ! 1 refl (whole !))))) (from ! (stop !)) (init ! 23 refl (tt, reader-typed 𝓤 H A W κ (reader t) r-is .0 .1 .1 .0)) $
           use1 W (‵ (two κ x (t .at))) (apart 𝓤 H A W κ (reader t)) $ move ! (2 ∷ 0 ∷ []) $ use2 W (raw (Settle .pre (to-settle t))) (asks-settle t) $
           calls-at ! (fmOf 𝓤 H (W .laws) 𝓣) Settle settles (to-settle t) (and-then ! (load ! (from ! (stop !)) (look ! 12 refl)) (and-then ! (load ! (from ! (stop !)) (look ! 22 refl)) (no-more !))) (λ w.
           use1 W (outcome 𝓤 H A settle.ended (settle.clauses 𝓤 H A mem run) (to-settle t) w (settled (t .tally) (t .at)))
@@ -255,7 +239,7 @@ module _ {M : Type 1} (𝓤 : URA M) (H : Heap 𝓤) (A : Atoms 𝓤) (mem : Mem
           ∷ ‵ (fat fullShare (Held′.mir erased) a₄ 0 (Held′.lowered (reader (start (x .now) from-at k)))) ∷ ‵ (fdies (Held′.mir erased) a₄)
           ∷ ‵ (fat fullShare word a₃ 0 (vint w64 k)) ∷ ‵ (fdies word a₃) ∷ ‵ (fat fullShare word a₂ 0 (vint w64 from-at)) ∷ ‵ (fdies word a₂)
           ∷ ‵ (fat fullShare slice a₁ 0 (bytes x)) ∷ ‵ (fdies slice a₁) ∷ ‵ (froom Told′.mir a₀ 0) ∷ ‵ (fdies Told′.mir a₀)
-          ∷ raw right ∷ ‵ (one κ (reader (start (x .now) from-at k))) ∷ ‵ (counting (start (x .now) from-at k .tally)) ∷ []
+          ∷ raw lends ∷ ‵ (one κ (reader (start (x .now) from-at k))) ∷ ‵ (counting (start (x .now) from-at k .tally)) ∷ []
 
       goes-round : Sq W Begun (runs (𝓣 .C) (𝓣 .Λ) En body.t-3 (atRet En (Own .post outside)))
       goes-round =
@@ -264,9 +248,9 @@ module _ {M : Type 1} (𝓤 : URA M) (H : Heap 𝓤) (A : Atoms 𝓤) (mem : Mem
 
     -- line and position make the reader, and the number of fields makes the tally
     begins : ent 𝓤 (onEntry 𝓤 H A own.signature (κ, tt) (q, tt) (x, (from-at, (k, tt))) (bytes x ∷ [], (vint w64 from-at ∷ [], (vint w64 k ∷ [], tt))))
-        (sep 𝓤 right (sep 𝓤 (sem 𝓤 H A (one κ (reader (start (x .now) from-at k)))) (sem 𝓤 H A (counting (start (x .now) from-at k .tally)))))
+        (sep 𝓤 lends (sep 𝓤 (sem 𝓤 H A (one κ (reader (start (x .now) from-at k)))) (sem 𝓤 H A (counting (start (x .now) from-at k .tally)))))
     begins =
-        qed W (raw right ∷ ‵ (owns (ShrSlice (named 0) κ u8 ∷ usize ∷ usize ∷ []) (x, (from-at, (k, tt))) (bytes x ∷ [], (vint w64 from-at ∷ [], (vint w64 k ∷ [], tt)))) ∷ []) ∵
+        qed W (raw lends ∷ ‵ (owns (ShrSlice (named 0) κ u8 ∷ usize ∷ usize ∷ []) (x, (from-at, (k, tt))) (bytes x ∷ [], (vint w64 from-at ∷ [], (vint w64 k ∷ [], tt)))) ∷ []) ∵
         move ! (1 ∷ []) $ fsplit ! $ move ! (1 ∷ []) $ fsplit ! $ nothing ! $ move ! (1 ∷ 0 ∷ []) $ fjoin ! $ move ! (2 ∷ 0 ∷ []) $ fjoin ! $
         use1 W (‵ (one κ (reader (start (x .now) from-at k)))) (together 𝓤 H A W κ (reader (start (x .now) from-at k))) $
         -- [the reader; the number; the right to the line]
@@ -280,7 +264,7 @@ module _ {M : Type 1} (𝓤 : URA M) (H : Heap 𝓤) (A : Atoms 𝓤) (mem : Mem
         (WpFn 𝓤 H (𝓣 .C) (𝓣 .Λ) code.function (bytes x ∷ vint w64 from-at ∷ vint w64 k ∷ []) (Own .post outside))
     walk line-typed at-typed k-typed =
         qed W (raw (onEntry 𝓤 H A own.signature (κ, tt) (q, tt) (x, (from-at, (k, tt))) (bytes x ∷ [], (vint w64 from-at ∷ [], (vint w64 k ∷ [], tt)))) ∷ []) ∵
-        use1 W (raw right ⊛ (‵ (one κ (reader (start (x .now) from-at k))) ⊛ ‵ (counting (start (x .now) from-at k .tally)))) begins $ split ! $ move ! (1 ∷ []) $ split ! $ move ! (2 ∷ 0 ∷ 1 ∷ []) $
+        use1 W (raw lends ⊛ (‵ (one κ (reader (start (x .now) from-at k))) ⊛ ‵ (counting (start (x .now) from-at k .tally)))) begins $ split ! $ move ! (1 ∷ []) $ split ! $ move ! (2 ∷ 0 ∷ 1 ∷ []) $
         enter ! (𝓣 .C) (𝓣 .Λ) code.function (bytes x ∷ vint w64 from-at ∷ vint w64 k ∷ []) _ $
         alloc1 ! (λ a₀. alloc1 ! (λ a₁. alloc1 ! (λ a₂. alloc1 ! (λ a₃. alloc1 ! (λ a₄. alloc1 ! (λ a₅. alloc1 ! (λ a₆. alloc1 ! (λ a₇. alloc1 ! (λ a₈. alloc1 ! (λ a₉. alloc1 ! (λ a₁₀. alloc0 ! $ params1 ! $
         pass1 ! (init ! 18 refl (line-typed .0)) $ pass1 ! (init ! 16 refl (at-typed .0)) $ pass1 ! (init ! 14 refl (k-typed .0)) $ pass0 ! $
@@ -290,7 +274,7 @@ module _ {M : Type 1} (𝓤 : URA M) (H : Heap 𝓤) (A : Atoms 𝓤) (mem : Mem
         (from ! (stop !)) (init ! 10 refl (tt, (k-typed .0 .1, (record { fits = lit< tt }, (tt, tt))))) $
         goes-round a₀ a₁ a₂ a₃ a₄ a₅ a₆ a₇ a₈ a₉ a₁₀)))))))))))
 
-  meets : Given 𝓤 H A → (𝓣 : Tables 𝓤 H) → Triple 𝓤 (𝓣 .C next-code.name) Next → Triple 𝓤 (𝓣 .C count-code.name) Count → Triple 𝓤 (𝓣 .C settle-code.name) Settle
+  meets : Given 𝓤 H A → (𝓣 : Tables 𝓤 H) → Triple 𝓤 (𝓣 .C next-code.name) Nexts → Triple 𝓤 (𝓣 .C count-code.name) Count → Triple 𝓤 (𝓣 .C settle-code.name) Settle
       → Meets 𝓤 H A own.signature (WpFn 𝓤 H (𝓣 .C) (𝓣 .Λ) code.function) (own.spec 𝓤 H A mem run)
   meets W 𝓣 nexts counts settles y =
       let κ = y .0 .0 .0 in
@@ -313,6 +297,6 @@ fields-at-spec 𝓤 H 𝓜 𝓖 𝓡 =
     let 𝓣 = tables 𝓤 H 𝓜 𝓡 code.env in
     entered 𝓤 H (Own 𝓤 H A mem run) (𝓣 .C) (𝓣 .Λ) key.name code.function (code.unfolded 𝓤 H 𝓜 𝓡)
     (meets 𝓤 H A mem run (givenOf 𝓤 H 𝓜 𝓖) (tablesOf 𝓤 H 𝓜 𝓣)
-    (cited 𝓤 H (Next 𝓤 H A mem run) 𝓜 𝓡 code.env next-code.name next-code.routine code.calls-fields·next-field (next-met.met 𝓤 H 𝓜 𝓖 𝓡))
+    (cited 𝓤 H (Nexts 𝓤 H A mem run) 𝓜 𝓡 code.env next-code.name next-code.routine code.calls-fields·next-field (next-met.met 𝓤 H 𝓜 𝓖 𝓡))
     (cited 𝓤 H (Count 𝓤 H A mem run) 𝓜 𝓡 code.env count-code.name count-code.routine code.calls-fields·count (count-met.met 𝓤 H 𝓜 𝓖 𝓡))
     (cited 𝓤 H (Settle 𝓤 H A mem run) 𝓜 𝓡 code.env settle-code.name settle-code.routine code.calls-fields·settle (settle-met.met 𝓤 H 𝓜 𝓖 𝓡)))
