@@ -128,10 +128,7 @@ pub fn next_field<'a>(reader: Reader<'a>) -> Step<'a>
     let read = read_at(line, reader.at);
     Step {
         field: read.field,
-        reader: Reader {
-            line,
-            at: read.at,
-        },
+        reader: Reader { line, at: read.at },
     }
 }
 
