@@ -5,7 +5,7 @@ use Rattle.field.specs.Modulus.{p}
 use Rattle.field.specs.Primality.{Prime}
 use Rattle.field.specs.Arithmetic.{sum, difference, product, inverse, IsInverse}
 use Rattle.field.specs.Algebra.{Field}
-use Rattle.field.specs.Element.{Element, element, _⊕_, _⊗_, negative, reciprocal, 0ᴱ, 1ᴱ}
+use Rattle.field.specs.Element.{Element, element, _⊕_, _⊗_, 0ᴱ, 1ᴱ}
 
 -- "That p is prime is proved, not assumed."
 abbrev pub PrimeModulus : Type 0
@@ -28,5 +28,5 @@ pub record ElementsField : Type 0 where
   pub one-is : field .ring .one ≡ 1ᴱ
   pub sums : (a b : ℕ) → element (sum a b) ≡ element a ⊕ element b
   pub products : (a b : ℕ) → element (product a b) ≡ element a ⊗ element b
-  pub differences : (a b : ℕ) → element (difference a b) ≡ element a ⊕ negative (element b)
-  pub inverses : (a : ℕ) → element (inverse a) ≡ reciprocal (element a)
+  pub differences : (a b : ℕ) → element (difference a b) ≡ element a ⊕ field .ring .neg (element b)
+  pub inverses : (a : ℕ) → element (inverse a) ≡ field .inv (element a)
