@@ -7,7 +7,8 @@ use base.Logic.{SProp, ent, sep, ex, emp, via, id⊢, emp∗, comm∗, mono∗}
 use prog.Wp.{Heap}
 use ghost.Atoms.{Atoms, sem}
 use contract.Monad.{fact}
-use types.Kit.{Goal, Soaks, Seq, Given, Item, ‵, raw, _⊛_, some, given, later, mean, _$_, _∵_, !, qed, move, use0, use1, drop, split, pick, learn, await, rewrite, check, show, frame, done}
+use types.Kit.{Goal, Soaks, Seq, Given, Item, ‵, raw, _⊛_, some, given, later, mean, _$_, _∵_, !, qed, move, use0, use1, drop, split, pick, learn}
+use types.Kit.{await, rewrite, check, show, frame, done}
 use denote.Steps.{heard, peeks}
 use denote.RattleType.{RattleType, owns}
 use denote.Laws.{Is, shows}

@@ -1,5 +1,5 @@
 -- The loops over the fields of a line: the first pass, which tells what they are like, and the second, which takes their numbers.
-use Prim.Native.Nat.{ℕ, suc, _+_, _-_, _≤_, _<_, _^_}
+use Prim.Native.Nat.{ℕ, suc, _+_, _-_, _≤_, _<_}
 use mathlib.Core.Path.{_≡_, refl, sym, subst, _∙_}
 use mathlib.Core.List.{List, [], _∷_, _++_, append-assoc, append-nil}
 use mathlib.Core.Bool.{Bool, true, false, _&&_, cond}
@@ -7,8 +7,6 @@ use native.Mathlib.Omega.{arith}
 use native.Mathlib.Numerals.{add-one}
 use borrow.Author.Fill.{fill-more}
 use borrow.Author.Tests.{eqb-true, eq-eqb, ne-eqb}
-use mir.Syntax.{w32, w64}
-use mir.Val.{Fits}
 use lib.ListN.{length, getD, set, take, drop, replicate, length-set, List·getD-eq-default}
 use lib.Seq.{take-suc-set, take-all, drop-length}
 use lib.Dec.{eqb, ltb}
@@ -20,7 +18,6 @@ use Rattle.decimal.specs.Numeral.{fieldAt}
 use Rattle.fields.specs.declared.Tally.{Tally}
 use Rattle.fields.specs.Walk.{commaField, placeBehind, counted, settled, numberIn}
 use Rattle.fields.specs.Fields.{Parsed, parsed, malformed, push, behind, fieldsAt, ended, numbersOf, largestFrom, runFrom, runOf, Fillable}
-use Rattle.decimal.proofs.Positions.{inside}
 
 -- ---- the first pass: what is known so far with what the rest says is what the whole says
 abbrev pub restRun : Tally → List ℕ → ℕ → Run

@@ -28,7 +28,7 @@ use Rattle.fields.specs.declared.Step.{Step}
 use Rattle.fields.specs.declared.Tally.{Tally}
 use Rattle.fields.specs.Walk.{numberIn}
 use Rattle.fields.proofs.Calls.{Said, asked}
-use Rattle.fields.proofs.Carrying.{bytes, spell, lent, readers, steps, two, one}
+use Rattle.fields.proofs.Carrying.{spell, lent, readers, steps, two, one}
 use Rattle.fields.proofs.Reader as Held
 use Rattle.fields.proofs.Reader.Laws as Held′
 use Rattle.fields.proofs.Step as Stepped
