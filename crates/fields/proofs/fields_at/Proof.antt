@@ -82,7 +82,6 @@ module _ (s : List ℕ) (from-at k : ℕ) where
   nearer-wf : WellFounded Nearer
   nearer-wf = InvImage·wf (λ (p : Passed s from-at k). p .tally .left) (Nat·lt-wfRel .wf)
 
--- ---- types
 module _ {M : Type 1} (𝓤 : URA M) (H : Heap 𝓤) (A : Atoms 𝓤) (mem : Memory → SProp 𝓤) (run : Routine → Fun 𝓤) where
   abbrev Own : Contract 𝓤
   Own = Said 𝓤 H A own.ended (own.clauses 𝓤 H A mem run)

@@ -75,7 +75,6 @@ module _ (s ys : List ℕ) (from-at : ℕ) where
   nearer-wf : WellFounded Nearer
   nearer-wf = InvImage·wf (λ (t : Taken s ys from-at). length ys - t .i) (Nat·lt-wfRel .wf)
 
--- ---- types
 abbrev numbers : Ty
 numbers = sliceTy (tyRef (named 1) mut (tyInt w32))
 
