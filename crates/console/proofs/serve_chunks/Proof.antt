@@ -1,5 +1,4 @@
 -- `serve_chunks` goes from chunk to chunk. Before each, `Held`; the turns fall.
-use Prim.Native.Nat.{_≤_}
 use mathlib.Core.Path.{_≡_}
 use borrow.Author.Needs.{needs}
 use lib.ListN.{length}
