@@ -65,7 +65,7 @@ pub record Stopped (p : Running) (s : Served) : Type 0 where
   pub count : s .printed .total ≡ wrapped (length (printedUpTo (chunks ++ (last ∷ []))))
   pub why : stopsAt s ≡ false → length chunks + 1 ≡ allTurns
 
--- "The end of input without a line feed ends a line.", unless the program broke off: then nothing more is printed.
+-- The end of the input ends a line that was begun. Where the program broke off nothing more is printed, and all stays as it was.
 pub record Finished (p q : Running) (out : List ℕ) (s r : Served) : Type 0 where
   pub same : r .got ≡ s .got
   pub broken : brokenOff s ≡ true → (q ≡ p) × (r .printed ≡ s .printed)
