@@ -18,7 +18,7 @@ use Rattle.vectors.specs.Vector.{Vector, numbers}
 use Rattle.vectors.specs.Claims.{heldRow, Truly}
 use Rattle.vectors.proofs.Linear.{length-numbers}
 use Rattle.runs.specs.Draws.{Plan, Draw, IsDraw, Sound}
-use Rattle.runs.specs.Calls.{Post, Call, loadRow, loadTriple, deal, message, opening, linear, masks, finish, ToldHalf}
+use Rattle.runs.specs.Calls.{Post, Call, loadRow, loadTriple, deal, message, opening, linear, masks, finish}
 use Rattle.runs.proofs.Marks.{Marks, leftOf, rightOf, sessionAt, less, vectorA, maskA, maskB}
 use Rattle.runs.proofs.Outcomes.{refusalOf}
 use Rattle.runs.proofs.Holds.{Holds}
@@ -28,8 +28,9 @@ use Rattle.runs.proofs.Start.{sizes}
 use Rattle.runs.proofs.Steps.{postAt, named, Fits}
 use Rattle.runs.proofs.Facts.{Multiplying, Triple}
 use Rattle.runs.proofs.Allowed.{allowed}
+use Rattle.correctness.specs.History.{World}
 use Rattle.correctness.specs.Ledger.{Ledger}
-use Rattle.correctness.specs.Truth.{OwnPart, TrueOf, TrueFinish}
+use Rattle.correctness.specs.Truth.{OwnPart, TrueMask, TrueOf, TrueFinish}
 use Rattle.correctness.proofs.Standing.{Known, Good}
 use Rattle.correctness.proofs.Said.{Said, told-masks, halves}
 
@@ -61,7 +62,11 @@ module _ (plan : Plan) (draw : Draw) (L : Ledger) (sound : Sound plan) (is : IsD
 
   -- ---- a finish whose polynomials are truly their senders'
 
-  module _ (len i : ℕ) (hi : i ≤ plan .n) (lines : List (List ℕ)) (all : All Line lines) where
+  -- each line of the posts S is by the ledger
+  abbrev pub AllSaid : (ℕ → Type 0) → World → Type 0
+  AllSaid S w = (j : ℕ) → 1 ≤ j → j ≤ plan .n → S j → All Line (w .lines j)
+
+  module _ (S : ℕ → Type 0) (w : World) (all : AllSaid S w) where
     -- of a triple whose masks were made, a half of j's is its polynomial of a − l, or of b − l'
     module _ (M : Marks) (vec : ℕ → Vector) (f : Known plan draw L M vec) (r : ℕ) (ok : Multiplying 5 M (leftOf M r) (rightOf M r) r) where
       low : r < 96
@@ -70,59 +75,59 @@ module _ (plan : Plan) (draw : Draw) (L : Ledger) (sound : Sound plan) (is : IsD
       t : Triple plan draw M vec r
       t = f r low .triple (inr (ok .first))
 
-      both-are : (j : ℕ) → 1 ≤ j → j ≤ plan .n → (half : List ℕ → List ℕ) (xs : List ℕ) → ToldHalf (plan .t) half r lines j xs
+      both-are : (j : ℕ) → 1 ≤ j → j ≤ plan .n → (half : List ℕ → List ℕ) (xs : List ℕ) → TrueMask S w (plan .t) half r j xs
           → xs ≡ half (halves plan draw r j (vec (leftOf M r)) (vec (rightOf M r)))
       both-are j lj hj half xs o =
-          o .4
+          o .1 .4
           ∙ ap half
-          (told-masks plan draw L (small plan sound) lines all r j (o .0)
-          (record { row = omega (arith, ok .r-low); post = (lj, hj); many = o .1; low = o .2 }) (o .3) (leftOf M r) (rightOf M r)
+          (told-masks plan draw L (small plan sound) (w .lines j) (all j lj hj (o .0)) r j (o .1 .0)
+          (record { row = omega (arith, ok .r-low); post = (lj, hj); many = o .1 .1; low = o .1 .2 }) (o .1 .3) (leftOf M r) (rightOf M r)
           (f r low .waiting (ok .first) .means) (vec (leftOf M r)) (vec (rightOf M r))
           (f (leftOf M r) (ok .a-low) .held (ok .a-held)) (f (rightOf M r) (ok .b-low) .held (ok .b-held)))
 
-      pub told-a : (j : ℕ) → 1 ≤ j → j ≤ plan .n → (xs : List ℕ) → ToldHalf (plan .t) (take (plan .t + 1)) r lines j xs
+      pub told-a : (j : ℕ) → 1 ≤ j → j ≤ plan .n → (xs : List ℕ) → TrueMask S w (plan .t) (take (plan .t + 1)) r j xs
           → xs ≡ numbers (plan .t + 1) (maskA M vec r .v j)
       told-a j lj hj xs o =
           both-are j lj hj (take (plan .t + 1)) xs o ∙ take-at (numbers (plan .t + 1) (less (vec (leftOf M r)) (vectorA plan draw r) .v j)) _ (plan .t + 1) (length-numbers (plan .t + 1) _)
           ∙ ap (λ (X : Vector). numbers (plan .t + 1) (less (vec (leftOf M r)) X .v j)) (sym (t .is-a))
 
-      pub told-b : (j : ℕ) → 1 ≤ j → j ≤ plan .n → (xs : List ℕ) → ToldHalf (plan .t) (drop (plan .t + 1)) r lines j xs
+      pub told-b : (j : ℕ) → 1 ≤ j → j ≤ plan .n → (xs : List ℕ) → TrueMask S w (plan .t) (drop (plan .t + 1)) r j xs
           → xs ≡ numbers (plan .t + 1) (maskB M vec r .v j)
       told-b j lj hj xs o =
           both-are j lj hj (drop (plan .t + 1)) xs o ∙ drop-at (numbers (plan .t + 1) (less (vec (leftOf M r)) (vectorA plan draw r) .v j)) _ (plan .t + 1) (length-numbers (plan .t + 1) _)
           ∙ ap (λ (X : Vector). numbers (plan .t + 1) (less (vec (rightOf M r)) X .v j)) (sym (t .is-b))
 
     -- a finish that is not refused
-    module _ (M : Marks) (vec : ℕ → Vector) (f : Known plan draw L M vec) (l : List ℕ) (h : Holds plan draw len i M vec l) (r : ℕ) (blocks blocks' : List ℕ) (z : refusalOf (finish r blocks blocks') (postAt plan draw i M l) ≡ 0) where
+    module _ (len i : ℕ) (M : Marks) (vec : ℕ → Vector) (f : Known plan draw L M vec) (l : List ℕ) (h : Holds plan draw len i M vec l) (r : ℕ) (blocks blocks' : List ℕ) (z : refusalOf (finish r blocks blocks') (postAt plan draw i M l) ≡ 0) where
       abbrev s : Session
       s = sessionAt plan draw i M
 
       ok : Multiplying 5 M (leftOf M r) (rightOf M r) r
       ok = allowed plan draw i M l (finish r blocks blocks') z
 
-      true-a : TrueOf (ToldHalf (plan .t) (take (plan .t + 1)) r lines) s (Finish.maskA s l r) blocks → AllTrue s (maskA M vec r) blocks
+      true-a : TrueOf (TrueMask S w (plan .t) (take (plan .t + 1)) r) s (Finish.maskA s l r) blocks → AllTrue s (maskA M vec r) blocks
       true-a =
-          all-true-of s (maskA M vec r) blocks (ToldHalf (plan .t) (take (plan .t + 1)) r lines) (Finish.maskA s l r) (opens-a plan draw len i M vec l h r blocks blocks' z)
+          all-true-of s (maskA M vec r) blocks (TrueMask S w (plan .t) (take (plan .t + 1)) r) (Finish.maskA s l r) (opens-a plan draw len i M vec l h r blocks blocks' z)
           (λ j lj hj ne o. told-a M vec f r ok j lj hj _ o)
 
-      true-b : TrueOf (ToldHalf (plan .t) (drop (plan .t + 1)) r lines) s (Finish.maskB s l r) blocks' → AllTrue s (maskB M vec r) blocks'
+      true-b : TrueOf (TrueMask S w (plan .t) (drop (plan .t + 1)) r) s (Finish.maskB s l r) blocks' → AllTrue s (maskB M vec r) blocks'
       true-b =
-          all-true-of s (maskB M vec r) blocks' (ToldHalf (plan .t) (drop (plan .t + 1)) r lines) (Finish.maskB s l r) (opens-b plan draw len i M vec l h r blocks blocks' z)
+          all-true-of s (maskB M vec r) blocks' (TrueMask S w (plan .t) (drop (plan .t + 1)) r) (Finish.maskB s l r) (opens-b plan draw len i M vec l h r blocks blocks' z)
           (λ j lj hj ne o. told-b M vec f r ok j lj hj _ o)
 
-    pub fits : (q : Post) (g : Good plan draw L len i q) (c : Call) → refusalOf c q ≡ 0 → OwnPart plan draw i c → TrueFinish q lines c
+    pub fits : (len i : ℕ) (q : Post) (g : Good plan draw L len i q) (c : Call) → refusalOf c q ≡ 0 → OwnPart plan draw i c → TrueFinish S w q c
         → Fits plan draw i (g .marks) (g .vec) c
-    fits q g (loadRow r pack) z own y = own
-    fits q g (loadTriple r pack) z own y = own
-    fits q g (deal r c) z own y = tt
-    fits q g (message r lent) z own y = tt
-    fits q g (opening r blocks) z own y = tt
-    fits q g (linear r a b scale) z own y = tt
-    fits q g (masks a b r lent) z own y = tt
-    fits q g (finish r blocks blocks') z own y =
+    fits len i q g (loadRow r pack) z own y = own
+    fits len i q g (loadTriple r pack) z own y = own
+    fits len i q g (deal r c) z own y = tt
+    fits len i q g (message r lent) z own y = tt
+    fits len i q g (opening r blocks) z own y = tt
+    fits len i q g (linear r a b scale) z own y = tt
+    fits len i q g (masks a b r lent) z own y = tt
+    fits len i q g (finish r blocks blocks') z own y =
         subst
-        (λ (x : Post). refusalOf (finish r blocks blocks') x ≡ 0 → TrueFinish x lines (finish r blocks blocks')
+        (λ (x : Post). refusalOf (finish r blocks blocks') x ≡ 0 → TrueFinish S w x (finish r blocks blocks')
         → Fits plan draw i (g .marks) (g .vec) (finish r blocks blocks'))
         (sym (named plan draw len i (g .marks) (g .vec) q (g .stands)))
-        (λ e o. (true-a (g .marks) (g .vec) (g .facts) (q .rows) (g .stands .holds) r blocks blocks' e (o .0), true-b (g .marks) (g .vec) (g .facts) (q .rows) (g .stands .holds) r blocks blocks' e (o .1)))
+        (λ e o. (true-a len i (g .marks) (g .vec) (g .facts) (q .rows) (g .stands .holds) r blocks blocks' e (o .0), true-b len i (g .marks) (g .vec) (g .facts) (q .rows) (g .stands .holds) r blocks blocks' e (o .1)))
         z y

@@ -23,4 +23,3 @@ pub mod Selections
 pub mod Listed
 pub mod Counts
 pub mod Theorems
-pub mod Example
