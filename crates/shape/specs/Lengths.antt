@@ -33,6 +33,10 @@ sumsAt s = vLength s + s .n
 abbrev pub rowLength : Shape → ℕ
 rowLength s = vLength s + 2 * s .n
 
+-- a post's three rows of a triple
+abbrev pub tripleLength : Shape → ℕ
+tripleLength s = 3 * rowLength s
+
 -- "one lent list of 96 × (t+1+2n) numbers"
 abbrev pub rowsLength : Shape → ℕ
 rowsLength s = rowCount * rowLength s

@@ -24,3 +24,10 @@ masked = 5
 
 abbrev pub spent : ℕ
 spent = 6
+
+-- of a record's block: "a mark (0 absent, 1 present)"
+abbrev pub absent : ℕ
+absent = 0
+
+abbrev pub present : ℕ
+present = 1

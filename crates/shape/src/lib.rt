@@ -1,17 +1,21 @@
 // The shape of a station: the numbers that bound it, and the lengths that follow from n and t. Each stands here and nowhere else.
 ghost use mathlib.Core.Path.{_≡_};
-ghost use Rattle.shape.specs.Lengths.{needed, fLength, vLength, sumsAt, rowLength, rowsLength, blockLength, recordLength, drawLength, tripleDrawLength, packsLength, masksLength, Valid};
+ghost use Rattle.shape.specs.Lengths.{needed, fLength, vLength, checksAt, sumsAt, rowLength, tripleLength, rowsLength, blockLength, recordLength, drawLength, tripleDrawLength, packsLength, masksLength, Valid};
 
-// The most posts of a station.
+// How many posts a station may have.
+pub const FEWEST_POSTS: usize = 2;
+
 pub const MOST_POSTS: usize = 32;
 // How many rows a session has, the last of them, and the last at which a triple begins.
 pub const ROWS: usize = 96;
 
-pub const LAST_ROW: usize = 95;
+pub const LAST_ROW: usize = ROWS - 1;
 
-pub const LAST_TRIPLE: usize = 93;
+pub const LAST_TRIPLE: usize = ROWS - 3;
 // The length of the longest row, that of the most posts with the largest t.
-pub const LONGEST_ROW: usize = 96;
+pub const LONGEST_ROW: usize = 3 * MOST_POSTS;
+// The most coefficients of a v.
+pub const LONGEST_V: usize = MOST_POSTS;
 
 // The marks of rows.
 pub const EMPTY: u8 = 0;
@@ -27,6 +31,11 @@ pub const FURTHER: u8 = 4;
 pub const MASKED: u8 = 5;
 
 pub const SPENT: u8 = 6;
+
+// The marks of a record's blocks.
+pub const ABSENT: u32 = 0;
+
+pub const PRESENT: u32 = 1;
 
 // n posts, of which any t+1 bring a number out and t learn nothing.
 pub struct Shape {
@@ -59,19 +68,34 @@ impl Shape {
         self.t + 1
     }
 
-    // Where the public sums begin in a row; the check values begin behind the coefficients.
+    // Where the check values begin in a row, and the public sums behind them.
+    pub fn checks_at(self) -> usize
+        requires { ⌜ Valid self ⌝ }
+        ensures { λ r. ⌜ r ≡ checksAt self ⌝ }
+    {
+        self.v_len()
+    }
+
     pub fn sums_at(self) -> usize
         requires { ⌜ Valid self ⌝ }
         ensures { λ r. ⌜ r ≡ sumsAt self ⌝ }
     {
-        self.t + 1 + self.n
+        self.v_len() + self.n
     }
 
     pub fn row_len(self) -> usize
         requires { ⌜ Valid self ⌝ }
         ensures { λ r. ⌜ r ≡ rowLength self ⌝ }
     {
-        self.t + 1 + 2 * self.n
+        self.v_len() + 2 * self.n
+    }
+
+    // A post's three rows of a triple.
+    pub fn triple_len(self) -> usize
+        requires { ⌜ Valid self ⌝ }
+        ensures { λ r. ⌜ r ≡ tripleLength self ⌝ }
+    {
+        3 * self.row_len()
     }
 
     // A session's rows.
@@ -94,7 +118,8 @@ impl Shape {
         requires { ⌜ Valid self ⌝ }
         ensures { λ r. ⌜ r ≡ recordLength self ⌝ }
     {
-        self.n * self.block_len()
+        let n = self.n;
+        n * self.block_len()
     }
 
     // The draw of a row.
@@ -102,7 +127,8 @@ impl Shape {
         requires { ⌜ Valid self ⌝ }
         ensures { λ r. ⌜ r ≡ drawLength self ⌝ }
     {
-        self.f_len() + self.n * self.v_len()
+        let n = self.n;
+        self.f_len() + n * self.v_len()
     }
 
     // The draw of a triple, whose third f lacks its constant.
@@ -118,7 +144,8 @@ impl Shape {
         requires { ⌜ Valid self ⌝ }
         ensures { λ r. ⌜ r ≡ packsLength self ⌝ }
     {
-        self.n * self.row_len()
+        let n = self.n;
+        n * self.row_len()
     }
 
     // The masks of a product, and the list that a line is read into: two messages.

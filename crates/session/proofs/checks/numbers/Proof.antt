@@ -7,26 +7,29 @@ use native.Mathlib.Omega.{arith}
 use lib.ListN.{length, take, drop-of-length-le}
 use lib.Seq.{take-nil}
 use borrow.Author.Needs.{needs}
+use Rattle.shape.specs.declared.Shape.{Shape}
+use Rattle.shape.specs.Bounds.{lastRow}
+use Rattle.shape.specs.Lengths.{rowLength, rowsLength}
 use Rattle.refusal.specs.Refusal.{first, _when_}
 use Rattle.refusal.specs.Conditions.{anyBeyond}
-use Rattle.session.specs.declared.Session.{Session}
-use Rattle.session.specs.Rows.{width, rowAt}
-use Rattle.session.specs.Checks.{Framed}
+use Rattle.session.specs.Rows.{rowAt}
+use Rattle.session.specs.Checks.{Sized}
 use Rattle.session.proofs.Passed.{row-below}
-use Rattle.session.proofs.Session.numbers.Statement.{statement}
-use Rattle.session.proofs.Session.numbers.Tie as tie
+use Rattle.session.proofs.checks.numbers.Statement.{statement}
+use Rattle.session.proofs.checks.numbers.Tie as tie
 
 eight : Bool → ℕ
 eight b = first (8 when b ∷ [])
 
--- past the 96 rows there is none
-no-row : (s : Session) (rows : List ℕ) (r : ℕ) → Framed s rows → 95 < r
-    → 0 ≡ first (8 when anyBeyond (rowAt (width s) rows r) ∷ [])
+-- past the last row there is none
+no-row : (s : Shape) (rows : List ℕ) (r : ℕ) → Sized s rows → lastRow < r
+    → 0 ≡ first (8 when anyBeyond (rowAt (rowLength s) rows r) ∷ [])
 unfolding anyBeyond eight
-no-row s rows r f h =
-    let k : 96 * width s ≤ r * width s = mul-le-mul-right (width s) h in
-    let e : length rows ≤ r * width s = omega (arith, f .length-is) in
-    sym (ap (λ (z : List ℕ). eight (anyBeyond (take (width s) z))) (drop-of-length-le rows e) ∙ ap (λ (z : List ℕ). eight (anyBeyond z)) (take-nil (width s)))
+no-row s rows r z h =
+    let w = rowLength s in
+    let k : rowsLength s ≤ r * w = mul-le-mul-right w h in
+    let e : length rows ≤ r * w = omega (arith, z .length-is) in
+    sym (ap (λ (l : List ℕ). eight (anyBeyond (take w l))) (drop-of-length-le rows e) ∙ ap (λ (l : List ℕ). eight (anyBeyond l)) (take-nil w))
 
 of-part : (q : ℕ) (part row : List ℕ) → q ≡ first (8 when anyBeyond part ∷ []) → part ≡ row
     → q ≡ first (8 when anyBeyond row ∷ [])

@@ -1,9 +1,9 @@
 use Prim.Native.Nat.{_-_}
 use lib.ListN.{length}
 use borrow.Author.Needs.{needs}
-use Rattle.session.proofs.Filled.{Filled, filled-more, filled-end}
-use Rattle.session.proofs.rows.copy.Statement.{statement}
-use Rattle.session.proofs.rows.copy.Tie as tie
+use Rattle.lists.proofs.Filled.{Filled, filled-more, filled-end}
+use Rattle.lists.proofs.copy.Statement.{statement}
+use Rattle.lists.proofs.copy.Tie as tie
 
 abbrev Inv-loop : tie.InvT-loop
 Inv-loop from to₀ i₀ i-end to i = Filled from to₀ i to
