@@ -28,11 +28,8 @@ use Rattle.opening.specs.Accepting.{Openable}
 use Rattle.opening.specs.Walking.{recordLength, badRecord, tooFew, opened, openedRow}
 use Rattle.opening.specs.Opening.{ownChecks, openChecks, openRefusal, openAnswer}
 
--- a session's list of rows and its record, for the shape and the party that the code made of it
+-- a session's record, for the party that the code made of it
 module _ (s : Session) (rows blocks : List ℕ) where
-  pub own-sized : (g : Shape) → Framed s rows → g ≡ shapeOf s → Sized g rows
-  own-sized g f e = rw e (f .sized)
-
   pub own-recorded : (q : Party) → Framed s rows → length blocks ≡ recordLength s → q ≡ partyOf s → Recorded q blocks
   own-recorded q f e h = rw h (record { valid = f .sized .valid; length-is = e })
 

@@ -23,6 +23,14 @@ module _ (s : Session) (rows : List ℕ) (r : ℕ) (e : r ≡ first (frameTests 
   pub shape-valid : (g : Shape) → g ≡ shapeOf s → Valid g
   shape-valid g h = shape-sized g h .valid
 
+-- what holds of a session's own shape holds of the shape that the code made of it
+module _ (s : Session) (g : Shape) (e : g ≡ shapeOf s) where
+  pub same-valid : Valid (shapeOf s) → Valid g
+  same-valid v = rw e v
+
+  pub same-sized : (rows : List ℕ) → Framed s rows → Sized g rows
+  same-sized rows f = rw e (f .sized)
+
 module _ (s : Session) (rows : List ℕ) (own : List Test) where
   pub stopped-at-frame : (r : ℕ) → r ≡ first (frameTests s rows) → (r ≡ 0 → ⊥) → r ≡ first (frameTests s rows ++ own)
   stopped-at-frame r e = stopped (frameTests s rows) own tt r e

@@ -1,9 +1,10 @@
 use borrow.Author.Needs.{needs}
-use Rattle.opening.proofs.Opens.{own-sized, own-recorded, own-checked}
+use Rattle.session.proofs.Calls.{same-sized}
+use Rattle.opening.proofs.Opens.{own-recorded, own-checked}
 use Rattle.opening.proofs.own_checks.Statement.{statement}
 use Rattle.opening.proofs.own_checks.Tie as tie
 
-ruleset steps = (needs, own-sized, own-recorded, own-checked)
+ruleset steps = (needs, same-sized, own-recorded, own-checked)
 
 pub own-checks-spec : {M : Type 1} → statement M
 own-checks-spec =
