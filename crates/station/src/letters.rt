@@ -93,7 +93,7 @@ fn put_block(blocks: &mut [u32], at: usize, coefficients: &[u32])
     blocks[at] = 1;
     let from = at + 1;
     let end = from + coefficients.len();
-    session::rows::copy(coefficients, &mut blocks[from..end]);
+    lists::copy(coefficients, &mut blocks[from..end]);
 }
 
 // The record is emptied, unless it is kept for this row.

@@ -3,7 +3,7 @@ use mathlib.Core.List.{map}
 use lib.ListN.{length}
 use borrow.Author.Needs.{needs}
 use Rattle.field.specs.Arithmetic.{sum}
-use Rattle.session.proofs.Filled.{Filled}
+use Rattle.lists.proofs.Filled.{Filled}
 use Rattle.session.proofs.Writers.{mapped-more, mapped-end}
 use Rattle.session.proofs.rows.add_to_each.Statement.{statement}
 use Rattle.session.proofs.rows.add_to_each.Tie as tie
