@@ -10,7 +10,7 @@ use Rattle.field.specs.Modulus.{p}
 use Rattle.poly.specs.Counting.{All, count}
 use Rattle.session.specs.declared.Session.{Session}
 use Rattle.session.specs.declared.Answer.{Answer}
-use Rattle.session.specs.Sessions.{mark}
+use Rattle.session.specs.Sessions.{mark, withPoint}
 use Rattle.session.specs.Rows.{width, rowAt}
 use Rattle.opening.specs.Walking.{sent, accepts}
 use Rattle.opening.specs.Opening.{openAnswer}
@@ -120,7 +120,7 @@ OpeningsAnswered =
 -- "False polynomials pass at no more than t of the p − 1 check points": of the points that the post might have, those at which it
 -- accepts a polynomial that is not j's. The row is the post's part of a vector, and the record one that 5 and 8 let pass.
 abbrev pub atPoint : Session → ℕ → Session
-atPoint s w = record { n = s .n; t = s .t; post = s .post; point = w; marks = s .marks; left = s .left; right = s .right }
+atPoint s w = withPoint s w
 
 abbrev pub FalseCaught : Type 0
 FalseCaught =

@@ -23,8 +23,9 @@ use Rattle.sharing.specs.Load.{loadRowRefusal, loadTripleRefusal, withTriple}
 use Rattle.sharing.specs.Deal.{dealRefusal}
 use Rattle.sharing.specs.Message.{messageRefusal}
 use Rattle.sharing.specs.Linear.{linearRefusal}
-use Rattle.opening.specs.Walking.{blockMark, blockCoefficients, badBlock, badBlocks, accepts, share, walk, opened}
-use Rattle.opening.specs.Walking as Walking
+use Rattle.opening.specs.Blocks as Blocks
+use Rattle.opening.specs.Accepting as Accepting
+use Rattle.opening.specs.Walking.{blockMark, blockCoefficients}
 use Rattle.opening.specs.Opening.{openRefusal}
 use Rattle.product.specs.Masks.{masksRefusal, maskNumbersOf}
 use Rattle.product.specs.Finish.{finishRefusal, productRow, withProduct}
@@ -48,7 +49,7 @@ use Rattle.secrecy.proofs.Theorems.{equal-counts}
 
 -- the run, by computing
 pub seen-is : seen plan group draw (secrets 6 7) zeros steps ≡ shown
-unfolding shown told sum product difference euclid inverse value nodal weight terms interpolated outcome anyBeyond eachFrom part dealerRefusal combined plusSums created loadRowRefusal loadTripleRefusal withTriple dealRefusal messageRefusal linearRefusal badBlock badBlocks Walking.sent accepts share walk opened openRefusal masksRefusal maskNumbersOf finishRefusal productRow withProduct lastDigits sizeWithin fields pointOf rawDraw tripleDraw rawPack triplePack perform newPost dealtNumber posts allRows joined entryOf run polynomialSeen dealSeen rawSeen tripleSeen seen plan group draw secrets zeros nothing masksA masksB products sums steps
+unfolding shown told sum product difference euclid inverse value nodal weight terms interpolated outcome anyBeyond eachFrom part dealerRefusal combined plusSums created loadRowRefusal loadTripleRefusal withTriple dealRefusal messageRefusal linearRefusal Blocks.badBlock Blocks.badBlocks Blocks.sent Accepting.accepts Accepting.share Accepting.walk Accepting.opened openRefusal masksRefusal maskNumbersOf finishRefusal productRow withProduct lastDigits sizeWithin fields pointOf rawDraw tripleDraw rawPack triplePack perform newPost dealtNumber posts allRows joined entryOf run polynomialSeen dealSeen rawSeen tripleSeen seen plan group draw secrets zeros nothing masksA masksB products sums steps
 seen-is = refl
 
 -- what was drawn, row by row
