@@ -21,7 +21,8 @@ use Rattle.sharing.specs.Load.{loadRowRefusal, loadTripleRefusal, withTriple}
 use Rattle.sharing.specs.Deal.{dealRefusal}
 use Rattle.sharing.specs.Linear.{linearRefusal}
 use Rattle.sharing.specs.Message.{messageRefusal}
-use Rattle.opening.specs.Walking.{badBlock, badBlocks, sent, accepts, share, walk, opened}
+use Rattle.opening.specs.Blocks as Blocks
+use Rattle.opening.specs.Accepting as Accepting
 use Rattle.opening.specs.Opening.{openRefusal}
 use Rattle.product.specs.Masks.{masksRefusal, maskNumbersOf}
 use Rattle.product.specs.Finish.{finishRefusal, productRow, withProduct}
@@ -36,7 +37,7 @@ use Rattle.correctness.specs.Truth.{OwnPart, TrueFinish}
 
 -- `refl` proves it where `unfolding Computes` opens the calls' definitions
 unfoldable pub Computes : {A : Type 0} → A → A → Type 0
-unfolding Arithmetic.sum Arithmetic.product Arithmetic.difference Arithmetic.euclid Arithmetic.inverse value count nodal weight terms interpolated outcome anyBeyond eachFrom part dealerRefusal combined plusSums created loadRowRefusal loadTripleRefusal withTriple dealRefusal linearRefusal messageRefusal badBlock badBlocks sent accepts share walk opened openRefusal masksRefusal maskNumbersOf finishRefusal productRow withProduct fields lastDigits sizeWithin pointOf rawDraw tripleDraw rawPack triplePack perform newPost at
+unfolding Arithmetic.sum Arithmetic.product Arithmetic.difference Arithmetic.euclid Arithmetic.inverse value count nodal weight terms interpolated outcome anyBeyond eachFrom part dealerRefusal combined plusSums created loadRowRefusal loadTripleRefusal withTriple dealRefusal linearRefusal messageRefusal Blocks.badBlock Blocks.badBlocks Blocks.sent Accepting.accepts Accepting.share Accepting.walk Accepting.opened openRefusal masksRefusal maskNumbersOf finishRefusal productRow withProduct fields lastDigits sizeWithin pointOf rawDraw tripleDraw rawPack triplePack perform newPost at
 Computes x y = x ≡ y
 
 -- ---- plan, draws and ledger

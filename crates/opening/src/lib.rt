@@ -37,7 +37,10 @@ fn own_checks(session: Session, rows: &[u32], row: usize, blocks: &[u32]) -> u8
     );
     refusal::or_else(
         session::checks::row(row),
-        refusal::or_else(session::checks::unlike(&session.marks, row, shape::HELD), numbers),
+        refusal::or_else(
+            session::checks::unlike(&session.marks, row, shape::HELD),
+            numbers,
+        ),
     )
 }
 

@@ -99,8 +99,7 @@ module _ (s : Session) (rows : List ℕ) (r : ℕ) (l l' : List ℕ) where
       pub finish-placed : q ≡ 0 → Framed s rows × (r ≤ lastTriple) × Recorded (partyOf s) l × Recorded (partyOf s) l'
       finish-placed y =
           let h = all-fail place tt (sym g ∙ y) in
-          let v = finish-valid z in
-          (
+          let v = finish-valid z in (
             frame-passed s rows f e z,
             ltb-false lastTriple r (h .1 .1 .0),
             record { valid = v; length-is = equal (length l) (recordLength s) (h .0) },
@@ -117,8 +116,7 @@ module _ (s : Session) (rows : List ℕ) (r : ℕ) (l l' : List ℕ) where
       let h = allowed s rows (place ++ own) tt f e n in
       let q = h .1 in
       let m = fail-parts place own q .1 in
-      let v = h .0 .sized .valid in
-      (
+      let v = h .0 .sized .valid in (
         h .0,
         row-in (shapeOf s) (factorA s r) (m .0),
         row-in (shapeOf s) (factorB s r) (m .1 .0),

@@ -65,8 +65,7 @@ module _ (s : Session) (rows : List ℕ) (a b r : ℕ) (out : List ℕ) where
     unfolding masksRefusal
     passed =
         let h = allowed s rows (place ++ late) tt f e n in
-        let q = fail-parts place late (h .1) .0 in
-        (
+        let q = fail-parts place late (h .1) .0 in (
           h .0,
           row-in (shapeOf s) a (q .1 .0),
           row-in (shapeOf s) b (q .1 .1 .0),

@@ -27,7 +27,10 @@ pub fn triple_marks(session: Session, a: usize, b: usize, row: usize, mark: u8) 
     );
     refusal::or_else(
         session::checks::unlike(&session.marks, a, shape::HELD),
-        refusal::or_else(session::checks::unlike(&session.marks, b, shape::HELD), triple),
+        refusal::or_else(
+            session::checks::unlike(&session.marks, b, shape::HELD),
+            triple,
+        ),
     )
 }
 
@@ -94,14 +97,7 @@ fn mask(shape: Shape, rows: &[u32], factor: usize, row: usize, out: &mut [u32])
     session::rows::combine(field::P - 1, &x[..count], &y[..count], out);
 }
 
-fn masks_accepted(
-    shape: Shape,
-    rows: &[u32],
-    a: usize,
-    b: usize,
-    first: usize,
-    out: &mut [u32],
-)
+fn masks_accepted(shape: Shape, rows: &[u32], a: usize, b: usize, first: usize, out: &mut [u32])
     requires { ⌜ Sized shape (now rows) × RowIn shape a × RowIn shape b × TripleIn shape first × (length (now out) ≡ masksLength shape) ⌝ }
     ensures { λ r. ⌜ now (out .exit) ≡ bothMasks shape (now (rows .entry)) a b first ⌝ }
 {

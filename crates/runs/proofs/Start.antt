@@ -76,7 +76,7 @@ module _ (plan : Plan) (draw : Draw) (sound : Sound plan) (is : IsDraw plan draw
   pub session-passes : (i : ℕ) → 1 ≤ i → i ≤ plan .n → first (sessionTests (plan .n) (plan .t) i (pointOf draw i)) ≡ 0
   session-passes i lo hi =
       first-join (postsTests (plan .n) (plan .t)) (3 when outside 1 (plan .n) i ∷ 4 when badPoint (pointOf draw i) ∷ []) tt
-      ∙ ap₂ _||_Else (sound .posts)
+      ∙ ap₂ orElse (sound .posts)
       (not-refused (3 when outside 1 (plan .n) i ∷ 4 when badPoint (pointOf draw i) ∷ []) (post-passes i lo hi, (point-passes i lo hi, tt)))
 
   made : (i : ℕ) → 1 ≤ i → i ≤ plan .n → created (plan .n) (plan .t) i (pointOf draw i) .session ≡ sessionAt plan draw i start

@@ -41,7 +41,11 @@ pub fn triple(row: usize) -> u8
 fn mark(marks: &[u8], row: usize) -> u8
     ensures { λ r. ⌜ r ≡ markIn (now (marks .entry)) row ⌝ }
 {
-    if row < marks.len() { marks[row] } else { shape::EMPTY }
+    if row < marks.len() {
+        marks[row]
+    } else {
+        shape::EMPTY
+    }
 }
 
 // 7, of the mark that a call needs on a row.

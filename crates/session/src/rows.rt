@@ -83,7 +83,15 @@ fn combine_rows(shape: Shape, rows: &mut [u32], dest: usize, a: usize, b: usize,
 }
 
 // Row a plus scale times row b, in the place of row dest, with a fee added to its public sums.
-pub fn sum_rows(shape: Shape, rows: &mut [u32], dest: usize, a: usize, b: usize, scale: u32, fee: u32)
+pub fn sum_rows(
+    shape: Shape,
+    rows: &mut [u32],
+    dest: usize,
+    a: usize,
+    b: usize,
+    scale: u32,
+    fee: u32,
+)
     requires { ⌜ Sized shape (now rows) × RowIn shape dest × RowIn shape a × RowIn shape b ⌝ }
     ensures { λ r. ⌜ now (rows .exit) ≡ withRow (rowLength shape) dest (plusSums (sumsAt shape) fee (combined scale (rowAt (rowLength shape) (now (rows .entry)) a) (rowAt (rowLength shape) (now (rows .entry)) b))) (now (rows .entry)) ⌝ }
 {

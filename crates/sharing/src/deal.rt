@@ -17,7 +17,10 @@ fn deal_refusal(session: Session, rows: &[u32], row: usize, c: u32) -> u8
     );
     refusal::or_else(
         session::checks::row(row),
-        refusal::or_else(session::checks::unlike(&session.marks, row, shape::RAW), numbers),
+        refusal::or_else(
+            session::checks::unlike(&session.marks, row, shape::RAW),
+            numbers,
+        ),
     )
 }
 

@@ -147,7 +147,7 @@ fn open<'a>(state: State, rows: &'a [u32], row: usize, blocks: &'a [u32]) -> Ste
 {
     let session = state.session;
     let end = 96 * (session.t + 1 + 2 * session.n);
-    let count = session.n * (session.t + 2);
+    let count = session.n * (session.t + 1 + 1);
     let answer = opening::open(session, &rows[..end], row, &blocks[..count]);
     answered(state, answer)
 }

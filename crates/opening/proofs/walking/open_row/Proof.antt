@@ -8,8 +8,7 @@ use Rattle.opening.proofs.walking.open_row.Tie as tie
 open-in-requires : tie.Need-open-in-requires
 open-in-requires c κs =
     let need = c .before .before .before .needed in
-    let count = c .before .before .before .before .v-len in
-    (
+    let count = c .before .before .before .before .v-len in (
       search needs,
       front-size (count .result) longestV _ _ (count .ensures) (search needs) refl,
       front-size (need .result) mostPosts _ _ (need .ensures) (search needs) refl,
