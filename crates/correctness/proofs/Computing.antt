@@ -28,11 +28,12 @@ use Rattle.product.specs.Finish.{finishRefusal, productRow, withProduct}
 use Rattle.fields.specs.Fields.{fields}
 use Rattle.decimal.specs.Numeral.{lastDigits, sizeWithin}
 use Rattle.runs.specs.Draws.{Plan, Draw, IsRaw, Sound, IsDraw, rawLength, tripleLength, none, by, pointOf, rawDraw, tripleDraw, rawPack, triplePack}
-use Rattle.runs.specs.Calls.{Post, Call, loadRow, loadTriple, deal, message, opening, linear, masks, finish, perform, newPost, at}
+use Rattle.runs.specs.Calls as Calls
+use Rattle.runs.specs.Calls.{Post, Call, loadRow, loadTriple, deal, CallMove, moves, perform, newPost, at}
 use Rattle.runs.proofs.Lines.{elements-of}
 use Rattle.correctness.specs.History.{Event, World, doneBy, turn, history, Each}
 use Rattle.correctness.specs.Ledger.{Ledger, nothing, dealt, sum, product, Plain, of-deal, of-product}
-use Rattle.correctness.specs.Truth.{TrueFinish}
+use Rattle.correctness.specs.Truth.{TrueBy, TrueFinish}
 
 -- `refl` proves it where `unfolding Computes` opens the calls' definitions
 unfoldable pub Computes : {A : Type 0} → A → A → Type 0
@@ -164,32 +165,38 @@ each-of P [] w a = tt
 each-of P (e ∷ es) w a = ((λ z. a .0), each-of P es (turn e w) (a .1))
 
 -- no finish among the events
-abbrev pub QuietThen : Call → Type 0 → Type 0
-QuietThen (loadRow r pack) A = A
-QuietThen (loadTriple r pack) A = A
-QuietThen (deal r c) A = A
-QuietThen (message r lent) A = A
-QuietThen (opening r blocks) A = A
-QuietThen (linear r a b s) A = A
-QuietThen (masks a b r lent) A = A
-QuietThen (finish r blocks blocks') A = ⊥
+abbrev noProduct : CallMove → Bool
+noProduct (Calls.loads r pack) = true
+noProduct (Calls.loadsTriple r pack) = true
+noProduct (Calls.deals r c) = true
+noProduct (Calls.opens r blocks) = true
+noProduct (Calls.adds r a b s) = true
+noProduct (Calls.factors a b r) = true
+noProduct (Calls.multiplies r blocks blocks') = false
 
-abbrev pub Quiet : List Event → Type 0
-Quiet [] = Unit {0}
-Quiet (e ∷ es) = QuietThen (e .call) (Quiet es)
+abbrev noProducts : List CallMove → Bool
+noProducts [] = true
+noProducts (c ∷ cs) = noProduct c && noProducts cs
 
-quiet-call : (q : Post) (lines : List (List ℕ)) (A : Type 0) (c : Call) → QuietThen c A → TrueFinish q lines c × A
-quiet-call q lines A (loadRow r pack) a = (tt, a)
-quiet-call q lines A (loadTriple r pack) a = (tt, a)
-quiet-call q lines A (deal r c) a = (tt, a)
-quiet-call q lines A (message r lent) a = (tt, a)
-quiet-call q lines A (opening r blocks) a = (tt, a)
-quiet-call q lines A (linear r a' b s) a = (tt, a)
-quiet-call q lines A (masks a' b r lent) a = (tt, a)
-quiet-call q lines A (finish r blocks blocks') a = absurd a
+abbrev pub quiet : List Event → Bool
+quiet [] = true
+quiet (e ∷ es) = noProducts (moves (e .call)) && quiet es
 
-pub each-quiet : (es : List Event) (w : World) → Quiet es → Each (λ e v. TrueFinish (v .posts (e .post)) (v .lines) (e .call)) es w
+quiet-move : (q : Post) (lines : List (List ℕ)) (c : CallMove) → T (noProduct c) → TrueBy q lines c
+quiet-move q lines (Calls.loads r pack) h = tt
+quiet-move q lines (Calls.loadsTriple r pack) h = tt
+quiet-move q lines (Calls.deals r c) h = tt
+quiet-move q lines (Calls.opens r blocks) h = tt
+quiet-move q lines (Calls.adds r a b s) h = tt
+quiet-move q lines (Calls.factors a b r) h = tt
+quiet-move q lines (Calls.multiplies r blocks blocks') h = absurd h
+
+quiet-moves : (q : Post) (lines : List (List ℕ)) (cs : List CallMove) → T (noProducts cs) → All (TrueBy q lines) cs
+quiet-moves q lines [] h = tt
+quiet-moves q lines (c ∷ cs) h = let k = both (noProduct c) (noProducts cs) h in (quiet-move q lines c (k .0), quiet-moves q lines cs (k .1))
+
+pub each-quiet : (es : List Event) (w : World) → T (quiet es) → Each (λ e v. TrueFinish (v .posts (e .post)) (v .lines) (e .call)) es w
 each-quiet [] w h = tt
 each-quiet (e ∷ es) w h =
-    let k = quiet-call (w .posts (e .post)) (w .lines) (Quiet es) (e .call) h in
-    ((λ z. k .0), each-quiet es (turn e w) (k .1))
+    let k = both (noProducts (moves (e .call))) (quiet es) h in
+    ((λ z. quiet-moves (w .posts (e .post)) (w .lines) (moves (e .call)) (k .0)), each-quiet es (turn e w) (k .1))

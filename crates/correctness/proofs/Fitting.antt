@@ -2,7 +2,7 @@
 use Prim.Native.Nat.{ℕ, _+_, _≤_, _<_}
 use mathlib.Core.Path.{_≡_, sym, _∙_, ap, subst}
 use mathlib.Core.Logic.{_≢_, inr}
-use mathlib.Core.List.{List}
+use mathlib.Core.List.{List, [], _∷_}
 use native.Mathlib.Decide.{ℕ-discrete}
 use native.Mathlib.Omega.{arith}
 use lib.ListN.{take, drop}
@@ -18,18 +18,16 @@ use Rattle.vectors.specs.Vector.{Vector, numbers}
 use Rattle.vectors.specs.Claims.{heldRow, Truly}
 use Rattle.vectors.proofs.Linear.{length-numbers}
 use Rattle.runs.specs.Draws.{Plan, Draw, IsDraw, Sound}
-use Rattle.runs.specs.Calls.{Post, Call, loadRow, loadTriple, deal, message, opening, linear, masks, finish, ToldHalf}
+use Rattle.runs.specs.Calls.{Post, CallMove, loads, loadsTriple, deals, opens, adds, factors, multiplies, ToldHalf}
 use Rattle.runs.proofs.Marks.{Marks, leftOf, rightOf, sessionAt, less, vectorA, maskA, maskB}
-use Rattle.runs.proofs.Outcomes.{refusalOf}
 use Rattle.runs.proofs.Holds.{Holds}
 use Rattle.runs.proofs.Finishing.{AllTrue, opens-a, opens-b}
 use Rattle.runs.proofs.Records.{own-true}
 use Rattle.runs.proofs.Start.{sizes}
-use Rattle.runs.proofs.Steps.{postAt, named, Fits}
-use Rattle.runs.proofs.Facts.{Multiplying, Triple}
-use Rattle.runs.proofs.Allowed.{allowed}
+use Rattle.runs.proofs.Steps.{named, FitsBy}
+use Rattle.runs.proofs.Facts.{Multiplying, Ready, Triple}
 use Rattle.correctness.specs.Ledger.{Ledger}
-use Rattle.correctness.specs.Truth.{OwnPart, TrueOf, TrueFinish}
+use Rattle.correctness.specs.Truth.{OwnBy, TrueOf, TrueBy}
 use Rattle.correctness.proofs.Standing.{Known, Good}
 use Rattle.correctness.proofs.Said.{Said, told-masks, halves}
 
@@ -93,36 +91,36 @@ module _ (plan : Plan) (draw : Draw) (L : Ledger) (sound : Sound plan) (is : IsD
           ∙ ap (λ (X : Vector). numbers (plan .t + 1) (less (vec (rightOf M r)) X .v j)) (sym (t .is-b))
 
     -- a finish that is not refused
-    module _ (M : Marks) (vec : ℕ → Vector) (f : Known plan draw L M vec) (l : List ℕ) (h : Holds plan draw len i M vec l) (r : ℕ) (blocks blocks' : List ℕ) (z : refusalOf (finish r blocks blocks') (postAt plan draw i M l) ≡ 0) where
+    module _ (M : Marks) (vec : ℕ → Vector) (f : Known plan draw L M vec) (l : List ℕ) (h : Holds plan draw len i M vec l) (r : ℕ) (blocks blocks' : List ℕ) (ok : Multiplying 5 M (leftOf M r) (rightOf M r) r) where
       abbrev s : Session
       s = sessionAt plan draw i M
 
-      ok : Multiplying 5 M (leftOf M r) (rightOf M r) r
-      ok = allowed plan draw i M l (finish r blocks blocks') z
-
       true-a : TrueOf (ToldHalf (plan .t) (take (plan .t + 1)) r lines) s (Finish.maskA s l r) blocks → AllTrue s (maskA M vec r) blocks
       true-a =
-          all-true-of s (maskA M vec r) blocks (ToldHalf (plan .t) (take (plan .t + 1)) r lines) (Finish.maskA s l r) (opens-a plan draw len i M vec l h r blocks blocks' z)
+          all-true-of s (maskA M vec r) blocks (ToldHalf (plan .t) (take (plan .t + 1)) r lines) (Finish.maskA s l r) (opens-a plan draw len i M vec l h r ok)
           (λ j lj hj ne o. told-a M vec f r ok j lj hj _ o)
 
       true-b : TrueOf (ToldHalf (plan .t) (drop (plan .t + 1)) r lines) s (Finish.maskB s l r) blocks' → AllTrue s (maskB M vec r) blocks'
       true-b =
-          all-true-of s (maskB M vec r) blocks' (ToldHalf (plan .t) (drop (plan .t + 1)) r lines) (Finish.maskB s l r) (opens-b plan draw len i M vec l h r blocks blocks' z)
+          all-true-of s (maskB M vec r) blocks' (ToldHalf (plan .t) (drop (plan .t + 1)) r lines) (Finish.maskB s l r) (opens-b plan draw len i M vec l h r ok)
           (λ j lj hj ne o. told-b M vec f r ok j lj hj _ o)
 
-    pub fits : (q : Post) (g : Good plan draw L len i q) (c : Call) → refusalOf c q ≡ 0 → OwnPart plan draw i c → TrueFinish q lines c
-        → Fits plan draw i (g .marks) (g .vec) c
-    fits q g (loadRow r pack) z own y = own
-    fits q g (loadTriple r pack) z own y = own
-    fits q g (deal r c) z own y = tt
-    fits q g (message r lent) z own y = tt
-    fits q g (opening r blocks) z own y = tt
-    fits q g (linear r a b scale) z own y = tt
-    fits q g (masks a b r lent) z own y = tt
-    fits q g (finish r blocks blocks') z own y =
+    fits-by : (q : Post) (g : Good plan draw L len i q) (c : CallMove) → Ready (g .marks) c → OwnBy plan draw i c → TrueBy q lines c
+        → FitsBy plan draw i (g .marks) (g .vec) c
+    fits-by q g (loads r pack) ok own y = own
+    fits-by q g (loadsTriple r pack) ok own y = own
+    fits-by q g (deals r c) ok own y = tt
+    fits-by q g (opens r blocks) ok own y = tt
+    fits-by q g (adds r a b scale) ok own y = tt
+    fits-by q g (factors a b r) ok own y = tt
+    fits-by q g (multiplies r blocks blocks') ok own y =
         subst
-        (λ (x : Post). refusalOf (finish r blocks blocks') x ≡ 0 → TrueFinish x lines (finish r blocks blocks')
-        → Fits plan draw i (g .marks) (g .vec) (finish r blocks blocks'))
+        (λ (x : Post). TrueBy x lines (multiplies r blocks blocks') → FitsBy plan draw i (g .marks) (g .vec) (multiplies r blocks blocks'))
         (sym (named plan draw len i (g .marks) (g .vec) q (g .stands)))
-        (λ e o. (true-a (g .marks) (g .vec) (g .facts) (q .rows) (g .stands .holds) r blocks blocks' e (o .0), true-b (g .marks) (g .vec) (g .facts) (q .rows) (g .stands .holds) r blocks blocks' e (o .1)))
-        z y
+        (λ o. (true-a (g .marks) (g .vec) (g .facts) (q .rows) (g .stands .holds) r blocks blocks' ok (o .0), true-b (g .marks) (g .vec) (g .facts) (q .rows) (g .stands .holds) r blocks blocks' ok (o .1)))
+        y
+
+    pub fits : (q : Post) (g : Good plan draw L len i q) (cs : List CallMove) → All (Ready (g .marks)) cs → All (OwnBy plan draw i) cs
+        → All (TrueBy q lines) cs → All (FitsBy plan draw i (g .marks) (g .vec)) cs
+    fits q g [] ok own y = tt
+    fits q g (c ∷ cs) ok own y = (fits-by q g c (ok .0) (own .0) (y .0), fits q g cs (ok .1) (own .1) (y .1))

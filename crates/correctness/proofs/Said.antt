@@ -16,13 +16,13 @@ use Rattle.factory.proofs.Laws.{elements-append}
 use Rattle.vectors.specs.Vector.{Vector, numbers}
 use Rattle.vectors.proofs.Linear.{length-numbers}
 use Rattle.runs.specs.Draws.{Plan, Draw, IsDraw}
-use Rattle.runs.specs.Calls.{Post, Call, loadRow, loadTriple, deal, message, opening, linear, masks, finish, perform, sentIf, openingLine, masksLine, broadcast, Among}
-use Rattle.runs.proofs.Marks.{less, vectorA, vectorB}
+use Rattle.runs.specs.Calls.{Post, Call, Left, CallMove, factors, moves, Sending, silence, itsOpening, itsMasks, outline, perform, sentIf, openingLine, masksLine, broadcastOf, broadcast, Among}
+use Rattle.runs.proofs.Marks.{markOf, less, vectorA, vectorB}
 use Rattle.runs.proofs.Outcomes.{refusalOf, refusal-is}
-use Rattle.runs.proofs.Facts.{Allowed, Multiplying, Triple}
+use Rattle.runs.proofs.Facts.{Sendable, Multiplying, Triple}
 use Rattle.runs.proofs.Lines.{Opening, Masks, same-opening, same-masks, not-both, numbers-elements}
-use Rattle.runs.proofs.Steps.{message-says, masks-say}
-use Rattle.correctness.specs.Ledger.{Ledger, product, Written}
+use Rattle.runs.proofs.Steps.{Says, says}
+use Rattle.correctness.specs.Ledger.{Ledger, product, WrittenBy, Written}
 use Rattle.correctness.proofs.Meanings.{Is, one}
 use Rattle.correctness.proofs.Standing.{Good, allowed-at}
 
@@ -172,12 +172,11 @@ module _ (plan : Plan) (draw : Draw) (L : Ledger) (small : plan .n < tens 10) wh
     once P zero line f = (f refl, tt)
     once P (suc n) line f = tt
 
-    new-opening : (r : ℕ) (lent : List ℕ) → refusalOf (message r lent) q ≡ 0
-        → OpeningSaid (openingLine r i (perform (message r lent) q .lent))
-    new-opening r lent z = record {
+    new-opening : (r : ℕ) (xs : List ℕ) → (r < 96) × (markOf (g .marks) r ≡ 2) → xs ≡ numbers k (g .vec r .v i) → OpeningSaid (openingLine r i xs)
+    new-opening r xs ok says = record {
       row = r;
       post = i;
-      xs = perform (message r lent) q .lent;
+      xs = xs;
       is = refl;
       form = record {
         row = omega (arith, ok .0);
@@ -189,19 +188,14 @@ module _ (plan : Plan) (draw : Draw) (L : Ledger) (small : plan .n < tens 10) wh
       meant = g .facts r (ok .0) .held (ok .1);
       says = says;
     }
-      where
-        ok : Allowed (message r lent) (g .marks)
-        ok = allowed-at plan draw L len i q g (message r lent) z
 
-        says : perform (message r lent) q .lent ≡ numbers k (g .vec r .v i)
-        says = message-says plan draw is len i hi (g .marks) (g .vec) q (g .stands) r lent z
-
-    new-masks : (a b r : ℕ) (lent : List ℕ) → refusalOf (masks a b r lent) q ≡ 0 → L (r + 2) ≡ product r a b
-        → MasksSaid (masksLine r i (perform (masks a b r lent) q .lent))
-    new-masks a b r lent z means = record {
+    new-masks : (a b r : ℕ) (xs : List ℕ) → Multiplying 3 (g .marks) a b r
+        → xs ≡ numbers k (less (g .vec a) (g .vec r) .v i) ++ numbers k (less (g .vec b) (g .vec (r + 1)) .v i) → L (r + 2) ≡ product r a b
+        → MasksSaid (masksLine r i xs)
+    new-masks a b r xs ok said means = record {
       row = r;
       post = i;
-      xs = perform (masks a b r lent) q .lent;
+      xs = xs;
       is = refl;
       form = record {
         row = omega (arith, ok .r-low);
@@ -219,24 +213,25 @@ module _ (plan : Plan) (draw : Draw) (L : Ledger) (small : plan .n < tens 10) wh
       says = says;
     }
       where
-        ok : Multiplying 3 (g .marks) a b r
-        ok = allowed-at plan draw L len i q g (masks a b r lent) z
-
         t : Triple plan draw (g .marks) (g .vec) r
         t = g .facts r (omega (arith, ok .r-low)) .triple (inl (ok .first))
 
-        says : perform (masks a b r lent) q .lent ≡ halves plan draw r i (g .vec a) (g .vec b)
+        says : xs ≡ halves plan draw r i (g .vec a) (g .vec b)
         says =
-            masks-say plan draw is len i hi (g .marks) (g .vec) q (g .stands) a b r lent z
+            said
             ∙ ap₂ (λ (X Y : Vector). numbers k (less (g .vec a) X .v i) ++ numbers k (less (g .vec b) Y .v i)) (t .is-a) (t .is-b)
 
+    said-by : (cs : List CallMove) (s : Sending) (o : Left)
+        → (o .answer .refusal ≡ 0 → Sendable cs s (g .marks) × Says plan draw i (g .vec) s (o .lent) × All (WrittenBy draw L) cs)
+        → All Said (broadcastOf i s o)
+    said-by cs silence o f = tt
+    said-by cs (itsOpening r) o f = once Said _ _ (λ e. let h = f e in inl (new-opening r (o .lent) (h .0) (h .1)))
+    said-by cs (itsMasks a b r) o f =
+        once Said _ _ (λ e. let h = f e in
+        inr (new-masks a b r (o .lent) (h .0 .0) (h .1) (among-all (WrittenBy draw L) cs (h .2) (factors a b r) (h .0 .1))))
+
     pub new-said : (c : Call) → (refusalOf c q ≡ 0 → Written draw L c) → All Said (broadcast i c (perform c q))
-    new-said (loadRow r pack) w = tt
-    new-said (loadTriple r pack) w = tt
-    new-said (deal r c) w = tt
-    new-said (message r lent) w = once Said _ _ (λ e. inl (new-opening r lent (sym (refusal-is (message r lent) q) ∙ e)))
-    new-said (opening r blocks) w = tt
-    new-said (linear r a b s) w = tt
-    new-said (masks a b r lent) w =
-        once Said _ _ (λ e. let z = sym (refusal-is (masks a b r lent) q) ∙ e in inr (new-masks a b r lent z (w z)))
-    new-said (finish r blocks blocks') w = tt
+    new-said c w =
+        said-by (moves c) (outline c .sends) (perform c q) (λ e.
+        let z = sym (refusal-is c q) ∙ e in
+        (allowed-at plan draw L len i q g c z .sending, says plan draw is len i hi (g .marks) (g .vec) q (g .stands) c z, w z))

@@ -2,21 +2,23 @@
 use Prim.Native.Nat.{ℕ, _+_, _*_, _≤_, _<_}
 use mathlib.Core.Path.{_≡_, refl, sym, _∙_, ap₂, subst}
 use mathlib.Core.Logic.{_≢_, inr}
+use mathlib.Core.List.{List, [], _∷_}
 use native.Mathlib.Omega.{arith}
 use lib.ListN.{length}
 use Rattle.field.specs.Element.{element}
+use Rattle.poly.specs.Counting.{All}
 use Rattle.vectors.specs.Vector.{Vector, raised, number}
 use Rattle.runs.specs.Draws.{Plan, Draw, IsDraw}
-use Rattle.runs.specs.Calls.{Post, Call, loadRow, loadTriple, deal, message, opening, linear, masks, finish, perform, after}
-use Rattle.runs.proofs.Marks.{Marks, markOf, leftOf, rightOf, Sized, less, productVector, written}
+use Rattle.runs.specs.Calls.{Post, Call, CallMove, loads, loadsTriple, deals, opens, adds, factors, multiplies, moves, perform, after}
+use Rattle.runs.proofs.Marks.{Marks, markOf, leftOf, rightOf, Sized, less, productVector, written, marksBy, vectorsBy, marksAll, vectorsAll}
 use Rattle.runs.proofs.Outcomes.{refusalOf}
 use Rattle.runs.proofs.Steps.{Stands, named, Fits, stands-after}
-use Rattle.runs.proofs.Facts.{Allowed, Multiplying, Triple, Facts, Meant}
-use Rattle.runs.proofs.Rows.{sized-after}
-use Rattle.runs.proofs.Kept.{facts-after}
+use Rattle.runs.proofs.Facts.{AllowedBy, AllowedAll, Allowed, Multiplying, Triple, Facts, Meant}
+use Rattle.runs.proofs.Rows.{sized-by, sized-after}
+use Rattle.runs.proofs.Kept.{facts-by}
 use Rattle.runs.proofs.Allowed.{allowed, room}
-use Rattle.correctness.specs.Ledger.{Ledger, product, Written}
-use Rattle.correctness.specs.Truth.{OwnPart}
+use Rattle.correctness.specs.Ledger.{Ledger, product, WrittenBy, Written}
+use Rattle.correctness.specs.Truth.{OwnBy, OwnPart}
 use Rattle.correctness.proofs.Meanings.{Is, is-dealt, is-sum, is-product}
 
 module _ (plan : Plan) (draw : Draw) (L : Ledger) where
@@ -65,17 +67,24 @@ module _ (plan : Plan) (draw : Draw) (L : Ledger) where
         t : Triple plan draw M vec r
         t = f r low .triple (inr (ok .first))
 
-    meant : (i : ℕ) (c : Call) → Allowed c M → OwnPart plan draw i c → Written draw L c → Meant plan draw (Is plan draw L) Waits c M vec
-    meant i (loadRow r pack) ok own w = own .0
-    meant i (loadTriple r pack) ok own w = own .0
-    meant i (deal r c) ok own w =
+    meant : (i : ℕ) (c : CallMove) → AllowedBy c M → OwnBy plan draw i c → WrittenBy draw L c → Meant plan draw (Is plan draw L) Waits c M vec
+    meant i (loads r pack) ok own w = own .0
+    meant i (loadsTriple r pack) ok own w = own .0
+    meant i (deals r c) ok own w =
         is-dealt (w .2) (w .1) (ap₂ (λ (x : ℕ) (X : Vector). raised (element x) X) (w .3) (f r (ok .0) .raw (ok .1) .1))
-    meant i (message r lent) ok own w = tt
-    meant i (opening r blocks) ok own w = tt
-    meant i (linear r a b scale) ok own w =
+    meant i (opens r blocks) ok own w = tt
+    meant i (adds r a b scale) ok own w =
         is-sum w (f a (ok .a-low) .held (ok .a-held)) (f b (ok .b-low) .held (ok .b-held)) refl
-    meant i (masks a b r lent) ok own w = w
-    meant i (finish r blocks blocks') ok own w = finished-is r ok
+    meant i (factors a b r) ok own w = w
+    meant i (multiplies r blocks blocks') ok own w = finished-is r ok
+
+  known-after : (i : ℕ) (cs : List CallMove) (M : Marks) (vec : ℕ → Vector) → Sized M → AllowedAll cs M → All (OwnBy plan draw i) cs
+      → All (WrittenBy draw L) cs → Known M vec → Known (marksAll cs M) (vectorsAll plan draw cs M vec)
+  known-after i [] M vec z ok own w f = f
+  known-after i (c ∷ cs) M vec z ok own w f =
+      known-after i cs (marksBy c M) (vectorsBy plan draw c M vec) (sized-by c M z) (ok .1) (own .1) (w .1)
+      (facts-by plan draw (Is plan draw L) Waits (Is plan draw L) Waits c M vec z (ok .0) (meant M vec f i c (ok .0) (own .0) (w .0))
+      (λ r low e h. h) (λ r low e e' h. h) f)
 
   pub good-after : IsDraw plan draw → (len i : ℕ) → i ≤ plan .n → (q : Post) (g : Good len i q) (c : Call) → refusalOf c q ≡ 0
       → OwnPart plan draw i c → Written draw L c → Fits plan draw i (g .marks) (g .vec) c → Good len i (after (perform c q))
@@ -84,10 +93,8 @@ module _ (plan : Plan) (draw : Draw) (L : Ledger) where
       record {
         marks = _;
         vec = _;
-        sized = sized-after c (g .marks) (g .sized);
+        sized = sized-after (moves c) (g .marks) (g .sized);
         stands = stands-after plan draw is len i hi (g .marks) (g .vec) q (g .stands) c z fit;
-        facts =
-            facts-after plan draw (Is plan draw L) Waits (Is plan draw L) Waits c (g .marks) (g .vec) (g .sized) ok
-            (meant (g .marks) (g .vec) (g .facts) i c ok own w) (λ r low e h. h) (λ r low e e' h. h) (g .facts);
+        facts = known-after i (moves c) (g .marks) (g .vec) (g .sized) (ok .moving) own w (g .facts);
         full = λ r ne. room-at len i q g c z;
       }

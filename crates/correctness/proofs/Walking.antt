@@ -7,14 +7,14 @@ use lib.ListN.{length}
 use Rattle.poly.specs.Counting.{All}
 use Rattle.session.specs.Sessions.{answer}
 use Rattle.runs.specs.Draws.{Plan, Draw, IsDraw, Sound}
-use Rattle.runs.specs.Calls.{Post, after, broadcast, at}
+use Rattle.runs.specs.Calls.{Post, moves, after, broadcast, at}
 use Rattle.runs.proofs.Marks.{at-same, at-other, rawVector}
 use Rattle.runs.proofs.Start.{start, start-sized, start-mark, start-stands, start-facts}
 use Rattle.runs.proofs.Outcomes.{refusalOf, refusal-is, refused}
 use Rattle.correctness.specs.History.{Event, World, doneBy, turn, history, begin, Each}
 use Rattle.correctness.specs.Ledger.{Ledger, Written}
 use Rattle.correctness.specs.Truth.{OwnPart, TrueFinish}
-use Rattle.correctness.proofs.Standing.{Good, good-after}
+use Rattle.correctness.proofs.Standing.{Good, allowed-at, good-after}
 use Rattle.correctness.proofs.Said.{new-said}
 use Rattle.correctness.proofs.Fitting.{Line, small, fits}
 
@@ -39,17 +39,18 @@ module _ (plan : Plan) (draw : Draw) (L : Ledger) (sound : Sound plan) (is : IsD
       is-zero : refusalOf (e .call) (w .posts (e .post)) ≡ 0 → doneBy e w .answer .refusal ≡ 0
       is-zero z = refusal-is (e .call) (w .posts (e .post)) ∙ z
 
-      moves : (k : ℕ) → refusalOf (e .call) (w .posts (e .post)) ≡ k → Good plan draw L (lens (e .post)) (e .post) (after (doneBy e w))
-      moves zero z =
+      goes : (k : ℕ) → refusalOf (e .call) (w .posts (e .post)) ≡ k → Good plan draw L (lens (e .post)) (e .post) (after (doneBy e w))
+      goes zero z =
           let y = is-zero z in
           good-after plan draw L is (lens (e .post)) (e .post) hi q g (e .call) z (own y) (wrote y)
-          (fits plan draw L sound is (lens (e .post)) (e .post) hi (w .lines) (v .lines) q g (e .call) z (own y) (truth y))
-      moves (suc k) z = subst (Good plan draw L (lens (e .post)) (e .post)) (sym (refused (e .call) q k z)) g
+          (fits plan draw L sound is (lens (e .post)) (e .post) hi (w .lines) (v .lines) q g (moves (e .call))
+          (allowed-at plan draw L (lens (e .post)) (e .post) q g (e .call) z .ready) (own y) (truth y))
+      goes (suc k) z = subst (Good plan draw L (lens (e .post)) (e .post)) (sym (refused (e .call) q k z)) g
 
       where-it-is : (i : ℕ) → 1 ≤ i → i ≤ plan .n → Dec (i ≡ e .post) → Good plan draw L (lens i) i (at (w .posts) (e .post) (after (doneBy e w)) i)
       where-it-is i li ui (yes h) =
           subst (λ (z : ℕ). Good plan draw L (lens z) z (at (w .posts) (e .post) (after (doneBy e w)) z)) (sym h)
-          (subst (Good plan draw L (lens (e .post)) (e .post)) (sym (at-same (w .posts) (e .post) (after (doneBy e w)))) (moves _ refl))
+          (subst (Good plan draw L (lens (e .post)) (e .post)) (sym (at-same (w .posts) (e .post) (after (doneBy e w)))) (goes _ refl))
       where-it-is i li ui (no h) =
           subst (Good plan draw L (lens i) i) (sym (at-other (w .posts) (e .post) (after (doneBy e w)) i h)) (v .posts i li ui)
 

@@ -4,9 +4,10 @@ use mathlib.Core.Path.{_≡_}
 use lib.ListN.{getD}
 use Rattle.field.specs.Modulus.{p}
 use Rattle.field.specs.Arithmetic as Arithmetic
+use Rattle.poly.specs.Counting.{All}
 use Rattle.factory.specs.Packs.{dealerNumber}
 use Rattle.runs.specs.Draws.{Draw, rawDraw}
-use Rattle.runs.specs.Calls.{Call, loadRow, loadTriple, deal, message, opening, linear, masks, finish}
+use Rattle.runs.specs.Calls.{Call, CallMove, loads, loadsTriple, deals, opens, adds, factors, multiplies, moves}
 
 -- What a row holds: nothing of its own; u, dealt; a plus s times b; a times b, by the triple at r.
 pub data Meaning : Type 0 where
@@ -19,15 +20,17 @@ abbrev pub Ledger : Type 0
 Ledger = ℕ → Meaning
 
 -- A call that is not refused does what the ledger says: a deal of u with c = u − f(0), a sum, masks.
+abbrev pub WrittenBy : Draw → Ledger → CallMove → Type 0
+WrittenBy draw L (loads r pack) = Unit {0}
+WrittenBy draw L (loadsTriple r pack) = Unit {0}
+WrittenBy draw L (deals r c) = (u : ℕ) × (u < p) × (L r ≡ dealt u) × (c ≡ dealerNumber u (getD (rawDraw draw r) 0 0) .value)
+WrittenBy draw L (opens r blocks) = Unit {0}
+WrittenBy draw L (adds r a b s) = L r ≡ sum a b s
+WrittenBy draw L (factors a b r) = L (r + 2) ≡ product r a b
+WrittenBy draw L (multiplies r blocks blocks') = Unit {0}
+
 abbrev pub Written : Draw → Ledger → Call → Type 0
-Written draw L (loadRow r pack) = Unit {0}
-Written draw L (loadTriple r pack) = Unit {0}
-Written draw L (deal r c) = (u : ℕ) × (u < p) × (L r ≡ dealt u) × (c ≡ dealerNumber u (getD (rawDraw draw r) 0 0) .value)
-Written draw L (message r lent) = Unit {0}
-Written draw L (opening r blocks) = Unit {0}
-Written draw L (linear r a b s) = L r ≡ sum a b s
-Written draw L (masks a b r lent) = L (r + 2) ≡ product r a b
-Written draw L (finish r blocks blocks') = Unit {0}
+Written draw L c = All (WrittenBy draw L) (moves c)
 
 -- The plain number of a row, by the ledger alone.
 pub data Plain (L : Ledger) : ℕ → ℕ → Type 0 where

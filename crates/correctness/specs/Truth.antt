@@ -12,19 +12,21 @@ use Rattle.session.specs.Rows.{width, coefficients, rowAt}
 use Rattle.opening.specs.Walking.{sent, acceptedPosts}
 use Rattle.product.specs.Finish.{maskA, maskB}
 use Rattle.runs.specs.Draws.{Plan, Draw, IsRaw, rawPack, triplePack}
-use Rattle.runs.specs.Calls.{Post, Call, loadRow, loadTriple, deal, message, opening, linear, masks, finish, ToldHalf}
+use Rattle.runs.specs.Calls.{Post, Call, CallMove, loads, loadsTriple, deals, opens, adds, factors, multiplies, moves, ToldHalf}
 use Rattle.correctness.specs.History.{World}
 
 -- "sessions of one draw": what a post loads is its own part of what was drawn for those rows.
+abbrev pub OwnBy : Plan → Draw → ℕ → CallMove → Type 0
+OwnBy plan draw i (loads r pack) = IsRaw (plan .raw r) × (pack ≡ rawPack plan draw i r)
+OwnBy plan draw i (loadsTriple r pack) = (plan .triple r ≡ true) × (pack ≡ triplePack plan draw i r)
+OwnBy plan draw i (deals r c) = Unit {0}
+OwnBy plan draw i (opens r blocks) = Unit {0}
+OwnBy plan draw i (adds r a b s) = Unit {0}
+OwnBy plan draw i (factors a b r) = Unit {0}
+OwnBy plan draw i (multiplies r blocks blocks') = Unit {0}
+
 abbrev pub OwnPart : Plan → Draw → ℕ → Call → Type 0
-OwnPart plan draw i (loadRow r pack) = IsRaw (plan .raw r) × (pack ≡ rawPack plan draw i r)
-OwnPart plan draw i (loadTriple r pack) = (plan .triple r ≡ true) × (pack ≡ triplePack plan draw i r)
-OwnPart plan draw i (deal r c) = Unit {0}
-OwnPart plan draw i (message r lent) = Unit {0}
-OwnPart plan draw i (opening r blocks) = Unit {0}
-OwnPart plan draw i (linear r a b s) = Unit {0}
-OwnPart plan draw i (masks a b r lent) = Unit {0}
-OwnPart plan draw i (finish r blocks blocks') = Unit {0}
+OwnPart plan draw i c = All (OwnBy plan draw i) (moves c)
 
 -- What j holds now of row r, whether it was sent or not; what it sent is `Told`.
 abbrev pub Owned : World → ℕ → ℕ → List ℕ → Type 0
@@ -37,15 +39,17 @@ abbrev pub TrueOf : (ℕ → List ℕ → Type 0) → Session → List ℕ → L
 TrueOf P s row blocks = All (λ j. j ≢ s .post → P j (sent s row blocks j)) (acceptedPosts s row blocks)
 
 -- In a finish: of both records.
-abbrev pub TrueFinish : Post → List (List ℕ) → Call → Type 0
-TrueFinish q lines (loadRow r pack) = Unit {0}
-TrueFinish q lines (loadTriple r pack) = Unit {0}
-TrueFinish q lines (deal r c) = Unit {0}
-TrueFinish q lines (message r lent) = Unit {0}
-TrueFinish q lines (opening r blocks) = Unit {0}
-TrueFinish q lines (linear r a b s) = Unit {0}
-TrueFinish q lines (masks a b r lent) = Unit {0}
-TrueFinish q lines (finish r blocks blocks') =
+abbrev pub TrueBy : Post → List (List ℕ) → CallMove → Type 0
+TrueBy q lines (loads r pack) = Unit {0}
+TrueBy q lines (loadsTriple r pack) = Unit {0}
+TrueBy q lines (deals r c) = Unit {0}
+TrueBy q lines (opens r blocks) = Unit {0}
+TrueBy q lines (adds r a b s) = Unit {0}
+TrueBy q lines (factors a b r) = Unit {0}
+TrueBy q lines (multiplies r blocks blocks') =
     let s = q .session in
     TrueOf (ToldHalf (s .t) (take (s .t + 1)) r lines) s (maskA s (q .rows) r) blocks
     × TrueOf (ToldHalf (s .t) (drop (s .t + 1)) r lines) s (maskB s (q .rows) r) blocks'
+
+abbrev pub TrueFinish : Post → List (List ℕ) → Call → Type 0
+TrueFinish q lines c = All (TrueBy q lines) (moves c)

@@ -3,11 +3,13 @@ use Prim.Native.Nat.{ℕ, _+_, _<_}
 use mathlib.Core.Path.{_≡_}
 use mathlib.Core.Bool.{true}
 use mathlib.Core.Logic.{_⊎_}
+use mathlib.Core.List.{List, [], _∷_}
 use Rattle.field.specs.Element.{element}
+use Rattle.poly.specs.Counting.{All}
 use Rattle.vectors.specs.Vector.{Vector, plusTimes, raised}
 use Rattle.runs.specs.Draws.{Plan, Draw, IsRaw}
-use Rattle.runs.specs.Calls.{Call, loadRow, loadTriple, deal, message, opening, linear, masks, finish}
-use Rattle.runs.proofs.Marks.{Marks, markOf, leftOf, rightOf, rawVector, vectorA, vectorB, vectorAB, written}
+use Rattle.runs.specs.Calls.{Call, Sending, silence, itsOpening, itsMasks, Move, CallMove, loads, loadsTriple, deals, opens, adds, factors, multiplies, outline, moves, Among}
+use Rattle.runs.proofs.Marks.{Marks, markOf, leftOf, rightOf, rawVector, vectorA, vectorB, vectorAB, written, marksBy}
 
 -- ---- What the marks allow, of a call that is not refused.
 
@@ -30,26 +32,53 @@ pub record Multiplying (mark : ℕ) (M : Marks) (a b r : ℕ) : Type 0 where
   pub second : markOf M (r + 1) ≡ 4
   pub third : markOf M (r + 2) ≡ 4
 
-abbrev pub Allowed : Call → Marks → Type 0
-Allowed (loadRow r pack) M = (r < 96) × (markOf M r ≡ 0)
-Allowed (loadTriple r pack) M = (r < 94) × (markOf M r ≡ 0) × (markOf M (r + 1) ≡ 0) × (markOf M (r + 2) ≡ 0)
-Allowed (deal r c) M = (r < 96) × (markOf M r ≡ 1)
-Allowed (message r lent) M = (r < 96) × (markOf M r ≡ 2)
-Allowed (opening r blocks) M = (r < 96) × (markOf M r ≡ 2)
-Allowed (linear r a b scale) M = Summing M r a b
-Allowed (masks a b r lent) M = Multiplying 3 M a b r
-Allowed (finish r blocks blocks') M = Multiplying 5 M (leftOf M r) (rightOf M r) r
+abbrev pub AllowedBy : {P N B : Type 0} → Move P N B → Marks → Type 0
+AllowedBy (loads r pack) M = (r < 96) × (markOf M r ≡ 0)
+AllowedBy (loadsTriple r pack) M = (r < 94) × (markOf M r ≡ 0) × (markOf M (r + 1) ≡ 0) × (markOf M (r + 2) ≡ 0)
+AllowedBy (deals r c) M = (r < 96) × (markOf M r ≡ 1)
+AllowedBy (opens r blocks) M = (r < 96) × (markOf M r ≡ 2)
+AllowedBy (adds r a b scale) M = Summing M r a b
+AllowedBy (factors a b r) M = Multiplying 3 M a b r
+AllowedBy (multiplies r blocks blocks') M = Multiplying 5 M (leftOf M r) (rightOf M r) r
+
+abbrev pub AllowedAll : {P N B : Type 0} → List (Move P N B) → Marks → Type 0
+AllowedAll [] M = Unit {0}
+AllowedAll (c ∷ cs) M = AllowedBy c M × AllowedAll cs (marksBy c M)
+
+-- records are opened by the rows as they are before the call
+abbrev pub Ready : Marks → CallMove → Type 0
+Ready M (loads r pack) = Unit {0}
+Ready M (loadsTriple r pack) = Unit {0}
+Ready M (deals r c) = Unit {0}
+Ready M (opens r blocks) = Unit {0}
+Ready M (adds r a b scale) = Unit {0}
+Ready M (factors a b r) = Unit {0}
+Ready M (multiplies r blocks blocks') = Multiplying 5 M (leftOf M r) (rightOf M r) r
+
+-- what is sent: of a held row; of factors that the call notes
+abbrev pub Sendable : List CallMove → Sending → Marks → Type 0
+Sendable cs silence M = Unit {0}
+Sendable cs (itsOpening r) M = (r < 96) × (markOf M r ≡ 2)
+Sendable cs (itsMasks a b r) M = Multiplying 3 M a b r × Among (factors a b r) cs
+
+pub record Allowed (c : Call) (M : Marks) : Type 0 where
+  pub moving : AllowedAll (moves c) M
+  pub ready : All (Ready M) (moves c)
+  pub sending : Sendable (moves c) (outline c .sends) M
 
 -- masks whose triple starts at row q
-abbrev pub MasksAt : Call → ℕ → Type 0
-MasksAt (loadRow r pack) q = ⊥
-MasksAt (loadTriple r pack) q = ⊥
-MasksAt (deal r c) q = ⊥
-MasksAt (message r lent) q = ⊥
-MasksAt (opening r blocks) q = ⊥
-MasksAt (linear r a b scale) q = ⊥
-MasksAt (masks a b r lent) q = q ≡ r
-MasksAt (finish r blocks blocks') q = ⊥
+abbrev pub MasksBy : {P N B : Type 0} → Move P N B → ℕ → Type 0
+MasksBy (loads r pack) q = ⊥
+MasksBy (loadsTriple r pack) q = ⊥
+MasksBy (deals r c) q = ⊥
+MasksBy (opens r blocks) q = ⊥
+MasksBy (adds r a b scale) q = ⊥
+MasksBy (factors a b r) q = q ≡ r
+MasksBy (multiplies r blocks blocks') q = ⊥
+
+abbrev pub MasksIn : {P N B : Type 0} → List (Move P N B) → ℕ → Type 0
+MasksIn [] q = ⊥
+MasksIn (c ∷ cs) q = MasksBy c q ⊎ MasksIn cs q
 
 -- ---- What the marks say. `Held r X`: the vector of the held row r may be X. `Waits r a b`: the triple at r may wait with the
 -- factors a and b.
@@ -82,13 +111,12 @@ module _ (plan : Plan) (draw : Draw) where
     abbrev pub Facts : Marks → (ℕ → Vector) → Type 0
     Facts M vec = (r : ℕ) → r < 96 → Fact M vec r
 
-    -- what a call must bring
-    abbrev pub Meant : Call → Marks → (ℕ → Vector) → Type 0
-    Meant (loadRow r pack) M vec = IsRaw (plan .raw r)
-    Meant (loadTriple r pack) M vec = plan .triple r ≡ true
-    Meant (deal r c) M vec = Held r (raised (element c) (vec r))
-    Meant (message r lent) M vec = Unit {0}
-    Meant (opening r blocks) M vec = Unit {0}
-    Meant (linear r a b scale) M vec = Held r (plusTimes (element scale) (vec a) (vec b))
-    Meant (masks a b r lent) M vec = Waits r a b
-    Meant (finish r blocks blocks') M vec = Held (r + 2) (written M vec r)
+    -- what a move must bring
+    abbrev pub Meant : CallMove → Marks → (ℕ → Vector) → Type 0
+    Meant (loads r pack) M vec = IsRaw (plan .raw r)
+    Meant (loadsTriple r pack) M vec = plan .triple r ≡ true
+    Meant (deals r c) M vec = Held r (raised (element c) (vec r))
+    Meant (opens r blocks) M vec = Unit {0}
+    Meant (adds r a b scale) M vec = Held r (plusTimes (element scale) (vec a) (vec b))
+    Meant (factors a b r) M vec = Waits r a b
+    Meant (multiplies r blocks blocks') M vec = Held (r + 2) (written M vec r)

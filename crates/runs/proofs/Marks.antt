@@ -3,7 +3,7 @@ use Prim.Native.Nat.{ℕ, _+_, _-_}
 use mathlib.Core.Path.{_≡_, ap}
 use mathlib.Core.Bool.{Bool, cond}
 use mathlib.Core.Logic.{_≢_}
-use mathlib.Core.List.{List}
+use mathlib.Core.List.{List, [], _∷_}
 use borrow.Author.Tests.{eq-eqb, ne-eqb}
 use lib.ListN.{length, getD, set}
 use Rattle.field.specs.Modulus.{p}
@@ -12,7 +12,7 @@ use Rattle.field.specs.Element.{element}
 use Rattle.session.specs.declared.Session.{Session}
 use Rattle.vectors.specs.Vector.{Vector, plusTimes, raised, number, vectorOf}
 use Rattle.runs.specs.Draws.{Plan, Draw, pointOf, rawDraw, drawA, drawB, drawAB}
-use Rattle.runs.specs.Calls.{Call, loadRow, loadTriple, deal, message, opening, linear, masks, finish, at}
+use Rattle.runs.specs.Calls.{Call, Move, CallMove, loads, loadsTriple, deals, opens, adds, factors, multiplies, moves, at}
 
 -- a function changed at one place
 pub at-same : {A : Type 0} (f : ℕ → A) (r : ℕ) (x : A) → at f r x r ≡ x
@@ -94,23 +94,36 @@ abbrev pub written : Marks → (ℕ → Vector) → ℕ → Vector
 written M vec r = productVector (number (maskA M vec r) .0) (number (maskB M vec r) .0) (vec r) (vec (r + 1)) (vec (r + 2))
 
 -- after a call that is not refused
+abbrev pub marksBy : {P N B : Type 0} → Move P N B → Marks → Marks
+marksBy (loads r pack) M = remarked M r 1
+marksBy (loadsTriple r pack) M = tripled M r
+marksBy (deals r c) M = remarked M r 2
+marksBy (opens r blocks) M = M
+marksBy (adds r a b scale) M = remarked M r 2
+marksBy (factors a b r) M = masked M r a b
+marksBy (multiplies r blocks blocks') M = finished M r
+
+abbrev pub vectorsBy : Plan → Draw → CallMove → Marks → (ℕ → Vector) → ℕ → Vector
+vectorsBy plan draw (loads r pack) M vec = at vec r (rawVector plan draw r)
+vectorsBy plan draw (loadsTriple r pack) M vec =
+    at (at (at vec r (vectorA plan draw r)) (r + 1) (vectorB plan draw r)) (r + 2) (vectorAB plan draw r)
+vectorsBy plan draw (deals r c) M vec = at vec r (raised (element c) (vec r))
+vectorsBy plan draw (opens r blocks) M vec = vec
+vectorsBy plan draw (adds r a b scale) M vec = at vec r (plusTimes (element scale) (vec a) (vec b))
+vectorsBy plan draw (factors a b r) M vec = vec
+vectorsBy plan draw (multiplies r blocks blocks') M vec = at vec (r + 2) (written M vec r)
+
+-- one move after the other
+abbrev pub marksAll : {P N B : Type 0} → List (Move P N B) → Marks → Marks
+marksAll [] M = M
+marksAll (c ∷ cs) M = marksAll cs (marksBy c M)
+
+abbrev pub vectorsAll : Plan → Draw → List CallMove → Marks → (ℕ → Vector) → ℕ → Vector
+vectorsAll plan draw [] M vec = vec
+vectorsAll plan draw (c ∷ cs) M vec = vectorsAll plan draw cs (marksBy c M) (vectorsBy plan draw c M vec)
+
 abbrev pub marksAfter : Call → Marks → Marks
-marksAfter (loadRow r pack) M = remarked M r 1
-marksAfter (loadTriple r pack) M = tripled M r
-marksAfter (deal r c) M = remarked M r 2
-marksAfter (message r lent) M = M
-marksAfter (opening r blocks) M = M
-marksAfter (linear r a b scale) M = remarked M r 2
-marksAfter (masks a b r lent) M = masked M r a b
-marksAfter (finish r blocks blocks') M = finished M r
+marksAfter c M = marksAll (moves c) M
 
 abbrev pub vectorsAfter : Plan → Draw → Call → Marks → (ℕ → Vector) → ℕ → Vector
-vectorsAfter plan draw (loadRow r pack) M vec = at vec r (rawVector plan draw r)
-vectorsAfter plan draw (loadTriple r pack) M vec =
-    at (at (at vec r (vectorA plan draw r)) (r + 1) (vectorB plan draw r)) (r + 2) (vectorAB plan draw r)
-vectorsAfter plan draw (deal r c) M vec = at vec r (raised (element c) (vec r))
-vectorsAfter plan draw (message r lent) M vec = vec
-vectorsAfter plan draw (opening r blocks) M vec = vec
-vectorsAfter plan draw (linear r a b scale) M vec = at vec r (plusTimes (element scale) (vec a) (vec b))
-vectorsAfter plan draw (masks a b r lent) M vec = vec
-vectorsAfter plan draw (finish r blocks blocks') M vec = at vec (r + 2) (written M vec r)
+vectorsAfter plan draw c M vec = vectorsAll plan draw (moves c) M vec

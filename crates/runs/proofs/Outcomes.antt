@@ -8,14 +8,7 @@ use Rattle.refusal.specs.Refusal.{Test, _when_, first, outcome, AllFail}
 use Rattle.refusal.proofs.Laws.{Numbered, all-fail}
 use Rattle.session.specs.declared.Session.{Session}
 use Rattle.session.specs.Sessions.{answer}
-use Rattle.sharing.specs.Load.{loadRowRefusal, loadTripleRefusal}
-use Rattle.sharing.specs.Deal.{dealRefusal}
-use Rattle.sharing.specs.Message.{messageRefusal}
-use Rattle.sharing.specs.Linear.{linearRefusal}
-use Rattle.opening.specs.Opening.{openRefusal}
-use Rattle.product.specs.Masks.{masksRefusal}
-use Rattle.product.specs.Finish.{finishRefusal}
-use Rattle.runs.specs.Calls.{Post, Call, loadRow, loadTriple, deal, message, opening, linear, masks, finish, perform, after}
+use Rattle.runs.specs.Calls.{Post, Call, Doing, does, perform, after}
 
 -- ---- no refusal: every test fails, read by its place in the list
 
@@ -57,56 +50,27 @@ unfolding outcome
 returned zero v new old l' l j e = absurd (omega arith)
 returned (suc k) v new old l' l j e = refl
 
--- a call that changes neither session nor rows
-pub unmoved : (k v : ℕ) (q : Post) → _≡_ {A = Post} (record { session = answer k v (q .session) (q .session) .session; rows = q .rows }) q
-unfolding outcome
-unmoved zero v q = refl
-unmoved (suc k) v q = refl
-
--- a call that changes the session alone
-pub resettled : (k v : ℕ) (new old : Session) (l : List ℕ) → k ≡ 0
-    → _≡_ {A = Post} (record { session = answer k v new old .session; rows = l }) (record { session = new; rows = l })
-unfolding outcome
-resettled zero v new old l z = refl
-resettled (suc k) v new old l z = absurd (omega arith)
-
-rereturned : (k v : ℕ) (new old : Session) (l : List ℕ) (j : ℕ) → k ≡ suc j
-    → _≡_ {A = Post} (record { session = answer k v new old .session; rows = l }) (record { session = old; rows = l })
-unfolding outcome
-rereturned zero v new old l j e = absurd (omega arith)
-rereturned (suc k) v new old l j e = refl
-
 -- ---- the calls
 
 abbrev pub refusalOf : Call → Post → ℕ
-refusalOf (loadRow r pack) q = loadRowRefusal (q .session) (q .rows) r pack
-refusalOf (loadTriple r pack) q = loadTripleRefusal (q .session) (q .rows) r pack
-refusalOf (deal r c) q = dealRefusal (q .session) (q .rows) r c
-refusalOf (message r lent) q = messageRefusal (q .session) (q .rows) r lent
-refusalOf (opening r blocks) q = openRefusal (q .session) (q .rows) r blocks
-refusalOf (linear r a b scale) q = linearRefusal (q .session) (q .rows) r a b scale
-refusalOf (masks a b r lent) q = masksRefusal (q .session) (q .rows) a b r lent
-refusalOf (finish r blocks blocks') q = finishRefusal (q .session) (q .rows) r blocks blocks'
+refusalOf c q = does c q .refusal
 
 pub refusal-is : (c : Call) (q : Post) → perform c q .answer .refusal ≡ refusalOf c q
 unfolding perform
-refusal-is (loadRow r pack) q = answer-refusal _ _ _ _
-refusal-is (loadTriple r pack) q = answer-refusal _ _ _ _
-refusal-is (deal r c) q = answer-refusal _ _ _ _
-refusal-is (message r lent) q = answer-refusal _ _ _ _
-refusal-is (opening r blocks) q = answer-refusal _ _ _ _
-refusal-is (linear r a b scale) q = answer-refusal _ _ _ _
-refusal-is (masks a b r lent) q = answer-refusal _ _ _ _
-refusal-is (finish r blocks blocks') q = answer-refusal _ _ _ _
+refusal-is c q = answer-refusal _ _ _ _
 
--- refused: the post as it came
+-- not refused: the call's own session and rows; refused: the post as it came
+abbrev pub own : Doing → Post
+own d = record { session = d .session; rows = d .rows }
+
+pub done : (c : Call) (q : Post) → refusalOf c q ≡ 0 → after (perform c q) ≡ own (does c q)
+unfolding perform
+done c q z = settled _ _ _ _ _ _ z
+
+pub written-is : (c : Call) (q : Post) → refusalOf c q ≡ 0 → perform c q .lent ≡ does c q .written
+unfolding perform
+written-is c q z = done-is _ _ _ z
+
 pub refused : (c : Call) (q : Post) (k : ℕ) → refusalOf c q ≡ suc k → after (perform c q) ≡ q
 unfolding perform
-refused (loadRow r pack) q k e = returned _ _ _ _ _ _ k e
-refused (loadTriple r pack) q k e = returned _ _ _ _ _ _ k e
-refused (deal r c) q k e = returned _ _ _ _ _ _ k e
-refused (message r lent) q k e = unmoved _ _ q
-refused (opening r blocks) q k e = unmoved _ _ q
-refused (linear r a b scale) q k e = returned _ _ _ _ _ _ k e
-refused (masks a b r lent) q k e = rereturned _ _ _ _ _ k e
-refused (finish r blocks blocks') q k e = returned _ _ _ _ _ _ k e
+refused c q k e = returned _ _ _ _ _ _ k e

@@ -21,7 +21,7 @@ use Rattle.product.specs.Masks.{masksRefusal, masksTests, maskNumbersOf}
 use Rattle.vectors.specs.Vector.{number}
 use Rattle.runs.specs.Draws.{pointOf}
 use Rattle.runs.specs.Calls as Calls
-use Rattle.runs.specs.Calls.{Post, Call, Left, perform, broadcast, sentIf, openingLine, masksLine}
+use Rattle.runs.specs.Calls.{Post, Call, Left, Doing, does, perform, broadcast, sentIf, openingLine, masksLine}
 use Rattle.runs.proofs.Marks.{markOf, sessionAt, less}
 use Rattle.runs.proofs.Outcomes.{conditionAt, fails, passed, refusalOf, refusal-is, done-is}
 use Rattle.runs.proofs.Holds.{Holds}
@@ -36,19 +36,13 @@ use Rattle.secrecy.proofs.Twins as Twins
 use Rattle.secrecy.proofs.Pair as Pairs
 use Rattle.secrecy.proofs.Pair.{Two, Moments, Pair, apart, place-number, masks-number, wait-numbers, Fit, few-same}
 
--- an answer with no number
-value-none : (k : ℕ) (new old : Session) → answer k 0 new old .value ≡ 0
-unfolding outcome
-value-none zero new old = refl
-value-none (suc k) new old = refl
-
 -- two answers with one refusal and one number
-value-one : (k j v w : ℕ) (s : Session) → k ≡ j → (k ≡ 0 → v ≡ w) → answer k v s s .value ≡ answer j w s s .value
+value-one : (k j v w : ℕ) (new old new' old' : Session) → k ≡ j → (k ≡ 0 → v ≡ w) → answer k v new old .value ≡ answer j w new' old' .value
 unfolding outcome
-value-one zero zero v w s e h = h refl
-value-one zero (suc j) v w s e h = absurd (omega arith)
-value-one (suc k) zero v w s e h = absurd (omega arith)
-value-one (suc k) (suc j) v w s e h = refl
+value-one zero zero v w new old new' old' e h = h refl
+value-one zero (suc j) v w new old new' old' e h = absurd (omega arith)
+value-one (suc k) zero v w new old new' old' e h = absurd (omega arith)
+value-one (suc k) (suc j) v w new old new' old' e h = refl
 
 line-one : (k j : ℕ) (x y : List ℕ) → k ≡ j → (k ≡ 0 → x ≡ y) → sentIf k x ≡ sentIf j y
 line-one zero zero x y e h = ap (λ (z : List ℕ). z ∷ []) (h refl)
@@ -126,28 +120,6 @@ module _ (T : Two) (m : Moments) (R : Pair T m)
           (Twins.row-same (T .plan) (T .d) (T .K) M vec vec' near i lo hi (T .len i) l l' h h' r 1 (ltb-false 95 r (g 6)) (g 7) e)
       go (inr (x, y)) = x ∙ sym y
 
-  refusals : (c : Step) → Rule (T .plan) c (refusalOf (c1 c) p1) lines → refusalOf (c1 c) p1 ≡ refusalOf (c2 c) p2
-  refusals (Steps.loadRow r (own x)) rule =
-      Twins.load-same (T .plan) (T .d) (T .K) M vec vec' near i lo hi (T .len i) l l' h h' r _ _ (T .link .raw-alike i x hi)
-  refusals (Steps.loadRow r (Pack.fixed x)) rule =
-      Twins.load-same (T .plan) (T .d) (T .K) M vec vec' near i lo hi (T .len i) l l' h h' r _ _ (same-pack (x i))
-  refusals (Steps.loadTriple r (own x)) rule =
-      Twins.triple-same (T .plan) (T .d) (T .K) M vec vec' near i lo hi (T .len i) l l' h h' r _ _ (T .link .triple-alike i x hi)
-  refusals (Steps.loadTriple r (Pack.fixed x)) rule =
-      Twins.triple-same (T .plan) (T .d) (T .K) M vec vec' near i lo hi (T .len i) l l' h h' r _ _ (same-pack (x i))
-  refusals (Steps.deal r sent) rule =
-      Twins.deal-same (T .plan) (T .d) (T .K) M vec vec' near i lo hi (T .len i) l l' h h' r (dealtNumber (T .plan) (T .d) (T .u) r)
-      ∙ ap (dealRefusal s l' r) (T .link .deals r)
-  refusals (Steps.deal r (Number.fixed x)) rule = Twins.deal-same (T .plan) (T .d) (T .K) M vec vec' near i lo hi (T .len i) l l' h h' r x
-  refusals (Steps.message r lent heard) rule = Twins.message-same (T .plan) (T .d) (T .K) M vec vec' near i lo hi (T .len i) l l' h h' r (lent i)
-  refusals (Steps.opening r blocks) rule =
-      Twins.open-same (T .plan) (T .d) (T .K) M vec vec' near i lo hi (T .len i) l l' h h' r (blocks i lines) (few-same-at r blocks rule)
-  refusals (Steps.linear r x y scale) rule = Twins.linear-same (T .plan) (T .d) (T .K) M vec vec' near i lo hi (T .len i) l l' h h' r x y scale
-  refusals (Steps.masks x y r lent) rule = Twins.masks-same (T .plan) (T .d) (T .K) M vec vec' near i lo hi (T .len i) l l' h h' x y r (lent i)
-  refusals (Steps.finish r blocks blocks') rule =
-      Twins.finish-same (T .plan) (T .d) (T .K) M vec vec' near i lo hi (T .len i) l l' h h' r (blocks i lines) (blocks' i lines)
-      (wait-numbers T m R r)
-
   -- ---- the number opened
 
   opened-same : (r : ℕ) (blocks : Record) → Rule (T .plan) (Steps.opening r blocks) (openRefusal s l r (blocks i lines)) lines
@@ -171,16 +143,37 @@ module _ (T : Two) (m : Moments) (R : Pair T m)
           (Twins.row-same (T .plan) (T .d) (T .K) M vec vec' near i lo hi (T .len i) l l' h h' r 1 (ltb-false 95 r (g 6)) (g 7) e)
       go (inr (x, y)) = let w : false ≡ true = sym (parts .1 .0) ∙ x in let v : _≡_ {A = ℕ} 0 1 = cc in absurd (omega arith)
 
+  -- the refusal, and the number where it is 0
+  abbrev Answering : Doing → Doing → Type 0
+  Answering d d' = (d .refusal ≡ d' .refusal) × (d .refusal ≡ 0 → d .value ≡ d' .value)
+
+  alike : (c : Step) → Rule (T .plan) c (refusalOf (c1 c) p1) lines → Answering (does (c1 c) p1) (does (c2 c) p2)
+  alike (Steps.loadRow r (own x)) rule = (Twins.load-same (T .plan) (T .d) (T .K) M vec vec' near i lo hi (T .len i) l l' h h' r _ _ (T .link .raw-alike i x hi), λ z. refl)
+  alike (Steps.loadRow r (Pack.fixed x)) rule = (Twins.load-same (T .plan) (T .d) (T .K) M vec vec' near i lo hi (T .len i) l l' h h' r _ _ (same-pack (x i)), λ z. refl)
+  alike (Steps.loadTriple r (own x)) rule = (Twins.triple-same (T .plan) (T .d) (T .K) M vec vec' near i lo hi (T .len i) l l' h h' r _ _ (T .link .triple-alike i x hi), λ z. refl)
+  alike (Steps.loadTriple r (Pack.fixed x)) rule = (Twins.triple-same (T .plan) (T .d) (T .K) M vec vec' near i lo hi (T .len i) l l' h h' r _ _ (same-pack (x i)), λ z. refl)
+  alike (Steps.deal r sent) rule = (
+    Twins.deal-same (T .plan) (T .d) (T .K) M vec vec' near i lo hi (T .len i) l l' h h' r (dealtNumber (T .plan) (T .d) (T .u) r)
+        ∙ ap (dealRefusal s l' r) (T .link .deals r),
+    λ z. refl,
+  )
+  alike (Steps.deal r (Number.fixed x)) rule = (Twins.deal-same (T .plan) (T .d) (T .K) M vec vec' near i lo hi (T .len i) l l' h h' r x, λ z. refl)
+  alike (Steps.message r lent heard) rule = (Twins.message-same (T .plan) (T .d) (T .K) M vec vec' near i lo hi (T .len i) l l' h h' r (lent i), λ z. refl)
+  alike (Steps.opening r blocks) rule = (Twins.open-same (T .plan) (T .d) (T .K) M vec vec' near i lo hi (T .len i) l l' h h' r (blocks i lines) (few-same-at r blocks rule), opened-same r blocks rule)
+  alike (Steps.linear r x y scale) rule = (Twins.linear-same (T .plan) (T .d) (T .K) M vec vec' near i lo hi (T .len i) l l' h h' r x y scale, λ z. refl)
+  alike (Steps.masks x y r lent) rule = (Twins.masks-same (T .plan) (T .d) (T .K) M vec vec' near i lo hi (T .len i) l l' h h' x y r (lent i), λ z. refl)
+  alike (Steps.finish r blocks blocks') rule = (
+    Twins.finish-same (T .plan) (T .d) (T .K) M vec vec' near i lo hi (T .len i) l l' h h' r (blocks i lines) (blocks' i lines)
+        (wait-numbers T m R r),
+    λ z. refl,
+  )
+
+  refusals : (c : Step) → Rule (T .plan) c (refusalOf (c1 c) p1) lines → refusalOf (c1 c) p1 ≡ refusalOf (c2 c) p2
+  refusals c rule = alike c rule .0
+
   values : (c : Step) → Rule (T .plan) c (refusalOf (c1 c) p1) lines → perform (c1 c) p1 .answer .value ≡ perform (c2 c) p2 .answer .value
   unfolding perform
-  values (Steps.loadRow r pack) rule = value-none _ _ _ ∙ sym (value-none _ _ _)
-  values (Steps.loadTriple r pack) rule = value-none _ _ _ ∙ sym (value-none _ _ _)
-  values (Steps.deal r c) rule = value-none _ _ _ ∙ sym (value-none _ _ _)
-  values (Steps.message r lent heard) rule = value-none _ _ _ ∙ sym (value-none _ _ _)
-  values (Steps.opening r blocks) rule = value-one _ _ _ _ s (refusals (Steps.opening r blocks) rule) (opened-same r blocks rule)
-  values (Steps.linear r x y scale) rule = value-none _ _ _ ∙ sym (value-none _ _ _)
-  values (Steps.masks x y r lent) rule = value-none _ _ _ ∙ sym (value-none _ _ _)
-  values (Steps.finish r blocks blocks') rule = value-none _ _ _ ∙ sym (value-none _ _ _)
+  values c rule = value-one _ _ _ _ _ _ _ _ (alike c rule .0) (alike c rule .1)
 
   -- ---- the lines
 
@@ -235,7 +228,7 @@ module _ (T : Two) (m : Moments) (R : Pair T m)
   broadcasts (Steps.linear r x y scale) rule agree fit = refl
   broadcasts (Steps.masks x y r lent) rule agree fit =
       line-one _ _ _ _ (refusal-is (Calls.masks x y r (lent i)) p1 ∙ refusals (Steps.masks x y r lent) rule ∙ sym (refusal-is (Calls.masks x y r (lent i)) p2))
-      (λ z. let k = sym (refusal-is (Calls.masks x y r (lent i)) p1) ∙ z in ap (masksLine r i) (masks-one x y r (lent i) (fit k) k))
+      (λ z. let k = sym (refusal-is (Calls.masks x y r (lent i)) p1) ∙ z in ap (masksLine r i) (masks-one x y r (lent i) (fit k .0) k))
   broadcasts (Steps.finish r blocks blocks') rule agree fit = refl
 
   -- ---- the posts as they stand

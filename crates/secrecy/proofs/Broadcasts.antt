@@ -6,24 +6,24 @@ use mathlib.Core.Logic.{_⊎_, inl, inr}
 use mathlib.Core.List.{List, [], _∷_, _++_, map}
 use native.Mathlib.Omega.{arith}
 use lib.ListN.{length, length-append}
-use lib.Seq.{getD-set-same}
 use Rattle.poly.specs.Counting.{Elements}
 use Rattle.factory.specs.Draw.{eachFrom}
 use Rattle.factory.proofs.Laws.{elements-append}
-use Rattle.vectors.specs.Vector.{numbers}
+use Rattle.vectors.specs.Vector.{Vector, numbers}
 use Rattle.vectors.proofs.Linear.{length-numbers}
-use Rattle.runs.specs.Calls as Calls
-use Rattle.runs.specs.Calls.{Post, Call, perform, after, broadcast, sentIf, openingLine, masksLine, Among}
-use Rattle.runs.proofs.Marks.{markOf, less, masked, marksAfter, vectorsAfter}
+use Rattle.runs.specs.Calls.{Post, Call, Left, CallMove, factors, Sending, silence, itsOpening, itsMasks, outline, moves, perform, broadcastOf, broadcast, sentIf, openingLine, masksLine, Among}
+use Rattle.runs.proofs.Marks.{Marks, markOf, leftOf, rightOf, less, marksAfter, vectorsAfter}
 use Rattle.runs.proofs.Outcomes.{refusalOf, refusal-is}
-use Rattle.runs.proofs.Steps.{named, message-says, masks-say}
+use Rattle.runs.proofs.Steps.{named, Says, says}
 use Rattle.runs.proofs.Lines.{same-opening, same-masks, not-both, numbers-elements}
-use Rattle.runs.proofs.Facts.{Allowed}
+use Rattle.runs.proofs.Facts.{Multiplying, Sendable, Allowed}
+use Rattle.runs.proofs.Rows.{held-stays, waits-after}
 use Rattle.runs.proofs.Allowed.{allowed}
-use Rattle.secrecy.specs.Steps as Steps
-use Rattle.secrecy.specs.Steps.{Step, callAt}
+use Rattle.secrecy.specs.Steps.{Step, callAt, outlineOf}
 use Rattle.secrecy.specs.Seen.{posts, joined}
-use Rattle.secrecy.proofs.State.{Run, Moment, AnOpening, AMask, maskNumbers, State}
+use Rattle.secrecy.proofs.State.{Run, Moment, Past, AnOpening, AMask, maskNumbers, State, facts-on}
+use Rattle.secrecy.specs.Rules.{Rule}
+use Rattle.secrecy.proofs.Moves.{sends-at, marks-after, vectors-after}
 use Rattle.runs.proofs.Start.{sizes}
 
 -- ---- members of joined lists
@@ -61,6 +61,12 @@ one-line x line zero z (inl e) = e
 one-line x line zero z (inr a) = absurd a
 one-line x line (suc k) z a = absurd a
 
+-- the call is an opening message of row r
+abbrev pub MessageBy : Sending → ℕ → Type 0
+MessageBy silence r = ⊥
+MessageBy (itsOpening r') r = r ≡ r'
+MessageBy (itsMasks x y r') r = ⊥
+
 module _ (C : Run) (m : Moment) (S : State C m) where
   open Run C using (plan, draw, u, len)
   open Moment m using (marks as M, vec, book as b, lines, posts as q)
@@ -70,24 +76,10 @@ module _ (C : Run) (m : Moment) (S : State C m) where
 
   -- marks and vectors after the call are the same at every post
   pub same-marks : (i j : ℕ) (c : Step) → marksAfter (call i c) M ≡ marksAfter (call j c) M
-  same-marks i j (Steps.loadRow r pack) = refl
-  same-marks i j (Steps.loadTriple r pack) = refl
-  same-marks i j (Steps.deal r c) = refl
-  same-marks i j (Steps.message r lent heard) = refl
-  same-marks i j (Steps.opening r blocks) = refl
-  same-marks i j (Steps.linear r x y scale) = refl
-  same-marks i j (Steps.masks x y r lent) = refl
-  same-marks i j (Steps.finish r blocks blocks') = refl
+  same-marks i j c = marks-after plan draw u lines i c M ∙ sym (marks-after plan draw u lines j c M)
 
   pub same-vectors : (i j : ℕ) (c : Step) → vectorsAfter plan draw (call i c) M vec ≡ vectorsAfter plan draw (call j c) M vec
-  same-vectors i j (Steps.loadRow r pack) = refl
-  same-vectors i j (Steps.loadTriple r pack) = refl
-  same-vectors i j (Steps.deal r c) = refl
-  same-vectors i j (Steps.message r lent heard) = refl
-  same-vectors i j (Steps.opening r blocks) = refl
-  same-vectors i j (Steps.linear r x y scale) = refl
-  same-vectors i j (Steps.masks x y r lent) = refl
-  same-vectors i j (Steps.finish r blocks blocks') = refl
+  same-vectors i j c = vectors-after plan draw u lines i j c M vec
 
   -- refused nowhere
   abbrev pub Done : Step → Type 0
@@ -98,27 +90,14 @@ module _ (C : Run) (m : Moment) (S : State C m) where
       allowed plan draw i M (q i .rows) (call i c)
       (subst (λ (x : Post). refusalOf (call i c) x ≡ 0) (named plan draw (len i) i M vec (q i) (S .posts i lo hi)) (z i lo hi))
 
-  -- the call is an opening message of row r
-  abbrev pub MessageAt : Step → ℕ → Type 0
-  MessageAt (Steps.loadRow r' pack) r = ⊥
-  MessageAt (Steps.loadTriple r' pack) r = ⊥
-  MessageAt (Steps.deal r' c) r = ⊥
-  MessageAt (Steps.message r' lent heard) r = r ≡ r'
-  MessageAt (Steps.opening r' blocks) r = ⊥
-  MessageAt (Steps.linear r' x y scale) r = ⊥
-  MessageAt (Steps.masks x y r' lent) r = ⊥
-  MessageAt (Steps.finish r' blocks blocks') r = ⊥
-
   -- ---- what the call broadcasts
 
   module _ (i : ℕ) (lo : 1 ≤ i) (hi : i ≤ plan .n) where
     not-refused : (c : Call) → refusalOf c (q i) ≡ 0 → perform c (q i) .answer .refusal ≡ 0
     not-refused c z = refusal-is c (q i) ∙ z
 
-    made-opening : (r : ℕ) (lent : List ℕ) → refusalOf (Calls.message r lent) (q i) ≡ 0 → r < 96
-        → AnOpening C r i (perform (Calls.message r lent) (q i) .lent)
-    made-opening r lent z low =
-        let e = message-says plan draw (C .is-draw) (len i) i hi M vec (q i) (S .posts i lo hi) r lent z in
+    made-opening : (r : ℕ) (xs : List ℕ) → xs ≡ numbers (plan .t + 1) (vec r .v i) → r < 96 → AnOpening C r i xs
+    made-opening r xs e low =
         record {
           row = omega arith;
           post = (lo, hi);
@@ -126,10 +105,11 @@ module _ (C : Run) (m : Moment) (S : State C m) where
           low = subst Elements (sym e) (numbers-elements (plan .t + 1) (vec r .v i));
         }
 
-    made-masks : (x y r : ℕ) (lent : List ℕ) → refusalOf (Calls.masks x y r lent) (q i) ≡ 0 → r < 94
-        → AMask C r i (perform (Calls.masks x y r lent) (q i) .lent)
-    made-masks x y r lent z low =
-        let e = masks-say plan draw (C .is-draw) (len i) i hi M vec (q i) (S .posts i lo hi) x y r lent z in
+    abbrev halves : ℕ → ℕ → ℕ → ℕ → List ℕ
+    halves x y r j = numbers (plan .t + 1) (less (vec x) (vec r) .v j) ++ numbers (plan .t + 1) (less (vec y) (vec (r + 1)) .v j)
+
+    made-masks : (x y r : ℕ) (xs : List ℕ) → xs ≡ halves x y r i → r < 94 → AMask C r i xs
+    made-masks x y r xs e low =
         let k = plan .t + 1 in
         let va = less (vec x) (vec r) .v i in
         let vb = less (vec y) (vec (r + 1)) .v i in
@@ -140,50 +120,83 @@ module _ (C : Run) (m : Moment) (S : State C m) where
           low = subst Elements (sym e) (elements-append (numbers k va) (numbers k vb) (numbers-elements k va) (numbers-elements k vb));
         }
 
-    pub new-opening : (c : Step) → refusalOf (call i c) (q i) ≡ 0 → Allowed (call i c) M → (r j : ℕ) (xs : List ℕ) → AnOpening C r j xs
-        → Among (openingLine r j xs) (broadcast i (call i c) (perform (call i c) (q i)))
-        → MessageAt c r × (markOf (marksAfter (call 1 c) M) r ≡ 2) × (xs ≡ numbers (plan .t + 1) (vectorsAfter plan draw (call 1 c) M vec r .v j))
-    new-opening (Steps.loadRow r' pack) z al r j xs o a = absurd a
-    new-opening (Steps.loadTriple r' pack) z al r j xs o a = absurd a
-    new-opening (Steps.deal r' c) z al r j xs o a = absurd a
-    new-opening (Steps.message r' lent heard) z al r j xs o a =
-        let c = Calls.message r' (lent i) in
-        let e = one-line _ _ _ (not-refused c z) a in
-        let same = same-opening (plan .n) (plan .t + 1) (sizes plan (C .sound) .n-high) r j r' i xs (perform c (q i) .lent) o (made-opening r' (lent i) z (al .0)) e in (
-          same .0,
-          ap (markOf M) (same .0) ∙ al .1,
-          same .2 ∙ message-says plan draw (C .is-draw) (len i) i hi M vec (q i) (S .posts i lo hi) r' (lent i) z
-              ∙ sym (ap₂ (λ (x y : ℕ). numbers (plan .t + 1) (vec x .v y)) (same .0) (same .1)),
-        )
-    new-opening (Steps.opening r' blocks) z al r j xs o a = absurd a
-    new-opening (Steps.linear r' x y scale) z al r j xs o a = absurd a
-    new-opening (Steps.masks x y r' lent) z al r j xs o a =
-        let c = Calls.masks x y r' (lent i) in
-        absurd (not-both (plan .n) (plan .t + 1) (sizes plan (C .sound) .n-high) r j r' i xs (perform c (q i) .lent) o
-        (made-masks x y r' (lent i) z (al .r-low)) (one-line _ _ _ (not-refused c z) a))
-    new-opening (Steps.finish r' blocks blocks') z al r j xs o a = absurd a
+    opening-by : (cs : List CallMove) (s : Sending) (o : Left) → o .answer .refusal ≡ 0 → Sendable cs s M → Says plan draw i vec s (o .lent)
+        → (r j : ℕ) (xs : List ℕ) → AnOpening C r j xs → Among (openingLine r j xs) (broadcastOf i s o)
+        → MessageBy s r × (markOf M r ≡ 2) × (xs ≡ numbers (plan .t + 1) (vec r .v j))
+    opening-by cs silence o z al says r j xs form a = absurd a
+    opening-by cs (itsOpening r') o z al says r j xs form a =
+        let e = one-line _ _ _ z a in
+        let same = same-opening (plan .n) (plan .t + 1) (sizes plan (C .sound) .n-high) r j r' i xs (o .lent) form (made-opening r' (o .lent) says (al .0)) e in
+        (same .0, ap (markOf M) (same .0) ∙ al .1, same .2 ∙ says ∙ sym (ap₂ (λ (x y : ℕ). numbers (plan .t + 1) (vec x .v y)) (same .0) (same .1)))
+    opening-by cs (itsMasks x y r') o z al says r j xs form a =
+        absurd (not-both (plan .n) (plan .t + 1) (sizes plan (C .sound) .n-high) r j r' i xs (o .lent) form
+        (made-masks x y r' (o .lent) says (al .0 .r-low)) (one-line _ _ _ z a))
 
-    pub new-masks : (c : Step) → refusalOf (call i c) (q i) ≡ 0 → Allowed (call i c) M → (r j : ℕ) (xs : List ℕ) → AMask C r j xs
-        → Among (masksLine r j xs) (broadcast i (call i c) (perform (call i c) (q i)))
-        → (markOf (marksAfter (call 1 c) M) r ≡ 5)
-        × (xs ≡ maskNumbers C (marksAfter (call 1 c) M) (vectorsAfter plan draw (call 1 c) M vec) r j)
-    new-masks (Steps.loadRow r' pack) z al r j xs o a = absurd a
-    new-masks (Steps.loadTriple r' pack) z al r j xs o a = absurd a
-    new-masks (Steps.deal r' c) z al r j xs o a = absurd a
-    new-masks (Steps.message r' lent heard) z al r j xs o a =
-        let c = Calls.message r' (lent i) in
-        absurd (not-both (plan .n) (plan .t + 1) (sizes plan (C .sound) .n-high) r' i r j (perform c (q i) .lent) xs
-        (made-opening r' (lent i) z (al .0)) o (sym (one-line _ _ _ (not-refused c z) a)))
-    new-masks (Steps.opening r' blocks) z al r j xs o a = absurd a
-    new-masks (Steps.linear r' x y scale) z al r j xs o a = absurd a
-    new-masks (Steps.masks x y r' lent) z al r j xs o a =
-        let c = Calls.masks x y r' (lent i) in
-        let e = one-line _ _ _ (not-refused c z) a in
-        let same = same-masks (plan .n) (plan .t + 1) (sizes plan (C .sound) .n-high) r j r' i xs (perform c (q i) .lent) o (made-masks x y r' (lent i) z (al .r-low)) e in (
-          ap (markOf (masked M r' x y)) (same .0) ∙ getD-set-same (M .marks) r' 5 0 (omega (arith, al .r-low, S .sized .marks)),
-          same .2 ∙ masks-say plan draw (C .is-draw) (len i) i hi M vec (q i) (S .posts i lo hi) x y r' (lent i) z
-              ∙ ap₂ (λ (a' b' : ℕ). numbers (plan .t + 1) (less (vec a') (vec r') .v i) ++ numbers (plan .t + 1) (less (vec b') (vec (r' + 1)) .v i))
-              (sym (getD-set-same (M .left) r' x 0 (omega (arith, al .r-low, S .sized .left)))) (sym (getD-set-same (M .right) r' y 0 (omega (arith, al .r-low, S .sized .right))))
-              ∙ sym (ap₂ (λ (x' y' : ℕ). maskNumbers C (masked M r' x y) vec x' y') (same .0) (same .1)),
+    masks-by : (cs : List CallMove) (s : Sending) (o : Left) → o .answer .refusal ≡ 0 → Sendable cs s M → Says plan draw i vec s (o .lent)
+        → (r j : ℕ) (xs : List ℕ) → AMask C r j xs → Among (masksLine r j xs) (broadcastOf i s o)
+        → (x : ℕ) × (y : ℕ) × Multiplying 3 M x y r × Among (factors x y r) cs × (xs ≡ halves x y r j)
+    masks-by cs silence o z al says r j xs form a = absurd a
+    masks-by cs (itsOpening r') o z al says r j xs form a =
+        absurd (not-both (plan .n) (plan .t + 1) (sizes plan (C .sound) .n-high) r' i r j (o .lent) xs
+        (made-opening r' (o .lent) says (al .0)) form (sym (one-line _ _ _ z a)))
+    masks-by cs (itsMasks x y r') o z al says r j xs form a =
+        let e = one-line _ _ _ z a in
+        let same = same-masks (plan .n) (plan .t + 1) (sizes plan (C .sound) .n-high) r j r' i xs (o .lent) form (made-masks x y r' (o .lent) says (al .0 .r-low)) e in (
+          x,
+          y,
+          subst (Multiplying 3 M x y) (sym (same .0)) (al .0),
+          subst (λ (w : ℕ). Among (factors x y w) cs) (sym (same .0)) (al .1),
+          same .2 ∙ says ∙ sym (ap₂ (λ (v w : ℕ). halves x y v w) (same .0) (same .1)),
         )
-    new-masks (Steps.finish r' blocks blocks') z al r j xs o a = absurd a
+
+    module _ (c : Step) (z : refusalOf (call i c) (q i) ≡ 0) (al : Allowed (call i c) M) where
+      abbrev N : Marks
+      N = marksAfter (call i c) M
+
+      abbrev w : ℕ → Vector
+      w = vectorsAfter plan draw (call i c) M vec
+
+      stays : (x : ℕ) → markOf M x ≡ 2 → (markOf N x ≡ 2) × (w x ≡ vec x)
+      stays x two = held-stays plan draw (moves (call i c)) M vec (S .sized) (al .moving) x two
+
+      said : Says plan draw i vec (outline (call i c) .sends) (perform (call i c) (q i) .lent)
+      said = says plan draw (C .is-draw) (len i) i hi M vec (q i) (S .posts i lo hi) (call i c) z
+
+      pub new-opening : (r j : ℕ) (xs : List ℕ) → AnOpening C r j xs
+          → Among (openingLine r j xs) (broadcast i (call i c) (perform (call i c) (q i)))
+          → MessageBy (outlineOf c .sends) r × (markOf (marksAfter (call 1 c) M) r ≡ 2)
+          × (xs ≡ numbers (plan .t + 1) (vectorsAfter plan draw (call 1 c) M vec r .v j)) × (markOf M r ≡ 2)
+      new-opening r j xs form a =
+          let n = opening-by (moves (call i c)) (outline (call i c) .sends) (perform (call i c) (q i)) (not-refused (call i c) z) (al .sending) said r j xs form a in
+          let k = stays r (n .1) in (
+            subst (λ (s : Sending). MessageBy s r) (sends-at plan draw u lines i c) (n .0),
+            ap (λ (L : Marks). markOf L r) (same-marks 1 i c) ∙ k .0,
+            n .2 ∙ ap (λ (X : Vector). numbers (plan .t + 1) (X .v j)) (sym (k .1) ∙ ap (λ (v : ℕ → Vector). v r) (same-vectors i 1 c)),
+            n .1,
+          )
+
+      pub new-masks : Rule plan c 0 lines → (r j : ℕ) (xs : List ℕ) → AMask C r j xs
+          → Among (masksLine r j xs) (broadcast i (call i c) (perform (call i c) (q i)))
+          → Past (marksAfter (call 1 c) M) r
+          × (markOf (marksAfter (call 1 c) M) r ≡ 5 → xs ≡ maskNumbers C (marksAfter (call 1 c) M) (vectorsAfter plan draw (call 1 c) M vec) r j)
+      new-masks rule r j xs form a =
+          subst (λ (L : Marks). Past L r × (markOf L r ≡ 5 → xs ≡ maskNumbers C L (vectorsAfter plan draw (call 1 c) M vec) r j)) (same-marks i 1 c)
+          (subst (λ (v : ℕ → Vector). Past N r × (markOf N r ≡ 5 → xs ≡ maskNumbers C N v r j)) (same-vectors i 1 c)
+          (go (masks-by (moves (call i c)) (outline (call i c) .sends) (perform (call i c) (q i)) (not-refused (call i c) z) (al .sending) said r j xs form a)))
+        where
+          go : (x : ℕ) × (y : ℕ) × Multiplying 3 M x y r × Among (factors x y r) (moves (call i c)) × (xs ≡ halves x y r j)
+              → Past N r × (markOf N r ≡ 5 → xs ≡ maskNumbers C N w r j)
+          go (x, y, ok, there, e) =
+              let k = waits-after plan draw (moves (call i c)) M (S .sized) (al .moving) x y r (ok .r-low) there in (
+                k .0,
+                λ five.
+                    let lr : r < 96 = omega (arith, ok .r-low) in
+                    let t = S .facts r lr .triple (inl (ok .first)) in
+                    let t' = facts-on C m S i c al rule r lr .triple (inr five) in
+                    let lf = k .1 five in
+                    let ea : vec x ≡ w (leftOf N r) = sym (ap w (lf .0) ∙ stays x (ok .a-held) .1) in
+                    let eb : vec y ≡ w (rightOf N r) = sym (ap w (lf .1) ∙ stays y (ok .b-held) .1) in
+                    let e0 : vec r ≡ w r = t .is-a ∙ sym (t' .is-a) in
+                    let e1 : vec (r + 1) ≡ w (r + 1) = t .is-b ∙ sym (t' .is-b) in
+                    e ∙ (λ m. numbers (plan .t + 1) (less (ea m) (e0 m) .v j) ++ numbers (plan .t + 1) (less (eb m) (e1 m) .v j)),
+              )

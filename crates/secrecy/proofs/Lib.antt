@@ -3,6 +3,7 @@ pub mod Near
 pub mod Shift
 pub mod Link
 pub mod Twins
+pub mod Moves
 pub mod State
 pub mod Broadcasts
 pub mod Advance

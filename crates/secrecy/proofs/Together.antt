@@ -2,7 +2,7 @@
 use Prim.Native.Nat.{ℕ, zero, suc, _+_, _≤_, _<_}
 use mathlib.Core.Path.{_≡_, refl, sym, _∙_, ap, ap₂, subst}
 use mathlib.Core.Bool.{cond}
-use mathlib.Core.Logic.{_≢_}
+use mathlib.Core.Logic.{_≢_, inl, inr}
 use mathlib.Core.List.{List, [], _∷_, map}
 use native.Mathlib.Decide.{ℕ-discrete}
 use native.Mathlib.Omega.{arith}
@@ -14,17 +14,20 @@ use Rattle.factory.specs.Draw.{eachFrom}
 use Rattle.vectors.specs.Vector.{Vector, plusTimes, raised, number}
 use Rattle.runs.specs.Draws.{pointOf, rawPack, triplePack}
 use Rattle.runs.specs.Calls as Calls
-use Rattle.runs.specs.Calls.{Call, perform, after, at}
-use Rattle.runs.proofs.Marks.{Marks, markOf, leftOf, rightOf, remarked, maskA, maskB, productVector, written, marksAfter, vectorsAfter, at-same, at-other}
+use Rattle.runs.specs.Calls.{Call, CallMove, loads, loadsTriple, deals, opens, adds, factors, multiplies, perform, after, at}
+use Rattle.runs.proofs.Marks.{Marks, markOf, leftOf, rightOf, remarked, finished, maskA, maskB, productVector, written, marksBy, vectorsBy, marksAll, vectorsAll, marksAfter, vectorsAfter, at-same, at-other}
 use Rattle.runs.proofs.Outcomes.{refusalOf, refusal-is}
-use Rattle.runs.proofs.Facts.{Allowed, Multiplying}
+use Rattle.runs.proofs.Facts.{AllowedBy, AllowedAll, Allowed, MasksBy, Multiplying, Facts}
+use Rattle.runs.proofs.Rows.{sized-by, five-by}
 use Rattle.secrecy.specs.Steps as Steps
-use Rattle.secrecy.specs.Steps.{Step, Pack, Number, own, sent, callAt, heardFrom, dealtNumber}
+use Rattle.secrecy.specs.Steps.{Step, StepMove, Pack, Number, own, sent, callAt, movesOf, moveAt, heardFrom, dealtNumber}
 use Rattle.secrecy.specs.Seen.{posts, joined, linesOf}
-use Rattle.secrecy.specs.Rules.{Rule}
-use Rattle.secrecy.specs.Book.{Agrees}
+use Rattle.secrecy.specs.Rules.{RuleBy, Rule}
+use Rattle.secrecy.specs.Book.{Book, Agrees, enteredBy, enteredAll, entered}
+use Rattle.secrecy.proofs.Moves.{moves-at, marks-at, marks-after, allowed-two}
+use Rattle.secrecy.proofs.State.{Held, Waits, notes-by, facts-step}
 use Rattle.secrecy.proofs.Near.{Near, near-plusTimes, near-raised}
-use Rattle.secrecy.proofs.Pair.{Two, Moments, Pair, Fit, wait-numbers}
+use Rattle.secrecy.proofs.Pair.{Two, runOne, runTwo, Moments, Pair, apart, Core, core, core-wait, FitBy, FitAll, Fit}
 use Rattle.secrecy.proofs.Answers.{Same, same-answers}
 
 -- a map over the posts 1 to n
@@ -48,14 +51,7 @@ module _ (T : Two) (m : Moments) (R : Pair T m) where
 
   -- marks after the call are the same in both runs
   pub marks-two : (c : Step) → marksAfter (c2 1 c) M ≡ marksAfter (c1 1 c) M
-  marks-two (Steps.loadRow r pack) = refl
-  marks-two (Steps.loadTriple r pack) = refl
-  marks-two (Steps.deal r c) = refl
-  marks-two (Steps.message r lent heard) = refl
-  marks-two (Steps.opening r blocks) = refl
-  marks-two (Steps.linear r x y scale) = refl
-  marks-two (Steps.masks x y r lent) = refl
-  marks-two (Steps.finish r blocks blocks') = refl
+  marks-two c = marks-after (T .plan) (T .d') (T .u') lines 1 c M ∙ sym (marks-after (T .plan) (T .d) (T .u) lines 1 c M)
 
   -- what every post answers to the call, with the refusal k
   module _ (c : Step) (k : ℕ) (z : (i : ℕ) → 1 ≤ i → i ≤ T .plan .n → refusalOf (c1 i c) (q i) ≡ k)
@@ -95,7 +91,14 @@ module _ (T : Two) (m : Moments) (R : Pair T m) where
         go [] e f h = tt
         go (i ∷ g) e f h = (ap₂ perform (calls-same i c (e .0) (f .0)) (h .0), go g (e .1) (f .1) (h .1))
 
-  -- ---- the vectors
+-- ---- marks, vectors and books: one move after the other
+
+module _ (T : Two) (lines : List (List ℕ)) where
+  abbrev mv1 : StepMove → CallMove
+  mv1 c = moveAt (T .plan) (T .d) (T .u) lines 1 c
+
+  abbrev mv2 : StepMove → CallMove
+  mv2 c = moveAt (T .plan) (T .d') (T .u') lines 1 c
 
   abbrev Nearly : Vector → Vector → Type 0
   Nearly = Near (T .plan .n) (T .plan .t + 1) (pointOf (T .d)) (T .K)
@@ -126,71 +129,155 @@ module _ (T : Two) (m : Moments) (R : Pair T m) where
       go (yes e) = h r lr (subst (λ (y : ℕ). markOf N y ≢ 0) (sym e) was)
       go (no e) = h r lr (subst (λ (y : ℕ). y ≢ 0) (getD-set-other (N .marks) x r m 0 e) ne)
 
-  nonzero : (r m : ℕ) → markOf M r ≡ suc m → markOf M r ≢ 0
-  nonzero r m e g = omega arith
+  module _ (M : Marks) (vec vec' : ℕ → Vector) (b b' : Book) (K : Core T M vec vec' b b') where
+    nonzero : (r m : ℕ) → markOf M r ≡ suc m → markOf M r ≢ 0
+    nonzero r m e g = omega arith
 
-  near-finish : (x : ℕ) → Multiplying 5 M (leftOf M x) (rightOf M x) x
-      → AllNear (marksAfter (Calls.finish x [] []) M) (at vec (x + 2) (written M vec x)) (at vec' (x + 2) (written M vec' x))
-  near-finish x al =
-      near-put (remarked (remarked M x 6) (x + 1) 6) vec vec'
-      (near-mark (remarked M x 6) vec vec' (near-mark M vec vec' (R .near) x 6 (nonzero x 4 (al .first))) (x + 1) 6 second) (x + 2) 2 (written M vec x) (written M vec' x) new
-    where
-      second : markOf (remarked M x 6) (x + 1) ≢ 0
-      second g = omega (arith, getD-set-other (M .marks) x (x + 1) 6 0 (omega arith), al .second)
+    near-finish : (x : ℕ) → Multiplying 5 M (leftOf M x) (rightOf M x) x
+        → AllNear (finished M x) (at vec (x + 2) (written M vec x)) (at vec' (x + 2) (written M vec' x))
+    near-finish x al =
+        near-put (remarked (remarked M x 6) (x + 1) 6) vec vec'
+        (near-mark (remarked M x 6) vec vec' (near-mark M vec vec' (K .near) x 6 (nonzero x 4 (al .first))) (x + 1) 6 second) (x + 2) 2 (written M vec x) (written M vec' x) new
+      where
+        second : markOf (remarked M x 6) (x + 1) ≢ 0
+        second g = omega (arith, getD-set-other (M .marks) x (x + 1) 6 0 (omega arith), al .second)
 
-      low : x < 94
-      low = al .r-low
+        low : x < 94
+        low = al .r-low
 
-      w : (number (maskA M vec x) ≡ number (maskA M vec' x)) × (number (maskB M vec x) ≡ number (maskB M vec' x))
-      w = wait-numbers T m R x (al .first) (omega (arith, low))
+        w : (number (maskA M vec x) ≡ number (maskA M vec' x)) × (number (maskB M vec x) ≡ number (maskB M vec' x))
+        w = core-wait T M vec vec' b b' K x (al .first) (omega (arith, low))
 
-      y : ℕ
-      y = number (maskA M vec x) .0
+        y : ℕ
+        y = number (maskA M vec x) .0
 
-      y' : ℕ
-      y' = number (maskB M vec x) .0
+        y' : ℕ
+        y' = number (maskB M vec x) .0
 
-      part : (ℕ → Vector) → Vector
-      part v = plusTimes (element y) (v (x + 2)) (v (x + 1))
+        part : (ℕ → Vector) → Vector
+        part v = plusTimes (element y) (v (x + 2)) (v (x + 1))
 
-      n0 : Nearly (vec x) (vec' x)
-      n0 = R .near x (omega (arith, low)) (nonzero x 4 (al .first))
+        n0 : Nearly (vec x) (vec' x)
+        n0 = K .near x (omega (arith, low)) (nonzero x 4 (al .first))
 
-      n1 : Nearly (vec (x + 1)) (vec' (x + 1))
-      n1 = R .near (x + 1) (omega (arith, low)) (nonzero (x + 1) 3 (al .second))
+        n1 : Nearly (vec (x + 1)) (vec' (x + 1))
+        n1 = K .near (x + 1) (omega (arith, low)) (nonzero (x + 1) 3 (al .second))
 
-      n2 : Nearly (vec (x + 2)) (vec' (x + 2))
-      n2 = R .near (x + 2) (omega (arith, low)) (nonzero (x + 2) 3 (al .third))
+        n2 : Nearly (vec (x + 2)) (vec' (x + 2))
+        n2 = K .near (x + 2) (omega (arith, low)) (nonzero (x + 2) 3 (al .third))
 
-      new : Nearly (written M vec x) (written M vec' x)
-      new =
-          subst (λ (X : Vector). Near (T .plan .n) (T .plan .t + 1) (pointOf (T .d)) (T .K) (written M vec x) X)
-          (ap₂ (λ (a c : Element). productVector (a .0) (c .0) (vec' x) (vec' (x + 1)) (vec' (x + 2))) (w .0) (w .1))
-          (near-raised (T .plan .n) (T .plan .t + 1) (pointOf (T .d)) (T .K) (product y y') (plusTimes (element y') (part vec) (vec x)) (plusTimes (element y') (part vec') (vec' x))
-          (near-plusTimes (T .plan .n) (T .plan .t + 1) (pointOf (T .d)) (T .K) y' (part vec) (part vec') (vec x) (vec' x)
-          (near-plusTimes (T .plan .n) (T .plan .t + 1) (pointOf (T .d)) (T .K) y (vec (x + 2)) (vec' (x + 2)) (vec (x + 1)) (vec' (x + 1)) n2 n1) n0))
+        new : Nearly (written M vec x) (written M vec' x)
+        new =
+            subst (λ (X : Vector). Near (T .plan .n) (T .plan .t + 1) (pointOf (T .d)) (T .K) (written M vec x) X)
+            (ap₂ (λ (a c : Element). productVector (a .0) (c .0) (vec' x) (vec' (x + 1)) (vec' (x + 2))) (w .0) (w .1))
+            (near-raised (T .plan .n) (T .plan .t + 1) (pointOf (T .d)) (T .K) (product y y') (plusTimes (element y') (part vec) (vec x)) (plusTimes (element y') (part vec') (vec' x))
+            (near-plusTimes (T .plan .n) (T .plan .t + 1) (pointOf (T .d)) (T .K) y' (part vec) (part vec') (vec x) (vec' x)
+            (near-plusTimes (T .plan .n) (T .plan .t + 1) (pointOf (T .d)) (T .K) y (vec (x + 2)) (vec' (x + 2)) (vec (x + 1)) (vec' (x + 1)) n2 n1) n0))
 
-  pub near-after : (c : Step) → Allowed (c1 1 c) M → Rule (T .plan) c 0 lines
-      → AllNear (marksAfter (c1 1 c) M) (vectorsAfter (T .plan) (T .d) (c1 1 c) M vec) (vectorsAfter (T .plan) (T .d') (c2 1 c) M vec')
-  near-after (Steps.loadRow r (own m)) al rule = near-put M vec vec' (R .near) r 1 _ _ (T .link .near-raw r (al .0) (rule refl .1))
-  near-after (Steps.loadRow r (Pack.fixed xs)) al rule = absurd (rule refl)
-  near-after (Steps.loadTriple r (own m)) al rule =
-      let t = rule refl .1 in
-      let lr : r < 96 = omega (arith, al .0) in
-      near-put (remarked (remarked M r 3) (r + 1) 4) _ _
-      (near-put (remarked M r 3) _ _ (near-put M vec vec' (R .near) r 3 _ _ (T .link .near-a r lr t)) (r + 1) 4 _ _ (T .link .near-b r lr t))
-      (r + 2) 4 _ _ (T .link .near-ab r lr t)
-  near-after (Steps.loadTriple r (Pack.fixed xs)) al rule = absurd (rule refl)
-  near-after (Steps.deal r sent) al rule =
-      near-put M vec vec' (R .near) r 2 _ _
-      (subst (λ (c : ℕ). Near (T .plan .n) (T .plan .t + 1) (pointOf (T .d)) (T .K) (raised (element (dealtNumber (T .plan) (T .d) (T .u) r)) (vec r)) (raised (element c) (vec' r))) (T .link .deals r)
-      (near-raised (T .plan .n) (T .plan .t + 1) (pointOf (T .d)) (T .K) (dealtNumber (T .plan) (T .d) (T .u) r) (vec r) (vec' r) (R .near r (al .0) (nonzero r 0 (al .1)))))
-  near-after (Steps.deal r (Number.fixed x)) al rule = absurd (rule refl)
-  near-after (Steps.message r lent heard) al rule = R .near
-  near-after (Steps.opening r blocks) al rule = R .near
-  near-after (Steps.linear r x y scale) al rule =
-      near-put M vec vec' (R .near) r 2 _ _
-      (near-plusTimes (T .plan .n) (T .plan .t + 1) (pointOf (T .d)) (T .K) scale (vec x) (vec' x) (vec y) (vec' y)
-      (R .near x (al .a-low) (nonzero x 1 (al .a-held))) (R .near y (al .b-low) (nonzero y 1 (al .b-held))))
-  near-after (Steps.masks x y r lent) al rule = near-mark M vec vec' (R .near) r 5 (nonzero r 2 (al .first))
-  near-after (Steps.finish r blocks blocks') al rule = near-finish r al
+    near-by : (c : StepMove) → AllowedBy (mv1 c) M → RuleBy (T .plan) 0 lines c
+        → AllNear (marksBy (mv1 c) M) (vectorsBy (T .plan) (T .d) (mv1 c) M vec) (vectorsBy (T .plan) (T .d') (mv2 c) M vec')
+    near-by (loads r (own m)) al rule = near-put M vec vec' (K .near) r 1 _ _ (T .link .near-raw r (al .0) (rule refl .1))
+    near-by (loads r (Pack.fixed xs)) al rule = absurd (rule refl)
+    near-by (loadsTriple r (own m)) al rule =
+        let t = rule refl .1 in
+        let lr : r < 96 = omega (arith, al .0) in
+        near-put (remarked (remarked M r 3) (r + 1) 4) _ _
+        (near-put (remarked M r 3) _ _ (near-put M vec vec' (K .near) r 3 _ _ (T .link .near-a r lr t)) (r + 1) 4 _ _ (T .link .near-b r lr t))
+        (r + 2) 4 _ _ (T .link .near-ab r lr t)
+    near-by (loadsTriple r (Pack.fixed xs)) al rule = absurd (rule refl)
+    near-by (deals r sent) al rule =
+        near-put M vec vec' (K .near) r 2 _ _
+        (subst (λ (c : ℕ). Near (T .plan .n) (T .plan .t + 1) (pointOf (T .d)) (T .K) (raised (element (dealtNumber (T .plan) (T .d) (T .u) r)) (vec r)) (raised (element c) (vec' r))) (T .link .deals r)
+        (near-raised (T .plan .n) (T .plan .t + 1) (pointOf (T .d)) (T .K) (dealtNumber (T .plan) (T .d) (T .u) r) (vec r) (vec' r) (K .near r (al .0) (nonzero r 0 (al .1)))))
+    near-by (deals r (Number.fixed x)) al rule = absurd (rule refl)
+    near-by (opens r blocks) al rule = K .near
+    near-by (adds r x y scale) al rule =
+        near-put M vec vec' (K .near) r 2 _ _
+        (near-plusTimes (T .plan .n) (T .plan .t + 1) (pointOf (T .d)) (T .K) scale (vec x) (vec' x) (vec y) (vec' y)
+        (K .near x (al .a-low) (nonzero x 1 (al .a-held))) (K .near y (al .b-low) (nonzero y 1 (al .b-held))))
+    near-by (factors x y r) al rule = near-mark M vec vec' (K .near) r 5 (nonzero r 2 (al .first))
+    near-by (multiplies r blocks blocks') al rule = near-finish r al
+
+    -- a triple whose masks the move makes: they are those that were reckoned with
+    masked-by : (c : StepMove) → FitBy T c b b' → (r : ℕ) → MasksBy (mv1 c) r
+        → (apart (enteredBy (T .u) c b .factorA r) (enteredBy (T .u') c b' .factorA r) ≡ T .Δ r .left)
+        × (apart (enteredBy (T .u) c b .factorB r) (enteredBy (T .u') c b' .factorB r) ≡ T .Δ r .right)
+    masked-by (loads r' pack) fit r m = absurd m
+    masked-by (loadsTriple r' pack) fit r m = absurd m
+    masked-by (deals r' c) fit r m = absurd m
+    masked-by (opens r' blocks) fit r m = absurd m
+    masked-by (adds r' x y scale) fit r m = absurd m
+    masked-by (factors x y r') fit r m =
+        subst
+        (λ (w : ℕ). (apart (at (b .factorA) r' (b .place x) w) (at (b' .factorA) r' (b' .place x) w) ≡ T .Δ w .left)
+        × (apart (at (b .factorB) r' (b .place y) w) (at (b' .factorB) r' (b' .place y) w) ≡ T .Δ w .right))
+        (sym m) (
+          ap₂ apart (at-same (b .factorA) r' (b .place x)) (at-same (b' .factorA) r' (b' .place x)) ∙ fit .0,
+          ap₂ apart (at-same (b .factorB) r' (b .place y)) (at-same (b' .factorB) r' (b' .place y)) ∙ fit .1,
+        )
+    masked-by (multiplies r' blocks blocks') fit r m = absurd m
+
+    -- marks after the move are the same in both runs
+    one-mark : (c : StepMove) → marksBy (mv2 c) M ≡ marksBy (mv1 c) M
+    one-mark c = marks-at (T .plan) (T .d') (T .u') lines 1 c M ∙ sym (marks-at (T .plan) (T .d) (T .u) lines 1 c M)
+
+    core-by : (c : StepMove) → AllowedBy (mv1 c) M → RuleBy (T .plan) 0 lines c → FitBy T c b b'
+        → Core T (marksBy (mv1 c) M) (vectorsBy (T .plan) (T .d) (mv1 c) M vec) (vectorsBy (T .plan) (T .d') (mv2 c) M vec')
+        (enteredBy (T .u) c b) (enteredBy (T .u') c b')
+    core-by c al rule fit =
+        let al' = allowed-two (T .plan) (T .d) (T .d') (T .u) (T .u') lines 1 c M al in
+        record {
+          sized = sized-by (mv1 c) M (K .sized);
+          one = facts-step (runOne T) lines 1 M vec b c (K .sized) al rule (K .one);
+          two =
+              subst
+              (λ (N : Marks). Facts (T .plan) (T .d') (Held (enteredBy (T .u') c b')) (Waits (enteredBy (T .u') c b')) N (vectorsBy (T .plan) (T .d') (mv2 c) M vec'))
+              (one-mark c) (facts-step (runTwo T) lines 1 M vec' b' c (K .sized) al' rule (K .two));
+          near = near-by c al rule;
+          waiting = λ r lr five. elim (five-by (T .plan) (T .d) (mv1 c) M (K .sized) al r lr five) [
+            | inl k ↦ (
+                let n = notes-by (runOne T) lines 1 M b c al r (inl (k .0)) in
+                let n' = notes-by (runTwo T) lines 1 M b' c al' r (inl (k .0)) in
+                let w = K .waiting r lr (k .0) in
+                (ap₂ apart (n .0) (n' .0) ∙ w .0, ap₂ apart (n .1) (n' .1) ∙ w .1))
+            | inr at ↦ masked-by c fit r at
+          ];
+        }
+
+  core-all : (cs : List StepMove) (M : Marks) (vec vec' : ℕ → Vector) (b b' : Book) → Core T M vec vec' b b'
+      → AllowedAll (map (moveAt (T .plan) (T .d) (T .u) lines 1) cs) M → All (RuleBy (T .plan) 0 lines) cs → FitAll T cs b b'
+      → Core T (marksAll (map (moveAt (T .plan) (T .d) (T .u) lines 1) cs) M)
+      (vectorsAll (T .plan) (T .d) (map (moveAt (T .plan) (T .d) (T .u) lines 1) cs) M vec)
+      (vectorsAll (T .plan) (T .d') (map (moveAt (T .plan) (T .d') (T .u') lines 1) cs) M vec')
+      (enteredAll (T .u) cs b) (enteredAll (T .u') cs b')
+  core-all [] M vec vec' b b' K al rule fit = K
+  core-all (c ∷ cs) M vec vec' b b' K al rule fit =
+      subst
+      (λ (N : Marks). Core T (marksAll (map (moveAt (T .plan) (T .d) (T .u) lines 1) cs) (marksBy (mv1 c) M))
+      (vectorsAll (T .plan) (T .d) (map (moveAt (T .plan) (T .d) (T .u) lines 1) cs) (marksBy (mv1 c) M) (vectorsBy (T .plan) (T .d) (mv1 c) M vec))
+      (vectorsAll (T .plan) (T .d') (map (moveAt (T .plan) (T .d') (T .u') lines 1) cs) N (vectorsBy (T .plan) (T .d') (mv2 c) M vec'))
+      (enteredAll (T .u) cs (enteredBy (T .u) c b)) (enteredAll (T .u') cs (enteredBy (T .u') c b')))
+      (sym (one-mark M vec vec' b b' K c))
+      (core-all cs (marksBy (mv1 c) M) (vectorsBy (T .plan) (T .d) (mv1 c) M vec) (vectorsBy (T .plan) (T .d') (mv2 c) M vec')
+      (enteredBy (T .u) c b) (enteredBy (T .u') c b') (core-by M vec vec' b b' K c (al .0) (rule .0) (fit .0)) (al .1) (rule .1) (fit .1))
+
+pub core-after : (T : Two) (m : Moments) (R : Pair T m) (c : Step)
+    → Allowed (callAt (T .plan) (T .d) (T .u) (m .lines) 1 c) (m .marks) → Rule (T .plan) c 0 (m .lines) → Fit T m R c
+    → Core T (marksAfter (callAt (T .plan) (T .d) (T .u) (m .lines) 1 c) (m .marks))
+    (vectorsAfter (T .plan) (T .d) (callAt (T .plan) (T .d) (T .u) (m .lines) 1 c) (m .marks) (m .vec))
+    (vectorsAfter (T .plan) (T .d') (callAt (T .plan) (T .d') (T .u') (m .lines) 1 c) (m .marks) (m .vec'))
+    (entered (T .u) c (m .book)) (entered (T .u') c (m .book'))
+core-after T m R c al rule fit =
+    let e = moves-at (T .plan) (T .d) (T .u) (m .lines) 1 c in
+    let e' = moves-at (T .plan) (T .d') (T .u') (m .lines) 1 c in
+    subst
+    (λ (cs : List CallMove). Core T (marksAll cs (m .marks)) (vectorsAll (T .plan) (T .d) cs (m .marks) (m .vec))
+    (vectorsAfter (T .plan) (T .d') (callAt (T .plan) (T .d') (T .u') (m .lines) 1 c) (m .marks) (m .vec')) (entered (T .u) c (m .book)) (entered (T .u') c (m .book')))
+    (sym e)
+    (subst
+    (λ (cs : List CallMove). Core T (marksAll (map (moveAt (T .plan) (T .d) (T .u) (m .lines) 1) (movesOf c)) (m .marks))
+    (vectorsAll (T .plan) (T .d) (map (moveAt (T .plan) (T .d) (T .u) (m .lines) 1) (movesOf c)) (m .marks) (m .vec))
+    (vectorsAll (T .plan) (T .d') cs (m .marks) (m .vec')) (entered (T .u) c (m .book)) (entered (T .u') c (m .book')))
+    (sym e')
+    (core-all T (m .lines) (movesOf c) (m .marks) (m .vec) (m .vec') (m .book) (m .book') (core T m R)
+    (subst (λ (cs : List CallMove). AllowedAll cs (m .marks)) e (al .moving)) rule fit))

@@ -5,8 +5,8 @@ use mathlib.Core.Path.{_≡_}
 use mathlib.Core.List.{List, [], _∷_}
 use Rattle.field.specs.Arithmetic.{sum, product}
 use Rattle.refusal.specs.Refusal.{outcome}
-use Rattle.runs.specs.Calls.{at}
-use Rattle.secrecy.specs.Steps.{Secrets, Step, loadRow, loadTriple, deal, message, opening, linear, masks, finish}
+use Rattle.runs.specs.Calls.{loads, loadsTriple, deals, opens, adds, factors, multiplies, Sending, silence, itsOpening, itsMasks, at}
+use Rattle.secrecy.specs.Steps.{Secrets, Step, StepMove, outlineOf, movesOf}
 use Rattle.secrecy.specs.Seen.{Entry}
 use Rattle.secrecy.specs.Rules.{refusalOf}
 
@@ -27,15 +27,21 @@ noted b r x y = record { place = b .place; factorA = at (b .factorA) r x; factor
 
 -- "Deal puts u in its row's place. Linear puts a's number plus s times b's in the new row's. Masks keep the numbers of a and b
 -- with the triple; when its product is written, the third row gets one times the other. Other calls ... change nothing."
+abbrev pub enteredBy : Secrets → StepMove → Book → Book
+enteredBy u (loads r pack) b = b
+enteredBy u (loadsTriple r pack) b = b
+enteredBy u (deals r c) b = placed b r (u r)
+enteredBy u (opens r blocks) b = b
+enteredBy u (adds r x y scale) b = placed b r (sum (b .place x) (product scale (b .place y)))
+enteredBy u (factors x y r) b = noted b r (b .place x) (b .place y)
+enteredBy u (multiplies r blocks blocks') b = placed b (r + 2) (product (b .factorA r) (b .factorB r))
+
+abbrev pub enteredAll : Secrets → List StepMove → Book → Book
+enteredAll u [] b = b
+enteredAll u (c ∷ cs) b = enteredAll u cs (enteredBy u c b)
+
 abbrev pub entered : Secrets → Step → Book → Book
-entered u (loadRow r pack) b = b
-entered u (loadTriple r pack) b = b
-entered u (deal r c) b = placed b r (u r)
-entered u (message r lent heard) b = b
-entered u (opening r blocks) b = b
-entered u (linear r x y scale) b = placed b r (sum (b .place x) (product scale (b .place y)))
-entered u (masks x y r lent) b = noted b r (b .place x) (b .place y)
-entered u (finish r blocks blocks') b = placed b (r + 2) (product (b .factorA r) (b .factorB r))
+entered u c b = enteredAll u (movesOf c) b
 
 -- "and refused ones, change nothing"
 abbrev pub booked : Secrets → Step → ℕ → Book → Book
@@ -48,15 +54,13 @@ bookAfter u (c ∷ cs) [] b = b
 bookAfter u (c ∷ cs) (e ∷ es) b = bookAfter u cs es (booked u c (refusalOf e) b)
 
 -- "A number agrees when, at each opening message not refused, its row's place is the same under both lists of secrets."
+abbrev pub AgreesBy : Sending → ℕ → Book → Book → Type 0
+AgreesBy silence k b b' = Unit {0}
+AgreesBy (itsOpening r) k b b' = k ≡ 0 → b .place r ≡ b' .place r
+AgreesBy (itsMasks x y r) k b b' = Unit {0}
+
 abbrev pub Agrees : Step → ℕ → Book → Book → Type 0
-Agrees (loadRow r pack) k b b' = Unit {0}
-Agrees (loadTriple r pack) k b b' = Unit {0}
-Agrees (deal r c) k b b' = Unit {0}
-Agrees (message r lent heard) k b b' = k ≡ 0 → b .place r ≡ b' .place r
-Agrees (opening r blocks) k b b' = Unit {0}
-Agrees (linear r x y scale) k b b' = Unit {0}
-Agrees (masks x y r lent) k b b' = Unit {0}
-Agrees (finish r blocks blocks') k b b' = Unit {0}
+Agrees c k b b' = AgreesBy (outlineOf c .sends) k b b'
 
 abbrev pub Agree : Secrets → Secrets → List Step → List Entry → Book → Book → Type 0
 Agree u u' [] es b b' = Unit {0}

@@ -9,8 +9,8 @@ use lib.ListN.{take, drop, getD}
 use Rattle.poly.specs.Counting.{All}
 use Rattle.opening.specs.Walking.{blockMark, blockCoefficients}
 use Rattle.runs.specs.Draws.{Plan, IsRaw}
-use Rattle.runs.specs.Calls.{Told, ToldHalf}
-use Rattle.secrecy.specs.Steps.{Pack, Number, Step, own, sent, loadRow, loadTriple, deal, message, opening, linear, masks, finish}
+use Rattle.runs.specs.Calls.{loads, loadsTriple, deals, opens, adds, factors, multiplies, Told, ToldHalf}
+use Rattle.secrecy.specs.Steps.{Pack, Number, Step, StepMove, own, sent, movesOf}
 use Rattle.secrecy.specs.Seen.{Entry}
 
 -- The refusal of a call, at post 1; and "the same answers" at every post: of them only the refusals are asked for, since the
@@ -49,18 +49,20 @@ abbrev pub Walks : ℕ → Type 0
 Walks k = (k ≡ 0) ⊎ (k ≡ 9)
 
 -- The rules for one call with the refusal k, after the lines broadcast before it.
-abbrev pub Rule : Plan → Step → ℕ → List (List ℕ) → Type 0
-Rule plan (loadRow r pack) k lines = k ≡ 0 → OwnPack pack r (IsRaw (plan .raw r))
-Rule plan (loadTriple r pack) k lines = k ≡ 0 → OwnPack pack r (plan .triple r ≡ true)
-Rule plan (deal r c) k lines = k ≡ 0 → FromDealer c
-Rule plan (message r lent heard) k lines = Unit {0}
-Rule plan (opening r blocks) k lines = Walks k → OnlySent plan (Told lines r) (λ i. blocks i lines)
-Rule plan (linear r a b scale) k lines = Unit {0}
-Rule plan (masks a b r lent) k lines = Unit {0}
-Rule plan (finish r blocks blocks') k lines =
+abbrev pub RuleBy : Plan → ℕ → List (List ℕ) → StepMove → Type 0
+RuleBy plan k lines (loads r pack) = k ≡ 0 → OwnPack pack r (IsRaw (plan .raw r))
+RuleBy plan k lines (loadsTriple r pack) = k ≡ 0 → OwnPack pack r (plan .triple r ≡ true)
+RuleBy plan k lines (deals r c) = k ≡ 0 → FromDealer c
+RuleBy plan k lines (opens r blocks) = Walks k → OnlySent plan (Told lines r) (λ i. blocks i lines)
+RuleBy plan k lines (adds r a b scale) = Unit {0}
+RuleBy plan k lines (factors a b r) = Unit {0}
+RuleBy plan k lines (multiplies r blocks blocks') =
     Walks k
     → OnlySent plan (ToldHalf (plan .t) (take (plan .t + 1)) r lines) (λ i. blocks i lines)
     × OnlySent plan (ToldHalf (plan .t) (drop (plan .t + 1)) r lines) (λ i. blocks' i lines)
+
+abbrev pub Rule : Plan → Step → ℕ → List (List ℕ) → Type 0
+Rule plan c k lines = All (RuleBy plan k lines) (movesOf c)
 
 abbrev pub Rules : Plan → List Step → List Entry → List (List ℕ) → Type 0
 Rules plan [] es lines = Unit {0}

@@ -2,12 +2,12 @@
 -- make its calls in step; of each call what is fixed, and what follows the draw.
 use Prim.Native.Nat.{ℕ}
 use mathlib.Core.Bool.{Bool, true}
-use mathlib.Core.List.{List}
+use mathlib.Core.List.{List, [], _∷_}
 use lib.ListN.{getD}
 use Rattle.factory.specs.Packs.{dealerNumber}
 use Rattle.runs.specs.Draws.{Plan, Draw, whenRaw, rawDraw, rawPack, triplePack}
 use Rattle.runs.specs.Calls as Calls
-use Rattle.runs.specs.Calls.{Call}
+use Rattle.runs.specs.Calls.{Call, Move, CallMove, loads, loadsTriple, deals, opens, adds, factors, multiplies, Sending, silence, itsOpening, itsMasks}
 
 -- "A list of secrets gives one u for each row with a dealer."
 abbrev pub Secrets : Type 0
@@ -63,13 +63,40 @@ callAt plan draw u lines i (linear r a b scale) = Calls.linear r a b scale
 callAt plan draw u lines i (masks a b r lent) = Calls.masks a b r (lent i)
 callAt plan draw u lines i (finish r blocks blocks') = Calls.finish r (blocks i lines) (blocks' i lines)
 
--- Whether a post's message of this call is made, and broadcast.
+-- ---- Each call by its parts, as in runs; and whose opening message is made and broadcast.
+abbrev pub StepMove : Type 0
+StepMove = Move Pack Number Record
+
+pub record StepOutline : Type 0 where
+  pub moves : List StepMove
+  pub sends : Sending
+  pub heard : ℕ → Bool
+
+abbrev step : List StepMove → Sending → StepOutline
+step ms s = record { moves = ms; sends = s; heard = λ i. true }
+
+abbrev pub outlineOf : Step → StepOutline
+outlineOf (loadRow r pack) = step (loads r pack ∷ []) silence
+outlineOf (loadTriple r pack) = step (loadsTriple r pack ∷ []) silence
+outlineOf (deal r c) = step (deals r c ∷ []) silence
+outlineOf (message r lent heard) = record { moves = []; sends = itsOpening r; heard = heard }
+outlineOf (opening r blocks) = step (opens r blocks ∷ []) silence
+outlineOf (linear r a b scale) = step (adds r a b scale ∷ []) silence
+outlineOf (masks a b r lent) = step (factors a b r ∷ []) (itsMasks a b r)
+outlineOf (finish r blocks blocks') = step (multiplies r blocks blocks' ∷ []) silence
+
+abbrev pub movesOf : Step → List StepMove
+movesOf c = outlineOf c .moves
+
 abbrev pub heardFrom : Step → ℕ → Bool
-heardFrom (loadRow r pack) i = true
-heardFrom (loadTriple r pack) i = true
-heardFrom (deal r c) i = true
-heardFrom (message r lent heard) i = heard i
-heardFrom (opening r blocks) i = true
-heardFrom (linear r a b scale) i = true
-heardFrom (masks a b r lent) i = true
-heardFrom (finish r blocks blocks') i = true
+heardFrom c i = outlineOf c .heard i
+
+-- the move as post i makes it
+abbrev pub moveAt : Plan → Draw → Secrets → List (List ℕ) → ℕ → StepMove → CallMove
+moveAt plan draw u lines i (loads r pack) = loads r (packed pack (rawPack plan draw) i)
+moveAt plan draw u lines i (loadsTriple r pack) = loadsTriple r (packed pack (triplePack plan draw) i)
+moveAt plan draw u lines i (deals r c) = deals r (dealtWith c (dealtNumber plan draw u r))
+moveAt plan draw u lines i (opens r blocks) = opens r (blocks i lines)
+moveAt plan draw u lines i (adds r a b scale) = adds r a b scale
+moveAt plan draw u lines i (factors a b r) = factors a b r
+moveAt plan draw u lines i (multiplies r blocks blocks') = multiplies r (blocks i lines) (blocks' i lines)
