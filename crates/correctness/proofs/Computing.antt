@@ -28,12 +28,13 @@ use Rattle.product.specs.Finish.{finishRefusal, productRow, withProduct}
 use Rattle.fields.specs.Fields.{fields}
 use Rattle.decimal.specs.Numeral.{lastDigits, sizeWithin}
 use Rattle.runs.specs.Draws.{Plan, Draw, IsRaw, Sound, IsDraw, rawLength, tripleLength, none, by, pointOf, rawDraw, tripleDraw, rawPack, triplePack}
-use Rattle.runs.specs.Calls as Calls
-use Rattle.runs.specs.Calls.{Post, Call, loadRow, loadTriple, deal, CallMove, moves, perform, newPost, at}
+use Rattle.runs.specs.Outline.{Taking, nothingTaken, aRowPack, aTriplePack, aNumber, aRecord, twoRecords, takes, Given, Move, moves}
+use Rattle.runs.specs.Calls.{Post, Actual, Call, loadRow, loadTriple, deal, perform, newPost, at}
+use Rattle.runs.proofs.Outlines.{all-every}
 use Rattle.runs.proofs.Lines.{elements-of}
 use Rattle.correctness.specs.History.{Event, World, doneBy, turn, history, Each}
 use Rattle.correctness.specs.Ledger.{Ledger, nothing, dealt, sum, product, Plain, of-deal, of-product}
-use Rattle.correctness.specs.Truth.{TrueBy, TrueFinish}
+use Rattle.correctness.specs.Truth.{TrueWith, TrueFinish}
 
 -- `refl` proves it where `unfolding Computes` opens the calls' definitions
 unfoldable pub Computes : {A : Type 0} → A → A → Type 0
@@ -164,39 +165,44 @@ pub each-of : (P : Event → Type 0) (es : List Event) (w : World) → All P es 
 each-of P [] w a = tt
 each-of P (e ∷ es) w a = ((λ z. a .0), each-of P es (turn e w) (a .1))
 
--- no finish among the events
-abbrev noProduct : CallMove → Bool
-noProduct (Calls.loads r pack) = true
-noProduct (Calls.loadsTriple r pack) = true
-noProduct (Calls.deals r c) = true
-noProduct (Calls.opens r blocks) = true
-noProduct (Calls.adds r a b s) = true
-noProduct (Calls.factors a b r) = true
-noProduct (Calls.multiplies r blocks blocks') = false
+-- no records of masks among what the events' calls are given
+abbrev QuietWith : Taking → Type 0 → Type 0
+QuietWith nothingTaken A = A
+QuietWith (aRowPack r) A = A
+QuietWith (aTriplePack r) A = A
+QuietWith (aNumber r) A = A
+QuietWith (aRecord r) A = A
+QuietWith (twoRecords r) A = ⊥
 
-abbrev noProducts : List CallMove → Bool
-noProducts [] = true
-noProducts (c ∷ cs) = noProduct c && noProducts cs
+abbrev QuietThen : List (Move Actual) → Type 0 → Type 0
+QuietThen [] A = A
+QuietThen (m ∷ ms) A = QuietWith (takes (m .0)) (QuietThen ms A)
 
-abbrev pub quiet : List Event → Bool
-quiet [] = true
-quiet (e ∷ es) = noProducts (moves (e .call)) && quiet es
+abbrev pub Quiet : List Event → Type 0
+Quiet [] = Unit {0}
+Quiet (e ∷ es) = QuietThen (moves (e .call)) (Quiet es)
 
-quiet-move : (q : Post) (lines : List (List ℕ)) (c : CallMove) → T (noProduct c) → TrueBy q lines c
-quiet-move q lines (Calls.loads r pack) h = tt
-quiet-move q lines (Calls.loadsTriple r pack) h = tt
-quiet-move q lines (Calls.deals r c) h = tt
-quiet-move q lines (Calls.opens r blocks) h = tt
-quiet-move q lines (Calls.adds r a b s) h = tt
-quiet-move q lines (Calls.factors a b r) h = tt
-quiet-move q lines (Calls.multiplies r blocks blocks') h = absurd h
+module _ (q : Post) (lines : List (List ℕ)) where
+  abbrev True : Move Actual → Type 0
+  True m = TrueWith q lines (takes (m .0)) (m .1)
 
-quiet-moves : (q : Post) (lines : List (List ℕ)) (cs : List CallMove) → T (noProducts cs) → All (TrueBy q lines) cs
-quiet-moves q lines [] h = tt
-quiet-moves q lines (c ∷ cs) h = let k = both (noProduct c) (noProducts cs) h in (quiet-move q lines c (k .0), quiet-moves q lines cs (k .1))
+  quiet-with : (A : Type 0) (t : Taking) (x : Given Actual t) → QuietWith t A → TrueWith q lines t x × A
+  quiet-with A nothingTaken x a = (tt, a)
+  quiet-with A (aRowPack r) x a = (tt, a)
+  quiet-with A (aTriplePack r) x a = (tt, a)
+  quiet-with A (aNumber r) x a = (tt, a)
+  quiet-with A (aRecord r) x a = (tt, a)
+  quiet-with A (twoRecords r) x a = absurd a
 
-pub each-quiet : (es : List Event) (w : World) → T (quiet es) → Each (λ e v. TrueFinish (v .posts (e .post)) (v .lines) (e .call)) es w
+  quiet-call : (A : Type 0) (ms : List (Move Actual)) → QuietThen ms A → All True ms × A
+  quiet-call A [] a = (tt, a)
+  quiet-call A (m ∷ ms) a =
+      let h = quiet-with (QuietThen ms A) (takes (m .0)) (m .1) a in
+      let k = quiet-call A ms (h .1) in
+      ((h .0, k .0), k .1)
+
+pub each-quiet : (es : List Event) (w : World) → Quiet es → Each (λ e v. TrueFinish (v .posts (e .post)) (v .lines) (e .call)) es w
 each-quiet [] w h = tt
 each-quiet (e ∷ es) w h =
-    let k = both (noProducts (moves (e .call))) (quiet es) h in
-    ((λ z. quiet-moves (w .posts (e .post)) (w .lines) (moves (e .call)) (k .0)), each-quiet es (turn e w) (k .1))
+    let k = quiet-call (w .posts (e .post)) (w .lines) (Quiet es) (moves (e .call)) h in
+    ((λ z. all-every _ (moves (e .call)) (k .0)), each-quiet es (turn e w) (k .1))

@@ -86,19 +86,19 @@ own-parts : All (λ e. OwnPart plan draw (e .post) (e .call)) events
 unfolding plan loads deals sums ends
 own-parts =
     together (λ e. OwnPart plan draw (e .post) (e .call))
-    (((tt, refl), tt), (((tt, refl), tt), (((refl, refl), tt), (((refl, refl), tt), (((tt, refl), tt), (((tt, refl), tt), (((tt, refl), tt), (((tt, refl), tt), (((refl, refl), tt), tt)))))))))
-    ((tt, tt), ((tt, tt), ((tt, tt), ((tt, tt), ((tt, tt), ((tt, tt), ((tt, tt), tt)))))))
-    ((tt, tt), (tt, ((tt, tt), ((tt, tt), ((tt, tt), ((tt, tt), tt))))))
-    ((tt, tt), ((tt, tt), ((tt, tt), (tt, tt))))
+    ((tt, refl), ((tt, refl), ((refl, refl), ((refl, refl), ((tt, refl), ((tt, refl), ((tt, refl), ((tt, refl), ((refl, refl), tt)))))))))
+    (tt, (tt, (tt, (tt, (tt, (tt, (tt, tt)))))))
+    (tt, (tt, (tt, (tt, (tt, (tt, tt))))))
+    (tt, (tt, (tt, (tt, tt))))
 
 all-written : All (λ e. Written draw ledger (e .call)) events
 unfolding loads deals sums ends ledger
 all-written =
     together (λ e. Written draw ledger (e .call))
-    ((tt, tt), ((tt, tt), ((tt, tt), ((tt, tt), ((tt, tt), ((tt, tt), ((tt, tt), ((tt, tt), ((tt, tt), tt)))))))))
-    ((six, tt), ((six, tt), ((seven, tt), ((seven, tt), ((six, tt), ((six, tt), ((seven, tt), tt)))))))
-    ((refl, tt), (tt, ((refl, tt), ((refl, tt), ((refl, tt), ((refl, tt), tt))))))
-    ((tt, tt), ((tt, tt), ((tt, tt), (tt, tt))))
+    (tt, (tt, (tt, (tt, (tt, (tt, (tt, (tt, (tt, tt)))))))))
+    (six, (six, (seven, (seven, (six, (six, (seven, tt)))))))
+    (refl, (tt, (refl, (refl, (refl, (refl, tt))))))
+    (tt, (tt, (tt, (tt, tt))))
   where
     six : (u : ℕ) × (u < p) × (ledger 0 ≡ dealt u) × (dealerNumber 6 (getD (rawDraw draw 0) 0 0) .value ≡ dealerNumber u (getD (rawDraw draw 0) 0 0) .value)
     six = (6, lit< tt, refl, refl)
@@ -118,9 +118,9 @@ unfolding Computes plan drawWith drawn draw loads deals sums ends m1 m3
 true-ends = (
   (λ z. let y : _≡_ {A = ℕ} 9 0 = z in absurd (omega arith)),
   (
-    (λ z. ((((λ ne. absurd (ne refl)), ((λ ne. (m3, refl, elements-of m3 refl, inr (inl refl), refl)), tt)), ((λ ne. absurd (ne refl)), ((λ ne. (m3, refl, elements-of m3 refl, inr (inl refl), refl)), tt))), tt)),
+    (λ z. (((λ ne. absurd (ne refl)), ((λ ne. (m3, refl, elements-of m3 refl, inr (inl refl), refl)), tt)), ((λ ne. absurd (ne refl)), ((λ ne. (m3, refl, elements-of m3 refl, inr (inl refl), refl)), tt)))),
     (
-      (λ z. ((((λ ne. (m1, refl, elements-of m1 refl, inr (inr (inl refl)), refl)), ((λ ne. absurd (ne refl)), tt)), ((λ ne. (m1, refl, elements-of m1 refl, inr (inr (inl refl)), refl)), ((λ ne. absurd (ne refl)), tt))), tt)),
+      (λ z. (((λ ne. (m1, refl, elements-of m1 refl, inr (inr (inl refl)), refl)), ((λ ne. absurd (ne refl)), tt)), ((λ ne. (m1, refl, elements-of m1 refl, inr (inr (inl refl)), refl)), ((λ ne. absurd (ne refl)), tt)))),
       ((λ z. tt), tt),
     ),
   ),

@@ -18,16 +18,17 @@ use Rattle.vectors.specs.Vector.{Vector, numbers}
 use Rattle.vectors.specs.Claims.{heldRow, Truly}
 use Rattle.vectors.proofs.Linear.{length-numbers}
 use Rattle.runs.specs.Draws.{Plan, Draw, IsDraw, Sound}
-use Rattle.runs.specs.Calls.{Post, CallMove, loads, loadsTriple, deals, opens, adds, factors, multiplies, ToldHalf}
+use Rattle.runs.specs.Outline.{Taking, nothingTaken, aRowPack, aTriplePack, aNumber, aRecord, twoRecords, takes, Given, Move, actsIn}
+use Rattle.runs.specs.Calls.{Post, Actual, ToldHalf}
 use Rattle.runs.proofs.Marks.{Marks, leftOf, rightOf, sessionAt, less, vectorA, maskA, maskB}
 use Rattle.runs.proofs.Holds.{Holds}
 use Rattle.runs.proofs.Finishing.{AllTrue, opens-a, opens-b}
 use Rattle.runs.proofs.Records.{own-true}
 use Rattle.runs.proofs.Start.{sizes}
-use Rattle.runs.proofs.Steps.{named, FitsBy}
-use Rattle.runs.proofs.Facts.{Multiplying, Ready, Triple}
+use Rattle.runs.proofs.Steps.{named, FitsWith}
+use Rattle.runs.proofs.Facts.{Multiplying, ReadyFor, Triple}
 use Rattle.correctness.specs.Ledger.{Ledger}
-use Rattle.correctness.specs.Truth.{OwnBy, TrueOf, TrueBy}
+use Rattle.correctness.specs.Truth.{OwnWith, TrueOf, TrueWith}
 use Rattle.correctness.proofs.Standing.{Known, Good}
 use Rattle.correctness.proofs.Said.{Said, told-masks, halves}
 
@@ -105,22 +106,26 @@ module _ (plan : Plan) (draw : Draw) (L : Ledger) (sound : Sound plan) (is : IsD
           all-true-of s (maskB M vec r) blocks' (ToldHalf (plan .t) (drop (plan .t + 1)) r lines) (Finish.maskB s l r) (opens-b plan draw len i M vec l h r ok)
           (λ j lj hj ne o. told-b M vec f r ok j lj hj _ o)
 
-    fits-by : (q : Post) (g : Good plan draw L len i q) (c : CallMove) → Ready (g .marks) c → OwnBy plan draw i c → TrueBy q lines c
-        → FitsBy plan draw i (g .marks) (g .vec) c
-    fits-by q g (loads r pack) ok own y = own
-    fits-by q g (loadsTriple r pack) ok own y = own
-    fits-by q g (deals r c) ok own y = tt
-    fits-by q g (opens r blocks) ok own y = tt
-    fits-by q g (adds r a b scale) ok own y = tt
-    fits-by q g (factors a b r) ok own y = tt
-    fits-by q g (multiplies r blocks blocks') ok own y =
+    fits-with : (q : Post) (g : Good plan draw L len i q) (t : Taking) (x : Given Actual t) → ReadyFor (g .marks) t
+        → OwnWith plan draw i t x → TrueWith q lines t x → FitsWith plan draw i (g .marks) (g .vec) t x
+    fits-with q g nothingTaken x ok own y = tt
+    fits-with q g (aRowPack r) x ok own y = own
+    fits-with q g (aTriplePack r) x ok own y = own
+    fits-with q g (aNumber r) x ok own y = tt
+    fits-with q g (aRecord r) x ok own y = tt
+    fits-with q g (twoRecords r) x ok own y =
         subst
-        (λ (x : Post). TrueBy x lines (multiplies r blocks blocks') → FitsBy plan draw i (g .marks) (g .vec) (multiplies r blocks blocks'))
+        (λ (v : Post). TrueWith v lines (twoRecords r) x → FitsWith plan draw i (g .marks) (g .vec) (twoRecords r) x)
         (sym (named plan draw len i (g .marks) (g .vec) q (g .stands)))
-        (λ o. (true-a (g .marks) (g .vec) (g .facts) (q .rows) (g .stands .holds) r blocks blocks' ok (o .0), true-b (g .marks) (g .vec) (g .facts) (q .rows) (g .stands .holds) r blocks blocks' ok (o .1)))
+        (λ o. (
+          true-a (g .marks) (g .vec) (g .facts) (q .rows) (g .stands .holds) r (x .0) (x .1) ok (o .0),
+          true-b (g .marks) (g .vec) (g .facts) (q .rows) (g .stands .holds) r (x .0) (x .1) ok (o .1),
+        ))
         y
 
-    pub fits : (q : Post) (g : Good plan draw L len i q) (cs : List CallMove) → All (Ready (g .marks)) cs → All (OwnBy plan draw i) cs
-        → All (TrueBy q lines) cs → All (FitsBy plan draw i (g .marks) (g .vec)) cs
+    pub fits : (q : Post) (g : Good plan draw L len i q) (ms : List (Move Actual)) → All (λ a. ReadyFor (g .marks) (takes a)) (actsIn ms)
+        → All (λ m. OwnWith plan draw i (takes (m .0)) (m .1)) ms → All (λ m. TrueWith q lines (takes (m .0)) (m .1)) ms
+        → All (λ m. FitsWith plan draw i (g .marks) (g .vec) (takes (m .0)) (m .1)) ms
     fits q g [] ok own y = tt
-    fits q g (c ∷ cs) ok own y = (fits-by q g c (ok .0) (own .0) (y .0), fits q g cs (ok .1) (own .1) (y .1))
+    fits q g (m ∷ ms) ok own y =
+        (fits-with q g (takes (m .0)) (m .1) (ok .0) (own .0) (y .0), fits q g ms (ok .1) (own .1) (y .1))

@@ -75,15 +75,15 @@ own-parts : (ends : List Event) → All Own ends → All Own (before ++ ends)
 unfolding plan loads deals
 own-parts ends a =
     all-join Own before ends
-    (all-join Own loads deals (((tt, refl), tt), (((tt, refl), tt), (((refl, refl), tt), (((tt, refl), tt), (((tt, refl), tt), (((refl, refl), tt), tt)))))) ((tt, tt), ((tt, tt), ((tt, tt), ((tt, tt), ((tt, tt), ((tt, tt), tt)))))))
+    (all-join Own loads deals ((tt, refl), ((tt, refl), ((refl, refl), ((tt, refl), ((tt, refl), ((refl, refl), tt)))))) (tt, (tt, (tt, (tt, (tt, (tt, tt)))))))
     a
 
 all-written : (ends : List Event) → All Wrote ends → All Wrote (before ++ ends)
 unfolding loads deals ledger
 all-written ends a =
     all-join Wrote before ends
-    (all-join Wrote loads deals ((tt, tt), ((tt, tt), ((tt, tt), ((tt, tt), ((tt, tt), ((tt, tt), tt))))))
-    (((6, lit< tt, refl, refl), tt), (((7, lit< tt, refl, refl), tt), (((6, lit< tt, refl, refl), tt), (((7, lit< tt, refl, refl), tt), ((refl, tt), ((refl, tt), tt)))))))
+    (all-join Wrote loads deals (tt, (tt, (tt, (tt, (tt, (tt, tt))))))
+    ((6, lit< tt, refl, refl), ((7, lit< tt, refl, refl), ((6, lit< tt, refl, refl), ((7, lit< tt, refl, refl), (refl, (refl, tt)))))))
     a
 
 -- every premise but the truth of finishes; and that of all posts' but one's
@@ -137,11 +137,11 @@ answered = refl
 all-but-one : ButTruth events × Each (TrueBut 1) events new
 unfolding Computes plan drawWith drawn draw loads deals ends within m1
 all-but-one = (
-  but-truth ends tt ((tt, tt), ((tt, tt), (tt, tt))) ((tt, tt), ((tt, tt), (tt, tt))),
+  but-truth ends tt (tt, (tt, (tt, tt))) (tt, (tt, (tt, tt))),
   true-but 1 ends (
     (λ z ne. absurd (ne refl)),
     (
-      (λ z ne. ((((λ o. (m1, refl, elements-of m1 refl, inl refl, refl)), ((λ o. absurd (o refl)), tt)), ((λ o. (m1, refl, elements-of m1 refl, inl refl, refl)), ((λ o. absurd (o refl)), tt))), tt)),
+      (λ z ne. (((λ o. (m1, refl, elements-of m1 refl, inl refl, refl)), ((λ o. absurd (o refl)), tt)), ((λ o. (m1, refl, elements-of m1 refl, inl refl, refl)), ((λ o. absurd (o refl)), tt)))),
       ((λ z ne. tt), tt),
     ),
   ),
@@ -197,9 +197,9 @@ opens-less-2 = refl
 all-but-two : ButTruth events' × Each (TrueBut 2) events' new
 unfolding Computes plan drawWith drawn draw loads deals ends' within m2
 all-but-two = (
-  but-truth ends' tt ((tt, tt), ((tt, tt), (tt, tt))) ((tt, tt), ((tt, tt), (tt, tt))),
+  but-truth ends' tt (tt, (tt, (tt, tt))) (tt, (tt, (tt, tt))),
   true-but 2 ends' (
-    (λ z ne. ((((λ o. absurd (o refl)), ((λ o. (m2, refl, elements-of m2 refl, inr (inl refl), refl)), tt)), ((λ o. absurd (o refl)), ((λ o. (m2, refl, elements-of m2 refl, inr (inl refl), refl)), tt))), tt)),
+    (λ z ne. (((λ o. absurd (o refl)), ((λ o. (m2, refl, elements-of m2 refl, inr (inl refl), refl)), tt)), ((λ o. absurd (o refl)), ((λ o. (m2, refl, elements-of m2 refl, inr (inl refl), refl)), tt)))),
     ((λ z ne. absurd (ne refl)), ((λ z ne. absurd (ne refl)), tt)),
   ),
 )

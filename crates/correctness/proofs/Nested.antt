@@ -31,13 +31,13 @@ longer = record {
       ((lit≤ tt, lit≤ tt), ((lit≤ tt, lit≤ tt), ((lit≤ tt, lit≤ tt), tt)));
   parts =
       each-join (λ e v. OwnPart plan draw (e .post) (e .call)) events more new (premises .parts)
-      ((λ z. (tt, tt)), ((λ z. (tt, tt)), ((λ z. tt), tt)));
+      ((λ z. tt), ((λ z. tt), ((λ z. tt), tt)));
   ledger =
       each-join (λ e v. Written draw ledger (e .call)) events more new (premises .ledger)
-      ((λ z. (refl, tt)), ((λ z. (refl, tt)), ((λ z. tt), tt)));
+      ((λ z. refl), ((λ z. refl), ((λ z. tt), tt)));
   finishes =
       each-join (λ e v. TrueFinish (v .posts (e .post)) (v .lines) (e .call)) events more new (premises .finishes)
-      ((λ z. (tt, tt)), ((λ z. (tt, tt)), ((λ z. tt), tt)));
+      ((λ z. tt), ((λ z. tt), ((λ z. tt), tt)));
 }
 
 -- post 1 at the end, and a record with post 2's message

@@ -9,16 +9,18 @@ use Rattle.field.specs.Element.{element}
 use Rattle.poly.specs.Counting.{All}
 use Rattle.vectors.specs.Vector.{Vector, raised, number}
 use Rattle.runs.specs.Draws.{Plan, Draw, IsDraw}
-use Rattle.runs.specs.Calls.{Post, Call, CallMove, loads, loadsTriple, deals, opens, adds, factors, multiplies, moves, perform, after}
-use Rattle.runs.proofs.Marks.{Marks, markOf, leftOf, rightOf, Sized, less, productVector, written, marksBy, vectorsBy, marksAll, vectorsAll}
+use Rattle.runs.specs.Outline.{Act, loads, loadsTriple, deals, opens, adds, factors, multiplies, takes, Given, Move, moves, actsIn, acts, sends}
+use Rattle.runs.specs.Calls.{Post, Actual, Call, perform, after}
+use Rattle.runs.proofs.Marks.{Marks, markOf, leftOf, rightOf, Sized, less, productVector, written, marksBy, vectorsBy, marksAll, numberIn, vectorsAll}
 use Rattle.runs.proofs.Outcomes.{refusalOf}
 use Rattle.runs.proofs.Steps.{Stands, named, Fits, stands-after}
 use Rattle.runs.proofs.Facts.{AllowedBy, AllowedAll, Allowed, Multiplying, Triple, Facts, Meant}
+use Rattle.runs.proofs.Outlines.{every-all}
 use Rattle.runs.proofs.Rows.{sized-by, sized-after}
 use Rattle.runs.proofs.Kept.{facts-by}
 use Rattle.runs.proofs.Allowed.{allowed, room}
 use Rattle.correctness.specs.Ledger.{Ledger, product, WrittenBy, Written}
-use Rattle.correctness.specs.Truth.{OwnBy, OwnPart}
+use Rattle.correctness.specs.Truth.{OwnWith, OwnPart}
 use Rattle.correctness.proofs.Meanings.{Is, is-dealt, is-sum, is-product}
 
 module _ (plan : Plan) (draw : Draw) (L : Ledger) where
@@ -40,9 +42,9 @@ module _ (plan : Plan) (draw : Draw) (L : Ledger) where
 
   module _ (len i : ℕ) (q : Post) (g : Good len i q) where
     -- a call that is not refused is allowed by the marks, and finds room
-    pub allowed-at : (c : Call) → refusalOf c q ≡ 0 → Allowed c (g .marks)
+    pub allowed-at : (c : Call) → refusalOf c q ≡ 0 → Allowed (acts c) (sends c) (g .marks)
     allowed-at c =
-        subst (λ (x : Post). refusalOf c x ≡ 0 → Allowed c (g .marks)) (sym (named plan draw len i (g .marks) (g .vec) q (g .stands)))
+        subst (λ (x : Post). refusalOf c x ≡ 0 → Allowed (acts c) (sends c) (g .marks)) (sym (named plan draw len i (g .marks) (g .vec) q (g .stands)))
         (allowed plan draw i (g .marks) (q .rows) c)
 
     room-at : (c : Call) → refusalOf c q ≡ 0 → len ≡ 96 * (plan .t + 1 + 2 * plan .n)
@@ -67,23 +69,30 @@ module _ (plan : Plan) (draw : Draw) (L : Ledger) where
         t : Triple plan draw M vec r
         t = f r low .triple (inr (ok .first))
 
-    meant : (i : ℕ) (c : CallMove) → AllowedBy c M → OwnBy plan draw i c → WrittenBy draw L c → Meant plan draw (Is plan draw L) Waits c M vec
-    meant i (loads r pack) ok own w = own .0
-    meant i (loadsTriple r pack) ok own w = own .0
-    meant i (deals r c) ok own w =
-        is-dealt (w .2) (w .1) (ap₂ (λ (x : ℕ) (X : Vector). raised (element x) X) (w .3) (f r (ok .0) .raw (ok .1) .1))
-    meant i (opens r blocks) ok own w = tt
-    meant i (adds r a b scale) ok own w =
-        is-sum w (f a (ok .a-low) .held (ok .a-held)) (f b (ok .b-low) .held (ok .b-held)) refl
-    meant i (factors a b r) ok own w = w
-    meant i (multiplies r blocks blocks') ok own w = finished-is r ok
+    meant : (i : ℕ) (a : Act) (x : Given Actual (takes a)) → AllowedBy a M → OwnWith plan draw i (takes a) x → WrittenBy draw L a x
+        → Meant plan draw (Is plan draw L) Waits a (numberIn (takes a) x) M vec
+    meant i (loads r) x ok own w = own .0
+    meant i (loadsTriple r) x ok own w = own .0
+    meant i (deals r) x ok own w =
+        is-dealt (w .2) (w .1) (ap₂ (λ (c : ℕ) (X : Vector). raised (element c) X) (w .3) (f r (ok .0 .0) .raw (ok .0 .1) .1))
+    meant i (opens r) x ok own w = tt
+    meant i (adds r a b scale) x ok own w =
+        is-sum w (f a (ok .0 .a-low) .held (ok .0 .a-held)) (f b (ok .0 .b-low) .held (ok .0 .b-held)) refl
+    meant i (factors a b r) x ok own w = w
+    meant i (multiplies r) x ok own w = finished-is r (ok .0)
 
-  known-after : (i : ℕ) (cs : List CallMove) (M : Marks) (vec : ℕ → Vector) → Sized M → AllowedAll cs M → All (OwnBy plan draw i) cs
-      → All (WrittenBy draw L) cs → Known M vec → Known (marksAll cs M) (vectorsAll plan draw cs M vec)
+  abbrev Wrote : Move Actual → Type 0
+  Wrote m = WrittenBy draw L (m .0) (m .1)
+
+  known-after : (i : ℕ) (ms : List (Move Actual)) (M : Marks) (vec : ℕ → Vector) → Sized M → AllowedAll (actsIn ms) M
+      → All (λ m. OwnWith plan draw i (takes (m .0)) (m .1)) ms → All Wrote ms → Known M vec
+      → Known (marksAll (actsIn ms) M) (vectorsAll plan draw numberIn ms M vec)
   known-after i [] M vec z ok own w f = f
-  known-after i (c ∷ cs) M vec z ok own w f =
-      known-after i cs (marksBy c M) (vectorsBy plan draw c M vec) (sized-by c M z) (ok .1) (own .1) (w .1)
-      (facts-by plan draw (Is plan draw L) Waits (Is plan draw L) Waits c M vec z (ok .0) (meant M vec f i c (ok .0) (own .0) (w .0))
+  known-after i (m ∷ ms) M vec z ok own w f =
+      let a = m .0 in
+      let c = numberIn (takes a) (m .1) in
+      known-after i ms (marksBy a M) (vectorsBy plan draw a c M vec) (sized-by a M z) (ok .1) (own .1) (w .1)
+      (facts-by plan draw (Is plan draw L) Waits (Is plan draw L) Waits a c M vec z (ok .0) (meant M vec f i a (m .1) (ok .0) (own .0) (w .0))
       (λ r low e h. h) (λ r low e e' h. h) f)
 
   pub good-after : IsDraw plan draw → (len i : ℕ) → i ≤ plan .n → (q : Post) (g : Good len i q) (c : Call) → refusalOf c q ≡ 0
@@ -93,8 +102,10 @@ module _ (plan : Plan) (draw : Draw) (L : Ledger) where
       record {
         marks = _;
         vec = _;
-        sized = sized-after (moves c) (g .marks) (g .sized);
+        sized = sized-after (acts c) (g .marks) (g .sized);
         stands = stands-after plan draw is len i hi (g .marks) (g .vec) q (g .stands) c z fit;
-        facts = known-after i (moves c) (g .marks) (g .vec) (g .sized) (ok .moving) own w (g .facts);
+        facts =
+            known-after i (moves c) (g .marks) (g .vec) (g .sized) (ok .moving) (every-all _ (moves c) own) (every-all Wrote (moves c) w)
+            (g .facts);
         full = λ r ne. room-at len i q g c z;
       }

@@ -7,7 +7,9 @@ use lib.ListN.{length}
 use Rattle.poly.specs.Counting.{All}
 use Rattle.session.specs.Sessions.{answer}
 use Rattle.runs.specs.Draws.{Plan, Draw, IsDraw, Sound}
-use Rattle.runs.specs.Calls.{Post, moves, after, broadcast, at}
+use Rattle.runs.specs.Outline.{moves}
+use Rattle.runs.specs.Calls.{Post, after, broadcast, at}
+use Rattle.runs.proofs.Outlines.{every-all}
 use Rattle.runs.proofs.Marks.{at-same, at-other, rawVector}
 use Rattle.runs.proofs.Start.{start, start-sized, start-mark, start-stands, start-facts}
 use Rattle.runs.proofs.Outcomes.{refusalOf, refusal-is, refused}
@@ -44,7 +46,7 @@ module _ (plan : Plan) (draw : Draw) (L : Ledger) (sound : Sound plan) (is : IsD
           let y = is-zero z in
           good-after plan draw L is (lens (e .post)) (e .post) hi q g (e .call) z (own y) (wrote y)
           (fits plan draw L sound is (lens (e .post)) (e .post) hi (w .lines) (v .lines) q g (moves (e .call))
-          (allowed-at plan draw L (lens (e .post)) (e .post) q g (e .call) z .ready) (own y) (truth y))
+          (allowed-at plan draw L (lens (e .post)) (e .post) q g (e .call) z .ready) (every-all _ (moves (e .call)) (own y)) (every-all _ (moves (e .call)) (truth y)))
       goes (suc k) z = subst (Good plan draw L (lens (e .post)) (e .post)) (sym (refused (e .call) q k z)) g
 
       where-it-is : (i : ℕ) → 1 ≤ i → i ≤ plan .n → Dec (i ≡ e .post) → Good plan draw L (lens i) i (at (w .posts) (e .post) (after (doneBy e w)) i)

@@ -4,10 +4,10 @@ use mathlib.Core.Path.{_≡_}
 use lib.ListN.{getD}
 use Rattle.field.specs.Modulus.{p}
 use Rattle.field.specs.Arithmetic as Arithmetic
-use Rattle.poly.specs.Counting.{All}
 use Rattle.factory.specs.Packs.{dealerNumber}
 use Rattle.runs.specs.Draws.{Draw, rawDraw}
-use Rattle.runs.specs.Calls.{Call, CallMove, loads, loadsTriple, deals, opens, adds, factors, multiplies, moves}
+use Rattle.runs.specs.Outline.{Act, loads, loadsTriple, deals, opens, adds, factors, multiplies, takes, Given, moves, Every}
+use Rattle.runs.specs.Calls.{Actual, Call}
 
 -- What a row holds: nothing of its own; u, dealt; a plus s times b; a times b, by the triple at r.
 pub data Meaning : Type 0 where
@@ -20,17 +20,17 @@ abbrev pub Ledger : Type 0
 Ledger = ℕ → Meaning
 
 -- A call that is not refused does what the ledger says: a deal of u with c = u − f(0), a sum, masks.
-abbrev pub WrittenBy : Draw → Ledger → CallMove → Type 0
-WrittenBy draw L (loads r pack) = Unit {0}
-WrittenBy draw L (loadsTriple r pack) = Unit {0}
-WrittenBy draw L (deals r c) = (u : ℕ) × (u < p) × (L r ≡ dealt u) × (c ≡ dealerNumber u (getD (rawDraw draw r) 0 0) .value)
-WrittenBy draw L (opens r blocks) = Unit {0}
-WrittenBy draw L (adds r a b s) = L r ≡ sum a b s
-WrittenBy draw L (factors a b r) = L (r + 2) ≡ product r a b
-WrittenBy draw L (multiplies r blocks blocks') = Unit {0}
+abbrev pub WrittenBy : Draw → Ledger → (a : Act) → Given Actual (takes a) → Type 0
+WrittenBy draw L (loads r) pack = Unit {0}
+WrittenBy draw L (loadsTriple r) pack = Unit {0}
+WrittenBy draw L (deals r) c = (u : ℕ) × (u < p) × (L r ≡ dealt u) × (c ≡ dealerNumber u (getD (rawDraw draw r) 0 0) .value)
+WrittenBy draw L (opens r) blocks = Unit {0}
+WrittenBy draw L (adds r a b s) x = L r ≡ sum a b s
+WrittenBy draw L (factors a b r) x = L (r + 2) ≡ product r a b
+WrittenBy draw L (multiplies r) blocks = Unit {0}
 
 abbrev pub Written : Draw → Ledger → Call → Type 0
-Written draw L c = All (WrittenBy draw L) (moves c)
+Written draw L c = Every (λ m. WrittenBy draw L (m .0) (m .1)) (moves c)
 
 -- The plain number of a row, by the ledger alone.
 pub data Plain (L : Ledger) : ℕ → ℕ → Type 0 where

@@ -12,21 +12,21 @@ use Rattle.session.specs.Rows.{width, coefficients, rowAt}
 use Rattle.opening.specs.Walking.{sent, acceptedPosts}
 use Rattle.product.specs.Finish.{maskA, maskB}
 use Rattle.runs.specs.Draws.{Plan, Draw, IsRaw, rawPack, triplePack}
-use Rattle.runs.specs.Calls.{Post, Call, CallMove, loads, loadsTriple, deals, opens, adds, factors, multiplies, moves, ToldHalf}
+use Rattle.runs.specs.Outline.{Taking, nothingTaken, aRowPack, aTriplePack, aNumber, aRecord, twoRecords, takes, Given, moves, Every}
+use Rattle.runs.specs.Calls.{Post, Actual, Call, ToldHalf}
 use Rattle.correctness.specs.History.{World}
 
 -- "sessions of one draw": what a post loads is its own part of what was drawn for those rows.
-abbrev pub OwnBy : Plan → Draw → ℕ → CallMove → Type 0
-OwnBy plan draw i (loads r pack) = IsRaw (plan .raw r) × (pack ≡ rawPack plan draw i r)
-OwnBy plan draw i (loadsTriple r pack) = (plan .triple r ≡ true) × (pack ≡ triplePack plan draw i r)
-OwnBy plan draw i (deals r c) = Unit {0}
-OwnBy plan draw i (opens r blocks) = Unit {0}
-OwnBy plan draw i (adds r a b s) = Unit {0}
-OwnBy plan draw i (factors a b r) = Unit {0}
-OwnBy plan draw i (multiplies r blocks blocks') = Unit {0}
+abbrev pub OwnWith : Plan → Draw → ℕ → (t : Taking) → Given Actual t → Type 0
+OwnWith plan draw i nothingTaken x = Unit {0}
+OwnWith plan draw i (aRowPack r) pack = IsRaw (plan .raw r) × (pack ≡ rawPack plan draw i r)
+OwnWith plan draw i (aTriplePack r) pack = (plan .triple r ≡ true) × (pack ≡ triplePack plan draw i r)
+OwnWith plan draw i (aNumber r) c = Unit {0}
+OwnWith plan draw i (aRecord r) blocks = Unit {0}
+OwnWith plan draw i (twoRecords r) blocks = Unit {0}
 
 abbrev pub OwnPart : Plan → Draw → ℕ → Call → Type 0
-OwnPart plan draw i c = All (OwnBy plan draw i) (moves c)
+OwnPart plan draw i c = Every (λ m. OwnWith plan draw i (takes (m .0)) (m .1)) (moves c)
 
 -- What j holds now of row r, whether it was sent or not; what it sent is `Told`.
 abbrev pub Owned : World → ℕ → ℕ → List ℕ → Type 0
@@ -39,17 +39,16 @@ abbrev pub TrueOf : (ℕ → List ℕ → Type 0) → Session → List ℕ → L
 TrueOf P s row blocks = All (λ j. j ≢ s .post → P j (sent s row blocks j)) (acceptedPosts s row blocks)
 
 -- In a finish: of both records.
-abbrev pub TrueBy : Post → List (List ℕ) → CallMove → Type 0
-TrueBy q lines (loads r pack) = Unit {0}
-TrueBy q lines (loadsTriple r pack) = Unit {0}
-TrueBy q lines (deals r c) = Unit {0}
-TrueBy q lines (opens r blocks) = Unit {0}
-TrueBy q lines (adds r a b s) = Unit {0}
-TrueBy q lines (factors a b r) = Unit {0}
-TrueBy q lines (multiplies r blocks blocks') =
+abbrev pub TrueWith : Post → List (List ℕ) → (t : Taking) → Given Actual t → Type 0
+TrueWith q lines nothingTaken x = Unit {0}
+TrueWith q lines (aRowPack r) pack = Unit {0}
+TrueWith q lines (aTriplePack r) pack = Unit {0}
+TrueWith q lines (aNumber r) c = Unit {0}
+TrueWith q lines (aRecord r) blocks = Unit {0}
+TrueWith q lines (twoRecords r) blocks =
     let s = q .session in
-    TrueOf (ToldHalf (s .t) (take (s .t + 1)) r lines) s (maskA s (q .rows) r) blocks
-    × TrueOf (ToldHalf (s .t) (drop (s .t + 1)) r lines) s (maskB s (q .rows) r) blocks'
+    TrueOf (ToldHalf (s .t) (take (s .t + 1)) r lines) s (maskA s (q .rows) r) (blocks .0)
+    × TrueOf (ToldHalf (s .t) (drop (s .t + 1)) r lines) s (maskB s (q .rows) r) (blocks .1)
 
 abbrev pub TrueFinish : Post → List (List ℕ) → Call → Type 0
-TrueFinish q lines c = All (TrueBy q lines) (moves c)
+TrueFinish q lines c = Every (λ m. TrueWith q lines (takes (m .0)) (m .1)) (moves c)

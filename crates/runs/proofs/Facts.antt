@@ -3,13 +3,14 @@ use Prim.Native.Nat.{ℕ, _+_, _<_}
 use mathlib.Core.Path.{_≡_}
 use mathlib.Core.Bool.{true}
 use mathlib.Core.Logic.{_⊎_}
-use mathlib.Core.List.{List, [], _∷_}
+use mathlib.Core.List.{List, [], _∷_, map}
 use Rattle.field.specs.Element.{element}
 use Rattle.poly.specs.Counting.{All}
 use Rattle.vectors.specs.Vector.{Vector, plusTimes, raised}
 use Rattle.runs.specs.Draws.{Plan, Draw, IsRaw}
-use Rattle.runs.specs.Calls.{Call, Sending, silence, itsOpening, itsMasks, Move, CallMove, loads, loadsTriple, deals, opens, adds, factors, multiplies, outline, moves, Among}
-use Rattle.runs.proofs.Marks.{Marks, markOf, leftOf, rightOf, rawVector, vectorA, vectorB, vectorAB, written, marksBy}
+use Rattle.runs.specs.Outline.{Act, loads, loadsTriple, deals, opens, adds, factors, multiplies, Taking, nothingTaken, aRowPack, aTriplePack, aNumber, aRecord, twoRecords, takes, Sending, itsOpening, itsMasks}
+use Rattle.runs.specs.Calls.{Among}
+use Rattle.runs.proofs.Marks.{Marks, markOf, leftOf, rightOf, rawVector, vectorA, vectorB, vectorAB, written, Masking, none, of, masking, marksBy}
 
 -- ---- What the marks allow, of a call that is not refused.
 
@@ -32,53 +33,54 @@ pub record Multiplying (mark : ℕ) (M : Marks) (a b r : ℕ) : Type 0 where
   pub second : markOf M (r + 1) ≡ 4
   pub third : markOf M (r + 2) ≡ 4
 
-abbrev pub AllowedBy : {P N B : Type 0} → Move P N B → Marks → Type 0
-AllowedBy (loads r pack) M = (r < 96) × (markOf M r ≡ 0)
-AllowedBy (loadsTriple r pack) M = (r < 94) × (markOf M r ≡ 0) × (markOf M (r + 1) ≡ 0) × (markOf M (r + 2) ≡ 0)
-AllowedBy (deals r c) M = (r < 96) × (markOf M r ≡ 1)
-AllowedBy (opens r blocks) M = (r < 96) × (markOf M r ≡ 2)
-AllowedBy (adds r a b scale) M = Summing M r a b
-AllowedBy (factors a b r) M = Multiplying 3 M a b r
-AllowedBy (multiplies r blocks blocks') M = Multiplying 5 M (leftOf M r) (rightOf M r) r
+abbrev pub Needed : Act → Marks → Type 0
+Needed (loads r) M = (r < 96) × (markOf M r ≡ 0)
+Needed (loadsTriple r) M = (r < 94) × (markOf M r ≡ 0) × (markOf M (r + 1) ≡ 0) × (markOf M (r + 2) ≡ 0)
+Needed (deals r) M = (r < 96) × (markOf M r ≡ 1)
+Needed (opens r) M = (r < 96) × (markOf M r ≡ 2)
+Needed (adds r a b scale) M = Summing M r a b
+Needed (factors a b r) M = Unit {0}
+Needed (multiplies r) M = Multiplying 5 M (leftOf M r) (rightOf M r) r
 
-abbrev pub AllowedAll : {P N B : Type 0} → List (Move P N B) → Marks → Type 0
+abbrev pub Maskable : Masking → Marks → Type 0
+Maskable none M = Unit {0}
+Maskable (of a b r) M = Multiplying 3 M a b r
+
+abbrev pub AllowedBy : Act → Marks → Type 0
+AllowedBy a M = Needed a M × Maskable (masking a) M
+
+abbrev pub AllowedAll : List Act → Marks → Type 0
 AllowedAll [] M = Unit {0}
-AllowedAll (c ∷ cs) M = AllowedBy c M × AllowedAll cs (marksBy c M)
+AllowedAll (a ∷ todo) M = AllowedBy a M × AllowedAll todo (marksBy a M)
 
 -- records are opened by the rows as they are before the call
-abbrev pub Ready : Marks → CallMove → Type 0
-Ready M (loads r pack) = Unit {0}
-Ready M (loadsTriple r pack) = Unit {0}
-Ready M (deals r c) = Unit {0}
-Ready M (opens r blocks) = Unit {0}
-Ready M (adds r a b scale) = Unit {0}
-Ready M (factors a b r) = Unit {0}
-Ready M (multiplies r blocks blocks') = Multiplying 5 M (leftOf M r) (rightOf M r) r
+abbrev pub ReadyFor : Marks → Taking → Type 0
+ReadyFor M nothingTaken = Unit {0}
+ReadyFor M (aRowPack r) = Unit {0}
+ReadyFor M (aTriplePack r) = Unit {0}
+ReadyFor M (aNumber r) = Unit {0}
+ReadyFor M (aRecord r) = Unit {0}
+ReadyFor M (twoRecords r) = Multiplying 5 M (leftOf M r) (rightOf M r) r
 
 -- what is sent: of a held row; of factors that the call notes
-abbrev pub Sendable : List CallMove → Sending → Marks → Type 0
-Sendable cs silence M = Unit {0}
-Sendable cs (itsOpening r) M = (r < 96) × (markOf M r ≡ 2)
-Sendable cs (itsMasks a b r) M = Multiplying 3 M a b r × Among (factors a b r) cs
+abbrev pub Sendable : List Act → Marks → Sending → Type 0
+Sendable todo M (itsOpening r) = (r < 96) × (markOf M r ≡ 2)
+Sendable todo M (itsMasks a b r) = Multiplying 3 M a b r × Among (of a b r) (map masking todo)
 
-pub record Allowed (c : Call) (M : Marks) : Type 0 where
-  pub moving : AllowedAll (moves c) M
-  pub ready : All (Ready M) (moves c)
-  pub sending : Sendable (moves c) (outline c .sends) M
+-- of a call with these acts and lines
+pub record Allowed (todo : List Act) (ss : List Sending) (M : Marks) : Type 0 where
+  pub moving : AllowedAll todo M
+  pub ready : All (λ a. ReadyFor M (takes a)) todo
+  pub sending : All (Sendable todo M) ss
 
--- masks whose triple starts at row q
-abbrev pub MasksBy : {P N B : Type 0} → Move P N B → ℕ → Type 0
-MasksBy (loads r pack) q = ⊥
-MasksBy (loadsTriple r pack) q = ⊥
-MasksBy (deals r c) q = ⊥
-MasksBy (opens r blocks) q = ⊥
-MasksBy (adds r a b scale) q = ⊥
-MasksBy (factors a b r) q = q ≡ r
-MasksBy (multiplies r blocks blocks') q = ⊥
+-- masks by the triple at q
+abbrev pub MasksBy : Masking → ℕ → Type 0
+MasksBy none q = ⊥
+MasksBy (of a b r) q = q ≡ r
 
-abbrev pub MasksIn : {P N B : Type 0} → List (Move P N B) → ℕ → Type 0
+abbrev pub MasksIn : List Act → ℕ → Type 0
 MasksIn [] q = ⊥
-MasksIn (c ∷ cs) q = MasksBy c q ⊎ MasksIn cs q
+MasksIn (a ∷ todo) q = MasksBy (masking a) q ⊎ MasksIn todo q
 
 -- ---- What the marks say. `Held r X`: the vector of the held row r may be X. `Waits r a b`: the triple at r may wait with the
 -- factors a and b.
@@ -111,12 +113,12 @@ module _ (plan : Plan) (draw : Draw) where
     abbrev pub Facts : Marks → (ℕ → Vector) → Type 0
     Facts M vec = (r : ℕ) → r < 96 → Fact M vec r
 
-    -- what a move must bring
-    abbrev pub Meant : CallMove → Marks → (ℕ → Vector) → Type 0
-    Meant (loads r pack) M vec = IsRaw (plan .raw r)
-    Meant (loadsTriple r pack) M vec = plan .triple r ≡ true
-    Meant (deals r c) M vec = Held r (raised (element c) (vec r))
-    Meant (opens r blocks) M vec = Unit {0}
-    Meant (adds r a b scale) M vec = Held r (plusTimes (element scale) (vec a) (vec b))
-    Meant (factors a b r) M vec = Waits r a b
-    Meant (multiplies r blocks blocks') M vec = Held (r + 2) (written M vec r)
+    -- what an act must bring, with the number c that it takes
+    abbrev pub Meant : Act → ℕ → Marks → (ℕ → Vector) → Type 0
+    Meant (loads r) c M vec = IsRaw (plan .raw r)
+    Meant (loadsTriple r) c M vec = plan .triple r ≡ true
+    Meant (deals r) c M vec = Held r (raised (element c) (vec r))
+    Meant (opens r) c M vec = Unit {0}
+    Meant (adds r a b scale) c M vec = Held r (plusTimes (element scale) (vec a) (vec b))
+    Meant (factors a b r) c M vec = Waits r a b
+    Meant (multiplies r) c M vec = Held (r + 2) (written M vec r)

@@ -12,7 +12,8 @@ use Rattle.field.specs.Element.{element}
 use Rattle.session.specs.declared.Session.{Session}
 use Rattle.vectors.specs.Vector.{Vector, plusTimes, raised, number, vectorOf}
 use Rattle.runs.specs.Draws.{Plan, Draw, pointOf, rawDraw, drawA, drawB, drawAB}
-use Rattle.runs.specs.Calls.{Call, Move, CallMove, loads, loadsTriple, deals, opens, adds, factors, multiplies, moves, at}
+use Rattle.runs.specs.Outline.{Kinds, Act, loads, loadsTriple, deals, opens, adds, factors, multiplies, Taking, nothingTaken, aRowPack, aTriplePack, aNumber, aRecord, twoRecords, takes, Given, Move}
+use Rattle.runs.specs.Calls.{Actual, at}
 
 -- a function changed at one place
 pub at-same : {A : Type 0} (f : ℕ → A) (r : ℕ) (x : A) → at f r x r ≡ x
@@ -48,12 +49,6 @@ pub record Sized (M : Marks) : Type 0 where
 
 abbrev pub remarked : Marks → ℕ → ℕ → Marks
 remarked M r m = record { marks = set (M .marks) r m; left = M .left; right = M .right }
-
-abbrev pub masked : Marks → ℕ → ℕ → ℕ → Marks
-masked M r a b = record { marks = set (M .marks) r 5; left = set (M .left) r a; right = set (M .right) r b }
-
-abbrev pub tripled : Marks → ℕ → Marks
-tripled M r = remarked (remarked (remarked M r 3) (r + 1) 4) (r + 2) 4
 
 abbrev pub finished : Marks → ℕ → Marks
 finished M r = remarked (remarked (remarked M r 6) (r + 1) 6) (r + 2) 2
@@ -93,37 +88,77 @@ maskB M vec r = less (vec (rightOf M r)) (vec (r + 1))
 abbrev pub written : Marks → (ℕ → Vector) → ℕ → Vector
 written M vec r = productVector (number (maskA M vec r) .0) (number (maskB M vec r) .0) (vec r) (vec (r + 1)) (vec (r + 2))
 
--- after a call that is not refused
-abbrev pub marksBy : {P N B : Type 0} → Move P N B → Marks → Marks
-marksBy (loads r pack) M = remarked M r 1
-marksBy (loadsTriple r pack) M = tripled M r
-marksBy (deals r c) M = remarked M r 2
-marksBy (opens r blocks) M = M
-marksBy (adds r a b scale) M = remarked M r 2
-marksBy (factors a b r) M = masked M r a b
-marksBy (multiplies r blocks blocks') M = finished M r
+-- ---- One act: the marks that it writes, the masks that it makes, the vectors.
 
-abbrev pub vectorsBy : Plan → Draw → CallMove → Marks → (ℕ → Vector) → ℕ → Vector
-vectorsBy plan draw (loads r pack) M vec = at vec r (rawVector plan draw r)
-vectorsBy plan draw (loadsTriple r pack) M vec =
+pub record Mark : Type 0 where
+  pub row : ℕ
+  pub is : ℕ
+
+abbrev mark : ℕ → ℕ → Mark
+mark r m = record { row = r; is = m }
+
+abbrev pub marksOf : Act → List Mark
+marksOf (loads r) = mark r 1 ∷ []
+marksOf (loadsTriple r) = mark r 3 ∷ mark (r + 1) 4 ∷ mark (r + 2) 4 ∷ []
+marksOf (deals r) = mark r 2 ∷ []
+marksOf (opens r) = []
+marksOf (adds r a b scale) = mark r 2 ∷ []
+marksOf (factors a b r) = []
+marksOf (multiplies r) = mark r 6 ∷ mark (r + 1) 6 ∷ mark (r + 2) 2 ∷ []
+
+-- the masks that an act makes: none, or of the rows a and b by the triple at r, which then has mark 5 and remembers a and b
+pub data Masking : Type 0 where
+  none : Masking
+  of : (a b r : ℕ) → Masking
+
+abbrev pub masking : Act → Masking
+masking (loads r) = none
+masking (loadsTriple r) = none
+masking (deals r) = none
+masking (opens r) = none
+masking (adds r a b scale) = none
+masking (factors a b r) = of a b r
+masking (multiplies r) = none
+
+abbrev pub markAll : List Mark → Marks → Marks
+markAll [] M = M
+markAll (m ∷ ms) M = markAll ms (remarked M (m .row) (m .is))
+
+abbrev pub remembered : Masking → Marks → Marks
+remembered none M = M
+remembered (of a b r) M = record { marks = set (M .marks) r 5; left = set (M .left) r a; right = set (M .right) r b }
+
+abbrev pub marksBy : Act → Marks → Marks
+marksBy act M = remembered (masking act) (markAll (marksOf act) M)
+
+-- with the number c that it takes
+abbrev pub vectorsBy : Plan → Draw → Act → ℕ → Marks → (ℕ → Vector) → ℕ → Vector
+vectorsBy plan draw (loads r) c M vec = at vec r (rawVector plan draw r)
+vectorsBy plan draw (loadsTriple r) c M vec =
     at (at (at vec r (vectorA plan draw r)) (r + 1) (vectorB plan draw r)) (r + 2) (vectorAB plan draw r)
-vectorsBy plan draw (deals r c) M vec = at vec r (raised (element c) (vec r))
-vectorsBy plan draw (opens r blocks) M vec = vec
-vectorsBy plan draw (adds r a b scale) M vec = at vec r (plusTimes (element scale) (vec a) (vec b))
-vectorsBy plan draw (factors a b r) M vec = vec
-vectorsBy plan draw (multiplies r blocks blocks') M vec = at vec (r + 2) (written M vec r)
+vectorsBy plan draw (deals r) c M vec = at vec r (raised (element c) (vec r))
+vectorsBy plan draw (opens r) c M vec = vec
+vectorsBy plan draw (adds r a b scale) c M vec = at vec r (plusTimes (element scale) (vec a) (vec b))
+vectorsBy plan draw (factors a b r) c M vec = vec
+vectorsBy plan draw (multiplies r) c M vec = at vec (r + 2) (written M vec r)
 
--- one move after the other
-abbrev pub marksAll : {P N B : Type 0} → List (Move P N B) → Marks → Marks
+-- ---- One act after the other.
+
+abbrev pub marksAll : List Act → Marks → Marks
 marksAll [] M = M
-marksAll (c ∷ cs) M = marksAll cs (marksBy c M)
+marksAll (a ∷ todo) M = marksAll todo (marksBy a M)
 
-abbrev pub vectorsAll : Plan → Draw → List CallMove → Marks → (ℕ → Vector) → ℕ → Vector
-vectorsAll plan draw [] M vec = vec
-vectorsAll plan draw (c ∷ cs) M vec = vectorsAll plan draw cs (marksBy c M) (vectorsBy plan draw c M vec)
+-- the number in what is given, 0 where there is none
+abbrev pub numberIn : (t : Taking) → Given Actual t → ℕ
+numberIn nothingTaken x = 0
+numberIn (aRowPack r) x = 0
+numberIn (aTriplePack r) x = 0
+numberIn (aNumber r) x = x
+numberIn (aRecord r) x = 0
+numberIn (twoRecords r) x = 0
 
-abbrev pub marksAfter : Call → Marks → Marks
-marksAfter c M = marksAll (moves c) M
-
-abbrev pub vectorsAfter : Plan → Draw → Call → Marks → (ℕ → Vector) → ℕ → Vector
-vectorsAfter plan draw c M vec = vectorsAll plan draw (moves c) M vec
+-- `num` gives the number that a move takes
+abbrev pub vectorsAll : Plan → Draw → {K : Kinds} → ((t : Taking) → Given K t → ℕ) → List (Move K) → Marks → (ℕ → Vector) → ℕ → Vector
+vectorsAll plan draw num [] M vec = vec
+vectorsAll plan draw num (m ∷ ms) M vec =
+    vectorsAll plan draw num ms (marksBy (m .0) M) (vectorsBy plan draw (m .0) (num (takes (m .0)) (m .1)) M vec)

@@ -1,14 +1,24 @@
 -- What a call gives, by its refusal: the post as it came, or the call's own session and rows.
-use Prim.Native.Nat.{ℕ, zero, suc}
-use mathlib.Core.Path.{_≡_, refl}
+use Prim.Native.Nat.{ℕ, zero, suc, _+_}
+use mathlib.Core.Path.{_≡_, refl, _∙_, ap, ap₂}
 use mathlib.Core.Bool.{Bool, false}
 use mathlib.Core.List.{List, [], _∷_}
 use native.Mathlib.Omega.{arith}
 use Rattle.refusal.specs.Refusal.{Test, _when_, first, outcome, AllFail}
 use Rattle.refusal.proofs.Laws.{Numbered, all-fail}
 use Rattle.session.specs.declared.Session.{Session}
-use Rattle.session.specs.Sessions.{answer}
-use Rattle.runs.specs.Calls.{Post, Call, Doing, does, perform, after}
+use Rattle.session.specs.Sessions.{answer, marked, remembering}
+use Rattle.session.specs.Rows.{width, coefficients, sumsAt, rowAt, withRow, combined, plusSums}
+use Rattle.sharing.specs.Load.{loadRowRefusal, loadTripleRefusal, withTriple}
+use Rattle.sharing.specs.Deal.{dealRefusal}
+use Rattle.sharing.specs.Message.{messageRefusal}
+use Rattle.sharing.specs.Linear.{linearRefusal}
+use Rattle.opening.specs.Walking.{opened}
+use Rattle.opening.specs.Opening.{openRefusal}
+use Rattle.product.specs.Masks.{masksRefusal, maskNumbersOf}
+use Rattle.product.specs.Finish.{finishRefusal, withProduct, maskA, maskB}
+use Rattle.runs.specs.Outline.{loadRow, loadTriple, deal, message, opening, linear, masks, finish, Sending}
+use Rattle.runs.specs.Calls.{Post, Call, Left, left, perform, after, lineOf, sentIf, sentBy}
 
 -- ---- no refusal: every test fails, read by its place in the list
 
@@ -52,25 +62,114 @@ returned (suc k) v new old l' l j e = refl
 
 -- ---- the calls
 
+-- What a call does at a post: its refusal; and, where that is 0, its value, the session, the rows, and what is written into the
+-- list that it was lent.
+pub record Doing : Type 0 where
+  pub refusal : ℕ
+  pub value : ℕ
+  pub session : Session
+  pub rows : List ℕ
+  pub lent : List (List ℕ)
+  pub written : List (List ℕ)
+
+abbrev changes : ℕ → Session → List ℕ → Doing
+changes k s rows = record { refusal = k; value = 0; session = s; rows = rows; lent = []; written = [] }
+
+abbrev writes : ℕ → Session → List ℕ → List ℕ → List ℕ → Doing
+writes k s rows lent written = record { refusal = k; value = 0; session = s; rows = rows; lent = lent ∷ []; written = written ∷ [] }
+
+abbrev pub does : Call → Post → Doing
+does (loadRow x) q =
+    let s = q .session in
+    changes (loadRowRefusal s (q .rows) (x .r) (x .pack)) (marked s (x .r) 1) (withRow (width s) (x .r) (x .pack) (q .rows))
+does (loadTriple x) q =
+    let s = q .session in
+    changes (loadTripleRefusal s (q .rows) (x .r) (x .pack)) (marked (marked (marked s (x .r) 3) (x .r + 1) 4) (x .r + 2) 4)
+    (withTriple (width s) (x .r) (x .pack) (q .rows))
+does (deal x) q =
+    let s = q .session in
+    changes (dealRefusal s (q .rows) (x .r) (x .c)) (marked s (x .r) 2)
+    (withRow (width s) (x .r) (plusSums (sumsAt s) (x .c) (rowAt (width s) (q .rows) (x .r))) (q .rows))
+does (message x) q =
+    let s = q .session in
+    writes (messageRefusal s (q .rows) (x .r) (x .lent)) s (q .rows) (x .lent) (coefficients s (rowAt (width s) (q .rows) (x .r)))
+does (opening x) q =
+    let s = q .session in
+    record {
+      refusal = openRefusal s (q .rows) (x .r) (x .blocks);
+      value = opened s (rowAt (width s) (q .rows) (x .r)) (x .blocks);
+      session = s;
+      rows = q .rows;
+      lent = [];
+      written = [];
+    }
+does (linear x) q =
+    let s = q .session in
+    changes (linearRefusal s (q .rows) (x .r) (x .a) (x .b) (x .scale)) (marked s (x .r) 2)
+    (withRow (width s) (x .r) (combined (x .scale) (rowAt (width s) (q .rows) (x .a)) (rowAt (width s) (q .rows) (x .b))) (q .rows))
+does (masks x) q =
+    let s = q .session in
+    writes (masksRefusal s (q .rows) (x .a) (x .b) (x .r) (x .lent)) (remembering (marked s (x .r) 5) (x .r) (x .a) (x .b)) (q .rows)
+    (x .lent) (maskNumbersOf s (q .rows) (x .a) (x .b) (x .r))
+does (finish x) q =
+    let s = q .session in
+    changes (finishRefusal s (q .rows) (x .r) (x .blocks) (x .blocks')) (marked (marked (marked s (x .r) 6) (x .r + 1) 6) (x .r + 2) 2)
+    (withProduct s (opened s (maskA s (q .rows) (x .r)) (x .blocks)) (opened s (maskB s (q .rows) (x .r)) (x .blocks')) (x .r) (q .rows))
+
+-- "Refused ... every lent list as it came": the answer, the rows and the lent list of every contract are of this form
+abbrev left-by : Doing → Post → Left
+left-by d q =
+    left (answer (d .refusal) (d .value) (d .session) (q .session)) (outcome (d .refusal) (d .rows) (q .rows))
+    (outcome (d .refusal) (d .written) (d .lent))
+
+-- rows, or no list lent: as they were in either case
+module _ {A : Type 0} where
+  still : (k : ℕ) (x : A) → x ≡ outcome k x x
+  unfolding outcome
+  still zero x = refl
+  still (suc k) x = refl
+
+  single : (k : ℕ) (x y : A) → outcome k x y ∷ [] ≡ outcome k (x ∷ []) (y ∷ [])
+  unfolding outcome
+  single zero x y = refl
+  single (suc k) x y = refl
+
+performs : (c : Call) (q : Post) → perform c q ≡ left-by (does c q) q
+unfolding perform
+performs (loadRow x) q = ap (left _ _) (still _ [])
+performs (loadTriple x) q = ap (left _ _) (still _ [])
+performs (deal x) q = ap (left _ _) (still _ [])
+performs (message x) q = ap₂ (left _) (still _ (q .rows)) (single _ _ _)
+performs (opening x) q = ap₂ (left _) (still _ (q .rows)) (still _ [])
+performs (linear x) q = ap (left _ _) (still _ [])
+performs (masks x) q = ap₂ (left _) (still _ (q .rows)) (single _ _ _)
+performs (finish x) q = ap (left _ _) (still _ [])
+
 abbrev pub refusalOf : Call → Post → ℕ
 refusalOf c q = does c q .refusal
 
 pub refusal-is : (c : Call) (q : Post) → perform c q .answer .refusal ≡ refusalOf c q
-unfolding perform
-refusal-is c q = answer-refusal _ _ _ _
+refusal-is c q = ap (λ (o : Left). o .answer .refusal) (performs c q) ∙ answer-refusal _ _ _ _
+
+pub value-is : (c : Call) (q : Post) → perform c q .answer .value ≡ answer (does c q .refusal) (does c q .value) (does c q .session) (q .session) .value
+value-is c q = ap (λ (o : Left). o .answer .value) (performs c q)
 
 -- not refused: the call's own session and rows; refused: the post as it came
 abbrev pub own : Doing → Post
 own d = record { session = d .session; rows = d .rows }
 
 pub done : (c : Call) (q : Post) → refusalOf c q ≡ 0 → after (perform c q) ≡ own (does c q)
-unfolding perform
-done c q z = settled _ _ _ _ _ _ z
+done c q z = ap after (performs c q) ∙ settled _ _ _ _ _ _ z
 
 pub written-is : (c : Call) (q : Post) → refusalOf c q ≡ 0 → perform c q .lent ≡ does c q .written
-unfolding perform
-written-is c q z = done-is _ _ _ z
+written-is c q z = ap (λ (o : Left). o .lent) (performs c q) ∙ done-is _ _ _ z
 
 pub refused : (c : Call) (q : Post) (k : ℕ) → refusalOf c q ≡ suc k → after (perform c q) ≡ q
-unfolding perform
-refused c q k e = returned _ _ _ _ _ _ k e
+refused c q k e = ap after (performs c q) ∙ returned _ _ _ _ _ _ k e
+
+-- and nothing is sent
+pub silent : (i j k : ℕ) (ss : List Sending) (parts : List (List ℕ)) → j ≡ suc k → sentBy i j ss parts ≡ []
+silent i j k [] parts e = refl
+silent i j k (s ∷ ss) [] e = refl
+silent i j k (s ∷ ss) (xs ∷ parts) e =
+    ap (λ (m : ℕ). sentIf m (lineOf i s xs) (sentBy i j ss parts)) e ∙ silent i j k ss parts e

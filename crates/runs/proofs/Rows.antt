@@ -2,41 +2,42 @@
 use Prim.Native.Nat.{ℕ, suc, _+_, _<_}
 use mathlib.Core.Path.{_≡_, refl, sym, _∙_, ap, subst}
 use mathlib.Core.Logic.{_≢_, _⊎_, inl, inr}
-use mathlib.Core.List.{List, [], _∷_}
+use mathlib.Core.List.{List, [], _∷_, map}
 use native.Mathlib.Decide.{ℕ-discrete, decLt}
 use native.Mathlib.Omega.{arith}
 use lib.ListN.{length-set, List·getD-eq-default}
 use lib.Seq.{getD-set-same, getD-set-other}
 use Rattle.vectors.specs.Vector.{Vector}
 use Rattle.runs.specs.Draws.{Plan, Draw}
-use Rattle.runs.specs.Calls.{Move, CallMove, loads, loadsTriple, deals, opens, adds, factors, multiplies, Among, at}
-use Rattle.runs.proofs.Marks.{at-other, Marks, markOf, leftOf, rightOf, Sized, remarked, masked, rawVector, marksBy, vectorsBy, marksAll, vectorsAll}
-use Rattle.runs.proofs.Facts.{AllowedBy, AllowedAll, MasksBy, MasksIn}
+use Rattle.runs.specs.Outline.{Kinds, Act, loads, loadsTriple, deals, opens, adds, factors, multiplies, Taking, takes, Given, Move, actsIn}
+use Rattle.runs.specs.Calls.{Among, at}
+use Rattle.runs.proofs.Marks.{at-other, Marks, markOf, leftOf, rightOf, Sized, remarked, rawVector, Mark, Masking, none, of, masking, marksOf, markAll, remembered, marksBy, vectorsBy, marksAll, vectorsAll}
+use Rattle.runs.proofs.Facts.{Maskable, AllowedBy, AllowedAll, MasksBy, MasksIn}
 
 -- ---- The rows that a call writes: which, the mark before, the mark after.
 
-pub data Turn : CallMove → ℕ → ℕ → ℕ → Type 0 where
-  raw : {r : ℕ} {pack : List ℕ} → Turn (loads r pack) r 0 1
-  first : {r : ℕ} {pack : List ℕ} → Turn (loadsTriple r pack) r 0 3
-  second : {r : ℕ} {pack : List ℕ} → Turn (loadsTriple r pack) (r + 1) 0 4
-  third : {r : ℕ} {pack : List ℕ} → Turn (loadsTriple r pack) (r + 2) 0 4
-  dealt : {r c : ℕ} → Turn (deals r c) r 1 2
+pub data Turn : Act → ℕ → ℕ → ℕ → Type 0 where
+  raw : {r : ℕ} → Turn (loads r) r 0 1
+  first : {r : ℕ} → Turn (loadsTriple r) r 0 3
+  second : {r : ℕ} → Turn (loadsTriple r) (r + 1) 0 4
+  third : {r : ℕ} → Turn (loadsTriple r) (r + 2) 0 4
+  dealt : {r : ℕ} → Turn (deals r) r 1 2
   summed : {r a b scale : ℕ} → Turn (adds r a b scale) r 0 2
   waiting : {a b r : ℕ} → Turn (factors a b r) r 3 5
-  spent : {r : ℕ} {blocks blocks' : List ℕ} → Turn (multiplies r blocks blocks') r 5 6
-  spent' : {r : ℕ} {blocks blocks' : List ℕ} → Turn (multiplies r blocks blocks') (r + 1) 4 6
-  multiplied : {r : ℕ} {blocks blocks' : List ℕ} → Turn (multiplies r blocks blocks') (r + 2) 4 2
+  spent : {r : ℕ} → Turn (multiplies r) r 5 6
+  spent' : {r : ℕ} → Turn (multiplies r) (r + 1) 4 6
+  multiplied : {r : ℕ} → Turn (multiplies r) (r + 2) 4 2
 
-from-two : {A : Type 0} {c : CallMove} {q m : ℕ} → Turn c q 2 m → A
+from-two : {A : Type 0} {a : Act} {q m : ℕ} → Turn a q 2 m → A
 from-two t = elim t [ ]
 
-from-six : {A : Type 0} {c : CallMove} {q m : ℕ} → Turn c q 6 m → A
+from-six : {A : Type 0} {a : Act} {q m : ℕ} → Turn a q 6 m → A
 from-six t = elim t [ ]
 
-from-five : {c : CallMove} {q m : ℕ} → Turn c q 5 m → m ≡ 6
+from-five : {a : Act} {q m : ℕ} → Turn a q 5 m → m ≡ 6
 from-five spent = refl
 
-to-five : {c : CallMove} {q m : ℕ} → Turn c q m 5 → MasksBy c q
+to-five : {a : Act} {q m : ℕ} → Turn a q m 5 → MasksBy (masking a) q
 to-five waiting = refl
 
 -- ---- Marks that are written.
@@ -63,7 +64,7 @@ other M r m vec vec' q ne e = record { mark = past M r m q ne; left = refl; righ
 off-one : (M : Marks) (r m : ℕ) (vec : ℕ → Vector) (X : Vector) (q : ℕ) → q ≢ r → Same M (remarked M r m) vec (at vec r X) q
 off-one M r m vec X q ne = other M r m vec (at vec r X) q ne (at-other vec r X q ne)
 
-pub off-masks : (M : Marks) (r a b : ℕ) (vec : ℕ → Vector) (q : ℕ) → q ≢ r → Same M (masked M r a b) vec vec q
+pub off-masks : (M : Marks) (r a b : ℕ) (vec : ℕ → Vector) (q : ℕ) → q ≢ r → Same M (marksBy (factors a b r) M) vec vec q
 off-masks M r a b vec q ne = record {
   mark = past M r 5 q ne;
   left = getD-set-other (M .left) r q a 0 ne;
@@ -109,58 +110,58 @@ module _ (M : Marks) (r x y z : ℕ) where
 -- ---- Each row's course: its mark turns, or the row is left as it is.
 
 module _ (plan : Plan) (draw : Draw) where
-  pub data Course (c : CallMove) (M : Marks) (vec : ℕ → Vector) (q : ℕ) : Type 0 where
-    turned : Turn c q (markOf M q) (markOf (marksBy c M) q) → Course c M vec q
-    same : Same M (marksBy c M) vec (vectorsBy plan draw c M vec) q → Course c M vec q
+  pub data Course (a : Act) (c : ℕ) (M : Marks) (vec : ℕ → Vector) (q : ℕ) : Type 0 where
+    turned : Turn a q (markOf M q) (markOf (marksBy a M) q) → Course a c M vec q
+    same : Same M (marksBy a M) vec (vectorsBy plan draw a c M vec) q → Course a c M vec q
 
   -- row r is written, every other row has a course of its own
-  module _ {c : CallMove} {M : Marks} {vec : ℕ → Vector} where
-    turns : {r m m' : ℕ} → markOf M r ≡ m → markOf (marksBy c M) r ≡ m' → Turn c r m m' → Course c M vec r
+  module _ {a : Act} {c : ℕ} {M : Marks} {vec : ℕ → Vector} where
+    turns : {r m m' : ℕ} → markOf M r ≡ m → markOf (marksBy a M) r ≡ m' → Turn a r m m' → Course a c M vec r
     turns e e' t = turned (rw (e, e') t)
 
-    at-row : (r q : ℕ) → Course c M vec r → (q ≢ r → Course c M vec q) → Course c M vec q
-    at-row r q here there = elim (ℕ-discrete q r) [ yes e ↦ subst (Course c M vec) (sym e) here | no ne ↦ there ne ]
+    at-row : (r q : ℕ) → Course a c M vec r → (q ≢ r → Course a c M vec q) → Course a c M vec q
+    at-row r q here there = elim (ℕ-discrete q r) [ yes e ↦ subst (Course a c M vec) (sym e) here | no ne ↦ there ne ]
 
-  pub course : (c : CallMove) (M : Marks) (vec : ℕ → Vector) → Sized M → AllowedBy c M → (q : ℕ) → Course c M vec q
-  course (loads r pack) M vec z ok q = at-row r q (turns (ok .1) (now M r 1 z (ok .0)) raw) (λ n. same (off-one M r 1 vec _ q n))
-  course (loadsTriple r pack) M vec z ok q =
-      let k = on-three M r 3 4 4 z (ok .0) in
-      at-row r q (turns (ok .1) (k .0) first) (λ n.
-      at-row (r + 1) q (turns (ok .2) (k .1) second) (λ n'.
-      at-row (r + 2) q (turns (ok .3) (k .2) third) (λ n''.
+  pub course : (a : Act) (c : ℕ) (M : Marks) (vec : ℕ → Vector) → Sized M → AllowedBy a M → (q : ℕ) → Course a c M vec q
+  course (loads r) c M vec z ok q = at-row r q (turns (ok .0 .1) (now M r 1 z (ok .0 .0)) raw) (λ n. same (off-one M r 1 vec _ q n))
+  course (loadsTriple r) c M vec z ok q =
+      let k = on-three M r 3 4 4 z (ok .0 .0) in
+      at-row r q (turns (ok .0 .1) (k .0) first) (λ n.
+      at-row (r + 1) q (turns (ok .0 .2) (k .1) second) (λ n'.
+      at-row (r + 2) q (turns (ok .0 .3) (k .2) third) (λ n''.
       same (off-three M r 3 4 4 vec _ q n n' n'' (at-other _ (r + 2) _ q n'' ∙ at-other _ (r + 1) _ q n' ∙ at-other vec r _ q n)))))
-  course (deals r c) M vec z ok q = at-row r q (turns (ok .1) (now M r 2 z (ok .0)) dealt) (λ n. same (off-one M r 2 vec _ q n))
-  course (opens r blocks) M vec z ok q = same (record { mark = refl; left = refl; right = refl; vector = refl })
-  course (adds r a b scale) M vec z ok q =
-      at-row r q (turns (ok .r-empty) (now M r 2 z (ok .r-low)) summed) (λ n. same (off-one M r 2 vec _ q n))
-  course (factors a b r) M vec z ok q =
-      at-row r q (turns (ok .first) (now M r 5 z (omega arith)) waiting) (λ n. same (off-masks M r a b vec q n))
-  course (multiplies r blocks blocks') M vec z ok q =
-      let k = on-three M r 6 6 2 z (ok .r-low) in
-      at-row r q (turns (ok .first) (k .0) spent) (λ n.
-      at-row (r + 1) q (turns (ok .second) (k .1) spent') (λ n'.
-      at-row (r + 2) q (turns (ok .third) (k .2) multiplied) (λ n''.
+  course (deals r) c M vec z ok q = at-row r q (turns (ok .0 .1) (now M r 2 z (ok .0 .0)) dealt) (λ n. same (off-one M r 2 vec _ q n))
+  course (opens r) c M vec z ok q = same (record { mark = refl; left = refl; right = refl; vector = refl })
+  course (adds r x y scale) c M vec z ok q =
+      at-row r q (turns (ok .0 .r-empty) (now M r 2 z (ok .0 .r-low)) summed) (λ n. same (off-one M r 2 vec _ q n))
+  course (factors x y r) c M vec z ok q =
+      at-row r q (turns (ok .1 .first) (now M r 5 z (omega arith)) waiting) (λ n. same (off-masks M r x y vec q n))
+  course (multiplies r) c M vec z ok q =
+      let k = on-three M r 6 6 2 z (ok .0 .r-low) in
+      at-row r q (turns (ok .0 .first) (k .0) spent) (λ n.
+      at-row (r + 1) q (turns (ok .0 .second) (k .1) spent') (λ n'.
+      at-row (r + 2) q (turns (ok .0 .third) (k .2) multiplied) (λ n''.
       same (off-three M r 6 6 2 vec _ q n n' n'' (at-other vec (r + 2) _ q n'')))))
 
   -- ---- What stays.
 
   -- held rows, with their vectors
-  pub held-by : (c : CallMove) (M : Marks) (vec : ℕ → Vector) → Sized M → AllowedBy c M → (q : ℕ) → markOf M q ≡ 2
-      → (markOf (marksBy c M) q ≡ 2) × (vectorsBy plan draw c M vec q ≡ vec q)
-  held-by c M vec z ok q h = elim (course c M vec z ok q) [ turned t ↦ from-two (rw h at t) | same s ↦ (s .mark ∙ h, s .vector) ]
+  pub held-by : (a : Act) (c : ℕ) (M : Marks) (vec : ℕ → Vector) → Sized M → AllowedBy a M → (q : ℕ) → markOf M q ≡ 2
+      → (markOf (marksBy a M) q ≡ 2) × (vectorsBy plan draw a c M vec q ≡ vec q)
+  held-by a c M vec z ok q h = elim (course a c M vec z ok q) [ turned t ↦ from-two (rw h at t) | same s ↦ (s .mark ∙ h, s .vector) ]
 
   -- a row whose mark is 5 or 6: it stays so
-  pub past-by : (c : CallMove) (M : Marks) → Sized M → AllowedBy c M → (q : ℕ) → (markOf M q ≡ 5) ⊎ (markOf M q ≡ 6)
-      → (markOf (marksBy c M) q ≡ 5) ⊎ (markOf (marksBy c M) q ≡ 6)
-  past-by c M z ok q h = elim (course c M (rawVector plan draw) z ok q) [
+  pub past-by : (a : Act) (M : Marks) → Sized M → AllowedBy a M → (q : ℕ) → (markOf M q ≡ 5) ⊎ (markOf M q ≡ 6)
+      → (markOf (marksBy a M) q ≡ 5) ⊎ (markOf (marksBy a M) q ≡ 6)
+  past-by a M z ok q h = elim (course a 0 M (rawVector plan draw) z ok q) [
     | turned t ↦ elim h [ inl e ↦ inr (from-five (rw e at t)) | inr e ↦ from-six (rw e at t) ]
     | same s ↦ rw (s .mark) h
   ]
 
-  -- a triple waits after a call: it waited before, with the same factors, or these are its masks
-  pub five-by : (c : CallMove) (M : Marks) → Sized M → AllowedBy c M → (q : ℕ) → q < 96 → markOf (marksBy c M) q ≡ 5
-      → ((markOf M q ≡ 5) × (leftOf (marksBy c M) q ≡ leftOf M q) × (rightOf (marksBy c M) q ≡ rightOf M q)) ⊎ MasksBy c q
-  five-by c M z ok q low h = elim (course c M (rawVector plan draw) z ok q) [
+  -- a triple waits after an act: it waited before, with the same factors, or these are its masks
+  pub five-by : (a : Act) (M : Marks) → Sized M → AllowedBy a M → (q : ℕ) → q < 96 → markOf (marksBy a M) q ≡ 5
+      → ((markOf M q ≡ 5) × (leftOf (marksBy a M) q ≡ leftOf M q) × (rightOf (marksBy a M) q ≡ rightOf M q)) ⊎ MasksBy (masking a) q
+  five-by a M z ok q low h = elim (course a 0 M (rawVector plan draw) z ok q) [
     | turned t ↦ inr (to-five (rw h at t))
     | same s ↦ inl (sym (s .mark) ∙ h, s .left, s .right)
   ]
@@ -173,82 +174,84 @@ marked-low M z r m e = elim (decLt r 96) [
   | no high ↦ absurd (omega (arith, List·getD-eq-default (M .marks) 0 {n = r} (omega arith)))
 ]
 
-pub sized-by : (c : CallMove) (M : Marks) → Sized M → Sized (marksBy c M)
-sized-by (loads r pack) M z = sized-at M r 1 z
-sized-by (loadsTriple r pack) M z = sized-three M r 3 4 4 z
-sized-by (deals r c) M z = sized-at M r 2 z
-sized-by (opens r blocks) M z = z
-sized-by (adds r a b scale) M z = sized-at M r 2 z
-sized-by (factors a b r) M z = record {
-  marks = length-set (M .marks) r 5 ∙ z .marks;
-  left = length-set (M .left) r a ∙ z .left;
-  right = length-set (M .right) r b ∙ z .right;
-}
-sized-by (multiplies r blocks blocks') M z = sized-three M r 6 6 2 z
+pub sized-marks : (ms : List Mark) (M : Marks) → Sized M → Sized (markAll ms M)
+sized-marks [] M z = z
+sized-marks (m ∷ ms) M z = sized-marks ms (remarked M (m .row) (m .is)) (sized-at M (m .row) (m .is) z)
 
--- ---- Moves, one after the other.
+sized-notes : (m : Masking) (M : Marks) → Sized M → Sized (remembered m M)
+sized-notes none M z = z
+sized-notes (of a b r) M z =
+    record { marks = length-set (M .marks) r 5 ∙ z .marks; left = length-set (M .left) r a ∙ z .left; right = length-set (M .right) r b ∙ z .right }
 
-pub sized-after : (cs : List CallMove) (M : Marks) → Sized M → Sized (marksAll cs M)
+pub sized-by : (a : Act) (M : Marks) → Sized M → Sized (marksBy a M)
+sized-by a M z = sized-notes (masking a) (markAll (marksOf a) M) (sized-marks (marksOf a) M z)
+
+-- ---- One act after the other.
+
+pub sized-after : (todo : List Act) (M : Marks) → Sized M → Sized (marksAll todo M)
 sized-after [] M z = z
-sized-after (c ∷ cs) M z = sized-after cs (marksBy c M) (sized-by c M z)
+sized-after (a ∷ todo) M z = sized-after todo (marksBy a M) (sized-by a M z)
 
 module _ (plan : Plan) (draw : Draw) where
-  pub held-stays : (cs : List CallMove) (M : Marks) (vec : ℕ → Vector) → Sized M → AllowedAll cs M → (q : ℕ) → markOf M q ≡ 2
-      → (markOf (marksAll cs M) q ≡ 2) × (vectorsAll plan draw cs M vec q ≡ vec q)
-  held-stays [] M vec z ok q h = (h, refl)
-  held-stays (c ∷ cs) M vec z ok q h =
-      let k = held-by plan draw c M vec z (ok .0) q h in
-      let l = held-stays cs (marksBy c M) (vectorsBy plan draw c M vec) (sized-by c M z) (ok .1) q (k .0) in
+  pub held-stays : {K : Kinds} (num : (t : Taking) → Given K t → ℕ) (ms : List (Move K)) (M : Marks) (vec : ℕ → Vector) → Sized M
+      → AllowedAll (actsIn ms) M → (q : ℕ) → markOf M q ≡ 2
+      → (markOf (marksAll (actsIn ms) M) q ≡ 2) × (vectorsAll plan draw num ms M vec q ≡ vec q)
+  held-stays num [] M vec z ok q h = (h, refl)
+  held-stays num (m ∷ ms) M vec z ok q h =
+      let a = m .0 in
+      let c = num (takes a) (m .1) in
+      let k = held-by plan draw a c M vec z (ok .0) q h in
+      let l = held-stays num ms (marksBy a M) (vectorsBy plan draw a c M vec) (sized-by a M z) (ok .1) q (k .0) in
       (l .0, l .1 ∙ k .1)
 
-  pub past-stays : (cs : List CallMove) (M : Marks) → Sized M → AllowedAll cs M → (q : ℕ) → (markOf M q ≡ 5) ⊎ (markOf M q ≡ 6)
-      → (markOf (marksAll cs M) q ≡ 5) ⊎ (markOf (marksAll cs M) q ≡ 6)
+  pub past-stays : (todo : List Act) (M : Marks) → Sized M → AllowedAll todo M → (q : ℕ) → (markOf M q ≡ 5) ⊎ (markOf M q ≡ 6)
+      → (markOf (marksAll todo M) q ≡ 5) ⊎ (markOf (marksAll todo M) q ≡ 6)
   past-stays [] M z ok q h = h
-  past-stays (c ∷ cs) M z ok q h = past-stays cs (marksBy c M) (sized-by c M z) (ok .1) q (past-by plan draw c M z (ok .0) q h)
+  past-stays (a ∷ todo) M z ok q h = past-stays todo (marksBy a M) (sized-by a M z) (ok .1) q (past-by plan draw a M z (ok .0) q h)
 
-  pub five-before : (cs : List CallMove) (M : Marks) → Sized M → AllowedAll cs M → (q : ℕ) → q < 96 → markOf (marksAll cs M) q ≡ 5
-      → ((markOf M q ≡ 5) × (leftOf (marksAll cs M) q ≡ leftOf M q) × (rightOf (marksAll cs M) q ≡ rightOf M q)) ⊎ MasksIn cs q
+  pub five-before : (todo : List Act) (M : Marks) → Sized M → AllowedAll todo M → (q : ℕ) → q < 96 → markOf (marksAll todo M) q ≡ 5
+      → ((markOf M q ≡ 5) × (leftOf (marksAll todo M) q ≡ leftOf M q) × (rightOf (marksAll todo M) q ≡ rightOf M q)) ⊎ MasksIn todo q
   five-before [] M z ok q low h = inl (h, refl, refl)
-  five-before (c ∷ cs) M z ok q low h = elim (five-before cs (marksBy c M) (sized-by c M z) (ok .1) q low h) [
+  five-before (a ∷ todo) M z ok q low h = elim (five-before todo (marksBy a M) (sized-by a M z) (ok .1) q low h) [
     | inr m ↦ inr (inr m)
-    | inl k ↦ elim (five-by plan draw c M z (ok .0) q low (k .0)) [
+    | inl k ↦ elim (five-by plan draw a M z (ok .0) q low (k .0)) [
       | inr m ↦ inr (inl m)
       | inl l ↦ inl (l .0, k .1 ∙ l .1, k .2 ∙ l .2)
     ]
   ]
 
-  -- ---- masks: of an unused triple, which then waits with these factors
+-- ---- Masks: of an unused triple, which then waits with these factors.
 
-  unmasked-by : (c : CallMove) (M : Marks) → AllowedBy c M → (r : ℕ) → MasksBy c r → (markOf M r ≡ 5) ⊎ (markOf M r ≡ 6) → ⊥
-  unmasked-by (loads r' pack) M al r at past = at
-  unmasked-by (loadsTriple r' pack) M al r at past = at
-  unmasked-by (deals r' c) M al r at past = at
-  unmasked-by (opens r' blocks) M al r at past = at
-  unmasked-by (adds r' x y scale) M al r at past = at
-  unmasked-by (factors x y r') M al r at (inl five) = omega (arith, ap (markOf M) at, al .first, five)
-  unmasked-by (factors x y r') M al r at (inr six) = omega (arith, ap (markOf M) at, al .first, six)
-  unmasked-by (multiplies r' blocks blocks') M al r at past = at
+young : (m : Masking) (M : Marks) → Maskable m M → (r : ℕ) → MasksBy m r → (markOf M r ≡ 5) ⊎ (markOf M r ≡ 6) → ⊥
+young none M al r at past = at
+young (of x y r') M al r at (inl five) = omega (arith, ap (markOf M) at, al .first, five)
+young (of x y r') M al r at (inr six) = omega (arith, ap (markOf M) at, al .first, six)
 
-  pub unmasked : (cs : List CallMove) (M : Marks) → Sized M → AllowedAll cs M → (r : ℕ) → MasksIn cs r → (markOf M r ≡ 5) ⊎ (markOf M r ≡ 6) → ⊥
-  unmasked (c ∷ cs) M z al r (inl at) past = unmasked-by c M (al .0) r at past
-  unmasked (c ∷ cs) M z al r (inr at) past =
-      unmasked cs (marksBy c M) (sized-by c M z) (al .1) r at (past-by plan draw c M z (al .0) r past)
+waiting-now : (m : Masking) (M : Marks) (x y r : ℕ) → Sized M → r < 94 → of x y r ≡ m
+    → (markOf (remembered m M) r ≡ 5) × (leftOf (remembered m M) r ≡ x) × (rightOf (remembered m M) r ≡ y)
+waiting-now m M x y r z low e =
+    subst (λ (w : Masking). (markOf (remembered w M) r ≡ 5) × (leftOf (remembered w M) r ≡ x) × (rightOf (remembered w M) r ≡ y)) e (
+      getD-set-same (M .marks) r 5 0 (omega (arith, z .marks)),
+      getD-set-same (M .left) r x 0 (omega (arith, z .left)),
+      getD-set-same (M .right) r y 0 (omega (arith, z .right)),
+    )
 
-  pub waits-after : (cs : List CallMove) (M : Marks) → Sized M → AllowedAll cs M → (x y r : ℕ) → r < 94 → Among (factors x y r) cs
-      → ((markOf (marksAll cs M) r ≡ 5) ⊎ (markOf (marksAll cs M) r ≡ 6))
-      × (markOf (marksAll cs M) r ≡ 5 → (leftOf (marksAll cs M) r ≡ x) × (rightOf (marksAll cs M) r ≡ y))
-  waits-after (c ∷ cs) M z al x y r low (inr a) = waits-after cs (marksBy c M) (sized-by c M z) (al .1) x y r low a
-  waits-after (c ∷ cs) M z al x y r low (inl e) =
-      let h = here in (
-        past-stays cs (marksBy c M) (sized-by c M z) (al .1) r (inl (h .0)),
+module _ (plan : Plan) (draw : Draw) where
+  pub unmasked : (todo : List Act) (M : Marks) → Sized M → AllowedAll todo M → (r : ℕ) → MasksIn todo r → (markOf M r ≡ 5) ⊎ (markOf M r ≡ 6) → ⊥
+  unmasked (a ∷ todo) M z al r (inl at) past = young (masking a) M (al .0 .1) r at past
+  unmasked (a ∷ todo) M z al r (inr at) past =
+      unmasked todo (marksBy a M) (sized-by a M z) (al .1) r at (past-by plan draw a M z (al .0) r past)
+
+  pub waits-after : (todo : List Act) (M : Marks) → Sized M → AllowedAll todo M → (x y r : ℕ) → r < 94 → Among (of x y r) (map masking todo)
+      → ((markOf (marksAll todo M) r ≡ 5) ⊎ (markOf (marksAll todo M) r ≡ 6))
+      × (markOf (marksAll todo M) r ≡ 5 → (leftOf (marksAll todo M) r ≡ x) × (rightOf (marksAll todo M) r ≡ y))
+  waits-after (a ∷ todo) M z al x y r low (inr there) = waits-after todo (marksBy a M) (sized-by a M z) (al .1) x y r low there
+  waits-after (a ∷ todo) M z al x y r low (inl e) =
+      let h = waiting-now (masking a) (markAll (marksOf a) M) x y r (sized-marks (marksOf a) M z) low e in (
+        past-stays plan draw todo (marksBy a M) (sized-by a M z) (al .1) r (inl (h .0)),
         λ five.
-            elim (five-before cs (marksBy c M) (sized-by c M z) (al .1) r (omega arith) five) [
+            elim (five-before plan draw todo (marksBy a M) (sized-by a M z) (al .1) r (omega arith) five) [
               | inl k ↦ (k .1 ∙ h .1, k .2 ∙ h .2)
-              | inr at ↦ absurd (unmasked cs (marksBy c M) (sized-by c M z) (al .1) r at (inl (h .0)))
+              | inr at ↦ absurd (unmasked todo (marksBy a M) (sized-by a M z) (al .1) r at (inl (h .0)))
             ],
       )
-    where
-      here : (markOf (marksBy c M) r ≡ 5) × (leftOf (marksBy c M) r ≡ x) × (rightOf (marksBy c M) r ≡ y)
-      here =
-          subst (λ (d : CallMove). (markOf (marksBy d M) r ≡ 5) × (leftOf (marksBy d M) r ≡ x) × (rightOf (marksBy d M) r ≡ y)) e
-          (getD-set-same (M .marks) r 5 0 (omega (arith, z .marks)), getD-set-same (M .left) r x 0 (omega (arith, z .left)), getD-set-same (M .right) r y 0 (omega (arith, z .right)))

@@ -1,29 +1,30 @@
 -- What a call of the list broadcasts, not refused: a line shows its sender's part of the row's vector, or of the masks'.
 use Prim.Native.Nat.{ℕ, zero, suc, _+_, _≤_, _<_}
-use mathlib.Core.Path.{_≡_, refl, sym, _∙_, ap, ap₂, subst}
+use mathlib.Core.Path.{_≡_, sym, _∙_, ap, ap₂, subst}
 use mathlib.Core.Bool.{Bool, true, false, cond}
 use mathlib.Core.Logic.{_⊎_, inl, inr}
 use mathlib.Core.List.{List, [], _∷_, _++_, map}
 use native.Mathlib.Omega.{arith}
 use lib.ListN.{length, length-append}
-use Rattle.poly.specs.Counting.{Elements}
+use Rattle.poly.specs.Counting.{All, Elements}
 use Rattle.factory.specs.Draw.{eachFrom}
 use Rattle.factory.proofs.Laws.{elements-append}
 use Rattle.vectors.specs.Vector.{Vector, numbers}
 use Rattle.vectors.proofs.Linear.{length-numbers}
-use Rattle.runs.specs.Calls.{Post, Call, Left, CallMove, factors, Sending, silence, itsOpening, itsMasks, outline, moves, perform, broadcastOf, broadcast, sentIf, openingLine, masksLine, Among}
-use Rattle.runs.proofs.Marks.{Marks, markOf, leftOf, rightOf, less, marksAfter, vectorsAfter}
+use Rattle.runs.specs.Outline.{Act, Sending, itsOpening, itsMasks, moves, acts, sends}
+use Rattle.runs.specs.Calls.{Post, Call, perform, sentBy, broadcast, sentIf, lineOf, openingLine, masksLine, Among}
+use Rattle.runs.proofs.Marks.{Marks, markOf, leftOf, rightOf, less, of, masking, marksAll}
 use Rattle.runs.proofs.Outcomes.{refusalOf, refusal-is}
-use Rattle.runs.proofs.Steps.{named, Says, says}
+use Rattle.runs.proofs.Steps.{named, Says, SaysAll, says}
 use Rattle.runs.proofs.Lines.{same-opening, same-masks, not-both, numbers-elements}
 use Rattle.runs.proofs.Facts.{Multiplying, Sendable, Allowed}
 use Rattle.runs.proofs.Rows.{held-stays, waits-after}
 use Rattle.runs.proofs.Allowed.{allowed}
-use Rattle.secrecy.specs.Steps.{Step, callAt, outlineOf}
+use Rattle.secrecy.specs.Steps.{Step, callAt}
 use Rattle.secrecy.specs.Seen.{posts, joined}
 use Rattle.secrecy.proofs.State.{Run, Moment, Past, AnOpening, AMask, maskNumbers, State, facts-on}
 use Rattle.secrecy.specs.Rules.{Rule}
-use Rattle.secrecy.proofs.Moves.{sends-at, marks-after, vectors-after}
+use Rattle.secrecy.proofs.Moves.{numberAt, vectorsThen, acts-at, sends-at}
 use Rattle.runs.proofs.Start.{sizes}
 
 -- ---- members of joined lists
@@ -56,16 +57,18 @@ among-heard x true l a = a
 among-heard x false l a = absurd a
 
 -- a line that a call broadcast
-one-line : (x line : List ℕ) (k : ℕ) → k ≡ 0 → Among x (sentIf k line) → x ≡ line
-one-line x line zero z (inl e) = e
-one-line x line zero z (inr a) = absurd a
-one-line x line (suc k) z a = absurd a
+one-line : (x line : List ℕ) (lines : List (List ℕ)) (k : ℕ) → k ≡ 0 → Among x (sentIf k line lines) → (x ≡ line) ⊎ Among x lines
+one-line x line lines zero z a = a
+one-line x line lines (suc k) z a = absurd (omega arith)
 
--- the call is an opening message of row r
-abbrev pub MessageBy : Sending → ℕ → Type 0
-MessageBy silence r = ⊥
+-- the opening message of row r; one among the lines
+abbrev MessageBy : Sending → ℕ → Type 0
 MessageBy (itsOpening r') r = r ≡ r'
 MessageBy (itsMasks x y r') r = ⊥
+
+abbrev pub MessageIn : List Sending → ℕ → Type 0
+MessageIn [] r = ⊥
+MessageIn (s ∷ ss) r = MessageBy s r ⊎ MessageIn ss r
 
 module _ (C : Run) (m : Moment) (S : State C m) where
   open Run C using (plan, draw, u, len)
@@ -74,21 +77,16 @@ module _ (C : Run) (m : Moment) (S : State C m) where
   abbrev call : ℕ → Step → Call
   call i c = callAt plan draw u lines i c
 
-  -- marks and vectors after the call are the same at every post
-  pub same-marks : (i j : ℕ) (c : Step) → marksAfter (call i c) M ≡ marksAfter (call j c) M
-  same-marks i j c = marks-after plan draw u lines i c M ∙ sym (marks-after plan draw u lines j c M)
-
-  pub same-vectors : (i j : ℕ) (c : Step) → vectorsAfter plan draw (call i c) M vec ≡ vectorsAfter plan draw (call j c) M vec
-  same-vectors i j c = vectors-after plan draw u lines i j c M vec
-
   -- refused nowhere
   abbrev pub Done : Step → Type 0
   Done c = (i : ℕ) → 1 ≤ i → i ≤ plan .n → refusalOf (callAt plan draw u lines i c) (q i) ≡ 0
 
-  pub allowed-at : (c : Step) → Done c → (i : ℕ) → 1 ≤ i → i ≤ plan .n → Allowed (call i c) M
+  pub allowed-at : (c : Step) → Done c → (i : ℕ) → 1 ≤ i → i ≤ plan .n → Allowed (acts c) (sends c) M
   allowed-at c z i lo hi =
-      allowed plan draw i M (q i .rows) (call i c)
-      (subst (λ (x : Post). refusalOf (call i c) x ≡ 0) (named plan draw (len i) i M vec (q i) (S .posts i lo hi)) (z i lo hi))
+      subst (λ (ss : List Sending). Allowed (acts c) ss M) (sends-at plan draw u lines i c)
+      (subst (λ (todo : List Act). Allowed todo (sends (call i c)) M) (acts-at plan draw u lines i c)
+      (allowed plan draw i M (q i .rows) (call i c)
+      (subst (λ (x : Post). refusalOf (call i c) x ≡ 0) (named plan draw (len i) i M vec (q i) (S .posts i lo hi)) (z i lo hi))))
 
   -- ---- what the call broadcasts
 
@@ -120,79 +118,100 @@ module _ (C : Run) (m : Moment) (S : State C m) where
           low = subst Elements (sym e) (elements-append (numbers k va) (numbers k vb) (numbers-elements k va) (numbers-elements k vb));
         }
 
-    opening-by : (cs : List CallMove) (s : Sending) (o : Left) → o .answer .refusal ≡ 0 → Sendable cs s M → Says plan draw i vec s (o .lent)
-        → (r j : ℕ) (xs : List ℕ) → AnOpening C r j xs → Among (openingLine r j xs) (broadcastOf i s o)
+    -- one line
+    opening-one : (todo : List Act) (s : Sending) (ys : List ℕ) → Sendable todo M s → Says plan draw i vec s ys
+        → (r j : ℕ) (xs : List ℕ) → AnOpening C r j xs → openingLine r j xs ≡ lineOf i s ys
         → MessageBy s r × (markOf M r ≡ 2) × (xs ≡ numbers (plan .t + 1) (vec r .v j))
-    opening-by cs silence o z al says r j xs form a = absurd a
-    opening-by cs (itsOpening r') o z al says r j xs form a =
-        let e = one-line _ _ _ z a in
-        let same = same-opening (plan .n) (plan .t + 1) (sizes plan (C .sound) .n-high) r j r' i xs (o .lent) form (made-opening r' (o .lent) says (al .0)) e in
+    opening-one todo (itsOpening r') ys al says r j xs form e =
+        let same = same-opening (plan .n) (plan .t + 1) (sizes plan (C .sound) .n-high) r j r' i xs ys form (made-opening r' ys says (al .0)) e in
         (same .0, ap (markOf M) (same .0) ∙ al .1, same .2 ∙ says ∙ sym (ap₂ (λ (x y : ℕ). numbers (plan .t + 1) (vec x .v y)) (same .0) (same .1)))
-    opening-by cs (itsMasks x y r') o z al says r j xs form a =
-        absurd (not-both (plan .n) (plan .t + 1) (sizes plan (C .sound) .n-high) r j r' i xs (o .lent) form
-        (made-masks x y r' (o .lent) says (al .0 .r-low)) (one-line _ _ _ z a))
+    opening-one todo (itsMasks x y r') ys al says r j xs form e =
+        absurd (not-both (plan .n) (plan .t + 1) (sizes plan (C .sound) .n-high) r j r' i xs ys form (made-masks x y r' ys says (al .0 .r-low)) e)
 
-    masks-by : (cs : List CallMove) (s : Sending) (o : Left) → o .answer .refusal ≡ 0 → Sendable cs s M → Says plan draw i vec s (o .lent)
-        → (r j : ℕ) (xs : List ℕ) → AMask C r j xs → Among (masksLine r j xs) (broadcastOf i s o)
-        → (x : ℕ) × (y : ℕ) × Multiplying 3 M x y r × Among (factors x y r) cs × (xs ≡ halves x y r j)
-    masks-by cs silence o z al says r j xs form a = absurd a
-    masks-by cs (itsOpening r') o z al says r j xs form a =
-        absurd (not-both (plan .n) (plan .t + 1) (sizes plan (C .sound) .n-high) r' i r j (o .lent) xs
-        (made-opening r' (o .lent) says (al .0)) form (sym (one-line _ _ _ z a)))
-    masks-by cs (itsMasks x y r') o z al says r j xs form a =
-        let e = one-line _ _ _ z a in
-        let same = same-masks (plan .n) (plan .t + 1) (sizes plan (C .sound) .n-high) r j r' i xs (o .lent) form (made-masks x y r' (o .lent) says (al .0 .r-low)) e in (
+    -- masks of the rows x and y by the triple at r, of which post j's are xs
+    abbrev MadeMasks : List Act → ℕ → ℕ → List ℕ → Type 0
+    MadeMasks todo r j xs = (x : ℕ) × (y : ℕ) × Multiplying 3 M x y r × Among (of x y r) (map masking todo) × (xs ≡ halves x y r j)
+
+    masks-one : (todo : List Act) (s : Sending) (ys : List ℕ) → Sendable todo M s → Says plan draw i vec s ys
+        → (r j : ℕ) (xs : List ℕ) → AMask C r j xs → masksLine r j xs ≡ lineOf i s ys → MadeMasks todo r j xs
+    masks-one todo (itsOpening r') ys al says r j xs form e =
+        absurd (not-both (plan .n) (plan .t + 1) (sizes plan (C .sound) .n-high) r' i r j ys xs (made-opening r' ys says (al .0)) form (sym e))
+    masks-one todo (itsMasks x y r') ys al says r j xs form e =
+        let same = same-masks (plan .n) (plan .t + 1) (sizes plan (C .sound) .n-high) r j r' i xs ys form (made-masks x y r' ys says (al .0 .r-low)) e in (
           x,
           y,
           subst (Multiplying 3 M x y) (sym (same .0)) (al .0),
-          subst (λ (w : ℕ). Among (factors x y w) cs) (sym (same .0)) (al .1),
+          subst (λ (w : ℕ). Among (of x y w) (map masking todo)) (sym (same .0)) (al .1),
           same .2 ∙ says ∙ sym (ap₂ (λ (v w : ℕ). halves x y v w) (same .0) (same .1)),
         )
 
-    module _ (c : Step) (z : refusalOf (call i c) (q i) ≡ 0) (al : Allowed (call i c) M) where
+    -- one line after the other
+    opening-by : (todo : List Act) (ss : List Sending) (k : ℕ) (parts : List (List ℕ)) → k ≡ 0 → All (Sendable todo M) ss
+        → SaysAll plan draw i vec ss parts → (r j : ℕ) (xs : List ℕ) → AnOpening C r j xs → Among (openingLine r j xs) (sentBy i k ss parts)
+        → MessageIn ss r × (markOf M r ≡ 2) × (xs ≡ numbers (plan .t + 1) (vec r .v j))
+    opening-by todo [] k parts z al says r j xs form a = absurd a
+    opening-by todo (s ∷ ss) k [] z al says r j xs form a = absurd a
+    opening-by todo (s ∷ ss) k (ys ∷ parts) z al says r j xs form a = elim (one-line _ _ _ k z a) [
+      | inl e ↦ (let n = opening-one todo s ys (al .0) (says .0) r j xs form e in (inl (n .0), n .1, n .2))
+      | inr l ↦ (let n = opening-by todo ss k parts z (al .1) (says .1) r j xs form l in (inr (n .0), n .1, n .2))
+    ]
+
+    masks-by : (todo : List Act) (ss : List Sending) (k : ℕ) (parts : List (List ℕ)) → k ≡ 0 → All (Sendable todo M) ss
+        → SaysAll plan draw i vec ss parts → (r j : ℕ) (xs : List ℕ) → AMask C r j xs → Among (masksLine r j xs) (sentBy i k ss parts)
+        → MadeMasks todo r j xs
+    masks-by todo [] k parts z al says r j xs form a = absurd a
+    masks-by todo (s ∷ ss) k [] z al says r j xs form a = absurd a
+    masks-by todo (s ∷ ss) k (ys ∷ parts) z al says r j xs form a = elim (one-line _ _ _ k z a) [
+      | inl e ↦ masks-one todo s ys (al .0) (says .0) r j xs form e
+      | inr l ↦ masks-by todo ss k parts z (al .1) (says .1) r j xs form l
+    ]
+
+    module _ (c : Step) (z : refusalOf (call i c) (q i) ≡ 0) (al : Allowed (acts c) (sends c) M) where
       abbrev N : Marks
-      N = marksAfter (call i c) M
+      N = marksAll (acts c) M
 
       abbrev w : ℕ → Vector
-      w = vectorsAfter plan draw (call i c) M vec
+      w = vectorsThen plan draw u c M vec
 
       stays : (x : ℕ) → markOf M x ≡ 2 → (markOf N x ≡ 2) × (w x ≡ vec x)
-      stays x two = held-stays plan draw (moves (call i c)) M vec (S .sized) (al .moving) x two
+      stays x two = held-stays plan draw (numberAt plan draw u) (moves c) M vec (S .sized) (al .moving) x two
 
-      said : Says plan draw i vec (outline (call i c) .sends) (perform (call i c) (q i) .lent)
-      said = says plan draw (C .is-draw) (len i) i hi M vec (q i) (S .posts i lo hi) (call i c) z
+      said : SaysAll plan draw i vec (sends c) (perform (call i c) (q i) .lent)
+      said =
+          subst (λ (ss : List Sending). SaysAll plan draw i vec ss (perform (call i c) (q i) .lent)) (sends-at plan draw u lines i c)
+          (says plan draw (C .is-draw) (len i) i hi M vec (q i) (S .posts i lo hi) (call i c) z)
+
+      -- the lines, by the call of the list
+      heard-line : (x : List ℕ) → Among x (broadcast i (call i c) (perform (call i c) (q i)))
+          → Among x (sentBy i (perform (call i c) (q i) .answer .refusal) (sends c) (perform (call i c) (q i) .lent))
+      heard-line x =
+          subst (λ (ss : List Sending). Among x (sentBy i (perform (call i c) (q i) .answer .refusal) ss (perform (call i c) (q i) .lent)))
+          (sends-at plan draw u lines i c)
 
       pub new-opening : (r j : ℕ) (xs : List ℕ) → AnOpening C r j xs
           → Among (openingLine r j xs) (broadcast i (call i c) (perform (call i c) (q i)))
-          → MessageBy (outlineOf c .sends) r × (markOf (marksAfter (call 1 c) M) r ≡ 2)
-          × (xs ≡ numbers (plan .t + 1) (vectorsAfter plan draw (call 1 c) M vec r .v j)) × (markOf M r ≡ 2)
+          → MessageIn (sends c) r × (markOf (marksAll (acts c) M) r ≡ 2)
+          × (xs ≡ numbers (plan .t + 1) (vectorsThen plan draw u c M vec r .v j)) × (markOf M r ≡ 2)
       new-opening r j xs form a =
-          let n = opening-by (moves (call i c)) (outline (call i c) .sends) (perform (call i c) (q i)) (not-refused (call i c) z) (al .sending) said r j xs form a in
-          let k = stays r (n .1) in (
-            subst (λ (s : Sending). MessageBy s r) (sends-at plan draw u lines i c) (n .0),
-            ap (λ (L : Marks). markOf L r) (same-marks 1 i c) ∙ k .0,
-            n .2 ∙ ap (λ (X : Vector). numbers (plan .t + 1) (X .v j)) (sym (k .1) ∙ ap (λ (v : ℕ → Vector). v r) (same-vectors i 1 c)),
-            n .1,
-          )
+          let n = opening-by (acts c) (sends c) _ _ (not-refused (call i c) z) (al .sending) said r j xs form (heard-line _ a) in
+          let k = stays r (n .1) in
+          (n .0, k .0, n .2 ∙ ap (λ (X : Vector). numbers (plan .t + 1) (X .v j)) (sym (k .1)), n .1)
 
       pub new-masks : Rule plan c 0 lines → (r j : ℕ) (xs : List ℕ) → AMask C r j xs
           → Among (masksLine r j xs) (broadcast i (call i c) (perform (call i c) (q i)))
-          → Past (marksAfter (call 1 c) M) r
-          × (markOf (marksAfter (call 1 c) M) r ≡ 5 → xs ≡ maskNumbers C (marksAfter (call 1 c) M) (vectorsAfter plan draw (call 1 c) M vec) r j)
+          → Past (marksAll (acts c) M) r
+          × (markOf (marksAll (acts c) M) r ≡ 5 → xs ≡ maskNumbers C (marksAll (acts c) M) (vectorsThen plan draw u c M vec) r j)
       new-masks rule r j xs form a =
-          subst (λ (L : Marks). Past L r × (markOf L r ≡ 5 → xs ≡ maskNumbers C L (vectorsAfter plan draw (call 1 c) M vec) r j)) (same-marks i 1 c)
-          (subst (λ (v : ℕ → Vector). Past N r × (markOf N r ≡ 5 → xs ≡ maskNumbers C N v r j)) (same-vectors i 1 c)
-          (go (masks-by (moves (call i c)) (outline (call i c) .sends) (perform (call i c) (q i)) (not-refused (call i c) z) (al .sending) said r j xs form a)))
+          go (masks-by (acts c) (sends c) _ _ (not-refused (call i c) z) (al .sending) said r j xs form (heard-line _ a))
         where
-          go : (x : ℕ) × (y : ℕ) × Multiplying 3 M x y r × Among (factors x y r) (moves (call i c)) × (xs ≡ halves x y r j)
-              → Past N r × (markOf N r ≡ 5 → xs ≡ maskNumbers C N w r j)
+          go : MadeMasks (acts c) r j xs → Past N r × (markOf N r ≡ 5 → xs ≡ maskNumbers C N w r j)
           go (x, y, ok, there, e) =
-              let k = waits-after plan draw (moves (call i c)) M (S .sized) (al .moving) x y r (ok .r-low) there in (
+              let k = waits-after plan draw (acts c) M (S .sized) (al .moving) x y r (ok .r-low) there in (
                 k .0,
                 λ five.
                     let lr : r < 96 = omega (arith, ok .r-low) in
                     let t = S .facts r lr .triple (inl (ok .first)) in
-                    let t' = facts-on C m S i c al rule r lr .triple (inr five) in
+                    let t' = facts-on C m S c al rule r lr .triple (inr five) in
                     let lf = k .1 five in
                     let ea : vec x ≡ w (leftOf N r) = sym (ap w (lf .0) ∙ stays x (ok .a-held) .1) in
                     let eb : vec y ≡ w (rightOf N r) = sym (ap w (lf .1) ∙ stays y (ok .b-held) .1) in

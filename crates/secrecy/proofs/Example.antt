@@ -195,16 +195,12 @@ abbrev _also_ : {P Q : Type 0} → P → Q → P × Q
 _also_ x y = (x, y)
 
 infixr 5 _also_
--- of a call with one move
-abbrev one : {P : Type 0} → P → P × Unit {0}
-one x = (x, tt)
-
 rules : Rules plan steps (shown .entries) []
 unfolding plan steps shown told
 rules =
-    one (λ e. (refl, tt)) also one (λ e. (refl, tt)) also one (λ e. (refl, tt)) also one (λ e. (refl, refl))
-    also one (λ e. tt) also one (λ e. tt) also one (λ e. tt) also one (λ e. tt) also one tt also one tt also one tt
-    also one (λ w. (firsts, seconds)) also one (λ w. nobody) also tt also one (λ w. all-products) also tt also one (λ w. all-sums) also tt
+    (λ e. (refl, tt)) also (λ e. (refl, tt)) also (λ e. (refl, tt)) also (λ e. (refl, refl))
+    also (λ e. tt) also (λ e. tt) also (λ e. tt) also (λ e. tt) also tt also tt also tt
+    also (λ w. (firsts, seconds)) also (λ w. nobody) also tt also (λ w. all-products) also tt also (λ w. all-sums) also tt
 
 alike : {x : ℕ} → (x ≡ x) × ((x ≡ x) × Unit {0})
 alike = (refl, (refl, tt))

@@ -1,27 +1,31 @@
 -- The two runs after one more call: not refused at any post, or refused at all of them.
-use Prim.Native.Nat.{ℕ, suc, _+_, _≤_, _<_}
-use mathlib.Core.Path.{_≡_, refl, sym, _∙_, ap, ap₂, subst}
+use Prim.Native.Nat.{ℕ, suc, _+_, _≤_}
+use mathlib.Core.Path.{_≡_, refl, sym, _∙_, ap, subst}
 use mathlib.Core.Bool.{Bool, true, false, cond}
 use mathlib.Core.Logic.{_⊎_, inl, inr}
 use mathlib.Core.List.{List, [], _∷_, _++_, map, append-nil}
 use native.Mathlib.Omega.{arith}
+use Rattle.poly.specs.Counting.{All}
 use Rattle.poly.proofs.Lists.{all-map}
 use Rattle.vectors.specs.Vector.{Vector}
-use Rattle.runs.specs.Calls.{Post, Call, Left, Sending, silence, itsOpening, itsMasks, outline, perform, after, broadcastOf, broadcast, sentIf, openingLine, masksLine, Among}
-use Rattle.runs.proofs.Marks.{Marks, markOf, marksAfter, vectorsAfter}
-use Rattle.runs.proofs.Outcomes.{refusalOf, refusal-is, refused}
+use Rattle.runs.specs.Outline.{Sending, itsOpening, itsMasks, acts, sends}
+use Rattle.runs.specs.Calls.{Post, Call, perform, after, broadcast, openingLine, masksLine, Among}
+use Rattle.runs.proofs.Outlines.{every-all}
+use Rattle.runs.proofs.Marks.{Marks, markOf, marksAll}
+use Rattle.runs.proofs.Outcomes.{refusalOf, refusal-is, refused, silent}
 use Rattle.runs.proofs.Steps.{Stands}
 use Rattle.runs.proofs.Facts.{Allowed}
-use Rattle.secrecy.specs.Steps.{Step, callAt, outlineOf, heardFrom}
+use Rattle.secrecy.specs.Steps.{Step, callAt, heardFrom}
 use Rattle.secrecy.specs.Seen.{posts, joined, linesOf}
 use Rattle.secrecy.specs.Rules.{Rule}
 use Rattle.secrecy.specs.Book.{Book, AgreesBy, Agrees, entered}
+use Rattle.secrecy.proofs.Moves.{vectorsThen}
 use Rattle.secrecy.proofs.State.{Run, Moment, AnOpening, State, place-stays}
 use Rattle.runs.proofs.Start.{sizes}
-use Rattle.secrecy.proofs.Broadcasts.{among-append, among-posts, among-heard, allowed-at, MessageBy, new-opening}
+use Rattle.secrecy.proofs.Broadcasts.{among-append, among-posts, among-heard, allowed-at, MessageIn, new-opening}
 use Rattle.secrecy.proofs.Advance.{advance}
 use Rattle.secrecy.proofs.Pair.{Two, runOne, runTwo, Moments, momentOne, momentTwo, Pair, Fit}
-use Rattle.secrecy.proofs.Together.{posts-same, marks-two, refused-two, lines-two, group-two, core-after}
+use Rattle.secrecy.proofs.Together.{posts-same, refused-two, lines-two, group-two, core-after}
 
 -- ---- refused: nothing is broadcast, and the posts are as they were
 
@@ -37,11 +41,6 @@ unfolding joined nothing
 joined-none [] = refl
 joined-none (i ∷ l) = joined-none l
 
-silent : (i : ℕ) (s : Sending) (o : Left) (k : ℕ) → o .answer .refusal ≡ suc k → broadcastOf i s o ≡ []
-silent i silence o k e = refl
-silent i (itsOpening r) o k e = ap (λ (m : ℕ). sentIf m (openingLine r i (o .lent))) e
-silent i (itsMasks a b r) o k e = ap (λ (m : ℕ). sentIf m (masksLine r i (o .lent))) e
-
 module _ (C : Run) (m : Moment) (c : Step) (k : ℕ)
     (z : (i : ℕ) → 1 ≤ i → i ≤ C .plan .n → refusalOf (callAt (C .plan) (C .draw) (C .u) (m .lines) i c) (m .posts i) ≡ suc k) where
   open Run C using (plan, draw, u, len)
@@ -52,7 +51,7 @@ module _ (C : Run) (m : Moment) (c : Step) (k : ℕ)
   no-lines =
       ap joined (posts-same _ nothing (plan .n) (λ i lo hi.
       ap (λ (l : List (List ℕ)). cond (heardFrom c i) l [])
-      (silent i (outline (callAt plan draw u lines i c) .sends) (perform (callAt plan draw u lines i c) (q i)) k
+      (silent i _ k (sends (callAt plan draw u lines i c)) (perform (callAt plan draw u lines i c) (q i) .lent)
       (refusal-is (callAt plan draw u lines i c) (q i) ∙ z i lo hi))
       ∙ either-none (heardFrom c i)))
       ∙ joined-none (posts (plan .n))
@@ -106,9 +105,9 @@ module _ (T : Two) (m : Moments) (R : Pair T m) where
   abbrev pub liveMoments : Step → Moments
   liveMoments c =
       record {
-        marks = marksAfter (c1 1 c) M;
-        vec = vectorsAfter (T .plan) (T .d) (c1 1 c) M vec;
-        vec' = vectorsAfter (T .plan) (T .d') (c2 1 c) M vec';
+        marks = marksAll (acts c) M;
+        vec = vectorsThen (T .plan) (T .d) (T .u) c M vec;
+        vec' = vectorsThen (T .plan) (T .d') (T .u') c M vec';
         book = entered (T .u) c b;
         book' = entered (T .u') c b';
         lines = lines ++ linesOf (T .plan) (T .d) (T .u) lines c q;
@@ -116,20 +115,19 @@ module _ (T : Two) (m : Moments) (R : Pair T m) where
         posts' = λ i. after (perform (c2 i c) (q' i));
       }
 
-  -- the second run's state, with the marks and lines that it shares with the first
-  shared : (N N' : Marks) (v : ℕ → Vector) (e : Book) (x y : List (List ℕ)) (p : ℕ → Post) → N' ≡ N → x ≡ y
-      → State (runTwo T) (record { marks = N'; vec = v; book = e; lines = lines ++ y; posts = p })
+  -- the second run's state, with the lines that it shares with the first
+  shared : (N : Marks) (v : ℕ → Vector) (e : Book) (x y : List (List ℕ)) (p : ℕ → Post) → x ≡ y
+      → State (runTwo T) (record { marks = N; vec = v; book = e; lines = lines ++ y; posts = p })
       → State (runTwo T) (record { marks = N; vec = v; book = e; lines = lines ++ x; posts = p })
-  shared N N' v e x y p f g S =
-      subst (λ (w : List (List ℕ)). State (runTwo T) (record { marks = N; vec = v; book = e; lines = lines ++ w; posts = p })) (sym g)
-      (subst (λ (w : Marks). State (runTwo T) (record { marks = w; vec = v; book = e; lines = lines ++ y; posts = p })) f S)
+  shared N v e x y p g S =
+      subst (λ (w : List (List ℕ)). State (runTwo T) (record { marks = N; vec = v; book = e; lines = lines ++ w; posts = p })) (sym g) S
 
   pub idle : (c : Step) (k : ℕ) → ((i : ℕ) → 1 ≤ i → i ≤ T .plan .n → refusalOf (c1 i c) (q i) ≡ suc k) → Rule (T .plan) c (suc k) lines
       → Agrees c (suc k) b b' → Pair T (idleMoments c)
   idle c k z rule agree =
       record {
         one = idle-state (runOne T) (momentOne m) c k z (R .one);
-        two = shared M M vec' b' _ _ _ refl (lines-two T m R c (suc k) z rule agree none)
+        two = shared M vec' b' _ _ _ (lines-two T m R c (suc k) z rule agree none)
             (idle-state (runTwo T) (momentTwo m) c k (refused-two T m R c (suc k) z rule agree none) (R .two));
         near = R .near;
         group-same = all-map (λ i e. ap after e) (T .group) (group-two T m R c (suc k) z rule agree none);
@@ -148,30 +146,31 @@ module _ (T : Two) (m : Moments) (R : Pair T m) where
     z' : (i : ℕ) → 1 ≤ i → i ≤ T .plan .n → refusalOf (c2 i c) (q' i) ≡ 0
     z' = refused-two T m R c 0 z rule agree (λ e. fit)
 
-    al : Allowed (c1 1 c) M
+    al : Allowed (acts c) (sends c) M
     al = allowed-at (runOne T) (momentOne m) (R .one) c z 1 (omega arith) one-post
 
-    al' : Allowed (c2 1 c) M
+    al' : Allowed (acts c) (sends c) M
     al' = allowed-at (runTwo T) (momentTwo m) (R .two) c z' 1 (omega arith) one-post
 
     -- a row that was opened keeps its place in both books
     places : (r : ℕ) → markOf M r ≡ 2 → b .place r ≡ b' .place r → entered (T .u) c b .place r ≡ entered (T .u') c b' .place r
     places r two e =
-        place-stays (runOne T) (momentOne m) (R .one) 1 c al r two ∙ e
-        ∙ sym (place-stays (runTwo T) (momentTwo m) (R .two) 1 c al' r two)
+        place-stays (runOne T) (momentOne m) (R .one) c al r two ∙ e
+        ∙ sym (place-stays (runTwo T) (momentTwo m) (R .two) c al' r two)
 
-  -- a row whose opening message the call is: its places agree
-  told-now : (s : Sending) → AgreesBy s 0 b b' → (r : ℕ) → MessageBy s r → b .place r ≡ b' .place r
-  told-now silence agree r m = absurd m
-  told-now (itsOpening r') agree r m = ap (b .place) m ∙ agree refl ∙ sym (ap (b' .place) m)
-  told-now (itsMasks x y r') agree r m = absurd m
+  -- a row whose opening message is among the lines: its places agree
+  told-now : (ss : List Sending) → All (AgreesBy 0 b b') ss → (r : ℕ) → MessageIn ss r → b .place r ≡ b' .place r
+  told-now [] agree r m = absurd m
+  told-now (itsOpening r' ∷ ss) agree r (inl m) = ap (b .place) m ∙ agree .0 refl ∙ sym (ap (b' .place) m)
+  told-now (itsMasks x y r' ∷ ss) agree r (inl m) = absurd m
+  told-now (s ∷ ss) agree r (inr m) = told-now ss (agree .1) r m
 
   pub live : (c : Step) → ((i : ℕ) → 1 ≤ i → i ≤ T .plan .n → refusalOf (c1 i c) (q i) ≡ 0) → Rule (T .plan) c 0 lines
       → Agrees c 0 b b' → Fit T m R c → Pair T (liveMoments c)
   live c z rule agree fit =
       record {
         one = advance (runOne T) (momentOne m) (R .one) c rule z;
-        two = shared _ _ _ _ _ _ _ (marks-two T m R c) (lines-two T m R c 0 z rule agree (λ e. fit))
+        two = shared _ _ _ _ _ _ (lines-two T m R c 0 z rule agree (λ e. fit))
             (advance (runTwo T) (momentTwo m) (R .two) c rule (z' c z rule agree fit));
         near = core-after T m R c (al c z rule agree fit) rule fit .near;
         group-same = all-map (λ i e. ap after e) (T .group) (group-two T m R c 0 z rule agree (λ e. fit));
@@ -187,4 +186,4 @@ module _ (T : Two) (m : Moments) (R : Pair T m) where
           let w = among-posts (openingLine r j xs) (λ i. cond (heardFrom c i) (broadcast i (c1 i c) (perform (c1 i c) (q i))) []) (T .plan .n) a in
           let n = new-opening (runOne T) (momentOne m) (R .one) (w .0) (w .1) (w .2) c (z (w .0) (w .1) (w .2))
           (allowed-at (runOne T) (momentOne m) (R .one) c z (w .0) (w .1) (w .2)) r j xs o (among-heard _ (heardFrom c (w .0)) _ (w .3)) in
-          places c z rule agree fit r (n .3) (told-now (outlineOf c .sends) agree r (n .0))
+          places c z rule agree fit r (n .3) (told-now (sends c) (every-all (AgreesBy 0 b b') (sends c) agree) r (n .0))

@@ -20,14 +20,14 @@ use Rattle.opening.specs.Walking.{blockCoefficients, tooFew}
 use Rattle.opening.specs.Opening.{openRefusal, openChecks}
 use Rattle.vectors.specs.Vector.{Vector, number, rowOf}
 use Rattle.runs.specs.Draws.{Plan, Draw, IsDraw, Sound, IsRaw, pointOf}
-use Rattle.runs.specs.Calls.{loads, loadsTriple, deals, opens, adds, factors, multiplies, Proper, Post, openingLine, Among}
-use Rattle.runs.proofs.Marks.{Marks, Sized, markOf, leftOf, rightOf, sessionAt, less, maskA, maskB}
+use Rattle.runs.specs.Outline.{Act, aRecord, acts}
+use Rattle.runs.specs.Calls.{Proper, Post, openingLine, Among}
+use Rattle.runs.proofs.Marks.{Marks, Sized, markOf, leftOf, rightOf, sessionAt, less, maskA, maskB, Masking, none, of, masking}
 use Rattle.runs.proofs.Outcomes.{conditionAt, fails}
 use Rattle.runs.proofs.Holds.{Holds}
 use Rattle.runs.proofs.Records.{Present, block-many, block-low, alone}
-use Rattle.secrecy.specs.Steps as Steps
-use Rattle.secrecy.specs.Steps.{Secrets, Step, StepMove, Record, own, movesOf}
-use Rattle.secrecy.specs.Rules.{Rule, Walks}
+use Rattle.secrecy.specs.Steps.{Secrets, Step, Record}
+use Rattle.secrecy.specs.Rules.{RuleWith, Walks}
 use Rattle.secrecy.specs.Book.{Book, enteredBy}
 use Rattle.secrecy.proofs.Near.{gap, Near, mask-number}
 use Rattle.secrecy.proofs.Link.{Gaps, Link}
@@ -148,18 +148,13 @@ module _ (T : Two) where
         (ap₂ apart (sym (w .means .0)) (sym (w' .means .0)) ∙ e .0) (ap₂ apart (sym (w .means .1)) (sym (w' .means .1)) ∙ e .1)
 
   -- what the call's place in the list says of masks: they are those that the matching reckoned with
-  abbrev pub FitBy : StepMove → Book → Book → Type 0
-  FitBy (loads r pack) b b' = Unit {0}
-  FitBy (loadsTriple r pack) b b' = Unit {0}
-  FitBy (deals r c) b b' = Unit {0}
-  FitBy (opens r blocks) b b' = Unit {0}
-  FitBy (adds r x y scale) b b' = Unit {0}
-  FitBy (factors x y r) b b' = (apart (b .place x) (b' .place x) ≡ T .Δ r .left) × (apart (b .place y) (b' .place y) ≡ T .Δ r .right)
-  FitBy (multiplies r blocks blocks') b b' = Unit {0}
+  abbrev pub FitBy : Masking → Book → Book → Type 0
+  FitBy none b b' = Unit {0}
+  FitBy (of x y r) b b' = (apart (b .place x) (b' .place x) ≡ T .Δ r .left) × (apart (b .place y) (b' .place y) ≡ T .Δ r .right)
 
-  abbrev pub FitAll : List StepMove → Book → Book → Type 0
+  abbrev pub FitAll : List Act → Book → Book → Type 0
   FitAll [] b b' = Unit {0}
-  FitAll (c ∷ cs) b b' = FitBy c b b' × FitAll cs (enteredBy (T .u) c b) (enteredBy (T .u') c b')
+  FitAll (a ∷ todo) b b' = FitBy (masking a) b b' × FitAll todo (enteredBy (T .u) a b) (enteredBy (T .u') a b')
 
   module _ (m : Moments) (R : Pair m) where
     open Moments m using (marks as M, vec, vec', book as b, book' as b', lines, posts as q, posts' as q')
@@ -181,7 +176,7 @@ module _ (T : Two) where
     wait-numbers = core-wait M vec vec' b b' core
 
     abbrev pub Fit : Step → Type 0
-    Fit c = FitAll (movesOf c) b b'
+    Fit c = FitAll (acts c) b b'
 
     -- ---- one post
 
@@ -208,7 +203,7 @@ module _ (T : Two) where
           }
 
       -- an opening that comes to the walk finds one number in both runs, or nobody's polynomial but the own
-      module _ (r : ℕ) (blocks : Record) (rule : Rule (T .plan) (Steps.opening r blocks) (openRefusal s l r (blocks i lines)) lines) where
+      module _ (r : ℕ) (blocks : Record) (rule : RuleWith (T .plan) (openRefusal s l r (blocks i lines)) lines (aRecord r) blocks) where
         walks-of : (xs : List Test) → AllFail xs → (t : Bool) → Walks (first (xs ++ (9 when t ∷ [])))
         walks-of [] f true = inr refl
         walks-of [] f false = inl refl
@@ -222,7 +217,7 @@ module _ (T : Two) where
         -- others' polynomials in the record were broadcast, so the number agrees
         told : AllFail (openChecks s l r (blocks i lines)) → (j : ℕ) → 1 ≤ j → j ≤ T .plan .n → j ≢ i → Present s (blocks i lines) j
             → number (vec r) ≡ number (vec' r)
-        told f j lj hj ne there = place-number r lr two (R .agreed r j _ message (rule .0 (walks f) i j lo hi lj hj ne there))
+        told f j lj hj ne there = place-number r lr two (R .agreed r j _ message (rule (walks f) i j lo hi lj hj ne there))
           where
             g : (k : ℕ) → conditionAt (openChecks s l r (blocks i lines)) k ≡ false
             g = fails (openChecks s l r (blocks i lines)) f

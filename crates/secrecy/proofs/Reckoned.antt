@@ -9,8 +9,9 @@ use Rattle.field.specs.Element.{element}
 use Rattle.field.proofs.Expression.{A, B, 𝟘, _:-_, :-_, Same}
 use Rattle.field.proofs.Solver.{solve}
 use Rattle.field.proofs.Elements.{𝓡}
-use Rattle.runs.specs.Calls.{loads, loadsTriple, deals, opens, adds, factors, multiplies}
-use Rattle.secrecy.specs.Steps.{Secrets, Step, StepMove, movesOf}
+use Rattle.runs.specs.Outline.{Act, acts}
+use Rattle.runs.proofs.Marks.{Masking, of, masking}
+use Rattle.secrecy.specs.Steps.{Secrets, Step}
 use Rattle.secrecy.specs.Seen.{Entry}
 use Rattle.secrecy.specs.Rules.{refusalOf}
 use Rattle.secrecy.specs.Book.{Book, enteredBy, booked}
@@ -25,22 +26,18 @@ none = record { left = 0ᴱ; right = 0ᴱ }
 abbrev pub factorsApart : Book → Book → ℕ → ℕ → Gaps
 factorsApart b b' x y = record { left = apart (b .place x) (b' .place x); right = apart (b .place y) (b' .place y) }
 
--- of the triple at r, with this move in front of the rest; with this call
-abbrev pub reckonedBy : StepMove → Book → Book → ℕ → Gaps → Gaps
-reckonedBy (loads r' pack) b b' r rest = rest
-reckonedBy (loadsTriple r' pack) b b' r rest = rest
-reckonedBy (deals r' c) b b' r rest = rest
-reckonedBy (opens r' blocks) b b' r rest = rest
-reckonedBy (adds r' x y scale) b b' r rest = rest
-reckonedBy (factors x y r') b b' r rest = cond (eqb r r') (factorsApart b b' x y) rest
-reckonedBy (multiplies r' blocks blocks') b b' r rest = rest
+-- of the triple at r, with these masks in front of the rest; with these acts; with this call
+abbrev pub reckonedBy : Masking → Book → Book → ℕ → Gaps → Gaps
+reckonedBy Masking.none b b' r rest = rest
+reckonedBy (of x y r') b b' r rest = cond (eqb r r') (factorsApart b b' x y) rest
 
-abbrev pub reckonedAll : Secrets → Secrets → List StepMove → Book → Book → ℕ → Gaps → Gaps
+abbrev pub reckonedAll : Secrets → Secrets → List Act → Book → Book → ℕ → Gaps → Gaps
 reckonedAll u u' [] b b' r rest = rest
-reckonedAll u u' (c ∷ cs) b b' r rest = reckonedBy c b b' r (reckonedAll u u' cs (enteredBy u c b) (enteredBy u' c b') r rest)
+reckonedAll u u' (a ∷ todo) b b' r rest =
+    reckonedBy (masking a) b b' r (reckonedAll u u' todo (enteredBy u a b) (enteredBy u' a b') r rest)
 
 abbrev pub reckonedHere : Secrets → Secrets → Step → ℕ → Book → Book → ℕ → Gaps → Gaps
-reckonedHere u u' c zero b b' r rest = reckonedAll u u' (movesOf c) b b' r rest
+reckonedHere u u' c zero b b' r rest = reckonedAll u u' (acts c) b b' r rest
 reckonedHere u u' c (suc k) b b' r rest = rest
 
 unfoldable pub reckoned : Secrets → Secrets → List Step → List Entry → Book → Book → ℕ → Gaps
@@ -62,28 +59,23 @@ none-back : Opposite none none
 unfolding Same
 none-back = (solve 𝓡 [] 𝟘 (:- 𝟘) refl, solve 𝓡 [] 𝟘 (:- 𝟘) refl)
 
-back-by : (c : StepMove) (b b' : Book) (r : ℕ) (g g' : Gaps) → Opposite g g' → Opposite (reckonedBy c b b' r g) (reckonedBy c b' b r g')
-back-by (loads r' pack) b b' r g g' o = o
-back-by (loadsTriple r' pack) b b' r g g' o = o
-back-by (deals r' c) b b' r g g' o = o
-back-by (opens r' blocks) b b' r g g' o = o
-back-by (adds r' x y scale) b b' r g g' o = o
-back-by (factors x y r') b b' r g g' o = go (eqb r r')
+back-by : (m : Masking) (b b' : Book) (r : ℕ) (g g' : Gaps) → Opposite g g' → Opposite (reckonedBy m b b' r g) (reckonedBy m b' b r g')
+back-by Masking.none b b' r g g' o = o
+back-by (of x y r') b b' r g g' o = go (eqb r r')
   where
     go : (t : Bool) → Opposite (cond t (factorsApart b b' x y) g) (cond t (factorsApart b' b x y) g')
     go true = (apart-back (b .place x) (b' .place x), apart-back (b .place y) (b' .place y))
     go false = o
-back-by (multiplies r' blocks blocks') b b' r g g' o = o
 
-back-all : (u u' : Secrets) (cs : List StepMove) (b b' : Book) (r : ℕ) (g g' : Gaps) → Opposite g g'
-    → Opposite (reckonedAll u u' cs b b' r g) (reckonedAll u' u cs b' b r g')
+back-all : (u u' : Secrets) (todo : List Act) (b b' : Book) (r : ℕ) (g g' : Gaps) → Opposite g g'
+    → Opposite (reckonedAll u u' todo b b' r g) (reckonedAll u' u todo b' b r g')
 back-all u u' [] b b' r g g' o = o
-back-all u u' (c ∷ cs) b b' r g g' o =
-    back-by c b b' r _ _ (back-all u u' cs (enteredBy u c b) (enteredBy u' c b') r g g' o)
+back-all u u' (a ∷ todo) b b' r g g' o =
+    back-by (masking a) b b' r _ _ (back-all u u' todo (enteredBy u a b) (enteredBy u' a b') r g g' o)
 
 here-back : (u u' : Secrets) (c : Step) (k : ℕ) (b b' : Book) (r : ℕ) (g g' : Gaps) → Opposite g g'
     → Opposite (reckonedHere u u' c k b b' r g) (reckonedHere u' u c k b' b r g')
-here-back u u' c zero b b' r g g' o = back-all u u' (movesOf c) b b' r g g' o
+here-back u u' c zero b b' r g g' o = back-all u u' (acts c) b b' r g g' o
 here-back u u' c (suc k) b b' r g g' o = o
 
 pub reckoned-back : (u u' : Secrets) (cs : List Step) (es : List Entry) (b b' : Book) (r : ℕ)

@@ -13,17 +13,17 @@ use Rattle.poly.specs.Counting.{All}
 use Rattle.refusal.specs.Refusal.{outcome}
 use Rattle.factory.specs.Draw.{eachFrom}
 use Rattle.vectors.specs.Vector.{Vector}
-use Rattle.runs.specs.Calls.{Post, Call, Left, CallMove, loads, loadsTriple, deals, opens, adds, factors, multiplies, moves, after}
-use Rattle.runs.proofs.Marks.{Marks, Sized, marksBy, marksAll, marksAfter}
+use Rattle.runs.specs.Outline.{Act, acts, sends}
+use Rattle.runs.specs.Calls.{Post, Call, Left, after}
+use Rattle.runs.proofs.Marks.{Marks, Sized, Masking, none, of, masking, remembered, marksOf, markAll, marksBy, marksAll}
 use Rattle.runs.proofs.Outcomes as Outcomes
 use Rattle.runs.proofs.Outcomes.{refusal-is}
-use Rattle.runs.proofs.Facts.{AllowedBy, AllowedAll, Allowed}
-use Rattle.runs.proofs.Rows.{sized-by, past-by, past-stays}
-use Rattle.secrecy.specs.Steps.{Step, StepMove, callAt, movesOf, moveAt}
+use Rattle.runs.proofs.Facts.{Maskable, AllowedAll, Allowed}
+use Rattle.runs.proofs.Rows.{sized-marks, sized-by, past-by, past-stays}
+use Rattle.secrecy.specs.Steps.{Step, callAt}
 use Rattle.secrecy.specs.Seen.{Entry, posts, doneAt, linesOf, postsAfter, entryOf, run}
 use Rattle.secrecy.specs.Rules.{AllSame, SameAnswers, Rule, Rules, refusalOf}
 use Rattle.secrecy.specs.Book.{Book, Agrees, Agree, enteredBy, entered, booked, bookAfter}
-use Rattle.secrecy.proofs.Moves.{moves-at}
 use Rattle.secrecy.proofs.Link.{Gaps}
 use Rattle.secrecy.proofs.State.{Past}
 use Rattle.runs.proofs.Start.{sizes}
@@ -62,73 +62,56 @@ module _ (T : Two) where
   c1 lines i c = callAt (T .plan) (T .d) (T .u) lines i c
 
   -- masks are made of a triple that has none yet
-  module _ (lines : List (List ℕ)) where
-    abbrev mv : StepMove → CallMove
-    mv c = moveAt (T .plan) (T .d) (T .u) lines 1 c
+  other-by : (m : Masking) (M N : Marks) → Sized N → Maskable m M → (b b' : Book) (r : ℕ) → (Past (remembered m N) r → ⊥) → (rest : Gaps)
+      → reckonedBy m b b' r rest ≡ rest
+  other-by none M N z al b b' r np rest = refl
+  other-by (of x y r') M N z al b b' r np rest = ap (λ (t : Bool). cond t (factorsApart b b' x y) rest) (ne-eqb r r' ne)
+    where
+      ne : r ≢ r'
+      ne e = np (inl (ap (λ (w : ℕ). getD (set (N .marks) r' 5) w 0) e ∙ getD-set-same (N .marks) r' 5 0 (omega (arith, al .r-low, z .marks))))
 
-    module _ (M : Marks) (z : Sized M) (b b' : Book) where
-      other-by : (c : StepMove) → AllowedBy (mv c) M → (r : ℕ) → (Past (marksBy (mv c) M) r → ⊥) → (rest : Gaps) → reckonedBy c b b' r rest ≡ rest
-      other-by (loads r' pack) al r np rest = refl
-      other-by (loadsTriple r' pack) al r np rest = refl
-      other-by (deals r' c) al r np rest = refl
-      other-by (opens r' blocks) al r np rest = refl
-      other-by (adds r' x y scale) al r np rest = refl
-      other-by (factors x y r') al r np rest = ap (λ (t : Bool). cond t (factorsApart b b' x y) rest) (ne-eqb r r' ne)
-        where
-          ne : r ≢ r'
-          ne e = np (inl (ap (λ (w : ℕ). getD (set (M .marks) r' 5) w 0) e ∙ getD-set-same (M .marks) r' 5 0 (omega (arith, al .r-low, z .marks))))
-      other-by (multiplies r' blocks blocks') al r np rest = refl
+  -- the masks made now are those that were reckoned with
+  fit-by : (m : Masking) (M : Marks) → Maskable m M → (b b' : Book) (rest : ℕ → Gaps)
+      → ((r : ℕ) → r < 96 → (Past M r → ⊥) → reckonedBy m b b' r (rest r) ≡ T .Δ r) → FitBy T m b b'
+  fit-by none M al b b' rest h = tt
+  fit-by (of x y r') M al b b' rest h = (ap (λ (g : Gaps). g .left) now, ap (λ (g : Gaps). g .right) now)
+    where
+      young : Past M r' → ⊥
+      young (inl five) = omega (arith, al .first)
+      young (inr six) = omega (arith, al .first)
 
-      -- the masks made now are those that were reckoned with
-      fit-by : (c : StepMove) → AllowedBy (mv c) M → (rest : ℕ → Gaps)
-          → ((r : ℕ) → r < 96 → (Past M r → ⊥) → reckonedBy c b b' r (rest r) ≡ T .Δ r) → FitBy T c b b'
-      fit-by (loads r' pack) al rest h = tt
-      fit-by (loadsTriple r' pack) al rest h = tt
-      fit-by (deals r' c) al rest h = tt
-      fit-by (opens r' blocks) al rest h = tt
-      fit-by (adds r' x y scale) al rest h = tt
-      fit-by (factors x y r') al rest h = (ap (λ (g : Gaps). g .left) now, ap (λ (g : Gaps). g .right) now)
-        where
-          young : Past M r' → ⊥
-          young (inl five) = omega (arith, al .first)
-          young (inr six) = omega (arith, al .first)
+      now : factorsApart b b' x y ≡ T .Δ r'
+      now = sym (ap (λ (t : Bool). cond t (factorsApart b b' x y) (rest r')) (eq-eqb r' r' refl)) ∙ h r' (omega (arith, al .r-low)) young
 
-          now : factorsApart b b' x y ≡ T .Δ r'
-          now = sym (ap (λ (t : Bool). cond t (factorsApart b b' x y) (rest r')) (eq-eqb r' r' refl)) ∙ h r' (omega (arith, al .r-low)) young
-      fit-by (multiplies r' blocks blocks') al rest h = tt
+  other-all : (todo : List Act) (M : Marks) (b b' : Book) → Sized M → AllowedAll todo M → (r : ℕ) → (Past (marksAll todo M) r → ⊥) → (rest : Gaps)
+      → reckonedAll (T .u) (T .u') todo b b' r rest ≡ rest
+  other-all [] M b b' z al r np rest = refl
+  other-all (a ∷ todo) M b b' z al r np rest =
+      other-by (masking a) M (markAll (marksOf a) M) (sized-marks (marksOf a) M z) (al .0 .1) b b' r
+      (λ past. np (past-stays (T .plan) (T .d) todo (marksBy a M) (sized-by a M z) (al .1) r past)) _
+      ∙ other-all todo (marksBy a M) (enteredBy (T .u) a b) (enteredBy (T .u') a b') (sized-by a M z) (al .1) r np rest
 
-    other-all : (cs : List StepMove) (M : Marks) (b b' : Book) → Sized M → AllowedAll (map (moveAt (T .plan) (T .d) (T .u) lines 1) cs) M → (r : ℕ)
-        → (Past (marksAll (map (moveAt (T .plan) (T .d) (T .u) lines 1) cs) M) r → ⊥) → (rest : Gaps) → reckonedAll (T .u) (T .u') cs b b' r rest ≡ rest
-    other-all [] M b b' z al r np rest = refl
-    other-all (c ∷ cs) M b b' z al r np rest =
-        other-by M z b b' c (al .0) r
-        (λ past. np (past-stays (T .plan) (T .d) (map (moveAt (T .plan) (T .d) (T .u) lines 1) cs) (marksBy (mv c) M) (sized-by (mv c) M z) (al .1) r past)) _
-        ∙ other-all cs (marksBy (mv c) M) (enteredBy (T .u) c b) (enteredBy (T .u') c b') (sized-by (mv c) M z) (al .1) r np rest
-
-    fit-all : (cs : List StepMove) (M : Marks) (b b' : Book) → Sized M → AllowedAll (map (moveAt (T .plan) (T .d) (T .u) lines 1) cs) M → (rest : ℕ → Gaps)
-        → ((r : ℕ) → r < 96 → (Past M r → ⊥) → reckonedAll (T .u) (T .u') cs b b' r (rest r) ≡ T .Δ r) → FitAll T cs b b'
-    fit-all [] M b b' z al rest h = tt
-    fit-all (c ∷ cs) M b b' z al rest h = (
-      fit-by M z b b' c (al .0) (λ r. reckonedAll (T .u) (T .u') cs (enteredBy (T .u) c b) (enteredBy (T .u') c b') r (rest r)) h,
-      fit-all cs (marksBy (mv c) M) (enteredBy (T .u) c b) (enteredBy (T .u') c b') (sized-by (mv c) M z) (al .1) rest
-          (λ r lr np. sym (other-by M z b b' c (al .0) r np _) ∙ h r lr (λ past. np (past-by (T .plan) (T .d) (mv c) M z (al .0) r past))),
-    )
+  fit-all : (todo : List Act) (M : Marks) (b b' : Book) → Sized M → AllowedAll todo M → (rest : ℕ → Gaps)
+      → ((r : ℕ) → r < 96 → (Past M r → ⊥) → reckonedAll (T .u) (T .u') todo b b' r (rest r) ≡ T .Δ r) → FitAll T todo b b'
+  fit-all [] M b b' z al rest h = tt
+  fit-all (a ∷ todo) M b b' z al rest h = (
+    fit-by (masking a) M (al .0 .1) b b' (λ r. reckonedAll (T .u) (T .u') todo (enteredBy (T .u) a b) (enteredBy (T .u') a b') r (rest r)) h,
+    fit-all todo (marksBy a M) (enteredBy (T .u) a b) (enteredBy (T .u') a b') (sized-by a M z) (al .1) rest
+        (λ r lr np.
+        sym (other-by (masking a) M (markAll (marksOf a) M) (sized-marks (marksOf a) M z) (al .0 .1) b b' r np _)
+        ∙ h r lr (λ past. np (past-by (T .plan) (T .d) a M z (al .0) r past))),
+  )
 
   module _ (m : Moments) (R : Pair T m) where
     open Moments m using (marks as M, vec, vec', book as b, book' as b', lines, posts as q, posts' as q')
 
-    moving : (c : Step) → Allowed (c1 lines 1 c) M → AllowedAll (map (moveAt (T .plan) (T .d) (T .u) lines 1) (movesOf c)) M
-    moving c al = subst (λ (cs : List CallMove). AllowedAll cs M) (moves-at (T .plan) (T .d) (T .u) lines 1 c) (al .moving)
-
-    here-other : (c : Step) → Allowed (c1 lines 1 c) M → (r : ℕ) → r < 96 → (Past (marksAfter (c1 lines 1 c) M) r → ⊥) → (rest : Gaps)
+    here-other : (c : Step) → Allowed (acts c) (sends c) M → (r : ℕ) → r < 96 → (Past (marksAll (acts c) M) r → ⊥) → (rest : Gaps)
         → reckonedHere (T .u) (T .u') c 0 b b' r rest ≡ rest
-    here-other c al r lr np rest =
-        other-all lines (movesOf c) M b b' (R .one .sized) (moving c al) r
-        (λ past. np (subst (λ (cs : List CallMove). Past (marksAll cs M) r) (sym (moves-at (T .plan) (T .d) (T .u) lines 1 c)) past)) rest
+    here-other c al r lr np rest = other-all (acts c) M b b' (R .one .sized) (al .moving) r np rest
 
-    fit-of : (c : Step) → Allowed (c1 lines 1 c) M → (rest : ℕ → Gaps)
+    fit-of : (c : Step) → Allowed (acts c) (sends c) M → (rest : ℕ → Gaps)
         → ((r : ℕ) → r < 96 → (Past M r → ⊥) → reckonedHere (T .u) (T .u') c 0 b b' r (rest r) ≡ T .Δ r) → Fit T m R c
-    fit-of c al rest h = fit-all lines (movesOf c) M b b' (R .one .sized) (moving c al) rest h
+    fit-of c al rest h = fit-all (acts c) M b b' (R .one .sized) (al .moving) rest h
 
   -- ---- the whole list
 
@@ -252,7 +235,7 @@ module _ (T : Two) where
           joinup 0 z rule ag (λ g. fit) _ _ _ _ _ (ap (λ (k : ℕ). booked (T .u) c k b) (sym ek)) (ap (λ (k : ℕ). booked (T .u') c k b') (sym ek))
           (ih _ _ _ _ _ (live T m R c z rule ag fit) (rules .1)
           (subst (λ (k : ℕ). Agree (T .u) (T .u') cs es (booked (T .u) c k b) (booked (T .u') c k b')) ek (agree .1))
-          (λ r lr np. sym (here-other m R c al r lr np _) ∙ now r lr (λ past. np (past-stays (T .plan) (T .d) (moves (c1 lines 1 c)) (m .marks) (R .one .sized) (al .moving) r past))))
+          (λ r lr np. sym (here-other m R c al r lr np _) ∙ now r lr (λ past. np (past-stays (T .plan) (T .d) (acts c) (m .marks) (R .one .sized) (al .moving) r past))))
         where
           z : (i : ℕ) → 1 ≤ i → i ≤ T .plan .n → Outcomes.refusalOf (c1 lines i c) (q i) ≡ 0
           z i lo hi = answers i lo hi ∙ ek
@@ -263,7 +246,7 @@ module _ (T : Two) where
           ag : Agrees c 0 b b'
           ag = subst (λ (k : ℕ). Agrees c k b b') ek (agree .0)
 
-          al : Allowed (c1 lines 1 c) (m .marks)
+          al : Allowed (acts c) (sends c) (m .marks)
           al =
               allowed-at (runOne T) (momentOne m) (R .one) c z 1 (omega arith) (omega (arith, sizes (T .plan) (T .sound) .n-low))
 

@@ -16,22 +16,24 @@ use Rattle.refusal.specs.Refusal.{first}
 use Rattle.factory.specs.Packs.{dealerNumber}
 use Rattle.vectors.specs.Vector.{Vector, raised, number, numbers, vectorOf}
 use Rattle.vectors.proofs.Linear.{length-numbers}
-use Rattle.runs.specs.Draws.{Plan, Draw, IsDraw, Sound, IsRaw, Raw, none, by, whenRaw, rawDraw, rawPack, triplePack}
-use Rattle.runs.specs.Calls.{Post, Call, CallMove, loads, loadsTriple, deals, opens, adds, factors, multiplies, openingLine, masksLine, Among, at}
-use Rattle.runs.proofs.Marks.{Marks, Sized, markOf, leftOf, rightOf, maskA, maskB, written, sessionAt, rawVector, marksBy, vectorsBy, marksAll, vectorsAll, marksAfter, vectorsAfter, at-same, at-other}
+use Rattle.runs.specs.Draws.{Plan, Draw, IsDraw, Sound, IsRaw, Raw, by, whenRaw, rawDraw, rawPack, triplePack}
+use Rattle.runs.specs.Outline.{Act, loads, loadsTriple, deals, opens, adds, factors, multiplies, Taking, nothingTaken, aRowPack, aTriplePack, aNumber, aRecord, twoRecords, takes, Given, Move, moves, actsIn, acts, sends}
+use Rattle.runs.specs.Calls.{Post, Actual, openingLine, masksLine, Among, at}
+use Rattle.runs.proofs.Outlines.{every-all, givenBy, filledMove, moves-filled}
+use Rattle.runs.proofs.Marks.{Marks, Sized, markOf, leftOf, rightOf, maskA, maskB, written, sessionAt, rawVector, Masking, none, of, masking, marksBy, vectorsBy, marksAll, vectorsAll, at-same, at-other}
 use Rattle.runs.proofs.Numbers.{dealt-number, summed-number, product-number, third-number}
 use Rattle.runs.proofs.Start.{sizes}
-use Rattle.runs.proofs.Steps.{Stands, FitsBy, Fits}
+use Rattle.runs.proofs.Steps.{Stands, FitsWith, Fits}
 use Rattle.runs.proofs.Lines.{Opening, Masks}
 use Rattle.runs.proofs.Records.{all-true}
 use Rattle.runs.proofs.Facts as Facts
-use Rattle.runs.proofs.Facts.{AllowedBy, AllowedAll, Ready, Allowed, Facts, Meant}
+use Rattle.runs.proofs.Facts.{Maskable, AllowedBy, AllowedAll, ReadyFor, Allowed, Facts, Meant}
 use Rattle.runs.proofs.Rows.{sized-by, held-by}
 use Rattle.runs.proofs.Kept.{facts-by}
-use Rattle.secrecy.specs.Steps.{Secrets, Step, StepMove, Pack, Number, own, sent, callAt, movesOf, moveAt, dealtNumber}
-use Rattle.secrecy.specs.Rules.{RuleBy, Rule}
+use Rattle.secrecy.specs.Steps.{Secrets, Fixed, Step, Pack, Number, own, sent, filling, callAt, dealtNumber}
+use Rattle.secrecy.specs.Rules.{RuleWith, Rule}
 use Rattle.secrecy.specs.Book.{Book, enteredBy, enteredAll, entered}
-use Rattle.secrecy.proofs.Moves.{moves-at}
+use Rattle.secrecy.proofs.Moves.{numberAt, vectorsThen}
 open CommutativeRing 𝓡 using (mul as _⊗_)
 
 infixl 70 _⊗_
@@ -64,6 +66,59 @@ Held b r X = number X ≡ element (b .place r)
 abbrev pub Waits : Book → ℕ → ℕ → ℕ → Type 0
 Waits b r x y = (b .factorA r ≡ b .place x) × (b .factorB r ≡ b .place y)
 
+-- ---- the book, act by act
+
+-- the numbers noted with each triple, after masks
+abbrev pub notedA : Masking → Book → ℕ → ℕ
+notedA none b = b .factorA
+notedA (of x y r) b = at (b .factorA) r (b .place x)
+
+abbrev pub notedB : Masking → Book → ℕ → ℕ
+notedB none b = b .factorB
+notedB (of x y r) b = at (b .factorB) r (b .place y)
+
+module _ (u : Secrets) where
+  pub noted-is : (a : Act) (b : Book) → (enteredBy u a b .factorA ≡ notedA (masking a) b) × (enteredBy u a b .factorB ≡ notedB (masking a) b)
+  noted-is (loads r) b = (refl, refl)
+  noted-is (loadsTriple r) b = (refl, refl)
+  noted-is (deals r) b = (refl, refl)
+  noted-is (opens r) b = (refl, refl)
+  noted-is (adds r x y scale) b = (refl, refl)
+  noted-is (factors x y r) b = (refl, refl)
+  noted-is (multiplies r) b = (refl, refl)
+
+  -- a held row's place stays; so do the numbers noted for a triple whose masks were made
+  pub place-by : (M : Marks) (b : Book) (a : Act) → AllowedBy a M → (x : ℕ) → markOf M x ≡ 2 → enteredBy u a b .place x ≡ b .place x
+  place-by M b (loads r) al x two = refl
+  place-by M b (loadsTriple r) al x two = refl
+  place-by M b (deals r) al x two = at-other (b .place) r (u r) x (λ e. omega (arith, ap (markOf M) e, al .0 .1))
+  place-by M b (opens r) al x two = refl
+  place-by M b (adds r y z scale) al x two = at-other (b .place) r _ x (λ e. omega (arith, ap (markOf M) e, al .0 .r-empty))
+  place-by M b (factors y z r) al x two = refl
+  place-by M b (multiplies r) al x two = at-other (b .place) (r + 2) _ x (λ e. omega (arith, ap (markOf M) e, al .0 .third))
+
+  notes-stay : (M : Marks) (b : Book) (m : Masking) → Maskable m M → (x : ℕ) → Past M x
+      → (notedA m b x ≡ b .factorA x) × (notedB m b x ≡ b .factorB x)
+  notes-stay M b none al x past = (refl, refl)
+  notes-stay M b (of y z r) al x past =
+      let ne : x ≢ r = elim past [ inl e ↦ (λ g. omega (arith, ap (markOf M) g, al .first)) | inr e ↦ (λ g. omega (arith, ap (markOf M) g, al .first)) ] in
+      (at-other (b .factorA) r (b .place y) x ne, at-other (b .factorB) r (b .place z) x ne)
+
+  pub notes-by : (M : Marks) (b : Book) (a : Act) → AllowedBy a M → (x : ℕ) → Past M x
+      → (enteredBy u a b .factorA x ≡ b .factorA x) × (enteredBy u a b .factorB x ≡ b .factorB x)
+  notes-by M b a al x past =
+      let n = noted-is a b in
+      let k = notes-stay M b (masking a) (al .1) x past in
+      (ap (λ (f : ℕ → ℕ). f x) (n .0) ∙ k .0, ap (λ (f : ℕ → ℕ). f x) (n .1) ∙ k .1)
+
+pub place-all : (plan : Plan) (draw : Draw) (u : Secrets) (todo : List Act) (M : Marks) (b : Book) → Sized M → AllowedAll todo M → (x : ℕ)
+    → markOf M x ≡ 2 → enteredAll u todo b .place x ≡ b .place x
+place-all plan draw u [] M b z al x two = refl
+place-all plan draw u (a ∷ todo) M b z al x two =
+    place-all plan draw u todo (marksBy a M) (enteredBy u a b) (sized-by a M z) (al .1) x
+    (held-by plan draw a 0 M (rawVector plan draw) z (al .0) x two .0)
+    ∙ place-by u M b a (al .0) x two
+
 module _ (C : Run) where
   open Run C using (plan, draw, u, len)
 
@@ -87,12 +142,9 @@ module _ (C : Run) where
     pub maskings : (r j : ℕ) (xs : List ℕ) → AMask r j xs → Among (masksLine r j xs) (m .lines)
         → Past (m .marks) r × (markOf (m .marks) r ≡ 5 → xs ≡ maskNumbers (m .marks) (m .vec) r j)
 
-  -- ---- one move after the other: what the marks say of vectors and book
+  -- ---- one act after the other: what the marks say of vectors and book
 
-  module _ (lines : List (List ℕ)) (i : ℕ) where
-    abbrev mv : StepMove → CallMove
-    mv c = moveAt plan draw u lines i c
-
+  module _ (lines : List (List ℕ)) where
     module _ (M : Marks) (vec : ℕ → Vector) (b : Book) (f : Facts plan draw (Held b) (Waits b) M vec) where
       dealt-is : (r : ℕ) → r < 96 → markOf M r ≡ 1 → number (raised (element (dealtNumber plan draw u r)) (vec r)) ≡ element (u r)
       unfolding dealtNumber
@@ -103,7 +155,7 @@ module _ (C : Run) where
           ∙ dealt-number plan draw (C .is-draw) r (u r) (C .low r (g .0))
         where
           go : (w : Raw) → IsRaw w → whenRaw w (dealerNumber (u r) (getD (rawDraw draw r) 0 0) .value) 0 ≡ dealerNumber (u r) (getD (rawDraw draw r) 0 0) .value
-          go none x = absurd x
+          go Raw.none x = absurd x
           go (by dealer) x = refl
 
       product-is : (r : ℕ) → Facts.Multiplying 5 M (leftOf M r) (rightOf M r) r
@@ -119,135 +171,99 @@ module _ (C : Run) where
           (f (rightOf M r) (al .b-low) .held (al .b-held) ∙ ap element (sym (w .means .1)))
           ∙ sym (element-product (b .factorA r) (b .factorB r))
 
-      meant : (c : StepMove) → AllowedBy (mv c) M → RuleBy plan 0 lines c
-          → Meant plan draw (Held (enteredBy u c b)) (Waits (enteredBy u c b)) (mv c) M vec
-      meant (loads r (own x)) al rule = rule refl .1
-      meant (loads r (Pack.fixed x)) al rule = absurd (rule refl)
-      meant (loadsTriple r (own x)) al rule = rule refl .1
-      meant (loadsTriple r (Pack.fixed x)) al rule = absurd (rule refl)
-      meant (deals r sent) al rule = dealt-is r (al .0) (al .1) ∙ ap element (sym (at-same (b .place) r (u r)))
-      meant (deals r (Number.fixed x)) al rule = absurd (rule refl)
-      meant (opens r blocks) al rule = tt
-      meant (adds r x y scale) al rule =
-          summed-number scale (b .place x) (b .place y) (vec x) (vec y) (f x (al .a-low) .held (al .a-held)) (f y (al .b-low) .held (al .b-held))
+      meant : (a : Act) (x : Given Fixed (takes a)) → AllowedBy a M → RuleWith plan 0 lines (takes a) x
+          → Meant plan draw (Held (enteredBy u a b)) (Waits (enteredBy u a b)) a (numberAt plan draw u (takes a) x) M vec
+      meant (loads r) (own x) al rule = rule refl .1
+      meant (loads r) (Pack.fixed x) al rule = absurd (rule refl)
+      meant (loadsTriple r) (own x) al rule = rule refl .1
+      meant (loadsTriple r) (Pack.fixed x) al rule = absurd (rule refl)
+      meant (deals r) sent al rule = dealt-is r (al .0 .0) (al .0 .1) ∙ ap element (sym (at-same (b .place) r (u r)))
+      meant (deals r) (Number.fixed x) al rule = absurd (rule refl)
+      meant (opens r) blocks al rule = tt
+      meant (adds r x y scale) t al rule =
+          summed-number scale (b .place x) (b .place y) (vec x) (vec y) (f x (al .0 .a-low) .held (al .0 .a-held))
+          (f y (al .0 .b-low) .held (al .0 .b-held))
           ∙ ap element (sym (at-same (b .place) r _))
-      meant (factors x y r) al rule = (at-same (b .factorA) r (b .place x), at-same (b .factorB) r (b .place y))
-      meant (multiplies r blocks blocks') al rule = product-is r al ∙ ap element (sym (at-same (b .place) (r + 2) _))
+      meant (factors x y r) t al rule = (at-same (b .factorA) r (b .place x), at-same (b .factorB) r (b .place y))
+      meant (multiplies r) blocks al rule = product-is r (al .0) ∙ ap element (sym (at-same (b .place) (r + 2) _))
 
-    -- a held row's place stays; so do the numbers noted for a triple whose masks were made
-    pub place-by : (M : Marks) (b : Book) (c : StepMove) → AllowedBy (mv c) M → (x : ℕ) → markOf M x ≡ 2 → enteredBy u c b .place x ≡ b .place x
-    place-by M b (loads r pack) al x two = refl
-    place-by M b (loadsTriple r pack) al x two = refl
-    place-by M b (deals r c) al x two = at-other (b .place) r (u r) x (λ e. omega (arith, ap (markOf M) e, al .1))
-    place-by M b (opens r blocks) al x two = refl
-    place-by M b (adds r y z scale) al x two = at-other (b .place) r _ x (λ e. omega (arith, ap (markOf M) e, al .r-empty))
-    place-by M b (factors y z r) al x two = refl
-    place-by M b (multiplies r blocks blocks') al x two = at-other (b .place) (r + 2) _ x (λ e. omega (arith, ap (markOf M) e, al .third))
-
-    pub notes-by : (M : Marks) (b : Book) (c : StepMove) → AllowedBy (mv c) M → (x : ℕ) → Past M x
-        → (enteredBy u c b .factorA x ≡ b .factorA x) × (enteredBy u c b .factorB x ≡ b .factorB x)
-    notes-by M b (loads r pack) al x past = (refl, refl)
-    notes-by M b (loadsTriple r pack) al x past = (refl, refl)
-    notes-by M b (deals r c) al x past = (refl, refl)
-    notes-by M b (opens r blocks) al x past = (refl, refl)
-    notes-by M b (adds r y z scale) al x past = (refl, refl)
-    notes-by M b (factors y z r) al x past =
-        let ne : x ≢ r = elim past [ inl e ↦ (λ g. omega (arith, ap (markOf M) g, al .first)) | inr e ↦ (λ g. omega (arith, ap (markOf M) g, al .first)) ] in
-        (at-other (b .factorA) r (b .place y) x ne, at-other (b .factorB) r (b .place z) x ne)
-    notes-by M b (multiplies r blocks blocks') al x past = (refl, refl)
-
-    pub facts-step : (M : Marks) (vec : ℕ → Vector) (b : Book) (c : StepMove) → Sized M → AllowedBy (mv c) M → RuleBy plan 0 lines c
-        → Facts plan draw (Held b) (Waits b) M vec
-        → Facts plan draw (Held (enteredBy u c b)) (Waits (enteredBy u c b)) (marksBy (mv c) M) (vectorsBy plan draw (mv c) M vec)
-    facts-step M vec b c z al rule f =
-        facts-by plan draw (Held b) (Waits b) (Held (enteredBy u c b)) (Waits (enteredBy u c b)) (mv c) M vec z al (meant M vec b f c al rule)
-        (λ x lx two h. h ∙ ap element (sym (place-by M b c al x two)))
+    pub facts-step : (M : Marks) (vec : ℕ → Vector) (b : Book) (a : Act) (x : Given Fixed (takes a)) → Sized M → AllowedBy a M
+        → RuleWith plan 0 lines (takes a) x → Facts plan draw (Held b) (Waits b) M vec
+        → Facts plan draw (Held (enteredBy u a b)) (Waits (enteredBy u a b)) (marksBy a M)
+        (vectorsBy plan draw a (numberAt plan draw u (takes a) x) M vec)
+    facts-step M vec b a x z al rule f =
+        facts-by plan draw (Held b) (Waits b) (Held (enteredBy u a b)) (Waits (enteredBy u a b)) a _ M vec z al (meant M vec b f a x al rule)
+        (λ x lx two h. h ∙ ap element (sym (place-by u M b a al x two)))
         (λ x lx five five' w.
-        let n = notes-by M b c al x (inl five) in
+        let n = notes-by u M b a al x (inl five) in
         let g = f x lx .waiting five in (
-          n .0 ∙ w .0 ∙ sym (place-by M b c al (leftOf M x) (g .a-held)),
-          n .1 ∙ w .1 ∙ sym (place-by M b c al (rightOf M x) (g .b-held)),
+          n .0 ∙ w .0 ∙ sym (place-by u M b a al (leftOf M x) (g .a-held)),
+          n .1 ∙ w .1 ∙ sym (place-by u M b a al (rightOf M x) (g .b-held)),
         ))
         f
 
-    place-all : (cs : List StepMove) (M : Marks) (b : Book) → Sized M → AllowedAll (map (moveAt plan draw u lines i) cs) M → (x : ℕ) → markOf M x ≡ 2
-        → enteredAll u cs b .place x ≡ b .place x
-    place-all [] M b z al x two = refl
-    place-all (c ∷ cs) M b z al x two =
-        place-all cs (marksBy (mv c) M) (enteredBy u c b) (sized-by (mv c) M z) (al .1) x (held-by plan draw (mv c) M (rawVector plan draw) z (al .0) x two .0)
-        ∙ place-by M b c (al .0) x two
+    abbrev Ruled : Move Fixed → Type 0
+    Ruled m = RuleWith plan 0 lines (takes (m .0)) (m .1)
 
-    facts-all : (cs : List StepMove) (M : Marks) (vec : ℕ → Vector) (b : Book) → Sized M → AllowedAll (map (moveAt plan draw u lines i) cs) M
-        → All (RuleBy plan 0 lines) cs → Facts plan draw (Held b) (Waits b) M vec
-        → Facts plan draw (Held (enteredAll u cs b)) (Waits (enteredAll u cs b)) (marksAll (map (moveAt plan draw u lines i) cs) M)
-        (vectorsAll plan draw (map (moveAt plan draw u lines i) cs) M vec)
+    pub facts-all : (ms : List (Move Fixed)) (M : Marks) (vec : ℕ → Vector) (b : Book) → Sized M → AllowedAll (actsIn ms) M
+        → All Ruled ms → Facts plan draw (Held b) (Waits b) M vec
+        → Facts plan draw (Held (enteredAll u (actsIn ms) b)) (Waits (enteredAll u (actsIn ms) b)) (marksAll (actsIn ms) M)
+        (vectorsAll plan draw (numberAt plan draw u) ms M vec)
     facts-all [] M vec b z al rule f = f
-    facts-all (c ∷ cs) M vec b z al rule f =
-        facts-all cs (marksBy (mv c) M) (vectorsBy plan draw (mv c) M vec) (enteredBy u c b) (sized-by (mv c) M z) (al .1) (rule .1)
-        (facts-step M vec b c z (al .0) (rule .0) f)
+    facts-all (m ∷ ms) M vec b z al rule f =
+        facts-all ms (marksBy (m .0) M) (vectorsBy plan draw (m .0) (numberAt plan draw u (takes (m .0)) (m .1)) M vec) (enteredBy u (m .0) b)
+        (sized-by (m .0) M z) (al .1) (rule .1) (facts-step M vec b (m .0) (m .1) z (al .0) (rule .0) f)
 
   module _ (m : Moment) (S : State m) where
     open Moment m using (marks as M, vec, book as b, lines)
 
-    -- the call of the list at post i
-    abbrev call : ℕ → Step → Call
-    call i c = callAt plan draw u lines i c
-
     -- ---- the rules give each post what its rows need
 
-    -- a half of an M line, of the triple whose masks wait
-    module _ (r : ℕ) (low : r ≤ 93) (five : markOf M r ≡ 5) (j : ℕ) (lo : 1 ≤ j) (hi : j ≤ plan .n) where
-      both-are : (both : List ℕ) → AMask r j both → Among (masksLine r j both) lines → both ≡ maskNumbers M vec r j
-      both-are both m st = S .maskings r j both m st .1 five
-
     module _ (i : ℕ) (lo : 1 ≤ i) (hi : i ≤ plan .n) where
-      fits-by : (c : StepMove) → Ready M (moveAt plan draw u lines i c) → RuleBy plan 0 lines c → FitsBy plan draw i M vec (moveAt plan draw u lines i c)
-      fits-by (loads r (own x)) al rule = let o = rule refl in (o .1, ap (rawPack plan draw i) (o .0))
-      fits-by (loads r (Pack.fixed x)) al rule = absurd (rule refl)
-      fits-by (loadsTriple r (own x)) al rule = let o = rule refl in (o .1, ap (triplePack plan draw i) (o .0))
-      fits-by (loadsTriple r (Pack.fixed x)) al rule = absurd (rule refl)
-      fits-by (deals r c) al rule = tt
-      fits-by (opens r blocks) al rule = tt
-      fits-by (adds r x y scale) al rule = tt
-      fits-by (factors x y r) al rule = tt
-      fits-by (multiplies r blocks blocks') al rule = (
-        all-true (sessionAt plan draw i M) (blocks i lines) (maskA M vec r) (λ j lj hj ne there.
+      abbrev put : (t : Taking) → Given Fixed t → Given Actual t
+      put t x = givenBy (filling plan draw u lines i) t x
+
+      fits-with : (t : Taking) (x : Given Fixed t) → ReadyFor M t → RuleWith plan 0 lines t x → FitsWith plan draw i M vec t (put t x)
+      fits-with nothingTaken x al rule = tt
+      fits-with (aRowPack r) (own x) al rule = let o = rule refl in (o .1, ap (rawPack plan draw i) (o .0))
+      fits-with (aRowPack r) (Pack.fixed x) al rule = absurd (rule refl)
+      fits-with (aTriplePack r) (own x) al rule = let o = rule refl in (o .1, ap (triplePack plan draw i) (o .0))
+      fits-with (aTriplePack r) (Pack.fixed x) al rule = absurd (rule refl)
+      fits-with (aNumber r) x al rule = tt
+      fits-with (aRecord r) x al rule = tt
+      fits-with (twoRecords r) x al rule = (
+        all-true (sessionAt plan draw i M) (x .0 i lines) (maskA M vec r) (λ j lj hj ne there.
             let o = rule (inl refl) .0 i j lo hi lj hj ne there in
-            o .4 ∙ ap (take (plan .t + 1)) (both-are r low (al .first) j lj hj (o .0) (mask j lj hj (o .0) (o .1) (o .2)) (o .3))
+            o .4 ∙ ap (take (plan .t + 1)) (both-are j lj hj (o .0) (o .1) (o .2) (o .3))
             ∙ take-at (numbers (plan .t + 1) (maskA M vec r .v j)) _ (plan .t + 1) (length-numbers (plan .t + 1) (maskA M vec r .v j))),
-        all-true (sessionAt plan draw i M) (blocks' i lines) (maskB M vec r) (λ j lj hj ne there.
+        all-true (sessionAt plan draw i M) (x .1 i lines) (maskB M vec r) (λ j lj hj ne there.
             let o = rule (inl refl) .1 i j lo hi lj hj ne there in
-            o .4 ∙ ap (drop (plan .t + 1)) (both-are r low (al .first) j lj hj (o .0) (mask j lj hj (o .0) (o .1) (o .2)) (o .3))
+            o .4 ∙ ap (drop (plan .t + 1)) (both-are j lj hj (o .0) (o .1) (o .2) (o .3))
             ∙ drop-at (numbers (plan .t + 1) (maskA M vec r .v j)) _ (plan .t + 1) (length-numbers (plan .t + 1) (maskA M vec r .v j))),
       )
         where
-          low : r ≤ 93
-          low = omega (arith, al .r-low)
+          -- what an M line of the triple shows of post j
+          both-are : (j : ℕ) → 1 ≤ j → j ≤ plan .n → (both : List ℕ) → length both ≡ 2 * (plan .t + 1) → Elements both
+              → Among (masksLine r j both) lines → both ≡ maskNumbers M vec r j
+          both-are j lj hj both many els st =
+              S .maskings r j both (record { row = omega (arith, al .r-low); post = (lj, hj); many = many; low = els }) st .1 (al .first)
 
-          mask : (j : ℕ) → 1 ≤ j → j ≤ plan .n → (both : List ℕ) → length both ≡ 2 * (plan .t + 1) → Elements both → AMask r j both
-          mask j lj hj both many els = record { row = low; post = (lj, hj); many = many; low = els }
-
-      fits-all : (cs : List StepMove) → All (Ready M) (map (moveAt plan draw u lines i) cs) → All (RuleBy plan 0 lines) cs
-          → All (FitsBy plan draw i M vec) (map (moveAt plan draw u lines i) cs)
+      fits-all : (ms : List (Move Fixed)) → All (λ a. ReadyFor M (takes a)) (actsIn ms) → All (λ m. RuleWith plan 0 lines (takes (m .0)) (m .1)) ms
+          → All (λ m. FitsWith plan draw i M vec (takes (m .0)) (m .1)) (map (filledMove (filling plan draw u lines i)) ms)
       fits-all [] al rule = tt
-      fits-all (c ∷ cs) al rule = (fits-by c (al .0) (rule .0), fits-all cs (al .1) (rule .1))
+      fits-all (m ∷ ms) al rule = (fits-with (takes (m .0)) (m .1) (al .0) (rule .0), fits-all ms (al .1) (rule .1))
 
-      pub fits : (c : Step) → Allowed (call i c) M → Rule plan c 0 lines → Fits plan draw i M vec (call i c)
+      pub fits : (c : Step) → Allowed (acts c) (sends c) M → Rule plan c 0 lines → Fits plan draw i M vec (callAt plan draw u lines i c)
       fits c al rule =
-          subst (All (FitsBy plan draw i M vec)) (sym (moves-at plan draw u lines i c))
-          (fits-all (movesOf c) (subst (All (Ready M)) (moves-at plan draw u lines i c) (al .ready)) rule)
+          subst (All (λ m. FitsWith plan draw i M vec (takes (m .0)) (m .1))) (sym (moves-filled (filling plan draw u lines i) c))
+          (fits-all (moves c) (al .ready) (every-all _ (moves c) rule))
 
     -- ---- after the call
 
-    moving : (i : ℕ) (c : Step) → Allowed (call i c) M → AllowedAll (map (moveAt plan draw u lines i) (movesOf c)) M
-    moving i c al = subst (λ (cs : List CallMove). AllowedAll cs M) (moves-at plan draw u lines i c) (al .moving)
-
-    pub facts-on : (i : ℕ) (c : Step) → Allowed (call i c) M → Rule plan c 0 lines
-        → Facts plan draw (Held (entered u c b)) (Waits (entered u c b)) (marksAfter (call i c) M) (vectorsAfter plan draw (call i c) M vec)
-    facts-on i c al rule =
-        subst (λ (cs : List CallMove). Facts plan draw (Held (entered u c b)) (Waits (entered u c b)) (marksAll cs M) (vectorsAll plan draw cs M vec))
-        (sym (moves-at plan draw u lines i c)) (facts-all lines i (movesOf c) M vec b (S .sized) (moving i c al) rule (S .facts))
+    pub facts-on : (c : Step) → Allowed (acts c) (sends c) M → Rule plan c 0 lines
+        → Facts plan draw (Held (entered u c b)) (Waits (entered u c b)) (marksAll (acts c) M) (vectorsThen plan draw u c M vec)
+    facts-on c al rule = facts-all lines (moves c) M vec b (S .sized) (al .moving) (every-all _ (moves c) rule) (S .facts)
 
     -- a held row's place stays
-    pub place-stays : (i : ℕ) (c : Step) → Allowed (call i c) M → (x : ℕ) → markOf M x ≡ 2 → entered u c b .place x ≡ b .place x
-    place-stays i c al x two = place-all lines i (movesOf c) M b (S .sized) (moving i c al) x two
+    pub place-stays : (c : Step) → Allowed (acts c) (sends c) M → (x : ℕ) → markOf M x ≡ 2 → entered u c b .place x ≡ b .place x
+    place-stays c al x two = place-all plan draw u (acts c) M b (S .sized) (al .moving) x two

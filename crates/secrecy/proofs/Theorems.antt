@@ -12,17 +12,19 @@ use Rattle.session.specs.Sessions.{mark, created}
 use Rattle.session.specs.Rows.{width, rowAt}
 use Rattle.field.specs.Algebra.{CommutativeRing}
 use Rattle.field.proofs.Elements.{𝓡}
-use Rattle.poly.proofs.Lists.{all-of}
+use Rattle.poly.proofs.Lists.{all-of, all-map}
 use Rattle.vectors.specs.Vector.{Vector}
 use Rattle.field.specs.Modulus.{p}
 use Rattle.runs.specs.Draws.{Plan, Draw, IsDraw, IsRaw, pointOf}
-use Rattle.runs.specs.Calls.{Post, Sending, silence, itsOpening, itsMasks, newPost}
+use Rattle.runs.specs.Outline.{Sending, itsOpening, itsMasks, sends}
+use Rattle.runs.specs.Calls.{Post, newPost}
+use Rattle.runs.proofs.Outlines.{every-all, all-every}
 use Rattle.runs.proofs.Marks.{markOf, sessionAt}
 use Rattle.runs.proofs.Start.{start, start-sized, start-mark, start-stands, start-facts}
-use Rattle.secrecy.specs.Steps.{Secrets, Step, outlineOf}
+use Rattle.secrecy.specs.Steps.{Secrets, Step}
 use Rattle.secrecy.specs.Seen.{Entry, Seen, postsAfter, run, seen}
 use Rattle.secrecy.specs.Rules.{SameAnswers, Rules, refusalOf}
-use Rattle.secrecy.specs.Book.{Book, blank, booked, bookAfter, AgreesBy, Agree}
+use Rattle.secrecy.specs.Book.{Book, blank, booked, bookAfter, AgreesBy, Agrees, Agree}
 use Rattle.secrecy.specs.Claim.{Premises, Shows, AgreeingRows, SecrecyEverywhere, Secrecy}
 use Rattle.secrecy.specs.Count.{EqualCounts, ShowsRight}
 use Rattle.secrecy.proofs.Near.{groupKernel}
@@ -44,16 +46,19 @@ open CommutativeRing 𝓡 using (zero as 0ᴱ)
 
 -- ---- the premises with the two lists of secrets exchanged
 
-agrees-back : (s : Sending) (k : ℕ) (b b' : Book) → AgreesBy s k b b' → AgreesBy s k b' b
-agrees-back silence k b b' e = tt
-agrees-back (itsOpening r) k b b' e = λ z. sym (e z)
-agrees-back (itsMasks x y r) k b b' e = tt
+agrees-one : (k : ℕ) (b b' : Book) (s : Sending) → AgreesBy k b b' s → AgreesBy k b' b s
+agrees-one k b b' (itsOpening r) e = λ z. sym (e z)
+agrees-one k b b' (itsMasks x y r) e = tt
+
+agrees-back : (c : Step) (k : ℕ) (b b' : Book) → Agrees c k b b' → Agrees c k b' b
+agrees-back c k b b' e =
+    all-every (AgreesBy k b' b) (sends c) (all-map (agrees-one k b b') (sends c) (every-all (AgreesBy k b b') (sends c) e))
 
 agree-back : (u u' : Secrets) (cs : List Step) (es : List Entry) (b b' : Book) → Agree u u' cs es b b' → Agree u' u cs es b' b
 agree-back u u' [] es b b' a = tt
 agree-back u u' (c ∷ cs) [] b b' a = tt
 agree-back u u' (c ∷ cs) (e ∷ es) b b' a =
-    (agrees-back (outlineOf c .sends) (refusalOf e) b b' (a .0), agree-back u u' cs es (booked u c (refusalOf e) b) (booked u' c (refusalOf e) b') (a .1))
+    (agrees-back c (refusalOf e) b b' (a .0), agree-back u u' cs es (booked u c (refusalOf e) b) (booked u' c (refusalOf e) b') (a .1))
 
 exchanged : (plan : Plan) (group : List ℕ) (u u' : Secrets) (cs : List Step) (R : Seen) → Premises plan group u u' cs R → Premises plan group u' u cs R
 exchanged plan group u u' cs R h =

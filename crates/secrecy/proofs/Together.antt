@@ -13,19 +13,19 @@ use Rattle.poly.specs.Counting.{All}
 use Rattle.factory.specs.Draw.{eachFrom}
 use Rattle.vectors.specs.Vector.{Vector, plusTimes, raised, number}
 use Rattle.runs.specs.Draws.{pointOf, rawPack, triplePack}
-use Rattle.runs.specs.Calls as Calls
-use Rattle.runs.specs.Calls.{Call, CallMove, loads, loadsTriple, deals, opens, adds, factors, multiplies, perform, after, at}
-use Rattle.runs.proofs.Marks.{Marks, markOf, leftOf, rightOf, remarked, finished, maskA, maskB, productVector, written, marksBy, vectorsBy, marksAll, vectorsAll, marksAfter, vectorsAfter, at-same, at-other}
+use Rattle.runs.specs.Outline.{Act, loads, loadsTriple, deals, opens, adds, factors, multiplies, takes, Given, Move, moves, actsIn, acts, sends, filled}
+use Rattle.runs.specs.Calls.{Call, perform, at}
+use Rattle.runs.proofs.Outlines.{every-all}
+use Rattle.runs.proofs.Marks.{Marks, markOf, leftOf, rightOf, remarked, finished, maskA, maskB, productVector, written, Masking, none, of, masking, marksBy, vectorsBy, marksAll, vectorsAll, at-same, at-other}
 use Rattle.runs.proofs.Outcomes.{refusalOf, refusal-is}
-use Rattle.runs.proofs.Facts.{AllowedBy, AllowedAll, Allowed, MasksBy, Multiplying, Facts}
+use Rattle.runs.proofs.Facts.{AllowedBy, AllowedAll, Allowed, MasksBy, Multiplying}
 use Rattle.runs.proofs.Rows.{sized-by, five-by}
-use Rattle.secrecy.specs.Steps as Steps
-use Rattle.secrecy.specs.Steps.{Step, StepMove, Pack, Number, own, sent, callAt, movesOf, moveAt, heardFrom, dealtNumber}
+use Rattle.secrecy.specs.Steps.{Fixed, Step, Pack, Number, own, sent, packed, dealtWith, callAt, heardFrom, dealtNumber}
 use Rattle.secrecy.specs.Seen.{posts, joined, linesOf}
-use Rattle.secrecy.specs.Rules.{RuleBy, Rule}
+use Rattle.secrecy.specs.Rules.{RuleWith, Rule}
 use Rattle.secrecy.specs.Book.{Book, Agrees, enteredBy, enteredAll, entered}
-use Rattle.secrecy.proofs.Moves.{moves-at, marks-at, marks-after, allowed-two}
-use Rattle.secrecy.proofs.State.{Held, Waits, notes-by, facts-step}
+use Rattle.secrecy.proofs.Moves.{numberAt, vectorsThen}
+use Rattle.secrecy.proofs.State.{notedA, notedB, noted-is, notes-by, facts-step}
 use Rattle.secrecy.proofs.Near.{Near, near-plusTimes, near-raised}
 use Rattle.secrecy.proofs.Pair.{Two, runOne, runTwo, Moments, Pair, apart, Core, core, core-wait, FitBy, FitAll, Fit}
 use Rattle.secrecy.proofs.Answers.{Same, same-answers}
@@ -49,10 +49,6 @@ module _ (T : Two) (m : Moments) (R : Pair T m) where
   abbrev c2 : ℕ → Step → Call
   c2 i c = callAt (T .plan) (T .d') (T .u') lines i c
 
-  -- marks after the call are the same in both runs
-  pub marks-two : (c : Step) → marksAfter (c2 1 c) M ≡ marksAfter (c1 1 c) M
-  marks-two c = marks-after (T .plan) (T .d') (T .u') lines 1 c M ∙ sym (marks-after (T .plan) (T .d) (T .u) lines 1 c M)
-
   -- what every post answers to the call, with the refusal k
   module _ (c : Step) (k : ℕ) (z : (i : ℕ) → 1 ≤ i → i ≤ T .plan .n → refusalOf (c1 i c) (q i) ≡ k)
       (rule : Rule (T .plan) c k lines) (agree : Agrees c k b b') (fit : k ≡ 0 → Fit T m R c) where
@@ -67,20 +63,25 @@ module _ (T : Two) (m : Moments) (R : Pair T m) where
     pub lines-two : linesOf (T .plan) (T .d) (T .u) lines c q ≡ linesOf (T .plan) (T .d') (T .u') lines c q'
     lines-two = ap joined (posts-same _ _ (T .plan .n) (λ i lo hi. ap (λ (l : List (List ℕ)). cond (heardFrom c i) l []) (same-at i lo hi .lines-same)))
 
-    -- a post of the group makes the same call of the same post
+    -- a post of the group puts in the same, so it makes the same call
+    pack-same : (x : Pack) (packs packs' : ℕ → ℕ → List ℕ) (i : ℕ) → ((m : ℕ) → packs i m ≡ packs' i m) → packed x packs i ≡ packed x packs' i
+    pack-same (own m) packs packs' i e = e m
+    pack-same (Pack.fixed xs) packs packs' i e = refl
+
+    number-same : (r : ℕ) (x : Number) → dealtWith x (dealtNumber (T .plan) (T .d) (T .u) r) ≡ dealtWith x (dealtNumber (T .plan) (T .d') (T .u') r)
+    number-same r sent = T .link .deals r
+    number-same r (Number.fixed x) = refl
+
     calls-same : (i : ℕ) (x : Step) → ((m : ℕ) → rawPack (T .plan) (T .d) i m ≡ rawPack (T .plan) (T .d') i m)
         → ((m : ℕ) → triplePack (T .plan) (T .d) i m ≡ triplePack (T .plan) (T .d') i m) → c1 i x ≡ c2 i x
-    calls-same i (Steps.loadRow r (own m)) e f = ap (Calls.loadRow r) (e m)
-    calls-same i (Steps.loadRow r (Pack.fixed xs)) e f = refl
-    calls-same i (Steps.loadTriple r (own m)) e f = ap (Calls.loadTriple r) (f m)
-    calls-same i (Steps.loadTriple r (Pack.fixed xs)) e f = refl
-    calls-same i (Steps.deal r sent) e f = ap (Calls.deal r) (T .link .deals r)
-    calls-same i (Steps.deal r (Number.fixed x)) e f = refl
-    calls-same i (Steps.message r lent heard) e f = refl
-    calls-same i (Steps.opening r blocks) e f = refl
-    calls-same i (Steps.linear r x y scale) e f = refl
-    calls-same i (Steps.masks x y r lent) e f = refl
-    calls-same i (Steps.finish r blocks blocks') e f = refl
+    calls-same i x e f = λ j. filled (record {
+      row = λ pack. pack-same pack (rawPack (T .plan) (T .d)) (rawPack (T .plan) (T .d')) i e j;
+      triple = λ pack. pack-same pack (triplePack (T .plan) (T .d)) (triplePack (T .plan) (T .d')) i f j;
+      number = λ r c. number-same r c j;
+      blocks = λ blocks. blocks i lines;
+      lent = λ lent. lent i;
+      heard = λ heard. tt;
+    }) x
 
     pub group-two : All (λ i. perform (c1 i c) (q i) ≡ perform (c2 i c) (q' i)) (T .group)
     group-two = go (T .group) (T .link .raw-group) (T .link .triple-group) (R .group-same)
@@ -91,15 +92,9 @@ module _ (T : Two) (m : Moments) (R : Pair T m) where
         go [] e f h = tt
         go (i ∷ g) e f h = (ap₂ perform (calls-same i c (e .0) (f .0)) (h .0), go g (e .1) (f .1) (h .1))
 
--- ---- marks, vectors and books: one move after the other
+-- ---- marks, vectors and books: one act after the other
 
 module _ (T : Two) (lines : List (List ℕ)) where
-  abbrev mv1 : StepMove → CallMove
-  mv1 c = moveAt (T .plan) (T .d) (T .u) lines 1 c
-
-  abbrev mv2 : StepMove → CallMove
-  mv2 c = moveAt (T .plan) (T .d') (T .u') lines 1 c
-
   abbrev Nearly : Vector → Vector → Type 0
   Nearly = Near (T .plan .n) (T .plan .t + 1) (pointOf (T .d)) (T .K)
 
@@ -174,110 +169,89 @@ module _ (T : Two) (lines : List (List ℕ)) where
             (near-plusTimes (T .plan .n) (T .plan .t + 1) (pointOf (T .d)) (T .K) y' (part vec) (part vec') (vec x) (vec' x)
             (near-plusTimes (T .plan .n) (T .plan .t + 1) (pointOf (T .d)) (T .K) y (vec (x + 2)) (vec' (x + 2)) (vec (x + 1)) (vec' (x + 1)) n2 n1) n0))
 
-    near-by : (c : StepMove) → AllowedBy (mv1 c) M → RuleBy (T .plan) 0 lines c
-        → AllNear (marksBy (mv1 c) M) (vectorsBy (T .plan) (T .d) (mv1 c) M vec) (vectorsBy (T .plan) (T .d') (mv2 c) M vec')
-    near-by (loads r (own m)) al rule = near-put M vec vec' (K .near) r 1 _ _ (T .link .near-raw r (al .0) (rule refl .1))
-    near-by (loads r (Pack.fixed xs)) al rule = absurd (rule refl)
-    near-by (loadsTriple r (own m)) al rule =
+    abbrev v1 : (a : Act) → Given Fixed (takes a) → ℕ → Vector
+    v1 a x = vectorsBy (T .plan) (T .d) a (numberAt (T .plan) (T .d) (T .u) (takes a) x) M vec
+
+    abbrev v2 : (a : Act) → Given Fixed (takes a) → ℕ → Vector
+    v2 a x = vectorsBy (T .plan) (T .d') a (numberAt (T .plan) (T .d') (T .u') (takes a) x) M vec'
+
+    near-by : (a : Act) (x : Given Fixed (takes a)) → AllowedBy a M → RuleWith (T .plan) 0 lines (takes a) x → AllNear (marksBy a M) (v1 a x) (v2 a x)
+    near-by (loads r) (own m) al rule = near-put M vec vec' (K .near) r 1 _ _ (T .link .near-raw r (al .0 .0) (rule refl .1))
+    near-by (loads r) (Pack.fixed xs) al rule = absurd (rule refl)
+    near-by (loadsTriple r) (own m) al rule =
         let t = rule refl .1 in
-        let lr : r < 96 = omega (arith, al .0) in
+        let lr : r < 96 = omega (arith, al .0 .0) in
         near-put (remarked (remarked M r 3) (r + 1) 4) _ _
         (near-put (remarked M r 3) _ _ (near-put M vec vec' (K .near) r 3 _ _ (T .link .near-a r lr t)) (r + 1) 4 _ _ (T .link .near-b r lr t))
         (r + 2) 4 _ _ (T .link .near-ab r lr t)
-    near-by (loadsTriple r (Pack.fixed xs)) al rule = absurd (rule refl)
-    near-by (deals r sent) al rule =
+    near-by (loadsTriple r) (Pack.fixed xs) al rule = absurd (rule refl)
+    near-by (deals r) sent al rule =
         near-put M vec vec' (K .near) r 2 _ _
         (subst (λ (c : ℕ). Near (T .plan .n) (T .plan .t + 1) (pointOf (T .d)) (T .K) (raised (element (dealtNumber (T .plan) (T .d) (T .u) r)) (vec r)) (raised (element c) (vec' r))) (T .link .deals r)
-        (near-raised (T .plan .n) (T .plan .t + 1) (pointOf (T .d)) (T .K) (dealtNumber (T .plan) (T .d) (T .u) r) (vec r) (vec' r) (K .near r (al .0) (nonzero r 0 (al .1)))))
-    near-by (deals r (Number.fixed x)) al rule = absurd (rule refl)
-    near-by (opens r blocks) al rule = K .near
-    near-by (adds r x y scale) al rule =
+        (near-raised (T .plan .n) (T .plan .t + 1) (pointOf (T .d)) (T .K) (dealtNumber (T .plan) (T .d) (T .u) r) (vec r) (vec' r) (K .near r (al .0 .0) (nonzero r 0 (al .0 .1)))))
+    near-by (deals r) (Number.fixed x) al rule = absurd (rule refl)
+    near-by (opens r) blocks al rule = K .near
+    near-by (adds r x y scale) t al rule =
         near-put M vec vec' (K .near) r 2 _ _
         (near-plusTimes (T .plan .n) (T .plan .t + 1) (pointOf (T .d)) (T .K) scale (vec x) (vec' x) (vec y) (vec' y)
-        (K .near x (al .a-low) (nonzero x 1 (al .a-held))) (K .near y (al .b-low) (nonzero y 1 (al .b-held))))
-    near-by (factors x y r) al rule = near-mark M vec vec' (K .near) r 5 (nonzero r 2 (al .first))
-    near-by (multiplies r blocks blocks') al rule = near-finish r al
+        (K .near x (al .0 .a-low) (nonzero x 1 (al .0 .a-held))) (K .near y (al .0 .b-low) (nonzero y 1 (al .0 .b-held))))
+    near-by (factors x y r) t al rule = near-mark M vec vec' (K .near) r 5 (nonzero r 2 (al .1 .first))
+    near-by (multiplies r) blocks al rule = near-finish r (al .0)
 
-    -- a triple whose masks the move makes: they are those that were reckoned with
-    masked-by : (c : StepMove) → FitBy T c b b' → (r : ℕ) → MasksBy (mv1 c) r
-        → (apart (enteredBy (T .u) c b .factorA r) (enteredBy (T .u') c b' .factorA r) ≡ T .Δ r .left)
-        × (apart (enteredBy (T .u) c b .factorB r) (enteredBy (T .u') c b' .factorB r) ≡ T .Δ r .right)
-    masked-by (loads r' pack) fit r m = absurd m
-    masked-by (loadsTriple r' pack) fit r m = absurd m
-    masked-by (deals r' c) fit r m = absurd m
-    masked-by (opens r' blocks) fit r m = absurd m
-    masked-by (adds r' x y scale) fit r m = absurd m
-    masked-by (factors x y r') fit r m =
+    -- a triple whose masks the act makes: they are those that were reckoned with
+    masked-now : (m : Masking) → FitBy T m b b' → (r : ℕ) → MasksBy m r
+        → (apart (notedA m b r) (notedA m b' r) ≡ T .Δ r .left) × (apart (notedB m b r) (notedB m b' r) ≡ T .Δ r .right)
+    masked-now none fit r at-r = absurd at-r
+    masked-now (of x y r') fit r at-r =
         subst
         (λ (w : ℕ). (apart (at (b .factorA) r' (b .place x) w) (at (b' .factorA) r' (b' .place x) w) ≡ T .Δ w .left)
         × (apart (at (b .factorB) r' (b .place y) w) (at (b' .factorB) r' (b' .place y) w) ≡ T .Δ w .right))
-        (sym m) (
+        (sym at-r) (
           ap₂ apart (at-same (b .factorA) r' (b .place x)) (at-same (b' .factorA) r' (b' .place x)) ∙ fit .0,
           ap₂ apart (at-same (b .factorB) r' (b .place y)) (at-same (b' .factorB) r' (b' .place y)) ∙ fit .1,
         )
-    masked-by (multiplies r' blocks blocks') fit r m = absurd m
 
-    -- marks after the move are the same in both runs
-    one-mark : (c : StepMove) → marksBy (mv2 c) M ≡ marksBy (mv1 c) M
-    one-mark c = marks-at (T .plan) (T .d') (T .u') lines 1 c M ∙ sym (marks-at (T .plan) (T .d) (T .u) lines 1 c M)
+    masked-by : (a : Act) → FitBy T (masking a) b b' → (r : ℕ) → MasksBy (masking a) r
+        → (apart (enteredBy (T .u) a b .factorA r) (enteredBy (T .u') a b' .factorA r) ≡ T .Δ r .left)
+        × (apart (enteredBy (T .u) a b .factorB r) (enteredBy (T .u') a b' .factorB r) ≡ T .Δ r .right)
+    masked-by a fit r at-r =
+        let n = noted-is (T .u) a b in
+        let n' = noted-is (T .u') a b' in
+        let k = masked-now (masking a) fit r at-r in (
+          ap₂ (λ (f g : ℕ → ℕ). apart (f r) (g r)) (n .0) (n' .0) ∙ k .0,
+          ap₂ (λ (f g : ℕ → ℕ). apart (f r) (g r)) (n .1) (n' .1) ∙ k .1,
+        )
 
-    core-by : (c : StepMove) → AllowedBy (mv1 c) M → RuleBy (T .plan) 0 lines c → FitBy T c b b'
-        → Core T (marksBy (mv1 c) M) (vectorsBy (T .plan) (T .d) (mv1 c) M vec) (vectorsBy (T .plan) (T .d') (mv2 c) M vec')
-        (enteredBy (T .u) c b) (enteredBy (T .u') c b')
-    core-by c al rule fit =
-        let al' = allowed-two (T .plan) (T .d) (T .d') (T .u) (T .u') lines 1 c M al in
-        record {
-          sized = sized-by (mv1 c) M (K .sized);
-          one = facts-step (runOne T) lines 1 M vec b c (K .sized) al rule (K .one);
-          two =
-              subst
-              (λ (N : Marks). Facts (T .plan) (T .d') (Held (enteredBy (T .u') c b')) (Waits (enteredBy (T .u') c b')) N (vectorsBy (T .plan) (T .d') (mv2 c) M vec'))
-              (one-mark c) (facts-step (runTwo T) lines 1 M vec' b' c (K .sized) al' rule (K .two));
-          near = near-by c al rule;
-          waiting = λ r lr five. elim (five-by (T .plan) (T .d) (mv1 c) M (K .sized) al r lr five) [
-            | inl k ↦ (
-                let n = notes-by (runOne T) lines 1 M b c al r (inl (k .0)) in
-                let n' = notes-by (runTwo T) lines 1 M b' c al' r (inl (k .0)) in
-                let w = K .waiting r lr (k .0) in
-                (ap₂ apart (n .0) (n' .0) ∙ w .0, ap₂ apart (n .1) (n' .1) ∙ w .1))
-            | inr at ↦ masked-by c fit r at
-          ];
-        }
+    core-by : (a : Act) (x : Given Fixed (takes a)) → AllowedBy a M → RuleWith (T .plan) 0 lines (takes a) x → FitBy T (masking a) b b'
+        → Core T (marksBy a M) (v1 a x) (v2 a x) (enteredBy (T .u) a b) (enteredBy (T .u') a b')
+    core-by a x al rule fit = record {
+      sized = sized-by a M (K .sized);
+      one = facts-step (runOne T) lines M vec b a x (K .sized) al rule (K .one);
+      two = facts-step (runTwo T) lines M vec' b' a x (K .sized) al rule (K .two);
+      near = near-by a x al rule;
+      waiting = λ r lr five. elim (five-by (T .plan) (T .d) a M (K .sized) al r lr five) [
+        | inl k ↦ (
+            let n = notes-by (T .u) M b a al r (inl (k .0)) in
+            let n' = notes-by (T .u') M b' a al r (inl (k .0)) in
+            let w = K .waiting r lr (k .0) in
+            (ap₂ apart (n .0) (n' .0) ∙ w .0, ap₂ apart (n .1) (n' .1) ∙ w .1))
+        | inr at-r ↦ masked-by a fit r at-r
+      ];
+    }
 
-  core-all : (cs : List StepMove) (M : Marks) (vec vec' : ℕ → Vector) (b b' : Book) → Core T M vec vec' b b'
-      → AllowedAll (map (moveAt (T .plan) (T .d) (T .u) lines 1) cs) M → All (RuleBy (T .plan) 0 lines) cs → FitAll T cs b b'
-      → Core T (marksAll (map (moveAt (T .plan) (T .d) (T .u) lines 1) cs) M)
-      (vectorsAll (T .plan) (T .d) (map (moveAt (T .plan) (T .d) (T .u) lines 1) cs) M vec)
-      (vectorsAll (T .plan) (T .d') (map (moveAt (T .plan) (T .d') (T .u') lines 1) cs) M vec')
-      (enteredAll (T .u) cs b) (enteredAll (T .u') cs b')
+  core-all : (ms : List (Move Fixed)) (M : Marks) (vec vec' : ℕ → Vector) (b b' : Book) → Core T M vec vec' b b'
+      → AllowedAll (actsIn ms) M → All (λ m. RuleWith (T .plan) 0 lines (takes (m .0)) (m .1)) ms → FitAll T (actsIn ms) b b'
+      → Core T (marksAll (actsIn ms) M) (vectorsAll (T .plan) (T .d) (numberAt (T .plan) (T .d) (T .u)) ms M vec)
+      (vectorsAll (T .plan) (T .d') (numberAt (T .plan) (T .d') (T .u')) ms M vec')
+      (enteredAll (T .u) (actsIn ms) b) (enteredAll (T .u') (actsIn ms) b')
   core-all [] M vec vec' b b' K al rule fit = K
-  core-all (c ∷ cs) M vec vec' b b' K al rule fit =
-      subst
-      (λ (N : Marks). Core T (marksAll (map (moveAt (T .plan) (T .d) (T .u) lines 1) cs) (marksBy (mv1 c) M))
-      (vectorsAll (T .plan) (T .d) (map (moveAt (T .plan) (T .d) (T .u) lines 1) cs) (marksBy (mv1 c) M) (vectorsBy (T .plan) (T .d) (mv1 c) M vec))
-      (vectorsAll (T .plan) (T .d') (map (moveAt (T .plan) (T .d') (T .u') lines 1) cs) N (vectorsBy (T .plan) (T .d') (mv2 c) M vec'))
-      (enteredAll (T .u) cs (enteredBy (T .u) c b)) (enteredAll (T .u') cs (enteredBy (T .u') c b')))
-      (sym (one-mark M vec vec' b b' K c))
-      (core-all cs (marksBy (mv1 c) M) (vectorsBy (T .plan) (T .d) (mv1 c) M vec) (vectorsBy (T .plan) (T .d') (mv2 c) M vec')
-      (enteredBy (T .u) c b) (enteredBy (T .u') c b') (core-by M vec vec' b b' K c (al .0) (rule .0) (fit .0)) (al .1) (rule .1) (fit .1))
+  core-all (m ∷ ms) M vec vec' b b' K al rule fit =
+      core-all ms (marksBy (m .0) M) _ _ (enteredBy (T .u) (m .0) b) (enteredBy (T .u') (m .0) b')
+      (core-by M vec vec' b b' K (m .0) (m .1) (al .0) (rule .0) (fit .0)) (al .1) (rule .1) (fit .1)
 
-pub core-after : (T : Two) (m : Moments) (R : Pair T m) (c : Step)
-    → Allowed (callAt (T .plan) (T .d) (T .u) (m .lines) 1 c) (m .marks) → Rule (T .plan) c 0 (m .lines) → Fit T m R c
-    → Core T (marksAfter (callAt (T .plan) (T .d) (T .u) (m .lines) 1 c) (m .marks))
-    (vectorsAfter (T .plan) (T .d) (callAt (T .plan) (T .d) (T .u) (m .lines) 1 c) (m .marks) (m .vec))
-    (vectorsAfter (T .plan) (T .d') (callAt (T .plan) (T .d') (T .u') (m .lines) 1 c) (m .marks) (m .vec'))
-    (entered (T .u) c (m .book)) (entered (T .u') c (m .book'))
+pub core-after : (T : Two) (m : Moments) (R : Pair T m) (c : Step) → Allowed (acts c) (sends c) (m .marks) → Rule (T .plan) c 0 (m .lines)
+    → Fit T m R c
+    → Core T (marksAll (acts c) (m .marks)) (vectorsThen (T .plan) (T .d) (T .u) c (m .marks) (m .vec))
+    (vectorsThen (T .plan) (T .d') (T .u') c (m .marks) (m .vec')) (entered (T .u) c (m .book)) (entered (T .u') c (m .book'))
 core-after T m R c al rule fit =
-    let e = moves-at (T .plan) (T .d) (T .u) (m .lines) 1 c in
-    let e' = moves-at (T .plan) (T .d') (T .u') (m .lines) 1 c in
-    subst
-    (λ (cs : List CallMove). Core T (marksAll cs (m .marks)) (vectorsAll (T .plan) (T .d) cs (m .marks) (m .vec))
-    (vectorsAfter (T .plan) (T .d') (callAt (T .plan) (T .d') (T .u') (m .lines) 1 c) (m .marks) (m .vec')) (entered (T .u) c (m .book)) (entered (T .u') c (m .book')))
-    (sym e)
-    (subst
-    (λ (cs : List CallMove). Core T (marksAll (map (moveAt (T .plan) (T .d) (T .u) (m .lines) 1) (movesOf c)) (m .marks))
-    (vectorsAll (T .plan) (T .d) (map (moveAt (T .plan) (T .d) (T .u) (m .lines) 1) (movesOf c)) (m .marks) (m .vec))
-    (vectorsAll (T .plan) (T .d') cs (m .marks) (m .vec')) (entered (T .u) c (m .book)) (entered (T .u') c (m .book')))
-    (sym e')
-    (core-all T (m .lines) (movesOf c) (m .marks) (m .vec) (m .vec') (m .book) (m .book') (core T m R)
-    (subst (λ (cs : List CallMove). AllowedAll cs (m .marks)) e (al .moving)) rule fit))
+    core-all T (m .lines) (moves c) (m .marks) (m .vec) (m .vec') (m .book) (m .book') (core T m R) (al .moving) (every-all _ (moves c) rule) fit

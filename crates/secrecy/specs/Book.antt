@@ -5,8 +5,9 @@ use mathlib.Core.Path.{_≡_}
 use mathlib.Core.List.{List, [], _∷_}
 use Rattle.field.specs.Arithmetic.{sum, product}
 use Rattle.refusal.specs.Refusal.{outcome}
-use Rattle.runs.specs.Calls.{loads, loadsTriple, deals, opens, adds, factors, multiplies, Sending, silence, itsOpening, itsMasks, at}
-use Rattle.secrecy.specs.Steps.{Secrets, Step, StepMove, outlineOf, movesOf}
+use Rattle.runs.specs.Outline.{Act, loads, loadsTriple, deals, opens, adds, factors, multiplies, acts, Sending, itsOpening, itsMasks, sends, Every}
+use Rattle.runs.specs.Calls.{at}
+use Rattle.secrecy.specs.Steps.{Secrets, Step}
 use Rattle.secrecy.specs.Seen.{Entry}
 use Rattle.secrecy.specs.Rules.{refusalOf}
 
@@ -27,21 +28,21 @@ noted b r x y = record { place = b .place; factorA = at (b .factorA) r x; factor
 
 -- "Deal puts u in its row's place. Linear puts a's number plus s times b's in the new row's. Masks keep the numbers of a and b
 -- with the triple; when its product is written, the third row gets one times the other. Other calls ... change nothing."
-abbrev pub enteredBy : Secrets → StepMove → Book → Book
-enteredBy u (loads r pack) b = b
-enteredBy u (loadsTriple r pack) b = b
-enteredBy u (deals r c) b = placed b r (u r)
-enteredBy u (opens r blocks) b = b
+abbrev pub enteredBy : Secrets → Act → Book → Book
+enteredBy u (loads r) b = b
+enteredBy u (loadsTriple r) b = b
+enteredBy u (deals r) b = placed b r (u r)
+enteredBy u (opens r) b = b
 enteredBy u (adds r x y scale) b = placed b r (sum (b .place x) (product scale (b .place y)))
 enteredBy u (factors x y r) b = noted b r (b .place x) (b .place y)
-enteredBy u (multiplies r blocks blocks') b = placed b (r + 2) (product (b .factorA r) (b .factorB r))
+enteredBy u (multiplies r) b = placed b (r + 2) (product (b .factorA r) (b .factorB r))
 
-abbrev pub enteredAll : Secrets → List StepMove → Book → Book
+abbrev pub enteredAll : Secrets → List Act → Book → Book
 enteredAll u [] b = b
-enteredAll u (c ∷ cs) b = enteredAll u cs (enteredBy u c b)
+enteredAll u (a ∷ todo) b = enteredAll u todo (enteredBy u a b)
 
 abbrev pub entered : Secrets → Step → Book → Book
-entered u c b = enteredAll u (movesOf c) b
+entered u c b = enteredAll u (acts c) b
 
 -- "and refused ones, change nothing"
 abbrev pub booked : Secrets → Step → ℕ → Book → Book
@@ -54,13 +55,12 @@ bookAfter u (c ∷ cs) [] b = b
 bookAfter u (c ∷ cs) (e ∷ es) b = bookAfter u cs es (booked u c (refusalOf e) b)
 
 -- "A number agrees when, at each opening message not refused, its row's place is the same under both lists of secrets."
-abbrev pub AgreesBy : Sending → ℕ → Book → Book → Type 0
-AgreesBy silence k b b' = Unit {0}
-AgreesBy (itsOpening r) k b b' = k ≡ 0 → b .place r ≡ b' .place r
-AgreesBy (itsMasks x y r) k b b' = Unit {0}
+abbrev pub AgreesBy : ℕ → Book → Book → Sending → Type 0
+AgreesBy k b b' (itsOpening r) = k ≡ 0 → b .place r ≡ b' .place r
+AgreesBy k b b' (itsMasks x y r) = Unit {0}
 
 abbrev pub Agrees : Step → ℕ → Book → Book → Type 0
-Agrees c k b b' = AgreesBy (outlineOf c .sends) k b b'
+Agrees c k b b' = Every (AgreesBy k b b') (sends c)
 
 abbrev pub Agree : Secrets → Secrets → List Step → List Entry → Book → Book → Type 0
 Agree u u' [] es b b' = Unit {0}

@@ -6,8 +6,8 @@ use mathlib.Core.List.{List, [], _∷_}
 use lib.ListN.{getD}
 use Rattle.factory.specs.Packs.{dealerNumber}
 use Rattle.runs.specs.Draws.{Plan, Draw, whenRaw, rawDraw, rawPack, triplePack}
-use Rattle.runs.specs.Calls as Calls
-use Rattle.runs.specs.Calls.{Call, Move, CallMove, loads, loadsTriple, deals, opens, adds, factors, multiplies, Sending, silence, itsOpening, itsMasks}
+use Rattle.runs.specs.Outline.{Kinds, CallOf, outline, Filling, filled}
+use Rattle.runs.specs.Calls.{Actual, Call}
 
 -- "A list of secrets gives one u for each row with a dealer."
 abbrev pub Secrets : Type 0
@@ -34,15 +34,36 @@ Record = ℕ → List (List ℕ) → List ℕ
 
 -- A call of the list, with the numbers fixed in it; lent lists, which may differ from post to post, too. An opening message may
 -- be made by few posts: `heard` says by which. It changes nothing at a post, so one that is not heard stands for none.
-pub data Step : Type 0 where
-  loadRow : (r : ℕ) (pack : Pack) → Step
-  loadTriple : (r : ℕ) (pack : Pack) → Step
-  deal : (r : ℕ) (c : Number) → Step
-  message : (r : ℕ) (lent : ℕ → List ℕ) (heard : ℕ → Bool) → Step
-  opening : (r : ℕ) (blocks : Record) → Step
-  linear : (r a b scale : ℕ) → Step
-  masks : (a b r : ℕ) (lent : ℕ → List ℕ) → Step
-  finish : (r : ℕ) (blocks blocks' : Record) → Step
+abbrev pub Fixed : Kinds
+Fixed = record { Pack = Pack; Number = Number; Record = Record; Lent = ℕ → List ℕ; Heard = ℕ → Bool }
+
+abbrev pub Step : Type 0
+Step = CallOf Fixed
+
+-- The eight forms, written short.
+abbrev pub loadRow : (r : ℕ) (pack : Pack) → Step
+loadRow r pack = CallOf.loadRow (record { r = r; pack = pack })
+
+abbrev pub loadTriple : (r : ℕ) (pack : Pack) → Step
+loadTriple r pack = CallOf.loadTriple (record { r = r; pack = pack })
+
+abbrev pub deal : (r : ℕ) (c : Number) → Step
+deal r c = CallOf.deal (record { r = r; c = c })
+
+abbrev pub message : (r : ℕ) (lent : ℕ → List ℕ) (heard : ℕ → Bool) → Step
+message r lent heard = CallOf.message (record { r = r; lent = lent; heard = heard })
+
+abbrev pub opening : (r : ℕ) (blocks : Record) → Step
+opening r blocks = CallOf.opening (record { r = r; blocks = blocks })
+
+abbrev pub linear : (r a b scale : ℕ) → Step
+linear r a b scale = CallOf.linear (record { r = r; a = a; b = b; scale = scale })
+
+abbrev pub masks : (a b r : ℕ) (lent : ℕ → List ℕ) → Step
+masks a b r lent = CallOf.masks (record { a = a; b = b; r = r; lent = lent })
+
+abbrev pub finish : (r : ℕ) (blocks blocks' : Record) → Step
+finish r blocks blocks' = CallOf.finish (record { r = r; blocks = blocks; blocks' = blocks' })
 
 abbrev pub packed : Pack → (ℕ → ℕ → List ℕ) → ℕ → List ℕ
 packed (own k) packs i = packs i k
@@ -52,51 +73,25 @@ abbrev pub dealtWith : Number → ℕ → ℕ
 dealtWith sent c = c
 dealtWith (fixed x) c = x
 
--- The call as post i makes it, after the lines broadcast so far.
+-- What post i puts in, after the lines broadcast so far; and the call as it makes it.
+abbrev pub filling : Plan → Draw → Secrets → List (List ℕ) → ℕ → Filling Fixed Actual
+filling plan draw u lines i =
+    record {
+      row = λ pack. packed pack (rawPack plan draw) i;
+      triple = λ pack. packed pack (triplePack plan draw) i;
+      number = λ r c. dealtWith c (dealtNumber plan draw u r);
+      blocks = λ blocks. blocks i lines;
+      lent = λ lent. lent i;
+      heard = λ heard. tt;
+    }
+
 abbrev pub callAt : Plan → Draw → Secrets → List (List ℕ) → ℕ → Step → Call
-callAt plan draw u lines i (loadRow r pack) = Calls.loadRow r (packed pack (rawPack plan draw) i)
-callAt plan draw u lines i (loadTriple r pack) = Calls.loadTriple r (packed pack (triplePack plan draw) i)
-callAt plan draw u lines i (deal r c) = Calls.deal r (dealtWith c (dealtNumber plan draw u r))
-callAt plan draw u lines i (message r lent heard) = Calls.message r (lent i)
-callAt plan draw u lines i (opening r blocks) = Calls.opening r (blocks i lines)
-callAt plan draw u lines i (linear r a b scale) = Calls.linear r a b scale
-callAt plan draw u lines i (masks a b r lent) = Calls.masks a b r (lent i)
-callAt plan draw u lines i (finish r blocks blocks') = Calls.finish r (blocks i lines) (blocks' i lines)
+callAt plan draw u lines i c = filled (filling plan draw u lines i) c
 
--- ---- Each call by its parts, as in runs; and whose opening message is made and broadcast.
-abbrev pub StepMove : Type 0
-StepMove = Move Pack Number Record
-
-pub record StepOutline : Type 0 where
-  pub moves : List StepMove
-  pub sends : Sending
-  pub heard : ℕ → Bool
-
-abbrev step : List StepMove → Sending → StepOutline
-step ms s = record { moves = ms; sends = s; heard = λ i. true }
-
-abbrev pub outlineOf : Step → StepOutline
-outlineOf (loadRow r pack) = step (loads r pack ∷ []) silence
-outlineOf (loadTriple r pack) = step (loadsTriple r pack ∷ []) silence
-outlineOf (deal r c) = step (deals r c ∷ []) silence
-outlineOf (message r lent heard) = record { moves = []; sends = itsOpening r; heard = heard }
-outlineOf (opening r blocks) = step (opens r blocks ∷ []) silence
-outlineOf (linear r a b scale) = step (adds r a b scale ∷ []) silence
-outlineOf (masks a b r lent) = step (factors a b r ∷ []) (itsMasks a b r)
-outlineOf (finish r blocks blocks') = step (multiplies r blocks blocks' ∷ []) silence
-
-abbrev pub movesOf : Step → List StepMove
-movesOf c = outlineOf c .moves
+-- Whether post i makes the message, of an opening message; any other call is every post's.
+abbrev heardBy : List (ℕ → Bool) → ℕ → Bool
+heardBy [] i = true
+heardBy (heard ∷ others) i = heard i
 
 abbrev pub heardFrom : Step → ℕ → Bool
-heardFrom c i = outlineOf c .heard i
-
--- the move as post i makes it
-abbrev pub moveAt : Plan → Draw → Secrets → List (List ℕ) → ℕ → StepMove → CallMove
-moveAt plan draw u lines i (loads r pack) = loads r (packed pack (rawPack plan draw) i)
-moveAt plan draw u lines i (loadsTriple r pack) = loadsTriple r (packed pack (triplePack plan draw) i)
-moveAt plan draw u lines i (deals r c) = deals r (dealtWith c (dealtNumber plan draw u r))
-moveAt plan draw u lines i (opens r blocks) = opens r (blocks i lines)
-moveAt plan draw u lines i (adds r a b scale) = adds r a b scale
-moveAt plan draw u lines i (factors a b r) = factors a b r
-moveAt plan draw u lines i (multiplies r blocks blocks') = multiplies r (blocks i lines) (blocks' i lines)
+heardFrom c i = heardBy (outline c .heard) i
