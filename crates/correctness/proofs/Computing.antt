@@ -100,7 +100,7 @@ ledger r = getD (dealt 6 ∷ dealt 7 ∷ nothing ∷ nothing ∷ product 2 0 1 �
 
 pub plain-42 : Plain ledger 4 42
 unfolding Computes ledger
-plain-42 = of-product {k = 2} {a = 0} {b = 1} {x = 6} {y = 7} refl (of-deal refl) (of-deal refl)
+plain-42 = of-product {k = 2} {a = 0} {b = 1} {x = 6} {y = 7} of-deal of-deal
 
 -- ---- events
 

@@ -9,19 +9,20 @@ use Rattle.field.specs.Element.{element}
 use Rattle.poly.specs.Counting.{All}
 use Rattle.vectors.specs.Vector.{Vector, raised, number}
 use Rattle.runs.specs.Draws.{Plan, Draw, IsDraw}
-use Rattle.runs.specs.Outline.{Act, loads, loadsTriple, deals, opens, adds, factors, multiplies, takes, Given, Move, moves, actsIn, acts, sends}
+use Rattle.runs.specs.Outline.{Act, loads, loadsTriple, deals, opens, Summand, once, times, fee, sums, factors, multiplies, takes, Given, Move, moves, actsIn, acts, sends}
 use Rattle.runs.specs.Calls.{Post, Actual, Call, perform, after}
-use Rattle.runs.proofs.Marks.{Marks, markOf, leftOf, rightOf, Sized, less, productVector, written, marksBy, vectorsBy, marksAll, numberIn, vectorsAll}
+use Rattle.runs.proofs.Marks.{Marks, markOf, leftOf, rightOf, Sized, less, worthVector, totalVector, written, marksBy, vectorsBy, marksAll, numberIn, vectorsAll}
+use Rattle.runs.proofs.Sums.{productVector, product-sum}
 use Rattle.runs.proofs.Outcomes.{refusalOf}
 use Rattle.runs.proofs.Steps.{Stands, named, Fits, stands-after}
-use Rattle.runs.proofs.Facts.{AllowedBy, AllowedAll, Allowed, Multiplying, Triple, Facts, Meant}
+use Rattle.runs.proofs.Facts.{HeldIn, AllowedBy, AllowedAll, Allowed, Multiplying, Triple, Facts, Meant}
 use Rattle.runs.proofs.Outlines.{every-all}
 use Rattle.runs.proofs.Rows.{sized-by, sized-after}
 use Rattle.runs.proofs.Kept.{facts-by}
 use Rattle.runs.proofs.Allowed.{allowed, room}
-use Rattle.correctness.specs.Ledger.{Ledger, product, WrittenBy, Written}
+use Rattle.correctness.specs.Ledger.{Meaning, Ledger, summed, product, WrittenBy, Written}
 use Rattle.correctness.specs.Truth.{OwnWith, OwnPart}
-use Rattle.correctness.proofs.Meanings.{Is, is-dealt, is-sum, is-product}
+use Rattle.correctness.proofs.Meanings.{IsOf, Is, is-dealt, is-row, is-times, is-fee, is-more, is-product}
 
 module _ (plan : Plan) (draw : Draw) (L : Ledger) where
   -- the ledger has a product of a and b by the triple at r
@@ -57,11 +58,12 @@ module _ (plan : Plan) (draw : Draw) (L : Ledger) where
   module _ (M : Marks) (vec : ℕ → Vector) (f : Known M vec) where
     finished-is : (r : ℕ) → Multiplying 5 M (leftOf M r) (rightOf M r) r → Is plan draw L (r + 2) (written M vec r)
     finished-is r ok =
-        is-product (f r low .waiting (ok .first) .means) (f (leftOf M r) (ok .a-low) .held (ok .a-held))
-        (f (rightOf M r) (ok .b-low) .held (ok .b-held))
-        (λ j.
+        subst (λ (m : Meaning). IsOf plan draw L (r + 2) m (written M vec r)) (sym (f r low .waiting (ok .first) .means))
+        (is-product (f (leftOf M r) (ok .a-low) .held (ok .a-held)) (f (rightOf M r) (ok .b-low) .held (ok .b-held))
+        (product-sum vec r _ _
+        ∙ (λ j.
         productVector (number (less (vec (leftOf M r)) (t .is-a j)) .0) (number (less (vec (rightOf M r)) (t .is-b j)) .0)
-        (t .is-a j) (t .is-b j) (t .is-ab j))
+        (t .is-a j) (t .is-b j) (t .is-ab j))))
       where
         low : r < 96
         low = omega (arith, ok .r-low)
@@ -69,15 +71,26 @@ module _ (plan : Plan) (draw : Draw) (L : Ledger) where
         t : Triple plan draw M vec r
         t = f r low .triple (inr (ok .first))
 
+    -- a sum of held rows
+    summand-is : (r : ℕ) (t : Summand) → HeldIn M t → IsOf plan draw L r (summed t []) (worthVector vec t)
+    summand-is r (once a) h = is-row (f a (h .0) .held (h .1))
+    summand-is r (times s b) h = is-times (f b (h .0) .held (h .1)) refl
+    summand-is r (fee k) h = is-fee h refl
+
+    sum-is : (r : ℕ) (t : Summand) (ts : List Summand) → HeldIn M t → All (HeldIn M) ts → IsOf plan draw L r (summed t ts) (totalVector vec t ts)
+    sum-is r t [] h hs = summand-is r t h
+    sum-is r t (t' ∷ ts) h hs = is-more (summand-is r t h) (sum-is r t' ts (hs .0) (hs .1)) refl
+
     meant : (i : ℕ) (a : Act) (x : Given Actual (takes a)) → AllowedBy a M → OwnWith plan draw i (takes a) x → WrittenBy draw L a x
         → Meant plan draw (Is plan draw L) Waits a (numberIn (takes a) x) M vec
     meant i (loads r) x ok own w = own .0
     meant i (loadsTriple r) x ok own w = own .0
     meant i (deals r) x ok own w =
-        is-dealt (w .2) (w .1) (ap₂ (λ (c : ℕ) (X : Vector). raised (element c) X) (w .3) (f r (ok .0 .0) .raw (ok .0 .1) .1))
+        subst (λ (m : Meaning). IsOf plan draw L r m (raised (element x) (vec r))) (sym (w .2))
+        (is-dealt (w .1) (ap₂ (λ (c : ℕ) (X : Vector). raised (element c) X) (w .3) (f r (ok .0 .0) .raw (ok .0 .1) .1)))
     meant i (opens r) x ok own w = tt
-    meant i (adds r a b scale) x ok own w =
-        is-sum w (f a (ok .0 .a-low) .held (ok .0 .a-held)) (f b (ok .0 .b-low) .held (ok .0 .b-held)) refl
+    meant i (sums r t ts) x ok own w =
+        subst (λ (m : Meaning). IsOf plan draw L r m (totalVector vec t ts)) (sym w) (sum-is r t ts (ok .0 .held .0) (ok .0 .held .1))
     meant i (factors a b r) x ok own w = w
     meant i (multiplies r) x ok own w = finished-is r (ok .0)
 

@@ -4,23 +4,27 @@ use mathlib.Core.Path.{_≡_}
 use mathlib.Core.Bool.{true}
 use mathlib.Core.Logic.{_⊎_}
 use mathlib.Core.List.{List, [], _∷_, map}
+use Rattle.field.specs.Modulus.{p}
 use Rattle.field.specs.Element.{element}
 use Rattle.poly.specs.Counting.{All}
-use Rattle.vectors.specs.Vector.{Vector, plusTimes, raised}
+use Rattle.vectors.specs.Vector.{Vector, raised}
 use Rattle.runs.specs.Draws.{Plan, Draw, IsRaw}
-use Rattle.runs.specs.Outline.{Act, loads, loadsTriple, deals, opens, adds, factors, multiplies, Taking, nothingTaken, aRowPack, aTriplePack, aNumber, aRecord, twoRecords, takes, Sending, itsOpening, itsMasks}
+use Rattle.runs.specs.Outline.{Act, loads, loadsTriple, deals, opens, Summand, once, times, fee, sums, factors, multiplies, Taking, nothingTaken, aRowPack, aTriplePack, aNumber, aRecord, twoRecords, takes, Sending, itsOpening, itsMasks}
 use Rattle.runs.specs.Calls.{Among}
-use Rattle.runs.proofs.Marks.{Marks, markOf, leftOf, rightOf, rawVector, vectorA, vectorB, vectorAB, written, Masking, none, of, masking, marksBy}
+use Rattle.runs.proofs.Marks.{Marks, markOf, leftOf, rightOf, rawVector, vectorA, vectorB, vectorAB, totalVector, written, Masking, none, of, masking, marksBy}
 
 -- ---- What the marks allow, of a call that is not refused.
 
-pub record Summing (M : Marks) (r a b : ℕ) : Type 0 where
+-- a summand's row is held, and a fee is an element
+abbrev pub HeldIn : Marks → Summand → Type 0
+HeldIn M (once a) = (a < 96) × (markOf M a ≡ 2)
+HeldIn M (times s b) = (b < 96) × (markOf M b ≡ 2)
+HeldIn M (fee k) = k < p
+
+pub record Summing (M : Marks) (r : ℕ) (t : Summand) (ts : List Summand) : Type 0 where
   pub r-low : r < 96
-  pub a-low : a < 96
-  pub b-low : b < 96
   pub r-empty : markOf M r ≡ 0
-  pub a-held : markOf M a ≡ 2
-  pub b-held : markOf M b ≡ 2
+  pub held : HeldIn M t × All (HeldIn M) ts
 
 -- a triple from r on, whose first row has this mark, and the factors a and b
 pub record Multiplying (mark : ℕ) (M : Marks) (a b r : ℕ) : Type 0 where
@@ -38,7 +42,7 @@ Needed (loads r) M = (r < 96) × (markOf M r ≡ 0)
 Needed (loadsTriple r) M = (r < 94) × (markOf M r ≡ 0) × (markOf M (r + 1) ≡ 0) × (markOf M (r + 2) ≡ 0)
 Needed (deals r) M = (r < 96) × (markOf M r ≡ 1)
 Needed (opens r) M = (r < 96) × (markOf M r ≡ 2)
-Needed (adds r a b scale) M = Summing M r a b
+Needed (sums r t ts) M = Summing M r t ts
 Needed (factors a b r) M = Unit {0}
 Needed (multiplies r) M = Multiplying 5 M (leftOf M r) (rightOf M r) r
 
@@ -119,6 +123,6 @@ module _ (plan : Plan) (draw : Draw) where
     Meant (loadsTriple r) c M vec = plan .triple r ≡ true
     Meant (deals r) c M vec = Held r (raised (element c) (vec r))
     Meant (opens r) c M vec = Unit {0}
-    Meant (adds r a b scale) c M vec = Held r (plusTimes (element scale) (vec a) (vec b))
+    Meant (sums r t ts) c M vec = Held r (totalVector vec t ts)
     Meant (factors a b r) c M vec = Waits r a b
     Meant (multiplies r) c M vec = Held (r + 2) (written M vec r)

@@ -24,7 +24,8 @@ use Rattle.vectors.proofs.Linear.{row-plusTimes, row-raised}
 use Rattle.vectors.proofs.Theorems.{opened-exact}
 use Rattle.runs.specs.Draws.{Plan, Draw, pointOf}
 use Rattle.runs.specs.Calls.{at}
-use Rattle.runs.proofs.Marks.{Marks, markOf, leftOf, rightOf, remarked, finished, sessionAt, productVector, maskA, maskB, written}
+use Rattle.runs.proofs.Marks.{Marks, markOf, leftOf, rightOf, remarked, finished, sessionAt, maskA, maskB, written}
+use Rattle.runs.proofs.Sums.{productVector, product-sum}
 use Rattle.runs.proofs.Outcomes.{conditionAt, passed}
 use Rattle.runs.proofs.Packs.{rowFor}
 use Rattle.runs.proofs.Holds.{Holds, put-holds, keep-holds, combined-row}
@@ -104,7 +105,8 @@ module _ (plan : Plan) (draw : Draw) (len i : ℕ) (M : Marks) (vec : ℕ → Ve
     finish-holds ta tb =
         put-holds plan draw len i (remarked (remarked M r 6) (r + 1) 6) vec l
         (keep-holds plan draw len i M (remarked (remarked M r 6) (r + 1) 6) vec l h before) (equal _ _ (f 4)) (r + 2) 2
-        (omega (arith, ok .r-low)) _ _ (ap₂ (λ (y y' : ℕ). productRow s y y' (rowAt W l r) (rowAt W l (r + 1)) (rowAt W l (r + 2))) ya yb ∙ rows-are ∙ row-of-product _ _ _ _ _)
+        (omega (arith, ok .r-low)) _ _ (ap₂ (λ (y y' : ℕ). productRow s y y' (rowAt W l r) (rowAt W l (r + 1)) (rowAt W l (r + 2))) ya yb ∙ rows-are ∙ row-of-product _ _ _ _ _
+        ∙ ap (rowFor plan draw i) (sym (product-sum vec r _ _)))
       where
         ya : opened s (Finish.maskA s l r) blocks ≡ number (maskA M vec r) .0
         ya = opened-is (Finish.maskA s l r) (maskA M vec r) blocks (opens-a r ok) ta (f 22)

@@ -3,7 +3,7 @@ use Prim.Native.Nat.{ℕ, suc, _+_, _*_, _≤_, _<_}
 use mathlib.Core.Path.{_≡_, sym, _∙_, ap, ap₂, subst}
 use mathlib.Core.Bool.{false}
 use mathlib.Core.Logic.{_≢_}
-use mathlib.Core.List.{List, _++_, append-assoc}
+use mathlib.Core.List.{List, [], _∷_, _++_, append-assoc}
 use native.Mathlib.Nat.{zero-mul, one-mul}
 use native.Mathlib.Decide.{ℕ-discrete}
 use native.Mathlib.Omega.{arith}
@@ -23,9 +23,10 @@ use Rattle.product.specs.Masks.{masksTests, masksRefusal}
 use Rattle.vectors.specs.Vector.{Vector, plusTimes, raised, rowOf}
 use Rattle.vectors.proofs.Linear.{length-numbers, row-plusTimes, row-raised}
 use Rattle.runs.specs.Draws.{Plan, Draw, pointOf}
-use Rattle.runs.specs.Outline.{loadsTriple, factors}
+use Rattle.runs.specs.Outline.{once, times, loadsTriple, factors}
 use Rattle.runs.specs.Calls.{at}
-use Rattle.runs.proofs.Marks.{Marks, markOf, remarked, marksBy, sessionAt, at-same, at-other}
+use Rattle.runs.proofs.Marks.{Marks, markOf, remarked, marksBy, sessionAt, totalVector, at-same, at-other}
+use Rattle.runs.proofs.Sums.{linear-sum}
 use Rattle.runs.proofs.Outcomes.{conditionAt, passed}
 use Rattle.runs.proofs.Packs.{rowFor}
 
@@ -104,12 +105,13 @@ module _ (plan : Plan) (draw : Draw) where
         ap₂ (combined k) ea eb ∙ sym (row-plusTimes (plan .t + 1) (plan .n) i k (element (pointOf draw i)) (vec a) (vec b))
 
     pub linear-holds : (r a b scale : ℕ) → linearRefusal s l r a b scale ≡ 0
-        → Holds len i (remarked M r 2) (at vec r (plusTimes (element scale) (vec a) (vec b)))
+        → Holds len i (remarked M r 2) (at vec r (totalVector vec (once a) (times scale b ∷ [])))
         (withRow W r (combined scale (rowAt W l a) (rowAt W l b)) l)
     unfolding linearRefusal
     linear-holds r a b scale z =
         put-holds len i M vec l h (equal _ _ (f 4)) r 2 (omega (arith, ltb-false 95 r (f 5))) _ _
-        (combined-row scale a b (held-row a 1 (ltb-false 95 a (f 6)) (f 9)) (held-row b 1 (ltb-false 95 b (f 7)) (f 10)))
+        (combined-row scale a b (held-row a 1 (ltb-false 95 a (f 6)) (f 9)) (held-row b 1 (ltb-false 95 b (f 7)) (f 10))
+        ∙ ap (rowFor plan draw i) (sym (linear-sum vec a b scale)))
       where
         f : (k : ℕ) → conditionAt (linearTests s l r a b scale) k ≡ false
         f = passed (linearTests s l r a b scale) tt z

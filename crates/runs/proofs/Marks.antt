@@ -8,12 +8,15 @@ use borrow.Author.Tests.{eq-eqb, ne-eqb}
 use lib.ListN.{length, getD, set}
 use Rattle.field.specs.Modulus.{p}
 use Rattle.field.specs.Arithmetic.{product}
+use Rattle.field.specs.Algebra.{CommutativeRing}
 use Rattle.field.specs.Element.{element}
+use Rattle.field.proofs.Elements.{𝓡}
 use Rattle.session.specs.declared.Session.{Session}
 use Rattle.vectors.specs.Vector.{Vector, plusTimes, raised, number, vectorOf}
 use Rattle.runs.specs.Draws.{Plan, Draw, pointOf, rawDraw, drawA, drawB, drawAB}
-use Rattle.runs.specs.Outline.{Kinds, Act, loads, loadsTriple, deals, opens, adds, factors, multiplies, Taking, nothingTaken, aRowPack, aTriplePack, aNumber, aRecord, twoRecords, takes, Given, Move}
+use Rattle.runs.specs.Outline.{Kinds, Act, loads, loadsTriple, deals, opens, Summand, once, times, fee, sums, factors, multiplies, Taking, nothingTaken, aRowPack, aTriplePack, aNumber, aRecord, twoRecords, takes, Given, Move}
 use Rattle.runs.specs.Calls.{Actual, at}
+open CommutativeRing 𝓡 using (zero as 0ᴱ)
 
 -- a function changed at one place
 pub at-same : {A : Type 0} (f : ℕ → A) (r : ℕ) (x : A) → at f r x r ≡ x
@@ -71,12 +74,22 @@ vectorB plan draw r = vectorOf (plan .t + 1) (drawB plan draw r)
 abbrev pub vectorAB : Plan → Draw → ℕ → Vector
 vectorAB plan draw r = vectorOf (plan .t + 1) (drawAB plan draw r)
 
--- a − l; and l'' + y l' + y' l + y y'
+-- a − l
 abbrev pub less : Vector → Vector → Vector
 less S L = plusTimes (element (p - 1)) S L
 
-abbrev pub productVector : ℕ → ℕ → Vector → Vector → Vector → Vector
-productVector y y' l l' l'' = raised (element (product y y')) (plusTimes (element y') (plusTimes (element y) l'' l') l)
+-- a sum
+abbrev pub zeroVector : Vector
+zeroVector = record { c = 0ᴱ; f = λ k. 0ᴱ; v = λ j k. 0ᴱ }
+
+abbrev pub worthVector : (ℕ → Vector) → Summand → Vector
+worthVector vec (once a) = vec a
+worthVector vec (times s b) = plusTimes (element s) zeroVector (vec b)
+worthVector vec (fee k) = raised (element k) zeroVector
+
+abbrev pub totalVector : (ℕ → Vector) → Summand → List Summand → Vector
+totalVector vec t [] = worthVector vec t
+totalVector vec t (t' ∷ ts) = plusTimes (element 1) (worthVector vec t) (totalVector vec t' ts)
 
 -- the vectors that a finish of the triple at r opens
 abbrev pub maskA : Marks → (ℕ → Vector) → ℕ → Vector
@@ -85,8 +98,12 @@ maskA M vec r = less (vec (leftOf M r)) (vec r)
 abbrev pub maskB : Marks → (ℕ → Vector) → ℕ → Vector
 maskB M vec r = less (vec (rightOf M r)) (vec (r + 1))
 
+-- l'' + y l' + y' l + y y', "y y' is added to m1..mn only"
+abbrev pub productSum : (ℕ → Vector) → ℕ → ℕ → ℕ → Vector
+productSum vec r y y' = totalVector vec (once (r + 2)) (times y (r + 1) ∷ times y' r ∷ fee (product y y') ∷ [])
+
 abbrev pub written : Marks → (ℕ → Vector) → ℕ → Vector
-written M vec r = productVector (number (maskA M vec r) .0) (number (maskB M vec r) .0) (vec r) (vec (r + 1)) (vec (r + 2))
+written M vec r = productSum vec r (number (maskA M vec r) .0) (number (maskB M vec r) .0)
 
 -- ---- One act: the marks that it writes, the masks that it makes, the vectors.
 
@@ -102,7 +119,7 @@ marksOf (loads r) = mark r 1 ∷ []
 marksOf (loadsTriple r) = mark r 3 ∷ mark (r + 1) 4 ∷ mark (r + 2) 4 ∷ []
 marksOf (deals r) = mark r 2 ∷ []
 marksOf (opens r) = []
-marksOf (adds r a b scale) = mark r 2 ∷ []
+marksOf (sums r t ts) = mark r 2 ∷ []
 marksOf (factors a b r) = []
 marksOf (multiplies r) = mark r 6 ∷ mark (r + 1) 6 ∷ mark (r + 2) 2 ∷ []
 
@@ -116,7 +133,7 @@ masking (loads r) = none
 masking (loadsTriple r) = none
 masking (deals r) = none
 masking (opens r) = none
-masking (adds r a b scale) = none
+masking (sums r t ts) = none
 masking (factors a b r) = of a b r
 masking (multiplies r) = none
 
@@ -138,7 +155,7 @@ vectorsBy plan draw (loadsTriple r) c M vec =
     at (at (at vec r (vectorA plan draw r)) (r + 1) (vectorB plan draw r)) (r + 2) (vectorAB plan draw r)
 vectorsBy plan draw (deals r) c M vec = at vec r (raised (element c) (vec r))
 vectorsBy plan draw (opens r) c M vec = vec
-vectorsBy plan draw (adds r a b scale) c M vec = at vec r (plusTimes (element scale) (vec a) (vec b))
+vectorsBy plan draw (sums r t ts) c M vec = at vec r (totalVector vec t ts)
 vectorsBy plan draw (factors a b r) c M vec = vec
 vectorsBy plan draw (multiplies r) c M vec = at vec (r + 2) (written M vec r)
 

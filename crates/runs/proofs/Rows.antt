@@ -9,7 +9,7 @@ use lib.ListN.{length-set, List·getD-eq-default}
 use lib.Seq.{getD-set-same, getD-set-other}
 use Rattle.vectors.specs.Vector.{Vector}
 use Rattle.runs.specs.Draws.{Plan, Draw}
-use Rattle.runs.specs.Outline.{Kinds, Act, loads, loadsTriple, deals, opens, adds, factors, multiplies, Taking, takes, Given, Move, actsIn}
+use Rattle.runs.specs.Outline.{Kinds, Act, loads, loadsTriple, deals, opens, Summand, sums, factors, multiplies, Taking, takes, Given, Move, actsIn}
 use Rattle.runs.specs.Calls.{Among, at}
 use Rattle.runs.proofs.Marks.{at-other, Marks, markOf, leftOf, rightOf, Sized, remarked, rawVector, Mark, Masking, none, of, masking, marksOf, markAll, remembered, marksBy, vectorsBy, marksAll, vectorsAll}
 use Rattle.runs.proofs.Facts.{Maskable, AllowedBy, AllowedAll, MasksBy, MasksIn}
@@ -22,7 +22,7 @@ pub data Turn : Act → ℕ → ℕ → ℕ → Type 0 where
   second : {r : ℕ} → Turn (loadsTriple r) (r + 1) 0 4
   third : {r : ℕ} → Turn (loadsTriple r) (r + 2) 0 4
   dealt : {r : ℕ} → Turn (deals r) r 1 2
-  summed : {r a b scale : ℕ} → Turn (adds r a b scale) r 0 2
+  summed : {r : ℕ} {t : Summand} {ts : List Summand} → Turn (sums r t ts) r 0 2
   waiting : {a b r : ℕ} → Turn (factors a b r) r 3 5
   spent : {r : ℕ} → Turn (multiplies r) r 5 6
   spent' : {r : ℕ} → Turn (multiplies r) (r + 1) 4 6
@@ -132,7 +132,7 @@ module _ (plan : Plan) (draw : Draw) where
       same (off-three M r 3 4 4 vec _ q n n' n'' (at-other _ (r + 2) _ q n'' ∙ at-other _ (r + 1) _ q n' ∙ at-other vec r _ q n)))))
   course (deals r) c M vec z ok q = at-row r q (turns (ok .0 .1) (now M r 2 z (ok .0 .0)) dealt) (λ n. same (off-one M r 2 vec _ q n))
   course (opens r) c M vec z ok q = same (record { mark = refl; left = refl; right = refl; vector = refl })
-  course (adds r x y scale) c M vec z ok q =
+  course (sums r t ts) c M vec z ok q =
       at-row r q (turns (ok .0 .r-empty) (now M r 2 z (ok .0 .r-low)) summed) (λ n. same (off-one M r 2 vec _ q n))
   course (factors x y r) c M vec z ok q =
       at-row r q (turns (ok .1 .first) (now M r 5 z (omega arith)) waiting) (λ n. same (off-masks M r x y vec q n))

@@ -60,14 +60,20 @@ pub data CallOf (K : Kinds) : Type 0 where
 
 -- ---- What it does and sends, where it is not refused.
 
--- An act: row r is loaded; the triple at r is; row r is dealt; row r is opened; row r becomes a plus s times b; the triple at r
--- waits with the factors a and b; its third row becomes their product.
+-- A summand: row a; s times row b; a fee, which is added to the public sums alone.
+pub data Summand : Type 0 where
+  once : (a : ℕ) → Summand
+  times : (s b : ℕ) → Summand
+  fee : (k : ℕ) → Summand
+
+-- An act: row r is loaded; the triple at r is; row r is dealt; row r is opened; row r becomes a sum, of one summand or more; the
+-- triple at r waits with the factors a and b; its third row becomes their product.
 pub data Act : Type 0 where
   loads : (r : ℕ) → Act
   loadsTriple : (r : ℕ) → Act
   deals : (r : ℕ) → Act
   opens : (r : ℕ) → Act
-  adds : (r a b scale : ℕ) → Act
+  sums : (r : ℕ) (t : Summand) (ts : List Summand) → Act
   factors : (a b r : ℕ) → Act
   multiplies : (r : ℕ) → Act
 
@@ -86,7 +92,7 @@ takes (loads r) = aRowPack r
 takes (loadsTriple r) = aTriplePack r
 takes (deals r) = aNumber r
 takes (opens r) = aRecord r
-takes (adds r a b scale) = nothingTaken
+takes (sums r t ts) = nothingTaken
 takes (factors a b r) = nothingTaken
 takes (multiplies r) = twoRecords r
 
@@ -122,7 +128,7 @@ outline (loadTriple x) = does ((loadsTriple (x .r), x .pack) ∷ [])
 outline (deal x) = does ((deals (x .r), x .c) ∷ [])
 outline (message x) = record { moves = []; sends = itsOpening (x .r) ∷ []; heard = x .heard ∷ [] }
 outline (opening x) = does ((opens (x .r), x .blocks) ∷ [])
-outline (linear x) = does ((adds (x .r) (x .a) (x .b) (x .scale), tt) ∷ [])
+outline (linear x) = does ((sums (x .r) (once (x .a)) (times (x .scale) (x .b) ∷ []), tt) ∷ [])
 outline (masks x) =
     record { moves = (factors (x .a) (x .b) (x .r), tt) ∷ []; sends = itsMasks (x .a) (x .b) (x .r) ∷ []; heard = [] }
 outline (finish x) = does ((multiplies (x .r), (x .blocks, x .blocks')) ∷ [])

@@ -17,7 +17,8 @@ use Rattle.secrecy.specs.Seen.{linesOf}
 use Rattle.secrecy.specs.Rules.{Rule}
 use Rattle.secrecy.specs.Book.{entered}
 use Rattle.secrecy.proofs.Moves.{numberAt, vectorsThen, acts-at, vectors-at}
-use Rattle.secrecy.proofs.State.{Run, Moment, Past, Held, Waits, AnOpening, AMask, maskNumbers, State, fits, facts-on}
+use Rattle.secrecy.proofs.Entered.{Past}
+use Rattle.secrecy.proofs.State.{Run, Moment, Held, Waits, AnOpening, AMask, maskNumbers, State, fits, facts-on}
 use Rattle.runs.proofs.Start.{sizes}
 use Rattle.secrecy.proofs.Broadcasts as Broadcasts
 use Rattle.secrecy.proofs.Broadcasts.{among-append, among-posts, among-heard}

@@ -35,7 +35,7 @@ use Rattle.secrecy.specs.Steps.{Step, Pack, Number, Record, own, sent, p
 use Rattle.secrecy.specs.Rules.{RuleWith, Rule}
 use Rattle.secrecy.specs.Book.{Book, enteredBy, AgreesBy, Agrees}
 use Rattle.secrecy.proofs.Moves.{acts-at, sends-at}
-use Rattle.secrecy.proofs.State.{place-by}
+use Rattle.secrecy.proofs.Entered.{place-by}
 use Rattle.secrecy.proofs.Near.{Near, near-plusTimes, near-same}
 use Rattle.secrecy.proofs.Link.{Alike}
 use Rattle.secrecy.proofs.Twins as Twins

@@ -22,7 +22,8 @@ use Rattle.runs.proofs.Rows.{held-stays, waits-after}
 use Rattle.runs.proofs.Allowed.{allowed}
 use Rattle.secrecy.specs.Steps.{Step, callAt}
 use Rattle.secrecy.specs.Seen.{posts, joined}
-use Rattle.secrecy.proofs.State.{Run, Moment, Past, AnOpening, AMask, maskNumbers, State, facts-on}
+use Rattle.secrecy.proofs.Entered.{Past}
+use Rattle.secrecy.proofs.State.{Run, Moment, AnOpening, AMask, maskNumbers, State, facts-on}
 use Rattle.secrecy.specs.Rules.{Rule}
 use Rattle.secrecy.proofs.Moves.{numberAt, vectorsThen, acts-at, sends-at}
 use Rattle.runs.proofs.Start.{sizes}

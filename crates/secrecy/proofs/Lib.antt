@@ -4,6 +4,7 @@ pub mod Shift
 pub mod Link
 pub mod Twins
 pub mod Moves
+pub mod Entered
 pub mod State
 pub mod Broadcasts
 pub mod Advance

@@ -25,7 +25,7 @@ use Rattle.secrecy.specs.Seen.{Entry, posts, doneAt, linesOf, postsAfter
 use Rattle.secrecy.specs.Rules.{AllSame, SameAnswers, Rule, Rules, refusalOf}
 use Rattle.secrecy.specs.Book.{Book, Agrees, Agree, enteredBy, entered, booked, bookAfter}
 use Rattle.secrecy.proofs.Link.{Gaps}
-use Rattle.secrecy.proofs.State.{Past}
+use Rattle.secrecy.proofs.Entered.{Past}
 use Rattle.runs.proofs.Start.{sizes}
 use Rattle.secrecy.proofs.Broadcasts.{allowed-at}
 use Rattle.secrecy.proofs.Pair.{Two, runOne, Moments, momentOne, Pair, FitBy, FitAll, Fit}

@@ -9,33 +9,39 @@ use lib.Seq.{take-at, drop-at}
 use Rattle.field.specs.Modulus.{p}
 use Rattle.field.specs.Arithmetic.{product}
 use Rattle.field.specs.Algebra.{CommutativeRing}
-use Rattle.field.specs.Element.{element}
-use Rattle.field.proofs.Elements.{𝓡, element-product}
+use Rattle.field.specs.Element.{Element, element}
+use Rattle.field.proofs.Expression.{A, B, 𝟘, 𝟙, _:+_, _:*_, Same}
+use Rattle.field.proofs.Solver.{solve}
+use Rattle.field.proofs.Elements.{𝓡, element-one, element-sum, element-product}
 use Rattle.poly.specs.Counting.{All, Elements}
+use Rattle.poly.proofs.Lists.{all-map}
 use Rattle.refusal.specs.Refusal.{first}
 use Rattle.factory.specs.Packs.{dealerNumber}
 use Rattle.vectors.specs.Vector.{Vector, raised, number, numbers, vectorOf}
-use Rattle.vectors.proofs.Linear.{length-numbers}
+use Rattle.vectors.proofs.Linear.{length-numbers, number-plusTimes}
 use Rattle.runs.specs.Draws.{Plan, Draw, IsDraw, Sound, IsRaw, Raw, by, whenRaw, rawDraw, rawPack, triplePack}
-use Rattle.runs.specs.Outline.{Act, loads, loadsTriple, deals, opens, adds, factors, multiplies, Taking, nothingTaken, aRowPack, aTriplePack, aNumber, aRecord, twoRecords, takes, Given, Move, moves, actsIn, acts, sends}
+use Rattle.runs.specs.Outline.{Act, loads, loadsTriple, deals, opens, Summand, once, times, fee, sums, factors, multiplies, Taking, nothingTaken, aRowPack, aTriplePack, aNumber, aRecord, twoRecords, takes, Given, Move, moves, actsIn, acts, sends}
 use Rattle.runs.specs.Calls.{Post, Actual, openingLine, masksLine, Among, at}
 use Rattle.runs.proofs.Outlines.{every-all, givenBy, filledMove, moves-filled}
-use Rattle.runs.proofs.Marks.{Marks, Sized, markOf, leftOf, rightOf, maskA, maskB, written, sessionAt, rawVector, Masking, none, of, masking, marksBy, vectorsBy, marksAll, vectorsAll, at-same, at-other}
-use Rattle.runs.proofs.Numbers.{dealt-number, summed-number, product-number, third-number}
+use Rattle.runs.proofs.Marks.{Marks, Sized, markOf, leftOf, rightOf, maskA, maskB, zeroVector, worthVector, totalVector, written, sessionAt, rawVector, Masking, none, of, masking, marksBy, vectorsBy, marksAll, vectorsAll, at-same, at-other}
+use Rattle.runs.proofs.Sums.{product-sum}
+use Rattle.runs.proofs.Numbers.{dealt-number, product-number, third-number}
 use Rattle.runs.proofs.Start.{sizes}
 use Rattle.runs.proofs.Steps.{Stands, FitsWith, Fits}
 use Rattle.runs.proofs.Lines.{Opening, Masks}
 use Rattle.runs.proofs.Records.{all-true}
 use Rattle.runs.proofs.Facts as Facts
-use Rattle.runs.proofs.Facts.{Maskable, AllowedBy, AllowedAll, ReadyFor, Allowed, Facts, Meant}
+use Rattle.runs.proofs.Facts.{HeldIn, Maskable, AllowedBy, AllowedAll, ReadyFor, Allowed, Facts, Meant}
 use Rattle.runs.proofs.Rows.{sized-by, held-by}
 use Rattle.runs.proofs.Kept.{facts-by}
 use Rattle.secrecy.specs.Steps.{Secrets, Fixed, Step, Pack, Number, own, sent, filling, callAt, dealtNumber}
 use Rattle.secrecy.specs.Rules.{RuleWith, Rule}
-use Rattle.secrecy.specs.Book.{Book, enteredBy, enteredAll, entered}
+use Rattle.secrecy.specs.Book.{Book, worth, total, enteredBy, enteredAll, entered}
 use Rattle.secrecy.proofs.Moves.{numberAt, vectorsThen}
-open CommutativeRing 𝓡 using (mul as _⊗_)
+use Rattle.secrecy.proofs.Entered.{Numbered, total-number, Past, place-by, notes-by, place-all}
+open CommutativeRing 𝓡 using (add as _⊕_, mul as _⊗_, zero as 0ᴱ)
 
+infixl 65 _⊕_
 infixl 70 _⊗_
 -- what a run is made with; `len` is how long each post's list of rows is
 pub record Run : Type 0 where
@@ -55,69 +61,12 @@ pub record Moment : Type 0 where
   pub lines : List (List ℕ)
   pub posts : ℕ → Post
 
--- the masks of the triple at r were made
-abbrev pub Past : Marks → ℕ → Type 0
-Past M r = (markOf M r ≡ 5) ⊎ (markOf M r ≡ 6)
-
 -- by the book: the number of a held row's vector, and the numbers that masks noted
 abbrev pub Held : Book → ℕ → Vector → Type 0
 Held b r X = number X ≡ element (b .place r)
 
 abbrev pub Waits : Book → ℕ → ℕ → ℕ → Type 0
 Waits b r x y = (b .factorA r ≡ b .place x) × (b .factorB r ≡ b .place y)
-
--- ---- the book, act by act
-
--- the numbers noted with each triple, after masks
-abbrev pub notedA : Masking → Book → ℕ → ℕ
-notedA none b = b .factorA
-notedA (of x y r) b = at (b .factorA) r (b .place x)
-
-abbrev pub notedB : Masking → Book → ℕ → ℕ
-notedB none b = b .factorB
-notedB (of x y r) b = at (b .factorB) r (b .place y)
-
-module _ (u : Secrets) where
-  pub noted-is : (a : Act) (b : Book) → (enteredBy u a b .factorA ≡ notedA (masking a) b) × (enteredBy u a b .factorB ≡ notedB (masking a) b)
-  noted-is (loads r) b = (refl, refl)
-  noted-is (loadsTriple r) b = (refl, refl)
-  noted-is (deals r) b = (refl, refl)
-  noted-is (opens r) b = (refl, refl)
-  noted-is (adds r x y scale) b = (refl, refl)
-  noted-is (factors x y r) b = (refl, refl)
-  noted-is (multiplies r) b = (refl, refl)
-
-  -- a held row's place stays; so do the numbers noted for a triple whose masks were made
-  pub place-by : (M : Marks) (b : Book) (a : Act) → AllowedBy a M → (x : ℕ) → markOf M x ≡ 2 → enteredBy u a b .place x ≡ b .place x
-  place-by M b (loads r) al x two = refl
-  place-by M b (loadsTriple r) al x two = refl
-  place-by M b (deals r) al x two = at-other (b .place) r (u r) x (λ e. omega (arith, ap (markOf M) e, al .0 .1))
-  place-by M b (opens r) al x two = refl
-  place-by M b (adds r y z scale) al x two = at-other (b .place) r _ x (λ e. omega (arith, ap (markOf M) e, al .0 .r-empty))
-  place-by M b (factors y z r) al x two = refl
-  place-by M b (multiplies r) al x two = at-other (b .place) (r + 2) _ x (λ e. omega (arith, ap (markOf M) e, al .0 .third))
-
-  notes-stay : (M : Marks) (b : Book) (m : Masking) → Maskable m M → (x : ℕ) → Past M x
-      → (notedA m b x ≡ b .factorA x) × (notedB m b x ≡ b .factorB x)
-  notes-stay M b none al x past = (refl, refl)
-  notes-stay M b (of y z r) al x past =
-      let ne : x ≢ r = elim past [ inl e ↦ (λ g. omega (arith, ap (markOf M) g, al .first)) | inr e ↦ (λ g. omega (arith, ap (markOf M) g, al .first)) ] in
-      (at-other (b .factorA) r (b .place y) x ne, at-other (b .factorB) r (b .place z) x ne)
-
-  pub notes-by : (M : Marks) (b : Book) (a : Act) → AllowedBy a M → (x : ℕ) → Past M x
-      → (enteredBy u a b .factorA x ≡ b .factorA x) × (enteredBy u a b .factorB x ≡ b .factorB x)
-  notes-by M b a al x past =
-      let n = noted-is a b in
-      let k = notes-stay M b (masking a) (al .1) x past in
-      (ap (λ (f : ℕ → ℕ). f x) (n .0) ∙ k .0, ap (λ (f : ℕ → ℕ). f x) (n .1) ∙ k .1)
-
-pub place-all : (plan : Plan) (draw : Draw) (u : Secrets) (todo : List Act) (M : Marks) (b : Book) → Sized M → AllowedAll todo M → (x : ℕ)
-    → markOf M x ≡ 2 → enteredAll u todo b .place x ≡ b .place x
-place-all plan draw u [] M b z al x two = refl
-place-all plan draw u (a ∷ todo) M b z al x two =
-    place-all plan draw u todo (marksBy a M) (enteredBy u a b) (sized-by a M z) (al .1) x
-    (held-by plan draw a 0 M (rawVector plan draw) z (al .0) x two .0)
-    ∙ place-by u M b a (al .0) x two
 
 module _ (C : Run) where
   open Run C using (plan, draw, u, len)
@@ -164,12 +113,19 @@ module _ (C : Run) where
           let g = f r (omega (arith, al .r-low)) in
           let t = g .triple (inr (al .first)) in
           let w = g .waiting (al .first) in
-          product-number (vec (leftOf M r)) (vec (rightOf M r)) (vec r) (vec (r + 1)) (vec (r + 2))
+          ap number (product-sum vec r _ _)
+          ∙ product-number (vec (leftOf M r)) (vec (rightOf M r)) (vec r) (vec (r + 1)) (vec (r + 2))
           (ap number (t .is-ab) ∙ third-number plan draw r ∙ sym (ap₂ (λ (X Y : Vector). number X ⊗ number Y) (t .is-a) (t .is-b)))
           ∙ ap₂ _⊗_
           (f (leftOf M r) (al .a-low) .held (al .a-held) ∙ ap element (sym (w .means .0)))
           (f (rightOf M r) (al .b-low) .held (al .b-held) ∙ ap element (sym (w .means .1)))
           ∙ sym (element-product (b .factorA r) (b .factorB r))
+
+      -- the rows of a sum
+      number-of : (t : Summand) → HeldIn M t → Numbered vec (b .place) t
+      number-of (once a) h = f a (h .0) .held (h .1)
+      number-of (times s x) h = f x (h .0) .held (h .1)
+      number-of (fee k) h = tt
 
       meant : (a : Act) (x : Given Fixed (takes a)) → AllowedBy a M → RuleWith plan 0 lines (takes a) x
           → Meant plan draw (Held (enteredBy u a b)) (Waits (enteredBy u a b)) a (numberAt plan draw u (takes a) x) M vec
@@ -180,9 +136,8 @@ module _ (C : Run) where
       meant (deals r) sent al rule = dealt-is r (al .0 .0) (al .0 .1) ∙ ap element (sym (at-same (b .place) r (u r)))
       meant (deals r) (Number.fixed x) al rule = absurd (rule refl)
       meant (opens r) blocks al rule = tt
-      meant (adds r x y scale) t al rule =
-          summed-number scale (b .place x) (b .place y) (vec x) (vec y) (f x (al .0 .a-low) .held (al .0 .a-held))
-          (f y (al .0 .b-low) .held (al .0 .b-held))
+      meant (sums r t ts) x al rule =
+          total-number vec (b .place) t ts (number-of t (al .0 .held .0)) (all-map number-of ts (al .0 .held .1))
           ∙ ap element (sym (at-same (b .place) r _))
       meant (factors x y r) t al rule = (at-same (b .factorA) r (b .place x), at-same (b .factorB) r (b .place y))
       meant (multiplies r) blocks al rule = product-is r (al .0) ∙ ap element (sym (at-same (b .place) (r + 2) _))

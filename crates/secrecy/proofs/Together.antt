@@ -10,23 +10,25 @@ use lib.Seq.{getD-set-other}
 use Rattle.field.specs.Arithmetic.{product}
 use Rattle.field.specs.Element.{Element, element}
 use Rattle.poly.specs.Counting.{All}
+use Rattle.poly.proofs.Lists.{all-map}
 use Rattle.factory.specs.Draw.{eachFrom}
-use Rattle.vectors.specs.Vector.{Vector, plusTimes, raised, number}
+use Rattle.vectors.specs.Vector.{Vector, raised, number}
 use Rattle.runs.specs.Draws.{pointOf, rawPack, triplePack}
-use Rattle.runs.specs.Outline.{Act, loads, loadsTriple, deals, opens, adds, factors, multiplies, takes, Given, Move, moves, actsIn, acts, sends, filled}
+use Rattle.runs.specs.Outline.{Act, loads, loadsTriple, deals, opens, Summand, once, times, fee, sums, factors, multiplies, takes, Given, Move, moves, actsIn, acts, sends, filled}
 use Rattle.runs.specs.Calls.{Call, perform, at}
 use Rattle.runs.proofs.Outlines.{every-all}
-use Rattle.runs.proofs.Marks.{Marks, markOf, leftOf, rightOf, remarked, finished, maskA, maskB, productVector, written, Masking, none, of, masking, marksBy, vectorsBy, marksAll, vectorsAll, at-same, at-other}
+use Rattle.runs.proofs.Marks.{Marks, markOf, leftOf, rightOf, remarked, finished, maskA, maskB, zeroVector, worthVector, totalVector, productSum, written, Masking, none, of, masking, marksBy, vectorsBy, marksAll, vectorsAll, at-same, at-other}
 use Rattle.runs.proofs.Outcomes.{refusalOf, refusal-is}
-use Rattle.runs.proofs.Facts.{AllowedBy, AllowedAll, Allowed, MasksBy, Multiplying}
+use Rattle.runs.proofs.Facts.{HeldIn, AllowedBy, AllowedAll, Allowed, MasksBy, Multiplying}
 use Rattle.runs.proofs.Rows.{sized-by, five-by}
 use Rattle.secrecy.specs.Steps.{Fixed, Step, Pack, Number, own, sent, packed, dealtWith, callAt, heardFrom, dealtNumber}
 use Rattle.secrecy.specs.Seen.{posts, joined, linesOf}
 use Rattle.secrecy.specs.Rules.{RuleWith, Rule}
 use Rattle.secrecy.specs.Book.{Book, Agrees, enteredBy, enteredAll, entered}
 use Rattle.secrecy.proofs.Moves.{numberAt, vectorsThen}
-use Rattle.secrecy.proofs.State.{notedA, notedB, noted-is, notes-by, facts-step}
-use Rattle.secrecy.proofs.Near.{Near, near-plusTimes, near-raised}
+use Rattle.secrecy.proofs.Entered.{notedA, notedB, noted-is, notes-by}
+use Rattle.secrecy.proofs.State.{facts-step}
+use Rattle.secrecy.proofs.Near.{Near, near-self, near-plusTimes, near-raised}
 use Rattle.secrecy.proofs.Pair.{Two, runOne, runTwo, Moments, Pair, apart, Core, core, core-wait, FitBy, FitAll, Fit}
 use Rattle.secrecy.proofs.Answers.{Same, same-answers}
 
@@ -124,9 +126,35 @@ module _ (T : Two) (lines : List (List ℕ)) where
       go (yes e) = h r lr (subst (λ (y : ℕ). markOf N y ≢ 0) (sym e) was)
       go (no e) = h r lr (subst (λ (y : ℕ). y ≢ 0) (getD-set-other (N .marks) x r m 0 e) ne)
 
+  -- a sum of rows that are near
+  module _ (vec vec' : ℕ → Vector) where
+    abbrev NearIn : Summand → Type 0
+    NearIn (once a) = Near (T .plan .n) (T .plan .t + 1) (pointOf (T .d)) (T .K) (vec a) (vec' a)
+    NearIn (times s b) = Near (T .plan .n) (T .plan .t + 1) (pointOf (T .d)) (T .K) (vec b) (vec' b)
+    NearIn (fee k) = Unit {0}
+
+    near-worth : (t : Summand) → NearIn t → Nearly (worthVector vec t) (worthVector vec' t)
+    near-worth (once a) h = h
+    near-worth (times s b) h =
+        near-plusTimes (T .plan .n) (T .plan .t + 1) (pointOf (T .d)) (T .K) s zeroVector zeroVector (vec b) (vec' b)
+        (near-self (T .plan .n) (T .plan .t + 1) (pointOf (T .d)) (T .K) zeroVector) h
+    near-worth (fee k) h = near-self (T .plan .n) (T .plan .t + 1) (pointOf (T .d)) (T .K) (raised (element k) zeroVector)
+
+    near-total : (t : Summand) (ts : List Summand) → NearIn t → All NearIn ts → Nearly (totalVector vec t ts) (totalVector vec' t ts)
+    near-total t [] h hs = near-worth t h
+    near-total t (t' ∷ ts) h hs =
+        near-plusTimes (T .plan .n) (T .plan .t + 1) (pointOf (T .d)) (T .K) 1 (worthVector vec t) (worthVector vec' t)
+        (totalVector vec t' ts) (totalVector vec' t' ts) (near-worth t h) (near-total t' ts (hs .0) (hs .1))
+
   module _ (M : Marks) (vec vec' : ℕ → Vector) (b b' : Book) (K : Core T M vec vec' b b') where
     nonzero : (r m : ℕ) → markOf M r ≡ suc m → markOf M r ≢ 0
     nonzero r m e g = omega arith
+
+    -- a sum of held rows
+    near-of : (t : Summand) → HeldIn M t → NearIn vec vec' t
+    near-of (once a) h = K .near a (h .0) (nonzero a 1 (h .1))
+    near-of (times s x) h = K .near x (h .0) (nonzero x 1 (h .1))
+    near-of (fee k) h = tt
 
     near-finish : (x : ℕ) → Multiplying 5 M (leftOf M x) (rightOf M x) x
         → AllNear (finished M x) (at vec (x + 2) (written M vec x)) (at vec' (x + 2) (written M vec' x))
@@ -149,9 +177,6 @@ module _ (T : Two) (lines : List (List ℕ)) where
         y' : ℕ
         y' = number (maskB M vec x) .0
 
-        part : (ℕ → Vector) → Vector
-        part v = plusTimes (element y) (v (x + 2)) (v (x + 1))
-
         n0 : Nearly (vec x) (vec' x)
         n0 = K .near x (omega (arith, low)) (nonzero x 4 (al .first))
 
@@ -163,11 +188,9 @@ module _ (T : Two) (lines : List (List ℕ)) where
 
         new : Nearly (written M vec x) (written M vec' x)
         new =
-            subst (λ (X : Vector). Near (T .plan .n) (T .plan .t + 1) (pointOf (T .d)) (T .K) (written M vec x) X)
-            (ap₂ (λ (a c : Element). productVector (a .0) (c .0) (vec' x) (vec' (x + 1)) (vec' (x + 2))) (w .0) (w .1))
-            (near-raised (T .plan .n) (T .plan .t + 1) (pointOf (T .d)) (T .K) (product y y') (plusTimes (element y') (part vec) (vec x)) (plusTimes (element y') (part vec') (vec' x))
-            (near-plusTimes (T .plan .n) (T .plan .t + 1) (pointOf (T .d)) (T .K) y' (part vec) (part vec') (vec x) (vec' x)
-            (near-plusTimes (T .plan .n) (T .plan .t + 1) (pointOf (T .d)) (T .K) y (vec (x + 2)) (vec' (x + 2)) (vec (x + 1)) (vec' (x + 1)) n2 n1) n0))
+            subst (Near (T .plan .n) (T .plan .t + 1) (pointOf (T .d)) (T .K) (written M vec x))
+            (ap₂ (λ (a c : Element). productSum vec' x (a .0) (c .0)) (w .0) (w .1))
+            (near-total vec vec' (once (x + 2)) (times y (x + 1) ∷ times y' x ∷ fee (product y y') ∷ []) n2 (n1, (n0, (tt, tt))))
 
     abbrev v1 : (a : Act) → Given Fixed (takes a) → ℕ → Vector
     v1 a x = vectorsBy (T .plan) (T .d) a (numberAt (T .plan) (T .d) (T .u) (takes a) x) M vec
@@ -191,10 +214,8 @@ module _ (T : Two) (lines : List (List ℕ)) where
         (near-raised (T .plan .n) (T .plan .t + 1) (pointOf (T .d)) (T .K) (dealtNumber (T .plan) (T .d) (T .u) r) (vec r) (vec' r) (K .near r (al .0 .0) (nonzero r 0 (al .0 .1)))))
     near-by (deals r) (Number.fixed x) al rule = absurd (rule refl)
     near-by (opens r) blocks al rule = K .near
-    near-by (adds r x y scale) t al rule =
-        near-put M vec vec' (K .near) r 2 _ _
-        (near-plusTimes (T .plan .n) (T .plan .t + 1) (pointOf (T .d)) (T .K) scale (vec x) (vec' x) (vec y) (vec' y)
-        (K .near x (al .0 .a-low) (nonzero x 1 (al .0 .a-held))) (K .near y (al .0 .b-low) (nonzero y 1 (al .0 .b-held))))
+    near-by (sums r t ts) x al rule =
+        near-put M vec vec' (K .near) r 2 _ _ (near-total vec vec' t ts (near-of t (al .0 .held .0)) (all-map near-of ts (al .0 .held .1)))
     near-by (factors x y r) t al rule = near-mark M vec vec' (K .near) r 5 (nonzero r 2 (al .1 .first))
     near-by (multiplies r) blocks al rule = near-finish r (al .0)
 

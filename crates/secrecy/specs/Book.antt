@@ -5,7 +5,7 @@ use mathlib.Core.Path.{_≡_}
 use mathlib.Core.List.{List, [], _∷_}
 use Rattle.field.specs.Arithmetic.{sum, product}
 use Rattle.refusal.specs.Refusal.{outcome}
-use Rattle.runs.specs.Outline.{Act, loads, loadsTriple, deals, opens, adds, factors, multiplies, acts, Sending, itsOpening, itsMasks, sends, Every}
+use Rattle.runs.specs.Outline.{Act, loads, loadsTriple, deals, opens, Summand, once, times, fee, sums, factors, multiplies, acts, Sending, itsOpening, itsMasks, sends, Every}
 use Rattle.runs.specs.Calls.{at}
 use Rattle.secrecy.specs.Steps.{Secrets, Step}
 use Rattle.secrecy.specs.Seen.{Entry}
@@ -26,6 +26,16 @@ placed b r x = record { place = at (b .place) r x; factorA = b .factorA; factorB
 abbrev pub noted : Book → ℕ → ℕ → ℕ → Book
 noted b r x y = record { place = b .place; factorA = at (b .factorA) r x; factorB = at (b .factorB) r y }
 
+-- A sum, of one summand or more: "a's number plus s times b's".
+abbrev pub worth : (ℕ → ℕ) → Summand → ℕ
+worth place (once a) = place a
+worth place (times s b) = product s (place b)
+worth place (fee k) = k
+
+abbrev pub total : (ℕ → ℕ) → Summand → List Summand → ℕ
+total place t [] = worth place t
+total place t (t' ∷ ts) = sum (worth place t) (total place t' ts)
+
 -- "Deal puts u in its row's place. Linear puts a's number plus s times b's in the new row's. Masks keep the numbers of a and b
 -- with the triple; when its product is written, the third row gets one times the other. Other calls ... change nothing."
 abbrev pub enteredBy : Secrets → Act → Book → Book
@@ -33,7 +43,7 @@ enteredBy u (loads r) b = b
 enteredBy u (loadsTriple r) b = b
 enteredBy u (deals r) b = placed b r (u r)
 enteredBy u (opens r) b = b
-enteredBy u (adds r x y scale) b = placed b r (sum (b .place x) (product scale (b .place y)))
+enteredBy u (sums r t ts) b = placed b r (total (b .place) t ts)
 enteredBy u (factors x y r) b = noted b r (b .place x) (b .place y)
 enteredBy u (multiplies r) b = placed b (r + 2) (product (b .factorA r) (b .factorB r))
 
