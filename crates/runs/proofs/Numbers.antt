@@ -13,7 +13,7 @@ use Rattle.field.specs.Algebra.{CommutativeRing}
 use Rattle.field.specs.Element.{Element, element}
 use Rattle.field.proofs.Expression.{A, B, C, D, 𝟘, 𝟙, _:+_, _:*_, _:-_, :-_, Same}
 use Rattle.field.proofs.Solver.{solve}
-use Rattle.field.proofs.Elements.{𝓡, element-zero, element-one, element-sum, element-product, element-difference, element-of-number}
+use Rattle.field.proofs.Elements.{𝓡, element-zero, element-one, element-product, element-difference, element-of-number}
 use Rattle.poly.specs.Counting.{Elements}
 use Rattle.refusal.specs.Refusal.{outcome}
 use Rattle.refusal.proofs.Elements.{element-test}

@@ -10,6 +10,7 @@ pub mod Broadcasts
 pub mod Advance
 pub mod Pair
 pub mod Answers
+pub mod Alike
 pub mod Together
 pub mod Onward
 pub mod Reckoned

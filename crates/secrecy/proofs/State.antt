@@ -1,7 +1,7 @@
 -- One run of the list: what every post holds, what the marks say of vectors and book, and what was broadcast.
 use Prim.Native.Nat.{ℕ, _+_, _*_, _≤_, _<_}
 use mathlib.Core.Path.{_≡_, refl, sym, _∙_, ap, ap₂, subst}
-use mathlib.Core.Logic.{_≢_, _⊎_, inl, inr}
+use mathlib.Core.Logic.{inl, inr}
 use mathlib.Core.List.{List, [], _∷_, _++_, map}
 use native.Mathlib.Omega.{arith}
 use lib.ListN.{length, take, drop, getD}
@@ -9,21 +9,19 @@ use lib.Seq.{take-at, drop-at}
 use Rattle.field.specs.Modulus.{p}
 use Rattle.field.specs.Arithmetic.{product}
 use Rattle.field.specs.Algebra.{CommutativeRing}
-use Rattle.field.specs.Element.{Element, element}
-use Rattle.field.proofs.Expression.{A, B, 𝟘, 𝟙, _:+_, _:*_, Same}
-use Rattle.field.proofs.Solver.{solve}
-use Rattle.field.proofs.Elements.{𝓡, element-one, element-sum, element-product}
+use Rattle.field.specs.Element.{element}
+use Rattle.field.proofs.Elements.{𝓡, element-product}
 use Rattle.poly.specs.Counting.{All, Elements}
 use Rattle.poly.proofs.Lists.{all-map}
 use Rattle.refusal.specs.Refusal.{first}
 use Rattle.factory.specs.Packs.{dealerNumber}
 use Rattle.vectors.specs.Vector.{Vector, raised, number, numbers, vectorOf}
-use Rattle.vectors.proofs.Linear.{length-numbers, number-plusTimes}
+use Rattle.vectors.proofs.Linear.{length-numbers}
 use Rattle.runs.specs.Draws.{Plan, Draw, IsDraw, Sound, IsRaw, Raw, by, whenRaw, rawDraw, rawPack, triplePack}
 use Rattle.runs.specs.Outline.{Act, loads, loadsTriple, deals, opens, Summand, once, times, fee, sums, factors, multiplies, Taking, nothingTaken, aRowPack, aTriplePack, aNumber, aRecord, twoRecords, takes, Given, Move, moves, actsIn, acts, sends}
 use Rattle.runs.specs.Calls.{Post, Actual, openingLine, masksLine, Among, at}
 use Rattle.runs.proofs.Outlines.{every-all, givenBy, filledMove, moves-filled}
-use Rattle.runs.proofs.Marks.{Marks, Sized, markOf, leftOf, rightOf, maskA, maskB, zeroVector, worthVector, totalVector, written, sessionAt, rawVector, Masking, none, of, masking, marksBy, vectorsBy, marksAll, vectorsAll, at-same, at-other}
+use Rattle.runs.proofs.Marks.{Marks, Sized, markOf, leftOf, rightOf, maskA, maskB, written, sessionAt, none, of, marksBy, vectorsBy, marksAll, vectorsAll, at-same}
 use Rattle.runs.proofs.Sums.{product-sum}
 use Rattle.runs.proofs.Numbers.{dealt-number, product-number, third-number}
 use Rattle.runs.proofs.Start.{sizes}
@@ -31,12 +29,12 @@ use Rattle.runs.proofs.Steps.{Stands, FitsWith, Fits}
 use Rattle.runs.proofs.Lines.{Opening, Masks}
 use Rattle.runs.proofs.Records.{all-true}
 use Rattle.runs.proofs.Facts as Facts
-use Rattle.runs.proofs.Facts.{HeldIn, Maskable, AllowedBy, AllowedAll, ReadyFor, Allowed, Facts, Meant}
-use Rattle.runs.proofs.Rows.{sized-by, held-by}
+use Rattle.runs.proofs.Facts.{HeldIn, AllowedBy, AllowedAll, ReadyFor, Allowed, Facts, Meant}
+use Rattle.runs.proofs.Rows.{sized-by}
 use Rattle.runs.proofs.Kept.{facts-by}
 use Rattle.secrecy.specs.Steps.{Secrets, Fixed, Step, Pack, Number, own, sent, filling, callAt, dealtNumber}
 use Rattle.secrecy.specs.Rules.{RuleWith, Rule}
-use Rattle.secrecy.specs.Book.{Book, worth, total, enteredBy, enteredAll, entered}
+use Rattle.secrecy.specs.Book.{Book, enteredBy, enteredAll, entered}
 use Rattle.secrecy.proofs.Moves.{numberAt, vectorsThen}
 use Rattle.secrecy.proofs.Entered.{Numbered, total-number, Past, place-by, notes-by, place-all}
 open CommutativeRing 𝓡 using (add as _⊕_, mul as _⊗_, zero as 0ᴱ)

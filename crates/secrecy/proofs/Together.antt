@@ -30,7 +30,7 @@ use Rattle.secrecy.proofs.Entered.{notedA, notedB, noted-is, notes-by}
 use Rattle.secrecy.proofs.State.{facts-step}
 use Rattle.secrecy.proofs.Near.{Near, near-self, near-plusTimes, near-raised}
 use Rattle.secrecy.proofs.Pair.{Two, runOne, runTwo, Moments, Pair, apart, Core, core, core-wait, FitBy, FitAll, Fit}
-use Rattle.secrecy.proofs.Answers.{Same, same-answers}
+use Rattle.secrecy.proofs.Alike.{Same, same-answers}
 
 -- a map over the posts 1 to n
 each-same : {A : Type 0} (f g : ℕ → A) (j m : ℕ) → ((i : ℕ) → j ≤ i → i < j + m → f i ≡ g i) → map f (eachFrom j m (λ i. i)) ≡ map g (eachFrom j m (λ i. i))
