@@ -29,36 +29,38 @@ pub record Post : Type 0 where
   pub session : Session
   pub rows : List ℕ
 
--- A call that a post makes; and its eight forms, written short.
+-- A call that a post makes.
 abbrev pub Actual : Kinds
 Actual = record { Pack = List ℕ; Number = ℕ; Record = List ℕ; Lent = List ℕ; Heard = Unit {0} }
 
 abbrev pub Call : Type 0
 Call = CallOf Actual
 
-abbrev pub loadRow : (r : ℕ) (pack : List ℕ) → Call
-loadRow r pack = CallOf.loadRow (record { r = r; pack = pack })
+-- The calls, written short.
+module _ {K : Kinds} where
+  abbrev pub loadRow : (r : ℕ) (pack : K .Pack) → CallOf K
+  loadRow r pack = CallOf.loadRow (record { r = r; pack = pack })
 
-abbrev pub loadTriple : (r : ℕ) (pack : List ℕ) → Call
-loadTriple r pack = CallOf.loadTriple (record { r = r; pack = pack })
+  abbrev pub loadTriple : (r : ℕ) (pack : K .Pack) → CallOf K
+  loadTriple r pack = CallOf.loadTriple (record { r = r; pack = pack })
 
-abbrev pub deal : (r c : ℕ) → Call
-deal r c = CallOf.deal (record { r = r; c = c })
+  abbrev pub deal : (r : ℕ) (c : K .Number) → CallOf K
+  deal r c = CallOf.deal (record { r = r; c = c })
+
+  abbrev pub opening : (r : ℕ) (blocks : K .Record) → CallOf K
+  opening r blocks = CallOf.opening (record { r = r; blocks = blocks })
+
+  abbrev pub linear : (r a b scale : ℕ) → CallOf K
+  linear r a b scale = CallOf.linear (record { r = r; a = a; b = b; scale = scale })
+
+  abbrev pub masks : (a b r : ℕ) (lent : K .Lent) → CallOf K
+  masks a b r lent = CallOf.masks (record { a = a; b = b; r = r; lent = lent })
+
+  abbrev pub finish : (r : ℕ) (blocks blocks' : K .Record) → CallOf K
+  finish r blocks blocks' = CallOf.finish (record { r = r; blocks = blocks; blocks' = blocks' })
 
 abbrev pub message : (r : ℕ) (lent : List ℕ) → Call
 message r lent = CallOf.message (record { r = r; lent = lent; heard = tt })
-
-abbrev pub opening : (r : ℕ) (blocks : List ℕ) → Call
-opening r blocks = CallOf.opening (record { r = r; blocks = blocks })
-
-abbrev pub linear : (r a b scale : ℕ) → Call
-linear r a b scale = CallOf.linear (record { r = r; a = a; b = b; scale = scale })
-
-abbrev pub masks : (a b r : ℕ) (lent : List ℕ) → Call
-masks a b r lent = CallOf.masks (record { a = a; b = b; r = r; lent = lent })
-
-abbrev pub finish : (r : ℕ) (blocks blocks' : List ℕ) → Call
-finish r blocks blocks' = CallOf.finish (record { r = r; blocks = blocks; blocks' = blocks' })
 
 -- What a call leaves: its answer, the rows, and what stands in the list it was lent to write into, a part for each line that it
 -- sends (none where it was lent no list).

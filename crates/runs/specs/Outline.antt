@@ -119,19 +119,19 @@ pub record Outline (K : Kinds) : Type 0 where
   pub sends : List Sending
   pub heard : List (K .Heard)
 
-abbrev does : {K : Kinds} → List (Move K) → Outline K
-does moves = record { moves = moves; sends = []; heard = [] }
+abbrev acting : {K : Kinds} → List (Move K) → Outline K
+acting moves = record { moves = moves; sends = []; heard = [] }
 
 abbrev pub outline : {K : Kinds} → CallOf K → Outline K
-outline (loadRow x) = does ((loads (x .r), x .pack) ∷ [])
-outline (loadTriple x) = does ((loadsTriple (x .r), x .pack) ∷ [])
-outline (deal x) = does ((deals (x .r), x .c) ∷ [])
+outline (loadRow x) = acting ((loads (x .r), x .pack) ∷ [])
+outline (loadTriple x) = acting ((loadsTriple (x .r), x .pack) ∷ [])
+outline (deal x) = acting ((deals (x .r), x .c) ∷ [])
 outline (message x) = record { moves = []; sends = itsOpening (x .r) ∷ []; heard = x .heard ∷ [] }
-outline (opening x) = does ((opens (x .r), x .blocks) ∷ [])
-outline (linear x) = does ((sums (x .r) (once (x .a)) (times (x .scale) (x .b) ∷ []), tt) ∷ [])
+outline (opening x) = acting ((opens (x .r), x .blocks) ∷ [])
+outline (linear x) = acting ((sums (x .r) (once (x .a)) (times (x .scale) (x .b) ∷ []), tt) ∷ [])
 outline (masks x) =
     record { moves = (factors (x .a) (x .b) (x .r), tt) ∷ []; sends = itsMasks (x .a) (x .b) (x .r) ∷ []; heard = [] }
-outline (finish x) = does ((multiplies (x .r), (x .blocks, x .blocks')) ∷ [])
+outline (finish x) = acting ((multiplies (x .r), (x .blocks, x .blocks')) ∷ [])
 
 abbrev pub moves : {K : Kinds} → CallOf K → List (Move K)
 moves c = outline c .moves

@@ -8,6 +8,7 @@ use Rattle.factory.specs.Packs.{dealerNumber}
 use Rattle.runs.specs.Draws.{Plan, Draw, whenRaw, rawDraw, rawPack, triplePack}
 use Rattle.runs.specs.Outline.{Kinds, CallOf, outline, Filling, filled}
 use Rattle.runs.specs.Calls.{Actual, Call}
+pub use Rattle.runs.specs.Calls.{loadRow, loadTriple, deal, opening, linear, masks, finish}
 
 -- "A list of secrets gives one u for each row with a dealer."
 abbrev pub Secrets : Type 0
@@ -40,30 +41,8 @@ Fixed = record { Pack = Pack; Number = Number; Record = Record; Lent = ℕ → L
 abbrev pub Step : Type 0
 Step = CallOf Fixed
 
--- The eight forms, written short.
-abbrev pub loadRow : (r : ℕ) (pack : Pack) → Step
-loadRow r pack = CallOf.loadRow (record { r = r; pack = pack })
-
-abbrev pub loadTriple : (r : ℕ) (pack : Pack) → Step
-loadTriple r pack = CallOf.loadTriple (record { r = r; pack = pack })
-
-abbrev pub deal : (r : ℕ) (c : Number) → Step
-deal r c = CallOf.deal (record { r = r; c = c })
-
 abbrev pub message : (r : ℕ) (lent : ℕ → List ℕ) (heard : ℕ → Bool) → Step
 message r lent heard = CallOf.message (record { r = r; lent = lent; heard = heard })
-
-abbrev pub opening : (r : ℕ) (blocks : Record) → Step
-opening r blocks = CallOf.opening (record { r = r; blocks = blocks })
-
-abbrev pub linear : (r a b scale : ℕ) → Step
-linear r a b scale = CallOf.linear (record { r = r; a = a; b = b; scale = scale })
-
-abbrev pub masks : (a b r : ℕ) (lent : ℕ → List ℕ) → Step
-masks a b r lent = CallOf.masks (record { a = a; b = b; r = r; lent = lent })
-
-abbrev pub finish : (r : ℕ) (blocks blocks' : Record) → Step
-finish r blocks blocks' = CallOf.finish (record { r = r; blocks = blocks; blocks' = blocks' })
 
 abbrev pub packed : Pack → (ℕ → ℕ → List ℕ) → ℕ → List ℕ
 packed (own k) packs i = packs i k
