@@ -3,7 +3,7 @@ use Prim.Native.Nat.{ℕ, _+_, _*_, _<_}
 use mathlib.Core.Path.{_≡_, refl}
 use mathlib.Core.Logic.{inl}
 use mathlib.Core.Bool.{false}
-use mathlib.Core.List.{List, [], _∷_}
+use mathlib.Core.List.{List}
 use native.Mathlib.Omega.{arith}
 use borrow.Author.Tests.{ltb-false}
 use lib.ListN.{length}
@@ -18,11 +18,11 @@ use Rattle.opening.specs.Opening.{openTests, openRefusal}
 use Rattle.product.specs.Masks.{masksTests, masksRefusal}
 use Rattle.product.specs.Finish.{finishTests, finishRefusal}
 use Rattle.runs.specs.Draws.{Plan, Draw}
-use Rattle.runs.specs.Outline.{loadRow, loadTriple, deal, message, opening, linear, masks, finish, once, times, acts, sends}
+use Rattle.runs.specs.Outline.{loadRow, loadTriple, deal, message, opening, linear, masks, finish, acts, sends}
 use Rattle.runs.specs.Calls.{Call}
 use Rattle.runs.proofs.Marks.{Marks, leftOf, rightOf, sessionAt}
 use Rattle.runs.proofs.Outcomes.{passed, refusalOf}
-use Rattle.runs.proofs.Facts.{Allowed, Summing, Multiplying}
+use Rattle.runs.proofs.Facts.{Allowed, Multiplying}
 
 module _ (plan : Plan) (draw : Draw) (i : ℕ) (M : Marks) (l : List ℕ) where
   abbrev s : Session
@@ -57,11 +57,24 @@ module _ (plan : Plan) (draw : Draw) (i : ℕ) (M : Marks) (l : List ℕ) where
   passes (opening x) z =
       let f = passed (openTests s l (x .r) (x .blocks)) tt z in
       (record { moving = (((row-low _ (f 6), equal _ _ (f 7)), tt), tt); ready = (tt, tt); sending = tt }, equal _ _ (f 4))
-  passes (linear x) z = let f = passed (linearTests s l (x .r) (x .a) (x .b) (x .scale)) tt z in let m : Summing M (x .r) (once (x .a)) (times (x .scale) (x .b) ∷ []) = record {
-    r-low = row-low _ (f 5);
-    r-empty = equal _ _ (f 8);
-    held = ((row-low _ (f 6), equal _ _ (f 9)), ((row-low _ (f 7), equal _ _ (f 10)), tt));
-  } in (record { moving = ((m, tt), tt); ready = (tt, tt); sending = tt }, equal _ _ (f 4))
+  passes (linear x) z = let f = passed (linearTests s l (x .r) (x .a) (x .b) (x .scale)) tt z in (
+    record {
+      moving = (
+        (
+          record {
+            r-low = row-low _ (f 5);
+            r-empty = equal _ _ (f 8);
+            held = ((row-low _ (f 6), equal _ _ (f 9)), ((row-low _ (f 7), equal _ _ (f 10)), tt));
+          },
+          tt,
+        ),
+        tt,
+      );
+      ready = (tt, tt);
+      sending = tt;
+    },
+    equal _ _ (f 4),
+  )
   passes (masks x) z = let f = passed (masksTests s l (x .a) (x .b) (x .r) (x .lent)) tt z in let m : Multiplying 3 M (x .a) (x .b) (x .r) = record {
     a-low = row-low _ (f 6);
     b-low = row-low _ (f 7);
