@@ -1,155 +1,158 @@
--- The turns of the program: what holds between two chunks.
-use Prim.Native.Nat.{ℕ, _+_, _-_, _≤_, _<_}
-use mathlib.Core.Path.{_≡_, refl, ap, sym, _∙_}
-use mathlib.Core.Bool.{Bool, true, false, cond}
-use mathlib.Core.List.{List, [], _∷_, _++_}
+-- From chunk to chunk: what holds before each, and where the reading stops.
+use Prim.Native.Nat.{ℕ, _+_, _-_, _*_, _≤_, _<_, _^_}
+use mathlib.Core.Path.{_≡_, refl, ap, ap₂, sym, _∙_}
+use mathlib.Core.Bool.{Bool, true, false, cond, true≢false}
+use mathlib.Core.List.{List, [], _∷_, _++_, append-assoc, append-nil}
 use native.Mathlib.Omega.{arith}
-use lib.ListN.{length, take, replicate, length-replicate}
+use native.Mathlib.Nat.{mod-add-mod}
+use borrow.Author.Tests.{eqb-false}
+use lib.Dec.{eqb}
+use lib.ListN.{length, take, replicate, length-replicate, length-append}
 use Rattle.station.specs.Step.{Ready}
+use Rattle.station.proofs.Hearing.{prefix-length}
 use Rattle.transcript.specs.declared.Feed.{Feed}
-use Rattle.transcript.specs.Program.{Running, running, fed, closed, drained, drainedFeed, passed, begun, firstState, firstFeed, Open, Fed}
-use Rattle.transcript.specs.declared.Progress.{Progress}
-use Rattle.transcript.specs.Limits.{openRefusal, Moved}
+use Rattle.transcript.specs.Text.{header}
+use Rattle.transcript.specs.Program.{Running, running, fed, drained, passed, printedFor, begun, firstState, firstFeed, Open}
 use Rattle.transcript.proofs.Whole.{passed-more}
-use Rattle.transcript.proofs.Admitting.{open-none}
-use Rattle.console.specs.Holding.{Handed, Passing, Held, Ended}
+use Rattle.console.specs.declared.Served.{Served}
+use Rattle.console.specs.declared.port.Printed.{Printed}
+use Rattle.console.specs.Sizes.{chunkSize, answersRoom, allTurns, wrapped}
+use Rattle.console.specs.Serving.{Fresh, Begun, Answered, stopsAt, Filled, Stopped}
+use Rattle.console.proofs.Feeding.{neither}
 
-pub open-idle : (f : Feed) (rows blocks line out : List ℕ) (k : ℕ) → Open f rows blocks line out k → Open f rows blocks line out 0
-open-idle f rows blocks line out k o =
-    record { ready = o .ready; line-room = o .line-room; len-in = o .len-in; numbers = omega (arith, o .numbers); room = omega (arith, o .room) }
+-- ---- what was printed
+pub printed-more : (p : Running) (cs : List (List ℕ)) (c : List ℕ) → printedFor p (cs ++ (c ∷ [])) ≡ printedFor p cs ++ fed (passed p cs) c .out
+unfolding printedFor passed
+printed-more p [] c = append-nil (fed p c .out)
+printed-more p (d ∷ cs) c = ap (λ (z : List ℕ). fed p d .out ++ z) (printed-more (drained (fed p d)) cs c) ∙ sym (append-assoc (fed p d .out) _ _)
 
-open-fewer : (f : Feed) (rows blocks line out : List ℕ) (k n : ℕ) → k ≤ n → Open f rows blocks line out n → Open f rows blocks line out k
-open-fewer f rows blocks line out k n h o =
-    record { ready = o .ready; line-room = o .line-room; len-in = o .len-in; numbers = omega (arith, o .numbers); room = omega (arith, o .room) }
+-- a count of 64 bits, and a text more
+pub count-more : (t u : ℕ) (a b : List ℕ) → t ≡ wrapped (length a) → u ≡ wrapped (t + length b) → u ≡ wrapped (length (a ++ b))
+count-more t u a b e q =
+    q ∙ ap (λ (n : ℕ). wrapped (n + length b)) e ∙ mod-add-mod (length a) (2 ^ 64) (length b) ∙ ap wrapped (sym (length-append a b))
 
--- ---- one chunk, which is not refused
-module _ (f : Feed) (rows blocks line out : List ℕ) (k : ℕ) (new : Running) (newLine : List ℕ) (g : Progress) (rows' blocks' line' out' : List ℕ)
-    (m : Moved (openRefusal f rows blocks line out k) k f rows blocks line out new newLine g rows' blocks' line' out')
-    (o : Open f rows blocks line out 4096) (h : k ≤ 4096) where
-  none : openRefusal f rows blocks line out k ≡ 0
-  none = open-none f rows blocks line out k (open-fewer f rows blocks line out k 4096 h o)
+filled-more : (cs : List (List ℕ)) (c : List ℕ) → Filled cs → 0 < length c → Filled (cs ++ (c ∷ []))
+filled-more [] c f h = (h, tt)
+filled-more (d ∷ cs) c f h = (f .0, filled-more cs c (f .1) h)
 
-  d : Fed f (g .feed) rows' blocks' k
-  d = m .left none
+-- ---- before each chunk
+pub record Held (f : Feed) (rows blocks line chunk out : List ℕ) (p : Printed) (turns : ℕ) : Type 0 where
+  pub fine : Open f rows blocks line out 0
+  pub printed : f .at ≡ 0
+  pub out-room : length out ≡ answersRoom
+  pub chunk-room : length chunk ≡ chunkSize
+  pub numbers : f .number + chunkSize * turns ≤ 2 ^ 63
+  pub some : 0 < turns
+  pub whole : p .whole ≡ true
+  pub chunks : List (List ℕ)
+  pub filled : Filled chunks
+  pub passes : running f rows blocks line out ≡ passed (drained begun) chunks
+  pub count : p .total ≡ wrapped (length (header ++ printedFor (drained begun) chunks))
+  pub left : length chunks + turns ≡ allTurns
 
-  pub answers-in : f .at ≡ 0 → length out ≡ 176128 → length out' ≡ length out → g .feed .at ≤ length out'
-  answers-in z e lo = omega (arith, d .room)
-
-  pub chunk-open : (v : Feed) → v ≡ drainedFeed (g .feed) → length line' ≡ length line → Open v rows' blocks' line' out' 0
-  chunk-open v q ll =
-      rw q
-      record {
-        ready = d .ready;
-        line-room = ll ∙ o .line-room;
-        len-in = d .len-in;
-        numbers = omega (arith, o .numbers, d .numbers);
-        room = omega arith;
-      }
-
-  pub chunk-numbers : (v : Feed) → v ≡ drainedFeed (g .feed) → v .number ≤ f .number + 4096
-  chunk-numbers v q = rw q (omega (arith, d .numbers))
-
-  pub chunk-drained : (v : Feed) → v ≡ drainedFeed (g .feed) → running v rows' blocks' line' out' ≡ drained new
-  chunk-drained v q = rw q (ap drained (m .says none))
-
-pub chunk-printed : (r v : Feed) → v ≡ drainedFeed r → v .at ≡ 0
-chunk-printed r v q = rw q
-
--- ---- what was read
-pub handed-none : (f : Feed) (rows blocks line out : List ℕ) → f .at ≡ 0 → Handed (running f rows blocks line out) (running f rows blocks line out) false
-unfolding fed
-handed-none f rows blocks line out z =
-    record {
-      chunk = [];
-      says =
-          ap (λ (k : ℕ). record { state = f .state; rows = rows; blocks = blocks; line = take (f .len) line; number = f .number; out = take k out }) z;
-      none = λ e. refl;
-    }
-
-pub handed-some : (p v : Running) (chunk : List ℕ) → v ≡ drained (fed p chunk) → Handed p v true
-handed-some p v chunk q = record { chunk = chunk; says = q; none = λ e. let z : _≡_ {A = ℕ} 0 1 = cc in absurd (omega arith) }
-
--- ---- from chunk to chunk
 first-ready : (rows blocks : List ℕ) → length rows ≡ 9216 → length blocks ≡ 1056 → Ready firstState rows blocks
 first-ready rows blocks a b =
     record { rows-room = a; blocks-room = b; in-range = λ e. let z : _≡_ {A = ℕ} 0 1 = cc in absurd (omega arith) }
 
-pub same-zeros : (k : ℕ) (l l₀ : List ℕ) → l₀ ≡ replicate k 0 → length l ≡ k → length l ≡ length l₀
-same-zeros k l l₀ e h = h ∙ sym (ap length e ∙ length-replicate {A = ℕ} k 0)
-
-first-passing : (rows blocks line out : List ℕ) → rows ≡ replicate 9216 0 → blocks ≡ replicate 1056 0 → Passing (running firstFeed rows blocks line out)
-unfolding passed
-first-passing rows blocks line out a b = record { chunks = []; says = rw (a, b) }
-
-pub held-start : (f : Feed) (rows blocks line out : List ℕ) → rows ≡ replicate 9216 0 → blocks ≡ replicate 1056 0 → length line ≡ 1062
-    → length out ≡ 176128 → f ≡ firstFeed → Held f rows blocks line out 2251799813685248
-held-start f rows blocks line out a b c d e =
-    let la : length rows ≡ 9216 = ap length a ∙ length-replicate {A = ℕ} 9216 0 in
-    let lb : length blocks ≡ 1056 = ap length b ∙ length-replicate {A = ℕ} 1056 0 in
+pub held-start : (f : Feed) (rows blocks line chunk out : List ℕ) (p : Printed) → Fresh rows blocks line chunk out → Begun p → f ≡ firstFeed
+    → Held f rows blocks line chunk out p 2251799813685248
+unfolding passed printedFor
+held-start f rows blocks line chunk out p h b e =
+    let la : length rows ≡ 9216 = ap length (h .rows-zero) ∙ length-replicate {A = ℕ} 9216 0 in
+    let lb : length blocks ≡ 1056 = ap length (h .blocks-zero) ∙ length-replicate {A = ℕ} 1056 0 in
     rw e
     record {
-      fine = record { ready = first-ready rows blocks la lb; line-room = c; len-in = omega arith; numbers = omega arith; room = omega arith };
+      fine = record { ready = first-ready rows blocks la lb; line-room = h .line-room; len-in = omega arith; numbers = omega arith; room = omega arith };
       printed = refl;
-      out-room = d;
+      out-room = h .out-room;
+      chunk-room = h .chunk-room;
       numbers = omega arith;
-      passing = first-passing rows blocks line out a b;
+      some = omega arith;
+      whole = b .whole-is;
+      chunks = [];
+      filled = tt;
+      passes = rw (h .rows-zero, h .blocks-zero);
+      count = b .total-is;
+      left = refl;
     }
 
-passing-more : (p v : Running) (more : Bool) → Passing p → Handed p v more → Passing v
-passing-more p v more h g =
-    record {
-      chunks = h .chunks ++ (g .chunk ∷ []);
-      says = g .says ∙ ap (λ (z : Running). drained (fed z (g .chunk))) (h .says) ∙ sym (passed-more (drained begun) (h .chunks) (g .chunk));
-    }
-
-module _ (f : Feed) (rows blocks line out : List ℕ) (turns : ℕ) (h : Held f rows blocks line out turns) where
-  open-with : (k : ℕ) → k ≤ 4096 → f .number + k < 9223372036854779904 → Open f rows blocks line out k
-  open-with k l n =
+module _ (f : Feed) (rows blocks line chunk out : List ℕ) (p : Printed) (turns : ℕ) (h : Held f rows blocks line chunk out p turns) where
+  pub held-open : Open f rows blocks line out chunkSize
+  held-open =
       let o = h .fine in
-      record { ready = o .ready; line-room = o .line-room; len-in = o .len-in; numbers = omega arith; room = omega (arith, h .printed, h .out-room) }
+      record {
+        ready = o .ready;
+        line-room = o .line-room;
+        len-in = o .len-in;
+        numbers = omega (arith, h .numbers, h .some);
+        room = omega (arith, h .printed, h .out-room);
+      }
 
-  pub held-open : 0 < turns → Open f rows blocks line out 4096
-  held-open t = open-with 4096 (omega arith) (omega (arith, h .numbers))
+  pub held-chunk : length chunk ≡ chunkSize
+  held-chunk = h .chunk-room
 
-  pub held-end : Open f rows blocks line out 1
-  held-end = open-with 1 (omega arith) (omega (arith, h .numbers))
+  pub held-whole : p .whole ≡ true
+  held-whole = h .whole
 
-  pub held-printed : f .at ≡ 0
-  held-printed = h .printed
+  -- ---- a chunk more
+  module _ (s : Served) (rows' blocks' line' chunk' out' : List ℕ)
+      (a : Answered (running f rows blocks line out) (running (s .feed) rows' blocks' line' out') (take (s .got .count) chunk') out' p (s .printed))
+      (o : Open (s .feed) rows' blocks' line' out' 0) (z : s .feed .at ≡ 0) (n : s .feed .number ≤ f .number + chunkSize) (lc : s .got .count ≤ length chunk')
+    where
+      abbrev last : List ℕ
+      last = take (s .got .count) chunk'
 
-  pub held-room : length out ≡ 176128
-  held-room = h .out-room
+      last-length : length last ≡ s .got .count
+      last-length = sym (prefix-length (s .got .count) chunk' lc)
 
-  pub held-done : Held f rows blocks line out 0
-  held-done = record { fine = h .fine; printed = h .printed; out-room = h .out-room; numbers = omega (arith, h .numbers); passing = h .passing }
+      passes-more : running (s .feed) rows' blocks' line' out' ≡ passed (drained begun) (h .chunks ++ (last ∷ []))
+      passes-more = a .taken ∙ ap (λ (r : Running). drained (fed r last)) (h .passes) ∙ sym (passed-more (drained begun) (h .chunks) last)
 
-  module _ (t : 0 < turns) (r : Feed) (rows' blocks' line' out' : List ℕ) (o : Open r rows' blocks' line' out' 0) (z : r .at ≡ 0)
-      (n : r .number ≤ f .number + 4096) (l : length out' ≡ length out) (more : Bool)
-      (g : Handed (running f rows blocks line out) (running r rows' blocks' line' out') more) where
-    pub held-more : Held r rows' blocks' line' out' (turns - 1)
-    held-more = record { fine = o; printed = z; out-room = l ∙ h .out-room; numbers = omega (arith, h .numbers); passing = passing-more _ _ more (h .passing) g }
+      total-more : s .printed .total ≡ wrapped (length (header ++ printedFor (drained begun) (h .chunks ++ (last ∷ []))))
+      total-more =
+          count-more (p .total) (s .printed .total) (header ++ printedFor (drained begun) (h .chunks)) (fed (running f rows blocks line out) last .out)
+          (h .count) (a .handed .count)
+          ∙ ap (λ (t : List ℕ). wrapped (length t))
+          (append-assoc header (printedFor (drained begun) (h .chunks)) (fed (running f rows blocks line out) last .out)
+          ∙ ap (λ (t : List ℕ). header ++ t)
+          (ap (λ (r : Running). printedFor (drained begun) (h .chunks) ++ fed r last .out) (h .passes) ∙ sym (printed-more (drained begun) (h .chunks) last)))
 
-    pub held-last : Held r rows' blocks' line' out' 0
-    held-last = record { fine = o; printed = z; out-room = l ∙ h .out-room; numbers = omega (arith, h .numbers); passing = passing-more _ _ more (h .passing) g }
+      stopped : (stopsAt s ≡ false → length (h .chunks) + 1 ≡ allTurns) → Stopped (running (s .feed) rows' blocks' line' out') s
+      stopped w =
+          record { chunks = h .chunks; last = last; filled = h .filled; read = last-length; passes = passes-more; count = total-more; why = w }
 
-  -- ---- the end
-  module _ (new : Running) (newLine : List ℕ) (g : Progress) (rows' blocks' line' out' : List ℕ)
-      (m : Moved (openRefusal f rows blocks line out 1) 1 f rows blocks line out new newLine g rows' blocks' line' out') where
-    last-none : openRefusal f rows blocks line out 1 ≡ 0
-    last-none = open-none f rows blocks line out 1 held-end
+      pub stopped-late : turns - 1 ≡ 0 → Stopped (running (s .feed) rows' blocks' line' out') s
+      stopped-late e = stopped (λ _. omega (arith, h .left, h .some))
 
-    pub last-in : length out' ≡ length out → g .feed .at ≤ length out'
-    last-in l = omega (arith, h .printed, h .out-room, m .left last-none .room)
+      pub stopped-here : (b : Bool) → b ≡ stopsAt s → b ≡ true → Stopped (running (s .feed) rows' blocks' line' out') s
+      stopped-here b g e = stopped (λ t. absurd (true≢false (sym e ∙ g ∙ t)))
 
-    pub last-closed : running (g .feed) rows' blocks' line' out' ≡ new
-    last-closed = m .says last-none
+      pub open-end : length out' ≡ length out → Open (s .feed) rows' blocks' line' out' 1
+      open-end l =
+          record {
+            ready = o .ready;
+            line-room = o .line-room;
+            len-in = o .len-in;
+            numbers = omega (arith, h .numbers, h .some);
+            room = omega (arith, h .out-room);
+          }
 
-  pub all-served : (failed : Bool) (v : Running) → v ≡ cond failed (running f rows blocks line out) (closed (running f rows blocks line out)) → Ended failed v
-  all-served failed v q =
-      record { chunks = h .passing .chunks; says = q ∙ ap (λ (z : Running). cond failed z (closed z)) (h .passing .says) }
-
-pub finish-failed : (b : Bool) (p v : Running) → b ≡ true → v ≡ p → v ≡ cond b p (closed p)
-finish-failed b p v e q = q ∙ rw e
-
-pub finish-closed : (b : Bool) (p v : Running) → b ≡ false → v ≡ closed p → v ≡ cond b p (closed p)
-finish-closed b p v e q = q ∙ rw e
+      pub held-more : length chunk' ≡ length chunk → length out' ≡ length out → (turns - 1 ≡ 0 → ⊥) → (b : Bool) → b ≡ stopsAt s → b ≡ false
+          → Held (s .feed) rows' blocks' line' chunk' out' (s .printed) (turns - 1)
+      held-more k l t b g e =
+          let on = neither (eqb (s .got .count) 0) (s .printed .whole) (sym g ∙ e) in
+          let some : (s .got .count ≡ 0 → ⊥) = eqb-false (s .got .count) 0 (on .0) in
+          record {
+            fine = o;
+            printed = z;
+            out-room = l ∙ h .out-room;
+            chunk-room = k ∙ h .chunk-room;
+            numbers = omega (arith, h .numbers, h .some);
+            some = omega (arith, t);
+            whole = on .1;
+            chunks = h .chunks ++ (last ∷ []);
+            filled = filled-more (h .chunks) last (h .filled) (omega (arith, last-length, some));
+            passes = passes-more;
+            count = total-more;
+            left = simp length-append (omega (arith, h .left, h .some));
+          }

@@ -1,1 +1,3 @@
-pub mod Holding
+pub mod Sizes
+pub mod Serving
+pub mod Notes

@@ -1,146 +1,291 @@
-// Standard input and output of the street program: reads chunks, and prints the answers to their lines. What lines and
-// answers are is said in `transcript` and below.
-use libc::STDERR_FILENO;
-use libc::STDIN_FILENO;
-use libc::STDOUT_FILENO;
+// The street program: reads chunks, and prints the answers to their lines. What lines and answers are is said in `transcript`
+// and below.
+mod port;
+
+use port::Got;
+use port::Printed;
 use transcript::Feed;
 ghost use mathlib.Core.Path.{_≡_};
-ghost use mathlib.Core.Bool.{cond};
-ghost use Prim.Native.Nat.{_+_, _≤_, _<_};
-ghost use lib.ListN.{length, replicate};
-ghost use Rattle.transcript.specs.Program.{running, fed, closed, drained, Open};
-ghost use Rattle.console.specs.Holding.{Handed, Held, Ended};
+ghost use mathlib.Core.Bool.{true, not};
+ghost use Prim.Native.Nat.{_+_, _≤_};
+ghost use lib.ListN.{length, take};
+ghost use Rattle.transcript.specs.Program.{running, Open};
+ghost use Rattle.console.specs.Sizes.{chunkSize};
+ghost use Rattle.console.specs.Serving.{Fresh, Begun, Answered, stopsAt, brokenOff, Stopped, Finished, Ended};
+ghost use Rattle.console.specs.Notes.{unreadNote, unwrittenNote, noteFor};
 
-// What is kept from chunk to chunk, whether there is more to read, and whether reading failed.
-struct Served {
+const TURNS: u64 = 2251799813685248;
+
+// The program after a chunk: what is kept, and what was printed.
+struct Answers {
     feed: Feed,
-    more: bool,
-    failed: bool,
+    printed: Printed,
 }
 
-// Prints the first bytes of a list.
-fn print(out: &[u8], count: usize)
-    requires { ⌜ count ≤ length (now out) ⌝ }
-{
-    io::write_all(STDOUT_FILENO, &out[..count]);
+// The same, with what the read answered.
+struct Served {
+    feed: Feed,
+    got: Got,
+    printed: Printed,
 }
 
 // Takes a chunk and prints its answers.
 fn answer_chunk(
     feed: Feed,
+    before: Printed,
     rows: &mut [u32],
     blocks: &mut [u32],
     line: &mut [u8],
     chunk: &[u8],
     out: &mut [u8],
-) -> Feed
-    requires { ⌜ Open feed (now rows) (now blocks) (now line) (now out) 4096 × (feed .at ≡ 0) × (length (now out) ≡ 176128) × (length (now chunk) ≤ 4096) ⌝ }
-    ensures { λ r. ⌜ running r (now (rows .exit)) (now (blocks .exit)) (now (line .exit)) (now (out .exit)) ≡ drained (fed (running feed (now (rows .entry)) (now (blocks .entry)) (now (line .entry)) (now (out .entry))) (now (chunk .entry))) ⌝ }
-    ensures { λ r. ⌜ Open r (now (rows .exit)) (now (blocks .exit)) (now (line .exit)) (now (out .exit)) 0 × (r .at ≡ 0) × (r .number ≤ feed .number + 4096) ⌝ }
+) -> Answers
+    requires { ⌜ Open feed (now rows) (now blocks) (now line) (now out) chunkSize × (length (now chunk) ≤ chunkSize) × (before .whole ≡ true) ⌝ }
+    ensures { λ r. ⌜ Answered
+        (running feed (now (rows .entry)) (now (blocks .entry)) (now (line .entry)) (now (out .entry)))
+        (running (r .feed) (now (rows .exit)) (now (blocks .exit)) (now (line .exit)) (now (out .exit)))
+        (now (chunk .entry)) (now (out .exit)) before (r .printed) ⌝ }
+    ensures { λ r. ⌜ Open (r .feed) (now (rows .exit)) (now (blocks .exit)) (now (line .exit)) (now (out .exit)) 0
+        × (r .feed .at ≡ 0) × (r .feed .number ≤ feed .number + chunkSize) ⌝ }
 {
     let taken = transcript::read_chunk(feed, rows, blocks, line, chunk, out);
     let fed = taken.feed;
-    print(out, fed.at);
-    transcript::drain(fed)
+    let at = fed.at;
+    let printed = port::print(before, &out[..at]);
+    Answers {
+        feed: transcript::drain(fed),
+        printed,
+    }
 }
 
-// Reads a chunk and prints its answers.
+// Reads a chunk and prints its answers. At the end of the input, and where reading fails, the chunk is empty.
 fn serve_chunk(
     feed: Feed,
+    before: Printed,
     rows: &mut [u32],
     blocks: &mut [u32],
     line: &mut [u8],
+    chunk: &mut [u8],
     out: &mut [u8],
 ) -> Served
-    requires { ⌜ Open feed (now rows) (now blocks) (now line) (now out) 4096 × (feed .at ≡ 0) × (length (now out) ≡ 176128) ⌝ }
-    ensures { λ r. ⌜ Handed (running feed (now (rows .entry)) (now (blocks .entry)) (now (line .entry)) (now (out .entry))) (running (r .feed) (now (rows .exit)) (now (blocks .exit)) (now (line .exit)) (now (out .exit))) (r .more) ⌝ }
-    ensures { λ r. ⌜ Open (r .feed) (now (rows .exit)) (now (blocks .exit)) (now (line .exit)) (now (out .exit)) 0 × (r .feed .at ≡ 0) × (r .feed .number ≤ feed .number + 4096) ⌝ }
+    requires { ⌜ Open feed (now rows) (now blocks) (now line) (now out) chunkSize × (length (now chunk) ≡ chunkSize) × (before .whole ≡ true) ⌝ }
+    ensures { λ r. ⌜ Answered
+        (running feed (now (rows .entry)) (now (blocks .entry)) (now (line .entry)) (now (out .entry)))
+        (running (r .feed) (now (rows .exit)) (now (blocks .exit)) (now (line .exit)) (now (out .exit)))
+        (take (r .got .count) (now (chunk .exit))) (now (out .exit)) before (r .printed) ⌝ }
+    ensures { λ r. ⌜ Open (r .feed) (now (rows .exit)) (now (blocks .exit)) (now (line .exit)) (now (out .exit)) 0
+        × (r .feed .at ≡ 0) × (r .feed .number ≤ feed .number + chunkSize) × (r .got .count ≤ length (now (chunk .exit))) ⌝ }
 {
-    let mut chunk = io::buffer();
-    let got = libc::read(STDIN_FILENO, &mut chunk);
-    if got <= 0 {
-        return Served {
-            feed,
-            more: false,
-            failed: got < 0,
-        };
-    }
-    let n = io::count(got, &chunk);
-    let next = answer_chunk(feed, rows, blocks, line, &chunk[..n], out);
+    let got = port::read(before, chunk);
+    let n = got.count();
+    let answers = answer_chunk(feed, before, rows, blocks, line, &chunk[..n], out);
+    let next = answers.feed;
+    let printed = answers.printed;
     Served {
         feed: next,
-        more: true,
-        failed: false,
+        got,
+        printed,
     }
 }
 
-// Reads to the end of the input, or until reading fails.
-fn serve_chunks(rows: &mut [u32], blocks: &mut [u32], line: &mut [u8], out: &mut [u8]) -> Served
-    requires { ⌜ (now rows ≡ replicate 9216 0) × (now blocks ≡ replicate 1056 0) × (length (now line) ≡ 1062) × (length (now out) ≡ 176128) ⌝ }
-    ensures { λ r. ⌜ Held (r .feed) (now (rows .exit)) (now (blocks .exit)) (now (line .exit)) (now (out .exit)) 0 ⌝ }
+// Whether this chunk is the last.
+fn stops(served: Served) -> bool
+    ensures { λ r. ⌜ r ≡ stopsAt served ⌝ }
+{
+    let got = served.got;
+    let answers = served.printed;
+    if got.count() == 0 {
+        return true;
+    }
+    !answers.whole()
+}
+
+// Whether reading or printing failed.
+fn broken_off(served: Served) -> bool
+    ensures { λ r. ⌜ r ≡ brokenOff served ⌝ }
+{
+    let got = served.got;
+    let printed = served.printed;
+    if got.failed() {
+        return true;
+    }
+    !printed.whole()
+}
+
+// Reads to the end of the input, or until reading or printing fails.
+fn serve_chunks(
+    header: Printed,
+    rows: &mut [u32],
+    blocks: &mut [u32],
+    line: &mut [u8],
+    chunk: &mut [u8],
+    out: &mut [u8],
+) -> Served
+    requires { ⌜ Fresh (now rows) (now blocks) (now line) (now chunk) (now out) × Begun header ⌝ }
+    ensures { λ r. ⌜ Stopped (running (r .feed) (now (rows .exit)) (now (blocks .exit)) (now (line .exit)) (now (out .exit))) r ⌝ }
+    ensures { λ r. ⌜ Open (r .feed) (now (rows .exit)) (now (blocks .exit)) (now (line .exit)) (now (out .exit)) 1 ⌝ }
 {
     let mut feed = transcript::begin();
-    let mut failed = false;
-    // nothing says that an input ends: no run uses up these turns
-    let mut turns: u64 = 2251799813685248;
-    while 0 < turns {
-        let taken = serve_chunk(feed, rows, blocks, line, out);
-        feed = taken.feed;
-        failed = taken.failed;
-        if taken.more {
-            turns -= 1;
-        } else {
-            turns = 0;
+    let mut printed = header;
+    let mut turns = TURNS;
+    loop {
+        let served = serve_chunk(feed, printed, rows, blocks, line, chunk, out);
+        turns -= 1;
+        if turns == 0 {
+            return served;
         }
-    }
-    Served {
-        feed,
-        more: false,
-        failed,
+        if stops(served) {
+            return served;
+        }
+        feed = served.feed;
+        printed = served.printed;
     }
 }
 
-// The end of the input ends a line that was begun. Where reading failed nothing is known of the line's end: no answer.
-fn finish(served: Served, rows: &mut [u32], blocks: &mut [u32], line: &[u8], out: &mut [u8]) -> Feed
-    requires { ⌜ Held (served .feed) (now rows) (now blocks) (now line) (now out) 0 ⌝ }
-    ensures { λ r. ⌜ running r (now (rows .exit)) (now (blocks .exit)) (now (line .entry)) (now (out .exit)) ≡ cond (served .failed) (running (served .feed) (now (rows .entry)) (now (blocks .entry)) (now (line .entry)) (now (out .entry))) (closed (running (served .feed) (now (rows .entry)) (now (blocks .entry)) (now (line .entry)) (now (out .entry)))) ⌝ }
+// The end of the input ends a line that was begun. Where reading failed nothing is known of the line's end, and where printing
+// failed nothing more is printed.
+fn finish(
+    served: Served,
+    rows: &mut [u32],
+    blocks: &mut [u32],
+    line: &[u8],
+    out: &mut [u8],
+) -> Served
+    requires { ⌜ Open (served .feed) (now rows) (now blocks) (now line) (now out) 1 ⌝ }
+    ensures { λ r. ⌜ Finished
+        (running (served .feed) (now (rows .entry)) (now (blocks .entry)) (now (line .entry)) (now (out .entry)))
+        (running (r .feed) (now (rows .exit)) (now (blocks .exit)) (now (line .entry)) (now (out .exit)))
+        (now (out .exit)) served r ⌝ }
 {
-    let feed = served.feed;
-    if served.failed {
-        return feed;
+    if broken_off(served) {
+        return served;
     }
-    let taken = transcript::end_input(feed, rows, blocks, line, out);
+    let got = served.got;
+    let printed = served.printed;
+    let taken = transcript::end_input(served.feed, rows, blocks, line, out);
     let ended = taken.feed;
-    print(out, ended.at);
-    ended
+    let at = ended.at;
+    let last = port::print(printed, &out[..at]);
+    Served {
+        feed: ended,
+        got,
+        printed: last,
+    }
 }
 
 // Reads the input and prints the answers.
-fn serve(rows: &mut [u32], blocks: &mut [u32], line: &mut [u8], out: &mut [u8]) -> Served
-    requires { ⌜ (now rows ≡ replicate 9216 0) × (now blocks ≡ replicate 1056 0) × (length (now line) ≡ 1062) × (length (now out) ≡ 176128) ⌝ }
-    ensures { λ r. ⌜ Ended (r .failed) (running (r .feed) (now (rows .exit)) (now (blocks .exit)) (now (line .exit)) (now (out .exit))) ⌝ }
+fn serve(
+    header: Printed,
+    rows: &mut [u32],
+    blocks: &mut [u32],
+    line: &mut [u8],
+    chunk: &mut [u8],
+    out: &mut [u8],
+) -> Served
+    requires { ⌜ Fresh (now rows) (now blocks) (now line) (now chunk) (now out) × Begun header ⌝ }
+    ensures { λ r. ⌜ Ended (r .feed .number) (r .printed .total) (r .got .failed) (not (r .printed .whole)) ⌝ }
 {
-    let served = serve_chunks(rows, blocks, line, out);
-    let ended = finish(served, rows, blocks, line, out);
-    Served {
-        feed: ended,
-        more: false,
-        failed: served.failed,
-    }
+    let served = serve_chunks(header, rows, blocks, line, chunk, out);
+    finish(served, rows, blocks, line, out)
 }
 
-// The whole program.
-pub fn run() {
-    let header = transcript::header();
-    io::write_all(STDOUT_FILENO, &header);
+// How a run ended.
+pub struct Ending {
+    // how many lines were answered
+    pub lines: u64,
+    // how many bytes were handed to standard output, modulo 2^64
+    pub total: u64,
+    // reading failed
+    pub unread: bool,
+    // printing failed
+    pub unwritten: bool,
+}
+
+pub struct Outcome {
+    pub ending: Ending,
+    // how many bytes were handed to standard error
+    pub noted: usize,
+}
+
+// Reads and prints after the header.
+fn serve_input(header: Printed) -> Ending
+    requires { ⌜ Begun header ⌝ }
+    ensures { λ r. ⌜ Ended (r .lines) (r .total) (r .unread) (r .unwritten) ⌝ }
+{
     let mut rows = [0u32; 9216];
     let mut blocks = [0u32; 1056];
     let mut line = [0u8; 1062];
+    let mut chunk = [0u8; 4096];
     let mut out = [0u8; 176128];
-    let served = serve(&mut rows, &mut blocks, &mut line, &mut out);
-    let failed = served.failed;
-    if failed {
-        let note = *b"the input could not be read\n";
-        io::write_all(STDERR_FILENO, &note);
+    let served = serve(
+        header,
+        &mut rows,
+        &mut blocks,
+        &mut line,
+        &mut chunk,
+        &mut out,
+    );
+    let feed = served.feed;
+    let got = served.got;
+    let printed = served.printed;
+    Ending {
+        lines: feed.number,
+        total: printed.total(),
+        unread: got.failed(),
+        unwritten: !printed.whole(),
+    }
+}
+
+fn unread_note() -> [u8; 28]
+    ensures { λ r. ⌜ r ≡ unreadNote ⌝ }
+{
+    *b"the input could not be read\n"
+}
+
+fn unwritten_note() -> [u8; 33]
+    ensures { λ r. ⌜ r ≡ unwrittenNote ⌝ }
+{
+    *b"the answers could not be written\n"
+}
+
+// Says what failed; how many bytes were handed to standard error.
+fn note(unread: bool, unwritten: bool) -> usize
+    ensures { λ r. ⌜ r ≡ length (noteFor unread unwritten) ⌝ }
+{
+    if unread {
+        let text = unread_note();
+        return port::note(&text);
+    }
+    if unwritten {
+        let text = unwritten_note();
+        return port::note(&text);
+    }
+    0
+}
+
+// Prints the header, and reads where it was taken.
+fn start() -> Ending
+    ensures { λ r. ⌜ Ended (r .lines) (r .total) (r .unread) (r .unwritten) ⌝ }
+{
+    let header = port::begin();
+    if header.whole() {
+        return serve_input(header);
+    }
+    Ending {
+        lines: 0,
+        total: header.total(),
+        unread: false,
+        unwritten: true,
+    }
+}
+
+// The whole program: how it ended, and how many bytes were handed to standard error.
+pub fn run() -> Outcome
+    ensures { λ r. ⌜ Ended (r .ending .lines) (r .ending .total) (r .ending .unread) (r .ending .unwritten)
+        × (r .noted ≡ length (noteFor (r .ending .unread) (r .ending .unwritten))) ⌝ }
+{
+    let ending = start();
+    Outcome {
+        ending,
+        noted: note(ending.unread, ending.unwritten),
     }
 }

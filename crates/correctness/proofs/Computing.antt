@@ -1,11 +1,11 @@
 -- What the example and the counterexamples share: three posts, two raw rows and a triple; and how premises are shown by computing.
 use Prim.Native.Nat.{ℕ, zero, suc, _≤_, _<_}
 use mathlib.Core.Path.{_≡_, refl}
-use mathlib.Core.Bool.{Bool, true, false, _&&_}
+use mathlib.Core.Logic.{_≢_}
 use mathlib.Core.List.{List, [], _∷_, _++_}
 use native.Mathlib.Omega.{arith}
 use borrow.Author.Tests.{eqb-true, ne-eqb}
-use lib.Dec.{T, eqb, leb, lit<, lit≤}
+use lib.Dec.{eqb, lit<, lit≤}
 use lib.ListN.{length, getD, replicate}
 use Rattle.field.specs.Arithmetic as Arithmetic
 use Rattle.poly.specs.Counting.{All, Elements, count}
@@ -33,8 +33,8 @@ use Rattle.runs.specs.Calls.{Post, Actual, Call, loadRow, loadTriple, deal, per
 use Rattle.runs.proofs.Outlines.{all-every}
 use Rattle.runs.proofs.Lines.{elements-of}
 use Rattle.correctness.specs.History.{Event, World, doneBy, turn, history, Each}
-use Rattle.correctness.specs.Ledger.{Ledger, nothing, dealt, sum, product, Plain, of-deal, of-product}
-use Rattle.correctness.specs.Truth.{TrueWith, TrueFinish}
+use Rattle.correctness.specs.Ledger.{Ledger, nothing, dealt, sum, product, Written, Plain, of-deal, of-row, of-times, of-more, of-product}
+use Rattle.correctness.specs.Truth.{OwnPart, TrueWith, TrueFinish}
 
 -- `refl` proves it where `unfolding Computes` opens the calls' definitions
 unfoldable pub Computes : {A : Type 0} → A → A → Type 0
@@ -94,9 +94,17 @@ is-draw x many low = record {
     triples (suc (suc zero)) h = (many, low)
     triples (suc (suc (suc r))) h = rw (none-there 93 r, ne-eqb (suc (suc (suc r))) 2 (omega arith)) (refl, tt)
 
--- row 0 is 6, row 1 is 7, row 4 their product by the triple at 2, row 5 is 6 + 2 · 7, row 6 is 6 + 2 · (6 · 7)
+-- row 0 is 6, row 1 is 7, row 4 their product by the triple at 2, row 5 is 6 + 2 · 7, row 6 is 6 + 2 · (6 · 7), row 7 is 6 + 2 · 6
 unfoldable pub ledger : Ledger
-ledger r = getD (dealt 6 ∷ dealt 7 ∷ nothing ∷ nothing ∷ product 2 0 1 ∷ sum 0 1 2 ∷ sum 0 4 2 ∷ []) r nothing
+ledger r = getD (dealt 6 ∷ dealt 7 ∷ nothing ∷ nothing ∷ product 2 0 1 ∷ sum 0 1 2 ∷ sum 0 4 2 ∷ sum 0 0 2 ∷ []) r nothing
+
+pub plain-6 : Plain ledger 0 6
+unfolding ledger
+plain-6 = of-deal
+
+pub plain-18 : Plain ledger 7 18
+unfolding Computes ledger
+plain-18 = of-more (of-row {a = 0} {x = 6} of-deal) (of-times {s = 2} {b = 0} {y = 6} of-deal)
 
 pub plain-42 : Plain ledger 4 42
 unfolding Computes ledger
@@ -132,38 +140,33 @@ refusals (e ∷ es) w = doneBy e w .answer .refusal ∷ refusals es (turn e w)
 
 -- ---- premises, part by part
 
+-- all posts, and all but one
+abbrev pub Everyone : ℕ → Type 0
+Everyone i = Unit {0}
+
+abbrev pub AllBut : ℕ → ℕ → Type 0
+AllBut k i = i ≢ k
+
+-- the premises with truth by all posts, each asked of posts of its own: A load their own parts, B keep to the ledger, C finish truly
+pub record Asked (draw : Draw) (A B C : ℕ → Type 0) (es : List Event) (w : World) : Type 0 where
+  pub is-draw : IsDraw plan draw
+  pub parts : Each A (λ e v. OwnPart plan draw (e .post) (e .call)) es w
+  pub ledger : Each B (λ e v. Written draw ledger (e .call)) es w
+  pub finishes : Each C (λ e v. TrueFinish Everyone v (v .posts (e .post)) (e .call)) es w
+
 pub all-join : (P : Event → Type 0) (xs ys : List Event) → All P xs → All P ys → All P (xs ++ ys)
 all-join P [] ys a b = b
 all-join P (x ∷ xs) ys a b = (a .0, all-join P xs ys (a .1) b)
 
-pub each-join : (P : Event → World → Type 0) (xs ys : List Event) (w : World) → Each P xs w → Each P ys (history xs w) → Each P (xs ++ ys) w
-each-join P [] ys w a b = b
-each-join P (x ∷ xs) ys w a b = (a .0, each-join P xs ys (turn x w) (a .1) b)
+module _ (S : ℕ → Type 0) where
+  pub each-join : (P : Event → World → Type 0) (xs ys : List Event) (w : World) → Each S P xs w → Each S P ys (history xs w) → Each S P (xs ++ ys) w
+  each-join P [] ys w a b = b
+  each-join P (x ∷ xs) ys w a b = (a .0, each-join P xs ys (turn x w) (a .1) b)
 
-pub each-map : (P Q : Event → World → Type 0) → ((e : Event) (v : World) → P e v → Q e v) → (es : List Event) (w : World) → Each P es w → Each Q es w
-each-map P Q f [] w a = tt
-each-map P Q f (e ∷ es) w a = ((λ z. f e w (a .0 z)), each-map P Q f es (turn e w) (a .1))
-
--- posts 1 to n, by a test
-unfoldable pub within : ℕ → List Event → Bool
-within n [] = true
-within n (e ∷ es) = leb 1 (e .post) && (leb (e .post) n && within n es)
-
-both : (a b : Bool) → T (a && b) → T a × T b
-both true b h = (tt, h)
-both false b h = absurd h
-
-pub posts-in : (n : ℕ) (es : List Event) → T (within n es) → All (λ e. (1 ≤ e .post) × (e .post ≤ n)) es
-unfolding within
-posts-in n [] h = tt
-posts-in n (e ∷ es) h =
-    let a = both (leb 1 (e .post)) (leb (e .post) n && within n es) h in let b = both (leb (e .post) n) (within n es) (a .1) in
-    ((lit≤ (a .0), lit≤ (b .0)), posts-in n es (b .1))
-
--- what holds of all events, whatever the posts are then
-pub each-of : (P : Event → Type 0) (es : List Event) (w : World) → All P es → Each (λ e v. P e) es w
-each-of P [] w a = tt
-each-of P (e ∷ es) w a = ((λ z. a .0), each-of P es (turn e w) (a .1))
+  -- what holds of all events, whatever the posts are then
+  pub each-of : (P : Event → Type 0) (es : List Event) (w : World) → All P es → Each S (λ e v. P e) es w
+  each-of P [] w a = tt
+  each-of P (e ∷ es) w a = ((λ m z. a .0), each-of P es (turn e w) (a .1))
 
 -- no records of masks among what the events' calls are given
 abbrev QuietWith : Taking → Type 0 → Type 0
@@ -182,11 +185,8 @@ abbrev pub Quiet : List Event → Type 0
 Quiet [] = Unit {0}
 Quiet (e ∷ es) = QuietThen (moves (e .call)) (Quiet es)
 
-module _ (q : Post) (lines : List (List ℕ)) where
-  abbrev True : Move Actual → Type 0
-  True m = TrueWith q lines (takes (m .0)) (m .1)
-
-  quiet-with : (A : Type 0) (t : Taking) (x : Given Actual t) → QuietWith t A → TrueWith q lines t x × A
+module _ (S : ℕ → Type 0) (w : World) (q : Post) where
+  quiet-with : (A : Type 0) (t : Taking) (x : Given Actual t) → QuietWith t A → TrueWith S w q t x × A
   quiet-with A nothingTaken x a = (tt, a)
   quiet-with A (aRowPack r) x a = (tt, a)
   quiet-with A (aTriplePack r) x a = (tt, a)
@@ -194,15 +194,17 @@ module _ (q : Post) (lines : List (List ℕ)) where
   quiet-with A (aRecord r) x a = (tt, a)
   quiet-with A (twoRecords r) x a = absurd a
 
-  quiet-call : (A : Type 0) (ms : List (Move Actual)) → QuietThen ms A → All True ms × A
+  quiet-call : (A : Type 0) (ms : List (Move Actual)) → QuietThen ms A → All (λ m. TrueWith S w q (takes (m .0)) (m .1)) ms × A
   quiet-call A [] a = (tt, a)
   quiet-call A (m ∷ ms) a =
       let h = quiet-with (QuietThen ms A) (takes (m .0)) (m .1) a in
       let k = quiet-call A ms (h .1) in
       ((h .0, k .0), k .1)
 
-pub each-quiet : (es : List Event) (w : World) → Quiet es → Each (λ e v. TrueFinish (v .posts (e .post)) (v .lines) (e .call)) es w
-each-quiet [] w h = tt
-each-quiet (e ∷ es) w h =
-    let k = quiet-call (w .posts (e .post)) (w .lines) (Quiet es) (moves (e .call)) h in
-    ((λ z. all-every _ (moves (e .call)) (k .0)), each-quiet es (turn e w) (k .1))
+-- of calls of the posts S, with truth by the posts T
+pub each-quiet : (S T : ℕ → Type 0) (es : List Event) (w : World) → Quiet es
+    → Each S (λ e v. TrueFinish T v (v .posts (e .post)) (e .call)) es w
+each-quiet S T [] w h = tt
+each-quiet S T (e ∷ es) w h =
+    let k = quiet-call T w (w .posts (e .post)) (Quiet es) (moves (e .call)) h in
+    ((λ m z. all-every _ (moves (e .call)) (k .0)), each-quiet S T es (turn e w) (k .1))

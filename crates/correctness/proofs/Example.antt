@@ -13,7 +13,7 @@ use Rattle.factory.specs.Packs.{dealerNumber}
 use Rattle.opening.specs.Walking.{acceptedPosts}
 use Rattle.opening.specs.Opening.{openAnswer}
 use Rattle.product.specs.Finish.{maskA}
-use Rattle.runs.specs.Draws.{Draw, rawDraw}
+use Rattle.runs.specs.Draws.{Draw, IsDraw, rawDraw}
 use Rattle.runs.specs.Calls.{Post, message, linear, masks, finish}
 use Rattle.runs.proofs.Lines.{elements-of}
 use Rattle.correctness.specs.History.{Event, World, history, begin, Each}
@@ -22,13 +22,17 @@ use Rattle.correctness.specs.Truth.{OwnPart, TrueFinish}
 use Rattle.correctness.specs.Claim.{Premises}
 use Rattle.correctness.proofs.Meanings.{one-number}
 use Rattle.correctness.proofs.Theorems.{correct}
-use Rattle.correctness.proofs.Computing.{Computes, plan, sound, drawWith, is-draw, ledger, plain-42, call, load, loadThree, dealOf, room, rooms, nobody, refusals, all-join, within, posts-in, each-join, each-of, each-quiet}
+use Rattle.correctness.proofs.Computing.{Computes, plan, sound, drawWith, is-draw, ledger, plain-42, call, load, loadThree, dealOf, room, rooms, nobody, refusals, Everyone, all-join, each-join, each-of, each-quiet}
 
 unfoldable pub drawn : List ℕ
 drawn = 2 ∷ 1 ∷ 5 ∷ 1 ∷ 3 ∷ 2 ∷ 1 ∷ 7 ∷ 5 ∷ 2 ∷ 1 ∷ 1 ∷ 6 ∷ 3 ∷ 2 ∷ 2 ∷ 9 ∷ 4 ∷ 1 ∷ 8 ∷ 3 ∷ 5 ∷ 2 ∷ []
 
 unfoldable pub draw : Draw
 draw = drawWith drawn
+
+pub draw-is : IsDraw plan draw
+unfolding Computes drawn draw
+draw-is = is-draw drawn refl (elements-of drawn refl)
 
 -- ---- the run
 
@@ -113,29 +117,28 @@ m1 = 2147483643 ∷ 1 ∷ 1 ∷ 0 ∷ []
 m3 : List ℕ
 m3 = 4 ∷ 2147483646 ∷ 2 ∷ 0 ∷ []
 
-true-ends : Each (λ e v. TrueFinish (v .posts (e .post)) (v .lines) (e .call)) ends (history before new)
+true-ends : Each Everyone (λ e v. TrueFinish Everyone v (v .posts (e .post)) (e .call)) ends (history before new)
 unfolding Computes plan drawWith drawn draw loads deals sums ends m1 m3
 true-ends = (
-  (λ z. let y : _≡_ {A = ℕ} 9 0 = z in absurd (omega arith)),
+  (λ m z. let y : _≡_ {A = ℕ} 9 0 = z in absurd (omega arith)),
   (
-    (λ z. (((λ ne. absurd (ne refl)), ((λ ne. (m3, refl, elements-of m3 refl, inr (inl refl), refl)), tt)), ((λ ne. absurd (ne refl)), ((λ ne. (m3, refl, elements-of m3 refl, inr (inl refl), refl)), tt)))),
+    (λ m z. (((λ ne. absurd (ne refl)), ((λ ne. (tt, (m3, refl, elements-of m3 refl, inr (inl refl), refl))), tt)), ((λ ne. absurd (ne refl)), ((λ ne. (tt, (m3, refl, elements-of m3 refl, inr (inl refl), refl))), tt)))),
     (
-      (λ z. (((λ ne. (m1, refl, elements-of m1 refl, inr (inr (inl refl)), refl)), ((λ ne. absurd (ne refl)), tt)), ((λ ne. (m1, refl, elements-of m1 refl, inr (inr (inl refl)), refl)), ((λ ne. absurd (ne refl)), tt)))),
-      ((λ z. tt), tt),
+      (λ m z. (((λ ne. (tt, (m1, refl, elements-of m1 refl, inl refl, refl))), ((λ ne. absurd (ne refl)), tt)), ((λ ne. (tt, (m1, refl, elements-of m1 refl, inl refl, refl))), ((λ ne. absurd (ne refl)), tt)))),
+      ((λ m z. tt), tt),
     ),
   ),
 )
 
-pub premises : Premises plan draw ledger events (begin plan draw (λ i. replicate 768 0))
-unfolding Computes plan drawn draw loads deals sums ends within
+pub premises : Premises plan draw ledger Everyone events (begin plan draw (λ i. replicate 768 0))
+unfolding Computes plan drawn draw loads deals sums ends
 premises = record {
   sound = sound;
-  is-draw = is-draw drawn refl (elements-of drawn refl);
-  posts = posts-in 3 events tt;
-  parts = each-of (λ e. OwnPart plan draw (e .post) (e .call)) events new own-parts;
-  ledger = each-of (λ e. Written draw ledger (e .call)) events new all-written;
+  is-draw = draw-is;
+  parts = each-of Everyone (λ e. OwnPart plan draw (e .post) (e .call)) events new own-parts;
+  ledger = each-of Everyone (λ e. Written draw ledger (e .call)) events new all-written;
   finishes =
-      each-join (λ e v. TrueFinish (v .posts (e .post)) (v .lines) (e .call)) before ends new (each-quiet before new tt) true-ends;
+      each-join Everyone (λ e v. TrueFinish Everyone v (v .posts (e .post)) (e .call)) before ends new (each-quiet Everyone Everyone before new tt) true-ends;
 }
 
 -- ---- what it shows
@@ -160,8 +163,8 @@ opens-42 = refl
 by-theorem : Plain ledger 4 (openAnswer (last .session) (last .rows) 4 true-record .value)
 unfolding Computes plan drawWith drawn draw loads deals sums ends
 by-theorem =
-    correct plan draw ledger (λ i. replicate 768 0) events premises 1 (lit≤ tt) (lit≤ tt) .opens 4 true-record refl
-    (record { long = refl; low = refl }) .exact (lit≤ tt) ((λ ne. absurd (ne refl)), ((λ ne. inr (inr (inr (inr (inl refl))))), tt))
+    correct plan draw ledger Everyone (λ i. replicate 768 0) events premises 1 (lit≤ tt) (lit≤ tt) tt .opens 4 true-record refl
+    (record { long = refl; low = refl }) .exact (lit≤ tt) ((λ ne. absurd (ne refl)), ((λ ne. (tt, inl (inr (inl refl)))), tt))
 
 is-42 : openAnswer (last .session) (last .rows) 4 true-record .value ≡ 42
 is-42 = one-number ledger 4 _ 42 by-theorem plain-42

@@ -18,18 +18,21 @@ use Rattle.vectors.specs.Vector.{Vector, numbers}
 use Rattle.vectors.specs.Claims.{heldRow, Truly}
 use Rattle.vectors.proofs.Linear.{length-numbers}
 use Rattle.runs.specs.Draws.{Plan, Draw, IsDraw, Sound}
-use Rattle.runs.specs.Outline.{Taking, nothingTaken, aRowPack, aTriplePack, aNumber, aRecord, twoRecords, takes, Given, Move, actsIn}
-use Rattle.runs.specs.Calls.{Post, Actual, ToldHalf}
+use Rattle.runs.specs.Outline.{Taking, nothingTaken, aRowPack, aTriplePack, aNumber, aRecord, twoRecords, takes, Given, Move, moves, actsIn}
+use Rattle.runs.specs.Calls.{Post, Actual, Call}
+use Rattle.runs.proofs.Outlines.{every-all}
 use Rattle.runs.proofs.Marks.{Marks, leftOf, rightOf, sessionAt, less, vectorA, maskA, maskB}
+use Rattle.runs.proofs.Outcomes.{refusalOf}
 use Rattle.runs.proofs.Holds.{Holds}
 use Rattle.runs.proofs.Finishing.{AllTrue, opens-a, opens-b}
 use Rattle.runs.proofs.Records.{own-true}
 use Rattle.runs.proofs.Start.{sizes}
-use Rattle.runs.proofs.Steps.{named, FitsWith}
+use Rattle.runs.proofs.Steps.{named, FitsWith, Fits}
 use Rattle.runs.proofs.Facts.{Multiplying, ReadyFor, Triple}
+use Rattle.correctness.specs.History.{World}
 use Rattle.correctness.specs.Ledger.{Ledger}
-use Rattle.correctness.specs.Truth.{OwnWith, TrueOf, TrueWith}
-use Rattle.correctness.proofs.Standing.{Known, Good}
+use Rattle.correctness.specs.Truth.{OwnWith, TrueWith, OwnPart, TrueMask, TrueOf, TrueFinish}
+use Rattle.correctness.proofs.Standing.{Known, Good, allowed-at}
 use Rattle.correctness.proofs.Said.{Said, told-masks, halves}
 
 -- where each polynomial that counted, but the own one, is its sender's of S, all are
@@ -60,7 +63,11 @@ module _ (plan : Plan) (draw : Draw) (L : Ledger) (sound : Sound plan) (is : IsD
 
   -- ---- a finish whose polynomials are truly their senders'
 
-  module _ (len i : ℕ) (hi : i ≤ plan .n) (lines : List (List ℕ)) (all : All Line lines) where
+  -- each line of the posts S is by the ledger
+  abbrev pub AllSaid : (ℕ → Type 0) → World → Type 0
+  AllSaid S w = (j : ℕ) → 1 ≤ j → j ≤ plan .n → S j → All Line (w .lines j)
+
+  module _ (S : ℕ → Type 0) (w : World) (all : AllSaid S w) where
     -- of a triple whose masks were made, a half of j's is its polynomial of a − l, or of b − l'
     module _ (M : Marks) (vec : ℕ → Vector) (f : Known plan draw L M vec) (r : ℕ) (ok : Multiplying 5 M (leftOf M r) (rightOf M r) r) where
       low : r < 96
@@ -69,63 +76,67 @@ module _ (plan : Plan) (draw : Draw) (L : Ledger) (sound : Sound plan) (is : IsD
       t : Triple plan draw M vec r
       t = f r low .triple (inr (ok .first))
 
-      both-are : (j : ℕ) → 1 ≤ j → j ≤ plan .n → (half : List ℕ → List ℕ) (xs : List ℕ) → ToldHalf (plan .t) half r lines j xs
+      both-are : (j : ℕ) → 1 ≤ j → j ≤ plan .n → (half : List ℕ → List ℕ) (xs : List ℕ) → TrueMask S w (plan .t) half r j xs
           → xs ≡ half (halves plan draw r j (vec (leftOf M r)) (vec (rightOf M r)))
       both-are j lj hj half xs o =
-          o .4
+          o .1 .4
           ∙ ap half
-          (told-masks plan draw L (small plan sound) lines all r j (o .0)
-          (record { row = omega (arith, ok .r-low); post = (lj, hj); many = o .1; low = o .2 }) (o .3) (leftOf M r) (rightOf M r)
+          (told-masks plan draw L (small plan sound) (w .lines j) (all j lj hj (o .0)) r j (o .1 .0)
+          (record { row = omega (arith, ok .r-low); post = (lj, hj); many = o .1 .1; low = o .1 .2 }) (o .1 .3) (leftOf M r) (rightOf M r)
           (f r low .waiting (ok .first) .means) (vec (leftOf M r)) (vec (rightOf M r))
           (f (leftOf M r) (ok .a-low) .held (ok .a-held)) (f (rightOf M r) (ok .b-low) .held (ok .b-held)))
 
-      pub told-a : (j : ℕ) → 1 ≤ j → j ≤ plan .n → (xs : List ℕ) → ToldHalf (plan .t) (take (plan .t + 1)) r lines j xs
+      pub told-a : (j : ℕ) → 1 ≤ j → j ≤ plan .n → (xs : List ℕ) → TrueMask S w (plan .t) (take (plan .t + 1)) r j xs
           → xs ≡ numbers (plan .t + 1) (maskA M vec r .v j)
       told-a j lj hj xs o =
           both-are j lj hj (take (plan .t + 1)) xs o ∙ take-at (numbers (plan .t + 1) (less (vec (leftOf M r)) (vectorA plan draw r) .v j)) _ (plan .t + 1) (length-numbers (plan .t + 1) _)
           ∙ ap (λ (X : Vector). numbers (plan .t + 1) (less (vec (leftOf M r)) X .v j)) (sym (t .is-a))
 
-      pub told-b : (j : ℕ) → 1 ≤ j → j ≤ plan .n → (xs : List ℕ) → ToldHalf (plan .t) (drop (plan .t + 1)) r lines j xs
+      pub told-b : (j : ℕ) → 1 ≤ j → j ≤ plan .n → (xs : List ℕ) → TrueMask S w (plan .t) (drop (plan .t + 1)) r j xs
           → xs ≡ numbers (plan .t + 1) (maskB M vec r .v j)
       told-b j lj hj xs o =
           both-are j lj hj (drop (plan .t + 1)) xs o ∙ drop-at (numbers (plan .t + 1) (less (vec (leftOf M r)) (vectorA plan draw r) .v j)) _ (plan .t + 1) (length-numbers (plan .t + 1) _)
           ∙ ap (λ (X : Vector). numbers (plan .t + 1) (less (vec (rightOf M r)) X .v j)) (sym (t .is-b))
 
     -- a finish that is not refused
-    module _ (M : Marks) (vec : ℕ → Vector) (f : Known plan draw L M vec) (l : List ℕ) (h : Holds plan draw len i M vec l) (r : ℕ) (blocks blocks' : List ℕ) (ok : Multiplying 5 M (leftOf M r) (rightOf M r) r) where
+    module _ (len i : ℕ) (M : Marks) (vec : ℕ → Vector) (f : Known plan draw L M vec) (l : List ℕ) (h : Holds plan draw len i M vec l) (r : ℕ) (blocks blocks' : List ℕ) (ok : Multiplying 5 M (leftOf M r) (rightOf M r) r) where
       abbrev s : Session
       s = sessionAt plan draw i M
 
-      true-a : TrueOf (ToldHalf (plan .t) (take (plan .t + 1)) r lines) s (Finish.maskA s l r) blocks → AllTrue s (maskA M vec r) blocks
+      true-a : TrueOf (TrueMask S w (plan .t) (take (plan .t + 1)) r) s (Finish.maskA s l r) blocks → AllTrue s (maskA M vec r) blocks
       true-a =
-          all-true-of s (maskA M vec r) blocks (ToldHalf (plan .t) (take (plan .t + 1)) r lines) (Finish.maskA s l r) (opens-a plan draw len i M vec l h r ok)
+          all-true-of s (maskA M vec r) blocks (TrueMask S w (plan .t) (take (plan .t + 1)) r) (Finish.maskA s l r) (opens-a plan draw len i M vec l h r ok)
           (λ j lj hj ne o. told-a M vec f r ok j lj hj _ o)
 
-      true-b : TrueOf (ToldHalf (plan .t) (drop (plan .t + 1)) r lines) s (Finish.maskB s l r) blocks' → AllTrue s (maskB M vec r) blocks'
+      true-b : TrueOf (TrueMask S w (plan .t) (drop (plan .t + 1)) r) s (Finish.maskB s l r) blocks' → AllTrue s (maskB M vec r) blocks'
       true-b =
-          all-true-of s (maskB M vec r) blocks' (ToldHalf (plan .t) (drop (plan .t + 1)) r lines) (Finish.maskB s l r) (opens-b plan draw len i M vec l h r ok)
+          all-true-of s (maskB M vec r) blocks' (TrueMask S w (plan .t) (drop (plan .t + 1)) r) (Finish.maskB s l r) (opens-b plan draw len i M vec l h r ok)
           (λ j lj hj ne o. told-b M vec f r ok j lj hj _ o)
 
-    fits-with : (q : Post) (g : Good plan draw L len i q) (t : Taking) (x : Given Actual t) → ReadyFor (g .marks) t
-        → OwnWith plan draw i t x → TrueWith q lines t x → FitsWith plan draw i (g .marks) (g .vec) t x
-    fits-with q g nothingTaken x ok own y = tt
-    fits-with q g (aRowPack r) x ok own y = own
-    fits-with q g (aTriplePack r) x ok own y = own
-    fits-with q g (aNumber r) x ok own y = tt
-    fits-with q g (aRecord r) x ok own y = tt
-    fits-with q g (twoRecords r) x ok own y =
-        subst
-        (λ (v : Post). TrueWith v lines (twoRecords r) x → FitsWith plan draw i (g .marks) (g .vec) (twoRecords r) x)
-        (sym (named plan draw len i (g .marks) (g .vec) q (g .stands)))
-        (λ o. (
-          true-a (g .marks) (g .vec) (g .facts) (q .rows) (g .stands .holds) r (x .0) (x .1) ok (o .0),
-          true-b (g .marks) (g .vec) (g .facts) (q .rows) (g .stands .holds) r (x .0) (x .1) ok (o .1),
-        ))
-        y
+    module _ (len i : ℕ) (q : Post) (g : Good plan draw L len i q) where
+      fits-with : (t : Taking) (x : Given Actual t) → ReadyFor (g .marks) t → OwnWith plan draw i t x → TrueWith S w q t x
+          → FitsWith plan draw i (g .marks) (g .vec) t x
+      fits-with nothingTaken x ok own y = tt
+      fits-with (aRowPack r) x ok own y = own
+      fits-with (aTriplePack r) x ok own y = own
+      fits-with (aNumber r) x ok own y = tt
+      fits-with (aRecord r) x ok own y = tt
+      fits-with (twoRecords r) x ok own y =
+          subst
+          (λ (v : Post). TrueWith S w v (twoRecords r) x → FitsWith plan draw i (g .marks) (g .vec) (twoRecords r) x)
+          (sym (named plan draw len i (g .marks) (g .vec) q (g .stands)))
+          (λ o. (
+            true-a len i (g .marks) (g .vec) (g .facts) (q .rows) (g .stands .holds) r (x .0) (x .1) ok (o .0),
+            true-b len i (g .marks) (g .vec) (g .facts) (q .rows) (g .stands .holds) r (x .0) (x .1) ok (o .1),
+          ))
+          y
 
-    pub fits : (q : Post) (g : Good plan draw L len i q) (ms : List (Move Actual)) → All (λ a. ReadyFor (g .marks) (takes a)) (actsIn ms)
-        → All (λ m. OwnWith plan draw i (takes (m .0)) (m .1)) ms → All (λ m. TrueWith q lines (takes (m .0)) (m .1)) ms
-        → All (λ m. FitsWith plan draw i (g .marks) (g .vec) (takes (m .0)) (m .1)) ms
-    fits q g [] ok own y = tt
-    fits q g (m ∷ ms) ok own y =
-        (fits-with q g (takes (m .0)) (m .1) (ok .0) (own .0) (y .0), fits q g ms (ok .1) (own .1) (y .1))
+      fits-all : (ms : List (Move Actual)) → All (λ a. ReadyFor (g .marks) (takes a)) (actsIn ms)
+          → All (λ m. OwnWith plan draw i (takes (m .0)) (m .1)) ms → All (λ m. TrueWith S w q (takes (m .0)) (m .1)) ms
+          → All (λ m. FitsWith plan draw i (g .marks) (g .vec) (takes (m .0)) (m .1)) ms
+      fits-all [] ok own y = tt
+      fits-all (m ∷ ms) ok own y = (fits-with (takes (m .0)) (m .1) (ok .0) (own .0) (y .0), fits-all ms (ok .1) (own .1) (y .1))
+
+      pub fits : (c : Call) → refusalOf c q ≡ 0 → OwnPart plan draw i c → TrueFinish S w q c → Fits plan draw i (g .marks) (g .vec) c
+      fits c z own y =
+          fits-all (moves c) (allowed-at plan draw L len i q g c z .ready) (every-all _ (moves c) own) (every-all _ (moves c) y)

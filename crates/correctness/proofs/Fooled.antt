@@ -1,25 +1,25 @@
 -- Why truth is asked for, of this opening and of every post's earlier finishes: three runs in which it is missing, in the
 -- opening, in the opener's own finish, and in another post's finish. An opening then gives another number than the plain one.
-use Prim.Native.Nat.{ℕ, _≤_}
+use Prim.Native.Nat.{ℕ}
 use mathlib.Core.Path.{_≡_, refl, sym, _∙_}
 use mathlib.Core.Logic.{_≢_, inl, inr}
 use mathlib.Core.List.{List, [], _∷_, _++_}
 use native.Mathlib.Omega.{arith}
-use lib.Dec.{T, lit<, lit≤}
+use lib.Dec.{lit<, lit≤}
 use lib.ListN.{replicate}
 use Rattle.poly.specs.Counting.{All}
 use Rattle.opening.specs.Walking.{opened}
 use Rattle.opening.specs.Opening.{openAnswer}
 use Rattle.product.specs.Finish.{maskA}
-use Rattle.runs.specs.Draws.{Draw, IsDraw, Sound}
-use Rattle.runs.specs.Calls.{message, masks, finish, Told}
+use Rattle.runs.specs.Draws.{Draw}
+use Rattle.runs.specs.Calls.{message, masks, finish}
 use Rattle.runs.proofs.Lines.{elements-of}
 use Rattle.correctness.specs.History.{Event, World, history, begin, Each}
 use Rattle.correctness.specs.Ledger.{Written, Plain}
-use Rattle.correctness.specs.Truth.{OwnPart, TrueFinish}
+use Rattle.correctness.specs.Truth.{OwnPart, TruePolynomial, TrueFinish}
 use Rattle.correctness.specs.Claim.{Opens, Right}
 use Rattle.correctness.proofs.Meanings.{one-number}
-use Rattle.correctness.proofs.Computing.{Computes, plan, sound, drawWith, is-draw, ledger, plain-42, call, load, loadThree, dealOf, room, rooms, refusals, all-join, each-join, within, posts-in, each-of, each-map, each-quiet}
+use Rattle.correctness.proofs.Computing.{Computes, plan, drawWith, is-draw, ledger, plain-42, call, load, loadThree, dealOf, room, rooms, refusals, Everyone, AllBut, Asked, all-join, each-join, each-of, each-quiet}
 use Rattle.correctness.proofs.Example as Example
 use Rattle.correctness.proofs.Example.{last}
 
@@ -86,29 +86,19 @@ all-written ends a =
     ((6, lit< tt, refl, refl), ((7, lit< tt, refl, refl), ((6, lit< tt, refl, refl), ((7, lit< tt, refl, refl), (refl, (refl, tt)))))))
     a
 
--- every premise but the truth of finishes; and that of all posts' but one's
-abbrev ButTruth : List Event → Type 0
-ButTruth es =
-    Sound plan × IsDraw plan draw × All (λ e. (1 ≤ e .post) × (e .post ≤ plan .n)) es
-    × Each (λ e v. OwnPart plan draw (e .post) (e .call)) es new × Each (λ e v. Written draw ledger (e .call)) es new
-
-abbrev TrueBut : ℕ → Event → World → Type 0
-TrueBut i e v = e .post ≢ i → TrueFinish (v .posts (e .post)) (v .lines) (e .call)
-
-but-truth : (ends : List Event) → T (within 3 (before ++ ends)) → All Own ends → All Wrote ends → ButTruth (before ++ ends)
-unfolding Computes plan drawn draw
-but-truth ends t a b = (
-  sound,
-  is-draw drawn refl (elements-of drawn refl),
-  posts-in 3 (before ++ ends) t,
-  each-of Own (before ++ ends) new (own-parts ends a),
-  each-of Wrote (before ++ ends) new (all-written ends b),
-)
-
-true-but : (i : ℕ) (ends : List Event) → Each (TrueBut i) ends (history before new) → Each (TrueBut i) (before ++ ends) new
-unfolding loads deals
-true-but i ends a =
-    each-join (TrueBut i) before ends new (each-map (λ e v. TrueFinish (v .posts (e .post)) (v .lines) (e .call)) (TrueBut i) (λ e v h ne. h) before new (each-quiet before new tt)) a
+-- every premise, with truth in all posts' finishes but one's
+asked : (k : ℕ) (ends : List Event) → All Own ends → All Wrote ends
+    → Each (AllBut k) (λ e v. TrueFinish Everyone v (v .posts (e .post)) (e .call)) ends (history before new)
+    → Asked draw Everyone Everyone (AllBut k) (before ++ ends) new
+unfolding Computes plan drawn draw loads deals
+asked k ends a b c = record {
+  is-draw = is-draw drawn refl (elements-of drawn refl);
+  parts = each-of Everyone Own (before ++ ends) new (own-parts ends a);
+  ledger = each-of Everyone Wrote (before ++ ends) new (all-written ends b);
+  finishes =
+      each-join (AllBut k) (λ e v. TrueFinish Everyone v (v .posts (e .post)) (e .call)) before ends new
+      (each-quiet (AllBut k) Everyone before new tt) c;
+}
 
 -- what posts 1 and 2 sent of masks
 m1 : List ℕ
@@ -134,16 +124,13 @@ unfolding Computes plan drawWith drawn draw loads deals ends refusals
 answered = refl
 
 -- every premise holds but the truth of post 1's finish
-all-but-one : ButTruth events × Each (TrueBut 1) events new
-unfolding Computes plan drawWith drawn draw loads deals ends within m1
-all-but-one = (
-  but-truth ends tt (tt, (tt, (tt, tt))) (tt, (tt, (tt, tt))),
-  true-but 1 ends (
-    (λ z ne. absurd (ne refl)),
-    (
-      (λ z ne. (((λ o. (m1, refl, elements-of m1 refl, inl refl, refl)), ((λ o. absurd (o refl)), tt)), ((λ o. (m1, refl, elements-of m1 refl, inl refl, refl)), ((λ o. absurd (o refl)), tt)))),
-      ((λ z ne. tt), tt),
-    ),
+all-but-one : Asked draw Everyone Everyone (AllBut 1) events new
+unfolding Computes plan drawWith drawn draw loads deals ends m1
+all-but-one = asked 1 ends (tt, (tt, (tt, tt))) (tt, (tt, (tt, tt))) (
+  (λ ne z. absurd (ne refl)),
+  (
+    (λ ne z. (((λ o. (tt, (m1, refl, elements-of m1 refl, inl refl, refl))), ((λ o. absurd (o refl)), tt)), ((λ o. (tt, (m1, refl, elements-of m1 refl, inl refl, refl))), ((λ o. absurd (o refl)), tt)))),
+    ((λ ne z. tt), tt),
   ),
 )
 
@@ -158,12 +145,12 @@ unfolding Computes plan drawWith drawn draw loads deals ends
 opens-24 = refl
 
 -- an opening in which each polynomial accepted was truly sent gives another number
-told-fails : Opens ledger (Told (end .lines) 4) (end .posts 1) 4 sent-record → ⊥
+told-fails : Opens ledger (TruePolynomial Everyone end 4) (end .posts 1) 4 sent-record → ⊥
 unfolding Computes plan drawWith drawn draw loads deals ends
 told-fails h =
-    not-plain _ 24 opens-24 (omega arith) (h .exact (lit≤ tt) ((λ ne. absurd (ne refl)), ((λ ne. inr (inr (inl refl))), tt)))
+    not-plain _ 24 opens-24 (omega arith) (h .exact (lit≤ tt) ((λ ne. absurd (ne refl)), ((λ ne. (tt, inl (inr (inl refl)))), tt)))
 
-right-fails : (H : (List ℕ → List ℕ) → ℕ → ℕ → List ℕ → Type 0) → Right ledger (Told (end .lines)) H (end .posts 1) → ⊥
+right-fails : (H : (List ℕ → List ℕ) → ℕ → ℕ → List ℕ → Type 0) → Right ledger (TruePolynomial Everyone end) H (end .posts 1) → ⊥
 unfolding Computes plan drawWith drawn draw loads deals ends
 right-fails H h = told-fails (h .opens 4 sent-record refl (record { long = refl; low = refl }))
 
@@ -194,14 +181,11 @@ unfolding Computes plan drawWith drawn draw loads deals
 opens-less-2 = refl
 
 -- every premise holds but the truth of post 2's finish
-all-but-two : ButTruth events' × Each (TrueBut 2) events' new
-unfolding Computes plan drawWith drawn draw loads deals ends' within m2
-all-but-two = (
-  but-truth ends' tt (tt, (tt, (tt, tt))) (tt, (tt, (tt, tt))),
-  true-but 2 ends' (
-    (λ z ne. (((λ o. absurd (o refl)), ((λ o. (m2, refl, elements-of m2 refl, inr (inl refl), refl)), tt)), ((λ o. absurd (o refl)), ((λ o. (m2, refl, elements-of m2 refl, inr (inl refl), refl)), tt)))),
-    ((λ z ne. absurd (ne refl)), ((λ z ne. absurd (ne refl)), tt)),
-  ),
+all-but-two : Asked draw Everyone Everyone (AllBut 2) events' new
+unfolding Computes plan drawWith drawn draw loads deals ends' m2
+all-but-two = asked 2 ends' (tt, (tt, (tt, tt))) (tt, (tt, (tt, tt))) (
+  (λ ne z. (((λ o. absurd (o refl)), ((λ o. (tt, (m2, refl, elements-of m2 refl, inl refl, refl))), tt)), ((λ o. absurd (o refl)), ((λ o. (tt, (m2, refl, elements-of m2 refl, inl refl, refl))), tt)))),
+  ((λ ne z. absurd (ne refl)), ((λ ne z. absurd (ne refl)), tt)),
 )
 
 abbrev end' : World
@@ -215,11 +199,11 @@ unfolding Computes plan drawWith drawn draw loads deals ends'
 opens-54 = refl
 
 -- post 1, never fooled, accepts what post 2 truly sent, and opens another number
-told-fails' : Opens ledger (Told (end' .lines) 4) (end' .posts 1) 4 faithful-record → ⊥
+told-fails' : Opens ledger (TruePolynomial Everyone end' 4) (end' .posts 1) 4 faithful-record → ⊥
 unfolding Computes plan drawWith drawn draw loads deals ends'
 told-fails' h =
-    not-plain _ 54 opens-54 (omega arith) (h .exact (lit≤ tt) ((λ ne. absurd (ne refl)), ((λ ne. inr (inr (inl refl))), tt)))
+    not-plain _ 54 opens-54 (omega arith) (h .exact (lit≤ tt) ((λ ne. absurd (ne refl)), ((λ ne. (tt, inl (inr (inl refl)))), tt)))
 
-right-fails' : (H : (List ℕ → List ℕ) → ℕ → ℕ → List ℕ → Type 0) → Right ledger (Told (end' .lines)) H (end' .posts 1) → ⊥
+right-fails' : (H : (List ℕ → List ℕ) → ℕ → ℕ → List ℕ → Type 0) → Right ledger (TruePolynomial Everyone end') H (end' .posts 1) → ⊥
 unfolding Computes plan drawWith drawn draw loads deals ends'
 right-fails' H h = told-fails' (h .opens 4 faithful-record refl (record { long = refl; low = refl }))

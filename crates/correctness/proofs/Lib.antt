@@ -8,7 +8,10 @@ pub mod Permitted
 pub mod Openings
 pub mod Theorems
 pub mod Caught
+pub mod Parts
 pub mod Computing
 pub mod Example
 pub mod Nested
 pub mod Fooled
+pub mod Needed
+pub mod Unheard

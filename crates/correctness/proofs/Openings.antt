@@ -8,7 +8,6 @@ use mathlib.Core.List.{List}
 use native.Mathlib.Decide.{ℕ-discrete}
 use native.Mathlib.Omega.{arith}
 use Rattle.field.specs.Modulus.{p}
-use Rattle.poly.specs.Counting.{All}
 use Rattle.refusal.specs.Refusal.{first}
 use Rattle.session.specs.declared.Session.{Session}
 use Rattle.session.specs.declared.Answer.{Answer}
@@ -21,7 +20,7 @@ use Rattle.vectors.specs.Vector.{Vector, numbers}
 use Rattle.vectors.specs.Claims.{heldRow, Truly}
 use Rattle.vectors.proofs.Theorems.{true-accepted, opening-exact}
 use Rattle.runs.specs.Draws.{Plan, Draw, IsDraw, Sound}
-use Rattle.runs.specs.Calls.{Proper, Post, ToldHalf}
+use Rattle.runs.specs.Calls.{Proper, Post}
 use Rattle.runs.proofs.Marks.{Marks, markOf, leftOf, rightOf, Sized, sessionAt, maskA, maskB}
 use Rattle.runs.proofs.Packs.{rowFor}
 use Rattle.runs.proofs.Holds.{Holds, combined-row}
@@ -29,12 +28,14 @@ use Rattle.runs.proofs.Records.{own-true}
 use Rattle.runs.proofs.Steps.{postAt}
 use Rattle.runs.proofs.Facts.{Multiplying}
 use Rattle.runs.proofs.Rows.{marked-low}
+use Rattle.correctness.specs.History.{World}
 use Rattle.correctness.specs.Ledger.{Ledger, Plain}
+use Rattle.correctness.specs.Truth.{TrueMask}
 use Rattle.correctness.specs.Claim.{Opens, Right}
 use Rattle.correctness.proofs.Meanings.{Is, plain}
 use Rattle.correctness.proofs.Standing.{Known}
 use Rattle.correctness.proofs.Accepting.{Formed, too-few, not-few, formed}
-use Rattle.correctness.proofs.Fitting.{all-true-of, Line, told-a, told-b}
+use Rattle.correctness.proofs.Fitting.{all-true-of, AllSaid, told-a, told-b}
 use Rattle.correctness.proofs.Permitted.{open-passes, finishes}
 
 -- what a truth of polynomials must give, to be used in an opening
@@ -72,7 +73,7 @@ module _ (plan : Plan) (draw : Draw) (L : Ledger) (sound : Sound plan) (is : IsD
       go (no g) = sym (ap (λ (y : List ℕ). sent s y blocks j) e) ∙ truly g
 
   module _ (r : ℕ) (five : markOf M r ≡ 5) where
-    waiting : Multiplying 5 M (leftOf M r) (rightOf M r) r
+    pub waiting : Multiplying 5 M (leftOf M r) (rightOf M r) r
     waiting =
         let w = f r (low r 4 five) .waiting five in let t = f r (low r 4 five) .triple (inr five) in
         record {
@@ -86,10 +87,10 @@ module _ (plan : Plan) (draw : Draw) (L : Ledger) (sound : Sound plan) (is : IsD
           third = t .third;
         }
 
-    mask-a : Finish.maskA s l r ≡ heldRow s (maskA M vec r)
+    pub mask-a : Finish.maskA s l r ≡ heldRow s (maskA M vec r)
     mask-a = combined-row plan draw len i M vec l h (p - 1) (leftOf M r) r (is-row (leftOf M r) 1 (waiting .a-held)) (is-row r 4 five)
 
-    mask-b : Finish.maskB s l r ≡ heldRow s (maskB M vec r)
+    pub mask-b : Finish.maskB s l r ≡ heldRow s (maskB M vec r)
     mask-b =
         combined-row plan draw len i M vec l h (p - 1) (rightOf M r) (r + 1) (is-row (rightOf M r) 1 (waiting .b-held))
         (is-row (r + 1) 3 (waiting .second))
@@ -125,16 +126,16 @@ module _ (plan : Plan) (draw : Draw) (L : Ledger) (sound : Sound plan) (is : IsD
 
     -- ---- what posts told of masks
 
-    module _ (lines : List (List ℕ)) (all : All (Line plan draw L sound is) lines) where
-      pub right : Right L P (λ half r j xs. ToldHalf (plan .t) half r lines j xs) q
+    module _ (S : ℕ → Type 0) (w : World) (all : AllSaid plan draw L sound is S w) where
+      pub right : Right L P (TrueMask S w (plan .t)) q
       right = record {
         opens = opens;
         accepts-true = accepts-true;
         finishes = finishes plan draw L sound is len i lo hi M vec l sized h f full;
         accepts-a = λ r blocks j five pr lj hj x.
             true-taken (Finish.maskA s l r) (maskA M vec r) (mask-a r five) blocks j lj hj
-            (λ ne. told-a plan draw L sound is len i hi lines all M vec f r (waiting r five) j lj hj _ (x ne));
+            (λ ne. told-a plan draw L sound is S w all M vec f r (waiting r five) j lj hj _ (x ne));
         accepts-b = λ r blocks j five pr lj hj x.
             true-taken (Finish.maskB s l r) (maskB M vec r) (mask-b r five) blocks j lj hj
-            (λ ne. told-b plan draw L sound is len i hi lines all M vec f r (waiting r five) j lj hj _ (x ne));
+            (λ ne. told-b plan draw L sound is S w all M vec f r (waiting r five) j lj hj _ (x ne));
       }

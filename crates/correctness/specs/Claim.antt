@@ -1,13 +1,12 @@
 -- Demand 2 over whole runs: "where each polynomial accepted in every post's finishes before it, and in this opening, is truly
 -- its sender's, an opening that accepts t+1 or more gives exactly the plain number, and one that accepts fewer is refused with 9".
-use Prim.Native.Nat.{ℕ, _+_, _-_, _≤_}
+use Prim.Native.Nat.{ℕ, _+_, _≤_}
 use mathlib.Core.Path.{_≡_}
 use mathlib.Core.Bool.{true}
 use mathlib.Core.Logic.{_≢_, _⊎_}
 use mathlib.Core.List.{List, _∷_, _++_}
-use lib.ListN.{take, drop}
-use Rattle.field.specs.Modulus.{p}
-use Rattle.poly.specs.Counting.{All, count}
+use lib.ListN.{length, getD, take, drop}
+use Rattle.poly.specs.Counting.{count}
 use Rattle.session.specs.declared.Session.{Session}
 use Rattle.session.specs.declared.Answer.{Answer}
 use Rattle.session.specs.Sessions.{mark}
@@ -15,22 +14,20 @@ use Rattle.session.specs.Rows.{width, rowAt}
 use Rattle.opening.specs.Walking.{sent, accepts}
 use Rattle.opening.specs.Opening.{openAnswer}
 use Rattle.product.specs.Finish.{maskA, maskB, finishAnswer}
-use Rattle.vectors.specs.Vector.{Vector, numbers}
-use Rattle.vectors.specs.Claims.{heldRow}
 use Rattle.runs.specs.Draws.{Plan, Draw, IsDraw, Sound}
-use Rattle.runs.specs.Calls.{Post, opening, Proper, Told, ToldHalf}
-use Rattle.correctness.specs.History.{Event, World, doneBy, history, begin, Each}
+use Rattle.runs.specs.Calls.{Post, opening, Proper}
+use Rattle.correctness.specs.History.{Event, World, history, answers, begin, Each}
 use Rattle.correctness.specs.Ledger.{Ledger, Written, Plain}
-use Rattle.correctness.specs.Truth.{OwnPart, Owned, TrueOf, TrueFinish}
+use Rattle.correctness.specs.Truth.{OwnPart, TruePolynomial, TrueMask, TrueOf, TrueFinish}
 
--- The premises: posts 1 to n; sessions of one draw; the same deals, sums and masks; true polynomials in every post's finishes.
-pub record Premises (plan : Plan) (draw : Draw) (L : Ledger) (es : List Event) (w : World) : Type 0 where
+-- The premises, on the calls of the posts S alone: sessions of one draw; the same deals, sums and masks; true polynomials in all
+-- their finishes. Any other post may load, deal, send and finish what it likes.
+pub record Premises (plan : Plan) (draw : Draw) (L : Ledger) (S : ℕ → Type 0) (es : List Event) (w : World) : Type 0 where
   pub sound : Sound plan
   pub is-draw : IsDraw plan draw
-  pub posts : All (λ e. (1 ≤ e .post) × (e .post ≤ plan .n)) es
-  pub parts : Each (λ e v. OwnPart plan draw (e .post) (e .call)) es w
-  pub ledger : Each (λ e v. Written draw L (e .call)) es w
-  pub finishes : Each (λ e v. TrueFinish (v .posts (e .post)) (v .lines) (e .call)) es w
+  pub parts : Each S (λ e v. OwnPart plan draw (e .post) (e .call)) es w
+  pub ledger : Each S (λ e v. Written draw L (e .call)) es w
+  pub finishes : Each S (λ e v. TrueFinish S v (v .posts (e .post)) (e .call)) es w
 
 -- How many polynomials a post accepts for a row, those behind the place where its walk stops too.
 abbrev pub accepted : Session → List ℕ → List ℕ → ℕ
@@ -79,51 +76,22 @@ pub record Right (L : Ledger) (P : ℕ → ℕ → List ℕ → Type 0) (H : (Li
       → (j ≢ q .session .post → H (drop (q .session .t + 1)) r j (sent (q .session) (maskB (q .session) (q .rows) r) blocks j))
       → accepts (q .session) (maskB (q .session) (q .rows) r) blocks j ≡ true
 
--- At every post, after any run: a polynomial is truly its sender's when the sender's own call made it, or when the sender
--- holds it though it was never sent. Of masks it is always what the sender's own call made.
-abbrev pub Correct : Type 0
+-- At every post of S, after any run of all posts. S may be all posts, or those alone whose polynomials count: what the others do
+-- stands in the run, and nothing is asked of it.
+abbrev pub Correct : Type 1
 Correct =
-    (plan : Plan) (draw : Draw) (L : Ledger) (rows : ℕ → List ℕ) (es : List Event) → Premises plan draw L es (begin plan draw rows)
-    → (i : ℕ) → 1 ≤ i → i ≤ plan .n
-    → Right L (Told (history es (begin plan draw rows) .lines))
-    (λ half r j xs. ToldHalf (plan .t) half r (history es (begin plan draw rows) .lines) j xs) (history es (begin plan draw rows) .posts i)
+    (plan : Plan) (draw : Draw) (L : Ledger) (S : ℕ → Type 0) (rows : ℕ → List ℕ) (es : List Event)
+    → Premises plan draw L S es (begin plan draw rows) → (i : ℕ) → 1 ≤ i → i ≤ plan .n → S i
+    → Right L (TruePolynomial S (history es (begin plan draw rows)))
+    (TrueMask S (history es (begin plan draw rows)) (plan .t)) (history es (begin plan draw rows) .posts i)
 
-abbrev pub CorrectHeld : Type 0
-CorrectHeld =
-    (plan : Plan) (draw : Draw) (L : Ledger) (rows : ℕ → List ℕ) (es : List Event) → Premises plan draw L es (begin plan draw rows)
-    → (i : ℕ) → 1 ≤ i → i ≤ plan .n
-    → Right L (Owned (history es (begin plan draw rows)))
-    (λ half r j xs. ToldHalf (plan .t) half r (history es (begin plan draw rows) .lines) j xs) (history es (begin plan draw rows) .posts i)
-
--- "every post's finishes before it": the same at any time of a longer run, by what was told or held up to then.
-abbrev pub CorrectEver : Type 0
-CorrectEver =
-    (plan : Plan) (draw : Draw) (L : Ledger) (rows : ℕ → List ℕ) (xs ys : List Event)
-    → Premises plan draw L (xs ++ ys) (begin plan draw rows) → (i : ℕ) → 1 ≤ i → i ≤ plan .n
-    → Right L (Told (history xs (begin plan draw rows) .lines))
-    (λ half r j zs. ToldHalf (plan .t) half r (history xs (begin plan draw rows) .lines) j zs) (history xs (begin plan draw rows) .posts i)
-    × Right L (Owned (history xs (begin plan draw rows)))
-    (λ half r j zs. ToldHalf (plan .t) half r (history xs (begin plan draw rows) .lines) j zs) (history xs (begin plan draw rows) .posts i)
-
--- "an opening that accepts t+1 or more gives exactly the plain number, and one that accepts fewer is refused with 9": of the call's
--- own answer, where it stands in a run, at whatever post and time.
-abbrev pub OpeningsAnswered : Type 0
+-- "before it": the answer of an opening that stands in a run, with premises on the calls before it, whatever is done behind it.
+-- (The answer at its place in the list of answers; `none` would be that of a place beyond the list.)
+abbrev pub OpeningsAnswered : Type 1
 OpeningsAnswered =
-    (plan : Plan) (draw : Draw) (L : Ledger) (rows : ℕ → List ℕ) (xs ys : List Event) (i r : ℕ) (blocks : List ℕ)
-    → Premises plan draw L (xs ++ (record { post = i; call = opening r blocks } ∷ ys)) (begin plan draw rows)
-    → 1 ≤ i → i ≤ plan .n
-    → mark (history xs (begin plan draw rows) .posts i .session) r ≡ 2
-    → Proper (history xs (begin plan draw rows) .posts i .session) blocks
-    → Answered L (Told (history xs (begin plan draw rows) .lines) r) (history xs (begin plan draw rows) .posts i) r blocks
-    (doneBy (record { post = i; call = opening r blocks }) (history xs (begin plan draw rows)) .answer)
-
--- "False polynomials pass at no more than t of the p − 1 check points": of the points that the post might have, those at which it
--- accepts a polynomial that is not j's. The row is the post's part of a vector, and the record one that 5 and 8 let pass.
-abbrev pub atPoint : Session → ℕ → Session
-atPoint s w = record { n = s .n; t = s .t; post = s .post; point = w; marks = s .marks; left = s .left; right = s .right }
-
-abbrev pub FalseCaught : Type 0
-FalseCaught =
-    (s : Session) (S : Vector) (blocks : List ℕ) (j : ℕ) → 1 ≤ j → j ≤ s .n → j ≢ s .post → Proper s blocks
-    → (sent s (heldRow s S) blocks j ≡ numbers (s .t + 1) (S .v j) → ⊥)
-    → count (λ w. accepts (atPoint s w) (heldRow (atPoint s w) S) blocks j) 1 (p - 1) ≤ s .t
+    (plan : Plan) (draw : Draw) (L : Ledger) (S : ℕ → Type 0) (rows : ℕ → List ℕ) (before behind : List Event) (i r : ℕ) (blocks : List ℕ)
+    (none : Answer) → Premises plan draw L S before (begin plan draw rows) → 1 ≤ i → i ≤ plan .n → S i
+    → mark (history before (begin plan draw rows) .posts i .session) r ≡ 2
+    → Proper (history before (begin plan draw rows) .posts i .session) blocks
+    → Answered L (TruePolynomial S (history before (begin plan draw rows)) r) (history before (begin plan draw rows) .posts i) r blocks
+    (getD (answers (before ++ (record { post = i; call = opening r blocks } ∷ behind)) (begin plan draw rows)) (length before) none)

@@ -2,3 +2,4 @@ pub mod History
 pub mod Ledger
 pub mod Truth
 pub mod Claim
+pub mod Parts

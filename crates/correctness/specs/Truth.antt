@@ -1,8 +1,8 @@
--- A polynomial that is "truly its sender's": what the sender's own call made, earlier in the order.
+-- Premises of demand 2 on one call: "sessions of one draw", and polynomials that are "truly" their senders'.
 use Prim.Native.Nat.{ℕ, _+_}
 use mathlib.Core.Path.{_≡_}
 use mathlib.Core.Bool.{true}
-use mathlib.Core.Logic.{_≢_}
+use mathlib.Core.Logic.{_≢_, _⊎_}
 use mathlib.Core.List.{List}
 use lib.ListN.{take, drop}
 use Rattle.poly.specs.Counting.{All}
@@ -13,7 +13,7 @@ use Rattle.opening.specs.Walking.{sent, acceptedPosts}
 use Rattle.product.specs.Finish.{maskA, maskB}
 use Rattle.runs.specs.Draws.{Plan, Draw, IsRaw, rawPack, triplePack}
 use Rattle.runs.specs.Outline.{Taking, nothingTaken, aRowPack, aTriplePack, aNumber, aRecord, twoRecords, takes, Given, moves, Every}
-use Rattle.runs.specs.Calls.{Post, Actual, Call, ToldHalf}
+use Rattle.runs.specs.Calls.{Post, Actual, Call, Told, ToldHalf}
 use Rattle.correctness.specs.History.{World}
 
 -- "sessions of one draw": what a post loads is its own part of what was drawn for those rows.
@@ -28,27 +28,36 @@ OwnWith plan draw i (twoRecords r) blocks = Unit {0}
 abbrev pub OwnPart : Plan → Draw → ℕ → Call → Type 0
 OwnPart plan draw i c = Every (λ m. OwnWith plan draw i (takes (m .0)) (m .1)) (moves c)
 
--- What j holds now of row r, whether it was sent or not; what it sent is `Told`.
+-- What j holds now of row r.
 abbrev pub Owned : World → ℕ → ℕ → List ℕ → Type 0
 Owned w r j xs =
     let s = w .posts j .session in
     (mark s r ≡ 2) × (xs ≡ coefficients s (rowAt (width s) (w .posts j .rows) r))
 
+-- xs is "truly its sender's" polynomial of row r: the sender j is one of the posts S, and its own call made xs earlier in the
+-- order, or it holds xs though it never sent it.
+abbrev pub TruePolynomial : (ℕ → Type 0) → World → ℕ → ℕ → List ℕ → Type 0
+TruePolynomial S w r j xs = S j × (Told (w .lines j) r j xs ⊎ Owned w r j xs)
+
+-- xs is truly its sender's polynomial of a − l, or of b − l', for the triple at r: always what the sender's own call made.
+abbrev pub TrueMask : (ℕ → Type 0) → World → ℕ → (List ℕ → List ℕ) → ℕ → ℕ → List ℕ → Type 0
+TrueMask S w t half r j xs = S j × ToldHalf t half r (w .lines j) j xs
+
 -- Of each post that is accepted, but the own one, the polynomial that counted is its: P j xs says that xs is j's.
 abbrev pub TrueOf : (ℕ → List ℕ → Type 0) → Session → List ℕ → List ℕ → Type 0
 TrueOf P s row blocks = All (λ j. j ≢ s .post → P j (sent s row blocks j)) (acceptedPosts s row blocks)
 
--- In a finish: of both records.
-abbrev pub TrueWith : Post → List (List ℕ) → (t : Taking) → Given Actual t → Type 0
-TrueWith q lines nothingTaken x = Unit {0}
-TrueWith q lines (aRowPack r) pack = Unit {0}
-TrueWith q lines (aTriplePack r) pack = Unit {0}
-TrueWith q lines (aNumber r) c = Unit {0}
-TrueWith q lines (aRecord r) blocks = Unit {0}
-TrueWith q lines (twoRecords r) blocks =
+-- In a finish of the post q: of both records.
+abbrev pub TrueWith : (ℕ → Type 0) → World → Post → (t : Taking) → Given Actual t → Type 0
+TrueWith S w q nothingTaken x = Unit {0}
+TrueWith S w q (aRowPack r) pack = Unit {0}
+TrueWith S w q (aTriplePack r) pack = Unit {0}
+TrueWith S w q (aNumber r) c = Unit {0}
+TrueWith S w q (aRecord r) blocks = Unit {0}
+TrueWith S w q (twoRecords r) blocks =
     let s = q .session in
-    TrueOf (ToldHalf (s .t) (take (s .t + 1)) r lines) s (maskA s (q .rows) r) (blocks .0)
-    × TrueOf (ToldHalf (s .t) (drop (s .t + 1)) r lines) s (maskB s (q .rows) r) (blocks .1)
+    TrueOf (TrueMask S w (s .t) (take (s .t + 1)) r) s (maskA s (q .rows) r) (blocks .0)
+    × TrueOf (TrueMask S w (s .t) (drop (s .t + 1)) r) s (maskB s (q .rows) r) (blocks .1)
 
-abbrev pub TrueFinish : Post → List (List ℕ) → Call → Type 0
-TrueFinish q lines c = Every (λ m. TrueWith q lines (takes (m .0)) (m .1)) (moves c)
+abbrev pub TrueFinish : (ℕ → Type 0) → World → Post → Call → Type 0
+TrueFinish S w q c = Every (λ m. TrueWith S w q (takes (m .0)) (m .1)) (moves c)

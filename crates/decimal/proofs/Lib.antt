@@ -4,4 +4,3 @@ pub mod Numerals
 pub mod Positions
 pub mod Scanning
 pub mod Spelling
-pub mod Handing

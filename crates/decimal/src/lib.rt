@@ -94,23 +94,3 @@ pub fn field_at(line: &[u8], at: usize) -> Field
     }
     Field::Number { value, next: end }
 }
-
-// The caller's line and how far it has been read: no copy.
-pub struct Reader<'a> {
-    pub line: &'a [u8],
-    pub at: usize,
-}
-
-// The number where a reader stands.
-pub fn next_field(reader: Reader) -> Field
-    ensures { λ r. ⌜ r ≡ fieldAt (now (reader .entry .line)) (reader .entry .at) ⌝ }
-{
-    field_at(reader.line, reader.at)
-}
-
-// The same for whoever has a line and a position, and never sees a reader.
-pub fn read_field(line: &[u8], at: usize) -> Field
-    ensures { λ r. ⌜ r ≡ fieldAt (now (line .entry)) at ⌝ }
-{
-    next_field(Reader { line, at })
-}

@@ -1,36 +1,34 @@
 -- The factory's calls: refusal 0 exactly when no condition of document 01's table applies, otherwise the smallest number that
 -- does, and the lent list is then as it came.
-use Prim.Native.Nat.{ℕ, _+_, _*_, _-_}
-use mathlib.Core.Path.{_≡_, refl, sym}
-use mathlib.Core.List.{List, [], _∷_}
+use Prim.Native.Nat.{ℕ, _+_}
+use mathlib.Core.Path.{_≡_, refl, sym, _∙_}
+use mathlib.Core.List.{List}
 use native.Mathlib.Omega.{arith}
-use Rattle.refusal.specs.Refusal.{_when_, Decides}
-use Rattle.refusal.specs.Conditions.{beyond}
-use Rattle.refusal.proofs.Endings.{refused, accepted}
-use Rattle.refusal.proofs.Decided.{decides}
-use Rattle.factory.specs.Draw.{drawLength}
-use Rattle.factory.specs.Packs.{packs, triplePacks, factoryTests, packsLength, rowRefusal, rowOut, tripleRefusal, tripleOut}
+use Rattle.field.specs.Arithmetic.{difference}
+use Rattle.refusal.specs.Refusal.{first}
+use Rattle.refusal.proofs.Decided.{keeps}
+use Rattle.factory.specs.declared.Number.{Number}
+use Rattle.factory.specs.Packs.{packs, triplePacks, rowRefusal, rowOut, tripleRefusal, tripleOut, dealerRefusal}
+use Rattle.factory.specs.Table.{rowTable, tripleTable, dealerTable}
+use Rattle.factory.specs.Claims.{FactoryLawful}
 
+pub factory-lawful : FactoryLawful
+unfolding rowRefusal tripleRefusal dealerRefusal
+factory-lawful = record {
+  row-refusal = λ n t points draw out. refl;
+  row = λ n t points draw out. keeps (List ℕ) 1 (rowTable n t points draw out) (omega arith) (packs n (t + 1) points draw) out;
+  triple-refusal = λ n t points draw out. refl;
+  triple = λ n t points draw out.
+      keeps (List ℕ) 1 (tripleTable n t points draw out) (omega arith) (triplePacks n (t + 1) points draw) out;
+  dealer = λ u constant.
+      keeps Number 1 (dealerTable u constant) (omega arith) (record { refusal = 0; value = difference u constant })
+      (record { refusal = first (dealerTable u constant); value = 0 });
+}
+
+-- the packs, by the refusals that the contracts cite
 module _ (n t : ℕ) (points draw out : List ℕ) where
-  pub row-decided : Decides (factoryTests n t points draw (drawLength n (t + 1)) out (packsLength n t))
-  row-decided = decides 1 (factoryTests n t points draw (drawLength n (t + 1)) out (packsLength n t)) (omega arith)
-
-  pub triple-decided : Decides (factoryTests n t points draw (3 * drawLength n (t + 1) - 1) out (3 * packsLength n t))
-  triple-decided =
-      decides 1 (factoryTests n t points draw (3 * drawLength n (t + 1) - 1) out (3 * packsLength n t)) (omega arith)
-
-  pub row-untouched : (rowRefusal n t points draw out ≡ 0 → ⊥) → rowOut n t points draw out ≡ out
-  row-untouched h = sym (refused (rowRefusal n t points draw out) _ (packs n (t + 1) points draw) out refl h)
-
   pub row-done : rowRefusal n t points draw out ≡ 0 → rowOut n t points draw out ≡ packs n (t + 1) points draw
-  row-done z = sym (accepted (rowRefusal n t points draw out) _ _ (packs n (t + 1) points draw) out refl z refl)
-
-  pub triple-untouched : (tripleRefusal n t points draw out ≡ 0 → ⊥) → tripleOut n t points draw out ≡ out
-  triple-untouched h = sym (refused (tripleRefusal n t points draw out) _ (triplePacks n (t + 1) points draw) out refl h)
+  row-done z = factory-lawful .row n t points draw out .done (sym (factory-lawful .row-refusal n t points draw out) ∙ z)
 
   pub triple-done : tripleRefusal n t points draw out ≡ 0 → tripleOut n t points draw out ≡ triplePacks n (t + 1) points draw
-  triple-done z = sym (accepted (tripleRefusal n t points draw out) _ _ (triplePacks n (t + 1) points draw) out refl z refl)
-
--- the dealer's number
-pub dealer-decided : (u constant : ℕ) → Decides (8 when beyond u ∷ 8 when beyond constant ∷ [])
-dealer-decided u constant = decides 1 (8 when beyond u ∷ 8 when beyond constant ∷ []) (omega arith)
+  triple-done z = factory-lawful .triple n t points draw out .done (sym (factory-lawful .triple-refusal n t points draw out) ∙ z)

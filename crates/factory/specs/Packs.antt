@@ -46,22 +46,30 @@ listsTests n points draw drawn out written =
 abbrev pub factoryTests : ℕ → ℕ → List ℕ → List ℕ → ℕ → List ℕ → ℕ → List Test
 factoryTests n t points draw drawn out written = postsTests n t ++ listsTests n points draw drawn out written
 
+abbrev pub rowTests : ℕ → ℕ → List ℕ → List ℕ → List ℕ → List Test
+rowTests n t points draw out = factoryTests n t points draw (drawLength n (t + 1)) out (packsLength n t)
+
 unfoldable pub rowRefusal : ℕ → ℕ → List ℕ → List ℕ → List ℕ → ℕ
-rowRefusal n t points draw out = first (factoryTests n t points draw (drawLength n (t + 1)) out (packsLength n t))
+rowRefusal n t points draw out = first (rowTests n t points draw out)
 
 abbrev pub rowOut : ℕ → ℕ → List ℕ → List ℕ → List ℕ → List ℕ
 rowOut n t points draw out = outcome (rowRefusal n t points draw out) (packs n (t + 1) points draw) out
 
+abbrev pub tripleTests : ℕ → ℕ → List ℕ → List ℕ → List ℕ → List Test
+tripleTests n t points draw out = factoryTests n t points draw (3 * drawLength n (t + 1) - 1) out (3 * packsLength n t)
+
 unfoldable pub tripleRefusal : ℕ → ℕ → List ℕ → List ℕ → List ℕ → ℕ
-tripleRefusal n t points draw out =
-    first (factoryTests n t points draw (3 * drawLength n (t + 1) - 1) out (3 * packsLength n t))
+tripleRefusal n t points draw out = first (tripleTests n t points draw out)
 
 abbrev pub tripleOut : ℕ → ℕ → List ℕ → List ℕ → List ℕ → List ℕ
 tripleOut n t points draw out = outcome (tripleRefusal n t points draw out) (triplePacks n (t + 1) points draw) out
 
 -- Deal: "The dealer's number is c = u − f(0)."
+abbrev pub dealerTests : ℕ → ℕ → List Test
+dealerTests u constant = 8 when beyond u ∷ 8 when beyond constant ∷ []
+
 unfoldable pub dealerRefusal : ℕ → ℕ → ℕ
-dealerRefusal u constant = first (8 when beyond u ∷ 8 when beyond constant ∷ [])
+dealerRefusal u constant = first (dealerTests u constant)
 
 abbrev pub dealerNumber : ℕ → ℕ → Number
 dealerNumber u constant =

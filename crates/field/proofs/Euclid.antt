@@ -9,6 +9,7 @@ use borrow.Author.Tests.{leb-true, leb-false}
 use lib.Dec.{leb, lit<}
 use Rattle.field.specs.Modulus.{p}
 use Rattle.field.specs.Arithmetic.{product, euclid, inverse, IsInverse}
+use Rattle.field.specs.Claims.{InverseIs, InverseUnique}
 use Rattle.field.proofs.Primality.{p-prime, remainder-positive}
 use Rattle.field.proofs.Residues.{mul-mod-mod}
 use Rattle.field.proofs.Modular.{product-below, product-one, product-assoc, product-comm, product-mod-left}
@@ -68,7 +69,7 @@ euclid-below (suc fuel) u h = go (leb 2 u)
     go true = product-below (p - p / u) (euclid fuel (p % u))
     go false = h
 
-pub inverse-is : (x : ℕ) → IsInverse x (inverse x)
+pub inverse-is : InverseIs
 unfolding inverse euclid
 inverse-is x = record {
   below = euclid-below (x % p) (x % p) small;
@@ -79,7 +80,7 @@ inverse-is x = record {
     small : x % p < p
     small = mod-lt x (lit< tt)
 
-pub inverse-unique : (x r s : ℕ) → IsInverse x r → IsInverse x s → r ≡ s
+pub inverse-unique : InverseUnique
 inverse-unique x r s u v = go (ℕ-discrete (x % p) 0)
   where
     go : Dec (x % p ≡ 0) → r ≡ s

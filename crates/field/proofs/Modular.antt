@@ -1,7 +1,8 @@
 -- Laws of the arithmetic on plain numbers: every result is an element, and order and grouping do not matter.
 use mathlib.Core.Path.{_≡_, sym, _∙_, ap}
 use Prim.Native.Nat.{ℕ, _+_, _*_, _-_, _%_, _<_}
-use native.Mathlib.Nat.{mod-lt, mod-eq-of-lt, mod-add-mod, add-mod-mod, add-assoc, add-comm, zero-add, mul-one, mul-comm, mul-assoc}
+use native.Mathlib.Nat.{mod-lt, mod-eq-of-lt, mod-add-mod, add-mod-mod, mod-self, add-assoc, add-comm, zero-add, mul-one, mul-comm, mul-assoc, mul-add}
+use native.Mathlib.Omega.{arith}
 use lib.Dec.{lit<}
 use Rattle.field.specs.Modulus.{p}
 use Rattle.field.specs.Arithmetic.{sum, difference, product}
@@ -48,3 +49,16 @@ product-one x h = ap (λ (z : ℕ). z % p) (mul-one x) ∙ mod-eq-of-lt h
 pub product-mod-left : (x y : ℕ) → product (x % p) y ≡ product x y
 unfolding product
 product-mod-left x y = mod-mul-mod x y p
+
+pub product-sum : (a b c : ℕ) → product a (sum b c) ≡ sum (product a b) (product a c)
+unfolding sum product
+product-sum a b c =
+    mul-mod-mod a (b + c) p ∙ ap (λ (z : ℕ). z % p) (mul-add a b c)
+    ∙ sym (mod-add-mod (a * b) p (a * c % p) ∙ add-mod-mod (a * b) (a * c) p)
+
+pub sum-opposite : (x : ℕ) → x < p → sum x ((p - x) % p) ≡ 0
+unfolding sum
+sum-opposite x h = add-mod-mod x (p - x) p ∙ ap (λ (y : ℕ). y % p) whole ∙ mod-self p
+  where
+    whole : x + (p - x) ≡ p
+    whole = omega arith

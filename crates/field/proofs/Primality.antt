@@ -7,8 +7,8 @@ use native.Mathlib.Nat.{mul-mod-right, mul-comm, mul-one, mul-le-mul, zero-mul, 
 use native.Mathlib.Decide.{decLe, ℕ-discrete}
 use native.Mathlib.Omega.{arith}
 use lib.Dec.{T, leb, leb→le, lit≤, lit<}
-use Rattle.field.specs.Modulus.{p}
 use Rattle.field.specs.Primality.{Prime, undivided}
+use Rattle.field.specs.Claims.{PrimeModulus}
 
 both : (a b : Bool) → T (elim a as (λ x. Bool) [ true ↦ b | false ↦ false ]) → T a × T b
 both true b t = (tt, t)
@@ -53,9 +53,9 @@ module _ (m k : ℕ) (test : T (undivided m k 2)) (past : m < (k + 2) * (k + 2))
       go a b e (yes h) = inl (smaller-is-one a b e h)
       go a b e (no f) = inr (smaller-is-one b a (mul-comm b a ∙ e) (omega arith))
 
-pub p-prime : Prime p
+pub p-prime : PrimeModulus
 unfolding undivided
-p-prime = prime-by-test p 46339 tt (lit< tt) (lit≤ tt)
+p-prime = prime-by-test _ 46339 tt (lit< tt) (lit≤ tt)
 
 -- no number between 1 and a prime divides it
 pub remainder-positive : (m : ℕ) → Prime m → (x : ℕ) → 1 < x → x < m → 1 ≤ m % x

@@ -25,7 +25,7 @@ euclid (suc fuel) u =
 unfoldable pub inverse : ℕ → ℕ
 inverse x = euclid (x % p) (x % p)
 
--- What an inverse is. It leaves one value for every x: `inverse-unique` in proofs/Euclid.antt.
+-- What an inverse is. It leaves one value for every x: `InverseUnique` in Claims.antt.
 pub record IsInverse (x r : ℕ) : Type 0 where
   pub below : r < p
   pub of-zero : x % p ≡ 0 → r ≡ 0

@@ -3,3 +3,4 @@ pub mod Arithmetic
 pub mod Primality
 pub mod Algebra
 pub mod Element
+pub mod Claims

@@ -1,5 +1,10 @@
 pub mod Overwriting
 pub mod Laying
+pub mod Moving
+pub mod Calls
+pub mod Locals
+pub mod Carrying
+pub mod Stepping
 pub mod Passing
 pub mod Single
 pub mod Reading

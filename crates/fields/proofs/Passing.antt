@@ -1,6 +1,6 @@
 -- The loops over the fields of a line: the first pass, which tells what they are like, and the second, which takes their numbers.
 use Prim.Native.Nat.{ℕ, suc, _+_, _-_, _≤_, _<_, _^_}
-use mathlib.Core.Path.{_≡_, refl, sym, _∙_}
+use mathlib.Core.Path.{_≡_, refl, sym, subst, _∙_}
 use mathlib.Core.List.{List, [], _∷_, _++_, append-assoc, append-nil}
 use mathlib.Core.Bool.{Bool, true, false, _&&_, cond}
 use native.Mathlib.Omega.{arith}
@@ -17,53 +17,45 @@ use Rattle.decimal.specs.declared.Field.the-variants.{Number, Wrong}
 use Rattle.fields.specs.declared.Run.{Run}
 use Rattle.fields.specs.declared.Run.the-variants.{Fields, Broken}
 use Rattle.decimal.specs.Numeral.{fieldAt}
+use Rattle.fields.specs.declared.Tally.{Tally}
+use Rattle.fields.specs.Walk.{commaField, placeBehind, counted, settled, numberIn}
 use Rattle.fields.specs.Fields.{Parsed, parsed, malformed, push, behind, fieldsAt, ended, numbersOf, largestFrom, runFrom, runOf, Fillable}
 use Rattle.decimal.proofs.Positions.{inside}
 
 -- ---- the first pass: what is known so far with what the rest says is what the whole says
-pub record Passed (s : List ℕ) (at k pos largest i : ℕ) : Type 0 where
-  pub within : i ≤ k
-  pub says : runFrom largest (fieldsAt (k - i) s pos) ≡ runOf (fieldsAt k s at)
+abbrev pub restRun : Tally → List ℕ → ℕ → Run
+restRun t s at = cond (t .whole) (runFrom (t .largest) (fieldsAt (t .left) s at)) Broken
 
-pub passed-start : (s : List ℕ) (at k : ℕ) → Passed s at k at 0 0
-passed-start s at k = record { within = omega arith; says = let e : k - 0 ≡ k = omega arith in rw e }
+module _ (s : List ℕ) (at : ℕ) where
+  push-run : (m x : ℕ) (o : Parsed) → runFrom (cond (ltb m x) x m) o ≡ runFrom m (push x o)
+  push-run m x (parsed xs next) = refl
+  push-run m x malformed = refl
 
-module _ (s : List ℕ) (at k pos largest i : ℕ) (inv : Passed s at k pos largest i) where
-  broken : fieldsAt (k - i) s pos ≡ malformed → Broken ≡ runOf (fieldsAt k s at)
-  broken e = rw e at (inv .says)
+  one-more : (n m : ℕ) (w b : Bool) (g : Field) → restRun (counted (record { left = n + 1; largest = m; whole = w }) (cond b g Wrong)) s (placeBehind (cond b g Wrong) at)
+      ≡ cond w (runFrom m (cond b (behind g (λ x next. push x (fieldsAt n s next))) malformed)) Broken
+  one-more n m true true (Number x next) = let e : n + 1 - 1 ≡ n = omega arith in rw e (push-run m x (fieldsAt n s next))
+  one-more n m true true Wrong = refl
+  one-more n m true false g = refl
+  one-more n m false true (Number x next) = refl
+  one-more n m false true Wrong = refl
+  one-more n m false false g = refl
 
-  module _ (h : i < k) where
-    one-more : k - i ≡ suc (k - (i + 1))
-    one-more = omega arith
-
-    pub passed-short : length s ≤ pos → Broken ≡ runOf (fieldsAt k s at)
-    unfolding fieldsAt
-    passed-short l = broken (rw (one-more, List·getD-eq-default s 0 l))
-
-    pub passed-comma : (getD s pos 0 ≡ 44 → ⊥) → Broken ≡ runOf (fieldsAt k s at)
-    unfolding fieldsAt
-    passed-comma l = broken (rw (one-more, ne-eqb (getD s pos 0) 44 l))
-
-    module _ (f : Field) (l : getD s pos 0 ≡ 44) (e : f ≡ fieldAt s (pos + 1)) where
-      pub passed-wrong : f ≡ Wrong → Broken ≡ runOf (fieldsAt k s at)
-      unfolding fieldsAt
-      passed-wrong w = broken (rw (one-more, l, ← e, w))
-
-      push-run : (v m : ℕ) (o : Parsed) → m ≡ cond (ltb largest v) v largest → runFrom largest (push v o) ≡ runFrom m o
-      push-run v m (parsed xs next) q = rw q
-      push-run v m malformed q = refl
-
-      pub passed-more : (v next m : ℕ) → f ≡ Number v next → m ≡ cond (ltb largest v) v largest → Passed s at k next m (i + 1)
-      unfolding fieldsAt
-      passed-more v next m w q =
-          record {
-            within = omega arith;
-            says = sym (push-run v m (fieldsAt (k - (i + 1)) s next) q) ∙ (rw (one-more, l, ← e, w) at (inv .says));
-          }
-
-  pub passed-end : k ≤ i → Fields largest pos ≡ runOf (fieldsAt k s at)
+  pub passed-more : (t : Tally) → 0 < t .left → restRun (counted t (commaField s at)) s (placeBehind (commaField s at) at) ≡ restRun t s at
   unfolding fieldsAt
-  passed-end h = let n : k - i ≡ 0 = omega arith in rw n at (inv .says)
+  passed-more t h =
+      let e : t .left ≡ t .left - 1 + 1 = omega arith in
+      let d : t .left - 1 + 1 ≡ suc (t .left - 1) = add-one (t .left - 1) in
+      subst (λ (n : ℕ). restRun (counted (record { left = n; largest = t .largest; whole = t .whole }) (commaField s at)) s (placeBehind (commaField s at) at)
+      ≡ restRun (record { left = n; largest = t .largest; whole = t .whole }) s at) (sym e)
+      (one-more (t .left - 1) (t .largest) (t .whole) (eqb (getD s at 0) 44) (fieldAt s (at + 1)) ∙ rw d)
+
+  pub fewer-left : (t : Tally) (f : Field) → 0 < t .left → counted t f .left < t .left
+  fewer-left t (Number x next) h = omega arith
+  fewer-left t Wrong h = h
+
+  pub passed-end : (t : Tally) → t .left ≤ 0 → settled t at ≡ restRun t s at
+  unfolding fieldsAt
+  passed-end t h = let e : t .left ≡ 0 = omega arith in rw e
 
 -- ---- what stands behind the fields
 module _ (s : List ℕ) (o : Parsed) (r : Run) (e : r ≡ runOf o) where
@@ -157,41 +149,25 @@ module _ (s : List ℕ) (at k : ℕ) (out : List ℕ) (pos i : ℕ) (inv : Taken
     field-there : Takeable s pos (k - (i + 1))
     field-there = let n : k - i ≡ suc (k - (i + 1)) = omega arith in takeable s pos (k - (i + 1)) (rw n at (inv .rest))
 
-    pub taken-fits : length s < 2 ^ 64 → Fits w64 (pos + 1)
-    taken-fits b = omega (arith, inside s pos 43 (field-there .comma))
+    comma-number : commaField s pos ≡ Number (field-there .x) (field-there .next)
+    comma-number = rw (field-there .comma, field-there .number)
 
     pub taken-index : i < length out
     taken-index = omega (arith, inv .same)
 
-    module _ (f : Field) (e : f ≡ fieldAt s (pos + 1)) where
-      pub taken-never : (o : List ℕ) → f ≡ Wrong → o ≡ numbersOf (fieldsAt k s at)
-      taken-never o w =
-          let q : fieldAt s (pos + 1) ≡ Number (field-there .x) (field-there .next) = field-there .number in
-          let z : _≡_ {A = ℕ} 0 1 = cc in absurd (omega arith)
+    pub taken-narrow : numberIn (commaField s pos) < 4294967296
+    taken-narrow = rw comma-number (field-there .narrow)
 
-      module _ (v next : ℕ) (w : f ≡ Number v next) where
-        same-value : v ≡ field-there .x
-        same-value = let q = field-there .number in cc
-
-        same-next : next ≡ field-there .next
-        same-next = let q = field-there .number in cc
-
-        pub taken-narrow : Fits w32 v
-        taken-narrow = omega (arith, same-value, field-there .narrow)
-
-        pub taken-more : Taken s at k (set out i v) next (i + 1)
-        taken-more =
-            let d = field-there in
-            let n : k - i ≡ suc (k - (i + 1)) = omega arith in
-            let b : i < length out = taken-index in
-            record {
-              within = omega arith;
-              same = length-set out i v ∙ inv .same;
-              rest = rw same-next (d .rest);
-              says =
-                  rw (add-one i, take-suc-set out i v b, same-next, same-value)
-                  (append-assoc (take i out) (d .x ∷ []) _ ∙ (rw (n, d .says, add-one i) at (inv .says)));
-            }
+    pub taken-more : Taken s at k (set out i (numberIn (commaField s pos))) (placeBehind (commaField s pos) pos) (i + 1)
+    taken-more =
+        let d = field-there in
+        let n : k - i ≡ suc (k - (i + 1)) = omega arith in
+        rw comma-number record {
+          within = omega arith;
+          same = length-set out i (d .x) ∙ inv .same;
+          rest = d .rest;
+          says = rw (add-one i, take-suc-set out i (d .x) taken-index) (append-assoc (take i out) (d .x ∷ []) _ ∙ (rw (n, d .says, add-one i) at (inv .says)));
+        }
 
 -- ---- zeros in every place
 module _ (d out : List ℕ) (i : ℕ) (e : out ≡ replicate i 0 ++ drop i d) where

@@ -2,10 +2,11 @@
 ghost use mathlib.Core.Path.{_≡_};
 ghost use mathlib.Core.Bool.{cond};
 ghost use mathlib.Core.List.{_++_};
-ghost use Prim.Native.Nat.{_+_, _≤_};
+ghost use Prim.Native.Nat.{_+_, _≤_, _<_};
 ghost use lib.ListN.{length, replicate};
 ghost use lib.Dec.{ltb};
 ghost use Rattle.fields.specs.Fields.{field, fields, written, overwrite, fieldsAt, ended, runOf, numbersOf, Fillable, padded};
+ghost use Rattle.fields.specs.Walk.{commaField, readAt, stepFrom, counted, settled, numberIn};
 use decimal::Field;
 
 // What a first pass over fields tells of them: the largest number, and the position behind them.
@@ -77,31 +78,116 @@ fn greater(a: u64, b: u64) -> u64
     if a < b { b } else { a }
 }
 
+// The field at a position: a comma, and a number behind it.
+fn comma_field(line: &[u8], at: usize) -> Field
+    ensures { λ r. ⌜ r ≡ commaField (now (line .entry)) at ⌝ }
+{
+    if line.len() <= at {
+        return Field::Wrong; // the line has ended
+    }
+    if line[at] != 44 {
+        return Field::Wrong; // no comma
+    }
+    decimal::field_at(line, at + 1)
+}
+
+// A field, and how far a line has been read then.
+struct Read {
+    field: Field,
+    at: usize,
+}
+
+// The core on slice and position: one field is read.
+fn read_at(line: &[u8], at: usize) -> Read
+    ensures { λ r. ⌜ r ≡ readAt (now (line .entry)) at ⌝ }
+{
+    let field = comma_field(line, at);
+    match field {
+        Field::Number { value, next } => Read { field, at: next },
+        Field::Wrong => Read { field, at },
+    }
+}
+
+// The caller's line and how far it has been read: no copy.
+pub struct Reader<'a> {
+    pub line: &'a [u8],
+    pub at: usize,
+}
+
+// A field, and the reader moved on behind it.
+pub struct Step<'a> {
+    pub field: Field,
+    pub reader: Reader<'a>,
+}
+
+// A reader reads the field where it stands, and is moved on.
+pub fn next_field<'a>(reader: Reader<'a>) -> Step<'a>
+    ensures { λ r. ⌜ r ≡ stepFrom (reader .entry) ⌝ }
+{
+    let line = reader.line;
+    let read = read_at(line, reader.at);
+    Step {
+        field: read.field,
+        reader: Reader { line, at: read.at },
+    }
+}
+
+// A first pass so far: the fields left to read, none behind a wrong one; the largest number; whether all were fields.
+struct Tally {
+    left: usize,
+    largest: u64,
+    whole: bool,
+}
+
+// One field more.
+fn count(tally: Tally, field: Field) -> Tally
+    requires { ⌜ 0 < tally .left ⌝ }
+    ensures { λ r. ⌜ r ≡ counted tally field ⌝ }
+{
+    match field {
+        Field::Number { value, next } => Tally {
+            left: tally.left - 1,
+            largest: greater(tally.largest, value),
+            whole: tally.whole,
+        },
+        Field::Wrong => Tally {
+            left: 0,
+            largest: tally.largest,
+            whole: false,
+        },
+    }
+}
+
+fn settle(tally: Tally, at: usize) -> Run
+    ensures { λ r. ⌜ r ≡ settled tally at ⌝ }
+{
+    if tally.whole {
+        Run::Fields {
+            largest: tally.largest,
+            next: at,
+        }
+    } else {
+        Run::Broken
+    }
+}
+
 // The k fields from a position: whether they are there, how large their numbers are, and where they end.
+// A reader walks them; whoever calls this has a line and a position, and never sees a reader.
 pub fn fields_at(line: &[u8], at: usize, k: usize) -> Run
     ensures { λ r. ⌜ r ≡ runOf (fieldsAt k (now (line .entry)) at) ⌝ }
 {
-    let mut pos = at;
-    let mut largest: u64 = 0;
-    for i in 0..k {
-        if line.len() <= pos {
-            return Run::Broken; // the line has ended
-        }
-        if line[pos] != 44 {
-            return Run::Broken; // no comma
-        }
-        let f = decimal::read_field(line, pos + 1);
-        match f {
-            Field::Number { value, next } => {
-                largest = greater(largest, value);
-                pos = next;
-            }
-            Field::Wrong => {
-                return Run::Broken;
-            }
-        }
+    let mut reader = Reader { line, at };
+    let mut tally = Tally {
+        left: k,
+        largest: 0,
+        whole: true,
+    };
+    while 0 < tally.left {
+        let step = next_field(reader);
+        tally = count(tally, step.field);
+        reader = step.reader;
     }
-    Run::Fields { largest, next: pos }
+    settle(tally, reader.at)
 }
 
 // The same for the last k fields of a line: behind them stands a line feed, and nothing more.
@@ -126,23 +212,28 @@ pub fn last_fields_at(line: &[u8], at: usize, k: usize) -> Run
     }
 }
 
-// The numbers of as many fields from a position as the list has places.
+fn number_of(field: Field) -> u32
+    requires { ⌜ numberIn field < 4294967296 ⌝ }
+    ensures { λ r. ⌜ r ≡ numberIn field ⌝ }
+{
+    match field {
+        Field::Number { value, next } => value as u32,
+        Field::Wrong => 0,
+    }
+}
+
+// The numbers of as many fields from a position as the list has places: a second reader walks them.
 pub fn fill(line: &[u8], at: usize, out: &mut [u32])
     requires { ⌜ Fillable (fieldsAt (length (now out)) (now line) at) ⌝ }
     ensures { λ r. ⌜ now (out .exit) ≡ numbersOf (fieldsAt (length (now (out .entry))) (now (line .entry)) at) ⌝ }
 {
-    let mut pos = at;
-    for i in 0..out.len() {
-        let f = decimal::read_field(line, pos + 1);
-        match f {
-            Field::Number { value, next } => {
-                out[i] = value as u32;
-                pos = next;
-            }
-            Field::Wrong => {
-                return;
-            }
-        }
+    let mut reader = Reader { line, at };
+    let mut i = 0;
+    while i < out.len() {
+        let step = next_field(reader);
+        out[i] = number_of(step.field);
+        reader = step.reader;
+        i += 1;
     }
 }
 

@@ -14,14 +14,9 @@ use Rattle.decimal.proofs.Sizes.{size-pos, size-grows}
 use Rattle.fields.specs.Fields.{field, fields, written}
 use Rattle.fields.proofs.Overwriting.{length-field, length-fields-le}
 use Rattle.fields.proofs.Laying.{length-written}
-use Rattle.forms.specs.Lines.{Message, masks, text}
-use Rattle.forms.specs.Forms.{Sent}
+use Rattle.forms.specs.Claims.{longest, NoneLonger, OneAsLong, LongestLines, AtMost712}
 use Rattle.forms.proofs.Ranges.{last-row-le}
 use Rattle.forms.proofs.RoundTrip.{InRange, in-range}
-
--- letter, row, post, 2k coefficients of 10 digits, line feed, and the commas
-abbrev pub longest : ℕ → ℕ → ℕ
-longest n k = 6 + size n + 22 * k
 
 -- one field
 one-field : (x : ℕ) → length (fields (x ∷ [])) ≡ 1 + size x
@@ -37,7 +32,7 @@ unfolding sizeWithin
 size-95 = refl
 
 -- no line that posts send is longer
-pub none-longer : (n k : ℕ) (m : Message) → 1 ≤ k → Sent n k m → length (text m) ≤ longest n k
+pub none-longer : NoneLonger
 none-longer n k m l h = go (eqb (m .letter) 68) (eqb (m .letter) 79) (h .count) (r .post)
   where
     r : InRange n m
@@ -69,10 +64,7 @@ unfolding anyBeyond
 elements zero = refl
 elements (suc j) = elements j
 
-abbrev pub longestMasks : ℕ → ℕ → Message
-longestMasks n k = masks 93 n (replicate (2 * k) 2147483646)
-
-pub one-as-long : (n k : ℕ) → 1 ≤ n → Sent n k (longestMasks n k) × (length (text (longestMasks n k)) ≡ longest n k)
+pub one-as-long : OneAsLong
 unfolding sizeWithin
 one-as-long n k h = (
   record {
@@ -84,8 +76,7 @@ one-as-long n k h = (
   omega (arith, length-written 77 (93 ∷ n ∷ []) (replicate (2 * k) 2147483646), two-fields 93 n, ten-digits (2 * k)),
 )
 
--- document 01's 712, at 32 posts; document 02's 5,619 at 255, and 11,207 with two check points a post
-pub longest-lines : (longest 32 32 ≡ 712) × (longest 255 255 ≡ 5619) × (longest 255 509 ≡ 11207)
+pub longest-lines : LongestLines
 unfolding sizeWithin
 longest-lines = (refl, refl, refl)
 
@@ -93,6 +84,5 @@ longest-lines = (refl, refl, refl)
 longest-grows : (n m t : ℕ) → n ≤ m → t + 1 ≤ n → longest n (t + 1) ≤ longest m m
 longest-grows n m t h g = omega (arith, size-grows 9 n m h)
 
--- "The longest line has 712 bytes."
-pub at-most-712 : (n t : ℕ) (m : Message) → n ≤ 32 → t + 1 ≤ n → Sent n (t + 1) m → length (text m) ≤ 712
+pub at-most-712 : AtMost712
 at-most-712 n t m h g s = omega (arith, none-longer n (t + 1) m (omega arith) s, longest-grows n 32 t h g, longest-lines .0)

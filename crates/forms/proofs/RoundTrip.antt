@@ -7,7 +7,6 @@ use native.Mathlib.Omega.{arith}
 use borrow.Author.Tests.{eq-eqb, ltb-false, eqb-true}
 use lib.ListN.{length, getD, drop, length-drop}
 use lib.Dec.{ltb, eqb}
-use Rattle.refusal.specs.Refusal.{first}
 use Rattle.refusal.specs.Conditions.{outside, beyond, anyBeyond}
 use Rattle.refusal.proofs.Laws.{or-false, inside, all-fail}
 use Rattle.refusal.proofs.Elements.{below-p}
@@ -15,6 +14,7 @@ use Rattle.decimal.specs.Numeral.{tens}
 use Rattle.fields.specs.Fields.{fields, written, Parsed, parsed, malformed, numbersOf, Small}
 use Rattle.forms.specs.Lines.{Message, fieldsOf, text, lastRow}
 use Rattle.forms.specs.Forms.{numberCount, fieldCount, formOf, messageOf, message, isMalformed, beyondRange, lineTests, Sent}
+use Rattle.forms.specs.Claims.{WrittenReadsBack, ReadIsWritten, NoOtherLine, OneMessage}
 use Rattle.forms.proofs.Forms.{form-spelled, form-read}
 use Rattle.forms.proofs.Ranges.{last-row-le}
 
@@ -87,7 +87,7 @@ field-count-two k b = go (eqb b 68) (eqb b 79)
     go false false = omega arith
 
 -- ---- read (written m) = m
-pub written-reads-back : (n k : ℕ) (m : Message) → n < tens 10 → Sent n k m → (first (lineTests n k (text m)) ≡ 0) × (message k (text m) ≡ m)
+pub written-reads-back : WrittenReadsBack
 written-reads-back n k m l h =
     let f : formOf k (text m) ≡ parsed (fieldsOf m) (1 + length (fields (fieldsOf m))) =
     form-read k (m .letter) (fieldsOf m) (h .letter-is) (fields-count n k m h) (fields-small n m l (in-range n m (h .in-range))) in
@@ -97,7 +97,7 @@ written-reads-back n k m l h =
     (rw (r, f), g)
 
 -- ---- read s accepted with m: s = written m, and posts send m
-pub read-is-written : (n k : ℕ) (s : List ℕ) → first (lineTests n k s) ≡ 0 → (s ≡ text (message k s)) × Sent n k (message k s)
+pub read-is-written : ReadIsWritten
 read-is-written n k s e =
     let a = all-fail (lineTests n k s) tt e in
     go (formOf k s) refl (a .0) (a .1 .0)
@@ -125,10 +125,10 @@ read-is-written n k s e =
         )
 
 -- ---- no other line is accepted: none of another length or form
-pub no-other-line : (n k : ℕ) (s : List ℕ) → ((m : Message) → Sent n k m → s ≡ text m → ⊥) → first (lineTests n k s) ≡ 0 → ⊥
+pub no-other-line : NoOtherLine
 no-other-line n k s h e = let r = read-is-written n k s e in h (message k s) (r .1) (r .0)
 
 -- ---- a line has one message
-pub one-message : (n k : ℕ) (a b : Message) → n < tens 10 → Sent n k a → Sent n k b → text a ≡ text b → a ≡ b
+pub one-message : OneMessage
 one-message n k a b l g h e =
     sym (written-reads-back n k a l g .1) ∙ ap (message k) e ∙ written-reads-back n k b l h .1

@@ -2,3 +2,4 @@ pub mod Refusing
 pub mod Answers
 pub mod Sending
 pub mod Theorems
+pub mod Tables

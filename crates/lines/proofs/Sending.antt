@@ -16,7 +16,9 @@ use Rattle.forms.specs.Forms.{isLetter, numberCount, message, lineTests, Sent}
 use Rattle.forms.proofs.RoundTrip.{written-reads-back, read-is-written}
 use Rattle.lines.specs.Order.{lineRefusal}
 use Rattle.lines.specs.Writing.{postedTests, dealtTests, dealRefusal, openingRefusal, masksRefusal, writeRefusal}
-use Rattle.lines.specs.Reading.{readRefusal}
+use Rattle.lines.specs.Reading.{readRefusal, lineAs, listAs}
+use Rattle.lines.specs.Claims.{ReadBack, WritersReadBack, ReaderToWriter}
+use Rattle.lines.proofs.Theorems.{line-laid}
 
 -- ---- 1 and 2, and what stands behind them
 module _ (n t : ℕ) (ys : List Test) where
@@ -30,7 +32,7 @@ module _ (n t : ℕ) (ys : List Test) where
 
 -- ---- what a writer takes is a message that posts send
 module _ (n t : ℕ) where
-  pub deal-sent : (row c room : ℕ) → dealRefusal n t row c room ≡ 0 → Sent n (t + 1) (deal row c)
+  deal-sent : (row c room : ℕ) → dealRefusal n t row c room ≡ 0 → Sent n (t + 1) (deal row c)
   unfolding anyBeyond
   deal-sent row c room e =
       let a = all-fail (dealtTests row c room) tt (both-zero n t (dealtTests row c room) e .1) in
@@ -53,14 +55,14 @@ module _ (n t : ℕ) where
           in-range = rw (a .1 .1 .0, d, a .0, a .1 .1 .1 .0);
         }
 
-    pub opening-sent : openingRefusal n t row post xs room ≡ 0 → Sent n (t + 1) (opening row post xs)
+    opening-sent : openingRefusal n t row post xs room ≡ 0 → Sent n (t + 1) (opening row post xs)
     opening-sent e = posted-sent 79 (t + 1) refl refl refl e
 
-    pub masks-sent : masksRefusal n t row post xs room ≡ 0 → Sent n (t + 1) (masks row post xs)
+    masks-sent : masksRefusal n t row post xs room ≡ 0 → Sent n (t + 1) (masks row post xs)
     masks-sent e = posted-sent 77 (2 * (t + 1)) refl refl refl e
 
   -- and the reader takes its line back, whatever the tests ys of the writer were
-  pub writer-to-reader : (ys : List Test) (m : Message) (out : List ℕ) → lineRefusal n t ys ≡ 0 → Sent n (t + 1) m → length out ≡ 2 * (t + 1)
+  writer-to-reader : (ys : List Test) (m : Message) (out : List ℕ) → lineRefusal n t ys ≡ 0 → Sent n (t + 1) m → length out ≡ 2 * (t + 1)
       → (readRefusal n t (text m) out ≡ 0) × (message (t + 1) (text m) ≡ m)
   writer-to-reader ys m out e h l =
       let p = both-zero n t ys e .0 in
@@ -70,6 +72,13 @@ module _ (n t : ℕ) where
       let zs : List Test = 5 when missized out (2 * (t + 1)) ∷ lineTests n (t + 1) (text m) in
       let f : first zs ≡ 0 = rw (eq-eqb (length out) (2 * (t + 1)) l) (r .0) in
       (zero-both n t zs p f, r .1)
+
+  read-back : (ys : List Test) (m : Message) → (lineRefusal n t ys ≡ 0 → Sent n (t + 1) m) → (part out : List ℕ)
+      → ReadBack n t (lineRefusal n t ys) m part out
+  read-back ys m h part out e l =
+      let r = writer-to-reader ys m out e (h e) l in
+      rw (line-laid (lineRefusal n t ys) (text m) part e, r .0)
+      (ap (λ (x : Message). lineAs 0 x) (r .1), ap (λ (x : Message). listAs 0 x out) (r .1))
 
   -- ---- a message that posts send is taken by its writer, where the part has room
   sent-row : (m : Message) → Sent n (t + 1) m → ltb (lastRow (m .letter)) (m .row) ≡ false
@@ -112,12 +121,23 @@ module _ (n t : ℕ) where
     by-letter letter false false true d o m i h l = let e = eqb-true letter 77 m in sent-posted 77 (2 * (t + 1)) refl refl (rw e at h) (rw e at l)
     by-letter letter false false false d o m i h l = let z : _≡_ {A = ℕ} 0 1 = cc in absurd (omega arith)
 
-    pub sent-is-written : (letter : ℕ) → Sent n (t + 1) (posted letter row post xs) → length (text (posted letter row post xs)) ≤ room → writeRefusal n t (posted letter row post xs) room ≡ 0
+    sent-is-written : (letter : ℕ) → Sent n (t + 1) (posted letter row post xs) → length (text (posted letter row post xs)) ≤ room → writeRefusal n t (posted letter row post xs) room ≡ 0
     sent-is-written letter h l = by-letter letter (eqb letter 68) (eqb letter 79) (eqb letter 77) refl refl refl (h .letter-is) h l
 
+pub writers-read-back : WritersReadBack
+writers-read-back = record {
+  deal-back = λ n t row c part out.
+      read-back n t (dealtTests row c (length part)) (deal row c) (deal-sent n t row c (length part)) part out;
+  opening-back = λ n t row post xs part out.
+      read-back n t (postedTests n 79 (t + 1) row post xs (length part)) (opening row post xs)
+      (opening-sent n t row post xs (length part)) part out;
+  masks-back = λ n t row post xs part out.
+      read-back n t (postedTests n 77 (2 * (t + 1)) row post xs (length part)) (masks row post xs)
+      (masks-sent n t row post xs (length part)) part out;
+}
+
 -- ---- every line that the reader takes is the one that the writer makes of its message
-pub reader-to-writer : (n t : ℕ) (s out : List ℕ) → readRefusal n t s out ≡ 0
-    → (s ≡ text (message (t + 1) s)) × (writeRefusal n t (message (t + 1) s) (length s) ≡ 0)
+pub reader-to-writer : ReaderToWriter
 reader-to-writer n t s out e =
     let ys : List Test = 5 when missized out (2 * (t + 1)) ∷ lineTests n (t + 1) s in
     let b = both-zero n t ys e in

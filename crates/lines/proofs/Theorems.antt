@@ -1,38 +1,62 @@
 -- Demand 1 for lines: refusal 0 exactly when no condition of document 01's table applies, otherwise the smallest number that
--- does; nothing is then written or filled.
-use Prim.Native.Nat.{ℕ, _+_, _*_}
-use mathlib.Core.Path.{_≡_, refl, sym}
-use mathlib.Core.List.{List, _∷_, _++_}
+-- does; nothing is then written or filled. And where a written line stands.
+use Prim.Native.Nat.{ℕ, _+_}
+use mathlib.Core.Path.{_≡_, refl, _∙_, ap}
+use mathlib.Core.List.{List}
+use native.Mathlib.Nat.{zero-add}
 use native.Mathlib.Omega.{arith}
-use Rattle.refusal.specs.Refusal.{Test, _when_, Decides}
-use Rattle.refusal.specs.Conditions.{missized, postsTests}
-use Rattle.refusal.proofs.Endings.{refused}
-use Rattle.refusal.proofs.Decided.{decides}
-use Rattle.forms.specs.Lines.{Message}
-use Rattle.forms.specs.Forms.{lineTests}
+use lib.ListN.{length, take, drop}
+use lib.Seq.{take-at, drop-at}
+use Rattle.refusal.specs.Refusal.{Test, first, outcome, Ordered}
+use Rattle.refusal.proofs.Decided.{decides, keeps}
+use Rattle.fields.specs.Fields.{overwrite, padded}
+use Rattle.forms.specs.Lines.{deal, opening, masks, text}
+use Rattle.forms.specs.Forms.{message}
+use Rattle.lines.specs.declared.Written.{Written}
 use Rattle.lines.specs.declared.Line.{Line}
-use Rattle.lines.specs.Reading.{readRefusal, noLine, lineAs, listAs}
-use Rattle.lines.specs.Writing.{postedTests, dealtTests, notWritten, writtenAs, partAs}
+use Rattle.lines.specs.Order.{lineRefusal}
+use Rattle.lines.specs.Writing.{notWritten, writtenAs, partAs}
+use Rattle.lines.specs.Reading.{noLine}
+use Rattle.lines.specs.Table.{writeDealTable, writeOpeningTable, writeMasksTable, readTable}
+use Rattle.lines.specs.Claims.{WriteLawful, LinesLawful}
 
-module _ (n t : ℕ) where
-  pub deal-decided : (row c room : ℕ) → Decides (postsTests n t ++ dealtTests row c room)
-  deal-decided row c room = decides 1 (postsTests n t ++ dealtTests row c room) (omega arith)
+-- a line that is not refused: it stands at the start, with the rest of the part behind it
+module _ (refusal : ℕ) (line part : List ℕ) (e : refusal ≡ 0) where
+  pub line-laid : take (writtenAs refusal line .len) (partAs refusal line part) ≡ line
+  unfolding outcome
+  line-laid = rw e (take-at line (drop (0 + length line) part) (length line) refl)
 
-  pub opening-decided : (row post : ℕ) (xs : List ℕ) (room : ℕ) → Decides (postsTests n t ++ postedTests n 79 (t + 1) row post xs room)
-  opening-decided row post xs room = decides 1 (postsTests n t ++ postedTests n 79 (t + 1) row post xs room) (omega arith)
+  rest-kept : drop (writtenAs refusal line .len) (partAs refusal line part) ≡ drop (writtenAs refusal line .len) part
+  unfolding outcome
+  rest-kept =
+      rw e (drop-at line (drop (0 + length line) part) (length line) refl ∙ ap (λ (k : ℕ). drop k part) (zero-add (length line)))
 
-  pub masks-decided : (row post : ℕ) (xs : List ℕ) (room : ℕ) → Decides (postsTests n t ++ postedTests n 77 (2 * (t + 1)) row post xs room)
-  masks-decided row post xs room = decides 1 (postsTests n t ++ postedTests n 77 (2 * (t + 1)) row post xs room) (omega arith)
+write-lawful : (tests : List Test) → Ordered 1 tests → (line part : List ℕ)
+    → WriteLawful tests line part (writtenAs (first tests) line) (partAs (first tests) line part)
+write-lawful tests o line part =
+    let answer = keeps Written 1 tests o (record { refusal = 0; len = length line }) (notWritten (first tests)) in
+    let bytes = keeps (List ℕ) 1 tests o (overwrite 0 line part) part in
+    record {
+      refusal = decides 1 tests o;
+      untouched = λ h. (answer .untouched h, bytes .untouched h);
+      answer = answer .done;
+      line-laid = line-laid (first tests) line part;
+      rest-kept = rest-kept (first tests) line part;
+    }
 
-  pub read-decided : (s out : List ℕ) → Decides (postsTests n t ++ (5 when missized out (2 * (t + 1)) ∷ lineTests n (t + 1) s))
-  read-decided s out = decides 1 (postsTests n t ++ (5 when missized out (2 * (t + 1)) ∷ lineTests n (t + 1) s)) (omega arith)
-
--- refused: no length, and the part as it was
-pub write-untouched : (refusal : ℕ) (line part : List ℕ) → (refusal ≡ 0 → ⊥)
-    → (writtenAs refusal line ≡ notWritten refusal) × (partAs refusal line part ≡ part)
-write-untouched refusal line part h = (sym (refused refusal _ _ _ refl h), sym (refused refusal _ _ _ refl h))
-
--- refused: no letter, row or post, and the list as it was
-pub read-untouched : (refusal : ℕ) (m : Message) (out : List ℕ) → (refusal ≡ 0 → ⊥)
-    → (lineAs refusal m ≡ noLine refusal) × (listAs refusal m out ≡ out)
-read-untouched refusal m out h = (sym (refused refusal _ _ _ refl h), sym (refused refusal _ _ _ refl h))
+pub lines-lawful : LinesLawful
+unfolding lineRefusal
+lines-lawful = record {
+  write-deal = λ n t row c part.
+      write-lawful (writeDealTable n t row c (length part)) (omega arith) (text (deal row c)) part;
+  write-opening = λ n t row post xs part.
+      write-lawful (writeOpeningTable n t row post xs (length part)) (omega arith) (text (opening row post xs)) part;
+  write-masks = λ n t row post xs part.
+      write-lawful (writeMasksTable n t row post xs (length part)) (omega arith) (text (masks row post xs)) part;
+  read-answer = λ n t s out.
+      let m = message (t + 1) s in
+      keeps Line 1 (readTable n t s out) (omega arith) (record { refusal = 0; letter = m .letter; row = m .row; post = m .post })
+      (noLine (first (readTable n t s out)));
+  read-list = λ n t s out.
+      keeps (List ℕ) 1 (readTable n t s out) (omega arith) (padded (length out) (message (t + 1) s .numbers)) out;
+}

@@ -1,3 +1,5 @@
 pub mod Order
 pub mod Writing
 pub mod Reading
+pub mod Table
+pub mod Claims

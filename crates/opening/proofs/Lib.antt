@@ -4,3 +4,4 @@ pub mod Fronts
 pub mod Opens
 pub mod Theorems
 pub mod Accepted
+pub mod Tables

@@ -21,6 +21,7 @@ use Rattle.session.proofs.RowLaws.{length-row}
 use Rattle.opening.specs.declared.Opened.{Opened}
 use Rattle.opening.specs.Walking.{recordLength, badRecord, tooFew, opened, openedRow, Openable}
 use Rattle.opening.specs.Opening.{ownChecks, openChecks, openRefusal, openAnswer}
+use Rattle.opening.proofs.Walks.{orNine, opened-or-nine}
 
 -- 1 to 5: a record's length does not wrap
 pub record-small : (s : Session) (rows : List ℕ) (f : ℕ) → f ≡ first (frameTests s rows) → f ≡ 0
@@ -87,12 +88,13 @@ module _ (s : Session) (rows : List ℕ) (r : ℕ) (blocks : List ℕ) where
         → holding (o .refusal) (o .value) s ≡ openAnswer s rows r blocks
     unfolding openRefusal outcome
     open-walked z x same o h =
-        ap (λ (y : Opened). holding (y .refusal) (y .value) s) (h ∙ ap (λ (l : List ℕ). openedRow s l blocks) same)
+        ap (λ (y : Opened). holding (y .refusal) (y .value) s)
+        (h ∙ ap (λ (l : List ℕ). openedRow s l blocks) same ∙ opened-or-nine s row blocks)
         ∙ go (tooFew s row blocks)
         ∙ ap (λ (k : ℕ). answer k (opened s row blocks) s s) (went-on (openChecks s rows r blocks) few tt f e (first few) z refl)
       where
         found : Bool → Opened
-        found b = outcome (first (9 when b ∷ [])) (record { refusal = 0; value = opened s row blocks }) (record { refusal = 9; value = 0 })
+        found b = orNine b (opened s row blocks)
 
         go : (b : Bool) → holding (found b .refusal) (found b .value) s ≡ answer (first (9 when b ∷ [])) (opened s row blocks) s s
         go true = refl

@@ -1,5 +1,4 @@
--- An opening keeps to the law of every call: refusal 0 exactly when no condition of document 01's table applies, otherwise
--- the smallest number that does; session and rows are never changed. And what it answers where only 9 is left to decide.
+-- An opening keeps to the law of every call, and what it answers where only 9 is left to decide.
 use Prim.Native.Nat.{ℕ, zero, suc}
 use mathlib.Core.Path.{_≡_, refl, sym, subst}
 use mathlib.Core.Bool.{true, false}
@@ -14,25 +13,21 @@ use Rattle.session.specs.Law.{Lawful}
 use Rattle.session.proofs.Lawful.{lawful}
 use Rattle.session.proofs.Endings.{refused-answer, accepted-answer}
 use Rattle.opening.specs.Walking.{tooFew, opened}
-use Rattle.opening.specs.Opening.{openChecks, openTests, openRefusal, openAnswer}
+use Rattle.opening.specs.Opening.{openChecks, openRefusal, openAnswer}
 use Rattle.opening.specs.Table.{openTable}
+use Rattle.opening.specs.Claims.{OpeningLawful}
 
 kept : (k : ℕ) (l : List ℕ) → outcome k l l ≡ l
 unfolding outcome
 kept zero l = refl
 kept (suc k) l = refl
 
-pub open-lawful : (s : Session) (rows : List ℕ) (r : ℕ) (blocks : List ℕ)
-    → Lawful (openTests s rows r blocks) (opened s (rowAt (width s) rows r) blocks) s s rows rows (openAnswer s rows r blocks) rows
+pub opening-lawful : OpeningLawful
 unfolding openRefusal
-open-lawful s rows r blocks =
+opening-lawful s rows r blocks =
     let number = opened s (rowAt (width s) rows r) blocks in
-    subst (λ (l : List ℕ). Lawful (openTests s rows r blocks) number s s rows rows (openAnswer s rows r blocks) l)
-    (kept (first (openTests s rows r blocks)) rows) (lawful (openTests s rows r blocks) (omega arith) number s s rows rows)
-
--- the tests of an opening are document 01's table
-pub open-table : (s : Session) (rows : List ℕ) (r : ℕ) (blocks : List ℕ) → openTests s rows r blocks ≡ openTable s rows r blocks
-open-table s rows r blocks = refl
+    subst (λ (l : List ℕ). Lawful (openTable s rows r blocks) number s s rows rows (openAnswer s rows r blocks) l)
+    (kept (first (openTable s rows r blocks)) rows) (lawful (openTable s rows r blocks) (omega arith) number s s rows rows)
 
 -- 1 to 8 refuse nothing, and fewer than t+1 are accepted: 9
 pub open-nine : (s : Session) (rows : List ℕ) (r : ℕ) (blocks : List ℕ) → first (openChecks s rows r blocks) ≡ 0

@@ -10,11 +10,12 @@ use lib.Dec.{ltb}
 use lib.ListN.{length, take, set, length-set, length-map}
 use lib.Seq.{take-suc-set, length-take-le}
 use Rattle.poly.specs.Interpolation.{interpolated}
-use Rattle.refusal.specs.Refusal.{outcome}
+use Rattle.refusal.specs.Refusal.{_when_, first, outcome}
 use Rattle.session.specs.declared.Session.{Session}
 use Rattle.opening.specs.declared.Walk.{Walk}
 use Rattle.opening.specs.declared.Walk.the-variants.{Enough, TooFew}
-use Rattle.opening.specs.Walking.{walk, walkEnd, accepts, share, acceptedPosts, opened, settled, openedRow, Openable, WalkedAs}
+use Rattle.opening.specs.declared.Opened.{Opened}
+use Rattle.opening.specs.Walking.{walk, walkEnd, accepts, share, acceptedPosts, outcomeOf, settled, tooFew, opened, openedRow, Openable, WalkedAs}
 
 -- one post
 module _ (test : ℕ → Bool) (j k need : ℕ) where
@@ -227,21 +228,36 @@ end-counts test j (suc k) (suc need) = go (test j) (end-counts test (suc j) k ne
     go true h g = one-more (walkEnd test (suc j) k need) (length (walk test (suc j) k need)) h
     go false h g = g
 
+counted : (s : Session) (row blocks : List ℕ) → Counted (outcomeOf s row blocks) (length (acceptedPosts s row blocks)) (s .t + 1)
+counted s row blocks = end-counts (accepts s row blocks) 1 (s .n) (s .t + 1)
+
 -- what the walk hands on settles the opening
 pub walk-settles : (s : Session) (row blocks : List ℕ) (end : Walk) (posts shares : List ℕ) → WalkedAs s row blocks end posts shares
     → settled end (interpolated (take (s .t + 1) posts) (take (s .t + 1) shares) 0) ≡ openedRow s row blocks
-unfolding opened outcome
+unfolding opened
 walk-settles s row blocks end posts shares w =
-    go end (rw (w .ended) (end-counts (accepts s row blocks) 1 (s .n) (s .t + 1)))
+    go end (rw (w .ended) (counted s row blocks)) ∙ ap (λ (e : Walk). settled e (opened s row blocks)) (w .ended)
   where
-    found : List ℕ
-    found = acceptedPosts s row blocks
+    go : (e : Walk) → Counted e (length (acceptedPosts s row blocks)) (s .t + 1)
+        → settled e (interpolated (take (s .t + 1) posts) (take (s .t + 1) shares) 0) ≡ settled e (opened s row blocks)
+    go (Enough j) h = rw (← h, w .posts-are, w .shares-are, h)
+    go TooFew h = refl
 
-    go : (e : Walk) → Counted e (length found) (s .t + 1)
-        → settled e (interpolated (take (s .t + 1) posts) (take (s .t + 1) shares) 0) ≡ openedRow s row blocks
+-- the opening of a row, by the test of 9
+abbrev pub orNine : Bool → ℕ → Opened
+orNine few v = outcome (first (9 when few ∷ [])) (record { refusal = 0; value = v }) (record { refusal = 9; value = 0 })
+
+pub opened-or-nine : (s : Session) (row blocks : List ℕ) → openedRow s row blocks ≡ orNine (tooFew s row blocks) (opened s row blocks)
+unfolding outcome
+opened-or-nine s row blocks = go (outcomeOf s row blocks) (counted s row blocks)
+  where
+    accepted : ℕ
+    accepted = length (acceptedPosts s row blocks)
+
+    go : (e : Walk) → Counted e accepted (s .t + 1) → settled e (opened s row blocks) ≡ orNine (tooFew s row blocks) (opened s row blocks)
     go (Enough j) h =
-        let enough : ltb (length found) (s .t + 1) ≡ false = le-ltb (length found) (s .t + 1) (omega arith) in
-        rw (← h, w .posts-are, w .shares-are, h, enough)
+        let enough : ltb accepted (s .t + 1) ≡ false = le-ltb accepted (s .t + 1) (omega arith) in
+        rw enough
     go TooFew h =
-        let few : ltb (length found) (s .t + 1) ≡ true = lt-ltb (length found) (s .t + 1) h in
+        let few : ltb accepted (s .t + 1) ≡ true = lt-ltb accepted (s .t + 1) h in
         rw few

@@ -1,3 +1,4 @@
 pub mod Walking
 pub mod Opening
 pub mod Table
+pub mod Claims

@@ -1,6 +1,7 @@
--- Document 01's table, line by line, for an opening: one flat list of numbered tests. proofs/Theorems.antt shows that the call's
+-- Document 01's table, line by line, for an opening: one flat list of numbered tests. proofs/Tables.antt shows that the call's
 -- own tests, made of groups that calls share, are this list.
 use Prim.Native.Nat.{ℕ, _*_, _-_}
+use mathlib.Core.Path.{_≡_}
 use mathlib.Core.List.{List, [], _∷_}
 use Rattle.refusal.specs.Refusal.{Test, _when_}
 use Rattle.refusal.specs.Conditions.{outside, missized, anyBeyond, badPoint}
@@ -8,6 +9,7 @@ use Rattle.session.specs.declared.Session.{Session}
 use Rattle.session.specs.Rows.{width, rowAt}
 use Rattle.session.specs.Checks.{noRow, unlike}
 use Rattle.opening.specs.Walking.{recordLength, badRecord, tooFew}
+use Rattle.opening.specs.Opening.{openTests}
 
 abbrev pub openTable : Session → List ℕ → ℕ → List ℕ → List Test
 openTable s rows r blocks =
@@ -23,3 +25,6 @@ openTable s rows r blocks =
     ∷ 8 when badRecord s blocks
     ∷ 9 when tooFew s (rowAt (width s) rows r) blocks
     ∷ []
+
+abbrev pub OpeningTable : Type 0
+OpeningTable = (s : Session) (rows : List ℕ) (r : ℕ) (blocks : List ℕ) → openTests s rows r blocks ≡ openTable s rows r blocks

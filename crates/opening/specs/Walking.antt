@@ -9,7 +9,6 @@ use lib.ListN.{length, take, drop, getD}
 use Rattle.field.specs.Arithmetic.{difference}
 use Rattle.poly.specs.Polynomial.{value}
 use Rattle.poly.specs.Interpolation.{interpolated}
-use Rattle.refusal.specs.Refusal.{_when_, first, outcome}
 use Rattle.refusal.specs.Conditions.{or, anyBeyond}
 use Rattle.session.specs.declared.Session.{Session}
 use Rattle.session.specs.Rows.{width, coefficients, checkValue, publicSum}
@@ -42,8 +41,8 @@ badBlocks s blocks j (suc k) = or (badBlock s blocks j) (badBlocks s blocks (suc
 abbrev pub badRecord : Session → List ℕ → Bool
 badRecord s blocks = badBlocks s blocks 1 (s .n)
 
--- "For its own number the post takes the coefficients in its own row, otherwise the block of the record (an empty part for an
--- absent block)"
+-- "For its own number the post takes the coefficients in its own row, otherwise the block of the record"; "an empty part for an
+-- absent block"
 unfoldable pub sent : Session → List ℕ → List ℕ → ℕ → List ℕ
 sent s row blocks j =
     cond (eqb j (s .post)) (coefficients s row)
@@ -76,6 +75,9 @@ walkEnd test j zero (suc need) = TooFew
 walkEnd test j (suc k) (suc need) =
     elim (test j) [ true ↦ walkEnd test (suc j) k need | false ↦ walkEnd test (suc j) k (suc need) ]
 
+abbrev pub outcomeOf : Session → List ℕ → List ℕ → Walk
+outcomeOf s row blocks = walkEnd (accepts s row blocks) 1 (s .n) (s .t + 1)
+
 -- What each outcome is in document 01: the number that was found, or 9 with 0 for a value.
 abbrev pub settled : Walk → ℕ → Opened
 settled (Enough j) value = record { refusal = 0; value = value }
@@ -92,17 +94,15 @@ opened s row blocks =
 
 -- What the walk hands on: its outcome, and the accepted posts and their shares at the start of two lists.
 pub record WalkedAs (s : Session) (row blocks : List ℕ) (end : Walk) (posts shares : List ℕ) : Type 0 where
-  pub ended : end ≡ walkEnd (accepts s row blocks) 1 (s .n) (s .t + 1)
+  pub ended : end ≡ outcomeOf s row blocks
   pub posts-are : take (length (acceptedPosts s row blocks)) posts ≡ acceptedPosts s row blocks
   pub shares-are : take (length (acceptedPosts s row blocks)) shares ≡ map (share s row blocks) (acceptedPosts s row blocks)
   pub posts-room : length posts ≡ 32
   pub shares-room : length shares ≡ 32
 
--- An opening's number, or 9.
+-- An opening's number, or 9, as the walk ends.
 abbrev pub openedRow : Session → List ℕ → List ℕ → Opened
-openedRow s row blocks =
-    outcome (first (9 when tooFew s row blocks ∷ [])) (record { refusal = 0; value = opened s row blocks })
-    (record { refusal = 9; value = 0 })
+openedRow s row blocks = settled (outcomeOf s row blocks) (opened s row blocks)
 
 -- What the walk goes by: a row and a record of the stated lengths, and room for the posts.
 pub record Openable (s : Session) (row blocks : List ℕ) : Type 0 where

@@ -11,9 +11,10 @@ use Rattle.field.specs.Element.{Element, element}
 use Rattle.field.proofs.Expression.{A, B, C, D, 𝟘, _:+_, _:*_, Same}
 use Rattle.field.proofs.Solver.{solve}
 use Rattle.field.proofs.Elements.{elements, 𝓡, element-zero, element-one, element-sum, element-product, element-difference, element-inverse, element-injective}
-use Rattle.poly.specs.Polynomial.{value, powersFrom, powers, weighted}
+use Rattle.poly.specs.Polynomial.{value, elementValue, powersFrom, powers, weighted}
 use Rattle.poly.specs.Interpolation.{nodal, weight, terms, interpolated}
 use Rattle.poly.specs.Counting.{All, Distinct, Elements}
+use Rattle.poly.specs.Claims.{ElementsValue, WeightedPowers}
 use Rattle.poly.proofs.Bounds.{value-below, weighted-below}
 use Rattle.poly.proofs.Coefficients.{ev, nodalAt}
 use Rattle.poly.proofs.Lagrange.{termsAt}
@@ -32,6 +33,15 @@ element-value (c ∷ cs) x =
     ∙ ap (λ (z : Element). element c ⊕ z)
     (element-product x (value cs x) ∙ ap (λ (z : Element). element x ⊗ z) (element-value cs x))
 
+-- the value over any ring, at the elements' ring
+pub value-elements : (cs : List Element) (x : Element) → ev 𝓡 cs x ≡ elementValue cs x
+unfolding ev
+value-elements [] x = refl
+value-elements (c ∷ cs) x = ap (λ (z : Element). c ⊕ x ⊗ z) (value-elements cs x)
+
+pub elements-value : ElementsValue
+elements-value cs x = element-value cs x ∙ value-elements (toElements cs) (element x)
+
 -- the sum of products with the powers of x is the value at x
 element-weighted : (cs : List ℕ) (y x k : ℕ) → length cs ≤ k
     → element (weighted cs (powersFrom y x k)) ≡ element y ⊗ ev 𝓡 (toElements cs) (element x)
@@ -47,7 +57,7 @@ element-weighted (c ∷ cs) y x (suc k) h =
     rest : Element
     rest = ev 𝓡 (toElements cs) (element x)
 
-pub weighted-powers : (cs : List ℕ) (x k : ℕ) → length cs ≤ k → weighted cs (powers x k) ≡ value cs x
+pub weighted-powers : WeightedPowers
 unfolding Same
 weighted-powers cs x k h =
     element-injective (weighted cs (powers x k)) (value cs x) (weighted-below cs (powers x k)) (value-below cs x)

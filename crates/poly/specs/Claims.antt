@@ -1,13 +1,22 @@
 -- What is claimed of polynomials over the p elements, for any number of coefficients and any nodes; proved in
--- proofs/Theorems.antt. Demand 2 stands on these.
+-- proofs/Theorems.antt and proofs/Numbers.antt. Demand 2 stands on these.
 use Prim.Native.Nat.{ℕ, _+_, _≤_, _<_}
 use mathlib.Core.Path.{_≡_}
 use mathlib.Core.Logic.{_≢_}
 use mathlib.Core.List.{List, map}
 use lib.ListN.{length}
-use Rattle.poly.specs.Polynomial.{value}
+use Rattle.field.specs.Element.{element}
+use Rattle.poly.specs.Polynomial.{value, elementValue, powers, weighted}
 use Rattle.poly.specs.Interpolation.{interpolated}
 use Rattle.poly.specs.Counting.{All, Distinct, Elements, agreements}
+
+-- The value of numbers is the value of the elements that they stand for.
+abbrev pub ElementsValue : Type 0
+ElementsValue = (cs : List ℕ) (x : ℕ) → element (value cs x) ≡ elementValue (map element cs) (element x)
+
+-- The value from the powers of the point, at least as many as there are coefficients.
+abbrev pub WeightedPowers : Type 0
+WeightedPowers = (cs : List ℕ) (x k : ℕ) → length cs ≤ k → weighted cs (powers x k) ≡ value cs x
 
 -- At most m - 1 distinct roots, unless all m coefficients are 0.
 abbrev pub FewRoots : Type 0

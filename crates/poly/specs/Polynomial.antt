@@ -2,11 +2,17 @@
 use Prim.Native.Nat.{ℕ, zero, suc}
 use mathlib.Core.List.{List, [], _∷_}
 use Rattle.field.specs.Arithmetic.{sum, product}
+use Rattle.field.specs.Element.{Element, _⊕_, _⊗_, 0ᴱ}
 
 -- The value of a polynomial at a point.
 unfoldable pub value : List ℕ → ℕ → ℕ
 value [] x = 0
 value (c ∷ cs) x = sum c (product x (value cs x))
+
+-- The same of elements.
+abbrev pub elementValue : List Element → Element → Element
+elementValue [] x = 0ᴱ
+elementValue (c ∷ cs) x = c ⊕ x ⊗ elementValue cs x
 
 -- y, y x, y x², .., k numbers
 unfoldable pub powersFrom : ℕ → ℕ → ℕ → List ℕ

@@ -5,3 +5,4 @@ pub mod Finishing
 pub mod Openings
 pub mod Sums
 pub mod Theorems
+pub mod Tables

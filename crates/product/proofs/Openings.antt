@@ -17,6 +17,7 @@ use Rattle.session.proofs.Endings.{refused-answer, accepted-answer}
 use Rattle.session.proofs.Calls.{allowed}
 use Rattle.opening.specs.declared.Opened.{Opened}
 use Rattle.opening.specs.Walking.{tooFew, opened, openedRow}
+use Rattle.opening.proofs.Walks.{orNine, opened-or-nine}
 use Rattle.product.specs.declared.OpenedMasks.{OpenedMasks}
 use Rattle.product.specs.Finish.{maskA, maskB, finishPlace, finishOwn, finishChecks, tooFewOf, found, openedBoth, openedMasks, finishRefusal, withProduct, finishAnswer, finishRows}
 use Rattle.product.proofs.Differences.{start}
@@ -29,16 +30,13 @@ pub mask-opened : (s : Session) (row made blocks : List ℕ) (w : ℕ) (o : Open
     → o ≡ openedRow s (take (w - 0) (drop 0 made)) blocks → o ≡ openedRow s row blocks
 mask-opened s row made blocks w o ew em eo = eo ∙ ap (λ (z : List ℕ). openedRow s z blocks) (start s row made w ew em)
 
-abbrev one : Bool → ℕ → Opened
-one b v = outcome (first (9 when b ∷ [])) (record { refusal = 0; value = v }) (record { refusal = 9; value = 0 })
-
-nines : (b b' : Bool) (v v' : ℕ) → orElse (one b v .refusal) (one b' v' .refusal) ≡ first (9 when b ∷ 9 when b' ∷ [])
+nines : (b b' : Bool) (v v' : ℕ) → orElse (orNine b v .refusal) (orNine b' v' .refusal) ≡ first (9 when b ∷ 9 when b' ∷ [])
 unfolding outcome
 nines true b' v v' = refl
 nines false true v v' = refl
 nines false false v v' = refl
 
-values : (b b' : Bool) (v v' : ℕ) → first (9 when b ∷ 9 when b' ∷ []) ≡ 0 → (one b v .value ≡ v) × (one b' v' .value ≡ v')
+values : (b b' : Bool) (v v' : ℕ) → first (9 when b ∷ 9 when b' ∷ []) ≡ 0 → (orNine b v .value ≡ v) × (orNine b' v' .value ≡ v')
 unfolding outcome
 values true b' v v' e = absurd (omega arith)
 values false true v v' e = absurd (omega arith)
@@ -47,10 +45,16 @@ values false false v v' e = (refl, refl)
 -- both, from what the two openings gave
 module _ (s : Session) (x x' l l' : List ℕ) (o o' : Opened) (q : ℕ) (e : o ≡ openedRow s x l) (e' : o' ≡ openedRow s x' l')
     (eq : q ≡ orElse (o .refusal) (o' .refusal)) where
+  first-is : o ≡ orNine (tooFew s x l) (opened s x l)
+  first-is = e ∙ opened-or-nine s x l
+
+  second-is : o' ≡ orNine (tooFew s x' l') (opened s x' l')
+  second-is = e' ∙ opened-or-nine s x' l'
+
   few : q ≡ first (tooFewOf s x x' l l')
   few =
       eq
-      ∙ ap₂ (λ (a b : Opened). orElse (a .refusal) (b .refusal)) e e'
+      ∙ ap₂ (λ (a b : Opened). orElse (a .refusal) (b .refusal)) first-is second-is
       ∙ nines (tooFew s x l) (tooFew s x' l') (opened s x l) (opened s x' l')
 
   pub both-refused : (q ≡ 0 → ⊥) → shown q 0 0 ≡ openedBoth s x x' l l'
@@ -63,7 +67,7 @@ module _ (s : Session) (x x' l l' : List ℕ) (o o' : Opened) (q : ℕ) (e : o �
       let h = values (tooFew s x l) (tooFew s x' l') (opened s x l) (opened s x' l') (rw few at z) in
       accepted q (first (tooFewOf s x x' l l')) (shown 0 (o .value) (o' .value)) (shown 0 (opened s x l) (opened s x' l'))
       (shown (first (tooFewOf s x x' l l')) 0 0) few z
-      (ap₂ (shown 0) (ap (λ (a : Opened). a .value) e ∙ h .0) (ap (λ (a : Opened). a .value) e' ∙ h .1))
+      (ap₂ (shown 0) (ap (λ (a : Opened). a .value) first-is ∙ h .0) (ap (λ (a : Opened). a .value) second-is ∙ h .1))
 
 found-refusal : (k y z : ℕ) → found k y z .refusal ≡ k
 unfolding outcome

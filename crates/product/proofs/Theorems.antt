@@ -1,30 +1,21 @@
--- The calls of this crate keep to the law of every call: refusal 0 exactly when no condition of document 01's table applies,
--- otherwise the smallest number that does, with session and lists as they came.
-use Prim.Native.Nat.{ℕ, _+_}
-use mathlib.Core.List.{List}
+-- The calls of this crate keep to the law of every call.
+use Prim.Native.Nat.{_+_}
 use native.Mathlib.Omega.{arith}
 use borrow.Author.Needs.{needs}
-use Rattle.session.specs.declared.Session.{Session}
 use Rattle.session.specs.Sessions.{marked, remembering}
-use Rattle.session.specs.Law.{Lawful}
 use Rattle.session.proofs.Lawful.{lawful}
 use Rattle.opening.specs.Walking.{opened}
-use Rattle.product.specs.Masks.{masksTests, masksRefusal, masksAnswer, maskNumbersOf, masksOut}
-use Rattle.product.specs.Finish.{maskA, maskB, finishTests, finishRefusal, finishAnswer, withProduct, finishRows}
+use Rattle.product.specs.Masks.{masksRefusal, maskNumbersOf}
+use Rattle.product.specs.Finish.{maskA, maskB, finishRefusal, withProduct}
+use Rattle.product.specs.Table.{masksTable, finishTable}
+use Rattle.product.specs.Claims.{ProductLawful}
 
-module _ (s : Session) (rows : List ℕ) (r : ℕ) where
-  pub masks-lawful : (a b : ℕ) (out : List ℕ)
-      → Lawful (masksTests s rows a b r out) 0 (remembering (marked s r 5) r a b) s (maskNumbersOf s rows a b r) out
-      (masksAnswer s rows a b r out) (masksOut s rows a b r out)
-  unfolding masksRefusal
-  masks-lawful a b out =
-      lawful (masksTests s rows a b r out) (omega arith) 0 (remembering (marked s r 5) r a b) s (maskNumbersOf s rows a b r) out
-
-  pub finish-lawful : (l l' : List ℕ)
-      → Lawful (finishTests s rows r l l') 0 (marked (marked (marked s r 6) (r + 1) 6) (r + 2) 2) s
-      (withProduct s (opened s (maskA s rows r) l) (opened s (maskB s rows r) l') r rows) rows
-      (finishAnswer s rows r l l') (finishRows s rows r l l')
-  unfolding finishRefusal
-  finish-lawful l l' =
-      lawful (finishTests s rows r l l') (search needs) 0 (marked (marked (marked s r 6) (r + 1) 6) (r + 2) 2) s
-      (withProduct s (opened s (maskA s rows r) l) (opened s (maskB s rows r) l') r rows) rows
+pub product-lawful : ProductLawful
+unfolding masksRefusal finishRefusal
+product-lawful = record {
+  masks = λ s rows a b r out.
+      lawful (masksTable s rows a b r out) (omega arith) 0 (remembering (marked s r 5) r a b) s (maskNumbersOf s rows a b r) out;
+  finish = λ s rows r blocks blocks'.
+      lawful (finishTable s rows r blocks blocks') (search needs) 0 (marked (marked (marked s r 6) (r + 1) 6) (r + 2) 2) s
+      (withProduct s (opened s (maskA s rows r) blocks) (opened s (maskB s rows r) blocks') r rows) rows;
+}

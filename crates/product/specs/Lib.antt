@@ -1,2 +1,4 @@
 pub mod Masks
 pub mod Finish
+pub mod Table
+pub mod Claims

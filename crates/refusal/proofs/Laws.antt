@@ -2,19 +2,15 @@
 use Prim.Native.Nat.{ℕ, zero, suc, _≤_, _<_}
 use mathlib.Core.Path.{_≡_, refl}
 use mathlib.Core.Bool.{Bool, true, false, not}
-use mathlib.Core.List.{List, [], _∷_, _++_}
+use mathlib.Core.List.{List, [], _∷_}
 use native.Mathlib.Omega.{arith}
 use native.Mathlib.Nat.{le-refl, le-trans}
 use borrow.Author.Tests.{ltb-false, eqb-true, not-false}
 use lib.Dec.{ltb, eqb}
 use Rattle.refusal.specs.Refusal.{Test, _when_, first, orElse, Applies, here, later, AllFail, Ordered}
 use Rattle.refusal.specs.Conditions.{or, outside}
-
--- no number is 0, as it is where the numbers are written out
-abbrev pub Numbered : List Test → Type 0
-Numbered [] = Unit {0}
-Numbered (zero when b ∷ ts) = ⊥
-Numbered (suc k when b ∷ ts) = Numbered ts
+use Rattle.refusal.specs.Claims.{FirstJoin}
+pub use Rattle.refusal.specs.Refusal.{Numbered}
 
 never : {k : ℕ} → suc k ≡ 0 → ⊥
 never e = omega arith
@@ -24,7 +20,7 @@ orElse-zero zero b e = (refl, e)
 orElse-zero (suc k) b e = absurd (never e)
 
 -- one law for every call: two groups joined
-pub first-join : (xs ys : List Test) → Numbered xs → first (xs ++ ys) ≡ orElse (first xs) (first ys)
+pub first-join : FirstJoin
 first-join [] ys n = refl
 first-join (zero when b ∷ xs) ys n = absurd n
 first-join (suc k when true ∷ xs) ys n = refl

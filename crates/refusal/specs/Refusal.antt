@@ -46,3 +46,15 @@ pub record Decides (ts : List Test) : Type 0 where
 abbrev pub Ordered : ℕ → List Test → Type 0
 Ordered k [] = Unit {0}
 Ordered k (j when b ∷ ts) = (k ≤ j) × (0 < j) × Ordered j ts
+
+-- No number is 0.
+abbrev pub Numbered : List Test → Type 0
+Numbered [] = Unit {0}
+Numbered (zero when b ∷ ts) = ⊥
+Numbered (suc k when b ∷ ts) = Numbered ts
+
+-- Demand 1 in one record: a call with these tests, which is to give `new`, or `old` where it is refused, gave `given`.
+pub record Keeps {A : Type 0} (tests : List Test) (new old given : A) : Type 0 where
+  pub decided : Decides tests
+  pub untouched : (first tests ≡ 0 → ⊥) → given ≡ old
+  pub done : first tests ≡ 0 → given ≡ new

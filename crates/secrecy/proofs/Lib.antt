@@ -26,4 +26,3 @@ pub mod Selections
 pub mod Listed
 pub mod Counts
 pub mod Theorems
-pub mod Example

@@ -4,5 +4,3 @@ pub mod Rules
 pub mod Book
 pub mod Claim
 pub mod Count
-pub mod Scene
-pub mod Told

@@ -6,3 +6,4 @@ pub mod Filled
 pub mod Writers
 pub mod Calls
 pub mod Lawful
+pub mod Tables

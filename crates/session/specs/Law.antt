@@ -1,6 +1,6 @@
--- Demand 1, for every call on a session: "either does its one job and ends, or returns the first refusal in document 01's
--- order, with 0 for a value, the session as it came and every lent list untouched". Each call is an instance, in its crate's
--- proofs/Theorems.antt.
+-- Demand 1, for every call on a session: it either does its one job and ends, or returns the first refusal in document 01's
+-- order, with 0 for a value, the session as it came and every lent list untouched. Each call is an instance, in its crate's
+-- specs/Claims.antt.
 use Prim.Native.Nat.{ℕ}
 use mathlib.Core.Path.{_≡_}
 use mathlib.Core.List.{List}

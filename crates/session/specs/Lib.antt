@@ -2,3 +2,5 @@ pub mod Sessions
 pub mod Rows
 pub mod Checks
 pub mod Law
+pub mod Table
+pub mod Claims

@@ -3,3 +3,4 @@ pub mod Deal
 pub mod Message
 pub mod Linear
 pub mod Table
+pub mod Claims

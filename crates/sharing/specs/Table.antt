@@ -1,12 +1,17 @@
 -- Document 01's table, line by line, for the calls of this crate: one flat list of numbered tests for each. The calls' own
 -- definitions are made of groups that they share; proofs/Tables.antt shows that they are these lists.
 use Prim.Native.Nat.{ℕ, _+_, _*_, _-_}
+use mathlib.Core.Path.{_≡_}
 use mathlib.Core.List.{List, [], _∷_}
 use Rattle.refusal.specs.Refusal.{Test, _when_}
 use Rattle.refusal.specs.Conditions.{outside, missized, beyond, anyBeyond, badPoint}
 use Rattle.session.specs.declared.Session.{Session}
 use Rattle.session.specs.Rows.{width, rowAt}
 use Rattle.session.specs.Checks.{noRow, noTriple, unlike}
+use Rattle.sharing.specs.Load.{loadRowTests, loadTripleTests}
+use Rattle.sharing.specs.Deal.{dealTests}
+use Rattle.sharing.specs.Message.{messageTests}
+use Rattle.sharing.specs.Linear.{linearTests}
 
 abbrev pub loadRowTable : Session → List ℕ → ℕ → List ℕ → List Test
 loadRowTable s rows r pack =
@@ -79,3 +84,12 @@ linearTable s rows r a b scale =
     ∷ 8 when anyBeyond (rowAt (width s) rows a)
     ∷ 8 when anyBeyond (rowAt (width s) rows b)
     ∷ []
+
+-- The calls' own tests are these.
+pub record SharingTables : Type 0 where
+  pub load-row : (s : Session) (rows : List ℕ) (r : ℕ) (pack : List ℕ) → loadRowTests s rows r pack ≡ loadRowTable s rows r pack
+  pub load-triple : (s : Session) (rows : List ℕ) (r : ℕ) (pack : List ℕ)
+      → loadTripleTests s rows r pack ≡ loadTripleTable s rows r pack
+  pub deal : (s : Session) (rows : List ℕ) (r c : ℕ) → dealTests s rows r c ≡ dealTable s rows r c
+  pub message : (s : Session) (rows : List ℕ) (r : ℕ) (out : List ℕ) → messageTests s rows r out ≡ messageTable s rows r out
+  pub linear : (s : Session) (rows : List ℕ) (r a b scale : ℕ) → linearTests s rows r a b scale ≡ linearTable s rows r a b scale

@@ -56,7 +56,7 @@ unfoldable pub fed : Running → List ℕ → Running
 fed p [] = p
 fed p (b ∷ s) = fed (taken p b) s
 
--- "The end of input without a line feed ends a line."
+-- An end of input without a line feed ends a line (how the open point is read: docs/DECISIONS.md).
 unfoldable pub closed : Running → Running
 closed p = cond (eqb (length (p .line)) 0) p (answered p)
 

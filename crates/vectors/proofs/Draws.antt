@@ -14,11 +14,10 @@ use Rattle.field.specs.Element.{Element, element}
 use Rattle.field.proofs.Expression.{A, B, 𝟘, _:+_, Same}
 use Rattle.field.proofs.Solver.{solve}
 use Rattle.field.proofs.Elements.{𝓡, element-of-number, number-below}
-use Rattle.poly.specs.Polynomial.{value}
+use Rattle.poly.specs.Polynomial.{value, elementValue}
 use Rattle.poly.specs.Counting.{Elements}
 use Rattle.poly.proofs.Bounds.{value-below}
-use Rattle.poly.proofs.Coefficients.{ev}
-use Rattle.poly.proofs.Numbers.{toElements, element-value}
+use Rattle.poly.proofs.Numbers.{toElements, elements-value}
 use Rattle.factory.specs.Draw.{polynomial, drawLength, eachFrom, sumOf, part}
 use Rattle.vectors.specs.Vector.{Vector, firsts, numbers, valueAt, checkOf, sumAt, rowOf, vectorOf}
 use Rattle.vectors.proofs.Linear.{sum-number}
@@ -35,7 +34,7 @@ unfolding valueAt
 value-numbers k a x =
     sym (number-below (value (numbers k a) x) (value-below (numbers k a) x))
     ∙ ap (λ (z : Element). z .0)
-    (element-value (numbers k a) x ∙ ap (λ (l : List Element). ev 𝓡 l (element x)) (elements-of-numbers k a))
+    (elements-value (numbers k a) x ∙ ap (λ (l : List Element). elementValue l (element x)) (elements-of-numbers k a))
 
 pub each-numbers : (j n : ℕ) (f : ℕ → ℕ) (a : ℕ → Element) → ((i : ℕ) → i < n → f (j + i) ≡ a i .0) → eachFrom j n f ≡ numbers n a
 unfolding eachFrom numbers

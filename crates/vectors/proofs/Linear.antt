@@ -11,7 +11,6 @@ use Rattle.field.proofs.Expression.{A, B, C, D, E, F, G, 𝟘, _:+_, _:*_, Same
 use Rattle.field.proofs.Solver.{solve}
 use Rattle.field.proofs.Elements.{𝓡, element-sum, element-product, element-of-number, number-below}
 use Rattle.field.proofs.Modular.{sum-below}
-use Rattle.poly.proofs.Coefficients.{ev}
 use Rattle.session.specs.Rows.{combined, plusSums}
 use Rattle.vectors.specs.Vector.{Vector, plusTimes, raised, number, firsts, numbers, valueAt, checkOf, sumAt, rowOf}
 open CommutativeRing 𝓡 using (add as _⊕_, mul as _⊗_)
@@ -38,7 +37,7 @@ length-numbers (suc k) a = ap suc (length-numbers k (λ i. a (suc i)))
 -- the value of a sum
 pub valueAt-plusTimes : (k : ℕ) (a b : ℕ → Element) (s x : Element)
     → valueAt k (λ i. a i ⊕ s ⊗ b i) x ≡ valueAt k a x ⊕ s ⊗ valueAt k b x
-unfolding valueAt firsts ev Same
+unfolding valueAt firsts Same
 valueAt-plusTimes zero a b s x = solve 𝓡 (s ∷ []) 𝟘 (𝟘 :+ A :* 𝟘) refl
 valueAt-plusTimes (suc k) a b s x =
     ap (λ (z : Element). a 0 ⊕ s ⊗ b 0 ⊕ x ⊗ z) (valueAt-plusTimes k (λ i. a (suc i)) (λ i. b (suc i)) s x)

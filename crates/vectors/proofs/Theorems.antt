@@ -20,7 +20,6 @@ use Rattle.field.proofs.Modular.{sum-below, difference-below}
 use Rattle.poly.specs.Polynomial.{value}
 use Rattle.poly.specs.Interpolation.{interpolated}
 use Rattle.poly.specs.Counting.{All, Elements}
-use Rattle.poly.proofs.Coefficients.{ev}
 use Rattle.poly.proofs.Lists.{all-map}
 use Rattle.poly.proofs.Theorems.{interpolation-is-exact}
 use Rattle.session.specs.declared.Session.{Session}
@@ -93,12 +92,12 @@ shareOf S zero = S .f 0 ⊕ S .c
 shareOf S (suc i) = S .f (suc i)
 
 valueAt-share : (k : ℕ) (S : Vector) (x : Element) → valueAt (suc k) (shareOf S) x ≡ valueAt (suc k) (S .f) x ⊕ S .c
-unfolding valueAt firsts ev shareOf Same
+unfolding valueAt firsts shareOf Same
 valueAt-share k S x =
     solve 𝓡 (S .f 0 ∷ S .c ∷ x ∷ valueAt k (λ i. S .f (suc i)) x ∷ []) (A :+ B :+ C :* D) (A :+ C :* D :+ B) refl
 
 valueAt-zero : (k : ℕ) (a : ℕ → Element) → valueAt (suc k) a (element 0) ≡ a 0
-unfolding valueAt firsts ev Same
+unfolding valueAt firsts Same
 valueAt-zero k a =
     ap (λ (z : Element). a 0 ⊕ z ⊗ rest) element-zero ∙ solve 𝓡 (a 0 ∷ rest ∷ []) (A :+ 𝟘 :* B) A refl
   where

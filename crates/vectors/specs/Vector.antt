@@ -3,14 +3,9 @@
 use Prim.Native.Nat.{ℕ, zero, suc, _+_, _*_}
 use mathlib.Core.List.{List, [], _∷_, _++_}
 use lib.ListN.{getD}
-use Rattle.field.specs.Algebra.{CommutativeRing}
-use Rattle.field.specs.Element.{Element, element}
-use Rattle.field.proofs.Elements.{𝓡}
-use Rattle.poly.proofs.Coefficients.{ev}
-open CommutativeRing 𝓡 using (add as _⊕_, mul as _⊗_, zero as 0ᴱ)
+use Rattle.field.specs.Element.{Element, element, _⊕_, _⊗_, 0ᴱ}
+use Rattle.poly.specs.Polynomial.{elementValue}
 
-infixl 65 _⊕_
-infixl 70 _⊗_
 pub record Vector : Type 0 where
   pub c : Element
   pub f : ℕ → Element
@@ -40,7 +35,7 @@ numbers (suc k) a = a 0 .0 ∷ numbers k (λ i. a (suc i))
 
 -- the value of the polynomial with the k coefficients a
 unfoldable pub valueAt : ℕ → (ℕ → Element) → Element → Element
-valueAt k a x = ev 𝓡 (firsts k a) x
+valueAt k a x = elementValue (firsts k a) x
 
 -- check value and public sum of post j + 1
 abbrev pub checkOf : ℕ → Element → Vector → ℕ → Element

@@ -3,12 +3,11 @@
 
 mod common;
 
-use std::env;
 use std::io::Write;
 use std::process::{Command, Stdio};
 use std::thread;
 
-use common::seeds;
+use common::{seeds, street_program};
 use reference::random::{compare_street, street_input};
 use reference::{Library, REFERENCE};
 
@@ -30,9 +29,7 @@ fn printed(program: &str, input: &[u8]) -> Vec<u8> {
 
 #[test]
 fn random_inputs_through_both_programs() {
-    let Ok(program) = env::var("GANTSOROL_STREET") else {
-        panic!("GANTSOROL_STREET names the street program (.ci/run sets it)");
-    };
+    let program = street_program();
     for seed in seeds(1_500) {
         // now and then far more than one chunk of 4,096 bytes
         let length = if seed % 50 == 0 { 2_000 } else { 60 };

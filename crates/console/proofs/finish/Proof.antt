@@ -1,12 +1,15 @@
+-- `finish` closes the input, unless the program broke off.
 use borrow.Author.Needs.{needs}
-use Rattle.console.proofs.Turns.{last-in, last-closed, finish-failed, finish-closed}
+use Rattle.station.proofs.Hearing.{prefix-length}
+use Rattle.console.proofs.Closing.{finished-broken, unbroken-whole, last-in, finished-closed}
 use Rattle.console.proofs.finish.Statement.{statement}
 use Rattle.console.proofs.finish.Tie as tie
 
-ruleset ends = (needs, last-in, last-closed, finish-failed, finish-closed)
+ruleset ends = (needs, prefix-length, finished-broken, unbroken-whole, last-in, finished-closed)
 
 pub finish-spec : {M : Type 1} → statement M
 finish-spec =
     tie.close
-    (tie.spec (λ c. search ends) (λ c κs. search ends) (λ c κs. search ends) (λ c. search ends) (λ c. search ends)
-    (λ c. search ends) (λ c. search ends))
+    (tie.spec (λ c κs. search needs) (λ c. search ends) (λ c κs. search needs)
+    (λ c. search ends) (λ c. search ends) (λ c κs. search ends) (λ c. search needs) (λ c. search needs) (λ c. search needs)
+    (λ c. search ends))

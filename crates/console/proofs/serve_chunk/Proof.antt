@@ -1,19 +1,32 @@
+-- `serve_chunk` answers the bytes that the read left at the start of the chunk.
 use borrow.Author.Needs.{needs}
-use Rattle.console.proofs.Turns.{open-idle, handed-none, handed-some}
+use Rattle.console.proofs.Feeding.{part-small, part-counted, answered-read}
 use Rattle.console.proofs.serve_chunk.Statement.{statement}
 use Rattle.console.proofs.serve_chunk.Tie as tie
 
-ruleset ends = (needs, open-idle, handed-none, handed-some)
+ruleset ends = (needs, part-small, part-counted, answered-read)
 
--- what the function requires lies too deep for `search` to find
+lends : tie.Need-slice-aggregate-answer-chunk
+lends c = search ends
+
+requires : tie.Need-answer-chunk-requires
+requires c κs =
+    let read = c .before .before .before .before .before .before .before .before in
+    let start = read .before .before .before .before .before .before .before in
+    (start .pre .0, part-small (c .before .before .before .before .before .count .result) _ (read .read .last .1 .0) (search (needs, start .pre)), start .pre .2)
+
 returns : tie.Need-returns
 returns c =
-    let start = c .before .before .before .before .before .before .before .before .before in
-    (search (ends, start .pre), search (ends, start .pre))
+    let called = c .before .before .before .before .before .before .before .before .before .before in
+    let counted = called .before .before .before .before .before .before in
+    let read = counted .before .before .before in (
+      answered-read _ _ (counted .count .result) (read .read .result .count) (read .read .last .1 .0) _ _ _ (counted .count .ensures)
+          (called .answer-chunk .ensures .0),
+      search (ends, called .answer-chunk .ensures, read .read .ensures),
+    )
 
 pub serve-chunk-spec : {M : Type 1} → statement M
 serve-chunk-spec =
     tie.close
-    (tie.spec (λ c κs. search ends) (λ c. search ends) (λ c κs. search ends) returns (λ c. search ends)
-    (λ c κs. search ends) (λ c. search ends) (λ c. search ends) (λ c κs. search ends) (λ c. search ends)
-    (λ c. search ends) (λ c. search ends) (λ c. search ends) (λ c. (search ends, search ends)))
+    (tie.spec (λ c κs. search needs) (λ c κs. search needs) (λ c. search needs) lends requires
+    (λ c. search needs) (λ c. search needs) (λ c. search needs) (λ c. search needs) (λ c. search needs) returns)

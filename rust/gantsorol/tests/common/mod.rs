@@ -19,6 +19,12 @@ pub fn seeds(count: u64) -> Range<u64> {
     first..first.checked_add(count).expect("GANTSOROL_SEED + GANTSOROL_CASES is below 2^64")
 }
 
+/// The street program, proved and built by the gate.
+pub fn street_program() -> String {
+    env::var("GANTSOROL_STREET")
+        .unwrap_or_else(|_| panic!("GANTSOROL_STREET names the street program (.ci/run sets it)"))
+}
+
 fn from_environment<T: FromStr>(name: &str) -> Option<T> {
     let text = env::var(name).ok()?;
     match text.parse() {

@@ -1,0 +1,78 @@
+-- What was read and printed: for a chunk, up to the last chunk, and at the end.
+use Prim.Native.Nat.{ℕ, _+_, _≤_, _<_}
+use mathlib.Core.Path.{_≡_}
+use mathlib.Core.Bool.{Bool, true, false, not, cond}
+use mathlib.Core.List.{List, [], _∷_, _++_}
+use lib.ListN.{length, take, replicate}
+use lib.Dec.{eqb}
+use Rattle.transcript.specs.Text.{header}
+use Rattle.transcript.specs.Lines.{keptLength}
+use Rattle.transcript.specs.Program.{Running, fed, closed, drained, passed, printedFor, joined, output, begun}
+use Rattle.console.specs.declared.Served.{Served}
+use Rattle.console.specs.declared.port.Printed.{Printed}
+use Rattle.console.specs.Sizes.{chunkSize, answersRoom, allTurns, wrapped}
+
+-- The lent lists before the first chunk.
+pub record Fresh (rows blocks line chunk out : List ℕ) : Type 0 where
+  pub rows-zero : rows ≡ replicate 9216 0
+  pub blocks-zero : blocks ≡ replicate 1056 0
+  pub line-room : length line ≡ keptLength
+  pub chunk-room : length chunk ≡ chunkSize
+  pub out-room : length out ≡ answersRoom
+
+-- The header was printed, and taken.
+pub record Begun (p : Printed) : Type 0 where
+  pub total-is : p .total ≡ length header
+  pub whole-is : p .whole ≡ true
+
+-- These answers stand at the list's start, and that many bytes were handed to standard output behind those before.
+pub record Handed (answers out : List ℕ) (before after : Printed) : Type 0 where
+  pub first : take (length answers) out ≡ answers
+  pub count : after .total ≡ wrapped (before .total + length answers)
+
+-- A chunk was taken, and its answers printed.
+pub record Answered (p q : Running) (chunk out : List ℕ) (before after : Printed) : Type 0 where
+  pub taken : q ≡ drained (fed p chunk)
+  pub handed : Handed (fed p chunk .out) out before after
+
+-- A chunk is the last where it is empty or its answers were not taken.
+abbrev pub stopsAt : Served → Bool
+stopsAt s = cond (eqb (s .got .count) 0) true (not (s .printed .whole))
+
+-- Reading or printing failed: nothing is known of the end of a line, or its answer cannot be printed.
+abbrev pub brokenOff : Served → Bool
+brokenOff s = cond (s .got .failed) true (not (s .printed .whole))
+
+-- No chunk is empty.
+abbrev pub Filled : List (List ℕ) → Type 0
+Filled [] = Unit {0}
+Filled (c ∷ cs) = (0 < length c) × Filled cs
+
+-- The program stopped after these chunks: the last is empty, its answers were not taken, or the turns ran out.
+pub record Stopped (p : Running) (s : Served) : Type 0 where
+  pub chunks : List (List ℕ)
+  pub last : List ℕ
+  pub filled : Filled chunks
+  pub read : length last ≡ s .got .count
+  pub passes : p ≡ passed (drained begun) (chunks ++ (last ∷ []))
+  pub count : s .printed .total ≡ wrapped (length (header ++ printedFor (drained begun) (chunks ++ (last ∷ []))))
+  pub why : stopsAt s ≡ false → length chunks + 1 ≡ allTurns
+
+-- "The end of input without a line feed ends a line.", unless the program broke off: then nothing more is printed.
+pub record Finished (p q : Running) (out : List ℕ) (s r : Served) : Type 0 where
+  pub same : r .got ≡ s .got
+  pub broken : brokenOff s ≡ true → (q ≡ p) × (r .printed ≡ s .printed)
+  pub closes : brokenOff s ≡ false → (q ≡ closed p) × Handed (closed p .out) out (s .printed) (r .printed)
+
+-- How many lines were answered and how many bytes printed, whether reading failed, and whether printing did: for some chunks all
+-- that `output` has for them, unless the program broke off.
+pub record Ended (lines total : ℕ) (unread unwritten : Bool) : Type 0 where
+  pub chunks : List (List ℕ)
+  pub last : List ℕ
+  pub filled : Filled chunks
+  pub why : unwritten ≡ false → 0 < length last → length chunks + 1 ≡ allTurns
+  pub closing : Bool
+  pub whole : unread ≡ false → unwritten ≡ false → closing ≡ true
+  pub cut : unread ≡ true → closing ≡ false
+  pub lines-is : lines ≡ cond closing (closed (passed (drained begun) (chunks ++ (last ∷ [])))) (passed (drained begun) (chunks ++ (last ∷ []))) .number
+  pub count : total ≡ wrapped (length (cond closing (output (joined (chunks ++ (last ∷ [])))) (header ++ printedFor (drained begun) (chunks ++ (last ∷ [])))))

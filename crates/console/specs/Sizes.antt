@@ -1,0 +1,18 @@
+-- How much is read and printed at a time, and how long the program reads.
+use Prim.Native.Nat.{ℕ, _*_, _%_, _^_}
+use Rattle.transcript.specs.Text.{longestAnswer}
+
+-- The bytes of a chunk, and room for their answers.
+abbrev pub chunkSize : ℕ
+chunkSize = 4096
+
+abbrev pub answersRoom : ℕ
+answersRoom = longestAnswer * chunkSize
+
+-- Nothing says that an input ends: no run uses up these turns.
+abbrev pub allTurns : ℕ
+allTurns = 2 ^ 51
+
+-- A count of printed bytes has 64 bits.
+abbrev pub wrapped : ℕ → ℕ
+wrapped n = n % 2 ^ 64

@@ -1,0 +1,73 @@
+-- Demand 2: "False polynomials pass at no more than t of the p − 1 check points": of one row, and of the rows that are opened in a run.
+use Prim.Native.Nat.{ℕ, _+_, _-_, _≤_}
+use mathlib.Core.Path.{_≡_}
+use mathlib.Core.Logic.{_≢_}
+use mathlib.Core.List.{List}
+use lib.ListN.{length, take, drop}
+use Rattle.field.specs.Modulus.{p}
+use Rattle.poly.specs.Counting.{Elements, count}
+use Rattle.session.specs.declared.Session.{Session}
+use Rattle.session.specs.Sessions.{mark}
+use Rattle.session.specs.Rows.{width, rowAt}
+use Rattle.opening.specs.Walking.{sent, accepts}
+use Rattle.product.specs.Finish.{maskA, maskB}
+use Rattle.vectors.specs.Vector.{Vector, number, numbers}
+use Rattle.vectors.specs.Claims.{heldRow}
+use Rattle.runs.specs.Draws.{Plan, Draw}
+use Rattle.runs.specs.Calls.{Proper}
+use Rattle.correctness.specs.History.{Event, World, history, begin}
+use Rattle.correctness.specs.Ledger.{Ledger, Plain}
+use Rattle.correctness.specs.Truth.{TruePolynomial, TrueMask}
+use Rattle.correctness.specs.Claim.{Premises}
+
+-- The post with another check point.
+abbrev pub atPoint : Session → ℕ → Session
+atPoint s w = record { n = s .n; t = s .t; post = s .post; point = w; marks = s .marks; left = s .left; right = s .right }
+
+-- Of the points that a post might have, those at which it accepts what a record shows of j, where its row is its part of X.
+abbrev pub pointsPassed : Session → Vector → List ℕ → ℕ → ℕ
+pointsPassed s X blocks j = count (λ w. accepts (atPoint s w) (heldRow (atPoint s w) X) blocks j) 1 (p - 1)
+
+-- Of one row: the record is one that 5 and 8 let pass, and what it shows is not X's polynomial of j.
+abbrev pub FalseCaught : Type 0
+FalseCaught =
+    (s : Session) (X : Vector) (blocks : List ℕ) (j : ℕ) → 1 ≤ j → j ≤ s .n → j ≢ s .post → Proper s blocks
+    → (sent s (heldRow s X) blocks j ≡ numbers (s .t + 1) (X .v j) → ⊥) → pointsPassed s X blocks j ≤ s .t
+
+-- Of the post with the session s, the row is its part of X, and X's polynomials are those that are truly the posts': P j xs says
+-- that xs, t+1 elements, is j's. What a record shows of j and is not j's passes at no more than t points.
+pub record PartOf (P : ℕ → List ℕ → Type 0) (s : Session) (row : List ℕ) (X : Vector) : Type 0 where
+  pub part : row ≡ heldRow s X
+  pub polynomial : (j : ℕ) (xs : List ℕ) → 1 ≤ j → j ≤ s .n → length xs ≡ s .t + 1 → Elements xs → P j xs → xs ≡ numbers (s .t + 1) (X .v j)
+  pub caught : (blocks : List ℕ) (j : ℕ) (xs : List ℕ) → 1 ≤ j → j ≤ s .n → j ≢ s .post → Proper s blocks → length xs ≡ s .t + 1 → Elements xs
+      → P j xs → (sent s row blocks j ≡ xs → ⊥) → pointsPassed s X blocks j ≤ s .t
+
+-- The same numbers drawn, with other check points.
+abbrev pub withPoints : List ℕ → Draw → Draw
+withPoints points draw = record { points = points; raws = draw .raws; triples = draw .triples }
+
+-- Whatever the check points, in every run by the ledger L: at each post of S at which row r has the mark m, the row that `row` gives
+-- is the post's part of X, and truth is P.
+abbrev pub OneVector : Plan → Draw → Ledger → (m r : ℕ) → (Session → List ℕ → List ℕ) → ((ℕ → Type 0) → World → ℕ → List ℕ → Type 0) → Vector → Type 1
+OneVector plan draw L m r row P X =
+    (points : List ℕ) (S : ℕ → Type 0) (rows : ℕ → List ℕ) (es : List Event)
+    → Premises plan (withPoints points draw) L S es (begin plan (withPoints points draw) rows) → (i : ℕ) → 1 ≤ i → i ≤ plan .n → S i
+    → (let w = history es (begin plan (withPoints points draw) rows) in let q = w .posts i in
+    mark (q .session) r ≡ m → PartOf (P S w) (q .session) (row (q .session) (q .rows)) X)
+
+-- Of a row that is held in a run: one vector for all posts and for all points that they might have. Its number is the plain number.
+abbrev pub HeldParts : Type 1
+HeldParts =
+    (plan : Plan) (draw : Draw) (L : Ledger) (S : ℕ → Type 0) (rows : ℕ → List ℕ) (es : List Event)
+    → Premises plan draw L S es (begin plan draw rows) → (i r : ℕ) → 1 ≤ i → i ≤ plan .n → S i
+    → mark (history es (begin plan draw rows) .posts i .session) r ≡ 2
+    → (X : Vector) × Plain L r (number X .0) × OneVector plan draw L 2 r (λ s rows. rowAt (width s) rows r) (λ S w. TruePolynomial S w r) X
+
+-- So of a − l and of b − l', for a triple whose masks were made.
+abbrev pub MaskParts : Type 1
+MaskParts =
+    (plan : Plan) (draw : Draw) (L : Ledger) (S : ℕ → Type 0) (rows : ℕ → List ℕ) (es : List Event)
+    → Premises plan draw L S es (begin plan draw rows) → (i r : ℕ) → 1 ≤ i → i ≤ plan .n → S i
+    → mark (history es (begin plan draw rows) .posts i .session) r ≡ 5
+    → ((X : Vector) × OneVector plan draw L 5 r (λ s rows. maskA s rows r) (λ S w. TrueMask S w (plan .t) (take (plan .t + 1)) r) X)
+    × ((X : Vector) × OneVector plan draw L 5 r (λ s rows. maskB s rows r) (λ S w. TrueMask S w (plan .t) (drop (plan .t + 1)) r) X)

@@ -1,0 +1,9 @@
+use borrow.Author.Needs.{needs}
+use Rattle.fields.proofs.Moving.{number-fits}
+use Rattle.fields.proofs.number_of.Statement.{statement}
+use Rattle.fields.proofs.number_of.Tie as tie
+
+ruleset ends = (needs, number-fits)
+
+pub number-of-spec : {M : Type 1} → statement M
+number-of-spec = tie.close (tie.spec (λ c. search ends) (λ c. search ends) (λ c. search ends) (λ c. search ends) (λ c. search ends))

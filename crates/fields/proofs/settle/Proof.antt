@@ -1,0 +1,9 @@
+use borrow.Author.Needs.{needs}
+use Rattle.fields.proofs.Moving.{settle-whole, settle-broken}
+use Rattle.fields.proofs.settle.Statement.{statement}
+use Rattle.fields.proofs.settle.Tie as tie
+
+ruleset ends = (needs, settle-whole, settle-broken)
+
+pub settle-spec : {M : Type 1} → statement M
+settle-spec = tie.close (tie.spec (λ c. search ends) (λ c. search ends))

@@ -1,0 +1,69 @@
+-- What is claimed of the calls on lines; proved in proofs/Theorems.antt and proofs/Sending.antt.
+use Prim.Native.Nat.{ℕ, _+_, _*_}
+use mathlib.Core.Path.{_≡_}
+use mathlib.Core.List.{List}
+use lib.ListN.{length, take, drop}
+use Rattle.refusal.specs.Refusal.{Test, first, Decides, Keeps}
+use Rattle.fields.specs.Fields.{padded}
+use Rattle.forms.specs.Lines.{Message, deal, opening, masks, text}
+use Rattle.forms.specs.Forms.{message}
+use Rattle.lines.specs.declared.Written.{Written}
+use Rattle.lines.specs.declared.Line.{Line}
+use Rattle.lines.specs.Writing.{dealRefusal, openingRefusal, masksRefusal, writeRefusal, notWritten, writtenAs, partAs}
+use Rattle.lines.specs.Reading.{readRefusal, noLine, lineAs, listAs}
+use Rattle.lines.specs.Table.{writeDealTable, writeOpeningTable, writeMasksTable, readTable}
+
+-- ---- demand 1
+-- A writer with these tests, which was lent `part` for a line, gave `given` and left `after`.
+pub record WriteLawful (tests : List Test) (line part : List ℕ) (given : Written) (after : List ℕ) : Type 0 where
+  pub refusal : Decides tests
+  pub untouched : (first tests ≡ 0 → ⊥) → (given ≡ notWritten (first tests)) × (after ≡ part)
+  pub answer : first tests ≡ 0 → given ≡ record { refusal = 0; len = length line }
+  -- the first `len` bytes are the line, and "A written line leaves the rest of its part untouched."
+  pub line-laid : first tests ≡ 0 → take (given .len) after ≡ line
+  pub rest-kept : first tests ≡ 0 → drop (given .len) after ≡ drop (given .len) part
+
+pub record LinesLawful : Type 0 where
+  pub write-deal : (n t row c : ℕ) (part : List ℕ)
+      → WriteLawful (writeDealTable n t row c (length part)) (text (deal row c)) part
+      (writtenAs (dealRefusal n t row c (length part)) (text (deal row c)))
+      (partAs (dealRefusal n t row c (length part)) (text (deal row c)) part)
+  pub write-opening : (n t row post : ℕ) (xs part : List ℕ)
+      → WriteLawful (writeOpeningTable n t row post xs (length part)) (text (opening row post xs)) part
+      (writtenAs (openingRefusal n t row post xs (length part)) (text (opening row post xs)))
+      (partAs (openingRefusal n t row post xs (length part)) (text (opening row post xs)) part)
+  pub write-masks : (n t row post : ℕ) (xs part : List ℕ)
+      → WriteLawful (writeMasksTable n t row post xs (length part)) (text (masks row post xs)) part
+      (writtenAs (masksRefusal n t row post xs (length part)) (text (masks row post xs)))
+      (partAs (masksRefusal n t row post xs (length part)) (text (masks row post xs)) part)
+  -- letter, row and post, or the refusal and zeros
+  pub read-answer : (n t : ℕ) (s out : List ℕ)
+      → Keeps {A = Line} (readTable n t s out)
+      (record { refusal = 0; letter = message (t + 1) s .letter; row = message (t + 1) s .row; post = message (t + 1) s .post })
+      (noLine (first (readTable n t s out))) (lineAs (readRefusal n t s out) (message (t + 1) s))
+  -- "from its start; the places behind are set to 0", or the list as it came
+  pub read-list : (n t : ℕ) (s out : List ℕ)
+      → Keeps (readTable n t s out) (padded (length out) (message (t + 1) s .numbers)) out
+      (listAs (readRefusal n t s out) (message (t + 1) s) out)
+
+-- ---- demand 2
+-- The bytes that a writer with this refusal laid for m, read into a list of 2(t+1) numbers: the reader says m again.
+abbrev pub ReadBack : ℕ → ℕ → ℕ → Message → List ℕ → List ℕ → Type 0
+ReadBack n t refusal m part out =
+    let s = take (writtenAs refusal (text m) .len) (partAs refusal (text m) part) in
+    refusal ≡ 0 → length out ≡ 2 * (t + 1)
+    → (lineAs (readRefusal n t s out) (message (t + 1) s) ≡ lineAs 0 m)
+    × (listAs (readRefusal n t s out) (message (t + 1) s) out ≡ listAs 0 m out)
+
+pub record WritersReadBack : Type 0 where
+  pub deal-back : (n t row c : ℕ) (part out : List ℕ) → ReadBack n t (dealRefusal n t row c (length part)) (deal row c) part out
+  pub opening-back : (n t row post : ℕ) (xs part out : List ℕ)
+      → ReadBack n t (openingRefusal n t row post xs (length part)) (opening row post xs) part out
+  pub masks-back : (n t row post : ℕ) (xs part out : List ℕ)
+      → ReadBack n t (masksRefusal n t row post xs (length part)) (masks row post xs) part out
+
+-- Every line that the reader takes is the one that the writer makes of what it says, where its part has room.
+abbrev pub ReaderToWriter : Type 0
+ReaderToWriter =
+    (n t : ℕ) (s out : List ℕ) → readRefusal n t s out ≡ 0
+    → (s ≡ text (message (t + 1) s)) × (writeRefusal n t (message (t + 1) s) (length s) ≡ 0)

@@ -1,0 +1,29 @@
+-- What an example's group sees, by computing: `unfolding sees` opens the definitions of the calls.
+use Rattle.field.specs.Arithmetic.{sum, product, difference, euclid, inverse}
+use Rattle.poly.specs.Polynomial.{value}
+use Rattle.poly.specs.Interpolation.{nodal, weight, terms, interpolated}
+use Rattle.refusal.specs.Refusal.{outcome}
+use Rattle.refusal.specs.Conditions.{anyBeyond}
+use Rattle.factory.specs.Draw.{eachFrom, part}
+use Rattle.factory.specs.Packs.{dealerRefusal}
+use Rattle.session.specs.Rows.{combined, plusSums}
+use Rattle.session.specs.Sessions.{created}
+use Rattle.sharing.specs.Load.{loadRowRefusal, loadTripleRefusal, withTriple}
+use Rattle.sharing.specs.Deal.{dealRefusal}
+use Rattle.sharing.specs.Message.{messageRefusal}
+use Rattle.sharing.specs.Linear.{linearRefusal}
+use Rattle.opening.specs.Walking.{badBlock, badBlocks, sent, accepts, share, walk, opened}
+use Rattle.opening.specs.Opening.{openRefusal}
+use Rattle.product.specs.Masks.{masksRefusal, maskNumbersOf}
+use Rattle.product.specs.Finish.{finishRefusal, productRow, withProduct}
+use Rattle.decimal.specs.Numeral.{lastDigits, sizeWithin}
+use Rattle.fields.specs.Fields.{fields}
+use Rattle.runs.specs.Draws.{pointOf, rawDraw, tripleDraw, rawPack, triplePack}
+use Rattle.runs.specs.Calls.{perform, newPost, at}
+use Rattle.secrecy.specs.Steps.{dealtNumber}
+use Rattle.secrecy.specs.Seen.{Seen, posts, allRows, joined, entryOf, run, polynomialSeen, dealSeen, rawSeen, tripleSeen, seen}
+use Rattle.secrecy_examples.specs.Example.{Example, seenOf}
+
+unfoldable pub sees : Example → Seen
+unfolding sum product difference euclid inverse value nodal weight terms interpolated outcome anyBeyond eachFrom part dealerRefusal combined plusSums created loadRowRefusal loadTripleRefusal withTriple dealRefusal messageRefusal linearRefusal badBlock badBlocks sent accepts share walk opened openRefusal masksRefusal maskNumbersOf finishRefusal productRow withProduct lastDigits sizeWithin fields pointOf rawDraw tripleDraw rawPack triplePack perform newPost at dealtNumber posts allRows joined entryOf run polynomialSeen dealSeen rawSeen tripleSeen seen
+sees x = seenOf x

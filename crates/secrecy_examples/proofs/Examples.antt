@@ -1,0 +1,42 @@
+-- Both examples are at work: the run by computing, the premises by a search, the counts by demand 3.
+use mathlib.Core.Path.{_≡_, refl}
+use Rattle.secrecy.specs.Book.{bookAfter}
+use Rattle.secrecy_examples.specs.Example.{AtWork}
+use Rattle.secrecy_examples.specs.ThreePosts as Three
+use Rattle.secrecy_examples.specs.ThreePostsSeen.{three, ThreeOpened}
+use Rattle.secrecy_examples.specs.FourPosts as Four
+use Rattle.secrecy_examples.specs.FourPostsSeen.{four, FourOpened, FourBooks, FourForeign}
+use Rattle.secrecy_examples.proofs.Computing.{sees}
+use Rattle.secrecy_examples.proofs.Premised.{is-draw, premises, at-work}
+
+three-seen : sees three ≡ three .shown
+unfolding sees three
+three-seen = refl
+
+pub three-at-work : AtWork three
+unfolding sees three is-draw premises
+three-at-work = at-work three Three.masksSent 0 three-seen tt tt tt refl
+
+pub three-opened : ThreeOpened
+unfolding sees three
+three-opened = (refl, refl)
+
+four-seen : sees four ≡ four .shown
+unfolding sees four
+four-seen = refl
+
+pub four-at-work : AtWork four
+unfolding sees four is-draw premises
+four-at-work = at-work four Four.masksSent 0 four-seen tt tt tt refl
+
+pub four-opened : FourOpened
+unfolding sees four
+four-opened = (refl, refl)
+
+pub four-books : FourBooks
+unfolding sees four premises bookAfter
+four-books = (refl, refl, refl, refl)
+
+pub four-foreign : FourForeign
+unfolding sees four
+four-foreign = (refl, refl)

@@ -1,0 +1,147 @@
+-- Searches for the proof that a record keeps the rules, that its answers are the same, and that the numbers opened agree.
+use Prim.Native.Nat.{ℕ, _+_, _*_, _≤_}
+use mathlib.Core.Path.{_≡_}
+use mathlib.Core.Logic.{_≢_, ⊎-elim}
+use mathlib.Core.List.{List, [], _∷_, _++_}
+use mathlib.Core.Option.{Option, none, some}
+use borrow.Author.Tests.{eqb-true}
+use lib.Dec.{eqb}
+use lib.ListN.{length, take, drop}
+use Rattle.field.specs.Modulus.{p}
+use Rattle.poly.specs.Counting.{Elements}
+use Rattle.opening.specs.Walking.{blockMark, blockCoefficients}
+use Rattle.runs.specs.Draws as Draws
+use Rattle.runs.specs.Draws.{Plan, Raw, IsRaw}
+use Rattle.runs.specs.Outline.{Taking, nothingTaken, aRowPack, aTriplePack, aNumber, aRecord, twoRecords, takes, Given, moves, Sending, itsOpening, itsMasks, sends, EveryFrom, Every}
+use Rattle.runs.specs.Calls.{Told, ToldHalf, masksLine, openingLine}
+use Rattle.secrecy.specs.Steps as Steps
+use Rattle.secrecy.specs.Steps.{Secrets, Fixed, Step, Pack, Number}
+use Rattle.secrecy.specs.Seen.{Entry}
+use Rattle.secrecy.specs.Rules.{AllSame, SameAnswers, refusalOf, OwnPack, FromDealer, OnlySent, Walks, RuleWith, Rule, Rules}
+use Rattle.secrecy.specs.Book.{Book, booked, AgreesBy, Agrees, Agree}
+use Rattle.secrecy_examples.proofs.Found.{_also_, both, either, tested, same, equal, below, where-equal, each, each-post, among}
+
+-- ---- the same answers
+
+unfoldable pub all-same : (xs : List ℕ) → Option (AllSame xs)
+unfolding each equal
+all-same [] = some tt
+all-same (x ∷ xs) = each (λ y. equal y x) xs
+
+unfoldable pub same-answers : (es : List Entry) → Option (SameAnswers es)
+unfolding each all-same
+same-answers es = each (λ e. all-same (e .refusals)) es
+
+-- ---- the rules
+
+unfoldable pub elements : (xs : List ℕ) → Option (Elements xs)
+unfolding each below
+elements xs = each (λ x. below x p) xs
+
+unfoldable pub drawn-raw : (raw : Raw) → Option (IsRaw raw)
+drawn-raw Draws.none = none
+drawn-raw (Draws.by dealer) = some tt
+
+unfoldable pub own-pack : {D : Type 0} (pack : Pack) (r : ℕ) → Option D → Option (OwnPack pack r D)
+unfolding both equal
+own-pack (Steps.own k) r drawn = both (equal k r) drawn
+own-pack (Steps.fixed xs) r drawn = none
+
+unfoldable pub from-dealer : (c : Number) → Option (FromDealer c)
+from-dealer Steps.sent = some tt
+from-dealer (Steps.fixed x) = none
+
+-- the messages that post j broadcast; of masks it is searched among the lists of `sent`
+unfoldable pub told : (lines : List (List ℕ)) (r j : ℕ) (xs : List ℕ) → Option (Told lines r j xs)
+unfolding among
+told lines r j xs = among (openingLine r j xs) lines
+
+unfoldable pub told-half : (sent : List (List ℕ)) (t : ℕ) (half : List ℕ → List ℕ) (r : ℕ) (lines : List (List ℕ)) (j : ℕ) (xs : List ℕ)
+    → Option (ToldHalf t half r lines j xs)
+unfolding either _also_ equal elements among same
+told-half [] t half r lines j xs = none
+told-half (m ∷ sent) t half r lines j xs =
+    either
+    (some (λ many low line e. (m, many, low, line, e))
+    also equal (length m) (2 * (t + 1)) also elements m also among (masksLine r j m) lines also same xs (half m))
+    (told-half sent t half r lines j xs)
+
+-- what is asked of post j's block in post i's record
+abbrev pub Block : Plan → (ℕ → List ℕ → Type 0) → (ℕ → List ℕ) → ℕ → ℕ → Type 0
+Block plan Shown blocks i j =
+    j ≢ i → blockMark (plan .t + 1) (blocks i) j ≡ 1 → Shown j (blockCoefficients (plan .t + 1) (blocks i) j)
+
+module _ (plan : Plan) (Shown : ℕ → List ℕ → Type 0) (shown : (j : ℕ) (xs : List ℕ) → Option (Shown j xs)) (blocks : ℕ → List ℕ) where
+  unfoldable pub block : (i j : ℕ) → Option (Block plan Shown blocks i j)
+  unfolding either _also_ tested where-equal
+  block i j =
+      either (tested (eqb j i) (λ e ne. absurd (ne (eqb-true j i e))))
+      (some (λ h ne. h)
+      also where-equal (blockMark (plan .t + 1) (blocks i) j) 1 (shown j (blockCoefficients (plan .t + 1) (blocks i) j)))
+
+  unfoldable pub only-sent : Option (OnlySent plan Shown blocks)
+  unfolding _also_ each-post block
+  only-sent =
+      some (λ h i j i-low i-high low high. h i i-low i-high j low high)
+      also each-post (λ i. (j : ℕ) → 1 ≤ j → j ≤ plan .n → Block plan Shown blocks i j) (plan .n)
+      (λ i. each-post (Block plan Shown blocks i) (plan .n) (block i))
+
+-- asked where the walk is reached
+unfoldable pub where-walks : {A : Type 0} (k : ℕ) → Option A → Option (Walks k → A)
+unfolding _also_ where-equal
+where-walks k o = some (λ f g. ⊎-elim f g) also where-equal k 0 o also where-equal k 9 o
+
+-- of each of a list
+module _ {A : Type 0} (P : A → Type 0) (found : (x : A) → Option (P x)) where
+  unfoldable pub every-from : (x : A) (xs : List A) → Option (EveryFrom P x xs)
+  unfolding both
+  every-from x [] = found x
+  every-from x (y ∷ ys) = both (found x) (every-from y ys)
+
+  unfoldable pub every : (xs : List A) → Option (Every P xs)
+  unfolding every-from
+  every [] = some tt
+  every (x ∷ xs) = every-from x xs
+
+module _ (plan : Plan) (sent : List (List ℕ)) where
+  unfoldable pub rule-with : (k : ℕ) (lines : List (List ℕ)) (t : Taking) (x : Given Fixed t) → Option (RuleWith plan k lines t x)
+  unfolding both tested where-equal where-walks drawn-raw own-pack from-dealer told told-half only-sent
+  rule-with k lines nothingTaken x = some tt
+  rule-with k lines (aRowPack r) pack = where-equal k 0 (own-pack pack r (drawn-raw (plan .raw r)))
+  rule-with k lines (aTriplePack r) pack = where-equal k 0 (own-pack pack r (tested (plan .triple r) (λ e. e)))
+  rule-with k lines (aNumber r) c = where-equal k 0 (from-dealer c)
+  rule-with k lines (aRecord r) blocks = where-walks k (only-sent plan (Told lines r) (told lines r) (λ i. blocks i lines))
+  rule-with k lines (twoRecords r) blocks =
+      where-walks k
+      (both
+      (only-sent plan (ToldHalf (plan .t) (take (plan .t + 1)) r lines) (told-half sent (plan .t) (take (plan .t + 1)) r lines) (λ i. blocks .0 i lines))
+      (only-sent plan (ToldHalf (plan .t) (drop (plan .t + 1)) r lines) (told-half sent (plan .t) (drop (plan .t + 1)) r lines) (λ i. blocks .1 i lines)))
+
+  unfoldable pub rule : (c : Step) (k : ℕ) (lines : List (List ℕ)) → Option (Rule plan c k lines)
+  unfolding every rule-with
+  rule c k lines =
+      every (λ m. RuleWith plan k lines (takes (m .0)) (m .1)) (λ m. rule-with k lines (takes (m .0)) (m .1)) (moves c)
+
+  unfoldable pub rules : (cs : List Step) (es : List Entry) (lines : List (List ℕ)) → Option (Rules plan cs es lines)
+  unfolding both rule
+  rules [] es lines = some tt
+  rules (c ∷ cs) [] lines = some tt
+  rules (c ∷ cs) (e ∷ es) lines = both (rule c (refusalOf e) lines) (rules cs es (lines ++ e .lines))
+
+-- ---- the numbers opened
+
+unfoldable pub agrees-by : (k : ℕ) (b b' : Book) (s : Sending) → Option (AgreesBy k b b' s)
+unfolding where-equal equal
+agrees-by k b b' (itsOpening r) = where-equal k 0 (equal (b .place r) (b' .place r))
+agrees-by k b b' (itsMasks x y r) = some tt
+
+unfoldable pub agrees : (c : Step) (k : ℕ) (b b' : Book) → Option (Agrees c k b b')
+unfolding every agrees-by
+agrees c k b b' = every (AgreesBy k b b') (agrees-by k b b') (sends c)
+
+unfoldable pub agree : (u u' : Secrets) (cs : List Step) (es : List Entry) (b b' : Book) → Option (Agree u u' cs es b b')
+unfolding both agrees
+agree u u' [] es b b' = some tt
+agree u u' (c ∷ cs) [] b b' = some tt
+agree u u' (c ∷ cs) (e ∷ es) b b' =
+    both (agrees c (refusalOf e) b b') (agree u u' cs es (booked u c (refusalOf e) b) (booked u' c (refusalOf e) b'))

@@ -1,0 +1,5 @@
+pub mod Computing
+pub mod Found
+pub mod Kept
+pub mod Premised
+pub mod Examples

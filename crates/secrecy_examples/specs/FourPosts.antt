@@ -1,0 +1,153 @@
+-- A second example for demand 3: n = 4, t = 2, posts 2 and 4 are the group. 3 and 10 are dealt, or 5 and 6; their product, 30, and
+-- the first with half the second, 8, are opened, each after messages of three posts; their sum is made and not opened.
+use Prim.Native.Nat.{ℕ}
+use mathlib.Core.Bool.{cond}
+use mathlib.Core.List.{List, [], _∷_, _++_}
+use lib.Dec.{eqb}
+use lib.ListN.{take, drop, replicate}
+use Rattle.field.specs.Modulus.{p}
+use Rattle.factory.specs.Draw.{eachFrom}
+use Rattle.runs.specs.Draws.{Raw, Draw, by}
+use Rattle.secrecy.specs.Steps as Steps
+use Rattle.secrecy.specs.Steps.{Pack, Record, Step, own, sent, loadRow, loadTriple, deal, message, opening, linear, masks, finish}
+use Rattle.secrecy.specs.Seen.{member}
+use Rattle.secrecy_examples.specs.Example.{padded, of, blocks, present}
+
+-- Row 0 is dealt by post 1, row 1 by someone who is no post, row 2 by post 4, which is in the group, row 3, which is never loaded,
+-- by post 3; one triple, at row 4.
+unfoldable pub raws : List Raw
+raws = by 1 ∷ by 0 ∷ by 4 ∷ by 3 ∷ []
+
+unfoldable pub triples : List ℕ
+triples = 4 ∷ []
+
+unfoldable pub group : List ℕ
+group = 2 ∷ 4 ∷ []
+
+-- Posts 2 and 3 have one check point.
+unfoldable pub draw : Draw
+draw =
+    record {
+      points = 5 ∷ 3 ∷ 3 ∷ 7 ∷ [];
+      raws =
+          padded
+          ((7 ∷ 4 ∷ 1 ∷ 1 ∷ 2 ∷ 3 ∷ 3 ∷ 1 ∷ 2 ∷ 5 ∷ 6 ∷ 1 ∷ 2 ∷ 0 ∷ 4 ∷ [])
+          ∷ (3 ∷ 5 ∷ 2 ∷ 2 ∷ 1 ∷ 1 ∷ 1 ∷ 1 ∷ 3 ∷ 4 ∷ 2 ∷ 0 ∷ 6 ∷ 1 ∷ 2 ∷ [])
+          ∷ (8 ∷ 1 ∷ 6 ∷ 6 ∷ 3 ∷ 1 ∷ 2 ∷ 9 ∷ 5 ∷ 7 ∷ 4 ∷ 2 ∷ 1 ∷ 1 ∷ 1 ∷ [])
+          ∷ (4 ∷ 2 ∷ 3 ∷ 1 ∷ 0 ∷ 2 ∷ 5 ∷ 1 ∷ 1 ∷ 2 ∷ 2 ∷ 3 ∷ 3 ∷ 4 ∷ 1 ∷ [])
+          ∷ []);
+      triples =
+          padded
+          ([]
+          ∷ []
+          ∷ []
+          ∷ []
+          ∷ ((2 ∷ 1 ∷ 3 ∷ 5 ∷ 1 ∷ 2 ∷ 3 ∷ 2 ∷ 1 ∷ 1 ∷ 7 ∷ 4 ∷ 4 ∷ 1 ∷ 0 ∷ [])
+          ++ ((5 ∷ 2 ∷ 1 ∷ 1 ∷ 1 ∷ 3 ∷ 6 ∷ 3 ∷ 2 ∷ 2 ∷ 2 ∷ 1 ∷ 3 ∷ 5 ∷ 2 ∷ [])
+          ++ (9 ∷ 4 ∷ 1 ∷ 8 ∷ 2 ∷ 3 ∷ 5 ∷ 1 ∷ 2 ∷ 1 ∷ 6 ∷ 7 ∷ 2 ∷ 3 ∷ [])))
+          ∷ []);
+    }
+
+-- 96 rows of 11 numbers, from i upward at post i
+unfoldable pub start : ℕ → List ℕ
+start i = eachFrom i 1056 (λ x. x)
+
+-- Each post is lent another's pack of row 0.
+abbrev pub raw0at1 : List ℕ
+raw0at1 = 1 ∷ 2 ∷ 3 ∷ 86 ∷ 58 ∷ 60 ∷ 102 ∷ 13 ∷ 22 ∷ 33 ∷ 41 ∷ []
+
+abbrev pub raw0at2 : List ℕ
+raw0at2 = 3 ∷ 1 ∷ 2 ∷ 34 ∷ 24 ∷ 32 ∷ 38 ∷ 13 ∷ 22 ∷ 33 ∷ 41 ∷ []
+
+unfoldable pub foreign : Pack
+foreign = Steps.fixed (λ i. cond (eqb i 1) raw0at2 raw0at1)
+
+-- The posts' masks, and their messages of the product and of the sum with a half.
+abbrev pub masksSent : List (List ℕ)
+masksSent =
+    (2147483643 ∷ 1 ∷ 1 ∷ 1 ∷ 0 ∷ 2147483645 ∷ [])
+    ∷ (0 ∷ 2147483646 ∷ 1 ∷ 2147483642 ∷ 2147483645 ∷ 1 ∷ [])
+    ∷ (4 ∷ 2147483646 ∷ 2147483644 ∷ 2 ∷ 0 ∷ 2147483646 ∷ [])
+    ∷ (2147483645 ∷ 2147483646 ∷ 4 ∷ 3 ∷ 2147483643 ∷ 0 ∷ [])
+    ∷ []
+
+abbrev pub productSent : List (List ℕ)
+productSent = (27 ∷ 14 ∷ 15 ∷ []) ∷ (24 ∷ 18 ∷ 8 ∷ []) ∷ (9 ∷ 38 ∷ 27 ∷ []) ∷ (30 ∷ 12 ∷ 5 ∷ []) ∷ []
+
+abbrev pub sumSent : List (List ℕ)
+sumSent =
+    (2 ∷ 1073741826 ∷ 1073741827 ∷ [])
+    ∷ (1073741827 ∷ 1073741825 ∷ 1073741827 ∷ [])
+    ∷ (7 ∷ 7 ∷ 1 ∷ [])
+    ∷ (5 ∷ 1073741824 ∷ 5 ∷ [])
+    ∷ []
+
+-- Post i's record of what the posts in `from`, its i-th list, sent. Its own block and the numbers of absent blocks, which are not
+-- looked at, hold no elements.
+unfoldable pub heardBy : List (List ℕ) → (ℕ → List ℕ) → Record
+heardBy from messages i lines =
+    blocks 4
+    (λ j. cond (eqb j i) (replicate 4 p) (cond (member j (of from i)) (present (messages j)) (0 ∷ replicate 3 p)))
+
+-- one other post; the posts whose masks each takes for either factor; those whose messages of the product, of the sum
+abbrev pub one : List (List ℕ)
+one = (2 ∷ []) ∷ (1 ∷ []) ∷ (4 ∷ []) ∷ (3 ∷ []) ∷ []
+
+abbrev pub forA : List (List ℕ)
+forA = (2 ∷ 3 ∷ []) ∷ (3 ∷ 4 ∷ []) ∷ (1 ∷ 4 ∷ []) ∷ (1 ∷ 2 ∷ 3 ∷ []) ∷ []
+
+abbrev pub forB : List (List ℕ)
+forB = (3 ∷ 4 ∷ []) ∷ (1 ∷ 4 ∷ []) ∷ (1 ∷ 2 ∷ []) ∷ (2 ∷ 3 ∷ []) ∷ []
+
+abbrev pub onlyThree : List (List ℕ)
+onlyThree = (3 ∷ []) ∷ (3 ∷ []) ∷ [] ∷ (3 ∷ []) ∷ []
+
+abbrev pub forProduct : List (List ℕ)
+forProduct = (3 ∷ 4 ∷ []) ∷ (1 ∷ 3 ∷ []) ∷ (1 ∷ 4 ∷ []) ∷ (1 ∷ 3 ∷ []) ∷ []
+
+abbrev pub forSum : List (List ℕ)
+forSum = (2 ∷ 3 ∷ []) ∷ (1 ∷ 3 ∷ []) ∷ (1 ∷ 2 ∷ []) ∷ (2 ∷ 3 ∷ []) ∷ []
+
+unfoldable pub masksA : List (List ℕ) → Record
+masksA from = heardBy from (λ j. take 3 (of masksSent j))
+
+unfoldable pub masksB : List (List ℕ) → Record
+masksB from = heardBy from (λ j. drop 3 (of masksSent j))
+
+abbrev pub half : ℕ
+half = 1073741824
+
+-- a message of the posts in a list
+abbrev pub messageOf : ℕ → List ℕ → Step
+messageOf r senders = message r (λ i. replicate 3 0) (λ i. member i senders)
+
+-- Refused: another post's pack (7), packs of wrong lengths (5), a deal of a row that is empty (7), a load into row 3, which holds
+-- a sum by then (7), a triple at row 94 (6), a finish and an opening with too few polynomials (9), an opening with a record of a
+-- wrong length (5).
+unfoldable pub steps : List Step
+steps =
+    loadRow 0 (own 0)
+    ∷ loadRow 0 foreign
+    ∷ loadRow 1 (Steps.fixed (λ i. replicate i 1))
+    ∷ loadRow 1 (own 1)
+    ∷ loadRow 2 (own 2)
+    ∷ deal 0 sent
+    ∷ deal 1 sent
+    ∷ deal 2 sent
+    ∷ deal 3 (Steps.fixed 5)
+    ∷ linear 3 0 1 half
+    ∷ loadRow 3 (own 3)
+    ∷ loadTriple 94 (own 4)
+    ∷ loadTriple 4 (own 4)
+    ∷ linear 7 0 1 1
+    ∷ masks 0 1 4 (λ i. replicate 6 i)
+    ∷ finish 4 (masksA one) (masksB one)
+    ∷ finish 4 (masksA forA) (masksB forB)
+    ∷ messageOf 6 (3 ∷ [])
+    ∷ opening 6 (heardBy onlyThree (of productSent))
+    ∷ messageOf 6 (1 ∷ 4 ∷ [])
+    ∷ opening 6 (heardBy forProduct (of productSent))
+    ∷ messageOf 3 (1 ∷ 2 ∷ 3 ∷ [])
+    ∷ opening 3 (λ i lines. replicate i 1)
+    ∷ opening 3 (heardBy forSum (of sumSent))
+    ∷ []

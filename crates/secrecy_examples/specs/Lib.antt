@@ -1,0 +1,5 @@
+pub mod Example
+pub mod ThreePosts
+pub mod ThreePostsSeen
+pub mod FourPosts
+pub mod FourPostsSeen

@@ -1,0 +1,21 @@
+-- Demand 1, of every call on a session and of a new one; proved in proofs/Lawful.antt. Law.antt says what Lawful is.
+use Prim.Native.Nat.{ℕ}
+use mathlib.Core.List.{List}
+use Rattle.refusal.specs.Refusal.{Test, first, outcome, Ordered, Keeps}
+use Rattle.session.specs.declared.Session.{Session}
+use Rattle.session.specs.Sessions.{holding, answer, sessionOf, created}
+use Rattle.session.specs.Law.{Lawful}
+use Rattle.session.specs.Table.{newTable}
+
+-- A call whose tests stand in order, and whose answer and list are the outcome of their refusal, is lawful.
+abbrev pub CallsLawful : Type 0
+CallsLawful =
+    (tests : List Test) → Ordered 1 tests → (value : ℕ) (new old : Session) (written before : List ℕ)
+    → Lawful tests value new old written before (answer (first tests) value new old) (outcome (first tests) written before)
+
+-- "A new session has 96 rows, all with mark 0. A refused new session has 0 in every field."
+abbrev pub NewLawful : Type 0
+NewLawful =
+    (n t post point : ℕ)
+    → Keeps (newTable n t post point) (holding 0 0 (sessionOf n t post point))
+    (holding (first (newTable n t post point)) 0 (sessionOf 0 0 0 0)) (created n t post point)
