@@ -1,5 +1,5 @@
 -- One post by the ledger: each row it holds is its part of the ledger's vector, and each call that is not refused keeps that.
-use Prim.Native.Nat.{ℕ, _+_, _*_, _≤_, _<_}
+use Prim.Native.Nat.{ℕ, suc, _+_, _*_, _≤_, _<_}
 use mathlib.Core.Path.{_≡_, refl, sym, _∙_, ap₂, subst}
 use mathlib.Core.Logic.{_≢_, inr}
 use mathlib.Core.List.{List, [], _∷_}
@@ -14,7 +14,7 @@ use Rattle.runs.specs.Calls.{Post, Actual, Call, perform, after}
 use Rattle.runs.proofs.Marks.{Marks, markOf, leftOf, rightOf, Sized, less, worthVector, totalVector, written, marksBy, vectorsBy, marksAll, numberIn, vectorsAll}
 use Rattle.runs.proofs.Sums.{productVector, product-sum}
 use Rattle.runs.proofs.Outcomes.{refusalOf}
-use Rattle.runs.proofs.Steps.{Stands, named, Fits, stands-after}
+use Rattle.runs.proofs.Steps.{Stands, named, Fits, stands-refused, stands-after}
 use Rattle.runs.proofs.Facts.{HeldIn, AllowedBy, AllowedAll, Allowed, Multiplying, Triple, Facts, Meant}
 use Rattle.runs.proofs.Outlines.{every-all}
 use Rattle.runs.proofs.Rows.{sized-by, sized-after}
@@ -121,4 +121,16 @@ module _ (plan : Plan) (draw : Draw) (L : Ledger) where
             known-after i (moves c) (g .marks) (g .vec) (g .sized) (ok .moving) (every-all _ (moves c) own) (every-all Wrote (moves c) w)
             (g .facts);
         full = λ r ne. room-at len i q g c z;
+      }
+
+  pub good-refused : IsDraw plan draw → (len i : ℕ) → i ≤ plan .n → (q : Post) (g : Good len i q) (c : Call) (k : ℕ) → refusalOf c q ≡ suc k
+      → Good len i (after (perform c q))
+  good-refused is len i hi q g c k e =
+      record {
+        marks = g .marks;
+        vec = g .vec;
+        sized = g .sized;
+        stands = stands-refused plan draw is len i hi (g .marks) (g .vec) q (g .stands) c k e;
+        facts = g .facts;
+        full = g .full;
       }

@@ -154,7 +154,7 @@ refusal-is c q = ap (λ (o : Left). o .answer .refusal) (performs c q) ∙ answe
 pub value-is : (c : Call) (q : Post) → perform c q .answer .value ≡ answer (does c q .refusal) (does c q .value) (does c q .session) (q .session) .value
 value-is c q = ap (λ (o : Left). o .answer .value) (performs c q)
 
--- not refused: the call's own session and rows; refused: the post as it came
+-- not refused: the call's own session and rows; refused: those that it came with
 abbrev pub own : Doing → Post
 own d = record { session = d .session; rows = d .rows }
 
@@ -164,8 +164,13 @@ done c q z = ap after (performs c q) ∙ settled _ _ _ _ _ _ z
 pub written-is : (c : Call) (q : Post) → refusalOf c q ≡ 0 → perform c q .lent ≡ does c q .written
 written-is c q z = ap (λ (o : Left). o .lent) (performs c q) ∙ done-is _ _ _ z
 
-pub refused : (c : Call) (q : Post) (k : ℕ) → refusalOf c q ≡ suc k → after (perform c q) ≡ q
-refused c q k e = ap after (performs c q) ∙ returned _ _ _ _ _ _ k e
+pub refused : (c : Call) (q : Post) (k : ℕ) → refusalOf c q ≡ suc k
+    → (perform c q .answer .session ≡ q .session) × (perform c q .rows ≡ q .rows)
+refused c q k e =
+    let h = returned _ _ _ _ _ _ k e in (
+      ap (λ (o : Left). o .answer .session) (performs c q) ∙ ap (λ (p : Post). p .session) h,
+      ap (λ (o : Left). o .rows) (performs c q) ∙ ap (λ (p : Post). p .rows) h,
+    )
 
 -- and nothing is sent
 pub silent : (i j k : ℕ) (ss : List Sending) (parts : List (List ℕ)) → j ≡ suc k → sentBy i j ss parts ≡ []

@@ -1,5 +1,5 @@
 -- One post, one call that is not refused: the post still holds its part of every row's vector; and what it then sends.
-use Prim.Native.Nat.{ℕ, _+_, _*_, _-_, _≤_, _<_}
+use Prim.Native.Nat.{ℕ, suc, _+_, _*_, _-_, _≤_, _<_}
 use mathlib.Core.Path.{_≡_, refl, sym, _∙_, ap, ap₂, subst}
 use mathlib.Core.Bool.{true, false}
 use mathlib.Core.List.{List, [], _∷_, _++_}
@@ -22,7 +22,7 @@ use Rattle.runs.specs.Draws.{Plan, Draw, IsDraw, IsRaw, pointOf}
 use Rattle.runs.specs.Outline.{loadRow, loadTriple, deal, message, opening, linear, masks, finish, takes, Taking, nothingTaken, aRowPack, aTriplePack, aNumber, aRecord, twoRecords, Given, moves, acts, Sending, itsOpening, itsMasks, sends}
 use Rattle.runs.specs.Calls.{Post, Actual, Call, perform, after}
 use Rattle.runs.proofs.Marks.{Marks, sessionAt, less, maskA, maskB, marksAll, numberIn, vectorsAll}
-use Rattle.runs.proofs.Outcomes.{conditionAt, passed, refusalOf, does, own, done, written-is}
+use Rattle.runs.proofs.Outcomes.{conditionAt, passed, refusalOf, does, own, done, written-is, refused}
 use Rattle.runs.proofs.Packs.{rowFor, raw-pack, triple-pack}
 use Rattle.runs.proofs.Holds.{Holds, held-row, combined-row, load-holds, triple-holds, deal-holds, linear-holds, masks-holds}
 use Rattle.runs.proofs.Finishing.{AllTrue, finish-holds}
@@ -160,6 +160,12 @@ module _ (plan : Plan) (draw : Draw) where
       says-at (finish x) z = tt
 
     module _ (q : Post) (h : Stands len i M vec q) where
+      -- a call that is refused
+      pub stands-refused : (c : Call) (k : ℕ) → refusalOf c q ≡ suc k → Stands len i M vec (after (perform c q))
+      stands-refused c k e =
+          let o = refused c q k e in
+          record { session = o .0 ∙ h .session; holds = subst (Holds plan draw len i M vec) (sym (o .1)) (h .holds) }
+
       -- any call that is not refused
       pub stands-after : (c : Call) → refusalOf c q ≡ 0 → Fits i M vec c
           → Stands len i (marksAfter c M) (vectorsAfter c M vec) (after (perform c q))

@@ -12,8 +12,8 @@ use Rattle.runs.specs.Outline.{Sending, itsOpening, itsMasks, acts, sends}
 use Rattle.runs.specs.Calls.{Post, Call, perform, after, broadcast, openingLine, masksLine, Among}
 use Rattle.runs.proofs.Outlines.{every-all}
 use Rattle.runs.proofs.Marks.{Marks, markOf, marksAll}
-use Rattle.runs.proofs.Outcomes.{refusalOf, refusal-is, refused, silent}
-use Rattle.runs.proofs.Steps.{Stands}
+use Rattle.runs.proofs.Outcomes.{refusalOf, refusal-is, silent}
+use Rattle.runs.proofs.Steps.{stands-refused}
 use Rattle.runs.proofs.Facts.{Allowed}
 use Rattle.secrecy.specs.Steps.{Step, callAt, heardFrom}
 use Rattle.secrecy.specs.Seen.{posts, joined, linesOf}
@@ -73,7 +73,8 @@ module _ (C : Run) (m : Moment) (c : Step) (k : ℕ)
   idle-state S =
       record {
         sized = S .sized;
-        posts = λ i lo hi. subst (Stands plan draw (len i) i M vec) (sym (refused (callAt plan draw u lines i c) (q i) k (z i lo hi))) (S .posts i lo hi);
+        posts = λ i lo hi.
+            stands-refused plan draw (C .is-draw) (len i) i hi M vec (q i) (S .posts i lo hi) (callAt plan draw u lines i c) k (z i lo hi);
         facts = S .facts;
         openings = λ r j xs o a. S .openings r j xs o (subst (Among (openingLine r j xs)) as-before a);
         maskings = λ r j xs o a. S .maskings r j xs o (subst (Among (masksLine r j xs)) as-before a);
