@@ -95,9 +95,6 @@ module _ (M : Marks) (r x y z : ℕ) where
   off-three vec vec' q n n' n'' e =
       twice (other M r x vec vec q n refl) (twice (other one (r + 1) y vec vec q n' refl) (other two (r + 2) z vec vec' q n'' e))
 
-  sized-three : Sized M → Sized three
-  sized-three s = sized-at two (r + 2) z (sized-at one (r + 1) y (sized-at M r x s))
-
   pub on-three : Sized M → r < 94 → (markOf three r ≡ x) × (markOf three (r + 1) ≡ y) × (markOf three (r + 2) ≡ z)
   on-three s low =
       let s₁ = sized-at M r x s in
