@@ -12,6 +12,7 @@ use Rattle.field.specs.Modulus.{p}
 use Rattle.poly.specs.Counting.{count, agreements}
 use Rattle.poly.specs.Polynomial.{value}
 use Rattle.poly.proofs.Theorems.{false-polynomials-pass}
+use Rattle.session.specs.Sessions.{withPoint}
 use Rattle.opening.specs.Walking.{blockMark, blockCoefficients, accepts}
 use Rattle.vectors.specs.Vector.{numbers}
 use Rattle.vectors.specs.Claims.{heldRow}
