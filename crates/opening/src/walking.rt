@@ -116,7 +116,7 @@ pub fn open_row<'a>(party: Party, row: &'a [u32], blocks: &'a [u32]) -> Opened
 {
     let shape = party.shape;
     let count = shape.v_len();
-    let need = shape.needed();
+    let most = shape.needed();
     let mut weights = [0u32; shape::LONGEST_V];
     let mut posts = [0u32; shape::MOST_POSTS];
     let mut shares = [0u32; shape::MOST_POSTS];
@@ -125,7 +125,7 @@ pub fn open_row<'a>(party: Party, row: &'a [u32], blocks: &'a [u32]) -> Opened
         row,
         blocks,
         &mut weights[..count],
-        &mut posts[..need],
-        &mut shares[..need],
+        &mut posts[..most],
+        &mut shares[..most],
     )
 }

@@ -1,3 +1,4 @@
+-- `open` meets its contract.
 use borrow.Author.Needs.{needs}
 use Rattle.opening.proofs.Opens.{open-refused, open-row-sized, open-row-in, row-openable, open-few, open-done}
 use Rattle.opening.proofs.open.Statement.{statement}

@@ -1,3 +1,4 @@
+-- `open_checks` meets its contract.
 use borrow.Author.Needs.{needs}
 use Rattle.session.proofs.Calls.{frame-passed, shape-valid}
 use Rattle.opening.proofs.Opens.{record-long, open-stopped, open-sized, open-checked}

@@ -1,3 +1,4 @@
+-- `own_checks` meets its contract.
 use borrow.Author.Needs.{needs}
 use Rattle.session.proofs.Calls.{same-sized}
 use Rattle.opening.proofs.Opens.{own-recorded, own-checked}

@@ -1,3 +1,4 @@
+-- `record::bad_block` meets its contract.
 use borrow.Author.Needs.{needs}
 use Rattle.opening.proofs.Blocks.{good-own, good-absent, bad-mark, bad-numbers}
 use Rattle.opening.proofs.record.bad_block.Statement.{statement}

@@ -1,3 +1,4 @@
+-- `record::block_at` meets its contract.
 use borrow.Author.Needs.{needs}
 use Rattle.opening.proofs.Blocks.{block-start, block-fits}
 use Rattle.opening.proofs.record.block_at.Statement.{statement}

@@ -1,3 +1,4 @@
+-- `record::sent` meets its contract.
 use borrow.Author.Needs.{needs}
 use Rattle.opening.proofs.Blocks.{own-fits, sent-own, sent-block, sent-none}
 use Rattle.opening.proofs.record.sent.Statement.{statement}

@@ -1,3 +1,4 @@
+-- `walking::accepts` meets its contract.
 use borrow.Author.Needs.{needs}
 use Rattle.opening.proofs.Blocks.{accepted-none, accepted-value}
 use Rattle.opening.proofs.walking.accepts.Statement.{statement}

@@ -1,3 +1,4 @@
+-- `walking::open_in` meets its contract.
 use borrow.Author.Needs.{needs}
 use Rattle.opening.proofs.Fronts.{powers-whole}
 use Rattle.opening.proofs.Walks.{walk-opens}

@@ -1,3 +1,4 @@
+-- `walking::open_row` meets its contract.
 use mathlib.Core.Path.{refl}
 use borrow.Author.Needs.{needs}
 use Rattle.shape.specs.Bounds.{mostPosts, longestV}

@@ -1,3 +1,4 @@
+-- `walking::settle` meets its contract.
 use borrow.Author.Needs.{needs}
 use Rattle.opening.proofs.Fronts.{settled-enough, settled-few}
 use Rattle.opening.proofs.walking.settle.Statement.{statement}

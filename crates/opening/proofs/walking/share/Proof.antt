@@ -1,3 +1,4 @@
+-- `walking::share` meets its contract.
 use borrow.Author.Needs.{needs}
 use Rattle.opening.specs.Accepting.{share}
 use Rattle.opening.proofs.walking.share.Statement.{statement}

@@ -1,3 +1,4 @@
+-- `finish::finish` meets its contract.
 use borrow.Author.Needs.{needs}
 use Rattle.product.proofs.Openings.{finish-refused, finish-kept, finish-row, finish-done, finish-sized, finish-in, finish-written}
 use Rattle.product.proofs.finish.finish.Statement.{statement}

@@ -1,3 +1,4 @@
+-- `finish::finish_checks` meets its contract.
 use borrow.Author.Needs.{needs}
 use Rattle.product.proofs.Finishing.{checks-stopped, finish-valid, checks-misplaced, finish-placed, checks-done}
 use Rattle.product.proofs.finish.finish_checks.Statement.{statement}

@@ -1,3 +1,4 @@
+-- `finish::finish_numbers` meets its contract.
 use borrow.Author.Needs.{needs}
 use Rattle.session.proofs.Calls.{same-sized}
 use Rattle.product.proofs.Finishing.{same-recorded, numbers-joined}

@@ -1,3 +1,4 @@
+-- `finish::finish_place` meets its contract.
 use borrow.Author.Needs.{needs}
 use Rattle.session.proofs.Calls.{same-valid}
 use Rattle.product.proofs.Finishing.{place-joined}

@@ -1,3 +1,4 @@
+-- `finish::open_both` meets its contract.
 use borrow.Author.Needs.{needs}
 use Rattle.product.proofs.Finishing.{same-recorded, party-sized, party-row, party-first, party-second}
 use Rattle.product.proofs.Openings.{both-refused, both-opened}

@@ -1,3 +1,4 @@
+-- `finish::open_mask` meets its contract.
 use mathlib.Core.Path.{refl}
 use borrow.Author.Needs.{needs}
 use Rattle.shape.specs.Bounds.{longestRow}

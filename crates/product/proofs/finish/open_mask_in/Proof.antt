@@ -1,3 +1,4 @@
+-- `finish::open_mask_in` meets its contract.
 use borrow.Author.Needs.{needs}
 use Rattle.product.proofs.Openings.{mask-openable, mask-opened}
 use Rattle.product.proofs.finish.open_mask_in.Statement.{statement}

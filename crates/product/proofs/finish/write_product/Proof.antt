@@ -1,3 +1,4 @@
+-- `finish::write_product` meets its contract.
 use borrow.Author.Needs.{needs}
 use Rattle.product.proofs.Sums.{product-written}
 use Rattle.product.proofs.finish.write_product.Statement.{statement}

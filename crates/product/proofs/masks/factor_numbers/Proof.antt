@@ -1,3 +1,4 @@
+-- `masks::factor_numbers` meets its contract.
 use borrow.Author.Needs.{needs}
 use Rattle.product.proofs.Joining.{numbers-joined}
 use Rattle.product.proofs.masks.factor_numbers.Statement.{statement}

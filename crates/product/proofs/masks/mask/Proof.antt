@@ -1,3 +1,4 @@
+-- `masks::mask` meets its contract.
 use borrow.Author.Needs.{needs}
 use Rattle.product.proofs.Differences.{front-long, front-size, mask-front}
 use Rattle.product.proofs.masks.mask.Statement.{statement}

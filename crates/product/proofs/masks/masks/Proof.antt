@@ -1,3 +1,4 @@
+-- `masks::masks` meets its contract.
 use borrow.Author.Needs.{needs}
 use Rattle.session.proofs.Endings.{endings}
 use Rattle.product.proofs.Masking.{masks-rows, masks-allowed, masks-written}

@@ -1,3 +1,4 @@
+-- `masks::masks_accepted` meets its contract.
 use borrow.Author.Needs.{needs}
 use Rattle.product.proofs.Differences.{half-long, half-size, masks-filled}
 use Rattle.product.proofs.masks.masks_accepted.Statement.{statement}

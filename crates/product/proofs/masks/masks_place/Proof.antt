@@ -1,3 +1,4 @@
+-- `masks::masks_place` meets its contract.
 use borrow.Author.Needs.{needs}
 use Rattle.session.proofs.Calls.{same-valid}
 use Rattle.product.proofs.Masking.{place-joined}

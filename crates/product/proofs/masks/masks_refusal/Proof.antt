@@ -1,3 +1,4 @@
+-- `masks::masks_refusal` meets its contract.
 use borrow.Author.Needs.{needs}
 use Rattle.session.proofs.Calls.{shape-sized}
 use Rattle.product.proofs.Masking.{masks-stopped, masks-valid, masks-misplaced, masks-placed, masks-checked}

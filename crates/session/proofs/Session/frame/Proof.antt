@@ -1,3 +1,4 @@
+-- `Session::frame` meets its contract.
 use borrow.Author.Needs.{needs}
 use Rattle.session.proofs.Passed.{frame-stopped, frame-valid, frame-sized}
 use Rattle.session.proofs.Session.frame.Statement.{statement}

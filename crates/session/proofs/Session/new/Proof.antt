@@ -1,3 +1,4 @@
+-- `Session::new` meets its contract.
 use borrow.Author.Needs.{needs}
 use Rattle.session.specs.Sessions.{created}
 use Rattle.session.proofs.Endings.{endings}

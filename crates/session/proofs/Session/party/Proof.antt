@@ -1,3 +1,4 @@
+-- `Session::party` meets its contract.
 use mathlib.Core.Path.{_≡_, ap}
 use borrow.Author.Needs.{needs}
 use Rattle.shape.specs.declared.Shape.{Shape}

@@ -1,3 +1,4 @@
+-- `rows::add_to_each` meets its contract.
 use Prim.Native.Nat.{_-_}
 use mathlib.Core.List.{map}
 use lib.ListN.{length}

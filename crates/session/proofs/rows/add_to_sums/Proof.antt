@@ -1,3 +1,4 @@
+-- `rows::add_to_sums` meets its contract.
 use borrow.Author.Needs.{needs}
 use Rattle.session.specs.Rows.{plusSums}
 use Rattle.session.proofs.RowLaws.{sums-put}

@@ -1,3 +1,4 @@
+-- `rows::put_row` meets its contract.
 use borrow.Author.Needs.{needs}
 use Rattle.session.proofs.RowLaws.{row-put}
 use Rattle.session.proofs.rows.put_row.Statement.{statement}

@@ -1,3 +1,4 @@
+-- `rows::row` meets its contract.
 use borrow.Author.Needs.{needs}
 use Rattle.session.proofs.RowLaws.{row-part, row-wide}
 use Rattle.session.proofs.rows.row.Statement.{statement}

@@ -1,3 +1,4 @@
+-- `rows::row_at` meets its contract.
 use borrow.Author.Needs.{needs}
 use Rattle.session.proofs.RowLaws.{start-is, start-fits}
 use Rattle.session.proofs.rows.row_at.Statement.{statement}

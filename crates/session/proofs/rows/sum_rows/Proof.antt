@@ -1,3 +1,4 @@
+-- `rows::sum_rows` meets its contract.
 use borrow.Author.Needs.{needs}
 use Rattle.session.proofs.Summed.{sum-with-fee}
 use Rattle.session.proofs.rows.sum_rows.Statement.{statement}

@@ -1,3 +1,4 @@
+-- `Shape::record_len` meets its contract.
 use borrow.Author.Needs.{needs}
 use Rattle.shape.proofs.Small.{small}
 use Rattle.shape.proofs.Shape.record_len.Statement.{statement}

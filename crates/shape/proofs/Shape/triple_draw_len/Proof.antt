@@ -1,3 +1,4 @@
+-- `Shape::triple_draw_len` meets its contract.
 use borrow.Author.Needs.{needs}
 use Rattle.shape.proofs.Small.{small}
 use Rattle.shape.proofs.Shape.triple_draw_len.Statement.{statement}

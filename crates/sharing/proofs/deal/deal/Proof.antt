@@ -1,3 +1,4 @@
+-- `deal::deal` meets its contract.
 use borrow.Author.Needs.{needs}
 use Rattle.session.proofs.Endings.{endings}
 use Rattle.sharing.proofs.Dealing.{deal-row, deal-sized, deal-in, deal-written}

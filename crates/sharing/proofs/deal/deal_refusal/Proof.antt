@@ -1,3 +1,4 @@
+-- `deal::deal_refusal` meets its contract.
 use borrow.Author.Needs.{needs}
 use Rattle.session.proofs.Calls.{shape-sized}
 use Rattle.sharing.proofs.Dealing.{deal-stopped, deal-checked}

@@ -1,3 +1,4 @@
+-- `linear::linear` meets its contract.
 use borrow.Author.Needs.{needs}
 use Rattle.session.proofs.Endings.{endings}
 use Rattle.sharing.proofs.Combining.{linear-row, linear-sized, linear-in, linear-in-a, linear-in-b, linear-written}

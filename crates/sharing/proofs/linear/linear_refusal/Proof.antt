@@ -1,3 +1,4 @@
+-- `linear::linear_refusal` meets its contract.
 use borrow.Author.Needs.{needs}
 use Rattle.session.proofs.Calls.{shape-sized}
 use Rattle.sharing.proofs.Combining.{linear-stopped, linear-checked}

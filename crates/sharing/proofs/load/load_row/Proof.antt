@@ -1,3 +1,4 @@
+-- `load::load_row` meets its contract.
 use borrow.Author.Needs.{needs}
 use Rattle.session.proofs.Endings.{endings}
 use Rattle.sharing.proofs.Loading.{load-row-row, load-row-sized, load-row-in, load-row-long, load-row-written}

@@ -1,3 +1,4 @@
+-- `load::load_triple` meets its contract.
 use borrow.Author.Needs.{needs}
 use Rattle.session.proofs.Endings.{endings}
 use Rattle.sharing.proofs.Loading.{load-triple-row, load-triple-sized, load-triple-in, load-triple-long, load-triple-written}

@@ -1,3 +1,4 @@
+-- `load::load_triple_accepted` meets its contract.
 use borrow.Author.Needs.{needs}
 use Rattle.sharing.proofs.Triples.{triple-loaded}
 use Rattle.sharing.proofs.load.load_triple_accepted.Statement.{statement}

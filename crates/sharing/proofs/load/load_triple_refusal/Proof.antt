@@ -1,3 +1,4 @@
+-- `load::load_triple_refusal` meets its contract.
 use borrow.Author.Needs.{needs}
 use Rattle.session.proofs.Calls.{shape-valid}
 use Rattle.sharing.proofs.Loading.{load-triple-stopped, load-triple-misplaced, load-triple-checked}

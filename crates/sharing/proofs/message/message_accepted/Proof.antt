@@ -1,3 +1,4 @@
+-- `message::message_accepted` meets its contract.
 use borrow.Author.Needs.{needs}
 use Rattle.sharing.proofs.Messages.{front-long, front-size, front-copied}
 use Rattle.sharing.proofs.message.message_accepted.Statement.{statement}

@@ -1,3 +1,4 @@
+-- `message::message_refusal` meets its contract.
 use borrow.Author.Needs.{needs}
 use Rattle.session.proofs.Calls.{shape-sized, shape-valid}
 use Rattle.sharing.proofs.Messages.{message-stopped, message-checked}

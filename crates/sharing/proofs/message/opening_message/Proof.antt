@@ -1,3 +1,4 @@
+-- `message::opening_message` meets its contract.
 use borrow.Author.Needs.{needs}
 use Rattle.session.proofs.Endings.{endings}
 use Rattle.sharing.proofs.Messages.{message-sized, message-in, message-long, message-written}
