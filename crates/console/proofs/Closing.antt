@@ -1,12 +1,11 @@
 -- The end of the input, and of the program.
-use Prim.Native.Nat.{ℕ, _+_, _≤_, _<_, _^_}
+use Prim.Native.Nat.{ℕ, _+_, _≤_, _<_}
 use mathlib.Core.Path.{_≡_, refl, ap, sym, _∙_}
-use mathlib.Core.Bool.{Bool, true, false, not, cond, true≢false}
+use mathlib.Core.Bool.{Bool, true, false, not, true≢false}
 use mathlib.Core.List.{List, [], _∷_, _++_, append-assoc}
 use native.Mathlib.Omega.{arith}
 use borrow.Author.Tests.{ne-eqb}
 use lib.ListN.{length, take}
-use Rattle.transcript.specs.declared.Feed.{Feed}
 use Rattle.transcript.specs.declared.Progress.{Progress}
 use Rattle.transcript.specs.Text.{header}
 use Rattle.transcript.specs.Program.{Running, running, closed, drained, passed, printedFor, begun, fed, Open}
@@ -30,7 +29,8 @@ module _ (s : Served) (b : Bool) (f : b ≡ brokenOff s) where
   unbroken-whole e = neither (s .got .failed) (s .printed .whole) (sym f ∙ e) .1
 
 module _ (s : Served) (rows blocks line out newLine : List ℕ) (g : Progress) (rows' blocks' out' : List ℕ)
-    (m : Moved (openRefusal (s .feed) rows blocks line out 1) 1 (s .feed) rows blocks line out (closed (running (s .feed) rows blocks line out)) newLine g rows' blocks' line out')
+    (m : Moved (openRefusal (s .feed) rows blocks line out 1) 1 (s .feed) rows blocks line out
+    (closed (running (s .feed) rows blocks line out)) newLine g rows' blocks' line out')
     (o : Open (s .feed) rows blocks line out 1) where
   none : openRefusal (s .feed) rows blocks line out 1 ≡ 0
   none = open-none (s .feed) rows blocks line out 1 o
@@ -40,7 +40,8 @@ module _ (s : Served) (rows blocks line out newLine : List ℕ) (g : Progress) (
 
   pub finished-closed : (q : Printed) → length out' ≡ length out → (b : Bool) → b ≡ brokenOff s → b ≡ false
       → q .total ≡ wrapped (s .printed .total + length (take (g .feed .at) out'))
-      → Finished (running (s .feed) rows blocks line out) (running (g .feed) rows' blocks' line out') out' s (record { feed = g .feed; got = s .got; printed = q })
+      → Finished (running (s .feed) rows blocks line out) (running (g .feed) rows' blocks' line out') out' s
+      (record { feed = g .feed; got = s .got; printed = q })
   finished-closed q l b f e t =
       let c : running (g .feed) rows' blocks' line out' ≡ closed (running (s .feed) rows blocks line out) = m .says none in
       record {

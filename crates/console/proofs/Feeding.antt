@@ -1,5 +1,5 @@
 -- One chunk: what it leaves, and what is handed to standard output.
-use Prim.Native.Nat.{ℕ, _+_, _≤_, _<_}
+use Prim.Native.Nat.{ℕ, _+_, _≤_}
 use mathlib.Core.Path.{_≡_, refl, ap, sym, _∙_}
 use mathlib.Core.Bool.{Bool, true, false, not, cond, true≢false}
 use mathlib.Core.List.{List}
@@ -33,7 +33,8 @@ handed-first answers out at before after h e q =
 
 -- ---- a chunk is not refused
 module _ (f : Feed) (rows blocks line out chunk newLine : List ℕ) (g : Progress) (rows' blocks' line' out' : List ℕ)
-    (m : Moved (openRefusal f rows blocks line out (length chunk)) (length chunk) f rows blocks line out (fed (running f rows blocks line out) chunk) newLine g rows' blocks' line' out')
+    (m : Moved (openRefusal f rows blocks line out (length chunk)) (length chunk) f rows blocks line out
+    (fed (running f rows blocks line out) chunk) newLine g rows' blocks' line' out')
     (o : Open f rows blocks line out chunkSize) (h : length chunk ≤ chunkSize) where
   none : openRefusal f rows blocks line out (length chunk) ≡ 0
   none = open-none f rows blocks line out (length chunk) (open-fewer f rows blocks line out (length chunk) chunkSize h o)

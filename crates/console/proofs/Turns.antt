@@ -1,13 +1,13 @@
 -- From chunk to chunk: what holds before each, and where the reading stops.
 use Prim.Native.Nat.{ℕ, _+_, _-_, _*_, _≤_, _<_, _^_}
-use mathlib.Core.Path.{_≡_, refl, ap, ap₂, sym, _∙_}
-use mathlib.Core.Bool.{Bool, true, false, cond, true≢false}
+use mathlib.Core.Path.{_≡_, refl, ap, sym, _∙_}
+use mathlib.Core.Bool.{Bool, true, false, true≢false}
 use mathlib.Core.List.{List, [], _∷_, _++_, append-assoc, append-nil}
 use native.Mathlib.Omega.{arith}
 use native.Mathlib.Nat.{mod-add-mod}
 use borrow.Author.Tests.{eqb-false}
 use lib.Dec.{eqb}
-use lib.ListN.{length, take, replicate, length-replicate, length-append}
+use lib.ListN.{length, take, length-replicate, length-append}
 use Rattle.station.specs.Step.{Ready}
 use Rattle.station.proofs.Hearing.{prefix-length}
 use Rattle.transcript.specs.declared.Feed.{Feed}
@@ -55,7 +55,7 @@ first-ready rows blocks a b =
     record { rows-room = a; blocks-room = b; in-range = λ e. let z : _≡_ {A = ℕ} 0 1 = cc in absurd (omega arith) }
 
 pub held-start : (f : Feed) (rows blocks line chunk out : List ℕ) (p : Printed) → Fresh rows blocks line chunk out → Begun p → f ≡ firstFeed
-    → Held f rows blocks line chunk out p 2251799813685248
+    → Held f rows blocks line chunk out p allTurns
 unfolding passed printedFor
 held-start f rows blocks line chunk out p h b e =
     let la : length rows ≡ 9216 = ap length (h .rows-zero) ∙ length-replicate {A = ℕ} 9216 0 in

@@ -1,9 +1,9 @@
 -- What was read and printed: for a chunk, up to the last chunk, and at the end.
-use Prim.Native.Nat.{ℕ, _+_, _≤_, _<_}
+use Prim.Native.Nat.{ℕ, _+_, _<_}
 use mathlib.Core.Path.{_≡_}
 use mathlib.Core.Bool.{Bool, true, false, not, cond}
 use mathlib.Core.List.{List, [], _∷_, _++_}
-use lib.ListN.{length, take, replicate}
+use lib.ListN.{length, take}
 use lib.Dec.{eqb}
 use Rattle.transcript.specs.Text.{header}
 use Rattle.transcript.specs.Lines.{keptLength}
@@ -14,8 +14,8 @@ use Rattle.console.specs.Sizes.{chunkSize, answersRoom, allTurns, wrappe
 
 -- The lent lists before the first chunk.
 pub record Fresh (rows blocks line chunk out : List ℕ) : Type 0 where
-  pub rows-zero : rows ≡ replicate 9216 0
-  pub blocks-zero : blocks ≡ replicate 1056 0
+  pub rows-zero : rows ≡ begun .rows
+  pub blocks-zero : blocks ≡ begun .blocks
   pub line-room : length line ≡ keptLength
   pub chunk-room : length chunk ≡ chunkSize
   pub out-room : length out ≡ answersRoom
@@ -48,24 +48,39 @@ abbrev pub Filled : List (List ℕ) → Type 0
 Filled [] = Unit {0}
 Filled (c ∷ cs) = (0 < length c) × Filled cs
 
+-- The program after chunks, each of which was taken and its answers printed; and what was printed up to there.
+abbrev pub after : List (List ℕ) → Running
+after chunks = passed (drained begun) chunks
+
+abbrev pub printedUpTo : List (List ℕ) → List ℕ
+printedUpTo chunks = header ++ printedFor (drained begun) chunks
+
 -- The program stopped after these chunks: the last is empty, its answers were not taken, or the turns ran out.
 pub record Stopped (p : Running) (s : Served) : Type 0 where
   pub chunks : List (List ℕ)
   pub last : List ℕ
   pub filled : Filled chunks
   pub read : length last ≡ s .got .count
-  pub passes : p ≡ passed (drained begun) (chunks ++ (last ∷ []))
-  pub count : s .printed .total ≡ wrapped (length (header ++ printedFor (drained begun) (chunks ++ (last ∷ []))))
+  pub passes : p ≡ after (chunks ++ (last ∷ []))
+  pub count : s .printed .total ≡ wrapped (length (printedUpTo (chunks ++ (last ∷ []))))
   pub why : stopsAt s ≡ false → length chunks + 1 ≡ allTurns
 
--- "The end of input without a line feed ends a line.", unless the program broke off: then nothing more is printed.
+-- The end of the input ends a line that was begun. Where the program broke off nothing more is printed, and all stays as it was.
 pub record Finished (p q : Running) (out : List ℕ) (s r : Served) : Type 0 where
   pub same : r .got ≡ s .got
   pub broken : brokenOff s ≡ true → (q ≡ p) × (r .printed ≡ s .printed)
   pub closes : brokenOff s ≡ false → (q ≡ closed p) × Handed (closed p .out) out (s .printed) (r .printed)
 
--- How many lines were answered and how many bytes printed, whether reading failed, and whether printing did: for some chunks all
--- that `output` has for them, unless the program broke off.
+-- The program at its end, with the answer to a last line or without; and what was printed in all.
+abbrev pub finally : Bool → List (List ℕ) → Running
+finally closing chunks = cond closing (closed (after chunks)) (after chunks)
+
+abbrev pub printedInAll : Bool → List (List ℕ) → List ℕ
+printedInAll closing chunks = cond closing (output (joined chunks)) (printedUpTo chunks)
+
+-- How many lines were answered, how many bytes were handed to standard output, whether reading failed, and whether printing did.
+-- No contract says which bytes are read: it is so for some chunks, of which only the last may be empty. Where nothing failed the
+-- last is empty, or the turns ran out, and the whole output of these chunks was printed.
 pub record Ended (lines total : ℕ) (unread unwritten : Bool) : Type 0 where
   pub chunks : List (List ℕ)
   pub last : List ℕ
@@ -74,5 +89,5 @@ pub record Ended (lines total : ℕ) (unread unwritten : Bool) : Type 0 where
   pub closing : Bool
   pub whole : unread ≡ false → unwritten ≡ false → closing ≡ true
   pub cut : unread ≡ true → closing ≡ false
-  pub lines-is : lines ≡ cond closing (closed (passed (drained begun) (chunks ++ (last ∷ [])))) (passed (drained begun) (chunks ++ (last ∷ []))) .number
-  pub count : total ≡ wrapped (length (cond closing (output (joined (chunks ++ (last ∷ [])))) (header ++ printedFor (drained begun) (chunks ++ (last ∷ [])))))
+  pub lines-is : lines ≡ finally closing (chunks ++ (last ∷ [])) .number
+  pub count : total ≡ wrapped (length (printedInAll closing (chunks ++ (last ∷ []))))

@@ -1,5 +1,6 @@
 // The street program: reads chunks, and prints the answers to their lines. What lines and answers are is said in `transcript`
 // and below.
+mod notes;
 mod port;
 
 use port::Got;
@@ -12,9 +13,21 @@ ghost use lib.ListN.{length, take};
 ghost use Rattle.transcript.specs.Program.{running, Open};
 ghost use Rattle.console.specs.Sizes.{chunkSize};
 ghost use Rattle.console.specs.Serving.{Fresh, Begun, Answered, stopsAt, brokenOff, Stopped, Finished, Ended};
-ghost use Rattle.console.specs.Notes.{unreadNote, unwrittenNote, noteFor};
+ghost use Rattle.console.specs.Notes.{noteFor};
 
-const TURNS: u64 = 2251799813685248;
+// Room for the largest session's rows and record, for a line, for a chunk and for its answers: at most 43 bytes for each byte.
+const ROWS: usize = 9216;
+
+const BLOCKS: usize = 1056;
+
+const LINE: usize = 1062;
+
+const CHUNK: usize = 4096;
+
+const ANSWER_BYTES: usize = 43 * CHUNK;
+
+// Nothing says that an input ends: no run uses up these turns.
+const TURNS: u64 = 1 << 51;
 
 // The program after a chunk: what is kept, and what was printed.
 struct Answers {
@@ -200,6 +213,7 @@ pub struct Ending {
     pub unwritten: bool,
 }
 
+// The same, with the note on what failed.
 pub struct Outcome {
     pub ending: Ending,
     // how many bytes were handed to standard error
@@ -211,11 +225,11 @@ fn serve_input(header: Printed) -> Ending
     requires { ⌜ Begun header ⌝ }
     ensures { λ r. ⌜ Ended (r .lines) (r .total) (r .unread) (r .unwritten) ⌝ }
 {
-    let mut rows = [0u32; 9216];
-    let mut blocks = [0u32; 1056];
-    let mut line = [0u8; 1062];
-    let mut chunk = [0u8; 4096];
-    let mut out = [0u8; 176128];
+    let mut rows = [0u32; ROWS];
+    let mut blocks = [0u32; BLOCKS];
+    let mut line = [0u8; LINE];
+    let mut chunk = [0u8; CHUNK];
+    let mut out = [0u8; ANSWER_BYTES];
     let served = serve(
         header,
         &mut rows,
@@ -233,33 +247,6 @@ fn serve_input(header: Printed) -> Ending
         unread: got.failed(),
         unwritten: !printed.whole(),
     }
-}
-
-fn unread_note() -> [u8; 28]
-    ensures { λ r. ⌜ r ≡ unreadNote ⌝ }
-{
-    *b"the input could not be read\n"
-}
-
-fn unwritten_note() -> [u8; 33]
-    ensures { λ r. ⌜ r ≡ unwrittenNote ⌝ }
-{
-    *b"the answers could not be written\n"
-}
-
-// Says what failed; how many bytes were handed to standard error.
-fn note(unread: bool, unwritten: bool) -> usize
-    ensures { λ r. ⌜ r ≡ length (noteFor unread unwritten) ⌝ }
-{
-    if unread {
-        let text = unread_note();
-        return port::note(&text);
-    }
-    if unwritten {
-        let text = unwritten_note();
-        return port::note(&text);
-    }
-    0
 }
 
 // Prints the header, and reads where it was taken.
@@ -286,6 +273,6 @@ pub fn run() -> Outcome
     let ending = start();
     Outcome {
         ending,
-        noted: note(ending.unread, ending.unwritten),
+        noted: notes::say(ending.unread, ending.unwritten),
     }
 }

@@ -1,5 +1,5 @@
 -- The loops over the fields of a line: the first pass, which tells what they are like, and the second, which takes their numbers.
-use Prim.Native.Nat.{ℕ, suc, _+_, _-_, _≤_, _<_, _^_}
+use Prim.Native.Nat.{ℕ, suc, _+_, _-_, _≤_, _<_}
 use mathlib.Core.Path.{_≡_, refl, sym, subst, _∙_}
 use mathlib.Core.List.{List, [], _∷_, _++_, append-assoc, append-nil}
 use mathlib.Core.Bool.{Bool, true, false, _&&_, cond}
@@ -7,8 +7,6 @@ use native.Mathlib.Omega.{arith}
 use native.Mathlib.Numerals.{add-one}
 use borrow.Author.Fill.{fill-more}
 use borrow.Author.Tests.{eqb-true, eq-eqb, ne-eqb}
-use mir.Syntax.{w32, w64}
-use mir.Val.{Fits}
 use lib.ListN.{length, getD, set, take, drop, replicate, length-set, List·getD-eq-default}
 use lib.Seq.{take-suc-set, take-all, drop-length}
 use lib.Dec.{eqb, ltb}
@@ -20,7 +18,6 @@ use Rattle.decimal.specs.Numeral.{fieldAt}
 use Rattle.fields.specs.declared.Tally.{Tally}
 use Rattle.fields.specs.Walk.{commaField, placeBehind, counted, settled, numberIn}
 use Rattle.fields.specs.Fields.{Parsed, parsed, malformed, push, behind, fieldsAt, ended, numbersOf, largestFrom, runFrom, runOf, Fillable}
-use Rattle.decimal.proofs.Positions.{inside}
 
 -- ---- the first pass: what is known so far with what the rest says is what the whole says
 abbrev pub restRun : Tally → List ℕ → ℕ → Run
@@ -31,7 +28,8 @@ module _ (s : List ℕ) (at : ℕ) where
   push-run m x (parsed xs next) = refl
   push-run m x malformed = refl
 
-  one-more : (n m : ℕ) (w b : Bool) (g : Field) → restRun (counted (record { left = n + 1; largest = m; whole = w }) (cond b g Wrong)) s (placeBehind (cond b g Wrong) at)
+  one-more : (n m : ℕ) (w b : Bool) (g : Field)
+      → restRun (counted (record { left = n + 1; largest = m; whole = w }) (cond b g Wrong)) s (placeBehind (cond b g Wrong) at)
       ≡ cond w (runFrom m (cond b (behind g (λ x next. push x (fieldsAt n s next))) malformed)) Broken
   one-more n m true true (Number x next) = let e : n + 1 - 1 ≡ n = omega arith in rw e (push-run m x (fieldsAt n s next))
   one-more n m true true Wrong = refl
@@ -49,13 +47,34 @@ module _ (s : List ℕ) (at : ℕ) where
       ≡ restRun (record { left = n; largest = t .largest; whole = t .whole }) s at) (sym e)
       (one-more (t .left - 1) (t .largest) (t .whole) (eqb (getD s at 0) 44) (fieldAt s (at + 1)) ∙ rw d)
 
-  pub fewer-left : (t : Tally) (f : Field) → 0 < t .left → counted t f .left < t .left
-  fewer-left t (Number x next) h = omega arith
-  fewer-left t Wrong h = h
-
-  pub passed-end : (t : Tally) → t .left ≤ 0 → settled t at ≡ restRun t s at
+  passed-end : (t : Tally) → t .left ≤ 0 → settled t at ≡ restRun t s at
   unfolding fieldsAt
   passed-end t h = let e : t .left ≡ 0 = omega arith in rw e
+
+pub fewer-left : (t : Tally) (f : Field) → 0 < t .left → counted t f .left < t .left
+fewer-left t (Number x next) h = omega arith
+fewer-left t Wrong h = h
+
+-- how far the reader has read, and what has been counted
+pub record Passed (s : List ℕ) (from-at k : ℕ) : Type 0 where
+  pub at : ℕ
+  pub tally : Tally
+  pub leads : restRun tally s at ≡ runOf (fieldsAt k s from-at)
+
+module _ (s : List ℕ) (from-at k : ℕ) where
+  abbrev pub passed-start : Passed s from-at k
+  passed-start = record { at = from-at; tally = record { left = k; largest = 0; whole = true }; leads = refl }
+
+  abbrev pub passed-further : (p : Passed s from-at k) → 0 < p .tally .left → Passed s from-at k
+  passed-further p h =
+      record {
+        at = placeBehind (commaField s (p .at)) (p .at);
+        tally = counted (p .tally) (commaField s (p .at));
+        leads = passed-more s (p .at) (p .tally) h ∙ p .leads;
+      }
+
+  pub passed-all : (p : Passed s from-at k) → p .tally .left ≤ 0 → settled (p .tally) (p .at) ≡ runOf (fieldsAt k s from-at)
+  passed-all p h = passed-end s (p .at) (p .tally) h ∙ p .leads
 
 -- ---- what stands behind the fields
 module _ (s : List ℕ) (o : Parsed) (r : Run) (e : r ≡ runOf o) where
@@ -123,51 +142,74 @@ takeable s pos j h = comma (eqb (getD s pos 0) 44) refl h
     comma false e h = absurd h
 
 -- ---- the second pass: the numbers taken, and then those of the rest, are those of the whole
-pub record Taken (s : List ℕ) (at k : ℕ) (out : List ℕ) (pos i : ℕ) : Type 0 where
-  pub within : i ≤ k
-  pub same : length out ≡ k
-  pub rest : Fillable (fieldsAt (k - i) s pos)
-  pub says : take i out ++ numbersOf (fieldsAt (k - i) s pos) ≡ numbersOf (fieldsAt k s at)
+pub record Taken (s ys : List ℕ) (from-at : ℕ) : Type 0 where
+  pub at : ℕ
+  pub i : ℕ
+  pub out : List ℕ
+  pub within : i ≤ length ys
+  pub same : length out ≡ length ys
+  pub rest : Fillable (fieldsAt (length ys - i) s at)
+  pub says : take i out ++ numbersOf (fieldsAt (length ys - i) s at) ≡ numbersOf (fieldsAt (length ys) s from-at)
 
-pub taken-start : (s out : List ℕ) (at : ℕ) → Fillable (fieldsAt (length out) s at) → Taken s at (length out) out at 0
-taken-start s out at h =
-    let e : length out - 0 ≡ length out = omega arith in
-    record { within = omega arith; same = refl; rest = rw e h; says = rw e }
+module _ (s ys : List ℕ) (from-at : ℕ) where
+  abbrev k : ℕ
+  k = length ys
 
-module _ (s : List ℕ) (at k : ℕ) (out : List ℕ) (pos i : ℕ) (inv : Taken s at k out pos i) where
-  pub taken-same : length out ≡ k
-  taken-same = inv .same
+  abbrev pub taken-start : Fillable (fieldsAt k s from-at) → Taken s ys from-at
+  taken-start h =
+      let e : k - 0 ≡ k = omega arith in
+      record { at = from-at; i = 0; out = ys; within = omega arith; same = refl; rest = rw e h; says = rw e }
 
-  pub taken-end : k ≤ i → out ≡ numbersOf (fieldsAt k s at)
-  unfolding fieldsAt
-  taken-end h =
-      let n : k - i ≡ 0 = omega arith in
-      let l : length out ≤ i = omega (arith, inv .same) in
-      sym (append-nil out) ∙ (rw (n, take-all i out l) at (inv .says))
+  module _ (t : Taken s ys from-at) where
+    pub taken-end : k ≤ t .i → t .out ≡ numbersOf (fieldsAt k s from-at)
+    unfolding fieldsAt
+    taken-end h =
+        let n : k - t .i ≡ 0 = omega arith in
+        let l : length (t .out) ≤ t .i = omega (arith, t .same) in
+        sym (append-nil (t .out)) ∙ (rw (n, take-all (t .i) (t .out) l) at (t .says))
 
-  module _ (h : i < k) where
-    field-there : Takeable s pos (k - (i + 1))
-    field-there = let n : k - i ≡ suc (k - (i + 1)) = omega arith in takeable s pos (k - (i + 1)) (rw n at (inv .rest))
+    module _ (h : t .i < k) where
+      field-there : Takeable s (t .at) (k - (t .i + 1))
+      field-there =
+          let n : k - t .i ≡ suc (k - (t .i + 1)) = omega arith in
+          takeable s (t .at) (k - (t .i + 1)) (rw n at (t .rest))
 
-    comma-number : commaField s pos ≡ Number (field-there .x) (field-there .next)
-    comma-number = rw (field-there .comma, field-there .number)
+      comma-number : commaField s (t .at) ≡ Number (field-there .x) (field-there .next)
+      comma-number = rw (field-there .comma, field-there .number)
 
-    pub taken-index : i < length out
-    taken-index = omega (arith, inv .same)
+      pub taken-index : t .i < length (t .out)
+      taken-index = omega (arith, t .same)
 
-    pub taken-narrow : numberIn (commaField s pos) < 4294967296
-    taken-narrow = rw comma-number (field-there .narrow)
+      pub taken-narrow : numberIn (commaField s (t .at)) < 4294967296
+      taken-narrow = rw comma-number (field-there .narrow)
 
-    pub taken-more : Taken s at k (set out i (numberIn (commaField s pos))) (placeBehind (commaField s pos) pos) (i + 1)
-    taken-more =
-        let d = field-there in
-        let n : k - i ≡ suc (k - (i + 1)) = omega arith in
-        rw comma-number record {
-          within = omega arith;
-          same = length-set out i (d .x) ∙ inv .same;
-          rest = d .rest;
-          says = rw (add-one i, take-suc-set out i (d .x) taken-index) (append-assoc (take i out) (d .x ∷ []) _ ∙ (rw (n, d .says, add-one i) at (inv .says)));
-        }
+      abbrev next : ℕ
+      next = placeBehind (commaField s (t .at)) (t .at)
+
+      abbrev new : List ℕ
+      new = set (t .out) (t .i) (numberIn (commaField s (t .at)))
+
+      pub taken-rest : Fillable (fieldsAt (k - (t .i + 1)) s next)
+      taken-rest = rw comma-number (field-there .rest)
+
+      pub taken-says : take (t .i + 1) new ++ numbersOf (fieldsAt (k - (t .i + 1)) s next) ≡ numbersOf (fieldsAt k s from-at)
+      taken-says =
+          let d = field-there in
+          let n : k - t .i ≡ suc (k - (t .i + 1)) = omega arith in
+          rw (comma-number, add-one (t .i), take-suc-set (t .out) (t .i) (d .x) taken-index)
+          (append-assoc (take (t .i) (t .out)) (d .x ∷ []) _ ∙ (rw (n, d .says, add-one (t .i)) at (t .says)))
+
+      abbrev pub taken-further : Taken s ys from-at
+      taken-further =
+          record {
+            at = next;
+            i = t .i + 1;
+            out = new;
+            within = omega arith;
+            same = length-set (t .out) (t .i) (numberIn (commaField s (t .at))) ∙ t .same;
+            rest = taken-rest;
+            says = taken-says;
+          }
 
 -- ---- zeros in every place
 module _ (d out : List ℕ) (i : ℕ) (e : out ≡ replicate i 0 ++ drop i d) where

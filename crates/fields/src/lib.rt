@@ -158,6 +158,7 @@ fn count(tally: Tally, field: Field) -> Tally
     }
 }
 
+// What it tells once no field is left.
 fn settle(tally: Tally, at: usize) -> Run
     ensures { λ r. ⌜ r ≡ settled tally at ⌝ }
 {

@@ -10,7 +10,6 @@ use std::io::{self, pipe, PipeWriter, Read, Seek, Write};
 use std::os::fd::AsRawFd;
 use std::path::PathBuf;
 use std::process::{self, ChildStdin, Command, Stdio};
-use std::thread;
 
 use common::street_program;
 use reference::random::street_input;
@@ -145,16 +144,12 @@ fn pipe_not_read_for_a_while() {
     let mut stdin = child.stdin.take().expect("its standard input is piped");
     // all but a pipe of it is read before this returns, or the program has stopped
     offer(&mut stdin, first);
-    let printed = thread::scope(|scope| {
-        let reading = scope.spawn(|| {
-            let mut printed = Vec::new();
-            reader.read_to_end(&mut printed).expect("the pipe can be read");
-            printed
-        });
-        offer(&mut stdin, second);
-        drop(stdin);
-        reading.join().expect("the reader ends")
-    });
+    let mut printed = vec![0; 20_000];
+    reader.read_exact(&mut printed).expect("a pipe holds more");
+    // there is room again
+    offer(&mut stdin, second);
+    drop(stdin);
+    reader.read_to_end(&mut printed).expect("the pipe can be read");
     assert_cut_short(&printed, &input);
     assert_eq!(child.wait_with_output().expect("the program ends").stderr, UNWRITTEN);
 }

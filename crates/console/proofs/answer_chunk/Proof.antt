@@ -12,8 +12,9 @@ returns : tie.Need-returns
 returns c =
     let read = c .before .before .before .before .before .before .before .before .before .before .before .before in
     let start = read .before .before .before .before .before .before .before .before .before .before in
+    let out = c .before .before .before .before .before in
     let moved = read .read-chunk .ensures in (
-      chunk-answered _ _ _ _ _ _ _ _ _ _ _ _ moved (start .pre .0) (start .pre .1) _ (c .drain .ensures) _ _ (c .before .before .before .before .before .out .given) (c .before .print .ensures),
+      chunk-answered _ _ _ _ _ _ _ _ _ _ _ _ moved (start .pre .0) (start .pre .1) _ (c .drain .ensures) _ _ (out .out .given) (c .before .print .ensures),
       search (ends, moved, start .pre),
     )
 

@@ -1,10 +1,13 @@
 -- `serve_chunk` answers the bytes that the read left at the start of the chunk.
+use mathlib.Core.Path.{_≡_}
 use borrow.Author.Needs.{needs}
+use lib.ListN.{length}
+use Rattle.console.specs.Sizes.{chunkSize}
 use Rattle.console.proofs.Feeding.{part-small, part-counted, answered-read}
 use Rattle.console.proofs.serve_chunk.Statement.{statement}
 use Rattle.console.proofs.serve_chunk.Tie as tie
 
-ruleset ends = (needs, part-small, part-counted, answered-read)
+ruleset ends = (needs, part-small, part-counted)
 
 lends : tie.Need-slice-aggregate-answer-chunk
 lends c = search ends
@@ -13,7 +16,8 @@ requires : tie.Need-answer-chunk-requires
 requires c κs =
     let read = c .before .before .before .before .before .before .before .before in
     let start = read .before .before .before .before .before .before .before in
-    (start .pre .0, part-small (c .before .before .before .before .before .count .result) _ (read .read .last .1 .0) (search (needs, start .pre)), start .pre .2)
+    let room : length (read .read .last .1 .0) ≡ chunkSize = search (needs, start .pre) in
+    (start .pre .0, search (ends, room), start .pre .2)
 
 returns : tie.Need-returns
 returns c =

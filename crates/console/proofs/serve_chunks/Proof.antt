@@ -1,5 +1,4 @@
 -- `serve_chunks` goes from chunk to chunk. Before each, `Held`; the turns fall.
-use Prim.Native.Nat.{_≤_}
 use mathlib.Core.Path.{_≡_}
 use borrow.Author.Needs.{needs}
 use lib.ListN.{length}
@@ -32,8 +31,8 @@ again c =
       search (needs, held),
       search (needs, held),
       search (needs, held),
-      held-more _ _ _ _ _ _ _ _ (held .5) (call .serve-chunk .result) _ _ _ _ _ (e .0) (e .1 .0) (e .1 .1) (e .1 .2) (e .1 .3) (chunk .chunk .given) (out .out .given)
-          (on .if1 .left) _ (left .before .stops .ensures) (left .if2 .left),
+      held-more _ _ _ _ _ _ _ _ (held .5) (call .serve-chunk .result) _ _ _ _ _ (e .0) (e .1 .0) (e .1 .1) (e .1 .2) (e .1 .3)
+          (chunk .chunk .given) (out .out .given) (on .if1 .left) _ (left .before .stops .ensures) (left .if2 .left),
     )
 
 pub serve-chunks-spec : {M : Type 1} → statement M

@@ -1,3 +1,4 @@
+-- The field at a position is a number behind a comma, or wrong.
 use borrow.Author.Needs.{needs}
 use Rattle.fields.proofs.Moving.{comma-short, comma-none, comma-there}
 use Rattle.fields.proofs.comma_field.Statement.{statement}

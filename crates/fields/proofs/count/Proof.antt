@@ -1,3 +1,4 @@
+-- A field is counted.
 use borrow.Author.Needs.{needs}
 use Rattle.fields.proofs.Moving.{count-number, count-wrong}
 use Rattle.fields.proofs.count.Statement.{statement}

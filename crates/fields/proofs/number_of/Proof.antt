@@ -1,3 +1,4 @@
+-- A number that fits is taken out of its field.
 use borrow.Author.Needs.{needs}
 use Rattle.fields.proofs.Moving.{number-fits}
 use Rattle.fields.proofs.number_of.Statement.{statement}

@@ -1,3 +1,4 @@
+-- The core says the field, and moves on behind it.
 use borrow.Author.Needs.{needs}
 use Rattle.fields.proofs.Moving.{read-number, read-wrong}
 use Rattle.fields.proofs.read_at.Statement.{statement}

@@ -1,3 +1,4 @@
+-- What was counted is told.
 use borrow.Author.Needs.{needs}
 use Rattle.fields.proofs.Moving.{settle-whole, settle-broken}
 use Rattle.fields.proofs.settle.Statement.{statement}
