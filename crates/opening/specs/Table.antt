@@ -1,12 +1,10 @@
 -- Document 01's table, line by line, for an opening: one flat list of numbered tests. proofs/Tables.antt shows that the call's
--- own tests, made of groups that calls share, are this list.
+-- own tests, made of groups that calls share, are this list. Bounds and marks are document 01's numbers, not the names of `shape`.
 use Prim.Native.Nat.{ℕ, _*_, _-_}
 use mathlib.Core.Path.{_≡_}
 use mathlib.Core.List.{List, [], _∷_}
 use Rattle.refusal.specs.Refusal.{Test, _when_}
 use Rattle.refusal.specs.Conditions.{outside, missized, anyBeyond, badPoint}
-use Rattle.shape.specs.Bounds.{fewestPosts, mostPosts, rowCount}
-use Rattle.shape.specs.Marks.{held}
 use Rattle.session.specs.declared.Session.{Session}
 use Rattle.session.specs.Rows.{width, rowAt}
 use Rattle.session.specs.Checks.{noRow, unlike}
@@ -15,14 +13,14 @@ use Rattle.opening.specs.Opening.{openTests}
 
 abbrev pub openTable : Session → List ℕ → ℕ → List ℕ → List Test
 openTable s rows r blocks =
-    1 when outside fewestPosts mostPosts (s .n)
+    1 when outside 2 32 (s .n)
     ∷ 2 when outside 1 (s .n - 1) (s .t)
     ∷ 3 when outside 1 (s .n) (s .post)
     ∷ 4 when badPoint (s .point)
-    ∷ 5 when missized rows (rowCount * width s)
+    ∷ 5 when missized rows (96 * width s)
     ∷ 5 when missized blocks (recordLength s)
     ∷ 6 when noRow r
-    ∷ 7 when unlike s r held
+    ∷ 7 when unlike s r 2
     ∷ 8 when anyBeyond (rowAt (width s) rows r)
     ∷ 8 when badRecord s blocks
     ∷ 9 when tooFew s (rowAt (width s) rows r) blocks
