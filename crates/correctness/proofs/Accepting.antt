@@ -10,6 +10,7 @@ use borrow.Author.Tests.{lt-ltb, le-ltb, ne-eqb}
 use lib.ListN.{length}
 use Rattle.poly.specs.Counting.{Elements, count}
 use Rattle.session.specs.declared.Session.{Session}
+use Rattle.opening.specs.Blocks as Blocks
 use Rattle.opening.specs.Walking.{blockMark, sent, accepts, walk, acceptedPosts, tooFew}
 use Rattle.runs.proofs.Records.{sent-there, block-many, block-low}
 use Rattle.runs.specs.Calls.{Proper}
@@ -45,7 +46,7 @@ module _ (s : Session) (row blocks : List ℕ) where
 
   -- what counts for another post is nothing, or t+1 elements
   pub formed : Proper s blocks → (j : ℕ) → 1 ≤ j → j ≤ s .n → j ≢ s .post → Formed (s .t + 1) (sent s row blocks j)
-  unfolding sent
+  unfolding Blocks.sent
   formed pr j lo hi ne = go (ℕ-discrete (blockMark (s .t + 1) blocks j) 1)
     where
       go : Dec (blockMark (s .t + 1) blocks j ≡ 1) → Formed (s .t + 1) (sent s row blocks j)

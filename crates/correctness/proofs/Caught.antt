@@ -12,6 +12,7 @@ use Rattle.field.specs.Modulus.{p}
 use Rattle.poly.specs.Counting.{count, agreements}
 use Rattle.poly.specs.Polynomial.{value}
 use Rattle.poly.proofs.Theorems.{false-polynomials-pass}
+use Rattle.session.specs.Sessions.{withPoint}
 use Rattle.opening.specs.Walking.{blockMark, blockCoefficients, accepts}
 use Rattle.vectors.specs.Vector.{numbers}
 use Rattle.vectors.specs.Claims.{heldRow}
@@ -19,7 +20,7 @@ use Rattle.vectors.proofs.Linear.{length-numbers}
 use Rattle.vectors.proofs.Theorems.{accepted-agrees}
 use Rattle.runs.proofs.Lines.{numbers-elements}
 use Rattle.runs.proofs.Records.{Present, sent-there, accepted-there, block-many, block-low}
-use Rattle.correctness.specs.Parts.{atPoint, FalseCaught}
+use Rattle.correctness.specs.Parts.{FalseCaught}
 
 -- a test that passes wherever another does
 count-within : (f g : ℕ → Bool) → ((w : ℕ) → f w ≡ true → g w ≡ true) → (from k : ℕ) → count f from k ≤ count g from k
@@ -50,22 +51,22 @@ false-caught s X blocks j lo hi other proper untrue = go (ℕ-discrete (blockMar
     own : List ℕ
     own = numbers (s .t + 1) (X .v j)
 
-    there-at : (w : ℕ) → accepts (atPoint s w) (heldRow (atPoint s w) X) blocks j ≡ true → Present s blocks j
-    there-at w a = accepted-there (atPoint s w) blocks j lo hi other (heldRow (atPoint s w) X) a
+    there-at : (w : ℕ) → accepts (withPoint s w) (heldRow (withPoint s w) X) blocks j ≡ true → Present s blocks j
+    there-at w a = accepted-there (withPoint s w) blocks j lo hi other (heldRow (withPoint s w) X) a
 
     -- accepted at w: the two have one value there
-    agrees-at : (w : ℕ) → accepts (atPoint s w) (heldRow (atPoint s w) X) blocks j ≡ true → eqb (value block w) (value own w) ≡ true
+    agrees-at : (w : ℕ) → accepts (withPoint s w) (heldRow (withPoint s w) X) blocks j ≡ true → eqb (value block w) (value own w) ≡ true
     agrees-at w a =
         eq-eqb (value block w) (value own w)
-        (sym (ap (λ (q : List ℕ). value q w) (sent-there (atPoint s w) blocks j lo hi other (heldRow (atPoint s w) X) (there-at w a)))
-        ∙ accepted-agrees (atPoint s w) X blocks j lo hi a)
+        (sym (ap (λ (q : List ℕ). value q w) (sent-there (withPoint s w) blocks j lo hi other (heldRow (withPoint s w) X) (there-at w a)))
+        ∙ accepted-agrees (withPoint s w) X blocks j lo hi a)
 
-    go : Dec (Present s blocks j) → count (λ w. accepts (atPoint s w) (heldRow (atPoint s w) X) blocks j) 1 (p - 1) ≤ s .t
+    go : Dec (Present s blocks j) → count (λ w. accepts (withPoint s w) (heldRow (withPoint s w) X) blocks j) 1 (p - 1) ≤ s .t
     go (yes there) =
-        le-trans (count-within (λ w. accepts (atPoint s w) (heldRow (atPoint s w) X) blocks j) (λ w. eqb (value block w) (value own w)) agrees-at 1 (p - 1))
+        le-trans (count-within (λ w. accepts (withPoint s w) (heldRow (withPoint s w) X) blocks j) (λ w. eqb (value block w) (value own w)) agrees-at 1 (p - 1))
         (false-polynomials-pass (s .t) block own (block-low s blocks j lo hi other proper there) (numbers-elements (s .t + 1) (X .v j))
         (block-many s blocks j lo hi other proper there) (length-numbers (s .t + 1) (X .v j))
         (λ e. untrue (sent-there s blocks j lo hi other (heldRow s X) there ∙ e)))
     go (no absent) =
-        le-trans (count-within (λ w. accepts (atPoint s w) (heldRow (atPoint s w) X) blocks j) (λ w. false) (λ w a. absurd (absent (there-at w a))) 1 (p - 1))
+        le-trans (count-within (λ w. accepts (withPoint s w) (heldRow (withPoint s w) X) blocks j) (λ w. false) (λ w a. absurd (absent (there-at w a))) 1 (p - 1))
         (omega (arith, count-none 1 (p - 1)))

@@ -21,22 +21,25 @@ use Rattle.sharing.specs.Load.{loadRowRefusal, loadTripleRefusal, withTriple}
 use Rattle.sharing.specs.Deal.{dealRefusal}
 use Rattle.sharing.specs.Linear.{linearRefusal}
 use Rattle.sharing.specs.Message.{messageRefusal}
-use Rattle.opening.specs.Walking.{badBlock, badBlocks, sent, accepts, share, walk, opened}
+use Rattle.opening.specs.Blocks as Blocks
+use Rattle.opening.specs.Accepting as Accepting
 use Rattle.opening.specs.Opening.{openRefusal}
 use Rattle.product.specs.Masks.{masksRefusal, maskNumbersOf}
 use Rattle.product.specs.Finish.{finishRefusal, productRow, withProduct}
 use Rattle.fields.specs.Fields.{fields}
 use Rattle.decimal.specs.Numeral.{lastDigits, sizeWithin}
 use Rattle.runs.specs.Draws.{Plan, Draw, IsRaw, Sound, IsDraw, rawLength, tripleLength, none, by, pointOf, rawDraw, tripleDraw, rawPack, triplePack}
-use Rattle.runs.specs.Calls.{Post, Call, loadRow, loadTriple, deal, message, opening, linear, masks, finish, perform, newPost, at}
+use Rattle.runs.specs.Outline.{Taking, nothingTaken, aRowPack, aTriplePack, aNumber, aRecord, twoRecords, takes, Given, Move, moves}
+use Rattle.runs.specs.Calls.{Post, Actual, Call, loadRow, loadTriple, deal, perform, newPost, at}
+use Rattle.runs.proofs.Outlines.{all-every}
 use Rattle.runs.proofs.Lines.{elements-of}
 use Rattle.correctness.specs.History.{Event, World, doneBy, turn, history, Each}
-use Rattle.correctness.specs.Ledger.{Ledger, nothing, dealt, sum, product, Written, Plain, of-deal, of-sum, of-product}
-use Rattle.correctness.specs.Truth.{OwnPart, TrueFinish}
+use Rattle.correctness.specs.Ledger.{Ledger, nothing, dealt, sum, product, Written, Plain, of-deal, of-row, of-times, of-more, of-product}
+use Rattle.correctness.specs.Truth.{OwnPart, TrueWith, TrueFinish}
 
 -- `refl` proves it where `unfolding Computes` opens the calls' definitions
 unfoldable pub Computes : {A : Type 0} → A → A → Type 0
-unfolding Arithmetic.sum Arithmetic.product Arithmetic.difference Arithmetic.euclid Arithmetic.inverse value count nodal weight terms interpolated outcome anyBeyond eachFrom part dealerRefusal combined plusSums created loadRowRefusal loadTripleRefusal withTriple dealRefusal linearRefusal messageRefusal badBlock badBlocks sent accepts share walk opened openRefusal masksRefusal maskNumbersOf finishRefusal productRow withProduct fields lastDigits sizeWithin pointOf rawDraw tripleDraw rawPack triplePack perform newPost at
+unfolding Arithmetic.sum Arithmetic.product Arithmetic.difference Arithmetic.euclid Arithmetic.inverse value count nodal weight terms interpolated outcome anyBeyond eachFrom part dealerRefusal combined plusSums created loadRowRefusal loadTripleRefusal withTriple dealRefusal linearRefusal messageRefusal Blocks.badBlock Blocks.badBlocks Blocks.sent Accepting.accepts Accepting.share Accepting.walk Accepting.opened openRefusal masksRefusal maskNumbersOf finishRefusal productRow withProduct fields lastDigits sizeWithin pointOf rawDraw tripleDraw rawPack triplePack perform newPost at
 Computes x y = x ≡ y
 
 -- ---- plan, draws and ledger
@@ -98,15 +101,15 @@ ledger r = getD (dealt 6 ∷ dealt 7 ∷ nothing ∷ nothing ∷ product 2 0 1 �
 
 pub plain-6 : Plain ledger 0 6
 unfolding ledger
-plain-6 = of-deal refl
+plain-6 = of-deal
 
 pub plain-18 : Plain ledger 7 18
 unfolding Computes ledger
-plain-18 = of-sum {a = 0} {b = 0} {s = 2} {x = 6} {y = 6} refl (of-deal refl) (of-deal refl)
+plain-18 = of-more (of-row {a = 0} {x = 6} of-deal) (of-times {s = 2} {b = 0} {y = 6} of-deal)
 
 pub plain-42 : Plain ledger 4 42
 unfolding Computes ledger
-plain-42 = of-product {k = 2} {a = 0} {b = 1} {x = 6} {y = 7} refl (of-deal refl) (of-deal refl)
+plain-42 = of-product {k = 2} {a = 0} {b = 1} {x = 6} {y = 7} of-deal of-deal
 
 -- ---- events
 
@@ -166,35 +169,43 @@ module _ (S : ℕ → Type 0) where
   each-of P [] w a = tt
   each-of P (e ∷ es) w a = ((λ m z. a .0), each-of P es (turn e w) (a .1))
 
--- no finish among the events
-abbrev pub QuietThen : Call → Type 0 → Type 0
-QuietThen (loadRow r pack) A = A
-QuietThen (loadTriple r pack) A = A
-QuietThen (deal r c) A = A
-QuietThen (message r lent) A = A
-QuietThen (opening r blocks) A = A
-QuietThen (linear r a b s) A = A
-QuietThen (masks a b r lent) A = A
-QuietThen (finish r blocks blocks') A = ⊥
+-- no records of masks among what the events' calls are given
+abbrev QuietWith : Taking → Type 0 → Type 0
+QuietWith nothingTaken A = A
+QuietWith (aRowPack r) A = A
+QuietWith (aTriplePack r) A = A
+QuietWith (aNumber r) A = A
+QuietWith (aRecord r) A = A
+QuietWith (twoRecords r) A = ⊥
+
+abbrev QuietThen : List (Move Actual) → Type 0 → Type 0
+QuietThen [] A = A
+QuietThen (m ∷ ms) A = QuietWith (takes (m .0)) (QuietThen ms A)
 
 abbrev pub Quiet : List Event → Type 0
 Quiet [] = Unit {0}
-Quiet (e ∷ es) = QuietThen (e .call) (Quiet es)
+Quiet (e ∷ es) = QuietThen (moves (e .call)) (Quiet es)
 
-quiet-call : (S : ℕ → Type 0) (w : World) (q : Post) (A : Type 0) (c : Call) → QuietThen c A → TrueFinish S w q c × A
-quiet-call S w q A (loadRow r pack) a = (tt, a)
-quiet-call S w q A (loadTriple r pack) a = (tt, a)
-quiet-call S w q A (deal r c) a = (tt, a)
-quiet-call S w q A (message r lent) a = (tt, a)
-quiet-call S w q A (opening r blocks) a = (tt, a)
-quiet-call S w q A (linear r a' b s) a = (tt, a)
-quiet-call S w q A (masks a' b r lent) a = (tt, a)
-quiet-call S w q A (finish r blocks blocks') a = absurd a
+module _ (S : ℕ → Type 0) (w : World) (q : Post) where
+  quiet-with : (A : Type 0) (t : Taking) (x : Given Actual t) → QuietWith t A → TrueWith S w q t x × A
+  quiet-with A nothingTaken x a = (tt, a)
+  quiet-with A (aRowPack r) x a = (tt, a)
+  quiet-with A (aTriplePack r) x a = (tt, a)
+  quiet-with A (aNumber r) x a = (tt, a)
+  quiet-with A (aRecord r) x a = (tt, a)
+  quiet-with A (twoRecords r) x a = absurd a
+
+  quiet-call : (A : Type 0) (ms : List (Move Actual)) → QuietThen ms A → All (λ m. TrueWith S w q (takes (m .0)) (m .1)) ms × A
+  quiet-call A [] a = (tt, a)
+  quiet-call A (m ∷ ms) a =
+      let h = quiet-with (QuietThen ms A) (takes (m .0)) (m .1) a in
+      let k = quiet-call A ms (h .1) in
+      ((h .0, k .0), k .1)
 
 -- of calls of the posts S, with truth by the posts T
 pub each-quiet : (S T : ℕ → Type 0) (es : List Event) (w : World) → Quiet es
     → Each S (λ e v. TrueFinish T v (v .posts (e .post)) (e .call)) es w
 each-quiet S T [] w h = tt
 each-quiet S T (e ∷ es) w h =
-    let k = quiet-call T w (w .posts (e .post)) (Quiet es) (e .call) h in
-    ((λ m z. k .0), each-quiet S T es (turn e w) (k .1))
+    let k = quiet-call T w (w .posts (e .post)) (Quiet es) (moves (e .call)) h in
+    ((λ m z. all-every _ (moves (e .call)) (k .0)), each-quiet S T es (turn e w) (k .1))

@@ -2,7 +2,7 @@
 use Prim.Native.Nat.{ℕ, _+_, _≤_, _<_}
 use mathlib.Core.Path.{_≡_, sym, _∙_, ap, subst}
 use mathlib.Core.Logic.{_≢_, inr}
-use mathlib.Core.List.{List}
+use mathlib.Core.List.{List, [], _∷_}
 use native.Mathlib.Decide.{ℕ-discrete}
 use native.Mathlib.Omega.{arith}
 use lib.ListN.{take, drop}
@@ -18,20 +18,21 @@ use Rattle.vectors.specs.Vector.{Vector, numbers}
 use Rattle.vectors.specs.Claims.{heldRow, Truly}
 use Rattle.vectors.proofs.Linear.{length-numbers}
 use Rattle.runs.specs.Draws.{Plan, Draw, IsDraw, Sound}
-use Rattle.runs.specs.Calls.{Post, Call, loadRow, loadTriple, deal, message, opening, linear, masks, finish}
+use Rattle.runs.specs.Outline.{Taking, nothingTaken, aRowPack, aTriplePack, aNumber, aRecord, twoRecords, takes, Given, Move, moves, actsIn}
+use Rattle.runs.specs.Calls.{Post, Actual, Call}
+use Rattle.runs.proofs.Outlines.{every-all}
 use Rattle.runs.proofs.Marks.{Marks, leftOf, rightOf, sessionAt, less, vectorA, maskA, maskB}
 use Rattle.runs.proofs.Outcomes.{refusalOf}
 use Rattle.runs.proofs.Holds.{Holds}
 use Rattle.runs.proofs.Finishing.{AllTrue, opens-a, opens-b}
 use Rattle.runs.proofs.Records.{own-true}
 use Rattle.runs.proofs.Start.{sizes}
-use Rattle.runs.proofs.Steps.{postAt, named, Fits}
-use Rattle.runs.proofs.Facts.{Multiplying, Triple}
-use Rattle.runs.proofs.Allowed.{allowed}
+use Rattle.runs.proofs.Steps.{named, FitsWith, Fits}
+use Rattle.runs.proofs.Facts.{Multiplying, ReadyFor, Triple}
 use Rattle.correctness.specs.History.{World}
 use Rattle.correctness.specs.Ledger.{Ledger}
-use Rattle.correctness.specs.Truth.{OwnPart, TrueMask, TrueOf, TrueFinish}
-use Rattle.correctness.proofs.Standing.{Known, Good}
+use Rattle.correctness.specs.Truth.{OwnWith, TrueWith, OwnPart, TrueMask, TrueOf, TrueFinish}
+use Rattle.correctness.proofs.Standing.{Known, Good, allowed-at}
 use Rattle.correctness.proofs.Said.{Said, told-masks, halves}
 
 -- where each polynomial that counted, but the own one, is its sender's of S, all are
@@ -98,36 +99,44 @@ module _ (plan : Plan) (draw : Draw) (L : Ledger) (sound : Sound plan) (is : IsD
           ∙ ap (λ (X : Vector). numbers (plan .t + 1) (less (vec (rightOf M r)) X .v j)) (sym (t .is-b))
 
     -- a finish that is not refused
-    module _ (len i : ℕ) (M : Marks) (vec : ℕ → Vector) (f : Known plan draw L M vec) (l : List ℕ) (h : Holds plan draw len i M vec l) (r : ℕ) (blocks blocks' : List ℕ) (z : refusalOf (finish r blocks blocks') (postAt plan draw i M l) ≡ 0) where
+    module _ (len i : ℕ) (M : Marks) (vec : ℕ → Vector) (f : Known plan draw L M vec) (l : List ℕ) (h : Holds plan draw len i M vec l) (r : ℕ) (blocks blocks' : List ℕ) (ok : Multiplying 5 M (leftOf M r) (rightOf M r) r) where
       abbrev s : Session
       s = sessionAt plan draw i M
 
-      ok : Multiplying 5 M (leftOf M r) (rightOf M r) r
-      ok = allowed plan draw i M l (finish r blocks blocks') z
-
       true-a : TrueOf (TrueMask S w (plan .t) (take (plan .t + 1)) r) s (Finish.maskA s l r) blocks → AllTrue s (maskA M vec r) blocks
       true-a =
-          all-true-of s (maskA M vec r) blocks (TrueMask S w (plan .t) (take (plan .t + 1)) r) (Finish.maskA s l r) (opens-a plan draw len i M vec l h r blocks blocks' z)
+          all-true-of s (maskA M vec r) blocks (TrueMask S w (plan .t) (take (plan .t + 1)) r) (Finish.maskA s l r) (opens-a plan draw len i M vec l h r ok)
           (λ j lj hj ne o. told-a M vec f r ok j lj hj _ o)
 
       true-b : TrueOf (TrueMask S w (plan .t) (drop (plan .t + 1)) r) s (Finish.maskB s l r) blocks' → AllTrue s (maskB M vec r) blocks'
       true-b =
-          all-true-of s (maskB M vec r) blocks' (TrueMask S w (plan .t) (drop (plan .t + 1)) r) (Finish.maskB s l r) (opens-b plan draw len i M vec l h r blocks blocks' z)
+          all-true-of s (maskB M vec r) blocks' (TrueMask S w (plan .t) (drop (plan .t + 1)) r) (Finish.maskB s l r) (opens-b plan draw len i M vec l h r ok)
           (λ j lj hj ne o. told-b M vec f r ok j lj hj _ o)
 
-    pub fits : (len i : ℕ) (q : Post) (g : Good plan draw L len i q) (c : Call) → refusalOf c q ≡ 0 → OwnPart plan draw i c → TrueFinish S w q c
-        → Fits plan draw i (g .marks) (g .vec) c
-    fits len i q g (loadRow r pack) z own y = own
-    fits len i q g (loadTriple r pack) z own y = own
-    fits len i q g (deal r c) z own y = tt
-    fits len i q g (message r lent) z own y = tt
-    fits len i q g (opening r blocks) z own y = tt
-    fits len i q g (linear r a b scale) z own y = tt
-    fits len i q g (masks a b r lent) z own y = tt
-    fits len i q g (finish r blocks blocks') z own y =
-        subst
-        (λ (x : Post). refusalOf (finish r blocks blocks') x ≡ 0 → TrueFinish S w x (finish r blocks blocks')
-        → Fits plan draw i (g .marks) (g .vec) (finish r blocks blocks'))
-        (sym (named plan draw len i (g .marks) (g .vec) q (g .stands)))
-        (λ e o. (true-a len i (g .marks) (g .vec) (g .facts) (q .rows) (g .stands .holds) r blocks blocks' e (o .0), true-b len i (g .marks) (g .vec) (g .facts) (q .rows) (g .stands .holds) r blocks blocks' e (o .1)))
-        z y
+    module _ (len i : ℕ) (q : Post) (g : Good plan draw L len i q) where
+      fits-with : (t : Taking) (x : Given Actual t) → ReadyFor (g .marks) t → OwnWith plan draw i t x → TrueWith S w q t x
+          → FitsWith plan draw i (g .marks) (g .vec) t x
+      fits-with nothingTaken x ok own y = tt
+      fits-with (aRowPack r) x ok own y = own
+      fits-with (aTriplePack r) x ok own y = own
+      fits-with (aNumber r) x ok own y = tt
+      fits-with (aRecord r) x ok own y = tt
+      fits-with (twoRecords r) x ok own y =
+          subst
+          (λ (v : Post). TrueWith S w v (twoRecords r) x → FitsWith plan draw i (g .marks) (g .vec) (twoRecords r) x)
+          (sym (named plan draw len i (g .marks) (g .vec) q (g .stands)))
+          (λ o. (
+            true-a len i (g .marks) (g .vec) (g .facts) (q .rows) (g .stands .holds) r (x .0) (x .1) ok (o .0),
+            true-b len i (g .marks) (g .vec) (g .facts) (q .rows) (g .stands .holds) r (x .0) (x .1) ok (o .1),
+          ))
+          y
+
+      fits-all : (ms : List (Move Actual)) → All (λ a. ReadyFor (g .marks) (takes a)) (actsIn ms)
+          → All (λ m. OwnWith plan draw i (takes (m .0)) (m .1)) ms → All (λ m. TrueWith S w q (takes (m .0)) (m .1)) ms
+          → All (λ m. FitsWith plan draw i (g .marks) (g .vec) (takes (m .0)) (m .1)) ms
+      fits-all [] ok own y = tt
+      fits-all (m ∷ ms) ok own y = (fits-with (takes (m .0)) (m .1) (ok .0) (own .0) (y .0), fits-all ms (ok .1) (own .1) (y .1))
+
+      pub fits : (c : Call) → refusalOf c q ≡ 0 → OwnPart plan draw i c → TrueFinish S w q c → Fits plan draw i (g .marks) (g .vec) c
+      fits c z own y =
+          fits-all (moves c) (allowed-at plan draw L len i q g c z .ready) (every-all _ (moves c) own) (every-all _ (moves c) y)

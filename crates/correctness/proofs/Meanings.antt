@@ -1,23 +1,28 @@
 -- The vector of a row, by ledger and draw: a row has one at most, and the number of it is the row's plain number.
 use Prim.Native.Nat.{ℕ, _<_}
-use mathlib.Core.Path.{_≡_, sym, _∙_, ap, ap₂, subst}
-use native.Mathlib.Omega.{arith}
+use mathlib.Core.Path.{_≡_, refl, sym, _∙_, ap, ap₂, subst}
+use mathlib.Core.List.{List, [], _∷_}
 use lib.ListN.{getD}
 use Rattle.field.specs.Modulus.{p}
 use Rattle.field.specs.Arithmetic as Arithmetic
 use Rattle.field.specs.Algebra.{CommutativeRing}
 use Rattle.field.specs.Element.{Element, element}
-use Rattle.field.proofs.Elements.{𝓡, element-product, element-of-number, number-below}
+use Rattle.field.proofs.Expression.{A, B, 𝟘, 𝟙, _:+_, _:*_, Same}
+use Rattle.field.proofs.Solver.{solve}
+use Rattle.field.proofs.Elements.{𝓡, element-one, element-product, element-of-number, number-below}
 use Rattle.field.proofs.Modular.{product-below}
 use Rattle.factory.specs.Packs.{dealerNumber}
 use Rattle.vectors.specs.Vector.{Vector, plusTimes, raised, number}
-use Rattle.vectors.proofs.Linear.{number-plusTimes, combined-number}
+use Rattle.vectors.proofs.Linear.{number-plusTimes, sum-number}
 use Rattle.runs.specs.Draws.{Plan, Draw, IsDraw, rawDraw}
-use Rattle.runs.proofs.Marks.{less, productVector, rawVector, vectorA, vectorB, vectorAB}
+use Rattle.runs.specs.Outline.{Summand, once, times, fee}
+use Rattle.runs.proofs.Marks.{less, zeroVector, rawVector, vectorA, vectorB, vectorAB}
+use Rattle.runs.proofs.Sums.{productVector}
 use Rattle.runs.proofs.Numbers.{product-number, third-number, dealt-number}
-use Rattle.correctness.specs.Ledger.{dealt, sum, product, Ledger, Plain, of-deal, of-sum, of-product, OneNumber}
-open CommutativeRing 𝓡 using (mul as _⊗_)
+use Rattle.correctness.specs.Ledger.{Meaning, dealt, summed, product, Ledger, PlainOf, of-deal, of-row, of-times, of-fee, of-more, of-product, Plain, OneNumber}
+open CommutativeRing 𝓡 using (add as _⊕_, mul as _⊗_)
 
+infixl 65 _⊕_
 infixl 70 _⊗_
 module _ (plan : Plan) (draw : Draw) (L : Ledger) where
   abbrev pub dealtVector : ℕ → ℕ → Vector
@@ -29,67 +34,93 @@ module _ (plan : Plan) (draw : Draw) (L : Ledger) where
       productVector (number (less X (vectorA plan draw k)) .0) (number (less Y (vectorB plan draw k)) .0)
       (vectorA plan draw k) (vectorB plan draw k) (vectorAB plan draw k)
 
-  pub data Is : ℕ → Vector → Type 0 where
-    is-dealt : {r u : ℕ} {Z : Vector} → L r ≡ dealt u → u < p → Z ≡ dealtVector r u → Is r Z
-    is-sum : {r a b s : ℕ} {X Y Z : Vector} → L r ≡ sum a b s → Is a X → Is b Y → Z ≡ plusTimes (element s) X Y → Is r Z
-    is-product : {r k a b : ℕ} {X Y Z : Vector} → L r ≡ product k a b → Is a X → Is b Y → Z ≡ finishedVector k X Y → Is r Z
+  -- the vector of a meaning, in row r
+  pub data IsOf : ℕ → Meaning → Vector → Type 0 where
+    is-dealt : {r u : ℕ} {Z : Vector} → u < p → Z ≡ dealtVector r u → IsOf r (dealt u) Z
+    is-row : {r a : ℕ} {Z : Vector} → IsOf a (L a) Z → IsOf r (summed (once a) []) Z
+    is-times : {r s b : ℕ} {Y Z : Vector} → IsOf b (L b) Y → Z ≡ plusTimes (element s) zeroVector Y → IsOf r (summed (times s b) []) Z
+    is-fee : {r k : ℕ} {Z : Vector} → k < p → Z ≡ raised (element k) zeroVector → IsOf r (summed (fee k) []) Z
+    is-more : {r : ℕ} {t t' : Summand} {ts : List Summand} {X Y Z : Vector} → IsOf r (summed t []) X → IsOf r (summed t' ts) Y
+        → Z ≡ plusTimes (element 1) X Y → IsOf r (summed t (t' ∷ ts)) Z
+    is-product : {r k a b : ℕ} {X Y Z : Vector} → IsOf a (L a) X → IsOf b (L b) Y → Z ≡ finishedVector k X Y → IsOf r (product k a b) Z
+
+  abbrev pub Is : ℕ → Vector → Type 0
+  Is r Z = IsOf r (L r) Z
+
+  one-of : {r : ℕ} {m : Meaning} {Z : Vector} → IsOf r m Z → {W : Vector} → IsOf r m W → Z ≡ W
+  one-of (is-dealt h z) (is-dealt h' w) = z ∙ sym w
+  one-of (is-row x) (is-row x') = one-of x x'
+  one-of (is-times {s = s} y z) (is-times y' w) = z ∙ ap (plusTimes (element s) zeroVector) (one-of y y') ∙ sym w
+  one-of (is-fee h z) (is-fee h' w) = z ∙ sym w
+  one-of (is-more x y z) (is-more x' y' w) = z ∙ ap₂ (plusTimes (element 1)) (one-of x x') (one-of y y') ∙ sym w
+  one-of (is-product {k = k} x y z) (is-product x' y' w) = z ∙ ap₂ (finishedVector k) (one-of x x') (one-of y y') ∙ sym w
 
   pub one : {r : ℕ} {Z : Vector} → Is r Z → {W : Vector} → Is r W → Z ≡ W
-  one (is-dealt {u = u} e h z) (is-dealt {u = u'} e' h' w) = let g : u ≡ u' = cc in z ∙ ap (dealtVector _) g ∙ sym w
-  one (is-dealt e h z) (is-sum e' x y w) = let g : _≡_ {A = ℕ} 0 1 = cc in absurd (omega arith)
-  one (is-dealt e h z) (is-product e' x y w) = let g : _≡_ {A = ℕ} 0 1 = cc in absurd (omega arith)
-  one (is-sum e x y z) (is-dealt e' h' w) = let g : _≡_ {A = ℕ} 0 1 = cc in absurd (omega arith)
-  one (is-sum {a = a} {b = b} {s = s} {X = X} {Y = Y} e x y z) (is-sum {a = a'} {b = b'} {s = s'} {X = X'} {Y = Y'} e' x' y' w) =
-      let ga : a' ≡ a = cc in let gb : b' ≡ b = cc in let gs : s ≡ s' = cc in
-      z ∙ ap (λ (k : ℕ). plusTimes (element k) X Y) gs
-      ∙ ap₂ (plusTimes (element s')) (one x (subst (λ (k : ℕ). Is k X') ga x')) (one y (subst (λ (k : ℕ). Is k Y') gb y')) ∙ sym w
-  one (is-sum e x y z) (is-product e' x' y' w) = let g : _≡_ {A = ℕ} 0 1 = cc in absurd (omega arith)
-  one (is-product e x y z) (is-dealt e' h' w) = let g : _≡_ {A = ℕ} 0 1 = cc in absurd (omega arith)
-  one (is-product e x y z) (is-sum e' x' y' w) = let g : _≡_ {A = ℕ} 0 1 = cc in absurd (omega arith)
-  one (is-product {k = k} {a = a} {b = b} {X = X} {Y = Y} e x y z) (is-product {k = k'} {a = a'} {b = b'} {X = X'} {Y = Y'} e' x' y' w) =
-      let ga : a' ≡ a = cc in let gb : b' ≡ b = cc in let gk : k ≡ k' = cc in
-      z ∙ ap (λ (m : ℕ). finishedVector m X Y) gk
-      ∙ ap₂ (finishedVector k') (one x (subst (λ (m : ℕ). Is m X') ga x')) (one y (subst (λ (m : ℕ). Is m Y') gb y')) ∙ sym w
+  one x y = one-of x y
+
+  scaled-number : (s : ℕ) (y : Element) → (element s ⊗ y) .0 ≡ Arithmetic.product s (y .0)
+  scaled-number s y =
+      sym
+      (sym (number-below _ (product-below s (y .0)))
+      ∙ ap (λ (z : Element). z .0) (element-product s (y .0) ∙ ap (λ (z : Element). element s ⊗ z) (element-of-number y)))
 
   times-number : (x y : Element) → (x ⊗ y) .0 ≡ Arithmetic.product (x .0) (y .0)
-  times-number x y =
-      sym
-      (sym (number-below _ (product-below (x .0) (y .0)))
-      ∙ ap (λ (z : Element). z .0) (element-product (x .0) (y .0) ∙ ap₂ _⊗_ (element-of-number x) (element-of-number y)))
+  times-number x y = ap (λ (z : Element). (z ⊗ y) .0) (sym (element-of-number x)) ∙ scaled-number (x .0) y
 
-  -- the number of the vector is the plain number of the row
-  pub plain : IsDraw plan draw → {r : ℕ} {Z : Vector} → Is r Z → Plain L r (number Z .0)
-  plain is (is-dealt {r = r} {u = u} {Z = Z} e h z) =
-      subst (Plain L r) (sym (ap (λ (T : Vector). number T .0) z ∙ ap (λ (x : Element). x .0) (dealt-number plan draw is r u h) ∙ number-below u h)) (of-deal e)
-  plain is (is-sum {r = r} {s = s} {X = X} {Y = Y} e x y z) =
-      subst (Plain L r)
-      (sym (ap (λ (T : Vector). number T .0) z ∙ ap (λ (k : Element). k .0) (number-plusTimes (element s) X Y) ∙ sym (combined-number s (number X) (number Y))))
-      (of-sum e (plain is x) (plain is y))
-  plain is (is-product {r = r} {k = k} {X = X} {Y = Y} e x y z) =
-      subst (Plain L r)
+  plus-number : (x y : Element) → (x ⊕ element 1 ⊗ y) .0 ≡ Arithmetic.sum (x .0) (y .0)
+  unfolding Same
+  plus-number x y =
+      ap (λ (z : Element). z .0)
+      (ap (λ (o : Element). x ⊕ o ⊗ y) element-one ∙ solve 𝓡 (x ∷ y ∷ []) (A :+ 𝟙 :* B) (A :+ B) refl
+      ∙ ap (λ (z : Element). x ⊕ z) (sym (element-of-number y)))
+      ∙ sym (sum-number x (y .0))
+
+  -- the number of the vector is the plain number of the meaning
+  plain-of : IsDraw plan draw → {r : ℕ} {m : Meaning} {Z : Vector} → IsOf r m Z → PlainOf L m (number Z .0)
+  unfolding Same
+  plain-of is (is-dealt {r = r} {u = u} {Z = Z} h z) =
+      subst (PlainOf L (dealt u)) (sym (ap (λ (T : Vector). number T .0) z ∙ ap (λ (x : Element). x .0) (dealt-number plan draw is r u h) ∙ number-below u h)) of-deal
+  plain-of is (is-row x) = of-row (plain-of is x)
+  plain-of is (is-times {s = s} {b = b} {Y = Y} y z) =
+      subst (PlainOf L (summed (times s b) []))
+      (sym
+      (ap (λ (T : Vector). number T .0) z
+      ∙ ap (λ (x : Element). x .0)
+      (number-plusTimes (element s) zeroVector Y ∙ solve 𝓡 (element s ∷ number Y ∷ []) (𝟘 :+ 𝟘 :+ A :* B) (A :* B) refl)
+      ∙ scaled-number s (number Y)))
+      (of-times (plain-of is y))
+  plain-of is (is-fee {k = k} h z) =
+      subst (PlainOf L (summed (fee k) []))
+      (sym
+      (ap (λ (T : Vector). number T .0) z
+      ∙ ap (λ (x : Element). x .0) (solve 𝓡 (element k ∷ []) (𝟘 :+ A :+ 𝟘) A refl) ∙ number-below k h))
+      of-fee
+  plain-of is (is-more {t = t} {t' = t'} {ts = ts} {X = X} {Y = Y} x y z) =
+      subst (PlainOf L (summed t (t' ∷ ts)))
+      (sym
+      (ap (λ (T : Vector). number T .0) z ∙ ap (λ (x : Element). x .0) (number-plusTimes (element 1) X Y)
+      ∙ plus-number (number X) (number Y)))
+      (of-more (plain-of is x) (plain-of is y))
+  plain-of is (is-product {k = k} {a = a} {b = b} {X = X} {Y = Y} x y z) =
+      subst (PlainOf L (product k a b))
       (sym
       (ap (λ (T : Vector). number T .0) z
       ∙ ap (λ (m : Element). m .0)
       (product-number X Y (vectorA plan draw k) (vectorB plan draw k) (vectorAB plan draw k) (third-number plan draw k))
       ∙ times-number (number X) (number Y)))
-      (of-product e (plain is x) (plain is y))
+      (of-product (plain-of is x) (plain-of is y))
+
+  pub plain : IsDraw plan draw → {r : ℕ} {Z : Vector} → Is r Z → Plain L r (number Z .0)
+  plain is x = plain-of is x
 
 -- a row has one plain number at most
-same-number : (L : Ledger) {r x y : ℕ} → Plain L r x → Plain L r y → x ≡ y
-same-number L (of-deal e) (of-deal e') = cc
-same-number L (of-deal e) (of-sum e' x y) = let g : _≡_ {A = ℕ} 0 1 = cc in absurd (omega arith)
-same-number L (of-deal e) (of-product e' x y) = let g : _≡_ {A = ℕ} 0 1 = cc in absurd (omega arith)
-same-number L (of-sum e x y) (of-deal e') = let g : _≡_ {A = ℕ} 0 1 = cc in absurd (omega arith)
-same-number L (of-sum {a = a} {b = b} {s = s} e h k) (of-sum {a = a'} {b = b'} {s = s'} {x = x'} {y = y'} e' h' k') =
-    let ga : a' ≡ a = cc in let gb : b' ≡ b = cc in let gs : s ≡ s' = cc in
-    ap₂ Arithmetic.sum (same-number L h (subst (λ (m : ℕ). Plain L m x') ga h'))
-    (ap₂ Arithmetic.product gs (same-number L k (subst (λ (m : ℕ). Plain L m y') gb k')))
-same-number L (of-sum e x y) (of-product e' x' y') = let g : _≡_ {A = ℕ} 0 1 = cc in absurd (omega arith)
-same-number L (of-product e x y) (of-deal e') = let g : _≡_ {A = ℕ} 0 1 = cc in absurd (omega arith)
-same-number L (of-product e x y) (of-sum e' x' y') = let g : _≡_ {A = ℕ} 0 1 = cc in absurd (omega arith)
-same-number L (of-product {a = a} {b = b} e h k) (of-product {a = a'} {b = b'} {x = x'} {y = y'} e' h' k') =
-    let ga : a' ≡ a = cc in let gb : b' ≡ b = cc in
-    ap₂ Arithmetic.product (same-number L h (subst (λ (m : ℕ). Plain L m x') ga h')) (same-number L k (subst (λ (m : ℕ). Plain L m y') gb k'))
+same-number : (L : Ledger) {m : Meaning} {x y : ℕ} → PlainOf L m x → PlainOf L m y → x ≡ y
+same-number L of-deal of-deal = refl
+same-number L (of-row x) (of-row x') = same-number L x x'
+same-number L (of-times {s = s} y) (of-times y') = ap (Arithmetic.product s) (same-number L y y')
+same-number L of-fee of-fee = refl
+same-number L (of-more x y) (of-more x' y') = ap₂ Arithmetic.sum (same-number L x x') (same-number L y y')
+same-number L (of-product x y) (of-product x' y') = ap₂ Arithmetic.product (same-number L x x') (same-number L y y')
 
 pub one-number : OneNumber
 one-number L r x y h k = same-number L h k

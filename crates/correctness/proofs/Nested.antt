@@ -9,7 +9,7 @@ use lib.ListN.{replicate}
 use Rattle.opening.specs.Opening.{openAnswer}
 use Rattle.runs.specs.Calls.{Post, message, linear}
 use Rattle.correctness.specs.History.{Event, history, begin}
-use Rattle.correctness.specs.Ledger.{Written, Plain, of-deal, of-sum}
+use Rattle.correctness.specs.Ledger.{Written, Plain, of-deal, of-row, of-times, of-more}
 use Rattle.correctness.specs.Truth.{OwnPart, TrueFinish}
 use Rattle.correctness.specs.Claim.{Premises}
 use Rattle.correctness.proofs.Meanings.{one-number}
@@ -53,7 +53,7 @@ by-theorem =
 -- 6 + 2 · 42, by the ledger alone
 plain-90 : Plain ledger 6 90
 unfolding Computes ledger
-plain-90 = of-sum {a = 0} {b = 4} {s = 2} {x = 6} {y = 42} refl (of-deal refl) plain-42
+plain-90 = of-more (of-row {a = 0} {x = 6} of-deal) (of-times {s = 2} {b = 4} {y = 42} plain-42)
 
 is-90 : openAnswer (last .session) (last .rows) 6 true-record .value ≡ 90
 is-90 = one-number ledger 6 _ 90 by-theorem plain-90

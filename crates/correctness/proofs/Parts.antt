@@ -20,11 +20,11 @@ use Rattle.runs.proofs.Facts.{Multiplying}
 use Rattle.runs.proofs.Rows.{marked-low}
 use Rattle.runs.proofs.Steps.{postAt, named}
 use Rattle.correctness.specs.History.{Event, World, history, begin}
-use Rattle.correctness.specs.Ledger.{Ledger, product}
+use Rattle.correctness.specs.Ledger.{Meaning, Ledger, product}
 use Rattle.correctness.specs.Truth.{TruePolynomial, TrueMask}
 use Rattle.correctness.specs.Claim.{Premises}
 use Rattle.correctness.specs.Parts.{PartOf, withPoints, HeldParts, MaskParts}
-use Rattle.correctness.proofs.Meanings.{Is, is-dealt, is-sum, is-product, one, plain}
+use Rattle.correctness.proofs.Meanings.{IsOf, Is, is-dealt, is-row, is-times, is-fee, is-more, is-product, one, plain}
 use Rattle.correctness.proofs.Standing.{Good}
 use Rattle.correctness.proofs.Fitting.{AllSaid, told-a, told-b}
 use Rattle.correctness.proofs.Openings as Openings
@@ -43,12 +43,18 @@ part-from P s row X e theirs = record {
 }
 
 -- the ledger's vector does not depend on the check points
-any-points : (plan : Plan) (draw : Draw) (L : Ledger) (points : List ℕ) {r : ℕ} {X : Vector} → Is plan draw L r X
-    → Is plan (withPoints points draw) L r X
-unfolding rawDraw tripleDraw
-any-points plan draw L points (is-dealt e h z) = is-dealt e h z
-any-points plan draw L points (is-sum e x y z) = is-sum e (any-points plan draw L points x) (any-points plan draw L points y) z
-any-points plan draw L points (is-product e x y z) = is-product e (any-points plan draw L points x) (any-points plan draw L points y) z
+module _ (plan : Plan) (draw : Draw) (L : Ledger) (points : List ℕ) where
+  any-of : {r : ℕ} {m : Meaning} {X : Vector} → IsOf plan draw L r m X → IsOf plan (withPoints points draw) L r m X
+  unfolding rawDraw tripleDraw
+  any-of (is-dealt h z) = is-dealt h z
+  any-of (is-row x) = is-row (any-of x)
+  any-of (is-times y z) = is-times (any-of y) z
+  any-of (is-fee h z) = is-fee h z
+  any-of (is-more x y z) = is-more (any-of x) (any-of y) z
+  any-of (is-product x y z) = is-product (any-of x) (any-of y) z
+
+  any-points : {r : ℕ} {X : Vector} → Is plan draw L r X → Is plan (withPoints points draw) L r X
+  any-points x = any-of x
 
 -- of the triple at r, the factors a and b with their vectors, by the ledger
 record Factors (plan : Plan) (draw : Draw) (L : Ledger) (r : ℕ) : Type 0 where

@@ -3,7 +3,7 @@
 use Prim.Native.Nat.{ℕ, zero, suc, _+_, _*_, _≤_, _<_}
 use mathlib.Core.Path.{_≡_, refl, sym, _∙_, ap, ap₂, subst}
 use mathlib.Core.Logic.{_⊎_, inl, inr}
-use mathlib.Core.List.{List, [], _∷_, _++_, append-assoc}
+use mathlib.Core.List.{List, [], _∷_, _++_, map, append-assoc}
 use native.Mathlib.Omega.{arith}
 use lib.ListN.{length, getD, drop, length-append}
 use lib.Seq.{getD-at}
@@ -16,13 +16,15 @@ use Rattle.factory.proofs.Laws.{elements-append}
 use Rattle.vectors.specs.Vector.{Vector, numbers}
 use Rattle.vectors.proofs.Linear.{length-numbers}
 use Rattle.runs.specs.Draws.{Plan, Draw, IsDraw}
-use Rattle.runs.specs.Calls.{Post, Call, loadRow, loadTriple, deal, message, opening, linear, masks, finish, perform, sentIf, openingLine, masksLine, broadcast, Among}
-use Rattle.runs.proofs.Marks.{less, vectorA, vectorB}
+use Rattle.runs.specs.Outline.{Act, loads, loadsTriple, deals, opens, sums, factors, multiplies, takes, Given, Move, moves, actsIn, Sending, itsOpening, itsMasks, sends}
+use Rattle.runs.specs.Calls.{Post, Actual, Call, perform, sentIf, openingLine, masksLine, lineOf, sentBy, broadcast, Among}
+use Rattle.runs.proofs.Outlines.{every-all}
+use Rattle.runs.proofs.Marks.{markOf, less, vectorA, vectorB, Masking, none, of, masking}
 use Rattle.runs.proofs.Outcomes.{refusalOf, refusal-is}
-use Rattle.runs.proofs.Facts.{Allowed, Multiplying, Triple}
+use Rattle.runs.proofs.Facts.{Sendable, Multiplying, Triple}
 use Rattle.runs.proofs.Lines.{Opening, Masks, same-opening, same-masks, not-both, numbers-elements}
-use Rattle.runs.proofs.Steps.{message-says, masks-say}
-use Rattle.correctness.specs.Ledger.{Ledger, product, Written}
+use Rattle.runs.proofs.Steps.{Says, SaysAll, says}
+use Rattle.correctness.specs.Ledger.{Ledger, product, WrittenBy, Written}
 use Rattle.correctness.proofs.Meanings.{Is, one}
 use Rattle.correctness.proofs.Standing.{Good, allowed-at}
 
@@ -168,16 +170,16 @@ module _ (plan : Plan) (draw : Draw) (L : Ledger) (small : plan .n < tens 10) wh
   -- ---- what one call broadcasts
 
   module _ (is : IsDraw plan draw) (len i : ℕ) (lo : 1 ≤ i) (hi : i ≤ plan .n) (q : Post) (g : Good plan draw L len i q) where
-    once : (P : List ℕ → Type 0) (refusal : ℕ) (line : List ℕ) → (refusal ≡ 0 → P line) → All P (sentIf refusal line)
-    once P zero line f = (f refl, tt)
-    once P (suc n) line f = tt
+    once : (P : List ℕ → Type 0) (refusal : ℕ) (line : List ℕ) (lines : List (List ℕ)) → (refusal ≡ 0 → P line) → All P lines
+        → All P (sentIf refusal line lines)
+    once P zero line lines f a = (f refl, a)
+    once P (suc n) line lines f a = a
 
-    new-opening : (r : ℕ) (lent : List ℕ) → refusalOf (message r lent) q ≡ 0
-        → OpeningSaid (openingLine r i (perform (message r lent) q .lent))
-    new-opening r lent z = record {
+    new-opening : (r : ℕ) (xs : List ℕ) → (r < 96) × (markOf (g .marks) r ≡ 2) → xs ≡ numbers k (g .vec r .v i) → OpeningSaid (openingLine r i xs)
+    new-opening r xs ok says = record {
       row = r;
       post = i;
-      xs = perform (message r lent) q .lent;
+      xs = xs;
       is = refl;
       form = record {
         row = omega (arith, ok .0);
@@ -189,19 +191,14 @@ module _ (plan : Plan) (draw : Draw) (L : Ledger) (small : plan .n < tens 10) wh
       meant = g .facts r (ok .0) .held (ok .1);
       says = says;
     }
-      where
-        ok : Allowed (message r lent) (g .marks)
-        ok = allowed-at plan draw L len i q g (message r lent) z
 
-        says : perform (message r lent) q .lent ≡ numbers k (g .vec r .v i)
-        says = message-says plan draw is len i hi (g .marks) (g .vec) q (g .stands) r lent z
-
-    new-masks : (a b r : ℕ) (lent : List ℕ) → refusalOf (masks a b r lent) q ≡ 0 → L (r + 2) ≡ product r a b
-        → MasksSaid (masksLine r i (perform (masks a b r lent) q .lent))
-    new-masks a b r lent z means = record {
+    new-masks : (a b r : ℕ) (xs : List ℕ) → Multiplying 3 (g .marks) a b r
+        → xs ≡ numbers k (less (g .vec a) (g .vec r) .v i) ++ numbers k (less (g .vec b) (g .vec (r + 1)) .v i) → L (r + 2) ≡ product r a b
+        → MasksSaid (masksLine r i xs)
+    new-masks a b r xs ok said means = record {
       row = r;
       post = i;
-      xs = perform (masks a b r lent) q .lent;
+      xs = xs;
       is = refl;
       form = record {
         row = omega (arith, ok .r-low);
@@ -219,24 +216,55 @@ module _ (plan : Plan) (draw : Draw) (L : Ledger) (small : plan .n < tens 10) wh
       says = says;
     }
       where
-        ok : Multiplying 3 (g .marks) a b r
-        ok = allowed-at plan draw L len i q g (masks a b r lent) z
-
         t : Triple plan draw (g .marks) (g .vec) r
         t = g .facts r (omega (arith, ok .r-low)) .triple (inl (ok .first))
 
-        says : perform (masks a b r lent) q .lent ≡ halves plan draw r i (g .vec a) (g .vec b)
+        says : xs ≡ halves plan draw r i (g .vec a) (g .vec b)
         says =
-            masks-say plan draw is len i hi (g .marks) (g .vec) q (g .stands) a b r lent z
+            said
             ∙ ap₂ (λ (X Y : Vector). numbers k (less (g .vec a) X .v i) ++ numbers k (less (g .vec b) Y .v i)) (t .is-a) (t .is-b)
 
+    abbrev Wrote : Move Actual → Type 0
+    Wrote m = WrittenBy draw L (m .0) (m .1)
+
+    -- masks that the call makes are in the ledger
+    abbrev Noted : Masking → Type 0
+    Noted none = Unit {0}
+    Noted (of a b r) = L (r + 2) ≡ product r a b
+
+    noted : (a : Act) (x : Given Actual (takes a)) → WrittenBy draw L a x → Noted (masking a)
+    noted (loads r) x w = tt
+    noted (loadsTriple r) x w = tt
+    noted (deals r) x w = tt
+    noted (opens r) x w = tt
+    noted (sums r t ts) x w = tt
+    noted (factors a b r) x w = w
+    noted (multiplies r) x w = tt
+
+    all-noted : (ms : List (Move Actual)) → All Wrote ms → All Noted (map masking (actsIn ms))
+    all-noted [] w = tt
+    all-noted (m ∷ ms) w = (noted (m .0) (m .1) (w .0), all-noted ms (w .1))
+
+    said-one : (ms : List (Move Actual)) (s : Sending) (xs : List ℕ) → Sendable (actsIn ms) (g .marks) s → Says plan draw i (g .vec) s xs
+        → All Wrote ms → Said (lineOf i s xs)
+    said-one ms (itsOpening r) xs ok says w = inl (new-opening r xs ok says)
+    said-one ms (itsMasks a b r) xs ok says w =
+        inr (new-masks a b r xs (ok .0) says (among-all Noted (map masking (actsIn ms)) (all-noted ms w) (of a b r) (ok .1)))
+
+    said-by : (ms : List (Move Actual)) (ss : List Sending) (k : ℕ) (parts : List (List ℕ))
+        → (k ≡ 0 → All (Sendable (actsIn ms) (g .marks)) ss × SaysAll plan draw i (g .vec) ss parts × All Wrote ms)
+        → All Said (sentBy i k ss parts)
+    said-by ms [] k parts f = tt
+    said-by ms (s ∷ ss) k [] f = tt
+    said-by ms (s ∷ ss) k (xs ∷ parts) f =
+        once Said k (lineOf i s xs) (sentBy i k ss parts) (λ z. let h = f z in said-one ms s xs (h .0 .0) (h .1 .0) (h .2))
+        (said-by ms ss k parts (λ z. let h = f z in (h .0 .1, h .1 .1, h .2)))
+
     pub new-said : (c : Call) → (refusalOf c q ≡ 0 → Written draw L c) → All Said (broadcast i c (perform c q))
-    new-said (loadRow r pack) w = tt
-    new-said (loadTriple r pack) w = tt
-    new-said (deal r c) w = tt
-    new-said (message r lent) w = once Said _ _ (λ e. inl (new-opening r lent (sym (refusal-is (message r lent) q) ∙ e)))
-    new-said (opening r blocks) w = tt
-    new-said (linear r a b s) w = tt
-    new-said (masks a b r lent) w =
-        once Said _ _ (λ e. let z = sym (refusal-is (masks a b r lent) q) ∙ e in inr (new-masks a b r lent z (w z)))
-    new-said (finish r blocks blocks') w = tt
+    new-said c w =
+        said-by (moves c) (sends c) (perform c q .answer .refusal) (perform c q .lent) (λ e.
+        let z = sym (refusal-is c q) ∙ e in (
+          allowed-at plan draw L len i q g c z .sending,
+          says plan draw is len i hi (g .marks) (g .vec) q (g .stands) c z,
+          every-all Wrote (moves c) (w z),
+        ))

@@ -9,11 +9,11 @@ use Rattle.runs.specs.Draws.{Plan, Draw, IsDraw, Sound}
 use Rattle.runs.specs.Calls.{Post, after, broadcast, at}
 use Rattle.runs.proofs.Marks.{at-same, at-other, rawVector}
 use Rattle.runs.proofs.Start.{start, start-sized, start-mark, start-stands, start-facts}
-use Rattle.runs.proofs.Outcomes.{refusalOf, refusal-is, refused}
+use Rattle.runs.proofs.Outcomes.{refusalOf, refusal-is}
 use Rattle.correctness.specs.History.{Event, World, doneBy, turn, history, begin, Each}
 use Rattle.correctness.specs.Ledger.{Ledger, Written}
 use Rattle.correctness.specs.Truth.{OwnPart, TrueFinish}
-use Rattle.correctness.proofs.Standing.{Good, good-after}
+use Rattle.correctness.proofs.Standing.{Good, good-after, good-refused}
 use Rattle.correctness.proofs.Said.{new-said}
 use Rattle.correctness.proofs.Fitting.{Line, AllSaid, small, fits}
 
@@ -53,7 +53,7 @@ module _ (plan : Plan) (draw : Draw) (L : Ledger) (S : ℕ → Type 0) (sound : 
             let y = is-zero z in
             good-after plan draw L is (lens (e .post)) (e .post) hi q g (e .call) z (own among y) (wrote among y)
             (fits plan draw L sound is S w (v .lines) (lens (e .post)) (e .post) q g (e .call) z (own among y) (truth among y))
-        moves (suc k) z = subst (Good plan draw L (lens (e .post)) (e .post)) (sym (refused (e .call) q k z)) g
+        moves (suc k) z = good-refused plan draw L is (lens (e .post)) (e .post) hi q g (e .call) k z
 
         says : All (Line plan draw L sound is) (w .lines (e .post) ++ broadcast (e .post) (e .call) (doneBy e w))
         says =

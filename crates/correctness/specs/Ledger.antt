@@ -1,39 +1,56 @@
 -- "The same deals, sums and masks": one ledger, in which a row has at most one meaning, and the plain number that it gives a row.
 use Prim.Native.Nat.{ℕ, _+_, _<_}
 use mathlib.Core.Path.{_≡_}
+use mathlib.Core.List.{List, [], _∷_}
 use lib.ListN.{getD}
 use Rattle.field.specs.Modulus.{p}
 use Rattle.field.specs.Arithmetic as Arithmetic
 use Rattle.factory.specs.Packs.{dealerNumber}
 use Rattle.runs.specs.Draws.{Draw, rawDraw}
-use Rattle.runs.specs.Calls.{Call, loadRow, loadTriple, deal, message, opening, linear, masks, finish}
+use Rattle.runs.specs.Outline.{Act, loads, loadsTriple, deals, opens, Summand, once, times, fee, sums, factors, multiplies, takes, Given, moves, Every}
+use Rattle.runs.specs.Calls.{Actual, Call}
 
--- What a row holds: nothing of its own; u, dealt; a plus s times b; a times b, by the triple at r.
+-- What a row holds: nothing of its own; u, dealt; a sum, of one summand or more; a times b, by the triple at r.
 pub data Meaning : Type 0 where
   nothing : Meaning
   dealt : (u : ℕ) → Meaning
-  sum : (a b s : ℕ) → Meaning
+  summed : (t : Summand) (ts : List Summand) → Meaning
   product : (r a b : ℕ) → Meaning
+
+-- a plus s times b
+abbrev pub sum : (a b s : ℕ) → Meaning
+sum a b s = summed (once a) (times s b ∷ [])
 
 abbrev pub Ledger : Type 0
 Ledger = ℕ → Meaning
 
 -- A call that is not refused does what the ledger says: a deal of u with c = u − f(0), a sum, masks.
-abbrev pub Written : Draw → Ledger → Call → Type 0
-Written draw L (loadRow r pack) = Unit {0}
-Written draw L (loadTriple r pack) = Unit {0}
-Written draw L (deal r c) = (u : ℕ) × (u < p) × (L r ≡ dealt u) × (c ≡ dealerNumber u (getD (rawDraw draw r) 0 0) .value)
-Written draw L (message r lent) = Unit {0}
-Written draw L (opening r blocks) = Unit {0}
-Written draw L (linear r a b s) = L r ≡ sum a b s
-Written draw L (masks a b r lent) = L (r + 2) ≡ product r a b
-Written draw L (finish r blocks blocks') = Unit {0}
+abbrev pub WrittenBy : Draw → Ledger → (a : Act) → Given Actual (takes a) → Type 0
+WrittenBy draw L (loads r) pack = Unit {0}
+WrittenBy draw L (loadsTriple r) pack = Unit {0}
+WrittenBy draw L (deals r) c = (u : ℕ) × (u < p) × (L r ≡ dealt u) × (c ≡ dealerNumber u (getD (rawDraw draw r) 0 0) .value)
+WrittenBy draw L (opens r) blocks = Unit {0}
+WrittenBy draw L (sums r t ts) x = L r ≡ summed t ts
+WrittenBy draw L (factors a b r) x = L (r + 2) ≡ product r a b
+WrittenBy draw L (multiplies r) blocks = Unit {0}
 
--- The plain number of a row, by the ledger alone.
-pub data Plain (L : Ledger) : ℕ → ℕ → Type 0 where
-  of-deal : {r u : ℕ} → L r ≡ dealt u → Plain L r u
-  of-sum : {r a b s x y : ℕ} → L r ≡ sum a b s → Plain L a x → Plain L b y → Plain L r (Arithmetic.sum x (Arithmetic.product s y))
-  of-product : {r k a b x y : ℕ} → L r ≡ product k a b → Plain L a x → Plain L b y → Plain L r (Arithmetic.product x y)
+abbrev pub Written : Draw → Ledger → Call → Type 0
+Written draw L c = Every (λ m. WrittenBy draw L (m .0) (m .1)) (moves c)
+
+-- The plain number of a meaning, by the ledger alone: u of a deal; of a sum its summands' numbers together, which are a row's,
+-- s times a row's and the fee; of a product the rows' one times the other.
+pub data PlainOf (L : Ledger) : Meaning → ℕ → Type 0 where
+  of-deal : {u : ℕ} → PlainOf L (dealt u) u
+  of-row : {a x : ℕ} → PlainOf L (L a) x → PlainOf L (summed (once a) []) x
+  of-times : {s b y : ℕ} → PlainOf L (L b) y → PlainOf L (summed (times s b) []) (Arithmetic.product s y)
+  of-fee : {k : ℕ} → PlainOf L (summed (fee k) []) k
+  of-more : {t t' : Summand} {ts : List Summand} {x y : ℕ} → PlainOf L (summed t []) x → PlainOf L (summed t' ts) y
+      → PlainOf L (summed t (t' ∷ ts)) (Arithmetic.sum x y)
+  of-product : {k a b x y : ℕ} → PlainOf L (L a) x → PlainOf L (L b) y → PlainOf L (product k a b) (Arithmetic.product x y)
+
+-- The plain number of a row.
+abbrev pub Plain : Ledger → ℕ → ℕ → Type 0
+Plain L r x = PlainOf L (L r) x
 
 -- A row has one plain number at most.
 abbrev pub OneNumber : Type 0

@@ -7,7 +7,7 @@ use lib.ListN.{length, take, drop}
 use Rattle.field.specs.Modulus.{p}
 use Rattle.poly.specs.Counting.{Elements, count}
 use Rattle.session.specs.declared.Session.{Session}
-use Rattle.session.specs.Sessions.{mark}
+use Rattle.session.specs.Sessions.{mark, withPoint}
 use Rattle.session.specs.Rows.{width, rowAt}
 use Rattle.opening.specs.Walking.{sent, accepts}
 use Rattle.product.specs.Finish.{maskA, maskB}
@@ -20,13 +20,9 @@ use Rattle.correctness.specs.Ledger.{Ledger, Plain}
 use Rattle.correctness.specs.Truth.{TruePolynomial, TrueMask}
 use Rattle.correctness.specs.Claim.{Premises}
 
--- The post with another check point.
-abbrev pub atPoint : Session → ℕ → Session
-atPoint s w = record { n = s .n; t = s .t; post = s .post; point = w; marks = s .marks; left = s .left; right = s .right }
-
 -- Of the points that a post might have, those at which it accepts what a record shows of j, where its row is its part of X.
 abbrev pub pointsPassed : Session → Vector → List ℕ → ℕ → ℕ
-pointsPassed s X blocks j = count (λ w. accepts (atPoint s w) (heldRow (atPoint s w) X) blocks j) 1 (p - 1)
+pointsPassed s X blocks j = count (λ w. accepts (withPoint s w) (heldRow (withPoint s w) X) blocks j) 1 (p - 1)
 
 -- Of one row: the record is one that 5 and 8 let pass, and what it shows is not X's polynomial of j.
 abbrev pub FalseCaught : Type 0

@@ -12,19 +12,21 @@ use Rattle.session.specs.Rows.{width, coefficients, rowAt}
 use Rattle.opening.specs.Walking.{sent, acceptedPosts}
 use Rattle.product.specs.Finish.{maskA, maskB}
 use Rattle.runs.specs.Draws.{Plan, Draw, IsRaw, rawPack, triplePack}
-use Rattle.runs.specs.Calls.{Post, Call, loadRow, loadTriple, deal, message, opening, linear, masks, finish, Told, ToldHalf}
+use Rattle.runs.specs.Outline.{Taking, nothingTaken, aRowPack, aTriplePack, aNumber, aRecord, twoRecords, takes, Given, moves, Every}
+use Rattle.runs.specs.Calls.{Post, Actual, Call, Told, ToldHalf}
 use Rattle.correctness.specs.History.{World}
 
 -- "sessions of one draw": what a post loads is its own part of what was drawn for those rows.
+abbrev pub OwnWith : Plan → Draw → ℕ → (t : Taking) → Given Actual t → Type 0
+OwnWith plan draw i nothingTaken x = Unit {0}
+OwnWith plan draw i (aRowPack r) pack = IsRaw (plan .raw r) × (pack ≡ rawPack plan draw i r)
+OwnWith plan draw i (aTriplePack r) pack = (plan .triple r ≡ true) × (pack ≡ triplePack plan draw i r)
+OwnWith plan draw i (aNumber r) c = Unit {0}
+OwnWith plan draw i (aRecord r) blocks = Unit {0}
+OwnWith plan draw i (twoRecords r) blocks = Unit {0}
+
 abbrev pub OwnPart : Plan → Draw → ℕ → Call → Type 0
-OwnPart plan draw i (loadRow r pack) = IsRaw (plan .raw r) × (pack ≡ rawPack plan draw i r)
-OwnPart plan draw i (loadTriple r pack) = (plan .triple r ≡ true) × (pack ≡ triplePack plan draw i r)
-OwnPart plan draw i (deal r c) = Unit {0}
-OwnPart plan draw i (message r lent) = Unit {0}
-OwnPart plan draw i (opening r blocks) = Unit {0}
-OwnPart plan draw i (linear r a b s) = Unit {0}
-OwnPart plan draw i (masks a b r lent) = Unit {0}
-OwnPart plan draw i (finish r blocks blocks') = Unit {0}
+OwnPart plan draw i c = Every (λ m. OwnWith plan draw i (takes (m .0)) (m .1)) (moves c)
 
 -- What j holds now of row r.
 abbrev pub Owned : World → ℕ → ℕ → List ℕ → Type 0
@@ -46,15 +48,16 @@ abbrev pub TrueOf : (ℕ → List ℕ → Type 0) → Session → List ℕ → L
 TrueOf P s row blocks = All (λ j. j ≢ s .post → P j (sent s row blocks j)) (acceptedPosts s row blocks)
 
 -- In a finish of the post q: of both records.
-abbrev pub TrueFinish : (ℕ → Type 0) → World → Post → Call → Type 0
-TrueFinish S w q (loadRow r pack) = Unit {0}
-TrueFinish S w q (loadTriple r pack) = Unit {0}
-TrueFinish S w q (deal r c) = Unit {0}
-TrueFinish S w q (message r lent) = Unit {0}
-TrueFinish S w q (opening r blocks) = Unit {0}
-TrueFinish S w q (linear r a b s) = Unit {0}
-TrueFinish S w q (masks a b r lent) = Unit {0}
-TrueFinish S w q (finish r blocks blocks') =
+abbrev pub TrueWith : (ℕ → Type 0) → World → Post → (t : Taking) → Given Actual t → Type 0
+TrueWith S w q nothingTaken x = Unit {0}
+TrueWith S w q (aRowPack r) pack = Unit {0}
+TrueWith S w q (aTriplePack r) pack = Unit {0}
+TrueWith S w q (aNumber r) c = Unit {0}
+TrueWith S w q (aRecord r) blocks = Unit {0}
+TrueWith S w q (twoRecords r) blocks =
     let s = q .session in
-    TrueOf (TrueMask S w (s .t) (take (s .t + 1)) r) s (maskA s (q .rows) r) blocks
-    × TrueOf (TrueMask S w (s .t) (drop (s .t + 1)) r) s (maskB s (q .rows) r) blocks'
+    TrueOf (TrueMask S w (s .t) (take (s .t + 1)) r) s (maskA s (q .rows) r) (blocks .0)
+    × TrueOf (TrueMask S w (s .t) (drop (s .t + 1)) r) s (maskB s (q .rows) r) (blocks .1)
+
+abbrev pub TrueFinish : (ℕ → Type 0) → World → Post → Call → Type 0
+TrueFinish S w q c = Every (λ m. TrueWith S w q (takes (m .0)) (m .1)) (moves c)

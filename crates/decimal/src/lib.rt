@@ -24,7 +24,7 @@ pub fn size_of(x: u32) -> usize
 }
 
 // A number's last digits, as many as the part has places.
-pub fn put_digits(part: &mut [u8], x: u32)
+pub fn put_digits(part: &mut [u8], x: u64)
     ensures { λ r. ⌜ now (part .exit) ≡ lastDigits (length (now (part .entry))) x ⌝ }
 {
     let mut i = part.len();

@@ -52,13 +52,16 @@ module _ (f vs : List ℕ) (k : ℕ) (sized : length f ≡ k) where
 -- `write_part` wrote the coefficients of vi, and then the values
 module _ (n i w c : ℕ) (higher vs out : List ℕ) (room : PartRoom n i higher vs out) (q : List ℕ)
     (own : q ≡ polynomial (length higher + 1) vs i) where
-  pub coefficients-fit : length (take (length higher + 1) out) ≡ length q
-  coefficients-fit =
+  fits : length (take (length higher + 1) out) ≡ length q
+  fits =
       front-length (length higher + 1) (n + n) out (room .room)
       ∙ sym
       (ap length own
       ∙ polynomial-length (length higher + 1) i vs
       (block-room i n (length higher + 1) (length vs) (room .post) (room .drawn)))
+
+  pub coefficients-fit : length q ≡ length (take (length higher + 1) out)
+  coefficients-fit = sym fits
 
   pub part-written : (ys zs : List ℕ) → length ys ≡ length (take (length higher + 1) out) → ys ≡ q
       → zs ≡ valuesOf n w higher (c ∷ higher) vs

@@ -5,8 +5,8 @@ use mathlib.Core.List.{List, _++_, append-assoc, append-nil}
 use native.Mathlib.Numerals.{add-one}
 use native.Mathlib.Nat.{mul-le-mul-right, suc-mul}
 use native.Mathlib.Omega.{arith}
-use lib.ListN.{length, take, drop, getD, set, length-drop, drop-of-length-le}
-use lib.Seq.{drop-cons, take-suc-set, take-all, length-take-le}
+use lib.ListN.{length, take, drop, getD, set, length-drop}
+use lib.Seq.{take-suc-set, take-all, length-take-le}
 use Rattle.field.specs.Arithmetic.{sum}
 use Rattle.poly.specs.Polynomial.{value}
 use Rattle.factory.specs.Draw.{polynomial, eachFrom}
@@ -34,20 +34,6 @@ module _ (f : ℕ → ℕ) (n : ℕ) (l : List ℕ) where
   fill-end i h k e =
       let q : n - i ≡ 0 = omega arith in
       sym (append-nil l) ∙ rw (q, take-all i l (omega arith)) at e
-
--- a list copied from the front
-module _ (list l l₀ : List ℕ) (i : ℕ) (sized : length l₀ ≡ length list) where
-  pub copy-turn : i < length l₀ → length l ≡ length l₀ → take i l ++ drop i list ≡ list
-      → take (i + 1) (set l i (getD list i 0)) ++ drop (i + 1) list ≡ list
-  copy-turn h k e =
-      let j : i < length list = omega arith in
-      let m : i < length l = omega arith in
-      rw (add-one i, take-suc-set l i (getD list i 0) m, append-assoc) (rw (drop-cons list i 0 j) at e)
-
-  pub copy-end : length l₀ ≤ i → length l ≡ length l₀ → take i l ++ drop i list ≡ list → l ≡ list
-  copy-end h k e =
-      let j : length list ≤ i = omega arith in
-      sym (append-nil l) ∙ rw (drop-of-length-le list j, take-all i l (omega arith)) at e
 
 -- a check value
 pub check-is : (vs q : List ℕ) (k w i v : ℕ) → q ≡ polynomial k vs i → v ≡ value q w → v ≡ checkAt k w vs i

@@ -1,11 +1,11 @@
 -- Document 01, "From the factory": the factory's calls.
 use Prim.Native.Nat.{ℕ, zero, suc, _+_, _*_, _-_}
-use mathlib.Core.Bool.{Bool, false}
+use mathlib.Core.Bool.{Bool, false, _||_}
 use mathlib.Core.List.{List, [], _∷_, _++_}
 use lib.ListN.{getD}
 use Rattle.field.specs.Arithmetic.{difference}
 use Rattle.refusal.specs.Refusal.{Test, _when_, first, outcome}
-use Rattle.refusal.specs.Conditions.{or, missized, beyond, anyBeyond, badPoint, postsTests}
+use Rattle.refusal.specs.Conditions.{missized, beyond, anyBeyond, badPoint, postsTests}
 use Rattle.factory.specs.Draw.{drawLength, part, firstDraw, secondDraw, thirdDraw}
 use Rattle.factory.specs.declared.Number.{Number}
 
@@ -27,7 +27,7 @@ triplePacks n k points draw =
 -- 4, of every number of the list of check points as it was lent
 unfoldable pub anyBadPoint : List ℕ → Bool
 anyBadPoint [] = false
-anyBadPoint (w ∷ ws) = or (badPoint w) (anyBadPoint ws)
+anyBadPoint (w ∷ ws) = badPoint w || anyBadPoint ws
 
 -- n rows of t+1+2n numbers
 abbrev pub packsLength : ℕ → ℕ → ℕ

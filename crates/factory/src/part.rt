@@ -18,15 +18,6 @@ fn polynomial(list: &[u32], k: usize, i: usize) -> &[u32]
     &list[at..end]
 }
 
-fn copy(list: &[u32], out: &mut [u32])
-    requires { ⌜ length (now out) ≡ length (now list) ⌝ }
-    ensures { λ r. ⌜ now (out .exit) ≡ now (list .entry) ⌝ }
-{
-    for i in 0..out.len() {
-        out[i] = list[i];
-    }
-}
-
 // vj(w) for each post j.
 fn write_check_values(n: usize, w: u32, k: usize, vs: &[u32], out: &mut [u32])
     requires { ⌜ (length (now out) ≡ n) × (length (now vs) ≡ n * k) ⌝ }
@@ -90,6 +81,6 @@ pub fn write_part(
         ≡ part n (length (now (higher .entry)) + 1) (i + 1) w ((constant ∷ now (higher .entry)) ++ now (vs .entry)) ⌝ }
 {
     let k = higher.len() + 1;
-    copy(polynomial(vs, k, i), &mut out[..k]);
+    lists::copy(polynomial(vs, k, i), &mut out[..k]);
     write_values(n, w, constant, higher, vs, &mut out[k..]);
 }

@@ -23,7 +23,7 @@ pub fn put_field(out: &mut [u8], at: usize, x: u32) -> usize
     out[at] = 44;
     let from = at + 1;
     let end = from + decimal::size_of(x);
-    decimal::put_digits(&mut out[from..end], x);
+    decimal::put_digits(&mut out[from..end], x as u64);
     end
 }
 

@@ -2,12 +2,12 @@
 use Prim.Native.Nat.{ℕ, _≤_, _<_}
 use mathlib.Core.Path.{_≡_, refl, sym, _∙_}
 use mathlib.Core.List.{List, [], _∷_}
-use mathlib.Core.Bool.{Bool, true, false, not, cond}
+use mathlib.Core.Bool.{Bool, true, false, not, cond, _||_}
 use native.Mathlib.Omega.{arith}
 use borrow.Author.Tests.{lt-ltb, le-ltb, eq-eqb, ne-eqb, ltb-true, ltb-false}
 use lib.Dec.{ltb, eqb}
 use Rattle.field.specs.Modulus.{p}
-use Rattle.refusal.specs.Conditions.{or, outside, beyond, anyBeyond}
+use Rattle.refusal.specs.Conditions.{outside, beyond, anyBeyond}
 use Rattle.fields.specs.Fields.{largestFrom}
 use Rattle.forms.specs.Lines.{lastRow}
 use Rattle.forms.specs.Forms.{outOfRange}
@@ -20,7 +20,7 @@ last-row-le letter = go (eqb letter 77)
     go false = omega arith
 
 -- ---- 11
-or-true : (a b : Bool) → or a (or b true) ≡ true
+or-true : (a b : Bool) → a || (b || true) ≡ true
 or-true true b = refl
 or-true false true = refl
 or-true false false = refl
@@ -52,21 +52,21 @@ module _ (n letter row post largest : ℕ) where
           all-within g = rw (lt-ltb largest p h, ← l, le-ltb last row r, ne-eqb letter 68 d, le-ltb post 1 b, le-ltb n post g)
 
 -- the largest number is an element where all are
-pub largest-any : (m : ℕ) (xs : List ℕ) → or (beyond m) (anyBeyond xs) ≡ beyond (largestFrom m xs)
+pub largest-any : (m : ℕ) (xs : List ℕ) → beyond m || anyBeyond xs ≡ beyond (largestFrom m xs)
 unfolding anyBeyond
 largest-any m [] = go (beyond m)
   where
-    go : (b : Bool) → or b false ≡ b
+    go : (b : Bool) → b || false ≡ b
     go true = refl
     go false = refl
 largest-any m (x ∷ xs) = larger (ltb m x) refl ∙ largest-any (cond (ltb m x) x m) xs
   where
-    both : (a b : Bool) (c : Bool) → (a ≡ true → b ≡ true) → or a (or b c) ≡ or b c
+    both : (a b : Bool) (c : Bool) → (a ≡ true → b ≡ true) → a || (b || c) ≡ b || c
     both true true c h = refl
     both true false c h = let z : false ≡ true = h refl in cc
     both false b c h = refl
 
-    other : (a b c : Bool) → (b ≡ true → a ≡ true) → or a (or b c) ≡ or a c
+    other : (a b c : Bool) → (b ≡ true → a ≡ true) → a || (b || c) ≡ a || c
     other true b c h = refl
     other false true c h = let z : false ≡ true = h refl in cc
     other false false c h = refl
@@ -78,6 +78,6 @@ largest-any m (x ∷ xs) = larger (ltb m x) refl ∙ largest-any (cond (ltb m x)
         go true q = let z : not (ltb a p) ≡ false = rw (lt-ltb a p (omega (arith, ltb-true b p q))) in sym z ∙ e
         go false q = refl
 
-    larger : (t : Bool) → ltb m x ≡ t → or (beyond m) (or (beyond x) (anyBeyond xs)) ≡ or (beyond (cond t x m)) (anyBeyond xs)
+    larger : (t : Bool) → ltb m x ≡ t → beyond m || (beyond x || anyBeyond xs) ≡ beyond (cond t x m) || anyBeyond xs
     larger true e = both (beyond m) (beyond x) (anyBeyond xs) (up m x (omega (arith, ltb-true m x e)))
     larger false e = other (beyond m) (beyond x) (anyBeyond xs) (up x m (ltb-false m x e))

@@ -6,7 +6,7 @@ use mathlib.Core.Bool.{Bool, true, false, _||_, cond}
 use lib.ListN.{length, getD, drop}
 use lib.Dec.{eqb, ltb}
 use Rattle.refusal.specs.Refusal.{Test, _when_}
-use Rattle.refusal.specs.Conditions.{or, outside, anyBeyond}
+use Rattle.refusal.specs.Conditions.{outside, anyBeyond}
 use Rattle.fields.specs.Fields.{Parsed, parsed, malformed, fieldsAt, ended, numbersOf, largestFrom}
 use Rattle.forms.specs.declared.Form.{Form}
 use Rattle.forms.specs.declared.Form.the-variants.{Right, Wrong}
@@ -47,7 +47,7 @@ message k s = messageOf (getD s 0 0) (numbersOf (formOf k s))
 
 -- "element at least p, row above 95 (a triple's first above 93), post outside 1..n"; `big` says the first.
 abbrev pub outOfRange : ℕ → ℕ → ℕ → ℕ → Bool → Bool
-outOfRange n letter row post big = or (ltb (lastRow letter) row) (or (cond (eqb letter 68) false (outside 1 n post)) big)
+outOfRange n letter row post big = ltb (lastRow letter) row || (cond (eqb letter 68) false (outside 1 n post) || big)
 
 abbrev pub beyondRange : ℕ → Message → Bool
 beyondRange n m = outOfRange n (m .letter) (m .row) (m .post) (anyBeyond (m .numbers))

@@ -1,15 +1,15 @@
 -- The posts that a walk accepts: they pass the test, rise, and are no more than are needed.
 use Prim.Native.Nat.{ℕ, zero, suc, _+_, _≤_, _<_}
-use mathlib.Core.Path.{_≡_, refl}
+use mathlib.Core.Path.{_≡_, refl, ap}
 use mathlib.Core.Bool.{Bool, true, false}
 use mathlib.Core.List.{List, _∷_}
 use native.Mathlib.Omega.{arith}
 use borrow.Author.Tests.{ltb-false}
 use lib.Dec.{ltb}
-use lib.ListN.{length}
+use lib.ListN.{length, take}
 use Rattle.poly.specs.Counting.{All, Distinct}
 use Rattle.poly.proofs.Lists.{all-map}
-use Rattle.opening.specs.Walking.{walk}
+use Rattle.opening.specs.Accepting.{walk, passing, TakesFirst}
 
 -- a post that the walk of k posts from j on accepts
 pub record Accepted (test : ℕ → Bool) (j k x : ℕ) : Type 0 where
@@ -59,3 +59,21 @@ module _ (test : ℕ → Bool) where
 
   pub accepted-enough : (j k need : ℕ) → ltb (length (walk test j k need)) need ≡ false → length (walk test j k need) ≡ need
   accepted-enough j k need e = omega (arith, accepted-most j k need, ltb-false (length (walk test j k need)) need e)
+
+  -- the walk takes the first of all that pass
+  pub walk-first : (j k need : ℕ) → walk test j k need ≡ take need (passing test j k)
+  unfolding walk passing
+  walk-first j zero zero = refl
+  walk-first j zero (suc need) = refl
+  walk-first j (suc k) zero = refl
+  walk-first j (suc k) (suc need) = go (test j) (walk-first (suc j) k need) (walk-first (suc j) k (suc need))
+    where
+      go : (b : Bool) → walk test (suc j) k need ≡ take need (passing test (suc j) k)
+          → walk test (suc j) k (suc need) ≡ take (suc need) (passing test (suc j) k)
+          → elim b as (λ z. List ℕ) [ true ↦ j ∷ walk test (suc j) k need | false ↦ walk test (suc j) k (suc need) ]
+          ≡ take {A = ℕ} (suc need) (elim b as (λ z. List ℕ) [ true ↦ j ∷ passing test (suc j) k | false ↦ passing test (suc j) k ])
+      go true a c = ap (λ (l : List ℕ). j ∷ l) a
+      go false a c = c
+
+pub takes-first : TakesFirst
+takes-first q row blocks = walk-first _ 1 (q .shape .n) _

@@ -10,127 +10,150 @@ use borrow.Author.Tests.{eq-eqb, ne-eqb, lt-ltb, le-ltb}
 use lib.Seq.{length-take-le}
 use lib.Dec.{eqb}
 use lib.ListN.{length, take, drop, getD, length-take}
+use mir.Syntax.{w64}
+use mir.Val.{Fits}
 use Rattle.poly.specs.Polynomial.{powers, weighted}
 use Rattle.poly.proofs.Numbers.{weighted-powers}
+use Rattle.shape.specs.declared.Shape.{Shape}
+use Rattle.shape.specs.Marks.{absent, present}
+use Rattle.shape.specs.Lengths.{Valid, vLength, rowLength, checksAt, blockLength, recordLength}
+use Rattle.shape.proofs.Small.{block-each}
 use Rattle.refusal.specs.Refusal.{_when_, first}
 use Rattle.refusal.specs.Conditions.{anyBeyond}
-use Rattle.session.specs.declared.Session.{Session}
-use Rattle.opening.specs.Walking.{badBlock, badBlocks, sent, accepts, PostIn}
+use Rattle.session.specs.declared.Party.{Party}
+use Rattle.opening.specs.Blocks.{badBlock, badBlocks, sent, PostIn}
+use Rattle.opening.specs.Accepting.{accepts}
 
 -- j - 1 blocks before a block, and the block itself, are j blocks
-pub post-in : (s : Session) (j : ℕ) → 1 ≤ j → j ≤ s .n → PostIn s j
+pub post-in : (s : Shape) (j : ℕ) → 1 ≤ j → j ≤ s .n → PostIn s j
 post-in s zero h k = absurd (omega arith)
 post-in s (suc i) h k =
-    let below : suc i * (s .t + 2) ≤ s .n * (s .t + 2) = mul-le-mul-right (s .t + 2) k in
-    record { post-in = (h, k); room = rw (← add-two, suc-sub, ← suc-mul i (s .t + 2)) below }
+    let below : suc i * blockLength s ≤ recordLength s = mul-le-mul-right (blockLength s) k in
+    record { post-in = (h, k); room = rw (suc-sub, ← suc-mul i (blockLength s)) below }
   where
-    add-two : s .t + 2 ≡ s .t + 1 + 1
-    add-two = omega arith
-
     suc-sub : suc i - 1 ≡ i
     suc-sub = omega arith
 
-module _ (s : Session) (row blocks : List ℕ) (j : ℕ) where
-  abbrev mark : ℕ
-  mark = (j - 1) * (s .t + 1 + 1)
+module _ (s : Shape) (j k : ℕ) (e : k ≡ blockLength s) where
+  pub block-start : (j - 1) * k ≡ (j - 1) * blockLength s
+  block-start = ap (λ (i : ℕ). (j - 1) * i) e
 
-  pub own-fits : length row ≡ s .t + 1 + 2 * s .n → s .t + 1 ≡ length (take (s .t + 1) row)
-  own-fits e = sym (length-take-le (s .t + 1) row (omega arith))
+  pub block-fits : Valid s → PostIn s j → Fits w64 ((j - 1) * k)
+  block-fits v i = record { fits = omega (arith, block-start, i .room, block-each s (blockLength s) refl v .fits) }
 
-  pub sent-own : j ≡ s .post → take (s .t + 1) row ≡ sent s row blocks j
+module _ (q : Party) (row blocks : List ℕ) (j : ℕ) where
+  abbrev k : ℕ
+  k = vLength (q .shape)
+
+  abbrev at : ℕ
+  at = (j - 1) * blockLength (q .shape)
+
+  module _ (count : ℕ) (ec : count ≡ vLength (q .shape)) where
+    pub own-fits : length row ≡ rowLength (q .shape) → count ≡ length (take count row)
+    own-fits e = sym (length-take-le count row (omega arith))
+
+    pub sent-own : j ≡ q .post → take count row ≡ sent q row blocks j
+    unfolding sent
+    sent-own e = rw (ec, eq-eqb j (q .post) e)
+
+    pub sent-block : (mark : ℕ) → mark ≡ at → (j ≡ q .post → ⊥) → getD blocks mark 0 ≡ present
+        → take (mark + 1 + count - (mark + 1)) (drop (mark + 1) blocks) ≡ sent q row blocks j
+    unfolding sent
+    sent-block mark em n e =
+        rw (em, ec, ne-eqb j (q .post) n, eq-eqb (getD blocks at 0) present (rw em at e), add-sub-cancel-left (at + 1) k)
+
+  pub sent-none : (mark : ℕ) → mark ≡ at → (j ≡ q .post → ⊥) → (getD blocks mark 0 ≡ present → ⊥) → [] ≡ sent q row blocks j
   unfolding sent
-  sent-own e = rw (eq-eqb j (s .post) e)
+  sent-none mark em n e = rw (ne-eqb j (q .post) n, ne-eqb (getD blocks at 0) present (rw em at e))
 
-  pub sent-block : (j ≡ s .post → ⊥) → getD blocks mark 0 ≡ 1
-      → take (mark + 1 + (s .t + 1) - (mark + 1)) (drop (mark + 1) blocks) ≡ sent s row blocks j
+  -- no more coefficients than a v has, so that as many powers of the check point are enough
+  pub length-sent : length (sent q row blocks j) ≤ k
   unfolding sent
-  sent-block n e = rw (ne-eqb j (s .post) n, eq-eqb (getD blocks mark 0) 1 e, add-sub-cancel-left (mark + 1) (s .t + 1))
-
-  pub sent-none : (j ≡ s .post → ⊥) → (getD blocks mark 0 ≡ 1 → ⊥) → [] ≡ sent s row blocks j
-  unfolding sent
-  sent-none n e = rw (ne-eqb j (s .post) n, ne-eqb (getD blocks mark 0) 1 e)
-
-  -- no more than t+1 coefficients, so that t+1 powers of the check point are enough
-  pub length-sent : length (sent s row blocks j) ≤ s .t + 1
-  unfolding sent
-  length-sent = go (eqb j (s .post)) (eqb (getD blocks mark 0) 1)
+  length-sent = go (eqb j (q .post)) (eqb (getD blocks at 0) present)
     where
-      cut : (l : List ℕ) → length (take (s .t + 1) l) ≤ s .t + 1
-      cut l = omega (arith, length-take (s .t + 1) l)
+      cut : (l : List ℕ) → length (take k l) ≤ k
+      cut l = omega (arith, length-take k l)
 
-      go : (a b : Bool) → length (cond a (take (s .t + 1) row) (cond b (take (s .t + 1) (drop (mark + 1) blocks)) [])) ≤ s .t + 1
+      go : (a b : Bool) → length (cond a (take k row) (cond b (take k (drop (at + 1) blocks)) [])) ≤ k
       go true b = cut row
-      go false true = cut (drop (mark + 1) blocks)
+      go false true = cut (drop (at + 1) blocks)
       go false false = omega arith
 
-  pub accepted-none : (part : List ℕ) → part ≡ sent s row blocks j → length part ≡ 0 → false ≡ accepts s row blocks j
+  pub accepted-none : (part : List ℕ) → part ≡ sent q row blocks j → length part ≡ 0 → false ≡ accepts q row blocks j
   unfolding accepts
-  accepted-none part e z = rw (eq-eqb (length (sent s row blocks j)) 0 (sym (ap length e) ∙ z))
+  accepted-none part e z = rw (eq-eqb (length (sent q row blocks j)) 0 (sym (ap length e) ∙ z))
 
-  pub accepted-value : (part weights : List ℕ) (v : ℕ) → part ≡ sent s row blocks j → (length part ≡ 0 → ⊥)
-      → weights ≡ powers (s .point) (s .t + 1) → v ≡ weighted part weights
-      → eqb v (getD row (s .t + j) 0) ≡ accepts s row blocks j
+  pub accepted-value : (part weights : List ℕ) (v checks : ℕ) → part ≡ sent q row blocks j → (length part ≡ 0 → ⊥)
+      → weights ≡ powers (q .point) k → v ≡ weighted part weights → checks ≡ checksAt (q .shape)
+      → eqb v (getD row (checks + (j - 1)) 0) ≡ accepts q row blocks j
   unfolding accepts
-  accepted-value part weights v e n p q =
+  accepted-value part weights v checks e n p h ec =
       rw (
-        q,
+        h,
         p,
         e,
-        weighted-powers (sent s row blocks j) (s .point) (s .t + 1) length-sent,
-        ne-eqb (length (sent s row blocks j)) 0 (λ z. n (ap length e ∙ z)),
+        ec,
+        weighted-powers (sent q row blocks j) (q .point) k length-sent,
+        ne-eqb (length (sent q row blocks j)) 0 (λ z. n (ap length e ∙ z)),
       )
 
-module _ (s : Session) (blocks : List ℕ) (j : ℕ) where
-  abbrev own-mark : ℕ
-  own-mark = (j - 1) * (s .t + 1 + 1)
+module _ (q : Party) (blocks : List ℕ) (j : ℕ) where
+  abbrev own-at : ℕ
+  own-at = (j - 1) * blockLength (q .shape)
 
-  pub good-own : j ≡ s .post → false ≡ badBlock s blocks j
+  pub good-own : j ≡ q .post → false ≡ badBlock q blocks j
   unfolding badBlock
-  good-own e = rw (eq-eqb j (s .post) e)
+  good-own e = rw (eq-eqb j (q .post) e)
 
-  pub good-absent : (j ≡ s .post → ⊥) → getD blocks own-mark 0 ≡ 0 → false ≡ badBlock s blocks j
-  unfolding badBlock
-  good-absent n e = rw (ne-eqb j (s .post) n, eq-eqb (getD blocks own-mark 0) 0 e)
+  module _ (mark : ℕ) (em : mark ≡ own-at) (n : j ≡ q .post → ⊥) where
+    pub good-absent : getD blocks mark 0 ≡ absent → false ≡ badBlock q blocks j
+    unfolding badBlock
+    good-absent e = rw (ne-eqb j (q .post) n, eq-eqb (getD blocks own-at 0) absent (rw em at e))
 
-  pub bad-mark : (j ≡ s .post → ⊥) → (getD blocks own-mark 0 ≡ 0 → ⊥) → 1 < getD blocks own-mark 0 → true ≡ badBlock s blocks j
-  unfolding badBlock
-  bad-mark n e h = rw (ne-eqb j (s .post) n, ne-eqb (getD blocks own-mark 0) 0 e, lt-ltb 1 (getD blocks own-mark 0) h)
+    pub bad-mark : (getD blocks mark 0 ≡ absent → ⊥) → present < getD blocks mark 0 → true ≡ badBlock q blocks j
+    unfolding badBlock
+    bad-mark e h =
+        rw (ne-eqb j (q .post) n, ne-eqb (getD blocks own-at 0) absent (rw em at e), lt-ltb present (getD blocks own-at 0) (rw em at h))
 
-  pub bad-numbers : (r : ℕ) → (j ≡ s .post → ⊥) → (getD blocks own-mark 0 ≡ 0 → ⊥) → getD blocks own-mark 0 ≤ 1
-      → r ≡ first (8 when anyBeyond (take (own-mark + 1 + (s .t + 1) - (own-mark + 1)) (drop (own-mark + 1) blocks)) ∷ [])
-      → not (eqb r 0) ≡ badBlock s blocks j
-  unfolding badBlock
-  bad-numbers r n e h q =
-      rw (ne-eqb j (s .post) n, ne-eqb (getD blocks own-mark 0) 0 e, le-ltb 1 (getD blocks own-mark 0) h, q, add-sub-cancel-left (own-mark + 1) (s .t + 1))
-      (told (anyBeyond (take (s .t + 1) (drop (own-mark + 1) blocks))))
-    where
-      told : (b : Bool) → not (eqb (first (8 when b ∷ [])) 0) ≡ b
-      told true = refl
-      told false = refl
+    pub bad-numbers : (r count : ℕ) → count ≡ vLength (q .shape) → (getD blocks mark 0 ≡ absent → ⊥) → getD blocks mark 0 ≤ present
+        → r ≡ first (8 when anyBeyond (take (mark + 1 + count - (mark + 1)) (drop (mark + 1) blocks)) ∷ [])
+        → not (eqb r 0) ≡ badBlock q blocks j
+    unfolding badBlock
+    bad-numbers r count ec e h g =
+        rw (ne-eqb j (q .post) n, ne-eqb (getD blocks own-at 0) absent (rw em at e), le-ltb present (getD blocks own-at 0) (rw em at h), g, em, ec, add-sub-cancel-left (own-at + 1) (vLength (q .shape)))
+        (told (anyBeyond (take (vLength (q .shape)) (drop (own-at + 1) blocks))))
+      where
+        told : (b : Bool) → not (eqb (first (8 when b ∷ [])) 0) ≡ b
+        told true = refl
+        told false = refl
 
 pub no-constant : (part : List ℕ) → length part ≡ 0 → 0 ≡ getD part 0 0
 no-constant [] e = refl
 no-constant (c ∷ cs) e = absurd (omega arith)
 
-pub blocks-start : (s : Session) (blocks : List ℕ) → badBlocks s blocks 1 (s .n + 1 - 1) ≡ badBlocks s blocks 1 (s .n)
-blocks-start s blocks = ap (badBlocks s blocks 1) (omega arith)
+-- the search through the blocks
+module _ (q : Party) (blocks : List ℕ) where
+  abbrev n : ℕ
+  n = q .shape .n
 
--- one turn of the search through the blocks
-module _ (s : Session) (blocks : List ℕ) (j : ℕ) (b : Bool) where
-  pub block-bad : (r : Bool) → j ≤ s .n → r ≡ badBlock s blocks j → r ≡ true → badBlocks s blocks j (s .n + 1 - j) ≡ b
-      → 8 ≡ first (8 when b ∷ [])
-  unfolding badBlocks
-  block-bad r h t z e =
-      let q : s .n + 1 - j ≡ suc (s .n + 1 - suc j) = omega arith in
-      rw (← e, q, ← t, z)
+  pub blocks-start : badBlocks q blocks 1 (n + 1 - 1) ≡ badBlocks q blocks 1 n
+  blocks-start = ap (badBlocks q blocks 1) (omega arith)
 
-  pub block-good : (r : Bool) → j ≤ s .n → r ≡ badBlock s blocks j → r ≡ false → badBlocks s blocks j (s .n + 1 - j) ≡ b
-      → badBlocks s blocks (j + 1) (s .n + 1 - (j + 1)) ≡ b
-  unfolding badBlocks
-  block-good r h t z e =
-      let q : s .n + 1 - j ≡ suc (s .n + 1 - suc j) = omega arith in
-      rw (add-one j) (rw (q, ← t, z) at e)
+  module _ (j : ℕ) (b : Bool) where
+    pub block-bad : (r : Bool) → j ≤ n → r ≡ badBlock q blocks j → r ≡ true → badBlocks q blocks j (n + 1 - j) ≡ b
+        → 8 ≡ first (8 when b ∷ [])
+    unfolding badBlocks
+    block-bad r h t z e =
+        let more : n + 1 - j ≡ suc (n + 1 - suc j) = omega arith in
+        rw (← e, more, ← t, z)
 
-  pub blocks-end : s .n < j → badBlocks s blocks j (s .n + 1 - j) ≡ b → 0 ≡ first (8 when b ∷ [])
-  unfolding badBlocks
-  blocks-end h e = let q : s .n + 1 - j ≡ 0 = omega arith in rw (← e, q)
+    pub block-good : (r : Bool) → j ≤ n → r ≡ badBlock q blocks j → r ≡ false → badBlocks q blocks j (n + 1 - j) ≡ b
+        → badBlocks q blocks (j + 1) (n + 1 - (j + 1)) ≡ b
+    unfolding badBlocks
+    block-good r h t z e =
+        let more : n + 1 - j ≡ suc (n + 1 - suc j) = omega arith in
+        rw (add-one j) (rw (more, ← t, z) at e)
+
+    pub blocks-end : n < j → badBlocks q blocks j (n + 1 - j) ≡ b → 0 ≡ first (8 when b ∷ [])
+    unfolding badBlocks
+    blocks-end h e = let none : n + 1 - j ≡ 0 = omega arith in rw (← e, none)

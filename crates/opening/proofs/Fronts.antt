@@ -1,31 +1,25 @@
 -- The start of a list with room to spare, as the walk and its powers use it.
 use Prim.Native.Nat.{ℕ, _≤_}
 use mathlib.Core.Path.{_≡_, sym, _∙_, ap}
-use mathlib.Core.List.{List, _++_}
+use mathlib.Core.List.{List}
 use native.Mathlib.Omega.{arith}
-use lib.ListN.{length, take, drop, length-append, length-drop}
-use lib.Seq.{length-take-le, take-at}
+use lib.ListN.{length, take}
+use lib.Seq.{length-take-le}
 use Rattle.poly.specs.Polynomial.{powers}
-use Rattle.poly.proofs.Bounds.{length-powersFrom}
 use Rattle.opening.specs.declared.Walk.{Walk}
 use Rattle.opening.specs.declared.Walk.the-variants.{Enough, TooFew}
 use Rattle.opening.specs.declared.Opened.{Opened}
-use Rattle.opening.specs.Walking.{settled}
+use Rattle.opening.specs.Accepting.{settled}
 
 pub front-length : (k m : ℕ) (l : List ℕ) → k ≤ m → length l ≡ m → k ≡ length (take k l)
 front-length k m l h e = sym (length-take-le k l (omega arith))
 
--- the front of a list, filled with powers
-pub powers-front : (x k m : ℕ) (old new : List ℕ) → k ≤ m → length old ≡ m → new ≡ powers x (length (take k old))
-    → (take k (new ++ drop k old) ≡ powers x k) × (length (new ++ drop k old) ≡ m)
-powers-front x k m old new h e f =
-    (take-at new (drop k old) k size ∙ filled, length-append new (drop k old) ∙ omega (arith, size, length-drop k old))
-  where
-    filled : new ≡ powers x k
-    filled = f ∙ ap (powers x) (length-take-le k old (omega arith))
+pub front-size : (k m j : ℕ) (l : List ℕ) → k ≡ j → k ≤ m → length l ≡ m → length (take k l) ≡ j
+front-size k m j l h i e = length-take-le k l (omega arith) ∙ h
 
-    size : length new ≡ k
-    size = ap length filled ∙ length-powersFrom 1 x k
+-- a list, filled with powers
+pub powers-whole : (x k : ℕ) (old new : List ℕ) → length old ≡ k → new ≡ powers x (length old) → new ≡ powers x k
+powers-whole x k old new e f = f ∙ ap (powers x) e
 
 -- the walk's outcome, case by case
 abbrev found : ℕ → ℕ → Opened

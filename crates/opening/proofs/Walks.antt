@@ -8,14 +8,15 @@ use native.Mathlib.Omega.{arith}
 use borrow.Author.Tests.{lt-ltb, le-ltb}
 use lib.Dec.{ltb}
 use lib.ListN.{length, take, set, length-set, length-map}
-use lib.Seq.{take-suc-set, length-take-le}
+use lib.Seq.{take-suc-set, length-take-le, take-all}
 use Rattle.poly.specs.Interpolation.{interpolated}
 use Rattle.refusal.specs.Refusal.{_when_, first, outcome}
-use Rattle.session.specs.declared.Session.{Session}
+use Rattle.shape.specs.Lengths.{needed}
+use Rattle.session.specs.declared.Party.{Party}
 use Rattle.opening.specs.declared.Walk.{Walk}
-use Rattle.opening.specs.declared.Walk.the-variants.{Enough, TooFew}
 use Rattle.opening.specs.declared.Opened.{Opened}
-use Rattle.opening.specs.Walking.{walk, walkEnd, accepts, share, acceptedPosts, outcomeOf, settled, tooFew, opened, openedRow, Openable, WalkedAs}
+use Rattle.opening.specs.declared.Walk.the-variants.{Enough, TooFew}
+use Rattle.opening.specs.Accepting.{walk, walkEnd, accepts, share, acceptedPosts, outcomeOf, tooFew, opened, settled, openedRow, WalkedAs}
 
 -- one post
 module _ (test : ℕ → Bool) (j k need : ℕ) where
@@ -39,8 +40,8 @@ pub record Walking (test : ℕ → Bool) (f : ℕ → ℕ) (n need : ℕ) (posts
   pub j-from : 1 ≤ j
   pub j-to : j ≤ n + 1
   pub count-to : count ≤ need
-  pub posts-room : length posts ≡ 32
-  pub shares-room : length shares ≡ 32
+  pub posts-room : length posts ≡ need
+  pub shares-room : length shares ≡ need
   pub posts-so-far : take count posts ++ walk test j (n + 1 - j) (need - count) ≡ walk test 1 n need
   pub shares-so-far : take count shares ++ map f (walk test j (n + 1 - j) (need - count)) ≡ map f (walk test 1 n need)
   pub end-so-far : walkEnd test j (n + 1 - j) (need - count) ≡ walkEnd test 1 n need
@@ -49,7 +50,7 @@ module _ (test : ℕ → Bool) (f : ℕ → ℕ) (n need : ℕ) where
   abbrev At : List ℕ → List ℕ → ℕ → ℕ → Type 0
   At = Walking test f n need
 
-  pub walking-start : (p q : List ℕ) → length p ≡ 32 → length q ≡ 32 → At p q 0 1
+  pub walking-start : (p q : List ℕ) → length p ≡ need → length q ≡ need → At p q 0 1
   walking-start p q h k =
       record {
         j-from = omega arith;
@@ -90,9 +91,9 @@ module _ (test : ℕ → Bool) (f : ℕ → ℕ) (n need : ℕ) where
       more = omega (arith, s .count-to)
 
   -- a post that is accepted
-  pub walking-take : (p p′ q q′ : List ℕ) (c c′ j v : ℕ) (b : Bool) → At p q c j → (c ≡ need → ⊥) → need ≤ 32 → j ≤ n
+  pub walking-take : (p p′ q q′ : List ℕ) (c c′ j v : ℕ) (b : Bool) → At p q c j → (c ≡ need → ⊥) → j ≤ n
       → b ≡ test j → b ≡ true → v ≡ f j → p′ ≡ set p c j → q′ ≡ set q c v → c′ ≡ c + 1 → At p′ q′ c′ (j + 1)
-  walking-take p p′ q q′ c c′ j v b s ne few h t e ev ep eq ec =
+  walking-take p p′ q q′ c c′ j v b s ne h t e ev ep eq ec =
       record {
         j-from = omega arith;
         j-to = omega arith;
@@ -129,9 +130,9 @@ module _ (test : ℕ → Bool) (f : ℕ → ℕ) (n need : ℕ) where
   unfolding walk
   none-left j m = refl
 
-  collected : (p q : List ℕ) (c j : ℕ) → At p q c j → need ≤ 32 → walk test j (n + 1 - j) (need - c) ≡ []
+  collected : (p q : List ℕ) (c j : ℕ) → At p q c j → walk test j (n + 1 - j) (need - c) ≡ []
       → (take (length (walk test 1 n need)) p ≡ walk test 1 n need) × (take (length (walk test 1 n need)) q ≡ map f (walk test 1 n need))
-  collected p q c j s few e = (
+  collected p q c j s e = (
     front (walk test 1 n need) p c in-p (sym (append-nil (take c p)) ∙ rw e at (s .posts-so-far)),
     ap (λ (k : ℕ). take k q) (sym (length-map (walk test 1 n need) f))
         ∙ front (map f (walk test 1 n need)) q c in-q (sym (append-nil (take c q)) ∙ rw e at (s .shares-so-far)),
@@ -143,23 +144,23 @@ module _ (test : ℕ → Bool) (f : ℕ → ℕ) (n need : ℕ) where
       in-q : c ≤ length q
       in-q = omega (arith, s .count-to, s .shares-room)
 
-  pub walking-enough : (p q : List ℕ) (c j : ℕ) → At p q c j → need ≤ 32 → c ≡ need
+  pub walking-enough : (p q : List ℕ) (c j : ℕ) → At p q c j → c ≡ need
       → (take (length (walk test 1 n need)) p ≡ walk test 1 n need) × (take (length (walk test 1 n need)) q ≡ map f (walk test 1 n need))
       × (Enough (j - 1) ≡ walkEnd test 1 n need)
   unfolding walkEnd
-  walking-enough p q c j s few e =
-      let got = collected p q c j s few (ap (walk test j (n + 1 - j)) zero-left ∙ no-more j (n + 1 - j)) in
+  walking-enough p q c j s e =
+      let got = collected p q c j s (ap (walk test j (n + 1 - j)) zero-left ∙ no-more j (n + 1 - j)) in
       (got .0, got .1, rw zero-left at (s .end-so-far))
     where
       zero-left : need - c ≡ 0
       zero-left = omega arith
 
-  pub walking-few : (p q : List ℕ) (c j : ℕ) → At p q c j → need ≤ 32 → (c ≡ need → ⊥) → n < j
+  pub walking-few : (p q : List ℕ) (c j : ℕ) → At p q c j → (c ≡ need → ⊥) → n < j
       → (take (length (walk test 1 n need)) p ≡ walk test 1 n need) × (take (length (walk test 1 n need)) q ≡ map f (walk test 1 n need))
       × (TooFew ≡ walkEnd test 1 n need)
   unfolding walkEnd
-  walking-few p q c j s few ne h =
-      let got = collected p q c j s few (ap (λ (k : ℕ). walk test j k (need - c)) no-post ∙ none-left j (need - c)) in
+  walking-few p q c j s ne h =
+      let got = collected p q c j s (ap (λ (k : ℕ). walk test j k (need - c)) no-post ∙ none-left j (need - c)) in
       (got .0, got .1, rw (no-post, more) at (s .end-so-far))
     where
       no-post : n + 1 - j ≡ 0
@@ -168,40 +169,43 @@ module _ (test : ℕ → Bool) (f : ℕ → ℕ) (n need : ℕ) where
       more : need - c ≡ suc (need - suc c)
       more = omega (arith, s .count-to)
 
--- the same for a session's walk, each fact as the code has it
-module _ (s : Session) (row blocks : List ℕ) where
+-- the same for a party's walk, each fact as the code has it
+module _ (q : Party) (row blocks : List ℕ) (need : ℕ) (en : need ≡ needed (q .shape)) where
   abbrev Test : ℕ → Bool
-  Test = accepts s row blocks
+  Test = accepts q row blocks
 
   abbrev Share : ℕ → ℕ
-  Share = share s row blocks
+  Share = share q row blocks
+
+  abbrev n : ℕ
+  n = q .shape .n
+
+  abbrev k : ℕ
+  k = needed (q .shape)
 
   abbrev In : List ℕ → List ℕ → ℕ → ℕ → Type 0
-  In = Walking Test Share (s .n) (s .t + 1)
+  In = Walking Test Share n k
 
-  room : Openable s row blocks → s .t + 1 ≤ 32
-  room o = omega (arith, o .n-in, o .t-in)
+  module _ (c j : ℕ) (ne : c ≡ need → ⊥) where
+    more : c ≡ k → ⊥
+    more e = ne (e ∙ sym en)
 
-  pub session-take : (p p′ q q′ : List ℕ) (c c′ j v : ℕ) (b : Bool) → Openable s row blocks → In p q c j → (c ≡ s .t + 1 → ⊥)
-      → j ≤ s .n → b ≡ accepts s row blocks j → b ≡ true → v ≡ share s row blocks j → p′ ≡ set p c j → q′ ≡ set q c v
-      → c′ ≡ c + 1 → In p′ q′ c′ (j + 1)
-  session-take p p′ q q′ c c′ j v b o w ne =
-      walking-take Test Share (s .n) (s .t + 1) p p′ q q′ c c′ j v b w ne (room o)
+    pub party-take : (x x′ y y′ : List ℕ) (c′ v : ℕ) (b : Bool) → In x y c j → j ≤ n → b ≡ accepts q row blocks j → b ≡ true
+        → v ≡ share q row blocks j → x′ ≡ set x c j → y′ ≡ set y c v → c′ ≡ c + 1 → In x′ y′ c′ (j + 1)
+    party-take x x′ y y′ c′ v b w = walking-take Test Share n k x x′ y y′ c c′ j v b w more
 
-  pub session-skip : (p p′ q q′ : List ℕ) (c c′ j : ℕ) (b : Bool) → In p q c j → (c ≡ s .t + 1 → ⊥) → j ≤ s .n
-      → b ≡ accepts s row blocks j → b ≡ false → p′ ≡ p → q′ ≡ q → c′ ≡ c → In p′ q′ c′ (j + 1)
-  session-skip = walking-skip Test Share (s .n) (s .t + 1)
+    pub party-skip : (x x′ y y′ : List ℕ) (c′ : ℕ) (b : Bool) → In x y c j → j ≤ n → b ≡ accepts q row blocks j → b ≡ false
+        → x′ ≡ x → y′ ≡ y → c′ ≡ c → In x′ y′ c′ (j + 1)
+    party-skip x x′ y y′ c′ b w = walking-skip Test Share n k x x′ y y′ c c′ j b w more
 
-  pub session-enough : (p q : List ℕ) (c j : ℕ) → Openable s row blocks → In p q c j → c ≡ s .t + 1
-      → WalkedAs s row blocks (Enough (j - 1)) p q
-  session-enough p q c j o w e =
-      let got = walking-enough Test Share (s .n) (s .t + 1) p q c j w (room o) e in
-      record { ended = got .2; posts-are = got .0; shares-are = got .1; posts-room = w .posts-room; shares-room = w .shares-room }
+    pub party-few : (x y : List ℕ) → In x y c j → n < j → WalkedAs q row blocks TooFew x y
+    party-few x y w h =
+        let got = walking-few Test Share n k x y c j w more h in
+        record { ended = got .2; posts-are = got .0; shares-are = got .1; posts-room = w .posts-room; shares-room = w .shares-room }
 
-  pub session-few : (p q : List ℕ) (c j : ℕ) → Openable s row blocks → In p q c j → (c ≡ s .t + 1 → ⊥) → s .n < j
-      → WalkedAs s row blocks TooFew p q
-  session-few p q c j o w ne h =
-      let got = walking-few Test Share (s .n) (s .t + 1) p q c j w (room o) ne h in
+  pub party-enough : (x y : List ℕ) (c j : ℕ) → In x y c j → c ≡ need → WalkedAs q row blocks (Enough (j - 1)) x y
+  party-enough x y c j w e =
+      let got = walking-enough Test Share n k x y c j w (e ∙ en) in
       record { ended = got .2; posts-are = got .0; shares-are = got .1; posts-room = w .posts-room; shares-room = w .shares-room }
 
 -- the outcome says how many were accepted
@@ -228,36 +232,50 @@ end-counts test j (suc k) (suc need) = go (test j) (end-counts test (suc j) k ne
     go true h g = one-more (walkEnd test (suc j) k need) (length (walk test (suc j) k need)) h
     go false h g = g
 
-counted : (s : Session) (row blocks : List ℕ) → Counted (outcomeOf s row blocks) (length (acceptedPosts s row blocks)) (s .t + 1)
-counted s row blocks = end-counts (accepts s row blocks) 1 (s .n) (s .t + 1)
+counted : (q : Party) (row blocks : List ℕ)
+    → Counted (outcomeOf q row blocks) (length (acceptedPosts q row blocks)) (needed (q .shape))
+counted q row blocks = end-counts (accepts q row blocks) 1 (q .shape .n) (needed (q .shape))
 
 -- what the walk hands on settles the opening
-pub walk-settles : (s : Session) (row blocks : List ℕ) (end : Walk) (posts shares : List ℕ) → WalkedAs s row blocks end posts shares
-    → settled end (interpolated (take (s .t + 1) posts) (take (s .t + 1) shares) 0) ≡ openedRow s row blocks
-unfolding opened
-walk-settles s row blocks end posts shares w =
-    go end (rw (w .ended) (counted s row blocks)) ∙ ap (λ (e : Walk). settled e (opened s row blocks)) (w .ended)
-  where
-    go : (e : Walk) → Counted e (length (acceptedPosts s row blocks)) (s .t + 1)
-        → settled e (interpolated (take (s .t + 1) posts) (take (s .t + 1) shares) 0) ≡ settled e (opened s row blocks)
-    go (Enough j) h = rw (← h, w .posts-are, w .shares-are, h)
-    go TooFew h = refl
+module _ (q : Party) (row blocks : List ℕ) where
+  abbrev found : List ℕ
+  found = acceptedPosts q row blocks
+
+  abbrev need : ℕ
+  need = needed (q .shape)
+
+  module _ (end : Walk) (posts shares : List ℕ) (w : WalkedAs q row blocks end posts shares) where
+    walk-settles : settled end (interpolated posts shares 0) ≡ openedRow q row blocks
+    unfolding opened
+    walk-settles =
+        go end (rw (w .ended) (counted q row blocks)) ∙ ap (λ (e : Walk). settled e (opened q row blocks)) (w .ended)
+      where
+        go : (e : Walk) → Counted e (length found) need → settled e (interpolated posts shares 0) ≡ settled e (opened q row blocks)
+        go (Enough j) h =
+            let ep : posts ≡ found = sym (take-all (length found) posts (omega (arith, w .posts-room))) ∙ w .posts-are in
+            let es : shares ≡ map (share q row blocks) found = sym (take-all (length found) shares (omega (arith, w .shares-room))) ∙ w .shares-are in
+            rw (ep, es)
+        go TooFew h = refl
+
+    pub walk-opens : (r : Opened) → r ≡ settled end (interpolated posts shares 0) → r ≡ openedRow q row blocks
+    walk-opens r e = e ∙ walk-settles
 
 -- the opening of a row, by the test of 9
 abbrev pub orNine : Bool → ℕ → Opened
 orNine few v = outcome (first (9 when few ∷ [])) (record { refusal = 0; value = v }) (record { refusal = 9; value = 0 })
 
-pub opened-or-nine : (s : Session) (row blocks : List ℕ) → openedRow s row blocks ≡ orNine (tooFew s row blocks) (opened s row blocks)
+pub opened-or-nine : (q : Party) (row blocks : List ℕ) → openedRow q row blocks ≡ orNine (tooFew q row blocks) (opened q row blocks)
 unfolding outcome
-opened-or-nine s row blocks = go (outcomeOf s row blocks) (counted s row blocks)
+opened-or-nine q row blocks = go (outcomeOf q row blocks) (counted q row blocks)
   where
     accepted : ℕ
-    accepted = length (acceptedPosts s row blocks)
+    accepted = length (acceptedPosts q row blocks)
 
-    go : (e : Walk) → Counted e accepted (s .t + 1) → settled e (opened s row blocks) ≡ orNine (tooFew s row blocks) (opened s row blocks)
+    go : (e : Walk) → Counted e accepted (needed (q .shape))
+        → settled e (opened q row blocks) ≡ orNine (tooFew q row blocks) (opened q row blocks)
     go (Enough j) h =
-        let enough : ltb accepted (s .t + 1) ≡ false = le-ltb accepted (s .t + 1) (omega arith) in
+        let enough : ltb accepted (needed (q .shape)) ≡ false = le-ltb accepted (needed (q .shape)) (omega arith) in
         rw enough
     go TooFew h =
-        let few : ltb accepted (s .t + 1) ≡ true = lt-ltb accepted (s .t + 1) h in
+        let few : ltb accepted (needed (q .shape)) ≡ true = lt-ltb accepted (needed (q .shape)) h in
         rw few

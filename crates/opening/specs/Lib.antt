@@ -1,3 +1,5 @@
+pub mod Blocks
+pub mod Accepting
 pub mod Walking
 pub mod Opening
 pub mod Table

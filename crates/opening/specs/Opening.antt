@@ -3,6 +3,7 @@ use Prim.Native.Nat.{ℕ}
 use mathlib.Core.List.{List, [], _∷_, _++_}
 use Rattle.refusal.specs.Refusal.{Test, _when_, first}
 use Rattle.refusal.specs.Conditions.{missized, anyBeyond}
+use Rattle.shape.specs.Marks.{held}
 use Rattle.session.specs.declared.Session.{Session}
 use Rattle.session.specs.declared.Answer.{Answer}
 use Rattle.session.specs.Sessions.{answer}
@@ -13,7 +14,7 @@ use Rattle.opening.specs.Walking.{recordLength, badRecord, tooFew, opene
 -- 6 to 8
 abbrev pub ownChecks : Session → List ℕ → ℕ → List ℕ → List Test
 ownChecks s rows r blocks =
-    6 when noRow r ∷ 7 when unlike s r 2 ∷ 8 when anyBeyond (rowAt (width s) rows r) ∷ 8 when badRecord s blocks ∷ []
+    6 when noRow r ∷ 7 when unlike s r held ∷ 8 when anyBeyond (rowAt (width s) rows r) ∷ 8 when badRecord s blocks ∷ []
 
 -- 1 to 8
 abbrev pub openChecks : Session → List ℕ → ℕ → List ℕ → List Test

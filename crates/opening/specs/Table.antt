@@ -1,5 +1,5 @@
 -- Document 01's table, line by line, for an opening: one flat list of numbered tests. proofs/Tables.antt shows that the call's
--- own tests, made of groups that calls share, are this list.
+-- own tests, made of groups that calls share, are this list. Bounds and marks are document 01's numbers, not the names of `shape`.
 use Prim.Native.Nat.{ℕ, _*_, _-_}
 use mathlib.Core.Path.{_≡_}
 use mathlib.Core.List.{List, [], _∷_}

@@ -31,10 +31,16 @@ fn own_checks(session: Session, rows: &[u32], row: usize, blocks: &[u32]) -> u8
     requires { ⌜ Framed session (now rows) × (length (now blocks) ≡ recordLength session) ⌝ }
     ensures { λ r. ⌜ r ≡ first (ownChecks session (now (rows .entry)) row (now (blocks .entry))) ⌝ }
 {
-    let numbers = refusal::or_else(session.numbers(rows, row), record::refusal(session, blocks));
+    let numbers = refusal::or_else(
+        session::checks::numbers(session.shape(), rows, row),
+        record::refusal(session.party(), blocks),
+    );
     refusal::or_else(
         session::checks::row(row),
-        refusal::or_else(session::checks::unlike(&session.marks, row, 2), numbers),
+        refusal::or_else(
+            session::checks::unlike(&session.marks, row, shape::HELD),
+            numbers,
+        ),
     )
 }
 
@@ -46,7 +52,8 @@ fn open_checks(session: Session, rows: &[u32], row: usize, blocks: &[u32]) -> u8
     if frame != 0 {
         return frame;
     }
-    let size = refusal::size(blocks, session.n * (session.t + 2));
+    let shape = session.shape();
+    let size = refusal::size(blocks, shape.record_len());
     if size != 0 {
         return size;
     }
@@ -59,16 +66,12 @@ pub fn open<'a>(session: Session, rows: &'a [u32], row: usize, blocks: &'a [u32]
 {
     let refusal = open_checks(session, rows, row, blocks);
     if refusal != 0 {
-        return Answer {
-            refusal,
-            value: 0,
-            session,
-        };
+        return session.refuse(refusal);
     }
-    let opened = walking::open_row(session, session.row(rows, row), blocks);
-    Answer {
-        refusal: opened.refusal,
-        value: opened.value,
-        session,
+    let own = session::rows::row(session.shape(), rows, row);
+    let opened = walking::open_row(session.party(), own, blocks);
+    if opened.refusal != 0 {
+        return session.refuse(opened.refusal);
     }
+    session.done(opened.value)
 }

@@ -1,47 +1,75 @@
 -- The refusal of finish from the groups of checks that its code joins, and what holds where there is none.
-use Prim.Native.Nat.{ℕ, _+_, _*_, _≤_}
+use Prim.Native.Nat.{ℕ, _+_, _≤_}
 use mathlib.Core.Path.{_≡_, sym, _∙_}
 use mathlib.Core.List.{List, [], _∷_, _++_}
-use native.Mathlib.Nat.{mul-le-mul}
 use native.Mathlib.Omega.{arith}
 use borrow.Author.Tests.{ltb-false}
 use lib.ListN.{length}
+use Rattle.shape.specs.declared.Shape.{Shape}
+use Rattle.shape.specs.Bounds.{lastTriple}
+use Rattle.shape.specs.Marks.{masked}
+use Rattle.shape.specs.Lengths as Lengths
+use Rattle.shape.specs.Lengths.{Valid, rowLength}
 use Rattle.refusal.specs.Refusal.{Test, _when_, first, orElse}
 use Rattle.refusal.specs.Conditions.{missized, anyBeyond}
 use Rattle.refusal.proofs.Laws.{equal, all-fail}
 use Rattle.refusal.proofs.Groups.{chained, stopped, went-on, fail-parts}
+use Rattle.session.specs.declared.Party.{Party}
 use Rattle.session.specs.declared.Session.{Session}
-use Rattle.session.specs.Sessions.{factorA, factorB}
+use Rattle.session.specs.Sessions.{shapeOf, partyOf, factorA, factorB}
 use Rattle.session.specs.Rows.{width, rowAt}
-use Rattle.session.specs.Checks.{frameTests, noRow, noTriple, Framed, RowIn, TripleIn}
-use Rattle.session.proofs.Passed.{row-in, triple-in}
+use Rattle.session.specs.Checks.{frameTests, noRow, noTriple, Framed, Sized, RowIn, TripleIn}
+use Rattle.session.proofs.Passed.{row-below, row-in, triple-in}
 use Rattle.session.proofs.Calls.{frame-passed, stopped-at-frame, past-frame, allowed}
+use Rattle.opening.specs.Blocks as Blocks
+use Rattle.opening.specs.Blocks.{Recorded}
 use Rattle.opening.specs.Walking.{recordLength, badRecord}
-use Rattle.product.specs.Masks.{tripleMarks, maskNumbers}
+use Rattle.product.specs.Masks.{tripleMarks, factorNumbers, maskNumbers}
 use Rattle.product.specs.Finish.{finishPlace, finishMarks, finishNumbers, finishOwn, finishChecks}
 use Rattle.product.proofs.Joining.{joined}
 
-pub small-record : (s : Session) → s .n ≤ 32 → s .t ≤ 32 → s .n * (s .t + 2) ≤ 32 * 34
-small-record s n t = mul-le-mul {n₁ = s .n} {m₁ = s .t + 2} {n₂ = 32} {m₂ = 34} n (omega arith)
+pub place-joined : (s : Session) (g : Shape) (r : ℕ) (l l' : List ℕ) (k u v w d e : ℕ) → g ≡ shapeOf s → k ≡ Lengths.recordLength g
+    → u ≡ first (5 when missized l k ∷ []) → v ≡ first (5 when missized l' k ∷ []) → w ≡ first (6 when noTriple r ∷ []) → d ≡ orElse v w
+    → e ≡ orElse u d → e ≡ first (finishPlace s r l l')
+place-joined s g r l l' k u v w d e eg ek eu ev ew ed ee =
+    let hu : u ≡ first (5 when missized l (recordLength s) ∷ []) = rw (ek, eg) at eu in
+    let hv : v ≡ first (5 when missized l' (recordLength s) ∷ []) = rw (ek, eg) at ev in
+    chained (finishPlace s r l l') tt e (cc)
 
-pub place-joined : (s : Session) (r : ℕ) (l l' : List ℕ) (u v w d e : ℕ) → u ≡ first (5 when missized l (recordLength s) ∷ [])
-    → v ≡ first (5 when missized l' (recordLength s) ∷ []) → w ≡ first (6 when noTriple r ∷ []) → d ≡ orElse v w → e ≡ orElse u d
-    → e ≡ first (finishPlace s r l l')
-place-joined s r l l' u v w d e eu ev ew ed ee = chained (finishPlace s r l l') tt e (cc)
+-- what holds of a session's own party holds of the party that the code made of it
+module _ (s : Session) (q : Party) (e : q ≡ partyOf s) where
+  pub same-recorded : (l : List ℕ) → Recorded (partyOf s) l → Recorded q l
+  same-recorded l h = rw e h
+
+  pub party-sized : (rows : List ℕ) → Framed s rows → Sized (q .shape) rows
+  party-sized rows f = rw e (f .sized)
+
+  pub party-row : (r : ℕ) → RowIn (shapeOf s) r → RowIn (q .shape) r
+  party-row r h = rw e h
+
+  pub party-first : (r : ℕ) → TripleIn (shapeOf s) r → RowIn (q .shape) r
+  party-first r i = row-below (q .shape) r (omega (arith, i .triple-in))
+
+  pub party-second : (r : ℕ) → TripleIn (shapeOf s) r → RowIn (q .shape) (r + 1)
+  party-second r i = row-below (q .shape) (r + 1) (omega (arith, i .triple-in))
 
 pub marks-joined : (s : Session) (a b r u v w d e : ℕ) → u ≡ first (7 when noRow a ∷ []) → v ≡ first (7 when noRow b ∷ [])
-    → w ≡ first (tripleMarks s a b r 5) → d ≡ orElse v w → e ≡ orElse u d → e ≡ first (finishMarks s a b r)
+    → w ≡ first (tripleMarks s a b r masked) → d ≡ orElse v w → e ≡ orElse u d → e ≡ first (finishMarks s a b r)
 marks-joined s a b r u v w d e eu ev ew ed ee =
-    joined (7 when noRow a ∷ []) (7 when noRow b ∷ tripleMarks s a b r 5) tt u d e eu
-    (joined (7 when noRow b ∷ []) (tripleMarks s a b r 5) tt v w d ev ew ed) ee
+    joined (7 when noRow a ∷ []) (7 when noRow b ∷ tripleMarks s a b r masked) tt u d e eu
+    (joined (7 when noRow b ∷ []) (tripleMarks s a b r masked) tt v w d ev ew ed) ee
 
-pub numbers-joined : (s : Session) (rows : List ℕ) (a b r : ℕ) (l l' : List ℕ) (u v w x d e f : ℕ)
-    → u ≡ first (maskNumbers s rows a b r) → v ≡ first (8 when anyBeyond (rowAt (width s) rows (r + 2)) ∷ [])
-    → w ≡ first (8 when badRecord s l ∷ []) → x ≡ first (8 when badRecord s l' ∷ []) → d ≡ orElse w x → e ≡ orElse v d
-    → f ≡ orElse u e → f ≡ first (finishNumbers s rows a b r l l')
-numbers-joined s rows a b r l l' u v w x d e f eu ev ew ex ed ee ef =
+pub numbers-joined : (s : Session) (g : Shape) (p : Party) (rows : List ℕ) (a b r : ℕ) (l l' : List ℕ) (u v w x d e f : ℕ)
+    → g ≡ shapeOf s → p ≡ partyOf s → u ≡ first (factorNumbers (rowLength g) rows a b r)
+    → v ≡ first (8 when anyBeyond (rowAt (rowLength g) rows (r + 2)) ∷ []) → w ≡ first (8 when Blocks.badRecord p l ∷ [])
+    → x ≡ first (8 when Blocks.badRecord p l' ∷ []) → d ≡ orElse w x → e ≡ orElse v d → f ≡ orElse u e
+    → f ≡ first (finishNumbers s rows a b r l l')
+numbers-joined s g p rows a b r l l' u v w x d e f eg ep eu ev ew ex ed ee ef =
     let own = 8 when anyBeyond (rowAt (width s) rows (r + 2)) ∷ 8 when badRecord s l ∷ 8 when badRecord s l' ∷ [] in
-    joined (maskNumbers s rows a b r) own tt u e f eu (chained own tt e (cc)) ef
+    let hv : v ≡ first (8 when anyBeyond (rowAt (width s) rows (r + 2)) ∷ []) = rw eg at ev in
+    let hw : w ≡ first (8 when badRecord s l ∷ []) = rw ep at ew in
+    let hx : x ≡ first (8 when badRecord s l' ∷ []) = rw ep at ex in
+    joined (maskNumbers s rows a b r) own tt u e f (rw eg at eu) (chained own tt e (cc)) ef
 
 pub own-joined : (s : Session) (rows : List ℕ) (r : ℕ) (l l' : List ℕ) (u v w : ℕ)
     → u ≡ first (finishMarks s (factorA s r) (factorB s r) r)
@@ -61,25 +89,38 @@ module _ (s : Session) (rows : List ℕ) (r : ℕ) (l l' : List ℕ) where
     pub checks-stopped : (f ≡ 0 → ⊥) → f ≡ first (finishChecks s rows r l l')
     checks-stopped = stopped-at-frame s rows (place ++ own) f e
 
-    pub small-settings : f ≡ 0 → (s .n ≤ 32) × (s .t ≤ 32)
-    small-settings z = let h = frame-passed s rows f e z in (omega arith, omega arith)
+    pub finish-valid : f ≡ 0 → Valid (shapeOf s)
+    finish-valid z = frame-passed s rows f e z .sized .valid
 
     module _ (z : f ≡ 0) (q : ℕ) (g : q ≡ first (finishPlace s r l l')) where
       pub checks-misplaced : (q ≡ 0 → ⊥) → q ≡ first (finishChecks s rows r l l')
       checks-misplaced n = past-frame s rows (place ++ own) f q e z (stopped place own tt q g n)
 
-      pub finish-placed : q ≡ 0 → Framed s rows × (r ≤ 93) × (length l ≡ recordLength s) × (length l' ≡ recordLength s)
+      pub finish-placed : q ≡ 0 → Framed s rows × (r ≤ lastTriple) × Recorded (partyOf s) l × Recorded (partyOf s) l'
       finish-placed y =
           let h = all-fail place tt (sym g ∙ y) in
-          (frame-passed s rows f e z, ltb-false 93 r (h .1 .1 .0), equal (length l) (recordLength s) (h .0), equal (length l') (recordLength s) (h .1 .0))
+          let v = finish-valid z in (
+            frame-passed s rows f e z,
+            ltb-false lastTriple r (h .1 .1 .0),
+            record { valid = v; length-is = equal (length l) (recordLength s) (h .0) },
+            record { valid = v; length-is = equal (length l') (recordLength s) (h .1 .0) },
+          )
 
       pub checks-done : q ≡ 0 → (w : ℕ) → w ≡ first (finishOwn s rows r l l') → w ≡ first (finishChecks s rows r l l')
       checks-done y w h = past-frame s rows (place ++ own) f w e z (went-on place own tt q g w y h)
 
   pub checks-allowed : (f : ℕ) → f ≡ first (finishChecks s rows r l l') → f ≡ 0
-      → Framed s rows × RowIn s (factorA s r) × RowIn s (factorB s r) × TripleIn s r × (length l ≡ recordLength s) × (length l' ≡ recordLength s)
+      → Framed s rows × RowIn (shapeOf s) (factorA s r) × RowIn (shapeOf s) (factorB s r) × TripleIn (shapeOf s) r
+      × Recorded (partyOf s) l × Recorded (partyOf s) l'
   checks-allowed f e n =
       let h = allowed s rows (place ++ own) tt f e n in
       let q = h .1 in
       let m = fail-parts place own q .1 in
-      (h .0, row-in s (factorA s r) (m .0), row-in s (factorB s r) (m .1 .0), triple-in s r (q .1 .1 .0), equal (length l) (recordLength s) (q .0), equal (length l') (recordLength s) (q .1 .0))
+      let v = h .0 .sized .valid in (
+        h .0,
+        row-in (shapeOf s) (factorA s r) (m .0),
+        row-in (shapeOf s) (factorB s r) (m .1 .0),
+        triple-in (shapeOf s) r (q .1 .1 .0),
+        record { valid = v; length-is = equal (length l) (recordLength s) (q .0) },
+        record { valid = v; length-is = equal (length l') (recordLength s) (q .1 .0) },
+      )

@@ -1,34 +1,53 @@
 -- The two numbers that a finish opens, or its refusal, and how the call ends with them.
-use Prim.Native.Nat.{ℕ, zero, suc, _+_, _-_}
-use mathlib.Core.Path.{_≡_, refl, _∙_, ap, ap₂}
+use Prim.Native.Nat.{ℕ, zero, suc, _+_, _-_, _≤_}
+use mathlib.Core.Path.{_≡_, refl, sym, _∙_, ap, ap₂}
 use mathlib.Core.Bool.{Bool, true, false}
 use mathlib.Core.List.{List, [], _∷_, _++_}
 use native.Mathlib.Omega.{arith}
-use lib.ListN.{take, drop}
+use lib.ListN.{length}
+use Rattle.field.specs.Modulus.{p}
+use Rattle.field.specs.Arithmetic.{product}
+use Rattle.shape.specs.declared.Shape.{Shape}
+use Rattle.shape.specs.Bounds.{lastTriple}
+use Rattle.shape.specs.Lengths.{rowLength, sumsAt}
 use Rattle.refusal.specs.Refusal.{Test, _when_, first, orElse, outcome}
 use Rattle.refusal.proofs.Endings.{refused, accepted}
 use Rattle.refusal.proofs.Groups.{stopped, went-on}
+use Rattle.session.specs.declared.Party.{Party}
 use Rattle.session.specs.declared.Session.{Session}
-use Rattle.session.specs.Sessions.{holding, marked}
-use Rattle.session.specs.Rows.{width}
-use Rattle.session.specs.Checks.{Framed, TripleIn}
+use Rattle.session.specs.declared.Answer.{Answer}
+use Rattle.session.specs.Sessions.{shapeOf, partyOf, holding, finishedTriple}
+use Rattle.session.specs.Rows.{rowAt, withRow, combined, plusSums}
+use Rattle.session.specs.Checks.{Framed, Sized, TripleIn}
 use Rattle.session.proofs.Passed.{triple-in}
 use Rattle.session.proofs.Endings.{refused-answer, accepted-answer}
 use Rattle.session.proofs.Calls.{allowed}
+use Rattle.session.proofs.Writers.{length-combined}
 use Rattle.opening.specs.declared.Opened.{Opened}
+use Rattle.opening.specs.Blocks.{Recorded}
+use Rattle.opening.specs.Accepting as Accepting
+use Rattle.opening.specs.Accepting.{Openable}
 use Rattle.opening.specs.Walking.{tooFew, opened, openedRow}
 use Rattle.opening.proofs.Walks.{orNine, opened-or-nine}
 use Rattle.product.specs.declared.OpenedMasks.{OpenedMasks}
-use Rattle.product.specs.Finish.{maskA, maskB, finishPlace, finishOwn, finishChecks, tooFewOf, found, openedBoth, openedMasks, finishRefusal, withProduct, finishAnswer, finishRows}
-use Rattle.product.proofs.Differences.{start}
+use Rattle.product.specs.Masks.{maskRow}
+use Rattle.product.specs.Finish.{maskA, maskB, finishPlace, finishOwn, finishChecks, tooFewOf, found, openedBoth, openedMasks, finishRefusal, productRow, withProduct, finishAnswer, finishRows}
 
 abbrev shown : ℕ → ℕ → ℕ → OpenedMasks
 shown refusal y z = record { refusal = refusal; y = y; z = z }
 
--- one mask
-pub mask-opened : (s : Session) (row made blocks : List ℕ) (w : ℕ) (o : Opened) → w ≡ width s → take (width s) made ≡ row
-    → o ≡ openedRow s (take (w - 0) (drop 0 made)) blocks → o ≡ openedRow s row blocks
-mask-opened s row made blocks w o ew em eo = eo ∙ ap (λ (z : List ℕ). openedRow s z blocks) (start s row made w ew em)
+-- one mask, made in the lent room
+module _ (q : Party) (rows room made blocks x y : List ℕ) (k r : ℕ) (ex : x ≡ rowAt (rowLength (q .shape)) rows k)
+    (ey : y ≡ rowAt (rowLength (q .shape)) rows r) (em : made ≡ combined (p - 1) x y) where
+  made-is : made ≡ maskRow (q .shape) rows k r
+  made-is = em ∙ ap₂ (combined (p - 1)) ex ey
+
+  pub mask-openable : length x ≡ rowLength (q .shape) → length y ≡ rowLength (q .shape) → Recorded q blocks → Openable q made blocks
+  mask-openable lx ly h =
+      record { recorded = h; row-length = ap length em ∙ length-combined (p - 1) x y (lx ∙ sym ly) ∙ lx }
+
+  pub mask-opened : (o : Opened) → o ≡ Accepting.openedRow q made blocks → o ≡ Accepting.openedRow q (maskRow (q .shape) rows k r) blocks
+  mask-opened o eo = eo ∙ ap (λ (l : List ℕ). Accepting.openedRow q l blocks) made-is
 
 nines : (b b' : Bool) (v v' : ℕ) → orElse (orNine b v .refusal) (orNine b' v' .refusal) ≡ first (9 when b ∷ 9 when b' ∷ [])
 unfolding outcome
@@ -43,13 +62,20 @@ values false true v v' e = absurd (omega arith)
 values false false v v' e = (refl, refl)
 
 -- both, from what the two openings gave
-module _ (s : Session) (x x' l l' : List ℕ) (o o' : Opened) (q : ℕ) (e : o ≡ openedRow s x l) (e' : o' ≡ openedRow s x' l')
+module _ (s : Session) (m : Party) (em : m ≡ partyOf s) (rows l l' : List ℕ) (k k' r r' : ℕ) (o o' : Opened) (q : ℕ)
+    (eo : o ≡ Accepting.openedRow m (maskRow (m .shape) rows k r) l) (eo' : o' ≡ Accepting.openedRow m (maskRow (m .shape) rows k' r') l')
     (eq : q ≡ orElse (o .refusal) (o' .refusal)) where
+  abbrev x : List ℕ
+  x = maskRow (shapeOf s) rows k r
+
+  abbrev x' : List ℕ
+  x' = maskRow (shapeOf s) rows k' r'
+
   first-is : o ≡ orNine (tooFew s x l) (opened s x l)
-  first-is = e ∙ opened-or-nine s x l
+  first-is = (rw em at eo) ∙ opened-or-nine (partyOf s) x l
 
   second-is : o' ≡ orNine (tooFew s x' l') (opened s x' l')
-  second-is = e' ∙ opened-or-nine s x' l'
+  second-is = (rw em at eo') ∙ opened-or-nine (partyOf s) x' l'
 
   few : q ≡ first (tooFewOf s x x' l l')
   few =
@@ -107,30 +133,47 @@ module _ (s : Session) (rows : List ℕ) (r : ℕ) (l l' : List ℕ) where
   -- the call's two ends
   module _ (o : OpenedMasks) (e : o ≡ openedMasks s rows r l l') where
     abbrev done : Session
-    done = marked (marked (marked s r 6) (r + 1) 6) (r + 2) 2
+    done = finishedTriple s r
 
     refusal-is : o .refusal ≡ finishRefusal s rows r l l'
     refusal-is = ap (λ (a : OpenedMasks). a .refusal) e ∙ found-refusal (finishRefusal s rows r l l') y y'
 
-    pub finish-refused : (o .refusal ≡ 0 → ⊥) → (holding (o .refusal) 0 s ≡ finishAnswer s rows r l l') × (rows ≡ finishRows s rows r l l')
-    finish-refused n = (
-      refused-answer (o .refusal) (finishRefusal s rows r l l') 0 s done s refusal-is n refl,
-      refused (o .refusal) (finishRefusal s rows r l l') (withProduct s y y' r rows) rows refusal-is n,
-    )
+    module _ (n : o .refusal ≡ 0 → ⊥) where
+      pub finish-refused : (a : Answer) → a ≡ holding (o .refusal) 0 s → a ≡ finishAnswer s rows r l l'
+      finish-refused a h = h ∙ refused-answer (o .refusal) (finishRefusal s rows r l l') 0 s done s refusal-is n refl
 
-    pub finish-allowed : o .refusal ≡ 0 → Framed s rows × TripleIn s r
-    unfolding finishRefusal
-    finish-allowed z =
-        let h = allowed s rows (finishPlace s r l l' ++ finishOwn s rows r l l' ++ nine) tt (o .refusal) refusal-is z in
-        (h .0, triple-in s r (h .1 .1 .1 .0))
+      pub finish-kept : rows ≡ finishRows s rows r l l'
+      finish-kept = refused (o .refusal) (finishRefusal s rows r l l') (withProduct s y y' r rows) rows refusal-is n
 
-    pub finish-done : o .refusal ≡ 0 → (new : Session) (out : List ℕ) → new ≡ done → out ≡ withProduct s (o .y) (o .z) r rows
-        → (holding 0 0 new ≡ finishAnswer s rows r l l') × (out ≡ finishRows s rows r l l')
-    finish-done z new out en eo =
-        let h = found-numbers (finishRefusal s rows r l l') y y' (rw refusal-is at z) in
-        let ey : o .y ≡ y = ap (λ (a : OpenedMasks). a .y) e ∙ h .0 in
-        let ez : o .z ≡ y' = ap (λ (a : OpenedMasks). a .z) e ∙ h .1 in (
-          accepted-answer (o .refusal) (finishRefusal s rows r l l') 0 0 new done s refusal-is z refl en,
-          accepted (o .refusal) (finishRefusal s rows r l l') out (withProduct s y y' r rows) rows refusal-is z
-              (eo ∙ ap₂ (λ (a b : ℕ). withProduct s a b r rows) ey ez),
-        )
+    module _ (z : o .refusal ≡ 0) where
+      passed : Framed s rows × TripleIn (shapeOf s) r
+      unfolding finishRefusal
+      passed =
+          let h = allowed s rows (finishPlace s r l l' ++ finishOwn s rows r l l' ++ nine) tt (o .refusal) refusal-is z in
+          (h .0, triple-in (shapeOf s) r (h .1 .1 .1 .0))
+
+      pub finish-row : r ≤ lastTriple
+      finish-row = passed .1 .triple-in
+
+      pub finish-done : (a : Answer) → a ≡ holding 0 0 done → a ≡ finishAnswer s rows r l l'
+      finish-done a h = h ∙ accepted-answer (o .refusal) (finishRefusal s rows r l l') 0 0 done done s refusal-is z refl refl
+
+      module _ (g : Shape) (eg : g ≡ shapeOf s) where
+        pub finish-sized : Sized g rows
+        finish-sized = rw eg (passed .0 .sized)
+
+        pub finish-in : TripleIn g r
+        finish-in = rw eg (passed .1)
+
+        pub finish-written : (out : List ℕ)
+            → out ≡ withRow (rowLength g) (r + 2)
+            (plusSums (sumsAt g) (product (o .y) (o .z))
+            (combined (o .z) (combined (o .y) (rowAt (rowLength g) rows (r + 2)) (rowAt (rowLength g) rows (r + 1))) (rowAt (rowLength g) rows r))) rows
+            → out ≡ finishRows s rows r l l'
+        unfolding withProduct productRow
+        finish-written out eo =
+            let h = found-numbers (finishRefusal s rows r l l') y y' (rw refusal-is at z) in
+            let ey : o .y ≡ y = ap (λ (a : OpenedMasks). a .y) e ∙ h .0 in
+            let ez : o .z ≡ y' = ap (λ (a : OpenedMasks). a .z) e ∙ h .1 in
+            accepted (o .refusal) (finishRefusal s rows r l l') out (withProduct s y y' r rows) rows refusal-is z
+            (rw eg at eo ∙ ap₂ (λ (a b : ℕ). withProduct s a b r rows) ey ez)

@@ -1,8 +1,7 @@
 -- The calls of this crate keep to the law of every call.
-use Prim.Native.Nat.{_+_}
 use native.Mathlib.Omega.{arith}
 use borrow.Author.Needs.{needs}
-use Rattle.session.specs.Sessions.{marked, remembering}
+use Rattle.session.specs.Sessions.{maskedTriple, finishedTriple}
 use Rattle.session.proofs.Lawful.{lawful}
 use Rattle.opening.specs.Walking.{opened}
 use Rattle.product.specs.Masks.{masksRefusal, maskNumbersOf}
@@ -14,8 +13,8 @@ pub product-lawful : ProductLawful
 unfolding masksRefusal finishRefusal
 product-lawful = record {
   masks = λ s rows a b r out.
-      lawful (masksTable s rows a b r out) (omega arith) 0 (remembering (marked s r 5) r a b) s (maskNumbersOf s rows a b r) out;
+      lawful (masksTable s rows a b r out) (omega arith) 0 (maskedTriple s r a b) s (maskNumbersOf s rows a b r) out;
   finish = λ s rows r blocks blocks'.
-      lawful (finishTable s rows r blocks blocks') (search needs) 0 (marked (marked (marked s r 6) (r + 1) 6) (r + 2) 2) s
+      lawful (finishTable s rows r blocks blocks') (search needs) 0 (finishedTriple s r) s
       (withProduct s (opened s (maskA s rows r) blocks) (opened s (maskB s rows r) blocks') r rows) rows;
 }

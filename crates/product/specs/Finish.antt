@@ -3,11 +3,12 @@
 use Prim.Native.Nat.{ℕ, _+_}
 use mathlib.Core.List.{List, [], _∷_, _++_}
 use Rattle.field.specs.Arithmetic.{product}
+use Rattle.shape.specs.Marks.{masked}
 use Rattle.refusal.specs.Refusal.{Test, _when_, first, outcome}
 use Rattle.refusal.specs.Conditions.{missized, anyBeyond}
 use Rattle.session.specs.declared.Session.{Session}
 use Rattle.session.specs.declared.Answer.{Answer}
-use Rattle.session.specs.Sessions.{marked, factorA, factorB, answer}
+use Rattle.session.specs.Sessions.{shapeOf, factorA, factorB, finishedTriple, answer}
 use Rattle.session.specs.Rows.{width, sumsAt, rowAt, withRow, combined, plusSums}
 use Rattle.session.specs.Checks.{frameTests, noRow, noTriple}
 use Rattle.opening.specs.Walking.{recordLength, badRecord, tooFew, opened}
@@ -16,10 +17,10 @@ use Rattle.product.specs.Masks.{maskRow, tripleMarks, maskNumbers}
 
 -- The rows that are opened: a − l and b − l', with the factor rows that the masks remembered.
 abbrev pub maskA : Session → List ℕ → ℕ → List ℕ
-maskA s rows r = maskRow s rows (factorA s r) r
+maskA s rows r = maskRow (shapeOf s) rows (factorA s r) r
 
 abbrev pub maskB : Session → List ℕ → ℕ → List ℕ
-maskB s rows r = maskRow s rows (factorB s r) (r + 1)
+maskB s rows r = maskRow (shapeOf s) rows (factorB s r) (r + 1)
 
 -- 5 of the two records, and 6.
 abbrev pub finishPlace : Session → ℕ → List ℕ → List ℕ → List Test
@@ -28,7 +29,7 @@ finishPlace s r blocks blocks' =
 
 -- 7: a remembered row above 95 gets it, as one that is not held does.
 abbrev pub finishMarks : Session → ℕ → ℕ → ℕ → List Test
-finishMarks s a b r = (7 when noRow a ∷ 7 when noRow b ∷ []) ++ tripleMarks s a b r 5
+finishMarks s a b r = (7 when noRow a ∷ 7 when noRow b ∷ []) ++ tripleMarks s a b r masked
 
 -- 8 of the factor rows, the triple and both records.
 abbrev pub finishNumbers : Session → List ℕ → ℕ → ℕ → ℕ → List ℕ → List ℕ → List Test
@@ -83,7 +84,7 @@ withProduct s y y' r rows =
 
 abbrev pub finishAnswer : Session → List ℕ → ℕ → List ℕ → List ℕ → Answer
 finishAnswer s rows r blocks blocks' =
-    answer (finishRefusal s rows r blocks blocks') 0 (marked (marked (marked s r 6) (r + 1) 6) (r + 2) 2) s
+    answer (finishRefusal s rows r blocks blocks') 0 (finishedTriple s r) s
 
 abbrev pub finishRows : Session → List ℕ → ℕ → List ℕ → List ℕ → List ℕ
 finishRows s rows r blocks blocks' =

@@ -5,44 +5,51 @@ use crate::OpenedMasks;
 use crate::masks;
 use opening::Opened;
 use session::Answer;
+use session::Party;
 use session::Session;
+use shape::Shape;
 ghost use mathlib.Core.Path.{_≡_};
 ghost use mathlib.Core.List.{[], _∷_};
 ghost use Prim.Native.Nat.{_+_, _≤_};
-ghost use lib.ListN.{length, take};
+ghost use lib.ListN.{length};
+ghost use Rattle.field.specs.Arithmetic.{product};
+ghost use Rattle.shape.specs.Bounds.{lastTriple};
+ghost use Rattle.shape.specs.Lengths.{Valid, rowLength, sumsAt};
 ghost use Rattle.refusal.specs.Refusal.{first, _when_};
-ghost use Rattle.session.specs.Sessions.{marked, factorA, factorB};
-ghost use Rattle.session.specs.Rows.{width, rowAt, combined, longest};
-ghost use Rattle.session.specs.Checks.{noRow, Framed, RowIn, TripleIn};
-ghost use Rattle.opening.specs.Walking.{recordLength, openedRow};
+ghost use Rattle.session.specs.Sessions.{shapeOf, partyOf, factorA, factorB};
+ghost use Rattle.session.specs.Rows.{rowAt, withRow, combined, plusSums};
+ghost use Rattle.session.specs.Checks.{noRow, Framed, Sized, RowIn, TripleIn};
+ghost use Rattle.opening.specs.Blocks.{Recorded};
+ghost use Rattle.opening.specs.Accepting.{openedRow};
 ghost use Rattle.product.specs.Masks.{maskRow};
-ghost use Rattle.product.specs.Finish.{maskA, maskB, finishPlace, finishMarks, finishNumbers, finishOwn, finishChecks, openedBoth, openedMasks, productRow, withProduct, finishAnswer, finishRows};
+ghost use Rattle.product.specs.Finish.{maskA, maskB, finishPlace, finishMarks, finishNumbers, finishOwn, finishChecks, openedBoth, openedMasks, finishAnswer, finishRows};
 
 // 5 of the two records, and 6.
 fn finish_place(session: Session, row: usize, left: &[u32], right: &[u32]) -> u8
-    requires { ⌜ (session .n ≤ 32) × (session .t ≤ 32) ⌝ }
+    requires { ⌜ Valid (shapeOf session) ⌝ }
     ensures { λ r. ⌜ r ≡ first (finishPlace session row (now (left .entry)) (now (right .entry))) ⌝ }
 {
-    let count = session.n * (session.t + 2);
+    let shape = session.shape();
+    let count = shape.record_len();
     refusal::or_else(
         refusal::size(left, count),
         refusal::or_else(refusal::size(right, count), session::checks::triple(row)),
     )
 }
 
-// 7, of a remembered row above 95.
+// 7, of a remembered row above the last.
 fn remembered(row: usize) -> u8
     ensures { λ r. ⌜ r ≡ first (7 when noRow row ∷ []) ⌝ }
 {
-    if 95 < row { 7 } else { 0 }
+    if shape::LAST_ROW < row { 7 } else { 0 }
 }
 
 // 7, of the remembered rows a and b and of the triple at `row`.
 fn finish_marks(session: Session, a: usize, b: usize, row: usize) -> u8
-    requires { ⌜ row ≤ 93 ⌝ }
+    requires { ⌜ row ≤ lastTriple ⌝ }
     ensures { λ r. ⌜ r ≡ first (finishMarks session a b row) ⌝ }
 {
-    let marks = masks::triple_marks(session, a, b, row, 5);
+    let marks = masks::triple_marks(session, a, b, row, shape::MASKED);
     refusal::or_else(remembered(a), refusal::or_else(remembered(b), marks))
 }
 
@@ -56,22 +63,24 @@ fn finish_numbers(
     left: &[u32],
     right: &[u32],
 ) -> u8
-    requires { ⌜ Framed session (now rows) × (row ≤ 93) × (length (now left) ≡ recordLength session) × (length (now right) ≡ recordLength session) ⌝ }
+    requires { ⌜ Framed session (now rows) × (row ≤ lastTriple) × Recorded (partyOf session) (now left) × Recorded (partyOf session) (now right) ⌝ }
     ensures { λ r. ⌜ r ≡ first (finishNumbers session (now (rows .entry)) a b row (now (left .entry)) (now (right .entry))) ⌝ }
 {
+    let party = session.party();
     let records = refusal::or_else(
-        opening::record::refusal(session, left),
-        opening::record::refusal(session, right),
+        opening::record::refusal(party, left),
+        opening::record::refusal(party, right),
     );
+    let shape = session.shape();
     refusal::or_else(
-        masks::mask_numbers(session, rows, a, b, row),
-        refusal::or_else(session.numbers(rows, row + 2), records),
+        masks::factor_numbers(shape, rows, a, b, row),
+        refusal::or_else(session::checks::numbers(shape, rows, row + 2), records),
     )
 }
 
 // 7 and 8, once 1 to 6 have passed.
 fn finish_own(session: Session, rows: &[u32], row: usize, left: &[u32], right: &[u32]) -> u8
-    requires { ⌜ Framed session (now rows) × (row ≤ 93) × (length (now left) ≡ recordLength session) × (length (now right) ≡ recordLength session) ⌝ }
+    requires { ⌜ Framed session (now rows) × (row ≤ lastTriple) × Recorded (partyOf session) (now left) × Recorded (partyOf session) (now right) ⌝ }
     ensures { λ r. ⌜ r ≡ first (finishOwn session (now (rows .entry)) row (now (left .entry)) (now (right .entry))) ⌝ }
 {
     let a = session.left[row] as usize;
@@ -97,25 +106,49 @@ fn finish_checks(session: Session, rows: &[u32], row: usize, left: &[u32], right
     finish_own(session, rows, row, left, right)
 }
 
-// A factor row less a row of the triple, opened with its record.
-fn open_mask(session: Session, rows: &[u32], factor: usize, row: usize, blocks: &[u32]) -> Opened
-    requires { ⌜ Framed session (now rows) × RowIn session factor × RowIn session row × (length (now blocks) ≡ recordLength session) ⌝ }
-    ensures { λ r. ⌜ r ≡ openedRow session (maskRow session (now (rows .entry)) factor row) (now (blocks .entry)) ⌝ }
+// A factor row less a row of the triple, made in the lent room and opened with its record.
+fn open_mask_in(
+    party: Party,
+    rows: &[u32],
+    factor: usize,
+    row: usize,
+    blocks: &[u32],
+    room: &mut [u32],
+) -> Opened
+    requires { ⌜ Sized (party .shape) (now rows) × RowIn (party .shape) factor × RowIn (party .shape) row × Recorded party (now blocks) × (length (now room) ≡ rowLength (party .shape)) ⌝ }
+    ensures { λ r. ⌜ r ≡ openedRow party (maskRow (party .shape) (now (rows .entry)) factor row) (now (blocks .entry)) ⌝ }
 {
-    let width = session.width();
-    let masked = masks::masked_row(session, rows, factor, row);
-    opening::walking::open_row(session, &masked[0..width], blocks)
+    let shape = party.shape;
+    session::rows::combine(
+        field::P - 1,
+        session::rows::row(shape, rows, factor),
+        session::rows::row(shape, rows, row),
+        room,
+    );
+    opening::walking::open_row(party, room, blocks)
+}
+
+// A factor row less a row of the triple, opened with its record.
+fn open_mask(party: Party, rows: &[u32], factor: usize, row: usize, blocks: &[u32]) -> Opened
+    requires { ⌜ Sized (party .shape) (now rows) × RowIn (party .shape) factor × RowIn (party .shape) row × Recorded party (now blocks) ⌝ }
+    ensures { λ r. ⌜ r ≡ openedRow party (maskRow (party .shape) (now (rows .entry)) factor row) (now (blocks .entry)) ⌝ }
+{
+    let shape = party.shape;
+    let width = shape.row_len();
+    let mut room = [0u32; shape::LONGEST_ROW];
+    open_mask_in(party, rows, factor, row, blocks, &mut room[..width])
 }
 
 // y and y', or 9.
 fn open_both(session: Session, rows: &[u32], row: usize, left: &[u32], right: &[u32]) -> OpenedMasks
-    requires { ⌜ Framed session (now rows) × RowIn session (factorA session row) × RowIn session (factorB session row) × TripleIn session row × (length (now left) ≡ recordLength session) × (length (now right) ≡ recordLength session) ⌝ }
+    requires { ⌜ Framed session (now rows) × RowIn (shapeOf session) (factorA session row) × RowIn (shapeOf session) (factorB session row) × TripleIn (shapeOf session) row × Recorded (partyOf session) (now left) × Recorded (partyOf session) (now right) ⌝ }
     ensures { λ r. ⌜ r ≡ openedBoth session (maskA session (now (rows .entry)) row) (maskB session (now (rows .entry)) row) (now (left .entry)) (now (right .entry)) ⌝ }
 {
     let a = session.left[row] as usize;
     let b = session.right[row] as usize;
-    let y = open_mask(session, rows, a, row, left);
-    let z = open_mask(session, rows, b, row + 1, right);
+    let party = session.party();
+    let y = open_mask(party, rows, a, row, left);
+    let z = open_mask(party, rows, b, row + 1, right);
     let refusal = refusal::or_else(y.refusal, z.refusal);
     if refusal != 0 {
         return OpenedMasks {
@@ -152,57 +185,14 @@ fn open_masks(
     open_both(session, rows, first, left, right)
 }
 
-// l'' + y l' + y' l, in an array of its own.
-fn combined_triple(
-    session: Session,
-    rows: &[u32],
-    row: usize,
-    y: u32,
-    z: u32,
-) -> [u32; session::rows::LONGEST]
-    requires { ⌜ Framed session (now rows) × TripleIn session row ⌝ }
-    ensures { λ r. ⌜ length r ≡ longest ⌝ }
-    ensures { λ r. ⌜ take (width session) r ≡ combined z (combined y (rowAt (width session) (now (rows .entry)) (row + 2)) (rowAt (width session) (now (rows .entry)) (row + 1))) (rowAt (width session) (now (rows .entry)) row) ⌝ }
+// The second step: l'' + y l' + y' l into the triple's third row, with y y' added to its public sums.
+fn write_product(shape: Shape, rows: &mut [u32], first: usize, y: u32, z: u32)
+    requires { ⌜ Sized shape (now rows) × TripleIn shape first ⌝ }
+    ensures { λ r. ⌜ now (rows .exit) ≡ withRow (rowLength shape) (first + 2) (plusSums (sumsAt shape) (product y z) (combined z (combined y (rowAt (rowLength shape) (now (rows .entry)) (first + 2)) (rowAt (rowLength shape) (now (rows .entry)) (first + 1))) (rowAt (rowLength shape) (now (rows .entry)) first))) (now (rows .entry)) ⌝ }
 {
-    let width = session.width();
-    let partial = session::rows::combined_row(
-        y,
-        session.row(rows, row + 2),
-        session.row(rows, row + 1),
-    );
-    session::rows::combined_row(z, &partial[0..width], session.row(rows, row))
-}
-
-// The product's row: y y' is added to the public sums, which are its last n numbers, and to nothing else.
-fn product_row(
-    session: Session,
-    rows: &[u32],
-    row: usize,
-    y: u32,
-    z: u32,
-) -> [u32; session::rows::LONGEST]
-    requires { ⌜ Framed session (now rows) × TripleIn session row ⌝ }
-    ensures { λ r. ⌜ length r ≡ longest ⌝ }
-    ensures { λ r. ⌜ take (width session) r ≡ productRow session y z (rowAt (width session) (now (rows .entry)) row) (rowAt (width session) (now (rows .entry)) (row + 1)) (rowAt (width session) (now (rows .entry)) (row + 2)) ⌝ }
-{
-    let width = session.width();
-    let n = session.n;
-    let sums = width - n;
-    let mut numbers = combined_triple(session, rows, row, y, z);
-    session::rows::add_to_each(&mut numbers[sums..width], field::mul(y, z));
-    numbers
-}
-
-// The second step: the product of the triple at `first`, into its third row.
-fn finish_accepted(session: Session, rows: &mut [u32], first: usize, y: u32, z: u32) -> Session
-    requires { ⌜ Framed session (now rows) × TripleIn session first ⌝ }
-    ensures { λ r. ⌜ r ≡ marked (marked (marked session first 6) (first + 1) 6) (first + 2) 2 ⌝ }
-    ensures { λ r. ⌜ now (rows .exit) ≡ withProduct session y z first (now (rows .entry)) ⌝ }
-{
-    let width = session.width();
-    let product = product_row(session, rows, first, y, z);
-    session.put_row(rows, first + 2, &product[0..width]);
-    session.finished(first)
+    let third = first + 2;
+    session::rows::sum_rows(shape, rows, third, third, first + 1, y, 0);
+    session::rows::sum_rows(shape, rows, third, third, first, z, field::mul(y, z));
 }
 
 pub fn finish(
@@ -217,16 +207,8 @@ pub fn finish(
 {
     let opened = open_masks(session, rows, first, left, right);
     if opened.refusal != 0 {
-        return Answer {
-            refusal: opened.refusal,
-            value: 0,
-            session,
-        };
+        return session.refuse(opened.refusal);
     }
-    let finished = finish_accepted(session, rows, first, opened.y, opened.z);
-    Answer {
-        refusal: 0,
-        value: 0,
-        session: finished,
-    }
+    write_product(session.shape(), rows, first, opened.y, opened.z);
+    session.done_marking_triple(first, shape::SPENT, shape::SPENT, shape::HELD)
 }

@@ -1,65 +1,63 @@
 // Masks: for held a and b and an unused triple, the polynomials of a − l and of b − l'.
 use session::Answer;
 use session::Session;
+use shape::Shape;
 ghost use mathlib.Core.Path.{_≡_};
-ghost use Prim.Native.Nat.{_+_, _*_, _≤_};
-ghost use lib.ListN.{length, take};
+ghost use Prim.Native.Nat.{_≤_};
+ghost use lib.ListN.{length};
+ghost use Rattle.shape.specs.Bounds.{lastTriple};
+ghost use Rattle.shape.specs.Lengths.{Valid, vLength, rowLength, masksLength};
+ghost use Rattle.shape.specs.Row.{coefficients};
 ghost use Rattle.refusal.specs.Refusal.{first};
-ghost use Rattle.session.specs.Sessions.{marked, remembering};
-ghost use Rattle.session.specs.Rows.{width, coefficients, longest};
-ghost use Rattle.session.specs.Checks.{Framed, RowIn, TripleIn};
-ghost use Rattle.product.specs.Masks.{maskRow, masksPlace, tripleMarks, maskNumbers, masksRefusal, masksAnswer, maskNumbersOf, masksOut};
+ghost use Rattle.session.specs.Sessions.{shapeOf};
+ghost use Rattle.session.specs.Checks.{Sized, RowIn, TripleIn};
+ghost use Rattle.product.specs.Masks.{maskRow, masksPlace, tripleMarks, factorNumbers, masksRefusal, masksAnswer, bothMasks, masksOut};
 
 // 7, of the factor rows a and b and of the triple at `row`, whose first row needs this mark.
 pub fn triple_marks(session: Session, a: usize, b: usize, row: usize, mark: u8) -> u8
-    requires { ⌜ row ≤ 93 ⌝ }
+    requires { ⌜ row ≤ lastTriple ⌝ }
     ensures { λ r. ⌜ r ≡ first (tripleMarks session a b row mark) ⌝ }
 {
-    let triple = session::checks::unlike_triple(&session.marks, row, mark, 4, 4);
+    let triple = session::checks::unlike_triple(
+        &session.marks,
+        row,
+        mark,
+        shape::FURTHER,
+        shape::FURTHER,
+    );
     refusal::or_else(
-        session::checks::unlike(&session.marks, a, 2),
-        refusal::or_else(session::checks::unlike(&session.marks, b, 2), triple),
+        session::checks::unlike(&session.marks, a, shape::HELD),
+        refusal::or_else(
+            session::checks::unlike(&session.marks, b, shape::HELD),
+            triple,
+        ),
     )
 }
 
 // 8, of the factor rows and of the first two rows of the triple at `row`.
-pub fn mask_numbers(session: Session, rows: &[u32], a: usize, b: usize, row: usize) -> u8
-    requires { ⌜ Framed session (now rows) × (row ≤ 93) ⌝ }
-    ensures { λ r. ⌜ r ≡ first (maskNumbers session (now (rows .entry)) a b row) ⌝ }
+pub fn factor_numbers(shape: Shape, rows: &[u32], a: usize, b: usize, row: usize) -> u8
+    requires { ⌜ Sized shape (now rows) × (row ≤ lastTriple) ⌝ }
+    ensures { λ r. ⌜ r ≡ first (factorNumbers (rowLength shape) (now (rows .entry)) a b row) ⌝ }
 {
-    let triple = refusal::or_else(session.numbers(rows, row), session.numbers(rows, row + 1));
+    let triple = refusal::or_else(
+        session::checks::numbers(shape, rows, row),
+        session::checks::numbers(shape, rows, row + 1),
+    );
     refusal::or_else(
-        session.numbers(rows, a),
-        refusal::or_else(session.numbers(rows, b), triple),
-    )
-}
-
-// A factor row less a row of the triple, in an array of its own.
-pub fn masked_row(
-    session: Session,
-    rows: &[u32],
-    factor: usize,
-    row: usize,
-) -> [u32; session::rows::LONGEST]
-    requires { ⌜ Framed session (now rows) × RowIn session factor × RowIn session row ⌝ }
-    ensures { λ r. ⌜ length r ≡ longest ⌝ }
-    ensures { λ r. ⌜ take (width session) r ≡ maskRow session (now (rows .entry)) factor row ⌝ }
-{
-    session::rows::combined_row(
-        field::P - 1,
-        session.row(rows, factor),
-        session.row(rows, row),
+        session::checks::numbers(shape, rows, a),
+        refusal::or_else(session::checks::numbers(shape, rows, b), triple),
     )
 }
 
 // 5 of the lent list, and 6.
 fn masks_place(session: Session, a: usize, b: usize, row: usize, out: &[u32]) -> u8
-    requires { ⌜ session .t ≤ 32 ⌝ }
+    requires { ⌜ Valid (shapeOf session) ⌝ }
     ensures { λ r. ⌜ r ≡ first (masksPlace session a b row (now (out .entry))) ⌝ }
 {
+    let shape = session.shape();
     let places = refusal::or_else(session::checks::row(b), session::checks::triple(row));
     refusal::or_else(
-        refusal::size(out, 2 * (session.t + 1)),
+        refusal::size(out, shape.masks_len()),
         refusal::or_else(session::checks::row(a), places),
     )
 }
@@ -83,38 +81,29 @@ fn masks_refusal(
         return place;
     }
     refusal::or_else(
-        triple_marks(session, a, b, first, 3),
-        mask_numbers(session, rows, a, b, first),
+        triple_marks(session, a, b, first, shape::UNUSED),
+        factor_numbers(session.shape(), rows, a, b, first),
     )
 }
 
 // One mask: the coefficients of a factor row less a row of the triple.
-fn mask(session: Session, rows: &[u32], factor: usize, row: usize, out: &mut [u32])
-    requires { ⌜ Framed session (now rows) × RowIn session factor × RowIn session row × (length (now out) ≡ session .t + 1) ⌝ }
-    ensures { λ r. ⌜ now (out .exit) ≡ coefficients session (maskRow session (now (rows .entry)) factor row) ⌝ }
+fn mask(shape: Shape, rows: &[u32], factor: usize, row: usize, out: &mut [u32])
+    requires { ⌜ Sized shape (now rows) × RowIn shape factor × RowIn shape row × (length (now out) ≡ vLength shape) ⌝ }
+    ensures { λ r. ⌜ now (out .exit) ≡ coefficients shape (maskRow shape (now (rows .entry)) factor row) ⌝ }
 {
-    let count = session.t + 1;
-    let masked = masked_row(session, rows, factor, row);
-    session::rows::copy(&masked[0..count], out);
+    let count = shape.v_len();
+    let x = session::rows::row(shape, rows, factor);
+    let y = session::rows::row(shape, rows, row);
+    session::rows::combine(field::P - 1, &x[..count], &y[..count], out);
 }
 
-fn masks_accepted(
-    session: Session,
-    rows: &[u32],
-    a: usize,
-    b: usize,
-    first: usize,
-    out: &mut [u32],
-) -> Session
-    requires { ⌜ Framed session (now rows) × RowIn session a × RowIn session b × TripleIn session first × (length (now out) ≡ 2 * (session .t + 1)) ⌝ }
-    ensures { λ r. ⌜ r ≡ remembering (marked session first 5) first a b ⌝ }
-    ensures { λ r. ⌜ now (out .exit) ≡ maskNumbersOf session (now (rows .entry)) a b first ⌝ }
+fn masks_accepted(shape: Shape, rows: &[u32], a: usize, b: usize, first: usize, out: &mut [u32])
+    requires { ⌜ Sized shape (now rows) × RowIn shape a × RowIn shape b × TripleIn shape first × (length (now out) ≡ masksLength shape) ⌝ }
+    ensures { λ r. ⌜ now (out .exit) ≡ bothMasks shape (now (rows .entry)) a b first ⌝ }
 {
-    let count = session.t + 1;
-    let end = 2 * count;
-    mask(session, rows, a, first, &mut out[0..count]);
-    mask(session, rows, b, first + 1, &mut out[count..end]);
-    session.masked(first, a, b)
+    let count = shape.v_len();
+    mask(shape, rows, a, first, &mut out[..count]);
+    mask(shape, rows, b, first + 1, &mut out[count..]);
 }
 
 pub fn masks(
@@ -130,16 +119,8 @@ pub fn masks(
 {
     let refusal = masks_refusal(session, rows, a, b, first, out);
     if refusal != 0 {
-        return Answer {
-            refusal,
-            value: 0,
-            session,
-        };
+        return session.refuse(refusal);
     }
-    let masked = masks_accepted(session, rows, a, b, first, out);
-    Answer {
-        refusal: 0,
-        value: 0,
-        session: masked,
-    }
+    masks_accepted(session.shape(), rows, a, b, first, out);
+    session.done_masking(first, a, b)
 }

@@ -1,7 +1,7 @@
 -- The search for a number that is no element: its turns, and what it says where it finds none.
 use Prim.Native.Nat.{ℕ, zero, suc, _+_, _≤_, _<_}
 use mathlib.Core.Path.{_≡_, refl, sym, _∙_, ap}
-use mathlib.Core.Bool.{Bool, true, false, not}
+use mathlib.Core.Bool.{Bool, true, false, not, _||_}
 use mathlib.Core.List.{List, [], _∷_}
 use native.Mathlib.Omega.{arith}
 use native.Mathlib.Numerals.{add-one}
@@ -11,7 +11,7 @@ use lib.ListN.{length, drop, getD, drop-of-length-le}
 use lib.Seq.{drop-cons}
 use Rattle.field.specs.Modulus.{p}
 use Rattle.refusal.specs.Refusal.{_when_, first, orElse}
-use Rattle.refusal.specs.Conditions.{or, beyond, anyBeyond}
+use Rattle.refusal.specs.Conditions.{beyond, anyBeyond}
 
 -- what was found so far, or else is in the rest of the list, is what is in the whole
 abbrev pub SoFar : List ℕ → ℕ → ℕ → Type 0
@@ -32,7 +32,7 @@ module _ (l : List ℕ) (r i : ℕ) where
   turned v h ev e = go (beyond (getD l i 0)) ev (rw (drop-cons l i 0 h) at e)
     where
       go : (b : Bool) → v ≡ orElse (first (8 when b ∷ [])) r
-          → orElse r (first (8 when or b (anyBeyond (drop (suc i) l)) ∷ [])) ≡ first (8 when anyBeyond l ∷ []) → SoFar l v (i + 1)
+          → orElse r (first (8 when (b || anyBeyond (drop (suc i) l)) ∷ [])) ≡ first (8 when anyBeyond l ∷ []) → SoFar l v (i + 1)
       go true ev e = rw ev (once r (anyBeyond l) e)
       go false ev e = rw (ev, add-one i) e
 

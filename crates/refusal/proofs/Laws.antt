@@ -1,14 +1,14 @@
 -- What `first` means: the first refusal in document 01's order, and how groups of tests are joined.
 use Prim.Native.Nat.{ℕ, zero, suc, _≤_, _<_}
 use mathlib.Core.Path.{_≡_, refl}
-use mathlib.Core.Bool.{Bool, true, false, not}
-use mathlib.Core.List.{List, [], _∷_}
+use mathlib.Core.Bool.{Bool, true, false, not, _||_}
+use mathlib.Core.List.{List, [], _∷_, _++_}
 use native.Mathlib.Omega.{arith}
 use native.Mathlib.Nat.{le-refl, le-trans}
 use borrow.Author.Tests.{ltb-false, eqb-true, not-false}
 use lib.Dec.{ltb, eqb}
 use Rattle.refusal.specs.Refusal.{Test, _when_, first, orElse, Applies, here, later, AllFail, Ordered}
-use Rattle.refusal.specs.Conditions.{or, outside}
+use Rattle.refusal.specs.Conditions.{outside}
 use Rattle.refusal.specs.Claims.{FirstJoin}
 pub use Rattle.refusal.specs.Refusal.{Numbered}
 
@@ -54,7 +54,7 @@ first-least k (i when true ∷ ts) o j (later a) = (o .1, at-least i j ts (o .2)
 first-least k (i when false ∷ ts) o j (later a) = first-least i ts (o .2) j a
 
 -- what a test that fails says of its numbers
-pub or-false : (a b : Bool) → or a b ≡ false → (a ≡ false) × (b ≡ false)
+pub or-false : (a b : Bool) → a || b ≡ false → (a ≡ false) × (b ≡ false)
 or-false true b e = (e, cc)
 or-false false b e = (refl, e)
 

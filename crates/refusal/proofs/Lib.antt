@@ -3,3 +3,4 @@ pub mod Endings
 pub mod Elements
 pub mod Groups
 pub mod Decided
+pub mod Ranges

@@ -15,10 +15,10 @@ pub fn or_else(a: u8, b: u8) -> u8
 pub fn posts(n: usize, t: usize) -> u8
     ensures { λ r. ⌜ r ≡ first (postsTests n t) ⌝ }
 {
-    if n < 2 {
+    if n < shape::FEWEST_POSTS {
         return 1;
     }
-    if 32 < n {
+    if shape::MOST_POSTS < n {
         return 1;
     }
     if t < 1 {

@@ -1,6 +1,7 @@
 -- A call that is not refused: the marks allow it, and the list of rows has its full length.
 use Prim.Native.Nat.{ℕ, _+_, _*_, _<_}
-use mathlib.Core.Path.{_≡_}
+use mathlib.Core.Path.{_≡_, refl}
+use mathlib.Core.Logic.{inl}
 use mathlib.Core.Bool.{false}
 use mathlib.Core.List.{List}
 use native.Mathlib.Omega.{arith}
@@ -17,11 +18,11 @@ use Rattle.opening.specs.Opening.{openTests, openRefusal}
 use Rattle.product.specs.Masks.{masksTests, masksRefusal}
 use Rattle.product.specs.Finish.{finishTests, finishRefusal}
 use Rattle.runs.specs.Draws.{Plan, Draw}
-use Rattle.runs.specs.Calls.{Call, loadRow, loadTriple, deal, message, opening, linear, masks, finish}
-use Rattle.runs.proofs.Marks.{Marks, sessionAt}
+use Rattle.runs.specs.Outline.{loadRow, loadTriple, deal, message, opening, linear, masks, finish, acts, sends}
+use Rattle.runs.specs.Calls.{Call}
+use Rattle.runs.proofs.Marks.{Marks, leftOf, rightOf, sessionAt}
 use Rattle.runs.proofs.Outcomes.{passed, refusalOf}
-use Rattle.runs.proofs.Steps.{postAt}
-use Rattle.runs.proofs.Facts.{Allowed}
+use Rattle.runs.proofs.Facts.{Allowed, Multiplying}
 
 module _ (plan : Plan) (draw : Draw) (i : ℕ) (M : Marks) (l : List ℕ) where
   abbrev s : Session
@@ -34,50 +35,69 @@ module _ (plan : Plan) (draw : Draw) (i : ℕ) (M : Marks) (l : List ℕ) where
   triple-low : (r : ℕ) → noTriple r ≡ false → r < 94
   triple-low r e = omega (arith, ltb-false 93 r e)
 
-  pub allowed : (c : Call) → refusalOf c (postAt plan draw i M l) ≡ 0 → Allowed c M
+  abbrev Passes : Call → Type 0
+  Passes c = Allowed (acts c) (sends c) M × (length l ≡ 96 * (plan .t + 1 + 2 * plan .n))
+
+  passes : (c : Call) → refusalOf c (record { session = sessionAt plan draw i M; rows = l }) ≡ 0 → Passes c
   unfolding loadRowRefusal loadTripleRefusal dealRefusal messageRefusal openRefusal linearRefusal masksRefusal finishRefusal
-  allowed (loadRow r pack) z = let f = passed (loadRowTests s l r pack) tt z in (row-low r (f 6), equal _ _ (f 7))
-  allowed (loadTriple r pack) z =
-      let f = passed (loadTripleTests s l r pack) tt z in (triple-low r (f 6), equal _ _ (f 7), equal _ _ (f 8), equal _ _ (f 9))
-  allowed (deal r c) z = let f = passed (dealTests s l r c) tt z in (row-low r (f 5), equal _ _ (f 6))
-  allowed (message r lent) z = let f = passed (messageTests s l r lent) tt z in (row-low r (f 6), equal _ _ (f 7))
-  allowed (opening r blocks) z = let f = passed (openTests s l r blocks) tt z in (row-low r (f 6), equal _ _ (f 7))
-  allowed (linear r a b scale) z = let f = passed (linearTests s l r a b scale) tt z in record {
-    r-low = row-low r (f 5);
-    a-low = row-low a (f 6);
-    b-low = row-low b (f 7);
-    r-empty = equal _ _ (f 8);
-    a-held = equal _ _ (f 9);
-    b-held = equal _ _ (f 10);
-  }
-  allowed (masks a b r lent) z = let f = passed (masksTests s l a b r lent) tt z in record {
-    a-low = row-low a (f 6);
-    b-low = row-low b (f 7);
-    r-low = triple-low r (f 8);
+  passes (loadRow x) z =
+      let f = passed (loadRowTests s l (x .r) (x .pack)) tt z in
+      (record { moving = (((row-low _ (f 6), equal _ _ (f 7)), tt), tt); ready = (tt, tt); sending = tt }, equal _ _ (f 4))
+  passes (loadTriple x) z =
+      let f = passed (loadTripleTests s l (x .r) (x .pack)) tt z in (
+        record { moving = (((triple-low _ (f 6), equal _ _ (f 7), equal _ _ (f 8), equal _ _ (f 9)), tt), tt); ready = (tt, tt); sending = tt },
+        equal _ _ (f 4),
+      )
+  passes (deal x) z =
+      let f = passed (dealTests s l (x .r) (x .c)) tt z in
+      (record { moving = (((row-low _ (f 5), equal _ _ (f 6)), tt), tt); ready = (tt, tt); sending = tt }, equal _ _ (f 4))
+  passes (message x) z =
+      let f = passed (messageTests s l (x .r) (x .lent)) tt z in
+      (record { moving = tt; ready = tt; sending = ((row-low _ (f 6), equal _ _ (f 7)), tt) }, equal _ _ (f 4))
+  passes (opening x) z =
+      let f = passed (openTests s l (x .r) (x .blocks)) tt z in
+      (record { moving = (((row-low _ (f 6), equal _ _ (f 7)), tt), tt); ready = (tt, tt); sending = tt }, equal _ _ (f 4))
+  passes (linear x) z = let f = passed (linearTests s l (x .r) (x .a) (x .b) (x .scale)) tt z in (
+    record {
+      moving = (
+        (
+          record {
+            r-low = row-low _ (f 5);
+            r-empty = equal _ _ (f 8);
+            held = ((row-low _ (f 6), equal _ _ (f 9)), ((row-low _ (f 7), equal _ _ (f 10)), tt));
+          },
+          tt,
+        ),
+        tt,
+      );
+      ready = (tt, tt);
+      sending = tt;
+    },
+    equal _ _ (f 4),
+  )
+  passes (masks x) z = let f = passed (masksTests s l (x .a) (x .b) (x .r) (x .lent)) tt z in let m : Multiplying 3 M (x .a) (x .b) (x .r) = record {
+    a-low = row-low _ (f 6);
+    b-low = row-low _ (f 7);
+    r-low = triple-low _ (f 8);
     a-held = equal _ _ (f 9);
     b-held = equal _ _ (f 10);
     first = equal _ _ (f 11);
     second = equal _ _ (f 12);
     third = equal _ _ (f 13);
-  }
-  allowed (finish r blocks blocks') z = let f = passed (finishTests s l r blocks blocks') tt z in record {
+  } in (record { moving = ((tt, m), tt); ready = (tt, tt); sending = ((m, inl refl), tt) }, equal _ _ (f 4))
+  passes (finish x) z = let f = passed (finishTests s l (x .r) (x .blocks) (x .blocks')) tt z in let m : Multiplying 5 M (leftOf M (x .r)) (rightOf M (x .r)) (x .r) = record {
     a-low = row-low _ (f 8);
     b-low = row-low _ (f 9);
-    r-low = triple-low r (f 7);
+    r-low = triple-low _ (f 7);
     a-held = equal _ _ (f 10);
     b-held = equal _ _ (f 11);
     first = equal _ _ (f 12);
     second = equal _ _ (f 13);
     third = equal _ _ (f 14);
-  }
+  } in (record { moving = ((m, tt), tt); ready = (m, tt); sending = tt }, equal _ _ (f 4))
 
-  pub room : (c : Call) → refusalOf c (postAt plan draw i M l) ≡ 0 → length l ≡ 96 * (plan .t + 1 + 2 * plan .n)
-  unfolding loadRowRefusal loadTripleRefusal dealRefusal messageRefusal openRefusal linearRefusal masksRefusal finishRefusal
-  room (loadRow r pack) z = equal _ _ (passed (loadRowTests s l r pack) tt z 4)
-  room (loadTriple r pack) z = equal _ _ (passed (loadTripleTests s l r pack) tt z 4)
-  room (deal r c) z = equal _ _ (passed (dealTests s l r c) tt z 4)
-  room (message r lent) z = equal _ _ (passed (messageTests s l r lent) tt z 4)
-  room (opening r blocks) z = equal _ _ (passed (openTests s l r blocks) tt z 4)
-  room (linear r a b scale) z = equal _ _ (passed (linearTests s l r a b scale) tt z 4)
-  room (masks a b r lent) z = equal _ _ (passed (masksTests s l a b r lent) tt z 4)
-  room (finish r blocks blocks') z = equal _ _ (passed (finishTests s l r blocks blocks') tt z 4)
+  pub allowed : (c : Call) → refusalOf c (record { session = sessionAt plan draw i M; rows = l }) ≡ 0 → Allowed (acts c) (sends c) M
+  allowed c z = passes c z .0
+
+  pub room : (c : Call) → refusalOf c (record { session = sessionAt plan draw i M; rows = l }) ≡ 0 → length l ≡ 96 * (plan .t + 1 + 2 * plan .n)
+  room c z = passes c z .1

@@ -1,7 +1,7 @@
 -- The factory's calls, lent what was drawn, write each post's packs.
 use Prim.Native.Nat.{ℕ, _+_, _*_, _-_, _≤_, _<_}
 use mathlib.Core.Path.{_≡_, sym, _∙_, ap, ap₂}
-use mathlib.Core.Bool.{true, false, not}
+use mathlib.Core.Bool.{true, false, not, _||_}
 use mathlib.Core.List.{List, [], _∷_, _++_}
 use native.Mathlib.Nat.{mul-le-mul-right, add-mul}
 use native.Mathlib.Omega.{arith}
@@ -11,7 +11,7 @@ use lib.Seq.{take-append-le, drop-append-le, drop-append-add}
 use Rattle.field.specs.Modulus.{p}
 use Rattle.poly.specs.Counting.{All}
 use Rattle.refusal.specs.Refusal.{first}
-use Rattle.refusal.specs.Conditions.{or, missized, postsTests}
+use Rattle.refusal.specs.Conditions.{missized, postsTests}
 use Rattle.refusal.proofs.Laws.{all-fail, not-refused}
 use Rattle.refusal.proofs.Elements.{element-test}
 use Rattle.session.specs.Rows.{rowAt}
@@ -27,7 +27,7 @@ points-pass : (ws : List ℕ) → All (λ w. (1 ≤ w) × (w < p)) ws → anyBad
 unfolding anyBadPoint
 points-pass [] a = λ j. false
 points-pass (w ∷ ws) a =
-    ap₂ or (ap₂ or (ne-eqb w 0 (omega (arith, a .0 .0))) (element-test w (a .0 .1))) (points-pass ws (a .1))
+    ap₂ _||_ (ap₂ _||_ (ne-eqb w 0 (omega (arith, a .0 .0))) (element-test w (a .0 .1))) (points-pass ws (a .1))
 
 -- a row of joined lists, the first of m rows: among them, or behind
 module _ (w m : ℕ) (a b : List ℕ) (many : length a ≡ m * w) where

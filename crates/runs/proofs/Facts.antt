@@ -3,21 +3,28 @@ use Prim.Native.Nat.{ℕ, _+_, _<_}
 use mathlib.Core.Path.{_≡_}
 use mathlib.Core.Bool.{true}
 use mathlib.Core.Logic.{_⊎_}
+use mathlib.Core.List.{List, [], _∷_, map}
+use Rattle.field.specs.Modulus.{p}
 use Rattle.field.specs.Element.{element}
-use Rattle.vectors.specs.Vector.{Vector, plusTimes, raised}
+use Rattle.poly.specs.Counting.{All}
+use Rattle.vectors.specs.Vector.{Vector, raised}
 use Rattle.runs.specs.Draws.{Plan, Draw, IsRaw}
-use Rattle.runs.specs.Calls.{Call, loadRow, loadTriple, deal, message, opening, linear, masks, finish}
-use Rattle.runs.proofs.Marks.{Marks, markOf, leftOf, rightOf, rawVector, vectorA, vectorB, vectorAB, written}
+use Rattle.runs.specs.Outline.{Act, loads, loadsTriple, deals, opens, Summand, once, times, fee, sums, factors, multiplies, Taking, nothingTaken, aRowPack, aTriplePack, aNumber, aRecord, twoRecords, takes, Sending, itsOpening, itsMasks}
+use Rattle.runs.specs.Calls.{Among}
+use Rattle.runs.proofs.Marks.{Marks, markOf, leftOf, rightOf, rawVector, vectorA, vectorB, vectorAB, totalVector, written, Masking, none, of, masking, marksBy}
 
 -- ---- What the marks allow, of a call that is not refused.
 
-pub record Summing (M : Marks) (r a b : ℕ) : Type 0 where
+-- a summand's row is held, and a fee is an element
+abbrev pub HeldIn : Marks → Summand → Type 0
+HeldIn M (once a) = (a < 96) × (markOf M a ≡ 2)
+HeldIn M (times s b) = (b < 96) × (markOf M b ≡ 2)
+HeldIn M (fee k) = k < p
+
+pub record Summing (M : Marks) (r : ℕ) (t : Summand) (ts : List Summand) : Type 0 where
   pub r-low : r < 96
-  pub a-low : a < 96
-  pub b-low : b < 96
   pub r-empty : markOf M r ≡ 0
-  pub a-held : markOf M a ≡ 2
-  pub b-held : markOf M b ≡ 2
+  pub held : HeldIn M t × All (HeldIn M) ts
 
 -- a triple from r on, whose first row has this mark, and the factors a and b
 pub record Multiplying (mark : ℕ) (M : Marks) (a b r : ℕ) : Type 0 where
@@ -30,26 +37,54 @@ pub record Multiplying (mark : ℕ) (M : Marks) (a b r : ℕ) : Type 0 where
   pub second : markOf M (r + 1) ≡ 4
   pub third : markOf M (r + 2) ≡ 4
 
-abbrev pub Allowed : Call → Marks → Type 0
-Allowed (loadRow r pack) M = (r < 96) × (markOf M r ≡ 0)
-Allowed (loadTriple r pack) M = (r < 94) × (markOf M r ≡ 0) × (markOf M (r + 1) ≡ 0) × (markOf M (r + 2) ≡ 0)
-Allowed (deal r c) M = (r < 96) × (markOf M r ≡ 1)
-Allowed (message r lent) M = (r < 96) × (markOf M r ≡ 2)
-Allowed (opening r blocks) M = (r < 96) × (markOf M r ≡ 2)
-Allowed (linear r a b scale) M = Summing M r a b
-Allowed (masks a b r lent) M = Multiplying 3 M a b r
-Allowed (finish r blocks blocks') M = Multiplying 5 M (leftOf M r) (rightOf M r) r
+abbrev pub Needed : Act → Marks → Type 0
+Needed (loads r) M = (r < 96) × (markOf M r ≡ 0)
+Needed (loadsTriple r) M = (r < 94) × (markOf M r ≡ 0) × (markOf M (r + 1) ≡ 0) × (markOf M (r + 2) ≡ 0)
+Needed (deals r) M = (r < 96) × (markOf M r ≡ 1)
+Needed (opens r) M = (r < 96) × (markOf M r ≡ 2)
+Needed (sums r t ts) M = Summing M r t ts
+Needed (factors a b r) M = Unit {0}
+Needed (multiplies r) M = Multiplying 5 M (leftOf M r) (rightOf M r) r
 
--- masks whose triple starts at row q
-abbrev pub MasksAt : Call → ℕ → Type 0
-MasksAt (loadRow r pack) q = ⊥
-MasksAt (loadTriple r pack) q = ⊥
-MasksAt (deal r c) q = ⊥
-MasksAt (message r lent) q = ⊥
-MasksAt (opening r blocks) q = ⊥
-MasksAt (linear r a b scale) q = ⊥
-MasksAt (masks a b r lent) q = q ≡ r
-MasksAt (finish r blocks blocks') q = ⊥
+abbrev pub Maskable : Masking → Marks → Type 0
+Maskable none M = Unit {0}
+Maskable (of a b r) M = Multiplying 3 M a b r
+
+abbrev pub AllowedBy : Act → Marks → Type 0
+AllowedBy a M = Needed a M × Maskable (masking a) M
+
+abbrev pub AllowedAll : List Act → Marks → Type 0
+AllowedAll [] M = Unit {0}
+AllowedAll (a ∷ todo) M = AllowedBy a M × AllowedAll todo (marksBy a M)
+
+-- records are opened by the rows as they are before the call
+abbrev pub ReadyFor : Marks → Taking → Type 0
+ReadyFor M nothingTaken = Unit {0}
+ReadyFor M (aRowPack r) = Unit {0}
+ReadyFor M (aTriplePack r) = Unit {0}
+ReadyFor M (aNumber r) = Unit {0}
+ReadyFor M (aRecord r) = Unit {0}
+ReadyFor M (twoRecords r) = Multiplying 5 M (leftOf M r) (rightOf M r) r
+
+-- what is sent: of a held row; of factors that the call notes
+abbrev pub Sendable : List Act → Marks → Sending → Type 0
+Sendable todo M (itsOpening r) = (r < 96) × (markOf M r ≡ 2)
+Sendable todo M (itsMasks a b r) = Multiplying 3 M a b r × Among (of a b r) (map masking todo)
+
+-- of a call with these acts and lines
+pub record Allowed (todo : List Act) (ss : List Sending) (M : Marks) : Type 0 where
+  pub moving : AllowedAll todo M
+  pub ready : All (λ a. ReadyFor M (takes a)) todo
+  pub sending : All (Sendable todo M) ss
+
+-- masks by the triple at q
+abbrev pub MasksBy : Masking → ℕ → Type 0
+MasksBy none q = ⊥
+MasksBy (of a b r) q = q ≡ r
+
+abbrev pub MasksIn : List Act → ℕ → Type 0
+MasksIn [] q = ⊥
+MasksIn (a ∷ todo) q = MasksBy (masking a) q ⊎ MasksIn todo q
 
 -- ---- What the marks say. `Held r X`: the vector of the held row r may be X. `Waits r a b`: the triple at r may wait with the
 -- factors a and b.
@@ -82,13 +117,12 @@ module _ (plan : Plan) (draw : Draw) where
     abbrev pub Facts : Marks → (ℕ → Vector) → Type 0
     Facts M vec = (r : ℕ) → r < 96 → Fact M vec r
 
-    -- what a call must bring
-    abbrev pub Meant : Call → Marks → (ℕ → Vector) → Type 0
-    Meant (loadRow r pack) M vec = IsRaw (plan .raw r)
-    Meant (loadTriple r pack) M vec = plan .triple r ≡ true
-    Meant (deal r c) M vec = Held r (raised (element c) (vec r))
-    Meant (message r lent) M vec = Unit {0}
-    Meant (opening r blocks) M vec = Unit {0}
-    Meant (linear r a b scale) M vec = Held r (plusTimes (element scale) (vec a) (vec b))
-    Meant (masks a b r lent) M vec = Waits r a b
-    Meant (finish r blocks blocks') M vec = Held (r + 2) (written M vec r)
+    -- what an act must bring, with the number c that it takes
+    abbrev pub Meant : Act → ℕ → Marks → (ℕ → Vector) → Type 0
+    Meant (loads r) c M vec = IsRaw (plan .raw r)
+    Meant (loadsTriple r) c M vec = plan .triple r ≡ true
+    Meant (deals r) c M vec = Held r (raised (element c) (vec r))
+    Meant (opens r) c M vec = Unit {0}
+    Meant (sums r t ts) c M vec = Held r (totalVector vec t ts)
+    Meant (factors a b r) c M vec = Waits r a b
+    Meant (multiplies r) c M vec = Held (r + 2) (written M vec r)

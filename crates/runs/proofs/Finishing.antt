@@ -1,12 +1,11 @@
 -- One post's finish: where the polynomials it accepted are truly their senders', the third row is its part of the product.
-use Prim.Native.Nat.{ℕ, _+_, _*_, _-_, _≤_, _<_}
+use Prim.Native.Nat.{ℕ, _+_, _*_, _-_, _<_}
 use mathlib.Core.Path.{_≡_, sym, _∙_, ap, ap₂, subst}
 use mathlib.Core.Bool.{false}
 use mathlib.Core.Logic.{_≢_}
 use mathlib.Core.List.{List}
 use native.Mathlib.Decide.{ℕ-discrete}
 use native.Mathlib.Omega.{arith}
-use borrow.Author.Tests.{ltb-false}
 use lib.ListN.{set}
 use lib.Seq.{getD-set-other}
 use Rattle.field.specs.Modulus.{p}
@@ -25,10 +24,12 @@ use Rattle.vectors.proofs.Linear.{row-plusTimes, row-raised}
 use Rattle.vectors.proofs.Theorems.{opened-exact}
 use Rattle.runs.specs.Draws.{Plan, Draw, pointOf}
 use Rattle.runs.specs.Calls.{at}
-use Rattle.runs.proofs.Marks.{Marks, markOf, leftOf, rightOf, remarked, finished, sessionAt, productVector, maskA, maskB, written}
+use Rattle.runs.proofs.Marks.{Marks, markOf, leftOf, rightOf, remarked, finished, sessionAt, maskA, maskB, written}
+use Rattle.runs.proofs.Sums.{productVector, product-sum}
 use Rattle.runs.proofs.Outcomes.{conditionAt, passed}
 use Rattle.runs.proofs.Packs.{rowFor}
-use Rattle.runs.proofs.Holds.{Holds, put-holds, keep-holds, held-row, combined-row}
+use Rattle.runs.proofs.Holds.{Holds, put-holds, keep-holds, combined-row}
+use Rattle.runs.proofs.Facts.{Multiplying}
 
 -- the accepted polynomials are the senders' own of the vector S
 abbrev pub AllTrue : Session → Vector → List ℕ → Type 0
@@ -52,36 +53,35 @@ module _ (plan : Plan) (draw : Draw) (len i : ℕ) (M : Marks) (vec : ℕ → Ve
       ∙ sym (row-plusTimes (plan .t + 1) (plan .n) i y' w (plusTimes (element y) c b) a))
       ∙ sym (row-raised (plan .t + 1) (plan .n) i (product y y') w _)
 
-  module _ (r : ℕ) (blocks blocks' : List ℕ) (z : finishRefusal s l r blocks blocks' ≡ 0) where
+  -- the rows of a triple that waits, and those that are opened
+  module _ (r : ℕ) (ok : Multiplying 5 M (leftOf M r) (rightOf M r) r) where
+    low : r < 94
+    low = ok .r-low
+
+    row-a : rowAt W l r ≡ rowFor plan draw i (vec r)
+    row-a = h .rows r (omega (arith, low)) (λ e. omega (arith, ok .first))
+
+    row-b : rowAt W l (r + 1) ≡ rowFor plan draw i (vec (r + 1))
+    row-b = h .rows (r + 1) (omega (arith, low)) (λ e. omega (arith, ok .second))
+
+    row-ab : rowAt W l (r + 2) ≡ rowFor plan draw i (vec (r + 2))
+    row-ab = h .rows (r + 2) (omega (arith, low)) (λ e. omega (arith, ok .third))
+
+    pub opens-a : Finish.maskA s l r ≡ heldRow s (maskA M vec r)
+    opens-a =
+        combined-row plan draw len i M vec l h (p - 1) (leftOf M r) r (h .rows (leftOf M r) (ok .a-low) (λ e. omega (arith, ok .a-held))) row-a
+
+    pub opens-b : Finish.maskB s l r ≡ heldRow s (maskB M vec r)
+    opens-b =
+        combined-row plan draw len i M vec l h (p - 1) (rightOf M r) (r + 1) (h .rows (rightOf M r) (ok .b-low) (λ e. omega (arith, ok .b-held))) row-b
+
+  module _ (r : ℕ) (blocks blocks' : List ℕ) (ok : Multiplying 5 M (leftOf M r) (rightOf M r) r) (z : finishRefusal s l r blocks blocks' ≡ 0) where
     f : (k : ℕ) → conditionAt (finishTests s l r blocks blocks') k ≡ false
     unfolding finishRefusal
     f = passed (finishTests s l r blocks blocks') tt z
 
-    low : r ≤ 93
-    low = ltb-false 93 r (f 7)
-
     few : plan .n < p
     few = let n-in = inside 2 32 (plan .n) (f 0) in omega arith
-
-    -- the rows of the triple, and those that are opened
-    row-a : rowAt W l r ≡ rowFor plan draw i (vec r)
-    row-a = held-row plan draw len i M vec l h r 4 (omega (arith, low)) (f 12)
-
-    row-b : rowAt W l (r + 1) ≡ rowFor plan draw i (vec (r + 1))
-    row-b = held-row plan draw len i M vec l h (r + 1) 3 (omega (arith, low)) (f 13)
-
-    row-ab : rowAt W l (r + 2) ≡ rowFor plan draw i (vec (r + 2))
-    row-ab = held-row plan draw len i M vec l h (r + 2) 3 (omega (arith, low)) (f 14)
-
-    pub opens-a : Finish.maskA s l r ≡ heldRow s (maskA M vec r)
-    opens-a =
-        combined-row plan draw len i M vec l h (p - 1) (leftOf M r) r
-        (held-row plan draw len i M vec l h (leftOf M r) 1 (ltb-false 95 (leftOf M r) (f 8)) (f 10)) row-a
-
-    pub opens-b : Finish.maskB s l r ≡ heldRow s (maskB M vec r)
-    opens-b =
-        combined-row plan draw len i M vec l h (p - 1) (rightOf M r) (r + 1)
-        (held-row plan draw len i M vec l h (rightOf M r) 1 (ltb-false 95 (rightOf M r) (f 9)) (f 11)) row-b
 
     opened-is : (x : List ℕ) (S : Vector) (bl : List ℕ) → x ≡ heldRow s S → AllTrue s S bl → tooFew s x bl ≡ false
         → opened s x bl ≡ number S .0
@@ -105,14 +105,15 @@ module _ (plan : Plan) (draw : Draw) (len i : ℕ) (M : Marks) (vec : ℕ → Ve
     finish-holds ta tb =
         put-holds plan draw len i (remarked (remarked M r 6) (r + 1) 6) vec l
         (keep-holds plan draw len i M (remarked (remarked M r 6) (r + 1) 6) vec l h before) (equal _ _ (f 4)) (r + 2) 2
-        (omega (arith, low)) _ _ (ap₂ (λ (y y' : ℕ). productRow s y y' (rowAt W l r) (rowAt W l (r + 1)) (rowAt W l (r + 2))) ya yb ∙ rows-are ∙ row-of-product _ _ _ _ _)
+        (omega (arith, ok .r-low)) _ _ (ap₂ (λ (y y' : ℕ). productRow s y y' (rowAt W l r) (rowAt W l (r + 1)) (rowAt W l (r + 2))) ya yb ∙ rows-are ∙ row-of-product _ _ _ _ _
+        ∙ ap (rowFor plan draw i) (sym (product-sum vec r _ _)))
       where
         ya : opened s (Finish.maskA s l r) blocks ≡ number (maskA M vec r) .0
-        ya = opened-is (Finish.maskA s l r) (maskA M vec r) blocks opens-a ta (f 22)
+        ya = opened-is (Finish.maskA s l r) (maskA M vec r) blocks (opens-a r ok) ta (f 22)
 
         yb : opened s (Finish.maskB s l r) blocks' ≡ number (maskB M vec r) .0
-        yb = opened-is (Finish.maskB s l r) (maskB M vec r) blocks' opens-b tb (f 23)
+        yb = opened-is (Finish.maskB s l r) (maskB M vec r) blocks' (opens-b r ok) tb (f 23)
 
         rows-are : productRow s (number (maskA M vec r) .0) (number (maskB M vec r) .0) (rowAt W l r) (rowAt W l (r + 1)) (rowAt W l (r + 2))
             ≡ productRow s (number (maskA M vec r) .0) (number (maskB M vec r) .0) (rowFor plan draw i (vec r)) (rowFor plan draw i (vec (r + 1))) (rowFor plan draw i (vec (r + 2)))
-        rows-are = λ j. productRow s (number (maskA M vec r) .0) (number (maskB M vec r) .0) (row-a j) (row-b j) (row-ab j)
+        rows-are = λ j. productRow s (number (maskA M vec r) .0) (number (maskB M vec r) .0) (row-a r ok j) (row-b r ok j) (row-ab r ok j)

@@ -3,7 +3,7 @@ use Prim.Native.Nat.{ℕ, suc, _+_, _*_, _≤_, _<_}
 use mathlib.Core.Path.{_≡_, sym, _∙_, ap, ap₂, subst}
 use mathlib.Core.Bool.{false}
 use mathlib.Core.Logic.{_≢_}
-use mathlib.Core.List.{List, _++_, append-assoc}
+use mathlib.Core.List.{List, [], _∷_, _++_, append-assoc}
 use native.Mathlib.Nat.{zero-mul, one-mul}
 use native.Mathlib.Decide.{ℕ-discrete}
 use native.Mathlib.Omega.{arith}
@@ -13,7 +13,6 @@ use lib.Seq.{take-at, drop-at, take-all, getD-set-other}
 use Rattle.field.specs.Element.{element}
 use Rattle.refusal.proofs.Laws.{equal}
 use Rattle.session.specs.declared.Session.{Session}
-use Rattle.session.specs.Sessions.{mark}
 use Rattle.session.specs.Rows.{sumsAt, rowAt, withRow, combined, plusSums}
 use Rattle.session.specs.Checks.{unlike}
 use Rattle.session.proofs.RowLaws.{length-with-row, row-same, row-other}
@@ -21,11 +20,13 @@ use Rattle.sharing.specs.Load.{loadRowTests, loadRowRefusal, loadTripleTests, l
 use Rattle.sharing.specs.Deal.{dealTests, dealRefusal}
 use Rattle.sharing.specs.Linear.{linearTests, linearRefusal}
 use Rattle.product.specs.Masks.{masksTests, masksRefusal}
-use Rattle.vectors.specs.Vector.{Vector, plusTimes, raised, numbers, rowOf}
+use Rattle.vectors.specs.Vector.{Vector, plusTimes, raised, rowOf}
 use Rattle.vectors.proofs.Linear.{length-numbers, row-plusTimes, row-raised}
 use Rattle.runs.specs.Draws.{Plan, Draw, pointOf}
+use Rattle.runs.specs.Outline.{once, times, loadsTriple, factors}
 use Rattle.runs.specs.Calls.{at}
-use Rattle.runs.proofs.Marks.{Marks, markOf, remarked, masked, tripled, sessionAt, at-same, at-other}
+use Rattle.runs.proofs.Marks.{Marks, markOf, remarked, marksBy, sessionAt, totalVector, at-same, at-other}
+use Rattle.runs.proofs.Sums.{linear-sum}
 use Rattle.runs.proofs.Outcomes.{conditionAt, passed}
 use Rattle.runs.proofs.Packs.{rowFor}
 
@@ -104,19 +105,20 @@ module _ (plan : Plan) (draw : Draw) where
         ap₂ (combined k) ea eb ∙ sym (row-plusTimes (plan .t + 1) (plan .n) i k (element (pointOf draw i)) (vec a) (vec b))
 
     pub linear-holds : (r a b scale : ℕ) → linearRefusal s l r a b scale ≡ 0
-        → Holds len i (remarked M r 2) (at vec r (plusTimes (element scale) (vec a) (vec b)))
+        → Holds len i (remarked M r 2) (at vec r (totalVector vec (once a) (times scale b ∷ [])))
         (withRow W r (combined scale (rowAt W l a) (rowAt W l b)) l)
     unfolding linearRefusal
     linear-holds r a b scale z =
         put-holds len i M vec l h (equal _ _ (f 4)) r 2 (omega (arith, ltb-false 95 r (f 5))) _ _
-        (combined-row scale a b (held-row a 1 (ltb-false 95 a (f 6)) (f 9)) (held-row b 1 (ltb-false 95 b (f 7)) (f 10)))
+        (combined-row scale a b (held-row a 1 (ltb-false 95 a (f 6)) (f 9)) (held-row b 1 (ltb-false 95 b (f 7)) (f 10))
+        ∙ ap (rowFor plan draw i) (sym (linear-sum vec a b scale)))
       where
         f : (k : ℕ) → conditionAt (linearTests s l r a b scale) k ≡ false
         f = passed (linearTests s l r a b scale) tt z
 
-    pub masks-holds : (a b r : ℕ) (lent : List ℕ) → masksRefusal s l a b r lent ≡ 0 → Holds len i (masked M r a b) vec l
+    pub masks-holds : (a b r : ℕ) (lent : List ℕ) → masksRefusal s l a b r lent ≡ 0 → Holds len i (marksBy (factors a b r) M) vec l
     unfolding masksRefusal
-    masks-holds a b r lent z = keep-holds len i M (masked M r a b) vec l h (λ q lq ne. go q ne (ℕ-discrete q r))
+    masks-holds a b r lent z = keep-holds len i M (marksBy (factors a b r) M) vec l h (λ q lq ne. go q ne (ℕ-discrete q r))
       where
         f : (k : ℕ) → conditionAt (masksTests s l a b r lent) k ≡ false
         f = passed (masksTests s l a b r lent) tt z
@@ -128,7 +130,7 @@ module _ (plan : Plan) (draw : Draw) where
     -- a triple's three rows
     pub triple-holds : (r : ℕ) (pack : List ℕ) (X Y Z : Vector)
         → pack ≡ rowFor plan draw i X ++ (rowFor plan draw i Y ++ rowFor plan draw i Z) → loadTripleRefusal s l r pack ≡ 0
-        → Holds len i (tripled M r) (at (at (at vec r X) (r + 1) Y) (r + 2) Z) (withTriple W r pack l)
+        → Holds len i (marksBy (loadsTriple r) M) (at (at (at vec r X) (r + 1) Y) (r + 2) Z) (withTriple W r pack l)
     unfolding loadTripleRefusal withTriple
     triple-holds r pack X Y Z e z =
         put-holds len i _ _ _

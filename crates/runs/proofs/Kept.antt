@@ -6,10 +6,10 @@ use native.Mathlib.Omega.{arith}
 use lib.Seq.{getD-set-same}
 use Rattle.vectors.specs.Vector.{Vector}
 use Rattle.runs.specs.Draws.{Plan, Draw, IsRaw}
-use Rattle.runs.specs.Calls.{Call, masks, at}
-use Rattle.runs.proofs.Marks.{at-same, at-other, Marks, markOf, leftOf, rightOf, Sized, rawVector, finished, marksAfter, vectorsAfter}
-use Rattle.runs.proofs.Facts.{Multiplying, Allowed, Triple, Waiting, Fact, Facts, Meant}
-use Rattle.runs.proofs.Rows.{Turn, raw, first, second, third, dealt, summed, waiting, spent, spent', multiplied, Same, off-masks, on-three, turned, same, course, held-stays}
+use Rattle.runs.specs.Outline.{Act, factors}
+use Rattle.runs.proofs.Marks.{at-same, at-other, Marks, markOf, leftOf, rightOf, Sized, rawVector, finished, marksBy, vectorsBy}
+use Rattle.runs.proofs.Facts.{Multiplying, AllowedBy, Triple, Waiting, Fact, Facts, Meant}
+use Rattle.runs.proofs.Rows.{Turn, raw, first, second, third, dealt, summed, waiting, spent, spent', multiplied, Same, off-masks, on-three, turned, same, course, held-by}
 
 -- ---- The fact of a row, by its mark.
 
@@ -48,25 +48,25 @@ first-spent : (M : Marks) (r q : ℕ) → Sized M → Multiplying 5 M (leftOf M 
 first-spent M r q z ok e s =
     omega (arith, ok .first, ap (markOf M) e, ap (markOf (finished M r)) e, on-three M r 6 6 2 z (ok .r-low) .0)
 
-apart : {c : Call} {x m : ℕ} → Turn c x 4 m → (M : Marks) (q : ℕ) → Sized M → Allowed c M → (q + 1 ≡ x) ⊎ (q + 2 ≡ x)
-    → markOf (marksAfter c M) q ≡ markOf M q → markOf M q ≢ 4 → markOf M (q + 1) ≡ 4 → ⊥
-apart (spent' {r}) M q z ok (inl e) s ne h = first-spent M r q z ok (omega arith) s
+apart : {a : Act} {x m : ℕ} → Turn a x 4 m → (M : Marks) (q : ℕ) → Sized M → AllowedBy a M → (q + 1 ≡ x) ⊎ (q + 2 ≡ x)
+    → markOf (marksBy a M) q ≡ markOf M q → markOf M q ≢ 4 → markOf M (q + 1) ≡ 4 → ⊥
+apart (spent' {r}) M q z ok (inl e) s ne h = first-spent M r q z (ok .0) (omega arith) s
 apart (spent' {r}) M q z ok (inr e) s ne h = let k : q + 1 ≡ r = omega arith in omega (arith, ap (markOf M) k)
-apart (multiplied {r}) M q z ok (inl e) s ne h = let k : q ≡ r + 1 = omega arith in ne (ap (markOf M) k ∙ ok .second)
-apart (multiplied {r}) M q z ok (inr e) s ne h = first-spent M r q z ok (omega arith) s
+apart (multiplied {r}) M q z ok (inl e) s ne h = let k : q ≡ r + 1 = omega arith in ne (ap (markOf M) k ∙ ok .0 .second)
+apart (multiplied {r}) M q z ok (inr e) s ne h = first-spent M r q z (ok .0) (omega arith) s
 
 -- ---- The facts after a call, where what is meant may change with it.
 
 module _ (plan : Plan) (draw : Draw) where
-  abbrev vecs : Call → Marks → (ℕ → Vector) → ℕ → Vector
-  vecs c M vec = vectorsAfter plan draw c M vec
+  abbrev vecs : Act → ℕ → Marks → (ℕ → Vector) → ℕ → Vector
+  vecs a c M vec = vectorsBy plan draw a c M vec
 
   -- x is the second or third row of a triple whose first stays
-  beside : (c : Call) (M : Marks) (vec : ℕ → Vector) → Sized M → Allowed c M → (q x : ℕ) → (q + 1 ≡ x) ⊎ (q + 2 ≡ x)
-      → markOf (marksAfter c M) q ≡ markOf M q → markOf M q ≢ 4 → markOf M (q + 1) ≡ 4 → markOf M x ≡ 4
-      → Same M (marksAfter c M) vec (vecs c M vec) x
-  beside c M vec z ok q x e s ne h h' =
-      elim (course plan draw c M vec z ok x) [ turned t ↦ absurd (apart (rw h' at t) M q z ok e s ne h) | same s' ↦ s' ]
+  beside : (a : Act) (c : ℕ) (M : Marks) (vec : ℕ → Vector) → Sized M → AllowedBy a M → (q x : ℕ) → (q + 1 ≡ x) ⊎ (q + 2 ≡ x)
+      → markOf (marksBy a M) q ≡ markOf M q → markOf M q ≢ 4 → markOf M (q + 1) ≡ 4 → markOf M x ≡ 4
+      → Same M (marksBy a M) vec (vecs a c M vec) x
+  beside a c M vec z ok q x e s ne h h' =
+      elim (course plan draw a c M vec z ok x) [ turned t ↦ absurd (apart (rw h' at t) M q z ok e s ne h) | same s' ↦ s' ]
 
   stays : {M M' : Marks} {vec vec' : ℕ → Vector} {q : ℕ} → vec' q ≡ vec q → Same M M' vec vec' (q + 1) → Same M M' vec vec' (q + 2)
       → Triple plan draw M vec q → Triple plan draw M' vec' q
@@ -81,23 +81,23 @@ module _ (plan : Plan) (draw : Draw) where
 
   module _ (Held : ℕ → Vector → Type 0) (Waits : ℕ → ℕ → ℕ → Type 0) (Held' : ℕ → Vector → Type 0) (Waits' : ℕ → ℕ → ℕ → Type 0) where
     -- the factors of a waiting triple are held after the call too
-    waits : (c : Call) (M : Marks) → Sized M → Allowed c M → (q a b : ℕ) → leftOf (marksAfter c M) q ≡ a → rightOf (marksAfter c M) q ≡ b
-        → a < 96 → b < 96 → markOf M a ≡ 2 → markOf M b ≡ 2 → Waits' q a b → Waiting plan draw Held' Waits' (marksAfter c M) q
-    waits c M z ok q a b e e' low low' h h' means = record {
+    waits : (a : Act) (M : Marks) → Sized M → AllowedBy a M → (q x y : ℕ) → leftOf (marksBy a M) q ≡ x → rightOf (marksBy a M) q ≡ y
+        → x < 96 → y < 96 → markOf M x ≡ 2 → markOf M y ≡ 2 → Waits' q x y → Waiting plan draw Held' Waits' (marksBy a M) q
+    waits a M z ok q x y e e' low low' h h' means = record {
       means = rw (e, e') means;
       a-low = rw e low;
-      a-held = rw e (held-stays plan draw c M (rawVector plan draw) z ok a h .0);
+      a-held = rw e (held-by plan draw a 0 M (rawVector plan draw) z ok x h .0);
       b-low = rw e' low';
-      b-held = rw e' (held-stays plan draw c M (rawVector plan draw) z ok b h' .0);
+      b-held = rw e' (held-by plan draw a 0 M (rawVector plan draw) z ok y h' .0);
     }
 
     -- a row that the call leaves as it is
-    kept : (c : Call) (M : Marks) (vec : ℕ → Vector) → Sized M → Allowed c M → (q : ℕ)
+    kept : (a : Act) (c : ℕ) (M : Marks) (vec : ℕ → Vector) → Sized M → AllowedBy a M → (q : ℕ)
         → (markOf M q ≡ 2 → Held q (vec q) → Held' q (vec q))
-        → (markOf M q ≡ 5 → markOf (marksAfter c M) q ≡ 5 → Waits q (leftOf M q) (rightOf M q) → Waits' q (leftOf M q) (rightOf M q))
-        → Same M (marksAfter c M) vec (vecs c M vec) q → Fact plan draw Held Waits M vec q
-        → Fact plan draw Held' Waits' (marksAfter c M) (vecs c M vec) q
-    kept c M vec z ok q up up' s f = record {
+        → (markOf M q ≡ 5 → markOf (marksBy a M) q ≡ 5 → Waits q (leftOf M q) (rightOf M q) → Waits' q (leftOf M q) (rightOf M q))
+        → Same M (marksBy a M) vec (vecs a c M vec) q → Fact plan draw Held Waits M vec q
+        → Fact plan draw Held' Waits' (marksBy a M) (vecs a c M vec) q
+    kept a c M vec z ok q up up' s f = record {
       raw = λ h. let y = f .raw (sym (s .mark) ∙ h) in (y .0, s .vector ∙ y .1);
       held = λ h. let e = sym (s .mark) ∙ h in rw (s .vector) (up e (f .held e));
       triple = λ h.
@@ -105,20 +105,20 @@ module _ (plan : Plan) (draw : Draw) where
           let ne : markOf M q ≢ 4 = elim k [ inl e ↦ omega arith | inr e ↦ omega arith ] in
           let t = f .triple k in
           stays (s .vector)
-          (beside c M vec z ok q (q + 1) (inl refl) (s .mark) ne (t .second) (t .second))
-          (beside c M vec z ok q (q + 2) (inr refl) (s .mark) ne (t .second) (t .third))
+          (beside a c M vec z ok q (q + 1) (inl refl) (s .mark) ne (t .second) (t .second))
+          (beside a c M vec z ok q (q + 2) (inr refl) (s .mark) ne (t .second) (t .third))
           t;
       waiting = λ h. let e = sym (s .mark) ∙ h in let w = f .waiting e in
-          waits c M z ok q (leftOf M q) (rightOf M q) (s .left) (s .right) (w .a-low) (w .b-low) (w .a-held) (w .b-held) (up' e h (w .means));
+          waits a M z ok q (leftOf M q) (rightOf M q) (s .left) (s .right) (w .a-low) (w .b-low) (w .a-held) (w .b-held) (up' e h (w .means));
     }
 
     -- a row that it writes
-    new : {c : Call} {q m m' : ℕ} → Turn c q m m' → (M : Marks) (vec : ℕ → Vector) → Sized M → Allowed c M
-        → Meant plan draw Held' Waits' c M vec → Facts plan draw Held Waits M vec → markOf (marksAfter c M) q ≡ m'
-        → Fact plan draw Held' Waits' (marksAfter c M) (vecs c M vec) q
-    new (raw {r}) M vec z ok me g e = raw-fact e me (at-same vec r _)
-    new (first {r}) M vec z ok me g e =
-        let k = on-three M r 3 4 4 z (ok .0) in
+    new : {a : Act} {q m m' : ℕ} → Turn a q m m' → (c : ℕ) (M : Marks) (vec : ℕ → Vector) → Sized M → AllowedBy a M
+        → Meant plan draw Held' Waits' a c M vec → Facts plan draw Held Waits M vec → markOf (marksBy a M) q ≡ m'
+        → Fact plan draw Held' Waits' (marksBy a M) (vecs a c M vec) q
+    new (raw {r}) c M vec z ok me g e = raw-fact e me (at-same vec r _)
+    new (first {r}) c M vec z ok me g e =
+        let k = on-three M r 3 4 4 z (ok .0 .0) in
         triple-fact (omega arith) (record {
           drawn = me;
           second = k .1;
@@ -127,26 +127,26 @@ module _ (plan : Plan) (draw : Draw) where
           is-b = at-other _ (r + 2) _ (r + 1) (omega arith) ∙ at-same _ (r + 1) _;
           is-ab = at-same _ (r + 2) _;
         }) (λ h. absurd (omega arith))
-    new second M vec z ok me g e = idle-fact (omega arith) (omega arith)
-    new third M vec z ok me g e = idle-fact (omega arith) (omega arith)
-    new dealt M vec z ok me g e = held-fact e (rw at-same me)
-    new summed M vec z ok me g e = held-fact e (rw at-same me)
-    new (waiting {a} {b} {r} {lent}) M vec z ok me g e =
+    new second c M vec z ok me g e = idle-fact (omega arith) (omega arith)
+    new third c M vec z ok me g e = idle-fact (omega arith) (omega arith)
+    new dealt c M vec z ok me g e = held-fact e (rw at-same me)
+    new summed c M vec z ok me g e = held-fact e (rw at-same me)
+    new (waiting {a} {b} {r}) c M vec z ok me g e =
         let next = off-masks M r a b vec (r + 1) (omega arith) in
         let last = off-masks M r a b vec (r + 2) (omega arith) in
         triple-fact (omega arith)
-        (stays refl next last (g r (omega arith) .triple (inl (ok .first))))
-        (λ h. waits (masks a b r lent) M z ok r a b (getD-set-same (M .left) r a 0 (omega arith))
-        (getD-set-same (M .right) r b 0 (omega arith)) (ok .a-low) (ok .b-low) (ok .a-held) (ok .b-held) me)
-    new spent M vec z ok me g e = idle-fact (omega arith) (omega arith)
-    new spent' M vec z ok me g e = idle-fact (omega arith) (omega arith)
-    new multiplied M vec z ok me g e = held-fact e (rw at-same me)
+        (stays refl next last (g r (omega arith) .triple (inl (ok .1 .first))))
+        (λ h. waits (factors a b r) M z ok r a b (getD-set-same (M .left) r a 0 (omega arith))
+        (getD-set-same (M .right) r b 0 (omega arith)) (ok .1 .a-low) (ok .1 .b-low) (ok .1 .a-held) (ok .1 .b-held) me)
+    new spent c M vec z ok me g e = idle-fact (omega arith) (omega arith)
+    new spent' c M vec z ok me g e = idle-fact (omega arith) (omega arith)
+    new multiplied c M vec z ok me g e = held-fact e (rw at-same me)
 
-    pub facts-after : (c : Call) (M : Marks) (vec : ℕ → Vector) → Sized M → Allowed c M → Meant plan draw Held' Waits' c M vec
+    pub facts-by : (a : Act) (c : ℕ) (M : Marks) (vec : ℕ → Vector) → Sized M → AllowedBy a M → Meant plan draw Held' Waits' a c M vec
         → ((q : ℕ) → q < 96 → markOf M q ≡ 2 → Held q (vec q) → Held' q (vec q))
-        → ((q : ℕ) → q < 96 → markOf M q ≡ 5 → markOf (marksAfter c M) q ≡ 5 → Waits q (leftOf M q) (rightOf M q) → Waits' q (leftOf M q) (rightOf M q))
-        → Facts plan draw Held Waits M vec → Facts plan draw Held' Waits' (marksAfter c M) (vectorsAfter plan draw c M vec)
-    facts-after c M vec z ok me up up' g q low = elim (course plan draw c M vec z ok q) [
-      | turned t ↦ new t M vec z ok me g refl
-      | same s ↦ kept c M vec z ok q (up q low) (up' q low) s (g q low)
+        → ((q : ℕ) → q < 96 → markOf M q ≡ 5 → markOf (marksBy a M) q ≡ 5 → Waits q (leftOf M q) (rightOf M q) → Waits' q (leftOf M q) (rightOf M q))
+        → Facts plan draw Held Waits M vec → Facts plan draw Held' Waits' (marksBy a M) (vectorsBy plan draw a c M vec)
+    facts-by a c M vec z ok me up up' g q low = elim (course plan draw a c M vec z ok q) [
+      | turned t ↦ new t c M vec z ok me g refl
+      | same s ↦ kept a c M vec z ok q (up q low) (up' q low) s (g q low)
     ]

@@ -1,4 +1,6 @@
+pub mod Outlines
 pub mod Marks
+pub mod Sums
 pub mod Numbers
 pub mod Outcomes
 pub mod Packs

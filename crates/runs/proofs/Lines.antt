@@ -1,7 +1,7 @@
 -- A broadcast line shows one message: whose it is, for which row, and its numbers.
 use Prim.Native.Nat.{ℕ, zero, suc, _*_, _≤_, _<_}
 use mathlib.Core.Path.{_≡_, refl, ap, ap₂}
-use mathlib.Core.Bool.{false}
+use mathlib.Core.Bool.{false, _||_}
 use mathlib.Core.List.{List, [], _∷_}
 use native.Mathlib.Omega.{arith}
 use borrow.Author.Tests.{le-ltb}
@@ -9,7 +9,7 @@ use lib.Dec.{ltb}
 use lib.ListN.{length}
 use Rattle.field.specs.Element.{Element}
 use Rattle.poly.specs.Counting.{Elements}
-use Rattle.refusal.specs.Conditions.{or, beyond, anyBeyond, outside}
+use Rattle.refusal.specs.Conditions.{beyond, anyBeyond, outside}
 use Rattle.refusal.proofs.Laws.{or-false}
 use Rattle.refusal.proofs.Elements.{below-p, element-test}
 use Rattle.decimal.specs.Numeral.{tens}
@@ -25,7 +25,7 @@ use Rattle.runs.specs.Calls.{openingLine, masksLine}
 pub elements-pass : (xs : List ℕ) → Elements xs → anyBeyond xs ≡ false
 unfolding anyBeyond
 elements-pass [] e = refl
-elements-pass (x ∷ xs) e = ap₂ or (element-test x (e .0)) (elements-pass xs (e .1))
+elements-pass (x ∷ xs) e = ap₂ _||_ (element-test x (e .0)) (elements-pass xs (e .1))
 
 pub elements-of : (xs : List ℕ) → anyBeyond xs ≡ false → Elements xs
 unfolding anyBeyond
@@ -40,7 +40,7 @@ numbers-elements (suc k) a = (a 0 .1, numbers-elements k (λ i. a (suc i)))
 -- ---- messages that posts send
 
 within : (low high x : ℕ) → low ≤ x → x ≤ high → outside low high x ≡ false
-within low high x a b = ap₂ or (le-ltb x low a) (le-ltb high x b)
+within low high x a b = ap₂ _||_ (le-ltb x low a) (le-ltb high x b)
 
 -- post j of n posts, with k coefficients to a polynomial
 module _ (n k : ℕ) (small : n < tens 10) where
@@ -57,9 +57,9 @@ module _ (n k : ℕ) (small : n < tens 10) where
     pub low : Elements xs
 
   in-range : (last r j : ℕ) (xs : List ℕ) → r ≤ last → (1 ≤ j) × (j ≤ n) → Elements xs
-      → or (ltb last r) (or (outside 1 n j) (anyBeyond xs)) ≡ false
+      → ltb last r || (outside 1 n j || anyBeyond xs) ≡ false
   in-range last r j xs low post e =
-      ap₂ or (le-ltb last r low) (ap₂ or (within 1 n j (post .0) (post .1)) (elements-pass xs e))
+      ap₂ _||_ (le-ltb last r low) (ap₂ _||_ (within 1 n j (post .0) (post .1)) (elements-pass xs e))
 
   opening-sent : (r j : ℕ) (xs : List ℕ) → Opening r j xs → Sent n k (Line.opening r j xs)
   opening-sent r j xs o =

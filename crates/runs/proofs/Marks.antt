@@ -3,16 +3,20 @@ use Prim.Native.Nat.{ℕ, _+_, _-_}
 use mathlib.Core.Path.{_≡_, ap}
 use mathlib.Core.Bool.{Bool, cond}
 use mathlib.Core.Logic.{_≢_}
-use mathlib.Core.List.{List}
+use mathlib.Core.List.{List, [], _∷_}
 use borrow.Author.Tests.{eq-eqb, ne-eqb}
 use lib.ListN.{length, getD, set}
 use Rattle.field.specs.Modulus.{p}
 use Rattle.field.specs.Arithmetic.{product}
+use Rattle.field.specs.Algebra.{CommutativeRing}
 use Rattle.field.specs.Element.{element}
+use Rattle.field.proofs.Elements.{𝓡}
 use Rattle.session.specs.declared.Session.{Session}
 use Rattle.vectors.specs.Vector.{Vector, plusTimes, raised, number, vectorOf}
 use Rattle.runs.specs.Draws.{Plan, Draw, pointOf, rawDraw, drawA, drawB, drawAB}
-use Rattle.runs.specs.Calls.{Call, loadRow, loadTriple, deal, message, opening, linear, masks, finish, at}
+use Rattle.runs.specs.Outline.{Kinds, Act, loads, loadsTriple, deals, opens, Summand, once, times, fee, sums, factors, multiplies, Taking, nothingTaken, aRowPack, aTriplePack, aNumber, aRecord, twoRecords, takes, Given, Move}
+use Rattle.runs.specs.Calls.{Actual, at}
+open CommutativeRing 𝓡 using (zero as 0ᴱ)
 
 -- a function changed at one place
 pub at-same : {A : Type 0} (f : ℕ → A) (r : ℕ) (x : A) → at f r x r ≡ x
@@ -49,12 +53,6 @@ pub record Sized (M : Marks) : Type 0 where
 abbrev pub remarked : Marks → ℕ → ℕ → Marks
 remarked M r m = record { marks = set (M .marks) r m; left = M .left; right = M .right }
 
-abbrev pub masked : Marks → ℕ → ℕ → ℕ → Marks
-masked M r a b = record { marks = set (M .marks) r 5; left = set (M .left) r a; right = set (M .right) r b }
-
-abbrev pub tripled : Marks → ℕ → Marks
-tripled M r = remarked (remarked (remarked M r 3) (r + 1) 4) (r + 2) 4
-
 abbrev pub finished : Marks → ℕ → Marks
 finished M r = remarked (remarked (remarked M r 6) (r + 1) 6) (r + 2) 2
 
@@ -76,12 +74,22 @@ vectorB plan draw r = vectorOf (plan .t + 1) (drawB plan draw r)
 abbrev pub vectorAB : Plan → Draw → ℕ → Vector
 vectorAB plan draw r = vectorOf (plan .t + 1) (drawAB plan draw r)
 
--- a − l; and l'' + y l' + y' l + y y'
+-- a − l
 abbrev pub less : Vector → Vector → Vector
 less S L = plusTimes (element (p - 1)) S L
 
-abbrev pub productVector : ℕ → ℕ → Vector → Vector → Vector → Vector
-productVector y y' l l' l'' = raised (element (product y y')) (plusTimes (element y') (plusTimes (element y) l'' l') l)
+-- a sum
+abbrev pub zeroVector : Vector
+zeroVector = record { c = 0ᴱ; f = λ k. 0ᴱ; v = λ j k. 0ᴱ }
+
+abbrev pub worthVector : (ℕ → Vector) → Summand → Vector
+worthVector vec (once a) = vec a
+worthVector vec (times s b) = plusTimes (element s) zeroVector (vec b)
+worthVector vec (fee k) = raised (element k) zeroVector
+
+abbrev pub totalVector : (ℕ → Vector) → Summand → List Summand → Vector
+totalVector vec t [] = worthVector vec t
+totalVector vec t (t' ∷ ts) = plusTimes (element 1) (worthVector vec t) (totalVector vec t' ts)
 
 -- the vectors that a finish of the triple at r opens
 abbrev pub maskA : Marks → (ℕ → Vector) → ℕ → Vector
@@ -90,27 +98,84 @@ maskA M vec r = less (vec (leftOf M r)) (vec r)
 abbrev pub maskB : Marks → (ℕ → Vector) → ℕ → Vector
 maskB M vec r = less (vec (rightOf M r)) (vec (r + 1))
 
+-- l'' + y l' + y' l + y y', "y y' is added to m1..mn only"
+abbrev pub productSum : (ℕ → Vector) → ℕ → ℕ → ℕ → Vector
+productSum vec r y y' = totalVector vec (once (r + 2)) (times y (r + 1) ∷ times y' r ∷ fee (product y y') ∷ [])
+
 abbrev pub written : Marks → (ℕ → Vector) → ℕ → Vector
-written M vec r = productVector (number (maskA M vec r) .0) (number (maskB M vec r) .0) (vec r) (vec (r + 1)) (vec (r + 2))
+written M vec r = productSum vec r (number (maskA M vec r) .0) (number (maskB M vec r) .0)
 
--- after a call that is not refused
-abbrev pub marksAfter : Call → Marks → Marks
-marksAfter (loadRow r pack) M = remarked M r 1
-marksAfter (loadTriple r pack) M = tripled M r
-marksAfter (deal r c) M = remarked M r 2
-marksAfter (message r lent) M = M
-marksAfter (opening r blocks) M = M
-marksAfter (linear r a b scale) M = remarked M r 2
-marksAfter (masks a b r lent) M = masked M r a b
-marksAfter (finish r blocks blocks') M = finished M r
+-- ---- One act: the marks that it writes, the masks that it makes, the vectors.
 
-abbrev pub vectorsAfter : Plan → Draw → Call → Marks → (ℕ → Vector) → ℕ → Vector
-vectorsAfter plan draw (loadRow r pack) M vec = at vec r (rawVector plan draw r)
-vectorsAfter plan draw (loadTriple r pack) M vec =
+pub record Mark : Type 0 where
+  pub row : ℕ
+  pub is : ℕ
+
+abbrev mark : ℕ → ℕ → Mark
+mark r m = record { row = r; is = m }
+
+abbrev pub marksOf : Act → List Mark
+marksOf (loads r) = mark r 1 ∷ []
+marksOf (loadsTriple r) = mark r 3 ∷ mark (r + 1) 4 ∷ mark (r + 2) 4 ∷ []
+marksOf (deals r) = mark r 2 ∷ []
+marksOf (opens r) = []
+marksOf (sums r t ts) = mark r 2 ∷ []
+marksOf (factors a b r) = []
+marksOf (multiplies r) = mark r 6 ∷ mark (r + 1) 6 ∷ mark (r + 2) 2 ∷ []
+
+-- the masks that an act makes: none, or of the rows a and b by the triple at r, which then has mark 5 and remembers a and b
+pub data Masking : Type 0 where
+  none : Masking
+  of : (a b r : ℕ) → Masking
+
+abbrev pub masking : Act → Masking
+masking (loads r) = none
+masking (loadsTriple r) = none
+masking (deals r) = none
+masking (opens r) = none
+masking (sums r t ts) = none
+masking (factors a b r) = of a b r
+masking (multiplies r) = none
+
+abbrev pub markAll : List Mark → Marks → Marks
+markAll [] M = M
+markAll (m ∷ ms) M = markAll ms (remarked M (m .row) (m .is))
+
+abbrev pub remembered : Masking → Marks → Marks
+remembered none M = M
+remembered (of a b r) M = record { marks = set (M .marks) r 5; left = set (M .left) r a; right = set (M .right) r b }
+
+abbrev pub marksBy : Act → Marks → Marks
+marksBy act M = remembered (masking act) (markAll (marksOf act) M)
+
+-- with the number c that it takes
+abbrev pub vectorsBy : Plan → Draw → Act → ℕ → Marks → (ℕ → Vector) → ℕ → Vector
+vectorsBy plan draw (loads r) c M vec = at vec r (rawVector plan draw r)
+vectorsBy plan draw (loadsTriple r) c M vec =
     at (at (at vec r (vectorA plan draw r)) (r + 1) (vectorB plan draw r)) (r + 2) (vectorAB plan draw r)
-vectorsAfter plan draw (deal r c) M vec = at vec r (raised (element c) (vec r))
-vectorsAfter plan draw (message r lent) M vec = vec
-vectorsAfter plan draw (opening r blocks) M vec = vec
-vectorsAfter plan draw (linear r a b scale) M vec = at vec r (plusTimes (element scale) (vec a) (vec b))
-vectorsAfter plan draw (masks a b r lent) M vec = vec
-vectorsAfter plan draw (finish r blocks blocks') M vec = at vec (r + 2) (written M vec r)
+vectorsBy plan draw (deals r) c M vec = at vec r (raised (element c) (vec r))
+vectorsBy plan draw (opens r) c M vec = vec
+vectorsBy plan draw (sums r t ts) c M vec = at vec r (totalVector vec t ts)
+vectorsBy plan draw (factors a b r) c M vec = vec
+vectorsBy plan draw (multiplies r) c M vec = at vec (r + 2) (written M vec r)
+
+-- ---- One act after the other.
+
+abbrev pub marksAll : List Act → Marks → Marks
+marksAll [] M = M
+marksAll (a ∷ todo) M = marksAll todo (marksBy a M)
+
+-- the number in what is given, 0 where there is none
+abbrev pub numberIn : (t : Taking) → Given Actual t → ℕ
+numberIn nothingTaken x = 0
+numberIn (aRowPack r) x = 0
+numberIn (aTriplePack r) x = 0
+numberIn (aNumber r) x = x
+numberIn (aRecord r) x = 0
+numberIn (twoRecords r) x = 0
+
+-- `num` gives the number that a move takes
+abbrev pub vectorsAll : Plan → Draw → {K : Kinds} → ((t : Taking) → Given K t → ℕ) → List (Move K) → Marks → (ℕ → Vector) → ℕ → Vector
+vectorsAll plan draw num [] M vec = vec
+vectorsAll plan draw num (m ∷ ms) M vec =
+    vectorsAll plan draw num ms (marksBy (m .0) M) (vectorsBy plan draw (m .0) (num (takes (m .0)) (m .1)) M vec)

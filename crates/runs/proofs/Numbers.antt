@@ -13,7 +13,7 @@ use Rattle.field.specs.Algebra.{CommutativeRing}
 use Rattle.field.specs.Element.{Element, element}
 use Rattle.field.proofs.Expression.{A, B, C, D, 𝟘, 𝟙, _:+_, _:*_, _:-_, :-_, Same}
 use Rattle.field.proofs.Solver.{solve}
-use Rattle.field.proofs.Elements.{𝓡, element-zero, element-one, element-sum, element-product, element-difference, element-of-number}
+use Rattle.field.proofs.Elements.{𝓡, element-zero, element-one, element-product, element-difference, element-of-number}
 use Rattle.poly.specs.Counting.{Elements}
 use Rattle.refusal.specs.Refusal.{outcome}
 use Rattle.refusal.proofs.Elements.{element-test}
@@ -22,7 +22,8 @@ use Rattle.vectors.specs.Vector.{Vector, plusTimes, raised, number, vectorOf}
 use Rattle.vectors.proofs.Linear.{number-plusTimes}
 use Rattle.vectors.proofs.Draws.{element-at}
 use Rattle.runs.specs.Draws.{Plan, Draw, IsDraw, rowLength, rawDraw, tripleDraw}
-use Rattle.runs.proofs.Marks.{less, productVector, rawVector, vectorA, vectorB, vectorAB}
+use Rattle.runs.proofs.Marks.{less, rawVector, vectorA, vectorB, vectorAB}
+use Rattle.runs.proofs.Sums.{productVector}
 open CommutativeRing 𝓡 using (add as _⊕_, mul as _⊗_, neg, zero as 0ᴱ, one as 1ᴱ)
 
 infixl 65 _⊕_
@@ -37,13 +38,6 @@ minus-one =
 pub less-number : (S L : Vector) → number (less S L) ≡ number S ⊕ neg 1ᴱ ⊗ number L
 less-number S L =
     number-plusTimes (element (p - 1)) S L ∙ ap (λ (z : Element). number S ⊕ z ⊗ number L) minus-one
-
--- a + s b
-pub summed-number : (s a b : ℕ) (S Z : Vector) → number S ≡ element a → number Z ≡ element b
-    → number (plusTimes (element s) S Z) ≡ element (sum a (product s b))
-summed-number s a b S Z ea eb =
-    number-plusTimes (element s) S Z ∙ ap₂ (λ (x y : Element). x ⊕ element s ⊗ y) ea eb
-    ∙ sym (element-sum a (product s b) ∙ ap (λ (z : Element). element a ⊕ z) (element-product s b))
 
 -- c added to a vector's dealer's number is added to its number
 pub raised-number : (c : Element) (S : Vector) → number (raised c S) ≡ number S ⊕ c

@@ -1,21 +1,24 @@
 -- What a call gives, by its refusal: the post as it came, or the call's own session and rows.
-use Prim.Native.Nat.{ℕ, zero, suc}
-use mathlib.Core.Path.{_≡_, refl}
+use Prim.Native.Nat.{ℕ, zero, suc, _+_}
+use mathlib.Core.Path.{_≡_, refl, _∙_, ap, ap₂}
 use mathlib.Core.Bool.{Bool, false}
 use mathlib.Core.List.{List, [], _∷_}
 use native.Mathlib.Omega.{arith}
 use Rattle.refusal.specs.Refusal.{Test, _when_, first, outcome, AllFail}
 use Rattle.refusal.proofs.Laws.{Numbered, all-fail}
 use Rattle.session.specs.declared.Session.{Session}
-use Rattle.session.specs.Sessions.{answer}
-use Rattle.sharing.specs.Load.{loadRowRefusal, loadTripleRefusal}
+use Rattle.session.specs.Sessions.{answer, marked, remembering}
+use Rattle.session.specs.Rows.{width, coefficients, sumsAt, rowAt, withRow, combined, plusSums}
+use Rattle.sharing.specs.Load.{loadRowRefusal, loadTripleRefusal, withTriple}
 use Rattle.sharing.specs.Deal.{dealRefusal}
 use Rattle.sharing.specs.Message.{messageRefusal}
 use Rattle.sharing.specs.Linear.{linearRefusal}
+use Rattle.opening.specs.Walking.{opened}
 use Rattle.opening.specs.Opening.{openRefusal}
-use Rattle.product.specs.Masks.{masksRefusal}
-use Rattle.product.specs.Finish.{finishRefusal}
-use Rattle.runs.specs.Calls.{Post, Call, loadRow, loadTriple, deal, message, opening, linear, masks, finish, perform, after}
+use Rattle.product.specs.Masks.{masksRefusal, maskNumbersOf}
+use Rattle.product.specs.Finish.{finishRefusal, withProduct, maskA, maskB}
+use Rattle.runs.specs.Outline.{loadRow, loadTriple, deal, message, opening, linear, masks, finish, Sending}
+use Rattle.runs.specs.Calls.{Post, Call, Left, left, perform, after, lineOf, sentIf, sentBy}
 
 -- ---- no refusal: every test fails, read by its place in the list
 
@@ -57,56 +60,121 @@ unfolding outcome
 returned zero v new old l' l j e = absurd (omega arith)
 returned (suc k) v new old l' l j e = refl
 
--- a call that changes neither session nor rows
-pub unmoved : (k v : ℕ) (q : Post) → _≡_ {A = Post} (record { session = answer k v (q .session) (q .session) .session; rows = q .rows }) q
-unfolding outcome
-unmoved zero v q = refl
-unmoved (suc k) v q = refl
-
--- a call that changes the session alone
-pub resettled : (k v : ℕ) (new old : Session) (l : List ℕ) → k ≡ 0
-    → _≡_ {A = Post} (record { session = answer k v new old .session; rows = l }) (record { session = new; rows = l })
-unfolding outcome
-resettled zero v new old l z = refl
-resettled (suc k) v new old l z = absurd (omega arith)
-
-rereturned : (k v : ℕ) (new old : Session) (l : List ℕ) (j : ℕ) → k ≡ suc j
-    → _≡_ {A = Post} (record { session = answer k v new old .session; rows = l }) (record { session = old; rows = l })
-unfolding outcome
-rereturned zero v new old l j e = absurd (omega arith)
-rereturned (suc k) v new old l j e = refl
-
 -- ---- the calls
 
+-- What a call does at a post: its refusal; and, where that is 0, its value, the session, the rows, and what is written into the
+-- list that it was lent.
+pub record Doing : Type 0 where
+  pub refusal : ℕ
+  pub value : ℕ
+  pub session : Session
+  pub rows : List ℕ
+  pub lent : List (List ℕ)
+  pub written : List (List ℕ)
+
+abbrev changes : ℕ → Session → List ℕ → Doing
+changes k s rows = record { refusal = k; value = 0; session = s; rows = rows; lent = []; written = [] }
+
+abbrev writes : ℕ → Session → List ℕ → List ℕ → List ℕ → Doing
+writes k s rows lent written = record { refusal = k; value = 0; session = s; rows = rows; lent = lent ∷ []; written = written ∷ [] }
+
+abbrev pub does : Call → Post → Doing
+does (loadRow x) q =
+    let s = q .session in
+    changes (loadRowRefusal s (q .rows) (x .r) (x .pack)) (marked s (x .r) 1) (withRow (width s) (x .r) (x .pack) (q .rows))
+does (loadTriple x) q =
+    let s = q .session in
+    changes (loadTripleRefusal s (q .rows) (x .r) (x .pack)) (marked (marked (marked s (x .r) 3) (x .r + 1) 4) (x .r + 2) 4)
+    (withTriple (width s) (x .r) (x .pack) (q .rows))
+does (deal x) q =
+    let s = q .session in
+    changes (dealRefusal s (q .rows) (x .r) (x .c)) (marked s (x .r) 2)
+    (withRow (width s) (x .r) (plusSums (sumsAt s) (x .c) (rowAt (width s) (q .rows) (x .r))) (q .rows))
+does (message x) q =
+    let s = q .session in
+    writes (messageRefusal s (q .rows) (x .r) (x .lent)) s (q .rows) (x .lent) (coefficients s (rowAt (width s) (q .rows) (x .r)))
+does (opening x) q =
+    let s = q .session in
+    record {
+      refusal = openRefusal s (q .rows) (x .r) (x .blocks);
+      value = opened s (rowAt (width s) (q .rows) (x .r)) (x .blocks);
+      session = s;
+      rows = q .rows;
+      lent = [];
+      written = [];
+    }
+does (linear x) q =
+    let s = q .session in
+    changes (linearRefusal s (q .rows) (x .r) (x .a) (x .b) (x .scale)) (marked s (x .r) 2)
+    (withRow (width s) (x .r) (combined (x .scale) (rowAt (width s) (q .rows) (x .a)) (rowAt (width s) (q .rows) (x .b))) (q .rows))
+does (masks x) q =
+    let s = q .session in
+    writes (masksRefusal s (q .rows) (x .a) (x .b) (x .r) (x .lent)) (remembering (marked s (x .r) 5) (x .r) (x .a) (x .b)) (q .rows)
+    (x .lent) (maskNumbersOf s (q .rows) (x .a) (x .b) (x .r))
+does (finish x) q =
+    let s = q .session in
+    changes (finishRefusal s (q .rows) (x .r) (x .blocks) (x .blocks')) (marked (marked (marked s (x .r) 6) (x .r + 1) 6) (x .r + 2) 2)
+    (withProduct s (opened s (maskA s (q .rows) (x .r)) (x .blocks)) (opened s (maskB s (q .rows) (x .r)) (x .blocks')) (x .r) (q .rows))
+
+-- "Refused ... every lent list as it came": the answer, the rows and the lent list of every contract are of this form
+abbrev left-by : Doing → Post → Left
+left-by d q =
+    left (answer (d .refusal) (d .value) (d .session) (q .session)) (outcome (d .refusal) (d .rows) (q .rows))
+    (outcome (d .refusal) (d .written) (d .lent))
+
+-- rows, or no list lent: as they were in either case
+module _ {A : Type 0} where
+  still : (k : ℕ) (x : A) → x ≡ outcome k x x
+  unfolding outcome
+  still zero x = refl
+  still (suc k) x = refl
+
+  single : (k : ℕ) (x y : A) → outcome k x y ∷ [] ≡ outcome k (x ∷ []) (y ∷ [])
+  unfolding outcome
+  single zero x y = refl
+  single (suc k) x y = refl
+
+performs : (c : Call) (q : Post) → perform c q ≡ left-by (does c q) q
+unfolding perform
+performs (loadRow x) q = ap (left _ _) (still _ [])
+performs (loadTriple x) q = ap (left _ _) (still _ [])
+performs (deal x) q = ap (left _ _) (still _ [])
+performs (message x) q = ap₂ (left _) (still _ (q .rows)) (single _ _ _)
+performs (opening x) q = ap₂ (left _) (still _ (q .rows)) (still _ [])
+performs (linear x) q = ap (left _ _) (still _ [])
+performs (masks x) q = ap₂ (left _) (still _ (q .rows)) (single _ _ _)
+performs (finish x) q = ap (left _ _) (still _ [])
+
 abbrev pub refusalOf : Call → Post → ℕ
-refusalOf (loadRow r pack) q = loadRowRefusal (q .session) (q .rows) r pack
-refusalOf (loadTriple r pack) q = loadTripleRefusal (q .session) (q .rows) r pack
-refusalOf (deal r c) q = dealRefusal (q .session) (q .rows) r c
-refusalOf (message r lent) q = messageRefusal (q .session) (q .rows) r lent
-refusalOf (opening r blocks) q = openRefusal (q .session) (q .rows) r blocks
-refusalOf (linear r a b scale) q = linearRefusal (q .session) (q .rows) r a b scale
-refusalOf (masks a b r lent) q = masksRefusal (q .session) (q .rows) a b r lent
-refusalOf (finish r blocks blocks') q = finishRefusal (q .session) (q .rows) r blocks blocks'
+refusalOf c q = does c q .refusal
 
 pub refusal-is : (c : Call) (q : Post) → perform c q .answer .refusal ≡ refusalOf c q
-unfolding perform
-refusal-is (loadRow r pack) q = answer-refusal _ _ _ _
-refusal-is (loadTriple r pack) q = answer-refusal _ _ _ _
-refusal-is (deal r c) q = answer-refusal _ _ _ _
-refusal-is (message r lent) q = answer-refusal _ _ _ _
-refusal-is (opening r blocks) q = answer-refusal _ _ _ _
-refusal-is (linear r a b scale) q = answer-refusal _ _ _ _
-refusal-is (masks a b r lent) q = answer-refusal _ _ _ _
-refusal-is (finish r blocks blocks') q = answer-refusal _ _ _ _
+refusal-is c q = ap (λ (o : Left). o .answer .refusal) (performs c q) ∙ answer-refusal _ _ _ _
 
--- refused: the post as it came
-pub refused : (c : Call) (q : Post) (k : ℕ) → refusalOf c q ≡ suc k → after (perform c q) ≡ q
-unfolding perform
-refused (loadRow r pack) q k e = returned _ _ _ _ _ _ k e
-refused (loadTriple r pack) q k e = returned _ _ _ _ _ _ k e
-refused (deal r c) q k e = returned _ _ _ _ _ _ k e
-refused (message r lent) q k e = unmoved _ _ q
-refused (opening r blocks) q k e = unmoved _ _ q
-refused (linear r a b scale) q k e = returned _ _ _ _ _ _ k e
-refused (masks a b r lent) q k e = rereturned _ _ _ _ _ k e
-refused (finish r blocks blocks') q k e = returned _ _ _ _ _ _ k e
+pub value-is : (c : Call) (q : Post) → perform c q .answer .value ≡ answer (does c q .refusal) (does c q .value) (does c q .session) (q .session) .value
+value-is c q = ap (λ (o : Left). o .answer .value) (performs c q)
+
+-- not refused: the call's own session and rows; refused: those that it came with
+abbrev pub own : Doing → Post
+own d = record { session = d .session; rows = d .rows }
+
+pub done : (c : Call) (q : Post) → refusalOf c q ≡ 0 → after (perform c q) ≡ own (does c q)
+done c q z = ap after (performs c q) ∙ settled _ _ _ _ _ _ z
+
+pub written-is : (c : Call) (q : Post) → refusalOf c q ≡ 0 → perform c q .lent ≡ does c q .written
+written-is c q z = ap (λ (o : Left). o .lent) (performs c q) ∙ done-is _ _ _ z
+
+pub refused : (c : Call) (q : Post) (k : ℕ) → refusalOf c q ≡ suc k
+    → (perform c q .answer .session ≡ q .session) × (perform c q .rows ≡ q .rows)
+refused c q k e =
+    let h = returned _ _ _ _ _ _ k e in (
+      ap (λ (o : Left). o .answer .session) (performs c q) ∙ ap (λ (p : Post). p .session) h,
+      ap (λ (o : Left). o .rows) (performs c q) ∙ ap (λ (p : Post). p .rows) h,
+    )
+
+-- and nothing is sent
+pub silent : (i j k : ℕ) (ss : List Sending) (parts : List (List ℕ)) → j ≡ suc k → sentBy i j ss parts ≡ []
+silent i j k [] parts e = refl
+silent i j k (s ∷ ss) [] e = refl
+silent i j k (s ∷ ss) (xs ∷ parts) e =
+    ap (λ (m : ℕ). sentIf m (lineOf i s xs) (sentBy i j ss parts)) e ∙ silent i j k ss parts e

@@ -14,6 +14,9 @@ use Rattle.poly.specs.Counting.{All, Distinct, Elements}
 use Rattle.poly.proofs.Lists.{all-map}
 use Rattle.refusal.proofs.Laws.{or-false}
 use Rattle.session.specs.declared.Session.{Session}
+use Rattle.session.specs.Sessions.{shapeOf}
+use Rattle.opening.specs.Blocks as Blocks
+use Rattle.opening.specs.Accepting as Accepting
 use Rattle.opening.specs.Walking.{blockMark, blockCoefficients, badBlock, badBlocks, sent, accepts, acceptedPosts, tooFew, walk}
 use Rattle.opening.proofs.Blocks.{post-in}
 use Rattle.opening.proofs.Accepted.{all-accepted, distinct-accepted}
@@ -33,7 +36,7 @@ module _ (s : Session) (blocks : List ℕ) where
   block j = blockCoefficients (s .t + 1) blocks j
 
   good-block : (j k : ℕ) → badBlocks s blocks j k ≡ false → (x : ℕ) → j ≤ x → x < j + k → badBlock s blocks x ≡ false
-  unfolding badBlocks
+  unfolding Blocks.badBlocks
   good-block j zero e x lo hi = absurd (omega arith)
   good-block j (suc k) e x lo hi = go (ℕ-discrete x j) (λ g. good-block (suc j) k (both .1) x (omega arith) (omega arith))
     where
@@ -46,12 +49,12 @@ module _ (s : Session) (blocks : List ℕ) where
 
   module _ (j : ℕ) (lo : 1 ≤ j) (hi : j ≤ s .n) (other : j ≢ s .post) where
     pub sent-there : (row : List ℕ) → Present j → sent s row blocks j ≡ block j
-    unfolding sent
+    unfolding Blocks.sent
     sent-there row e = rw (ne-eqb j (s .post) other, eq-eqb (blockMark (s .t + 1) blocks j) 1 e)
 
     -- a post that is accepted has its block there
     pub accepted-there : (row : List ℕ) → accepts s row blocks j ≡ true → Present j
-    unfolding accepts sent
+    unfolding Accepting.accepts Blocks.sent
     accepted-there row a = go (ℕ-discrete (blockMark (s .t + 1) blocks j) 1)
       where
         go : Dec (blockMark (s .t + 1) blocks j ≡ 1) → Present j
@@ -62,13 +65,13 @@ module _ (s : Session) (blocks : List ℕ) where
 
     module _ (proper : Proper s blocks) (there : Present j) where
       block-room : (j - 1) * (s .t + 1 + 1) + 1 + (s .t + 1) ≤ length blocks
-      block-room = omega (arith, post-in s j lo hi .room, proper .long)
+      block-room = omega (arith, post-in (shapeOf s) j lo hi .room, proper .long)
 
       pub block-many : length (block j) ≡ s .t + 1
       block-many = length-take-le (s .t + 1) (drop ((j - 1) * (s .t + 1 + 1) + 1) blocks) (omega (arith, block-room, length-drop ((j - 1) * (s .t + 1 + 1) + 1) blocks))
 
       pub block-low : Elements (block j)
-      unfolding badBlock
+      unfolding Blocks.badBlock
       block-low =
           let good = good-block 1 (s .n) (proper .low) j lo (omega arith) in
           elements-of (block j) (rw (ne-eqb j (s .post) other, there) at good)
@@ -76,7 +79,7 @@ module _ (s : Session) (blocks : List ℕ) where
   -- ---- the own polynomial, and all of them
 
   pub own-true : (S : Vector) → Truly s S blocks (s .post)
-  unfolding sent
+  unfolding Blocks.sent
   own-true S = rw (eq-eqb (s .post) (s .post) refl) (own-numbers (s .t + 1) (s .n) (s .post) (element (s .point)) S)
 
   -- the walk takes posts of 1..n that pass

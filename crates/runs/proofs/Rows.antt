@@ -1,42 +1,43 @@
 -- What a call that is not refused makes of each row: it turns the row's mark, or leaves the row as it is.
 use Prim.Native.Nat.{ℕ, suc, _+_, _<_}
-use mathlib.Core.Path.{_≡_, refl, sym, _∙_, subst}
+use mathlib.Core.Path.{_≡_, refl, sym, _∙_, ap, subst}
 use mathlib.Core.Logic.{_≢_, _⊎_, inl, inr}
-use mathlib.Core.List.{List}
+use mathlib.Core.List.{List, [], _∷_, map}
 use native.Mathlib.Decide.{ℕ-discrete, decLt}
 use native.Mathlib.Omega.{arith}
 use lib.ListN.{length-set, List·getD-eq-default}
 use lib.Seq.{getD-set-same, getD-set-other}
 use Rattle.vectors.specs.Vector.{Vector}
 use Rattle.runs.specs.Draws.{Plan, Draw}
-use Rattle.runs.specs.Calls.{Call, loadRow, loadTriple, deal, message, opening, linear, masks, finish, at}
-use Rattle.runs.proofs.Marks.{at-other, Marks, markOf, leftOf, rightOf, Sized, remarked, masked, rawVector, marksAfter, vectorsAfter}
-use Rattle.runs.proofs.Facts.{Allowed, MasksAt}
+use Rattle.runs.specs.Outline.{Kinds, Act, loads, loadsTriple, deals, opens, Summand, sums, factors, multiplies, Taking, takes, Given, Move, actsIn}
+use Rattle.runs.specs.Calls.{Among, at}
+use Rattle.runs.proofs.Marks.{at-other, Marks, markOf, leftOf, rightOf, Sized, remarked, rawVector, Mark, Masking, none, of, masking, marksOf, markAll, remembered, marksBy, vectorsBy, marksAll, vectorsAll}
+use Rattle.runs.proofs.Facts.{Maskable, AllowedBy, AllowedAll, MasksBy, MasksIn}
 
 -- ---- The rows that a call writes: which, the mark before, the mark after.
 
-pub data Turn : Call → ℕ → ℕ → ℕ → Type 0 where
-  raw : {r : ℕ} {pack : List ℕ} → Turn (loadRow r pack) r 0 1
-  first : {r : ℕ} {pack : List ℕ} → Turn (loadTriple r pack) r 0 3
-  second : {r : ℕ} {pack : List ℕ} → Turn (loadTriple r pack) (r + 1) 0 4
-  third : {r : ℕ} {pack : List ℕ} → Turn (loadTriple r pack) (r + 2) 0 4
-  dealt : {r c : ℕ} → Turn (deal r c) r 1 2
-  summed : {r a b scale : ℕ} → Turn (linear r a b scale) r 0 2
-  waiting : {a b r : ℕ} {lent : List ℕ} → Turn (masks a b r lent) r 3 5
-  spent : {r : ℕ} {blocks blocks' : List ℕ} → Turn (finish r blocks blocks') r 5 6
-  spent' : {r : ℕ} {blocks blocks' : List ℕ} → Turn (finish r blocks blocks') (r + 1) 4 6
-  multiplied : {r : ℕ} {blocks blocks' : List ℕ} → Turn (finish r blocks blocks') (r + 2) 4 2
+pub data Turn : Act → ℕ → ℕ → ℕ → Type 0 where
+  raw : {r : ℕ} → Turn (loads r) r 0 1
+  first : {r : ℕ} → Turn (loadsTriple r) r 0 3
+  second : {r : ℕ} → Turn (loadsTriple r) (r + 1) 0 4
+  third : {r : ℕ} → Turn (loadsTriple r) (r + 2) 0 4
+  dealt : {r : ℕ} → Turn (deals r) r 1 2
+  summed : {r : ℕ} {t : Summand} {ts : List Summand} → Turn (sums r t ts) r 0 2
+  waiting : {a b r : ℕ} → Turn (factors a b r) r 3 5
+  spent : {r : ℕ} → Turn (multiplies r) r 5 6
+  spent' : {r : ℕ} → Turn (multiplies r) (r + 1) 4 6
+  multiplied : {r : ℕ} → Turn (multiplies r) (r + 2) 4 2
 
-from-two : {A : Type 0} {c : Call} {q m : ℕ} → Turn c q 2 m → A
+from-two : {A : Type 0} {a : Act} {q m : ℕ} → Turn a q 2 m → A
 from-two t = elim t [ ]
 
-from-six : {A : Type 0} {c : Call} {q m : ℕ} → Turn c q 6 m → A
+from-six : {A : Type 0} {a : Act} {q m : ℕ} → Turn a q 6 m → A
 from-six t = elim t [ ]
 
-from-five : {c : Call} {q m : ℕ} → Turn c q 5 m → m ≡ 6
+from-five : {a : Act} {q m : ℕ} → Turn a q 5 m → m ≡ 6
 from-five spent = refl
 
-to-five : {c : Call} {q m : ℕ} → Turn c q m 5 → MasksAt c q
+to-five : {a : Act} {q m : ℕ} → Turn a q m 5 → MasksBy (masking a) q
 to-five waiting = refl
 
 -- ---- Marks that are written.
@@ -63,7 +64,7 @@ other M r m vec vec' q ne e = record { mark = past M r m q ne; left = refl; righ
 off-one : (M : Marks) (r m : ℕ) (vec : ℕ → Vector) (X : Vector) (q : ℕ) → q ≢ r → Same M (remarked M r m) vec (at vec r X) q
 off-one M r m vec X q ne = other M r m vec (at vec r X) q ne (at-other vec r X q ne)
 
-pub off-masks : (M : Marks) (r a b : ℕ) (vec : ℕ → Vector) (q : ℕ) → q ≢ r → Same M (masked M r a b) vec vec q
+pub off-masks : (M : Marks) (r a b : ℕ) (vec : ℕ → Vector) (q : ℕ) → q ≢ r → Same M (marksBy (factors a b r) M) vec vec q
 off-masks M r a b vec q ne = record {
   mark = past M r 5 q ne;
   left = getD-set-other (M .left) r q a 0 ne;
@@ -94,9 +95,6 @@ module _ (M : Marks) (r x y z : ℕ) where
   off-three vec vec' q n n' n'' e =
       twice (other M r x vec vec q n refl) (twice (other one (r + 1) y vec vec q n' refl) (other two (r + 2) z vec vec' q n'' e))
 
-  sized-three : Sized M → Sized three
-  sized-three s = sized-at two (r + 2) z (sized-at one (r + 1) y (sized-at M r x s))
-
   pub on-three : Sized M → r < 94 → (markOf three r ≡ x) × (markOf three (r + 1) ≡ y) × (markOf three (r + 2) ≡ z)
   on-three s low =
       let s₁ = sized-at M r x s in
@@ -109,59 +107,58 @@ module _ (M : Marks) (r x y z : ℕ) where
 -- ---- Each row's course: its mark turns, or the row is left as it is.
 
 module _ (plan : Plan) (draw : Draw) where
-  pub data Course (c : Call) (M : Marks) (vec : ℕ → Vector) (q : ℕ) : Type 0 where
-    turned : Turn c q (markOf M q) (markOf (marksAfter c M) q) → Course c M vec q
-    same : Same M (marksAfter c M) vec (vectorsAfter plan draw c M vec) q → Course c M vec q
+  pub data Course (a : Act) (c : ℕ) (M : Marks) (vec : ℕ → Vector) (q : ℕ) : Type 0 where
+    turned : Turn a q (markOf M q) (markOf (marksBy a M) q) → Course a c M vec q
+    same : Same M (marksBy a M) vec (vectorsBy plan draw a c M vec) q → Course a c M vec q
 
   -- row r is written, every other row has a course of its own
-  module _ {c : Call} {M : Marks} {vec : ℕ → Vector} where
-    turns : {r m m' : ℕ} → markOf M r ≡ m → markOf (marksAfter c M) r ≡ m' → Turn c r m m' → Course c M vec r
+  module _ {a : Act} {c : ℕ} {M : Marks} {vec : ℕ → Vector} where
+    turns : {r m m' : ℕ} → markOf M r ≡ m → markOf (marksBy a M) r ≡ m' → Turn a r m m' → Course a c M vec r
     turns e e' t = turned (rw (e, e') t)
 
-    at-row : (r q : ℕ) → Course c M vec r → (q ≢ r → Course c M vec q) → Course c M vec q
-    at-row r q here there = elim (ℕ-discrete q r) [ yes e ↦ subst (Course c M vec) (sym e) here | no ne ↦ there ne ]
+    at-row : (r q : ℕ) → Course a c M vec r → (q ≢ r → Course a c M vec q) → Course a c M vec q
+    at-row r q here there = elim (ℕ-discrete q r) [ yes e ↦ subst (Course a c M vec) (sym e) here | no ne ↦ there ne ]
 
-  pub course : (c : Call) (M : Marks) (vec : ℕ → Vector) → Sized M → Allowed c M → (q : ℕ) → Course c M vec q
-  course (loadRow r pack) M vec z ok q = at-row r q (turns (ok .1) (now M r 1 z (ok .0)) raw) (λ n. same (off-one M r 1 vec _ q n))
-  course (loadTriple r pack) M vec z ok q =
-      let k = on-three M r 3 4 4 z (ok .0) in
-      at-row r q (turns (ok .1) (k .0) first) (λ n.
-      at-row (r + 1) q (turns (ok .2) (k .1) second) (λ n'.
-      at-row (r + 2) q (turns (ok .3) (k .2) third) (λ n''.
+  pub course : (a : Act) (c : ℕ) (M : Marks) (vec : ℕ → Vector) → Sized M → AllowedBy a M → (q : ℕ) → Course a c M vec q
+  course (loads r) c M vec z ok q = at-row r q (turns (ok .0 .1) (now M r 1 z (ok .0 .0)) raw) (λ n. same (off-one M r 1 vec _ q n))
+  course (loadsTriple r) c M vec z ok q =
+      let k = on-three M r 3 4 4 z (ok .0 .0) in
+      at-row r q (turns (ok .0 .1) (k .0) first) (λ n.
+      at-row (r + 1) q (turns (ok .0 .2) (k .1) second) (λ n'.
+      at-row (r + 2) q (turns (ok .0 .3) (k .2) third) (λ n''.
       same (off-three M r 3 4 4 vec _ q n n' n'' (at-other _ (r + 2) _ q n'' ∙ at-other _ (r + 1) _ q n' ∙ at-other vec r _ q n)))))
-  course (deal r c) M vec z ok q = at-row r q (turns (ok .1) (now M r 2 z (ok .0)) dealt) (λ n. same (off-one M r 2 vec _ q n))
-  course (message r lent) M vec z ok q = same (record { mark = refl; left = refl; right = refl; vector = refl })
-  course (opening r blocks) M vec z ok q = same (record { mark = refl; left = refl; right = refl; vector = refl })
-  course (linear r a b scale) M vec z ok q =
-      at-row r q (turns (ok .r-empty) (now M r 2 z (ok .r-low)) summed) (λ n. same (off-one M r 2 vec _ q n))
-  course (masks a b r lent) M vec z ok q =
-      at-row r q (turns (ok .first) (now M r 5 z (omega arith)) waiting) (λ n. same (off-masks M r a b vec q n))
-  course (finish r blocks blocks') M vec z ok q =
-      let k = on-three M r 6 6 2 z (ok .r-low) in
-      at-row r q (turns (ok .first) (k .0) spent) (λ n.
-      at-row (r + 1) q (turns (ok .second) (k .1) spent') (λ n'.
-      at-row (r + 2) q (turns (ok .third) (k .2) multiplied) (λ n''.
+  course (deals r) c M vec z ok q = at-row r q (turns (ok .0 .1) (now M r 2 z (ok .0 .0)) dealt) (λ n. same (off-one M r 2 vec _ q n))
+  course (opens r) c M vec z ok q = same (record { mark = refl; left = refl; right = refl; vector = refl })
+  course (sums r t ts) c M vec z ok q =
+      at-row r q (turns (ok .0 .r-empty) (now M r 2 z (ok .0 .r-low)) summed) (λ n. same (off-one M r 2 vec _ q n))
+  course (factors x y r) c M vec z ok q =
+      at-row r q (turns (ok .1 .first) (now M r 5 z (omega arith)) waiting) (λ n. same (off-masks M r x y vec q n))
+  course (multiplies r) c M vec z ok q =
+      let k = on-three M r 6 6 2 z (ok .0 .r-low) in
+      at-row r q (turns (ok .0 .first) (k .0) spent) (λ n.
+      at-row (r + 1) q (turns (ok .0 .second) (k .1) spent') (λ n'.
+      at-row (r + 2) q (turns (ok .0 .third) (k .2) multiplied) (λ n''.
       same (off-three M r 6 6 2 vec _ q n n' n'' (at-other vec (r + 2) _ q n'')))))
 
   -- ---- What stays.
 
   -- held rows, with their vectors
-  pub held-stays : (c : Call) (M : Marks) (vec : ℕ → Vector) → Sized M → Allowed c M → (q : ℕ) → markOf M q ≡ 2
-      → (markOf (marksAfter c M) q ≡ 2) × (vectorsAfter plan draw c M vec q ≡ vec q)
-  held-stays c M vec z ok q h = elim (course c M vec z ok q) [ turned t ↦ from-two (rw h at t) | same s ↦ (s .mark ∙ h, s .vector) ]
+  pub held-by : (a : Act) (c : ℕ) (M : Marks) (vec : ℕ → Vector) → Sized M → AllowedBy a M → (q : ℕ) → markOf M q ≡ 2
+      → (markOf (marksBy a M) q ≡ 2) × (vectorsBy plan draw a c M vec q ≡ vec q)
+  held-by a c M vec z ok q h = elim (course a c M vec z ok q) [ turned t ↦ from-two (rw h at t) | same s ↦ (s .mark ∙ h, s .vector) ]
 
   -- a row whose mark is 5 or 6: it stays so
-  pub past-stays : (c : Call) (M : Marks) → Sized M → Allowed c M → (q : ℕ) → (markOf M q ≡ 5) ⊎ (markOf M q ≡ 6)
-      → (markOf (marksAfter c M) q ≡ 5) ⊎ (markOf (marksAfter c M) q ≡ 6)
-  past-stays c M z ok q h = elim (course c M (rawVector plan draw) z ok q) [
+  pub past-by : (a : Act) (M : Marks) → Sized M → AllowedBy a M → (q : ℕ) → (markOf M q ≡ 5) ⊎ (markOf M q ≡ 6)
+      → (markOf (marksBy a M) q ≡ 5) ⊎ (markOf (marksBy a M) q ≡ 6)
+  past-by a M z ok q h = elim (course a 0 M (rawVector plan draw) z ok q) [
     | turned t ↦ elim h [ inl e ↦ inr (from-five (rw e at t)) | inr e ↦ from-six (rw e at t) ]
     | same s ↦ rw (s .mark) h
   ]
 
-  -- a triple waits after a call: it waited before, with the same factors, or these are its masks
-  pub five-before : (c : Call) (M : Marks) → Sized M → Allowed c M → (q : ℕ) → q < 96 → markOf (marksAfter c M) q ≡ 5
-      → ((markOf M q ≡ 5) × (leftOf (marksAfter c M) q ≡ leftOf M q) × (rightOf (marksAfter c M) q ≡ rightOf M q)) ⊎ MasksAt c q
-  five-before c M z ok q low h = elim (course c M (rawVector plan draw) z ok q) [
+  -- a triple waits after an act: it waited before, with the same factors, or these are its masks
+  pub five-by : (a : Act) (M : Marks) → Sized M → AllowedBy a M → (q : ℕ) → q < 96 → markOf (marksBy a M) q ≡ 5
+      → ((markOf M q ≡ 5) × (leftOf (marksBy a M) q ≡ leftOf M q) × (rightOf (marksBy a M) q ≡ rightOf M q)) ⊎ MasksBy (masking a) q
+  five-by a M z ok q low h = elim (course a 0 M (rawVector plan draw) z ok q) [
     | turned t ↦ inr (to-five (rw h at t))
     | same s ↦ inl (sym (s .mark) ∙ h, s .left, s .right)
   ]
@@ -174,16 +171,84 @@ marked-low M z r m e = elim (decLt r 96) [
   | no high ↦ absurd (omega (arith, List·getD-eq-default (M .marks) 0 {n = r} (omega arith)))
 ]
 
-pub sized-after : (c : Call) (M : Marks) → Sized M → Sized (marksAfter c M)
-sized-after (loadRow r pack) M z = sized-at M r 1 z
-sized-after (loadTriple r pack) M z = sized-three M r 3 4 4 z
-sized-after (deal r c) M z = sized-at M r 2 z
-sized-after (message r lent) M z = z
-sized-after (opening r blocks) M z = z
-sized-after (linear r a b scale) M z = sized-at M r 2 z
-sized-after (masks a b r lent) M z = record {
-  marks = length-set (M .marks) r 5 ∙ z .marks;
-  left = length-set (M .left) r a ∙ z .left;
-  right = length-set (M .right) r b ∙ z .right;
-}
-sized-after (finish r blocks blocks') M z = sized-three M r 6 6 2 z
+pub sized-marks : (ms : List Mark) (M : Marks) → Sized M → Sized (markAll ms M)
+sized-marks [] M z = z
+sized-marks (m ∷ ms) M z = sized-marks ms (remarked M (m .row) (m .is)) (sized-at M (m .row) (m .is) z)
+
+sized-notes : (m : Masking) (M : Marks) → Sized M → Sized (remembered m M)
+sized-notes none M z = z
+sized-notes (of a b r) M z =
+    record { marks = length-set (M .marks) r 5 ∙ z .marks; left = length-set (M .left) r a ∙ z .left; right = length-set (M .right) r b ∙ z .right }
+
+pub sized-by : (a : Act) (M : Marks) → Sized M → Sized (marksBy a M)
+sized-by a M z = sized-notes (masking a) (markAll (marksOf a) M) (sized-marks (marksOf a) M z)
+
+-- ---- One act after the other.
+
+pub sized-after : (todo : List Act) (M : Marks) → Sized M → Sized (marksAll todo M)
+sized-after [] M z = z
+sized-after (a ∷ todo) M z = sized-after todo (marksBy a M) (sized-by a M z)
+
+module _ (plan : Plan) (draw : Draw) where
+  pub held-stays : {K : Kinds} (num : (t : Taking) → Given K t → ℕ) (ms : List (Move K)) (M : Marks) (vec : ℕ → Vector) → Sized M
+      → AllowedAll (actsIn ms) M → (q : ℕ) → markOf M q ≡ 2
+      → (markOf (marksAll (actsIn ms) M) q ≡ 2) × (vectorsAll plan draw num ms M vec q ≡ vec q)
+  held-stays num [] M vec z ok q h = (h, refl)
+  held-stays num (m ∷ ms) M vec z ok q h =
+      let a = m .0 in
+      let c = num (takes a) (m .1) in
+      let k = held-by plan draw a c M vec z (ok .0) q h in
+      let l = held-stays num ms (marksBy a M) (vectorsBy plan draw a c M vec) (sized-by a M z) (ok .1) q (k .0) in
+      (l .0, l .1 ∙ k .1)
+
+  pub past-stays : (todo : List Act) (M : Marks) → Sized M → AllowedAll todo M → (q : ℕ) → (markOf M q ≡ 5) ⊎ (markOf M q ≡ 6)
+      → (markOf (marksAll todo M) q ≡ 5) ⊎ (markOf (marksAll todo M) q ≡ 6)
+  past-stays [] M z ok q h = h
+  past-stays (a ∷ todo) M z ok q h = past-stays todo (marksBy a M) (sized-by a M z) (ok .1) q (past-by plan draw a M z (ok .0) q h)
+
+  pub five-before : (todo : List Act) (M : Marks) → Sized M → AllowedAll todo M → (q : ℕ) → q < 96 → markOf (marksAll todo M) q ≡ 5
+      → ((markOf M q ≡ 5) × (leftOf (marksAll todo M) q ≡ leftOf M q) × (rightOf (marksAll todo M) q ≡ rightOf M q)) ⊎ MasksIn todo q
+  five-before [] M z ok q low h = inl (h, refl, refl)
+  five-before (a ∷ todo) M z ok q low h = elim (five-before todo (marksBy a M) (sized-by a M z) (ok .1) q low h) [
+    | inr m ↦ inr (inr m)
+    | inl k ↦ elim (five-by plan draw a M z (ok .0) q low (k .0)) [
+      | inr m ↦ inr (inl m)
+      | inl l ↦ inl (l .0, k .1 ∙ l .1, k .2 ∙ l .2)
+    ]
+  ]
+
+-- ---- Masks: of an unused triple, which then waits with these factors.
+
+young : (m : Masking) (M : Marks) → Maskable m M → (r : ℕ) → MasksBy m r → (markOf M r ≡ 5) ⊎ (markOf M r ≡ 6) → ⊥
+young none M al r at past = at
+young (of x y r') M al r at (inl five) = omega (arith, ap (markOf M) at, al .first, five)
+young (of x y r') M al r at (inr six) = omega (arith, ap (markOf M) at, al .first, six)
+
+waiting-now : (m : Masking) (M : Marks) (x y r : ℕ) → Sized M → r < 94 → of x y r ≡ m
+    → (markOf (remembered m M) r ≡ 5) × (leftOf (remembered m M) r ≡ x) × (rightOf (remembered m M) r ≡ y)
+waiting-now m M x y r z low e =
+    subst (λ (w : Masking). (markOf (remembered w M) r ≡ 5) × (leftOf (remembered w M) r ≡ x) × (rightOf (remembered w M) r ≡ y)) e (
+      getD-set-same (M .marks) r 5 0 (omega (arith, z .marks)),
+      getD-set-same (M .left) r x 0 (omega (arith, z .left)),
+      getD-set-same (M .right) r y 0 (omega (arith, z .right)),
+    )
+
+module _ (plan : Plan) (draw : Draw) where
+  pub unmasked : (todo : List Act) (M : Marks) → Sized M → AllowedAll todo M → (r : ℕ) → MasksIn todo r → (markOf M r ≡ 5) ⊎ (markOf M r ≡ 6) → ⊥
+  unmasked (a ∷ todo) M z al r (inl at) past = young (masking a) M (al .0 .1) r at past
+  unmasked (a ∷ todo) M z al r (inr at) past =
+      unmasked todo (marksBy a M) (sized-by a M z) (al .1) r at (past-by plan draw a M z (al .0) r past)
+
+  pub waits-after : (todo : List Act) (M : Marks) → Sized M → AllowedAll todo M → (x y r : ℕ) → r < 94 → Among (of x y r) (map masking todo)
+      → ((markOf (marksAll todo M) r ≡ 5) ⊎ (markOf (marksAll todo M) r ≡ 6))
+      × (markOf (marksAll todo M) r ≡ 5 → (leftOf (marksAll todo M) r ≡ x) × (rightOf (marksAll todo M) r ≡ y))
+  waits-after (a ∷ todo) M z al x y r low (inr there) = waits-after todo (marksBy a M) (sized-by a M z) (al .1) x y r low there
+  waits-after (a ∷ todo) M z al x y r low (inl e) =
+      let h = waiting-now (masking a) (markAll (marksOf a) M) x y r (sized-marks (marksOf a) M z) low e in (
+        past-stays plan draw todo (marksBy a M) (sized-by a M z) (al .1) r (inl (h .0)),
+        λ five.
+            elim (five-before plan draw todo (marksBy a M) (sized-by a M z) (al .1) r (omega arith) five) [
+              | inl k ↦ (k .1 ∙ h .1, k .2 ∙ h .2)
+              | inr at ↦ absurd (unmasked todo (marksBy a M) (sized-by a M z) (al .1) r at (inl (h .0)))
+            ],
+      )

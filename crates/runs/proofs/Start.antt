@@ -1,7 +1,7 @@
 -- Where a run starts: new sessions, whose rows are all empty. And n and t, as 1 and 2 leave them.
 use Prim.Native.Nat.{ℕ, zero, suc, _-_, _≤_, _<_}
 use mathlib.Core.Path.{_≡_, refl, _∙_, ap₂}
-use mathlib.Core.Bool.{false}
+use mathlib.Core.Bool.{false, _||_}
 use mathlib.Core.Logic.{inl, inr}
 use mathlib.Core.List.{List, [], _∷_}
 use native.Mathlib.Decide.{decLt}
@@ -11,7 +11,7 @@ use lib.ListN.{length, getD, replicate, length-replicate, getD-replicate, List·
 use Rattle.field.specs.Modulus.{p}
 use Rattle.poly.specs.Counting.{All}
 use Rattle.refusal.specs.Refusal.{_when_, first, orElse, outcome}
-use Rattle.refusal.specs.Conditions.{or, outside, badPoint, postsTests}
+use Rattle.refusal.specs.Conditions.{outside, badPoint, postsTests}
 use Rattle.refusal.proofs.Laws.{first-join, not-refused, all-fail, inside}
 use Rattle.refusal.proofs.Elements.{element-test}
 use Rattle.session.specs.Sessions.{sessionOf, sessionTests, created, answer}
@@ -67,11 +67,11 @@ module _ (plan : Plan) (draw : Draw) (sound : Sound plan) (is : IsDraw plan draw
 
   -- 1 to 4 let the post pass
   pub post-passes : (i : ℕ) → 1 ≤ i → i ≤ plan .n → outside 1 (plan .n) i ≡ false
-  post-passes i lo hi = ap₂ or (le-ltb i 1 lo) (le-ltb (plan .n) i hi)
+  post-passes i lo hi = ap₂ _||_ (le-ltb i 1 lo) (le-ltb (plan .n) i hi)
 
   pub point-passes : (i : ℕ) → 1 ≤ i → i ≤ plan .n → badPoint (pointOf draw i) ≡ false
   point-passes i lo hi =
-      let w = point-in i lo hi in ap₂ or (ne-eqb (pointOf draw i) 0 (omega (arith, w .0))) (element-test (pointOf draw i) (w .1))
+      let w = point-in i lo hi in ap₂ _||_ (ne-eqb (pointOf draw i) 0 (omega (arith, w .0))) (element-test (pointOf draw i) (w .1))
 
   pub session-passes : (i : ℕ) → 1 ≤ i → i ≤ plan .n → first (sessionTests (plan .n) (plan .t) i (pointOf draw i)) ≡ 0
   session-passes i lo hi =

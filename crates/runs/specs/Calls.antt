@@ -22,45 +22,76 @@ use Rattle.product.specs.Finish.{finishAnswer, finishRows}
 use Rattle.forms.specs.Lines as Line
 use Rattle.forms.specs.Lines.{text}
 use Rattle.runs.specs.Draws.{Plan, Draw, pointOf}
+use Rattle.runs.specs.Outline.{Kinds, CallOf, Sending, itsOpening, itsMasks, sends}
 
 -- What a post keeps between calls: "each call gets the session and rows that the one before handed back".
 pub record Post : Type 0 where
   pub session : Session
   pub rows : List ℕ
 
--- A call with everything that it is given but session and rows. `lent` is the list that a message or masks are written into.
-pub data Call : Type 0 where
-  loadRow : (r : ℕ) (pack : List ℕ) → Call
-  loadTriple : (r : ℕ) (pack : List ℕ) → Call
-  deal : (r c : ℕ) → Call
-  message : (r : ℕ) (lent : List ℕ) → Call
-  opening : (r : ℕ) (blocks : List ℕ) → Call
-  linear : (r a b scale : ℕ) → Call
-  masks : (a b r : ℕ) (lent : List ℕ) → Call
-  finish : (r : ℕ) (blocks blocks' : List ℕ) → Call
+-- A call that a post makes.
+abbrev pub Actual : Kinds
+Actual = record { Pack = List ℕ; Number = ℕ; Record = List ℕ; Lent = List ℕ; Heard = Unit {0} }
 
--- What a call leaves: its answer, the rows, and the list it was lent to write into (no numbers where it was lent none).
+abbrev pub Call : Type 0
+Call = CallOf Actual
+
+-- The calls, written short.
+module _ {K : Kinds} where
+  abbrev pub loadRow : (r : ℕ) (pack : K .Pack) → CallOf K
+  loadRow r pack = CallOf.loadRow (record { r = r; pack = pack })
+
+  abbrev pub loadTriple : (r : ℕ) (pack : K .Pack) → CallOf K
+  loadTriple r pack = CallOf.loadTriple (record { r = r; pack = pack })
+
+  abbrev pub deal : (r : ℕ) (c : K .Number) → CallOf K
+  deal r c = CallOf.deal (record { r = r; c = c })
+
+  abbrev pub opening : (r : ℕ) (blocks : K .Record) → CallOf K
+  opening r blocks = CallOf.opening (record { r = r; blocks = blocks })
+
+  abbrev pub linear : (r a b scale : ℕ) → CallOf K
+  linear r a b scale = CallOf.linear (record { r = r; a = a; b = b; scale = scale })
+
+  abbrev pub masks : (a b r : ℕ) (lent : K .Lent) → CallOf K
+  masks a b r lent = CallOf.masks (record { a = a; b = b; r = r; lent = lent })
+
+  abbrev pub finish : (r : ℕ) (blocks blocks' : K .Record) → CallOf K
+  finish r blocks blocks' = CallOf.finish (record { r = r; blocks = blocks; blocks' = blocks' })
+
+abbrev pub message : (r : ℕ) (lent : List ℕ) → Call
+message r lent = CallOf.message (record { r = r; lent = lent; heard = tt })
+
+-- What a call leaves: its answer, the rows, and what stands in the list it was lent to write into, a part for each line that it
+-- sends (none where it was lent no list).
 pub record Left : Type 0 where
   pub answer : Answer
   pub rows : List ℕ
-  pub lent : List ℕ
+  pub lent : List (List ℕ)
 
-abbrev pub left : Answer → List ℕ → List ℕ → Left
+abbrev pub left : Answer → List ℕ → List (List ℕ) → Left
 left answer rows lent = record { answer = answer; rows = rows; lent = lent }
 
+-- Each call by the definitions that its contract cites.
 unfoldable pub perform : Call → Post → Left
-perform (loadRow r pack) q = left (loadRowAnswer (q .session) (q .rows) r pack) (loadRowRows (q .session) (q .rows) r pack) []
-perform (loadTriple r pack) q =
-    left (loadTripleAnswer (q .session) (q .rows) r pack) (loadTripleRows (q .session) (q .rows) r pack) []
-perform (deal r c) q = left (dealAnswer (q .session) (q .rows) r c) (dealRows (q .session) (q .rows) r c) []
-perform (message r lent) q = left (messageAnswer (q .session) (q .rows) r lent) (q .rows) (messageOut (q .session) (q .rows) r lent)
-perform (opening r blocks) q = left (openAnswer (q .session) (q .rows) r blocks) (q .rows) []
-perform (linear r a b scale) q =
-    left (linearAnswer (q .session) (q .rows) r a b scale) (linearRows (q .session) (q .rows) r a b scale) []
-perform (masks a b r lent) q =
-    left (masksAnswer (q .session) (q .rows) a b r lent) (q .rows) (masksOut (q .session) (q .rows) a b r lent)
-perform (finish r blocks blocks') q =
-    left (finishAnswer (q .session) (q .rows) r blocks blocks') (finishRows (q .session) (q .rows) r blocks blocks') []
+perform (CallOf.loadRow x) q =
+    left (loadRowAnswer (q .session) (q .rows) (x .r) (x .pack)) (loadRowRows (q .session) (q .rows) (x .r) (x .pack)) []
+perform (CallOf.loadTriple x) q =
+    left (loadTripleAnswer (q .session) (q .rows) (x .r) (x .pack)) (loadTripleRows (q .session) (q .rows) (x .r) (x .pack)) []
+perform (CallOf.deal x) q =
+    left (dealAnswer (q .session) (q .rows) (x .r) (x .c)) (dealRows (q .session) (q .rows) (x .r) (x .c)) []
+perform (CallOf.message x) q =
+    left (messageAnswer (q .session) (q .rows) (x .r) (x .lent)) (q .rows) (messageOut (q .session) (q .rows) (x .r) (x .lent) ∷ [])
+perform (CallOf.opening x) q = left (openAnswer (q .session) (q .rows) (x .r) (x .blocks)) (q .rows) []
+perform (CallOf.linear x) q =
+    left (linearAnswer (q .session) (q .rows) (x .r) (x .a) (x .b) (x .scale))
+    (linearRows (q .session) (q .rows) (x .r) (x .a) (x .b) (x .scale)) []
+perform (CallOf.masks x) q =
+    left (masksAnswer (q .session) (q .rows) (x .a) (x .b) (x .r) (x .lent)) (q .rows)
+    (masksOut (q .session) (q .rows) (x .a) (x .b) (x .r) (x .lent) ∷ [])
+perform (CallOf.finish x) q =
+    left (finishAnswer (q .session) (q .rows) (x .r) (x .blocks) (x .blocks'))
+    (finishRows (q .session) (q .rows) (x .r) (x .blocks) (x .blocks')) []
 
 -- The post after a call; and a new one, "made with the draw's n and t, its own number and the check point the draw gives it,
 -- and with any fixed numbers in the row list".
@@ -70,26 +101,29 @@ after o = record { session = o .answer .session; rows = o .rows }
 unfoldable pub newPost : Plan → Draw → List ℕ → ℕ → Post
 newPost plan draw rows i = record { session = created (plan .n) (plan .t) i (pointOf draw i) .session; rows = rows }
 
--- "to broadcast each message that is made": the bytes of the O or M line, where the call was not refused.
-abbrev pub sentIf : ℕ → List ℕ → List (List ℕ)
-sentIf zero line = line ∷ []
-sentIf (suc k) line = []
-
 abbrev pub openingLine : ℕ → ℕ → List ℕ → List ℕ
 openingLine r i xs = text (Line.opening r i xs)
 
 abbrev pub masksLine : ℕ → ℕ → List ℕ → List ℕ
 masksLine r i xs = text (Line.masks r i xs)
 
+-- The line that post i sends with the numbers xs.
+abbrev pub lineOf : ℕ → Sending → List ℕ → List ℕ
+lineOf i (itsOpening r) xs = openingLine r i xs
+lineOf i (itsMasks a b r) xs = masksLine r i xs
+
+-- "to broadcast each message that is made": the bytes of the O or M lines, where the call was not refused.
+abbrev pub sentIf : ℕ → List ℕ → List (List ℕ) → List (List ℕ)
+sentIf zero line lines = line ∷ lines
+sentIf (suc k) line lines = lines
+
+abbrev pub sentBy : ℕ → ℕ → List Sending → List (List ℕ) → List (List ℕ)
+sentBy i k [] parts = []
+sentBy i k (s ∷ ss) [] = []
+sentBy i k (s ∷ ss) (xs ∷ parts) = sentIf k (lineOf i s xs) (sentBy i k ss parts)
+
 abbrev pub broadcast : ℕ → Call → Left → List (List ℕ)
-broadcast i (loadRow r pack) o = []
-broadcast i (loadTriple r pack) o = []
-broadcast i (deal r c) o = []
-broadcast i (message r lent) o = sentIf (o .answer .refusal) (openingLine r i (o .lent))
-broadcast i (opening r blocks) o = []
-broadcast i (linear r a b scale) o = []
-broadcast i (masks a b r lent) o = sentIf (o .answer .refusal) (masksLine r i (o .lent))
-broadcast i (finish r blocks blocks') o = []
+broadcast i c o = sentBy i (o .answer .refusal) (sends c) (o .lent)
 
 -- A record that 5 and 8 let pass.
 pub record Proper (s : Session) (blocks : List ℕ) : Type 0 where

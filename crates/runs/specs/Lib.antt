@@ -1,3 +1,4 @@
 pub mod Draws
+pub mod Outline
 pub mod Calls
 pub mod Packs

@@ -5,20 +5,20 @@ use mathlib.Core.Logic.{_⊎_, inl, inr}
 use mathlib.Core.Bool.{cond}
 use mathlib.Core.List.{List, [], _++_}
 use native.Mathlib.Omega.{arith}
-use Rattle.field.specs.Element.{element}
 use Rattle.vectors.specs.Vector.{Vector, numbers}
+use Rattle.runs.specs.Outline.{Act, moves, acts, sends}
 use Rattle.runs.specs.Calls.{Call, perform, after, broadcast, openingLine, masksLine, Among}
-use Rattle.runs.proofs.Marks.{Marks, markOf, leftOf, rightOf, less, marksAfter, vectorsAfter}
-use Rattle.runs.proofs.Steps.{Stands, stands-after}
-use Rattle.runs.proofs.Facts.{Allowed, Facts, MasksAt}
-use Rattle.runs.proofs.Rows.{sized-after, held-stays, past-stays, five-before}
-use Rattle.runs.proofs.Kept.{facts-after}
-use Rattle.secrecy.specs.Steps as Steps
+use Rattle.runs.proofs.Marks.{Marks, markOf, leftOf, rightOf, less, marksAll}
+use Rattle.runs.proofs.Steps.{Stands, vectorsAfter, stands-after}
+use Rattle.runs.proofs.Facts.{Allowed, Facts, MasksIn}
+use Rattle.runs.proofs.Rows.{sized-after, held-stays, past-stays, five-before, unmasked}
 use Rattle.secrecy.specs.Steps.{Step, callAt, heardFrom}
 use Rattle.secrecy.specs.Seen.{linesOf}
 use Rattle.secrecy.specs.Rules.{Rule}
 use Rattle.secrecy.specs.Book.{entered}
-use Rattle.secrecy.proofs.State.{Run, Moment, Past, Held, Waits, AnOpening, AMask, maskNumbers, State, fits, meant, place-stays, notes-stay}
+use Rattle.secrecy.proofs.Moves.{numberAt, vectorsThen, acts-at, vectors-at}
+use Rattle.secrecy.proofs.Entered.{Past}
+use Rattle.secrecy.proofs.State.{Run, Moment, Held, Waits, AnOpening, AMask, maskNumbers, State, fits, facts-on}
 use Rattle.runs.proofs.Start.{sizes}
 use Rattle.secrecy.proofs.Broadcasts as Broadcasts
 use Rattle.secrecy.proofs.Broadcasts.{among-append, among-posts, among-heard}
@@ -30,83 +30,58 @@ module _ (C : Run) (m : Moment) (S : State C m) where
   abbrev call : ℕ → Step → Call
   call i c = callAt plan draw u lines i c
 
-  -- masks are made of an unused triple
-  unmasked : (c : Step) → Allowed (call 1 c) M → (r : ℕ) → MasksAt (call 1 c) r → Past M r → ⊥
-  unmasked (Steps.loadRow r' pack) al r at past = at
-  unmasked (Steps.loadTriple r' pack) al r at past = at
-  unmasked (Steps.deal r' c) al r at past = at
-  unmasked (Steps.message r' lent heard) al r at past = at
-  unmasked (Steps.opening r' blocks) al r at past = at
-  unmasked (Steps.linear r' x y scale) al r at past = at
-  unmasked (Steps.masks x y r' lent) al r at (inl five) = omega (arith, ap (markOf M) at, al .first, five)
-  unmasked (Steps.masks x y r' lent) al r at (inr six) = omega (arith, ap (markOf M) at, al .first, six)
-  unmasked (Steps.finish r' blocks blocks') al r at past = at
-
   -- ---- the state after the call
 
   module _ (c : Step) (rule : Rule plan c 0 lines) (z : Broadcasts.Done C m S c) where
     abbrev M' : Marks
-    M' = marksAfter (call 1 c) M
+    M' = marksAll (acts c) M
 
     abbrev vec' : ℕ → Vector
-    vec' = vectorsAfter plan draw (call 1 c) M vec
+    vec' = vectorsThen plan draw u c M vec
 
     one-post : 1 ≤ plan .n
     one-post = omega (arith, sizes plan (C .sound) .n-low)
 
-    al : Allowed (call 1 c) M
+    al : Allowed (acts c) (sends c) M
     al = Broadcasts.allowed-at C m S c z 1 (omega arith) one-post
 
     stand : (i : ℕ) → 1 ≤ i → i ≤ plan .n → Stands plan draw (len i) i M' vec' (after (perform (call i c) (q i)))
     stand i lo hi =
-        subst (λ (N : Marks). Stands plan draw (len i) i N vec' (after (perform (call i c) (q i)))) (Broadcasts.same-marks C m S i 1 c)
-        (subst (λ (v : ℕ → Vector). Stands plan draw (len i) i (marksAfter (call i c) M) v (after (perform (call i c) (q i)))) (Broadcasts.same-vectors C m S i 1 c)
+        subst (λ (v : ℕ → Vector). Stands plan draw (len i) i M' v (after (perform (call i c) (q i)))) (vectors-at plan draw u lines i c M vec)
+        (subst (λ (todo : List Act). Stands plan draw (len i) i (marksAll todo M) (vectorsAfter plan draw (call i c) M vec) (after (perform (call i c) (q i))))
+        (acts-at plan draw u lines i c)
         (stands-after plan draw (C .is-draw) (len i) i hi M vec (q i) (S .posts i lo hi) (call i c) (z i lo hi)
         (fits C m S i lo hi c (Broadcasts.allowed-at C m S c z i lo hi) rule)))
 
-    held-on : (x : ℕ) → x < 96 → markOf M x ≡ 2 → Held b x (vec x) → Held (entered u c b) x (vec x)
-    held-on x lx two h = h ∙ ap element (sym (place-stays C m S 1 c al x two))
-
-    waits-on : (x : ℕ) → x < 96 → markOf M x ≡ 5 → markOf M' x ≡ 5 → Waits b x (leftOf M x) (rightOf M x)
-        → Waits (entered u c b) x (leftOf M x) (rightOf M x)
-    waits-on x lx five five' w =
-        let n = notes-stay C m S 1 c al x five in
-        let f = S .facts x lx .waiting five in (
-          n .0 ∙ w .0 ∙ sym (place-stays C m S 1 c al (leftOf M x) (f .a-held)),
-          n .1 ∙ w .1 ∙ sym (place-stays C m S 1 c al (rightOf M x) (f .b-held)),
-        )
-
     facts' : Facts plan draw (Held (entered u c b)) (Waits (entered u c b)) M' vec'
-    facts' =
-        facts-after plan draw (Held b) (Waits b) (Held (entered u c b)) (Waits (entered u c b)) (call 1 c) M vec (S .sized) al
-        (meant C m S 1 c al rule) held-on waits-on (S .facts)
+    facts' = facts-on C m S c al rule
 
     -- a line broadcast before still shows what it showed
     old-opening : (r j : ℕ) (xs : List ℕ) → AnOpening C r j xs → Among (openingLine r j xs) lines
         → (markOf M' r ≡ 2) × (xs ≡ numbers (plan .t + 1) (vec' r .v j))
     old-opening r j xs o a =
         let old = S .openings r j xs o a in
-        let stays = held-stays plan draw (call 1 c) M vec (S .sized) al r (old .0) in
+        let stays = held-stays plan draw (numberAt plan draw u) (moves c) M vec (S .sized) (al .moving) r (old .0) in
         (stays .0, old .1 ∙ sym (ap (λ (X : Vector). numbers (plan .t + 1) (X .v j)) (stays .1)))
 
     old-masks : (r j : ℕ) (xs : List ℕ) → AMask C r j xs → Among (masksLine r j xs) lines
         → Past M' r × (markOf M' r ≡ 5 → xs ≡ maskNumbers C M' vec' r j)
     old-masks r j xs o a =
         let old = S .maskings r j xs o a in
-        (past-stays plan draw (call 1 c) M (S .sized) al r (old .0), λ five'. go (five-before plan draw (call 1 c) M (S .sized) al r lr five') five' old)
+        (past-stays plan draw (acts c) M (S .sized) (al .moving) r (old .0), λ five'. go (five-before plan draw (acts c) M (S .sized) (al .moving) r lr five') five' old)
       where
         lr : r < 96
         lr = omega (arith, o .row)
 
-        go : ((markOf M r ≡ 5) × (leftOf M' r ≡ leftOf M r) × (rightOf M' r ≡ rightOf M r)) ⊎ MasksAt (call 1 c) r → markOf M' r ≡ 5
+        go : ((markOf M r ≡ 5) × (leftOf M' r ≡ leftOf M r) × (rightOf M' r ≡ rightOf M r)) ⊎ MasksIn (acts c) r → markOf M' r ≡ 5
             → Past M r × (markOf M r ≡ 5 → xs ≡ maskNumbers C M vec r j) → xs ≡ maskNumbers C M' vec' r j
-        go (inr at) five' old = absurd (unmasked c al r at (old .0))
+        go (inr at) five' old = absurd (unmasked plan draw (acts c) M (S .sized) (al .moving) r at (old .0))
         go (inl (five, el, er)) five' old =
             let w = S .facts r lr .waiting five in
             let t = S .facts r lr .triple (inr five) in
             let t' = facts' r lr .triple (inr five') in
-            let ea : vec (leftOf M r) ≡ vec' (leftOf M' r) = sym (ap vec' el ∙ held-stays plan draw (call 1 c) M vec (S .sized) al (leftOf M r) (w .a-held) .1) in
-            let eb : vec (rightOf M r) ≡ vec' (rightOf M' r) = sym (ap vec' er ∙ held-stays plan draw (call 1 c) M vec (S .sized) al (rightOf M r) (w .b-held) .1) in
+            let ea : vec (leftOf M r) ≡ vec' (leftOf M' r) = sym (ap vec' el ∙ held-stays plan draw (numberAt plan draw u) (moves c) M vec (S .sized) (al .moving) (leftOf M r) (w .a-held) .1) in
+            let eb : vec (rightOf M r) ≡ vec' (rightOf M' r) = sym (ap vec' er ∙ held-stays plan draw (numberAt plan draw u) (moves c) M vec (S .sized) (al .moving) (rightOf M r) (w .b-held) .1) in
             let e0 : vec r ≡ vec' r = t .is-a ∙ sym (t' .is-a) in
             let e1 : vec (r + 1) ≡ vec' (r + 1) = t .is-b ∙ sym (t' .is-b) in
             old .1 five
@@ -125,7 +100,7 @@ module _ (C : Run) (m : Moment) (S : State C m) where
     pub advance : State C onward
     advance =
         record {
-          sized = sized-after (call 1 c) M (S .sized);
+          sized = sized-after (acts c) M (S .sized);
           posts = stand;
           facts = facts';
           openings = λ r j xs o a. elim (among-append (openingLine r j xs) lines (linesOf plan draw u lines c q) a) [
@@ -137,7 +112,6 @@ module _ (C : Run) (m : Moment) (S : State C m) where
           maskings = λ r j xs o a. elim (among-append (masksLine r j xs) lines (linesOf plan draw u lines c q) a) [
             | inl l ↦ old-masks r j xs o l
             | inr l ↦ (let w = among-posts (masksLine r j xs) (λ i. cond (heardFrom c i) (broadcast i (call i c) (perform (call i c) (q i))) []) (plan .n) l in
-                let n = Broadcasts.new-masks C m S (w .0) (w .1) (w .2) c (z (w .0) (w .1) (w .2)) (Broadcasts.allowed-at C m S c z (w .0) (w .1) (w .2)) r j xs o (among-heard _ (heardFrom c (w .0)) _ (w .3)) in
-                (inl (n .0), λ five'. n .1))
+                Broadcasts.new-masks C m S (w .0) (w .1) (w .2) c (z (w .0) (w .1) (w .2)) (Broadcasts.allowed-at C m S c z (w .0) (w .1) (w .2)) rule r j xs o (among-heard _ (heardFrom c (w .0)) _ (w .3)))
           ];
         }

@@ -1,29 +1,31 @@
 -- What a call of the list broadcasts, not refused: a line shows its sender's part of the row's vector, or of the masks'.
 use Prim.Native.Nat.{ℕ, zero, suc, _+_, _≤_, _<_}
-use mathlib.Core.Path.{_≡_, refl, sym, _∙_, ap, ap₂, subst}
+use mathlib.Core.Path.{_≡_, sym, _∙_, ap, ap₂, subst}
 use mathlib.Core.Bool.{Bool, true, false, cond}
 use mathlib.Core.Logic.{_⊎_, inl, inr}
 use mathlib.Core.List.{List, [], _∷_, _++_, map}
 use native.Mathlib.Omega.{arith}
 use lib.ListN.{length, length-append}
-use lib.Seq.{getD-set-same}
-use Rattle.poly.specs.Counting.{Elements}
+use Rattle.poly.specs.Counting.{All, Elements}
 use Rattle.factory.specs.Draw.{eachFrom}
 use Rattle.factory.proofs.Laws.{elements-append}
-use Rattle.vectors.specs.Vector.{numbers}
+use Rattle.vectors.specs.Vector.{Vector, numbers}
 use Rattle.vectors.proofs.Linear.{length-numbers}
-use Rattle.runs.specs.Calls as Calls
-use Rattle.runs.specs.Calls.{Post, Call, perform, after, broadcast, sentIf, openingLine, masksLine, Among}
-use Rattle.runs.proofs.Marks.{markOf, less, masked, marksAfter, vectorsAfter}
+use Rattle.runs.specs.Outline.{Act, Sending, itsOpening, itsMasks, moves, acts, sends}
+use Rattle.runs.specs.Calls.{Post, Call, perform, sentBy, broadcast, sentIf, lineOf, openingLine, masksLine, Among}
+use Rattle.runs.proofs.Marks.{Marks, markOf, leftOf, rightOf, less, of, masking, marksAll}
 use Rattle.runs.proofs.Outcomes.{refusalOf, refusal-is}
-use Rattle.runs.proofs.Steps.{named, message-says, masks-say}
+use Rattle.runs.proofs.Steps.{named, Says, SaysAll, says}
 use Rattle.runs.proofs.Lines.{same-opening, same-masks, not-both, numbers-elements}
-use Rattle.runs.proofs.Facts.{Allowed}
+use Rattle.runs.proofs.Facts.{Multiplying, Sendable, Allowed}
+use Rattle.runs.proofs.Rows.{held-stays, waits-after}
 use Rattle.runs.proofs.Allowed.{allowed}
-use Rattle.secrecy.specs.Steps as Steps
 use Rattle.secrecy.specs.Steps.{Step, callAt}
 use Rattle.secrecy.specs.Seen.{posts, joined}
-use Rattle.secrecy.proofs.State.{Run, Moment, AnOpening, AMask, maskNumbers, State}
+use Rattle.secrecy.proofs.Entered.{Past}
+use Rattle.secrecy.proofs.State.{Run, Moment, AnOpening, AMask, maskNumbers, State, facts-on}
+use Rattle.secrecy.specs.Rules.{Rule}
+use Rattle.secrecy.proofs.Moves.{numberAt, vectorsThen, acts-at, sends-at}
 use Rattle.runs.proofs.Start.{sizes}
 
 -- ---- members of joined lists
@@ -56,10 +58,18 @@ among-heard x true l a = a
 among-heard x false l a = absurd a
 
 -- a line that a call broadcast
-one-line : (x line : List ℕ) (k : ℕ) → k ≡ 0 → Among x (sentIf k line) → x ≡ line
-one-line x line zero z (inl e) = e
-one-line x line zero z (inr a) = absurd a
-one-line x line (suc k) z a = absurd a
+one-line : (x line : List ℕ) (lines : List (List ℕ)) (k : ℕ) → k ≡ 0 → Among x (sentIf k line lines) → (x ≡ line) ⊎ Among x lines
+one-line x line lines zero z a = a
+one-line x line lines (suc k) z a = absurd (omega arith)
+
+-- the opening message of row r; one among the lines
+abbrev MessageBy : Sending → ℕ → Type 0
+MessageBy (itsOpening r') r = r ≡ r'
+MessageBy (itsMasks x y r') r = ⊥
+
+abbrev pub MessageIn : List Sending → ℕ → Type 0
+MessageIn [] r = ⊥
+MessageIn (s ∷ ss) r = MessageBy s r ⊎ MessageIn ss r
 
 module _ (C : Run) (m : Moment) (S : State C m) where
   open Run C using (plan, draw, u, len)
@@ -68,46 +78,16 @@ module _ (C : Run) (m : Moment) (S : State C m) where
   abbrev call : ℕ → Step → Call
   call i c = callAt plan draw u lines i c
 
-  -- marks and vectors after the call are the same at every post
-  pub same-marks : (i j : ℕ) (c : Step) → marksAfter (call i c) M ≡ marksAfter (call j c) M
-  same-marks i j (Steps.loadRow r pack) = refl
-  same-marks i j (Steps.loadTriple r pack) = refl
-  same-marks i j (Steps.deal r c) = refl
-  same-marks i j (Steps.message r lent heard) = refl
-  same-marks i j (Steps.opening r blocks) = refl
-  same-marks i j (Steps.linear r x y scale) = refl
-  same-marks i j (Steps.masks x y r lent) = refl
-  same-marks i j (Steps.finish r blocks blocks') = refl
-
-  pub same-vectors : (i j : ℕ) (c : Step) → vectorsAfter plan draw (call i c) M vec ≡ vectorsAfter plan draw (call j c) M vec
-  same-vectors i j (Steps.loadRow r pack) = refl
-  same-vectors i j (Steps.loadTriple r pack) = refl
-  same-vectors i j (Steps.deal r c) = refl
-  same-vectors i j (Steps.message r lent heard) = refl
-  same-vectors i j (Steps.opening r blocks) = refl
-  same-vectors i j (Steps.linear r x y scale) = refl
-  same-vectors i j (Steps.masks x y r lent) = refl
-  same-vectors i j (Steps.finish r blocks blocks') = refl
-
   -- refused nowhere
   abbrev pub Done : Step → Type 0
   Done c = (i : ℕ) → 1 ≤ i → i ≤ plan .n → refusalOf (callAt plan draw u lines i c) (q i) ≡ 0
 
-  pub allowed-at : (c : Step) → Done c → (i : ℕ) → 1 ≤ i → i ≤ plan .n → Allowed (call i c) M
+  pub allowed-at : (c : Step) → Done c → (i : ℕ) → 1 ≤ i → i ≤ plan .n → Allowed (acts c) (sends c) M
   allowed-at c z i lo hi =
-      allowed plan draw i M (q i .rows) (call i c)
-      (subst (λ (x : Post). refusalOf (call i c) x ≡ 0) (named plan draw (len i) i M vec (q i) (S .posts i lo hi)) (z i lo hi))
-
-  -- the call is an opening message of row r
-  abbrev pub MessageAt : Step → ℕ → Type 0
-  MessageAt (Steps.loadRow r' pack) r = ⊥
-  MessageAt (Steps.loadTriple r' pack) r = ⊥
-  MessageAt (Steps.deal r' c) r = ⊥
-  MessageAt (Steps.message r' lent heard) r = r ≡ r'
-  MessageAt (Steps.opening r' blocks) r = ⊥
-  MessageAt (Steps.linear r' x y scale) r = ⊥
-  MessageAt (Steps.masks x y r' lent) r = ⊥
-  MessageAt (Steps.finish r' blocks blocks') r = ⊥
+      subst (λ (ss : List Sending). Allowed (acts c) ss M) (sends-at plan draw u lines i c)
+      (subst (λ (todo : List Act). Allowed todo (sends (call i c)) M) (acts-at plan draw u lines i c)
+      (allowed plan draw i M (q i .rows) (call i c)
+      (subst (λ (x : Post). refusalOf (call i c) x ≡ 0) (named plan draw (len i) i M vec (q i) (S .posts i lo hi)) (z i lo hi))))
 
   -- ---- what the call broadcasts
 
@@ -115,10 +95,8 @@ module _ (C : Run) (m : Moment) (S : State C m) where
     not-refused : (c : Call) → refusalOf c (q i) ≡ 0 → perform c (q i) .answer .refusal ≡ 0
     not-refused c z = refusal-is c (q i) ∙ z
 
-    made-opening : (r : ℕ) (lent : List ℕ) → refusalOf (Calls.message r lent) (q i) ≡ 0 → r < 96
-        → AnOpening C r i (perform (Calls.message r lent) (q i) .lent)
-    made-opening r lent z low =
-        let e = message-says plan draw (C .is-draw) (len i) i hi M vec (q i) (S .posts i lo hi) r lent z in
+    made-opening : (r : ℕ) (xs : List ℕ) → xs ≡ numbers (plan .t + 1) (vec r .v i) → r < 96 → AnOpening C r i xs
+    made-opening r xs e low =
         record {
           row = omega arith;
           post = (lo, hi);
@@ -126,10 +104,11 @@ module _ (C : Run) (m : Moment) (S : State C m) where
           low = subst Elements (sym e) (numbers-elements (plan .t + 1) (vec r .v i));
         }
 
-    made-masks : (x y r : ℕ) (lent : List ℕ) → refusalOf (Calls.masks x y r lent) (q i) ≡ 0 → r < 94
-        → AMask C r i (perform (Calls.masks x y r lent) (q i) .lent)
-    made-masks x y r lent z low =
-        let e = masks-say plan draw (C .is-draw) (len i) i hi M vec (q i) (S .posts i lo hi) x y r lent z in
+    abbrev halves : ℕ → ℕ → ℕ → ℕ → List ℕ
+    halves x y r j = numbers (plan .t + 1) (less (vec x) (vec r) .v j) ++ numbers (plan .t + 1) (less (vec y) (vec (r + 1)) .v j)
+
+    made-masks : (x y r : ℕ) (xs : List ℕ) → xs ≡ halves x y r i → r < 94 → AMask C r i xs
+    made-masks x y r xs e low =
         let k = plan .t + 1 in
         let va = less (vec x) (vec r) .v i in
         let vb = less (vec y) (vec (r + 1)) .v i in
@@ -140,50 +119,104 @@ module _ (C : Run) (m : Moment) (S : State C m) where
           low = subst Elements (sym e) (elements-append (numbers k va) (numbers k vb) (numbers-elements k va) (numbers-elements k vb));
         }
 
-    pub new-opening : (c : Step) → refusalOf (call i c) (q i) ≡ 0 → Allowed (call i c) M → (r j : ℕ) (xs : List ℕ) → AnOpening C r j xs
-        → Among (openingLine r j xs) (broadcast i (call i c) (perform (call i c) (q i)))
-        → MessageAt c r × (markOf (marksAfter (call 1 c) M) r ≡ 2) × (xs ≡ numbers (plan .t + 1) (vectorsAfter plan draw (call 1 c) M vec r .v j))
-    new-opening (Steps.loadRow r' pack) z al r j xs o a = absurd a
-    new-opening (Steps.loadTriple r' pack) z al r j xs o a = absurd a
-    new-opening (Steps.deal r' c) z al r j xs o a = absurd a
-    new-opening (Steps.message r' lent heard) z al r j xs o a =
-        let c = Calls.message r' (lent i) in
-        let e = one-line _ _ _ (not-refused c z) a in
-        let same = same-opening (plan .n) (plan .t + 1) (sizes plan (C .sound) .n-high) r j r' i xs (perform c (q i) .lent) o (made-opening r' (lent i) z (al .0)) e in (
-          same .0,
-          ap (markOf M) (same .0) ∙ al .1,
-          same .2 ∙ message-says plan draw (C .is-draw) (len i) i hi M vec (q i) (S .posts i lo hi) r' (lent i) z
-              ∙ sym (ap₂ (λ (x y : ℕ). numbers (plan .t + 1) (vec x .v y)) (same .0) (same .1)),
-        )
-    new-opening (Steps.opening r' blocks) z al r j xs o a = absurd a
-    new-opening (Steps.linear r' x y scale) z al r j xs o a = absurd a
-    new-opening (Steps.masks x y r' lent) z al r j xs o a =
-        let c = Calls.masks x y r' (lent i) in
-        absurd (not-both (plan .n) (plan .t + 1) (sizes plan (C .sound) .n-high) r j r' i xs (perform c (q i) .lent) o
-        (made-masks x y r' (lent i) z (al .r-low)) (one-line _ _ _ (not-refused c z) a))
-    new-opening (Steps.finish r' blocks blocks') z al r j xs o a = absurd a
+    -- one line
+    opening-one : (todo : List Act) (s : Sending) (ys : List ℕ) → Sendable todo M s → Says plan draw i vec s ys
+        → (r j : ℕ) (xs : List ℕ) → AnOpening C r j xs → openingLine r j xs ≡ lineOf i s ys
+        → MessageBy s r × (markOf M r ≡ 2) × (xs ≡ numbers (plan .t + 1) (vec r .v j))
+    opening-one todo (itsOpening r') ys al says r j xs form e =
+        let same = same-opening (plan .n) (plan .t + 1) (sizes plan (C .sound) .n-high) r j r' i xs ys form (made-opening r' ys says (al .0)) e in
+        (same .0, ap (markOf M) (same .0) ∙ al .1, same .2 ∙ says ∙ sym (ap₂ (λ (x y : ℕ). numbers (plan .t + 1) (vec x .v y)) (same .0) (same .1)))
+    opening-one todo (itsMasks x y r') ys al says r j xs form e =
+        absurd (not-both (plan .n) (plan .t + 1) (sizes plan (C .sound) .n-high) r j r' i xs ys form (made-masks x y r' ys says (al .0 .r-low)) e)
 
-    pub new-masks : (c : Step) → refusalOf (call i c) (q i) ≡ 0 → Allowed (call i c) M → (r j : ℕ) (xs : List ℕ) → AMask C r j xs
-        → Among (masksLine r j xs) (broadcast i (call i c) (perform (call i c) (q i)))
-        → (markOf (marksAfter (call 1 c) M) r ≡ 5)
-        × (xs ≡ maskNumbers C (marksAfter (call 1 c) M) (vectorsAfter plan draw (call 1 c) M vec) r j)
-    new-masks (Steps.loadRow r' pack) z al r j xs o a = absurd a
-    new-masks (Steps.loadTriple r' pack) z al r j xs o a = absurd a
-    new-masks (Steps.deal r' c) z al r j xs o a = absurd a
-    new-masks (Steps.message r' lent heard) z al r j xs o a =
-        let c = Calls.message r' (lent i) in
-        absurd (not-both (plan .n) (plan .t + 1) (sizes plan (C .sound) .n-high) r' i r j (perform c (q i) .lent) xs
-        (made-opening r' (lent i) z (al .0)) o (sym (one-line _ _ _ (not-refused c z) a)))
-    new-masks (Steps.opening r' blocks) z al r j xs o a = absurd a
-    new-masks (Steps.linear r' x y scale) z al r j xs o a = absurd a
-    new-masks (Steps.masks x y r' lent) z al r j xs o a =
-        let c = Calls.masks x y r' (lent i) in
-        let e = one-line _ _ _ (not-refused c z) a in
-        let same = same-masks (plan .n) (plan .t + 1) (sizes plan (C .sound) .n-high) r j r' i xs (perform c (q i) .lent) o (made-masks x y r' (lent i) z (al .r-low)) e in (
-          ap (markOf (masked M r' x y)) (same .0) ∙ getD-set-same (M .marks) r' 5 0 (omega (arith, al .r-low, S .sized .marks)),
-          same .2 ∙ masks-say plan draw (C .is-draw) (len i) i hi M vec (q i) (S .posts i lo hi) x y r' (lent i) z
-              ∙ ap₂ (λ (a' b' : ℕ). numbers (plan .t + 1) (less (vec a') (vec r') .v i) ++ numbers (plan .t + 1) (less (vec b') (vec (r' + 1)) .v i))
-              (sym (getD-set-same (M .left) r' x 0 (omega (arith, al .r-low, S .sized .left)))) (sym (getD-set-same (M .right) r' y 0 (omega (arith, al .r-low, S .sized .right))))
-              ∙ sym (ap₂ (λ (x' y' : ℕ). maskNumbers C (masked M r' x y) vec x' y') (same .0) (same .1)),
+    -- masks of the rows x and y by the triple at r, of which post j's are xs
+    abbrev MadeMasks : List Act → ℕ → ℕ → List ℕ → Type 0
+    MadeMasks todo r j xs = (x : ℕ) × (y : ℕ) × Multiplying 3 M x y r × Among (of x y r) (map masking todo) × (xs ≡ halves x y r j)
+
+    masks-one : (todo : List Act) (s : Sending) (ys : List ℕ) → Sendable todo M s → Says plan draw i vec s ys
+        → (r j : ℕ) (xs : List ℕ) → AMask C r j xs → masksLine r j xs ≡ lineOf i s ys → MadeMasks todo r j xs
+    masks-one todo (itsOpening r') ys al says r j xs form e =
+        absurd (not-both (plan .n) (plan .t + 1) (sizes plan (C .sound) .n-high) r' i r j ys xs (made-opening r' ys says (al .0)) form (sym e))
+    masks-one todo (itsMasks x y r') ys al says r j xs form e =
+        let same = same-masks (plan .n) (plan .t + 1) (sizes plan (C .sound) .n-high) r j r' i xs ys form (made-masks x y r' ys says (al .0 .r-low)) e in (
+          x,
+          y,
+          subst (Multiplying 3 M x y) (sym (same .0)) (al .0),
+          subst (λ (w : ℕ). Among (of x y w) (map masking todo)) (sym (same .0)) (al .1),
+          same .2 ∙ says ∙ sym (ap₂ (λ (v w : ℕ). halves x y v w) (same .0) (same .1)),
         )
-    new-masks (Steps.finish r' blocks blocks') z al r j xs o a = absurd a
+
+    -- one line after the other
+    opening-by : (todo : List Act) (ss : List Sending) (k : ℕ) (parts : List (List ℕ)) → k ≡ 0 → All (Sendable todo M) ss
+        → SaysAll plan draw i vec ss parts → (r j : ℕ) (xs : List ℕ) → AnOpening C r j xs → Among (openingLine r j xs) (sentBy i k ss parts)
+        → MessageIn ss r × (markOf M r ≡ 2) × (xs ≡ numbers (plan .t + 1) (vec r .v j))
+    opening-by todo [] k parts z al says r j xs form a = absurd a
+    opening-by todo (s ∷ ss) k [] z al says r j xs form a = absurd a
+    opening-by todo (s ∷ ss) k (ys ∷ parts) z al says r j xs form a = elim (one-line _ _ _ k z a) [
+      | inl e ↦ (let n = opening-one todo s ys (al .0) (says .0) r j xs form e in (inl (n .0), n .1, n .2))
+      | inr l ↦ (let n = opening-by todo ss k parts z (al .1) (says .1) r j xs form l in (inr (n .0), n .1, n .2))
+    ]
+
+    masks-by : (todo : List Act) (ss : List Sending) (k : ℕ) (parts : List (List ℕ)) → k ≡ 0 → All (Sendable todo M) ss
+        → SaysAll plan draw i vec ss parts → (r j : ℕ) (xs : List ℕ) → AMask C r j xs → Among (masksLine r j xs) (sentBy i k ss parts)
+        → MadeMasks todo r j xs
+    masks-by todo [] k parts z al says r j xs form a = absurd a
+    masks-by todo (s ∷ ss) k [] z al says r j xs form a = absurd a
+    masks-by todo (s ∷ ss) k (ys ∷ parts) z al says r j xs form a = elim (one-line _ _ _ k z a) [
+      | inl e ↦ masks-one todo s ys (al .0) (says .0) r j xs form e
+      | inr l ↦ masks-by todo ss k parts z (al .1) (says .1) r j xs form l
+    ]
+
+    module _ (c : Step) (z : refusalOf (call i c) (q i) ≡ 0) (al : Allowed (acts c) (sends c) M) where
+      abbrev N : Marks
+      N = marksAll (acts c) M
+
+      abbrev w : ℕ → Vector
+      w = vectorsThen plan draw u c M vec
+
+      stays : (x : ℕ) → markOf M x ≡ 2 → (markOf N x ≡ 2) × (w x ≡ vec x)
+      stays x two = held-stays plan draw (numberAt plan draw u) (moves c) M vec (S .sized) (al .moving) x two
+
+      said : SaysAll plan draw i vec (sends c) (perform (call i c) (q i) .lent)
+      said =
+          subst (λ (ss : List Sending). SaysAll plan draw i vec ss (perform (call i c) (q i) .lent)) (sends-at plan draw u lines i c)
+          (says plan draw (C .is-draw) (len i) i hi M vec (q i) (S .posts i lo hi) (call i c) z)
+
+      -- the lines, by the call of the list
+      heard-line : (x : List ℕ) → Among x (broadcast i (call i c) (perform (call i c) (q i)))
+          → Among x (sentBy i (perform (call i c) (q i) .answer .refusal) (sends c) (perform (call i c) (q i) .lent))
+      heard-line x =
+          subst (λ (ss : List Sending). Among x (sentBy i (perform (call i c) (q i) .answer .refusal) ss (perform (call i c) (q i) .lent)))
+          (sends-at plan draw u lines i c)
+
+      pub new-opening : (r j : ℕ) (xs : List ℕ) → AnOpening C r j xs
+          → Among (openingLine r j xs) (broadcast i (call i c) (perform (call i c) (q i)))
+          → MessageIn (sends c) r × (markOf (marksAll (acts c) M) r ≡ 2)
+          × (xs ≡ numbers (plan .t + 1) (vectorsThen plan draw u c M vec r .v j)) × (markOf M r ≡ 2)
+      new-opening r j xs form a =
+          let n = opening-by (acts c) (sends c) _ _ (not-refused (call i c) z) (al .sending) said r j xs form (heard-line _ a) in
+          let k = stays r (n .1) in
+          (n .0, k .0, n .2 ∙ ap (λ (X : Vector). numbers (plan .t + 1) (X .v j)) (sym (k .1)), n .1)
+
+      pub new-masks : Rule plan c 0 lines → (r j : ℕ) (xs : List ℕ) → AMask C r j xs
+          → Among (masksLine r j xs) (broadcast i (call i c) (perform (call i c) (q i)))
+          → Past (marksAll (acts c) M) r
+          × (markOf (marksAll (acts c) M) r ≡ 5 → xs ≡ maskNumbers C (marksAll (acts c) M) (vectorsThen plan draw u c M vec) r j)
+      new-masks rule r j xs form a =
+          go (masks-by (acts c) (sends c) _ _ (not-refused (call i c) z) (al .sending) said r j xs form (heard-line _ a))
+        where
+          go : MadeMasks (acts c) r j xs → Past N r × (markOf N r ≡ 5 → xs ≡ maskNumbers C N w r j)
+          go (x, y, ok, there, e) =
+              let k = waits-after plan draw (acts c) M (S .sized) (al .moving) x y r (ok .r-low) there in (
+                k .0,
+                λ five.
+                    let lr : r < 96 = omega (arith, ok .r-low) in
+                    let t = S .facts r lr .triple (inl (ok .first)) in
+                    let t' = facts-on C m S c al rule r lr .triple (inr five) in
+                    let lf = k .1 five in
+                    let ea : vec x ≡ w (leftOf N r) = sym (ap w (lf .0) ∙ stays x (ok .a-held) .1) in
+                    let eb : vec y ≡ w (rightOf N r) = sym (ap w (lf .1) ∙ stays y (ok .b-held) .1) in
+                    let e0 : vec r ≡ w r = t .is-a ∙ sym (t' .is-a) in
+                    let e1 : vec (r + 1) ≡ w (r + 1) = t .is-b ∙ sym (t' .is-b) in
+                    e ∙ (λ m. numbers (plan .t + 1) (less (ea m) (e0 m) .v j) ++ numbers (plan .t + 1) (less (eb m) (e1 m) .v j)),
+              )

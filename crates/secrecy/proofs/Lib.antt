@@ -3,11 +3,14 @@ pub mod Near
 pub mod Shift
 pub mod Link
 pub mod Twins
+pub mod Moves
+pub mod Entered
 pub mod State
 pub mod Broadcasts
 pub mod Advance
 pub mod Pair
 pub mod Answers
+pub mod Alike
 pub mod Together
 pub mod Onward
 pub mod Reckoned

@@ -62,6 +62,11 @@ module _ (n k : ℕ) (pts : ℕ → ℕ) (K : Vector) where
   Near S S' =
       (i : ℕ) → 1 ≤ i → i ≤ n → rowOf k n i (element (pts i)) S' ≡ rowOf k n i (element (pts i)) (plusTimes (gap S S') S K)
 
+  -- a vector that is the same in both runs
+  pub near-self : (S : Vector) → Near S S
+  unfolding row
+  near-self S i lo hi = ap (row i) (sym (plusTimes-none (gap S S) S K (add-neg (number S))))
+
   pub near-plusTimes : (s : ℕ) (S S' Z Z' : Vector) → Near S S' → Near Z Z'
       → Near (plusTimes (element s) S Z) (plusTimes (element s) S' Z')
   unfolding row Same

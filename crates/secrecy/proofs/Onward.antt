@@ -1,30 +1,31 @@
 -- The two runs after one more call: not refused at any post, or refused at all of them.
-use Prim.Native.Nat.{ℕ, suc, _+_, _≤_, _<_}
-use mathlib.Core.Path.{_≡_, refl, sym, _∙_, ap, ap₂, subst}
+use Prim.Native.Nat.{ℕ, suc, _≤_}
+use mathlib.Core.Path.{_≡_, refl, sym, _∙_, ap, subst}
 use mathlib.Core.Bool.{Bool, true, false, cond}
 use mathlib.Core.Logic.{_⊎_, inl, inr}
 use mathlib.Core.List.{List, [], _∷_, _++_, map, append-nil}
 use native.Mathlib.Omega.{arith}
+use Rattle.poly.specs.Counting.{All}
 use Rattle.poly.proofs.Lists.{all-map}
 use Rattle.vectors.specs.Vector.{Vector}
-use Rattle.runs.specs.Calls as Calls
-use Rattle.runs.specs.Calls.{Post, Call, Left, perform, after, broadcast, sentIf, openingLine, masksLine, Among}
-use Rattle.runs.proofs.Marks.{Marks, markOf, leftOf, rightOf, marksAfter, vectorsAfter, at-same}
-use Rattle.runs.proofs.Outcomes.{refusalOf, refusal-is, refused}
-use Rattle.runs.proofs.Steps.{Stands}
-use Rattle.runs.proofs.Facts.{Allowed, MasksAt}
-use Rattle.runs.proofs.Rows.{five-before}
-use Rattle.secrecy.specs.Steps as Steps
+use Rattle.runs.specs.Outline.{Sending, itsOpening, itsMasks, acts, sends}
+use Rattle.runs.specs.Calls.{Post, Call, perform, after, broadcast, openingLine, masksLine, Among}
+use Rattle.runs.proofs.Outlines.{every-all}
+use Rattle.runs.proofs.Marks.{Marks, markOf, marksAll}
+use Rattle.runs.proofs.Outcomes.{refusalOf, refusal-is, silent}
+use Rattle.runs.proofs.Steps.{stands-refused}
+use Rattle.runs.proofs.Facts.{Allowed}
 use Rattle.secrecy.specs.Steps.{Step, callAt, heardFrom}
 use Rattle.secrecy.specs.Seen.{posts, joined, linesOf}
 use Rattle.secrecy.specs.Rules.{Rule}
-use Rattle.secrecy.specs.Book.{Book, Agrees, entered}
-use Rattle.secrecy.proofs.State.{Run, Moment, AnOpening, State, place-stays, notes-stay}
+use Rattle.secrecy.specs.Book.{Book, AgreesBy, Agrees, entered}
+use Rattle.secrecy.proofs.Moves.{vectorsThen}
+use Rattle.secrecy.proofs.State.{Run, Moment, AnOpening, State, place-stays}
 use Rattle.runs.proofs.Start.{sizes}
-use Rattle.secrecy.proofs.Broadcasts.{among-append, among-posts, among-heard, allowed-at, MessageAt, new-opening}
+use Rattle.secrecy.proofs.Broadcasts.{among-append, among-posts, among-heard, allowed-at, MessageIn, new-opening}
 use Rattle.secrecy.proofs.Advance.{advance}
-use Rattle.secrecy.proofs.Pair.{Two, runOne, runTwo, Moments, momentOne, momentTwo, Pair, apart, Fit}
-use Rattle.secrecy.proofs.Together.{posts-same, marks-two, refused-two, lines-two, group-two, near-after}
+use Rattle.secrecy.proofs.Pair.{Two, runOne, runTwo, Moments, momentOne, momentTwo, Pair, Fit}
+use Rattle.secrecy.proofs.Together.{posts-same, refused-two, lines-two, group-two, core-after}
 
 -- ---- refused: nothing is broadcast, and the posts are as they were
 
@@ -40,16 +41,6 @@ unfolding joined nothing
 joined-none [] = refl
 joined-none (i ∷ l) = joined-none l
 
-silent : (i : ℕ) (c : Call) (o : Left) (k : ℕ) → o .answer .refusal ≡ suc k → broadcast i c o ≡ []
-silent i (Calls.loadRow r pack) o k e = refl
-silent i (Calls.loadTriple r pack) o k e = refl
-silent i (Calls.deal r c) o k e = refl
-silent i (Calls.message r lent) o k e = ap (λ (m : ℕ). sentIf m (openingLine r i (o .lent))) e
-silent i (Calls.opening r blocks) o k e = refl
-silent i (Calls.linear r a b scale) o k e = refl
-silent i (Calls.masks a b r lent) o k e = ap (λ (m : ℕ). sentIf m (masksLine r i (o .lent))) e
-silent i (Calls.finish r blocks blocks') o k e = refl
-
 module _ (C : Run) (m : Moment) (c : Step) (k : ℕ)
     (z : (i : ℕ) → 1 ≤ i → i ≤ C .plan .n → refusalOf (callAt (C .plan) (C .draw) (C .u) (m .lines) i c) (m .posts i) ≡ suc k) where
   open Run C using (plan, draw, u, len)
@@ -60,7 +51,7 @@ module _ (C : Run) (m : Moment) (c : Step) (k : ℕ)
   no-lines =
       ap joined (posts-same _ nothing (plan .n) (λ i lo hi.
       ap (λ (l : List (List ℕ)). cond (heardFrom c i) l [])
-      (silent i (callAt plan draw u lines i c) (perform (callAt plan draw u lines i c) (q i)) k
+      (silent i _ k (sends (callAt plan draw u lines i c)) (perform (callAt plan draw u lines i c) (q i) .lent)
       (refusal-is (callAt plan draw u lines i c) (q i) ∙ z i lo hi))
       ∙ either-none (heardFrom c i)))
       ∙ joined-none (posts (plan .n))
@@ -82,7 +73,8 @@ module _ (C : Run) (m : Moment) (c : Step) (k : ℕ)
   idle-state S =
       record {
         sized = S .sized;
-        posts = λ i lo hi. subst (Stands plan draw (len i) i M vec) (sym (refused (callAt plan draw u lines i c) (q i) k (z i lo hi))) (S .posts i lo hi);
+        posts = λ i lo hi.
+            stands-refused plan draw (C .is-draw) (len i) i hi M vec (q i) (S .posts i lo hi) (callAt plan draw u lines i c) k (z i lo hi);
         facts = S .facts;
         openings = λ r j xs o a. S .openings r j xs o (subst (Among (openingLine r j xs)) as-before a);
         maskings = λ r j xs o a. S .maskings r j xs o (subst (Among (masksLine r j xs)) as-before a);
@@ -114,9 +106,9 @@ module _ (T : Two) (m : Moments) (R : Pair T m) where
   abbrev pub liveMoments : Step → Moments
   liveMoments c =
       record {
-        marks = marksAfter (c1 1 c) M;
-        vec = vectorsAfter (T .plan) (T .d) (c1 1 c) M vec;
-        vec' = vectorsAfter (T .plan) (T .d') (c2 1 c) M vec';
+        marks = marksAll (acts c) M;
+        vec = vectorsThen (T .plan) (T .d) (T .u) c M vec;
+        vec' = vectorsThen (T .plan) (T .d') (T .u') c M vec';
         book = entered (T .u) c b;
         book' = entered (T .u') c b';
         lines = lines ++ linesOf (T .plan) (T .d) (T .u) lines c q;
@@ -124,20 +116,19 @@ module _ (T : Two) (m : Moments) (R : Pair T m) where
         posts' = λ i. after (perform (c2 i c) (q' i));
       }
 
-  -- the second run's state, with the marks and lines that it shares with the first
-  shared : (N N' : Marks) (v : ℕ → Vector) (e : Book) (x y : List (List ℕ)) (p : ℕ → Post) → N' ≡ N → x ≡ y
-      → State (runTwo T) (record { marks = N'; vec = v; book = e; lines = lines ++ y; posts = p })
+  -- the second run's state, with the lines that it shares with the first
+  shared : (N : Marks) (v : ℕ → Vector) (e : Book) (x y : List (List ℕ)) (p : ℕ → Post) → x ≡ y
+      → State (runTwo T) (record { marks = N; vec = v; book = e; lines = lines ++ y; posts = p })
       → State (runTwo T) (record { marks = N; vec = v; book = e; lines = lines ++ x; posts = p })
-  shared N N' v e x y p f g S =
-      subst (λ (w : List (List ℕ)). State (runTwo T) (record { marks = N; vec = v; book = e; lines = lines ++ w; posts = p })) (sym g)
-      (subst (λ (w : Marks). State (runTwo T) (record { marks = w; vec = v; book = e; lines = lines ++ y; posts = p })) f S)
+  shared N v e x y p g S =
+      subst (λ (w : List (List ℕ)). State (runTwo T) (record { marks = N; vec = v; book = e; lines = lines ++ w; posts = p })) (sym g) S
 
   pub idle : (c : Step) (k : ℕ) → ((i : ℕ) → 1 ≤ i → i ≤ T .plan .n → refusalOf (c1 i c) (q i) ≡ suc k) → Rule (T .plan) c (suc k) lines
       → Agrees c (suc k) b b' → Pair T (idleMoments c)
   idle c k z rule agree =
       record {
         one = idle-state (runOne T) (momentOne m) c k z (R .one);
-        two = shared M M vec' b' _ _ _ refl (lines-two T m R c (suc k) z rule agree none)
+        two = shared M vec' b' _ _ _ (lines-two T m R c (suc k) z rule agree none)
             (idle-state (runTwo T) (momentTwo m) c k (refused-two T m R c (suc k) z rule agree none) (R .two));
         near = R .near;
         group-same = all-map (λ i e. ap after e) (T .group) (group-two T m R c (suc k) z rule agree none);
@@ -156,70 +147,36 @@ module _ (T : Two) (m : Moments) (R : Pair T m) where
     z' : (i : ℕ) → 1 ≤ i → i ≤ T .plan .n → refusalOf (c2 i c) (q' i) ≡ 0
     z' = refused-two T m R c 0 z rule agree (λ e. fit)
 
-    al : Allowed (c1 1 c) M
+    al : Allowed (acts c) (sends c) M
     al = allowed-at (runOne T) (momentOne m) (R .one) c z 1 (omega arith) one-post
 
-    al' : Allowed (c2 1 c) M
+    al' : Allowed (acts c) (sends c) M
     al' = allowed-at (runTwo T) (momentTwo m) (R .two) c z' 1 (omega arith) one-post
 
     -- a row that was opened keeps its place in both books
     places : (r : ℕ) → markOf M r ≡ 2 → b .place r ≡ b' .place r → entered (T .u) c b .place r ≡ entered (T .u') c b' .place r
     places r two e =
-        place-stays (runOne T) (momentOne m) (R .one) 1 c al r two ∙ e
-        ∙ sym (place-stays (runTwo T) (momentTwo m) (R .two) 1 c al' r two)
+        place-stays (runOne T) (momentOne m) (R .one) c al r two ∙ e
+        ∙ sym (place-stays (runTwo T) (momentTwo m) (R .two) c al' r two)
 
-    notes : (r : ℕ) → r < 96 → markOf M r ≡ 5
-        → (apart (entered (T .u) c b .factorA r) (entered (T .u') c b' .factorA r) ≡ T .Δ r .left)
-        × (apart (entered (T .u) c b .factorB r) (entered (T .u') c b' .factorB r) ≡ T .Δ r .right)
-    notes r lr five =
-        let s = notes-stay (runOne T) (momentOne m) (R .one) 1 c al r five in
-        let s' = notes-stay (runTwo T) (momentTwo m) (R .two) 1 c al' r five in
-        let w = R .waiting r lr five in
-        (ap₂ apart (s .0) (s' .0) ∙ w .0, ap₂ apart (s .1) (s' .1) ∙ w .1)
-
-  -- a row whose opening message the call is: its places agree
-  told-now : (c : Step) → Agrees c 0 b b' → (r : ℕ) → MessageAt (runOne T) (momentOne m) (R .one) c r
-      → entered (T .u) c b .place r ≡ entered (T .u') c b' .place r
-  told-now (Steps.loadRow r' pack) agree r m = absurd m
-  told-now (Steps.loadTriple r' pack) agree r m = absurd m
-  told-now (Steps.deal r' c) agree r m = absurd m
-  told-now (Steps.message r' lent heard) agree r m = ap (b .place) m ∙ agree refl ∙ sym (ap (b' .place) m)
-  told-now (Steps.opening r' blocks) agree r m = absurd m
-  told-now (Steps.linear r' x y scale) agree r m = absurd m
-  told-now (Steps.masks x y r' lent) agree r m = absurd m
-  told-now (Steps.finish r' blocks blocks') agree r m = absurd m
-
-  -- a triple whose masks the call makes: they are those that were reckoned with
-  masked-now : (c : Step) → Fit T m R c → (r : ℕ) → MasksAt (c1 1 c) r
-      → (apart (entered (T .u) c b .factorA r) (entered (T .u') c b' .factorA r) ≡ T .Δ r .left)
-      × (apart (entered (T .u) c b .factorB r) (entered (T .u') c b' .factorB r) ≡ T .Δ r .right)
-  masked-now (Steps.loadRow r' pack) fit r m = absurd m
-  masked-now (Steps.loadTriple r' pack) fit r m = absurd m
-  masked-now (Steps.deal r' c) fit r m = absurd m
-  masked-now (Steps.message r' lent heard) fit r m = absurd m
-  masked-now (Steps.opening r' blocks) fit r m = absurd m
-  masked-now (Steps.linear r' x y scale) fit r m = absurd m
-  masked-now (Steps.masks x y r' lent) fit r m =
-      subst
-      (λ (w : ℕ). (apart (entered (T .u) (Steps.masks x y r' lent) b .factorA w) (entered (T .u') (Steps.masks x y r' lent) b' .factorA w) ≡ T .Δ w .left)
-      × (apart (entered (T .u) (Steps.masks x y r' lent) b .factorB w) (entered (T .u') (Steps.masks x y r' lent) b' .factorB w) ≡ T .Δ w .right))
-      (sym m) (
-        ap₂ apart (at-same (b .factorA) r' (b .place x)) (at-same (b' .factorA) r' (b' .place x)) ∙ fit .0,
-        ap₂ apart (at-same (b .factorB) r' (b .place y)) (at-same (b' .factorB) r' (b' .place y)) ∙ fit .1,
-      )
-  masked-now (Steps.finish r' blocks blocks') fit r m = absurd m
+  -- a row whose opening message is among the lines: its places agree
+  told-now : (ss : List Sending) → All (AgreesBy 0 b b') ss → (r : ℕ) → MessageIn ss r → b .place r ≡ b' .place r
+  told-now [] agree r m = absurd m
+  told-now (itsOpening r' ∷ ss) agree r (inl m) = ap (b .place) m ∙ agree .0 refl ∙ sym (ap (b' .place) m)
+  told-now (itsMasks x y r' ∷ ss) agree r (inl m) = absurd m
+  told-now (s ∷ ss) agree r (inr m) = told-now ss (agree .1) r m
 
   pub live : (c : Step) → ((i : ℕ) → 1 ≤ i → i ≤ T .plan .n → refusalOf (c1 i c) (q i) ≡ 0) → Rule (T .plan) c 0 lines
       → Agrees c 0 b b' → Fit T m R c → Pair T (liveMoments c)
   live c z rule agree fit =
       record {
         one = advance (runOne T) (momentOne m) (R .one) c rule z;
-        two = shared _ _ _ _ _ _ _ (marks-two T m R c) (lines-two T m R c 0 z rule agree (λ e. fit))
+        two = shared _ _ _ _ _ _ (lines-two T m R c 0 z rule agree (λ e. fit))
             (advance (runTwo T) (momentTwo m) (R .two) c rule (z' c z rule agree fit));
-        near = near-after T m R c (al c z rule agree fit) rule;
+        near = core-after T m R c (al c z rule agree fit) rule fit .near;
         group-same = all-map (λ i e. ap after e) (T .group) (group-two T m R c 0 z rule agree (λ e. fit));
         agreed = λ r j xs o a. by-line r j xs o (among-append (openingLine r j xs) lines (linesOf (T .plan) (T .d) (T .u) lines c q) a);
-        waiting = λ r lr five. by-mark r lr (five-before (T .plan) (T .d) (c1 1 c) M (R .one .sized) (al c z rule agree fit) r lr five);
+        waiting = core-after T m R c (al c z rule agree fit) rule fit .waiting;
       }
     where
       by-line : (r j : ℕ) (xs : List ℕ) → AnOpening (runOne T) r j xs
@@ -228,13 +185,6 @@ module _ (T : Two) (m : Moments) (R : Pair T m) where
       by-line r j xs o (inl a) = places c z rule agree fit r (R .one .openings r j xs o a .0) (R .agreed r j xs o a)
       by-line r j xs o (inr a) =
           let w = among-posts (openingLine r j xs) (λ i. cond (heardFrom c i) (broadcast i (c1 i c) (perform (c1 i c) (q i))) []) (T .plan .n) a in
-          told-now c agree r
-          (new-opening (runOne T) (momentOne m) (R .one) (w .0) (w .1) (w .2) c (z (w .0) (w .1) (w .2))
-          (allowed-at (runOne T) (momentOne m) (R .one) c z (w .0) (w .1) (w .2)) r j xs o (among-heard _ (heardFrom c (w .0)) _ (w .3)) .0)
-
-      by-mark : (r : ℕ) → r < 96
-          → ((markOf M r ≡ 5) × (leftOf (marksAfter (c1 1 c) M) r ≡ leftOf M r) × (rightOf (marksAfter (c1 1 c) M) r ≡ rightOf M r)) ⊎ MasksAt (c1 1 c) r
-          → (apart (entered (T .u) c b .factorA r) (entered (T .u') c b' .factorA r) ≡ T .Δ r .left)
-          × (apart (entered (T .u) c b .factorB r) (entered (T .u') c b' .factorB r) ≡ T .Δ r .right)
-      by-mark r lr (inl m) = notes c z rule agree fit r lr (m .0)
-      by-mark r lr (inr m) = masked-now c fit r m
+          let n = new-opening (runOne T) (momentOne m) (R .one) (w .0) (w .1) (w .2) c (z (w .0) (w .1) (w .2))
+          (allowed-at (runOne T) (momentOne m) (R .one) c z (w .0) (w .1) (w .2)) r j xs o (among-heard _ (heardFrom c (w .0)) _ (w .3)) in
+          places c z rule agree fit r (n .3) (told-now (sends c) (every-all (AgreesBy 0 b b') (sends c) agree) r (n .0))

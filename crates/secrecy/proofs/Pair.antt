@@ -20,18 +20,19 @@ use Rattle.opening.specs.Walking.{blockCoefficients, tooFew}
 use Rattle.opening.specs.Opening.{openRefusal, openChecks}
 use Rattle.vectors.specs.Vector.{Vector, number, rowOf}
 use Rattle.runs.specs.Draws.{Plan, Draw, IsDraw, Sound, IsRaw, pointOf}
+use Rattle.runs.specs.Outline.{Act, aRecord, acts}
 use Rattle.runs.specs.Calls.{Proper, Post, openingLine, Among}
-use Rattle.runs.proofs.Marks.{Marks, markOf, leftOf, rightOf, sessionAt, less, maskA, maskB}
+use Rattle.runs.proofs.Marks.{Marks, Sized, markOf, leftOf, rightOf, sessionAt, less, maskA, maskB, Masking, none, of, masking}
 use Rattle.runs.proofs.Outcomes.{conditionAt, fails}
 use Rattle.runs.proofs.Holds.{Holds}
 use Rattle.runs.proofs.Records.{Present, block-many, block-low, alone}
-use Rattle.secrecy.specs.Steps as Steps
-use Rattle.secrecy.specs.Steps.{Secrets, Step, Record, own}
-use Rattle.secrecy.specs.Rules.{Rule, Walks}
-use Rattle.secrecy.specs.Book.{Book}
+use Rattle.secrecy.specs.Steps.{Secrets, Step, Record}
+use Rattle.secrecy.specs.Rules.{RuleWith, Walks}
+use Rattle.secrecy.specs.Book.{Book, enteredBy}
 use Rattle.secrecy.proofs.Near.{gap, Near, mask-number}
 use Rattle.secrecy.proofs.Link.{Gaps, Link}
-use Rattle.secrecy.proofs.State.{Run, Moment, AnOpening, State}
+use Rattle.secrecy.proofs.State.{Run, Moment, Held, Waits, AnOpening, State}
+use Rattle.runs.proofs.Facts.{Facts}
 use Rattle.runs.proofs.Start.{sizes}
 open CommutativeRing 𝓡 using (add as _⊕_, neg)
 
@@ -94,20 +95,27 @@ module _ (T : Two) where
         → (apart (m .book .factorA r) (m .book' .factorA r) ≡ T .Δ r .left)
         × (apart (m .book .factorB r) (m .book' .factorB r) ≡ T .Δ r .right)
 
-  module _ (m : Moments) (R : Pair m) where
-    open Moments m using (marks as M, vec, vec', book as b, book' as b', lines, posts as q, posts' as q')
+  -- what of it marks, vectors and books show
+  pub record Core (M : Marks) (vec vec' : ℕ → Vector) (b b' : Book) : Type 0 where
+    pub sized : Sized M
+    pub one : Facts (T .plan) (T .d) (Held b) (Waits b) M vec
+    pub two : Facts (T .plan) (T .d') (Held b') (Waits b') M vec'
+    pub near : (r : ℕ) → r < 96 → markOf M r ≢ 0 → Near (T .plan .n) (T .plan .t + 1) (pointOf (T .d)) (T .K) (vec r) (vec' r)
+    pub waiting : (r : ℕ) → r < 96 → markOf M r ≡ 5
+        → (apart (b .factorA r) (b' .factorA r) ≡ T .Δ r .left) × (apart (b .factorB r) (b' .factorB r) ≡ T .Δ r .right)
 
-    -- ---- numbers in the two runs
+  -- ---- numbers in the two runs
 
+  module _ (M : Marks) (vec vec' : ℕ → Vector) (b b' : Book) (K : Core M vec vec' b b') where
     held-one : (r : ℕ) → r < 96 → markOf M r ≡ 2 → number (vec r) ≡ element (b .place r)
-    held-one r lr two = R .one .facts r lr .held two
+    held-one r lr two = K .one r lr .held two
 
     held-two : (r : ℕ) → r < 96 → markOf M r ≡ 2 → number (vec' r) ≡ element (b' .place r)
-    held-two r lr two = R .two .facts r lr .held two
+    held-two r lr two = K .two r lr .held two
 
     -- a held row with one place in both books has one number
-    pub place-number : (r : ℕ) → r < 96 → markOf M r ≡ 2 → b .place r ≡ b' .place r → number (vec r) ≡ number (vec' r)
-    place-number r lr two e = held-one r lr two ∙ ap element e ∙ sym (held-two r lr two)
+    core-place : (r : ℕ) → r < 96 → markOf M r ≡ 2 → b .place r ≡ b' .place r → number (vec r) ≡ number (vec' r)
+    core-place r lr two e = held-one r lr two ∙ ap element e ∙ sym (held-two r lr two)
 
     held-gap : (r : ℕ) → r < 96 → markOf M r ≡ 2 → gap (vec r) (vec' r) ≡ apart (b .place r) (b' .place r)
     held-gap r lr two = ap₂ (λ (x y : Element). x ⊕ neg y) (held-two r lr two) (held-one r lr two)
@@ -115,41 +123,60 @@ module _ (T : Two) where
     triple-gap : (r : ℕ) → r < 96 → (markOf M r ≡ 3) ⊎ (markOf M r ≡ 5)
         → (gap (vec r) (vec' r) ≡ T .Δ r .left) × (gap (vec (r + 1)) (vec' (r + 1)) ≡ T .Δ r .right)
     triple-gap r lr m =
-        let x = R .one .facts r lr .triple m in
-        let y = R .two .facts r lr .triple m in
+        let x = K .one r lr .triple m in
+        let y = K .two r lr .triple m in
         (ap₂ gap (x .is-a) (y .is-a) ∙ T .link .gap-a r lr (x .drawn), ap₂ gap (x .is-b) (y .is-b) ∙ T .link .gap-b r lr (x .drawn))
 
     -- the masks have one number in both runs
-    pub masks-number : (r x y : ℕ) → r < 96 → (markOf M r ≡ 3) ⊎ (markOf M r ≡ 5) → x < 96 → markOf M x ≡ 2 → y < 96 → markOf M y ≡ 2
+    core-masks : (r x y : ℕ) → r < 96 → (markOf M r ≡ 3) ⊎ (markOf M r ≡ 5) → x < 96 → markOf M x ≡ 2 → y < 96 → markOf M y ≡ 2
         → apart (b .place x) (b' .place x) ≡ T .Δ r .left → apart (b .place y) (b' .place y) ≡ T .Δ r .right
         → (number (less (vec x) (vec r)) ≡ number (less (vec' x) (vec' r)))
         × (number (less (vec y) (vec (r + 1))) ≡ number (less (vec' y) (vec' (r + 1))))
-    masks-number r x y lr m lx hx ly hy ea eb =
+    core-masks r x y lr m lx hx ly hy ea eb =
         let g = triple-gap r lr m in (
           mask-number (vec x) (vec' x) (vec r) (vec' r) (held-gap x lx hx ∙ ea ∙ sym (g .0)),
           mask-number (vec y) (vec' y) (vec (r + 1)) (vec' (r + 1)) (held-gap y ly hy ∙ eb ∙ sym (g .1)),
         )
 
-    pub wait-numbers : (r : ℕ) → markOf M r ≡ 5 → r < 96
+    pub core-wait : (r : ℕ) → markOf M r ≡ 5 → r < 96
         → (number (maskA M vec r) ≡ number (maskA M vec' r)) × (number (maskB M vec r) ≡ number (maskB M vec' r))
-    wait-numbers r five lr =
-        let w = R .one .facts r lr .waiting five in
-        let w' = R .two .facts r lr .waiting five in
-        let e = R .waiting r lr five in
-        masks-number r (leftOf M r) (rightOf M r) lr (inr five) (w .a-low) (w .a-held) (w .b-low) (w .b-held)
+    core-wait r five lr =
+        let w = K .one r lr .waiting five in
+        let w' = K .two r lr .waiting five in
+        let e = K .waiting r lr five in
+        core-masks r (leftOf M r) (rightOf M r) lr (inr five) (w .a-low) (w .a-held) (w .b-low) (w .b-held)
         (ap₂ apart (sym (w .means .0)) (sym (w' .means .0)) ∙ e .0) (ap₂ apart (sym (w .means .1)) (sym (w' .means .1)) ∙ e .1)
 
-    -- what the call's place in the list says of masks: they are those that the matching reckoned with
+  -- what the call's place in the list says of masks: they are those that the matching reckoned with
+  abbrev pub FitBy : Masking → Book → Book → Type 0
+  FitBy none b b' = Unit {0}
+  FitBy (of x y r) b b' = (apart (b .place x) (b' .place x) ≡ T .Δ r .left) × (apart (b .place y) (b' .place y) ≡ T .Δ r .right)
+
+  abbrev pub FitAll : List Act → Book → Book → Type 0
+  FitAll [] b b' = Unit {0}
+  FitAll (a ∷ todo) b b' = FitBy (masking a) b b' × FitAll todo (enteredBy (T .u) a b) (enteredBy (T .u') a b')
+
+  module _ (m : Moments) (R : Pair m) where
+    open Moments m using (marks as M, vec, vec', book as b, book' as b', lines, posts as q, posts' as q')
+
+    pub core : Core (m .marks) (m .vec) (m .vec') (m .book) (m .book')
+    core = record { sized = R .one .sized; one = R .one .facts; two = R .two .facts; near = R .near; waiting = R .waiting }
+
+    pub place-number : (r : ℕ) → r < 96 → markOf M r ≡ 2 → b .place r ≡ b' .place r → number (vec r) ≡ number (vec' r)
+    place-number = core-place M vec vec' b b' core
+
+    pub masks-number : (r x y : ℕ) → r < 96 → (markOf M r ≡ 3) ⊎ (markOf M r ≡ 5) → x < 96 → markOf M x ≡ 2 → y < 96 → markOf M y ≡ 2
+        → apart (b .place x) (b' .place x) ≡ T .Δ r .left → apart (b .place y) (b' .place y) ≡ T .Δ r .right
+        → (number (less (vec x) (vec r)) ≡ number (less (vec' x) (vec' r)))
+        × (number (less (vec y) (vec (r + 1))) ≡ number (less (vec' y) (vec' (r + 1))))
+    masks-number = core-masks M vec vec' b b' core
+
+    pub wait-numbers : (r : ℕ) → markOf M r ≡ 5 → r < 96
+        → (number (maskA M vec r) ≡ number (maskA M vec' r)) × (number (maskB M vec r) ≡ number (maskB M vec' r))
+    wait-numbers = core-wait M vec vec' b b' core
+
     abbrev pub Fit : Step → Type 0
-    Fit (Steps.loadRow r pack) = Unit {0}
-    Fit (Steps.loadTriple r pack) = Unit {0}
-    Fit (Steps.deal r c) = Unit {0}
-    Fit (Steps.message r lent heard) = Unit {0}
-    Fit (Steps.opening r blocks) = Unit {0}
-    Fit (Steps.linear r x y scale) = Unit {0}
-    Fit (Steps.masks x y r lent) =
-        (apart (b .place x) (b' .place x) ≡ T .Δ r .left) × (apart (b .place y) (b' .place y) ≡ T .Δ r .right)
-    Fit (Steps.finish r blocks blocks') = Unit {0}
+    Fit c = FitAll (acts c) b b'
 
     -- ---- one post
 
@@ -176,7 +203,7 @@ module _ (T : Two) where
           }
 
       -- an opening that comes to the walk finds one number in both runs, or nobody's polynomial but the own
-      module _ (r : ℕ) (blocks : Record) (rule : Rule (T .plan) (Steps.opening r blocks) (openRefusal s l r (blocks i lines)) lines) where
+      module _ (r : ℕ) (blocks : Record) (rule : RuleWith (T .plan) (openRefusal s l r (blocks i lines)) lines (aRecord r) blocks) where
         walks-of : (xs : List Test) → AllFail xs → (t : Bool) → Walks (first (xs ++ (9 when t ∷ [])))
         walks-of [] f true = inr refl
         walks-of [] f false = inl refl

@@ -13,23 +13,23 @@ use Rattle.poly.specs.Counting.{All}
 use Rattle.refusal.specs.Refusal.{outcome}
 use Rattle.factory.specs.Draw.{eachFrom}
 use Rattle.vectors.specs.Vector.{Vector}
+use Rattle.runs.specs.Outline.{Act, acts, sends}
 use Rattle.runs.specs.Calls.{Post, Call, Left, after}
-use Rattle.runs.proofs.Marks.{Marks, marksAfter}
+use Rattle.runs.proofs.Marks.{Marks, Sized, Masking, none, of, masking, remembered, marksOf, markAll, marksBy, marksAll}
 use Rattle.runs.proofs.Outcomes as Outcomes
 use Rattle.runs.proofs.Outcomes.{refusal-is}
-use Rattle.runs.proofs.Facts.{Allowed}
-use Rattle.runs.proofs.Rows.{past-stays}
-use Rattle.secrecy.specs.Steps as Steps
+use Rattle.runs.proofs.Facts.{Maskable, AllowedAll, Allowed}
+use Rattle.runs.proofs.Rows.{sized-marks, sized-by, past-by, past-stays}
 use Rattle.secrecy.specs.Steps.{Step, callAt}
 use Rattle.secrecy.specs.Seen.{Entry, posts, doneAt, linesOf, postsAfter, entryOf, run}
 use Rattle.secrecy.specs.Rules.{AllSame, SameAnswers, Rule, Rules, refusalOf}
-use Rattle.secrecy.specs.Book.{Book, Agrees, Agree, entered, booked, bookAfter}
+use Rattle.secrecy.specs.Book.{Book, Agrees, Agree, enteredBy, entered, booked, bookAfter}
 use Rattle.secrecy.proofs.Link.{Gaps}
-use Rattle.secrecy.proofs.State.{Past}
+use Rattle.secrecy.proofs.Entered.{Past}
 use Rattle.runs.proofs.Start.{sizes}
 use Rattle.secrecy.proofs.Broadcasts.{allowed-at}
-use Rattle.secrecy.proofs.Pair.{Two, runOne, Moments, momentOne, Pair, Fit}
-use Rattle.secrecy.proofs.Reckoned.{factorsApart, reckonedHere, reckoned, here-refused}
+use Rattle.secrecy.proofs.Pair.{Two, runOne, Moments, momentOne, Pair, FitBy, FitAll, Fit}
+use Rattle.secrecy.proofs.Reckoned.{factorsApart, reckonedBy, reckonedAll, reckonedHere, reckoned}
 use Rattle.secrecy.proofs.Together.{posts-same, same-at, lines-two, group-two}
 use Rattle.secrecy.proofs.Onward.{idle, live}
 
@@ -62,41 +62,56 @@ module _ (T : Two) where
   c1 lines i c = callAt (T .plan) (T .d) (T .u) lines i c
 
   -- masks are made of a triple that has none yet
+  other-by : (m : Masking) (M N : Marks) → Sized N → Maskable m M → (b b' : Book) (r : ℕ) → (Past (remembered m N) r → ⊥) → (rest : Gaps)
+      → reckonedBy m b b' r rest ≡ rest
+  other-by none M N z al b b' r np rest = refl
+  other-by (of x y r') M N z al b b' r np rest = ap (λ (t : Bool). cond t (factorsApart b b' x y) rest) (ne-eqb r r' ne)
+    where
+      ne : r ≢ r'
+      ne e = np (inl (ap (λ (w : ℕ). getD (set (N .marks) r' 5) w 0) e ∙ getD-set-same (N .marks) r' 5 0 (omega (arith, al .r-low, z .marks))))
+
+  -- the masks made now are those that were reckoned with
+  fit-by : (m : Masking) (M : Marks) → Maskable m M → (b b' : Book) (rest : ℕ → Gaps)
+      → ((r : ℕ) → r < 96 → (Past M r → ⊥) → reckonedBy m b b' r (rest r) ≡ T .Δ r) → FitBy T m b b'
+  fit-by none M al b b' rest h = tt
+  fit-by (of x y r') M al b b' rest h = (ap (λ (g : Gaps). g .left) now, ap (λ (g : Gaps). g .right) now)
+    where
+      young : Past M r' → ⊥
+      young (inl five) = omega (arith, al .first)
+      young (inr six) = omega (arith, al .first)
+
+      now : factorsApart b b' x y ≡ T .Δ r'
+      now = sym (ap (λ (t : Bool). cond t (factorsApart b b' x y) (rest r')) (eq-eqb r' r' refl)) ∙ h r' (omega (arith, al .r-low)) young
+
+  other-all : (todo : List Act) (M : Marks) (b b' : Book) → Sized M → AllowedAll todo M → (r : ℕ) → (Past (marksAll todo M) r → ⊥) → (rest : Gaps)
+      → reckonedAll (T .u) (T .u') todo b b' r rest ≡ rest
+  other-all [] M b b' z al r np rest = refl
+  other-all (a ∷ todo) M b b' z al r np rest =
+      other-by (masking a) M (markAll (marksOf a) M) (sized-marks (marksOf a) M z) (al .0 .1) b b' r
+      (λ past. np (past-stays (T .plan) (T .d) todo (marksBy a M) (sized-by a M z) (al .1) r past)) _
+      ∙ other-all todo (marksBy a M) (enteredBy (T .u) a b) (enteredBy (T .u') a b') (sized-by a M z) (al .1) r np rest
+
+  fit-all : (todo : List Act) (M : Marks) (b b' : Book) → Sized M → AllowedAll todo M → (rest : ℕ → Gaps)
+      → ((r : ℕ) → r < 96 → (Past M r → ⊥) → reckonedAll (T .u) (T .u') todo b b' r (rest r) ≡ T .Δ r) → FitAll T todo b b'
+  fit-all [] M b b' z al rest h = tt
+  fit-all (a ∷ todo) M b b' z al rest h = (
+    fit-by (masking a) M (al .0 .1) b b' (λ r. reckonedAll (T .u) (T .u') todo (enteredBy (T .u) a b) (enteredBy (T .u') a b') r (rest r)) h,
+    fit-all todo (marksBy a M) (enteredBy (T .u) a b) (enteredBy (T .u') a b') (sized-by a M z) (al .1) rest
+        (λ r lr np.
+        sym (other-by (masking a) M (markAll (marksOf a) M) (sized-marks (marksOf a) M z) (al .0 .1) b b' r np _)
+        ∙ h r lr (λ past. np (past-by (T .plan) (T .d) a M z (al .0) r past))),
+  )
+
   module _ (m : Moments) (R : Pair T m) where
     open Moments m using (marks as M, vec, vec', book as b, book' as b', lines, posts as q, posts' as q')
 
-    here-other : (c : Step) → Allowed (c1 lines 1 c) M → (r : ℕ) → r < 96 → (Past (marksAfter (c1 lines 1 c) M) r → ⊥) → (rest : Gaps)
-        → reckonedHere c 0 b b' r rest ≡ rest
-    here-other (Steps.loadRow r' pack) al r lr np rest = refl
-    here-other (Steps.loadTriple r' pack) al r lr np rest = refl
-    here-other (Steps.deal r' c) al r lr np rest = refl
-    here-other (Steps.message r' lent heard) al r lr np rest = refl
-    here-other (Steps.opening r' blocks) al r lr np rest = refl
-    here-other (Steps.linear r' x y scale) al r lr np rest = refl
-    here-other (Steps.masks x y r' lent) al r lr np rest = ap (λ (t : Bool). cond t (factorsApart b b' x y) rest) (ne-eqb r r' ne)
-      where
-        ne : r ≢ r'
-        ne e = np (inl (ap (λ (w : ℕ). getD (set (M .marks) r' 5) w 0) e ∙ getD-set-same (M .marks) r' 5 0 (omega (arith, al .r-low, R .one .sized .marks))))
-    here-other (Steps.finish r' blocks blocks') al r lr np rest = refl
+    here-other : (c : Step) → Allowed (acts c) (sends c) M → (r : ℕ) → r < 96 → (Past (marksAll (acts c) M) r → ⊥) → (rest : Gaps)
+        → reckonedHere (T .u) (T .u') c 0 b b' r rest ≡ rest
+    here-other c al r lr np rest = other-all (acts c) M b b' (R .one .sized) (al .moving) r np rest
 
-    -- the masks made now are those that were reckoned with
-    fit-of : (c : Step) → Allowed (c1 lines 1 c) M → (rest : ℕ → Gaps)
-        → ((r : ℕ) → r < 96 → (Past M r → ⊥) → reckonedHere c 0 b b' r (rest r) ≡ T .Δ r) → Fit T m R c
-    fit-of (Steps.loadRow r' pack) al rest h = tt
-    fit-of (Steps.loadTriple r' pack) al rest h = tt
-    fit-of (Steps.deal r' c) al rest h = tt
-    fit-of (Steps.message r' lent heard) al rest h = tt
-    fit-of (Steps.opening r' blocks) al rest h = tt
-    fit-of (Steps.linear r' x y scale) al rest h = tt
-    fit-of (Steps.masks x y r' lent) al rest h = (ap (λ (g : Gaps). g .left) now, ap (λ (g : Gaps). g .right) now)
-      where
-        young : Past M r' → ⊥
-        young (inl five) = omega (arith, al .first)
-        young (inr six) = omega (arith, al .first)
-
-        now : factorsApart b b' x y ≡ T .Δ r'
-        now = sym (ap (λ (t : Bool). cond t (factorsApart b b' x y) (rest r')) (eq-eqb r' r' refl)) ∙ h r' (omega (arith, al .r-low)) young
-    fit-of (Steps.finish r' blocks blocks') al rest h = tt
+    fit-of : (c : Step) → Allowed (acts c) (sends c) M → (rest : ℕ → Gaps)
+        → ((r : ℕ) → r < 96 → (Past M r → ⊥) → reckonedHere (T .u) (T .u') c 0 b b' r (rest r) ≡ T .Δ r) → Fit T m R c
+    fit-of c al rest h = fit-all (acts c) M b b' (R .one .sized) (al .moving) rest h
 
   -- ---- the whole list
 
@@ -220,7 +235,7 @@ module _ (T : Two) where
           joinup 0 z rule ag (λ g. fit) _ _ _ _ _ (ap (λ (k : ℕ). booked (T .u) c k b) (sym ek)) (ap (λ (k : ℕ). booked (T .u') c k b') (sym ek))
           (ih _ _ _ _ _ (live T m R c z rule ag fit) (rules .1)
           (subst (λ (k : ℕ). Agree (T .u) (T .u') cs es (booked (T .u) c k b) (booked (T .u') c k b')) ek (agree .1))
-          (λ r lr np. sym (here-other m R c al r lr np _) ∙ now r lr (λ past. np (past-stays (T .plan) (T .d) (c1 lines 1 c) (m .marks) (R .one .sized) al r past))))
+          (λ r lr np. sym (here-other m R c al r lr np _) ∙ now r lr (λ past. np (past-stays (T .plan) (T .d) (acts c) (m .marks) (R .one .sized) (al .moving) r past))))
         where
           z : (i : ℕ) → 1 ≤ i → i ≤ T .plan .n → Outcomes.refusalOf (c1 lines i c) (q i) ≡ 0
           z i lo hi = answers i lo hi ∙ ek
@@ -231,14 +246,14 @@ module _ (T : Two) where
           ag : Agrees c 0 b b'
           ag = subst (λ (k : ℕ). Agrees c k b b') ek (agree .0)
 
-          al : Allowed (c1 lines 1 c) (m .marks)
+          al : Allowed (acts c) (sends c) (m .marks)
           al =
               allowed-at (runOne T) (momentOne m) (R .one) c z 1 (omega arith) (omega (arith, sizes (T .plan) (T .sound) .n-low))
 
           now : (r : ℕ) → r < 96 → (Past (m .marks) r → ⊥)
-              → reckonedHere c 0 b b' r (reckoned (T .u) (T .u') cs es (entered (T .u) c b) (entered (T .u') c b') r) ≡ T .Δ r
+              → reckonedHere (T .u) (T .u') c 0 b b' r (reckoned (T .u) (T .u') cs es (entered (T .u) c b) (entered (T .u') c b') r) ≡ T .Δ r
           now r lr np =
-              subst (λ (k : ℕ). reckonedHere c k b b' r (reckoned (T .u) (T .u') cs es (booked (T .u) c k b) (booked (T .u') c k b') r) ≡ T .Δ r) ek
+              subst (λ (k : ℕ). reckonedHere (T .u) (T .u') c k b b' r (reckoned (T .u) (T .u') cs es (booked (T .u) c k b) (booked (T .u') c k b') r) ≡ T .Δ r) ek
               (fore r lr np)
 
           fit : Fit T m R c
@@ -248,8 +263,8 @@ module _ (T : Two) where
           (ap (λ (j : ℕ). booked (T .u') c j b') (sym ek))
           (ih _ _ _ _ _ (idle T m R c k z rule ag) (rules .1)
           (subst (λ (j : ℕ). Agree (T .u) (T .u') cs es (booked (T .u) c j b) (booked (T .u') c j b')) ek (agree .1))
-          (λ r lr np. sym (here-refused c k b b' r _)
-          ∙ subst (λ (j : ℕ). reckonedHere c j b b' r (reckoned (T .u) (T .u') cs es (booked (T .u) c j b) (booked (T .u') c j b') r) ≡ T .Δ r) ek (fore r lr np)))
+          (λ r lr np.
+          subst (λ (j : ℕ). reckonedHere (T .u) (T .u') c j b b' r (reckoned (T .u) (T .u') cs es (booked (T .u) c j b) (booked (T .u') c j b') r) ≡ T .Δ r) ek (fore r lr np)))
         where
           z : (i : ℕ) → 1 ≤ i → i ≤ T .plan .n → Outcomes.refusalOf (c1 lines i c) (q i) ≡ suc k
           z i lo hi = answers i lo hi ∙ ek

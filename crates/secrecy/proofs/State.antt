@@ -1,8 +1,8 @@
 -- One run of the list: what every post holds, what the marks say of vectors and book, and what was broadcast.
 use Prim.Native.Nat.{ℕ, _+_, _*_, _≤_, _<_}
-use mathlib.Core.Path.{_≡_, refl, sym, _∙_, ap, ap₂}
-use mathlib.Core.Logic.{_≢_, _⊎_, inl, inr}
-use mathlib.Core.List.{List, _++_}
+use mathlib.Core.Path.{_≡_, refl, sym, _∙_, ap, ap₂, subst}
+use mathlib.Core.Logic.{inl, inr}
+use mathlib.Core.List.{List, [], _∷_, _++_, map}
 use native.Mathlib.Omega.{arith}
 use lib.ListN.{length, take, drop, getD}
 use lib.Seq.{take-at, drop-at}
@@ -11,27 +11,35 @@ use Rattle.field.specs.Arithmetic.{product}
 use Rattle.field.specs.Algebra.{CommutativeRing}
 use Rattle.field.specs.Element.{element}
 use Rattle.field.proofs.Elements.{𝓡, element-product}
-use Rattle.poly.specs.Counting.{Elements}
+use Rattle.poly.specs.Counting.{All, Elements}
+use Rattle.poly.proofs.Lists.{all-map}
 use Rattle.refusal.specs.Refusal.{first}
 use Rattle.factory.specs.Packs.{dealerNumber}
 use Rattle.vectors.specs.Vector.{Vector, raised, number, numbers, vectorOf}
 use Rattle.vectors.proofs.Linear.{length-numbers}
-use Rattle.runs.specs.Draws.{Plan, Draw, IsDraw, Sound, IsRaw, Raw, none, by, whenRaw, rawDraw, rawPack, triplePack}
-use Rattle.runs.specs.Calls.{Post, Call, openingLine, masksLine, Among, at}
-use Rattle.runs.proofs.Marks.{Marks, Sized, markOf, leftOf, rightOf, maskA, maskB, written, sessionAt, at-same, at-other}
-use Rattle.runs.proofs.Numbers.{dealt-number, summed-number, product-number, third-number}
+use Rattle.runs.specs.Draws.{Plan, Draw, IsDraw, Sound, IsRaw, Raw, by, whenRaw, rawDraw, rawPack, triplePack}
+use Rattle.runs.specs.Outline.{Act, loads, loadsTriple, deals, opens, Summand, once, times, fee, sums, factors, multiplies, Taking, nothingTaken, aRowPack, aTriplePack, aNumber, aRecord, twoRecords, takes, Given, Move, moves, actsIn, acts, sends}
+use Rattle.runs.specs.Calls.{Post, Actual, openingLine, masksLine, Among, at}
+use Rattle.runs.proofs.Outlines.{every-all, givenBy, filledMove, moves-filled}
+use Rattle.runs.proofs.Marks.{Marks, Sized, markOf, leftOf, rightOf, maskA, maskB, written, sessionAt, none, of, marksBy, vectorsBy, marksAll, vectorsAll, at-same}
+use Rattle.runs.proofs.Sums.{product-sum}
+use Rattle.runs.proofs.Numbers.{dealt-number, product-number, third-number}
 use Rattle.runs.proofs.Start.{sizes}
-use Rattle.runs.proofs.Steps.{Stands, Fits}
+use Rattle.runs.proofs.Steps.{Stands, FitsWith, Fits}
 use Rattle.runs.proofs.Lines.{Opening, Masks}
 use Rattle.runs.proofs.Records.{all-true}
 use Rattle.runs.proofs.Facts as Facts
-use Rattle.runs.proofs.Facts.{Allowed, Facts, Meant}
-use Rattle.secrecy.specs.Steps as Steps
-use Rattle.secrecy.specs.Steps.{Secrets, Step, Pack, Number, own, sent, callAt, dealtNumber}
-use Rattle.secrecy.specs.Rules.{Rule}
-use Rattle.secrecy.specs.Book.{Book, entered}
-open CommutativeRing 𝓡 using (mul as _⊗_)
+use Rattle.runs.proofs.Facts.{HeldIn, AllowedBy, AllowedAll, ReadyFor, Allowed, Facts, Meant}
+use Rattle.runs.proofs.Rows.{sized-by}
+use Rattle.runs.proofs.Kept.{facts-by}
+use Rattle.secrecy.specs.Steps.{Secrets, Fixed, Step, Pack, Number, own, sent, filling, callAt, dealtNumber}
+use Rattle.secrecy.specs.Rules.{RuleWith, Rule}
+use Rattle.secrecy.specs.Book.{Book, enteredBy, enteredAll, entered}
+use Rattle.secrecy.proofs.Moves.{numberAt, vectorsThen}
+use Rattle.secrecy.proofs.Entered.{Numbered, total-number, Past, place-by, notes-by, place-all}
+open CommutativeRing 𝓡 using (add as _⊕_, mul as _⊗_, zero as 0ᴱ)
 
+infixl 65 _⊕_
 infixl 70 _⊗_
 -- what a run is made with; `len` is how long each post's list of rows is
 pub record Run : Type 0 where
@@ -50,10 +58,6 @@ pub record Moment : Type 0 where
   pub book : Book
   pub lines : List (List ℕ)
   pub posts : ℕ → Post
-
--- the masks of the triple at r were made
-abbrev pub Past : Marks → ℕ → Type 0
-Past M r = (markOf M r ≡ 5) ⊎ (markOf M r ≡ 6)
 
 -- by the book: the number of a held row's vector, and the numbers that masks noted
 abbrev pub Held : Book → ℕ → Vector → Type 0
@@ -85,112 +89,134 @@ module _ (C : Run) where
     pub maskings : (r j : ℕ) (xs : List ℕ) → AMask r j xs → Among (masksLine r j xs) (m .lines)
         → Past (m .marks) r × (markOf (m .marks) r ≡ 5 → xs ≡ maskNumbers (m .marks) (m .vec) r j)
 
+  -- ---- one act after the other: what the marks say of vectors and book
+
+  module _ (lines : List (List ℕ)) where
+    module _ (M : Marks) (vec : ℕ → Vector) (b : Book) (f : Facts plan draw (Held b) (Waits b) M vec) where
+      dealt-is : (r : ℕ) → r < 96 → markOf M r ≡ 1 → number (raised (element (dealtNumber plan draw u r)) (vec r)) ≡ element (u r)
+      unfolding dealtNumber
+      dealt-is r lr one =
+          let g = f r lr .raw one in
+          ap (λ (X : Vector). number (raised (element (dealtNumber plan draw u r)) X)) (g .1)
+          ∙ ap (λ (c : ℕ). number (raised (element c) (vectorOf (plan .t + 1) (rawDraw draw r)))) (go (plan .raw r) (g .0))
+          ∙ dealt-number plan draw (C .is-draw) r (u r) (C .low r (g .0))
+        where
+          go : (w : Raw) → IsRaw w → whenRaw w (dealerNumber (u r) (getD (rawDraw draw r) 0 0) .value) 0 ≡ dealerNumber (u r) (getD (rawDraw draw r) 0 0) .value
+          go Raw.none x = absurd x
+          go (by dealer) x = refl
+
+      product-is : (r : ℕ) → Facts.Multiplying 5 M (leftOf M r) (rightOf M r) r
+          → number (written M vec r) ≡ element (product (b .factorA r) (b .factorB r))
+      product-is r al =
+          let g = f r (omega (arith, al .r-low)) in
+          let t = g .triple (inr (al .first)) in
+          let w = g .waiting (al .first) in
+          ap number (product-sum vec r _ _)
+          ∙ product-number (vec (leftOf M r)) (vec (rightOf M r)) (vec r) (vec (r + 1)) (vec (r + 2))
+          (ap number (t .is-ab) ∙ third-number plan draw r ∙ sym (ap₂ (λ (X Y : Vector). number X ⊗ number Y) (t .is-a) (t .is-b)))
+          ∙ ap₂ _⊗_
+          (f (leftOf M r) (al .a-low) .held (al .a-held) ∙ ap element (sym (w .means .0)))
+          (f (rightOf M r) (al .b-low) .held (al .b-held) ∙ ap element (sym (w .means .1)))
+          ∙ sym (element-product (b .factorA r) (b .factorB r))
+
+      -- the rows of a sum
+      number-of : (t : Summand) → HeldIn M t → Numbered vec (b .place) t
+      number-of (once a) h = f a (h .0) .held (h .1)
+      number-of (times s x) h = f x (h .0) .held (h .1)
+      number-of (fee k) h = tt
+
+      meant : (a : Act) (x : Given Fixed (takes a)) → AllowedBy a M → RuleWith plan 0 lines (takes a) x
+          → Meant plan draw (Held (enteredBy u a b)) (Waits (enteredBy u a b)) a (numberAt plan draw u (takes a) x) M vec
+      meant (loads r) (own x) al rule = rule refl .1
+      meant (loads r) (Pack.fixed x) al rule = absurd (rule refl)
+      meant (loadsTriple r) (own x) al rule = rule refl .1
+      meant (loadsTriple r) (Pack.fixed x) al rule = absurd (rule refl)
+      meant (deals r) sent al rule = dealt-is r (al .0 .0) (al .0 .1) ∙ ap element (sym (at-same (b .place) r (u r)))
+      meant (deals r) (Number.fixed x) al rule = absurd (rule refl)
+      meant (opens r) blocks al rule = tt
+      meant (sums r t ts) x al rule =
+          total-number vec (b .place) t ts (number-of t (al .0 .held .0)) (all-map number-of ts (al .0 .held .1))
+          ∙ ap element (sym (at-same (b .place) r _))
+      meant (factors x y r) t al rule = (at-same (b .factorA) r (b .place x), at-same (b .factorB) r (b .place y))
+      meant (multiplies r) blocks al rule = product-is r (al .0) ∙ ap element (sym (at-same (b .place) (r + 2) _))
+
+    pub facts-step : (M : Marks) (vec : ℕ → Vector) (b : Book) (a : Act) (x : Given Fixed (takes a)) → Sized M → AllowedBy a M
+        → RuleWith plan 0 lines (takes a) x → Facts plan draw (Held b) (Waits b) M vec
+        → Facts plan draw (Held (enteredBy u a b)) (Waits (enteredBy u a b)) (marksBy a M)
+        (vectorsBy plan draw a (numberAt plan draw u (takes a) x) M vec)
+    facts-step M vec b a x z al rule f =
+        facts-by plan draw (Held b) (Waits b) (Held (enteredBy u a b)) (Waits (enteredBy u a b)) a _ M vec z al (meant M vec b f a x al rule)
+        (λ x lx two h. h ∙ ap element (sym (place-by u M b a al x two)))
+        (λ x lx five five' w.
+        let n = notes-by u M b a al x (inl five) in
+        let g = f x lx .waiting five in (
+          n .0 ∙ w .0 ∙ sym (place-by u M b a al (leftOf M x) (g .a-held)),
+          n .1 ∙ w .1 ∙ sym (place-by u M b a al (rightOf M x) (g .b-held)),
+        ))
+        f
+
+    abbrev Ruled : Move Fixed → Type 0
+    Ruled m = RuleWith plan 0 lines (takes (m .0)) (m .1)
+
+    pub facts-all : (ms : List (Move Fixed)) (M : Marks) (vec : ℕ → Vector) (b : Book) → Sized M → AllowedAll (actsIn ms) M
+        → All Ruled ms → Facts plan draw (Held b) (Waits b) M vec
+        → Facts plan draw (Held (enteredAll u (actsIn ms) b)) (Waits (enteredAll u (actsIn ms) b)) (marksAll (actsIn ms) M)
+        (vectorsAll plan draw (numberAt plan draw u) ms M vec)
+    facts-all [] M vec b z al rule f = f
+    facts-all (m ∷ ms) M vec b z al rule f =
+        facts-all ms (marksBy (m .0) M) (vectorsBy plan draw (m .0) (numberAt plan draw u (takes (m .0)) (m .1)) M vec) (enteredBy u (m .0) b)
+        (sized-by (m .0) M z) (al .1) (rule .1) (facts-step M vec b (m .0) (m .1) z (al .0) (rule .0) f)
+
   module _ (m : Moment) (S : State m) where
     open Moment m using (marks as M, vec, book as b, lines)
 
-    -- the call of the list at post i
-    abbrev call : ℕ → Step → Call
-    call i c = callAt plan draw u lines i c
-
     -- ---- the rules give each post what its rows need
 
-    -- a half of an M line, of the triple whose masks wait
-    module _ (r : ℕ) (low : r ≤ 93) (five : markOf M r ≡ 5) (j : ℕ) (lo : 1 ≤ j) (hi : j ≤ plan .n) where
-      both-are : (both : List ℕ) → AMask r j both → Among (masksLine r j both) lines → both ≡ maskNumbers M vec r j
-      both-are both m st = S .maskings r j both m st .1 five
+    module _ (i : ℕ) (lo : 1 ≤ i) (hi : i ≤ plan .n) where
+      abbrev put : (t : Taking) → Given Fixed t → Given Actual t
+      put t x = givenBy (filling plan draw u lines i) t x
 
-    pub fits : (i : ℕ) → 1 ≤ i → i ≤ plan .n → (c : Step) → Allowed (call i c) M → Rule plan c 0 lines → Fits plan draw i M vec (call i c)
-    fits i lo hi (Steps.loadRow r (own x)) al rule =
-        let o = rule refl in (o .1, ap (rawPack plan draw i) (o .0))
-    fits i lo hi (Steps.loadRow r (Pack.fixed x)) al rule = absurd (rule refl)
-    fits i lo hi (Steps.loadTriple r (own x)) al rule =
-        let o = rule refl in (o .1, ap (triplePack plan draw i) (o .0))
-    fits i lo hi (Steps.loadTriple r (Pack.fixed x)) al rule = absurd (rule refl)
-    fits i lo hi (Steps.deal r c) al rule = tt
-    fits i lo hi (Steps.message r lent heard) al rule = tt
-    fits i lo hi (Steps.opening r blocks) al rule = tt
-    fits i lo hi (Steps.linear r x y scale) al rule = tt
-    fits i lo hi (Steps.masks x y r lent) al rule = tt
-    fits i lo hi (Steps.finish r blocks blocks') al rule = (
-      all-true (sessionAt plan draw i M) (blocks i lines) (maskA M vec r) (λ j lj hj ne there.
-          let o = rule (inl refl) .0 i j lo hi lj hj ne there in
-          o .4 ∙ ap (take (plan .t + 1)) (both-are r low (al .first) j lj hj (o .0) (mask j lj hj (o .0) (o .1) (o .2)) (o .3))
-          ∙ take-at (numbers (plan .t + 1) (maskA M vec r .v j)) _ (plan .t + 1) (length-numbers (plan .t + 1) (maskA M vec r .v j))),
-      all-true (sessionAt plan draw i M) (blocks' i lines) (maskB M vec r) (λ j lj hj ne there.
-          let o = rule (inl refl) .1 i j lo hi lj hj ne there in
-          o .4 ∙ ap (drop (plan .t + 1)) (both-are r low (al .first) j lj hj (o .0) (mask j lj hj (o .0) (o .1) (o .2)) (o .3))
-          ∙ drop-at (numbers (plan .t + 1) (maskA M vec r .v j)) _ (plan .t + 1) (length-numbers (plan .t + 1) (maskA M vec r .v j))),
-    )
-      where
-        low : r ≤ 93
-        low = omega (arith, al .r-low)
+      fits-with : (t : Taking) (x : Given Fixed t) → ReadyFor M t → RuleWith plan 0 lines t x → FitsWith plan draw i M vec t (put t x)
+      fits-with nothingTaken x al rule = tt
+      fits-with (aRowPack r) (own x) al rule = let o = rule refl in (o .1, ap (rawPack plan draw i) (o .0))
+      fits-with (aRowPack r) (Pack.fixed x) al rule = absurd (rule refl)
+      fits-with (aTriplePack r) (own x) al rule = let o = rule refl in (o .1, ap (triplePack plan draw i) (o .0))
+      fits-with (aTriplePack r) (Pack.fixed x) al rule = absurd (rule refl)
+      fits-with (aNumber r) x al rule = tt
+      fits-with (aRecord r) x al rule = tt
+      fits-with (twoRecords r) x al rule = (
+        all-true (sessionAt plan draw i M) (x .0 i lines) (maskA M vec r) (λ j lj hj ne there.
+            let o = rule (inl refl) .0 i j lo hi lj hj ne there in
+            o .4 ∙ ap (take (plan .t + 1)) (both-are j lj hj (o .0) (o .1) (o .2) (o .3))
+            ∙ take-at (numbers (plan .t + 1) (maskA M vec r .v j)) _ (plan .t + 1) (length-numbers (plan .t + 1) (maskA M vec r .v j))),
+        all-true (sessionAt plan draw i M) (x .1 i lines) (maskB M vec r) (λ j lj hj ne there.
+            let o = rule (inl refl) .1 i j lo hi lj hj ne there in
+            o .4 ∙ ap (drop (plan .t + 1)) (both-are j lj hj (o .0) (o .1) (o .2) (o .3))
+            ∙ drop-at (numbers (plan .t + 1) (maskA M vec r .v j)) _ (plan .t + 1) (length-numbers (plan .t + 1) (maskA M vec r .v j))),
+      )
+        where
+          -- what an M line of the triple shows of post j
+          both-are : (j : ℕ) → 1 ≤ j → j ≤ plan .n → (both : List ℕ) → length both ≡ 2 * (plan .t + 1) → Elements both
+              → Among (masksLine r j both) lines → both ≡ maskNumbers M vec r j
+          both-are j lj hj both many els st =
+              S .maskings r j both (record { row = omega (arith, al .r-low); post = (lj, hj); many = many; low = els }) st .1 (al .first)
 
-        mask : (j : ℕ) → 1 ≤ j → j ≤ plan .n → (both : List ℕ) → length both ≡ 2 * (plan .t + 1) → Elements both → AMask r j both
-        mask j lj hj both many els = record { row = low; post = (lj, hj); many = many; low = els }
+      fits-all : (ms : List (Move Fixed)) → All (λ a. ReadyFor M (takes a)) (actsIn ms) → All (λ m. RuleWith plan 0 lines (takes (m .0)) (m .1)) ms
+          → All (λ m. FitsWith plan draw i M vec (takes (m .0)) (m .1)) (map (filledMove (filling plan draw u lines i)) ms)
+      fits-all [] al rule = tt
+      fits-all (m ∷ ms) al rule = (fits-with (takes (m .0)) (m .1) (al .0) (rule .0), fits-all ms (al .1) (rule .1))
 
-    -- ---- what the book says after the call
+      pub fits : (c : Step) → Allowed (acts c) (sends c) M → Rule plan c 0 lines → Fits plan draw i M vec (callAt plan draw u lines i c)
+      fits c al rule =
+          subst (All (λ m. FitsWith plan draw i M vec (takes (m .0)) (m .1))) (sym (moves-filled (filling plan draw u lines i) c))
+          (fits-all (moves c) (al .ready) (every-all _ (moves c) rule))
 
-    dealt-is : (r : ℕ) → r < 96 → markOf M r ≡ 1 → number (raised (element (dealtNumber plan draw u r)) (vec r)) ≡ element (u r)
-    unfolding dealtNumber
-    dealt-is r lr one =
-        let f = S .facts r lr .raw one in
-        ap (λ (X : Vector). number (raised (element (dealtNumber plan draw u r)) X)) (f .1)
-        ∙ ap (λ (c : ℕ). number (raised (element c) (vectorOf (plan .t + 1) (rawDraw draw r)))) (go (plan .raw r) (f .0))
-        ∙ dealt-number plan draw (C .is-draw) r (u r) (C .low r (f .0))
-      where
-        go : (w : Raw) → IsRaw w → whenRaw w (dealerNumber (u r) (getD (rawDraw draw r) 0 0) .value) 0 ≡ dealerNumber (u r) (getD (rawDraw draw r) 0 0) .value
-        go none x = absurd x
-        go (by dealer) x = refl
+    -- ---- after the call
 
-    product-is : (r : ℕ) → Facts.Multiplying 5 M (leftOf M r) (rightOf M r) r
-        → number (written M vec r) ≡ element (product (b .factorA r) (b .factorB r))
-    product-is r al =
-        let f = S .facts r (omega (arith, al .r-low)) in
-        let t = f .triple (inr (al .first)) in
-        let w = f .waiting (al .first) in
-        product-number (vec (leftOf M r)) (vec (rightOf M r)) (vec r) (vec (r + 1)) (vec (r + 2))
-        (ap number (t .is-ab) ∙ third-number plan draw r ∙ sym (ap₂ (λ (X Y : Vector). number X ⊗ number Y) (t .is-a) (t .is-b)))
-        ∙ ap₂ _⊗_
-        (S .facts (leftOf M r) (al .a-low) .held (al .a-held) ∙ ap element (sym (w .means .0)))
-        (S .facts (rightOf M r) (al .b-low) .held (al .b-held) ∙ ap element (sym (w .means .1)))
-        ∙ sym (element-product (b .factorA r) (b .factorB r))
+    pub facts-on : (c : Step) → Allowed (acts c) (sends c) M → Rule plan c 0 lines
+        → Facts plan draw (Held (entered u c b)) (Waits (entered u c b)) (marksAll (acts c) M) (vectorsThen plan draw u c M vec)
+    facts-on c al rule = facts-all lines (moves c) M vec b (S .sized) (al .moving) (every-all _ (moves c) rule) (S .facts)
 
-    pub meant : (i : ℕ) → (c : Step) → Allowed (call i c) M → Rule plan c 0 lines
-        → Meant plan draw (Held (entered u c b)) (Waits (entered u c b)) (call i c) M vec
-    meant i (Steps.loadRow r (own x)) al rule = rule refl .1
-    meant i (Steps.loadRow r (Pack.fixed x)) al rule = absurd (rule refl)
-    meant i (Steps.loadTriple r (own x)) al rule = rule refl .1
-    meant i (Steps.loadTriple r (Pack.fixed x)) al rule = absurd (rule refl)
-    meant i (Steps.deal r sent) al rule = dealt-is r (al .0) (al .1) ∙ ap element (sym (at-same (b .place) r (u r)))
-    meant i (Steps.deal r (Number.fixed x)) al rule = absurd (rule refl)
-    meant i (Steps.message r lent heard) al rule = tt
-    meant i (Steps.opening r blocks) al rule = tt
-    meant i (Steps.linear r x y scale) al rule =
-        summed-number scale (b .place x) (b .place y) (vec x) (vec y) (S .facts x (al .a-low) .held (al .a-held)) (S .facts y (al .b-low) .held (al .b-held))
-        ∙ ap element (sym (at-same (b .place) r _))
-    meant i (Steps.masks x y r lent) al rule = (at-same (b .factorA) r (b .place x), at-same (b .factorB) r (b .place y))
-    meant i (Steps.finish r blocks blocks') al rule = product-is r al ∙ ap element (sym (at-same (b .place) (r + 2) _))
-
-    -- a held row's place stays; so do the numbers noted for a triple that waits
-    pub place-stays : (i : ℕ) (c : Step) → Allowed (call i c) M → (x : ℕ) → markOf M x ≡ 2 → entered u c b .place x ≡ b .place x
-    place-stays i (Steps.loadRow r pack) al x two = refl
-    place-stays i (Steps.loadTriple r pack) al x two = refl
-    place-stays i (Steps.deal r c) al x two = at-other (b .place) r (u r) x (λ e. omega (arith, ap (markOf M) e, al .1))
-    place-stays i (Steps.message r lent heard) al x two = refl
-    place-stays i (Steps.opening r blocks) al x two = refl
-    place-stays i (Steps.linear r y z scale) al x two = at-other (b .place) r _ x (λ e. omega (arith, ap (markOf M) e, al .r-empty))
-    place-stays i (Steps.masks y z r lent) al x two = refl
-    place-stays i (Steps.finish r blocks blocks') al x two = at-other (b .place) (r + 2) _ x (λ e. omega (arith, ap (markOf M) e, al .third))
-
-    pub notes-stay : (i : ℕ) (c : Step) → Allowed (call i c) M → (x : ℕ) → markOf M x ≡ 5
-        → (entered u c b .factorA x ≡ b .factorA x) × (entered u c b .factorB x ≡ b .factorB x)
-    notes-stay i (Steps.loadRow r pack) al x five = (refl, refl)
-    notes-stay i (Steps.loadTriple r pack) al x five = (refl, refl)
-    notes-stay i (Steps.deal r c) al x five = (refl, refl)
-    notes-stay i (Steps.message r lent heard) al x five = (refl, refl)
-    notes-stay i (Steps.opening r blocks) al x five = (refl, refl)
-    notes-stay i (Steps.linear r y z scale) al x five = (refl, refl)
-    notes-stay i (Steps.masks y z r lent) al x five =
-        let ne : x ≢ r = λ e. omega (arith, ap (markOf M) e, al .first) in
-        (at-other (b .factorA) r (b .place y) x ne, at-other (b .factorB) r (b .place z) x ne)
-    notes-stay i (Steps.finish r blocks blocks') al x five = (refl, refl)
+    -- a held row's place stays
+    pub place-stays : (c : Step) → Allowed (acts c) (sends c) M → (x : ℕ) → markOf M x ≡ 2 → entered u c b .place x ≡ b .place x
+    place-stays c al x two = place-all plan draw u (acts c) M b (S .sized) (al .moving) x two

@@ -12,18 +12,19 @@ use Rattle.session.specs.Sessions.{mark, created}
 use Rattle.session.specs.Rows.{width, rowAt}
 use Rattle.field.specs.Algebra.{CommutativeRing}
 use Rattle.field.proofs.Elements.{𝓡}
-use Rattle.poly.proofs.Lists.{all-of}
+use Rattle.poly.proofs.Lists.{all-of, all-map}
 use Rattle.vectors.specs.Vector.{Vector}
 use Rattle.field.specs.Modulus.{p}
 use Rattle.runs.specs.Draws.{Plan, Draw, IsDraw, IsRaw, pointOf}
+use Rattle.runs.specs.Outline.{Sending, itsOpening, itsMasks, sends}
 use Rattle.runs.specs.Calls.{Post, newPost}
+use Rattle.runs.proofs.Outlines.{every-all, all-every}
 use Rattle.runs.proofs.Marks.{markOf, sessionAt}
 use Rattle.runs.proofs.Start.{start, start-sized, start-mark, start-stands, start-facts}
-use Rattle.secrecy.specs.Steps as Steps
 use Rattle.secrecy.specs.Steps.{Secrets, Step}
 use Rattle.secrecy.specs.Seen.{Entry, Seen, postsAfter, run, seen}
 use Rattle.secrecy.specs.Rules.{SameAnswers, Rules, refusalOf}
-use Rattle.secrecy.specs.Book.{Book, blank, booked, bookAfter, Agrees, Agree}
+use Rattle.secrecy.specs.Book.{Book, blank, booked, bookAfter, AgreesBy, Agrees, Agree}
 use Rattle.secrecy.specs.Claim.{Premises, Shows, AgreeingRows, SecrecyEverywhere, Secrecy}
 use Rattle.secrecy.specs.Count.{EqualCounts, ShowsRight}
 use Rattle.secrecy.proofs.Near.{groupKernel}
@@ -45,15 +46,13 @@ open CommutativeRing 𝓡 using (zero as 0ᴱ)
 
 -- ---- the premises with the two lists of secrets exchanged
 
+agrees-one : (k : ℕ) (b b' : Book) (s : Sending) → AgreesBy k b b' s → AgreesBy k b' b s
+agrees-one k b b' (itsOpening r) e = λ z. sym (e z)
+agrees-one k b b' (itsMasks x y r) e = tt
+
 agrees-back : (c : Step) (k : ℕ) (b b' : Book) → Agrees c k b b' → Agrees c k b' b
-agrees-back (Steps.loadRow r pack) k b b' e = tt
-agrees-back (Steps.loadTriple r pack) k b b' e = tt
-agrees-back (Steps.deal r c) k b b' e = tt
-agrees-back (Steps.message r lent heard) k b b' e = λ z. sym (e z)
-agrees-back (Steps.opening r blocks) k b b' e = tt
-agrees-back (Steps.linear r x y scale) k b b' e = tt
-agrees-back (Steps.masks x y r lent) k b b' e = tt
-agrees-back (Steps.finish r blocks blocks') k b b' e = tt
+agrees-back c k b b' e =
+    all-every (AgreesBy k b' b) (sends c) (all-map (agrees-one k b b') (sends c) (every-all (AgreesBy k b b') (sends c) e))
 
 agree-back : (u u' : Secrets) (cs : List Step) (es : List Entry) (b b' : Book) → Agree u u' cs es b b' → Agree u' u cs es b' b
 agree-back u u' [] es b b' a = tt

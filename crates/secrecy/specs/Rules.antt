@@ -9,8 +9,9 @@ use lib.ListN.{take, drop, getD}
 use Rattle.poly.specs.Counting.{All}
 use Rattle.opening.specs.Walking.{blockMark, blockCoefficients}
 use Rattle.runs.specs.Draws.{Plan, IsRaw}
+use Rattle.runs.specs.Outline.{Taking, nothingTaken, aRowPack, aTriplePack, aNumber, aRecord, twoRecords, takes, Given, moves, Every}
 use Rattle.runs.specs.Calls.{Told, ToldHalf}
-use Rattle.secrecy.specs.Steps.{Pack, Number, Step, own, sent, loadRow, loadTriple, deal, message, opening, linear, masks, finish}
+use Rattle.secrecy.specs.Steps.{Pack, Number, Fixed, Step, own, sent}
 use Rattle.secrecy.specs.Seen.{Entry}
 
 -- The refusal of a call, at post 1; and "the same answers" at every post: of them only the refusals are asked for, since the
@@ -48,19 +49,20 @@ OnlySent plan Shown blocks =
 abbrev pub Walks : ℕ → Type 0
 Walks k = (k ≡ 0) ⊎ (k ≡ 9)
 
--- The rules for one call with the refusal k, after the lines broadcast before it.
-abbrev pub Rule : Plan → Step → ℕ → List (List ℕ) → Type 0
-Rule plan (loadRow r pack) k lines = k ≡ 0 → OwnPack pack r (IsRaw (plan .raw r))
-Rule plan (loadTriple r pack) k lines = k ≡ 0 → OwnPack pack r (plan .triple r ≡ true)
-Rule plan (deal r c) k lines = k ≡ 0 → FromDealer c
-Rule plan (message r lent heard) k lines = Unit {0}
-Rule plan (opening r blocks) k lines = Walks k → OnlySent plan (Told lines r) (λ i. blocks i lines)
-Rule plan (linear r a b scale) k lines = Unit {0}
-Rule plan (masks a b r lent) k lines = Unit {0}
-Rule plan (finish r blocks blocks') k lines =
+-- The rules for one call with the refusal k, after the lines broadcast before it: what it may be given.
+abbrev pub RuleWith : Plan → ℕ → List (List ℕ) → (t : Taking) → Given Fixed t → Type 0
+RuleWith plan k lines nothingTaken x = Unit {0}
+RuleWith plan k lines (aRowPack r) pack = k ≡ 0 → OwnPack pack r (IsRaw (plan .raw r))
+RuleWith plan k lines (aTriplePack r) pack = k ≡ 0 → OwnPack pack r (plan .triple r ≡ true)
+RuleWith plan k lines (aNumber r) c = k ≡ 0 → FromDealer c
+RuleWith plan k lines (aRecord r) blocks = Walks k → OnlySent plan (Told lines r) (λ i. blocks i lines)
+RuleWith plan k lines (twoRecords r) blocks =
     Walks k
-    → OnlySent plan (ToldHalf (plan .t) (take (plan .t + 1)) r lines) (λ i. blocks i lines)
-    × OnlySent plan (ToldHalf (plan .t) (drop (plan .t + 1)) r lines) (λ i. blocks' i lines)
+    → OnlySent plan (ToldHalf (plan .t) (take (plan .t + 1)) r lines) (λ i. blocks .0 i lines)
+    × OnlySent plan (ToldHalf (plan .t) (drop (plan .t + 1)) r lines) (λ i. blocks .1 i lines)
+
+abbrev pub Rule : Plan → Step → ℕ → List (List ℕ) → Type 0
+Rule plan c k lines = Every (λ m. RuleWith plan k lines (takes (m .0)) (m .1)) (moves c)
 
 abbrev pub Rules : Plan → List Step → List Entry → List (List ℕ) → Type 0
 Rules plan [] es lines = Unit {0}

@@ -1,10 +1,9 @@
 -- Document 01, "What a group of posts sees": the run of a list of calls, and the record of a group.
 use Prim.Native.Nat.{ℕ, _+_}
-use mathlib.Core.Bool.{Bool, false, cond}
+use mathlib.Core.Bool.{Bool, false, cond, _||_}
 use mathlib.Core.List.{List, [], _∷_, _++_, map}
 use lib.Dec.{eqb}
 use lib.ListN.{take}
-use Rattle.refusal.specs.Conditions.{or}
 use Rattle.factory.specs.Draw.{eachFrom}
 use Rattle.forms.specs.Lines as Line
 use Rattle.forms.specs.Lines.{text}
@@ -44,7 +43,7 @@ pub record Seen : Type 0 where
 
 abbrev pub member : ℕ → List ℕ → Bool
 member i [] = false
-member i (g ∷ group) = or (eqb i g) (member i group)
+member i (g ∷ group) = eqb i g || member i group
 
 module _ (plan : Plan) (draw : Draw) (u : Secrets) where
   -- what the call does at post i

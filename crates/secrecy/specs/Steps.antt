@@ -2,12 +2,13 @@
 -- make its calls in step; of each call what is fixed, and what follows the draw.
 use Prim.Native.Nat.{ℕ}
 use mathlib.Core.Bool.{Bool, true}
-use mathlib.Core.List.{List}
+use mathlib.Core.List.{List, [], _∷_}
 use lib.ListN.{getD}
 use Rattle.factory.specs.Packs.{dealerNumber}
 use Rattle.runs.specs.Draws.{Plan, Draw, whenRaw, rawDraw, rawPack, triplePack}
-use Rattle.runs.specs.Calls as Calls
-use Rattle.runs.specs.Calls.{Call}
+use Rattle.runs.specs.Outline.{Kinds, CallOf, outline, Filling, filled}
+use Rattle.runs.specs.Calls.{Actual, Call}
+pub use Rattle.runs.specs.Calls.{loadRow, loadTriple, deal, opening, linear, masks, finish}
 
 -- "A list of secrets gives one u for each row with a dealer."
 abbrev pub Secrets : Type 0
@@ -34,15 +35,14 @@ Record = ℕ → List (List ℕ) → List ℕ
 
 -- A call of the list, with the numbers fixed in it; lent lists, which may differ from post to post, too. An opening message may
 -- be made by few posts: `heard` says by which. It changes nothing at a post, so one that is not heard stands for none.
-pub data Step : Type 0 where
-  loadRow : (r : ℕ) (pack : Pack) → Step
-  loadTriple : (r : ℕ) (pack : Pack) → Step
-  deal : (r : ℕ) (c : Number) → Step
-  message : (r : ℕ) (lent : ℕ → List ℕ) (heard : ℕ → Bool) → Step
-  opening : (r : ℕ) (blocks : Record) → Step
-  linear : (r a b scale : ℕ) → Step
-  masks : (a b r : ℕ) (lent : ℕ → List ℕ) → Step
-  finish : (r : ℕ) (blocks blocks' : Record) → Step
+abbrev pub Fixed : Kinds
+Fixed = record { Pack = Pack; Number = Number; Record = Record; Lent = ℕ → List ℕ; Heard = ℕ → Bool }
+
+abbrev pub Step : Type 0
+Step = CallOf Fixed
+
+abbrev pub message : (r : ℕ) (lent : ℕ → List ℕ) (heard : ℕ → Bool) → Step
+message r lent heard = CallOf.message (record { r = r; lent = lent; heard = heard })
 
 abbrev pub packed : Pack → (ℕ → ℕ → List ℕ) → ℕ → List ℕ
 packed (own k) packs i = packs i k
@@ -52,24 +52,25 @@ abbrev pub dealtWith : Number → ℕ → ℕ
 dealtWith sent c = c
 dealtWith (fixed x) c = x
 
--- The call as post i makes it, after the lines broadcast so far.
-abbrev pub callAt : Plan → Draw → Secrets → List (List ℕ) → ℕ → Step → Call
-callAt plan draw u lines i (loadRow r pack) = Calls.loadRow r (packed pack (rawPack plan draw) i)
-callAt plan draw u lines i (loadTriple r pack) = Calls.loadTriple r (packed pack (triplePack plan draw) i)
-callAt plan draw u lines i (deal r c) = Calls.deal r (dealtWith c (dealtNumber plan draw u r))
-callAt plan draw u lines i (message r lent heard) = Calls.message r (lent i)
-callAt plan draw u lines i (opening r blocks) = Calls.opening r (blocks i lines)
-callAt plan draw u lines i (linear r a b scale) = Calls.linear r a b scale
-callAt plan draw u lines i (masks a b r lent) = Calls.masks a b r (lent i)
-callAt plan draw u lines i (finish r blocks blocks') = Calls.finish r (blocks i lines) (blocks' i lines)
+-- What post i puts in, after the lines broadcast so far; and the call as it makes it.
+abbrev pub filling : Plan → Draw → Secrets → List (List ℕ) → ℕ → Filling Fixed Actual
+filling plan draw u lines i =
+    record {
+      row = λ pack. packed pack (rawPack plan draw) i;
+      triple = λ pack. packed pack (triplePack plan draw) i;
+      number = λ r c. dealtWith c (dealtNumber plan draw u r);
+      blocks = λ blocks. blocks i lines;
+      lent = λ lent. lent i;
+      heard = λ heard. tt;
+    }
 
--- Whether a post's message of this call is made, and broadcast.
+abbrev pub callAt : Plan → Draw → Secrets → List (List ℕ) → ℕ → Step → Call
+callAt plan draw u lines i c = filled (filling plan draw u lines i) c
+
+-- Whether post i makes the message, of an opening message; any other call is every post's.
+abbrev heardBy : List (ℕ → Bool) → ℕ → Bool
+heardBy [] i = true
+heardBy (heard ∷ others) i = heard i
+
 abbrev pub heardFrom : Step → ℕ → Bool
-heardFrom (loadRow r pack) i = true
-heardFrom (loadTriple r pack) i = true
-heardFrom (deal r c) i = true
-heardFrom (message r lent heard) i = heard i
-heardFrom (opening r blocks) i = true
-heardFrom (linear r a b scale) i = true
-heardFrom (masks a b r lent) i = true
-heardFrom (finish r blocks blocks') i = true
+heardFrom c i = heardBy (outline c .heard) i

@@ -12,12 +12,13 @@ use Rattle.poly.specs.Counting.{Elements}
 use Rattle.opening.specs.Walking.{blockMark, blockCoefficients}
 use Rattle.runs.specs.Draws as Draws
 use Rattle.runs.specs.Draws.{Plan, Raw, IsRaw}
+use Rattle.runs.specs.Outline.{Taking, nothingTaken, aRowPack, aTriplePack, aNumber, aRecord, twoRecords, takes, Given, moves, Sending, itsOpening, itsMasks, sends, EveryFrom, Every}
 use Rattle.runs.specs.Calls.{Told, ToldHalf, masksLine, openingLine}
 use Rattle.secrecy.specs.Steps as Steps
-use Rattle.secrecy.specs.Steps.{Secrets, Step, Pack, Number}
+use Rattle.secrecy.specs.Steps.{Secrets, Fixed, Step, Pack, Number}
 use Rattle.secrecy.specs.Seen.{Entry}
-use Rattle.secrecy.specs.Rules.{AllSame, SameAnswers, refusalOf, OwnPack, FromDealer, OnlySent, Walks, Rule, Rules}
-use Rattle.secrecy.specs.Book.{Book, booked, Agrees, Agree}
+use Rattle.secrecy.specs.Rules.{AllSame, SameAnswers, refusalOf, OwnPack, FromDealer, OnlySent, Walks, RuleWith, Rule, Rules}
+use Rattle.secrecy.specs.Book.{Book, booked, AgreesBy, Agrees, Agree}
 use Rattle.secrecy_examples.proofs.Found.{_also_, both, either, tested, same, equal, below, where-equal, each, each-post, among}
 
 -- ---- the same answers
@@ -90,21 +91,36 @@ unfoldable pub where-walks : {A : Type 0} (k : ℕ) → Option A → Option (Wal
 unfolding _also_ where-equal
 where-walks k o = some (λ f g. ⊎-elim f g) also where-equal k 0 o also where-equal k 9 o
 
+-- of each of a list
+module _ {A : Type 0} (P : A → Type 0) (found : (x : A) → Option (P x)) where
+  unfoldable pub every-from : (x : A) (xs : List A) → Option (EveryFrom P x xs)
+  unfolding both
+  every-from x [] = found x
+  every-from x (y ∷ ys) = both (found x) (every-from y ys)
+
+  unfoldable pub every : (xs : List A) → Option (Every P xs)
+  unfolding every-from
+  every [] = some tt
+  every (x ∷ xs) = every-from x xs
+
 module _ (plan : Plan) (sent : List (List ℕ)) where
-  unfoldable pub rule : (c : Step) (k : ℕ) (lines : List (List ℕ)) → Option (Rule plan c k lines)
+  unfoldable pub rule-with : (k : ℕ) (lines : List (List ℕ)) (t : Taking) (x : Given Fixed t) → Option (RuleWith plan k lines t x)
   unfolding both tested where-equal where-walks drawn-raw own-pack from-dealer told told-half only-sent
-  rule (Steps.loadRow r pack) k lines = where-equal k 0 (own-pack pack r (drawn-raw (plan .raw r)))
-  rule (Steps.loadTriple r pack) k lines = where-equal k 0 (own-pack pack r (tested (plan .triple r) (λ e. e)))
-  rule (Steps.deal r c) k lines = where-equal k 0 (from-dealer c)
-  rule (Steps.message r lent heard) k lines = some tt
-  rule (Steps.opening r blocks) k lines = where-walks k (only-sent plan (Told lines r) (told lines r) (λ i. blocks i lines))
-  rule (Steps.linear r a b scale) k lines = some tt
-  rule (Steps.masks a b r lent) k lines = some tt
-  rule (Steps.finish r blocks blocks') k lines =
+  rule-with k lines nothingTaken x = some tt
+  rule-with k lines (aRowPack r) pack = where-equal k 0 (own-pack pack r (drawn-raw (plan .raw r)))
+  rule-with k lines (aTriplePack r) pack = where-equal k 0 (own-pack pack r (tested (plan .triple r) (λ e. e)))
+  rule-with k lines (aNumber r) c = where-equal k 0 (from-dealer c)
+  rule-with k lines (aRecord r) blocks = where-walks k (only-sent plan (Told lines r) (told lines r) (λ i. blocks i lines))
+  rule-with k lines (twoRecords r) blocks =
       where-walks k
       (both
-      (only-sent plan (ToldHalf (plan .t) (take (plan .t + 1)) r lines) (told-half sent (plan .t) (take (plan .t + 1)) r lines) (λ i. blocks i lines))
-      (only-sent plan (ToldHalf (plan .t) (drop (plan .t + 1)) r lines) (told-half sent (plan .t) (drop (plan .t + 1)) r lines) (λ i. blocks' i lines)))
+      (only-sent plan (ToldHalf (plan .t) (take (plan .t + 1)) r lines) (told-half sent (plan .t) (take (plan .t + 1)) r lines) (λ i. blocks .0 i lines))
+      (only-sent plan (ToldHalf (plan .t) (drop (plan .t + 1)) r lines) (told-half sent (plan .t) (drop (plan .t + 1)) r lines) (λ i. blocks .1 i lines)))
+
+  unfoldable pub rule : (c : Step) (k : ℕ) (lines : List (List ℕ)) → Option (Rule plan c k lines)
+  unfolding every rule-with
+  rule c k lines =
+      every (λ m. RuleWith plan k lines (takes (m .0)) (m .1)) (λ m. rule-with k lines (takes (m .0)) (m .1)) (moves c)
 
   unfoldable pub rules : (cs : List Step) (es : List Entry) (lines : List (List ℕ)) → Option (Rules plan cs es lines)
   unfolding both rule
@@ -114,16 +130,14 @@ module _ (plan : Plan) (sent : List (List ℕ)) where
 
 -- ---- the numbers opened
 
-unfoldable pub agrees : (c : Step) (k : ℕ) (b b' : Book) → Option (Agrees c k b b')
+unfoldable pub agrees-by : (k : ℕ) (b b' : Book) (s : Sending) → Option (AgreesBy k b b' s)
 unfolding where-equal equal
-agrees (Steps.loadRow r pack) k b b' = some tt
-agrees (Steps.loadTriple r pack) k b b' = some tt
-agrees (Steps.deal r c) k b b' = some tt
-agrees (Steps.message r lent heard) k b b' = where-equal k 0 (equal (b .place r) (b' .place r))
-agrees (Steps.opening r blocks) k b b' = some tt
-agrees (Steps.linear r x y scale) k b b' = some tt
-agrees (Steps.masks x y r lent) k b b' = some tt
-agrees (Steps.finish r blocks blocks') k b b' = some tt
+agrees-by k b b' (itsOpening r) = where-equal k 0 (equal (b .place r) (b' .place r))
+agrees-by k b b' (itsMasks x y r) = some tt
+
+unfoldable pub agrees : (c : Step) (k : ℕ) (b b' : Book) → Option (Agrees c k b b')
+unfolding every agrees-by
+agrees c k b b' = every (AgreesBy k b b') (agrees-by k b b') (sends c)
 
 unfoldable pub agree : (u u' : Secrets) (cs : List Step) (es : List Entry) (b b' : Book) → Option (Agree u u' cs es b b')
 unfolding both agrees

@@ -1,7 +1,7 @@
 -- An example whose record is what its draw shows, and whose premises a search finds, is at work.
 use Prim.Native.Nat.{ℕ, zero, suc, _≤_, _<_}
 use mathlib.Core.Path.{_≡_, refl, sym, subst}
-use mathlib.Core.Bool.{Bool, true, false, cond, not, false≢true}
+use mathlib.Core.Bool.{Bool, true, false, cond, not, _||_, false≢true}
 use mathlib.Core.Logic.{inl, inr}
 use mathlib.Core.List.{List, [], _∷_}
 use mathlib.Core.Option.{Option, some, IsSome}
@@ -12,7 +12,7 @@ use lib.ListN.{length, getD}
 use Rattle.field.specs.Modulus.{p}
 use Rattle.poly.specs.Counting.{All, Elements}
 use Rattle.refusal.specs.Refusal.{first}
-use Rattle.refusal.specs.Conditions.{or, postsTests}
+use Rattle.refusal.specs.Conditions.{postsTests}
 use Rattle.runs.specs.Draws as Draws
 use Rattle.runs.specs.Draws.{Raw, Plan, Draw, IsRaw, Sound, Lists, IsDraw, rawLength, tripleLength}
 use Rattle.runs.specs.Calls.{Among}
@@ -62,7 +62,7 @@ module _ (P : ℕ → Type 0) where
   of-member [] a r m = absurd (false≢true m)
   of-member (x ∷ xs) a r m = go (eqb r x) refl m (of-member xs (a .1) r)
     where
-      go : (b : Bool) → eqb r x ≡ b → or b (member r xs) ≡ true → (member r xs ≡ true → P r) → P r
+      go : (b : Bool) → eqb r x ≡ b → (b || member r xs) ≡ true → (member r xs ≡ true → P r) → P r
       go true e m h = subst P (sym (eqb-true r x e)) (a .0)
       go false e m h = h m
 

@@ -1,21 +1,35 @@
 -- Every call on a session: its frame's tests, then its own. What its code has to show, and what it may go by.
-use Prim.Native.Nat.{ℕ, _≤_}
+use Prim.Native.Nat.{ℕ}
 use mathlib.Core.Path.{_≡_, sym, _∙_}
 use mathlib.Core.List.{List, _++_}
-use native.Mathlib.Omega.{arith}
+use Rattle.shape.specs.declared.Shape.{Shape}
+use Rattle.shape.specs.Lengths.{Valid}
 use Rattle.refusal.specs.Refusal.{Test, first, AllFail}
 use Rattle.refusal.proofs.Laws.{Numbered, all-fail}
 use Rattle.refusal.proofs.Groups.{stopped, went-on, fail-parts}
 use Rattle.session.specs.declared.Session.{Session}
-use Rattle.session.specs.Checks.{frameTests, Framed}
+use Rattle.session.specs.Sessions.{shapeOf}
+use Rattle.session.specs.Checks.{frameTests, Framed, Sized}
 use Rattle.session.proofs.Passed.{framed}
 
-pub frame-passed : (s : Session) (rows : List ℕ) (r : ℕ) → r ≡ first (frameTests s rows) → r ≡ 0 → Framed s rows
-frame-passed s rows r e z = framed s rows (all-fail (frameTests s rows) tt (sym e ∙ z))
+module _ (s : Session) (rows : List ℕ) (r : ℕ) (e : r ≡ first (frameTests s rows)) (z : r ≡ 0) where
+  pub frame-passed : Framed s rows
+  frame-passed = framed s rows (all-fail (frameTests s rows) tt (sym e ∙ z))
 
--- n and t are small, so a length made of them does not wrap
-pub frame-small : (s : Session) (rows : List ℕ) (r : ℕ) → r ≡ first (frameTests s rows) → r ≡ 0 → (s .n ≤ 4096) × (s .t ≤ 4096)
-frame-small s rows r e z = let f = frame-passed s rows r e z in (omega arith, omega arith)
+  -- the session's shape, as the code has it
+  pub shape-sized : (g : Shape) → g ≡ shapeOf s → Sized g rows
+  shape-sized g h = rw h (frame-passed .sized)
+
+  pub shape-valid : (g : Shape) → g ≡ shapeOf s → Valid g
+  shape-valid g h = shape-sized g h .valid
+
+-- what holds of a session's own shape holds of the shape that the code made of it
+module _ (s : Session) (g : Shape) (e : g ≡ shapeOf s) where
+  pub same-valid : Valid (shapeOf s) → Valid g
+  same-valid v = rw e v
+
+  pub same-sized : (rows : List ℕ) → Framed s rows → Sized g rows
+  same-sized rows f = rw e (f .sized)
 
 module _ (s : Session) (rows : List ℕ) (own : List Test) where
   pub stopped-at-frame : (r : ℕ) → r ≡ first (frameTests s rows) → (r ≡ 0 → ⊥) → r ≡ first (frameTests s rows ++ own)

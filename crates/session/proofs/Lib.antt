@@ -1,9 +1,9 @@
 pub mod Passed
 pub mod Endings
-pub mod Parts
 pub mod RowLaws
-pub mod Filled
 pub mod Writers
 pub mod Calls
 pub mod Lawful
 pub mod Tables
+pub mod Within
+pub mod Summed

@@ -7,7 +7,7 @@ use native.Mathlib.Omega.{arith}
 use lib.ListN.{length, getD, set, take, drop, length-map}
 use Rattle.field.specs.Arithmetic.{sum, product}
 use Rattle.session.specs.Rows.{combined}
-use Rattle.session.proofs.Filled.{filled-more, filled-read, filled-end}
+use Rattle.lists.proofs.Filled.{filled-more, filled-read, filled-end}
 
 getD-mapped : (f : ℕ → ℕ) (l : List ℕ) (i : ℕ) → i < length l → getD (map f l) i 0 ≡ f (getD l i 0)
 getD-mapped f [] i h = absurd (not-suc-le-zero h)

@@ -1,32 +1,22 @@
 -- Document 01, "Field, posts, rows": a session's rows in one lent list.
-use Prim.Native.Nat.{ℕ, _+_, _*_}
+use Prim.Native.Nat.{ℕ, _*_}
 use mathlib.Core.List.{List, [], _∷_, _++_, map}
-use lib.ListN.{take, drop, getD}
+use lib.ListN.{take, drop}
 use Rattle.field.specs.Arithmetic.{sum, product}
+use Rattle.shape.specs.Lengths as Lengths
+use Rattle.shape.specs.Row as Row
 use Rattle.session.specs.declared.Session.{Session}
+use Rattle.session.specs.Sessions.{shapeOf}
 
--- "t+1+2n elements"
+-- Lengths and parts of a row, of a session's shape.
 abbrev pub width : Session → ℕ
-width s = s .t + 1 + 2 * s .n
+width s = Lengths.rowLength (shapeOf s)
 
--- the longest row: 32 posts, t = 31
-abbrev pub longest : ℕ
-longest = 96
-
--- where the public sums m1 to mn begin in a row
 abbrev pub sumsAt : Session → ℕ
-sumsAt s = s .t + 1 + s .n
+sumsAt s = Lengths.sumsAt (shapeOf s)
 
--- A row's parts: "the coefficients of its own polynomial vi, constant first; the check values v1(wi) to vn(wi), its own
--- included; the public sums m1 to mn".
 abbrev pub coefficients : Session → List ℕ → List ℕ
-coefficients s row = take (s .t + 1) row
-
-abbrev pub checkValue : Session → List ℕ → ℕ → ℕ
-checkValue s row j = getD row (s .t + j) 0
-
-abbrev pub publicSum : Session → List ℕ → ℕ → ℕ
-publicSum s row j = getD row (s .t + s .n + j) 0
+coefficients s row = Row.coefficients (shapeOf s) row
 
 -- Row r of a list of rows of w numbers.
 abbrev pub rowAt : ℕ → List ℕ → ℕ → List ℕ

@@ -1,15 +1,26 @@
 -- Document 01, "Field, posts, rows": what a session remembers, and a new one.
-use Prim.Native.Nat.{ℕ}
+use Prim.Native.Nat.{ℕ, _+_}
 use mathlib.Core.List.{List, [], _∷_, _++_}
 use lib.ListN.{getD, set, replicate}
+use Rattle.shape.specs.declared.Shape.{Shape}
+use Rattle.shape.specs.Bounds.{rowCount}
+use Rattle.shape.specs.Marks.{empty, held, unused, further, masked, spent}
+use Rattle.shape.specs.Lengths.{shape}
 use Rattle.refusal.specs.Refusal.{Test, _when_, first, outcome}
 use Rattle.refusal.specs.Conditions.{outside, badPoint, postsTests}
+use Rattle.session.specs.declared.Party.{Party}
 use Rattle.session.specs.declared.Session.{Session}
 use Rattle.session.specs.declared.Answer.{Answer}
 
+abbrev pub shapeOf : Session → Shape
+shapeOf s = shape (s .n) (s .t)
+
+abbrev pub partyOf : Session → Party
+partyOf s = record { shape = shapeOf s; post = s .post; point = s .point }
+
 -- "Each row has a mark".
 abbrev pub markIn : List ℕ → ℕ → ℕ
-markIn marks r = getD marks r 0
+markIn marks r = getD marks r empty
 
 abbrev pub mark : Session → ℕ → ℕ
 mark s r = markIn (s .marks) r
@@ -21,13 +32,53 @@ factorA s r = getD (s .left) r 0
 abbrev pub factorB : Session → ℕ → ℕ
 factorB s r = getD (s .right) r 0
 
+-- The session with one part of it anew. These and `sessionOf` name every field; nothing else does.
+abbrev pub withPoint : Session → ℕ → Session
+withPoint s w = record { n = s .n; t = s .t; post = s .post; point = w; marks = s .marks; left = s .left; right = s .right }
+
+abbrev pub withMarks : Session → List ℕ → Session
+withMarks s marks =
+    record { n = s .n; t = s .t; post = s .post; point = s .point; marks = marks; left = s .left; right = s .right }
+
+abbrev pub withFactors : Session → List ℕ → List ℕ → Session
+withFactors s left right =
+    record { n = s .n; t = s .t; post = s .post; point = s .point; marks = s .marks; left = left; right = right }
+
+abbrev pub sessionOf : ℕ → ℕ → ℕ → ℕ → Session
+sessionOf n t post point =
+    record {
+      n = n;
+      t = t;
+      post = post;
+      point = point;
+      marks = replicate rowCount empty;
+      left = replicate rowCount 0;
+      right = replicate rowCount 0;
+    }
+
 -- The session with another mark on row r.
 abbrev pub marked : Session → ℕ → ℕ → Session
-marked s r m = record { n = s .n; t = s .t; post = s .post; point = s .point; marks = set (s .marks) r m; left = s .left; right = s .right }
+marked s r m = withMarks s (set (s .marks) r m)
 
 -- The session that remembers a and b as the factor rows of the triple at r.
 abbrev pub remembering : Session → ℕ → ℕ → ℕ → Session
-remembering s r a b = record { n = s .n; t = s .t; post = s .post; point = s .point; marks = s .marks; left = set (s .left) r a; right = set (s .right) r b }
+remembering s r a b = withFactors s (set (s .left) r a) (set (s .right) r b)
+
+-- Other marks on the three rows of the triple at r.
+abbrev pub markedTriple : Session → ℕ → ℕ → ℕ → ℕ → Session
+markedTriple s r a b c = marked (marked (marked s r a) (r + 1) b) (r + 2) c
+
+-- "3 first row of an unused triple; 4 its second or third row"
+abbrev pub loadedTriple : Session → ℕ → Session
+loadedTriple s r = markedTriple s r unused further further
+
+-- "The triple's first mark becomes 5, and a and b are remembered."
+abbrev pub maskedTriple : Session → ℕ → ℕ → ℕ → Session
+maskedTriple s r a b = remembering (marked s r masked) r a b
+
+-- "Marks become 6, 6, 2."
+abbrev pub finishedTriple : Session → ℕ → Session
+finishedTriple s r = markedTriple s r spent spent held
 
 -- An answer that holds these three.
 abbrev pub holding : ℕ → ℕ → Session → Answer
@@ -36,10 +87,6 @@ holding refusal value session = record { refusal = refusal; value = value; sessi
 -- What a call hands back. Refused: its number, 0 for a value and the session as it came; else 0, its value and the new session.
 abbrev pub answer : ℕ → ℕ → Session → Session → Answer
 answer refusal value new old = outcome refusal (holding 0 value new) (holding refusal 0 old)
-
-abbrev pub sessionOf : ℕ → ℕ → ℕ → ℕ → Session
-sessionOf n t post point =
-    record { n = n; t = t; post = post; point = point; marks = replicate 96 0; left = replicate 96 0; right = replicate 96 0 }
 
 -- 1 to 4, of a session's n, t, own post and check point.
 abbrev pub sessionTests : ℕ → ℕ → ℕ → ℕ → List Test

@@ -1,13 +1,17 @@
 // The checks that calls on a session share. Each gives its refusal, or 0; a call joins them in the order of their numbers.
 use crate::Session;
+use crate::rows;
+use shape::Shape;
 ghost use mathlib.Core.Path.{_≡_};
 ghost use Prim.Native.Nat.{_≤_};
 ghost use mathlib.Core.List.{[], _∷_};
 ghost use Rattle.refusal.specs.Refusal.{first, _when_};
 ghost use Rattle.refusal.specs.Conditions.{anyBeyond};
 ghost use Rattle.session.specs.Sessions.{markIn, sessionTests};
-ghost use Rattle.session.specs.Rows.{width, rowAt};
-ghost use Rattle.session.specs.Checks.{frameTests, noRow, noTriple, unlikeIn, unlikeTriple, Framed};
+ghost use Rattle.shape.specs.Bounds.{lastTriple};
+ghost use Rattle.shape.specs.Lengths.{rowLength};
+ghost use Rattle.session.specs.Rows.{rowAt};
+ghost use Rattle.session.specs.Checks.{frameTests, noRow, noTriple, unlikeIn, unlikeTriple, Sized};
 
 // 1 to 4, of a session's settings.
 pub fn settings(n: usize, t: usize, post: usize, point: u32) -> u8
@@ -23,21 +27,25 @@ pub fn settings(n: usize, t: usize, post: usize, point: u32) -> u8
 pub fn row(row: usize) -> u8
     ensures { λ r. ⌜ r ≡ first (6 when noRow row ∷ []) ⌝ }
 {
-    if 95 < row { 6 } else { 0 }
+    if shape::LAST_ROW < row { 6 } else { 0 }
 }
 
 // 6, of a triple's first row.
 pub fn triple(row: usize) -> u8
     ensures { λ r. ⌜ r ≡ first (6 when noTriple row ∷ []) ⌝ }
 {
-    if 93 < row { 6 } else { 0 }
+    if shape::LAST_TRIPLE < row { 6 } else { 0 }
 }
 
 // The mark of a row; 0 for a row that is none. Marks are lent and the session is not handed over: it would be copied for each look.
 fn mark(marks: &[u8], row: usize) -> u8
     ensures { λ r. ⌜ r ≡ markIn (now (marks .entry)) row ⌝ }
 {
-    if row < marks.len() { marks[row] } else { 0 }
+    if row < marks.len() {
+        marks[row]
+    } else {
+        shape::EMPTY
+    }
 }
 
 // 7, of the mark that a call needs on a row.
@@ -49,13 +57,24 @@ pub fn unlike(marks: &[u8], row: usize, need: u8) -> u8
 
 // 7, of the marks that a call needs on a triple's three rows.
 pub fn unlike_triple(marks: &[u8], row: usize, a: u8, b: u8, c: u8) -> u8
-    requires { ⌜ row ≤ 93 ⌝ }
+    requires { ⌜ row ≤ lastTriple ⌝ }
     ensures { λ r. ⌜ r ≡ first (unlikeTriple (now (marks .entry)) row a b c) ⌝ }
 {
     refusal::or_else(
         unlike(marks, row, a),
         refusal::or_else(unlike(marks, row + 1, b), unlike(marks, row + 2, c)),
     )
+}
+
+// 8, of every number of a row.
+pub fn numbers(shape: Shape, rows: &[u32], row: usize) -> u8
+    requires { ⌜ Sized shape (now rows) ⌝ }
+    ensures { λ r. ⌜ r ≡ first (8 when anyBeyond (rowAt (rowLength shape) (now (rows .entry)) row) ∷ []) ⌝ }
+{
+    if shape::LAST_ROW < row {
+        return 0;
+    }
+    refusal::numbers(rows::row(shape, rows, row))
 }
 
 impl Session {
@@ -67,17 +86,7 @@ impl Session {
         if refusal != 0 {
             return refusal;
         }
-        refusal::size(rows, 96 * self.width())
-    }
-
-    // 8, of every number of a row.
-    pub fn numbers(self, rows: &[u32], row: usize) -> u8
-        requires { ⌜ Framed self (now rows) ⌝ }
-        ensures { λ r. ⌜ r ≡ first (8 when anyBeyond (rowAt (width self) (now (rows .entry)) row) ∷ []) ⌝ }
-    {
-        if 95 < row {
-            return 0;
-        }
-        refusal::numbers(self.row(rows, row))
+        let shape = self.shape();
+        refusal::size(rows, shape.rows_len())
     }
 }

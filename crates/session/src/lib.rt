@@ -4,9 +4,18 @@
 pub mod checks;
 pub mod rows;
 
+use shape::Shape;
 ghost use mathlib.Core.Path.{_≡_};
-ghost use Prim.Native.Nat.{_+_, _≤_};
-ghost use Rattle.session.specs.Sessions.{marked, remembering, sessionOf, created};
+ghost use Prim.Native.Nat.{_≤_};
+ghost use Rattle.shape.specs.Bounds.{lastRow, lastTriple};
+ghost use Rattle.session.specs.Sessions.{shapeOf, partyOf, marked, markedTriple, maskedTriple, sessionOf, holding, created};
+
+// Who opens a number: the station's shape, the post's own number and its check point.
+pub struct Party {
+    pub shape: Shape,
+    pub post: usize,
+    pub point: u32,
+}
 
 #[repr(C)]
 pub struct Session {
@@ -15,10 +24,10 @@ pub struct Session {
     // the post's own number
     pub post: usize,
     pub point: u32,
-    pub marks: [u8; 96],
+    pub marks: [u8; shape::ROWS],
     // the factor rows that the masks of a triple remember, at its first row
-    pub left: [u8; 96],
-    pub right: [u8; 96],
+    pub left: [u8; shape::ROWS],
+    pub right: [u8; shape::ROWS],
 }
 
 // What a call hands back.
@@ -30,7 +39,7 @@ pub struct Answer {
 }
 
 impl Session {
-    // All 96 rows have mark 0, and no factor rows are remembered.
+    // All rows are empty, and no factor rows are remembered.
     fn empty(n: usize, t: usize, post: usize, point: u32) -> Session
         ensures { λ r. ⌜ r ≡ sessionOf n t post point ⌝ }
     {
@@ -39,9 +48,9 @@ impl Session {
             t,
             post,
             point,
-            marks: [0; 96],
-            left: [0; 96],
-            right: [0; 96],
+            marks: [shape::EMPTY; shape::ROWS],
+            left: [0; shape::ROWS],
+            right: [0; shape::ROWS],
         }
     }
 
@@ -51,65 +60,81 @@ impl Session {
     {
         let refusal = checks::settings(n, t, post, point);
         if refusal != 0 {
-            let zero = Session::empty(0, 0, 0, 0);
-            return Answer {
-                refusal,
-                value: 0,
-                session: zero,
-            };
+            return Session::empty(0, 0, 0, 0).refuse(refusal);
         }
-        let session = Session::empty(n, t, post, point);
+        Session::empty(n, t, post, point).done(0)
+    }
+
+    pub fn shape(self) -> Shape
+        ensures { λ r. ⌜ r ≡ shapeOf self ⌝ }
+    {
+        Shape {
+            n: self.n,
+            t: self.t,
+        }
+    }
+
+    pub fn party(self) -> Party
+        ensures { λ r. ⌜ r ≡ partyOf self ⌝ }
+    {
+        let shape = self.shape();
+        Party {
+            shape,
+            post: self.post,
+            point: self.point,
+        }
+    }
+
+    // A refused call hands the session back as it came.
+    pub fn refuse(self, refusal: u8) -> Answer
+        ensures { λ r. ⌜ r ≡ holding refusal 0 self ⌝ }
+    {
+        Answer {
+            refusal,
+            value: 0,
+            session: self,
+        }
+    }
+
+    // How an accepted call ends: the session is handed over once, and comes back in the answer.
+    pub fn done(self, value: u32) -> Answer
+        ensures { λ r. ⌜ r ≡ holding 0 value self ⌝ }
+    {
         Answer {
             refusal: 0,
-            value: 0,
-            session,
+            value,
+            session: self,
         }
     }
 
-    pub fn with_mark(mut self, row: usize, mark: u8) -> Session
-        requires { ⌜ row ≤ 95 ⌝ }
-        ensures { λ r. ⌜ r ≡ marked self row mark ⌝ }
+    // Done, with another mark on a row.
+    pub fn done_marking(mut self, row: usize, mark: u8) -> Answer
+        requires { ⌜ row ≤ lastRow ⌝ }
+        ensures { λ r. ⌜ r ≡ holding 0 0 (marked self row mark) ⌝ }
     {
         self.marks[row] = mark;
-        self
+        self.done(0)
     }
 
-    // A deal, or a sum of rows, leaves its row held.
-    pub fn dealt(mut self, row: usize) -> Session
-        requires { ⌜ row ≤ 95 ⌝ }
-        ensures { λ r. ⌜ r ≡ marked self row 2 ⌝ }
-    {
-        self.marks[row] = 2;
-        self
-    }
-
-    // The masks of the triple at `first` were sent for the factor rows a and b.
-    pub fn masked(mut self, first: usize, a: usize, b: usize) -> Session
-        requires { ⌜ (first ≤ 93) × (a ≤ 95) × (b ≤ 95) ⌝ }
-        ensures { λ r. ⌜ r ≡ remembering (marked self first 5) first a b ⌝ }
-    {
-        self.marks[first] = 5;
-        self.left[first] = a as u8;
-        self.right[first] = b as u8;
-        self
-    }
-
-    // The marks of a triple's three rows.
-    pub fn with_triple(mut self, first: usize, a: u8, b: u8, c: u8) -> Session
-        requires { ⌜ first ≤ 93 ⌝ }
-        ensures { λ r. ⌜ r ≡ marked (marked (marked self first a) (first + 1) b) (first + 2) c ⌝ }
+    // Done, with other marks on a triple's three rows.
+    pub fn done_marking_triple(mut self, first: usize, a: u8, b: u8, c: u8) -> Answer
+        requires { ⌜ first ≤ lastTriple ⌝ }
+        ensures { λ r. ⌜ r ≡ holding 0 0 (markedTriple self first a b c) ⌝ }
     {
         self.marks[first] = a;
         self.marks[first + 1] = b;
         self.marks[first + 2] = c;
-        self
+        self.done(0)
     }
 
-    // The product of the triple at `first` stands in its third row.
-    pub fn finished(mut self, first: usize) -> Session
-        requires { ⌜ first ≤ 93 ⌝ }
-        ensures { λ r. ⌜ r ≡ marked (marked (marked self first 6) (first + 1) 6) (first + 2) 2 ⌝ }
+    // Done: the masks of the triple at `first` were sent for the factor rows a and b.
+    pub fn done_masking(mut self, first: usize, a: usize, b: usize) -> Answer
+        requires { ⌜ (first ≤ lastTriple) × (a ≤ lastRow) × (b ≤ lastRow) ⌝ }
+        ensures { λ r. ⌜ r ≡ holding 0 0 (maskedTriple self first a b) ⌝ }
     {
-        self.with_triple(first, 6, 6, 2)
+        self.marks[first] = shape::MASKED;
+        self.left[first] = a as u8;
+        self.right[first] = b as u8;
+        self.done(0)
     }
 }

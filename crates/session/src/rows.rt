@@ -1,28 +1,16 @@
 // Rows in the list that the caller lends, and their numbers in parts of such lists.
-use crate::Session;
+use shape::Shape;
 ghost use mathlib.Core.Path.{_≡_};
-ghost use Prim.Native.Nat.{_≤_};
 ghost use mathlib.Core.List.{map};
-ghost use lib.ListN.{length, take};
+ghost use Prim.Native.Nat.{_*_};
+ghost use lib.ListN.{length};
 ghost use Rattle.field.specs.Arithmetic.{sum};
-ghost use Rattle.session.specs.Rows.{width, sumsAt, rowAt, withRow, combined, plusSums, longest};
-ghost use Rattle.session.specs.Checks.{Framed, RowIn};
-
-// The length of the longest row, of 32 posts with t = 31: the only bound on a row made beside the list.
-pub const LONGEST: usize = 96;
-
-// The numbers of `from`, into `to`.
-pub fn copy(from: &[u32], to: &mut [u32])
-    requires { ⌜ length (now from) ≡ length (now to) ⌝ }
-    ensures { λ r. ⌜ now (to .exit) ≡ now (from .entry) ⌝ }
-{
-    for i in 0..from.len() {
-        to[i] = from[i];
-    }
-}
+ghost use Rattle.shape.specs.Lengths.{Valid, rowLength, sumsAt};
+ghost use Rattle.session.specs.Rows.{rowAt, withRow, combined, plusSums};
+ghost use Rattle.session.specs.Checks.{Sized, RowIn};
 
 // c added to each number, as a deal adds it to the public sums of a row.
-pub fn add_to_each(sums: &mut [u32], c: u32)
+fn add_to_each(sums: &mut [u32], c: u32)
     ensures { λ r. ⌜ now (sums .exit) ≡ map (λ m. sum m c) (now (sums .entry)) ⌝ }
 {
     for i in 0..sums.len() {
@@ -40,66 +28,76 @@ pub fn combine(scale: u32, x: &[u32], y: &[u32], out: &mut [u32])
     }
 }
 
-// Room for any row.
-fn room() -> [u32; LONGEST]
-    ensures { λ r. ⌜ length r ≡ longest ⌝ }
+// Where a row begins.
+pub fn row_at(shape: Shape, row: usize) -> usize
+    requires { ⌜ Valid shape × RowIn shape row ⌝ }
+    ensures { λ r. ⌜ r ≡ row * rowLength shape ⌝ }
 {
-    [0; LONGEST]
+    row * shape.row_len()
 }
 
-// x plus scale times y, in an array of its own, so that the row it is put into may be any.
-pub fn combined_row(scale: u32, x: &[u32], y: &[u32]) -> [u32; LONGEST]
-    requires { ⌜ (length (now x) ≤ longest) × (length (now y) ≡ length (now x)) ⌝ }
-    ensures { λ r. ⌜ length r ≡ longest ⌝ }
-    ensures { λ r. ⌜ take (length (now (x .entry))) r ≡ combined scale (now (x .entry)) (now (y .entry)) ⌝ }
+// A row, as a part of the list.
+pub fn row<'a>(shape: Shape, rows: &'a [u32], row: usize) -> &'a [u32]
+    requires { ⌜ Sized shape (now rows) × RowIn shape row ⌝ }
+    ensures { λ r. ⌜ now r ≡ rowAt (rowLength shape) (now (rows .entry)) row ⌝ }
+    ensures { λ r. ⌜ length (now r) ≡ rowLength shape ⌝ }
 {
-    let count = x.len();
-    let mut sum = room();
-    combine(scale, x, y, &mut sum[0..count]);
-    sum
+    let from = row_at(shape, row);
+    let end = from + shape.row_len();
+    &rows[from..end]
 }
 
-impl Session {
-    // The length of a row, t+1+2n.
-    pub fn width(self) -> usize
-        requires { ⌜ (self .n ≤ 4096) × (self .t ≤ 4096) ⌝ }
-        ensures { λ r. ⌜ r ≡ width self ⌝ }
-    {
-        self.t + 1 + 2 * self.n
-    }
+// The numbers, in the place of a row.
+pub fn put_row(shape: Shape, rows: &mut [u32], row: usize, numbers: &[u32])
+    requires { ⌜ Sized shape (now rows) × RowIn shape row × (length (now numbers) ≡ rowLength shape) ⌝ }
+    ensures { λ r. ⌜ now (rows .exit) ≡ withRow (rowLength shape) row (now (numbers .entry)) (now (rows .entry)) ⌝ }
+{
+    let from = row_at(shape, row);
+    let end = from + shape.row_len();
+    lists::copy(numbers, &mut rows[from..end]);
+}
 
-    // A row, as a part of the list.
-    pub fn row<'a>(self, rows: &'a [u32], row: usize) -> &'a [u32]
-        requires { ⌜ Framed self (now rows) × RowIn self row ⌝ }
-        ensures { λ r. ⌜ now r ≡ rowAt (width self) (now (rows .entry)) row ⌝ }
-        ensures { λ r. ⌜ length (now r) ≡ width self ⌝ }
-    {
-        let width = self.t + 1 + 2 * self.n;
-        let from = row * width;
-        let end = from + width;
-        &rows[from..end]
-    }
+// c added to the public sums of a row, which are its last n numbers.
+pub fn add_to_sums(shape: Shape, rows: &mut [u32], row: usize, c: u32)
+    requires { ⌜ Sized shape (now rows) × RowIn shape row ⌝ }
+    ensures { λ r. ⌜ now (rows .exit) ≡ withRow (rowLength shape) row (plusSums (sumsAt shape) c (rowAt (rowLength shape) (now (rows .entry)) row)) (now (rows .entry)) ⌝ }
+{
+    let n = shape.n;
+    let from = row_at(shape, row) + shape.sums_at();
+    let end = from + n;
+    add_to_each(&mut rows[from..end], c);
+}
 
-    // The numbers, in the place of a row.
-    pub fn put_row(self, rows: &mut [u32], row: usize, numbers: &[u32])
-        requires { ⌜ Framed self (now rows) × RowIn self row × (length (now numbers) ≡ width self) ⌝ }
-        ensures { λ r. ⌜ now (rows .exit) ≡ withRow (width self) row (now (numbers .entry)) (now (rows .entry)) ⌝ }
-    {
-        let width = self.t + 1 + 2 * self.n;
-        let from = row * width;
-        let end = from + width;
-        copy(numbers, &mut rows[from..end]);
+// Row a plus scale times row b, number by number, in the place of row dest, which may be one of them.
+fn combine_rows(shape: Shape, rows: &mut [u32], dest: usize, a: usize, b: usize, scale: u32)
+    requires { ⌜ Sized shape (now rows) × RowIn shape dest × RowIn shape a × RowIn shape b ⌝ }
+    ensures { λ r. ⌜ now (rows .exit) ≡ withRow (rowLength shape) dest (combined scale (rowAt (rowLength shape) (now (rows .entry)) a) (rowAt (rowLength shape) (now (rows .entry)) b)) (now (rows .entry)) ⌝ }
+{
+    let width = shape.row_len();
+    let to = row_at(shape, dest);
+    let from = row_at(shape, a);
+    let other = row_at(shape, b);
+    for i in 0..width {
+        rows[to + i] = field::add_product(rows[from + i], scale, rows[other + i]);
     }
+}
 
-    // c added to the public sums of a row, which are its last n numbers.
-    pub fn add_to_sums(self, rows: &mut [u32], row: usize, c: u32)
-        requires { ⌜ Framed self (now rows) × RowIn self row ⌝ }
-        ensures { λ r. ⌜ now (rows .exit) ≡ withRow (width self) row (plusSums (sumsAt self) c (rowAt (width self) (now (rows .entry)) row)) (now (rows .entry)) ⌝ }
-    {
-        let n = self.n;
-        let sums = self.t + 1 + n;
-        let from = row * (self.t + 1 + 2 * n) + sums;
-        let end = from + n;
-        add_to_each(&mut rows[from..end], c);
+// Row a plus scale times row b, in the place of row dest, with a fee added to its public sums.
+pub fn sum_rows(
+    shape: Shape,
+    rows: &mut [u32],
+    dest: usize,
+    a: usize,
+    b: usize,
+    scale: u32,
+    fee: u32,
+)
+    requires { ⌜ Sized shape (now rows) × RowIn shape dest × RowIn shape a × RowIn shape b ⌝ }
+    ensures { λ r. ⌜ now (rows .exit) ≡ withRow (rowLength shape) dest (plusSums (sumsAt shape) fee (combined scale (rowAt (rowLength shape) (now (rows .entry)) a) (rowAt (rowLength shape) (now (rows .entry)) b))) (now (rows .entry)) ⌝ }
+{
+    combine_rows(shape, rows, dest, a, b, scale);
+    if fee == 0 {
+        return;
     }
+    add_to_sums(shape, rows, dest, fee);
 }

@@ -1,27 +1,33 @@
 -- The refusal of a linear call from the checks that its code joins, and what holds where there is none.
-use Prim.Native.Nat.{ℕ, _-_}
-use mathlib.Core.Path.{_≡_, sym, _∙_, ap, ap₂}
+use Prim.Native.Nat.{ℕ, _≤_}
+use mathlib.Core.Path.{_≡_, _∙_, ap}
 use mathlib.Core.List.{List, [], _∷_, _++_}
-use native.Mathlib.Nat.{sub-zero}
-use lib.ListN.{length, take, drop}
+use Rattle.shape.specs.declared.Shape.{Shape}
+use Rattle.shape.specs.Bounds.{lastRow}
+use Rattle.shape.specs.Lengths.{rowLength, sumsAt}
 use Rattle.refusal.specs.Refusal.{Test, _when_, first, orElse}
 use Rattle.refusal.specs.Conditions.{beyond, anyBeyond}
 use Rattle.refusal.proofs.Laws.{first-join}
 use Rattle.refusal.proofs.Groups.{first-chain}
+use Rattle.refusal.proofs.Endings.{accepted}
 use Rattle.session.specs.declared.Session.{Session}
-use Rattle.session.specs.Rows.{width, rowAt, withRow, combined}
-use Rattle.session.specs.Checks.{frameTests, noRow, Framed, RowIn}
+use Rattle.session.specs.Sessions.{shapeOf}
+use Rattle.session.specs.Rows.{width, rowAt, withRow, combined, plusSums}
+use Rattle.session.specs.Checks.{frameTests, noRow, Framed, Sized, RowIn}
 use Rattle.session.proofs.Passed.{row-in}
 use Rattle.session.proofs.Calls.{stopped-at-frame, past-frame, allowed}
-use Rattle.sharing.specs.Linear.{linearMarks, linearRefusal}
+use Rattle.session.proofs.Summed.{plus-nothing}
+use Rattle.sharing.specs.Linear.{linearMarks, linearRefusal, linearRows}
 
 module _ (s : Session) (rows : List ℕ) (r a b scale : ℕ) where
   abbrev marks : List Test
   marks = linearMarks (s .marks) r a b
 
+  abbrev eight : ℕ → Test
+  eight q = 8 when anyBeyond (rowAt (width s) rows q)
+
   abbrev numbers : List Test
-  numbers =
-      8 when beyond scale ∷ 8 when anyBeyond (rowAt (width s) rows a) ∷ 8 when anyBeyond (rowAt (width s) rows b) ∷ []
+  numbers = 8 when beyond scale ∷ eight a ∷ eight b ∷ []
 
   abbrev own : List Test
   own = 6 when noRow r ∷ 6 when noRow a ∷ 6 when noRow b ∷ (marks ++ numbers)
@@ -30,13 +36,15 @@ module _ (s : Session) (rows : List ℕ) (r a b scale : ℕ) where
   unfolding linearRefusal
   linear-stopped f e n = stopped-at-frame s rows own f e n
 
-  pub linear-checked : (f x1 x2 x3 q x7 x8 x9 y1 y2 y3 y4 y7 y8 : ℕ) → f ≡ first (frameTests s rows) → f ≡ 0
+  pub linear-checked : (g : Shape) (f x1 x2 x3 q x7 x8 x9 y1 y2 y3 y4 y7 y8 : ℕ) → g ≡ shapeOf s → f ≡ first (frameTests s rows) → f ≡ 0
       → x1 ≡ first (6 when noRow r ∷ []) → x2 ≡ first (6 when noRow a ∷ []) → x3 ≡ first (6 when noRow b ∷ []) → q ≡ first marks
-      → x7 ≡ first (8 when beyond scale ∷ []) → x8 ≡ first (8 when anyBeyond (rowAt (width s) rows a) ∷ [])
-      → x9 ≡ first (8 when anyBeyond (rowAt (width s) rows b) ∷ []) → y8 ≡ orElse x8 x9 → y7 ≡ orElse x7 y8 → y4 ≡ orElse q y7
+      → x7 ≡ first (8 when beyond scale ∷ []) → x8 ≡ first (8 when anyBeyond (rowAt (rowLength g) rows a) ∷ [])
+      → x9 ≡ first (8 when anyBeyond (rowAt (rowLength g) rows b) ∷ []) → y8 ≡ orElse x8 x9 → y7 ≡ orElse x7 y8 → y4 ≡ orElse q y7
       → y3 ≡ orElse x3 y4 → y2 ≡ orElse x2 y3 → y1 ≡ orElse x1 y2 → y1 ≡ linearRefusal s rows r a b scale
   unfolding linearRefusal
-  linear-checked f x1 x2 x3 q x7 x8 x9 y1 y2 y3 y4 y7 y8 e n e1 e2 e3 eq e7 e8 e9 d8 d7 d4 d3 d2 d1 =
+  linear-checked g f x1 x2 x3 q x7 x8 x9 y1 y2 y3 y4 y7 y8 eg e n e1 e2 e3 eq e7 e8 e9 d8 d7 d4 d3 d2 d1 =
+      let h8 : x8 ≡ first (eight a ∷ []) = rw eg at e8 in
+      let h9 : x9 ≡ first (eight b ∷ []) = rw eg at e9 in
       past-frame s rows own f y1 e n
       (cc (
         first-join (6 when noRow r ∷ []) (6 when noRow a ∷ 6 when noRow b ∷ (marks ++ numbers)) tt,
@@ -46,19 +54,34 @@ module _ (s : Session) (rows : List ℕ) (r a b scale : ℕ) where
         first-chain numbers tt,
       ))
 
-  pub linear-allowed : (f : ℕ) → f ≡ linearRefusal s rows r a b scale → f ≡ 0
-      → Framed s rows × RowIn s r × RowIn s a × RowIn s b
-  unfolding linearRefusal
-  linear-allowed f e n =
-      let h = allowed s rows own tt f e n in
-      (h .0, row-in s r (h .1 .0), row-in s a (h .1 .1 .0), row-in s b (h .1 .1 .1 .0))
+  module _ (f : ℕ) (e : f ≡ linearRefusal s rows r a b scale) (n : f ≡ 0) where
+    passed : Framed s rows × RowIn (shapeOf s) r × RowIn (shapeOf s) a × RowIn (shapeOf s) b
+    unfolding linearRefusal
+    passed =
+        let h = allowed s rows own tt f e n in
+        (h .0, row-in (shapeOf s) r (h .1 .0), row-in (shapeOf s) a (h .1 .1 .0), row-in (shapeOf s) b (h .1 .1 .1 .0))
 
--- the sum, made beside the rows, is put in its row
-pub sum-put : (s : Session) (rows out sum x y : List ℕ) (w r a b scale : ℕ) → w ≡ width s → x ≡ rowAt (width s) rows a
-    → length x ≡ width s → y ≡ rowAt (width s) rows b → take (length x) sum ≡ combined scale x y
-    → out ≡ withRow (width s) r (take (w - 0) (drop 0 sum)) rows
-    → out ≡ withRow (width s) r (combined scale (rowAt (width s) rows a) (rowAt (width s) rows b)) rows
-sum-put s rows out sum x y w r a b scale ew ex lx ey es eo =
-    let h : take (w - 0) (drop 0 sum) ≡ combined scale (rowAt (width s) rows a) (rowAt (width s) rows b) =
-    ap (λ (z : ℕ). take z sum) (sub-zero w ∙ ew ∙ sym lx) ∙ es ∙ ap₂ (combined scale) ex ey in
-    eo ∙ ap (λ (z : List ℕ). withRow (width s) r z rows) h
+    pub linear-row : r ≤ lastRow
+    linear-row = passed .1 .row-in
+
+    module _ (g : Shape) (eg : g ≡ shapeOf s) where
+      pub linear-sized : Sized g rows
+      linear-sized = rw eg (passed .0 .sized)
+
+      pub linear-in : RowIn g r
+      linear-in = rw eg (passed .1)
+
+      pub linear-in-a : RowIn g a
+      linear-in-a = rw eg (passed .2)
+
+      pub linear-in-b : RowIn g b
+      linear-in-b = rw eg (passed .3)
+
+      pub linear-written : (out : List ℕ)
+          → out ≡ withRow (rowLength g) r (plusSums (sumsAt g) 0 (combined scale (rowAt (rowLength g) rows a) (rowAt (rowLength g) rows b))) rows
+          → out ≡ linearRows s rows r a b scale
+      linear-written out eo =
+          let x = rowAt (width s) rows a in
+          let y = rowAt (width s) rows b in
+          accepted f (linearRefusal s rows r a b scale) out (withRow (width s) r (combined scale x y) rows) rows e n
+          (rw eg at eo ∙ ap (λ (l : List ℕ). withRow (width s) r l rows) (plus-nothing (sumsAt (shapeOf s)) scale x y))

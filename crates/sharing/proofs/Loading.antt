@@ -1,55 +1,77 @@
 -- The refusals of the two loads from the checks that their code joins, and what holds where there is none.
-use Prim.Native.Nat.{ℕ, _*_, _≤_}
+use Prim.Native.Nat.{ℕ, _≤_}
 use mathlib.Core.Path.{_≡_, sym, _∙_}
 use mathlib.Core.List.{List, [], _∷_, _++_}
 use borrow.Author.Tests.{ltb-false}
 use lib.ListN.{length}
+use Rattle.shape.specs.declared.Shape.{Shape}
+use Rattle.shape.specs.Bounds.{lastRow, lastTriple}
+use Rattle.shape.specs.Marks.{empty}
+use Rattle.shape.specs.Lengths.{rowLength, tripleLength}
 use Rattle.refusal.specs.Refusal.{Test, _when_, first, orElse}
 use Rattle.refusal.specs.Conditions.{missized, anyBeyond}
 use Rattle.refusal.proofs.Laws.{equal, first-join, orElse-zero, all-fail}
 use Rattle.refusal.proofs.Groups.{chained, stopped, went-on}
+use Rattle.refusal.proofs.Endings.{accepted}
 use Rattle.session.specs.declared.Session.{Session}
-use Rattle.session.specs.Rows.{width}
-use Rattle.session.specs.Checks.{frameTests, noRow, noTriple, unlike, unlikeTriple, Framed, RowIn, TripleIn}
+use Rattle.session.specs.Sessions.{shapeOf}
+use Rattle.session.specs.Rows.{width, withRow}
+use Rattle.session.specs.Checks.{frameTests, noRow, noTriple, unlike, unlikeTriple, Framed, Sized, RowIn, TripleIn}
 use Rattle.session.proofs.Passed.{row-in, triple-in}
 use Rattle.session.proofs.Calls.{stopped-at-frame, past-frame, allowed}
-use Rattle.sharing.specs.Load.{loadRowRefusal, loadTripleRefusal}
+use Rattle.sharing.specs.Load.{loadRowRefusal, loadRowRows, loadTripleRefusal, withTriple, loadTripleRows}
 
 -- a triple's place was not refused
-placed-below : (r q5 q6 p : ℕ) → q6 ≡ first (6 when noTriple r ∷ []) → p ≡ orElse q5 q6 → p ≡ 0 → r ≤ 93
+placed-below : (r q5 q6 p : ℕ) → q6 ≡ first (6 when noTriple r ∷ []) → p ≡ orElse q5 q6 → p ≡ 0 → r ≤ lastTriple
 placed-below r q5 q6 p e6 ep h =
     let z : q6 ≡ 0 = orElse-zero q5 q6 (sym ep ∙ h) .1 in
-    ltb-false 93 r (all-fail (6 when noTriple r ∷ []) tt (sym e6 ∙ z) .0)
+    ltb-false lastTriple r (all-fail (6 when noTriple r ∷ []) tt (sym e6 ∙ z) .0)
 
 module _ (s : Session) (rows : List ℕ) (r : ℕ) (pack : List ℕ) where
   abbrev own-row : List Test
-  own-row = 5 when missized pack (width s) ∷ 6 when noRow r ∷ 7 when unlike s r 0 ∷ 8 when anyBeyond pack ∷ []
+  own-row = 5 when missized pack (width s) ∷ 6 when noRow r ∷ 7 when unlike s r empty ∷ 8 when anyBeyond pack ∷ []
 
   pub load-row-stopped : (f : ℕ) → f ≡ first (frameTests s rows) → (f ≡ 0 → ⊥) → f ≡ loadRowRefusal s rows r pack
   unfolding loadRowRefusal
   load-row-stopped f e n = stopped-at-frame s rows own-row f e n
 
-  pub load-row-checked : (f w q5 q6 q7 q8 x y z : ℕ) → f ≡ first (frameTests s rows) → f ≡ 0 → w ≡ width s
+  pub load-row-checked : (g : Shape) (f w q5 q6 q7 q8 x y z : ℕ) → g ≡ shapeOf s → f ≡ first (frameTests s rows) → f ≡ 0 → w ≡ rowLength g
       → q5 ≡ first (5 when missized pack w ∷ []) → q6 ≡ first (6 when noRow r ∷ [])
-      → q7 ≡ first (7 when unlike s r 0 ∷ []) → q8 ≡ first (8 when anyBeyond pack ∷ [])
+      → q7 ≡ first (7 when unlike s r empty ∷ []) → q8 ≡ first (8 when anyBeyond pack ∷ [])
       → x ≡ orElse q7 q8 → y ≡ orElse q6 x → z ≡ orElse q5 y → z ≡ loadRowRefusal s rows r pack
   unfolding loadRowRefusal
-  load-row-checked f w q5 q6 q7 q8 x y z e n ew e5 e6 e7 e8 ex ey ez =
-      let h : q5 ≡ first (5 when missized pack (width s) ∷ []) = rw ew at e5 in
+  load-row-checked g f w q5 q6 q7 q8 x y z eg e n ew e5 e6 e7 e8 ex ey ez =
+      let h : q5 ≡ first (5 when missized pack (width s) ∷ []) = rw (ew, eg) at e5 in
       past-frame s rows own-row f z e n (chained own-row tt z (cc))
 
-  pub load-row-allowed : (f : ℕ) → f ≡ loadRowRefusal s rows r pack → f ≡ 0
-      → Framed s rows × RowIn s r × (length pack ≡ width s)
-  unfolding loadRowRefusal
-  load-row-allowed f e n =
-      let h = allowed s rows own-row tt f e n in
-      (h .0, row-in s r (h .1 .1 .0), equal (length pack) (width s) (h .1 .0))
+  module _ (f : ℕ) (e : f ≡ loadRowRefusal s rows r pack) (n : f ≡ 0) where
+    row-passed : Framed s rows × RowIn (shapeOf s) r × (length pack ≡ width s)
+    unfolding loadRowRefusal
+    row-passed =
+        let h = allowed s rows own-row tt f e n in
+        (h .0, row-in (shapeOf s) r (h .1 .1 .0), equal (length pack) (width s) (h .1 .0))
+
+    pub load-row-row : r ≤ lastRow
+    load-row-row = row-passed .1 .row-in
+
+    module _ (g : Shape) (eg : g ≡ shapeOf s) where
+      pub load-row-sized : Sized g rows
+      load-row-sized = rw eg (row-passed .0 .sized)
+
+      pub load-row-in : RowIn g r
+      load-row-in = rw eg (row-passed .1)
+
+      pub load-row-long : length pack ≡ rowLength g
+      load-row-long = rw eg (row-passed .2)
+
+      pub load-row-written : (out : List ℕ) → out ≡ withRow (rowLength g) r pack rows → out ≡ loadRowRows s rows r pack
+      load-row-written out eo = accepted f (loadRowRefusal s rows r pack) out (withRow (width s) r pack rows) rows e n (rw eg at eo)
 
   abbrev placed : List Test
-  placed = 5 when missized pack (3 * width s) ∷ 6 when noTriple r ∷ []
+  placed = 5 when missized pack (tripleLength (shapeOf s)) ∷ 6 when noTriple r ∷ []
 
   abbrev marks : List Test
-  marks = unlikeTriple (s .marks) r 0 0 0
+  marks = unlikeTriple (s .marks) r empty empty empty
 
   abbrev late : List Test
   late = marks ++ (8 when anyBeyond pack ∷ [])
@@ -59,16 +81,16 @@ module _ (s : Session) (rows : List ℕ) (r : ℕ) (pack : List ℕ) where
   load-triple-stopped f e n = stopped-at-frame s rows (placed ++ late) f e n
 
   -- p is the refusal for the pack's length and the triple's place
-  module _ (f w q5 q6 p : ℕ) (e : f ≡ first (frameTests s rows)) (n : f ≡ 0) (ew : w ≡ width s)
-      (e5 : q5 ≡ first (5 when missized pack (3 * w) ∷ [])) (e6 : q6 ≡ first (6 when noTriple r ∷ [])) (ep : p ≡ orElse q5 q6) where
+  module _ (g : Shape) (f w q5 q6 p : ℕ) (eg : g ≡ shapeOf s) (e : f ≡ first (frameTests s rows)) (n : f ≡ 0) (ew : w ≡ tripleLength g)
+      (e5 : q5 ≡ first (5 when missized pack w ∷ [])) (e6 : q6 ≡ first (6 when noTriple r ∷ [])) (ep : p ≡ orElse q5 q6) where
     place : p ≡ first placed
-    place = let h : q5 ≡ first (5 when missized pack (3 * width s) ∷ []) = rw ew at e5 in chained placed tt p (cc)
+    place = let h : q5 ≡ first (5 when missized pack (tripleLength (shapeOf s)) ∷ []) = rw (ew, eg) at e5 in chained placed tt p (cc)
 
     pub load-triple-misplaced : (p ≡ 0 → ⊥) → p ≡ loadTripleRefusal s rows r pack
     unfolding loadTripleRefusal
     load-triple-misplaced h = past-frame s rows (placed ++ late) f p e n (stopped placed late tt p place h)
 
-    pub load-triple-checked : (q7 q8 z : ℕ) → p ≡ 0 → (r ≤ 93 → q7 ≡ first marks) → q8 ≡ first (8 when anyBeyond pack ∷ [])
+    pub load-triple-checked : (q7 q8 z : ℕ) → p ≡ 0 → (r ≤ lastTriple → q7 ≡ first marks) → q8 ≡ first (8 when anyBeyond pack ∷ [])
         → z ≡ orElse q7 q8 → z ≡ loadTripleRefusal s rows r pack
     unfolding loadTripleRefusal
     load-triple-checked q7 q8 z h e7′ e8 ez =
@@ -76,9 +98,26 @@ module _ (s : Session) (rows : List ℕ) (r : ℕ) (pack : List ℕ) where
         past-frame s rows (placed ++ late) f z e n
         (went-on placed late tt p place z h (cc (first-join marks (8 when anyBeyond pack ∷ []) tt)))
 
-  pub load-triple-allowed : (f : ℕ) → f ≡ loadTripleRefusal s rows r pack → f ≡ 0
-      → Framed s rows × TripleIn s r × (length pack ≡ 3 * width s)
-  unfolding loadTripleRefusal
-  load-triple-allowed f e n =
-      let h = allowed s rows (placed ++ late) tt f e n in
-      (h .0, triple-in s r (h .1 .1 .0), equal (length pack) (3 * width s) (h .1 .0))
+  module _ (f : ℕ) (e : f ≡ loadTripleRefusal s rows r pack) (n : f ≡ 0) where
+    triple-passed : Framed s rows × TripleIn (shapeOf s) r × (length pack ≡ tripleLength (shapeOf s))
+    unfolding loadTripleRefusal
+    triple-passed =
+        let h = allowed s rows (placed ++ late) tt f e n in
+        (h .0, triple-in (shapeOf s) r (h .1 .1 .0), equal (length pack) (tripleLength (shapeOf s)) (h .1 .0))
+
+    pub load-triple-row : r ≤ lastTriple
+    load-triple-row = triple-passed .1 .triple-in
+
+    module _ (g : Shape) (eg : g ≡ shapeOf s) where
+      pub load-triple-sized : Sized g rows
+      load-triple-sized = rw eg (triple-passed .0 .sized)
+
+      pub load-triple-in : TripleIn g r
+      load-triple-in = rw eg (triple-passed .1)
+
+      pub load-triple-long : length pack ≡ tripleLength g
+      load-triple-long = rw eg (triple-passed .2)
+
+      pub load-triple-written : (out : List ℕ) → out ≡ withTriple (rowLength g) r pack rows → out ≡ loadTripleRows s rows r pack
+      load-triple-written out eo =
+          accepted f (loadTripleRefusal s rows r pack) out (withTriple (width s) r pack rows) rows e n (rw eg at eo)

@@ -1,7 +1,7 @@
 -- The calls of this crate keep to the law of every call.
-use Prim.Native.Nat.{_+_}
 use native.Mathlib.Omega.{arith}
-use Rattle.session.specs.Sessions.{marked}
+use Rattle.shape.specs.Marks.{raw, held}
+use Rattle.session.specs.Sessions.{marked, loadedTriple}
 use Rattle.session.specs.Rows.{width, sumsAt, rowAt, withRow, coefficients, combined, plusSums}
 use Rattle.session.proofs.Lawful.{lawful}
 use Rattle.sharing.specs.Load.{loadRowRefusal, loadTripleRefusal, withTriple}
@@ -15,16 +15,16 @@ pub sharing-lawful : SharingLawful
 unfolding loadRowRefusal loadTripleRefusal dealRefusal messageRefusal linearRefusal
 sharing-lawful = record {
   load-row = λ s rows r pack.
-      lawful (loadRowTable s rows r pack) (omega arith) 0 (marked s r 1) s (withRow (width s) r pack rows) rows;
+      lawful (loadRowTable s rows r pack) (omega arith) 0 (marked s r raw) s (withRow (width s) r pack rows) rows;
   load-triple = λ s rows r pack.
-      lawful (loadTripleTable s rows r pack) (omega arith) 0 (marked (marked (marked s r 3) (r + 1) 4) (r + 2) 4) s
+      lawful (loadTripleTable s rows r pack) (omega arith) 0 (loadedTriple s r) s
       (withTriple (width s) r pack rows) rows;
   deal = λ s rows r c.
-      lawful (dealTable s rows r c) (omega arith) 0 (marked s r 2) s
+      lawful (dealTable s rows r c) (omega arith) 0 (marked s r held) s
       (withRow (width s) r (plusSums (sumsAt s) c (rowAt (width s) rows r)) rows) rows;
   message = λ s rows r out.
       lawful (messageTable s rows r out) (omega arith) 0 s s (coefficients s (rowAt (width s) rows r)) out;
   linear = λ s rows r a b scale.
-      lawful (linearTable s rows r a b scale) (omega arith) 0 (marked s r 2) s
+      lawful (linearTable s rows r a b scale) (omega arith) 0 (marked s r held) s
       (withRow (width s) r (combined scale (rowAt (width s) rows a) (rowAt (width s) rows b)) rows) rows;
 }

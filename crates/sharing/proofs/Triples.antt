@@ -7,9 +7,10 @@ use native.Mathlib.Omega.{arith}
 use lib.ListN.{length, take, drop}
 use lib.Seq.{take-all}
 use borrow.Rule.Slice.PartMut.{putMid}
-use Rattle.session.specs.declared.Session.{Session}
-use Rattle.session.specs.Rows.{width, rowAt, withRow}
-use Rattle.session.specs.Checks.{Framed, TripleIn}
+use Rattle.shape.specs.declared.Shape.{Shape}
+use Rattle.shape.specs.Lengths.{rowLength, tripleLength}
+use Rattle.session.specs.Rows.{rowAt, withRow}
+use Rattle.session.specs.Checks.{Sized, TripleIn}
 use Rattle.session.proofs.RowLaws.{next-row-put}
 use Rattle.sharing.specs.Load.{withTriple}
 
@@ -27,8 +28,8 @@ module _ (w r : ℕ) (rows pack : List ℕ) (room : r * w + 3 * w ≤ length row
       ∙ next-row-put w r 2 rows pack (omega arith) (omega arith)
       ∙ ap (putMid (r * w) (3 * w) rows) (take-all (3 * w) pack (omega arith))
 
-pub triple-loaded : (s : Session) (r : ℕ) (rows pack ys : List ℕ) → Framed s rows → TripleIn s r → length pack ≡ 3 * width s
-    → ys ≡ pack → putMid (r * width s) (r * width s + 3 * width s - r * width s) rows ys ≡ withTriple (width s) r pack rows
-triple-loaded s r rows pack ys f i size e =
-    rw (add-sub-cancel-left (r * width s) (3 * width s), e)
-    (sym (triple-put (width s) r rows pack (omega (arith, f .length-is, i .room)) size))
+pub triple-loaded : (g : Shape) (r from k : ℕ) (rows pack ys : List ℕ) → from ≡ r * rowLength g → k ≡ tripleLength g → Sized g rows
+    → TripleIn g r → length pack ≡ tripleLength g → ys ≡ pack → putMid from (from + k - from) rows ys ≡ withTriple (rowLength g) r pack rows
+triple-loaded g r from k rows pack ys ef ek z i size e =
+    let w = rowLength g in
+    rw (ef, ek, add-sub-cancel-left (r * w) (3 * w), e) (sym (triple-put w r rows pack (omega (arith, z .length-is, i .room)) size))

@@ -3,6 +3,7 @@ use Prim.Native.Nat.{ℕ}
 use mathlib.Core.List.{List, [], _∷_, _++_}
 use Rattle.refusal.specs.Refusal.{Test, _when_, first, outcome}
 use Rattle.refusal.specs.Conditions.{beyond, anyBeyond}
+use Rattle.shape.specs.Marks.{raw, held}
 use Rattle.session.specs.declared.Session.{Session}
 use Rattle.session.specs.declared.Answer.{Answer}
 use Rattle.session.specs.Sessions.{marked, answer}
@@ -12,13 +13,13 @@ use Rattle.session.specs.Checks.{frameTests, noRow, unlike}
 abbrev pub dealTests : Session → List ℕ → ℕ → ℕ → List Test
 dealTests s rows r c =
     frameTests s rows
-    ++ (6 when noRow r ∷ 7 when unlike s r 1 ∷ 8 when beyond c ∷ 8 when anyBeyond (rowAt (width s) rows r) ∷ [])
+    ++ (6 when noRow r ∷ 7 when unlike s r raw ∷ 8 when beyond c ∷ 8 when anyBeyond (rowAt (width s) rows r) ∷ [])
 
 unfoldable pub dealRefusal : Session → List ℕ → ℕ → ℕ → ℕ
 dealRefusal s rows r c = first (dealTests s rows r c)
 
 abbrev pub dealAnswer : Session → List ℕ → ℕ → ℕ → Answer
-dealAnswer s rows r c = answer (dealRefusal s rows r c) 0 (marked s r 2) s
+dealAnswer s rows r c = answer (dealRefusal s rows r c) 0 (marked s r held) s
 
 abbrev pub dealRows : Session → List ℕ → ℕ → ℕ → List ℕ
 dealRows s rows r c =

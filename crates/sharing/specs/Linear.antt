@@ -4,6 +4,7 @@ use Prim.Native.Nat.{ℕ}
 use mathlib.Core.List.{List, [], _∷_, _++_}
 use Rattle.refusal.specs.Refusal.{Test, _when_, first, outcome}
 use Rattle.refusal.specs.Conditions.{beyond, anyBeyond}
+use Rattle.shape.specs.Marks.{empty, held}
 use Rattle.session.specs.declared.Session.{Session}
 use Rattle.session.specs.declared.Answer.{Answer}
 use Rattle.session.specs.Sessions.{marked, answer}
@@ -12,7 +13,7 @@ use Rattle.session.specs.Checks.{frameTests, noRow, unlikeIn}
 
 -- 7, of the three rows' marks.
 abbrev pub linearMarks : List ℕ → ℕ → ℕ → ℕ → List Test
-linearMarks marks r a b = 7 when unlikeIn marks r 0 ∷ 7 when unlikeIn marks a 2 ∷ 7 when unlikeIn marks b 2 ∷ []
+linearMarks marks r a b = 7 when unlikeIn marks r empty ∷ 7 when unlikeIn marks a held ∷ 7 when unlikeIn marks b held ∷ []
 
 -- 8 covers the scale and the rows a and b, not the row that is written.
 abbrev pub linearTests : Session → List ℕ → ℕ → ℕ → ℕ → ℕ → List Test
@@ -28,7 +29,7 @@ unfoldable pub linearRefusal : Session → List ℕ → ℕ → ℕ → ℕ → 
 linearRefusal s rows r a b scale = first (linearTests s rows r a b scale)
 
 abbrev pub linearAnswer : Session → List ℕ → ℕ → ℕ → ℕ → ℕ → Answer
-linearAnswer s rows r a b scale = answer (linearRefusal s rows r a b scale) 0 (marked s r 2) s
+linearAnswer s rows r a b scale = answer (linearRefusal s rows r a b scale) 0 (marked s r held) s
 
 abbrev pub linearRows : Session → List ℕ → ℕ → ℕ → ℕ → ℕ → List ℕ
 linearRows s rows r a b scale =

@@ -1,11 +1,13 @@
 -- Document 01, "From the factory", Loading: "A raw row goes to an empty row; a triple goes to three empty rows r, r+1, r+2".
-use Prim.Native.Nat.{ℕ, _+_, _*_}
+use Prim.Native.Nat.{ℕ, _+_}
 use mathlib.Core.List.{List, [], _∷_, _++_}
 use Rattle.refusal.specs.Refusal.{Test, _when_, first, outcome}
 use Rattle.refusal.specs.Conditions.{missized, anyBeyond}
+use Rattle.shape.specs.Marks.{empty, raw}
+use Rattle.shape.specs.Lengths.{tripleLength}
 use Rattle.session.specs.declared.Session.{Session}
 use Rattle.session.specs.declared.Answer.{Answer}
-use Rattle.session.specs.Sessions.{marked, answer}
+use Rattle.session.specs.Sessions.{shapeOf, marked, loadedTriple, answer}
 use Rattle.session.specs.Rows.{width, rowAt, withRow}
 use Rattle.session.specs.Checks.{frameTests, noRow, noTriple, unlike, unlikeTriple}
 
@@ -13,13 +15,13 @@ use Rattle.session.specs.Checks.{frameTests, noRow, noTriple, unlike, unlikeTri
 abbrev pub loadRowTests : Session → List ℕ → ℕ → List ℕ → List Test
 loadRowTests s rows r pack =
     frameTests s rows
-    ++ (5 when missized pack (width s) ∷ 6 when noRow r ∷ 7 when unlike s r 0 ∷ 8 when anyBeyond pack ∷ [])
+    ++ (5 when missized pack (width s) ∷ 6 when noRow r ∷ 7 when unlike s r empty ∷ 8 when anyBeyond pack ∷ [])
 
 unfoldable pub loadRowRefusal : Session → List ℕ → ℕ → List ℕ → ℕ
 loadRowRefusal s rows r pack = first (loadRowTests s rows r pack)
 
 abbrev pub loadRowAnswer : Session → List ℕ → ℕ → List ℕ → Answer
-loadRowAnswer s rows r pack = answer (loadRowRefusal s rows r pack) 0 (marked s r 1) s
+loadRowAnswer s rows r pack = answer (loadRowRefusal s rows r pack) 0 (marked s r raw) s
 
 abbrev pub loadRowRows : Session → List ℕ → ℕ → List ℕ → List ℕ
 loadRowRows s rows r pack = outcome (loadRowRefusal s rows r pack) (withRow (width s) r pack rows) rows
@@ -28,16 +30,15 @@ loadRowRows s rows r pack = outcome (loadRowRefusal s rows r pack) (withRow (wid
 abbrev pub loadTripleTests : Session → List ℕ → ℕ → List ℕ → List Test
 loadTripleTests s rows r pack =
     frameTests s rows
-    ++ (5 when missized pack (3 * width s)
+    ++ (5 when missized pack (tripleLength (shapeOf s))
     ∷ 6 when noTriple r
-    ∷ (unlikeTriple (s .marks) r 0 0 0 ++ (8 when anyBeyond pack ∷ [])))
+    ∷ (unlikeTriple (s .marks) r empty empty empty ++ (8 when anyBeyond pack ∷ [])))
 
 unfoldable pub loadTripleRefusal : Session → List ℕ → ℕ → List ℕ → ℕ
 loadTripleRefusal s rows r pack = first (loadTripleTests s rows r pack)
 
--- "3 first row of an unused triple; 4 its second or third row"
 abbrev pub loadTripleAnswer : Session → List ℕ → ℕ → List ℕ → Answer
-loadTripleAnswer s rows r pack = answer (loadTripleRefusal s rows r pack) 0 (marked (marked (marked s r 3) (r + 1) 4) (r + 2) 4) s
+loadTripleAnswer s rows r pack = answer (loadTripleRefusal s rows r pack) 0 (loadedTriple s r) s
 
 unfoldable pub withTriple : ℕ → ℕ → List ℕ → List ℕ → List ℕ
 withTriple w r pack rows =

@@ -2,9 +2,6 @@
 use session::Answer;
 use session::Session;
 ghost use mathlib.Core.Path.{_≡_};
-ghost use Rattle.session.specs.Sessions.{marked};
-ghost use Rattle.session.specs.Rows.{width, sumsAt, rowAt, withRow, plusSums};
-ghost use Rattle.session.specs.Checks.{Framed, RowIn};
 ghost use Rattle.sharing.specs.Deal.{dealRefusal, dealAnswer, dealRows};
 
 fn deal_refusal(session: Session, rows: &[u32], row: usize, c: u32) -> u8
@@ -14,20 +11,17 @@ fn deal_refusal(session: Session, rows: &[u32], row: usize, c: u32) -> u8
     if frame != 0 {
         return frame;
     }
-    let numbers = refusal::or_else(refusal::number(c), session.numbers(rows, row));
+    let numbers = refusal::or_else(
+        refusal::number(c),
+        session::checks::numbers(session.shape(), rows, row),
+    );
     refusal::or_else(
         session::checks::row(row),
-        refusal::or_else(session::checks::unlike(&session.marks, row, 1), numbers),
+        refusal::or_else(
+            session::checks::unlike(&session.marks, row, shape::RAW),
+            numbers,
+        ),
     )
-}
-
-fn deal_accepted(session: Session, rows: &mut [u32], row: usize, c: u32) -> Session
-    requires { ⌜ Framed session (now rows) × RowIn session row ⌝ }
-    ensures { λ r. ⌜ r ≡ marked session row 2 ⌝ }
-    ensures { λ r. ⌜ now (rows .exit) ≡ withRow (width session) row (plusSums (sumsAt session) c (rowAt (width session) (now (rows .entry)) row)) (now (rows .entry)) ⌝ }
-{
-    session.add_to_sums(rows, row, c);
-    session.dealt(row)
 }
 
 pub fn deal(session: Session, rows: &mut [u32], row: usize, c: u32) -> Answer
@@ -36,16 +30,8 @@ pub fn deal(session: Session, rows: &mut [u32], row: usize, c: u32) -> Answer
 {
     let refusal = deal_refusal(session, rows, row, c);
     if refusal != 0 {
-        return Answer {
-            refusal,
-            value: 0,
-            session,
-        };
+        return session.refuse(refusal);
     }
-    let dealt = deal_accepted(session, rows, row, c);
-    Answer {
-        refusal: 0,
-        value: 0,
-        session: dealt,
-    }
+    session::rows::add_to_sums(session.shape(), rows, row, c);
+    session.done_marking(row, shape::HELD)
 }

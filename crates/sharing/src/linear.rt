@@ -3,9 +3,6 @@ use session::Answer;
 use session::Session;
 ghost use mathlib.Core.Path.{_≡_};
 ghost use Rattle.refusal.specs.Refusal.{first};
-ghost use Rattle.session.specs.Sessions.{marked};
-ghost use Rattle.session.specs.Rows.{width, rowAt, withRow, combined};
-ghost use Rattle.session.specs.Checks.{Framed, RowIn};
 ghost use Rattle.sharing.specs.Linear.{linearMarks, linearRefusal, linearAnswer, linearRows};
 
 // 7, of the three rows.
@@ -13,10 +10,10 @@ fn linear_marks(marks: &[u8], dest: usize, a: usize, b: usize) -> u8
     ensures { λ r. ⌜ r ≡ first (linearMarks (now (marks .entry)) dest a b) ⌝ }
 {
     refusal::or_else(
-        session::checks::unlike(marks, dest, 0),
+        session::checks::unlike(marks, dest, shape::EMPTY),
         refusal::or_else(
-            session::checks::unlike(marks, a, 2),
-            session::checks::unlike(marks, b, 2),
+            session::checks::unlike(marks, a, shape::HELD),
+            session::checks::unlike(marks, b, shape::HELD),
         ),
     )
 }
@@ -28,9 +25,13 @@ fn linear_refusal(session: Session, rows: &[u32], dest: usize, a: usize, b: usiz
     if frame != 0 {
         return frame;
     }
+    let shape = session.shape();
     let numbers = refusal::or_else(
         refusal::number(scale),
-        refusal::or_else(session.numbers(rows, a), session.numbers(rows, b)),
+        refusal::or_else(
+            session::checks::numbers(shape, rows, a),
+            session::checks::numbers(shape, rows, b),
+        ),
     );
     let marked = refusal::or_else(linear_marks(&session.marks, dest, a, b), numbers);
     refusal::or_else(
@@ -40,24 +41,6 @@ fn linear_refusal(session: Session, rows: &[u32], dest: usize, a: usize, b: usiz
             refusal::or_else(session::checks::row(b), marked),
         ),
     )
-}
-
-fn linear_accepted(
-    session: Session,
-    rows: &mut [u32],
-    dest: usize,
-    a: usize,
-    b: usize,
-    scale: u32,
-) -> Session
-    requires { ⌜ Framed session (now rows) × RowIn session dest × RowIn session a × RowIn session b ⌝ }
-    ensures { λ r. ⌜ r ≡ marked session dest 2 ⌝ }
-    ensures { λ r. ⌜ now (rows .exit) ≡ withRow (width session) dest (combined scale (rowAt (width session) (now (rows .entry)) a) (rowAt (width session) (now (rows .entry)) b)) (now (rows .entry)) ⌝ }
-{
-    let width = session.width();
-    let sum = session::rows::combined_row(scale, session.row(rows, a), session.row(rows, b));
-    session.put_row(rows, dest, &sum[0..width]);
-    session.dealt(dest)
 }
 
 pub fn linear(
@@ -73,16 +56,8 @@ pub fn linear(
 {
     let refusal = linear_refusal(session, rows, dest, a, b, scale);
     if refusal != 0 {
-        return Answer {
-            refusal,
-            value: 0,
-            session,
-        };
+        return session.refuse(refusal);
     }
-    let summed = linear_accepted(session, rows, dest, a, b, scale);
-    Answer {
-        refusal: 0,
-        value: 0,
-        session: summed,
-    }
+    session::rows::sum_rows(session.shape(), rows, dest, a, b, scale, 0);
+    session.done_marking(dest, shape::HELD)
 }

@@ -37,16 +37,16 @@ front-as k part new rows e = ap (λ (l : List ℕ). l ++ drop k rows) e
 
 -- ---- the record's part
 module _ (s : Session) (i : InRange s) where
-  record-room : s .n * (s .t + 2) ≤ 1056
+  record-room : s .n * (s .t + 1 + 1) ≤ 1056
   record-room =
-      let h : s .t + 2 ≤ 33 = omega (arith, i .n-in .1, i .t-in .1) in
-      omega (arith, mul-le-mul {n₁ = s .n} {m₁ = s .t + 2} {n₂ = 32} {m₂ = 33} (i .n-in .1) h)
+      let h : s .t + 1 + 1 ≤ 33 = omega (arith, i .n-in .1, i .t-in .1) in
+      omega (arith, mul-le-mul {n₁ = s .n} {m₁ = s .t + 1 + 1} {n₂ = 32} {m₂ = 33} (i .n-in .1) h)
 
-  pub record-fits : Fits w64 (s .n * (s .t + 2))
+  pub record-fits : Fits w64 (s .n * (s .t + 1 + 1))
   record-fits = omega (arith, record-room)
 
-  pub record-prefix : (l : List ℕ) → length l ≡ 1056 → s .n * (s .t + 2) ≡ length (take (s .n * (s .t + 2)) l)
-  record-prefix l e = sym (length-take-le (s .n * (s .t + 2)) l (omega (arith, record-room)))
+  pub record-prefix : (l : List ℕ) → length l ≡ 1056 → s .n * (s .t + 1 + 1) ≡ length (take (s .n * (s .t + 1 + 1)) l)
+  record-prefix l e = sym (length-take-le (s .n * (s .t + 1 + 1)) l (omega (arith, record-room)))
 
 -- ---- what the readers hand on
 named-refusal : (x y : ℕ) → namedAs x y .refusal ≡ x

@@ -2,7 +2,7 @@
 use Prim.Native.Nat.{ℕ, _+_, _-_, _*_, _≤_}
 use mathlib.Core.Path.{_≡_, refl, ap, sym, _∙_}
 use mathlib.Core.List.{List, [], _∷_, _++_}
-use mathlib.Core.Bool.{Bool, true, false, cond}
+use mathlib.Core.Bool.{Bool, true, false, cond, _||_}
 use native.Mathlib.Nat.{add-sub-cancel-left, mul-le-mul}
 use native.Mathlib.Omega.{arith}
 use borrow.Author.Tests.{eq-eqb, ne-eqb}
@@ -12,7 +12,7 @@ use mir.Val.{Fits}
 use lib.ListN.{length, getD, set, take, drop, replicate, length-set, length-drop, length-replicate}
 use lib.Seq.{drop-drop, take-at, take-take}
 use lib.Dec.{eqb, ltb}
-use Rattle.refusal.specs.Conditions.{or, outside, anyBeyond}
+use Rattle.refusal.specs.Conditions.{outside, anyBeyond}
 use Rattle.refusal.proofs.Laws.{or-false, all-fail, inside}
 use Rattle.refusal.proofs.Endings.{refused, accepted}
 use Rattle.fields.specs.Fields.{Parsed, parsed, malformed, overwrite}
@@ -68,7 +68,7 @@ module _ (s : Session) (line : List ℕ) (h : Heard) (a : HeardAs s line h) (i :
       let f = all-fail (lineTests (s .n) k line) tt (sym (a .refusal-is) ∙ z) in
       let m = heard s line in
       let out : Bool = cond (eqb (getD line 0 0) 68) false (outside 1 (s .n) (m .post)) in
-      let b = or-false (ltb (lastRow (getD line 0 0)) (m .row)) (or out (anyBeyond (m .numbers))) (f .1 .0) in
+      let b = or-false (ltb (lastRow (getD line 0 0)) (m .row)) (out || anyBeyond (m .numbers)) (f .1 .0) in
       let c = or-false out (anyBeyond (m .numbers)) (b .1) in
       (f .0, skip (eqb (getD line 0 0) 68) (outside 1 (s .n) (m .post)) (rw o) (c .0))
 

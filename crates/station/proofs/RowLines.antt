@@ -2,14 +2,14 @@
 use Prim.Native.Nat.{ℕ, _≤_, _<_}
 use mathlib.Core.Path.{_≡_, refl, ap, sym, _∙_}
 use mathlib.Core.List.{List, [], _∷_}
-use mathlib.Core.Bool.{Bool}
+use mathlib.Core.Bool.{Bool, _||_}
 use native.Mathlib.Omega.{arith}
 use borrow.Author.Tests.{lt-ltb, le-ltb}
 use lib.ListN.{length, getD, drop}
 use lib.Dec.{ltb}
 use Rattle.field.specs.Modulus.{p}
 use Rattle.refusal.specs.Refusal.{_when_, first, outcome}
-use Rattle.refusal.specs.Conditions.{or, beyond}
+use Rattle.refusal.specs.Conditions.{beyond}
 use Rattle.fields.specs.declared.Run.{Run}
 use Rattle.fields.specs.declared.Run.the-variants.{Fields, Broken}
 use Rattle.fields.specs.Fields.{Parsed, parsed, malformed, push, fieldsAt, ended, numbersOf, largestFrom, runOf, Fillable}
@@ -52,8 +52,8 @@ module _ (s out : List ℕ) (row at : ℕ) (r : Run) (e : r ≡ runOf (ended s (
     there : Found rest largest
     there = found rest largest next (sym e ∙ w)
 
-    refusal-is : refusal ≡ first (11 when or (ltb 95 row) (beyond largest) ∷ [])
-    refusal-is = rw (there .all) (ap (λ (b : Bool). first (11 when or (ltb 95 row) b ∷ [])) (largest-any 0 (there .numbers) ∙ ap beyond (sym (there .largest-is))))
+    refusal-is : refusal ≡ first (11 when (ltb 95 row || beyond largest) ∷ [])
+    refusal-is = rw (there .all) (ap (λ (b : Bool). first (11 when (ltb 95 row || b) ∷ [])) (largest-any 0 (there .numbers) ∙ ap beyond (sym (there .largest-is))))
 
     pub row-above : (v : Named) → 95 < row → v ≡ unnamed 11 → v ≡ namedAs refusal row
     unfolding outcome

@@ -2,7 +2,7 @@
 use Prim.Native.Nat.{ℕ, zero, suc, _+_, _≤_, _<_, _^_}
 use mathlib.Core.Path.{_≡_, refl, ap, sym, _∙_}
 use mathlib.Core.List.{List, [], _∷_, _++_}
-use mathlib.Core.Bool.{Bool, true, false, _&&_, cond}
+use mathlib.Core.Bool.{Bool, true, false, _&&_, cond, _||_}
 use native.Mathlib.Omega.{arith}
 use borrow.Author.Tests.{lt-ltb, le-ltb, ne-eqb, eqb-true}
 use mir.Syntax.{w64}
@@ -11,7 +11,7 @@ use lib.ListN.{length, getD, List·getD-eq-default}
 use lib.Dec.{eqb, ltb}
 use Rattle.field.specs.Modulus.{p}
 use Rattle.refusal.specs.Refusal.{_when_, first, outcome}
-use Rattle.refusal.specs.Conditions.{or, outside, beyond, badPoint, postsTests}
+use Rattle.refusal.specs.Conditions.{outside, beyond, badPoint, postsTests}
 use Rattle.refusal.proofs.Laws.{or-false, all-fail}
 use Rattle.refusal.proofs.Elements.{below-p}
 use Rattle.refusal.proofs.Endings.{refused, accepted}
@@ -166,7 +166,7 @@ module _ (st : State) (n t post point w : ℕ) (made : Answer) (e : w ≡ cond (
   same-point : badPoint w ≡ badPoint point
   same-point = rw e (go (ltb point p) refl)
     where
-      or-true : (b : Bool) → or b true ≡ true
+      or-true : (b : Bool) → b || true ≡ true
       or-true true = refl
       or-true false = refl
 

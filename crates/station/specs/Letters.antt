@@ -3,11 +3,11 @@
 use Prim.Native.Nat.{ℕ, suc, _+_, _-_, _*_, _≤_}
 use mathlib.Core.Path.{_≡_}
 use mathlib.Core.List.{List, [], _∷_, _++_}
-use mathlib.Core.Bool.{Bool, cond}
+use mathlib.Core.Bool.{Bool, cond, _||_}
 use lib.ListN.{length, getD, take, drop, replicate}
 use lib.Dec.{eqb, ltb}
 use Rattle.refusal.specs.Refusal.{Test, _when_, first, outcome}
-use Rattle.refusal.specs.Conditions.{or, anyBeyond}
+use Rattle.refusal.specs.Conditions.{anyBeyond}
 use Rattle.fields.specs.Fields.{Parsed, fieldsAt, ended, numbersOf, overwrite, padded}
 use Rattle.forms.specs.Lines.{Message}
 use Rattle.forms.specs.Forms.{isMalformed, message, lineTests}
@@ -31,7 +31,7 @@ rowForm k s = ended s (fieldsAt (suc k) s 1)
 
 -- "row above 95", or an element "at least p"
 abbrev pub rowBeyond : List ℕ → Bool
-rowBeyond xs = or (ltb 95 (getD xs 0 0)) (anyBeyond (drop 1 xs))
+rowBeyond xs = ltb 95 (getD xs 0 0) || anyBeyond (drop 1 xs)
 
 -- 10 and 11
 abbrev pub rowTests : Parsed → List Test

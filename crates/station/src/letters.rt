@@ -93,7 +93,7 @@ fn put_block(blocks: &mut [u32], at: usize, coefficients: &[u32])
     blocks[at] = 1;
     let from = at + 1;
     let end = from + coefficients.len();
-    session::rows::copy(coefficients, &mut blocks[from..end]);
+    lists::copy(coefficients, &mut blocks[from..end]);
 }
 
 // The record is emptied, unless it is kept for this row.
@@ -147,7 +147,7 @@ fn open<'a>(state: State, rows: &'a [u32], row: usize, blocks: &'a [u32]) -> Ste
 {
     let session = state.session;
     let end = 96 * (session.t + 1 + 2 * session.n);
-    let count = session.n * (session.t + 2);
+    let count = session.n * (session.t + 1 + 1);
     let answer = opening::open(session, &rows[..end], row, &blocks[..count]);
     answered(state, answer)
 }

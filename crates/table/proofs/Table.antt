@@ -9,7 +9,8 @@ use Rattle.factory.specs.Draw.{eachFrom, part}
 use Rattle.factory.specs.Packs.{dealerRefusal}
 use Rattle.session.specs.Rows.{combined, plusSums}
 use Rattle.session.specs.Sessions.{created}
-use Rattle.opening.specs.Walking.{sent, accepts, share, walk, walkEnd, opened}
+use Rattle.opening.specs.Blocks as Blocks
+use Rattle.opening.specs.Accepting as Accepting
 use Rattle.product.specs.Finish.{productRow}
 use Rattle.decimal.specs.Numeral.{lastDigits, sizeWithin, leading, valueAfter, fieldOf}
 use Rattle.fields.specs.Fields.{fields, fieldsAt}
@@ -26,7 +27,7 @@ unfolding outcome lastDigits sizeWithin fields lineRefusal
 writes = record { answer = refl; bytes = refl }
 
 pub table : Table
-unfolding sum product difference euclid inverse value nodal weight terms interpolated anyBeyond outcome eachFrom part dealerRefusal combined plusSums created sent accepts share walk walkEnd opened productRow leading valueAfter fieldOf fieldsAt formOf lineRefusal pointAt drawn drawnA drawnB drawnTriple
+unfolding sum product difference euclid inverse value nodal weight terms interpolated anyBeyond outcome eachFrom part dealerRefusal combined plusSums created Blocks.sent Accepting.accepts Accepting.share Accepting.walk Accepting.walkEnd Accepting.opened productRow leading valueAfter fieldOf fieldsAt formOf lineRefusal pointAt drawn drawnA drawnB drawnTriple
 table =
     record {
       p1 = refl;

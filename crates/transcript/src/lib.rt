@@ -10,7 +10,6 @@ ghost use Prim.Native.Nat.{_+_, _≤_};
 ghost use lib.ListN.{length, take, drop};
 ghost use lib.Dec.{ltb};
 ghost use Rattle.station.specs.Step.{Ready};
-ghost use Rattle.decimal.specs.Numeral.{lastDigits};
 ghost use Rattle.fields.specs.Fields.{overwrite};
 ghost use Rattle.transcript.specs.Text.{header, longSize, longNumeral, answerText, longestAnswer};
 ghost use Rattle.transcript.specs.Lines.{segment, keptLength, cut, laid};
@@ -37,26 +36,13 @@ fn long_size(x: u64) -> usize
     k
 }
 
-// A number's last digits, as many as the part has places.
-fn put_digits(part: &mut [u8], x: u64)
-    ensures { λ r. ⌜ now (part .exit) ≡ lastDigits (length (now (part .entry))) x ⌝ }
-{
-    let mut i = part.len();
-    let mut y = x;
-    while 0 < i {
-        i -= 1;
-        part[i] = 48 + (y % 10) as u8;
-        y = y / 10;
-    }
-}
-
 // A number from a position on; the position behind.
 fn put_number(out: &mut [u8], at: usize, x: u64) -> usize
     requires { ⌜ at + length (longNumeral x) ≤ length (now out) ⌝ }
     ensures { λ r. ⌜ (r ≡ at + length (longNumeral x)) × (now (out .exit) ≡ overwrite at (longNumeral x) (now (out .entry))) ⌝ }
 {
     let end = at + long_size(x);
-    put_digits(&mut out[at..end], x);
+    decimal::put_digits(&mut out[at..end], x);
     end
 }
 

@@ -1,5 +1,5 @@
 -- The claims of specs/Claims.antt.
-use Prim.Native.Nat.{ℕ, zero, suc, _+_, _*_, _<_}
+use Prim.Native.Nat.{ℕ, zero, suc, _+_, _*_, _-_, _<_}
 use mathlib.Core.Path.{_≡_, refl, sym, _∙_, ap, ap₂, fun-ext}
 use mathlib.Core.Bool.{Bool, true, false, cond}
 use mathlib.Core.List.{List, [], _∷_, _++_, map}
@@ -23,9 +23,11 @@ use Rattle.poly.specs.Counting.{All, Elements}
 use Rattle.poly.proofs.Lists.{all-map}
 use Rattle.poly.proofs.Theorems.{interpolation-is-exact}
 use Rattle.session.specs.declared.Session.{Session}
-use Rattle.session.specs.Sessions.{holding}
-use Rattle.session.specs.Rows.{checkValue, publicSum, combined}
+use Rattle.shape.specs.Row.{checkValue, publicSum}
+use Rattle.session.specs.Sessions.{shapeOf, holding}
+use Rattle.session.specs.Rows.{combined}
 use Rattle.session.proofs.Writers.{length-combined}
+use Rattle.opening.specs.Accepting as Accepting
 use Rattle.opening.specs.Walking.{sent, accepts, share, acceptedPosts, tooFew, opened}
 use Rattle.opening.proofs.Opens.{open-allowed}
 use Rattle.opening.proofs.Theorems.{open-nine, open-number}
@@ -108,7 +110,7 @@ module _ (s : Session) (S : Vector) (blocks : List ℕ) where
   row : List ℕ
   row = heldRow s S
 
-  sum-of-row : (j : ℕ) → j < s .n → publicSum s row (suc j) ≡ sumAt (s .t + 1) S j .0
+  sum-of-row : (j : ℕ) → j < s .n → publicSum (shapeOf s) row (suc j) ≡ sumAt (s .t + 1) S j .0
   unfolding row rowOf
   sum-of-row j h =
       ap (λ (z : ℕ). getD (a ++ (b ++ m)) z 0) place ∙ getD-append-add a (b ++ m) (s .n + j) 0
@@ -124,13 +126,13 @@ module _ (s : Session) (S : Vector) (blocks : List ℕ) where
       m : List ℕ
       m = numbers (s .n) (sumAt (s .t + 1) S)
 
-      place : s .t + s .n + suc j ≡ length a + (s .n + j)
+      place : s .t + 1 + s .n + (suc j - 1) ≡ length a + (s .n + j)
       place = omega (arith, length-numbers (s .t + 1) (S .v (s .post)))
 
   -- the share of a post whose own polynomial was accepted
   share-true : (j : ℕ) → j < s .n → sent s row blocks (suc j) ≡ numbers (s .t + 1) (S .v (suc j))
       → share s row blocks (suc j) ≡ value (numbers (s .t + 1) (shareOf S)) (suc j)
-  unfolding share Same
+  unfolding Accepting.share Same
   share-true j h e =
       ap₂ difference (sum-of-row j h)
       (ap (λ (q : List ℕ). getD q 0 0) e ∙ number-at (s .t + 1) (S .v (suc j)) 0 (omega arith))
@@ -168,7 +170,7 @@ module _ (s : Session) (S : Vector) (blocks : List ℕ) where
 
   exact : s .n < p → All (λ j. sent s row blocks j ≡ numbers (s .t + 1) (S .v j)) posts → tooFew s row blocks ≡ false
       → opened s row blocks ≡ number S .0
-  unfolding opened posts shareOf Same
+  unfolding Accepting.opened posts shareOf Same
   exact few true-all enough =
       ap (λ (ys : List ℕ). interpolated posts ys 0) (shares-true posts in-range true-all)
       ∙ interpolation-is-exact posts (all-map (λ j a. omega (arith, a .before)) posts in-range)
@@ -180,7 +182,7 @@ module _ (s : Session) (S : Vector) (blocks : List ℕ) where
       at-zero = rw (add-one (s .t)) (valueAt-zero (s .t) (shareOf S) ∙ solve 𝓡 (S .f 0 ∷ S .c ∷ []) (A :+ B) (B :+ A) refl)
 
   -- the check value of a post, and what passing means
-  check-of-row : (j : ℕ) → j < s .n → checkValue s row (suc j) ≡ value (numbers (s .t + 1) (S .v (suc j))) (s .point)
+  check-of-row : (j : ℕ) → j < s .n → checkValue (shapeOf s) row (suc j) ≡ value (numbers (s .t + 1) (S .v (suc j))) (s .point)
   unfolding row rowOf
   check-of-row j h =
       ap (λ (z : ℕ). getD (a ++ (b ++ m)) z 0) place ∙ getD-append-add a (b ++ m) j 0
@@ -197,16 +199,16 @@ module _ (s : Session) (S : Vector) (blocks : List ℕ) where
       m : List ℕ
       m = numbers (s .n) (sumAt (s .t + 1) S)
 
-      place : s .t + suc j ≡ length a + j
+      place : s .t + 1 + (suc j - 1) ≡ length a + j
       place = omega (arith, length-numbers (s .t + 1) (S .v (s .post)))
 
   passes : (j : ℕ) → j < s .n → accepts s row blocks (suc j) ≡ true
       → value (sent s row blocks (suc j)) (s .point) ≡ value (numbers (s .t + 1) (S .v (suc j))) (s .point)
-  unfolding accepts
+  unfolding Accepting.accepts
   passes j h e = eqb-true _ _ (go (eqb (length (sent s row blocks (suc j))) 0) e) ∙ check-of-row j h
     where
       test : Bool
-      test = eqb (value (sent s row blocks (suc j)) (s .point)) (checkValue s row (suc j))
+      test = eqb (value (sent s row blocks (suc j)) (s .point)) (checkValue (shapeOf s) row (suc j))
 
       go : (b : Bool) → cond b false test ≡ true → test ≡ true
       go true g = let z : _≡_ {A = ℕ} 0 1 = cc in absurd (omega arith)
@@ -214,10 +216,10 @@ module _ (s : Session) (S : Vector) (blocks : List ℕ) where
 
   true-passes : (j : ℕ) → j < s .n → sent s row blocks (suc j) ≡ numbers (s .t + 1) (S .v (suc j))
       → accepts s row blocks (suc j) ≡ true
-  unfolding accepts
+  unfolding Accepting.accepts
   true-passes j h e =
       rw (e, ne-eqb (length (numbers (s .t + 1) (S .v (suc j)))) 0 (λ z. omega (arith, length-numbers (s .t + 1) (S .v (suc j)))))
-      (eq-eqb (value (numbers (s .t + 1) (S .v (suc j))) (s .point)) (checkValue s row (suc j)) (sym (check-of-row j h)))
+      (eq-eqb (value (numbers (s .t + 1) (S .v (suc j))) (s .point)) (checkValue (shapeOf s) row (suc j)) (sym (check-of-row j h)))
 
 -- the number that the walk's posts give, where each is true
 pub opened-exact : (s : Session) (S : Vector) (blocks : List ℕ) → s .n < p
@@ -247,4 +249,4 @@ opening-exact s S rows r blocks clear held = (
 )
   where
     posts-few : s .n < p
-    posts-few = let h = open-allowed s rows r blocks 0 (sym clear) refl in omega (arith, h .0 .n-in)
+    posts-few = let h = open-allowed s rows r blocks 0 (sym clear) refl in omega (arith, h .0 .sized .valid .n-in)

@@ -1,4 +1,4 @@
-//! The library from C and C++ with the header, and the README's examples.
+//! The library from C and C++ with the header, the examples, and what the README shows of them.
 
 use std::fs;
 use std::mem::{offset_of, size_of};
@@ -20,6 +20,10 @@ fn repository() -> PathBuf {
     Path::new(env!("CARGO_MANIFEST_DIR")).join("../..")
 }
 
+fn text(path: &str) -> String {
+    fs::read_to_string(repository().join(path)).unwrap_or_else(|error| panic!("{path}: {error}"))
+}
+
 /// Compiles a program with the header and the archive, runs it, and gives what it prints.
 fn run(program: &str, source: &Path, options: &[&str]) -> String {
     let binary = Path::new(env!("CARGO_TARGET_TMPDIR")).join(program);
@@ -37,36 +41,52 @@ fn run(program: &str, source: &Path, options: &[&str]) -> String {
 const C: [&str; 1] = ["-std=c99"];
 const CPP: [&str; 3] = ["-std=c++11", "-x", "c++"];
 
-/// An example prints this, compiled as C and as C++.
+/// An example prints what stands in the file beside it, compiled as C and as C++.
 #[track_caller]
-fn check_example(name: &str, printed: &str) {
+fn check_example(name: &str) {
     let source = repository().join(format!("examples/{name}.c"));
+    let printed = text(&format!("examples/{name}.out"));
     assert_eq!(run(&format!("{name}_c"), &source, &C), printed);
     assert_eq!(run(&format!("{name}_cpp"), &source, &CPP), printed);
 }
 
 #[test]
 fn the_example_in_c() {
-    check_example("sharing", "c = 93, opened 100\npost 1: refusal 9\n");
+    check_example("sharing");
 }
 
 /// The first finish is alone with its post; the second has heard the others.
 #[test]
 fn a_product_in_c() {
-    let opened: String = (1..=3).map(|post| format!("post {post}: 6 x 7 = 42\n")).collect();
-    check_example("product", &format!("post 1: refusal 9\n{opened}"));
+    check_example("product");
 }
 
-/// The README's examples are those that the tests compile and run.
+/// The README shows parts of the examples that the tests compile and run: lines of the file, one after the other.
 #[test]
-fn the_readme_shows_the_examples() {
-    let text = |path: &str| fs::read_to_string(repository().join(path)).expect("a text file");
+fn the_readme_shows_parts_of_the_examples() {
     let readme = text("README.md");
     for (language, path) in
         [("c", "examples/sharing.c"), ("rust", "rust/gantsorol/examples/sharing.rs")]
     {
-        let shown = format!("```{language}\n{}```\n", text(path));
-        assert!(readme.contains(&shown), "README.md does not show {path}");
+        let (example, fence) = (format!("\n{}", text(path)), format!("```{language}\n"));
+        assert!(readme.contains(&fence), "README.md shows nothing of {path}");
+        for part in readme.split(&fence).skip(1) {
+            let (shown, _) = part.split_once("```\n").expect("what is shown has an end");
+            assert!(example.contains(&format!("\n{shown}")), "{path} does not have\n{shown}");
+        }
+    }
+}
+
+/// The README's table has each line of the station's input, and beside it what the street program prints for it.
+#[test]
+fn the_readme_shows_the_station() {
+    let (readme, input) = (text("README.md"), text("examples/station.txt"));
+    let printed = text("examples/station.out");
+    let answers = printed.strip_prefix("line,refusal,value\n").expect("a header");
+    assert_eq!(input.lines().count(), answers.lines().count());
+    for (line, answer) in input.lines().zip(answers.lines()) {
+        let row = format!("| `{line}` | `{answer}` |");
+        assert!(readme.contains(&row), "README.md does not have {row}");
     }
 }
 

@@ -1,5 +1,5 @@
 //! The street program, proved and built by the gate, and the second implementation: the same output for
-//! random and mutated inputs. `GANTSOROL_STREET` names the program.
+//! random and mutated inputs; and the README's example. `GANTSOROL_STREET` names the program.
 
 mod common;
 
@@ -25,6 +25,13 @@ fn printed(program: &str, input: &[u8]) -> Vec<u8> {
         assert!(output.status.success(), "{}", output.status);
         output.stdout
     })
+}
+
+#[test]
+fn the_example_of_the_readme() {
+    let input = include_bytes!("../../../examples/station.txt");
+    let expected = include_str!("../../../examples/station.out");
+    assert_eq!(String::from_utf8_lossy(&printed(&street_program(), input)), expected);
 }
 
 #[test]

@@ -1,3 +1,4 @@
+-- `number` meets its contract.
 use Rattle.refusal.proofs.Endings.{tests}
 use Rattle.refusal.proofs.number.Statement.{statement}
 use Rattle.refusal.proofs.number.Tie as tie

@@ -1,3 +1,4 @@
+-- `or_else` meets its contract.
 use borrow.Author.Needs.{needs}
 use Rattle.refusal.proofs.Endings.{orElse-first}
 use Rattle.refusal.proofs.or_else.Statement.{statement}

@@ -1,3 +1,4 @@
+-- `point` meets its contract.
 use Rattle.refusal.proofs.Endings.{tests}
 use Rattle.refusal.proofs.point.Statement.{statement}
 use Rattle.refusal.proofs.point.Tie as tie

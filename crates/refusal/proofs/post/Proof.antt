@@ -1,3 +1,4 @@
+-- `post` meets its contract.
 use Rattle.refusal.proofs.Endings.{tests}
 use Rattle.refusal.proofs.post.Statement.{statement}
 use Rattle.refusal.proofs.post.Tie as tie

@@ -1,3 +1,4 @@
+-- `posts` meets its contract.
 use Rattle.refusal.proofs.Endings.{tests}
 use Rattle.refusal.proofs.posts.Statement.{statement}
 use Rattle.refusal.proofs.posts.Tie as tie

@@ -1,3 +1,4 @@
+-- `size` meets its contract.
 use Rattle.refusal.proofs.Endings.{tests}
 use Rattle.refusal.proofs.size.Statement.{statement}
 use Rattle.refusal.proofs.size.Tie as tie

@@ -1,7 +1,7 @@
 use Prim.Native.Nat.{_-_}
 use lib.ListN.{length}
 use borrow.Author.Needs.{needs}
-use Rattle.session.proofs.Filled.{Filled, filled-more, filled-end}
+use Rattle.lists.proofs.Filled.{Filled, filled-more, filled-end}
 use Rattle.transcript.proofs.copy.Statement.{statement}
 use Rattle.transcript.proofs.copy.Tie as tie
 

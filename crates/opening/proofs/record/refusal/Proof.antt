@@ -2,22 +2,22 @@
 use Prim.Native.Nat.{_+_, _-_, _≤_}
 use mathlib.Core.Path.{_≡_}
 use borrow.Author.Needs.{needs}
-use Rattle.opening.specs.Walking.{badBlocks, badRecord}
+use Rattle.opening.specs.Blocks.{badBlocks, badRecord}
 use Rattle.opening.proofs.Blocks.{post-in, blocks-start, block-bad, block-good, blocks-end}
 use Rattle.opening.proofs.record.refusal.Statement.{statement}
 use Rattle.opening.proofs.record.refusal.Tie as tie
 
 abbrev Inv-loop : tie.InvT-loop
-Inv-loop session blocks n j₀ j =
-    (1 ≤ j) × (j ≤ session .n + 1) × (badBlocks session blocks j (session .n + 1 - j) ≡ badRecord session blocks)
+Inv-loop party blocks n j₀ j =
+    (1 ≤ j) × (j ≤ party .shape .n + 1) × (badBlocks party blocks j (party .shape .n + 1 - j) ≡ badRecord party blocks)
 
 abbrev μ-loop : tie.MeasureT-loop
-μ-loop session blocks n j₀ j = session .n + 1 - j
+μ-loop party blocks n j₀ j = party .shape .n + 1 - j
 
-ruleset turns = (needs, post-in, blocks-start, block-bad, block-good, blocks-end)
+ruleset steps = (needs, post-in, blocks-start, block-bad, block-good, blocks-end)
 
 pub refusal-spec : {M : Type 1} → statement M
 refusal-spec =
     tie.close
-    (tie.spec Inv-loop μ-loop (λ c. search turns) (λ c κs. search turns) (λ c. search turns) (λ c. search turns) (λ c. search turns)
-    (λ c. search turns) (λ c. search turns))
+    (tie.spec Inv-loop μ-loop (λ c. search steps) (λ c κs. search steps) (λ c. search steps) (λ c. search steps)
+    (λ c. search steps) (λ c. search steps) (λ c. search steps))

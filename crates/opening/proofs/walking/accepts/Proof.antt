@@ -1,12 +1,13 @@
+-- `walking::accepts` meets its contract.
 use borrow.Author.Needs.{needs}
 use Rattle.opening.proofs.Blocks.{accepted-none, accepted-value}
 use Rattle.opening.proofs.walking.accepts.Statement.{statement}
 use Rattle.opening.proofs.walking.accepts.Tie as tie
 
-ruleset ways = (needs, accepted-none, accepted-value)
+ruleset steps = (needs, accepted-none, accepted-value)
 
 pub accepts-spec : {M : Type 1} → statement M
 accepts-spec =
     tie.close
-    (tie.spec (λ c κs. search ways) (λ c. search ways) (λ c. search ways) (λ c κs. search ways) (λ c. search ways)
-    (λ c. search ways) (λ c. search ways))
+    (tie.spec (λ c κs. search needs) (λ c. search steps) (λ c κs. search needs) (λ c. search needs) (λ c. search needs)
+    (λ c κs. search steps) (λ c. search needs) (λ c. search needs) (λ c. search steps))

@@ -1,3 +1,4 @@
+-- `walking::constant` meets its contract.
 use borrow.Author.Needs.{needs}
 use Rattle.opening.proofs.Blocks.{no-constant}
 use Rattle.opening.proofs.walking.constant.Statement.{statement}

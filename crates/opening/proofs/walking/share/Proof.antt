@@ -1,5 +1,6 @@
+-- `walking::share` meets its contract.
 use borrow.Author.Needs.{needs}
-use Rattle.opening.specs.Walking.{share}
+use Rattle.opening.specs.Accepting.{share}
 use Rattle.opening.proofs.walking.share.Statement.{statement}
 use Rattle.opening.proofs.walking.share.Tie as tie
 
@@ -10,5 +11,5 @@ returns c = cc
 pub share-spec : {M : Type 1} → statement M
 share-spec =
     tie.close
-    (tie.spec (λ c. search needs) (λ c. search needs) (λ c. search needs) (λ c. search needs) (λ c κs. search needs)
-    (λ c κs. search needs) (λ c κs. search needs) returns)
+    (tie.spec (λ c κs. search needs) (λ c. search needs) (λ c. search needs) (λ c. search needs) (λ c. search needs)
+    (λ c κs. search needs) (λ c κs. search needs) (λ c κs. search needs) returns)

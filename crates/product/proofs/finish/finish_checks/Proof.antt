@@ -1,12 +1,8 @@
+-- `finish::finish_checks` meets its contract.
 use borrow.Author.Needs.{needs}
-use Rattle.product.proofs.Finishing.{checks-stopped, small-settings, checks-misplaced, finish-placed, checks-done}
+use Rattle.product.proofs.Finishing.{checks-stopped, finish-valid, checks-misplaced, finish-placed, checks-done}
 use Rattle.product.proofs.finish.finish_checks.Statement.{statement}
 use Rattle.product.proofs.finish.finish_checks.Tie as tie
-
-finish-place-requires : tie.Need-finish-place-requires
-finish-place-requires c κs =
-    let a = c .before .before .before .before .before .args in
-    small-settings (a .session) (a .rows .now) (a .row) (a .left .now) (a .right .now) _ (c .before .frame .ensures) (c .if1 .left)
 
 finish-own-requires : tie.Need-finish-own-requires
 finish-own-requires c κs =
@@ -18,5 +14,5 @@ finish-own-requires c κs =
 pub finish-checks-spec : {M : Type 1} → statement M
 finish-checks-spec =
     tie.close
-    (tie.spec (λ c κs. search needs) (λ c. search (needs, checks-stopped)) finish-place-requires (λ c. search (needs, checks-misplaced))
+    (tie.spec (λ c κs. search needs) (λ c. search (needs, checks-stopped)) (λ c κs. search (needs, finish-valid)) (λ c. search (needs, checks-misplaced))
     finish-own-requires (λ c. search (needs, checks-done)))

@@ -1,3 +1,4 @@
+-- `finish::finish_marks` meets its contract.
 use borrow.Author.Needs.{needs}
 use Rattle.product.proofs.Finishing.{marks-joined}
 use Rattle.product.proofs.finish.finish_marks.Statement.{statement}

@@ -1,10 +1,13 @@
+-- `finish::finish_numbers` meets its contract.
 use borrow.Author.Needs.{needs}
-use Rattle.product.proofs.Finishing.{numbers-joined}
+use Rattle.session.proofs.Calls.{same-sized}
+use Rattle.product.proofs.Finishing.{same-recorded, numbers-joined}
 use Rattle.product.proofs.finish.finish_numbers.Statement.{statement}
 use Rattle.product.proofs.finish.finish_numbers.Tie as tie
 
 pub finish-numbers-spec : {M : Type 1} → statement M
 finish-numbers-spec =
     tie.close
-    (tie.spec (λ c κs. search needs) (λ c κs. search needs) (λ c κs. search needs) (λ c κs. search needs) (λ c. search needs)
-    (λ c κs. search needs) (λ c κs. search needs) (λ c κs. search needs) (λ c. search (needs, numbers-joined)))
+    (tie.spec (λ c κs. search needs) (λ c κs. search (needs, same-recorded)) (λ c κs. search (needs, same-recorded))
+    (λ c κs. search needs) (λ c κs. search needs) (λ c κs. search (needs, same-sized)) (λ c. search needs)
+    (λ c κs. search (needs, same-sized)) (λ c κs. search needs) (λ c κs. search needs) (λ c. search (needs, numbers-joined)))

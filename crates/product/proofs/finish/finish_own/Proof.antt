@@ -1,3 +1,4 @@
+-- `finish::finish_own` meets its contract.
 use borrow.Author.Needs.{needs}
 use Rattle.product.proofs.Finishing.{own-joined}
 use Rattle.product.proofs.finish.finish_own.Statement.{statement}

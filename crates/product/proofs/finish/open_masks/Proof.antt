@@ -1,3 +1,4 @@
+-- `finish::open_masks` meets its contract.
 use borrow.Author.Needs.{needs}
 use Rattle.product.proofs.Finishing.{checks-allowed}
 use Rattle.product.proofs.Openings.{masks-unopened, masks-opened}

@@ -1,3 +1,4 @@
+-- `finish::remembered` meets its contract.
 use Rattle.refusal.proofs.Endings.{tests}
 use Rattle.product.proofs.finish.remembered.Statement.{statement}
 use Rattle.product.proofs.finish.remembered.Tie as tie

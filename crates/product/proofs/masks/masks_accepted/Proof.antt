@@ -1,11 +1,14 @@
+-- `masks::masks_accepted` meets its contract.
 use borrow.Author.Needs.{needs}
-use Rattle.product.proofs.Differences.{masks-filled}
+use Rattle.product.proofs.Differences.{half-long, half-size, masks-filled}
 use Rattle.product.proofs.masks.masks_accepted.Statement.{statement}
 use Rattle.product.proofs.masks.masks_accepted.Tie as tie
+
+ruleset steps = (needs, half-long, half-size, masks-filled)
 
 pub masks-accepted-spec : {M : Type 1} → statement M
 masks-accepted-spec =
     tie.close
-    (tie.spec (λ c. search needs) (λ c. search needs) (λ c. search needs) (λ c. search needs) (λ c. search needs)
-    (λ c κs. search needs) (λ c. search needs) (λ c. search needs) (λ c. search needs) (λ c. search needs) (λ c. search needs)
-    (λ c κs. search needs) (λ c κs. search needs) (λ c. search needs) (λ c. (search needs, search (needs, masks-filled))))
+    (tie.spec (λ c κs. search needs) (λ c. search needs) (λ c. search steps) (λ c κs. search steps) (λ c. search needs)
+    (λ c. search needs) (λ c. search needs) (λ c. search needs) (λ c. search needs) (λ c κs. search needs) (λ c. search needs)
+    (λ c. search steps))

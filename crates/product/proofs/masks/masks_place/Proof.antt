@@ -1,10 +1,15 @@
+-- `masks::masks_place` meets its contract.
 use borrow.Author.Needs.{needs}
+use Rattle.session.proofs.Calls.{same-valid}
 use Rattle.product.proofs.Masking.{place-joined}
 use Rattle.product.proofs.masks.masks_place.Statement.{statement}
 use Rattle.product.proofs.masks.masks_place.Tie as tie
 
+ruleset steps = (needs, same-valid, place-joined)
+
 pub masks-place-spec : {M : Type 1} → statement M
 masks-place-spec =
     tie.close
-    (tie.spec (λ c κs. search needs) (λ c κs. search needs) (λ c κs. search needs) (λ c. search needs) (λ c. search needs)
-    (λ c κs. search needs) (λ c κs. search needs) (λ c κs. search needs) (λ c κs. search needs) (λ c. search (needs, place-joined)))
+    (tie.spec (λ c κs. search needs) (λ c κs. search needs) (λ c κs. search needs) (λ c κs. search needs)
+    (λ c κs. search steps) (λ c κs. search needs) (λ c κs. search needs) (λ c κs. search needs) (λ c κs. search needs)
+    (λ c. search steps))

@@ -1,3 +1,4 @@
+-- `masks::triple_marks` meets its contract.
 use borrow.Author.Needs.{needs}
 use Rattle.product.proofs.Joining.{marks-joined}
 use Rattle.product.proofs.masks.triple_marks.Statement.{statement}

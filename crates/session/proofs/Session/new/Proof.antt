@@ -1,3 +1,4 @@
+-- `Session::new` meets its contract.
 use borrow.Author.Needs.{needs}
 use Rattle.session.specs.Sessions.{created}
 use Rattle.session.proofs.Endings.{endings}
@@ -13,4 +14,6 @@ unfolding created
 returns-2 c = search endings
 
 pub new-spec : {M : Type 1} → statement M
-new-spec = tie.close (tie.spec (λ c κs. search needs) (λ c κs. search needs) returns (λ c κs. search needs) returns-2)
+new-spec =
+    tie.close
+    (tie.spec (λ c κs. search needs) (λ c κs. search needs) (λ c κs. search needs) returns (λ c κs. search needs) (λ c κs. search needs) returns-2)

@@ -1,3 +1,4 @@
+-- `checks::row` meets its contract.
 use Rattle.refusal.proofs.Endings.{tests}
 use Rattle.session.proofs.checks.row.Statement.{statement}
 use Rattle.session.proofs.checks.row.Tie as tie

@@ -1,3 +1,4 @@
+-- `checks::settings` meets its contract.
 use borrow.Author.Needs.{needs}
 use Rattle.session.proofs.Passed.{settings-joined}
 use Rattle.session.proofs.checks.settings.Statement.{statement}

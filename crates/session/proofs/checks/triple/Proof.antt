@@ -1,3 +1,4 @@
+-- `checks::triple` meets its contract.
 use Rattle.refusal.proofs.Endings.{tests}
 use Rattle.session.proofs.checks.triple.Statement.{statement}
 use Rattle.session.proofs.checks.triple.Tie as tie

@@ -1,3 +1,4 @@
+-- `checks::unlike_triple` meets its contract.
 use borrow.Author.Needs.{needs}
 use Rattle.refusal.proofs.Groups.{three}
 use Rattle.session.proofs.checks.unlike_triple.Statement.{statement}

@@ -1,8 +1,9 @@
+-- `rows::combine` meets its contract.
 use Prim.Native.Nat.{_-_}
 use lib.ListN.{length}
 use borrow.Author.Needs.{needs}
 use Rattle.session.specs.Rows.{combined}
-use Rattle.session.proofs.Filled.{Filled}
+use Rattle.lists.proofs.Filled.{Filled}
 use Rattle.session.proofs.Writers.{combined-more, combined-end}
 use Rattle.session.proofs.rows.combine.Statement.{statement}
 use Rattle.session.proofs.rows.combine.Tie as tie

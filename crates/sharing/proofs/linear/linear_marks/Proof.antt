@@ -1,3 +1,4 @@
+-- `linear::linear_marks` meets its contract.
 use borrow.Author.Needs.{needs}
 use Rattle.refusal.proofs.Groups.{three}
 use Rattle.sharing.proofs.linear.linear_marks.Statement.{statement}

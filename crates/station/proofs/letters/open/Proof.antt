@@ -10,6 +10,6 @@ ruleset ends = (needs, answered-as, record-fits, record-prefix, prefix-length)
 pub open-spec : {M : Type 1} → statement M
 open-spec =
     tie.close
-    (tie.spec (λ c. search ends) (λ c. search ends) (λ c. search ends) (λ c. search ends) (λ c. search ends)
+    (tie.spec (λ c. search ends) (λ c. search ends) (λ c. search ends) (λ c. search ends) (λ c. search ends) (λ c. search ends)
     (λ c. search ends) (λ c. front-length _ 9216 _ (search needs) (search needs)) (λ c. search ends)
     (λ c κs. search ends) (λ c κs. search ends) (λ c. search ends))

@@ -1,0 +1,91 @@
+-- Document 01, "Calls on a session", Open: which posts a party accepts for a row, and the number that they bring out.
+use Prim.Native.Nat.{ℕ, zero, suc, _-_}
+use mathlib.Core.Path.{_≡_}
+use mathlib.Core.Bool.{Bool, true, false, cond}
+use mathlib.Core.List.{List, [], _∷_, map}
+use lib.Dec.{ltb, eqb}
+use lib.ListN.{length, take, getD}
+use Rattle.field.specs.Arithmetic.{difference}
+use Rattle.poly.specs.Polynomial.{value}
+use Rattle.poly.specs.Interpolation.{interpolated}
+use Rattle.shape.specs.Lengths.{needed, rowLength}
+use Rattle.shape.specs.Row.{checkValue, publicSum}
+use Rattle.session.specs.declared.Party.{Party}
+use Rattle.opening.specs.declared.Walk.{Walk}
+use Rattle.opening.specs.declared.Walk.the-variants.{Enough, TooFew}
+use Rattle.opening.specs.declared.Opened.{Opened}
+use Rattle.opening.specs.Blocks.{sent, Recorded}
+
+-- "Post j is accepted when its polynomial at wi equals the check value for j"; an empty part is not.
+unfoldable pub accepts : Party → List ℕ → List ℕ → ℕ → Bool
+accepts q row blocks j =
+    cond (eqb (length (sent q row blocks j)) 0) false
+    (eqb (value (sent q row blocks j) (q .point)) (checkValue (q .shape) row j))
+
+-- All accepted posts: of the k posts from j on, those that pass the test.
+unfoldable pub passing : (ℕ → Bool) → ℕ → ℕ → List ℕ
+passing test j zero = []
+passing test j (suc k) = elim (test j) [ true ↦ j ∷ passing test (suc j) k | false ↦ passing test (suc j) k ]
+
+abbrev pub accepted : Party → List ℕ → List ℕ → List ℕ
+accepted q row blocks = passing (accepts q row blocks) 1 (q .shape .n)
+
+-- "Its share is mj minus the constant coefficient."
+unfoldable pub share : Party → List ℕ → List ℕ → ℕ → ℕ
+share q row blocks j = difference (publicSum (q .shape) row j) (getD (sent q row blocks j) 0 0)
+
+-- "The walk from post 1 upward stops at the post that completes t+1 accepted ones": of the k posts from j on, the first `need`
+-- that pass the test.
+unfoldable pub walk : (ℕ → Bool) → ℕ → ℕ → ℕ → List ℕ
+walk test j zero need = []
+walk test j (suc k) zero = []
+walk test j (suc k) (suc need) =
+    elim (test j) [ true ↦ j ∷ walk test (suc j) k need | false ↦ walk test (suc j) k (suc need) ]
+
+abbrev pub acceptedPosts : Party → List ℕ → List ℕ → List ℕ
+acceptedPosts q row blocks = walk (accepts q row blocks) 1 (q .shape .n) (needed (q .shape))
+
+-- The law of the walk: of all accepted posts it takes the first t+1.
+abbrev pub TakesFirst : Type 0
+TakesFirst = (q : Party) (row blocks : List ℕ) → acceptedPosts q row blocks ≡ take (needed (q .shape)) (accepted q row blocks)
+
+-- The walk's outcome: enough at the post that completes them, or too few.
+unfoldable pub walkEnd : (ℕ → Bool) → ℕ → ℕ → ℕ → Walk
+walkEnd test j k zero = Enough (j - 1)
+walkEnd test j zero (suc need) = TooFew
+walkEnd test j (suc k) (suc need) =
+    elim (test j) [ true ↦ walkEnd test (suc j) k need | false ↦ walkEnd test (suc j) k (suc need) ]
+
+abbrev pub outcomeOf : Party → List ℕ → List ℕ → Walk
+outcomeOf q row blocks = walkEnd (accepts q row blocks) 1 (q .shape .n) (needed (q .shape))
+
+-- What each outcome is in document 01: the number that was found, or 9 with 0 for a value.
+abbrev pub settled : Walk → ℕ → Opened
+settled (Enough j) value = record { refusal = 0; value = value }
+settled TooFew value = record { refusal = 9; value = 0 }
+
+-- 9: "fewer than t+1 accepted"
+abbrev pub tooFew : Party → List ℕ → List ℕ → Bool
+tooFew q row blocks = ltb (length (acceptedPosts q row blocks)) (needed (q .shape))
+
+-- "the number is the interpolation of those at 0"
+unfoldable pub opened : Party → List ℕ → List ℕ → ℕ
+opened q row blocks =
+    interpolated (acceptedPosts q row blocks) (map (share q row blocks) (acceptedPosts q row blocks)) 0
+
+-- What the walk hands on: its outcome, and the accepted posts and their shares at the start of two lists.
+pub record WalkedAs (q : Party) (row blocks : List ℕ) (end : Walk) (posts shares : List ℕ) : Type 0 where
+  pub ended : end ≡ outcomeOf q row blocks
+  pub posts-are : take (length (acceptedPosts q row blocks)) posts ≡ acceptedPosts q row blocks
+  pub shares-are : take (length (acceptedPosts q row blocks)) shares ≡ map (share q row blocks) (acceptedPosts q row blocks)
+  pub posts-room : length posts ≡ needed (q .shape)
+  pub shares-room : length shares ≡ needed (q .shape)
+
+-- An opening's number, or 9, as the walk ends.
+abbrev pub openedRow : Party → List ℕ → List ℕ → Opened
+openedRow q row blocks = settled (outcomeOf q row blocks) (opened q row blocks)
+
+-- What the walk goes by: a row and a record of the stated lengths.
+pub record Openable (q : Party) (row blocks : List ℕ) : Type 0 where
+  pub recorded : Recorded q blocks
+  pub row-length : length row ≡ rowLength (q .shape)

@@ -1,0 +1,57 @@
+-- The sum of summands: a + s b is one, and so is l'' + y l' + y' l + y y'.
+use Prim.Native.Nat.{ℕ, _+_}
+use mathlib.Core.Path.{_≡_, refl, _∙_, ap}
+use mathlib.Core.List.{[], _∷_}
+use Rattle.field.specs.Arithmetic.{product}
+use Rattle.field.specs.Algebra.{CommutativeRing}
+use Rattle.field.specs.Element.{Element, element}
+use Rattle.field.proofs.Expression.{A, B, C, D, E, F, 𝟘, 𝟙, _:+_, _:*_, Same}
+use Rattle.field.proofs.Solver.{solve}
+use Rattle.field.proofs.Elements.{𝓡, element-one}
+use Rattle.vectors.specs.Vector.{Vector, plusTimes, raised}
+use Rattle.runs.specs.Outline.{once, times}
+use Rattle.runs.proofs.Marks.{totalVector, productSum}
+open CommutativeRing 𝓡 using (add as _⊕_, mul as _⊗_, zero as 0ᴱ, one as 1ᴱ)
+
+infixl 65 _⊕_
+infixl 70 _⊗_
+pub linear-sum : (vec : ℕ → Vector) (a b s : ℕ) → totalVector vec (once a) (times s b ∷ []) ≡ plusTimes (element s) (vec a) (vec b)
+unfolding Same
+linear-sum vec a b s =
+    λ t. record { c = at (vec a .c) (vec b .c) t; f = λ k. at (vec a .f k) (vec b .f k) t; v = λ j k. at (vec a .v j k) (vec b .v j k) t }
+  where
+    at : (x y : Element) → x ⊕ element 1 ⊗ (0ᴱ ⊕ element s ⊗ y) ≡ x ⊕ element s ⊗ y
+    at x y =
+        ap (λ (o : Element). x ⊕ o ⊗ (0ᴱ ⊕ element s ⊗ y)) element-one
+        ∙ solve 𝓡 (x ∷ y ∷ element s ∷ []) (A :+ 𝟙 :* (𝟘 :+ C :* B)) (A :+ C :* B) refl
+
+-- l'' + y l' + y' l, and y y' added to the dealer's number
+abbrev pub productVector : ℕ → ℕ → Vector → Vector → Vector → Vector
+productVector y y' l l' l'' = raised (element (product y y')) (plusTimes (element y') (plusTimes (element y) l'' l') l)
+
+pub product-sum : (vec : ℕ → Vector) (r y y' : ℕ) → productSum vec r y y' ≡ productVector y y' (vec r) (vec (r + 1)) (vec (r + 2))
+unfolding Same
+product-sum vec r y y' =
+    λ t. record {
+      c = raise (vec r .c) (vec (r + 1) .c) (vec (r + 2) .c) t;
+      f = λ k. at (vec r .f k) (vec (r + 1) .f k) (vec (r + 2) .f k) t;
+      v = λ j k. at (vec r .v j k) (vec (r + 1) .v j k) (vec (r + 2) .v j k) t;
+    }
+  where
+    z : Element
+    z = element (product y y')
+
+    at : (l l' l'' : Element)
+        → l'' ⊕ element 1 ⊗ (0ᴱ ⊕ element y ⊗ l' ⊕ element 1 ⊗ (0ᴱ ⊕ element y' ⊗ l ⊕ element 1 ⊗ 0ᴱ)) ≡ l'' ⊕ element y ⊗ l' ⊕ element y' ⊗ l
+    at l l' l'' =
+        ap (λ (o : Element). l'' ⊕ o ⊗ (0ᴱ ⊕ element y ⊗ l' ⊕ o ⊗ (0ᴱ ⊕ element y' ⊗ l ⊕ o ⊗ 0ᴱ))) element-one
+        ∙ solve 𝓡 (l ∷ l' ∷ l'' ∷ element y ∷ element y' ∷ [])
+        (C :+ 𝟙 :* (𝟘 :+ D :* B :+ 𝟙 :* (𝟘 :+ E :* A :+ 𝟙 :* 𝟘))) (C :+ D :* B :+ E :* A) refl
+
+    raise : (l l' l'' : Element)
+        → l'' ⊕ element 1 ⊗ (0ᴱ ⊕ element y ⊗ l' ⊕ element 1 ⊗ (0ᴱ ⊕ element y' ⊗ l ⊕ element 1 ⊗ (0ᴱ ⊕ element (product y y'))))
+        ≡ l'' ⊕ element y ⊗ l' ⊕ element y' ⊗ l ⊕ element (product y y')
+    raise l l' l'' =
+        ap (λ (o : Element). l'' ⊕ o ⊗ (0ᴱ ⊕ element y ⊗ l' ⊕ o ⊗ (0ᴱ ⊕ element y' ⊗ l ⊕ o ⊗ (0ᴱ ⊕ element (product y y'))))) element-one
+        ∙ solve 𝓡 (l ∷ l' ∷ l'' ∷ element y ∷ element y' ∷ element (product y y') ∷ [])
+        (C :+ 𝟙 :* (𝟘 :+ D :* B :+ 𝟙 :* (𝟘 :+ E :* A :+ 𝟙 :* (𝟘 :+ F)))) (C :+ D :* B :+ E :* A :+ F) refl

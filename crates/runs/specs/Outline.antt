@@ -1,0 +1,175 @@
+-- Document 01, "Calls on a session", as data: what each call is given; what it does, act by act; what it takes from outside for
+-- that; and what it sends.
+use Prim.Native.Nat.{ℕ}
+use mathlib.Core.List.{List, [], _∷_, map}
+
+-- ---- What a call is given, but session and rows.
+
+-- What comes from outside: packs, dealers' numbers, records, lists to write into, and who makes a message. In a list of calls for
+-- all posts (demand 3) these are of other kinds than in one post's call.
+pub record Kinds : Type 1 where
+  pub Pack : Type 0
+  pub Number : Type 0
+  pub Record : Type 0
+  pub Lent : Type 0
+  pub Heard : Type 0
+
+pub record ForLoad (K : Kinds) : Type 0 where
+  pub r : ℕ
+  pub pack : K .Pack
+
+pub record ForDeal (K : Kinds) : Type 0 where
+  pub r : ℕ
+  pub c : K .Number
+
+pub record ForMessage (K : Kinds) : Type 0 where
+  pub r : ℕ
+  pub lent : K .Lent
+  pub heard : K .Heard
+
+pub record ForOpening (K : Kinds) : Type 0 where
+  pub r : ℕ
+  pub blocks : K .Record
+
+pub record ForLinear : Type 0 where
+  pub r : ℕ
+  pub a : ℕ
+  pub b : ℕ
+  pub scale : ℕ
+
+pub record ForMasks (K : Kinds) : Type 0 where
+  pub a : ℕ
+  pub b : ℕ
+  pub r : ℕ
+  pub lent : K .Lent
+
+pub record ForFinish (K : Kinds) : Type 0 where
+  pub r : ℕ
+  pub blocks : K .Record
+  pub blocks' : K .Record
+
+pub data CallOf (K : Kinds) : Type 0 where
+  loadRow : ForLoad K → CallOf K
+  loadTriple : ForLoad K → CallOf K
+  deal : ForDeal K → CallOf K
+  message : ForMessage K → CallOf K
+  opening : ForOpening K → CallOf K
+  linear : ForLinear → CallOf K
+  masks : ForMasks K → CallOf K
+  finish : ForFinish K → CallOf K
+
+-- ---- What it does and sends, where it is not refused.
+
+-- A summand: row a; s times row b; a fee, which is added to the public sums alone.
+pub data Summand : Type 0 where
+  once : (a : ℕ) → Summand
+  times : (s b : ℕ) → Summand
+  fee : (k : ℕ) → Summand
+
+-- An act: row r is loaded; the triple at r is; row r is dealt; row r is opened; row r becomes a sum, of one summand or more; the
+-- triple at r waits with the factors a and b; its third row becomes their product.
+pub data Act : Type 0 where
+  loads : (r : ℕ) → Act
+  loadsTriple : (r : ℕ) → Act
+  deals : (r : ℕ) → Act
+  opens : (r : ℕ) → Act
+  sums : (r : ℕ) (t : Summand) (ts : List Summand) → Act
+  factors : (a b r : ℕ) → Act
+  multiplies : (r : ℕ) → Act
+
+-- What an act takes from outside: the pack of row r; of the triple at r; the number of row r's dealer; a record of row r; records
+-- of the two masks of the triple at r.
+pub data Taking : Type 0 where
+  nothingTaken : Taking
+  aRowPack : (r : ℕ) → Taking
+  aTriplePack : (r : ℕ) → Taking
+  aNumber : (r : ℕ) → Taking
+  aRecord : (r : ℕ) → Taking
+  twoRecords : (r : ℕ) → Taking
+
+abbrev pub takes : Act → Taking
+takes (loads r) = aRowPack r
+takes (loadsTriple r) = aTriplePack r
+takes (deals r) = aNumber r
+takes (opens r) = aRecord r
+takes (sums r t ts) = nothingTaken
+takes (factors a b r) = nothingTaken
+takes (multiplies r) = twoRecords r
+
+abbrev pub Given : Kinds → Taking → Type 0
+Given K nothingTaken = Unit {0}
+Given K (aRowPack r) = K .Pack
+Given K (aTriplePack r) = K .Pack
+Given K (aNumber r) = K .Number
+Given K (aRecord r) = K .Record
+Given K (twoRecords r) = K .Record × K .Record
+
+-- An act with what it takes.
+abbrev pub Move : Kinds → Type 0
+Move K = (act : Act) × Given K (takes act)
+
+-- A line that is sent: the opening message of row r; the masks of a and b by the triple at r.
+pub data Sending : Type 0 where
+  itsOpening : (r : ℕ) → Sending
+  itsMasks : (a b r : ℕ) → Sending
+
+-- One act after the other, one line after the other; and who makes an opening message.
+pub record Outline (K : Kinds) : Type 0 where
+  pub moves : List (Move K)
+  pub sends : List Sending
+  pub heard : List (K .Heard)
+
+abbrev acting : {K : Kinds} → List (Move K) → Outline K
+acting moves = record { moves = moves; sends = []; heard = [] }
+
+abbrev pub outline : {K : Kinds} → CallOf K → Outline K
+outline (loadRow x) = acting ((loads (x .r), x .pack) ∷ [])
+outline (loadTriple x) = acting ((loadsTriple (x .r), x .pack) ∷ [])
+outline (deal x) = acting ((deals (x .r), x .c) ∷ [])
+outline (message x) = record { moves = []; sends = itsOpening (x .r) ∷ []; heard = x .heard ∷ [] }
+outline (opening x) = acting ((opens (x .r), x .blocks) ∷ [])
+outline (linear x) = acting ((sums (x .r) (once (x .a)) (times (x .scale) (x .b) ∷ []), tt) ∷ [])
+outline (masks x) =
+    record { moves = (factors (x .a) (x .b) (x .r), tt) ∷ []; sends = itsMasks (x .a) (x .b) (x .r) ∷ []; heard = [] }
+outline (finish x) = acting ((multiplies (x .r), (x .blocks, x .blocks')) ∷ [])
+
+abbrev pub moves : {K : Kinds} → CallOf K → List (Move K)
+moves c = outline c .moves
+
+abbrev pub sends : {K : Kinds} → CallOf K → List Sending
+sends c = outline c .sends
+
+abbrev pub actsIn : {K : Kinds} → List (Move K) → List Act
+actsIn ms = map (λ m. m .0) ms
+
+abbrev pub acts : {K : Kinds} → CallOf K → List Act
+acts c = actsIn (moves c)
+
+-- P holds of each of a list; of a list of one, that is P of the one.
+abbrev pub EveryFrom : {A : Type 0} → (A → Type 0) → A → List A → Type 0
+EveryFrom P x [] = P x
+EveryFrom P x (y ∷ ys) = P x × EveryFrom P y ys
+
+abbrev pub Every : {A : Type 0} → (A → Type 0) → List A → Type 0
+Every P [] = Unit {0}
+Every P (x ∷ xs) = EveryFrom P x xs
+
+-- ---- A call with what comes from outside put in.
+
+pub record Filling (K K' : Kinds) : Type 0 where
+  pub row : K .Pack → K' .Pack
+  pub triple : K .Pack → K' .Pack
+  pub number : ℕ → K .Number → K' .Number
+  pub blocks : K .Record → K' .Record
+  pub lent : K .Lent → K' .Lent
+  pub heard : K .Heard → K' .Heard
+
+abbrev pub filled : {K K' : Kinds} → Filling K K' → CallOf K → CallOf K'
+filled f (loadRow x) = loadRow (record { r = x .r; pack = f .row (x .pack) })
+filled f (loadTriple x) = loadTriple (record { r = x .r; pack = f .triple (x .pack) })
+filled f (deal x) = deal (record { r = x .r; c = f .number (x .r) (x .c) })
+filled f (message x) = message (record { r = x .r; lent = f .lent (x .lent); heard = f .heard (x .heard) })
+filled f (opening x) = opening (record { r = x .r; blocks = f .blocks (x .blocks) })
+filled f (linear x) = linear x
+filled f (masks x) = masks (record { a = x .a; b = x .b; r = x .r; lent = f .lent (x .lent) })
+filled f (finish x) = finish (record { r = x .r; blocks = f .blocks (x .blocks); blocks' = f .blocks (x .blocks') })

@@ -1,0 +1,13 @@
+-- `rows::add_to_sums` meets its contract.
+use borrow.Author.Needs.{needs}
+use Rattle.session.specs.Rows.{plusSums}
+use Rattle.session.proofs.RowLaws.{sums-put}
+use Rattle.session.proofs.rows.add_to_sums.Statement.{statement}
+use Rattle.session.proofs.rows.add_to_sums.Tie as tie
+
+pub add-to-sums-spec : {M : Type 1} → statement M
+unfolding plusSums
+add-to-sums-spec =
+    tie.close
+    (tie.spec (λ c κs. search needs) (λ c κs. search needs) (λ c. search needs) (λ c. search needs) (λ c. search needs)
+    (λ c. search needs) (λ c. search needs) (λ c. search needs) (λ c κs. search needs) (λ c. search needs) (λ c. search (needs, sums-put)))

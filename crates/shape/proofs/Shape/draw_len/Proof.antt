@@ -1,0 +1,11 @@
+-- `Shape::draw_len` meets its contract.
+use borrow.Author.Needs.{needs}
+use Rattle.shape.proofs.Small.{small}
+use Rattle.shape.proofs.Shape.draw_len.Statement.{statement}
+use Rattle.shape.proofs.Shape.draw_len.Tie as tie
+
+pub draw-len-spec : {M : Type 1} → statement M
+draw-len-spec =
+    tie.close
+    (tie.spec (λ c κs. search needs) (λ c κs. search needs) (λ c. search (needs, small)) (λ c. search (needs, small))
+    (λ c. search (needs, small)))

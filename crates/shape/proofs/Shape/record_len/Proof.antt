@@ -1,0 +1,8 @@
+-- `Shape::record_len` meets its contract.
+use borrow.Author.Needs.{needs}
+use Rattle.shape.proofs.Small.{small}
+use Rattle.shape.proofs.Shape.record_len.Statement.{statement}
+use Rattle.shape.proofs.Shape.record_len.Tie as tie
+
+pub record-len-spec : {M : Type 1} → statement M
+record-len-spec = tie.close (tie.spec (λ c κs. search needs) (λ c. search (needs, small)) (λ c. search (needs, small)))

@@ -1,0 +1,28 @@
+-- Document 01, "Field, posts, rows": the numbers that bound a station.
+use Prim.Native.Nat.{ℕ, _*_, _-_}
+
+-- "n is the number of posts, 2 to 32"
+abbrev pub fewestPosts : ℕ
+fewestPosts = 2
+
+abbrev pub mostPosts : ℕ
+mostPosts = 32
+
+-- "A session has 96 rows, 0 to 95"
+abbrev pub rowCount : ℕ
+rowCount = 96
+
+abbrev pub lastRow : ℕ
+lastRow = rowCount - 1
+
+-- "a triple goes to three empty rows r, r+1, r+2, r at most 93"
+abbrev pub lastTriple : ℕ
+lastTriple = rowCount - 3
+
+-- the longest row: of the most posts, with the largest t
+abbrev pub longestRow : ℕ
+longestRow = 3 * mostPosts
+
+-- and the most coefficients of a v
+abbrev pub longestV : ℕ
+longestV = mostPosts

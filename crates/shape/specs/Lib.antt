@@ -1,0 +1,4 @@
+pub mod Bounds
+pub mod Marks
+pub mod Lengths
+pub mod Row
