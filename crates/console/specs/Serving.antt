@@ -20,7 +20,7 @@ pub record Fresh (rows blocks line chunk out : List ℕ) : Type 0 where
   pub chunk-room : length chunk ≡ chunkSize
   pub out-room : length out ≡ answersRoom
 
--- The header was printed, and taken.
+-- As many bytes as the header has were handed to print, and taken.
 pub record Begun (p : Printed) : Type 0 where
   pub total-is : p .total ≡ length header
   pub whole-is : p .whole ≡ true
@@ -30,7 +30,7 @@ pub record Handed (answers out : List ℕ) (before after : Printed) : Type 0 whe
   pub first : take (length answers) out ≡ answers
   pub count : after .total ≡ wrapped (before .total + length answers)
 
--- A chunk was taken, and its answers printed.
+-- A chunk was taken, and as many bytes as its answers have were handed to print.
 pub record Answered (p q : Running) (chunk out : List ℕ) (before after : Printed) : Type 0 where
   pub taken : q ≡ drained (fed p chunk)
   pub handed : Handed (fed p chunk .out) out before after
@@ -80,7 +80,7 @@ printedInAll closing chunks = cond closing (output (joined chunks)) (printedUpTo
 
 -- How many lines were answered, how many bytes were handed to standard output, whether reading failed, and whether printing did.
 -- No contract says which bytes are read: it is so for some chunks, of which only the last may be empty. Where nothing failed the
--- last is empty, or the turns ran out, and the whole output of these chunks was printed.
+-- last is empty, or the turns ran out, and as many bytes as the whole output of these chunks has were handed over.
 pub record Ended (lines total : ℕ) (unread unwritten : Bool) : Type 0 where
   pub chunks : List (List ℕ)
   pub last : List ℕ

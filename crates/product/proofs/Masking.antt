@@ -73,8 +73,14 @@ module _ (s : Session) (rows : List ℕ) (a b r : ℕ) (out : List ℕ) where
           equal (length out) (masksLength (shapeOf s)) (q .0),
         )
 
-    pub masks-rows : (r ≤ lastTriple) × (a ≤ lastRow) × (b ≤ lastRow)
-    masks-rows = (passed .3 .triple-in, passed .1 .row-in, passed .2 .row-in)
+    pub masks-first : r ≤ lastTriple
+    masks-first = passed .3 .triple-in
+
+    pub masks-a : a ≤ lastRow
+    masks-a = passed .1 .row-in
+
+    pub masks-b : b ≤ lastRow
+    masks-b = passed .2 .row-in
 
     module _ (g : Shape) (eg : g ≡ shapeOf s) where
       pub masks-allowed : Sized g rows × RowIn g a × RowIn g b × TripleIn g r × (length out ≡ masksLength g)

@@ -39,6 +39,11 @@ module _ (g : Shape) (rows : List ℕ) (z : Sized g rows) (d a b s : ℕ) (hd : 
   low : d < rowCount
   low = omega (arith, hd .row-in)
 
+  pub sum-without-fee : (fee : ℕ) (one : List ℕ) → one ≡ withRow w d made rows → fee ≡ 0
+      → one ≡ withRow w d (plusSums (sumsAt g) fee made) rows
+  sum-without-fee fee one e z =
+      rw z (e ∙ ap (λ (x : List ℕ). withRow w d x rows) (sym (plus-nothing (sumsAt g) s (rowAt w rows a) (rowAt w rows b))))
+
   pub sum-with-fee : (fee : ℕ) (one two : List ℕ) → one ≡ withRow w d made rows
       → two ≡ withRow w d (plusSums (sumsAt g) fee (rowAt w one d)) one → two ≡ withRow w d (summed (sumsAt g) s fee (rowAt w rows a) (rowAt w rows b)) rows
   sum-with-fee fee one two e1 e2 =

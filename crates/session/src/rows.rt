@@ -96,5 +96,8 @@ pub fn sum_rows(
     ensures { λ r. ⌜ now (rows .exit) ≡ withRow (rowLength shape) dest (summed (sumsAt shape) scale fee (rowAt (rowLength shape) (now (rows .entry)) a) (rowAt (rowLength shape) (now (rows .entry)) b)) (now (rows .entry)) ⌝ }
 {
     combine_rows(shape, rows, dest, a, b, scale);
+    if fee == 0 {
+        return;
+    }
     add_to_sums(shape, rows, dest, fee);
 }

@@ -123,7 +123,7 @@ answers st rows blocks number (l ∷ ls) =
 unfoldable pub printed : List ℕ → List ℕ
 printed input = header ++ answers firstState (replicate 9216 0) (replicate 1056 0) 1 (linesFrom [] input)
 
--- The program prints that, for every input.
+-- The definition's output is that, for every input.
 abbrev pub PrintsAnswers : Type 0
 PrintsAnswers = (input : List ℕ) → output input ≡ printed input
 

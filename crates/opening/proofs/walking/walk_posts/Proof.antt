@@ -1,5 +1,6 @@
 -- `walking::walk_posts` meets its contract: what is collected, and the walk from post j on, make the whole walk.
 use Prim.Native.Nat.{_+_, _-_}
+use mathlib.Core.Path.{refl, _∙_}
 use mathlib.Core.Logic.{⊎-elim}
 use borrow.Author.Needs.{needs}
 use Rattle.shape.specs.Lengths.{needed}
@@ -22,7 +23,7 @@ loop-again : tie.Need-loop-again Inv-loop μ-loop
 loop-again c =
     let l = c .before .before .before .before .loop in
     ⊎-elim
-    (λ w. party-take _ _ _ _ (c .before .before .before .before .before .needed .ensures) (l .count) (l .j) (c .before .before .before .if1 .left) (l .posts) _ (l .shares) _ _ _ _ (l .inv) (search needs) (c .before .accepts .ensures) (w .0 .taken) (w .1 .ensures) (w .2) (w .3) (w .4))
+    (λ w. party-take _ _ _ _ refl (l .count) (l .j) (λ e. c .before .before .before .if1 .left (e ∙ search needs)) (l .posts) _ (l .shares) _ _ _ _ (l .inv) (search needs) (c .before .accepts .ensures) (w .0 .taken) (w .1 .ensures) (w .2) (w .3) (w .4))
     (λ w. search (needs, party-skip)) (c .if3 .came)
 
 returns : tie.Need-returns Inv-loop μ-loop

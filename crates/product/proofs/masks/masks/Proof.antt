@@ -1,22 +1,18 @@
 -- `masks::masks` meets its contract.
 use borrow.Author.Needs.{needs}
 use Rattle.session.proofs.Endings.{endings}
-use Rattle.product.proofs.Masking.{masks-rows, masks-allowed, masks-written}
+use Rattle.product.proofs.Masking.{masks-first, masks-a, masks-b, masks-allowed, masks-written}
 use Rattle.product.proofs.masks.masks.Statement.{statement}
 use Rattle.product.proofs.masks.masks.Tie as tie
 
-ruleset steps = (endings, masks-written)
+ruleset steps = (endings, masks-first, masks-a, masks-b, masks-written)
 
 masks-accepted-requires : tie.Need-masks-accepted-requires
 masks-accepted-requires c κs =
     masks-allowed _ _ _ _ _ _ _ (c .before .before .before .masks-refusal .ensures) (c .before .before .if1 .left) _ (c .before .shape .ensures)
 
-done-masking-requires : tie.Need-done-masking-requires
-done-masking-requires c κs =
-    masks-rows _ _ _ _ _ _ _ (c .before .before .before .before .before .before .masks-refusal .ensures) (c .before .before .before .before .before .if1 .left)
-
 pub masks-spec : {M : Type 1} → statement M
 masks-spec =
     tie.close
     (tie.spec (λ c κs. search needs) (λ c κs. search needs) (λ c. search needs) (λ c. search steps) (λ c κs. search needs)
-    masks-accepted-requires done-masking-requires (λ c. search needs) (λ c. search steps))
+    masks-accepted-requires (λ c κs. search steps) (λ c. search needs) (λ c. search steps))

@@ -1,9 +1,11 @@
 -- `rows::sum_rows` meets its contract.
 use borrow.Author.Needs.{needs}
-use Rattle.session.proofs.Summed.{sum-with-fee}
+use Rattle.session.proofs.Summed.{sum-without-fee, sum-with-fee}
 use Rattle.session.proofs.rows.sum_rows.Statement.{statement}
 use Rattle.session.proofs.rows.sum_rows.Tie as tie
 
 pub sum-rows-spec : {M : Type 1} → statement M
 sum-rows-spec =
-    tie.close (tie.spec (λ c κs. search needs) (λ c κs. search needs) (λ c. search needs) (λ c. search (needs, sum-with-fee)))
+    tie.close
+    (tie.spec (λ c κs. search needs) (λ c. search needs) (λ c. search (needs, sum-without-fee)) (λ c κs. search needs) (λ c. search needs)
+    (λ c. search (needs, sum-with-fee)))
