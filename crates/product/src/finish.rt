@@ -191,8 +191,9 @@ fn write_product(shape: Shape, rows: &mut [u32], first: usize, y: u32, z: u32)
     ensures { λ r. ⌜ now (rows .exit) ≡ withRow (rowLength shape) (first + 2) (summed (sumsAt shape) z (product y z) (summed (sumsAt shape) y 0 (rowAt (rowLength shape) (now (rows .entry)) (first + 2)) (rowAt (rowLength shape) (now (rows .entry)) (first + 1))) (rowAt (rowLength shape) (now (rows .entry)) first)) (now (rows .entry)) ⌝ }
 {
     let third = first + 2;
+    let fee = field::mul(y, z);
     session::rows::sum_rows(shape, rows, third, third, first + 1, y, 0);
-    session::rows::sum_rows(shape, rows, third, third, first, z, field::mul(y, z));
+    session::rows::sum_rows(shape, rows, third, third, first, z, fee);
 }
 
 pub fn finish(

@@ -7,7 +7,7 @@ use Rattle.field.specs.Algebra.{CommutativeRing}
 use Rattle.field.specs.Element.{Element, element}
 use Rattle.field.proofs.Expression.{A, B, C, D, E, F, 𝟘, 𝟙, _:+_, _:*_, Same}
 use Rattle.field.proofs.Solver.{solve}
-use Rattle.field.proofs.Elements.{𝓡, element-zero, element-one}
+use Rattle.field.proofs.Elements.{𝓡, element-one}
 use Rattle.vectors.specs.Vector.{Vector, plusTimes, raised}
 use Rattle.runs.specs.Outline.{once, times, fee}
 use Rattle.runs.proofs.Marks.{totalVector, productSum}
@@ -30,13 +30,6 @@ linear-sum vec a b s k =
     raise x y =
         ap (λ (o : Element). x ⊕ o ⊗ (0ᴱ ⊕ element s ⊗ y ⊕ o ⊗ (0ᴱ ⊕ element k))) element-one
         ∙ solve 𝓡 (x ∷ y ∷ element s ∷ element k ∷ []) (A :+ 𝟙 :* (𝟘 :+ C :* B :+ 𝟙 :* (𝟘 :+ D))) (A :+ C :* B :+ D) refl
-
--- a fee of 0
-pub raised-nothing : (X : Vector) → raised (element 0) X ≡ X
-unfolding Same
-raised-nothing X =
-    let c = ap (λ (z : Element). X .c ⊕ z) element-zero ∙ solve 𝓡 (X .c ∷ []) (A :+ 𝟘) A refl in
-    λ t. record { c = c t; f = X .f; v = X .v }
 
 -- l'' + y l' + y' l, and y y' added to the dealer's number
 abbrev pub productVector : ℕ → ℕ → Vector → Vector → Vector → Vector
