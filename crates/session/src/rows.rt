@@ -63,7 +63,8 @@ pub fn add_to_sums(shape: Shape, rows: &mut [u32], row: usize, c: u32)
     ensures { λ r. ⌜ now (rows .exit) ≡ withRow (rowLength shape) row (plusSums (sumsAt shape) c (rowAt (rowLength shape) (now (rows .entry)) row)) (now (rows .entry)) ⌝ }
 {
     let n = shape.n;
-    let from = row_at(shape, row) + shape.sums_at();
+    let start = row_at(shape, row);
+    let from = start + shape.sums_at();
     let end = from + n;
     add_to_each(&mut rows[from..end], c);
 }
