@@ -71,8 +71,8 @@ messageTable s rows r out =
     ∷ 8 when anyBeyond (rowAt (width s) rows r)
     ∷ []
 
-abbrev pub linearTable : Session → List ℕ → ℕ → ℕ → ℕ → ℕ → List Test
-linearTable s rows r a b scale =
+abbrev pub linearTable : Session → List ℕ → ℕ → ℕ → ℕ → ℕ → ℕ → List Test
+linearTable s rows r a b scale fee =
     1 when outside fewestPosts mostPosts (s .n)
     ∷ 2 when outside 1 (s .n - 1) (s .t)
     ∷ 3 when outside 1 (s .n) (s .post)
@@ -85,6 +85,7 @@ linearTable s rows r a b scale =
     ∷ 7 when unlike s a held
     ∷ 7 when unlike s b held
     ∷ 8 when beyond scale
+    ∷ 8 when beyond fee
     ∷ 8 when anyBeyond (rowAt (width s) rows a)
     ∷ 8 when anyBeyond (rowAt (width s) rows b)
     ∷ []
@@ -96,4 +97,4 @@ pub record SharingTables : Type 0 where
       → loadTripleTests s rows r pack ≡ loadTripleTable s rows r pack
   pub deal : (s : Session) (rows : List ℕ) (r c : ℕ) → dealTests s rows r c ≡ dealTable s rows r c
   pub message : (s : Session) (rows : List ℕ) (r : ℕ) (out : List ℕ) → messageTests s rows r out ≡ messageTable s rows r out
-  pub linear : (s : Session) (rows : List ℕ) (r a b scale : ℕ) → linearTests s rows r a b scale ≡ linearTable s rows r a b scale
+  pub linear : (s : Session) (rows : List ℕ) (r a b scale fee : ℕ) → linearTests s rows r a b scale fee ≡ linearTable s rows r a b scale fee
