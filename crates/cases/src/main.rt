@@ -96,68 +96,47 @@ fn masked(session: Session, rows: &mut [u32], sent: &mut [u32]) -> Session {
     product::masks::masks(rate, rows, 0, 1, 2, sent).session
 }
 
+// The three rows of a triple, one after the other.
+fn joined(l: &[u32; 8], m: &[u32; 8], n: &[u32; 8]) -> [u32; 24] {
+    let mut pack = [0u32; 24];
+    for i in 0..8 {
+        pack[i] = l[i];
+        pack[8 + i] = m[i];
+        pack[16 + i] = n[i];
+    }
+    pack
+}
+
 fn first_loaded(rows: &mut [u32]) -> Session {
-    let a = [1, 2, 5, 5, 17, 12, 18, 24];
-    let b = [2, 1, 4, 3, 8, 10, 14, 22];
-    let triple = [
-        5,
+    let triple = joined(
+        &[5, 1, 7, 7, 15, 8, 7, 6],
+        &[1, 1, 3, 12, 6, 8, 15, 13],
+        &[4, 1, 6, 14, 9, 23, 36, 42],
+    );
+    loaded(
         1,
-        7,
-        7,
-        15,
-        8,
-        7,
-        6,
-        1,
-        1,
-        3,
-        12,
-        6,
-        8,
-        15,
-        13,
-        4,
-        1,
-        6,
-        14,
-        9,
-        23,
-        36,
-        42,
-    ];
-    loaded(1, 2, rows, &a, &b, &triple)
+        2,
+        rows,
+        &[1, 2, 5, 5, 17, 12, 18, 24],
+        &[2, 1, 4, 3, 8, 10, 14, 22],
+        &triple,
+    )
 }
 
 fn second_loaded(rows: &mut [u32]) -> Session {
-    let a = [3, 1, 7, 6, 23, 12, 18, 24];
-    let b = [1, 1, 5, 4, 10, 10, 14, 22];
-    let triple = [
-        3,
+    let triple = joined(
+        &[3, 2, 8, 9, 22, 8, 7, 6],
+        &[6, 3, 4, 15, 8, 8, 15, 13],
+        &[8, 3, 7, 17, 11, 23, 36, 42],
+    );
+    loaded(
         2,
-        8,
-        9,
-        22,
-        8,
-        7,
-        6,
-        6,
         3,
-        4,
-        15,
-        8,
-        8,
-        15,
-        13,
-        8,
-        3,
-        7,
-        17,
-        11,
-        23,
-        36,
-        42,
-    ];
-    loaded(2, 3, rows, &a, &b, &triple)
+        rows,
+        &[3, 1, 7, 6, 23, 12, 18, 24],
+        &[1, 1, 5, 4, 10, 10, 14, 22],
+        &triple,
+    )
 }
 
 // The product into row 4, and with a fee of 8 into row 5.
