@@ -163,11 +163,12 @@ gantsorol_answer gantsorol_open(gantsorol_session session, const uint32_t *rows,
                                 const uint32_t *blocks, size_t blocks_len);
 
 /*
- * Writes row a plus scale times row b, both held and perhaps the same, into the empty row dest, which becomes held.
+ * Writes row a plus scale times row b, both held and perhaps the same, into the empty row dest, which becomes held. The
+ * fee, a public element, is added to its public sums alone: its number is a's plus scale times b's plus the fee.
  * rows: GANTSOROL_ROWS_LEN, written. Refusals 1 to 8.
  */
 gantsorol_answer gantsorol_linear(gantsorol_session session, uint32_t *rows, size_t rows_len, size_t dest, size_t a,
-                                  size_t b, uint32_t scale);
+                                  size_t b, uint32_t scale, uint32_t fee);
 
 /*
  * The first half of a product: for the held rows a and b, perhaps the same, and the unused triple l, l', l'' (marks 3, 4

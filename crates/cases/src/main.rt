@@ -1,5 +1,5 @@
-// Document 01, "Reckoned by hand": the cases that are not in the proved table, run by the library's calls. Each prints what
-// it is, the refusal and the value.
+// Document 01, "Reckoned by hand": the cases that are not in the proved table, run by the library's calls; and a charge of
+// document 02, (i). Each prints what it is, the refusal and the value.
 ghost use mathlib.Core.Path.{_≡_};
 ghost use Prim.Native.Nat.{_≤_};
 ghost use lib.ListN.{length};
@@ -50,7 +50,7 @@ fn prepared(post: usize, point: u32, rows: &mut [u32], pack: &[u32]) -> Session 
     let session = Session::new(3, 1, post, point).session;
     let loaded = sharing::load::load_row(session, rows, 0, pack).session;
     let dealt = sharing::deal::deal(loaded, rows, 0, 93).session;
-    sharing::linear::linear(dealt, rows, 1, 0, 0, 2147483646).session
+    sharing::linear::linear(dealt, rows, 1, 0, 0, 2147483646, 0).session
 }
 
 // Post 1 opens this row with post 2's message.
@@ -74,6 +74,104 @@ fn open_alone(case: &[u8]) {
     show(case, answer.refusal, answer.value);
 }
 
+// A post of three with two raw rows, 0 and 1, and a triple from row 2 on.
+fn loaded(
+    post: usize,
+    point: u32,
+    rows: &mut [u32],
+    a: &[u32],
+    b: &[u32],
+    triple: &[u32],
+) -> Session {
+    let new = Session::new(3, 1, post, point).session;
+    let first = sharing::load::load_row(new, rows, 0, a).session;
+    let second = sharing::load::load_row(first, rows, 1, b).session;
+    sharing::load::load_triple(second, rows, 2, triple).session
+}
+
+// Row 0 becomes 6 and row 1 becomes 7; the post makes its masks.
+fn masked(session: Session, rows: &mut [u32], sent: &mut [u32]) -> Session {
+    let rides = sharing::deal::deal(session, rows, 0, 2147483646).session;
+    let rate = sharing::deal::deal(rides, rows, 1, 4).session;
+    product::masks::masks(rate, rows, 0, 1, 2, sent).session
+}
+
+// The three rows of a triple, one after the other.
+fn joined(l: &[u32; 8], m: &[u32; 8], n: &[u32; 8]) -> [u32; 24] {
+    let mut pack = [0u32; 24];
+    for i in 0..8 {
+        pack[i] = l[i];
+        pack[8 + i] = m[i];
+        pack[16 + i] = n[i];
+    }
+    pack
+}
+
+fn first_loaded(rows: &mut [u32]) -> Session {
+    let triple = joined(
+        &[5, 1, 7, 7, 15, 8, 7, 6],
+        &[1, 1, 3, 12, 6, 8, 15, 13],
+        &[4, 1, 6, 14, 9, 23, 36, 42],
+    );
+    loaded(
+        1,
+        2,
+        rows,
+        &[1, 2, 5, 5, 17, 12, 18, 24],
+        &[2, 1, 4, 3, 8, 10, 14, 22],
+        &triple,
+    )
+}
+
+fn second_loaded(rows: &mut [u32]) -> Session {
+    let triple = joined(
+        &[3, 2, 8, 9, 22, 8, 7, 6],
+        &[6, 3, 4, 15, 8, 8, 15, 13],
+        &[8, 3, 7, 17, 11, 23, 36, 42],
+    );
+    loaded(
+        2,
+        3,
+        rows,
+        &[3, 1, 7, 6, 23, 12, 18, 24],
+        &[1, 1, 5, 4, 10, 10, 14, 22],
+        &triple,
+    )
+}
+
+// The product into row 4, and with a fee of 8 into row 5.
+fn charged(session: Session, rows: &mut [u32], left: &[u32], right: &[u32]) -> Session {
+    let finished = product::finish::finish(session, rows, 2, left, right).session;
+    sharing::linear::linear(finished, rows, 5, 4, 4, 0, 8).session
+}
+
+// Posts 1 and 2 work out a charge, 6 rides at 7 and a fee of 8, and post 1 opens it with post 2's message.
+fn open_charge(case: &[u8]) {
+    let mut rows = [0u32; 768];
+    let mut other = [0u32; 768];
+    let mut mine = [0u32; 4];
+    let mut theirs = [0u32; 4];
+    let mut sent = [0u32; 2];
+    let first = masked(first_loaded(&mut rows), &mut rows, &mut mine);
+    let second = masked(second_loaded(&mut other), &mut other, &mut theirs);
+    let first = charged(
+        first,
+        &mut rows,
+        &[0, 0, 0, 1, theirs[0], theirs[1], 0, 0, 0],
+        &[0, 0, 0, 1, theirs[2], theirs[3], 0, 0, 0],
+    );
+    let second = charged(
+        second,
+        &mut other,
+        &[1, mine[0], mine[1], 0, 0, 0, 0, 0, 0],
+        &[1, mine[2], mine[3], 0, 0, 0, 0, 0, 0],
+    );
+    sharing::message::opening_message(second, &other, 5, &mut sent);
+    let blocks = [0, 0, 0, 1, sent[0], sent[1], 0, 0, 0];
+    let answer = opening::open(first, &rows, 5, &blocks);
+    show(case, answer.refusal, answer.value);
+}
+
 fn main() {
     io::write_all(STDOUT_FILENO, b"case,refusal,value\n");
     read_line(b"D with 2147483646", b"D,0,2147483646\n");
@@ -88,4 +186,5 @@ fn main() {
     load_into(b"row 95", 95);
     load_into(b"row 96", 96);
     open_alone(b"record empty with t = 1");
+    open_charge(b"6 x 7 + 8");
 }

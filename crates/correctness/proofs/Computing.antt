@@ -34,7 +34,7 @@ use Rattle.runs.specs.Calls.{Post, Actual, Call, loadRow, loadTriple, deal, per
 use Rattle.runs.proofs.Outlines.{all-every}
 use Rattle.runs.proofs.Lines.{elements-of}
 use Rattle.correctness.specs.History.{Event, World, doneBy, turn, history, Each}
-use Rattle.correctness.specs.Ledger.{Ledger, nothing, dealt, sum, product, Written, Plain, of-deal, of-row, of-times, of-more, of-product}
+use Rattle.correctness.specs.Ledger.{Ledger, nothing, dealt, sum, product, Written, Plain, of-deal, of-row, of-times, of-fee, of-more, of-product}
 use Rattle.correctness.specs.Truth.{OwnPart, TrueWith, TrueFinish}
 
 -- `refl` proves it where `unfolding Computes` opens the calls' definitions
@@ -95,9 +95,10 @@ is-draw x many low = record {
     triples (suc (suc zero)) h = (many, low)
     triples (suc (suc (suc r))) h = rw (none-there 93 r, ne-eqb (suc (suc (suc r))) 2 (omega arith)) (refl, tt)
 
--- row 0 is 6, row 1 is 7, row 4 their product by the triple at 2, row 5 is 6 + 2 · 7, row 6 is 6 + 2 · (6 · 7), row 7 is 6 + 2 · 6
+-- row 0 is 6, row 1 is 7, row 4 their product by the triple at 2, row 5 is 6 + 2 · 7, row 6 is 6 + 2 · (6 · 7), row 7 is 6 + 2 · 6,
+-- row 8 is a charge: 6 rides at 7 each, and 8
 unfoldable pub ledger : Ledger
-ledger r = getD (dealt 6 ∷ dealt 7 ∷ nothing ∷ nothing ∷ product 2 0 1 ∷ sum 0 1 2 ∷ sum 0 4 2 ∷ sum 0 0 2 ∷ []) r nothing
+ledger r = getD (dealt 6 ∷ dealt 7 ∷ nothing ∷ nothing ∷ product 2 0 1 ∷ sum 0 1 2 0 ∷ sum 0 4 2 0 ∷ sum 0 0 2 0 ∷ sum 4 4 0 8 ∷ []) r nothing
 
 pub plain-6 : Plain ledger 0 6
 unfolding ledger
@@ -105,7 +106,7 @@ plain-6 = of-deal
 
 pub plain-18 : Plain ledger 7 18
 unfolding Computes ledger
-plain-18 = of-more (of-row {a = 0} {x = 6} of-deal) (of-times {s = 2} {b = 0} {y = 6} of-deal)
+plain-18 = of-more (of-row {a = 0} {x = 6} of-deal) (of-more (of-times {s = 2} {b = 0} {y = 6} of-deal) (of-fee {k = 0}))
 
 pub plain-42 : Plain ledger 4 42
 unfolding Computes ledger

@@ -51,8 +51,8 @@ deals =
 -- post 2 makes no sum
 unfoldable pub sums : List Event
 sums =
-    call 3 (linear 5 0 1 2) ∷ call 3 (message 5 room) ∷ call 3 (masks 0 1 2 rooms)
-    ∷ call 1 (linear 5 0 1 2) ∷ call 1 (masks 0 1 2 rooms) ∷ call 2 (masks 0 1 2 rooms) ∷ []
+    call 3 (linear 5 0 1 2 0) ∷ call 3 (message 5 room) ∷ call 3 (masks 0 1 2 rooms)
+    ∷ call 1 (linear 5 0 1 2 0) ∷ call 1 (masks 0 1 2 rooms) ∷ call 2 (masks 0 1 2 rooms) ∷ []
 
 -- of post 2 the false 6 + 0z, of post 3 what it sent
 abbrev lie : List ℕ

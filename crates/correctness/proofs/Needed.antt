@@ -79,7 +79,7 @@ deal-fails h = not-it 0 _ 9 6 opens-9 (omega arith) plain-6 (h .exact (lit≤ tt
 unfoldable sums : List Event
 sums =
     load draw 1 0 ∷ load draw 2 1 ∷ dealOf draw 1 0 6 ∷ dealOf draw 2 1 7
-    ∷ call 1 (linear 7 0 0 2) ∷ call 2 (linear 7 1 1 4) ∷ call 2 (message 7 room) ∷ []
+    ∷ call 1 (linear 7 0 0 2 0) ∷ call 2 (linear 7 1 1 4 0) ∷ call 2 (message 7 room) ∷ []
 
 all-but-a-sum : Asked draw Everyone (AllBut 2) Everyone sums new
 unfolding plan sums ledger

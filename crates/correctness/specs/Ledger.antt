@@ -17,9 +17,9 @@ pub data Meaning : Type 0 where
   summed : (t : Summand) (ts : List Summand) → Meaning
   product : (r a b : ℕ) → Meaning
 
--- a plus s times b
-abbrev pub sum : (a b s : ℕ) → Meaning
-sum a b s = summed (once a) (times s b ∷ [])
+-- a plus s times b, with a fee
+abbrev pub sum : (a b s k : ℕ) → Meaning
+sum a b s k = summed (once a) (times s b ∷ fee k ∷ [])
 
 abbrev pub Ledger : Type 0
 Ledger = ℕ → Meaning

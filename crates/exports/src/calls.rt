@@ -85,11 +85,12 @@ pub extern "C" fn gantsorol_linear(
     a: usize,
     b: usize,
     scale: u32,
+    fee: u32,
 ) -> Answer
-    ensures { λ r. ⌜ r ≡ linearAnswer session (now (rows .entry)) dest a b scale ⌝ }
-    ensures { λ r. ⌜ now (rows .exit) ≡ linearRows session (now (rows .entry)) dest a b scale ⌝ }
+    ensures { λ r. ⌜ r ≡ linearAnswer session (now (rows .entry)) dest a b scale fee ⌝ }
+    ensures { λ r. ⌜ now (rows .exit) ≡ linearRows session (now (rows .entry)) dest a b scale fee ⌝ }
 {
-    sharing::linear::linear(session, rows, dest, a, b, scale)
+    sharing::linear::linear(session, rows, dest, a, b, scale, fee)
 }
 
 #[no_mangle]

@@ -17,7 +17,7 @@ use Rattle.session.specs.declared.Party.{Party}
 use Rattle.session.specs.declared.Session.{Session}
 use Rattle.session.specs.declared.Answer.{Answer}
 use Rattle.session.specs.Sessions.{shapeOf, partyOf, holding, finishedTriple}
-use Rattle.session.specs.Rows.{rowAt, withRow, combined, plusSums}
+use Rattle.session.specs.Rows.{rowAt, withRow, combined, summed}
 use Rattle.session.specs.Checks.{Framed, Sized, TripleIn}
 use Rattle.session.proofs.Passed.{triple-in}
 use Rattle.session.proofs.Endings.{refused-answer, accepted-answer}
@@ -167,8 +167,8 @@ module _ (s : Session) (rows : List ℕ) (r : ℕ) (l l' : List ℕ) where
 
         pub finish-written : (out : List ℕ)
             → out ≡ withRow (rowLength g) (r + 2)
-            (plusSums (sumsAt g) (product (o .y) (o .z))
-            (combined (o .z) (combined (o .y) (rowAt (rowLength g) rows (r + 2)) (rowAt (rowLength g) rows (r + 1))) (rowAt (rowLength g) rows r))) rows
+            (summed (sumsAt g) (o .z) (product (o .y) (o .z))
+            (summed (sumsAt g) (o .y) 0 (rowAt (rowLength g) rows (r + 2)) (rowAt (rowLength g) rows (r + 1))) (rowAt (rowLength g) rows r)) rows
             → out ≡ finishRows s rows r l l'
         unfolding withProduct productRow
         finish-written out eo =

@@ -1,6 +1,6 @@
 -- The product's row, written where l'' stands: l'' + y l', then + y' l with the fee y y'.
 use Prim.Native.Nat.{ℕ, _+_, _<_}
-use mathlib.Core.Path.{_≡_, sym, _∙_, ap, ap₂}
+use mathlib.Core.Path.{_≡_, _∙_, ap₂}
 use mathlib.Core.Logic.{_≢_}
 use mathlib.Core.List.{List}
 use native.Mathlib.Omega.{arith}
@@ -9,11 +9,11 @@ use Rattle.field.specs.Arithmetic.{product}
 use Rattle.shape.specs.declared.Shape.{Shape}
 use Rattle.shape.specs.Bounds.{rowCount}
 use Rattle.shape.specs.Lengths.{rowLength, sumsAt}
-use Rattle.session.specs.Rows.{rowAt, withRow, combined, plusSums}
+use Rattle.session.specs.Rows.{rowAt, withRow, summed}
 use Rattle.session.specs.Checks.{Sized, RowIn, TripleIn}
 use Rattle.session.proofs.Passed.{row-below}
 use Rattle.session.proofs.RowLaws.{row-same, row-again, row-other}
-use Rattle.session.proofs.Summed.{plus-nothing, length-made}
+use Rattle.session.proofs.Summed.{length-summed}
 
 module _ (g : Shape) (rows : List ℕ) (r : ℕ) (z : Sized g rows) (i : TripleIn g r) where
   abbrev w : ℕ
@@ -29,30 +29,27 @@ module _ (g : Shape) (rows : List ℕ) (r : ℕ) (z : Sized g rows) (i : TripleI
   low = omega (arith, i .triple-in)
 
   pub product-written : (one two : List ℕ) (y y' c : ℕ) → c ≡ product y y'
-      → one ≡ withRow w (r + 2) (plusSums (sumsAt g) 0 (combined y (rowAt w rows (r + 2)) (rowAt w rows (r + 1)))) rows
-      → two ≡ withRow w (r + 2) (plusSums (sumsAt g) c (combined y' (rowAt w one (r + 2)) (rowAt w one r))) one
+      → one ≡ withRow w (r + 2) (summed (sumsAt g) y 0 (rowAt w rows (r + 2)) (rowAt w rows (r + 1))) rows
+      → two ≡ withRow w (r + 2) (summed (sumsAt g) y' c (rowAt w one (r + 2)) (rowAt w one r)) one
       → two ≡ withRow w (r + 2)
-      (plusSums (sumsAt g) (product y y') (combined y' (combined y (rowAt w rows (r + 2)) (rowAt w rows (r + 1))) (rowAt w rows r))) rows
+      (summed (sumsAt g) y' (product y y') (summed (sumsAt g) y 0 (rowAt w rows (r + 2)) (rowAt w rows (r + 1))) (rowAt w rows r)) rows
   product-written one two y y' c ec e1 e2 =
       e2
-      ∙ ap₂ (λ (k : ℕ) (l : List ℕ). withRow w q (plusSums (sumsAt g) k (combined y' (rowAt w l q) (rowAt w l r))) l) ec first-is
-      ∙ ap₂ (λ (a b : List ℕ). withRow w q (plusSums (sumsAt g) (product y y') (combined y' a b)) (withRow w q made rows))
+      ∙ ap₂ (λ (k : ℕ) (l : List ℕ). withRow w q (summed (sumsAt g) y' k (rowAt w l q) (rowAt w l r)) l) ec e1
+      ∙ ap₂ (λ (a b : List ℕ). withRow w q (summed (sumsAt g) y' (product y y') a b) (withRow w q made rows))
       (row-same w rowCount rows q (z .length-is) low made made-long)
       (row-other w rowCount rows q (z .length-is) low made made-long r other)
-      ∙ row-again w rowCount rows q (z .length-is) low made made-long
-      (plusSums (sumsAt g) (product y y') (combined y' made (rowAt w rows r)))
+      ∙ row-again w rowCount rows q (z .length-is) low made made-long (summed (sumsAt g) y' (product y y') made (rowAt w rows r))
     where
       q : ℕ
       q = r + 2
 
       made : List ℕ
-      made = combined y (rowAt w rows (r + 2)) (rowAt w rows (r + 1))
+      made = summed (sumsAt g) y 0 (rowAt w rows (r + 2)) (rowAt w rows (r + 1))
 
       made-long : length made ≡ w
-      made-long = length-made g rows z (r + 2) (r + 2) (r + 1) y (in-triple 2 (omega arith)) (in-triple 2 (omega arith)) (in-triple 1 (omega arith))
-
-      first-is : one ≡ withRow w q made rows
-      first-is = e1 ∙ ap (λ (l : List ℕ). withRow w q l rows) (plus-nothing (sumsAt g) y (rowAt w rows (r + 2)) (rowAt w rows (r + 1)))
+      made-long =
+          length-summed g rows z (r + 2) (r + 2) (r + 1) y (in-triple 2 (omega arith)) (in-triple 2 (omega arith)) (in-triple 1 (omega arith)) 0
 
       other : r ≢ r + 2
       other e = omega arith

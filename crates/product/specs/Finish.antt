@@ -9,7 +9,7 @@ use Rattle.refusal.specs.Conditions.{missized, anyBeyond}
 use Rattle.session.specs.declared.Session.{Session}
 use Rattle.session.specs.declared.Answer.{Answer}
 use Rattle.session.specs.Sessions.{shapeOf, factorA, factorB, finishedTriple, answer}
-use Rattle.session.specs.Rows.{width, sumsAt, rowAt, withRow, combined, plusSums}
+use Rattle.session.specs.Rows.{width, sumsAt, rowAt, withRow, summed}
 use Rattle.session.specs.Checks.{frameTests, noRow, noTriple}
 use Rattle.opening.specs.Walking.{recordLength, badRecord, tooFew, opened}
 use Rattle.product.specs.declared.OpenedMasks.{OpenedMasks}
@@ -71,9 +71,10 @@ abbrev pub openedMasks : Session → List ℕ → ℕ → List ℕ → List ℕ 
 openedMasks s rows r blocks blocks' =
     found (finishRefusal s rows r blocks blocks') (opened s (maskA s rows r) blocks) (opened s (maskB s rows r) blocks')
 
--- The second step: "l'' + y l' + y' l + y y'", with y y' added to the public sums only
+-- The second step: "l'' + y l' + y' l + y y'", by the sum of rows that linear writes: y y' is the fee of its second use (document
+-- 02, (i): "The last step of a product uses the same sum of rows").
 unfoldable pub productRow : Session → ℕ → ℕ → List ℕ → List ℕ → List ℕ → List ℕ
-productRow s y y' l l' l'' = plusSums (sumsAt s) (product y y') (combined y' (combined y l'' l') l)
+productRow s y y' l l' l'' = summed (sumsAt s) y' (product y y') (summed (sumsAt s) y 0 l'' l') l
 
 -- The product of the triple at r, written into its third row, from y and y'.
 unfoldable pub withProduct : Session → ℕ → ℕ → ℕ → List ℕ → List ℕ

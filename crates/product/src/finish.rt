@@ -17,7 +17,7 @@ ghost use Rattle.shape.specs.Bounds.{lastTriple};
 ghost use Rattle.shape.specs.Lengths.{Valid, rowLength, sumsAt};
 ghost use Rattle.refusal.specs.Refusal.{first, _when_};
 ghost use Rattle.session.specs.Sessions.{shapeOf, partyOf, factorA, factorB};
-ghost use Rattle.session.specs.Rows.{rowAt, withRow, combined, plusSums};
+ghost use Rattle.session.specs.Rows.{rowAt, withRow, summed};
 ghost use Rattle.session.specs.Checks.{noRow, Framed, Sized, RowIn, TripleIn};
 ghost use Rattle.opening.specs.Blocks.{Recorded};
 ghost use Rattle.opening.specs.Accepting.{openedRow};
@@ -185,14 +185,15 @@ fn open_masks(
     open_both(session, rows, first, left, right)
 }
 
-// The second step: l'' + y l' + y' l into the triple's third row, with y y' added to its public sums.
+// The second step: l'' + y l' + y' l into the triple's third row, with the fee y y'.
 fn write_product(shape: Shape, rows: &mut [u32], first: usize, y: u32, z: u32)
     requires { ⌜ Sized shape (now rows) × TripleIn shape first ⌝ }
-    ensures { λ r. ⌜ now (rows .exit) ≡ withRow (rowLength shape) (first + 2) (plusSums (sumsAt shape) (product y z) (combined z (combined y (rowAt (rowLength shape) (now (rows .entry)) (first + 2)) (rowAt (rowLength shape) (now (rows .entry)) (first + 1))) (rowAt (rowLength shape) (now (rows .entry)) first))) (now (rows .entry)) ⌝ }
+    ensures { λ r. ⌜ now (rows .exit) ≡ withRow (rowLength shape) (first + 2) (summed (sumsAt shape) z (product y z) (summed (sumsAt shape) y 0 (rowAt (rowLength shape) (now (rows .entry)) (first + 2)) (rowAt (rowLength shape) (now (rows .entry)) (first + 1))) (rowAt (rowLength shape) (now (rows .entry)) first)) (now (rows .entry)) ⌝ }
 {
     let third = first + 2;
+    let fee = field::mul(y, z);
     session::rows::sum_rows(shape, rows, third, third, first + 1, y, 0);
-    session::rows::sum_rows(shape, rows, third, third, first, z, field::mul(y, z));
+    session::rows::sum_rows(shape, rows, third, third, first, z, fee);
 }
 
 pub fn finish(

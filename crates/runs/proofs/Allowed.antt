@@ -8,6 +8,7 @@ use native.Mathlib.Omega.{arith}
 use borrow.Author.Tests.{ltb-false}
 use lib.ListN.{length}
 use Rattle.refusal.proofs.Laws.{equal}
+use Rattle.refusal.proofs.Elements.{below-p}
 use Rattle.session.specs.declared.Session.{Session}
 use Rattle.session.specs.Checks.{noRow, noTriple}
 use Rattle.sharing.specs.Load.{loadRowTests, loadRowRefusal, loadTripleTests, loadTripleRefusal}
@@ -57,14 +58,14 @@ module _ (plan : Plan) (draw : Draw) (i : ℕ) (M : Marks) (l : List ℕ) where
   passes (opening x) z =
       let f = passed (openTests s l (x .r) (x .blocks)) tt z in
       (record { moving = (((row-low _ (f 6), equal _ _ (f 7)), tt), tt); ready = (tt, tt); sending = tt }, equal _ _ (f 4))
-  passes (linear x) z = let f = passed (linearTests s l (x .r) (x .a) (x .b) (x .scale)) tt z in (
+  passes (linear x) z = let f = passed (linearTests s l (x .r) (x .a) (x .b) (x .scale) (x .fee)) tt z in (
     record {
       moving = (
         (
           record {
             r-low = row-low _ (f 5);
             r-empty = equal _ _ (f 8);
-            held = ((row-low _ (f 6), equal _ _ (f 9)), ((row-low _ (f 7), equal _ _ (f 10)), tt));
+            held = ((row-low _ (f 6), equal _ _ (f 9)), ((row-low _ (f 7), equal _ _ (f 10)), (below-p (x .fee) (f 12), tt)));
           },
           tt,
         ),

@@ -14,13 +14,14 @@ use Rattle.field.specs.Element.{element}
 use Rattle.poly.specs.Counting.{All}
 use Rattle.refusal.proofs.Laws.{inside, equal}
 use Rattle.session.specs.declared.Session.{Session}
-use Rattle.session.specs.Rows.{sumsAt, rowAt, combined, plusSums}
+use Rattle.session.specs.Rows.{sumsAt, rowAt, summed}
+use Rattle.session.proofs.Summed.{plus-nothing}
 use Rattle.opening.specs.Walking.{acceptedPosts, tooFew, opened}
 use Rattle.product.specs.Finish as Finish
 use Rattle.product.specs.Finish.{finishTests, finishRefusal, productRow, withProduct}
 use Rattle.vectors.specs.Vector.{Vector, plusTimes, number}
 use Rattle.vectors.specs.Claims.{heldRow, Truly}
-use Rattle.vectors.proofs.Linear.{row-plusTimes, row-raised}
+use Rattle.vectors.proofs.Linear.{row-plusTimes, row-summed}
 use Rattle.vectors.proofs.Theorems.{opened-exact}
 use Rattle.runs.specs.Draws.{Plan, Draw, pointOf}
 use Rattle.runs.specs.Calls.{at}
@@ -48,10 +49,9 @@ module _ (plan : Plan) (draw : Draw) (len i : ℕ) (M : Marks) (vec : ℕ → Ve
   unfolding productRow
   row-of-product y y' a b c =
       let w = element (pointOf draw i) in
-      ap (plusSums (sumsAt s) (product y y'))
-      (ap (λ (x : List ℕ). combined y' x (rowFor plan draw i a)) (sym (row-plusTimes (plan .t + 1) (plan .n) i y w c b))
-      ∙ sym (row-plusTimes (plan .t + 1) (plan .n) i y' w (plusTimes (element y) c b) a))
-      ∙ sym (row-raised (plan .t + 1) (plan .n) i (product y y') w _)
+      ap (λ (x : List ℕ). summed (sumsAt s) y' (product y y') x (rowFor plan draw i a))
+      (plus-nothing (sumsAt s) y (rowFor plan draw i c) (rowFor plan draw i b) ∙ sym (row-plusTimes (plan .t + 1) (plan .n) i y w c b))
+      ∙ sym (row-summed (plan .t + 1) (plan .n) i y' (product y y') w (plusTimes (element y) c b) a)
 
   -- the rows of a triple that waits, and those that are opened
   module _ (r : ℕ) (ok : Multiplying 5 M (leftOf M r) (rightOf M r) r) where

@@ -13,7 +13,7 @@ use lib.Seq.{take-at, drop-at, take-all, getD-set-other}
 use Rattle.field.specs.Element.{element}
 use Rattle.refusal.proofs.Laws.{equal}
 use Rattle.session.specs.declared.Session.{Session}
-use Rattle.session.specs.Rows.{sumsAt, rowAt, withRow, combined, plusSums}
+use Rattle.session.specs.Rows.{sumsAt, rowAt, withRow, combined, plusSums, summed}
 use Rattle.session.specs.Checks.{unlike}
 use Rattle.session.proofs.RowLaws.{length-with-row, row-same, row-other}
 use Rattle.sharing.specs.Load.{loadRowTests, loadRowRefusal, loadTripleTests, loadTripleRefusal, withTriple}
@@ -21,9 +21,9 @@ use Rattle.sharing.specs.Deal.{dealTests, dealRefusal}
 use Rattle.sharing.specs.Linear.{linearTests, linearRefusal}
 use Rattle.product.specs.Masks.{masksTests, masksRefusal}
 use Rattle.vectors.specs.Vector.{Vector, plusTimes, raised, rowOf}
-use Rattle.vectors.proofs.Linear.{length-numbers, row-plusTimes, row-raised}
+use Rattle.vectors.proofs.Linear.{length-numbers, row-plusTimes, row-raised, row-summed}
 use Rattle.runs.specs.Draws.{Plan, Draw, pointOf}
-use Rattle.runs.specs.Outline.{once, times, loadsTriple, factors}
+use Rattle.runs.specs.Outline.{once, times, fee, loadsTriple, factors}
 use Rattle.runs.specs.Calls.{at}
 use Rattle.runs.proofs.Marks.{Marks, markOf, remarked, marksBy, sessionAt, totalVector, at-same, at-other}
 use Rattle.runs.proofs.Sums.{linear-sum}
@@ -104,17 +104,18 @@ module _ (plan : Plan) (draw : Draw) where
     combined-row k a b ea eb =
         ap₂ (combined k) ea eb ∙ sym (row-plusTimes (plan .t + 1) (plan .n) i k (element (pointOf draw i)) (vec a) (vec b))
 
-    pub linear-holds : (r a b scale : ℕ) → linearRefusal s l r a b scale ≡ 0
-        → Holds len i (remarked M r 2) (at vec r (totalVector vec (once a) (times scale b ∷ [])))
-        (withRow W r (combined scale (rowAt W l a) (rowAt W l b)) l)
+    pub linear-holds : (r a b scale c : ℕ) → linearRefusal s l r a b scale c ≡ 0
+        → Holds len i (remarked M r 2) (at vec r (totalVector vec (once a) (times scale b ∷ fee c ∷ [])))
+        (withRow W r (summed (sumsAt s) scale c (rowAt W l a) (rowAt W l b)) l)
     unfolding linearRefusal
-    linear-holds r a b scale z =
+    linear-holds r a b scale c z =
         put-holds len i M vec l h (equal _ _ (f 4)) r 2 (omega (arith, ltb-false 95 r (f 5))) _ _
-        (combined-row scale a b (held-row a 1 (ltb-false 95 a (f 6)) (f 9)) (held-row b 1 (ltb-false 95 b (f 7)) (f 10))
-        ∙ ap (rowFor plan draw i) (sym (linear-sum vec a b scale)))
+        (ap₂ (summed (sumsAt s) scale c) (held-row a 1 (ltb-false 95 a (f 6)) (f 9)) (held-row b 1 (ltb-false 95 b (f 7)) (f 10))
+        ∙ sym (row-summed (plan .t + 1) (plan .n) i scale c (element (pointOf draw i)) (vec a) (vec b))
+        ∙ ap (rowFor plan draw i) (sym (linear-sum vec a b scale c)))
       where
-        f : (k : ℕ) → conditionAt (linearTests s l r a b scale) k ≡ false
-        f = passed (linearTests s l r a b scale) tt z
+        f : (k : ℕ) → conditionAt (linearTests s l r a b scale c) k ≡ false
+        f = passed (linearTests s l r a b scale c) tt z
 
     pub masks-holds : (a b r : ℕ) (lent : List ℕ) → masksRefusal s l a b r lent ≡ 0 → Holds len i (marksBy (factors a b r) M) vec l
     unfolding masksRefusal

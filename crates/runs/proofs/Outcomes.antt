@@ -8,7 +8,7 @@ use Rattle.refusal.specs.Refusal.{Test, _when_, first, outcome, AllFail}
 use Rattle.refusal.proofs.Laws.{Numbered, all-fail}
 use Rattle.session.specs.declared.Session.{Session}
 use Rattle.session.specs.Sessions.{answer, marked, remembering}
-use Rattle.session.specs.Rows.{width, coefficients, sumsAt, rowAt, withRow, combined, plusSums}
+use Rattle.session.specs.Rows.{width, coefficients, sumsAt, rowAt, withRow, plusSums, summed}
 use Rattle.sharing.specs.Load.{loadRowRefusal, loadTripleRefusal, withTriple}
 use Rattle.sharing.specs.Deal.{dealRefusal}
 use Rattle.sharing.specs.Message.{messageRefusal}
@@ -105,8 +105,8 @@ does (opening x) q =
     }
 does (linear x) q =
     let s = q .session in
-    changes (linearRefusal s (q .rows) (x .r) (x .a) (x .b) (x .scale)) (marked s (x .r) 2)
-    (withRow (width s) (x .r) (combined (x .scale) (rowAt (width s) (q .rows) (x .a)) (rowAt (width s) (q .rows) (x .b))) (q .rows))
+    changes (linearRefusal s (q .rows) (x .r) (x .a) (x .b) (x .scale) (x .fee)) (marked s (x .r) 2)
+    (withRow (width s) (x .r) (summed (sumsAt s) (x .scale) (x .fee) (rowAt (width s) (q .rows) (x .a)) (rowAt (width s) (q .rows) (x .b))) (q .rows))
 does (masks x) q =
     let s = q .session in
     writes (masksRefusal s (q .rows) (x .a) (x .b) (x .r) (x .lent)) (remembering (marked s (x .r) 5) (x .r) (x .a) (x .b)) (q .rows)

@@ -107,7 +107,7 @@ module _ (plan : Plan) (draw : Draw) where
       moved (deal x) z fit = record { session = refl; holds = deal-holds plan draw len i M vec l h (x .r) (x .c) z }
       moved (message x) z fit = record { session = refl; holds = h }
       moved (opening x) z fit = record { session = refl; holds = h }
-      moved (linear x) z fit = record { session = refl; holds = linear-holds plan draw len i M vec l h (x .r) (x .a) (x .b) (x .scale) z }
+      moved (linear x) z fit = record { session = refl; holds = linear-holds plan draw len i M vec l h (x .r) (x .a) (x .b) (x .scale) (x .fee) z }
       moved (masks x) z fit = record { session = refl; holds = masks-holds plan draw len i M vec l h (x .a) (x .b) (x .r) (x .lent) z }
       moved (finish x) z fit = record {
         session = refl;

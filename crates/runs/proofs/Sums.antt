@@ -1,4 +1,4 @@
--- The sum of summands: a + s b is one, and so is l'' + y l' + y' l + y y'.
+-- The sum of summands: a + s b + fee is one, and so is l'' + y l' + y' l + y y'.
 use Prim.Native.Nat.{ℕ, _+_}
 use mathlib.Core.Path.{_≡_, refl, _∙_, ap}
 use mathlib.Core.List.{[], _∷_}
@@ -9,21 +9,27 @@ use Rattle.field.proofs.Expression.{A, B, C, D, E, F, 𝟘, 𝟙, _:+_, _:*_, S
 use Rattle.field.proofs.Solver.{solve}
 use Rattle.field.proofs.Elements.{𝓡, element-one}
 use Rattle.vectors.specs.Vector.{Vector, plusTimes, raised}
-use Rattle.runs.specs.Outline.{once, times}
+use Rattle.runs.specs.Outline.{once, times, fee}
 use Rattle.runs.proofs.Marks.{totalVector, productSum}
 open CommutativeRing 𝓡 using (add as _⊕_, mul as _⊗_, zero as 0ᴱ, one as 1ᴱ)
 
 infixl 65 _⊕_
 infixl 70 _⊗_
-pub linear-sum : (vec : ℕ → Vector) (a b s : ℕ) → totalVector vec (once a) (times s b ∷ []) ≡ plusTimes (element s) (vec a) (vec b)
+pub linear-sum : (vec : ℕ → Vector) (a b s k : ℕ)
+    → totalVector vec (once a) (times s b ∷ fee k ∷ []) ≡ raised (element k) (plusTimes (element s) (vec a) (vec b))
 unfolding Same
-linear-sum vec a b s =
-    λ t. record { c = at (vec a .c) (vec b .c) t; f = λ k. at (vec a .f k) (vec b .f k) t; v = λ j k. at (vec a .v j k) (vec b .v j k) t }
+linear-sum vec a b s k =
+    λ t. record { c = raise (vec a .c) (vec b .c) t; f = λ k. at (vec a .f k) (vec b .f k) t; v = λ j k. at (vec a .v j k) (vec b .v j k) t }
   where
-    at : (x y : Element) → x ⊕ element 1 ⊗ (0ᴱ ⊕ element s ⊗ y) ≡ x ⊕ element s ⊗ y
+    at : (x y : Element) → x ⊕ element 1 ⊗ (0ᴱ ⊕ element s ⊗ y ⊕ element 1 ⊗ 0ᴱ) ≡ x ⊕ element s ⊗ y
     at x y =
-        ap (λ (o : Element). x ⊕ o ⊗ (0ᴱ ⊕ element s ⊗ y)) element-one
-        ∙ solve 𝓡 (x ∷ y ∷ element s ∷ []) (A :+ 𝟙 :* (𝟘 :+ C :* B)) (A :+ C :* B) refl
+        ap (λ (o : Element). x ⊕ o ⊗ (0ᴱ ⊕ element s ⊗ y ⊕ o ⊗ 0ᴱ)) element-one
+        ∙ solve 𝓡 (x ∷ y ∷ element s ∷ []) (A :+ 𝟙 :* (𝟘 :+ C :* B :+ 𝟙 :* 𝟘)) (A :+ C :* B) refl
+
+    raise : (x y : Element) → x ⊕ element 1 ⊗ (0ᴱ ⊕ element s ⊗ y ⊕ element 1 ⊗ (0ᴱ ⊕ element k)) ≡ x ⊕ element s ⊗ y ⊕ element k
+    raise x y =
+        ap (λ (o : Element). x ⊕ o ⊗ (0ᴱ ⊕ element s ⊗ y ⊕ o ⊗ (0ᴱ ⊕ element k))) element-one
+        ∙ solve 𝓡 (x ∷ y ∷ element s ∷ element k ∷ []) (A :+ 𝟙 :* (𝟘 :+ C :* B :+ 𝟙 :* (𝟘 :+ D))) (A :+ C :* B :+ D) refl
 
 -- l'' + y l' + y' l, and y y' added to the dealer's number
 abbrev pub productVector : ℕ → ℕ → Vector → Vector → Vector → Vector

@@ -50,8 +50,8 @@ module _ {K : Kinds} where
   abbrev pub opening : (r : ℕ) (blocks : K .Record) → CallOf K
   opening r blocks = CallOf.opening (record { r = r; blocks = blocks })
 
-  abbrev pub linear : (r a b scale : ℕ) → CallOf K
-  linear r a b scale = CallOf.linear (record { r = r; a = a; b = b; scale = scale })
+  abbrev pub linear : (r a b scale fee : ℕ) → CallOf K
+  linear r a b scale fee = CallOf.linear (record { r = r; a = a; b = b; scale = scale; fee = fee })
 
   abbrev pub masks : (a b r : ℕ) (lent : K .Lent) → CallOf K
   masks a b r lent = CallOf.masks (record { a = a; b = b; r = r; lent = lent })
@@ -84,8 +84,8 @@ perform (CallOf.message x) q =
     left (messageAnswer (q .session) (q .rows) (x .r) (x .lent)) (q .rows) (messageOut (q .session) (q .rows) (x .r) (x .lent) ∷ [])
 perform (CallOf.opening x) q = left (openAnswer (q .session) (q .rows) (x .r) (x .blocks)) (q .rows) []
 perform (CallOf.linear x) q =
-    left (linearAnswer (q .session) (q .rows) (x .r) (x .a) (x .b) (x .scale))
-    (linearRows (q .session) (q .rows) (x .r) (x .a) (x .b) (x .scale)) []
+    left (linearAnswer (q .session) (q .rows) (x .r) (x .a) (x .b) (x .scale) (x .fee))
+    (linearRows (q .session) (q .rows) (x .r) (x .a) (x .b) (x .scale) (x .fee)) []
 perform (CallOf.masks x) q =
     left (masksAnswer (q .session) (q .rows) (x .a) (x .b) (x .r) (x .lent)) (q .rows)
     (masksOut (q .session) (q .rows) (x .a) (x .b) (x .r) (x .lent) ∷ [])

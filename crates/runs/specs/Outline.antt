@@ -36,6 +36,7 @@ pub record ForLinear : Type 0 where
   pub a : ℕ
   pub b : ℕ
   pub scale : ℕ
+  pub fee : ℕ
 
 pub record ForMasks (K : Kinds) : Type 0 where
   pub a : ℕ
@@ -128,7 +129,7 @@ outline (loadTriple x) = acting ((loadsTriple (x .r), x .pack) ∷ [])
 outline (deal x) = acting ((deals (x .r), x .c) ∷ [])
 outline (message x) = record { moves = []; sends = itsOpening (x .r) ∷ []; heard = x .heard ∷ [] }
 outline (opening x) = acting ((opens (x .r), x .blocks) ∷ [])
-outline (linear x) = acting ((sums (x .r) (once (x .a)) (times (x .scale) (x .b) ∷ []), tt) ∷ [])
+outline (linear x) = acting ((sums (x .r) (once (x .a)) (times (x .scale) (x .b) ∷ fee (x .fee) ∷ []), tt) ∷ [])
 outline (masks x) =
     record { moves = (factors (x .a) (x .b) (x .r), tt) ∷ []; sends = itsMasks (x .a) (x .b) (x .r) ∷ []; heard = [] }
 outline (finish x) = acting ((multiplies (x .r), (x .blocks, x .blocks')) ∷ [])

@@ -165,7 +165,7 @@ module _ (T : Two) (m : Moments) (R : Pair T m)
     opened-same (x .r) (x .blocks) rule,
   )
   alike (linear x) rule =
-      (Twins.linear-same (T .plan) (T .d) (T .K) M vec vec' near i lo hi (T .len i) l l' h h' (x .r) (x .a) (x .b) (x .scale), λ z. refl)
+      (Twins.linear-same (T .plan) (T .d) (T .K) M vec vec' near i lo hi (T .len i) l l' h h' (x .r) (x .a) (x .b) (x .scale) (x .fee), λ z. refl)
   alike (masks x) rule =
       (Twins.masks-same (T .plan) (T .d) (T .K) M vec vec' near i lo hi (T .len i) l l' h h' (x .a) (x .b) (x .r) (x .lent i), λ z. refl)
   alike (finish x) rule = (

@@ -129,11 +129,11 @@ module _ (plan : Plan) (d : Draw) (K : Vector) (M : Marks) (vec vec' : ℕ → V
       behind (5 when missized lent (plan .t + 1) ∷ 6 when noRow r ∷ 7 when unlike s r 2 ∷ []) (eight l r) (eight l' r) (λ fr f.
       ap (λ (b : Bool). first (8 when b ∷ [])) (low r 1 (f .1 .0) (f .1 .1 .0)))
 
-  pub linear-same : (r a b scale : ℕ) → linearRefusal s l r a b scale ≡ linearRefusal s l' r a b scale
+  pub linear-same : (r a b scale fee : ℕ) → linearRefusal s l r a b scale fee ≡ linearRefusal s l' r a b scale fee
   unfolding linearRefusal eight
-  linear-same r a b scale =
+  linear-same r a b scale fee =
       behind
-      (6 when noRow r ∷ 6 when noRow a ∷ 6 when noRow b ∷ 7 when unlike s r 0 ∷ 7 when unlike s a 2 ∷ 7 when unlike s b 2 ∷ 8 when beyond scale ∷ [])
+      (6 when noRow r ∷ 6 when noRow a ∷ 6 when noRow b ∷ 7 when unlike s r 0 ∷ 7 when unlike s a 2 ∷ 7 when unlike s b 2 ∷ 8 when beyond scale ∷ 8 when beyond fee ∷ [])
       (eight l a ++ eight l b) (eight l' a ++ eight l' b) (λ fr f.
       ap₂ (λ (x y : Bool). first (8 when x ∷ 8 when y ∷ []))
       (low a 1 (f .1 .0) (f .1 .1 .1 .1 .0)) (low b 1 (f .1 .1 .0) (f .1 .1 .1 .1 .1 .0)))

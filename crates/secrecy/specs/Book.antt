@@ -37,7 +37,8 @@ total place t [] = worth place t
 total place t (t' ∷ ts) = sum (worth place t) (total place t' ts)
 
 -- "Deal puts u in its row's place. Linear puts a's number plus s times b's in the new row's. Masks keep the numbers of a and b
--- with the triple; when its product is written, the third row gets one times the other. Other calls ... change nothing."
+-- with the triple; when its product is written, the third row gets one times the other. Other calls ... change nothing." Document
+-- 02, (i): "A charge opened is the plain sum with the fee, and that is the number which must agree between two lists of secrets."
 abbrev pub enteredBy : Secrets → Act → Book → Book
 enteredBy u (loads r) b = b
 enteredBy u (loadsTriple r) b = b

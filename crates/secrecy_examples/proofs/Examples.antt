@@ -1,4 +1,4 @@
--- Both examples are at work: the run by computing, the premises by a search, the counts by demand 3.
+-- The examples are at work: the run by computing, the premises by a search, the counts by demand 3.
 use mathlib.Core.Path.{_≡_, refl}
 use Rattle.secrecy.specs.Book.{bookAfter}
 use Rattle.secrecy_examples.specs.Example.{AtWork}
@@ -6,6 +6,7 @@ use Rattle.secrecy_examples.specs.ThreePosts as Three
 use Rattle.secrecy_examples.specs.ThreePostsSeen.{three, ThreeOpened}
 use Rattle.secrecy_examples.specs.FourPosts as Four
 use Rattle.secrecy_examples.specs.FourPostsSeen.{four, FourOpened, FourBooks, FourForeign}
+use Rattle.secrecy_examples.specs.Charge.{charge, ChargeOpened, ChargeBooks}
 use Rattle.secrecy_examples.proofs.Computing.{sees}
 use Rattle.secrecy_examples.proofs.Premised.{is-draw, premises, at-work}
 
@@ -40,3 +41,19 @@ four-books = (refl, refl, refl, refl)
 pub four-foreign : FourForeign
 unfolding sees four
 four-foreign = (refl, refl)
+
+charge-seen : sees charge ≡ charge .shown
+unfolding sees charge
+charge-seen = refl
+
+pub charge-at-work : AtWork charge
+unfolding sees charge is-draw premises
+charge-at-work = at-work charge Three.masksSent 0 charge-seen tt tt tt refl
+
+pub charge-opened : ChargeOpened
+unfolding sees charge
+charge-opened = refl
+
+pub charge-books : ChargeBooks
+unfolding sees charge premises bookAfter
+charge-books = (refl, refl, refl, refl)

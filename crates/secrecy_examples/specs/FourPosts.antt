@@ -135,11 +135,11 @@ steps =
     ∷ deal 1 sent
     ∷ deal 2 sent
     ∷ deal 3 (Steps.fixed 5)
-    ∷ linear 3 0 1 half
+    ∷ linear 3 0 1 half 0
     ∷ loadRow 3 (own 3)
     ∷ loadTriple 94 (own 4)
     ∷ loadTriple 4 (own 4)
-    ∷ linear 7 0 1 1
+    ∷ linear 7 0 1 1 0
     ∷ masks 0 1 4 (λ i. replicate 6 i)
     ∷ finish 4 (masksA one) (masksB one)
     ∷ finish 4 (masksA forA) (masksB forB)

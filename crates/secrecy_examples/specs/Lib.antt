@@ -3,3 +3,4 @@ pub mod ThreePosts
 pub mod ThreePostsSeen
 pub mod FourPosts
 pub mod FourPostsSeen
+pub mod Charge

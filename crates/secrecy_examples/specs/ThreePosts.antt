@@ -83,8 +83,8 @@ steps =
     ∷ deal 1 sent
     ∷ deal 2 sent
     ∷ deal 0 sent
-    ∷ linear 6 0 1 1
-    ∷ linear 96 0 1 1
+    ∷ linear 6 0 1 1 0
+    ∷ linear 96 0 1 1 0
     ∷ masks 0 1 3 (λ i. replicate 4 0)
     ∷ finish 3 masksA masksB
     ∷ opening 5 nothing

@@ -35,3 +35,8 @@ combined s (x ∷ xs) (y ∷ ys) = sum x (product s y) ∷ combined s xs ys
 -- c added to m1..mn, which stand from the k-th number of a row on, and to nothing else.
 unfoldable pub plusSums : ℕ → ℕ → List ℕ → List ℕ
 plusSums k c row = take k row ++ map (λ m. sum m c) (drop k row)
+
+-- The sum of rows that linear and the last step of a product share: "a plus s times b", with "the fee, added to m1..mn of the new
+-- row and to nothing else" (document 02, (i)). The public sums stand from the k-th number on.
+abbrev pub summed : ℕ → ℕ → ℕ → List ℕ → List ℕ → List ℕ
+summed k s fee x y = plusSums k fee (combined s x y)

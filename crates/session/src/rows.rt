@@ -6,7 +6,7 @@ ghost use Prim.Native.Nat.{_*_};
 ghost use lib.ListN.{length};
 ghost use Rattle.field.specs.Arithmetic.{sum};
 ghost use Rattle.shape.specs.Lengths.{Valid, rowLength, sumsAt};
-ghost use Rattle.session.specs.Rows.{rowAt, withRow, combined, plusSums};
+ghost use Rattle.session.specs.Rows.{rowAt, withRow, combined, plusSums, summed};
 ghost use Rattle.session.specs.Checks.{Sized, RowIn};
 
 // c added to each number, as a deal adds it to the public sums of a row.
@@ -63,7 +63,8 @@ pub fn add_to_sums(shape: Shape, rows: &mut [u32], row: usize, c: u32)
     ensures { λ r. ⌜ now (rows .exit) ≡ withRow (rowLength shape) row (plusSums (sumsAt shape) c (rowAt (rowLength shape) (now (rows .entry)) row)) (now (rows .entry)) ⌝ }
 {
     let n = shape.n;
-    let from = row_at(shape, row) + shape.sums_at();
+    let start = row_at(shape, row);
+    let from = start + shape.sums_at();
     let end = from + n;
     add_to_each(&mut rows[from..end], c);
 }
@@ -82,7 +83,7 @@ fn combine_rows(shape: Shape, rows: &mut [u32], dest: usize, a: usize, b: usize,
     }
 }
 
-// Row a plus scale times row b, in the place of row dest, with a fee added to its public sums.
+// Row a plus scale times row b, in the place of row dest, with a fee added to its public sums: linear's sum, and a product's.
 pub fn sum_rows(
     shape: Shape,
     rows: &mut [u32],
@@ -93,7 +94,7 @@ pub fn sum_rows(
     fee: u32,
 )
     requires { ⌜ Sized shape (now rows) × RowIn shape dest × RowIn shape a × RowIn shape b ⌝ }
-    ensures { λ r. ⌜ now (rows .exit) ≡ withRow (rowLength shape) dest (plusSums (sumsAt shape) fee (combined scale (rowAt (rowLength shape) (now (rows .entry)) a) (rowAt (rowLength shape) (now (rows .entry)) b))) (now (rows .entry)) ⌝ }
+    ensures { λ r. ⌜ now (rows .exit) ≡ withRow (rowLength shape) dest (summed (sumsAt shape) scale fee (rowAt (rowLength shape) (now (rows .entry)) a) (rowAt (rowLength shape) (now (rows .entry)) b)) (now (rows .entry)) ⌝ }
 {
     combine_rows(shape, rows, dest, a, b, scale);
     if fee == 0 {

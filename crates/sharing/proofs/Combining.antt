@@ -1,6 +1,6 @@
 -- The refusal of a linear call from the checks that its code joins, and what holds where there is none.
 use Prim.Native.Nat.{ℕ, _≤_}
-use mathlib.Core.Path.{_≡_, _∙_, ap}
+use mathlib.Core.Path.{_≡_}
 use mathlib.Core.List.{List, [], _∷_, _++_}
 use Rattle.shape.specs.declared.Shape.{Shape}
 use Rattle.shape.specs.Bounds.{lastRow}
@@ -12,14 +12,13 @@ use Rattle.refusal.proofs.Groups.{first-chain}
 use Rattle.refusal.proofs.Endings.{accepted}
 use Rattle.session.specs.declared.Session.{Session}
 use Rattle.session.specs.Sessions.{shapeOf}
-use Rattle.session.specs.Rows.{width, rowAt, withRow, combined, plusSums}
+use Rattle.session.specs.Rows.{width, rowAt, withRow, summed}
 use Rattle.session.specs.Checks.{frameTests, noRow, Framed, Sized, RowIn}
 use Rattle.session.proofs.Passed.{row-in}
 use Rattle.session.proofs.Calls.{stopped-at-frame, past-frame, allowed}
-use Rattle.session.proofs.Summed.{plus-nothing}
 use Rattle.sharing.specs.Linear.{linearMarks, linearRefusal, linearRows}
 
-module _ (s : Session) (rows : List ℕ) (r a b scale : ℕ) where
+module _ (s : Session) (rows : List ℕ) (r a b scale fee : ℕ) where
   abbrev marks : List Test
   marks = linearMarks (s .marks) r a b
 
@@ -27,22 +26,22 @@ module _ (s : Session) (rows : List ℕ) (r a b scale : ℕ) where
   eight q = 8 when anyBeyond (rowAt (width s) rows q)
 
   abbrev numbers : List Test
-  numbers = 8 when beyond scale ∷ eight a ∷ eight b ∷ []
+  numbers = 8 when beyond scale ∷ 8 when beyond fee ∷ eight a ∷ eight b ∷ []
 
   abbrev own : List Test
   own = 6 when noRow r ∷ 6 when noRow a ∷ 6 when noRow b ∷ (marks ++ numbers)
 
-  pub linear-stopped : (f : ℕ) → f ≡ first (frameTests s rows) → (f ≡ 0 → ⊥) → f ≡ linearRefusal s rows r a b scale
+  pub linear-stopped : (f : ℕ) → f ≡ first (frameTests s rows) → (f ≡ 0 → ⊥) → f ≡ linearRefusal s rows r a b scale fee
   unfolding linearRefusal
   linear-stopped f e n = stopped-at-frame s rows own f e n
 
-  pub linear-checked : (g : Shape) (f x1 x2 x3 q x7 x8 x9 y1 y2 y3 y4 y7 y8 : ℕ) → g ≡ shapeOf s → f ≡ first (frameTests s rows) → f ≡ 0
+  pub linear-checked : (g : Shape) (f x1 x2 x3 q x6 x7 x8 x9 y1 y2 y3 y4 y6 y7 y8 : ℕ) → g ≡ shapeOf s → f ≡ first (frameTests s rows) → f ≡ 0
       → x1 ≡ first (6 when noRow r ∷ []) → x2 ≡ first (6 when noRow a ∷ []) → x3 ≡ first (6 when noRow b ∷ []) → q ≡ first marks
-      → x7 ≡ first (8 when beyond scale ∷ []) → x8 ≡ first (8 when anyBeyond (rowAt (rowLength g) rows a) ∷ [])
-      → x9 ≡ first (8 when anyBeyond (rowAt (rowLength g) rows b) ∷ []) → y8 ≡ orElse x8 x9 → y7 ≡ orElse x7 y8 → y4 ≡ orElse q y7
-      → y3 ≡ orElse x3 y4 → y2 ≡ orElse x2 y3 → y1 ≡ orElse x1 y2 → y1 ≡ linearRefusal s rows r a b scale
+      → x6 ≡ first (8 when beyond scale ∷ []) → x7 ≡ first (8 when beyond fee ∷ []) → x8 ≡ first (8 when anyBeyond (rowAt (rowLength g) rows a) ∷ [])
+      → x9 ≡ first (8 when anyBeyond (rowAt (rowLength g) rows b) ∷ []) → y8 ≡ orElse x8 x9 → y7 ≡ orElse x7 y8 → y6 ≡ orElse x6 y7 → y4 ≡ orElse q y6
+      → y3 ≡ orElse x3 y4 → y2 ≡ orElse x2 y3 → y1 ≡ orElse x1 y2 → y1 ≡ linearRefusal s rows r a b scale fee
   unfolding linearRefusal
-  linear-checked g f x1 x2 x3 q x7 x8 x9 y1 y2 y3 y4 y7 y8 eg e n e1 e2 e3 eq e7 e8 e9 d8 d7 d4 d3 d2 d1 =
+  linear-checked g f x1 x2 x3 q x6 x7 x8 x9 y1 y2 y3 y4 y6 y7 y8 eg e n e1 e2 e3 eq e6 e7 e8 e9 d8 d7 d6 d4 d3 d2 d1 =
       let h8 : x8 ≡ first (eight a ∷ []) = rw eg at e8 in
       let h9 : x9 ≡ first (eight b ∷ []) = rw eg at e9 in
       past-frame s rows own f y1 e n
@@ -54,7 +53,7 @@ module _ (s : Session) (rows : List ℕ) (r a b scale : ℕ) where
         first-chain numbers tt,
       ))
 
-  module _ (f : ℕ) (e : f ≡ linearRefusal s rows r a b scale) (n : f ≡ 0) where
+  module _ (f : ℕ) (e : f ≡ linearRefusal s rows r a b scale fee) (n : f ≡ 0) where
     passed : Framed s rows × RowIn (shapeOf s) r × RowIn (shapeOf s) a × RowIn (shapeOf s) b
     unfolding linearRefusal
     passed =
@@ -78,10 +77,8 @@ module _ (s : Session) (rows : List ℕ) (r a b scale : ℕ) where
       linear-in-b = rw eg (passed .3)
 
       pub linear-written : (out : List ℕ)
-          → out ≡ withRow (rowLength g) r (plusSums (sumsAt g) 0 (combined scale (rowAt (rowLength g) rows a) (rowAt (rowLength g) rows b))) rows
-          → out ≡ linearRows s rows r a b scale
+          → out ≡ withRow (rowLength g) r (summed (sumsAt g) scale fee (rowAt (rowLength g) rows a) (rowAt (rowLength g) rows b)) rows
+          → out ≡ linearRows s rows r a b scale fee
       linear-written out eo =
-          let x = rowAt (width s) rows a in
-          let y = rowAt (width s) rows b in
-          accepted f (linearRefusal s rows r a b scale) out (withRow (width s) r (combined scale x y) rows) rows e n
-          (rw eg at eo ∙ ap (λ (l : List ℕ). withRow (width s) r l rows) (plus-nothing (sumsAt (shapeOf s)) scale x y))
+          accepted f (linearRefusal s rows r a b scale fee) out (withRow (width s) r (summed (sumsAt (shapeOf s)) scale fee (rowAt (width s) rows a) (rowAt (width s) rows b)) rows) rows
+          e n (rw eg at eo)

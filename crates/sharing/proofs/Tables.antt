@@ -8,5 +8,5 @@ sharing-tables = record {
   load-triple = λ s rows r pack. refl;
   deal = λ s rows r c. refl;
   message = λ s rows r out. refl;
-  linear = λ s rows r a b scale. refl;
+  linear = λ s rows r a b scale fee. refl;
 }

@@ -2,7 +2,7 @@
 use native.Mathlib.Omega.{arith}
 use Rattle.shape.specs.Marks.{raw, held}
 use Rattle.session.specs.Sessions.{marked, loadedTriple}
-use Rattle.session.specs.Rows.{width, sumsAt, rowAt, withRow, coefficients, combined, plusSums}
+use Rattle.session.specs.Rows.{width, sumsAt, rowAt, withRow, coefficients, plusSums, summed}
 use Rattle.session.proofs.Lawful.{lawful}
 use Rattle.sharing.specs.Load.{loadRowRefusal, loadTripleRefusal, withTriple}
 use Rattle.sharing.specs.Deal.{dealRefusal}
@@ -24,7 +24,7 @@ sharing-lawful = record {
       (withRow (width s) r (plusSums (sumsAt s) c (rowAt (width s) rows r)) rows) rows;
   message = λ s rows r out.
       lawful (messageTable s rows r out) (omega arith) 0 s s (coefficients s (rowAt (width s) rows r)) out;
-  linear = λ s rows r a b scale.
-      lawful (linearTable s rows r a b scale) (omega arith) 0 (marked s r held) s
-      (withRow (width s) r (combined scale (rowAt (width s) rows a) (rowAt (width s) rows b)) rows) rows;
+  linear = λ s rows r a b scale fee.
+      lawful (linearTable s rows r a b scale fee) (omega arith) 0 (marked s r held) s
+      (withRow (width s) r (summed (sumsAt s) scale fee (rowAt (width s) rows a) (rowAt (width s) rows b)) rows) rows;
 }

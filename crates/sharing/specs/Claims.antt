@@ -3,7 +3,7 @@ use Prim.Native.Nat.{ℕ, _+_}
 use mathlib.Core.List.{List}
 use Rattle.session.specs.declared.Session.{Session}
 use Rattle.session.specs.Sessions.{marked}
-use Rattle.session.specs.Rows.{width, sumsAt, rowAt, withRow, coefficients, combined, plusSums}
+use Rattle.session.specs.Rows.{width, sumsAt, rowAt, withRow, coefficients, plusSums, summed}
 use Rattle.session.specs.Law.{Lawful}
 use Rattle.sharing.specs.Load.{loadRowAnswer, loadRowRows, loadTripleAnswer, loadTripleRows, withTriple}
 use Rattle.sharing.specs.Deal.{dealAnswer, dealRows}
@@ -24,7 +24,7 @@ pub record SharingLawful : Type 0 where
   pub message : (s : Session) (rows : List ℕ) (r : ℕ) (out : List ℕ)
       → Lawful (messageTable s rows r out) 0 s s (coefficients s (rowAt (width s) rows r)) out
       (messageAnswer s rows r out) (messageOut s rows r out)
-  pub linear : (s : Session) (rows : List ℕ) (r a b scale : ℕ)
-      → Lawful (linearTable s rows r a b scale) 0 (marked s r 2) s
-      (withRow (width s) r (combined scale (rowAt (width s) rows a) (rowAt (width s) rows b)) rows) rows
-      (linearAnswer s rows r a b scale) (linearRows s rows r a b scale)
+  pub linear : (s : Session) (rows : List ℕ) (r a b scale fee : ℕ)
+      → Lawful (linearTable s rows r a b scale fee) 0 (marked s r 2) s
+      (withRow (width s) r (summed (sumsAt s) scale fee (rowAt (width s) rows a) (rowAt (width s) rows b)) rows) rows
+      (linearAnswer s rows r a b scale fee) (linearRows s rows r a b scale fee)

@@ -1,15 +1,12 @@
 -- Document 01's table, line by line, for the calls of this crate: one flat list of numbered tests for each. The calls' own
--- definitions are made of groups that they share; proofs/Tables.antt shows that they are these lists.
+-- definitions are made of groups that they share; proofs/Tables.antt shows that they are these lists. Bounds and marks are
+-- document 01's numbers, not the names of `shape`.
 use Prim.Native.Nat.{ℕ, _+_, _*_, _-_}
 use mathlib.Core.Path.{_≡_}
 use mathlib.Core.List.{List, [], _∷_}
 use Rattle.refusal.specs.Refusal.{Test, _when_}
 use Rattle.refusal.specs.Conditions.{outside, missized, beyond, anyBeyond, badPoint}
-use Rattle.shape.specs.Bounds.{fewestPosts, mostPosts, rowCount}
-use Rattle.shape.specs.Marks.{empty, raw, held}
-use Rattle.shape.specs.Lengths.{messageLength}
 use Rattle.session.specs.declared.Session.{Session}
-use Rattle.session.specs.Sessions.{shapeOf}
 use Rattle.session.specs.Rows.{width, rowAt}
 use Rattle.session.specs.Checks.{noRow, noTriple, unlike}
 use Rattle.sharing.specs.Load.{loadRowTests, loadTripleTests}
@@ -19,72 +16,73 @@ use Rattle.sharing.specs.Linear.{linearTests}
 
 abbrev pub loadRowTable : Session → List ℕ → ℕ → List ℕ → List Test
 loadRowTable s rows r pack =
-    1 when outside fewestPosts mostPosts (s .n)
+    1 when outside 2 32 (s .n)
     ∷ 2 when outside 1 (s .n - 1) (s .t)
     ∷ 3 when outside 1 (s .n) (s .post)
     ∷ 4 when badPoint (s .point)
-    ∷ 5 when missized rows (rowCount * width s)
+    ∷ 5 when missized rows (96 * width s)
     ∷ 5 when missized pack (width s)
     ∷ 6 when noRow r
-    ∷ 7 when unlike s r empty
+    ∷ 7 when unlike s r 0
     ∷ 8 when anyBeyond pack
     ∷ []
 
 abbrev pub loadTripleTable : Session → List ℕ → ℕ → List ℕ → List Test
 loadTripleTable s rows r pack =
-    1 when outside fewestPosts mostPosts (s .n)
+    1 when outside 2 32 (s .n)
     ∷ 2 when outside 1 (s .n - 1) (s .t)
     ∷ 3 when outside 1 (s .n) (s .post)
     ∷ 4 when badPoint (s .point)
-    ∷ 5 when missized rows (rowCount * width s)
+    ∷ 5 when missized rows (96 * width s)
     ∷ 5 when missized pack (3 * width s)
     ∷ 6 when noTriple r
-    ∷ 7 when unlike s r empty
-    ∷ 7 when unlike s (r + 1) empty
-    ∷ 7 when unlike s (r + 2) empty
+    ∷ 7 when unlike s r 0
+    ∷ 7 when unlike s (r + 1) 0
+    ∷ 7 when unlike s (r + 2) 0
     ∷ 8 when anyBeyond pack
     ∷ []
 
 abbrev pub dealTable : Session → List ℕ → ℕ → ℕ → List Test
 dealTable s rows r c =
-    1 when outside fewestPosts mostPosts (s .n)
+    1 when outside 2 32 (s .n)
     ∷ 2 when outside 1 (s .n - 1) (s .t)
     ∷ 3 when outside 1 (s .n) (s .post)
     ∷ 4 when badPoint (s .point)
-    ∷ 5 when missized rows (rowCount * width s)
+    ∷ 5 when missized rows (96 * width s)
     ∷ 6 when noRow r
-    ∷ 7 when unlike s r raw
+    ∷ 7 when unlike s r 1
     ∷ 8 when beyond c
     ∷ 8 when anyBeyond (rowAt (width s) rows r)
     ∷ []
 
 abbrev pub messageTable : Session → List ℕ → ℕ → List ℕ → List Test
 messageTable s rows r out =
-    1 when outside fewestPosts mostPosts (s .n)
+    1 when outside 2 32 (s .n)
     ∷ 2 when outside 1 (s .n - 1) (s .t)
     ∷ 3 when outside 1 (s .n) (s .post)
     ∷ 4 when badPoint (s .point)
-    ∷ 5 when missized rows (rowCount * width s)
-    ∷ 5 when missized out (messageLength (shapeOf s))
+    ∷ 5 when missized rows (96 * width s)
+    ∷ 5 when missized out (s .t + 1)
     ∷ 6 when noRow r
-    ∷ 7 when unlike s r held
+    ∷ 7 when unlike s r 2
     ∷ 8 when anyBeyond (rowAt (width s) rows r)
     ∷ []
 
-abbrev pub linearTable : Session → List ℕ → ℕ → ℕ → ℕ → ℕ → List Test
-linearTable s rows r a b scale =
-    1 when outside fewestPosts mostPosts (s .n)
+abbrev pub linearTable : Session → List ℕ → ℕ → ℕ → ℕ → ℕ → ℕ → List Test
+linearTable s rows r a b scale fee =
+    1 when outside 2 32 (s .n)
     ∷ 2 when outside 1 (s .n - 1) (s .t)
     ∷ 3 when outside 1 (s .n) (s .post)
     ∷ 4 when badPoint (s .point)
-    ∷ 5 when missized rows (rowCount * width s)
+    ∷ 5 when missized rows (96 * width s)
     ∷ 6 when noRow r
     ∷ 6 when noRow a
     ∷ 6 when noRow b
-    ∷ 7 when unlike s r empty
-    ∷ 7 when unlike s a held
-    ∷ 7 when unlike s b held
+    ∷ 7 when unlike s r 0
+    ∷ 7 when unlike s a 2
+    ∷ 7 when unlike s b 2
     ∷ 8 when beyond scale
+    ∷ 8 when beyond fee
     ∷ 8 when anyBeyond (rowAt (width s) rows a)
     ∷ 8 when anyBeyond (rowAt (width s) rows b)
     ∷ []
@@ -96,4 +94,4 @@ pub record SharingTables : Type 0 where
       → loadTripleTests s rows r pack ≡ loadTripleTable s rows r pack
   pub deal : (s : Session) (rows : List ℕ) (r c : ℕ) → dealTests s rows r c ≡ dealTable s rows r c
   pub message : (s : Session) (rows : List ℕ) (r : ℕ) (out : List ℕ) → messageTests s rows r out ≡ messageTable s rows r out
-  pub linear : (s : Session) (rows : List ℕ) (r a b scale : ℕ) → linearTests s rows r a b scale ≡ linearTable s rows r a b scale
+  pub linear : (s : Session) (rows : List ℕ) (r a b scale fee : ℕ) → linearTests s rows r a b scale fee ≡ linearTable s rows r a b scale fee

@@ -1,4 +1,5 @@
-// Linear: a plus scale times b, element by element over whole rows, into an empty row, which becomes held.
+// Linear: a plus scale times b, element by element over whole rows, into an empty row, which becomes held; the fee is added to
+// its public sums and to nothing else.
 use session::Answer;
 use session::Session;
 ghost use mathlib.Core.Path.{_≡_};
@@ -18,8 +19,16 @@ fn linear_marks(marks: &[u8], dest: usize, a: usize, b: usize) -> u8
     )
 }
 
-fn linear_refusal(session: Session, rows: &[u32], dest: usize, a: usize, b: usize, scale: u32) -> u8
-    ensures { λ r. ⌜ r ≡ linearRefusal session (now (rows .entry)) dest a b scale ⌝ }
+fn linear_refusal(
+    session: Session,
+    rows: &[u32],
+    dest: usize,
+    a: usize,
+    b: usize,
+    scale: u32,
+    fee: u32,
+) -> u8
+    ensures { λ r. ⌜ r ≡ linearRefusal session (now (rows .entry)) dest a b scale fee ⌝ }
 {
     let frame = session.frame(rows);
     if frame != 0 {
@@ -29,8 +38,11 @@ fn linear_refusal(session: Session, rows: &[u32], dest: usize, a: usize, b: usiz
     let numbers = refusal::or_else(
         refusal::number(scale),
         refusal::or_else(
-            session::checks::numbers(shape, rows, a),
-            session::checks::numbers(shape, rows, b),
+            refusal::number(fee),
+            refusal::or_else(
+                session::checks::numbers(shape, rows, a),
+                session::checks::numbers(shape, rows, b),
+            ),
         ),
     );
     let marked = refusal::or_else(linear_marks(&session.marks, dest, a, b), numbers);
@@ -50,14 +62,15 @@ pub fn linear(
     a: usize,
     b: usize,
     scale: u32,
+    fee: u32,
 ) -> Answer
-    ensures { λ r. ⌜ r ≡ linearAnswer session (now (rows .entry)) dest a b scale ⌝ }
-    ensures { λ r. ⌜ now (rows .exit) ≡ linearRows session (now (rows .entry)) dest a b scale ⌝ }
+    ensures { λ r. ⌜ r ≡ linearAnswer session (now (rows .entry)) dest a b scale fee ⌝ }
+    ensures { λ r. ⌜ now (rows .exit) ≡ linearRows session (now (rows .entry)) dest a b scale fee ⌝ }
 {
-    let refusal = linear_refusal(session, rows, dest, a, b, scale);
+    let refusal = linear_refusal(session, rows, dest, a, b, scale, fee);
     if refusal != 0 {
         return session.refuse(refusal);
     }
-    session::rows::sum_rows(session.shape(), rows, dest, a, b, scale, 0);
+    session::rows::sum_rows(session.shape(), rows, dest, a, b, scale, fee);
     session.done_marking(dest, shape::HELD)
 }

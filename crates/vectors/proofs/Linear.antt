@@ -11,7 +11,7 @@ use Rattle.field.proofs.Expression.{A, B, C, D, E, F, G, 𝟘, _:+_, _:*_, Same
 use Rattle.field.proofs.Solver.{solve}
 use Rattle.field.proofs.Elements.{𝓡, element-sum, element-product, element-of-number, number-below}
 use Rattle.field.proofs.Modular.{sum-below}
-use Rattle.session.specs.Rows.{combined, plusSums}
+use Rattle.session.specs.Rows.{combined, plusSums, summed}
 use Rattle.vectors.specs.Vector.{Vector, plusTimes, raised, number, firsts, numbers, valueAt, checkOf, sumAt, rowOf}
 open CommutativeRing 𝓡 using (add as _⊕_, mul as _⊗_)
 
@@ -122,3 +122,9 @@ row-raised k n i c w S =
     more j =
         solve 𝓡 (S .v (suc j) 0 ∷ valueAt k (S .f) (element (suc j)) ∷ S .c ∷ element c ∷ [])
         (A :+ B :+ C :+ D) (A :+ B :+ (C :+ D)) refl
+
+-- the row of S + s S' with a fee added is the sum of the rows with that fee
+pub row-summed : (k n i s fee : ℕ) (w : Element) (S S' : Vector)
+    → rowOf k n i w (raised (element fee) (plusTimes (element s) S S')) ≡ summed (k + n) s fee (rowOf k n i w S) (rowOf k n i w S')
+row-summed k n i s fee w S S' =
+    row-raised k n i fee w (plusTimes (element s) S S') ∙ ap (plusSums (k + n) fee) (row-plusTimes k n i s w S S')

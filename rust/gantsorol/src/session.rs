@@ -127,11 +127,22 @@ impl Session {
     }
 
     /// Writes row a plus `scale` times row b, both held, into the empty row `dest`, which becomes
-    /// held. Refusals 1 to 8.
+    /// held. The `fee`, a public element, is added to its public sums alone: its number is a's plus
+    /// `scale` times b's plus the fee. Refusals 1 to 8.
     #[inline]
-    pub fn linear(self, rows: &mut [u32], dest: usize, a: usize, b: usize, scale: u32) -> Answer {
+    pub fn linear(
+        self,
+        rows: &mut [u32],
+        dest: usize,
+        a: usize,
+        b: usize,
+        scale: u32,
+        fee: u32,
+    ) -> Answer {
         // SAFETY: the list is a borrowed slice's pointer and length.
-        unsafe { sys::gantsorol_linear(self, rows.as_mut_ptr(), rows.len(), dest, a, b, scale) }
+        unsafe {
+            sys::gantsorol_linear(self, rows.as_mut_ptr(), rows.len(), dest, a, b, scale, fee)
+        }
     }
 
     /// The first half of a product: for held a and b, perhaps the same, and the unused triple at

@@ -57,6 +57,7 @@ extern "C" {
         a: usize,
         b: usize,
         scale: u32,
+        fee: u32,
     ) -> Answer;
 
     pub fn gantsorol_masks(

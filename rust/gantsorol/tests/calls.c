@@ -148,7 +148,7 @@ int main(void) {
         keep(i, gantsorol_load_row(posts[i], rows[i], ALL, 0, packs + i * ROW, ROW));
         keep(i, gantsorol_load_triple(posts[i], rows[i], ALL, 93, three, 3 * ROW));
         keep(i, gantsorol_deal(posts[i], rows[i], ALL, 0, c.value));
-        keep(i, gantsorol_linear(posts[i], rows[i], ALL, 1, 0, 0, 2));
+        keep(i, gantsorol_linear(posts[i], rows[i], ALL, 1, 0, 0, 2, 8));
         record[i * BLOCK] = 1;
         keep(i, gantsorol_opening_message(posts[i], rows[i], ALL, 1, record + i * BLOCK + 1, T + 1));
     }

@@ -174,7 +174,10 @@ fn structs(paths: &[&str]) -> BTreeMap<String, Vec<Typed>> {
             let (name, rest) = start.split_once([' ', '(']).expect("a struct has a name");
             if names.contains(&name) {
                 let (fields, _) = rest.split_once('}').expect("a struct has an end");
-                let fields = fields.trim_start_matches('{').replace("shape::ROWS", "96").replace("ROWS", "96");
+                let fields = fields
+                    .trim_start_matches('{')
+                    .replace("shape::ROWS", "96")
+                    .replace("ROWS", "96");
                 found.insert(name.to_string(), typed(&fields));
             }
         }

@@ -107,8 +107,10 @@ fn sums_and_products(i: &Inputs) -> Vec<Contest<'_>> {
     vec![
         contest(
             "linear",
-            on_ours(i, move |s, rows| s.linear(rows, 95, 1, 2, i.numbers[0])),
-            on_second(i, move |s, rows| REFERENCE.linear(s, rows, 95, 1, 2, i.numbers[0])),
+            on_ours(i, move |s, rows| s.linear(rows, 95, 1, 2, i.numbers[0], i.numbers[1])),
+            on_second(i, move |s, rows| {
+                REFERENCE.linear(s, rows, 95, 1, 2, i.numbers[0], i.numbers[1])
+            }),
         ),
         contest(
             "masks",

@@ -104,8 +104,9 @@ impl Library for Verified {
         a: usize,
         b: usize,
         scale: u32,
+        fee: u32,
     ) -> Answer {
-        answered(given(s).linear(rows, dest, a, b, scale))
+        answered(given(s).linear(rows, dest, a, b, scale, fee))
     }
 
     fn masks(

@@ -7,33 +7,33 @@ use crate::station::Station;
 use crate::Field;
 
 pub fn check_sums(rng: &mut Rng, mut station: Station, seed: u64) {
-    let [a, b, scale] = [(); 3].map(|()| Field::from(rng.element()));
+    let [a, b, scale, fee] = [(); 4].map(|()| Field::from(rng.element()));
     station.share(rng, 0, a.value());
     station.share(rng, 95, b.value());
     let minus_one = MODULUS - 1;
     for (_, post) in station.shuffled(rng) {
-        post.call(|session, rows| session.linear(rows, 1, 0, 95, scale.value()));
-        post.call(|session, rows| session.linear(rows, 2, 1, 1, scale.value()));
-        post.call(|session, rows| session.linear(rows, 3, 2, 2, minus_one));
+        post.call(|session, rows| session.linear(rows, 1, 0, 95, scale.value(), fee.value()));
+        post.call(|session, rows| session.linear(rows, 2, 1, 1, scale.value(), 0));
+        post.call(|session, rows| session.linear(rows, 3, 2, 2, minus_one, 0));
     }
-    let sum = a + scale * b;
+    let sum = a + scale * b + fee;
     let rows = [(0, a), (95, b), (1, sum), (2, sum + scale * sum), (3, 0.into())];
     check_opened(rng, station, seed, &rows);
 }
 
-/// ab, ab + sa, its square, and the square times b, each a factor of the next.
+/// ab, ab + sa with a fee, its square, and the square times b, each a factor of the next.
 pub fn check_products(rng: &mut Rng, mut station: Station, seed: u64) {
-    let [a, b, scale] = [(); 3].map(|()| Field::from(rng.element()));
+    let [a, b, scale, fee] = [(); 4].map(|()| Field::from(rng.element()));
     station.share(rng, 0, a.value());
     station.share(rng, 1, b.value());
     for first in [2, 93, 10] {
         station.load_triple(rng, first);
     }
     station.multiply(rng, 0, 1, 2);
-    station.linear(rng, 5, 4, 0, scale.value());
+    station.linear(rng, 5, (4, 0), (scale.value(), fee.value()));
     station.multiply(rng, 5, 5, 93);
     station.multiply(rng, 95, 1, 10);
-    let sum = a * b + scale * a;
+    let sum = a * b + scale * a + fee;
     let square = sum * sum;
     let rows = [(4, a * b), (5, sum), (95, square), (12, square * b)];
     check_opened(rng, station, seed, &rows);

@@ -157,10 +157,10 @@ impl Station {
         }
     }
 
-    /// A row plus `scale` times another, at every post.
-    pub fn linear(&mut self, rng: &mut Rng, dest: usize, a: usize, b: usize, scale: u32) {
+    /// A row plus `by`'s scale times another plus its fee, at every post.
+    pub fn linear(&mut self, rng: &mut Rng, dest: usize, (a, b): (usize, usize), by: (u32, u32)) {
         for (_, post) in self.shuffled(rng) {
-            post.call(|session, rows| session.linear(rows, dest, a, b, scale));
+            post.call(|session, rows| session.linear(rows, dest, a, b, by.0, by.1));
         }
     }
 

@@ -9,5 +9,5 @@ ruleset steps = (needs, product-written)
 pub write-product-spec : {M : Type 1} → statement M
 write-product-spec =
     tie.close
-    (tie.spec (λ c. search needs) (λ c. search needs) (λ c κs. search needs) (λ c κs. search needs) (λ c κs. search needs)
+    (tie.spec (λ c. search needs) (λ c κs. search needs) (λ c. search needs) (λ c κs. search needs) (λ c κs. search needs)
     (λ c. search needs) (λ c. search steps))
