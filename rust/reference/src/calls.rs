@@ -2,7 +2,7 @@
 
 use crate::field::expect_elements;
 use crate::refusal::{require, Refusal};
-use crate::row::{add_public, plus_scaled};
+use crate::row::{add_public, weighted_sum};
 use crate::session::{mark, Answer, Session};
 use crate::shape::{expect_length, expect_row, expect_triple};
 
@@ -103,7 +103,7 @@ fn try_opening_message<const P: u32>(
 }
 
 /// "a plus s times b, s a public element, element by element over whole rows, into an empty row,
-/// which becomes held."
+/// which becomes held." The fee is public too, "added to m1..mn of the new row and to nothing else".
 pub fn linear<const P: u32>(
     s: Session,
     rows: &mut [u32],
@@ -111,8 +111,9 @@ pub fn linear<const P: u32>(
     a: usize,
     b: usize,
     scale: u32,
+    fee: u32,
 ) -> Answer {
-    s.answer(try_linear::<P>(s, rows, dest, (a, b), scale))
+    s.answer(try_linear::<P>(s, rows, dest, (a, b), (scale, fee)))
 }
 
 fn try_linear<const P: u32>(
@@ -120,7 +121,7 @@ fn try_linear<const P: u32>(
     rows: &mut [u32],
     dest: usize,
     (a, b): (usize, usize),
-    scale: u32,
+    (scale, fee): (u32, u32),
 ) -> Result<(u32, Session), Refusal> {
     let shape = s.checked::<P>()?;
     expect_length(rows, shape.all_rows())?;
@@ -130,10 +131,11 @@ fn try_linear<const P: u32>(
     s.expect_mark(dest, mark::EMPTY)?;
     s.expect_mark(a, mark::HELD)?;
     s.expect_mark(b, mark::HELD)?;
-    require(scale < P, Refusal::Number)?;
+    expect_elements::<P>(&[scale, fee])?;
     expect_elements::<P>(&rows[shape.at(a)])?;
     expect_elements::<P>(&rows[shape.at(b)])?;
-    let sum = plus_scaled::<P>(&rows[shape.at(a)], scale.into(), &rows[shape.at(b)]);
+    let (a, b) = (&rows[shape.at(a)], &rows[shape.at(b)]);
+    let sum = weighted_sum::<P>(shape, a, scale.into(), b, fee.into());
     rows[shape.at(dest)].copy_from_slice(&sum);
     Ok((0, s.with_mark(dest, mark::HELD)))
 }

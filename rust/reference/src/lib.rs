@@ -1,5 +1,5 @@
-//! Verifiable secret sharing for dock posts: a second implementation of document 01, in plain
-//! Rust, written from the paper alone.
+//! Verifiable secret sharing for dock posts: a second implementation of document 01 and of the
+//! requests of document 02, in plain Rust, written from the papers alone.
 //!
 //! Each call is a function over the modulus `P`, so that the same code runs over
 //! p = [`MODULUS`] and over the small primes of the leak test. [`Library`] names every call once

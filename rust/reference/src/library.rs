@@ -26,7 +26,7 @@ pub trait Library {
     /// Opens a held row with a record of n blocks.
     fn open(&self, s: Session, rows: &[u32], row: usize, record: &[u32]) -> Answer;
 
-    /// a plus scale times b into an empty row.
+    /// a plus scale times b plus a public fee into an empty row.
     fn linear(
         &self,
         s: Session,
@@ -35,6 +35,7 @@ pub trait Library {
         a: usize,
         b: usize,
         scale: u32,
+        fee: u32,
     ) -> Answer;
 
     /// The 2(t+1) mask coefficients for the product of a and b.
@@ -146,8 +147,9 @@ impl<const P: u32> Library for Reference<P> {
         a: usize,
         b: usize,
         scale: u32,
+        fee: u32,
     ) -> Answer {
-        calls::linear::<P>(s, rows, dest, a, b, scale)
+        calls::linear::<P>(s, rows, dest, a, b, scale, fee)
     }
 
     fn masks(

@@ -3,7 +3,7 @@
 use crate::field::{expect_elements, Element};
 use crate::opening::{reconstruct, Record};
 use crate::refusal::Refusal;
-use crate::row::{add_public, minus, plus_scaled};
+use crate::row::{minus, weighted_sum};
 use crate::session::{mark, Answer, Session};
 use crate::shape::{expect_length, expect_row, expect_triple, Shape, ROWS};
 
@@ -42,7 +42,7 @@ fn try_masks<const P: u32>(
     }
     let (left, right) = out.split_at_mut(shape.coefficients());
     for (part, factor, pad) in [(left, a, first), (right, b, first + 1)] {
-        let difference = minus::<P>(&rows[shape.at(factor)], &rows[shape.at(pad)]);
+        let difference = minus::<P>(shape, &rows[shape.at(factor)], &rows[shape.at(pad)]);
         part.copy_from_slice(&difference[shape.polynomial()]);
     }
     Ok((0, remember(s, a, b, first)))
@@ -89,7 +89,7 @@ fn try_finish<const P: u32>(
     right_record.expect_numbers::<P>(s.post)?;
 
     let open_difference = |factor: usize, pad: usize, record: Record| {
-        let difference = minus::<P>(&rows[shape.at(factor)], &rows[shape.at(pad)]);
+        let difference = minus::<P>(shape, &rows[shape.at(factor)], &rows[shape.at(pad)]);
         reconstruct::<P>(shape, &s, &difference, record)
     };
     let y = open_difference(a, first, left_record)?;
@@ -110,7 +110,8 @@ fn remembered_factor(s: &Session, row: u8) -> Result<usize, Refusal> {
     Ok(row)
 }
 
-/// "l'' + y l' + y' l + y y' (y y' is added to m1..mn only)".
+/// "l'' + y l' + y' l + y y' (y y' is added to m1..mn only)": the sum of rows twice, with y y' as the
+/// second one's fee.
 fn product_row<const P: u32>(
     shape: Shape,
     rows: &[u32],
@@ -119,7 +120,6 @@ fn product_row<const P: u32>(
     y2: Element<P>,
 ) -> Vec<u32> {
     let [l, l2, l3] = [first, first + 1, first + 2].map(|row| &rows[shape.at(row)]);
-    let mut product = plus_scaled(&plus_scaled(l3, y, l2), y2, l);
-    add_public(shape, &mut product, y * y2);
-    product
+    let sum = weighted_sum(shape, l3, y, l2, Element::ZERO);
+    weighted_sum(shape, &sum, y2, l, y * y2)
 }

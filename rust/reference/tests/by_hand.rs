@@ -128,7 +128,7 @@ fn sizes_of_a_station() {
 fn a_plus_its_negative_opens_to_zero() {
     let mut station = Station::hand();
     station.share(0, &hand_row([7, 4]), 100);
-    station.each(|_| Call::Linear { dest: 95, a: 0, b: 0, scale: MODULUS - 1 });
+    station.each(|_| Call::Linear { dest: 95, a: 0, b: 0, scale: MODULUS - 1, fee: 0 });
     assert_eq!(station.open(95), [0, 0, 0]);
 }
 

@@ -28,7 +28,7 @@ fn calls_and_rows_read() -> (State, Vec<(Call, Vec<usize>)>) {
         (Call::Deal { row: 0, c: 1 }, vec![0]),
         (Call::OpeningMessage { row: 9, out: 2 }, vec![9]),
         (Call::Open { row: 9, record: to_record(&messages) }, vec![9]),
-        (Call::Linear { dest: 50, a: 1, b: 2, scale: 3 }, vec![1, 2]),
+        (Call::Linear { dest: 50, a: 1, b: 2, scale: 3, fee: 4 }, vec![1, 2]),
         (Call::Masks { a: 1, b: 2, first: 3, out: 4 }, vec![1, 2, 3, 4]),
         (Call::Finish { first: 6, record, record2 }, vec![1, 2, 6, 7, 8]),
     ];
@@ -77,7 +77,9 @@ fn scalars_at_least_p_get_8() {
     let (state, _, _) = furnished_post(1);
     for number in [MODULUS, MODULUS + 1, u32::MAX] {
         assert_refused(&state, Call::Deal { row: 0, c: number }, 8);
-        assert_refused(&state, Call::Linear { dest: 50, a: 1, b: 1, scale: number }, 8);
+        let linear = |scale, fee| Call::Linear { dest: 50, a: 1, b: 1, scale, fee };
+        assert_refused(&state, linear(number, 0), 8);
+        assert_refused(&state, linear(0, number), 8);
     }
 }
 

@@ -24,7 +24,7 @@ fn valid_calls() -> (State, Vec<Call>) {
         Call::Deal { row: 0, c: MODULUS - 1 },
         Call::OpeningMessage { row: 9, out: 2 },
         Call::Open { row: 9, record: opening },
-        Call::Linear { dest: 95, a: 1, b: 2, scale: MODULUS - 1 },
+        Call::Linear { dest: 95, a: 1, b: 2, scale: MODULUS - 1, fee: MODULUS - 1 },
         Call::Masks { a: 1, b: 1, first: 3, out: 4 },
         Call::Finish { first: 6, record: left, record2: right },
     ];
@@ -145,9 +145,9 @@ fn rows_above_the_last_get_6_before_marks_and_numbers() {
         assert_refused(&state, Call::OpeningMessage { row, out: 2 }, 6);
         assert_refused(&state, Call::Open { row, record: vec![bad; 9] }, 6);
         // Row 0 is raw: the other two rows would get 7.
-        assert_refused(&state, Call::Linear { dest: row, a: 0, b: 0, scale: bad }, 6);
-        assert_refused(&state, Call::Linear { dest: 0, a: row, b: 0, scale: bad }, 6);
-        assert_refused(&state, Call::Linear { dest: 0, a: 0, b: row, scale: bad }, 6);
+        assert_refused(&state, Call::Linear { dest: row, a: 0, b: 0, scale: bad, fee: bad }, 6);
+        assert_refused(&state, Call::Linear { dest: 0, a: row, b: 0, scale: bad, fee: bad }, 6);
+        assert_refused(&state, Call::Linear { dest: 0, a: 0, b: row, scale: bad, fee: bad }, 6);
         assert_refused(&state, Call::Masks { a: row, b: 0, first: 0, out: 4 }, 6);
         assert_refused(&state, Call::Masks { a: 0, b: row, first: 0, out: 4 }, 6);
     }
@@ -158,7 +158,7 @@ fn rows_above_the_last_get_6_before_marks_and_numbers() {
         let call = Call::Finish { first, record: nonsense.clone(), record2: nonsense };
         assert_refused(&state, call, 6);
     }
-    assert_taken(&state, Call::Linear { dest: 95, a: 1, b: 2, scale: 0 });
+    assert_taken(&state, Call::Linear { dest: 95, a: 1, b: 2, scale: 0, fee: 0 });
     assert_taken(&state, Call::LoadTriple { first: 93, pack: vec![0; 24] });
 }
 

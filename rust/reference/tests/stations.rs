@@ -29,7 +29,7 @@ fn sums_and_products_open_to_the_plain_ones() {
     for seed in 0..60 {
         let mut rng = Rng::new(seed);
         let mut station = station(&mut rng);
-        let [a, b, scale] = [(); 3].map(|()| Field::from(rng.element()));
+        let [a, b, scale, fee] = [(); 4].map(|()| Field::from(rng.element()));
         for (row, secret) in [(0, a), (1, b)] {
             let shared = SharedRow::random(&mut rng, station.shape);
             station.share(row, &shared, secret.value());
@@ -38,9 +38,10 @@ fn sums_and_products_open_to_the_plain_ones() {
         station.load_triple(2, &triples[0]);
         station.load_triple(93, &triples[1]);
         station.multiply(0, 1, 2);
-        station.each(|_| Call::Linear { dest: 5, a: 4, b: 0, scale: scale.value() });
+        let (s, public) = (scale.value(), fee.value());
+        station.each(|_| Call::Linear { dest: 5, a: 4, b: 0, scale: s, fee: public });
         station.multiply(5, 5, 93);
-        let sum = a * b + scale * a;
+        let sum = a * b + scale * a + fee;
         for (row, plain) in [(0, a), (1, b), (4, a * b), (5, sum), (95, sum * sum)] {
             assert_eq!(station.open(row), vec![plain.value(); station.n()], "seed {seed}");
         }

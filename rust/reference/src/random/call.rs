@@ -22,7 +22,7 @@ pub enum Call {
     Deal { row: usize, c: u32 },
     OpeningMessage { row: usize, out: usize },
     Open { row: usize, record: Vec<u32> },
-    Linear { dest: usize, a: usize, b: usize, scale: u32 },
+    Linear { dest: usize, a: usize, b: usize, scale: u32, fee: u32 },
     Masks { a: usize, b: usize, first: usize, out: usize },
     Finish { first: usize, record: Vec<u32>, record2: Vec<u32> },
 }
@@ -53,7 +53,9 @@ impl Call {
             Self::Deal { row, c } => library.deal(s, &mut rows, row, c),
             Self::OpeningMessage { row, .. } => library.opening_message(s, &rows, row, &mut out),
             Self::Open { row, ref record } => library.open(s, &rows, row, record),
-            Self::Linear { dest, a, b, scale } => library.linear(s, &mut rows, dest, a, b, scale),
+            Self::Linear { dest, a, b, scale, fee } => {
+                library.linear(s, &mut rows, dest, a, b, scale, fee)
+            }
             Self::Masks { a, b, first, .. } => library.masks(s, &rows, a, b, first, &mut out),
             Self::Finish { first, ref record, ref record2 } => {
                 library.finish(s, &mut rows, first, record, record2)
@@ -104,7 +106,7 @@ impl Call {
         match self {
             Self::NewSession { point, .. } => vec![point],
             Self::Deal { c, .. } => vec![c],
-            Self::Linear { scale, .. } => vec![scale],
+            Self::Linear { scale, fee, .. } => vec![scale, fee],
             _ => vec![],
         }
     }

@@ -128,9 +128,9 @@ pub(super) fn damaged(rng: &mut Rng, call: &Call) -> Call {
             damage_list(rng, lists[choice]);
         }
         1 if !call.scalars().is_empty() => {
-            for scalar in call.scalars() {
-                *scalar = rng.number();
-            }
+            let mut scalars = call.scalars();
+            let choice = rng.below(scalars.len());
+            *scalars[choice] = rng.number();
         }
         _ => {
             let mut sizes = call.sizes();

@@ -40,7 +40,7 @@ pub fn wild_calls(rng: &mut Rng) -> [Call; 9] {
         Call::Deal { row: a, c: rng.number() },
         Call::OpeningMessage { row: a, out: rng.pick(&[2, 2, 2, 0, 1, 3]) },
         Call::Open { row: a, record: list(rng) },
-        Call::Linear { dest: a, a: b, b: c, scale: rng.number() },
+        Call::Linear { dest: a, a: b, b: c, scale: rng.number(), fee: rng.number() },
         Call::Masks { a, b, first: c, out: rng.pick(&[4, 4, 4, 0, 3, 5]) },
         Call::Finish { first: a, record: list(rng), record2: list(rng) },
     ]

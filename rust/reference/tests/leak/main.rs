@@ -5,6 +5,7 @@
 //! a rule is broken on purpose.
 
 mod draws;
+mod fee;
 mod one_row;
 mod products;
 mod record;
@@ -15,8 +16,8 @@ use std::collections::HashMap;
 use draws::{for_each_draw, Condition, ALL};
 use record::{Plan, Raw, Station, Step};
 use reference::Shape;
-use Step::{Deal, Finish, FinishWithConstant, LoadAgain, LoadRow, LoadTriple, LoadTripleAgain};
-use Step::{Message, Open, Overwrite};
+use Step::{Deal, FeeWithConstant, Finish, FinishWithConstant, LoadAgain, LoadRow, LoadTriple};
+use Step::{LoadTripleAgain, Message, Open, Overwrite};
 
 /// Whether every record of the group occurs equally often under both lists of secrets.
 fn equal_counts<const P: u32>(

@@ -90,7 +90,7 @@ fn one_triple_for_two_products() {
 /// A third row of a finished triple is a held row like any other.
 #[test]
 fn a_sum_with_a_product() {
-    let sum = Step::Linear { dest: 9, a: 4, b: 0, scale: 1 };
+    let sum = Step::Linear { dest: 9, a: 4, b: 0, scale: 1, fee: 0 };
     let steps = [&MULTIPLY[..], &[sum, Message(9), Open(9)]].concat();
     let counts = |secrets| factor_counts(&steps, secrets);
     // ab + a: 1·1 + 1 = 2·0 + 2, and 1·0 + 1 differs.

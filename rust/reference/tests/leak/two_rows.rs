@@ -24,7 +24,7 @@ fn an_opening_of_the_row_that_differs_shows() {
 #[test]
 fn a_sum_opened_shows_the_sum_only() {
     let sum = |scale| {
-        let linear = Step::Linear { dest: 95, a: 0, b: 1, scale };
+        let linear = Step::Linear { dest: 95, a: 0, b: 1, scale, fee: 0 };
         two(&[linear, Message(95), Open(95)])
     };
     let counts = |plan: &Plan, secrets: [&[u32]; 2]| {
@@ -37,7 +37,7 @@ fn a_sum_opened_shows_the_sum_only() {
 
 #[test]
 fn a_sum_not_opened_shows_nothing() {
-    let linear = Step::Linear { dest: 2, a: 1, b: 1, scale: 3 };
+    let linear = Step::Linear { dest: 2, a: 1, b: 1, scale: 3, fee: 4 };
     let sum = two(&[linear, Open(2)]);
     let secrets: [&[u32]; 2] = [&[1, 2], &[0, 4]];
     assert!(equal_counts::<5>(&sum, &[4, 2], (SEEN_BY_1, ALL), &[1], secrets));

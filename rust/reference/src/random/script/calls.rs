@@ -72,10 +72,10 @@ impl Author<'_> {
     fn linear(&mut self) -> Option<()> {
         let (a, b) = (self.pick(mark::HELD)?, self.pick(mark::HELD)?);
         let dest = self.pick(mark::EMPTY)?;
-        let scale = self.rng.element();
-        let sum = self.shared(a).plus_scaled(scale, &self.shared(b));
+        let (scale, fee) = (self.rng.element(), self.rng.element());
+        let sum = self.shared(a).plus_scaled(scale, &self.shared(b)).plus_public(fee);
         self.keep(dest, mark::HELD, sum);
-        self.step(Call::Linear { dest, a, b, scale }, None);
+        self.step(Call::Linear { dest, a, b, scale, fee }, None);
         Some(())
     }
 

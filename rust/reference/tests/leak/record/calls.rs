@@ -26,7 +26,7 @@ fn masked_number<const P: u32>(
     s.marks = [mark::HELD; ROWS];
     s.marks[LAST] = mark::EMPTY;
     let mut rows = rows.to_vec();
-    let masked = linear::<P>(s, &mut rows, LAST, factor, row, P - 1).session;
+    let masked = linear::<P>(s, &mut rows, LAST, factor, row, P - 1, 0).session;
     let opened = open::<P>(masked, &rows, LAST, record);
     assert_eq!(opened.refusal, 0, "the finish was accepted");
     opened.value.into()
@@ -51,7 +51,9 @@ impl<const P: u32> Station<'_, P> {
                 answer
             }
             Step::Open(row) => open::<P>(s, &rows, row, &self.heard(b'O', row, 0)),
-            Step::Linear { dest, a, b, scale } => linear::<P>(s, &mut rows, dest, a, b, scale),
+            Step::Linear { dest, a, b, scale, fee } => {
+                linear::<P>(s, &mut rows, dest, a, b, scale, fee)
+            }
             Step::Masks { a, b, first } => {
                 let mut out = vec![0; self.shape.masks()];
                 let answer = masks::<P>(s, &rows, a, b, first, &mut out);
@@ -60,6 +62,11 @@ impl<const P: u32> Station<'_, P> {
             }
             Step::Finish(first) => self.finish(s, &mut rows, first),
             Step::FinishWithConstant(first) => self.finish_with_constant(s, &mut rows, first),
+            Step::FeeWithConstant { dest, a, fee } => {
+                let answer = linear::<P>(s, &mut rows, dest, a, a, 0, fee);
+                self.add_to_constant(&mut rows, dest, fee.into());
+                answer
+            }
             Step::Overwrite { row, mark } => overwrite(s, row, mark),
         };
         self.posts[post - 1].rows = rows;
@@ -89,19 +96,19 @@ impl<const P: u32> Station<'_, P> {
     fn finish_with_constant(&self, s: Session, rows: &mut [u32], first: usize) -> Answer {
         let answer = self.finish(s, rows, first);
         if answer.refusal == 0 {
-            self.add_to_constant(s, rows, first);
+            let [left, right] = self.heard_masks(first);
+            let y = masked_number::<P>(s, rows, s.left[first].into(), first, &left);
+            let y2 = masked_number::<P>(s, rows, s.right[first].into(), first + 1, &right);
+            self.add_to_constant(rows, first + 2, y * y2);
         }
         answer
     }
 
-    /// Adds y y' to a product's polynomial, and so to the check values.
-    fn add_to_constant(&self, s: Session, rows: &mut [u32], first: usize) {
-        let [left, right] = self.heard_masks(first);
-        let y = masked_number::<P>(s, rows, s.left[first].into(), first, &left);
-        let y2 = masked_number::<P>(s, rows, s.right[first].into(), first + 1, &right);
-        let third = &mut rows[self.shape.at(first + 2)];
+    /// Adds a number to the polynomial of a row, and so to the check values.
+    fn add_to_constant(&self, rows: &mut [u32], row: usize, number: Element<P>) {
+        let row = &mut rows[self.shape.at(row)];
         for place in self.shape.check_values().chain([self.shape.polynomial().start]) {
-            third[place] = (Element::<P>::from(third[place]) + y * y2).value();
+            row[place] = (Element::<P>::from(row[place]) + number).value();
         }
     }
 

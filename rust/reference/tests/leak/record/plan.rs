@@ -15,6 +15,7 @@ pub enum Step {
         a: usize,
         b: usize,
         scale: u32,
+        fee: u32,
     },
     /// Makes the masks and broadcasts them.
     Masks {
@@ -42,6 +43,12 @@ pub enum Step {
     /// Breaks a rule: a finish that adds y y' "to the polynomial's constant too, so it counts
     /// nothing". The check values follow, or nobody would accept the polynomials.
     FinishWithConstant(usize),
+    /// Breaks a rule: a sum that adds its fee to the polynomial's constant too, a plus the fee.
+    FeeWithConstant {
+        dest: usize,
+        a: usize,
+        fee: u32,
+    },
 }
 
 /// A row drawn raw.
