@@ -7,7 +7,7 @@ use std::fmt::{Debug, Error, Result, Write};
 pub type Met<'a> = &'a [(&'a str, &'a [u8])];
 
 const SESSION: &[u8] = &[0, 1, 2, 3, 4, 5, 6, 7, 8];
-const OPENING: &[u8] = &[0, 1, 2, 3, 4, 5, 6, 7, 8, 9];
+const OPENING: &[u8] = &[0, 1, 2, 3, 4, 5, 6, 7, 8, 9, 13];
 
 /// Every refusal that a [`Call`](super::Call) can get.
 pub const CALL_REFUSALS: Met = &[
@@ -40,11 +40,11 @@ pub const STREET_REFUSALS: Met = &[
     ("T", &[0, 1, 7, 10, 11]),
     ("D", &[0, 1, 7, 10, 11]),
     ("O", &[0, 1, 10, 11]),
-    ("G", &[0, 1, 7, 9, 10, 11]),
+    ("G", &[0, 1, 7, 9, 10, 11, 13]),
     ("L", &[0, 1, 7, 10, 11]),
     ("X", &[0, 1, 7, 10, 11]),
     ("M", &[0, 1, 10, 11]),
-    ("F", &[0, 1, 7, 9, 10, 11]),
+    ("F", &[0, 1, 7, 9, 10, 11, 13]),
 ];
 
 /// How often each kind of call met each refusal.

@@ -1,6 +1,6 @@
 //! What the street program has taken, as far as a clerk can tell.
 
-use std::collections::BTreeSet;
+use std::collections::BTreeMap;
 
 use crate::random::SharedRow;
 use crate::{mark, ROWS, TRIPLE};
@@ -11,9 +11,17 @@ pub(super) struct Book {
     marks: [u8; ROWS],
     shared: Vec<Option<SharedRow>>,
     factors: [(usize, usize); ROWS],
-    /// The triple that masks are kept for, and the other posts whose true masks are among them.
+    /// The triple that masks are kept for, and what each post sent.
     masks_of: usize,
-    masks: BTreeSet<usize>,
+    masks: BTreeMap<usize, Heard>,
+}
+
+/// What a mask line counts for at this post; its own ones are not looked at.
+#[derive(Clone, Copy, PartialEq, Eq)]
+pub(super) enum Heard {
+    True,
+    Lie,
+    Rejected,
 }
 
 impl Default for Book {
@@ -23,7 +31,7 @@ impl Default for Book {
             shared: vec![None; ROWS],
             factors: [(0, 0); ROWS],
             masks_of: 0,
-            masks: BTreeSet::new(),
+            masks: BTreeMap::new(),
         }
     }
 }
@@ -92,24 +100,25 @@ impl Book {
         Some([left, self.shared(b)?.minus(self.shared(first + 1)?)])
     }
 
-    /// The program keeps a mask line of another post.
-    pub(super) fn mask_line(&mut self, first: usize, post: usize, honest: bool) {
+    /// The program keeps a mask line.
+    pub(super) fn mask_line(&mut self, first: usize, post: usize, heard: Heard) {
         if self.masks_of != first {
             self.masks_of = first;
             self.masks.clear();
         }
-        if honest {
-            self.masks.insert(post);
-        } else {
-            self.masks.remove(&post);
-        }
+        self.masks.insert(post, heard);
+    }
+
+    /// Whether the masks of `others` posts beside the own are kept, and no lie that is accepted.
+    fn enough(&self, first: usize, others: usize) -> bool {
+        let count = |what: Heard| self.masks.values().filter(|&&heard| heard == what).count();
+        self.masks_of == first && count(Heard::True) >= others && count(Heard::Lie) == 0
     }
 
     /// A finish, which needs the masks of `others` posts beside the own.
     pub(super) fn finish(&mut self, first: usize, others: usize) {
         let (a, b) = self.factors[first];
-        let enough = self.masks_of == first && self.masks.len() >= others;
-        if !enough || !self.has(first, mark::MASKED) {
+        if !self.enough(first, others) || !self.has(first, mark::MASKED) {
             return;
         }
         let triple = [first, first + 1, first + 2].map(|row| self.shared[row].clone());

@@ -1,7 +1,8 @@
 //! The single lines of a clerk.
 
+use super::book::Heard;
 use super::Clerk;
-use crate::random::{join, SharedRow};
+use crate::random::{join, unnoticed, SharedRow};
 use crate::{mark, LONGEST_LINE, MODULUS, ROWS, STREET_POSTS, TRIPLE};
 
 /// The line of a letter, a heading and elements.
@@ -108,8 +109,7 @@ impl Clerk {
         let message = self.book.shared(row).map(|shared| shared.v[post - 1].clone());
         let mut message = message.unwrap_or_else(|| self.rng.elements(self.shape.coefficients()));
         if lie {
-            let place = self.rng.below(message.len());
-            message[place] = self.rng.element();
+            message = self.forged(&message).0;
         }
         line("O", &[row, post], &message)
     }
@@ -143,13 +143,29 @@ impl Clerk {
         let known = differences.is_some();
         let masks = differences.map(|both| both.map(|shared| shared.v[post - 1].clone()).concat());
         let mut masks = masks.unwrap_or_else(|| self.rng.elements(self.shape.masks()));
+        let mut heard = if known { Heard::True } else { Heard::Rejected };
         if lie {
-            let place = self.rng.below(masks.len());
-            masks[place] = self.rng.element();
+            let half = self.rng.below(2) * self.shape.coefficients();
+            let (forged, as_what) = self.forged(&masks[half..][..self.shape.coefficients()]);
+            masks[half..][..forged.len()].copy_from_slice(&forged);
+            heard = as_what;
         }
-        let honest = known && !lie && post != self.post;
-        self.book.mask_line(first, post, honest);
+        if post == self.post {
+            heard = Heard::Rejected;
+        }
+        self.book.mask_line(first, post, heard);
         line("M", &[first, post], &masks)
+    }
+
+    /// Another polynomial, every second time one that this post accepts.
+    fn forged(&mut self, polynomial: &[u32]) -> (Vec<u32>, Heard) {
+        if self.rng.one_in(2) {
+            return (unnoticed(polynomial, 0, self.rng.element(), self.point()), Heard::Lie);
+        }
+        let mut forged = polynomial.to_vec();
+        let place = self.rng.below(forged.len());
+        forged[place] = self.rng.element();
+        (forged, Heard::Rejected)
     }
 
     pub(super) fn finish(&mut self) -> Vec<u8> {
