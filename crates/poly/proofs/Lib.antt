@@ -8,7 +8,14 @@ pub mod Lagrange
 pub mod Numbers
 pub mod Fractions
 pub mod Passing
-pub mod Following
-pub mod Steps
 pub mod Theorems
-pub mod Table
+pub mod Sums
+pub mod Pascal
+pub mod Barycentric
+pub mod Gaps
+pub mod Alternating
+pub mod Rows
+pub mod Ascent
+pub mod Moves
+pub mod Zero
+pub mod Entries

@@ -3,4 +3,6 @@ pub mod Interpolation
 pub mod Counting
 pub mod Claims
 pub mod Quotients
-pub mod Factorials
+pub mod Nodes
+pub mod InverseTable
+pub mod Weights
