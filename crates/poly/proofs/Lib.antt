@@ -19,3 +19,4 @@ pub mod Ascent
 pub mod Moves
 pub mod Zero
 pub mod Entries
+pub mod Agreeing

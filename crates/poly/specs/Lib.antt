@@ -6,3 +6,4 @@ pub mod Quotients
 pub mod Nodes
 pub mod InverseTable
 pub mod Weights
+pub mod Agreement

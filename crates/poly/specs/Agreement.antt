@@ -1,0 +1,25 @@
+-- Request (iv): "every further accepted share must lie on the same polynomial of degree at most t". The nodes xs and their values ys are the
+-- lowest t+1, through which the polynomial goes.
+use Prim.Native.Nat.{ℕ}
+use mathlib.Core.Path.{_≡_}
+use mathlib.Core.Logic.{_⊎_}
+use mathlib.Core.Bool.{Bool, true, false}
+use mathlib.Core.List.{List, [], _∷_}
+use lib.Dec.{eqb}
+use Rattle.poly.specs.Interpolation.{interpolated}
+
+-- the value y at z lies on the polynomial
+abbrev pub agrees : List ℕ → List ℕ → ℕ → ℕ → Bool
+agrees xs ys z y = eqb y (interpolated xs ys z)
+
+-- all of the values at further nodes do
+unfoldable pub allAgree : List ℕ → List ℕ → List ℕ → List ℕ → Bool
+allAgree xs ys [] ws = true
+allAgree xs ys (z ∷ zs) [] = true
+allAgree xs ys (z ∷ zs) (w ∷ ws) = elim (agrees xs ys z w) [ true ↦ allAgree xs ys zs ws | false ↦ false ]
+
+-- the value y at x is one of those given at nodes
+abbrev pub Given : ℕ → ℕ → List ℕ → List ℕ → Type 0
+Given x y [] vs = ⊥
+Given x y (n ∷ ns) [] = ⊥
+Given x y (n ∷ ns) (v ∷ vs) = ((n ≡ x) × (v ≡ y)) ⊎ Given x y ns vs
