@@ -14,7 +14,7 @@ use Rattle.field.proofs.Elements.{𝓡, elements, element-injective}
 use Rattle.poly.specs.Polynomial.{value}
 use Rattle.poly.specs.Interpolation.{interpolated}
 use Rattle.poly.specs.Counting.{All, Distinct, Elements}
-use Rattle.poly.specs.Agreement.{agrees, allAgree, Given}
+use Rattle.poly.specs.Agreement.{agrees, allPairs, allAgree, Given}
 use Rattle.poly.specs.Claims.{AgreementExact, TrueValuesAgree}
 use Rattle.poly.proofs.Bounds.{value-below, interpolated-below}
 use Rattle.poly.proofs.Lists.{all-map, all-under}
@@ -44,7 +44,7 @@ module _ (f : List Element) where
 
   module _ (xs ys : List ℕ) (is : (z : ℕ) → element (interpolated xs ys z) ≡ ev 𝓡 f (element z)) where
     given-further : (x y : ℕ) (zs ws : List ℕ) → allAgree xs ys zs ws ≡ true → Given x y zs ws → ev 𝓡 f (element x) ≡ element y
-    unfolding allAgree
+    unfolding allPairs
     given-further x y [] ws a g = absurd g
     given-further x y (z ∷ zs) [] a g = absurd g
     given-further x y (z ∷ zs) (w ∷ ws) a (inl q) =
@@ -90,7 +90,7 @@ agreement-exact xs ys zs ws b d l l′ a g good few enough bg dg given z =
         ]
 
 pub true-values-agree : TrueValuesAgree
-unfolding allAgree
+unfolding allPairs
 true-values-agree xs zs b d g few = go zs
   where
     go : (l : List ℕ) → allAgree xs (map (value g) xs) l (map (value g) l) ≡ true

@@ -20,3 +20,5 @@ pub mod Moves
 pub mod Zero
 pub mod Entries
 pub mod Agreeing
+pub mod Fitting
+pub mod Dense

@@ -85,7 +85,7 @@ module _ (f : ℕ → ℕ) where
   pub firsts-stop : (l : List ℕ) (i n : ℕ) → n ≤ i → i ≤ n → take i l ≡ firsts f i → take n l ≡ firsts f n
   firsts-stop l i n h k e = let q : i ≡ n = omega arith in rw q at e
 
-  firsts-at : (n i : ℕ) → i < n → getD (firsts f n) i 0 ≡ f i
+  pub firsts-at : (n i : ℕ) → i < n → getD (firsts f n) i 0 ≡ f i
   unfolding firsts
   firsts-at ℕ.zero i h = absurd (not-suc-le-zero h)
   firsts-at (suc n) i h = go (decLt i n) (firsts-at n i)

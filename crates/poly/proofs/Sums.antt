@@ -37,7 +37,7 @@ module _ {R : Type 0} (𝓡 : CommutativeRing R) where
       ∙ solve 𝓡 (sumBelow g n ∷ sumBelow h n ∷ g n ∷ h n ∷ []) (A :- B :+ (C :- D)) (A :+ C :- (B :+ D)) refl
 
   -- from the front
-  sumBelow-front : (h : ℕ → R) (n : ℕ) → sumBelow h (suc n) ≡ h 0 ⊕ sumBelow (λ x. h (suc x)) n
+  pub sumBelow-front : (h : ℕ → R) (n : ℕ) → sumBelow h (suc n) ≡ h 0 ⊕ sumBelow (λ x. h (suc x)) n
   unfolding sumBelow
   sumBelow-front h ℕ.zero = zero-add 𝓡 (h 0) ∙ sym (add-zero (h 0))
   sumBelow-front h (suc n) = ap (λ (u : R). u ⊕ h (suc n)) (sumBelow-front h n) ∙ add-assoc _ _ _

@@ -12,11 +12,15 @@ use Rattle.poly.specs.Interpolation.{interpolated}
 abbrev pub agrees : List ℕ → List ℕ → ℕ → ℕ → Bool
 agrees xs ys z y = eqb y (interpolated xs ys z)
 
+-- a test of every node with its value
+unfoldable pub allPairs : (ℕ → ℕ → Bool) → List ℕ → List ℕ → Bool
+allPairs test [] ws = true
+allPairs test (z ∷ zs) [] = true
+allPairs test (z ∷ zs) (w ∷ ws) = elim (test z w) [ true ↦ allPairs test zs ws | false ↦ false ]
+
 -- all of the values at further nodes do
-unfoldable pub allAgree : List ℕ → List ℕ → List ℕ → List ℕ → Bool
-allAgree xs ys [] ws = true
-allAgree xs ys (z ∷ zs) [] = true
-allAgree xs ys (z ∷ zs) (w ∷ ws) = elim (agrees xs ys z w) [ true ↦ allAgree xs ys zs ws | false ↦ false ]
+abbrev pub allAgree : List ℕ → List ℕ → List ℕ → List ℕ → Bool
+allAgree xs ys zs ws = allPairs (agrees xs ys) zs ws
 
 -- the value y at x is one of those given at nodes
 abbrev pub Given : ℕ → ℕ → List ℕ → List ℕ → Type 0

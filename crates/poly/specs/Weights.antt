@@ -1,13 +1,16 @@
 -- Between the functions of the code: weights of rising nodes.
-use Prim.Native.Nat.{ℕ, zero, suc, _+_, _%_, _≤_, _<_}
+use Prim.Native.Nat.{ℕ, zero, suc, _+_, _-_, _%_, _≤_, _<_}
 use mathlib.Core.Path.{_≡_}
 use mathlib.Core.Bool.{Bool, true, false}
 use mathlib.Core.List.{List, [], _∷_, _++_}
 use lib.Dec.{eqb, leb, ltb}
-use lib.ListN.{length}
+use lib.ListN.{length, take, drop}
+use Rattle.field.specs.Modulus.{p}
 use Rattle.field.specs.Arithmetic.{difference, product}
+use Rattle.poly.specs.Agreement.{allPairs}
 use Rattle.poly.specs.InverseTable.{Inverts}
 use Rattle.poly.specs.Interpolation.{nodal}
+use Rattle.poly.specs.Polynomial.{weighted}
 use Rattle.poly.specs.Nodes.{Rising, lastOf}
 
 -- Pascal's triangle modulo p, with alternating signs: (-1)^x times the number of ways to choose x of m.
@@ -42,3 +45,16 @@ pub record Prepared (nodes inverses gaps list : List ℕ) : Type 0 where
   pub within : lastOf 0 nodes ≤ length inverses
   pub gap-room : length gaps + length nodes ≡ lastOf 0 nodes
   pub room : length list ≡ lastOf 0 nodes + 1
+
+-- The part of the table that a further node z needs of n numbers 0 to n - 1: the inverses of z - x, from the last x down to 0.
+abbrev pub tablePart : List ℕ → ℕ → ℕ → List ℕ
+tablePart table n z = take (z - (z - n)) (drop (z - n) table)
+
+-- A further value y at z fits where the one sum is it times the other.
+unfoldable pub fits : List ℕ → List ℕ → List ℕ → ℕ → ℕ → Bool
+fits table above below z y =
+    elim (ltb y p)
+    [ true ↦ eqb (weighted above (tablePart table (length below) z)) (product y (weighted below (tablePart table (length below) z))) | false ↦ false ]
+
+abbrev pub allFit : List ℕ → List ℕ → List ℕ → List ℕ → List ℕ → Bool
+allFit table above below zs ys = allPairs (fits table above below) zs ys

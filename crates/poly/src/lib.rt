@@ -10,6 +10,7 @@ ghost use Rattle.field.specs.Arithmetic.{sum, product, inverse};
 ghost use Rattle.poly.specs.Interpolation.{nodal, others, interpolated};
 ghost use Rattle.poly.specs.Quotients.{quotient, Invertible, nodePassed};
 
+pub mod agreement;
 pub mod inverses;
 pub mod posts;
 

@@ -12,7 +12,7 @@ ghost use Rattle.poly.specs.Interpolation.{nodal, interpolated};
 ghost use Rattle.poly.specs.Nodes.{Rising, lastOf, missing};
 ghost use Rattle.poly.specs.Weights.{alternating, mirrored, nodeWeight, firsts, risesTo, Prepared};
 
-fn wide(x: u32) -> usize
+pub fn wide(x: u32) -> usize
     ensures { λ r. ⌜ r ≡ x ⌝ }
 {
     x as usize

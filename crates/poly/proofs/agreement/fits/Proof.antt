@@ -1,0 +1,14 @@
+-- `poly::agreement::fits` meets its contract.
+use borrow.Author.Needs.{needs}
+use Rattle.poly.proofs.Fitting.{fits-beyond, fits-by}
+use Rattle.poly.proofs.agreement.fits.Statement.{statement}
+use Rattle.poly.proofs.agreement.fits.Tie as tie
+
+ruleset fit = (needs, fits-beyond, fits-by)
+
+pub fits-spec : {M : Type 1} → statement M
+fits-spec =
+    tie.close
+    (tie.spec (λ c. search fit) (λ c. search needs) (λ c. search needs) (λ c. search needs) (λ c. search needs) (λ c. search needs)
+    (λ c κs. search needs) (λ c. search needs) (λ c. search needs) (λ c. search needs) (λ c. search needs) (λ c κs. search needs)
+    (λ c κs. search needs) (λ c. search fit))
