@@ -22,3 +22,4 @@ pub mod Entries
 pub mod Agreeing
 pub mod Fitting
 pub mod Dense
+pub mod Scatter

@@ -2,16 +2,16 @@
 use Prim.Native.Nat.{ℕ, zero, suc, _+_, _-_, _%_, _≤_, _<_}
 use mathlib.Core.Path.{_≡_}
 use mathlib.Core.Bool.{Bool, true, false}
-use mathlib.Core.List.{List, [], _∷_, _++_}
+use mathlib.Core.List.{List, [], _∷_, _++_, map}
 use lib.Dec.{eqb, leb, ltb}
 use lib.ListN.{length, take, drop}
 use Rattle.field.specs.Modulus.{p}
 use Rattle.field.specs.Arithmetic.{difference, product}
 use Rattle.poly.specs.Agreement.{allPairs}
 use Rattle.poly.specs.InverseTable.{Inverts}
-use Rattle.poly.specs.Interpolation.{nodal}
+use Rattle.poly.specs.Interpolation.{nodal, interpolated}
 use Rattle.poly.specs.Polynomial.{weighted}
-use Rattle.poly.specs.Nodes.{Rising, lastOf}
+use Rattle.poly.specs.Nodes.{Rising, lastOf, missing}
 
 -- Pascal's triangle modulo p, with alternating signs: (-1)^x times the number of ways to choose x of m.
 unfoldable pub alternating : ℕ → ℕ → ℕ
@@ -58,3 +58,28 @@ fits table above below z y =
 
 abbrev pub allFit : List ℕ → List ℕ → List ℕ → List ℕ → List ℕ → Bool
 allFit table above below zs ys = allPairs (fits table above below) zs ys
+
+-- The lists of the two sums: place j belongs to the number m - j, where m is the last node.
+abbrev pub bottoms : List ℕ → List ℕ
+bottoms xs = firsts (λ j. nodeWeight (lastOf 0 xs) (missing 0 xs) (lastOf 0 xs - j)) (suc (lastOf 0 xs))
+
+abbrev pub tops : List ℕ → List ℕ → List ℕ
+tops xs ys =
+    firsts (λ j. product (nodeWeight (lastOf 0 xs) (missing 0 xs) (lastOf 0 xs - j)) (interpolated xs ys (lastOf 0 xs - j))) (suc (lastOf 0 xs))
+
+-- The nodes' weights, with the weight of 0 first.
+abbrev pub WeightsOf : List ℕ → List ℕ → Type 0
+WeightsOf nodes list = take (length nodes + 1) list ≡ map (nodeWeight (lastOf 0 nodes) (missing 0 nodes)) (0 ∷ nodes)
+
+-- What the two lists are made of: the weights, the values and the value at 0.
+pub record Weighed (nodes values : List ℕ) (value : ℕ) (weights : List ℕ) : Type 0 where
+  pub rising : Rising 0 nodes
+  pub low : lastOf 0 nodes ≤ 255
+  pub same : length values ≡ length nodes
+  pub at-zero : value ≡ interpolated nodes values 0
+  pub room : lastOf 0 nodes < length weights
+  pub weights-are : WeightsOf nodes weights
+
+pub record Cleared (n : ℕ) (list : List ℕ) : Type 0 where
+  pub sized : length list ≡ n
+  pub zeros : list ≡ firsts (λ j. 0) n

@@ -1,11 +1,11 @@
 // Request (iv): whether further values lie on the polynomial through the first ones, by two sums of products a value.
 ghost use mathlib.Core.Path.{_≡_};
-ghost use mathlib.Core.List.{map, _∷_};
-ghost use Prim.Native.Nat.{_+_, _-_, _≤_, _<_};
-ghost use lib.ListN.{length, take, drop};
-ghost use Rattle.poly.specs.Agreement.{agrees, allAgree};
+ghost use Prim.Native.Nat.{suc, _≤_, _<_};
+ghost use lib.ListN.{length};
+ghost use Rattle.poly.specs.Agreement.{allAgree};
 ghost use Rattle.poly.specs.Counting.{All};
-ghost use Rattle.poly.specs.Weights.{fits, allFit};
+ghost use Rattle.poly.specs.Nodes.{lastOf};
+ghost use Rattle.poly.specs.Weights.{fits, allFit, tops, bottoms, Weighed, Cleared};
 
 // Whether the value y at z fits.
 fn fits(z: usize, y: u32, inverses: &[u32], above: &[u32], below: &[u32]) -> bool
@@ -46,4 +46,35 @@ fn all_agree(nodes: &[u32], values: &[u32], further: &[u32], shares: &[u32]) -> 
         }
     }
     true
+}
+
+fn clear(list: &mut [u32])
+    ensures { λ r. ⌜ Cleared (length (now (list .entry))) (now (list .exit)) ⌝ }
+{
+    for i in 0..list.len() {
+        list[i] = 0;
+    }
+}
+
+// The numbers of 0 and of the nodes, each at its place, in two cleared lists.
+fn spread(
+    nodes: &[u32],
+    values: &[u32],
+    value: u32,
+    weights: &[u32],
+    above: &mut [u32],
+    below: &mut [u32],
+)
+    requires { ⌜ Weighed (now nodes) (now values) value (now weights) × Cleared (suc (lastOf 0 (now nodes))) (now above) × Cleared (suc (lastOf 0 (now nodes))) (now below) ⌝ }
+    ensures { λ r. ⌜ (now (above .exit) ≡ tops (now (nodes .entry)) (now (values .entry))) × (now (below .exit) ≡ bottoms (now (nodes .entry))) ⌝ }
+{
+    let last = below.len() - 1;
+    below[last] = weights[0];
+    above[last] = field::mul(weights[0], value);
+    for i in 0..nodes.len() {
+        let at = last - crate::posts::wide(nodes[i]);
+        let weight = weights[i + 1];
+        below[at] = weight;
+        above[at] = field::mul(weight, values[i]);
+    }
 }
