@@ -8,6 +8,7 @@ use lib.ListN.{length, take, drop}
 use Rattle.field.specs.Modulus.{p}
 use Rattle.field.specs.Arithmetic.{difference, product}
 use Rattle.poly.specs.Agreement.{allPairs}
+use Rattle.poly.specs.Counting.{All}
 use Rattle.poly.specs.InverseTable.{Inverts}
 use Rattle.poly.specs.Interpolation.{nodal, interpolated}
 use Rattle.poly.specs.Polynomial.{weighted}
@@ -83,3 +84,11 @@ pub record Weighed (nodes values : List ℕ) (value : ℕ) (weights : List ℕ) 
 pub record Cleared (n : ℕ) (list : List ℕ) : Type 0 where
   pub sized : length list ≡ n
   pub zeros : list ≡ firsts (λ j. 0) n
+
+-- Further nodes above the last node m, each with a value, and room for the two lists.
+pub record Further (m : ℕ) (further shares inverses above below : List ℕ) : Type 0 where
+  pub paired : length shares ≡ length further
+  pub table : Inverts inverses
+  pub reached : All (λ z. (suc m ≤ z) × (z ≤ length inverses)) further
+  pub above-room : length above ≡ suc m
+  pub below-room : length below ≡ suc m

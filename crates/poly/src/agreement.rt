@@ -4,8 +4,9 @@ ghost use Prim.Native.Nat.{suc, _≤_, _<_};
 ghost use lib.ListN.{length};
 ghost use Rattle.poly.specs.Agreement.{allAgree};
 ghost use Rattle.poly.specs.Counting.{All};
+ghost use Rattle.poly.specs.Interpolation.{interpolated};
 ghost use Rattle.poly.specs.Nodes.{lastOf};
-ghost use Rattle.poly.specs.Weights.{fits, allFit, tops, bottoms, Weighed, Cleared};
+ghost use Rattle.poly.specs.Weights.{fits, allFit, tops, bottoms, Weighed, Cleared, Further, Prepared};
 
 // Whether the value y at z fits.
 fn fits(z: usize, y: u32, inverses: &[u32], above: &[u32], below: &[u32]) -> bool
@@ -77,4 +78,78 @@ fn spread(
         below[at] = weight;
         above[at] = field::mul(weight, values[i]);
     }
+}
+
+// The lists of the two sums.
+fn lay(
+    nodes: &[u32],
+    values: &[u32],
+    value: u32,
+    weights: &[u32],
+    above: &mut [u32],
+    below: &mut [u32],
+)
+    requires { ⌜ Weighed (now nodes) (now values) value (now weights) × (length (now above) ≡ suc (lastOf 0 (now nodes))) × (length (now below) ≡ suc (lastOf 0 (now nodes))) ⌝ }
+    ensures { λ r. ⌜ (now (above .exit) ≡ tops (now (nodes .entry)) (now (values .entry))) × (now (below .exit) ≡ bottoms (now (nodes .entry))) ⌝ }
+{
+    clear(above);
+    clear(below);
+    spread(nodes, values, value, weights, above, below);
+}
+
+// Whether all values at further nodes agree, where those lie above rising nodes.
+fn agree_rising(
+    nodes: &[u32],
+    values: &[u32],
+    value: u32,
+    weights: &[u32],
+    further: &[u32],
+    shares: &[u32],
+    inverses: &[u32],
+    above: &mut [u32],
+    below: &mut [u32],
+) -> bool
+    requires { ⌜ Weighed (now nodes) (now values) value (now weights) × Further (lastOf 0 (now nodes)) (now further) (now shares) (now inverses) (now above) (now below) ⌝ }
+    ensures { λ r. ⌜ r ≡ allAgree (now (nodes .entry)) (now (values .entry)) (now (further .entry)) (now (shares .entry)) ⌝ }
+{
+    lay(nodes, values, value, weights, above, below);
+    all_fit(further, shares, inverses, above, below)
+}
+
+// The value at 0 of the polynomial through the first values, and whether all further ones lie on it.
+pub struct Through {
+    pub agree: bool,
+    pub value: u32,
+}
+
+fn through_rising(
+    nodes: &[u32],
+    values: &[u32],
+    further: &[u32],
+    shares: &[u32],
+    inverses: &[u32],
+    gaps: &mut [u32],
+    list: &mut [u32],
+    above: &mut [u32],
+    below: &mut [u32],
+) -> Through
+    requires { ⌜ Prepared (now nodes) (now inverses) (now gaps) (now list) × (length (now values) ≡ length (now nodes)) × Further (lastOf 0 (now nodes)) (now further) (now shares) (now inverses) (now above) (now below) ⌝ }
+    ensures { λ r. ⌜ (r .value ≡ interpolated (now (nodes .entry)) (now (values .entry)) 0) × (r .agree ≡ allAgree (now (nodes .entry)) (now (values .entry)) (now (further .entry)) (now (shares .entry))) ⌝ }
+{
+    let value = crate::posts::at_zero_rising(nodes, values, inverses, gaps, list);
+    if further.len() == 0 {
+        return Through { agree: true, value };
+    }
+    let agree = agree_rising(
+        nodes,
+        values,
+        value,
+        list,
+        further,
+        shares,
+        inverses,
+        above,
+        below,
+    );
+    Through { agree, value }
 }

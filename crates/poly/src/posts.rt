@@ -10,7 +10,7 @@ ghost use Rattle.poly.specs.Counting.{All};
 ghost use Rattle.poly.specs.InverseTable.{Inverts};
 ghost use Rattle.poly.specs.Interpolation.{nodal, interpolated};
 ghost use Rattle.poly.specs.Nodes.{Rising, lastOf, missing};
-ghost use Rattle.poly.specs.Weights.{alternating, mirrored, nodeWeight, firsts, risesTo, Prepared};
+ghost use Rattle.poly.specs.Weights.{alternating, mirrored, nodeWeight, firsts, risesTo, Prepared, WeightsOf};
 
 pub fn wide(x: u32) -> usize
     ensures { λ r. ⌜ r ≡ x ⌝ }
@@ -19,7 +19,7 @@ pub fn wide(x: u32) -> usize
 }
 
 // Whether the nodes are rising numbers from 1 to the limit.
-fn rises(nodes: &[u32], limit: usize) -> bool
+pub fn rises(nodes: &[u32], limit: usize) -> bool
     ensures { λ r. ⌜ r ≡ risesTo limit 0 (now (nodes .entry)) ⌝ }
 {
     let mut last: u32 = 0;
@@ -154,7 +154,7 @@ fn weigh_rising(nodes: &[u32], inverses: &[u32], gaps: &mut [u32], list: &mut [u
 }
 
 // The interpolation at 0 through rising nodes; the nodes' weights stay at the front of the list.
-fn at_zero_rising(
+pub fn at_zero_rising(
     nodes: &[u32],
     values: &[u32],
     inverses: &[u32],
@@ -162,7 +162,7 @@ fn at_zero_rising(
     list: &mut [u32],
 ) -> u32
     requires { ⌜ Prepared (now nodes) (now inverses) (now gaps) (now list) × (length (now values) ≡ length (now nodes)) ⌝ }
-    ensures { λ r. ⌜ r ≡ interpolated (now (nodes .entry)) (now (values .entry)) 0 ⌝ }
+    ensures { λ r. ⌜ (r ≡ interpolated (now (nodes .entry)) (now (values .entry)) 0) × WeightsOf (now (nodes .entry)) (now (list .exit)) ⌝ }
 {
     weigh_rising(nodes, inverses, gaps, list);
     let end = nodes.len() + 1;

@@ -11,7 +11,7 @@ inverse-product-requires c κs =
     (search needs, gaps-within _ _ _ _ (a .pre .0) (w .last .1 .1 .0) (w .ensures .0))
 
 returns : tie.Need-returns
-returns c = search (needs, zero-found)
+returns c = (search (needs, zero-found), search needs)
 
 pub at-zero-rising-spec : {M : Type 1} → statement M
 at-zero-rising-spec =
