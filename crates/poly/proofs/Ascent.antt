@@ -10,7 +10,7 @@ use Rattle.field.specs.Modulus.{p}
 use Rattle.poly.specs.Counting.{All, Distinct, Elements}
 use Rattle.poly.specs.Interpolation.{following}
 use Rattle.poly.specs.Nodes.{Rising, lastOf, missing}
-use Rattle.poly.proofs.Lists.{all-map, all-join}
+use Rattle.poly.proofs.Lists.{all-map, all-zip, all-join}
 
 pub rising-most : (a : ℕ) (xs : List ℕ) → Rising a xs → a ≤ lastOf a xs
 rising-most a [] r = omega arith
@@ -77,3 +77,25 @@ missing-gap a x xs h =
     let n : suc a ≡ a + 1 = omega arith in
     ap (λ (k : ℕ). following a k ++ missing x xs) q
     ∙ ap (λ (k : ℕ). k ∷ (following k (x - suc k) ++ missing x xs)) n
+
+-- the first numbers and the further ones
+pub rising-take : (a : ℕ) (xs : List ℕ) (k : ℕ) → Rising a xs → Rising a (take k xs)
+rising-take a xs ℕ.zero r = tt
+rising-take a [] (suc k) r = tt
+rising-take a (x ∷ xs) (suc k) r = (r .0, rising-take x xs k (r .1))
+
+rising-drop : (a : ℕ) (xs : List ℕ) (k : ℕ) → Rising a xs → Rising (lastOf a (take k xs)) (drop k xs)
+rising-drop a xs ℕ.zero r = r
+rising-drop a [] (suc k) r = tt
+rising-drop a (x ∷ xs) (suc k) r = rising-drop x xs k (r .1)
+
+last-of-drop : (a : ℕ) (xs : List ℕ) (k : ℕ) → lastOf (lastOf a (take k xs)) (drop k xs) ≡ lastOf a xs
+last-of-drop a xs ℕ.zero = refl
+last-of-drop a [] (suc k) = refl
+last-of-drop a (x ∷ xs) (suc k) = last-of-drop x xs k
+
+pub rising-further : (a : ℕ) (xs : List ℕ) (k : ℕ) → Rising a xs
+    → All (λ z. (suc (lastOf a (take k xs)) ≤ z) × (z ≤ lastOf a xs)) (drop k xs)
+rising-further a xs k r =
+    all-zip (λ z b c. (b, omega (arith, c, last-of-drop a xs k))) (drop k xs) (rising-above (lastOf a (take k xs)) (drop k xs) (rising-drop a xs k r))
+    (rising-below (lastOf a (take k xs)) (drop k xs) (rising-drop a xs k r))

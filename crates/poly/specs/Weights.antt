@@ -92,3 +92,11 @@ pub record Further (m : ℕ) (further shares inverses above below : List ℕ) : 
   pub reached : All (λ z. (suc m ≤ z) × (z ≤ length inverses)) further
   pub above-room : length above ≡ suc m
   pub below-room : length below ≡ suc m
+
+-- What a caller lends: the table, and room for as many numbers and one more.
+pub record Rooms (inverses gaps list above below : List ℕ) : Type 0 where
+  pub table : Inverts inverses
+  pub gap-room : length inverses ≤ length gaps
+  pub room : length inverses < length list
+  pub above-room : length inverses < length above
+  pub below-room : length inverses < length below

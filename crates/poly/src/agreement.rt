@@ -1,12 +1,12 @@
 // Request (iv): whether further values lie on the polynomial through the first ones, by two sums of products a value.
 ghost use mathlib.Core.Path.{_≡_};
 ghost use Prim.Native.Nat.{suc, _≤_, _<_};
-ghost use lib.ListN.{length};
+ghost use lib.ListN.{length, take, drop};
 ghost use Rattle.poly.specs.Agreement.{allAgree};
 ghost use Rattle.poly.specs.Counting.{All};
 ghost use Rattle.poly.specs.Interpolation.{interpolated};
 ghost use Rattle.poly.specs.Nodes.{lastOf};
-ghost use Rattle.poly.specs.Weights.{fits, allFit, tops, bottoms, Weighed, Cleared, Further, Prepared};
+ghost use Rattle.poly.specs.Weights.{fits, allFit, tops, bottoms, Weighed, Cleared, Further, Prepared, Rooms};
 
 // Whether the value y at z fits.
 fn fits(z: usize, y: u32, inverses: &[u32], above: &[u32], below: &[u32]) -> bool
@@ -117,7 +117,7 @@ fn agree_rising(
 }
 
 // The value at 0 of the polynomial through the first values, and whether all further ones lie on it.
-pub struct Through {
+pub struct Found {
     pub agree: bool,
     pub value: u32,
 }
@@ -132,13 +132,13 @@ fn through_rising(
     list: &mut [u32],
     above: &mut [u32],
     below: &mut [u32],
-) -> Through
+) -> Found
     requires { ⌜ Prepared (now nodes) (now inverses) (now gaps) (now list) × (length (now values) ≡ length (now nodes)) × Further (lastOf 0 (now nodes)) (now further) (now shares) (now inverses) (now above) (now below) ⌝ }
     ensures { λ r. ⌜ (r .value ≡ interpolated (now (nodes .entry)) (now (values .entry)) 0) × (r .agree ≡ allAgree (now (nodes .entry)) (now (values .entry)) (now (further .entry)) (now (shares .entry))) ⌝ }
 {
     let value = crate::posts::at_zero_rising(nodes, values, inverses, gaps, list);
     if further.len() == 0 {
-        return Through { agree: true, value };
+        return Found { agree: true, value };
     }
     let agree = agree_rising(
         nodes,
@@ -151,5 +151,51 @@ fn through_rising(
         above,
         below,
     );
-    Through { agree, value }
+    Found { agree, value }
+}
+
+// The same by the general way, whatever the nodes are.
+fn through_any(posts: &[u32], shares: &[u32], k: usize) -> Found
+    requires { ⌜ (k ≤ length (now posts)) × (length (now shares) ≡ length (now posts)) ⌝ }
+    ensures { λ r. ⌜ (r .value ≡ interpolated (take k (now (posts .entry))) (take k (now (shares .entry))) 0) × (r .agree ≡ allAgree (take k (now (posts .entry))) (take k (now (shares .entry))) (drop k (now (posts .entry))) (drop k (now (shares .entry)))) ⌝ }
+{
+    let value = crate::interpolate(&posts[..k], &shares[..k], 0);
+    let agree = all_agree(&posts[..k], &shares[..k], &posts[k..], &shares[k..]);
+    Found { agree, value }
+}
+
+// The value at 0 of the polynomial through the first k shares, and whether all further shares lie on it. The table of inverses is lent, and
+// room for as many numbers and one more.
+pub fn through(
+    posts: &[u32],
+    shares: &[u32],
+    k: usize,
+    inverses: &[u32],
+    gaps: &mut [u32],
+    list: &mut [u32],
+    above: &mut [u32],
+    below: &mut [u32],
+) -> Found
+    requires { ⌜ (k ≤ length (now posts)) × (length (now shares) ≡ length (now posts)) × Rooms (now inverses) (now gaps) (now list) (now above) (now below) ⌝ }
+    ensures { λ r. ⌜ (r .value ≡ interpolated (take k (now (posts .entry))) (take k (now (shares .entry))) 0) × (r .agree ≡ allAgree (take k (now (posts .entry))) (take k (now (shares .entry))) (drop k (now (posts .entry))) (drop k (now (shares .entry)))) ⌝ }
+{
+    if 0 < k {
+        if crate::posts::rises(posts, inverses.len()) {
+            let last = crate::posts::wide(posts[k - 1]);
+            let missed = last - k;
+            let end = last + 1;
+            return through_rising(
+                &posts[..k],
+                &shares[..k],
+                &posts[k..],
+                &shares[k..],
+                inverses,
+                &mut gaps[..missed],
+                &mut list[..end],
+                &mut above[..end],
+                &mut below[..end],
+            );
+        }
+    }
+    through_any(posts, shares, k)
 }
