@@ -99,3 +99,6 @@ pub rising-further : (a : ℕ) (xs : List ℕ) (k : ℕ) → Rising a xs
 rising-further a xs k r =
     all-zip (λ z b c. (b, omega (arith, c, last-of-drop a xs k))) (drop k xs) (rising-above (lastOf a (take k xs)) (drop k xs) (rising-drop a xs k r))
     (rising-below (lastOf a (take k xs)) (drop k xs) (rising-drop a xs k r))
+
+pub missing-small : (xs gs : List ℕ) → Rising 0 xs → lastOf 0 xs ≤ 255 → gs ≡ missing 0 xs → All (λ g. g ≤ 255) gs
+missing-small xs gs r h e = rw e (all-map (λ g b. omega (arith, b .1)) (missing 0 xs) (missing-between 0 xs r))

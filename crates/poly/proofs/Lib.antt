@@ -16,6 +16,7 @@ pub mod Gaps
 pub mod Alternating
 pub mod Rows
 pub mod Ascent
+pub mod Distances
 pub mod Moves
 pub mod Zero
 pub mod Entries

@@ -2,7 +2,7 @@
 // lends. Other nodes go by `interpolate`.
 ghost use mathlib.Core.Path.{_≡_};
 ghost use mathlib.Core.List.{_∷_, map};
-ghost use Prim.Native.Nat.{_+_, _-_, _≤_, _<_};
+ghost use Prim.Native.Nat.{_+_, _-_, _%_, _≤_, _<_};
 ghost use lib.ListN.{length, take};
 ghost use Rattle.field.specs.Modulus.{p};
 ghost use Rattle.field.specs.Arithmetic.{difference, product};
@@ -107,15 +107,40 @@ fn missing(nodes: &[u32], list: &mut [u32])
     }
 }
 
+// (x - a) (x - b), with p added so that it is no negative number: small numbers need no remainder.
+fn pair(x: u32, a: u32, b: u32) -> u32
+    requires { ⌜ (x ≤ 255) × (a ≤ 255) × (b ≤ 255) ⌝ }
+    ensures { λ r. ⌜ r % p ≡ product (difference x a) (difference x b) ⌝ }
+{
+    field::P + (x * x + a * b) - (a + b) * x
+}
+
+// The product of x - g over small numbers g, four to a turn.
+fn distances(gaps: &[u32], x: u32) -> u32
+    requires { ⌜ (x ≤ 255) × All (λ g. g ≤ 255) (now gaps) ⌝ }
+    ensures { λ r. ⌜ r ≡ nodal (now (gaps .entry)) x ⌝ }
+{
+    let n = gaps.len();
+    let mut r: u32 = 1;
+    let mut i = 0;
+    while 3 < n - i {
+        let first = pair(x, gaps[i], gaps[i + 1]);
+        let second = pair(x, gaps[i + 2], gaps[i + 3]);
+        r = field::mul(r, field::mul(first, second));
+        i += 4;
+    }
+    field::mul(r, crate::node_product(&gaps[i..], x))
+}
+
 // The weights of 0 and the nodes move to the front of the list of all numbers' weights, each times its distances to the gaps.
 fn weigh_nodes(nodes: &[u32], gaps: &[u32], list: &mut [u32])
-    requires { ⌜ Rising 0 (now nodes) × (lastOf 0 (now nodes) < length (now list)) × (now list ≡ firsts (alternating (lastOf 0 (now nodes))) (length (now list))) ⌝ }
+    requires { ⌜ Rising 0 (now nodes) × (lastOf 0 (now nodes) ≤ 255) × All (λ g. g ≤ 255) (now gaps) × (lastOf 0 (now nodes) < length (now list)) × (now list ≡ firsts (alternating (lastOf 0 (now nodes))) (length (now list))) ⌝ }
     ensures { λ r. ⌜ take (length (now (nodes .entry)) + 1) (now (list .exit)) ≡ map (nodeWeight (lastOf 0 (now (nodes .entry))) (now (gaps .entry))) (0 ∷ now (nodes .entry)) ⌝ }
 {
-    list[0] = crate::node_product(gaps, 0);
+    list[0] = distances(gaps, 0);
     for i in 0..nodes.len() {
         let x = wide(nodes[i]);
-        list[i + 1] = field::mul(list[x], crate::node_product(gaps, nodes[i]));
+        list[i + 1] = field::mul(list[x], distances(gaps, nodes[i]));
     }
 }
 
@@ -134,7 +159,7 @@ fn inverse_product(list: &[u32], inverses: &[u32]) -> u32
 
 // The missing numbers and with them the nodes' weights, where a number is missing.
 fn weigh_gaps(nodes: &[u32], gaps: &mut [u32], list: &mut [u32])
-    requires { ⌜ Rising 0 (now nodes) × (length (now gaps) ≡ length (missing 0 (now nodes))) × (lastOf 0 (now nodes) < length (now list)) × (now list ≡ firsts (alternating (lastOf 0 (now nodes))) (length (now list))) ⌝ }
+    requires { ⌜ Rising 0 (now nodes) × (lastOf 0 (now nodes) ≤ 255) × (length (now gaps) ≡ length (missing 0 (now nodes))) × (lastOf 0 (now nodes) < length (now list)) × (now list ≡ firsts (alternating (lastOf 0 (now nodes))) (length (now list))) ⌝ }
     ensures { λ r. ⌜ (now (gaps .exit) ≡ missing 0 (now (nodes .entry))) × (take (length (now (nodes .entry)) + 1) (now (list .exit)) ≡ map (nodeWeight (lastOf 0 (now (nodes .entry))) (missing 0 (now (nodes .entry)))) (0 ∷ now (nodes .entry))) ⌝ }
 {
     missing(nodes, gaps);

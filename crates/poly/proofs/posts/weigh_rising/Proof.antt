@@ -20,6 +20,7 @@ weigh-gaps-requires c κs =
     let a = c .before .before .before .before .before .before .before .before .before .before .before in
     let row = c .before .before .before .before .before .binomials .ensures in (
       a .pre .rising,
+      omega (arith, a .pre .within, a .pre .table .short),
       gap-count _ _ _ _ (a .pre),
       omega (arith, row-length _ _ _ _ (a .pre) _ _ refl row),
       row-of-last _ _ _ _ (a .pre) _ _ refl row,
