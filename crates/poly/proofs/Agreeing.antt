@@ -1,5 +1,5 @@
 -- The claims about agreement: further values that lie on the polynomial through the first ones.
-use Prim.Native.Nat.{ℕ, suc, _+_, _≤_}
+use Prim.Native.Nat.{ℕ, _+_}
 use mathlib.Core.Path.{_≡_, refl, sym, _∙_, ap}
 use mathlib.Core.Logic.{_⊎_, inl, inr}
 use mathlib.Core.Bool.{Bool, true, false}
@@ -7,13 +7,11 @@ use mathlib.Core.List.{List, [], _∷_, _++_, map}
 use native.Mathlib.Nat.{suc-inj}
 use native.Mathlib.Omega.{arith}
 use borrow.Author.Tests.{eqb-true, eq-eqb}
-use lib.Dec.{eqb}
 use lib.ListN.{length, length-map}
 use Rattle.field.specs.Element.{Element, element}
 use Rattle.field.proofs.Elements.{𝓡, elements, element-injective}
 use Rattle.poly.specs.Polynomial.{value}
 use Rattle.poly.specs.Interpolation.{interpolated}
-use Rattle.poly.specs.Counting.{All, Distinct, Elements}
 use Rattle.poly.specs.Agreement.{agrees, allPairs, allAgree, Given}
 use Rattle.poly.specs.Claims.{AgreementExact, TrueValuesAgree}
 use Rattle.poly.proofs.Bounds.{value-below, interpolated-below}

@@ -2,7 +2,7 @@
 use mathlib.Core.Path.{_≡_, refl, sym, _∙_, ap, ap₂}
 use mathlib.Core.Bool.{Bool, true, false}
 use mathlib.Core.Logic.{_≢_}
-use mathlib.Core.List.{List, [], _∷_, map}
+use mathlib.Core.List.{List, [], _∷_}
 use Prim.Native.Nat.{ℕ, suc, _+_, _-_, _%_, _≤_, _<_}
 use native.Mathlib.Nat.{mod-eq-of-lt, mod-mod}
 use native.Mathlib.Numerals.{add-one}
@@ -11,16 +11,15 @@ use borrow.Author.Tests.{eqb-true, eqb-false}
 use lib.Dec.{eqb, lit<}
 use Rattle.field.specs.Modulus.{p}
 use Rattle.field.specs.Arithmetic.{difference, product}
-use Rattle.field.specs.Algebra.{CommutativeRing, Field}
+use Rattle.field.specs.Algebra.{CommutativeRing}
 use Rattle.field.specs.Element.{Element, element}
-use Rattle.field.proofs.Expression.{A, B, C, D, 𝟙, _:+_, _:*_, _:-_, :-_, Same}
+use Rattle.field.proofs.Expression.{A, B, C, 𝟙, _:+_, _:*_, _:-_, :-_, Same}
 use Rattle.field.proofs.Ring.{one-mul}
 use Rattle.field.proofs.Solver.{solve}
 use Rattle.field.proofs.Elements.{𝓡, elements, element-path, element-zero, element-one, element-product, element-difference, element-add, element-negative, element-injective}
 use Rattle.field.proofs.Modular.{difference-below, product-below}
 use Rattle.poly.specs.Weights.{alternating, mirrored, nodeWeight}
-use Rattle.poly.proofs.Coefficients.{nodalAt}
-use Rattle.poly.proofs.Numbers.{toElements, element-nodal}
+use Rattle.poly.proofs.Numbers.{element-nodal}
 use Rattle.poly.proofs.Pascal.{pascal, pascal-next, pascal-mirror, sign}
 use Rattle.poly.proofs.Gaps.{gapped}
 open CommutativeRing 𝓡 using (add as _⊕_, mul as _⊗_, neg, one as 1ᴱ, mul-one)

@@ -5,12 +5,11 @@ use mathlib.Core.Path.{_≡_, refl, sym, _∙_, ap, ap₂}
 use mathlib.Core.Logic.{_≢_}
 use mathlib.Core.List.{List, [], _∷_, map}
 use Prim.Native.Nat.{ℕ, suc, _≤_}
-use native.Mathlib.Nat.{le-of-suc-le-suc}
 use native.Mathlib.Omega.{arith}
 use lib.ListN.{length, length-map}
 use Rattle.field.specs.Algebra.{CommutativeRing, Field}
 use Rattle.field.proofs.Ring.{mul-zero, zero-mul}
-use Rattle.field.proofs.Expression.{A, B, C, D, E, F, 𝟘, 𝟙, _:+_, _:*_, _:-_, :-_, Same}
+use Rattle.field.proofs.Expression.{A, B, C, D, E, F, 𝟘, _:+_, _:*_, _:-_, :-_, Same}
 use Rattle.field.proofs.Solver.{solve}
 use Rattle.field.proofs.Fields.{equal-of-difference-zero, zero-of-product-zero, product-nonzero, difference-nonzero}
 use Rattle.poly.specs.Counting.{All}

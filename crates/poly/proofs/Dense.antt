@@ -3,20 +3,19 @@ use Prim.Native.Nat.{ℕ, suc, _+_, _-_, _≤_, _<_}
 use mathlib.Core.Path.{_≡_, refl, sym, _∙_, ap, ap₂}
 use mathlib.Core.Logic.{_≢_}
 use mathlib.Core.Bool.{Bool, true, false}
-use mathlib.Core.List.{List, [], _∷_, map}
+use mathlib.Core.List.{List, [], _∷_}
 use native.Mathlib.Nat.{le-of-suc-le-suc, not-suc-le-zero}
-use native.Mathlib.Numerals.{add-one}
 use native.Mathlib.Omega.{arith}
 use native.Mathlib.Decide.{decLt, ℕ-discrete}
 use borrow.Author.Tests.{eq-eqb, ne-eqb, lt-ltb, le-ltb}
 use lib.Dec.{eqb, ltb, lit<}
-use lib.ListN.{length, take, drop, getD, length-drop}
+use lib.ListN.{length, drop, getD, length-drop}
 use lib.Seq.{getD-take, getD-drop, length-take-le}
 use Rattle.field.specs.Modulus.{p}
 use Rattle.field.specs.Arithmetic.{product}
 use Rattle.field.specs.Algebra.{CommutativeRing, Field}
 use Rattle.field.specs.Element.{Element, element}
-use Rattle.field.proofs.Expression.{A, B, C, _:+_, _:*_, _:-_, Same}
+use Rattle.field.proofs.Expression.{A, B, _:+_, _:-_, Same}
 use Rattle.field.proofs.Ring.{one-mul}
 use Rattle.field.proofs.Solver.{solve}
 use Rattle.field.proofs.Elements.{𝓡, elements, element-zero, element-one, element-sum, element-product, element-add, element-injective}
@@ -26,7 +25,7 @@ use Rattle.poly.specs.Interpolation.{interpolated}
 use Rattle.poly.specs.InverseTable.{Inverts}
 use Rattle.poly.specs.Nodes.{Rising, lastOf, missing}
 use Rattle.poly.specs.Polynomial.{weighted}
-use Rattle.poly.specs.Agreement.{allPairs, agrees}
+use Rattle.poly.specs.Agreement.{agrees}
 use Rattle.poly.specs.Weights.{nodeWeight, firsts, tablePart, fits}
 use Rattle.poly.proofs.Lists.{all-map, all-of, all-under, all-zip}
 use Rattle.poly.proofs.Bounds.{weighted-below, interpolated-below}
@@ -38,7 +37,7 @@ use Rattle.poly.proofs.Sums.{sumBelow, sumOver, sumBelow-same, sumBelow
 use Rattle.poly.proofs.Barycentric.{over, above, below, sums-of-fit, fit-of-sums}
 use Rattle.poly.proofs.Gaps.{over-nodes}
 use Rattle.poly.proofs.Alternating.{element-suc, element-nodeWeight}
-use Rattle.poly.proofs.Ascent.{rising-above, rising-below, rising-most, missing-between}
+use Rattle.poly.proofs.Ascent.{rising-above, rising-below, missing-between}
 use Rattle.poly.proofs.Rows.{length-firsts, firsts-at}
 use Rattle.poly.proofs.Zero.{δ, δ-kills, passing, passing-few, passing-at, first-weight}
 open CommutativeRing 𝓡 using (add as _⊕_, mul as _⊗_, neg, zero as 0ᴱ, one as 1ᴱ, mul-assoc, mul-one)

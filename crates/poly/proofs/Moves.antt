@@ -5,10 +5,10 @@ use mathlib.Core.List.{List, [], _∷_, _++_, append-assoc, append-nil, map, map
 use native.Mathlib.Decide.{decLt}
 use native.Mathlib.Numerals.{add-one}
 use native.Mathlib.Omega.{arith}
-use lib.ListN.{length, take, drop, getD, set, length-set, length-append, drop-of-length-le}
+use lib.ListN.{length, take, drop, getD, set, length-set, drop-of-length-le}
 use lib.Seq.{drop-cons, take-suc, take-suc-set, take-all, take-append-le, length-take-le, getD-set-other}
 use Rattle.field.specs.Arithmetic.{difference, product}
-use Rattle.field.proofs.Modular.{difference-below, product-below, product-assoc, product-comm, product-one}
+use Rattle.field.proofs.Modular.{difference-below, product-assoc, product-comm, product-one}
 use Rattle.poly.specs.Interpolation.{nodal}
 use Rattle.poly.specs.Nodes.{Rising, lastOf, missing}
 use Rattle.poly.specs.Weights.{alternating, nodeWeight, firsts}

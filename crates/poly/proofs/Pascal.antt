@@ -7,7 +7,7 @@ use native.Mathlib.Omega.{arith}
 use lib.ListN.{length}
 use Rattle.field.specs.Algebra.{CommutativeRing}
 use Rattle.field.proofs.Ring.{zero-mul, mul-zero}
-use Rattle.field.proofs.Expression.{A, B, C, D, E, F, 𝟘, 𝟙, _:+_, _:*_, _:-_, :-_, Same}
+use Rattle.field.proofs.Expression.{A, B, C, D, E, 𝟘, 𝟙, _:+_, _:*_, _:-_, :-_, Same}
 use Rattle.field.proofs.Solver.{solve}
 use Rattle.poly.proofs.Coefficients.{ev, plus, times, ev-plus, ev-times, length-plus, length-times}
 use Rattle.poly.proofs.Sums.{sumBelow, sumBelow-same, sumBelow-less}

@@ -1,12 +1,12 @@
 -- The turns of `agreement::spread`: numbers that are put into a cleared list at their nodes' places, 0 where a number is missing.
 use Prim.Native.Nat.{ℕ, suc, _+_, _-_, _*_, _%_, _≤_, _<_}
 use mathlib.Core.Path.{_≡_, refl, sym, _∙_, ap, ap₂, subst}
-use mathlib.Core.List.{List, [], _∷_, _++_, map}
+use mathlib.Core.List.{List, [], _∷_, map}
 use native.Mathlib.Nat.{le-of-suc-le-suc, not-suc-le-zero, zero-mul, mul-zero, mod-eq-of-lt}
 use native.Mathlib.Numerals.{add-one}
-use native.Mathlib.Decide.{decLt, ℕ-discrete}
+use native.Mathlib.Decide.{decLt}
 use native.Mathlib.Omega.{arith}
-use lib.ListN.{length, take, drop, getD, set, length-set}
+use lib.ListN.{length, take, getD, set, length-set}
 use lib.Seq.{take-all, getD-take, getD-set-same, getD-set-other, ext-getD}
 use Rattle.field.specs.Modulus.{p}
 use Rattle.field.specs.Arithmetic.{difference, product}
@@ -15,12 +15,12 @@ use Rattle.field.proofs.Elements.{𝓡, element-product, element-injective}
 use Rattle.field.proofs.Modular.{product-below}
 use Rattle.poly.specs.Interpolation.{nodal, interpolated, following}
 use Rattle.poly.specs.Nodes.{Rising, lastOf, missing}
-use Rattle.poly.specs.Weights.{nodeWeight, firsts, tops, bottoms, Weighed}
+use Rattle.poly.specs.Weights.{nodeWeight, firsts, Weighed}
 use Rattle.poly.proofs.Turns.{nodal-join}
 use Rattle.poly.proofs.Coefficients.{ev}
 use Rattle.poly.proofs.Numbers.{toElements}
-use Rattle.poly.proofs.Rows.{length-firsts, firsts-at, firsts-read}
-use Rattle.poly.proofs.Ascent.{rising-next, rising-count, rising-last, last-of-take, rising-most}
+use Rattle.poly.proofs.Rows.{length-firsts, firsts-at}
+use Rattle.poly.proofs.Ascent.{rising-next, rising-count, rising-last, last-of-take}
 use Rattle.poly.proofs.Zero.{passing, passing-passes, passing-at}
 
 -- a number between two nodes that follow each other is missing: the product over the missing ones is 0 there

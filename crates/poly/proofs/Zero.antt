@@ -9,9 +9,9 @@ use lib.ListN.{length, take, drop, getD, length-map, length-append}
 use lib.Seq.{take-all, length-take-le}
 use Rattle.field.specs.Modulus.{p}
 use Rattle.field.specs.Arithmetic.{difference, product}
-use Rattle.field.specs.Algebra.{CommutativeRing, Field}
+use Rattle.field.specs.Algebra.{CommutativeRing}
 use Rattle.field.specs.Element.{Element, element}
-use Rattle.field.proofs.Expression.{A, B, C, _:*_, :-_, Same}
+use Rattle.field.proofs.Expression.{A, B, C, _:*_, Same}
 use Rattle.field.proofs.Ring.{one-mul}
 use Rattle.field.proofs.Solver.{solve}
 use Rattle.field.proofs.Elements.{𝓡, elements, element-zero, element-one, element-sum, element-product, element-negative, element-injective}
@@ -24,7 +24,7 @@ use Rattle.poly.specs.Polynomial.{weighted}
 use Rattle.poly.specs.Weights.{alternating, nodeWeight, firsts, risesTo, Prepared}
 use Rattle.poly.proofs.Lists.{all-of, all-map, map-same}
 use Rattle.poly.proofs.Bounds.{interpolated-below}
-use Rattle.poly.proofs.Coefficients.{ev, nodalAt}
+use Rattle.poly.proofs.Coefficients.{ev}
 use Rattle.poly.proofs.Lagrange.{Passes, through, through-passes}
 use Rattle.poly.proofs.Numbers.{toElements, element-nodal, element-interpolated, distinct-elements}
 use Rattle.poly.proofs.Sums.{sumOver, sumOver-same}

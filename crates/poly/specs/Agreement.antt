@@ -22,6 +22,10 @@ allPairs test (z ∷ zs) (w ∷ ws) = elim (test z w) [ true ↦ allPairs test z
 abbrev pub allAgree : List ℕ → List ℕ → List ℕ → List ℕ → Bool
 allAgree xs ys zs ws = allPairs (agrees xs ys) zs ws
 
+-- the value at 0 of the polynomial, and whether all further values lie on it
+abbrev pub Settles : List ℕ → List ℕ → List ℕ → List ℕ → ℕ → Bool → Type 0
+Settles xs ys zs ws value agree = (value ≡ interpolated xs ys 0) × (agree ≡ allAgree xs ys zs ws)
+
 -- the value y at x is one of those given at nodes
 abbrev pub Given : ℕ → ℕ → List ℕ → List ℕ → Type 0
 Given x y [] vs = ⊥

@@ -1,5 +1,5 @@
 -- Rising nodes, and the numbers that are missing among them.
-use Prim.Native.Nat.{ℕ, suc, _-_, _≤_, _<_}
+use Prim.Native.Nat.{ℕ, suc, _-_, _<_}
 use mathlib.Core.List.{List, [], _∷_, _++_}
 use Rattle.poly.specs.Interpolation.{following}
 

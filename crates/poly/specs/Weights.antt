@@ -33,6 +33,10 @@ unfoldable pub firsts : (ℕ → ℕ) → ℕ → List ℕ
 firsts f zero = []
 firsts f (suc n) = firsts f n ++ (f n ∷ [])
 
+-- The row of n numbers: the weights of 0 to n - 1.
+abbrev pub row : ℕ → List ℕ
+row n = firsts (alternating (n - 1)) n
+
 -- The test whether numbers rise, from above a to at most a limit.
 unfoldable pub risesTo : ℕ → ℕ → List ℕ → Bool
 risesTo limit a [] = leb a limit

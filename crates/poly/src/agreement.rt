@@ -2,9 +2,8 @@
 ghost use mathlib.Core.Path.{_≡_};
 ghost use Prim.Native.Nat.{suc, _≤_, _<_};
 ghost use lib.ListN.{length, take, drop};
-ghost use Rattle.poly.specs.Agreement.{allAgree};
+ghost use Rattle.poly.specs.Agreement.{allAgree, Settles};
 ghost use Rattle.poly.specs.Counting.{All};
-ghost use Rattle.poly.specs.Interpolation.{interpolated};
 ghost use Rattle.poly.specs.Nodes.{lastOf};
 ghost use Rattle.poly.specs.Weights.{fits, allFit, tops, bottoms, Weighed, Cleared, Further, Prepared, Rooms};
 
@@ -134,7 +133,7 @@ fn through_rising(
     below: &mut [u32],
 ) -> Found
     requires { ⌜ Prepared (now nodes) (now inverses) (now gaps) (now list) × (length (now values) ≡ length (now nodes)) × Further (lastOf 0 (now nodes)) (now further) (now shares) (now inverses) (now above) (now below) ⌝ }
-    ensures { λ r. ⌜ (r .value ≡ interpolated (now (nodes .entry)) (now (values .entry)) 0) × (r .agree ≡ allAgree (now (nodes .entry)) (now (values .entry)) (now (further .entry)) (now (shares .entry))) ⌝ }
+    ensures { λ r. ⌜ Settles (now (nodes .entry)) (now (values .entry)) (now (further .entry)) (now (shares .entry)) (r .value) (r .agree) ⌝ }
 {
     let value = crate::posts::at_zero_rising(nodes, values, inverses, gaps, list);
     if further.len() == 0 {
@@ -157,7 +156,7 @@ fn through_rising(
 // The same by the general way, whatever the nodes are.
 fn through_any(posts: &[u32], shares: &[u32], k: usize) -> Found
     requires { ⌜ (k ≤ length (now posts)) × (length (now shares) ≡ length (now posts)) ⌝ }
-    ensures { λ r. ⌜ (r .value ≡ interpolated (take k (now (posts .entry))) (take k (now (shares .entry))) 0) × (r .agree ≡ allAgree (take k (now (posts .entry))) (take k (now (shares .entry))) (drop k (now (posts .entry))) (drop k (now (shares .entry)))) ⌝ }
+    ensures { λ r. ⌜ Settles (take k (now (posts .entry))) (take k (now (shares .entry))) (drop k (now (posts .entry))) (drop k (now (shares .entry))) (r .value) (r .agree) ⌝ }
 {
     let value = crate::interpolate(&posts[..k], &shares[..k], 0);
     let agree = all_agree(&posts[..k], &shares[..k], &posts[k..], &shares[k..]);
@@ -177,7 +176,7 @@ pub fn through(
     below: &mut [u32],
 ) -> Found
     requires { ⌜ (k ≤ length (now posts)) × (length (now shares) ≡ length (now posts)) × Rooms (now inverses) (now gaps) (now list) (now above) (now below) ⌝ }
-    ensures { λ r. ⌜ (r .value ≡ interpolated (take k (now (posts .entry))) (take k (now (shares .entry))) 0) × (r .agree ≡ allAgree (take k (now (posts .entry))) (take k (now (shares .entry))) (drop k (now (posts .entry))) (drop k (now (shares .entry)))) ⌝ }
+    ensures { λ r. ⌜ Settles (take k (now (posts .entry))) (take k (now (shares .entry))) (drop k (now (posts .entry))) (drop k (now (shares .entry))) (r .value) (r .agree) ⌝ }
 {
     if 0 < k {
         if crate::posts::rises(posts, inverses.len()) {

@@ -10,7 +10,7 @@ ghost use Rattle.poly.specs.Counting.{All};
 ghost use Rattle.poly.specs.InverseTable.{Inverts};
 ghost use Rattle.poly.specs.Interpolation.{nodal, interpolated};
 ghost use Rattle.poly.specs.Nodes.{Rising, lastOf, missing};
-ghost use Rattle.poly.specs.Weights.{alternating, mirrored, nodeWeight, firsts, risesTo, Prepared, WeightsOf};
+ghost use Rattle.poly.specs.Weights.{alternating, mirrored, nodeWeight, firsts, row, risesTo, Prepared, WeightsOf};
 
 pub fn wide(x: u32) -> usize
     ensures { λ r. ⌜ r ≡ x ⌝ }
@@ -68,7 +68,7 @@ fn mirrored(b: u32, n: usize) -> u32
 // The weights from the middle on.
 fn upper_half(list: &mut [u32], half: usize)
     requires { ⌜ (half ≤ length (now list)) × (length (now list) ≤ half + half) × (take half (now list) ≡ firsts (alternating (length (now list) - 1)) half) ⌝ }
-    ensures { λ r. ⌜ now (list .exit) ≡ firsts (alternating (length (now (list .entry)) - 1)) (length (now (list .entry))) ⌝ }
+    ensures { λ r. ⌜ now (list .exit) ≡ row (length (now (list .entry))) ⌝ }
 {
     let n = list.len();
     for x in half..n {
@@ -79,7 +79,7 @@ fn upper_half(list: &mut [u32], half: usize)
 // The weights of 0 to m fill a list of m + 1: Pascal's triangle with signs, whose rows read the same from both ends.
 fn binomials(inverses: &[u32], list: &mut [u32])
     requires { ⌜ Inverts (now inverses) × (length (now list) ≤ length (now inverses) + 1) × (0 < length (now list)) ⌝ }
-    ensures { λ r. ⌜ now (list .exit) ≡ firsts (alternating (length (now (list .entry)) - 1)) (length (now (list .entry))) ⌝ }
+    ensures { λ r. ⌜ now (list .exit) ≡ row (length (now (list .entry))) ⌝ }
 {
     let n = list.len();
     let half = (n + 1) / 2;
@@ -160,7 +160,7 @@ fn inverse_product(list: &[u32], inverses: &[u32]) -> u32
 // The missing numbers and with them the nodes' weights, where a number is missing.
 fn weigh_gaps(nodes: &[u32], gaps: &mut [u32], list: &mut [u32])
     requires { ⌜ Rising 0 (now nodes) × (lastOf 0 (now nodes) ≤ 255) × (length (now gaps) ≡ length (missing 0 (now nodes))) × (lastOf 0 (now nodes) < length (now list)) × (now list ≡ firsts (alternating (lastOf 0 (now nodes))) (length (now list))) ⌝ }
-    ensures { λ r. ⌜ (now (gaps .exit) ≡ missing 0 (now (nodes .entry))) × (take (length (now (nodes .entry)) + 1) (now (list .exit)) ≡ map (nodeWeight (lastOf 0 (now (nodes .entry))) (missing 0 (now (nodes .entry)))) (0 ∷ now (nodes .entry))) ⌝ }
+    ensures { λ r. ⌜ (now (gaps .exit) ≡ missing 0 (now (nodes .entry))) × WeightsOf (now (nodes .entry)) (now (list .exit)) ⌝ }
 {
     missing(nodes, gaps);
     weigh_nodes(nodes, gaps, list);
@@ -169,7 +169,7 @@ fn weigh_gaps(nodes: &[u32], gaps: &mut [u32], list: &mut [u32])
 // The missing numbers, and the weights of 0 and the nodes at the front of the list.
 fn weigh_rising(nodes: &[u32], inverses: &[u32], gaps: &mut [u32], list: &mut [u32])
     requires { ⌜ Prepared (now nodes) (now inverses) (now gaps) (now list) ⌝ }
-    ensures { λ r. ⌜ (now (gaps .exit) ≡ missing 0 (now (nodes .entry))) × (take (length (now (nodes .entry)) + 1) (now (list .exit)) ≡ map (nodeWeight (lastOf 0 (now (nodes .entry))) (missing 0 (now (nodes .entry)))) (0 ∷ now (nodes .entry))) ⌝ }
+    ensures { λ r. ⌜ (now (gaps .exit) ≡ missing 0 (now (nodes .entry))) × WeightsOf (now (nodes .entry)) (now (list .exit)) ⌝ }
 {
     binomials(inverses, list);
     if gaps.len() == 0 {

@@ -93,4 +93,8 @@ returns c =
 pub spread-spec : {M : Type 1} → statement M
 spread-spec =
     tie.close
-    (tie.spec Inv-loop μ-loop (λ c. search needs) (λ c. search needs) (λ c. search needs) (λ c. search needs) (λ c. search needs) (λ c κs. search needs) (λ c. search needs) (λ c. search needs) loop-holds (λ c. search needs) (λ c. search needs) (λ c κs. search needs) sub-at (λ c. search needs) mul-weight shared-slice-read-weight mul-below-2 slice-write-below-2 (λ c. search needs) shared-slice-read-mul-2 (λ c κs. search needs) mul-above-2 slice-write-above-2 (λ c. search needs) (λ c. search needs) loop-again same-length same-length-2 returns)
+    (tie.spec Inv-loop μ-loop (λ c. search needs) (λ c. search needs) (λ c. search needs) (λ c. search needs) (λ c. search needs)
+    (λ c κs. search needs) (λ c. search needs) (λ c. search needs) loop-holds (λ c. search needs) (λ c. search needs)
+    (λ c κs. search needs) sub-at (λ c. search needs) mul-weight shared-slice-read-weight mul-below-2 slice-write-below-2
+    (λ c. search needs) shared-slice-read-mul-2 (λ c κs. search needs) mul-above-2 slice-write-above-2 (λ c. search needs)
+    (λ c. search needs) loop-again same-length same-length-2 returns)

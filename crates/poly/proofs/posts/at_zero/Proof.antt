@@ -54,4 +54,6 @@ at-zero-rising-requires c κs =
 pub at-zero-spec : {M : Type 1} → statement M
 at-zero-spec =
     tie.close
-    (tie.spec (λ c κs. search needs) (λ c. search needs) (λ c. search needs) (λ c. search needs) (λ c κs. search needs) sub-missed add-end slice-relend-prefix-at-zero-rising slice-aggregate-at-zero-rising slice-relend-prefix-at-zero-rising-2 slice-aggregate-at-zero-rising-2 at-zero-rising-requires (λ c. search needs) (λ c. search needs) (λ c. search needs) (λ c κs. search needs) (λ c. search needs))
+    (tie.spec (λ c κs. search needs) (λ c. search needs) (λ c. search needs) (λ c. search needs) (λ c κs. search needs) sub-missed add-end
+    slice-relend-prefix-at-zero-rising slice-aggregate-at-zero-rising slice-relend-prefix-at-zero-rising-2 slice-aggregate-at-zero-rising-2
+    at-zero-rising-requires (λ c. search needs) (λ c. search needs) (λ c. search needs) (λ c κs. search needs) (λ c. search needs))

@@ -4,7 +4,7 @@ use mathlib.Core.Path.{_≡_}
 use lib.ListN.{length, take}
 use denote.Ref.{now}
 use borrow.Author.Needs.{needs}
-use Rattle.field.specs.Arithmetic.{difference, product}
+use Rattle.field.specs.Arithmetic.{product}
 use Rattle.poly.specs.Interpolation.{nodal}
 use Rattle.poly.proofs.Lists.{all-at}
 use Rattle.poly.proofs.Moves.{inverses-start, inverses-turn, inverses-end}

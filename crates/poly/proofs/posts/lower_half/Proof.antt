@@ -1,8 +1,7 @@
 -- `poly::posts::lower_half` meets its contract: the first x weights are there, and b is the last of them.
-use Prim.Native.Nat.{_+_, _-_, _≤_}
-use mathlib.Core.Path.{_≡_, _∙_}
-use native.Mathlib.Omega.{arith}
-use lib.ListN.{length, take, length-set}
+use Prim.Native.Nat.{_-_, _≤_}
+use mathlib.Core.Path.{_≡_}
+use lib.ListN.{length, take}
 use borrow.Author.Needs.{needs}
 use Rattle.poly.specs.Weights.{alternating, firsts}
 use Rattle.poly.proofs.Rows.{row-first, row-start, row-next, row-at, firsts-turn, firsts-stop}

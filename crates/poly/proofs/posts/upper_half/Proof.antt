@@ -1,8 +1,7 @@
 -- `poly::posts::upper_half` meets its contract: the first x weights are there, the later ones mirrored.
-use Prim.Native.Nat.{_+_, _-_, _≤_}
-use mathlib.Core.Path.{_≡_, _∙_}
-use native.Mathlib.Omega.{arith}
-use lib.ListN.{length, take, length-set}
+use Prim.Native.Nat.{_-_, _≤_}
+use mathlib.Core.Path.{_≡_}
+use lib.ListN.{length, take}
 use borrow.Author.Needs.{needs}
 use Rattle.poly.specs.Weights.{alternating, firsts}
 use Rattle.poly.proofs.Rows.{row-below, row-mirror, firsts-turn, firsts-end}
