@@ -1,4 +1,5 @@
-// The shape of a station: the numbers that bound it, and the lengths that follow from n and t. Each stands here and nowhere else.
+// The shape of a station: the numbers that bound it, and the lengths that follow from n and t. The calls on a session take them
+// from here alone.
 ghost use mathlib.Core.Path.{_≡_};
 ghost use Rattle.shape.specs.Lengths.{needed, fLength, vLength, checksAt, sumsAt, rowLength, tripleLength, rowsLength, blockLength, recordLength, drawLength, tripleDrawLength, packsLength, masksLength, Valid};
 
