@@ -1,7 +1,7 @@
 /*
  * Gantsorol: verifiable secret sharing for dock posts.
  *
- * The library is libexports.a (`rt staticlib exports`). It needs no initialisation, allocates nothing, keeps nothing
+ * The library is libgantsorol.a (`rt staticlib gantsorol`). It needs no initialisation, allocates nothing, keeps nothing
  * between calls and may be called from several threads.
  *
  * Any values are allowed. Every call, whatever it is given, does its one job or answers with a refusal, the number of
@@ -82,8 +82,8 @@ typedef struct gantsorol_session {
        5 first row of a triple whose masks were sent, 6 spent */
     uint8_t marks[GANTSOROL_ROWS];
     /* the two factor rows that a triple's masks were sent for, at its first row */
-    uint8_t left[GANTSOROL_ROWS];
-    uint8_t right[GANTSOROL_ROWS];
+    uint8_t factor_a[GANTSOROL_ROWS];
+    uint8_t factor_b[GANTSOROL_ROWS];
 } gantsorol_session;
 
 /* What a call on a session hands back. */
@@ -180,14 +180,14 @@ gantsorol_answer gantsorol_masks(gantsorol_session session, const uint32_t *rows
                                  size_t first, uint32_t *out, size_t out_len);
 
 /*
- * The second half: opens a - l with the record left and b - l' with the record right, each as gantsorol_open does, and
+ * The second half: opens a - l with the record record_a and b - l' with the record record_b, each as gantsorol_open does, and
  * writes the product of a and b into the row first + 2. The marks 5, 4 and 4 of the triple become 6, 6 and 2: the
- * product is held like a dealt number. A sender's block has the first t+1 numbers of its masks in left, the last t+1 in
- * right. The rows remembered must still be held. A refused finish may be called again, with other records.
- * rows: GANTSOROL_ROWS_LEN, written. left, right: GANTSOROL_RECORD_LEN each, read. Refusals 1 to 9.
+ * product is held like a dealt number. A sender's block has the first t+1 numbers of its masks in record_a, the last t+1 in
+ * record_b. The rows remembered must still be held. A refused finish may be called again, with other records.
+ * rows: GANTSOROL_ROWS_LEN, written. record_a, record_b: GANTSOROL_RECORD_LEN each, read. Refusals 1 to 9.
  */
 gantsorol_answer gantsorol_finish(gantsorol_session session, uint32_t *rows, size_t rows_len, size_t first,
-                                  const uint32_t *left, size_t left_len, const uint32_t *right, size_t right_len);
+                                  const uint32_t *record_a, size_t record_a_len, const uint32_t *record_b, size_t record_b_len);
 
 /* ---- The factory and the dealer ---- */
 

@@ -9,7 +9,7 @@ use lib.ListN.{length, take}
 use Rattle.transcript.specs.declared.Progress.{Progress}
 use Rattle.transcript.specs.Text.{header}
 use Rattle.transcript.specs.Program.{Running, running, closed, drained, passed, printedFor, begun, fed, Open}
-use Rattle.transcript.specs.Limits.{openRefusal, Moved}
+use Rattle.transcript.specs.Limits.{feedRefusal, Moved}
 use Rattle.transcript.proofs.Admitting.{open-none}
 use Rattle.transcript.proofs.Whole.{chunks-print}
 use Rattle.console.specs.declared.Served.{Served}
@@ -29,10 +29,10 @@ module _ (s : Served) (b : Bool) (f : b ≡ brokenOff s) where
   unbroken-whole e = neither (s .got .failed) (s .printed .whole) (sym f ∙ e) .1
 
 module _ (s : Served) (rows blocks line out newLine : List ℕ) (g : Progress) (rows' blocks' out' : List ℕ)
-    (m : Moved (openRefusal (s .feed) rows blocks line out 1) 1 (s .feed) rows blocks line out
+    (m : Moved (feedRefusal (s .feed) rows blocks line out 1) 1 (s .feed) rows blocks line out
     (closed (running (s .feed) rows blocks line out)) newLine g rows' blocks' line out')
     (o : Open (s .feed) rows blocks line out 1) where
-  none : openRefusal (s .feed) rows blocks line out 1 ≡ 0
+  none : feedRefusal (s .feed) rows blocks line out 1 ≡ 0
   none = open-none (s .feed) rows blocks line out 1 o
 
   pub last-in : length out' ≡ length out → g .feed .at ≤ length out'

@@ -9,11 +9,11 @@ use lib.IntN.{ℤ, pos, negsuc}
 use lib.Signed.{ltZ}
 use lib.ListN.{length, take, length-take}
 use Rattle.io.specs.Counts.{clamped}
-use Rattle.station.proofs.Hearing.{prefix-length}
+use Rattle.interpreter.proofs.Hearing.{prefix-length}
 use Rattle.transcript.specs.declared.Feed.{Feed}
 use Rattle.transcript.specs.declared.Progress.{Progress}
 use Rattle.transcript.specs.Program.{Running, running, fed, drained, drainedFeed, Open, Fed}
-use Rattle.transcript.specs.Limits.{openRefusal, Moved}
+use Rattle.transcript.specs.Limits.{feedRefusal, Moved}
 use Rattle.transcript.proofs.Admitting.{open-none}
 use Rattle.console.specs.declared.Served.{Served}
 use Rattle.console.specs.declared.port.Printed.{Printed}
@@ -33,10 +33,10 @@ handed-first answers out at before after h e q =
 
 -- ---- a chunk is not refused
 module _ (f : Feed) (rows blocks line out chunk newLine : List ℕ) (g : Progress) (rows' blocks' line' out' : List ℕ)
-    (m : Moved (openRefusal f rows blocks line out (length chunk)) (length chunk) f rows blocks line out
+    (m : Moved (feedRefusal f rows blocks line out (length chunk)) (length chunk) f rows blocks line out
     (fed (running f rows blocks line out) chunk) newLine g rows' blocks' line' out')
     (o : Open f rows blocks line out chunkSize) (h : length chunk ≤ chunkSize) where
-  none : openRefusal f rows blocks line out (length chunk) ≡ 0
+  none : feedRefusal f rows blocks line out (length chunk) ≡ 0
   none = open-none f rows blocks line out (length chunk) (open-fewer f rows blocks line out (length chunk) chunkSize h o)
 
   d : Fed f (g .feed) rows' blocks' (length chunk)

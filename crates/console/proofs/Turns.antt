@@ -8,8 +8,8 @@ use native.Mathlib.Nat.{mod-add-mod}
 use borrow.Author.Tests.{eqb-false}
 use lib.Dec.{eqb}
 use lib.ListN.{length, take, length-replicate, length-append}
-use Rattle.station.specs.Step.{Ready}
-use Rattle.station.proofs.Hearing.{prefix-length}
+use Rattle.interpreter.specs.Step.{Ready}
+use Rattle.interpreter.proofs.Hearing.{prefix-length}
 use Rattle.transcript.specs.declared.Feed.{Feed}
 use Rattle.transcript.specs.Text.{header}
 use Rattle.transcript.specs.Program.{Running, running, fed, drained, passed, printedFor, begun, firstState, firstFeed, Open}

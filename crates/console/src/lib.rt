@@ -60,7 +60,7 @@ fn answer_chunk(
     ensures { λ r. ⌜ Open (r .feed) (now (rows .exit)) (now (blocks .exit)) (now (line .exit)) (now (out .exit)) 0
         × (r .feed .at ≡ 0) × (r .feed .number ≤ feed .number + chunkSize) ⌝ }
 {
-    let taken = transcript::read_chunk(feed, rows, blocks, line, chunk, out);
+    let taken = transcript::feed_chunk(feed, rows, blocks, line, chunk, out);
     let fed = taken.feed;
     let at = fed.at;
     let printed = port::print(before, &out[..at]);

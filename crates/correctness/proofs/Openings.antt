@@ -21,7 +21,7 @@ use Rattle.vectors.specs.Claims.{heldRow, Truly}
 use Rattle.vectors.proofs.Theorems.{true-accepted, opening-exact}
 use Rattle.runs.specs.Draws.{Plan, Draw, IsDraw, Sound}
 use Rattle.runs.specs.Calls.{Proper, Post}
-use Rattle.runs.proofs.Marks.{Marks, markOf, leftOf, rightOf, Sized, sessionAt, maskA, maskB}
+use Rattle.runs.proofs.Marks.{Marks, markOf, rememberedA, rememberedB, Sized, sessionAt, maskVectorA, maskVectorB}
 use Rattle.runs.proofs.Packs.{rowFor}
 use Rattle.runs.proofs.Holds.{Holds, combined-row}
 use Rattle.runs.proofs.Records.{own-true}
@@ -73,7 +73,7 @@ module _ (plan : Plan) (draw : Draw) (L : Ledger) (sound : Sound plan) (is : IsD
       go (no g) = sym (ap (λ (y : List ℕ). sent s y blocks j) e) ∙ truly g
 
   module _ (r : ℕ) (five : markOf M r ≡ 5) where
-    pub waiting : Multiplying 5 M (leftOf M r) (rightOf M r) r
+    pub waiting : Multiplying 5 M (rememberedA M r) (rememberedB M r) r
     waiting =
         let w = f r (low r 4 five) .waiting five in let t = f r (low r 4 five) .triple (inr five) in
         record {
@@ -87,12 +87,12 @@ module _ (plan : Plan) (draw : Draw) (L : Ledger) (sound : Sound plan) (is : IsD
           third = t .third;
         }
 
-    pub mask-a : Finish.maskA s l r ≡ heldRow s (maskA M vec r)
-    mask-a = combined-row plan draw len i M vec l h (p - 1) (leftOf M r) r (is-row (leftOf M r) 1 (waiting .a-held)) (is-row r 4 five)
+    pub mask-a : Finish.maskVectorA s l r ≡ heldRow s (maskVectorA M vec r)
+    mask-a = combined-row plan draw len i M vec l h (p - 1) (rememberedA M r) r (is-row (rememberedA M r) 1 (waiting .a-held)) (is-row r 4 five)
 
-    pub mask-b : Finish.maskB s l r ≡ heldRow s (maskB M vec r)
+    pub mask-b : Finish.maskVectorB s l r ≡ heldRow s (maskVectorB M vec r)
     mask-b =
-        combined-row plan draw len i M vec l h (p - 1) (rightOf M r) (r + 1) (is-row (rightOf M r) 1 (waiting .b-held))
+        combined-row plan draw len i M vec l h (p - 1) (rememberedB M r) (r + 1) (is-row (rememberedB M r) 1 (waiting .b-held))
         (is-row (r + 1) 3 (waiting .second))
 
   module _ (P : ℕ → ℕ → List ℕ → Type 0) (truth : Reliable plan draw L P) where
@@ -133,9 +133,9 @@ module _ (plan : Plan) (draw : Draw) (L : Ledger) (sound : Sound plan) (is : IsD
         accepts-true = accepts-true;
         finishes = finishes plan draw L sound is len i lo hi M vec l sized h f full;
         accepts-a = λ r blocks j five pr lj hj x.
-            true-taken (Finish.maskA s l r) (maskA M vec r) (mask-a r five) blocks j lj hj
+            true-taken (Finish.maskVectorA s l r) (maskVectorA M vec r) (mask-a r five) blocks j lj hj
             (λ ne. told-a plan draw L sound is S w all M vec f r (waiting r five) j lj hj _ (x ne));
         accepts-b = λ r blocks j five pr lj hj x.
-            true-taken (Finish.maskB s l r) (maskB M vec r) (mask-b r five) blocks j lj hj
+            true-taken (Finish.maskVectorB s l r) (maskVectorB M vec r) (mask-b r five) blocks j lj hj
             (λ ne. told-b plan draw L sound is S w all M vec f r (waiting r five) j lj hj _ (x ne));
       }

@@ -15,7 +15,7 @@ use Rattle.vectors.specs.Vector.{Vector, numbers}
 use Rattle.vectors.specs.Claims.{heldRow}
 use Rattle.runs.specs.Draws.{Plan, Draw, rawDraw, tripleDraw}
 use Rattle.runs.specs.Calls.{Post}
-use Rattle.runs.proofs.Marks.{Marks, leftOf, rightOf, sessionAt, less, vectorA, vectorB, maskA, maskB}
+use Rattle.runs.proofs.Marks.{Marks, rememberedA, rememberedB, sessionAt, less, vectorA, vectorB, maskVectorA, maskVectorB}
 use Rattle.runs.proofs.Facts.{Multiplying}
 use Rattle.runs.proofs.Rows.{marked-low}
 use Rattle.runs.proofs.Steps.{postAt, named}
@@ -121,20 +121,20 @@ module _ (plan : Plan) (draw : Draw) (L : Ledger) (S : ℕ → Type 0) (rows : �
 
   -- ---- masks that were made
 
-  waiting : mark s r ≡ 5 → Multiplying 5 M (leftOf M r) (rightOf M r) r
+  waiting : mark s r ≡ 5 → Multiplying 5 M (rememberedA M r) (rememberedB M r) r
   waiting = Openings.waiting plan draw L (h .sound) (h .is-draw) _ i lo hi M vec l (g .sized) (g .stands .holds) (g .facts) (g .full) r
 
   factors-of : mark s r ≡ 5 → Factors plan draw L r
   factors-of five =
       let k = waiting five in
       record {
-        a = leftOf M r;
-        b = rightOf M r;
-        X = vec (leftOf M r);
-        Y = vec (rightOf M r);
+        a = rememberedA M r;
+        b = rememberedB M r;
+        X = vec (rememberedA M r);
+        Y = vec (rememberedB M r);
         means = g .facts r (marked-low M (g .sized) r 4 five) .waiting five .means;
-        is-a = g .facts (leftOf M r) (k .a-low) .held (k .a-held);
-        is-b = g .facts (rightOf M r) (k .b-low) .held (k .b-held);
+        is-a = g .facts (rememberedA M r) (k .a-low) .held (k .a-held);
+        is-b = g .facts (rememberedB M r) (k .b-low) .held (k .b-held);
       }
 
   factors : mark (w .posts i .session) r ≡ 5 → Factors plan draw L r
@@ -147,22 +147,22 @@ module _ (plan : Plan) (draw : Draw) (L : Ledger) (S : ℕ → Type 0) (rows : �
   HalfB = TrueMask S w (plan .t) (drop (plan .t + 1)) r
 
   both-masks : (k : Factors plan draw L r) → mark (w .posts i .session) r ≡ 5
-      → PartOf HalfA (w .posts i .session) (Finish.maskA (w .posts i .session) l r) (less (k .X) (vectorA plan draw r))
-      × PartOf HalfB (w .posts i .session) (Finish.maskB (w .posts i .session) l r) (less (k .Y) (vectorB plan draw r))
+      → PartOf HalfA (w .posts i .session) (Finish.maskVectorA (w .posts i .session) l r) (less (k .X) (vectorA plan draw r))
+      × PartOf HalfB (w .posts i .session) (Finish.maskVectorB (w .posts i .session) l r) (less (k .Y) (vectorB plan draw r))
   unfolding w factors-of
   both-masks k =
       at-post
       (λ (q : Post). mark (q .session) r ≡ 5
-      → PartOf HalfA (q .session) (Finish.maskA (q .session) (q .rows) r) (less (k .X) (vectorA plan draw r))
-      × PartOf HalfB (q .session) (Finish.maskB (q .session) (q .rows) r) (less (k .Y) (vectorB plan draw r)))
+      → PartOf HalfA (q .session) (Finish.maskVectorA (q .session) (q .rows) r) (less (k .X) (vectorA plan draw r))
+      × PartOf HalfB (q .session) (Finish.maskVectorB (q .session) (q .rows) r) (less (k .Y) (vectorB plan draw r)))
       (λ five.
       let t = g .facts r (marked-low M (g .sized) r 4 five) .triple (inr five) in let same = one-pair plan draw L r (factors-of five) k in
-      let ea : maskA M vec r ≡ less (k .X) (vectorA plan draw r) = ap₂ less (same .0) (t .is-a) in
-      let eb : maskB M vec r ≡ less (k .Y) (vectorB plan draw r) = ap₂ less (same .1) (t .is-b) in (
-        part-from HalfA s (Finish.maskA s l r) _
+      let ea : maskVectorA M vec r ≡ less (k .X) (vectorA plan draw r) = ap₂ less (same .0) (t .is-a) in
+      let eb : maskVectorB M vec r ≡ less (k .Y) (vectorB plan draw r) = ap₂ less (same .1) (t .is-b) in (
+        part-from HalfA s (Finish.maskVectorA s l r) _
             (Openings.mask-a plan draw L (h .sound) (h .is-draw) _ i lo hi M vec l (g .sized) (g .stands .holds) (g .facts) (g .full) r five ∙ ap (heldRow s) ea)
             (λ j xs lj hj many elements m. told-a plan draw L (h .sound) (h .is-draw) S w said M vec (g .facts) r (waiting five) j lj hj xs m ∙ ap (λ (Z : Vector). numbers (plan .t + 1) (Z .v j)) ea),
-        part-from HalfB s (Finish.maskB s l r) _
+        part-from HalfB s (Finish.maskVectorB s l r) _
             (Openings.mask-b plan draw L (h .sound) (h .is-draw) _ i lo hi M vec l (g .sized) (g .stands .holds) (g .facts) (g .full) r five ∙ ap (heldRow s) eb)
             (λ j xs lj hj many elements m. told-b plan draw L (h .sound) (h .is-draw) S w said M vec (g .facts) r (waiting five) j lj hj xs m ∙ ap (λ (Z : Vector). numbers (plan .t + 1) (Z .v j)) eb),
       ))
@@ -191,8 +191,8 @@ mask-parts plan draw L S rows es h i r lo hi among five = (
         (i' : ℕ) (lo' : 1 ≤ i') (hi' : i' ≤ plan .n) (among' : S' i')
         → (let v = history es' (begin plan (withPoints points draw) rows') in let q = v .posts i' in
         mark (q .session) r ≡ 5
-        → PartOf (TrueMask S' v (plan .t) (take (plan .t + 1)) r) (q .session) (Finish.maskA (q .session) (q .rows) r) (less (k .X) (vectorA plan draw r))
-        × PartOf (TrueMask S' v (plan .t) (drop (plan .t + 1)) r) (q .session) (Finish.maskB (q .session) (q .rows) r) (less (k .Y) (vectorB plan draw r)))
+        → PartOf (TrueMask S' v (plan .t) (take (plan .t + 1)) r) (q .session) (Finish.maskVectorA (q .session) (q .rows) r) (less (k .X) (vectorA plan draw r))
+        × PartOf (TrueMask S' v (plan .t) (drop (plan .t + 1)) r) (q .session) (Finish.maskVectorB (q .session) (q .rows) r) (less (k .Y) (vectorB plan draw r)))
     both points S' rows' es' h' i' lo' hi' among' =
         both-masks plan (withPoints points draw) L S' rows' es' h' i' lo' hi' among' r (record {
           a = k .a;

@@ -9,12 +9,12 @@ use native.Mathlib.Omega.{arith}
 use borrow.Author.Tests.{le-ltb, eq-eqb}
 use lib.ListN.{length}
 use Rattle.refusal.specs.Refusal.{_when_, first, orElse}
-use Rattle.refusal.specs.Conditions.{outside, missized, anyBeyond, postsTests}
+use Rattle.refusal.specs.Conditions.{outside, wrongLength, anyBeyond, postsTests}
 use Rattle.refusal.proofs.Laws.{all-fail, not-refused, first-join}
 use Rattle.session.specs.declared.Session.{Session}
 use Rattle.session.specs.Sessions.{mark}
 use Rattle.session.specs.Rows.{width, rowAt}
-use Rattle.session.specs.Checks.{unlike}
+use Rattle.session.specs.Checks.{wrongMark}
 use Rattle.opening.specs.Walking.{recordLength, tooFew}
 use Rattle.opening.specs.Opening.{openChecks}
 use Rattle.product.specs.Finish as Finish
@@ -23,7 +23,7 @@ use Rattle.factory.proofs.Laws.{elements-append}
 use Rattle.vectors.specs.Vector.{Vector, numbers, rowOf}
 use Rattle.runs.specs.Draws.{Plan, Draw, IsDraw, Sound}
 use Rattle.runs.specs.Calls.{Proper, Post}
-use Rattle.runs.proofs.Marks.{Marks, markOf, leftOf, rightOf, Sized, sessionAt}
+use Rattle.runs.proofs.Marks.{Marks, markOf, rememberedA, rememberedB, Sized, sessionAt}
 use Rattle.runs.proofs.Outcomes.{answer-refusal, settled}
 use Rattle.runs.proofs.Packs.{rowFor}
 use Rattle.runs.proofs.Holds.{Holds}
@@ -56,13 +56,13 @@ module _ (plan : Plan) (draw : Draw) (L : Ledger) (sound : Sound plan) (is : IsD
   t-passes : outside 1 (plan .n - 1) (plan .t) ≡ false
   t-passes = all-fail (postsTests (plan .n) (plan .t)) tt (sound .posts) .1 .0
 
-  rows-pass : (r m : ℕ) → markOf M r ≡ suc m → missized l (96 * width s) ≡ false
+  rows-pass : (r m : ℕ) → markOf M r ≡ suc m → wrongLength l (96 * width s) ≡ false
   rows-pass r m e = ap not (eq-eqb (length l) (96 * width s) (h .long ∙ full r (omega (arith, e))))
 
-  record-passes : (blocks : List ℕ) → Proper s blocks → missized blocks (recordLength s) ≡ false
+  record-passes : (blocks : List ℕ) → Proper s blocks → wrongLength blocks (recordLength s) ≡ false
   record-passes blocks pr = ap not (eq-eqb (length blocks) (recordLength s) (pr .long))
 
-  mark-passes : (r m : ℕ) → markOf M r ≡ m → unlike s r m ≡ false
+  mark-passes : (r m : ℕ) → markOf M r ≡ m → wrongMark s r m ≡ false
   mark-passes r m e = ap not (eq-eqb (markOf M r) m e)
 
   low : (r m : ℕ) → markOf M r ≡ suc m → r < 96
@@ -81,10 +81,10 @@ module _ (plan : Plan) (draw : Draw) (L : Ledger) (sound : Sound plan) (is : IsD
 
   -- ---- a finish
 
-  finish-passes : (r : ℕ) (blocks blocks' : List ℕ) → markOf M r ≡ 5 → Proper s blocks → Proper s blocks'
-      → first (finishChecks s l r blocks blocks') ≡ 0
-  finish-passes r blocks blocks' five pr pr' =
-      not-refused (finishChecks s l r blocks blocks') (
+  finish-passes : (r : ℕ) (blocksA blocksB : List ℕ) → markOf M r ≡ 5 → Proper s blocksA → Proper s blocksB
+      → first (finishChecks s l r blocksA blocksB) ≡ 0
+  finish-passes r blocksA blocksB five pr pr' =
+      not-refused (finishChecks s l r blocksA blocksB) (
         n-passes,
         (
           t-passes,
@@ -97,7 +97,7 @@ module _ (plan : Plan) (draw : Draw) (L : Ledger) (sound : Sound plan) (is : IsD
                 (
                   record-passes blocks pr,
                   (
-                    record-passes blocks' pr',
+                    record-passes blocksB pr',
                     (
                       le-ltb 93 r (omega (arith, low (r + 2) 3 (t .third))),
                       (
@@ -144,10 +144,10 @@ module _ (plan : Plan) (draw : Draw) (L : Ledger) (sound : Sound plan) (is : IsD
       )
     where
       a : ℕ
-      a = leftOf M r
+      a = rememberedA M r
 
       b : ℕ
-      b = rightOf M r
+      b = rememberedB M r
 
       t : Triple plan draw M vec r
       t = f r (low r 4 five) .triple (inr five)
@@ -155,41 +155,41 @@ module _ (plan : Plan) (draw : Draw) (L : Ledger) (sound : Sound plan) (is : IsD
       w : Waiting plan draw (Is plan draw L) (Waits plan draw L) M r
       w = f r (low r 4 five) .waiting five
 
-  nine-decides : (r : ℕ) (blocks blocks' : List ℕ) → markOf M r ≡ 5 → Proper s blocks → Proper s blocks'
-      → finishRefusal s l r blocks blocks' ≡ first (tooFewOf s (Finish.maskA s l r) (Finish.maskB s l r) blocks blocks')
+  nine-decides : (r : ℕ) (blocksA blocksB : List ℕ) → markOf M r ≡ 5 → Proper s blocksA → Proper s blocksB
+      → finishRefusal s l r blocksA blocksB ≡ first (tooFewOf s (Finish.maskVectorA s l r) (Finish.maskVectorB s l r) blocksA blocksB)
   unfolding finishRefusal
-  nine-decides r blocks blocks' five pr pr' =
-      first-join (finishChecks s l r blocks blocks') (tooFewOf s (Finish.maskA s l r) (Finish.maskB s l r) blocks blocks') tt
-      ∙ ap (λ (k : ℕ). orElse k (first (tooFewOf s (Finish.maskA s l r) (Finish.maskB s l r) blocks blocks'))) (finish-passes r blocks blocks' five pr pr')
+  nine-decides r blocksA blocksB five pr pr' =
+      first-join (finishChecks s l r blocksA blocksB) (tooFewOf s (Finish.maskVectorA s l r) (Finish.maskVectorB s l r) blocksA blocksB) tt
+      ∙ ap (λ (k : ℕ). orElse k (first (tooFewOf s (Finish.maskVectorA s l r) (Finish.maskVectorB s l r) blocksA blocksB))) (finish-passes r blocksA blocksB five pr pr')
 
-  pub finishes : (r : ℕ) (blocks blocks' : List ℕ) → markOf M r ≡ 5 → Proper s blocks → Proper s blocks' → Finishes q r blocks blocks'
-  finishes r blocks blocks' five pr pr' = record {
-    few = λ e. answer-refusal (finishRefusal s l r blocks blocks') 0 _ s ∙ by-nine ∙ short e;
+  pub finishes : (r : ℕ) (blocksA blocksB : List ℕ) → markOf M r ≡ 5 → Proper s blocksA → Proper s blocksB → Finishes q r blocksA blocksB
+  finishes r blocksA blocksB five pr pr' = record {
+    few = λ e. answer-refusal (finishRefusal s l r blocksA blocksB) 0 _ s ∙ by-nine ∙ short e;
     enough = λ e e'.
-        let z = by-nine ∙ ap₂ (λ (x y : Bool). first (9 when x ∷ 9 when y ∷ [])) (not-few s xa blocks e) (not-few s xb blocks' e') in (
-          answer-refusal (finishRefusal s l r blocks blocks') 0 _ s ∙ z,
-          ap (λ (x : Post). mark (x .session) (r + 2)) (settled (finishRefusal s l r blocks blocks') 0 _ s l l z)
+        let z = by-nine ∙ ap₂ (λ (x y : Bool). first (9 when x ∷ 9 when y ∷ [])) (not-few s xa blocksA e) (not-few s xb blocksB e') in (
+          answer-refusal (finishRefusal s l r blocksA blocksB) 0 _ s ∙ z,
+          ap (λ (x : Post). mark (x .session) (r + 2)) (settled (finishRefusal s l r blocksA blocksB) 0 _ s l l z)
               ∙ on-three M r 6 6 2 sized (omega (arith, low (r + 2) 3 (f r (low r 4 five) .triple (inr five) .third))) .2,
         );
   }
     where
       xa : List ℕ
-      xa = Finish.maskA s l r
+      xa = Finish.maskVectorA s l r
 
       xb : List ℕ
-      xb = Finish.maskB s l r
+      xb = Finish.maskVectorB s l r
 
-      by-nine : finishRefusal s l r blocks blocks' ≡ first (9 when tooFew s xa blocks ∷ 9 when tooFew s xb blocks' ∷ [])
-      by-nine = nine-decides r blocks blocks' five pr pr'
+      by-nine : finishRefusal s l r blocksA blocksB ≡ first (9 when tooFew s xa blocksA ∷ 9 when tooFew s xb blocksB ∷ [])
+      by-nine = nine-decides r blocksA blocksB five pr pr'
 
       second : (x : Bool) → first (9 when x ∷ 9 when true ∷ []) ≡ 9
       second true = refl
       second false = refl
 
-      short : (accepted s xa blocks ≤ plan .t) ⊎ (accepted s xb blocks' ≤ plan .t)
-          → first (9 when tooFew s xa blocks ∷ 9 when tooFew s xb blocks' ∷ []) ≡ 9
-      short (inl e) = ap (λ (x : Bool). first (9 when x ∷ 9 when tooFew s xb blocks' ∷ [])) (too-few s xa blocks e)
-      short (inr e) = ap (λ (x : Bool). first (9 when tooFew s xa blocks ∷ 9 when x ∷ [])) (too-few s xb blocks' e) ∙ second (tooFew s xa blocks)
+      short : (accepted s xa blocksA ≤ plan .t) ⊎ (accepted s xb blocksB ≤ plan .t)
+          → first (9 when tooFew s xa blocksA ∷ 9 when tooFew s xb blocksB ∷ []) ≡ 9
+      short (inl e) = ap (λ (x : Bool). first (9 when x ∷ 9 when tooFew s xb blocksB ∷ [])) (too-few s xa blocksA e)
+      short (inr e) = ap (λ (x : Bool). first (9 when tooFew s xa blocksA ∷ 9 when x ∷ [])) (too-few s xb blocksB e) ∙ second (tooFew s xa blocksA)
 
   -- ---- an opening
 

@@ -9,9 +9,9 @@ use lib.ListN.{length, getD, drop, length-append}
 use lib.Seq.{getD-at}
 use Rattle.poly.specs.Counting.{All, Elements}
 use Rattle.decimal.specs.Numeral.{tens, leading}
-use Rattle.fields.specs.Fields.{fields, written, Parsed, parsed, malformed, fieldsAt, Small}
-use Rattle.fields.proofs.Overwriting.{fields-append}
-use Rattle.fields.proofs.Reading.{fields-read}
+use Rattle.csv.specs.Fields.{fields, written, Parsed, parsed, malformed, fieldsAt, Small}
+use Rattle.csv.proofs.Overwriting.{fields-append}
+use Rattle.csv.proofs.Reading.{fields-read}
 use Rattle.factory.proofs.Laws.{elements-append}
 use Rattle.vectors.specs.Vector.{Vector, numbers}
 use Rattle.vectors.proofs.Linear.{length-numbers}

@@ -11,7 +11,7 @@ use Rattle.vectors.specs.Vector.{Vector, raised, number}
 use Rattle.runs.specs.Draws.{Plan, Draw, IsDraw}
 use Rattle.runs.specs.Outline.{Act, loads, loadsTriple, deals, opens, Summand, once, times, fee, sums, factors, multiplies, takes, Given, Move, moves, actsIn, acts, sends}
 use Rattle.runs.specs.Calls.{Post, Actual, Call, perform, after}
-use Rattle.runs.proofs.Marks.{Marks, markOf, leftOf, rightOf, Sized, less, worthVector, totalVector, written, marksBy, vectorsBy, marksAll, numberIn, vectorsAll}
+use Rattle.runs.proofs.Marks.{Marks, markOf, rememberedA, rememberedB, Sized, less, worthVector, totalVector, written, marksBy, vectorsBy, marksAll, numberIn, vectorsAll}
 use Rattle.runs.proofs.Sums.{productVector, product-sum}
 use Rattle.runs.proofs.Outcomes.{refusalOf}
 use Rattle.runs.proofs.Steps.{Stands, named, Fits, stands-refused, stands-after}
@@ -56,13 +56,13 @@ module _ (plan : Plan) (draw : Draw) (L : Ledger) where
 
   -- what a call that does what the ledger says brings
   module _ (M : Marks) (vec : ℕ → Vector) (f : Known M vec) where
-    finished-is : (r : ℕ) → Multiplying 5 M (leftOf M r) (rightOf M r) r → Is plan draw L (r + 2) (written M vec r)
+    finished-is : (r : ℕ) → Multiplying 5 M (rememberedA M r) (rememberedB M r) r → Is plan draw L (r + 2) (written M vec r)
     finished-is r ok =
         subst (λ (m : Meaning). IsOf plan draw L (r + 2) m (written M vec r)) (sym (f r low .waiting (ok .first) .means))
-        (is-product (f (leftOf M r) (ok .a-low) .held (ok .a-held)) (f (rightOf M r) (ok .b-low) .held (ok .b-held))
+        (is-product (f (rememberedA M r) (ok .a-low) .held (ok .a-held)) (f (rememberedB M r) (ok .b-low) .held (ok .b-held))
         (product-sum vec r _ _
         ∙ (λ j.
-        productVector (number (less (vec (leftOf M r)) (t .is-a j)) .0) (number (less (vec (rightOf M r)) (t .is-b j)) .0)
+        productVector (number (less (vec (rememberedA M r)) (t .is-a j)) .0) (number (less (vec (rememberedB M r)) (t .is-b j)) .0)
         (t .is-a j) (t .is-b j) (t .is-ab j))))
       where
         low : r < 96

@@ -12,11 +12,11 @@ use lib.Dec.{lit≤}
 use lib.ListN.{length, drop, getD, drop-of-length-le}
 use lib.Seq.{drop-cons}
 use Rattle.refusal.specs.Refusal.{_when_, first, orElse}
-use Rattle.refusal.specs.Conditions.{missized, badPoint, anyBeyond, postsTests}
+use Rattle.refusal.specs.Conditions.{wrongLength, badPoint, anyBeyond, postsTests}
 use Rattle.refusal.proofs.Laws.{all-fail, not-refused, inside, equal}
 use Rattle.refusal.proofs.Groups.{first-chain, stopped, went-on, fail-parts}
 use Rattle.factory.specs.Draw.{drawLength}
-use Rattle.factory.specs.Packs.{anyBadPoint, packsLength, factoryTests, rowRefusal, tripleRefusal, listsTests}
+use Rattle.factory.specs.Packs.{anyBadPoint, packsLength, factoryTests, factoryRowRefusal, factoryTripleRefusal, listsTests}
 use Rattle.factory.specs.Writers.{Few, Length, Fine}
 
 -- one turn of the search: the answer for the rest of the points is the answer for all
@@ -77,32 +77,32 @@ few-posts n t r e z =
 
 -- the tests of the lists, each asked by itself and the answers joined
 pub lists-joined : (n drawn written : ℕ) (points draw out : List ℕ) (a b c d e u v w r : ℕ)
-    → a ≡ first (4 when anyBadPoint points ∷ []) → b ≡ first (5 when missized points n ∷ [])
-    → c ≡ first (5 when missized draw drawn ∷ []) → d ≡ first (5 when missized out written ∷ [])
+    → a ≡ first (4 when anyBadPoint points ∷ []) → b ≡ first (5 when wrongLength points n ∷ [])
+    → c ≡ first (5 when wrongLength draw drawn ∷ []) → d ≡ first (5 when wrongLength out written ∷ [])
     → e ≡ first (8 when anyBeyond draw ∷ []) → u ≡ orElse d e → v ≡ orElse c u → w ≡ orElse b v → r ≡ orElse a w
     → r ≡ first (listsTests n points draw drawn out written)
 lists-joined n drawn written points draw out a b c d e u v w r f g h i j k l m o =
     rw (o, m, l, k, f, g, h, i, j) (sym (first-chain (listsTests n points draw drawn out written) tt))
 
 module _ (n t : ℕ) (points draw out : List ℕ) (r : ℕ) (posts : r ≡ first (postsTests n t)) where
-  pub row-stopped : (r ≡ 0 → ⊥) → r ≡ rowRefusal n t points draw out
-  unfolding rowRefusal
+  pub row-stopped : (r ≡ 0 → ⊥) → r ≡ factoryRowRefusal n t points draw out
+  unfolding factoryRowRefusal
   row-stopped h = stopped (postsTests n t) (listsTests n points draw (drawLength n (t + 1)) out (packsLength n t)) tt r posts h
 
-  pub triple-stopped : (r ≡ 0 → ⊥) → r ≡ tripleRefusal n t points draw out
-  unfolding tripleRefusal
+  pub triple-stopped : (r ≡ 0 → ⊥) → r ≡ factoryTripleRefusal n t points draw out
+  unfolding factoryTripleRefusal
   triple-stopped h =
       stopped (postsTests n t) (listsTests n points draw (3 * drawLength n (t + 1) - 1) out (3 * packsLength n t)) tt r posts h
 
   module _ (passed : r ≡ 0) (d s q : ℕ) (drawn : Length d (drawLength n (t + 1))) (written : Length s (packsLength n t)) where
-    pub row-went-on : q ≡ first (listsTests n points draw d out s) → q ≡ rowRefusal n t points draw out
-    unfolding rowRefusal
+    pub row-went-on : q ≡ first (listsTests n points draw d out s) → q ≡ factoryRowRefusal n t points draw out
+    unfolding factoryRowRefusal
     row-went-on h =
         went-on (postsTests n t) (listsTests n points draw (drawLength n (t + 1)) out (packsLength n t)) tt r posts q passed
         (rw (← drawn .value, ← written .value) h)
 
-    pub triple-went-on : q ≡ first (listsTests n points draw (3 * d - 1) out (3 * s)) → q ≡ tripleRefusal n t points draw out
-    unfolding tripleRefusal
+    pub triple-went-on : q ≡ first (listsTests n points draw (3 * d - 1) out (3 * s)) → q ≡ factoryTripleRefusal n t points draw out
+    unfolding factoryTripleRefusal
     triple-went-on h =
         went-on (postsTests n t) (listsTests n points draw (3 * drawLength n (t + 1) - 1) out (3 * packsLength n t)) tt r posts q passed
         (rw (← drawn .value, ← written .value) h)
@@ -121,13 +121,13 @@ fine n t points draw out drawn written e =
       out-length = equal (length out) written (l .1 .1 .1 .0);
     }
 
-pub row-fine : (n t : ℕ) (points draw out : List ℕ) (r : ℕ) → r ≡ rowRefusal n t points draw out → r ≡ 0
+pub row-fine : (n t : ℕ) (points draw out : List ℕ) (r : ℕ) → r ≡ factoryRowRefusal n t points draw out → r ≡ 0
     → Fine n t points draw (drawLength n (t + 1)) out (packsLength n t)
-unfolding rowRefusal
+unfolding factoryRowRefusal
 row-fine n t points draw out r e z = fine n t points draw out (drawLength n (t + 1)) (packsLength n t) (sym e ∙ z)
 
-pub triple-fine : (n t : ℕ) (points draw out : List ℕ) (r : ℕ) → r ≡ tripleRefusal n t points draw out → r ≡ 0
+pub triple-fine : (n t : ℕ) (points draw out : List ℕ) (r : ℕ) → r ≡ factoryTripleRefusal n t points draw out → r ≡ 0
     → Fine n t points draw (3 * drawLength n (t + 1) - 1) out (3 * packsLength n t)
-unfolding tripleRefusal
+unfolding factoryTripleRefusal
 triple-fine n t points draw out r e z =
     fine n t points draw out (3 * drawLength n (t + 1) - 1) (3 * packsLength n t) (sym e ∙ z)

@@ -5,7 +5,7 @@ use mathlib.Core.List.{List, [], _∷_, _++_}
 use lib.ListN.{getD}
 use Rattle.field.specs.Arithmetic.{difference}
 use Rattle.refusal.specs.Refusal.{Test, _when_, first, outcome}
-use Rattle.refusal.specs.Conditions.{missized, beyond, anyBeyond, badPoint, postsTests}
+use Rattle.refusal.specs.Conditions.{wrongLength, beyond, anyBeyond, badPoint, postsTests}
 use Rattle.factory.specs.Draw.{drawLength, part, firstDraw, secondDraw, thirdDraw}
 use Rattle.factory.specs.declared.Number.{Number}
 
@@ -37,32 +37,32 @@ packsLength n t = n * (t + 1 + 2 * n)
 abbrev pub listsTests : ℕ → List ℕ → List ℕ → ℕ → List ℕ → ℕ → List Test
 listsTests n points draw drawn out written =
     4 when anyBadPoint points
-    ∷ 5 when missized points n
-    ∷ 5 when missized draw drawn
-    ∷ 5 when missized out written
+    ∷ 5 when wrongLength points n
+    ∷ 5 when wrongLength draw drawn
+    ∷ 5 when wrongLength out written
     ∷ 8 when anyBeyond draw
     ∷ []
 
 abbrev pub factoryTests : ℕ → ℕ → List ℕ → List ℕ → ℕ → List ℕ → ℕ → List Test
 factoryTests n t points draw drawn out written = postsTests n t ++ listsTests n points draw drawn out written
 
-abbrev pub rowTests : ℕ → ℕ → List ℕ → List ℕ → List ℕ → List Test
-rowTests n t points draw out = factoryTests n t points draw (drawLength n (t + 1)) out (packsLength n t)
+abbrev pub factoryRowTests : ℕ → ℕ → List ℕ → List ℕ → List ℕ → List Test
+factoryRowTests n t points draw out = factoryTests n t points draw (drawLength n (t + 1)) out (packsLength n t)
 
-unfoldable pub rowRefusal : ℕ → ℕ → List ℕ → List ℕ → List ℕ → ℕ
-rowRefusal n t points draw out = first (rowTests n t points draw out)
+unfoldable pub factoryRowRefusal : ℕ → ℕ → List ℕ → List ℕ → List ℕ → ℕ
+factoryRowRefusal n t points draw out = first (factoryRowTests n t points draw out)
 
-abbrev pub rowOut : ℕ → ℕ → List ℕ → List ℕ → List ℕ → List ℕ
-rowOut n t points draw out = outcome (rowRefusal n t points draw out) (packs n (t + 1) points draw) out
+abbrev pub factoryRowOut : ℕ → ℕ → List ℕ → List ℕ → List ℕ → List ℕ
+factoryRowOut n t points draw out = outcome (factoryRowRefusal n t points draw out) (packs n (t + 1) points draw) out
 
-abbrev pub tripleTests : ℕ → ℕ → List ℕ → List ℕ → List ℕ → List Test
-tripleTests n t points draw out = factoryTests n t points draw (3 * drawLength n (t + 1) - 1) out (3 * packsLength n t)
+abbrev pub factoryTripleTests : ℕ → ℕ → List ℕ → List ℕ → List ℕ → List Test
+factoryTripleTests n t points draw out = factoryTests n t points draw (3 * drawLength n (t + 1) - 1) out (3 * packsLength n t)
 
-unfoldable pub tripleRefusal : ℕ → ℕ → List ℕ → List ℕ → List ℕ → ℕ
-tripleRefusal n t points draw out = first (tripleTests n t points draw out)
+unfoldable pub factoryTripleRefusal : ℕ → ℕ → List ℕ → List ℕ → List ℕ → ℕ
+factoryTripleRefusal n t points draw out = first (factoryTripleTests n t points draw out)
 
-abbrev pub tripleOut : ℕ → ℕ → List ℕ → List ℕ → List ℕ → List ℕ
-tripleOut n t points draw out = outcome (tripleRefusal n t points draw out) (triplePacks n (t + 1) points draw) out
+abbrev pub factoryTripleOut : ℕ → ℕ → List ℕ → List ℕ → List ℕ → List ℕ
+factoryTripleOut n t points draw out = outcome (factoryTripleRefusal n t points draw out) (triplePacks n (t + 1) points draw) out
 
 -- Deal: "The dealer's number is c = u − f(0)."
 abbrev pub dealerTests : ℕ → ℕ → List Test

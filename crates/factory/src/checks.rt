@@ -4,7 +4,7 @@ ghost use mathlib.Core.List.{[], _∷_};
 ghost use Prim.Native.Nat.{_+_};
 ghost use Rattle.refusal.specs.Refusal.{first, _when_};
 ghost use Rattle.factory.specs.Draw.{drawLength};
-ghost use Rattle.factory.specs.Packs.{anyBadPoint, packsLength, rowRefusal, tripleRefusal, listsTests};
+ghost use Rattle.factory.specs.Packs.{anyBadPoint, packsLength, factoryRowRefusal, factoryTripleRefusal, listsTests};
 ghost use Rattle.factory.specs.Writers.{Few, Length};
 
 // 4, of every check point.
@@ -49,7 +49,7 @@ pub fn packs_length(n: usize, t: usize) -> usize
 
 // Lengths are computed only where n and t have passed, so that nothing overflows.
 pub fn row_refusal(n: usize, t: usize, points: &[u32], draw: &[u32], out: &[u32]) -> u8
-    ensures { λ r. ⌜ r ≡ rowRefusal n t (now (points .entry)) (now (draw .entry)) (now (out .entry)) ⌝ }
+    ensures { λ r. ⌜ r ≡ factoryRowRefusal n t (now (points .entry)) (now (draw .entry)) (now (out .entry)) ⌝ }
 {
     let refusal = refusal::posts(n, t);
     if refusal != 0 {
@@ -59,7 +59,7 @@ pub fn row_refusal(n: usize, t: usize, points: &[u32], draw: &[u32], out: &[u32]
 }
 
 pub fn triple_refusal(n: usize, t: usize, points: &[u32], draw: &[u32], out: &[u32]) -> u8
-    ensures { λ r. ⌜ r ≡ tripleRefusal n t (now (points .entry)) (now (draw .entry)) (now (out .entry)) ⌝ }
+    ensures { λ r. ⌜ r ≡ factoryTripleRefusal n t (now (points .entry)) (now (draw .entry)) (now (out .entry)) ⌝ }
 {
     let refusal = refusal::posts(n, t);
     if refusal != 0 {

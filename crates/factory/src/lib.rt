@@ -1,6 +1,6 @@
 // The factory: the posts' parts of a drawn row, and of a drawn triple.
 ghost use mathlib.Core.Path.{_≡_};
-ghost use Rattle.factory.specs.Packs.{rowRefusal, rowOut, tripleRefusal, tripleOut, dealerNumber};
+ghost use Rattle.factory.specs.Packs.{factoryRowRefusal, factoryRowOut, factoryTripleRefusal, factoryTripleOut, dealerNumber};
 
 mod checks;
 mod packs;
@@ -14,8 +14,8 @@ pub struct Number {
 
 // All posts' parts of one drawn row.
 pub fn row(n: usize, t: usize, points: &[u32], draw: &[u32], out: &mut [u32]) -> u8
-    ensures { λ r. ⌜ r ≡ rowRefusal n t (now (points .entry)) (now (draw .entry)) (now (out .entry)) ⌝ }
-    ensures { λ r. ⌜ now (out .exit) ≡ rowOut n t (now (points .entry)) (now (draw .entry)) (now (out .entry)) ⌝ }
+    ensures { λ r. ⌜ r ≡ factoryRowRefusal n t (now (points .entry)) (now (draw .entry)) (now (out .entry)) ⌝ }
+    ensures { λ r. ⌜ now (out .exit) ≡ factoryRowOut n t (now (points .entry)) (now (draw .entry)) (now (out .entry)) ⌝ }
 {
     let refusal = checks::row_refusal(n, t, points, draw, out);
     if refusal != 0 {
@@ -27,8 +27,8 @@ pub fn row(n: usize, t: usize, points: &[u32], draw: &[u32], out: &mut [u32]) ->
 
 // All posts' parts of a drawn triple: of l, then of l', then of l''.
 pub fn triple(n: usize, t: usize, points: &[u32], draw: &[u32], out: &mut [u32]) -> u8
-    ensures { λ r. ⌜ r ≡ tripleRefusal n t (now (points .entry)) (now (draw .entry)) (now (out .entry)) ⌝ }
-    ensures { λ r. ⌜ now (out .exit) ≡ tripleOut n t (now (points .entry)) (now (draw .entry)) (now (out .entry)) ⌝ }
+    ensures { λ r. ⌜ r ≡ factoryTripleRefusal n t (now (points .entry)) (now (draw .entry)) (now (out .entry)) ⌝ }
+    ensures { λ r. ⌜ now (out .exit) ≡ factoryTripleOut n t (now (points .entry)) (now (draw .entry)) (now (out .entry)) ⌝ }
 {
     let refusal = checks::triple_refusal(n, t, points, draw, out);
     if refusal != 0 {

@@ -11,7 +11,7 @@ use Rattle.shape.specs.Marks.{masked}
 use Rattle.shape.specs.Lengths as Lengths
 use Rattle.shape.specs.Lengths.{Valid, rowLength}
 use Rattle.refusal.specs.Refusal.{Test, _when_, first, orElse}
-use Rattle.refusal.specs.Conditions.{missized, anyBeyond}
+use Rattle.refusal.specs.Conditions.{wrongLength, anyBeyond}
 use Rattle.refusal.proofs.Laws.{equal, all-fail}
 use Rattle.refusal.proofs.Groups.{chained, stopped, went-on, fail-parts}
 use Rattle.session.specs.declared.Party.{Party}
@@ -29,11 +29,11 @@ use Rattle.product.specs.Finish.{finishPlace, finishMarks, finishNumbers
 use Rattle.product.proofs.Joining.{joined}
 
 pub place-joined : (s : Session) (g : Shape) (r : ℕ) (l l' : List ℕ) (k u v w d e : ℕ) → g ≡ shapeOf s → k ≡ Lengths.recordLength g
-    → u ≡ first (5 when missized l k ∷ []) → v ≡ first (5 when missized l' k ∷ []) → w ≡ first (6 when noTriple r ∷ []) → d ≡ orElse v w
+    → u ≡ first (5 when wrongLength l k ∷ []) → v ≡ first (5 when wrongLength l' k ∷ []) → w ≡ first (6 when noTriple r ∷ []) → d ≡ orElse v w
     → e ≡ orElse u d → e ≡ first (finishPlace s r l l')
 place-joined s g r l l' k u v w d e eg ek eu ev ew ed ee =
-    let hu : u ≡ first (5 when missized l (recordLength s) ∷ []) = rw (ek, eg) at eu in
-    let hv : v ≡ first (5 when missized l' (recordLength s) ∷ []) = rw (ek, eg) at ev in
+    let hu : u ≡ first (5 when wrongLength l (recordLength s) ∷ []) = rw (ek, eg) at eu in
+    let hv : v ≡ first (5 when wrongLength l' (recordLength s) ∷ []) = rw (ek, eg) at ev in
     chained (finishPlace s r l l') tt e (cc)
 
 -- what holds of a session's own party holds of the party that the code made of it

@@ -9,7 +9,7 @@ use Rattle.shape.specs.Bounds.{lastRow, lastTriple}
 use Rattle.shape.specs.Marks.{unused}
 use Rattle.shape.specs.Lengths.{Valid, rowLength, masksLength}
 use Rattle.refusal.specs.Refusal.{Test, _when_, first, orElse}
-use Rattle.refusal.specs.Conditions.{missized}
+use Rattle.refusal.specs.Conditions.{wrongLength}
 use Rattle.refusal.proofs.Laws.{equal, all-fail}
 use Rattle.refusal.proofs.Groups.{chained, stopped, went-on, fail-parts}
 use Rattle.refusal.proofs.Endings.{accepted}
@@ -22,11 +22,11 @@ use Rattle.product.specs.Masks.{masksPlace, tripleMarks, factorNumbers, 
 use Rattle.product.proofs.Joining.{joined}
 
 pub place-joined : (s : Session) (g : Shape) (a b r : ℕ) (out : List ℕ) (k u v w x d e f : ℕ) → g ≡ shapeOf s → k ≡ masksLength g
-    → u ≡ first (5 when missized out k ∷ []) → v ≡ first (6 when noRow a ∷ []) → w ≡ first (6 when noRow b ∷ [])
+    → u ≡ first (5 when wrongLength out k ∷ []) → v ≡ first (6 when noRow a ∷ []) → w ≡ first (6 when noRow b ∷ [])
     → x ≡ first (6 when noTriple r ∷ []) → d ≡ orElse w x → e ≡ orElse v d → f ≡ orElse u e
     → f ≡ first (masksPlace s a b r out)
 place-joined s g a b r out k u v w x d e f eg ek eu ev ew ex ed ee ef =
-    let h : u ≡ first (5 when missized out (masksLength (shapeOf s)) ∷ []) = rw (ek, eg) at eu in
+    let h : u ≡ first (5 when wrongLength out (masksLength (shapeOf s)) ∷ []) = rw (ek, eg) at eu in
     chained (masksPlace s a b r out) tt f (cc)
 
 module _ (s : Session) (rows : List ℕ) (a b r : ℕ) (out : List ℕ) where

@@ -109,8 +109,8 @@ module _ (s : Session) (rows : List ℕ) (r : ℕ) (l l' : List ℕ) where
   abbrev y : ℕ
   y = opened s (maskA s rows r) l
 
-  abbrev y' : ℕ
-  y' = opened s (maskB s rows r) l'
+  abbrev yB : ℕ
+  yB = opened s (maskB s rows r) l'
 
   abbrev nine : List Test
   nine = tooFewOf s (maskA s rows r) (maskB s rows r) l l'
@@ -122,13 +122,13 @@ module _ (s : Session) (rows : List ℕ) (r : ℕ) (l l' : List ℕ) where
     masks-unopened n =
         let h : f ≡ finishRefusal s rows r l l' = stopped (finishChecks s rows r l l') nine tt f e n in
         ap (λ (k : ℕ). shown k 0 0) h
-        ∙ refused f (finishRefusal s rows r l l') (shown 0 y y') (shown (finishRefusal s rows r l l') 0 0) h n
+        ∙ refused f (finishRefusal s rows r l l') (shown 0 yA yB) (shown (finishRefusal s rows r l l') 0 0) h n
 
     pub masks-opened : f ≡ 0 → (o : OpenedMasks) → o ≡ openedBoth s (maskA s rows r) (maskB s rows r) l l'
         → o ≡ openedMasks s rows r l l'
     unfolding finishRefusal
     masks-opened z o h =
-        h ∙ ap (λ (k : ℕ). found k y y') (went-on (finishChecks s rows r l l') nine tt f e (first nine) z refl)
+        h ∙ ap (λ (k : ℕ). found k yA yB) (went-on (finishChecks s rows r l l') nine tt f e (first nine) z refl)
 
   -- the call's two ends
   module _ (o : OpenedMasks) (e : o ≡ openedMasks s rows r l l') where
@@ -136,14 +136,14 @@ module _ (s : Session) (rows : List ℕ) (r : ℕ) (l l' : List ℕ) where
     done = finishedTriple s r
 
     refusal-is : o .refusal ≡ finishRefusal s rows r l l'
-    refusal-is = ap (λ (a : OpenedMasks). a .refusal) e ∙ found-refusal (finishRefusal s rows r l l') y y'
+    refusal-is = ap (λ (a : OpenedMasks). a .refusal) e ∙ found-refusal (finishRefusal s rows r l l') yA yB
 
     module _ (n : o .refusal ≡ 0 → ⊥) where
       pub finish-refused : (a : Answer) → a ≡ holding (o .refusal) 0 s → a ≡ finishAnswer s rows r l l'
       finish-refused a h = h ∙ refused-answer (o .refusal) (finishRefusal s rows r l l') 0 s done s refusal-is n refl
 
       pub finish-kept : rows ≡ finishRows s rows r l l'
-      finish-kept = refused (o .refusal) (finishRefusal s rows r l l') (withProduct s y y' r rows) rows refusal-is n
+      finish-kept = refused (o .refusal) (finishRefusal s rows r l l') (withProduct s yA yB r rows) rows refusal-is n
 
     module _ (z : o .refusal ≡ 0) where
       passed : Framed s rows × TripleIn (shapeOf s) r
@@ -167,13 +167,13 @@ module _ (s : Session) (rows : List ℕ) (r : ℕ) (l l' : List ℕ) where
 
         pub finish-written : (out : List ℕ)
             → out ≡ withRow (rowLength g) (r + 2)
-            (summed (sumsAt g) (o .z) (product (o .y) (o .z))
-            (summed (sumsAt g) (o .y) 0 (rowAt (rowLength g) rows (r + 2)) (rowAt (rowLength g) rows (r + 1))) (rowAt (rowLength g) rows r)) rows
+            (summed (sumsAt g) (o .z) (product (o .yA) (o .z))
+            (summed (sumsAt g) (o .yA) 0 (rowAt (rowLength g) rows (r + 2)) (rowAt (rowLength g) rows (r + 1))) (rowAt (rowLength g) rows r)) rows
             → out ≡ finishRows s rows r l l'
         unfolding withProduct productRow
         finish-written out eo =
-            let h = found-numbers (finishRefusal s rows r l l') y y' (rw refusal-is at z) in
-            let ey : o .y ≡ y = ap (λ (a : OpenedMasks). a .y) e ∙ h .0 in
-            let ez : o .z ≡ y' = ap (λ (a : OpenedMasks). a .z) e ∙ h .1 in
-            accepted (o .refusal) (finishRefusal s rows r l l') out (withProduct s y y' r rows) rows refusal-is z
+            let h = found-numbers (finishRefusal s rows r l l') yA yB (rw refusal-is at z) in
+            let ey : o .yA ≡ yA = ap (λ (a : OpenedMasks). a .yA) e ∙ h .0 in
+            let ez : o .z ≡ yB = ap (λ (a : OpenedMasks). a .z) e ∙ h .1 in
+            accepted (o .refusal) (finishRefusal s rows r l l') out (withProduct s yA yB r rows) rows refusal-is z
             (rw eg at eo ∙ ap₂ (λ (a b : ℕ). withProduct s a b r rows) ey ez)

@@ -21,7 +21,7 @@ use Rattle.product.specs.Finish.{finishTests, finishRefusal}
 use Rattle.runs.specs.Draws.{Plan, Draw}
 use Rattle.runs.specs.Outline.{loadRow, loadTriple, deal, message, opening, linear, masks, finish, acts, sends}
 use Rattle.runs.specs.Calls.{Call}
-use Rattle.runs.proofs.Marks.{Marks, leftOf, rightOf, sessionAt}
+use Rattle.runs.proofs.Marks.{Marks, rememberedA, rememberedB, sessionAt}
 use Rattle.runs.proofs.Outcomes.{passed, refusalOf}
 use Rattle.runs.proofs.Facts.{Allowed, Multiplying}
 
@@ -86,7 +86,7 @@ module _ (plan : Plan) (draw : Draw) (i : ℕ) (M : Marks) (l : List ℕ) where
     second = equal _ _ (f 12);
     third = equal _ _ (f 13);
   } in (record { moving = ((tt, m), tt); ready = (tt, tt); sending = ((m, inl refl), tt) }, equal _ _ (f 4))
-  passes (finish x) z = let f = passed (finishTests s l (x .r) (x .blocks) (x .blocks')) tt z in let m : Multiplying 5 M (leftOf M (x .r)) (rightOf M (x .r)) (x .r) = record {
+  passes (finish x) z = let f = passed (finishTests s l (x .r) (x .blocksA) (x .blocksB)) tt z in let m : Multiplying 5 M (rememberedA M (x .r)) (rememberedB M (x .r)) (x .r) = record {
     a-low = row-low _ (f 8);
     b-low = row-low _ (f 9);
     r-low = triple-low _ (f 7);

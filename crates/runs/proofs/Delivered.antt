@@ -11,11 +11,11 @@ use lib.Seq.{take-append-le, drop-append-le, drop-append-add}
 use Rattle.field.specs.Modulus.{p}
 use Rattle.poly.specs.Counting.{All}
 use Rattle.refusal.specs.Refusal.{first}
-use Rattle.refusal.specs.Conditions.{missized, postsTests}
+use Rattle.refusal.specs.Conditions.{wrongLength, postsTests}
 use Rattle.refusal.proofs.Laws.{all-fail, not-refused}
 use Rattle.refusal.proofs.Elements.{element-test}
 use Rattle.session.specs.Rows.{rowAt}
-use Rattle.factory.specs.Packs.{packs, triplePacks, anyBadPoint, packsLength, factoryTests, rowRefusal, tripleRefusal}
+use Rattle.factory.specs.Packs.{packs, triplePacks, anyBadPoint, packsLength, factoryTests, factoryRowRefusal, factoryTripleRefusal}
 use Rattle.factory.proofs.Laws.{length-packs, packs-part}
 use Rattle.factory.proofs.Theorems.{row-done, triple-done}
 use Rattle.runs.specs.Draws.{Plan, Draw, IsRaw, Sound, IsDraw, rowLength, pointOf, rawDraw, tripleDraw, drawA, drawB, drawAB, partOf, rawPack, triplePack}
@@ -56,7 +56,7 @@ module _ (plan : Plan) (draw : Draw) (sound : Sound plan) (is : IsDraw plan draw
       not-refused (factoryTests (plan .n) (plan .t) (draw .points) xs many out room)
       (posts .0, (posts .1 .0, (points-pass (draw .points) (is .points), (sized (draw .points) (plan .n) (is .posts), (sized xs many (d .many), (sized out room e, (elements-pass xs (d .low), tt)))))))
     where
-      sized : (l : List ℕ) (m : ℕ) → length l ≡ m → missized l m ≡ false
+      sized : (l : List ℕ) (m : ℕ) → length l ≡ m → wrongLength l m ≡ false
       sized l m h = ap not (eq-eqb (length l) m h)
 
   module _ (xs : List ℕ) (d : Drawn (rowLength plan) xs) where
@@ -68,7 +68,7 @@ module _ (plan : Plan) (draw : Draw) (sound : Sound plan) (is : IsDraw plan draw
     packs-many = length-packs (plan .n) k xs (d .many) (draw .points)
 
   row-given : (r : ℕ) (out : List ℕ) → IsRaw (plan .raw r) → length out ≡ packsLength (plan .n) (plan .t) → RowGiven plan draw r out
-  unfolding rowRefusal rawPack
+  unfolding factoryRowRefusal rawPack
   row-given r out raw e = record {
     done = done;
     parts = λ i lo hi.
@@ -79,11 +79,11 @@ module _ (plan : Plan) (draw : Draw) (sound : Sound plan) (is : IsDraw plan draw
       d : Drawn (rowLength plan) (rawDraw draw r)
       d = raw-drawn plan draw is r (omega (arith, sound .raws r raw)) raw
 
-      done : rowRefusal (plan .n) (plan .t) (draw .points) (rawDraw draw r) out ≡ 0
+      done : factoryRowRefusal (plan .n) (plan .t) (draw .points) (rawDraw draw r) out ≡ 0
       done = clear (rawDraw draw r) (rowLength plan) d out (packsLength (plan .n) (plan .t)) e
 
   triple-given : (r : ℕ) (out : List ℕ) → plan .triple r ≡ true → length out ≡ 3 * packsLength (plan .n) (plan .t) → TripleGiven plan draw r out
-  unfolding tripleRefusal triplePack triplePacks
+  unfolding factoryTripleRefusal triplePack triplePacks
   triple-given r out three e = record {
     done = done;
     parts = λ i lo hi.
@@ -95,7 +95,7 @@ module _ (plan : Plan) (draw : Draw) (sound : Sound plan) (is : IsDraw plan draw
       low : r < 96
       low = omega (arith, sound .triples r three)
 
-      done : tripleRefusal (plan .n) (plan .t) (draw .points) (tripleDraw draw r) out ≡ 0
+      done : factoryTripleRefusal (plan .n) (plan .t) (draw .points) (tripleDraw draw r) out ≡ 0
       done = clear (tripleDraw draw r) (3 * rowLength plan - 1) (triple-drawn plan draw is r low three) out (3 * packsLength (plan .n) (plan .t)) e
 
       da : Drawn (rowLength plan) (drawA plan draw r)

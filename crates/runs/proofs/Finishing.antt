@@ -25,7 +25,7 @@ use Rattle.vectors.proofs.Linear.{row-plusTimes, row-summed}
 use Rattle.vectors.proofs.Theorems.{opened-exact}
 use Rattle.runs.specs.Draws.{Plan, Draw, pointOf}
 use Rattle.runs.specs.Calls.{at}
-use Rattle.runs.proofs.Marks.{Marks, markOf, leftOf, rightOf, remarked, finished, sessionAt, maskA, maskB, written}
+use Rattle.runs.proofs.Marks.{Marks, markOf, rememberedA, rememberedB, remarked, finished, sessionAt, maskVectorA, maskVectorB, written}
 use Rattle.runs.proofs.Sums.{productVector, product-sum}
 use Rattle.runs.proofs.Outcomes.{conditionAt, passed}
 use Rattle.runs.proofs.Packs.{rowFor}
@@ -54,7 +54,7 @@ module _ (plan : Plan) (draw : Draw) (len i : ℕ) (M : Marks) (vec : ℕ → Ve
       ∙ sym (row-summed (plan .t + 1) (plan .n) i y' (product y y') w (plusTimes (element y) c b) a)
 
   -- the rows of a triple that waits, and those that are opened
-  module _ (r : ℕ) (ok : Multiplying 5 M (leftOf M r) (rightOf M r) r) where
+  module _ (r : ℕ) (ok : Multiplying 5 M (rememberedA M r) (rememberedB M r) r) where
     low : r < 94
     low = ok .r-low
 
@@ -67,18 +67,18 @@ module _ (plan : Plan) (draw : Draw) (len i : ℕ) (M : Marks) (vec : ℕ → Ve
     row-ab : rowAt W l (r + 2) ≡ rowFor plan draw i (vec (r + 2))
     row-ab = h .rows (r + 2) (omega (arith, low)) (λ e. omega (arith, ok .third))
 
-    pub opens-a : Finish.maskA s l r ≡ heldRow s (maskA M vec r)
+    pub opens-a : Finish.maskVectorA s l r ≡ heldRow s (maskVectorA M vec r)
     opens-a =
-        combined-row plan draw len i M vec l h (p - 1) (leftOf M r) r (h .rows (leftOf M r) (ok .a-low) (λ e. omega (arith, ok .a-held))) row-a
+        combined-row plan draw len i M vec l h (p - 1) (rememberedA M r) r (h .rows (rememberedA M r) (ok .a-low) (λ e. omega (arith, ok .a-held))) row-a
 
-    pub opens-b : Finish.maskB s l r ≡ heldRow s (maskB M vec r)
+    pub opens-b : Finish.maskVectorB s l r ≡ heldRow s (maskVectorB M vec r)
     opens-b =
-        combined-row plan draw len i M vec l h (p - 1) (rightOf M r) (r + 1) (h .rows (rightOf M r) (ok .b-low) (λ e. omega (arith, ok .b-held))) row-b
+        combined-row plan draw len i M vec l h (p - 1) (rememberedB M r) (r + 1) (h .rows (rememberedB M r) (ok .b-low) (λ e. omega (arith, ok .b-held))) row-b
 
-  module _ (r : ℕ) (blocks blocks' : List ℕ) (ok : Multiplying 5 M (leftOf M r) (rightOf M r) r) (z : finishRefusal s l r blocks blocks' ≡ 0) where
-    f : (k : ℕ) → conditionAt (finishTests s l r blocks blocks') k ≡ false
+  module _ (r : ℕ) (blocksA blocksB : List ℕ) (ok : Multiplying 5 M (rememberedA M r) (rememberedB M r) r) (z : finishRefusal s l r blocksA blocksB ≡ 0) where
+    f : (k : ℕ) → conditionAt (finishTests s l r blocksA blocksB) k ≡ false
     unfolding finishRefusal
-    f = passed (finishTests s l r blocks blocks') tt z
+    f = passed (finishTests s l r blocksA blocksB) tt z
 
     few : plan .n < p
     few = let n-in = inside 2 32 (plan .n) (f 0) in omega arith
@@ -98,9 +98,9 @@ module _ (plan : Plan) (draw : Draw) (len i : ℕ) (M : Marks) (vec : ℕ → Ve
         go (no e) (no d) =
             subst (λ (m : ℕ). m ≢ 0) (getD-set-other (set (M .marks) r 6) (r + 1) q 6 0 d ∙ getD-set-other (M .marks) r q 6 0 e) ne
 
-    pub finish-holds : AllTrue s (maskA M vec r) blocks → AllTrue s (maskB M vec r) blocks'
+    pub finish-holds : AllTrue s (maskVectorA M vec r) blocksA → AllTrue s (maskVectorB M vec r) blocksB
         → Holds plan draw len i (finished M r) (at vec (r + 2) (written M vec r))
-        (withProduct s (opened s (Finish.maskA s l r) blocks) (opened s (Finish.maskB s l r) blocks') r l)
+        (withProduct s (opened s (Finish.maskVectorA s l r) blocksA) (opened s (Finish.maskVectorB s l r) blocksB) r l)
     unfolding withProduct
     finish-holds ta tb =
         put-holds plan draw len i (remarked (remarked M r 6) (r + 1) 6) vec l
@@ -108,12 +108,12 @@ module _ (plan : Plan) (draw : Draw) (len i : ℕ) (M : Marks) (vec : ℕ → Ve
         (omega (arith, ok .r-low)) _ _ (ap₂ (λ (y y' : ℕ). productRow s y y' (rowAt W l r) (rowAt W l (r + 1)) (rowAt W l (r + 2))) ya yb ∙ rows-are ∙ row-of-product _ _ _ _ _
         ∙ ap (rowFor plan draw i) (sym (product-sum vec r _ _)))
       where
-        ya : opened s (Finish.maskA s l r) blocks ≡ number (maskA M vec r) .0
-        ya = opened-is (Finish.maskA s l r) (maskA M vec r) blocks (opens-a r ok) ta (f 22)
+        ya : opened s (Finish.maskVectorA s l r) blocks ≡ number (maskVectorA M vec r) .0
+        ya = opened-is (Finish.maskVectorA s l r) (maskVectorA M vec r) blocks (opens-a r ok) ta (f 22)
 
-        yb : opened s (Finish.maskB s l r) blocks' ≡ number (maskB M vec r) .0
-        yb = opened-is (Finish.maskB s l r) (maskB M vec r) blocks' (opens-b r ok) tb (f 23)
+        yb : opened s (Finish.maskVectorB s l r) blocksB ≡ number (maskVectorB M vec r) .0
+        yb = opened-is (Finish.maskVectorB s l r) (maskVectorB M vec r) blocksB (opens-b r ok) tb (f 23)
 
-        rows-are : productRow s (number (maskA M vec r) .0) (number (maskB M vec r) .0) (rowAt W l r) (rowAt W l (r + 1)) (rowAt W l (r + 2))
-            ≡ productRow s (number (maskA M vec r) .0) (number (maskB M vec r) .0) (rowFor plan draw i (vec r)) (rowFor plan draw i (vec (r + 1))) (rowFor plan draw i (vec (r + 2)))
-        rows-are = λ j. productRow s (number (maskA M vec r) .0) (number (maskB M vec r) .0) (row-a r ok j) (row-b r ok j) (row-ab r ok j)
+        rows-are : productRow s (number (maskVectorA M vec r) .0) (number (maskVectorB M vec r) .0) (rowAt W l r) (rowAt W l (r + 1)) (rowAt W l (r + 2))
+            ≡ productRow s (number (maskVectorA M vec r) .0) (number (maskVectorB M vec r) .0) (rowFor plan draw i (vec r)) (rowFor plan draw i (vec (r + 1))) (rowFor plan draw i (vec (r + 2)))
+        rows-are = λ j. productRow s (number (maskVectorA M vec r) .0) (number (maskVectorB M vec r) .0) (row-a r ok j) (row-b r ok j) (row-ab r ok j)

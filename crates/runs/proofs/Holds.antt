@@ -14,7 +14,7 @@ use Rattle.field.specs.Element.{element}
 use Rattle.refusal.proofs.Laws.{equal}
 use Rattle.session.specs.declared.Session.{Session}
 use Rattle.session.specs.Rows.{sumsAt, rowAt, withRow, combined, plusSums, summed}
-use Rattle.session.specs.Checks.{unlike}
+use Rattle.session.specs.Checks.{wrongMark}
 use Rattle.session.proofs.RowLaws.{length-with-row, row-same, row-other}
 use Rattle.sharing.specs.Load.{loadRowTests, loadRowRefusal, loadTripleTests, loadTripleRefusal, withTriple}
 use Rattle.sharing.specs.Deal.{dealTests, dealRefusal}
@@ -75,7 +75,7 @@ module _ (plan : Plan) (draw : Draw) where
     s = sessionAt plan draw i M
 
     -- a row with the mark that the call needs
-    pub held-row : (q m : ℕ) → q ≤ 95 → unlike s q (suc m) ≡ false → rowAt W l q ≡ rowFor plan draw i (vec q)
+    pub held-row : (q m : ℕ) → q ≤ 95 → wrongMark s q (suc m) ≡ false → rowAt W l q ≡ rowFor plan draw i (vec q)
     held-row q m low is = h .rows q (omega arith) (λ e. omega (arith, equal (markOf M q) (suc m) is))
 
     pub load-holds : (r : ℕ) (pack : List ℕ) (X : Vector) → pack ≡ rowFor plan draw i X → loadRowRefusal s l r pack ≡ 0

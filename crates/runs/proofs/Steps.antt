@@ -21,7 +21,7 @@ use Rattle.runs.specs.Draws as Draws
 use Rattle.runs.specs.Draws.{Plan, Draw, IsDraw, IsRaw, pointOf}
 use Rattle.runs.specs.Outline.{loadRow, loadTriple, deal, message, opening, linear, masks, finish, takes, Taking, nothingTaken, aRowPack, aTriplePack, aNumber, aRecord, twoRecords, Given, moves, acts, Sending, itsOpening, itsMasks, sends}
 use Rattle.runs.specs.Calls.{Post, Actual, Call, perform, after}
-use Rattle.runs.proofs.Marks.{Marks, sessionAt, less, maskA, maskB, marksAll, numberIn, vectorsAll}
+use Rattle.runs.proofs.Marks.{Marks, sessionAt, less, maskVectorA, maskVectorB, marksAll, numberIn, vectorsAll}
 use Rattle.runs.proofs.Outcomes.{conditionAt, passed, refusalOf, does, own, done, written-is, refused}
 use Rattle.runs.proofs.Packs.{rowFor, raw-pack, triple-pack}
 use Rattle.runs.proofs.Holds.{Holds, held-row, combined-row, load-holds, triple-holds, deal-holds, linear-holds, masks-holds}
@@ -53,7 +53,7 @@ module _ (plan : Plan) (draw : Draw) where
   FitsWith i M vec (aNumber r) x = Unit {0}
   FitsWith i M vec (aRecord r) x = Unit {0}
   FitsWith i M vec (twoRecords r) x =
-      AllTrue (sessionAt plan draw i M) (maskA M vec r) (x .0) × AllTrue (sessionAt plan draw i M) (maskB M vec r) (x .1)
+      AllTrue (sessionAt plan draw i M) (maskVectorA M vec r) (x .0) × AllTrue (sessionAt plan draw i M) (maskVectorB M vec r) (x .1)
 
   abbrev pub Fits : ℕ → Marks → (ℕ → Vector) → Call → Type 0
   Fits i M vec c = All (λ m. FitsWith i M vec (takes (m .0)) (m .1)) (moves c)
@@ -112,7 +112,7 @@ module _ (plan : Plan) (draw : Draw) where
       moved (finish x) z fit = record {
         session = refl;
         holds =
-            finish-holds plan draw len i M vec l h (x .r) (x .blocks) (x .blocks') (allowed plan draw i M l (finish x) z .ready .0) z
+            finish-holds plan draw len i M vec l h (x .r) (x .blocksA) (x .blocksB) (allowed plan draw i M l (finish x) z .ready .0) z
             (fit .0 .0) (fit .0 .1);
       }
 

@@ -8,7 +8,7 @@ use native.Mathlib.Omega.{arith}
 use Rattle.vectors.specs.Vector.{Vector, numbers}
 use Rattle.runs.specs.Outline.{Act, moves, acts, sends}
 use Rattle.runs.specs.Calls.{Call, perform, after, broadcast, openingLine, masksLine, Among}
-use Rattle.runs.proofs.Marks.{Marks, markOf, leftOf, rightOf, less, marksAll}
+use Rattle.runs.proofs.Marks.{Marks, markOf, rememberedA, rememberedB, less, marksAll}
 use Rattle.runs.proofs.Steps.{Stands, vectorsAfter, stands-after}
 use Rattle.runs.proofs.Facts.{Allowed, Facts, MasksIn}
 use Rattle.runs.proofs.Rows.{sized-after, held-stays, past-stays, five-before, unmasked}
@@ -73,15 +73,15 @@ module _ (C : Run) (m : Moment) (S : State C m) where
         lr : r < 96
         lr = omega (arith, o .row)
 
-        go : ((markOf M r ≡ 5) × (leftOf M' r ≡ leftOf M r) × (rightOf M' r ≡ rightOf M r)) ⊎ MasksIn (acts c) r → markOf M' r ≡ 5
+        go : ((markOf M r ≡ 5) × (rememberedA M' r ≡ rememberedA M r) × (rememberedB M' r ≡ rememberedB M r)) ⊎ MasksIn (acts c) r → markOf M' r ≡ 5
             → Past M r × (markOf M r ≡ 5 → xs ≡ maskNumbers C M vec r j) → xs ≡ maskNumbers C M' vec' r j
         go (inr at) five' old = absurd (unmasked plan draw (acts c) M (S .sized) (al .moving) r at (old .0))
         go (inl (five, el, er)) five' old =
             let w = S .facts r lr .waiting five in
             let t = S .facts r lr .triple (inr five) in
             let t' = facts' r lr .triple (inr five') in
-            let ea : vec (leftOf M r) ≡ vec' (leftOf M' r) = sym (ap vec' el ∙ held-stays plan draw (numberAt plan draw u) (moves c) M vec (S .sized) (al .moving) (leftOf M r) (w .a-held) .1) in
-            let eb : vec (rightOf M r) ≡ vec' (rightOf M' r) = sym (ap vec' er ∙ held-stays plan draw (numberAt plan draw u) (moves c) M vec (S .sized) (al .moving) (rightOf M r) (w .b-held) .1) in
+            let ea : vec (rememberedA M r) ≡ vec' (rememberedA M' r) = sym (ap vec' el ∙ held-stays plan draw (numberAt plan draw u) (moves c) M vec (S .sized) (al .moving) (rememberedA M r) (w .a-held) .1) in
+            let eb : vec (rememberedB M r) ≡ vec' (rememberedB M' r) = sym (ap vec' er ∙ held-stays plan draw (numberAt plan draw u) (moves c) M vec (S .sized) (al .moving) (rememberedB M r) (w .b-held) .1) in
             let e0 : vec r ≡ vec' r = t .is-a ∙ sym (t' .is-a) in
             let e1 : vec (r + 1) ≡ vec' (r + 1) = t .is-b ∙ sym (t' .is-b) in
             old .1 five

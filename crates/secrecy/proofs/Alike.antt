@@ -12,7 +12,7 @@ use Rattle.session.specs.Sessions.{answer}
 use Rattle.vectors.specs.Vector.{Vector, number, numbers}
 use Rattle.runs.specs.Draws.{pointOf}
 use Rattle.runs.specs.Outline.{Act, masks, acts, Sending, itsOpening, itsMasks, sends}
-use Rattle.runs.specs.Calls.{Post, Call, Left, perform, sentBy, broadcast, lineOf, Among}
+use Rattle.runs.specs.Calls.{Post, Call, Performed, perform, sentBy, broadcast, lineOf, Among}
 use Rattle.runs.proofs.Outlines.{every-all}
 use Rattle.runs.proofs.Marks.{Marks, Sized, markOf, less, rawVector, Masking, of, masking, marksBy}
 use Rattle.runs.proofs.Outcomes.{refusalOf, refusal-is, silent}
@@ -123,7 +123,7 @@ module _ (T : Two) (m : Moments) (R : Pair T m) (i : ℕ) (lo : 1 ≤ i) (hi : i
           (subst (λ (todo : List Act). Allowed todo (sends (c1 c)) M) (acts-at (T .plan) (T .d) (T .u) lines i c)
           (allowed (T .plan) (T .d) i M (q i .rows) (c1 c) (subst (λ (x : Post). refusalOf (c1 c) x ≡ 0) (is-p1 T m R i lo hi) z)))
 
-  pub record Same (o o' : Left) (c c' : Call) : Type 0 where
+  pub record Same (o o' : Performed) (c c' : Call) : Type 0 where
     pub refusal : o .answer .refusal ≡ o' .answer .refusal
     pub value : o .answer .value ≡ o' .answer .value
     pub lines-same : broadcast i c o ≡ broadcast i c' o'

@@ -18,7 +18,7 @@ use Rattle.opening.specs.Opening.{openRefusal, openChecks, openTests}
 use Rattle.vectors.specs.Vector.{number}
 use Rattle.runs.specs.Draws.{pointOf, rawPack, triplePack}
 use Rattle.runs.specs.Outline.{loadRow, loadTriple, deal, message, opening, linear, masks, finish, aRecord}
-use Rattle.runs.specs.Calls.{Post, Call, Left, perform}
+use Rattle.runs.specs.Calls.{Post, Call, Performed, perform}
 use Rattle.runs.proofs.Marks.{markOf, sessionAt}
 use Rattle.runs.proofs.Outcomes.{conditionAt, fails, Doing, does, refusalOf, refusal-is, value-is}
 use Rattle.runs.proofs.Holds.{Holds}
@@ -75,7 +75,7 @@ module _ (T : Two) (m : Moments) (R : Pair T m)
       named (T .plan) (T .d') (T .len i) i M vec' (q' i) (R .two .posts i lo hi)
       ∙ ap
       (λ (f : ℕ → ℕ). record {
-        session = record { n = T .plan .n; t = T .plan .t; post = i; point = f i; marks = M .marks; left = M .left; right = M .right };
+        session = record { n = T .plan .n; t = T .plan .t; post = i; point = f i; marks = M .marks; «factor_a» = M .factor-a; «factor_b» = M .factor-b };
         rows = q' i .rows;
       })
       (T .link .points)
@@ -169,7 +169,7 @@ module _ (T : Two) (m : Moments) (R : Pair T m)
   alike (masks x) rule =
       (Twins.masks-same (T .plan) (T .d) (T .K) M vec vec' near i lo hi (T .len i) l l' h h' (x .a) (x .b) (x .r) (x .lent i), λ z. refl)
   alike (finish x) rule = (
-    Twins.finish-same (T .plan) (T .d) (T .K) M vec vec' near i lo hi (T .len i) l l' h h' (x .r) (x .blocks i lines) (x .blocks' i lines)
+    Twins.finish-same (T .plan) (T .d) (T .K) M vec vec' near i lo hi (T .len i) l l' h h' (x .r) (x .blocksA i lines) (x .blocksB i lines)
         (wait-numbers T m R (x .r)),
     λ z. refl,
   )
@@ -191,5 +191,5 @@ module _ (T : Two) (m : Moments) (R : Pair T m)
       (subst (λ (y : Post). Rule (T .plan) c (refusalOf (c1 c) p1) lines → Answered (perform (c1 c) p1) (perform (c2 c) y)) (sym is-p2)
       (λ rule. (refusal-is (c1 c) p1 ∙ refusals c rule ∙ sym (refusal-is (c2 c) p2), values c rule)))
     where
-      Answered : Left → Left → Type 0
+      Answered : Performed → Performed → Type 0
       Answered o o' = (o .answer .refusal ≡ o' .answer .refusal) × (o .answer .value ≡ o' .answer .value)

@@ -22,7 +22,7 @@ use Rattle.vectors.specs.Vector.{Vector, number, rowOf}
 use Rattle.runs.specs.Draws.{Plan, Draw, IsDraw, Sound, IsRaw, pointOf}
 use Rattle.runs.specs.Outline.{Act, aRecord, acts}
 use Rattle.runs.specs.Calls.{Proper, Post, openingLine, Among}
-use Rattle.runs.proofs.Marks.{Marks, Sized, markOf, leftOf, rightOf, sessionAt, less, maskA, maskB, Masking, none, of, masking}
+use Rattle.runs.proofs.Marks.{Marks, Sized, markOf, rememberedA, rememberedB, sessionAt, less, maskVectorA, maskVectorB, Masking, none, of, masking}
 use Rattle.runs.proofs.Outcomes.{conditionAt, fails}
 use Rattle.runs.proofs.Holds.{Holds}
 use Rattle.runs.proofs.Records.{Present, block-many, block-low, alone}
@@ -92,8 +92,8 @@ module _ (T : Two) where
     pub agreed : (r j : ℕ) (xs : List ℕ) → AnOpening (runOne T) r j xs → Among (openingLine r j xs) (m .lines)
         → m .book .place r ≡ m .book' .place r
     pub waiting : (r : ℕ) → r < 96 → markOf (m .marks) r ≡ 5
-        → (apart (m .book .factorA r) (m .book' .factorA r) ≡ T .Δ r .left)
-        × (apart (m .book .factorB r) (m .book' .factorB r) ≡ T .Δ r .right)
+        → (apart (m .book .factorA r) (m .book' .factorA r) ≡ T .Δ r .factor-a)
+        × (apart (m .book .factorB r) (m .book' .factorB r) ≡ T .Δ r .factor-b)
 
   -- what of it marks, vectors and books show
   pub record Core (M : Marks) (vec vec' : ℕ → Vector) (b b' : Book) : Type 0 where
@@ -102,7 +102,7 @@ module _ (T : Two) where
     pub two : Facts (T .plan) (T .d') (Held b') (Waits b') M vec'
     pub near : (r : ℕ) → r < 96 → markOf M r ≢ 0 → Near (T .plan .n) (T .plan .t + 1) (pointOf (T .d)) (T .K) (vec r) (vec' r)
     pub waiting : (r : ℕ) → r < 96 → markOf M r ≡ 5
-        → (apart (b .factorA r) (b' .factorA r) ≡ T .Δ r .left) × (apart (b .factorB r) (b' .factorB r) ≡ T .Δ r .right)
+        → (apart (b .factorA r) (b' .factorA r) ≡ T .Δ r .factor-a) × (apart (b .factorB r) (b' .factorB r) ≡ T .Δ r .factor-b)
 
   -- ---- numbers in the two runs
 
@@ -121,7 +121,7 @@ module _ (T : Two) where
     held-gap r lr two = ap₂ (λ (x y : Element). x ⊕ neg y) (held-two r lr two) (held-one r lr two)
 
     triple-gap : (r : ℕ) → r < 96 → (markOf M r ≡ 3) ⊎ (markOf M r ≡ 5)
-        → (gap (vec r) (vec' r) ≡ T .Δ r .left) × (gap (vec (r + 1)) (vec' (r + 1)) ≡ T .Δ r .right)
+        → (gap (vec r) (vec' r) ≡ T .Δ r .factor-a) × (gap (vec (r + 1)) (vec' (r + 1)) ≡ T .Δ r .factor-b)
     triple-gap r lr m =
         let x = K .one r lr .triple m in
         let y = K .two r lr .triple m in
@@ -129,7 +129,7 @@ module _ (T : Two) where
 
     -- the masks have one number in both runs
     core-masks : (r x y : ℕ) → r < 96 → (markOf M r ≡ 3) ⊎ (markOf M r ≡ 5) → x < 96 → markOf M x ≡ 2 → y < 96 → markOf M y ≡ 2
-        → apart (b .place x) (b' .place x) ≡ T .Δ r .left → apart (b .place y) (b' .place y) ≡ T .Δ r .right
+        → apart (b .place x) (b' .place x) ≡ T .Δ r .factor-a → apart (b .place y) (b' .place y) ≡ T .Δ r .factor-b
         → (number (less (vec x) (vec r)) ≡ number (less (vec' x) (vec' r)))
         × (number (less (vec y) (vec (r + 1))) ≡ number (less (vec' y) (vec' (r + 1))))
     core-masks r x y lr m lx hx ly hy ea eb =
@@ -139,18 +139,18 @@ module _ (T : Two) where
         )
 
     pub core-wait : (r : ℕ) → markOf M r ≡ 5 → r < 96
-        → (number (maskA M vec r) ≡ number (maskA M vec' r)) × (number (maskB M vec r) ≡ number (maskB M vec' r))
+        → (number (maskVectorA M vec r) ≡ number (maskVectorA M vec' r)) × (number (maskVectorB M vec r) ≡ number (maskVectorB M vec' r))
     core-wait r five lr =
         let w = K .one r lr .waiting five in
         let w' = K .two r lr .waiting five in
         let e = K .waiting r lr five in
-        core-masks r (leftOf M r) (rightOf M r) lr (inr five) (w .a-low) (w .a-held) (w .b-low) (w .b-held)
+        core-masks r (rememberedA M r) (rememberedB M r) lr (inr five) (w .a-low) (w .a-held) (w .b-low) (w .b-held)
         (ap₂ apart (sym (w .means .0)) (sym (w' .means .0)) ∙ e .0) (ap₂ apart (sym (w .means .1)) (sym (w' .means .1)) ∙ e .1)
 
   -- what the call's place in the list says of masks: they are those that the matching reckoned with
   abbrev pub FitBy : Masking → Book → Book → Type 0
   FitBy none b b' = Unit {0}
-  FitBy (of x y r) b b' = (apart (b .place x) (b' .place x) ≡ T .Δ r .left) × (apart (b .place y) (b' .place y) ≡ T .Δ r .right)
+  FitBy (of x y r) b b' = (apart (b .place x) (b' .place x) ≡ T .Δ r .factor-a) × (apart (b .place y) (b' .place y) ≡ T .Δ r .factor-b)
 
   abbrev pub FitAll : List Act → Book → Book → Type 0
   FitAll [] b b' = Unit {0}
@@ -166,13 +166,13 @@ module _ (T : Two) where
     place-number = core-place M vec vec' b b' core
 
     pub masks-number : (r x y : ℕ) → r < 96 → (markOf M r ≡ 3) ⊎ (markOf M r ≡ 5) → x < 96 → markOf M x ≡ 2 → y < 96 → markOf M y ≡ 2
-        → apart (b .place x) (b' .place x) ≡ T .Δ r .left → apart (b .place y) (b' .place y) ≡ T .Δ r .right
+        → apart (b .place x) (b' .place x) ≡ T .Δ r .factor-a → apart (b .place y) (b' .place y) ≡ T .Δ r .factor-b
         → (number (less (vec x) (vec r)) ≡ number (less (vec' x) (vec' r)))
         × (number (less (vec y) (vec (r + 1))) ≡ number (less (vec' y) (vec' (r + 1))))
     masks-number = core-masks M vec vec' b b' core
 
     pub wait-numbers : (r : ℕ) → markOf M r ≡ 5 → r < 96
-        → (number (maskA M vec r) ≡ number (maskA M vec' r)) × (number (maskB M vec r) ≡ number (maskB M vec' r))
+        → (number (maskVectorA M vec r) ≡ number (maskVectorA M vec' r)) × (number (maskVectorB M vec r) ≡ number (maskVectorB M vec' r))
     wait-numbers = core-wait M vec vec' b b' core
 
     abbrev pub Fit : Step → Type 0

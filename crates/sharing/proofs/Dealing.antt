@@ -13,21 +13,21 @@ use Rattle.refusal.proofs.Endings.{accepted}
 use Rattle.session.specs.declared.Session.{Session}
 use Rattle.session.specs.Sessions.{shapeOf}
 use Rattle.session.specs.Rows.{width, rowAt, withRow, plusSums}
-use Rattle.session.specs.Checks.{frameTests, noRow, unlike, Framed, Sized, RowIn}
+use Rattle.session.specs.Checks.{frameTests, noRow, wrongMark, Framed, Sized, RowIn}
 use Rattle.session.proofs.Passed.{row-in}
 use Rattle.session.proofs.Calls.{stopped-at-frame, past-frame, allowed}
 use Rattle.sharing.specs.Deal.{dealRefusal, dealRows}
 
 module _ (s : Session) (rows : List ℕ) (r c : ℕ) where
   abbrev own : List Test
-  own = 6 when noRow r ∷ 7 when unlike s r raw ∷ 8 when beyond c ∷ 8 when anyBeyond (rowAt (width s) rows r) ∷ []
+  own = 6 when noRow r ∷ 7 when wrongMark s r raw ∷ 8 when beyond c ∷ 8 when anyBeyond (rowAt (width s) rows r) ∷ []
 
   pub deal-stopped : (f : ℕ) → f ≡ first (frameTests s rows) → (f ≡ 0 → ⊥) → f ≡ dealRefusal s rows r c
   unfolding dealRefusal
   deal-stopped f e n = stopped-at-frame s rows own f e n
 
   pub deal-checked : (g : Shape) (f q6 q7 q8 q9 x y z : ℕ) → g ≡ shapeOf s → f ≡ first (frameTests s rows) → f ≡ 0
-      → q6 ≡ first (6 when noRow r ∷ []) → q7 ≡ first (7 when unlike s r raw ∷ []) → q8 ≡ first (8 when beyond c ∷ [])
+      → q6 ≡ first (6 when noRow r ∷ []) → q7 ≡ first (7 when wrongMark s r raw ∷ []) → q8 ≡ first (8 when beyond c ∷ [])
       → q9 ≡ first (8 when anyBeyond (rowAt (rowLength g) rows r) ∷ []) → x ≡ orElse q8 q9 → y ≡ orElse q7 x → z ≡ orElse q6 y
       → z ≡ dealRefusal s rows r c
   unfolding dealRefusal

@@ -30,8 +30,8 @@ drawn = 7 ∷ 4 ∷ 1 ∷ 2 ∷ 3 ∷ 1 ∷ 5 ∷ 6 ∷ []
 abbrev pub sessionAt : ℕ → Session
 sessionAt i = created 3 1 i (pointAt i) .session
 
-abbrev pub rowAt : List ℕ → ℕ → List ℕ
-rowAt draw i = part 3 2 i (pointAt i) draw
+abbrev pub postRow : List ℕ → ℕ → List ℕ
+postRow draw i = part 3 2 i (pointAt i) draw
 
 -- a record with post 2's block alone
 abbrev pub fromPost2 : ℕ → ℕ → List ℕ
@@ -45,7 +45,7 @@ fromAll row =
 
 -- P8: post i's row "after P1", when it is dealt
 abbrev pub dealtRow : ℕ → List ℕ
-dealtRow i = plusSums (sumsAt (sessionAt i)) (dealerNumber 100 7 .value) (rowAt drawn i)
+dealtRow i = plusSums (sumsAt (sessionAt i)) (dealerNumber 100 7 .value) (postRow drawn i)
 
 -- P9: rows of a = 6 and b = 7, and of a triple with l = 2 and l' = 5, whose draw lacks the constant of l''
 unfoldable pub drawnA : List ℕ
@@ -59,23 +59,23 @@ drawnTriple =
     (2 ∷ 1 ∷ 5 ∷ 1 ∷ 3 ∷ 2 ∷ 1 ∷ 7 ∷ []) ++ ((5 ∷ 2 ∷ 1 ∷ 1 ∷ 6 ∷ 3 ∷ 2 ∷ 2 ∷ []) ++ (9 ∷ 4 ∷ 1 ∷ 8 ∷ 3 ∷ 5 ∷ 2 ∷ []))
 
 abbrev pub rowL : ℕ → List ℕ
-rowL i = rowAt (firstDraw 8 drawnTriple) i
+rowL i = postRow (firstDraw 8 drawnTriple) i
 
 abbrev pub rowL' : ℕ → List ℕ
-rowL' i = rowAt (secondDraw 8 drawnTriple) i
+rowL' i = postRow (secondDraw 8 drawnTriple) i
 
 abbrev pub rowL'' : ℕ → List ℕ
-rowL'' i = rowAt (thirdDraw 8 drawnTriple) i
+rowL'' i = postRow (thirdDraw 8 drawnTriple) i
 
 -- a − l and b − l', what each post opens of them, and its row of the product
-abbrev pub maskA : ℕ → List ℕ
-maskA i = less (rowAt drawnA i) (rowL i)
+abbrev pub maskRowA : ℕ → List ℕ
+maskRowA i = less (postRow drawnA i) (rowL i)
 
-abbrev pub maskB : ℕ → List ℕ
-maskB i = less (rowAt drawnB i) (rowL' i)
+abbrev pub maskRowB : ℕ → List ℕ
+maskRowB i = less (postRow drawnB i) (rowL' i)
 
 abbrev pub masksOpened : ℕ → OpenedMasks
-masksOpened i = openedBoth (sessionAt i) (maskA i) (maskB i) (fromAll maskA) (fromAll maskB)
+masksOpened i = openedBoth (sessionAt i) (maskRowA i) (maskRowB i) (fromAll maskRowA) (fromAll maskRowB)
 
 abbrev pub multiplied : ℕ → List ℕ
 multiplied i = productRow (sessionAt i) (masksOpened i .y) (masksOpened i .z) (rowL i) (rowL' i) (rowL'' i)
@@ -109,16 +109,16 @@ pub record Table : Type 0 where
   -- P2 "dealing 3 gives 2147483643."
   pub p2 : dealerNumber 3 7 ≡ record { refusal = 0; value = 2147483643 }
   -- P3 "post 1's row: 1,2,5,5,17,12,18,24."
-  pub p3 : rowAt drawn 1 ≡ 1 ∷ 2 ∷ 5 ∷ 5 ∷ 17 ∷ 12 ∷ 18 ∷ 24 ∷ []
+  pub p3 : postRow drawn 1 ≡ 1 ∷ 2 ∷ 5 ∷ 5 ∷ 17 ∷ 12 ∷ 18 ∷ 24 ∷ []
   -- P4 "post 3's: 5,6,11,8,35,12,18,24."
-  pub p4 : rowAt drawn 3 ≡ 5 ∷ 6 ∷ 11 ∷ 8 ∷ 35 ∷ 12 ∷ 18 ∷ 24 ∷ []
+  pub p4 : postRow drawn 3 ≡ 5 ∷ 6 ∷ 11 ∷ 8 ∷ 35 ∷ 12 ∷ 18 ∷ 24 ∷ []
   -- P5 "post 1 accepts 3 + z from post 2."
-  pub p5 : accepts (sessionAt 1) (rowAt drawn 1) (fromPost2 3 1) 2 ≡ true
+  pub p5 : accepts (sessionAt 1) (postRow drawn 1) (fromPost2 3 1) 2 ≡ true
   -- P6 "it rejects 6 + 0z."
-  pub p6 : accepts (sessionAt 1) (rowAt drawn 1) (fromPost2 6 0) 2 ≡ false
+  pub p6 : accepts (sessionAt 1) (postRow drawn 1) (fromPost2 6 0) 2 ≡ false
   -- P7 "it accepts the false 1 + 2z from post 2; post 3 rejects it."
-  pub p7 : accepts (sessionAt 1) (rowAt drawn 1) (fromPost2 1 2) 2 ≡ true
-  pub p7' : accepts (sessionAt 3) (rowAt drawn 3) (fromPost2 1 2) 2 ≡ false
+  pub p7 : accepts (sessionAt 1) (postRow drawn 1) (fromPost2 1 2) 2 ≡ true
+  pub p7' : accepts (sessionAt 3) (postRow drawn 3) (fromPost2 1 2) 2 ≡ false
   -- P8 "after P1 the shares are 104, 108, 112;"
   pub p8 : eachPost 3 (share (sessionAt 1) (dealtRow 1) (fromAll dealtRow)) ≡ 104 ∷ 108 ∷ 112 ∷ []
   -- "posts 1 and 2 give 100, posts 2 and 3 give 100."

@@ -7,13 +7,13 @@ use borrow.Author.Tests.{lt-ltb, le-ltb, eq-eqb, ne-eqb, ltb-false}
 use lib.ListN.{length}
 use Rattle.refusal.specs.Refusal.{first, orElse}
 use Rattle.refusal.proofs.Laws.{orElse-zero, all-fail, equal}
-use Rattle.station.specs.Step.{roomRefusal}
-use Rattle.station.proofs.Room.{none-ready, ready-none}
+use Rattle.interpreter.specs.Step.{roomRefusal}
+use Rattle.interpreter.proofs.Room.{none-ready, ready-none}
 use Rattle.transcript.specs.declared.Feed.{Feed}
 use Rattle.transcript.specs.declared.Progress.{Progress}
 use Rattle.transcript.specs.Lines.{keptLength}
 use Rattle.transcript.specs.Program.{Running, running, Open, Added, Fed}
-use Rattle.transcript.specs.Limits.{feedTests, openRefusal, Moved}
+use Rattle.transcript.specs.Limits.{feedTests, feedRefusal, Moved}
 
 -- ---- the tests, one by one
 module _ (f : Feed) (line out : List ℕ) (k : ℕ) where
@@ -52,12 +52,12 @@ module _ (f : Feed) (line out : List ℕ) (k : ℕ) where
 -- ---- all together
 module _ (f : Feed) (rows blocks line out : List ℕ) (k : ℕ) where
   pub refusal-joined : (r a b : ℕ) → r ≡ orElse a b → a ≡ roomRefusal (f .state) rows blocks → b ≡ first (feedTests f line out k)
-      → r ≡ openRefusal f rows blocks line out k
-  unfolding openRefusal
+      → r ≡ feedRefusal f rows blocks line out k
+  unfolding feedRefusal
   refusal-joined r a b e p q = e ∙ ap₂ orElse p q
 
-  pub none-open : (r : ℕ) → r ≡ openRefusal f rows blocks line out k → r ≡ 0 → Open f rows blocks line out k
-  unfolding openRefusal
+  pub none-open : (r : ℕ) → r ≡ feedRefusal f rows blocks line out k → r ≡ 0 → Open f rows blocks line out k
+  unfolding feedRefusal
   none-open r e z =
       let a = orElse-zero (roomRefusal (f .state) rows blocks) (first (feedTests f line out k)) (sym e ∙ z) in
       let b = all-fail (feedTests f line out k) tt (a .1) in
@@ -69,15 +69,15 @@ module _ (f : Feed) (rows blocks line out : List ℕ) (k : ℕ) where
         room = ltb-false (length out) (f .at + 43 * k) (b .1 .1 .0);
       }
 
-  pub open-none : Open f rows blocks line out k → openRefusal f rows blocks line out k ≡ 0
-  unfolding openRefusal
+  pub open-none : Open f rows blocks line out k → feedRefusal f rows blocks line out k ≡ 0
+  unfolding feedRefusal
   open-none o =
       let n : f .number + k ≤ 18446744073709551615 = omega (arith, o .numbers) in
       rw (ready-none (f .state) rows blocks (o .ready), eq-eqb (length line) keptLength (o .line-room), le-ltb keptLength (f .len) (o .len-in), le-ltb (length out) (f .at + 43 * k) (o .room), le-ltb 18446744073709551615 (f .number + k) n)
 
-  module _ (new : Running) (newLine : List ℕ) (r : ℕ) (e : r ≡ openRefusal f rows blocks line out k) where
+  module _ (new : Running) (newLine : List ℕ) (r : ℕ) (e : r ≡ feedRefusal f rows blocks line out k) where
     pub moved-nothing : (r ≡ 0 → ⊥)
-        → Moved (openRefusal f rows blocks line out k) k f rows blocks line out new newLine (record { refusal = r; feed = f }) rows blocks line out
+        → Moved (feedRefusal f rows blocks line out k) k f rows blocks line out new newLine (record { refusal = r; feed = f }) rows blocks line out
     moved-nothing n =
         record {
           refusal-is = e;
@@ -90,7 +90,7 @@ module _ (f : Feed) (rows blocks line out : List ℕ) (k : ℕ) where
 
     pub moved : (g : Feed) (rows' blocks' line' out' : List ℕ) → r ≡ 0 → running g rows' blocks' line' out' ≡ new → line' ≡ newLine → Fed f g rows' blocks' k
         → Added f g out out'
-        → Moved (openRefusal f rows blocks line out k) k f rows blocks line out new newLine (record { refusal = 0; feed = g }) rows' blocks' line' out'
+        → Moved (feedRefusal f rows blocks line out k) k f rows blocks line out new newLine (record { refusal = 0; feed = g }) rows' blocks' line' out'
     moved g rows' blocks' line' out' z p q d a =
         record {
           refusal-is = sym z ∙ e;

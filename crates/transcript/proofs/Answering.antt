@@ -12,8 +12,8 @@ use lib.Seq.{drop-drop, length-take-le}
 use Rattle.decimal.specs.Numeral.{lastDigits}
 use Rattle.decimal.proofs.Digits.{length-digits}
 use Rattle.decimal.proofs.Sizes.{size-le}
-use Rattle.fields.specs.Fields.{fields, overwrite}
-use Rattle.fields.proofs.Overwriting.{overwrite-part, overwrite-byte, overwrite-twice, length-fields-le}
+use Rattle.csv.specs.Fields.{fields, overwrite}
+use Rattle.csv.proofs.Overwriting.{overwrite-part, overwrite-byte, overwrite-twice, length-fields-le}
 use Rattle.transcript.specs.Text.{longSize, longNumeral, answerText}
 
 -- ---- a number

@@ -9,16 +9,16 @@ use lib.ListN.{length, getD, take, drop, length-append}
 use lib.Seq.{take-at, drop-at, length-take-le}
 use Rattle.decimal.proofs.Digits.{length-digits}
 use Rattle.decimal.proofs.Sizes.{size-le}
-use Rattle.fields.specs.Fields.{fields, overwrite}
-use Rattle.fields.proofs.Overwriting.{length-fields-le}
+use Rattle.csv.specs.Fields.{fields, overwrite}
+use Rattle.csv.proofs.Overwriting.{length-fields-le}
 use Rattle.refusal.specs.Refusal.{outcome}
 use Rattle.session.specs.declared.Session.{Session}
 use Rattle.session.specs.declared.Answer.{Answer}
 use Rattle.session.specs.Sessions.{sessionOf, created}
-use Rattle.station.specs.declared.Stepped.{Stepped}
-use Rattle.station.specs.Step.{step, checkedStep, leaving, Ready}
-use Rattle.station.proofs.Ranges.{step-ready}
-use Rattle.station.proofs.Room.{ready-step}
+use Rattle.interpreter.specs.declared.Stepped.{Stepped}
+use Rattle.interpreter.specs.Step.{step, checkedStep, leaving, Ready}
+use Rattle.interpreter.proofs.Ranges.{step-ready}
+use Rattle.interpreter.proofs.Room.{ready-step}
 use Rattle.transcript.specs.declared.Feed.{Feed}
 use Rattle.transcript.specs.Text.{longSize, longNumeral, answerText, longestAnswer}
 use Rattle.transcript.specs.Lines.{keptLength, cut}

@@ -13,8 +13,8 @@ use mir.Val.{Fits}
 use lib.ListN.{length, getD, take, drop, length-append, length-drop, drop-of-length-le}
 use lib.Seq.{drop-cons, take-at, take-all, take-append-add, length-take-le}
 use lib.Dec.{ltb}
-use Rattle.fields.specs.Fields.{overwrite}
-use Rattle.fields.proofs.Overwriting.{overwrite-part}
+use Rattle.csv.specs.Fields.{overwrite}
+use Rattle.csv.proofs.Overwriting.{overwrite-part}
 use Rattle.transcript.specs.Lines.{segment, keptLength, cut, laid}
 
 -- ---- the end of a line

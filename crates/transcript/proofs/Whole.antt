@@ -7,9 +7,9 @@ use native.Mathlib.Omega.{arith}
 use borrow.Author.Tests.{ne-eqb}
 use lib.ListN.{length, replicate}
 use lib.Dec.{eqb}
-use Rattle.station.specs.declared.State.{State}
-use Rattle.station.specs.Step.{After, step}
-use Rattle.station.proofs.Cutting.{step-cut}
+use Rattle.interpreter.specs.declared.State.{State}
+use Rattle.interpreter.specs.Step.{After, step}
+use Rattle.interpreter.proofs.Cutting.{step-cut}
 use Rattle.transcript.specs.Text.{header}
 use Rattle.transcript.specs.Lines.{keptLength, cut}
 use Rattle.transcript.specs.Program.{Running, leftBy, answered, grown, taken, fed, closed, drained, passed, printedFor, joined, ChunksPrint, firstState, begun, output, linesFrom, withAnswer, answers, printed, PrintsAnswers}

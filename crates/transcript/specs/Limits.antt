@@ -5,8 +5,8 @@ use mathlib.Core.List.{List, [], _∷_}
 use lib.ListN.{length}
 use lib.Dec.{ltb}
 use Rattle.refusal.specs.Refusal.{Test, _when_, first, orElse}
-use Rattle.refusal.specs.Conditions.{missized}
-use Rattle.station.specs.Step.{roomRefusal}
+use Rattle.refusal.specs.Conditions.{wrongLength}
+use Rattle.interpreter.specs.Step.{roomRefusal}
 use Rattle.transcript.specs.declared.Feed.{Feed}
 use Rattle.transcript.specs.declared.Progress.{Progress}
 use Rattle.transcript.specs.Text.{longestAnswer}
@@ -17,12 +17,12 @@ use Rattle.transcript.specs.Program.{Running, running, Added, Fed}
 -- the largest of 64 bits.
 abbrev pub feedTests : Feed → List ℕ → List ℕ → ℕ → List Test
 feedTests f line out k =
-    5 when missized line keptLength ∷ 5 when ltb keptLength (f .len) ∷ 5 when ltb (length out) (f .at + longestAnswer * k)
+    5 when wrongLength line keptLength ∷ 5 when ltb keptLength (f .len) ∷ 5 when ltb (length out) (f .at + longestAnswer * k)
     ∷ 11 when ltb 18446744073709551615 (f .number + k) ∷ []
 
 -- 1, 2 and 5 as a step has them, then these.
-unfoldable pub openRefusal : Feed → List ℕ → List ℕ → List ℕ → List ℕ → ℕ → ℕ
-openRefusal f rows blocks line out k = orElse (roomRefusal (f .state) rows blocks) (first (feedTests f line out k))
+unfoldable pub feedRefusal : Feed → List ℕ → List ℕ → List ℕ → List ℕ → ℕ → ℕ
+feedRefusal f rows blocks line out k = orElse (roomRefusal (f .state) rows blocks) (first (feedTests f line out k))
 
 -- The answer to k bytes, with the lists afterwards: all as it was, where they are refused; else the new state and the new line.
 pub record Moved (x k : ℕ) (f : Feed) (rows blocks line out : List ℕ) (new : Running) (newLine : List ℕ) (r : Progress) (rows' blocks' line' out' : List ℕ) : Type 0 where

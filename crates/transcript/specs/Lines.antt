@@ -4,7 +4,7 @@ use mathlib.Core.List.{List, [], _∷_}
 use mathlib.Core.Bool.{cond}
 use lib.ListN.{take}
 use lib.Dec.{eqb}
-use Rattle.fields.specs.Fields.{overwrite}
+use Rattle.csv.specs.Fields.{overwrite}
 
 -- How many bytes reach up to the first line feed, itself included, or to the end.
 unfoldable pub segment : List ℕ → ℕ

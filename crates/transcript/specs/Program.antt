@@ -6,8 +6,8 @@ use mathlib.Core.Bool.{false, cond}
 use lib.ListN.{length, getD, take, drop, replicate}
 use lib.Dec.{eqb}
 use Rattle.session.specs.Sessions.{sessionOf}
-use Rattle.station.specs.declared.State.{State}
-use Rattle.station.specs.Step.{step, After, Ready}
+use Rattle.interpreter.specs.declared.State.{State}
+use Rattle.interpreter.specs.Step.{step, After, Ready}
 use Rattle.transcript.specs.declared.Feed.{Feed}
 use Rattle.transcript.specs.Text.{header, answerText, longestAnswer}
 use Rattle.transcript.specs.Lines.{cut, keptLength, laid}

@@ -1,19 +1,19 @@
 // The transcript: input bytes split into lines, and the answers as text.
 mod limits;
 
+use interpreter::State;
 use session::Session;
-use station::State;
 ghost use mathlib.Core.Path.{_≡_};
 ghost use mathlib.Core.Bool.{cond};
 ghost use mathlib.Core.List.{_++_};
 ghost use Prim.Native.Nat.{_+_, _≤_};
 ghost use lib.ListN.{length, take, drop};
 ghost use lib.Dec.{ltb};
-ghost use Rattle.station.specs.Step.{Ready};
-ghost use Rattle.fields.specs.Fields.{overwrite};
+ghost use Rattle.interpreter.specs.Step.{Ready};
+ghost use Rattle.csv.specs.Fields.{overwrite};
 ghost use Rattle.transcript.specs.Text.{header, longSize, longNumeral, answerText, longestAnswer};
 ghost use Rattle.transcript.specs.Lines.{segment, keptLength, cut, laid};
-ghost use Rattle.transcript.specs.Limits.{openRefusal, Moved};
+ghost use Rattle.transcript.specs.Limits.{feedRefusal, Moved};
 ghost use Rattle.transcript.specs.Program.{running, answered, segmented, fed, closed, lineAfter, drainedFeed, firstFeed, Open, Added, Fed};
 
 // `line,refusal,value`
@@ -53,7 +53,7 @@ fn put_answer(out: &mut [u8], at: usize, number: u64, refusal: u8, value: u32) -
 {
     let behind = put_number(out, at, number);
     let list = [refusal as u32, value];
-    let end = fields::put_fields(out, behind, &list);
+    let end = csv::put_fields(out, behind, &list);
     out[end] = 10;
     end + 1
 }
@@ -125,7 +125,7 @@ fn end_line(feed: Feed, rows: &mut [u32], blocks: &mut [u32], line: &[u8], out: 
     ensures { λ r. ⌜ Added feed r (now (out .entry)) (now (out .exit)) ⌝ }
 {
     let len = feed.len;
-    let stepped = station::step(feed.state, rows, blocks, &line[..len]);
+    let stepped = interpreter::step(feed.state, rows, blocks, &line[..len]);
     let number = feed.number + 1;
     let at = put_answer(out, feed.at, number, stepped.refusal, stepped.value);
     let state = stepped.state;
@@ -236,7 +236,7 @@ fn take_end(feed: Feed, rows: &mut [u32], blocks: &mut [u32], line: &[u8], out: 
 }
 
 // A chunk of the input.
-pub fn read_chunk(
+pub fn feed_chunk(
     feed: Feed,
     rows: &mut [u32],
     blocks: &mut [u32],
@@ -244,7 +244,7 @@ pub fn read_chunk(
     chunk: &[u8],
     out: &mut [u8],
 ) -> Progress
-    ensures { λ r. ⌜ Moved (openRefusal feed (now (rows .entry)) (now (blocks .entry)) (now (line .entry)) (now (out .entry)) (length (now (chunk .entry)))) (length (now (chunk .entry))) feed (now (rows .entry)) (now (blocks .entry)) (now (line .entry)) (now (out .entry)) (fed (running feed (now (rows .entry)) (now (blocks .entry)) (now (line .entry)) (now (out .entry))) (now (chunk .entry))) (lineAfter (running feed (now (rows .entry)) (now (blocks .entry)) (now (line .entry)) (now (out .entry))) (now (line .entry)) (now (chunk .entry))) r (now (rows .exit)) (now (blocks .exit)) (now (line .exit)) (now (out .exit)) ⌝ }
+    ensures { λ r. ⌜ Moved (feedRefusal feed (now (rows .entry)) (now (blocks .entry)) (now (line .entry)) (now (out .entry)) (length (now (chunk .entry)))) (length (now (chunk .entry))) feed (now (rows .entry)) (now (blocks .entry)) (now (line .entry)) (now (out .entry)) (fed (running feed (now (rows .entry)) (now (blocks .entry)) (now (line .entry)) (now (out .entry))) (now (chunk .entry))) (lineAfter (running feed (now (rows .entry)) (now (blocks .entry)) (now (line .entry)) (now (out .entry))) (now (line .entry)) (now (chunk .entry))) r (now (rows .exit)) (now (blocks .exit)) (now (line .exit)) (now (out .exit)) ⌝ }
 {
     let refusal = limits::open_refusal(feed, rows, blocks, line, out, chunk.len());
     if refusal != 0 {
@@ -265,7 +265,7 @@ pub fn end_input(
     line: &[u8],
     out: &mut [u8],
 ) -> Progress
-    ensures { λ r. ⌜ Moved (openRefusal feed (now (rows .entry)) (now (blocks .entry)) (now (line .entry)) (now (out .entry)) 1) 1 feed (now (rows .entry)) (now (blocks .entry)) (now (line .entry)) (now (out .entry)) (closed (running feed (now (rows .entry)) (now (blocks .entry)) (now (line .entry)) (now (out .entry)))) (now (line .entry)) r (now (rows .exit)) (now (blocks .exit)) (now (line .entry)) (now (out .exit)) ⌝ }
+    ensures { λ r. ⌜ Moved (feedRefusal feed (now (rows .entry)) (now (blocks .entry)) (now (line .entry)) (now (out .entry)) 1) 1 feed (now (rows .entry)) (now (blocks .entry)) (now (line .entry)) (now (out .entry)) (closed (running feed (now (rows .entry)) (now (blocks .entry)) (now (line .entry)) (now (out .entry)))) (now (line .entry)) r (now (rows .exit)) (now (blocks .exit)) (now (line .entry)) (now (out .exit)) ⌝ }
 {
     let refusal = limits::open_refusal(feed, rows, blocks, line, out, 1);
     if refusal != 0 {

@@ -2,7 +2,7 @@
 use crate::Feed;
 ghost use mathlib.Core.Path.{_≡_};
 ghost use Rattle.refusal.specs.Refusal.{first};
-ghost use Rattle.transcript.specs.Limits.{feedTests, openRefusal};
+ghost use Rattle.transcript.specs.Limits.{feedTests, feedRefusal};
 
 // 5 of the lent line, of its bytes that count, and of the room for answers; 11 of the line numbers.
 fn feed_refusal<'a>(feed: Feed, line: &'a [u8], out: &'a [u8], count: usize) -> u8
@@ -37,11 +37,11 @@ pub fn open_refusal<'a>(
     out: &'a [u8],
     count: usize,
 ) -> u8
-    ensures { λ r. ⌜ r ≡ openRefusal feed (now (rows .entry)) (now (blocks .entry)) (now (line .entry)) (now (out .entry)) count ⌝ }
+    ensures { λ r. ⌜ r ≡ feedRefusal feed (now (rows .entry)) (now (blocks .entry)) (now (line .entry)) (now (out .entry)) count ⌝ }
 {
     let state = feed.state;
     refusal::or_else(
-        station::room_refusal(state, rows, blocks),
+        interpreter::room_refusal(state, rows, blocks),
         feed_refusal(feed, line, out, count),
     )
 }

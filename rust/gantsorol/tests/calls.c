@@ -17,8 +17,8 @@ static void layout(void) {
     FIELD(gantsorol_session, post);
     FIELD(gantsorol_session, point);
     FIELD(gantsorol_session, marks);
-    FIELD(gantsorol_session, left);
-    FIELD(gantsorol_session, right);
+    FIELD(gantsorol_session, factor_a);
+    FIELD(gantsorol_session, factor_b);
     SIZE(gantsorol_answer);
     FIELD(gantsorol_answer, refusal);
     FIELD(gantsorol_answer, value);
@@ -69,7 +69,7 @@ static void multiply(void) {
         keep(i, gantsorol_masks(posts[i], rows[i], ALL, 0, 1, 93, masks + i * MASKS, MASKS));
     print("masks", masks, N * MASKS);
     printf("marks %d %d %d, of rows %d and %d\n", posts[0].marks[93], posts[0].marks[94], posts[0].marks[95],
-           posts[0].left[93], posts[0].right[93]);
+           posts[0].factor_a[93], posts[0].factor_b[93]);
     fill(left, right, masks);
 
     /* Refused: one triple for two products, one block only, p, no records, rows above 93, an empty triple. */
@@ -98,7 +98,7 @@ static void multiply(void) {
     for (int i = 0; i < N; i++)
         printf("post %d opens %u\n", i + 1, keep(i, gantsorol_open(posts[i], rows[i], ALL, 95, record, RECORD)));
     printf("marks %d %d %d, of rows %d and %d\n", posts[2].marks[93], posts[2].marks[94], posts[2].marks[95],
-           posts[2].left[93], posts[2].right[93]);
+           posts[2].factor_a[93], posts[2].factor_b[93]);
     keep(0, gantsorol_finish(posts[0], rows[0], ALL, 93, left, RECORD, right, RECORD));
 }
 

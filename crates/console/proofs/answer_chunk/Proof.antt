@@ -1,6 +1,6 @@
 -- `answer_chunk` feeds the chunk and hands its answers to standard output.
 use borrow.Author.Needs.{needs}
-use Rattle.station.proofs.Hearing.{prefix-length}
+use Rattle.interpreter.proofs.Hearing.{prefix-length}
 use Rattle.console.proofs.Feeding.{answers-in, chunk-open, chunk-printed, chunk-numbers, chunk-answered}
 use Rattle.console.proofs.answer_chunk.Statement.{statement}
 use Rattle.console.proofs.answer_chunk.Tie as tie
@@ -13,7 +13,7 @@ returns c =
     let read = c .before .before .before .before .before .before .before .before .before .before .before .before in
     let start = read .before .before .before .before .before .before .before .before .before .before in
     let out = c .before .before .before .before .before in
-    let moved = read .read-chunk .ensures in (
+    let moved = read .feed-chunk .ensures in (
       chunk-answered _ _ _ _ _ _ _ _ _ _ _ _ moved (start .pre .0) (start .pre .1) _ (c .drain .ensures) _ _ (out .out .given) (c .before .print .ensures),
       search (ends, moved, start .pre),
     )

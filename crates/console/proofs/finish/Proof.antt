@@ -1,6 +1,6 @@
 -- `finish` closes the input, unless the program broke off.
 use borrow.Author.Needs.{needs}
-use Rattle.station.proofs.Hearing.{prefix-length}
+use Rattle.interpreter.proofs.Hearing.{prefix-length}
 use Rattle.console.proofs.Closing.{finished-broken, unbroken-whole, last-in, finished-closed}
 use Rattle.console.proofs.finish.Statement.{statement}
 use Rattle.console.proofs.finish.Tie as tie

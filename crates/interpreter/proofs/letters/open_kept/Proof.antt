@@ -1,0 +1,12 @@
+use borrow.Author.Needs.{needs}
+use Rattle.interpreter.proofs.Calling.{open-kept, open-empty}
+use Rattle.interpreter.proofs.letters.open_kept.Statement.{statement}
+use Rattle.interpreter.proofs.letters.open_kept.Tie as tie
+
+ruleset ends = (needs, open-kept, open-empty)
+
+pub open-kept-spec : {M : Type 1} → statement M
+open-kept-spec =
+    tie.close
+    (tie.spec (λ c κs. search ends) (λ c. search ends) (λ c κs. search ends) (λ c. search ends) (λ c κs. search ends)
+    (λ c. search ends))
