@@ -45,10 +45,10 @@ Opens L P q r blocks = Answered L P q r blocks (openAnswer (q .session) (q .rows
 
 -- Post q finishes the triple at r, whose masks it made: 9, or done and the third row held.
 pub record Finishes (q : Post) (r : ℕ) (blocksA blocksB : List ℕ) : Type 0 where
-  pub few : (accepted (q .session) (maskA (q .session) (q .rows) r) blocks ≤ q .session .t)
+  pub few : (accepted (q .session) (maskA (q .session) (q .rows) r) blocksA ≤ q .session .t)
       ⊎ (accepted (q .session) (maskB (q .session) (q .rows) r) blocksB ≤ q .session .t)
       → finishAnswer (q .session) (q .rows) r blocksA blocksB .refusal ≡ 9
-  pub enough : q .session .t + 1 ≤ accepted (q .session) (maskA (q .session) (q .rows) r) blocks
+  pub enough : q .session .t + 1 ≤ accepted (q .session) (maskA (q .session) (q .rows) r) blocksA
       → q .session .t + 1 ≤ accepted (q .session) (maskB (q .session) (q .rows) r) blocksB
       → (finishAnswer (q .session) (q .rows) r blocksA blocksB .refusal ≡ 0)
       × (mark (finishAnswer (q .session) (q .rows) r blocksA blocksB .session) (r + 2) ≡ 2)
