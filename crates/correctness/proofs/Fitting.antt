@@ -23,7 +23,7 @@ use Rattle.runs.specs.Calls.{Post, Actual, Call}
 use Rattle.runs.proofs.Outlines.{every-all}
 use Rattle.runs.proofs.Marks.{Marks, rememberedA, rememberedB, sessionAt, less, vectorA, maskVectorA, maskVectorB}
 use Rattle.runs.proofs.Outcomes.{refusalOf}
-use Rattle.runs.proofs.Holds.{Holds}
+use Rattle.runs.proofs.Holds.{Holder}
 use Rattle.runs.proofs.Finishing.{AllTrue, opens-a, opens-b}
 use Rattle.runs.proofs.Records.{own-true}
 use Rattle.runs.proofs.Start.{sizes}
@@ -99,19 +99,31 @@ module _ (plan : Plan) (draw : Draw) (L : Ledger) (sound : Sound plan) (is : IsD
           ∙ ap (λ (X : Vector). numbers (plan .t + 1) (less (vec (rememberedB M r)) X .v j)) (sym (t .is-b))
 
     -- a finish that is not refused
-    module _ (len i : ℕ) (M : Marks) (vec : ℕ → Vector) (f : Known plan draw L M vec) (l : List ℕ) (h : Holds plan draw len i M vec l) (r : ℕ) (blocksA blocksB : List ℕ) (ok : Multiplying 5 M (rememberedA M r) (rememberedB M r) r) where
+    module _ (len i : ℕ) (q : Post) (g : Good plan draw L len i q) (r : ℕ) (blocksA blocksB : List ℕ) (ok : Multiplying 5 (g .marks) (rememberedA (g .marks) r) (rememberedB (g .marks) r) r) where
+      abbrev M : Marks
+      M = g .marks
+
+      abbrev vec : ℕ → Vector
+      vec = g .vec
+
+      abbrev l : List ℕ
+      l = q .rows
+
+      abbrev holder : Holder
+      holder = record { plan = plan; draw = draw; len = len; post = i; marks = M; vec = vec; rows = l; holds = g .stands .holds }
+
       abbrev s : Session
       s = sessionAt plan draw i M
 
       true-a : TrueOf (TrueMask S w (plan .t) (take (plan .t + 1)) r) s (Finish.maskA s l r) blocksA → AllTrue s (maskVectorA M vec r) blocksA
       true-a =
-          all-true-of s (maskVectorA M vec r) blocksA (TrueMask S w (plan .t) (take (plan .t + 1)) r) (Finish.maskA s l r) (opens-a plan draw len i M vec l h r ok)
-          (λ j lj hj ne o. told-a M vec f r ok j lj hj _ o)
+          all-true-of s (maskVectorA M vec r) blocksA (TrueMask S w (plan .t) (take (plan .t + 1)) r) (Finish.maskA s l r) (opens-a holder r ok)
+          (λ j lj hj ne o. told-a M vec (g .facts) r ok j lj hj _ o)
 
       true-b : TrueOf (TrueMask S w (plan .t) (drop (plan .t + 1)) r) s (Finish.maskB s l r) blocksB → AllTrue s (maskVectorB M vec r) blocksB
       true-b =
-          all-true-of s (maskVectorB M vec r) blocksB (TrueMask S w (plan .t) (drop (plan .t + 1)) r) (Finish.maskB s l r) (opens-b plan draw len i M vec l h r ok)
-          (λ j lj hj ne o. told-b M vec f r ok j lj hj _ o)
+          all-true-of s (maskVectorB M vec r) blocksB (TrueMask S w (plan .t) (drop (plan .t + 1)) r) (Finish.maskB s l r) (opens-b holder r ok)
+          (λ j lj hj ne o. told-b M vec (g .facts) r ok j lj hj _ o)
 
     module _ (len i : ℕ) (q : Post) (g : Good plan draw L len i q) where
       fits-with : (t : Taking) (x : Given Actual t) → ReadyFor (g .marks) t → OwnWith plan draw i t x → TrueWith S w q t x
@@ -126,8 +138,8 @@ module _ (plan : Plan) (draw : Draw) (L : Ledger) (sound : Sound plan) (is : IsD
           (λ (v : Post). TrueWith S w v (twoRecords r) x → FitsWith plan draw i (g .marks) (g .vec) (twoRecords r) x)
           (sym (named plan draw len i (g .marks) (g .vec) q (g .stands)))
           (λ o. (
-            true-a len i (g .marks) (g .vec) (g .facts) (q .rows) (g .stands .holds) r (x .0) (x .1) ok (o .0),
-            true-b len i (g .marks) (g .vec) (g .facts) (q .rows) (g .stands .holds) r (x .0) (x .1) ok (o .1),
+            true-a len i q g r (x .0) (x .1) ok (o .0),
+            true-b len i q g r (x .0) (x .1) ok (o .1),
           ))
           y
 

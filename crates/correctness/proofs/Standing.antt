@@ -14,7 +14,7 @@ use Rattle.runs.specs.Calls.{Post, Actual, Call, perform, after}
 use Rattle.runs.proofs.Marks.{Marks, markOf, rememberedA, rememberedB, Sized, less, worthVector, totalVector, written, marksBy, vectorsBy, marksAll, numberIn, vectorsAll}
 use Rattle.runs.proofs.Sums.{productVector, product-sum}
 use Rattle.runs.proofs.Outcomes.{refusalOf}
-use Rattle.runs.proofs.Steps.{Stands, named, Fits, stands-refused, stands-after}
+use Rattle.runs.proofs.Steps.{Stands, named, Fits, Stand, stands-refused, stands-after}
 use Rattle.runs.proofs.Facts.{HeldIn, AllowedBy, AllowedAll, Allowed, Multiplying, Triple, Facts, Meant}
 use Rattle.runs.proofs.Outlines.{every-all}
 use Rattle.runs.proofs.Rows.{sized-by, sized-after}
@@ -40,6 +40,20 @@ module _ (plan : Plan) (draw : Draw) (L : Ledger) where
     pub stands : Stands plan draw len i marks vec q
     pub facts : Known marks vec
     pub full : (r : ℕ) → markOf marks r ≢ 0 → len ≡ 96 * (plan .t + 1 + 2 * plan .n)
+
+  abbrev pub standOf : IsDraw plan draw → (len i : ℕ) → i ≤ plan .n → (q : Post) → Good len i q → Stand
+  standOf is len i hi q g = record {
+    plan = plan;
+    draw = draw;
+    is-draw = is;
+    len = len;
+    post = i;
+    high = hi;
+    marks = g .marks;
+    vec = g .vec;
+    state = q;
+    stands = g .stands;
+  }
 
   module _ (len i : ℕ) (q : Post) (g : Good len i q) where
     -- a call that is not refused is allowed by the marks, and finds room
@@ -116,7 +130,7 @@ module _ (plan : Plan) (draw : Draw) (L : Ledger) where
         marks = _;
         vec = _;
         sized = sized-after (acts c) (g .marks) (g .sized);
-        stands = stands-after plan draw is len i hi (g .marks) (g .vec) q (g .stands) c z fit;
+        stands = stands-after (standOf is len i hi q g) c z fit;
         facts =
             known-after i (moves c) (g .marks) (g .vec) (g .sized) (ok .moving) (every-all _ (moves c) own) (every-all Wrote (moves c) w)
             (g .facts);
@@ -130,7 +144,7 @@ module _ (plan : Plan) (draw : Draw) (L : Ledger) where
         marks = g .marks;
         vec = g .vec;
         sized = g .sized;
-        stands = stands-refused plan draw is len i hi (g .marks) (g .vec) q (g .stands) c k e;
+        stands = stands-refused (standOf is len i hi q g) c k e;
         facts = g .facts;
         full = g .full;
       }

@@ -11,14 +11,14 @@ use Rattle.shape.specs.Lengths as Lengths
 use Rattle.refusal.specs.Refusal.{Test, _when_, first, orElse, outcome}
 use Rattle.refusal.specs.Conditions.{wrongLength, anyBeyond}
 use Rattle.refusal.proofs.Laws.{equal, all-fail}
-use Rattle.refusal.proofs.Groups.{first-chain, stopped, went-on, fail-parts}
+use Rattle.refusal.proofs.Groups.{first-chain, stopped, went-on}
 use Rattle.session.specs.declared.Party.{Party}
 use Rattle.session.specs.declared.Session.{Session}
 use Rattle.session.specs.declared.Answer.{Answer}
 use Rattle.session.specs.Sessions.{shapeOf, partyOf, holding, answer}
 use Rattle.session.specs.Rows.{width, rowAt}
 use Rattle.session.specs.Checks.{frameTests, noRow, wrongMark, Framed, Sized, RowIn}
-use Rattle.session.proofs.Passed.{framed, row-in}
+use Rattle.session.proofs.Passed.{row-below}
 use Rattle.session.proofs.Endings.{refused-answer}
 use Rattle.opening.specs.declared.Opened.{Opened}
 use Rattle.opening.specs.Blocks as Blocks
@@ -27,6 +27,8 @@ use Rattle.opening.specs.Accepting as Accepting
 use Rattle.opening.specs.Accepting.{Openable}
 use Rattle.opening.specs.Walking.{recordLength, badRecord, tooFew, opened, openedRow}
 use Rattle.opening.specs.Opening.{rowChecks, openChecks, openRefusal, openAnswer}
+use Rattle.opening.proofs.Passed as Passed
+use Rattle.opening.proofs.Passed.{open-framed}
 use Rattle.opening.proofs.Walks.{orNine, opened-or-nine}
 
 -- a session's record, for the party that the code made of it
@@ -92,8 +94,8 @@ module _ (s : Session) (rows : List ℕ) (r : ℕ) (blocks : List ℕ) where
     module _ (z : f ≡ 0) where
       pub open-allowed : Framed s rows × RowIn (shapeOf s) r × (length blocks ≡ recordLength s)
       open-allowed =
-          let h = fail-parts (frameTests s rows) (size s rows blocks ++ own) (all-fail (openChecks s rows r blocks) tt (sym e ∙ z)) in
-          (framed s rows (h .0), row-in (shapeOf s) r (h .1 .1 .0), equal (length blocks) (recordLength s) (h .1 .0))
+          let h = Passed.open-checked s rows r blocks (sym e ∙ z) in
+          (open-framed s rows r blocks h, row-below (shapeOf s) r (h .placed .row-in), h .placed .record-long)
 
       module _ (g : Shape) (eg : g ≡ shapeOf s) where
         pub open-row-sized : Sized g rows

@@ -19,9 +19,7 @@ use Rattle.session.specs.declared.Answer.{Answer}
 use Rattle.session.specs.Sessions.{shapeOf, partyOf, holding, finishedTriple}
 use Rattle.session.specs.Rows.{rowAt, withRow, combined, summed}
 use Rattle.session.specs.Checks.{Framed, Sized, TripleIn}
-use Rattle.session.proofs.Passed.{triple-in}
 use Rattle.session.proofs.Endings.{refused-answer, accepted-answer}
-use Rattle.session.proofs.Calls.{allowed}
 use Rattle.session.proofs.Writers.{length-combined}
 use Rattle.opening.specs.declared.Opened.{Opened}
 use Rattle.opening.specs.Blocks.{Recorded}
@@ -31,7 +29,8 @@ use Rattle.opening.specs.Walking.{tooFew, opened, openedRow}
 use Rattle.opening.proofs.Walks.{orNine, opened-or-nine}
 use Rattle.product.specs.declared.OpenedMasks.{OpenedMasks}
 use Rattle.product.specs.Masks.{maskRow}
-use Rattle.product.specs.Finish.{maskA, maskB, finishPlace, finishOwn, finishChecks, tooFewOf, found, openedBoth, openedMasks, finishRefusal, productRow, withProduct, finishAnswer, finishRows}
+use Rattle.product.specs.Finish.{maskA, maskB, finishChecks, tooFewOf, found, openedBoth, openedMasks, finishRefusal, productRow, withProduct, finishAnswer, finishRows}
+use Rattle.product.proofs.Passed.{finished, finish-framed, triple-below}
 
 abbrev shown : ℕ → ℕ → ℕ → OpenedMasks
 shown refusal yA yB = record { refusal = refusal; «y_a» = yA; «y_b» = yB }
@@ -147,10 +146,9 @@ module _ (s : Session) (rows : List ℕ) (r : ℕ) (l l' : List ℕ) where
 
     module _ (z : o .refusal ≡ 0) where
       passed : Framed s rows × TripleIn (shapeOf s) r
-      unfolding finishRefusal
       passed =
-          let h = allowed s rows (finishPlace s r l l' ++ finishOwn s rows r l l' ++ nine) tt (o .refusal) refusal-is z in
-          (h .0, triple-in (shapeOf s) r (h .1 .1 .1 .0))
+          let h = finished s rows r l l' (sym refusal-is ∙ z) .checked in
+          (finish-framed s rows r l l' h, triple-below (shapeOf s) r (h .placed .factors .triple-in))
 
       pub finish-row : r ≤ lastTriple
       finish-row = passed .1 .triple-in

@@ -1,11 +1,9 @@
 -- What a call gives, by its refusal: the post as it came, or the call's own session and rows.
 use Prim.Native.Nat.{ℕ, zero, suc, _+_}
 use mathlib.Core.Path.{_≡_, refl, _∙_, ap, ap₂}
-use mathlib.Core.Bool.{Bool, false}
 use mathlib.Core.List.{List, [], _∷_}
 use native.Mathlib.Omega.{arith}
-use Rattle.refusal.specs.Refusal.{Test, _when_, first, outcome, AllFail}
-use Rattle.refusal.proofs.Laws.{Numbered, all-fail}
+use Rattle.refusal.specs.Refusal.{outcome}
 use Rattle.session.specs.declared.Session.{Session}
 use Rattle.session.specs.Sessions.{answer, marked, remembering}
 use Rattle.session.specs.Rows.{width, coefficients, sumsAt, rowAt, withRow, plusSums, summed}
@@ -19,21 +17,6 @@ use Rattle.product.specs.Masks.{masksRefusal, maskNumbersOf}
 use Rattle.product.specs.Finish.{finishRefusal, withProduct, maskA, maskB}
 use Rattle.runs.specs.Outline.{loadRow, loadTriple, deal, message, opening, linear, masks, finish, Sending}
 use Rattle.runs.specs.Calls.{Post, Call, Performed, performed, perform, after, lineOf, sentIf, sentBy}
-
--- ---- no refusal: every test fails, read by its place in the list
-
-abbrev pub conditionAt : List Test → ℕ → Bool
-conditionAt [] k = false
-conditionAt (j when b ∷ ts) zero = b
-conditionAt (j when b ∷ ts) (suc k) = conditionAt ts k
-
-pub fails : (ts : List Test) → AllFail ts → (k : ℕ) → conditionAt ts k ≡ false
-fails [] h k = refl
-fails (j when b ∷ ts) h zero = h .0
-fails (j when b ∷ ts) h (suc k) = fails ts (h .1) k
-
-pub passed : (ts : List Test) → Numbered ts → first ts ≡ 0 → (k : ℕ) → conditionAt ts k ≡ false
-passed ts n z = fails ts (all-fail ts n z)
 
 -- ---- one answer
 

@@ -18,7 +18,7 @@ use Rattle.secrecy.specs.Rules.{Rule}
 use Rattle.secrecy.specs.Book.{entered}
 use Rattle.secrecy.proofs.Moves.{numberAt, vectorsThen, acts-at, vectors-at}
 use Rattle.secrecy.proofs.Entered.{Past}
-use Rattle.secrecy.proofs.State.{Run, Moment, Held, Waits, AnOpening, AMask, maskNumbers, State, fits, facts-on}
+use Rattle.secrecy.proofs.State.{Run, Moment, Held, Waits, AnOpening, AMask, maskNumbers, State, standAt, fits, facts-on}
 use Rattle.runs.proofs.Start.{sizes}
 use Rattle.secrecy.proofs.Broadcasts as Broadcasts
 use Rattle.secrecy.proofs.Broadcasts.{among-append, among-posts, among-heard}
@@ -50,7 +50,7 @@ module _ (C : Run) (m : Moment) (S : State C m) where
         subst (λ (v : ℕ → Vector). Stands plan draw (len i) i M' v (after (perform (call i c) (q i)))) (vectors-at plan draw u lines i c M vec)
         (subst (λ (todo : List Act). Stands plan draw (len i) i (marksAll todo M) (vectorsAfter plan draw (call i c) M vec) (after (perform (call i c) (q i))))
         (acts-at plan draw u lines i c)
-        (stands-after plan draw (C .is-draw) (len i) i hi M vec (q i) (S .posts i lo hi) (call i c) (z i lo hi)
+        (stands-after (standAt C m S i lo hi) (call i c) (z i lo hi)
         (fits C m S i lo hi c (Broadcasts.allowed-at C m S c z i lo hi) rule)))
 
     facts' : Facts plan draw (Held (entered u c b)) (Waits (entered u c b)) M' vec'

@@ -23,7 +23,7 @@ use Rattle.runs.proofs.Allowed.{allowed}
 use Rattle.secrecy.specs.Steps.{Step, callAt}
 use Rattle.secrecy.specs.Seen.{posts, joined}
 use Rattle.secrecy.proofs.Entered.{Past}
-use Rattle.secrecy.proofs.State.{Run, Moment, AnOpening, AMask, maskNumbers, State, facts-on}
+use Rattle.secrecy.proofs.State.{Run, Moment, AnOpening, AMask, maskNumbers, State, standAt, facts-on}
 use Rattle.secrecy.specs.Rules.{Rule}
 use Rattle.secrecy.proofs.Moves.{numberAt, vectorsThen, acts-at, sends-at}
 use Rattle.runs.proofs.Start.{sizes}
@@ -180,7 +180,7 @@ module _ (C : Run) (m : Moment) (S : State C m) where
       said : SaysAll plan draw i vec (sends c) (perform (call i c) (q i) .lent)
       said =
           subst (λ (ss : List Sending). SaysAll plan draw i vec ss (perform (call i c) (q i) .lent)) (sends-at plan draw u lines i c)
-          (says plan draw (C .is-draw) (len i) i hi M vec (q i) (S .posts i lo hi) (call i c) z)
+          (says (standAt C m S i lo hi) (call i c) z)
 
       -- the lines, by the call of the list
       heard-line : (x : List ℕ) → Among x (broadcast i (call i c) (perform (call i c) (q i)))

@@ -25,7 +25,7 @@ use Rattle.runs.proofs.Marks.{Marks, Sized, markOf, rememberedA, rememberedB, m
 use Rattle.runs.proofs.Sums.{product-sum}
 use Rattle.runs.proofs.Numbers.{dealt-number, product-number, third-number}
 use Rattle.runs.proofs.Start.{sizes}
-use Rattle.runs.proofs.Steps.{Stands, FitsWith, Fits}
+use Rattle.runs.proofs.Steps.{Stands, FitsWith, Fits, Stand}
 use Rattle.runs.proofs.Lines.{Opening, Masks}
 use Rattle.runs.proofs.Records.{all-true}
 use Rattle.runs.proofs.Facts as Facts
@@ -88,6 +88,21 @@ module _ (C : Run) where
         → (markOf (m .marks) r ≡ 2) × (xs ≡ numbers (C .plan .t + 1) (m .vec r .v j))
     pub maskings : (r j : ℕ) (xs : List ℕ) → AMask r j xs → Among (masksLine r j xs) (m .lines)
         → Past (m .marks) r × (markOf (m .marks) r ≡ 5 → xs ≡ maskNumbers (m .marks) (m .vec) r j)
+
+  -- a post of it
+  abbrev pub standAt : (m : Moment) → State m → (i : ℕ) → 1 ≤ i → i ≤ C .plan .n → Stand
+  standAt m S i lo hi = record {
+    plan = C .plan;
+    draw = C .draw;
+    is-draw = C .is-draw;
+    len = C .len i;
+    post = i;
+    high = hi;
+    marks = m .marks;
+    vec = m .vec;
+    state = m .posts i;
+    stands = S .posts i lo hi;
+  }
 
   -- ---- one act after the other: what the marks say of vectors and book
 

@@ -1,6 +1,6 @@
 -- The refusal of a deal from the checks that its code joins, and what holds where there is none.
 use Prim.Native.Nat.{ℕ, _≤_}
-use mathlib.Core.Path.{_≡_}
+use mathlib.Core.Path.{_≡_, sym, _∙_}
 use mathlib.Core.List.{List, [], _∷_}
 use Rattle.shape.specs.declared.Shape.{Shape}
 use Rattle.shape.specs.Bounds.{lastRow}
@@ -13,10 +13,11 @@ use Rattle.refusal.proofs.Endings.{accepted}
 use Rattle.session.specs.declared.Session.{Session}
 use Rattle.session.specs.Sessions.{shapeOf}
 use Rattle.session.specs.Rows.{width, rowAt, withRow, plusSums}
-use Rattle.session.specs.Checks.{frameTests, noRow, wrongMark, Framed, Sized, RowIn}
-use Rattle.session.proofs.Passed.{row-in}
-use Rattle.session.proofs.Calls.{stopped-at-frame, past-frame, allowed}
+use Rattle.session.specs.Checks.{frameTests, noRow, wrongMark, Sized, RowIn}
+use Rattle.session.proofs.Passed.{row-below}
+use Rattle.session.proofs.Calls.{stopped-at-frame, past-frame}
 use Rattle.sharing.specs.Deal.{dealRefusal, dealRows}
+use Rattle.sharing.proofs.Passed.{Dealt, dealt}
 
 module _ (s : Session) (rows : List ℕ) (r c : ℕ) where
   abbrev own : List Test
@@ -36,19 +37,18 @@ module _ (s : Session) (rows : List ℕ) (r c : ℕ) where
       past-frame s rows own f z e n (chained own tt z (cc))
 
   module _ (f : ℕ) (e : f ≡ dealRefusal s rows r c) (n : f ≡ 0) where
-    passed : Framed s rows × RowIn (shapeOf s) r
-    unfolding dealRefusal
-    passed = let h = allowed s rows own tt f e n in (h .0, row-in (shapeOf s) r (h .1 .0))
+    passed : Dealt s rows r c
+    passed = dealt s rows r c (sym e ∙ n)
 
     pub deal-row : r ≤ lastRow
-    deal-row = passed .1 .row-in
+    deal-row = passed .placed .row-in
 
     module _ (g : Shape) (eg : g ≡ shapeOf s) where
       pub deal-sized : Sized g rows
-      deal-sized = rw eg (passed .0 .sized)
+      deal-sized = rw eg (passed .framed .sized)
 
       pub deal-in : RowIn g r
-      deal-in = rw eg (passed .1)
+      deal-in = row-below g r deal-row
 
       pub deal-written : (out : List ℕ)
           → out ≡ withRow (rowLength g) r (plusSums (sumsAt g) c (rowAt (rowLength g) rows r)) rows → out ≡ dealRows s rows r c

@@ -2,6 +2,7 @@
 use Prim.Native.Nat.{ℕ, _≤_}
 use mathlib.Core.Path.{_≡_, sym, _∙_}
 use mathlib.Core.List.{List, [], _∷_, _++_}
+use native.Mathlib.Nat.{mul-le-mul-right}
 use borrow.Author.Tests.{ltb-false}
 use lib.ListN.{length}
 use Rattle.shape.specs.declared.Shape.{Shape}
@@ -10,16 +11,17 @@ use Rattle.shape.specs.Marks.{empty}
 use Rattle.shape.specs.Lengths.{rowLength, tripleLength}
 use Rattle.refusal.specs.Refusal.{Test, _when_, first, orElse}
 use Rattle.refusal.specs.Conditions.{wrongLength, anyBeyond}
-use Rattle.refusal.proofs.Laws.{equal, first-join, orElse-zero, all-fail}
+use Rattle.refusal.proofs.Laws.{first-join, orElse-zero, all-fail}
 use Rattle.refusal.proofs.Groups.{chained, stopped, went-on}
 use Rattle.refusal.proofs.Endings.{accepted}
 use Rattle.session.specs.declared.Session.{Session}
 use Rattle.session.specs.Sessions.{shapeOf}
 use Rattle.session.specs.Rows.{width, withRow}
-use Rattle.session.specs.Checks.{frameTests, noRow, noTriple, wrongMark, wrongMarks, Framed, Sized, RowIn, TripleIn}
-use Rattle.session.proofs.Passed.{row-in, triple-in}
-use Rattle.session.proofs.Calls.{stopped-at-frame, past-frame, allowed}
+use Rattle.session.specs.Checks.{frameTests, noRow, noTriple, wrongMark, wrongMarks, Sized, RowIn, TripleIn}
+use Rattle.session.proofs.Passed.{row-below}
+use Rattle.session.proofs.Calls.{stopped-at-frame, past-frame}
 use Rattle.sharing.specs.Load.{loadRowRefusal, loadRowRows, loadTripleRefusal, withTriple, loadTripleRows}
+use Rattle.sharing.proofs.Passed.{RowLoaded, row-loaded, TripleLoaded, triple-loaded}
 
 -- a triple's place was not refused
 placed-below : (r q5 q6 p : ℕ) → q6 ≡ first (6 when noTriple r ∷ []) → p ≡ orElse q5 q6 → p ≡ 0 → r ≤ lastTriple
@@ -45,24 +47,21 @@ module _ (s : Session) (rows : List ℕ) (r : ℕ) (pack : List ℕ) where
       past-frame s rows own-row f z e n (chained own-row tt z (cc))
 
   module _ (f : ℕ) (e : f ≡ loadRowRefusal s rows r pack) (n : f ≡ 0) where
-    row-passed : Framed s rows × RowIn (shapeOf s) r × (length pack ≡ width s)
-    unfolding loadRowRefusal
-    row-passed =
-        let h = allowed s rows own-row tt f e n in
-        (h .0, row-in (shapeOf s) r (h .1 .1 .0), equal (length pack) (width s) (h .1 .0))
+    row-passed : RowLoaded s rows r pack
+    row-passed = row-loaded s rows r pack (sym e ∙ n)
 
     pub load-row-row : r ≤ lastRow
-    load-row-row = row-passed .1 .row-in
+    load-row-row = row-passed .row-in
 
     module _ (g : Shape) (eg : g ≡ shapeOf s) where
       pub load-row-sized : Sized g rows
-      load-row-sized = rw eg (row-passed .0 .sized)
+      load-row-sized = rw eg (row-passed .framed .sized)
 
       pub load-row-in : RowIn g r
-      load-row-in = rw eg (row-passed .1)
+      load-row-in = row-below g r load-row-row
 
       pub load-row-long : length pack ≡ rowLength g
-      load-row-long = rw eg (row-passed .2)
+      load-row-long = rw eg (row-passed .pack-long)
 
       pub load-row-written : (out : List ℕ) → out ≡ withRow (rowLength g) r pack rows → out ≡ loadRowRows s rows r pack
       load-row-written out eo = accepted f (loadRowRefusal s rows r pack) out (withRow (width s) r pack rows) rows e n (rw eg at eo)
@@ -99,24 +98,21 @@ module _ (s : Session) (rows : List ℕ) (r : ℕ) (pack : List ℕ) where
         (went-on placed late tt p place z h (cc (first-join marks (8 when anyBeyond pack ∷ []) tt)))
 
   module _ (f : ℕ) (e : f ≡ loadTripleRefusal s rows r pack) (n : f ≡ 0) where
-    triple-passed : Framed s rows × TripleIn (shapeOf s) r × (length pack ≡ tripleLength (shapeOf s))
-    unfolding loadTripleRefusal
-    triple-passed =
-        let h = allowed s rows (placed ++ late) tt f e n in
-        (h .0, triple-in (shapeOf s) r (h .1 .1 .0), equal (length pack) (tripleLength (shapeOf s)) (h .1 .0))
+    triple-passed : TripleLoaded s rows r pack
+    triple-passed = triple-loaded s rows r pack (sym e ∙ n)
 
     pub load-triple-row : r ≤ lastTriple
-    load-triple-row = triple-passed .1 .triple-in
+    load-triple-row = triple-passed .triple-in
 
     module _ (g : Shape) (eg : g ≡ shapeOf s) where
       pub load-triple-sized : Sized g rows
-      load-triple-sized = rw eg (triple-passed .0 .sized)
+      load-triple-sized = rw eg (triple-passed .framed .sized)
 
       pub load-triple-in : TripleIn g r
-      load-triple-in = rw eg (triple-passed .1)
+      load-triple-in = record { triple-in = load-triple-row; room = mul-le-mul-right (rowLength g) load-triple-row }
 
       pub load-triple-long : length pack ≡ tripleLength g
-      load-triple-long = rw eg (triple-passed .2)
+      load-triple-long = rw eg (triple-passed .pack-long)
 
       pub load-triple-written : (out : List ℕ) → out ≡ withTriple (rowLength g) r pack rows → out ≡ loadTripleRows s rows r pack
       load-triple-written out eo =

@@ -11,16 +11,16 @@ use Rattle.shape.specs.Lengths.{vLength, rowLength, messageLength}
 use Rattle.shape.specs.Row.{coefficients}
 use Rattle.refusal.specs.Refusal.{Test, _when_, first, orElse}
 use Rattle.refusal.specs.Conditions.{wrongLength, anyBeyond}
-use Rattle.refusal.proofs.Laws.{equal}
 use Rattle.refusal.proofs.Groups.{chained}
 use Rattle.refusal.proofs.Endings.{accepted}
 use Rattle.session.specs.declared.Session.{Session}
 use Rattle.session.specs.Sessions.{shapeOf}
 use Rattle.session.specs.Rows.{width, rowAt}
-use Rattle.session.specs.Checks.{frameTests, noRow, wrongMark, Framed, Sized, RowIn}
-use Rattle.session.proofs.Passed.{row-in}
-use Rattle.session.proofs.Calls.{stopped-at-frame, past-frame, allowed}
+use Rattle.session.specs.Checks.{frameTests, noRow, wrongMark, Sized, RowIn}
+use Rattle.session.proofs.Passed.{row-below}
+use Rattle.session.proofs.Calls.{stopped-at-frame, past-frame}
 use Rattle.sharing.specs.Message.{messageRefusal, messageOut}
+use Rattle.sharing.proofs.Passed.{MessageMade, message-made}
 
 module _ (s : Session) (rows : List ℕ) (r : ℕ) (out : List ℕ) where
   abbrev own : List Test
@@ -46,21 +46,18 @@ module _ (s : Session) (rows : List ℕ) (r : ℕ) (out : List ℕ) where
       past-frame s rows own f z e n (chained own tt z (cc))
 
   module _ (f : ℕ) (e : f ≡ messageRefusal s rows r out) (n : f ≡ 0) where
-    passed : Framed s rows × RowIn (shapeOf s) r × (length out ≡ vLength (shapeOf s))
-    unfolding messageRefusal
-    passed =
-        let h = allowed s rows own tt f e n in
-        (h .0, row-in (shapeOf s) r (h .1 .1 .0), equal (length out) (messageLength (shapeOf s)) (h .1 .0))
+    passed : MessageMade s rows r out
+    passed = message-made s rows r out (sym e ∙ n)
 
     module _ (g : Shape) (eg : g ≡ shapeOf s) where
       pub message-sized : Sized g rows
-      message-sized = rw eg (passed .0 .sized)
+      message-sized = rw eg (passed .framed .sized)
 
       pub message-in : RowIn g r
-      message-in = rw eg (passed .1)
+      message-in = row-below g r (passed .placed .row-in)
 
       pub message-long : length out ≡ vLength g
-      message-long = rw eg (passed .2)
+      message-long = rw eg (passed .placed .out-long)
 
       pub message-written : (new : List ℕ) → new ≡ coefficients g (rowAt (rowLength g) rows r) → new ≡ messageOut s rows r out
       message-written new eo =

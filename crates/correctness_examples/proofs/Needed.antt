@@ -9,13 +9,15 @@ use lib.Dec.{lit<, lit≤}
 use lib.ListN.{replicate}
 use Rattle.opening.specs.Opening.{openAnswer}
 use Rattle.runs.specs.Calls.{message, loadRow, linear}
 use Rattle.correctness.specs.History.{Event, World, history, begin}
 use Rattle.correctness.specs.Ledger.{Plain}
 use Rattle.correctness.specs.Truth.{TruePolynomial}
 use Rattle.correctness.specs.Claim.{Opens}
 use Rattle.correctness.proofs.Meanings.{one-number}
-use Rattle.correctness.proofs.Computing.{Computes, plan, drawWith, ledger, plain-6, plain-18, call, load, dealOf, room, Everyone, AllBut, Asked, each-quiet}
-use Rattle.correctness.proofs.Example.{drawn, draw, draw-is}
+use Rattle.correctness_examples.specs.Station.{plan, drawWith, ledger, call, load, dealOf, room, Everyone, AllBut}
+use Rattle.correctness_examples.proofs.Computing.{Computes, plain-6, plain-18, Asked, each-quiet}
+use Rattle.correctness_examples.specs.Orders.{drawn, draw}
+use Rattle.correctness_examples.proofs.Example.{draw-is}
 
 abbrev new : World
 new = begin plan draw (λ i. replicate 768 0)

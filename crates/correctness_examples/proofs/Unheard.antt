@@ -10,13 +10,15 @@ use lib.ListN.{getD, length, replicate}
 use Rattle.factory.specs.Packs.{dealerNumber}
 use Rattle.session.specs.declared.Answer.{Answer}
 use Rattle.runs.specs.Calls.{message, opening}
 use Rattle.correctness.specs.History.{Event, World, answers, begin}
 use Rattle.correctness.specs.Ledger.{Ledger, Plain}
 use Rattle.correctness.specs.Claim.{Premises}
 use Rattle.correctness.proofs.Meanings.{one-number}
 use Rattle.correctness.proofs.Theorems.{openings-answered}
-use Rattle.correctness.proofs.Computing.{Computes, plan, sound, drawWith, ledger, plain-6, call, load, dealOf, room, Everyone, AllBut, each-quiet}
-use Rattle.correctness.proofs.Example.{drawn, draw, draw-is}
+use Rattle.correctness_examples.specs.Station.{plan, drawWith, ledger, call, load, dealOf, room, Everyone, AllBut}
+use Rattle.correctness_examples.proofs.Computing.{Computes, sound, plain-6, each-quiet}
+use Rattle.correctness_examples.specs.Orders.{drawn, draw}
+use Rattle.correctness_examples.proofs.Example.{draw-is}
 
 -- posts 1 and 2 deal 6, post 3 deals 8; post 2 sends its message
 unfoldable before : List Event

@@ -33,9 +33,10 @@ use Rattle.runs.specs.Outline.{Taking, nothingTaken, aRowPack, aTriplePack, aNu
 use Rattle.runs.specs.Calls.{Post, Actual, Call, loadRow, loadTriple, deal, perform, newPost, at}
 use Rattle.runs.proofs.Outlines.{all-every}
 use Rattle.runs.proofs.Lines.{elements-of}
 use Rattle.correctness.specs.History.{Event, World, doneBy, turn, history, Each}
 use Rattle.correctness.specs.Ledger.{Ledger, nothing, dealt, sum, product, Written, Plain, of-deal, of-row, of-times, of-fee, of-more, of-product}
 use Rattle.correctness.specs.Truth.{OwnPart, TrueWith, TrueFinish}
+use Rattle.correctness_examples.specs.Station.{plan, drawWith, ledger, Everyone}
 
 -- `refl` proves it where `unfolding Computes` opens the calls' definitions
 unfoldable pub Computes : {A : Type 0} → A → A → Type 0
@@ -43,15 +44,6 @@ unfolding Arithmetic.sum Arithmetic.product Arithmetic.difference Arithmetic.euc
 Computes x y = x ≡ y
 
 -- ---- plan, draws and ledger
-
--- rows 0 and 1 raw, a triple at 2
-unfoldable pub plan : Plan
-plan = record {
-  n = 3;
-  t = 1;
-  raw = λ r. elim r [ zero ↦ by 0 | suc r ↦ elim r [ zero ↦ by 0 | suc r ↦ none ] ];
-  triple = λ r. eqb r 2;
-}
 
 pub sound : Sound plan
 unfolding plan
@@ -61,14 +53,6 @@ sound = record { posts = refl; raws = raws; triples = λ r e. let g = eqb-true r
     raws zero h = lit≤ tt
     raws (suc zero) h = lit≤ tt
     raws (suc (suc r)) h = absurd h
-
--- with x drawn for the triple
-unfoldable pub drawWith : List ℕ → Draw
-drawWith x = record {
-  points = 2 ∷ 3 ∷ 5 ∷ [];
-  raws = (7 ∷ 4 ∷ 1 ∷ 2 ∷ 3 ∷ 1 ∷ 5 ∷ 6 ∷ []) ∷ (3 ∷ 5 ∷ 2 ∷ 1 ∷ 1 ∷ 1 ∷ 4 ∷ 2 ∷ []) ∷ replicate 94 [];
-  triples = [] ∷ [] ∷ x ∷ replicate 93 [];
-}
 
 none-there : (k r : ℕ) → _≡_ {A = List ℕ} (getD (replicate k []) r []) []
 none-there zero r = refl
@@ -95,11 +79,6 @@ is-draw x many low = record {
     triples (suc (suc zero)) h = (many, low)
     triples (suc (suc (suc r))) h = rw (none-there 93 r, ne-eqb (suc (suc (suc r))) 2 (omega arith)) (refl, tt)
 
--- row 0 is 6, row 1 is 7, row 4 their product by the triple at 2, row 5 is 6 + 2 · 7, row 6 is 6 + 2 · (6 · 7), row 7 is 6 + 2 · 6,
--- row 8 is a charge: 6 rides at 7 each, and 8
-unfoldable pub ledger : Ledger
-ledger r = getD (dealt 6 ∷ dealt 7 ∷ nothing ∷ nothing ∷ product 2 0 1 ∷ sum 0 1 2 0 ∷ sum 0 4 2 0 ∷ sum 0 0 2 0 ∷ sum 4 4 0 8 ∷ []) r nothing
-
 pub plain-6 : Plain ledger 0 6
 unfolding ledger
 plain-6 = of-deal
@@ -112,42 +91,7 @@ pub plain-42 : Plain ledger 4 42
 unfolding Computes ledger
 plain-42 = of-product {k = 2} {a = 0} {b = 1} {x = 6} {y = 7} of-deal of-deal
 
--- ---- events
-
-abbrev pub call : ℕ → Call → Event
-call i c = record { post = i; call = c }
-
-abbrev pub load : Draw → ℕ → ℕ → Event
-load draw i r = call i (loadRow r (rawPack plan draw i r))
-
-abbrev pub loadThree : Draw → ℕ → Event
-loadThree draw i = call i (loadTriple 2 (triplePack plan draw i 2))
-
-abbrev pub dealOf : Draw → ℕ → ℕ → ℕ → Event
-dealOf draw i r u = call i (deal r (dealerNumber u (getD (rawDraw draw r) 0 0) .value))
-
--- room for an opening message and for masks, and a record without blocks
-abbrev pub room : List ℕ
-room = 0 ∷ 0 ∷ []
-
-abbrev pub rooms : List ℕ
-rooms = 0 ∷ 0 ∷ 0 ∷ 0 ∷ []
-
-abbrev pub nobody : List ℕ
-nobody = 0 ∷ 0 ∷ 0 ∷ 0 ∷ 0 ∷ 0 ∷ 0 ∷ 0 ∷ 0 ∷ []
-
-unfoldable pub refusals : List Event → World → List ℕ
-refusals [] w = []
-refusals (e ∷ es) w = doneBy e w .answer .refusal ∷ refusals es (turn e w)
-
 -- ---- premises, part by part
-
--- all posts, and all but one
-abbrev pub Everyone : ℕ → Type 0
-Everyone i = Unit {0}
-
-abbrev pub AllBut : ℕ → ℕ → Type 0
-AllBut k i = i ≢ k
 
 -- the premises with truth by all posts, each asked of posts of its own: A load their own parts, B keep to the ledger, C finish truly
 pub record Asked (draw : Draw) (A B C : ℕ → Type 0) (es : List Event) (w : World) : Type 0 where

@@ -8,14 +8,16 @@ use lib.Dec.{lit≤}
 use lib.ListN.{replicate}
 use Rattle.opening.specs.Opening.{openAnswer}
 use Rattle.runs.specs.Calls.{Post, message, linear}
 use Rattle.correctness.specs.History.{Event, history, begin}
 use Rattle.correctness.specs.Ledger.{Written, Plain, of-deal, of-row, of-times, of-fee, of-more}
 use Rattle.correctness.specs.Truth.{OwnPart, TrueFinish}
 use Rattle.correctness.specs.Claim.{Premises}
 use Rattle.correctness.proofs.Meanings.{one-number}
 use Rattle.correctness.proofs.Theorems.{correct}
-use Rattle.correctness.proofs.Computing.{Computes, plan, drawWith, ledger, plain-42, call, room, Everyone, each-join, each-of, each-quiet}
-use Rattle.correctness.proofs.Example.{drawn, draw, loads, deals, sums, ends, events, new, premises}
+use Rattle.correctness_examples.specs.Station.{plan, drawWith, ledger, call, room, Everyone}
+use Rattle.correctness_examples.proofs.Computing.{Computes, plain-42, each-join, each-of, each-quiet}
+use Rattle.correctness_examples.specs.Orders.{drawn, draw, loads, deals, sums, ends, events, new}
+use Rattle.correctness_examples.proofs.Example.{premises}
 
 -- row 6 is row 0 plus twice row 4; row 8 is the charge, row 4 with a fee of 8
 unfoldable more : List Event

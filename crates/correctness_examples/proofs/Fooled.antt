@@ -14,14 +14,15 @@ use Rattle.product.specs.Finish.{maskA}
 use Rattle.runs.specs.Draws.{Draw}
 use Rattle.runs.specs.Calls.{message, masks, finish}
 use Rattle.runs.proofs.Lines.{elements-of}
 use Rattle.correctness.specs.History.{Event, World, history, begin, Each}
 use Rattle.correctness.specs.Ledger.{Written, Plain}
 use Rattle.correctness.specs.Truth.{OwnPart, TruePolynomial, TrueFinish}
 use Rattle.correctness.specs.Claim.{Opens, Right}
 use Rattle.correctness.proofs.Meanings.{one-number}
-use Rattle.correctness.proofs.Computing.{Computes, plan, drawWith, is-draw, ledger, plain-42, call, load, loadThree, dealOf, room, rooms, refusals, Everyone, AllBut, Asked, all-join, each-join, each-of, each-quiet}
-use Rattle.correctness.proofs.Example as Example
-use Rattle.correctness.proofs.Example.{last}
+use Rattle.correctness_examples.specs.Station.{plan, drawWith, ledger, call, load, loadThree, dealOf, room, rooms, refusals, Everyone, AllBut}
+use Rattle.correctness_examples.proofs.Computing.{Computes, is-draw, plain-42, Asked, all-join, each-join, each-of, each-quiet}
+use Rattle.correctness_examples.specs.Orders as Example
+use Rattle.correctness_examples.specs.Orders.{last}
 
 -- ---- without truth in the opening
 
