@@ -8,6 +8,10 @@ fewestPosts = 2
 abbrev pub mostPosts : ℕ
 mostPosts = 32
 
+-- So many posts are few: calls on a station of so many or fewer have room for no more.
+abbrev pub fewPosts : ℕ
+fewPosts = 32
+
 -- "A session has 96 rows, 0 to 95"
 abbrev pub rowCount : ℕ
 rowCount = 96

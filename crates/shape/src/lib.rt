@@ -7,6 +7,9 @@ ghost use Rattle.shape.specs.Lengths.{needed, fLength, vLength, checksAt
 pub const FEWEST_POSTS: usize = 2;
 
 pub const MOST_POSTS: usize = 32;
+// So many posts are few: calls on a station of so many or fewer have room for no more.
+pub const FEW_POSTS: usize = 32;
+
 // How many rows a session has, the last of them, and the last at which a triple begins.
 pub const ROWS: usize = 96;
 
