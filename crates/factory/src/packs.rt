@@ -74,7 +74,7 @@ fn write_posts_few(
 {
     let n = shape.n;
     let k = shape.v_len();
-    let mut powers = [0u32; shape::FEW_POSTS];
+    let mut powers = [0u32; shape::SHORT_V];
     let mut sums = [0u32; shape::FEW_POSTS];
     write_posts_in(
         shape,

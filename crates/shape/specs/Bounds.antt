@@ -8,10 +8,6 @@ fewestPosts = 2
 abbrev pub mostPosts : ℕ
 mostPosts = 32
 
--- So many posts are few: calls on a station of so many or fewer have room for no more.
-abbrev pub fewPosts : ℕ
-fewPosts = 32
-
 -- "A session has 96 rows, 0 to 95"
 abbrev pub rowCount : ℕ
 rowCount = 96
@@ -30,3 +26,13 @@ longestRow = 3 * mostPosts
 -- and the most coefficients of a v
 abbrev pub longestV : ℕ
 longestV = mostPosts
+
+-- Ours: stations of so few posts get smaller rooms, for their rows and their v's. No answer depends on it.
+abbrev pub fewPosts : ℕ
+fewPosts = 32
+
+abbrev pub shortRow : ℕ
+shortRow = 3 * fewPosts
+
+abbrev pub shortV : ℕ
+shortV = fewPosts

@@ -7,9 +7,6 @@ ghost use Rattle.shape.specs.Lengths.{needed, fLength, vLength, checksAt
 pub const FEWEST_POSTS: usize = 2;
 
 pub const MOST_POSTS: usize = 32;
-// So many posts are few: calls on a station of so many or fewer have room for no more.
-pub const FEW_POSTS: usize = 32;
-
 // How many rows a session has, the last of them, and the last at which a triple begins.
 pub const ROWS: usize = 96;
 
@@ -20,6 +17,12 @@ pub const LAST_TRIPLE: usize = ROWS - 3;
 pub const LONGEST_ROW: usize = 3 * MOST_POSTS;
 // The most coefficients of a v.
 pub const LONGEST_V: usize = MOST_POSTS;
+// Stations of so few posts get smaller rooms, for their rows and their v's.
+pub const FEW_POSTS: usize = 32;
+
+pub const SHORT_ROW: usize = 3 * FEW_POSTS;
+
+pub const SHORT_V: usize = FEW_POSTS;
 
 // The marks of rows.
 pub const EMPTY: u8 = 0;
