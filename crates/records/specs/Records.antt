@@ -15,6 +15,9 @@ abbrev pub placeTests : ℕ → ℕ → List ℕ → ℕ → List Test
 placeTests n t blocks post =
     postsTests n t ++ (3 when outside 1 n post ∷ 5 when wrongLength blocks (recordLength (shape n t)) ∷ [])
 
+unfoldable pub placeRefusal : ℕ → ℕ → List ℕ → ℕ → ℕ
+placeRefusal n t blocks post = first (placeTests n t blocks post)
+
 -- 5 and 8 of the message.
 abbrev pub messageTests : ℕ → ℕ → List ℕ → List Test
 messageTests n t message = 5 when wrongLength message (messageLength (shape n t)) ∷ 8 when anyBeyond message ∷ []
@@ -24,9 +27,6 @@ putTests n t blocks post message = placeTests n t blocks post ++ messageTests n 
 
 unfoldable pub putRefusal : ℕ → ℕ → List ℕ → ℕ → List ℕ → ℕ
 putRefusal n t blocks post message = first (putTests n t blocks post message)
-
-unfoldable pub removeRefusal : ℕ → ℕ → List ℕ → ℕ → ℕ
-removeRefusal n t blocks post = first (placeTests n t blocks post)
 
 -- The record with another block for post j, every other number as it was.
 abbrev pub withBlock : Shape → ℕ → List ℕ → List ℕ → List ℕ
@@ -46,4 +46,4 @@ putRecord n t blocks post message =
 
 abbrev pub removedRecord : ℕ → ℕ → List ℕ → ℕ → List ℕ
 removedRecord n t blocks post =
-    outcome (removeRefusal n t blocks post) (withBlock (shape n t) post (noBlock (shape n t)) blocks) blocks
+    outcome (placeRefusal n t blocks post) (withBlock (shape n t) post (noBlock (shape n t)) blocks) blocks

@@ -2,17 +2,16 @@
 use shape::Shape;
 ghost use mathlib.Core.Path.{_≡_};
 ghost use mathlib.Core.List.{_∷_};
-ghost use Prim.Native.Nat.{suc};
+ghost use Prim.Native.Nat.{suc, _*_, _-_};
 ghost use lib.ListN.{length};
 ghost use Rattle.shape.specs.Marks.{present};
-ghost use Rattle.shape.specs.Lengths.{Valid, recordLength, messageLength};
+ghost use Rattle.shape.specs.Lengths.{Valid, blockLength, recordLength, messageLength};
 ghost use Rattle.opening.specs.Blocks.{PostIn};
-ghost use Rattle.refusal.specs.Refusal.{first};
-ghost use Rattle.records.specs.Records.{placeTests, putRefusal, removeRefusal, withBlock, blockOf, noBlock, putRecord, removedRecord};
+ghost use Rattle.records.specs.Records.{placeRefusal, putRefusal, withBlock, blockOf, noBlock, putRecord, removedRecord};
 
 // 1, 2, 3, and 5 of the record.
 fn place_refusal(n: usize, t: usize, blocks: &[u32], post: usize) -> u8
-    ensures { λ r. ⌜ r ≡ first (placeTests n t (now (blocks .entry)) post) ⌝ }
+    ensures { λ r. ⌜ r ≡ placeRefusal n t (now (blocks .entry)) post ⌝ }
 {
     let posts = refusal::posts(n, t);
     if posts != 0 {
@@ -25,6 +24,7 @@ fn place_refusal(n: usize, t: usize, blocks: &[u32], post: usize) -> u8
     )
 }
 
+// And 5 and 8 of the message.
 fn put_refusal(n: usize, t: usize, blocks: &[u32], post: usize, message: &[u32]) -> u8
     ensures { λ r. ⌜ r ≡ putRefusal n t (now (blocks .entry)) post (now (message .entry)) ⌝ }
 {
@@ -39,10 +39,18 @@ fn put_refusal(n: usize, t: usize, blocks: &[u32], post: usize, message: &[u32])
     )
 }
 
+// Where a post's block begins.
+fn block_at(shape: Shape, post: usize) -> usize
+    requires { ⌜ Valid shape × PostIn shape post ⌝ }
+    ensures { λ r. ⌜ r ≡ (post - 1) * blockLength shape ⌝ }
+{
+    (post - 1) * shape.block_len()
+}
+
 // A present block with a message.
 fn fill(block: &mut [u32], message: &[u32])
     requires { ⌜ length (now block) ≡ suc (length (now message)) ⌝ }
-    ensures { λ r. ⌜ now (block .exit) ≡ present ∷ now (message .entry) ⌝ }
+    ensures { λ r. ⌜ now (block .exit) ≡ blockOf (now (message .entry)) ⌝ }
 {
     block[0] = shape::PRESENT;
     lists::copy(message, &mut block[1..]);
@@ -52,7 +60,7 @@ fn put_block(shape: Shape, blocks: &mut [u32], post: usize, message: &[u32])
     requires { ⌜ Valid shape × PostIn shape post × (length (now blocks) ≡ recordLength shape) × (length (now message) ≡ messageLength shape) ⌝ }
     ensures { λ r. ⌜ now (blocks .exit) ≡ withBlock shape post (blockOf (now (message .entry))) (now (blocks .entry)) ⌝ }
 {
-    let from = (post - 1) * shape.block_len();
+    let from = block_at(shape, post);
     let end = from + shape.block_len();
     fill(&mut blocks[from..end], message);
 }
@@ -61,7 +69,7 @@ fn remove_block(shape: Shape, blocks: &mut [u32], post: usize)
     requires { ⌜ Valid shape × PostIn shape post × (length (now blocks) ≡ recordLength shape) ⌝ }
     ensures { λ r. ⌜ now (blocks .exit) ≡ withBlock shape post (noBlock shape) (now (blocks .entry)) ⌝ }
 {
-    let from = (post - 1) * shape.block_len();
+    let from = block_at(shape, post);
     let end = from + shape.block_len();
     lists::clear(&mut blocks[from..end]);
 }
@@ -81,7 +89,7 @@ pub fn put(n: usize, t: usize, blocks: &mut [u32], post: usize, message: &[u32])
 
 // A post's block is absent, with zeros for its coefficients.
 pub fn remove(n: usize, t: usize, blocks: &mut [u32], post: usize) -> u8
-    ensures { λ r. ⌜ r ≡ removeRefusal n t (now (blocks .entry)) post ⌝ }
+    ensures { λ r. ⌜ r ≡ placeRefusal n t (now (blocks .entry)) post ⌝ }
     ensures { λ r. ⌜ now (blocks .exit) ≡ removedRecord n t (now (blocks .entry)) post ⌝ }
 {
     let refusal = place_refusal(n, t, blocks, post);
