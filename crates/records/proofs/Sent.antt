@@ -55,17 +55,17 @@ module _ (q : Party) (row : List ℕ) where
 
   -- post j's block is b now
   module _ (blocks b : List ℕ) (j : ℕ) (size : length blocks ≡ recordLength s) (i : PostIn s j) (wide : length b ≡ blockLength s) where
-    low : j - 1 < s .n
-    low = omega (arith, i .post-in)
+    in-record : j - 1 < s .n
+    in-record = omega (arith, i .post-in)
 
     pub sent-written : j ≢ q .post → sent q row (withBlock s j b blocks) j ≡ held b
     sent-written n =
         sent-is (withBlock s j b blocks) j
-        ∙ ap (by-block j) (row-same (blockLength s) (s .n) blocks (j - 1) size low b wide)
+        ∙ ap (by-block j) (row-same (blockLength s) (s .n) blocks (j - 1) size in-record b wide)
         ∙ rw (ne-eqb j (q .post) n)
 
     pub sent-other : (k : ℕ) → 1 ≤ k → k ≢ j → sent q row (withBlock s j b blocks) k ≡ sent q row blocks k
     sent-other k h n =
         sent-is (withBlock s j b blocks) k
-        ∙ ap (by-block k) (row-other (blockLength s) (s .n) blocks (j - 1) size low b wide (k - 1) (λ e. n (omega (arith, i .post-in))))
+        ∙ ap (by-block k) (row-other (blockLength s) (s .n) blocks (j - 1) size in-record b wide (k - 1) (λ e. n (omega (arith, i .post-in))))
         ∙ sym (sent-is blocks k)
