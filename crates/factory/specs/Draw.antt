@@ -31,7 +31,8 @@ unfoldable pub part : ℕ → ℕ → ℕ → ℕ → List ℕ → List ℕ
 part n k i w draw =
     polynomial k draw i ++ (eachPost n (λ j. value (polynomial k draw j) w) ++ eachPost n (sumOf k draw))
 
--- "Three such draws for l, l' and l'', but the third lacks f's constant, which is f(0) of l × f(0) of l'."
+-- "Three such draws for l, l' and l'', but the third lacks f's constant, which is f(0) of l × f(0) of l'." It is a Beaver triple. The
+-- source (docs/PROTOCOL.md), section 3.2: "three random numbers l, l' and l'', such that l'' = ll'".
 abbrev pub firstDraw : ℕ → List ℕ → List ℕ
 firstDraw d draw = take d draw
 
