@@ -7,8 +7,13 @@ use native.Mathlib.Nat.{mul-mod-right, mul-comm, mul-one, mul-le-mul, zero-mul, 
 use native.Mathlib.Decide.{decLe, ℕ-discrete}
 use native.Mathlib.Omega.{arith}
 use lib.Dec.{T, leb, leb→le, lit≤, lit<}
-use Rattle.field.specs.Primality.{Prime, undivided}
+use Rattle.field.specs.Primality.{Prime}
 use Rattle.field.specs.Claims.{PrimeModulus}
+
+-- The test that the checker computes: none of the k numbers from d on divides m.
+unfoldable undivided : ℕ → ℕ → ℕ → Bool
+undivided m zero d = true
+undivided m (suc k) d = elim (leb 1 (m % d)) [ true ↦ undivided m k (suc d) | false ↦ false ]
 
 both : (a b : Bool) → T (elim a as (λ x. Bool) [ true ↦ b | false ↦ false ]) → T a × T b
 both true b t = (tt, t)
