@@ -10,7 +10,7 @@
  *
  *    1  the number of posts n is outside 2 to 32
  *    2  t is outside 1 to n - 1
- *    3  the session's post, or the post of a line to be written, is outside 1 to n
+ *    3  the session's post, or the post of a line to be written or of a block, is outside 1 to n
  *    4  a check point is 0 or at least p
  *    5  a list's length is not exactly the one stated
  *    6  a row is above 95, or a triple's first row above 93
@@ -30,7 +30,8 @@
  * handed back, never an older one: a row would be opened or dealt that no longer is what the old marks say.
  *
  * A row is a post's part of one shared number: the t+1 coefficients of the post's own polynomial, constant first; n
- * check values; n public sums.
+ * check values; n public sums. A record holds what the posts sent of one row, a block for each; all zeros is a record
+ * in which every post is absent.
  */
 #ifndef GANTSOROL_H
 #define GANTSOROL_H
@@ -188,6 +189,23 @@ gantsorol_answer gantsorol_masks(gantsorol_session session, const uint32_t *rows
  */
 gantsorol_answer gantsorol_finish(gantsorol_session session, uint32_t *rows, size_t rows_len, size_t first,
                                   const uint32_t *record_a, size_t record_a_len, const uint32_t *record_b, size_t record_b_len);
+
+/* ---- Records ---- */
+
+/*
+ * Puts what a post sent, the t+1 coefficients of its message or of one of its masks, into the post's block of a record,
+ * which becomes present; the refusal. What stood in the block is written over, the other blocks stay as they are.
+ * blocks: GANTSOROL_RECORD_LEN, written. message: t+1, read. Refusals 1, 2, 3, 5 and 8.
+ */
+uint8_t gantsorol_record_put(size_t n, size_t t, uint32_t *blocks, size_t blocks_len, size_t post,
+                             const uint32_t *message, size_t message_len);
+
+/*
+ * Takes a post's message out of a record again: its block becomes absent, all zeros, and the other blocks stay as they
+ * are; the refusal.
+ * blocks: GANTSOROL_RECORD_LEN, written. Refusals 1, 2, 3 and 5.
+ */
+uint8_t gantsorol_record_remove(size_t n, size_t t, uint32_t *blocks, size_t blocks_len, size_t post);
 
 /* ---- The factory and the dealer ---- */
 

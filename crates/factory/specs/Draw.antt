@@ -33,7 +33,8 @@ unfoldable pub part : Shape → ℕ → ℕ → List ℕ → List ℕ
 part s i w draw =
     drawnV s draw i ++ (eachPost (s .n) (λ j. value (drawnV s draw j) w) ++ eachPost (s .n) (sumOf s draw))
 
--- "Three such draws for l, l' and l'', but the third lacks f's constant, which is f(0) of l × f(0) of l'."
+-- "Three such draws for l, l' and l'', but the third lacks f's constant, which is f(0) of l × f(0) of l'." It is a Beaver triple. The
+-- source (docs/PROTOCOL.md), section 3.2: "three random numbers l, l' and l'', such that l'' = ll'".
 abbrev pub firstDraw : ℕ → List ℕ → List ℕ
 firstDraw d draw = take d draw
 

@@ -5,3 +5,4 @@
 pub mod broadcast;
 pub mod calls;
 pub mod packs;
+pub mod record;

@@ -82,6 +82,24 @@ extern "C" {
         record_b_len: usize,
     ) -> Answer;
 
+    pub fn gantsorol_record_put(
+        n: usize,
+        t: usize,
+        blocks: *mut u32,
+        blocks_len: usize,
+        post: usize,
+        message: *const u32,
+        message_len: usize,
+    ) -> u8;
+
+    pub fn gantsorol_record_remove(
+        n: usize,
+        t: usize,
+        blocks: *mut u32,
+        blocks_len: usize,
+        post: usize,
+    ) -> u8;
+
     pub fn gantsorol_factory_row(
         n: usize,
         t: usize,

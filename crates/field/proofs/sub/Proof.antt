@@ -15,7 +15,7 @@ one-remainder a b h = ap (λ (x : ℕ). x % p) split ∙ mul-add-mod-self-right 
   where
     split : a + (6442450941 - b) ≡ (2 - b / p) * p + (a + (p - b % p))
     split =
-        let low : b % p < p = mod-lt b (omega arith) in
+        let b-below : b % p < p = mod-lt b (omega arith) in
         omega (arith, div-add-mod' b p)
 
 pub sub-spec : {M : Type 1} → statement M
