@@ -1,10 +1,8 @@
 // A record's blocks: a post's message is put into a record, and taken out of it again.
 use shape::Shape;
 ghost use mathlib.Core.Path.{_≡_};
-ghost use mathlib.Core.List.{_∷_};
 ghost use Prim.Native.Nat.{suc, _*_, _-_};
 ghost use lib.ListN.{length};
-ghost use Rattle.shape.specs.Marks.{present};
 ghost use Rattle.shape.specs.Lengths.{Valid, blockLength, recordLength, messageLength};
 ghost use Rattle.opening.specs.Blocks.{PostIn};
 ghost use Rattle.records.specs.Records.{placeRefusal, putRefusal, withBlock, blockOf, noBlock, putRecord, removedRecord};
