@@ -54,7 +54,7 @@ fn fill(block: &mut [u32], message: &[u32])
     lists::copy(message, &mut block[1..]);
 }
 
-// The same once all tests have passed, for a caller that has made them itself.
+// A message into the block of a post, for callers that have made the tests.
 pub fn put_block(shape: Shape, blocks: &mut [u32], post: usize, message: &[u32])
     requires { ⌜ Valid shape × PostIn shape post × (length (now blocks) ≡ recordLength shape) × (length (now message) ≡ messageLength shape) ⌝ }
     ensures { λ r. ⌜ now (blocks .exit) ≡ withBlock shape post (blockOf (now (message .entry))) (now (blocks .entry)) ⌝ }
