@@ -181,14 +181,15 @@ gantsorol_answer gantsorol_masks(gantsorol_session session, const uint32_t *rows
                                  size_t first, uint32_t *out, size_t out_len);
 
 /*
- * The second half: opens a - l with the record record_a and b - l' with the record record_b, each as gantsorol_open does, and
+ * The second half: opens a - l with the record record_a and b - l' with record_b, each as gantsorol_open does, and
  * writes the product of a and b into the row first + 2. The marks 5, 4 and 4 of the triple become 6, 6 and 2: the
- * product is held like a dealt number. A sender's block has the first t+1 numbers of its masks in record_a, the last t+1 in
- * record_b. The rows remembered must still be held. A refused finish may be called again, with other records.
+ * product is held like a dealt number. A sender's block has the first t+1 numbers of its masks in record_a, the last
+ * t+1 in record_b. The rows remembered must still be held. A refused finish may be called again, with other records.
  * rows: GANTSOROL_ROWS_LEN, written. record_a, record_b: GANTSOROL_RECORD_LEN each, read. Refusals 1 to 9.
  */
 gantsorol_answer gantsorol_finish(gantsorol_session session, uint32_t *rows, size_t rows_len, size_t first,
-                                  const uint32_t *record_a, size_t record_a_len, const uint32_t *record_b, size_t record_b_len);
+                                  const uint32_t *record_a, size_t record_a_len, const uint32_t *record_b,
+                                  size_t record_b_len);
 
 /* ---- Records ---- */
 

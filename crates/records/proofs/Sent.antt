@@ -33,16 +33,16 @@ behind-mark k at l =
     let e : 1 + k ≡ suc k = omega arith in
     ap (take k) (sym (drop-drop 1 at l)) ∙ sym (drop-front 1 k (drop at l)) ∙ ap (λ (z : ℕ). drop 1 (take z (drop at l))) e
 
--- what the block b holds: its coefficients, or an empty part
-abbrev pub held : List ℕ → List ℕ
-held b = cond (eqb (getD b 0 0) present) (drop 1 b) []
+-- what an opening takes of the block b: its coefficients, or an empty part
+abbrev pub content : List ℕ → List ℕ
+content b = cond (eqb (getD b 0 0) present) (drop 1 b) []
 
 module _ (q : Party) (row : List ℕ) where
   abbrev s : Shape
   s = q .shape
 
   abbrev by-block : ℕ → List ℕ → List ℕ
-  by-block j b = cond (eqb j (q .post)) (coefficients s row) (held b)
+  by-block j b = cond (eqb j (q .post)) (coefficients s row) (content b)
 
   sent-is : (blocks : List ℕ) (j : ℕ) → sent q row blocks j ≡ by-block j (rowAt (blockLength s) blocks (j - 1))
   unfolding sent
@@ -58,7 +58,7 @@ module _ (q : Party) (row : List ℕ) where
     in-record : j - 1 < s .n
     in-record = omega (arith, i .post-in)
 
-    pub sent-written : j ≢ q .post → sent q row (withBlock s j b blocks) j ≡ held b
+    pub sent-written : j ≢ q .post → sent q row (withBlock s j b blocks) j ≡ content b
     sent-written n =
         sent-is (withBlock s j b blocks) j
         ∙ ap (by-block j) (row-same (blockLength s) (s .n) blocks (j - 1) size in-record b wide)

@@ -14,11 +14,11 @@ use Rattle.refusal.proofs.Decided.{keeps}
 use Rattle.refusal.proofs.Endings.{refused, accepted}
 use Rattle.session.specs.declared.Party.{Party}
 use Rattle.opening.specs.Blocks.{sent, PostIn}
-use Rattle.records.specs.Records.{placeRefusal, putRefusal, withBlock, blockOf, noBlock, putRecord, removedRecord}
+use Rattle.records.specs.Records.{placeRefusal, putRefusal, withBlock, blockOf, noBlock}
 use Rattle.records.specs.Table.{putTable, removeTable}
 use Rattle.records.specs.Claims.{RecordsLawful, SentAfter, MessagesSent}
 use Rattle.records.proofs.Places.{put-in, put-long, message-long, place-in, place-long}
-use Rattle.records.proofs.Sent.{held, sent-written, sent-other}
+use Rattle.records.proofs.Sent.{content, sent-written, sent-other}
 
 pub records-lawful : RecordsLawful
 unfolding placeRefusal putRefusal
@@ -39,11 +39,12 @@ module _ (q : Party) (row blocks b : List ℕ) (j f : ℕ) where
   abbrev after : List ℕ
   after = outcome f (withBlock s j b blocks) blocks
 
+  done : f ≡ 0 → after ≡ withBlock s j b blocks
+  done z = sym (accepted f f (withBlock s j b blocks) (withBlock s j b blocks) blocks refl z refl)
+
   module _ (placed : f ≡ 0 → PostIn s j) (sized : f ≡ 0 → length blocks ≡ recordLength s) (wide : f ≡ 0 → length b ≡ blockLength s) where
-    written : j ≢ q .post → f ≡ 0 → sent q row after j ≡ held b
-    written n z =
-        ap (λ (l : List ℕ). sent q row l j) (sym (accepted f f (withBlock s j b blocks) (withBlock s j b blocks) blocks refl z refl))
-        ∙ sent-written q row blocks b j (sized z) (placed z) (wide z) n
+    written : j ≢ q .post → f ≡ 0 → sent q row after j ≡ content b
+    written n z = ap (λ (l : List ℕ). sent q row l j) (done z) ∙ sent-written q row blocks b j (sized z) (placed z) (wide z) n
 
     others : (i : ℕ) → 1 ≤ i → i ≢ j → sent q row after i ≡ sent q row blocks i
     others i first n = by-refusal (decLe f 0)
@@ -51,8 +52,7 @@ module _ (q : Party) (row blocks b : List ℕ) (j f : ℕ) where
         by-refusal : Dec (f ≤ 0) → sent q row after i ≡ sent q row blocks i
         by-refusal (yes h) =
             let z : f ≡ 0 = omega arith in
-            ap (λ (l : List ℕ). sent q row l i) (sym (accepted f f (withBlock s j b blocks) (withBlock s j b blocks) blocks refl z refl))
-            ∙ sent-other q row blocks b j (sized z) (placed z) (wide z) i first n
+            ap (λ (l : List ℕ). sent q row l i) (done z) ∙ sent-other q row blocks b j (sized z) (placed z) (wide z) i first n
         by-refusal (no g) =
             ap (λ (l : List ℕ). sent q row l i) (sym (refused f f (withBlock s j b blocks) blocks refl (λ z. g (omega arith))))
 
@@ -75,8 +75,8 @@ module _ (q : Party) (row blocks : List ℕ) (j : ℕ) (message : List ℕ) wher
   no-wide : place ≡ 0 → length (noBlock (q .shape)) ≡ blockLength (q .shape)
   no-wide z = length-replicate (blockLength (q .shape)) 0
 
-  none-held : held (noBlock (q .shape)) ≡ []
-  none-held = rw (add-one (vLength (q .shape)))
+  no-content : content (noBlock (q .shape)) ≡ []
+  no-content = rw (add-one (vLength (q .shape)))
 
   after-calls : SentAfter q row blocks j message
   after-calls =
@@ -86,7 +86,7 @@ module _ (q : Party) (row blocks : List ℕ) (j : ℕ) (message : List ℕ) wher
       let no-sized = place-long n t blocks j place refl in
       record {
         there = written q row blocks (blockOf message) j put put-there put-sized put-wide;
-        gone = λ own z. written q row blocks (noBlock (q .shape)) j place no-there no-sized no-wide own z ∙ none-held;
+        gone = λ own z. written q row blocks (noBlock (q .shape)) j place no-there no-sized no-wide own z ∙ no-content;
         put-others = others q row blocks (blockOf message) j put put-there put-sized put-wide;
         removed-others = others q row blocks (noBlock (q .shape)) j place no-there no-sized no-wide;
       }

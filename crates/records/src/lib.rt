@@ -1,10 +1,8 @@
 // A record's blocks: a post's message is put into a record, and taken out of it again.
 use shape::Shape;
 ghost use mathlib.Core.Path.{_≡_};
-ghost use mathlib.Core.List.{_∷_};
 ghost use Prim.Native.Nat.{suc, _*_, _-_};
 ghost use lib.ListN.{length};
-ghost use Rattle.shape.specs.Marks.{present};
 ghost use Rattle.shape.specs.Lengths.{Valid, blockLength, recordLength, messageLength};
 ghost use Rattle.opening.specs.Blocks.{PostIn};
 ghost use Rattle.records.specs.Records.{placeRefusal, putRefusal, withBlock, blockOf, noBlock, putRecord, removedRecord};
@@ -56,7 +54,8 @@ fn fill(block: &mut [u32], message: &[u32])
     lists::copy(message, &mut block[1..]);
 }
 
-fn put_block(shape: Shape, blocks: &mut [u32], post: usize, message: &[u32])
+// A message into the block of a post, for callers that have made the tests.
+pub fn put_block(shape: Shape, blocks: &mut [u32], post: usize, message: &[u32])
     requires { ⌜ Valid shape × PostIn shape post × (length (now blocks) ≡ recordLength shape) × (length (now message) ≡ messageLength shape) ⌝ }
     ensures { λ r. ⌜ now (blocks .exit) ≡ withBlock shape post (blockOf (now (message .entry))) (now (blocks .entry)) ⌝ }
 {

@@ -1,3 +1,4 @@
+-- `value_of` meets its contract: the digits from i on, behind what was read so far, say the whole number (`Valued`).
 use Prim.Native.Nat.{_-_}
 use lib.ListN.{take, drop}
 use borrow.Author.Needs.{needs}

@@ -1,3 +1,4 @@
+-- `sub` meets its contract: 3p less b is a multiple of p less b's remainder, and never below 0.
 use Prim.Native.Nat.{ℕ, _+_, _*_, _-_, _/_, _%_, _<_}
 use mathlib.Core.Path.{_≡_, _∙_, ap}
 use native.Mathlib.Nat.{mod-lt, div-add-mod', mul-add-mod-self-right}

@@ -1,6 +1,6 @@
 -- `clear` meets its contract: it is filled with as many zeros as it is long.
-use Prim.Native.Nat.{_-_, _≤_}
-use lib.ListN.{length, replicate}
+use Prim.Native.Nat.{_-_}
+use lib.ListN.{length}
 use borrow.Author.Needs.{needs}
 use Rattle.lists.proofs.Cleared.{Clearing, clear-more, clear-end}
 use Rattle.lists.proofs.clear.Statement.{statement}
