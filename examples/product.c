@@ -5,7 +5,7 @@
 #include "gantsorol.h"
 
 enum { N = 3, T = 1, ROW = GANTSOROL_ROW_LEN(N, T), ALL = GANTSOROL_ROWS_LEN(N, T) };
-enum { BLOCK = GANTSOROL_BLOCK_LEN(T), RECORD = GANTSOROL_RECORD_LEN(N, T), MASKS = GANTSOROL_MASKS_LEN(T) };
+enum { RECORD = GANTSOROL_RECORD_LEN(N, T), MASKS = GANTSOROL_MASKS_LEN(T) };
 
 /* Where the posts keep the factors and the triple; the product takes the triple's third row. */
 enum { A = 0, B = 1, TRIPLE = 2, PRODUCT = TRIPLE + 2 };
@@ -49,17 +49,18 @@ static void load_triple(const uint32_t *draw) {
     }
 }
 
-/* A post's block of a record: it is present, and these are its t+1 coefficients. */
+/* What a post sent, into its block of a record. */
 static void hear(uint32_t *record, int post, const uint32_t *coefficients) {
-    record[post * BLOCK] = 1;
-    memcpy(record + post * BLOCK + 1, coefficients, (T + 1) * sizeof *record);
+    uint8_t refusal = gantsorol_record_put(N, T, record, RECORD, post + 1, coefficients, T + 1);
+    if (refusal != 0)
+        printf("the record: refusal %d\n", refusal);
 }
 
 int main(void) {
     /* Real draws are random: any numbers do here. */
     const uint32_t a[] = {7, 4, 1, 2, 3, 1, 5, 6}, b[] = {1, 9, 8, 2, 4, 4, 6, 3};
     const uint32_t triple[] = {2, 3, 7, 1, 8, 2, 8, 1, 5, 8, 2, 8, 4, 5, 9, 0, 4, 5, 2, 3, 5, 3, 6};
-    uint32_t masks[MASKS], left[RECORD] = {0}, right[RECORD] = {0}, opening[RECORD] = {0}, message[T + 1];
+    uint32_t masks[MASKS], record_a[RECORD] = {0}, record_b[RECORD] = {0}, opening[RECORD] = {0}, message[T + 1];
     for (int i = 0; i < N; i++)
         keep(i, gantsorol_new(N, T, i + 1, points[i]));
     share(A, 6, a);
@@ -70,14 +71,14 @@ int main(void) {
     for (int i = 0; i < N; i++) {
         keep(i, gantsorol_masks(posts[i], rows[i], ALL, A, B, TRIPLE, masks, MASKS));
         if (i == 0)
-            keep(i, gantsorol_finish(posts[i], rows[i], ALL, TRIPLE, left, RECORD, right, RECORD));
-        hear(left, i, masks);
-        hear(right, i, masks + T + 1);
+            keep(i, gantsorol_finish(posts[i], rows[i], ALL, TRIPLE, record_a, RECORD, record_b, RECORD));
+        hear(record_a, i, masks);
+        hear(record_b, i, masks + T + 1);
     }
 
     /* Each post finishes by itself, and has its part of the product, which is opened like any held number. */
     for (int i = 0; i < N; i++) {
-        keep(i, gantsorol_finish(posts[i], rows[i], ALL, TRIPLE, left, RECORD, right, RECORD));
+        keep(i, gantsorol_finish(posts[i], rows[i], ALL, TRIPLE, record_a, RECORD, record_b, RECORD));
         keep(i, gantsorol_opening_message(posts[i], rows[i], ALL, PRODUCT, message, T + 1));
         hear(opening, i, message);
     }

@@ -3,7 +3,7 @@
 
 #include "gantsorol.h"
 
-enum { N = 3, T = 1, ROW = GANTSOROL_ROW_LEN(N, T), BLOCK = GANTSOROL_BLOCK_LEN(T) };
+enum { N = 3, T = 1, ROW = GANTSOROL_ROW_LEN(N, T), RECORD = GANTSOROL_RECORD_LEN(N, T) };
 
 static uint32_t rows[N][GANTSOROL_ROWS_LEN(N, T)];
 static gantsorol_session posts[N];
@@ -32,14 +32,16 @@ int main(void) {
     }
 
     /* Post 2 sends its message; post 1 opens the number with it, and post 3 is absent. */
-    uint32_t record[GANTSOROL_RECORD_LEN(N, T)] = {0};
-    record[1 * BLOCK] = 1;
-    keep(1, gantsorol_opening_message(posts[1], rows[1], GANTSOROL_ROWS_LEN(N, T), 0, &record[1 * BLOCK + 1], T + 1));
+    uint32_t message[T + 1], record[RECORD] = {0};
+    keep(1, gantsorol_opening_message(posts[1], rows[1], GANTSOROL_ROWS_LEN(N, T), 0, message, T + 1));
+    if (gantsorol_record_put(N, T, record, RECORD, 2, message, T + 1) != 0)
+        return 1;
     printf("c = %u, opened %u\n", c,
-           keep(0, gantsorol_open(posts[0], rows[0], GANTSOROL_ROWS_LEN(N, T), 0, record, N * BLOCK)));
+           keep(0, gantsorol_open(posts[0], rows[0], GANTSOROL_ROWS_LEN(N, T), 0, record, RECORD)));
 
     /* Without it post 1 is alone, and too few is refusal 9. */
-    record[1 * BLOCK] = 0;
-    keep(0, gantsorol_open(posts[0], rows[0], GANTSOROL_ROWS_LEN(N, T), 0, record, N * BLOCK));
+    if (gantsorol_record_remove(N, T, record, RECORD, 2) != 0)
+        return 1;
+    keep(0, gantsorol_open(posts[0], rows[0], GANTSOROL_ROWS_LEN(N, T), 0, record, RECORD));
     return 0;
 }

@@ -1,7 +1,7 @@
 /*
  * Gantsorol: verifiable secret sharing for dock posts.
  *
- * The library is libexports.a (`rt staticlib exports`). It needs no initialisation, allocates nothing, keeps nothing
+ * The library is libgantsorol.a (`rt staticlib gantsorol`). It needs no initialisation, allocates nothing, keeps nothing
  * between calls and may be called from several threads.
  *
  * Any values are allowed. Every call, whatever it is given, does its one job or answers with a refusal, the number of
@@ -10,7 +10,7 @@
  *
  *    1  the number of posts n is outside 2 to 32
  *    2  t is outside 1 to n - 1
- *    3  the session's post, or the post of a line to be written, is outside 1 to n
+ *    3  the session's post, or the post of a line to be written or of a block, is outside 1 to n
  *    4  a check point is 0 or at least p
  *    5  a list's length is not exactly the one stated
  *    6  a row is above 95, or a triple's first row above 93
@@ -30,7 +30,8 @@
  * handed back, never an older one: a row would be opened or dealt that no longer is what the old marks say.
  *
  * A row is a post's part of one shared number: the t+1 coefficients of the post's own polynomial, constant first; n
- * check values; n public sums.
+ * check values; n public sums. A record holds what the posts sent of one row, a block for each; all zeros is a record
+ * in which every post is absent.
  */
 #ifndef GANTSOROL_H
 #define GANTSOROL_H
@@ -82,8 +83,8 @@ typedef struct gantsorol_session {
        5 first row of a triple whose masks were sent, 6 spent */
     uint8_t marks[GANTSOROL_ROWS];
     /* the two factor rows that a triple's masks were sent for, at its first row */
-    uint8_t left[GANTSOROL_ROWS];
-    uint8_t right[GANTSOROL_ROWS];
+    uint8_t factor_a[GANTSOROL_ROWS];
+    uint8_t factor_b[GANTSOROL_ROWS];
 } gantsorol_session;
 
 /* What a call on a session hands back. */
@@ -180,14 +181,32 @@ gantsorol_answer gantsorol_masks(gantsorol_session session, const uint32_t *rows
                                  size_t first, uint32_t *out, size_t out_len);
 
 /*
- * The second half: opens a - l with the record left and b - l' with the record right, each as gantsorol_open does, and
+ * The second half: opens a - l with the record record_a and b - l' with record_b, each as gantsorol_open does, and
  * writes the product of a and b into the row first + 2. The marks 5, 4 and 4 of the triple become 6, 6 and 2: the
- * product is held like a dealt number. A sender's block has the first t+1 numbers of its masks in left, the last t+1 in
- * right. The rows remembered must still be held. A refused finish may be called again, with other records.
- * rows: GANTSOROL_ROWS_LEN, written. left, right: GANTSOROL_RECORD_LEN each, read. Refusals 1 to 9.
+ * product is held like a dealt number. A sender's block has the first t+1 numbers of its masks in record_a, the last
+ * t+1 in record_b. The rows remembered must still be held. A refused finish may be called again, with other records.
+ * rows: GANTSOROL_ROWS_LEN, written. record_a, record_b: GANTSOROL_RECORD_LEN each, read. Refusals 1 to 9.
  */
 gantsorol_answer gantsorol_finish(gantsorol_session session, uint32_t *rows, size_t rows_len, size_t first,
-                                  const uint32_t *left, size_t left_len, const uint32_t *right, size_t right_len);
+                                  const uint32_t *record_a, size_t record_a_len, const uint32_t *record_b,
+                                  size_t record_b_len);
+
+/* ---- Records ---- */
+
+/*
+ * Puts what a post sent, the t+1 coefficients of its message or of one of its masks, into the post's block of a record,
+ * which becomes present; the refusal. What stood in the block is written over, the other blocks stay as they are.
+ * blocks: GANTSOROL_RECORD_LEN, written. message: t+1, read. Refusals 1, 2, 3, 5 and 8.
+ */
+uint8_t gantsorol_record_put(size_t n, size_t t, uint32_t *blocks, size_t blocks_len, size_t post,
+                             const uint32_t *message, size_t message_len);
+
+/*
+ * Takes a post's message out of a record again: its block becomes absent, all zeros, and the other blocks stay as they
+ * are; the refusal.
+ * blocks: GANTSOROL_RECORD_LEN, written. Refusals 1, 2, 3 and 5.
+ */
+uint8_t gantsorol_record_remove(size_t n, size_t t, uint32_t *blocks, size_t blocks_len, size_t post);
 
 /* ---- The factory and the dealer ---- */
 

@@ -1,4 +1,4 @@
-//! Links the static library that `rt staticlib exports` writes.
+//! Links the static library that `rt staticlib gantsorol` writes.
 //!
 //! `GANTSOROL_LIB` names the archive; without it the one in the repository's `target/` is taken.
 
@@ -6,7 +6,7 @@ use std::env;
 use std::path::{Path, PathBuf};
 use std::process::exit;
 
-const BUILT: &str = "../../target/staticlib/libexports.a";
+const BUILT: &str = "../../target/staticlib/libgantsorol.a";
 
 fn main() {
     println!("cargo:rerun-if-env-changed=GANTSOROL_LIB");
@@ -29,7 +29,7 @@ fn main() {
 
 fn missing(archive: &Path, why: &str) -> ! {
     eprintln!("error: the library cannot be linked: {}: {why}", archive.display());
-    eprintln!("Build it with `rt staticlib exports` in the repository's root,");
-    eprintln!("or set GANTSOROL_LIB to the path of libexports.a.");
+    eprintln!("Build it with `rt staticlib gantsorol` in the repository's root,");
+    eprintln!("or set GANTSOROL_LIB to the path of libgantsorol.a.");
     exit(1)
 }

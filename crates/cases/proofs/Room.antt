@@ -7,8 +7,8 @@ use mir.Syntax.{w64}
 use mir.Val.{Fits}
 use lib.ListN.{length, take}
 use lib.Seq.{length-take-le}
-use Rattle.fields.specs.Fields.{fields}
-use Rattle.fields.proofs.Overwriting.{length-fields-le}
+use Rattle.csv.specs.Fields.{fields}
+use Rattle.csv.proofs.Overwriting.{length-fields-le}
 
 module _ (xs : List ℕ) (two : length xs ≡ 2) where
   pub two-fit : (out : List ℕ) → length out ≡ 32 → 0 + length (fields xs) ≤ length out

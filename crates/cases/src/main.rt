@@ -12,7 +12,7 @@ fn lay(out: &mut [u8], refusal: u8, value: u32) -> usize
     ensures { λ r. ⌜ r ≤ 32 ⌝ }
 {
     let numbers = [refusal as u32, value];
-    let end = fields::put_fields(out, 0, &numbers);
+    let end = csv::put_fields(out, 0, &numbers);
     out[end] = 10;
     end + 1
 }
@@ -140,8 +140,8 @@ fn second_loaded(rows: &mut [u32]) -> Session {
 }
 
 // The product into row 4, and with a fee of 8 into row 5.
-fn charged(session: Session, rows: &mut [u32], left: &[u32], right: &[u32]) -> Session {
-    let finished = product::finish::finish(session, rows, 2, left, right).session;
+fn charged(session: Session, rows: &mut [u32], record_a: &[u32], record_b: &[u32]) -> Session {
+    let finished = product::finish::finish(session, rows, 2, record_a, record_b).session;
     sharing::linear::linear(finished, rows, 5, 4, 4, 0, 8).session
 }
 

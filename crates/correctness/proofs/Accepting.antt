@@ -8,7 +8,7 @@ use native.Mathlib.Decide.{ℕ-discrete}
 use native.Mathlib.Omega.{arith}
 use borrow.Author.Tests.{lt-ltb, le-ltb, ne-eqb}
 use lib.ListN.{length}
-use Rattle.poly.specs.Counting.{Elements, count}
+use Rattle.poly.specs.Counting.{Elements, countFrom}
 use Rattle.session.specs.declared.Session.{Session}
 use Rattle.opening.specs.Blocks as Blocks
 use Rattle.opening.specs.Walking.{blockMark, sent, accepts, walk, acceptedPosts, tooFew}
@@ -17,16 +17,16 @@ use Rattle.runs.specs.Calls.{Proper}
 use Rattle.correctness.specs.Claim.{accepted}
 
 -- a walk takes all that pass, up to so many
-pub walk-length : (test : ℕ → Bool) (j k need : ℕ) → length (walk test j k need) ≡ min need (count test j k)
-unfolding walk count
+pub walk-length : (test : ℕ → Bool) (j k need : ℕ) → length (walk test j k need) ≡ min need (countFrom test j k)
+unfolding walk countFrom
 walk-length test j zero need = omega arith
 walk-length test j (suc k) zero = omega arith
 walk-length test j (suc k) (suc need) = go (test j) (walk-length test (suc j) k need) (walk-length test (suc j) k (suc need))
   where
-    go : (b : Bool) → length (walk test (suc j) k need) ≡ min need (count test (suc j) k)
-        → length (walk test (suc j) k (suc need)) ≡ min (suc need) (count test (suc j) k)
+    go : (b : Bool) → length (walk test (suc j) k need) ≡ min need (countFrom test (suc j) k)
+        → length (walk test (suc j) k (suc need)) ≡ min (suc need) (countFrom test (suc j) k)
         → length {A = ℕ} (elim b as (λ z. List ℕ) [ true ↦ j ∷ walk test (suc j) k need | false ↦ walk test (suc j) k (suc need) ])
-        ≡ min (suc need) (elim b as (λ z. ℕ) [ true ↦ suc (count test (suc j) k) | false ↦ count test (suc j) k ])
+        ≡ min (suc need) (elim b as (λ z. ℕ) [ true ↦ suc (countFrom test (suc j) k) | false ↦ countFrom test (suc j) k ])
     go true a c = omega arith
     go false a c = c
 

@@ -9,7 +9,7 @@ use native.Mathlib.Omega.{arith}
 use borrow.Author.Tests.{eq-eqb}
 use lib.Dec.{eqb}
 use Rattle.field.specs.Modulus.{p}
-use Rattle.poly.specs.Counting.{count, agreements}
+use Rattle.poly.specs.Counting.{countFrom, agreements}
 use Rattle.poly.specs.Polynomial.{value}
 use Rattle.poly.proofs.Theorems.{false-polynomials-pass}
 use Rattle.session.specs.Sessions.{withPoint}
@@ -23,21 +23,21 @@ use Rattle.runs.proofs.Records.{Present, sent-there, accepted-there, block-many
 use Rattle.correctness.specs.Parts.{FalseCaught}
 
 -- a test that passes wherever another does
-count-within : (f g : ℕ → Bool) → ((w : ℕ) → f w ≡ true → g w ≡ true) → (from k : ℕ) → count f from k ≤ count g from k
-unfolding count
+count-within : (f g : ℕ → Bool) → ((w : ℕ) → f w ≡ true → g w ≡ true) → (from k : ℕ) → countFrom f from k ≤ countFrom g from k
+unfolding countFrom
 count-within f g h from zero = le-refl 0
 count-within f g h from (suc k) = go (f from) (g from) (h from) (count-within f g h (suc from) k)
   where
-    go : (a b : Bool) → (a ≡ true → b ≡ true) → count f (suc from) k ≤ count g (suc from) k
-        → (elim a as (λ x. ℕ) [ true ↦ suc (count f (suc from) k) | false ↦ count f (suc from) k ])
-        ≤ (elim b as (λ x. ℕ) [ true ↦ suc (count g (suc from) k) | false ↦ count g (suc from) k ])
+    go : (a b : Bool) → (a ≡ true → b ≡ true) → countFrom f (suc from) k ≤ countFrom g (suc from) k
+        → (elim a as (λ x. ℕ) [ true ↦ suc (countFrom f (suc from) k) | false ↦ countFrom f (suc from) k ])
+        ≤ (elim b as (λ x. ℕ) [ true ↦ suc (countFrom g (suc from) k) | false ↦ countFrom g (suc from) k ])
     go true true i l = omega arith
     go true false i l = let e = i refl in let z : _≡_ {A = ℕ} 0 1 = cc in absurd (omega arith)
     go false true i l = omega arith
     go false false i l = l
 
-count-none : (from k : ℕ) → count (λ w. false) from k ≡ 0
-unfolding count
+count-none : (from k : ℕ) → countFrom (λ w. false) from k ≡ 0
+unfolding countFrom
 count-none from zero = refl
 count-none from (suc k) = count-none (suc from) k
 
@@ -61,7 +61,7 @@ false-caught s X blocks j lo hi other proper untrue = go (ℕ-discrete (blockMar
         (sym (ap (λ (q : List ℕ). value q w) (sent-there (withPoint s w) blocks j lo hi other (heldRow (withPoint s w) X) (there-at w a)))
         ∙ accepted-agrees (withPoint s w) X blocks j lo hi a)
 
-    go : Dec (Present s blocks j) → count (λ w. accepts (withPoint s w) (heldRow (withPoint s w) X) blocks j) 1 (p - 1) ≤ s .t
+    go : Dec (Present s blocks j) → countFrom (λ w. accepts (withPoint s w) (heldRow (withPoint s w) X) blocks j) 1 (p - 1) ≤ s .t
     go (yes there) =
         le-trans (count-within (λ w. accepts (withPoint s w) (heldRow (withPoint s w) X) blocks j) (λ w. eqb (value block w) (value own w)) agrees-at 1 (p - 1))
         (false-polynomials-pass (s .t) block own (block-low s blocks j lo hi other proper there) (numbers-elements (s .t + 1) (X .v j))

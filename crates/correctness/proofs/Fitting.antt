@@ -21,9 +21,9 @@ use Rattle.runs.specs.Draws.{Plan, Draw, IsDraw, Sound}
 use Rattle.runs.specs.Outline.{Taking, nothingTaken, aRowPack, aTriplePack, aNumber, aRecord, twoRecords, takes, Given, Move, moves, actsIn}
 use Rattle.runs.specs.Calls.{Post, Actual, Call}
 use Rattle.runs.proofs.Outlines.{every-all}
-use Rattle.runs.proofs.Marks.{Marks, leftOf, rightOf, sessionAt, less, vectorA, maskA, maskB}
+use Rattle.runs.proofs.Marks.{Marks, rememberedA, rememberedB, sessionAt, less, vectorA, maskVectorA, maskVectorB}
 use Rattle.runs.proofs.Outcomes.{refusalOf}
-use Rattle.runs.proofs.Holds.{Holds}
+use Rattle.runs.proofs.Holds.{Holder}
 use Rattle.runs.proofs.Finishing.{AllTrue, opens-a, opens-b}
 use Rattle.runs.proofs.Records.{own-true}
 use Rattle.runs.proofs.Start.{sizes}
@@ -69,7 +69,7 @@ module _ (plan : Plan) (draw : Draw) (L : Ledger) (sound : Sound plan) (is : IsD
 
   module _ (S : ℕ → Type 0) (w : World) (all : AllSaid S w) where
     -- of a triple whose masks were made, a half of j's is its polynomial of a − l, or of b − l'
-    module _ (M : Marks) (vec : ℕ → Vector) (f : Known plan draw L M vec) (r : ℕ) (ok : Multiplying 5 M (leftOf M r) (rightOf M r) r) where
+    module _ (M : Marks) (vec : ℕ → Vector) (f : Known plan draw L M vec) (r : ℕ) (ok : Multiplying 5 M (rememberedA M r) (rememberedB M r) r) where
       low : r < 96
       low = omega (arith, ok .r-low)
 
@@ -77,41 +77,53 @@ module _ (plan : Plan) (draw : Draw) (L : Ledger) (sound : Sound plan) (is : IsD
       t = f r low .triple (inr (ok .first))
 
       both-are : (j : ℕ) → 1 ≤ j → j ≤ plan .n → (half : List ℕ → List ℕ) (xs : List ℕ) → TrueMask S w (plan .t) half r j xs
-          → xs ≡ half (halves plan draw r j (vec (leftOf M r)) (vec (rightOf M r)))
+          → xs ≡ half (halves plan draw r j (vec (rememberedA M r)) (vec (rememberedB M r)))
       both-are j lj hj half xs o =
           o .1 .4
           ∙ ap half
           (told-masks plan draw L (small plan sound) (w .lines j) (all j lj hj (o .0)) r j (o .1 .0)
-          (record { row = omega (arith, ok .r-low); post = (lj, hj); many = o .1 .1; low = o .1 .2 }) (o .1 .3) (leftOf M r) (rightOf M r)
-          (f r low .waiting (ok .first) .means) (vec (leftOf M r)) (vec (rightOf M r))
-          (f (leftOf M r) (ok .a-low) .held (ok .a-held)) (f (rightOf M r) (ok .b-low) .held (ok .b-held)))
+          (record { row = omega (arith, ok .r-low); post = (lj, hj); many = o .1 .1; low = o .1 .2 }) (o .1 .3) (rememberedA M r) (rememberedB M r)
+          (f r low .waiting (ok .first) .means) (vec (rememberedA M r)) (vec (rememberedB M r))
+          (f (rememberedA M r) (ok .a-low) .held (ok .a-held)) (f (rememberedB M r) (ok .b-low) .held (ok .b-held)))
 
       pub told-a : (j : ℕ) → 1 ≤ j → j ≤ plan .n → (xs : List ℕ) → TrueMask S w (plan .t) (take (plan .t + 1)) r j xs
-          → xs ≡ numbers (plan .t + 1) (maskA M vec r .v j)
+          → xs ≡ numbers (plan .t + 1) (maskVectorA M vec r .v j)
       told-a j lj hj xs o =
-          both-are j lj hj (take (plan .t + 1)) xs o ∙ take-at (numbers (plan .t + 1) (less (vec (leftOf M r)) (vectorA plan draw r) .v j)) _ (plan .t + 1) (length-numbers (plan .t + 1) _)
-          ∙ ap (λ (X : Vector). numbers (plan .t + 1) (less (vec (leftOf M r)) X .v j)) (sym (t .is-a))
+          both-are j lj hj (take (plan .t + 1)) xs o ∙ take-at (numbers (plan .t + 1) (less (vec (rememberedA M r)) (vectorA plan draw r) .v j)) _ (plan .t + 1) (length-numbers (plan .t + 1) _)
+          ∙ ap (λ (X : Vector). numbers (plan .t + 1) (less (vec (rememberedA M r)) X .v j)) (sym (t .is-a))
 
       pub told-b : (j : ℕ) → 1 ≤ j → j ≤ plan .n → (xs : List ℕ) → TrueMask S w (plan .t) (drop (plan .t + 1)) r j xs
-          → xs ≡ numbers (plan .t + 1) (maskB M vec r .v j)
+          → xs ≡ numbers (plan .t + 1) (maskVectorB M vec r .v j)
       told-b j lj hj xs o =
-          both-are j lj hj (drop (plan .t + 1)) xs o ∙ drop-at (numbers (plan .t + 1) (less (vec (leftOf M r)) (vectorA plan draw r) .v j)) _ (plan .t + 1) (length-numbers (plan .t + 1) _)
-          ∙ ap (λ (X : Vector). numbers (plan .t + 1) (less (vec (rightOf M r)) X .v j)) (sym (t .is-b))
+          both-are j lj hj (drop (plan .t + 1)) xs o ∙ drop-at (numbers (plan .t + 1) (less (vec (rememberedA M r)) (vectorA plan draw r) .v j)) _ (plan .t + 1) (length-numbers (plan .t + 1) _)
+          ∙ ap (λ (X : Vector). numbers (plan .t + 1) (less (vec (rememberedB M r)) X .v j)) (sym (t .is-b))
 
     -- a finish that is not refused
-    module _ (len i : ℕ) (M : Marks) (vec : ℕ → Vector) (f : Known plan draw L M vec) (l : List ℕ) (h : Holds plan draw len i M vec l) (r : ℕ) (blocks blocks' : List ℕ) (ok : Multiplying 5 M (leftOf M r) (rightOf M r) r) where
+    module _ (len i : ℕ) (q : Post) (g : Good plan draw L len i q) (r : ℕ) (blocksA blocksB : List ℕ) (ok : Multiplying 5 (g .marks) (rememberedA (g .marks) r) (rememberedB (g .marks) r) r) where
+      abbrev M : Marks
+      M = g .marks
+
+      abbrev vec : ℕ → Vector
+      vec = g .vec
+
+      abbrev l : List ℕ
+      l = q .rows
+
+      abbrev holder : Holder
+      holder = record { plan = plan; draw = draw; len = len; post = i; marks = M; vec = vec; rows = l; holds = g .stands .holds }
+
       abbrev s : Session
       s = sessionAt plan draw i M
 
-      true-a : TrueOf (TrueMask S w (plan .t) (take (plan .t + 1)) r) s (Finish.maskA s l r) blocks → AllTrue s (maskA M vec r) blocks
+      true-a : TrueOf (TrueMask S w (plan .t) (take (plan .t + 1)) r) s (Finish.maskA s l r) blocksA → AllTrue s (maskVectorA M vec r) blocksA
       true-a =
-          all-true-of s (maskA M vec r) blocks (TrueMask S w (plan .t) (take (plan .t + 1)) r) (Finish.maskA s l r) (opens-a plan draw len i M vec l h r ok)
-          (λ j lj hj ne o. told-a M vec f r ok j lj hj _ o)
+          all-true-of s (maskVectorA M vec r) blocksA (TrueMask S w (plan .t) (take (plan .t + 1)) r) (Finish.maskA s l r) (opens-a holder r ok)
+          (λ j lj hj ne o. told-a M vec (g .facts) r ok j lj hj _ o)
 
-      true-b : TrueOf (TrueMask S w (plan .t) (drop (plan .t + 1)) r) s (Finish.maskB s l r) blocks' → AllTrue s (maskB M vec r) blocks'
+      true-b : TrueOf (TrueMask S w (plan .t) (drop (plan .t + 1)) r) s (Finish.maskB s l r) blocksB → AllTrue s (maskVectorB M vec r) blocksB
       true-b =
-          all-true-of s (maskB M vec r) blocks' (TrueMask S w (plan .t) (drop (plan .t + 1)) r) (Finish.maskB s l r) (opens-b plan draw len i M vec l h r ok)
-          (λ j lj hj ne o. told-b M vec f r ok j lj hj _ o)
+          all-true-of s (maskVectorB M vec r) blocksB (TrueMask S w (plan .t) (drop (plan .t + 1)) r) (Finish.maskB s l r) (opens-b holder r ok)
+          (λ j lj hj ne o. told-b M vec (g .facts) r ok j lj hj _ o)
 
     module _ (len i : ℕ) (q : Post) (g : Good plan draw L len i q) where
       fits-with : (t : Taking) (x : Given Actual t) → ReadyFor (g .marks) t → OwnWith plan draw i t x → TrueWith S w q t x
@@ -126,8 +138,8 @@ module _ (plan : Plan) (draw : Draw) (L : Ledger) (sound : Sound plan) (is : IsD
           (λ (v : Post). TrueWith S w v (twoRecords r) x → FitsWith plan draw i (g .marks) (g .vec) (twoRecords r) x)
           (sym (named plan draw len i (g .marks) (g .vec) q (g .stands)))
           (λ o. (
-            true-a len i (g .marks) (g .vec) (g .facts) (q .rows) (g .stands .holds) r (x .0) (x .1) ok (o .0),
-            true-b len i (g .marks) (g .vec) (g .facts) (q .rows) (g .stands .holds) r (x .0) (x .1) ok (o .1),
+            true-a len i q g r (x .0) (x .1) ok (o .0),
+            true-b len i q g r (x .0) (x .1) ok (o .1),
           ))
           y
 

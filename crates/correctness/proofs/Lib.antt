@@ -9,9 +9,3 @@ pub mod Openings
 pub mod Theorems
 pub mod Caught
 pub mod Parts
-pub mod Computing
-pub mod Example
-pub mod Nested
-pub mod Fooled
-pub mod Needed
-pub mod Unheard

@@ -15,7 +15,7 @@ use Rattle.vectors.specs.Vector.{Vector, numbers}
 use Rattle.vectors.specs.Claims.{heldRow}
 use Rattle.runs.specs.Draws.{Plan, Draw, rawDraw, tripleDraw}
 use Rattle.runs.specs.Calls.{Post}
-use Rattle.runs.proofs.Marks.{Marks, leftOf, rightOf, sessionAt, less, vectorA, vectorB, maskA, maskB}
+use Rattle.runs.proofs.Marks.{Marks, rememberedA, rememberedB, sessionAt, less, vectorA, vectorB, maskVectorA, maskVectorB}
 use Rattle.runs.proofs.Facts.{Multiplying}
 use Rattle.runs.proofs.Rows.{marked-low}
 use Rattle.runs.proofs.Steps.{postAt, named}
@@ -27,6 +27,8 @@ use Rattle.correctness.specs.Parts.{PartOf, withPoints, HeldParts, MaskP
 use Rattle.correctness.proofs.Meanings.{IsOf, Is, is-dealt, is-row, is-times, is-fee, is-more, is-product, one, plain}
 use Rattle.correctness.proofs.Standing.{Good}
 use Rattle.correctness.proofs.Fitting.{AllSaid, told-a, told-b}
+use Rattle.correctness.proofs.Permitted as Permitted
+use Rattle.correctness.proofs.Permitted.{Stander, standerOf}
 use Rattle.correctness.proofs.Openings as Openings
 use Rattle.correctness.proofs.Theorems.{lens, end, stands, reliable}
 use Rattle.correctness.proofs.Caught.{false-caught}
@@ -82,6 +84,9 @@ module _ (plan : Plan) (draw : Draw) (L : Ledger) (S : ℕ → Type 0) (rows : �
   unfolding w
   g = stands plan draw L S rows es h .posts i lo hi among
 
+  abbrev G : Stander
+  G = standerOf plan draw L (h .sound) (h .is-draw) _ i lo hi (w .posts i) g
+
   abbrev M : Marks
   M = g .marks
 
@@ -121,20 +126,20 @@ module _ (plan : Plan) (draw : Draw) (L : Ledger) (S : ℕ → Type 0) (rows : �
 
   -- ---- masks that were made
 
-  waiting : mark s r ≡ 5 → Multiplying 5 M (leftOf M r) (rightOf M r) r
-  waiting = Openings.waiting plan draw L (h .sound) (h .is-draw) _ i lo hi M vec l (g .sized) (g .stands .holds) (g .facts) (g .full) r
+  waiting : mark s r ≡ 5 → Multiplying 5 M (rememberedA M r) (rememberedB M r) r
+  waiting = Permitted.waiting G r
 
   factors-of : mark s r ≡ 5 → Factors plan draw L r
   factors-of five =
       let k = waiting five in
       record {
-        a = leftOf M r;
-        b = rightOf M r;
-        X = vec (leftOf M r);
-        Y = vec (rightOf M r);
+        a = rememberedA M r;
+        b = rememberedB M r;
+        X = vec (rememberedA M r);
+        Y = vec (rememberedB M r);
         means = g .facts r (marked-low M (g .sized) r 4 five) .waiting five .means;
-        is-a = g .facts (leftOf M r) (k .a-low) .held (k .a-held);
-        is-b = g .facts (rightOf M r) (k .b-low) .held (k .b-held);
+        is-a = g .facts (rememberedA M r) (k .a-low) .held (k .a-held);
+        is-b = g .facts (rememberedB M r) (k .b-low) .held (k .b-held);
       }
 
   factors : mark (w .posts i .session) r ≡ 5 → Factors plan draw L r
@@ -157,13 +162,13 @@ module _ (plan : Plan) (draw : Draw) (L : Ledger) (S : ℕ → Type 0) (rows : �
       × PartOf HalfB (q .session) (Finish.maskB (q .session) (q .rows) r) (less (k .Y) (vectorB plan draw r)))
       (λ five.
       let t = g .facts r (marked-low M (g .sized) r 4 five) .triple (inr five) in let same = one-pair plan draw L r (factors-of five) k in
-      let ea : maskA M vec r ≡ less (k .X) (vectorA plan draw r) = ap₂ less (same .0) (t .is-a) in
-      let eb : maskB M vec r ≡ less (k .Y) (vectorB plan draw r) = ap₂ less (same .1) (t .is-b) in (
+      let ea : maskVectorA M vec r ≡ less (k .X) (vectorA plan draw r) = ap₂ less (same .0) (t .is-a) in
+      let eb : maskVectorB M vec r ≡ less (k .Y) (vectorB plan draw r) = ap₂ less (same .1) (t .is-b) in (
         part-from HalfA s (Finish.maskA s l r) _
-            (Openings.mask-a plan draw L (h .sound) (h .is-draw) _ i lo hi M vec l (g .sized) (g .stands .holds) (g .facts) (g .full) r five ∙ ap (heldRow s) ea)
+            (Openings.mask-a G r five ∙ ap (heldRow s) ea)
             (λ j xs lj hj many elements m. told-a plan draw L (h .sound) (h .is-draw) S w said M vec (g .facts) r (waiting five) j lj hj xs m ∙ ap (λ (Z : Vector). numbers (plan .t + 1) (Z .v j)) ea),
         part-from HalfB s (Finish.maskB s l r) _
-            (Openings.mask-b plan draw L (h .sound) (h .is-draw) _ i lo hi M vec l (g .sized) (g .stands .holds) (g .facts) (g .full) r five ∙ ap (heldRow s) eb)
+            (Openings.mask-b G r five ∙ ap (heldRow s) eb)
             (λ j xs lj hj many elements m. told-b plan draw L (h .sound) (h .is-draw) S w said M vec (g .facts) r (waiting five) j lj hj xs m ∙ ap (λ (Z : Vector). numbers (plan .t + 1) (Z .v j)) eb),
       ))
 

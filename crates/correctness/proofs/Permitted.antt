@@ -6,70 +6,108 @@ use mathlib.Core.Bool.{Bool, true, false, not}
 use mathlib.Core.Logic.{_≢_, _⊎_, inl, inr}
 use mathlib.Core.List.{List, [], _∷_}
 use native.Mathlib.Omega.{arith}
-use borrow.Author.Tests.{le-ltb, eq-eqb}
+use borrow.Author.Tests.{eq-eqb}
 use lib.ListN.{length}
-use Rattle.refusal.specs.Refusal.{_when_, first, orElse}
-use Rattle.refusal.specs.Conditions.{outside, missized, anyBeyond, postsTests}
-use Rattle.refusal.proofs.Laws.{all-fail, not-refused, first-join}
+use Rattle.shape.specs.Lengths.{rowsLength}
+use Rattle.refusal.specs.Refusal.{_when_, first}
+use Rattle.refusal.specs.Conditions.{wrongLength, anyBeyond}
+use Rattle.refusal.proofs.Laws.{not-refused}
 use Rattle.session.specs.declared.Session.{Session}
-use Rattle.session.specs.Sessions.{mark}
-use Rattle.session.specs.Rows.{width, rowAt}
-use Rattle.session.specs.Checks.{unlike}
-use Rattle.opening.specs.Walking.{recordLength, tooFew}
+use Rattle.session.specs.Sessions.{shapeOf, sessionTests, mark}
+use Rattle.session.specs.Rows.{rowAt}
+use Rattle.session.specs.Checks.{frameTests}
+use Rattle.opening.specs.Walking.{tooFew}
 use Rattle.opening.specs.Opening.{openChecks}
+use Rattle.opening.proofs.Passed.{clear-join, OpenChecked, open-clear}
 use Rattle.product.specs.Finish as Finish
-use Rattle.product.specs.Finish.{finishChecks, finishRefusal, tooFewOf}
+use Rattle.product.specs.Finish.{finishRefusal}
+use Rattle.product.proofs.Passed.{Factored, FinishChecked, finish-walks}
 use Rattle.factory.proofs.Laws.{elements-append}
 use Rattle.vectors.specs.Vector.{Vector, numbers, rowOf}
-use Rattle.runs.specs.Draws.{Plan, Draw, IsDraw, Sound}
+use Rattle.runs.specs.Draws.{Plan, Draw, IsDraw, Sound, pointOf}
 use Rattle.runs.specs.Calls.{Proper, Post}
-use Rattle.runs.proofs.Marks.{Marks, markOf, leftOf, rightOf, Sized, sessionAt}
+use Rattle.runs.proofs.Marks.{Marks, markOf, rememberedA, rememberedB, Sized, sessionAt}
 use Rattle.runs.proofs.Outcomes.{answer-refusal, settled}
 use Rattle.runs.proofs.Packs.{rowFor}
-use Rattle.runs.proofs.Holds.{Holds}
+use Rattle.runs.proofs.Holds.{Holds, Holder, wide}
 use Rattle.runs.proofs.Lines.{elements-pass, numbers-elements}
 use Rattle.runs.proofs.Steps.{postAt}
-use Rattle.runs.proofs.Facts.{Triple, Waiting}
+use Rattle.runs.proofs.Facts.{Multiplying}
 use Rattle.runs.proofs.Rows.{marked-low, on-three}
+use Rattle.runs.proofs.Start.{session-passes}
 use Rattle.correctness.specs.Ledger.{Ledger}
 use Rattle.correctness.specs.Claim.{accepted, Finishes}
-use Rattle.correctness.proofs.Meanings.{Is}
-use Rattle.correctness.proofs.Standing.{Waits, Known}
+use Rattle.correctness.proofs.Standing.{Known, Good}
 use Rattle.correctness.proofs.Accepting.{too-few, not-few}
-use Rattle.runs.proofs.Start.{post-passes, point-passes}
 
-module _ (plan : Plan) (draw : Draw) (L : Ledger) (sound : Sound plan) (is : IsDraw plan draw) (len i : ℕ) (lo : 1 ≤ i) (hi : i ≤ plan .n) (M : Marks) (vec : ℕ → Vector) (l : List ℕ) (sized : Sized M) (h : Holds plan draw len i M vec l) (f : Known plan draw L M vec) (full : (r : ℕ) → markOf M r ≢ 0 → len ≡ 96 * (plan .t + 1 + 2 * plan .n)) where
-  abbrev s : Session
+-- post i by the ledger, with its marks, its rows and their vectors
+pub record Stander : Type 0 where
+  pub plan : Plan
+  pub draw : Draw
+  pub ledger : Ledger
+  pub sound : Sound plan
+  pub is-draw : IsDraw plan draw
+  pub len : ℕ
+  pub post : ℕ
+  pub low : 1 ≤ post
+  pub high : post ≤ plan .n
+  pub marks : Marks
+  pub vec : ℕ → Vector
+  pub rows : List ℕ
+  pub sized : Sized marks
+  pub holds : Holds plan draw len post marks vec rows
+  pub known : Known plan draw ledger marks vec
+  pub full : (r : ℕ) → markOf marks r ≢ 0 → len ≡ 96 * wide plan
+
+abbrev pub standerOf : (plan : Plan) (draw : Draw) (L : Ledger) → Sound plan → IsDraw plan draw → (len i : ℕ) → 1 ≤ i → i ≤ plan .n → (q : Post)
+    → Good plan draw L len i q → Stander
+standerOf plan draw L sound is len i lo hi q g = record {
+  plan = plan;
+  draw = draw;
+  ledger = L;
+  sound = sound;
+  is-draw = is;
+  len = len;
+  post = i;
+  low = lo;
+  high = hi;
+  marks = g .marks;
+  vec = g .vec;
+  rows = q .rows;
+  sized = g .sized;
+  holds = g .stands .holds;
+  known = g .facts;
+  full = g .full;
+}
+
+module _ (G : Stander) where
+  open Stander G using (plan, draw, ledger as L, sound, is-draw as is, len, post as i, low as lo, high as hi, marks as M, vec, rows as l, sized, holds as h, known as f, full)
+
+  abbrev pub holder : Holder
+  holder = record { plan = plan; draw = draw; len = len; post = i; marks = M; vec = vec; rows = l; holds = h }
+
+  abbrev pub s : Session
   s = sessionAt plan draw i M
 
-  abbrev q : Post
+  abbrev pub q : Post
   q = postAt plan draw i M l
 
-  abbrev row : ℕ → List ℕ
-  row r = rowAt (plan .t + 1 + 2 * plan .n) l r
+  abbrev pub row : ℕ → List ℕ
+  row r = rowAt (wide plan) l r
 
-  -- ---- the tests that fail, each by its number
+  pub below : (r m : ℕ) → markOf M r ≡ suc m → r < 96
+  below r m e = marked-low M sized r m e
 
-  n-passes : outside 2 32 (plan .n) ≡ false
-  n-passes = all-fail (postsTests (plan .n) (plan .t)) tt (sound .posts) .0
+  pub is-row : (r m : ℕ) → markOf M r ≡ suc m → row r ≡ rowFor plan draw i (vec r)
+  is-row r m e = h .rows r (below r m e) (omega (arith, e))
 
-  t-passes : outside 1 (plan .n - 1) (plan .t) ≡ false
-  t-passes = all-fail (postsTests (plan .n) (plan .t)) tt (sound .posts) .1 .0
+  -- ---- 1 to 5 and 8, at a post with a row that is not empty
 
-  rows-pass : (r m : ℕ) → markOf M r ≡ suc m → missized l (96 * width s) ≡ false
-  rows-pass r m e = ap not (eq-eqb (length l) (96 * width s) (h .long ∙ full r (omega (arith, e))))
-
-  record-passes : (blocks : List ℕ) → Proper s blocks → missized blocks (recordLength s) ≡ false
-  record-passes blocks pr = ap not (eq-eqb (length blocks) (recordLength s) (pr .long))
-
-  mark-passes : (r m : ℕ) → markOf M r ≡ m → unlike s r m ≡ false
-  mark-passes r m e = ap not (eq-eqb (markOf M r) m e)
-
-  low : (r m : ℕ) → markOf M r ≡ suc m → r < 96
-  low r m e = marked-low M sized r m e
-
-  is-row : (r m : ℕ) → markOf M r ≡ suc m → row r ≡ rowFor plan draw i (vec r)
-  is-row r m e = h .rows r (low r m e) (omega (arith, e))
+  frame-clear : (r m : ℕ) → markOf M r ≡ suc m → first (frameTests s l) ≡ 0
+  frame-clear r m e =
+      clear-join (sessionTests (plan .n) (plan .t) i (pointOf draw i)) (5 when wrongLength l (rowsLength (shapeOf s)) ∷ []) tt
+      (session-passes plan draw sound is i lo hi)
+      (not-refused (5 when wrongLength l (rowsLength (shapeOf s)) ∷ []) (ap not (eq-eqb (length l) (rowsLength (shapeOf s)) (h .long ∙ full r (omega (arith, e)))), tt))
 
   numbers-pass : (r m : ℕ) → markOf M r ≡ suc m → anyBeyond (row r) ≡ false
   unfolding rowOf
@@ -79,135 +117,93 @@ module _ (plan : Plan) (draw : Draw) (L : Ledger) (sound : Sound plan) (is : IsD
       (elements-append (numbers (plan .t + 1) _) _ (numbers-elements (plan .t + 1) _)
       (elements-append (numbers (plan .n) _) _ (numbers-elements (plan .n) _) (numbers-elements (plan .n) _)))
 
-  -- ---- a finish
-
-  finish-passes : (r : ℕ) (blocks blocks' : List ℕ) → markOf M r ≡ 5 → Proper s blocks → Proper s blocks'
-      → first (finishChecks s l r blocks blocks') ≡ 0
-  finish-passes r blocks blocks' five pr pr' =
-      not-refused (finishChecks s l r blocks blocks') (
-        n-passes,
-        (
-          t-passes,
-          (
-            post-passes plan draw sound is i lo hi,
-            (
-              point-passes plan draw sound is i lo hi,
-              (
-                rows-pass r 4 five,
-                (
-                  record-passes blocks pr,
-                  (
-                    record-passes blocks' pr',
-                    (
-                      le-ltb 93 r (omega (arith, low (r + 2) 3 (t .third))),
-                      (
-                        le-ltb 95 a (omega (arith, w .a-low)),
-                        (
-                          le-ltb 95 b (omega (arith, w .b-low)),
-                          (
-                            mark-passes a 2 (w .a-held),
-                            (
-                              mark-passes b 2 (w .b-held),
-                              (
-                                mark-passes r 5 five,
-                                (
-                                  mark-passes (r + 1) 4 (t .second),
-                                  (
-                                    mark-passes (r + 2) 4 (t .third),
-                                    (
-                                      numbers-pass a 1 (w .a-held),
-                                      (
-                                        numbers-pass b 1 (w .b-held),
-                                        (
-                                          numbers-pass r 4 five,
-                                          (
-                                            numbers-pass (r + 1) 3 (t .second),
-                                            (numbers-pass (r + 2) 3 (t .third), (pr .low, (pr' .low, tt))),
-                                          ),
-                                        ),
-                                      ),
-                                    ),
-                                  ),
-                                ),
-                              ),
-                            ),
-                          ),
-                        ),
-                      ),
-                    ),
-                  ),
-                ),
-              ),
-            ),
-          ),
-        ),
-      )
-    where
-      a : ℕ
-      a = leftOf M r
-
-      b : ℕ
-      b = rightOf M r
-
-      t : Triple plan draw M vec r
-      t = f r (low r 4 five) .triple (inr five)
-
-      w : Waiting plan draw (Is plan draw L) (Waits plan draw L) M r
-      w = f r (low r 4 five) .waiting five
-
-  nine-decides : (r : ℕ) (blocks blocks' : List ℕ) → markOf M r ≡ 5 → Proper s blocks → Proper s blocks'
-      → finishRefusal s l r blocks blocks' ≡ first (tooFewOf s (Finish.maskA s l r) (Finish.maskB s l r) blocks blocks')
-  unfolding finishRefusal
-  nine-decides r blocks blocks' five pr pr' =
-      first-join (finishChecks s l r blocks blocks') (tooFewOf s (Finish.maskA s l r) (Finish.maskB s l r) blocks blocks') tt
-      ∙ ap (λ (k : ℕ). orElse k (first (tooFewOf s (Finish.maskA s l r) (Finish.maskB s l r) blocks blocks'))) (finish-passes r blocks blocks' five pr pr')
-
-  pub finishes : (r : ℕ) (blocks blocks' : List ℕ) → markOf M r ≡ 5 → Proper s blocks → Proper s blocks' → Finishes q r blocks blocks'
-  finishes r blocks blocks' five pr pr' = record {
-    few = λ e. answer-refusal (finishRefusal s l r blocks blocks') 0 _ s ∙ by-nine ∙ short e;
-    enough = λ e e'.
-        let z = by-nine ∙ ap₂ (λ (x y : Bool). first (9 when x ∷ 9 when y ∷ [])) (not-few s xa blocks e) (not-few s xb blocks' e') in (
-          answer-refusal (finishRefusal s l r blocks blocks') 0 _ s ∙ z,
-          ap (λ (x : Post). mark (x .session) (r + 2)) (settled (finishRefusal s l r blocks blocks') 0 _ s l l z)
-              ∙ on-three M r 6 6 2 sized (omega (arith, low (r + 2) 3 (f r (low r 4 five) .triple (inr five) .third))) .2,
-        );
-  }
-    where
-      xa : List ℕ
-      xa = Finish.maskA s l r
-
-      xb : List ℕ
-      xb = Finish.maskB s l r
-
-      by-nine : finishRefusal s l r blocks blocks' ≡ first (9 when tooFew s xa blocks ∷ 9 when tooFew s xb blocks' ∷ [])
-      by-nine = nine-decides r blocks blocks' five pr pr'
-
-      second : (x : Bool) → first (9 when x ∷ 9 when true ∷ []) ≡ 9
-      second true = refl
-      second false = refl
-
-      short : (accepted s xa blocks ≤ plan .t) ⊎ (accepted s xb blocks' ≤ plan .t)
-          → first (9 when tooFew s xa blocks ∷ 9 when tooFew s xb blocks' ∷ []) ≡ 9
-      short (inl e) = ap (λ (x : Bool). first (9 when x ∷ 9 when tooFew s xb blocks' ∷ [])) (too-few s xa blocks e)
-      short (inr e) = ap (λ (x : Bool). first (9 when tooFew s xa blocks ∷ 9 when x ∷ [])) (too-few s xb blocks' e) ∙ second (tooFew s xa blocks)
-
   -- ---- an opening
 
   pub open-passes : (r : ℕ) (blocks : List ℕ) → markOf M r ≡ 2 → Proper s blocks → first (openChecks s l r blocks) ≡ 0
   open-passes r blocks two pr =
-      not-refused (openChecks s l r blocks) (
-        n-passes,
-        (
-          t-passes,
-          (
-            post-passes plan draw sound is i lo hi,
-            (
-              point-passes plan draw sound is i lo hi,
-              (
-                rows-pass r 1 two,
-                (record-passes blocks pr, (le-ltb 95 r (omega (arith, low r 1 two)), (mark-passes r 2 two, (numbers-pass r 1 two, (pr .low, tt))))),
-              ),
-            ),
-          ),
-        ),
-      )
+      open-clear s l r blocks (record {
+        frame = frame-clear r 1 two;
+        placed = record { record-long = pr .long; row-in = omega (arith, below r 1 two); is-held = two };
+        row-low = numbers-pass r 1 two;
+        record-low = pr .low;
+      })
+
+  -- ---- a finish
+
+  pub waiting : (r : ℕ) → markOf M r ≡ 5 → Multiplying 5 M (rememberedA M r) (rememberedB M r) r
+  waiting r five =
+      let w = f r (below r 4 five) .waiting five in let t = f r (below r 4 five) .triple (inr five) in
+      record {
+        a-low = w .a-low;
+        b-low = w .b-low;
+        r-low = omega (arith, below (r + 2) 3 (t .third));
+        a-held = w .a-held;
+        b-held = w .b-held;
+        first = five;
+        second = t .second;
+        third = t .third;
+      }
+
+  module _ (r : ℕ) (blocksA blocksB : List ℕ) (five : markOf M r ≡ 5) (pr : Proper s blocksA) (pr' : Proper s blocksB) where
+    k : Multiplying 5 M (rememberedA M r) (rememberedB M r) r
+    k = waiting r five
+
+    factors : Factored s (rememberedA M r) (rememberedB M r) r 5
+    factors = record {
+      a-in = omega (arith, k .a-low);
+      b-in = omega (arith, k .b-low);
+      triple-in = omega (arith, k .r-low);
+      a-held = k .a-held;
+      b-held = k .b-held;
+      first-mark = k .first;
+      second-mark = k .second;
+      third-mark = k .third;
+    }
+
+    finish-passes : FinishChecked s l r blocksA blocksB
+    finish-passes = record {
+      frame = frame-clear r 4 five;
+      placed = record { a-long = pr .long; b-long = pr' .long; factors = factors };
+      numbers = record {
+        rows-low = record {
+          a-low = numbers-pass (rememberedA M r) 1 (k .a-held);
+          b-low = numbers-pass (rememberedB M r) 1 (k .b-held);
+          first-low = numbers-pass r 4 five;
+          second-low = numbers-pass (r + 1) 3 (k .second);
+        };
+        third-low = numbers-pass (r + 2) 3 (k .third);
+        record-a-low = pr .low;
+        record-b-low = pr' .low;
+      };
+    }
+
+    xa : List ℕ
+    xa = Finish.maskA s l r
+
+    xb : List ℕ
+    xb = Finish.maskB s l r
+
+    by-nine : finishRefusal s l r blocksA blocksB ≡ first (9 when tooFew s xa blocksA ∷ 9 when tooFew s xb blocksB ∷ [])
+    unfolding xa xb
+    by-nine = finish-walks s l r blocksA blocksB finish-passes
+
+    second : (x : Bool) → first (9 when x ∷ 9 when true ∷ []) ≡ 9
+    second true = refl
+    second false = refl
+
+    short : (accepted s xa blocksA ≤ plan .t) ⊎ (accepted s xb blocksB ≤ plan .t)
+        → first (9 when tooFew s xa blocksA ∷ 9 when tooFew s xb blocksB ∷ []) ≡ 9
+    short (inl e) = ap (λ (x : Bool). first (9 when x ∷ 9 when tooFew s xb blocksB ∷ [])) (too-few s xa blocksA e)
+    short (inr e) = ap (λ (x : Bool). first (9 when tooFew s xa blocksA ∷ 9 when x ∷ [])) (too-few s xb blocksB e) ∙ second (tooFew s xa blocksA)
+
+    pub finishes : Finishes q r blocksA blocksB
+    unfolding xa xb
+    finishes = record {
+      few = λ e. answer-refusal (finishRefusal s l r blocksA blocksB) 0 _ s ∙ by-nine ∙ short e;
+      enough = λ e e'.
+          let z = by-nine ∙ ap₂ (λ (x y : Bool). first (9 when x ∷ 9 when y ∷ [])) (not-few s xa blocksA e) (not-few s xb blocksB e') in (
+            answer-refusal (finishRefusal s l r blocksA blocksB) 0 _ s ∙ z,
+            ap (λ (x : Post). mark (x .session) (r + 2)) (settled (finishRefusal s l r blocksA blocksB) 0 _ s l l z)
+                ∙ on-three M r 6 6 2 sized (k .r-low) .2,
+          );
+    }

@@ -9,9 +9,9 @@ use lib.ListN.{length, getD, drop, length-append}
 use lib.Seq.{getD-at}
 use Rattle.poly.specs.Counting.{All, Elements}
 use Rattle.decimal.specs.Numeral.{tens, leading}
-use Rattle.fields.specs.Fields.{fields, written, Parsed, parsed, malformed, fieldsAt, Small}
-use Rattle.fields.proofs.Overwriting.{fields-append}
-use Rattle.fields.proofs.Reading.{fields-read}
+use Rattle.csv.specs.Fields.{fields, written, Parsed, parsed, malformed, fieldsAt, Small}
+use Rattle.csv.proofs.Overwriting.{fields-append}
+use Rattle.csv.proofs.Reading.{fields-read}
 use Rattle.factory.proofs.Laws.{elements-append}
 use Rattle.vectors.specs.Vector.{Vector, numbers}
 use Rattle.vectors.proofs.Linear.{length-numbers}
@@ -26,7 +26,7 @@ use Rattle.runs.proofs.Lines.{Opening, Masks, same-opening, same-masks, not-bot
 use Rattle.runs.proofs.Steps.{Says, SaysAll, says}
 use Rattle.correctness.specs.Ledger.{Ledger, product, WrittenBy, Written}
 use Rattle.correctness.proofs.Meanings.{Is, one}
-use Rattle.correctness.proofs.Standing.{Good, allowed-at}
+use Rattle.correctness.proofs.Standing.{Good, standOf, allowed-at}
 
 -- ---- an O line without numbers is none with some
 
@@ -265,6 +265,6 @@ module _ (plan : Plan) (draw : Draw) (L : Ledger) (small : plan .n < tens 10) wh
         said-by (moves c) (sends c) (perform c q .answer .refusal) (perform c q .lent) (λ e.
         let z = sym (refusal-is c q) ∙ e in (
           allowed-at plan draw L len i q g c z .sending,
-          says plan draw is len i hi (g .marks) (g .vec) q (g .stands) c z,
+          says (standOf plan draw L is len i hi q g) c z,
           every-all Wrote (moves c) (w z),
         ))

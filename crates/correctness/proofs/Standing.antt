@@ -11,10 +11,10 @@ use Rattle.vectors.specs.Vector.{Vector, raised, number}
 use Rattle.runs.specs.Draws.{Plan, Draw, IsDraw}
 use Rattle.runs.specs.Outline.{Act, loads, loadsTriple, deals, opens, Summand, once, times, fee, sums, factors, multiplies, takes, Given, Move, moves, actsIn, acts, sends}
 use Rattle.runs.specs.Calls.{Post, Actual, Call, perform, after}
-use Rattle.runs.proofs.Marks.{Marks, markOf, leftOf, rightOf, Sized, less, worthVector, totalVector, written, marksBy, vectorsBy, marksAll, numberIn, vectorsAll}
+use Rattle.runs.proofs.Marks.{Marks, markOf, rememberedA, rememberedB, Sized, less, worthVector, totalVector, written, marksBy, vectorsBy, marksAll, numberIn, vectorsAll}
 use Rattle.runs.proofs.Sums.{productVector, product-sum}
 use Rattle.runs.proofs.Outcomes.{refusalOf}
-use Rattle.runs.proofs.Steps.{Stands, named, Fits, stands-refused, stands-after}
+use Rattle.runs.proofs.Steps.{Stands, named, Fits, Stand, stands-refused, stands-after}
 use Rattle.runs.proofs.Facts.{HeldIn, AllowedBy, AllowedAll, Allowed, Multiplying, Triple, Facts, Meant}
 use Rattle.runs.proofs.Outlines.{every-all}
 use Rattle.runs.proofs.Rows.{sized-by, sized-after}
@@ -41,6 +41,20 @@ module _ (plan : Plan) (draw : Draw) (L : Ledger) where
     pub facts : Known marks vec
     pub full : (r : ℕ) → markOf marks r ≢ 0 → len ≡ 96 * (plan .t + 1 + 2 * plan .n)
 
+  abbrev pub standOf : IsDraw plan draw → (len i : ℕ) → i ≤ plan .n → (q : Post) → Good len i q → Stand
+  standOf is len i hi q g = record {
+    plan = plan;
+    draw = draw;
+    is-draw = is;
+    len = len;
+    post = i;
+    high = hi;
+    marks = g .marks;
+    vec = g .vec;
+    state = q;
+    stands = g .stands;
+  }
+
   module _ (len i : ℕ) (q : Post) (g : Good len i q) where
     -- a call that is not refused is allowed by the marks, and finds room
     pub allowed-at : (c : Call) → refusalOf c q ≡ 0 → Allowed (acts c) (sends c) (g .marks)
@@ -56,13 +70,13 @@ module _ (plan : Plan) (draw : Draw) (L : Ledger) where
 
   -- what a call that does what the ledger says brings
   module _ (M : Marks) (vec : ℕ → Vector) (f : Known M vec) where
-    finished-is : (r : ℕ) → Multiplying 5 M (leftOf M r) (rightOf M r) r → Is plan draw L (r + 2) (written M vec r)
+    finished-is : (r : ℕ) → Multiplying 5 M (rememberedA M r) (rememberedB M r) r → Is plan draw L (r + 2) (written M vec r)
     finished-is r ok =
         subst (λ (m : Meaning). IsOf plan draw L (r + 2) m (written M vec r)) (sym (f r low .waiting (ok .first) .means))
-        (is-product (f (leftOf M r) (ok .a-low) .held (ok .a-held)) (f (rightOf M r) (ok .b-low) .held (ok .b-held))
+        (is-product (f (rememberedA M r) (ok .a-low) .held (ok .a-held)) (f (rememberedB M r) (ok .b-low) .held (ok .b-held))
         (product-sum vec r _ _
         ∙ (λ j.
-        productVector (number (less (vec (leftOf M r)) (t .is-a j)) .0) (number (less (vec (rightOf M r)) (t .is-b j)) .0)
+        productVector (number (less (vec (rememberedA M r)) (t .is-a j)) .0) (number (less (vec (rememberedB M r)) (t .is-b j)) .0)
         (t .is-a j) (t .is-b j) (t .is-ab j))))
       where
         low : r < 96
@@ -116,7 +130,7 @@ module _ (plan : Plan) (draw : Draw) (L : Ledger) where
         marks = _;
         vec = _;
         sized = sized-after (acts c) (g .marks) (g .sized);
-        stands = stands-after plan draw is len i hi (g .marks) (g .vec) q (g .stands) c z fit;
+        stands = stands-after (standOf is len i hi q g) c z fit;
         facts =
             known-after i (moves c) (g .marks) (g .vec) (g .sized) (ok .moving) (every-all _ (moves c) own) (every-all Wrote (moves c) w)
             (g .facts);
@@ -130,7 +144,7 @@ module _ (plan : Plan) (draw : Draw) (L : Ledger) where
         marks = g .marks;
         vec = g .vec;
         sized = g .sized;
-        stands = stands-refused plan draw is len i hi (g .marks) (g .vec) q (g .stands) c k e;
+        stands = stands-refused (standOf is len i hi q g) c k e;
         facts = g .facts;
         full = g .full;
       }

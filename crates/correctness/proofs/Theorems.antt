@@ -29,6 +29,7 @@ use Rattle.correctness.proofs.Accepting.{Formed}
 use Rattle.correctness.proofs.Said.{told, never-bare}
 use Rattle.correctness.proofs.Fitting.{small}
 use Rattle.correctness.proofs.Walking.{Inv, after-all, beginning}
+use Rattle.correctness.proofs.Permitted.{standerOf}
 use Rattle.correctness.proofs.Openings.{Reliable, right}
 
 module _ (plan : Plan) (draw : Draw) (L : Ledger) (S : ℕ → Type 0) (rows : ℕ → List ℕ) (es : List Event) (h : Premises plan draw L S es (begin plan draw rows)) where
@@ -76,8 +77,7 @@ unfolding end
 correct plan draw L S rows es h i lo hi among =
     let v = stands plan draw L S rows es h in let g = v .posts i lo hi among in
     subst (Right L (TruePolynomial S w) (TrueMask S w (plan .t))) (sym (named plan draw _ i (g .marks) (g .vec) (w .posts i) (g .stands)))
-    (right plan draw L (h .sound) (h .is-draw) _ i lo hi (g .marks) (g .vec) (w .posts i .rows) (g .sized) (g .stands .holds) (g .facts) (g .full)
-    (TruePolynomial S w) (reliable plan draw L S rows es h) S w (v .lines))
+    (right (standerOf plan draw L (h .sound) (h .is-draw) _ i lo hi (w .posts i) g) (TruePolynomial S w) (reliable plan draw L S rows es h) S w (v .lines))
   where
     w : World
     w = history es (begin plan draw rows)

@@ -6,7 +6,7 @@ use mathlib.Core.Bool.{true}
 use mathlib.Core.Logic.{_≢_, _⊎_}
 use mathlib.Core.List.{List, _∷_, _++_}
 use lib.ListN.{length, getD, take, drop}
-use Rattle.poly.specs.Counting.{count}
+use Rattle.poly.specs.Counting.{countFrom}
 use Rattle.session.specs.declared.Session.{Session}
 use Rattle.session.specs.declared.Answer.{Answer}
 use Rattle.session.specs.Sessions.{mark}
@@ -31,7 +31,7 @@ pub record Premises (plan : Plan) (draw : Draw) (L : Ledger) (S : ℕ → Type 0
 
 -- How many polynomials a post accepts for a row, those behind the place where its walk stops too.
 abbrev pub accepted : Session → List ℕ → List ℕ → ℕ
-accepted s row blocks = count (accepts s row blocks) 1 (s .n)
+accepted s row blocks = countFrom (accepts s row blocks) 1 (s .n)
 
 -- Post q opens the held row r with a record, and o is the answer. P j xs says that xs is truly j's polynomial of that row.
 pub record Answered (L : Ledger) (P : ℕ → List ℕ → Type 0) (q : Post) (r : ℕ) (blocks : List ℕ) (o : Answer) : Type 0 where
@@ -44,14 +44,14 @@ abbrev pub Opens : Ledger → (ℕ → List ℕ → Type 0) → Post → ℕ →
 Opens L P q r blocks = Answered L P q r blocks (openAnswer (q .session) (q .rows) r blocks)
 
 -- Post q finishes the triple at r, whose masks it made: 9, or done and the third row held.
-pub record Finishes (q : Post) (r : ℕ) (blocks blocks' : List ℕ) : Type 0 where
-  pub few : (accepted (q .session) (maskA (q .session) (q .rows) r) blocks ≤ q .session .t)
-      ⊎ (accepted (q .session) (maskB (q .session) (q .rows) r) blocks' ≤ q .session .t)
-      → finishAnswer (q .session) (q .rows) r blocks blocks' .refusal ≡ 9
-  pub enough : q .session .t + 1 ≤ accepted (q .session) (maskA (q .session) (q .rows) r) blocks
-      → q .session .t + 1 ≤ accepted (q .session) (maskB (q .session) (q .rows) r) blocks'
-      → (finishAnswer (q .session) (q .rows) r blocks blocks' .refusal ≡ 0)
-      × (mark (finishAnswer (q .session) (q .rows) r blocks blocks' .session) (r + 2) ≡ 2)
+pub record Finishes (q : Post) (r : ℕ) (blocksA blocksB : List ℕ) : Type 0 where
+  pub few : (accepted (q .session) (maskA (q .session) (q .rows) r) blocksA ≤ q .session .t)
+      ⊎ (accepted (q .session) (maskB (q .session) (q .rows) r) blocksB ≤ q .session .t)
+      → finishAnswer (q .session) (q .rows) r blocksA blocksB .refusal ≡ 9
+  pub enough : q .session .t + 1 ≤ accepted (q .session) (maskA (q .session) (q .rows) r) blocksA
+      → q .session .t + 1 ≤ accepted (q .session) (maskB (q .session) (q .rows) r) blocksB
+      → (finishAnswer (q .session) (q .rows) r blocksA blocksB .refusal ≡ 0)
+      × (mark (finishAnswer (q .session) (q .rows) r blocksA blocksB .session) (r + 2) ≡ 2)
 
 -- What is so at a post: of every opening of a held row and every finish, with records that 5 and 8 let pass; and a polynomial
 -- that is truly its sender's is accepted. P r j xs says that xs is truly j's polynomial of row r, and H half r j xs that xs is
@@ -63,8 +63,8 @@ pub record Right (L : Ledger) (P : ℕ → ℕ → List ℕ → Type 0) (H : (Li
       → 1 ≤ j → j ≤ q .session .n
       → (j ≢ q .session .post → P r j (sent (q .session) (rowAt (width (q .session)) (q .rows) r) blocks j))
       → accepts (q .session) (rowAt (width (q .session)) (q .rows) r) blocks j ≡ true
-  pub finishes : (r : ℕ) (blocks blocks' : List ℕ) → mark (q .session) r ≡ 5 → Proper (q .session) blocks
-      → Proper (q .session) blocks' → Finishes q r blocks blocks'
+  pub finishes : (r : ℕ) (blocksA blocksB : List ℕ) → mark (q .session) r ≡ 5 → Proper (q .session) blocksA
+      → Proper (q .session) blocksB → Finishes q r blocksA blocksB
   -- of a − l, in a finish's first record: the own polynomial always, another's where it is truly the first half of its masks
   pub accepts-a : (r : ℕ) (blocks : List ℕ) (j : ℕ) → mark (q .session) r ≡ 5 → Proper (q .session) blocks
       → 1 ≤ j → j ≤ q .session .n

@@ -6,7 +6,7 @@ use mathlib.Core.List.{List, [], _∷_, _++_}
 use lib.Dec.{eqb}
 use Rattle.session.specs.declared.Answer.{Answer}
 use Rattle.runs.specs.Draws.{Plan, Draw}
-use Rattle.runs.specs.Calls.{Post, Call, Left, perform, after, broadcast, newPost, at}
+use Rattle.runs.specs.Calls.{Post, Call, Performed, perform, after, broadcast, newPost, at}
 
 -- A post makes a call. What happens at a station is one list of such events, in the order of time.
 pub record Event : Type 0 where
@@ -18,7 +18,7 @@ pub record World : Type 0 where
   pub posts : ℕ → Post
   pub lines : ℕ → List (List ℕ)
 
-abbrev pub doneBy : Event → World → Left
+abbrev pub doneBy : Event → World → Performed
 doneBy e w = perform (e .call) (w .posts (e .post))
 
 abbrev pub turn : Event → World → World

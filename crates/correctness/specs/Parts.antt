@@ -5,7 +5,7 @@ use mathlib.Core.Logic.{_≢_}
 use mathlib.Core.List.{List}
 use lib.ListN.{length, take, drop}
 use Rattle.field.specs.Modulus.{p}
-use Rattle.poly.specs.Counting.{Elements, count}
+use Rattle.poly.specs.Counting.{Elements, countFrom}
 use Rattle.session.specs.declared.Session.{Session}
 use Rattle.session.specs.Sessions.{mark, withPoint}
 use Rattle.session.specs.Rows.{width, rowAt}
@@ -22,7 +22,7 @@ use Rattle.correctness.specs.Claim.{Premises}
 
 -- Of the points that a post might have, those at which it accepts what a record shows of j, where its row is its part of X.
 abbrev pub pointsPassed : Session → Vector → List ℕ → ℕ → ℕ
-pointsPassed s X blocks j = count (λ w. accepts (withPoint s w) (heldRow (withPoint s w) X) blocks j) 1 (p - 1)
+pointsPassed s X blocks j = countFrom (λ w. accepts (withPoint s w) (heldRow (withPoint s w) X) blocks j) 1 (p - 1)
 
 -- Of one row: the record is one that 5 and 8 let pass, and what it shows is not X's polynomial of j.
 abbrev pub FalseCaught : Type 0

@@ -51,20 +51,20 @@ leading-append (d ∷ ds) rest h = rw (is-digit d (h .0 .0) (h .0 .1)) (omega (a
 pub leading-le : (s : List ℕ) → leading s ≤ length s
 unfolding leading
 leading-le [] = omega arith
-leading-le (b ∷ s) = go (isDigit b) (leading-le s)
+leading-le (b ∷ s) = by-digit (isDigit b) (leading-le s)
   where
-    go : (t : Bool) → leading s ≤ length s → cond t (suc (leading s)) 0 ≤ suc (length s)
-    go true h = omega arith
-    go false h = omega arith
+    by-digit : (t : Bool) → leading s ≤ length s → cond t (suc (leading s)) 0 ≤ suc (length s)
+    by-digit true h = omega arith
+    by-digit false h = omega arith
 
 pub leading-are-digits : (s : List ℕ) → Digits (take (leading s) s)
 unfolding leading
 leading-are-digits [] = tt
-leading-are-digits (b ∷ s) = go (isDigit b) refl (leading-are-digits s)
+leading-are-digits (b ∷ s) = by-digit (isDigit b) refl (leading-are-digits s)
   where
-    go : (t : Bool) → isDigit b ≡ t → Digits (take (leading s) s) → Digits (take (cond t (suc (leading s)) 0) (b ∷ s))
-    go true e h = (digit-is b e, h)
-    go false e h = tt
+    by-digit : (t : Bool) → isDigit b ≡ t → Digits (take (leading s) s) → Digits (take (cond t (suc (leading s)) 0) (b ∷ s))
+    by-digit true e h = (digit-is b e, h)
+    by-digit false e h = tt
 
 -- what they say
 value-snoc : (a : ℕ) (ds : List ℕ) (d : ℕ) → valueAfter a (ds ++ (d ∷ [])) ≡ valueAfter a ds * 10 + (d - 48)

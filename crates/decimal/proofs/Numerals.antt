@@ -91,12 +91,12 @@ formed-begins s e =
 
 pub number-is-numeral : (s : List ℕ) (at x next : ℕ) → fieldOf s at ≡ Number x next → BeginsWith s x × (next ≡ at + leading s)
 unfolding fieldOf
-number-is-numeral s at x next = go (wellFormed (leading s) (getD s 0 0)) refl
+number-is-numeral s at x next = by-form (wellFormed (leading s) (getD s 0 0)) refl
   where
-    go : (t : Bool) → wellFormed (leading s) (getD s 0 0) ≡ t → cond t (Number (valueAfter 0 (take (leading s) s)) (at + leading s)) Wrong ≡ Number x next
+    by-form : (t : Bool) → wellFormed (leading s) (getD s 0 0) ≡ t → cond t (Number (valueAfter 0 (take (leading s) s)) (at + leading s)) Wrong ≡ Number x next
         → BeginsWith s x × (next ≡ at + leading s)
-    go true f e =
+    by-form true f e =
         let p : valueAfter 0 (take (leading s) s) ≡ x = cc in
         let q : next ≡ at + leading s = cc in
         (rw p at (formed-begins s f), q)
-    go false f e = let z : _≡_ {A = ℕ} 0 1 = cc in absurd (omega arith)
+    by-form false f e = let z : _≡_ {A = ℕ} 0 1 = cc in absurd (omega arith)

@@ -18,11 +18,11 @@ drop-past s at k p q e n = sym (drop-drop k at s) ∙ rw e (drop-at p q k n)
 
 -- a byte that is not 0 stands inside
 pub inside : (s : List ℕ) (at b : ℕ) → getD s at 0 ≡ suc b → at < length s
-inside s at b e = go (ltb at (length s)) refl
+inside s at b e = by-place (ltb at (length s)) refl
   where
-    go : (t : Bool) → ltb at (length s) ≡ t → at < length s
-    go true h = ltb-true at (length s) h
-    go false h = absurd (omega (arith, List·getD-eq-default s 0 (ltb-false at (length s) h)))
+    by-place : (t : Bool) → ltb at (length s) ≡ t → at < length s
+    by-place true h = ltb-true at (length s) h
+    by-place false h = absurd (omega (arith, List·getD-eq-default s 0 (ltb-false at (length s) h)))
 
 pub drop-head : (s : List ℕ) (at b : ℕ) → getD s at 0 ≡ suc b → drop at s ≡ suc b ∷ drop (at + 1) s
 drop-head s at b e = rw (drop-cons s at 0 (inside s at b e), e, add-one at)

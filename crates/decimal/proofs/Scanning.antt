@@ -37,23 +37,23 @@ module _ (s : List ℕ) (i v : ℕ) where
 -- ---- a digit stands at i
 pub record DigitAt (s : List ℕ) (i : ℕ) : Type 0 where
   pub within : i < length s
-  pub low : 48 ≤ getD s i 0
-  pub high : getD s i 0 ≤ 57
+  pub from-zero : 48 ≤ getD s i 0
+  pub to-nine : getD s i 0 ≤ 57
   pub next : leading (drop i s) ≡ suc (leading (drop (i + 1) s))
 
 digit-at : (s : List ℕ) (i : ℕ) → 1 ≤ leading (drop i s) → DigitAt s i
 unfolding leading
-digit-at s i h = go (ltb i (length s)) refl
+digit-at s i h = by-place (ltb i (length s)) refl
   where
     digit : i < length s → (t : Bool) → isDigit (getD s i 0) ≡ t → 1 ≤ cond t (suc (leading (drop (suc i) s))) 0 → DigitAt s i
     digit w true e h =
         let d = digit-is (getD s i 0) e in
-        record { within = w; low = d .0; high = d .1; next = rw (drop-cons s i 0 w, e, add-one i) }
+        record { within = w; from-zero = d .0; to-nine = d .1; next = rw (drop-cons s i 0 w, e, add-one i) }
     digit w false e h = absurd (omega arith)
 
-    go : (t : Bool) → ltb i (length s) ≡ t → DigitAt s i
-    go true e = let w = ltb-true i (length s) e in digit w (isDigit (getD s i 0)) refl (rw (drop-cons s i 0 w) at h)
-    go false e = absurd (omega (arith, rw (drop-of-length-le s (ltb-false i (length s) e)) at h))
+    by-place : (t : Bool) → ltb i (length s) ≡ t → DigitAt s i
+    by-place true e = let w = ltb-true i (length s) e in digit w (isDigit (getD s i 0)) refl (rw (drop-cons s i 0 w) at h)
+    by-place false e = absurd (omega (arith, rw (drop-of-length-le s (ltb-false i (length s) e)) at h))
 
 -- ---- what digits say: sum is what those from `at` to i say, and v what all say, up to end
 pub record Valued (s : List ℕ) (at end v sum i : ℕ) : Type 0 where
@@ -76,8 +76,8 @@ module _ (s : List ℕ) (at end v sum i : ℕ) (inv : Valued s at end v sum i) w
   pub valued-within : i < end → i < length s
   valued-within h = valued-digit h .within
 
-  pub valued-low : i < end → 48 ≤ getD s i 0
-  valued-low h = valued-digit h .low
+  pub valued-from-zero : i < end → 48 ≤ getD s i 0
+  valued-from-zero h = valued-digit h .from-zero
 
   -- ten digits fit 64 bits: a field never wraps
   valued-bound : sum < 10000000000

@@ -13,41 +13,41 @@ use Rattle.decimal.proofs.Digits.{Digits, length-digits}
 pub size-pos : (f x : ℕ) → 1 ≤ sizeWithin f x
 unfolding sizeWithin
 size-pos zero x = omega arith
-size-pos (suc f) x = go (ltb x 10)
+size-pos (suc f) x = by-one-digit (ltb x 10)
   where
-    go : (t : Bool) → 1 ≤ cond t 1 (suc (sizeWithin f (x / 10)))
-    go true = omega arith
-    go false = omega arith
+    by-one-digit : (t : Bool) → 1 ≤ cond t 1 (suc (sizeWithin f (x / 10)))
+    by-one-digit true = omega arith
+    by-one-digit false = omega arith
 
 pub size-le : (f x : ℕ) → sizeWithin f x ≤ suc f
 unfolding sizeWithin
 size-le zero x = omega arith
-size-le (suc f) x = go (ltb x 10) (size-le f (x / 10))
+size-le (suc f) x = by-one-digit (ltb x 10) (size-le f (x / 10))
   where
-    go : (t : Bool) → sizeWithin f (x / 10) ≤ suc f → cond t 1 (suc (sizeWithin f (x / 10))) ≤ suc (suc f)
-    go true h = omega arith
-    go false h = omega arith
+    by-one-digit : (t : Bool) → sizeWithin f (x / 10) ≤ suc f → cond t 1 (suc (sizeWithin f (x / 10))) ≤ suc (suc f)
+    by-one-digit true h = omega arith
+    by-one-digit false h = omega arith
 
 pub size-grows : (f x y : ℕ) → x ≤ y → sizeWithin f x ≤ sizeWithin f y
 unfolding sizeWithin
 size-grows zero x y h = omega arith
-size-grows (suc f) x y h = go (ltb x 10) (ltb y 10) refl refl (size-grows f (x / 10) (y / 10) (omega arith))
+size-grows (suc f) x y h = by-one-digit (ltb x 10) (ltb y 10) refl refl (size-grows f (x / 10) (y / 10) (omega arith))
   where
-    go : (a b : Bool) → ltb x 10 ≡ a → ltb y 10 ≡ b → sizeWithin f (x / 10) ≤ sizeWithin f (y / 10)
+    by-one-digit : (a b : Bool) → ltb x 10 ≡ a → ltb y 10 ≡ b → sizeWithin f (x / 10) ≤ sizeWithin f (y / 10)
         → cond a 1 (suc (sizeWithin f (x / 10))) ≤ cond b 1 (suc (sizeWithin f (y / 10)))
-    go true true d e g = omega arith
-    go true false d e g = omega arith
-    go false true d e g = absurd (omega (arith, ltb-false x 10 d, ltb-true y 10 e))
-    go false false d e g = omega arith
+    by-one-digit true true d e g = omega arith
+    by-one-digit true false d e g = omega arith
+    by-one-digit false true d e g = absurd (omega (arith, ltb-false x 10 d, ltb-true y 10 e))
+    by-one-digit false false d e g = omega arith
 
 pub size-bound : (f x : ℕ) → x < tens (suc f) → x < tens (sizeWithin f x)
 unfolding sizeWithin
 size-bound zero x h = h
-size-bound (suc f) x h = go (ltb x 10) refl (size-bound f (x / 10) (omega arith))
+size-bound (suc f) x h = by-one-digit (ltb x 10) refl (size-bound f (x / 10) (omega arith))
   where
-    go : (t : Bool) → ltb x 10 ≡ t → x / 10 < tens (sizeWithin f (x / 10)) → x < tens (cond t 1 (suc (sizeWithin f (x / 10))))
-    go true e g = omega (arith, ltb-true x 10 e)
-    go false e g = omega arith
+    by-one-digit : (t : Bool) → ltb x 10 ≡ t → x / 10 < tens (sizeWithin f (x / 10)) → x < tens (cond t 1 (suc (sizeWithin f (x / 10))))
+    by-one-digit true e g = omega (arith, ltb-true x 10 e)
+    by-one-digit false e g = omega arith
 
 pub size-one : (f x : ℕ) → x < 10 → sizeWithin f x ≡ 1
 unfolding sizeWithin
@@ -69,12 +69,12 @@ size-value (d ∷ ds) f a h g =
 pub first-digit : (f x : ℕ) → 1 ≤ x → x < tens (suc f) → getD (lastDigits (sizeWithin f x) x) 0 0 ≡ 48 → ⊥
 unfolding sizeWithin lastDigits
 first-digit zero x h l = λ e. omega arith
-first-digit (suc f) x h l = go (ltb x 10) refl (first-digit f (x / 10))
+first-digit (suc f) x h l = by-one-digit (ltb x 10) refl (first-digit f (x / 10))
   where
-    go : (t : Bool) → ltb x 10 ≡ t → (1 ≤ x / 10 → x / 10 < tens (suc f) → getD (lastDigits (sizeWithin f (x / 10)) (x / 10)) 0 0 ≡ 48 → ⊥)
+    by-one-digit : (t : Bool) → ltb x 10 ≡ t → (1 ≤ x / 10 → x / 10 < tens (suc f) → getD (lastDigits (sizeWithin f (x / 10)) (x / 10)) 0 0 ≡ 48 → ⊥)
         → getD (lastDigits (cond t 1 (suc (sizeWithin f (x / 10)))) x) 0 0 ≡ 48 → ⊥
-    go true e g z = omega (arith, ltb-true x 10 e)
-    go false e g z =
+    by-one-digit true e g z = omega (arith, ltb-true x 10 e)
+    by-one-digit false e g z =
         let b = ltb-false x 10 e in
         let j : ℕ = sizeWithin f (x / 10) in
         let n : 0 < length (lastDigits j (x / 10)) = omega (arith, length-digits j (x / 10), size-pos f (x / 10)) in

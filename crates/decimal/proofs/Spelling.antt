@@ -25,11 +25,11 @@ counted-start x h = record { some = omega arith; few = omega arith; small = omeg
 
 module _ (x k y : ℕ) (inv : Counted x k y) where
   counted-few : 10 ≤ y → k < 10
-  counted-few h = go (ltb k 10) refl
+  counted-few h = by-count (ltb k 10) refl
     where
-      go : (t : Bool) → ltb k 10 ≡ t → k < 10
-      go true e = ltb-true k 10 e
-      go false e = let q : 11 - k ≡ 1 = omega (arith, inv .few, ltb-false k 10 e) in absurd (omega (arith, inv .small, ap tens q))
+      by-count : (t : Bool) → ltb k 10 ≡ t → k < 10
+      by-count true e = ltb-true k 10 e
+      by-count false e = let q : 11 - k ≡ 1 = omega (arith, inv .few, ltb-false k 10 e) in absurd (omega (arith, inv .small, ap tens q))
 
   pub counted-fits : 10 ≤ y → Fits w64 (k + 1)
   counted-fits h = omega (arith, inv .few)

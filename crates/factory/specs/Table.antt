@@ -1,21 +1,21 @@
 -- Document 01's table, line by line, for the factory's calls: one flat list of numbered tests for each. proofs/Tables.antt shows
 -- that the calls' own tests are these lists.
-use Prim.Native.Nat.{ℕ, _+_, _*_, _-_}
+use Prim.Native.Nat.{ℕ, _*_, _-_}
 use mathlib.Core.Path.{_≡_}
 use mathlib.Core.List.{List, [], _∷_}
+use Rattle.shape.specs.Lengths.{shape, drawLength, tripleDrawLength, packsLength}
 use Rattle.refusal.specs.Refusal.{Test, _when_}
-use Rattle.refusal.specs.Conditions.{outside, missized, beyond, anyBeyond}
-use Rattle.factory.specs.Draw.{drawLength}
-use Rattle.factory.specs.Packs.{anyBadPoint, packsLength, rowTests, tripleTests, dealerTests}
+use Rattle.refusal.specs.Conditions.{outside, wrongLength, beyond, anyBeyond}
+use Rattle.factory.specs.Packs.{anyBadPoint, factoryRowTests, factoryTripleTests, dealerTests}
 
 abbrev pub rowTable : ℕ → ℕ → List ℕ → List ℕ → List ℕ → List Test
 rowTable n t points draw out =
     1 when outside 2 32 n
     ∷ 2 when outside 1 (n - 1) t
     ∷ 4 when anyBadPoint points
-    ∷ 5 when missized points n
-    ∷ 5 when missized draw (drawLength n (t + 1))
-    ∷ 5 when missized out (packsLength n t)
+    ∷ 5 when wrongLength points n
+    ∷ 5 when wrongLength draw (drawLength (shape n t))
+    ∷ 5 when wrongLength out (packsLength (shape n t))
     ∷ 8 when anyBeyond draw
     ∷ []
 
@@ -24,9 +24,9 @@ tripleTable n t points draw out =
     1 when outside 2 32 n
     ∷ 2 when outside 1 (n - 1) t
     ∷ 4 when anyBadPoint points
-    ∷ 5 when missized points n
-    ∷ 5 when missized draw (3 * drawLength n (t + 1) - 1)
-    ∷ 5 when missized out (3 * packsLength n t)
+    ∷ 5 when wrongLength points n
+    ∷ 5 when wrongLength draw (tripleDrawLength (shape n t))
+    ∷ 5 when wrongLength out (3 * packsLength (shape n t))
     ∷ 8 when anyBeyond draw
     ∷ []
 
@@ -38,6 +38,6 @@ dealerTable u constant =
 
 -- The calls' own tests are these.
 pub record FactoryTables : Type 0 where
-  pub row : (n t : ℕ) (points draw out : List ℕ) → rowTests n t points draw out ≡ rowTable n t points draw out
-  pub triple : (n t : ℕ) (points draw out : List ℕ) → tripleTests n t points draw out ≡ tripleTable n t points draw out
+  pub row : (n t : ℕ) (points draw out : List ℕ) → factoryRowTests n t points draw out ≡ rowTable n t points draw out
+  pub triple : (n t : ℕ) (points draw out : List ℕ) → factoryTripleTests n t points draw out ≡ tripleTable n t points draw out
   pub dealer : (u constant : ℕ) → dealerTests u constant ≡ dealerTable u constant

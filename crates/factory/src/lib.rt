@@ -1,10 +1,12 @@
 // The factory: the posts' parts of a drawn row, and of a drawn triple.
 ghost use mathlib.Core.Path.{_≡_};
-ghost use Rattle.factory.specs.Packs.{rowRefusal, rowOut, tripleRefusal, tripleOut, dealerNumber};
+ghost use Rattle.factory.specs.Packs.{factoryRowRefusal, factoryRowOut, factoryTripleRefusal, factoryTripleOut, dealerNumber};
 
 mod checks;
-mod packs;
+pub mod packs;
 mod part;
+
+use shape::Shape;
 
 #[repr(C)]
 pub struct Number {
@@ -14,27 +16,29 @@ pub struct Number {
 
 // All posts' parts of one drawn row.
 pub fn row(n: usize, t: usize, points: &[u32], draw: &[u32], out: &mut [u32]) -> u8
-    ensures { λ r. ⌜ r ≡ rowRefusal n t (now (points .entry)) (now (draw .entry)) (now (out .entry)) ⌝ }
-    ensures { λ r. ⌜ now (out .exit) ≡ rowOut n t (now (points .entry)) (now (draw .entry)) (now (out .entry)) ⌝ }
+    ensures { λ r. ⌜ r ≡ factoryRowRefusal n t (now (points .entry)) (now (draw .entry)) (now (out .entry)) ⌝ }
+    ensures { λ r. ⌜ now (out .exit) ≡ factoryRowOut n t (now (points .entry)) (now (draw .entry)) (now (out .entry)) ⌝ }
 {
     let refusal = checks::row_refusal(n, t, points, draw, out);
     if refusal != 0 {
         return refusal;
     }
-    packs::write_row(n, t, points, draw, out);
+    let shape = Shape { n, t };
+    packs::write_row(shape, points, draw, out);
     0
 }
 
 // All posts' parts of a drawn triple: of l, then of l', then of l''.
 pub fn triple(n: usize, t: usize, points: &[u32], draw: &[u32], out: &mut [u32]) -> u8
-    ensures { λ r. ⌜ r ≡ tripleRefusal n t (now (points .entry)) (now (draw .entry)) (now (out .entry)) ⌝ }
-    ensures { λ r. ⌜ now (out .exit) ≡ tripleOut n t (now (points .entry)) (now (draw .entry)) (now (out .entry)) ⌝ }
+    ensures { λ r. ⌜ r ≡ factoryTripleRefusal n t (now (points .entry)) (now (draw .entry)) (now (out .entry)) ⌝ }
+    ensures { λ r. ⌜ now (out .exit) ≡ factoryTripleOut n t (now (points .entry)) (now (draw .entry)) (now (out .entry)) ⌝ }
 {
     let refusal = checks::triple_refusal(n, t, points, draw, out);
     if refusal != 0 {
         return refusal;
     }
-    packs::write_triple(n, t, points, draw, out);
+    let shape = Shape { n, t };
+    packs::write_triple(shape, points, draw, out);
     0
 }
 

@@ -46,16 +46,16 @@ next-positive = remainder-positive p p-prime
 euclid-times : (fuel u : ℕ) → u ≤ fuel → 0 < u → u < p → product u (euclid fuel u) ≡ 1
 unfolding euclid
 euclid-times zero u l h k = absurd (omega arith)
-euclid-times (suc fuel) u l h k = go (leb 2 u) refl (euclid-times fuel (p % u))
+euclid-times (suc fuel) u l h k = by-size (leb 2 u) refl (euclid-times fuel (p % u))
   where
-    go : (b : Bool) → leb 2 u ≡ b → (p % u ≤ fuel → 0 < p % u → p % u < p → product (p % u) (euclid fuel (p % u)) ≡ 1)
+    by-size : (b : Bool) → leb 2 u ≡ b → (p % u ≤ fuel → 0 < p % u → p % u < p → product (p % u) (euclid fuel (p % u)) ≡ 1)
         → product u (elim b as (λ z. ℕ) [ true ↦ product (p - p / u) (euclid fuel (p % u)) | false ↦ u ]) ≡ 1
-    go true e ih =
+    by-size true e ih =
         let less : p % u < u = mod-lt p h in
         sym (product-assoc u (p - p / u) (euclid fuel (p % u)))
         ∙ ap (λ (z : ℕ). product z (euclid fuel (p % u))) (product-step u h k)
         ∙ ih (omega arith) (next-positive u (leb-true 2 u e) k) (omega arith)
-    go false e ih = ap₂ product one one ∙ product-one 1 (lit< tt)
+    by-size false e ih = ap₂ product one one ∙ product-one 1 (lit< tt)
       where
         one : u ≡ 1
         one = omega (arith, leb-false 2 u e)
@@ -63,11 +63,11 @@ euclid-times (suc fuel) u l h k = go (leb 2 u) refl (euclid-times fuel (p % u))
 euclid-below : (fuel u : ℕ) → u < p → euclid fuel u < p
 unfolding euclid
 euclid-below zero u h = h
-euclid-below (suc fuel) u h = go (leb 2 u)
+euclid-below (suc fuel) u h = by-size (leb 2 u)
   where
-    go : (b : Bool) → elim b as (λ z. ℕ) [ true ↦ product (p - p / u) (euclid fuel (p % u)) | false ↦ u ] < p
-    go true = product-below (p - p / u) (euclid fuel (p % u))
-    go false = h
+    by-size : (b : Bool) → elim b as (λ z. ℕ) [ true ↦ product (p - p / u) (euclid fuel (p % u)) | false ↦ u ] < p
+    by-size true = product-below (p - p / u) (euclid fuel (p % u))
+    by-size false = h
 
 pub inverse-is : InverseIs
 unfolding inverse euclid
@@ -81,11 +81,11 @@ inverse-is x = record {
     small = mod-lt x (lit< tt)
 
 pub inverse-unique : InverseUnique
-inverse-unique x r s u v = go (ℕ-discrete (x % p) 0)
+inverse-unique x r s u v = by-zero (ℕ-discrete (x % p) 0)
   where
-    go : Dec (x % p ≡ 0) → r ≡ s
-    go (yes e) = u .of-zero e ∙ sym (v .of-zero e)
-    go (no f) =
+    by-zero : Dec (x % p ≡ 0) → r ≡ s
+    by-zero (yes e) = u .of-zero e ∙ sym (v .of-zero e)
+    by-zero (no f) =
         let pos : 0 < x % p = omega arith in
         sym (product-one r (u .below))
         ∙ ap (product r) (sym (v .times pos))

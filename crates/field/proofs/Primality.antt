@@ -7,8 +7,13 @@ use native.Mathlib.Nat.{mul-mod-right, mul-comm, mul-one, mul-le-mul, zero-mul, 
 use native.Mathlib.Decide.{decLe, ℕ-discrete}
 use native.Mathlib.Omega.{arith}
 use lib.Dec.{T, leb, leb→le, lit≤, lit<}
-use Rattle.field.specs.Primality.{Prime, undivided}
+use Rattle.field.specs.Primality.{Prime}
 use Rattle.field.specs.Claims.{PrimeModulus}
+
+-- The test that the checker computes: none of the k numbers from d on divides m.
+unfoldable undivided : ℕ → ℕ → ℕ → Bool
+undivided m zero d = true
+undivided m (suc k) d = elim (leb 1 (m % d)) [ true ↦ undivided m k (suc d) | false ↦ false ]
 
 both : (a b : Bool) → T (elim a as (λ x. Bool) [ true ↦ b | false ↦ false ]) → T a × T b
 both true b t = (tt, t)
@@ -28,7 +33,7 @@ undivided-at m (suc k) d t j l h =
 -- a number with no divisor from 2 up to a bound whose square is past it is prime
 module _ (m k : ℕ) (test : T (undivided m k 2)) (past : m < (k + 2) * (k + 2)) (two : 2 ≤ m) where
   smaller-is-one : (a b : ℕ) → a * b ≡ m → a ≤ b → a ≡ 1
-  smaller-is-one a b e l = go (decLe 2 a) (ℕ-discrete 0 a)
+  smaller-is-one a b e l = by-size (decLe 2 a) (ℕ-discrete 0 a)
     where
       square : a * a ≤ m
       square = subst (λ (x : ℕ). a * a ≤ x) e (mul-le-mul (omega arith) l)
@@ -40,18 +45,18 @@ module _ (m k : ℕ) (test : T (undivided m k 2)) (past : m < (k + 2) * (k + 2))
       divided : m % a ≡ 0
       divided = subst (λ (x : ℕ). x % a ≡ 0) e (mul-mod-right a b)
 
-      go : Dec (2 ≤ a) → Dec (0 ≡ a) → a ≡ 1
-      go (yes h) z =
+      by-size : Dec (2 ≤ a) → Dec (0 ≡ a) → a ≡ 1
+      by-size (yes h) z =
           absurd (omega (arith, undivided-at m k 2 test a h (omega (arith, below (decLe (k + 2) a))), divided))
-      go (no f) (yes z) = absurd (omega (arith, ap (λ (x : ℕ). x * b) z, zero-mul b))
-      go (no f) (no z) = omega arith
+      by-size (no f) (yes z) = absurd (omega (arith, ap (λ (x : ℕ). x * b) z, zero-mul b))
+      by-size (no f) (no z) = omega arith
 
   prime-by-test : Prime m
-  prime-by-test = record { above-one = two; only = λ a b e. go a b e (decLe a b) }
+  prime-by-test = record { above-one = two; only = λ a b e. by-smaller a b e (decLe a b) }
     where
-      go : (a b : ℕ) → a * b ≡ m → Dec (a ≤ b) → (a ≡ 1) ⊎ (b ≡ 1)
-      go a b e (yes h) = inl (smaller-is-one a b e h)
-      go a b e (no f) = inr (smaller-is-one b a (mul-comm b a ∙ e) (omega arith))
+      by-smaller : (a b : ℕ) → a * b ≡ m → Dec (a ≤ b) → (a ≡ 1) ⊎ (b ≡ 1)
+      by-smaller a b e (yes h) = inl (smaller-is-one a b e h)
+      by-smaller a b e (no f) = inr (smaller-is-one b a (mul-comm b a ∙ e) (omega arith))
 
 pub p-prime : PrimeModulus
 unfolding undivided
@@ -59,11 +64,11 @@ p-prime = prime-by-test _ 46339 tt (lit< tt) (lit≤ tt)
 
 -- no number between 1 and a prime divides it
 pub remainder-positive : (m : ℕ) → Prime m → (x : ℕ) → 1 < x → x < m → 1 ≤ m % x
-remainder-positive m prime x h k = go (decLe 1 (m % x))
+remainder-positive m prime x h k = by-remainder (decLe 1 (m % x))
   where
-    go : Dec (1 ≤ m % x) → 1 ≤ m % x
-    go (yes u) = u
-    go (no f) = absurd (bad (prime .only x (m / x) (omega (arith, div-add-mod m x))))
+    by-remainder : Dec (1 ≤ m % x) → 1 ≤ m % x
+    by-remainder (yes u) = u
+    by-remainder (no f) = absurd (bad (prime .only x (m / x) (omega (arith, div-add-mod m x))))
       where
         bad : (x ≡ 1) ⊎ (m / x ≡ 1) → ⊥
         bad (inl e) = omega arith

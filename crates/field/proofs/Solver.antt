@@ -18,14 +18,14 @@ unfolding compareMonomials
 monomials-eq [] [] h = refl
 monomials-eq [] (y ∷ ys) h = absurd h
 monomials-eq (x ∷ xs) [] h = absurd h
-monomials-eq (x ∷ xs) (y ∷ ys) h = go (compare x y) refl (monomials-eq xs ys) h
+monomials-eq (x ∷ xs) (y ∷ ys) h = by-order (compare x y) refl (monomials-eq xs ys) h
   where
-    go : (o : Ordering) → compare x y ≡ o → (T (isEq (compareMonomials xs ys)) → xs ≡ ys)
+    by-order : (o : Ordering) → compare x y ≡ o → (T (isEq (compareMonomials xs ys)) → xs ≡ ys)
         → T (isEq (elim o as (λ z. Ordering) [ Ordering·lt ↦ Ordering·lt | Ordering·eq ↦ compareMonomials xs ys | Ordering·gt ↦ Ordering·gt ]))
         → x ∷ xs ≡ y ∷ ys
-    go Ordering·lt e ih u = absurd u
-    go Ordering·eq e ih u = ap₂ _∷_ (compare-eq x y e) (ih u)
-    go Ordering·gt e ih u = absurd u
+    by-order Ordering·lt e ih u = absurd u
+    by-order Ordering·eq e ih u = ap₂ _∷_ (compare-eq x y e) (ih u)
+    by-order Ordering·gt e ih u = absurd u
 
 module _ {R : Type 0} (𝓡 : CommutativeRing R) where
   open CommutativeRing 𝓡 using (add as _⊕_, mul as _⊗_, neg, zero as 0ᴿ, one as 1ᴿ, add-assoc, add-comm, add-zero, add-neg, mul-assoc, mul-one, mul-add)
@@ -77,14 +77,14 @@ module _ {R : Type 0} (𝓡 : CommutativeRing R) where
     insertVariable-ok : (k : ℕ) (m : List ℕ) → ⟦ insertVariable k m ⟧ᴹ ≡ at ρ k ⊗ ⟦ m ⟧ᴹ
     unfolding insertVariable ⟦_⟧ᴹ
     insertVariable-ok k [] = refl
-    insertVariable-ok k (x ∷ xs) = go (compare k x) (insertVariable-ok k xs)
+    insertVariable-ok k (x ∷ xs) = by-order (compare k x) (insertVariable-ok k xs)
       where
-        go : (o : Ordering) → ⟦ insertVariable k xs ⟧ᴹ ≡ at ρ k ⊗ ⟦ xs ⟧ᴹ
+        by-order : (o : Ordering) → ⟦ insertVariable k xs ⟧ᴹ ≡ at ρ k ⊗ ⟦ xs ⟧ᴹ
             → ⟦ elim o as (λ z. List ℕ) [ Ordering·lt ↦ k ∷ x ∷ xs | Ordering·eq ↦ k ∷ x ∷ xs | Ordering·gt ↦ x ∷ insertVariable k xs ] ⟧ᴹ
             ≡ at ρ k ⊗ (at ρ x ⊗ ⟦ xs ⟧ᴹ)
-        go Ordering·lt ih = refl
-        go Ordering·eq ih = refl
-        go Ordering·gt ih = ap (λ (z : R). at ρ x ⊗ z) ih ∙ mul-left-comm 𝓡 (at ρ x) (at ρ k) ⟦ xs ⟧ᴹ
+        by-order Ordering·lt ih = refl
+        by-order Ordering·eq ih = refl
+        by-order Ordering·gt ih = ap (λ (z : R). at ρ x ⊗ z) ih ∙ mul-left-comm 𝓡 (at ρ x) (at ρ k) ⟦ xs ⟧ᴹ
 
     timesMonomial-ok : (m n : List ℕ) → ⟦ timesMonomial m n ⟧ᴹ ≡ ⟦ m ⟧ᴹ ⊗ ⟦ n ⟧ᴹ
     unfolding timesMonomial ⟦_⟧ᴹ
@@ -101,14 +101,14 @@ module _ {R : Type 0} (𝓡 : CommutativeRing R) where
     insertTerm-ok : (c : ℕ) (m : List ℕ) (s : Sum) → ⟦ insertTerm c m s ⟧ˢ ≡ cast c ⊗ ⟦ m ⟧ᴹ ⊕ ⟦ s ⟧ˢ
     unfolding insertTerm ⟦_⟧ˢ
     insertTerm-ok c m none = refl
-    insertTerm-ok c m (term d n s) = go (compareMonomials m n) (monomials-eq m n) (insertTerm-ok c m s)
+    insertTerm-ok c m (term d n s) = by-order (compareMonomials m n) (monomials-eq m n) (insertTerm-ok c m s)
       where
-        go : (o : Ordering) → (T (isEq o) → m ≡ n) → ⟦ insertTerm c m s ⟧ˢ ≡ cast c ⊗ ⟦ m ⟧ᴹ ⊕ ⟦ s ⟧ˢ
+        by-order : (o : Ordering) → (T (isEq o) → m ≡ n) → ⟦ insertTerm c m s ⟧ˢ ≡ cast c ⊗ ⟦ m ⟧ᴹ ⊕ ⟦ s ⟧ˢ
             → ⟦ elim o as (λ z. Sum) [ Ordering·lt ↦ term c m (term d n s) | Ordering·eq ↦ term (N._+_ c d) n s | Ordering·gt ↦ term d n (insertTerm c m s) ] ⟧ˢ
             ≡ cast c ⊗ ⟦ m ⟧ᴹ ⊕ (cast d ⊗ ⟦ n ⟧ᴹ ⊕ ⟦ s ⟧ˢ)
-        go Ordering·lt e ih = refl
-        go Ordering·eq e ih = rw (e tt) (merge c d ⟦ n ⟧ᴹ ⟦ s ⟧ˢ)
-        go Ordering·gt e ih =
+        by-order Ordering·lt e ih = refl
+        by-order Ordering·eq e ih = rw (e tt) (merge c d ⟦ n ⟧ᴹ ⟦ s ⟧ˢ)
+        by-order Ordering·gt e ih =
             ap (λ (z : R). cast d ⊗ ⟦ n ⟧ᴹ ⊕ z) ih ∙ add-left-comm 𝓡 (cast d ⊗ ⟦ n ⟧ᴹ) (cast c ⊗ ⟦ m ⟧ᴹ) ⟦ s ⟧ˢ
 
     plus-ok : (r s : Sum) → ⟦ plus r s ⟧ˢ ≡ ⟦ r ⟧ˢ ⊕ ⟦ s ⟧ˢ

@@ -5,7 +5,7 @@ use mathlib.Core.List.{List, [], _∷_}
 use Rattle.refusal.specs.Refusal.{first}
 use Rattle.refusal.specs.Conditions.{anyBeyond}
 use Rattle.decimal.specs.Numeral.{lastDigits, sizeWithin, leading, valueAfter, fieldOf}
-use Rattle.fields.specs.Fields.{fields, fieldsAt}
+use Rattle.csv.specs.Fields.{fields, fieldsAt}
 use Rattle.forms.specs.Lines.{deal, text}
 use Rattle.forms.specs.Forms.{formOf, message, lineTests}
 

@@ -5,8 +5,8 @@ use mathlib.Core.List.{List}
 use mathlib.Core.Bool.{Bool, true, false, cond}
 use native.Mathlib.Omega.{arith}
 use lib.ListN.{length, getD}
-use Rattle.fields.specs.Fields.{fields, written, parsed, malformed, fieldsAt, ended, Small}
-use Rattle.fields.proofs.Reading.{line-read, line-spelled}
+use Rattle.csv.specs.Fields.{fields, written, parsed, malformed, fieldsAt, ended, Small}
+use Rattle.csv.proofs.Reading.{line-read, line-spelled}
 use Rattle.forms.specs.Forms.{isLetter, fieldCount, formOf}
 
 -- a line of the right form

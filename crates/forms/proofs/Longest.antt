@@ -11,12 +11,12 @@ use Rattle.refusal.specs.Conditions.{outside, anyBeyond}
 use Rattle.refusal.proofs.Laws.{inside}
 use Rattle.decimal.specs.Numeral.{sizeWithin, size}
 use Rattle.decimal.proofs.Sizes.{size-pos, size-grows}
-use Rattle.fields.specs.Fields.{field, fields, written}
-use Rattle.fields.proofs.Overwriting.{length-field, length-fields-le}
-use Rattle.fields.proofs.Laying.{length-written}
+use Rattle.csv.specs.Fields.{field, fields, written}
+use Rattle.csv.proofs.Overwriting.{length-field, length-fields-le}
+use Rattle.csv.proofs.Laying.{length-written}
 use Rattle.forms.specs.Claims.{longest, NoneLonger, OneAsLong, LongestLines, AtMost712}
 use Rattle.forms.proofs.Ranges.{last-row-le}
-use Rattle.forms.proofs.RoundTrip.{InRange, in-range}
+use Rattle.forms.proofs.RoundTrip.{WithinBounds, in-range}
 
 -- one field
 one-field : (x : ℕ) → length (fields (x ∷ [])) ≡ 1 + size x
@@ -35,7 +35,7 @@ size-95 = refl
 pub none-longer : NoneLonger
 none-longer n k m l h = go (eqb (m .letter) 68) (eqb (m .letter) 79) (h .count) (r .post)
   where
-    r : InRange n m
+    r : WithinBounds n m
     r = in-range n m (h .in-range)
 
     row : size (m .row) ≤ 2

@@ -8,7 +8,7 @@ use borrow.Author.Tests.{lt-ltb, le-ltb, eq-eqb, ne-eqb, ltb-true, ltb-false}
 use lib.Dec.{ltb, eqb}
 use Rattle.field.specs.Modulus.{p}
 use Rattle.refusal.specs.Conditions.{outside, beyond, anyBeyond}
-use Rattle.fields.specs.Fields.{largestFrom}
+use Rattle.csv.specs.Fields.{largestFrom}
 use Rattle.forms.specs.Lines.{lastRow}
 use Rattle.forms.specs.Forms.{outOfRange}
 

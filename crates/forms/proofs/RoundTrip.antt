@@ -11,7 +11,7 @@ use Rattle.refusal.specs.Conditions.{outside, beyond, anyBeyond}
 use Rattle.refusal.proofs.Laws.{or-false, inside, all-fail}
 use Rattle.refusal.proofs.Elements.{below-p}
 use Rattle.decimal.specs.Numeral.{tens}
-use Rattle.fields.specs.Fields.{fields, written, Parsed, parsed, malformed, numbersOf, Small}
+use Rattle.csv.specs.Fields.{fields, written, Parsed, parsed, malformed, numbersOf, Small}
 use Rattle.forms.specs.Lines.{Message, fieldsOf, text, lastRow}
 use Rattle.forms.specs.Forms.{numberCount, fieldCount, formOf, messageOf, message, isMalformed, beyondRange, lineTests, Sent}
 use Rattle.forms.specs.Claims.{WrittenReadsBack, ReadIsWritten, NoOtherLine, OneMessage}
@@ -27,18 +27,18 @@ none-beyond (x ∷ xs) e =
     (omega (arith, below-p x (h .0)), none-beyond xs (h .1))
 
 -- row, post and numbers of a message in range
-pub record InRange (n : ℕ) (m : Message) : Type 0 where
+pub record WithinBounds (n : ℕ) (m : Message) : Type 0 where
   pub row : m .row ≤ lastRow (m .letter)
   pub post : cond (eqb (m .letter) 68) false (outside 1 n (m .post)) ≡ false
   pub numbers : Small (m .numbers)
 
-pub in-range : (n : ℕ) (m : Message) → beyondRange n m ≡ false → InRange n m
+pub in-range : (n : ℕ) (m : Message) → beyondRange n m ≡ false → WithinBounds n m
 in-range n m e =
     let a = or-false (ltb (lastRow (m .letter)) (m .row)) _ e in
     let b = or-false (cond (eqb (m .letter) 68) false (outside 1 n (m .post))) _ (a .1) in
     record { row = ltb-false (lastRow (m .letter)) (m .row) (a .0); post = b .0; numbers = none-beyond (m .numbers) (b .1) }
 
-fields-small : (n : ℕ) (m : Message) → n < tens 10 → InRange n m → Small (fieldsOf m)
+fields-small : (n : ℕ) (m : Message) → n < tens 10 → WithinBounds n m → Small (fieldsOf m)
 fields-small n m l h = go (eqb (m .letter) 68) (h .post)
   where
     row : m .row < tens 10

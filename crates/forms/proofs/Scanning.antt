@@ -7,10 +7,10 @@ use native.Mathlib.Omega.{arith}
 use borrow.Author.Tests.{eq-eqb, ne-eqb}
 use lib.ListN.{length, getD, List·getD-eq-default}
 use lib.Dec.{eqb}
-use Rattle.fields.specs.declared.Run.{Run}
-use Rattle.fields.specs.declared.Run.the-variants.{Fields, Broken}
-use Rattle.fields.specs.Fields.{Parsed, parsed, malformed, push, fieldsAt, ended, runOf, largestFrom}
-use Rattle.fields.proofs.Single.{first-found, first-broken}
+use Rattle.csv.specs.declared.Run.{Run}
+use Rattle.csv.specs.declared.Run.the-variants.{Fields, Broken}
+use Rattle.csv.specs.Fields.{Parsed, parsed, malformed, push, fieldsAt, ended, runOf, largestFrom}
+use Rattle.csv.proofs.Single.{first-found, first-broken}
 use Rattle.forms.specs.declared.Form.{Form}
 use Rattle.forms.specs.declared.Form.the-variants.{Right, Wrong}
 use Rattle.forms.specs.Forms.{isLetter, numberCount, fieldCount, formOf, headOf, ScanOf, scanRest}

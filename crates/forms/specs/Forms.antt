@@ -7,7 +7,7 @@ use lib.ListN.{length, getD, drop}
 use lib.Dec.{eqb, ltb}
 use Rattle.refusal.specs.Refusal.{Test, _when_}
 use Rattle.refusal.specs.Conditions.{outside, anyBeyond}
-use Rattle.fields.specs.Fields.{Parsed, parsed, malformed, fieldsAt, ended, numbersOf, largestFrom}
+use Rattle.csv.specs.Fields.{Parsed, parsed, malformed, fieldsAt, ended, numbersOf, largestFrom}
 use Rattle.forms.specs.declared.Form.{Form}
 use Rattle.forms.specs.declared.Form.the-variants.{Right, Wrong}
 use Rattle.forms.specs.Lines.{Message, lastRow}

@@ -3,7 +3,7 @@ use mathlib.Core.Bool.{cond}
 use Prim.Native.Nat.{ℕ}
 use mathlib.Core.List.{List, [], _∷_}
 use lib.Dec.{eqb}
-use Rattle.fields.specs.Fields.{written}
+use Rattle.csv.specs.Fields.{written}
 
 -- What a line says. A `D` has no post, which counts as 0.
 pub record Message : Type 0 where

@@ -3,10 +3,10 @@ ghost use mathlib.Core.Path.{_≡_};
 ghost use mathlib.Core.Bool.{cond};
 ghost use Prim.Native.Nat.{_≤_};
 ghost use Rattle.refusal.specs.Conditions.{beyond};
-ghost use Rattle.fields.specs.Fields.{fieldsAt, ended};
+ghost use Rattle.csv.specs.Fields.{fieldsAt, ended};
 ghost use Rattle.forms.specs.Lines.{lastRow};
 ghost use Rattle.forms.specs.Forms.{isLetter, numberCount, formOf, outOfRange, ScanOf, scanRest};
-use fields::Run;
+use csv::Run;
 
 // What the scan of a line finds: where its numbers stand behind row and post, how many, and the largest.
 pub enum Form {
@@ -49,7 +49,7 @@ fn number_count(letter: u8, k: usize) -> usize
 fn scan_rest(line: &[u8], letter: u8, row: u64, post: u64, at: usize, count: usize) -> Form
     ensures { λ r. ⌜ r ≡ scanRest letter row post at count (ended (now (line .entry)) (fieldsAt count (now (line .entry)) at)) ⌝ }
 {
-    let run = fields::last_fields_at(line, at, count);
+    let run = csv::last_fields_at(line, at, count);
     match run {
         Run::Fields { largest, next: _ } => Form::Right {
             letter,
@@ -76,14 +76,14 @@ pub fn scan(line: &[u8], k: usize) -> Form
     if count < 1 {
         return Form::Wrong;
     }
-    let run = fields::fields_at(line, 1, 1);
+    let run = csv::fields_at(line, 1, 1);
     match run {
         Run::Fields { largest, next } => {
             let row = largest;
             if letter == 68 {
                 return scan_rest(line, letter, row, 0, next, count);
             }
-            let second = fields::fields_at(line, next, 1);
+            let second = csv::fields_at(line, next, 1);
             match second {
                 Run::Fields { largest, next } => scan_rest(line, letter, row, largest, next, count),
                 Run::Broken => Form::Wrong,

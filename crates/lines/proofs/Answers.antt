@@ -9,14 +9,14 @@ use lib.ListN.{length, getD, drop, length-append}
 use lib.Dec.{ltb, eqb}
 use Rattle.field.specs.Modulus.{p}
 use Rattle.refusal.specs.Refusal.{Test, _when_, first, outcome}
-use Rattle.refusal.specs.Conditions.{outside, missized, beyond, postsTests}
+use Rattle.refusal.specs.Conditions.{outside, wrongLength, beyond, postsTests}
 use Rattle.refusal.proofs.Laws.{or-false}
 use Rattle.refusal.proofs.Elements.{below-p}
 use Rattle.refusal.proofs.Endings.{refused}
-use Rattle.fields.specs.Fields.{Parsed, fieldsAt, numbersOf, Fillable, padded}
+use Rattle.csv.specs.Fields.{Parsed, fieldsAt, numbersOf, Fillable, padded}
 use Rattle.forms.proofs.Ranges.{largest-any}
-use Rattle.fields.proofs.Single.{largest-narrow}
-use Rattle.fields.proofs.Reading.{fields-spelled}
+use Rattle.csv.proofs.Single.{largest-narrow}
+use Rattle.csv.proofs.Reading.{fields-spelled}
 use Rattle.lines.specs.declared.Line.{Line}
 use Rattle.forms.specs.declared.Form.{Form}
 use Rattle.forms.specs.declared.Form.the-variants.{Right, Wrong}
@@ -121,7 +121,7 @@ module _ (n t f : ℕ) (e : f ≡ first (postsTests n t)) (ys : List Test) (m : 
 
 module _ (n t f : ℕ) (e : f ≡ first (postsTests n t)) (z : f ≡ 0) (ys : List Test) (m : Message) (out : List ℕ) where
   abbrev tests : List Test
-  tests = 5 when missized out (2 * (t + 1)) ∷ ys
+  tests = 5 when wrongLength out (2 * (t + 1)) ∷ ys
 
   pub missized-line : (v : Line) → (length out ≡ 2 * (t + 1) → ⊥) → v ≡ noLine 5 → v ≡ lineAs (lineRefusal n t tests) m
   unfolding outcome

@@ -13,7 +13,7 @@ use Rattle.refusal.specs.Conditions.{beyond, anyBeyond, postsTests}
 use Rattle.refusal.proofs.Groups.{stopped, went-on}
 use Rattle.refusal.proofs.Laws.{all-fail, inside}
 use Rattle.refusal.proofs.Endings.{refused, accepted}
-use Rattle.fields.specs.Fields.{written}
+use Rattle.csv.specs.Fields.{written}
 use Rattle.forms.specs.Lines.{deal, text, lastRow}
 use Rattle.forms.proofs.Ranges.{last-row-le}
 use Rattle.lines.specs.declared.Written.{Written}

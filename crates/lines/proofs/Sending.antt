@@ -8,14 +8,14 @@ use borrow.Author.Tests.{le-ltb, eq-eqb, eqb-true, eqb-false}
 use lib.ListN.{length, getD}
 use lib.Dec.{ltb, eqb}
 use Rattle.refusal.specs.Refusal.{Test, _when_, first}
-use Rattle.refusal.specs.Conditions.{outside, missized, beyond, anyBeyond, postsTests}
+use Rattle.refusal.specs.Conditions.{outside, wrongLength, beyond, anyBeyond, postsTests}
 use Rattle.refusal.proofs.Laws.{first-join, orElse-zero, all-fail, not-refused, or-false, inside, equal}
 use Rattle.decimal.specs.Numeral.{tens}
 use Rattle.forms.specs.Lines.{Message, deal, opening, masks, text, lastRow}
 use Rattle.forms.specs.Forms.{isLetter, numberCount, message, lineTests, Sent}
 use Rattle.forms.proofs.RoundTrip.{written-reads-back, read-is-written}
 use Rattle.lines.specs.Order.{lineRefusal}
-use Rattle.lines.specs.Writing.{postedTests, dealtTests, dealRefusal, openingRefusal, masksRefusal, writeRefusal}
+use Rattle.lines.specs.Writing.{postedTests, dealtTests, writeDealRefusal, writeOpeningRefusal, writeMasksRefusal, writeRefusal}
 use Rattle.lines.specs.Reading.{readRefusal, lineAs, listAs}
 use Rattle.lines.specs.Claims.{ReadBack, WritersReadBack, ReaderToWriter}
 use Rattle.lines.proofs.Theorems.{line-laid}
@@ -32,7 +32,7 @@ module _ (n t : ℕ) (ys : List Test) where
 
 -- ---- what a writer takes is a message that posts send
 module _ (n t : ℕ) where
-  deal-sent : (row c room : ℕ) → dealRefusal n t row c room ≡ 0 → Sent n (t + 1) (deal row c)
+  deal-sent : (row c room : ℕ) → writeDealRefusal n t row c room ≡ 0 → Sent n (t + 1) (deal row c)
   unfolding anyBeyond
   deal-sent row c room e =
       let a = all-fail (dealtTests row c room) tt (both-zero n t (dealtTests row c room) e .1) in
@@ -55,10 +55,10 @@ module _ (n t : ℕ) where
           in-range = rw (a .1 .1 .0, d, a .0, a .1 .1 .1 .0);
         }
 
-    opening-sent : openingRefusal n t row post xs room ≡ 0 → Sent n (t + 1) (opening row post xs)
+    opening-sent : writeOpeningRefusal n t row post xs room ≡ 0 → Sent n (t + 1) (opening row post xs)
     opening-sent e = posted-sent 79 (t + 1) refl refl refl e
 
-    masks-sent : masksRefusal n t row post xs room ≡ 0 → Sent n (t + 1) (masks row post xs)
+    masks-sent : writeMasksRefusal n t row post xs room ≡ 0 → Sent n (t + 1) (masks row post xs)
     masks-sent e = posted-sent 77 (2 * (t + 1)) refl refl refl e
 
   -- and the reader takes its line back, whatever the tests ys of the writer were
@@ -69,7 +69,7 @@ module _ (n t : ℕ) where
       let a = all-fail (postsTests n t) tt p in
       let b : n < tens 10 = omega (arith, inside 2 32 n (a .0) .1) in
       let r = written-reads-back n (t + 1) m b h in
-      let zs : List Test = 5 when missized out (2 * (t + 1)) ∷ lineTests n (t + 1) (text m) in
+      let zs : List Test = 5 when wrongLength out (2 * (t + 1)) ∷ lineTests n (t + 1) (text m) in
       let f : first zs ≡ 0 = rw (eq-eqb (length out) (2 * (t + 1)) l) (r .0) in
       (zero-both n t zs p f, r .1)
 
@@ -100,12 +100,12 @@ module _ (n t : ℕ) where
         (rw d at (r .0), (ap not (eq-eqb (length xs) count (h .count ∙ sym c)), (sent-row (posted letter row post xs) h, (r .1, (le-ltb room _ (rw d at l), tt))))))
 
     sent-deal : Sent n (t + 1) (posted 68 row post xs)
-        → length (text (posted 68 row post xs)) ≤ room → dealRefusal n t row (getD xs 0 0) room ≡ 0
+        → length (text (posted 68 row post xs)) ≤ room → writeDealRefusal n t row (getD xs 0 0) room ≡ 0
     unfolding anyBeyond
     sent-deal h l = go xs (h .count) (sent-rest _ h .1) l
       where
         go : (ys : List ℕ) → length ys ≡ 1 → anyBeyond ys ≡ false → length (text (posted 68 row post ys)) ≤ room
-            → dealRefusal n t row (getD ys 0 0) room ≡ 0
+            → writeDealRefusal n t row (getD ys 0 0) room ≡ 0
         go [] c b l = absurd (omega arith)
         go (c ∷ []) q b l =
             let zs : List Test = dealtTests row c room in
@@ -115,7 +115,7 @@ module _ (n t : ℕ) where
     -- by the letter
     by-letter : (letter : ℕ) (x y z : Bool) → eqb letter 68 ≡ x → eqb letter 79 ≡ y → eqb letter 77 ≡ z → (x || (y || z)) ≡ true
         → Sent n (t + 1) (posted letter row post xs) → length (text (posted letter row post xs)) ≤ room
-        → cond x (dealRefusal n t row (getD xs 0 0) room) (cond y (openingRefusal n t row post xs room) (masksRefusal n t row post xs room)) ≡ 0
+        → cond x (writeDealRefusal n t row (getD xs 0 0) room) (cond y (writeOpeningRefusal n t row post xs room) (writeMasksRefusal n t row post xs room)) ≡ 0
     by-letter letter true y z d o m i h l = let e = eqb-true letter 68 d in sent-deal (rw e at h) (rw e at l)
     by-letter letter false true z d o m i h l = let e = eqb-true letter 79 o in sent-posted 79 (t + 1) refl refl (rw e at h) (rw e at l)
     by-letter letter false false true d o m i h l = let e = eqb-true letter 77 m in sent-posted 77 (2 * (t + 1)) refl refl (rw e at h) (rw e at l)
@@ -139,7 +139,7 @@ writers-read-back = record {
 -- ---- every line that the reader takes is the one that the writer makes of its message
 pub reader-to-writer : ReaderToWriter
 reader-to-writer n t s out e =
-    let ys : List Test = 5 when missized out (2 * (t + 1)) ∷ lineTests n (t + 1) s in
+    let ys : List Test = 5 when wrongLength out (2 * (t + 1)) ∷ lineTests n (t + 1) s in
     let b = both-zero n t ys e in
     let a = all-fail ys tt (b .1) in
     let r = read-is-written n (t + 1) s (not-refused (lineTests n (t + 1) s) (a .1)) in

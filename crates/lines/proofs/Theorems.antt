@@ -9,7 +9,7 @@ use lib.ListN.{length, take, drop}
 use lib.Seq.{take-at, drop-at}
 use Rattle.refusal.specs.Refusal.{Test, first, outcome, Ordered}
 use Rattle.refusal.proofs.Decided.{decides, keeps}
-use Rattle.fields.specs.Fields.{overwrite, padded}
+use Rattle.csv.specs.Fields.{overwrite, padded}
 use Rattle.forms.specs.Lines.{deal, opening, masks, text}
 use Rattle.forms.specs.Forms.{message}
 use Rattle.lines.specs.declared.Written.{Written}

@@ -4,12 +4,12 @@ use mathlib.Core.Path.{_≡_}
 use mathlib.Core.List.{List}
 use lib.ListN.{length, take, drop}
 use Rattle.refusal.specs.Refusal.{Test, first, Decides, Keeps}
-use Rattle.fields.specs.Fields.{padded}
+use Rattle.csv.specs.Fields.{padded}
 use Rattle.forms.specs.Lines.{Message, deal, opening, masks, text}
 use Rattle.forms.specs.Forms.{message}
 use Rattle.lines.specs.declared.Written.{Written}
 use Rattle.lines.specs.declared.Line.{Line}
-use Rattle.lines.specs.Writing.{dealRefusal, openingRefusal, masksRefusal, writeRefusal, notWritten, writtenAs, partAs}
+use Rattle.lines.specs.Writing.{writeDealRefusal, writeOpeningRefusal, writeMasksRefusal, writeRefusal, notWritten, writtenAs, partAs}
 use Rattle.lines.specs.Reading.{readRefusal, noLine, lineAs, listAs}
 use Rattle.lines.specs.Table.{writeDealTable, writeOpeningTable, writeMasksTable, readTable}
 
@@ -26,16 +26,16 @@ pub record WriteLawful (tests : List Test) (line part : List ℕ) (given : Writt
 pub record LinesLawful : Type 0 where
   pub write-deal : (n t row c : ℕ) (part : List ℕ)
       → WriteLawful (writeDealTable n t row c (length part)) (text (deal row c)) part
-      (writtenAs (dealRefusal n t row c (length part)) (text (deal row c)))
-      (partAs (dealRefusal n t row c (length part)) (text (deal row c)) part)
+      (writtenAs (writeDealRefusal n t row c (length part)) (text (deal row c)))
+      (partAs (writeDealRefusal n t row c (length part)) (text (deal row c)) part)
   pub write-opening : (n t row post : ℕ) (xs part : List ℕ)
       → WriteLawful (writeOpeningTable n t row post xs (length part)) (text (opening row post xs)) part
-      (writtenAs (openingRefusal n t row post xs (length part)) (text (opening row post xs)))
-      (partAs (openingRefusal n t row post xs (length part)) (text (opening row post xs)) part)
+      (writtenAs (writeOpeningRefusal n t row post xs (length part)) (text (opening row post xs)))
+      (partAs (writeOpeningRefusal n t row post xs (length part)) (text (opening row post xs)) part)
   pub write-masks : (n t row post : ℕ) (xs part : List ℕ)
       → WriteLawful (writeMasksTable n t row post xs (length part)) (text (masks row post xs)) part
-      (writtenAs (masksRefusal n t row post xs (length part)) (text (masks row post xs)))
-      (partAs (masksRefusal n t row post xs (length part)) (text (masks row post xs)) part)
+      (writtenAs (writeMasksRefusal n t row post xs (length part)) (text (masks row post xs)))
+      (partAs (writeMasksRefusal n t row post xs (length part)) (text (masks row post xs)) part)
   -- letter, row and post, or the refusal and zeros
   pub read-answer : (n t : ℕ) (s out : List ℕ)
       → Keeps {A = Line} (readTable n t s out)
@@ -56,11 +56,11 @@ ReadBack n t refusal m part out =
     × (listAs (readRefusal n t s out) (message (t + 1) s) out ≡ listAs 0 m out)
 
 pub record WritersReadBack : Type 0 where
-  pub deal-back : (n t row c : ℕ) (part out : List ℕ) → ReadBack n t (dealRefusal n t row c (length part)) (deal row c) part out
+  pub deal-back : (n t row c : ℕ) (part out : List ℕ) → ReadBack n t (writeDealRefusal n t row c (length part)) (deal row c) part out
   pub opening-back : (n t row post : ℕ) (xs part out : List ℕ)
-      → ReadBack n t (openingRefusal n t row post xs (length part)) (opening row post xs) part out
+      → ReadBack n t (writeOpeningRefusal n t row post xs (length part)) (opening row post xs) part out
   pub masks-back : (n t row post : ℕ) (xs part out : List ℕ)
-      → ReadBack n t (masksRefusal n t row post xs (length part)) (masks row post xs) part out
+      → ReadBack n t (writeMasksRefusal n t row post xs (length part)) (masks row post xs) part out
 
 -- Every line that the reader takes is the one that the writer makes of what it says, where its part has room.
 abbrev pub ReaderToWriter : Type 0

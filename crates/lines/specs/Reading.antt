@@ -3,15 +3,15 @@ use Prim.Native.Nat.{ℕ, _+_, _*_}
 use mathlib.Core.List.{List, _∷_}
 use lib.ListN.{length}
 use Rattle.refusal.specs.Refusal.{_when_, outcome}
-use Rattle.refusal.specs.Conditions.{missized}
-use Rattle.fields.specs.Fields.{padded}
+use Rattle.refusal.specs.Conditions.{wrongLength}
+use Rattle.csv.specs.Fields.{padded}
 use Rattle.forms.specs.Lines.{Message}
 use Rattle.forms.specs.Forms.{lineTests}
 use Rattle.lines.specs.declared.Line.{Line}
 use Rattle.lines.specs.Order.{lineRefusal}
 
 abbrev pub readRefusal : ℕ → ℕ → List ℕ → List ℕ → ℕ
-readRefusal n t s out = lineRefusal n t (5 when missized out (2 * (t + 1)) ∷ lineTests n (t + 1) s)
+readRefusal n t s out = lineRefusal n t (5 when wrongLength out (2 * (t + 1)) ∷ lineTests n (t + 1) s)
 
 abbrev pub noLine : ℕ → Line
 noLine refusal = record { refusal = refusal; letter = 0; row = 0; post = 0 }

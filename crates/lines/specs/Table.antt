@@ -6,7 +6,7 @@ use mathlib.Core.List.{List, [], _∷_, _++_}
 use lib.ListN.{length}
 use lib.Dec.{ltb}
 use Rattle.refusal.specs.Refusal.{Test, _when_}
-use Rattle.refusal.specs.Conditions.{outside, missized, beyond, anyBeyond, postsTests}
+use Rattle.refusal.specs.Conditions.{outside, wrongLength, beyond, anyBeyond, postsTests}
 use Rattle.forms.specs.Lines.{deal, opening, masks, text}
 use Rattle.forms.specs.Forms.{formOf, message, isMalformed, beyondRange, lineTests}
 use Rattle.lines.specs.Writing.{dealtTests, postedTests}
@@ -26,7 +26,7 @@ writeOpeningTable n t row post xs room =
     1 when outside 2 32 n
     ∷ 2 when outside 1 (n - 1) t
     ∷ 3 when outside 1 n post
-    ∷ 5 when missized xs (t + 1)
+    ∷ 5 when wrongLength xs (t + 1)
     ∷ 6 when ltb 95 row
     ∷ 8 when anyBeyond xs
     ∷ 12 when ltb room (length (text (opening row post xs)))
@@ -37,7 +37,7 @@ writeMasksTable n t row post xs room =
     1 when outside 2 32 n
     ∷ 2 when outside 1 (n - 1) t
     ∷ 3 when outside 1 n post
-    ∷ 5 when missized xs (2 * (t + 1))
+    ∷ 5 when wrongLength xs (2 * (t + 1))
     ∷ 6 when ltb 93 row
     ∷ 8 when anyBeyond xs
     ∷ 12 when ltb room (length (text (masks row post xs)))
@@ -47,7 +47,7 @@ abbrev pub readTable : ℕ → ℕ → List ℕ → List ℕ → List Test
 readTable n t s out =
     1 when outside 2 32 n
     ∷ 2 when outside 1 (n - 1) t
-    ∷ 5 when missized out (2 * (t + 1))
+    ∷ 5 when wrongLength out (2 * (t + 1))
     ∷ 10 when isMalformed (formOf (t + 1) s)
     ∷ 11 when beyondRange n (message (t + 1) s)
     ∷ []
@@ -60,4 +60,4 @@ pub record LineTables : Type 0 where
   pub write-masks : (n t row post : ℕ) (xs : List ℕ) (room : ℕ)
       → postsTests n t ++ postedTests n 77 (2 * (t + 1)) row post xs room ≡ writeMasksTable n t row post xs room
   pub read : (n t : ℕ) (s out : List ℕ)
-      → postsTests n t ++ (5 when missized out (2 * (t + 1)) ∷ lineTests n (t + 1) s) ≡ readTable n t s out
+      → postsTests n t ++ (5 when wrongLength out (2 * (t + 1)) ∷ lineTests n (t + 1) s) ≡ readTable n t s out

@@ -5,8 +5,8 @@ use mathlib.Core.List.{List, [], _∷_}
 use lib.ListN.{length, getD}
 use lib.Dec.{eqb, ltb}
 use Rattle.refusal.specs.Refusal.{Test, _when_, outcome}
-use Rattle.refusal.specs.Conditions.{outside, missized, beyond, anyBeyond}
-use Rattle.fields.specs.Fields.{written, overwrite}
+use Rattle.refusal.specs.Conditions.{outside, wrongLength, beyond, anyBeyond}
+use Rattle.csv.specs.Fields.{written, overwrite}
 use Rattle.forms.specs.Lines.{Message, deal, text, lastRow}
 use Rattle.lines.specs.declared.Written.{Written}
 use Rattle.lines.specs.Order.{lineRefusal}
@@ -15,7 +15,7 @@ use Rattle.lines.specs.Order.{lineRefusal}
 abbrev pub postedTests : ℕ → ℕ → ℕ → ℕ → ℕ → List ℕ → ℕ → List Test
 postedTests n letter count row post xs room =
     3 when outside 1 n post
-    ∷ 5 when missized xs count
+    ∷ 5 when wrongLength xs count
     ∷ 6 when ltb (lastRow letter) row
     ∷ 8 when anyBeyond xs
     ∷ 12 when ltb room (length (written letter (row ∷ post ∷ xs)))
@@ -25,21 +25,21 @@ postedTests n letter count row post xs room =
 abbrev pub dealtTests : ℕ → ℕ → ℕ → List Test
 dealtTests row c room = 6 when ltb 95 row ∷ 8 when beyond c ∷ 12 when ltb room (length (text (deal row c))) ∷ []
 
-abbrev pub dealRefusal : ℕ → ℕ → ℕ → ℕ → ℕ → ℕ
-dealRefusal n t row c room = lineRefusal n t (dealtTests row c room)
+abbrev pub writeDealRefusal : ℕ → ℕ → ℕ → ℕ → ℕ → ℕ
+writeDealRefusal n t row c room = lineRefusal n t (dealtTests row c room)
 
-abbrev pub openingRefusal : ℕ → ℕ → ℕ → ℕ → List ℕ → ℕ → ℕ
-openingRefusal n t row post xs room = lineRefusal n t (postedTests n 79 (t + 1) row post xs room)
+abbrev pub writeOpeningRefusal : ℕ → ℕ → ℕ → ℕ → List ℕ → ℕ → ℕ
+writeOpeningRefusal n t row post xs room = lineRefusal n t (postedTests n 79 (t + 1) row post xs room)
 
-abbrev pub masksRefusal : ℕ → ℕ → ℕ → ℕ → List ℕ → ℕ → ℕ
-masksRefusal n t row post xs room = lineRefusal n t (postedTests n 77 (2 * (t + 1)) row post xs room)
+abbrev pub writeMasksRefusal : ℕ → ℕ → ℕ → ℕ → List ℕ → ℕ → ℕ
+writeMasksRefusal n t row post xs room = lineRefusal n t (postedTests n 77 (2 * (t + 1)) row post xs room)
 
 -- The refusal of the call that writes a message, by its letter.
 abbrev pub writeRefusal : ℕ → ℕ → Message → ℕ → ℕ
 writeRefusal n t m room =
-    cond (eqb (m .letter) 68) (dealRefusal n t (m .row) (getD (m .numbers) 0 0) room)
-    (cond (eqb (m .letter) 79) (openingRefusal n t (m .row) (m .post) (m .numbers) room)
-    (masksRefusal n t (m .row) (m .post) (m .numbers) room))
+    cond (eqb (m .letter) 68) (writeDealRefusal n t (m .row) (getD (m .numbers) 0 0) room)
+    (cond (eqb (m .letter) 79) (writeOpeningRefusal n t (m .row) (m .post) (m .numbers) room)
+    (writeMasksRefusal n t (m .row) (m .post) (m .numbers) room))
 
 abbrev pub notWritten : ℕ → Written
 notWritten refusal = record { refusal = refusal; len = 0 }

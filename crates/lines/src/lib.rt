@@ -4,10 +4,10 @@ ghost use Prim.Native.Nat.{_+_, _*_, _≤_};
 ghost use mathlib.Core.List.{_∷_};
 ghost use lib.ListN.{length};
 ghost use Rattle.refusal.specs.Refusal.{first};
-ghost use Rattle.fields.specs.Fields.{written};
+ghost use Rattle.csv.specs.Fields.{written};
 ghost use Rattle.forms.specs.Lines.{text, deal, opening, masks};
 ghost use Rattle.forms.specs.Forms.{message, lineTests};
-ghost use Rattle.lines.specs.Writing.{postedTests, dealtTests, dealRefusal, openingRefusal, masksRefusal, notWritten, writtenAs, partAs};
+ghost use Rattle.lines.specs.Writing.{postedTests, dealtTests, writeDealRefusal, writeOpeningRefusal, writeMasksRefusal, notWritten, writtenAs, partAs};
 ghost use Rattle.lines.specs.Reading.{readRefusal, noLine, lineAs, listAs};
 use forms::Form;
 
@@ -63,7 +63,7 @@ fn posted_refusal(
         return beyond;
     }
     let head = [row as u32, post as u32];
-    if room < fields::line_len(&head, numbers) {
+    if room < csv::line_len(&head, numbers) {
         return 12;
     }
     0
@@ -88,7 +88,7 @@ fn write_posted(
         return not_written(posted);
     }
     let head = [row as u32, post as u32];
-    let len = fields::put_line(letter, &head, numbers, out);
+    let len = csv::put_line(letter, &head, numbers, out);
     Written { refusal: 0, len }
 }
 
@@ -105,7 +105,7 @@ fn dealt_refusal(row: usize, c: u32, room: usize) -> u8
     }
     let head = [row as u32];
     let number = [c];
-    if room < fields::line_len(&head, &number) {
+    if room < csv::line_len(&head, &number) {
         return 12;
     }
     0
@@ -122,14 +122,14 @@ fn write_dealt(row: usize, c: u32, out: &mut [u8]) -> Written
     }
     let head = [row as u32];
     let number = [c];
-    let len = fields::put_line(68, &head, &number, out);
+    let len = csv::put_line(68, &head, &number, out);
     Written { refusal: 0, len }
 }
 
 // `D,row,c`.
 pub fn write_deal(n: usize, t: usize, row: usize, c: u32, out: &mut [u8]) -> Written
-    ensures { λ r. ⌜ r ≡ writtenAs (dealRefusal n t row c (length (now (out .entry)))) (text (deal row c)) ⌝ }
-    ensures { λ r. ⌜ now (out .exit) ≡ partAs (dealRefusal n t row c (length (now (out .entry)))) (text (deal row c)) (now (out .entry)) ⌝ }
+    ensures { λ r. ⌜ r ≡ writtenAs (writeDealRefusal n t row c (length (now (out .entry)))) (text (deal row c)) ⌝ }
+    ensures { λ r. ⌜ now (out .exit) ≡ partAs (writeDealRefusal n t row c (length (now (out .entry)))) (text (deal row c)) (now (out .entry)) ⌝ }
 {
     let posts = refusal::posts(n, t);
     if posts != 0 {
@@ -147,8 +147,8 @@ pub fn write_opening(
     coefficients: &[u32],
     out: &mut [u8],
 ) -> Written
-    ensures { λ r. ⌜ r ≡ writtenAs (openingRefusal n t row post (now (coefficients .entry)) (length (now (out .entry)))) (text (opening row post (now (coefficients .entry)))) ⌝ }
-    ensures { λ r. ⌜ now (out .exit) ≡ partAs (openingRefusal n t row post (now (coefficients .entry)) (length (now (out .entry)))) (text (opening row post (now (coefficients .entry)))) (now (out .entry)) ⌝ }
+    ensures { λ r. ⌜ r ≡ writtenAs (writeOpeningRefusal n t row post (now (coefficients .entry)) (length (now (out .entry)))) (text (opening row post (now (coefficients .entry)))) ⌝ }
+    ensures { λ r. ⌜ now (out .exit) ≡ partAs (writeOpeningRefusal n t row post (now (coefficients .entry)) (length (now (out .entry)))) (text (opening row post (now (coefficients .entry)))) (now (out .entry)) ⌝ }
 {
     let posts = refusal::posts(n, t);
     if posts != 0 {
@@ -166,8 +166,8 @@ pub fn write_masks(
     coefficients: &[u32],
     out: &mut [u8],
 ) -> Written
-    ensures { λ r. ⌜ r ≡ writtenAs (masksRefusal n t row post (now (coefficients .entry)) (length (now (out .entry)))) (text (masks row post (now (coefficients .entry)))) ⌝ }
-    ensures { λ r. ⌜ now (out .exit) ≡ partAs (masksRefusal n t row post (now (coefficients .entry)) (length (now (out .entry)))) (text (masks row post (now (coefficients .entry)))) (now (out .entry)) ⌝ }
+    ensures { λ r. ⌜ r ≡ writtenAs (writeMasksRefusal n t row post (now (coefficients .entry)) (length (now (out .entry)))) (text (masks row post (now (coefficients .entry)))) ⌝ }
+    ensures { λ r. ⌜ now (out .exit) ≡ partAs (writeMasksRefusal n t row post (now (coefficients .entry)) (length (now (out .entry)))) (text (masks row post (now (coefficients .entry)))) (now (out .entry)) ⌝ }
 {
     let posts = refusal::posts(n, t);
     if posts != 0 {
@@ -206,7 +206,7 @@ fn read_line(n: usize, k: usize, line: &[u8], out: &mut [u32]) -> Line
             if forms::out_of_range(n, letter, row, post, largest) {
                 return no_line(11);
             }
-            fields::fill_front(line, at, count, out);
+            csv::fill_front(line, at, count, out);
             Line {
                 refusal: 0,
                 letter,

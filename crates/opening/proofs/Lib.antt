@@ -1,3 +1,4 @@
+pub mod Passed
 pub mod Blocks
 pub mod Walks
 pub mod Fronts

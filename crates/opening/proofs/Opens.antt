@@ -9,16 +9,16 @@ use Rattle.shape.specs.declared.Shape.{Shape}
 use Rattle.shape.specs.Marks.{held}
 use Rattle.shape.specs.Lengths as Lengths
 use Rattle.refusal.specs.Refusal.{Test, _when_, first, orElse, outcome}
-use Rattle.refusal.specs.Conditions.{missized, anyBeyond}
+use Rattle.refusal.specs.Conditions.{wrongLength, anyBeyond}
 use Rattle.refusal.proofs.Laws.{equal, all-fail}
-use Rattle.refusal.proofs.Groups.{first-chain, stopped, went-on, fail-parts}
+use Rattle.refusal.proofs.Groups.{first-chain, stopped, went-on}
 use Rattle.session.specs.declared.Party.{Party}
 use Rattle.session.specs.declared.Session.{Session}
 use Rattle.session.specs.declared.Answer.{Answer}
 use Rattle.session.specs.Sessions.{shapeOf, partyOf, holding, answer}
 use Rattle.session.specs.Rows.{width, rowAt}
-use Rattle.session.specs.Checks.{frameTests, noRow, unlike, Framed, Sized, RowIn}
-use Rattle.session.proofs.Passed.{framed, row-in}
+use Rattle.session.specs.Checks.{frameTests, noRow, wrongMark, Framed, Sized, RowIn}
+use Rattle.session.proofs.Passed.{row-below}
 use Rattle.session.proofs.Endings.{refused-answer}
 use Rattle.opening.specs.declared.Opened.{Opened}
 use Rattle.opening.specs.Blocks as Blocks
@@ -26,7 +26,9 @@ use Rattle.opening.specs.Blocks.{Recorded}
 use Rattle.opening.specs.Accepting as Accepting
 use Rattle.opening.specs.Accepting.{Openable}
 use Rattle.opening.specs.Walking.{recordLength, badRecord, tooFew, opened, openedRow}
-use Rattle.opening.specs.Opening.{ownChecks, openChecks, openRefusal, openAnswer}
+use Rattle.opening.specs.Opening.{rowChecks, openChecks, openRefusal, openAnswer}
+use Rattle.opening.proofs.Passed as Passed
+use Rattle.opening.proofs.Passed.{open-framed}
 use Rattle.opening.proofs.Walks.{orNine, opened-or-nine}
 
 -- a session's record, for the party that the code made of it
@@ -35,9 +37,9 @@ module _ (s : Session) (rows blocks : List ℕ) where
   own-recorded q f e h = rw h (record { valid = f .sized .valid; length-is = e })
 
   abbrev size : List Test
-  size = 5 when missized blocks (recordLength s) ∷ []
+  size = 5 when wrongLength blocks (recordLength s) ∷ []
 
-  module _ (g : Shape) (eg : g ≡ shapeOf s) (k q : ℕ) (ek : k ≡ Lengths.recordLength g) (eq : q ≡ first (5 when missized blocks k ∷ [])) where
+  module _ (g : Shape) (eg : g ≡ shapeOf s) (k q : ℕ) (ek : k ≡ Lengths.recordLength g) (eq : q ≡ first (5 when wrongLength blocks k ∷ [])) where
     pub size-is : q ≡ first size
     size-is = rw (ek, eg) at eq
 
@@ -46,10 +48,10 @@ module _ (s : Session) (rows blocks : List ℕ) where
 
 module _ (s : Session) (rows : List ℕ) (r : ℕ) (blocks : List ℕ) where
   abbrev own : List Test
-  own = ownChecks s rows r blocks
+  own = rowChecks s rows r blocks
 
   pub own-checked : (g : Shape) (q : Party) (a b c d u v w : ℕ) → g ≡ shapeOf s → q ≡ partyOf s → a ≡ first (6 when noRow r ∷ [])
-      → b ≡ first (7 when unlike s r held ∷ []) → c ≡ first (8 when anyBeyond (rowAt (Lengths.rowLength g) rows r) ∷ [])
+      → b ≡ first (7 when wrongMark s r held ∷ []) → c ≡ first (8 when anyBeyond (rowAt (Lengths.rowLength g) rows r) ∷ [])
       → d ≡ first (8 when Blocks.badRecord q blocks ∷ []) → u ≡ orElse c d → v ≡ orElse b u → w ≡ orElse a v → w ≡ first own
   own-checked g q a b c d u v w eg eq ea eb ec ed eu ev ew =
       let hc : c ≡ first (8 when anyBeyond (rowAt (width s) rows r) ∷ []) = rw eg at ec in
@@ -62,7 +64,7 @@ module _ (s : Session) (rows : List ℕ) (r : ℕ) (blocks : List ℕ) where
     open-stopped = stopped (frameTests s rows) (size s rows blocks ++ own) tt f e
 
     module _ (z : f ≡ 0) (g : Shape) (eg : g ≡ shapeOf s) (k q : ℕ) (ek : k ≡ Lengths.recordLength g)
-        (eq : q ≡ first (5 when missized blocks k ∷ [])) where
+        (eq : q ≡ first (5 when wrongLength blocks k ∷ [])) where
       sized : q ≡ first (size s rows blocks)
       sized = size-is s rows blocks g eg k q ek eq
 
@@ -92,8 +94,8 @@ module _ (s : Session) (rows : List ℕ) (r : ℕ) (blocks : List ℕ) where
     module _ (z : f ≡ 0) where
       pub open-allowed : Framed s rows × RowIn (shapeOf s) r × (length blocks ≡ recordLength s)
       open-allowed =
-          let h = fail-parts (frameTests s rows) (size s rows blocks ++ own) (all-fail (openChecks s rows r blocks) tt (sym e ∙ z)) in
-          (framed s rows (h .0), row-in (shapeOf s) r (h .1 .1 .0), equal (length blocks) (recordLength s) (h .1 .0))
+          let h = Passed.open-checked s rows r blocks (sym e ∙ z) in
+          (open-framed s rows r blocks h, row-below (shapeOf s) r (h .placed .row-in), h .placed .record-long)
 
       module _ (g : Shape) (eg : g ≡ shapeOf s) where
         pub open-row-sized : Sized g rows

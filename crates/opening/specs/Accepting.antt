@@ -30,7 +30,8 @@ passing test j (suc k) = elim (test j) [ true ↦ j ∷ passing test (suc j) k |
 abbrev pub accepted : Party → List ℕ → List ℕ → List ℕ
 accepted q row blocks = passing (accepts q row blocks) 1 (q .shape .n)
 
--- "Its share is mj minus the constant coefficient."
+-- "Its share is mj minus the constant coefficient." It is Shamir's share. The source (docs/PROTOCOL.md), section 3.1: "the share of
+-- a player is f(i) and vi(x) is the verification polynomial for this share".
 unfoldable pub share : Party → List ℕ → List ℕ → ℕ → ℕ
 share q row blocks j = difference (publicSum (q .shape) row j) (getD (sent q row blocks j) 0 0)
 

@@ -4,10 +4,10 @@ use Prim.Native.Nat.{ℕ, _*_, _-_}
 use mathlib.Core.Path.{_≡_}
 use mathlib.Core.List.{List, [], _∷_}
 use Rattle.refusal.specs.Refusal.{Test, _when_}
-use Rattle.refusal.specs.Conditions.{outside, missized, anyBeyond, badPoint}
+use Rattle.refusal.specs.Conditions.{outside, wrongLength, anyBeyond, badPoint}
 use Rattle.session.specs.declared.Session.{Session}
 use Rattle.session.specs.Rows.{width, rowAt}
-use Rattle.session.specs.Checks.{noRow, unlike}
+use Rattle.session.specs.Checks.{noRow, wrongMark}
 use Rattle.opening.specs.Walking.{recordLength, badRecord, tooFew}
 use Rattle.opening.specs.Opening.{openTests}
 
@@ -17,10 +17,10 @@ openTable s rows r blocks =
     ∷ 2 when outside 1 (s .n - 1) (s .t)
     ∷ 3 when outside 1 (s .n) (s .post)
     ∷ 4 when badPoint (s .point)
-    ∷ 5 when missized rows (96 * width s)
-    ∷ 5 when missized blocks (recordLength s)
+    ∷ 5 when wrongLength rows (96 * width s)
+    ∷ 5 when wrongLength blocks (recordLength s)
     ∷ 6 when noRow r
-    ∷ 7 when unlike s r 2
+    ∷ 7 when wrongMark s r 2
     ∷ 8 when anyBeyond (rowAt (width s) rows r)
     ∷ 8 when badRecord s blocks
     ∷ 9 when tooFew s (rowAt (width s) rows r) blocks

@@ -11,7 +11,7 @@ ghost use Rattle.refusal.specs.Refusal.{first};
 ghost use lib.ListN.{length};
 ghost use Rattle.session.specs.Checks.{Framed};
 ghost use Rattle.opening.specs.Walking.{recordLength};
-ghost use Rattle.opening.specs.Opening.{ownChecks, openChecks, openAnswer};
+ghost use Rattle.opening.specs.Opening.{rowChecks, openChecks, openAnswer};
 
 // How the walk over the posts ends.
 pub enum Walk {
@@ -27,9 +27,9 @@ pub struct Opened {
 }
 
 // 6 to 8 of an opening, once 1 to 5 have passed.
-fn own_checks(session: Session, rows: &[u32], row: usize, blocks: &[u32]) -> u8
+fn row_checks(session: Session, rows: &[u32], row: usize, blocks: &[u32]) -> u8
     requires { ⌜ Framed session (now rows) × (length (now blocks) ≡ recordLength session) ⌝ }
-    ensures { λ r. ⌜ r ≡ first (ownChecks session (now (rows .entry)) row (now (blocks .entry))) ⌝ }
+    ensures { λ r. ⌜ r ≡ first (rowChecks session (now (rows .entry)) row (now (blocks .entry))) ⌝ }
 {
     let numbers = refusal::or_else(
         session::checks::numbers(session.shape(), rows, row),
@@ -38,7 +38,7 @@ fn own_checks(session: Session, rows: &[u32], row: usize, blocks: &[u32]) -> u8
     refusal::or_else(
         session::checks::row(row),
         refusal::or_else(
-            session::checks::unlike(&session.marks, row, shape::HELD),
+            session::checks::wrong_mark(&session.marks, row, shape::HELD),
             numbers,
         ),
     )
@@ -57,7 +57,7 @@ fn open_checks(session: Session, rows: &[u32], row: usize, blocks: &[u32]) -> u8
     if size != 0 {
         return size;
     }
-    own_checks(session, rows, row, blocks)
+    row_checks(session, rows, row, blocks)
 }
 
 // Opens a held row with a record of what the posts sent. Session and rows stay as they are.

@@ -13,7 +13,7 @@ use Rattle.field.specs.Element.{element}
 use Rattle.field.proofs.Elements.{elements, 𝓡, element-zero, element-injective}
 use Rattle.poly.specs.Polynomial.{value}
 use Rattle.poly.specs.Interpolation.{interpolated}
-use Rattle.poly.specs.Counting.{All, Distinct, Elements, count, agreements}
+use Rattle.poly.specs.Counting.{All, Distinct, Elements, countFrom, agreements}
 use Rattle.poly.specs.Claims.{FewRoots, CoefficientsDetermined, InterpolationExact, FalsePolynomialsPass}
 use Rattle.poly.proofs.Bounds.{value-below, interpolated-below}
 use Rattle.poly.proofs.Lists.{all-map}
@@ -65,14 +65,14 @@ passing test from zero = []
 passing test from (suc k) = elim (test from) [ true ↦ from ∷ passing test (suc from) k | false ↦ passing test (suc from) k ]
 
 module _ (test : ℕ → Bool) where
-  length-passing : (from k : ℕ) → length (passing test from k) ≡ count test from k
-  unfolding passing count
+  length-passing : (from k : ℕ) → length (passing test from k) ≡ countFrom test from k
+  unfolding passing countFrom
   length-passing from zero = refl
   length-passing from (suc k) = go (test from) (length-passing (suc from) k)
     where
-      go : (b : Bool) → length (passing test (suc from) k) ≡ count test (suc from) k
+      go : (b : Bool) → length (passing test (suc from) k) ≡ countFrom test (suc from) k
           → length {A = ℕ} (elim b as (λ z. List ℕ) [ true ↦ from ∷ passing test (suc from) k | false ↦ passing test (suc from) k ])
-          ≡ elim b as (λ z. ℕ) [ true ↦ suc (count test (suc from) k) | false ↦ count test (suc from) k ]
+          ≡ elim b as (λ z. ℕ) [ true ↦ suc (countFrom test (suc from) k) | false ↦ countFrom test (suc from) k ]
       go true e = ap suc e
       go false e = e
 
@@ -117,12 +117,12 @@ false-polynomials-pass t f g bf bg lf lg ne = go (decLe (agreements f g) t)
     found : All (Passed test 1 (p - 1)) points
     found = all-passed test 1 (p - 1)
 
-    equal : t < count test 1 (p - 1) → f ≡ g
+    equal : t < countFrom test 1 (p - 1) → f ≡ g
     equal h =
         coefficients-determined points (all-map (λ x a. omega (arith, a .before)) points found) (distinct-passing test 1 (p - 1))
         f g bf bg (lf ∙ sym lg) (omega (arith, length-passing test 1 (p - 1)))
         (all-map (λ x a. eqb-true (value f x) (value g x) (a .passes)) points found)
 
-    go : Dec (count test 1 (p - 1) ≤ t) → count test 1 (p - 1) ≤ t
+    go : Dec (countFrom test 1 (p - 1) ≤ t) → countFrom test 1 (p - 1) ≤ t
     go (yes h) = h
     go (no h) = absurd (ne (equal (omega arith)))

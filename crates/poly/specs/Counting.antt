@@ -21,10 +21,10 @@ abbrev pub Elements : List ℕ → Type 0
 Elements xs = All (λ x. x < p) xs
 
 -- how many of the k numbers from `from` on pass a test
-unfoldable pub count : (ℕ → Bool) → ℕ → ℕ → ℕ
-count test from zero = 0
-count test from (suc k) = elim (test from) [ true ↦ suc (count test (suc from) k) | false ↦ count test (suc from) k ]
+unfoldable pub countFrom : (ℕ → Bool) → ℕ → ℕ → ℕ
+countFrom test from zero = 0
+countFrom test from (suc k) = elim (test from) [ true ↦ suc (countFrom test (suc from) k) | false ↦ countFrom test (suc from) k ]
 
 -- At how many of the p - 1 check points, 1 to p - 1, two polynomials have one value.
 unfoldable pub agreements : List ℕ → List ℕ → ℕ
-agreements f g = count (λ w. eqb (value f w) (value g w)) 1 (p - 1)
+agreements f g = countFrom (λ w. eqb (value f w) (value g w)) 1 (p - 1)

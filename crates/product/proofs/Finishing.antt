@@ -11,29 +11,30 @@ use Rattle.shape.specs.Marks.{masked}
 use Rattle.shape.specs.Lengths as Lengths
 use Rattle.shape.specs.Lengths.{Valid, rowLength}
 use Rattle.refusal.specs.Refusal.{Test, _when_, first, orElse}
-use Rattle.refusal.specs.Conditions.{missized, anyBeyond}
+use Rattle.refusal.specs.Conditions.{wrongLength, anyBeyond}
 use Rattle.refusal.proofs.Laws.{equal, all-fail}
-use Rattle.refusal.proofs.Groups.{chained, stopped, went-on, fail-parts}
+use Rattle.refusal.proofs.Groups.{chained, stopped, went-on}
 use Rattle.session.specs.declared.Party.{Party}
 use Rattle.session.specs.declared.Session.{Session}
 use Rattle.session.specs.Sessions.{shapeOf, partyOf, factorA, factorB}
 use Rattle.session.specs.Rows.{width, rowAt}
 use Rattle.session.specs.Checks.{frameTests, noRow, noTriple, Framed, Sized, RowIn, TripleIn}
-use Rattle.session.proofs.Passed.{row-below, row-in, triple-in}
-use Rattle.session.proofs.Calls.{frame-passed, stopped-at-frame, past-frame, allowed}
+use Rattle.session.proofs.Passed.{row-below}
+use Rattle.session.proofs.Calls.{frame-passed, stopped-at-frame, past-frame}
 use Rattle.opening.specs.Blocks as Blocks
 use Rattle.opening.specs.Blocks.{Recorded}
 use Rattle.opening.specs.Walking.{recordLength, badRecord}
 use Rattle.product.specs.Masks.{tripleMarks, factorNumbers, maskNumbers}
 use Rattle.product.specs.Finish.{finishPlace, finishMarks, finishNumbers, finishOwn, finishChecks}
+use Rattle.product.proofs.Passed.{finish-checked, finish-framed, triple-below}
 use Rattle.product.proofs.Joining.{joined}
 
 pub place-joined : (s : Session) (g : Shape) (r : ℕ) (l l' : List ℕ) (k u v w d e : ℕ) → g ≡ shapeOf s → k ≡ Lengths.recordLength g
-    → u ≡ first (5 when missized l k ∷ []) → v ≡ first (5 when missized l' k ∷ []) → w ≡ first (6 when noTriple r ∷ []) → d ≡ orElse v w
+    → u ≡ first (5 when wrongLength l k ∷ []) → v ≡ first (5 when wrongLength l' k ∷ []) → w ≡ first (6 when noTriple r ∷ []) → d ≡ orElse v w
     → e ≡ orElse u d → e ≡ first (finishPlace s r l l')
 place-joined s g r l l' k u v w d e eg ek eu ev ew ed ee =
-    let hu : u ≡ first (5 when missized l (recordLength s) ∷ []) = rw (ek, eg) at eu in
-    let hv : v ≡ first (5 when missized l' (recordLength s) ∷ []) = rw (ek, eg) at ev in
+    let hu : u ≡ first (5 when wrongLength l (recordLength s) ∷ []) = rw (ek, eg) at eu in
+    let hv : v ≡ first (5 when wrongLength l' (recordLength s) ∷ []) = rw (ek, eg) at ev in
     chained (finishPlace s r l l') tt e (cc)
 
 -- what holds of a session's own party holds of the party that the code made of it
@@ -98,12 +99,12 @@ module _ (s : Session) (rows : List ℕ) (r : ℕ) (l l' : List ℕ) where
 
       pub finish-placed : q ≡ 0 → Framed s rows × (r ≤ lastTriple) × Recorded (partyOf s) l × Recorded (partyOf s) l'
       finish-placed y =
-          let h = all-fail place tt (sym g ∙ y) in
+          let (long, (long', (low, _))) = all-fail place tt (sym g ∙ y) in
           let v = finish-valid z in (
             frame-passed s rows f e z,
-            ltb-false lastTriple r (h .1 .1 .0),
-            record { valid = v; length-is = equal (length l) (recordLength s) (h .0) },
-            record { valid = v; length-is = equal (length l') (recordLength s) (h .1 .0) },
+            ltb-false lastTriple r low,
+            record { valid = v; length-is = equal (length l) (recordLength s) long },
+            record { valid = v; length-is = equal (length l') (recordLength s) long' },
           )
 
       pub checks-done : q ≡ 0 → (w : ℕ) → w ≡ first (finishOwn s rows r l l') → w ≡ first (finishChecks s rows r l l')
@@ -113,14 +114,14 @@ module _ (s : Session) (rows : List ℕ) (r : ℕ) (l l' : List ℕ) where
       → Framed s rows × RowIn (shapeOf s) (factorA s r) × RowIn (shapeOf s) (factorB s r) × TripleIn (shapeOf s) r
       × Recorded (partyOf s) l × Recorded (partyOf s) l'
   checks-allowed f e n =
-      let h = allowed s rows (place ++ own) tt f e n in
-      let q = h .1 in
-      let m = fail-parts place own q .1 in
-      let v = h .0 .sized .valid in (
-        h .0,
-        row-in (shapeOf s) (factorA s r) (m .0),
-        row-in (shapeOf s) (factorB s r) (m .1 .0),
-        triple-in (shapeOf s) r (q .1 .1 .0),
-        record { valid = v; length-is = equal (length l) (recordLength s) (q .0) },
-        record { valid = v; length-is = equal (length l') (recordLength s) (q .1 .0) },
+      let h = finish-checked s rows r l l' (sym e ∙ n) in
+      let k = h .placed .factors in
+      let frame = finish-framed s rows r l l' h in
+      let v = frame .sized .valid in (
+        frame,
+        row-below (shapeOf s) (factorA s r) (k .a-in),
+        row-below (shapeOf s) (factorB s r) (k .b-in),
+        triple-below (shapeOf s) r (k .triple-in),
+        record { valid = v; length-is = h .placed .a-long },
+        record { valid = v; length-is = h .placed .b-long },
       )

@@ -1,3 +1,4 @@
+pub mod Passed
 pub mod Joining
 pub mod Masking
 pub mod Differences

@@ -9,24 +9,25 @@ use Rattle.shape.specs.Bounds.{lastRow, lastTriple}
 use Rattle.shape.specs.Marks.{unused}
 use Rattle.shape.specs.Lengths.{Valid, rowLength, masksLength}
 use Rattle.refusal.specs.Refusal.{Test, _when_, first, orElse}
-use Rattle.refusal.specs.Conditions.{missized}
-use Rattle.refusal.proofs.Laws.{equal, all-fail}
-use Rattle.refusal.proofs.Groups.{chained, stopped, went-on, fail-parts}
+use Rattle.refusal.specs.Conditions.{wrongLength}
+use Rattle.refusal.proofs.Laws.{all-fail}
+use Rattle.refusal.proofs.Groups.{chained, stopped, went-on}
 use Rattle.refusal.proofs.Endings.{accepted}
 use Rattle.session.specs.declared.Session.{Session}
 use Rattle.session.specs.Sessions.{shapeOf}
 use Rattle.session.specs.Checks.{frameTests, noRow, noTriple, Framed, Sized, RowIn, TripleIn}
-use Rattle.session.proofs.Passed.{row-in, triple-in}
-use Rattle.session.proofs.Calls.{frame-passed, stopped-at-frame, past-frame, allowed}
+use Rattle.session.proofs.Passed.{row-below}
+use Rattle.session.proofs.Calls.{frame-passed, stopped-at-frame, past-frame}
 use Rattle.product.specs.Masks.{masksPlace, tripleMarks, factorNumbers, maskNumbers, masksRefusal, bothMasks, maskNumbersOf, masksOut}
+use Rattle.product.proofs.Passed.{masks-made, triple-below}
 use Rattle.product.proofs.Joining.{joined}
 
 pub place-joined : (s : Session) (g : Shape) (a b r : ℕ) (out : List ℕ) (k u v w x d e f : ℕ) → g ≡ shapeOf s → k ≡ masksLength g
-    → u ≡ first (5 when missized out k ∷ []) → v ≡ first (6 when noRow a ∷ []) → w ≡ first (6 when noRow b ∷ [])
+    → u ≡ first (5 when wrongLength out k ∷ []) → v ≡ first (6 when noRow a ∷ []) → w ≡ first (6 when noRow b ∷ [])
     → x ≡ first (6 when noTriple r ∷ []) → d ≡ orElse w x → e ≡ orElse v d → f ≡ orElse u e
     → f ≡ first (masksPlace s a b r out)
 place-joined s g a b r out k u v w x d e f eg ek eu ev ew ex ed ee ef =
-    let h : u ≡ first (5 when missized out (masksLength (shapeOf s)) ∷ []) = rw (ek, eg) at eu in
+    let h : u ≡ first (5 when wrongLength out (masksLength (shapeOf s)) ∷ []) = rw (ek, eg) at eu in
     chained (masksPlace s a b r out) tt f (cc)
 
 module _ (s : Session) (rows : List ℕ) (a b r : ℕ) (out : List ℕ) where
@@ -51,7 +52,9 @@ module _ (s : Session) (rows : List ℕ) (a b r : ℕ) (out : List ℕ) where
       masks-misplaced n = past-frame s rows (place ++ late) f q e z (stopped place late tt q g n)
 
       pub masks-placed : q ≡ 0 → r ≤ lastTriple
-      masks-placed y = ltb-false lastTriple r (all-fail place tt (sym g ∙ y) .1 .1 .1 .0)
+      masks-placed y =
+          let (_, (_, (_, (low, _)))) = all-fail place tt (sym g ∙ y) in
+          ltb-false lastTriple r low
 
       pub masks-checked : q ≡ 0 → (h : Shape) (u v w : ℕ) → h ≡ shapeOf s → u ≡ first (tripleMarks s a b r unused)
           → v ≡ first (factorNumbers (rowLength h) rows a b r) → w ≡ orElse u v → w ≡ masksRefusal s rows a b r out
@@ -62,15 +65,13 @@ module _ (s : Session) (rows : List ℕ) (a b r : ℕ) (out : List ℕ) where
 
   module _ (f : ℕ) (e : f ≡ masksRefusal s rows a b r out) (n : f ≡ 0) where
     passed : Framed s rows × RowIn (shapeOf s) a × RowIn (shapeOf s) b × TripleIn (shapeOf s) r × (length out ≡ masksLength (shapeOf s))
-    unfolding masksRefusal
     passed =
-        let h = allowed s rows (place ++ late) tt f e n in
-        let q = fail-parts place late (h .1) .0 in (
-          h .0,
-          row-in (shapeOf s) a (q .1 .0),
-          row-in (shapeOf s) b (q .1 .1 .0),
-          triple-in (shapeOf s) r (q .1 .1 .1 .0),
-          equal (length out) (masksLength (shapeOf s)) (q .0),
+        let h = masks-made s rows a b r out (sym e ∙ n) in let k = h .placed .factors in (
+          h .framed,
+          row-below (shapeOf s) a (k .a-in),
+          row-below (shapeOf s) b (k .b-in),
+          triple-below (shapeOf s) r (k .triple-in),
+          h .placed .out-long,
         )
 
     pub masks-first : r ≤ lastTriple

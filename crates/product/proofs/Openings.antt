@@ -19,9 +19,7 @@ use Rattle.session.specs.declared.Answer.{Answer}
 use Rattle.session.specs.Sessions.{shapeOf, partyOf, holding, finishedTriple}
 use Rattle.session.specs.Rows.{rowAt, withRow, combined, summed}
 use Rattle.session.specs.Checks.{Framed, Sized, TripleIn}
-use Rattle.session.proofs.Passed.{triple-in}
 use Rattle.session.proofs.Endings.{refused-answer, accepted-answer}
-use Rattle.session.proofs.Calls.{allowed}
 use Rattle.session.proofs.Writers.{length-combined}
 use Rattle.opening.specs.declared.Opened.{Opened}
 use Rattle.opening.specs.Blocks.{Recorded}
@@ -31,10 +29,11 @@ use Rattle.opening.specs.Walking.{tooFew, opened, openedRow}
 use Rattle.opening.proofs.Walks.{orNine, opened-or-nine}
 use Rattle.product.specs.declared.OpenedMasks.{OpenedMasks}
 use Rattle.product.specs.Masks.{maskRow}
-use Rattle.product.specs.Finish.{maskA, maskB, finishPlace, finishOwn, finishChecks, tooFewOf, found, openedBoth, openedMasks, finishRefusal, productRow, withProduct, finishAnswer, finishRows}
+use Rattle.product.specs.Finish.{maskA, maskB, finishChecks, tooFewOf, found, openedBoth, openedMasks, finishRefusal, productRow, withProduct, finishAnswer, finishRows}
+use Rattle.product.proofs.Passed.{finished, finish-framed, triple-below}
 
 abbrev shown : ℕ → ℕ → ℕ → OpenedMasks
-shown refusal y z = record { refusal = refusal; y = y; z = z }
+shown refusal yA yB = record { refusal = refusal; «y_a» = yA; «y_b» = yB }
 
 -- one mask, made in the lent room
 module _ (q : Party) (rows room made blocks x y : List ℕ) (k r : ℕ) (ex : x ≡ rowAt (rowLength (q .shape)) rows k)
@@ -95,22 +94,22 @@ module _ (s : Session) (m : Party) (em : m ≡ partyOf s) (rows l l' : List ℕ)
       (shown (first (tooFewOf s x x' l l')) 0 0) few z
       (ap₂ (shown 0) (ap (λ (a : Opened). a .value) first-is ∙ h .0) (ap (λ (a : Opened). a .value) second-is ∙ h .1))
 
-found-refusal : (k y z : ℕ) → found k y z .refusal ≡ k
+found-refusal : (k yA yB : ℕ) → found k yA yB .refusal ≡ k
 unfolding outcome
-found-refusal zero y z = refl
-found-refusal (suc k) y z = refl
+found-refusal zero yA yB = refl
+found-refusal (suc k) yA yB = refl
 
-found-numbers : (k y z : ℕ) → k ≡ 0 → (found k y z .y ≡ y) × (found k y z .z ≡ z)
+found-numbers : (k yA yB : ℕ) → k ≡ 0 → (found k yA yB .«y_a» ≡ yA) × (found k yA yB .«y_b» ≡ yB)
 unfolding outcome
-found-numbers zero y z e = (refl, refl)
-found-numbers (suc k) y z e = absurd (omega arith)
+found-numbers zero yA yB e = (refl, refl)
+found-numbers (suc k) yA yB e = absurd (omega arith)
 
 module _ (s : Session) (rows : List ℕ) (r : ℕ) (l l' : List ℕ) where
-  abbrev y : ℕ
-  y = opened s (maskA s rows r) l
+  abbrev yA : ℕ
+  yA = opened s (maskA s rows r) l
 
-  abbrev y' : ℕ
-  y' = opened s (maskB s rows r) l'
+  abbrev yB : ℕ
+  yB = opened s (maskB s rows r) l'
 
   abbrev nine : List Test
   nine = tooFewOf s (maskA s rows r) (maskB s rows r) l l'
@@ -122,13 +121,13 @@ module _ (s : Session) (rows : List ℕ) (r : ℕ) (l l' : List ℕ) where
     masks-unopened n =
         let h : f ≡ finishRefusal s rows r l l' = stopped (finishChecks s rows r l l') nine tt f e n in
         ap (λ (k : ℕ). shown k 0 0) h
-        ∙ refused f (finishRefusal s rows r l l') (shown 0 y y') (shown (finishRefusal s rows r l l') 0 0) h n
+        ∙ refused f (finishRefusal s rows r l l') (shown 0 yA yB) (shown (finishRefusal s rows r l l') 0 0) h n
 
     pub masks-opened : f ≡ 0 → (o : OpenedMasks) → o ≡ openedBoth s (maskA s rows r) (maskB s rows r) l l'
         → o ≡ openedMasks s rows r l l'
     unfolding finishRefusal
     masks-opened z o h =
-        h ∙ ap (λ (k : ℕ). found k y y') (went-on (finishChecks s rows r l l') nine tt f e (first nine) z refl)
+        h ∙ ap (λ (k : ℕ). found k yA yB) (went-on (finishChecks s rows r l l') nine tt f e (first nine) z refl)
 
   -- the call's two ends
   module _ (o : OpenedMasks) (e : o ≡ openedMasks s rows r l l') where
@@ -136,21 +135,20 @@ module _ (s : Session) (rows : List ℕ) (r : ℕ) (l l' : List ℕ) where
     done = finishedTriple s r
 
     refusal-is : o .refusal ≡ finishRefusal s rows r l l'
-    refusal-is = ap (λ (a : OpenedMasks). a .refusal) e ∙ found-refusal (finishRefusal s rows r l l') y y'
+    refusal-is = ap (λ (a : OpenedMasks). a .refusal) e ∙ found-refusal (finishRefusal s rows r l l') yA yB
 
     module _ (n : o .refusal ≡ 0 → ⊥) where
       pub finish-refused : (a : Answer) → a ≡ holding (o .refusal) 0 s → a ≡ finishAnswer s rows r l l'
       finish-refused a h = h ∙ refused-answer (o .refusal) (finishRefusal s rows r l l') 0 s done s refusal-is n refl
 
       pub finish-kept : rows ≡ finishRows s rows r l l'
-      finish-kept = refused (o .refusal) (finishRefusal s rows r l l') (withProduct s y y' r rows) rows refusal-is n
+      finish-kept = refused (o .refusal) (finishRefusal s rows r l l') (withProduct s yA yB r rows) rows refusal-is n
 
     module _ (z : o .refusal ≡ 0) where
       passed : Framed s rows × TripleIn (shapeOf s) r
-      unfolding finishRefusal
       passed =
-          let h = allowed s rows (finishPlace s r l l' ++ finishOwn s rows r l l' ++ nine) tt (o .refusal) refusal-is z in
-          (h .0, triple-in (shapeOf s) r (h .1 .1 .1 .0))
+          let h = finished s rows r l l' (sym refusal-is ∙ z) .checked in
+          (finish-framed s rows r l l' h, triple-below (shapeOf s) r (h .placed .factors .triple-in))
 
       pub finish-row : r ≤ lastTriple
       finish-row = passed .1 .triple-in
@@ -167,13 +165,13 @@ module _ (s : Session) (rows : List ℕ) (r : ℕ) (l l' : List ℕ) where
 
         pub finish-written : (out : List ℕ)
             → out ≡ withRow (rowLength g) (r + 2)
-            (summed (sumsAt g) (o .z) (product (o .y) (o .z))
-            (summed (sumsAt g) (o .y) 0 (rowAt (rowLength g) rows (r + 2)) (rowAt (rowLength g) rows (r + 1))) (rowAt (rowLength g) rows r)) rows
+            (summed (sumsAt g) (o .«y_b») (product (o .«y_a») (o .«y_b»))
+            (summed (sumsAt g) (o .«y_a») 0 (rowAt (rowLength g) rows (r + 2)) (rowAt (rowLength g) rows (r + 1))) (rowAt (rowLength g) rows r)) rows
             → out ≡ finishRows s rows r l l'
         unfolding withProduct productRow
         finish-written out eo =
-            let h = found-numbers (finishRefusal s rows r l l') y y' (rw refusal-is at z) in
-            let ey : o .y ≡ y = ap (λ (a : OpenedMasks). a .y) e ∙ h .0 in
-            let ez : o .z ≡ y' = ap (λ (a : OpenedMasks). a .z) e ∙ h .1 in
-            accepted (o .refusal) (finishRefusal s rows r l l') out (withProduct s y y' r rows) rows refusal-is z
+            let h = found-numbers (finishRefusal s rows r l l') yA yB (rw refusal-is at z) in
+            let ey : o .«y_a» ≡ yA = ap (λ (a : OpenedMasks). a .«y_a») e ∙ h .0 in
+            let ez : o .«y_b» ≡ yB = ap (λ (a : OpenedMasks). a .«y_b») e ∙ h .1 in
+            accepted (o .refusal) (finishRefusal s rows r l l') out (withProduct s yA yB r rows) rows refusal-is z
             (rw eg at eo ∙ ap₂ (λ (a b : ℕ). withProduct s a b r rows) ey ez)

@@ -28,28 +28,28 @@ module _ (g : Shape) (rows : List ℕ) (r : ℕ) (z : Sized g rows) (i : TripleI
   low : r + 2 < rowCount
   low = omega (arith, i .triple-in)
 
-  pub product-written : (one two : List ℕ) (y y' c : ℕ) → c ≡ product y y'
-      → one ≡ withRow w (r + 2) (summed (sumsAt g) y 0 (rowAt w rows (r + 2)) (rowAt w rows (r + 1))) rows
-      → two ≡ withRow w (r + 2) (summed (sumsAt g) y' c (rowAt w one (r + 2)) (rowAt w one r)) one
+  pub product-written : (one two : List ℕ) (yA yB c : ℕ) → c ≡ product yA yB
+      → one ≡ withRow w (r + 2) (summed (sumsAt g) yA 0 (rowAt w rows (r + 2)) (rowAt w rows (r + 1))) rows
+      → two ≡ withRow w (r + 2) (summed (sumsAt g) yB c (rowAt w one (r + 2)) (rowAt w one r)) one
       → two ≡ withRow w (r + 2)
-      (summed (sumsAt g) y' (product y y') (summed (sumsAt g) y 0 (rowAt w rows (r + 2)) (rowAt w rows (r + 1))) (rowAt w rows r)) rows
-  product-written one two y y' c ec e1 e2 =
+      (summed (sumsAt g) yB (product yA yB) (summed (sumsAt g) yA 0 (rowAt w rows (r + 2)) (rowAt w rows (r + 1))) (rowAt w rows r)) rows
+  product-written one two yA yB c ec e1 e2 =
       e2
-      ∙ ap₂ (λ (k : ℕ) (l : List ℕ). withRow w q (summed (sumsAt g) y' k (rowAt w l q) (rowAt w l r)) l) ec e1
-      ∙ ap₂ (λ (a b : List ℕ). withRow w q (summed (sumsAt g) y' (product y y') a b) (withRow w q made rows))
+      ∙ ap₂ (λ (k : ℕ) (l : List ℕ). withRow w q (summed (sumsAt g) yB k (rowAt w l q) (rowAt w l r)) l) ec e1
+      ∙ ap₂ (λ (a b : List ℕ). withRow w q (summed (sumsAt g) yB (product yA yB) a b) (withRow w q made rows))
       (row-same w rowCount rows q (z .length-is) low made made-long)
       (row-other w rowCount rows q (z .length-is) low made made-long r other)
-      ∙ row-again w rowCount rows q (z .length-is) low made made-long (summed (sumsAt g) y' (product y y') made (rowAt w rows r))
+      ∙ row-again w rowCount rows q (z .length-is) low made made-long (summed (sumsAt g) yB (product yA yB) made (rowAt w rows r))
     where
       q : ℕ
       q = r + 2
 
       made : List ℕ
-      made = summed (sumsAt g) y 0 (rowAt w rows (r + 2)) (rowAt w rows (r + 1))
+      made = summed (sumsAt g) yA 0 (rowAt w rows (r + 2)) (rowAt w rows (r + 1))
 
       made-long : length made ≡ w
       made-long =
-          length-summed g rows z (r + 2) (r + 2) (r + 1) y (in-triple 2 (omega arith)) (in-triple 2 (omega arith)) (in-triple 1 (omega arith)) 0
+          length-summed g rows z (r + 2) (r + 2) (r + 1) yA (in-triple 2 (omega arith)) (in-triple 2 (omega arith)) (in-triple 1 (omega arith)) 0
 
       other : r ≢ r + 2
       other e = omega arith

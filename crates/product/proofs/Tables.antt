@@ -3,4 +3,4 @@ use mathlib.Core.Path.{refl}
 use Rattle.product.specs.Table.{ProductTables}
 
 pub product-tables : ProductTables
-product-tables = record { masks = λ s rows a b r out. refl; finish = λ s rows r blocks blocks'. refl }
+product-tables = record { masks = λ s rows a b r out. refl; finish = λ s rows r blocksA blocksB. refl }

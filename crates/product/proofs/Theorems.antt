@@ -14,7 +14,7 @@ unfolding masksRefusal finishRefusal
 product-lawful = record {
   masks = λ s rows a b r out.
       lawful (masksTable s rows a b r out) (omega arith) 0 (maskedTriple s r a b) s (maskNumbersOf s rows a b r) out;
-  finish = λ s rows r blocks blocks'.
-      lawful (finishTable s rows r blocks blocks') (search needs) 0 (finishedTriple s r) s
-      (withProduct s (opened s (maskA s rows r) blocks) (opened s (maskB s rows r) blocks') r rows) rows;
+  finish = λ s rows r blocksA blocksB.
+      lawful (finishTable s rows r blocksA blocksB) (search needs) 0 (finishedTriple s r) s
+      (withProduct s (opened s (maskA s rows r) blocksA) (opened s (maskB s rows r) blocksB) r rows) rows;
 }

@@ -13,7 +13,7 @@ pub record ProductLawful : Type 0 where
   pub masks : (s : Session) (rows : List ℕ) (a b r : ℕ) (out : List ℕ)
       → Lawful (masksTable s rows a b r out) 0 (remembering (marked s r 5) r a b) s (maskNumbersOf s rows a b r) out
       (masksAnswer s rows a b r out) (masksOut s rows a b r out)
-  pub finish : (s : Session) (rows : List ℕ) (r : ℕ) (blocks blocks' : List ℕ)
-      → Lawful (finishTable s rows r blocks blocks') 0 (marked (marked (marked s r 6) (r + 1) 6) (r + 2) 2) s
-      (withProduct s (opened s (maskA s rows r) blocks) (opened s (maskB s rows r) blocks') r rows) rows
-      (finishAnswer s rows r blocks blocks') (finishRows s rows r blocks blocks')
+  pub finish : (s : Session) (rows : List ℕ) (r : ℕ) (blocksA blocksB : List ℕ)
+      → Lawful (finishTable s rows r blocksA blocksB) 0 (marked (marked (marked s r 6) (r + 1) 6) (r + 2) 2) s
+      (withProduct s (opened s (maskA s rows r) blocksA) (opened s (maskB s rows r) blocksB) r rows) rows
+      (finishAnswer s rows r blocksA blocksB) (finishRows s rows r blocksA blocksB)

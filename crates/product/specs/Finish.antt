@@ -5,7 +5,7 @@ use mathlib.Core.List.{List, [], _∷_, _++_}
 use Rattle.field.specs.Arithmetic.{product}
 use Rattle.shape.specs.Marks.{masked}
 use Rattle.refusal.specs.Refusal.{Test, _when_, first, outcome}
-use Rattle.refusal.specs.Conditions.{missized, anyBeyond}
+use Rattle.refusal.specs.Conditions.{wrongLength, anyBeyond}
 use Rattle.session.specs.declared.Session.{Session}
 use Rattle.session.specs.declared.Answer.{Answer}
 use Rattle.session.specs.Sessions.{shapeOf, factorA, factorB, finishedTriple, answer}
@@ -24,8 +24,8 @@ maskB s rows r = maskRow (shapeOf s) rows (factorB s r) (r + 1)
 
 -- 5 of the two records, and 6.
 abbrev pub finishPlace : Session → ℕ → List ℕ → List ℕ → List Test
-finishPlace s r blocks blocks' =
-    5 when missized blocks (recordLength s) ∷ 5 when missized blocks' (recordLength s) ∷ 6 when noTriple r ∷ []
+finishPlace s r blocksA blocksB =
+    5 when wrongLength blocksA (recordLength s) ∷ 5 when wrongLength blocksB (recordLength s) ∷ 6 when noTriple r ∷ []
 
 -- 7: a remembered row above 95 gets it, as one that is not held does.
 abbrev pub finishMarks : Session → ℕ → ℕ → ℕ → List Test
@@ -33,62 +33,62 @@ finishMarks s a b r = (7 when noRow a ∷ 7 when noRow b ∷ []) ++ tripleMarks 
 
 -- 8 of the factor rows, the triple and both records.
 abbrev pub finishNumbers : Session → List ℕ → ℕ → ℕ → ℕ → List ℕ → List ℕ → List Test
-finishNumbers s rows a b r blocks blocks' =
+finishNumbers s rows a b r blocksA blocksB =
     maskNumbers s rows a b r
-    ++ (8 when anyBeyond (rowAt (width s) rows (r + 2)) ∷ 8 when badRecord s blocks ∷ 8 when badRecord s blocks' ∷ [])
+    ++ (8 when anyBeyond (rowAt (width s) rows (r + 2)) ∷ 8 when badRecord s blocksA ∷ 8 when badRecord s blocksB ∷ [])
 
 -- 7 and 8
 abbrev pub finishOwn : Session → List ℕ → ℕ → List ℕ → List ℕ → List Test
-finishOwn s rows r blocks blocks' =
-    finishMarks s (factorA s r) (factorB s r) r ++ finishNumbers s rows (factorA s r) (factorB s r) r blocks blocks'
+finishOwn s rows r blocksA blocksB =
+    finishMarks s (factorA s r) (factorB s r) r ++ finishNumbers s rows (factorA s r) (factorB s r) r blocksA blocksB
 
 -- 1 to 8
 abbrev pub finishChecks : Session → List ℕ → ℕ → List ℕ → List ℕ → List Test
-finishChecks s rows r blocks blocks' = frameTests s rows ++ finishPlace s r blocks blocks' ++ finishOwn s rows r blocks blocks'
+finishChecks s rows r blocksA blocksB = frameTests s rows ++ finishPlace s r blocksA blocksB ++ finishOwn s rows r blocksA blocksB
 
 -- 9: "in either record of a finish", for the rows x and x' that are opened.
 abbrev pub tooFewOf : Session → List ℕ → List ℕ → List ℕ → List ℕ → List Test
-tooFewOf s x x' blocks blocks' = 9 when tooFew s x blocks ∷ 9 when tooFew s x' blocks' ∷ []
+tooFewOf s x x' blocksA blocksB = 9 when tooFew s x blocksA ∷ 9 when tooFew s x' blocksB ∷ []
 
 -- Two numbers opened, or the refusal.
 abbrev pub found : ℕ → ℕ → ℕ → OpenedMasks
-found refusal y y' =
-    outcome refusal (record { refusal = 0; y = y; z = y' }) (record { refusal = refusal; y = 0; z = 0 })
+found refusal yA yB =
+    outcome refusal (record { refusal = 0; «y_a» = yA; «y_b» = yB }) (record { refusal = refusal; «y_a» = 0; «y_b» = 0 })
 
 -- The rows x and x', opened with their records, or 9.
 abbrev pub openedBoth : Session → List ℕ → List ℕ → List ℕ → List ℕ → OpenedMasks
-openedBoth s x x' blocks blocks' = found (first (tooFewOf s x x' blocks blocks')) (opened s x blocks) (opened s x' blocks')
+openedBoth s x x' blocksA blocksB = found (first (tooFewOf s x x' blocksA blocksB)) (opened s x blocksA) (opened s x' blocksB)
 
 abbrev pub finishTests : Session → List ℕ → ℕ → List ℕ → List ℕ → List Test
-finishTests s rows r blocks blocks' =
-    finishChecks s rows r blocks blocks' ++ tooFewOf s (maskA s rows r) (maskB s rows r) blocks blocks'
+finishTests s rows r blocksA blocksB =
+    finishChecks s rows r blocksA blocksB ++ tooFewOf s (maskA s rows r) (maskB s rows r) blocksA blocksB
 
 unfoldable pub finishRefusal : Session → List ℕ → ℕ → List ℕ → List ℕ → ℕ
-finishRefusal s rows r blocks blocks' = first (finishTests s rows r blocks blocks')
+finishRefusal s rows r blocksA blocksB = first (finishTests s rows r blocksA blocksB)
 
 -- The first step of a finish: y and y', or the refusal with 0 for both.
 abbrev pub openedMasks : Session → List ℕ → ℕ → List ℕ → List ℕ → OpenedMasks
-openedMasks s rows r blocks blocks' =
-    found (finishRefusal s rows r blocks blocks') (opened s (maskA s rows r) blocks) (opened s (maskB s rows r) blocks')
+openedMasks s rows r blocksA blocksB =
+    found (finishRefusal s rows r blocksA blocksB) (opened s (maskA s rows r) blocksA) (opened s (maskB s rows r) blocksB)
 
 -- The second step: "l'' + y l' + y' l + y y'", by the sum of rows that linear writes: y y' is the fee of its second use (document
 -- 02, (i): "The last step of a product uses the same sum of rows").
 unfoldable pub productRow : Session → ℕ → ℕ → List ℕ → List ℕ → List ℕ → List ℕ
-productRow s y y' l l' l'' = summed (sumsAt s) y' (product y y') (summed (sumsAt s) y 0 l'' l') l
+productRow s yA yB l l' l'' = summed (sumsAt s) yB (product yA yB) (summed (sumsAt s) yA 0 l'' l') l
 
 -- The product of the triple at r, written into its third row, from y and y'.
 unfoldable pub withProduct : Session → ℕ → ℕ → ℕ → List ℕ → List ℕ
-withProduct s y y' r rows =
+withProduct s yA yB r rows =
     withRow (width s) (r + 2)
-    (productRow s y y' (rowAt (width s) rows r) (rowAt (width s) rows (r + 1)) (rowAt (width s) rows (r + 2)))
+    (productRow s yA yB (rowAt (width s) rows r) (rowAt (width s) rows (r + 1)) (rowAt (width s) rows (r + 2)))
     rows
 
 abbrev pub finishAnswer : Session → List ℕ → ℕ → List ℕ → List ℕ → Answer
-finishAnswer s rows r blocks blocks' =
-    answer (finishRefusal s rows r blocks blocks') 0 (finishedTriple s r) s
+finishAnswer s rows r blocksA blocksB =
+    answer (finishRefusal s rows r blocksA blocksB) 0 (finishedTriple s r) s
 
 abbrev pub finishRows : Session → List ℕ → ℕ → List ℕ → List ℕ → List ℕ
-finishRows s rows r blocks blocks' =
-    outcome (finishRefusal s rows r blocks blocks')
-    (withProduct s (opened s (maskA s rows r) blocks) (opened s (maskB s rows r) blocks') r rows)
+finishRows s rows r blocksA blocksB =
+    outcome (finishRefusal s rows r blocksA blocksB)
+    (withProduct s (opened s (maskA s rows r) blocksA) (opened s (maskB s rows r) blocksB) r rows)
     rows

@@ -8,12 +8,12 @@ use Rattle.shape.specs.Marks.{held, unused, further}
 use Rattle.shape.specs.Lengths.{rowLength, masksLength}
 use Rattle.shape.specs.Row.{coefficients}
 use Rattle.refusal.specs.Refusal.{Test, _when_, first, outcome}
-use Rattle.refusal.specs.Conditions.{missized, anyBeyond}
+use Rattle.refusal.specs.Conditions.{wrongLength, anyBeyond}
 use Rattle.session.specs.declared.Session.{Session}
 use Rattle.session.specs.declared.Answer.{Answer}
 use Rattle.session.specs.Sessions.{shapeOf, maskedTriple, answer}
 use Rattle.session.specs.Rows.{width, rowAt, combined}
-use Rattle.session.specs.Checks.{frameTests, noRow, noTriple, unlike, unlikeTriple}
+use Rattle.session.specs.Checks.{frameTests, noRow, noTriple, wrongMark, wrongMarks}
 
 -- A row less another, element by element: −1 is p − 1.
 abbrev pub less : List ℕ → List ℕ → List ℕ
@@ -26,7 +26,7 @@ maskRow g rows factor r = less (rowAt (rowLength g) rows factor) (rowAt (rowLeng
 -- 7 of the factor rows and of a triple whose first row has mark m.
 abbrev pub tripleMarks : Session → ℕ → ℕ → ℕ → ℕ → List Test
 tripleMarks s a b r m =
-    7 when unlike s a held ∷ 7 when unlike s b held ∷ unlikeTriple (s .marks) r m further further
+    7 when wrongMark s a held ∷ 7 when wrongMark s b held ∷ wrongMarks (s .marks) r m further further
 
 -- 8 of the factor rows and of l and l', in a list of rows of w numbers.
 abbrev pub factorNumbers : ℕ → List ℕ → ℕ → ℕ → ℕ → List Test
@@ -43,7 +43,7 @@ maskNumbers s rows a b r = factorNumbers (width s) rows a b r
 -- 5 of the lent list, which the masks fill with 2(t+1) numbers, and 6.
 abbrev pub masksPlace : Session → ℕ → ℕ → ℕ → List ℕ → List Test
 masksPlace s a b r out =
-    5 when missized out (masksLength (shapeOf s)) ∷ 6 when noRow a ∷ 6 when noRow b ∷ 6 when noTriple r ∷ []
+    5 when wrongLength out (masksLength (shapeOf s)) ∷ 6 when noRow a ∷ 6 when noRow b ∷ 6 when noTriple r ∷ []
 
 -- l'' is not read.
 abbrev pub masksTests : Session → List ℕ → ℕ → ℕ → ℕ → List ℕ → List Test

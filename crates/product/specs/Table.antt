@@ -4,11 +4,11 @@ use Prim.Native.Nat.{ℕ, _+_, _*_, _-_}
 use mathlib.Core.Path.{_≡_}
 use mathlib.Core.List.{List, [], _∷_}
 use Rattle.refusal.specs.Refusal.{Test, _when_}
-use Rattle.refusal.specs.Conditions.{outside, missized, anyBeyond, badPoint}
+use Rattle.refusal.specs.Conditions.{outside, wrongLength, anyBeyond, badPoint}
 use Rattle.session.specs.declared.Session.{Session}
 use Rattle.session.specs.Sessions.{factorA, factorB}
 use Rattle.session.specs.Rows.{width, rowAt}
-use Rattle.session.specs.Checks.{noRow, noTriple, unlike}
+use Rattle.session.specs.Checks.{noRow, noTriple, wrongMark}
 use Rattle.opening.specs.Walking.{recordLength, badRecord, tooFew}
 use Rattle.product.specs.Masks.{masksTests}
 use Rattle.product.specs.Finish.{maskA, maskB, finishTests}
@@ -19,16 +19,16 @@ masksTable s rows a b r out =
     ∷ 2 when outside 1 (s .n - 1) (s .t)
     ∷ 3 when outside 1 (s .n) (s .post)
     ∷ 4 when badPoint (s .point)
-    ∷ 5 when missized rows (96 * width s)
-    ∷ 5 when missized out (2 * (s .t + 1))
+    ∷ 5 when wrongLength rows (96 * width s)
+    ∷ 5 when wrongLength out (2 * (s .t + 1))
     ∷ 6 when noRow a
     ∷ 6 when noRow b
     ∷ 6 when noTriple r
-    ∷ 7 when unlike s a 2
-    ∷ 7 when unlike s b 2
-    ∷ 7 when unlike s r 3
-    ∷ 7 when unlike s (r + 1) 4
-    ∷ 7 when unlike s (r + 2) 4
+    ∷ 7 when wrongMark s a 2
+    ∷ 7 when wrongMark s b 2
+    ∷ 7 when wrongMark s r 3
+    ∷ 7 when wrongMark s (r + 1) 4
+    ∷ 7 when wrongMark s (r + 2) 4
     ∷ 8 when anyBeyond (rowAt (width s) rows a)
     ∷ 8 when anyBeyond (rowAt (width s) rows b)
     ∷ 8 when anyBeyond (rowAt (width s) rows r)
@@ -37,35 +37,35 @@ masksTable s rows a b r out =
 
 -- 7, "or remembered factor row, isn't what the call needs": one above 95, or one that is not held.
 abbrev pub finishTable : Session → List ℕ → ℕ → List ℕ → List ℕ → List Test
-finishTable s rows r blocks blocks' =
+finishTable s rows r blocksA blocksB =
     1 when outside 2 32 (s .n)
     ∷ 2 when outside 1 (s .n - 1) (s .t)
     ∷ 3 when outside 1 (s .n) (s .post)
     ∷ 4 when badPoint (s .point)
-    ∷ 5 when missized rows (96 * width s)
-    ∷ 5 when missized blocks (recordLength s)
-    ∷ 5 when missized blocks' (recordLength s)
+    ∷ 5 when wrongLength rows (96 * width s)
+    ∷ 5 when wrongLength blocksA (recordLength s)
+    ∷ 5 when wrongLength blocksB (recordLength s)
     ∷ 6 when noTriple r
     ∷ 7 when noRow (factorA s r)
     ∷ 7 when noRow (factorB s r)
-    ∷ 7 when unlike s (factorA s r) 2
-    ∷ 7 when unlike s (factorB s r) 2
-    ∷ 7 when unlike s r 5
-    ∷ 7 when unlike s (r + 1) 4
-    ∷ 7 when unlike s (r + 2) 4
+    ∷ 7 when wrongMark s (factorA s r) 2
+    ∷ 7 when wrongMark s (factorB s r) 2
+    ∷ 7 when wrongMark s r 5
+    ∷ 7 when wrongMark s (r + 1) 4
+    ∷ 7 when wrongMark s (r + 2) 4
     ∷ 8 when anyBeyond (rowAt (width s) rows (factorA s r))
     ∷ 8 when anyBeyond (rowAt (width s) rows (factorB s r))
     ∷ 8 when anyBeyond (rowAt (width s) rows r)
     ∷ 8 when anyBeyond (rowAt (width s) rows (r + 1))
     ∷ 8 when anyBeyond (rowAt (width s) rows (r + 2))
-    ∷ 8 when badRecord s blocks
-    ∷ 8 when badRecord s blocks'
-    ∷ 9 when tooFew s (maskA s rows r) blocks
-    ∷ 9 when tooFew s (maskB s rows r) blocks'
+    ∷ 8 when badRecord s blocksA
+    ∷ 8 when badRecord s blocksB
+    ∷ 9 when tooFew s (maskA s rows r) blocksA
+    ∷ 9 when tooFew s (maskB s rows r) blocksB
     ∷ []
 
 -- The calls' own tests are these.
 pub record ProductTables : Type 0 where
   pub masks : (s : Session) (rows : List ℕ) (a b r : ℕ) (out : List ℕ) → masksTests s rows a b r out ≡ masksTable s rows a b r out
-  pub finish : (s : Session) (rows : List ℕ) (r : ℕ) (blocks blocks' : List ℕ)
-      → finishTests s rows r blocks blocks' ≡ finishTable s rows r blocks blocks'
+  pub finish : (s : Session) (rows : List ℕ) (r : ℕ) (blocksA blocksB : List ℕ)
+      → finishTests s rows r blocksA blocksB ≡ finishTable s rows r blocksA blocksB

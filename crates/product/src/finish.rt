@@ -1,6 +1,6 @@
 // Finish: y = a − l and y' = b − l' are opened, and l'' + y l' + y' l + y y' goes into the triple's third row.
 //
-// The records `left` and `right` are those of a − l and b − l'; y' is `z`.
+// The records `record_a` and `record_b` are those of a − l and b − l'.
 use crate::OpenedMasks;
 use crate::masks;
 use opening::Opened;
@@ -25,15 +25,15 @@ ghost use Rattle.product.specs.Masks.{maskRow};
 ghost use Rattle.product.specs.Finish.{maskA, maskB, finishPlace, finishMarks, finishNumbers, finishOwn, finishChecks, openedBoth, openedMasks, finishAnswer, finishRows};
 
 // 5 of the two records, and 6.
-fn finish_place(session: Session, row: usize, left: &[u32], right: &[u32]) -> u8
+fn finish_place(session: Session, row: usize, record_a: &[u32], record_b: &[u32]) -> u8
     requires { ⌜ Valid (shapeOf session) ⌝ }
-    ensures { λ r. ⌜ r ≡ first (finishPlace session row (now (left .entry)) (now (right .entry))) ⌝ }
+    ensures { λ r. ⌜ r ≡ first (finishPlace session row (now («record_a» .entry)) (now («record_b» .entry))) ⌝ }
 {
     let shape = session.shape();
     let count = shape.record_len();
     refusal::or_else(
-        refusal::size(left, count),
-        refusal::or_else(refusal::size(right, count), session::checks::triple(row)),
+        refusal::size(record_a, count),
+        refusal::or_else(refusal::size(record_b, count), session::checks::triple(row)),
     )
 }
 
@@ -60,16 +60,16 @@ fn finish_numbers(
     a: usize,
     b: usize,
     row: usize,
-    left: &[u32],
-    right: &[u32],
+    record_a: &[u32],
+    record_b: &[u32],
 ) -> u8
-    requires { ⌜ Framed session (now rows) × (row ≤ lastTriple) × Recorded (partyOf session) (now left) × Recorded (partyOf session) (now right) ⌝ }
-    ensures { λ r. ⌜ r ≡ first (finishNumbers session (now (rows .entry)) a b row (now (left .entry)) (now (right .entry))) ⌝ }
+    requires { ⌜ Framed session (now rows) × (row ≤ lastTriple) × Recorded (partyOf session) (now «record_a») × Recorded (partyOf session) (now «record_b») ⌝ }
+    ensures { λ r. ⌜ r ≡ first (finishNumbers session (now (rows .entry)) a b row (now («record_a» .entry)) (now («record_b» .entry))) ⌝ }
 {
     let party = session.party();
     let records = refusal::or_else(
-        opening::record::refusal(party, left),
-        opening::record::refusal(party, right),
+        opening::record::refusal(party, record_a),
+        opening::record::refusal(party, record_b),
     );
     let shape = session.shape();
     refusal::or_else(
@@ -79,31 +79,37 @@ fn finish_numbers(
 }
 
 // 7 and 8, once 1 to 6 have passed.
-fn finish_own(session: Session, rows: &[u32], row: usize, left: &[u32], right: &[u32]) -> u8
-    requires { ⌜ Framed session (now rows) × (row ≤ lastTriple) × Recorded (partyOf session) (now left) × Recorded (partyOf session) (now right) ⌝ }
-    ensures { λ r. ⌜ r ≡ first (finishOwn session (now (rows .entry)) row (now (left .entry)) (now (right .entry))) ⌝ }
+fn finish_own(session: Session, rows: &[u32], row: usize, record_a: &[u32], record_b: &[u32]) -> u8
+    requires { ⌜ Framed session (now rows) × (row ≤ lastTriple) × Recorded (partyOf session) (now «record_a») × Recorded (partyOf session) (now «record_b») ⌝ }
+    ensures { λ r. ⌜ r ≡ first (finishOwn session (now (rows .entry)) row (now («record_a» .entry)) (now («record_b» .entry))) ⌝ }
 {
-    let a = session.left[row] as usize;
-    let b = session.right[row] as usize;
+    let a = session.factor_a[row] as usize;
+    let b = session.factor_b[row] as usize;
     refusal::or_else(
         finish_marks(session, a, b, row),
-        finish_numbers(session, rows, a, b, row, left, right),
+        finish_numbers(session, rows, a, b, row, record_a, record_b),
     )
 }
 
 // 1 to 8; 9 is the openings'.
-fn finish_checks(session: Session, rows: &[u32], row: usize, left: &[u32], right: &[u32]) -> u8
-    ensures { λ r. ⌜ r ≡ first (finishChecks session (now (rows .entry)) row (now (left .entry)) (now (right .entry))) ⌝ }
+fn finish_checks(
+    session: Session,
+    rows: &[u32],
+    row: usize,
+    record_a: &[u32],
+    record_b: &[u32],
+) -> u8
+    ensures { λ r. ⌜ r ≡ first (finishChecks session (now (rows .entry)) row (now («record_a» .entry)) (now («record_b» .entry))) ⌝ }
 {
     let frame = session.frame(rows);
     if frame != 0 {
         return frame;
     }
-    let place = finish_place(session, row, left, right);
+    let place = finish_place(session, row, record_a, record_b);
     if place != 0 {
         return place;
     }
-    finish_own(session, rows, row, left, right)
+    finish_own(session, rows, row, record_a, record_b)
 }
 
 // A factor row less a row of the triple, made in the lent room and opened with its record.
@@ -140,27 +146,33 @@ fn open_mask(party: Party, rows: &[u32], factor: usize, row: usize, blocks: &[u3
 }
 
 // y and y', or 9.
-fn open_both(session: Session, rows: &[u32], row: usize, left: &[u32], right: &[u32]) -> OpenedMasks
-    requires { ⌜ Framed session (now rows) × RowIn (shapeOf session) (factorA session row) × RowIn (shapeOf session) (factorB session row) × TripleIn (shapeOf session) row × Recorded (partyOf session) (now left) × Recorded (partyOf session) (now right) ⌝ }
-    ensures { λ r. ⌜ r ≡ openedBoth session (maskA session (now (rows .entry)) row) (maskB session (now (rows .entry)) row) (now (left .entry)) (now (right .entry)) ⌝ }
+fn open_both(
+    session: Session,
+    rows: &[u32],
+    row: usize,
+    record_a: &[u32],
+    record_b: &[u32],
+) -> OpenedMasks
+    requires { ⌜ Framed session (now rows) × RowIn (shapeOf session) (factorA session row) × RowIn (shapeOf session) (factorB session row) × TripleIn (shapeOf session) row × Recorded (partyOf session) (now «record_a») × Recorded (partyOf session) (now «record_b») ⌝ }
+    ensures { λ r. ⌜ r ≡ openedBoth session (maskA session (now (rows .entry)) row) (maskB session (now (rows .entry)) row) (now («record_a» .entry)) (now («record_b» .entry)) ⌝ }
 {
-    let a = session.left[row] as usize;
-    let b = session.right[row] as usize;
+    let a = session.factor_a[row] as usize;
+    let b = session.factor_b[row] as usize;
     let party = session.party();
-    let y = open_mask(party, rows, a, row, left);
-    let z = open_mask(party, rows, b, row + 1, right);
-    let refusal = refusal::or_else(y.refusal, z.refusal);
+    let y_a = open_mask(party, rows, a, row, record_a);
+    let y_b = open_mask(party, rows, b, row + 1, record_b);
+    let refusal = refusal::or_else(y_a.refusal, y_b.refusal);
     if refusal != 0 {
         return OpenedMasks {
             refusal,
-            y: 0,
-            z: 0,
+            y_a: 0,
+            y_b: 0,
         };
     }
     OpenedMasks {
         refusal: 0,
-        y: y.value,
-        z: z.value,
+        y_a: y_a.value,
+        y_b: y_b.value,
     }
 }
 
@@ -169,47 +181,47 @@ fn open_masks(
     session: Session,
     rows: &[u32],
     first: usize,
-    left: &[u32],
-    right: &[u32],
+    record_a: &[u32],
+    record_b: &[u32],
 ) -> OpenedMasks
-    ensures { λ r. ⌜ r ≡ openedMasks session (now (rows .entry)) first (now (left .entry)) (now (right .entry)) ⌝ }
+    ensures { λ r. ⌜ r ≡ openedMasks session (now (rows .entry)) first (now («record_a» .entry)) (now («record_b» .entry)) ⌝ }
 {
-    let refusal = finish_checks(session, rows, first, left, right);
+    let refusal = finish_checks(session, rows, first, record_a, record_b);
     if refusal != 0 {
         return OpenedMasks {
             refusal,
-            y: 0,
-            z: 0,
+            y_a: 0,
+            y_b: 0,
         };
     }
-    open_both(session, rows, first, left, right)
+    open_both(session, rows, first, record_a, record_b)
 }
 
 // The second step: l'' + y l' + y' l into the triple's third row, with the fee y y'.
-fn write_product(shape: Shape, rows: &mut [u32], first: usize, y: u32, z: u32)
+fn write_product(shape: Shape, rows: &mut [u32], first: usize, y_a: u32, y_b: u32)
     requires { ⌜ Sized shape (now rows) × TripleIn shape first ⌝ }
-    ensures { λ r. ⌜ now (rows .exit) ≡ withRow (rowLength shape) (first + 2) (summed (sumsAt shape) z (product y z) (summed (sumsAt shape) y 0 (rowAt (rowLength shape) (now (rows .entry)) (first + 2)) (rowAt (rowLength shape) (now (rows .entry)) (first + 1))) (rowAt (rowLength shape) (now (rows .entry)) first)) (now (rows .entry)) ⌝ }
+    ensures { λ r. ⌜ now (rows .exit) ≡ withRow (rowLength shape) (first + 2) (summed (sumsAt shape) «y_b» (product «y_a» «y_b») (summed (sumsAt shape) «y_a» 0 (rowAt (rowLength shape) (now (rows .entry)) (first + 2)) (rowAt (rowLength shape) (now (rows .entry)) (first + 1))) (rowAt (rowLength shape) (now (rows .entry)) first)) (now (rows .entry)) ⌝ }
 {
     let third = first + 2;
-    let fee = field::mul(y, z);
-    session::rows::sum_rows(shape, rows, third, third, first + 1, y, 0);
-    session::rows::sum_rows(shape, rows, third, third, first, z, fee);
+    let fee = field::mul(y_a, y_b);
+    session::rows::sum_rows(shape, rows, third, third, first + 1, y_a, 0);
+    session::rows::sum_rows(shape, rows, third, third, first, y_b, fee);
 }
 
 pub fn finish(
     session: Session,
     rows: &mut [u32],
     first: usize,
-    left: &[u32],
-    right: &[u32],
+    record_a: &[u32],
+    record_b: &[u32],
 ) -> Answer
-    ensures { λ r. ⌜ r ≡ finishAnswer session (now (rows .entry)) first (now (left .entry)) (now (right .entry)) ⌝ }
-    ensures { λ r. ⌜ now (rows .exit) ≡ finishRows session (now (rows .entry)) first (now (left .entry)) (now (right .entry)) ⌝ }
+    ensures { λ r. ⌜ r ≡ finishAnswer session (now (rows .entry)) first (now («record_a» .entry)) (now («record_b» .entry)) ⌝ }
+    ensures { λ r. ⌜ now (rows .exit) ≡ finishRows session (now (rows .entry)) first (now («record_a» .entry)) (now («record_b» .entry)) ⌝ }
 {
-    let opened = open_masks(session, rows, first, left, right);
+    let opened = open_masks(session, rows, first, record_a, record_b);
     if opened.refusal != 0 {
         return session.refuse(opened.refusal);
     }
-    write_product(session.shape(), rows, first, opened.y, opened.z);
+    write_product(session.shape(), rows, first, opened.y_a, opened.y_b);
     session.done_marking_triple(first, shape::SPENT, shape::SPENT, shape::HELD)
 }

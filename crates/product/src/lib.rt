@@ -8,6 +8,6 @@ pub mod masks;
 // y = a − l and z = b − l', opened, or the refusal.
 pub struct OpenedMasks {
     pub refusal: u8,
-    pub y: u32,
-    pub z: u32,
+    pub y_a: u32,
+    pub y_b: u32,
 }

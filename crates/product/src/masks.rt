@@ -18,7 +18,7 @@ pub fn triple_marks(session: Session, a: usize, b: usize, row: usize, mark: u8) 
     requires { ⌜ row ≤ lastTriple ⌝ }
     ensures { λ r. ⌜ r ≡ first (tripleMarks session a b row mark) ⌝ }
 {
-    let triple = session::checks::unlike_triple(
+    let triple = session::checks::wrong_marks(
         &session.marks,
         row,
         mark,
@@ -26,9 +26,9 @@ pub fn triple_marks(session: Session, a: usize, b: usize, row: usize, mark: u8) 
         shape::FURTHER,
     );
     refusal::or_else(
-        session::checks::unlike(&session.marks, a, shape::HELD),
+        session::checks::wrong_mark(&session.marks, a, shape::HELD),
         refusal::or_else(
-            session::checks::unlike(&session.marks, b, shape::HELD),
+            session::checks::wrong_mark(&session.marks, b, shape::HELD),
             triple,
         ),
     )

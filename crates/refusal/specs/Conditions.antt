@@ -13,8 +13,8 @@ abbrev pub outside : ℕ → ℕ → ℕ → Bool
 outside low high x = ltb x low || ltb high x
 
 -- "a length isn't exactly the one stated"
-abbrev pub missized : List ℕ → ℕ → Bool
-missized l k = not (eqb (length l) k)
+abbrev pub wrongLength : List ℕ → ℕ → Bool
+wrongLength l k = not (eqb (length l) k)
 
 -- "at least p", so no element
 abbrev pub beyond : ℕ → Bool

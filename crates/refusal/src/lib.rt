@@ -2,7 +2,7 @@
 ghost use mathlib.Core.Path.{_≡_};
 ghost use mathlib.Core.List.{[], _∷_};
 ghost use Rattle.refusal.specs.Refusal.{first, orElse, _when_};
-ghost use Rattle.refusal.specs.Conditions.{postsTests, outside, missized, beyond, anyBeyond, badPoint};
+ghost use Rattle.refusal.specs.Conditions.{postsTests, outside, wrongLength, beyond, anyBeyond, badPoint};
 
 // The refusal of one group of checks, or else of the next.
 pub fn or_else(a: u8, b: u8) -> u8
@@ -52,7 +52,7 @@ pub fn point(w: u32) -> u8
 
 // 5, of one list: its length isn't exactly the one stated.
 pub fn size(list: &[u32], length: usize) -> u8
-    ensures { λ r. ⌜ r ≡ first (5 when missized (now (list .entry)) length ∷ []) ⌝ }
+    ensures { λ r. ⌜ r ≡ first (5 when wrongLength (now (list .entry)) length ∷ []) ⌝ }
 {
     if list.len() == length { 0 } else { 5 }
 }

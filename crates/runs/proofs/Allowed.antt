@@ -2,70 +2,70 @@
 use Prim.Native.Nat.{ℕ, _+_, _*_, _<_}
 use mathlib.Core.Path.{_≡_, refl}
 use mathlib.Core.Logic.{inl}
-use mathlib.Core.Bool.{false}
 use mathlib.Core.List.{List}
 use native.Mathlib.Omega.{arith}
-use borrow.Author.Tests.{ltb-false}
 use lib.ListN.{length}
-use Rattle.refusal.proofs.Laws.{equal}
-use Rattle.refusal.proofs.Elements.{below-p}
 use Rattle.session.specs.declared.Session.{Session}
-use Rattle.session.specs.Checks.{noRow, noTriple}
-use Rattle.sharing.specs.Load.{loadRowTests, loadRowRefusal, loadTripleTests, loadTripleRefusal}
-use Rattle.sharing.specs.Deal.{dealTests, dealRefusal}
-use Rattle.sharing.specs.Message.{messageTests, messageRefusal}
-use Rattle.sharing.specs.Linear.{linearTests, linearRefusal}
-use Rattle.opening.specs.Opening.{openTests, openRefusal}
-use Rattle.product.specs.Masks.{masksTests, masksRefusal}
-use Rattle.product.specs.Finish.{finishTests, finishRefusal}
+use Rattle.sharing.proofs.Passed.{row-loaded, triple-loaded, dealt, message-made, summed}
+use Rattle.opening.proofs.Passed.{row-opened, open-framed}
+use Rattle.product.proofs.Passed.{Factored, masks-made, finished, finish-framed}
 use Rattle.runs.specs.Draws.{Plan, Draw}
 use Rattle.runs.specs.Outline.{loadRow, loadTriple, deal, message, opening, linear, masks, finish, acts, sends}
 use Rattle.runs.specs.Calls.{Call}
-use Rattle.runs.proofs.Marks.{Marks, leftOf, rightOf, sessionAt}
-use Rattle.runs.proofs.Outcomes.{passed, refusalOf}
+use Rattle.runs.proofs.Marks.{Marks, sessionAt}
+use Rattle.runs.proofs.Outcomes.{refusalOf}
 use Rattle.runs.proofs.Facts.{Allowed, Multiplying}
 
 module _ (plan : Plan) (draw : Draw) (i : ℕ) (M : Marks) (l : List ℕ) where
   abbrev s : Session
   s = sessionAt plan draw i M
 
-  -- a row that 6 lets pass, and a triple
-  row-low : (r : ℕ) → noRow r ≡ false → r < 96
-  row-low r e = omega (arith, ltb-false 95 r e)
-
-  triple-low : (r : ℕ) → noTriple r ≡ false → r < 94
-  triple-low r e = omega (arith, ltb-false 93 r e)
+  multiplying : (a b r m : ℕ) → Factored s a b r m → Multiplying m M a b r
+  multiplying a b r m f = record {
+    a-low = omega (arith, f .a-in);
+    b-low = omega (arith, f .b-in);
+    r-low = omega (arith, f .triple-in);
+    a-held = f .a-held;
+    b-held = f .b-held;
+    first = f .first-mark;
+    second = f .second-mark;
+    third = f .third-mark;
+  }
 
   abbrev Passes : Call → Type 0
   Passes c = Allowed (acts c) (sends c) M × (length l ≡ 96 * (plan .t + 1 + 2 * plan .n))
 
   passes : (c : Call) → refusalOf c (record { session = sessionAt plan draw i M; rows = l }) ≡ 0 → Passes c
-  unfolding loadRowRefusal loadTripleRefusal dealRefusal messageRefusal openRefusal linearRefusal masksRefusal finishRefusal
   passes (loadRow x) z =
-      let f = passed (loadRowTests s l (x .r) (x .pack)) tt z in
-      (record { moving = (((row-low _ (f 6), equal _ _ (f 7)), tt), tt); ready = (tt, tt); sending = tt }, equal _ _ (f 4))
-  passes (loadTriple x) z =
-      let f = passed (loadTripleTests s l (x .r) (x .pack)) tt z in (
-        record { moving = (((triple-low _ (f 6), equal _ _ (f 7), equal _ _ (f 8), equal _ _ (f 9)), tt), tt); ready = (tt, tt); sending = tt },
-        equal _ _ (f 4),
-      )
+      let f = row-loaded s l (x .r) (x .pack) z in
+      (record { moving = (((omega (arith, f .row-in), f .is-empty), tt), tt); ready = (tt, tt); sending = tt }, f .framed .sized .length-is)
+  passes (loadTriple x) z = let f = triple-loaded s l (x .r) (x .pack) z in (
+    record {
+      moving = (((omega (arith, f .triple-in), f .first-empty, f .second-empty, f .third-empty), tt), tt);
+      ready = (tt, tt);
+      sending = tt;
+    },
+    f .framed .sized .length-is,
+  )
   passes (deal x) z =
-      let f = passed (dealTests s l (x .r) (x .c)) tt z in
-      (record { moving = (((row-low _ (f 5), equal _ _ (f 6)), tt), tt); ready = (tt, tt); sending = tt }, equal _ _ (f 4))
+      let f = dealt s l (x .r) (x .c) z in
+      (record { moving = (((omega (arith, f .placed .row-in), f .placed .is-raw), tt), tt); ready = (tt, tt); sending = tt }, f .framed .sized .length-is)
   passes (message x) z =
-      let f = passed (messageTests s l (x .r) (x .lent)) tt z in
-      (record { moving = tt; ready = tt; sending = ((row-low _ (f 6), equal _ _ (f 7)), tt) }, equal _ _ (f 4))
+      let f = message-made s l (x .r) (x .lent) z in
+      (record { moving = tt; ready = tt; sending = ((omega (arith, f .placed .row-in), f .placed .is-held), tt) }, f .framed .sized .length-is)
   passes (opening x) z =
-      let f = passed (openTests s l (x .r) (x .blocks)) tt z in
-      (record { moving = (((row-low _ (f 6), equal _ _ (f 7)), tt), tt); ready = (tt, tt); sending = tt }, equal _ _ (f 4))
-  passes (linear x) z = let f = passed (linearTests s l (x .r) (x .a) (x .b) (x .scale) (x .fee)) tt z in (
+      let f = row-opened s l (x .r) (x .blocks) z .checked in (
+        record { moving = (((omega (arith, f .placed .row-in), f .placed .is-held), tt), tt); ready = (tt, tt); sending = tt },
+        open-framed s l (x .r) (x .blocks) f .sized .length-is,
+      )
+  passes (linear x) z = let f = summed s l (x .r) (x .a) (x .b) (x .scale) (x .fee) z in let k = f .placed in (
     record {
       moving = (
         (
           record {
-            r-low = row-low _ (f 5);
-            r-empty = equal _ _ (f 8);
-            held = ((row-low _ (f 6), equal _ _ (f 9)), ((row-low _ (f 7), equal _ _ (f 10)), (below-p (x .fee) (f 12), tt)));
+            r-low = omega (arith, k .row-in);
+            r-empty = k .is-empty;
+            held = ((omega (arith, k .a-in), k .a-held), ((omega (arith, k .b-in), k .b-held), (k .fee-low, tt)));
           },
           tt,
         ),
@@ -74,28 +74,18 @@ module _ (plan : Plan) (draw : Draw) (i : ℕ) (M : Marks) (l : List ℕ) where
       ready = (tt, tt);
       sending = tt;
     },
-    equal _ _ (f 4),
+    f .framed .sized .length-is,
   )
-  passes (masks x) z = let f = passed (masksTests s l (x .a) (x .b) (x .r) (x .lent)) tt z in let m : Multiplying 3 M (x .a) (x .b) (x .r) = record {
-    a-low = row-low _ (f 6);
-    b-low = row-low _ (f 7);
-    r-low = triple-low _ (f 8);
-    a-held = equal _ _ (f 9);
-    b-held = equal _ _ (f 10);
-    first = equal _ _ (f 11);
-    second = equal _ _ (f 12);
-    third = equal _ _ (f 13);
-  } in (record { moving = ((tt, m), tt); ready = (tt, tt); sending = ((m, inl refl), tt) }, equal _ _ (f 4))
-  passes (finish x) z = let f = passed (finishTests s l (x .r) (x .blocks) (x .blocks')) tt z in let m : Multiplying 5 M (leftOf M (x .r)) (rightOf M (x .r)) (x .r) = record {
-    a-low = row-low _ (f 8);
-    b-low = row-low _ (f 9);
-    r-low = triple-low _ (f 7);
-    a-held = equal _ _ (f 10);
-    b-held = equal _ _ (f 11);
-    first = equal _ _ (f 12);
-    second = equal _ _ (f 13);
-    third = equal _ _ (f 14);
-  } in (record { moving = ((m, tt), tt); ready = (m, tt); sending = tt }, equal _ _ (f 4))
+  passes (masks x) z =
+      let f = masks-made s l (x .a) (x .b) (x .r) (x .lent) z in
+      let m = multiplying (x .a) (x .b) (x .r) 3 (f .placed .factors) in
+      (record { moving = ((tt, m), tt); ready = (tt, tt); sending = ((m, inl refl), tt) }, f .framed .sized .length-is)
+  passes (finish x) z =
+      let f = finished s l (x .r) (x .blocksA) (x .blocksB) z .checked in
+      let m = multiplying _ _ (x .r) 5 (f .placed .factors) in (
+        record { moving = ((m, tt), tt); ready = (m, tt); sending = tt },
+        finish-framed s l (x .r) (x .blocksA) (x .blocksB) f .sized .length-is,
+      )
 
   pub allowed : (c : Call) → refusalOf c (record { session = sessionAt plan draw i M; rows = l }) ≡ 0 → Allowed (acts c) (sends c) M
   allowed c z = passes c z .0

@@ -11,7 +11,7 @@ use Rattle.vectors.specs.Vector.{Vector, raised}
 use Rattle.runs.specs.Draws.{Plan, Draw, IsRaw}
 use Rattle.runs.specs.Outline.{Act, loads, loadsTriple, deals, opens, Summand, once, times, fee, sums, factors, multiplies, Taking, nothingTaken, aRowPack, aTriplePack, aNumber, aRecord, twoRecords, takes, Sending, itsOpening, itsMasks}
 use Rattle.runs.specs.Calls.{Among}
-use Rattle.runs.proofs.Marks.{Marks, markOf, leftOf, rightOf, rawVector, vectorA, vectorB, vectorAB, totalVector, written, Masking, none, of, masking, marksBy}
+use Rattle.runs.proofs.Marks.{Marks, markOf, rememberedA, rememberedB, rawVector, vectorA, vectorB, vectorAB, totalVector, written, Masking, none, of, masking, marksBy}
 
 -- ---- What the marks allow, of a call that is not refused.
 
@@ -44,7 +44,7 @@ Needed (deals r) M = (r < 96) × (markOf M r ≡ 1)
 Needed (opens r) M = (r < 96) × (markOf M r ≡ 2)
 Needed (sums r t ts) M = Summing M r t ts
 Needed (factors a b r) M = Unit {0}
-Needed (multiplies r) M = Multiplying 5 M (leftOf M r) (rightOf M r) r
+Needed (multiplies r) M = Multiplying 5 M (rememberedA M r) (rememberedB M r) r
 
 abbrev pub Maskable : Masking → Marks → Type 0
 Maskable none M = Unit {0}
@@ -64,7 +64,7 @@ ReadyFor M (aRowPack r) = Unit {0}
 ReadyFor M (aTriplePack r) = Unit {0}
 ReadyFor M (aNumber r) = Unit {0}
 ReadyFor M (aRecord r) = Unit {0}
-ReadyFor M (twoRecords r) = Multiplying 5 M (leftOf M r) (rightOf M r) r
+ReadyFor M (twoRecords r) = Multiplying 5 M (rememberedA M r) (rememberedB M r) r
 
 -- what is sent: of a held row; of factors that the call notes
 abbrev pub Sendable : List Act → Marks → Sending → Type 0
@@ -102,11 +102,11 @@ module _ (plan : Plan) (draw : Draw) where
   module _ (Held : ℕ → Vector → Type 0) (Waits : ℕ → ℕ → ℕ → Type 0) where
     -- a triple whose masks were made: its factors are held
     pub record Waiting (M : Marks) (r : ℕ) : Type 0 where
-      pub means : Waits r (leftOf M r) (rightOf M r)
-      pub a-low : leftOf M r < 96
-      pub a-held : markOf M (leftOf M r) ≡ 2
-      pub b-low : rightOf M r < 96
-      pub b-held : markOf M (rightOf M r) ≡ 2
+      pub means : Waits r (rememberedA M r) (rememberedB M r)
+      pub a-low : rememberedA M r < 96
+      pub a-held : markOf M (rememberedA M r) ≡ 2
+      pub b-low : rememberedB M r < 96
+      pub b-held : markOf M (rememberedB M r) ≡ 2
 
     pub record Fact (M : Marks) (vec : ℕ → Vector) (r : ℕ) : Type 0 where
       pub raw : markOf M r ≡ 1 → IsRaw (plan .raw r) × (vec r ≡ rawVector plan draw r)

@@ -7,7 +7,7 @@ use lib.Seq.{getD-set-same}
 use Rattle.vectors.specs.Vector.{Vector}
 use Rattle.runs.specs.Draws.{Plan, Draw, IsRaw}
 use Rattle.runs.specs.Outline.{Act, factors}
-use Rattle.runs.proofs.Marks.{at-same, at-other, Marks, markOf, leftOf, rightOf, Sized, rawVector, finished, marksBy, vectorsBy}
+use Rattle.runs.proofs.Marks.{at-same, at-other, Marks, markOf, rememberedA, rememberedB, Sized, rawVector, finished, marksBy, vectorsBy}
 use Rattle.runs.proofs.Facts.{Multiplying, AllowedBy, Triple, Waiting, Fact, Facts, Meant}
 use Rattle.runs.proofs.Rows.{Turn, raw, first, second, third, dealt, summed, waiting, spent, spent', multiplied, Same, off-masks, on-three, turned, same, course, held-by}
 
@@ -44,7 +44,7 @@ module _ {plan : Plan} {draw : Draw} {Held : ℕ → Vector → Type 0} {Waits :
 
 -- ---- A triple's second and third row stay while its first does: of the calls only finish turns 4, and it turns the first row too.
 
-first-spent : (M : Marks) (r q : ℕ) → Sized M → Multiplying 5 M (leftOf M r) (rightOf M r) r → q ≡ r → markOf (finished M r) q ≡ markOf M q → ⊥
+first-spent : (M : Marks) (r q : ℕ) → Sized M → Multiplying 5 M (rememberedA M r) (rememberedB M r) r → q ≡ r → markOf (finished M r) q ≡ markOf M q → ⊥
 first-spent M r q z ok e s =
     omega (arith, ok .first, ap (markOf M) e, ap (markOf (finished M r)) e, on-three M r 6 6 2 z (ok .r-low) .0)
 
@@ -81,7 +81,7 @@ module _ (plan : Plan) (draw : Draw) where
 
   module _ (Held : ℕ → Vector → Type 0) (Waits : ℕ → ℕ → ℕ → Type 0) (Held' : ℕ → Vector → Type 0) (Waits' : ℕ → ℕ → ℕ → Type 0) where
     -- the factors of a waiting triple are held after the call too
-    waits : (a : Act) (M : Marks) → Sized M → AllowedBy a M → (q x y : ℕ) → leftOf (marksBy a M) q ≡ x → rightOf (marksBy a M) q ≡ y
+    waits : (a : Act) (M : Marks) → Sized M → AllowedBy a M → (q x y : ℕ) → rememberedA (marksBy a M) q ≡ x → rememberedB (marksBy a M) q ≡ y
         → x < 96 → y < 96 → markOf M x ≡ 2 → markOf M y ≡ 2 → Waits' q x y → Waiting plan draw Held' Waits' (marksBy a M) q
     waits a M z ok q x y e e' low low' h h' means = record {
       means = rw (e, e') means;
@@ -94,7 +94,7 @@ module _ (plan : Plan) (draw : Draw) where
     -- a row that the call leaves as it is
     kept : (a : Act) (c : ℕ) (M : Marks) (vec : ℕ → Vector) → Sized M → AllowedBy a M → (q : ℕ)
         → (markOf M q ≡ 2 → Held q (vec q) → Held' q (vec q))
-        → (markOf M q ≡ 5 → markOf (marksBy a M) q ≡ 5 → Waits q (leftOf M q) (rightOf M q) → Waits' q (leftOf M q) (rightOf M q))
+        → (markOf M q ≡ 5 → markOf (marksBy a M) q ≡ 5 → Waits q (rememberedA M q) (rememberedB M q) → Waits' q (rememberedA M q) (rememberedB M q))
         → Same M (marksBy a M) vec (vecs a c M vec) q → Fact plan draw Held Waits M vec q
         → Fact plan draw Held' Waits' (marksBy a M) (vecs a c M vec) q
     kept a c M vec z ok q up up' s f = record {
@@ -109,7 +109,7 @@ module _ (plan : Plan) (draw : Draw) where
           (beside a c M vec z ok q (q + 2) (inr refl) (s .mark) ne (t .second) (t .third))
           t;
       waiting = λ h. let e = sym (s .mark) ∙ h in let w = f .waiting e in
-          waits a M z ok q (leftOf M q) (rightOf M q) (s .left) (s .right) (w .a-low) (w .b-low) (w .a-held) (w .b-held) (up' e h (w .means));
+          waits a M z ok q (rememberedA M q) (rememberedB M q) (s .factor-a) (s .factor-b) (w .a-low) (w .b-low) (w .a-held) (w .b-held) (up' e h (w .means));
     }
 
     -- a row that it writes
@@ -136,15 +136,15 @@ module _ (plan : Plan) (draw : Draw) where
         let last = off-masks M r a b vec (r + 2) (omega arith) in
         triple-fact (omega arith)
         (stays refl next last (g r (omega arith) .triple (inl (ok .1 .first))))
-        (λ h. waits (factors a b r) M z ok r a b (getD-set-same (M .left) r a 0 (omega arith))
-        (getD-set-same (M .right) r b 0 (omega arith)) (ok .1 .a-low) (ok .1 .b-low) (ok .1 .a-held) (ok .1 .b-held) me)
+        (λ h. waits (factors a b r) M z ok r a b (getD-set-same (M .factor-a) r a 0 (omega arith))
+        (getD-set-same (M .factor-b) r b 0 (omega arith)) (ok .1 .a-low) (ok .1 .b-low) (ok .1 .a-held) (ok .1 .b-held) me)
     new spent c M vec z ok me g e = idle-fact (omega arith) (omega arith)
     new spent' c M vec z ok me g e = idle-fact (omega arith) (omega arith)
     new multiplied c M vec z ok me g e = held-fact e (rw at-same me)
 
     pub facts-by : (a : Act) (c : ℕ) (M : Marks) (vec : ℕ → Vector) → Sized M → AllowedBy a M → Meant plan draw Held' Waits' a c M vec
         → ((q : ℕ) → q < 96 → markOf M q ≡ 2 → Held q (vec q) → Held' q (vec q))
-        → ((q : ℕ) → q < 96 → markOf M q ≡ 5 → markOf (marksBy a M) q ≡ 5 → Waits q (leftOf M q) (rightOf M q) → Waits' q (leftOf M q) (rightOf M q))
+        → ((q : ℕ) → q < 96 → markOf M q ≡ 5 → markOf (marksBy a M) q ≡ 5 → Waits q (rememberedA M q) (rememberedB M q) → Waits' q (rememberedA M q) (rememberedB M q))
         → Facts plan draw Held Waits M vec → Facts plan draw Held' Waits' (marksBy a M) (vectorsBy plan draw a c M vec)
     facts-by a c M vec z ok me up up' g q low = elim (course plan draw a c M vec z ok q) [
       | turned t ↦ new t c M vec z ok me g refl

@@ -13,7 +13,7 @@ use Rattle.field.specs.Element.{element}
 use Rattle.field.proofs.Elements.{𝓡}
 use Rattle.session.specs.declared.Session.{Session}
 use Rattle.vectors.specs.Vector.{Vector, plusTimes, raised, number, vectorOf}
-use Rattle.runs.specs.Draws.{Plan, Draw, pointOf, rawDraw, drawA, drawB, drawAB}
+use Rattle.runs.specs.Draws.{Plan, planShape, Draw, pointOf, rawDraw, drawA, drawB, drawAB}
 use Rattle.runs.specs.Outline.{Kinds, Act, loads, loadsTriple, deals, opens, Summand, once, times, fee, sums, factors, multiplies, Taking, nothingTaken, aRowPack, aTriplePack, aNumber, aRecord, twoRecords, takes, Given, Move}
 use Rattle.runs.specs.Calls.{Actual, at}
 open CommutativeRing 𝓡 using (zero as 0ᴱ)
@@ -33,25 +33,25 @@ at-other f r x q ne = ap (λ (b : Bool). cond b x (f q)) (ne-eqb q r ne)
 -- what sessions of all posts have in common
 pub record Marks : Type 0 where
   pub marks : List ℕ
-  pub left : List ℕ
-  pub right : List ℕ
+  pub factor-a : List ℕ
+  pub factor-b : List ℕ
 
 abbrev pub markOf : Marks → ℕ → ℕ
 markOf M r = getD (M .marks) r 0
 
-abbrev pub leftOf : Marks → ℕ → ℕ
-leftOf M r = getD (M .left) r 0
+abbrev pub rememberedA : Marks → ℕ → ℕ
+rememberedA M r = getD (M .factor-a) r 0
 
-abbrev pub rightOf : Marks → ℕ → ℕ
-rightOf M r = getD (M .right) r 0
+abbrev pub rememberedB : Marks → ℕ → ℕ
+rememberedB M r = getD (M .factor-b) r 0
 
 pub record Sized (M : Marks) : Type 0 where
   pub marks : length (M .marks) ≡ 96
-  pub left : length (M .left) ≡ 96
-  pub right : length (M .right) ≡ 96
+  pub factor-a : length (M .factor-a) ≡ 96
+  pub factor-b : length (M .factor-b) ≡ 96
 
 abbrev pub remarked : Marks → ℕ → ℕ → Marks
-remarked M r m = record { marks = set (M .marks) r m; left = M .left; right = M .right }
+remarked M r m = record { marks = set (M .marks) r m; factor-a = M .factor-a; factor-b = M .factor-b }
 
 abbrev pub finished : Marks → ℕ → Marks
 finished M r = remarked (remarked (remarked M r 6) (r + 1) 6) (r + 2) 2
@@ -59,20 +59,20 @@ finished M r = remarked (remarked (remarked M r 6) (r + 1) 6) (r + 2) 2
 -- the session of post i with these marks
 abbrev pub sessionAt : Plan → Draw → ℕ → Marks → Session
 sessionAt plan draw i M =
-    record { n = plan .n; t = plan .t; post = i; point = pointOf draw i; marks = M .marks; left = M .left; right = M .right }
+    record { n = plan .n; t = plan .t; post = i; point = pointOf draw i; marks = M .marks; «factor_a» = M .factor-a; «factor_b» = M .factor-b }
 
 -- the vectors of what was drawn
 abbrev pub rawVector : Plan → Draw → ℕ → Vector
-rawVector plan draw r = vectorOf (plan .t + 1) (rawDraw draw r)
+rawVector plan draw r = vectorOf (planShape plan) (rawDraw draw r)
 
 abbrev pub vectorA : Plan → Draw → ℕ → Vector
-vectorA plan draw r = vectorOf (plan .t + 1) (drawA plan draw r)
+vectorA plan draw r = vectorOf (planShape plan) (drawA plan draw r)
 
 abbrev pub vectorB : Plan → Draw → ℕ → Vector
-vectorB plan draw r = vectorOf (plan .t + 1) (drawB plan draw r)
+vectorB plan draw r = vectorOf (planShape plan) (drawB plan draw r)
 
 abbrev pub vectorAB : Plan → Draw → ℕ → Vector
-vectorAB plan draw r = vectorOf (plan .t + 1) (drawAB plan draw r)
+vectorAB plan draw r = vectorOf (planShape plan) (drawAB plan draw r)
 
 -- a − l
 abbrev pub less : Vector → Vector → Vector
@@ -92,18 +92,18 @@ totalVector vec t [] = worthVector vec t
 totalVector vec t (t' ∷ ts) = plusTimes (element 1) (worthVector vec t) (totalVector vec t' ts)
 
 -- the vectors that a finish of the triple at r opens
-abbrev pub maskA : Marks → (ℕ → Vector) → ℕ → Vector
-maskA M vec r = less (vec (leftOf M r)) (vec r)
+abbrev pub maskVectorA : Marks → (ℕ → Vector) → ℕ → Vector
+maskVectorA M vec r = less (vec (rememberedA M r)) (vec r)
 
-abbrev pub maskB : Marks → (ℕ → Vector) → ℕ → Vector
-maskB M vec r = less (vec (rightOf M r)) (vec (r + 1))
+abbrev pub maskVectorB : Marks → (ℕ → Vector) → ℕ → Vector
+maskVectorB M vec r = less (vec (rememberedB M r)) (vec (r + 1))
 
 -- l'' + y l' + y' l + y y', "y y' is added to m1..mn only"
 abbrev pub productSum : (ℕ → Vector) → ℕ → ℕ → ℕ → Vector
 productSum vec r y y' = totalVector vec (once (r + 2)) (times y (r + 1) ∷ times y' r ∷ fee (product y y') ∷ [])
 
 abbrev pub written : Marks → (ℕ → Vector) → ℕ → Vector
-written M vec r = productSum vec r (number (maskA M vec r) .0) (number (maskB M vec r) .0)
+written M vec r = productSum vec r (number (maskVectorA M vec r) .0) (number (maskVectorB M vec r) .0)
 
 -- ---- One act: the marks that it writes, the masks that it makes, the vectors.
 
@@ -143,7 +143,7 @@ markAll (m ∷ ms) M = markAll ms (remarked M (m .row) (m .is))
 
 abbrev pub remembered : Masking → Marks → Marks
 remembered none M = M
-remembered (of a b r) M = record { marks = set (M .marks) r 5; left = set (M .left) r a; right = set (M .right) r b }
+remembered (of a b r) M = record { marks = set (M .marks) r 5; factor-a = set (M .factor-a) r a; factor-b = set (M .factor-b) r b }
 
 abbrev pub marksBy : Act → Marks → Marks
 marksBy act M = remembered (masking act) (markAll (marksOf act) M)

@@ -1,11 +1,9 @@
 -- What a call gives, by its refusal: the post as it came, or the call's own session and rows.
 use Prim.Native.Nat.{ℕ, zero, suc, _+_}
 use mathlib.Core.Path.{_≡_, refl, _∙_, ap, ap₂}
-use mathlib.Core.Bool.{Bool, false}
 use mathlib.Core.List.{List, [], _∷_}
 use native.Mathlib.Omega.{arith}
-use Rattle.refusal.specs.Refusal.{Test, _when_, first, outcome, AllFail}
-use Rattle.refusal.proofs.Laws.{Numbered, all-fail}
+use Rattle.refusal.specs.Refusal.{outcome}
 use Rattle.session.specs.declared.Session.{Session}
 use Rattle.session.specs.Sessions.{answer, marked, remembering}
 use Rattle.session.specs.Rows.{width, coefficients, sumsAt, rowAt, withRow, plusSums, summed}
@@ -18,22 +16,7 @@ use Rattle.opening.specs.Opening.{openRefusal}
 use Rattle.product.specs.Masks.{masksRefusal, maskNumbersOf}
 use Rattle.product.specs.Finish.{finishRefusal, withProduct, maskA, maskB}
 use Rattle.runs.specs.Outline.{loadRow, loadTriple, deal, message, opening, linear, masks, finish, Sending}
-use Rattle.runs.specs.Calls.{Post, Call, Left, left, perform, after, lineOf, sentIf, sentBy}
-
--- ---- no refusal: every test fails, read by its place in the list
-
-abbrev pub conditionAt : List Test → ℕ → Bool
-conditionAt [] k = false
-conditionAt (j when b ∷ ts) zero = b
-conditionAt (j when b ∷ ts) (suc k) = conditionAt ts k
-
-pub fails : (ts : List Test) → AllFail ts → (k : ℕ) → conditionAt ts k ≡ false
-fails [] h k = refl
-fails (j when b ∷ ts) h zero = h .0
-fails (j when b ∷ ts) h (suc k) = fails ts (h .1) k
-
-pub passed : (ts : List Test) → Numbered ts → first ts ≡ 0 → (k : ℕ) → conditionAt ts k ≡ false
-passed ts n z = fails ts (all-fail ts n z)
+use Rattle.runs.specs.Calls.{Post, Call, Performed, performed, perform, after, lineOf, sentIf, sentBy}
 
 -- ---- one answer
 
@@ -113,13 +96,13 @@ does (masks x) q =
     (x .lent) (maskNumbersOf s (q .rows) (x .a) (x .b) (x .r))
 does (finish x) q =
     let s = q .session in
-    changes (finishRefusal s (q .rows) (x .r) (x .blocks) (x .blocks')) (marked (marked (marked s (x .r) 6) (x .r + 1) 6) (x .r + 2) 2)
-    (withProduct s (opened s (maskA s (q .rows) (x .r)) (x .blocks)) (opened s (maskB s (q .rows) (x .r)) (x .blocks')) (x .r) (q .rows))
+    changes (finishRefusal s (q .rows) (x .r) (x .blocksA) (x .blocksB)) (marked (marked (marked s (x .r) 6) (x .r + 1) 6) (x .r + 2) 2)
+    (withProduct s (opened s (maskA s (q .rows) (x .r)) (x .blocksA)) (opened s (maskB s (q .rows) (x .r)) (x .blocksB)) (x .r) (q .rows))
 
 -- "Refused ... every lent list as it came": the answer, the rows and the lent list of every contract are of this form
-abbrev left-by : Doing → Post → Left
-left-by d q =
-    left (answer (d .refusal) (d .value) (d .session) (q .session)) (outcome (d .refusal) (d .rows) (q .rows))
+abbrev performed-by : Doing → Post → Performed
+performed-by d q =
+    performed (answer (d .refusal) (d .value) (d .session) (q .session)) (outcome (d .refusal) (d .rows) (q .rows))
     (outcome (d .refusal) (d .written) (d .lent))
 
 -- rows, or no list lent: as they were in either case
@@ -134,25 +117,25 @@ module _ {A : Type 0} where
   single zero x y = refl
   single (suc k) x y = refl
 
-performs : (c : Call) (q : Post) → perform c q ≡ left-by (does c q) q
+performs : (c : Call) (q : Post) → perform c q ≡ performed-by (does c q) q
 unfolding perform
-performs (loadRow x) q = ap (left _ _) (still _ [])
-performs (loadTriple x) q = ap (left _ _) (still _ [])
-performs (deal x) q = ap (left _ _) (still _ [])
-performs (message x) q = ap₂ (left _) (still _ (q .rows)) (single _ _ _)
-performs (opening x) q = ap₂ (left _) (still _ (q .rows)) (still _ [])
-performs (linear x) q = ap (left _ _) (still _ [])
-performs (masks x) q = ap₂ (left _) (still _ (q .rows)) (single _ _ _)
-performs (finish x) q = ap (left _ _) (still _ [])
+performs (loadRow x) q = ap (performed _ _) (still _ [])
+performs (loadTriple x) q = ap (performed _ _) (still _ [])
+performs (deal x) q = ap (performed _ _) (still _ [])
+performs (message x) q = ap₂ (performed _) (still _ (q .rows)) (single _ _ _)
+performs (opening x) q = ap₂ (performed _) (still _ (q .rows)) (still _ [])
+performs (linear x) q = ap (performed _ _) (still _ [])
+performs (masks x) q = ap₂ (performed _) (still _ (q .rows)) (single _ _ _)
+performs (finish x) q = ap (performed _ _) (still _ [])
 
 abbrev pub refusalOf : Call → Post → ℕ
 refusalOf c q = does c q .refusal
 
 pub refusal-is : (c : Call) (q : Post) → perform c q .answer .refusal ≡ refusalOf c q
-refusal-is c q = ap (λ (o : Left). o .answer .refusal) (performs c q) ∙ answer-refusal _ _ _ _
+refusal-is c q = ap (λ (o : Performed). o .answer .refusal) (performs c q) ∙ answer-refusal _ _ _ _
 
 pub value-is : (c : Call) (q : Post) → perform c q .answer .value ≡ answer (does c q .refusal) (does c q .value) (does c q .session) (q .session) .value
-value-is c q = ap (λ (o : Left). o .answer .value) (performs c q)
+value-is c q = ap (λ (o : Performed). o .answer .value) (performs c q)
 
 -- not refused: the call's own session and rows; refused: those that it came with
 abbrev pub own : Doing → Post
@@ -162,14 +145,14 @@ pub done : (c : Call) (q : Post) → refusalOf c q ≡ 0 → after (perform c q)
 done c q z = ap after (performs c q) ∙ settled _ _ _ _ _ _ z
 
 pub written-is : (c : Call) (q : Post) → refusalOf c q ≡ 0 → perform c q .lent ≡ does c q .written
-written-is c q z = ap (λ (o : Left). o .lent) (performs c q) ∙ done-is _ _ _ z
+written-is c q z = ap (λ (o : Performed). o .lent) (performs c q) ∙ done-is _ _ _ z
 
 pub refused : (c : Call) (q : Post) (k : ℕ) → refusalOf c q ≡ suc k
     → (perform c q .answer .session ≡ q .session) × (perform c q .rows ≡ q .rows)
 refused c q k e =
     let h = returned _ _ _ _ _ _ k e in (
-      ap (λ (o : Left). o .answer .session) (performs c q) ∙ ap (λ (p : Post). p .session) h,
-      ap (λ (o : Left). o .rows) (performs c q) ∙ ap (λ (p : Post). p .rows) h,
+      ap (λ (o : Performed). o .answer .session) (performs c q) ∙ ap (λ (p : Post). p .session) h,
+      ap (λ (o : Performed). o .rows) (performs c q) ∙ ap (λ (p : Post). p .rows) h,
     )
 
 -- and nothing is sent

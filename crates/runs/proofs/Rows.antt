@@ -11,7 +11,7 @@ use Rattle.vectors.specs.Vector.{Vector}
 use Rattle.runs.specs.Draws.{Plan, Draw}
 use Rattle.runs.specs.Outline.{Kinds, Act, loads, loadsTriple, deals, opens, Summand, sums, factors, multiplies, Taking, takes, Given, Move, actsIn}
 use Rattle.runs.specs.Calls.{Among, at}
-use Rattle.runs.proofs.Marks.{at-other, Marks, markOf, leftOf, rightOf, Sized, remarked, rawVector, Mark, Masking, none, of, masking, marksOf, markAll, remembered, marksBy, vectorsBy, marksAll, vectorsAll}
+use Rattle.runs.proofs.Marks.{at-other, Marks, markOf, rememberedA, rememberedB, Sized, remarked, rawVector, Mark, Masking, none, of, masking, marksOf, markAll, remembered, marksBy, vectorsBy, marksAll, vectorsAll}
 use Rattle.runs.proofs.Facts.{Maskable, AllowedBy, AllowedAll, MasksBy, MasksIn}
 
 -- ---- The rows that a call writes: which, the mark before, the mark after.
@@ -43,7 +43,7 @@ to-five waiting = refl
 -- ---- Marks that are written.
 
 sized-at : (M : Marks) (r m : ℕ) → Sized M → Sized (remarked M r m)
-sized-at M r m z = record { marks = length-set (M .marks) r m ∙ z .marks; left = z .left; right = z .right }
+sized-at M r m z = record { marks = length-set (M .marks) r m ∙ z .marks; factor-a = z .factor-a; factor-b = z .factor-b }
 
 now : (M : Marks) (r m : ℕ) → Sized M → r < 96 → markOf (remarked M r m) r ≡ m
 now M r m z low = getD-set-same (M .marks) r m 0 (omega (arith, z .marks))
@@ -54,12 +54,12 @@ past M r m q ne = getD-set-other (M .marks) r q m 0 ne
 -- row q is left as it is
 pub record Same (M M' : Marks) (vec vec' : ℕ → Vector) (q : ℕ) : Type 0 where
   pub mark : markOf M' q ≡ markOf M q
-  pub left : leftOf M' q ≡ leftOf M q
-  pub right : rightOf M' q ≡ rightOf M q
+  pub factor-a : rememberedA M' q ≡ rememberedA M q
+  pub factor-b : rememberedB M' q ≡ rememberedB M q
   pub vector : vec' q ≡ vec q
 
 other : (M : Marks) (r m : ℕ) (vec vec' : ℕ → Vector) (q : ℕ) → q ≢ r → vec' q ≡ vec q → Same M (remarked M r m) vec vec' q
-other M r m vec vec' q ne e = record { mark = past M r m q ne; left = refl; right = refl; vector = e }
+other M r m vec vec' q ne e = record { mark = past M r m q ne; factor-a = refl; factor-b = refl; vector = e }
 
 off-one : (M : Marks) (r m : ℕ) (vec : ℕ → Vector) (X : Vector) (q : ℕ) → q ≢ r → Same M (remarked M r m) vec (at vec r X) q
 off-one M r m vec X q ne = other M r m vec (at vec r X) q ne (at-other vec r X q ne)
@@ -67,16 +67,16 @@ off-one M r m vec X q ne = other M r m vec (at vec r X) q ne (at-other vec r X q
 pub off-masks : (M : Marks) (r a b : ℕ) (vec : ℕ → Vector) (q : ℕ) → q ≢ r → Same M (marksBy (factors a b r) M) vec vec q
 off-masks M r a b vec q ne = record {
   mark = past M r 5 q ne;
-  left = getD-set-other (M .left) r q a 0 ne;
-  right = getD-set-other (M .right) r q b 0 ne;
+  factor-a = getD-set-other (M .factor-a) r q a 0 ne;
+  factor-b = getD-set-other (M .factor-b) r q b 0 ne;
   vector = refl;
 }
 
 twice : {M M' M'' : Marks} {vec vec' vec'' : ℕ → Vector} {q : ℕ} → Same M M' vec vec' q → Same M' M'' vec' vec'' q → Same M M'' vec vec'' q
 twice s s' = record {
   mark = s' .mark ∙ s .mark;
-  left = s' .left ∙ s .left;
-  right = s' .right ∙ s .right;
+  factor-a = s' .factor-a ∙ s .factor-a;
+  factor-b = s' .factor-b ∙ s .factor-b;
   vector = s' .vector ∙ s .vector;
 }
 
@@ -128,7 +128,7 @@ module _ (plan : Plan) (draw : Draw) where
       at-row (r + 2) q (turns (ok .0 .3) (k .2) third) (λ n''.
       same (off-three M r 3 4 4 vec _ q n n' n'' (at-other _ (r + 2) _ q n'' ∙ at-other _ (r + 1) _ q n' ∙ at-other vec r _ q n)))))
   course (deals r) c M vec z ok q = at-row r q (turns (ok .0 .1) (now M r 2 z (ok .0 .0)) dealt) (λ n. same (off-one M r 2 vec _ q n))
-  course (opens r) c M vec z ok q = same (record { mark = refl; left = refl; right = refl; vector = refl })
+  course (opens r) c M vec z ok q = same (record { mark = refl; factor-a = refl; factor-b = refl; vector = refl })
   course (sums r t ts) c M vec z ok q =
       at-row r q (turns (ok .0 .r-empty) (now M r 2 z (ok .0 .r-low)) summed) (λ n. same (off-one M r 2 vec _ q n))
   course (factors x y r) c M vec z ok q =
@@ -157,10 +157,10 @@ module _ (plan : Plan) (draw : Draw) where
 
   -- a triple waits after an act: it waited before, with the same factors, or these are its masks
   pub five-by : (a : Act) (M : Marks) → Sized M → AllowedBy a M → (q : ℕ) → q < 96 → markOf (marksBy a M) q ≡ 5
-      → ((markOf M q ≡ 5) × (leftOf (marksBy a M) q ≡ leftOf M q) × (rightOf (marksBy a M) q ≡ rightOf M q)) ⊎ MasksBy (masking a) q
+      → ((markOf M q ≡ 5) × (rememberedA (marksBy a M) q ≡ rememberedA M q) × (rememberedB (marksBy a M) q ≡ rememberedB M q)) ⊎ MasksBy (masking a) q
   five-by a M z ok q low h = elim (course a 0 M (rawVector plan draw) z ok q) [
     | turned t ↦ inr (to-five (rw h at t))
-    | same s ↦ inl (sym (s .mark) ∙ h, s .left, s .right)
+    | same s ↦ inl (sym (s .mark) ∙ h, s .factor-a, s .factor-b)
   ]
 
 -- ---- Marks are 96.
@@ -178,7 +178,7 @@ sized-marks (m ∷ ms) M z = sized-marks ms (remarked M (m .row) (m .is)) (sized
 sized-notes : (m : Masking) (M : Marks) → Sized M → Sized (remembered m M)
 sized-notes none M z = z
 sized-notes (of a b r) M z =
-    record { marks = length-set (M .marks) r 5 ∙ z .marks; left = length-set (M .left) r a ∙ z .left; right = length-set (M .right) r b ∙ z .right }
+    record { marks = length-set (M .marks) r 5 ∙ z .marks; factor-a = length-set (M .factor-a) r a ∙ z .factor-a; factor-b = length-set (M .factor-b) r b ∙ z .factor-b }
 
 pub sized-by : (a : Act) (M : Marks) → Sized M → Sized (marksBy a M)
 sized-by a M z = sized-notes (masking a) (markAll (marksOf a) M) (sized-marks (marksOf a) M z)
@@ -207,7 +207,7 @@ module _ (plan : Plan) (draw : Draw) where
   past-stays (a ∷ todo) M z ok q h = past-stays todo (marksBy a M) (sized-by a M z) (ok .1) q (past-by plan draw a M z (ok .0) q h)
 
   pub five-before : (todo : List Act) (M : Marks) → Sized M → AllowedAll todo M → (q : ℕ) → q < 96 → markOf (marksAll todo M) q ≡ 5
-      → ((markOf M q ≡ 5) × (leftOf (marksAll todo M) q ≡ leftOf M q) × (rightOf (marksAll todo M) q ≡ rightOf M q)) ⊎ MasksIn todo q
+      → ((markOf M q ≡ 5) × (rememberedA (marksAll todo M) q ≡ rememberedA M q) × (rememberedB (marksAll todo M) q ≡ rememberedB M q)) ⊎ MasksIn todo q
   five-before [] M z ok q low h = inl (h, refl, refl)
   five-before (a ∷ todo) M z ok q low h = elim (five-before todo (marksBy a M) (sized-by a M z) (ok .1) q low h) [
     | inr m ↦ inr (inr m)
@@ -225,12 +225,12 @@ young (of x y r') M al r at (inl five) = omega (arith, ap (markOf M) at, al .fir
 young (of x y r') M al r at (inr six) = omega (arith, ap (markOf M) at, al .first, six)
 
 waiting-now : (m : Masking) (M : Marks) (x y r : ℕ) → Sized M → r < 94 → of x y r ≡ m
-    → (markOf (remembered m M) r ≡ 5) × (leftOf (remembered m M) r ≡ x) × (rightOf (remembered m M) r ≡ y)
+    → (markOf (remembered m M) r ≡ 5) × (rememberedA (remembered m M) r ≡ x) × (rememberedB (remembered m M) r ≡ y)
 waiting-now m M x y r z low e =
-    subst (λ (w : Masking). (markOf (remembered w M) r ≡ 5) × (leftOf (remembered w M) r ≡ x) × (rightOf (remembered w M) r ≡ y)) e (
+    subst (λ (w : Masking). (markOf (remembered w M) r ≡ 5) × (rememberedA (remembered w M) r ≡ x) × (rememberedB (remembered w M) r ≡ y)) e (
       getD-set-same (M .marks) r 5 0 (omega (arith, z .marks)),
-      getD-set-same (M .left) r x 0 (omega (arith, z .left)),
-      getD-set-same (M .right) r y 0 (omega (arith, z .right)),
+      getD-set-same (M .factor-a) r x 0 (omega (arith, z .factor-a)),
+      getD-set-same (M .factor-b) r y 0 (omega (arith, z .factor-b)),
     )
 
 module _ (plan : Plan) (draw : Draw) where
@@ -241,7 +241,7 @@ module _ (plan : Plan) (draw : Draw) where
 
   pub waits-after : (todo : List Act) (M : Marks) → Sized M → AllowedAll todo M → (x y r : ℕ) → r < 94 → Among (of x y r) (map masking todo)
       → ((markOf (marksAll todo M) r ≡ 5) ⊎ (markOf (marksAll todo M) r ≡ 6))
-      × (markOf (marksAll todo M) r ≡ 5 → (leftOf (marksAll todo M) r ≡ x) × (rightOf (marksAll todo M) r ≡ y))
+      × (markOf (marksAll todo M) r ≡ 5 → (rememberedA (marksAll todo M) r ≡ x) × (rememberedB (marksAll todo M) r ≡ y))
   waits-after (a ∷ todo) M z al x y r low (inr there) = waits-after todo (marksBy a M) (sized-by a M z) (al .1) x y r low there
   waits-after (a ∷ todo) M z al x y r low (inl e) =
       let h = waiting-now (masking a) (markAll (marksOf a) M) x y r (sized-marks (marksOf a) M z) low e in (

@@ -44,11 +44,11 @@ all-at P (x ∷ xs) a (suc i) h = all-at P xs (a .1) i (omega arith)
 
 -- the marks of a new session
 pub start : Marks
-start = record { marks = replicate 96 0; left = replicate 96 0; right = replicate 96 0 }
+start = record { marks = replicate 96 0; factor-a = replicate 96 0; factor-b = replicate 96 0 }
 
 pub start-sized : Sized start
 unfolding start
-start-sized = record { marks = length-replicate {A = ℕ} 96 0; left = length-replicate {A = ℕ} 96 0; right = length-replicate {A = ℕ} 96 0 }
+start-sized = record { marks = length-replicate {A = ℕ} 96 0; factor-a = length-replicate {A = ℕ} 96 0; factor-b = length-replicate {A = ℕ} 96 0 }
 
 pub start-mark : (r : ℕ) → markOf start r ≡ 0
 unfolding start

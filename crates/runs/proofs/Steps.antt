@@ -1,10 +1,9 @@
 -- One post, one call that is not refused: the post still holds its part of every row's vector; and what it then sends.
 use Prim.Native.Nat.{ℕ, suc, _+_, _*_, _-_, _≤_, _<_}
 use mathlib.Core.Path.{_≡_, refl, sym, _∙_, ap, ap₂, subst}
-use mathlib.Core.Bool.{true, false}
+use mathlib.Core.Bool.{true}
 use mathlib.Core.List.{List, [], _∷_, _++_}
 use native.Mathlib.Omega.{arith}
-use borrow.Author.Tests.{ltb-false}
 use lib.ListN.{take}
 use lib.Seq.{take-at}
 use Rattle.field.specs.Modulus.{p}
@@ -12,19 +11,19 @@ use Rattle.field.specs.Element.{Element, element}
 use Rattle.poly.specs.Counting.{All}
 use Rattle.session.specs.declared.Session.{Session}
 use Rattle.session.specs.Rows.{width, coefficients, rowAt, combined}
-use Rattle.sharing.specs.Load.{loadRowTests, loadRowRefusal, loadTripleTests, loadTripleRefusal}
-use Rattle.sharing.specs.Message.{messageTests, messageRefusal}
-use Rattle.product.specs.Masks.{masksTests, masksRefusal, maskNumbersOf}
+use Rattle.sharing.proofs.Passed.{row-loaded, triple-loaded, dealt, MessageMade, message-made, summed}
+use Rattle.product.specs.Masks.{maskNumbersOf}
+use Rattle.product.proofs.Passed.{Factored, masks-made, finished}
 use Rattle.vectors.specs.Vector.{Vector, numbers, rowOf}
 use Rattle.vectors.proofs.Linear.{length-numbers}
 use Rattle.runs.specs.Draws as Draws
 use Rattle.runs.specs.Draws.{Plan, Draw, IsDraw, IsRaw, pointOf}
 use Rattle.runs.specs.Outline.{loadRow, loadTriple, deal, message, opening, linear, masks, finish, takes, Taking, nothingTaken, aRowPack, aTriplePack, aNumber, aRecord, twoRecords, Given, moves, acts, Sending, itsOpening, itsMasks, sends}
 use Rattle.runs.specs.Calls.{Post, Actual, Call, perform, after}
-use Rattle.runs.proofs.Marks.{Marks, sessionAt, less, maskA, maskB, marksAll, numberIn, vectorsAll}
-use Rattle.runs.proofs.Outcomes.{conditionAt, passed, refusalOf, does, own, done, written-is, refused}
+use Rattle.runs.proofs.Marks.{Marks, sessionAt, less, maskVectorA, maskVectorB, marksAll, numberIn, vectorsAll}
+use Rattle.runs.proofs.Outcomes.{refusalOf, does, own, done, written-is, refused}
 use Rattle.runs.proofs.Packs.{rowFor, raw-pack, triple-pack}
-use Rattle.runs.proofs.Holds.{Holds, held-row, combined-row, load-holds, triple-holds, deal-holds, linear-holds, masks-holds}
+use Rattle.runs.proofs.Holds.{Holds, wide, Holder, sessionOf, held-row, combined-row, load-holds, triple-holds, deal-holds, linear-holds, masks-holds}
 use Rattle.runs.proofs.Finishing.{AllTrue, finish-holds}
 use Rattle.runs.proofs.Allowed.{allowed}
 
@@ -53,7 +52,7 @@ module _ (plan : Plan) (draw : Draw) where
   FitsWith i M vec (aNumber r) x = Unit {0}
   FitsWith i M vec (aRecord r) x = Unit {0}
   FitsWith i M vec (twoRecords r) x =
-      AllTrue (sessionAt plan draw i M) (maskA M vec r) (x .0) × AllTrue (sessionAt plan draw i M) (maskB M vec r) (x .1)
+      AllTrue (sessionAt plan draw i M) (maskVectorA M vec r) (x .0) × AllTrue (sessionAt plan draw i M) (maskVectorB M vec r) (x .1)
 
   abbrev pub Fits : ℕ → Marks → (ℕ → Vector) → Call → Type 0
   Fits i M vec c = All (λ m. FitsWith i M vec (takes (m .0)) (m .1)) (moves c)
@@ -76,107 +75,123 @@ module _ (plan : Plan) (draw : Draw) where
   SaysAll i vec (s ∷ ss) [] = ⊥
   SaysAll i vec (s ∷ ss) (xs ∷ parts) = Says i vec s xs × SaysAll i vec ss parts
 
-  module _ (is : IsDraw plan draw) (len i : ℕ) (hi : i ≤ plan .n) (M : Marks) (vec : ℕ → Vector) where
-    module _ (l : List ℕ) (h : Holds plan draw len i M vec l) where
-      abbrev s : Session
-      s = sessionAt plan draw i M
+-- ---- a post that holds its rows
 
-      load-low : (r : ℕ) (pack : List ℕ) → loadRowRefusal s l r pack ≡ 0 → r < 96
-      unfolding loadRowRefusal
-      load-low r pack z = let f = passed (loadRowTests s l r pack) tt z in omega (arith, ltb-false 95 r (f 6))
+module _ (H : Holder) where
+  open Holder H using (plan, draw, len, post as i, marks as M, vec, rows as l, holds as h)
 
-      triple-low : (r : ℕ) (pack : List ℕ) → loadTripleRefusal s l r pack ≡ 0 → r < 96
-      unfolding loadTripleRefusal
-      triple-low r pack z = let f = passed (loadTripleTests s l r pack) tt z in omega (arith, ltb-false 93 r (f 6))
+  abbrev s : Session
+  s = sessionOf H
 
-      -- the post with the call's own session and rows
-      moved : (c : Call) → refusalOf c (postAt i M l) ≡ 0 → Fits i M vec c
-          → Stands len i (marksAfter c M) (vectorsAfter c M vec) (own (does c (postAt i M l)))
-      moved (loadRow x) z fit = record {
+  abbrev p0 : Post
+  p0 = postAt plan draw i M l
+
+  -- the post with the call's own session and rows
+  moved : IsDraw plan draw → i ≤ plan .n → (c : Call) → refusalOf c p0 ≡ 0 → Fits plan draw i M vec c
+      → Stands plan draw len i (marksAfter plan draw c M) (vectorsAfter plan draw c M vec) (own (does c p0))
+  moved is hi (loadRow x) z fit =
+      let f = row-loaded s l (x .r) (x .pack) z in
+      record {
+        session = refl;
+        holds = load-holds H (x .r) (x .pack) _ (fit .0 .1 ∙ raw-pack plan draw is (x .r) (omega (arith, f .row-in)) (fit .0 .0) i (omega (arith, f .framed .post-in))) f;
+      }
+  moved is hi (loadTriple x) z fit =
+      let f = triple-loaded s l (x .r) (x .pack) z in
+      record {
         session = refl;
         holds =
-            load-holds plan draw len i M vec l h (x .r) (x .pack) _
-            (fit .0 .1 ∙ raw-pack plan draw is (x .r) (load-low (x .r) (x .pack) z) (fit .0 .0) i hi) z;
+            triple-holds H (x .r) (x .pack) _ _ _
+            (fit .0 .1 ∙ triple-pack plan draw is (x .r) (omega (arith, f .triple-in)) (fit .0 .0) i (omega (arith, f .framed .post-in))) f;
       }
-      moved (loadTriple x) z fit = record {
-        session = refl;
-        holds =
-            triple-holds plan draw len i M vec l h (x .r) (x .pack) _ _ _
-            (fit .0 .1 ∙ triple-pack plan draw is (x .r) (triple-low (x .r) (x .pack) z) (fit .0 .0) i hi) z;
-      }
-      moved (deal x) z fit = record { session = refl; holds = deal-holds plan draw len i M vec l h (x .r) (x .c) z }
-      moved (message x) z fit = record { session = refl; holds = h }
-      moved (opening x) z fit = record { session = refl; holds = h }
-      moved (linear x) z fit = record { session = refl; holds = linear-holds plan draw len i M vec l h (x .r) (x .a) (x .b) (x .scale) (x .fee) z }
-      moved (masks x) z fit = record { session = refl; holds = masks-holds plan draw len i M vec l h (x .a) (x .b) (x .r) (x .lent) z }
-      moved (finish x) z fit = record {
-        session = refl;
-        holds =
-            finish-holds plan draw len i M vec l h (x .r) (x .blocks) (x .blocks') (allowed plan draw i M l (finish x) z .ready .0) z
-            (fit .0 .0) (fit .0 .1);
-      }
+  moved is hi (deal x) z fit = record { session = refl; holds = deal-holds H (x .r) (x .c) (dealt s l (x .r) (x .c) z) }
+  moved is hi (message x) z fit = record { session = refl; holds = h }
+  moved is hi (opening x) z fit = record { session = refl; holds = h }
+  moved is hi (linear x) z fit = record {
+    session = refl;
+    holds = linear-holds H (x .r) (x .a) (x .b) (x .scale) (x .fee) (summed s l (x .r) (x .a) (x .b) (x .scale) (x .fee) z);
+  }
+  moved is hi (masks x) z fit =
+      record { session = refl; holds = masks-holds H (x .a) (x .b) (x .r) (masks-made s l (x .a) (x .b) (x .r) (x .lent) z .placed .factors) }
+  moved is hi (finish x) z fit = record {
+    session = refl;
+    holds =
+        finish-holds H (x .r) (x .blocksA) (x .blocksB) (allowed plan draw i M l (finish x) z .ready .0)
+        (finished s l (x .r) (x .blocksA) (x .blocksB) z) (fit .0 .0) (fit .0 .1);
+  }
 
-      message-at : (r : ℕ) (lent : List ℕ) → messageRefusal s l r lent ≡ 0
-          → coefficients s (rowAt (width s) l r) ≡ numbers (plan .t + 1) (vec r .v i)
-      unfolding messageRefusal
-      message-at r lent z =
-          ap (take (plan .t + 1)) (held-row plan draw len i M vec l h r 1 (ltb-false 95 r (f 6)) (f 7))
-          ∙ own-numbers (plan .t + 1) (plan .n) i (element (pointOf draw i)) (vec r)
-        where
-          f : (k : ℕ) → conditionAt (messageTests s l r lent) k ≡ false
-          f = passed (messageTests s l r lent) tt z
+  message-at : (r : ℕ) (lent : List ℕ) → MessageMade s l r lent → coefficients s (rowAt (width s) l r) ≡ numbers (plan .t + 1) (vec r .v i)
+  message-at r lent f =
+      ap (take (plan .t + 1)) (held-row H r 1 (f .placed .row-in) (f .placed .is-held))
+      ∙ own-numbers (plan .t + 1) (plan .n) i (element (pointOf draw i)) (vec r)
 
-      masks-at : (a b r : ℕ) (lent : List ℕ) → masksRefusal s l a b r lent ≡ 0
-          → maskNumbersOf s l a b r
-          ≡ numbers (plan .t + 1) (less (vec a) (vec r) .v i) ++ numbers (plan .t + 1) (less (vec b) (vec (r + 1)) .v i)
-      unfolding masksRefusal maskNumbersOf
-      masks-at a b r lent z =
-          ap₂ _++_
-          (half a r (held-row plan draw len i M vec l h a 1 (ltb-false 95 a (f 6)) (f 9)) (held-row plan draw len i M vec l h r 2 (omega (arith, low)) (f 11)))
-          (half b (r + 1) (held-row plan draw len i M vec l h b 1 (ltb-false 95 b (f 7)) (f 10)) (held-row plan draw len i M vec l h (r + 1) 3 (omega (arith, low)) (f 12)))
-        where
-          f : (k : ℕ) → conditionAt (masksTests s l a b r lent) k ≡ false
-          f = passed (masksTests s l a b r lent) tt z
+  masks-at : (a b r : ℕ) → Factored s a b r 3
+      → maskNumbersOf s l a b r
+      ≡ numbers (plan .t + 1) (less (vec a) (vec r) .v i) ++ numbers (plan .t + 1) (less (vec b) (vec (r + 1)) .v i)
+  unfolding maskNumbersOf
+  masks-at a b r f =
+      ap₂ _++_
+      (half a r (held-row H a 1 (f .a-in) (f .a-held)) (held-row H r 2 (omega (arith, f .triple-in)) (f .first-mark)))
+      (half b (r + 1) (held-row H b 1 (f .b-in) (f .b-held)) (held-row H (r + 1) 3 (omega (arith, f .triple-in)) (f .second-mark)))
+    where
+      half : (x y : ℕ) → rowAt (wide plan) l x ≡ rowFor plan draw i (vec x) → rowAt (wide plan) l y ≡ rowFor plan draw i (vec y)
+          → take (plan .t + 1) (combined (p - 1) (rowAt (wide plan) l x) (rowAt (wide plan) l y)) ≡ numbers (plan .t + 1) (less (vec x) (vec y) .v i)
+      half x y ex ey =
+          ap (take (plan .t + 1)) (combined-row H (p - 1) x y ex ey)
+          ∙ own-numbers (plan .t + 1) (plan .n) i (element (pointOf draw i)) (less (vec x) (vec y))
 
-          low : r ≤ 93
-          low = ltb-false 93 r (f 8)
+  says-at : (c : Call) → refusalOf c p0 ≡ 0 → SaysAll plan draw i vec (sends c) (does c p0 .written)
+  says-at (loadRow x) z = tt
+  says-at (loadTriple x) z = tt
+  says-at (deal x) z = tt
+  says-at (message x) z = (message-at (x .r) (x .lent) (message-made s l (x .r) (x .lent) z), tt)
+  says-at (opening x) z = tt
+  says-at (linear x) z = tt
+  says-at (masks x) z = (masks-at (x .a) (x .b) (x .r) (masks-made s l (x .a) (x .b) (x .r) (x .lent) z .placed .factors), tt)
+  says-at (finish x) z = tt
 
-          half : (x y : ℕ) → rowAt (plan .t + 1 + 2 * plan .n) l x ≡ rowFor plan draw i (vec x)
-              → rowAt (plan .t + 1 + 2 * plan .n) l y ≡ rowFor plan draw i (vec y)
-              → take (plan .t + 1) (combined (p - 1) (rowAt (plan .t + 1 + 2 * plan .n) l x) (rowAt (plan .t + 1 + 2 * plan .n) l y))
-              ≡ numbers (plan .t + 1) (less (vec x) (vec y) .v i)
-          half x y ex ey =
-              ap (take (plan .t + 1)) (combined-row plan draw len i M vec l h (p - 1) x y ex ey)
-              ∙ own-numbers (plan .t + 1) (plan .n) i (element (pointOf draw i)) (less (vec x) (vec y))
+-- ---- a post that stands, and a call of it
 
-      says-at : (c : Call) → refusalOf c (postAt i M l) ≡ 0 → SaysAll i vec (sends c) (does c (postAt i M l) .written)
-      says-at (loadRow x) z = tt
-      says-at (loadTriple x) z = tt
-      says-at (deal x) z = tt
-      says-at (message x) z = (message-at (x .r) (x .lent) z, tt)
-      says-at (opening x) z = tt
-      says-at (linear x) z = tt
-      says-at (masks x) z = (masks-at (x .a) (x .b) (x .r) (x .lent) z, tt)
-      says-at (finish x) z = tt
+pub record Stand : Type 0 where
+  pub plan : Plan
+  pub draw : Draw
+  pub is-draw : IsDraw plan draw
+  pub len : ℕ
+  pub post : ℕ
+  pub high : post ≤ plan .n
+  pub marks : Marks
+  pub vec : ℕ → Vector
+  pub state : Post
+  pub stands : Stands plan draw len post marks vec state
 
-    module _ (q : Post) (h : Stands len i M vec q) where
-      -- a call that is refused
-      pub stands-refused : (c : Call) (k : ℕ) → refusalOf c q ≡ suc k → Stands len i M vec (after (perform c q))
-      stands-refused c k e =
-          let o = refused c q k e in
-          record { session = o .0 ∙ h .session; holds = subst (Holds plan draw len i M vec) (sym (o .1)) (h .holds) }
+module _ (U : Stand) where
+  open Stand U using (plan, draw, len, post as i, marks as M, vec, state as q, stands as h)
 
-      -- any call that is not refused
-      pub stands-after : (c : Call) → refusalOf c q ≡ 0 → Fits i M vec c
-          → Stands len i (marksAfter c M) (vectorsAfter c M vec) (after (perform c q))
-      stands-after c =
-          subst
-          (λ (x : Post). refusalOf c x ≡ 0 → Fits i M vec c → Stands len i (marksAfter c M) (vectorsAfter c M vec) (after (perform c x)))
-          (sym (named len i M vec q h))
-          (λ z fit. subst (Stands len i _ _) (sym (done c (postAt i M (q .rows)) z)) (moved (q .rows) (h .holds) c z fit))
+  abbrev H : Holder
+  H = record { plan = plan; draw = draw; len = len; post = i; marks = M; vec = vec; rows = q .rows; holds = h .holds }
 
-      -- what it sends
-      pub says : (c : Call) → refusalOf c q ≡ 0 → SaysAll i vec (sends c) (perform c q .lent)
-      says c =
-          subst (λ (x : Post). refusalOf c x ≡ 0 → SaysAll i vec (sends c) (perform c x .lent)) (sym (named len i M vec q h))
-          (λ z. subst (SaysAll i vec (sends c)) (sym (written-is c (postAt i M (q .rows)) z)) (says-at (q .rows) (h .holds) c z))
+  abbrev p0' : Post
+  p0' = postAt plan draw i M (q .rows)
+
+  is-p0 : p0' ≡ q
+  is-p0 = sym (named plan draw len i M vec q h)
+
+  -- that is refused
+  pub stands-refused : (c : Call) (k : ℕ) → refusalOf c q ≡ suc k → Stands plan draw len i M vec (after (perform c q))
+  stands-refused c k e =
+      let o = refused c q k e in
+      record { session = o .0 ∙ h .session; holds = subst (Holds plan draw len i M vec) (sym (o .1)) (h .holds) }
+
+  -- any that is not
+  abbrev After : Call → Post → Type 0
+  After c = Stands plan draw len i (marksAfter plan draw c M) (vectorsAfter plan draw c M vec)
+
+  pub stands-after : (c : Call) → refusalOf c q ≡ 0 → Fits plan draw i M vec c → After c (after (perform c q))
+  stands-after c =
+      subst (λ (x : Post). refusalOf c x ≡ 0 → Fits plan draw i M vec c → After c (after (perform c x))) is-p0
+      (λ z fit. subst (After c) (sym (done c p0' z)) (moved H (U .is-draw) (U .high) c z fit))
+
+  -- what it sends
+  pub says : (c : Call) → refusalOf c q ≡ 0 → SaysAll plan draw i vec (sends c) (perform c q .lent)
+  says c =
+      subst (λ (x : Post). refusalOf c x ≡ 0 → SaysAll plan draw i vec (sends c) (perform c x .lent)) is-p0
+      (λ z. subst (SaysAll plan draw i vec (sends c)) (sym (written-is c p0' z)) (says-at H c z))

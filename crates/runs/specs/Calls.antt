@@ -56,46 +56,46 @@ module _ {K : Kinds} where
   abbrev pub masks : (a b r : ℕ) (lent : K .Lent) → CallOf K
   masks a b r lent = CallOf.masks (record { a = a; b = b; r = r; lent = lent })
 
-  abbrev pub finish : (r : ℕ) (blocks blocks' : K .Record) → CallOf K
-  finish r blocks blocks' = CallOf.finish (record { r = r; blocks = blocks; blocks' = blocks' })
+  abbrev pub finish : (r : ℕ) (blocksA blocksB : K .Record) → CallOf K
+  finish r blocksA blocksB = CallOf.finish (record { r = r; blocksA = blocksA; blocksB = blocksB })
 
 abbrev pub message : (r : ℕ) (lent : List ℕ) → Call
 message r lent = CallOf.message (record { r = r; lent = lent; heard = tt })
 
 -- What a call leaves: its answer, the rows, and what stands in the list it was lent to write into, a part for each line that it
 -- sends (none where it was lent no list).
-pub record Left : Type 0 where
+pub record Performed : Type 0 where
   pub answer : Answer
   pub rows : List ℕ
   pub lent : List (List ℕ)
 
-abbrev pub left : Answer → List ℕ → List (List ℕ) → Left
-left answer rows lent = record { answer = answer; rows = rows; lent = lent }
+abbrev pub performed : Answer → List ℕ → List (List ℕ) → Performed
+performed answer rows lent = record { answer = answer; rows = rows; lent = lent }
 
 -- Each call by the definitions that its contract cites.
-unfoldable pub perform : Call → Post → Left
+unfoldable pub perform : Call → Post → Performed
 perform (CallOf.loadRow x) q =
-    left (loadRowAnswer (q .session) (q .rows) (x .r) (x .pack)) (loadRowRows (q .session) (q .rows) (x .r) (x .pack)) []
+    performed (loadRowAnswer (q .session) (q .rows) (x .r) (x .pack)) (loadRowRows (q .session) (q .rows) (x .r) (x .pack)) []
 perform (CallOf.loadTriple x) q =
-    left (loadTripleAnswer (q .session) (q .rows) (x .r) (x .pack)) (loadTripleRows (q .session) (q .rows) (x .r) (x .pack)) []
+    performed (loadTripleAnswer (q .session) (q .rows) (x .r) (x .pack)) (loadTripleRows (q .session) (q .rows) (x .r) (x .pack)) []
 perform (CallOf.deal x) q =
-    left (dealAnswer (q .session) (q .rows) (x .r) (x .c)) (dealRows (q .session) (q .rows) (x .r) (x .c)) []
+    performed (dealAnswer (q .session) (q .rows) (x .r) (x .c)) (dealRows (q .session) (q .rows) (x .r) (x .c)) []
 perform (CallOf.message x) q =
-    left (messageAnswer (q .session) (q .rows) (x .r) (x .lent)) (q .rows) (messageOut (q .session) (q .rows) (x .r) (x .lent) ∷ [])
-perform (CallOf.opening x) q = left (openAnswer (q .session) (q .rows) (x .r) (x .blocks)) (q .rows) []
+    performed (messageAnswer (q .session) (q .rows) (x .r) (x .lent)) (q .rows) (messageOut (q .session) (q .rows) (x .r) (x .lent) ∷ [])
+perform (CallOf.opening x) q = performed (openAnswer (q .session) (q .rows) (x .r) (x .blocks)) (q .rows) []
 perform (CallOf.linear x) q =
-    left (linearAnswer (q .session) (q .rows) (x .r) (x .a) (x .b) (x .scale) (x .fee))
+    performed (linearAnswer (q .session) (q .rows) (x .r) (x .a) (x .b) (x .scale) (x .fee))
     (linearRows (q .session) (q .rows) (x .r) (x .a) (x .b) (x .scale) (x .fee)) []
 perform (CallOf.masks x) q =
-    left (masksAnswer (q .session) (q .rows) (x .a) (x .b) (x .r) (x .lent)) (q .rows)
+    performed (masksAnswer (q .session) (q .rows) (x .a) (x .b) (x .r) (x .lent)) (q .rows)
     (masksOut (q .session) (q .rows) (x .a) (x .b) (x .r) (x .lent) ∷ [])
 perform (CallOf.finish x) q =
-    left (finishAnswer (q .session) (q .rows) (x .r) (x .blocks) (x .blocks'))
-    (finishRows (q .session) (q .rows) (x .r) (x .blocks) (x .blocks')) []
+    performed (finishAnswer (q .session) (q .rows) (x .r) (x .blocksA) (x .blocksB))
+    (finishRows (q .session) (q .rows) (x .r) (x .blocksA) (x .blocksB)) []
 
 -- The post after a call; and a new one, "made with the draw's n and t, its own number and the check point the draw gives it,
 -- and with any fixed numbers in the row list".
-abbrev pub after : Left → Post
+abbrev pub after : Performed → Post
 after o = record { session = o .answer .session; rows = o .rows }
 
 unfoldable pub newPost : Plan → Draw → List ℕ → ℕ → Post
@@ -122,7 +122,7 @@ sentBy i k [] parts = []
 sentBy i k (s ∷ ss) [] = []
 sentBy i k (s ∷ ss) (xs ∷ parts) = sentIf k (lineOf i s xs) (sentBy i k ss parts)
 
-abbrev pub broadcast : ℕ → Call → Left → List (List ℕ)
+abbrev pub broadcast : ℕ → Call → Performed → List (List ℕ)
 broadcast i c o = sentBy i (o .answer .refusal) (sends c) (o .lent)
 
 -- A record that 5 and 8 let pass.

@@ -46,8 +46,8 @@ pub record ForMasks (K : Kinds) : Type 0 where
 
 pub record ForFinish (K : Kinds) : Type 0 where
   pub r : ℕ
-  pub blocks : K .Record
-  pub blocks' : K .Record
+  pub blocksA : K .Record
+  pub blocksB : K .Record
 
 pub data CallOf (K : Kinds) : Type 0 where
   loadRow : ForLoad K → CallOf K
@@ -132,7 +132,7 @@ outline (opening x) = acting ((opens (x .r), x .blocks) ∷ [])
 outline (linear x) = acting ((sums (x .r) (once (x .a)) (times (x .scale) (x .b) ∷ fee (x .fee) ∷ []), tt) ∷ [])
 outline (masks x) =
     record { moves = (factors (x .a) (x .b) (x .r), tt) ∷ []; sends = itsMasks (x .a) (x .b) (x .r) ∷ []; heard = [] }
-outline (finish x) = acting ((multiplies (x .r), (x .blocks, x .blocks')) ∷ [])
+outline (finish x) = acting ((multiplies (x .r), (x .blocksA, x .blocksB)) ∷ [])
 
 abbrev pub moves : {K : Kinds} → CallOf K → List (Move K)
 moves c = outline c .moves
@@ -173,4 +173,4 @@ filled f (message x) = message (record { r = x .r; lent = f .lent (x .lent); hea
 filled f (opening x) = opening (record { r = x .r; blocks = f .blocks (x .blocks) })
 filled f (linear x) = linear x
 filled f (masks x) = masks (record { a = x .a; b = x .b; r = x .r; lent = f .lent (x .lent) })
-filled f (finish x) = finish (record { r = x .r; blocks = f .blocks (x .blocks); blocks' = f .blocks (x .blocks') })
+filled f (finish x) = finish (record { r = x .r; blocksA = f .blocks (x .blocksA); blocksB = f .blocks (x .blocksB) })

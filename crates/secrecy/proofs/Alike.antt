@@ -12,7 +12,7 @@ use Rattle.session.specs.Sessions.{answer}
 use Rattle.vectors.specs.Vector.{Vector, number, numbers}
 use Rattle.runs.specs.Draws.{pointOf}
 use Rattle.runs.specs.Outline.{Act, masks, acts, Sending, itsOpening, itsMasks, sends}
-use Rattle.runs.specs.Calls.{Post, Call, Left, perform, sentBy, broadcast, lineOf, Among}
+use Rattle.runs.specs.Calls.{Post, Call, Performed, perform, sentBy, broadcast, lineOf, Among}
 use Rattle.runs.proofs.Outlines.{every-all}
 use Rattle.runs.proofs.Marks.{Marks, Sized, markOf, less, rawVector, Masking, of, masking, marksBy}
 use Rattle.runs.proofs.Outcomes.{refusalOf, refusal-is, silent}
@@ -26,7 +26,8 @@ use Rattle.secrecy.specs.Book.{Book, enteredBy, AgreesBy, Agrees}
 use Rattle.secrecy.proofs.Moves.{acts-at, sends-at}
 use Rattle.secrecy.proofs.Entered.{place-by}
 use Rattle.secrecy.proofs.Near.{Near, near-plusTimes, near-same}
-use Rattle.secrecy.proofs.Pair.{Two, Moments, Pair, apart, FitBy, FitAll, place-number, masks-number, Fit}
+use Rattle.secrecy.proofs.State.{standAt}
+use Rattle.secrecy.proofs.Pair.{Two, runOne, runTwo, Moments, momentOne, momentTwo, Pair, apart, FitBy, FitAll, place-number, masks-number, Fit}
 use Rattle.secrecy.proofs.Answers.{is-p1, answers-same}
 
 -- masks among the acts are those that were reckoned with: the numbers of held rows stay
@@ -112,9 +113,9 @@ module _ (T : Two) (m : Moments) (R : Pair T m) (i : ℕ) (lo : 1 ≤ i) (hi : i
   lines-of c zero zero z z' e agree fit =
       parts-same (acts c) (al .moving) (fit refl) (sends c) _ _ (al .sending)
       (subst (λ (ss : List Sending). SaysAll (T .plan) (T .d) i vec ss (perform (c1 c) (q i) .lent)) (sends-at (T .plan) (T .d) (T .u) lines i c)
-      (says (T .plan) (T .d) (T .is-draw) (T .len i) i hi M vec (q i) (R .one .posts i lo hi) (c1 c) z))
+      (says (standAt (runOne T) (momentOne m) (R .one) i lo hi) (c1 c) z))
       (subst (λ (ss : List Sending). SaysAll (T .plan) (T .d') i vec' ss (perform (c2 c) (q' i) .lent)) (sends-at (T .plan) (T .d') (T .u') lines i c)
-      (says (T .plan) (T .d') (T .is-draw') (T .len i) i hi M vec' (q' i) (R .two .posts i lo hi) (c2 c) z'))
+      (says (standAt (runTwo T) (momentTwo m) (R .two) i lo hi) (c2 c) z'))
       (every-all (AgreesBy 0 b b') (sends c) agree)
     where
       al : Allowed (acts c) (sends c) M
@@ -123,7 +124,7 @@ module _ (T : Two) (m : Moments) (R : Pair T m) (i : ℕ) (lo : 1 ≤ i) (hi : i
           (subst (λ (todo : List Act). Allowed todo (sends (c1 c)) M) (acts-at (T .plan) (T .d) (T .u) lines i c)
           (allowed (T .plan) (T .d) i M (q i .rows) (c1 c) (subst (λ (x : Post). refusalOf (c1 c) x ≡ 0) (is-p1 T m R i lo hi) z)))
 
-  pub record Same (o o' : Left) (c c' : Call) : Type 0 where
+  pub record Same (o o' : Performed) (c c' : Call) : Type 0 where
     pub refusal : o .answer .refusal ≡ o' .answer .refusal
     pub value : o .answer .value ≡ o' .answer .value
     pub lines-same : broadcast i c o ≡ broadcast i c' o'

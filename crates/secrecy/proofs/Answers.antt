@@ -1,31 +1,28 @@
 -- One post in the two runs: the same refusal, the same number opened.
-use Prim.Native.Nat.{ℕ, zero, suc, _+_, _*_, _≤_, _<_}
+use Prim.Native.Nat.{ℕ, zero, suc, _≤_}
 use mathlib.Core.Path.{_≡_, refl, sym, _∙_, ap, subst}
 use mathlib.Core.Bool.{true, false}
-use mathlib.Core.Logic.{_≢_, _⊎_, inl, inr}
-use mathlib.Core.List.{List, [], _∷_}
+use mathlib.Core.Logic.{inl, inr}
+use mathlib.Core.List.{List}
 use native.Mathlib.Omega.{arith}
-use borrow.Author.Tests.{ltb-false}
-use Rattle.refusal.specs.Refusal.{_when_, outcome, AllFail}
-use Rattle.refusal.proofs.Laws.{all-fail}
-use Rattle.refusal.proofs.Groups.{fail-parts}
+use Rattle.refusal.specs.Refusal.{first, outcome}
 use Rattle.session.specs.declared.Session.{Session}
 use Rattle.session.specs.Sessions.{answer}
 use Rattle.session.specs.Rows.{rowAt}
 use Rattle.sharing.specs.Deal.{dealRefusal}
-use Rattle.opening.specs.Walking.{tooFew, opened}
-use Rattle.opening.specs.Opening.{openRefusal, openChecks, openTests}
+use Rattle.opening.specs.Walking.{opened}
+use Rattle.opening.specs.Opening.{openRefusal}
+use Rattle.opening.proofs.Passed.{walkTests, walk-few, OpenChecked, row-opened}
 use Rattle.vectors.specs.Vector.{number}
-use Rattle.runs.specs.Draws.{pointOf, rawPack, triplePack}
+use Rattle.runs.specs.Draws.{rawPack, triplePack}
 use Rattle.runs.specs.Outline.{loadRow, loadTriple, deal, message, opening, linear, masks, finish, aRecord}
-use Rattle.runs.specs.Calls.{Post, Call, Left, perform}
-use Rattle.runs.proofs.Marks.{markOf, sessionAt}
-use Rattle.runs.proofs.Outcomes.{conditionAt, fails, Doing, does, refusalOf, refusal-is, value-is}
-use Rattle.runs.proofs.Holds.{Holds}
+use Rattle.runs.specs.Calls.{Post, Call, Performed, perform}
+use Rattle.runs.proofs.Marks.{sessionAt}
+use Rattle.runs.proofs.Outcomes.{Doing, does, refusalOf, refusal-is, value-is}
+use Rattle.runs.proofs.Holds.{wide}
 use Rattle.runs.proofs.Steps.{postAt, named}
 use Rattle.secrecy.specs.Steps.{Step, Pack, Number, Record, own, sent, packed, dealtWith, callAt, dealtNumber}
 use Rattle.secrecy.specs.Rules.{RuleWith, Rule}
-use Rattle.secrecy.proofs.Near.{Near}
 use Rattle.secrecy.proofs.Link.{Alike}
 use Rattle.secrecy.proofs.Twins as Twins
 use Rattle.secrecy.proofs.Pair as Pairs
@@ -47,7 +44,7 @@ module _ (T : Two) (m : Moments) (R : Pair T m)
   s = sessionAt (T .plan) (T .d) i M
 
   abbrev W : ℕ
-  W = T .plan .t + 1 + 2 * T .plan .n
+  W = wide (T .plan)
 
   abbrev l : List ℕ
   l = q i .rows
@@ -75,7 +72,7 @@ module _ (T : Two) (m : Moments) (R : Pair T m)
       named (T .plan) (T .d') (T .len i) i M vec' (q' i) (R .two .posts i lo hi)
       ∙ ap
       (λ (f : ℕ → ℕ). record {
-        session = record { n = T .plan .n; t = T .plan .t; post = i; point = f i; marks = M .marks; left = M .left; right = M .right };
+        session = record { n = T .plan .n; t = T .plan .t; post = i; point = f i; marks = M .marks; «factor_a» = M .factor-a; «factor_b» = M .factor-b };
         rows = q' i .rows;
       })
       (T .link .points)
@@ -85,52 +82,44 @@ module _ (T : Two) (m : Moments) (R : Pair T m)
 
   -- ---- the refusal
 
-  abbrev near : (r : ℕ) → r < 96 → markOf M r ≢ 0 → Near (T .plan .n) (T .plan .t + 1) (pointOf (T .d)) (T .K) (vec r) (vec' r)
-  near = R .near
+  abbrev pub twin : Twins.Twin
+  twin = record {
+    plan = T .plan;
+    draw = T .d;
+    K = T .K;
+    marks = M;
+    vec = vec;
+    vec' = vec';
+    near = R .near;
+    post = i;
+    low = lo;
+    high = hi;
+    len = T .len i;
+    rows = l;
+    rows' = l';
+    holds = Pairs.h T m R i lo hi;
+    holds' = Pairs.h' T m R i lo hi;
+  }
 
-  abbrev h : Holds (T .plan) (T .d) (T .len i) i M vec l
-  h = Pairs.h T m R i lo hi
+  module _ (r : ℕ) (blocks : Record) (rule : RuleWith (T .plan) (openRefusal s l r (blocks i lines)) lines (aRecord r) blocks) where
+    row-is : OpenChecked s l r (blocks i lines) → number (vec r) ≡ number (vec' r) → rowAt W l r ≡ rowAt W l' r
+    row-is f = Twins.row-same twin r 1 (f .placed .row-in) (f .placed .is-held)
 
-  abbrev h' : Holds (T .plan) (T .d) (T .len i) i M vec' l'
-  h' = Pairs.h' T m R i lo hi
+    walk-same : OpenChecked s l r (blocks i lines)
+        → first (walkTests s (rowAt W l r) (blocks i lines)) ≡ first (walkTests s (rowAt W l' r) (blocks i lines))
+    walk-same f = elim (few-same T m R i lo hi r blocks rule f) [
+      | inl e ↦ ap (λ (x : List ℕ). first (walkTests s x (blocks i lines))) (row-is f e)
+      | inr e ↦ walk-few s (rowAt W l r) (blocks i lines) (e .0) ∙ sym (walk-few s (rowAt W l' r) (blocks i lines) (e .1))
+    ]
 
-  few-same-at : (r : ℕ) (blocks : Record) → RuleWith (T .plan) (openRefusal s l r (blocks i lines)) lines (aRecord r) blocks
-      → AllFail (openChecks s l r (blocks i lines)) → tooFew s (rowAt W l r) (blocks i lines) ≡ tooFew s (rowAt W l' r) (blocks i lines)
-  few-same-at r blocks rule f = go (few-same T m R i lo hi r blocks rule f)
-    where
-      g : (k : ℕ) → conditionAt (openChecks s l r (blocks i lines)) k ≡ false
-      g = fails (openChecks s l r (blocks i lines)) f
-
-      go : (number (vec r) ≡ number (vec' r))
-          ⊎ ((tooFew s (rowAt W l r) (blocks i lines) ≡ true) × (tooFew s (rowAt W l' r) (blocks i lines) ≡ true))
-          → tooFew s (rowAt W l r) (blocks i lines) ≡ tooFew s (rowAt W l' r) (blocks i lines)
-      go (inl e) =
-          ap (λ (x : List ℕ). tooFew s x (blocks i lines))
-          (Twins.row-same (T .plan) (T .d) (T .K) M vec vec' near i lo hi (T .len i) l l' h h' r 1 (ltb-false 95 r (g 6)) (g 7) e)
-      go (inr (x, y)) = x ∙ sym y
-
-  -- ---- the number opened
-
-  opened-same : (r : ℕ) (blocks : Record) → RuleWith (T .plan) (openRefusal s l r (blocks i lines)) lines (aRecord r) blocks
-      → openRefusal s l r (blocks i lines) ≡ 0 → opened s (rowAt W l r) (blocks i lines) ≡ opened s (rowAt W l' r) (blocks i lines)
-  unfolding openRefusal
-  opened-same r blocks rule z = go (few-same T m R i lo hi r blocks rule (parts .0))
-    where
-      parts : AllFail (openChecks s l r (blocks i lines)) × (AllFail (9 when tooFew s (rowAt W l r) (blocks i lines) ∷ []))
-      parts =
-          fail-parts (openChecks s l r (blocks i lines)) (9 when tooFew s (rowAt W l r) (blocks i lines) ∷ [])
-          (all-fail (openTests s l r (blocks i lines)) tt z)
-
-      g : (k : ℕ) → conditionAt (openChecks s l r (blocks i lines)) k ≡ false
-      g = fails (openChecks s l r (blocks i lines)) (parts .0)
-
-      go : (number (vec r) ≡ number (vec' r))
-          ⊎ ((tooFew s (rowAt W l r) (blocks i lines) ≡ true) × (tooFew s (rowAt W l' r) (blocks i lines) ≡ true))
-          → opened s (rowAt W l r) (blocks i lines) ≡ opened s (rowAt W l' r) (blocks i lines)
-      go (inl e) =
-          ap (λ (x : List ℕ). opened s x (blocks i lines))
-          (Twins.row-same (T .plan) (T .d) (T .K) M vec vec' near i lo hi (T .len i) l l' h h' r 1 (ltb-false 95 r (g 6)) (g 7) e)
-      go (inr (x, y)) = let w : false ≡ true = sym (parts .1 .0) ∙ x in let v : _≡_ {A = ℕ} 0 1 = cc in absurd (omega arith)
+    -- the number opened
+    opened-same : openRefusal s l r (blocks i lines) ≡ 0 → opened s (rowAt W l r) (blocks i lines) ≡ opened s (rowAt W l' r) (blocks i lines)
+    opened-same z =
+        let o = row-opened s l r (blocks i lines) z in
+        elim (few-same T m R i lo hi r blocks rule (o .checked)) [
+          | inl e ↦ ap (λ (x : List ℕ). opened s x (blocks i lines)) (row-is (o .checked) e)
+          | inr e ↦ (let w : false ≡ true = sym (o .enough) ∙ e .0 in let v : _≡_ {A = ℕ} 0 1 = cc in absurd (omega arith))
+        ]
 
   -- the refusal, and the number where it is 0
   abbrev Answering : Doing → Doing → Type 0
@@ -150,26 +139,26 @@ module _ (T : Two) (m : Moments) (R : Pair T m)
 
   alike : (c : Step) → Rule (T .plan) c (refusalOf (c1 c) p1) lines → Answering (does (c1 c) p1) (does (c2 c) p2)
   alike (loadRow x) rule =
-      (Twins.load-same (T .plan) (T .d) (T .K) M vec vec' near i lo hi (T .len i) l l' h h' (x .r) _ _ (raw-same (x .pack)), λ z. refl)
+      (Twins.load-same twin (x .r) _ _ (raw-same (x .pack)), λ z. refl)
   alike (loadTriple x) rule =
-      (Twins.triple-same (T .plan) (T .d) (T .K) M vec vec' near i lo hi (T .len i) l l' h h' (x .r) _ _ (triple-same (x .pack)), λ z. refl)
+      (Twins.triple-same twin (x .r) _ _ (triple-same (x .pack)), λ z. refl)
   alike (deal x) rule = (
-    Twins.deal-same (T .plan) (T .d) (T .K) M vec vec' near i lo hi (T .len i) l l' h h' (x .r) (dealtWith (x .c) (dealtNumber (T .plan) (T .d) (T .u) (x .r)))
+    Twins.deal-same twin (x .r) (dealtWith (x .c) (dealtNumber (T .plan) (T .d) (T .u) (x .r)))
         ∙ ap (dealRefusal s l' (x .r)) (number-same (x .r) (x .c)),
     λ z. refl,
   )
   alike (message x) rule =
-      (Twins.message-same (T .plan) (T .d) (T .K) M vec vec' near i lo hi (T .len i) l l' h h' (x .r) (x .lent i), λ z. refl)
+      (Twins.message-same twin (x .r) (x .lent i), λ z. refl)
   alike (opening x) rule = (
-    Twins.open-same (T .plan) (T .d) (T .K) M vec vec' near i lo hi (T .len i) l l' h h' (x .r) (x .blocks i lines) (few-same-at (x .r) (x .blocks) rule),
+    Twins.open-same twin (x .r) (x .blocks i lines) (walk-same (x .r) (x .blocks) rule),
     opened-same (x .r) (x .blocks) rule,
   )
   alike (linear x) rule =
-      (Twins.linear-same (T .plan) (T .d) (T .K) M vec vec' near i lo hi (T .len i) l l' h h' (x .r) (x .a) (x .b) (x .scale) (x .fee), λ z. refl)
+      (Twins.linear-same twin (x .r) (x .a) (x .b) (x .scale) (x .fee), λ z. refl)
   alike (masks x) rule =
-      (Twins.masks-same (T .plan) (T .d) (T .K) M vec vec' near i lo hi (T .len i) l l' h h' (x .a) (x .b) (x .r) (x .lent i), λ z. refl)
+      (Twins.masks-same twin (x .a) (x .b) (x .r) (x .lent i), λ z. refl)
   alike (finish x) rule = (
-    Twins.finish-same (T .plan) (T .d) (T .K) M vec vec' near i lo hi (T .len i) l l' h h' (x .r) (x .blocks i lines) (x .blocks' i lines)
+    Twins.finish-same twin (x .r) (x .blocksA i lines) (x .blocksB i lines)
         (wait-numbers T m R (x .r)),
     λ z. refl,
   )
@@ -191,5 +180,5 @@ module _ (T : Two) (m : Moments) (R : Pair T m)
       (subst (λ (y : Post). Rule (T .plan) c (refusalOf (c1 c) p1) lines → Answered (perform (c1 c) p1) (perform (c2 c) y)) (sym is-p2)
       (λ rule. (refusal-is (c1 c) p1 ∙ refusals c rule ∙ sym (refusal-is (c2 c) p2), values c rule)))
     where
-      Answered : Left → Left → Type 0
+      Answered : Performed → Performed → Type 0
       Answered o o' = (o .answer .refusal ≡ o' .answer .refusal) × (o .answer .value ≡ o' .answer .value)

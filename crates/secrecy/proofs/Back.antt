@@ -20,16 +20,16 @@ use Rattle.secrecy.proofs.Moved.{each, each-back, lists-nothing, lists-
 open CommutativeRing 𝓡 using (neg)
 
 module _ (plan : Plan) (group : List ℕ) (u u' : Secrets) (Δ Δ' : ℕ → Gaps) (d : Draw) (sound : Sound plan)
-    (few : Group plan group) (is : IsDraw plan d) (left : (r : ℕ) → Δ' r .left ≡ neg (Δ r .left))
-    (right : (r : ℕ) → Δ' r .right ≡ neg (Δ r .right)) where
+    (few : Group plan group) (is : IsDraw plan d) (factor-a : (r : ℕ) → Δ' r .factor-a ≡ neg (Δ r .factor-a))
+    (factor-b : (r : ℕ) → Δ' r .factor-b ≡ neg (Δ r .factor-b)) where
   abbrev fl : ℕ → Element
   fl = layout plan group d
 
   abbrev forth : ℕ → List ℕ → List ℕ
-  forth r = movedTriple (rowLength plan) fl (Δ r .left) (Δ r .right)
+  forth r = movedTriple (rowLength plan) fl (Δ r .factor-a) (Δ r .factor-b)
 
   abbrev hither : ℕ → List ℕ → List ℕ
-  hither r = movedTriple (rowLength plan) fl (Δ' r .left) (Δ' r .right)
+  hither r = movedTriple (rowLength plan) fl (Δ' r .factor-a) (Δ' r .factor-b)
 
   raws-back : each (λ r. shift fl (secretGap u' u r)) (each (λ r. shift fl (secretGap u u' r)) (d .raws)) ≡ d .raws
   unfolding Same
@@ -47,12 +47,12 @@ module _ (plan : Plan) (group : List ℕ) (u u' : Secrets) (Δ Δ' : ℕ → Gap
       let empty : getD (d .triples) r [] ≡ [] =
       lists-nothing (tripleLength plan) (d .triples) (is .triples) r (ap (λ (b : Bool). cond b (3 * rowLength plan - 1) 0) e) in
       ap (λ (l : List ℕ). hither r (forth r l)) empty
-      ∙ ap (hither r) (triple-none (rowLength plan) fl (Δ r .left) (Δ r .right))
-      ∙ triple-none (rowLength plan) fl (Δ' r .left) (Δ' r .right) ∙ sym empty
+      ∙ ap (hither r) (triple-none (rowLength plan) fl (Δ r .factor-a) (Δ r .factor-b))
+      ∙ triple-none (rowLength plan) fl (Δ' r .factor-a) (Δ' r .factor-b) ∙ sym empty
   triple-here r row true e =
-      triple-back (rowLength plan) fl (Δ r .left) (Δ r .right) (Δ' r .left) (Δ' r .right) (getD (d .triples) r [])
+      triple-back (rowLength plan) fl (Δ r .factor-a) (Δ r .factor-b) (Δ' r .factor-a) (Δ' r .factor-b) (getD (d .triples) r [])
       (triple-long plan d is r row e) (row-some plan) (layout-unit plan group d sound few is)
-      (lists-elements (tripleLength plan) (d .triples) (is .triples) r) (left r) (right r)
+      (lists-elements (tripleLength plan) (d .triples) (is .triples) r) (factor-a r) (factor-b r)
 
   triples-back : each hither (each forth (d .triples)) ≡ d .triples
   triples-back =

@@ -13,7 +13,7 @@ use Rattle.vectors.specs.Vector.{Vector, numbers}
 use Rattle.vectors.proofs.Linear.{length-numbers}
 use Rattle.runs.specs.Outline.{Act, Sending, itsOpening, itsMasks, moves, acts, sends}
 use Rattle.runs.specs.Calls.{Post, Call, perform, sentBy, broadcast, sentIf, lineOf, openingLine, masksLine, Among}
-use Rattle.runs.proofs.Marks.{Marks, markOf, leftOf, rightOf, less, of, masking, marksAll}
+use Rattle.runs.proofs.Marks.{Marks, markOf, rememberedA, rememberedB, less, of, masking, marksAll}
 use Rattle.runs.proofs.Outcomes.{refusalOf, refusal-is}
 use Rattle.runs.proofs.Steps.{named, Says, SaysAll, says}
 use Rattle.runs.proofs.Lines.{same-opening, same-masks, not-both, numbers-elements}
@@ -23,7 +23,7 @@ use Rattle.runs.proofs.Allowed.{allowed}
 use Rattle.secrecy.specs.Steps.{Step, callAt}
 use Rattle.secrecy.specs.Seen.{posts, joined}
 use Rattle.secrecy.proofs.Entered.{Past}
-use Rattle.secrecy.proofs.State.{Run, Moment, AnOpening, AMask, maskNumbers, State, facts-on}
+use Rattle.secrecy.proofs.State.{Run, Moment, AnOpening, AMask, maskNumbers, State, standAt, facts-on}
 use Rattle.secrecy.specs.Rules.{Rule}
 use Rattle.secrecy.proofs.Moves.{numberAt, vectorsThen, acts-at, sends-at}
 use Rattle.runs.proofs.Start.{sizes}
@@ -180,7 +180,7 @@ module _ (C : Run) (m : Moment) (S : State C m) where
       said : SaysAll plan draw i vec (sends c) (perform (call i c) (q i) .lent)
       said =
           subst (λ (ss : List Sending). SaysAll plan draw i vec ss (perform (call i c) (q i) .lent)) (sends-at plan draw u lines i c)
-          (says plan draw (C .is-draw) (len i) i hi M vec (q i) (S .posts i lo hi) (call i c) z)
+          (says (standAt C m S i lo hi) (call i c) z)
 
       -- the lines, by the call of the list
       heard-line : (x : List ℕ) → Among x (broadcast i (call i c) (perform (call i c) (q i)))
@@ -214,8 +214,8 @@ module _ (C : Run) (m : Moment) (S : State C m) where
                     let t = S .facts r lr .triple (inl (ok .first)) in
                     let t' = facts-on C m S c al rule r lr .triple (inr five) in
                     let lf = k .1 five in
-                    let ea : vec x ≡ w (leftOf N r) = sym (ap w (lf .0) ∙ stays x (ok .a-held) .1) in
-                    let eb : vec y ≡ w (rightOf N r) = sym (ap w (lf .1) ∙ stays y (ok .b-held) .1) in
+                    let ea : vec x ≡ w (rememberedA N r) = sym (ap w (lf .0) ∙ stays x (ok .a-held) .1) in
+                    let eb : vec y ≡ w (rememberedB N r) = sym (ap w (lf .1) ∙ stays y (ok .b-held) .1) in
                     let e0 : vec r ≡ w r = t .is-a ∙ sym (t' .is-a) in
                     let e1 : vec (r + 1) ≡ w (r + 1) = t .is-b ∙ sym (t' .is-b) in
                     e ∙ (λ m. numbers (plan .t + 1) (less (ea m) (e0 m) .v j) ++ numbers (plan .t + 1) (less (eb m) (e1 m) .v j)),

@@ -16,8 +16,8 @@ use Rattle.secrecy.proofs.Near.{gap, Near, Unseen}
 
 -- by how much the two factors of a triple's product differ under the two lists of secrets
 pub record Gaps : Type 0 where
-  pub left : Element
-  pub right : Element
+  pub factor-a : Element
+  pub factor-b : Element
 
 -- two packs that no check tells apart
 pub record Alike (xs ys : List ℕ) : Type 0 where
@@ -34,8 +34,8 @@ module _ (plan : Plan) (group : List ℕ) (d d' : Draw) (u u' : Secrets) (K : Ve
     pub near-a : (r : ℕ) → r < 96 → plan .triple r ≡ true → Nearly (vectorA plan d r) (vectorA plan d' r)
     pub near-b : (r : ℕ) → r < 96 → plan .triple r ≡ true → Nearly (vectorB plan d r) (vectorB plan d' r)
     pub near-ab : (r : ℕ) → r < 96 → plan .triple r ≡ true → Nearly (vectorAB plan d r) (vectorAB plan d' r)
-    pub gap-a : (r : ℕ) → r < 96 → plan .triple r ≡ true → gap (vectorA plan d r) (vectorA plan d' r) ≡ Δ r .left
-    pub gap-b : (r : ℕ) → r < 96 → plan .triple r ≡ true → gap (vectorB plan d r) (vectorB plan d' r) ≡ Δ r .right
+    pub gap-a : (r : ℕ) → r < 96 → plan .triple r ≡ true → gap (vectorA plan d r) (vectorA plan d' r) ≡ Δ r .factor-a
+    pub gap-b : (r : ℕ) → r < 96 → plan .triple r ≡ true → gap (vectorB plan d r) (vectorB plan d' r) ≡ Δ r .factor-b
     pub deals : (r : ℕ) → dealtNumber plan d u r ≡ dealtNumber plan d' u' r
     pub raw-alike : (i k : ℕ) → i ≤ plan .n → Alike (rawPack plan d i k) (rawPack plan d' i k)
     pub triple-alike : (i k : ℕ) → i ≤ plan .n → Alike (triplePack plan d i k) (triplePack plan d' i k)

@@ -131,10 +131,10 @@ module _ (plan : Plan) (group : List ℕ) (u u' : Secrets) (Δ : ℕ → Gaps) (
 
   module _ (r : ℕ) (row : r < 96) (h : plan .triple r ≡ true) where
     near-a : Nearly (vectorA plan d r) (vectorA plan d' r)
-    near-a = nearly (Δ r .left) _ _ (moved-a plan group u u' Δ d sound few is r row h) (a-drawn plan d is r row h)
+    near-a = nearly (Δ r .factor-a) _ _ (moved-a plan group u u' Δ d sound few is r row h) (a-drawn plan d is r row h)
 
     near-b : Nearly (vectorB plan d r) (vectorB plan d' r)
-    near-b = nearly (Δ r .right) _ _ (moved-b plan group u u' Δ d sound few is r row h) (b-drawn plan d is r row h)
+    near-b = nearly (Δ r .factor-b) _ _ (moved-b plan group u u' Δ d sound few is r row h) (b-drawn plan d is r row h)
 
     near-ab : Nearly (vectorAB plan d r) (vectorAB plan d' r)
     near-ab = nearly (productGap plan Δ d r) _ _ (moved-ab plan group u u' Δ d sound few is r row h) (ab-drawn plan d is r row h)
@@ -271,8 +271,8 @@ module _ (plan : Plan) (group : List ℕ) (u u' : Secrets) (Δ : ℕ → Gaps) (
         near-a = near-a;
         near-b = near-b;
         near-ab = near-ab;
-        gap-a = λ r row h. gap-is (Δ r .left) _ _ (moved-a plan group u u' Δ d sound few is r row h) (a-drawn plan d is r row h);
-        gap-b = λ r row h. gap-is (Δ r .right) _ _ (moved-b plan group u u' Δ d sound few is r row h) (b-drawn plan d is r row h);
+        gap-a = λ r row h. gap-is (Δ r .factor-a) _ _ (moved-a plan group u u' Δ d sound few is r row h) (a-drawn plan d is r row h);
+        gap-b = λ r row h. gap-is (Δ r .factor-b) _ _ (moved-b plan group u u' Δ d sound few is r row h) (b-drawn plan d is r row h);
         deals = same-deals;
         raw-alike = raw-alike;
         triple-alike = triple-alike;

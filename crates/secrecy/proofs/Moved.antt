@@ -29,7 +29,7 @@ use Rattle.secrecy.proofs.Kernel.{kernel-constant}
 use Rattle.secrecy.proofs.Near.{Unseen, groupPosts, groupPoints, groupKernel, nonzero-nodes, kernel-unseen}
 use Rattle.secrecy.proofs.Shift.{shift, flat, flat-f, length-shift, elements-shift, shift-cons}
 use Rattle.secrecy.proofs.Link.{Gaps}
-use Rattle.secrecy.proofs.Triples.{nothing, shift-empty, cross, movedTriple, length-triple, elements-triple, triple-none, triple-first, triple-second, triple-rest, triple-left, triple-right}
+use Rattle.secrecy.proofs.Triples.{nothing, shift-empty, cross, movedTriple, length-triple, elements-triple, triple-none, triple-first, triple-second, triple-rest, triple-a, triple-b}
 open CommutativeRing 𝓡 using (add as _⊕_, mul as _⊗_, neg, zero as 0ᴱ, one as 1ᴱ)
 
 infixl 65 _⊕_
@@ -99,14 +99,14 @@ secretGap u u' r = element (u' r) ⊕ neg (element (u r))
 
 -- by how much the number of the third draw for a triple differs
 abbrev pub productGap : Plan → (ℕ → Gaps) → Draw → ℕ → Element
-productGap plan Δ d r = cross (rowLength plan) (Δ r .left) (Δ r .right) (tripleDraw d r)
+productGap plan Δ d r = cross (rowLength plan) (Δ r .factor-a) (Δ r .factor-b) (tripleDraw d r)
 
 module _ (plan : Plan) (group : List ℕ) (u u' : Secrets) (Δ : ℕ → Gaps) (d : Draw) where
   abbrev fl : ℕ → Element
   fl = layout plan group d
 
   abbrev atTriple : ℕ → List ℕ → List ℕ
-  atTriple r = movedTriple (rowLength plan) (layout plan group d) (Δ r .left) (Δ r .right)
+  atTriple r = movedTriple (rowLength plan) (layout plan group d) (Δ r .factor-a) (Δ r .factor-b)
 
   -- Where nothing was drawn the list is empty, and stays so.
   unfoldable pub moved : Draw
@@ -114,7 +114,7 @@ module _ (plan : Plan) (group : List ℕ) (u u' : Secrets) (Δ : ℕ → Gaps) (
       record {
         points = d .points;
         raws = each (λ r. shift (layout plan group d) (secretGap u u' r)) (d .raws);
-        triples = each (λ r. movedTriple (rowLength plan) (layout plan group d) (Δ r .left) (Δ r .right)) (d .triples);
+        triples = each (λ r. movedTriple (rowLength plan) (layout plan group d) (Δ r .factor-a) (Δ r .factor-b)) (d .triples);
       }
 
   pub moved-points : pointOf moved ≡ pointOf d
@@ -126,7 +126,7 @@ module _ (plan : Plan) (group : List ℕ) (u u' : Secrets) (Δ : ℕ → Gaps) (
   moved-raw = each-at (λ r. shift fl (secretGap u u' r)) (λ r. shift-empty _ _) (d .raws)
 
   pub moved-triple : (r : ℕ)
-      → tripleDraw moved r ≡ movedTriple (rowLength plan) (layout plan group d) (Δ r .left) (Δ r .right) (tripleDraw d r)
+      → tripleDraw moved r ≡ movedTriple (rowLength plan) (layout plan group d) (Δ r .factor-a) (Δ r .factor-b) (tripleDraw d r)
   unfolding moved tripleDraw
   moved-triple = each-at atTriple (λ r. triple-none _ _ _ _) (d .triples)
 
@@ -141,8 +141,8 @@ module _ (plan : Plan) (group : List ℕ) (u u' : Secrets) (Δ : ℕ → Gaps) (
             (λ r. elements-shift fl (secretGap u u' r)) (is .raws);
         triples =
             each-lists (tripleLength plan) atTriple (d .triples) (λ r. triple-none _ _ _ _)
-            (λ r. length-triple (rowLength plan) fl (Δ r .left) (Δ r .right))
-            (λ r. elements-triple (rowLength plan) fl (Δ r .left) (Δ r .right)) (is .triples);
+            (λ r. length-triple (rowLength plan) fl (Δ r .factor-a) (Δ r .factor-b))
+            (λ r. elements-triple (rowLength plan) fl (Δ r .factor-a) (Δ r .factor-b)) (is .triples);
       }
 
 -- ---- the kernel of a group of posts
@@ -187,15 +187,15 @@ module _ (plan : Plan) (group : List ℕ) (u u' : Secrets) (Δ : ℕ → Gaps) (
   long : rowLength plan + rowLength plan ≤ length (tripleDraw d r)
   long = triple-long plan d is r row drawn
 
-  pub moved-a : drawA plan (moved plan group u u' Δ d) r ≡ shift (layout plan group d) (Δ r .left) (drawA plan d r)
+  pub moved-a : drawA plan (moved plan group u u' Δ d) r ≡ shift (layout plan group d) (Δ r .factor-a) (drawA plan d r)
   moved-a =
       ap (take (rowLength plan)) (moved-triple plan group u u' Δ d r)
-      ∙ triple-first (rowLength plan) (layout plan group d) (Δ r .left) (Δ r .right) (tripleDraw d r) long
+      ∙ triple-first (rowLength plan) (layout plan group d) (Δ r .factor-a) (Δ r .factor-b) (tripleDraw d r) long
 
-  pub moved-b : drawB plan (moved plan group u u' Δ d) r ≡ shift (layout plan group d) (Δ r .right) (drawB plan d r)
+  pub moved-b : drawB plan (moved plan group u u' Δ d) r ≡ shift (layout plan group d) (Δ r .factor-b) (drawB plan d r)
   moved-b =
       ap (λ (l : List ℕ). take (rowLength plan) (drop (rowLength plan) l)) (moved-triple plan group u u' Δ d r)
-      ∙ triple-second (rowLength plan) (layout plan group d) (Δ r .left) (Δ r .right) (tripleDraw d r) long
+      ∙ triple-second (rowLength plan) (layout plan group d) (Δ r .factor-a) (Δ r .factor-b) (tripleDraw d r) long
 
   pub moved-ab : drawAB plan (moved plan group u u' Δ d) r ≡ shift (layout plan group d) (productGap plan Δ d r) (drawAB plan d r)
   unfolding Same
@@ -206,8 +206,8 @@ module _ (plan : Plan) (group : List ℕ) (u u' : Secrets) (Δ : ℕ → Gaps) (
       (product m0 m1) (drop (rowLength plan + rowLength plan) (tripleDraw d r)) (kernel-unit plan group d sound few is)
       (product-below m0 m1)
       (element-product m0 m1
-      ∙ ap₂ _⊗_ (triple-left (rowLength plan) fl a b (tripleDraw d r) long (row-some plan) unit)
-      (triple-right (rowLength plan) fl a b (tripleDraw d r) long (row-some plan) unit)
+      ∙ ap₂ _⊗_ (triple-a (rowLength plan) fl a b (tripleDraw d r) long (row-some plan) unit)
+      (triple-b (rowLength plan) fl a b (tripleDraw d r) long (row-some plan) unit)
       ∙ solve 𝓡 (element l0 ∷ element l1 ∷ a ∷ b ∷ []) ((A :+ C) :* (B :+ D)) (A :* B :+ (A :* D :+ B :* C :+ C :* D)) refl
       ∙ ap (λ (z : Element). z ⊕ productGap plan Δ d r) (sym (element-product l0 l1)))
     where
@@ -215,10 +215,10 @@ module _ (plan : Plan) (group : List ℕ) (u u' : Secrets) (Δ : ℕ → Gaps) (
       fl = layout plan group d
 
       a : Element
-      a = Δ r .left
+      a = Δ r .factor-a
 
       b : Element
-      b = Δ r .right
+      b = Δ r .factor-b
 
       unit : layout plan group d 0 ≡ 1ᴱ
       unit = layout-unit plan group d sound few is

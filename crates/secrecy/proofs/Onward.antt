@@ -20,7 +20,7 @@ use Rattle.secrecy.specs.Seen.{posts, joined, linesOf}
 use Rattle.secrecy.specs.Rules.{Rule}
 use Rattle.secrecy.specs.Book.{Book, AgreesBy, Agrees, entered}
 use Rattle.secrecy.proofs.Moves.{vectorsThen}
-use Rattle.secrecy.proofs.State.{Run, Moment, AnOpening, State, place-stays}
+use Rattle.secrecy.proofs.State.{Run, Moment, AnOpening, State, standAt, place-stays}
 use Rattle.runs.proofs.Start.{sizes}
 use Rattle.secrecy.proofs.Broadcasts.{among-append, among-posts, among-heard, allowed-at, MessageIn, new-opening}
 use Rattle.secrecy.proofs.Advance.{advance}
@@ -74,7 +74,7 @@ module _ (C : Run) (m : Moment) (c : Step) (k : ℕ)
       record {
         sized = S .sized;
         posts = λ i lo hi.
-            stands-refused plan draw (C .is-draw) (len i) i hi M vec (q i) (S .posts i lo hi) (callAt plan draw u lines i c) k (z i lo hi);
+            stands-refused (standAt C m S i lo hi) (callAt plan draw u lines i c) k (z i lo hi);
         facts = S .facts;
         openings = λ r j xs o a. S .openings r j xs o (subst (Among (openingLine r j xs)) as-before a);
         maskings = λ r j xs o a. S .maskings r j xs o (subst (Among (masksLine r j xs)) as-before a);

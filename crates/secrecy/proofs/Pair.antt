@@ -1,30 +1,28 @@
 -- Two runs side by side, of one list of calls, under the two lists of secrets and with the two draws: the same answers and lines.
-use Prim.Native.Nat.{ℕ, _+_, _*_, _≤_, _<_}
+use Prim.Native.Nat.{ℕ, _+_, _≤_, _<_}
 use mathlib.Core.Path.{_≡_, refl, sym, _∙_, ap, ap₂}
 use mathlib.Core.Bool.{Bool, true, false}
 use mathlib.Core.Logic.{_≢_, _⊎_, inl, inr}
 use mathlib.Core.List.{List, [], _∷_, _++_}
 use native.Mathlib.Decide.{ℕ-discrete}
 use native.Mathlib.Omega.{arith}
-use borrow.Author.Tests.{ltb-false}
 use Rattle.field.specs.Modulus.{p}
 use Rattle.field.specs.Algebra.{CommutativeRing}
 use Rattle.field.specs.Element.{Element, element}
 use Rattle.field.proofs.Elements.{𝓡, element-path}
 use Rattle.poly.specs.Counting.{All}
-use Rattle.refusal.specs.Refusal.{Test, _when_, first, AllFail}
-use Rattle.refusal.proofs.Laws.{equal}
+use Rattle.refusal.specs.Refusal.{_when_, first}
 use Rattle.session.specs.declared.Session.{Session}
 use Rattle.session.specs.Rows.{rowAt}
 use Rattle.opening.specs.Walking.{blockCoefficients, tooFew}
-use Rattle.opening.specs.Opening.{openRefusal, openChecks}
+use Rattle.opening.specs.Opening.{openRefusal}
+use Rattle.opening.proofs.Passed.{OpenChecked, open-walks}
 use Rattle.vectors.specs.Vector.{Vector, number, rowOf}
 use Rattle.runs.specs.Draws.{Plan, Draw, IsDraw, Sound, IsRaw, pointOf}
 use Rattle.runs.specs.Outline.{Act, aRecord, acts}
 use Rattle.runs.specs.Calls.{Proper, Post, openingLine, Among}
-use Rattle.runs.proofs.Marks.{Marks, Sized, markOf, leftOf, rightOf, sessionAt, less, maskA, maskB, Masking, none, of, masking}
-use Rattle.runs.proofs.Outcomes.{conditionAt, fails}
-use Rattle.runs.proofs.Holds.{Holds}
+use Rattle.runs.proofs.Marks.{Marks, Sized, markOf, rememberedA, rememberedB, sessionAt, less, maskVectorA, maskVectorB, Masking, none, of, masking}
+use Rattle.runs.proofs.Holds.{Holds, wide}
 use Rattle.runs.proofs.Records.{Present, block-many, block-low, alone}
 use Rattle.secrecy.specs.Steps.{Secrets, Step, Record}
 use Rattle.secrecy.specs.Rules.{RuleWith, Walks}
@@ -92,8 +90,8 @@ module _ (T : Two) where
     pub agreed : (r j : ℕ) (xs : List ℕ) → AnOpening (runOne T) r j xs → Among (openingLine r j xs) (m .lines)
         → m .book .place r ≡ m .book' .place r
     pub waiting : (r : ℕ) → r < 96 → markOf (m .marks) r ≡ 5
-        → (apart (m .book .factorA r) (m .book' .factorA r) ≡ T .Δ r .left)
-        × (apart (m .book .factorB r) (m .book' .factorB r) ≡ T .Δ r .right)
+        → (apart (m .book .factorA r) (m .book' .factorA r) ≡ T .Δ r .factor-a)
+        × (apart (m .book .factorB r) (m .book' .factorB r) ≡ T .Δ r .factor-b)
 
   -- what of it marks, vectors and books show
   pub record Core (M : Marks) (vec vec' : ℕ → Vector) (b b' : Book) : Type 0 where
@@ -102,7 +100,7 @@ module _ (T : Two) where
     pub two : Facts (T .plan) (T .d') (Held b') (Waits b') M vec'
     pub near : (r : ℕ) → r < 96 → markOf M r ≢ 0 → Near (T .plan .n) (T .plan .t + 1) (pointOf (T .d)) (T .K) (vec r) (vec' r)
     pub waiting : (r : ℕ) → r < 96 → markOf M r ≡ 5
-        → (apart (b .factorA r) (b' .factorA r) ≡ T .Δ r .left) × (apart (b .factorB r) (b' .factorB r) ≡ T .Δ r .right)
+        → (apart (b .factorA r) (b' .factorA r) ≡ T .Δ r .factor-a) × (apart (b .factorB r) (b' .factorB r) ≡ T .Δ r .factor-b)
 
   -- ---- numbers in the two runs
 
@@ -121,7 +119,7 @@ module _ (T : Two) where
     held-gap r lr two = ap₂ (λ (x y : Element). x ⊕ neg y) (held-two r lr two) (held-one r lr two)
 
     triple-gap : (r : ℕ) → r < 96 → (markOf M r ≡ 3) ⊎ (markOf M r ≡ 5)
-        → (gap (vec r) (vec' r) ≡ T .Δ r .left) × (gap (vec (r + 1)) (vec' (r + 1)) ≡ T .Δ r .right)
+        → (gap (vec r) (vec' r) ≡ T .Δ r .factor-a) × (gap (vec (r + 1)) (vec' (r + 1)) ≡ T .Δ r .factor-b)
     triple-gap r lr m =
         let x = K .one r lr .triple m in
         let y = K .two r lr .triple m in
@@ -129,7 +127,7 @@ module _ (T : Two) where
 
     -- the masks have one number in both runs
     core-masks : (r x y : ℕ) → r < 96 → (markOf M r ≡ 3) ⊎ (markOf M r ≡ 5) → x < 96 → markOf M x ≡ 2 → y < 96 → markOf M y ≡ 2
-        → apart (b .place x) (b' .place x) ≡ T .Δ r .left → apart (b .place y) (b' .place y) ≡ T .Δ r .right
+        → apart (b .place x) (b' .place x) ≡ T .Δ r .factor-a → apart (b .place y) (b' .place y) ≡ T .Δ r .factor-b
         → (number (less (vec x) (vec r)) ≡ number (less (vec' x) (vec' r)))
         × (number (less (vec y) (vec (r + 1))) ≡ number (less (vec' y) (vec' (r + 1))))
     core-masks r x y lr m lx hx ly hy ea eb =
@@ -139,18 +137,18 @@ module _ (T : Two) where
         )
 
     pub core-wait : (r : ℕ) → markOf M r ≡ 5 → r < 96
-        → (number (maskA M vec r) ≡ number (maskA M vec' r)) × (number (maskB M vec r) ≡ number (maskB M vec' r))
+        → (number (maskVectorA M vec r) ≡ number (maskVectorA M vec' r)) × (number (maskVectorB M vec r) ≡ number (maskVectorB M vec' r))
     core-wait r five lr =
         let w = K .one r lr .waiting five in
         let w' = K .two r lr .waiting five in
         let e = K .waiting r lr five in
-        core-masks r (leftOf M r) (rightOf M r) lr (inr five) (w .a-low) (w .a-held) (w .b-low) (w .b-held)
+        core-masks r (rememberedA M r) (rememberedB M r) lr (inr five) (w .a-low) (w .a-held) (w .b-low) (w .b-held)
         (ap₂ apart (sym (w .means .0)) (sym (w' .means .0)) ∙ e .0) (ap₂ apart (sym (w .means .1)) (sym (w' .means .1)) ∙ e .1)
 
   -- what the call's place in the list says of masks: they are those that the matching reckoned with
   abbrev pub FitBy : Masking → Book → Book → Type 0
   FitBy none b b' = Unit {0}
-  FitBy (of x y r) b b' = (apart (b .place x) (b' .place x) ≡ T .Δ r .left) × (apart (b .place y) (b' .place y) ≡ T .Δ r .right)
+  FitBy (of x y r) b b' = (apart (b .place x) (b' .place x) ≡ T .Δ r .factor-a) × (apart (b .place y) (b' .place y) ≡ T .Δ r .factor-b)
 
   abbrev pub FitAll : List Act → Book → Book → Type 0
   FitAll [] b b' = Unit {0}
@@ -166,13 +164,13 @@ module _ (T : Two) where
     place-number = core-place M vec vec' b b' core
 
     pub masks-number : (r x y : ℕ) → r < 96 → (markOf M r ≡ 3) ⊎ (markOf M r ≡ 5) → x < 96 → markOf M x ≡ 2 → y < 96 → markOf M y ≡ 2
-        → apart (b .place x) (b' .place x) ≡ T .Δ r .left → apart (b .place y) (b' .place y) ≡ T .Δ r .right
+        → apart (b .place x) (b' .place x) ≡ T .Δ r .factor-a → apart (b .place y) (b' .place y) ≡ T .Δ r .factor-b
         → (number (less (vec x) (vec r)) ≡ number (less (vec' x) (vec' r)))
         × (number (less (vec y) (vec (r + 1))) ≡ number (less (vec' y) (vec' (r + 1))))
     masks-number = core-masks M vec vec' b b' core
 
     pub wait-numbers : (r : ℕ) → markOf M r ≡ 5 → r < 96
-        → (number (maskA M vec r) ≡ number (maskA M vec' r)) × (number (maskB M vec r) ≡ number (maskB M vec' r))
+        → (number (maskVectorA M vec r) ≡ number (maskVectorA M vec' r)) × (number (maskVectorB M vec r) ≡ number (maskVectorB M vec' r))
     wait-numbers = core-wait M vec vec' b b' core
 
     abbrev pub Fit : Step → Type 0
@@ -204,45 +202,35 @@ module _ (T : Two) where
 
       -- an opening that comes to the walk finds one number in both runs, or nobody's polynomial but the own
       module _ (r : ℕ) (blocks : Record) (rule : RuleWith (T .plan) (openRefusal s l r (blocks i lines)) lines (aRecord r) blocks) where
-        walks-of : (xs : List Test) → AllFail xs → (t : Bool) → Walks (first (xs ++ (9 when t ∷ [])))
-        walks-of [] f true = inr refl
-        walks-of [] f false = inl refl
-        walks-of (k when true ∷ xs) f t = let z : _≡_ {A = ℕ} 0 1 = cc in absurd (omega arith)
-        walks-of (k when false ∷ xs) f t = walks-of xs (f .1) t
+        abbrev few-in : List ℕ → Bool
+        few-in rows = tooFew s (rowAt (wide (T .plan)) rows r) (blocks i lines)
 
-        walks : AllFail (openChecks s l r (blocks i lines)) → Walks (openRefusal s l r (blocks i lines))
-        unfolding openRefusal
-        walks f = walks-of (openChecks s l r (blocks i lines)) f (tooFew s (rowAt (T .plan .t + 1 + 2 * T .plan .n) l r) (blocks i lines))
+        walks-of : (t : Bool) → Walks (first (9 when t ∷ []))
+        walks-of true = inr refl
+        walks-of false = inl refl
+
+        walks : OpenChecked s l r (blocks i lines) → Walks (openRefusal s l r (blocks i lines))
+        walks f = rw (open-walks s l r (blocks i lines) f) (walks-of (few-in l))
 
         -- others' polynomials in the record were broadcast, so the number agrees
-        told : AllFail (openChecks s l r (blocks i lines)) → (j : ℕ) → 1 ≤ j → j ≤ T .plan .n → j ≢ i → Present s (blocks i lines) j
+        told : OpenChecked s l r (blocks i lines) → (j : ℕ) → 1 ≤ j → j ≤ T .plan .n → j ≢ i → Present s (blocks i lines) j
             → number (vec r) ≡ number (vec' r)
-        told f j lj hj ne there = place-number r lr two (R .agreed r j _ message (rule (walks f) i j lo hi lj hj ne there))
+        told f j lj hj ne there =
+            place-number r (omega (arith, f .placed .row-in)) (f .placed .is-held) (R .agreed r j _ message (rule (walks f) i j lo hi lj hj ne there))
           where
-            g : (k : ℕ) → conditionAt (openChecks s l r (blocks i lines)) k ≡ false
-            g = fails (openChecks s l r (blocks i lines)) f
-
-            lr : r < 96
-            lr = omega (arith, ltb-false 95 r (g 6))
-
-            two : markOf M r ≡ 2
-            two = equal (markOf M r) 2 (g 7)
-
             proper : Proper s (blocks i lines)
-            proper = record { long = equal _ _ (g 5); low = g 9 }
+            proper = record { long = f .placed .record-long; low = f .record-low }
 
             message : AnOpening (runOne T) r j (blockCoefficients (T .plan .t + 1) (blocks i lines) j)
             message =
                 record {
-                  row = ltb-false 95 r (g 6);
+                  row = f .placed .row-in;
                   post = (lj, hj);
                   many = block-many s (blocks i lines) j lj hj ne proper there;
                   low = block-low s (blocks i lines) j lj hj ne proper there;
                 }
 
-        pub few-same : AllFail (openChecks s l r (blocks i lines))
-            → (number (vec r) ≡ number (vec' r))
-            ⊎ ((tooFew s (rowAt (T .plan .t + 1 + 2 * T .plan .n) l r) (blocks i lines) ≡ true) × (tooFew s (rowAt (T .plan .t + 1 + 2 * T .plan .n) l' r) (blocks i lines) ≡ true))
+        pub few-same : OpenChecked s l r (blocks i lines) → (number (vec r) ≡ number (vec' r)) ⊎ ((few-in l ≡ true) × (few-in l' ≡ true))
         few-same f = go (ℕ-discrete (number (vec r) .0) (number (vec' r) .0))
           where
             t-low : 1 ≤ T .plan .t
@@ -252,7 +240,6 @@ module _ (T : Two) where
             nobody ne j lj hj ji there = ne (ap (λ (z : Element). z .0) (told f j lj hj ji there))
 
             go : Dec (number (vec r) .0 ≡ number (vec' r) .0)
-                → (number (vec r) ≡ number (vec' r))
-                ⊎ ((tooFew s (rowAt (T .plan .t + 1 + 2 * T .plan .n) l r) (blocks i lines) ≡ true) × (tooFew s (rowAt (T .plan .t + 1 + 2 * T .plan .n) l' r) (blocks i lines) ≡ true))
+                → (number (vec r) ≡ number (vec' r)) ⊎ ((few-in l ≡ true) × (few-in l' ≡ true))
             go (yes e) = inl (element-path _ _ e)
             go (no ne) = inr (alone s (blocks i lines) _ t-low (nobody ne), alone s (blocks i lines) _ t-low (nobody ne))

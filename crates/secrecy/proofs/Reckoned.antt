@@ -20,11 +20,11 @@ use Rattle.secrecy.proofs.Pair.{apart}
 open CommutativeRing 𝓡 using (neg, zero as 0ᴱ)
 
 abbrev none : Gaps
-none = record { left = 0ᴱ; right = 0ᴱ }
+none = record { factor-a = 0ᴱ; factor-b = 0ᴱ }
 
 -- by how much the numbers of a and b differ in the two books
 abbrev pub factorsApart : Book → Book → ℕ → ℕ → Gaps
-factorsApart b b' x y = record { left = apart (b .place x) (b' .place x); right = apart (b .place y) (b' .place y) }
+factorsApart b b' x y = record { factor-a = apart (b .place x) (b' .place x); factor-b = apart (b .place y) (b' .place y) }
 
 -- of the triple at r, with these masks in front of the rest; with these acts; with this call
 abbrev pub reckonedBy : Masking → Book → Book → ℕ → Gaps → Gaps
@@ -49,7 +49,7 @@ reckoned u u' (c ∷ cs) (e ∷ es) b b' r =
 -- ---- with the two lists of secrets exchanged
 
 abbrev pub Opposite : Gaps → Gaps → Type 0
-Opposite g g' = (g' .left ≡ neg (g .left)) × (g' .right ≡ neg (g .right))
+Opposite g g' = (g' .factor-a ≡ neg (g .factor-a)) × (g' .factor-b ≡ neg (g .factor-b))
 
 apart-back : (x x' : ℕ) → apart x' x ≡ neg (apart x x')
 unfolding Same

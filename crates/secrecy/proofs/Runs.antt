@@ -14,7 +14,7 @@ use Rattle.refusal.specs.Refusal.{outcome}
 use Rattle.factory.specs.Draw.{eachFrom}
 use Rattle.vectors.specs.Vector.{Vector}
 use Rattle.runs.specs.Outline.{Act, acts, sends}
-use Rattle.runs.specs.Calls.{Post, Call, Left, after}
+use Rattle.runs.specs.Calls.{Post, Call, Performed, after}
 use Rattle.runs.proofs.Marks.{Marks, Sized, Masking, none, of, masking, remembered, marksOf, markAll, marksBy, marksAll}
 use Rattle.runs.proofs.Outcomes as Outcomes
 use Rattle.runs.proofs.Outcomes.{refusal-is}
@@ -53,9 +53,9 @@ same-refusal f (suc n) a i lo hi = go (ℕ-discrete i 1)
     go (yes e) = ap f e
     go (no ne) = each-is f (f 1) 2 n a i (omega arith) (omega arith)
 
-rows-all : (f g : ℕ → Left) (l : List ℕ) → All (λ i. f i ≡ g i) l → map (λ i. f i .rows) l ≡ map (λ i. g i .rows) l
+rows-all : (f g : ℕ → Performed) (l : List ℕ) → All (λ i. f i ≡ g i) l → map (λ i. f i .rows) l ≡ map (λ i. g i .rows) l
 rows-all f g [] a = refl
-rows-all f g (i ∷ l) a = ap₂ _∷_ (ap (λ (o : Left). o .rows) (a .0)) (rows-all f g l (a .1))
+rows-all f g (i ∷ l) a = ap₂ _∷_ (ap (λ (o : Performed). o .rows) (a .0)) (rows-all f g l (a .1))
 
 module _ (T : Two) where
   abbrev c1 : List (List ℕ) → ℕ → Step → Call
@@ -74,7 +74,7 @@ module _ (T : Two) where
   fit-by : (m : Masking) (M : Marks) → Maskable m M → (b b' : Book) (rest : ℕ → Gaps)
       → ((r : ℕ) → r < 96 → (Past M r → ⊥) → reckonedBy m b b' r (rest r) ≡ T .Δ r) → FitBy T m b b'
   fit-by none M al b b' rest h = tt
-  fit-by (of x y r') M al b b' rest h = (ap (λ (g : Gaps). g .left) now, ap (λ (g : Gaps). g .right) now)
+  fit-by (of x y r') M al b b' rest h = (ap (λ (g : Gaps). g .factor-a) now, ap (λ (g : Gaps). g .factor-b) now)
     where
       young : Past M r' → ⊥
       young (inl five) = omega (arith, al .first)

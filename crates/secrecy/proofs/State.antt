@@ -21,11 +21,11 @@ use Rattle.runs.specs.Draws.{Plan, Draw, IsDraw, Sound, IsRaw, Raw, by, whenRaw
 use Rattle.runs.specs.Outline.{Act, loads, loadsTriple, deals, opens, Summand, once, times, fee, sums, factors, multiplies, Taking, nothingTaken, aRowPack, aTriplePack, aNumber, aRecord, twoRecords, takes, Given, Move, moves, actsIn, acts, sends}
 use Rattle.runs.specs.Calls.{Post, Actual, openingLine, masksLine, Among, at}
 use Rattle.runs.proofs.Outlines.{every-all, givenBy, filledMove, moves-filled}
-use Rattle.runs.proofs.Marks.{Marks, Sized, markOf, leftOf, rightOf, maskA, maskB, written, sessionAt, none, of, marksBy, vectorsBy, marksAll, vectorsAll, at-same}
+use Rattle.runs.proofs.Marks.{Marks, Sized, markOf, rememberedA, rememberedB, maskVectorA, maskVectorB, written, sessionAt, none, of, marksBy, vectorsBy, marksAll, vectorsAll, at-same}
 use Rattle.runs.proofs.Sums.{product-sum}
 use Rattle.runs.proofs.Numbers.{dealt-number, product-number, third-number}
 use Rattle.runs.proofs.Start.{sizes}
-use Rattle.runs.proofs.Steps.{Stands, FitsWith, Fits}
+use Rattle.runs.proofs.Steps.{Stands, FitsWith, Fits, Stand}
 use Rattle.runs.proofs.Lines.{Opening, Masks}
 use Rattle.runs.proofs.Records.{all-true}
 use Rattle.runs.proofs.Facts as Facts
@@ -78,7 +78,7 @@ module _ (C : Run) where
 
   -- what an M line of the triple at r shows of post j
   abbrev pub maskNumbers : Marks → (ℕ → Vector) → ℕ → ℕ → List ℕ
-  maskNumbers M vec r j = numbers (C .plan .t + 1) (maskA M vec r .v j) ++ numbers (C .plan .t + 1) (maskB M vec r .v j)
+  maskNumbers M vec r j = numbers (C .plan .t + 1) (maskVectorA M vec r .v j) ++ numbers (C .plan .t + 1) (maskVectorB M vec r .v j)
 
   pub record State (m : Moment) : Type 0 where
     pub sized : Sized (m .marks)
@@ -88,6 +88,21 @@ module _ (C : Run) where
         → (markOf (m .marks) r ≡ 2) × (xs ≡ numbers (C .plan .t + 1) (m .vec r .v j))
     pub maskings : (r j : ℕ) (xs : List ℕ) → AMask r j xs → Among (masksLine r j xs) (m .lines)
         → Past (m .marks) r × (markOf (m .marks) r ≡ 5 → xs ≡ maskNumbers (m .marks) (m .vec) r j)
+
+  -- a post of it
+  abbrev pub standAt : (m : Moment) → State m → (i : ℕ) → 1 ≤ i → i ≤ C .plan .n → Stand
+  standAt m S i lo hi = record {
+    plan = C .plan;
+    draw = C .draw;
+    is-draw = C .is-draw;
+    len = C .len i;
+    post = i;
+    high = hi;
+    marks = m .marks;
+    vec = m .vec;
+    state = m .posts i;
+    stands = S .posts i lo hi;
+  }
 
   -- ---- one act after the other: what the marks say of vectors and book
 
@@ -105,18 +120,18 @@ module _ (C : Run) where
           go Raw.none x = absurd x
           go (by dealer) x = refl
 
-      product-is : (r : ℕ) → Facts.Multiplying 5 M (leftOf M r) (rightOf M r) r
+      product-is : (r : ℕ) → Facts.Multiplying 5 M (rememberedA M r) (rememberedB M r) r
           → number (written M vec r) ≡ element (product (b .factorA r) (b .factorB r))
       product-is r al =
           let g = f r (omega (arith, al .r-low)) in
           let t = g .triple (inr (al .first)) in
           let w = g .waiting (al .first) in
           ap number (product-sum vec r _ _)
-          ∙ product-number (vec (leftOf M r)) (vec (rightOf M r)) (vec r) (vec (r + 1)) (vec (r + 2))
+          ∙ product-number (vec (rememberedA M r)) (vec (rememberedB M r)) (vec r) (vec (r + 1)) (vec (r + 2))
           (ap number (t .is-ab) ∙ third-number plan draw r ∙ sym (ap₂ (λ (X Y : Vector). number X ⊗ number Y) (t .is-a) (t .is-b)))
           ∙ ap₂ _⊗_
-          (f (leftOf M r) (al .a-low) .held (al .a-held) ∙ ap element (sym (w .means .0)))
-          (f (rightOf M r) (al .b-low) .held (al .b-held) ∙ ap element (sym (w .means .1)))
+          (f (rememberedA M r) (al .a-low) .held (al .a-held) ∙ ap element (sym (w .means .0)))
+          (f (rememberedB M r) (al .b-low) .held (al .b-held) ∙ ap element (sym (w .means .1)))
           ∙ sym (element-product (b .factorA r) (b .factorB r))
 
       -- the rows of a sum
@@ -150,8 +165,8 @@ module _ (C : Run) where
         (λ x lx five five' w.
         let n = notes-by u M b a al x (inl five) in
         let g = f x lx .waiting five in (
-          n .0 ∙ w .0 ∙ sym (place-by u M b a al (leftOf M x) (g .a-held)),
-          n .1 ∙ w .1 ∙ sym (place-by u M b a al (rightOf M x) (g .b-held)),
+          n .0 ∙ w .0 ∙ sym (place-by u M b a al (rememberedA M x) (g .a-held)),
+          n .1 ∙ w .1 ∙ sym (place-by u M b a al (rememberedB M x) (g .b-held)),
         ))
         f
 
@@ -185,14 +200,14 @@ module _ (C : Run) where
       fits-with (aNumber r) x al rule = tt
       fits-with (aRecord r) x al rule = tt
       fits-with (twoRecords r) x al rule = (
-        all-true (sessionAt plan draw i M) (x .0 i lines) (maskA M vec r) (λ j lj hj ne there.
+        all-true (sessionAt plan draw i M) (x .0 i lines) (maskVectorA M vec r) (λ j lj hj ne there.
             let o = rule (inl refl) .0 i j lo hi lj hj ne there in
             o .4 ∙ ap (take (plan .t + 1)) (both-are j lj hj (o .0) (o .1) (o .2) (o .3))
-            ∙ take-at (numbers (plan .t + 1) (maskA M vec r .v j)) _ (plan .t + 1) (length-numbers (plan .t + 1) (maskA M vec r .v j))),
-        all-true (sessionAt plan draw i M) (x .1 i lines) (maskB M vec r) (λ j lj hj ne there.
+            ∙ take-at (numbers (plan .t + 1) (maskVectorA M vec r .v j)) _ (plan .t + 1) (length-numbers (plan .t + 1) (maskVectorA M vec r .v j))),
+        all-true (sessionAt plan draw i M) (x .1 i lines) (maskVectorB M vec r) (λ j lj hj ne there.
             let o = rule (inl refl) .1 i j lo hi lj hj ne there in
             o .4 ∙ ap (drop (plan .t + 1)) (both-are j lj hj (o .0) (o .1) (o .2) (o .3))
-            ∙ drop-at (numbers (plan .t + 1) (maskA M vec r .v j)) _ (plan .t + 1) (length-numbers (plan .t + 1) (maskA M vec r .v j))),
+            ∙ drop-at (numbers (plan .t + 1) (maskVectorA M vec r .v j)) _ (plan .t + 1) (length-numbers (plan .t + 1) (maskVectorA M vec r .v j))),
       )
         where
           -- what an M line of the triple shows of post j

@@ -4,7 +4,6 @@ use Prim.Native.Nat.{ℕ, _+_, _*_, _<_}
 use mathlib.Core.Path.{_≡_, sym, _∙_, ap, subst}
 use mathlib.Core.Bool.{not}
 use mathlib.Core.List.{List, [], _∷_}
-use lib.Dec.{eqb}
 use native.Mathlib.Omega.{arith}
 use lib.ListN.{length}
 use Rattle.session.specs.declared.Session.{Session}
@@ -35,7 +34,7 @@ use Rattle.secrecy.proofs.Unchanged.{same-points, same-raws, same-tripl
 use Rattle.secrecy.proofs.Back.{back}
 use Rattle.secrecy.proofs.State.{State}
 use Rattle.secrecy.proofs.Twins.{row-same}
-use Rattle.secrecy.proofs.Pair as Pairs
+use Rattle.secrecy.proofs.Answers.{twin}
 use Rattle.secrecy.proofs.Pair.{Two, Moments, Pair, place-number}
 use Rattle.secrecy.proofs.Reckoned as Reckoned
 use Rattle.secrecy.proofs.Reckoned.{reckoned, reckoned-back}
@@ -200,8 +199,7 @@ module _ (plan : Plan) (group : List ℕ) (rows : ℕ → List ℕ) (cs : List S
         same : rowAt (plan .t + 1 + 2 * plan .n) (q i .rows) r ≡ rowAt (plan .t + 1 + 2 * plan .n) (q' i .rows) r
         same =
             ap (λ (f : ℕ → Post). rowAt (plan .t + 1 + 2 * plan .n) (f i .rows) r) (sym (ended .posts-are))
-            ∙ row-same plan d (groupKernel (pointOf d) group) (ended .end .marks) (ended .end .vec) (ended .end .vec') (P .near) i lo hi (length (rows i)) _ _
-            (Pairs.h two (ended .end) P i lo hi) (Pairs.h' two (ended .end) P i lo hi) r 1 low (ap (λ (m : ℕ). not (eqb m 2)) two-is)
+            ∙ row-same (twin two (ended .end) P i lo hi) r 1 low two-is
             (place-number two (ended .end) P r (omega arith) two-is places)
             ∙ ap (λ (f : ℕ → Post). rowAt (plan .t + 1 + 2 * plan .n) (f i .rows) r) (ended .posts-are')
 

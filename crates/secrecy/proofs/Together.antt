@@ -17,7 +17,7 @@ use Rattle.runs.specs.Draws.{pointOf, rawPack, triplePack}
 use Rattle.runs.specs.Outline.{Act, loads, loadsTriple, deals, opens, Summand, once, times, fee, sums, factors, multiplies, takes, Given, Move, moves, actsIn, acts, sends, filled}
 use Rattle.runs.specs.Calls.{Call, perform, at}
 use Rattle.runs.proofs.Outlines.{every-all}
-use Rattle.runs.proofs.Marks.{Marks, markOf, leftOf, rightOf, remarked, finished, maskA, maskB, zeroVector, worthVector, totalVector, productSum, written, Masking, none, of, masking, marksBy, vectorsBy, marksAll, vectorsAll, at-same, at-other}
+use Rattle.runs.proofs.Marks.{Marks, markOf, rememberedA, rememberedB, remarked, finished, maskVectorA, maskVectorB, zeroVector, worthVector, totalVector, productSum, written, Masking, none, of, masking, marksBy, vectorsBy, marksAll, vectorsAll, at-same, at-other}
 use Rattle.runs.proofs.Outcomes.{refusalOf, refusal-is}
 use Rattle.runs.proofs.Facts.{HeldIn, AllowedBy, AllowedAll, Allowed, MasksBy, Multiplying}
 use Rattle.runs.proofs.Rows.{sized-by, five-by}
@@ -156,7 +156,7 @@ module _ (T : Two) (lines : List (List ℕ)) where
     near-of (times s x) h = K .near x (h .0) (nonzero x 1 (h .1))
     near-of (fee k) h = tt
 
-    near-finish : (x : ℕ) → Multiplying 5 M (leftOf M x) (rightOf M x) x
+    near-finish : (x : ℕ) → Multiplying 5 M (rememberedA M x) (rememberedB M x) x
         → AllNear (finished M x) (at vec (x + 2) (written M vec x)) (at vec' (x + 2) (written M vec' x))
     near-finish x al =
         near-put (remarked (remarked M x 6) (x + 1) 6) vec vec'
@@ -168,14 +168,14 @@ module _ (T : Two) (lines : List (List ℕ)) where
         low : x < 94
         low = al .r-low
 
-        w : (number (maskA M vec x) ≡ number (maskA M vec' x)) × (number (maskB M vec x) ≡ number (maskB M vec' x))
+        w : (number (maskVectorA M vec x) ≡ number (maskVectorA M vec' x)) × (number (maskVectorB M vec x) ≡ number (maskVectorB M vec' x))
         w = core-wait T M vec vec' b b' K x (al .first) (omega (arith, low))
 
         y : ℕ
-        y = number (maskA M vec x) .0
+        y = number (maskVectorA M vec x) .0
 
         y' : ℕ
-        y' = number (maskB M vec x) .0
+        y' = number (maskVectorB M vec x) .0
 
         n0 : Nearly (vec x) (vec' x)
         n0 = K .near x (omega (arith, low)) (nonzero x 4 (al .first))
@@ -221,20 +221,20 @@ module _ (T : Two) (lines : List (List ℕ)) where
 
     -- a triple whose masks the act makes: they are those that were reckoned with
     masked-now : (m : Masking) → FitBy T m b b' → (r : ℕ) → MasksBy m r
-        → (apart (notedA m b r) (notedA m b' r) ≡ T .Δ r .left) × (apart (notedB m b r) (notedB m b' r) ≡ T .Δ r .right)
+        → (apart (notedA m b r) (notedA m b' r) ≡ T .Δ r .factor-a) × (apart (notedB m b r) (notedB m b' r) ≡ T .Δ r .factor-b)
     masked-now none fit r at-r = absurd at-r
     masked-now (of x y r') fit r at-r =
         subst
-        (λ (w : ℕ). (apart (at (b .factorA) r' (b .place x) w) (at (b' .factorA) r' (b' .place x) w) ≡ T .Δ w .left)
-        × (apart (at (b .factorB) r' (b .place y) w) (at (b' .factorB) r' (b' .place y) w) ≡ T .Δ w .right))
+        (λ (w : ℕ). (apart (at (b .factorA) r' (b .place x) w) (at (b' .factorA) r' (b' .place x) w) ≡ T .Δ w .factor-a)
+        × (apart (at (b .factorB) r' (b .place y) w) (at (b' .factorB) r' (b' .place y) w) ≡ T .Δ w .factor-b))
         (sym at-r) (
           ap₂ apart (at-same (b .factorA) r' (b .place x)) (at-same (b' .factorA) r' (b' .place x)) ∙ fit .0,
           ap₂ apart (at-same (b .factorB) r' (b .place y)) (at-same (b' .factorB) r' (b' .place y)) ∙ fit .1,
         )
 
     masked-by : (a : Act) → FitBy T (masking a) b b' → (r : ℕ) → MasksBy (masking a) r
-        → (apart (enteredBy (T .u) a b .factorA r) (enteredBy (T .u') a b' .factorA r) ≡ T .Δ r .left)
-        × (apart (enteredBy (T .u) a b .factorB r) (enteredBy (T .u') a b' .factorB r) ≡ T .Δ r .right)
+        → (apart (enteredBy (T .u) a b .factorA r) (enteredBy (T .u') a b' .factorA r) ≡ T .Δ r .factor-a)
+        × (apart (enteredBy (T .u) a b .factorB r) (enteredBy (T .u') a b' .factorB r) ≡ T .Δ r .factor-b)
     masked-by a fit r at-r =
         let n = noted-is (T .u) a b in
         let n' = noted-is (T .u') a b' in

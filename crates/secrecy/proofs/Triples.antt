@@ -113,14 +113,14 @@ module _ (d : ℕ) (fl : ℕ → Element) (a b : Element) where
       at-place : (xs : List ℕ) → getD (take d (drop d xs)) 0 0 ≡ getD xs d 0
       at-place xs = getD-take d (drop d xs) 0 0 some ∙ getD-drop d xs 0 0 ∙ ap (λ (m : ℕ). getD xs m 0) (add-zero d)
 
-      pub triple-left : element (getD (movedTriple l) 0 0) ≡ element (getD l 0 0) ⊕ a
-      triple-left =
+      pub triple-a : element (getD (movedTriple l) 0 0) ≡ element (getD l 0 0) ⊕ a
+      triple-a =
           ap element (sym (getD-take d (movedTriple l) 0 0 some) ∙ ap (λ (x : List ℕ). getD x 0 0) triple-first)
           ∙ shift-constant fl a (take d l) unit (omega (arith, one-long, length-shift fl a (take d l)))
           ∙ ap (λ (x : ℕ). element x ⊕ a) (getD-take d l 0 0 some)
 
-      pub triple-right : element (getD (movedTriple l) d 0) ≡ element (getD l d 0) ⊕ b
-      triple-right =
+      pub triple-b : element (getD (movedTriple l) d 0) ≡ element (getD l d 0) ⊕ b
+      triple-b =
           ap element (sym (at-place (movedTriple l)) ∙ ap (λ (x : List ℕ). getD x 0 0) triple-second)
           ∙ shift-constant fl b (take d (drop d l)) unit (omega (arith, two-long, length-shift fl b (take d (drop d l))))
           ∙ ap (λ (x : ℕ). element x ⊕ b) (at-place l)
@@ -148,7 +148,7 @@ triple-back d fl a b a' b' l long some unit low ea eb =
 
     crosses : cross d a' b' (movedTriple d fl a b l) ≡ neg (cross d a b l)
     crosses =
-        ap₂ (λ (x y : Element). crossed x y a' b') (triple-left d fl a b l long some unit) (triple-right d fl a b l long some unit)
+        ap₂ (λ (x y : Element). crossed x y a' b') (triple-a d fl a b l long some unit) (triple-b d fl a b l long some unit)
         ∙ ap₂ (λ (x y : Element). crossed (l0 ⊕ a) (l1 ⊕ b) x y) ea eb
         ∙ solve 𝓡 (l0 ∷ l1 ∷ a ∷ b ∷ []) ((A :+ C) :* :- D :+ (B :+ D) :* :- C :+ :- C :* :- D)
         (:- (A :* D :+ B :* C :+ C :* D)) refl

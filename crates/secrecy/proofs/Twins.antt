@@ -5,32 +5,34 @@ use mathlib.Core.Bool.{Bool, true, false, not}
 use mathlib.Core.Logic.{_≢_}
 use mathlib.Core.List.{List, [], _∷_, _++_}
 use native.Mathlib.Omega.{arith}
-use borrow.Author.Tests.{ltb-false, le-ltb}
 use lib.Dec.{eqb}
 use lib.ListN.{length}
 use Rattle.field.specs.Modulus.{p}
+use Rattle.shape.specs.Bounds.{lastRow}
 use Rattle.refusal.specs.Refusal.{Test, _when_, first, AllFail}
-use Rattle.refusal.specs.Conditions.{missized, beyond, anyBeyond}
-use Rattle.refusal.proofs.Laws.{equal}
+use Rattle.refusal.specs.Conditions.{anyBeyond}
+use Rattle.refusal.proofs.Laws.{not-refused}
 use Rattle.session.specs.declared.Session.{Session}
 use Rattle.session.specs.Sessions.{sessionTests}
 use Rattle.session.specs.Rows.{rowAt, combined}
-use Rattle.session.specs.Checks.{frameTests, noRow, noTriple, unlike}
+use Rattle.session.specs.Checks.{frameTests, noRow, noTriple, wrongMark}
 use Rattle.sharing.specs.Load.{loadRowRefusal, loadTripleRefusal}
 use Rattle.sharing.specs.Deal.{dealRefusal}
 use Rattle.sharing.specs.Message.{messageRefusal}
 use Rattle.sharing.specs.Linear.{linearRefusal}
-use Rattle.opening.specs.Walking.{recordLength, badRecord, tooFew}
-use Rattle.opening.specs.Opening.{openRefusal, openChecks}
-use Rattle.product.specs.Masks.{masksRefusal, masksPlace, tripleMarks, maskNumbers}
+use Rattle.sharing.proofs.Passed.{dealPlace, dealLate, deal-placed, messagePlace, messageLate, message-placed, linearPlace, linearLate, linear-placed}
+use Rattle.opening.specs.Opening.{openRefusal}
+use Rattle.opening.proofs.Passed.{openPlace, openNumbers, walkTests, open-placed, OpenChecked}
+use Rattle.product.specs.Masks.{masksRefusal, maskNumbers}
 use Rattle.product.specs.Finish as Finish
-use Rattle.product.specs.Finish.{finishRefusal, finishPlace, finishMarks, finishNumbers, tooFewOf}
+use Rattle.product.specs.Finish.{finishRefusal, finishNumbers, tooFewOf}
+use Rattle.product.proofs.Passed.{Factored, factorTests, masksEarly, masks-placed, finishEarly, finish-placed, finishRest}
 use Rattle.factory.proofs.Laws.{elements-append}
 use Rattle.vectors.specs.Vector.{Vector, number, numbers, rowOf}
 use Rattle.runs.specs.Draws.{Plan, Draw, pointOf}
-use Rattle.runs.proofs.Marks.{Marks, markOf, leftOf, rightOf, sessionAt, less, maskA, maskB}
+use Rattle.runs.proofs.Marks.{Marks, markOf, rememberedA, rememberedB, sessionAt, less, maskVectorA, maskVectorB}
 use Rattle.runs.proofs.Packs.{rowFor}
-use Rattle.runs.proofs.Holds.{Holds, held-row, combined-row}
+use Rattle.runs.proofs.Holds.{Holds, Holder, wide, held-row, combined-row}
 use Rattle.runs.proofs.Lines.{elements-pass, numbers-elements}
 use Rattle.secrecy.proofs.Near.{Near, near-plusTimes, near-same}
 use Rattle.secrecy.proofs.Link.{Alike}
@@ -51,41 +53,73 @@ row-low plan d i X =
     (elements-append (numbers (plan .t + 1) (X .v i)) _ (numbers-elements (plan .t + 1) (X .v i))
     (elements-append (numbers (plan .n) _) (numbers (plan .n) _) (numbers-elements (plan .n) _) (numbers-elements (plan .n) _)))
 
-module _ (plan : Plan) (d : Draw) (K : Vector) (M : Marks) (vec vec' : ℕ → Vector)
-    (near : (r : ℕ) → r < 96 → markOf M r ≢ 0 → Near (plan .n) (plan .t + 1) (pointOf d) K (vec r) (vec' r)) (i : ℕ) (lo : 1 ≤ i) (hi : i ≤ plan .n)
-    (len : ℕ) (l l' : List ℕ) (h : Holds plan d len i M vec l) (h' : Holds plan d len i M vec' l') where
+-- ---- one post in both runs, with the same marks
+
+pub record Twin : Type 0 where
+  pub plan : Plan
+  pub draw : Draw
+  pub K : Vector
+  pub marks : Marks
+  pub vec : ℕ → Vector
+  pub vec' : ℕ → Vector
+  pub near : (r : ℕ) → r < 96 → markOf marks r ≢ 0 → Near (plan .n) (plan .t + 1) (pointOf draw) K (vec r) (vec' r)
+  pub post : ℕ
+  pub low : 1 ≤ post
+  pub high : post ≤ plan .n
+  pub len : ℕ
+  pub rows : List ℕ
+  pub rows' : List ℕ
+  pub holds : Holds plan draw len post marks vec rows
+  pub holds' : Holds plan draw len post marks vec' rows'
+
+-- the 8 of a triple's rows and of its factors' is the same in both
+record LowSame (w : ℕ) (l l' : List ℕ) (a b r : ℕ) : Type 0 where
+  pub a-same : anyBeyond (rowAt w l a) ≡ anyBeyond (rowAt w l' a)
+  pub b-same : anyBeyond (rowAt w l b) ≡ anyBeyond (rowAt w l' b)
+  pub first-same : anyBeyond (rowAt w l r) ≡ anyBeyond (rowAt w l' r)
+  pub second-same : anyBeyond (rowAt w l (r + 1)) ≡ anyBeyond (rowAt w l' (r + 1))
+  pub third-same : anyBeyond (rowAt w l (r + 2)) ≡ anyBeyond (rowAt w l' (r + 2))
+
+module _ (T : Twin) where
+  open Twin T using (plan, draw as d, K, marks as M, vec, vec', near, post as i, low as lo, high as hi, len, rows as l, rows' as l', holds as h, holds' as h')
+
   abbrev s : Session
   s = sessionAt plan d i M
 
   abbrev W : ℕ
-  W = plan .t + 1 + 2 * plan .n
+  W = wide plan
+
+  abbrev one : Holder
+  one = record { plan = plan; draw = d; len = len; post = i; marks = M; vec = vec; rows = l; holds = h }
+
+  abbrev two : Holder
+  two = record { plan = plan; draw = d; len = len; post = i; marks = M; vec = vec'; rows = l'; holds = h' }
 
   frame-same : frameTests s l ≡ frameTests s l'
   frame-same = ap (λ (m : ℕ). sessionTests (plan .n) (plan .t) i (pointOf d i) ++ (5 when not (eqb m (96 * W)) ∷ [])) (h .long ∙ sym (h' .long))
 
   -- a row with the mark that is needed: elements in both runs
-  low : (x m : ℕ) → noRow x ≡ false → unlike s x (suc m) ≡ false → anyBeyond (rowAt W l x) ≡ anyBeyond (rowAt W l' x)
-  low x m r is =
-      ap anyBeyond (held-row plan d len i M vec l h x m (ltb-false 95 x r) is) ∙ row-low plan d i (vec x)
-      ∙ sym (ap anyBeyond (held-row plan d len i M vec' l' h' x m (ltb-false 95 x r) is) ∙ row-low plan d i (vec' x))
+  elements-same : (x m : ℕ) → x ≤ lastRow → markOf M x ≡ suc m → anyBeyond (rowAt W l x) ≡ anyBeyond (rowAt W l' x)
+  elements-same x m r is =
+      ap anyBeyond (held-row one x m r is) ∙ row-low plan d i (vec x) ∙ sym (ap anyBeyond (held-row two x m r is) ∙ row-low plan d i (vec' x))
 
-  there : (x m : ℕ) → x ≤ 95 → unlike s x (suc m) ≡ false → Near (plan .n) (plan .t + 1) (pointOf d) K (vec x) (vec' x)
-  there x m r is = near x (omega arith) (λ e. omega (arith, equal (markOf M x) (suc m) is))
+  there : (x m : ℕ) → x ≤ lastRow → markOf M x ≡ suc m → Near (plan .n) (plan .t + 1) (pointOf d) K (vec x) (vec' x)
+  there x m r is = near x (omega arith) (λ e. omega arith)
 
   -- a row of one number in both runs; a difference of one number
-  pub row-same : (x m : ℕ) → x ≤ 95 → unlike s x (suc m) ≡ false → number (vec x) ≡ number (vec' x) → rowAt W l x ≡ rowAt W l' x
+  pub row-same : (x m : ℕ) → x ≤ lastRow → markOf M x ≡ suc m → number (vec x) ≡ number (vec' x) → rowAt W l x ≡ rowAt W l' x
   row-same x m r is e =
-      held-row plan d len i M vec l h x m r is ∙ near-same (plan .n) (plan .t + 1) (pointOf d) K (vec x) (vec' x) (there x m r is) e i lo hi
-      ∙ sym (held-row plan d len i M vec' l' h' x m r is)
+      held-row one x m r is ∙ near-same (plan .n) (plan .t + 1) (pointOf d) K (vec x) (vec' x) (there x m r is) e i lo hi
+      ∙ sym (held-row two x m r is)
 
-  pub mask-same : (a x m : ℕ) → a ≤ 95 → unlike s a 2 ≡ false → x ≤ 95 → unlike s x (suc m) ≡ false
+  pub mask-same : (a x m : ℕ) → a ≤ lastRow → markOf M a ≡ 2 → x ≤ lastRow → markOf M x ≡ suc m
       → number (less (vec a) (vec x)) ≡ number (less (vec' a) (vec' x))
       → combined (p - 1) (rowAt W l a) (rowAt W l x) ≡ combined (p - 1) (rowAt W l' a) (rowAt W l' x)
   mask-same a x m ra ia rx ix e =
-      combined-row plan d len i M vec l h (p - 1) a x (held-row plan d len i M vec l h a 1 ra ia) (held-row plan d len i M vec l h x m rx ix)
+      combined-row one (p - 1) a x (held-row one a 1 ra ia) (held-row one x m rx ix)
       ∙ near-same (plan .n) (plan .t + 1) (pointOf d) K (less (vec a) (vec x)) (less (vec' a) (vec' x))
       (near-plusTimes (plan .n) (plan .t + 1) (pointOf d) K (p - 1) (vec a) (vec' a) (vec x) (vec' x) (there a 1 ra ia) (there x m rx ix)) e i lo hi
-      ∙ sym (combined-row plan d len i M vec' l' h' (p - 1) a x (held-row plan d len i M vec' l' h' a 1 ra ia) (held-row plan d len i M vec' l' h' x m rx ix))
+      ∙ sym (combined-row two (p - 1) a x (held-row two a 1 ra ia) (held-row two x m rx ix))
 
   -- ---- the calls
 
@@ -102,7 +136,7 @@ module _ (plan : Plan) (d : Draw) (K : Vector) (M : Marks) (vec vec' : ℕ → V
       behind [] (own (length pack) (anyBeyond pack)) (own (length pack') (anyBeyond pack')) (λ fr f. ap₂ (λ (m : ℕ) (b : Bool). first (own m b)) (a .long) (a .low))
     where
       own : ℕ → Bool → List Test
-      own m b = 5 when not (eqb m W) ∷ 6 when noRow r ∷ 7 when unlike s r 0 ∷ 8 when b ∷ []
+      own m b = 5 when not (eqb m W) ∷ 6 when noRow r ∷ 7 when wrongMark s r 0 ∷ 8 when b ∷ []
 
   pub triple-same : (r : ℕ) (pack pack' : List ℕ) → Alike pack pack' → loadTripleRefusal s l r pack ≡ loadTripleRefusal s l' r pack'
   unfolding loadTripleRefusal
@@ -111,89 +145,77 @@ module _ (plan : Plan) (d : Draw) (K : Vector) (M : Marks) (vec vec' : ℕ → V
     where
       own : ℕ → Bool → List Test
       own m b =
-          5 when not (eqb m (3 * W)) ∷ 6 when noTriple r ∷ 7 when unlike s r 0 ∷ 7 when unlike s (r + 1) 0 ∷ 7 when unlike s (r + 2) 0 ∷ 8 when b ∷ []
-
-  -- 8 of one row
-  eight : List ℕ → ℕ → List Test
-  eight rows x = 8 when anyBeyond (rowAt W rows x) ∷ []
+          5 when not (eqb m (3 * W)) ∷ 6 when noTriple r ∷ 7 when wrongMark s r 0 ∷ 7 when wrongMark s (r + 1) 0 ∷ 7 when wrongMark s (r + 2) 0 ∷ 8 when b ∷ []
 
   pub deal-same : (r c : ℕ) → dealRefusal s l r c ≡ dealRefusal s l' r c
-  unfolding dealRefusal eight
+  unfolding dealRefusal
   deal-same r c =
-      behind (6 when noRow r ∷ 7 when unlike s r 1 ∷ 8 when beyond c ∷ []) (eight l r) (eight l' r) (λ fr f.
-      ap (λ (b : Bool). first (8 when b ∷ [])) (low r 0 (f .0) (f .1 .0)))
+      behind (dealPlace s r c) (dealLate (anyBeyond (rowAt W l r))) (dealLate (anyBeyond (rowAt W l' r))) (λ fr f.
+      let k = deal-placed s r c f in ap (λ (b : Bool). first (dealLate b)) (elements-same r 0 (k .row-in) (k .is-raw)))
 
   pub message-same : (r : ℕ) (lent : List ℕ) → messageRefusal s l r lent ≡ messageRefusal s l' r lent
-  unfolding messageRefusal eight
+  unfolding messageRefusal
   message-same r lent =
-      behind (5 when missized lent (plan .t + 1) ∷ 6 when noRow r ∷ 7 when unlike s r 2 ∷ []) (eight l r) (eight l' r) (λ fr f.
-      ap (λ (b : Bool). first (8 when b ∷ [])) (low r 1 (f .1 .0) (f .1 .1 .0)))
+      behind (messagePlace s r lent) (messageLate (anyBeyond (rowAt W l r))) (messageLate (anyBeyond (rowAt W l' r))) (λ fr f.
+      let k = message-placed s r lent f in ap (λ (b : Bool). first (messageLate b)) (elements-same r 1 (k .row-in) (k .is-held)))
 
   pub linear-same : (r a b scale fee : ℕ) → linearRefusal s l r a b scale fee ≡ linearRefusal s l' r a b scale fee
-  unfolding linearRefusal eight
+  unfolding linearRefusal
   linear-same r a b scale fee =
-      behind
-      (6 when noRow r ∷ 6 when noRow a ∷ 6 when noRow b ∷ 7 when unlike s r 0 ∷ 7 when unlike s a 2 ∷ 7 when unlike s b 2 ∷ 8 when beyond scale ∷ 8 when beyond fee ∷ [])
-      (eight l a ++ eight l b) (eight l' a ++ eight l' b) (λ fr f.
-      ap₂ (λ (x y : Bool). first (8 when x ∷ 8 when y ∷ []))
-      (low a 1 (f .1 .0) (f .1 .1 .1 .1 .0)) (low b 1 (f .1 .1 .0) (f .1 .1 .1 .1 .1 .0)))
+      behind (linearPlace s r a b scale fee) (linearLate (anyBeyond (rowAt W l a)) (anyBeyond (rowAt W l b)))
+      (linearLate (anyBeyond (rowAt W l' a)) (anyBeyond (rowAt W l' b))) (λ fr f.
+      let k = linear-placed s r a b scale fee f in
+      ap₂ (λ (x y : Bool). first (linearLate x y)) (elements-same a 1 (k .a-in) (k .a-held)) (elements-same b 1 (k .b-in) (k .b-held)))
 
-  -- rows of a triple that 6 leaves
-  near-93 : (x j : ℕ) → j ≤ 2 → noTriple x ≡ false → noRow (x + j) ≡ false
-  near-93 x j hj e = le-ltb 95 (x + j) (omega (arith, ltb-false 93 x e))
-
-  first-row : (x : ℕ) → noTriple x ≡ false → noRow x ≡ false
-  first-row x e = le-ltb 95 x (omega (arith, ltb-false 93 x e))
-
-  numbers-same : (a b r m : ℕ) → noRow a ≡ false → noRow b ≡ false → noTriple r ≡ false → AllFail (tripleMarks s a b r (suc m))
-      → (anyBeyond (rowAt W l a) ≡ anyBeyond (rowAt W l' a)) × (anyBeyond (rowAt W l b) ≡ anyBeyond (rowAt W l' b))
-      × (anyBeyond (rowAt W l r) ≡ anyBeyond (rowAt W l' r)) × (anyBeyond (rowAt W l (r + 1)) ≡ anyBeyond (rowAt W l' (r + 1)))
-      × (anyBeyond (rowAt W l (r + 2)) ≡ anyBeyond (rowAt W l' (r + 2)))
-  numbers-same a b r m ra rb rr f =
-      (low a 1 ra (f .0), low b 1 rb (f .1 .0), low r m (first-row r rr) (f .1 .1 .0), low (r + 1) 3 (near-93 r 1 (omega arith) rr) (f .1 .1 .1 .0), low (r + 2) 3 (near-93 r 2 (omega arith) rr) (f .1 .1 .1 .1 .0))
+  numbers-same : (a b r m : ℕ) → Factored s a b r (suc m) → LowSame W l l' a b r
+  numbers-same a b r m f = record {
+    a-same = elements-same a 1 (f .a-in) (f .a-held);
+    b-same = elements-same b 1 (f .b-in) (f .b-held);
+    first-same = elements-same r m (omega (arith, f .triple-in)) (f .first-mark);
+    second-same = elements-same (r + 1) 3 (omega (arith, f .triple-in)) (f .second-mark);
+    third-same = elements-same (r + 2) 3 (omega (arith, f .triple-in)) (f .third-mark);
+  }
 
   pub masks-same : (a b r : ℕ) (lent : List ℕ) → masksRefusal s l a b r lent ≡ masksRefusal s l' a b r lent
   unfolding masksRefusal
   masks-same a b r lent =
-      behind (masksPlace s a b r lent ++ tripleMarks s a b r 3) (maskNumbers s l a b r) (maskNumbers s l' a b r) (λ fr f.
-      let e = numbers-same a b r 2 (f .1 .0) (f .1 .1 .0) (f .1 .1 .1 .0) (f .1 .1 .1 .1) in
-      λ j. first (8 when e .0 j ∷ 8 when e .1 j ∷ 8 when e .2 j ∷ 8 when e .3 j ∷ []))
+      behind (masksEarly s a b r lent) (maskNumbers s l a b r) (maskNumbers s l' a b r) (λ fr f.
+      let e = numbers-same a b r 2 (masks-placed s a b r lent f .factors) in
+      λ j. first (factorTests (e .a-same j) (e .b-same j) (e .first-same j) (e .second-same j)))
 
   -- a finish, whose masks have one number in both runs
-  pub finish-same : (r : ℕ) (blocks blocks' : List ℕ)
-      → (markOf M r ≡ 5 → r < 96 → (number (maskA M vec r) ≡ number (maskA M vec' r)) × (number (maskB M vec r) ≡ number (maskB M vec' r)))
-      → finishRefusal s l r blocks blocks' ≡ finishRefusal s l' r blocks blocks'
+  pub finish-same : (r : ℕ) (blocksA blocksB : List ℕ)
+      → (markOf M r ≡ 5 → r < 96 → (number (maskVectorA M vec r) ≡ number (maskVectorA M vec' r)) × (number (maskVectorB M vec r) ≡ number (maskVectorB M vec' r)))
+      → finishRefusal s l r blocksA blocksB ≡ finishRefusal s l' r blocksA blocksB
   unfolding finishRefusal
-  finish-same r blocks blocks' eq =
-      behind (finishPlace s r blocks blocks' ++ finishMarks s (leftOf M r) (rightOf M r) r) (late l) (late l') (λ fr f.
-      let rr = f .1 .1 .0 in
-      let g = f .1 .1 .1 in
-      let low-r = ltb-false 93 r rr in
-      let ra = ltb-false 95 (leftOf M r) (g .0) in
-      let rb = ltb-false 95 (rightOf M r) (g .1 .0) in
-      let e = numbers-same (leftOf M r) (rightOf M r) r 4 (g .0) (g .1 .0) rr (g .1 .1) in
-      let w = eq (equal (markOf M r) 5 (g .1 .1 .1 .1 .0)) (omega arith) in
-      let x = mask-same (leftOf M r) r 4 ra (g .1 .1 .0) (omega arith) (g .1 .1 .1 .1 .0) (w .0) in
-      let y = mask-same (rightOf M r) (r + 1) 3 rb (g .1 .1 .1 .0) (omega arith) (g .1 .1 .1 .1 .1 .0) (w .1) in
-      λ j. first (8 when e .0 j ∷ 8 when e .1 j ∷ 8 when e .2 j ∷ 8 when e .3 j ∷ 8 when e .4 j ∷ 8 when badRecord s blocks ∷ 8 when badRecord s blocks' ∷ 9 when tooFew s (x j) blocks ∷ 9 when tooFew s (y j) blocks' ∷ []))
+  finish-same r blocksA blocksB eq =
+      behind (finishEarly s r blocksA blocksB) (late l) (late l') (λ fr f.
+      let k = finish-placed s r blocksA blocksB f .factors in
+      let e = numbers-same (rememberedA M r) (rememberedB M r) r 4 k in
+      let w = eq (k .first-mark) (omega (arith, k .triple-in)) in
+      let x = mask-same (rememberedA M r) r 4 (k .a-in) (k .a-held) (omega (arith, k .triple-in)) (k .first-mark) (w .0) in
+      let y = mask-same (rememberedB M r) (r + 1) 3 (k .b-in) (k .b-held) (omega (arith, k .triple-in)) (k .second-mark) (w .1) in
+      λ j.
+      first
+      ((factorTests (e .a-same j) (e .b-same j) (e .first-same j) (e .second-same j) ++ finishRest s (e .third-same j) blocksA blocksB)
+      ++ tooFewOf s (x j) (y j) blocksA blocksB))
     where
       late : List ℕ → List Test
-      late rows = finishNumbers s rows (leftOf M r) (rightOf M r) r blocks blocks' ++ tooFewOf s (Finish.maskA s rows r) (Finish.maskB s rows r) blocks blocks'
+      late rows = finishNumbers s rows (rememberedA M r) (rememberedB M r) r blocksA blocksB ++ tooFewOf s (Finish.maskA s rows r) (Finish.maskB s rows r) blocksA blocksB
 
-  -- an opening, that has as few in both runs where it comes to the walk
+  -- an opening, whose walk ends alike in both runs where it comes to it
   pub open-same : (r : ℕ) (blocks : List ℕ)
-      → (AllFail (openChecks s l r blocks) → tooFew s (rowAt W l r) blocks ≡ tooFew s (rowAt W l' r) blocks)
+      → (OpenChecked s l r blocks → first (walkTests s (rowAt W l r) blocks) ≡ first (walkTests s (rowAt W l' r) blocks))
       → openRefusal s l r blocks ≡ openRefusal s l' r blocks
   unfolding openRefusal
-  open-same r blocks few =
-      behind (5 when missized blocks (recordLength s) ∷ 6 when noRow r ∷ 7 when unlike s r 2 ∷ []) (late l) (late l') (λ fr f.
-      ap (λ (b : Bool). first (8 when b ∷ 8 when badRecord s blocks ∷ 9 when tooFew s (rowAt W l r) blocks ∷ [])) (low r 1 (f .1 .0) (f .1 .1 .0))
-      ∙ same-after (8 when anyBeyond (rowAt W l' r) ∷ 8 when badRecord s blocks ∷ []) (9 when tooFew s (rowAt W l r) blocks ∷ []) (9 when tooFew s (rowAt W l' r) blocks ∷ []) (λ g.
-      ap (λ (b : Bool). first (9 when b ∷ [])) (few (joined (subst AllFail (sym frame-same) fr) f (low r 1 (f .1 .0) (f .1 .1 .0) ∙ g .0, g .1)))))
+  open-same r blocks walk =
+      behind (openPlace s r blocks) (late l) (late l') (λ fr f.
+      let k = open-placed s r blocks f in
+      let e = elements-same r 1 (k .row-in) (k .is-held) in
+      ap (λ (b : Bool). first (openNumbers s b blocks ++ walkTests s (rowAt W l r) blocks)) e
+      ∙ same-after (openNumbers s (anyBeyond (rowAt W l' r)) blocks) (walkTests s (rowAt W l r) blocks) (walkTests s (rowAt W l' r) blocks) (λ g.
+      let (high, (bad, _)) = g in
+      walk (record { frame = not-refused (frameTests s l) (subst AllFail (sym frame-same) fr); placed = k; row-low = e ∙ high; record-low = bad })))
     where
       late : List ℕ → List Test
-      late rows = 8 when anyBeyond (rowAt W rows r) ∷ 8 when badRecord s blocks ∷ 9 when tooFew s (rowAt W rows r) blocks ∷ []
-
-      joined : AllFail (frameTests s l) → AllFail (5 when missized blocks (recordLength s) ∷ 6 when noRow r ∷ 7 when unlike s r 2 ∷ [])
-          → AllFail (8 when anyBeyond (rowAt W l r) ∷ 8 when badRecord s blocks ∷ []) → AllFail (openChecks s l r blocks)
-      joined fr f g = (fr .0, (fr .1 .0, (fr .1 .1 .0, (fr .1 .1 .1 .0, (fr .1 .1 .1 .1 .0, (f .0, (f .1 .0, (f .1 .1 .0, (g .0, (g .1 .0, tt))))))))))
+      late rows = openNumbers s (anyBeyond (rowAt W rows r)) blocks ++ walkTests s (rowAt W rows r) blocks

@@ -8,7 +8,7 @@ use Rattle.factory.specs.Draw.{eachFrom}
 use Rattle.forms.specs.Lines as Line
 use Rattle.forms.specs.Lines.{text}
 use Rattle.runs.specs.Draws.{Plan, Draw, none, by, whenRaw, pointOf, rawDraw, rawPack, triplePack}
-use Rattle.runs.specs.Calls.{Post, Left, perform, after, broadcast, newPost}
+use Rattle.runs.specs.Calls.{Post, Performed, perform, after, broadcast, newPost}
 use Rattle.secrecy.specs.Steps.{Secrets, Step, callAt, heardFrom, dealtNumber}
 
 -- the posts 1 to n; the rows 0 to 95
@@ -47,7 +47,7 @@ member i (g ∷ group) = eqb i g || member i group
 
 module _ (plan : Plan) (draw : Draw) (u : Secrets) where
   -- what the call does at post i
-  abbrev pub doneAt : List (List ℕ) → Step → (ℕ → Post) → ℕ → Left
+  abbrev pub doneAt : List (List ℕ) → Step → (ℕ → Post) → ℕ → Performed
   doneAt lines c q i = perform (callAt plan draw u lines i c) (q i)
 
   -- the lines that the call broadcasts, post 1's first; "however few posts send one"

@@ -18,7 +18,7 @@ use Rattle.opening.specs.Opening.{openRefusal}
 use Rattle.product.specs.Masks.{masksRefusal, maskNumbersOf}
 use Rattle.product.specs.Finish.{finishRefusal, productRow, withProduct}
 use Rattle.decimal.specs.Numeral.{lastDigits, sizeWithin}
-use Rattle.fields.specs.Fields.{fields}
+use Rattle.csv.specs.Fields.{fields}
 use Rattle.runs.specs.Draws.{pointOf, rawDraw, tripleDraw, rawPack, triplePack}
 use Rattle.runs.specs.Calls.{perform, newPost, at}
 use Rattle.secrecy.specs.Steps.{dealtNumber}

@@ -10,7 +10,7 @@ use Rattle.shape.specs.declared.Shape.{Shape}
 use Rattle.shape.specs.Bounds.{lastRow, lastTriple}
 use Rattle.shape.specs.Lengths.{shape, Valid, rowLength, rowsLength}
 use Rattle.refusal.specs.Refusal.{_when_, first, orElse, AllFail}
-use Rattle.refusal.specs.Conditions.{postsTests, outside, missized, beyond, badPoint}
+use Rattle.refusal.specs.Conditions.{postsTests, outside, wrongLength, beyond, badPoint}
 use Rattle.refusal.proofs.Laws.{or-false, inside, equal, all-fail, first-join}
 use Rattle.refusal.proofs.Elements.{below-p}
 use Rattle.refusal.proofs.Groups.{first-chain, stopped, went-on}
@@ -54,13 +54,13 @@ settings-joined n t post point a b c d r ea eb ec ed er =
 module _ (s : Session) (rows : List ℕ) (r : ℕ) (e : r ≡ first (sessionTests (s .n) (s .t) (s .post) (s .point))) where
   pub frame-stopped : (r ≡ 0 → ⊥) → r ≡ first (frameTests s rows)
   frame-stopped =
-      stopped (sessionTests (s .n) (s .t) (s .post) (s .point)) (5 when missized rows (rowsLength (shapeOf s)) ∷ []) tt r e
+      stopped (sessionTests (s .n) (s .t) (s .post) (s .point)) (5 when wrongLength rows (rowsLength (shapeOf s)) ∷ []) tt r e
 
   module _ (z : r ≡ 0) (g : Shape) (h : g ≡ shapeOf s) where
     pub frame-valid : Valid g
     frame-valid = rw h (settled (s .n) (s .t) (s .post) (s .point) r e z)
 
-    pub frame-sized : (w q : ℕ) → w ≡ rowsLength g → q ≡ first (5 when missized rows w ∷ []) → q ≡ first (frameTests s rows)
+    pub frame-sized : (w q : ℕ) → w ≡ rowsLength g → q ≡ first (5 when wrongLength rows w ∷ []) → q ≡ first (frameTests s rows)
     frame-sized w q ew eq =
-        went-on (sessionTests (s .n) (s .t) (s .post) (s .point)) (5 when missized rows (rowsLength (shapeOf s)) ∷ []) tt r e q z
+        went-on (sessionTests (s .n) (s .t) (s .post) (s .point)) (5 when wrongLength rows (rowsLength (shapeOf s)) ∷ []) tt r e q z
         (rw (ew, h) at eq)

@@ -10,13 +10,13 @@ use Rattle.shape.specs.declared.Shape.{Shape}
 use Rattle.shape.specs.Bounds.{lastRow, lastTriple}
 use Rattle.shape.specs.Lengths.{Valid, rowLength, rowsLength}
 use Rattle.refusal.specs.Refusal.{Test, _when_}
-use Rattle.refusal.specs.Conditions.{missized}
+use Rattle.refusal.specs.Conditions.{wrongLength}
 use Rattle.session.specs.declared.Session.{Session}
 use Rattle.session.specs.Sessions.{shapeOf, sessionTests, markIn}
 
 -- 1 to 4 on the session handed in, whose fields may hold anything, and 5 for its list of rows.
 abbrev pub frameTests : Session → List ℕ → List Test
-frameTests s rows = sessionTests (s .n) (s .t) (s .post) (s .point) ++ (5 when missized rows (rowsLength (shapeOf s)) ∷ [])
+frameTests s rows = sessionTests (s .n) (s .t) (s .post) (s .point) ++ (5 when wrongLength rows (rowsLength (shapeOf s)) ∷ [])
 
 -- 6: row above 95, or a triple's first above 93.
 abbrev pub noRow : ℕ → Bool
@@ -26,16 +26,16 @@ abbrev pub noTriple : ℕ → Bool
 noTriple r = ltb lastTriple r
 
 -- 7: the mark of row r isn't what the call needs.
-abbrev pub unlikeIn : List ℕ → ℕ → ℕ → Bool
-unlikeIn marks r m = not (eqb (markIn marks r) m)
+abbrev pub wrongMarkIn : List ℕ → ℕ → ℕ → Bool
+wrongMarkIn marks r m = not (eqb (markIn marks r) m)
 
-abbrev pub unlike : Session → ℕ → ℕ → Bool
-unlike s r m = unlikeIn (s .marks) r m
+abbrev pub wrongMark : Session → ℕ → ℕ → Bool
+wrongMark s r m = wrongMarkIn (s .marks) r m
 
 -- 7, of the marks that a call needs on a triple's three rows.
-abbrev pub unlikeTriple : List ℕ → ℕ → ℕ → ℕ → ℕ → List Test
-unlikeTriple marks r a b c =
-    7 when unlikeIn marks r a ∷ 7 when unlikeIn marks (r + 1) b ∷ 7 when unlikeIn marks (r + 2) c ∷ []
+abbrev pub wrongMarks : List ℕ → ℕ → ℕ → ℕ → ℕ → List Test
+wrongMarks marks r a b c =
+    7 when wrongMarkIn marks r a ∷ 7 when wrongMarkIn marks (r + 1) b ∷ 7 when wrongMarkIn marks (r + 2) c ∷ []
 
 -- What 1, 2 and 5 leave of a list of rows.
 pub record Sized (s : Shape) (rows : List ℕ) : Type 0 where

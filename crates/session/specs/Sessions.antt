@@ -27,22 +27,22 @@ mark s r = markIn (s .marks) r
 
 -- "for mark 5 the two factor rows": they stand at the triple's first row.
 abbrev pub factorA : Session → ℕ → ℕ
-factorA s r = getD (s .left) r 0
+factorA s r = getD (s .«factor_a») r 0
 
 abbrev pub factorB : Session → ℕ → ℕ
-factorB s r = getD (s .right) r 0
+factorB s r = getD (s .«factor_b») r 0
 
 -- The session with one part of it anew. These and `sessionOf` name every field; nothing else does.
 abbrev pub withPoint : Session → ℕ → Session
-withPoint s w = record { n = s .n; t = s .t; post = s .post; point = w; marks = s .marks; left = s .left; right = s .right }
+withPoint s w = record { n = s .n; t = s .t; post = s .post; point = w; marks = s .marks; «factor_a» = s .«factor_a»; «factor_b» = s .«factor_b» }
 
 abbrev pub withMarks : Session → List ℕ → Session
 withMarks s marks =
-    record { n = s .n; t = s .t; post = s .post; point = s .point; marks = marks; left = s .left; right = s .right }
+    record { n = s .n; t = s .t; post = s .post; point = s .point; marks = marks; «factor_a» = s .«factor_a»; «factor_b» = s .«factor_b» }
 
 abbrev pub withFactors : Session → List ℕ → List ℕ → Session
-withFactors s left right =
-    record { n = s .n; t = s .t; post = s .post; point = s .point; marks = s .marks; left = left; right = right }
+withFactors s «factor_a» «factor_b» =
+    record { n = s .n; t = s .t; post = s .post; point = s .point; marks = s .marks; «factor_a» = «factor_a»; «factor_b» = «factor_b» }
 
 abbrev pub sessionOf : ℕ → ℕ → ℕ → ℕ → Session
 sessionOf n t post point =
@@ -52,8 +52,8 @@ sessionOf n t post point =
       post = post;
       point = point;
       marks = replicate rowCount empty;
-      left = replicate rowCount 0;
-      right = replicate rowCount 0;
+      «factor_a» = replicate rowCount 0;
+      «factor_b» = replicate rowCount 0;
     }
 
 -- The session with another mark on row r.
@@ -62,7 +62,7 @@ marked s r m = withMarks s (set (s .marks) r m)
 
 -- The session that remembers a and b as the factor rows of the triple at r.
 abbrev pub remembering : Session → ℕ → ℕ → ℕ → Session
-remembering s r a b = withFactors s (set (s .left) r a) (set (s .right) r b)
+remembering s r a b = withFactors s (set (s .«factor_a») r a) (set (s .«factor_b») r b)
 
 -- Other marks on the three rows of the triple at r.
 abbrev pub markedTriple : Session → ℕ → ℕ → ℕ → ℕ → Session

@@ -11,7 +11,7 @@ ghost use Rattle.session.specs.Sessions.{markIn, sessionTests};
 ghost use Rattle.shape.specs.Bounds.{lastTriple};
 ghost use Rattle.shape.specs.Lengths.{rowLength};
 ghost use Rattle.session.specs.Rows.{rowAt};
-ghost use Rattle.session.specs.Checks.{frameTests, noRow, noTriple, unlikeIn, unlikeTriple, Sized};
+ghost use Rattle.session.specs.Checks.{frameTests, noRow, noTriple, wrongMarkIn, wrongMarks, Sized};
 
 // 1 to 4, of a session's settings.
 pub fn settings(n: usize, t: usize, post: usize, point: u32) -> u8
@@ -49,20 +49,20 @@ fn mark(marks: &[u8], row: usize) -> u8
 }
 
 // 7, of the mark that a call needs on a row.
-pub fn unlike(marks: &[u8], row: usize, need: u8) -> u8
-    ensures { λ r. ⌜ r ≡ first (7 when unlikeIn (now (marks .entry)) row need ∷ []) ⌝ }
+pub fn wrong_mark(marks: &[u8], row: usize, need: u8) -> u8
+    ensures { λ r. ⌜ r ≡ first (7 when wrongMarkIn (now (marks .entry)) row need ∷ []) ⌝ }
 {
     if mark(marks, row) == need { 0 } else { 7 }
 }
 
 // 7, of the marks that a call needs on a triple's three rows.
-pub fn unlike_triple(marks: &[u8], row: usize, a: u8, b: u8, c: u8) -> u8
+pub fn wrong_marks(marks: &[u8], row: usize, a: u8, b: u8, c: u8) -> u8
     requires { ⌜ row ≤ lastTriple ⌝ }
-    ensures { λ r. ⌜ r ≡ first (unlikeTriple (now (marks .entry)) row a b c) ⌝ }
+    ensures { λ r. ⌜ r ≡ first (wrongMarks (now (marks .entry)) row a b c) ⌝ }
 {
     refusal::or_else(
-        unlike(marks, row, a),
-        refusal::or_else(unlike(marks, row + 1, b), unlike(marks, row + 2, c)),
+        wrong_mark(marks, row, a),
+        refusal::or_else(wrong_mark(marks, row + 1, b), wrong_mark(marks, row + 2, c)),
     )
 }
 

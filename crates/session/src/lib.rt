@@ -26,8 +26,8 @@ pub struct Session {
     pub point: u32,
     pub marks: [u8; shape::ROWS],
     // the factor rows that the masks of a triple remember, at its first row
-    pub left: [u8; shape::ROWS],
-    pub right: [u8; shape::ROWS],
+    pub factor_a: [u8; shape::ROWS],
+    pub factor_b: [u8; shape::ROWS],
 }
 
 // What a call hands back.
@@ -49,8 +49,8 @@ impl Session {
             post,
             point,
             marks: [shape::EMPTY; shape::ROWS],
-            left: [0; shape::ROWS],
-            right: [0; shape::ROWS],
+            factor_a: [0; shape::ROWS],
+            factor_b: [0; shape::ROWS],
         }
     }
 
@@ -133,8 +133,8 @@ impl Session {
         ensures { λ r. ⌜ r ≡ holding 0 0 (maskedTriple self first a b) ⌝ }
     {
         self.marks[first] = shape::MASKED;
-        self.left[first] = a as u8;
-        self.right[first] = b as u8;
+        self.factor_a[first] = a as u8;
+        self.factor_b[first] = b as u8;
         self.done(0)
     }
 }

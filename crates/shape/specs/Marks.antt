@@ -11,7 +11,8 @@ raw = 1
 abbrev pub held : ℕ
 held = 2
 
--- "3 first row of an unused triple; 4 its second or third row"
+-- "3 first row of an unused triple; 4 its second or third row". A Beaver triple: the rows of l, l' and l'', "such that l'' = ll'" (the
+-- source, section 3.2).
 abbrev pub unused : ℕ
 unused = 3
 

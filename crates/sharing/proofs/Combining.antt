@@ -1,6 +1,6 @@
 -- The refusal of a linear call from the checks that its code joins, and what holds where there is none.
 use Prim.Native.Nat.{ℕ, _≤_}
-use mathlib.Core.Path.{_≡_}
+use mathlib.Core.Path.{_≡_, sym, _∙_}
 use mathlib.Core.List.{List, [], _∷_, _++_}
 use Rattle.shape.specs.declared.Shape.{Shape}
 use Rattle.shape.specs.Bounds.{lastRow}
@@ -13,10 +13,12 @@ use Rattle.refusal.proofs.Endings.{accepted}
 use Rattle.session.specs.declared.Session.{Session}
 use Rattle.session.specs.Sessions.{shapeOf}
 use Rattle.session.specs.Rows.{width, rowAt, withRow, summed}
-use Rattle.session.specs.Checks.{frameTests, noRow, Framed, Sized, RowIn}
-use Rattle.session.proofs.Passed.{row-in}
-use Rattle.session.proofs.Calls.{stopped-at-frame, past-frame, allowed}
+use Rattle.session.specs.Checks.{frameTests, noRow, Sized, RowIn}
+use Rattle.session.proofs.Passed.{row-below}
+use Rattle.session.proofs.Calls.{stopped-at-frame, past-frame}
 use Rattle.sharing.specs.Linear.{linearMarks, linearRefusal, linearRows}
+use Rattle.sharing.proofs.Passed as Passed
+use Rattle.sharing.proofs.Passed.{Summed}
 
 module _ (s : Session) (rows : List ℕ) (r a b scale fee : ℕ) where
   abbrev marks : List Test
@@ -54,27 +56,24 @@ module _ (s : Session) (rows : List ℕ) (r a b scale fee : ℕ) where
       ))
 
   module _ (f : ℕ) (e : f ≡ linearRefusal s rows r a b scale fee) (n : f ≡ 0) where
-    passed : Framed s rows × RowIn (shapeOf s) r × RowIn (shapeOf s) a × RowIn (shapeOf s) b
-    unfolding linearRefusal
-    passed =
-        let h = allowed s rows own tt f e n in
-        (h .0, row-in (shapeOf s) r (h .1 .0), row-in (shapeOf s) a (h .1 .1 .0), row-in (shapeOf s) b (h .1 .1 .1 .0))
+    passed : Summed s rows r a b scale fee
+    passed = Passed.summed s rows r a b scale fee (sym e ∙ n)
 
     pub linear-row : r ≤ lastRow
-    linear-row = passed .1 .row-in
+    linear-row = passed .placed .row-in
 
     module _ (g : Shape) (eg : g ≡ shapeOf s) where
       pub linear-sized : Sized g rows
-      linear-sized = rw eg (passed .0 .sized)
+      linear-sized = rw eg (passed .framed .sized)
 
       pub linear-in : RowIn g r
-      linear-in = rw eg (passed .1)
+      linear-in = row-below g r linear-row
 
       pub linear-in-a : RowIn g a
-      linear-in-a = rw eg (passed .2)
+      linear-in-a = row-below g a (passed .placed .a-in)
 
       pub linear-in-b : RowIn g b
-      linear-in-b = rw eg (passed .3)
+      linear-in-b = row-below g b (passed .placed .b-in)
 
       pub linear-written : (out : List ℕ)
           → out ≡ withRow (rowLength g) r (summed (sumsAt g) scale fee (rowAt (rowLength g) rows a) (rowAt (rowLength g) rows b)) rows

@@ -1,6 +1,6 @@
 -- The refusal of a deal from the checks that its code joins, and what holds where there is none.
 use Prim.Native.Nat.{ℕ, _≤_}
-use mathlib.Core.Path.{_≡_}
+use mathlib.Core.Path.{_≡_, sym, _∙_}
 use mathlib.Core.List.{List, [], _∷_}
 use Rattle.shape.specs.declared.Shape.{Shape}
 use Rattle.shape.specs.Bounds.{lastRow}
@@ -13,21 +13,22 @@ use Rattle.refusal.proofs.Endings.{accepted}
 use Rattle.session.specs.declared.Session.{Session}
 use Rattle.session.specs.Sessions.{shapeOf}
 use Rattle.session.specs.Rows.{width, rowAt, withRow, plusSums}
-use Rattle.session.specs.Checks.{frameTests, noRow, unlike, Framed, Sized, RowIn}
-use Rattle.session.proofs.Passed.{row-in}
-use Rattle.session.proofs.Calls.{stopped-at-frame, past-frame, allowed}
+use Rattle.session.specs.Checks.{frameTests, noRow, wrongMark, Sized, RowIn}
+use Rattle.session.proofs.Passed.{row-below}
+use Rattle.session.proofs.Calls.{stopped-at-frame, past-frame}
 use Rattle.sharing.specs.Deal.{dealRefusal, dealRows}
+use Rattle.sharing.proofs.Passed.{Dealt, dealt}
 
 module _ (s : Session) (rows : List ℕ) (r c : ℕ) where
   abbrev own : List Test
-  own = 6 when noRow r ∷ 7 when unlike s r raw ∷ 8 when beyond c ∷ 8 when anyBeyond (rowAt (width s) rows r) ∷ []
+  own = 6 when noRow r ∷ 7 when wrongMark s r raw ∷ 8 when beyond c ∷ 8 when anyBeyond (rowAt (width s) rows r) ∷ []
 
   pub deal-stopped : (f : ℕ) → f ≡ first (frameTests s rows) → (f ≡ 0 → ⊥) → f ≡ dealRefusal s rows r c
   unfolding dealRefusal
   deal-stopped f e n = stopped-at-frame s rows own f e n
 
   pub deal-checked : (g : Shape) (f q6 q7 q8 q9 x y z : ℕ) → g ≡ shapeOf s → f ≡ first (frameTests s rows) → f ≡ 0
-      → q6 ≡ first (6 when noRow r ∷ []) → q7 ≡ first (7 when unlike s r raw ∷ []) → q8 ≡ first (8 when beyond c ∷ [])
+      → q6 ≡ first (6 when noRow r ∷ []) → q7 ≡ first (7 when wrongMark s r raw ∷ []) → q8 ≡ first (8 when beyond c ∷ [])
       → q9 ≡ first (8 when anyBeyond (rowAt (rowLength g) rows r) ∷ []) → x ≡ orElse q8 q9 → y ≡ orElse q7 x → z ≡ orElse q6 y
       → z ≡ dealRefusal s rows r c
   unfolding dealRefusal
@@ -36,19 +37,18 @@ module _ (s : Session) (rows : List ℕ) (r c : ℕ) where
       past-frame s rows own f z e n (chained own tt z (cc))
 
   module _ (f : ℕ) (e : f ≡ dealRefusal s rows r c) (n : f ≡ 0) where
-    passed : Framed s rows × RowIn (shapeOf s) r
-    unfolding dealRefusal
-    passed = let h = allowed s rows own tt f e n in (h .0, row-in (shapeOf s) r (h .1 .0))
+    passed : Dealt s rows r c
+    passed = dealt s rows r c (sym e ∙ n)
 
     pub deal-row : r ≤ lastRow
-    deal-row = passed .1 .row-in
+    deal-row = passed .placed .row-in
 
     module _ (g : Shape) (eg : g ≡ shapeOf s) where
       pub deal-sized : Sized g rows
-      deal-sized = rw eg (passed .0 .sized)
+      deal-sized = rw eg (passed .framed .sized)
 
       pub deal-in : RowIn g r
-      deal-in = rw eg (passed .1)
+      deal-in = row-below g r deal-row
 
       pub deal-written : (out : List ℕ)
           → out ≡ withRow (rowLength g) r (plusSums (sumsAt g) c (rowAt (rowLength g) rows r)) rows → out ≡ dealRows s rows r c

@@ -1,3 +1,4 @@
+pub mod Passed
 pub mod Dealing
 pub mod Messages
 pub mod Loading

@@ -10,24 +10,24 @@ use Rattle.shape.specs.Marks.{held}
 use Rattle.shape.specs.Lengths.{vLength, rowLength, messageLength}
 use Rattle.shape.specs.Row.{coefficients}
 use Rattle.refusal.specs.Refusal.{Test, _when_, first, orElse}
-use Rattle.refusal.specs.Conditions.{missized, anyBeyond}
-use Rattle.refusal.proofs.Laws.{equal}
+use Rattle.refusal.specs.Conditions.{wrongLength, anyBeyond}
 use Rattle.refusal.proofs.Groups.{chained}
 use Rattle.refusal.proofs.Endings.{accepted}
 use Rattle.session.specs.declared.Session.{Session}
 use Rattle.session.specs.Sessions.{shapeOf}
 use Rattle.session.specs.Rows.{width, rowAt}
-use Rattle.session.specs.Checks.{frameTests, noRow, unlike, Framed, Sized, RowIn}
-use Rattle.session.proofs.Passed.{row-in}
-use Rattle.session.proofs.Calls.{stopped-at-frame, past-frame, allowed}
+use Rattle.session.specs.Checks.{frameTests, noRow, wrongMark, Sized, RowIn}
+use Rattle.session.proofs.Passed.{row-below}
+use Rattle.session.proofs.Calls.{stopped-at-frame, past-frame}
 use Rattle.sharing.specs.Message.{messageRefusal, messageOut}
+use Rattle.sharing.proofs.Passed.{MessageMade, message-made}
 
 module _ (s : Session) (rows : List ℕ) (r : ℕ) (out : List ℕ) where
   abbrev own : List Test
   own =
-      5 when missized out (messageLength (shapeOf s))
+      5 when wrongLength out (messageLength (shapeOf s))
       ∷ 6 when noRow r
-      ∷ 7 when unlike s r held
+      ∷ 7 when wrongMark s r held
       ∷ 8 when anyBeyond (rowAt (width s) rows r)
       ∷ []
 
@@ -36,31 +36,28 @@ module _ (s : Session) (rows : List ℕ) (r : ℕ) (out : List ℕ) where
   message-stopped f e n = stopped-at-frame s rows own f e n
 
   pub message-checked : (g : Shape) (f w q5 q6 q7 q8 x y z : ℕ) → g ≡ shapeOf s → f ≡ first (frameTests s rows) → f ≡ 0
-      → w ≡ vLength g → q5 ≡ first (5 when missized out w ∷ []) → q6 ≡ first (6 when noRow r ∷ [])
-      → q7 ≡ first (7 when unlike s r held ∷ []) → q8 ≡ first (8 when anyBeyond (rowAt (rowLength g) rows r) ∷ [])
+      → w ≡ vLength g → q5 ≡ first (5 when wrongLength out w ∷ []) → q6 ≡ first (6 when noRow r ∷ [])
+      → q7 ≡ first (7 when wrongMark s r held ∷ []) → q8 ≡ first (8 when anyBeyond (rowAt (rowLength g) rows r) ∷ [])
       → x ≡ orElse q7 q8 → y ≡ orElse q6 x → z ≡ orElse q5 y → z ≡ messageRefusal s rows r out
   unfolding messageRefusal
   message-checked g f w q5 q6 q7 q8 x y z eg e n ew e5 e6 e7 e8 ex ey ez =
-      let h5 : q5 ≡ first (5 when missized out (messageLength (shapeOf s)) ∷ []) = rw (ew, eg) at e5 in
+      let h5 : q5 ≡ first (5 when wrongLength out (messageLength (shapeOf s)) ∷ []) = rw (ew, eg) at e5 in
       let h8 : q8 ≡ first (8 when anyBeyond (rowAt (width s) rows r) ∷ []) = rw eg at e8 in
       past-frame s rows own f z e n (chained own tt z (cc))
 
   module _ (f : ℕ) (e : f ≡ messageRefusal s rows r out) (n : f ≡ 0) where
-    passed : Framed s rows × RowIn (shapeOf s) r × (length out ≡ vLength (shapeOf s))
-    unfolding messageRefusal
-    passed =
-        let h = allowed s rows own tt f e n in
-        (h .0, row-in (shapeOf s) r (h .1 .1 .0), equal (length out) (messageLength (shapeOf s)) (h .1 .0))
+    passed : MessageMade s rows r out
+    passed = message-made s rows r out (sym e ∙ n)
 
     module _ (g : Shape) (eg : g ≡ shapeOf s) where
       pub message-sized : Sized g rows
-      message-sized = rw eg (passed .0 .sized)
+      message-sized = rw eg (passed .framed .sized)
 
       pub message-in : RowIn g r
-      message-in = rw eg (passed .1)
+      message-in = row-below g r (passed .placed .row-in)
 
       pub message-long : length out ≡ vLength g
-      message-long = rw eg (passed .2)
+      message-long = rw eg (passed .placed .out-long)
 
       pub message-written : (new : List ℕ) → new ≡ coefficients g (rowAt (rowLength g) rows r) → new ≡ messageOut s rows r out
       message-written new eo =

@@ -8,12 +8,12 @@ use Rattle.session.specs.declared.Session.{Session}
 use Rattle.session.specs.declared.Answer.{Answer}
 use Rattle.session.specs.Sessions.{marked, answer}
 use Rattle.session.specs.Rows.{width, sumsAt, rowAt, withRow, plusSums}
-use Rattle.session.specs.Checks.{frameTests, noRow, unlike}
+use Rattle.session.specs.Checks.{frameTests, noRow, wrongMark}
 
 abbrev pub dealTests : Session → List ℕ → ℕ → ℕ → List Test
 dealTests s rows r c =
     frameTests s rows
-    ++ (6 when noRow r ∷ 7 when unlike s r raw ∷ 8 when beyond c ∷ 8 when anyBeyond (rowAt (width s) rows r) ∷ [])
+    ++ (6 when noRow r ∷ 7 when wrongMark s r raw ∷ 8 when beyond c ∷ 8 when anyBeyond (rowAt (width s) rows r) ∷ [])
 
 unfoldable pub dealRefusal : Session → List ℕ → ℕ → ℕ → ℕ
 dealRefusal s rows r c = first (dealTests s rows r c)

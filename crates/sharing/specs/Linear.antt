@@ -10,11 +10,11 @@ use Rattle.session.specs.declared.Session.{Session}
 use Rattle.session.specs.declared.Answer.{Answer}
 use Rattle.session.specs.Sessions.{marked, answer}
 use Rattle.session.specs.Rows.{width, sumsAt, rowAt, withRow, summed}
-use Rattle.session.specs.Checks.{frameTests, noRow, unlikeIn}
+use Rattle.session.specs.Checks.{frameTests, noRow, wrongMarkIn}
 
 -- 7, of the three rows' marks.
 abbrev pub linearMarks : List ℕ → ℕ → ℕ → ℕ → List Test
-linearMarks marks r a b = 7 when unlikeIn marks r empty ∷ 7 when unlikeIn marks a held ∷ 7 when unlikeIn marks b held ∷ []
+linearMarks marks r a b = 7 when wrongMarkIn marks r empty ∷ 7 when wrongMarkIn marks a held ∷ 7 when wrongMarkIn marks b held ∷ []
 
 -- 8 covers the scale, the fee and the rows a and b, not the row that is written.
 abbrev pub linearTests : Session → List ℕ → ℕ → ℕ → ℕ → ℕ → ℕ → List Test

@@ -2,20 +2,20 @@
 use Prim.Native.Nat.{ℕ, _+_}
 use mathlib.Core.List.{List, [], _∷_, _++_}
 use Rattle.refusal.specs.Refusal.{Test, _when_, first, outcome}
-use Rattle.refusal.specs.Conditions.{missized, anyBeyond}
+use Rattle.refusal.specs.Conditions.{wrongLength, anyBeyond}
 use Rattle.shape.specs.Marks.{empty, raw}
 use Rattle.shape.specs.Lengths.{tripleLength}
 use Rattle.session.specs.declared.Session.{Session}
 use Rattle.session.specs.declared.Answer.{Answer}
 use Rattle.session.specs.Sessions.{shapeOf, marked, loadedTriple, answer}
 use Rattle.session.specs.Rows.{width, rowAt, withRow}
-use Rattle.session.specs.Checks.{frameTests, noRow, noTriple, unlike, unlikeTriple}
+use Rattle.session.specs.Checks.{frameTests, noRow, noTriple, wrongMark, wrongMarks}
 
 -- The pack is one row's numbers; 8 covers the pack, not the row that it goes to.
 abbrev pub loadRowTests : Session → List ℕ → ℕ → List ℕ → List Test
 loadRowTests s rows r pack =
     frameTests s rows
-    ++ (5 when missized pack (width s) ∷ 6 when noRow r ∷ 7 when unlike s r empty ∷ 8 when anyBeyond pack ∷ [])
+    ++ (5 when wrongLength pack (width s) ∷ 6 when noRow r ∷ 7 when wrongMark s r empty ∷ 8 when anyBeyond pack ∷ [])
 
 unfoldable pub loadRowRefusal : Session → List ℕ → ℕ → List ℕ → ℕ
 loadRowRefusal s rows r pack = first (loadRowTests s rows r pack)
@@ -30,9 +30,9 @@ loadRowRows s rows r pack = outcome (loadRowRefusal s rows r pack) (withRow (wid
 abbrev pub loadTripleTests : Session → List ℕ → ℕ → List ℕ → List Test
 loadTripleTests s rows r pack =
     frameTests s rows
-    ++ (5 when missized pack (tripleLength (shapeOf s))
+    ++ (5 when wrongLength pack (tripleLength (shapeOf s))
     ∷ 6 when noTriple r
-    ∷ (unlikeTriple (s .marks) r empty empty empty ++ (8 when anyBeyond pack ∷ [])))
+    ∷ (wrongMarks (s .marks) r empty empty empty ++ (8 when anyBeyond pack ∷ [])))
 
 unfoldable pub loadTripleRefusal : Session → List ℕ → ℕ → List ℕ → ℕ
 loadTripleRefusal s rows r pack = first (loadTripleTests s rows r pack)

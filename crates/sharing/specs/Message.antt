@@ -2,19 +2,19 @@
 use Prim.Native.Nat.{ℕ}
 use mathlib.Core.List.{List, [], _∷_, _++_}
 use Rattle.refusal.specs.Refusal.{Test, _when_, first, outcome}
-use Rattle.refusal.specs.Conditions.{missized, anyBeyond}
+use Rattle.refusal.specs.Conditions.{wrongLength, anyBeyond}
 use Rattle.shape.specs.Marks.{held}
 use Rattle.shape.specs.Lengths.{messageLength}
 use Rattle.session.specs.declared.Session.{Session}
 use Rattle.session.specs.declared.Answer.{Answer}
 use Rattle.session.specs.Sessions.{shapeOf, answer}
 use Rattle.session.specs.Rows.{width, rowAt, coefficients}
-use Rattle.session.specs.Checks.{frameTests, noRow, unlike}
+use Rattle.session.specs.Checks.{frameTests, noRow, wrongMark}
 
 abbrev pub messageTests : Session → List ℕ → ℕ → List ℕ → List Test
 messageTests s rows r out =
     frameTests s rows
-    ++ (5 when missized out (messageLength (shapeOf s)) ∷ 6 when noRow r ∷ 7 when unlike s r held ∷ 8 when anyBeyond (rowAt (width s) rows r) ∷ [])
+    ++ (5 when wrongLength out (messageLength (shapeOf s)) ∷ 6 when noRow r ∷ 7 when wrongMark s r held ∷ 8 when anyBeyond (rowAt (width s) rows r) ∷ [])
 
 unfoldable pub messageRefusal : Session → List ℕ → ℕ → List ℕ → ℕ
 messageRefusal s rows r out = first (messageTests s rows r out)

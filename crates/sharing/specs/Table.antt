@@ -5,10 +5,10 @@ use Prim.Native.Nat.{ℕ, _+_, _*_, _-_}
 use mathlib.Core.Path.{_≡_}
 use mathlib.Core.List.{List, [], _∷_}
 use Rattle.refusal.specs.Refusal.{Test, _when_}
-use Rattle.refusal.specs.Conditions.{outside, missized, beyond, anyBeyond, badPoint}
+use Rattle.refusal.specs.Conditions.{outside, wrongLength, beyond, anyBeyond, badPoint}
 use Rattle.session.specs.declared.Session.{Session}
 use Rattle.session.specs.Rows.{width, rowAt}
-use Rattle.session.specs.Checks.{noRow, noTriple, unlike}
+use Rattle.session.specs.Checks.{noRow, noTriple, wrongMark}
 use Rattle.sharing.specs.Load.{loadRowTests, loadTripleTests}
 use Rattle.sharing.specs.Deal.{dealTests}
 use Rattle.sharing.specs.Message.{messageTests}
@@ -20,10 +20,10 @@ loadRowTable s rows r pack =
     ∷ 2 when outside 1 (s .n - 1) (s .t)
     ∷ 3 when outside 1 (s .n) (s .post)
     ∷ 4 when badPoint (s .point)
-    ∷ 5 when missized rows (96 * width s)
-    ∷ 5 when missized pack (width s)
+    ∷ 5 when wrongLength rows (96 * width s)
+    ∷ 5 when wrongLength pack (width s)
     ∷ 6 when noRow r
-    ∷ 7 when unlike s r 0
+    ∷ 7 when wrongMark s r 0
     ∷ 8 when anyBeyond pack
     ∷ []
 
@@ -33,12 +33,12 @@ loadTripleTable s rows r pack =
     ∷ 2 when outside 1 (s .n - 1) (s .t)
     ∷ 3 when outside 1 (s .n) (s .post)
     ∷ 4 when badPoint (s .point)
-    ∷ 5 when missized rows (96 * width s)
-    ∷ 5 when missized pack (3 * width s)
+    ∷ 5 when wrongLength rows (96 * width s)
+    ∷ 5 when wrongLength pack (3 * width s)
     ∷ 6 when noTriple r
-    ∷ 7 when unlike s r 0
-    ∷ 7 when unlike s (r + 1) 0
-    ∷ 7 when unlike s (r + 2) 0
+    ∷ 7 when wrongMark s r 0
+    ∷ 7 when wrongMark s (r + 1) 0
+    ∷ 7 when wrongMark s (r + 2) 0
     ∷ 8 when anyBeyond pack
     ∷ []
 
@@ -48,9 +48,9 @@ dealTable s rows r c =
     ∷ 2 when outside 1 (s .n - 1) (s .t)
     ∷ 3 when outside 1 (s .n) (s .post)
     ∷ 4 when badPoint (s .point)
-    ∷ 5 when missized rows (96 * width s)
+    ∷ 5 when wrongLength rows (96 * width s)
     ∷ 6 when noRow r
-    ∷ 7 when unlike s r 1
+    ∷ 7 when wrongMark s r 1
     ∷ 8 when beyond c
     ∷ 8 when anyBeyond (rowAt (width s) rows r)
     ∷ []
@@ -61,10 +61,10 @@ messageTable s rows r out =
     ∷ 2 when outside 1 (s .n - 1) (s .t)
     ∷ 3 when outside 1 (s .n) (s .post)
     ∷ 4 when badPoint (s .point)
-    ∷ 5 when missized rows (96 * width s)
-    ∷ 5 when missized out (s .t + 1)
+    ∷ 5 when wrongLength rows (96 * width s)
+    ∷ 5 when wrongLength out (s .t + 1)
     ∷ 6 when noRow r
-    ∷ 7 when unlike s r 2
+    ∷ 7 when wrongMark s r 2
     ∷ 8 when anyBeyond (rowAt (width s) rows r)
     ∷ []
 
@@ -74,13 +74,13 @@ linearTable s rows r a b scale fee =
     ∷ 2 when outside 1 (s .n - 1) (s .t)
     ∷ 3 when outside 1 (s .n) (s .post)
     ∷ 4 when badPoint (s .point)
-    ∷ 5 when missized rows (96 * width s)
+    ∷ 5 when wrongLength rows (96 * width s)
     ∷ 6 when noRow r
     ∷ 6 when noRow a
     ∷ 6 when noRow b
-    ∷ 7 when unlike s r 0
-    ∷ 7 when unlike s a 2
-    ∷ 7 when unlike s b 2
+    ∷ 7 when wrongMark s r 0
+    ∷ 7 when wrongMark s a 2
+    ∷ 7 when wrongMark s b 2
     ∷ 8 when beyond scale
     ∷ 8 when beyond fee
     ∷ 8 when anyBeyond (rowAt (width s) rows a)

@@ -18,7 +18,7 @@ fn deal_refusal(session: Session, rows: &[u32], row: usize, c: u32) -> u8
     refusal::or_else(
         session::checks::row(row),
         refusal::or_else(
-            session::checks::unlike(&session.marks, row, shape::RAW),
+            session::checks::wrong_mark(&session.marks, row, shape::RAW),
             numbers,
         ),
     )

@@ -11,10 +11,10 @@ fn linear_marks(marks: &[u8], dest: usize, a: usize, b: usize) -> u8
     ensures { λ r. ⌜ r ≡ first (linearMarks (now (marks .entry)) dest a b) ⌝ }
 {
     refusal::or_else(
-        session::checks::unlike(marks, dest, shape::EMPTY),
+        session::checks::wrong_mark(marks, dest, shape::EMPTY),
         refusal::or_else(
-            session::checks::unlike(marks, a, shape::HELD),
-            session::checks::unlike(marks, b, shape::HELD),
+            session::checks::wrong_mark(marks, a, shape::HELD),
+            session::checks::wrong_mark(marks, b, shape::HELD),
         ),
     )
 }

@@ -10,12 +10,12 @@ ghost use Rattle.refusal.specs.Refusal.{first, _when_};
 ghost use Rattle.shape.specs.Bounds.{lastTriple};
 ghost use Rattle.shape.specs.Marks.{empty};
 ghost use Rattle.shape.specs.Lengths.{rowLength, tripleLength};
-ghost use Rattle.session.specs.Checks.{unlike, unlikeTriple, Sized, TripleIn};
+ghost use Rattle.session.specs.Checks.{wrongMark, wrongMarks, Sized, TripleIn};
 ghost use Rattle.sharing.specs.Load.{loadRowRefusal, loadRowAnswer, loadRowRows, loadTripleRefusal, loadTripleAnswer, loadTripleRows, withTriple};
 
 // The refusal, where 7 has been looked up.
 fn load_row_refusal(session: Session, rows: &[u32], row: usize, pack: &[u32], marks: u8) -> u8
-    requires { ⌜ marks ≡ first (7 when unlike session row empty ∷ []) ⌝ }
+    requires { ⌜ marks ≡ first (7 when wrongMark session row empty ∷ []) ⌝ }
     ensures { λ r. ⌜ r ≡ loadRowRefusal session (now (rows .entry)) row (now (pack .entry)) ⌝ }
 {
     let frame = session.frame(rows);
@@ -32,7 +32,7 @@ pub fn load_row(session: Session, rows: &mut [u32], row: usize, pack: &[u32]) ->
     ensures { λ r. ⌜ r ≡ loadRowAnswer session (now (rows .entry)) row (now (pack .entry)) ⌝ }
     ensures { λ r. ⌜ now (rows .exit) ≡ loadRowRows session (now (rows .entry)) row (now (pack .entry)) ⌝ }
 {
-    let marks = session::checks::unlike(&session.marks, row, shape::EMPTY);
+    let marks = session::checks::wrong_mark(&session.marks, row, shape::EMPTY);
     let refusal = load_row_refusal(session, rows, row, pack, marks);
     if refusal != 0 {
         return session.refuse(refusal);
@@ -43,17 +43,17 @@ pub fn load_row(session: Session, rows: &mut [u32], row: usize, pack: &[u32]) ->
 
 // 7, of the three rows from `row` on, which have to be empty; 0 where there are no three.
 fn full_triple(marks: &[u8], row: usize) -> u8
-    ensures { λ r. ⌜ (row ≤ lastTriple → r ≡ first (unlikeTriple (now (marks .entry)) row empty empty empty)) × (lastTriple < row → r ≡ 0) ⌝ }
+    ensures { λ r. ⌜ (row ≤ lastTriple → r ≡ first (wrongMarks (now (marks .entry)) row empty empty empty)) × (lastTriple < row → r ≡ 0) ⌝ }
 {
     if shape::LAST_TRIPLE < row {
         return 0;
     }
-    session::checks::unlike_triple(marks, row, shape::EMPTY, shape::EMPTY, shape::EMPTY)
+    session::checks::wrong_marks(marks, row, shape::EMPTY, shape::EMPTY, shape::EMPTY)
 }
 
 // The refusal, where 7 has been looked up.
 fn load_triple_refusal(session: Session, rows: &[u32], row: usize, pack: &[u32], marks: u8) -> u8
-    requires { ⌜ (row ≤ lastTriple → marks ≡ first (unlikeTriple (session .marks) row empty empty empty)) ⌝ }
+    requires { ⌜ (row ≤ lastTriple → marks ≡ first (wrongMarks (session .marks) row empty empty empty)) ⌝ }
     ensures { λ r. ⌜ r ≡ loadTripleRefusal session (now (rows .entry)) row (now (pack .entry)) ⌝ }
 {
     let frame = session.frame(rows);

@@ -10,12 +10,12 @@ ghost use Rattle.shape.specs.Marks.{held};
 ghost use Rattle.shape.specs.Lengths.{rowLength, vLength};
 ghost use Rattle.shape.specs.Row.{coefficients};
 ghost use Rattle.session.specs.Rows.{rowAt};
-ghost use Rattle.session.specs.Checks.{unlike, Sized, RowIn};
+ghost use Rattle.session.specs.Checks.{wrongMark, Sized, RowIn};
 ghost use Rattle.sharing.specs.Message.{messageRefusal, messageAnswer, messageOut};
 
 // The refusal, where 7 has been looked up.
 fn message_refusal(session: Session, rows: &[u32], row: usize, out: &[u32], marks: u8) -> u8
-    requires { ⌜ marks ≡ first (7 when unlike session row held ∷ []) ⌝ }
+    requires { ⌜ marks ≡ first (7 when wrongMark session row held ∷ []) ⌝ }
     ensures { λ r. ⌜ r ≡ messageRefusal session (now (rows .entry)) row (now (out .entry)) ⌝ }
 {
     let frame = session.frame(rows);
@@ -41,7 +41,7 @@ pub fn opening_message(session: Session, rows: &[u32], row: usize, out: &mut [u3
     ensures { λ r. ⌜ r ≡ messageAnswer session (now (rows .entry)) row (now (out .entry)) ⌝ }
     ensures { λ r. ⌜ now (out .exit) ≡ messageOut session (now (rows .entry)) row (now (out .entry)) ⌝ }
 {
-    let marks = session::checks::unlike(&session.marks, row, shape::HELD);
+    let marks = session::checks::wrong_mark(&session.marks, row, shape::HELD);
     let refusal = message_refusal(session, rows, row, out, marks);
     if refusal != 0 {
         return session.refuse(refusal);

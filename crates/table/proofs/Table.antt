@@ -13,7 +13,7 @@ use Rattle.opening.specs.Blocks as Blocks
 use Rattle.opening.specs.Accepting as Accepting
 use Rattle.product.specs.Finish.{productRow}
 use Rattle.decimal.specs.Numeral.{lastDigits, sizeWithin, leading, valueAfter, fieldOf}
-use Rattle.fields.specs.Fields.{fields, fieldsAt}
+use Rattle.csv.specs.Fields.{fields, fieldsAt}
 use Rattle.forms.specs.Forms.{formOf}
 use Rattle.lines.specs.Order.{lineRefusal}
 use Rattle.table.specs.Table.{pointAt, drawn, drawnA, drawnB, drawnTriple, Reads, Writes, Table}

@@ -17,7 +17,7 @@ use Rattle.product.specs.Finish.{openedBoth, productRow}
 use Rattle.forms.specs.Lines.{deal, text}
 use Rattle.forms.specs.Forms.{message}
 use Rattle.lines.specs.Reading.{readRefusal, lineAs, listAs}
-use Rattle.lines.specs.Writing.{dealRefusal, writtenAs, partAs}
+use Rattle.lines.specs.Writing.{writeDealRefusal, writtenAs, partAs}
 
 -- "n = 3, t = 1, check points 2, 3, 5; f = 7 + 4z; v1 = 1 + 2z, v2 = 3 + z, v3 = 5 + 6z."
 unfoldable pub pointAt : ℕ → ℕ
@@ -30,8 +30,8 @@ drawn = 7 ∷ 4 ∷ 1 ∷ 2 ∷ 3 ∷ 1 ∷ 5 ∷ 6 ∷ []
 abbrev pub sessionAt : ℕ → Session
 sessionAt i = created 3 1 i (pointAt i) .session
 
-abbrev pub rowAt : List ℕ → ℕ → List ℕ
-rowAt draw i = part 3 2 i (pointAt i) draw
+abbrev pub postRow : List ℕ → ℕ → List ℕ
+postRow draw i = part 3 2 i (pointAt i) draw
 
 -- a record with post 2's block alone
 abbrev pub fromPost2 : ℕ → ℕ → List ℕ
@@ -45,7 +45,7 @@ fromAll row =
 
 -- P8: post i's row "after P1", when it is dealt
 abbrev pub dealtRow : ℕ → List ℕ
-dealtRow i = plusSums (sumsAt (sessionAt i)) (dealerNumber 100 7 .value) (rowAt drawn i)
+dealtRow i = plusSums (sumsAt (sessionAt i)) (dealerNumber 100 7 .value) (postRow drawn i)
 
 -- P9: rows of a = 6 and b = 7, and of a triple with l = 2 and l' = 5, whose draw lacks the constant of l''
 unfoldable pub drawnA : List ℕ
@@ -59,26 +59,26 @@ drawnTriple =
     (2 ∷ 1 ∷ 5 ∷ 1 ∷ 3 ∷ 2 ∷ 1 ∷ 7 ∷ []) ++ ((5 ∷ 2 ∷ 1 ∷ 1 ∷ 6 ∷ 3 ∷ 2 ∷ 2 ∷ []) ++ (9 ∷ 4 ∷ 1 ∷ 8 ∷ 3 ∷ 5 ∷ 2 ∷ []))
 
 abbrev pub rowL : ℕ → List ℕ
-rowL i = rowAt (firstDraw 8 drawnTriple) i
+rowL i = postRow (firstDraw 8 drawnTriple) i
 
 abbrev pub rowL' : ℕ → List ℕ
-rowL' i = rowAt (secondDraw 8 drawnTriple) i
+rowL' i = postRow (secondDraw 8 drawnTriple) i
 
 abbrev pub rowL'' : ℕ → List ℕ
-rowL'' i = rowAt (thirdDraw 8 drawnTriple) i
+rowL'' i = postRow (thirdDraw 8 drawnTriple) i
 
 -- a − l and b − l', what each post opens of them, and its row of the product
-abbrev pub maskA : ℕ → List ℕ
-maskA i = less (rowAt drawnA i) (rowL i)
+abbrev pub maskRowA : ℕ → List ℕ
+maskRowA i = less (postRow drawnA i) (rowL i)
 
-abbrev pub maskB : ℕ → List ℕ
-maskB i = less (rowAt drawnB i) (rowL' i)
+abbrev pub maskRowB : ℕ → List ℕ
+maskRowB i = less (postRow drawnB i) (rowL' i)
 
 abbrev pub masksOpened : ℕ → OpenedMasks
-masksOpened i = openedBoth (sessionAt i) (maskA i) (maskB i) (fromAll maskA) (fromAll maskB)
+masksOpened i = openedBoth (sessionAt i) (maskRowA i) (maskRowB i) (fromAll maskRowA) (fromAll maskRowB)
 
 abbrev pub multiplied : ℕ → List ℕ
-multiplied i = productRow (sessionAt i) (masksOpened i .y) (masksOpened i .z) (rowL i) (rowL' i) (rowL'' i)
+multiplied i = productRow (sessionAt i) (masksOpened i .«y_a») (masksOpened i .«y_b») (rowL i) (rowL' i) (rowL'' i)
 
 -- P10: `D,0,93` and `D,0,093`, each with a line feed; and lists that are lent for 2(t+1) numbers and for 7 bytes
 abbrev pub dealt93 : List ℕ
@@ -100,8 +100,8 @@ pub record Reads : Type 0 where
 
 -- and writes back
 pub record Writes : Type 0 where
-  pub answer : writtenAs (dealRefusal 3 1 0 93 7) (text (deal 0 93)) ≡ record { refusal = 0; len = 7 }
-  pub bytes : partAs (dealRefusal 3 1 0 93 7) (text (deal 0 93)) lentBytes ≡ dealt93
+  pub answer : writtenAs (writeDealRefusal 3 1 0 93 7) (text (deal 0 93)) ≡ record { refusal = 0; len = 7 }
+  pub bytes : partAs (writeDealRefusal 3 1 0 93 7) (text (deal 0 93)) lentBytes ≡ dealt93
 
 pub record Table : Type 0 where
   -- P1 "dealing 100 gives c = 93."
@@ -109,16 +109,16 @@ pub record Table : Type 0 where
   -- P2 "dealing 3 gives 2147483643."
   pub p2 : dealerNumber 3 7 ≡ record { refusal = 0; value = 2147483643 }
   -- P3 "post 1's row: 1,2,5,5,17,12,18,24."
-  pub p3 : rowAt drawn 1 ≡ 1 ∷ 2 ∷ 5 ∷ 5 ∷ 17 ∷ 12 ∷ 18 ∷ 24 ∷ []
+  pub p3 : postRow drawn 1 ≡ 1 ∷ 2 ∷ 5 ∷ 5 ∷ 17 ∷ 12 ∷ 18 ∷ 24 ∷ []
   -- P4 "post 3's: 5,6,11,8,35,12,18,24."
-  pub p4 : rowAt drawn 3 ≡ 5 ∷ 6 ∷ 11 ∷ 8 ∷ 35 ∷ 12 ∷ 18 ∷ 24 ∷ []
+  pub p4 : postRow drawn 3 ≡ 5 ∷ 6 ∷ 11 ∷ 8 ∷ 35 ∷ 12 ∷ 18 ∷ 24 ∷ []
   -- P5 "post 1 accepts 3 + z from post 2."
-  pub p5 : accepts (sessionAt 1) (rowAt drawn 1) (fromPost2 3 1) 2 ≡ true
+  pub p5 : accepts (sessionAt 1) (postRow drawn 1) (fromPost2 3 1) 2 ≡ true
   -- P6 "it rejects 6 + 0z."
-  pub p6 : accepts (sessionAt 1) (rowAt drawn 1) (fromPost2 6 0) 2 ≡ false
+  pub p6 : accepts (sessionAt 1) (postRow drawn 1) (fromPost2 6 0) 2 ≡ false
   -- P7 "it accepts the false 1 + 2z from post 2; post 3 rejects it."
-  pub p7 : accepts (sessionAt 1) (rowAt drawn 1) (fromPost2 1 2) 2 ≡ true
-  pub p7' : accepts (sessionAt 3) (rowAt drawn 3) (fromPost2 1 2) 2 ≡ false
+  pub p7 : accepts (sessionAt 1) (postRow drawn 1) (fromPost2 1 2) 2 ≡ true
+  pub p7' : accepts (sessionAt 3) (postRow drawn 3) (fromPost2 1 2) 2 ≡ false
   -- P8 "after P1 the shares are 104, 108, 112;"
   pub p8 : eachPost 3 (share (sessionAt 1) (dealtRow 1) (fromAll dealtRow)) ≡ 104 ∷ 108 ∷ 112 ∷ []
   -- "posts 1 and 2 give 100, posts 2 and 3 give 100."
@@ -128,7 +128,7 @@ pub record Table : Type 0 where
   pub p8-gives' : openedRow (sessionAt 3) (dealtRow 3) (fromPost2 3 1) ≡ record { refusal = 0; value = 100 }
   -- P9 "a = 6, b = 7, l = 2, l' = 5: y = 4, y' = 2, product 42.", at each post
   pub p9 : map masksOpened (1 ∷ 2 ∷ 3 ∷ [])
-      ≡ record { refusal = 0; y = 4; z = 2 } ∷ record { refusal = 0; y = 4; z = 2 } ∷ record { refusal = 0; y = 4; z = 2 } ∷ []
+      ≡ record { refusal = 0; «y_a» = 4; «y_b» = 2 } ∷ record { refusal = 0; «y_a» = 4; «y_b» = 2 } ∷ record { refusal = 0; «y_a» = 4; «y_b» = 2 } ∷ []
   pub p9-product : map (λ i. openedRow (sessionAt i) (multiplied i) (fromAll multiplied)) (1 ∷ 2 ∷ 3 ∷ [])
       ≡ record { refusal = 0; value = 42 } ∷ record { refusal = 0; value = 42 } ∷ record { refusal = 0; value = 42 } ∷ []
   -- P10 "`D,0,93` reads and writes back; `D,0,093` gets 10."

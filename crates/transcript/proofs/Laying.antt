@@ -8,8 +8,8 @@ use borrow.Author.Tests.{ltb-true, ltb-false}
 use lib.ListN.{length, take, drop, length-append, length-drop}
 use lib.Seq.{take-nil, take-all, length-take-le}
 use lib.Dec.{eqb, ltb}
-use Rattle.fields.specs.Fields.{overwrite}
-use Rattle.fields.proofs.Overwriting.{overwrite-nothing, overwrite-twice}
+use Rattle.csv.specs.Fields.{overwrite}
+use Rattle.csv.proofs.Overwriting.{overwrite-nothing, overwrite-twice}
 use Rattle.transcript.specs.Lines.{segment, keptLength, cut, laid}
 use Rattle.transcript.specs.Program.{Running, answered, grown, taken, segmented, lineAfter}
 use Rattle.transcript.proofs.Chunks.{segment-first, segmented-more}

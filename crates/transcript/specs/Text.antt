@@ -3,7 +3,7 @@
 use Prim.Native.Nat.{ℕ}
 use mathlib.Core.List.{List, [], _∷_, _++_}
 use Rattle.decimal.specs.Numeral.{lastDigits, sizeWithin}
-use Rattle.fields.specs.Fields.{fields}
+use Rattle.csv.specs.Fields.{fields}
 
 -- `line,refusal,value`
 abbrev pub header : List ℕ

@@ -1,7 +1,7 @@
 // Three posts share 100; two of them bring it out, one alone does not.
 
-use gantsorol::{block_len, dealer_number, factory_row, record_len, row_len, rows_len};
-use gantsorol::{Refusal, Session};
+use gantsorol::{dealer_number, factory_row, record_len, record_put, record_remove, row_len};
+use gantsorol::{rows_len, Refusal, Session};
 
 const N: usize = 3;
 const T: usize = 1;
@@ -26,15 +26,15 @@ fn main() -> Result<(), Refusal> {
     // Post 2 sends its message; post 1 opens the number with it, and post 3 is absent.
     let mut record = [0; record_len(N, T)];
     let (session, rows) = posts.swap_remove(1);
-    let place = &mut record[block_len(T)..2 * block_len(T)];
-    place[0] = 1;
-    session.opening_message(&rows, 0, &mut place[1..]).accepted()?;
+    let mut message = [0; T + 1];
+    session.opening_message(&rows, 0, &mut message).accepted()?;
+    record_put(N, T, &mut record, 2, &message)?;
     let (session, rows) = posts.swap_remove(0);
     let (session, opened) = session.open(&rows, 0, &record).accepted()?;
     assert_eq!((c, opened), (93, 100));
 
     // Without it post 1 is alone, and too few is refusal 9.
-    record[block_len(T)] = 0;
+    record_remove(N, T, &mut record, 2)?;
     assert_eq!(session.open(&rows, 0, &record).accepted(), Err(Refusal(9)));
     Ok(())
 }

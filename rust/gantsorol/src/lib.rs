@@ -22,6 +22,7 @@
 
 mod broadcast;
 mod lengths;
+mod record;
 mod refusal;
 mod session;
 mod sys;
@@ -30,6 +31,7 @@ mod works;
 pub use broadcast::{read, write_deal, write_masks, write_opening, Line, Written};
 pub use lengths::{block_len, line_list_len, masks_len, record_len, row_draw_len, row_len};
 pub use lengths::{rows_len, triple_draw_len, LONGEST_LINE, MAX_POSTS, MODULUS, ROWS};
+pub use record::{record_put, record_remove};
 pub use refusal::Refusal;
 pub use session::{Answer, Session};
 pub use works::{dealer_number, factory_row, factory_triple, Number};

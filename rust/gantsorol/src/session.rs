@@ -20,9 +20,9 @@ pub struct Session {
     /// The mark of each row: 0 empty, 1 raw, 2 held; 3, 4 and 5 belong to triples, 6 is spent.
     pub marks: [u8; ROWS],
     /// At the first row of a triple whose masks were sent: the first factor's row.
-    pub left: [u8; ROWS],
+    pub factor_a: [u8; ROWS],
     /// At the first row of a triple whose masks were sent: the second factor's row.
-    pub right: [u8; ROWS],
+    pub factor_b: [u8; ROWS],
 }
 
 /// What a call on a session hands back.
@@ -166,11 +166,17 @@ impl Session {
         }
     }
 
-    /// The second half: opens a − l with the record `left` and b − l' with `right`, each like
+    /// The second half: opens a − l with the record `record_a` and b − l' with `record_b`, each like
     /// [`open`](Self::open), and writes the product into row `first` + 2, which becomes held. A
     /// refused finish may be called again. Refusals 1 to 9.
     #[inline]
-    pub fn finish(self, rows: &mut [u32], first: usize, left: &[u32], right: &[u32]) -> Answer {
+    pub fn finish(
+        self,
+        rows: &mut [u32],
+        first: usize,
+        record_a: &[u32],
+        record_b: &[u32],
+    ) -> Answer {
         // SAFETY: each list is a borrowed slice's pointer and length, and `rows` overlaps no other.
         unsafe {
             sys::gantsorol_finish(
@@ -178,10 +184,10 @@ impl Session {
                 rows.as_mut_ptr(),
                 rows.len(),
                 first,
-                left.as_ptr(),
-                left.len(),
-                right.as_ptr(),
-                right.len(),
+                record_a.as_ptr(),
+                record_a.len(),
+                record_b.as_ptr(),
+                record_b.len(),
             )
         }
     }

@@ -1,4 +1,4 @@
-//! The library's functions, as `crates/exports/src` has them: `tests/declarations.rs` compares.
+//! The library's functions, as `crates/gantsorol/src` has them: `tests/declarations.rs` compares.
 
 use crate::{Answer, Line, Number, Session, Written};
 
@@ -76,11 +76,29 @@ extern "C" {
         rows: *mut u32,
         rows_len: usize,
         first: usize,
-        left: *const u32,
-        left_len: usize,
-        right: *const u32,
-        right_len: usize,
+        record_a: *const u32,
+        record_a_len: usize,
+        record_b: *const u32,
+        record_b_len: usize,
     ) -> Answer;
+
+    pub fn gantsorol_record_put(
+        n: usize,
+        t: usize,
+        blocks: *mut u32,
+        blocks_len: usize,
+        post: usize,
+        message: *const u32,
+        message_len: usize,
+    ) -> u8;
+
+    pub fn gantsorol_record_remove(
+        n: usize,
+        t: usize,
+        blocks: *mut u32,
+        blocks_len: usize,
+        post: usize,
+    ) -> u8;
 
     pub fn gantsorol_factory_row(
         n: usize,

@@ -17,8 +17,8 @@ static void layout(void) {
     FIELD(gantsorol_session, post);
     FIELD(gantsorol_session, point);
     FIELD(gantsorol_session, marks);
-    FIELD(gantsorol_session, left);
-    FIELD(gantsorol_session, right);
+    FIELD(gantsorol_session, factor_a);
+    FIELD(gantsorol_session, factor_b);
     SIZE(gantsorol_answer);
     FIELD(gantsorol_answer, refusal);
     FIELD(gantsorol_answer, value);
@@ -53,53 +53,54 @@ static uint32_t keep(int i, gantsorol_answer answer) {
     return answer.value;
 }
 
-/* One record for each of the two masks, from every post's. */
-static void fill(uint32_t *left, uint32_t *right, const uint32_t *masks) {
-    for (int i = 0; i < N; i++) {
-        left[i * BLOCK] = right[i * BLOCK] = 1;
-        memcpy(left + i * BLOCK + 1, masks + i * MASKS, (T + 1) * sizeof *masks);
-        memcpy(right + i * BLOCK + 1, masks + i * MASKS + T + 1, (T + 1) * sizeof *masks);
-    }
+/* What a post sent, into its block of a record. */
+static void put(uint32_t *record, int i, const uint32_t *message) {
+    uint8_t refusal = gantsorol_record_put(N, T, record, RECORD, i + 1, message, T + 1);
+    if (refusal != 0)
+        printf("no block for post %d: %d\n", i + 1, refusal);
 }
 
 /* Rows 0 and 1, which hold 100 and 300, multiplied with the triple at row 93, and the product opened. */
 static void multiply(void) {
-    uint32_t masks[N * MASKS], left[RECORD], right[RECORD], record[RECORD], none[RECORD] = {0};
+    uint32_t masks[N * MASKS], record_a[RECORD], record_b[RECORD], record[RECORD], message[T + 1], none[RECORD] = {0};
     for (int i = 0; i < N; i++)
         keep(i, gantsorol_masks(posts[i], rows[i], ALL, 0, 1, 93, masks + i * MASKS, MASKS));
     print("masks", masks, N * MASKS);
     printf("marks %d %d %d, of rows %d and %d\n", posts[0].marks[93], posts[0].marks[94], posts[0].marks[95],
-           posts[0].left[93], posts[0].right[93]);
-    fill(left, right, masks);
+           posts[0].factor_a[93], posts[0].factor_b[93]);
+    for (int i = 0; i < N; i++) {
+        put(record_a, i, masks + i * MASKS);
+        put(record_b, i, masks + i * MASKS + T + 1);
+    }
 
     /* Refused: one triple for two products, one block only, p, no records, rows above 93, an empty triple. */
     keep(0, gantsorol_masks(posts[0], rows[0], ALL, 0, 1, 93, masks, MASKS));
-    keep(0, gantsorol_finish(posts[0], rows[0], ALL, 93, left, RECORD, none, RECORD));
-    keep(0, gantsorol_finish(posts[0], rows[0], ALL, 93, none, RECORD, right, RECORD));
-    uint32_t true_one = right[BLOCK + 1];
-    right[BLOCK + 1] = GANTSOROL_MODULUS;
-    keep(0, gantsorol_finish(posts[0], rows[0], ALL, 93, left, RECORD, right, RECORD));
-    right[BLOCK + 1] = true_one;
+    keep(0, gantsorol_finish(posts[0], rows[0], ALL, 93, record_a, RECORD, none, RECORD));
+    keep(0, gantsorol_finish(posts[0], rows[0], ALL, 93, none, RECORD, record_b, RECORD));
+    uint32_t true_one = record_b[BLOCK + 1];
+    record_b[BLOCK + 1] = GANTSOROL_MODULUS;
+    keep(0, gantsorol_finish(posts[0], rows[0], ALL, 93, record_a, RECORD, record_b, RECORD));
+    record_b[BLOCK + 1] = true_one;
     keep(0, gantsorol_finish(posts[0], rows[0], ALL, 93, NULL, 0, NULL, 0));
-    keep(0, gantsorol_finish(posts[0], rows[0], ALL, 94, left, RECORD, right, RECORD));
-    keep(0, gantsorol_finish(posts[0], rows[0], ALL, 92, left, RECORD, right, RECORD));
+    keep(0, gantsorol_finish(posts[0], rows[0], ALL, 94, record_a, RECORD, record_b, RECORD));
+    keep(0, gantsorol_finish(posts[0], rows[0], ALL, 92, record_a, RECORD, record_b, RECORD));
 
     /* A false polynomial for b - l' from post 2 is not accepted where another post is there. */
-    right[BLOCK + 1]++;
-    keep(0, gantsorol_finish(posts[0], rows[0], ALL, 93, left, RECORD, right, RECORD));
-    right[BLOCK + 1]--;
+    record_b[BLOCK + 1]++;
+    keep(0, gantsorol_finish(posts[0], rows[0], ALL, 93, record_a, RECORD, record_b, RECORD));
+    record_b[BLOCK + 1]--;
     for (int i = 1; i < N; i++)
-        keep(i, gantsorol_finish(posts[i], rows[i], ALL, 93, left, RECORD, right, RECORD));
+        keep(i, gantsorol_finish(posts[i], rows[i], ALL, 93, record_a, RECORD, record_b, RECORD));
     for (int i = 0; i < N; i++) {
         print("product", rows[i] + 95 * ROW, ROW);
-        record[i * BLOCK] = 1;
-        keep(i, gantsorol_opening_message(posts[i], rows[i], ALL, 95, record + i * BLOCK + 1, T + 1));
+        keep(i, gantsorol_opening_message(posts[i], rows[i], ALL, 95, message, T + 1));
+        put(record, i, message);
     }
     for (int i = 0; i < N; i++)
         printf("post %d opens %u\n", i + 1, keep(i, gantsorol_open(posts[i], rows[i], ALL, 95, record, RECORD)));
     printf("marks %d %d %d, of rows %d and %d\n", posts[2].marks[93], posts[2].marks[94], posts[2].marks[95],
-           posts[2].left[93], posts[2].right[93]);
-    keep(0, gantsorol_finish(posts[0], rows[0], ALL, 93, left, RECORD, right, RECORD));
+           posts[2].factor_a[93], posts[2].factor_b[93]);
+    keep(0, gantsorol_finish(posts[0], rows[0], ALL, 93, record_a, RECORD, record_b, RECORD));
 }
 
 static void write_lines(void) {
@@ -139,7 +140,7 @@ int main(void) {
     gantsorol_number c = gantsorol_dealer_number(100, draw[0]), bad = gantsorol_dealer_number(GANTSOROL_MODULUS, 0);
     printf("c %d %u, %d %u\n", c.refusal, c.value, bad.refusal, bad.value);
 
-    uint32_t record[RECORD];
+    uint32_t record[RECORD], message[T + 1];
     for (int i = 0; i < N; i++) {
         uint32_t three[3 * ROW];
         for (int of = 0; of < 3; of++)
@@ -149,8 +150,8 @@ int main(void) {
         keep(i, gantsorol_load_triple(posts[i], rows[i], ALL, 93, three, 3 * ROW));
         keep(i, gantsorol_deal(posts[i], rows[i], ALL, 0, c.value));
         keep(i, gantsorol_linear(posts[i], rows[i], ALL, 1, 0, 0, 2, 8));
-        record[i * BLOCK] = 1;
-        keep(i, gantsorol_opening_message(posts[i], rows[i], ALL, 1, record + i * BLOCK + 1, T + 1));
+        keep(i, gantsorol_opening_message(posts[i], rows[i], ALL, 1, message, T + 1));
+        put(record, i, message);
     }
     print("record", record, RECORD);
     for (int i = 0; i < N; i++)
@@ -160,7 +161,11 @@ int main(void) {
     multiply();
 
     /* Refused: t posts alone, empty lists, and a new session that has 0 in every field. */
-    record[0] = record[BLOCK] = record[2 * BLOCK] = 0;
+    for (int i = 1; i < N; i++)
+        printf("removed %d\n", gantsorol_record_remove(N, T, record, RECORD, i + 1));
+    print("record", record, RECORD);
+    printf("no block: %d %d\n", gantsorol_record_put(N, T, record, RECORD, 2, NULL, 0),
+           gantsorol_record_remove(N, T, NULL, 0, 2));
     keep(0, gantsorol_open(posts[0], rows[0], ALL, 1, record, RECORD));
     keep(0, gantsorol_open(posts[0], NULL, 0, 1, NULL, 0));
     keep(0, gantsorol_deal(posts[0], NULL, 0, 1, 0));

@@ -61,7 +61,7 @@ struct Function {
 
 /// Every exported function of the Rattle crate.
 fn exported() -> Vec<Function> {
-    let folder = "crates/exports/src";
+    let folder = "crates/gantsorol/src";
     let files = fs::read_dir(repository().join(folder)).expect("the exports have sources");
     let names = files.map(|file| file.expect("a file").file_name().into_string().expect("a name"));
     let sources: String = names.map(|name| code(&format!("{folder}/{name}"))).collect();

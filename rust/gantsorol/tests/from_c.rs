@@ -105,7 +105,7 @@ macro_rules! layout {
 fn every_call_from_c() {
     let mut expected = String::new();
     layout!(expected,
-        Session, "session": n t post point marks left right;
+        Session, "session": n t post point marks factor_a factor_b;
         Answer, "answer": refusal value session;
         Number, "number": refusal value;
         Written, "written": refusal len;

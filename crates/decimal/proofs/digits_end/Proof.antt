@@ -1,3 +1,4 @@
+-- `digits_end` meets its contract: the digits from i on end where those from `at` on do.
 use Prim.Native.Nat.{_+_, _-_}
 use mathlib.Core.Path.{_≡_}
 use lib.ListN.{length, drop}

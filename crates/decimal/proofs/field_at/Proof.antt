@@ -1,3 +1,4 @@
+-- `field_at` meets its contract: a case for each place where it returns.
 use borrow.Author.Needs.{needs}
 use Rattle.decimal.proofs.Scanning.{field-within, field-none, field-long, field-zero, field-digit, field-digits}
 use Rattle.decimal.proofs.field_at.Statement.{statement}

@@ -1,3 +1,4 @@
+-- `put_digits` meets its contract: the digits of y, and those already written behind them, are those of x.
 use Prim.Native.Nat.{_≤_}
 use mathlib.Core.Path.{_≡_}
 use mathlib.Core.List.{_++_}

@@ -1,3 +1,4 @@
+-- `size_of` meets its contract: the k digits so far, and those of y, are x's (`Counted`).
 use borrow.Author.Needs.{needs}
 use Rattle.decimal.proofs.Spelling.{Counted, counted-start, counted-fits, counted-more, counted-end}
 use Rattle.decimal.proofs.size_of.Statement.{statement}

@@ -1,8 +1,9 @@
+-- `value_of` meets its contract: the digits from i on, behind what was read so far, say the whole number (`Valued`).
 use Prim.Native.Nat.{_-_}
 use lib.ListN.{take, drop}
 use borrow.Author.Needs.{needs}
 use Rattle.decimal.specs.Numeral.{leading, valueAfter}
-use Rattle.decimal.proofs.Scanning.{Valued, valued-start, valued-within, valued-low, valued-mul, valued-add, valued-more, valued-end}
+use Rattle.decimal.proofs.Scanning.{Valued, valued-start, valued-within, valued-from-zero, valued-mul, valued-add, valued-more, valued-end}
 use Rattle.decimal.proofs.value_of.Statement.{statement}
 use Rattle.decimal.proofs.value_of.Tie as tie
 
@@ -12,7 +13,7 @@ Inv-loop line at end sum₀ i₀ sum i = Valued line at end (valueAfter 0 (take 
 abbrev μ-loop : tie.MeasureT-loop
 μ-loop line at end sum₀ i₀ sum i = end - i
 
-ruleset turns = (needs, valued-start, valued-within, valued-low, valued-mul, valued-add, valued-more, valued-end)
+ruleset turns = (needs, valued-start, valued-within, valued-from-zero, valued-mul, valued-add, valued-more, valued-end)
 
 pub value-of-spec : {M : Type 1} → statement M
 value-of-spec =

@@ -1,3 +1,4 @@
+-- `add` meets its contract.
 use borrow.Author.Needs.{needs}
 use Rattle.field.specs.Arithmetic.{sum}
 use Rattle.field.proofs.add.Statement.{statement}

@@ -1,3 +1,4 @@
+-- `add_product` meets its contract: one remainder in place of two, since the largest product leaves room for the summand.
 use Prim.Native.Nat.{ℕ, _+_, _*_, _%_}
 use mathlib.Core.Path.{_≡_, sym, _∙_, ap}
 use native.Mathlib.Nat.{add-comm, add-mod-mod, mul-le-mul, le-pred-of-lt}

@@ -1,3 +1,4 @@
+-- `mul` meets its contract.
 use borrow.Author.Needs.{needs}
 use Rattle.field.specs.Arithmetic.{product}
 use Rattle.field.proofs.mul.Statement.{statement}

@@ -1,3 +1,4 @@
+-- `reduce` meets its contract: 2^31 is 1 modulo p, so the halves are added as they are.
 use Prim.Native.Nat.{ℕ, _+_, _*_, _%_}
 use mathlib.Core.Path.{_≡_, sym, _∙_, ap}
 use native.Mathlib.Nat.{mul-add-mod-self-right}

@@ -1,3 +1,4 @@
+-- `sub` meets its contract: 3p less b is a multiple of p less b's remainder, and never below 0.
 use Prim.Native.Nat.{ℕ, _+_, _*_, _-_, _/_, _%_, _<_}
 use mathlib.Core.Path.{_≡_, _∙_, ap}
 use native.Mathlib.Nat.{mod-lt, div-add-mod', mul-add-mod-self-right}
@@ -15,7 +16,7 @@ one-remainder a b h = ap (λ (x : ℕ). x % p) split ∙ mul-add-mod-self-right 
   where
     split : a + (6442450941 - b) ≡ (2 - b / p) * p + (a + (p - b % p))
     split =
-        let low : b % p < p = mod-lt b (omega arith) in
+        let b-below : b % p < p = mod-lt b (omega arith) in
         omega (arith, div-add-mod' b p)
 
 pub sub-spec : {M : Type 1} → statement M

@@ -1,3 +1,4 @@
+-- `whole_product` meets its contract: two factors of 32 bits have a product of 64.
 use native.Mathlib.Nat.{mul-le-mul, le-pred-of-lt}
 use native.Mathlib.Omega.{arith}
 use borrow.Author.Needs.{needs}

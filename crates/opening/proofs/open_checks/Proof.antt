@@ -5,8 +5,8 @@ use Rattle.opening.proofs.Opens.{record-long, open-stopped, open-sized,
 use Rattle.opening.proofs.open_checks.Statement.{statement}
 use Rattle.opening.proofs.open_checks.Tie as tie
 
-own-checks-requires : tie.Need-own-checks-requires
-own-checks-requires c κs =
+row-checks-requires : tie.Need-row-checks-requires
+row-checks-requires c κs =
     let size = c .before in
     let shape = size .before .before in
     let a = c .before .before .before .before .before .before .before .before .args in
@@ -16,5 +16,5 @@ pub open-checks-spec : {M : Type 1} → statement M
 open-checks-spec =
     tie.close
     (tie.spec (λ c κs. search needs) (λ c. search (needs, open-stopped)) (λ c κs. search needs)
-    (λ c κs. search (needs, shape-valid)) (λ c κs. search needs) (λ c. search (needs, open-sized)) own-checks-requires
+    (λ c κs. search (needs, shape-valid)) (λ c κs. search needs) (λ c. search (needs, open-sized)) row-checks-requires
     (λ c. search (needs, open-checked)))

@@ -48,7 +48,7 @@ impl Inputs {
         Self {
             n,
             t,
-            ours: gantsorol::Session { n, t, post, point, marks, left, right },
+            ours: gantsorol::Session { n, t, post, point, marks, factor_a: left, factor_b: right },
             second: second.session,
             rows,
             row_draw: raw.draw(),

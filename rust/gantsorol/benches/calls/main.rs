@@ -30,7 +30,15 @@ fn check_fastest() {
             if let Call::Open { row, record } = &step.call {
                 let copy = step.damaged(&state);
                 let Session { n, t, post, point, marks, left, right } = copy.session;
-                let session = gantsorol::Session { n, t, post, point, marks, left, right };
+                let session = gantsorol::Session {
+                    n,
+                    t,
+                    post,
+                    point,
+                    marks,
+                    factor_a: left,
+                    factor_b: right,
+                };
                 let answer = fastest::open(session, &copy.rows, *row, record);
                 let (ours, expected) =
                     ((answer.refusal, answer.value), (outcome.refusal, outcome.value));

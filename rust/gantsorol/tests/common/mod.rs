@@ -35,12 +35,12 @@ fn from_environment<T: FromStr>(name: &str) -> Option<T> {
 
 fn given(s: reference::Session) -> Session {
     let reference::Session { n, t, post, point, marks, left, right } = s;
-    Session { n, t, post, point, marks, left, right }
+    Session { n, t, post, point, marks, factor_a: left, factor_b: right }
 }
 
 fn answered(answer: gantsorol::Answer) -> Answer {
     let gantsorol::Answer { refusal, value, session } = answer;
-    let Session { n, t, post, point, marks, left, right } = session;
+    let Session { n, t, post, point, marks, factor_a: left, factor_b: right } = session;
     let session = reference::Session { n, t, post, point, marks, left, right };
     Answer { refusal, value, session }
 }

@@ -130,9 +130,8 @@ impl Station {
             let read = gantsorol::read(self.n, self.t, line, &mut numbers);
             let post = read.accepted().expect("a line as written").post;
             for (record, half) in records.iter_mut().zip(numbers.chunks(count)) {
-                let place = &mut record[(post - 1) * block..][..block];
-                place[0] = 1;
-                place[1..].copy_from_slice(half);
+                let put = gantsorol::record_put(self.n, self.t, record, post, half);
+                put.expect("a line's numbers are elements");
             }
         }
         records

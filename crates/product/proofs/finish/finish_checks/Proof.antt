@@ -8,7 +8,7 @@ finish-own-requires : tie.Need-finish-own-requires
 finish-own-requires c κs =
     let d = c .before .before in
     let a = d .before .before .before .before .before .args in
-    finish-placed (a .session) (a .rows .now) (a .row) (a .left .now) (a .right .now) _ (d .before .frame .ensures) (d .if1 .left) _
+    finish-placed (a .session) (a .rows .now) (a .row) (a .record-a .now) (a .record-b .now) _ (d .before .frame .ensures) (d .if1 .left) _
     (c .before .finish-place .ensures) (c .if2 .left)
 
 pub finish-checks-spec : {M : Type 1} → statement M

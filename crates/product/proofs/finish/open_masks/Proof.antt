@@ -8,7 +8,7 @@ use Rattle.product.proofs.finish.open_masks.Tie as tie
 open-both-requires : tie.Need-open-both-requires
 open-both-requires c κs =
     let a = c .before .before .before .before .before .args in
-    checks-allowed (a .session) (a .rows .now) (a .first) (a .left .now) (a .right .now) _ (c .before .finish-checks .ensures) (c .if1 .left)
+    checks-allowed (a .session) (a .rows .now) (a .first) (a .record-a .now) (a .record-b .now) _ (c .before .finish-checks .ensures) (c .if1 .left)
 
 pub open-masks-spec : {M : Type 1} → statement M
 open-masks-spec =

@@ -1,0 +1,156 @@
+-- What the example and the counterexamples share: three posts, two raw rows and a triple; and how premises are shown by computing.
+use Prim.Native.Nat.{ℕ, zero, suc, _≤_, _<_}
+use mathlib.Core.Path.{_≡_, refl}
+use mathlib.Core.Logic.{_≢_}
+use mathlib.Core.List.{List, [], _∷_, _++_}
+use native.Mathlib.Omega.{arith}
+use borrow.Author.Tests.{eqb-true, ne-eqb}
+use lib.Dec.{eqb, lit<, lit≤}
+use lib.ListN.{length, getD, replicate}
+use Rattle.field.specs.Arithmetic as Arithmetic
+use Rattle.poly.specs.Counting.{All, Elements, countFrom}
+use Rattle.poly.specs.Polynomial.{value}
+use Rattle.poly.specs.Interpolation.{nodal, weight, terms, interpolated}
+use Rattle.refusal.specs.Refusal.{outcome}
+use Rattle.refusal.specs.Conditions.{anyBeyond}
+use Rattle.factory.specs.Draw.{eachFrom, part}
+use Rattle.factory.specs.Packs.{dealerRefusal, dealerNumber}
+use Rattle.session.specs.Rows.{combined, plusSums}
+use Rattle.session.specs.Sessions.{created}
+use Rattle.sharing.specs.Load.{loadRowRefusal, loadTripleRefusal, withTriple}
+use Rattle.sharing.specs.Deal.{dealRefusal}
+use Rattle.sharing.specs.Linear.{linearRefusal}
+use Rattle.sharing.specs.Message.{messageRefusal}
+use Rattle.opening.specs.Blocks as Blocks
+use Rattle.opening.specs.Accepting as Accepting
+use Rattle.opening.specs.Opening.{openRefusal}
+use Rattle.product.specs.Masks.{masksRefusal, maskNumbersOf}
+use Rattle.product.specs.Finish.{finishRefusal, productRow, withProduct}
+use Rattle.csv.specs.Fields.{fields}
+use Rattle.decimal.specs.Numeral.{lastDigits, sizeWithin}
+use Rattle.runs.specs.Draws.{Plan, Draw, IsRaw, Sound, IsDraw, rawLength, tripleLength, none, by, pointOf, rawDraw, tripleDraw, rawPack, triplePack}
+use Rattle.runs.specs.Outline.{Taking, nothingTaken, aRowPack, aTriplePack, aNumber, aRecord, twoRecords, takes, Given, Move, moves}
+use Rattle.runs.specs.Calls.{Post, Actual, Call, loadRow, loadTriple, deal, perform, newPost, at}
+use Rattle.runs.proofs.Outlines.{all-every}
+use Rattle.runs.proofs.Lines.{elements-of}
+use Rattle.correctness.specs.History.{Event, World, doneBy, turn, history, Each}
+use Rattle.correctness.specs.Ledger.{Ledger, nothing, dealt, sum, product, Written, Plain, of-deal, of-row, of-times, of-fee, of-more, of-product}
+use Rattle.correctness.specs.Truth.{OwnPart, TrueWith, TrueFinish}
+use Rattle.correctness_examples.specs.Station.{plan, drawWith, ledger, Everyone}
+
+-- `refl` proves it where `unfolding Computes` opens the calls' definitions
+unfoldable pub Computes : {A : Type 0} → A → A → Type 0
+unfolding Arithmetic.sum Arithmetic.product Arithmetic.difference Arithmetic.euclid Arithmetic.inverse value countFrom nodal weight terms interpolated outcome anyBeyond eachFrom part dealerRefusal combined plusSums created loadRowRefusal loadTripleRefusal withTriple dealRefusal linearRefusal messageRefusal Blocks.badBlock Blocks.badBlocks Blocks.sent Accepting.accepts Accepting.share Accepting.walk Accepting.opened openRefusal masksRefusal maskNumbersOf finishRefusal productRow withProduct fields lastDigits sizeWithin pointOf rawDraw tripleDraw rawPack triplePack perform newPost at
+Computes x y = x ≡ y
+
+-- ---- plan, draws and ledger
+
+pub sound : Sound plan
+unfolding plan
+sound = record { posts = refl; raws = raws; triples = λ r e. let g = eqb-true r 2 e in omega arith }
+  where
+    raws : (r : ℕ) → IsRaw (plan .raw r) → r ≤ 95
+    raws zero h = lit≤ tt
+    raws (suc zero) h = lit≤ tt
+    raws (suc (suc r)) h = absurd h
+
+none-there : (k r : ℕ) → _≡_ {A = List ℕ} (getD (replicate k []) r []) []
+none-there zero r = refl
+none-there (suc k) zero = refl
+none-there (suc k) (suc r) = none-there k r
+
+pub is-draw : (x : List ℕ) → length x ≡ 23 → Elements x → IsDraw plan (drawWith x)
+unfolding Computes plan drawWith
+is-draw x many low = record {
+  posts = refl;
+  points = ((lit≤ tt, lit< tt), ((lit≤ tt, lit< tt), ((lit≤ tt, lit< tt), tt)));
+  raws = record { count = refl; each = raws };
+  triples = record { count = refl; each = triples };
+}
+  where
+    raws : (r : ℕ) → r < 96 → (length (getD (drawWith x .raws) r []) ≡ rawLength plan r) × Elements (getD (drawWith x .raws) r [])
+    raws zero h = (refl, elements-of (getD (drawWith x .raws) 0 []) refl)
+    raws (suc zero) h = (refl, elements-of (getD (drawWith x .raws) 1 []) refl)
+    raws (suc (suc r)) h = rw (none-there 94 r) (refl, tt)
+
+    triples : (r : ℕ) → r < 96 → (length (getD (drawWith x .triples) r []) ≡ tripleLength plan r) × Elements (getD (drawWith x .triples) r [])
+    triples zero h = (refl, tt)
+    triples (suc zero) h = (refl, tt)
+    triples (suc (suc zero)) h = (many, low)
+    triples (suc (suc (suc r))) h = rw (none-there 93 r, ne-eqb (suc (suc (suc r))) 2 (omega arith)) (refl, tt)
+
+pub plain-6 : Plain ledger 0 6
+unfolding ledger
+plain-6 = of-deal
+
+pub plain-18 : Plain ledger 7 18
+unfolding Computes ledger
+plain-18 = of-more (of-row {a = 0} {x = 6} of-deal) (of-more (of-times {s = 2} {b = 0} {y = 6} of-deal) (of-fee {k = 0}))
+
+pub plain-42 : Plain ledger 4 42
+unfolding Computes ledger
+plain-42 = of-product {k = 2} {a = 0} {b = 1} {x = 6} {y = 7} of-deal of-deal
+
+-- ---- premises, part by part
+
+-- the premises with truth by all posts, each asked of posts of its own: A load their own parts, B keep to the ledger, C finish truly
+pub record Asked (draw : Draw) (A B C : ℕ → Type 0) (es : List Event) (w : World) : Type 0 where
+  pub is-draw : IsDraw plan draw
+  pub parts : Each A (λ e v. OwnPart plan draw (e .post) (e .call)) es w
+  pub ledger : Each B (λ e v. Written draw ledger (e .call)) es w
+  pub finishes : Each C (λ e v. TrueFinish Everyone v (v .posts (e .post)) (e .call)) es w
+
+pub all-join : (P : Event → Type 0) (xs ys : List Event) → All P xs → All P ys → All P (xs ++ ys)
+all-join P [] ys a b = b
+all-join P (x ∷ xs) ys a b = (a .0, all-join P xs ys (a .1) b)
+
+module _ (S : ℕ → Type 0) where
+  pub each-join : (P : Event → World → Type 0) (xs ys : List Event) (w : World) → Each S P xs w → Each S P ys (history xs w) → Each S P (xs ++ ys) w
+  each-join P [] ys w a b = b
+  each-join P (x ∷ xs) ys w a b = (a .0, each-join P xs ys (turn x w) (a .1) b)
+
+  -- what holds of all events, whatever the posts are then
+  pub each-of : (P : Event → Type 0) (es : List Event) (w : World) → All P es → Each S (λ e v. P e) es w
+  each-of P [] w a = tt
+  each-of P (e ∷ es) w a = ((λ m z. a .0), each-of P es (turn e w) (a .1))
+
+-- no records of masks among what the events' calls are given
+abbrev QuietWith : Taking → Type 0 → Type 0
+QuietWith nothingTaken A = A
+QuietWith (aRowPack r) A = A
+QuietWith (aTriplePack r) A = A
+QuietWith (aNumber r) A = A
+QuietWith (aRecord r) A = A
+QuietWith (twoRecords r) A = ⊥
+
+abbrev QuietThen : List (Move Actual) → Type 0 → Type 0
+QuietThen [] A = A
+QuietThen (m ∷ ms) A = QuietWith (takes (m .0)) (QuietThen ms A)
+
+abbrev pub Quiet : List Event → Type 0
+Quiet [] = Unit {0}
+Quiet (e ∷ es) = QuietThen (moves (e .call)) (Quiet es)
+
+module _ (S : ℕ → Type 0) (w : World) (q : Post) where
+  quiet-with : (A : Type 0) (t : Taking) (x : Given Actual t) → QuietWith t A → TrueWith S w q t x × A
+  quiet-with A nothingTaken x a = (tt, a)
+  quiet-with A (aRowPack r) x a = (tt, a)
+  quiet-with A (aTriplePack r) x a = (tt, a)
+  quiet-with A (aNumber r) x a = (tt, a)
+  quiet-with A (aRecord r) x a = (tt, a)
+  quiet-with A (twoRecords r) x a = absurd a
+
+  quiet-call : (A : Type 0) (ms : List (Move Actual)) → QuietThen ms A → All (λ m. TrueWith S w q (takes (m .0)) (m .1)) ms × A
+  quiet-call A [] a = (tt, a)
+  quiet-call A (m ∷ ms) a =
+      let h = quiet-with (QuietThen ms A) (takes (m .0)) (m .1) a in
+      let k = quiet-call A ms (h .1) in
+      ((h .0, k .0), k .1)
+
+-- of calls of the posts S, with truth by the posts T
+pub each-quiet : (S T : ℕ → Type 0) (es : List Event) (w : World) → Quiet es
+    → Each S (λ e v. TrueFinish T v (v .posts (e .post)) (e .call)) es w
+each-quiet S T [] w h = tt
+each-quiet S T (e ∷ es) w h =
+    let k = quiet-call T w (w .posts (e .post)) (Quiet es) (moves (e .call)) h in
+    ((λ m z. all-every _ (moves (e .call)) (k .0)), each-quiet S T es (turn e w) (k .1))

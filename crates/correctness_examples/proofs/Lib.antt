@@ -1,0 +1,6 @@
+pub mod Computing
+pub mod Example
+pub mod Nested
+pub mod Fooled
+pub mod Needed
+pub mod Unheard

@@ -1,0 +1,12 @@
+-- `starting::early` meets its contract.
+use borrow.Author.Needs.{needs}
+use Rattle.interpreter.proofs.Settings.{early-start, early-other}
+use Rattle.interpreter.proofs.starting.early.Statement.{statement}
+use Rattle.interpreter.proofs.starting.early.Tie as tie
+
+ruleset ends = (needs, early-start, early-other)
+
+pub early-spec : {M : Type 1} → statement M
+early-spec =
+    tie.close
+    (tie.spec (λ c κs. search ends) (λ c κs. search ends) (λ c. search ends) (λ c κs. search ends) (λ c. search ends))

@@ -1,0 +1,5 @@
+pub mod States
+pub mod Starting
+pub mod Letters
+pub mod Messages
+pub mod Stepping

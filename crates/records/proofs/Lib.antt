@@ -1,0 +1,5 @@
+pub mod Places
+pub mod Written
+pub mod Sent
+pub mod Tables
+pub mod Theorems

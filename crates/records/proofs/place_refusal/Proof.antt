@@ -1,0 +1,13 @@
+-- `place_refusal` meets its contract.
+use borrow.Author.Needs.{needs}
+use Rattle.refusal.proofs.Ranges.{posts-passed}
+use Rattle.records.proofs.Places.{place-stopped, place-joined}
+use Rattle.records.proofs.place_refusal.Statement.{statement}
+use Rattle.records.proofs.place_refusal.Tie as tie
+
+ruleset steps = (needs, posts-passed, place-stopped, place-joined)
+
+pub place-refusal-spec : {M : Type 1} → statement M
+place-refusal-spec =
+    tie.close
+    (tie.spec (λ c κs. search steps) (λ c. search steps) (λ c κs. search steps) (λ c κs. search steps) (λ c κs. search steps) (λ c κs. search steps) (λ c. search steps))
