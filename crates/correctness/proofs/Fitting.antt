@@ -103,14 +103,14 @@ module _ (plan : Plan) (draw : Draw) (L : Ledger) (sound : Sound plan) (is : IsD
       abbrev s : Session
       s = sessionAt plan draw i M
 
-      true-a : TrueOf (TrueMask S w (plan .t) (take (plan .t + 1)) r) s (Finish.maskVectorA s l r) blocks → AllTrue s (maskVectorA M vec r) blocks
+      true-a : TrueOf (TrueMask S w (plan .t) (take (plan .t + 1)) r) s (Finish.maskA s l r) blocksA → AllTrue s (maskVectorA M vec r) blocksA
       true-a =
-          all-true-of s (maskVectorA M vec r) blocks (TrueMask S w (plan .t) (take (plan .t + 1)) r) (Finish.maskVectorA s l r) (opens-a plan draw len i M vec l h r ok)
+          all-true-of s (maskVectorA M vec r) blocksA (TrueMask S w (plan .t) (take (plan .t + 1)) r) (Finish.maskA s l r) (opens-a plan draw len i M vec l h r ok)
           (λ j lj hj ne o. told-a M vec f r ok j lj hj _ o)
 
-      true-b : TrueOf (TrueMask S w (plan .t) (drop (plan .t + 1)) r) s (Finish.maskVectorB s l r) blocksB → AllTrue s (maskVectorB M vec r) blocksB
+      true-b : TrueOf (TrueMask S w (plan .t) (drop (plan .t + 1)) r) s (Finish.maskB s l r) blocksB → AllTrue s (maskVectorB M vec r) blocksB
       true-b =
-          all-true-of s (maskVectorB M vec r) blocksB (TrueMask S w (plan .t) (drop (plan .t + 1)) r) (Finish.maskVectorB s l r) (opens-b plan draw len i M vec l h r ok)
+          all-true-of s (maskVectorB M vec r) blocksB (TrueMask S w (plan .t) (drop (plan .t + 1)) r) (Finish.maskB s l r) (opens-b plan draw len i M vec l h r ok)
           (λ j lj hj ne o. told-b M vec f r ok j lj hj _ o)
 
     module _ (len i : ℕ) (q : Post) (g : Good plan draw L len i q) where

@@ -87,10 +87,10 @@ module _ (plan : Plan) (draw : Draw) (L : Ledger) (sound : Sound plan) (is : IsD
           third = t .third;
         }
 
-    pub mask-a : Finish.maskVectorA s l r ≡ heldRow s (maskVectorA M vec r)
+    pub mask-a : Finish.maskA s l r ≡ heldRow s (maskVectorA M vec r)
     mask-a = combined-row plan draw len i M vec l h (p - 1) (rememberedA M r) r (is-row (rememberedA M r) 1 (waiting .a-held)) (is-row r 4 five)
 
-    pub mask-b : Finish.maskVectorB s l r ≡ heldRow s (maskVectorB M vec r)
+    pub mask-b : Finish.maskB s l r ≡ heldRow s (maskVectorB M vec r)
     mask-b =
         combined-row plan draw len i M vec l h (p - 1) (rememberedB M r) (r + 1) (is-row (rememberedB M r) 1 (waiting .b-held))
         (is-row (r + 1) 3 (waiting .second))
@@ -133,9 +133,9 @@ module _ (plan : Plan) (draw : Draw) (L : Ledger) (sound : Sound plan) (is : IsD
         accepts-true = accepts-true;
         finishes = finishes plan draw L sound is len i lo hi M vec l sized h f full;
         accepts-a = λ r blocks j five pr lj hj x.
-            true-taken (Finish.maskVectorA s l r) (maskVectorA M vec r) (mask-a r five) blocks j lj hj
+            true-taken (Finish.maskA s l r) (maskVectorA M vec r) (mask-a r five) blocks j lj hj
             (λ ne. told-a plan draw L sound is S w all M vec f r (waiting r five) j lj hj _ (x ne));
         accepts-b = λ r blocks j five pr lj hj x.
-            true-taken (Finish.maskVectorB s l r) (maskVectorB M vec r) (mask-b r five) blocks j lj hj
+            true-taken (Finish.maskB s l r) (maskVectorB M vec r) (mask-b r five) blocks j lj hj
             (λ ne. told-b plan draw L sound is S w all M vec f r (waiting r five) j lj hj _ (x ne));
       }

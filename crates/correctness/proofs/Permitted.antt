@@ -95,7 +95,7 @@ module _ (plan : Plan) (draw : Draw) (L : Ledger) (sound : Sound plan) (is : IsD
               (
                 rows-pass r 4 five,
                 (
-                  record-passes blocks pr,
+                  record-passes blocksA pr,
                   (
                     record-passes blocksB pr',
                     (
@@ -156,11 +156,11 @@ module _ (plan : Plan) (draw : Draw) (L : Ledger) (sound : Sound plan) (is : IsD
       w = f r (low r 4 five) .waiting five
 
   nine-decides : (r : ℕ) (blocksA blocksB : List ℕ) → markOf M r ≡ 5 → Proper s blocksA → Proper s blocksB
-      → finishRefusal s l r blocksA blocksB ≡ first (tooFewOf s (Finish.maskVectorA s l r) (Finish.maskVectorB s l r) blocksA blocksB)
+      → finishRefusal s l r blocksA blocksB ≡ first (tooFewOf s (Finish.maskA s l r) (Finish.maskB s l r) blocksA blocksB)
   unfolding finishRefusal
   nine-decides r blocksA blocksB five pr pr' =
-      first-join (finishChecks s l r blocksA blocksB) (tooFewOf s (Finish.maskVectorA s l r) (Finish.maskVectorB s l r) blocksA blocksB) tt
-      ∙ ap (λ (k : ℕ). orElse k (first (tooFewOf s (Finish.maskVectorA s l r) (Finish.maskVectorB s l r) blocksA blocksB))) (finish-passes r blocksA blocksB five pr pr')
+      first-join (finishChecks s l r blocksA blocksB) (tooFewOf s (Finish.maskA s l r) (Finish.maskB s l r) blocksA blocksB) tt
+      ∙ ap (λ (k : ℕ). orElse k (first (tooFewOf s (Finish.maskA s l r) (Finish.maskB s l r) blocksA blocksB))) (finish-passes r blocksA blocksB five pr pr')
 
   pub finishes : (r : ℕ) (blocksA blocksB : List ℕ) → markOf M r ≡ 5 → Proper s blocksA → Proper s blocksB → Finishes q r blocksA blocksB
   finishes r blocksA blocksB five pr pr' = record {
@@ -174,10 +174,10 @@ module _ (plan : Plan) (draw : Draw) (L : Ledger) (sound : Sound plan) (is : IsD
   }
     where
       xa : List ℕ
-      xa = Finish.maskVectorA s l r
+      xa = Finish.maskA s l r
 
       xb : List ℕ
-      xb = Finish.maskVectorB s l r
+      xb = Finish.maskB s l r
 
       by-nine : finishRefusal s l r blocksA blocksB ≡ first (9 when tooFew s xa blocksA ∷ 9 when tooFew s xb blocksB ∷ [])
       by-nine = nine-decides r blocksA blocksB five pr pr'

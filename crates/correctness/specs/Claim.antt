@@ -45,10 +45,10 @@ Opens L P q r blocks = Answered L P q r blocks (openAnswer (q .session) (q .rows
 
 -- Post q finishes the triple at r, whose masks it made: 9, or done and the third row held.
 pub record Finishes (q : Post) (r : ℕ) (blocksA blocksB : List ℕ) : Type 0 where
-  pub few : (accepted (q .session) (maskA (q .session) (q .rows) r) blocks ≤ q .session .t)
+  pub few : (accepted (q .session) (maskA (q .session) (q .rows) r) blocksA ≤ q .session .t)
       ⊎ (accepted (q .session) (maskB (q .session) (q .rows) r) blocksB ≤ q .session .t)
       → finishAnswer (q .session) (q .rows) r blocksA blocksB .refusal ≡ 9
-  pub enough : q .session .t + 1 ≤ accepted (q .session) (maskA (q .session) (q .rows) r) blocks
+  pub enough : q .session .t + 1 ≤ accepted (q .session) (maskA (q .session) (q .rows) r) blocksA
       → q .session .t + 1 ≤ accepted (q .session) (maskB (q .session) (q .rows) r) blocksB
       → (finishAnswer (q .session) (q .rows) r blocksA blocksB .refusal ≡ 0)
       × (mark (finishAnswer (q .session) (q .rows) r blocksA blocksB .session) (r + 2) ≡ 2)
@@ -76,7 +76,7 @@ pub record Right (L : Ledger) (P : ℕ → ℕ → List ℕ → Type 0) (H : (Li
       → (j ≢ q .session .post → H (drop (q .session .t + 1)) r j (sent (q .session) (maskB (q .session) (q .rows) r) blocks j))
       → accepts (q .session) (maskB (q .session) (q .rows) r) blocks j ≡ true
 
--- At every post of S, after any run of all posts. S may be all posts, or those alone whose polynomials countFrom: what the others do
+-- At every post of S, after any run of all posts. S may be all posts, or those alone whose polynomials count: what the others do
 -- stands in the run, and nothing is asked of it.
 abbrev pub Correct : Type 1
 Correct =

@@ -34,7 +34,7 @@ use Rattle.product.specs.Masks.{maskRow}
 use Rattle.product.specs.Finish.{maskA, maskB, finishPlace, finishOwn, finishChecks, tooFewOf, found, openedBoth, openedMasks, finishRefusal, productRow, withProduct, finishAnswer, finishRows}
 
 abbrev shown : ℕ → ℕ → ℕ → OpenedMasks
-shown refusal y z = record { refusal = refusal; y = y; z = z }
+shown refusal yA yB = record { refusal = refusal; «y_a» = yA; «y_b» = yB }
 
 -- one mask, made in the lent room
 module _ (q : Party) (rows room made blocks x y : List ℕ) (k r : ℕ) (ex : x ≡ rowAt (rowLength (q .shape)) rows k)
@@ -95,19 +95,19 @@ module _ (s : Session) (m : Party) (em : m ≡ partyOf s) (rows l l' : List ℕ)
       (shown (first (tooFewOf s x x' l l')) 0 0) few z
       (ap₂ (shown 0) (ap (λ (a : Opened). a .value) first-is ∙ h .0) (ap (λ (a : Opened). a .value) second-is ∙ h .1))
 
-found-refusal : (k y z : ℕ) → found k y z .refusal ≡ k
+found-refusal : (k yA yB : ℕ) → found k yA yB .refusal ≡ k
 unfolding outcome
-found-refusal zero y z = refl
-found-refusal (suc k) y z = refl
+found-refusal zero yA yB = refl
+found-refusal (suc k) yA yB = refl
 
-found-numbers : (k y z : ℕ) → k ≡ 0 → (found k y z .y ≡ y) × (found k y z .z ≡ z)
+found-numbers : (k yA yB : ℕ) → k ≡ 0 → (found k yA yB .«y_a» ≡ yA) × (found k yA yB .«y_b» ≡ yB)
 unfolding outcome
-found-numbers zero y z e = (refl, refl)
-found-numbers (suc k) y z e = absurd (omega arith)
+found-numbers zero yA yB e = (refl, refl)
+found-numbers (suc k) yA yB e = absurd (omega arith)
 
 module _ (s : Session) (rows : List ℕ) (r : ℕ) (l l' : List ℕ) where
-  abbrev y : ℕ
-  y = opened s (maskA s rows r) l
+  abbrev yA : ℕ
+  yA = opened s (maskA s rows r) l
 
   abbrev yB : ℕ
   yB = opened s (maskB s rows r) l'
@@ -167,13 +167,13 @@ module _ (s : Session) (rows : List ℕ) (r : ℕ) (l l' : List ℕ) where
 
         pub finish-written : (out : List ℕ)
             → out ≡ withRow (rowLength g) (r + 2)
-            (summed (sumsAt g) (o .z) (product (o .yA) (o .z))
-            (summed (sumsAt g) (o .yA) 0 (rowAt (rowLength g) rows (r + 2)) (rowAt (rowLength g) rows (r + 1))) (rowAt (rowLength g) rows r)) rows
+            (summed (sumsAt g) (o .«y_b») (product (o .«y_a») (o .«y_b»))
+            (summed (sumsAt g) (o .«y_a») 0 (rowAt (rowLength g) rows (r + 2)) (rowAt (rowLength g) rows (r + 1))) (rowAt (rowLength g) rows r)) rows
             → out ≡ finishRows s rows r l l'
         unfolding withProduct productRow
         finish-written out eo =
             let h = found-numbers (finishRefusal s rows r l l') yA yB (rw refusal-is at z) in
-            let ey : o .yA ≡ yA = ap (λ (a : OpenedMasks). a .yA) e ∙ h .0 in
-            let ez : o .z ≡ yB = ap (λ (a : OpenedMasks). a .z) e ∙ h .1 in
+            let ey : o .«y_a» ≡ yA = ap (λ (a : OpenedMasks). a .«y_a») e ∙ h .0 in
+            let ez : o .«y_b» ≡ yB = ap (λ (a : OpenedMasks). a .«y_b») e ∙ h .1 in
             accepted (o .refusal) (finishRefusal s rows r l l') out (withProduct s yA yB r rows) rows refusal-is z
             (rw eg at eo ∙ ap₂ (λ (a b : ℕ). withProduct s a b r rows) ey ez)

@@ -45,11 +45,11 @@ module _ (g : Shape) (rows : List ℕ) (r : ℕ) (z : Sized g rows) (i : TripleI
       q = r + 2
 
       made : List ℕ
-      made = summed (sumsAt g) y 0 (rowAt w rows (r + 2)) (rowAt w rows (r + 1))
+      made = summed (sumsAt g) yA 0 (rowAt w rows (r + 2)) (rowAt w rows (r + 1))
 
       made-long : length made ≡ w
       made-long =
-          length-summed g rows z (r + 2) (r + 2) (r + 1) y (in-triple 2 (omega arith)) (in-triple 2 (omega arith)) (in-triple 1 (omega arith)) 0
+          length-summed g rows z (r + 2) (r + 2) (r + 1) yA (in-triple 2 (omega arith)) (in-triple 2 (omega arith)) (in-triple 1 (omega arith)) 0
 
       other : r ≢ r + 2
       other e = omega arith

@@ -67,11 +67,11 @@ module _ (plan : Plan) (draw : Draw) (len i : ℕ) (M : Marks) (vec : ℕ → Ve
     row-ab : rowAt W l (r + 2) ≡ rowFor plan draw i (vec (r + 2))
     row-ab = h .rows (r + 2) (omega (arith, low)) (λ e. omega (arith, ok .third))
 
-    pub opens-a : Finish.maskVectorA s l r ≡ heldRow s (maskVectorA M vec r)
+    pub opens-a : Finish.maskA s l r ≡ heldRow s (maskVectorA M vec r)
     opens-a =
         combined-row plan draw len i M vec l h (p - 1) (rememberedA M r) r (h .rows (rememberedA M r) (ok .a-low) (λ e. omega (arith, ok .a-held))) row-a
 
-    pub opens-b : Finish.maskVectorB s l r ≡ heldRow s (maskVectorB M vec r)
+    pub opens-b : Finish.maskB s l r ≡ heldRow s (maskVectorB M vec r)
     opens-b =
         combined-row plan draw len i M vec l h (p - 1) (rememberedB M r) (r + 1) (h .rows (rememberedB M r) (ok .b-low) (λ e. omega (arith, ok .b-held))) row-b
 
@@ -100,7 +100,7 @@ module _ (plan : Plan) (draw : Draw) (len i : ℕ) (M : Marks) (vec : ℕ → Ve
 
     pub finish-holds : AllTrue s (maskVectorA M vec r) blocksA → AllTrue s (maskVectorB M vec r) blocksB
         → Holds plan draw len i (finished M r) (at vec (r + 2) (written M vec r))
-        (withProduct s (opened s (Finish.maskVectorA s l r) blocksA) (opened s (Finish.maskVectorB s l r) blocksB) r l)
+        (withProduct s (opened s (Finish.maskA s l r) blocksA) (opened s (Finish.maskB s l r) blocksB) r l)
     unfolding withProduct
     finish-holds ta tb =
         put-holds plan draw len i (remarked (remarked M r 6) (r + 1) 6) vec l
@@ -108,11 +108,11 @@ module _ (plan : Plan) (draw : Draw) (len i : ℕ) (M : Marks) (vec : ℕ → Ve
         (omega (arith, ok .r-low)) _ _ (ap₂ (λ (y y' : ℕ). productRow s y y' (rowAt W l r) (rowAt W l (r + 1)) (rowAt W l (r + 2))) ya yb ∙ rows-are ∙ row-of-product _ _ _ _ _
         ∙ ap (rowFor plan draw i) (sym (product-sum vec r _ _)))
       where
-        ya : opened s (Finish.maskVectorA s l r) blocks ≡ number (maskVectorA M vec r) .0
-        ya = opened-is (Finish.maskVectorA s l r) (maskVectorA M vec r) blocks (opens-a r ok) ta (f 22)
+        ya : opened s (Finish.maskA s l r) blocksA ≡ number (maskVectorA M vec r) .0
+        ya = opened-is (Finish.maskA s l r) (maskVectorA M vec r) blocksA (opens-a r ok) ta (f 22)
 
-        yb : opened s (Finish.maskVectorB s l r) blocksB ≡ number (maskVectorB M vec r) .0
-        yb = opened-is (Finish.maskVectorB s l r) (maskVectorB M vec r) blocksB (opens-b r ok) tb (f 23)
+        yb : opened s (Finish.maskB s l r) blocksB ≡ number (maskVectorB M vec r) .0
+        yb = opened-is (Finish.maskB s l r) (maskVectorB M vec r) blocksB (opens-b r ok) tb (f 23)
 
         rows-are : productRow s (number (maskVectorA M vec r) .0) (number (maskVectorB M vec r) .0) (rowAt W l r) (rowAt W l (r + 1)) (rowAt W l (r + 2))
             ≡ productRow s (number (maskVectorA M vec r) .0) (number (maskVectorB M vec r) .0) (rowFor plan draw i (vec r)) (rowFor plan draw i (vec (r + 1))) (rowFor plan draw i (vec (r + 2)))

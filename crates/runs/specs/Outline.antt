@@ -46,7 +46,7 @@ pub record ForMasks (K : Kinds) : Type 0 where
 
 pub record ForFinish (K : Kinds) : Type 0 where
   pub r : ℕ
-  pub blocks : K .Record
+  pub blocksA : K .Record
   pub blocksB : K .Record
 
 pub data CallOf (K : Kinds) : Type 0 where
@@ -173,4 +173,4 @@ filled f (message x) = message (record { r = x .r; lent = f .lent (x .lent); hea
 filled f (opening x) = opening (record { r = x .r; blocks = f .blocks (x .blocks) })
 filled f (linear x) = linear x
 filled f (masks x) = masks (record { a = x .a; b = x .b; r = x .r; lent = f .lent (x .lent) })
-filled f (finish x) = finish (record { r = x .r; blocksA = f .blocksA (x .blocksA); blocksB = f .blocksA (x .blocksB) })
+filled f (finish x) = finish (record { r = x .r; blocksA = f .blocks (x .blocksA); blocksB = f .blocks (x .blocksB) })

@@ -178,7 +178,7 @@ module _ (plan : Plan) (d : Draw) (K : Vector) (M : Marks) (vec vec' : ℕ → V
       λ j. first (8 when e .0 j ∷ 8 when e .1 j ∷ 8 when e .2 j ∷ 8 when e .3 j ∷ 8 when e .4 j ∷ 8 when badRecord s blocksA ∷ 8 when badRecord s blocksB ∷ 9 when tooFew s (x j) blocksA ∷ 9 when tooFew s (y j) blocksB ∷ []))
     where
       late : List ℕ → List Test
-      late rows = finishNumbers s rows (rememberedA M r) (rememberedB M r) r blocksA blocksB ++ tooFewOf s (Finish.maskVectorA s rows r) (Finish.maskVectorB s rows r) blocksA blocksB
+      late rows = finishNumbers s rows (rememberedA M r) (rememberedB M r) r blocksA blocksB ++ tooFewOf s (Finish.maskA s rows r) (Finish.maskB s rows r) blocksA blocksB
 
   -- an opening, that has as few in both runs where it comes to the walk
   pub open-same : (r : ℕ) (blocks : List ℕ)

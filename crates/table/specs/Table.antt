@@ -17,7 +17,7 @@ use Rattle.product.specs.Finish.{openedBoth, productRow}
 use Rattle.forms.specs.Lines.{deal, text}
 use Rattle.forms.specs.Forms.{message}
 use Rattle.lines.specs.Reading.{readRefusal, lineAs, listAs}
-use Rattle.lines.specs.Writing.{dealRefusal, writtenAs, partAs}
+use Rattle.lines.specs.Writing.{writeDealRefusal, writtenAs, partAs}
 
 -- "n = 3, t = 1, check points 2, 3, 5; f = 7 + 4z; v1 = 1 + 2z, v2 = 3 + z, v3 = 5 + 6z."
 unfoldable pub pointAt : ℕ → ℕ
@@ -78,7 +78,7 @@ abbrev pub masksOpened : ℕ → OpenedMasks
 masksOpened i = openedBoth (sessionAt i) (maskRowA i) (maskRowB i) (fromAll maskRowA) (fromAll maskRowB)
 
 abbrev pub multiplied : ℕ → List ℕ
-multiplied i = productRow (sessionAt i) (masksOpened i .y) (masksOpened i .z) (rowL i) (rowL' i) (rowL'' i)
+multiplied i = productRow (sessionAt i) (masksOpened i .«y_a») (masksOpened i .«y_b») (rowL i) (rowL' i) (rowL'' i)
 
 -- P10: `D,0,93` and `D,0,093`, each with a line feed; and lists that are lent for 2(t+1) numbers and for 7 bytes
 abbrev pub dealt93 : List ℕ
@@ -100,8 +100,8 @@ pub record Reads : Type 0 where
 
 -- and writes back
 pub record Writes : Type 0 where
-  pub answer : writtenAs (dealRefusal 3 1 0 93 7) (text (deal 0 93)) ≡ record { refusal = 0; len = 7 }
-  pub bytes : partAs (dealRefusal 3 1 0 93 7) (text (deal 0 93)) lentBytes ≡ dealt93
+  pub answer : writtenAs (writeDealRefusal 3 1 0 93 7) (text (deal 0 93)) ≡ record { refusal = 0; len = 7 }
+  pub bytes : partAs (writeDealRefusal 3 1 0 93 7) (text (deal 0 93)) lentBytes ≡ dealt93
 
 pub record Table : Type 0 where
   -- P1 "dealing 100 gives c = 93."
@@ -128,7 +128,7 @@ pub record Table : Type 0 where
   pub p8-gives' : openedRow (sessionAt 3) (dealtRow 3) (fromPost2 3 1) ≡ record { refusal = 0; value = 100 }
   -- P9 "a = 6, b = 7, l = 2, l' = 5: y = 4, y' = 2, product 42.", at each post
   pub p9 : map masksOpened (1 ∷ 2 ∷ 3 ∷ [])
-      ≡ record { refusal = 0; y = 4; z = 2 } ∷ record { refusal = 0; y = 4; z = 2 } ∷ record { refusal = 0; y = 4; z = 2 } ∷ []
+      ≡ record { refusal = 0; «y_a» = 4; «y_b» = 2 } ∷ record { refusal = 0; «y_a» = 4; «y_b» = 2 } ∷ record { refusal = 0; «y_a» = 4; «y_b» = 2 } ∷ []
   pub p9-product : map (λ i. openedRow (sessionAt i) (multiplied i) (fromAll multiplied)) (1 ∷ 2 ∷ 3 ∷ [])
       ≡ record { refusal = 0; value = 42 } ∷ record { refusal = 0; value = 42 } ∷ record { refusal = 0; value = 42 } ∷ []
   -- P10 "`D,0,93` reads and writes back; `D,0,093` gets 10."
