@@ -131,7 +131,7 @@ fn open_small<'a>(party: Party, row: &'a [u32], blocks: &'a [u32]) -> Opened
 {
     let shape = party.shape;
     let count = shape.v_len();
-    let need = shape.needed();
+    let most = shape.needed();
     let inverses = inverses::few::to_32();
     let mut powers = [0u32; shape::SHORT_V];
     let mut posts = [0u32; shape::FEW_POSTS];
@@ -144,8 +144,8 @@ fn open_small<'a>(party: Party, row: &'a [u32], blocks: &'a [u32]) -> Opened
         blocks,
         &inverses,
         &mut powers[..count],
-        &mut posts[..need],
-        &mut shares[..need],
+        &mut posts[..most],
+        &mut shares[..most],
         &mut gaps,
         &mut list,
     )
@@ -158,7 +158,7 @@ fn open_large<'a>(party: Party, row: &'a [u32], blocks: &'a [u32]) -> Opened
 {
     let shape = party.shape;
     let count = shape.v_len();
-    let need = shape.needed();
+    let most = shape.needed();
     let inverses = inverses::to_255();
     let mut powers = [0u32; shape::LONGEST_V];
     let mut posts = [0u32; shape::MOST_POSTS];
@@ -171,8 +171,8 @@ fn open_large<'a>(party: Party, row: &'a [u32], blocks: &'a [u32]) -> Opened
         blocks,
         &inverses,
         &mut powers[..count],
-        &mut posts[..need],
-        &mut shares[..need],
+        &mut posts[..most],
+        &mut shares[..most],
         &mut gaps,
         &mut list,
     )
