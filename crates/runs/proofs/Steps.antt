@@ -9,6 +9,9 @@ use lib.ListN.{take}
 use lib.Seq.{take-at}
 use Rattle.field.specs.Modulus.{p}
 use Rattle.field.specs.Element.{Element, element}
+use Rattle.shape.specs.Bounds.{fewestPosts, mostPosts, rowCount, lastRow, lastTriple}
+use Rattle.refusal.specs.Conditions.{outside}
+use Rattle.refusal.proofs.Laws.{inside}
 use Rattle.poly.specs.Counting.{All}
 use Rattle.session.specs.declared.Session.{Session}
 use Rattle.session.specs.Rows.{width, coefficients, rowAt, combined}
@@ -81,13 +84,25 @@ module _ (plan : Plan) (draw : Draw) where
       abbrev s : Session
       s = sessionAt plan draw i M
 
-      load-low : (r : ℕ) (pack : List ℕ) → loadRowRefusal s l r pack ≡ 0 → r < 96
-      unfolding loadRowRefusal
-      load-low r pack z = let f = passed (loadRowTests s l r pack) tt z in omega (arith, ltb-false 95 r (f 6))
+      -- post i is one of them
+      there : outside fewestPosts mostPosts (plan .n) ≡ false → i - 1 < plan .n
+      there e = omega (arith, hi, inside fewestPosts mostPosts (plan .n) e .0)
 
-      triple-low : (r : ℕ) (pack : List ℕ) → loadTripleRefusal s l r pack ≡ 0 → r < 96
+      load-there : (r : ℕ) (pack : List ℕ) → loadRowRefusal s l r pack ≡ 0 → i - 1 < plan .n
+      unfolding loadRowRefusal
+      load-there r pack z = there (passed (loadRowTests s l r pack) tt z 0)
+
+      triple-there : (r : ℕ) (pack : List ℕ) → loadTripleRefusal s l r pack ≡ 0 → i - 1 < plan .n
       unfolding loadTripleRefusal
-      triple-low r pack z = let f = passed (loadTripleTests s l r pack) tt z in omega (arith, ltb-false 93 r (f 6))
+      triple-there r pack z = there (passed (loadTripleTests s l r pack) tt z 0)
+
+      load-low : (r : ℕ) (pack : List ℕ) → loadRowRefusal s l r pack ≡ 0 → r < rowCount
+      unfolding loadRowRefusal
+      load-low r pack z = let f = passed (loadRowTests s l r pack) tt z in omega (arith, ltb-false lastRow r (f 6))
+
+      triple-low : (r : ℕ) (pack : List ℕ) → loadTripleRefusal s l r pack ≡ 0 → r < rowCount
+      unfolding loadTripleRefusal
+      triple-low r pack z = let f = passed (loadTripleTests s l r pack) tt z in omega (arith, ltb-false lastTriple r (f 6))
 
       -- the post with the call's own session and rows
       moved : (c : Call) → refusalOf c (postAt i M l) ≡ 0 → Fits i M vec c
@@ -96,13 +111,13 @@ module _ (plan : Plan) (draw : Draw) where
         session = refl;
         holds =
             load-holds plan draw len i M vec l h (x .r) (x .pack) _
-            (fit .0 .1 ∙ raw-pack plan draw is (x .r) (load-low (x .r) (x .pack) z) (fit .0 .0) i hi) z;
+            (fit .0 .1 ∙ raw-pack plan draw is (x .r) (load-low (x .r) (x .pack) z) (fit .0 .0) i (load-there (x .r) (x .pack) z)) z;
       }
       moved (loadTriple x) z fit = record {
         session = refl;
         holds =
             triple-holds plan draw len i M vec l h (x .r) (x .pack) _ _ _
-            (fit .0 .1 ∙ triple-pack plan draw is (x .r) (triple-low (x .r) (x .pack) z) (fit .0 .0) i hi) z;
+            (fit .0 .1 ∙ triple-pack plan draw is (x .r) (triple-low (x .r) (x .pack) z) (fit .0 .0) i (triple-there (x .r) (x .pack) z)) z;
       }
       moved (deal x) z fit = record { session = refl; holds = deal-holds plan draw len i M vec l h (x .r) (x .c) z }
       moved (message x) z fit = record { session = refl; holds = h }
@@ -120,7 +135,7 @@ module _ (plan : Plan) (draw : Draw) where
           → coefficients s (rowAt (width s) l r) ≡ numbers (plan .t + 1) (vec r .v i)
       unfolding messageRefusal
       message-at r lent z =
-          ap (take (plan .t + 1)) (held-row plan draw len i M vec l h r 1 (ltb-false 95 r (f 6)) (f 7))
+          ap (take (plan .t + 1)) (held-row plan draw len i M vec l h r 1 (ltb-false lastRow r (f 6)) (f 7))
           ∙ own-numbers (plan .t + 1) (plan .n) i (element (pointOf draw i)) (vec r)
         where
           f : (k : ℕ) → conditionAt (messageTests s l r lent) k ≡ false
@@ -139,7 +154,7 @@ module _ (plan : Plan) (draw : Draw) where
           f = passed (masksTests s l a b r lent) tt z
 
           low : r ≤ 93
-          low = ltb-false 93 r (f 8)
+          low = ltb-false lastTriple r (f 8)
 
           half : (x y : ℕ) → rowAt (plan .t + 1 + 2 * plan .n) l x ≡ rowFor plan draw i (vec x)
               → rowAt (plan .t + 1 + 2 * plan .n) l y ≡ rowFor plan draw i (vec y)
