@@ -1,5 +1,5 @@
 -- Document 01, "Calls on a session", Open: which posts a party accepts for a row, and the number that they bring out.
-use Prim.Native.Nat.{ℕ, zero, suc, _-_}
+use Prim.Native.Nat.{ℕ, zero, suc, _-_, _≤_, _<_}
 use mathlib.Core.Path.{_≡_}
 use mathlib.Core.Bool.{Bool, true, false, cond}
 use mathlib.Core.List.{List, [], _∷_, map}
@@ -8,7 +8,9 @@ use lib.ListN.{length, take, getD}
 use Rattle.field.specs.Arithmetic.{difference}
 use Rattle.poly.specs.Polynomial.{value}
 use Rattle.poly.specs.Interpolation.{interpolated}
-use Rattle.shape.specs.Lengths.{needed, rowLength}
+use Rattle.inverses.specs.InverseTable.{Inverts}
+use Rattle.shape.specs.declared.Shape.{Shape}
+use Rattle.shape.specs.Lengths.{needed, vLength, rowLength}
 use Rattle.shape.specs.Row.{checkValue, publicSum}
 use Rattle.session.specs.declared.Party.{Party}
 use Rattle.opening.specs.declared.Walk.{Walk}
@@ -89,3 +91,12 @@ openedRow q row blocks = settled (outcomeOf q row blocks) (opened q row blocks)
 pub record Openable (q : Party) (row blocks : List ℕ) : Type 0 where
   pub recorded : Recorded q blocks
   pub row-length : length row ≡ rowLength (q .shape)
+
+-- What is lent to the walk: the table of inverses, and rooms.
+pub record Roomy (s : Shape) (inverses powers posts shares gaps list : List ℕ) : Type 0 where
+  pub table : Inverts inverses
+  pub powers-room : length powers ≡ vLength s
+  pub posts-room : length posts ≡ needed s
+  pub shares-room : length shares ≡ needed s
+  pub gaps-room : length inverses ≤ length gaps
+  pub list-room : length inverses < length list

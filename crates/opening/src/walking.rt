@@ -7,9 +7,12 @@ ghost use mathlib.Core.Path.{_≡_};
 ghost use lib.ListN.{length, getD};
 ghost use Rattle.poly.specs.Polynomial.{powers};
 ghost use Rattle.poly.specs.Interpolation.{interpolated};
+ghost use Prim.Native.Nat.{_≤_, _<_};
+ghost use Rattle.inverses.specs.InverseTable.{Inverts};
+ghost use Rattle.shape.specs.Bounds.{fewPosts};
 ghost use Rattle.shape.specs.Lengths.{needed, vLength};
 ghost use Rattle.opening.specs.Blocks.{PostIn};
-ghost use Rattle.opening.specs.Accepting.{Openable, accepts, share, WalkedAs, settled, openedRow};
+ghost use Rattle.opening.specs.Accepting.{Openable, accepts, share, WalkedAs, settled, openedRow, Roomy};
 
 // Post j's polynomial has the right value at the own check point, whose powers are given.
 fn accepts<'a>(party: Party, row: &'a [u32], blocks: &'a [u32], j: usize, weights: &[u32]) -> bool
@@ -76,13 +79,21 @@ fn walk_posts<'a>(
     outcome
 }
 
-// What the walk's outcome means: the number through the shares, or 9.
-fn settle(outcome: Walk, posts: &[u32], shares: &[u32]) -> Opened
+// What the walk's outcome means: the number through the shares, or 9. The table of inverses is lent, with room for missing posts and weights.
+fn settle(
+    outcome: Walk,
+    posts: &[u32],
+    shares: &[u32],
+    inverses: &[u32],
+    gaps: &mut [u32],
+    list: &mut [u32],
+) -> Opened
+    requires { ⌜ Inverts (now inverses) × (length (now inverses) ≤ length (now gaps)) × (length (now inverses) < length (now list)) ⌝ }
     ensures { λ r. ⌜ r ≡ settled outcome (interpolated (now (posts .entry)) (now (shares .entry)) 0) ⌝ }
 {
     match outcome {
         Walk::Enough(_) => {
-            let value = poly::interpolate(posts, shares, 0);
+            let value = barycentric::at_zero(posts, shares, inverses, gaps, list);
             Opened { refusal: 0, value }
         }
         Walk::TooFew => Opened {
@@ -92,21 +103,79 @@ fn settle(outcome: Walk, posts: &[u32], shares: &[u32]) -> Opened
     }
 }
 
-// The number that a row opens to with a record, or 9, with lent room for the powers of the check point, the posts and the shares.
+// The number that a row opens to with a record, or 9, with the table of inverses and lent room for the powers of the check point, the posts,
+// the shares, the missing posts and the weights.
 fn open_in<'a>(
     party: Party,
     row: &'a [u32],
     blocks: &'a [u32],
-    weights: &mut [u32],
+    inverses: &[u32],
+    powers: &mut [u32],
     posts: &mut [u32],
     shares: &mut [u32],
+    gaps: &mut [u32],
+    list: &mut [u32],
 ) -> Opened
-    requires { ⌜ Openable party (now row) (now blocks) × (length (now weights) ≡ vLength (party .shape)) × (length (now posts) ≡ needed (party .shape)) × (length (now shares) ≡ needed (party .shape)) ⌝ }
+    requires { ⌜ Openable party (now row) (now blocks) × Roomy (party .shape) (now inverses) (now powers) (now posts) (now shares) (now gaps) (now list) ⌝ }
     ensures { λ r. ⌜ r ≡ openedRow party (now (row .entry)) (now (blocks .entry)) ⌝ }
 {
-    poly::powers(party.point, weights);
-    let outcome = walk_posts(party, row, blocks, weights, posts, shares);
-    settle(outcome, posts, shares)
+    poly::powers(party.point, powers);
+    let outcome = walk_posts(party, row, blocks, powers, posts, shares);
+    settle(outcome, posts, shares, inverses, gaps, list)
+}
+
+// In rooms for few posts.
+fn open_small<'a>(party: Party, row: &'a [u32], blocks: &'a [u32]) -> Opened
+    requires { ⌜ Openable party (now row) (now blocks) × (party .shape .n ≤ fewPosts) ⌝ }
+    ensures { λ r. ⌜ r ≡ openedRow party (now (row .entry)) (now (blocks .entry)) ⌝ }
+{
+    let shape = party.shape;
+    let count = shape.v_len();
+    let most = shape.needed();
+    let inverses = inverses::few::to_32();
+    let mut powers = [0u32; shape::SHORT_V];
+    let mut posts = [0u32; shape::FEW_POSTS];
+    let mut shares = [0u32; shape::FEW_POSTS];
+    let mut gaps = [0u32; inverses::few::FEW];
+    let mut list = [0u32; inverses::few::FEW + 1];
+    open_in(
+        party,
+        row,
+        blocks,
+        &inverses,
+        &mut powers[..count],
+        &mut posts[..most],
+        &mut shares[..most],
+        &mut gaps,
+        &mut list,
+    )
+}
+
+// In rooms for the most posts.
+fn open_large<'a>(party: Party, row: &'a [u32], blocks: &'a [u32]) -> Opened
+    requires { ⌜ Openable party (now row) (now blocks) ⌝ }
+    ensures { λ r. ⌜ r ≡ openedRow party (now (row .entry)) (now (blocks .entry)) ⌝ }
+{
+    let shape = party.shape;
+    let count = shape.v_len();
+    let most = shape.needed();
+    let inverses = inverses::to_255();
+    let mut powers = [0u32; shape::LONGEST_V];
+    let mut posts = [0u32; shape::MOST_POSTS];
+    let mut shares = [0u32; shape::MOST_POSTS];
+    let mut gaps = [0u32; inverses::MOST];
+    let mut list = [0u32; inverses::MOST + 1];
+    open_in(
+        party,
+        row,
+        blocks,
+        &inverses,
+        &mut powers[..count],
+        &mut posts[..most],
+        &mut shares[..most],
+        &mut gaps,
+        &mut list,
+    )
 }
 
 // The number that a row opens to with a record, or 9.
@@ -115,17 +184,9 @@ pub fn open_row<'a>(party: Party, row: &'a [u32], blocks: &'a [u32]) -> Opened
     ensures { λ r. ⌜ r ≡ openedRow party (now (row .entry)) (now (blocks .entry)) ⌝ }
 {
     let shape = party.shape;
-    let count = shape.v_len();
-    let most = shape.needed();
-    let mut weights = [0u32; shape::LONGEST_V];
-    let mut posts = [0u32; shape::MOST_POSTS];
-    let mut shares = [0u32; shape::MOST_POSTS];
-    open_in(
-        party,
-        row,
-        blocks,
-        &mut weights[..count],
-        &mut posts[..most],
-        &mut shares[..most],
-    )
+    if shape.n <= shape::FEW_POSTS {
+        open_small(party, row, blocks)
+    } else {
+        open_large(party, row, blocks)
+    }
 }

@@ -11,4 +11,4 @@ pub open-in-spec : {M : Type 1} → statement M
 open-in-spec =
     tie.close
     (tie.spec (λ c κs. search needs) (λ c κs. search steps) (λ c κs. search needs) (λ c. search needs) (λ c. search needs)
-    (λ c. search needs) (λ c. search steps))
+    (λ c. search needs) (λ c. search needs) (λ c. search needs) (λ c. search steps))

@@ -9,4 +9,4 @@ ruleset cases = (needs, settled-enough, settled-few)
 pub settle-spec : {M : Type 1} → statement M
 settle-spec =
     tie.close
-    (tie.spec (λ c. search cases) (λ c κs. search cases) (λ c. search cases) (λ c. search cases) (λ c. search cases))
+    (tie.spec (λ c. search cases) (λ c κs. search cases) (λ c. search cases) (λ c. search cases) (λ c. search cases) (λ c. search cases) (λ c. search cases))
