@@ -8,6 +8,7 @@ use mathlib.Core.List.{List, [], _∷_}
 use native.Mathlib.Omega.{arith}
 use borrow.Author.Tests.{le-ltb, eq-eqb}
 use lib.ListN.{length}
+use Rattle.shape.specs.Bounds.{fewestPosts, mostPosts}
 use Rattle.refusal.specs.Refusal.{_when_, first, orElse}
 use Rattle.refusal.specs.Conditions.{outside, wrongLength, anyBeyond, postsTests}
 use Rattle.refusal.proofs.Laws.{all-fail, not-refused, first-join}
@@ -50,7 +51,7 @@ module _ (plan : Plan) (draw : Draw) (L : Ledger) (sound : Sound plan) (is : IsD
 
   -- ---- the tests that fail, each by its number
 
-  n-passes : outside 2 32 (plan .n) ≡ false
+  n-passes : outside fewestPosts mostPosts (plan .n) ≡ false
   n-passes = all-fail (postsTests (plan .n) (plan .t)) tt (sound .posts) .0
 
   t-passes : outside 1 (plan .n - 1) (plan .t) ≡ false
