@@ -170,7 +170,13 @@ impl Session {
     /// [`open`](Self::open), and writes the product into row `first` + 2, which becomes held. A
     /// refused finish may be called again. Refusals 1 to 9.
     #[inline]
-    pub fn finish(self, rows: &mut [u32], first: usize, record_a: &[u32], record_b: &[u32]) -> Answer {
+    pub fn finish(
+        self,
+        rows: &mut [u32],
+        first: usize,
+        record_a: &[u32],
+        record_b: &[u32],
+    ) -> Answer {
         // SAFETY: each list is a borrowed slice's pointer and length, and `rows` overlaps no other.
         unsafe {
             sys::gantsorol_finish(
