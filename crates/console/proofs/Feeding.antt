@@ -8,8 +8,8 @@ use borrow.Author.Tests.{ltb-true, eq-eqb, ne-eqb}
 use lib.IntN.{ℤ, pos, negsuc}
 use lib.Signed.{ltZ}
 use lib.ListN.{length, take, length-take}
+use lib.Seq.{length-take-le}
 use Rattle.io.specs.Counts.{clamped}
-use Rattle.interpreter.proofs.Hearing.{prefix-length}
 use Rattle.transcript.specs.declared.Feed.{Feed}
 use Rattle.transcript.specs.declared.Progress.{Progress}
 use Rattle.transcript.specs.Program.{Running, running, fed, drained, drainedFeed, Open, Fed}
@@ -20,8 +20,11 @@ use Rattle.console.specs.declared.port.Printed.{Printed}
 use Rattle.console.specs.Sizes.{chunkSize, wrapped}
 use Rattle.console.specs.Serving.{Handed, Answered, stopsAt, brokenOff}
 
-open-fewer : (f : Feed) (rows blocks line out : List ℕ) (k n : ℕ) → k ≤ n → Open f rows blocks line out n → Open f rows blocks line out k
-open-fewer f rows blocks line out k n h o =
+pub prefix-length : (k : ℕ) (l : List ℕ) → k ≤ length l → k ≡ length (take k l)
+prefix-length k l h = sym (length-take-le k l h)
+
+open-fewer : (f : Feed) (store line out : List ℕ) (k n : ℕ) → k ≤ n → Open f store line out n → Open f store line out k
+open-fewer f store line out k n h o =
     record { ready = o .ready; line-room = o .line-room; len-in = o .len-in; numbers = omega (arith, o .numbers); room = omega (arith, o .room) }
 
 -- the first bytes of the list, as many as the answers have
@@ -32,21 +35,21 @@ handed-first answers out at before after h e q =
     record { first = ap (λ (k : ℕ). take k out) n ∙ e; count = q ∙ ap (λ (s : List ℕ). wrapped (before .total + length s)) e }
 
 -- ---- a chunk is not refused
-module _ (f : Feed) (rows blocks line out chunk newLine : List ℕ) (g : Progress) (rows' blocks' line' out' : List ℕ)
-    (m : Moved (feedRefusal f rows blocks line out (length chunk)) (length chunk) f rows blocks line out
-    (fed (running f rows blocks line out) chunk) newLine g rows' blocks' line' out')
-    (o : Open f rows blocks line out chunkSize) (h : length chunk ≤ chunkSize) where
-  none : feedRefusal f rows blocks line out (length chunk) ≡ 0
-  none = open-none f rows blocks line out (length chunk) (open-fewer f rows blocks line out (length chunk) chunkSize h o)
+module _ (f : Feed) (store line out chunk newLine : List ℕ) (g : Progress) (store' line' out' : List ℕ)
+    (m : Moved (feedRefusal f store line out (length chunk)) (length chunk) f store line out
+    (fed (running f store line out) chunk) newLine g store' line' out')
+    (o : Open f store line out chunkSize) (h : length chunk ≤ chunkSize) where
+  none : feedRefusal f store line out (length chunk) ≡ 0
+  none = open-none f store line out (length chunk) (open-fewer f store line out (length chunk) chunkSize h o)
 
-  d : Fed f (g .feed) rows' blocks' (length chunk)
+  d : Fed f (g .feed) store' (length chunk)
   d = m .left none
 
   pub answers-in : length out' ≡ length out → g .feed .at ≤ length out'
   answers-in l = omega (arith, d .room, o .room)
 
   module _ (v : Feed) (q : v ≡ drainedFeed (g .feed)) where
-    pub chunk-open : length line' ≡ length line → Open v rows' blocks' line' out' 0
+    pub chunk-open : length line' ≡ length line → Open v store' line' out' 0
     chunk-open l =
         rw q
         record {
@@ -64,9 +67,9 @@ module _ (f : Feed) (rows blocks line out chunk newLine : List ℕ) (g : Progres
     chunk-numbers = rw q (omega (arith, d .numbers))
 
     pub chunk-answered : (before after : Printed) → length out' ≡ length out → after .total ≡ wrapped (before .total + length (take (g .feed .at) out'))
-        → Answered (running f rows blocks line out) (running v rows' blocks' line' out') chunk out' before after
+        → Answered (running f store line out) (running v store' line' out') chunk out' before after
     chunk-answered before after l t =
-        let e : running (g .feed) rows' blocks' line' out' ≡ fed (running f rows blocks line out) chunk = m .says none in
+        let e : running (g .feed) store' line' out' ≡ fed (running f store line out) chunk = m .says none in
         record {
           taken = rw q (ap drained e);
           handed = handed-first _ out' (g .feed .at) before after (answers-in l) (ap (λ (z : Running). z .out) e) t;

@@ -8,17 +8,18 @@ use native.Mathlib.Nat.{mod-add-mod}
 use borrow.Author.Tests.{eqb-false}
 use lib.Dec.{eqb}
 use lib.ListN.{length, take, length-replicate, length-append}
-use Rattle.interpreter.specs.Step.{Ready}
-use Rattle.interpreter.proofs.Hearing.{prefix-length}
+use Rattle.store.specs.Sizes.{storeRoom}
+use Rattle.interpreter.specs.States.{firstState}
+use Rattle.interpreter.specs.Stepping.{Ready}
+use Rattle.console.proofs.Feeding.{neither, prefix-length}
 use Rattle.transcript.specs.declared.Feed.{Feed}
 use Rattle.transcript.specs.Text.{header}
-use Rattle.transcript.specs.Program.{Running, running, fed, drained, passed, printedFor, begun, firstState, firstFeed, Open}
+use Rattle.transcript.specs.Program.{Running, running, fed, drained, passed, printedFor, begun, firstFeed, Open}
 use Rattle.transcript.proofs.Whole.{passed-more}
 use Rattle.console.specs.declared.Served.{Served}
 use Rattle.console.specs.declared.port.Printed.{Printed}
 use Rattle.console.specs.Sizes.{chunkSize, answersRoom, allTurns, wrapped}
 use Rattle.console.specs.Serving.{Fresh, Begun, Answered, stopsAt, Filled, Stopped}
-use Rattle.console.proofs.Feeding.{neither}
 
 -- ---- what was printed
 pub printed-more : (p : Running) (cs : List (List ℕ)) (c : List ℕ) → printedFor p (cs ++ (c ∷ [])) ≡ printedFor p cs ++ fed (passed p cs) c .out
@@ -36,8 +37,8 @@ filled-more [] c f h = (h, tt)
 filled-more (d ∷ cs) c f h = (f .0, filled-more cs c (f .1) h)
 
 -- ---- before each chunk
-pub record Held (f : Feed) (rows blocks line chunk out : List ℕ) (p : Printed) (turns : ℕ) : Type 0 where
-  pub fine : Open f rows blocks line out 0
+pub record Held (f : Feed) (store line chunk out : List ℕ) (p : Printed) (turns : ℕ) : Type 0 where
+  pub fine : Open f store line out 0
   pub printed : f .at ≡ 0
   pub out-room : length out ≡ answersRoom
   pub chunk-room : length chunk ≡ chunkSize
@@ -46,23 +47,22 @@ pub record Held (f : Feed) (rows blocks line chunk out : List ℕ) (p : Printed)
   pub whole : p .whole ≡ true
   pub chunks : List (List ℕ)
   pub filled : Filled chunks
-  pub passes : running f rows blocks line out ≡ passed (drained begun) chunks
+  pub passes : running f store line out ≡ passed (drained begun) chunks
   pub count : p .total ≡ wrapped (length (header ++ printedFor (drained begun) chunks))
   pub left : length chunks + turns ≡ allTurns
 
-first-ready : (rows blocks : List ℕ) → length rows ≡ 9216 → length blocks ≡ 1056 → Ready firstState rows blocks
-first-ready rows blocks a b =
-    record { rows-room = a; blocks-room = b; in-range = λ e. let z : _≡_ {A = ℕ} 0 1 = cc in absurd (omega arith) }
+first-ready : (store : List ℕ) → length store ≡ storeRoom → Ready firstState store
+first-ready store a =
+    record { store-room = a; in-range = λ e. let z : _≡_ {A = ℕ} 0 1 = cc in absurd (omega arith) }
 
-pub held-start : (f : Feed) (rows blocks line chunk out : List ℕ) (p : Printed) → Fresh rows blocks line chunk out → Begun p → f ≡ firstFeed
-    → Held f rows blocks line chunk out p allTurns
+pub held-start : (f : Feed) (store line chunk out : List ℕ) (p : Printed) → Fresh store line chunk out → Begun p → f ≡ firstFeed
+    → Held f store line chunk out p allTurns
 unfolding passed printedFor
-held-start f rows blocks line chunk out p h b e =
-    let la : length rows ≡ 9216 = ap length (h .rows-zero) ∙ length-replicate {A = ℕ} 9216 0 in
-    let lb : length blocks ≡ 1056 = ap length (h .blocks-zero) ∙ length-replicate {A = ℕ} 1056 0 in
+held-start f store line chunk out p h b e =
+    let l : length store ≡ storeRoom = ap length (h .store-zero) ∙ length-replicate {A = ℕ} storeRoom 0 in
     rw e
     record {
-      fine = record { ready = first-ready rows blocks la lb; line-room = h .line-room; len-in = omega arith; numbers = omega arith; room = omega arith };
+      fine = record { ready = first-ready store l; line-room = h .line-room; len-in = omega arith; numbers = omega arith; room = omega arith };
       printed = refl;
       out-room = h .out-room;
       chunk-room = h .chunk-room;
@@ -71,13 +71,13 @@ held-start f rows blocks line chunk out p h b e =
       whole = b .whole-is;
       chunks = [];
       filled = tt;
-      passes = rw (h .rows-zero, h .blocks-zero);
+      passes = rw (h .store-zero);
       count = b .total-is;
       left = refl;
     }
 
-module _ (f : Feed) (rows blocks line chunk out : List ℕ) (p : Printed) (turns : ℕ) (h : Held f rows blocks line chunk out p turns) where
-  pub held-open : Open f rows blocks line out chunkSize
+module _ (f : Feed) (store line chunk out : List ℕ) (p : Printed) (turns : ℕ) (h : Held f store line chunk out p turns) where
+  pub held-open : Open f store line out chunkSize
   held-open =
       let o = h .fine in
       record {
@@ -95,9 +95,9 @@ module _ (f : Feed) (rows blocks line chunk out : List ℕ) (p : Printed) (turns
   held-whole = h .whole
 
   -- ---- a chunk more
-  module _ (s : Served) (rows' blocks' line' chunk' out' : List ℕ)
-      (a : Answered (running f rows blocks line out) (running (s .feed) rows' blocks' line' out') (take (s .got .count) chunk') out' p (s .printed))
-      (o : Open (s .feed) rows' blocks' line' out' 0) (z : s .feed .at ≡ 0) (n : s .feed .number ≤ f .number + chunkSize) (lc : s .got .count ≤ length chunk')
+  module _ (s : Served) (store' line' chunk' out' : List ℕ)
+      (a : Answered (running f store line out) (running (s .feed) store' line' out') (take (s .got .count) chunk') out' p (s .printed))
+      (o : Open (s .feed) store' line' out' 0) (z : s .feed .at ≡ 0) (n : s .feed .number ≤ f .number + chunkSize) (lc : s .got .count ≤ length chunk')
     where
       abbrev last : List ℕ
       last = take (s .got .count) chunk'
@@ -105,29 +105,29 @@ module _ (f : Feed) (rows blocks line chunk out : List ℕ) (p : Printed) (turns
       last-length : length last ≡ s .got .count
       last-length = sym (prefix-length (s .got .count) chunk' lc)
 
-      passes-more : running (s .feed) rows' blocks' line' out' ≡ passed (drained begun) (h .chunks ++ (last ∷ []))
+      passes-more : running (s .feed) store' line' out' ≡ passed (drained begun) (h .chunks ++ (last ∷ []))
       passes-more = a .taken ∙ ap (λ (r : Running). drained (fed r last)) (h .passes) ∙ sym (passed-more (drained begun) (h .chunks) last)
 
       total-more : s .printed .total ≡ wrapped (length (header ++ printedFor (drained begun) (h .chunks ++ (last ∷ []))))
       total-more =
-          count-more (p .total) (s .printed .total) (header ++ printedFor (drained begun) (h .chunks)) (fed (running f rows blocks line out) last .out)
+          count-more (p .total) (s .printed .total) (header ++ printedFor (drained begun) (h .chunks)) (fed (running f store line out) last .out)
           (h .count) (a .handed .count)
           ∙ ap (λ (t : List ℕ). wrapped (length t))
-          (append-assoc header (printedFor (drained begun) (h .chunks)) (fed (running f rows blocks line out) last .out)
+          (append-assoc header (printedFor (drained begun) (h .chunks)) (fed (running f store line out) last .out)
           ∙ ap (λ (t : List ℕ). header ++ t)
           (ap (λ (r : Running). printedFor (drained begun) (h .chunks) ++ fed r last .out) (h .passes) ∙ sym (printed-more (drained begun) (h .chunks) last)))
 
-      stopped : (stopsAt s ≡ false → length (h .chunks) + 1 ≡ allTurns) → Stopped (running (s .feed) rows' blocks' line' out') s
+      stopped : (stopsAt s ≡ false → length (h .chunks) + 1 ≡ allTurns) → Stopped (running (s .feed) store' line' out') s
       stopped w =
           record { chunks = h .chunks; last = last; filled = h .filled; read = last-length; passes = passes-more; count = total-more; why = w }
 
-      pub stopped-late : turns - 1 ≡ 0 → Stopped (running (s .feed) rows' blocks' line' out') s
+      pub stopped-late : turns - 1 ≡ 0 → Stopped (running (s .feed) store' line' out') s
       stopped-late e = stopped (λ _. omega (arith, h .left, h .some))
 
-      pub stopped-here : (b : Bool) → b ≡ stopsAt s → b ≡ true → Stopped (running (s .feed) rows' blocks' line' out') s
+      pub stopped-here : (b : Bool) → b ≡ stopsAt s → b ≡ true → Stopped (running (s .feed) store' line' out') s
       stopped-here b g e = stopped (λ t. absurd (true≢false (sym e ∙ g ∙ t)))
 
-      pub open-end : length out' ≡ length out → Open (s .feed) rows' blocks' line' out' 1
+      pub open-end : length out' ≡ length out → Open (s .feed) store' line' out' 1
       open-end l =
           record {
             ready = o .ready;
@@ -138,7 +138,7 @@ module _ (f : Feed) (rows blocks line chunk out : List ℕ) (p : Printed) (turns
           }
 
       pub held-more : length chunk' ≡ length chunk → length out' ≡ length out → (turns - 1 ≡ 0 → ⊥) → (b : Bool) → b ≡ stopsAt s → b ≡ false
-          → Held (s .feed) rows' blocks' line' chunk' out' (s .printed) (turns - 1)
+          → Held (s .feed) store' line' chunk' out' (s .printed) (turns - 1)
       held-more k l t b g e =
           let on = neither (eqb (s .got .count) 0) (s .printed .whole) (sym g ∙ e) in
           let some : (s .got .count ≡ 0 → ⊥) = eqb-false (s .got .count) 0 (on .0) in

@@ -13,9 +13,8 @@ use Rattle.console.specs.declared.port.Printed.{Printed}
 use Rattle.console.specs.Sizes.{chunkSize, answersRoom, allTurns, wrapped}
 
 -- The lent lists before the first chunk.
-pub record Fresh (rows blocks line chunk out : List ℕ) : Type 0 where
-  pub rows-zero : rows ≡ begun .rows
-  pub blocks-zero : blocks ≡ begun .blocks
+pub record Fresh (store line chunk out : List ℕ) : Type 0 where
+  pub store-zero : store ≡ begun .store
   pub line-room : length line ≡ keptLength
   pub chunk-room : length chunk ≡ chunkSize
   pub out-room : length out ≡ answersRoom

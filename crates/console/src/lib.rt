@@ -15,16 +15,10 @@ ghost use Rattle.console.specs.Sizes.{chunkSize};
 ghost use Rattle.console.specs.Serving.{Fresh, Begun, Answered, stopsAt, brokenOff, Stopped, Finished, Ended};
 ghost use Rattle.console.specs.Notes.{noteFor};
 
-// Room for the largest session's rows and record, for a line, for a chunk and for its answers: at most 43 bytes for each byte.
-const ROWS: usize = 9216;
-
-const BLOCKS: usize = 1056;
-
-const LINE: usize = 1062;
-
+// Room for a chunk and for its answers: at most one for each byte.
 const CHUNK: usize = 4096;
 
-const ANSWER_BYTES: usize = 43 * CHUNK;
+const ANSWER_BYTES: usize = transcript::LONGEST_ANSWER * CHUNK;
 
 // Nothing says that an input ends: no run uses up these turns.
 const TURNS: u64 = 1 << 51;
@@ -46,21 +40,20 @@ struct Served {
 fn answer_chunk(
     feed: Feed,
     before: Printed,
-    rows: &mut [u32],
-    blocks: &mut [u32],
+    store: &mut [u32],
     line: &mut [u8],
     chunk: &[u8],
     out: &mut [u8],
 ) -> Answers
-    requires { ⌜ Open feed (now rows) (now blocks) (now line) (now out) chunkSize × (length (now chunk) ≤ chunkSize) × (before .whole ≡ true) ⌝ }
+    requires { ⌜ Open feed (now store) (now line) (now out) chunkSize × (length (now chunk) ≤ chunkSize) × (before .whole ≡ true) ⌝ }
     ensures { λ r. ⌜ Answered
-        (running feed (now (rows .entry)) (now (blocks .entry)) (now (line .entry)) (now (out .entry)))
-        (running (r .feed) (now (rows .exit)) (now (blocks .exit)) (now (line .exit)) (now (out .exit)))
+        (running feed (now (store .entry)) (now (line .entry)) (now (out .entry)))
+        (running (r .feed) (now (store .exit)) (now (line .exit)) (now (out .exit)))
         (now (chunk .entry)) (now (out .exit)) before (r .printed) ⌝ }
-    ensures { λ r. ⌜ Open (r .feed) (now (rows .exit)) (now (blocks .exit)) (now (line .exit)) (now (out .exit)) 0
+    ensures { λ r. ⌜ Open (r .feed) (now (store .exit)) (now (line .exit)) (now (out .exit)) 0
         × (r .feed .at ≡ 0) × (r .feed .number ≤ feed .number + chunkSize) ⌝ }
 {
-    let taken = transcript::feed_chunk(feed, rows, blocks, line, chunk, out);
+    let taken = transcript::feed_chunk(feed, store, line, chunk, out);
     let fed = taken.feed;
     let at = fed.at;
     let printed = port::print(before, &out[..at]);
@@ -74,23 +67,22 @@ fn answer_chunk(
 fn serve_chunk(
     feed: Feed,
     before: Printed,
-    rows: &mut [u32],
-    blocks: &mut [u32],
+    store: &mut [u32],
     line: &mut [u8],
     chunk: &mut [u8],
     out: &mut [u8],
 ) -> Served
-    requires { ⌜ Open feed (now rows) (now blocks) (now line) (now out) chunkSize × (length (now chunk) ≡ chunkSize) × (before .whole ≡ true) ⌝ }
+    requires { ⌜ Open feed (now store) (now line) (now out) chunkSize × (length (now chunk) ≡ chunkSize) × (before .whole ≡ true) ⌝ }
     ensures { λ r. ⌜ Answered
-        (running feed (now (rows .entry)) (now (blocks .entry)) (now (line .entry)) (now (out .entry)))
-        (running (r .feed) (now (rows .exit)) (now (blocks .exit)) (now (line .exit)) (now (out .exit)))
+        (running feed (now (store .entry)) (now (line .entry)) (now (out .entry)))
+        (running (r .feed) (now (store .exit)) (now (line .exit)) (now (out .exit)))
         (take (r .got .count) (now (chunk .exit))) (now (out .exit)) before (r .printed) ⌝ }
-    ensures { λ r. ⌜ Open (r .feed) (now (rows .exit)) (now (blocks .exit)) (now (line .exit)) (now (out .exit)) 0
+    ensures { λ r. ⌜ Open (r .feed) (now (store .exit)) (now (line .exit)) (now (out .exit)) 0
         × (r .feed .at ≡ 0) × (r .feed .number ≤ feed .number + chunkSize) × (r .got .count ≤ length (now (chunk .exit))) ⌝ }
 {
     let got = port::read(before, chunk);
     let n = got.count();
-    let answers = answer_chunk(feed, before, rows, blocks, line, &chunk[..n], out);
+    let answers = answer_chunk(feed, before, store, line, &chunk[..n], out);
     let next = answers.feed;
     let printed = answers.printed;
     Served {
@@ -127,21 +119,20 @@ fn broken_off(served: Served) -> bool
 // Reads to the end of the input, or until reading or printing fails.
 fn serve_chunks(
     header: Printed,
-    rows: &mut [u32],
-    blocks: &mut [u32],
+    store: &mut [u32],
     line: &mut [u8],
     chunk: &mut [u8],
     out: &mut [u8],
 ) -> Served
-    requires { ⌜ Fresh (now rows) (now blocks) (now line) (now chunk) (now out) × Begun header ⌝ }
-    ensures { λ r. ⌜ Stopped (running (r .feed) (now (rows .exit)) (now (blocks .exit)) (now (line .exit)) (now (out .exit))) r ⌝ }
-    ensures { λ r. ⌜ Open (r .feed) (now (rows .exit)) (now (blocks .exit)) (now (line .exit)) (now (out .exit)) 1 ⌝ }
+    requires { ⌜ Fresh (now store) (now line) (now chunk) (now out) × Begun header ⌝ }
+    ensures { λ r. ⌜ Stopped (running (r .feed) (now (store .exit)) (now (line .exit)) (now (out .exit))) r ⌝ }
+    ensures { λ r. ⌜ Open (r .feed) (now (store .exit)) (now (line .exit)) (now (out .exit)) 1 ⌝ }
 {
     let mut feed = transcript::begin();
     let mut printed = header;
     let mut turns = TURNS;
     loop {
-        let served = serve_chunk(feed, printed, rows, blocks, line, chunk, out);
+        let served = serve_chunk(feed, printed, store, line, chunk, out);
         turns -= 1;
         if turns == 0 {
             return served;
@@ -156,17 +147,11 @@ fn serve_chunks(
 
 // The end of the input ends a line that was begun. Where reading failed nothing is known of the line's end, and where printing
 // failed nothing more is printed.
-fn finish(
-    served: Served,
-    rows: &mut [u32],
-    blocks: &mut [u32],
-    line: &[u8],
-    out: &mut [u8],
-) -> Served
-    requires { ⌜ Open (served .feed) (now rows) (now blocks) (now line) (now out) 1 ⌝ }
+fn finish(served: Served, store: &mut [u32], line: &[u8], out: &mut [u8]) -> Served
+    requires { ⌜ Open (served .feed) (now store) (now line) (now out) 1 ⌝ }
     ensures { λ r. ⌜ Finished
-        (running (served .feed) (now (rows .entry)) (now (blocks .entry)) (now (line .entry)) (now (out .entry)))
-        (running (r .feed) (now (rows .exit)) (now (blocks .exit)) (now (line .entry)) (now (out .exit)))
+        (running (served .feed) (now (store .entry)) (now (line .entry)) (now (out .entry)))
+        (running (r .feed) (now (store .exit)) (now (line .entry)) (now (out .exit)))
         (now (out .exit)) served r ⌝ }
 {
     if broken_off(served) {
@@ -174,7 +159,7 @@ fn finish(
     }
     let got = served.got;
     let printed = served.printed;
-    let taken = transcript::end_input(served.feed, rows, blocks, line, out);
+    let taken = transcript::end_input(served.feed, store, line, out);
     let ended = taken.feed;
     let at = ended.at;
     let last = port::print(printed, &out[..at]);
@@ -188,17 +173,16 @@ fn finish(
 // Reads the input and prints the answers.
 fn serve(
     header: Printed,
-    rows: &mut [u32],
-    blocks: &mut [u32],
+    store: &mut [u32],
     line: &mut [u8],
     chunk: &mut [u8],
     out: &mut [u8],
 ) -> Served
-    requires { ⌜ Fresh (now rows) (now blocks) (now line) (now chunk) (now out) × Begun header ⌝ }
+    requires { ⌜ Fresh (now store) (now line) (now chunk) (now out) × Begun header ⌝ }
     ensures { λ r. ⌜ Ended (r .feed .number) (r .printed .total) (r .got .failed) (not (r .printed .whole)) ⌝ }
 {
-    let served = serve_chunks(header, rows, blocks, line, chunk, out);
-    finish(served, rows, blocks, line, out)
+    let served = serve_chunks(header, store, line, chunk, out);
+    finish(served, store, line, out)
 }
 
 // How a run ended.
@@ -225,19 +209,11 @@ fn serve_input(header: Printed) -> Ending
     requires { ⌜ Begun header ⌝ }
     ensures { λ r. ⌜ Ended (r .lines) (r .total) (r .unread) (r .unwritten) ⌝ }
 {
-    let mut rows = [0u32; ROWS];
-    let mut blocks = [0u32; BLOCKS];
-    let mut line = [0u8; LINE];
+    let mut store = [0u32; store::STORE_ROOM];
+    let mut line = [0u8; transcript::KEPT];
     let mut chunk = [0u8; CHUNK];
     let mut out = [0u8; ANSWER_BYTES];
-    let served = serve(
-        header,
-        &mut rows,
-        &mut blocks,
-        &mut line,
-        &mut chunk,
-        &mut out,
-    );
+    let served = serve(header, &mut store, &mut line, &mut chunk, &mut out);
     let feed = served.feed;
     let got = served.got;
     let printed = served.printed;

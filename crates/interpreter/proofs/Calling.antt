@@ -1,177 +1,179 @@
--- Lines that lead to a call: the part of the rows that is lent, and the ways in which `R`, `D` and `G` end.
-use Prim.Native.Nat.{ℕ, zero, suc, _+_, _*_, _≤_}
-use mathlib.Core.Path.{_≡_, refl, ap, sym, _∙_}
+-- Calls on the session's rows, and the lines that lead to them: the ways in which `R` and `G` end.
+use Prim.Native.Nat.{ℕ, zero, suc, _+_, _-_, _≤_}
+use mathlib.Core.Path.{_≡_, refl, ap, ap₂, sym, _∙_}
 use mathlib.Core.List.{List, [], _∷_, _++_}
-use native.Mathlib.Nat.{mul-le-mul, sub-zero}
 use native.Mathlib.Omega.{arith}
 use borrow.Author.Tests.{eq-eqb, ne-eqb}
 use mir.Syntax.{w64}
 use mir.Val.{Fits}
-use lib.ListN.{length, getD, take, drop, replicate, length-append, length-drop, length-replicate}
-use lib.Seq.{length-take-le, take-at, getD-take}
+use lib.ListN.{length, getD, take, drop, replicate, length-drop, length-replicate}
+use lib.Seq.{length-take-le, take-all}
+use lib.Dec.{eqb}
+use Rattle.shape.specs.declared.Shape.{Shape}
+use Rattle.shape.specs.Bounds.{lastRow}
+use Rattle.shape.specs.Lengths.{Valid, rowLength, rowsLength, recordLength}
 use Rattle.refusal.specs.Refusal.{outcome}
 use Rattle.refusal.proofs.Endings.{refused, accepted}
-use Rattle.csv.specs.Fields.{padded}
-use Rattle.session.specs.declared.Session.{Session}
 use Rattle.session.specs.declared.Answer.{Answer}
+use Rattle.session.specs.Sessions.{shapeOf}
 use Rattle.session.specs.Rows.{width}
 use Rattle.sharing.specs.Load.{loadRowAnswer, loadRowRows}
 use Rattle.sharing.specs.Deal.{dealAnswer, dealRows}
-use Rattle.opening.specs.Walking.{recordLength}
 use Rattle.opening.specs.Opening.{openAnswer}
+use Rattle.store.specs.Sizes.{InStreet, longestRow, rowsRoom, recordRoom, openingsAt, storeRoom}
+use Rattle.store.specs.Records.{recordAt, recordIf}
+use Rattle.store.proofs.Keeping.{street-valid, record-room}
+use Rattle.reading.specs.Numbers.{numbers, elementsRefusal, readRefusal}
+use Rattle.reading.proofs.Scanned.{read-numbers}
 use Rattle.interpreter.specs.declared.State.{State}
 use Rattle.interpreter.specs.declared.Stepped.{Stepped}
-use Rattle.interpreter.specs.declared.Named.{Named}
-use Rattle.interpreter.specs.declared.Pack.{Pack}
-use Rattle.interpreter.specs.declared.Heard.{Heard}
-use Rattle.interpreter.specs.Starting.{refusing}
-use Rattle.interpreter.specs.Letters.{rowLineRefusal, rowNamed, elements, namedAs, rowsLength, sessionRows, withFront, answering, loadRefusal, loadStep, loadedRows, heardRefusal, heard, dealStep, dealtRows, recordFor, openStep, InRange, PackAs, HeardAs}
-use Rattle.interpreter.proofs.Zeros.{taken, zeros-filled}
+use Rattle.interpreter.specs.States.{After, refusing, answering, leaving, unless, sessionRows, calling}
+use Rattle.interpreter.specs.Letters.{loading, loadStep, openingsFor, opening, openStep}
 
--- ---- a call on the session's part of the rows
-pub answered-as : (st : State) (v : Stepped) (a b : Answer) → v ≡ answering st a → a ≡ b → v ≡ answering st b
-answered-as st v a b q e = q ∙ ap (answering st) e
+-- ---- the two ways in which a line ends
+pub line-refused : (st : State) (store : List ℕ) (r x : ℕ) (new : After) (v : Stepped) → r ≡ x → (r ≡ 0 → ⊥) → v ≡ refusing st r
+    → leaving v store ≡ unless x st store new
+line-refused st store r x new v e n q =
+    ap (λ (z : Stepped). leaving z store) (q ∙ ap (refusing st) e) ∙ refused r x new (leaving (refusing st x) store) e n
 
-pub front-as : (k : ℕ) (part new rows : List ℕ) → part ≡ new → part ++ drop k rows ≡ withFront k new rows
-front-as k part new rows e = ap (λ (l : List ℕ). l ++ drop k rows) e
+pub line-taken : (st : State) (store : List ℕ) (r x : ℕ) (new a : After) → r ≡ x → r ≡ 0 → a ≡ new → a ≡ unless x st store new
+line-taken st store r x new a e z q = accepted r x a new (leaving (refusing st x) store) e z q
 
--- ---- the record's part
-module _ (s : Session) (i : InRange s) where
-  record-room : s .n * (s .t + 1 + 1) ≤ 1056
-  record-room =
-      let h : s .t + 1 + 1 ≤ 33 = omega (arith, i .n-in .1, i .t-in .1) in
-      omega (arith, mul-le-mul {n₁ = s .n} {m₁ = s .t + 1 + 1} {n₂ = 32} {m₂ = 33} (i .n-in .1) h)
+-- ---- the session's rows in the store
+pub shape-valid : (g h : Shape) → InStreet h → g ≡ h → Valid g
+shape-valid g h i e = rw e (street-valid h i)
 
-  pub record-fits : Fits w64 (s .n * (s .t + 1 + 1))
-  record-fits = omega (arith, record-room)
+pub rows-end : (g h : Shape) (r : ℕ) → g ≡ h → r ≡ rowsLength g → r ≡ rowsLength h
+rows-end g h r d e = e ∙ ap rowsLength d
 
-  pub record-prefix : (l : List ℕ) → length l ≡ 1056 → s .n * (s .t + 1 + 1) ≡ length (take (s .n * (s .t + 1 + 1)) l)
-  record-prefix l e = sym (length-take-le (s .n * (s .t + 1 + 1)) l (omega (arith, record-room)))
+module _ (g : Shape) (i : InStreet g) (store : List ℕ) (l : length store ≡ storeRoom) (end : ℕ) (e : end ≡ rowsLength g) where
+  pub rows-in : end ≤ length store
+  rows-in = omega (arith, i .n-in .1, i .t-in .1)
 
--- ---- what the readers hand on
-named-refusal : (x y : ℕ) → namedAs x y .refusal ≡ x
-unfolding outcome
-named-refusal zero y = refl
-named-refusal (suc k) y = refl
+  pub rows-prefix : end ≡ length (take end store)
+  rows-prefix = sym (length-take-le end store rows-in)
 
-named-row : (x y : ℕ) → namedAs x y .row ≡ outcome x y 0
-unfolding outcome
-named-row zero y = refl
-named-row (suc k) y = refl
+module _ (st : State) (store : List ℕ) (v : Stepped) (a : Answer) (end : ℕ) (e : end ≡ rowsLength (shapeOf (st .session))) (q : v ≡ answering st a) where
+  module _ (part : List ℕ) where
+    called : (b : Answer) (rows : List ℕ) → a ≡ b → part ≡ rows → leaving v (part ++ drop end store) ≡ calling st store b rows
+    called b rows f g =
+        ap₂ leaving (q ∙ ap (answering st) f) (ap₂ (λ (x y : List ℕ). x ++ y) g (ap (λ (k : ℕ). drop k store) e))
 
-module _ (s : Session) (line part : List ℕ) (named : Named) (i : InRange s) where
-  abbrev zeros : List ℕ
-  zeros = replicate 96 0
+    pub load-called : (row : ℕ) (pack : List ℕ) → a ≡ loadRowAnswer (st .session) (take end store) row pack
+        → part ≡ loadRowRows (st .session) (take end store) row pack
+        → leaving v (part ++ drop end store)
+        ≡ calling st store (loadRowAnswer (st .session) (sessionRows st store) row pack) (loadRowRows (st .session) (sessionRows st store) row pack)
+    load-called row pack f g =
+        called _ _ (f ∙ ap (λ (k : ℕ). loadRowAnswer (st .session) (take k store) row pack) e)
+        (g ∙ ap (λ (k : ℕ). loadRowRows (st .session) (take k store) row pack) e)
 
-  abbrev out : List ℕ
-  out = take (width s) zeros
+    pub deal-called : (row c : ℕ) → a ≡ dealAnswer (st .session) (take end store) row c → part ≡ dealRows (st .session) (take end store) row c
+        → leaving v (part ++ drop end store)
+        ≡ calling st store (dealAnswer (st .session) (sessionRows st store) row c) (dealRows (st .session) (sessionRows st store) row c)
+    deal-called row c f g =
+        called _ _ (f ∙ ap (λ (k : ℕ). dealAnswer (st .session) (take k store) row c) e)
+        (g ∙ ap (λ (k : ℕ). dealRows (st .session) (take k store) row c) e)
 
-  size : length out ≡ width s
-  size = length-take-le (width s) zeros (omega (arith, i .n-in .1, i .t-in .1, length-replicate {A = ℕ} 96 0))
-
-  pub pack-as : named ≡ namedAs (rowLineRefusal (length out) line) (rowNamed (length out) line)
-      → part ≡ outcome (rowLineRefusal (length out) line) (elements (length out) line) out → length part ≡ length out
-      → PackAs s line (record { refusal = named .refusal; row = named .row; numbers = part ++ drop (width s) zeros })
-  pack-as e f l =
-      let x : ℕ = rowLineRefusal (width s) line in
-      let e' : named ≡ namedAs x (rowNamed (width s) line) = rw size at e in
-      let f' : part ≡ outcome x (elements (width s) line) out = f ∙ ap (λ (k : ℕ). outcome (rowLineRefusal k line) (elements k line) out) size in
-      let d : named .refusal ≡ x = ap (λ (v : Named). v .refusal) e' ∙ named-refusal x _ in
-      record {
-        refusal-is = d;
-        row-is = ap (λ (v : Named). v .row) e' ∙ named-row x _;
-        numbers-are = zeros-filled x (width s) 96 part (elements (width s) line) f';
-        front-is = λ h. take-at part (drop (width s) zeros) (width s) (l ∙ size) ∙ f' ∙ taken x _ out (sym d ∙ h);
-        room = length-append part (drop (width s) zeros) ∙ omega (arith, l, size, length-drop (width s) zeros, length-replicate {A = ℕ} 96 0, i .n-in .1, i .t-in .1);
-      }
+  pub open-called : (row : ℕ) (blocks : List ℕ) → a ≡ openAnswer (st .session) (take end store) row blocks
+      → v ≡ answering st (openAnswer (st .session) (sessionRows st store) row blocks)
+  open-called row blocks f = q ∙ ap (answering st) (f ∙ ap (λ (k : ℕ). openAnswer (st .session) (take k store) row blocks) e)
 
 -- ---- `R`
-module _ (st : State) (rows line : List ℕ) (h : Pack) (a : PackAs (st .session) line h) where
-  module _ (n : h .refusal ≡ 0 → ⊥) where
-    pub load-refused : (v : Stepped) → v ≡ refusing st (h .refusal) → v ≡ loadStep st rows line
+module _ (g h : Shape) (i : InStreet h) (d : g ≡ h) (k : ℕ) (e : k ≡ rowLength g) where
+  pub pack-fits : Fits w64 (1 + k)
+  pack-fits = let r : k ≡ rowLength h = e ∙ ap rowLength d in omega (arith, i .n-in .1, i .t-in .1)
+
+module _ (g h : Shape) (i : InStreet h) (d : g ≡ h) (k : ℕ) (e : k ≡ rowLength g) (zeros : List ℕ) (l : length zeros ≡ 1 + longestRow) where
+  pub pack-in : 1 + k ≤ length zeros
+  pack-in = let r : k ≡ rowLength h = e ∙ ap rowLength d in omega (arith, i .n-in .1, i .t-in .1)
+
+  pub pack-prefix : 1 + k ≡ length (take (1 + k) zeros)
+  pack-prefix = sym (length-take-le (1 + k) zeros pack-in)
+
+  pub pack-length : length (take (1 + k) zeros) ≡ 1 + rowLength h
+  pack-length = let r : k ≡ rowLength h = e ∙ ap rowLength d in sym pack-prefix ∙ omega arith
+
+module _ (st : State) (store line out : List ℕ) (r : ℕ) (e : r ≡ readRefusal (lastRow ∷ []) (length out) line) (l : length out ≡ 1 + width (st .session)) where
+  pub load-refused : (v : Stepped) → (r ≡ 0 → ⊥) → v ≡ refusing st r → leaving v store ≡ loadStep st store line
+  unfolding loadStep
+  load-refused v n q = line-refused st store r _ _ v (e ∙ ap (λ (k : ℕ). readRefusal (lastRow ∷ []) k line) l) n q
+
+  module _ (out' : List ℕ) (z : r ≡ 0) (f : out' ≡ outcome (elementsRefusal (length out) line) (numbers (length out) line) out) where
+    pub load-taken : (v : Stepped) (new : List ℕ) → leaving v new ≡ loading st store out' → leaving v new ≡ loadStep st store line
     unfolding loadStep
-    load-refused v q = q ∙ ap (refusing st) (a .refusal-is) ∙ refused (h .refusal) _ _ (refusing st _) (a .refusal-is) n
+    load-taken v new q =
+        line-taken st store r _ _ _ (e ∙ ap (λ (k : ℕ). readRefusal (lastRow ∷ []) k line) l) z
+        (q ∙ ap (loading st store) (read-numbers (lastRow ∷ []) line out out' r e z f ∙ ap (λ (k : ℕ). numbers k line) l))
 
-    pub load-kept : rows ≡ loadedRows st rows line
-    unfolding loadedRows
-    load-kept = refused (h .refusal) _ _ rows (a .refusal-is) n
+pub some-numbers : (k : ℕ) (l l' : List ℕ) → length l ≡ 1 + k → length l' ≡ length l → 1 ≤ length l'
+some-numbers k l l' e f = omega arith
 
-  module _ (z : h .refusal ≡ 0) where
-    abbrev s : Session
-    s = st .session
+rest-whole : (xs : List ℕ) → take (length xs - 1) (drop 1 xs) ≡ drop 1 xs
+rest-whole xs = take-all (length xs - 1) (drop 1 xs) (omega (arith, length-drop 1 xs))
 
-    row-read : h .row ≡ rowNamed (width s) line
-    row-read = a .row-is ∙ taken (loadRefusal s line) _ 0 (sym (a .refusal-is) ∙ z)
-
-    pub load-answered : (v : Stepped) → v ≡ answering st (loadRowAnswer s (sessionRows s rows) (h .row) (take (width s) (h .numbers))) → v ≡ loadStep st rows line
-    unfolding loadStep
-    load-answered v q = accepted (h .refusal) _ v _ _ (a .refusal-is) z (q ∙ rw (row-read, a .front-is z))
-
-    pub load-written : (l : List ℕ) → l ≡ withFront (rowsLength s) (loadRowRows s (sessionRows s rows) (h .row) (take (width s) (h .numbers))) rows
-        → l ≡ loadedRows st rows line
-    unfolding loadedRows
-    load-written l q = accepted (h .refusal) _ l _ _ (a .refusal-is) z (q ∙ rw (row-read, a .front-is z))
-
--- ---- `D`
-padded-first : (k : ℕ) (l : List ℕ) → getD (padded k l) 0 0 ≡ getD l 0 0
-padded-first zero [] = refl
-padded-first (suc k) [] = rw (sub-zero (suc k))
-padded-first k (x ∷ l) = refl
-
-module _ (st : State) (rows line : List ℕ) (h : Heard) (a : HeardAs (st .session) line h) where
-  module _ (n : h .refusal ≡ 0 → ⊥) where
-    pub deal-refused : (v : Stepped) → v ≡ refusing st (h .refusal) → v ≡ dealStep st rows line
-    unfolding dealStep
-    deal-refused v q = q ∙ ap (refusing st) (a .refusal-is) ∙ refused (h .refusal) _ _ (refusing st _) (a .refusal-is) n
-
-    pub deal-kept : rows ≡ dealtRows st rows line
-    unfolding dealtRows
-    deal-kept = refused (h .refusal) _ _ rows (a .refusal-is) n
-
-  module _ (z : h .refusal ≡ 0) where
-    row-heard : h .row ≡ heard (st .session) line .row
-    row-heard = a .row-is ∙ taken (heardRefusal (st .session) line) _ 0 (sym (a .refusal-is) ∙ z)
-
-    first-number : getD (h .numbers) 0 0 ≡ getD (heard (st .session) line .numbers) 0 0
-    first-number =
-        let k : ℕ = 2 * (st .session .t + 1) in
-        sym (getD-take k (h .numbers) 0 0 (omega arith)) ∙ ap (λ (l : List ℕ). getD l 0 0) (a .front-is z) ∙ padded-first k (heard (st .session) line .numbers)
-
-    pub deal-answered : (v : Stepped) → v ≡ answering st (dealAnswer (st .session) (sessionRows (st .session) rows) (h .row) (getD (h .numbers) 0 0))
-        → v ≡ dealStep st rows line
-    unfolding dealStep
-    deal-answered v q = accepted (h .refusal) _ v _ _ (a .refusal-is) z (q ∙ rw (row-heard, first-number))
-
-    pub deal-written : (l : List ℕ)
-        → l ≡ withFront (rowsLength (st .session)) (dealRows (st .session) (sessionRows (st .session) rows) (h .row) (getD (h .numbers) 0 0)) rows
-        → l ≡ dealtRows st rows line
-    unfolding dealtRows
-    deal-written l q = accepted (h .refusal) _ l _ _ (a .refusal-is) z (q ∙ rw (row-heard, first-number))
+pub row-loaded : (st : State) (store xs : List ℕ) (row : ℕ) (a : After) → row ≡ getD xs 0 0
+    → a
+    ≡ calling st store (loadRowAnswer (st .session) (sessionRows st store) row (take (length xs - 1) (drop 1 xs)))
+    (loadRowRows (st .session) (sessionRows st store) row (take (length xs - 1) (drop 1 xs)))
+    → a ≡ loading st store xs
+unfolding loading
+row-loaded st store xs row a w q = q ∙ rw (w, rest-whole xs)
 
 -- ---- `G`
-module _ (st : State) (rows blocks : List ℕ) where
-  abbrev with : ℕ → List ℕ → Stepped
-  with row kept = answering st (openAnswer (st .session) (sessionRows (st .session) rows) row (take (recordLength (st .session)) kept))
+take-zeros : (k m : ℕ) → k ≤ m → take k (replicate {A = ℕ} m 0) ≡ replicate k 0
+take-zeros zero m h = refl
+take-zeros (suc k) zero h = absurd (omega arith)
+take-zeros (suc k) (suc m) h = ap (λ (l : List ℕ). 0 ∷ l) (take-zeros k m (omega arith))
 
-  module _ (row : ℕ) where
-    pub open-kept : (v : Stepped) → st .kept ≡ row → v ≡ with row blocks → v ≡ with row (recordFor (st .kept) row blocks)
-    open-kept v e q = q ∙ rw (eq-eqb (st .kept) row e)
+module _ (st : State) (store : List ℕ) (i : InStreet (shapeOf (st .session))) (l : length store ≡ storeRoom) (g : Shape) (d : g ≡ shapeOf (st .session))
+    (k : ℕ) (e : k ≡ recordLength g) where
+  k-is : k ≡ recordLength (shapeOf (st .session))
+  k-is = e ∙ ap recordLength d
 
-    pub open-empty : (v : Stepped) (empty : List ℕ) → length blocks ≡ 1056 → (st .kept ≡ row → ⊥) → empty ≡ replicate 1056 0 → v ≡ with row empty
-        → v ≡ with row (recordFor (st .kept) row blocks)
-    open-empty v empty b n e q = q ∙ ap (with row) (e ∙ rw (ne-eqb (st .kept) row n, b))
+  pub openings-fits : Fits w64 (rowsRoom + k)
+  openings-fits = omega (arith, record-room (shapeOf (st .session)) i, k-is)
 
-  module _ (line : List ℕ) (named : Named) (e : named ≡ namedAs (rowLineRefusal 0 line) (rowNamed 0 line)) where
-    refusal-is : named .refusal ≡ rowLineRefusal 0 line
-    refusal-is = ap (λ (v : Named). v .refusal) e ∙ named-refusal (rowLineRefusal 0 line) _
+  pub openings-in : rowsRoom + k ≤ length store
+  openings-in = omega (arith, record-room (shapeOf (st .session)) i, k-is)
 
-    pub open-refused : (v : Stepped) → (named .refusal ≡ 0 → ⊥) → v ≡ refusing st (named .refusal) → v ≡ openStep st rows blocks line
+  pub openings-after : rowsRoom ≤ rowsRoom + k
+  openings-after = omega arith
+
+  pub openings-prefix : rowsRoom + k - rowsRoom ≡ length (take (rowsRoom + k - rowsRoom) (drop rowsRoom store))
+  openings-prefix = sym (length-take-le (rowsRoom + k - rowsRoom) (drop rowsRoom store) (omega (arith, length-drop rowsRoom store, openings-in)))
+
+  pub empty-in : (zeros : List ℕ) → length zeros ≡ recordRoom → k ≤ length zeros
+  empty-in zeros z = omega (arith, record-room (shapeOf (st .session)) i, k-is)
+
+  pub empty-prefix : (zeros : List ℕ) → length zeros ≡ recordRoom → k ≡ length (take k zeros)
+  empty-prefix zeros z = sym (length-take-le k zeros (empty-in zeros z))
+
+  module _ (v : Stepped) (row : ℕ) where
+    pub opened-kept : st .kept ≡ row
+        → v ≡ answering st (openAnswer (st .session) (sessionRows st store) row (take (rowsRoom + k - rowsRoom) (drop rowsRoom store)))
+        → v ≡ answering st (openAnswer (st .session) (sessionRows st store) row (openingsFor st store row))
+    opened-kept h q =
+        let c : rowsRoom + k - rowsRoom ≡ recordLength (shapeOf (st .session)) = omega (arith, k-is) in
+        q ∙ rw (eq-eqb (st .kept) row h, c)
+
+    pub opened-empty : (zeros : List ℕ) → (st .kept ≡ row → ⊥) → zeros ≡ replicate recordRoom 0
+        → v ≡ answering st (openAnswer (st .session) (sessionRows st store) row (take k zeros))
+        → v ≡ answering st (openAnswer (st .session) (sessionRows st store) row (openingsFor st store row))
+    opened-empty zeros n z q =
+        let s : length (recordAt openingsAt (shapeOf (st .session)) store) ≡ k =
+        length-take-le (recordLength (shapeOf (st .session))) (drop openingsAt store) (omega (arith, length-drop openingsAt store, record-room (shapeOf (st .session)) i)) ∙ sym k-is in
+        let t : take k zeros ≡ replicate k 0 = rw z (take-zeros k recordRoom (omega (arith, record-room (shapeOf (st .session)) i, k-is))) in
+        q ∙ rw (ne-eqb (st .kept) row n, s, t)
+
+module _ (st : State) (store line : List ℕ) (r : ℕ) (e : r ≡ readRefusal (lastRow ∷ []) 1 line) where
+  pub open-refused : (v : Stepped) → (r ≡ 0 → ⊥) → v ≡ refusing st r → leaving v store ≡ openStep st store line
+  unfolding openStep
+  open-refused v n q = line-refused st store r _ _ v e n q
+
+  module _ (out' : List ℕ) (z : r ≡ 0) (f : out' ≡ outcome (elementsRefusal 1 line) (numbers 1 line) (0 ∷ [])) where
+    pub open-taken : (v : Stepped) (row : ℕ) → row ≡ getD out' 0 0
+        → v ≡ answering st (openAnswer (st .session) (sessionRows st store) row (openingsFor st store row)) → leaving v store ≡ openStep st store line
     unfolding openStep
-    open-refused v n q = q ∙ ap (refusing st) refusal-is ∙ refused (named .refusal) _ _ (refusing st _) refusal-is n
-
-    pub open-answered : (v : Stepped) → named .refusal ≡ 0 → v ≡ with (named .row) (recordFor (st .kept) (named .row) blocks) → v ≡ openStep st rows blocks line
-    unfolding openStep
-    open-answered v z q =
-        let r : named .row ≡ rowNamed 0 line =
-        ap (λ (v : Named). v .row) e ∙ named-row (rowLineRefusal 0 line) _ ∙ taken (rowLineRefusal 0 line) _ 0 (sym refusal-is ∙ z) in
-        accepted (named .refusal) _ v _ _ refusal-is z (q ∙ rw r)
+    open-taken v row w q =
+        line-taken st store r _ _ _ e z
+        (ap (λ (y : Stepped). leaving y store) q ∙ rw w (ap (opening st store) (read-numbers (lastRow ∷ []) line (0 ∷ []) out' r e z f)))

@@ -1,75 +1,211 @@
--- Broadcast lines, read for a session that was accepted.
-use Prim.Native.Nat.{ℕ, zero, suc, _+_, _-_, _*_, _≤_}
+-- Broadcast lines, read for a session that was accepted: the ways in which they end.
+use Prim.Native.Nat.{ℕ, zero, suc, _+_, _-_, _*_, _≤_, _<_}
 use mathlib.Core.Path.{_≡_, refl, ap, sym, _∙_}
-use mathlib.Core.List.{List, _++_}
+use mathlib.Core.List.{List, [], _∷_, _++_}
+use mathlib.Core.Bool.{Bool, true, false, cond, _||_}
+use native.Mathlib.Nat.{sub-zero}
 use native.Mathlib.Omega.{arith}
-use borrow.Author.Tests.{le-ltb, eq-eqb}
-use lib.ListN.{length, take, drop, replicate, length-append, length-drop, length-replicate}
-use lib.Seq.{length-take-le, take-at}
+use borrow.Author.Tests.{le-ltb, eq-eqb, ne-eqb, eqb-true}
+use lib.ListN.{length, getD, take, drop, length-drop}
+use lib.Seq.{length-take-le, take-at, getD-take}
+use lib.Dec.{eqb, ltb}
+use Rattle.shape.specs.declared.Shape.{Shape}
+use Rattle.shape.specs.Bounds.{fewestPosts, mostPosts}
+use Rattle.shape.specs.Lengths.{vLength, masksLength}
 use Rattle.refusal.specs.Refusal.{outcome}
-use Rattle.csv.specs.Fields.{padded}
-use Rattle.forms.specs.Lines.{Message}
+use Rattle.refusal.specs.Conditions.{outside, anyBeyond}
+use Rattle.refusal.proofs.Laws.{or-false, all-fail, inside}
+use Rattle.csv.specs.Fields.{Parsed, parsed, malformed, padded}
+use Rattle.forms.specs.Lines.{Message, lastRow}
+use Rattle.forms.specs.Forms.{formOf, isMalformed, lineTests}
+use Rattle.forms.proofs.Forms.{form-spelled}
 use Rattle.lines.specs.declared.Line.{Line}
 use Rattle.lines.specs.Order.{lineRefusal}
 use Rattle.lines.specs.Reading.{readRefusal, lineAs, listAs}
 use Rattle.session.specs.declared.Session.{Session}
-use Rattle.interpreter.specs.Letters.{heardRefusal, heard, heardNumbers, InRange, HeardAs}
-use Rattle.interpreter.proofs.Zeros.{taken, zeros-filled}
+use Rattle.session.specs.Sessions.{shapeOf}
+use Rattle.store.specs.Sizes.{InStreet, mostMasks, recordRoom, openingsAt, storeRoom}
+use Rattle.store.specs.Records.{kept}
+use Rattle.interpreter.specs.declared.State.{State}
+use Rattle.interpreter.specs.declared.Stepped.{Stepped}
+use Rattle.interpreter.specs.States.{After, keepingRow, refusing, leaving}
+use Rattle.interpreter.specs.Messages.{Broadcast, heardRefusal, heard, dealing, keepStep, saying, hearStep, saidStep, Sayable}
+use Rattle.interpreter.proofs.Calling.{line-refused, line-taken}
 
--- 1, 2 and 5 hold nothing against the line's session and list
-no-posts : (s : Session) (line out : List ℕ) → InRange s → length out ≡ 2 * (s .t + 1) → readRefusal (s .n) (s .t) line out ≡ heardRefusal s line
+-- ---- a record kept
+pub street-shape : (g h : Shape) → InStreet h → g ≡ h → InStreet g
+street-shape g h i e = rw e i
+
+pub shape-post : (s : Session) (g : Shape) (post : ℕ) → g ≡ shapeOf s → post ≤ s .n → post ≤ g .n
+shape-post s g post e h = rw e h
+
+pub shape-message : (s : Session) (g : Shape) (xs : List ℕ) → g ≡ shapeOf s → length xs ≡ vLength (shapeOf s) → length xs ≡ vLength g
+shape-message s g xs e h = rw e h
+
+pub store-within : (store : List ℕ) → length store ≡ storeRoom → openingsAt + recordRoom ≤ length store
+store-within store e = omega arith
+
+pub kept-for : (st : State) (store new : List ℕ) (row post : ℕ) (xs : List ℕ) (g : Shape) (after : State) (v : Stepped) → g ≡ shapeOf (st .session)
+    → new ≡ kept openingsAt g (eqb (st .kept) row) post xs store → after ≡ keepingRow st row → v ≡ refusing after 0
+    → leaving v new ≡ keepStep st store row post xs
+unfolding keepStep
+kept-for st store new row post xs g after v d e a q = rw (q, a, e, d)
+
+-- ---- 1, 2 and 5 hold nothing against the line's session and list
+no-posts : (s : Session) (line out : List ℕ) → InStreet (shapeOf s) → length out ≡ masksLength (shapeOf s)
+    → readRefusal (s .n) (s .t) line out ≡ heardRefusal s line
 unfolding lineRefusal heardRefusal
 no-posts s line out i e =
-    rw (le-ltb (s .n) 2 (i .n-in .0), le-ltb 32 (s .n) (i .n-in .1), le-ltb (s .t) 1 (i .t-in .0), le-ltb (s .n - 1) (s .t) (i .t-in .1), eq-eqb (length out) (2 * (s .t + 1)) e)
+    let m : s .n ≤ mostPosts = omega (arith, i .n-in .1) in
+    rw (le-ltb (s .n) fewestPosts (i .n-in .0), le-ltb mostPosts (s .n) m, le-ltb (s .t) 1 (i .t-in .0), le-ltb (s .n - 1) (s .t) (i .t-in .1), eq-eqb (length out) (masksLength (shapeOf s)) e)
 
+-- ---- what the reader says
 line-refusal : (x : ℕ) (m : Message) → lineAs x m .refusal ≡ x
 unfolding outcome
 line-refusal zero m = refl
 line-refusal (suc k) m = refl
 
-line-row : (x : ℕ) (m : Message) → lineAs x m .row ≡ outcome x (m .row) 0
+line-fine : (x : ℕ) (m : Message) → x ≡ 0 → lineAs x m ≡ lineAs 0 m
+line-fine x m e = ap (λ (y : ℕ). lineAs y m) e
+
+list-fine : (x : ℕ) (m : Message) (out : List ℕ) → x ≡ 0 → listAs x m out ≡ padded (length out) (m .numbers)
 unfolding outcome
-line-row zero m = refl
-line-row (suc k) m = refl
+list-fine x m out e = rw e
 
-line-post : (x : ℕ) (m : Message) → lineAs x m .post ≡ outcome x (m .post) 0
-unfolding outcome
-line-post zero m = refl
-line-post (suc k) m = refl
+padded-first : (k : ℕ) (l : List ℕ) → getD (padded k l) 0 0 ≡ getD l 0 0
+padded-first zero [] = refl
+padded-first (suc k) [] = rw (sub-zero (suc k))
+padded-first k (x ∷ l) = refl
 
-pub prefix-length : (k : ℕ) (l : List ℕ) → k ≤ length l → k ≡ length (take k l)
-prefix-length k l h = sym (length-take-le k l h)
+skip : (b x : Bool) → b ≡ false → cond b false x ≡ false → x ≡ false
+skip true x e q = cc
+skip false x e q = q
 
-module _ (s : Session) (line part : List ℕ) (said : Line) (i : InRange s) where
-  abbrev zeros : List ℕ
-  zeros = replicate 64 0
+-- ---- the list that the numbers go to
+module _ (g h : Shape) (i : InStreet h) (d : g ≡ h) (k : ℕ) (e : k ≡ masksLength g) (zeros : List ℕ) (l : length zeros ≡ mostMasks) where
+  pub masks-in : k ≤ length zeros
+  masks-in = let r : k ≡ masksLength h = e ∙ ap masksLength d in omega (arith, i .n-in .1, i .t-in .1)
 
-  abbrev k : ℕ
-  k = 2 * (s .t + 1)
+  pub masks-prefix : k ≡ length (take k zeros)
+  masks-prefix = sym (length-take-le k zeros masks-in)
 
-  abbrev out : List ℕ
-  out = take k zeros
+  pub masks-length : length (take k zeros) ≡ masksLength h
+  masks-length = sym masks-prefix ∙ e ∙ ap masksLength d
 
-  abbrev r : ℕ
-  r = readRefusal (s .n) (s .t) line out
+module _ (st : State) (store line out : List ℕ) (i : InStreet (shapeOf (st .session))) (l : length out ≡ masksLength (shapeOf (st .session))) (said : Line)
+    (e : said ≡ lineAs (readRefusal (st .session .n) (st .session .t) line out) (heard (st .session) line)) where
+  abbrev s : Session
+  s = st .session
 
-  size : length out ≡ k
-  size = length-take-le k zeros (omega (arith, i .n-in .1, i .t-in .1, length-replicate {A = ℕ} 64 0))
+  same : readRefusal (s .n) (s .t) line out ≡ heardRefusal s line
+  same = no-posts s line out i l
 
-  pub heard-as : said ≡ lineAs r (heard s line) → part ≡ listAs r (heard s line) out → length part ≡ length out
-      → HeardAs s line (record { refusal = said .refusal; row = said .row; post = said .post; numbers = part ++ drop k zeros })
-  heard-as e f l =
-      let x : ℕ = heardRefusal s line in
-      let q : r ≡ x = no-posts s line out i size in
-      let e' : said ≡ lineAs x (heard s line) = e ∙ ap (λ (y : ℕ). lineAs y (heard s line)) q in
-      let f' : part ≡ outcome x (heardNumbers s line) out =
-      f ∙ ap (λ (y : ℕ). listAs y (heard s line) out) q ∙ ap (λ (j : ℕ). outcome x (padded j (heard s line .numbers)) out) size in
-      let d : said .refusal ≡ x = ap (λ (v : Line). v .refusal) e' ∙ line-refusal x (heard s line) in
-      record {
-        refusal-is = d;
-        row-is = ap (λ (v : Line). v .row) e' ∙ line-row x (heard s line);
-        post-is = ap (λ (v : Line). v .post) e' ∙ line-post x (heard s line);
-        numbers-are = zeros-filled x k 64 part (heardNumbers s line) f';
-        front-is = λ h. take-at part (drop k zeros) k (l ∙ size) ∙ f' ∙ taken x _ out (sym d ∙ h);
-        room = length-append part (drop k zeros) ∙ omega (arith, l, size, length-drop k zeros, length-replicate {A = ℕ} 64 0, i .n-in .1, i .t-in .1);
-      }
+  refusal-is : said .refusal ≡ heardRefusal s line
+  refusal-is = ap (λ (v : Line). v .refusal) e ∙ line-refusal _ (heard s line) ∙ same
+
+  pub hear-refused : (v : Stepped) → (said .refusal ≡ 0 → ⊥) → v ≡ refusing st (said .refusal) → leaving v store ≡ hearStep st store line
+  unfolding hearStep
+  hear-refused v n q = line-refused st store (said .refusal) _ _ v refusal-is n q
+
+  module _ (out' : List ℕ) (z : said .refusal ≡ 0) (f : out' ≡ listAs (readRefusal (s .n) (s .t) line out) (heard s line) out) where
+    none : readRefusal (s .n) (s .t) line out ≡ 0
+    none = same ∙ sym refusal-is ∙ z
+
+    line-is : said ≡ lineAs 0 (heard s line)
+    line-is = e ∙ line-fine _ (heard s line) none
+
+    letter-is : said .letter ≡ getD line 0 0
+    unfolding outcome
+    letter-is = ap (λ (v : Line). v .letter) line-is
+
+    row-is : said .row ≡ heard s line .row
+    unfolding outcome
+    row-is = ap (λ (v : Line). v .row) line-is
+
+    post-is : said .post ≡ heard s line .post
+    unfolding outcome
+    post-is = ap (λ (v : Line). v .post) line-is
+
+    list-is : out' ≡ padded (masksLength (shapeOf s)) (heard s line .numbers)
+    list-is = f ∙ list-fine _ (heard s line) out none ∙ ap (λ (k : ℕ). padded k (heard s line .numbers)) l
+
+    far : Bool
+    far = cond (eqb (getD line 0 0) 68) false (outside 1 (s .n) (heard s line .post))
+
+    none-holds : (isMalformed (formOf (vLength (shapeOf s)) line) ≡ false) × (far ≡ false)
+    unfolding heardRefusal far
+    none-holds =
+        let t = all-fail (lineTests (s .n) (vLength (shapeOf s)) line) tt (sym refusal-is ∙ z) in
+        let m = heard s line in
+        let x = or-false (ltb (lastRow (getD line 0 0)) (m .row)) (far || anyBeyond (m .numbers)) (t .1 .0) in
+        (t .0, or-false far (anyBeyond (m .numbers)) (x .1) .0)
+
+    pub hear-sayable : length out' ≡ length out → Sayable s said out'
+    unfolding far
+    hear-sayable p =
+        record {
+          long = p ∙ l;
+          post-in = λ n.
+              rw post-is
+              (inside 1 (s .n) (heard s line .post)
+              (skip (eqb (getD line 0 0) 68) (outside 1 (s .n) (heard s line .post)) (ne-eqb (getD line 0 0) 68 (λ d. n (letter-is ∙ d))) (none-holds .1)));
+        }
+
+    -- a `D` has one number, an `O` has t+1
+    numbers-length : getD line 0 0 ≡ 79 → length (heard s line .numbers) ≡ vLength (shapeOf s)
+    numbers-length o = go (formOf (vLength (shapeOf s)) line) refl (none-holds .0)
+      where
+        go : (x : Parsed) → formOf (vLength (shapeOf s)) line ≡ x → isMalformed x ≡ false → length (heard s line .numbers) ≡ vLength (shapeOf s)
+        go malformed p f = let q : _≡_ {A = ℕ} 0 1 = cc in absurd (omega arith)
+        go (parsed xs next) p f =
+            let g = form-spelled (vLength (shapeOf s)) line xs next p in
+            let j : length xs ≡ 2 + vLength (shapeOf s) = rw o at (g .number) in
+            rw (p, o) (length-drop 2 xs ∙ omega arith)
+
+    pub hear-said : Broadcast line → (v : Stepped) (new : List ℕ) → leaving v new ≡ saidStep st store said out' → leaving v new ≡ hearStep st store line
+    unfolding hearStep
+    hear-said b v new q =
+        line-taken st store (said .refusal) _ (saying st store (heard s line)) (leaving v new) refusal-is z
+        (q ∙ rw letter-is (go (eqb (getD line 0 0) 68) refl b))
+      where
+        go : (t : Bool) → eqb (getD line 0 0) 68 ≡ t → (t || eqb (getD line 0 0) 79) ≡ true
+            → cond t (dealing st store (said .row) (getD out' 0 0)) (keepStep st store (said .row) (said .post) (take (vLength (shapeOf s)) out'))
+            ≡ cond t (dealing st store (heard s line .row) (getD (heard s line .numbers) 0 0)) (keepStep st store (heard s line .row) (heard s line .post) (heard s line .numbers))
+        go true d b =
+            let c : getD out' 0 0 ≡ getD (heard s line .numbers) 0 0 = ap (λ (x : List ℕ). getD x 0 0) list-is ∙ padded-first _ (heard s line .numbers) in
+            rw (row-is, c)
+        go false d b =
+            let w : take (vLength (shapeOf s)) out' ≡ heard s line .numbers =
+            ap (take (vLength (shapeOf s))) list-is ∙ take-at (heard s line .numbers) _ (vLength (shapeOf s)) (numbers-length (eqb-true (getD line 0 0) 79 b)) in
+            rw (row-is, post-is, w)
+
+-- ---- by the letter
+module _ (st : State) (store xs : List ℕ) (said : Line) (y : Sayable (st .session) said xs) where
+  pub first-number : 0 < length xs
+  first-number = omega (arith, y .long)
+
+  pub said-deal : (a : After) → said .letter ≡ 68 → a ≡ dealing st store (said .row) (getD xs 0 0) → a ≡ saidStep st store said xs
+  said-deal a e q = q ∙ rw e
+
+  module _ (n : said .letter ≡ 68 → ⊥) where
+    pub said-low : 1 ≤ said .post
+    said-low = y .post-in n .0
+
+    pub said-high : said .post ≤ st .session .n
+    said-high = y .post-in n .1
+
+    module _ (g : Shape) (d : g ≡ shapeOf (st .session)) (k : ℕ) (w : k ≡ vLength g) where
+      k-is : k ≡ vLength (shapeOf (st .session))
+      k-is = w ∙ ap vLength d
+
+      pub said-in : k ≤ length xs
+      said-in = omega (arith, y .long, k-is)
+
+      pub said-prefix : k ≡ length (take k xs)
+      said-prefix = sym (length-take-le k xs said-in)
+
+      pub said-length : length (take k xs) ≡ vLength (shapeOf (st .session))
+      said-length = sym said-prefix ∙ k-is
+
+      pub said-kept : (a : After) → a ≡ keepStep st store (said .row) (said .post) (take k xs) → a ≡ saidStep st store said xs
+      said-kept a q = q ∙ rw (k-is, ne-eqb (said .letter) 68 n)

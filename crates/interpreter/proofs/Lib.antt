@@ -1,10 +1,7 @@
-pub mod Zeros
-pub mod Settings
-pub mod RowLines
-pub mod Hearing
 pub mod Calling
-pub mod Keeping
+pub mod Hearing
+pub mod Settings
 pub mod Ends
+pub mod Room
 pub mod Ranges
 pub mod Cutting
-pub mod Room

@@ -1,25 +1,31 @@
--- A session that was accepted stays in range, whatever the line.
+-- A session that was accepted stays one of the street's, whatever the line.
 use Prim.Native.Nat.{ℕ, zero, suc, _-_}
 use mathlib.Core.Path.{_≡_, refl, _∙_}
-use mathlib.Core.List.{List}
-use mathlib.Core.Bool.{Bool, true, false, cond}
+use mathlib.Core.List.{List, [], _∷_}
+use mathlib.Core.Bool.{Bool, true, false, cond, _||_}
 use lib.ListN.{length, getD}
 use lib.Dec.{eqb, ltb}
-use Rattle.refusal.specs.Refusal.{first, outcome}
-use Rattle.refusal.proofs.Laws.{all-fail, inside}
+use Rattle.refusal.specs.Refusal.{_when_, first, outcome}
+use Rattle.refusal.specs.Conditions.{outside, badPoint}
+use Rattle.shape.specs.Bounds.{fewestPosts, mostPosts}
 use Rattle.session.specs.declared.Session.{Session}
-use Rattle.session.specs.Sessions.{answer, marked, sessionTests, sessionOf}
+use Rattle.session.specs.Sessions.{shapeOf, answer, sessionOf}
+use Rattle.store.specs.Sizes.{streetPosts, InStreet}
+use Rattle.reading.specs.declared.StartForm.{StartForm}
+use Rattle.reading.specs.declared.StartForm.the-variants.{Settings, Wrong}
+use Rattle.reading.specs.Starting.{isStart, startForm, startOf}
 use Rattle.interpreter.specs.declared.State.{State}
 use Rattle.interpreter.specs.declared.Stepped.{Stepped}
-use Rattle.interpreter.specs.declared.StartForm.{StartForm}
-use Rattle.interpreter.specs.declared.StartForm.the-variants.{Settings, Wrong}
-use Rattle.interpreter.specs.Starting.{longestLine, isStart, startForm, startOf, refusing, settingsStep, startStep, earlyStep}
-use Rattle.interpreter.specs.Letters.{loadStep, dealStep, keepStep, openStep, answering, InRange}
-use Rattle.interpreter.specs.Step.{After, leaving, lateStep, step, Ready}
+use Rattle.interpreter.specs.States.{After, refusing, answering, leaving, unless}
+use Rattle.interpreter.specs.Starting.{longestLine, startTests, settingsStep, startStep, earlyStep}
+use Rattle.interpreter.specs.Letters.{loading, loadStep, openStep}
+use Rattle.interpreter.specs.Messages.{heard, keepStep, saying, hearStep}
+use Rattle.interpreter.specs.Stepping.{lateStep, step, Ready}
+use Rattle.interpreter.proofs.Room.{tests-street}
 
--- the state after a line, if it has a session, has one in range
+-- the state after a line, if it has a session, has one of the street's
 abbrev Fine : Stepped → Type 0
-Fine v = v .state .started ≡ true → InRange (v .state .session)
+Fine v = v .state .started ≡ true → InStreet (shapeOf (v .state .session))
 
 fine-if : (b : Bool) (v w : Stepped) → Fine v → Fine w → Fine (cond b v w)
 fine-if true v w f g = f
@@ -30,18 +36,19 @@ unfolding outcome
 fine-outcome zero v w f g = f refl
 fine-outcome (suc k) v w f g = g
 
-fine-answer : (st : State) (x value : ℕ) (new old : Session) → InRange new → InRange old → Fine (answering st (answer x value new old))
-unfolding outcome
-fine-answer st zero value new old f g = λ e. f
-fine-answer st (suc k) value new old f g = λ e. g
-
 -- ---- before an `S` is accepted
-accepted-range : (n t post point : ℕ) → first (sessionTests n t post point) ≡ 0 → InRange (sessionOf n t post point)
+accepted-range : (n t post point : ℕ) → first (startTests n t post point) ≡ 0 → InStreet (shapeOf (sessionOf n t post point))
 accepted-range n t post point e =
-    let a = all-fail (sessionTests n t post point) tt e in
-    record { n-in = inside 2 32 n (a .0); t-in = inside 1 (n - 1) t (a .1 .0) }
+    let a = tests-street n t (fewer (ltb streetPosts n) (outside fewestPosts mostPosts n) (outside 1 (n - 1) t) (outside 1 n post) (badPoint point) e) in
+    record { n-in = (a .0, a .1); t-in = (a .2, a .3) }
+  where
+    fewer : (b c d x y : Bool) → first (1 when b ∷ 1 when c ∷ 2 when d ∷ 3 when x ∷ 4 when y ∷ []) ≡ 0 → first (1 when b ∷ 1 when c ∷ 2 when d ∷ []) ≡ 0
+    fewer true c d x y e = e
+    fewer false true d x y e = e
+    fewer false false true x y e = e
+    fewer false false false x y e = refl
 
-module _ (st : State) (f : st .started ≡ true → InRange (st .session)) where
+module _ (st : State) (f : st .started ≡ true → InStreet (shapeOf (st .session))) where
   fine-settings : (v : StartForm) → Fine (settingsStep st v)
   fine-settings (Settings n t post point) = fine-outcome _ _ _ (λ z e. accepted-range n t post point z) f
   fine-settings Wrong = f
@@ -55,54 +62,65 @@ module _ (st : State) (f : st .started ≡ true → InRange (st .session)) where
   fine-early s = fine-if (isStart s) _ _ (fine-start s) f
 
 -- ---- after it
-same-range : (s : Session) (r m : ℕ) → InRange s → InRange (marked s r m)
-same-range s r m i = record { n-in = i .n-in; t-in = i .t-in }
+abbrev FineAfter : After → Type 0
+FineAfter a = InStreet (shapeOf (a .given .state .session))
 
-module _ (st : State) (i : InRange (st .session)) (rows blocks s : List ℕ) where
-  fine-load : Fine (loadStep st rows s)
-  unfolding loadStep
-  fine-load = fine-outcome _ _ _ (λ z. fine-answer st _ 0 _ _ (same-range (st .session) _ 1 i) i) (λ e. i)
+fine-unless : (x : ℕ) (st : State) (store : List ℕ) (new : After) → InStreet (shapeOf (st .session)) → FineAfter new → FineAfter (unless x st store new)
+unfolding outcome
+fine-unless zero st store new i f = f
+fine-unless (suc k) st store new i f = i
 
-  fine-deal : Fine (dealStep st rows s)
-  unfolding dealStep
-  fine-deal = fine-outcome _ _ _ (λ z. fine-answer st _ 0 _ _ (same-range (st .session) _ 2 i) i) (λ e. i)
-
-  fine-keep : Fine (keepStep st s)
-  unfolding keepStep
-  fine-keep = fine-outcome _ _ _ (λ z e. i) (λ e. i)
-
-  fine-open : Fine (openStep st rows blocks s)
-  unfolding openStep
-  fine-open = fine-outcome _ _ _ (λ z. fine-answer st _ _ _ _ i i) (λ e. i)
-
-fine-after : (b : Bool) (v w : After) → Fine (v .given) → Fine (w .given) → Fine (cond b v w .given)
+fine-after : (b : Bool) (v w : After) → FineAfter v → FineAfter w → FineAfter (cond b v w)
 fine-after true v w f g = f
 fine-after false v w f g = g
 
-fine-late : (st : State) (rows blocks s : List ℕ) → InRange (st .session) → Fine (lateStep st rows blocks s .given)
-unfolding lateStep
-fine-late st rows blocks s i =
-    let other : Fine (refusing st 10) = λ e. i in
-    fine-after (ltb longestLine (length s)) _ _ other
-    (fine-after (eqb (getD s 0 0) 82) _ _ (fine-load st i rows blocks s)
-    (fine-after (eqb (getD s 0 0) 68) _ _ (fine-deal st i rows blocks s)
-    (fine-after (eqb (getD s 0 0) 79) _ _ (fine-keep st i rows blocks s)
-    (fine-after (eqb (getD s 0 0) 71) _ _ (fine-open st i rows blocks s) other))))
+fine-answer : (st : State) (l : List ℕ) (x value : ℕ) (new old : Session) → InStreet (shapeOf new) → InStreet (shapeOf old)
+    → FineAfter (leaving (answering st (answer x value new old)) l)
+unfolding outcome
+fine-answer st l zero value new old f g = f
+fine-answer st l (suc k) value new old f g = g
 
-fine-step : (st : State) (rows blocks s : List ℕ) → (st .started ≡ true → InRange (st .session)) → Fine (step st rows blocks s .given)
+module _ (st : State) (i : InStreet (shapeOf (st .session))) (store s : List ℕ) where
+  fine-load : FineAfter (loadStep st store s)
+  unfolding loadStep loading
+  fine-load = fine-unless _ st store _ i (fine-answer st store _ 0 _ _ i i)
+
+  fine-open : FineAfter (openStep st store s)
+  unfolding openStep
+  fine-open = fine-unless _ st store _ i (fine-answer st store _ _ _ _ i i)
+
+  fine-keep : (row post : ℕ) (xs : List ℕ) → FineAfter (keepStep st store row post xs)
+  unfolding keepStep
+  fine-keep row post xs = i
+
+  fine-hear : FineAfter (hearStep st store s)
+  unfolding hearStep
+  fine-hear =
+      fine-unless _ st store _ i
+      (fine-after (eqb (heard (st .session) s .letter) 68) _ _ (fine-answer st store _ 0 _ _ i i) (fine-keep _ _ _))
+
+  fine-other : (x : ℕ) → FineAfter (leaving (refusing st x) store)
+  fine-other x = i
+
+  fine-late : FineAfter (lateStep st store s)
+  unfolding lateStep
+  fine-late =
+      let letter = getD s 0 0 in
+      fine-after (ltb longestLine (length s)) _ _ (fine-other 10)
+      (fine-after (eqb letter 82) _ _ fine-load
+      (fine-after (eqb letter 71) _ _ fine-open
+      (fine-after (eqb letter 68 || eqb letter 79) _ _ fine-hear (fine-other 10))))
+
+fine-step : (st : State) (store s : List ℕ) → (st .started ≡ true → InStreet (shapeOf (st .session))) → Fine (step st store s .given)
 unfolding step
-fine-step st rows blocks s f = go (st .started) refl
+fine-step st store s f = go (st .started) refl
   where
-    go : (b : Bool) → st .started ≡ b → Fine (cond b (lateStep st rows blocks s) (leaving (earlyStep st s) rows blocks) .given)
-    go true e = fine-late st rows blocks s (f e)
+    go : (b : Bool) → st .started ≡ b → Fine (cond b (lateStep st store s) (leaving (earlyStep st s) store) .given)
+    go true e = λ _. fine-late st (f e) store s
     go false e = fine-early st f s
 
--- what holds between lines holds after a line, where the lists keep their lengths
-pub step-ready : (st : State) (rows blocks s : List ℕ) (v : Stepped) (l b : List ℕ) → Ready st rows blocks
-    → leaving v l b ≡ step st rows blocks s → length l ≡ length rows → length b ≡ length blocks → Ready (v .state) l b
-step-ready st rows blocks s v l b r e p q =
-    record {
-      rows-room = p ∙ r .rows-room;
-      blocks-room = q ∙ r .blocks-room;
-      in-range = rw (← e) at (fine-step st rows blocks s (r .in-range));
-    }
+-- what holds between lines holds after a line, where the store keeps its length
+pub step-ready : (st : State) (store s : List ℕ) (v : Stepped) (l : List ℕ) → Ready st store
+    → leaving v l ≡ step st store s → length l ≡ length store → Ready (v .state) l
+step-ready st store s v l r e p =
+    record { store-room = p ∙ r .store-room; in-range = rw (← e) at (fine-step st store s (r .in-range)) }

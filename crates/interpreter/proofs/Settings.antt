@@ -1,13 +1,11 @@
--- `S` lines: each way in which their scan and their answer end.
-use Prim.Native.Nat.{ℕ, zero, suc, _+_, _≤_, _<_, _^_}
+-- `S` lines: each way in which their answer ends.
+use Prim.Native.Nat.{ℕ, zero, suc, _≤_, _<_}
 use mathlib.Core.Path.{_≡_, refl, ap, sym, _∙_}
 use mathlib.Core.List.{List, [], _∷_, _++_}
-use mathlib.Core.Bool.{Bool, true, false, _&&_, cond, _||_}
+use mathlib.Core.Bool.{Bool, true, false, cond, _||_}
 use native.Mathlib.Omega.{arith}
-use borrow.Author.Tests.{lt-ltb, le-ltb, ne-eqb, eqb-true}
-use mir.Syntax.{w64}
-use mir.Val.{Fits}
-use lib.ListN.{length, getD, List·getD-eq-default}
+use borrow.Author.Tests.{lt-ltb, le-ltb}
+use lib.ListN.{length}
 use lib.Dec.{eqb, ltb}
 use Rattle.field.specs.Modulus.{p}
 use Rattle.refusal.specs.Refusal.{_when_, first, outcome}
@@ -15,140 +13,35 @@ use Rattle.refusal.specs.Conditions.{outside, beyond, badPoint, postsTests}
 use Rattle.refusal.proofs.Laws.{or-false, all-fail}
 use Rattle.refusal.proofs.Elements.{below-p}
 use Rattle.refusal.proofs.Endings.{refused, accepted}
-use Rattle.decimal.proofs.Positions.{inside}
-use Rattle.decimal.proofs.Digits.{and-true}
-use Rattle.csv.specs.declared.Run.{Run}
-use Rattle.csv.specs.declared.Run.the-variants.{Fields, Broken}
-use Rattle.csv.specs.Fields.{Parsed, parsed, malformed, push, fieldsAt, ended, runOf}
-use Rattle.csv.proofs.Single.{first-found, first-broken}
 use Rattle.session.specs.Sessions.{answer, sessionTests, sessionOf, created}
 use Rattle.session.specs.declared.Session.{Session}
 use Rattle.session.specs.declared.Answer.{Answer}
+use Rattle.store.specs.Sizes.{streetPosts}
+use Rattle.reading.specs.declared.StartForm.{StartForm}
+use Rattle.reading.specs.declared.StartForm.the-variants.{Settings, Wrong}
+use Rattle.reading.specs.Starting.{isStart, startForm, startOf}
 use Rattle.interpreter.specs.declared.State.{State}
 use Rattle.interpreter.specs.declared.Stepped.{Stepped}
-use Rattle.interpreter.specs.declared.StartForm.{StartForm}
-use Rattle.interpreter.specs.declared.StartForm.the-variants.{Settings, Wrong}
-use Rattle.interpreter.specs.Starting.{isStart, dashAt, behindPosts, startForm, startOf, refusing, beginStep, startStep, earlyStep, longestLine}
+use Rattle.interpreter.specs.States.{firstState, begunWith, withSession, refusing, answering}
+use Rattle.interpreter.specs.Starting.{startTests, beginStep, startStep, earlyStep, longestLine}
 
--- ---- the first field
-module _ (s : List ℕ) where
-  pub start-empty : length s < 1 → false ≡ isStart s
-  start-empty h = let l : length s ≤ 0 = omega arith in rw (List·getD-eq-default s 0 l)
+-- ---- states
+refused-session : created 0 0 0 0 .session ≡ sessionOf 0 0 0 0
+unfolding created outcome
+refused-session = refl
 
-  pub start-other : (getD s 0 0 ≡ 83 → ⊥) → false ≡ isStart s
-  start-other h = rw (ne-eqb (getD s 0 0) 83 h)
+pub first-is : (a : Answer) → a ≡ created 0 0 0 0 → _≡_ {A = State} (record { session = a .session; started = false; kept = 0 }) firstState
+first-is a e = ap (λ (s : Session). record { session = s; started = false; kept = 0 }) (ap (λ (x : Answer). x .session) e ∙ refused-session)
 
-  module _ (e : getD s 0 0 ≡ 83) where
-    pub start-bare : length s < 2 → true ≡ isStart s
-    start-bare h = rw (e, lt-ltb (length s) 2 h)
-
-    module _ (h : 2 ≤ length s) where
-      pub start-comma : getD s 1 0 ≡ 44 → true ≡ isStart s
-      start-comma c = rw (e, le-ltb (length s) 2 h, c)
-
-      pub start-feed : (getD s 1 0 ≡ 44 → ⊥) → eqb (getD s 1 0) 10 ≡ isStart s
-      start-feed c = rw (e, le-ltb (length s) 2 h, ne-eqb (getD s 1 0) 44 c)
-
--- ---- the dash
-module _ (s : List ℕ) (at : ℕ) where
-  pub dash-past : length s ≤ at → false ≡ dashAt s at
-  dash-past h = rw (List·getD-eq-default s 0 h)
-
-  pub dash-other : (getD s at 0 ≡ 44 → ⊥) → false ≡ dashAt s at
-  dash-other h = rw (ne-eqb (getD s at 0) 44 h)
-
-  pub dash-short : getD s at 0 ≡ 44 → length s ≤ at + 1 → false ≡ dashAt s at
-  dash-short e h = rw (e, List·getD-eq-default s 0 h)
-
-  pub dash-byte : getD s at 0 ≡ 44 → eqb (getD s (at + 1) 0) 45 ≡ dashAt s at
-  dash-byte e = rw e
-
-  pub dash-fits : (b : Bool) → length s < 2 ^ 64 → b ≡ dashAt s at → b ≡ true → Fits w64 (at + 2)
-  dash-fits b l e h =
-      let d = and-true (eqb (getD s at 0) 44) (eqb (getD s (at + 1) 0) 45) (sym e ∙ h) in
-      omega (arith, inside s (at + 1) 44 (eqb-true (getD s (at + 1) 0) 45 (d .1)))
-
--- ---- fields that end a line
-no-run : {A : Type 0} (x n : ℕ) → Broken ≡ Fields x n → A
-no-run x n e = let z : _≡_ {A = ℕ} 0 1 = cc in absurd (omega arith)
-
-pub ended-push : (s : List ℕ) (x : ℕ) (o : Parsed) → ended s (push x o) ≡ push x (ended s o)
-ended-push s x malformed = refl
-ended-push s x (parsed xs next) = go (eqb (getD s next 0) 10 && eqb (length s) (next + 1))
-  where
-    go : (t : Bool) → cond t (parsed (x ∷ xs) next) malformed ≡ push x (cond t (parsed xs next) malformed)
-    go true = refl
-    go false = refl
-
-pub ended-broken : (o : Parsed) → runOf o ≡ Broken → o ≡ malformed
-ended-broken malformed e = refl
-ended-broken (parsed xs next) e = no-run _ _ (sym e)
-
--- the line's end changes no field
-pub same-run : (s : List ℕ) (o : Parsed) (x n : ℕ) → runOf (ended s o) ≡ Fields x n → ended s o ≡ o
-same-run s malformed x n e = refl
-same-run s (parsed xs next) x n e = go (eqb (getD s next 0) 10 && eqb (length s) (next + 1)) e
-  where
-    go : (t : Bool) → runOf (cond t (parsed xs next) malformed) ≡ Fields x n → cond t (parsed xs next) malformed ≡ parsed xs next
-    go true e = refl
-    go false e = no-run x n e
-
-last-one : (s : List ℕ) (at x n : ℕ) → runOf (ended s (fieldsAt 1 s at)) ≡ Fields x n → ended s (fieldsAt 1 s at) ≡ parsed (x ∷ []) n
-unfolding fieldsAt
-last-one s at x n e =
-    let q = same-run s (fieldsAt 1 s at) x n e in
-    q ∙ first-found 0 s at (runOf (fieldsAt 1 s at)) refl x n (ap runOf (sym q) ∙ e)
-
--- ---- the post and the check point
-module _ (s : List ℕ) (n t at : ℕ) (r : Run) (e : r ≡ runOf (fieldsAt 1 s at)) where
-  abbrev own : StartForm
-  own = startOf (push n (push t (ended s (fieldsAt 2 s at))))
-
-  pub own-no-post : r ≡ Broken → Wrong ≡ own
-  own-no-post w = rw (first-broken 1 s at r e w)
-
-  module _ (post next : ℕ) (w : r ≡ Fields post next) (l : Run) (f : l ≡ runOf (ended s (fieldsAt 1 s next))) where
-    behind-post : ended s (fieldsAt 2 s at) ≡ push post (ended s (fieldsAt 1 s next))
-    behind-post = ap (ended s) (first-found 1 s at r e post next w) ∙ ended-push s post (fieldsAt 1 s next)
-
-    pub own-no-point : l ≡ Broken → Wrong ≡ own
-    own-no-point v = rw (behind-post, ended-broken (ended s (fieldsAt 1 s next)) (sym f ∙ v))
-
-    pub own-settings : (point end : ℕ) → l ≡ Fields point end → Settings n t post point ≡ own
-    own-settings point end v = rw (behind-post, last-one s next point end (sym f ∙ v))
-
--- ---- t
-module _ (s : List ℕ) (n at : ℕ) (b : Bool) (d : b ≡ dashAt s at) where
-  pub settings-dash : (v : StartForm) → b ≡ true → v ≡ startOf (push n (push 1 (ended s (fieldsAt 2 s (at + 2)))))
-      → v ≡ startOf (push n (behindPosts s n at))
-  unfolding behindPosts
-  settings-dash v h q = q ∙ rw (← d, h)
-
-  module _ (h : b ≡ false) (r : Run) (e : r ≡ runOf (fieldsAt 1 s at)) where
-    pub settings-none : r ≡ Broken → Wrong ≡ startOf (push n (behindPosts s n at))
-    unfolding behindPosts
-    settings-none w = rw (← d, h, first-broken 2 s at r e w)
-
-    pub settings-number : (v : StartForm) (t next : ℕ) → r ≡ Fields t next → v ≡ startOf (push n (push t (ended s (fieldsAt 2 s next))))
-        → v ≡ startOf (push n (behindPosts s n at))
-    unfolding behindPosts
-    settings-number v t next w q = q ∙ rw (← d, h, first-found 2 s at r e t next w, ended-push s t (fieldsAt 2 s next))
-
--- ---- n
-module _ (s : List ℕ) (r : Run) (e : r ≡ runOf (fieldsAt 1 s 1)) where
-  pub form-none : r ≡ Broken → Wrong ≡ startOf (startForm s)
-  unfolding startForm
-  form-none w = rw (first-broken 0 s 1 r e w)
-
-  pub form-number : (v : StartForm) (n next : ℕ) → r ≡ Fields n next → v ≡ startOf (push n (behindPosts s n next)) → v ≡ startOf (startForm s)
-  unfolding startForm fieldsAt
-  form-number v n next w q = q ∙ rw (first-found 0 s 1 r e n next w)
+pub answer-is : (st new : State) (a : Answer) → new ≡ withSession st (a .session)
+    → _≡_ {A = Stepped} (record { state = new; refusal = a .refusal; value = a .value }) (answering st a)
+answer-is st new a e = ap (λ (x : State). record { state = x; refusal = a .refusal; value = a .value }) e
 
 -- ---- the check point as an element, or p
-pub narrow-below : (x : ℕ) → x < 2147483647 → x ≡ cond (ltb x p) x p
+pub narrow-below : (x : ℕ) → x < p → x ≡ cond (ltb x p) x p
 narrow-below x h = rw (lt-ltb x p h)
 
-pub narrow-beyond : (x : ℕ) → 2147483647 ≤ x → p ≡ cond (ltb x p) x p
+pub narrow-beyond : (x : ℕ) → p ≤ x → p ≡ cond (ltb x p) x p
 narrow-beyond x h = rw (le-ltb x p h)
 
 -- ---- the session, or 1 to 4
@@ -162,7 +55,12 @@ unfolding outcome
 answer-session zero v new old e = refl
 answer-session (suc k) v new old e = absurd (omega arith)
 
-module _ (st : State) (n t post point w : ℕ) (made : Answer) (e : w ≡ cond (ltb point p) point p) (c : made ≡ created n t post w) where
+pub begin-many : (st : State) (n t post point : ℕ) (v : Stepped) → streetPosts < n → v ≡ refusing st 1 → v ≡ beginStep st n t post point
+unfolding outcome
+begin-many st n t post point v h q = q ∙ rw (lt-ltb streetPosts n h)
+
+module _ (st : State) (n t post point w : ℕ) (made : Answer) (few : n ≤ streetPosts) (e : w ≡ cond (ltb point p) point p)
+    (c : made ≡ created n t post w) where
   same-point : badPoint w ≡ badPoint point
   same-point = rw e (go (ltb point p) refl)
     where
@@ -177,9 +75,15 @@ module _ (st : State) (n t post point w : ℕ) (made : Answer) (e : w ≡ cond (
   same-tests : first (sessionTests n t post w) ≡ first (sessionTests n t post point)
   same-tests = ap (λ (b : Bool). first (postsTests n t ++ (3 when outside 1 n post ∷ 4 when b ∷ []))) same-point
 
-  refusal-is : made .refusal ≡ first (sessionTests n t post point)
+  few-tests : first (sessionTests n t post point) ≡ first (startTests n t post point)
+  few-tests = rw (le-ltb streetPosts n few)
+
+  own-refusal : made .refusal ≡ first (sessionTests n t post point)
   unfolding created
-  refusal-is = ap (λ (a : Answer). a .refusal) c ∙ answer-refusal _ 0 (sessionOf n t post w) (sessionOf 0 0 0 0) ∙ same-tests
+  own-refusal = ap (λ (a : Answer). a .refusal) c ∙ answer-refusal _ 0 (sessionOf n t post w) (sessionOf 0 0 0 0) ∙ same-tests
+
+  refusal-is : made .refusal ≡ first (startTests n t post point)
+  refusal-is = own-refusal ∙ few-tests
 
   pub begin-refused : (v : Stepped) → (made .refusal ≡ 0 → ⊥) → v ≡ refusing st (made .refusal) → v ≡ beginStep st n t post point
   begin-refused v h q = q ∙ ap (refusing st) refusal-is ∙ refused (made .refusal) _ _ (refusing st _) refusal-is h
@@ -187,7 +91,7 @@ module _ (st : State) (n t post point w : ℕ) (made : Answer) (e : w ≡ cond (
   module _ (h : made .refusal ≡ 0) where
     same-element : w ≡ point
     same-element =
-        let f = all-fail (sessionTests n t post point) tt (sym refusal-is ∙ h) in
+        let f = all-fail (sessionTests n t post point) tt (sym own-refusal ∙ h) in
         let b = below-p point (or-false (eqb point 0) (beyond point) (f .1 .1 .1 .0) .1) in
         e ∙ rw (lt-ltb point p b)
 
@@ -195,22 +99,21 @@ module _ (st : State) (n t post point w : ℕ) (made : Answer) (e : w ≡ cond (
     unfolding created
     session-is =
         ap (λ (a : Answer). a .session) c
-        ∙ answer-session (first (sessionTests n t post w)) 0 (sessionOf n t post w) (sessionOf 0 0 0 0) (same-tests ∙ sym refusal-is ∙ h)
+        ∙ answer-session (first (sessionTests n t post w)) 0 (sessionOf n t post w) (sessionOf 0 0 0 0) (same-tests ∙ sym own-refusal ∙ h)
         ∙ ap (sessionOf n t post) same-element
 
-    pub begin-accepted : (v : Stepped) → v ≡ refusing (record { session = made .session; started = true; kept = st .kept }) 0
-        → v ≡ beginStep st n t post point
-    begin-accepted v q =
+    pub begin-accepted : (v : Stepped) (new : State) → new ≡ begunWith st (made .session) → v ≡ refusing new 0 → v ≡ beginStep st n t post point
+    begin-accepted v new b q =
         accepted (made .refusal) _ v _ _ refusal-is h
-        (q ∙ ap (λ (s : Session). refusing (record { session = s; started = true; kept = st .kept }) 0) session-is)
+        (q ∙ ap (λ (x : State). refusing x 0) b ∙ ap (λ (s : Session). refusing (begunWith st s) 0) session-is)
 
 -- ---- the whole line
 module _ (st : State) (s : List ℕ) where
-  pub start-long : (v : Stepped) → 1061 < length s → v ≡ refusing st 10 → v ≡ startStep st s
+  pub start-long : (v : Stepped) → longestLine < length s → v ≡ refusing st 10 → v ≡ startStep st s
   unfolding startStep
   start-long v h q = q ∙ rw (lt-ltb longestLine (length s) h)
 
-  module _ (h : length s ≤ 1061) (f : StartForm) (e : f ≡ startOf (startForm s)) where
+  module _ (h : length s ≤ longestLine) (f : StartForm) (e : f ≡ startOf (startForm s)) where
     pub start-wrong : (v : Stepped) → f ≡ Wrong → v ≡ refusing st 10 → v ≡ startStep st s
     unfolding startStep
     start-wrong v w q = q ∙ rw (le-ltb longestLine (length s) h, ← e, w)

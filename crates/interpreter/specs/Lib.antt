@@ -1,3 +1,5 @@
+pub mod States
 pub mod Starting
 pub mod Letters
-pub mod Step
+pub mod Messages
+pub mod Stepping

@@ -14,7 +14,7 @@ use Rattle.decimal.proofs.Digits.{length-digits}
 use Rattle.decimal.proofs.Sizes.{size-le}
 use Rattle.csv.specs.Fields.{fields, overwrite}
 use Rattle.csv.proofs.Overwriting.{overwrite-part, overwrite-byte, overwrite-twice, length-fields-le}
-use Rattle.transcript.specs.Text.{longSize, longNumeral, answerText}
+use Rattle.transcript.specs.Text.{longSize, longNumeral, answerText, longestAnswer}
 
 -- ---- a number
 module _ (l : List ℕ) (at k x : ℕ) (h : at + length (longNumeral x) ≤ length l) (e : k ≡ longSize x) where
@@ -38,7 +38,7 @@ module _ (l : List ℕ) (at k x : ℕ) (h : at + length (longNumeral x) ≤ leng
       rw (c, q) (overwrite-part l (longNumeral x) at k size)
 
 -- ---- an answer
-module _ (number refusal value at : ℕ) (o : List ℕ) (h : at + 43 ≤ length o) where
+module _ (number refusal value at : ℕ) (o : List ℕ) (h : at + longestAnswer ≤ length o) where
   abbrev digits : List ℕ
   digits = longNumeral number
 

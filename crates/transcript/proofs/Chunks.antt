@@ -26,7 +26,7 @@ unfolding grown
 grown-twice p b s =
     let e : cut (cut (p .line ++ (b ∷ [])) ++ s) ≡ cut (p .line ++ (b ∷ s)) =
     cut-again keptLength (p .line ++ (b ∷ [])) s ∙ ap cut (append-assoc (p .line) (b ∷ []) s) in
-    ap (λ (z : List ℕ). record { state = p .state; rows = p .rows; blocks = p .blocks; line = z; number = p .number; out = p .out }) e
+    ap (λ (z : List ℕ). record { state = p .state; store = p .store; line = z; number = p .number; out = p .out }) e
 
 pub segmented-more : (p : Running) (b c : ℕ) (s : List ℕ) → segmented (grown p (b ∷ [])) (c ∷ s) ≡ segmented p (b ∷ c ∷ s)
 segmented-more p b c s =

@@ -30,28 +30,26 @@ module _ (chunk : List ℕ) (i end : ℕ) (h : i < length chunk) (e : end ≡ i 
       let w = chunk-within in
       omega (arith, length-take-le (end - i) (drop i chunk) (omega (arith, left)))
 
-pub record Midway (f₀ : Feed) (rows₀ blocks₀ line₀ chunk out₀ : List ℕ) (f : Feed) (rows blocks line out : List ℕ) (i : ℕ) : Type 0 where
-  pub room : Open f rows blocks line out (length chunk - i)
-  pub so-far : Fed f₀ f rows blocks i
+pub record Midway (f₀ : Feed) (store₀ line₀ chunk out₀ : List ℕ) (f : Feed) (store line out : List ℕ) (i : ℕ) : Type 0 where
+  pub room : Open f store line out (length chunk - i)
+  pub so-far : Fed f₀ f store i
   pub within : i ≤ length chunk
-  pub rows-same : length rows ≡ length rows₀
-  pub blocks-same : length blocks ≡ length blocks₀
+  pub store-same : length store ≡ length store₀
   pub line-same : length line ≡ length line₀
   pub out-same : length out ≡ length out₀
   pub added : Added f₀ f out₀ out
-  pub line-says : lineAfter (running f rows blocks line out) line (drop i chunk) ≡ lineAfter (running f₀ rows₀ blocks₀ line₀ out₀) line₀ chunk
-  pub says : fed (running f rows blocks line out) (drop i chunk) ≡ fed (running f₀ rows₀ blocks₀ line₀ out₀) chunk
+  pub line-says : lineAfter (running f store line out) line (drop i chunk) ≡ lineAfter (running f₀ store₀ line₀ out₀) line₀ chunk
+  pub says : fed (running f store line out) (drop i chunk) ≡ fed (running f₀ store₀ line₀ out₀) chunk
 
-pub midway-start : (f : Feed) (rows blocks line chunk out : List ℕ) → Open f rows blocks line out (length chunk)
-    → Midway f rows blocks line chunk out f rows blocks line out 0
-midway-start f rows blocks line chunk out o =
+pub midway-start : (f : Feed) (store line chunk out : List ℕ) → Open f store line out (length chunk)
+    → Midway f store line chunk out f store line out 0
+midway-start f store line chunk out o =
     let e : length chunk - 0 ≡ length chunk = omega arith in
     record {
       room = rw e o;
       so-far = record { ready = o .ready; len-in = o .len-in; numbers = omega arith; room = omega arith };
       within = omega arith;
-      rows-same = refl;
-      blocks-same = refl;
+      store-same = refl;
       line-same = refl;
       out-same = refl;
       added = record { grows = omega arith; behind = refl };
@@ -59,31 +57,31 @@ midway-start f rows blocks line chunk out o =
       says = refl;
     }
 
-module _ (f₀ : Feed) (rows₀ blocks₀ line₀ chunk out₀ : List ℕ) (f : Feed) (rows blocks line out : List ℕ) (i : ℕ)
-    (inv : Midway f₀ rows₀ blocks₀ line₀ chunk out₀ f rows blocks line out i) where
-  pub midway-done : length chunk ≤ i → running f rows blocks line out ≡ fed (running f₀ rows₀ blocks₀ line₀ out₀) chunk
+module _ (f₀ : Feed) (store₀ line₀ chunk out₀ : List ℕ) (f : Feed) (store line out : List ℕ) (i : ℕ)
+    (inv : Midway f₀ store₀ line₀ chunk out₀ f store line out i) where
+  pub midway-done : length chunk ≤ i → running f store line out ≡ fed (running f₀ store₀ line₀ out₀) chunk
   unfolding fed
   midway-done h = rw (drop-of-length-le chunk h) at (inv .says)
 
-  pub midway-fed : length chunk ≤ i → Fed f₀ f rows blocks (length chunk)
+  pub midway-fed : length chunk ≤ i → Fed f₀ f store (length chunk)
   midway-fed h = let e : i ≡ length chunk = omega (arith, inv .within) in rw e at (inv .so-far)
 
   pub midway-added : Added f₀ f out₀ out
   midway-added = inv .added
 
-  pub midway-line : length chunk ≤ i → line ≡ lineAfter (running f₀ rows₀ blocks₀ line₀ out₀) line₀ chunk
+  pub midway-line : length chunk ≤ i → line ≡ lineAfter (running f₀ store₀ line₀ out₀) line₀ chunk
   unfolding lineAfter
   midway-line h = rw (drop-of-length-le chunk h) at (inv .line-says)
 
   module _ (h : i < length chunk) (end : ℕ) (e : end ≡ i + segment (drop i chunk)) where
-    pub chunk-room : Open f rows blocks line out 1
+    pub chunk-room : Open f store line out 1
     chunk-room =
         let o = inv .room in
         record { ready = o .ready; line-room = o .line-room; len-in = o .len-in; numbers = omega (arith, o .numbers); room = omega (arith, o .room) }
 
-    module _ (r : Feed) (rows' blocks' line' out' : List ℕ)
-        (q : running r rows' blocks' line' out' ≡ segmented (running f rows blocks line out) (take (end - i) (drop i chunk)))
-        (d : Fed f r rows' blocks' 1) (lr : length rows' ≡ length rows) (lb : length blocks' ≡ length blocks) (ll : length line' ≡ length line)
+    module _ (r : Feed) (store' line' out' : List ℕ)
+        (q : running r store' line' out' ≡ segmented (running f store line out) (take (end - i) (drop i chunk)))
+        (d : Fed f r store' 1) (lr : length store' ≡ length store) (ll : length line' ≡ length line)
         (lo : length out' ≡ length out) (w : Added f r out out') (x : line' ≡ laid (f .len) (take (end - i) (drop i chunk)) line) where
       width : end - i ≡ segment (drop i chunk)
       width = omega arith
@@ -94,20 +92,20 @@ module _ (f₀ : Feed) (rows₀ blocks₀ line₀ chunk out₀ : List ℕ) (f : 
       some : 1 ≤ length (drop i chunk)
       some = omega (arith, left chunk i end h e)
 
-      turn : fed (running r rows' blocks' line' out') (drop end chunk) ≡ fed (running f₀ rows₀ blocks₀ line₀ out₀) chunk
+      turn : fed (running r store' line' out') (drop end chunk) ≡ fed (running f₀ store₀ line₀ out₀) chunk
       turn =
           ap (λ (z : Running). fed z (drop end chunk)) q
-          ∙ rw (rest, width) (sym (fed-segment (running f rows blocks line out) (drop i chunk) some))
+          ∙ rw (rest, width) (sym (fed-segment (running f store line out) (drop i chunk) some))
           ∙ inv .says
 
       -- the lent line
       begun : f .len ≡ length (take (f .len) line)
       begun = sym (length-take-le (f .len) line (omega (arith, inv .room .len-in, inv .room .line-room)))
 
-      line-turn : lineAfter (running r rows' blocks' line' out') line' (drop end chunk) ≡ lineAfter (running f₀ rows₀ blocks₀ line₀ out₀) line₀ chunk
+      line-turn : lineAfter (running r store' line' out') line' (drop end chunk) ≡ lineAfter (running f₀ store₀ line₀ out₀) line₀ chunk
       line-turn =
           ap₂ (λ (z : Running) (y : List ℕ). lineAfter z y (drop end chunk)) q (x ∙ ap (λ (k : ℕ). laid k (take (end - i) (drop i chunk)) line) begun)
-          ∙ rw (rest, width) (sym (line-after (running f rows blocks line out) line (drop i chunk) (inv .room .line-room) some))
+          ∙ rw (rest, width) (sym (line-after (running f store line out) line (drop i chunk) (inv .room .line-room) some))
           ∙ inv .line-says
 
       -- what stands behind the answers
@@ -122,7 +120,7 @@ module _ (f₀ : Feed) (rows₀ blocks₀ line₀ chunk out₀ : List ℕ) (f : 
             behind = w .behind ∙ back out ∙ ap (drop (r .at - f .at)) (a .behind) ∙ sym (back out₀);
           }
 
-      pub midway-more : Midway f₀ rows₀ blocks₀ line₀ chunk out₀ r rows' blocks' line' out' end
+      pub midway-more : Midway f₀ store₀ line₀ chunk out₀ r store' line' out' end
       midway-more =
           let b = chunk-behind chunk i end h e in
           let w = chunk-within chunk i end h e in
@@ -145,8 +143,7 @@ module _ (f₀ : Feed) (rows₀ blocks₀ line₀ chunk out₀ : List ℕ) (f : 
                   room = omega (arith, g .room, d .room);
                 };
             within = w;
-            rows-same = lr ∙ inv .rows-same;
-            blocks-same = lb ∙ inv .blocks-same;
+            store-same = lr ∙ inv .store-same;
             line-same = ll ∙ inv .line-same;
             out-same = lo ∙ inv .out-same;
             added = both-added;

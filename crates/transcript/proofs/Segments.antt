@@ -47,7 +47,7 @@ overwritten l ys at k h e =
     ap (take (at + k)) (sym (append-assoc (take at l) ys (drop k (drop at l)))) ∙ take-at (take at l ++ ys) (drop k (drop at l)) (at + k) n
 
 module _ (l part : List ℕ) (len count : ℕ) (h : len ≤ keptLength) (r : length l ≡ keptLength)
-    (c : count ≡ cond (ltb (1062 - len) (length part)) (1062 - len) (length part)) (c₁ : count ≤ 1062 - len) (c₂ : count ≤ length part) where
+    (c : count ≡ cond (ltb (keptLength - len) (length part)) (keptLength - len) (length part)) (c₁ : count ≤ keptLength - len) (c₂ : count ≤ length part) where
   pub appended-fits : Fits w64 (len + count)
   appended-fits = omega arith
 
@@ -68,14 +68,14 @@ module _ (l part : List ℕ) (len count : ℕ) (h : len ≤ keptLength) (r : len
   size : length (take len l) ≡ len
   size = length-take-le len l (omega arith)
 
-  short : take count part ≡ take (1062 - len) part
-  short = go (ltb (1062 - len) (length part)) refl c
+  short : take count part ≡ take (keptLength - len) part
+  short = go (ltb (keptLength - len) (length part)) refl c
     where
-      go : (b : Bool) → ltb (1062 - len) (length part) ≡ b → count ≡ cond b (1062 - len) (length part) → take count part ≡ take (1062 - len) part
+      go : (b : Bool) → ltb (keptLength - len) (length part) ≡ b → count ≡ cond b (keptLength - len) (length part) → take count part ≡ take (keptLength - len) part
       go true e q = ap (λ (k : ℕ). take k part) q
       go false e q =
-          let g : length part ≤ 1062 - len = ltb-false (1062 - len) (length part) e in
-          ap (λ (k : ℕ). take k part) q ∙ take-all (length part) part (omega arith) ∙ sym (take-all (1062 - len) part g)
+          let g : length part ≤ keptLength - len = ltb-false (keptLength - len) (length part) e in
+          ap (λ (k : ℕ). take k part) q ∙ take-all (length part) part (omega arith) ∙ sym (take-all (keptLength - len) part g)
 
   pub appended-laid : (ys : List ℕ) → ys ≡ take count part → putMid len (len + count - len) l ys ≡ laid len part l
   appended-laid ys q =
@@ -87,7 +87,7 @@ module _ (l part : List ℕ) (len count : ℕ) (h : len ≤ keptLength) (r : len
   appended ys q =
       let d : len + count - len ≡ count = add-sub-cancel-left len count in
       let w : length ys ≡ count = ap length q ∙ length-take-le count part c₂ in
-      let full : length (take len l) + (1062 - len) ≡ 1062 = omega (arith, size) in
+      let full : length (take len l) + (keptLength - len) ≡ keptLength = omega (arith, size) in
       rw d
       (overwritten l ys len count (omega arith) w ∙ ap (λ (z : List ℕ). take len l ++ z) (q ∙ short)
-      ∙ sym (take-append-add (take len l) part (1062 - len)) ∙ ap (λ (k : ℕ). take k (take len l ++ part)) full)
+      ∙ sym (take-append-add (take len l) part (keptLength - len)) ∙ ap (λ (k : ℕ). take k (take len l ++ part)) full)

@@ -8,29 +8,31 @@ use borrow.Author.Tests.{ne-eqb}
 use lib.ListN.{length, replicate}
 use lib.Dec.{eqb}
 use Rattle.interpreter.specs.declared.State.{State}
-use Rattle.interpreter.specs.Step.{After, step}
+use Rattle.interpreter.specs.States.{After, firstState}
+use Rattle.interpreter.specs.Stepping.{step}
+use Rattle.store.specs.Sizes.{storeRoom}
 use Rattle.interpreter.proofs.Cutting.{step-cut}
 use Rattle.transcript.specs.Text.{header}
 use Rattle.transcript.specs.Lines.{keptLength, cut}
-use Rattle.transcript.specs.Program.{Running, leftBy, answered, grown, taken, fed, closed, drained, passed, printedFor, joined, ChunksPrint, firstState, begun, output, linesFrom, withAnswer, answers, printed, PrintsAnswers}
+use Rattle.transcript.specs.Program.{Running, leftBy, answered, grown, taken, fed, closed, drained, passed, printedFor, joined, ChunksPrint, begun, output, linesFrom, withAnswer, answers, printed, PrintsAnswers}
 use Rattle.transcript.proofs.Chunks.{cut-again, fed-append}
 
 -- ---- by lines
-abbrev at : State → List ℕ → List ℕ → ℕ → List ℕ → List ℕ → Running
-at st rows blocks number out line = record { state = st; rows = rows; blocks = blocks; line = cut line; number = number; out = out }
+abbrev at : State → List ℕ → ℕ → List ℕ → List ℕ → Running
+at st store number out line = record { state = st; store = store; line = cut line; number = number; out = out }
 
-module _ (st : State) (rows blocks : List ℕ) (number : ℕ) (out : List ℕ) where
+module _ (st : State) (store : List ℕ) (number : ℕ) (out : List ℕ) where
   -- a line answered, cut or not
-  answered-at : (line : List ℕ) → answered (at st rows blocks number out line) ≡ leftBy (at st rows blocks number out line) (step st rows blocks line)
+  answered-at : (line : List ℕ) → answered (at st store number out line) ≡ leftBy (at st store number out line) (step st store line)
   unfolding answered
-  answered-at line = ap (leftBy (at st rows blocks number out line)) (step-cut st rows blocks line keptLength (omega arith))
+  answered-at line = ap (leftBy (at st store number out line)) (step-cut st store line keptLength (omega arith))
 
-  grown-at : (line : List ℕ) (b : ℕ) → grown (at st rows blocks number out line) (b ∷ []) ≡ at st rows blocks number out (line ++ (b ∷ []))
+  grown-at : (line : List ℕ) (b : ℕ) → grown (at st store number out line) (b ∷ []) ≡ at st store number out (line ++ (b ∷ []))
   unfolding grown
   grown-at line b =
-      ap (λ (z : List ℕ). record { state = st; rows = rows; blocks = blocks; line = z; number = number; out = out }) (cut-again keptLength line (b ∷ []))
+      ap (λ (z : List ℕ). record { state = st; store = store; line = z; number = number; out = out }) (cut-again keptLength line (b ∷ []))
 
-  last-line : (line : List ℕ) → closed (at st rows blocks number out line) .out ≡ out ++ answers st rows blocks (number + 1) (linesFrom line [])
+  last-line : (line : List ℕ) → closed (at st store number out line) .out ≡ out ++ answers st store (number + 1) (linesFrom line [])
   unfolding closed linesFrom answers
   last-line [] = sym (append-nil out)
   last-line (x ∷ line) =
@@ -38,46 +40,46 @@ module _ (st : State) (rows blocks : List ℕ) (number : ℕ) (out : List ℕ) w
       let m : eqb (length (x ∷ line)) 0 ≡ false = ne-eqb (length (x ∷ line)) 0 (λ e. omega arith) in
       rw (n, m) (ap (λ (p : Running). p .out) (answered-at (x ∷ line)) ∙ ap (λ (z : List ℕ). out ++ z) (sym (append-nil _)))
 
-by-lines : (s line : List ℕ) (st : State) (rows blocks : List ℕ) (number : ℕ) (out : List ℕ)
-    → closed (fed (at st rows blocks number out line) s) .out ≡ out ++ answers st rows blocks (number + 1) (linesFrom line s)
+by-lines : (s line : List ℕ) (st : State) (store : List ℕ) (number : ℕ) (out : List ℕ)
+    → closed (fed (at st store number out line) s) .out ≡ out ++ answers st store (number + 1) (linesFrom line s)
 unfolding fed linesFrom answers
-by-lines [] line st rows blocks number out = last-line st rows blocks number out line
-by-lines (b ∷ s) line st rows blocks number out =
-    go (eqb b 10) (by-lines s (line ++ (b ∷ [])) st rows blocks number out) (by-lines s [])
+by-lines [] line st store number out = last-line st store number out line
+by-lines (b ∷ s) line st store number out =
+    go (eqb b 10) (by-lines s (line ++ (b ∷ [])) st store number out) (by-lines s [])
   where
     ended : (a : After)
-        → ((st' : State) (rows' blocks' : List ℕ) (number' : ℕ) (out' : List ℕ)
-        → closed (fed (at st' rows' blocks' number' out' []) s) .out ≡ out' ++ answers st' rows' blocks' (number' + 1) (linesFrom [] s))
-        → closed (fed (leftBy (at st rows blocks number out (line ++ (b ∷ []))) a) s) .out
-        ≡ out ++ withAnswer (number + 1) a (λ a. answers (a .given .state) (a .rows) (a .blocks) (number + 1 + 1) (linesFrom [] s))
-    ended a ih = ih (a .given .state) (a .rows) (a .blocks) (number + 1) _ ∙ append-assoc out _ _
+        → ((st' : State) (store' : List ℕ) (number' : ℕ) (out' : List ℕ)
+        → closed (fed (at st' store' number' out' []) s) .out ≡ out' ++ answers st' store' (number' + 1) (linesFrom [] s))
+        → closed (fed (leftBy (at st store number out (line ++ (b ∷ []))) a) s) .out
+        ≡ out ++ withAnswer (number + 1) a (λ a. answers (a .given .state) (a .store) (number + 1 + 1) (linesFrom [] s))
+    ended a ih = ih (a .given .state) (a .store) (number + 1) _ ∙ append-assoc out _ _
 
     go : (t : Bool)
-        → closed (fed (at st rows blocks number out (line ++ (b ∷ []))) s) .out ≡ out ++ answers st rows blocks (number + 1) (linesFrom (line ++ (b ∷ [])) s)
-        → ((st' : State) (rows' blocks' : List ℕ) (number' : ℕ) (out' : List ℕ)
-        → closed (fed (at st' rows' blocks' number' out' []) s) .out ≡ out' ++ answers st' rows' blocks' (number' + 1) (linesFrom [] s))
-        → closed (fed (cond t (answered (grown (at st rows blocks number out line) (b ∷ []))) (grown (at st rows blocks number out line) (b ∷ []))) s) .out
-        ≡ out ++ answers st rows blocks (number + 1) (cond t ((line ++ (b ∷ [])) ∷ linesFrom [] s) (linesFrom (line ++ (b ∷ [])) s))
+        → closed (fed (at st store number out (line ++ (b ∷ []))) s) .out ≡ out ++ answers st store (number + 1) (linesFrom (line ++ (b ∷ [])) s)
+        → ((st' : State) (store' : List ℕ) (number' : ℕ) (out' : List ℕ)
+        → closed (fed (at st' store' number' out' []) s) .out ≡ out' ++ answers st' store' (number' + 1) (linesFrom [] s))
+        → closed (fed (cond t (answered (grown (at st store number out line) (b ∷ []))) (grown (at st store number out line) (b ∷ []))) s) .out
+        ≡ out ++ answers st store (number + 1) (cond t ((line ++ (b ∷ [])) ∷ linesFrom [] s) (linesFrom (line ++ (b ∷ [])) s))
     go true keep ih =
         ap (λ (p : Running). closed (fed p s) .out)
-        (ap answered (grown-at st rows blocks number out line b) ∙ answered-at st rows blocks number out (line ++ (b ∷ [])))
-        ∙ ended (step st rows blocks (line ++ (b ∷ []))) ih
-    go false keep ih = ap (λ (p : Running). closed (fed p s) .out) (grown-at st rows blocks number out line b) ∙ keep
+        (ap answered (grown-at st store number out line b) ∙ answered-at st store number out (line ++ (b ∷ [])))
+        ∙ ended (step st store (line ++ (b ∷ []))) ih
+    go false keep ih = ap (λ (p : Running). closed (fed p s) .out) (grown-at st store number out line b) ∙ keep
 
 pub prints-answers : PrintsAnswers
 unfolding output printed
-prints-answers input = by-lines input [] firstState (replicate 9216 0) (replicate 1056 0) 0 header
+prints-answers input = by-lines input [] firstState (replicate storeRoom 0) 0 header
 
 -- ---- what was printed before stays: the program prints and goes on with nothing printed
 abbrev pub behind : List ℕ → Running → Running
-behind o p = record { state = p .state; rows = p .rows; blocks = p .blocks; line = p .line; number = p .number; out = o ++ p .out }
+behind o p = record { state = p .state; store = p .store; line = p .line; number = p .number; out = o ++ p .out }
 
 module _ (o : List ℕ) where
   answered-behind : (p : Running) → answered (behind o p) ≡ behind o (answered p)
   unfolding answered
   answered-behind p =
-      let a : After = step (p .state) (p .rows) (p .blocks) (p .line) in
-      ap (λ (z : List ℕ). record { state = a .given .state; rows = a .rows; blocks = a .blocks; line = []; number = p .number + 1; out = z })
+      let a : After = step (p .state) (p .store) (p .line) in
+      ap (λ (z : List ℕ). record { state = a .given .state; store = a .store; line = []; number = p .number + 1; out = z })
       (append-assoc o (p .out) _)
 
   taken-behind : (p : Running) (b : ℕ) → taken (behind o p) b ≡ behind o (taken p b)
@@ -105,7 +107,7 @@ module _ (o : List ℕ) where
 -- ---- chunk by chunk, each printed before the next
 apart : (p : Running) → p ≡ behind (p .out) (drained p)
 apart p =
-    ap (λ (z : List ℕ). record { state = p .state; rows = p .rows; blocks = p .blocks; line = p .line; number = p .number; out = z })
+    ap (λ (z : List ℕ). record { state = p .state; store = p .store; line = p .line; number = p .number; out = z })
     (sym (append-nil (p .out)))
 
 -- what was printed, and what the rest prints

@@ -2,12 +2,13 @@
 use Prim.Native.Nat.{ℕ, _+_, _-_, _*_, _≤_, _<_, _^_}
 use mathlib.Core.Path.{_≡_}
 use mathlib.Core.List.{List, [], _∷_, _++_}
-use mathlib.Core.Bool.{false, cond}
+use mathlib.Core.Bool.{cond}
 use lib.ListN.{length, getD, take, drop, replicate}
 use lib.Dec.{eqb}
-use Rattle.session.specs.Sessions.{sessionOf}
+use Rattle.store.specs.Sizes.{storeRoom}
 use Rattle.interpreter.specs.declared.State.{State}
-use Rattle.interpreter.specs.Step.{step, After, Ready}
+use Rattle.interpreter.specs.States.{After, firstState}
+use Rattle.interpreter.specs.Stepping.{step, Ready}
 use Rattle.transcript.specs.declared.Feed.{Feed}
 use Rattle.transcript.specs.Text.{header, answerText, longestAnswer}
 use Rattle.transcript.specs.Lines.{cut, keptLength, laid}
@@ -15,8 +16,7 @@ use Rattle.transcript.specs.Lines.{cut, keptLength, laid}
 -- The program between two bytes: what it keeps, the line begun, how many lines were answered, and what was printed.
 pub record Running : Type 0 where
   pub state : State
-  pub rows : List ℕ
-  pub blocks : List ℕ
+  pub store : List ℕ
   pub line : List ℕ
   pub number : ℕ
   pub out : List ℕ
@@ -26,23 +26,21 @@ abbrev pub leftBy : Running → After → Running
 leftBy p a =
     record {
       state = a .given .state;
-      rows = a .rows;
-      blocks = a .blocks;
+      store = a .store;
       line = [];
       number = p .number + 1;
       out = p .out ++ answerText (p .number + 1) (a .given .refusal) (a .given .value);
     }
 
 unfoldable pub answered : Running → Running
-answered p = leftBy p (step (p .state) (p .rows) (p .blocks) (p .line))
+answered p = leftBy p (step (p .state) (p .store) (p .line))
 
 -- Bytes of the line begun.
 unfoldable pub grown : Running → List ℕ → Running
 grown p s =
     record {
       state = p .state;
-      rows = p .rows;
-      blocks = p .blocks;
+      store = p .store;
       line = cut (p .line ++ s);
       number = p .number;
       out = p .out;
@@ -60,16 +58,12 @@ fed p (b ∷ s) = fed (taken p b) s
 unfoldable pub closed : Running → Running
 closed p = cond (eqb (length (p .line)) 0) p (answered p)
 
--- Before the first byte: no `S` accepted, an empty record, the header printed.
-abbrev pub firstState : State
-firstState = record { session = sessionOf 0 0 0 0; started = false; kept = 0 }
-
+-- Before the first byte: no `S` accepted, an empty store, the header printed.
 abbrev pub begun : Running
 begun =
     record {
       state = firstState;
-      rows = replicate 9216 0;
-      blocks = replicate 1056 0;
+      store = replicate storeRoom 0;
       line = [];
       number = 0;
       out = header;
@@ -82,7 +76,7 @@ output input = closed (fed begun input) .out
 -- ---- the same by chunks
 -- What was answered is taken out to be printed; the rest stays.
 abbrev pub drained : Running → Running
-drained p = record { state = p .state; rows = p .rows; blocks = p .blocks; line = p .line; number = p .number; out = [] }
+drained p = record { state = p .state; store = p .store; line = p .line; number = p .number; out = [] }
 
 -- The program after chunks, each of which was taken and its answers printed.
 unfoldable pub passed : Running → List (List ℕ) → Running
@@ -114,14 +108,14 @@ linesFrom line (b ∷ s) = cond (eqb b 10) ((line ++ (b ∷ [])) ∷ linesFrom [
 abbrev pub withAnswer : ℕ → After → (After → List ℕ) → List ℕ
 withAnswer number a rest = answerText number (a .given .refusal) (a .given .value) ++ rest a
 
-unfoldable pub answers : State → List ℕ → List ℕ → ℕ → List (List ℕ) → List ℕ
-answers st rows blocks number [] = []
-answers st rows blocks number (l ∷ ls) =
-    withAnswer number (step st rows blocks l) (λ a. answers (a .given .state) (a .rows) (a .blocks) (number + 1) ls)
+unfoldable pub answers : State → List ℕ → ℕ → List (List ℕ) → List ℕ
+answers st store number [] = []
+answers st store number (l ∷ ls) =
+    withAnswer number (step st store l) (λ a. answers (a .given .state) (a .store) (number + 1) ls)
 
 -- The header, and an answer to each line.
 unfoldable pub printed : List ℕ → List ℕ
-printed input = header ++ answers firstState (replicate 9216 0) (replicate 1056 0) 1 (linesFrom [] input)
+printed input = header ++ answers firstState (replicate storeRoom 0) 1 (linesFrom [] input)
 
 -- The definition's output is that, for every input.
 abbrev pub PrintsAnswers : Type 0
@@ -129,12 +123,11 @@ PrintsAnswers = (input : List ℕ) → output input ≡ printed input
 
 -- ---- between the functions of the code
 -- What the code's values stand for.
-abbrev pub running : Feed → List ℕ → List ℕ → List ℕ → List ℕ → Running
-running f rows blocks line out =
+abbrev pub running : Feed → List ℕ → List ℕ → List ℕ → Running
+running f store line out =
     record {
       state = f .state;
-      rows = rows;
-      blocks = blocks;
+      store = store;
       line = take (f .len) line;
       number = f .number;
       out = take (f .at) out;
@@ -147,8 +140,8 @@ abbrev pub drainedFeed : Feed → Feed
 drainedFeed f = record { state = f .state; number = f .number; len = f .len; at = 0 }
 
 -- What holds between bytes, with room for k more.
-pub record Open (f : Feed) (rows blocks line out : List ℕ) (k : ℕ) : Type 0 where
-  pub ready : Ready (f .state) rows blocks
+pub record Open (f : Feed) (store line out : List ℕ) (k : ℕ) : Type 0 where
+  pub ready : Ready (f .state) store
   pub line-room : length line ≡ keptLength
   pub len-in : f .len ≤ keptLength
   pub numbers : f .number + k < 2 ^ 64
@@ -169,8 +162,8 @@ pub record Added (f r : Feed) (out out' : List ℕ) : Type 0 where
   pub behind : drop (r .at) out' ≡ drop (r .at) out
 
 -- What is left after k bytes more.
-pub record Fed (f r : Feed) (rows blocks : List ℕ) (k : ℕ) : Type 0 where
-  pub ready : Ready (r .state) rows blocks
+pub record Fed (f r : Feed) (store : List ℕ) (k : ℕ) : Type 0 where
+  pub ready : Ready (r .state) store
   pub len-in : r .len ≤ keptLength
   pub numbers : r .number ≤ f .number + k
   pub room : r .at ≤ f .at + longestAnswer * k

@@ -2,19 +2,24 @@
 mod limits;
 
 use interpreter::State;
-use session::Session;
 ghost use mathlib.Core.Path.{_≡_};
 ghost use mathlib.Core.Bool.{cond};
 ghost use mathlib.Core.List.{_++_};
 ghost use Prim.Native.Nat.{_+_, _≤_};
 ghost use lib.ListN.{length, take, drop};
 ghost use lib.Dec.{ltb};
-ghost use Rattle.interpreter.specs.Step.{Ready};
+ghost use Rattle.interpreter.specs.Stepping.{Ready};
 ghost use Rattle.csv.specs.Fields.{overwrite};
 ghost use Rattle.transcript.specs.Text.{header, longSize, longNumeral, answerText, longestAnswer};
 ghost use Rattle.transcript.specs.Lines.{segment, keptLength, cut, laid};
 ghost use Rattle.transcript.specs.Limits.{feedRefusal, Moved};
 ghost use Rattle.transcript.specs.Program.{running, answered, segmented, fed, closed, lineAfter, drainedFeed, firstFeed, Open, Added, Fed};
+
+// Of a line that is too long, one byte more than the longest line has is kept: enough to tell.
+pub const KEPT: usize = interpreter::LONGEST_LINE + 1;
+
+// No answer is longer.
+pub const LONGEST_ANSWER: usize = 43;
 
 // `line,refusal,value`
 pub fn header() -> [u8; 19]
@@ -94,13 +99,13 @@ fn append(line: &mut [u8], len: usize, part: &[u8]) -> usize
     ensures { λ r. ⌜ (r ≤ keptLength) × (take r (now (line .exit)) ≡ cut (take len (now (line .entry)) ++ now (part .entry))) ⌝ }
     ensures { λ r. ⌜ now (line .exit) ≡ laid len (now (part .entry)) (now (line .entry)) ⌝ }
 {
-    let count = least(1062 - len, part.len());
+    let count = least(KEPT - len, part.len());
     let end = len + count;
     copy(&part[..count], &mut line[len..end]);
     end
 }
 
-// The program between two bytes, beside the rows, the record, the line begun and the answers.
+// The program between two bytes, beside the store, the line begun and the answers.
 pub struct Feed {
     pub state: State,
     // how many lines were answered
@@ -118,14 +123,14 @@ pub struct Progress {
 }
 
 // The line begun is taken, and its answer written.
-fn end_line(feed: Feed, rows: &mut [u32], blocks: &mut [u32], line: &[u8], out: &mut [u8]) -> Feed
-    requires { ⌜ Open feed (now rows) (now blocks) (now line) (now out) 1 ⌝ }
-    ensures { λ r. ⌜ running r (now (rows .exit)) (now (blocks .exit)) (now (line .entry)) (now (out .exit)) ≡ answered (running feed (now (rows .entry)) (now (blocks .entry)) (now (line .entry)) (now (out .entry))) ⌝ }
-    ensures { λ r. ⌜ Ready (r .state) (now (rows .exit)) (now (blocks .exit)) × (r .len ≡ 0) × (r .number ≡ feed .number + 1) × (r .at ≤ feed .at + longestAnswer) ⌝ }
+fn end_line(feed: Feed, store: &mut [u32], line: &[u8], out: &mut [u8]) -> Feed
+    requires { ⌜ Open feed (now store) (now line) (now out) 1 ⌝ }
+    ensures { λ r. ⌜ running r (now (store .exit)) (now (line .entry)) (now (out .exit)) ≡ answered (running feed (now (store .entry)) (now (line .entry)) (now (out .entry))) ⌝ }
+    ensures { λ r. ⌜ Ready (r .state) (now (store .exit)) × (r .len ≡ 0) × (r .number ≡ feed .number + 1) × (r .at ≤ feed .at + longestAnswer) ⌝ }
     ensures { λ r. ⌜ Added feed r (now (out .entry)) (now (out .exit)) ⌝ }
 {
     let len = feed.len;
-    let stepped = interpreter::step(feed.state, rows, blocks, &line[..len]);
+    let stepped = interpreter::step(feed.state, store, &line[..len]);
     let number = feed.number + 1;
     let at = put_answer(out, feed.at, number, stepped.refusal, stepped.value);
     let state = stepped.state;
@@ -138,17 +143,10 @@ fn end_line(feed: Feed, rows: &mut [u32], blocks: &mut [u32], line: &[u8], out: 
 }
 
 // A part of a line: its bytes are kept, and a line feed at its end ends the line.
-fn take_part(
-    feed: Feed,
-    rows: &mut [u32],
-    blocks: &mut [u32],
-    line: &mut [u8],
-    part: &[u8],
-    out: &mut [u8],
-) -> Feed
-    requires { ⌜ Open feed (now rows) (now blocks) (now line) (now out) 1 × (1 ≤ length (now part)) ⌝ }
-    ensures { λ r. ⌜ running r (now (rows .exit)) (now (blocks .exit)) (now (line .exit)) (now (out .exit)) ≡ segmented (running feed (now (rows .entry)) (now (blocks .entry)) (now (line .entry)) (now (out .entry))) (now (part .entry)) ⌝ }
-    ensures { λ r. ⌜ Fed feed r (now (rows .exit)) (now (blocks .exit)) 1 × Added feed r (now (out .entry)) (now (out .exit)) ⌝ }
+fn take_part(feed: Feed, store: &mut [u32], line: &mut [u8], part: &[u8], out: &mut [u8]) -> Feed
+    requires { ⌜ Open feed (now store) (now line) (now out) 1 × (1 ≤ length (now part)) ⌝ }
+    ensures { λ r. ⌜ running r (now (store .exit)) (now (line .exit)) (now (out .exit)) ≡ segmented (running feed (now (store .entry)) (now (line .entry)) (now (out .entry))) (now (part .entry)) ⌝ }
+    ensures { λ r. ⌜ Fed feed r (now (store .exit)) 1 × Added feed r (now (out .entry)) (now (out .exit)) ⌝ }
     ensures { λ r. ⌜ now (line .exit) ≡ laid (feed .len) (now (part .entry)) (now (line .entry)) ⌝ }
 {
     let len = append(line, feed.len, part);
@@ -161,30 +159,23 @@ fn take_part(
     };
     let last = part.len() - 1;
     if part[last] == 10 {
-        return end_line(grown, rows, blocks, line, out);
+        return end_line(grown, store, line, out);
     }
     grown
 }
 
 // A chunk of the input, where there is room.
-fn take_chunk(
-    feed: Feed,
-    rows: &mut [u32],
-    blocks: &mut [u32],
-    line: &mut [u8],
-    chunk: &[u8],
-    out: &mut [u8],
-) -> Feed
-    requires { ⌜ Open feed (now rows) (now blocks) (now line) (now out) (length (now chunk)) ⌝ }
-    ensures { λ r. ⌜ running r (now (rows .exit)) (now (blocks .exit)) (now (line .exit)) (now (out .exit)) ≡ fed (running feed (now (rows .entry)) (now (blocks .entry)) (now (line .entry)) (now (out .entry))) (now (chunk .entry)) ⌝ }
-    ensures { λ r. ⌜ Fed feed r (now (rows .exit)) (now (blocks .exit)) (length (now (chunk .entry))) × Added feed r (now (out .entry)) (now (out .exit)) ⌝ }
-    ensures { λ r. ⌜ now (line .exit) ≡ lineAfter (running feed (now (rows .entry)) (now (blocks .entry)) (now (line .entry)) (now (out .entry))) (now (line .entry)) (now (chunk .entry)) ⌝ }
+fn take_chunk(feed: Feed, store: &mut [u32], line: &mut [u8], chunk: &[u8], out: &mut [u8]) -> Feed
+    requires { ⌜ Open feed (now store) (now line) (now out) (length (now chunk)) ⌝ }
+    ensures { λ r. ⌜ running r (now (store .exit)) (now (line .exit)) (now (out .exit)) ≡ fed (running feed (now (store .entry)) (now (line .entry)) (now (out .entry))) (now (chunk .entry)) ⌝ }
+    ensures { λ r. ⌜ Fed feed r (now (store .exit)) (length (now (chunk .entry))) × Added feed r (now (out .entry)) (now (out .exit)) ⌝ }
+    ensures { λ r. ⌜ now (line .exit) ≡ lineAfter (running feed (now (store .entry)) (now (line .entry)) (now (out .entry))) (now (line .entry)) (now (chunk .entry)) ⌝ }
 {
     let mut present = feed;
     let mut i = 0;
     while i < chunk.len() {
         let end = line_end(chunk, i);
-        present = take_part(present, rows, blocks, line, &chunk[i..end], out);
+        present = take_part(present, store, line, &chunk[i..end], out);
         i = end;
     }
     present
@@ -208,13 +199,7 @@ pub fn drain(feed: Feed) -> Feed
 pub fn begin() -> Feed
     ensures { λ r. ⌜ r ≡ firstFeed ⌝ }
 {
-    let none = Session::new(0, 0, 0, 0);
-    let session = none.session;
-    let state = State {
-        session,
-        started: false,
-        kept: 0,
-    };
+    let state = State::first();
     Feed {
         state,
         number: 0,
@@ -224,33 +209,32 @@ pub fn begin() -> Feed
 }
 
 // The end of the input ends a line that was begun, where there is room.
-fn take_end(feed: Feed, rows: &mut [u32], blocks: &mut [u32], line: &[u8], out: &mut [u8]) -> Feed
-    requires { ⌜ Open feed (now rows) (now blocks) (now line) (now out) 1 ⌝ }
-    ensures { λ r. ⌜ running r (now (rows .exit)) (now (blocks .exit)) (now (line .entry)) (now (out .exit)) ≡ closed (running feed (now (rows .entry)) (now (blocks .entry)) (now (line .entry)) (now (out .entry))) ⌝ }
-    ensures { λ r. ⌜ Fed feed r (now (rows .exit)) (now (blocks .exit)) 1 × Added feed r (now (out .entry)) (now (out .exit)) ⌝ }
+fn take_end(feed: Feed, store: &mut [u32], line: &[u8], out: &mut [u8]) -> Feed
+    requires { ⌜ Open feed (now store) (now line) (now out) 1 ⌝ }
+    ensures { λ r. ⌜ running r (now (store .exit)) (now (line .entry)) (now (out .exit)) ≡ closed (running feed (now (store .entry)) (now (line .entry)) (now (out .entry))) ⌝ }
+    ensures { λ r. ⌜ Fed feed r (now (store .exit)) 1 × Added feed r (now (out .entry)) (now (out .exit)) ⌝ }
 {
     if feed.len == 0 {
         return feed;
     }
-    end_line(feed, rows, blocks, line, out)
+    end_line(feed, store, line, out)
 }
 
 // A chunk of the input.
 pub fn feed_chunk(
     feed: Feed,
-    rows: &mut [u32],
-    blocks: &mut [u32],
+    store: &mut [u32],
     line: &mut [u8],
     chunk: &[u8],
     out: &mut [u8],
 ) -> Progress
-    ensures { λ r. ⌜ Moved (feedRefusal feed (now (rows .entry)) (now (blocks .entry)) (now (line .entry)) (now (out .entry)) (length (now (chunk .entry)))) (length (now (chunk .entry))) feed (now (rows .entry)) (now (blocks .entry)) (now (line .entry)) (now (out .entry)) (fed (running feed (now (rows .entry)) (now (blocks .entry)) (now (line .entry)) (now (out .entry))) (now (chunk .entry))) (lineAfter (running feed (now (rows .entry)) (now (blocks .entry)) (now (line .entry)) (now (out .entry))) (now (line .entry)) (now (chunk .entry))) r (now (rows .exit)) (now (blocks .exit)) (now (line .exit)) (now (out .exit)) ⌝ }
+    ensures { λ r. ⌜ Moved (feedRefusal feed (now (store .entry)) (now (line .entry)) (now (out .entry)) (length (now (chunk .entry)))) (length (now (chunk .entry))) feed (now (store .entry)) (now (line .entry)) (now (out .entry)) (fed (running feed (now (store .entry)) (now (line .entry)) (now (out .entry))) (now (chunk .entry))) (lineAfter (running feed (now (store .entry)) (now (line .entry)) (now (out .entry))) (now (line .entry)) (now (chunk .entry))) r (now (store .exit)) (now (line .exit)) (now (out .exit)) ⌝ }
 {
-    let refusal = limits::open_refusal(feed, rows, blocks, line, out, chunk.len());
+    let refusal = limits::open_refusal(feed, store, line, out, chunk.len());
     if refusal != 0 {
         return Progress { refusal, feed };
     }
-    let after = take_chunk(feed, rows, blocks, line, chunk, out);
+    let after = take_chunk(feed, store, line, chunk, out);
     Progress {
         refusal: 0,
         feed: after,
@@ -258,20 +242,14 @@ pub fn feed_chunk(
 }
 
 // The end of the input ends a line that was begun.
-pub fn end_input(
-    feed: Feed,
-    rows: &mut [u32],
-    blocks: &mut [u32],
-    line: &[u8],
-    out: &mut [u8],
-) -> Progress
-    ensures { λ r. ⌜ Moved (feedRefusal feed (now (rows .entry)) (now (blocks .entry)) (now (line .entry)) (now (out .entry)) 1) 1 feed (now (rows .entry)) (now (blocks .entry)) (now (line .entry)) (now (out .entry)) (closed (running feed (now (rows .entry)) (now (blocks .entry)) (now (line .entry)) (now (out .entry)))) (now (line .entry)) r (now (rows .exit)) (now (blocks .exit)) (now (line .entry)) (now (out .exit)) ⌝ }
+pub fn end_input(feed: Feed, store: &mut [u32], line: &[u8], out: &mut [u8]) -> Progress
+    ensures { λ r. ⌜ Moved (feedRefusal feed (now (store .entry)) (now (line .entry)) (now (out .entry)) 1) 1 feed (now (store .entry)) (now (line .entry)) (now (out .entry)) (closed (running feed (now (store .entry)) (now (line .entry)) (now (out .entry)))) (now (line .entry)) r (now (store .exit)) (now (line .entry)) (now (out .exit)) ⌝ }
 {
-    let refusal = limits::open_refusal(feed, rows, blocks, line, out, 1);
+    let refusal = limits::open_refusal(feed, store, line, out, 1);
     if refusal != 0 {
         return Progress { refusal, feed };
     }
-    let after = take_end(feed, rows, blocks, line, out);
+    let after = take_end(feed, store, line, out);
     Progress {
         refusal: 0,
         feed: after,

@@ -1,6 +1,6 @@
 -- `finish` closes the input, unless the program broke off.
 use borrow.Author.Needs.{needs}
-use Rattle.interpreter.proofs.Hearing.{prefix-length}
+use Rattle.console.proofs.Feeding.{prefix-length}
 use Rattle.console.proofs.Closing.{finished-broken, unbroken-whole, last-in, finished-closed}
 use Rattle.console.proofs.finish.Statement.{statement}
 use Rattle.console.proofs.finish.Tie as tie
@@ -11,5 +11,5 @@ pub finish-spec : {M : Type 1} → statement M
 finish-spec =
     tie.close
     (tie.spec (λ c κs. search needs) (λ c. search ends) (λ c κs. search needs)
-    (λ c. search ends) (λ c. search ends) (λ c κs. search ends) (λ c. search needs) (λ c. search needs) (λ c. search needs)
+    (λ c. search ends) (λ c. search ends) (λ c κs. search ends) (λ c. search needs) (λ c. search needs)
     (λ c. search ends))

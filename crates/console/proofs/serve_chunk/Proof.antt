@@ -14,15 +14,15 @@ lends c = search ends
 
 requires : tie.Need-answer-chunk-requires
 requires c κs =
-    let read = c .before .before .before .before .before .before .before .before in
-    let start = read .before .before .before .before .before .before .before in
+    let read = c .before .before .before .before .before .before .before in
+    let start = read .before .before .before .before .before .before in
     let room : length (read .read .last .1 .0) ≡ chunkSize = search (needs, start .pre) in
     (start .pre .0, search (ends, room), start .pre .2)
 
 returns : tie.Need-returns
 returns c =
-    let called = c .before .before .before .before .before .before .before .before .before .before in
-    let counted = called .before .before .before .before .before .before in
+    let called = c .before .before .before .before .before .before .before .before in
+    let counted = called .before .before .before .before .before in
     let read = counted .before .before .before in (
       answered-read _ _ (counted .count .result) (read .read .result .count) (read .read .last .1 .0) _ _ _ (counted .count .ensures)
           (called .answer-chunk .ensures .0),
@@ -33,4 +33,4 @@ pub serve-chunk-spec : {M : Type 1} → statement M
 serve-chunk-spec =
     tie.close
     (tie.spec (λ c κs. search needs) (λ c κs. search needs) (λ c. search needs) lends requires
-    (λ c. search needs) (λ c. search needs) (λ c. search needs) (λ c. search needs) (λ c. search needs) returns)
+    (λ c. search needs) (λ c. search needs) (λ c. search needs) (λ c. search needs) returns)

@@ -1,9 +1,10 @@
+-- `late` meets its contract.
 use borrow.Author.Needs.{needs}
-use Rattle.interpreter.proofs.Ends.{late-long, late-empty, late-load, late-deal, late-keep, late-open, late-other}
+use Rattle.interpreter.proofs.Ends.{letter-deal, letter-opening, late-long, late-empty, late-load, late-open, late-deal, late-opening, late-other, ready-range, ready-store}
 use Rattle.interpreter.proofs.late.Statement.{statement}
 use Rattle.interpreter.proofs.late.Tie as tie
 
-ruleset ends = (needs, late-long, late-empty, late-load, late-deal, late-keep, late-open, late-other)
+ruleset ends = (needs, letter-deal, letter-opening, late-long, late-empty, late-load, late-open, late-deal, late-opening, late-other, ready-range, ready-store)
 
 pub late-spec : {M : Type 1} → statement M
 late-spec =
@@ -11,4 +12,4 @@ late-spec =
     (tie.spec (λ c κs. search ends) (λ c. search ends) (λ c κs. search ends) (λ c. search ends) (λ c. search ends)
     (λ c κs. search ends) (λ c κs. search ends) (λ c κs. search ends) (λ c κs. search ends) (λ c κs. search ends)
     (λ c. search ends) (λ c. search ends) (λ c. search ends) (λ c. search ends) (λ c. search ends) (λ c. search ends)
-    (λ c. search ends) (λ c. search ends) (λ c. search ends) (λ c. search ends))
+    (λ c. search ends) (λ c. search ends) (λ c. search ends))

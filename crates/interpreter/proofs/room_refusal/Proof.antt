@@ -1,3 +1,4 @@
+-- `room_refusal` meets its contract.
 use borrow.Author.Needs.{needs}
 use Rattle.interpreter.proofs.Room.{room-joined}
 use Rattle.interpreter.proofs.room_refusal.Statement.{statement}

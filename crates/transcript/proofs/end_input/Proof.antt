@@ -9,18 +9,18 @@ ruleset ends = (needs, moved-nothing)
 -- what the calls ensured and the test lie too deep for `search` to find
 take-end-requires : tie.Need-take-end-requires
 take-end-requires c κs =
-    let fine = c .before .before .before in
-    none-open _ _ _ _ _ _ _ (fine .before .open-refusal .ensures) (fine .if1 .left)
+    let fine = c .before .before in
+    none-open _ _ _ _ _ _ (fine .before .open-refusal .ensures) (fine .if1 .left)
 
 returns-2 : tie.Need-returns-2
 returns-2 c =
-    let done = c .before .before .before .before .before .before in
-    let fine = done .before .before .before .before in
+    let done = c .before .before .before .before in
+    let fine = done .before .before .before in
     let e = done .take-end .ensures in
-    moved _ _ _ _ _ _ _ _ _ (fine .before .open-refusal .ensures) _ _ _ _ _ (fine .if1 .left) (e .0) refl (e .1 .0) (e .1 .1)
+    moved _ _ _ _ _ _ _ _ (fine .before .open-refusal .ensures) _ _ _ _ (fine .if1 .left) (e .0) refl (e .1 .0) (e .1 .1)
 
 pub end-input-spec : {M : Type 1} → statement M
 end-input-spec =
     tie.close
-    (tie.spec (λ c κs. search ends) (λ c. search ends) (λ c. search ends) (λ c. search ends) (λ c. search ends)
-    take-end-requires (λ c. search ends) (λ c. search ends) (λ c. search ends) returns-2)
+    (tie.spec (λ c κs. search ends) (λ c. search ends) (λ c. search ends) (λ c. search ends)
+    take-end-requires (λ c. search ends) (λ c. search ends) returns-2)

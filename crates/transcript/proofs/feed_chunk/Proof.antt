@@ -8,19 +8,19 @@ ruleset ends = (needs, moved-nothing)
 -- what the calls ensured and the test lie too deep for `search` to find
 take-chunk-requires : tie.Need-take-chunk-requires
 take-chunk-requires c κs =
-    let fine = c .before .before .before .before in
-    none-open _ _ _ _ _ _ _ (fine .before .open-refusal .ensures) (fine .if1 .left)
+    let fine = c .before .before .before in
+    none-open _ _ _ _ _ _ (fine .before .open-refusal .ensures) (fine .if1 .left)
 
 returns-2 : tie.Need-returns-2
 returns-2 c =
-    let done = c .before .before .before .before .before .before .before .before in
-    let fine = done .before .before .before .before .before in
+    let done = c .before .before .before .before .before .before in
+    let fine = done .before .before .before .before in
     let e = done .take-chunk .ensures in
-    moved _ _ _ _ _ _ _ _ _ (fine .before .open-refusal .ensures) _ _ _ _ _ (fine .if1 .left) (e .0) (e .1 .1) (e .1 .0 .0) (e .1 .0 .1)
+    moved _ _ _ _ _ _ _ _ (fine .before .open-refusal .ensures) _ _ _ _ (fine .if1 .left) (e .0) (e .1 .1) (e .1 .0 .0) (e .1 .0 .1)
 
 pub feed-chunk-spec : {M : Type 1} → statement M
 feed-chunk-spec =
     tie.close
-    (tie.spec (λ c κs. search ends) (λ c. search ends) (λ c. search ends) (λ c. search ends) (λ c. search ends)
-    (λ c. search ends) take-chunk-requires (λ c. search ends) (λ c. search ends) (λ c. search ends)
+    (tie.spec (λ c κs. search ends) (λ c. search ends) (λ c. search ends) (λ c. search ends)
+    (λ c. search ends) take-chunk-requires (λ c. search ends) (λ c. search ends)
     (λ c. search ends) returns-2)

@@ -6,11 +6,11 @@ use Rattle.transcript.proofs.take_chunk.Statement.{statement}
 use Rattle.transcript.proofs.take_chunk.Tie as tie
 
 abbrev Inv-loop : tie.InvT-loop
-Inv-loop rows₀ blocks₀ line₀ chunk out₀ present₀ i₀ rows blocks line out present i =
-    Midway present₀ rows₀ blocks₀ line₀ chunk out₀ present rows blocks line out i
+Inv-loop store₀ line₀ chunk out₀ present₀ i₀ store line out present i =
+    Midway present₀ store₀ line₀ chunk out₀ present store line out i
 
 abbrev μ-loop : tie.MeasureT-loop
-μ-loop rows₀ blocks₀ line₀ chunk out₀ present₀ i₀ rows blocks line out present i = length chunk - i
+μ-loop store₀ line₀ chunk out₀ present₀ i₀ store line out present i = length chunk - i
 
 ruleset turns = (needs, midway-start, midway-done, midway-fed, midway-added, midway-line, chunk-behind, chunk-within, chunk-less, chunk-part, chunk-room, midway-more)
 
@@ -19,4 +19,4 @@ take-chunk-spec =
     tie.close
     (tie.spec Inv-loop μ-loop (λ c. search turns) (λ c κs. search turns) (λ c. search turns) (λ c. search turns)
     (λ c. search turns) (λ c κs. search turns) (λ c. search turns) (λ c. search turns) (λ c. search turns)
-    (λ c. search turns) (λ c. search turns) (λ c. search turns) (λ c. (search turns, ((search turns, search turns), search turns))))
+    (λ c. search turns) (λ c. search turns) (λ c. (search turns, ((search turns, search turns), search turns))))

@@ -8,5 +8,5 @@ ruleset ends = (needs, none-added, close-nothing, close-line)
 pub take-end-spec : {M : Type 1} → statement M
 take-end-spec =
     tie.close
-    (tie.spec (λ c. (search ends, (search ends, search ends))) (λ c κs. search ends) (λ c. search ends) (λ c. search ends)
+    (tie.spec (λ c. (search ends, (search ends, search ends))) (λ c κs. search ends) (λ c. search ends)
     (λ c. search ends) (λ c. (search ends, (search ends, search ends))))

@@ -8,10 +8,10 @@ ruleset ends = (needs, none-added, behind-added, part-ended, part-kept, part-ope
 -- the facts that lie too deep for `search` to find: what the calls ensured, the test, what the function requires
 returns : tie.Need-returns
 returns c =
-    let ended = c .before .before .before .before .before .before in
-    let test = ended .before .before .before .before .before in
+    let ended = c .before .before .before .before in
+    let test = ended .before .before .before .before in
     let longer = test .before .before .before .before .before in
-    let start = longer .before .before .before .before .before .before .before in
+    let start = longer .before .before .before .before .before .before in
     let e = ended .end-line .ensures in
     let a = longer .append .ensures in
     (search (part-ended, e .0, test .if1 .taken, a, start .pre), ((search (ended-fed, e .1 .0, start .pre), search (behind-added, e .1 .1)), search (a .1)))
@@ -20,5 +20,5 @@ pub take-part-spec : {M : Type 1} → statement M
 take-part-spec =
     tie.close
     (tie.spec (λ c κs. search ends) (λ c. search ends) (λ c. search ends) (λ c κs. search ends) (λ c. search ends)
-    (λ c. search ends) (λ c. search ends) (λ c. search ends) returns (λ c. search ends)
+    (λ c. search ends) (λ c. search ends) returns (λ c. search ends)
     (λ c. (search ends, ((search ends, search ends), search ends))))

@@ -1,15 +1,12 @@
+-- `letters::open` meets its contract.
 use borrow.Author.Needs.{needs}
-use Rattle.opening.proofs.Fronts.{front-length}
-use Rattle.interpreter.proofs.Calling.{answered-as, record-fits, record-prefix}
-use Rattle.interpreter.proofs.Hearing.{prefix-length}
+use Rattle.interpreter.proofs.Calling.{rows-in, rows-prefix, open-called}
 use Rattle.interpreter.proofs.letters.open.Statement.{statement}
 use Rattle.interpreter.proofs.letters.open.Tie as tie
 
-ruleset ends = (needs, answered-as, record-fits, record-prefix, prefix-length)
+ruleset ends = (needs, rows-in, rows-prefix, open-called)
 
 pub open-spec : {M : Type 1} → statement M
 open-spec =
     tie.close
-    (tie.spec (λ c. search ends) (λ c. search ends) (λ c. search ends) (λ c. search ends) (λ c. search ends) (λ c. search ends)
-    (λ c. search ends) (λ c. front-length _ 9216 _ (search needs) (search needs)) (λ c. search ends)
-    (λ c κs. search ends) (λ c κs. search ends) (λ c. search ends))
+    (tie.spec (λ c κs. search ends) (λ c. search ends) (λ c κs. search ends) (λ c κs. search ends) (λ c. search ends))

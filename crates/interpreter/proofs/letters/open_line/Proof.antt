@@ -1,12 +1,13 @@
+-- `letters::open_line` meets its contract.
 use borrow.Author.Needs.{needs}
-use Rattle.interpreter.proofs.Calling.{open-refused, open-answered}
+use Rattle.interpreter.proofs.Calling.{open-refused, open-taken}
 use Rattle.interpreter.proofs.letters.open_line.Statement.{statement}
 use Rattle.interpreter.proofs.letters.open_line.Tie as tie
 
-ruleset ends = (needs, open-refused, open-answered)
+ruleset ends = (needs, open-refused, open-taken)
 
 pub open-line-spec : {M : Type 1} → statement M
 open-line-spec =
     tie.close
-    (tie.spec (λ c. search ends) (λ c. search ends) (λ c κs. search ends) (λ c κs. search ends) (λ c. search ends)
-    (λ c κs. search ends) (λ c. search ends))
+    (tie.spec (λ c. search ends) (λ c. search ends) (λ c. search ends) (λ c κs. search ends) (λ c κs. search ends)
+    (λ c. search ends) (λ c. search ends) (λ c κs. search ends) (λ c κs. search ends) (λ c. search ends))

@@ -1,12 +1,13 @@
+-- `starting::begin` meets its contract.
 use borrow.Author.Needs.{needs}
-use Rattle.interpreter.proofs.Settings.{begin-refused, begin-accepted}
+use Rattle.interpreter.proofs.Settings.{begin-many, begin-refused, begin-accepted}
 use Rattle.interpreter.proofs.starting.begin.Statement.{statement}
 use Rattle.interpreter.proofs.starting.begin.Tie as tie
 
-ruleset ends = (needs, begin-refused, begin-accepted)
+ruleset ends = (needs, begin-many, begin-refused, begin-accepted)
 
 pub begin-spec : {M : Type 1} → statement M
 begin-spec =
     tie.close
-    (tie.spec (λ c κs. search ends) (λ c κs. search ends) (λ c κs. search ends) (λ c. search ends)
-    (λ c κs. search ends) (λ c. search ends))
+    (tie.spec (λ c κs. search ends) (λ c. search ends) (λ c κs. search ends) (λ c κs. search ends) (λ c κs. search ends)
+    (λ c. search ends) (λ c κs. search ends) (λ c κs. search ends) (λ c. search ends))

@@ -1,3 +1,4 @@
+-- `starting::early` meets its contract.
 use borrow.Author.Needs.{needs}
 use Rattle.interpreter.proofs.Settings.{early-start, early-other}
 use Rattle.interpreter.proofs.starting.early.Statement.{statement}

@@ -1,3 +1,4 @@
+-- `starting::narrow` meets its contract.
 use borrow.Author.Needs.{needs}
 use Rattle.interpreter.proofs.Settings.{narrow-below, narrow-beyond}
 use Rattle.interpreter.proofs.starting.narrow.Statement.{statement}
@@ -8,4 +9,4 @@ ruleset ends = (needs, narrow-below, narrow-beyond)
 pub narrow-spec : {M : Type 1} → statement M
 narrow-spec =
     tie.close
-    (tie.spec (λ c. search ends) (λ c. search ends) (λ c. search ends))
+    (tie.spec (λ c. search ends) (λ c. search ends) (λ c. search ends) (λ c. search ends))

@@ -1,3 +1,4 @@
+-- `starting::start` meets its contract.
 use borrow.Author.Needs.{needs}
 use Rattle.interpreter.proofs.Settings.{start-long, start-wrong, start-settings}
 use Rattle.interpreter.proofs.starting.start.Statement.{statement}

@@ -1,0 +1,13 @@
+-- `messages::keep` meets its contract.
+use borrow.Author.Needs.{needs}
+use Rattle.interpreter.proofs.Hearing.{street-shape, shape-post, shape-message, store-within, kept-for}
+use Rattle.interpreter.proofs.messages.keep.Statement.{statement}
+use Rattle.interpreter.proofs.messages.keep.Tie as tie
+
+ruleset ends = (needs, street-shape, shape-post, shape-message, store-within, kept-for)
+
+pub keep-spec : {M : Type 1} → statement M
+keep-spec =
+    tie.close
+    (tie.spec (λ c κs. search ends) (λ c κs. search ends) (λ c κs. search ends) (λ c κs. search ends) (λ c. search ends)
+    (λ c. search ends))

@@ -1,0 +1,45 @@
+-- Document 01, "The street program": what one line does to the program's state.
+use Prim.Native.Nat.{ℕ}
+use mathlib.Core.Path.{_≡_}
+use mathlib.Core.List.{List, [], _∷_}
+use mathlib.Core.Bool.{true, cond, _||_}
+use lib.ListN.{length, getD}
+use lib.Dec.{eqb, ltb}
+use Rattle.refusal.specs.Refusal.{_when_, first, orElse}
+use Rattle.refusal.specs.Conditions.{wrongLength, postsTests}
+use Rattle.session.specs.Sessions.{shapeOf}
+use Rattle.store.specs.Sizes.{streetPosts, storeRoom, InStreet}
+use Rattle.interpreter.specs.declared.State.{State}
+use Rattle.interpreter.specs.States.{After, refusing, leaving, unless}
+use Rattle.interpreter.specs.Starting.{longestLine, earlyStep}
+use Rattle.interpreter.specs.Letters.{loadStep, openStep}
+use Rattle.interpreter.specs.Messages.{hearStep}
+
+-- By the letter: `R`, `G`, `D` and `O`; "a second `S` then gets 10, as does any other letter and any line over 1,061 bytes".
+unfoldable pub lateStep : State → List ℕ → List ℕ → After
+lateStep st store s =
+    let letter = getD s 0 0 in
+    cond (ltb longestLine (length s)) (leaving (refusing st 10) store)
+    (cond (eqb letter 82) (loadStep st store s)
+    (cond (eqb letter 71) (openStep st store s)
+    (cond (eqb letter 68 || eqb letter 79) (hearStep st store s)
+    (leaving (refusing st 10) store))))
+
+-- One line.
+unfoldable pub step : State → List ℕ → List ℕ → After
+step st store s = cond (st .started) (lateStep st store s) (leaving (earlyStep st s) store)
+
+-- Before the line is looked at: 1 and 2 of a session that no `S` can have made, 5 of the store, which has room for the largest.
+abbrev pub postsRefusal : State → ℕ
+postsRefusal st = cond (st .started) (first (1 when ltb streetPosts (st .session .n) ∷ postsTests (st .session .n) (st .session .t))) 0
+
+unfoldable pub roomRefusal : State → List ℕ → ℕ
+roomRefusal st store = orElse (postsRefusal st) (first (5 when wrongLength store storeRoom ∷ []))
+
+unfoldable pub checkedStep : State → List ℕ → List ℕ → After
+checkedStep st store s = unless (roomRefusal st store) st store (step st store s)
+
+-- What holds between lines: the store has room for the largest session, and a session that was accepted is one of the street's.
+pub record Ready (st : State) (store : List ℕ) : Type 0 where
+  pub store-room : length store ≡ storeRoom
+  pub in-range : st .started ≡ true → InStreet (shapeOf (st .session))

@@ -1,0 +1,12 @@
+use borrow.Author.Needs.{needs}
+use Rattle.reading.proofs.Settings.{start-empty, start-other, start-bare, start-comma, start-feed}
+use Rattle.reading.proofs.start.is_start.Statement.{statement}
+use Rattle.reading.proofs.start.is_start.Tie as tie
+
+ruleset ends = (needs, start-empty, start-other, start-bare, start-comma, start-feed)
+
+pub is-start-spec : {M : Type 1} → statement M
+is-start-spec =
+    tie.close
+    (tie.spec (λ c. search ends) (λ c. search ends) (λ c. search ends) (λ c. search ends) (λ c. search ends)
+    (λ c. search ends) (λ c. search ends) (λ c. search ends))

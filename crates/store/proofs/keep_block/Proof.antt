@@ -1,0 +1,13 @@
+-- `keep_block` meets its contract.
+use borrow.Author.Needs.{needs}
+use Rattle.store.proofs.Keeping.{street-valid, block-fits, block-within, block-kept}
+use Rattle.store.proofs.keep_block.Statement.{statement}
+use Rattle.store.proofs.keep_block.Tie as tie
+
+ruleset ends = (needs, street-valid, block-fits, block-within, block-kept)
+
+pub keep-block-spec : {M : Type 1} → statement M
+keep-block-spec =
+    tie.close
+    (tie.spec (λ c. search ends) (λ c κs. search ends) (λ c. search ends) (λ c κs. search ends) (λ c κs. search ends)
+    (λ c. search ends) (λ c. search ends))

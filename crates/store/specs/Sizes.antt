@@ -1,0 +1,32 @@
+-- Document 02, (ii): "The street program stays at 32 and gives 1 above that." What it keeps has room for the largest session.
+use Prim.Native.Nat.{ℕ, _+_, _-_, _*_, _≤_}
+use Rattle.shape.specs.declared.Shape.{Shape}
+use Rattle.shape.specs.Bounds.{fewestPosts, rowCount}
+
+abbrev pub streetPosts : ℕ
+streetPosts = 32
+
+-- The numbers of its longest row, with the largest t; and its most masks.
+abbrev pub longestRow : ℕ
+longestRow = 3 * streetPosts
+
+abbrev pub mostMasks : ℕ
+mostMasks = 2 * streetPosts
+
+-- The store: the rows of a session, then the record of the `O` lines.
+abbrev pub rowsRoom : ℕ
+rowsRoom = rowCount * longestRow
+
+abbrev pub recordRoom : ℕ
+recordRoom = streetPosts * (streetPosts + 1)
+
+abbrev pub openingsAt : ℕ
+openingsAt = rowsRoom
+
+abbrev pub storeRoom : ℕ
+storeRoom = openingsAt + recordRoom
+
+-- A station that the street program serves.
+pub record InStreet (g : Shape) : Type 0 where
+  pub n-in : (fewestPosts ≤ g .n) × (g .n ≤ streetPosts)
+  pub t-in : (1 ≤ g .t) × (g .t ≤ g .n - 1)
