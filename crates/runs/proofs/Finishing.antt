@@ -12,6 +12,7 @@ use Rattle.field.specs.Modulus.{p}
 use Rattle.field.specs.Arithmetic.{product}
 use Rattle.field.specs.Element.{element}
 use Rattle.poly.specs.Counting.{All}
+use Rattle.shape.specs.Bounds.{fewestPosts, mostPosts}
 use Rattle.refusal.proofs.Laws.{inside, equal}
 use Rattle.session.specs.declared.Session.{Session}
 use Rattle.session.specs.Rows.{sumsAt, rowAt, summed}
@@ -81,7 +82,7 @@ module _ (plan : Plan) (draw : Draw) (len i : ℕ) (M : Marks) (vec : ℕ → Ve
     f = passed (finishTests s l r blocksA blocksB) tt z
 
     few : plan .n < p
-    few = let n-in = inside 2 32 (plan .n) (f 0) in omega arith
+    few = let n-in = inside fewestPosts mostPosts (plan .n) (f 0) in omega arith
 
     opened-is : (x : List ℕ) (S : Vector) (bl : List ℕ) → x ≡ heldRow s S → AllTrue s S bl → tooFew s x bl ≡ false
         → opened s x bl ≡ number S .0

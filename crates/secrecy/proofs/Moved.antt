@@ -17,6 +17,7 @@ use Rattle.field.proofs.Solver.{solve}
 use Rattle.field.proofs.Elements.{𝓡, element-product}
 use Rattle.poly.specs.Counting.{All, Elements}
 use Rattle.poly.proofs.Lists.{all-map}
+use Rattle.shape.specs.Bounds.{fewestPosts, mostPosts}
 use Rattle.refusal.specs.Conditions.{postsTests}
 use Rattle.refusal.proofs.Laws.{all-fail, inside}
 use Rattle.factory.specs.Draw.{thirdDraw}
@@ -147,8 +148,8 @@ module _ (plan : Plan) (group : List ℕ) (u u' : Secrets) (Δ : ℕ → Gaps) (
 -- ---- the kernel of a group of posts
 
 module _ (plan : Plan) (group : List ℕ) (d : Draw) (sound : Sound plan) (few : Group plan group) (is : IsDraw plan d) where
-  few-posts : plan .n ≤ 32
-  few-posts = inside 2 32 (plan .n) (all-fail (postsTests (plan .n) (plan .t)) tt (sound .posts) .0) .1
+  few-posts : plan .n ≤ mostPosts
+  few-posts = inside fewestPosts mostPosts (plan .n) (all-fail (postsTests (plan .n) (plan .t)) tt (sound .posts) .0) .1
 
   point-in : (i : ℕ) → (1 ≤ i) × (i ≤ plan .n) → (1 ≤ pointOf d i) × (pointOf d i < p)
   unfolding pointOf
