@@ -8,7 +8,7 @@
  * the first condition below that applies; 0 means none. A refused call changes no list and no session, and its value
  * is 0.
  *
- *    1  the number of posts n is outside 2 to 32
+ *    1  the number of posts n is outside 2 to 255
  *    2  t is outside 1 to n - 1
  *    3  the session's post, or the post of a line to be written or of a block, is outside 1 to n
  *    4  a check point is 0 or at least p
@@ -46,11 +46,11 @@ extern "C" {
 /* p, the number of elements. */
 #define GANTSOROL_MODULUS 2147483647u
 /* The largest number of posts. */
-#define GANTSOROL_MAX_POSTS 32
+#define GANTSOROL_MAX_POSTS 255
 /* The rows of a session. */
 #define GANTSOROL_ROWS 96
 /* The bytes of the longest line, its line feed included. */
-#define GANTSOROL_LONGEST_LINE 712
+#define GANTSOROL_LONGEST_LINE 5619
 
 /* Lengths of lists, for n posts and threshold t. */
 

@@ -176,8 +176,8 @@ fn main() {
     io::write_all(STDOUT_FILENO, b"case,refusal,value\n");
     read_line(b"D with 2147483646", b"D,0,2147483646\n");
     read_line(b"D with 2147483647", b"D,0,2147483647\n");
-    begin(b"n = 32", 32, 1);
-    begin(b"n = 33", 33, 1);
+    begin(b"n = 255", 255, 1);
+    begin(b"n = 256", 256, 1);
     begin(b"t = n - 1", 3, 2);
     begin(b"t = 0", 3, 0);
     begin(b"t = n", 3, 3);

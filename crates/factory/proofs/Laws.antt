@@ -21,13 +21,13 @@ length-each f j (suc m) = ap suc (length-each f (suc j) m)
 
 module _ (s : Shape) (draw : List ℕ) (drawn : length draw ≡ drawLength s) where
   -- vj lies in the draw
-  pub drawn-room : (j : ℕ) → 1 ≤ j → j ≤ s .n → fLength s + (j - 1) * vLength s + vLength s ≤ length draw
-  drawn-room j lo hi = omega (arith, drawn, block-room (j - 1) (s .n) (vLength s) (s .n * vLength s) (omega arith) refl)
+  pub drawn-room : (j : ℕ) → j - 1 < s .n → fLength s + (j - 1) * vLength s + vLength s ≤ length draw
+  drawn-room j h = omega (arith, drawn, block-room (j - 1) (s .n) (vLength s) (s .n * vLength s) h refl)
 
   length-drawn : (j : ℕ) → 1 ≤ j → j ≤ s .n → length (drawnV s draw j) ≡ vLength s
   length-drawn j lo hi =
       let at = fLength s + (j - 1) * vLength s in
-      length-take-le (vLength s) (drop at draw) (omega (arith, drawn-room j lo hi, length-drop at draw))
+      length-take-le (vLength s) (drop at draw) (omega (arith, drawn-room j (omega arith), length-drop at draw))
 
   pub length-part : (i w : ℕ) → 1 ≤ i → i ≤ s .n → length (part s i w draw) ≡ rowLength s
   unfolding part

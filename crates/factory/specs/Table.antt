@@ -10,7 +10,7 @@ use Rattle.factory.specs.Packs.{anyBadPoint, factoryRowTests, factoryTri
 
 abbrev pub rowTable : ℕ → ℕ → List ℕ → List ℕ → List ℕ → List Test
 rowTable n t points draw out =
-    1 when outside 2 32 n
+    1 when outside 2 255 n
     ∷ 2 when outside 1 (n - 1) t
     ∷ 4 when anyBadPoint points
     ∷ 5 when wrongLength points n
@@ -21,7 +21,7 @@ rowTable n t points draw out =
 
 abbrev pub tripleTable : ℕ → ℕ → List ℕ → List ℕ → List ℕ → List Test
 tripleTable n t points draw out =
-    1 when outside 2 32 n
+    1 when outside 2 255 n
     ∷ 2 when outside 1 (n - 1) t
     ∷ 4 when anyBadPoint points
     ∷ 5 when wrongLength points n

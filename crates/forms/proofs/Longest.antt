@@ -1,4 +1,4 @@
--- "The longest line has 712 bytes": a formula in n and the number of coefficients, and the line that has it.
+-- The longest line: a formula in n and the number of coefficients, and the line that has it.
 use Prim.Native.Nat.{ℕ, zero, suc, _+_, _*_, _≤_}
 use mathlib.Core.Path.{_≡_, refl}
 use mathlib.Core.List.{[], _∷_, _++_}
@@ -14,7 +14,7 @@ use Rattle.decimal.proofs.Sizes.{size-pos, size-grows}
 use Rattle.csv.specs.Fields.{field, fields, written}
 use Rattle.csv.proofs.Overwriting.{length-field, length-fields-le}
 use Rattle.csv.proofs.Laying.{length-written}
-use Rattle.forms.specs.Claims.{longest, NoneLonger, OneAsLong, LongestLines, AtMost712}
+use Rattle.forms.specs.Claims.{longest, NoneLonger, OneAsLong, LongestLines, AtMost5619}
 use Rattle.forms.proofs.Ranges.{last-row-le}
 use Rattle.forms.proofs.RoundTrip.{WithinBounds, in-range}
 
@@ -84,5 +84,5 @@ longest-lines = (refl, refl, refl)
 longest-grows : (n m t : ℕ) → n ≤ m → t + 1 ≤ n → longest n (t + 1) ≤ longest m m
 longest-grows n m t h g = omega (arith, size-grows 9 n m h)
 
-pub at-most-712 : AtMost712
-at-most-712 n t m h g s = omega (arith, none-longer n (t + 1) m (omega arith) s, longest-grows n 32 t h g, longest-lines .0)
+pub at-most-5619 : AtMost5619
+at-most-5619 n t m h g s = omega (arith, none-longer n (t + 1) m (omega arith) s, longest-grows n 255 t h g, longest-lines .1)

@@ -44,9 +44,9 @@ longestMasks n k = masks 93 n (replicate (2 * k) 2147483646)
 abbrev pub OneAsLong : Type 0
 OneAsLong = (n k : ℕ) → 1 ≤ n → Sent n k (longestMasks n k) × (length (text (longestMasks n k)) ≡ longest n k)
 
--- Document 01's 712, at 32 posts; document 02's 5,619 at 255, and 11,207 with two check points a post.
+-- Document 01's 712, at 32 posts, is a case of it, and so are document 02's 5,619 at 255, and 11,207 with two check points a post.
 abbrev pub LongestLines : Type 0
 LongestLines = (longest 32 32 ≡ 712) × (longest 255 255 ≡ 5619) × (longest 255 509 ≡ 11207)
 
-abbrev pub AtMost712 : Type 0
-AtMost712 = (n t : ℕ) (m : Message) → n ≤ 32 → t + 1 ≤ n → Sent n (t + 1) m → length (text m) ≤ 712
+abbrev pub AtMost5619 : Type 0
+AtMost5619 = (n t : ℕ) (m : Message) → n ≤ 255 → t + 1 ≤ n → Sent n (t + 1) m → length (text m) ≤ 5619

@@ -8,6 +8,7 @@ use mir.Syntax.{w32, w64}
 use mir.Val.{Fits}
 use lib.ListN.{length}
 use lib.Dec.{ltb}
+use Rattle.shape.specs.Bounds.{fewestPosts, mostPosts}
 use Rattle.refusal.specs.Refusal.{Test, _when_, first, outcome, AllFail}
 use Rattle.refusal.specs.Conditions.{beyond, anyBeyond, postsTests}
 use Rattle.refusal.proofs.Groups.{stopped, went-on}
@@ -123,10 +124,10 @@ module _ (n t f : ℕ) (e : f ≡ first (postsTests n t)) where
   posts-keep ys new old h = refused f (lineRefusal n t ys) new old (posts-refuse ys h) h
 
   module _ (z : f ≡ 0) where
-    posts-fine : (n ≤ 32) × (t ≤ n - 1)
+    posts-fine : (n ≤ mostPosts) × (t ≤ n - 1)
     posts-fine =
         let a = all-fail (postsTests n t) tt (sym e ∙ z) in
-        (inside 2 32 n (a .0) .1, inside 1 (n - 1) t (a .1 .0) .1)
+        (inside fewestPosts mostPosts n (a .0) .1, inside 1 (n - 1) t (a .1 .0) .1)
 
     pub posts-n : n ≤ 4294967295
     posts-n = omega (arith, posts-fine .0)

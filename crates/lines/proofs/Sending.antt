@@ -7,6 +7,7 @@ use native.Mathlib.Omega.{arith}
 use borrow.Author.Tests.{le-ltb, eq-eqb, eqb-true, eqb-false}
 use lib.ListN.{length, getD}
 use lib.Dec.{ltb, eqb}
+use Rattle.shape.specs.Bounds.{fewestPosts, mostPosts}
 use Rattle.refusal.specs.Refusal.{Test, _when_, first}
 use Rattle.refusal.specs.Conditions.{outside, wrongLength, beyond, anyBeyond, postsTests}
 use Rattle.refusal.proofs.Laws.{first-join, orElse-zero, all-fail, not-refused, or-false, inside, equal}
@@ -67,7 +68,7 @@ module _ (n t : ℕ) where
   writer-to-reader ys m out e h l =
       let p = both-zero n t ys e .0 in
       let a = all-fail (postsTests n t) tt p in
-      let b : n < tens 10 = omega (arith, inside 2 32 n (a .0) .1) in
+      let b : n < tens 10 = omega (arith, inside fewestPosts mostPosts n (a .0) .1) in
       let r = written-reads-back n (t + 1) m b h in
       let zs : List Test = 5 when wrongLength out (2 * (t + 1)) ∷ lineTests n (t + 1) (text m) in
       let f : first zs ≡ 0 = rw (eq-eqb (length out) (2 * (t + 1)) l) (r .0) in

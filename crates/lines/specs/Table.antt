@@ -14,7 +14,7 @@ use Rattle.lines.specs.Writing.{dealtTests, postedTests}
 -- `room` is the length of the lent part.
 abbrev pub writeDealTable : ℕ → ℕ → ℕ → ℕ → ℕ → List Test
 writeDealTable n t row c room =
-    1 when outside 2 32 n
+    1 when outside 2 255 n
     ∷ 2 when outside 1 (n - 1) t
     ∷ 6 when ltb 95 row
     ∷ 8 when beyond c
@@ -23,7 +23,7 @@ writeDealTable n t row c room =
 
 abbrev pub writeOpeningTable : ℕ → ℕ → ℕ → ℕ → List ℕ → ℕ → List Test
 writeOpeningTable n t row post xs room =
-    1 when outside 2 32 n
+    1 when outside 2 255 n
     ∷ 2 when outside 1 (n - 1) t
     ∷ 3 when outside 1 n post
     ∷ 5 when wrongLength xs (t + 1)
@@ -34,7 +34,7 @@ writeOpeningTable n t row post xs room =
 
 abbrev pub writeMasksTable : ℕ → ℕ → ℕ → ℕ → List ℕ → ℕ → List Test
 writeMasksTable n t row post xs room =
-    1 when outside 2 32 n
+    1 when outside 2 255 n
     ∷ 2 when outside 1 (n - 1) t
     ∷ 3 when outside 1 n post
     ∷ 5 when wrongLength xs (2 * (t + 1))
@@ -45,7 +45,7 @@ writeMasksTable n t row post xs room =
 
 abbrev pub readTable : ℕ → ℕ → List ℕ → List ℕ → List Test
 readTable n t s out =
-    1 when outside 2 32 n
+    1 when outside 2 255 n
     ∷ 2 when outside 1 (n - 1) t
     ∷ 5 when wrongLength out (2 * (t + 1))
     ∷ 10 when isMalformed (formOf (t + 1) s)

@@ -13,7 +13,7 @@ use Rattle.opening.specs.Opening.{openTests}
 
 abbrev pub openTable : Session → List ℕ → ℕ → List ℕ → List Test
 openTable s rows r blocks =
-    1 when outside 2 32 (s .n)
+    1 when outside 2 255 (s .n)
     ∷ 2 when outside 1 (s .n - 1) (s .t)
     ∷ 3 when outside 1 (s .n) (s .post)
     ∷ 4 when badPoint (s .point)

@@ -15,7 +15,7 @@ use Rattle.product.specs.Finish.{maskA, maskB, finishTests}
 
 abbrev pub masksTable : Session → List ℕ → ℕ → ℕ → ℕ → List ℕ → List Test
 masksTable s rows a b r out =
-    1 when outside 2 32 (s .n)
+    1 when outside 2 255 (s .n)
     ∷ 2 when outside 1 (s .n - 1) (s .t)
     ∷ 3 when outside 1 (s .n) (s .post)
     ∷ 4 when badPoint (s .point)
@@ -38,7 +38,7 @@ masksTable s rows a b r out =
 -- 7, "or remembered factor row, isn't what the call needs": one above 95, or one that is not held.
 abbrev pub finishTable : Session → List ℕ → ℕ → List ℕ → List ℕ → List Test
 finishTable s rows r blocksA blocksB =
-    1 when outside 2 32 (s .n)
+    1 when outside 2 255 (s .n)
     ∷ 2 when outside 1 (s .n - 1) (s .t)
     ∷ 3 when outside 1 (s .n) (s .post)
     ∷ 4 when badPoint (s .point)

@@ -9,7 +9,7 @@ use Rattle.records.specs.Records.{placeTests, putTests}
 
 abbrev pub putTable : ℕ → ℕ → List ℕ → ℕ → List ℕ → List Test
 putTable n t blocks post message =
-    1 when outside 2 32 n
+    1 when outside 2 255 n
     ∷ 2 when outside 1 (n - 1) t
     ∷ 3 when outside 1 n post
     ∷ 5 when wrongLength blocks (n * (t + 1 + 1))
@@ -19,7 +19,7 @@ putTable n t blocks post message =
 
 abbrev pub removeTable : ℕ → ℕ → List ℕ → ℕ → List Test
 removeTable n t blocks post =
-    1 when outside 2 32 n
+    1 when outside 2 255 n
     ∷ 2 when outside 1 (n - 1) t
     ∷ 3 when outside 1 n post
     ∷ 5 when wrongLength blocks (n * (t + 1 + 1))

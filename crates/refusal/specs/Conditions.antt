@@ -25,7 +25,7 @@ unfoldable pub anyBeyond : List ℕ → Bool
 anyBeyond [] = false
 anyBeyond (x ∷ xs) = beyond x || anyBeyond xs
 
--- 1: n outside 2..32. 2: t outside 1..n - 1.
+-- 1: n outside 2..255. 2: t outside 1..n - 1.
 abbrev pub postsTests : ℕ → ℕ → List Test
 postsTests n t = 1 when outside fewestPosts mostPosts n ∷ 2 when outside 1 (n - 1) t ∷ []
 

@@ -30,9 +30,9 @@ module _ (plan : Plan) (draw : Draw) (is : IsDraw plan draw) where
   pub positive : 1 ≤ rowLength plan
   positive = omega arith
 
-  part-row : (xs : List ℕ) → Drawn (rowLength plan) xs → (i : ℕ) → 1 ≤ i → i ≤ plan .n
+  part-row : (xs : List ℕ) → Drawn (rowLength plan) xs → (i : ℕ) → i - 1 < plan .n
       → partOf plan draw i xs ≡ rowFor plan draw i (vectorOf (planShape plan) xs)
-  part-row xs e i lo hi = part-is-row (planShape plan) xs (e .low) (e .many) i (pointOf draw i) lo hi
+  part-row xs e i h = part-is-row (planShape plan) xs (e .low) (e .many) i (pointOf draw i) h
 
   pub raw-drawn : (r : ℕ) → r < rowCount → IsRaw (plan .raw r) → Drawn (rowLength plan) (rawDraw draw r)
   unfolding rawDraw
@@ -72,15 +72,15 @@ module _ (plan : Plan) (draw : Draw) (is : IsDraw plan draw) where
         low = (product-below _ _, elements-drop (rowLength plan + rowLength plan) (tripleDraw draw r) (e .low));
       }
 
-  pub raw-pack : (r : ℕ) → r < rowCount → IsRaw (plan .raw r) → (i : ℕ) → 1 ≤ i → i ≤ plan .n
+  pub raw-pack : (r : ℕ) → r < rowCount → IsRaw (plan .raw r) → (i : ℕ) → i - 1 < plan .n
       → rawPack plan draw i r ≡ rowFor plan draw i (rawVector plan draw r)
   unfolding rawPack
-  raw-pack r lr d i lo hi = part-row (rawDraw draw r) (raw-drawn r lr d) i lo hi
+  raw-pack r lr d i h = part-row (rawDraw draw r) (raw-drawn r lr d) i h
 
-  pub triple-pack : (r : ℕ) → r < rowCount → plan .triple r ≡ true → (i : ℕ) → 1 ≤ i → i ≤ plan .n
+  pub triple-pack : (r : ℕ) → r < rowCount → plan .triple r ≡ true → (i : ℕ) → i - 1 < plan .n
       → triplePack plan draw i r
       ≡ rowFor plan draw i (vectorA plan draw r) ++ (rowFor plan draw i (vectorB plan draw r) ++ rowFor plan draw i (vectorAB plan draw r))
   unfolding triplePack
-  triple-pack r lr d i lo hi =
-      ap₂ _++_ (part-row (drawA plan draw r) (a-drawn r lr d) i lo hi)
-      (ap₂ _++_ (part-row (drawB plan draw r) (b-drawn r lr d) i lo hi) (part-row (drawAB plan draw r) (ab-drawn r lr d) i lo hi))
+  triple-pack r lr d i h =
+      ap₂ _++_ (part-row (drawA plan draw r) (a-drawn r lr d) i h)
+      (ap₂ _++_ (part-row (drawB plan draw r) (b-drawn r lr d) i h) (part-row (drawAB plan draw r) (ab-drawn r lr d) i h))

@@ -10,6 +10,7 @@ use borrow.Author.Tests.{le-ltb, ne-eqb}
 use lib.ListN.{length, getD, replicate, length-replicate, getD-replicate, List·getD-eq-default}
 use Rattle.field.specs.Modulus.{p}
 use Rattle.poly.specs.Counting.{All}
+use Rattle.shape.specs.Bounds.{fewestPosts, mostPosts}
 use Rattle.refusal.specs.Refusal.{_when_, first, orElse, outcome}
 use Rattle.refusal.specs.Conditions.{outside, badPoint, postsTests}
 use Rattle.refusal.proofs.Laws.{first-join, not-refused, all-fail, inside}
@@ -33,7 +34,7 @@ pub record Sizes (plan : Plan) : Type 0 where
 pub sizes : (plan : Plan) → Sound plan → Sizes plan
 sizes plan s =
     let h = all-fail (postsTests (plan .n) (plan .t)) tt (s .posts) in
-    let n-in = inside 2 32 (plan .n) (h .0) in
+    let n-in = inside fewestPosts mostPosts (plan .n) (h .0) in
     let t-in = inside 1 (plan .n - 1) (plan .t) (h .1 .0) in
     record { n-low = n-in .0; n-high = omega arith; n-element = omega arith; t-low = t-in .0; t-high = omega arith }
 

@@ -19,14 +19,16 @@ use Rattle.poly.specs.Counting.{Elements}
 use Rattle.poly.proofs.Lists.{all-zip}
 use Rattle.refusal.specs.Refusal.{_when_}
 use Rattle.refusal.specs.Conditions.{beyond, anyBeyond}
+use Rattle.shape.specs.Bounds.{rowCount}
 use Rattle.refusal.proofs.Laws.{not-refused}
+use Rattle.refusal.proofs.Ranges.{posts-passed}
 use Rattle.refusal.proofs.Elements.{element-test}
 use Rattle.factory.specs.Draw.{part, firstDraw, secondDraw, thirdDraw}
 use Rattle.factory.specs.Packs.{dealerRefusal, dealerNumber}
 use Rattle.factory.specs.declared.Number.{Number}
 use Rattle.factory.proofs.Laws.{elements-append}
 use Rattle.vectors.specs.Vector.{Vector, numbers, checkOf, sumAt, rowOf, vectorOf}
-use Rattle.runs.specs.Draws.{Plan, Raw, none, by, IsRaw, whenRaw, Sound, Draw, IsDraw, rowLength, rawLength, tripleLength, pointOf, rawDraw, tripleDraw, rawPack, triplePack}
+use Rattle.runs.specs.Draws.{Plan, planShape, Raw, none, by, IsRaw, whenRaw, Sound, Draw, IsDraw, rowLength, rawLength, tripleLength, pointOf, rawDraw, tripleDraw, rawPack, triplePack}
 use Rattle.runs.proofs.Start.{all-at}
 use Rattle.runs.proofs.Marks.{rawVector, vectorA, vectorB, vectorAB}
 use Rattle.runs.proofs.Outcomes.{done-is}
@@ -103,7 +105,7 @@ module _ (plan : Plan) (group : List ℕ) (u u' : Secrets) (Δ : ℕ → Gaps) (
   is' = moved-is plan group u u' Δ d is
 
   abbrev vector : List ℕ → Vector
-  vector = vectorOf (plan .t + 1)
+  vector = vectorOf (planShape plan)
 
   -- ---- near
 
@@ -114,7 +116,7 @@ module _ (plan : Plan) (group : List ℕ) (u u' : Secrets) (Δ : ℕ → Gaps) (
       → Nearly (vector xs) (vector ys)
   nearly δ xs ys e h =
       subst (λ (l : List ℕ). Nearly (vector xs) (vector l)) (sym e)
-      (near-shift (plan .t + 1) K δ (omega arith) (plan .n) (pointOf d) xs
+      (near-shift (planShape plan) K δ (pointOf d) xs
       (kernel-c (groupPosts (pointOf d) group) (groupPoints (pointOf d) group)) (kernel-unit plan group d sound few is) (h .many))
 
   some-drawn : (xs : List ℕ) → Drawn (rowLength plan) xs → 1 ≤ length xs
@@ -124,7 +126,7 @@ module _ (plan : Plan) (group : List ℕ) (u u' : Secrets) (Δ : ℕ → Gaps) (
       → gap (vector xs) (vector ys) ≡ δ
   gap-is δ xs ys e h =
       ap (λ (l : List ℕ). gap (vector xs) (vector l)) e
-      ∙ gap-shift (plan .t + 1) K δ (omega arith) xs (kernel-unit plan group d sound few is) (some-drawn xs h)
+      ∙ gap-shift (planShape plan) K δ xs (kernel-unit plan group d sound few is) (some-drawn xs h)
 
   near-raw : (r : ℕ) → r < 96 → IsRaw (plan .raw r) → Nearly (rawVector plan d r) (rawVector plan d' r)
   near-raw r row h = nearly (secretGap u u' r) _ _ (moved-raw plan group u u' Δ d r) (raw-drawn plan d is r row h)
@@ -180,7 +182,7 @@ module _ (plan : Plan) (group : List ℕ) (u u' : Secrets) (Δ : ℕ → Gaps) (
   raw-same : (i r : ℕ) → plan .raw r ≡ none → rawPack plan d i r ≡ rawPack plan d' i r
   unfolding rawPack rawDraw
   raw-same i r e =
-      ap₂ (λ (w : ℕ) (l : List ℕ). part (plan .n) (plan .t + 1) i w l) (point-same i)
+      ap₂ (λ (w : ℕ) (l : List ℕ). part (planShape plan) i w l) (point-same i)
       (empty
       ∙ sym (moved-raw plan group u u' Δ d r ∙ ap (shift (layout plan group d) (secretGap u u' r)) empty ∙ shift-empty _ _))
     where
@@ -192,9 +194,9 @@ module _ (plan : Plan) (group : List ℕ) (u u' : Secrets) (Δ : ℕ → Gaps) (
   triple-same i r e =
       ap₂
       (λ (w : ℕ) (l : List ℕ).
-      part (plan .n) (plan .t + 1) i w (firstDraw (rowLength plan) l)
-      ++ (part (plan .n) (plan .t + 1) i w (secondDraw (rowLength plan) l)
-      ++ part (plan .n) (plan .t + 1) i w (thirdDraw (rowLength plan) l)))
+      part (planShape plan) i w (firstDraw (rowLength plan) l)
+      ++ (part (planShape plan) i w (secondDraw (rowLength plan) l)
+      ++ part (planShape plan) i w (thirdDraw (rowLength plan) l)))
       (point-same i)
       (empty ∙ sym (moved-triple plan group u u' Δ d r ∙ ap (movedTriple _ _ _ _) empty ∙ triple-none _ _ _ _))
     where
@@ -211,13 +213,16 @@ module _ (plan : Plan) (group : List ℕ) (u u' : Secrets) (Δ : ℕ → Gaps) (
     row-elements (plan .t + 1) (plan .n) i (element (pointOf d' i)) Y,
   )
 
+  there : (i : ℕ) → i ≤ plan .n → i - 1 < plan .n
+  there i hi = omega (arith, hi, posts-passed (plan .n) (plan .t) 0 (sym (sound .posts)) refl .n-in .0)
+
   raw-alike : (i k : ℕ) → i ≤ plan .n → Alike (rawPack plan d i k) (rawPack plan d' i k)
   raw-alike i k hi =
       elim (raw-or (plan .raw k)) [
         | inl e ↦ same-alike _ _ (raw-same i k e)
         | inr h ↦
-            let row : k < 96 = omega (arith, sound .raws k h) in
-            alike _ _ _ _ (raw-pack plan d is k row h i hi) (raw-pack plan d' is' k row h i hi)
+            let row : k < rowCount = omega (arith, sound .raws k h) in
+            alike _ _ _ _ (raw-pack plan d is k row h i (there i hi)) (raw-pack plan d' is' k row h i (there i hi))
             (both-rows i (rawVector plan d k) (rawVector plan d' k))
       ]
 
@@ -226,8 +231,8 @@ module _ (plan : Plan) (group : List ℕ) (u u' : Secrets) (Δ : ℕ → Gaps) (
       elim (true-or (plan .triple k)) [
         | inl e ↦ same-alike _ _ (triple-same i k e)
         | inr h ↦
-            let row : k < 96 = omega (arith, sound .triples k h) in
-            alike _ _ _ _ (triple-pack plan d is k row h i hi) (triple-pack plan d' is' k row h i hi)
+            let row : k < rowCount = omega (arith, sound .triples k h) in
+            alike _ _ _ _ (triple-pack plan d is k row h i (there i hi)) (triple-pack plan d' is' k row h i (there i hi))
             (both-join (rowFor plan d i (vectorA plan d k)) (rowFor plan d' i (vectorA plan d' k)) _ _
             (both-rows i (vectorA plan d k) (vectorA plan d' k))
             (both-join (rowFor plan d i (vectorB plan d k)) (rowFor plan d' i (vectorB plan d' k)) _ _
@@ -246,9 +251,9 @@ module _ (plan : Plan) (group : List ℕ) (u u' : Secrets) (Δ : ℕ → Gaps) (
         elim (raw-or (plan .raw k)) [
           | inl e ↦ raw-same i k e
           | inr h ↦
-              let row : k < 96 = omega (arith, sound .raws k h) in
-              raw-pack plan d is k row h i (post .1) ∙ same-row _ _ (near-raw k row h)
-              ∙ sym (raw-pack plan d' is' k row h i (post .1))
+              let row : k < rowCount = omega (arith, sound .raws k h) in
+              raw-pack plan d is k row h i (there i (post .1)) ∙ same-row _ _ (near-raw k row h)
+              ∙ sym (raw-pack plan d' is' k row h i (there i (post .1)))
         ]
 
     triple-blind : (k : ℕ) → triplePack plan d i k ≡ triplePack plan d' i k
@@ -256,11 +261,11 @@ module _ (plan : Plan) (group : List ℕ) (u u' : Secrets) (Δ : ℕ → Gaps) (
         elim (true-or (plan .triple k)) [
           | inl e ↦ triple-same i k e
           | inr h ↦
-              let row : k < 96 = omega (arith, sound .triples k h) in
-              triple-pack plan d is k row h i (post .1)
+              let row : k < rowCount = omega (arith, sound .triples k h) in
+              triple-pack plan d is k row h i (there i (post .1))
               ∙ ap₂ _++_ (same-row _ _ (near-a k row h))
               (ap₂ _++_ (same-row _ _ (near-b k row h)) (same-row _ _ (near-ab k row h)))
-              ∙ sym (triple-pack plan d' is' k row h i (post .1))
+              ∙ sym (triple-pack plan d' is' k row h i (there i (post .1)))
         ]
 
   pub link : Link plan group d (moved plan group u u' Δ d) u u' (groupKernel (pointOf d) group) Δ

@@ -4,7 +4,6 @@ use Prim.Native.Nat.{ℕ, zero, suc, _+_, _*_, _-_, _≤_, _<_}
 use mathlib.Core.Path.{_≡_, refl, sym, _∙_, ap, ap₂, subst}
 use mathlib.Core.Bool.{Bool, true, cond}
 use mathlib.Core.List.{List, [], _∷_}
-use native.Mathlib.Nat.{mul-le-mul}
 use native.Mathlib.Decide.{decLt}
 use native.Mathlib.Omega.{arith}
 use lib.ListN.{length, take, drop, getD, List·getD-eq-default}
@@ -18,11 +17,12 @@ use Rattle.field.proofs.Solver.{solve}
 use Rattle.field.proofs.Elements.{𝓡, element-product}
 use Rattle.poly.specs.Counting.{All, Elements}
 use Rattle.poly.proofs.Lists.{all-map}
+use Rattle.shape.specs.Bounds.{fewestPosts, mostPosts}
 use Rattle.refusal.specs.Conditions.{postsTests}
 use Rattle.refusal.proofs.Laws.{all-fail, inside}
 use Rattle.factory.specs.Draw.{thirdDraw}
 use Rattle.runs.proofs.Start.{all-at}
-use Rattle.runs.specs.Draws.{Plan, Sound, Draw, Lists, IsDraw, rowLength, rawLength, tripleLength, pointOf, rawDraw, tripleDraw, drawA, drawB, drawAB}
+use Rattle.runs.specs.Draws.{Plan, planShape, Sound, Draw, Lists, IsDraw, rowLength, rawLength, tripleLength, pointOf, rawDraw, tripleDraw, drawA, drawB, drawAB}
 use Rattle.secrecy.specs.Steps.{Secrets}
 use Rattle.secrecy.specs.Claim.{Group}
 use Rattle.secrecy.proofs.Kernel.{kernel-constant}
@@ -91,7 +91,7 @@ module _ (many : ℕ → ℕ) (ls : List (List ℕ)) (h : Lists many ls) (r : �
 
 -- the kernel of the group, laid out as a draw is
 abbrev pub layout : Plan → List ℕ → Draw → ℕ → Element
-layout plan group d = flat (plan .t + 1) (groupKernel (pointOf d) group)
+layout plan group d = flat (planShape plan) (groupKernel (pointOf d) group)
 
 -- by how much the secret of row r differs
 abbrev pub secretGap : Secrets → Secrets → ℕ → Element
@@ -148,8 +148,8 @@ module _ (plan : Plan) (group : List ℕ) (u u' : Secrets) (Δ : ℕ → Gaps) (
 -- ---- the kernel of a group of posts
 
 module _ (plan : Plan) (group : List ℕ) (d : Draw) (sound : Sound plan) (few : Group plan group) (is : IsDraw plan d) where
-  few-posts : plan .n ≤ 32
-  few-posts = inside 2 32 (plan .n) (all-fail (postsTests (plan .n) (plan .t)) tt (sound .posts) .0) .1
+  few-posts : plan .n ≤ mostPosts
+  few-posts = inside fewestPosts mostPosts (plan .n) (all-fail (postsTests (plan .n) (plan .t)) tt (sound .posts) .0) .1
 
   point-in : (i : ℕ) → (1 ≤ i) × (i ≤ plan .n) → (1 ≤ pointOf d i) × (pointOf d i < p)
   unfolding pointOf
@@ -162,7 +162,7 @@ module _ (plan : Plan) (group : List ℕ) (d : Draw) (sound : Sound plan) (few :
       (nonzero-nodes (λ i. i) group (all-map (λ i h. (h .0, omega (arith, h .1, few-posts))) group (few .members)))
 
   pub layout-unit : layout plan group d 0 ≡ 1ᴱ
-  layout-unit = flat-f (plan .t + 1) (groupKernel (pointOf d) group) 0 (omega arith) ∙ kernel-unit
+  layout-unit = flat-f (planShape plan) (groupKernel (pointOf d) group) 0 (omega arith) ∙ kernel-unit
 
   pub group-unseen : All (λ i. Unseen (plan .t + 1) i (element (pointOf d i)) (groupKernel (pointOf d) group)) group
   group-unseen =
@@ -174,7 +174,7 @@ module _ (plan : Plan) (group : List ℕ) (d : Draw) (sound : Sound plan) (few :
 -- ---- a triple's three draws
 
 pub row-some : (plan : Plan) → 1 ≤ rowLength plan
-row-some plan = mul-le-mul {n₁ = 1} {m₁ = 1} {n₂ = plan .t + 1} {m₂ = plan .n + 1} (omega arith) (omega arith)
+row-some plan = omega arith
 
 pub triple-long : (plan : Plan) (d : Draw) → IsDraw plan d → (r : ℕ) → r < 96 → plan .triple r ≡ true
     → rowLength plan + rowLength plan ≤ length (tripleDraw d r)
@@ -202,7 +202,7 @@ module _ (plan : Plan) (group : List ℕ) (u u' : Secrets) (Δ : ℕ → Gaps) (
   moved-ab =
       ap (thirdDraw (rowLength plan)) (moved-triple plan group u u' Δ d r)
       ∙ ap (λ (l : List ℕ). product m0 m1 ∷ l) (triple-rest (rowLength plan) fl a b (tripleDraw d r) long)
-      ∙ shift-cons (plan .t + 1) (groupKernel (pointOf d) group) (productGap plan Δ d r) (omega arith) (product l0 l1)
+      ∙ shift-cons (planShape plan) (groupKernel (pointOf d) group) (productGap plan Δ d r) (product l0 l1)
       (product m0 m1) (drop (rowLength plan + rowLength plan) (tripleDraw d r)) (kernel-unit plan group d sound few is)
       (product-below m0 m1)
       (element-product m0 m1

@@ -1,9 +1,9 @@
 -- A draw moved by a multiple of the kernel: the other draw, which shows the group the same and shares another number. Moving
 -- by δ is undone by moving by -δ, so that the draws of two lists of secrets are matched one to one.
-use Prim.Native.Nat.{ℕ, zero, suc, _+_, _*_, _/_, _%_, _≤_, _<_}
+use Prim.Native.Nat.{ℕ, zero, suc, _+_, _*_, _/_, _%_, _-_, _≤_, _<_}
 use mathlib.Core.Path.{_≡_, refl, sym, _∙_, ap, ap₂}
 use mathlib.Core.List.{List, [], _∷_, _++_}
-use native.Mathlib.Nat.{add-zero, suc-mul, mul-comm, zero-mul, mul-le-mul, le-refl, mod-eq-of-lt, div-eq-of-lt, mul-add-mod-self-right, mul-add-div-right}
+use native.Mathlib.Nat.{add-zero, suc-mul, mod-eq-of-lt, div-eq-of-lt, mul-add-mod-self-right, mul-add-div-right}
 use native.Mathlib.Omega.{arith}
 use lib.ListN.{length, getD}
 use Rattle.field.specs.Modulus.{p}
@@ -14,7 +14,9 @@ use Rattle.field.proofs.Solver.{solve}
 use Rattle.field.proofs.Elements.{𝓡, element-of-number, number-below}
 use Rattle.poly.specs.Counting.{Elements}
 use Rattle.poly.proofs.Coefficients.{ev}
-use Rattle.factory.specs.Draw.{drawLength}
+use Rattle.shape.specs.declared.Shape.{Shape}
+use Rattle.shape.specs.Lengths.{fLength, vLength, drawLength}
+use Rattle.factory.proofs.Laws.{drawn-room}
 use Rattle.vectors.specs.Vector.{Vector, plusTimes, number, firsts, numbers, valueAt, rowOf, vectorOf}
 use Rattle.secrecy.proofs.Near.{gap, Near}
 open CommutativeRing 𝓡 using (add as _⊕_, mul as _⊗_, neg, zero as 0ᴱ, one as 1ᴱ)
@@ -96,7 +98,10 @@ row-agree k n (suc i) w S Z pos lo hi c f v =
 -- ---- draws
 
 -- K laid out as a draw is: f, then v1 to vn, k coefficients each
-module _ (k : ℕ) (K : Vector) where
+module _ (s : Shape) (K : Vector) where
+  abbrev k : ℕ
+  k = vLength s
+
   pub flat : ℕ → Element
   flat m = elim (m / k) [ zero ↦ K .f (m % k) | suc j ↦ K .v (suc j) (m % k) ]
 
@@ -105,53 +110,59 @@ module _ (k : ℕ) (K : Vector) where
   flat-f m h =
       ap₂ (λ (x y : ℕ). elim x as (λ z. Element) [ zero ↦ K .f y | suc j ↦ K .v (suc j) y ]) (div-eq-of-lt h) (mod-eq-of-lt h)
 
-  pub flat-v : (j m : ℕ) → m < k → flat (suc j * k + m) ≡ K .v (suc j) m
+  pub flat-v : (j m : ℕ) → m < k → flat (fLength s + (suc j - 1) * k + m) ≡ K .v (suc j) m
   unfolding flat
   flat-v j m h =
-      ap₂ (λ (x y : ℕ). elim x as (λ z. Element) [ zero ↦ K .f y | suc j ↦ K .v (suc j) y ])
+      ap flat place
+      ∙ ap₂ (λ (x y : ℕ). elim x as (λ z. Element) [ zero ↦ K .f y | suc j ↦ K .v (suc j) y ])
       (mul-add-div-right (omega arith) (suc j) m ∙ ap (λ (z : ℕ). suc j + z) (div-eq-of-lt h) ∙ add-zero (suc j))
       (mul-add-mod-self-right (suc j) k m ∙ mod-eq-of-lt h)
+    where
+      before : suc j - 1 ≡ j
+      before = omega arith
 
-  module _ (δ : Element) (positive : 1 ≤ k) where
+      place : fLength s + (suc j - 1) * k + m ≡ suc j * k + m
+      place = ap (λ (z : ℕ). fLength s + z * k + m) before ∙ omega (arith, suc-mul j k)
+
+  module _ (δ : Element) where
     -- The vector of a draw moved is the draw's vector plus δ K: every post's row ..
-    pub shift-row : (n i : ℕ) (w : Element) (d : List ℕ) → K .c ≡ 0ᴱ → length d ≡ drawLength n k → 1 ≤ i → i ≤ n
-        → rowOf k n i w (vectorOf k (shift flat δ d)) ≡ rowOf k n i w (plusTimes δ (vectorOf k d) K)
+    pub shift-row : (i : ℕ) (w : Element) (d : List ℕ) → K .c ≡ 0ᴱ → length d ≡ drawLength s → 1 ≤ i → i ≤ s .n
+        → rowOf k (s .n) i w (vectorOf s (shift flat δ d)) ≡ rowOf k (s .n) i w (plusTimes δ (vectorOf s d) K)
     unfolding vectorOf Same
-    shift-row n i w d kc size lo hi =
-        row-agree k n i w _ _ positive lo hi
+    shift-row i w d kc size lo hi =
+        row-agree k (s .n) i w _ _ (omega arith) lo hi
         (solve 𝓡 (δ ∷ []) 𝟘 (𝟘 :+ A :* 𝟘) refl ∙ ap (λ (z : Element). 0ᴱ ⊕ δ ⊗ z) (sym kc))
-        (λ m h. shift-at flat δ d m (omega (arith, zero-mul k, room 0 m (omega arith) h)) ∙ ap (λ (z : Element). element (getD d m 0) ⊕ δ ⊗ z) (flat-f m h))
+        (λ m h. shift-at flat δ d m (omega (arith, size)) ∙ ap (λ (z : Element). element (getD d m 0) ⊕ δ ⊗ z) (flat-f m h))
         (λ j m g h.
-        shift-at flat δ d (suc j * k + m) (room (suc j) m (omega arith) h)
-        ∙ ap (λ (z : Element). element (getD d (suc j * k + m) 0) ⊕ δ ⊗ z) (flat-v j m h))
+        shift-at flat δ d (fLength s + (suc j - 1) * k + m) (omega (arith, room j g))
+        ∙ ap (λ (z : Element). element (getD d (fLength s + (suc j - 1) * k + m) 0) ⊕ δ ⊗ z) (flat-v j m h))
       where
-        room : (j m : ℕ) → j ≤ n → m < k → j * k + m < length d
-        room j m g h =
-            omega (arith, size, suc-mul j k, mul-comm k (n + 1), mul-le-mul {n₁ = suc j} {m₁ = k} {n₂ = n + 1} {m₂ = k} (omega arith) (le-refl k))
+        room : (j : ℕ) → j < s .n → fLength s + (suc j - 1) * k + k ≤ length d
+        room j g = drawn-room s d size (suc j) (omega arith)
 
     -- .. and the number
     pub shift-number : (d : List ℕ) → K .f 0 ≡ 1ᴱ → 1 ≤ length d
-        → number (vectorOf k (shift flat δ d)) ≡ number (vectorOf k d) ⊕ δ
+        → number (vectorOf s (shift flat δ d)) ≡ number (vectorOf s d) ⊕ δ
     unfolding vectorOf Same
     shift-number d one some =
         ap (λ (z : Element). 0ᴱ ⊕ z)
-        (shift-at flat δ d 0 some ∙ ap (λ (z : Element). element (getD d 0 0) ⊕ δ ⊗ z) (flat-f 0 positive ∙ one))
+        (shift-at flat δ d 0 some ∙ ap (λ (z : Element). element (getD d 0 0) ⊕ δ ⊗ z) (flat-f 0 (omega arith) ∙ one))
         ∙ solve 𝓡 (element (getD d 0 0) ∷ δ ∷ []) (𝟘 :+ (A :+ B :* 𝟙)) (𝟘 :+ A :+ B) refl
 
-    pub gap-shift : (d : List ℕ) → K .f 0 ≡ 1ᴱ → 1 ≤ length d → gap (vectorOf k d) (vectorOf k (shift flat δ d)) ≡ δ
+    pub gap-shift : (d : List ℕ) → K .f 0 ≡ 1ᴱ → 1 ≤ length d → gap (vectorOf s d) (vectorOf s (shift flat δ d)) ≡ δ
     unfolding Same
     gap-shift d one some =
-        ap (λ (z : Element). z ⊕ neg (number (vectorOf k d))) (shift-number d one some)
-        ∙ solve 𝓡 (number (vectorOf k d) ∷ δ ∷ []) (A :+ B :- A) B refl
+        ap (λ (z : Element). z ⊕ neg (number (vectorOf s d))) (shift-number d one some)
+        ∙ solve 𝓡 (number (vectorOf s d) ∷ δ ∷ []) (A :+ B :- A) B refl
 
-    pub near-shift : (n : ℕ) (pts : ℕ → ℕ) (d : List ℕ) → K .c ≡ 0ᴱ → K .f 0 ≡ 1ᴱ → length d ≡ drawLength n k
-        → Near n k pts K (vectorOf k d) (vectorOf k (shift flat δ d))
-    near-shift n pts d kc one size i lo hi =
-        shift-row n i (element (pts i)) d kc size lo hi
-        ∙ ap (λ (z : Element). rowOf k n i (element (pts i)) (plusTimes z (vectorOf k d) K)) (sym (gap-shift d one some))
+    pub near-shift : (pts : ℕ → ℕ) (d : List ℕ) → K .c ≡ 0ᴱ → K .f 0 ≡ 1ᴱ → length d ≡ drawLength s
+        → Near (s .n) k pts K (vectorOf s d) (vectorOf s (shift flat δ d))
+    near-shift pts d kc one size i lo hi =
+        shift-row i (element (pts i)) d kc size lo hi
+        ∙ ap (λ (z : Element). rowOf k (s .n) i (element (pts i)) (plusTimes z (vectorOf s d) K)) (sym (gap-shift d one some))
       where
         some : 1 ≤ length d
-        some = omega (arith, size, mul-le-mul {n₁ = 1} {m₁ = 1} {n₂ = k} {m₂ = n + 1} positive (omega arith))
+        some = omega (arith, size)
 
     -- A triple's third draw, whose first number is not drawn: moved by δ itself, before the rest.
     pub shift-cons : (x x' : ℕ) (rest : List ℕ) → K .f 0 ≡ 1ᴱ → x' < p → element x' ≡ element x ⊕ δ
@@ -161,5 +172,5 @@ module _ (k : ℕ) (K : Vector) where
         ap (λ (y : ℕ). y ∷ shift (λ m. flat (suc m)) δ rest)
         (sym
         (number-from x' _ low
-        (ap (λ (z : Element). element x ⊕ δ ⊗ z) (flat-f 0 positive ∙ one)
+        (ap (λ (z : Element). element x ⊕ δ ⊗ z) (flat-f 0 (omega arith) ∙ one)
         ∙ solve 𝓡 (element x ∷ δ ∷ []) (A :+ B :* 𝟙) (A :+ B) refl ∙ sym e)))

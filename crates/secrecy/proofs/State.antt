@@ -17,7 +17,7 @@ use Rattle.refusal.specs.Refusal.{first}
 use Rattle.factory.specs.Packs.{dealerNumber}
 use Rattle.vectors.specs.Vector.{Vector, raised, number, numbers, vectorOf}
 use Rattle.vectors.proofs.Linear.{length-numbers}
-use Rattle.runs.specs.Draws.{Plan, Draw, IsDraw, Sound, IsRaw, Raw, by, whenRaw, rawDraw, rawPack, triplePack}
+use Rattle.runs.specs.Draws.{Plan, planShape, Draw, IsDraw, Sound, IsRaw, Raw, by, whenRaw, rawDraw, rawPack, triplePack}
 use Rattle.runs.specs.Outline.{Act, loads, loadsTriple, deals, opens, Summand, once, times, fee, sums, factors, multiplies, Taking, nothingTaken, aRowPack, aTriplePack, aNumber, aRecord, twoRecords, takes, Given, Move, moves, actsIn, acts, sends}
 use Rattle.runs.specs.Calls.{Post, Actual, openingLine, masksLine, Among, at}
 use Rattle.runs.proofs.Outlines.{every-all, givenBy, filledMove, moves-filled}
@@ -113,7 +113,7 @@ module _ (C : Run) where
       dealt-is r lr one =
           let g = f r lr .raw one in
           ap (λ (X : Vector). number (raised (element (dealtNumber plan draw u r)) X)) (g .1)
-          ∙ ap (λ (c : ℕ). number (raised (element c) (vectorOf (plan .t + 1) (rawDraw draw r)))) (go (plan .raw r) (g .0))
+          ∙ ap (λ (c : ℕ). number (raised (element c) (vectorOf (planShape plan) (rawDraw draw r)))) (go (plan .raw r) (g .0))
           ∙ dealt-number plan draw (C .is-draw) r (u r) (C .low r (g .0))
         where
           go : (w : Raw) → IsRaw w → whenRaw w (dealerNumber (u r) (getD (rawDraw draw r) 0 0) .value) 0 ≡ dealerNumber (u r) (getD (rawDraw draw r) 0 0) .value

@@ -8,7 +8,7 @@ use Rattle.session.specs.Sessions.{sessionTests}
 
 abbrev pub newTable : ℕ → ℕ → ℕ → ℕ → List Test
 newTable n t post point =
-    1 when outside 2 32 n
+    1 when outside 2 255 n
     ∷ 2 when outside 1 (n - 1) t
     ∷ 3 when outside 1 n post
     ∷ 4 when badPoint point

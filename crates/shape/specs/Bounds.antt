@@ -1,12 +1,12 @@
 -- Document 01, "Field, posts, rows": the numbers that bound a station.
 use Prim.Native.Nat.{ℕ, _*_, _-_}
 
--- "n is the number of posts, 2 to 32"
+-- "n is the number of posts", 2 to 255: document 01 has 32, and document 02, (ii): "n goes to 255 in the library"
 abbrev pub fewestPosts : ℕ
 fewestPosts = 2
 
 abbrev pub mostPosts : ℕ
-mostPosts = 32
+mostPosts = 255
 
 -- "A session has 96 rows, 0 to 95"
 abbrev pub rowCount : ℕ

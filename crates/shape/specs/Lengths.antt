@@ -6,7 +6,7 @@ use Rattle.shape.specs.Bounds.{fewestPosts, mostPosts, rowCount}
 abbrev pub shape : ℕ → ℕ → Shape
 shape n t = record { n = n; t = t }
 
--- What refusals 1 and 2 leave: "n is the number of posts, 2 to 32", "t is 1 to n − 1".
+-- What refusals 1 and 2 leave: n posts, 2 to 255, "t is 1 to n − 1".
 pub record Valid (s : Shape) : Type 0 where
   pub n-in : (fewestPosts ≤ s .n) × (s .n ≤ mostPosts)
   pub t-in : (1 ≤ s .t) × (s .t ≤ s .n - 1)

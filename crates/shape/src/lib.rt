@@ -6,7 +6,7 @@ ghost use Rattle.shape.specs.Lengths.{needed, fLength, vLength, checksAt
 // How many posts a station may have.
 pub const FEWEST_POSTS: usize = 2;
 
-pub const MOST_POSTS: usize = 32;
+pub const MOST_POSTS: usize = 255;
 // How many rows a session has, the last of them, and the last at which a triple begins.
 pub const ROWS: usize = 96;
 

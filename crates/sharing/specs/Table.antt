@@ -16,7 +16,7 @@ use Rattle.sharing.specs.Linear.{linearTests}
 
 abbrev pub loadRowTable : Session → List ℕ → ℕ → List ℕ → List Test
 loadRowTable s rows r pack =
-    1 when outside 2 32 (s .n)
+    1 when outside 2 255 (s .n)
     ∷ 2 when outside 1 (s .n - 1) (s .t)
     ∷ 3 when outside 1 (s .n) (s .post)
     ∷ 4 when badPoint (s .point)
@@ -29,7 +29,7 @@ loadRowTable s rows r pack =
 
 abbrev pub loadTripleTable : Session → List ℕ → ℕ → List ℕ → List Test
 loadTripleTable s rows r pack =
-    1 when outside 2 32 (s .n)
+    1 when outside 2 255 (s .n)
     ∷ 2 when outside 1 (s .n - 1) (s .t)
     ∷ 3 when outside 1 (s .n) (s .post)
     ∷ 4 when badPoint (s .point)
@@ -44,7 +44,7 @@ loadTripleTable s rows r pack =
 
 abbrev pub dealTable : Session → List ℕ → ℕ → ℕ → List Test
 dealTable s rows r c =
-    1 when outside 2 32 (s .n)
+    1 when outside 2 255 (s .n)
     ∷ 2 when outside 1 (s .n - 1) (s .t)
     ∷ 3 when outside 1 (s .n) (s .post)
     ∷ 4 when badPoint (s .point)
@@ -57,7 +57,7 @@ dealTable s rows r c =
 
 abbrev pub messageTable : Session → List ℕ → ℕ → List ℕ → List Test
 messageTable s rows r out =
-    1 when outside 2 32 (s .n)
+    1 when outside 2 255 (s .n)
     ∷ 2 when outside 1 (s .n - 1) (s .t)
     ∷ 3 when outside 1 (s .n) (s .post)
     ∷ 4 when badPoint (s .point)
@@ -70,7 +70,7 @@ messageTable s rows r out =
 
 abbrev pub linearTable : Session → List ℕ → ℕ → ℕ → ℕ → ℕ → ℕ → List Test
 linearTable s rows r a b scale fee =
-    1 when outside 2 32 (s .n)
+    1 when outside 2 255 (s .n)
     ∷ 2 when outside 1 (s .n - 1) (s .t)
     ∷ 3 when outside 1 (s .n) (s .post)
     ∷ 4 when badPoint (s .point)

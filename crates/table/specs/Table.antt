@@ -5,6 +5,7 @@ use mathlib.Core.Path.{_≡_}
 use mathlib.Core.Bool.{true, false}
 use mathlib.Core.List.{List, [], _∷_, _++_, map}
 use lib.ListN.{getD}
+use Rattle.shape.specs.Lengths.{shape}
 use Rattle.factory.specs.Draw.{part, eachPost, firstDraw, secondDraw, thirdDraw}
 use Rattle.factory.specs.Packs.{dealerNumber}
 use Rattle.session.specs.declared.Session.{Session}
@@ -31,7 +32,7 @@ abbrev pub sessionAt : ℕ → Session
 sessionAt i = created 3 1 i (pointAt i) .session
 
 abbrev pub postRow : List ℕ → ℕ → List ℕ
-postRow draw i = part 3 2 i (pointAt i) draw
+postRow draw i = part (shape 3 1) i (pointAt i) draw
 
 -- a record with post 2's block alone
 abbrev pub fromPost2 : ℕ → ℕ → List ℕ

@@ -81,19 +81,19 @@ module _ (s : Shape) (draw : List ℕ) (low : Elements draw) (size : length draw
       first : (i : ℕ) → 0 + i ≡ i
       first i = omega arith
 
-  v-numbers : (j : ℕ) → 1 ≤ j → j ≤ s .n → drawnV s draw j ≡ numbers (vLength s) (S .v j)
+  v-numbers : (j : ℕ) → j - 1 < s .n → drawnV s draw j ≡ numbers (vLength s) (S .v j)
   unfolding vectorOf
-  v-numbers j lo hi = slice-numbers (vLength s) (fLength s + (j - 1) * vLength s) draw low (drawn-room s draw size j lo hi)
+  v-numbers j h = slice-numbers (vLength s) (fLength s + (j - 1) * vLength s) draw low (drawn-room s draw size j h)
 
   first-of : (k : ℕ) (a : ℕ → Element) → 1 ≤ k → getD (numbers k a) 0 0 ≡ a 0 .0
   unfolding numbers
   first-of zero a h = absurd (omega arith)
   first-of (suc k) a h = refl
 
-  pub part-is-row : (i w : ℕ) → 1 ≤ i → i ≤ s .n → part s i w draw ≡ rowOf (vLength s) (s .n) i (element w) S
+  pub part-is-row : (i w : ℕ) → i - 1 < s .n → part s i w draw ≡ rowOf (vLength s) (s .n) i (element w) S
   unfolding part rowOf vectorOf Same
-  part-is-row i w lo hi =
-      ap₂ _++_ (v-numbers i lo hi)
+  part-is-row i w h =
+      ap₂ _++_ (v-numbers i h)
       (ap₂ _++_ (each-numbers 1 (s .n) (λ j. value (drawnV s draw j) w) _ checks) (each-numbers 1 (s .n) (sumOf s draw) _ sums))
     where
       one-more : (j : ℕ) → 1 + j ≡ suc j
@@ -101,7 +101,7 @@ module _ (s : Shape) (draw : List ℕ) (low : Elements draw) (size : length draw
 
       checks : (j : ℕ) → j < s .n → value (drawnV s draw (1 + j)) w ≡ checkOf (vLength s) (element w) S j .0
       checks j l =
-          ap (λ (q : List ℕ). value q w) (v-numbers (1 + j) (omega arith) (omega arith)) ∙ value-numbers (vLength s) _ w
+          ap (λ (q : List ℕ). value q w) (v-numbers (1 + j) (omega arith)) ∙ value-numbers (vLength s) _ w
           ∙ ap (λ (m : ℕ). valueAt (vLength s) (S .v m) (element w) .0) (one-more j)
 
       join : (x y : Element) → sum (x .0) (y .0) ≡ (x ⊕ y ⊕ 0ᴱ) .0
@@ -112,7 +112,7 @@ module _ (s : Shape) (draw : List ℕ) (low : Elements draw) (size : length draw
       sums : (j : ℕ) → j < s .n → sumOf s draw (1 + j) ≡ sumAt (fLength s) S j .0
       sums j l =
           ap₂ sum
-          (ap (λ (q : List ℕ). getD q 0 0) (v-numbers (1 + j) (omega arith) (omega arith))
+          (ap (λ (q : List ℕ). getD q 0 0) (v-numbers (1 + j) (omega arith))
           ∙ first-of (vLength s) _ (omega arith)
           ∙ ap (λ (m : ℕ). S .v m 0 .0) (one-more j))
           (ap (λ (q : List ℕ). value q (1 + j)) f-numbers ∙ value-numbers (fLength s) _ (1 + j)

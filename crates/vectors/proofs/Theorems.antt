@@ -73,10 +73,11 @@ vector-combined g s xs ys e =
 
 pub part-linear : PartLinear
 part-linear g i w s draw draw' lo hi e e' l l' =
-    part-is-row g (combined s draw draw') (elements-combined s draw draw') (length-combined s draw draw' same ∙ l) i w lo hi
+    let h : i - 1 < g .n = omega arith in
+    part-is-row g (combined s draw draw') (elements-combined s draw draw') (length-combined s draw draw' same ∙ l) i w h
     ∙ ap (rowOf (vLength g) (g .n) i (element w)) (vector-combined g s draw draw' same)
     ∙ row-plusTimes (vLength g) (g .n) i s (element w) (vectorOf g draw) (vectorOf g draw')
-    ∙ sym (ap₂ (combined s) (part-is-row g draw e l i w lo hi) (part-is-row g draw' e' l' i w lo hi))
+    ∙ sym (ap₂ (combined s) (part-is-row g draw e l i w h) (part-is-row g draw' e' l' i w h))
   where
     same : length draw ≡ length draw'
     same = l ∙ sym l'

@@ -4,13 +4,13 @@
 pub const MODULUS: u32 = 2_147_483_647;
 
 /// The largest number of posts; the smallest is 2.
-pub const MAX_POSTS: usize = 32;
+pub const MAX_POSTS: usize = 255;
 
 /// The rows of a session.
 pub const ROWS: usize = 96;
 
 /// The bytes of the longest line, its line feed included.
-pub const LONGEST_LINE: usize = 712;
+pub const LONGEST_LINE: usize = 5619;
 
 /// The numbers of a row: t+1 coefficients, n check values, n public sums.
 pub const fn row_len(n: usize, t: usize) -> usize {

@@ -20,7 +20,7 @@ impl Refusal {
 impl fmt::Display for Refusal {
     fn fmt(&self, f: &mut fmt::Formatter) -> fmt::Result {
         let why = match self.0 {
-            1 => "the number of posts is outside 2 to 32",
+            1 => "the number of posts is outside 2 to 255",
             2 => "t is outside 1 to n - 1",
             3 => "the post is outside 1 to n",
             4 => "a check point is 0 or at least p",

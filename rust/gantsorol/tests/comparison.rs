@@ -4,6 +4,7 @@
 mod common;
 
 use common::{seeds, Verified};
+use gantsorol::MAX_POSTS;
 use reference::random::{
     compare_paperwork, compare_script, odd_triple, paperwork, script, script_for, wild_calls,
     wild_state, Call, Paperwork, PaperworkOutcome, Rng, Script, Seen, State, CALL_REFUSALS,
@@ -55,6 +56,57 @@ fn every_n_and_t() {
     if fixed_seeds() {
         seen.assert_met(&[("Open", &[0, 9]), ("Masks", &[0]), ("Finish", &[0, 9])]);
     }
+}
+
+/// Stations of a square, 33 to 255 posts: t small, in the middle and n − 1. Valid, refused and
+/// damaged calls, as in every script.
+#[test]
+fn squares() {
+    let mut seen = Seen::default();
+    for seed in seeds(240) {
+        let mut rng = Rng::new(seed);
+        let n = if rng.one_in(4) { MAX_POSTS } else { rng.between(33, MAX_POSTS) };
+        let t = match seed % 3 {
+            0 => rng.between(1, 4),
+            1 => rng.between(n / 2 - 2, n / 2 + 2),
+            _ => n - 1,
+        };
+        compare(seed, &script_for(&mut rng, n, t, 25), &mut seen);
+    }
+    if fixed_seeds() {
+        seen.assert_met(&[("Open", &[0, 8, 9]), ("Masks", &[0]), ("Finish", &[0, 8, 9])]);
+    }
+}
+
+/// 255 posts are taken and 256 refused, whatever t is; the street program's 33 are taken here.
+#[test]
+fn the_last_number_of_posts() {
+    for (n, refusal) in [(2, 0), (33, 0), (254, 0), (255, 0), (256, 1), (257, 1)] {
+        for t in [1, n / 2, n - 1] {
+            assert_eq!(Verified.new_session(n, t, n, 1).refusal, refusal, "{n}, {t}");
+            assert_eq!(Verified.write_deal(n, t, 0, 0, &mut [0; 6]).refusal, refusal, "{n}, {t}");
+            assert_eq!(Verified.read(n, t, b"D,0,0\n", &mut vec![0; 2 * (t + 1)]).refusal, refusal);
+        }
+        for t in [0, n] {
+            let expected = if refusal == 0 { 2 } else { 1 };
+            assert_eq!(Verified.new_session(n, t, n, 1).refusal, expected, "{n}, {t}");
+        }
+    }
+}
+
+/// The longest line, an `M` of the last triple from post 255 with t = 254: the formula's 5,619.
+#[test]
+fn the_longest_line() {
+    let (n, t) = (MAX_POSTS, MAX_POSTS - 1);
+    let numbers = vec![gantsorol::MODULUS - 1; gantsorol::masks_len(t)];
+    let mut line = vec![0; gantsorol::LONGEST_LINE];
+    let written = Verified.write_masks(n, t, 93, n, &numbers, &mut line);
+    assert_eq!((written.refusal, written.length), (0, 5_619));
+    let mut list = vec![0; gantsorol::line_list_len(t)];
+    assert_eq!(Verified.read(n, t, &line, &mut list).refusal, 0);
+    assert_eq!(list, numbers);
+    let short = &mut line[..gantsorol::LONGEST_LINE - 1];
+    assert_eq!(Verified.write_masks(n, t, 93, n, &numbers, short).refusal, 12);
 }
 
 fn refusal(outcome: &PaperworkOutcome) -> u8 {

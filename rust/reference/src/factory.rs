@@ -23,25 +23,30 @@ impl<'a> Draw<'a> {
 
     /// Writes every post's row "into its own part of the lent list, post 1 first".
     fn write<const P: u32>(&self, shape: Shape, points: &[u32], out: &mut [u32]) {
+        let sums = self.sums::<P>(shape);
         let parts = out.chunks_exact_mut(shape.row());
-        let polynomials = self.verification.chunks_exact(shape.coefficients());
-        for ((row, &point), own) in parts.zip(points).zip(polynomials) {
-            self.write_row::<P>(shape, own, point, row);
+        for ((row, &point), own) in parts.zip(points).zip(self.polynomials(shape)) {
+            row[shape.polynomial()].copy_from_slice(own);
+            row[shape.check_values()].copy_from_slice(&self.check_values::<P>(shape, point));
+            row[shape.sums()].copy_from_slice(&sums);
         }
     }
 
-    /// One post's row: its own polynomial, "the check values v1(wi) to vn(wi), its own included;
-    /// the public sums m1 to mn".
-    fn write_row<const P: u32>(&self, shape: Shape, own: &[u32], point: u32, row: &mut [u32]) {
-        row[shape.polynomial()].copy_from_slice(own);
-        let polynomials = || self.verification.chunks_exact(shape.coefficients());
-        for (check, v) in row[shape.check_values()].iter_mut().zip(polynomials()) {
-            *check = evaluate::<P>(v, point.into()).value();
-        }
-        for ((sum, v), j) in row[shape.sums()].iter_mut().zip(polynomials()).zip(1u32..) {
-            // "mj = vj(0) + f(j)."
-            *sum = (Element::<P>::from(v[0]) + evaluate(self.dealer, j.into())).value();
-        }
+    /// v1 to vn.
+    fn polynomials(&self, shape: Shape) -> impl Iterator<Item = &'a [u32]> {
+        self.verification.chunks_exact(shape.coefficients())
+    }
+
+    /// "The check values v1(wi) to vn(wi), its own included."
+    fn check_values<const P: u32>(&self, shape: Shape, point: u32) -> Vec<u32> {
+        self.polynomials(shape).map(|v| evaluate::<P>(v, point.into()).value()).collect()
+    }
+
+    /// "The public sums m1 to mn": "mj = vj(0) + f(j)."
+    fn sums<const P: u32>(&self, shape: Shape) -> Vec<u32> {
+        let f = |j: u32| evaluate::<P>(self.dealer, j.into());
+        let sum = |(v, j): (&[u32], u32)| (Element::from(v[0]) + f(j)).value();
+        self.polynomials(shape).zip(1..).map(sum).collect()
     }
 }
 

@@ -4,7 +4,7 @@
 #[derive(Clone, Copy, Debug, PartialEq, Eq, PartialOrd, Ord)]
 #[repr(u8)]
 pub enum Refusal {
-    /// n outside 2..32
+    /// n outside 2..255
     Posts = 1,
     /// t outside 1..n − 1
     Threshold = 2,

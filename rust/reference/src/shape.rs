@@ -4,8 +4,8 @@ use std::ops::Range;
 
 use crate::refusal::{require, Refusal};
 
-/// "n is the number of posts, 2 to 32."
-pub const MAX_POSTS: usize = 32;
+/// "n goes to 255 in the library."
+pub const MAX_POSTS: usize = 255;
 
 /// "A session has 96 rows, 0 to 95."
 pub const ROWS: usize = 96;
@@ -13,7 +13,7 @@ pub const ROWS: usize = 96;
 /// The rows of a triple: l, l' and l''.
 pub const TRIPLE: usize = 3;
 
-/// Checked numbers n and t: n is 2 to 32, t is 1 to n − 1.
+/// Checked numbers n and t: n is 2 to 255, t is 1 to n − 1.
 #[derive(Clone, Copy, Debug, PartialEq, Eq)]
 pub struct Shape {
     n: usize,

@@ -7,6 +7,9 @@ use crate::refusal::{require, Refusal};
 use crate::session::Session;
 use crate::shape::{Shape, ROWS};
 
+/// "The street program stays at 32 and gives 1 above that."
+pub const STREET_POSTS: usize = 32;
+
 /// The longest line that the program takes, with its line feed.
 pub const LONGEST_LINE: usize = 1061;
 
@@ -71,6 +74,7 @@ impl<const P: u32> Station<P> {
     /// `S,n,t,post,checkpoint`: "an `S` gets 10, then 1 to 4".
     fn start(line: &[u8]) -> Result<Self, Refusal> {
         let [n, t, post, point] = start_numbers(line).ok_or(Refusal::Form)?;
+        require(n <= STREET_POSTS as u64, Refusal::Posts)?;
         let session = Session {
             n: saturated(n),
             t: saturated(t),

@@ -119,7 +119,8 @@ fn p10_and_its_neighbours_lines() {
 #[test]
 fn sizes_of_a_station() {
     let refusal = |n, t| REFERENCE.new_session(n, t, 1, 1).refusal;
-    assert_eq!((refusal(32, 5), refusal(33, 5)), (0, 1));
+    assert_eq!((refusal(255, 5), refusal(256, 5)), (0, 1));
+    assert_eq!((refusal(32, 5), refusal(33, 5)), (0, 0));
     assert_eq!((refusal(2, 1), refusal(1, 1)), (0, 1));
     assert_eq!((refusal(9, 8), refusal(9, 0), refusal(9, 9)), (0, 2, 2));
 }
@@ -177,16 +178,18 @@ fn a_product_whose_constant_got_y_y_too_opens_to_something_else() {
     assert_eq!(station.open(4), [34, 34, 34]);
 }
 
-/// "The longest line has 712 bytes."
+/// "The longest line has 712 bytes" for 32 posts, "5,619 bytes" for 255.
 #[test]
 fn the_longest_broadcast_line() {
-    let mut part = [0; 713];
-    let numbers = [MODULUS - 1; 64];
-    let written = REFERENCE.write_masks(32, 31, 93, 32, &numbers, &mut part);
-    assert_eq!((written.refusal, written.length), (0, 712));
-    let mut out = [0; 64];
-    assert_eq!(REFERENCE.read(32, 31, &part[..712], &mut out).refusal, 0);
-    assert_eq!(out, numbers);
-    let short = REFERENCE.write_masks(32, 31, 93, 32, &numbers, &mut [0; 711]);
-    assert_eq!((short.refusal, short.length), (12, 0));
+    for (n, length) in [(32, 712), (255, 5619)] {
+        let (t, mut part) = (n - 1, vec![0; length + 1]);
+        let numbers = vec![MODULUS - 1; 2 * n];
+        let written = REFERENCE.write_masks(n, t, 93, n, &numbers, &mut part);
+        assert_eq!((written.refusal, written.length), (0, length));
+        let mut out = vec![0; 2 * n];
+        assert_eq!(REFERENCE.read(n, t, &part[..length], &mut out).refusal, 0);
+        assert_eq!(out, numbers);
+        let short = REFERENCE.write_masks(n, t, 93, n, &numbers, &mut part[..length - 1]);
+        assert_eq!((short.refusal, short.length), (12, 0));
+    }
 }

@@ -26,7 +26,7 @@ fn the_factory_checks_1_2_4_5_8_in_this_order() {
     let (points, draw) = (HAND_POINTS.as_slice(), HAND_DRAW.as_slice());
     assert_factory(3, 1, points, draw, 24, 0);
     assert_factory(1, 0, &[0], &[MODULUS], 0, 1);
-    assert_factory(33, 1, &[0], &[MODULUS], 0, 1);
+    assert_factory(256, 1, &[0], &[MODULUS], 0, 1);
     assert_factory(3, 3, &[0], &[MODULUS], 0, 2);
     assert_factory(3, 0, &[0], &[MODULUS], 0, 2);
     assert_factory(3, 1, &[2, 3, 0], &[MODULUS], 0, 4);
@@ -53,7 +53,7 @@ fn the_triple_too() {
     let points = HAND_POINTS.as_slice();
     let draw = vec![1; 23];
     assert_triple(3, 1, points, &draw, 72, 0);
-    assert_triple(33, 40, &[0], &draw, 72, 1);
+    assert_triple(256, 40, &[0], &draw, 72, 1);
     assert_triple(3, 4, &[0], &draw, 72, 2);
     assert_triple(3, 1, &[2, 3, 5, MODULUS], &draw, 71, 4);
     assert_triple(3, 1, &[2, 3], &draw, 72, 5);
@@ -170,7 +170,7 @@ const OUT_OF_RANGE: &[&str] = &[
 #[test]
 fn reading_checks_1_2_5_10_11_in_this_order() {
     assert_unread(1, 9, b"", 0, 1);
-    assert_unread(33, 9, b"", 0, 1);
+    assert_unread(256, 9, b"", 0, 1);
     assert_unread(3, 0, b"", 0, 2);
     assert_unread(3, 3, b"", 0, 2);
     for out in [0, 3, 5] {
@@ -197,13 +197,13 @@ fn assert_unwritten(write: Write, room: usize, number: u8) {
 #[test]
 fn writing_checks_1_2_3_5_6_8_12_in_this_order() {
     let bad = MODULUS;
-    assert_unwritten(&|out| REFERENCE.write_deal(33, 0, 96, bad, out), 0, 1);
-    assert_unwritten(&|out| REFERENCE.write_deal(32, 0, 96, bad, out), 0, 2);
-    assert_unwritten(&|out| REFERENCE.write_deal(32, 1, 96, bad, out), 0, 6);
-    assert_unwritten(&|out| REFERENCE.write_deal(32, 1, usize::MAX, bad, out), 0, 6);
-    assert_unwritten(&|out| REFERENCE.write_deal(32, 1, 95, bad, out), 0, 8);
-    assert_unwritten(&|out| REFERENCE.write_deal(32, 1, 95, bad - 1, out), 0, 12);
-    assert_unwritten(&|out| REFERENCE.write_deal(32, 1, 95, bad - 1, out), 15, 12);
+    assert_unwritten(&|out| REFERENCE.write_deal(256, 0, 96, bad, out), 0, 1);
+    assert_unwritten(&|out| REFERENCE.write_deal(255, 0, 96, bad, out), 0, 2);
+    assert_unwritten(&|out| REFERENCE.write_deal(255, 1, 96, bad, out), 0, 6);
+    assert_unwritten(&|out| REFERENCE.write_deal(255, 1, usize::MAX, bad, out), 0, 6);
+    assert_unwritten(&|out| REFERENCE.write_deal(255, 1, 95, bad, out), 0, 8);
+    assert_unwritten(&|out| REFERENCE.write_deal(255, 1, 95, bad - 1, out), 0, 12);
+    assert_unwritten(&|out| REFERENCE.write_deal(255, 1, 95, bad - 1, out), 15, 12);
 
     let opening = |n, t, row, post, numbers: &'static [u32]| {
         move |out: &mut [u8]| REFERENCE.write_opening(n, t, row, post, numbers, out)
@@ -235,7 +235,7 @@ fn writing_checks_1_2_3_5_6_8_12_in_this_order() {
 #[test]
 fn a_written_line_leaves_the_rest_of_its_part_untouched() {
     let mut part = *b"##################";
-    let written = REFERENCE.write_deal(32, 1, 95, MODULUS - 1, &mut part[..16]);
+    let written = REFERENCE.write_deal(255, 1, 95, MODULUS - 1, &mut part[..16]);
     assert_eq!((written.refusal, written.length), (0, 16));
     assert_eq!(&part, b"D,95,2147483646\n##");
     let mut part = *b"####################";

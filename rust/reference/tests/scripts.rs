@@ -65,6 +65,17 @@ fn every_n_and_t() {
     seen.assert_met(&[("Open", &[0, 9]), ("Finish", &[0, 9])]);
 }
 
+/// "n as a parameter": the larger station does what the smaller one does.
+#[test]
+fn larger_stations() {
+    let mut seen = Seen::default();
+    let mut rng = Rng::new(78);
+    for (n, t) in [(33, 1), (33, 32), (100, 50), (254, 1), (255, 1), (255, 127), (255, 254)] {
+        check(&script_for(&mut rng, n, t, 25), &mut seen);
+    }
+    seen.assert_met(&[("Open", &[0, 9])]);
+}
+
 /// The refusal, and whether a list lent for writing is as it was.
 fn refusal_and_untouched(outcome: &PaperworkOutcome) -> (u8, bool) {
     match outcome {

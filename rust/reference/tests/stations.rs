@@ -3,13 +3,13 @@
 mod common;
 
 use common::*;
-use reference::random::{check_points, shape, Call, Rng, SharedRow};
+use reference::random::{check_points, shape, street_shape, Call, Rng, SharedRow};
 use reference::{Element, Library, MODULUS, REFERENCE};
 
 type Field = Element<MODULUS>;
 
 fn station(rng: &mut Rng) -> Station {
-    let (n, t) = shape(rng);
+    let (n, t) = street_shape(rng);
     Station::new(n, t, &check_points(rng, n))
 }
 
@@ -28,24 +28,42 @@ fn only_some(rng: &mut Rng, messages: &[Message], wanted: usize) -> Vec<Message>
 fn sums_and_products_open_to_the_plain_ones() {
     for seed in 0..60 {
         let mut rng = Rng::new(seed);
-        let mut station = station(&mut rng);
-        let [a, b, scale, fee] = [(); 4].map(|()| Field::from(rng.element()));
-        for (row, secret) in [(0, a), (1, b)] {
-            let shared = SharedRow::random(&mut rng, station.shape);
-            station.share(row, &shared, secret.value());
-        }
-        let triples = [(); 2].map(|()| SharedRow::random_triple(&mut rng, station.shape));
-        station.load_triple(2, &triples[0]);
-        station.load_triple(93, &triples[1]);
-        station.multiply(0, 1, 2);
-        let (s, public) = (scale.value(), fee.value());
-        station.each(|_| Call::Linear { dest: 5, a: 4, b: 0, scale: s, fee: public });
-        station.multiply(5, 5, 93);
-        let sum = a * b + scale * a + fee;
-        for (row, plain) in [(0, a), (1, b), (4, a * b), (5, sum), (95, sum * sum)] {
-            assert_eq!(station.open(row), vec![plain.value(); station.n()], "seed {seed}");
-        }
+        let station = station(&mut rng);
+        assert_sums_and_products(&mut rng, station);
     }
+}
+
+fn assert_sums_and_products(rng: &mut Rng, mut station: Station) {
+    let [a, b, scale, fee] = [(); 4].map(|()| Field::from(rng.element()));
+    for (row, secret) in [(0, a), (1, b)] {
+        let shared = SharedRow::random(rng, station.shape);
+        station.share(row, &shared, secret.value());
+    }
+    let triples = [(); 2].map(|()| SharedRow::random_triple(rng, station.shape));
+    station.load_triple(2, &triples[0]);
+    station.load_triple(93, &triples[1]);
+    station.multiply(0, 1, 2);
+    let (s, public) = (scale.value(), fee.value());
+    station.each(|_| Call::Linear { dest: 5, a: 4, b: 0, scale: s, fee: public });
+    station.multiply(5, 5, 93);
+    let sum = a * b + scale * a + fee;
+    for (row, plain) in [(0, a), (1, b), (4, a * b), (5, sum), (95, sum * sum)] {
+        assert_eq!(station.open(row), vec![plain.value(); station.n()]);
+    }
+}
+
+/// "Squares with up to 255 posts."
+#[test]
+fn a_square_of_255_posts() {
+    let mut rng = Rng::new(3);
+    for (n, t) in [(33, 16), (255, 3)] {
+        let station = Station::new(n, t, &check_points(&mut rng, n));
+        assert_sums_and_products(&mut rng, station);
+    }
+    let mut station = Station::new(255, 254, &check_points(&mut rng, 255));
+    let shared = SharedRow::random(&mut rng, station.shape);
+    station.share(95, &shared, 12);
+    assert_eq!(station.open(95), [12; 255]);
 }
 
 /// Shares one secret and hands out all opening messages.
@@ -124,7 +142,7 @@ fn a_forged_polynomial_passes_only_where_it_meets_the_true_one() {
 fn the_factory_gives_what_the_polynomials_say() {
     for seed in 300..360 {
         let mut rng = Rng::new(seed);
-        let (n, t) = shape(&mut rng);
+        let (n, t) = street_shape(&mut rng);
         let shape = reference::Shape::checked(n, t).unwrap();
         let points = check_points(&mut rng, n);
         let triple = SharedRow::random_triple(&mut rng, shape);
@@ -145,12 +163,12 @@ fn lines_read_back_what_was_written() {
         let (n, t) = shape(&mut rng);
         let (row, first, post) = (rng.below(96), rng.below(94), rng.between(1, n));
         let numbers = rng.elements(2 * (t + 1));
-        let mut part = [0; 712];
+        let mut part = [0; 5619];
         let mut out = vec![1; 2 * (t + 1)];
         let written = [
             REFERENCE.write_deal(n, t, row, numbers[0], &mut part),
-            REFERENCE.write_opening(n, t, row, post, &numbers[..t + 1], &mut [0; 712]),
-            REFERENCE.write_masks(n, t, first, post, &numbers, &mut [0; 712]),
+            REFERENCE.write_opening(n, t, row, post, &numbers[..t + 1], &mut [0; 5619]),
+            REFERENCE.write_masks(n, t, first, post, &numbers, &mut [0; 5619]),
         ];
         assert!(written.iter().all(|written| written.refusal == 0));
         let read = REFERENCE.read(n, t, &part[..written[0].length], &mut out);

@@ -1,4 +1,4 @@
-//! The calls that are timed: the library's, the second implementation's and the fastest opening's.
+//! The calls that are timed: the library's, the second implementation's and the fastest plain Rust's.
 
 use std::hint::black_box;
 
@@ -98,6 +98,7 @@ fn openings(i: &Inputs) -> Vec<Contest<'_>> {
         ),
         opening("open", i, &i.record),
         opening("open, few there", i, &i.scattered),
+        opening("open, 2 missing", i, &i.one_missing),
     ]
 }
 
@@ -152,25 +153,22 @@ extern "C" fn second_number(u: u32, constant: u32) -> gantsorol::Number {
     gantsorol::Number { refusal, value }
 }
 
+fn factory_row(i: &Inputs) -> Contest<'_> {
+    let (n, t, points, draw) = (i.n, i.t, &i.points[..], &i.row_draw[..]);
+    let packs = n * gantsorol::row_len(n, t);
+    let ours = filling(packs, move |out| gantsorol::factory_row(n, t, points, draw, out), refused);
+    let second = filling(packs, move |out| REFERENCE.factory_row(n, t, points, draw, out), |&a| a);
+    let fastest = filling(packs, move |out| fastest::factory_row(n, t, points, draw, out), |&a| a);
+    Contest { name: "factory row", runs: vec![ours, second, fastest] }
+}
+
 fn factory(i: &Inputs) -> Vec<Contest<'_>> {
     let (n, t) = (i.n, i.t);
     let packs = n * gantsorol::row_len(n, t);
     let second: extern "C" fn(u32, u32) -> gantsorol::Number = second_number;
     let second = black_box(second);
     vec![
-        contest(
-            "factory row",
-            filling(
-                packs,
-                move |out| gantsorol::factory_row(n, t, &i.points, &i.row_draw, out),
-                refused,
-            ),
-            filling(
-                packs,
-                move |out| REFERENCE.factory_row(n, t, &i.points, &i.row_draw, out),
-                |&a| a,
-            ),
-        ),
+        factory_row(i),
         contest(
             "factory triple",
             filling(

@@ -1,8 +1,13 @@
-//! The opening alone, as fast as plain Rust makes it, with every check and the same answers.
+//! The opening and the factory's row, as fast as plain Rust makes them, with every check and the same
+//! answers. Lists are of the size of the station: up to 32 posts, or up to the most.
 
-use gantsorol::{block_len, row_len, rows_len, Answer, Session, MAX_POSTS, MODULUS, ROWS};
+use gantsorol::{block_len, row_draw_len, row_len, rows_len};
+use gantsorol::{Answer, Session, MAX_POSTS, MODULUS, ROWS};
 
 const P: u64 = MODULUS as u64;
+
+/// So many posts are few: lists of this length are enough for them.
+const FEW: usize = 32;
 
 /// x modulo p, for x below 2^62: p is 2^31 − 1.
 const fn reduced(x: u64) -> u64 {
@@ -45,7 +50,7 @@ struct Table {
     inverse_factorial: [u64; MAX_POSTS + 1],
 }
 
-const TABLE: Table = {
+static TABLE: Table = {
     let ones = [1; MAX_POSTS + 1];
     let mut table = Table { inverse: ones, factorial: ones, inverse_factorial: ones };
     let mut k = 1;
@@ -58,8 +63,22 @@ const TABLE: Table = {
     table
 };
 
-/// The call.
+/// Refusals 1 and 2.
+fn checked_shape(n: usize, t: usize) -> Result<(), u8> {
+    match () {
+        () if !(2..=MAX_POSTS).contains(&n) => Err(1),
+        () if t < 1 || t >= n => Err(2),
+        () => Ok(()),
+    }
+}
+
+fn is_point(point: u32) -> bool {
+    point != 0 && point < MODULUS
+}
+
+/// The opening.
 pub fn open(session: Session, rows: &[u32], row: usize, record: &[u32]) -> Answer {
+    let number = if session.n <= FEW { number::<FEW> } else { number::<MAX_POSTS> };
     let (refusal, value) = match number(&session, rows, row, record) {
         Ok(value) => (0, value),
         Err(refusal) => (refusal, 0),
@@ -70,40 +89,32 @@ pub fn open(session: Session, rows: &[u32], row: usize, record: &[u32]) -> Answe
 /// Refusals 1 to 7.
 fn checked(session: &Session, rows: &[u32], row: usize, record: &[u32]) -> Result<(), u8> {
     let Session { n, t, post, point, .. } = *session;
-    if !(2..=MAX_POSTS).contains(&n) {
-        return Err(1);
+    checked_shape(n, t)?;
+    match () {
+        () if post < 1 || post > n => Err(3),
+        () if !is_point(point) => Err(4),
+        () if rows.len() != rows_len(n, t) || record.len() != n * block_len(t) => Err(5),
+        () if row >= ROWS => Err(6),
+        () if session.marks[row] != 2 => Err(7),
+        () => Ok(()),
     }
-    if t < 1 || t >= n {
-        return Err(2);
-    }
-    if post < 1 || post > n {
-        return Err(3);
-    }
-    if point == 0 || point >= MODULUS {
-        return Err(4);
-    }
-    if rows.len() != rows_len(n, t) || record.len() != n * block_len(t) {
-        return Err(5);
-    }
-    if row >= ROWS {
-        return Err(6);
-    }
-    if session.marks[row] != 2 {
-        return Err(7);
-    }
-    Ok(())
 }
 
-fn number(session: &Session, rows: &[u32], row: usize, record: &[u32]) -> Result<u32, u8> {
+fn number<const N: usize>(
+    session: &Session,
+    rows: &[u32],
+    row: usize,
+    record: &[u32],
+) -> Result<u32, u8> {
     checked(session, rows, row, record)?;
     let Session { n, t, post, point, .. } = *session;
     let numbers = &rows[row * row_len(n, t)..][..row_len(n, t)];
     let (own, seen) = numbers.split_at(t + 1);
     let (checks, sums) = seen.split_at(n);
 
-    let powers = powers(point, t + 1);
+    let powers = powers::<N>(point, t + 1);
     let mut beyond = any_beyond(numbers);
-    let (mut nodes, mut left, mut shares) = (0u32, t + 1, [0; MAX_POSTS]);
+    let (mut nodes, mut shares, mut count) = ([0; N], [0; N], 0);
     for (index, block) in record.chunks_exact(t + 2).enumerate() {
         let sent = match block {
             _ if index + 1 == post => own,
@@ -115,15 +126,15 @@ fn number(session: &Session, rows: &[u32], row: usize, record: &[u32]) -> Result
             [] => continue,
         };
         beyond |= any_beyond(sent);
-        if left > 0 && value(sent, &powers) == u64::from(checks[index]) {
-            left -= 1;
-            nodes |= 1 << index;
-            shares[index] = reduced(u64::from(sums[index]) + 4 * P - u64::from(sent[0]));
+        if count <= t && value(sent, &powers) == u64::from(checks[index]) {
+            nodes[count] = index;
+            shares[count] = reduced(u64::from(sums[index]) + 4 * P - u64::from(sent[0]));
+            count += 1;
         }
     }
-    match (beyond, left) {
+    match (beyond, count > t) {
         (true, _) => Err(8),
-        (false, 0) => Ok(interpolated(nodes, &shares) as u32),
+        (false, true) => Ok(interpolated::<N>(&nodes[..=t], &shares[..=t]) as u32),
         _ => Err(9),
     }
 }
@@ -135,8 +146,8 @@ fn any_beyond(numbers: &[u32]) -> bool {
 
 /// The powers of x, each from two that are about half as high, so that they don't wait in a row.
 /// Numbers of 32 bits, so that their products with others are taken two at a time.
-fn powers(x: u32, count: usize) -> [u32; MAX_POSTS] {
-    let mut powers = [1; MAX_POSTS];
+fn powers<const N: usize>(x: u32, count: usize) -> [u32; N] {
+    let mut powers = [1; N];
     powers[1] = x;
     for exponent in 2..count {
         let (half, rest) = (powers[exponent / 2], powers[exponent - exponent / 2]);
@@ -146,7 +157,7 @@ fn powers(x: u32, count: usize) -> [u32; MAX_POSTS] {
 }
 
 /// A polynomial's value: the low and the high halves of the products are added up by themselves.
-fn value(coefficients: &[u32], powers: &[u32; MAX_POSTS]) -> u64 {
+fn value(coefficients: &[u32], powers: &[u32]) -> u64 {
     let (mut low, mut high) = (0, 0);
     for (&coefficient, &power) in coefficients.iter().zip(powers) {
         let term = u64::from(coefficient) * u64::from(power);
@@ -156,32 +167,33 @@ fn value(coefficients: &[u32], powers: &[u32; MAX_POSTS]) -> u64 {
     reduced(low + high)
 }
 
-/// The interpolation at 0 of the shares at these nodes: bit k stands for post k + 1.
+/// The interpolation at 0 of the shares at these nodes, k for post k + 1, which rise.
 ///
 /// A share's factor is the product of k / (k − j) over the other nodes k. Over all posts from the
 /// first node to the last it is made of factorials; those that are no nodes are taken out of it.
-fn interpolated(nodes: u32, shares: &[u64; MAX_POSTS]) -> u64 {
-    let first = nodes.trailing_zeros() as usize;
-    let last = nodes.ilog2() as usize;
-    let (mut list, mut count) = ([0; MAX_POSTS], 0);
-    for gap in (first..last).filter(|index| nodes >> index & 1 == 0) {
-        list[count] = gap as i64;
-        count += 1;
+fn interpolated<const N: usize>(nodes: &[usize], shares: &[u64]) -> u64 {
+    let (first, last) = (nodes[0], nodes[nodes.len() - 1]);
+    let (mut list, mut count, mut next) = ([0; N], 0, 0);
+    for index in first..=last {
+        if nodes[next] == index {
+            next += 1;
+        } else {
+            list[count] = index as i64;
+            count += 1;
+        }
     }
     let gaps = &list[..count];
     let all = product(TABLE.factorial[last + 1], TABLE.inverse_factorial[first]);
     let all = gaps.iter().fold(all, |all, &gap| product(all, TABLE.inverse[gap as usize + 1]));
+    // Distances are at most 31 or 254; twelve of the first and seven of the others are below 2^62.
+    let together = if N == FEW { 12 } else { 7 };
     let mut sum = 0;
-    for (index, &share) in shares.iter().enumerate().take(last + 1).skip(first) {
-        if nodes >> index & 1 == 0 {
-            continue;
-        }
+    for (&index, &share) in nodes.iter().zip(shares) {
         let below = TABLE.inverse_factorial[index - first];
         let above = TABLE.inverse_factorial[last - index];
         let mut term = product(product(share, TABLE.inverse[index + 1]), product(below, above));
         let mut minus = (index - first) % 2 == 1;
-        // A distance is at most 31, and twelve of them less than 2^62.
-        for part in gaps.chunks(12) {
+        for part in gaps.chunks(together) {
             let away: i64 = part.iter().map(|gap| gap - index as i64).product();
             minus ^= away < 0;
             term = product(term, reduced(away.unsigned_abs()));
@@ -189,4 +201,53 @@ fn interpolated(nodes: u32, shares: &[u64; MAX_POSTS]) -> u64 {
         sum += if minus { P - term } else { term };
     }
     product(all, reduced(sum))
+}
+
+/// The factory's row.
+pub fn factory_row(n: usize, t: usize, points: &[u32], draw: &[u32], out: &mut [u32]) -> u8 {
+    let write = if n <= FEW { write_packs::<FEW> } else { write_packs::<MAX_POSTS> };
+    match checked_factory(n, t, points, draw, out) {
+        Ok(()) => write(n, t, points, draw, out),
+        Err(refusal) => return refusal,
+    }
+    0
+}
+
+/// Refusals 1 to 8.
+fn checked_factory(
+    n: usize,
+    t: usize,
+    points: &[u32],
+    draw: &[u32],
+    out: &[u32],
+) -> Result<(), u8> {
+    checked_shape(n, t)?;
+    let lengths = [n, row_draw_len(n, t), n * row_len(n, t)];
+    match () {
+        () if !points.iter().all(|&point| is_point(point)) => Err(4),
+        () if [points.len(), draw.len(), out.len()] != lengths => Err(5),
+        () if any_beyond(draw) => Err(8),
+        () => Ok(()),
+    }
+}
+
+/// All posts' rows: the public sums once, then of each post the powers of its check point, and a sum
+/// of products for each polynomial.
+fn write_packs<const N: usize>(n: usize, t: usize, points: &[u32], draw: &[u32], out: &mut [u32]) {
+    let (f, vs) = draw.split_at(t + 1);
+    let mut sums = [0; N];
+    for (j, v) in vs.chunks_exact(t + 1).enumerate() {
+        let powers = powers::<N>(j as u32 + 1, t + 1);
+        sums[j] = reduced(u64::from(v[0]) + value(f, &powers)) as u32;
+    }
+    for (i, (row, &point)) in out.chunks_exact_mut(row_len(n, t)).zip(points).enumerate() {
+        let (own, seen) = row.split_at_mut(t + 1);
+        let (checks, public) = seen.split_at_mut(n);
+        let powers = powers::<N>(point, t + 1);
+        own.copy_from_slice(&vs[i * (t + 1)..][..t + 1]);
+        for (check, v) in checks.iter_mut().zip(vs.chunks_exact(t + 1)) {
+            *check = value(v, &powers) as u32;
+        }
+        public.copy_from_slice(&sums[..n]);
+    }
 }

@@ -16,9 +16,10 @@ pub struct Inputs {
     pub triple_draw: Vec<u32>,
     pub pack: Vec<u32>,
     pub triple_pack: Vec<u32>,
-    /// Of row 1: all posts, and so few that the last is needed.
+    /// Of row 1: all posts; so few that the last is needed; all but post 2, where t+1 are left.
     pub record: Vec<u32>,
     pub scattered: Vec<u32>,
+    pub one_missing: Vec<u32>,
     /// Of a − l and b − l' of the second triple.
     pub masked: [Vec<u32>; 2],
     /// Elements to be written into lines.
@@ -28,7 +29,7 @@ pub struct Inputs {
 impl Inputs {
     pub fn new(n: usize, t: usize) -> Self {
         let shape = Shape::checked(n, t).expect("n and t are in range");
-        let mut rng = Rng::new((n * 32 + t) as u64);
+        let mut rng = Rng::new((n * 256 + t) as u64);
         let points = check_points(&mut rng, n);
         let [raw, a, b] = [(); 3].map(|()| SharedRow::random(&mut rng, shape));
         let triples = [(); 2].map(|()| SharedRow::random_triple(&mut rng, shape));
@@ -57,6 +58,7 @@ impl Inputs {
             triple_pack: triples[0].iter().flat_map(pack).collect(),
             record: record(&a, |_| true),
             scattered: record(&a, heard),
+            one_missing: record(&a, |post| post != 2 || t + 1 == n),
             masked,
             numbers: rng.elements(shape.masks()),
             points,

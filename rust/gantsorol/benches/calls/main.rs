@@ -1,5 +1,5 @@
-//! Times each call of the library, of the second implementation and, for the opening, of the
-//! fastest plain Rust, in another order in every round: what else the machine does at regular times
+//! Times each call of the library, of the second implementation and, for the openings and the
+//! factory's row, of the fastest plain Rust, in another order in every round: what else the machine does at regular times
 //! then meets them all alike.
 //!
 //! A ratio is of times taken in the same round: the median of all rounds, and the quartiles, since
@@ -14,11 +14,18 @@ mod inputs;
 mod timing;
 
 use inputs::Inputs;
-use reference::random::{script, Call, Rng, State};
-use reference::{Session, REFERENCE};
+use reference::random::{check_points, script, Call, Rng, State};
+use reference::{Library, Session, REFERENCE};
 use timing::{shuffled, Held};
 
-const ROUNDS: usize = 101;
+/// Rounds for a station of n posts: the second implementation takes long for large ones.
+fn rounds(n: usize) -> usize {
+    if n <= 32 {
+        101
+    } else {
+        21
+    }
+}
 
 /// The fastest opening answers as the second implementation does, on every opening of some scripts.
 fn check_fastest() {
@@ -53,18 +60,32 @@ fn check_fastest() {
     println!("the fastest opening agrees on {openings} openings\n");
 }
 
+/// And the fastest factory's row writes what the second implementation writes, at every kind of size.
+fn check_factory() {
+    let mut rng = Rng::new(1);
+    for (n, t) in [(2, 1), (3, 1), (32, 31), (33, 1), (100, 50), (255, 254)] {
+        let points = check_points(&mut rng, n);
+        let draw = rng.elements(gantsorol::row_draw_len(n, t));
+        let [mut ours, mut second] = [(); 2].map(|()| vec![0; n * gantsorol::row_len(n, t)]);
+        assert_eq!(fastest::factory_row(n, t, &points, &draw, &mut ours), 0);
+        assert_eq!(REFERENCE.factory_row(n, t, &points, &draw, &mut second), 0);
+        assert_eq!(ours, second, "{n}, {t}");
+    }
+}
+
 fn main() {
     check_fastest();
+    check_factory();
     let mut rng = Rng::new(0);
-    for (n, t) in [(3, 1), (32, 15), (32, 31)] {
+    for (n, t) in [(3, 1), (32, 15), (32, 31), (255, 127), (255, 254)] {
         let inputs = Inputs::new(n, t);
-        println!("n = {n}, t = {t}: {ROUNDS} rounds");
+        println!("n = {n}, t = {t}: {} rounds", rounds(n));
         println!(
             "{:<16} {:>10} {:>10}   {:<18} {:<18} ours/fastest",
             "call", "ours, ns", "second, ns", "ours/second", "ours/ours again"
         );
         let mut held: Vec<Held> = contests::all(&inputs).into_iter().map(Held::new).collect();
-        for _ in 0..ROUNDS {
+        for _ in 0..rounds(n) {
             for contest in shuffled(&mut rng, held.len()) {
                 held[contest].round(&mut rng);
             }

@@ -41,6 +41,24 @@ fn stations_of_every_n_and_t(check: Check) {
     }
 }
 
+/// Squares: t small, in the middle and n − 1.
+const SQUARES: [(usize, usize); 6] =
+    [(33, 16), (64, 63), (100, 3), (200, 150), (255, 1), (255, 127)];
+
+fn squares(check: Check) {
+    for (n, t) in SQUARES {
+        let mut rng = Rng::new((n * 256 + t) as u64);
+        let station = Station::new(&mut rng, n, t);
+        check(&mut rng, station, 0);
+    }
+}
+
+#[test]
+fn sums_and_products_of_squares() {
+    squares(check_sums);
+    squares(check_products);
+}
+
 #[test]
 fn sums_open_to_the_plain_ones() {
     random_stations(300, check_sums);

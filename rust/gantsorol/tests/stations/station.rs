@@ -2,7 +2,7 @@
 
 use gantsorol::{block_len, line_list_len, masks_len, row_len, rows_len};
 use gantsorol::{Session, Written, LONGEST_LINE};
-use reference::random::{check_points, shape, Rng, SharedRow};
+use reference::random::{check_points, street_shape, Rng, SharedRow};
 use reference::Shape;
 
 use crate::post::Post;
@@ -16,7 +16,7 @@ pub struct Station {
 
 impl Station {
     pub fn random(rng: &mut Rng) -> Self {
-        let (n, t) = shape(rng);
+        let (n, t) = street_shape(rng);
         Self::new(rng, n, t)
     }
 

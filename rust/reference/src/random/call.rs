@@ -127,7 +127,10 @@ impl Call {
     }
 }
 
+/// The most numbers of a list to be filled: a triple for 255 posts, 3 × 255 × 765, has fewer.
+const LONGEST: usize = 600_000;
+
 /// A list of `length` numbers, no two alike, none an element, so that every write is seen.
 pub fn unwritten(length: usize) -> Vec<u32> {
-    (0..length.min(1 << 16)).map(|place| 0xC0DE_0000 + place as u32).collect()
+    (0..length.min(LONGEST)).map(|place| 0xC0DE_0000 + place as u32).collect()
 }

@@ -2,7 +2,7 @@
 
 use super::call::unwritten;
 use super::damage::{damage_list, damage_size, random_length};
-use super::{check_points, join, mutate, Rng, SharedRow};
+use super::{check_points, join, mutate, street_shape, Rng, SharedRow};
 use crate::{Library, ReadLine, Shape, Written, ROWS, TRIPLE};
 
 /// A call without a session. Lists to be filled are given by their length.
@@ -133,9 +133,11 @@ pub fn paperwork(seed: u64) -> Paperwork {
 }
 
 fn valid(rng: &mut Rng) -> Paperwork {
-    let (n, t) = super::shape(rng);
+    let kind = rng.below(10);
+    // The factory takes long for large stations.
+    let (n, t) = if kind < 2 && !rng.one_in(5) { street_shape(rng) } else { super::shape(rng) };
     let shape = Shape::checked(n, t).expect("a random shape is in range");
-    match rng.below(10) {
+    match kind {
         0 => factory_row(rng, shape, n, t),
         1 => factory_triple(rng, shape, n, t),
         2 => Paperwork::DealerNumber { u: rng.element(), f0: rng.element() },

@@ -2,24 +2,42 @@
 
 use super::Rng;
 use crate::polynomial::evaluate;
-use crate::{Element, Shape, MAX_POSTS, MODULUS};
+use crate::{Element, Shape, MAX_POSTS, MODULUS, STREET_POSTS};
 
 type Field = Element<MODULUS>;
 
-/// Random n and t, now and then at the edges.
+/// Random n and t, now and then at the edges: one in twenty with more posts than the street program
+/// takes, as these take long.
 pub fn shape(rng: &mut Rng) -> (usize, usize) {
-    let n = match rng.below(6) {
+    let n = match rng.below(60) {
         0 => MAX_POSTS,
+        1 | 2 => rng.between(STREET_POSTS + 1, MAX_POSTS),
+        _ => street_posts(rng),
+    };
+    (n, threshold(rng, n))
+}
+
+/// Random n and t that the street program takes.
+pub fn street_shape(rng: &mut Rng) -> (usize, usize) {
+    let n = street_posts(rng);
+    (n, threshold(rng, n))
+}
+
+fn street_posts(rng: &mut Rng) -> usize {
+    match rng.below(6) {
+        0 => STREET_POSTS,
         1 => 2,
         2 | 3 => rng.between(3, 5),
-        _ => rng.between(2, MAX_POSTS),
-    };
-    let t = match rng.below(4) {
+        _ => rng.between(2, STREET_POSTS),
+    }
+}
+
+fn threshold(rng: &mut Rng, n: usize) -> usize {
+    match rng.below(4) {
         0 => n - 1,
         1 => 1,
         _ => rng.between(1, n - 1),
-    };
-    (n, t)
+    }
 }
 
 /// A check point for each post, now and then an equal pair.

@@ -1,12 +1,12 @@
 //! Random inputs of the street program.
 
 use super::{check_points, join, mutate, Rng, SharedRow};
-use crate::{Shape, LONGEST_LINE, MODULUS, ROWS};
+use crate::{Shape, LONGEST_LINE, MODULUS, ROWS, STREET_POSTS};
 
 /// The input of `seed`: about `length` lines, some of them harmed.
 pub fn street_input(seed: u64, length: usize) -> Vec<u8> {
     let mut rng = Rng::new(seed);
-    let (n, t) = super::shape(&mut rng);
+    let (n, t) = super::street_shape(&mut rng);
     let shape = Shape::checked(n, t).expect("a random shape is in range");
     let points = check_points(&mut rng, n);
     let rows = rng.between(1, 3);
@@ -58,6 +58,7 @@ impl Clerk {
     fn any_line(&mut self) -> Vec<u8> {
         match self.rng.below(24) {
             0 => self.start(),
+            1 if self.rng.one_in(2) => self.larger_station(),
             1 => self.overlong(),
             2 => self.rng.pick(&[b"" as &[u8], b"\n", b"S\n", b"\r\n", b"G\n"]).to_vec(),
             3 => self.other_letter(),
@@ -77,6 +78,14 @@ impl Clerk {
             return format!("S,{n},-,{},{point}\n", self.post).into_bytes();
         }
         line
+    }
+
+    /// A start for more posts than the program takes, which may be wrong in other things too.
+    fn larger_station(&mut self) -> Vec<u8> {
+        let n = self.rng.pick(&[STREET_POSTS + 1, 64, 254, 255, 256, 257]) as u64;
+        let t = self.rng.pick(&[0, 1, n - 1, n]);
+        let point = self.rng.pick(&[0, 1, u64::from(MODULUS) - 1, u64::from(MODULUS)]);
+        join("S", [n, t, self.rng.pick(&[0, 1, n, n + 1]), point])
     }
 
     /// A line about as long as the longest taken, or longer.

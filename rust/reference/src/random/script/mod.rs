@@ -67,7 +67,7 @@ pub fn script(seed: u64, length: usize) -> Script {
     script_for(&mut rng, n, t, length)
 }
 
-/// A script for n posts, 2 to 32, and threshold t, 1 to n − 1.
+/// A script for n posts, 2 to 255, and threshold t, 1 to n − 1.
 pub fn script_for(rng: &mut Rng, n: usize, t: usize, length: usize) -> Script {
     let shape = Shape::checked(n, t).expect("n and t of a script are in range");
     let points = check_points(rng, n);

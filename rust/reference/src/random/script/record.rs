@@ -5,12 +5,13 @@ use crate::random::SharedRow;
 use crate::{Element, MODULUS};
 
 impl Author<'_> {
-    /// A record for a row: with the own post, at least t+1 honest ones, or t (in which case a
-    /// forged polynomial may still be accepted). The own block is nonsense.
+    /// A record for a row: with the own post, at least t+1 honest ones, or t (in which case, in every
+    /// second record, forged polynomials may still be accepted). The own block is nonsense.
     pub(super) fn record(&mut self, shared: &SharedRow, enough: bool) -> Vec<u32> {
         let others = self.shape.posts() - 1;
         let needed = self.shape.shares_needed() - 1;
         let mut honest = if enough { self.rng.between(needed, others) } else { needed - 1 };
+        let noticed = enough || self.rng.one_in(2);
         let mut posts_left = others;
         let mut record = vec![];
         for post in 1..=self.shape.posts() {
@@ -20,7 +21,7 @@ impl Author<'_> {
                 let chosen = self.rng.below(posts_left) < honest;
                 honest -= usize::from(chosen);
                 posts_left -= 1;
-                record.extend(self.block(&shared.v[post - 1], chosen, enough));
+                record.extend(self.block(&shared.v[post - 1], chosen, noticed));
             }
         }
         record
