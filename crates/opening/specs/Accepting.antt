@@ -1,13 +1,14 @@
 -- Document 01, "Calls on a session", Open: which posts a party accepts for a row, and the number that they bring out.
 use Prim.Native.Nat.{ℕ, zero, suc, _-_, _≤_, _<_}
 use mathlib.Core.Path.{_≡_}
-use mathlib.Core.Bool.{Bool, true, false, cond}
+use mathlib.Core.Bool.{Bool, true, false, not, cond}
 use mathlib.Core.List.{List, [], _∷_, map}
 use lib.Dec.{ltb, eqb}
-use lib.ListN.{length, take, getD}
+use lib.ListN.{length, take, drop, getD}
 use Rattle.field.specs.Arithmetic.{difference}
 use Rattle.poly.specs.Polynomial.{value}
 use Rattle.poly.specs.Interpolation.{interpolated}
+use Rattle.agreement.specs.Agreement.{allAgree}
 use Rattle.inverses.specs.InverseTable.{Inverts}
 use Rattle.shape.specs.declared.Shape.{Shape}
 use Rattle.shape.specs.Lengths.{needed, vLength, rowLength}
@@ -61,11 +62,6 @@ walkEnd test j (suc k) (suc need) =
 abbrev pub outcomeOf : Party → List ℕ → List ℕ → Walk
 outcomeOf q row blocks = walkEnd (accepts q row blocks) 1 (q .shape .n) (needed (q .shape))
 
--- What each outcome is in document 01: the number that was found, or 9 with 0 for a value.
-abbrev pub settled : Walk → ℕ → Opened
-settled (Enough j) value = record { refusal = 0; value = value }
-settled TooFew value = record { refusal = 9; value = 0 }
-
 -- 9: "fewer than t+1 accepted"
 abbrev pub tooFew : Party → List ℕ → List ℕ → Bool
 tooFew q row blocks = ltb (length (acceptedPosts q row blocks)) (needed (q .shape))
@@ -75,6 +71,23 @@ unfoldable pub opened : Party → List ℕ → List ℕ → ℕ
 opened q row blocks =
     interpolated (acceptedPosts q row blocks) (map (share q row blocks) (acceptedPosts q row blocks)) 0
 
+-- Document 02, (iv): "From now on the post checks all n." The further accepted posts are those behind the lowest t+1.
+abbrev pub further : Party → List ℕ → List ℕ → List ℕ
+further q row blocks = drop (needed (q .shape)) (accepted q row blocks)
+
+-- 13: "every further accepted share must lie on the same polynomial of degree at most t", that through the lowest t+1; one does not.
+unfoldable pub disagree : Party → List ℕ → List ℕ → Bool
+disagree q row blocks =
+    not
+    (allAgree (acceptedPosts q row blocks) (map (share q row blocks) (acceptedPosts q row blocks)) (further q row blocks)
+    (map (share q row blocks) (further q row blocks)))
+
+-- What each outcome is: 9 with 0 for a value; where enough are accepted, 13 with 0 where a further share disagrees, else the number.
+abbrev pub settled : Walk → Bool → ℕ → Opened
+settled TooFew off value = record { refusal = 9; value = 0 }
+settled (Enough j) true value = record { refusal = 13; value = 0 }
+settled (Enough j) false value = record { refusal = 0; value = value }
+
 -- What the walk hands on: its outcome, and the accepted posts and their shares at the start of two lists.
 pub record WalkedAs (q : Party) (row blocks : List ℕ) (end : Walk) (posts shares : List ℕ) : Type 0 where
   pub ended : end ≡ outcomeOf q row blocks
@@ -83,9 +96,9 @@ pub record WalkedAs (q : Party) (row blocks : List ℕ) (end : Walk) (posts shar
   pub posts-room : length posts ≡ needed (q .shape)
   pub shares-room : length shares ≡ needed (q .shape)
 
--- An opening's number, or 9, as the walk ends.
+-- An opening's number, or 9, or 13.
 abbrev pub openedRow : Party → List ℕ → List ℕ → Opened
-openedRow q row blocks = settled (outcomeOf q row blocks) (opened q row blocks)
+openedRow q row blocks = settled (outcomeOf q row blocks) (disagree q row blocks) (opened q row blocks)
 
 -- What the walk goes by: a row and a record of the stated lengths.
 pub record Openable (q : Party) (row blocks : List ℕ) : Type 0 where
