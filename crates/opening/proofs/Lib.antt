@@ -1,5 +1,7 @@
 pub mod Blocks
 pub mod Walks
+pub mod Behind
+pub mod Settles
 pub mod Fronts
 pub mod Opens
 pub mod Theorems
