@@ -76,7 +76,7 @@ pub record Right (L : Ledger) (P : ℕ → ℕ → List ℕ → Type 0) (H : (Li
       → (j ≢ q .session .post → H (drop (q .session .t + 1)) r j (sent (q .session) (maskB (q .session) (q .rows) r) blocks j))
       → accepts (q .session) (maskB (q .session) (q .rows) r) blocks j ≡ true
 
--- At every post of S, after any run of all posts. S may be all posts, or those alone whose polynomials countFrom: what the others do
+-- At every post of S, after any run of all posts. S may be all posts, or those alone whose polynomials count: what the others do
 -- stands in the run, and nothing is asked of it.
 abbrev pub Correct : Type 1
 Correct =

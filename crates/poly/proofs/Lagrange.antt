@@ -3,15 +3,16 @@ use mathlib.Core.Path.{_≡_, refl, sym, _∙_, ap, ap₂}
 use mathlib.Core.Logic.{_≢_}
 use mathlib.Core.List.{List, [], _∷_, _++_, map}
 use Prim.Native.Nat.{suc, _+_, _≤_}
+use native.Mathlib.Nat.{suc-inj}
 use native.Mathlib.Omega.{arith}
-use lib.ListN.{length, length-append}
+use lib.ListN.{length, length-append, length-map}
 use Rattle.field.specs.Algebra.{CommutativeRing, Field}
 use Rattle.field.proofs.Ring.{zero-add, one-mul, mul-zero, zero-mul}
 use Rattle.field.proofs.Expression.{A, B, C, 𝟙, _:*_, Same}
 use Rattle.field.proofs.Solver.{solve}
 use Rattle.field.proofs.Fields.{product-nonzero, difference-nonzero}
 use Rattle.poly.specs.Counting.{All, Distinct}
-use Rattle.poly.proofs.Lists.{all-map, all-zip, all-of}
+use Rattle.poly.proofs.Lists.{all-map, all-zip, all-of, map-same, map-equal}
 use Rattle.poly.proofs.Coefficients.{ev, plus, times, timesNodes, nodalAt, ev-plus, ev-times, ev-timesNodes, ev-constant, length-plus, length-times, length-timesNodes, nodalAt-self}
 use Rattle.poly.proofs.Roots.{agree}
 
@@ -102,15 +103,17 @@ module _ {R : Type 0} (𝓕 : Field R) where
       gone l = nodalAt-append s passed l ∙ ap (λ (u : R). u ⊗ N s l) h ∙ zero-mul ring (N s l)
 
   -- at a node to come, its own value
-  terms-at-node : (y : R → R) (passed xs : List R) → Distinct xs → All (λ s. N s passed ≢ zero) xs
-      → All (λ s. termsAt s passed xs (map y xs) ≡ y s) xs
+  terms-at-node : (passed xs ys : List R) → length xs ≡ length ys → Distinct xs → All (λ s. N s passed ≢ zero) xs
+      → map (λ s. termsAt s passed xs ys) xs ≡ ys
   unfolding termsAt nodalAt
-  terms-at-node y passed [] d a = tt
-  terms-at-node y passed (x ∷ xs) d a = (
-    ap₂ _⊕_ own (terms-at-passed x (passed ++ (x ∷ [])) xs (map y xs) passed-x) ∙ add-zero (y x),
-    all-zip (λ s e z. ap₂ _⊕_ (other s z) e ∙ zero-add ring (y s)) xs
-        (terms-at-node y (passed ++ (x ∷ [])) xs (d .1) (all-zip (λ s u v. away s u v) xs (d .0) (a .1))) (nodalAt-self ring xs),
-  )
+  terms-at-node passed [] [] l d a = refl
+  terms-at-node passed [] (y ∷ ys) l d a = absurd (omega arith)
+  terms-at-node passed (x ∷ xs) [] l d a = absurd (omega arith)
+  terms-at-node passed (x ∷ xs) (y ∷ ys) l d a =
+      ap₂ _∷_ (ap₂ _⊕_ own (terms-at-passed x (passed ++ (x ∷ [])) xs ys passed-x) ∙ add-zero y)
+      (map-same _ (λ s. termsAt s (passed ++ (x ∷ [])) xs ys) xs
+      (all-map (λ s z. ap (λ (u : R). u ⊕ termsAt s (passed ++ (x ∷ [])) xs ys) (other s z) ∙ zero-add ring _) xs (nodalAt-self ring xs))
+      ∙ terms-at-node (passed ++ (x ∷ [])) xs ys (suc-inj l) (d .1) (all-zip (λ s u v. away s u v) xs (d .0) (a .1)))
     where
       rest : List R
       rest = passed ++ xs
@@ -118,13 +121,13 @@ module _ {R : Type 0} (𝓕 : Field R) where
       nonzero : N x rest ≢ zero
       nonzero e = product-nonzero 𝓕 (N x passed) (N x xs) (a .0) (nodalAt-nonzero x xs (d .0)) (sym (nodalAt-append x passed xs) ∙ e)
 
-      own : y x ⊗ (N x rest ⊗ inv (N x rest)) ≡ y x
-      own = ap (λ (u : R). y x ⊗ u) (mul-inv (N x rest) nonzero) ∙ mul-one (y x)
+      own : y ⊗ (N x rest ⊗ inv (N x rest)) ≡ y
+      own = ap (λ (u : R). y ⊗ u) (mul-inv (N x rest) nonzero) ∙ mul-one y
 
-      other : (s : R) → N s xs ≡ zero → y x ⊗ (N s rest ⊗ inv (N x rest)) ≡ zero
+      other : (s : R) → N s xs ≡ zero → y ⊗ (N s rest ⊗ inv (N x rest)) ≡ zero
       other s z =
-          ap (λ (u : R). y x ⊗ (u ⊗ inv (N x rest))) (nodalAt-append s passed xs ∙ ap (λ (u : R). N s passed ⊗ u) z ∙ mul-zero ring (N s passed))
-          ∙ ap (λ (u : R). y x ⊗ u) (zero-mul ring _) ∙ mul-zero ring (y x)
+          ap (λ (u : R). y ⊗ (u ⊗ inv (N x rest))) (nodalAt-append s passed xs ∙ ap (λ (u : R). N s passed ⊗ u) z ∙ mul-zero ring (N s passed))
+          ∙ ap (λ (u : R). y ⊗ u) (zero-mul ring _) ∙ mul-zero ring y
 
       last : (s : R) → N s (x ∷ []) ≡ s ⊕ neg x
       last s = mul-one (s ⊕ neg x)
@@ -138,13 +141,28 @@ module _ {R : Type 0} (𝓕 : Field R) where
           product-nonzero 𝓕 (N s passed) (s ⊕ neg x) v (difference-nonzero 𝓕 s x u)
           (ap (λ (w : R). N s passed ⊗ w) (sym (last s)) ∙ sym (nodalAt-append s passed (x ∷ [])) ∙ e)
 
+  -- f is the interpolation through the values ys at the nodes rs
+  pub record Passes (rs ys f : List R) : Type 0 where
+    pub few : length f ≤ length rs
+    pub meets : map (ev ring f) rs ≡ ys
+    pub is : (z : R) → termsAt z [] rs ys ≡ ev ring f z
+
+  pub through : List R → List R → List R
+  through = coefficients []
+
+  pub through-passes : (rs ys : List R) → length rs ≡ length ys → Distinct rs → Passes rs ys (through rs ys)
+  unfolding nodalAt through
+  through-passes rs ys l d = record {
+    few = omega (arith, length-coefficients [] rs ys);
+    meets = map-same (ev ring (coefficients [] rs ys)) (λ s. termsAt s [] rs ys) rs (all-of (λ s. ev-coefficients s [] rs ys) rs)
+        ∙ terms-at-node [] rs ys l d (all-of (λ s. one-ne-zero) rs);
+    is = λ z. sym (ev-coefficients z [] rs ys);
+  }
+
   pub interpolation-exact : (rs : List R) → Distinct rs → (f : List R) → length f ≤ length rs → (z : R)
       → termsAt z [] rs (map (ev ring f) rs) ≡ ev ring f z
-  unfolding nodalAt
   interpolation-exact rs d f l z =
-      sym (ev-coefficients z [] rs ys)
-      ∙ agree 𝓕 rs d (coefficients [] rs ys) f (omega (arith, length-coefficients [] rs ys)) l
-      (all-map (λ s e. ev-coefficients s [] rs ys ∙ e) rs (terms-at-node (ev ring f) [] rs d (all-of (λ s. one-ne-zero) rs))) z
+      t .is z ∙ agree 𝓕 rs d (through rs (map (ev ring f) rs)) f (t .few) l (map-equal _ (ev ring f) rs (t .meets)) z
     where
-      ys : List R
-      ys = map (ev ring f) rs
+      t : Passes rs (map (ev ring f) rs) (through rs (map (ev ring f) rs))
+      t = through-passes rs (map (ev ring f) rs) (sym (length-map rs (ev ring f))) d

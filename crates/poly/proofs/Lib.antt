@@ -8,7 +8,4 @@ pub mod Lagrange
 pub mod Numbers
 pub mod Fractions
 pub mod Passing
-pub mod Following
-pub mod Steps
 pub mod Theorems
-pub mod Table

@@ -1,6 +1,6 @@
 -- Lagrange's interpolation: the sum, over the nodes, of the value there times the product, over the other nodes x, of
 -- (z - x) / (node - x).
-use Prim.Native.Nat.{ℕ, zero, suc}
+use Prim.Native.Nat.{ℕ, suc}
 use mathlib.Core.List.{List, [], _∷_, _++_}
 use lib.ListN.{take, drop}
 use Rattle.field.specs.Arithmetic.{sum, difference, product, inverse}
@@ -27,8 +27,3 @@ terms z passed (x ∷ xs) (y ∷ ys) = sum (product y (weight (passed ++ xs) x z
 -- The interpolation through the values ys at the nodes xs, at the point z.
 unfoldable pub interpolated : List ℕ → List ℕ → ℕ → ℕ
 interpolated xs ys z = terms z [] xs ys
-
--- The k numbers that follow z.
-unfoldable pub following : ℕ → ℕ → List ℕ
-following z zero = []
-following z (suc k) = suc z ∷ following (suc z) k

@@ -3,4 +3,3 @@ pub mod Interpolation
 pub mod Counting
 pub mod Claims
 pub mod Quotients
-pub mod Factorials

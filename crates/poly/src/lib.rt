@@ -2,17 +2,13 @@
 //
 // Every public function is total: the lists have any length and hold any numbers, one of p or more standing for its remainder.
 ghost use mathlib.Core.Path.{_≡_};
-ghost use mathlib.Core.Bool.{true, false};
-ghost use mathlib.Core.Logic.{_≢_};
-ghost use Prim.Native.Nat.{ℕ, _-_, _≤_, _<_};
+ghost use Prim.Native.Nat.{_-_, _≤_, _<_};
 ghost use lib.ListN.{length, take, drop};
 ghost use Rattle.poly.specs.Polynomial.{value, powers, weighted};
 ghost use Rattle.field.specs.Modulus.{p};
 ghost use Rattle.field.specs.Arithmetic.{sum, product, inverse};
-ghost use Rattle.poly.specs.Interpolation.{nodal, others, interpolated, following};
+ghost use Rattle.poly.specs.Interpolation.{nodal, others, interpolated};
 ghost use Rattle.poly.specs.Quotients.{quotient, Invertible, nodePassed};
-
-mod tables;
 
 // The value at x, by Horner's rule.
 pub fn evaluate(coefficients: &[u32], x: u32) -> u32
@@ -161,8 +157,8 @@ fn plus_node(f: Fraction, nodes: &[u32], value: u32, passed: u32, j: usize, z: u
     )
 }
 
-// The interpolation through the values at any nodes, at the point z.
-fn interpolate_any(nodes: &[u32], values: &[u32], z: u32) -> u32
+// The interpolation through the values at the nodes, at the point z. `barycentric` has a shorter way for rising nodes at 0.
+pub fn interpolate(nodes: &[u32], values: &[u32], z: u32) -> u32
     ensures { λ r. ⌜ r ≡ interpolated (now (nodes .entry)) (now (values .entry)) z ⌝ }
 {
     let m = least(nodes.len(), values.len());
@@ -174,45 +170,4 @@ fn interpolate_any(nodes: &[u32], values: &[u32], z: u32) -> u32
     }
     let last = field::mul(f.top, field::inverse(f.bottom));
     field::mul(last, node_product(&nodes[m..], z))
-}
-
-// Whether the nodes are z + 1, z + 2 and so on.
-fn consecutive(nodes: &[u32], z: u32) -> bool
-    ensures { λ r. ⌜ (r ≡ true → now (nodes .entry) ≡ following z (length (now (nodes .entry)))) × (r ≡ false → now (nodes .entry) ≢ following z (length (now (nodes .entry)))) ⌝ }
-{
-    let mut node = z as u64 + 1;
-    for i in 0..nodes.len() {
-        if nodes[i] as u64 != node {
-            return false;
-        }
-        node += 1;
-    }
-    true
-}
-
-// The interpolation through the values at z + 1, .., z + m, at z, whatever z is. The weight of z + 1 + j is the binomial
-// coefficient of m and j + 1 with the sign of (-1)^j: tables make it, so that no step waits for another and no inverse is taken.
-fn extrapolate(values: &[u32]) -> u32
-    requires { ⌜ length (now values) ≤ 32 ⌝ }
-    ensures { λ r. ⌜ ((z : ℕ) → r ≡ interpolated (following z (length (now (values .entry)))) (now (values .entry)) z) ⌝ }
-{
-    let m = values.len();
-    let weights = tables::binomial_weights(m);
-    let r = weigh(values, &weights[..m]);
-    field::sub(0, field::mul(tables::signed_factorial(m), r))
-}
-
-// The interpolation through the values at the nodes, at the point z. Nodes that follow z are the usual case.
-pub fn interpolate(nodes: &[u32], values: &[u32], z: u32) -> u32
-    ensures { λ r. ⌜ r ≡ interpolated (now (nodes .entry)) (now (values .entry)) z ⌝ }
-{
-    let m = values.len();
-    if nodes.len() == m {
-        if m <= 32 {
-            if consecutive(nodes, z) {
-                return extrapolate(values);
-            }
-        }
-    }
-    interpolate_any(nodes, values, z)
 }

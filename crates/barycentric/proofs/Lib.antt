@@ -1,0 +1,10 @@
+pub mod Sums
+pub mod Pascal
+pub mod Barycentric
+pub mod Gaps
+pub mod Alternating
+pub mod Rows
+pub mod Ascent
+pub mod Pairs
+pub mod Moves
+pub mod Zero

@@ -1,0 +1,53 @@
+-- Between the functions of the code: weights of rising nodes.
+use Prim.Native.Nat.{ℕ, zero, suc, _+_, _-_, _%_, _≤_, _<_}
+use mathlib.Core.Path.{_≡_}
+use mathlib.Core.Bool.{Bool, true, false}
+use mathlib.Core.List.{List, [], _∷_, _++_, map}
+use lib.Dec.{eqb, leb, ltb}
+use lib.ListN.{length, take, drop}
+use Rattle.field.specs.Modulus.{p}
+use Rattle.field.specs.Arithmetic.{difference, product}
+use Rattle.inverses.specs.InverseTable.{Inverts}
+use Rattle.poly.specs.Interpolation.{nodal, interpolated}
+use Rattle.barycentric.specs.Nodes.{Rising, lastOf, missing}
+
+-- Pascal's triangle modulo p, with alternating signs: (-1)^x times the number of ways to choose x of m.
+unfoldable pub alternating : ℕ → ℕ → ℕ
+alternating m zero = 1
+alternating zero (suc x) = 0
+alternating (suc m) (suc x) = difference (alternating m (suc x)) (alternating m x)
+
+-- The number as far from the end of a list of n as b is from its start, in the row n - 1.
+unfoldable pub mirrored : ℕ → ℕ → ℕ
+mirrored n b = elim (eqb (n % 2) 1) [ true ↦ b | false ↦ difference 0 b ]
+
+-- The weight of the number x among 0 to m without those of a list.
+unfoldable pub nodeWeight : ℕ → List ℕ → ℕ → ℕ
+nodeWeight m gaps x = product (alternating m x) (nodal gaps x)
+
+-- f 0, .., f (n - 1)
+unfoldable pub firsts : (ℕ → ℕ) → ℕ → List ℕ
+firsts f zero = []
+firsts f (suc n) = firsts f n ++ (f n ∷ [])
+
+-- The row of n numbers: the weights of 0 to n - 1.
+abbrev pub row : ℕ → List ℕ
+row n = firsts (alternating (n - 1)) n
+
+-- The test whether numbers rise, from above a to at most a limit.
+unfoldable pub risesTo : ℕ → ℕ → List ℕ → Bool
+risesTo limit a [] = leb a limit
+risesTo limit a (x ∷ xs) = elim (ltb a x) [ true ↦ risesTo limit x xs | false ↦ false ]
+
+-- Rising nodes that the table reaches, with room for the missing numbers and for the weights of all numbers up to the last node.
+pub record Prepared (nodes inverses gaps list : List ℕ) : Type 0 where
+  pub rising : Rising 0 nodes
+  pub some : 0 < length nodes
+  pub table : Inverts inverses
+  pub within : lastOf 0 nodes ≤ length inverses
+  pub gap-room : length gaps + length nodes ≡ lastOf 0 nodes
+  pub room : length list ≡ lastOf 0 nodes + 1
+
+-- The nodes' weights, with the weight of 0 first.
+abbrev pub WeightsOf : List ℕ → List ℕ → Type 0
+WeightsOf nodes list = take (length nodes + 1) list ≡ map (nodeWeight (lastOf 0 nodes) (missing 0 nodes)) (0 ∷ nodes)

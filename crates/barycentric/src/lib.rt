@@ -1,0 +1,227 @@
+// Interpolation at 0 through rising numbers from 1 to 255, as post numbers are: every inverse comes from a table that the caller
+// lends. Other nodes go by `interpolate`.
+ghost use mathlib.Core.Path.{_≡_};
+ghost use mathlib.Core.List.{_∷_, map};
+ghost use Prim.Native.Nat.{_+_, _-_, _%_, _≤_, _<_};
+ghost use lib.ListN.{length, take};
+ghost use Rattle.field.specs.Modulus.{p};
+ghost use Rattle.field.specs.Arithmetic.{difference, product};
+ghost use Rattle.poly.specs.Counting.{All};
+ghost use Rattle.inverses.specs.InverseTable.{Inverts};
+ghost use Rattle.poly.specs.Interpolation.{nodal, interpolated};
+ghost use Rattle.barycentric.specs.Nodes.{Rising, lastOf, missing};
+ghost use Rattle.barycentric.specs.Weights.{alternating, mirrored, nodeWeight, firsts, row, risesTo, Prepared, WeightsOf};
+
+pub fn wide(x: u32) -> usize
+    ensures { λ r. ⌜ r ≡ x ⌝ }
+{
+    x as usize
+}
+
+// Whether the nodes are rising numbers from 1 to the limit.
+pub fn rises(nodes: &[u32], limit: usize) -> bool
+    ensures { λ r. ⌜ r ≡ risesTo limit 0 (now (nodes .entry)) ⌝ }
+{
+    let mut last: u32 = 0;
+    for i in 0..nodes.len() {
+        if nodes[i] <= last {
+            return false;
+        }
+        last = nodes[i];
+    }
+    wide(last) <= limit
+}
+
+// 1 / (0 - k): p less the table's entry.
+fn negative_inverse(inverses: &[u32], k: usize) -> u32
+    requires { ⌜ Inverts (now inverses) × (0 < k) × (k ≤ length (now inverses)) ⌝ }
+    ensures { λ r. ⌜ product r (difference 0 k) ≡ 1 ⌝ }
+{
+    field::P - inverses[k - 1]
+}
+
+// The weights of 0 to m, up to the middle of a list of m + 1: each is the one before times (m + 1 - x) / -x.
+fn lower_half(inverses: &[u32], list: &mut [u32], half: usize)
+    requires { ⌜ Inverts (now inverses) × (length (now list) ≤ length (now inverses) + 1) × (0 < half) × (half ≤ length (now list)) ⌝ }
+    ensures { λ r. ⌜ (length (now (list .exit)) ≡ length (now (list .entry))) × (take half (now (list .exit)) ≡ firsts (alternating (length (now (list .entry)) - 1)) half) ⌝ }
+{
+    let n = list.len();
+    let mut b: u32 = 1;
+    list[0] = b;
+    for x in 1..half {
+        b = field::mul(b, field::mul((n - x) as u32, negative_inverse(inverses, x)));
+        list[x] = b;
+    }
+}
+
+// The weight as far from the end as b is from the start, in a list of n: the same, with a sign where n is even.
+fn mirrored(b: u32, n: usize) -> u32
+    requires { ⌜ b < p ⌝ }
+    ensures { λ r. ⌜ r ≡ mirrored n b ⌝ }
+{
+    if n % 2 == 1 {
+        return b;
+    }
+    if b == 0 { 0 } else { field::P - b }
+}
+
+// The weights from the middle on.
+fn upper_half(list: &mut [u32], half: usize)
+    requires { ⌜ (half ≤ length (now list)) × (length (now list) ≤ half + half) × (take half (now list) ≡ firsts (alternating (length (now list) - 1)) half) ⌝ }
+    ensures { λ r. ⌜ now (list .exit) ≡ row (length (now (list .entry))) ⌝ }
+{
+    let n = list.len();
+    for x in half..n {
+        list[x] = mirrored(list[n - 1 - x], n);
+    }
+}
+
+// The weights of 0 to m fill a list of m + 1: Pascal's triangle with signs, whose rows read the same from both ends.
+fn binomials(inverses: &[u32], list: &mut [u32])
+    requires { ⌜ Inverts (now inverses) × (length (now list) ≤ length (now inverses) + 1) × (0 < length (now list)) ⌝ }
+    ensures { λ r. ⌜ now (list .exit) ≡ row (length (now (list .entry))) ⌝ }
+{
+    let n = list.len();
+    let half = (n + 1) / 2;
+    lower_half(inverses, list, half);
+    upper_half(list, half);
+}
+
+// The numbers up to the last node that are no nodes fill the list.
+fn missing(nodes: &[u32], list: &mut [u32])
+    requires { ⌜ Rising 0 (now nodes) × (length (now list) ≡ length (missing 0 (now nodes))) ⌝ }
+    ensures { λ r. ⌜ now (list .exit) ≡ missing 0 (now (nodes .entry)) ⌝ }
+{
+    let n = list.len();
+    let mut i = 0;
+    let mut j = 0;
+    while j < n {
+        let node = wide(nodes[i]);
+        let x = i + j + 1;
+        if node == x {
+            i += 1;
+        } else {
+            list[j] = x as u32;
+            j += 1;
+        }
+    }
+}
+
+// (x - a) (x - b), with p added so that it is no negative number: small numbers need no remainder.
+fn pair(x: u32, a: u32, b: u32) -> u32
+    requires { ⌜ (x ≤ 255) × (a ≤ 255) × (b ≤ 255) ⌝ }
+    ensures { λ r. ⌜ r % p ≡ product (difference x a) (difference x b) ⌝ }
+{
+    field::P + (x * x + a * b) - (a + b) * x
+}
+
+// The product of x - g over small numbers g, four to a turn.
+fn distances(gaps: &[u32], x: u32) -> u32
+    requires { ⌜ (x ≤ 255) × All (λ g. g ≤ 255) (now gaps) ⌝ }
+    ensures { λ r. ⌜ r ≡ nodal (now (gaps .entry)) x ⌝ }
+{
+    let n = gaps.len();
+    let mut r: u32 = 1;
+    let mut i = 0;
+    while 3 < n - i {
+        let first = pair(x, gaps[i], gaps[i + 1]);
+        let second = pair(x, gaps[i + 2], gaps[i + 3]);
+        r = field::mul(r, field::mul(first, second));
+        i += 4;
+    }
+    field::mul(r, poly::node_product(&gaps[i..], x))
+}
+
+// The weights of 0 and the nodes move to the front of the list of all numbers' weights, each times its distances to the gaps.
+fn weigh_nodes(nodes: &[u32], gaps: &[u32], list: &mut [u32])
+    requires { ⌜ Rising 0 (now nodes) × (lastOf 0 (now nodes) ≤ 255) × All (λ g. g ≤ 255) (now gaps) × (lastOf 0 (now nodes) < length (now list)) × (now list ≡ firsts (alternating (lastOf 0 (now nodes))) (length (now list))) ⌝ }
+    ensures { λ r. ⌜ take (length (now (nodes .entry)) + 1) (now (list .exit)) ≡ map (nodeWeight (lastOf 0 (now (nodes .entry))) (now (gaps .entry))) (0 ∷ now (nodes .entry)) ⌝ }
+{
+    list[0] = distances(gaps, 0);
+    for i in 0..nodes.len() {
+        let x = wide(nodes[i]);
+        list[i + 1] = field::mul(list[x], distances(gaps, nodes[i]));
+    }
+}
+
+// The product of 1 / (0 - x) over the list's numbers.
+fn inverse_product(list: &[u32], inverses: &[u32]) -> u32
+    requires { ⌜ Inverts (now inverses) × All (λ x. (0 < x) × (x ≤ length (now inverses))) (now list) ⌝ }
+    ensures { λ r. ⌜ product r (nodal (now (list .entry)) 0) ≡ 1 ⌝ }
+{
+    let mut r: u32 = 1;
+    for i in 0..list.len() {
+        let x = wide(list[i]);
+        r = field::mul(r, negative_inverse(inverses, x));
+    }
+    r
+}
+
+// The missing numbers and with them the nodes' weights, where a number is missing.
+fn weigh_gaps(nodes: &[u32], gaps: &mut [u32], list: &mut [u32])
+    requires { ⌜ Rising 0 (now nodes) × (lastOf 0 (now nodes) ≤ 255) × (length (now gaps) ≡ length (missing 0 (now nodes))) × (lastOf 0 (now nodes) < length (now list)) × (now list ≡ firsts (alternating (lastOf 0 (now nodes))) (length (now list))) ⌝ }
+    ensures { λ r. ⌜ (now (gaps .exit) ≡ missing 0 (now (nodes .entry))) × WeightsOf (now (nodes .entry)) (now (list .exit)) ⌝ }
+{
+    missing(nodes, gaps);
+    weigh_nodes(nodes, gaps, list);
+}
+
+// The missing numbers, and the weights of 0 and the nodes at the front of the list.
+fn weigh_rising(nodes: &[u32], inverses: &[u32], gaps: &mut [u32], list: &mut [u32])
+    requires { ⌜ Prepared (now nodes) (now inverses) (now gaps) (now list) ⌝ }
+    ensures { λ r. ⌜ (now (gaps .exit) ≡ missing 0 (now (nodes .entry))) × WeightsOf (now (nodes .entry)) (now (list .exit)) ⌝ }
+{
+    binomials(inverses, list);
+    if gaps.len() == 0 {
+        return;
+    }
+    weigh_gaps(nodes, gaps, list);
+}
+
+// The interpolation at 0 through rising nodes; the nodes' weights stay at the front of the list.
+pub fn at_zero_rising(
+    nodes: &[u32],
+    values: &[u32],
+    inverses: &[u32],
+    gaps: &mut [u32],
+    list: &mut [u32],
+) -> u32
+    requires { ⌜ Prepared (now nodes) (now inverses) (now gaps) (now list) × (length (now values) ≡ length (now nodes)) ⌝ }
+    ensures { λ r. ⌜ (r ≡ interpolated (now (nodes .entry)) (now (values .entry)) 0) × WeightsOf (now (nodes .entry)) (now (list .exit)) ⌝ }
+{
+    weigh_rising(nodes, inverses, gaps, list);
+    let end = nodes.len() + 1;
+    let s = poly::weigh(values, &list[1..end]);
+    field::mul(field::sub(0, s), inverse_product(gaps, inverses))
+}
+
+// The interpolation at 0. The table of inverses and room for as many numbers, and one more in the list, are lent.
+pub fn at_zero(
+    nodes: &[u32],
+    values: &[u32],
+    inverses: &[u32],
+    gaps: &mut [u32],
+    list: &mut [u32],
+) -> u32
+    requires { ⌜ Inverts (now inverses) × (length (now inverses) ≤ length (now gaps)) × (length (now inverses) < length (now list)) ⌝ }
+    ensures { λ r. ⌜ r ≡ interpolated (now (nodes .entry)) (now (values .entry)) 0 ⌝ }
+{
+    let k = nodes.len();
+    if 0 < k {
+        if values.len() == k {
+            if rises(nodes, inverses.len()) {
+                let last = wide(nodes[k - 1]);
+                let missed = last - k;
+                let end = last + 1;
+                return at_zero_rising(
+                    nodes,
+                    values,
+                    inverses,
+                    &mut gaps[..missed],
+                    &mut list[..end],
+                );
+            }
+        }
+    }
+    poly::interpolate(nodes, values, 0)
+}
