@@ -4,13 +4,14 @@ use mathlib.Core.Path.{_≡_, refl, sym, _∙_, ap, ap₂}
 use mathlib.Core.Bool.{Bool, true, false}
 use mathlib.Core.List.{List, [], _∷_, _++_}
 use native.Mathlib.Omega.{arith}
+use borrow.Author.Tests.{eq-eqb, ne-eqb}
 use lib.ListN.{length}
 use Rattle.field.specs.Modulus.{p}
 use Rattle.field.specs.Arithmetic.{product}
 use Rattle.shape.specs.declared.Shape.{Shape}
 use Rattle.shape.specs.Bounds.{lastTriple}
 use Rattle.shape.specs.Lengths.{rowLength, sumsAt}
-use Rattle.refusal.specs.Refusal.{Test, _when_, first, outcome}
+use Rattle.refusal.specs.Refusal.{Test, _when_, first, orElse, outcome}
 use Rattle.refusal.proofs.Endings.{refused, accepted}
 use Rattle.refusal.proofs.Groups.{stopped, went-on}
 use Rattle.session.specs.declared.Party.{Party}
@@ -48,6 +49,13 @@ module _ (q : Party) (rows room made blocks x y : List ℕ) (k r : ℕ) (ex : x 
 
   pub mask-opened : (o : Opened) → o ≡ Accepting.openedRow q made blocks → o ≡ Accepting.openedRow q (maskRow (q .shape) rows k r) blocks
   mask-opened o eo = eo ∙ ap (λ (l : List ℕ). Accepting.openedRow q l blocks) made-is
+
+module _ (r a b : ℕ) where
+  pub either-nine : b ≡ 9 → r ≡ 9 → r ≡ eitherOf a b
+  either-nine e h = rw (eq-eqb b 9 e) h
+
+  pub either-other : (b ≡ 9 → ⊥) → r ≡ orElse a b → r ≡ eitherOf a b
+  either-other n h = rw (ne-eqb b 9 n) h
 
 -- 9 of either, then 13 of either
 refusals : (f f' d d' : Bool) (v v' : ℕ)
