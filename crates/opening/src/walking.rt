@@ -156,12 +156,12 @@ fn settle<'a>(
     match outcome {
         Walk::Enough(last) => {
             let shape = party.shape;
-            let need = shape.needed();
-            let count = walk_further(party, row, blocks, weights, last, need, posts, shares);
+            let first = shape.needed();
+            let count = walk_further(party, row, blocks, weights, last, first, posts, shares);
             agreed(
                 &posts[..count],
                 &shares[..count],
-                need,
+                first,
                 inverses,
                 gaps,
                 list,

@@ -1,10 +1,12 @@
 -- Document 01, "Calls on a session", Finish: "Takes a triple marked 5, 4, 4 and two records, opens y = a − l and y' = b − l' as
 -- above, and writes l'' + y l' + y' l + y y' into the third row (y y' is added to m1..mn only). Marks become 6, 6, 2."
 use Prim.Native.Nat.{ℕ, _+_}
+use mathlib.Core.Bool.{cond}
 use mathlib.Core.List.{List, [], _∷_, _++_}
+use lib.Dec.{eqb}
 use Rattle.field.specs.Arithmetic.{product}
 use Rattle.shape.specs.Marks.{masked}
-use Rattle.refusal.specs.Refusal.{Test, _when_, first, outcome}
+use Rattle.refusal.specs.Refusal.{Test, _when_, first, orElse, outcome}
 use Rattle.refusal.specs.Conditions.{wrongLength, anyBeyond}
 use Rattle.session.specs.declared.Session.{Session}
 use Rattle.session.specs.declared.Answer.{Answer}
@@ -50,6 +52,10 @@ finishChecks s rows r blocksA blocksB = frameTests s rows ++ finishPlace s r blo
 abbrev pub unopened : Session → List ℕ → List ℕ → List ℕ → List ℕ → List Test
 unopened s x x' blocksA blocksB =
     9 when tooFew s x blocksA ∷ 9 when tooFew s x' blocksB ∷ 13 when disagree s x blocksA ∷ 13 when disagree s x' blocksB ∷ []
+
+-- The refusal of two openings: a 9 of either comes before a 13 of either.
+abbrev pub eitherOf : ℕ → ℕ → ℕ
+eitherOf a b = cond (eqb b 9) 9 (orElse a b)
 
 -- Two numbers opened, or the refusal.
 abbrev pub found : ℕ → ℕ → ℕ → OpenedMasks

@@ -16,6 +16,9 @@ pub fn interpolate_at_zero<const P: u32>(points: &[(Element<P>, Element<P>)]) ->
 }
 
 /// The product over k ≠ i of xk / (xk − xi): Lagrange's basis polynomial i, taken at 0.
+///
+/// Request (vi) takes the inverses of post numbers and of their differences from a table. Here the
+/// general inverse stays, which gives the same numbers over every prime.
 fn lagrange_weight<const P: u32>(points: &[(Element<P>, Element<P>)], i: usize) -> Element<P> {
     let (xi, _) = points[i];
     let mut numerator = Element::ONE;
@@ -32,6 +35,7 @@ fn lagrange_weight<const P: u32>(points: &[(Element<P>, Element<P>)], i: usize) 
 #[cfg(test)]
 mod tests {
     use super::*;
+    use crate::{MAX_POSTS, MODULUS};
 
     #[test]
     fn interpolation_gives_back_the_constant() {
@@ -41,6 +45,17 @@ mod tests {
         assert_eq!(interpolate_at_zero(&points).value(), 4);
         assert_ne!(interpolate_at_zero(&points[..3]).value(), 4);
         assert_eq!(interpolate_at_zero::<11>(&[]).value(), 0);
+    }
+
+    /// The rule of request (vi)'s table: "each entry × its index is 1 modulo p".
+    #[test]
+    fn post_numbers_and_their_differences_have_inverses() {
+        for number in 1..=MAX_POSTS as u64 {
+            let number = Element::<MODULUS>::new(number);
+            let negative = Element::ZERO - number;
+            assert_eq!(number * number.inverse(), Element::ONE);
+            assert_eq!(negative.inverse(), Element::ZERO - number.inverse());
+        }
     }
 
     #[test]
