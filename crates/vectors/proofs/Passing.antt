@@ -6,7 +6,7 @@ use mathlib.Core.Logic.{_≢_, inl, inr}
 use mathlib.Core.List.{List, [], _∷_, _++_, map}
 use native.Mathlib.Decide.{ℕ-discrete}
 use native.Mathlib.Omega.{arith}
-use Rattle.poly.specs.Counting.{All}
+use Rattle.poly.specs.Counting.{All, Distinct}
 use Rattle.poly.proofs.Lists.{all-map}
 use Rattle.agreement.specs.Agreement.{Given}
 use Rattle.opening.specs.Accepting.{passing}
@@ -29,6 +29,16 @@ module _ (test : ℕ → Bool) where
           → All (Accepted test j (suc k)) (elim b as (λ z. List ℕ) [ true ↦ j ∷ passing test (suc j) k | false ↦ passing test (suc j) k ])
       go true e a = (record { passes = e; from-on = omega arith; before = omega arith }, a)
       go false e a = a
+
+  pub distinct-passing : (j k : ℕ) → Distinct (passing test j k)
+  unfolding passing
+  distinct-passing j zero = tt
+  distinct-passing j (suc k) = go (test j) (distinct-passing (suc j) k)
+    where
+      go : (b : Bool) → Distinct (passing test (suc j) k)
+          → Distinct {R = ℕ} (elim b as (λ z. List ℕ) [ true ↦ j ∷ passing test (suc j) k | false ↦ passing test (suc j) k ])
+      go true a = (all-map (λ x h e. omega (arith, h .from-on)) (passing test (suc j) k) (all-passing (suc j) k), a)
+      go false a = a
 
   module _ (f : ℕ → ℕ) where
     abbrev Has : ℕ → List ℕ → Type 0
