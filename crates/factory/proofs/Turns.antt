@@ -80,6 +80,10 @@ take-few zero l = omega arith
 take-few (suc k) [] = omega arith
 take-few (suc k) (x ∷ l) = let h = take-few k l in omega arith
 
+pub check-is : (s : Shape) (vs q : List ℕ) (w i r : ℕ) → q ≡ vOf s vs i → r ≡ value q w → r ≡ checkAt s w vs i
+unfolding checkAt
+check-is s vs q w i r e f = rw (← e) f
+
 each-agree : (f g : ℕ → ℕ) → ((i : ℕ) → f i ≡ g i) → (j m : ℕ) → eachFrom j m f ≡ eachFrom j m g
 unfolding eachFrom
 each-agree f g h j zero = refl
@@ -100,6 +104,10 @@ pub f-value : (c x r u : ℕ) (higher old new : List ℕ) → length higher ≤ 
     → u ≡ weighted higher new → r ≡ sum c (product x u) → r ≡ value (c ∷ higher) x
 unfolding value
 f-value c x r u higher old new h e f g = g ∙ ap (λ (y : ℕ). sum c (product x y)) (weighed higher old new x u h e f)
+
+pub f-horner : (c x r u : ℕ) (higher : List ℕ) → u ≡ value higher x → r ≡ sum c (product x u) → r ≡ value (c ∷ higher) x
+unfolding value
+f-horner c x r u higher e g = g ∙ ap (λ (y : ℕ). sum c (product x y)) e
 
 pub higher-room : (s : Shape) (vs higher powers : List ℕ) → Drawn s vs powers → Higher s higher → length higher ≤ length powers
 higher-room s vs higher powers d h = omega (arith, d .room, h)

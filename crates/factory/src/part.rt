@@ -11,6 +11,9 @@ ghost use Rattle.shape.specs.Lengths.{Valid, vLength, rowLength};
 ghost use Rattle.factory.specs.Draw.{eachFrom};
 ghost use Rattle.factory.specs.Writers.{vOf, weighedAt, checkValues, sumAt, sums, partWith, Drawn, Higher};
 
+// So few coefficients go by Horner's rule: their powers would take longer.
+const FEW: usize = 4;
+
 // The polynomial of post i + 1.
 fn v<'a>(shape: Shape, vs: &'a [u32], i: usize) -> &'a [u32]
     requires { ⌜ Valid shape × (length (now vs) ≡ shape .n * vLength shape) × (i < shape .n) ⌝ }
@@ -34,11 +37,26 @@ fn weigh_each(shape: Shape, vs: &[u32], powers: &[u32], out: &mut [u32])
     }
 }
 
+// The value of each polynomial at w.
+fn evaluate_each(shape: Shape, w: u32, vs: &[u32], out: &mut [u32])
+    requires { ⌜ Valid shape × (length (now vs) ≡ shape .n * vLength shape) × (length (now out) ≡ shape .n) ⌝ }
+    ensures { λ r. ⌜ now (out .exit) ≡ checkValues shape w (now (vs .entry)) ⌝ }
+{
+    let n = shape.n;
+    for i in 0..n {
+        out[i] = poly::evaluate(v(shape, vs, i), w);
+    }
+}
+
 // vj(w) for each post j.
 fn write_check_values(shape: Shape, w: u32, vs: &[u32], powers: &mut [u32], out: &mut [u32])
     requires { ⌜ Drawn shape (now vs) (now powers) × (length (now out) ≡ shape .n) ⌝ }
     ensures { λ r. ⌜ now (out .exit) ≡ checkValues shape w (now (vs .entry)) ⌝ }
 {
+    if powers.len() <= FEW {
+        evaluate_each(shape, w, vs, out);
+        return;
+    }
     poly::powers(w, powers);
     weigh_each(shape, vs, powers, out);
 }
@@ -48,6 +66,9 @@ fn shared_value(constant: u32, higher: &[u32], x: u32, powers: &mut [u32]) -> u3
     requires { ⌜ length (now higher) ≤ length (now powers) ⌝ }
     ensures { λ r. ⌜ r ≡ value (constant ∷ now (higher .entry)) x ⌝ }
 {
+    if higher.len() <= FEW {
+        return field::add_product(constant, x, poly::evaluate(higher, x));
+    }
     poly::powers(x, powers);
     field::add_product(constant, x, poly::weigh(higher, powers))
 }

@@ -8,4 +8,6 @@ ruleset steps = (needs, checks-written)
 
 pub write-check-values-spec : {M : Type 1} → statement M
 write-check-values-spec =
-    tie.close (tie.spec (λ c κs. search steps) (λ c κs. search steps) (λ c. search steps) (λ c. search steps) (λ c. search steps))
+    tie.close
+    (tie.spec (λ c κs. search steps) (λ c. search steps) (λ c. search steps) (λ c κs. search steps) (λ c κs. search steps)
+    (λ c. search steps) (λ c. search steps) (λ c. search steps))
