@@ -95,8 +95,9 @@ fn walk_further<'a>(
 {
     let shape = party.shape;
     let n = shape.n;
+    let next = last + 1;
     let mut count = need;
-    let mut j = last + 1;
+    let mut j = next;
     while j <= n {
         if accepts(party, row, blocks, j, weights) {
             posts[count] = j as u32;
