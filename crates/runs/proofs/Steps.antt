@@ -93,7 +93,7 @@ module _ (H : Holder) where
       let f = row-loaded s l (x .r) (x .pack) z in
       record {
         session = refl;
-        holds = load-holds H (x .r) (x .pack) _ (fit .0 .1 ∙ raw-pack plan draw is (x .r) (omega (arith, f .row-in)) (fit .0 .0) i hi) f;
+        holds = load-holds H (x .r) (x .pack) _ (fit .0 .1 ∙ raw-pack plan draw is (x .r) (omega (arith, f .row-in)) (fit .0 .0) i (omega (arith, f .framed .post-in))) f;
       }
   moved is hi (loadTriple x) z fit =
       let f = triple-loaded s l (x .r) (x .pack) z in
@@ -101,7 +101,7 @@ module _ (H : Holder) where
         session = refl;
         holds =
             triple-holds H (x .r) (x .pack) _ _ _
-            (fit .0 .1 ∙ triple-pack plan draw is (x .r) (omega (arith, f .triple-in)) (fit .0 .0) i hi) f;
+            (fit .0 .1 ∙ triple-pack plan draw is (x .r) (omega (arith, f .triple-in)) (fit .0 .0) i (omega (arith, f .framed .post-in))) f;
       }
   moved is hi (deal x) z fit = record { session = refl; holds = deal-holds H (x .r) (x .c) (dealt s l (x .r) (x .c) z) }
   moved is hi (message x) z fit = record { session = refl; holds = h }
