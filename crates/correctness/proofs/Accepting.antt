@@ -50,7 +50,7 @@ module _ (s : Session) (row blocks : List ℕ) where
 pub all-is-enough : AllIsEnough
 all-is-enough P s row blocks h a = record {
   good = accepted s row blocks;
-  many = h;
+  many = omega arith;
   different = distinct-passing (accepts s row blocks) 1 (s .n);
   theirs =
       all-zip (λ j k t. (k .from-on, omega (arith, k .before), k .passes, t)) (accepted s row blocks)
