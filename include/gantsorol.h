@@ -20,6 +20,7 @@
  *   10  a line read has the wrong form
  *   11  a line read has a number out of range
  *   12  the list lent for a line is shorter than the line
+ *   13  an accepted share is not on the polynomial of the t+1 lowest, in either record of a finish; looked at after 9
  *
  * What a caller has to see to, because no call can: a list is passed as a pointer to its first number, aligned for its
  * type, and its length in numbers (bytes for a line), which the memory really has. The lists of one call must not
@@ -157,8 +158,9 @@ gantsorol_answer gantsorol_opening_message(gantsorol_session session, const uint
 /*
  * Opens a held row with a record: the number is the answer's value. The post's own block is not looked at, nor are the
  * coefficients of an absent one. A block whose polynomial does not have the row's check value at the post's check point
- * is not accepted; the t+1 accepted posts with the lowest numbers are used.
- * rows: GANTSOROL_ROWS_LEN, read. blocks: GANTSOROL_RECORD_LEN, read. Refusals 1 to 9.
+ * is not accepted. The number comes from the t+1 accepted posts with the lowest numbers; the shares of all further ones
+ * must agree with them, or the refusal is 13.
+ * rows: GANTSOROL_ROWS_LEN, read. blocks: GANTSOROL_RECORD_LEN, read. Refusals 1 to 9, 13.
  */
 gantsorol_answer gantsorol_open(gantsorol_session session, const uint32_t *rows, size_t rows_len, size_t row,
                                 const uint32_t *blocks, size_t blocks_len);
@@ -185,7 +187,7 @@ gantsorol_answer gantsorol_masks(gantsorol_session session, const uint32_t *rows
  * writes the product of a and b into the row first + 2. The marks 5, 4 and 4 of the triple become 6, 6 and 2: the
  * product is held like a dealt number. A sender's block has the first t+1 numbers of its masks in record_a, the last
  * t+1 in record_b. The rows remembered must still be held. A refused finish may be called again, with other records.
- * rows: GANTSOROL_ROWS_LEN, written. record_a, record_b: GANTSOROL_RECORD_LEN each, read. Refusals 1 to 9.
+ * rows: GANTSOROL_ROWS_LEN, written. record_a, record_b: GANTSOROL_RECORD_LEN each, read. Refusals 1 to 9, 13.
  */
 gantsorol_answer gantsorol_finish(gantsorol_session session, uint32_t *rows, size_t rows_len, size_t first,
                                   const uint32_t *record_a, size_t record_a_len, const uint32_t *record_b,

@@ -1,34 +1,23 @@
--- How many posts a walk takes, and what counts for a post in a record that 5 and 8 let pass.
-use Prim.Native.Nat.{ℕ, zero, suc, _+_, _≤_, min}
+-- How many posts a walk takes, what counts for a post in a record that 5 and 8 let pass, and truth of all accepted as truth of enough.
+use Prim.Native.Nat.{ℕ, _+_, _≤_, min}
 use mathlib.Core.Path.{_≡_, _∙_, ap}
-use mathlib.Core.Bool.{Bool, true, false}
+use mathlib.Core.Bool.{true, false}
 use mathlib.Core.Logic.{_≢_, _⊎_, inl, inr}
-use mathlib.Core.List.{List, [], _∷_}
+use mathlib.Core.List.{List, []}
 use native.Mathlib.Decide.{ℕ-discrete}
 use native.Mathlib.Omega.{arith}
 use borrow.Author.Tests.{lt-ltb, le-ltb, ne-eqb}
-use lib.ListN.{length}
-use Rattle.poly.specs.Counting.{Elements, countFrom}
+use lib.ListN.{length, length-take}
+use Rattle.poly.specs.Counting.{Elements}
+use Rattle.poly.proofs.Lists.{all-zip}
 use Rattle.session.specs.declared.Session.{Session}
 use Rattle.opening.specs.Blocks as Blocks
-use Rattle.opening.specs.Walking.{blockMark, sent, accepts, walk, acceptedPosts, tooFew}
+use Rattle.opening.specs.Walking.{blockMark, sent, accepts, accepted, acceptedPosts, tooFew}
+use Rattle.opening.proofs.Accepted.{walk-first}
+use Rattle.vectors.proofs.Passing.{all-passing, distinct-passing}
 use Rattle.runs.proofs.Records.{sent-there, block-many, block-low}
 use Rattle.runs.specs.Calls.{Proper}
-use Rattle.correctness.specs.Claim.{accepted}
-
--- a walk takes all that pass, up to so many
-pub walk-length : (test : ℕ → Bool) (j k need : ℕ) → length (walk test j k need) ≡ min need (countFrom test j k)
-unfolding walk countFrom
-walk-length test j zero need = omega arith
-walk-length test j (suc k) zero = omega arith
-walk-length test j (suc k) (suc need) = go (test j) (walk-length test (suc j) k need) (walk-length test (suc j) k (suc need))
-  where
-    go : (b : Bool) → length (walk test (suc j) k need) ≡ min need (countFrom test (suc j) k)
-        → length (walk test (suc j) k (suc need)) ≡ min (suc need) (countFrom test (suc j) k)
-        → length {A = ℕ} (elim b as (λ z. List ℕ) [ true ↦ j ∷ walk test (suc j) k need | false ↦ walk test (suc j) k (suc need) ])
-        ≡ min (suc need) (elim b as (λ z. ℕ) [ true ↦ suc (countFrom test (suc j) k) | false ↦ countFrom test (suc j) k ])
-    go true a c = omega arith
-    go false a c = c
+use Rattle.correctness.specs.Claim.{howMany, AllIsEnough}
 
 -- nothing, or k elements
 abbrev pub Formed : ℕ → List ℕ → Type 0
@@ -36,13 +25,15 @@ Formed k xs = (xs ≡ []) ⊎ ((length xs ≡ k) × Elements xs)
 
 -- 9, by the number of those that pass
 module _ (s : Session) (row blocks : List ℕ) where
-  pub too-few : accepted s row blocks ≤ s .t → tooFew s row blocks ≡ true
-  too-few h =
-      lt-ltb (length (acceptedPosts s row blocks)) (s .t + 1) (omega (arith, walk-length (accepts s row blocks) 1 (s .n) (s .t + 1)))
+  -- a walk takes all that are accepted, up to t+1
+  walk-length : length (acceptedPosts s row blocks) ≡ min (s .t + 1) (howMany s row blocks)
+  walk-length = ap length (walk-first (accepts s row blocks) 1 (s .n) (s .t + 1)) ∙ length-take (s .t + 1) (accepted s row blocks)
 
-  pub not-few : s .t + 1 ≤ accepted s row blocks → tooFew s row blocks ≡ false
-  not-few h =
-      le-ltb (length (acceptedPosts s row blocks)) (s .t + 1) (omega (arith, walk-length (accepts s row blocks) 1 (s .n) (s .t + 1)))
+  pub too-few : howMany s row blocks ≤ s .t → tooFew s row blocks ≡ true
+  too-few h = lt-ltb (length (acceptedPosts s row blocks)) (s .t + 1) (omega (arith, walk-length))
+
+  pub not-few : s .t + 1 ≤ howMany s row blocks → tooFew s row blocks ≡ false
+  not-few h = le-ltb (length (acceptedPosts s row blocks)) (s .t + 1) (omega (arith, walk-length))
 
   -- what counts for another post is nothing, or t+1 elements
   pub formed : Proper s blocks → (j : ℕ) → 1 ≤ j → j ≤ s .n → j ≢ s .post → Formed (s .t + 1) (sent s row blocks j)
@@ -55,3 +46,13 @@ module _ (s : Session) (row blocks : List ℕ) where
         rw (sent-there s blocks j lo hi ne row e) (block-low s blocks j lo hi ne pr e),
       )
       go (no e) = inl (rw (ne-eqb j (s .post) ne, ne-eqb (blockMark (s .t + 1) blocks j) 1 e))
+
+pub all-is-enough : AllIsEnough
+all-is-enough P s row blocks h a = record {
+  good = accepted s row blocks;
+  many = omega arith;
+  different = distinct-passing (accepts s row blocks) 1 (s .n);
+  theirs =
+      all-zip (λ j k t. (k .from-on, omega (arith, k .before), k .passes, t)) (accepted s row blocks)
+      (all-passing (accepts s row blocks) 1 (s .n)) a;
+}

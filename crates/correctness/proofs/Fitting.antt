@@ -8,15 +8,15 @@ use native.Mathlib.Omega.{arith}
 use lib.ListN.{take, drop}
 use lib.Seq.{take-at, drop-at}
 use Rattle.poly.specs.Counting.{All}
-use Rattle.poly.proofs.Lists.{all-zip}
+use Rattle.poly.proofs.Lists.{all-map, all-zip}
 use Rattle.decimal.specs.Numeral.{tens}
 use Rattle.session.specs.declared.Session.{Session}
-use Rattle.opening.specs.Walking.{sent, accepts, acceptedPosts}
-use Rattle.opening.proofs.Accepted.{Accepted, all-accepted}
+use Rattle.opening.specs.Walking.{sent, accepts, accepted}
 use Rattle.product.specs.Finish as Finish
 use Rattle.vectors.specs.Vector.{Vector, numbers}
-use Rattle.vectors.specs.Claims.{heldRow, Truly}
+use Rattle.vectors.specs.Claims.{heldRow, Truly, EnoughTruly}
 use Rattle.vectors.proofs.Linear.{length-numbers}
+use Rattle.vectors.proofs.Passing.{all-passing}
 use Rattle.runs.specs.Draws.{Plan, Draw, IsDraw, Sound}
 use Rattle.runs.specs.Outline.{Taking, nothingTaken, aRowPack, aTriplePack, aNumber, aRecord, twoRecords, takes, Given, Move, moves, actsIn}
 use Rattle.runs.specs.Calls.{Post, Actual, Call}
@@ -24,35 +24,48 @@ use Rattle.runs.proofs.Outlines.{every-all}
 use Rattle.runs.proofs.Marks.{Marks, rememberedA, rememberedB, sessionAt, less, vectorA, maskVectorA, maskVectorB}
 use Rattle.runs.proofs.Outcomes.{refusalOf}
 use Rattle.runs.proofs.Holds.{Holder}
-use Rattle.runs.proofs.Finishing.{AllTrue, opens-a, opens-b}
+use Rattle.runs.proofs.Finishing.{Trusted, opens-a, opens-b}
 use Rattle.runs.proofs.Records.{own-true}
 use Rattle.runs.proofs.Start.{sizes}
 use Rattle.runs.proofs.Steps.{named, FitsWith, Fits}
 use Rattle.runs.proofs.Facts.{Multiplying, ReadyFor, Triple}
 use Rattle.correctness.specs.History.{World}
 use Rattle.correctness.specs.Ledger.{Ledger}
-use Rattle.correctness.specs.Truth.{OwnWith, TrueWith, OwnPart, TrueMask, TrueOf, TrueFinish}
+use Rattle.correctness.specs.Truth.{OwnWith, TrueWith, OwnPart, TrueMask, TrueOf, EnoughTrue, TrueFinish}
 use Rattle.correctness.proofs.Standing.{Known, Good, allowed-at}
 use Rattle.correctness.proofs.Said.{Said, told-masks, halves}
 
--- where each polynomial that counted, but the own one, is its sender's of S, all are
-pub all-true-of : (s : Session) (S : Vector) (blocks : List ℕ) (P : ℕ → List ℕ → Type 0) (row : List ℕ) → row ≡ heldRow s S
-    → ((j : ℕ) → 1 ≤ j → j ≤ s .n → j ≢ s .post → P j (sent s row blocks j) → sent s row blocks j ≡ numbers (s .t + 1) (S .v j))
-    → TrueOf P s row blocks → AllTrue s S blocks
-all-true-of s S blocks P row e =
-    subst
-    (λ (x : List ℕ). ((j : ℕ) → 1 ≤ j → j ≤ s .n → j ≢ s .post → P j (sent s x blocks j) → sent s x blocks j ≡ numbers (s .t + 1) (S .v j))
-    → TrueOf P s x blocks → AllTrue s S blocks)
-    (sym e)
-    (λ f t.
-    all-zip (λ j a h. go f j a h (ℕ-discrete j (s .post))) (acceptedPosts s (heldRow s S) blocks)
-    (all-accepted (accepts s (heldRow s S) blocks) 1 (s .n) (s .t + 1)) t)
-  where
-    go : ((j : ℕ) → 1 ≤ j → j ≤ s .n → j ≢ s .post → P j (sent s (heldRow s S) blocks j) → Truly s S blocks j) → (j : ℕ)
-        → Accepted (accepts s (heldRow s S) blocks) 1 (s .n) j → (j ≢ s .post → P j (sent s (heldRow s S) blocks j)) → Dec (j ≡ s .post)
-        → Truly s S blocks j
-    go f j a h (yes g) = subst (Truly s S blocks) (sym g) (own-true s blocks S)
-    go f j a h (no g) = f j (a .from-on) (omega (arith, a .before)) g (h g)
+-- where P gives the senders' own polynomials of S, at the other posts
+abbrev Gives : Session → Vector → List ℕ → (ℕ → List ℕ → Type 0) → List ℕ → Type 0
+Gives s S blocks P row =
+    (j : ℕ) → 1 ≤ j → j ≤ s .n → j ≢ s .post → P j (sent s row blocks j) → sent s row blocks j ≡ numbers (s .t + 1) (S .v j)
+
+module _ (s : Session) (S : Vector) (blocks : List ℕ) (P : ℕ → List ℕ → Type 0) where
+  one-true : Gives s S blocks P (heldRow s S) → (j : ℕ) → 1 ≤ j → j ≤ s .n → (j ≢ s .post → P j (sent s (heldRow s S) blocks j)) → Truly s S blocks j
+  one-true f j lj hj h = elim (ℕ-discrete j (s .post)) [
+    | yes g ↦ subst (Truly s S blocks) (sym g) (own-true s blocks S)
+    | no g ↦ f j lj hj g (h g)
+  ]
+
+  -- each polynomial that counted, but the own one, is its sender's: all are
+  pub all-true-of : (row : List ℕ) → row ≡ heldRow s S → Gives s S blocks P row → TrueOf P s row blocks
+      → All (Truly s S blocks) (accepted s (heldRow s S) blocks)
+  all-true-of row e =
+      subst (λ (x : List ℕ). Gives s S blocks P x → TrueOf P s x blocks → All (Truly s S blocks) (accepted s (heldRow s S) blocks)) (sym e)
+      (λ f t.
+      all-zip (λ j a h. one-true f j (a .from-on) (omega (arith, a .before)) h) (accepted s (heldRow s S) blocks)
+      (all-passing (accepts s (heldRow s S) blocks) 1 (s .n)) t)
+
+  -- t+1 of them are: t+1 are
+  pub enough-true-of : (row : List ℕ) → row ≡ heldRow s S → Gives s S blocks P row → EnoughTrue P s row blocks → EnoughTruly s S blocks
+  enough-true-of row e =
+      subst (λ (x : List ℕ). Gives s S blocks P x → EnoughTrue P s x blocks → EnoughTruly s S blocks) (sym e)
+      (λ f t. record {
+        good = t .good;
+        many = t .many;
+        different = t .different;
+        truly = all-map (λ j h. (h .0, h .1, one-true f j (h .0) (h .1) (h .3))) (t .good) (t .theirs);
+      })
 
 pub small : (plan : Plan) → Sound plan → plan .n < tens 10
 small plan sound = sizes plan sound .n-high
@@ -115,15 +128,15 @@ module _ (plan : Plan) (draw : Draw) (L : Ledger) (sound : Sound plan) (is : IsD
       abbrev s : Session
       s = sessionAt plan draw i M
 
-      true-a : TrueOf (TrueMask S w (plan .t) (take (plan .t + 1)) r) s (Finish.maskA s l r) blocksA → AllTrue s (maskVectorA M vec r) blocksA
-      true-a =
-          all-true-of s (maskVectorA M vec r) blocksA (TrueMask S w (plan .t) (take (plan .t + 1)) r) (Finish.maskA s l r) (opens-a holder r ok)
-          (λ j lj hj ne o. told-a M vec (g .facts) r ok j lj hj _ o)
+      true-a : EnoughTrue (TrueMask S w (plan .t) (take (plan .t + 1)) r) s (Finish.maskA s l r) blocksA → Trusted s (maskVectorA M vec r) blocksA
+      true-a t few enough =
+          enough-true-of s (maskVectorA M vec r) blocksA (TrueMask S w (plan .t) (take (plan .t + 1)) r) (Finish.maskA s l r) (opens-a holder r ok)
+          (λ j lj hj ne o. told-a M vec (g .facts) r ok j lj hj _ o) t
 
-      true-b : TrueOf (TrueMask S w (plan .t) (drop (plan .t + 1)) r) s (Finish.maskB s l r) blocksB → AllTrue s (maskVectorB M vec r) blocksB
-      true-b =
-          all-true-of s (maskVectorB M vec r) blocksB (TrueMask S w (plan .t) (drop (plan .t + 1)) r) (Finish.maskB s l r) (opens-b holder r ok)
-          (λ j lj hj ne o. told-b M vec (g .facts) r ok j lj hj _ o)
+      true-b : EnoughTrue (TrueMask S w (plan .t) (drop (plan .t + 1)) r) s (Finish.maskB s l r) blocksB → Trusted s (maskVectorB M vec r) blocksB
+      true-b t few enough =
+          enough-true-of s (maskVectorB M vec r) blocksB (TrueMask S w (plan .t) (drop (plan .t + 1)) r) (Finish.maskB s l r) (opens-b holder r ok)
+          (λ j lj hj ne o. told-b M vec (g .facts) r ok j lj hj _ o) t
 
     module _ (len i : ℕ) (q : Post) (g : Good plan draw L len i q) where
       fits-with : (t : Taking) (x : Given Actual t) → ReadyFor (g .marks) t → OwnWith plan draw i t x → TrueWith S w q t x

@@ -1,37 +1,40 @@
 -- One post that stands by the ledger: what its openings give, and that it accepts what is true, for every record that 5 and 8
 -- let pass.
 use Prim.Native.Nat.{ℕ, suc, _+_, _*_, _-_, _≤_, _<_}
-use mathlib.Core.Path.{_≡_, sym, _∙_, ap, subst}
-use mathlib.Core.Bool.{true}
-use mathlib.Core.Logic.{_≢_}
+use mathlib.Core.Path.{_≡_, refl, sym, _∙_, ap, subst}
+use mathlib.Core.Bool.{Bool, true, false}
+use mathlib.Core.Logic.{_≢_, _⊎_, inl, inr}
 use mathlib.Core.List.{List}
 use native.Mathlib.Decide.{ℕ-discrete}
 use native.Mathlib.Omega.{arith}
+use lib.ListN.{take, drop}
 use Rattle.field.specs.Modulus.{p}
 use Rattle.refusal.specs.Refusal.{first}
 use Rattle.session.specs.declared.Session.{Session}
 use Rattle.session.specs.declared.Answer.{Answer}
-use Rattle.opening.specs.Walking.{sent, accepts, tooFew}
-use Rattle.opening.specs.Opening.{openChecks}
-use Rattle.opening.proofs.Theorems.{open-nine, open-number}
+use Rattle.session.specs.Sessions.{holding}
+use Rattle.opening.specs.Walking.{sent, accepts, tooFew, disagree}
+use Rattle.opening.specs.Opening.{openChecks, openAnswer}
+use Rattle.opening.proofs.Theorems.{open-nine, open-thirteen, open-number}
 use Rattle.product.specs.Finish as Finish
-use Rattle.vectors.specs.Vector.{Vector, numbers}
+use Rattle.vectors.specs.Vector.{Vector, number, numbers}
 use Rattle.vectors.specs.Claims.{heldRow, Truly}
-use Rattle.vectors.proofs.Theorems.{true-accepted, opening-exact}
+use Rattle.vectors.proofs.Theorems.{true-accepted, true-agree, opening-exact}
 use Rattle.runs.specs.Draws.{Plan, Draw}
 use Rattle.runs.specs.Calls.{Proper, Post}
 use Rattle.runs.proofs.Marks.{markOf, rememberedA, rememberedB, maskVectorA, maskVectorB}
 use Rattle.runs.proofs.Holds.{combined-row}
 use Rattle.runs.proofs.Records.{own-true}
+use Rattle.runs.proofs.Start.{sizes}
 use Rattle.correctness.specs.History.{World}
 use Rattle.correctness.specs.Ledger.{Ledger, Plain}
-use Rattle.correctness.specs.Truth.{TrueMask}
-use Rattle.correctness.specs.Claim.{Opens, Right}
+use Rattle.correctness.specs.Truth.{TrueMask, TrueOf}
+use Rattle.correctness.specs.Claim.{howMany, Opens, Finishes, Right}
 use Rattle.correctness.proofs.Meanings.{Is, plain}
 use Rattle.correctness.proofs.Accepting.{Formed, too-few, not-few, formed}
-use Rattle.correctness.proofs.Fitting.{all-true-of, AllSaid, told-a, told-b}
+use Rattle.correctness.proofs.Fitting.{all-true-of, enough-true-of, AllSaid, told-a, told-b}
 use Rattle.correctness.proofs.Permitted as Permitted
-use Rattle.correctness.proofs.Permitted.{Stander, holder, below, is-row, open-passes, waiting, finishes}
+use Rattle.correctness.proofs.Permitted.{Stander, holder, below, is-row, open-passes, waiting, finish-few, finish-done, finish-otherwise}
 
 -- what a truth of polynomials must give, to be used in an opening
 abbrev pub Reliable : Plan → Draw → Ledger → (ℕ → ℕ → List ℕ → Type 0) → Type 0
@@ -82,19 +85,37 @@ module _ (G : Stander) where
     opens : (r : ℕ) (blocks : List ℕ) → markOf M r ≡ 2 → Proper s blocks → Opens L (P r) q r blocks
     opens r blocks two pr = record {
       few = λ e. ap (λ (o : Answer). o .refusal) (open-nine s l r blocks clear (too-few s (row r) blocks e));
-      enough = λ e. ap (λ (o : Answer). o .refusal) (open-number s l r blocks clear (not-few s (row r) blocks e));
       exact = λ e t.
-          subst (Plain L r)
-          (sym
-          (ap (λ (o : Answer). o .value)
-          (opening-exact s (vec r) l r blocks clear (is-row G r 1 two) .1
-          (sym (ap (λ (x : List ℕ). tooFew s x blocks) (is-row G r 1 two)) ∙ not-few s (row r) blocks e)
-          (all-true-of s (vec r) blocks (P r) (row r) (is-row G r 1 two) (λ j lj hj ne x. sent-is r blocks j two pr lj hj ne x) t))))
-          (plain plan draw L is (f r (below G r 1 two) .held two));
+          number-given (opening-exact s (vec r) l r blocks clear is-held .1 (enough e) (all-true-of s (vec r) blocks (P r) (row r) is-held gives t));
+      agreed = λ e t. elim (opening-exact s (vec r) l r blocks clear is-held .2 (enough e) (enough-true-of s (vec r) blocks (P r) (row r) is-held gives t)) [
+        | inl o ↦ inl (number-given o)
+        | inr o ↦ inr (ap (λ (o : Answer). o .refusal) o)
+      ];
+      otherwise = λ e. go e (disagree s (row r) blocks) refl;
     }
       where
         clear : first (openChecks s l r blocks) ≡ 0
         clear = open-passes G r blocks two pr
+
+        is-held : row r ≡ heldRow s (vec r)
+        is-held = is-row G r 1 two
+
+        gives : (j : ℕ) → 1 ≤ j → j ≤ plan .n → j ≢ i → P r j (sent s (row r) blocks j) → sent s (row r) blocks j ≡ numbers (plan .t + 1) (vec r .v j)
+        gives j lj hj ne x = sent-is r blocks j two pr lj hj ne x
+
+        enough : s .t + 1 ≤ howMany s (row r) blocks → tooFew s (heldRow s (vec r)) blocks ≡ false
+        enough e = sym (ap (λ (x : List ℕ). tooFew s x blocks) is-held) ∙ not-few s (row r) blocks e
+
+        number-given : {o : Answer} → o ≡ holding 0 (number (vec r) .0) s → (o .refusal ≡ 0) × Plain L r (o .value)
+        number-given e = (
+          ap (λ (o : Answer). o .refusal) e,
+          subst (Plain L r) (sym (ap (λ (o : Answer). o .value) e)) (plain plan draw L is (f r (below G r 1 two) .held two)),
+        )
+
+        go : s .t + 1 ≤ howMany s (row r) blocks → (off : Bool) → disagree s (row r) blocks ≡ off
+            → (openAnswer s l r blocks .refusal ≡ 0) ⊎ (openAnswer s l r blocks .refusal ≡ 13)
+        go e true z = inr (ap (λ (o : Answer). o .refusal) (open-thirteen s l r blocks clear (not-few s (row r) blocks e) z))
+        go e false z = inl (ap (λ (o : Answer). o .refusal) (open-number s l r blocks clear (not-few s (row r) blocks e) z))
 
     accepts-true : (r : ℕ) (blocks : List ℕ) (j : ℕ) → markOf M r ≡ 2 → Proper s blocks → 1 ≤ j → j ≤ plan .n
         → (j ≢ i → P r j (sent s (row r) blocks j)) → accepts s (row r) blocks j ≡ true
@@ -104,15 +125,43 @@ module _ (G : Stander) where
     -- ---- what posts told of masks
 
     module _ (S : ℕ → Type 0) (w : World) (all : AllSaid plan draw L (G .sound) is S w) where
+      module _ (r : ℕ) (five : markOf M r ≡ 5) where
+        abbrev Half : (List ℕ → List ℕ) → ℕ → List ℕ → Type 0
+        Half half = TrueMask S w (plan .t) half r
+
+        said-a : (j : ℕ) → 1 ≤ j → j ≤ plan .n → (xs : List ℕ) → Half (take (plan .t + 1)) j xs → xs ≡ numbers (plan .t + 1) (maskVectorA M vec r .v j)
+        said-a = told-a plan draw L (G .sound) is S w all M vec f r (waiting G r five)
+
+        said-b : (j : ℕ) → 1 ≤ j → j ≤ plan .n → (xs : List ℕ) → Half (drop (plan .t + 1)) j xs → xs ≡ numbers (plan .t + 1) (maskVectorB M vec r .v j)
+        said-b = told-b plan draw L (G .sound) is S w all M vec f r (waiting G r five)
+
+        -- where each accepted polynomial of a record is true, no share is off
+        agrees : (x : List ℕ) (X : Vector) → x ≡ heldRow s X → (half : List ℕ → List ℕ)
+            → ((j : ℕ) → 1 ≤ j → j ≤ plan .n → (xs : List ℕ) → Half half j xs → xs ≡ numbers (plan .t + 1) (X .v j))
+            → (blocks : List ℕ) → s .t + 1 ≤ howMany s x blocks → TrueOf (Half half) s x blocks → disagree s x blocks ≡ false
+        agrees x X e half theirs blocks many t =
+            ap (λ (y : List ℕ). disagree s y blocks) e
+            ∙ true-agree s X blocks (sizes plan (G .sound) .n-element) (sym (ap (λ (y : List ℕ). tooFew s y blocks) e) ∙ not-few s x blocks many)
+            (all-true-of s X blocks (Half half) x e (λ j lj hj ne o. theirs j lj hj _ o) t)
+
+        finishes : (blocksA blocksB : List ℕ) → Proper s blocksA → Proper s blocksB
+            → Finishes (Half (take (plan .t + 1))) (Half (drop (plan .t + 1))) q r blocksA blocksB
+        finishes blocksA blocksB pr pr' = record {
+          few = finish-few G r blocksA blocksB five pr pr';
+          exact = λ e e' t t'.
+              finish-done G r blocksA blocksB five pr pr' e e'
+              (agrees (Finish.maskA s l r) (maskVectorA M vec r) (mask-a r five) (take (plan .t + 1)) said-a blocksA e t)
+              (agrees (Finish.maskB s l r) (maskVectorB M vec r) (mask-b r five) (drop (plan .t + 1)) said-b blocksB e' t');
+          otherwise = finish-otherwise G r blocksA blocksB five pr pr';
+        }
+
       pub right : Right L P (TrueMask S w (plan .t)) q
       right = record {
         opens = opens;
         accepts-true = accepts-true;
-        finishes = finishes G;
+        finishes = λ r blocksA blocksB five. finishes r five blocksA blocksB;
         accepts-a = λ r blocks j five pr lj hj x.
-            true-taken (Finish.maskA s l r) (maskVectorA M vec r) (mask-a r five) blocks j lj hj
-            (λ ne. told-a plan draw L (G .sound) is S w all M vec f r (waiting G r five) j lj hj _ (x ne));
+            true-taken (Finish.maskA s l r) (maskVectorA M vec r) (mask-a r five) blocks j lj hj (λ ne. said-a r five j lj hj _ (x ne));
         accepts-b = λ r blocks j five pr lj hj x.
-            true-taken (Finish.maskB s l r) (maskVectorB M vec r) (mask-b r five) blocks j lj hj
-            (λ ne. told-b plan draw L (G .sound) is S w all M vec f r (waiting G r five) j lj hj _ (x ne));
+            true-taken (Finish.maskB s l r) (maskVectorB M vec r) (mask-b r five) blocks j lj hj (λ ne. said-b r five j lj hj _ (x ne));
       }

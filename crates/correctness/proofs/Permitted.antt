@@ -1,5 +1,5 @@
 -- One post that stands by the ledger: 1 to 8 refuse no opening of a held row and no finish of masks that were made, with records
--- that 5 and 8 let pass; and what a finish gives.
+-- that 5 and 8 let pass; and what a finish gives, by 9 and 13.
 use Prim.Native.Nat.{ℕ, suc, _+_, _*_, _-_, _≤_, _<_}
 use mathlib.Core.Path.{_≡_, refl, _∙_, ap, ap₂}
 use mathlib.Core.Bool.{Bool, true, false, not}
@@ -16,11 +16,11 @@ use Rattle.session.specs.declared.Session.{Session}
 use Rattle.session.specs.Sessions.{shapeOf, sessionTests, mark}
 use Rattle.session.specs.Rows.{rowAt}
 use Rattle.session.specs.Checks.{frameTests}
-use Rattle.opening.specs.Walking.{tooFew}
+use Rattle.opening.specs.Walking.{tooFew, disagree}
 use Rattle.opening.specs.Opening.{openChecks}
 use Rattle.opening.proofs.Passed.{clear-join, OpenChecked, open-clear}
 use Rattle.product.specs.Finish as Finish
-use Rattle.product.specs.Finish.{finishRefusal}
+use Rattle.product.specs.Finish.{finishRefusal, unopened, finishAnswer}
 use Rattle.product.proofs.Passed.{Factored, FinishChecked, finish-walks}
 use Rattle.factory.proofs.Laws.{elements-append}
 use Rattle.vectors.specs.Vector.{Vector, numbers, rowOf}
@@ -36,7 +36,7 @@ use Rattle.runs.proofs.Facts.{Multiplying}
 use Rattle.runs.proofs.Rows.{marked-low, on-three}
 use Rattle.runs.proofs.Start.{session-passes}
 use Rattle.correctness.specs.Ledger.{Ledger}
-use Rattle.correctness.specs.Claim.{accepted, Finishes}
+use Rattle.correctness.specs.Claim.{howMany, Done}
 use Rattle.correctness.proofs.Standing.{Known, Good}
 use Rattle.correctness.proofs.Accepting.{too-few, not-few}
 
@@ -177,33 +177,48 @@ module _ (G : Stander) where
       };
     }
 
-    xa : List ℕ
+    abbrev xa : List ℕ
     xa = Finish.maskA s l r
 
-    xb : List ℕ
+    abbrev xb : List ℕ
     xb = Finish.maskB s l r
 
-    by-nine : finishRefusal s l r blocksA blocksB ≡ first (9 when tooFew s xa blocksA ∷ 9 when tooFew s xb blocksB ∷ [])
-    unfolding xa xb
-    by-nine = finish-walks s l r blocksA blocksB finish-passes
+    by-walks : finishRefusal s l r blocksA blocksB ≡ first (unopened s xa xb blocksA blocksB)
+    by-walks = finish-walks s l r blocksA blocksB finish-passes
 
-    second : (x : Bool) → first (9 when x ∷ 9 when true ∷ []) ≡ 9
-    second true = refl
-    second false = refl
+    refusal-is : finishAnswer s l r blocksA blocksB .refusal ≡ first (unopened s xa xb blocksA blocksB)
+    refusal-is = answer-refusal (finishRefusal s l r blocksA blocksB) 0 _ s ∙ by-walks
 
-    short : (accepted s xa blocksA ≤ plan .t) ⊎ (accepted s xb blocksB ≤ plan .t)
-        → first (9 when tooFew s xa blocksA ∷ 9 when tooFew s xb blocksB ∷ []) ≡ 9
-    short (inl e) = ap (λ (x : Bool). first (9 when x ∷ 9 when tooFew s xb blocksB ∷ [])) (too-few s xa blocksA e)
-    short (inr e) = ap (λ (x : Bool). first (9 when tooFew s xa blocksA ∷ 9 when x ∷ [])) (too-few s xb blocksB e) ∙ second (tooFew s xa blocksA)
+    second : (x a b : Bool) → first (9 when x ∷ 9 when true ∷ 13 when a ∷ 13 when b ∷ []) ≡ 9
+    second true a b = refl
+    second false a b = refl
 
-    pub finishes : Finishes q r blocksA blocksB
-    unfolding xa xb
-    finishes = record {
-      few = λ e. answer-refusal (finishRefusal s l r blocksA blocksB) 0 _ s ∙ by-nine ∙ short e;
-      enough = λ e e'.
-          let z = by-nine ∙ ap₂ (λ (x y : Bool). first (9 when x ∷ 9 when y ∷ [])) (not-few s xa blocksA e) (not-few s xb blocksB e') in (
+    pub finish-few : (howMany s xa blocksA ≤ plan .t) ⊎ (howMany s xb blocksB ≤ plan .t) → finishAnswer s l r blocksA blocksB .refusal ≡ 9
+    finish-few (inl e) = refusal-is ∙ rw (too-few s xa blocksA e) refl
+    finish-few (inr e) = refusal-is ∙ rw (too-few s xb blocksB e) (second (tooFew s xa blocksA) (disagree s xa blocksA) (disagree s xb blocksB))
+
+    module _ (e : s .t + 1 ≤ howMany s xa blocksA) (e' : s .t + 1 ≤ howMany s xb blocksB) where
+      -- 13 decides
+      by-thirteen : first (unopened s xa xb blocksA blocksB) ≡ first (13 when disagree s xa blocksA ∷ 13 when disagree s xb blocksB ∷ [])
+      by-thirteen = rw (not-few s xa blocksA e, not-few s xb blocksB e') refl
+
+      pub finish-done : disagree s xa blocksA ≡ false → disagree s xb blocksB ≡ false → Done q r blocksA blocksB
+      finish-done off off' =
+          let z = by-walks ∙ by-thirteen ∙ ap₂ (λ (x y : Bool). first (13 when x ∷ 13 when y ∷ [])) off off' in (
             answer-refusal (finishRefusal s l r blocksA blocksB) 0 _ s ∙ z,
             ap (λ (x : Post). mark (x .session) (r + 2)) (settled (finishRefusal s l r blocksA blocksB) 0 _ s l l z)
                 ∙ on-three M r 6 6 2 sized (k .r-low) .2,
-          );
-    }
+          )
+
+      pub finish-otherwise : Done q r blocksA blocksB ⊎ (finishAnswer s l r blocksA blocksB .refusal ≡ 13)
+      finish-otherwise = go (disagree s xa blocksA) (disagree s xb blocksB) refl refl
+        where
+          off : (x y : Bool) → disagree s xa blocksA ≡ x → disagree s xb blocksB ≡ y → first (13 when x ∷ 13 when y ∷ []) ≡ 13
+              → finishAnswer s l r blocksA blocksB .refusal ≡ 13
+          off x y ex ey z = refusal-is ∙ by-thirteen ∙ ap₂ (λ (a b : Bool). first (13 when a ∷ 13 when b ∷ [])) ex ey ∙ z
+
+          go : (x y : Bool) → disagree s xa blocksA ≡ x → disagree s xb blocksB ≡ y
+              → Done q r blocksA blocksB ⊎ (finishAnswer s l r blocksA blocksB .refusal ≡ 13)
+          go true y ex ey = inr (off true y ex ey refl)
+          go false true ex ey = inr (off false true ex ey refl)
+          go false false ex ey = inl (finish-done ex ey)

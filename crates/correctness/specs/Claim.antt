@@ -1,24 +1,24 @@
 -- Demand 2 over whole runs: "where each polynomial accepted in every post's finishes before it, and in this opening, is truly
 -- its sender's, an opening that accepts t+1 or more gives exactly the plain number, and one that accepts fewer is refused with 9".
+-- Document 02, (iv): "It refuses with 13 when an accepted share lies off that polynomial, in either record of a finish, after 9."
 use Prim.Native.Nat.{ℕ, _+_, _≤_}
 use mathlib.Core.Path.{_≡_}
 use mathlib.Core.Bool.{true}
 use mathlib.Core.Logic.{_≢_, _⊎_}
 use mathlib.Core.List.{List, _∷_, _++_}
 use lib.ListN.{length, getD, take, drop}
-use Rattle.poly.specs.Counting.{countFrom}
 use Rattle.session.specs.declared.Session.{Session}
 use Rattle.session.specs.declared.Answer.{Answer}
 use Rattle.session.specs.Sessions.{mark}
 use Rattle.session.specs.Rows.{width, rowAt}
-use Rattle.opening.specs.Walking.{sent, accepts}
+use Rattle.opening.specs.Walking.{sent, accepts, accepted}
 use Rattle.opening.specs.Opening.{openAnswer}
 use Rattle.product.specs.Finish.{maskA, maskB, finishAnswer}
 use Rattle.runs.specs.Draws.{Plan, Draw, IsDraw, Sound}
 use Rattle.runs.specs.Calls.{Post, opening, Proper}
 use Rattle.correctness.specs.History.{Event, World, history, answers, begin, Each}
 use Rattle.correctness.specs.Ledger.{Ledger, Written, Plain}
-use Rattle.correctness.specs.Truth.{OwnPart, TruePolynomial, TrueMask, TrueOf, TrueFinish}
+use Rattle.correctness.specs.Truth.{OwnPart, TruePolynomial, TrueMask, TrueOf, EnoughTrue, TrueFinish}
 
 -- The premises, on the calls of the posts S alone: sessions of one draw; the same deals, sums and masks; true polynomials in all
 -- their finishes. Any other post may load, deal, send and finish what it likes.
@@ -29,29 +29,51 @@ pub record Premises (plan : Plan) (draw : Draw) (L : Ledger) (S : ℕ → Type 0
   pub ledger : Each S (λ e v. Written draw L (e .call)) es w
   pub finishes : Each S (λ e v. TrueFinish S v (v .posts (e .post)) (e .call)) es w
 
--- How many polynomials a post accepts for a row, those behind the place where its walk stops too.
-abbrev pub accepted : Session → List ℕ → List ℕ → ℕ
-accepted s row blocks = countFrom (accepts s row blocks) 1 (s .n)
+-- How many polynomials a post accepts for a row, of all n posts.
+abbrev pub howMany : Session → List ℕ → List ℕ → ℕ
+howMany s row blocks = length (accepted s row blocks)
 
--- Post q opens the held row r with a record, and o is the answer. P j xs says that xs is truly j's polynomial of that row.
+-- Where each polynomial accepted is truly its sender's, at least t+1 are.
+abbrev pub AllIsEnough : Type 1
+AllIsEnough =
+    (P : ℕ → List ℕ → Type 0) (s : Session) (row blocks : List ℕ) → s .t + 1 ≤ howMany s row blocks → TrueOf P s row blocks
+    → EnoughTrue P s row blocks
+
+-- Post q opens the held row r with a record, and o is the answer. P j xs says that xs is truly j's polynomial of that row. Fewer
+-- than t+1 accepted: 9. Each accepted polynomial true: the number, and never 13. At least t+1 of them true, whichever they are: the
+-- number, or 13 (document 02, (iv)). Otherwise a number, or 13.
 pub record Answered (L : Ledger) (P : ℕ → List ℕ → Type 0) (q : Post) (r : ℕ) (blocks : List ℕ) (o : Answer) : Type 0 where
-  pub few : accepted (q .session) (rowAt (width (q .session)) (q .rows) r) blocks ≤ q .session .t → o .refusal ≡ 9
-  pub enough : q .session .t + 1 ≤ accepted (q .session) (rowAt (width (q .session)) (q .rows) r) blocks → o .refusal ≡ 0
-  pub exact : q .session .t + 1 ≤ accepted (q .session) (rowAt (width (q .session)) (q .rows) r) blocks
-      → TrueOf P (q .session) (rowAt (width (q .session)) (q .rows) r) blocks → Plain L r (o .value)
+  pub few : howMany (q .session) (rowAt (width (q .session)) (q .rows) r) blocks ≤ q .session .t → o .refusal ≡ 9
+  pub exact : q .session .t + 1 ≤ howMany (q .session) (rowAt (width (q .session)) (q .rows) r) blocks
+      → TrueOf P (q .session) (rowAt (width (q .session)) (q .rows) r) blocks → (o .refusal ≡ 0) × Plain L r (o .value)
+  pub agreed : q .session .t + 1 ≤ howMany (q .session) (rowAt (width (q .session)) (q .rows) r) blocks
+      → EnoughTrue P (q .session) (rowAt (width (q .session)) (q .rows) r) blocks
+      → ((o .refusal ≡ 0) × Plain L r (o .value)) ⊎ (o .refusal ≡ 13)
+  pub otherwise : q .session .t + 1 ≤ howMany (q .session) (rowAt (width (q .session)) (q .rows) r) blocks
+      → (o .refusal ≡ 0) ⊎ (o .refusal ≡ 13)
 
 abbrev pub Opens : Ledger → (ℕ → List ℕ → Type 0) → Post → ℕ → List ℕ → Type 0
 Opens L P q r blocks = Answered L P q r blocks (openAnswer (q .session) (q .rows) r blocks)
 
--- Post q finishes the triple at r, whose masks it made: 9, or done and the third row held.
-pub record Finishes (q : Post) (r : ℕ) (blocksA blocksB : List ℕ) : Type 0 where
-  pub few : (accepted (q .session) (maskA (q .session) (q .rows) r) blocksA ≤ q .session .t)
-      ⊎ (accepted (q .session) (maskB (q .session) (q .rows) r) blocksB ≤ q .session .t)
+-- A finish that is done, and the third row held.
+abbrev pub Done : Post → ℕ → List ℕ → List ℕ → Type 0
+Done q r blocksA blocksB =
+    (finishAnswer (q .session) (q .rows) r blocksA blocksB .refusal ≡ 0)
+    × (mark (finishAnswer (q .session) (q .rows) r blocksA blocksB .session) (r + 2) ≡ 2)
+
+-- Post q finishes the triple at r, whose masks it made: 9, where either record has too few; done, where each accepted polynomial of
+-- both is true; otherwise done, or 13. PA and PB say whose the polynomials of a − l and of b − l' are.
+pub record Finishes (PA PB : ℕ → List ℕ → Type 0) (q : Post) (r : ℕ) (blocksA blocksB : List ℕ) : Type 0 where
+  pub few : (howMany (q .session) (maskA (q .session) (q .rows) r) blocksA ≤ q .session .t)
+      ⊎ (howMany (q .session) (maskB (q .session) (q .rows) r) blocksB ≤ q .session .t)
       → finishAnswer (q .session) (q .rows) r blocksA blocksB .refusal ≡ 9
-  pub enough : q .session .t + 1 ≤ accepted (q .session) (maskA (q .session) (q .rows) r) blocksA
-      → q .session .t + 1 ≤ accepted (q .session) (maskB (q .session) (q .rows) r) blocksB
-      → (finishAnswer (q .session) (q .rows) r blocksA blocksB .refusal ≡ 0)
-      × (mark (finishAnswer (q .session) (q .rows) r blocksA blocksB .session) (r + 2) ≡ 2)
+  pub exact : q .session .t + 1 ≤ howMany (q .session) (maskA (q .session) (q .rows) r) blocksA
+      → q .session .t + 1 ≤ howMany (q .session) (maskB (q .session) (q .rows) r) blocksB
+      → TrueOf PA (q .session) (maskA (q .session) (q .rows) r) blocksA
+      → TrueOf PB (q .session) (maskB (q .session) (q .rows) r) blocksB → Done q r blocksA blocksB
+  pub otherwise : q .session .t + 1 ≤ howMany (q .session) (maskA (q .session) (q .rows) r) blocksA
+      → q .session .t + 1 ≤ howMany (q .session) (maskB (q .session) (q .rows) r) blocksB
+      → Done q r blocksA blocksB ⊎ (finishAnswer (q .session) (q .rows) r blocksA blocksB .refusal ≡ 13)
 
 -- What is so at a post: of every opening of a held row and every finish, with records that 5 and 8 let pass; and a polynomial
 -- that is truly its sender's is accepted. P r j xs says that xs is truly j's polynomial of row r, and H half r j xs that xs is
@@ -64,7 +86,8 @@ pub record Right (L : Ledger) (P : ℕ → ℕ → List ℕ → Type 0) (H : (Li
       → (j ≢ q .session .post → P r j (sent (q .session) (rowAt (width (q .session)) (q .rows) r) blocks j))
       → accepts (q .session) (rowAt (width (q .session)) (q .rows) r) blocks j ≡ true
   pub finishes : (r : ℕ) (blocksA blocksB : List ℕ) → mark (q .session) r ≡ 5 → Proper (q .session) blocksA
-      → Proper (q .session) blocksB → Finishes q r blocksA blocksB
+      → Proper (q .session) blocksB
+      → Finishes (H (take (q .session .t + 1)) r) (H (drop (q .session .t + 1)) r) q r blocksA blocksB
   -- of a − l, in a finish's first record: the own polynomial always, another's where it is truly the first half of its masks
   pub accepts-a : (r : ℕ) (blocks : List ℕ) (j : ℕ) → mark (q .session) r ≡ 5 → Proper (q .session) blocks
       → 1 ≤ j → j ≤ q .session .n

@@ -1,15 +1,15 @@
 -- Premises of demand 2 on one call: "sessions of one draw", and polynomials that are "truly" their senders'.
-use Prim.Native.Nat.{ℕ, _+_}
+use Prim.Native.Nat.{ℕ, _+_, _≤_}
 use mathlib.Core.Path.{_≡_}
 use mathlib.Core.Bool.{true}
 use mathlib.Core.Logic.{_≢_, _⊎_}
 use mathlib.Core.List.{List}
-use lib.ListN.{take, drop}
-use Rattle.poly.specs.Counting.{All}
+use lib.ListN.{length, take, drop}
+use Rattle.poly.specs.Counting.{All, Distinct}
 use Rattle.session.specs.declared.Session.{Session}
 use Rattle.session.specs.Sessions.{mark}
 use Rattle.session.specs.Rows.{width, coefficients, rowAt}
-use Rattle.opening.specs.Walking.{sent, acceptedPosts}
+use Rattle.opening.specs.Walking.{sent, accepts, accepted}
 use Rattle.product.specs.Finish.{maskA, maskB}
 use Rattle.runs.specs.Draws.{Plan, Draw, IsRaw, rawPack, triplePack}
 use Rattle.runs.specs.Outline.{Taking, nothingTaken, aRowPack, aTriplePack, aNumber, aRecord, twoRecords, takes, Given, moves, Every}
@@ -45,9 +45,17 @@ TrueMask S w t half r j xs = S j × ToldHalf t half r (w .lines j) j xs
 
 -- Of each post that is accepted, but the own one, the polynomial that counted is its: P j xs says that xs is j's.
 abbrev pub TrueOf : (ℕ → List ℕ → Type 0) → Session → List ℕ → List ℕ → Type 0
-TrueOf P s row blocks = All (λ j. j ≢ s .post → P j (sent s row blocks j)) (acceptedPosts s row blocks)
+TrueOf P s row blocks = All (λ j. j ≢ s .post → P j (sent s row blocks j)) (accepted s row blocks)
 
--- In a finish of the post q: of both records.
+-- So of at least t+1 of the posts that are accepted, whichever they are (document 02, (iv)).
+pub record EnoughTrue (P : ℕ → List ℕ → Type 0) (s : Session) (row blocks : List ℕ) : Type 0 where
+  pub good : List ℕ
+  pub many : s .t + 1 ≤ length good
+  pub different : Distinct good
+  pub theirs : All (λ j. (1 ≤ j) × (j ≤ s .n) × (accepts s row blocks j ≡ true) × (j ≢ s .post → P j (sent s row blocks j))) good
+
+-- In a finish of the post q, of both records. Of one that is not refused no more is asked than "each polynomial accepted is truly its
+-- sender's": at least t+1 of them (`AllIsEnough` in specs/Claim.antt).
 abbrev pub TrueWith : (ℕ → Type 0) → World → Post → (t : Taking) → Given Actual t → Type 0
 TrueWith S w q nothingTaken x = Unit {0}
 TrueWith S w q (aRowPack r) pack = Unit {0}
@@ -56,8 +64,8 @@ TrueWith S w q (aNumber r) c = Unit {0}
 TrueWith S w q (aRecord r) blocks = Unit {0}
 TrueWith S w q (twoRecords r) blocks =
     let s = q .session in
-    TrueOf (TrueMask S w (s .t) (take (s .t + 1)) r) s (maskA s (q .rows) r) (blocks .0)
-    × TrueOf (TrueMask S w (s .t) (drop (s .t + 1)) r) s (maskB s (q .rows) r) (blocks .1)
+    EnoughTrue (TrueMask S w (s .t) (take (s .t + 1)) r) s (maskA s (q .rows) r) (blocks .0)
+    × EnoughTrue (TrueMask S w (s .t) (drop (s .t + 1)) r) s (maskB s (q .rows) r) (blocks .1)
 
 abbrev pub TrueFinish : (ℕ → Type 0) → World → Post → Call → Type 0
 TrueFinish S w q c = Every (λ m. TrueWith S w q (takes (m .0)) (m .1)) (moves c)

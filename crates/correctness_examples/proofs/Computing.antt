@@ -1,7 +1,8 @@
 -- What the example and the counterexamples share: three posts, two raw rows and a triple; and how premises are shown by computing.
 use Prim.Native.Nat.{ℕ, zero, suc, _≤_, _<_}
-use mathlib.Core.Path.{_≡_, refl}
+use mathlib.Core.Path.{_≡_, refl, sym}
 use mathlib.Core.Logic.{_≢_}
+use mathlib.Core.Bool.{true}
 use mathlib.Core.List.{List, [], _∷_, _++_}
 use native.Mathlib.Omega.{arith}
 use borrow.Author.Tests.{eqb-true, ne-eqb}
@@ -22,6 +23,9 @@ use Rattle.sharing.specs.Deal.{dealRefusal}
 use Rattle.sharing.specs.Linear.{linearRefusal}
 use Rattle.sharing.specs.Message.{messageRefusal}
 use Rattle.opening.specs.Blocks as Blocks
+use Rattle.agreement.specs.Agreement.{allPairs}
+use Rattle.session.specs.declared.Session.{Session}
+use Rattle.opening.specs.Walking.{sent, accepts}
 use Rattle.opening.specs.Accepting as Accepting
 use Rattle.opening.specs.Opening.{openRefusal}
 use Rattle.product.specs.Masks.{masksRefusal, maskNumbersOf}
@@ -35,12 +39,12 @@ use Rattle.runs.proofs.Outlines.{all-every}
 use Rattle.runs.proofs.Lines.{elements-of}
 use Rattle.correctness.specs.History.{Event, World, doneBy, turn, history, Each}
 use Rattle.correctness.specs.Ledger.{Ledger, nothing, dealt, sum, product, Written, Plain, of-deal, of-row, of-times, of-fee, of-more, of-product}
-use Rattle.correctness.specs.Truth.{OwnPart, TrueWith, TrueFinish}
+use Rattle.correctness.specs.Truth.{OwnPart, EnoughTrue, TrueWith, TrueFinish}
 use Rattle.correctness_examples.specs.Station.{plan, drawWith, ledger, Everyone}
 
 -- `refl` proves it where `unfolding Computes` opens the calls' definitions
 unfoldable pub Computes : {A : Type 0} → A → A → Type 0
-unfolding Arithmetic.sum Arithmetic.product Arithmetic.difference Arithmetic.euclid Arithmetic.inverse value countFrom nodal weight terms interpolated outcome anyBeyond eachFrom part dealerRefusal combined plusSums created loadRowRefusal loadTripleRefusal withTriple dealRefusal linearRefusal messageRefusal Blocks.badBlock Blocks.badBlocks Blocks.sent Accepting.accepts Accepting.share Accepting.walk Accepting.opened openRefusal masksRefusal maskNumbersOf finishRefusal productRow withProduct fields lastDigits sizeWithin pointOf rawDraw tripleDraw rawPack triplePack perform newPost at
+unfolding Arithmetic.sum Arithmetic.product Arithmetic.difference Arithmetic.euclid Arithmetic.inverse value countFrom nodal weight terms interpolated outcome anyBeyond eachFrom part dealerRefusal combined plusSums created loadRowRefusal loadTripleRefusal withTriple dealRefusal linearRefusal messageRefusal Blocks.badBlock Blocks.badBlocks Blocks.sent Accepting.accepts Accepting.share Accepting.passing Accepting.walk Accepting.opened Accepting.disagree allPairs openRefusal masksRefusal maskNumbersOf finishRefusal productRow withProduct fields lastDigits sizeWithin pointOf rawDraw tripleDraw rawPack triplePack perform newPost at
 Computes x y = x ≡ y
 
 -- ---- plan, draws and ledger
@@ -92,6 +96,15 @@ unfolding Computes ledger
 plain-42 = of-product {k = 2} {a = 0} {b = 1} {x = 6} {y = 7} of-deal of-deal
 
 -- ---- premises, part by part
+
+-- two accepted posts with true polynomials, where t is 1
+abbrev Counts : (ℕ → List ℕ → Type 0) → Session → List ℕ → List ℕ → ℕ → Type 0
+Counts P s row blocks j = (1 ≤ j) × (j ≤ s .n) × (accepts s row blocks j ≡ true) × (j ≢ s .post → P j (sent s row blocks j))
+
+pub two-true : {P : ℕ → List ℕ → Type 0} {s : Session} {row blocks : List ℕ} (j k : ℕ) → s .t ≡ 1 → j ≢ k → Counts P s row blocks j → Counts P s row blocks k
+    → EnoughTrue P s row blocks
+two-true j k t ne a b =
+    record { good = j ∷ k ∷ []; many = omega arith; different = (((λ e. ne (sym e)), tt), (tt, tt)); theirs = (a, (b, tt)) }
 
 -- the premises with truth by all posts, each asked of posts of its own: A load their own parts, B keep to the ledger, C finish truly
 pub record Asked (draw : Draw) (A B C : ℕ → Type 0) (es : List Event) (w : World) : Type 0 where

@@ -24,7 +24,7 @@ use Rattle.correctness.proofs.Meanings.{one-number}
 use Rattle.correctness.proofs.Theorems.{correct}
 use Rattle.correctness_examples.specs.Station.{plan, drawWith, ledger, call, load, loadThree, dealOf, room, rooms, nobody, refusals, Everyone}
 use Rattle.correctness_examples.specs.Orders.{drawn, draw, loads, deals, sums, ends, before, events, new, lie, last, true-record}
-use Rattle.correctness_examples.proofs.Computing.{Computes, sound, is-draw, plain-42, all-join, each-join, each-of, each-quiet}
+use Rattle.correctness_examples.proofs.Computing.{Computes, sound, is-draw, plain-42, two-true, all-join, each-join, each-of, each-quiet}
 
 pub draw-is : IsDraw plan draw
 unfolding Computes drawn draw
@@ -77,9 +77,15 @@ unfolding Computes plan drawWith drawn draw loads deals sums ends m1 m3
 true-ends = (
   (λ m z. let y : _≡_ {A = ℕ} 9 0 = z in absurd (omega arith)),
   (
-    (λ m z. (((λ ne. absurd (ne refl)), ((λ ne. (tt, (m3, refl, elements-of m3 refl, inr (inl refl), refl))), tt)), ((λ ne. absurd (ne refl)), ((λ ne. (tt, (m3, refl, elements-of m3 refl, inr (inl refl), refl))), tt)))),
+    (λ m z. (
+      two-true 1 3 refl (omega arith) (lit≤ tt, lit≤ tt, refl, λ ne. absurd (ne refl)) (lit≤ tt, lit≤ tt, refl, λ ne. (tt, (m3, refl, elements-of m3 refl, inr (inl refl), refl))),
+      two-true 1 3 refl (omega arith) (lit≤ tt, lit≤ tt, refl, λ ne. absurd (ne refl)) (lit≤ tt, lit≤ tt, refl, λ ne. (tt, (m3, refl, elements-of m3 refl, inr (inl refl), refl))),
+    )),
     (
-      (λ m z. (((λ ne. (tt, (m1, refl, elements-of m1 refl, inl refl, refl))), ((λ ne. absurd (ne refl)), tt)), ((λ ne. (tt, (m1, refl, elements-of m1 refl, inl refl, refl))), ((λ ne. absurd (ne refl)), tt)))),
+      (λ m z. (
+        two-true 1 2 refl (omega arith) (lit≤ tt, lit≤ tt, refl, λ ne. (tt, (m1, refl, elements-of m1 refl, inl refl, refl))) (lit≤ tt, lit≤ tt, refl, λ ne. absurd (ne refl)),
+        two-true 1 2 refl (omega arith) (lit≤ tt, lit≤ tt, refl, λ ne. (tt, (m1, refl, elements-of m1 refl, inl refl, refl))) (lit≤ tt, lit≤ tt, refl, λ ne. absurd (ne refl)),
+      )),
       ((λ m z. tt), tt),
     ),
   ),
@@ -112,7 +118,7 @@ by-theorem : Plain ledger 4 (openAnswer (last .session) (last .rows) 4 true-reco
 unfolding Computes plan drawWith drawn draw loads deals sums ends
 by-theorem =
     correct plan draw ledger Everyone (λ i. replicate 768 0) events premises 1 (lit≤ tt) (lit≤ tt) tt .opens 4 true-record refl
-    (record { long = refl; low = refl }) .exact (lit≤ tt) ((λ ne. absurd (ne refl)), ((λ ne. (tt, inl (inr (inl refl)))), tt))
+    (record { long = refl; low = refl }) .exact (lit≤ tt) ((λ ne. absurd (ne refl)), ((λ ne. (tt, inl (inr (inl refl)))), tt)) .1
 
 is-42 : openAnswer (last .session) (last .rows) 4 true-record .value ≡ 42
 is-42 = one-number ledger 4 _ 42 by-theorem plain-42

@@ -20,7 +20,7 @@ use Rattle.correctness.specs.Truth.{OwnPart, TruePolynomial, TrueFinish}
 use Rattle.correctness.specs.Claim.{Opens, Right}
 use Rattle.correctness.proofs.Meanings.{one-number}
 use Rattle.correctness_examples.specs.Station.{plan, drawWith, ledger, call, load, loadThree, dealOf, room, rooms, refusals, Everyone, AllBut}
-use Rattle.correctness_examples.proofs.Computing.{Computes, is-draw, plain-42, Asked, all-join, each-join, each-of, each-quiet}
+use Rattle.correctness_examples.proofs.Computing.{Computes, is-draw, plain-42, two-true, Asked, all-join, each-join, each-of, each-quiet}
 use Rattle.correctness_examples.specs.Orders as Example
 use Rattle.correctness_examples.specs.Orders.{last}
 
@@ -41,7 +41,7 @@ not-plain x y e ne h = ne (sym e ∙ one-number ledger 4 x 42 h plain-42)
 -- so what is claimed of an opening is false where any polynomial counts as its sender's
 any-fails : Opens ledger (λ j xs. Unit {0}) last 4 false-record → ⊥
 unfolding Computes plan drawWith Example.drawn Example.draw Example.loads Example.deals Example.sums Example.ends
-any-fails h = not-plain _ 80 opens-80 (omega arith) (h .exact (lit≤ tt) ((λ ne. tt), ((λ ne. tt), tt)))
+any-fails h = not-plain _ 80 opens-80 (omega arith) (h .exact (lit≤ tt) ((λ ne. tt), ((λ ne. tt), tt)) .1)
 
 -- ---- two runs, alike up to the masks
 
@@ -130,7 +130,10 @@ unfolding Computes plan drawWith drawn draw loads deals ends m1
 all-but-one = asked 1 ends (tt, (tt, (tt, tt))) (tt, (tt, (tt, tt))) (
   (λ ne z. absurd (ne refl)),
   (
-    (λ ne z. (((λ o. (tt, (m1, refl, elements-of m1 refl, inl refl, refl))), ((λ o. absurd (o refl)), tt)), ((λ o. (tt, (m1, refl, elements-of m1 refl, inl refl, refl))), ((λ o. absurd (o refl)), tt)))),
+    (λ ne z. (
+      two-true 1 2 refl (omega arith) (lit≤ tt, lit≤ tt, refl, λ ne. (tt, (m1, refl, elements-of m1 refl, inl refl, refl))) (lit≤ tt, lit≤ tt, refl, λ ne. absurd (ne refl)),
+      two-true 1 2 refl (omega arith) (lit≤ tt, lit≤ tt, refl, λ ne. (tt, (m1, refl, elements-of m1 refl, inl refl, refl))) (lit≤ tt, lit≤ tt, refl, λ ne. absurd (ne refl)),
+    )),
     ((λ ne z. tt), tt),
   ),
 )
@@ -149,7 +152,7 @@ opens-24 = refl
 told-fails : Opens ledger (TruePolynomial Everyone end 4) (end .posts 1) 4 sent-record → ⊥
 unfolding Computes plan drawWith drawn draw loads deals ends
 told-fails h =
-    not-plain _ 24 opens-24 (omega arith) (h .exact (lit≤ tt) ((λ ne. absurd (ne refl)), ((λ ne. (tt, inl (inr (inl refl)))), tt)))
+    not-plain _ 24 opens-24 (omega arith) (h .exact (lit≤ tt) ((λ ne. absurd (ne refl)), ((λ ne. (tt, inl (inr (inl refl)))), tt)) .1)
 
 right-fails : (H : (List ℕ → List ℕ) → ℕ → ℕ → List ℕ → Type 0) → Right ledger (TruePolynomial Everyone end) H (end .posts 1) → ⊥
 unfolding Computes plan drawWith drawn draw loads deals ends
@@ -185,7 +188,10 @@ opens-less-2 = refl
 all-but-two : Asked draw Everyone Everyone (AllBut 2) events' new
 unfolding Computes plan drawWith drawn draw loads deals ends' m2
 all-but-two = asked 2 ends' (tt, (tt, (tt, tt))) (tt, (tt, (tt, tt))) (
-  (λ ne z. (((λ o. absurd (o refl)), ((λ o. (tt, (m2, refl, elements-of m2 refl, inl refl, refl))), tt)), ((λ o. absurd (o refl)), ((λ o. (tt, (m2, refl, elements-of m2 refl, inl refl, refl))), tt)))),
+  (λ ne z. (
+    two-true 1 2 refl (omega arith) (lit≤ tt, lit≤ tt, refl, λ ne. absurd (ne refl)) (lit≤ tt, lit≤ tt, refl, λ ne. (tt, (m2, refl, elements-of m2 refl, inl refl, refl))),
+    two-true 1 2 refl (omega arith) (lit≤ tt, lit≤ tt, refl, λ ne. absurd (ne refl)) (lit≤ tt, lit≤ tt, refl, λ ne. (tt, (m2, refl, elements-of m2 refl, inl refl, refl))),
+  )),
   ((λ ne z. absurd (ne refl)), ((λ ne z. absurd (ne refl)), tt)),
 )
 
@@ -203,7 +209,7 @@ opens-54 = refl
 told-fails' : Opens ledger (TruePolynomial Everyone end' 4) (end' .posts 1) 4 faithful-record → ⊥
 unfolding Computes plan drawWith drawn draw loads deals ends'
 told-fails' h =
-    not-plain _ 54 opens-54 (omega arith) (h .exact (lit≤ tt) ((λ ne. absurd (ne refl)), ((λ ne. (tt, inl (inr (inl refl)))), tt)))
+    not-plain _ 54 opens-54 (omega arith) (h .exact (lit≤ tt) ((λ ne. absurd (ne refl)), ((λ ne. (tt, inl (inr (inl refl)))), tt)) .1)
 
 right-fails' : (H : (List ℕ → List ℕ) → ℕ → ℕ → List ℕ → Type 0) → Right ledger (TruePolynomial Everyone end') H (end' .posts 1) → ⊥
 unfolding Computes plan drawWith drawn draw loads deals ends'

@@ -4,3 +4,4 @@ pub mod Nested
 pub mod Fooled
 pub mod Needed
 pub mod Unheard
+pub mod Contradicting

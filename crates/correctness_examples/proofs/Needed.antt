@@ -49,7 +49,7 @@ opens-8 = refl
 
 part-fails : Opens ledger (TruePolynomial Everyone (history foreign new) 0) (history foreign new .posts 1) 0 (0 ∷ 0 ∷ 0 ∷ 1 ∷ 5 ∷ 0 ∷ 0 ∷ 0 ∷ 0 ∷ []) → ⊥
 unfolding Computes plan drawWith drawn draw foreign
-part-fails h = not-it 0 _ 8 6 opens-8 (omega arith) plain-6 (h .exact (lit≤ tt) ((λ ne. absurd (ne refl)), ((λ ne. (tt, inl (inl refl))), tt)))
+part-fails h = not-it 0 _ 8 6 opens-8 (omega arith) plain-6 (h .exact (lit≤ tt) ((λ ne. absurd (ne refl)), ((λ ne. (tt, inl (inl refl))), tt)) .1)
 
 -- ---- a deal of another number
 
@@ -72,7 +72,7 @@ opens-9 = refl
 
 deal-fails : Opens ledger (TruePolynomial Everyone (history apart new) 0) (history apart new .posts 1) 0 (0 ∷ 0 ∷ 0 ∷ 1 ∷ 3 ∷ 1 ∷ 0 ∷ 0 ∷ 0 ∷ []) → ⊥
 unfolding Computes plan drawWith drawn draw apart
-deal-fails h = not-it 0 _ 9 6 opens-9 (omega arith) plain-6 (h .exact (lit≤ tt) ((λ ne. absurd (ne refl)), ((λ ne. (tt, inl (inl refl))), tt)))
+deal-fails h = not-it 0 _ 9 6 opens-9 (omega arith) plain-6 (h .exact (lit≤ tt) ((λ ne. absurd (ne refl)), ((λ ne. (tt, inl (inl refl))), tt)) .1)
 
 -- ---- another sum
 
@@ -98,4 +98,4 @@ opens-14 = refl
 
 sum-fails : Opens ledger (TruePolynomial Everyone (history sums new) 7) (history sums new .posts 1) 7 (0 ∷ 0 ∷ 0 ∷ 1 ∷ 5 ∷ 5 ∷ 0 ∷ 0 ∷ 0 ∷ []) → ⊥
 unfolding Computes plan drawWith drawn draw sums
-sum-fails h = not-it 7 _ 14 18 opens-14 (omega arith) plain-18 (h .exact (lit≤ tt) ((λ ne. absurd (ne refl)), ((λ ne. (tt, inl (inl refl))), tt)))
+sum-fails h = not-it 7 _ 14 18 opens-14 (omega arith) plain-18 (h .exact (lit≤ tt) ((λ ne. absurd (ne refl)), ((λ ne. (tt, inl (inl refl))), tt)) .1)

@@ -55,7 +55,7 @@ by-theorem : Plain ledger 6 (number 6 (heard 79 39))
 unfolding Computes plan drawWith drawn draw loads deals sums ends more
 by-theorem =
     correct plan draw ledger Everyone (λ i. replicate 768 0) (events ++ more) longer 1 (lit≤ tt) (lit≤ tt) tt .opens 6 (heard 79 39) refl
-    (record { long = refl; low = refl }) .exact (lit≤ tt) ((λ ne. absurd (ne refl)), ((λ ne. (tt, inl (inr (inr (inl refl))))), tt))
+    (record { long = refl; low = refl }) .exact (lit≤ tt) ((λ ne. absurd (ne refl)), ((λ ne. (tt, inl (inr (inr (inl refl))))), tt)) .1
 
 -- 6 + 2 · 42, by the ledger alone
 plain-90 : Plain ledger 6 90
@@ -70,7 +70,7 @@ charged : Plain ledger 8 (number 8 (heard 38 19))
 unfolding Computes plan drawWith drawn draw loads deals sums ends more
 charged =
     correct plan draw ledger Everyone (λ i. replicate 768 0) (events ++ more) longer 1 (lit≤ tt) (lit≤ tt) tt .opens 8 (heard 38 19) refl
-    (record { long = refl; low = refl }) .exact (lit≤ tt) ((λ ne. absurd (ne refl)), ((λ ne. (tt, inl (inr (inr (inr (inl refl)))))), tt))
+    (record { long = refl; low = refl }) .exact (lit≤ tt) ((λ ne. absurd (ne refl)), ((λ ne. (tt, inl (inr (inr (inr (inl refl)))))), tt)) .1
 
 plain-50 : Plain ledger 8 50
 unfolding Computes ledger

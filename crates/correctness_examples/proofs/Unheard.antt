@@ -72,7 +72,7 @@ module _ (none : Answer) where
   by-theorem =
       openings-answered plan draw ledger (AllBut 3) (λ i. replicate 768 0) before behind 1 0 blocks none premises (lit≤ tt) (lit≤ tt)
       (omega arith) refl (record { long = refl; low = refl }) .exact (lit≤ tt)
-      ((λ ne. absurd (ne refl)), ((λ ne. (omega arith, inl (inl refl))), tt))
+      ((λ ne. absurd (ne refl)), ((λ ne. (omega arith, inl (inl refl))), tt)) .1
 
   is-6 : answer .value ≡ 6
   is-6 = one-number ledger 0 _ 6 by-theorem plain-6

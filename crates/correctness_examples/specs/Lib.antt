@@ -1,2 +1,3 @@
 pub mod Station
 pub mod Orders
+pub mod Contradicted

@@ -1,6 +1,8 @@
 pub mod Passed
 pub mod Blocks
 pub mod Walks
+pub mod Behind
+pub mod Settles
 pub mod Fronts
 pub mod Opens
 pub mod Theorems

@@ -1,7 +1,6 @@
 -- The checks of an opening, joined as the code asks them, and what holds where they refuse nothing.
-use Prim.Native.Nat.{ℕ}
+use Prim.Native.Nat.{ℕ, zero, suc}
 use mathlib.Core.Path.{_≡_, refl, sym, _∙_, ap}
-use mathlib.Core.Bool.{Bool, true, false}
 use mathlib.Core.List.{List, [], _∷_, _++_}
 use native.Mathlib.Omega.{arith}
 use lib.ListN.{length}
@@ -25,11 +24,11 @@ use Rattle.opening.specs.Blocks as Blocks
 use Rattle.opening.specs.Blocks.{Recorded}
 use Rattle.opening.specs.Accepting as Accepting
 use Rattle.opening.specs.Accepting.{Openable}
-use Rattle.opening.specs.Walking.{recordLength, badRecord, tooFew, opened, openedRow}
+use Rattle.opening.specs.Walking.{recordLength, badRecord, tooFew, disagree, opened}
 use Rattle.opening.specs.Opening.{rowChecks, openChecks, openRefusal, openAnswer}
 use Rattle.opening.proofs.Passed as Passed
 use Rattle.opening.proofs.Passed.{open-framed}
-use Rattle.opening.proofs.Walks.{orNine, opened-or-nine}
+use Rattle.opening.proofs.Settles.{openingOf, opened-decided}
 
 -- a session's record, for the party that the code made of it
 module _ (s : Session) (rows blocks : List ℕ) where
@@ -79,8 +78,8 @@ module _ (s : Session) (rows : List ℕ) (r : ℕ) (blocks : List ℕ) where
   abbrev row : List ℕ
   row = rowAt (width s) rows r
 
-  abbrev few : List Test
-  few = 9 when tooFew s row blocks ∷ []
+  abbrev late : List Test
+  late = 9 when tooFew s row blocks ∷ 13 when disagree s row blocks ∷ []
 
   -- the call ends before the walk, or with what the walk found
   module _ (f : ℕ) (e : f ≡ first (openChecks s rows r blocks)) where
@@ -88,7 +87,7 @@ module _ (s : Session) (rows : List ℕ) (r : ℕ) (blocks : List ℕ) where
     unfolding openRefusal
     open-refused a n h =
         h
-        ∙ refused-answer f (openRefusal s rows r blocks) (opened s row blocks) s s s (stopped (openChecks s rows r blocks) few tt f e n)
+        ∙ refused-answer f (openRefusal s rows r blocks) (opened s row blocks) s s s (stopped (openChecks s rows r blocks) late tt f e n)
         n refl
 
     module _ (z : f ≡ 0) where
@@ -114,31 +113,34 @@ module _ (s : Session) (rows : List ℕ) (r : ℕ) (blocks : List ℕ) where
                 row-length = rw eg at l;
               })
 
-          found : Bool → Opened
-          found b = orNine b (opened s row blocks)
+          abbrev number : ℕ
+          number = opened s row blocks
+
+          found : ℕ → Opened
+          found k = openingOf k number
 
           module _ (o : Opened) (eo : o ≡ Accepting.openedRow q x blocks) where
-            walked : o ≡ found (tooFew s row blocks)
+            walked : o ≡ found (first late)
             unfolding found
-            walked = (eo ∙ rw (eq, ex, eg)) ∙ opened-or-nine (partyOf s) row blocks
+            walked = (eo ∙ rw (eq, ex, eg)) ∙ opened-decided (partyOf s) row blocks
 
-            last : (a : Answer) → a ≡ answer (first few) (opened s row blocks) s s → a ≡ openAnswer s rows r blocks
+            last : (a : Answer) → a ≡ answer (first late) number s s → a ≡ openAnswer s rows r blocks
             unfolding openRefusal
             last a h =
-                h ∙ ap (λ (k : ℕ). answer k (opened s row blocks) s s) (went-on (openChecks s rows r blocks) few tt f e (first few) z refl)
+                h ∙ ap (λ (k : ℕ). answer k number s s) (went-on (openChecks s rows r blocks) late tt f e (first late) z refl)
 
             pub open-few : (a : Answer) → (o .refusal ≡ 0 → ⊥) → a ≡ holding (o .refusal) 0 s → a ≡ openAnswer s rows r blocks
             unfolding outcome found
-            open-few a n h = last a (rw walked at h ∙ go (tooFew s row blocks) (rw walked at n))
+            open-few a n h = last a (rw walked at h ∙ go (first late) (rw walked at n))
               where
-                go : (b : Bool) → (found b .refusal ≡ 0 → ⊥) → holding (found b .refusal) 0 s ≡ answer (first (9 when b ∷ [])) (opened s row blocks) s s
-                go true n = refl
-                go false n = absurd (n refl)
+                go : (k : ℕ) → (found k .refusal ≡ 0 → ⊥) → holding (found k .refusal) 0 s ≡ answer k number s s
+                go zero n = absurd (n refl)
+                go (suc k) n = refl
 
             pub open-done : (a : Answer) → o .refusal ≡ 0 → a ≡ holding 0 (o .value) s → a ≡ openAnswer s rows r blocks
             unfolding outcome found
-            open-done a n h = last a (rw walked at h ∙ go (tooFew s row blocks) (rw walked at n))
+            open-done a n h = last a (rw walked at h ∙ go (first late) (rw walked at n))
               where
-                go : (b : Bool) → found b .refusal ≡ 0 → holding 0 (found b .value) s ≡ answer (first (9 when b ∷ [])) (opened s row blocks) s s
-                go true n = let no : _≡_ {A = ℕ} 9 0 = n in absurd (omega arith)
-                go false n = refl
+                go : (k : ℕ) → found k .refusal ≡ 0 → holding 0 (found k .value) s ≡ answer k number s s
+                go zero n = refl
+                go (suc k) n = let no : suc k ≡ 0 = n in absurd (omega arith)

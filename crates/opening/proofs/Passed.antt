@@ -16,7 +16,7 @@ use Rattle.session.specs.Sessions.{mark}
 use Rattle.session.specs.Rows.{width, rowAt}
 use Rattle.session.specs.Checks.{frameTests, noRow, wrongMark, Framed}
 use Rattle.session.proofs.Calls.{frame-passed}
-use Rattle.opening.specs.Walking.{recordLength, badRecord, tooFew}
+use Rattle.opening.specs.Walking.{recordLength, badRecord, tooFew, disagree}
 use Rattle.opening.specs.Opening.{openChecks, openTests, openRefusal}
 
 -- ---- two groups of tests, one after the other
@@ -39,7 +39,7 @@ openNumbers s high blocks = 8 when high ∷ 8 when badRecord s blocks ∷ []
 
 -- the tests of the walk over the row
 abbrev pub walkTests : Session → List ℕ → List ℕ → List Test
-walkTests s row blocks = 9 when tooFew s row blocks ∷ []
+walkTests s row blocks = 9 when tooFew s row blocks ∷ 13 when disagree s row blocks ∷ []
 
 pub walk-few : (s : Session) (row blocks : List ℕ) → tooFew s row blocks ≡ true → first (walkTests s row blocks) ≡ 9
 walk-few s row blocks e = rw e refl
@@ -93,11 +93,12 @@ module _ (s : Session) (rows : List ℕ) (r : ℕ) (blocks : List ℕ) where
 pub record RowOpened (s : Session) (rows : List ℕ) (r : ℕ) (blocks : List ℕ) : Type 0 where
   pub checked : OpenChecked s rows r blocks
   pub enough : tooFew s (rowAt (width s) rows r) blocks ≡ false
+  pub agree : disagree s (rowAt (width s) rows r) blocks ≡ false
 
 pub row-opened : (s : Session) (rows : List ℕ) (r : ℕ) (blocks : List ℕ) → openRefusal s rows r blocks ≡ 0 → RowOpened s rows r blocks
 unfolding openRefusal
 row-opened s rows r blocks z =
     let walk = walkTests s (rowAt (width s) rows r) blocks in
     let (clear, walked) = clear-parts (openChecks s rows r blocks) walk tt z in
-    let (few, _) = all-fail walk tt walked in
-    record { checked = open-checked s rows r blocks clear; enough = few }
+    let (few, (off, _)) = all-fail walk tt walked in
+    record { checked = open-checked s rows r blocks clear; enough = few; agree = off }

@@ -5,18 +5,13 @@ use mathlib.Core.Bool.{Bool, true, false}
 use mathlib.Core.List.{List, [], _∷_, _++_, map, append-assoc, append-nil}
 use native.Mathlib.Numerals.{add-one}
 use native.Mathlib.Omega.{arith}
-use borrow.Author.Tests.{lt-ltb, le-ltb}
-use lib.Dec.{ltb}
 use lib.ListN.{length, take, set, length-set, length-map}
-use lib.Seq.{take-suc-set, length-take-le, take-all}
-use Rattle.poly.specs.Interpolation.{interpolated}
-use Rattle.refusal.specs.Refusal.{_when_, first, outcome}
+use lib.Seq.{take-suc-set, length-take-le}
 use Rattle.shape.specs.Lengths.{needed}
 use Rattle.session.specs.declared.Party.{Party}
 use Rattle.opening.specs.declared.Walk.{Walk}
-use Rattle.opening.specs.declared.Opened.{Opened}
 use Rattle.opening.specs.declared.Walk.the-variants.{Enough, TooFew}
-use Rattle.opening.specs.Accepting.{walk, walkEnd, accepts, share, acceptedPosts, outcomeOf, tooFew, opened, settled, openedRow, WalkedAs}
+use Rattle.opening.specs.Accepting.{walk, walkEnd, accepts, share, acceptedPosts, outcomeOf, WalkedAs}
 
 -- one post
 module _ (test : ℕ → Bool) (j k need : ℕ) where
@@ -36,26 +31,29 @@ module _ (test : ℕ → Bool) (j k need : ℕ) where
   unfolding walkEnd
   end-rejected e = rw (e, walkEnd)
 
-pub record Walking (test : ℕ → Bool) (f : ℕ → ℕ) (n need : ℕ) (posts shares : List ℕ) (count j : ℕ) : Type 0 where
+-- with room for a posts and b shares
+pub record Walking (test : ℕ → Bool) (f : ℕ → ℕ) (n need a b : ℕ) (posts shares : List ℕ) (count j : ℕ) : Type 0 where
   pub j-from : 1 ≤ j
   pub j-to : j ≤ n + 1
   pub count-to : count ≤ need
-  pub posts-room : length posts ≡ need
-  pub shares-room : length shares ≡ need
+  pub fits : (need ≤ a) × (need ≤ b)
+  pub posts-room : length posts ≡ a
+  pub shares-room : length shares ≡ b
   pub posts-so-far : take count posts ++ walk test j (n + 1 - j) (need - count) ≡ walk test 1 n need
   pub shares-so-far : take count shares ++ map f (walk test j (n + 1 - j) (need - count)) ≡ map f (walk test 1 n need)
   pub end-so-far : walkEnd test j (n + 1 - j) (need - count) ≡ walkEnd test 1 n need
 
-module _ (test : ℕ → Bool) (f : ℕ → ℕ) (n need : ℕ) where
+module _ (test : ℕ → Bool) (f : ℕ → ℕ) (n need a b : ℕ) where
   abbrev At : List ℕ → List ℕ → ℕ → ℕ → Type 0
-  At = Walking test f n need
+  At = Walking test f n need a b
 
-  pub walking-start : (p q : List ℕ) → length p ≡ need → length q ≡ need → At p q 0 1
-  walking-start p q h k =
+  pub walking-start : (p q : List ℕ) → length p ≡ a → length q ≡ b → need ≤ a → need ≤ b → At p q 0 1
+  walking-start p q h k ha hb =
       record {
         j-from = omega arith;
         j-to = omega arith;
         count-to = omega arith;
+        fits = (ha, hb);
         posts-room = h;
         shares-room = k;
         posts-so-far = rw (all, none);
@@ -70,13 +68,14 @@ module _ (test : ℕ → Bool) (f : ℕ → ℕ) (n need : ℕ) where
       none = omega arith
 
   -- a post that is not accepted
-  pub walking-skip : (p p′ q q′ : List ℕ) (c c′ j : ℕ) (b : Bool) → At p q c j → (c ≡ need → ⊥) → j ≤ n → b ≡ test j → b ≡ false
+  pub walking-skip : (p p′ q q′ : List ℕ) (c c′ j : ℕ) (ok : Bool) → At p q c j → (c ≡ need → ⊥) → j ≤ n → ok ≡ test j → ok ≡ false
       → p′ ≡ p → q′ ≡ q → c′ ≡ c → At p′ q′ c′ (j + 1)
-  walking-skip p p′ q q′ c c′ j b s ne h t e ep eq ec =
+  walking-skip p p′ q q′ c c′ j ok s ne h t e ep eq ec =
       record {
         j-from = omega arith;
         j-to = omega arith;
         count-to = omega (arith, s .count-to);
+        fits = s .fits;
         posts-room = rw ep (s .posts-room);
         shares-room = rw eq (s .shares-room);
         posts-so-far = rw (ep, ec, add-one j, more) (rw (turn, more, walk-rejected test j _ _ (sym t ∙ e)) at (s .posts-so-far));
@@ -91,13 +90,14 @@ module _ (test : ℕ → Bool) (f : ℕ → ℕ) (n need : ℕ) where
       more = omega (arith, s .count-to)
 
   -- a post that is accepted
-  pub walking-take : (p p′ q q′ : List ℕ) (c c′ j v : ℕ) (b : Bool) → At p q c j → (c ≡ need → ⊥) → j ≤ n
-      → b ≡ test j → b ≡ true → v ≡ f j → p′ ≡ set p c j → q′ ≡ set q c v → c′ ≡ c + 1 → At p′ q′ c′ (j + 1)
-  walking-take p p′ q q′ c c′ j v b s ne h t e ev ep eq ec =
+  pub walking-take : (p p′ q q′ : List ℕ) (c c′ j v : ℕ) (ok : Bool) → At p q c j → (c ≡ need → ⊥) → j ≤ n
+      → ok ≡ test j → ok ≡ true → v ≡ f j → p′ ≡ set p c j → q′ ≡ set q c v → c′ ≡ c + 1 → At p′ q′ c′ (j + 1)
+  walking-take p p′ q q′ c c′ j v ok s ne h t e ev ep eq ec =
       record {
         j-from = omega arith;
         j-to = omega arith;
         count-to = omega (arith, s .count-to);
+        fits = s .fits;
         posts-room = rw (ep, length-set) (s .posts-room);
         shares-room = rw (eq, length-set) (s .shares-room);
         posts-so-far = rw (ep, ec, add-one c, add-one j, take-suc-set p c j in-p, append-assoc) (rw (turn, more, walk-accepted test j _ _ (sym t ∙ e)) at (s .posts-so-far));
@@ -112,14 +112,14 @@ module _ (test : ℕ → Bool) (f : ℕ → ℕ) (n need : ℕ) where
       more = omega (arith, s .count-to)
 
       in-p : c < length p
-      in-p = omega (arith, s .count-to, s .posts-room)
+      in-p = omega (arith, s .count-to, s .fits .0, s .posts-room)
 
       in-q : c < length q
-      in-q = omega (arith, s .count-to, s .shares-room)
+      in-q = omega (arith, s .count-to, s .fits .1, s .shares-room)
 
   -- what is collected at the end
-  front : (a p : List ℕ) (c : ℕ) → c ≤ length p → take c p ≡ a → take (length a) p ≡ a
-  front a p c h e = ap (λ (k : ℕ). take k p) (sym (ap length e) ∙ length-take-le c p h) ∙ e
+  front : (l p : List ℕ) (c : ℕ) → c ≤ length p → take c p ≡ l → take (length l) p ≡ l
+  front l p c h e = ap (λ (k : ℕ). take k p) (sym (ap length e) ∙ length-take-le c p h) ∙ e
 
   no-more : (j k : ℕ) → walk test j k 0 ≡ []
   unfolding walk
@@ -139,10 +139,10 @@ module _ (test : ℕ → Bool) (f : ℕ → ℕ) (n need : ℕ) where
   )
     where
       in-p : c ≤ length p
-      in-p = omega (arith, s .count-to, s .posts-room)
+      in-p = omega (arith, s .count-to, s .fits .0, s .posts-room)
 
       in-q : c ≤ length q
-      in-q = omega (arith, s .count-to, s .shares-room)
+      in-q = omega (arith, s .count-to, s .fits .1, s .shares-room)
 
   pub walking-enough : (p q : List ℕ) (c j : ℕ) → At p q c j → c ≡ need
       → (take (length (walk test 1 n need)) p ≡ walk test 1 n need) × (take (length (walk test 1 n need)) q ≡ map f (walk test 1 n need))
@@ -170,7 +170,7 @@ module _ (test : ℕ → Bool) (f : ℕ → ℕ) (n need : ℕ) where
       more = omega (arith, s .count-to)
 
 -- the same for a party's walk, each fact as the code has it
-module _ (q : Party) (row blocks : List ℕ) (need : ℕ) (en : need ≡ needed (q .shape)) where
+module _ (q : Party) (row blocks : List ℕ) (a b need : ℕ) (en : need ≡ needed (q .shape)) where
   abbrev Test : ℕ → Bool
   Test = accepts q row blocks
 
@@ -184,32 +184,32 @@ module _ (q : Party) (row blocks : List ℕ) (need : ℕ) (en : need ≡ needed 
   k = needed (q .shape)
 
   abbrev In : List ℕ → List ℕ → ℕ → ℕ → Type 0
-  In = Walking Test Share n k
+  In = Walking Test Share n k a b
 
   module _ (c j : ℕ) (ne : c ≡ need → ⊥) where
     more : c ≡ k → ⊥
     more e = ne (e ∙ sym en)
 
-    pub party-take : (x x′ y y′ : List ℕ) (c′ v : ℕ) (b : Bool) → In x y c j → j ≤ n → b ≡ accepts q row blocks j → b ≡ true
+    pub party-take : (x x′ y y′ : List ℕ) (c′ v : ℕ) (ok : Bool) → In x y c j → j ≤ n → ok ≡ accepts q row blocks j → ok ≡ true
         → v ≡ share q row blocks j → x′ ≡ set x c j → y′ ≡ set y c v → c′ ≡ c + 1 → In x′ y′ c′ (j + 1)
-    party-take x x′ y y′ c′ v b w = walking-take Test Share n k x x′ y y′ c c′ j v b w more
+    party-take x x′ y y′ c′ v ok w = walking-take Test Share n k a b x x′ y y′ c c′ j v ok w more
 
-    pub party-skip : (x x′ y y′ : List ℕ) (c′ : ℕ) (b : Bool) → In x y c j → j ≤ n → b ≡ accepts q row blocks j → b ≡ false
+    pub party-skip : (x x′ y y′ : List ℕ) (c′ : ℕ) (ok : Bool) → In x y c j → j ≤ n → ok ≡ accepts q row blocks j → ok ≡ false
         → x′ ≡ x → y′ ≡ y → c′ ≡ c → In x′ y′ c′ (j + 1)
-    party-skip x x′ y y′ c′ b w = walking-skip Test Share n k x x′ y y′ c c′ j b w more
+    party-skip x x′ y y′ c′ ok w = walking-skip Test Share n k a b x x′ y y′ c c′ j ok w more
 
     pub party-few : (x y : List ℕ) → In x y c j → n < j → WalkedAs q row blocks TooFew x y
     party-few x y w h =
-        let got = walking-few Test Share n k x y c j w more h in
-        record { ended = got .2; posts-are = got .0; shares-are = got .1; posts-room = w .posts-room; shares-room = w .shares-room }
+        let got = walking-few Test Share n k a b x y c j w more h in
+        record { ended = got .2; posts-are = got .0; shares-are = got .1; posts-room = omega (arith, w .fits, w .posts-room); shares-room = omega (arith, w .fits, w .shares-room) }
 
   pub party-enough : (x y : List ℕ) (c j : ℕ) → In x y c j → c ≡ need → WalkedAs q row blocks (Enough (j - 1)) x y
   party-enough x y c j w e =
-      let got = walking-enough Test Share n k x y c j w (e ∙ en) in
-      record { ended = got .2; posts-are = got .0; shares-are = got .1; posts-room = w .posts-room; shares-room = w .shares-room }
+      let got = walking-enough Test Share n k a b x y c j w (e ∙ en) in
+      record { ended = got .2; posts-are = got .0; shares-are = got .1; posts-room = omega (arith, w .fits, w .posts-room); shares-room = omega (arith, w .fits, w .shares-room) }
 
 -- the outcome says how many were accepted
-abbrev Counted : Walk → ℕ → ℕ → Type 0
+abbrev pub Counted : Walk → ℕ → ℕ → Type 0
 Counted (Enough j) accepted need = accepted ≡ need
 Counted TooFew accepted need = accepted < need
 
@@ -232,50 +232,6 @@ end-counts test j (suc k) (suc need) = go (test j) (end-counts test (suc j) k ne
     go true h g = one-more (walkEnd test (suc j) k need) (length (walk test (suc j) k need)) h
     go false h g = g
 
-counted : (q : Party) (row blocks : List ℕ)
+pub counted : (q : Party) (row blocks : List ℕ)
     → Counted (outcomeOf q row blocks) (length (acceptedPosts q row blocks)) (needed (q .shape))
 counted q row blocks = end-counts (accepts q row blocks) 1 (q .shape .n) (needed (q .shape))
-
--- what the walk hands on settles the opening
-module _ (q : Party) (row blocks : List ℕ) where
-  abbrev found : List ℕ
-  found = acceptedPosts q row blocks
-
-  abbrev need : ℕ
-  need = needed (q .shape)
-
-  module _ (end : Walk) (posts shares : List ℕ) (w : WalkedAs q row blocks end posts shares) where
-    walk-settles : settled end (interpolated posts shares 0) ≡ openedRow q row blocks
-    unfolding opened
-    walk-settles =
-        go end (rw (w .ended) (counted q row blocks)) ∙ ap (λ (e : Walk). settled e (opened q row blocks)) (w .ended)
-      where
-        go : (e : Walk) → Counted e (length found) need → settled e (interpolated posts shares 0) ≡ settled e (opened q row blocks)
-        go (Enough j) h =
-            let ep : posts ≡ found = sym (take-all (length found) posts (omega (arith, w .posts-room))) ∙ w .posts-are in
-            let es : shares ≡ map (share q row blocks) found = sym (take-all (length found) shares (omega (arith, w .shares-room))) ∙ w .shares-are in
-            rw (ep, es)
-        go TooFew h = refl
-
-    pub walk-opens : (r : Opened) → r ≡ settled end (interpolated posts shares 0) → r ≡ openedRow q row blocks
-    walk-opens r e = e ∙ walk-settles
-
--- the opening of a row, by the test of 9
-abbrev pub orNine : Bool → ℕ → Opened
-orNine few v = outcome (first (9 when few ∷ [])) (record { refusal = 0; value = v }) (record { refusal = 9; value = 0 })
-
-pub opened-or-nine : (q : Party) (row blocks : List ℕ) → openedRow q row blocks ≡ orNine (tooFew q row blocks) (opened q row blocks)
-unfolding outcome
-opened-or-nine q row blocks = go (outcomeOf q row blocks) (counted q row blocks)
-  where
-    accepted : ℕ
-    accepted = length (acceptedPosts q row blocks)
-
-    go : (e : Walk) → Counted e accepted (needed (q .shape))
-        → settled e (opened q row blocks) ≡ orNine (tooFew q row blocks) (opened q row blocks)
-    go (Enough j) h =
-        let enough : ltb accepted (needed (q .shape)) ≡ false = le-ltb accepted (needed (q .shape)) (omega arith) in
-        rw enough
-    go TooFew h =
-        let few : ltb accepted (needed (q .shape)) ≡ true = lt-ltb accepted (needed (q .shape)) h in
-        rw few

@@ -1,16 +1,17 @@
 -- Document 01, "Calls on a session", Open: which posts a party accepts for a row, and the number that they bring out.
-use Prim.Native.Nat.{ℕ, zero, suc, _-_, _≤_, _<_}
+use Prim.Native.Nat.{ℕ, zero, suc, _-_, _≤_}
 use mathlib.Core.Path.{_≡_}
-use mathlib.Core.Bool.{Bool, true, false, cond}
-use mathlib.Core.List.{List, [], _∷_, map}
+use mathlib.Core.Bool.{Bool, true, false, not, cond}
+use mathlib.Core.List.{List, [], _∷_, _++_, map}
 use lib.Dec.{ltb, eqb}
-use lib.ListN.{length, take, getD}
+use lib.ListN.{length, take, drop, getD}
 use Rattle.field.specs.Arithmetic.{difference}
 use Rattle.poly.specs.Polynomial.{value}
 use Rattle.poly.specs.Interpolation.{interpolated}
-use Rattle.inverses.specs.InverseTable.{Inverts}
+use Rattle.agreement.specs.Agreement.{allAgree}
+use Rattle.agreement.specs.Sums.{Rooms}
 use Rattle.shape.specs.declared.Shape.{Shape}
-use Rattle.shape.specs.Lengths.{needed, vLength, rowLength}
+use Rattle.shape.specs.Lengths.{needed, rowLength}
 use Rattle.shape.specs.Row.{checkValue, publicSum}
 use Rattle.session.specs.declared.Party.{Party}
 use Rattle.opening.specs.declared.Walk.{Walk}
@@ -62,11 +63,6 @@ walkEnd test j (suc k) (suc need) =
 abbrev pub outcomeOf : Party → List ℕ → List ℕ → Walk
 outcomeOf q row blocks = walkEnd (accepts q row blocks) 1 (q .shape .n) (needed (q .shape))
 
--- What each outcome is in document 01: the number that was found, or 9 with 0 for a value.
-abbrev pub settled : Walk → ℕ → Opened
-settled (Enough j) value = record { refusal = 0; value = value }
-settled TooFew value = record { refusal = 9; value = 0 }
-
 -- 9: "fewer than t+1 accepted"
 abbrev pub tooFew : Party → List ℕ → List ℕ → Bool
 tooFew q row blocks = ltb (length (acceptedPosts q row blocks)) (needed (q .shape))
@@ -76,28 +72,61 @@ unfoldable pub opened : Party → List ℕ → List ℕ → ℕ
 opened q row blocks =
     interpolated (acceptedPosts q row blocks) (map (share q row blocks) (acceptedPosts q row blocks)) 0
 
+-- Document 02, (iv): "From now on the post checks all n." The further accepted posts are those behind the lowest t+1.
+abbrev pub further : Party → List ℕ → List ℕ → List ℕ
+further q row blocks = drop (needed (q .shape)) (accepted q row blocks)
+
+-- 13: "every further accepted share must lie on the same polynomial of degree at most t", that through the lowest t+1; one does not.
+unfoldable pub disagree : Party → List ℕ → List ℕ → Bool
+disagree q row blocks =
+    not
+    (allAgree (acceptedPosts q row blocks) (map (share q row blocks) (acceptedPosts q row blocks)) (further q row blocks)
+    (map (share q row blocks) (further q row blocks)))
+
+abbrev pub orThirteen : Bool → ℕ → Opened
+orThirteen true value = record { refusal = 13; value = 0 }
+orThirteen false value = record { refusal = 0; value = value }
+
+-- What each outcome is: 9 with 0 for a value; where enough are accepted, 13 with 0 where a further share disagrees, else the number.
+abbrev pub settled : Walk → Bool → ℕ → Opened
+settled TooFew off value = record { refusal = 9; value = 0 }
+settled (Enough j) off value = orThirteen off value
+
 -- What the walk hands on: its outcome, and the accepted posts and their shares at the start of two lists.
 pub record WalkedAs (q : Party) (row blocks : List ℕ) (end : Walk) (posts shares : List ℕ) : Type 0 where
   pub ended : end ≡ outcomeOf q row blocks
   pub posts-are : take (length (acceptedPosts q row blocks)) posts ≡ acceptedPosts q row blocks
   pub shares-are : take (length (acceptedPosts q row blocks)) shares ≡ map (share q row blocks) (acceptedPosts q row blocks)
-  pub posts-room : length posts ≡ needed (q .shape)
-  pub shares-room : length shares ≡ needed (q .shape)
+  pub posts-room : needed (q .shape) ≤ length posts
+  pub shares-room : needed (q .shape) ≤ length shares
 
--- An opening's number, or 9, as the walk ends.
+-- An opening's number, or 9, or 13.
 abbrev pub openedRow : Party → List ℕ → List ℕ → Opened
-openedRow q row blocks = settled (outcomeOf q row blocks) (opened q row blocks)
+openedRow q row blocks = settled (outcomeOf q row blocks) (disagree q row blocks) (opened q row blocks)
 
 -- What the walk goes by: a row and a record of the stated lengths.
 pub record Openable (q : Party) (row blocks : List ℕ) : Type 0 where
   pub recorded : Recorded q blocks
   pub row-length : length row ≡ rowLength (q .shape)
 
--- What is lent to the walk: the table of inverses, and rooms.
-pub record Roomy (s : Shape) (inverses powers posts shares gaps list : List ℕ) : Type 0 where
-  pub table : Inverts inverses
-  pub powers-room : length powers ≡ vLength s
-  pub posts-room : length posts ≡ needed s
-  pub shares-room : length shares ≡ needed s
-  pub gaps-room : length inverses ≤ length gaps
-  pub list-room : length inverses < length list
+-- What is lent to an opening: the table of inverses, and rooms.
+pub record Roomy (s : Shape) (inverses posts shares gaps list above below : List ℕ) : Type 0 where
+  pub posts-room : s .n ≤ length posts
+  pub shares-room : s .n ≤ length shares
+  pub lent : Rooms inverses gaps list above below
+
+-- Where the second walk begins: behind the post at which the first one stopped, with room for all posts.
+pub record BehindIn (n need last : ℕ) (posts shares : List ℕ) : Type 0 where
+  pub behind : (need ≤ last) × (last ≤ n)
+  pub posts-room : n ≤ length posts
+  pub shares-room : n ≤ length shares
+
+-- What it hands on: behind the first `need` posts and shares, those of the accepted posts after `last`.
+pub record FurtherAs (q : Party) (row blocks : List ℕ) (need last : ℕ) (posts₀ shares₀ : List ℕ) (count : ℕ) (posts shares : List ℕ) : Type 0 where
+  pub count-in : (need ≤ count) × (count ≤ q .shape .n)
+  pub posts-are : take count posts ≡ take need posts₀ ++ passing (accepts q row blocks) (suc last) (q .shape .n - last)
+  pub shares-are : take count shares ≡ take need shares₀ ++ map (share q row blocks) (passing (accepts q row blocks) (suc last) (q .shape .n - last))
+
+-- The number through values at nodes, or 13, by further values at further nodes.
+abbrev pub agreedOn : List ℕ → List ℕ → List ℕ → List ℕ → Opened
+agreedOn xs ys zs ws = orThirteen (not (allAgree xs ys zs ws)) (interpolated xs ys 0)

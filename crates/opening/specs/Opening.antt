@@ -1,4 +1,4 @@
--- Document 01, "Calls on a session", Open: its refusals and its answer. "Session and rows don't change."
+-- Document 01, "Calls on a session", Open, with document 02, (iv): its refusals and its answer. "Session and rows don't change."
 use Prim.Native.Nat.{ℕ}
 use mathlib.Core.List.{List, [], _∷_, _++_}
 use Rattle.refusal.specs.Refusal.{Test, _when_, first}
@@ -9,7 +9,7 @@ use Rattle.session.specs.declared.Answer.{Answer}
 use Rattle.session.specs.Sessions.{answer}
 use Rattle.session.specs.Rows.{width, rowAt}
 use Rattle.session.specs.Checks.{frameTests, noRow, wrongMark}
-use Rattle.opening.specs.Walking.{recordLength, badRecord, tooFew, opened}
+use Rattle.opening.specs.Walking.{recordLength, badRecord, tooFew, disagree, opened}
 
 -- 6 to 8
 abbrev pub rowChecks : Session → List ℕ → ℕ → List ℕ → List Test
@@ -21,8 +21,10 @@ abbrev pub openChecks : Session → List ℕ → ℕ → List ℕ → List Test
 openChecks s rows r blocks =
     frameTests s rows ++ (5 when wrongLength blocks (recordLength s) ∷ rowChecks s rows r blocks)
 
+-- 9, and 13 "after 9"
 abbrev pub openTests : Session → List ℕ → ℕ → List ℕ → List Test
-openTests s rows r blocks = openChecks s rows r blocks ++ (9 when tooFew s (rowAt (width s) rows r) blocks ∷ [])
+openTests s rows r blocks =
+    openChecks s rows r blocks ++ (9 when tooFew s (rowAt (width s) rows r) blocks ∷ 13 when disagree s (rowAt (width s) rows r) blocks ∷ [])
 
 unfoldable pub openRefusal : Session → List ℕ → ℕ → List ℕ → ℕ
 openRefusal s rows r blocks = first (openTests s rows r blocks)

@@ -8,7 +8,7 @@ use Rattle.refusal.specs.Conditions.{outside, wrongLength, anyBeyond, badPoint}
 use Rattle.session.specs.declared.Session.{Session}
 use Rattle.session.specs.Rows.{width, rowAt}
 use Rattle.session.specs.Checks.{noRow, wrongMark}
-use Rattle.opening.specs.Walking.{recordLength, badRecord, tooFew}
+use Rattle.opening.specs.Walking.{recordLength, badRecord, tooFew, disagree}
 use Rattle.opening.specs.Opening.{openTests}
 
 abbrev pub openTable : Session → List ℕ → ℕ → List ℕ → List Test
@@ -24,6 +24,7 @@ openTable s rows r blocks =
     ∷ 8 when anyBeyond (rowAt (width s) rows r)
     ∷ 8 when badRecord s blocks
     ∷ 9 when tooFew s (rowAt (width s) rows r) blocks
+    ∷ 13 when disagree s (rowAt (width s) rows r) blocks
     ∷ []
 
 abbrev pub OpeningTable : Type 0

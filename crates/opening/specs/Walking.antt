@@ -38,6 +38,15 @@ acceptedPosts s = Accepting.acceptedPosts (partyOf s)
 abbrev pub tooFew : Session → List ℕ → List ℕ → Bool
 tooFew s = Accepting.tooFew (partyOf s)
 
+abbrev pub accepted : Session → List ℕ → List ℕ → List ℕ
+accepted s = Accepting.accepted (partyOf s)
+
+abbrev pub further : Session → List ℕ → List ℕ → List ℕ
+further s = Accepting.further (partyOf s)
+
+abbrev pub disagree : Session → List ℕ → List ℕ → Bool
+disagree s = Accepting.disagree (partyOf s)
+
 abbrev pub opened : Session → List ℕ → List ℕ → ℕ
 opened s = Accepting.opened (partyOf s)
 

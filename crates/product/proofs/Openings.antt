@@ -4,6 +4,7 @@ use mathlib.Core.Path.{_≡_, refl, sym, _∙_, ap, ap₂}
 use mathlib.Core.Bool.{Bool, true, false}
 use mathlib.Core.List.{List, [], _∷_, _++_}
 use native.Mathlib.Omega.{arith}
+use borrow.Author.Tests.{eq-eqb, ne-eqb}
 use lib.ListN.{length}
 use Rattle.field.specs.Modulus.{p}
 use Rattle.field.specs.Arithmetic.{product}
@@ -25,11 +26,11 @@ use Rattle.opening.specs.declared.Opened.{Opened}
 use Rattle.opening.specs.Blocks.{Recorded}
 use Rattle.opening.specs.Accepting as Accepting
 use Rattle.opening.specs.Accepting.{Openable}
-use Rattle.opening.specs.Walking.{tooFew, opened, openedRow}
-use Rattle.opening.proofs.Walks.{orNine, opened-or-nine}
+use Rattle.opening.specs.Walking.{tooFew, disagree, opened}
+use Rattle.opening.proofs.Settles.{decided, opened-decided}
 use Rattle.product.specs.declared.OpenedMasks.{OpenedMasks}
 use Rattle.product.specs.Masks.{maskRow}
-use Rattle.product.specs.Finish.{maskA, maskB, finishChecks, tooFewOf, found, openedBoth, openedMasks, finishRefusal, productRow, withProduct, finishAnswer, finishRows}
+use Rattle.product.specs.Finish.{maskA, maskB, finishChecks, unopened, eitherOf, found, openedBoth, openedMasks, finishRefusal, productRow, withProduct, finishAnswer, finishRows}
 use Rattle.product.proofs.Passed.{finished, finish-framed, triple-below}
 
 abbrev shown : ℕ → ℕ → ℕ → OpenedMasks
@@ -48,50 +49,67 @@ module _ (q : Party) (rows room made blocks x y : List ℕ) (k r : ℕ) (ex : x 
   pub mask-opened : (o : Opened) → o ≡ Accepting.openedRow q made blocks → o ≡ Accepting.openedRow q (maskRow (q .shape) rows k r) blocks
   mask-opened o eo = eo ∙ ap (λ (l : List ℕ). Accepting.openedRow q l blocks) made-is
 
-nines : (b b' : Bool) (v v' : ℕ) → orElse (orNine b v .refusal) (orNine b' v' .refusal) ≡ first (9 when b ∷ 9 when b' ∷ [])
-unfolding outcome
-nines true b' v v' = refl
-nines false true v v' = refl
-nines false false v v' = refl
+module _ (r a b : ℕ) where
+  pub either-nine : b ≡ 9 → r ≡ 9 → r ≡ eitherOf a b
+  either-nine e h = rw (eq-eqb b 9 e) h
 
-values : (b b' : Bool) (v v' : ℕ) → first (9 when b ∷ 9 when b' ∷ []) ≡ 0 → (orNine b v .value ≡ v) × (orNine b' v' .value ≡ v')
+  pub either-other : (b ≡ 9 → ⊥) → r ≡ orElse a b → r ≡ eitherOf a b
+  either-other n h = rw (ne-eqb b 9 n) h
+
+-- 9 of either, then 13 of either
+refusals : (f f' d d' : Bool) (v v' : ℕ)
+    → eitherOf (decided f d v .refusal) (decided f' d' v' .refusal) ≡ first (9 when f ∷ 9 when f' ∷ 13 when d ∷ 13 when d' ∷ [])
 unfolding outcome
-values true b' v v' e = absurd (omega arith)
-values false true v v' e = absurd (omega arith)
-values false false v v' e = (refl, refl)
+refusals true true d d' v v' = refl
+refusals true false d true v v' = refl
+refusals true false d false v v' = refl
+refusals false true d d' v v' = refl
+refusals false false true true v v' = refl
+refusals false false true false v v' = refl
+refusals false false false true v v' = refl
+refusals false false false false v v' = refl
+
+values : (f f' d d' : Bool) (v v' : ℕ) → first (9 when f ∷ 9 when f' ∷ 13 when d ∷ 13 when d' ∷ []) ≡ 0
+    → (decided f d v .value ≡ v) × (decided f' d' v' .value ≡ v')
+unfolding outcome
+values true f' d d' v v' e = absurd (omega arith)
+values false true d d' v v' e = absurd (omega arith)
+values false false true d' v v' e = absurd (omega arith)
+values false false false true v v' e = absurd (omega arith)
+values false false false false v v' e = (refl, refl)
 
 -- both, from what the two openings gave
 module _ (s : Session) (m : Party) (em : m ≡ partyOf s) (rows l l' : List ℕ) (k k' r r' : ℕ) (o o' : Opened) (q : ℕ)
     (eo : o ≡ Accepting.openedRow m (maskRow (m .shape) rows k r) l) (eo' : o' ≡ Accepting.openedRow m (maskRow (m .shape) rows k' r') l')
-    (eq : q ≡ orElse (o .refusal) (o' .refusal)) where
+    (eq : q ≡ eitherOf (o .refusal) (o' .refusal)) where
   abbrev x : List ℕ
   x = maskRow (shapeOf s) rows k r
 
   abbrev x' : List ℕ
   x' = maskRow (shapeOf s) rows k' r'
 
-  first-is : o ≡ orNine (tooFew s x l) (opened s x l)
-  first-is = (rw em at eo) ∙ opened-or-nine (partyOf s) x l
+  first-is : o ≡ decided (tooFew s x l) (disagree s x l) (opened s x l)
+  first-is = (rw em at eo) ∙ opened-decided (partyOf s) x l
 
-  second-is : o' ≡ orNine (tooFew s x' l') (opened s x' l')
-  second-is = (rw em at eo') ∙ opened-or-nine (partyOf s) x' l'
+  second-is : o' ≡ decided (tooFew s x' l') (disagree s x' l') (opened s x' l')
+  second-is = (rw em at eo') ∙ opened-decided (partyOf s) x' l'
 
-  few : q ≡ first (tooFewOf s x x' l l')
+  few : q ≡ first (unopened s x x' l l')
   few =
       eq
-      ∙ ap₂ (λ (a b : Opened). orElse (a .refusal) (b .refusal)) first-is second-is
-      ∙ nines (tooFew s x l) (tooFew s x' l') (opened s x l) (opened s x' l')
+      ∙ ap₂ (λ (a b : Opened). eitherOf (a .refusal) (b .refusal)) first-is second-is
+      ∙ refusals (tooFew s x l) (tooFew s x' l') (disagree s x l) (disagree s x' l') (opened s x l) (opened s x' l')
 
   pub both-refused : (q ≡ 0 → ⊥) → shown q 0 0 ≡ openedBoth s x x' l l'
   both-refused n =
       ap (λ (k : ℕ). shown k 0 0) few
-      ∙ refused q (first (tooFewOf s x x' l l')) (shown 0 (opened s x l) (opened s x' l')) (shown (first (tooFewOf s x x' l l')) 0 0) few n
+      ∙ refused q (first (unopened s x x' l l')) (shown 0 (opened s x l) (opened s x' l')) (shown (first (unopened s x x' l l')) 0 0) few n
 
   pub both-opened : q ≡ 0 → shown 0 (o .value) (o' .value) ≡ openedBoth s x x' l l'
   both-opened z =
-      let h = values (tooFew s x l) (tooFew s x' l') (opened s x l) (opened s x' l') (rw few at z) in
-      accepted q (first (tooFewOf s x x' l l')) (shown 0 (o .value) (o' .value)) (shown 0 (opened s x l) (opened s x' l'))
-      (shown (first (tooFewOf s x x' l l')) 0 0) few z
+      let h = values (tooFew s x l) (tooFew s x' l') (disagree s x l) (disagree s x' l') (opened s x l) (opened s x' l') (rw few at z) in
+      accepted q (first (unopened s x x' l l')) (shown 0 (o .value) (o' .value)) (shown 0 (opened s x l) (opened s x' l'))
+      (shown (first (unopened s x x' l l')) 0 0) few z
       (ap₂ (shown 0) (ap (λ (a : Opened). a .value) first-is ∙ h .0) (ap (λ (a : Opened). a .value) second-is ∙ h .1))
 
 found-refusal : (k yA yB : ℕ) → found k yA yB .refusal ≡ k
@@ -111,15 +129,15 @@ module _ (s : Session) (rows : List ℕ) (r : ℕ) (l l' : List ℕ) where
   abbrev yB : ℕ
   yB = opened s (maskB s rows r) l'
 
-  abbrev nine : List Test
-  nine = tooFewOf s (maskA s rows r) (maskB s rows r) l l'
+  abbrev late : List Test
+  late = unopened s (maskA s rows r) (maskB s rows r) l l'
 
   -- 1 to 8 stop the call, or the openings settle it
   module _ (f : ℕ) (e : f ≡ first (finishChecks s rows r l l')) where
     pub masks-unopened : (f ≡ 0 → ⊥) → shown f 0 0 ≡ openedMasks s rows r l l'
     unfolding finishRefusal
     masks-unopened n =
-        let h : f ≡ finishRefusal s rows r l l' = stopped (finishChecks s rows r l l') nine tt f e n in
+        let h : f ≡ finishRefusal s rows r l l' = stopped (finishChecks s rows r l l') late tt f e n in
         ap (λ (k : ℕ). shown k 0 0) h
         ∙ refused f (finishRefusal s rows r l l') (shown 0 yA yB) (shown (finishRefusal s rows r l l') 0 0) h n
 
@@ -127,7 +145,7 @@ module _ (s : Session) (rows : List ℕ) (r : ℕ) (l l' : List ℕ) where
         → o ≡ openedMasks s rows r l l'
     unfolding finishRefusal
     masks-opened z o h =
-        h ∙ ap (λ (k : ℕ). found k yA yB) (went-on (finishChecks s rows r l l') nine tt f e (first nine) z refl)
+        h ∙ ap (λ (k : ℕ). found k yA yB) (went-on (finishChecks s rows r l l') late tt f e (first late) z refl)
 
   -- the call's two ends
   module _ (o : OpenedMasks) (e : o ≡ openedMasks s rows r l l') where

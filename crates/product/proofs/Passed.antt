@@ -20,10 +20,10 @@ use Rattle.session.specs.Sessions.{shapeOf, mark, factorA, factorB}
 use Rattle.session.specs.Rows.{width, rowAt}
 use Rattle.session.specs.Checks.{frameTests, noRow, noTriple, Framed, TripleIn}
 use Rattle.session.proofs.Calls.{frame-passed, allowed}
-use Rattle.opening.specs.Walking.{recordLength, badRecord, tooFew}
+use Rattle.opening.specs.Walking.{recordLength, badRecord, tooFew, disagree}
 use Rattle.opening.proofs.Passed.{clear-parts, clear-join}
 use Rattle.product.specs.Masks.{tripleMarks, maskNumbers, masksPlace, masksRefusal}
-use Rattle.product.specs.Finish.{maskA, maskB, finishPlace, finishMarks, finishNumbers, finishOwn, finishChecks, tooFewOf, finishRefusal}
+use Rattle.product.specs.Finish.{maskA, maskB, finishPlace, finishMarks, finishNumbers, finishOwn, finishChecks, unopened, finishRefusal}
 
 -- The factor rows a and b, and the triple at r, whose first row has the mark m: what 6 and 7 leave of them.
 pub record Factored (s : Session) (a b r m : ℕ) : Type 0 where
@@ -188,10 +188,10 @@ module _ (s : Session) (rows : List ℕ) (r : ℕ) (blocksA blocksB : List ℕ) 
 
   -- where 1 to 8 refuse nothing, the two walks decide
   pub finish-walks : FinishChecked s rows r blocksA blocksB
-      → finishRefusal s rows r blocksA blocksB ≡ first (tooFewOf s (maskA s rows r) (maskB s rows r) blocksA blocksB)
+      → finishRefusal s rows r blocksA blocksB ≡ first (unopened s (maskA s rows r) (maskB s rows r) blocksA blocksB)
   unfolding finishRefusal
   finish-walks h =
-      let walks = tooFewOf s (maskA s rows r) (maskB s rows r) blocksA blocksB in
+      let walks = unopened s (maskA s rows r) (maskB s rows r) blocksA blocksB in
       first-join (finishChecks s rows r blocksA blocksB) walks tt ∙ ap (λ (k : ℕ). orElse k (first walks)) (finish-clear h)
 
 -- all of them
@@ -199,12 +199,14 @@ pub record Finished (s : Session) (rows : List ℕ) (r : ℕ) (blocksA blocksB :
   pub checked : FinishChecked s rows r blocksA blocksB
   pub enough-a : tooFew s (maskA s rows r) blocksA ≡ false
   pub enough-b : tooFew s (maskB s rows r) blocksB ≡ false
+  pub agree-a : disagree s (maskA s rows r) blocksA ≡ false
+  pub agree-b : disagree s (maskB s rows r) blocksB ≡ false
 
 pub finished : (s : Session) (rows : List ℕ) (r : ℕ) (blocksA blocksB : List ℕ) → finishRefusal s rows r blocksA blocksB ≡ 0
     → Finished s rows r blocksA blocksB
 unfolding finishRefusal
 finished s rows r blocksA blocksB z =
-    let walks = tooFewOf s (maskA s rows r) (maskB s rows r) blocksA blocksB in
+    let walks = unopened s (maskA s rows r) (maskB s rows r) blocksA blocksB in
     let (clear, walked) = clear-parts (finishChecks s rows r blocksA blocksB) walks tt z in
-    let (few-a, (few-b, _)) = all-fail walks tt walked in
-    record { checked = finish-checked s rows r blocksA blocksB clear; enough-a = few-a; enough-b = few-b }
+    let (few-a, (few-b, (off-a, (off-b, _)))) = all-fail walks tt walked in
+    record { checked = finish-checked s rows r blocksA blocksB clear; enough-a = few-a; enough-b = few-b; agree-a = off-a; agree-b = off-b }

@@ -1,17 +1,19 @@
 -- Document 01, "Calls on a session", Finish: "Takes a triple marked 5, 4, 4 and two records, opens y = a − l and y' = b − l' as
 -- above, and writes l'' + y l' + y' l + y y' into the third row (y y' is added to m1..mn only). Marks become 6, 6, 2."
 use Prim.Native.Nat.{ℕ, _+_}
+use mathlib.Core.Bool.{cond}
 use mathlib.Core.List.{List, [], _∷_, _++_}
+use lib.Dec.{eqb}
 use Rattle.field.specs.Arithmetic.{product}
 use Rattle.shape.specs.Marks.{masked}
-use Rattle.refusal.specs.Refusal.{Test, _when_, first, outcome}
+use Rattle.refusal.specs.Refusal.{Test, _when_, first, orElse, outcome}
 use Rattle.refusal.specs.Conditions.{wrongLength, anyBeyond}
 use Rattle.session.specs.declared.Session.{Session}
 use Rattle.session.specs.declared.Answer.{Answer}
 use Rattle.session.specs.Sessions.{shapeOf, factorA, factorB, finishedTriple, answer}
 use Rattle.session.specs.Rows.{width, sumsAt, rowAt, withRow, summed}
 use Rattle.session.specs.Checks.{frameTests, noRow, noTriple}
-use Rattle.opening.specs.Walking.{recordLength, badRecord, tooFew, opened}
+use Rattle.opening.specs.Walking.{recordLength, badRecord, tooFew, disagree, opened}
 use Rattle.product.specs.declared.OpenedMasks.{OpenedMasks}
 use Rattle.product.specs.Masks.{maskRow, tripleMarks, maskNumbers}
 
@@ -46,22 +48,27 @@ finishOwn s rows r blocksA blocksB =
 abbrev pub finishChecks : Session → List ℕ → ℕ → List ℕ → List ℕ → List Test
 finishChecks s rows r blocksA blocksB = frameTests s rows ++ finishPlace s r blocksA blocksB ++ finishOwn s rows r blocksA blocksB
 
--- 9: "in either record of a finish", for the rows x and x' that are opened.
-abbrev pub tooFewOf : Session → List ℕ → List ℕ → List ℕ → List ℕ → List Test
-tooFewOf s x x' blocksA blocksB = 9 when tooFew s x blocksA ∷ 9 when tooFew s x' blocksB ∷ []
+-- 9, then 13, "in either record of a finish, after 9", for the rows x and x' that are opened.
+abbrev pub unopened : Session → List ℕ → List ℕ → List ℕ → List ℕ → List Test
+unopened s x x' blocksA blocksB =
+    9 when tooFew s x blocksA ∷ 9 when tooFew s x' blocksB ∷ 13 when disagree s x blocksA ∷ 13 when disagree s x' blocksB ∷ []
+
+-- The refusal of two openings: a 9 of either comes before a 13 of either.
+abbrev pub eitherOf : ℕ → ℕ → ℕ
+eitherOf a b = cond (eqb b 9) 9 (orElse a b)
 
 -- Two numbers opened, or the refusal.
 abbrev pub found : ℕ → ℕ → ℕ → OpenedMasks
 found refusal yA yB =
     outcome refusal (record { refusal = 0; «y_a» = yA; «y_b» = yB }) (record { refusal = refusal; «y_a» = 0; «y_b» = 0 })
 
--- The rows x and x', opened with their records, or 9.
+-- The rows x and x', opened with their records, or 9, or 13.
 abbrev pub openedBoth : Session → List ℕ → List ℕ → List ℕ → List ℕ → OpenedMasks
-openedBoth s x x' blocksA blocksB = found (first (tooFewOf s x x' blocksA blocksB)) (opened s x blocksA) (opened s x' blocksB)
+openedBoth s x x' blocksA blocksB = found (first (unopened s x x' blocksA blocksB)) (opened s x blocksA) (opened s x' blocksB)
 
 abbrev pub finishTests : Session → List ℕ → ℕ → List ℕ → List ℕ → List Test
 finishTests s rows r blocksA blocksB =
-    finishChecks s rows r blocksA blocksB ++ tooFewOf s (maskA s rows r) (maskB s rows r) blocksA blocksB
+    finishChecks s rows r blocksA blocksB ++ unopened s (maskA s rows r) (maskB s rows r) blocksA blocksB
 
 unfoldable pub finishRefusal : Session → List ℕ → ℕ → List ℕ → List ℕ → ℕ
 finishRefusal s rows r blocksA blocksB = first (finishTests s rows r blocksA blocksB)

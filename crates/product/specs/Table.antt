@@ -9,7 +9,7 @@ use Rattle.session.specs.declared.Session.{Session}
 use Rattle.session.specs.Sessions.{factorA, factorB}
 use Rattle.session.specs.Rows.{width, rowAt}
 use Rattle.session.specs.Checks.{noRow, noTriple, wrongMark}
-use Rattle.opening.specs.Walking.{recordLength, badRecord, tooFew}
+use Rattle.opening.specs.Walking.{recordLength, badRecord, tooFew, disagree}
 use Rattle.product.specs.Masks.{masksTests}
 use Rattle.product.specs.Finish.{maskA, maskB, finishTests}
 
@@ -62,6 +62,8 @@ finishTable s rows r blocksA blocksB =
     ∷ 8 when badRecord s blocksB
     ∷ 9 when tooFew s (maskA s rows r) blocksA
     ∷ 9 when tooFew s (maskB s rows r) blocksB
+    ∷ 13 when disagree s (maskA s rows r) blocksA
+    ∷ 13 when disagree s (maskB s rows r) blocksB
     ∷ []
 
 -- The calls' own tests are these.

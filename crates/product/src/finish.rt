@@ -22,7 +22,7 @@ ghost use Rattle.session.specs.Checks.{noRow, Framed, Sized, RowIn, TripleIn};
 ghost use Rattle.opening.specs.Blocks.{Recorded};
 ghost use Rattle.opening.specs.Accepting.{openedRow};
 ghost use Rattle.product.specs.Masks.{maskRow};
-ghost use Rattle.product.specs.Finish.{maskA, maskB, finishPlace, finishMarks, finishNumbers, finishOwn, finishChecks, openedBoth, openedMasks, finishAnswer, finishRows};
+ghost use Rattle.product.specs.Finish.{maskA, maskB, finishPlace, finishMarks, finishNumbers, finishOwn, finishChecks, eitherOf, openedBoth, openedMasks, finishAnswer, finishRows};
 
 // 5 of the two records, and 6.
 fn finish_place(session: Session, row: usize, record_a: &[u32], record_b: &[u32]) -> u8
@@ -91,7 +91,7 @@ fn finish_own(session: Session, rows: &[u32], row: usize, record_a: &[u32], reco
     )
 }
 
-// 1 to 8; 9 is the openings'.
+// 1 to 8; 9 and 13 are the openings'.
 fn finish_checks(
     session: Session,
     rows: &[u32],
@@ -169,7 +169,14 @@ fn open_mask(party: Party, rows: &[u32], factor: usize, row: usize, blocks: &[u3
     }
 }
 
-// y and y', or 9.
+// The refusal of two openings: a 9 of either comes before a 13 of either.
+fn either(a: u8, b: u8) -> u8
+    ensures { λ r. ⌜ r ≡ eitherOf a b ⌝ }
+{
+    if b == 9 { 9 } else { refusal::or_else(a, b) }
+}
+
+// y and y', or 9, or 13.
 fn open_both(
     session: Session,
     rows: &[u32],
@@ -185,7 +192,7 @@ fn open_both(
     let party = session.party();
     let y_a = open_mask(party, rows, a, row, record_a);
     let y_b = open_mask(party, rows, b, row + 1, record_b);
-    let refusal = refusal::or_else(y_a.refusal, y_b.refusal);
+    let refusal = either(y_a.refusal, y_b.refusal);
     if refusal != 0 {
         return OpenedMasks {
             refusal,

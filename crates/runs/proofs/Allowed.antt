@@ -20,7 +20,7 @@ module _ (plan : Plan) (draw : Draw) (i : ℕ) (M : Marks) (l : List ℕ) where
   abbrev s : Session
   s = sessionAt plan draw i M
 
-  multiplying : (a b r m : ℕ) → Factored s a b r m → Multiplying m M a b r
+  pub multiplying : (a b r m : ℕ) → Factored s a b r m → Multiplying m M a b r
   multiplying a b r m f = record {
     a-low = omega (arith, f .a-in);
     b-low = omega (arith, f .b-in);

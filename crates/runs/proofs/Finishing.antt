@@ -1,4 +1,5 @@
--- One post's finish: where the polynomials it accepted are truly their senders', the third row is its part of the product.
+-- One post's finish: where t+1 of the polynomials it accepted are truly their senders', and no share of an accepted one is off their
+-- polynomial, the third row is its part of the product.
 use Prim.Native.Nat.{ℕ, _+_, _*_, _-_, _<_}
 use mathlib.Core.Path.{_≡_, sym, _∙_, ap, ap₂, subst}
 use mathlib.Core.Bool.{false}
@@ -11,17 +12,16 @@ use lib.Seq.{getD-set-other}
 use Rattle.field.specs.Modulus.{p}
 use Rattle.field.specs.Arithmetic.{product}
 use Rattle.field.specs.Element.{element}
-use Rattle.poly.specs.Counting.{All}
 use Rattle.session.specs.declared.Session.{Session}
 use Rattle.session.specs.Checks.{Framed}
 use Rattle.session.specs.Rows.{sumsAt, rowAt, summed}
 use Rattle.session.proofs.Summed.{plus-nothing}
-use Rattle.opening.specs.Walking.{acceptedPosts, tooFew, opened}
+use Rattle.opening.specs.Walking.{tooFew, disagree, opened}
 use Rattle.product.specs.Finish as Finish
 use Rattle.product.specs.Finish.{productRow, withProduct}
 use Rattle.product.proofs.Passed.{Finished, finish-framed}
 use Rattle.vectors.specs.Vector.{Vector, plusTimes, number}
-use Rattle.vectors.specs.Claims.{heldRow, Truly}
+use Rattle.vectors.specs.Claims.{heldRow, EnoughTruly}
 use Rattle.vectors.proofs.Linear.{row-plusTimes, row-summed}
 use Rattle.vectors.proofs.Theorems.{opened-exact}
 use Rattle.runs.specs.Draws.{pointOf}
@@ -32,9 +32,9 @@ use Rattle.runs.proofs.Packs.{rowFor}
 use Rattle.runs.proofs.Holds.{Holds, wide, put-holds, keep-holds, Holder, sessionOf, combined-row}
 use Rattle.runs.proofs.Facts.{Multiplying}
 
--- the accepted polynomials are the senders' own of the vector S
-abbrev pub AllTrue : Session → Vector → List ℕ → Type 0
-AllTrue s S blocks = All (Truly s S blocks) (acceptedPosts s (heldRow s S) blocks)
+-- where enough polynomials are accepted, t+1 of the record's are the senders' own of the vector S
+abbrev pub Trusted : Session → Vector → List ℕ → Type 0
+Trusted s S blocks = s .n < p → tooFew s (heldRow s S) blocks ≡ false → EnoughTruly s S blocks
 
 module _ (H : Holder) where
   open Holder H using (plan, draw, len, post as i, marks as M, vec, rows as l, holds as h)
@@ -85,11 +85,12 @@ module _ (H : Holder) where
     few : plan .n < p
     few = omega (arith, framed .sized .valid .n-in)
 
-    opened-is : (x : List ℕ) (S : Vector) (bl : List ℕ) → x ≡ heldRow s S → AllTrue s S bl → tooFew s x bl ≡ false
-        → opened s x bl ≡ number S .0
-    opened-is x S bl e true-all enough =
+    opened-is : (x : List ℕ) (S : Vector) (bl : List ℕ) → x ≡ heldRow s S → Trusted s S bl → tooFew s x bl ≡ false
+        → disagree s x bl ≡ false → opened s x bl ≡ number S .0
+    opened-is x S bl e trusted some agree =
+        let enough = sym (ap (λ (y : List ℕ). tooFew s y bl) e) ∙ some in
         ap (λ (y : List ℕ). opened s y bl) e
-        ∙ opened-exact s S bl few true-all (sym (ap (λ (y : List ℕ). tooFew s y bl) e) ∙ enough)
+        ∙ opened-exact s S bl few enough (trusted few enough) (sym (ap (λ (y : List ℕ). disagree s y bl) e) ∙ agree)
 
     before : (q : ℕ) → q < 96 → markOf (remarked (remarked M r 6) (r + 1) 6) q ≢ 0 → markOf M q ≢ 0
     before q lq ne = go (ℕ-discrete q r) (ℕ-discrete q (r + 1))
@@ -100,7 +101,7 @@ module _ (H : Holder) where
         go (no e) (no d) =
             subst (λ (m : ℕ). m ≢ 0) (getD-set-other (set (M .marks) r 6) (r + 1) q 6 0 d ∙ getD-set-other (M .marks) r q 6 0 e) ne
 
-    pub finish-holds : AllTrue s (maskVectorA M vec r) blocksA → AllTrue s (maskVectorB M vec r) blocksB
+    pub finish-holds : Trusted s (maskVectorA M vec r) blocksA → Trusted s (maskVectorB M vec r) blocksB
         → Holds plan draw len i (finished M r) (at vec (r + 2) (written M vec r))
         (withProduct s (opened s (Finish.maskA s l r) blocksA) (opened s (Finish.maskB s l r) blocksB) r l)
     unfolding withProduct
@@ -111,10 +112,10 @@ module _ (H : Holder) where
         ∙ ap (rowFor plan draw i) (sym (product-sum vec r _ _)))
       where
         ya : opened s (Finish.maskA s l r) blocksA ≡ number (maskVectorA M vec r) .0
-        ya = opened-is (Finish.maskA s l r) (maskVectorA M vec r) blocksA (opens-a r ok) ta (f .enough-a)
+        ya = opened-is (Finish.maskA s l r) (maskVectorA M vec r) blocksA (opens-a r ok) ta (f .enough-a) (f .agree-a)
 
         yb : opened s (Finish.maskB s l r) blocksB ≡ number (maskVectorB M vec r) .0
-        yb = opened-is (Finish.maskB s l r) (maskVectorB M vec r) blocksB (opens-b r ok) tb (f .enough-b)
+        yb = opened-is (Finish.maskB s l r) (maskVectorB M vec r) blocksB (opens-b r ok) tb (f .enough-b) (f .agree-b)
 
         rows-are : productRow s (number (maskVectorA M vec r) .0) (number (maskVectorB M vec r) .0) (rowAt W l r) (rowAt W l (r + 1)) (rowAt W l (r + 2))
             ≡ productRow s (number (maskVectorA M vec r) .0) (number (maskVectorB M vec r) .0) (rowFor plan draw i (vec r)) (rowFor plan draw i (vec (r + 1))) (rowFor plan draw i (vec (r + 2)))

@@ -17,13 +17,15 @@ use Rattle.session.specs.declared.Session.{Session}
 use Rattle.session.specs.Sessions.{shapeOf}
 use Rattle.opening.specs.Blocks as Blocks
 use Rattle.opening.specs.Accepting as Accepting
-use Rattle.opening.specs.Walking.{blockMark, blockCoefficients, badBlock, badBlocks, sent, accepts, acceptedPosts, tooFew, walk}
+use Rattle.opening.specs.Walking.{blockMark, blockCoefficients, badBlock, badBlocks, sent, accepts, accepted, acceptedPosts, tooFew, walk}
 use Rattle.opening.proofs.Blocks.{post-in}
 use Rattle.opening.proofs.Accepted.{all-accepted, distinct-accepted}
 use Rattle.vectors.specs.Vector.{Vector, numbers}
 use Rattle.vectors.specs.Claims.{heldRow, Truly}
+use Rattle.vectors.proofs.Passing.{all-passing}
+use Rattle.vectors.proofs.Theorems.{all-enough}
 use Rattle.runs.specs.Calls.{Proper}
-use Rattle.runs.proofs.Finishing.{AllTrue}
+use Rattle.runs.proofs.Finishing.{Trusted}
 use Rattle.runs.proofs.Lines.{elements-of}
 use Rattle.runs.proofs.Steps.{own-numbers}
 
@@ -91,14 +93,20 @@ module _ (s : Session) (blocks : List ℕ) where
 
   -- where each block that is there is its sender's, so is each that is accepted
   pub all-true : (S : Vector) → ((j : ℕ) → 1 ≤ j → j ≤ s .n → j ≢ s .post → Present j → block j ≡ numbers (s .t + 1) (S .v j))
-      → AllTrue s S blocks
-  all-true S h = walked (heldRow s S) (Truly s S blocks) (λ j lo hi a. go j lo hi a (ℕ-discrete j (s .post)))
+      → All (Truly s S blocks) (accepted s (heldRow s S) blocks)
+  all-true S h =
+      all-map (λ j a. go j (a .from-on) (omega (arith, a .before)) (a .passes) (ℕ-discrete j (s .post))) (accepted s (heldRow s S) blocks)
+      (all-passing (accepts s (heldRow s S) blocks) 1 (s .n))
     where
       go : (j : ℕ) → 1 ≤ j → j ≤ s .n → accepts s (heldRow s S) blocks j ≡ true → Dec (j ≡ s .post) → Truly s S blocks j
       go j lo hi a (yes e) = subst (Truly s S blocks) (sym e) (own-true S)
       go j lo hi a (no e) =
           let there = accepted-there j lo hi e (heldRow s S) a in
           sent-there j lo hi e (heldRow s S) there ∙ h j lo hi e there
+
+  pub all-trusted : (S : Vector) → ((j : ℕ) → 1 ≤ j → j ≤ s .n → j ≢ s .post → Present j → block j ≡ numbers (s .t + 1) (S .v j))
+      → Trusted s S blocks
+  all-trusted S h few enough = all-enough s S blocks few enough (all-true S h)
 
   -- ---- a post that is alone has too few
 

@@ -24,7 +24,7 @@ use Rattle.runs.proofs.Marks.{Marks, sessionAt, less, maskVectorA, mask
 use Rattle.runs.proofs.Outcomes.{refusalOf, does, own, done, written-is, refused}
 use Rattle.runs.proofs.Packs.{rowFor, raw-pack, triple-pack}
 use Rattle.runs.proofs.Holds.{Holds, wide, Holder, sessionOf, held-row, combined-row, load-holds, triple-holds, deal-holds, linear-holds, masks-holds}
-use Rattle.runs.proofs.Finishing.{AllTrue, finish-holds}
+use Rattle.runs.proofs.Finishing.{Trusted, finish-holds}
 use Rattle.runs.proofs.Allowed.{allowed}
 
 -- a row's own coefficients
@@ -52,7 +52,7 @@ module _ (plan : Plan) (draw : Draw) where
   FitsWith i M vec (aNumber r) x = Unit {0}
   FitsWith i M vec (aRecord r) x = Unit {0}
   FitsWith i M vec (twoRecords r) x =
-      AllTrue (sessionAt plan draw i M) (maskVectorA M vec r) (x .0) × AllTrue (sessionAt plan draw i M) (maskVectorB M vec r) (x .1)
+      Trusted (sessionAt plan draw i M) (maskVectorA M vec r) (x .0) × Trusted (sessionAt plan draw i M) (maskVectorB M vec r) (x .1)
 
   abbrev pub Fits : ℕ → Marks → (ℕ → Vector) → Call → Type 0
   Fits i M vec c = All (λ m. FitsWith i M vec (takes (m .0)) (m .1)) (moves c)

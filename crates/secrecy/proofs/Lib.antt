@@ -26,3 +26,4 @@ pub mod Selections
 pub mod Listed
 pub mod Counts
 pub mod Theorems
+pub mod Never

@@ -14,7 +14,7 @@ use Rattle.poly.specs.Counting.{All}
 use Rattle.refusal.specs.Refusal.{_when_, first}
 use Rattle.session.specs.declared.Session.{Session}
 use Rattle.session.specs.Rows.{rowAt}
-use Rattle.opening.specs.Walking.{blockCoefficients, tooFew}
+use Rattle.opening.specs.Walking.{blockCoefficients, tooFew, disagree}
 use Rattle.opening.specs.Opening.{openRefusal}
 use Rattle.opening.proofs.Passed.{OpenChecked, open-walks}
 use Rattle.vectors.specs.Vector.{Vector, number, rowOf}
@@ -205,12 +205,13 @@ module _ (T : Two) where
         abbrev few-in : List ℕ → Bool
         few-in rows = tooFew s (rowAt (wide (T .plan)) rows r) (blocks i lines)
 
-        walks-of : (t : Bool) → Walks (first (9 when t ∷ []))
-        walks-of true = inr refl
-        walks-of false = inl refl
+        walks-of : (few off : Bool) → Walks (first (9 when few ∷ 13 when off ∷ []))
+        walks-of true off = inr (inl refl)
+        walks-of false true = inr (inr refl)
+        walks-of false false = inl refl
 
         walks : OpenChecked s l r (blocks i lines) → Walks (openRefusal s l r (blocks i lines))
-        walks f = rw (open-walks s l r (blocks i lines) f) (walks-of (few-in l))
+        walks f = rw (open-walks s l r (blocks i lines) f) (walks-of (few-in l) (disagree s (rowAt (wide (T .plan)) l r) (blocks i lines)))
 
         -- others' polynomials in the record were broadcast, so the number agrees
         told : OpenChecked s l r (blocks i lines) → (j : ℕ) → 1 ≤ j → j ≤ T .plan .n → j ≢ i → Present s (blocks i lines) j

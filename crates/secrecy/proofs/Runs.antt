@@ -44,7 +44,7 @@ each-is f x j (suc m) a i lo hi = go (ℕ-discrete i j) (λ ne. each-is f x (suc
     go (yes e) later = ap f e ∙ a .0
     go (no ne) later = later ne
 
-same-refusal : (f : ℕ → ℕ) (n : ℕ) → AllSame (map f (posts n)) → (i : ℕ) → 1 ≤ i → i ≤ n → f i ≡ getD (map f (posts n)) 0 0
+pub same-refusal : (f : ℕ → ℕ) (n : ℕ) → AllSame (map f (posts n)) → (i : ℕ) → 1 ≤ i → i ≤ n → f i ≡ getD (map f (posts n)) 0 0
 unfolding posts eachFrom
 same-refusal f zero a i lo hi = absurd (omega arith)
 same-refusal f (suc n) a i lo hi = go (ℕ-discrete i 1)

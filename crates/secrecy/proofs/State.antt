@@ -27,7 +27,7 @@ use Rattle.runs.proofs.Numbers.{dealt-number, product-number, third-number}
 use Rattle.runs.proofs.Start.{sizes}
 use Rattle.runs.proofs.Steps.{Stands, FitsWith, Fits, Stand}
 use Rattle.runs.proofs.Lines.{Opening, Masks}
-use Rattle.runs.proofs.Records.{all-true}
+use Rattle.runs.proofs.Records.{all-trusted}
 use Rattle.runs.proofs.Facts as Facts
 use Rattle.runs.proofs.Facts.{HeldIn, AllowedBy, AllowedAll, ReadyFor, Allowed, Facts, Meant}
 use Rattle.runs.proofs.Rows.{sized-by}
@@ -200,11 +200,11 @@ module _ (C : Run) where
       fits-with (aNumber r) x al rule = tt
       fits-with (aRecord r) x al rule = tt
       fits-with (twoRecords r) x al rule = (
-        all-true (sessionAt plan draw i M) (x .0 i lines) (maskVectorA M vec r) (λ j lj hj ne there.
+        all-trusted (sessionAt plan draw i M) (x .0 i lines) (maskVectorA M vec r) (λ j lj hj ne there.
             let o = rule (inl refl) .0 i j lo hi lj hj ne there in
             o .4 ∙ ap (take (plan .t + 1)) (both-are j lj hj (o .0) (o .1) (o .2) (o .3))
             ∙ take-at (numbers (plan .t + 1) (maskVectorA M vec r .v j)) _ (plan .t + 1) (length-numbers (plan .t + 1) (maskVectorA M vec r .v j))),
-        all-true (sessionAt plan draw i M) (x .1 i lines) (maskVectorB M vec r) (λ j lj hj ne there.
+        all-trusted (sessionAt plan draw i M) (x .1 i lines) (maskVectorB M vec r) (λ j lj hj ne there.
             let o = rule (inl refl) .1 i j lo hi lj hj ne there in
             o .4 ∙ ap (drop (plan .t + 1)) (both-are j lj hj (o .0) (o .1) (o .2) (o .3))
             ∙ drop-at (numbers (plan .t + 1) (maskVectorA M vec r .v j)) _ (plan .t + 1) (length-numbers (plan .t + 1) (maskVectorA M vec r .v j))),

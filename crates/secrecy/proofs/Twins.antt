@@ -25,7 +25,7 @@ use Rattle.opening.specs.Opening.{openRefusal}
 use Rattle.opening.proofs.Passed.{openPlace, openNumbers, walkTests, open-placed, OpenChecked}
 use Rattle.product.specs.Masks.{masksRefusal, maskNumbers}
 use Rattle.product.specs.Finish as Finish
-use Rattle.product.specs.Finish.{finishRefusal, finishNumbers, tooFewOf}
+use Rattle.product.specs.Finish.{finishRefusal, finishNumbers, unopened}
 use Rattle.product.proofs.Passed.{Factored, factorTests, masksEarly, masks-placed, finishEarly, finish-placed, finishRest}
 use Rattle.factory.proofs.Laws.{elements-append}
 use Rattle.vectors.specs.Vector.{Vector, number, numbers, rowOf}
@@ -198,10 +198,10 @@ module _ (T : Twin) where
       λ j.
       first
       ((factorTests (e .a-same j) (e .b-same j) (e .first-same j) (e .second-same j) ++ finishRest s (e .third-same j) blocksA blocksB)
-      ++ tooFewOf s (x j) (y j) blocksA blocksB))
+      ++ unopened s (x j) (y j) blocksA blocksB))
     where
       late : List ℕ → List Test
-      late rows = finishNumbers s rows (rememberedA M r) (rememberedB M r) r blocksA blocksB ++ tooFewOf s (Finish.maskA s rows r) (Finish.maskB s rows r) blocksA blocksB
+      late rows = finishNumbers s rows (rememberedA M r) (rememberedB M r) r blocksA blocksB ++ unopened s (Finish.maskA s rows r) (Finish.maskB s rows r) blocksA blocksB
 
   -- an opening, whose walk ends alike in both runs where it comes to it
   pub open-same : (r : ℕ) (blocks : List ℕ)

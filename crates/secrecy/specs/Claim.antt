@@ -3,6 +3,7 @@
 use Prim.Native.Nat.{ℕ, _≤_, _<_}
 use mathlib.Core.Path.{_≡_}
 use mathlib.Core.Bool.{true}
+use mathlib.Core.Logic.{_≢_}
 use mathlib.Core.List.{List, []}
 use lib.ListN.{length}
 use Rattle.field.specs.Modulus.{p}
@@ -13,7 +14,7 @@ use Rattle.runs.specs.Draws.{Plan, Draw, IsDraw, IsRaw, Sound, by}
 use Rattle.runs.specs.Calls.{newPost}
 use Rattle.secrecy.specs.Steps.{Secrets, Step}
 use Rattle.secrecy.specs.Seen.{Seen, member, postsAfter, seen}
-use Rattle.secrecy.specs.Rules.{SameAnswers, Rules}
+use Rattle.secrecy.specs.Rules.{SameAnswers, Rules, refusalOf}
 use Rattle.secrecy.specs.Book.{blank, bookAfter, Agree}
 
 -- A group of at most t posts.
@@ -68,3 +69,11 @@ SecrecyEverywhere =
     (plan : Plan) (group : List ℕ) (rows : ℕ → List ℕ) (cs : List Step) (u u' : Secrets) (R : Seen) → Premises plan group u u' cs R
     → (m : Matching (Shows plan group rows cs u R) (Shows plan group rows cs u' R))
     × ((d : Draw) → Shows plan group rows cs u R d → AgreeingRows plan rows cs u u' R d (m .to d))
+
+-- Document 02, (iv), under the rules: what a record shows was broadcast by its sender, so that accepted posts agree, and no call of the
+-- list is refused with 13.
+abbrev pub NeverThirteen : Type 0
+NeverThirteen =
+    (plan : Plan) (group : List ℕ) (rows : ℕ → List ℕ) (cs : List Step) (u : Secrets) (R : Seen) → Sound plan
+    → ((r : ℕ) → IsRaw (plan .raw r) → u r < p) → SameAnswers (R .entries) → Rules plan cs (R .entries) []
+    → (d : Draw) → Shows plan group rows cs u R d → All (λ e. refusalOf e ≢ 13) (R .entries)

@@ -45,9 +45,9 @@ OnlySent plan Shown blocks =
     (i j : ℕ) → 1 ≤ i → i ≤ plan .n → 1 ≤ j → j ≤ plan .n → j ≢ i → blockMark (plan .t + 1) (blocks i) j ≡ 1
     → Shown j (blockCoefficients (plan .t + 1) (blocks i) j)
 
--- An opening that comes to the walk: not refused, or refused with 9.
+-- An opening that comes to the walk: not refused, or refused with 9 or 13.
 abbrev pub Walks : ℕ → Type 0
-Walks k = (k ≡ 0) ⊎ (k ≡ 9)
+Walks k = (k ≡ 0) ⊎ ((k ≡ 9) ⊎ (k ≡ 13))
 
 -- The rules for one call with the refusal k, after the lines broadcast before it: what it may be given.
 abbrev pub RuleWith : Plan → ℕ → List (List ℕ) → (t : Taking) → Given Fixed t → Type 0

@@ -13,6 +13,7 @@ use Rattle.sharing.specs.Deal.{dealRefusal}
 use Rattle.sharing.specs.Message.{messageRefusal}
 use Rattle.sharing.specs.Linear.{linearRefusal}
 use Rattle.opening.specs.Blocks as Blocks
+use Rattle.agreement.specs.Agreement.{allPairs}
 use Rattle.opening.specs.Accepting as Accepting
 use Rattle.opening.specs.Opening.{openRefusal}
 use Rattle.product.specs.Masks.{masksRefusal, maskNumbersOf}
@@ -26,5 +27,5 @@ use Rattle.secrecy.specs.Seen.{Seen, posts, allRows, joined, entryOf, run, poly
 use Rattle.secrecy_examples.specs.Example.{Example, seenOf}
 
 unfoldable pub sees : Example → Seen
-unfolding sum product difference euclid inverse value nodal weight terms interpolated outcome anyBeyond eachFrom part dealerRefusal combined plusSums created loadRowRefusal loadTripleRefusal withTriple dealRefusal messageRefusal linearRefusal Blocks.badBlock Blocks.badBlocks Blocks.sent Accepting.accepts Accepting.share Accepting.walk Accepting.opened openRefusal masksRefusal maskNumbersOf finishRefusal productRow withProduct lastDigits sizeWithin fields pointOf rawDraw tripleDraw rawPack triplePack perform newPost at dealtNumber posts allRows joined entryOf run polynomialSeen dealSeen rawSeen tripleSeen seen
+unfolding sum product difference euclid inverse value nodal weight terms interpolated outcome anyBeyond eachFrom part dealerRefusal combined plusSums created loadRowRefusal loadTripleRefusal withTriple dealRefusal messageRefusal linearRefusal Blocks.badBlock Blocks.badBlocks Blocks.sent Accepting.accepts Accepting.share Accepting.passing Accepting.walk Accepting.opened Accepting.disagree allPairs openRefusal masksRefusal maskNumbersOf finishRefusal productRow withProduct lastDigits sizeWithin fields pointOf rawDraw tripleDraw rawPack triplePack perform newPost at dealtNumber posts allRows joined entryOf run polynomialSeen dealSeen rawSeen tripleSeen seen
 sees x = seenOf x

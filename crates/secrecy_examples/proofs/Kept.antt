@@ -89,7 +89,7 @@ module _ (plan : Plan) (Shown : ℕ → List ℕ → Type 0) (shown : (j : ℕ) 
 -- asked where the walk is reached
 unfoldable pub where-walks : {A : Type 0} (k : ℕ) → Option A → Option (Walks k → A)
 unfolding _also_ where-equal
-where-walks k o = some (λ f g. ⊎-elim f g) also where-equal k 0 o also where-equal k 9 o
+where-walks k o = some (λ f g h. ⊎-elim f (⊎-elim g h)) also where-equal k 0 o also where-equal k 9 o also where-equal k 13 o
 
 -- of each of a list
 module _ {A : Type 0} (P : A → Type 0) (found : (x : A) → Option (P x)) where

@@ -38,6 +38,10 @@ postRow draw i = part (shape 3 1) i (pointAt i) draw
 abbrev pub fromPost2 : ℕ → ℕ → List ℕ
 fromPost2 a b = (0 ∷ 0 ∷ 0 ∷ []) ++ ((1 ∷ a ∷ b ∷ []) ++ (0 ∷ 0 ∷ 0 ∷ []))
 
+-- a record with the false 1 + 2z from post 2, and post 3's own polynomial
+abbrev pub falseAndTrue : List ℕ
+falseAndTrue = (0 ∷ 0 ∷ 0 ∷ []) ++ ((1 ∷ 1 ∷ 2 ∷ []) ++ (1 ∷ 5 ∷ 6 ∷ []))
+
 -- a record with what each post holds of a number
 abbrev pub fromAll : (ℕ → List ℕ) → List ℕ
 fromAll row =
@@ -127,6 +131,8 @@ pub record Table : Type 0 where
   pub p8-gives : openedRow (sessionAt 1) (dealtRow 1) (fromPost2 3 1) ≡ record { refusal = 0; value = 100 }
   pub p8-by' : acceptedPosts (sessionAt 3) (dealtRow 3) (fromPost2 3 1) ≡ 2 ∷ 3 ∷ []
   pub p8-gives' : openedRow (sessionAt 3) (dealtRow 3) (fromPost2 3 1) ≡ record { refusal = 0; value = 100 }
+  -- 02, (iv): with post 3's polynomial beside the false one of P7 the shares are 104, 110, 112, and post 1 gets 13.
+  pub disagreeing : openedRow (sessionAt 1) (dealtRow 1) falseAndTrue ≡ record { refusal = 13; value = 0 }
   -- P9 "a = 6, b = 7, l = 2, l' = 5: y = 4, y' = 2, product 42.", at each post
   pub p9 : map masksOpened (1 ∷ 2 ∷ 3 ∷ [])
       ≡ record { refusal = 0; «y_a» = 4; «y_b» = 2 } ∷ record { refusal = 0; «y_a» = 4; «y_b» = 2 } ∷ record { refusal = 0; «y_a» = 4; «y_b» = 2 } ∷ []

@@ -1,3 +1,4 @@
 pub mod Linear
 pub mod Draws
+pub mod Passing
 pub mod Theorems

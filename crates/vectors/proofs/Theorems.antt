@@ -1,13 +1,14 @@
 -- The claims of specs/Claims.antt.
-use Prim.Native.Nat.{ℕ, zero, suc, _+_, _*_, _-_, _<_}
-use mathlib.Core.Path.{_≡_, refl, sym, _∙_, ap, ap₂, fun-ext}
-use mathlib.Core.Bool.{Bool, true, false, cond}
-use mathlib.Core.List.{List, [], _∷_, _++_, map}
+use Prim.Native.Nat.{ℕ, zero, suc, _+_, _*_, _-_, _≤_, _<_}
+use mathlib.Core.Path.{_≡_, refl, sym, _∙_, ap, ap₂, subst, fun-ext}
+use mathlib.Core.Bool.{Bool, true, false, not, cond}
+use mathlib.Core.Logic.{_⊎_, inl, inr}
+use mathlib.Core.List.{List, [], _∷_, _++_, map, map-append}
 use native.Mathlib.Numerals.{add-one}
 use native.Mathlib.Omega.{arith}
-use borrow.Author.Tests.{eq-eqb, ne-eqb, eqb-true}
+use borrow.Author.Tests.{eq-eqb, ne-eqb, eqb-true, not-false}
 use lib.Dec.{eqb}
-use lib.ListN.{length, getD, List·getD-append}
+use lib.ListN.{length, getD, List·getD-append, take-append-drop, length-map}
 use lib.Seq.{getD-append-add}
 use Rattle.field.specs.Modulus.{p}
 use Rattle.field.specs.Arithmetic.{product, difference}
@@ -18,10 +19,10 @@ use Rattle.field.proofs.Solver.{solve}
 use Rattle.field.proofs.Elements.{𝓡, element-zero, element-sum, element-product, element-difference, element-of-number, number-below}
 use Rattle.field.proofs.Modular.{sum-below, difference-below}
 use Rattle.poly.specs.Polynomial.{value}
-use Rattle.poly.specs.Interpolation.{interpolated}
-use Rattle.poly.specs.Counting.{All, Elements}
-use Rattle.poly.proofs.Lists.{all-map}
-use Rattle.poly.proofs.Theorems.{interpolation-is-exact}
+use Rattle.poly.specs.Counting.{All, Distinct, Elements}
+use Rattle.poly.proofs.Lists.{all-map, all-zip}
+use Rattle.agreement.specs.Agreement.{allAgree, Given}
+use Rattle.agreement.proofs.Agreeing.{agreement-exact, true-values-agree}
 use Rattle.session.specs.declared.Session.{Session}
 use Rattle.shape.specs.declared.Shape.{Shape}
 use Rattle.shape.specs.Lengths.{fLength, vLength}
@@ -30,12 +31,14 @@ use Rattle.session.specs.Sessions.{shapeOf, holding}
 use Rattle.session.specs.Rows.{combined}
 use Rattle.session.proofs.Writers.{length-combined}
 use Rattle.opening.specs.Accepting as Accepting
-use Rattle.opening.specs.Walking.{sent, accepts, share, acceptedPosts, tooFew, opened}
+use Rattle.opening.specs.Walking.{sent, accepts, share, accepted, acceptedPosts, further, tooFew, disagree, opened}
+use Rattle.opening.specs.Opening.{openAnswer}
 use Rattle.opening.proofs.Opens.{open-allowed}
-use Rattle.opening.proofs.Theorems.{open-nine, open-number}
-use Rattle.opening.proofs.Accepted.{Accepted, all-accepted, distinct-accepted, accepted-enough}
+use Rattle.opening.proofs.Theorems.{open-nine, open-thirteen, open-number}
+use Rattle.opening.proofs.Accepted.{Accepted, all-accepted, distinct-accepted, accepted-enough, walk-first}
 use Rattle.vectors.specs.Vector.{Vector, plusTimes, number, firsts, numbers, valueAt, checkOf, sumAt, rowOf, vectorOf}
-use Rattle.vectors.specs.Claims.{PartLinear, heldRow, Truly, AcceptedAgrees, TrueAccepted, OpeningExact}
+use Rattle.vectors.specs.Claims.{PartLinear, heldRow, Truly, AcceptedAgrees, TrueAccepted, EnoughTruly, OpeningExact}
+use Rattle.vectors.proofs.Passing.{all-parts, all-passing, given-passing}
 use Rattle.vectors.proofs.Linear.{length-numbers, row-plusTimes}
 use Rattle.vectors.proofs.Draws.{value-numbers, part-is-row}
 open CommutativeRing 𝓡 using (add as _⊕_, mul as _⊗_, neg)
@@ -171,19 +174,6 @@ module _ (s : Session) (S : Vector) (blocks : List ℕ) where
   shares-true (zero ∷ l) a b = absurd (omega (arith, a .0 .from-on))
   shares-true (suc j ∷ l) a b = ap₂ _∷_ (share-true j (omega (arith, a .0 .before)) (b .0)) (shares-true l (a .1) (b .1))
 
-  exact : s .n < p → All (λ j. sent s row blocks j ≡ numbers (s .t + 1) (S .v j)) posts → tooFew s row blocks ≡ false
-      → opened s row blocks ≡ number S .0
-  unfolding Accepting.opened posts shareOf Same
-  exact few true-all enough =
-      ap (λ (ys : List ℕ). interpolated posts ys 0) (shares-true posts in-range true-all)
-      ∙ interpolation-is-exact posts (all-map (λ j a. omega (arith, a .before)) posts in-range)
-      (distinct-accepted (accepts s row blocks) 1 (s .n) (s .t + 1)) (numbers (s .t + 1) (shareOf S))
-      (omega (arith, length-numbers (s .t + 1) (shareOf S), accepted-enough (accepts s row blocks) 1 (s .n) (s .t + 1) enough)) 0
-      ∙ value-numbers (s .t + 1) (shareOf S) 0 ∙ ap (λ (z : Element). z .0) at-zero
-    where
-      at-zero : valueAt (s .t + 1) (shareOf S) (element 0) ≡ number S
-      at-zero = rw (add-one (s .t)) (valueAt-zero (s .t) (shareOf S) ∙ solve 𝓡 (S .f 0 ∷ S .c ∷ []) (A :+ B) (B :+ A) refl)
-
   -- the check value of a post, and what passing means
   check-of-row : (j : ℕ) → j < s .n → checkValue (shapeOf s) row (suc j) ≡ value (numbers (s .t + 1) (S .v (suc j))) (s .point)
   unfolding row rowOf
@@ -224,12 +214,109 @@ module _ (s : Session) (S : Vector) (blocks : List ℕ) where
       rw (e, ne-eqb (length (numbers (s .t + 1) (S .v (suc j)))) 0 (λ z. omega (arith, length-numbers (s .t + 1) (S .v (suc j)))))
       (eq-eqb (value (numbers (s .t + 1) (S .v (suc j))) (s .point)) (checkValue (shapeOf s) row (suc j)) (sym (check-of-row j h)))
 
--- the number that the walk's posts give, where each is true
-pub opened-exact : (s : Session) (S : Vector) (blocks : List ℕ) → s .n < p
-    → All (Truly s S blocks) (acceptedPosts s (heldRow s S) blocks) → tooFew s (heldRow s S) blocks ≡ false
-    → opened s (heldRow s S) blocks ≡ number S .0
-unfolding row posts
+  -- the polynomial that the shares lie on
+  line : List ℕ
+  line = numbers (s .t + 1) (shareOf S)
+
+  at-zero : value line 0 ≡ number S .0
+  unfolding line shareOf Same
+  at-zero = value-numbers (s .t + 1) (shareOf S) 0 ∙ ap (λ (z : Element). z .0) constant
+    where
+      constant : valueAt (s .t + 1) (shareOf S) (element 0) ≡ number S
+      constant = rw (add-one (s .t)) (valueAt-zero (s .t) (shareOf S) ∙ solve 𝓡 (S .f 0 ∷ S .c ∷ []) (A :+ B) (B :+ A) refl)
+
+  -- all that are accepted: the walk's posts, and the further ones
+  abbrev behind : List ℕ
+  behind = further s row blocks
+
+  in-all : posts ++ behind ≡ accepted s row blocks
+  unfolding posts
+  in-all =
+      ap (λ (l : List ℕ). l ++ behind) (walk-first (accepts s row blocks) 1 (s .n) (s .t + 1))
+      ∙ take-append-drop (s .t + 1) (accepted s row blocks)
+
+  all-parts-of : (P : ℕ → Type 0) → All P (accepted s row blocks) → All P posts × All P behind
+  all-parts-of P a = all-parts P posts behind (subst (All P) (sym in-all) a)
+
+  module _ (few : s .n < p) (enough : tooFew s row blocks ≡ false) where
+    posts-low : Elements posts
+    posts-low = all-map (λ j a. omega (arith, a .before)) posts in-range
+
+    different : Distinct posts
+    unfolding posts
+    different = distinct-accepted (accepts s row blocks) 1 (s .n) (s .t + 1)
+
+    posts-many : length posts ≡ s .t + 1
+    unfolding posts
+    posts-many = accepted-enough (accepts s row blocks) 1 (s .n) (s .t + 1) enough
+
+    line-long : length line ≤ length posts
+    unfolding line
+    line-long = omega (arith, length-numbers (s .t + 1) (shareOf S), posts-many)
+
+    -- t+1 true polynomials among those accepted, and no share off the line
+    exact : EnoughTruly s S blocks → disagree s row blocks ≡ false → opened s row blocks ≡ number S .0
+    unfolding Accepting.opened Accepting.disagree row posts line
+    exact t agree =
+        agreement-exact posts (map (share s row blocks) posts) behind (map (share s row blocks) behind) posts-low different
+        (sym (length-map posts (share s row blocks))) (sym (length-map behind (share s row blocks)))
+        (not-false (allAgree posts (map (share s row blocks) posts) behind (map (share s row blocks) behind)) agree) line (t .good) line-long
+        (omega (arith, posts-many, t .many)) (all-map (λ j h. omega (arith, h .1)) (t .good) (t .truly)) (t .different)
+        (all-map given (t .good) (t .truly)) 0
+        ∙ at-zero
+      where
+        given : (j : ℕ) → (1 ≤ j) × (j ≤ s .n) × Truly s S blocks j
+            → Given j (value line j) (posts ++ behind) (map (share s row blocks) posts ++ map (share s row blocks) behind)
+        given zero h = absurd (omega (arith, h .0))
+        given (suc j) h =
+            rw (← map-append (share s row blocks) posts behind, in-all, ← share-true j (omega (arith, h .1)) (h .2))
+            (given-passing (accepts s row blocks) (share s row blocks) 1 (s .n) (suc j) (record {
+              passes = true-passes j (omega (arith, h .1)) (h .2);
+              from-on = h .0;
+              before = omega (arith, h .1);
+            }))
+
+    -- where all accepted are true, no share is off the line
+    never-off : All (Truly s S blocks) (accepted s row blocks) → disagree s row blocks ≡ false
+    unfolding Accepting.disagree row posts line
+    never-off a =
+        let there = all-parts-of (Accepted (accepts s row blocks) 1 (s .n)) (all-passing (accepts s row blocks) 1 (s .n)) in
+        let true-parts = all-parts-of (Truly s S blocks) a in
+        ap not
+        (ap₂ (λ (ys ws : List ℕ). allAgree posts ys behind ws) (shares-true posts (there .0) (true-parts .0)) (shares-true behind (there .1) (true-parts .1))
+        ∙ true-values-agree posts behind posts-low different line line-long)
+
+    -- the lowest t+1 are enough
+    lowest : All (Truly s S blocks) posts → EnoughTruly s S blocks
+    unfolding row
+    lowest a = record {
+      good = posts;
+      many = omega (arith, posts-many);
+      different = different;
+      truly = all-zip (λ j h t. (h .from-on, omega (arith, h .before), t)) posts in-range a;
+    }
+
+-- the number that the accepted posts give, where t+1 of them are true and their shares agree
+pub opened-exact : (s : Session) (S : Vector) (blocks : List ℕ) → s .n < p → tooFew s (heldRow s S) blocks ≡ false → EnoughTruly s S blocks
+    → disagree s (heldRow s S) blocks ≡ false → opened s (heldRow s S) blocks ≡ number S .0
+unfolding row
 opened-exact s S blocks = exact s S blocks
+
+pub true-agree : (s : Session) (S : Vector) (blocks : List ℕ) → s .n < p → tooFew s (heldRow s S) blocks ≡ false
+    → All (Truly s S blocks) (accepted s (heldRow s S) blocks) → disagree s (heldRow s S) blocks ≡ false
+unfolding row
+true-agree s S blocks = never-off s S blocks
+
+-- true polynomials of the posts that the walk takes are enough
+pub lowest-enough : (s : Session) (S : Vector) (blocks : List ℕ) → s .n < p → tooFew s (heldRow s S) blocks ≡ false
+    → All (Truly s S blocks) (acceptedPosts s (heldRow s S) blocks) → EnoughTruly s S blocks
+unfolding row posts
+lowest-enough s S blocks = lowest s S blocks
+
+pub all-enough : (s : Session) (S : Vector) (blocks : List ℕ) → s .n < p → tooFew s (heldRow s S) blocks ≡ false
+    → All (Truly s S blocks) (accepted s (heldRow s S) blocks) → EnoughTruly s S blocks
+unfolding row
+all-enough s S blocks few enough a = lowest s S blocks few enough (all-parts-of s S blocks (Truly s S blocks) a .0)
 
 pub accepted-agrees : AcceptedAgrees
 unfolding row
@@ -242,14 +329,24 @@ true-accepted s S blocks zero lo hi e = absurd (omega arith)
 true-accepted s S blocks (suc j) lo hi e = true-passes s S blocks j (omega arith) e
 
 pub opening-exact : OpeningExact
-unfolding row posts
+unfolding row
 opening-exact s S rows r blocks clear held = (
   (λ few. open-nine s rows r blocks clear (rw held few)),
-  λ enough true-all.
-      open-number s rows r blocks clear (rw held enough)
-      ∙ ap (λ (x : List ℕ). holding 0 (opened s x blocks) s) held
-      ∙ ap (λ (v : ℕ). holding 0 v s) (opened-exact s S blocks posts-few true-all enough),
+  (λ enough a. number-is enough (all-enough s S blocks posts-few enough a) (true-agree s S blocks posts-few enough a)),
+  (λ enough t. decided enough t (disagree s (heldRow s S) blocks) refl),
 )
   where
     posts-few : s .n < p
     posts-few = let h = open-allowed s rows r blocks 0 (sym clear) refl in omega (arith, h .0 .sized .valid .n-in)
+
+    number-is : tooFew s (heldRow s S) blocks ≡ false → EnoughTruly s S blocks → disagree s (heldRow s S) blocks ≡ false
+        → openAnswer s rows r blocks ≡ holding 0 (number S .0) s
+    number-is enough t agree =
+        open-number s rows r blocks clear (rw held enough) (rw held agree)
+        ∙ ap (λ (x : List ℕ). holding 0 (opened s x blocks) s) held
+        ∙ ap (λ (v : ℕ). holding 0 v s) (opened-exact s S blocks posts-few enough t agree)
+
+    decided : tooFew s (heldRow s S) blocks ≡ false → EnoughTruly s S blocks → (off : Bool) → disagree s (heldRow s S) blocks ≡ off
+        → (openAnswer s rows r blocks ≡ holding 0 (number S .0) s) ⊎ (openAnswer s rows r blocks ≡ holding 13 0 s)
+    decided enough t true e = inr (open-thirteen s rows r blocks clear (rw held enough) (rw held e))
+    decided enough t false e = inl (number-is enough t e)

@@ -32,6 +32,7 @@ impl fmt::Display for Refusal {
             10 => "the line has the wrong form",
             11 => "a number of the line is out of range",
             12 => "the line does not fit",
+            13 => "an accepted share lies off the polynomial of the others",
             _ => "unknown",
         };
         write!(f, "refusal {}: {why}", self.0)

@@ -117,7 +117,7 @@ impl Session {
     }
 
     /// Opens a held row with a record: for each post a mark, 0 absent or 1 present, and t+1
-    /// coefficients. The number opened is the answer's value. Refusals 1 to 9.
+    /// coefficients. The number opened is the answer's value. Refusals 1 to 9, 13.
     #[inline]
     pub fn open(self, rows: &[u32], row: usize, record: &[u32]) -> Answer {
         // SAFETY: each list is a borrowed slice's pointer and length; neither is written.
@@ -168,7 +168,7 @@ impl Session {
 
     /// The second half: opens a − l with the record `record_a` and b − l' with `record_b`, each like
     /// [`open`](Self::open), and writes the product into row `first` + 2, which becomes held. A
-    /// refused finish may be called again. Refusals 1 to 9.
+    /// refused finish may be called again. Refusals 1 to 9, 13.
     #[inline]
     pub fn finish(
         self,

@@ -1,7 +1,7 @@
 //! Opening with verification.
 
 use crate::field::{expect_elements, Element};
-use crate::polynomial::{evaluate, interpolate_at_zero};
+use crate::polynomial::{evaluate, interpolate};
 use crate::refusal::{require, Refusal};
 use crate::session::{mark, Answer, Session};
 use crate::shape::{expect_length, expect_row, Shape};
@@ -47,25 +47,45 @@ impl<'a> Record<'a> {
     }
 }
 
-/// The number that a post reads from `row`, its part of the shared number, and from a record.
-///
-/// "The walk from post 1 upward stops at the post that completes t+1 accepted ones, and the
-/// number is the interpolation of those at 0."
-pub(crate) fn reconstruct<const P: u32>(
-    shape: Shape,
-    session: &Session,
-    row: &[u32],
-    record: Record,
-) -> Result<Element<P>, Refusal> {
-    let accepted: Vec<_> = (1..=shape.posts())
-        .filter_map(|post| {
-            let polynomial = polynomial_of(shape, session, row, record, post)?;
-            accepted_share(shape, session, row, post, polynomial)
-        })
-        .take(shape.shares_needed())
-        .collect();
-    require(accepted.len() == shape.shares_needed(), Refusal::TooFew)?;
-    Ok(interpolate_at_zero(&accepted))
+/// A share as a point: (j, mj minus the constant coefficient).
+type Share<const P: u32> = (Element<P>, Element<P>);
+
+/// The shares of the accepted posts, of which there are at least t+1.
+pub(crate) struct Accepted<const P: u32> {
+    /// "The lowest t+1."
+    lowest: Vec<Share<P>>,
+    /// "Every further accepted share."
+    further: Vec<Share<P>>,
+}
+
+impl<const P: u32> Accepted<P> {
+    /// Check 9, for what a post reads from `row`, its part of the shared number, and from a record.
+    /// "From now on the post checks all n."
+    pub(crate) fn checked(
+        shape: Shape,
+        session: &Session,
+        row: &[u32],
+        record: Record,
+    ) -> Result<Self, Refusal> {
+        let mut lowest: Vec<Share<P>> = (1..=shape.posts())
+            .filter_map(|post| {
+                let polynomial = polynomial_of(shape, session, row, record, post)?;
+                accepted_share(shape, session, row, post, polynomial)
+            })
+            .collect();
+        require(lowest.len() >= shape.shares_needed(), Refusal::TooFew)?;
+        let further = lowest.split_off(shape.shares_needed());
+        Ok(Self { lowest, further })
+    }
+
+    /// "The number is still interpolated from the lowest t+1, but every further accepted share must
+    /// lie on the same polynomial of degree at most t": check 13.
+    pub(crate) fn number(&self) -> Result<Element<P>, Refusal> {
+        let polynomial = interpolate(&self.lowest);
+        let agrees = |&(x, y): &Share<P>| evaluate(&polynomial, x) == y;
+        require(self.further.iter().all(agrees), Refusal::Disagreement)?;
+        Ok(evaluate(&polynomial, Element::ZERO))
+    }
 }
 
 /// "For its own number the post takes the coefficients in its own row, otherwise the block of the
@@ -84,15 +104,14 @@ fn polynomial_of<'a>(
     }
 }
 
-/// The share (j, mj minus the constant coefficient) of post j, "accepted when its polynomial at
-/// wi equals the check value for j".
+/// The share of post j, "accepted when its polynomial at wi equals the check value for j".
 fn accepted_share<const P: u32>(
     shape: Shape,
     session: &Session,
     row: &[u32],
     post: usize,
     polynomial: &[u32],
-) -> Option<(Element<P>, Element<P>)> {
+) -> Option<Share<P>> {
     let check: Element<P> = row[shape.check_values()][post - 1].into();
     let sum: Element<P> = row[shape.sums()][post - 1].into();
     (evaluate(polynomial, session.point.into()) == check)
@@ -119,6 +138,6 @@ pub(crate) fn try_open<const P: u32>(
     let numbers = &rows[shape.at(row)];
     expect_elements::<P>(numbers)?;
     record.expect_numbers::<P>(s.post)?;
-    let number = reconstruct::<P>(shape, &s, numbers, record)?;
+    let number = Accepted::<P>::checked(shape, &s, numbers, record)?.number()?;
     Ok((number.value(), s))
 }

@@ -3,33 +3,43 @@
 use crate::field::Element;
 
 /// The value of the polynomial at `x`, by Horner's rule.
-pub fn evaluate<const P: u32>(coefficients: &[u32], x: Element<P>) -> Element<P> {
+pub fn evaluate<const P: u32>(
+    coefficients: &[impl Copy + Into<Element<P>>],
+    x: Element<P>,
+) -> Element<P> {
     coefficients
         .iter()
         .rev()
         .fold(Element::ZERO, |value, &coefficient| value * x + coefficient.into())
 }
 
-/// The value at 0 of the polynomial of least degree through `points`, whose abscissae differ.
-pub fn interpolate_at_zero<const P: u32>(points: &[(Element<P>, Element<P>)]) -> Element<P> {
-    points.iter().enumerate().map(|(i, &(_, y))| y * lagrange_weight(points, i)).sum()
-}
-
-/// The product over k ≠ i of xk / (xk − xi): Lagrange's basis polynomial i, taken at 0.
+/// The polynomial of least degree through `points`, whose abscissae differ.
+///
+/// Point by point, a multiple of the product of all z − x before is added, which changes nothing at
+/// the points before.
 ///
 /// Request (vi) takes the inverses of post numbers and of their differences from a table. Here the
 /// general inverse stays, which gives the same numbers over every prime.
-fn lagrange_weight<const P: u32>(points: &[(Element<P>, Element<P>)], i: usize) -> Element<P> {
-    let (xi, _) = points[i];
-    let mut numerator = Element::ONE;
-    let mut denominator = Element::ONE;
-    for (k, &(xk, _)) in points.iter().enumerate() {
-        if k != i {
-            numerator = numerator * xk;
-            denominator = denominator * (xk - xi);
+pub fn interpolate<const P: u32>(points: &[(Element<P>, Element<P>)]) -> Vec<Element<P>> {
+    let mut polynomial = vec![];
+    let mut product = vec![Element::ONE];
+    for &(x, y) in points {
+        let missing = y - evaluate(&polynomial, x);
+        let multiple = missing * evaluate(&product, x).inverse();
+        polynomial.push(Element::ZERO);
+        for (coefficient, &term) in polynomial.iter_mut().zip(&product) {
+            *coefficient = *coefficient + multiple * term;
         }
+        product = times_difference(&product, x);
     }
-    numerator * denominator.inverse()
+    polynomial
+}
+
+/// The polynomial times z − x.
+fn times_difference<const P: u32>(polynomial: &[Element<P>], x: Element<P>) -> Vec<Element<P>> {
+    let times_z = [&[Element::ZERO], polynomial].concat();
+    let times_x = polynomial.iter().map(|&coefficient| x * coefficient).chain([Element::ZERO]);
+    times_z.into_iter().zip(times_x).map(|(up, down)| up - down).collect()
 }
 
 #[cfg(test)]
@@ -38,13 +48,20 @@ mod tests {
     use crate::{MAX_POSTS, MODULUS};
 
     #[test]
-    fn interpolation_gives_back_the_constant() {
+    fn interpolation_gives_back_the_polynomial() {
         let f = [4, 0, 6, 1];
         let at = |x: u32| (Element::<11>::from(x), evaluate(&f, x.into()));
-        let points = [at(1), at(9), at(3), at(7)];
-        assert_eq!(interpolate_at_zero(&points).value(), 4);
-        assert_ne!(interpolate_at_zero(&points[..3]).value(), 4);
-        assert_eq!(interpolate_at_zero::<11>(&[]).value(), 0);
+        let points = [at(1), at(9), at(3), at(7), at(10)];
+        let coefficients = |count: usize| -> Vec<u32> {
+            interpolate(&points[..count]).into_iter().map(Element::value).collect()
+        };
+        assert_eq!(coefficients(4), f);
+        assert_eq!(coefficients(5), [4, 0, 6, 1, 0]);
+        assert_ne!(coefficients(3), f[..3]);
+        for (x, y) in &points[..3] {
+            assert_eq!(evaluate(&interpolate(&points[..3]), *x), *y);
+        }
+        assert_eq!(interpolate::<11>(&[]), []);
     }
 
     /// The rule of request (vi)'s table: "each entry × its index is 1 modulo p".
@@ -60,6 +77,6 @@ mod tests {
 
     #[test]
     fn the_empty_polynomial_is_zero() {
-        assert_eq!(evaluate::<5>(&[], Element::ONE), Element::ZERO);
+        assert_eq!(evaluate::<5>(&[0; 0], Element::ONE), Element::ZERO);
     }
 }

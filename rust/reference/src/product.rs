@@ -1,7 +1,7 @@
 //! Multiplication with factory triples (DOTMP): masks, then finish.
 
 use crate::field::{expect_elements, Element};
-use crate::opening::{reconstruct, Record};
+use crate::opening::{Accepted, Record};
 use crate::refusal::Refusal;
 use crate::row::{minus, weighted_sum};
 use crate::session::{mark, Answer, Session};
@@ -88,12 +88,14 @@ fn try_finish<const P: u32>(
     left_record.expect_numbers::<P>(s.post)?;
     right_record.expect_numbers::<P>(s.post)?;
 
-    let open_difference = |factor: usize, pad: usize, record: Record| {
+    let accepted = |factor: usize, pad: usize, record: Record| {
         let difference = minus::<P>(shape, &rows[shape.at(factor)], &rows[shape.at(pad)]);
-        reconstruct::<P>(shape, &s, &difference, record)
+        Accepted::<P>::checked(shape, &s, &difference, record)
     };
-    let y = open_difference(a, first, left_record)?;
-    let y2 = open_difference(b, first + 1, right_record)?;
+    // 9 "in either record of a finish", then 13 "in either record".
+    let left = accepted(a, first, left_record)?;
+    let right = accepted(b, first + 1, right_record)?;
+    let (y, y2) = (left.number()?, right.number()?);
     let product = product_row(shape, rows, first, y, y2);
     rows[shape.at(first + 2)].copy_from_slice(&product);
     let done = [mark::SPENT, mark::SPENT, mark::HELD];

@@ -1,7 +1,8 @@
 //! The numbers of "Where each refusal is checked".
 
-/// Why a call refused. "Order of checks is the order of numbers."
-#[derive(Clone, Copy, Debug, PartialEq, Eq, PartialOrd, Ord)]
+/// Why a call refused. "Order of checks is the order of numbers", but for the numbers that document
+/// 02 adds, which say themselves where they stand.
+#[derive(Clone, Copy, Debug, PartialEq, Eq)]
 #[repr(u8)]
 pub enum Refusal {
     /// n outside 2..255
@@ -28,10 +29,12 @@ pub enum Refusal {
     Range = 11,
     /// the lent part is shorter than the line
     Space = 12,
+    /// an accepted share lies off the polynomial, in either record of a finish; after 9
+    Disagreement = 13,
 }
 
 impl Refusal {
-    /// The number of this refusal in document 01's table.
+    /// The number of this refusal in the papers.
     pub const fn number(self) -> u8 {
         self as u8
     }

@@ -62,7 +62,7 @@ fn opened_with(places: &[usize], number: u32) -> Vec<u8> {
 #[test]
 fn a_fee_elsewhere_is_noticed() {
     assert_eq!(opened_with(&[], 0), [0; 3]);
-    assert_eq!(opened_with(&[5], MODULUS - 80), [1; 3]);
+    assert_eq!(opened_with(&[5], MODULUS - 80), [13; 3]);
     assert_eq!(opened_with(&[2, 3, 4], 80), [9; 3]);
     assert_eq!(opened_with(&[5, 6, 7], MODULUS - 80), [1; 3]);
 }

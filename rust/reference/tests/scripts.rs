@@ -62,7 +62,7 @@ fn every_n_and_t() {
             check(&script_for(&mut rng, n, t, 30), &mut seen);
         }
     }
-    seen.assert_met(&[("Open", &[0, 9]), ("Finish", &[0, 9])]);
+    seen.assert_met(&[("Open", &[0, 9, 13]), ("Finish", &[0, 9, 13])]);
 }
 
 /// "n as a parameter": the larger station does what the smaller one does.
@@ -73,7 +73,7 @@ fn larger_stations() {
     for (n, t) in [(33, 1), (33, 32), (100, 50), (254, 1), (255, 1), (255, 127), (255, 254)] {
         check(&script_for(&mut rng, n, t, 25), &mut seen);
     }
-    seen.assert_met(&[("Open", &[0, 9])]);
+    seen.assert_met(&[("Open", &[0, 9, 13])]);
 }
 
 /// The refusal, and whether a list lent for writing is as it was.
@@ -133,7 +133,7 @@ fn random_street_inputs() {
 #[test]
 fn wild_arguments_never_panic() {
     let mut rng = Rng::new(5);
-    let mut seen = [0; 10];
+    let mut seen = [0; 14];
     for round in 0..20_000 {
         let state = wild_state(&mut rng, round % 2 == 0);
         for call in wild_calls(&mut rng) {
@@ -142,5 +142,5 @@ fn wild_arguments_never_panic() {
             seen[usize::from(outcome.refusal)] += 1;
         }
     }
-    assert!(seen.iter().all(|&count| count > 0), "{seen:?}");
+    assert!((0..10).all(|refusal| seen[refusal] > 0), "{seen:?}");
 }

@@ -7,7 +7,7 @@ use std::fmt::{Debug, Error, Result, Write};
 pub type Met<'a> = &'a [(&'a str, &'a [u8])];
 
 const SESSION: &[u8] = &[0, 1, 2, 3, 4, 5, 6, 7, 8];
-const OPENING: &[u8] = &[0, 1, 2, 3, 4, 5, 6, 7, 8, 9];
+const OPENING: &[u8] = &[0, 1, 2, 3, 4, 5, 6, 7, 8, 9, 13];
 
 /// Every refusal that a [`Call`](super::Call) can get.
 pub const CALL_REFUSALS: Met = &[

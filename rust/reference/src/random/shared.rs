@@ -49,6 +49,15 @@ pub fn check_points(rng: &mut Rng, n: usize) -> Vec<u32> {
     points
 }
 
+/// The polynomial plus k z^place (z − point): another one with the same value at the check point.
+pub fn unnoticed(polynomial: &[u32], place: usize, k: u32, point: u32) -> Vec<u32> {
+    let k = Field::from(k);
+    let mut forged = polynomial.to_vec();
+    forged[place] = (Field::from(forged[place]) - k * point.into()).value();
+    forged[place + 1] = (Field::from(forged[place + 1]) + k).value();
+    forged
+}
+
 /// One shared number as the works sees it: f and v1 to vn. The calls act on it as on the rows.
 #[derive(Clone, Debug, PartialEq, Eq)]
 pub struct SharedRow {

@@ -1,6 +1,8 @@
 //! A station of posts that run every call in step, for the tests.
 #![allow(dead_code)]
 
+pub mod program;
+
 use reference::random::{unwritten, Call, Outcome, SharedRow, State};
 use reference::{Library, Session, Shape, REFERENCE};
 

@@ -17,7 +17,7 @@ use draws::{for_each_draw, Condition, ALL};
 use record::{Plan, Raw, Station, Step};
 use reference::Shape;
 use Step::{Deal, FeeWithConstant, Finish, FinishWithConstant, LoadAgain, LoadRow, LoadTriple};
-use Step::{LoadTripleAgain, Message, Open, Overwrite};
+use Step::{LoadTripleAgain, Message, Open, OpenForged, Overwrite};
 
 /// Whether every record of the group occurs equally often under both lists of secrets.
 fn equal_counts<const P: u32>(

@@ -91,3 +91,19 @@ fn a_field_with_no_more_elements_than_posts_leaks() {
     assert!(!equal_counts::<3>(&deal, &[1, 2, 1], (ALL, ALL), &[3], [&[1], &[2]]));
     assert!(equal_counts::<3>(&deal, &[1, 2, 1], (ALL, ALL), &[2], [&[1], &[2]]));
 }
+
+/// "To put in records only what its sender broadcast": what a post answers to forged blocks, 13 among
+/// it, follows the secret though no post sends a message.
+#[test]
+fn forged_blocks_in_a_record() {
+    let seen = Condition { own: &[1], checks: true, sums: &[1, 2, 3] };
+    let counts = |forged, secrets| {
+        let steps = [LoadRow(0), Deal(0), OpenForged { row: 0, forged }];
+        let plan = plan(3, 1, &[raw(0)], &[], &steps);
+        equal_counts::<5>(&plan, &[3, 1, 4], (seen, ALL), &[1], secrets)
+    };
+    let (none, both): (&[_], &[_]) = (&[], &[(1, [1, 1]), (3, [1, 0])]);
+    assert!(counts(none, [&[1], &[4]]));
+    assert!(!counts(both, [&[1], &[4]]));
+    assert!(counts(both, [&[4], &[4]]));
+}

@@ -3,23 +3,22 @@ use mathlib.Core.Path.{refl}
 use borrow.Author.Needs.{needs}
 use Rattle.inverses.specs.InverseTable.{few}
 use Rattle.shape.specs.Bounds.{fewPosts, shortV}
-use Rattle.opening.proofs.Fronts.{front-length, rooms}
+use Rattle.opening.proofs.Fronts.{front-length, front-size, rooms}
 use Rattle.opening.proofs.walking.open_small.Statement.{statement}
 use Rattle.opening.proofs.walking.open_small.Tie as tie
 
 open-in-requires : tie.Need-open-in-requires
 open-in-requires c κs =
-    let table = c .before .before .before .before .before .before .to-32 in
-    let need = c .before .before .before .before .before .before .before .needed in
-    let count = c .before .before .before .before .before .before .before .before .v-len in (
+    let table = c .before .before .before .before .before .before .before .before .to-32 in
+    let count = c .before .before .before .before .before .before .before .before .before .v-len in (
       search needs,
-      rooms _ few shortV fewPosts (count .result) (need .result) (count .ensures) (need .ensures) (search needs) (search needs) (table .result) _ _ _ _ _ (table .ensures .0) (table .ensures .1) refl refl refl refl refl,
+      front-size (count .result) shortV _ _ (count .ensures) (search needs) refl,
+      rooms _ few fewPosts (search needs) (table .result) _ _ _ _ _ _ (table .ensures .0) (table .ensures .1) refl refl refl refl refl refl,
     )
 
 pub open-small-spec : {M : Type 1} → statement M
 open-small-spec =
     tie.close
-    (tie.spec (λ c κs. search needs) (λ c κs. search needs) (λ c κs. search needs) (λ c. search needs) (λ c. search needs)
-    (λ c. front-length _ shortV _ (search needs) refl) (λ c. search needs) (λ c. front-length _ fewPosts _ (search needs) refl)
-    (λ c. search needs) (λ c. front-length _ fewPosts _ (search needs) refl) (λ c. search needs) (λ c. search needs) open-in-requires
-    (λ c. search needs))
+    (tie.spec (λ c κs. search needs) (λ c κs. search needs) (λ c. search needs) (λ c. search needs)
+    (λ c. front-length _ shortV _ (search needs) refl) (λ c. search needs) (λ c. search needs) (λ c. search needs) (λ c. search needs)
+    (λ c. search needs) (λ c. search needs) open-in-requires (λ c. search needs))

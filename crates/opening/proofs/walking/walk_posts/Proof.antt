@@ -2,6 +2,7 @@
 use Prim.Native.Nat.{_+_, _-_}
 use mathlib.Core.Path.{refl, _∙_}
 use mathlib.Core.Logic.{⊎-elim}
+use lib.ListN.{length}
 use borrow.Author.Needs.{needs}
 use Rattle.shape.specs.Lengths.{needed}
 use Rattle.opening.specs.Accepting.{accepts, share}
@@ -12,7 +13,7 @@ use Rattle.opening.proofs.walking.walk_posts.Tie as tie
 
 abbrev Inv-loop : tie.InvT-loop
 Inv-loop party row blocks weights posts₀ shares₀ n need count₀ j₀ posts shares count j =
-    Walking (accepts party row blocks) (share party row blocks) (party .shape .n) (needed (party .shape)) posts shares count j
+    Walking (accepts party row blocks) (share party row blocks) (party .shape .n) (needed (party .shape)) (length posts₀) (length shares₀) posts shares count j
 
 abbrev μ-loop : tie.MeasureT-loop
 μ-loop party row blocks weights posts₀ shares₀ n need count₀ j₀ posts shares count j = party .shape .n + 1 - j
@@ -23,7 +24,7 @@ loop-again : tie.Need-loop-again Inv-loop μ-loop
 loop-again c =
     let l = c .before .before .before .before .loop in
     ⊎-elim
-    (λ w. party-take _ _ _ _ refl (l .count) (l .j) (λ e. c .before .before .before .if1 .left (e ∙ search needs)) (l .posts) _ (l .shares) _ _ _ _ (l .inv) (search needs) (c .before .accepts .ensures) (w .0 .taken) (w .1 .ensures) (w .2) (w .3) (w .4))
+    (λ w. party-take _ _ _ _ _ _ refl (l .count) (l .j) (λ e. c .before .before .before .if1 .left (e ∙ search needs)) (l .posts) _ (l .shares) _ _ _ _ (l .inv) (search needs) (c .before .accepts .ensures) (w .0 .taken) (w .1 .ensures) (w .2) (w .3) (w .4))
     (λ w. search (needs, party-skip)) (c .if3 .came)
 
 returns : tie.Need-returns Inv-loop μ-loop

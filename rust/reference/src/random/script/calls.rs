@@ -1,5 +1,6 @@
 //! The valid calls of a script, one kind each.
 
+use super::record::Heard;
 use super::{Author, Step};
 use crate::random::{Call, SharedRow};
 use crate::{mark, ROWS, TRIPLE};
@@ -62,9 +63,11 @@ impl Author<'_> {
     fn open(&mut self) -> Option<()> {
         let row = self.pick(mark::HELD)?;
         let shared = self.shared(row);
-        let too_few = Call::Open { row, record: self.record(&shared, false) };
-        self.steps.push(Step { trial: true, damage: vec![], call: too_few, opens_to: None });
-        let record = self.record(&shared, true);
+        for heard in [Heard::TooFew, Heard::Lies] {
+            let call = Call::Open { row, record: self.record(&shared, heard) };
+            self.steps.push(Step { trial: true, damage: vec![], call, opens_to: None });
+        }
+        let record = self.record(&shared, Heard::Enough);
         self.step(Call::Open { row, record }, Some(shared.number()));
         Some(())
     }
@@ -95,15 +98,15 @@ impl Author<'_> {
         let (a, b) = (self.shared(a), self.shared(b));
         let triple = [first, first + 1, first + 2].map(|row| self.shared(row));
         let (y, y2) = (a.minus(&triple[0]), b.minus(&triple[1]));
-        let short = self.rng.below(2);
-        let too_few = Call::Finish {
-            first,
-            record: self.record(&y, short != 0),
-            record2: self.record(&y2, short != 1),
-        };
-        self.steps.push(Step { trial: true, damage: vec![], call: too_few, opens_to: None });
-        let record = self.record(&y, true);
-        let record2 = self.record(&y2, true);
+        for _ in 0..2 {
+            let kinds = [Heard::Enough, Heard::TooFew, Heard::Lies];
+            let heard = [(); 2].map(|()| self.rng.pick(&kinds));
+            let record = self.record(&y, heard[0]);
+            let call = Call::Finish { first, record, record2: self.record(&y2, heard[1]) };
+            self.steps.push(Step { trial: true, damage: vec![], call, opens_to: None });
+        }
+        let record = self.record(&y, Heard::Enough);
+        let record2 = self.record(&y2, Heard::Enough);
         self.marks[first..first + 2].fill(mark::SPENT);
         self.keep(first + 2, mark::HELD, SharedRow::product(&a, &b, &triple));
         self.step(Call::Finish { first, record, record2 }, None);

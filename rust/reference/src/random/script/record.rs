@@ -1,17 +1,30 @@
 //! Records of openings, with honest, absent and forged blocks.
 
 use super::Author;
-use crate::random::SharedRow;
-use crate::{Element, MODULUS};
+use crate::random::{unnoticed, SharedRow};
+use crate::MODULUS;
+
+/// What a record is made for.
+#[derive(Clone, Copy, PartialEq, Eq)]
+pub(super) enum Heard {
+    /// With the own post at least t+1 honest ones, and no lie that is accepted.
+    Enough,
+    /// One honest post too few, and no lie that is accepted: 9.
+    TooFew,
+    /// Any number of honest posts, and lies that are accepted: 9, 13 or a false number.
+    Lies,
+}
 
 impl Author<'_> {
-    /// A record for a row: with the own post, at least t+1 honest ones, or t (in which case, in every
-    /// second record, forged polynomials may still be accepted). The own block is nonsense.
-    pub(super) fn record(&mut self, shared: &SharedRow, enough: bool) -> Vec<u32> {
+    /// A record for a row. The own block is nonsense.
+    pub(super) fn record(&mut self, shared: &SharedRow, heard: Heard) -> Vec<u32> {
         let others = self.shape.posts() - 1;
         let needed = self.shape.shares_needed() - 1;
-        let mut honest = if enough { self.rng.between(needed, others) } else { needed - 1 };
-        let noticed = enough || self.rng.one_in(2);
+        let mut honest = match heard {
+            Heard::Enough => self.rng.between(needed, others),
+            Heard::TooFew => needed - 1,
+            Heard::Lies => self.rng.between(needed - 1, others - 1),
+        };
         let mut posts_left = others;
         let mut record = vec![];
         for post in 1..=self.shape.posts() {
@@ -21,25 +34,27 @@ impl Author<'_> {
                 let chosen = self.rng.below(posts_left) < honest;
                 honest -= usize::from(chosen);
                 posts_left -= 1;
-                record.extend(self.block(&shared.v[post - 1], chosen, noticed));
+                record.extend(self.block(&shared.v[post - 1], chosen, heard));
             }
         }
         record
     }
 
     /// A block: honest, or else absent over nonsense, or forged.
-    fn block(&mut self, polynomial: &[u32], honest: bool, noticed: bool) -> Vec<u32> {
+    fn block(&mut self, polynomial: &[u32], honest: bool, heard: Heard) -> Vec<u32> {
         if honest {
             return [&[1], polynomial].concat();
         }
-        match self.rng.below(3) {
+        let message = match self.rng.below(4) {
             0 => {
                 let nonsense = (0..polynomial.len()).map(|_| self.rng.number());
-                std::iter::once(0).chain(nonsense).collect()
+                return std::iter::once(0).chain(nonsense).collect();
             }
-            1 if !noticed => [vec![1], self.unnoticed(polynomial)].concat(),
-            _ => [vec![1], self.noticed(polynomial)].concat(),
-        }
+            1 | 2 if heard == Heard::Lies => self.accepted_lie(polynomial),
+            1 if heard == Heard::Enough => self.harmless_lie(polynomial),
+            _ => self.noticed(polynomial),
+        };
+        [vec![1], message].concat()
     }
 
     /// Another polynomial that differs at the check point.
@@ -49,12 +64,19 @@ impl Author<'_> {
         forged
     }
 
-    /// Another polynomial that agrees at the check point: it differs by k(z − w).
-    fn unnoticed(&mut self, polynomial: &[u32]) -> Vec<u32> {
-        let k = Element::<MODULUS>::from(self.rng.element());
-        let mut forged = polynomial.to_vec();
-        forged[0] = (Element::from(forged[0]) - k * self.point().into()).value();
-        forged[1] = (Element::from(forged[1]) + k).value();
-        forged
+    /// Another polynomial that agrees at the check point, with another constant: a false share.
+    fn accepted_lie(&mut self, polynomial: &[u32]) -> Vec<u32> {
+        let k = self.rng.element();
+        unnoticed(polynomial, 0, k, self.point())
+    }
+
+    /// Another polynomial that agrees at the check point and at 0, so that its share is true. With
+    /// two coefficients there is none.
+    fn harmless_lie(&mut self, polynomial: &[u32]) -> Vec<u32> {
+        if polynomial.len() < 3 {
+            return polynomial.to_vec();
+        }
+        let (place, k) = (self.rng.between(1, polynomial.len() - 2), self.rng.element());
+        unnoticed(polynomial, place, k, self.point())
     }
 }

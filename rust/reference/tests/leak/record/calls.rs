@@ -62,6 +62,13 @@ impl<const P: u32> Station<'_, P> {
             }
             Step::Finish(first) => self.finish(s, &mut rows, first),
             Step::FinishWithConstant(first) => self.finish_with_constant(s, &mut rows, first),
+            Step::OpenForged { row, forged } => {
+                let mut record = self.heard(b'O', row, 0);
+                for &(post, message) in forged {
+                    self.put(&mut record, post, &message);
+                }
+                open::<P>(s, &rows, row, &record)
+            }
             Step::FeeWithConstant { dest, a, fee } => {
                 let answer = linear::<P>(s, &mut rows, dest, a, a, 0, fee);
                 self.add_to_constant(&mut rows, dest, fee.into());

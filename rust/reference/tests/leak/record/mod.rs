@@ -158,11 +158,16 @@ impl<'a, const P: u32> Station<'a, P> {
     fn heard(&self, letter: u8, row: usize, part: usize) -> Vec<u32> {
         let mut record = vec![0; self.shape.record()];
         for sent in self.sent.iter().filter(|sent| (sent.letter, sent.row) == (letter, row)) {
-            let block = &mut record[(sent.post - 1) * self.shape.block()..][..self.shape.block()];
-            block[0] = 1;
             let half = self.shape.coefficients();
-            block[1..].copy_from_slice(&sent.numbers[part * half..][..half]);
+            self.put(&mut record, sent.post, &sent.numbers[part * half..][..half]);
         }
         record
+    }
+
+    /// Fills a block of a record.
+    fn put(&self, record: &mut [u32], post: usize, message: &[u32]) {
+        let block = &mut record[(post - 1) * self.shape.block()..][..self.shape.block()];
+        block[0] = 1;
+        block[1..].copy_from_slice(message);
     }
 }

@@ -43,6 +43,12 @@ pub enum Step {
     /// Breaks a rule: a finish that adds y y' "to the polynomial's constant too, so it counts
     /// nothing". The check values follow, or nobody would accept the polynomials.
     FinishWithConstant(usize),
+    /// Breaks a rule: an opening whose record also holds, for these posts, polynomials that they
+    /// didn't send.
+    OpenForged {
+        row: usize,
+        forged: &'static [(usize, [u32; 2])],
+    },
     /// Breaks a rule: a sum that adds its fee to the polynomial's constant too, a plus the fee.
     FeeWithConstant {
         dest: usize,
