@@ -66,7 +66,8 @@ fn spread(
     above: &mut [u32],
     below: &mut [u32],
 )
-    requires { ⌜ Weighed (now nodes) (now values) value (now weights) × Cleared (suc (lastOf 0 (now nodes))) (now above) × Cleared (suc (lastOf 0 (now nodes))) (now below) ⌝ }
+    requires { ⌜ Weighed (now nodes) (now values) value (now weights) × Cleared (suc (lastOf 0 (now nodes))) (now above)
+        × Cleared (suc (lastOf 0 (now nodes))) (now below) ⌝ }
     ensures { λ r. ⌜ (now (above .exit) ≡ tops (now (nodes .entry)) (now (values .entry))) × (now (below .exit) ≡ bottoms (now (nodes .entry))) ⌝ }
 {
     let last = below.len() - 1;
@@ -89,7 +90,8 @@ fn lay(
     above: &mut [u32],
     below: &mut [u32],
 )
-    requires { ⌜ Weighed (now nodes) (now values) value (now weights) × (length (now above) ≡ suc (lastOf 0 (now nodes))) × (length (now below) ≡ suc (lastOf 0 (now nodes))) ⌝ }
+    requires { ⌜ Weighed (now nodes) (now values) value (now weights) × (length (now above) ≡ suc (lastOf 0 (now nodes)))
+        × (length (now below) ≡ suc (lastOf 0 (now nodes))) ⌝ }
     ensures { λ r. ⌜ (now (above .exit) ≡ tops (now (nodes .entry)) (now (values .entry))) × (now (below .exit) ≡ bottoms (now (nodes .entry))) ⌝ }
 {
     clear(above);
@@ -109,7 +111,8 @@ fn agree_rising(
     above: &mut [u32],
     below: &mut [u32],
 ) -> bool
-    requires { ⌜ Weighed (now nodes) (now values) value (now weights) × Further (lastOf 0 (now nodes)) (now further) (now shares) (now inverses) (now above) (now below) ⌝ }
+    requires { ⌜ Weighed (now nodes) (now values) value (now weights)
+        × Further (lastOf 0 (now nodes)) (now further) (now shares) (now inverses) (now above) (now below) ⌝ }
     ensures { λ r. ⌜ r ≡ allAgree (now (nodes .entry)) (now (values .entry)) (now (further .entry)) (now (shares .entry)) ⌝ }
 {
     lay(nodes, values, value, weights, above, below);
@@ -133,7 +136,8 @@ fn through_rising(
     above: &mut [u32],
     below: &mut [u32],
 ) -> Found
-    requires { ⌜ Prepared (now nodes) (now inverses) (now gaps) (now list) × (length (now values) ≡ length (now nodes)) × Further (lastOf 0 (now nodes)) (now further) (now shares) (now inverses) (now above) (now below) ⌝ }
+    requires { ⌜ Prepared (now nodes) (now inverses) (now gaps) (now list) × (length (now values) ≡ length (now nodes))
+        × Further (lastOf 0 (now nodes)) (now further) (now shares) (now inverses) (now above) (now below) ⌝ }
     ensures { λ r. ⌜ Settles (now (nodes .entry)) (now (values .entry)) (now (further .entry)) (now (shares .entry)) (r .value) (r .agree) ⌝ }
 {
     let value = barycentric::at_zero_rising(nodes, values, inverses, gaps, list);
@@ -157,7 +161,8 @@ fn through_rising(
 // The same by the general way, whatever the nodes are.
 fn through_any(posts: &[u32], shares: &[u32], k: usize) -> Found
     requires { ⌜ (k ≤ length (now posts)) × (length (now shares) ≡ length (now posts)) ⌝ }
-    ensures { λ r. ⌜ Settles (take k (now (posts .entry))) (take k (now (shares .entry))) (drop k (now (posts .entry))) (drop k (now (shares .entry))) (r .value) (r .agree) ⌝ }
+    ensures { λ r. ⌜ Settles (take k (now (posts .entry))) (take k (now (shares .entry))) (drop k (now (posts .entry)))
+        (drop k (now (shares .entry))) (r .value) (r .agree) ⌝ }
 {
     let value = poly::interpolate(&posts[..k], &shares[..k], 0);
     let agree = all_agree(&posts[..k], &shares[..k], &posts[k..], &shares[k..]);
@@ -177,7 +182,8 @@ pub fn through(
     below: &mut [u32],
 ) -> Found
     requires { ⌜ (k ≤ length (now posts)) × (length (now shares) ≡ length (now posts)) × Rooms (now inverses) (now gaps) (now list) (now above) (now below) ⌝ }
-    ensures { λ r. ⌜ Settles (take k (now (posts .entry))) (take k (now (shares .entry))) (drop k (now (posts .entry))) (drop k (now (shares .entry))) (r .value) (r .agree) ⌝ }
+    ensures { λ r. ⌜ Settles (take k (now (posts .entry))) (take k (now (shares .entry))) (drop k (now (posts .entry)))
+        (drop k (now (shares .entry))) (r .value) (r .agree) ⌝ }
 {
     if 0 < k {
         if barycentric::rises(posts, inverses.len()) {

@@ -43,7 +43,8 @@ fn negative_inverse(inverses: &[u32], k: usize) -> u32
 // The weights of 0 to m, up to the middle of a list of m + 1: each is the one before times (m + 1 - x) / -x.
 fn lower_half(inverses: &[u32], list: &mut [u32], half: usize)
     requires { ⌜ Inverts (now inverses) × (length (now list) ≤ length (now inverses) + 1) × (0 < half) × (half ≤ length (now list)) ⌝ }
-    ensures { λ r. ⌜ (length (now (list .exit)) ≡ length (now (list .entry))) × (take half (now (list .exit)) ≡ firsts (alternating (length (now (list .entry)) - 1)) half) ⌝ }
+    ensures { λ r. ⌜ (length (now (list .exit)) ≡ length (now (list .entry)))
+        × (take half (now (list .exit)) ≡ firsts (alternating (length (now (list .entry)) - 1)) half) ⌝ }
 {
     let n = list.len();
     let mut b: u32 = 1;
@@ -134,8 +135,10 @@ fn distances(gaps: &[u32], x: u32) -> u32
 
 // The weights of 0 and the nodes move to the front of the list of all numbers' weights, each times its distances to the gaps.
 fn weigh_nodes(nodes: &[u32], gaps: &[u32], list: &mut [u32])
-    requires { ⌜ Rising 0 (now nodes) × (lastOf 0 (now nodes) ≤ 255) × All (λ g. g ≤ 255) (now gaps) × (lastOf 0 (now nodes) < length (now list)) × (now list ≡ firsts (alternating (lastOf 0 (now nodes))) (length (now list))) ⌝ }
-    ensures { λ r. ⌜ take (length (now (nodes .entry)) + 1) (now (list .exit)) ≡ map (nodeWeight (lastOf 0 (now (nodes .entry))) (now (gaps .entry))) (0 ∷ now (nodes .entry)) ⌝ }
+    requires { ⌜ Rising 0 (now nodes) × (lastOf 0 (now nodes) ≤ 255) × All (λ g. g ≤ 255) (now gaps) × (lastOf 0 (now nodes) < length (now list))
+        × (now list ≡ firsts (alternating (lastOf 0 (now nodes))) (length (now list))) ⌝ }
+    ensures { λ r. ⌜ take (length (now (nodes .entry)) + 1) (now (list .exit))
+        ≡ map (nodeWeight (lastOf 0 (now (nodes .entry))) (now (gaps .entry))) (0 ∷ now (nodes .entry)) ⌝ }
 {
     list[0] = distances(gaps, 0);
     for i in 0..nodes.len() {
@@ -159,7 +162,8 @@ fn inverse_product(list: &[u32], inverses: &[u32]) -> u32
 
 // The missing numbers and with them the nodes' weights, where a number is missing.
 fn weigh_gaps(nodes: &[u32], gaps: &mut [u32], list: &mut [u32])
-    requires { ⌜ Rising 0 (now nodes) × (lastOf 0 (now nodes) ≤ 255) × (length (now gaps) ≡ length (missing 0 (now nodes))) × (lastOf 0 (now nodes) < length (now list)) × (now list ≡ firsts (alternating (lastOf 0 (now nodes))) (length (now list))) ⌝ }
+    requires { ⌜ Rising 0 (now nodes) × (lastOf 0 (now nodes) ≤ 255) × (length (now gaps) ≡ length (missing 0 (now nodes)))
+        × (lastOf 0 (now nodes) < length (now list)) × (now list ≡ firsts (alternating (lastOf 0 (now nodes))) (length (now list))) ⌝ }
     ensures { λ r. ⌜ (now (gaps .exit) ≡ missing 0 (now (nodes .entry))) × WeightsOf (now (nodes .entry)) (now (list .exit)) ⌝ }
 {
     missing(nodes, gaps);

@@ -32,8 +32,12 @@ pub extern "C" fn gantsorol_write_opening(
     coefficients: &[u32],
     out: &mut [u8],
 ) -> Written
-    ensures { λ r. ⌜ r ≡ writtenAs (writeOpeningRefusal n t row post (now (coefficients .entry)) (length (now (out .entry)))) (text (opening row post (now (coefficients .entry)))) ⌝ }
-    ensures { λ r. ⌜ now (out .exit) ≡ partAs (writeOpeningRefusal n t row post (now (coefficients .entry)) (length (now (out .entry)))) (text (opening row post (now (coefficients .entry)))) (now (out .entry)) ⌝ }
+    ensures { λ r. ⌜ r
+        ≡ writtenAs (writeOpeningRefusal n t row post (now (coefficients .entry)) (length (now (out .entry))))
+        (text (opening row post (now (coefficients .entry)))) ⌝ }
+    ensures { λ r. ⌜ now (out .exit)
+        ≡ partAs (writeOpeningRefusal n t row post (now (coefficients .entry)) (length (now (out .entry))))
+        (text (opening row post (now (coefficients .entry)))) (now (out .entry)) ⌝ }
 {
     lines::write_opening(n, t, row, post, coefficients, out)
 }
@@ -47,8 +51,12 @@ pub extern "C" fn gantsorol_write_masks(
     coefficients: &[u32],
     out: &mut [u8],
 ) -> Written
-    ensures { λ r. ⌜ r ≡ writtenAs (writeMasksRefusal n t row post (now (coefficients .entry)) (length (now (out .entry)))) (text (masks row post (now (coefficients .entry)))) ⌝ }
-    ensures { λ r. ⌜ now (out .exit) ≡ partAs (writeMasksRefusal n t row post (now (coefficients .entry)) (length (now (out .entry)))) (text (masks row post (now (coefficients .entry)))) (now (out .entry)) ⌝ }
+    ensures { λ r. ⌜ r
+        ≡ writtenAs (writeMasksRefusal n t row post (now (coefficients .entry)) (length (now (out .entry))))
+        (text (masks row post (now (coefficients .entry)))) ⌝ }
+    ensures { λ r. ⌜ now (out .exit)
+        ≡ partAs (writeMasksRefusal n t row post (now (coefficients .entry)) (length (now (out .entry))))
+        (text (masks row post (now (coefficients .entry)))) (now (out .entry)) ⌝ }
 {
     lines::write_masks(n, t, row, post, coefficients, out)
 }
@@ -56,7 +64,8 @@ pub extern "C" fn gantsorol_write_masks(
 #[no_mangle]
 pub extern "C" fn gantsorol_read(n: usize, t: usize, line: &[u8], out: &mut [u32]) -> Line
     ensures { λ r. ⌜ r ≡ lineAs (readRefusal n t (now (line .entry)) (now (out .entry))) (message (t + 1) (now (line .entry))) ⌝ }
-    ensures { λ r. ⌜ now (out .exit) ≡ listAs (readRefusal n t (now (line .entry)) (now (out .entry))) (message (t + 1) (now (line .entry))) (now (out .entry)) ⌝ }
+    ensures { λ r. ⌜ now (out .exit)
+        ≡ listAs (readRefusal n t (now (line .entry)) (now (out .entry))) (message (t + 1) (now (line .entry))) (now (out .entry)) ⌝ }
 {
     lines::read(n, t, line, out)
 }

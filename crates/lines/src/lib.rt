@@ -80,8 +80,12 @@ fn write_posted(
     out: &mut [u8],
 ) -> Written
     requires { ⌜ (n ≤ 4294967295) × (count ≤ 4294967296) ⌝ }
-    ensures { λ r. ⌜ r ≡ writtenAs (first (postedTests n letter count row post (now (numbers .entry)) (length (now (out .entry))))) (written letter (row ∷ post ∷ now (numbers .entry))) ⌝ }
-    ensures { λ r. ⌜ now (out .exit) ≡ partAs (first (postedTests n letter count row post (now (numbers .entry)) (length (now (out .entry))))) (written letter (row ∷ post ∷ now (numbers .entry))) (now (out .entry)) ⌝ }
+    ensures { λ r. ⌜ r
+        ≡ writtenAs (first (postedTests n letter count row post (now (numbers .entry)) (length (now (out .entry)))))
+        (written letter (row ∷ post ∷ now (numbers .entry))) ⌝ }
+    ensures { λ r. ⌜ now (out .exit)
+        ≡ partAs (first (postedTests n letter count row post (now (numbers .entry)) (length (now (out .entry)))))
+        (written letter (row ∷ post ∷ now (numbers .entry))) (now (out .entry)) ⌝ }
 {
     let posted = posted_refusal(n, letter, count, row, post, numbers, out.len());
     if posted != 0 {
@@ -147,8 +151,12 @@ pub fn write_opening(
     coefficients: &[u32],
     out: &mut [u8],
 ) -> Written
-    ensures { λ r. ⌜ r ≡ writtenAs (writeOpeningRefusal n t row post (now (coefficients .entry)) (length (now (out .entry)))) (text (opening row post (now (coefficients .entry)))) ⌝ }
-    ensures { λ r. ⌜ now (out .exit) ≡ partAs (writeOpeningRefusal n t row post (now (coefficients .entry)) (length (now (out .entry)))) (text (opening row post (now (coefficients .entry)))) (now (out .entry)) ⌝ }
+    ensures { λ r. ⌜ r
+        ≡ writtenAs (writeOpeningRefusal n t row post (now (coefficients .entry)) (length (now (out .entry))))
+        (text (opening row post (now (coefficients .entry)))) ⌝ }
+    ensures { λ r. ⌜ now (out .exit)
+        ≡ partAs (writeOpeningRefusal n t row post (now (coefficients .entry)) (length (now (out .entry))))
+        (text (opening row post (now (coefficients .entry)))) (now (out .entry)) ⌝ }
 {
     let posts = refusal::posts(n, t);
     if posts != 0 {
@@ -166,8 +174,12 @@ pub fn write_masks(
     coefficients: &[u32],
     out: &mut [u8],
 ) -> Written
-    ensures { λ r. ⌜ r ≡ writtenAs (writeMasksRefusal n t row post (now (coefficients .entry)) (length (now (out .entry)))) (text (masks row post (now (coefficients .entry)))) ⌝ }
-    ensures { λ r. ⌜ now (out .exit) ≡ partAs (writeMasksRefusal n t row post (now (coefficients .entry)) (length (now (out .entry)))) (text (masks row post (now (coefficients .entry)))) (now (out .entry)) ⌝ }
+    ensures { λ r. ⌜ r
+        ≡ writtenAs (writeMasksRefusal n t row post (now (coefficients .entry)) (length (now (out .entry))))
+        (text (masks row post (now (coefficients .entry)))) ⌝ }
+    ensures { λ r. ⌜ now (out .exit)
+        ≡ partAs (writeMasksRefusal n t row post (now (coefficients .entry)) (length (now (out .entry))))
+        (text (masks row post (now (coefficients .entry)))) (now (out .entry)) ⌝ }
 {
     let posts = refusal::posts(n, t);
     if posts != 0 {
@@ -221,7 +233,8 @@ fn read_line(n: usize, k: usize, line: &[u8], out: &mut [u32]) -> Line
 // Any of the three lines, into a list of 2(t+1) numbers.
 pub fn read(n: usize, t: usize, line: &[u8], out: &mut [u32]) -> Line
     ensures { λ r. ⌜ r ≡ lineAs (readRefusal n t (now (line .entry)) (now (out .entry))) (message (t + 1) (now (line .entry))) ⌝ }
-    ensures { λ r. ⌜ now (out .exit) ≡ listAs (readRefusal n t (now (line .entry)) (now (out .entry))) (message (t + 1) (now (line .entry))) (now (out .entry)) ⌝ }
+    ensures { λ r. ⌜ now (out .exit)
+        ≡ listAs (readRefusal n t (now (line .entry)) (now (out .entry))) (message (t + 1) (now (line .entry))) (now (out .entry)) ⌝ }
 {
     let posts = refusal::posts(n, t);
     if posts != 0 {

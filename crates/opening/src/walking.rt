@@ -53,7 +53,8 @@ fn walk_posts<'a>(
     posts: &mut [u32],
     shares: &mut [u32],
 ) -> Walk
-    requires { ⌜ Openable party (now row) (now blocks) × (now weights ≡ powers (party .point) (vLength (party .shape))) × (needed (party .shape) ≤ length (now posts)) × (needed (party .shape) ≤ length (now shares)) ⌝ }
+    requires { ⌜ Openable party (now row) (now blocks) × (now weights ≡ powers (party .point) (vLength (party .shape)))
+        × (needed (party .shape) ≤ length (now posts)) × (needed (party .shape) ≤ length (now shares)) ⌝ }
     ensures { λ r. ⌜ WalkedAs party (now (row .entry)) (now (blocks .entry)) r (now (posts .exit)) (now (shares .exit)) ⌝ }
 {
     let shape = party.shape;
@@ -90,8 +91,10 @@ fn walk_further<'a>(
     posts: &mut [u32],
     shares: &mut [u32],
 ) -> usize
-    requires { ⌜ Openable party (now row) (now blocks) × (now weights ≡ powers (party .point) (vLength (party .shape))) × BehindIn (party .shape .n) need last (now posts) (now shares) ⌝ }
-    ensures { λ r. ⌜ FurtherAs party (now (row .entry)) (now (blocks .entry)) need last (now (posts .entry)) (now (shares .entry)) r (now (posts .exit)) (now (shares .exit)) ⌝ }
+    requires { ⌜ Openable party (now row) (now blocks) × (now weights ≡ powers (party .point) (vLength (party .shape)))
+        × BehindIn (party .shape .n) need last (now posts) (now shares) ⌝ }
+    ensures { λ r. ⌜ FurtherAs party (now (row .entry)) (now (blocks .entry)) need last (now (posts .entry)) (now (shares .entry)) r
+        (now (posts .exit)) (now (shares .exit)) ⌝ }
 {
     let shape = party.shape;
     let n = shape.n;
@@ -120,8 +123,11 @@ fn agreed(
     above: &mut [u32],
     below: &mut [u32],
 ) -> Opened
-    requires { ⌜ (need ≤ length (now posts)) × (length (now shares) ≡ length (now posts)) × Rooms (now inverses) (now gaps) (now list) (now above) (now below) ⌝ }
-    ensures { λ r. ⌜ r ≡ agreedOn (take need (now (posts .entry))) (take need (now (shares .entry))) (drop need (now (posts .entry))) (drop need (now (shares .entry))) ⌝ }
+    requires { ⌜ (need ≤ length (now posts)) × (length (now shares) ≡ length (now posts))
+        × Rooms (now inverses) (now gaps) (now list) (now above) (now below) ⌝ }
+    ensures { λ r. ⌜ r
+        ≡ agreedOn (take need (now (posts .entry))) (take need (now (shares .entry))) (drop need (now (posts .entry)))
+        (drop need (now (shares .entry))) ⌝ }
 {
     let found = agreement::through(posts, shares, need, inverses, gaps, list, above, below);
     if found.agree {
@@ -151,7 +157,9 @@ fn settle<'a>(
     above: &mut [u32],
     below: &mut [u32],
 ) -> Opened
-    requires { ⌜ Openable party (now row) (now blocks) × (now weights ≡ powers (party .point) (vLength (party .shape))) × WalkedAs party (now row) (now blocks) outcome (now posts) (now shares) × Roomy (party .shape) (now inverses) (now posts) (now shares) (now gaps) (now list) (now above) (now below) ⌝ }
+    requires { ⌜ Openable party (now row) (now blocks) × (now weights ≡ powers (party .point) (vLength (party .shape)))
+        × WalkedAs party (now row) (now blocks) outcome (now posts) (now shares)
+        × Roomy (party .shape) (now inverses) (now posts) (now shares) (now gaps) (now list) (now above) (now below) ⌝ }
     ensures { λ r. ⌜ r ≡ openedRow party (now (row .entry)) (now (blocks .entry)) ⌝ }
 {
     match outcome {
@@ -192,7 +200,8 @@ fn open_in<'a>(
     above: &mut [u32],
     below: &mut [u32],
 ) -> Opened
-    requires { ⌜ Openable party (now row) (now blocks) × (length (now powers) ≡ vLength (party .shape)) × Roomy (party .shape) (now inverses) (now posts) (now shares) (now gaps) (now list) (now above) (now below) ⌝ }
+    requires { ⌜ Openable party (now row) (now blocks) × (length (now powers) ≡ vLength (party .shape))
+        × Roomy (party .shape) (now inverses) (now posts) (now shares) (now gaps) (now list) (now above) (now below) ⌝ }
     ensures { λ r. ⌜ r ≡ openedRow party (now (row .entry)) (now (blocks .entry)) ⌝ }
 {
     poly::powers(party.point, powers);

@@ -22,7 +22,8 @@ ghost use Rattle.session.specs.Checks.{noRow, Framed, Sized, RowIn, TripleIn};
 ghost use Rattle.opening.specs.Blocks.{Recorded};
 ghost use Rattle.opening.specs.Accepting.{openedRow};
 ghost use Rattle.product.specs.Masks.{maskRow};
-ghost use Rattle.product.specs.Finish.{maskA, maskB, finishPlace, finishMarks, finishNumbers, finishOwn, finishChecks, eitherOf, openedBoth, openedMasks, finishAnswer, finishRows};
+ghost use Rattle.product.specs.Finish.{maskA, maskB, finishPlace, finishMarks, finishNumbers, finishOwn};
+ghost use Rattle.product.specs.Finish.{finishChecks, eitherOf, openedBoth, openedMasks, finishAnswer, finishRows};
 
 // 5 of the two records, and 6.
 fn finish_place(session: Session, row: usize, record_a: &[u32], record_b: &[u32]) -> u8
@@ -121,7 +122,8 @@ fn open_mask_in(
     blocks: &[u32],
     room: &mut [u32],
 ) -> Opened
-    requires { ⌜ Sized (party .shape) (now rows) × RowIn (party .shape) factor × RowIn (party .shape) row × Recorded party (now blocks) × (length (now room) ≡ rowLength (party .shape)) ⌝ }
+    requires { ⌜ Sized (party .shape) (now rows) × RowIn (party .shape) factor × RowIn (party .shape) row × Recorded party (now blocks)
+        × (length (now room) ≡ rowLength (party .shape)) ⌝ }
     ensures { λ r. ⌜ r ≡ openedRow party (maskRow (party .shape) (now (rows .entry)) factor row) (now (blocks .entry)) ⌝ }
 {
     let shape = party.shape;
@@ -136,7 +138,8 @@ fn open_mask_in(
 
 // In a room for few posts.
 fn open_short_mask(party: Party, rows: &[u32], factor: usize, row: usize, blocks: &[u32]) -> Opened
-    requires { ⌜ Sized (party .shape) (now rows) × RowIn (party .shape) factor × RowIn (party .shape) row × Recorded party (now blocks) × (party .shape .n ≤ fewPosts) ⌝ }
+    requires { ⌜ Sized (party .shape) (now rows) × RowIn (party .shape) factor × RowIn (party .shape) row × Recorded party (now blocks)
+        × (party .shape .n ≤ fewPosts) ⌝ }
     ensures { λ r. ⌜ r ≡ openedRow party (maskRow (party .shape) (now (rows .entry)) factor row) (now (blocks .entry)) ⌝ }
 {
     let shape = party.shape;
@@ -184,8 +187,11 @@ fn open_both(
     record_a: &[u32],
     record_b: &[u32],
 ) -> OpenedMasks
-    requires { ⌜ Framed session (now rows) × RowIn (shapeOf session) (factorA session row) × RowIn (shapeOf session) (factorB session row) × TripleIn (shapeOf session) row × Recorded (partyOf session) (now «record_a») × Recorded (partyOf session) (now «record_b») ⌝ }
-    ensures { λ r. ⌜ r ≡ openedBoth session (maskA session (now (rows .entry)) row) (maskB session (now (rows .entry)) row) (now («record_a» .entry)) (now («record_b» .entry)) ⌝ }
+    requires { ⌜ Framed session (now rows) × RowIn (shapeOf session) (factorA session row) × RowIn (shapeOf session) (factorB session row)
+        × TripleIn (shapeOf session) row × Recorded (partyOf session) (now «record_a») × Recorded (partyOf session) (now «record_b») ⌝ }
+    ensures { λ r. ⌜ r
+        ≡ openedBoth session (maskA session (now (rows .entry)) row) (maskB session (now (rows .entry)) row) (now («record_a» .entry))
+        (now («record_b» .entry)) ⌝ }
 {
     let a = session.factor_a[row] as usize;
     let b = session.factor_b[row] as usize;
@@ -231,7 +237,11 @@ fn open_masks(
 // The second step: l'' + y l' + y' l into the triple's third row, with the fee y y'.
 fn write_product(shape: Shape, rows: &mut [u32], first: usize, y_a: u32, y_b: u32)
     requires { ⌜ Sized shape (now rows) × TripleIn shape first ⌝ }
-    ensures { λ r. ⌜ now (rows .exit) ≡ withRow (rowLength shape) (first + 2) (summed (sumsAt shape) «y_b» (product «y_a» «y_b») (summed (sumsAt shape) «y_a» 0 (rowAt (rowLength shape) (now (rows .entry)) (first + 2)) (rowAt (rowLength shape) (now (rows .entry)) (first + 1))) (rowAt (rowLength shape) (now (rows .entry)) first)) (now (rows .entry)) ⌝ }
+    ensures { λ r. ⌜ now (rows .exit)
+        ≡ withRow (rowLength shape) (first + 2) (summed (sumsAt shape) «y_b» (product «y_a» «y_b»)
+        (summed (sumsAt shape) «y_a» 0 (rowAt (rowLength shape) (now (rows .entry)) (first + 2))
+        (rowAt (rowLength shape) (now (rows .entry)) (first + 1))) (rowAt (rowLength shape) (now (rows .entry)) first)) (now
+        (rows .entry)) ⌝ }
 {
     let third = first + 2;
     let fee = field::mul(y_a, y_b);

@@ -60,7 +60,9 @@ pub fn put_row(shape: Shape, rows: &mut [u32], row: usize, numbers: &[u32])
 // c added to the public sums of a row, which are its last n numbers.
 pub fn add_to_sums(shape: Shape, rows: &mut [u32], row: usize, c: u32)
     requires { ⌜ Sized shape (now rows) × RowIn shape row ⌝ }
-    ensures { λ r. ⌜ now (rows .exit) ≡ withRow (rowLength shape) row (plusSums (sumsAt shape) c (rowAt (rowLength shape) (now (rows .entry)) row)) (now (rows .entry)) ⌝ }
+    ensures { λ r. ⌜ now (rows .exit)
+        ≡ withRow (rowLength shape) row (plusSums (sumsAt shape) c (rowAt (rowLength shape) (now (rows .entry)) row))
+        (now (rows .entry)) ⌝ }
 {
     let n = shape.n;
     let start = row_at(shape, row);
@@ -72,7 +74,9 @@ pub fn add_to_sums(shape: Shape, rows: &mut [u32], row: usize, c: u32)
 // Row a plus scale times row b, number by number, in the place of row dest, which may be one of them.
 fn combine_rows(shape: Shape, rows: &mut [u32], dest: usize, a: usize, b: usize, scale: u32)
     requires { ⌜ Sized shape (now rows) × RowIn shape dest × RowIn shape a × RowIn shape b ⌝ }
-    ensures { λ r. ⌜ now (rows .exit) ≡ withRow (rowLength shape) dest (combined scale (rowAt (rowLength shape) (now (rows .entry)) a) (rowAt (rowLength shape) (now (rows .entry)) b)) (now (rows .entry)) ⌝ }
+    ensures { λ r. ⌜ now (rows .exit)
+        ≡ withRow (rowLength shape) dest (combined scale (rowAt (rowLength shape) (now (rows .entry)) a)
+        (rowAt (rowLength shape) (now (rows .entry)) b)) (now (rows .entry)) ⌝ }
 {
     let width = shape.row_len();
     let to = row_at(shape, dest);
@@ -94,7 +98,9 @@ pub fn sum_rows(
     fee: u32,
 )
     requires { ⌜ Sized shape (now rows) × RowIn shape dest × RowIn shape a × RowIn shape b ⌝ }
-    ensures { λ r. ⌜ now (rows .exit) ≡ withRow (rowLength shape) dest (summed (sumsAt shape) scale fee (rowAt (rowLength shape) (now (rows .entry)) a) (rowAt (rowLength shape) (now (rows .entry)) b)) (now (rows .entry)) ⌝ }
+    ensures { λ r. ⌜ now (rows .exit)
+        ≡ withRow (rowLength shape) dest (summed (sumsAt shape) scale fee (rowAt (rowLength shape) (now (rows .entry)) a)
+        (rowAt (rowLength shape) (now (rows .entry)) b)) (now (rows .entry)) ⌝ }
 {
     combine_rows(shape, rows, dest, a, b, scale);
     if fee == 0 {

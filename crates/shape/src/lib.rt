@@ -1,7 +1,8 @@
 // The shape of a station: the numbers that bound it, and the lengths that follow from n and t. The calls on a session take them
 // from here alone.
 ghost use mathlib.Core.Path.{_≡_};
-ghost use Rattle.shape.specs.Lengths.{needed, fLength, vLength, checksAt, sumsAt, rowLength, tripleLength, rowsLength, blockLength, recordLength, drawLength, tripleDrawLength, packsLength, masksLength, Valid};
+ghost use Rattle.shape.specs.Lengths.{needed, fLength, vLength, checksAt, sumsAt, rowLength, tripleLength};
+ghost use Rattle.shape.specs.Lengths.{rowsLength, blockLength, recordLength, drawLength, tripleDrawLength, packsLength, masksLength, Valid};
 
 // How many posts a station may have.
 pub const FEWEST_POSTS: usize = 2;

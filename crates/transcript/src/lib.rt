@@ -54,7 +54,8 @@ fn put_number(out: &mut [u8], at: usize, x: u64) -> usize
 // An answer from a position on; the position behind.
 fn put_answer(out: &mut [u8], at: usize, number: u64, refusal: u8, value: u32) -> usize
     requires { ⌜ at + longestAnswer ≤ length (now out) ⌝ }
-    ensures { λ r. ⌜ (r ≡ at + length (answerText number refusal value)) × (now (out .exit) ≡ overwrite at (answerText number refusal value) (now (out .entry))) ⌝ }
+    ensures { λ r. ⌜ (r ≡ at + length (answerText number refusal value))
+        × (now (out .exit) ≡ overwrite at (answerText number refusal value) (now (out .entry))) ⌝ }
 {
     let behind = put_number(out, at, number);
     let list = [refusal as u32, value];
@@ -125,7 +126,8 @@ pub struct Progress {
 // The line begun is taken, and its answer written.
 fn end_line(feed: Feed, store: &mut [u32], line: &[u8], out: &mut [u8]) -> Feed
     requires { ⌜ Open feed (now store) (now line) (now out) 1 ⌝ }
-    ensures { λ r. ⌜ running r (now (store .exit)) (now (line .entry)) (now (out .exit)) ≡ answered (running feed (now (store .entry)) (now (line .entry)) (now (out .entry))) ⌝ }
+    ensures { λ r. ⌜ running r (now (store .exit)) (now (line .entry)) (now (out .exit))
+        ≡ answered (running feed (now (store .entry)) (now (line .entry)) (now (out .entry))) ⌝ }
     ensures { λ r. ⌜ Ready (r .state) (now (store .exit)) × (r .len ≡ 0) × (r .number ≡ feed .number + 1) × (r .at ≤ feed .at + longestAnswer) ⌝ }
     ensures { λ r. ⌜ Added feed r (now (out .entry)) (now (out .exit)) ⌝ }
 {
@@ -145,7 +147,8 @@ fn end_line(feed: Feed, store: &mut [u32], line: &[u8], out: &mut [u8]) -> Feed
 // A part of a line: its bytes are kept, and a line feed at its end ends the line.
 fn take_part(feed: Feed, store: &mut [u32], line: &mut [u8], part: &[u8], out: &mut [u8]) -> Feed
     requires { ⌜ Open feed (now store) (now line) (now out) 1 × (1 ≤ length (now part)) ⌝ }
-    ensures { λ r. ⌜ running r (now (store .exit)) (now (line .exit)) (now (out .exit)) ≡ segmented (running feed (now (store .entry)) (now (line .entry)) (now (out .entry))) (now (part .entry)) ⌝ }
+    ensures { λ r. ⌜ running r (now (store .exit)) (now (line .exit)) (now (out .exit))
+        ≡ segmented (running feed (now (store .entry)) (now (line .entry)) (now (out .entry))) (now (part .entry)) ⌝ }
     ensures { λ r. ⌜ Fed feed r (now (store .exit)) 1 × Added feed r (now (out .entry)) (now (out .exit)) ⌝ }
     ensures { λ r. ⌜ now (line .exit) ≡ laid (feed .len) (now (part .entry)) (now (line .entry)) ⌝ }
 {
@@ -167,9 +170,11 @@ fn take_part(feed: Feed, store: &mut [u32], line: &mut [u8], part: &[u8], out: &
 // A chunk of the input, where there is room.
 fn take_chunk(feed: Feed, store: &mut [u32], line: &mut [u8], chunk: &[u8], out: &mut [u8]) -> Feed
     requires { ⌜ Open feed (now store) (now line) (now out) (length (now chunk)) ⌝ }
-    ensures { λ r. ⌜ running r (now (store .exit)) (now (line .exit)) (now (out .exit)) ≡ fed (running feed (now (store .entry)) (now (line .entry)) (now (out .entry))) (now (chunk .entry)) ⌝ }
+    ensures { λ r. ⌜ running r (now (store .exit)) (now (line .exit)) (now (out .exit))
+        ≡ fed (running feed (now (store .entry)) (now (line .entry)) (now (out .entry))) (now (chunk .entry)) ⌝ }
     ensures { λ r. ⌜ Fed feed r (now (store .exit)) (length (now (chunk .entry))) × Added feed r (now (out .entry)) (now (out .exit)) ⌝ }
-    ensures { λ r. ⌜ now (line .exit) ≡ lineAfter (running feed (now (store .entry)) (now (line .entry)) (now (out .entry))) (now (line .entry)) (now (chunk .entry)) ⌝ }
+    ensures { λ r. ⌜ now (line .exit)
+        ≡ lineAfter (running feed (now (store .entry)) (now (line .entry)) (now (out .entry))) (now (line .entry)) (now (chunk .entry)) ⌝ }
 {
     let mut present = feed;
     let mut i = 0;
@@ -211,7 +216,8 @@ pub fn begin() -> Feed
 // The end of the input ends a line that was begun, where there is room.
 fn take_end(feed: Feed, store: &mut [u32], line: &[u8], out: &mut [u8]) -> Feed
     requires { ⌜ Open feed (now store) (now line) (now out) 1 ⌝ }
-    ensures { λ r. ⌜ running r (now (store .exit)) (now (line .entry)) (now (out .exit)) ≡ closed (running feed (now (store .entry)) (now (line .entry)) (now (out .entry))) ⌝ }
+    ensures { λ r. ⌜ running r (now (store .exit)) (now (line .entry)) (now (out .exit))
+        ≡ closed (running feed (now (store .entry)) (now (line .entry)) (now (out .entry))) ⌝ }
     ensures { λ r. ⌜ Fed feed r (now (store .exit)) 1 × Added feed r (now (out .entry)) (now (out .exit)) ⌝ }
 {
     if feed.len == 0 {
@@ -228,7 +234,11 @@ pub fn feed_chunk(
     chunk: &[u8],
     out: &mut [u8],
 ) -> Progress
-    ensures { λ r. ⌜ Moved (feedRefusal feed (now (store .entry)) (now (line .entry)) (now (out .entry)) (length (now (chunk .entry)))) (length (now (chunk .entry))) feed (now (store .entry)) (now (line .entry)) (now (out .entry)) (fed (running feed (now (store .entry)) (now (line .entry)) (now (out .entry))) (now (chunk .entry))) (lineAfter (running feed (now (store .entry)) (now (line .entry)) (now (out .entry))) (now (line .entry)) (now (chunk .entry))) r (now (store .exit)) (now (line .exit)) (now (out .exit)) ⌝ }
+    ensures { λ r. ⌜ Moved (feedRefusal feed (now (store .entry)) (now (line .entry)) (now (out .entry)) (length (now (chunk .entry))))
+        (length (now (chunk .entry))) feed (now (store .entry)) (now (line .entry)) (now (out .entry))
+        (fed (running feed (now (store .entry)) (now (line .entry)) (now (out .entry))) (now (chunk .entry)))
+        (lineAfter (running feed (now (store .entry)) (now (line .entry)) (now (out .entry))) (now (line .entry)) (now (chunk .entry)))
+        r (now (store .exit)) (now (line .exit)) (now (out .exit)) ⌝ }
 {
     let refusal = limits::open_refusal(feed, store, line, out, chunk.len());
     if refusal != 0 {
@@ -243,7 +253,9 @@ pub fn feed_chunk(
 
 // The end of the input ends a line that was begun.
 pub fn end_input(feed: Feed, store: &mut [u32], line: &[u8], out: &mut [u8]) -> Progress
-    ensures { λ r. ⌜ Moved (feedRefusal feed (now (store .entry)) (now (line .entry)) (now (out .entry)) 1) 1 feed (now (store .entry)) (now (line .entry)) (now (out .entry)) (closed (running feed (now (store .entry)) (now (line .entry)) (now (out .entry)))) (now (line .entry)) r (now (store .exit)) (now (line .entry)) (now (out .exit)) ⌝ }
+    ensures { λ r. ⌜ Moved (feedRefusal feed (now (store .entry)) (now (line .entry)) (now (out .entry)) 1) 1 feed (now (store .entry))
+        (now (line .entry)) (now (out .entry)) (closed (running feed (now (store .entry)) (now (line .entry)) (now (out .entry))))
+        (now (line .entry)) r (now (store .exit)) (now (line .entry)) (now (out .exit)) ⌝ }
 {
     let refusal = limits::open_refusal(feed, store, line, out, 1);
     if refusal != 0 {

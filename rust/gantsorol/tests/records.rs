@@ -1,5 +1,5 @@
 //! Records: each refusal of the two calls at its limit, their order, and every number of the record
-//! against plain code, for every n and t.
+//! against plain code, for every n and t up to 32 posts, and for some beyond.
 
 use gantsorol::{block_len, record_len, record_put, record_remove, Refusal, MAX_POSTS, MODULUS};
 
@@ -90,23 +90,35 @@ fn the_first_refusal_in_order() {
     check(N, T, 20, 1, &bad, 8, 0);
 }
 
+/// A post's block taken out and put in again, every number of the record compared.
+fn check_block(n: usize, t: usize, post: usize) {
+    let message: Vec<u32> = (0..=t as u32).map(|k| MODULUS - 1 - k).collect();
+    let from = (post - 1) * (t + 2);
+    let (mut record, mut expected) = (full(n, t), full(n, t));
+    expected[from] = 0;
+    expected[from + 1..][..=t].fill(0);
+    assert_eq!(record_remove(n, t, &mut record, post), Ok(()));
+    assert_eq!(record, expected, "{n} {t} {post}");
+    expected[from] = 1;
+    expected[from + 1..][..=t].copy_from_slice(&message);
+    assert_eq!(record_put(n, t, &mut record, post, &message), Ok(()));
+    assert_eq!(record, expected, "{n} {t} {post}");
+}
+
 #[test]
-fn every_block_of_every_shape() {
-    for n in 2..=MAX_POSTS {
+fn every_block_of_every_small_shape() {
+    for n in 2..=32 {
         for t in 1..n {
-            for post in 1..=n {
-                let message: Vec<u32> = (0..=t as u32).map(|k| MODULUS - 1 - k).collect();
-                let from = (post - 1) * (t + 2);
-                let (mut record, mut expected) = (full(n, t), full(n, t));
-                expected[from] = 0;
-                expected[from + 1..][..=t].fill(0);
-                assert_eq!(record_remove(n, t, &mut record, post), Ok(()));
-                assert_eq!(record, expected, "{n} {t} {post}");
-                expected[from] = 1;
-                expected[from + 1..][..=t].copy_from_slice(&message);
-                assert_eq!(record_put(n, t, &mut record, post, &message), Ok(()));
-                assert_eq!(record, expected, "{n} {t} {post}");
-            }
+            (1..=n).for_each(|post| check_block(n, t, post));
+        }
+    }
+}
+
+#[test]
+fn some_blocks_of_large_shapes() {
+    for n in [33, 128, MAX_POSTS - 1, MAX_POSTS] {
+        for t in [1, n / 2, n - 1] {
+            [1, 2, n / 2, n - 1, n].into_iter().for_each(|post| check_block(n, t, post));
         }
     }
 }

@@ -106,7 +106,7 @@ fn random_paperwork() {
 
 #[test]
 fn random_street_inputs() {
-    let mut seen = [0; 13];
+    let mut seen = [0; 14];
     let (mut opened, mut longest) = (0, 0);
     for seed in 0..1500 {
         let input = street_input(seed, 60);
@@ -122,7 +122,7 @@ fn random_street_inputs() {
             opened += usize::from(fields[2] > 0);
         }
     }
-    for refusal in [0, 1, 2, 3, 4, 7, 9, 10, 11] {
+    for refusal in [0, 1, 2, 3, 4, 7, 9, 10, 11, 13] {
         assert!(seen[refusal] > 0, "no {refusal} in {seen:?}");
     }
     assert!(opened > 1000, "only {opened} numbers opened");

@@ -1,3 +1,4 @@
+-- `lay` meets its contract.
 use borrow.Author.Needs.{needs}
 use Rattle.cases.proofs.Room.{two-fit, feed-fits, end-fits, end-within}
 use Rattle.cases.proofs.lay.Statement.{statement}

@@ -1,3 +1,4 @@
+-- `show` meets its contract.
 use borrow.Author.Needs.{needs}
 use Rattle.cases.proofs.Room.{front-size}
 use Rattle.cases.proofs.show.Statement.{statement}

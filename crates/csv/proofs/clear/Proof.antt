@@ -1,3 +1,4 @@
+-- `clear` meets its contract: the first i numbers are 0.
 use Prim.Native.Nat.{_-_, _≤_}
 use mathlib.Core.Path.{_≡_}
 use mathlib.Core.List.{_++_}

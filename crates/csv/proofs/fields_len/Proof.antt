@@ -1,3 +1,4 @@
+-- `fields_len` meets its contract: the sum so far is that of the first i fields (`Summed`).
 use Prim.Native.Nat.{_-_}
 use lib.ListN.{length}
 use borrow.Author.Needs.{needs}

@@ -1,3 +1,4 @@
+-- `fill_front` meets its contract.
 use borrow.Author.Needs.{needs}
 use Rattle.csv.proofs.Laying.{front-count, front-fillable, front-filled}
 use Rattle.csv.proofs.fill_front.Statement.{statement}

@@ -1,3 +1,4 @@
+-- `greater` meets its contract.
 use borrow.Author.Needs.{needs}
 use borrow.Author.Tests.{lt-ltb, le-ltb}
 use Rattle.csv.proofs.greater.Statement.{statement}

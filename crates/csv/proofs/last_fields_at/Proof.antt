@@ -1,3 +1,4 @@
+-- `last_fields_at` meets its contract.
 use borrow.Author.Needs.{needs}
 use Rattle.csv.proofs.Passing.{end-broken, end-short, end-byte, end-long, end-there}
 use Rattle.csv.proofs.last_fields_at.Statement.{statement}

@@ -1,3 +1,4 @@
+-- `line_len` meets its contract.
 use borrow.Author.Needs.{needs}
 use Rattle.csv.proofs.Laying.{sum-fits, sum-fits-two, sum-is}
 use Rattle.csv.proofs.line_len.Statement.{statement}

@@ -1,3 +1,4 @@
+-- `put_field` meets its contract.
 use borrow.Author.Needs.{needs}
 use Rattle.csv.proofs.Overwriting.{field-fits, field-room, field-end, field-written, field-same}
 use Rattle.csv.proofs.put_field.Statement.{statement}

@@ -1,3 +1,4 @@
+-- `put_fields` meets its contract: the first i fields are written (`Put`).
 use Prim.Native.Nat.{_-_}
 use lib.ListN.{length}
 use borrow.Author.Needs.{needs}

@@ -1,3 +1,4 @@
+-- `put_line` meets its contract.
 use borrow.Author.Needs.{needs}
 use Rattle.csv.proofs.Laying.{room-letter, room-head, room-rest, room-feed, end-fits, end-is, line-same, line-laid}
 use Rattle.csv.proofs.put_line.Statement.{statement}

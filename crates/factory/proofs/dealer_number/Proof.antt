@@ -1,3 +1,4 @@
+-- `dealer_number` meets its contract.
 use borrow.Author.Needs.{needs}
 use Rattle.factory.proofs.Dealer.{first-refused, second-refused, number-given, constant-most}
 use Rattle.factory.proofs.dealer_number.Statement.{statement}

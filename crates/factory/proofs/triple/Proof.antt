@@ -1,3 +1,4 @@
+-- `triple` meets its contract.
 use borrow.Author.Needs.{needs}
 use Rattle.refusal.proofs.Endings.{refused, accepted}
 use Rattle.factory.proofs.Refusals.{triple-fine}

@@ -1,3 +1,4 @@
+-- `last_row` meets its contract.
 use borrow.Author.Needs.{needs}
 use Rattle.refusal.proofs.Endings.{tests}
 use Rattle.forms.proofs.last_row.Statement.{statement}

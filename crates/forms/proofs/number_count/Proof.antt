@@ -1,3 +1,4 @@
+-- `number_count` meets its contract.
 use borrow.Author.Needs.{needs}
 use Rattle.refusal.proofs.Endings.{tests}
 use Rattle.forms.proofs.number_count.Statement.{statement}

@@ -1,3 +1,4 @@
+-- `out_of_range` meets its contract.
 use borrow.Author.Needs.{needs}
 use Rattle.forms.proofs.Ranges.{largest-beyond, row-beyond, deal-within, post-zero, post-beyond, all-within}
 use Rattle.forms.proofs.out_of_range.Statement.{statement}

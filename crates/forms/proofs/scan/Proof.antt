@@ -1,3 +1,4 @@
+-- `scan` meets its contract.
 use borrow.Author.Needs.{needs}
 use Rattle.forms.proofs.Scanning.{scan-empty, scan-letter, scan-no-row, scan-deal, scan-no-post, scan-posted}
 use Rattle.forms.proofs.scan.Statement.{statement}

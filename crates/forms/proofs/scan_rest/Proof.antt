@@ -1,3 +1,4 @@
+-- `scan_rest` meets its contract.
 use borrow.Author.Needs.{needs}
 use Rattle.forms.proofs.Scanning.{rest-broken, rest-found}
 use Rattle.forms.proofs.scan_rest.Statement.{statement}

@@ -1,3 +1,4 @@
+-- `dealt_refusal` meets its contract.
 use borrow.Author.Needs.{needs}
 use Rattle.lines.proofs.Refusing.{deal-above, deal-beyond, deal-short, deal-fits}
 use Rattle.lines.proofs.dealt_refusal.Statement.{statement}

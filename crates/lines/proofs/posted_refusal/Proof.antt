@@ -1,3 +1,4 @@
+-- `posted_refusal` meets its contract.
 use borrow.Author.Needs.{needs}
 use Rattle.lines.proofs.Refusing.{post-low, post-high, numbers-missized, row-above, number-beyond, part-short, part-fits, row-fits}
 use Rattle.lines.proofs.posted_refusal.Statement.{statement}

@@ -1,3 +1,4 @@
+-- `read` meets its contract.
 use borrow.Author.Needs.{needs}
 use Rattle.lines.proofs.Refusing.{posts-keep, posts-one, posts-add, posts-mul}
 use Rattle.lines.proofs.Answers.{posts-line, missized-line, missized-list, sized-line, sized-list}

@@ -1,3 +1,4 @@
+-- `read_line` meets its contract.
 use borrow.Author.Needs.{needs}
 use Rattle.lines.proofs.Answers.{malformed-line, malformed-list, beyond-line, beyond-list, taken-line, taken-list, taken-fillable, taken-room}
 use Rattle.lines.proofs.read_line.Statement.{statement}

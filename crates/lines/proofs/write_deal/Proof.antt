@@ -1,3 +1,4 @@
+-- `write_deal` meets its contract.
 use borrow.Author.Needs.{needs}
 use Rattle.lines.proofs.Refusing.{posts-refuse, posts-keep, refused-answer, answer-then, list-then}
 use Rattle.lines.proofs.write_deal.Statement.{statement}

@@ -1,3 +1,4 @@
+-- `write_dealt` meets its contract.
 use borrow.Author.Needs.{needs}
 use Rattle.refusal.proofs.Endings.{refused, accepted}
 use Rattle.lines.proofs.Refusing.{deal-row, deal-line, refused-answer, written-answer}

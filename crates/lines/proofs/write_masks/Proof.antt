@@ -1,3 +1,4 @@
+-- `write_masks` meets its contract.
 use borrow.Author.Needs.{needs}
 use Rattle.lines.proofs.Refusing.{posts-refuse, posts-keep, posts-n, posts-two, posts-add, posts-mul, refused-answer, answer-then, list-then}
 use Rattle.lines.proofs.write_masks.Statement.{statement}

@@ -1,3 +1,4 @@
+-- `write_opening` meets its contract.
 use borrow.Author.Needs.{needs}
 use Rattle.lines.proofs.Refusing.{posts-refuse, posts-keep, posts-n, posts-one, posts-add, refused-answer, answer-then, list-then}
 use Rattle.lines.proofs.write_opening.Statement.{statement}

@@ -1,3 +1,4 @@
+-- `write_posted` meets its contract.
 use borrow.Author.Needs.{needs}
 use Rattle.refusal.proofs.Endings.{refused, accepted}
 use Rattle.lines.proofs.Refusing.{posted-row, posted-post, posted-room, refused-answer, written-answer}

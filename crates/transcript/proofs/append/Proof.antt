@@ -1,3 +1,4 @@
+-- `append` meets its contract.
 use borrow.Author.Needs.{needs}
 use Rattle.transcript.proofs.Segments.{appended-fits, appended-room, appended-within, appended-prefix, appended-size, appended-laid, appended}
 use Rattle.transcript.proofs.append.Statement.{statement}

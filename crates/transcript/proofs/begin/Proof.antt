@@ -1,3 +1,4 @@
+-- `begin` meets its contract.
 use borrow.Author.Needs.{needs}
 use Rattle.transcript.proofs.Feeding.{begin-is}
 use Rattle.transcript.proofs.begin.Statement.{statement}

@@ -1,3 +1,4 @@
+-- `copy` meets its contract: the first i bytes are written (`Filled`).
 use Prim.Native.Nat.{_-_}
 use lib.ListN.{length}
 use borrow.Author.Needs.{needs}

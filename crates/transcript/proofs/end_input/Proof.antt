@@ -1,3 +1,4 @@
+-- `end_input` meets its contract.
 use mathlib.Core.Path.{refl}
 use borrow.Author.Needs.{needs}
 use Rattle.transcript.proofs.Admitting.{none-open, moved-nothing, moved}

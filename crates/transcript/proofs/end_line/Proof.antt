@@ -1,3 +1,4 @@
+-- `end_line` meets its contract.
 use Rattle.opening.proofs.Fronts.{front-length}
 use borrow.Author.Needs.{needs}
 use Rattle.transcript.specs.Lines.{keptLength}

@@ -1,3 +1,4 @@
+-- `feed_chunk` meets its contract.
 use borrow.Author.Needs.{needs}
 use Rattle.transcript.proofs.Admitting.{none-open, moved-nothing, moved}
 use Rattle.transcript.proofs.feed_chunk.Statement.{statement}

@@ -1,3 +1,4 @@
+-- `least` meets its contract.
 use borrow.Author.Needs.{needs}
 use Rattle.transcript.proofs.Segments.{least-first, least-second}
 use Rattle.transcript.proofs.least.Statement.{statement}

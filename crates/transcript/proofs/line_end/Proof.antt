@@ -1,3 +1,4 @@
+-- `line_end` meets its contract: the line from i on ends where the one from `from` on does.
 use Prim.Native.Nat.{_+_, _-_}
 use mathlib.Core.Path.{_≡_}
 use lib.ListN.{length, drop}

@@ -1,3 +1,4 @@
+-- `long_size` meets its contract: the k digits so far, and those of y, are x's (`Counted`).
 use borrow.Author.Needs.{needs}
 use Rattle.transcript.proofs.Counting.{Counted, counted-start, counted-fits, counted-more, counted-end}
 use Rattle.transcript.proofs.long_size.Statement.{statement}

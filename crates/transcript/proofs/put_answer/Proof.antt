@@ -1,3 +1,4 @@
+-- `put_answer` meets its contract.
 use borrow.Author.Needs.{needs}
 use Rattle.transcript.proofs.Answering.{answer-number, answer-fields, answer-feed, answer-fits, answer-end, answer-same, answer-put}
 use Rattle.transcript.proofs.put_answer.Statement.{statement}

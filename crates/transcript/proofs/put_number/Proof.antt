@@ -1,3 +1,4 @@
+-- `put_number` meets its contract.
 use borrow.Author.Needs.{needs}
 use Rattle.transcript.proofs.Answering.{number-fits, number-room, number-end, number-put}
 use Rattle.transcript.proofs.put_number.Statement.{statement}

@@ -1,3 +1,4 @@
+-- `take_chunk` meets its contract.
 use Prim.Native.Nat.{_-_}
 use lib.ListN.{length}
 use borrow.Author.Needs.{needs}

@@ -1,3 +1,4 @@
+-- `take_end` meets its contract.
 use borrow.Author.Needs.{needs}
 use Rattle.transcript.proofs.Feeding.{none-added, close-nothing, close-line}
 use Rattle.transcript.proofs.take_end.Statement.{statement}

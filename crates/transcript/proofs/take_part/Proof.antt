@@ -1,3 +1,4 @@
+-- `take_part` meets its contract.
 use borrow.Author.Needs.{needs}
 use Rattle.transcript.proofs.Feeding.{none-added, behind-added, part-ended, part-kept, part-open, kept-fed, ended-fed}
 use Rattle.transcript.proofs.take_part.Statement.{statement}

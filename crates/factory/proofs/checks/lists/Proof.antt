@@ -1,3 +1,4 @@
+-- `checks::lists` meets its contract.
 use borrow.Author.Needs.{needs}
 use Rattle.factory.proofs.Refusals.{lists-joined}
 use Rattle.factory.proofs.checks.lists.Statement.{statement}

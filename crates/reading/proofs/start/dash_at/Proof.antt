@@ -1,3 +1,4 @@
+-- `start::dash_at` meets its contract.
 use borrow.Author.Needs.{needs}
 use Rattle.reading.proofs.Settings.{dash-past, dash-other, dash-short, dash-byte}
 use Rattle.reading.proofs.start.dash_at.Statement.{statement}

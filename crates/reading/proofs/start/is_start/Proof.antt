@@ -1,3 +1,4 @@
+-- `start::is_start` meets its contract.
 use borrow.Author.Needs.{needs}
 use Rattle.reading.proofs.Settings.{start-empty, start-other, start-bare, start-comma, start-feed}
 use Rattle.reading.proofs.start.is_start.Statement.{statement}

@@ -1,3 +1,4 @@
+-- `start::scan_own` meets its contract.
 use borrow.Author.Needs.{needs}
 use Rattle.reading.proofs.Settings.{own-no-post, own-no-point, own-settings}
 use Rattle.reading.proofs.start.scan_own.Statement.{statement}

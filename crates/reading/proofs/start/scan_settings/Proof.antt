@@ -1,3 +1,4 @@
+-- `start::scan_settings` meets its contract.
 use borrow.Author.Needs.{needs}
 use Rattle.reading.proofs.Settings.{dash-fits, settings-dash, settings-none, settings-number}
 use Rattle.reading.proofs.start.scan_settings.Statement.{statement}

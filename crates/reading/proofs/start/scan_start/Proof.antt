@@ -1,3 +1,4 @@
+-- `start::scan_start` meets its contract.
 use borrow.Author.Needs.{needs}
 use Rattle.reading.proofs.Settings.{form-none, form-number}
 use Rattle.reading.proofs.start.scan_start.Statement.{statement}

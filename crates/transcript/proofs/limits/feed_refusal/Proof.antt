@@ -1,3 +1,4 @@
+-- `limits::feed_refusal` meets its contract.
 use borrow.Author.Needs.{needs}
 use Rattle.transcript.proofs.Admitting.{line-missized, len-beyond, at-beyond, room-small, number-beyond, feed-fine}
 use Rattle.transcript.proofs.limits.feed_refusal.Statement.{statement}

@@ -1,3 +1,4 @@
+-- `limits::open_refusal` meets its contract.
 use borrow.Author.Needs.{needs}
 use Rattle.transcript.proofs.Admitting.{refusal-joined}
 use Rattle.transcript.proofs.limits.open_refusal.Statement.{statement}
