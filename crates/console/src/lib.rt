@@ -16,9 +16,9 @@ ghost use Rattle.console.specs.Serving.{Fresh, Begun, Answered, stopsAt,
 ghost use Rattle.console.specs.Notes.{noteFor};
 
 // Room for a chunk and for its answers: at most one for each byte.
-const CHUNK: usize = 4096;
+const CHUNK: usize = 2048;
 
-const ANSWER_BYTES: usize = transcript::LONGEST_ANSWER * CHUNK;
+const ANSWER_BYTES: usize = transcript::LONGEST_PRINT * CHUNK;
 
 // Nothing says that an input ends: no run uses up these turns.
 const TURNS: u64 = 1 << 51;
