@@ -113,9 +113,10 @@ finale st first zero a new old ms store text text' v r m q w =
     q ∙ pick-new (a .refusal) _ _ r ∙ ap (λ (l : List ℕ). telling (answering st a) (length (maskLine st first l))) m in
     let w' : text' ≡ overwrite 0 (maskLine st first new) text = w ∙ pick-new (a .refusal) _ _ r ∙ ap (λ (l : List ℕ). overwrite 0 (maskLine st first l) text) m in
     let line : List ℕ = maskLine st first new in
-    let said : Stepped = telling (answering st a) (length line) in
-    (ap₂ (λ (x : Stepped) (t : List ℕ). after x store t) q' w' ∙ ap (λ (l : List ℕ). record { given = said; store = store; told = l }) (laid-front line text),
-    ap₂ (λ (x : Stepped) (t : List ℕ). drop (x .told) t) q' w' ∙ laid-behind line text ∙ sym (ap (λ (x : Stepped). drop (x .told) text) q'))
+    let said : Stepped = telling (answering st a) (length line) in (
+      ap₂ (λ (x : Stepped) (t : List ℕ). after x store t) q' w' ∙ ap (λ (l : List ℕ). record { given = said; store = store; told = l }) (laid-front line text),
+      ap₂ (λ (x : Stepped) (t : List ℕ). drop (x .told) t) q' w' ∙ laid-behind line text ∙ sym (ap (λ (x : Stepped). drop (x .told) text) q'),
+    )
 finale st first (suc k) a new old ms store text text' v r m q w =
     let q' : v ≡ answering st a = q ∙ pick-old (a .refusal) k _ _ r in
     let w' : text' ≡ text = w ∙ pick-old (a .refusal) k _ _ r in

@@ -111,7 +111,15 @@ pub fn load_triple_line(state: State, store: &mut [u32], line: &[u8]) -> Stepped
 }
 
 // A sum of rows of the session.
-fn add(state: State, store: &mut [u32], dest: usize, a: usize, b: usize, scale: u32, fee: u32) -> Stepped
+fn add(
+    state: State,
+    store: &mut [u32],
+    dest: usize,
+    a: usize,
+    b: usize,
+    scale: u32,
+    fee: u32,
+) -> Stepped
     requires { ⌜ InStreet (shapeOf (state .session)) × (length (now store) ≡ storeRoom) ⌝ }
     ensures { λ r. ⌜ leaving r (now (store .exit)) ≡ calling state (now (store .entry))
         (linearAnswer (state .session) (sessionRows state (now (store .entry))) dest a b scale fee)

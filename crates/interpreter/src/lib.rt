@@ -233,7 +233,10 @@ fn posts_refusal(state: State) -> u8
 pub fn room_refusal(state: State, store: &[u32]) -> u8
     ensures { λ r. ⌜ r ≡ roomRefusal state (now (store .entry)) ⌝ }
 {
-    refusal::or_else(posts_refusal(state), refusal::size(store, store::STORE_ROOM))
+    refusal::or_else(
+        posts_refusal(state),
+        refusal::size(store, store::STORE_ROOM),
+    )
 }
 
 // 5 of the room for what an `X` prints.

@@ -39,7 +39,14 @@ fn keep(state: State, store: &mut [u32], row: usize, post: usize, coefficients: 
 }
 
 // A post's masks are kept for a triple: those of a − l in one record, those of b − l' in the other.
-fn keep_masks(state: State, store: &mut [u32], first: usize, post: usize, masks_a: &[u32], masks_b: &[u32]) -> Stepped
+fn keep_masks(
+    state: State,
+    store: &mut [u32],
+    first: usize,
+    post: usize,
+    masks_a: &[u32],
+    masks_b: &[u32],
+) -> Stepped
     requires { ⌜ InStreet (shapeOf (state .session)) × (length (now store) ≡ storeRoom) × (1 ≤ post) × (post ≤ state .session .n)
         × (length (now «masks_a») ≡ vLength (shapeOf (state .session))) × (length (now «masks_b») ≡ vLength (shapeOf (state .session))) ⌝ }
     ensures { λ r. ⌜ leaving r (now (store .exit))
@@ -54,14 +61,27 @@ fn keep_masks(state: State, store: &mut [u32], first: usize, post: usize, masks_
 }
 
 // The same of the numbers of an `M` line, half by half.
-fn keep_halves(state: State, store: &mut [u32], first: usize, post: usize, numbers: &[u32]) -> Stepped
+fn keep_halves(
+    state: State,
+    store: &mut [u32],
+    first: usize,
+    post: usize,
+    numbers: &[u32],
+) -> Stepped
     requires { ⌜ InStreet (shapeOf (state .session)) × (length (now store) ≡ storeRoom) × (1 ≤ post) × (post ≤ state .session .n)
         × (length (now numbers) ≡ masksLength (shapeOf (state .session))) ⌝ }
     ensures { λ r. ⌜ leaving r (now (store .exit)) ≡ keepHalvesStep state (now (store .entry)) first post (now (numbers .entry)) ⌝ }
 {
     let shape = state.session.shape();
     let count = shape.v_len();
-    keep_masks(state, store, first, post, &numbers[..count], &numbers[count..])
+    keep_masks(
+        state,
+        store,
+        first,
+        post,
+        &numbers[..count],
+        &numbers[count..],
+    )
 }
 
 // What a broadcast line says is done.

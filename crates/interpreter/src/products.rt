@@ -19,7 +19,13 @@ ghost use Rattle.interpreter.specs.States.{telling, leaving, after, Unto
 ghost use Rattle.interpreter.specs.Products.{toldRoom, maskLine, noMasks, masking, maskingOf, maskStep, finishing, finishStep, Tellable, answered};
 
 // The `M` line of a triple, at the start of the lent text.
-fn tell_masks(stepped: Stepped, first: usize, post: usize, masks: &[u32], text: &mut [u8]) -> Stepped
+fn tell_masks(
+    stepped: Stepped,
+    first: usize,
+    post: usize,
+    masks: &[u32],
+    text: &mut [u8],
+) -> Stepped
     requires { ⌜ (first ≤ lastTriple) × (post ≤ streetPosts) × (length (now masks) ≤ mostMasks) × (length (now text) ≡ toldRoom) ⌝ }
     ensures { λ r. ⌜ r ≡ telling stepped (length (Lines.text (Lines.masks first post (now (masks .entry))))) ⌝ }
     ensures { λ r. ⌜ now (text .exit) ≡ overwrite 0 (Lines.text (Lines.masks first post (now (masks .entry)))) (now (text .entry)) ⌝ }
@@ -30,7 +36,13 @@ fn tell_masks(stepped: Stepped, first: usize, post: usize, masks: &[u32], text: 
 }
 
 // The answer to an `X`, with its `M` line where it is not refused.
-fn answer_masks(state: State, answer: Answer, first: usize, masks: &[u32], text: &mut [u8]) -> Stepped
+fn answer_masks(
+    state: State,
+    answer: Answer,
+    first: usize,
+    masks: &[u32],
+    text: &mut [u8],
+) -> Stepped
     requires { ⌜ (length (now masks) ≤ mostMasks) × (length (now text) ≡ toldRoom) × Tellable state answer first ⌝ }
     ensures { λ r. ⌜ r ≡ answered state answer first (now (masks .entry)) ⌝ }
     ensures { λ r. ⌜ now (text .exit)
@@ -45,7 +57,15 @@ fn answer_masks(state: State, answer: Answer, first: usize, masks: &[u32], text:
 }
 
 // The masks of the triple at `first`, for the rows a and b, made in a lent list.
-fn mask(state: State, store: &[u32], a: usize, b: usize, first: usize, masks: &mut [u32], text: &mut [u8]) -> Stepped
+fn mask(
+    state: State,
+    store: &[u32],
+    a: usize,
+    b: usize,
+    first: usize,
+    masks: &mut [u32],
+    text: &mut [u8],
+) -> Stepped
     requires { ⌜ InStreet (shapeOf (state .session)) × (length (now store) ≡ storeRoom) × (now masks ≡ noMasks state)
         × (length (now text) ≡ toldRoom) ⌝ }
     ensures { λ r. ⌜ after r (now (store .entry)) (now (text .exit)) ≡ masking state (now (store .entry)) a b first ⌝ }
@@ -58,7 +78,14 @@ fn mask(state: State, store: &[u32], a: usize, b: usize, first: usize, masks: &m
 }
 
 // The same with room for the masks.
-fn mask_rows(state: State, store: &[u32], a: usize, b: usize, first: usize, text: &mut [u8]) -> Stepped
+fn mask_rows(
+    state: State,
+    store: &[u32],
+    a: usize,
+    b: usize,
+    first: usize,
+    text: &mut [u8],
+) -> Stepped
     requires { ⌜ InStreet (shapeOf (state .session)) × (length (now store) ≡ storeRoom) × (length (now text) ≡ toldRoom) ⌝ }
     ensures { λ r. ⌜ after r (now (store .entry)) (now (text .exit)) ≡ masking state (now (store .entry)) a b first ⌝ }
     ensures { λ r. ⌜ Untouched r (now (text .entry)) (now (text .exit)) ⌝ }
@@ -88,7 +115,11 @@ pub fn mask_line(state: State, store: &[u32], line: &[u8], text: &mut [u8]) -> S
     ensures { λ r. ⌜ after r (now (store .entry)) (now (text .exit)) ≡ maskStep state (now (store .entry)) (now (line .entry)) ⌝ }
     ensures { λ r. ⌜ Untouched r (now (text .entry)) (now (text .exit)) ⌝ }
 {
-    let lasts = [shape::LAST_ROW as u32, shape::LAST_ROW as u32, shape::LAST_TRIPLE as u32];
+    let lasts = [
+        shape::LAST_ROW as u32,
+        shape::LAST_ROW as u32,
+        shape::LAST_TRIPLE as u32,
+    ];
     let mut numbers = [0u32; 3];
     let refusal = reading::read(line, &lasts, &mut numbers);
     if refusal != 0 {
@@ -98,7 +129,13 @@ pub fn mask_line(state: State, store: &[u32], line: &[u8], text: &mut [u8]) -> S
 }
 
 // A triple is finished with two records.
-fn finish(state: State, store: &mut [u32], first: usize, record_a: &[u32], record_b: &[u32]) -> Stepped
+fn finish(
+    state: State,
+    store: &mut [u32],
+    first: usize,
+    record_a: &[u32],
+    record_b: &[u32],
+) -> Stepped
     requires { ⌜ InStreet (shapeOf (state .session)) × (length (now store) ≡ storeRoom) ⌝ }
     ensures { λ r. ⌜ leaving r (now (store .exit)) ≡ calling state (now (store .entry))
         (finishAnswer (state .session) (sessionRows state (now (store .entry))) first (now («record_a» .entry)) (now («record_b» .entry)))
@@ -122,7 +159,13 @@ fn copy_masks(shape: Shape, store: &[u32], same: bool, record_a: &mut [u32], rec
 }
 
 // A triple is finished with the records that are kept for it, or with empty ones, which are copied into lent lists.
-fn finish_copied(state: State, store: &mut [u32], first: usize, record_a: &mut [u32], record_b: &mut [u32]) -> Stepped
+fn finish_copied(
+    state: State,
+    store: &mut [u32],
+    first: usize,
+    record_a: &mut [u32],
+    record_b: &mut [u32],
+) -> Stepped
     requires { ⌜ InStreet (shapeOf (state .session)) × (length (now store) ≡ storeRoom)
         × (length (now «record_a») ≡ recordLength (shapeOf (state .session))) × (length (now «record_b») ≡ recordLength (shapeOf (state .session))) ⌝ }
     ensures { λ r. ⌜ leaving r (now (store .exit)) ≡ finishing state (now (store .entry)) first ⌝ }
@@ -141,7 +184,13 @@ fn finish_kept(state: State, store: &mut [u32], first: usize) -> Stepped
     let count = shape.record_len();
     let mut record_a = crate::letters::empty_record();
     let mut record_b = crate::letters::empty_record();
-    finish_copied(state, store, first, &mut record_a[..count], &mut record_b[..count])
+    finish_copied(
+        state,
+        store,
+        first,
+        &mut record_a[..count],
+        &mut record_b[..count],
+    )
 }
 
 // `F,first`.

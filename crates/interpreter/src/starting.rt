@@ -13,7 +13,11 @@ ghost use Rattle.interpreter.specs.Starting.{beginStep, startStep, early
 fn narrow(x: u64) -> u32
     ensures { λ r. ⌜ r ≡ cond (ltb x p) x p ⌝ }
 {
-    if x < (field::P as u64) { x as u32 } else { field::P }
+    if x < (field::P as u64) {
+        x as u32
+    } else {
+        field::P
+    }
 }
 
 // 1 to 4 of an `S`, or its session.

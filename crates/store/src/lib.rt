@@ -69,7 +69,14 @@ fn keep_block(blocks: &mut [u32], shape: Shape, same: bool, post: usize, coeffic
 }
 
 // The same for the record that stands at a place of the store.
-pub fn keep(store: &mut [u32], at: usize, shape: Shape, same: bool, post: usize, coefficients: &[u32])
+pub fn keep(
+    store: &mut [u32],
+    at: usize,
+    shape: Shape,
+    same: bool,
+    post: usize,
+    coefficients: &[u32],
+)
     requires { ⌜ InStreet shape × (at + recordRoom ≤ length (now store)) × (1 ≤ post) × (post ≤ shape .n)
         × (length (now coefficients) ≡ vLength shape) ⌝ }
     ensures { λ r. ⌜ now (store .exit) ≡ kept at shape same post (now (coefficients .entry)) (now (store .entry)) ⌝ }

@@ -148,7 +148,14 @@ fn end_line(feed: Feed, store: &mut [u32], line: &[u8], out: &mut [u8]) -> Feed
     let state = stepped.state;
     let number = feed.number + 1;
     let told = stepped.told;
-    let at = put_print(out, feed.at, number, stepped.refusal, stepped.value, &text[..told]);
+    let at = put_print(
+        out,
+        feed.at,
+        number,
+        stepped.refusal,
+        stepped.value,
+        &text[..told],
+    );
     Feed {
         state,
         number,
