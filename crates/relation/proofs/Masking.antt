@@ -1,14 +1,10 @@
--- The masks of all product terms: the refusal from the groups of checks that the code joins, what holds where there is none, and the
--- lent list once each term's masks are written into its part.
+-- The masks of all product terms: the refusal from the groups of checks that the code joins and what
+-- holds where there is none.
 use Prim.Native.Nat.{ℕ, zero, suc, _+_, _*_, _-_, _≤_, _<_}
 use mathlib.Core.Path.{_≡_, refl, sym, _∙_, ap, ap₂}
 use mathlib.Core.List.{List, [], _∷_, _++_}
 use native.Mathlib.Omega.{arith}
 use lib.ListN.{length, take, drop}
-use borrow.Rule.Slice.PartMut.{putMid}
-use mir.Syntax.{w64}
-use mir.Val.{Fits}
-use Rattle.lists.proofs.Parts.{put-whole}
 use Rattle.shape.specs.declared.Shape.{Shape}
 use Rattle.shape.specs.Lengths.{Valid, rowLength, masksLength}
 use Rattle.refusal.specs.Refusal.{Test, _when_, first, orElse}
@@ -39,25 +35,6 @@ pub masks-sized : (s : Session) (g : Shape) (all : Terms) (out : List ℕ) (k u 
 masks-sized s g all out k u v w eg ek eu ev ew =
     let h : u ≡ first (5 when wrongLength out (all .products * masksLength (shapeOf s)) ∷ []) = rw (ek, eg) at eu in
     chained (masksSizes s all out) tt w (cc)
-
--- the part of the lent list at place i
-module _ (g : Shape) (i size : ℕ) (out : List ℕ) (e : size ≡ masksLength g) (h : i * masksLength g + masksLength g ≤ length out)
-    (l : length out < 18446744073709551616) where
-  same : i * size ≡ i * masksLength g
-  same = ap (λ (k : ℕ). i * k) e
-
-  pub from-fits : Fits w64 (i * size)
-  from-fits = record { fits = omega (arith, same) }
-
-  pub end-fits : Fits w64 (i * size + size)
-  end-fits = record { fits = omega (arith, same, e) }
-
-  pub end-in : i * size + size ≤ length out
-  end-in = omega (arith, same, e)
-
-module _ (g : Shape) (i size : ℕ) (out : List ℕ) (e : size ≡ masksLength g) where
-  pub part-put : (x y : List ℕ) → x ≡ y → putMid (i * size) (i * size + size - i * size) out x ≡ withRow (masksLength g) i y out
-  part-put x y q = rw e (put-whole (i * masksLength g) (masksLength g) out x y q)
 
 -- the tests have numbers
 module _ (s : Session) (rows : List ℕ) (all : Terms) where

@@ -66,3 +66,7 @@ pub few : (all : Terms) → Counted all → badCount (all .count) ≡ false → 
 few all c e =
     let h = inside 1 mostTerms (all .count) e in
     record { terms-in = h .1; products-in = omega (arith, c .fewer, h .1) }
+
+-- what holds of a session's own shape holds of the shape that the code made of it
+pub same-placed : (g h : Shape) (ts : List Term) → g ≡ h → Every (Placed h) ts → Every (Placed g) ts
+same-placed g h ts e p = rw e p

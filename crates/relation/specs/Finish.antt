@@ -1,6 +1,6 @@
 -- Document 02, (v): "another finishes them and stores the sum in an empty row". Every check comes before the first write. Each product
 -- term is finished as a single product is; then the sum's row, cleared, gets each term's coefficient times its row.
-use Prim.Native.Nat.{ℕ, suc, _+_, _*_}
+use Prim.Native.Nat.{ℕ, zero, suc, _+_, _*_}
 use mathlib.Core.Bool.{not}
 use mathlib.Core.List.{List, [], _∷_, _++_}
 use lib.Dec.{eqb}
@@ -65,12 +65,17 @@ termNumberTests w rows t =
     (factorNumbers w rows (t .row) (t .second) (t .first) ++ (8 when anyBeyond (rowAt w rows (t .first + 2)) ∷ []))
 
 -- 8, of the two records of the product term at place k.
-abbrev pub recordTests : Session → List ℕ → ℕ → Term → List Test
-recordTests s blocks k t = 8 when badRecord s (recordA s blocks k) ∷ 8 when badRecord s (recordB s blocks k) ∷ []
+abbrev pub recordPair : Session → List ℕ → ℕ → List Test
+recordPair s blocks k = 8 when badRecord s (recordA s blocks k) ∷ 8 when badRecord s (recordB s blocks k) ∷ []
+
+-- 8, of the records of m product terms, from place k on.
+unfoldable pub recordTests : Session → List ℕ → ℕ → ℕ → List Test
+recordTests s blocks k zero = []
+recordTests s blocks k (suc m) = recordPair s blocks k ++ recordTests s blocks (suc k) m
 
 abbrev pub finishNumbers : Session → List ℕ → Terms → List ℕ → List Test
 finishNumbers s rows all blocks =
-    each (termNumberTests (width s) rows) (termsOf all) ++ eachAt (recordTests s blocks) 0 (factorsOf all)
+    each (termNumberTests (width s) rows) (termsOf all) ++ recordTests s blocks 0 (all .products)
 
 -- 9, of the two records of the product term at place k.
 abbrev pub openTests : Session → List ℕ → List ℕ → ℕ → Term → List Test

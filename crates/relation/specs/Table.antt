@@ -13,12 +13,12 @@ use Rattle.session.specs.declared.Session.{Session}
 use Rattle.session.specs.Sessions.{factorA, factorB}
 use Rattle.session.specs.Rows.{width, rowAt}
 use Rattle.session.specs.Checks.{noRow, noTriple, wrongMark}
-use Rattle.opening.specs.Walking.{recordLength, badRecord, tooFew}
+use Rattle.opening.specs.Walking.{recordLength, tooFew}
 use Rattle.terms.specs.declared.Term.{Term}
 use Rattle.terms.specs.Listed.{plain, productsOf, collected}
 use Rattle.relation.specs.Tests.{eachAt, each, byKind, namedTwice}
 use Rattle.relation.specs.Masks.{relationMasksRefusal}
-use Rattle.relation.specs.Finish.{recordA, recordB, termMaskA, termMaskB, relationFinishRefusal}
+use Rattle.relation.specs.Finish.{recordTests, recordA, recordB, termMaskA, termMaskB, relationFinishRefusal}
 
 -- a term's lines
 abbrev pub sixes : Term → List Test
@@ -80,7 +80,7 @@ relationFinishTable s rows ts d blocks =
     ∷ 8 when anyBeyond (rowAt (width s) rows (t .first + 2))
     ∷ []))
     ts
-    ++ eachAt (λ k t. 8 when badRecord s (recordA s blocks k) ∷ 8 when badRecord s (recordB s blocks k) ∷ []) 0 (productsOf ts))))
+    ++ recordTests s blocks 0 (length (productsOf ts)))))
     ++ eachAt
     (λ k t. 9 when tooFew s (termMaskA s rows t) (recordA s blocks k) ∷ 9 when tooFew s (termMaskB s rows t) (recordB s blocks k) ∷ [])
     0 (productsOf ts))

@@ -1,6 +1,7 @@
 -- `masks::write_mask` meets its contract.
 use borrow.Author.Needs.{needs}
-use Rattle.relation.proofs.Masking.{from-fits, end-fits, end-in, part-put}
+use Rattle.shape.specs.Lengths.{masksLength}
+use Rattle.relation.proofs.Sizes.{from-fits, end-fits, end-in, part-put}
 use Rattle.relation.proofs.masks.write_mask.Statement.{statement}
 use Rattle.relation.proofs.masks.write_mask.Tie as tie
 
@@ -9,7 +10,7 @@ ruleset steps = (needs, from-fits, end-fits, end-in, part-put)
 mul-masks-accepted : tie.Need-mul-masks-accepted
 mul-masks-accepted c =
     let a = c .before .before .before .before .before .before in
-    let h = end-in (a .args .shape) (a .args .i) _ (a .args .out .now) (c .before .before .before .masks-len .ensures) (a .pre .2) (search needs) in
+    let h = end-in (masksLength (a .args .shape)) (a .args .i) _ (a .args .out .now) (c .before .before .before .masks-len .ensures) (a .pre .2) in
     search needs
 
 pub write-mask-spec : {M : Type 1} → statement M
