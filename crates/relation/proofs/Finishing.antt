@@ -53,6 +53,11 @@ unfolding recordTests
 records-numbered s blocks k zero = tt
 records-numbered s blocks k (suc m) = records-numbered s blocks (suc k) m
 
+pub places-joined : (all : Terms) (d u v w : ℕ) → u ≡ first (each placeTests (termsOf all)) → v ≡ first (6 when noRow d ∷ []) → w ≡ orElse u v
+    → w ≡ first (finishPlaces all d)
+places-joined all d u v w eu ev ew =
+    joined (each placeTests (termsOf all)) (6 when noRow d ∷ []) (each-numbered (λ k. placeTests) place-numbered 0 (termsOf all)) u v w eu ev ew
+
 module _ (s : Session) (rows : List ℕ) (all : Terms) (d : ℕ) (blocks : List ℕ) where
   abbrev ts : List Test
   ts = each placeTests (termsOf all)
@@ -62,10 +67,6 @@ module _ (s : Session) (rows : List ℕ) (all : Terms) (d : ℕ) (blocks : List 
 
   places-numbered : Numbered (finishPlaces all d)
   places-numbered = numbered-append ts (6 when noRow d ∷ []) ts-numbered tt
-
-  pub places-joined : (u v w : ℕ) → u ≡ first (each placeTests (termsOf all)) → v ≡ first (6 when noRow d ∷ []) → w ≡ orElse u v
-      → w ≡ first (finishPlaces all d)
-  places-joined u v w eu ev ew = joined ts (6 when noRow d ∷ []) ts-numbered u v w eu ev ew
 
   abbrev remember : List Test
   remember = each (rememberTests s) (factorsOf all)

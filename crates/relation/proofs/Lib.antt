@@ -11,3 +11,6 @@ pub mod Records
 pub mod Summing
 pub mod Finishing
 pub mod Opens
+pub mod Ranks
+pub mod Tables
+pub mod Theorems

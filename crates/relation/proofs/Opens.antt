@@ -18,6 +18,7 @@ use Rattle.session.specs.Checks.{Framed, RowIn}
 use Rattle.shape.specs.Bounds.{lastRow}
 use Rattle.shape.specs.Marks.{held}
 use Rattle.session.proofs.Endings.{refused-answer, accepted-answer}
+use Rattle.opening.specs.declared.Opened.{Opened}
 use Rattle.opening.specs.Walking.{tooFew, opened, openedRow}
 use Rattle.opening.proofs.Walks.{orNine, opened-or-nine}
 use Rattle.product.specs.Finish.{withProduct}
@@ -61,7 +62,7 @@ module _ (s : Session) (rows blocks : List ℕ) where
 
   few-is : (k : ℕ) (t : Term) → orElse (openedRow s (xa t) (recordA s blocks k) .refusal) (openedRow s (xb t) (recordB s blocks k) .refusal) ≡ first (openTests s rows blocks k t)
   few-is k t =
-      ap₂ (λ a b. orElse (a .refusal) (b .refusal)) (opened-or-nine (partyOf s) (xa t) (recordA s blocks k)) (opened-or-nine (partyOf s) (xb t) (recordB s blocks k))
+      ap₂ (λ (a b : Opened). orElse (a .refusal) (b .refusal)) (opened-or-nine (partyOf s) (xa t) (recordA s blocks k)) (opened-or-nine (partyOf s) (xb t) (recordB s blocks k))
       ∙ nines (tooFew s (xa t) (recordA s blocks k)) (tooFew s (xb t) (recordB s blocks k)) (opened s (xa t) (recordA s blocks k)) (opened s (xb t) (recordB s blocks k))
 
   opened-refusal : (k : ℕ) (ts : List Term) (o : OpenedTerms)
@@ -95,11 +96,11 @@ module _ (s : Session) (rows blocks : List ℕ) where
       let f = fail-parts (openTests s rows blocks k t) (eachAt (openTests s rows blocks) (suc k) ts) a in
       let q = kept-below (suc k) ts p k (omega arith) in
       let ya : getD (openedTerms s rows blocks (suc k) ts p .«y_a») k 0 ≡ opened s (xa t) (recordA s blocks k) =
-          q .0 ∙ getD-set-same (o .«y_a») k _ 0 (omega arith) ∙ ap (λ z. z .value) (opened-or-nine (partyOf s) (xa t) (recordA s blocks k))
-          ∙ value-of (tooFew s (xa t) (recordA s blocks k)) (opened s (xa t) (recordA s blocks k)) (f .0 .0) in
+      q .0 ∙ getD-set-same (o .«y_a») k _ 0 (omega arith) ∙ ap (λ (z : Opened). z .value) (opened-or-nine (partyOf s) (xa t) (recordA s blocks k))
+      ∙ value-of (tooFew s (xa t) (recordA s blocks k)) (opened s (xa t) (recordA s blocks k)) (f .0 .0) in
       let yb : getD (openedTerms s rows blocks (suc k) ts p .«y_b») k 0 ≡ opened s (xb t) (recordB s blocks k) =
-          q .1 ∙ getD-set-same (o .«y_b») k _ 0 (omega arith) ∙ ap (λ z. z .value) (opened-or-nine (partyOf s) (xb t) (recordB s blocks k))
-          ∙ value-of (tooFew s (xb t) (recordB s blocks k)) (opened s (xb t) (recordB s blocks k)) (f .0 .1 .0) in
+      q .1 ∙ getD-set-same (o .«y_b») k _ 0 (omega arith) ∙ ap (λ (z : Opened). z .value) (opened-or-nine (partyOf s) (xb t) (recordB s blocks k))
+      ∙ value-of (tooFew s (xb t) (recordB s blocks k)) (opened s (xb t) (recordB s blocks k)) (f .0 .1 .0) in
       written (suc k) ts p (withProduct s (getD (openedTerms s rows blocks (suc k) ts p .«y_a») k 0) (getD (openedTerms s rows blocks (suc k) ts p .«y_b») k 0) (t .first) now)
       (length-set (o .«y_a») k _ ∙ la) (length-set (o .«y_b») k _ ∙ lb) (omega arith) (f .1)
       ∙ ap₂ (λ (u v : ℕ). withProducts s rows blocks (suc k) ts (withProduct s u v (t .first) now)) ya yb
@@ -193,7 +194,7 @@ module _ (s : Session) (rows : List ℕ) (all : Terms) (d : ℕ) (blocks : List 
           → out ≡ relationFinishRows s rows all d blocks
       finish-written out eo =
           let l : 0 + length (factorsOf all) ≤ mostTerms = omega (arith, length-take (all .products) (all .factors), finish-few .products-in) in
-          let w = written s rows blocks 0 (factorsOf all) unopened rows (length-replicate mostTerms 0) (length-replicate mostTerms 0) l (fails .1) in
+          let w = written s rows blocks 0 (factorsOf all) unopened rows (length-replicate {A = ℕ} mostTerms 0) (length-replicate {A = ℕ} mostTerms 0) l (fails .1) in
           accepted (o .refusal) (relationFinishRefusal s rows all d blocks) out whole rows refusal-is z
           (eo ∙ ap (λ (x : OpenedTerms). withSum s d (termsOf all) (productsWritten s (x .«y_a») (x .«y_b») 0 (factorsOf all) rows)) numbers-are
           ∙ ap (withSum s d (termsOf all)) w)

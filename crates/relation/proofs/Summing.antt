@@ -79,7 +79,7 @@ pub clear-is : (g : Shape) (rows : List ℕ) (d from w : ℕ) → from ≡ d * r
     → putMid from (from + w - from) rows x ≡ withRow (rowLength g) d (replicate (rowLength g) 0) rows
 clear-is g rows d from w ef ew z i x e =
     let q : x ≡ replicate (rowLength g) 0 =
-        e ∙ zeros (take (from + w - from) (drop from rows)) ∙ ap (λ (k : ℕ). replicate k 0) (row-wide g rows d from w ef ew z i) in
+    e ∙ zeros (take (from + w - from) (drop from rows)) ∙ ap (λ (k : ℕ). replicate k 0) (row-wide g rows d from w ef ew z i) in
     row-put g rows d from w ef ew x (replicate (rowLength g) 0) q
 
 -- the three writes, one after the other

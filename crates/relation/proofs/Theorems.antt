@@ -13,7 +13,7 @@ use Rattle.refusal.proofs.Endings.{refused, accepted}
 use Rattle.session.specs.declared.Session.{Session}
 use Rattle.session.specs.Sessions.{shapeOf, factorA, factorB, answer}
 use Rattle.session.specs.Rows.{width, rowAt}
-use Rattle.session.specs.Checks.{noRow, wrongMark}
+use Rattle.session.specs.Checks.{noRow, noTriple, wrongMark}
 use Rattle.session.proofs.Endings.{refused-answer, accepted-answer}
 use Rattle.opening.specs.Walking.{tooFew}
 use Rattle.terms.specs.declared.Term.{Term}
@@ -45,9 +45,9 @@ lawful tests o r e new new' old hn written written' before hw = record {
 six-only : (k : ℕ) (t : Term) → Only 6 (sixes t)
 six-only k t = go (plain t)
   where
-    go : (b : Bool) → Only 6 (6 when noRow (t .row) ∷ byKind b [] (6 when noRow (t .second) ∷ 6 when _ ∷ []))
+    go : (b : Bool) → Only 6 (6 when noRow (t .row) ∷ byKind b [] (6 when noRow (t .second) ∷ 6 when noTriple (t .first) ∷ []))
     go true = (refl, tt)
-    go false = (refl, refl, refl, tt)
+    go false = (refl, (refl, (refl, tt)))
 
 seven-only : (s : Session) (m k : ℕ) (t : Term) → Only 7 (sevens s m t)
 seven-only s m k t = go (plain t)
@@ -57,7 +57,7 @@ seven-only s m k t = go (plain t)
         (7 when wrongMark s (t .row) 2 ∷ 7 when wrongMark s (t .second) 2 ∷ 7 when wrongMark s (t .first) m
         ∷ 7 when wrongMark s (t .first + 1) 4 ∷ 7 when wrongMark s (t .first + 2) 4 ∷ []))
     go true = (refl, tt)
-    go false = (refl, refl, refl, refl, refl, tt)
+    go false = (refl, (refl, (refl, (refl, (refl, tt)))))
 
 -- 8, of a term's coefficient and of these rows of it
 abbrev eights : List Test → List Test → Term → List Test
@@ -74,7 +74,7 @@ eight-only one other f g k t = (refl, go (plain t))
 records-only : (s : Session) (blocks : List ℕ) (k m : ℕ) → Only 8 (recordTests s blocks k m)
 unfolding recordTests
 records-only s blocks k zero = tt
-records-only s blocks k (suc m) = (refl, refl, records-only s blocks (suc k) m)
+records-only s blocks k (suc m) = (refl, (refl, records-only s blocks (suc k) m))
 
 module _ (s : Session) (rows : List ℕ) (ts : List Term) where
   abbrev row : ℕ → Test
@@ -100,13 +100,27 @@ module _ (s : Session) (rows : List ℕ) (ts : List Term) where
       let seven = each (sevens s 3) ts ++ (7 when namedTwice (productsOf ts) ∷ []) in
       let eight = each (λ t. eights [] (four t) t) ts in
       let o7 : Only 7 seven =
-          only-append 7 (each (sevens s 3) ts) (7 when namedTwice (productsOf ts) ∷ []) (each-only 7 (λ k. sevens s 3) (seven-only s 3) 0 ts) (refl, tt) in
-      let o8 : Only 8 eight = each-only 8 (λ k t. eights [] (four t) t) (eight-only (λ t. []) four (λ t. tt) (λ t. (refl, refl, refl, refl, tt))) 0 ts in
+      only-append 7 (each (sevens s 3) ts) (7 when namedTwice (productsOf ts) ∷ []) (each-only 7 (λ k. sevens s 3) (seven-only s 3) 0 ts) (refl, tt) in
+      let o8 : Only 8 eight = each-only 8 (λ k t. eights [] (four t) t) (eight-only (λ t. []) four (λ t. tt) (λ t. (refl, (refl, (refl, (refl, tt)))))) 0 ts in
       let tail : Ranked 11 (six ++ (seven ++ eight)) =
-          ranked-group 11 6 six (seven ++ eight) (search needs) (search needs) six-all
-          (ranked-group 12 7 seven eight (search needs) (search needs) o7 (ranked-last 14 8 eight (search needs) (search needs) o8)) in
-      (search needs, search needs, (search needs, search needs, (search needs, search needs, (search needs, search needs,
-      (search needs, search needs, (search needs, search needs, (search needs, search needs, tail)))))))
+      ranked-group 11 6 six (seven ++ eight) (search needs) (search needs) six-all
+      (ranked-group 12 7 seven eight (search needs) (search needs) o7 (ranked-last 14 8 eight (search needs) (search needs) o8)) in (
+        search needs,
+        search needs,
+        (
+          search needs,
+          search needs,
+          (
+            search needs,
+            search needs,
+            (
+              search needs,
+              search needs,
+              (search needs, search needs, (search needs, search needs, (search needs, search needs, tail))),
+            ),
+          ),
+        ),
+      )
 
   finish-ranked : (d : ℕ) (blocks : List ℕ) → Ranked 0 (relationFinishTable s rows ts d blocks)
   finish-ranked d blocks =
@@ -117,25 +131,39 @@ module _ (s : Session) (rows : List ℕ) (ts : List Term) where
       let nine = eachAt (λ k t. 9 when tooFew s (termMaskA s rows t) (recordA s blocks k) ∷ 9 when tooFew s (termMaskB s rows t) (recordB s blocks k) ∷ []) 0 (productsOf ts) in
       let o6 : Only 6 sixth = only-append 6 six (6 when noRow d ∷ []) six-all (refl, tt) in
       let ok : Only 7 kept =
-          each-only 7 (λ k t. 7 when not (eqb (factorA s (t .first)) (t .row)) ∷ 7 when not (eqb (factorB s (t .first)) (t .second)) ∷ [])
-          (λ k t. (refl, refl, tt)) 0 (productsOf ts) in
+      each-only 7 (λ k t. 7 when not (eqb (factorA s (t .first)) (t .row)) ∷ 7 when not (eqb (factorB s (t .first)) (t .second)) ∷ [])
+      (λ k t. (refl, (refl, tt))) 0 (productsOf ts) in
       let o7 : Only 7 seven =
-          only-append 7 (each (sevens s 5) ts) (7 when namedTwice (productsOf ts) ∷ (kept ++ (7 when wrongMark s d 0 ∷ [])))
-          (each-only 7 (λ k. sevens s 5) (seven-only s 5) 0 ts) (refl, only-append 7 kept (7 when wrongMark s d 0 ∷ []) ok (refl, tt)) in
+      only-append 7 (each (sevens s 5) ts) (7 when namedTwice (productsOf ts) ∷ (kept ++ (7 when wrongMark s d 0 ∷ [])))
+      (each-only 7 (λ k. sevens s 5) (seven-only s 5) 0 ts) (refl, only-append 7 kept (7 when wrongMark s d 0 ∷ []) ok (refl, tt)) in
       let o8 : Only 8 eight =
-          only-append 8 (each (λ t. eights (alone t) (five t) t) ts) (recordTests s blocks 0 (length (productsOf ts)))
-          (each-only 8 (λ k t. eights (alone t) (five t) t) (eight-only alone five (λ t. (refl, tt)) (λ t. (refl, refl, refl, refl, refl, tt))) 0 ts)
-          (records-only s blocks 0 (length (productsOf ts))) in
+      only-append 8 (each (λ t. eights (alone t) (five t) t) ts) (recordTests s blocks 0 (length (productsOf ts)))
+      (each-only 8 (λ k t. eights (alone t) (five t) t) (eight-only alone five (λ t. (refl, tt)) (λ t. (refl, (refl, (refl, (refl, (refl, tt))))))) 0 ts)
+      (records-only s blocks 0 (length (productsOf ts))) in
       let o9 : Only 9 nine =
-          each-only 9 (λ k t. 9 when tooFew s (termMaskA s rows t) (recordA s blocks k) ∷ 9 when tooFew s (termMaskB s rows t) (recordB s blocks k) ∷ [])
-          (λ k t. (refl, refl, tt)) 0 (productsOf ts) in
+      each-only 9 (λ k t. 9 when tooFew s (termMaskA s rows t) (recordA s blocks k) ∷ 9 when tooFew s (termMaskB s rows t) (recordB s blocks k) ∷ [])
+      (λ k t. (refl, (refl, tt))) 0 (productsOf ts) in
       let tail : Ranked 11 (sixth ++ (seven ++ (eight ++ nine))) =
-          ranked-group 11 6 sixth (seven ++ (eight ++ nine)) (search needs) (search needs) o6
-          (ranked-group 12 7 seven (eight ++ nine) (search needs) (search needs) o7
-          (ranked-group 14 8 eight nine (search needs) (search needs) o8 (ranked-last 16 9 nine (search needs) (search needs) o9))) in
-      let whole : Ranked 11 ((sixth ++ (seven ++ eight)) ++ nine) = rw (append-assoc sixth (seven ++ eight) nine, append-assoc seven eight nine) tail in
-      (search needs, search needs, (search needs, search needs, (search needs, search needs, (search needs, search needs,
-      (search needs, search needs, (search needs, search needs, (search needs, search needs, whole)))))))
+      ranked-group 11 6 sixth (seven ++ (eight ++ nine)) (search needs) (search needs) o6
+      (ranked-group 12 7 seven (eight ++ nine) (search needs) (search needs) o7
+      (ranked-group 14 8 eight nine (search needs) (search needs) o8 (ranked-last 16 9 nine (search needs) (search needs) o9))) in
+      let whole : Ranked 11 ((sixth ++ (seven ++ eight)) ++ nine) = rw (append-assoc sixth (seven ++ eight) nine, append-assoc seven eight nine) tail in (
+        search needs,
+        search needs,
+        (
+          search needs,
+          search needs,
+          (
+            search needs,
+            search needs,
+            (
+              search needs,
+              search needs,
+              (search needs, search needs, (search needs, search needs, (search needs, search needs, whole))),
+            ),
+          ),
+        ),
+      )
 
   module _ (out : List ℕ) (z : first (relationMasksTable s rows ts out) ≡ 0) where
     masks-few : length ts ≤ mostTerms

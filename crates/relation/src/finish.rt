@@ -170,7 +170,14 @@ fn open_term(
     let place = 2 * k;
     let first = term.first as usize;
     let a = open_mask(session, rows, term.row as usize, first, blocks, place);
-    let b = open_mask(session, rows, term.second as usize, first + 1, blocks, place + 1);
+    let b = open_mask(
+        session,
+        rows,
+        term.second as usize,
+        first + 1,
+        blocks,
+        place + 1,
+    );
     keep(k, a, b, before)
 }
 
@@ -296,7 +303,10 @@ fn sizes(session: Session, all: Terms, blocks: &[u32]) -> u8
 {
     let shape = session.shape();
     let pair = 2 * shape.record_len();
-    refusal::or_else(checks::size(blocks, all.products, pair), checks::count(all.count))
+    refusal::or_else(
+        checks::size(blocks, all.products, pair),
+        checks::count(all.count),
+    )
 }
 
 // 6, of every term and of the sum's row.
@@ -347,13 +357,7 @@ fn own_refusal(session: Session, rows: &[u32], all: Terms, dest: usize, blocks: 
 }
 
 // 1 to 8; 9 is the openings'.
-fn finish_checks(
-    session: Session,
-    rows: &[u32],
-    all: Terms,
-    dest: usize,
-    blocks: &[u32],
-) -> u8
+fn finish_checks(session: Session, rows: &[u32], all: Terms, dest: usize, blocks: &[u32]) -> u8
     requires { ⌜ Counted all ⌝ }
     ensures { λ r. ⌜ r ≡ first (relationFinishChecks session (now (rows .entry)) all dest (now (blocks .entry))) ⌝ }
 {
@@ -391,13 +395,7 @@ fn write(session: Session, rows: &mut [u32], all: Terms, dest: usize, opened: Op
 }
 
 // The call, on terms by value.
-pub fn finish(
-    session: Session,
-    rows: &mut [u32],
-    all: Terms,
-    dest: usize,
-    blocks: &[u32],
-) -> Answer
+pub fn finish(session: Session, rows: &mut [u32], all: Terms, dest: usize, blocks: &[u32]) -> Answer
     requires { ⌜ Counted all ⌝ }
     ensures { λ r. ⌜ r ≡ relationFinishAnswer session (now (rows .entry)) all dest (now (blocks .entry)) ⌝ }
     ensures { λ r. ⌜ now (rows .exit) ≡ relationFinishRows session (now (rows .entry)) all dest (now (blocks .entry)) ⌝ }

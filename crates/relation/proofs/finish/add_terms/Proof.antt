@@ -27,8 +27,7 @@ add-term-requires c κs =
     let a = c .before .before .before .before .before in
     let q = c .before .before .before .loop in
     let k : length (a .args .t4 .list) ≡ mostTerms = simp length-map at (a .good .1 .1 .1 .0 .1 .1 .1 .1 .0 .1 .0 .1) in
-    let m : a .args .t4 .count ≤ length (a .args .t4 .list) = omega (arith, a .pre .2 .terms-in) in
-    (
+    let m : a .args .t4 .count ≤ length (a .args .t4 .list) = omega (arith, a .pre .2 .terms-in) in (
       framed-kept (a .args .session) (a .args .rows .now) (q .rows) (a .pre .0) (q .inv .1),
       a .pre .1,
       every-at (Placed (shapeOf (a .args .session))) (a .args .t4 .list) (a .args .t4 .count) (q .i) (search needs) m (a .pre .3),
@@ -39,12 +38,11 @@ loop-again c =
     let a = c .before .before .before .before .before .before .before .before in
     let q = c .before .before .before .before .before .before .loop in
     let k : length (a .args .t4 .list) ≡ mostTerms = simp length-map at (a .good .1 .1 .1 .0 .1 .1 .1 .1 .0 .1 .0 .1) in
-    let m : a .args .t4 .count ≤ length (a .args .t4 .list) = omega (arith, a .pre .2 .terms-in) in
-    (
+    let m : a .args .t4 .count ≤ length (a .args .t4 .list) = omega (arith, a .pre .2 .terms-in) in (
       omega arith,
       search needs,
       goes (termIn (a .args .session) (a .args .dest)) (a .args .t4 .list) (a .args .t4 .count) _ _ (q .i) _ (search needs) m
-      (c .before .before .add-term .ensures) (q .inv .2),
+          (c .before .before .add-term .ensures) (q .inv .2),
     )
 
 returns : tie.Need-returns Inv-loop μ-loop

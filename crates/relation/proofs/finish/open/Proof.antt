@@ -9,7 +9,7 @@ open-terms-requires : tie.Need-open-terms-requires
 open-terms-requires c κs =
     let a = c .before .before .before .before in
     let h = checks-allowed (a .args .session) (a .args .rows .now) (a .args .all) (a .args .dest) (a .args .blocks .now) (a .pre) _
-        (c .before .finish-checks .ensures) (c .if1 .left) in
+    (c .before .finish-checks .ensures) (c .if1 .left) in
     (h .0, h .1, h .3, h .5)
 
 pub open-spec : {M : Type 1} → statement M

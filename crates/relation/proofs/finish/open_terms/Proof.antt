@@ -32,8 +32,7 @@ open-term-requires c κs =
     let a = c .before .before .before .before .before .before in
     let q = c .before .before .loop in
     let k : length (a .args .t3 .factors) ≡ mostTerms = simp length-map at (a .good .1 .1 .0 .1 .1 .1 .1 .1 .0 .1 .0 .1) in
-    let m : a .args .t3 .products ≤ length (a .args .t3 .factors) = omega (arith, a .pre .1 .products-in) in
-    (
+    let m : a .args .t3 .products ≤ length (a .args .t3 .factors) = omega (arith, a .pre .1 .products-in) in (
       a .pre .0,
       pair-in (a .args .session) (a .args .blocks .now) (a .args .t3 .products) (q .k) (a .pre .0 .sized .valid) (a .pre .1 .products-in) (search needs) (a .pre .3),
       every-at (Factors (shapeOf (a .args .session))) (a .args .t3 .factors) (a .args .t3 .products) (q .k) (search needs) m (a .pre .2),
@@ -44,11 +43,10 @@ loop-again c =
     let a = c .before .before .before .before .before .before .before in
     let q = c .before .before .before .loop in
     let k : length (a .args .t3 .factors) ≡ mostTerms = simp length-map at (a .good .1 .1 .0 .1 .1 .1 .1 .1 .0 .1 .0 .1) in
-    let m : a .args .t3 .products ≤ length (a .args .t3 .factors) = omega (arith, a .pre .1 .products-in) in
-    (
+    let m : a .args .t3 .products ≤ length (a .args .t3 .factors) = omega (arith, a .pre .1 .products-in) in (
       omega arith,
       goes (withOpened (a .args .session) (a .args .rows .now) (a .args .blocks .now)) (a .args .t3 .factors) (a .args .t3 .products) _ _ (q .k) _
-      (search needs) m (c .open-term .ensures) (q .inv .1),
+          (search needs) m (c .open-term .ensures) (q .inv .1),
     )
 
 returns : tie.Need-returns Inv-loop μ-loop

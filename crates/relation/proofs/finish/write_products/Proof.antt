@@ -28,8 +28,7 @@ write-product-requires c κs =
     let a = c .before .before .before .before .before .before .before in
     let q = c .before .before .before .before .before .loop in
     let k : length (a .args .t3 .factors) ≡ mostTerms = simp length-map at (a .good .1 .1 .0 .1 .1 .1 .1 .1 .0 .1 .0 .1) in
-    let m : a .args .t3 .products ≤ length (a .args .t3 .factors) = omega (arith, a .pre .1 .products-in) in
-    (
+    let m : a .args .t3 .products ≤ length (a .args .t3 .factors) = omega (arith, a .pre .1 .products-in) in (
       framed-kept (a .args .session) (a .args .rows .now) (q .rows) (a .pre .0) (q .inv .1),
       every-at (Factors (shapeOf (a .args .session))) (a .args .t3 .factors) (a .args .t3 .products) (q .k) (search needs) m (a .pre .2),
     )
@@ -39,12 +38,11 @@ loop-again c =
     let a = c .before .before .before .before .before .before .before .before .before .before in
     let q = c .before .before .before .before .before .before .before .before .loop in
     let k : length (a .args .t3 .factors) ≡ mostTerms = simp length-map at (a .good .1 .1 .0 .1 .1 .1 .1 .1 .0 .1 .0 .1) in
-    let m : a .args .t3 .products ≤ length (a .args .t3 .factors) = omega (arith, a .pre .1 .products-in) in
-    (
+    let m : a .args .t3 .products ≤ length (a .args .t3 .factors) = omega (arith, a .pre .1 .products-in) in (
       omega arith,
       search needs,
       goes (productIn (a .args .session) (a .args .t4 .«y_a») (a .args .t4 .«y_b»)) (a .args .t3 .factors) (a .args .t3 .products) _ _ (q .k) _
-      (search needs) m (c .before .before .write-product .ensures) (q .inv .2),
+          (search needs) m (c .before .before .write-product .ensures) (q .inv .2),
     )
 
 returns : tie.Need-returns Inv-loop μ-loop
