@@ -1,6 +1,6 @@
 -- A triple: the packs of l and l', and behind them those of l''.
-use Prim.Native.Nat.{ℕ, _+_, _*_, _-_}
-use mathlib.Core.Path.{_≡_, _∙_, ap}
+use Prim.Native.Nat.{ℕ, _+_, _*_, _-_, _≤_}
+use mathlib.Core.Path.{_≡_, sym, _∙_, ap}
 use mathlib.Core.List.{List, _∷_, _++_, append-assoc}
 use native.Mathlib.Nat.{add-sub-cancel-left}
 use native.Mathlib.Omega.{arith}
@@ -8,86 +8,102 @@ use lib.ListN.{length, take, drop, getD, length-drop}
 use lib.Seq.{length-take-le, take-all}
 use borrow.Rule.Slice.PartMut.{putMid}
 use Rattle.field.specs.Arithmetic.{product}
-use Rattle.factory.specs.Draw.{drawLength, firstDraw, secondDraw, thirdDraw}
-use Rattle.factory.specs.Packs.{packs, packsLength, triplePacks}
-use Rattle.factory.specs.Writers.{Length, PacksRoom, Fine, FactorsRoom}
+use Rattle.shape.specs.declared.Shape.{Shape}
+use Rattle.shape.specs.Lengths.{drawLength, tripleDrawLength, packsLength}
+use Rattle.factory.specs.Draw.{firstDraw, secondDraw, thirdDraw}
+use Rattle.factory.specs.Packs.{partsFrom, packs, triplePacks}
+use Rattle.factory.specs.Writers.{PostsRoom, Fine, FactorsRoom}
 use Rattle.factory.proofs.Halves.{fronted, back, front-length, back-length, joined}
 
--- `write_factors`
-module _ (n t d s : ℕ) (points draw out : List ℕ) (room : FactorsRoom n t d s points draw out) where
+-- `write_factors`, with d drawn and w written numbers each
+module _ (s : Shape) (d w : ℕ) (points draw out : List ℕ) (room : FactorsRoom s points draw out) (ed : d ≡ drawLength s)
+    (ew : w ≡ packsLength s) where
+  pub two-drawn : d + d ≤ length draw
+  two-drawn = omega (arith, room .draws, ed)
+
   pub first-drawn : length (take d draw) ≡ d
-  first-drawn = length-take-le d draw (omega (arith, room .draws))
+  first-drawn = length-take-le d draw (omega (arith, two-drawn))
 
-  second-drawn : length (secondDraw d draw) ≡ d
-  second-drawn = length-take-le d (drop d draw) (omega (arith, room .draws, length-drop d draw))
+  second-drawn : length (take d (drop d draw)) ≡ d
+  second-drawn = length-take-le d (drop d draw) (omega (arith, two-drawn, length-drop d draw))
 
-  pub first-fine : Fine n t points (take d draw) (drawLength n (t + 1)) (take s out) (packsLength n t)
+  two-rooms : length out ≡ w + w
+  two-rooms = omega (arith, room .room, ew)
+
+  pub first-lent : length (take w out) ≡ w
+  first-lent = front-length w w out two-rooms
+
+  pub first-fine : Fine s points (take d draw) (drawLength s) (take w out) (packsLength s)
   first-fine = record {
-    few = room .few;
+    valid = room .valid;
     points-length = room .points-length;
-    draw-length = first-drawn ∙ room .drawn;
-    out-length = front-length s s out (room .room) ∙ room .written;
+    draw-length = first-drawn ∙ ed;
+    out-length = first-lent ∙ ew;
   }
 
-  module _ (ys : List ℕ) (kept : length ys ≡ length (take s out)) where
-    pub second-fine : Fine n t points (take (d + d - d) (drop d draw)) (drawLength n (t + 1)) (back s out ys) (packsLength n t)
+  module _ (ys : List ℕ) (kept : length ys ≡ length (take w out)) where
+    pub second-fine : Fine s points (take (d + d - d) (drop d draw)) (drawLength s) (back w out ys) (packsLength s)
     second-fine = record {
-      few = room .few;
+      valid = room .valid;
       points-length = room .points-length;
-      draw-length = rw (add-sub-cancel-left d d) (second-drawn ∙ room .drawn);
-      out-length = back-length s s out (room .room) ys kept ∙ room .written;
+      draw-length = rw (add-sub-cancel-left d d) (second-drawn ∙ ed);
+      out-length = back-length w w out two-rooms ys kept ∙ ew;
     }
 
-    pub factors-written : (zs : List ℕ) → ys ≡ packs n (t + 1) points (take d draw)
-        → zs ≡ packs n (t + 1) points (take (d + d - d) (drop d draw))
-        → putMid s (length (fronted s out ys) - s) (fronted s out ys) zs
-        ≡ packs n (t + 1) points (firstDraw d draw) ++ packs n (t + 1) points (secondDraw d draw)
-    factors-written zs e f = joined s s out (room .room) ys kept zs _ _ e (f ∙ rw (add-sub-cancel-left d d))
+    pub factors-written : (zs : List ℕ) → ys ≡ packs s points (take d draw) → zs ≡ packs s points (take (d + d - d) (drop d draw))
+        → putMid w (length (fronted w out ys) - w) (fronted w out ys) zs
+        ≡ packs s points (firstDraw (drawLength s) draw) ++ packs s points (secondDraw (drawLength s) draw)
+    factors-written zs e f =
+        joined w w out two-rooms ys kept zs _ _ e (f ∙ rw (add-sub-cancel-left d d))
+        ∙ ap (λ (k : ℕ). packs s points (firstDraw k draw) ++ packs s points (secondDraw k draw)) ed
 
 -- `write_triple`
-module _ (n t d s : ℕ) (points draw out : List ℕ) (fine : Fine n t points draw (3 * drawLength n (t + 1) - 1) out (3 * packsLength n t))
-    (drawn : Length d (drawLength n (t + 1))) (written : Length s (packsLength n t)) where
+module _ (s : Shape) (d w : ℕ) (points draw out : List ℕ)
+    (fine : Fine s points draw (tripleDrawLength s) out (3 * packsLength s)) (ed : d ≡ drawLength s) (ew : w ≡ packsLength s) where
   draw-length : length draw + 1 ≡ d + d + d
-  draw-length = omega (arith, fine .draw-length, drawn .value, drawn .some)
+  draw-length = omega (arith, fine .draw-length, ed)
 
-  out-length : length out ≡ s + s + s
-  out-length = omega (arith, fine .out-length, written .value)
+  out-length : length out ≡ w + w + w
+  out-length = omega (arith, fine .out-length, ew)
 
-  pub factors-lent : length (take (s + s) out) ≡ s + s
-  factors-lent = front-length (s + s) s out out-length
+  pub factors-lent : length (take (w + w) out) ≡ w + w
+  factors-lent = front-length (w + w) w out out-length
 
-  pub factors-room : FactorsRoom n t d s points draw (take (s + s) out)
+  pub third-drawn : d + d ≤ length draw
+  third-drawn = omega (arith, draw-length, ed)
+
+  pub factors-room : FactorsRoom s points draw (take (w + w) out)
   factors-room = record {
-    few = fine .few;
-    drawn = drawn .value;
-    written = written .value;
+    valid = fine .valid;
     points-length = fine .points-length;
-    draws = omega (arith, draw-length, drawn .some);
-    room = factors-lent;
+    draws = omega (arith, third-drawn, ed);
+    room = factors-lent ∙ omega (arith, ew);
   }
 
   third-is : take (length draw - (d + d)) (drop (d + d) draw) ≡ drop (d + d) draw
   third-is = take-all (length draw - (d + d)) (drop (d + d) draw) (omega (arith, length-drop (d + d) draw))
 
-  module _ (ys : List ℕ) (kept : length ys ≡ length (take (s + s) out)) where
-    pub third-room : PacksRoom (length points) t (take (length draw - (d + d)) (drop (d + d) draw)) (back (s + s) out ys)
-    third-room = rw (fine .points-length, third-is) (record {
-      narrow = fine .few .narrow;
-      drawn = omega (arith, length-drop (d + d) draw, draw-length, drawn .some, drawn .value);
-      room = back-length (s + s) s out out-length ys kept ∙ written .value;
+  third-packs : (c : ℕ) → c ≡ product (getD draw 0 0) (getD draw d 0)
+      → packs s points (c ∷ take (length draw - (d + d)) (drop (d + d) draw)) ≡ packs s points (thirdDraw d draw)
+  third-packs c f = rw (third-is, f)
+
+  module _ (ys : List ℕ) (kept : length ys ≡ length (take (w + w) out)) where
+    pub third-room : PostsRoom s 0 points (take (length draw - (d + d)) (drop (d + d) draw)) (back (w + w) out ys)
+    third-room = rw third-is (record {
+      valid = fine .valid;
+      posts = omega (arith, fine .points-length);
+      drawn = omega (arith, length-drop (d + d) draw, draw-length, ed);
+      room = rw (fine .points-length) (back-length (w + w) w out out-length ys kept ∙ ew);
     })
 
     pub triple-written : (zs : List ℕ) (c : ℕ)
-        → ys ≡ packs n (t + 1) points (firstDraw d draw) ++ packs n (t + 1) points (secondDraw d draw)
+        → ys ≡ packs s points (firstDraw (drawLength s) draw) ++ packs s points (secondDraw (drawLength s) draw)
         → c ≡ product (getD draw 0 0) (getD draw d 0)
-        → zs ≡ packs (length points) (t + 1) points (c ∷ take (length draw - (d + d)) (drop (d + d) draw))
-        → putMid (s + s) (length (fronted (s + s) out ys) - (s + s)) (fronted (s + s) out ys) zs
-        ≡ triplePacks n (t + 1) points draw
+        → zs ≡ partsFrom s (c ∷ take (length draw - (d + d)) (drop (d + d) draw)) (0 + 1) points
+        → putMid (w + w) (length (fronted (w + w) out ys) - (w + w)) (fronted (w + w) out ys) zs
+        ≡ triplePacks s points draw
     unfolding triplePacks
     triple-written zs c e f g =
-        joined (s + s) s out out-length ys kept zs _ _ e (g ∙ rw (fine .points-length, third-is, f))
-        ∙ append-assoc (packs n (t + 1) points (firstDraw d draw)) _ _
-        ∙ ap
-        (λ (m : ℕ).
-        packs n (t + 1) points (firstDraw m draw) ++ (packs n (t + 1) points (secondDraw m draw) ++ packs n (t + 1) points (thirdDraw m draw)))
-        (drawn .value)
+        joined (w + w) w out out-length ys kept zs _ _ e
+        (g ∙ third-packs c f ∙ ap (λ (k : ℕ). packs s points (thirdDraw k draw)) ed)
+        ∙ append-assoc (packs s points (firstDraw (drawLength s) draw)) _ _

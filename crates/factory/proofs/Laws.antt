@@ -1,75 +1,71 @@
 -- Laws of parts and packs, for the crates above: lengths, a post's part in the packs, and that a part holds elements.
 use Prim.Native.Nat.{ℕ, zero, suc, _+_, _*_, _-_, _≤_, _<_}
-use mathlib.Core.Path.{_≡_, refl, sym, ap}
+use mathlib.Core.Path.{_≡_, refl, sym, _∙_, ap}
 use mathlib.Core.List.{List, [], _∷_, _++_}
-use native.Mathlib.Nat.{mul-le-mul-right, suc-mul, zero-mul, mul-comm, add-comm, add-zero}
+use native.Mathlib.Nat.{suc-mul, zero-mul, add-zero}
 use native.Mathlib.Omega.{arith}
-use lib.ListN.{length, take, drop, getD, length-append}
-use lib.Seq.{take-at, drop-append-add}
-use Rattle.field.specs.Modulus.{p}
-use Rattle.field.proofs.Modular.{sum-below}
+use lib.ListN.{length, take, drop, getD, length-append, length-drop}
+use lib.Seq.{take-at, drop-append-add, length-take-le}
 use Rattle.poly.specs.Polynomial.{value}
 use Rattle.poly.specs.Counting.{Elements}
-use Rattle.poly.proofs.Bounds.{value-below}
-use Rattle.factory.specs.Draw.{polynomial, drawLength, eachFrom, eachPost, sumOf, part}
-use Rattle.factory.specs.Packs.{packsFrom, packs}
-use Rattle.factory.proofs.Parts.{polynomial-length}
+use Rattle.shape.specs.declared.Shape.{Shape}
+use Rattle.shape.specs.Lengths.{fLength, vLength, rowLength, drawLength}
+use Rattle.factory.specs.Draw.{drawnV, eachFrom, sumOf, part}
+use Rattle.factory.specs.Packs.{partsFrom, packs}
+use Rattle.factory.proofs.Turns.{block-room}
 
 length-each : (f : ℕ → ℕ) (j m : ℕ) → length (eachFrom j m f) ≡ m
 unfolding eachFrom
 length-each f j zero = refl
 length-each f j (suc m) = ap suc (length-each f (suc j) m)
 
--- polynomial i of a draw lies in it
-polynomial-room : (n k i m : ℕ) → i ≤ n → m ≡ drawLength n k → i * k + k ≤ m
-polynomial-room n k i m h e =
-    omega (arith, mul-le-mul-right k h, suc-mul n k, mul-comm k (n + 1), ap (λ (j : ℕ). j * k) (add-comm n 1))
+module _ (s : Shape) (draw : List ℕ) (drawn : length draw ≡ drawLength s) where
+  -- vj lies in the draw
+  pub drawn-room : (j : ℕ) → 1 ≤ j → j ≤ s .n → fLength s + (j - 1) * vLength s + vLength s ≤ length draw
+  drawn-room j lo hi = omega (arith, drawn, block-room (j - 1) (s .n) (vLength s) (s .n * vLength s) (omega arith) refl)
 
-module _ (n k : ℕ) (draw : List ℕ) (drawn : length draw ≡ drawLength n k) where
-  pub length-part : (i w : ℕ) → i ≤ n → length (part n k i w draw) ≡ k + 2 * n
+  length-drawn : (j : ℕ) → 1 ≤ j → j ≤ s .n → length (drawnV s draw j) ≡ vLength s
+  length-drawn j lo hi =
+      let at = fLength s + (j - 1) * vLength s in
+      length-take-le (vLength s) (drop at draw) (omega (arith, drawn-room j lo hi, length-drop at draw))
+
+  pub length-part : (i w : ℕ) → 1 ≤ i → i ≤ s .n → length (part s i w draw) ≡ rowLength s
   unfolding part
-  length-part i w h =
+  length-part i w lo hi =
       simp length-append
-      (omega (
-        arith,
-        polynomial-length k i draw (polynomial-room n k i (length draw) h drawn),
-        length-each (λ j. value (polynomial k draw j) w) 1 n,
-        length-each (sumOf k draw) 1 n,
-      ))
+      (omega (arith, length-drawn i lo hi, length-each (λ j. value (drawnV s draw j) w) 1 (s .n), length-each (sumOf s draw) 1 (s .n)))
 
-  module _ (points : List ℕ) where
-    length-packsFrom : (i m : ℕ) → i + m ≤ suc n → length (packsFrom n k points draw i m) ≡ m * (k + 2 * n)
-    unfolding packsFrom
-    length-packsFrom i zero h = sym (zero-mul (k + 2 * n))
-    length-packsFrom i (suc m) h =
-        let q : i ≤ n = omega arith in
-        rw (length-append, length-part, length-packsFrom (suc i) m (omega arith)) (omega (arith, suc-mul m (k + 2 * n)))
+  length-parts : (i : ℕ) (ws : List ℕ) → 1 ≤ i → i + length ws ≤ suc (s .n) → length (partsFrom s draw i ws) ≡ length ws * rowLength s
+  unfolding partsFrom
+  length-parts i [] lo hi = sym (zero-mul (rowLength s))
+  length-parts i (w ∷ ws) lo hi =
+      let q : i ≤ s .n = omega arith in
+      rw (length-append, length-part i w lo q, length-parts (suc i) ws (omega arith) (omega arith))
+      (omega (arith, suc-mul (length ws) (rowLength s)))
 
-    pub length-packs : length (packs n k points draw) ≡ n * (k + 2 * n)
-    length-packs = length-packsFrom 1 n (omega arith)
+  part-from : (j i : ℕ) (ws : List ℕ) → 1 ≤ i → j < length ws → i + length ws ≤ suc (s .n)
+      → take (rowLength s) (drop (j * rowLength s) (partsFrom s draw i ws)) ≡ part s (i + j) (getD ws j 0) draw
+  unfolding partsFrom
+  part-from j i [] lo h r = absurd (omega arith)
+  part-from zero i (w ∷ ws) lo h r =
+      rw (zero-mul (rowLength s), take-at (part s i w draw) _ (rowLength s) (length-part i w lo (omega arith)), add-zero i)
+  part-from (suc j) i (w ∷ ws) lo h r =
+      let e : length (part s i w draw) ≡ rowLength s = length-part i w lo (omega arith) in
+      let q : suc j * rowLength s ≡ length (part s i w draw) + j * rowLength s = omega (arith, suc-mul j (rowLength s)) in
+      let g : suc i + j ≡ i + suc j = omega arith in
+      rw (q, drop-append-add (part s i w draw) (partsFrom s draw (suc i) ws) (j * rowLength s))
+      (rw g at (part-from j (suc i) ws (omega arith) (omega arith) (omega arith)))
 
-    abbrev own : ℕ → List ℕ
-    own i = part n k i (getD points (i - 1) 0) draw
-
-    part-from : (j i m : ℕ) → j < m → i + m ≤ suc n
-        → take (k + 2 * n) (drop (j * (k + 2 * n)) (packsFrom n k points draw i m)) ≡ own (i + j)
-    unfolding packsFrom
-    part-from j i zero h r = absurd (omega arith)
-    part-from zero i (suc m) h r =
-        rw (zero-mul (k + 2 * n), take-at (own i) _ (k + 2 * n) (length-part i _ (omega arith)), add-zero i)
-    part-from (suc j) i (suc m) h r =
-        let e : length (own i) ≡ k + 2 * n = length-part i (getD points (i - 1) 0) (omega arith) in
-        let q : suc j * (k + 2 * n) ≡ length (own i) + j * (k + 2 * n) = omega (arith, suc-mul j (k + 2 * n)) in
-        let s : suc i + j ≡ i + suc j = omega arith in
-        rw (q, drop-append-add (own i) (packsFrom n k points draw (suc i) m) (j * (k + 2 * n)))
-        (rw s at (part-from j (suc i) m (omega arith) (omega arith)))
+  module _ (points : List ℕ) (posts : length points ≡ s .n) where
+    pub length-packs : length (packs s points draw) ≡ s .n * rowLength s
+    length-packs = length-parts 1 points (omega arith) (omega (arith, posts)) ∙ ap (λ (k : ℕ). k * rowLength s) posts
 
     -- post i's part stands at its place
-    pub packs-part : (i : ℕ) → 1 ≤ i → i ≤ n
-        → take (k + 2 * n) (drop ((i - 1) * (k + 2 * n)) (packs n k points draw)) ≡ part n k i (getD points (i - 1) 0) draw
+    pub packs-part : (i : ℕ) → 1 ≤ i → i ≤ s .n
+        → take (rowLength s) (drop ((i - 1) * rowLength s) (packs s points draw)) ≡ part s i (getD points (i - 1) 0) draw
     packs-part i h r =
         let e : 1 + (i - 1) ≡ i = omega arith in
-        rw e at (part-from (i - 1) 1 n (omega arith) (omega arith))
+        rw e at (part-from (i - 1) 1 points (omega arith) (omega (arith, posts)) (omega (arith, posts)))
 
 -- elements, of parts of a list and of two lists joined
 pub elements-take : (m : ℕ) (l : List ℕ) → Elements l → Elements (take m l)

@@ -1,18 +1,19 @@
--- A part, from f and from v1 to vn apart.
-use Prim.Native.Nat.{ℕ, zero, suc, _+_, _*_, _-_, _≤_}
+-- A part, from f and from v1 to vn apart, and what `write_part` makes of its list.
+use Prim.Native.Nat.{ℕ, zero, suc, _+_, _*_, _-_}
 use mathlib.Core.Path.{_≡_, refl, sym, _∙_, ap, ap₂}
-use mathlib.Core.List.{List, _∷_, _++_}
+use mathlib.Core.List.{List, [], _∷_, _++_}
 use native.Mathlib.Numerals.{add-one}
-use native.Mathlib.Nat.{suc-mul, zero-mul, add-comm}
 use native.Mathlib.Omega.{arith}
-use lib.ListN.{length, take, drop, length-drop}
-use lib.Seq.{take-at, drop-append-add, length-take-le}
+use lib.ListN.{length, take, drop}
+use lib.Seq.{take-at, drop-append-add}
 use borrow.Rule.Slice.PartMut.{putMid}
 use Rattle.poly.specs.Polynomial.{value}
-use Rattle.factory.specs.Draw.{polynomial, eachFrom, eachPost, sumOf, part}
-use Rattle.factory.specs.Writers.{checkAt, checkValues, sumAt, sums, valuesOf, PartRoom}
-use Rattle.factory.proofs.Halves.{fronted, front-length, joined}
-use Rattle.factory.proofs.Turns.{block-room}
+use Rattle.shape.specs.declared.Shape.{Shape}
+use Rattle.shape.specs.Lengths.{fLength, vLength, rowLength}
+use Rattle.factory.specs.Draw.{drawnF, drawnV, eachFrom, eachPost, sumOf, part}
+use Rattle.factory.specs.Packs.{partsFrom}
+use Rattle.factory.specs.Writers.{vOf, checkAt, checkValues, sumAt, sums, partWith, partsWith}
+use Rattle.factory.proofs.Halves.{fronted, back, front-length, back-length, joined}
 
 -- counted from the next number on
 each-next : (f g : ℕ → ℕ) → ((i : ℕ) → f (suc i) ≡ g i) → (j m : ℕ) → eachFrom (suc j) m f ≡ eachFrom j m g
@@ -20,54 +21,50 @@ unfolding eachFrom
 each-next f g h j zero = refl
 each-next f g h j (suc m) = ap₂ _∷_ (h j) (each-next f g h (suc j) m)
 
-pub polynomial-length : (k i : ℕ) (l : List ℕ) → i * k + k ≤ length l → length (polynomial k l i) ≡ k
-polynomial-length k i l h = length-take-le k (drop (i * k) l) (omega (arith, length-drop (i * k) l))
+-- f's coefficients in front of v1 to vn
+module _ (s : Shape) (f vs : List ℕ) (sized : length f ≡ fLength s) where
+  f-first : drawnF s (f ++ vs) ≡ f
+  f-first = take-at f vs (fLength s) sized
 
--- f's k coefficients in front of v1 to vn
-module _ (f vs : List ℕ) (k : ℕ) (sized : length f ≡ k) where
-  polynomial-first : polynomial k (f ++ vs) 0 ≡ f
-  polynomial-first = rw (zero-mul k) (take-at f vs k sized)
+  v-next : (j : ℕ) → drawnV s (f ++ vs) (suc j) ≡ vOf s vs j
+  v-next j =
+      let e : fLength s + (suc j - 1) * vLength s ≡ length f + j * vLength s =
+      ap₂ (λ (a b : ℕ). a + b * vLength s) (sym sized) (omega arith) in
+      ap (take (vLength s)) (ap (λ (m : ℕ). drop m (f ++ vs)) e ∙ drop-append-add f vs (j * vLength s))
 
-  polynomial-next : (j : ℕ) → polynomial k (f ++ vs) (suc j) ≡ polynomial k vs j
-  polynomial-next j =
-      ap (take k)
-      (ap (λ (m : ℕ). drop m (f ++ vs)) (suc-mul j k ∙ add-comm (j * k) k ∙ ap (λ (m : ℕ). m + j * k) (sym sized))
-      ∙ drop-append-add f vs (j * k))
-
-  check-values : (n w : ℕ) → eachPost n (λ j. value (polynomial k (f ++ vs) j) w) ≡ checkValues n k w vs
+  check-values : (w : ℕ) → eachPost (s .n) (λ j. value (drawnV s (f ++ vs) j) w) ≡ checkValues s w vs
   unfolding checkAt
-  check-values n w =
-      each-next (λ j. value (polynomial k (f ++ vs) j) w) (checkAt k w vs)
-      (λ i. ap (λ (l : List ℕ). value l w) (polynomial-next i)) 0 n
+  check-values w =
+      each-next (λ j. value (drawnV s (f ++ vs) j) w) (checkAt s w vs) (λ i. ap (λ (l : List ℕ). value l w) (v-next i)) 0 (s .n)
 
-  public-sums : (n : ℕ) → eachPost n (sumOf k (f ++ vs)) ≡ sums n k f vs
+  public-sums : eachPost (s .n) (sumOf s (f ++ vs)) ≡ sums s f vs
   unfolding sumAt
-  public-sums n =
-      each-next (sumOf k (f ++ vs)) (sumAt k f vs) (λ i. rw (polynomial-next i, polynomial-first, add-one i)) 0 n
+  public-sums = each-next (sumOf s (f ++ vs)) (sumAt s f vs) (λ i. rw (v-next i, f-first, add-one i)) 0 (s .n)
 
-  part-split : (n i w : ℕ) → part n k (suc i) w (f ++ vs) ≡ polynomial k vs i ++ (checkValues n k w vs ++ sums n k f vs)
+  part-split : (i w : ℕ) → part s (suc i) w (f ++ vs) ≡ partWith s vs (sums s f vs) i w
   unfolding part
-  part-split n i w = ap₂ _++_ (polynomial-next i) (ap₂ _++_ (check-values n w) (public-sums n))
+  part-split i w = ap₂ _++_ (v-next i) (ap₂ _++_ (check-values w) public-sums)
 
--- `write_part` wrote the coefficients of vi, and then the values
-module _ (n i w c : ℕ) (higher vs out : List ℕ) (room : PartRoom n i higher vs out) (q : List ℕ)
-    (own : q ≡ polynomial (length higher + 1) vs i) where
-  fits : length (take (length higher + 1) out) ≡ length q
-  fits =
-      front-length (length higher + 1) (n + n) out (room .room)
-      ∙ sym
-      (ap length own
-      ∙ polynomial-length (length higher + 1) i vs
-      (block-room i n (length higher + 1) (length vs) (room .post) (room .drawn)))
+  pub parts-split : (i : ℕ) (ws : List ℕ) → partsFrom s (f ++ vs) (suc i) ws ≡ partsWith s vs (sums s f vs) i ws
+  unfolding partsFrom partsWith
+  parts-split i [] = refl
+  parts-split i (w ∷ ws) = ap₂ _++_ (part-split i w) (parts-split (suc i) ws)
 
-  pub coefficients-fit : length q ≡ length (take (length higher + 1) out)
-  coefficients-fit = sym fits
+-- `write_part` writes the coefficients of vi, and then the values
+module _ (s : Shape) (k : ℕ) (out : List ℕ) (ek : k ≡ vLength s) (room : length out ≡ rowLength s) where
+  cut : length out ≡ k + (s .n + s .n)
+  cut = omega (arith, room, ek)
 
-  pub part-written : (ys zs : List ℕ) → length ys ≡ length (take (length higher + 1) out) → ys ≡ q
-      → zs ≡ valuesOf n w higher (c ∷ higher) vs
-      → putMid (length higher + 1) (length (fronted (length higher + 1) out ys) - (length higher + 1))
-      (fronted (length higher + 1) out ys) zs
-      ≡ part n (length higher + 1) (i + 1) w ((c ∷ higher) ++ vs)
-  part-written ys zs kept f g =
-      joined (length higher + 1) (n + n) out (room .room) ys kept zs _ _ (f ∙ own) g
-      ∙ sym (rw (add-one i) (part-split (c ∷ higher) vs (length higher + 1) (sym (add-one (length higher))) n i w))
+  pub coefficients-lent : length (take k out) ≡ k
+  coefficients-lent = front-length k (s .n + s .n) out cut
+
+  pub coefficients-fit : (q : List ℕ) → length q ≡ vLength s → length q ≡ length (take k out)
+  coefficients-fit q e = e ∙ sym (coefficients-lent ∙ ek)
+
+  module _ (ys : List ℕ) (kept : length ys ≡ length (take k out)) where
+    pub values-lent : length (back k out ys) ≡ s .n + s .n
+    values-lent = back-length k (s .n + s .n) out cut ys kept
+
+    pub part-written : (i w : ℕ) (vs m q zs : List ℕ) → q ≡ vOf s vs i → ys ≡ q → zs ≡ checkValues s w vs ++ m
+        → putMid k (length (fronted k out ys) - k) (fronted k out ys) zs ≡ partWith s vs m i w
+    part-written i w vs m q zs own f g = joined k (s .n + s .n) out cut ys kept zs _ _ (f ∙ own) g

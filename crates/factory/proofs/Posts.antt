@@ -1,56 +1,85 @@
 -- The turns of the loop over the posts, each of whose parts is written into its own place of one list.
 use Prim.Native.Nat.{ℕ, suc, _+_, _*_, _-_, _≤_, _<_}
-use mathlib.Core.Path.{_≡_, sym, _∙_, ap}
+use mathlib.Core.Path.{_≡_, refl, sym, _∙_, ap}
 use mathlib.Core.List.{List, _++_, append-assoc, append-nil}
 use native.Mathlib.Numerals.{add-one}
-use native.Mathlib.Nat.{suc-mul, add-sub-cancel-left, mul-le-mul-right}
+use native.Mathlib.Nat.{suc-mul, add-zero, add-sub-cancel-left, mul-le-mul-right}
 use native.Mathlib.Omega.{arith}
-use lib.ListN.{length, take, drop, getD, length-append, length-drop}
-use lib.Seq.{length-take-le, take-at, take-all}
+use mir.Syntax.{w64}
+use mir.Val.{Fits}
+use lib.ListN.{length, take, drop, getD, length-append, length-drop, drop-of-length-le}
+use lib.Seq.{length-take-le, take-at, take-all, drop-cons}
 use borrow.Rule.Slice.PartMut.{putMid, same-len-mid}
-use Rattle.factory.specs.Draw.{part}
-use Rattle.factory.specs.Packs.{packsFrom, packs}
+use Rattle.shape.specs.declared.Shape.{Shape}
+use Rattle.shape.specs.Bounds.{mostPosts, longestRow}
+use Rattle.shape.specs.Lengths.{Valid, rowLength}
+use Rattle.shape.proofs.Small.{each-small}
+use Rattle.factory.specs.Writers.{partWith, partsWith, PartsRoom}
 use Rattle.factory.proofs.Turns.{block-room}
 
--- places: post i + 1 has the w numbers from i * w on
-module _ (i n w at m : ℕ) (place : at ≡ i * w) where
-  pub end-room : i < n → m ≡ n * w → at + w ≤ m
-  end-room h e = omega (arith, block-room i n w m h e)
+-- places: the j-th post has the w numbers from j * w on
+module _ (j n w at m : ℕ) (place : at ≡ j * w) where
+  pub end-room : j < n → m ≡ n * w → at + w ≤ m
+  end-room h e = omega (arith, block-room j n w m h e)
 
-  pub next-place : at + w ≡ (i + 1) * w
-  next-place = rw (add-one i, suc-mul i w, place)
+  pub next-place : at + w ≡ (j + 1) * w
+  next-place = rw (add-one j, suc-mul j w, place)
 
-pub part-room : (l : List ℕ) (at w : ℕ) → at + w ≤ length l → length (take (at + w - at) (drop at l)) ≡ w
+-- none of them wraps
+module _ (s : Shape) (i j w at : ℕ) (points m out : List ℕ) (room : PartsRoom s i points m out) (valid : Valid s)
+    (ew : w ≡ rowLength s) (place : at ≡ j * w) (h : j < length points) where
+  small : at + w ≤ mostPosts * longestRow
+  small =
+      omega (
+        arith,
+        end-room j (s .n) w at (s .n * w) place (omega (arith, room .posts)) refl,
+        each-small s w valid (omega (arith, ew, valid .n-in, valid .t-in)),
+      )
+
+  pub end-fits : Fits w64 (at + w)
+  end-fits = record { fits = omega (arith, small) }
+
+  pub place-fits : Fits w64 (at * 4)
+  place-fits = record { fits = omega (arith, small) }
+
+part-room : (l : List ℕ) (at w : ℕ) → at + w ≤ length l → length (take (at + w - at) (drop at l)) ≡ w
 part-room l at w h =
     ap (λ (k : ℕ). length (take k (drop at l))) (add-sub-cancel-left at w)
     ∙ length-take-le w (drop at l) (omega (arith, length-drop at l))
+
+pub part-lent : (s : Shape) (l : List ℕ) (at w : ℕ) → w ≡ rowLength s → at + w ≤ length l
+    → length (take (at + w - at) (drop at l)) ≡ rowLength s
+part-lent s l at w e h = part-room l at w h ∙ e
+
+pub parts-room : (s : Shape) (i w : ℕ) (points m out : List ℕ) → PartsRoom s i points m out → w ≡ rowLength s
+    → length out ≡ length points * w
+parts-room s i w points m out r e = r .room ∙ ap (λ (k : ℕ). length points * k) (sym e)
 
 pub out-kept : (l ys : List ℕ) (a k m : ℕ) → length l ≡ m → length ys ≡ length (take k (drop a l))
     → length (putMid a k l ys) ≡ m
 out-kept l ys a k m e f = same-len-mid a k l ys f ∙ e
 
-module _ (n k : ℕ) (points draw l : List ℕ) where
-  pub posts-start : take 0 l ++ packsFrom n k points draw 1 (n - 0) ≡ packs n k points draw
-  posts-start = ap (packsFrom n k points draw 1) (omega arith)
+module _ (s : Shape) (vs m : List ℕ) (i : ℕ) (points l : List ℕ) where
+  pub posts-start : take 0 l ++ partsWith s vs m (i + 0) (drop 0 points) ≡ partsWith s vs m i points
+  posts-start = ap (λ (k : ℕ). partsWith s vs m k points) (add-zero i)
 
-  pub posts-turn : (i at w : ℕ) (ys : List ℕ) → i < n → at ≡ i * w → length l ≡ n * w
-      → take at l ++ packsFrom n k points draw (i + 1) (n - i) ≡ packs n k points draw
-      → length ys ≡ length (take (at + w - at) (drop at l)) → ys ≡ part n k (i + 1) (getD points i 0) draw
-      → take (at + w) (putMid at (at + w - at) l ys) ++ packsFrom n k points draw (i + 1 + 1) (n - (i + 1))
-      ≡ packs n k points draw
-  unfolding packsFrom
-  posts-turn i at w ys h p e inv kept f =
-      let r : at + w ≤ length l = end-room i n w at (length l) p h e in
-      let q : n - i ≡ suc (n - (i + 1)) = omega arith in
-      let s : i + 1 - 1 ≡ i = omega arith in
-      let m : length (take at l ++ ys) ≡ at + w =
+  pub posts-turn : (j at w : ℕ) (ys : List ℕ) → j < length points → at ≡ j * w → length l ≡ length points * w
+      → take at l ++ partsWith s vs m (i + j) (drop j points) ≡ partsWith s vs m i points
+      → length ys ≡ length (take (at + w - at) (drop at l)) → ys ≡ partWith s vs m (i + j) (getD points j 0)
+      → take (at + w) (putMid at (at + w - at) l ys) ++ partsWith s vs m (i + (j + 1)) (drop (j + 1) points)
+      ≡ partsWith s vs m i points
+  unfolding partsWith
+  posts-turn j at w ys h p e inv kept f =
+      let r : at + w ≤ length l = end-room j (length points) w at (length l) p h e in
+      let q : i + (j + 1) ≡ suc (i + j) = omega arith in
+      let c : length (take at l ++ ys) ≡ at + w =
       length-append (take at l) ys ∙ omega (arith, length-take-le at l (omega arith), kept, part-room l at w r) in
-      rw (← append-assoc (take at l) ys _, take-at (take at l ++ ys) _ (at + w) m, append-assoc, f, add-one (i + 1)) (rw (q, s) at inv)
+      rw (← append-assoc (take at l) ys _, take-at (take at l ++ ys) _ (at + w) c, append-assoc, f, q, add-one j)
+      (rw (drop-cons points j 0 h) at inv)
 
-  pub posts-end : (i at w : ℕ) → n ≤ i → at ≡ i * w → length l ≡ n * w
-      → take at l ++ packsFrom n k points draw (i + 1) (n - i) ≡ packs n k points draw → l ≡ packs n k points draw
-  unfolding packsFrom
-  posts-end i at w h p e inv =
-      let q : n - i ≡ 0 = omega arith in
+  pub posts-end : (j at w : ℕ) → length points ≤ j → at ≡ j * w → length l ≡ length points * w
+      → take at l ++ partsWith s vs m (i + j) (drop j points) ≡ partsWith s vs m i points → l ≡ partsWith s vs m i points
+  unfolding partsWith
+  posts-end j at w h p e inv =
       let r : length l ≤ at = omega (arith, mul-le-mul-right w h) in
-      sym (append-nil l) ∙ rw (q, take-all at l r) at inv
+      sym (append-nil l) ∙ rw (drop-of-length-le points h, take-all at l r) at inv

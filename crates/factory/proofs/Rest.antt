@@ -1,59 +1,63 @@
 -- A draw as its first number and the rest: f's further coefficients, then v1 to vn.
-use Prim.Native.Nat.{ℕ, _+_, _*_, _-_, _<_}
-use mathlib.Core.Path.{_≡_, _∙_, ap, ap₂}
+use Prim.Native.Nat.{ℕ, _+_, _*_, _-_, _≤_, _<_}
+use mathlib.Core.Path.{_≡_, sym, _∙_, ap, ap₂}
 use mathlib.Core.List.{List, [], _∷_, _++_}
 use native.Mathlib.Numerals.{add-one}
-use native.Mathlib.Nat.{mul-comm, mul-add, mul-one}
 use native.Mathlib.Omega.{arith}
 use lib.ListN.{length, take, drop, getD, length-drop, take-append-drop}
 use lib.Seq.{length-take-le, take-all}
-use Rattle.factory.specs.Draw.{drawLength}
-use Rattle.factory.specs.Packs.{packs, packsLength}
-use Rattle.factory.specs.Writers.{PartsRoom, PacksRoom, Fine}
-use Rattle.factory.proofs.Refusals.{draw-sized}
+use Rattle.shape.specs.declared.Shape.{Shape}
+use Rattle.shape.specs.Lengths.{fLength, vLength, drawLength, packsLength}
+use Rattle.factory.specs.Packs.{partsFrom, packs}
+use Rattle.factory.specs.Writers.{sums, partsWith, Higher, PostsRoom, Fine}
+use Rattle.factory.proofs.Parts.{parts-split}
 
-module _ (n t : ℕ) (rest out : List ℕ) (room : PacksRoom n t rest out) where
-  rest-length : length rest ≡ n * (t + 1) + t
-  rest-length = omega (arith, room .drawn, mul-add (t + 1) n 1, mul-one (t + 1), mul-comm (t + 1) n)
+-- `write_posts_in` cuts the rest behind f
+module _ (s : Shape) (i f : ℕ) (points rest out : List ℕ) (room : PostsRoom s i points rest out) (ef : f ≡ fLength s) where
+  rest-length : length rest ≡ (f - 1) + s .n * vLength s
+  rest-length = omega (arith, room .drawn, ef)
 
-  pub higher-length : length (take t rest) ≡ t
-  higher-length = length-take-le t rest (omega (arith, rest-length))
+  pub higher-length : length (take (f - 1) rest) ≡ f - 1
+  higher-length = length-take-le (f - 1) rest (omega (arith, rest-length))
 
-  rest-split : take (length rest - t) (drop t rest) ≡ drop t rest
-  rest-split = take-all (length rest - t) (drop t rest) (omega (arith, length-drop t rest))
+  pub higher-fits : Higher s (take (f - 1) rest)
+  higher-fits = omega (arith, higher-length, ef)
 
-  pub split-room : PartsRoom n (take t rest) (take (length rest - t) (drop t rest)) out
-  split-room = record {
-    narrow = room .narrow;
-    drawn = rw (rest-split, higher-length) (length-drop t rest ∙ omega (arith, rest-length));
-    room = rw higher-length (room .room ∙ ap (λ (m : ℕ). n * (t + 1 + m)) (omega arith));
-  }
+  rest-split : take (length rest - (f - 1)) (drop (f - 1) rest) ≡ drop (f - 1) rest
+  rest-split = take-all (length rest - (f - 1)) (drop (f - 1) rest) (omega (arith, length-drop (f - 1) rest))
 
-  pub packs-split : (points l : List ℕ) (c : ℕ)
-      → l ≡ packs n (length (take t rest) + 1) points ((c ∷ take t rest) ++ take (length rest - t) (drop t rest))
-      → l ≡ packs n (t + 1) points (c ∷ rest)
-  packs-split points l c e =
-      e
-      ∙ ap₂ (λ (k : ℕ) (r : List ℕ). packs n (k + 1) points (c ∷ r)) higher-length
-      (ap (λ (r : List ℕ). take t rest ++ r) rest-split ∙ take-append-drop t rest)
+  pub vs-drawn : length (take (length rest - (f - 1)) (drop (f - 1) rest)) ≡ s .n * vLength s
+  vs-drawn = ap length rest-split ∙ omega (arith, length-drop (f - 1) rest, rest-length)
+
+  pub posts-written : (c : ℕ) (m l : List ℕ)
+      → m ≡ sums s (c ∷ take (f - 1) rest) (take (length rest - (f - 1)) (drop (f - 1) rest))
+      → l ≡ partsWith s (take (length rest - (f - 1)) (drop (f - 1) rest)) m i points
+      → l ≡ partsFrom s (c ∷ rest) (i + 1) points
+  posts-written c m l e g =
+      let vs = take (length rest - (f - 1)) (drop (f - 1) rest) in
+      let whole : (c ∷ take (f - 1) rest) ++ vs ≡ c ∷ rest =
+      ap (λ (r : List ℕ). c ∷ (take (f - 1) rest ++ r)) rest-split ∙ ap (λ (r : List ℕ). c ∷ r) (take-append-drop (f - 1) rest) in
+      g ∙ ap (λ (k : List ℕ). partsWith s vs k i points) e
+      ∙ sym (parts-split s (c ∷ take (f - 1) rest) vs (sym (add-one _) ∙ higher-fits) i points)
+      ∙ ap₂ (λ (d : List ℕ) (j : ℕ). partsFrom s d j points) whole (sym (add-one i))
 
 -- the draw of a row, whose first number stands in it
 rest-of : (draw : List ℕ) → 0 < length draw → getD draw 0 0 ∷ take (length draw - 1) (drop 1 draw) ≡ draw
 rest-of [] h = absurd (omega arith)
 rest-of (x ∷ xs) h = ap (λ (r : List ℕ). x ∷ r) (take-all (length (x ∷ xs) - 1) xs (omega arith))
 
-module _ (n t : ℕ) (points draw out : List ℕ) (fine : Fine n t points draw (drawLength n (t + 1)) out (packsLength n t)) where
+module _ (s : Shape) (points draw out : List ℕ) (fine : Fine s points draw (drawLength s) out (packsLength s)) where
   pub some-drawn : 0 < length draw
-  some-drawn = omega (arith, fine .draw-length, draw-sized n t (fine .few) .some)
+  some-drawn = omega (arith, fine .draw-length)
 
-  pub row-room : PacksRoom (length points) t (take (length draw - 1) (drop 1 draw)) out
-  row-room = rw (fine .points-length) (record {
-    narrow = fine .few .narrow;
+  pub row-room : PostsRoom s 0 points (take (length draw - 1) (drop 1 draw)) out
+  row-room = record {
+    valid = fine .valid;
+    posts = omega (arith, fine .points-length);
     drawn = add-one _ ∙ ap length (rest-of draw some-drawn) ∙ fine .draw-length;
-    room = fine .out-length;
-  })
+    room = rw (fine .points-length) (fine .out-length);
+  }
 
-  pub row-written : (l : List ℕ)
-      → l ≡ packs (length points) (t + 1) points (getD draw 0 0 ∷ take (length draw - 1) (drop 1 draw))
-      → l ≡ packs n (t + 1) points draw
-  row-written l e = e ∙ rw (fine .points-length, rest-of draw some-drawn)
+  pub row-written : (l : List ℕ) → l ≡ partsFrom s (getD draw 0 0 ∷ take (length draw - 1) (drop 1 draw)) (0 + 1) points
+      → l ≡ packs s points draw
+  row-written l e = e ∙ ap (λ (d : List ℕ). packs s points d) (rest-of draw some-drawn)

@@ -1,8 +1,9 @@
 -- Demand 1 of the factory's calls, with document 01's table for their tests; proved in proofs/Theorems.antt.
-use Prim.Native.Nat.{ℕ, _+_}
+use Prim.Native.Nat.{ℕ}
 use mathlib.Core.Path.{_≡_}
 use mathlib.Core.List.{List}
 use Rattle.field.specs.Arithmetic.{difference}
+use Rattle.shape.specs.Lengths.{shape}
 use Rattle.refusal.specs.Refusal.{first, Keeps}
 use Rattle.factory.specs.declared.Number.{Number}
 use Rattle.factory.specs.Packs.{packs, triplePacks, factoryRowRefusal, factoryRowOut, factoryTripleRefusal, factoryTripleOut, dealerNumber}
@@ -12,11 +13,11 @@ use Rattle.factory.specs.Table.{rowTable, tripleTable, dealerTable}
 pub record FactoryLawful : Type 0 where
   pub row-refusal : (n t : ℕ) (points draw out : List ℕ) → factoryRowRefusal n t points draw out ≡ first (rowTable n t points draw out)
   pub row : (n t : ℕ) (points draw out : List ℕ)
-      → Keeps (rowTable n t points draw out) (packs n (t + 1) points draw) out (factoryRowOut n t points draw out)
+      → Keeps (rowTable n t points draw out) (packs (shape n t) points draw) out (factoryRowOut n t points draw out)
   pub triple-refusal : (n t : ℕ) (points draw out : List ℕ)
       → factoryTripleRefusal n t points draw out ≡ first (tripleTable n t points draw out)
   pub triple : (n t : ℕ) (points draw out : List ℕ)
-      → Keeps (tripleTable n t points draw out) (triplePacks n (t + 1) points draw) out (factoryTripleOut n t points draw out)
+      → Keeps (tripleTable n t points draw out) (triplePacks (shape n t) points draw) out (factoryTripleOut n t points draw out)
   pub dealer : (u constant : ℕ)
       → Keeps {A = Number} (dealerTable u constant) (record { refusal = 0; value = difference u constant })
       (record { refusal = first (dealerTable u constant); value = 0 }) (dealerNumber u constant)

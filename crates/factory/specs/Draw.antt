@@ -1,16 +1,18 @@
 -- Document 01, "From the factory": the draw of a row, and what post i gets of it.
-use Prim.Native.Nat.{ℕ, zero, suc, _+_, _*_}
+use Prim.Native.Nat.{ℕ, zero, suc, _+_, _*_, _-_}
 use mathlib.Core.List.{List, [], _∷_, _++_}
 use lib.ListN.{take, drop, getD}
 use Rattle.field.specs.Arithmetic.{sum, product}
 use Rattle.poly.specs.Polynomial.{value}
+use Rattle.shape.specs.declared.Shape.{Shape}
+use Rattle.shape.specs.Lengths.{fLength, vLength}
 
--- "t+1 coefficients of f, then t+1 for each of v1 to vn": with k coefficients, polynomial 0 is f and polynomial j is vj.
-abbrev pub polynomial : ℕ → List ℕ → ℕ → List ℕ
-polynomial k draw j = take k (drop (j * k) draw)
+-- "t+1 coefficients of f, then t+1 for each of v1 to vn"
+abbrev pub drawnF : Shape → List ℕ → List ℕ
+drawnF s draw = take (fLength s) draw
 
-abbrev pub drawLength : ℕ → ℕ → ℕ
-drawLength n k = k * (n + 1)
+abbrev pub drawnV : Shape → List ℕ → ℕ → List ℕ
+drawnV s draw j = take (vLength s) (drop (fLength s + (j - 1) * vLength s) draw)
 
 -- f j, f (j + 1), .., m of them
 unfoldable pub eachFrom : ℕ → ℕ → (ℕ → ℕ) → List ℕ
@@ -22,14 +24,14 @@ abbrev pub eachPost : ℕ → (ℕ → ℕ) → List ℕ
 eachPost n f = eachFrom 1 n f
 
 -- "mj = vj(0) + f(j)"; vj(0) is vj's constant.
-abbrev pub sumOf : ℕ → List ℕ → ℕ → ℕ
-sumOf k draw j = sum (getD (polynomial k draw j) 0 0) (value (polynomial k draw 0) j)
+abbrev pub sumOf : Shape → List ℕ → ℕ → ℕ
+sumOf s draw j = sum (getD (drawnV s draw j) 0 0) (value (drawnF s draw) j)
 
 -- Post i's row, with its check point w: "the coefficients of its own polynomial vi, constant first; the check values v1(wi) to
 -- vn(wi), its own included; the public sums m1 to mn".
-unfoldable pub part : ℕ → ℕ → ℕ → ℕ → List ℕ → List ℕ
-part n k i w draw =
-    polynomial k draw i ++ (eachPost n (λ j. value (polynomial k draw j) w) ++ eachPost n (sumOf k draw))
+unfoldable pub part : Shape → ℕ → ℕ → List ℕ → List ℕ
+part s i w draw =
+    drawnV s draw i ++ (eachPost (s .n) (λ j. value (drawnV s draw j) w) ++ eachPost (s .n) (sumOf s draw))
 
 -- "Three such draws for l, l' and l'', but the third lacks f's constant, which is f(0) of l × f(0) of l'."
 abbrev pub firstDraw : ℕ → List ℕ → List ℕ

@@ -1,37 +1,34 @@
 -- Document 01, "From the factory": the factory's calls.
-use Prim.Native.Nat.{ℕ, zero, suc, _+_, _*_, _-_}
+use Prim.Native.Nat.{ℕ, suc, _*_}
 use mathlib.Core.Bool.{Bool, false, _||_}
 use mathlib.Core.List.{List, [], _∷_, _++_}
-use lib.ListN.{getD}
 use Rattle.field.specs.Arithmetic.{difference}
+use Rattle.shape.specs.declared.Shape.{Shape}
+use Rattle.shape.specs.Lengths.{shape, drawLength, tripleDrawLength, packsLength}
 use Rattle.refusal.specs.Refusal.{Test, _when_, first, outcome}
 use Rattle.refusal.specs.Conditions.{wrongLength, beyond, anyBeyond, badPoint, postsTests}
-use Rattle.factory.specs.Draw.{drawLength, part, firstDraw, secondDraw, thirdDraw}
+use Rattle.factory.specs.Draw.{part, firstDraw, secondDraw, thirdDraw}
 use Rattle.factory.specs.declared.Number.{Number}
 
--- "each post's row is written into its own part of the lent list, post 1 first": the rows of m posts from post i on.
-unfoldable pub packsFrom : ℕ → ℕ → List ℕ → List ℕ → ℕ → ℕ → List ℕ
-packsFrom n k points draw i zero = []
-packsFrom n k points draw i (suc m) =
-    part n k i (getD points (i - 1) 0) draw ++ packsFrom n k points draw (suc i) m
+-- "each post's row is written into its own part of the lent list, post 1 first": the rows of the posts from post i on, which
+-- have these check points.
+unfoldable pub partsFrom : Shape → List ℕ → ℕ → List ℕ → List ℕ
+partsFrom s draw i [] = []
+partsFrom s draw i (w ∷ ws) = part s i w draw ++ partsFrom s draw (suc i) ws
 
-abbrev pub packs : ℕ → ℕ → List ℕ → List ℕ → List ℕ
-packs n k points draw = packsFrom n k points draw 1 n
+abbrev pub packs : Shape → List ℕ → List ℕ → List ℕ
+packs s points draw = partsFrom s draw 1 points
 
 -- "The lent list holds all posts' rows of l, then of l', then of l''."
-unfoldable pub triplePacks : ℕ → ℕ → List ℕ → List ℕ → List ℕ
-triplePacks n k points draw =
-    packs n k points (firstDraw (drawLength n k) draw)
-    ++ (packs n k points (secondDraw (drawLength n k) draw) ++ packs n k points (thirdDraw (drawLength n k) draw))
+unfoldable pub triplePacks : Shape → List ℕ → List ℕ → List ℕ
+triplePacks s points draw =
+    packs s points (firstDraw (drawLength s) draw)
+    ++ (packs s points (secondDraw (drawLength s) draw) ++ packs s points (thirdDraw (drawLength s) draw))
 
 -- 4, of every number of the list of check points as it was lent
 unfoldable pub anyBadPoint : List ℕ → Bool
 anyBadPoint [] = false
 anyBadPoint (w ∷ ws) = badPoint w || anyBadPoint ws
-
--- n rows of t+1+2n numbers
-abbrev pub packsLength : ℕ → ℕ → ℕ
-packsLength n t = n * (t + 1 + 2 * n)
 
 -- 4, then 5 for the check points, the draw and the list that is written, then 8
 abbrev pub listsTests : ℕ → List ℕ → List ℕ → ℕ → List ℕ → ℕ → List Test
@@ -47,22 +44,23 @@ abbrev pub factoryTests : ℕ → ℕ → List ℕ → List ℕ → ℕ → List
 factoryTests n t points draw drawn out written = postsTests n t ++ listsTests n points draw drawn out written
 
 abbrev pub factoryRowTests : ℕ → ℕ → List ℕ → List ℕ → List ℕ → List Test
-factoryRowTests n t points draw out = factoryTests n t points draw (drawLength n (t + 1)) out (packsLength n t)
+factoryRowTests n t points draw out = factoryTests n t points draw (drawLength (shape n t)) out (packsLength (shape n t))
 
 unfoldable pub factoryRowRefusal : ℕ → ℕ → List ℕ → List ℕ → List ℕ → ℕ
 factoryRowRefusal n t points draw out = first (factoryRowTests n t points draw out)
 
 abbrev pub factoryRowOut : ℕ → ℕ → List ℕ → List ℕ → List ℕ → List ℕ
-factoryRowOut n t points draw out = outcome (factoryRowRefusal n t points draw out) (packs n (t + 1) points draw) out
+factoryRowOut n t points draw out = outcome (factoryRowRefusal n t points draw out) (packs (shape n t) points draw) out
 
 abbrev pub factoryTripleTests : ℕ → ℕ → List ℕ → List ℕ → List ℕ → List Test
-factoryTripleTests n t points draw out = factoryTests n t points draw (3 * drawLength n (t + 1) - 1) out (3 * packsLength n t)
+factoryTripleTests n t points draw out =
+    factoryTests n t points draw (tripleDrawLength (shape n t)) out (3 * packsLength (shape n t))
 
 unfoldable pub factoryTripleRefusal : ℕ → ℕ → List ℕ → List ℕ → List ℕ → ℕ
 factoryTripleRefusal n t points draw out = first (factoryTripleTests n t points draw out)
 
 abbrev pub factoryTripleOut : ℕ → ℕ → List ℕ → List ℕ → List ℕ → List ℕ
-factoryTripleOut n t points draw out = outcome (factoryTripleRefusal n t points draw out) (triplePacks n (t + 1) points draw) out
+factoryTripleOut n t points draw out = outcome (factoryTripleRefusal n t points draw out) (triplePacks (shape n t) points draw) out
 
 -- Deal: "The dealer's number is c = u − f(0)."
 abbrev pub dealerTests : ℕ → ℕ → List Test

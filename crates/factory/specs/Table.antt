@@ -1,12 +1,12 @@
 -- Document 01's table, line by line, for the factory's calls: one flat list of numbered tests for each. proofs/Tables.antt shows
 -- that the calls' own tests are these lists.
-use Prim.Native.Nat.{ℕ, _+_, _*_, _-_}
+use Prim.Native.Nat.{ℕ, _*_, _-_}
 use mathlib.Core.Path.{_≡_}
 use mathlib.Core.List.{List, [], _∷_}
+use Rattle.shape.specs.Lengths.{shape, drawLength, tripleDrawLength, packsLength}
 use Rattle.refusal.specs.Refusal.{Test, _when_}
 use Rattle.refusal.specs.Conditions.{outside, wrongLength, beyond, anyBeyond}
-use Rattle.factory.specs.Draw.{drawLength}
-use Rattle.factory.specs.Packs.{anyBadPoint, packsLength, factoryRowTests, factoryTripleTests, dealerTests}
+use Rattle.factory.specs.Packs.{anyBadPoint, factoryRowTests, factoryTripleTests, dealerTests}
 
 abbrev pub rowTable : ℕ → ℕ → List ℕ → List ℕ → List ℕ → List Test
 rowTable n t points draw out =
@@ -14,8 +14,8 @@ rowTable n t points draw out =
     ∷ 2 when outside 1 (n - 1) t
     ∷ 4 when anyBadPoint points
     ∷ 5 when wrongLength points n
-    ∷ 5 when wrongLength draw (drawLength n (t + 1))
-    ∷ 5 when wrongLength out (packsLength n t)
+    ∷ 5 when wrongLength draw (drawLength (shape n t))
+    ∷ 5 when wrongLength out (packsLength (shape n t))
     ∷ 8 when anyBeyond draw
     ∷ []
 
@@ -25,8 +25,8 @@ tripleTable n t points draw out =
     ∷ 2 when outside 1 (n - 1) t
     ∷ 4 when anyBadPoint points
     ∷ 5 when wrongLength points n
-    ∷ 5 when wrongLength draw (3 * drawLength n (t + 1) - 1)
-    ∷ 5 when wrongLength out (3 * packsLength n t)
+    ∷ 5 when wrongLength draw (tripleDrawLength (shape n t))
+    ∷ 5 when wrongLength out (3 * packsLength (shape n t))
     ∷ 8 when anyBeyond draw
     ∷ []
 

@@ -1,80 +1,74 @@
 -- What the writers of a part are held to, and what they need of their lists.
-use Prim.Native.Nat.{ℕ, _+_, _*_, _≤_, _<_}
+use Prim.Native.Nat.{ℕ, suc, _+_, _*_, _≤_}
 use mathlib.Core.Path.{_≡_}
-use mathlib.Core.List.{List, _++_}
-use lib.ListN.{length, getD}
+use mathlib.Core.List.{List, [], _∷_, _++_}
+use lib.ListN.{length, take, drop, getD}
 use Rattle.field.specs.Arithmetic.{sum}
-use Rattle.poly.specs.Polynomial.{value}
-use Rattle.factory.specs.Draw.{polynomial, drawLength, eachFrom}
-use Rattle.factory.specs.Packs.{packsLength}
+use Rattle.poly.specs.Polynomial.{value, weighted}
+use Rattle.shape.specs.declared.Shape.{Shape}
+use Rattle.shape.specs.Lengths.{Valid, fLength, vLength, rowLength, drawLength, packsLength}
+use Rattle.factory.specs.Draw.{eachFrom}
 
--- `vs` are v1 to vm, with k coefficients each, the posts counted from 0: v1(w) to vm(w), and v1(0) + f(1) to vm(0) + f(m)
-unfoldable pub checkAt : ℕ → ℕ → List ℕ → ℕ → ℕ
-checkAt k w vs i = value (polynomial k vs i) w
+-- `vs` are v1 to vn, the posts counted from 0: their polynomials, v1(w) to vn(w), and v1(0) + f(1) to vn(0) + f(n)
+abbrev pub vOf : Shape → List ℕ → ℕ → List ℕ
+vOf s vs i = take (vLength s) (drop (i * vLength s) vs)
 
-abbrev pub checkValues : ℕ → ℕ → ℕ → List ℕ → List ℕ
-checkValues m k w vs = eachFrom 0 m (checkAt k w vs)
+unfoldable pub checkAt : Shape → ℕ → List ℕ → ℕ → ℕ
+checkAt s w vs i = value (vOf s vs i) w
 
-unfoldable pub sumAt : ℕ → List ℕ → List ℕ → ℕ → ℕ
-sumAt k f vs i = sum (getD (polynomial k vs i) 0 0) (value f (i + 1))
+unfoldable pub weighedAt : Shape → List ℕ → List ℕ → ℕ → ℕ
+weighedAt s powers vs i = weighted (vOf s vs i) powers
 
-abbrev pub sums : ℕ → ℕ → List ℕ → List ℕ → List ℕ
-sums m k f vs = eachFrom 0 m (sumAt k f vs)
+abbrev pub checkValues : Shape → ℕ → List ℕ → List ℕ
+checkValues s w vs = eachFrom 0 (s .n) (checkAt s w vs)
 
-abbrev pub valuesOf : ℕ → ℕ → List ℕ → List ℕ → List ℕ → List ℕ
-valuesOf n w higher f vs = checkValues n (length higher + 1) w vs ++ sums n (length higher + 1) f vs
+unfoldable pub sumAt : Shape → List ℕ → List ℕ → ℕ → ℕ
+sumAt s f vs i = sum (getD (vOf s vs i) 0 0) (value f (i + 1))
 
--- So few posts that a post's number is a u32, as the points are at which f is taken, and that no length overflows.
-abbrev pub Narrow : ℕ → Type 0
-Narrow n = n < 65536
+abbrev pub sums : Shape → List ℕ → List ℕ → List ℕ
+sums s f vs = eachFrom 0 (s .n) (sumAt s f vs)
 
-pub record Few (n t : ℕ) : Type 0 where
-  pub narrow : Narrow n
-  pub less : t < n
+-- The part of post i + 1, whose check point is w, with the public sums m; and the parts of the posts from there on.
+abbrev pub partWith : Shape → List ℕ → List ℕ → ℕ → ℕ → List ℕ
+partWith s vs m i w = vOf s vs i ++ (checkValues s w vs ++ m)
 
--- r is the length that is stated, which is neither 0 nor near an overflow
-pub record Length (r stated : ℕ) : Type 0 where
-  pub value : r ≡ stated
-  pub some : 0 < r
-  pub small : r < 1099511627776
+unfoldable pub partsWith : Shape → List ℕ → List ℕ → ℕ → List ℕ → List ℕ
+partsWith s vs m i [] = []
+partsWith s vs m i (w ∷ ws) = partWith s vs m i w ++ partsWith s vs m (suc i) ws
 
--- the numbers behind the coefficients: `higher` are f's coefficients behind its constant
-pub record ValuesRoom (n : ℕ) (higher vs part : List ℕ) : Type 0 where
-  pub narrow : Narrow n
-  pub drawn : length vs ≡ n * (length higher + 1)
-  pub room : length part ≡ n + n
+-- v1 to vn of a valid station, and room for the powers of a point.
+pub record Drawn (s : Shape) (vs powers : List ℕ) : Type 0 where
+  pub valid : Valid s
+  pub drawn : length vs ≡ s .n * vLength s
+  pub room : length powers ≡ vLength s
 
--- one post's part
-pub record PartRoom (n i : ℕ) (higher vs part : List ℕ) : Type 0 where
-  pub narrow : Narrow n
-  pub post : i < n
-  pub drawn : length vs ≡ n * (length higher + 1)
-  pub room : length part ≡ length higher + 1 + (n + n)
+-- `higher` are f's coefficients behind its constant
+abbrev pub Higher : Shape → List ℕ → Type 0
+Higher s higher = length higher + 1 ≡ fLength s
 
--- all posts' parts
-pub record PartsRoom (n : ℕ) (higher vs out : List ℕ) : Type 0 where
-  pub narrow : Narrow n
-  pub drawn : length vs ≡ n * (length higher + 1)
-  pub room : length out ≡ n * (length higher + 1 + (n + n))
+-- the parts of so many posts behind the first i
+pub record PartsRoom (s : Shape) (i : ℕ) (points m out : List ℕ) : Type 0 where
+  pub posts : i + length points ≤ s .n
+  pub sums : length m ≡ s .n
+  pub room : length out ≡ length points * rowLength s
 
 -- the same, where `rest` is a draw but for its first number
-pub record PacksRoom (n t : ℕ) (rest out : List ℕ) : Type 0 where
-  pub narrow : Narrow n
-  pub drawn : length rest + 1 ≡ drawLength n (t + 1)
-  pub room : length out ≡ packsLength n t
+pub record PostsRoom (s : Shape) (i : ℕ) (points rest out : List ℕ) : Type 0 where
+  pub valid : Valid s
+  pub posts : i + length points ≤ s .n
+  pub drawn : length rest + 1 ≡ drawLength s
+  pub room : length out ≡ length points * rowLength s
 
 -- what a factory call that is not refused was lent
-pub record Fine (n t : ℕ) (points draw : List ℕ) (drawn : ℕ) (out : List ℕ) (written : ℕ) : Type 0 where
-  pub few : Few n t
-  pub points-length : length points ≡ n
+pub record Fine (s : Shape) (points draw : List ℕ) (drawn : ℕ) (out : List ℕ) (written : ℕ) : Type 0 where
+  pub valid : Valid s
+  pub points-length : length points ≡ s .n
   pub draw-length : length draw ≡ drawn
   pub out-length : length out ≡ written
 
--- the packs of l and l', with d drawn and s written numbers each
-pub record FactorsRoom (n t d s : ℕ) (points draw out : List ℕ) : Type 0 where
-  pub few : Few n t
-  pub drawn : d ≡ drawLength n (t + 1)
-  pub written : s ≡ packsLength n t
-  pub points-length : length points ≡ n
-  pub draws : d + d ≤ length draw
-  pub room : length out ≡ s + s
+-- the packs of l and l'
+pub record FactorsRoom (s : Shape) (points draw out : List ℕ) : Type 0 where
+  pub valid : Valid s
+  pub points-length : length points ≡ s .n
+  pub draws : drawLength s + drawLength s ≤ length draw
+  pub room : length out ≡ packsLength s + packsLength s

@@ -3,8 +3,10 @@ ghost use mathlib.Core.Path.{_≡_};
 ghost use Rattle.factory.specs.Packs.{factoryRowRefusal, factoryRowOut, factoryTripleRefusal, factoryTripleOut, dealerNumber};
 
 mod checks;
-mod packs;
+pub mod packs;
 mod part;
+
+use shape::Shape;
 
 #[repr(C)]
 pub struct Number {
@@ -21,7 +23,8 @@ pub fn row(n: usize, t: usize, points: &[u32], draw: &[u32], out: &mut [u32]) ->
     if refusal != 0 {
         return refusal;
     }
-    packs::write_row(n, t, points, draw, out);
+    let shape = Shape { n, t };
+    packs::write_row(shape, points, draw, out);
     0
 }
 
@@ -34,7 +37,8 @@ pub fn triple(n: usize, t: usize, points: &[u32], draw: &[u32], out: &mut [u32])
     if refusal != 0 {
         return refusal;
     }
-    packs::write_triple(n, t, points, draw, out);
+    let shape = Shape { n, t };
+    packs::write_triple(shape, points, draw, out);
     0
 }
 

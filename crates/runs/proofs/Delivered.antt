@@ -9,16 +9,19 @@ use borrow.Author.Tests.{eq-eqb, ne-eqb}
 use lib.ListN.{length, take, drop, length-drop}
 use lib.Seq.{take-append-le, drop-append-le, drop-append-add}
 use Rattle.field.specs.Modulus.{p}
+use Rattle.shape.specs.declared.Shape.{Shape}
+use Rattle.shape.specs.Bounds.{rowCount}
+use Rattle.shape.specs.Lengths.{tripleDrawLength, packsLength, rowLength as shapeRow}
 use Rattle.poly.specs.Counting.{All}
 use Rattle.refusal.specs.Refusal.{first}
 use Rattle.refusal.specs.Conditions.{wrongLength, postsTests}
 use Rattle.refusal.proofs.Laws.{all-fail, not-refused}
 use Rattle.refusal.proofs.Elements.{element-test}
 use Rattle.session.specs.Rows.{rowAt}
-use Rattle.factory.specs.Packs.{packs, triplePacks, anyBadPoint, packsLength, factoryTests, factoryRowRefusal, factoryTripleRefusal}
+use Rattle.factory.specs.Packs.{packs, triplePacks, anyBadPoint, factoryTests, factoryRowRefusal, factoryTripleRefusal}
 use Rattle.factory.proofs.Laws.{length-packs, packs-part}
 use Rattle.factory.proofs.Theorems.{row-done, triple-done}
-use Rattle.runs.specs.Draws.{Plan, Draw, IsRaw, Sound, IsDraw, rowLength, pointOf, rawDraw, tripleDraw, drawA, drawB, drawAB, partOf, rawPack, triplePack}
+use Rattle.runs.specs.Draws.{Plan, planShape, Draw, IsRaw, Sound, IsDraw, rowLength, pointOf, rawDraw, tripleDraw, drawA, drawB, drawAB, partOf, rawPack, triplePack}
 use Rattle.runs.specs.Packs.{RowGiven, TripleGiven, FactoryPacks}
 use Rattle.runs.proofs.Packs.{Drawn, raw-drawn, triple-drawn, a-drawn, b-drawn, ab-drawn}
 use Rattle.runs.proofs.Lines.{elements-pass}
@@ -42,11 +45,11 @@ module _ (w m : ℕ) (a b : List ℕ) (many : length a ≡ m * w) where
       (ap (λ (k : ℕ). drop k (a ++ b)) (add-mul m j w ∙ ap (λ (k : ℕ). k + j * w) (sym many)) ∙ drop-append-add a b (j * w))
 
 module _ (plan : Plan) (draw : Draw) (sound : Sound plan) (is : IsDraw plan draw) where
-  abbrev k : ℕ
-  k = plan .t + 1
+  abbrev S : Shape
+  S = planShape plan
 
   abbrev W : ℕ
-  W = plan .t + 1 + 2 * plan .n
+  W = shapeRow S
 
   -- 1 to 8 of a factory's call
   clear : (xs : List ℕ) (many : ℕ) → Drawn many xs → (out : List ℕ) (room : ℕ) → length out ≡ room
@@ -60,14 +63,14 @@ module _ (plan : Plan) (draw : Draw) (sound : Sound plan) (is : IsDraw plan draw
       sized l m h = ap not (eq-eqb (length l) m h)
 
   module _ (xs : List ℕ) (d : Drawn (rowLength plan) xs) where
-    pack-of : (i : ℕ) → 1 ≤ i → i ≤ plan .n → rowAt W (packs (plan .n) k (draw .points) xs) (i - 1) ≡ partOf plan draw i xs
+    pack-of : (i : ℕ) → 1 ≤ i → i ≤ plan .n → rowAt W (packs S (draw .points) xs) (i - 1) ≡ partOf plan draw i xs
     unfolding pointOf
-    pack-of i lo hi = packs-part (plan .n) k xs (d .many) (draw .points) i lo hi
+    pack-of i lo hi = packs-part S xs (d .many) (draw .points) (is .posts) i lo hi
 
-    packs-many : length (packs (plan .n) k (draw .points) xs) ≡ plan .n * W
-    packs-many = length-packs (plan .n) k xs (d .many) (draw .points)
+    packs-many : length (packs S (draw .points) xs) ≡ plan .n * W
+    packs-many = length-packs S xs (d .many) (draw .points) (is .posts)
 
-  row-given : (r : ℕ) (out : List ℕ) → IsRaw (plan .raw r) → length out ≡ packsLength (plan .n) (plan .t) → RowGiven plan draw r out
+  row-given : (r : ℕ) (out : List ℕ) → IsRaw (plan .raw r) → length out ≡ packsLength S → RowGiven plan draw r out
   unfolding factoryRowRefusal rawPack
   row-given r out raw e = record {
     done = done;
@@ -80,9 +83,9 @@ module _ (plan : Plan) (draw : Draw) (sound : Sound plan) (is : IsDraw plan draw
       d = raw-drawn plan draw is r (omega (arith, sound .raws r raw)) raw
 
       done : factoryRowRefusal (plan .n) (plan .t) (draw .points) (rawDraw draw r) out ≡ 0
-      done = clear (rawDraw draw r) (rowLength plan) d out (packsLength (plan .n) (plan .t)) e
+      done = clear (rawDraw draw r) (rowLength plan) d out (packsLength S) e
 
-  triple-given : (r : ℕ) (out : List ℕ) → plan .triple r ≡ true → length out ≡ 3 * packsLength (plan .n) (plan .t) → TripleGiven plan draw r out
+  triple-given : (r : ℕ) (out : List ℕ) → plan .triple r ≡ true → length out ≡ 3 * packsLength S → TripleGiven plan draw r out
   unfolding factoryTripleRefusal triplePack triplePacks
   triple-given r out three e = record {
     done = done;
@@ -92,11 +95,11 @@ module _ (plan : Plan) (draw : Draw) (sound : Sound plan) (is : IsDraw plan draw
         ∙ ap₂ _++_ (first-is i lo hi) (ap₂ _++_ (second-is i lo hi) (third-is i lo hi));
   }
     where
-      low : r < 96
+      low : r < rowCount
       low = omega (arith, sound .triples r three)
 
       done : factoryTripleRefusal (plan .n) (plan .t) (draw .points) (tripleDraw draw r) out ≡ 0
-      done = clear (tripleDraw draw r) (3 * rowLength plan - 1) (triple-drawn plan draw is r low three) out (3 * packsLength (plan .n) (plan .t)) e
+      done = clear (tripleDraw draw r) (tripleDrawLength S) (triple-drawn plan draw is r low three) out (3 * packsLength S) e
 
       da : Drawn (rowLength plan) (drawA plan draw r)
       da = a-drawn plan draw is r low three
@@ -108,13 +111,13 @@ module _ (plan : Plan) (draw : Draw) (sound : Sound plan) (is : IsDraw plan draw
       dab = ab-drawn plan draw is r low three
 
       A : List ℕ
-      A = packs (plan .n) k (draw .points) (drawA plan draw r)
+      A = packs S (draw .points) (drawA plan draw r)
 
       B : List ℕ
-      B = packs (plan .n) k (draw .points) (drawB plan draw r)
+      B = packs S (draw .points) (drawB plan draw r)
 
       AB : List ℕ
-      AB = packs (plan .n) k (draw .points) (drawAB plan draw r)
+      AB = packs S (draw .points) (drawAB plan draw r)
 
       first-is : (i : ℕ) → 1 ≤ i → i ≤ plan .n → rowAt W (A ++ (B ++ AB)) (i - 1) ≡ partOf plan draw i (drawA plan draw r)
       first-is i lo hi =

@@ -13,7 +13,7 @@ use Rattle.field.specs.Element.{element}
 use Rattle.field.proofs.Elements.{𝓡}
 use Rattle.session.specs.declared.Session.{Session}
 use Rattle.vectors.specs.Vector.{Vector, plusTimes, raised, number, vectorOf}
-use Rattle.runs.specs.Draws.{Plan, Draw, pointOf, rawDraw, drawA, drawB, drawAB}
+use Rattle.runs.specs.Draws.{Plan, planShape, Draw, pointOf, rawDraw, drawA, drawB, drawAB}
 use Rattle.runs.specs.Outline.{Kinds, Act, loads, loadsTriple, deals, opens, Summand, once, times, fee, sums, factors, multiplies, Taking, nothingTaken, aRowPack, aTriplePack, aNumber, aRecord, twoRecords, takes, Given, Move}
 use Rattle.runs.specs.Calls.{Actual, at}
 open CommutativeRing 𝓡 using (zero as 0ᴱ)
@@ -63,16 +63,16 @@ sessionAt plan draw i M =
 
 -- the vectors of what was drawn
 abbrev pub rawVector : Plan → Draw → ℕ → Vector
-rawVector plan draw r = vectorOf (plan .t + 1) (rawDraw draw r)
+rawVector plan draw r = vectorOf (planShape plan) (rawDraw draw r)
 
 abbrev pub vectorA : Plan → Draw → ℕ → Vector
-vectorA plan draw r = vectorOf (plan .t + 1) (drawA plan draw r)
+vectorA plan draw r = vectorOf (planShape plan) (drawA plan draw r)
 
 abbrev pub vectorB : Plan → Draw → ℕ → Vector
-vectorB plan draw r = vectorOf (plan .t + 1) (drawB plan draw r)
+vectorB plan draw r = vectorOf (planShape plan) (drawB plan draw r)
 
 abbrev pub vectorAB : Plan → Draw → ℕ → Vector
-vectorAB plan draw r = vectorOf (plan .t + 1) (drawAB plan draw r)
+vectorAB plan draw r = vectorOf (planShape plan) (drawAB plan draw r)
 
 -- a − l
 abbrev pub less : Vector → Vector → Vector

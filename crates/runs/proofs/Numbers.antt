@@ -2,7 +2,7 @@
 use Prim.Native.Nat.{ℕ, _+_, _-_, _≤_, _<_}
 use mathlib.Core.Path.{_≡_, refl, sym, _∙_, ap, ap₂}
 use mathlib.Core.List.{List, [], _∷_}
-use native.Mathlib.Nat.{add-zero, mul-le-mul}
+use native.Mathlib.Nat.{add-zero}
 use native.Mathlib.Decide.{decLe}
 use native.Mathlib.Omega.{arith}
 use lib.ListN.{getD, take, drop, List·getD-eq-default}
@@ -72,7 +72,7 @@ product-number a b l l' l'' e =
 
 module _ (plan : Plan) (draw : Draw) where
   positive : 0 < rowLength plan
-  positive = mul-le-mul {n₁ = 1} {m₁ = 1} {n₂ = plan .t + 1} {m₂ = plan .n + 1} (omega arith) (omega arith)
+  positive = omega arith
 
   -- "f(0) of l × f(0) of l'"
   pub third-number : (r : ℕ) → number (vectorAB plan draw r) ≡ number (vectorA plan draw r) ⊗ number (vectorB plan draw r)

@@ -3,22 +3,23 @@ use Prim.Native.Nat.{ℕ, _+_, _*_, _-_, _≤_, _<_}
 use mathlib.Core.Path.{_≡_, refl, _∙_, ap, ap₂}
 use mathlib.Core.Bool.{Bool, true, cond}
 use mathlib.Core.List.{List, _++_}
-use native.Mathlib.Nat.{mul-le-mul}
 use native.Mathlib.Omega.{arith}
 use lib.ListN.{length, drop, length-drop}
 use lib.Seq.{length-take-le}
 use Rattle.field.specs.Element.{element}
 use Rattle.field.proofs.Modular.{product-below}
+use Rattle.shape.specs.Bounds.{rowCount}
+use Rattle.shape.specs.Lengths.{vLength, tripleDrawLength}
 use Rattle.poly.specs.Counting.{Elements}
 use Rattle.factory.proofs.Laws.{elements-take, elements-drop}
 use Rattle.vectors.specs.Vector.{Vector, rowOf, vectorOf}
 use Rattle.vectors.proofs.Draws.{part-is-row}
-use Rattle.runs.specs.Draws.{Plan, Draw, Raw, none, by, IsRaw, whenRaw, IsDraw, rowLength, pointOf, rawDraw, tripleDraw, drawA, drawB, drawAB, partOf, rawPack, triplePack}
+use Rattle.runs.specs.Draws.{Plan, planShape, Draw, Raw, none, by, IsRaw, whenRaw, IsDraw, rowLength, pointOf, rawDraw, tripleDraw, drawA, drawB, drawAB, partOf, rawPack, triplePack}
 use Rattle.runs.proofs.Marks.{rawVector, vectorA, vectorB, vectorAB}
 
 -- post i's row of a vector
 abbrev pub rowFor : Plan → Draw → ℕ → Vector → List ℕ
-rowFor plan draw i X = rowOf (plan .t + 1) (plan .n) i (element (pointOf draw i)) X
+rowFor plan draw i X = rowOf (vLength (planShape plan)) (plan .n) i (element (pointOf draw i)) X
 
 -- as many elements
 pub record Drawn (k : ℕ) (xs : List ℕ) : Type 0 where
@@ -27,12 +28,13 @@ pub record Drawn (k : ℕ) (xs : List ℕ) : Type 0 where
 
 module _ (plan : Plan) (draw : Draw) (is : IsDraw plan draw) where
   pub positive : 1 ≤ rowLength plan
-  positive = mul-le-mul {n₁ = 1} {m₁ = 1} {n₂ = plan .t + 1} {m₂ = plan .n + 1} (omega arith) (omega arith)
+  positive = omega arith
 
-  part-row : (xs : List ℕ) → Drawn (rowLength plan) xs → (i : ℕ) → i ≤ plan .n → partOf plan draw i xs ≡ rowFor plan draw i (vectorOf (plan .t + 1) xs)
-  part-row xs e i hi = part-is-row (plan .n) (plan .t + 1) xs (e .low) (e .many) (omega arith) i (pointOf draw i) hi
+  part-row : (xs : List ℕ) → Drawn (rowLength plan) xs → (i : ℕ) → 1 ≤ i → i ≤ plan .n
+      → partOf plan draw i xs ≡ rowFor plan draw i (vectorOf (planShape plan) xs)
+  part-row xs e i lo hi = part-is-row (planShape plan) xs (e .low) (e .many) i (pointOf draw i) lo hi
 
-  pub raw-drawn : (r : ℕ) → r < 96 → IsRaw (plan .raw r) → Drawn (rowLength plan) (rawDraw draw r)
+  pub raw-drawn : (r : ℕ) → r < rowCount → IsRaw (plan .raw r) → Drawn (rowLength plan) (rawDraw draw r)
   unfolding rawDraw
   raw-drawn r lr d = let e = is .raws .each r lr in record { many = e .0 ∙ go (plan .raw r) d; low = e .1 }
     where
@@ -40,13 +42,13 @@ module _ (plan : Plan) (draw : Draw) (is : IsDraw plan draw) where
       go none x = absurd x
       go (by m) x = refl
 
-  pub triple-drawn : (r : ℕ) → r < 96 → plan .triple r ≡ true → Drawn (3 * rowLength plan - 1) (tripleDraw draw r)
+  pub triple-drawn : (r : ℕ) → r < rowCount → plan .triple r ≡ true → Drawn (tripleDrawLength (planShape plan)) (tripleDraw draw r)
   unfolding tripleDraw
   triple-drawn r lr d =
       let e = is .triples .each r lr in
-      record { many = e .0 ∙ ap (λ (b : Bool). cond b (3 * rowLength plan - 1) 0) d; low = e .1 }
+      record { many = e .0 ∙ ap (λ (b : Bool). cond b (tripleDrawLength (planShape plan)) 0) d; low = e .1 }
 
-  pub a-drawn : (r : ℕ) → r < 96 → plan .triple r ≡ true → Drawn (rowLength plan) (drawA plan draw r)
+  pub a-drawn : (r : ℕ) → r < rowCount → plan .triple r ≡ true → Drawn (rowLength plan) (drawA plan draw r)
   a-drawn r lr d =
       let e = triple-drawn r lr d in
       record {
@@ -54,7 +56,7 @@ module _ (plan : Plan) (draw : Draw) (is : IsDraw plan draw) where
         low = elements-take (rowLength plan) (tripleDraw draw r) (e .low);
       }
 
-  pub b-drawn : (r : ℕ) → r < 96 → plan .triple r ≡ true → Drawn (rowLength plan) (drawB plan draw r)
+  pub b-drawn : (r : ℕ) → r < rowCount → plan .triple r ≡ true → Drawn (rowLength plan) (drawB plan draw r)
   b-drawn r lr d =
       let e = triple-drawn r lr d in
       record {
@@ -62,7 +64,7 @@ module _ (plan : Plan) (draw : Draw) (is : IsDraw plan draw) where
         low = elements-take (rowLength plan) _ (elements-drop (rowLength plan) (tripleDraw draw r) (e .low));
       }
 
-  pub ab-drawn : (r : ℕ) → r < 96 → plan .triple r ≡ true → Drawn (rowLength plan) (drawAB plan draw r)
+  pub ab-drawn : (r : ℕ) → r < rowCount → plan .triple r ≡ true → Drawn (rowLength plan) (drawAB plan draw r)
   ab-drawn r lr d =
       let e = triple-drawn r lr d in
       record {
@@ -70,15 +72,15 @@ module _ (plan : Plan) (draw : Draw) (is : IsDraw plan draw) where
         low = (product-below _ _, elements-drop (rowLength plan + rowLength plan) (tripleDraw draw r) (e .low));
       }
 
-  pub raw-pack : (r : ℕ) → r < 96 → IsRaw (plan .raw r) → (i : ℕ) → i ≤ plan .n
+  pub raw-pack : (r : ℕ) → r < rowCount → IsRaw (plan .raw r) → (i : ℕ) → 1 ≤ i → i ≤ plan .n
       → rawPack plan draw i r ≡ rowFor plan draw i (rawVector plan draw r)
   unfolding rawPack
-  raw-pack r lr d i hi = part-row (rawDraw draw r) (raw-drawn r lr d) i hi
+  raw-pack r lr d i lo hi = part-row (rawDraw draw r) (raw-drawn r lr d) i lo hi
 
-  pub triple-pack : (r : ℕ) → r < 96 → plan .triple r ≡ true → (i : ℕ) → i ≤ plan .n
+  pub triple-pack : (r : ℕ) → r < rowCount → plan .triple r ≡ true → (i : ℕ) → 1 ≤ i → i ≤ plan .n
       → triplePack plan draw i r
       ≡ rowFor plan draw i (vectorA plan draw r) ++ (rowFor plan draw i (vectorB plan draw r) ++ rowFor plan draw i (vectorAB plan draw r))
   unfolding triplePack
-  triple-pack r lr d i hi =
-      ap₂ _++_ (part-row (drawA plan draw r) (a-drawn r lr d) i hi)
-      (ap₂ _++_ (part-row (drawB plan draw r) (b-drawn r lr d) i hi) (part-row (drawAB plan draw r) (ab-drawn r lr d) i hi))
+  triple-pack r lr d i lo hi =
+      ap₂ _++_ (part-row (drawA plan draw r) (a-drawn r lr d) i lo hi)
+      (ap₂ _++_ (part-row (drawB plan draw r) (b-drawn r lr d) i lo hi) (part-row (drawAB plan draw r) (ab-drawn r lr d) i lo hi))

@@ -1,15 +1,18 @@
 -- Document 01, "What a group of posts sees": "A draw is all check points and every number drawn for a fixed choice of raw rows
 -- and triples." What each post gets of it is the factory's own definition.
-use Prim.Native.Nat.{ℕ, _+_, _*_, _-_, _≤_, _<_}
+use Prim.Native.Nat.{ℕ, _-_, _≤_, _<_}
 use mathlib.Core.Path.{_≡_}
 use mathlib.Core.Bool.{Bool, true, cond}
 use mathlib.Core.List.{List, [], _++_}
 use lib.ListN.{length, getD}
 use Rattle.field.specs.Modulus.{p}
+use Rattle.shape.specs.declared.Shape.{Shape}
+use Rattle.shape.specs.Bounds.{rowCount, lastRow, lastTriple}
+use Rattle.shape.specs.Lengths.{shape, drawLength, tripleDrawLength}
 use Rattle.poly.specs.Counting.{All, Elements}
 use Rattle.refusal.specs.Refusal.{first}
 use Rattle.refusal.specs.Conditions.{postsTests}
-use Rattle.factory.specs.Draw.{drawLength, part, firstDraw, secondDraw, thirdDraw}
+use Rattle.factory.specs.Draw.{part, firstDraw, secondDraw, thirdDraw}
 
 -- Whether a row is drawn raw, and who deals it: a post, or a number outside 1..n for someone who is no post.
 pub data Raw : Type 0 where
@@ -31,11 +34,14 @@ pub record Plan : Type 0 where
   pub raw : ℕ → Raw
   pub triple : ℕ → Bool
 
+abbrev pub planShape : Plan → Shape
+planShape plan = shape (plan .n) (plan .t)
+
 -- n and t are such that 1 and 2 refuse nothing, and what is drawn is drawn for rows of the session.
 pub record Sound (plan : Plan) : Type 0 where
   pub posts : first (postsTests (plan .n) (plan .t)) ≡ 0
-  pub raws : (r : ℕ) → IsRaw (plan .raw r) → r ≤ 95
-  pub triples : (r : ℕ) → plan .triple r ≡ true → r ≤ 93
+  pub raws : (r : ℕ) → IsRaw (plan .raw r) → r ≤ lastRow
+  pub triples : (r : ℕ) → plan .triple r ≡ true → r ≤ lastTriple
 
 -- All check points, post 1's first; for each of the 96 rows what was drawn for it raw, and what was drawn for a triple from it
 -- on; nothing where nothing was.
@@ -46,19 +52,19 @@ pub record Draw : Type 0 where
 
 -- "t+1 coefficients of f, then t+1 for each of v1 to vn"
 abbrev pub rowLength : Plan → ℕ
-rowLength plan = drawLength (plan .n) (plan .t + 1)
+rowLength plan = drawLength (planShape plan)
 
 abbrev pub rawLength : Plan → ℕ → ℕ
 rawLength plan r = whenRaw (plan .raw r) (rowLength plan) 0
 
 -- "Three such draws for l, l' and l'', but the third lacks f's constant"
 abbrev pub tripleLength : Plan → ℕ → ℕ
-tripleLength plan r = cond (plan .triple r) (3 * rowLength plan - 1) 0
+tripleLength plan r = cond (plan .triple r) (tripleDrawLength (planShape plan)) 0
 
 -- 96 lists, the r-th of `many r` elements
 pub record Lists (many : ℕ → ℕ) (ls : List (List ℕ)) : Type 0 where
-  pub count : length ls ≡ 96
-  pub each : (r : ℕ) → r < 96 → (length (getD ls r []) ≡ many r) × Elements (getD ls r [])
+  pub count : length ls ≡ rowCount
+  pub each : (r : ℕ) → r < rowCount → (length (getD ls r []) ≡ many r) × Elements (getD ls r [])
 
 -- A draw for the plan: n check points from 1 to p − 1, and elements.
 pub record IsDraw (plan : Plan) (draw : Draw) : Type 0 where
@@ -90,7 +96,7 @@ drawAB plan draw r = thirdDraw (rowLength plan) (tripleDraw draw r)
 
 -- Post i's part of a drawn row, and its packs: "its own part of drawn rows and triples".
 abbrev pub partOf : Plan → Draw → ℕ → List ℕ → List ℕ
-partOf plan draw i drawn = part (plan .n) (plan .t + 1) i (pointOf draw i) drawn
+partOf plan draw i drawn = part (planShape plan) i (pointOf draw i) drawn
 
 unfoldable pub rawPack : Plan → Draw → ℕ → ℕ → List ℕ
 rawPack plan draw i r = partOf plan draw i (rawDraw draw r)

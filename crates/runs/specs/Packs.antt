@@ -5,9 +5,10 @@ use mathlib.Core.Path.{_≡_}
 use mathlib.Core.Bool.{true}
 use mathlib.Core.List.{List, _++_}
 use lib.ListN.{length}
+use Rattle.shape.specs.Lengths.{rowLength, packsLength}
 use Rattle.session.specs.Rows.{rowAt}
-use Rattle.factory.specs.Packs.{packsLength, factoryRowRefusal, factoryRowOut, factoryTripleRefusal, factoryTripleOut}
-use Rattle.runs.specs.Draws.{Plan, Draw, IsRaw, Sound, IsDraw, rawDraw, tripleDraw, rawPack, triplePack}
+use Rattle.factory.specs.Packs.{factoryRowRefusal, factoryRowOut, factoryTripleRefusal, factoryTripleOut}
+use Rattle.runs.specs.Draws.{Plan, planShape, Draw, IsRaw, Sound, IsDraw, rawDraw, tripleDraw, rawPack, triplePack}
 
 -- The call for row r, drawn raw.
 abbrev pub rowWritten : Plan → Draw → ℕ → List ℕ → List ℕ
@@ -16,7 +17,7 @@ rowWritten plan draw r out = factoryRowOut (plan .n) (plan .t) (draw .points) (r
 pub record RowGiven (plan : Plan) (draw : Draw) (r : ℕ) (out : List ℕ) : Type 0 where
   pub done : factoryRowRefusal (plan .n) (plan .t) (draw .points) (rawDraw draw r) out ≡ 0
   pub parts : (i : ℕ) → 1 ≤ i → i ≤ plan .n
-      → rowAt (plan .t + 1 + 2 * plan .n) (rowWritten plan draw r out) (i - 1) ≡ rawPack plan draw i r
+      → rowAt (rowLength (planShape plan)) (rowWritten plan draw r out) (i - 1) ≡ rawPack plan draw i r
 
 -- The call for the triple at r: "all posts' rows of l, then of l', then of l''".
 abbrev pub tripleWritten : Plan → Draw → ℕ → List ℕ → List ℕ
@@ -25,14 +26,14 @@ tripleWritten plan draw r out = factoryTripleOut (plan .n) (plan .t) (draw .poin
 pub record TripleGiven (plan : Plan) (draw : Draw) (r : ℕ) (out : List ℕ) : Type 0 where
   pub done : factoryTripleRefusal (plan .n) (plan .t) (draw .points) (tripleDraw draw r) out ≡ 0
   pub parts : (i : ℕ) → 1 ≤ i → i ≤ plan .n
-      → rowAt (plan .t + 1 + 2 * plan .n) (tripleWritten plan draw r out) (i - 1)
-      ++ (rowAt (plan .t + 1 + 2 * plan .n) (tripleWritten plan draw r out) (plan .n + i - 1)
-      ++ rowAt (plan .t + 1 + 2 * plan .n) (tripleWritten plan draw r out) (2 * plan .n + i - 1))
+      → rowAt (rowLength (planShape plan)) (tripleWritten plan draw r out) (i - 1)
+      ++ (rowAt (rowLength (planShape plan)) (tripleWritten plan draw r out) (plan .n + i - 1)
+      ++ rowAt (rowLength (planShape plan)) (tripleWritten plan draw r out) (2 * plan .n + i - 1))
       ≡ triplePack plan draw i r
 
 -- Whatever stands in the lent list, which has the length that the call asks for.
 abbrev pub FactoryPacks : Type 0
 FactoryPacks =
     (plan : Plan) (draw : Draw) → Sound plan → IsDraw plan draw
-    → ((r : ℕ) (out : List ℕ) → IsRaw (plan .raw r) → length out ≡ packsLength (plan .n) (plan .t) → RowGiven plan draw r out)
-    × ((r : ℕ) (out : List ℕ) → plan .triple r ≡ true → length out ≡ 3 * packsLength (plan .n) (plan .t) → TripleGiven plan draw r out)
+    → ((r : ℕ) (out : List ℕ) → IsRaw (plan .raw r) → length out ≡ packsLength (planShape plan) → RowGiven plan draw r out)
+    × ((r : ℕ) (out : List ℕ) → plan .triple r ≡ true → length out ≡ 3 * packsLength (planShape plan) → TripleGiven plan draw r out)

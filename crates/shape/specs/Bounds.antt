@@ -26,3 +26,13 @@ longestRow = 3 * mostPosts
 -- and the most coefficients of a v
 abbrev pub longestV : ℕ
 longestV = mostPosts
+
+-- Ours: stations of so few posts get smaller rooms, for their rows and their v's. No answer depends on it.
+abbrev pub fewPosts : ℕ
+fewPosts = 32
+
+abbrev pub shortRow : ℕ
+shortRow = 3 * fewPosts
+
+abbrev pub shortV : ℕ
+shortV = fewPosts

@@ -17,6 +17,12 @@ pub const LAST_TRIPLE: usize = ROWS - 3;
 pub const LONGEST_ROW: usize = 3 * MOST_POSTS;
 // The most coefficients of a v.
 pub const LONGEST_V: usize = MOST_POSTS;
+// Stations of so few posts get smaller rooms, for their rows and their v's.
+pub const FEW_POSTS: usize = 32;
+
+pub const SHORT_ROW: usize = 3 * FEW_POSTS;
+
+pub const SHORT_V: usize = FEW_POSTS;
 
 // The marks of rows.
 pub const EMPTY: u8 = 0;

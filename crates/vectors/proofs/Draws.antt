@@ -1,8 +1,8 @@
 -- What the factory writes for a post is its row of the draw's vector.
-use Prim.Native.Nat.{ℕ, zero, suc, _+_, _*_, _≤_, _<_}
+use Prim.Native.Nat.{ℕ, zero, suc, _+_, _*_, _-_, _≤_, _<_}
 use mathlib.Core.Path.{_≡_, refl, sym, _∙_, ap, ap₂, fun-ext}
 use mathlib.Core.List.{List, [], _∷_, _++_}
-use native.Mathlib.Nat.{add-zero, suc-mul, mul-comm, mul-le-mul, le-refl, zero-mul}
+use native.Mathlib.Nat.{add-zero}
 use native.Mathlib.Omega.{arith}
 use lib.Dec.{lit<}
 use lib.ListN.{length, take, drop, getD}
@@ -18,7 +18,10 @@ use Rattle.poly.specs.Polynomial.{value, elementValue}
 use Rattle.poly.specs.Counting.{Elements}
 use Rattle.poly.proofs.Bounds.{value-below}
 use Rattle.poly.proofs.Numbers.{toElements, elements-value}
-use Rattle.factory.specs.Draw.{polynomial, drawLength, eachFrom, sumOf, part}
+use Rattle.shape.specs.declared.Shape.{Shape}
+use Rattle.shape.specs.Lengths.{fLength, vLength, drawLength}
+use Rattle.factory.specs.Draw.{drawnF, drawnV, eachFrom, sumOf, part}
+use Rattle.factory.proofs.Laws.{drawn-room}
 use Rattle.vectors.specs.Vector.{Vector, firsts, numbers, valueAt, checkOf, sumAt, rowOf, vectorOf}
 use Rattle.vectors.proofs.Linear.{sum-number}
 open CommutativeRing 𝓡 using (add as _⊕_, zero as 0ᴱ)
@@ -65,51 +68,53 @@ slice-numbers (suc k) a xs e h =
     next : (i : ℕ) → suc a + i ≡ a + suc i
     next i = omega arith
 
-module _ (n k : ℕ) (draw : List ℕ) (low : Elements draw) (size : length draw ≡ drawLength n k) (positive : 1 ≤ k) where
-  room : (j : ℕ) → j ≤ n → j * k + k ≤ length draw
-  room j h = omega (arith, size, suc-mul j k, mul-comm k (n + 1), mul-le-mul {n₁ = suc j} {m₁ = k} {n₂ = n + 1} {m₂ = k} (omega arith) (le-refl k))
+module _ (s : Shape) (draw : List ℕ) (low : Elements draw) (size : length draw ≡ drawLength s) where
+  abbrev S : Vector
+  S = vectorOf s draw
 
-  pub polynomial-numbers : (j : ℕ) → j ≤ n → polynomial k draw j ≡ numbers k (λ i. element (getD draw (j * k + i) 0))
-  polynomial-numbers j h = slice-numbers k (j * k) draw low (room j h)
+  f-numbers : drawnF s draw ≡ numbers (fLength s) (S .f)
+  unfolding vectorOf
+  f-numbers =
+      slice-numbers (fLength s) 0 draw low (omega (arith, size))
+      ∙ ap (numbers (fLength s)) (fun-ext (λ i. ap (λ (z : ℕ). element (getD draw z 0)) (first i)))
+    where
+      first : (i : ℕ) → 0 + i ≡ i
+      first i = omega arith
 
-  first-of : (a : ℕ → Element) → getD (numbers k a) 0 0 ≡ a 0 .0
+  v-numbers : (j : ℕ) → 1 ≤ j → j ≤ s .n → drawnV s draw j ≡ numbers (vLength s) (S .v j)
+  unfolding vectorOf
+  v-numbers j lo hi = slice-numbers (vLength s) (fLength s + (j - 1) * vLength s) draw low (drawn-room s draw size j lo hi)
+
+  first-of : (k : ℕ) (a : ℕ → Element) → 1 ≤ k → getD (numbers k a) 0 0 ≡ a 0 .0
   unfolding numbers
-  first-of a = go k positive
-    where
-      go : (m : ℕ) → 1 ≤ m → getD (numbers m a) 0 0 ≡ a 0 .0
-      go zero h = absurd (omega arith)
-      go (suc m) h = refl
+  first-of zero a h = absurd (omega arith)
+  first-of (suc k) a h = refl
 
-  pub part-is-row : (i w : ℕ) → i ≤ n → part n k i w draw ≡ rowOf k n i (element w) (vectorOf k draw)
+  pub part-is-row : (i w : ℕ) → 1 ≤ i → i ≤ s .n → part s i w draw ≡ rowOf (vLength s) (s .n) i (element w) S
   unfolding part rowOf vectorOf Same
-  part-is-row i w h =
-      ap₂ _++_ (polynomial-numbers i h)
-      (ap₂ _++_ (each-numbers 1 n (λ j. value (polynomial k draw j) w) _ checks) (each-numbers 1 n (sumOf k draw) _ sums))
+  part-is-row i w lo hi =
+      ap₂ _++_ (v-numbers i lo hi)
+      (ap₂ _++_ (each-numbers 1 (s .n) (λ j. value (drawnV s draw j) w) _ checks) (each-numbers 1 (s .n) (sumOf s draw) _ sums))
     where
-      S : Vector
-      S = vectorOf k draw
-
       one-more : (j : ℕ) → 1 + j ≡ suc j
       one-more j = omega arith
 
-      checks : (j : ℕ) → j < n → value (polynomial k draw (1 + j)) w ≡ checkOf k (element w) S j .0
+      checks : (j : ℕ) → j < s .n → value (drawnV s draw (1 + j)) w ≡ checkOf (vLength s) (element w) S j .0
       checks j l =
-          ap (λ (q : List ℕ). value q w) (polynomial-numbers (1 + j) (omega arith)) ∙ value-numbers k _ w
-          ∙ ap (λ (m : ℕ). valueAt k (λ i. element (getD draw (m * k + i) 0)) (element w) .0) (one-more j)
-
-      first : (i : ℕ) → 0 * k + i ≡ i
-      first i = omega (arith, zero-mul k)
+          ap (λ (q : List ℕ). value q w) (v-numbers (1 + j) (omega arith) (omega arith)) ∙ value-numbers (vLength s) _ w
+          ∙ ap (λ (m : ℕ). valueAt (vLength s) (S .v m) (element w) .0) (one-more j)
 
       join : (x y : Element) → sum (x .0) (y .0) ≡ (x ⊕ y ⊕ 0ᴱ) .0
       join x y =
           sum-number x (y .0) ∙ ap (λ (z : Element). (x ⊕ z) .0) (element-of-number y)
           ∙ ap (λ (z : Element). z .0) (solve 𝓡 (x ∷ y ∷ []) (A :+ B) (A :+ B :+ 𝟘) refl)
 
-      sums : (j : ℕ) → j < n → sumOf k draw (1 + j) ≡ sumAt k S j .0
+      sums : (j : ℕ) → j < s .n → sumOf s draw (1 + j) ≡ sumAt (fLength s) S j .0
       sums j l =
           ap₂ sum
-          (ap (λ (q : List ℕ). getD q 0 0) (polynomial-numbers (1 + j) (omega arith)) ∙ first-of _
-          ∙ ap (λ (m : ℕ). element (getD draw (m * k + 0) 0) .0) (one-more j))
-          (ap (λ (q : List ℕ). value q (1 + j)) (polynomial-numbers 0 (omega arith)) ∙ value-numbers k _ (1 + j)
-          ∙ ap₂ (λ (a : ℕ → Element) (m : ℕ). valueAt k a (element m) .0) (fun-ext (λ i. ap (λ (z : ℕ). element (getD draw z 0)) (first i))) (one-more j))
-          ∙ join (S .v (suc j) 0) (valueAt k (S .f) (element (suc j)))
+          (ap (λ (q : List ℕ). getD q 0 0) (v-numbers (1 + j) (omega arith) (omega arith))
+          ∙ first-of (vLength s) _ (omega arith)
+          ∙ ap (λ (m : ℕ). S .v m 0 .0) (one-more j))
+          (ap (λ (q : List ℕ). value q (1 + j)) f-numbers ∙ value-numbers (fLength s) _ (1 + j)
+          ∙ ap (λ (m : ℕ). valueAt (fLength s) (S .f) (element m) .0) (one-more j))
+          ∙ join (S .v (suc j) 0) (valueAt (fLength s) (S .f) (element (suc j)))

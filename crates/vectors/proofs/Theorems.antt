@@ -23,6 +23,8 @@ use Rattle.poly.specs.Counting.{All, Elements}
 use Rattle.poly.proofs.Lists.{all-map}
 use Rattle.poly.proofs.Theorems.{interpolation-is-exact}
 use Rattle.session.specs.declared.Session.{Session}
+use Rattle.shape.specs.declared.Shape.{Shape}
+use Rattle.shape.specs.Lengths.{fLength, vLength}
 use Rattle.shape.specs.Row.{checkValue, publicSum}
 use Rattle.session.specs.Sessions.{shapeOf, holding}
 use Rattle.session.specs.Rows.{combined}
@@ -60,21 +62,21 @@ combined-at s (x ∷ xs) (y ∷ ys) e zero =
     element-sum x (product s y) ∙ ap (λ (z : Element). element x ⊕ z) (element-product s y)
 combined-at s (x ∷ xs) (y ∷ ys) e (suc i) = combined-at s xs ys (omega arith) i
 
-vector-combined : (k s : ℕ) (xs ys : List ℕ) → length xs ≡ length ys
-    → vectorOf k (combined s xs ys) ≡ plusTimes (element s) (vectorOf k xs) (vectorOf k ys)
+vector-combined : (g : Shape) (s : ℕ) (xs ys : List ℕ) → length xs ≡ length ys
+    → vectorOf g (combined s xs ys) ≡ plusTimes (element s) (vectorOf g xs) (vectorOf g ys)
 unfolding vectorOf Same
-vector-combined k s xs ys e =
+vector-combined g s xs ys e =
     let c = solve 𝓡 (element s ∷ []) 𝟘 (𝟘 :+ A :* 𝟘) refl in
     let f = fun-ext (λ (i : ℕ). combined-at s xs ys e i) in
-    let v = fun-ext (λ (j : ℕ). fun-ext (λ (i : ℕ). combined-at s xs ys e (j * k + i))) in
+    let v = fun-ext (λ (j : ℕ). fun-ext (λ (i : ℕ). combined-at s xs ys e (fLength g + (j - 1) * vLength g + i))) in
     λ t. record { c = c t; f = f t; v = v t }
 
 pub part-linear : PartLinear
-part-linear n k i w s draw draw' pos hi e e' l l' =
-    part-is-row n k (combined s draw draw') (elements-combined s draw draw') (length-combined s draw draw' same ∙ l) pos i w hi
-    ∙ ap (rowOf k n i (element w)) (vector-combined k s draw draw' same)
-    ∙ row-plusTimes k n i s (element w) (vectorOf k draw) (vectorOf k draw')
-    ∙ sym (ap₂ (combined s) (part-is-row n k draw e l pos i w hi) (part-is-row n k draw' e' l' pos i w hi))
+part-linear g i w s draw draw' lo hi e e' l l' =
+    part-is-row g (combined s draw draw') (elements-combined s draw draw') (length-combined s draw draw' same ∙ l) i w lo hi
+    ∙ ap (rowOf (vLength g) (g .n) i (element w)) (vector-combined g s draw draw' same)
+    ∙ row-plusTimes (vLength g) (g .n) i s (element w) (vectorOf g draw) (vectorOf g draw')
+    ∙ sym (ap₂ (combined s) (part-is-row g draw e l i w lo hi) (part-is-row g draw' e' l' i w lo hi))
   where
     same : length draw ≡ length draw'
     same = l ∙ sym l'

@@ -1,9 +1,11 @@
 -- Everything that all posts hold of one shared number is a linear image of one vector: the dealer's number c, f's
 -- coefficients, and those of v1 to vn. As functions of the place, so that no law about them has a condition on lengths.
-use Prim.Native.Nat.{ℕ, zero, suc, _+_, _*_}
+use Prim.Native.Nat.{ℕ, zero, suc, _+_, _*_, _-_}
 use mathlib.Core.List.{List, [], _∷_, _++_}
 use lib.ListN.{getD}
 use Rattle.field.specs.Element.{Element, element, _⊕_, _⊗_, 0ᴱ}
+use Rattle.shape.specs.declared.Shape.{Shape}
+use Rattle.shape.specs.Lengths.{fLength, vLength}
 use Rattle.poly.specs.Polynomial.{elementValue}
 
 pub record Vector : Type 0 where
@@ -49,5 +51,10 @@ unfoldable pub rowOf : ℕ → ℕ → ℕ → Element → Vector → List ℕ
 rowOf k n i w S = numbers k (S .v i) ++ (numbers n (checkOf k w S) ++ numbers n (sumAt k S))
 
 -- the vector of a draw, with the dealer's number 0
-unfoldable pub vectorOf : ℕ → List ℕ → Vector
-vectorOf k draw = record { c = 0ᴱ; f = λ i. element (getD draw i 0); v = λ j i. element (getD draw (j * k + i) 0) }
+unfoldable pub vectorOf : Shape → List ℕ → Vector
+vectorOf s draw =
+    record {
+      c = 0ᴱ;
+      f = λ i. element (getD draw i 0);
+      v = λ j i. element (getD draw (fLength s + (j - 1) * vLength s + i) 0);
+    }

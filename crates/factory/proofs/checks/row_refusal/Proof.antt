@@ -1,9 +1,11 @@
+-- `checks::row_refusal` meets its contract.
 use borrow.Author.Needs.{needs}
-use Rattle.factory.proofs.Refusals.{few-posts, row-stopped, row-went-on}
+use Rattle.refusal.proofs.Ranges.{posts-passed}
+use Rattle.factory.proofs.Refusals.{row-stopped, row-went-on}
 use Rattle.factory.proofs.checks.row_refusal.Statement.{statement}
 use Rattle.factory.proofs.checks.row_refusal.Tie as tie
 
-ruleset groups = (needs, few-posts, row-stopped, row-went-on)
+ruleset groups = (needs, posts-passed, row-stopped, row-went-on)
 
 pub row-refusal-spec : {M : Type 1} → statement M
 row-refusal-spec =

@@ -1,11 +1,11 @@
+-- `packs::write_factors` meets its contract.
 use mathlib.Core.Path.{sym}
 use borrow.Author.Needs.{needs}
-use Rattle.factory.proofs.Halves.{front-length}
-use Rattle.factory.proofs.Factors.{first-drawn, first-fine, second-fine, factors-written}
+use Rattle.factory.proofs.Factors.{two-drawn, first-drawn, first-lent, first-fine, second-fine, factors-written}
 use Rattle.factory.proofs.packs.write_factors.Statement.{statement}
 use Rattle.factory.proofs.packs.write_factors.Tie as tie
 
-ruleset halves = (needs, front-length, first-drawn, first-fine, second-fine, factors-written)
+ruleset halves = (needs, two-drawn, first-drawn, first-lent, first-fine, second-fine, factors-written)
 
 drawn : tie.Need-slice-aggregate-write-row
 drawn c = sym (search halves)
@@ -16,6 +16,7 @@ lent c = sym (search halves)
 pub write-factors-spec : {M : Type 1} → statement M
 write-factors-spec =
     tie.close
-    (tie.spec (λ c. search halves) drawn (λ c. search halves) lent (λ c κs. search halves) (λ c. search halves)
-    (λ c. search halves) (λ c. search halves) (λ c. search halves) (λ c. search halves) (λ c. search halves)
-    (λ c. search halves) (λ c. search halves) (λ c κs. search halves) (λ c. search halves) (λ c. search halves))
+    (tie.spec (λ c κs. search halves) (λ c κs. search halves) (λ c. search halves) drawn (λ c. search halves) lent
+    (λ c κs. search halves) (λ c. search halves) (λ c. search halves) (λ c. search halves) (λ c. search halves)
+    (λ c. search halves) (λ c. search halves) (λ c. search halves) (λ c. search halves) (λ c κs. search halves)
+    (λ c. search halves) (λ c. search halves))

@@ -1,3 +1,4 @@
+-- `packs::write_row` meets its contract.
 use borrow.Author.Needs.{needs}
 use Rattle.factory.proofs.Rest.{some-drawn, row-room, row-written}
 use Rattle.factory.proofs.packs.write_row.Statement.{statement}

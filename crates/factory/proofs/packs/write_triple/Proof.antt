@@ -1,10 +1,11 @@
+-- `packs::write_triple` meets its contract.
 use mathlib.Core.Path.{sym}
 use borrow.Author.Needs.{needs}
-use Rattle.factory.proofs.Factors.{factors-lent, factors-room, third-room, triple-written}
+use Rattle.factory.proofs.Factors.{factors-lent, third-drawn, factors-room, third-room, triple-written}
 use Rattle.factory.proofs.packs.write_triple.Statement.{statement}
 use Rattle.factory.proofs.packs.write_triple.Tie as tie
 
-ruleset halves = (needs, factors-lent, factors-room, third-room, triple-written)
+ruleset halves = (needs, factors-lent, third-drawn, factors-room, third-room, triple-written)
 
 lent : tie.Need-slice-aggregate-write-factors
 lent c = sym (search halves)

@@ -1,12 +1,11 @@
+-- `part::write_part` meets its contract.
 use mathlib.Core.Path.{sym}
 use borrow.Author.Needs.{needs}
-use Rattle.factory.proofs.Halves.{front-length, back-length}
-use Rattle.factory.proofs.Turns.{block-room}
-use Rattle.factory.proofs.Parts.{coefficients-fit, part-written}
+use Rattle.factory.proofs.Parts.{coefficients-lent, coefficients-fit, values-lent, part-written}
 use Rattle.factory.proofs.part.write_part.Statement.{statement}
 use Rattle.factory.proofs.part.write_part.Tie as tie
 
-ruleset halves = (needs, block-room, front-length, back-length, coefficients-fit, part-written)
+ruleset halves = (needs, coefficients-lent, coefficients-fit, values-lent, part-written)
 
 slice-aggregate : tie.Need-slice-aggregate-copy
 slice-aggregate c = sym (search halves)
@@ -14,6 +13,6 @@ slice-aggregate c = sym (search halves)
 pub write-part-spec : {M : Type 1} → statement M
 write-part-spec =
     tie.close
-    (tie.spec (λ c. search halves) (λ c κs. search halves) (λ c. search halves) slice-aggregate (λ c κs. search halves)
+    (tie.spec (λ c κs. search halves) (λ c κs. search halves) (λ c. search halves) slice-aggregate (λ c κs. search halves)
     (λ c. search halves) (λ c. search halves) (λ c. search halves) (λ c. search halves) (λ c κs. search halves)
-    (λ c. search halves) (λ c. search halves))
+    (λ c. search halves) (λ c. search halves) (λ c. search halves))
