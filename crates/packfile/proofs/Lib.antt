@@ -1,1 +1,6 @@
 pub mod Kinded
+pub mod Asking
+pub mod Spelt
+pub mod Shares
+pub mod Entire
+pub mod Theorems

@@ -4,7 +4,7 @@ use mathlib.Core.Bool.{cond}
 use mathlib.Core.List.{List, [], _∷_, _++_}
 use lib.Dec.{eqb}
 use lib.ListN.{take, drop}
-use Rattle.shape.specs.Lengths.{vLength, drawLength}
+use Rattle.shape.specs.Lengths.{drawLength}
 use Rattle.shape.specs.Marks.{raw, unused}
 use Rattle.csv.specs.Fields.{written}
 use Rattle.factory.specs.Draw.{part, firstDraw, secondDraw, thirdDraw}
@@ -13,7 +13,7 @@ use Rattle.packfile.specs.Kinds.{drawnFor}
 
 -- What the factory makes for this post of a row's draw.
 unfoldable pub postPart : Party → List ℕ → List ℕ
-postPart p draw = part (p .shape .n) (vLength (p .shape)) (p .post) (p .point) draw
+postPart p draw = part (p .shape) (p .post) (p .point) draw
 
 -- Its rows of a triple: of l, of l' and of l''.
 unfoldable pub tripleParts : Party → List ℕ → List ℕ

@@ -23,6 +23,9 @@ frameTests n t post points kinds =
     postsTests n t
     ++ (3 when outside 1 n post ∷ 4 when anyBadPoint points ∷ 5 when wrongLength points n ∷ 5 when wrongLength kinds rowCount ∷ [])
 
+unfoldable pub frameRefusal : ℕ → ℕ → ℕ → List ℕ → List ℕ → ℕ
+frameRefusal n t post points kinds = first (frameTests n t post points kinds)
+
 -- 5 of the draws, then 6 to 8.
 abbrev pub drawnTests : Shape → List ℕ → List ℕ → List Test
 drawnTests s kinds draws =
@@ -33,13 +36,22 @@ drawnTests s kinds draws =
     ∷ 8 when anyBeyond draws
     ∷ []
 
+unfoldable pub drawnRefusal : Shape → List ℕ → List ℕ → ℕ
+drawnRefusal s kinds draws = first (drawnTests s kinds draws)
+
 -- All but 12.
 abbrev pub givenTests : ℕ → ℕ → ℕ → List ℕ → List ℕ → List ℕ → List Test
 givenTests n t post points kinds draws = frameTests n t post points kinds ++ drawnTests (shape n t) kinds draws
 
+unfoldable pub givenRefusal : ℕ → ℕ → ℕ → List ℕ → List ℕ → List ℕ → ℕ
+givenRefusal n t post points kinds draws = first (givenTests n t post points kinds draws)
+
 -- "a list too short gets 12"
 abbrev pub roomTests : Party → List ℕ → List ℕ → ℕ → List Test
 roomTests p kinds draws room = 12 when ltb room (length (file p kinds draws)) ∷ []
+
+unfoldable pub roomRefusal : Party → List ℕ → List ℕ → ℕ → ℕ
+roomRefusal p kinds draws room = first (roomTests p kinds draws room)
 
 unfoldable pub packRefusal : ℕ → ℕ → ℕ → List ℕ → List ℕ → List ℕ → ℕ → ℕ
 packRefusal n t post points kinds draws room =

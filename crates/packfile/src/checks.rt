@@ -8,7 +8,7 @@ ghost use Rattle.shape.specs.Bounds.{rowCount};
 ghost use Rattle.shape.specs.Lengths.{Valid};
 ghost use Rattle.refusal.specs.Refusal.{first, _when_};
 ghost use Rattle.refusal.specs.Conditions.{wrongLength};
-ghost use Rattle.packfile.specs.Writing.{frameTests, drawnTests, givenTests};
+ghost use Rattle.packfile.specs.Writing.{frameRefusal, drawnRefusal, givenRefusal};
 
 // 5, of the kinds.
 fn kinds_size(kinds: &[u8]) -> u8
@@ -19,7 +19,7 @@ fn kinds_size(kinds: &[u8]) -> u8
 
 // 1 to 4, and 5 of the check points and the kinds.
 fn frame(n: usize, t: usize, post: usize, points: &[u32], kinds: &[u8]) -> u8
-    ensures { λ r. ⌜ r ≡ first (frameTests n t post (now (points .entry)) (now (kinds .entry))) ⌝ }
+    ensures { λ r. ⌜ r ≡ frameRefusal n t post (now (points .entry)) (now (kinds .entry)) ⌝ }
 {
     let sizes = refusal::or_else(refusal::size(points, n), kinds_size(kinds));
     let lists = refusal::or_else(factory::checks::check_points(points), sizes);
@@ -32,7 +32,7 @@ fn frame(n: usize, t: usize, post: usize, points: &[u32], kinds: &[u8]) -> u8
 // 5 of the draws, then 6 to 8.
 fn drawn(shape: Shape, kinds: &[u8], draws: &[u32]) -> u8
     requires { ⌜ Valid shape × (length (now kinds) ≡ rowCount) ⌝ }
-    ensures { λ r. ⌜ r ≡ first (drawnTests shape (now (kinds .entry)) (now (draws .entry))) ⌝ }
+    ensures { λ r. ⌜ r ≡ drawnRefusal shape (now (kinds .entry)) (now (draws .entry)) ⌝ }
 {
     let numbers = refusal::or_else(rows::unknown_kinds(kinds), refusal::numbers(draws));
     let placed = refusal::or_else(
@@ -44,7 +44,7 @@ fn drawn(shape: Shape, kinds: &[u8], draws: &[u32]) -> u8
 
 // Lengths are computed only where n, t and the kinds have passed, so that nothing overflows.
 pub fn refusal(n: usize, t: usize, post: usize, points: &[u32], kinds: &[u8], draws: &[u32]) -> u8
-    ensures { λ r. ⌜ r ≡ first (givenTests n t post (now (points .entry)) (now (kinds .entry)) (now (draws .entry))) ⌝ }
+    ensures { λ r. ⌜ r ≡ givenRefusal n t post (now (points .entry)) (now (kinds .entry)) (now (draws .entry)) ⌝ }
 {
     let frame = frame(n, t, post, points, kinds);
     if frame != 0 {

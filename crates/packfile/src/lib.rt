@@ -8,11 +8,12 @@ use lines::Written;
 use session::Party;
 use shape::Shape;
 ghost use mathlib.Core.Path.{_≡_};
+ghost use Prim.Native.Nat.{_≤_};
 ghost use lib.ListN.{length};
-ghost use Rattle.refusal.specs.Refusal.{first};
+ghost use Rattle.shape.specs.Bounds.{fewPosts};
 ghost use Rattle.lines.specs.Writing.{notWritten, writtenAs, partAs};
 ghost use Rattle.packfile.specs.File.{file};
-ghost use Rattle.packfile.specs.Writing.{postAt, roomTests, packRefusal};
+ghost use Rattle.packfile.specs.Writing.{postAt, roomRefusal, packRefusal};
 ghost use Rattle.packfile.specs.Parts.{Given, FileRoom};
 
 fn not_written(refusal: u8) -> Written
@@ -24,9 +25,9 @@ fn not_written(refusal: u8) -> Written
 // 12, or the file at the start of the list; `room` is for the numbers of one line.
 fn write_in(party: Party, kinds: &[u8], draws: &[u32], room: &mut [u32], out: &mut [u8]) -> Written
     requires { ⌜ FileRoom party (now kinds) (now draws) (now room) ⌝ }
-    ensures { λ r. ⌜ r ≡ writtenAs (first (roomTests party (now (kinds .entry)) (now (draws .entry)) (length (now (out .entry)))))
+    ensures { λ r. ⌜ r ≡ writtenAs (roomRefusal party (now (kinds .entry)) (now (draws .entry)) (length (now (out .entry))))
         (file party (now (kinds .entry)) (now (draws .entry))) ⌝ }
-    ensures { λ r. ⌜ now (out .exit) ≡ partAs (first (roomTests party (now (kinds .entry)) (now (draws .entry)) (length (now (out .entry)))))
+    ensures { λ r. ⌜ now (out .exit) ≡ partAs (roomRefusal party (now (kinds .entry)) (now (draws .entry)) (length (now (out .entry))))
         (file party (now (kinds .entry)) (now (draws .entry))) (now (out .entry)) ⌝ }
 {
     let len = text::file_len(party, kinds, draws, room);
@@ -37,18 +38,47 @@ fn write_in(party: Party, kinds: &[u8], draws: &[u32], room: &mut [u32], out: &m
     Written { refusal: 0, len }
 }
 
-// The same, with room for the longest line.
-fn write_given(party: Party, kinds: &[u8], draws: &[u32], out: &mut [u8]) -> Written
-    requires { ⌜ Given party (now kinds) (now draws) ⌝ }
-    ensures { λ r. ⌜ r ≡ writtenAs (first (roomTests party (now (kinds .entry)) (now (draws .entry)) (length (now (out .entry)))))
+// The same, with room for a line of a few posts.
+fn write_few(party: Party, kinds: &[u8], draws: &[u32], out: &mut [u8]) -> Written
+    requires { ⌜ Given party (now kinds) (now draws) × (party .shape .n ≤ fewPosts) ⌝ }
+    ensures { λ r. ⌜ r ≡ writtenAs (roomRefusal party (now (kinds .entry)) (now (draws .entry)) (length (now (out .entry))))
         (file party (now (kinds .entry)) (now (draws .entry))) ⌝ }
-    ensures { λ r. ⌜ now (out .exit) ≡ partAs (first (roomTests party (now (kinds .entry)) (now (draws .entry)) (length (now (out .entry)))))
+    ensures { λ r. ⌜ now (out .exit) ≡ partAs (roomRefusal party (now (kinds .entry)) (now (draws .entry)) (length (now (out .entry))))
+        (file party (now (kinds .entry)) (now (draws .entry))) (now (out .entry)) ⌝ }
+{
+    let shape = party.shape;
+    let end = shape.triple_len();
+    let mut room = [0u32; 3 * shape::SHORT_ROW];
+    write_in(party, kinds, draws, &mut room[..end], out)
+}
+
+// The same, with room for a line of the most posts.
+fn write_most(party: Party, kinds: &[u8], draws: &[u32], out: &mut [u8]) -> Written
+    requires { ⌜ Given party (now kinds) (now draws) ⌝ }
+    ensures { λ r. ⌜ r ≡ writtenAs (roomRefusal party (now (kinds .entry)) (now (draws .entry)) (length (now (out .entry))))
+        (file party (now (kinds .entry)) (now (draws .entry))) ⌝ }
+    ensures { λ r. ⌜ now (out .exit) ≡ partAs (roomRefusal party (now (kinds .entry)) (now (draws .entry)) (length (now (out .entry))))
         (file party (now (kinds .entry)) (now (draws .entry))) (now (out .entry)) ⌝ }
 {
     let shape = party.shape;
     let end = shape.triple_len();
     let mut room = [0u32; 3 * shape::LONGEST_ROW];
     write_in(party, kinds, draws, &mut room[..end], out)
+}
+
+// A few posts' room is not cleared for the most.
+fn write_given(party: Party, kinds: &[u8], draws: &[u32], out: &mut [u8]) -> Written
+    requires { ⌜ Given party (now kinds) (now draws) ⌝ }
+    ensures { λ r. ⌜ r ≡ writtenAs (roomRefusal party (now (kinds .entry)) (now (draws .entry)) (length (now (out .entry))))
+        (file party (now (kinds .entry)) (now (draws .entry))) ⌝ }
+    ensures { λ r. ⌜ now (out .exit) ≡ partAs (roomRefusal party (now (kinds .entry)) (now (draws .entry)) (length (now (out .entry))))
+        (file party (now (kinds .entry)) (now (draws .entry))) (now (out .entry)) ⌝ }
+{
+    let shape = party.shape;
+    if shape.n <= shape::FEW_POSTS {
+        return write_few(party, kinds, draws, out);
+    }
+    write_most(party, kinds, draws, out)
 }
 
 // A post's file: its `S` line, then `R` and `T` lines by rising row. The value is the file's length.

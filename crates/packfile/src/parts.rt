@@ -13,16 +13,8 @@ fn write_part(party: Party, constant: u32, rest: &[u32], out: &mut [u32])
     ensures { λ r. ⌜ now (out .exit) ≡ postPart party (constant ∷ now (rest .entry)) ⌝ }
 {
     let shape = party.shape;
-    let t = shape.t;
-    factory::part::write_part(
-        shape.n,
-        party.post - 1,
-        party.point,
-        constant,
-        &rest[..t],
-        &rest[t..],
-        out,
-    );
+    let own = [party.point];
+    factory::packs::write_posts(shape, party.post - 1, &own, constant, rest, out);
 }
 
 // The part of a draw that has all its numbers.

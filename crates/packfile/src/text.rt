@@ -68,13 +68,7 @@ fn lines_len(party: Party, kinds: &[u8], draws: &[u32], room: &mut [u32]) -> usi
 }
 
 // Each line goes to the next part of the list.
-fn put_lines(
-    party: Party,
-    kinds: &[u8],
-    draws: &[u32],
-    room: &mut [u32],
-    out: &mut [u8],
-) -> usize
+fn put_lines(party: Party, kinds: &[u8], draws: &[u32], room: &mut [u32], out: &mut [u8]) -> usize
     requires { ⌜ FileRoom party (now kinds) (now draws) (now room) × (length (rowLines party 0 (now kinds) (now draws)) ≤ length (now out)) ⌝ }
     ensures { λ r. ⌜ r ≡ length (rowLines party 0 (now (kinds .entry)) (now (draws .entry))) ⌝ }
     ensures { λ r. ⌜ now (out .exit) ≡ overwrite 0 (rowLines party 0 (now (kinds .entry)) (now (draws .entry))) (now (out .entry)) ⌝ }
@@ -103,13 +97,7 @@ pub fn file_len(party: Party, kinds: &[u8], draws: &[u32], room: &mut [u32]) -> 
 }
 
 // The file at the start of the list.
-pub fn put_file(
-    party: Party,
-    kinds: &[u8],
-    draws: &[u32],
-    room: &mut [u32],
-    out: &mut [u8],
-)
+pub fn put_file(party: Party, kinds: &[u8], draws: &[u32], room: &mut [u32], out: &mut [u8])
     requires { ⌜ FileRoom party (now kinds) (now draws) (now room) × (length (file party (now kinds) (now draws)) ≤ length (now out)) ⌝ }
     ensures { λ r. ⌜ now (out .exit) ≡ overwrite 0 (file party (now (kinds .entry)) (now (draws .entry))) (now (out .entry)) ⌝ }
 {
