@@ -1,20 +1,18 @@
 -- The refusals of the call: tests joined in order, and what holds once they have passed.
 use Prim.Native.Nat.{ℕ, _-_, _≤_, _<_}
 use mathlib.Core.Path.{_≡_, refl, sym, _∙_, ap}
-use mathlib.Core.Bool.{Bool, true, false}
 use mathlib.Core.List.{List, [], _∷_}
 use native.Mathlib.Omega.{arith}
 use borrow.Author.Tests.{lt-ltb, le-ltb}
-use lib.Dec.{ltb}
-use lib.ListN.{length, getD}
+use lib.ListN.{length}
 use Rattle.shape.specs.declared.Shape.{Shape}
 use Rattle.shape.specs.Bounds.{rowCount}
 use Rattle.shape.specs.Lengths.{Valid, shape}
 use Rattle.refusal.specs.Refusal.{Test, _when_, first, orElse, outcome}
 use Rattle.refusal.specs.Conditions.{outside, wrongLength, anyBeyond, postsTests}
 use Rattle.refusal.proofs.Laws.{first-join, all-fail, inside, equal}
-use Rattle.refusal.proofs.Groups.{first-chain, stopped, went-on, fail-parts}
-use Rattle.refusal.proofs.Endings.{refused, accepted}
+use Rattle.refusal.proofs.Groups.{first-chain, stopped, went-on}
+use Rattle.refusal.proofs.Endings.{refused}
 use Rattle.factory.specs.Packs.{anyBadPoint}
 use Rattle.session.specs.declared.Party.{Party}
 use Rattle.csv.specs.Fields.{overwrite}

@@ -1,6 +1,6 @@
 -- The whole file: its start line and the rows' lines behind it; and the rooms for the numbers of a line.
-use Prim.Native.Nat.{ℕ, _+_, _*_, _-_, _≤_, _<_}
-use mathlib.Core.Path.{_≡_, refl, sym, _∙_, ap}
+use Prim.Native.Nat.{ℕ, _+_, _*_, _-_, _≤_}
+use mathlib.Core.Path.{_≡_, sym, _∙_, ap}
 use mathlib.Core.List.{List, [], _∷_, _++_}
 use native.Mathlib.Omega.{arith}
 use borrow.Rule.Slice.PartMut.{putMid}
@@ -16,7 +16,8 @@ use Rattle.csv.proofs.Overwriting.{overwrite-twice, length-fields-le}
 use Rattle.csv.proofs.Laying.{length-written}
 use Rattle.packfile.specs.File.{rowLines, startLine, file}
 use Rattle.packfile.specs.Parts.{Given, FileRoom}
-use Rattle.packfile.proofs.Spelt.{lines-small, tail-laid}
+use Rattle.packfile.proofs.Spelt.{lines-small}
+use Rattle.packfile.proofs.Rising.{tail-laid}
 
 -- ---- the numbers of the start line, as the code has them
 abbrev pub station : Party → List ℕ

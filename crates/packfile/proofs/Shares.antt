@@ -10,7 +10,7 @@ use borrow.Rule.Slice.PartMut.{putMid}
 use lib.ListN.{length, take, drop, getD, length-append, length-drop}
 use lib.Seq.{length-take-le, take-all, take-at}
 use Rattle.field.specs.Arithmetic.{product}
-use Rattle.shape.specs.Lengths.{rowLength, tripleLength, drawLength, tripleDrawLength}
+use Rattle.shape.specs.Lengths.{rowLength, tripleLength, drawLength}
 use Rattle.shape.specs.Marks.{raw, unused}
 use Rattle.session.specs.declared.Party.{Party}
 use Rattle.factory.specs.Draw.{part, firstDraw, secondDraw, thirdDraw}

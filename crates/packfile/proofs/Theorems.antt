@@ -1,6 +1,6 @@
 -- The call's tests are document 02's, in order; refusal 0 exactly when none applies, otherwise the smallest number that does, and
 -- the lent list is then as it came.
-use mathlib.Core.Path.{_≡_, refl}
+use mathlib.Core.Path.{refl}
 use mathlib.Core.List.{List}
 use Prim.Native.Nat.{ℕ}
 use native.Mathlib.Omega.{arith}

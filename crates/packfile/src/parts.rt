@@ -36,8 +36,10 @@ fn write_factors(party: Party, draw: &[u32], out: &mut [u32])
     let d = shape.draw_len();
     let end = d + d;
     let width = shape.row_len();
-    write_row(party, &draw[..d], &mut out[..width]);
-    write_row(party, &draw[d..end], &mut out[width..]);
+    let first = &draw[..d];
+    let second = &draw[d..end];
+    write_row(party, first, &mut out[..width]);
+    write_row(party, second, &mut out[width..]);
 }
 
 // The parts of l, l' and l''; f(0) of l'' is the product of those of l and l'.

@@ -2,7 +2,7 @@
 use Prim.Native.Nat.{_-_}
 use lib.ListN.{length}
 use mathlib.Core.Path.{refl}
-use Rattle.packfile.proofs.Spelt.{Reached, reached-start, draw-end, draw-end-fits, draw-lent, row-in, reached-more, length-fits, reached-end}
+use Rattle.packfile.proofs.Rising.{Reached, reached-start, draw-end, draw-end-fits, draw-lent, row-in, reached-more, length-fits, reached-end}
 use borrow.Author.Needs.{needs}
 use Rattle.packfile.proofs.text.lines_len.Statement.{statement}
 use Rattle.packfile.proofs.text.lines_len.Tie as tie

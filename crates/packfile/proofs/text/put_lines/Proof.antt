@@ -2,7 +2,7 @@
 use Prim.Native.Nat.{_-_}
 use lib.ListN.{length}
 use mathlib.Core.Path.{refl}
-use Rattle.packfile.proofs.Spelt.{Laid, laid-start, laid-draw-end, laid-end-fits, laid-lent, laid-row, laid-at, laid-room, laid-fits, laid-more, laid-end, laid-whole}
+use Rattle.packfile.proofs.Rising.{Laid, laid-start, laid-draw-end, laid-end-fits, laid-lent, laid-row, laid-at, laid-room, laid-fits, laid-more, laid-end, laid-whole}
 use borrow.Author.Needs.{needs}
 use Rattle.packfile.proofs.text.put_lines.Statement.{statement}
 use Rattle.packfile.proofs.text.put_lines.Tie as tie
