@@ -58,28 +58,28 @@ module _ (p : Party) (d w : ℕ) (draw out : List ℕ) (room : FactorsRoom p dra
   pub two-drawn : d + d ≤ length draw
   two-drawn = omega (arith, room .drawn, ed)
 
-  pub first-drawn : length (take d draw) ≡ d
-  first-drawn = length-take-le d draw (omega (arith, two-drawn))
-
-  second-drawn : length (take d (drop d draw)) ≡ d
-  second-drawn = length-take-le d (drop d draw) (omega (arith, two-drawn, length-drop d draw))
+  pub first-drawn : d ≡ length (take d draw)
+  first-drawn = sym (length-take-le d draw (omega (arith, two-drawn)))
 
   two-rooms : length out ≡ w + w
   two-rooms = omega (arith, room .room, ew)
 
-  pub first-lent : length (take w out) ≡ w
-  first-lent = front-length w w out two-rooms
+  pub first-lent : w ≡ length (take w out)
+  first-lent = sym (front-length w w out two-rooms)
 
-  pub first-room : RowRoom p (take d draw) (take w out)
-  first-room = record { post = room .post; drawn = first-drawn ∙ ed; room = first-lent ∙ ew }
+  pub first-sized : length (take d draw) ≡ drawLength (p .shape)
+  first-sized = sym first-drawn ∙ ed
+
+  pub second-sized : length (take (d + d - d) (drop d draw)) ≡ drawLength (p .shape)
+  second-sized =
+      rw (add-sub-cancel-left d d) (length-take-le d (drop d draw) (omega (arith, two-drawn, length-drop d draw)) ∙ ed)
+
+  pub front-sized : length (take w out) ≡ rowLength (p .shape)
+  front-sized = sym first-lent ∙ ew
 
   module _ (ys : List ℕ) (kept : length ys ≡ length (take w out)) where
-    pub second-room : RowRoom p (take (d + d - d) (drop d draw)) (back w out ys)
-    second-room = record {
-      post = room .post;
-      drawn = rw (add-sub-cancel-left d d) (second-drawn ∙ ed);
-      room = back-length w w out two-rooms ys kept ∙ ew;
-    }
+    pub back-sized : length (back w out ys) ≡ rowLength (p .shape)
+    back-sized = back-length w w out two-rooms ys kept ∙ ew
 
     pub factors-written : (zs : List ℕ) → ys ≡ postPart p (take d draw) → zs ≡ postPart p (take (d + d - d) (drop d draw))
         → putMid w (length (fronted w out ys) - w) (fronted w out ys) zs
