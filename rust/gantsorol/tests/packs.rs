@@ -16,7 +16,8 @@ struct Numbers(u64);
 
 impl Numbers {
     fn below(&mut self, bound: u32) -> u32 {
-        self.0 = self.0.wrapping_mul(6_364_136_223_846_793_005).wrapping_add(1_442_695_040_888_963_407);
+        self.0 =
+            self.0.wrapping_mul(6_364_136_223_846_793_005).wrapping_add(1_442_695_040_888_963_407);
         ((self.0 >> 33) % u64::from(bound)) as u32
     }
 }
@@ -58,8 +59,15 @@ fn station(n: usize, triples: bool) -> Station {
 impl Station {
     fn file(&self, post: usize) -> Vec<u8> {
         let mut out = vec![0; 32 + ROWS * (5 + 11 * row_len(self.n, self.t))];
-        let written =
-            gantsorol::write_pack(self.n, self.t, post, &self.points, &self.kinds, &self.draws, &mut out);
+        let written = gantsorol::write_pack(
+            self.n,
+            self.t,
+            post,
+            &self.points,
+            &self.kinds,
+            &self.draws,
+            &mut out,
+        );
         out.truncate(written.accepted().expect("the station is right"));
         out
     }
@@ -111,7 +119,11 @@ fn a_file_is_a_posts_parts_by_rising_row() {
                 let letter = if *kind == 1 { 'R' } else { 'T' };
                 text += &line(letter, [*row as u32].into_iter().chain(station.part(packs, post)));
             }
-            assert_eq!(String::from_utf8(station.file(post)).expect("text"), text, "n = {n}, post {post}");
+            assert_eq!(
+                String::from_utf8(station.file(post)).expect("text"),
+                text,
+                "n = {n}, post {post}"
+            );
         }
     }
 }
@@ -170,8 +182,11 @@ fn compiled(name: &str) -> PathBuf {
     let binary = Path::new(env!("CARGO_TARGET_TMPDIR")).join(name);
     let mut cc = Command::new("cc");
     cc.args(["-std=c99", "-O2", "-Wall", "-Wextra", "-Wpedantic", "-Werror"]);
-    cc.arg("-I").arg(repository().join("include")).arg(repository().join(format!("examples/{name}.c")));
-    let output = cc.arg(env!("GANTSOROL_ARCHIVE")).arg("-o").arg(&binary).output().expect("cc runs");
+    cc.arg("-I")
+        .arg(repository().join("include"))
+        .arg(repository().join(format!("examples/{name}.c")));
+    let output =
+        cc.arg(env!("GANTSOROL_ARCHIVE")).arg("-o").arg(&binary).output().expect("cc runs");
     assert!(output.status.success(), "{}", String::from_utf8_lossy(&output.stderr));
     binary
 }
@@ -189,7 +204,8 @@ fn the_works_program_writes_a_file() {
 fn three_posts_open_the_word() {
     let directory = Path::new(env!("CARGO_TARGET_TMPDIR")).join("word_files");
     fs::create_dir_all(&directory).expect("a directory");
-    let status = Command::new(compiled("word")).arg(&directory).arg("20261116").status().expect("it runs");
+    let status =
+        Command::new(compiled("word")).arg(&directory).arg("20261116").status().expect("it runs");
     assert!(status.success());
     let read = |name: &str| fs::read(directory.join(name)).expect("it was written");
     for post in 1..=3 {
