@@ -5,3 +5,4 @@ pub mod Rising
 pub mod Shares
 pub mod Entire
 pub mod Theorems
+pub mod Returning
