@@ -128,6 +128,46 @@ fn a_file_is_a_posts_parts_by_rising_row() {
     }
 }
 
+/// Kinds out of place, unknown or inside a triple, a number of p, and a list one byte too short: the refusal, and nothing written.
+#[test]
+fn a_refused_file_leaves_the_list() {
+    let right = station(3, true);
+    let length = right.file(1).len();
+    let refused = |kinds: &[(usize, u8)], number: u32, room: usize| {
+        let mut set = [0; ROWS];
+        kinds.iter().for_each(|&(row, kind)| set[row] = kind);
+        let drawn = |kind: &u8| match kind {
+            1 => row_draw_len(3, right.t),
+            3 => triple_draw_len(3, right.t),
+            _ => 0,
+        };
+        let draws = vec![number; set.iter().map(drawn).sum()];
+        let mut out = vec![7; room];
+        let written = gantsorol::write_pack(3, right.t, 1, &right.points, &set, &draws, &mut out);
+        assert!(out.iter().all(|&byte| byte == 7) && written.len == 0);
+        written.refusal
+    };
+    assert_eq!(refused(&[(94, 3)], 0, 9_999), 6);
+    assert_eq!(refused(&[(0, 3), (2, 1), (94, 3)], 0, 9_999), 6);
+    assert_eq!(refused(&[(0, 3), (1, 2)], 0, 9_999), 7);
+    assert_eq!(refused(&[(0, 3), (2, 3)], 0, 9_999), 7);
+    assert_eq!(refused(&[(0, 2)], 0, 9_999), 8);
+    assert_eq!(refused(&[(0, 1)], MODULUS, 9_999), 8);
+    assert_eq!(refused(&[(0, 1)], 0, 20), 12);
+
+    let mut short = vec![7; length - 1];
+    let (kinds, draws) = (&right.kinds, &right.draws);
+    let written = gantsorol::write_pack(3, right.t, 1, &right.points, kinds, draws, &mut short);
+    assert_eq!((written.refusal, written.len), (12, 0));
+    assert!(short.iter().all(|&byte| byte == 7));
+    let refusal =
+        gantsorol::write_pack(3, right.t, 4, &right.points, kinds, draws, &mut short).refusal;
+    assert_eq!(refusal, 3);
+    let refusal =
+        gantsorol::write_pack(3, right.t, 1, &right.points, kinds, &draws[1..], &mut short).refusal;
+    assert_eq!(refusal, 5);
+}
+
 fn fed(program: &str, arguments: &[&str], input: &[u8]) -> String {
     let mut child = Command::new(program)
         .args(arguments)
