@@ -43,19 +43,23 @@ const fn inverse(x: u64) -> u64 {
     power
 }
 
-/// k, k!, and the inverses of both, for k up to the number of posts.
+/// k, k!, and the inverses of both, for k up to the number of posts; those of k in 32 bits too.
 struct Table {
     inverse: [u64; MAX_POSTS + 1],
+    short_inverse: [u32; MAX_POSTS + 1],
     factorial: [u64; MAX_POSTS + 1],
     inverse_factorial: [u64; MAX_POSTS + 1],
 }
 
 static TABLE: Table = {
     let ones = [1; MAX_POSTS + 1];
-    let mut table = Table { inverse: ones, factorial: ones, inverse_factorial: ones };
+    let short_inverse = [1; MAX_POSTS + 1];
+    let mut table =
+        Table { inverse: ones, short_inverse, factorial: ones, inverse_factorial: ones };
     let mut k = 1;
     while k <= MAX_POSTS {
         table.inverse[k] = inverse(k as u64);
+        table.short_inverse[k] = table.inverse[k] as u32;
         table.factorial[k] = product(table.factorial[k - 1], k as u64);
         table.inverse_factorial[k] = product(table.inverse_factorial[k - 1], table.inverse[k]);
         k += 1;
@@ -126,7 +130,7 @@ fn number<const N: usize>(
             [] => continue,
         };
         beyond |= any_beyond(sent);
-        if count <= t && value(sent, &powers) == u64::from(checks[index]) {
+        if value(sent, &powers) == u64::from(checks[index]) {
             nodes[count] = index;
             shares[count] = reduced(u64::from(sums[index]) + 4 * P - u64::from(sent[0]));
             count += 1;
@@ -134,9 +138,47 @@ fn number<const N: usize>(
     }
     match (beyond, count > t) {
         (true, _) => Err(8),
-        (false, true) => Ok(interpolated::<N>(&nodes[..=t], &shares[..=t]) as u32),
+        (false, true) => agreed::<N>(&nodes[..count], &shares[..count], t + 1),
         _ => Err(9),
     }
+}
+
+/// The number through the first `need` shares, or 13 where a further one is off their polynomial.
+fn agreed<const N: usize>(nodes: &[usize], shares: &[u64], need: usize) -> Result<u32, u8> {
+    let (nodes, further) = nodes.split_at(need);
+    let (shares, theirs) = shares.split_at(need);
+    let (weights, all) = weighed::<N>(nodes);
+    if !further.is_empty() && !fit::<N>(nodes, shares, &weights, further, theirs) {
+        return Err(13);
+    }
+    let mut sum = 0;
+    for ((&index, &share), &weight) in nodes.iter().zip(shares).zip(&weights) {
+        sum += product(product(share, TABLE.inverse[index + 1]), weight);
+    }
+    Ok(product(all, reduced(sum)) as u32)
+}
+
+/// Whether each further share y at z has the sum of w y' / (z - x) equal to y times that of w / (z - x), over the nodes
+/// x with their shares y' and weights w. These lie dense and from the last node down, 0 where no node is, so that the
+/// inverses are one part of the table.
+fn fit<const N: usize>(
+    nodes: &[usize],
+    shares: &[u64],
+    weights: &[u64],
+    further: &[usize],
+    theirs: &[u64],
+) -> bool {
+    let (first, last) = (nodes[0], nodes[nodes.len() - 1]);
+    let (mut above, mut below) = ([0; N], [0; N]);
+    for ((&index, &share), &weight) in nodes.iter().zip(shares).zip(weights) {
+        above[last - index] = product(weight, share) as u32;
+        below[last - index] = weight as u32;
+    }
+    let span = last - first + 1;
+    further.iter().zip(theirs).all(|(&z, &y)| {
+        let inverses = &TABLE.short_inverse[z - last..][..span];
+        value(&above[..span], inverses) == product(y, value(&below[..span], inverses))
+    })
 }
 
 /// Whether a number is no element; no early end, so that several are looked at at once.
@@ -167,11 +209,11 @@ fn value(coefficients: &[u32], powers: &[u32]) -> u64 {
     reduced(low + high)
 }
 
-/// The interpolation at 0 of the shares at these nodes, k for post k + 1, which rise.
+/// The weights of these nodes, k for post k + 1, which rise, and the factor of all of them at 0.
 ///
-/// A share's factor is the product of k / (k − j) over the other nodes k. Over all posts from the
+/// A share's factor at 0 is the product of k / (k − j) over the other nodes k. Over all posts from the
 /// first node to the last it is made of factorials; those that are no nodes are taken out of it.
-fn interpolated<const N: usize>(nodes: &[usize], shares: &[u64]) -> u64 {
+fn weighed<const N: usize>(nodes: &[usize]) -> ([u64; N], u64) {
     let (first, last) = (nodes[0], nodes[nodes.len() - 1]);
     let (mut list, mut count, mut next) = ([0; N], 0, 0);
     for index in first..=last {
@@ -187,20 +229,20 @@ fn interpolated<const N: usize>(nodes: &[usize], shares: &[u64]) -> u64 {
     let all = gaps.iter().fold(all, |all, &gap| product(all, TABLE.inverse[gap as usize + 1]));
     // Distances are at most 31 or 254; twelve of the first and seven of the others are below 2^62.
     let together = if N == FEW { 12 } else { 7 };
-    let mut sum = 0;
-    for (&index, &share) in nodes.iter().zip(shares) {
+    let mut weights = [0; N];
+    for (weight, &index) in weights.iter_mut().zip(nodes) {
         let below = TABLE.inverse_factorial[index - first];
         let above = TABLE.inverse_factorial[last - index];
-        let mut term = product(product(share, TABLE.inverse[index + 1]), product(below, above));
+        let mut term = product(below, above);
         let mut minus = (index - first) % 2 == 1;
         for part in gaps.chunks(together) {
             let away: i64 = part.iter().map(|gap| gap - index as i64).product();
             minus ^= away < 0;
             term = product(term, reduced(away.unsigned_abs()));
         }
-        sum += if minus { P - term } else { term };
+        *weight = if minus { P - term } else { term };
     }
-    product(all, reduced(sum))
+    (weights, all)
 }
 
 /// The factory's row.
