@@ -1,0 +1,16 @@
+pub mod Loops
+pub mod Sorts
+pub mod Sizes
+pub mod Naming
+pub mod Remembering
+pub mod Parts
+pub mod Passing
+pub mod Masking
+pub mod Ends
+pub mod Records
+pub mod Summing
+pub mod Finishing
+pub mod Opens
+pub mod Ranks
+pub mod Tables
+pub mod Theorems
