@@ -14,3 +14,4 @@ pub mod Opens
 pub mod Ranks
 pub mod Tables
 pub mod Theorems
+pub mod Passed
