@@ -27,9 +27,9 @@ use Rattle.product.proofs.Passed.{Factored, factored}
 use Rattle.terms.specs.declared.Term.{Term}
 use Rattle.terms.specs.Listed.{mostTerms, plain, productsOf, collected, termsOf, factorsOf}
 use Rattle.terms.proofs.Placing.{terms-again, factors-again}
-use Rattle.relation.specs.Tests.{eachAt, each, byKind, badCount, placeTests, markTests, namedTwice}
+use Rattle.relation.specs.Tests.{eachAt, each, byKind, placeTests, markTests, namedTwice}
 use Rattle.relation.specs.Masks.{masksSizes, masksMarks, maskNumberTests, relationMasksRefusal}
-use Rattle.relation.specs.Finish.{recordA, recordB, termMaskA, termMaskB, finishSizes, finishPlaces, rememberTests, finishMarks, termNumberTests, recordPair, recordTests, finishNumbers, fewTests, offTests, openTests, relationFinishChecks, relationFinishRefusal}
+use Rattle.relation.specs.Finish.{recordA, recordB, termMaskA, termMaskB, finishSizes, finishPlaces, rememberTests, finishMarks, termNumberTests, recordTests, finishNumbers, fewTests, offTests, openTests, relationFinishChecks, relationFinishRefusal}
 use Rattle.relation.proofs.Passing.{numbered-append, each-numbered}
 use Rattle.relation.proofs.Sorts.{place-numbered, mark-numbered, number-numbered}
 
@@ -60,6 +60,17 @@ products-all : (P Q : Term → Type 0) → ((t : Term) → plain t ≡ false →
 unfolding productsOf
 products-all P Q h [] a = tt
 products-all P Q h (t ∷ ts) a = products-step P Q h (plain t) t ts refl (a .0) (products-all P Q h ts (a .1))
+
+-- and back
+back-step : (P : Term → Type 0) (b : Bool) (t : Term) (ts : List Term) → plain t ≡ b
+    → All P (elim b [ true ↦ productsOf ts | false ↦ t ∷ productsOf ts ]) → (plain t ≡ false → P t) × All P (productsOf ts)
+back-step P true t ts e a = ((λ f. let w : true ≡ false = sym e ∙ f in let z : _≡_ {A = ℕ} 0 1 = cc in absurd (omega arith)), a)
+back-step P false t ts e a = ((λ f. a .0), a .1)
+
+pub products-back : (P : Term → Type 0) (ts : List Term) → All P (productsOf ts) → All (λ t. plain t ≡ false → P t) ts
+unfolding productsOf
+products-back P [] a = tt
+products-back P (t ∷ ts) a = let h = back-step P (plain t) t ts refl a in (h .0, products-back P ts (h .1))
 
 -- ---- 6 and 7 of the terms
 
@@ -272,9 +283,12 @@ module _ (s : Session) (ts : List Term) (d : ℕ) (blocks : List ℕ) where
           subst (AllAt (Agreed s rows blocks) 0) is (all-at-map _ _ (λ k t h. (h .0, h .1 .0)) 0 fs (each-fail (offTests s rows blocks) 0 fs off)),
         )
 
-    pub open-numbered : (fs : List Term) → Numbered (openTests s rows blocks 0 fs)
+    pub few-numbered : (fs : List Term) → Numbered (eachAt (fewTests s rows blocks) 0 fs)
+    few-numbered fs = each-numbered (fewTests s rows blocks) (λ k t. tt) 0 fs
+
+    open-numbered : (fs : List Term) → Numbered (openTests s rows blocks 0 fs)
     open-numbered fs =
-        numbered-append (eachAt (fewTests s rows blocks) 0 fs) _ (each-numbered (fewTests s rows blocks) (λ k t. tt) 0 fs)
+        numbered-append (eachAt (fewTests s rows blocks) 0 fs) _ (few-numbered fs)
         (each-numbered (offTests s rows blocks) (λ k t. tt) 0 fs)
 
     pub relation-finished : relationFinishRefusal s rows (collected ts) d blocks ≡ 0 → RelationFinished s rows ts d blocks

@@ -1,5 +1,5 @@
 -- A call that is not refused: the marks allow it, and the list of rows has its full length.
-use Prim.Native.Nat.{ℕ, _+_, _*_, _<_}
+use Prim.Native.Nat.{ℕ, _+_, _*_}
 use mathlib.Core.Path.{_≡_, refl, sym, _∙_, subst}
 use mathlib.Core.Logic.{inl}
 use mathlib.Core.List.{List, _++_}
@@ -15,7 +15,7 @@ use Rattle.terms.specs.declared.Term.{Term}
 use Rattle.terms.specs.Listed.{productsOf}
 use Rattle.relation.proofs.Passed.{RelationFinishPlaced, relation-masks-made, relation-finished}
 use Rattle.runs.specs.Draws.{Plan, Draw}
-use Rattle.runs.specs.Outline.{loadRow, loadTriple, deal, message, opening, linear, masks, finish, relationMasks, relationFinish, Act, takes, actsIn, finishing, summing, acts, sends}
+use Rattle.runs.specs.Outline.{loadRow, loadTriple, deal, message, opening, linear, masks, finish, relationMasks, relationFinish, takes, actsIn, finishing, summing, acts, sends}
 use Rattle.runs.specs.Calls.{Actual, Call}
 use Rattle.runs.proofs.Marks.{Marks, rememberedB, sessionAt}
 use Rattle.runs.proofs.Outcomes.{refusalOf}

@@ -1,14 +1,11 @@
 -- One post's relation: the products are written one after the other, from numbers that the rows before the call give; then the sum.
-use Prim.Native.Nat.{ℕ, zero, suc, _+_, _*_, _/_, _≤_, _<_}
-use mathlib.Core.Path.{_≡_, refl, sym, _∙_, ap, ap₂, subst, fun-ext}
-use mathlib.Core.Bool.{false}
+use Prim.Native.Nat.{ℕ, zero, suc, _+_, _*_, _/_, _<_}
+use mathlib.Core.Path.{_≡_, refl, sym, _∙_, ap, ap₂, subst}
 use mathlib.Core.Logic.{_≢_}
 use mathlib.Core.List.{List, [], _∷_, _++_, map}
 use native.Mathlib.Nat.{mul-assoc, mul-comm, mul-div-cancel}
-use native.Mathlib.Decide.{ℕ-discrete}
 use native.Mathlib.Omega.{arith}
-use lib.ListN.{length, take, drop, set, replicate, length-append}
-use Rattle.field.specs.Modulus.{p}
+use lib.ListN.{length, replicate}
 use Rattle.field.specs.Algebra.{CommutativeRing}
 use Rattle.field.specs.Element.{Element, element}
 use Rattle.field.proofs.Expression.{A, 𝟘, _:+_, _:*_, Same}
@@ -17,12 +14,10 @@ use Rattle.field.proofs.Elements.{𝓡}
 use Rattle.poly.specs.Counting.{All}
 use Rattle.poly.proofs.Lists.{all-join}
 use Rattle.session.specs.declared.Session.{Session}
-use Rattle.session.specs.Rows.{sumsAt, rowAt, withRow, summed, combined}
+use Rattle.session.specs.Rows.{sumsAt, rowAt, withRow, combined}
 use Rattle.session.proofs.Summed.{plus-nothing}
 use Rattle.session.proofs.RowLaws.{row-same, row-other, row-again}
-use Rattle.opening.specs.Walking.{recordLength, opened}
-use Rattle.product.specs.Finish as Finish
-use Rattle.product.specs.Finish.{withProduct}
+use Rattle.opening.specs.Walking.{opened}
 use Rattle.terms.specs.declared.Term.{Term}
 use Rattle.relation.specs.Finish.{recordA, recordB, termMaskA, termMaskB, withProducts, numberRow, plusTerm, plusTerms, withSum, finishedTerms}
 use Rattle.relation.specs.Masks.{maskedTerms}
@@ -31,7 +26,7 @@ use Rattle.vectors.proofs.Linear.{row-plusTimes}
 use Rattle.runs.specs.Draws.{Plan, Draw, pointOf}
 use Rattle.runs.specs.Outline.{cut, Move, factors, actsIn, factoring, finishing, summand}
 use Rattle.runs.specs.Calls.{Actual, at}
-use Rattle.runs.proofs.Marks.{Marks, markOf, rememberedA, rememberedB, remarked, finished, sessionAt, less, zeroVector, totalVector, maskVectorA, maskVectorB, written, at-same, at-other, marksBy, marksAll, numberIn, vectorsAll}
+use Rattle.runs.proofs.Marks.{Marks, markOf, rememberedA, rememberedB, remarked, finished, sessionAt, less, zeroVector, totalVector, maskVectorA, maskVectorB, written, at-other, marksBy, marksAll, numberIn, vectorsAll}
 use Rattle.runs.proofs.Sums.{addedTerms, terms-sum}
 use Rattle.runs.proofs.Packs.{rowFor}
 use Rattle.runs.proofs.Holds.{Holds, wide, row-wide, put-holds, masks-holds, Holder}

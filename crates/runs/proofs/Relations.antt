@@ -1,6 +1,6 @@
 -- A relation's two calls, act by act: the marks allow each act when its turn comes, and what they are in the end.
-use Prim.Native.Nat.{ℕ, suc, _+_, _*_, _≤_, _<_}
-use mathlib.Core.Path.{_≡_, refl, sym, _∙_, ap, subst}
+use Prim.Native.Nat.{ℕ, suc, _+_, _≤_, _<_}
+use mathlib.Core.Path.{_≡_, refl, sym, _∙_, ap}
 use mathlib.Core.Bool.{Bool, true, false}
 use mathlib.Core.Logic.{_≢_, inl, inr}
 use mathlib.Core.List.{List, [], _∷_, _++_, map}
@@ -11,16 +11,16 @@ use lib.ListN.{length, List·getD-eq-default}
 use lib.Seq.{getD-set-same}
 use lib.Dec.{eqb}
 use Rattle.poly.specs.Counting.{All}
-use Rattle.poly.proofs.Lists.{all-map, all-zip}
+use Rattle.poly.proofs.Lists.{all-zip}
 use Rattle.refusal.proofs.Laws.{or-false}
 use Rattle.terms.specs.declared.Term.{Term}
 use Rattle.terms.specs.Listed.{plain, productsOf}
 use Rattle.relation.specs.Tests.{byKind, namedIn, namedTwice}
-use Rattle.relation.specs.Finish.{numberRow}
-use Rattle.runs.specs.Outline.{Act, takes, Move, factors, multiplies, actsIn, Summand, factoring, maskings, finishing, summand, summing}
+use Rattle.relation.proofs.Passed.{products-back}
+use Rattle.runs.specs.Outline.{Act, takes, Move, factors, actsIn, factoring, maskings, finishing, summand, summing}
 use Rattle.runs.specs.Calls.{Actual, Among}
-use Rattle.runs.proofs.Marks.{Marks, markOf, rememberedA, rememberedB, remarked, finished, Masking, of, masking, marksBy, marksAll}
-use Rattle.runs.proofs.Facts.{HeldIn, Summing, Multiplying, AllowedBy, AllowedAll, ReadyFor, Sendable}
+use Rattle.runs.proofs.Marks.{Marks, markOf, rememberedA, rememberedB, remarked, finished, Masking, of, masking, marksBy}
+use Rattle.runs.proofs.Facts.{HeldIn, Multiplying, AllowedAll, ReadyFor, Sendable}
 use Rattle.runs.proofs.Rows.{past, past-three}
 
 -- ---- "a triple named twice"
@@ -170,20 +170,9 @@ module _ (N : Marks) where
   held-term t true e row third = row
   held-term t false e row third = third e
 
-  pub products-back : (ts : List Term) → All ThirdHeld (productsOf ts) → All (λ t. plain t ≡ false → ThirdHeld t) ts
-  unfolding productsOf
-  products-back [] h = tt
-  products-back (t ∷ ts) h = go (plain t) refl h (λ k. products-back ts k)
-    where
-      go : (b : Bool) → plain t ≡ b → All ThirdHeld (elim b [ true ↦ productsOf ts | false ↦ t ∷ productsOf ts ])
-          → (All ThirdHeld (productsOf ts) → All (λ t. plain t ≡ false → ThirdHeld t) ts)
-          → (plain t ≡ false → ThirdHeld t) × All (λ t. plain t ≡ false → ThirdHeld t) ts
-      go true e h later = ((λ f. let w : true ≡ false = sym e ∙ f in let z : _≡_ {A = ℕ} 0 1 = cc in absurd (omega arith)), later h)
-      go false e h later = ((λ f. h .0), later (h .1))
-
   pub terms-held : (ts : List Term) → All (λ t. (t .row < 96) × (markOf N (t .row) ≡ 2)) ts → All ThirdHeld (productsOf ts)
       → All (HeldIn N) (map summand ts)
-  terms-held ts rows thirds = go ts rows (products-back ts thirds)
+  terms-held ts rows thirds = go ts rows (products-back ThirdHeld ts thirds)
     where
       go : (l : List Term) → All (λ t. (t .row < 96) × (markOf N (t .row) ≡ 2)) l → All (λ t. plain t ≡ false → ThirdHeld t) l
           → All (HeldIn N) (map summand l)
