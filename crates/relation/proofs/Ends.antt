@@ -22,13 +22,10 @@ use Rattle.product.proofs.Joining.{joined}
 use Rattle.terms.specs.declared.Term.{Term}
 use Rattle.terms.specs.Listed.{plain}
 use Rattle.relation.specs.Tests.{byKind, Placed}
-use Rattle.relation.specs.Finish.{rememberTests, numberRow, termNumberTests, openTests}
+use Rattle.relation.specs.Finish.{rememberTests, numberRow, termNumberTests}
 
 pub remember-numbered : (s : Session) (k : ℕ) (t : Term) → Numbered (rememberTests s t)
 remember-numbered s k t = tt
-
-pub open-numbered : (s : Session) (rows blocks : List ℕ) (k : ℕ) (t : Term) → Numbered (openTests s rows blocks k t)
-open-numbered s rows blocks k t = tt
 
 module _ (w : ℕ) (rows : List ℕ) (t : Term) where
   abbrev products : List Test

@@ -24,6 +24,7 @@ use Rattle.opening.specs.Blocks.{Recorded}
 use Rattle.opening.specs.Accepting as Accepting
 use Rattle.opening.specs.Walking.{recordLength, badRecord, openedRow}
 use Rattle.product.specs.Masks.{maskRow}
+use Rattle.product.specs.Finish.{eitherOf}
 use Rattle.product.proofs.Joining.{joined}
 use Rattle.terms.specs.declared.Term.{Term}
 use Rattle.terms.specs.Listed.{mostTerms}
@@ -103,7 +104,7 @@ module _ (g : Shape) (t : Term) (h : Factors g t) where
   pub second-in : RowIn g (t .first + 1)
   second-in = row-below g (t .first + 1) (omega (arith, h .triple-in .triple-in))
 
-pub kept : (k : ℕ) (a b : Opened) (before : OpenedTerms) (u v : ℕ) → u ≡ orElse (a .refusal) (b .refusal) → v ≡ orElse (before .refusal) u
+pub kept : (k : ℕ) (a b : Opened) (before : OpenedTerms) (u v : ℕ) → u ≡ eitherOf (a .refusal) (b .refusal) → v ≡ eitherOf (before .refusal) u
     → _≡_ {A = OpenedTerms} (record { refusal = v; «y_a» = set (before .«y_a») k (a .value); «y_b» = set (before .«y_b») k (b .value) }) (keptAt k a b before)
 kept k a b before u v eu ev = rw (ev, eu) refl
 

@@ -5,12 +5,12 @@ use mathlib.Core.Path.{_≡_}
 use mathlib.Core.List.{List, [], _∷_}
 use lib.ListN.{length, getD, set, replicate}
 use Rattle.shape.specs.Lengths.{Valid}
-use Rattle.refusal.specs.Refusal.{first, orElse, outcome}
+use Rattle.refusal.specs.Refusal.{first, outcome}
 use Rattle.session.specs.declared.Session.{Session}
 use Rattle.session.specs.Sessions.{shapeOf}
 use Rattle.opening.specs.declared.Opened.{Opened}
 use Rattle.opening.specs.Walking.{recordLength, openedRow}
-use Rattle.product.specs.Finish.{withProduct}
+use Rattle.product.specs.Finish.{eitherOf, withProduct}
 use Rattle.terms.specs.declared.Term.{Term}
 use Rattle.terms.specs.declared.Terms.{Terms}
 use Rattle.terms.specs.Listed.{mostTerms, factorsOf}
@@ -24,10 +24,10 @@ pub record Pair (s : Session) (blocks : List ℕ) (k : ℕ) : Type 0 where
   pub first-in : 2 * k * recordLength s + recordLength s ≤ length blocks
   pub second-in : (2 * k + 1) * recordLength s + recordLength s ≤ length blocks
 
--- One product term's two numbers, at its place, and the first refusal.
+-- One product term's two numbers, at its place, and the refusal so far: a 9 of any record comes before a 13 of any.
 abbrev pub keptAt : ℕ → Opened → Opened → OpenedTerms → OpenedTerms
 keptAt k a b o = record {
-  refusal = orElse (o .refusal) (orElse (a .refusal) (b .refusal));
+  refusal = eitherOf (o .refusal) (eitherOf (a .refusal) (b .refusal));
   «y_a» = set (o .«y_a») k (a .value);
   «y_b» = set (o .«y_b») k (b .value);
 }

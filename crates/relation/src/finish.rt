@@ -142,14 +142,14 @@ fn open_mask(
     product::finish::open_mask(session.party(), rows, factor, row, blocks)
 }
 
-// 9, of the product term at place k, and its two numbers.
+// 9, or else 13, of the product term at place k behind those before it, and its two numbers.
 fn keep(k: usize, a: Opened, b: Opened, before: OpenedTerms) -> OpenedTerms
     requires { ⌜ k < mostTerms ⌝ }
     ensures { λ r. ⌜ r ≡ keptAt k a b before ⌝ }
 {
-    let few = refusal::or_else(a.refusal, b.refusal);
+    let own = product::finish::either(a.refusal, b.refusal);
     let mut opened = before;
-    opened.refusal = refusal::or_else(before.refusal, few);
+    opened.refusal = product::finish::either(before.refusal, own);
     opened.y_a[k] = a.value;
     opened.y_b[k] = b.value;
     opened
@@ -192,7 +192,7 @@ fn unopened(refusal: u8) -> OpenedTerms
     }
 }
 
-// Every product term's two numbers, or 9.
+// Every product term's two numbers, or 9, or 13.
 fn open_terms(session: Session, rows: &[u32], all: Terms, blocks: &[u32]) -> OpenedTerms
     requires { ⌜ Framed session (now rows) × Few all × Every (Factors (shapeOf session)) (factorsOf all) × (length (now blocks) ≡ all .products * (2 * recordLength (shapeOf session))) ⌝ }
     ensures { λ r. ⌜ r ≡ openedAll session (now (rows .entry)) all (now (blocks .entry)) ⌝ }
@@ -356,7 +356,7 @@ fn own_refusal(session: Session, rows: &[u32], all: Terms, dest: usize, blocks: 
     )
 }
 
-// 1 to 8; 9 is the openings'.
+// 1 to 8; 9 and 13 are the openings'.
 fn finish_checks(session: Session, rows: &[u32], all: Terms, dest: usize, blocks: &[u32]) -> u8
     requires { ⌜ Counted all ⌝ }
     ensures { λ r. ⌜ r ≡ first (relationFinishChecks session (now (rows .entry)) all dest (now (blocks .entry))) ⌝ }
