@@ -13,4 +13,5 @@ pub mod Finishing
 pub mod Opens
 pub mod Ranks
 pub mod Tables
+pub mod Passed
 pub mod Theorems
