@@ -32,5 +32,5 @@ pub extern "C" fn gantsorol_relation_finish(
     ensures { λ r. ⌜ r ≡ relationFinishAnswer session (now (rows .entry)) (collected (now (terms .entry))) row (now (records .entry)) ⌝ }
     ensures { λ r. ⌜ now (rows .exit) ≡ relationFinishRows session (now (rows .entry)) (collected (now (terms .entry))) row (now (records .entry)) ⌝ }
 {
-    relation::finish::finish(session, rows, terms::collect(terms), row, records)
+    relation_finish::finish(session, rows, terms::collect(terms), row, records)
 }

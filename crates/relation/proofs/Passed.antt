@@ -33,8 +33,7 @@ use Rattle.relation.specs.Finish.{recordA, recordB, termMaskA, termMaskB
 use Rattle.relation.specs.Finish.{recordPair, recordTests, finishNumbers, finishOwn, fewTests, offTests, openTests, relationFinishChecks, relationFinishRefusal}
 use Rattle.relation.proofs.Passing.{every-passed}
 use Rattle.relation.proofs.Masking.{own-numbered}
-use Rattle.relation.proofs.Finishing.{checks-numbered}
-use Rattle.relation.proofs.Opens.{open-numbered}
+use Rattle.relation.proofs.Numbering.{checks-numbered, open-numbered}
 
 -- ---- over all terms
 
