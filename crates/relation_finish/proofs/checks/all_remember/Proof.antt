@@ -9,7 +9,7 @@ use Rattle.session.specs.Sessions.{shapeOf}
 use Rattle.relation.specs.Tests.{Factors}
 use Rattle.relation.specs.Finish.{rememberTests}
 use Rattle.relation.proofs.Loops.{SoFar, asked, all-asked, every-at}
-use Rattle.relation_finish.proofs.Ends.{remember-numbered}
+use Rattle.relation.proofs.Numbering.{remember-numbered}
 use Rattle.relation_finish.proofs.checks.all_remember.Statement.{statement}
 use Rattle.relation_finish.proofs.checks.all_remember.Tie as tie
 

@@ -9,7 +9,7 @@ use Rattle.shape.specs.Lengths.{rowLength}
 use Rattle.relation.specs.Tests.{Placed}
 use Rattle.relation.specs.Finish.{termNumberTests}
 use Rattle.relation.proofs.Loops.{SoFar, asked, all-asked, every-at}
-use Rattle.relation_finish.proofs.Ends.{term-numbered}
+use Rattle.relation.proofs.Numbering.{term-numbered}
 use Rattle.relation_finish.proofs.checks.numbers.Statement.{statement}
 use Rattle.relation_finish.proofs.checks.numbers.Tie as tie
 
