@@ -173,7 +173,7 @@ pub fn open_mask(party: Party, rows: &[u32], factor: usize, row: usize, blocks: 
 }
 
 // The refusal of two openings: a 9 of either comes before a 13 of either.
-fn either(a: u8, b: u8) -> u8
+pub fn either(a: u8, b: u8) -> u8
     ensures { λ r. ⌜ r ≡ eitherOf a b ⌝ }
 {
     if b == 9 { 9 } else { refusal::or_else(a, b) }

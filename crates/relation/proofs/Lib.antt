@@ -6,11 +6,7 @@ pub mod Remembering
 pub mod Parts
 pub mod Passing
 pub mod Masking
-pub mod Ends
-pub mod Records
-pub mod Summing
-pub mod Finishing
-pub mod Opens
+pub mod Numbering
 pub mod Ranks
 pub mod Tables
 pub mod Theorems

@@ -52,7 +52,7 @@ module _ (s : Session) (rows : List ℕ) (all : Terms) where
       numbered-append (each (markTests s unused) (termsOf all)) (7 when namedTwice (factorsOf all) ∷ [])
       (each-numbered (λ k. markTests s unused) (mark-numbered s unused) 0 (termsOf all)) tt
 
-  own-numbered : Numbered (masksOwn s rows all)
+  pub own-numbered : Numbered (masksOwn s rows all)
   own-numbered =
       numbered-append places (masksMarks s all ++ numbers) places-numbered
       (numbered-append (masksMarks s all) numbers marks-numbered

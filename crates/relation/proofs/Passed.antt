@@ -1,5 +1,5 @@
 -- What the checks of a relation's two calls leave, by name, of the list of terms that they were lent.
-use Prim.Native.Nat.{ℕ, zero, suc, _+_, _*_, _≤_}
+use Prim.Native.Nat.{ℕ, suc, _*_, _≤_}
 use mathlib.Core.Path.{_≡_, refl, sym, _∙_, ap, subst}
 use mathlib.Core.Bool.{Bool, true, false}
 use mathlib.Core.List.{List, [], _∷_, _++_}
@@ -12,17 +12,16 @@ use Rattle.shape.specs.Lengths.{masksLength}
 use Rattle.poly.specs.Counting.{All}
 use Rattle.poly.proofs.Lists.{all-map, all-zip}
 use Rattle.refusal.specs.Refusal.{Test, _when_, first, AllFail}
-use Rattle.refusal.proofs.Laws.{Numbered, equal, inside, all-fail}
+use Rattle.refusal.proofs.Laws.{equal, inside, all-fail}
 use Rattle.refusal.proofs.Groups.{fail-parts}
-use Rattle.refusal.specs.Conditions.{anyBeyond}
 use Rattle.session.specs.declared.Session.{Session}
 use Rattle.session.specs.Sessions.{shapeOf, mark, factorA, factorB}
-use Rattle.session.specs.Rows.{width, rowAt}
+use Rattle.session.specs.Rows.{width}
 use Rattle.session.specs.Checks.{frameTests, noRow, noTriple, wrongMark, Framed}
 use Rattle.session.proofs.Calls.{frame-passed}
 use Rattle.opening.specs.Walking.{recordLength, badRecord, tooFew, disagree}
 use Rattle.opening.proofs.Passed.{clear-parts}
-use Rattle.product.specs.Masks.{tripleMarks, factorNumbers}
+use Rattle.product.specs.Masks.{tripleMarks}
 use Rattle.product.proofs.Passed.{Factored, factored}
 use Rattle.terms.specs.declared.Term.{Term}
 use Rattle.terms.specs.Listed.{mostTerms, plain, productsOf, collected, termsOf, factorsOf}
@@ -30,8 +29,8 @@ use Rattle.terms.proofs.Placing.{terms-again, factors-again}
 use Rattle.relation.specs.Tests.{eachAt, each, byKind, placeTests, markTests, namedTwice}
 use Rattle.relation.specs.Masks.{masksSizes, masksMarks, maskNumberTests, relationMasksRefusal}
 use Rattle.relation.specs.Finish.{recordA, recordB, termMaskA, termMaskB, finishSizes, finishPlaces, rememberTests, finishMarks, termNumberTests, recordTests, finishNumbers, fewTests, offTests, openTests, relationFinishChecks, relationFinishRefusal}
-use Rattle.relation.proofs.Passing.{numbered-append, each-numbered}
-use Rattle.relation.proofs.Sorts.{place-numbered, mark-numbered, number-numbered}
+use Rattle.relation.proofs.Masking.{own-numbered}
+use Rattle.relation.proofs.Numbering.{checks-numbered, open-numbered}
 
 -- ---- tests of every term
 
@@ -124,16 +123,6 @@ module _ (s : Session) (ts : List Term) where
       let few = inside 1 mostTerms (length ts) (sizes .1 .0) .1 in
       masks-by out (termsOf (collected ts)) (factorsOf (collected ts)) few (equal _ _ (sizes .0)) place marks (terms-again ts few) (factors-again ts few)
 
-  abbrev masksNumbered : (rows out : List ℕ) → Type 0
-  masksNumbered rows out = Numbered (masksSizes s (collected ts) out ++ (each placeTests (termsOf (collected ts)) ++ (masksMarks s (collected ts) ++ each (maskNumberTests (width s) rows) (termsOf (collected ts)))))
-
-  masks-numbered : (rows out : List ℕ) → masksNumbered rows out
-  masks-numbered rows out =
-      numbered-append (each placeTests (termsOf (collected ts))) _ (each-numbered (λ k. placeTests) place-numbered 0 (termsOf (collected ts)))
-      (numbered-append (masksMarks s (collected ts)) _
-      (numbered-append (each (markTests s unused) (termsOf (collected ts))) _ (each-numbered (λ k. markTests s unused) (mark-numbered s unused) 0 (termsOf (collected ts))) tt)
-      (each-numbered (λ k. maskNumberTests (width s) rows) (number-numbered (width s) rows) 0 (termsOf (collected ts))))
-
 pub record RelationMasksMade (s : Session) (rows : List ℕ) (ts : List Term) (out : List ℕ) : Type 0 where
   pub framed : Framed s rows
   pub placed : RelationMasksPlaced s ts out
@@ -146,7 +135,7 @@ relation-masks-made s rows ts out z =
     let eights = each (maskNumberTests (width s) rows) (termsOf all) in
     let behind = each placeTests (termsOf all) ++ (masksMarks s all ++ eights) in
     let (frame, own) = clear-parts (frameTests s rows) (masksSizes s all out ++ behind) tt z in
-    let (sizes, rest) = fail-parts (masksSizes s all out) behind (all-fail (masksSizes s all out ++ behind) (masks-numbered s ts rows out) own) in
+    let (sizes, rest) = fail-parts (masksSizes s all out) behind (all-fail (masksSizes s all out ++ behind) (own-numbered s rows all) own) in
     let (place, rest') = fail-parts (each placeTests (termsOf all)) (masksMarks s all ++ eights) rest in
     let (marks, _) = fail-parts (masksMarks s all) eights rest' in
     record { framed = frame-passed s rows 0 (sym frame) refl; placed = relation-masks-placed s ts out sizes place marks }
@@ -224,32 +213,6 @@ module _ (s : Session) (ts : List Term) (d : ℕ) (blocks : List ℕ) where
       finish-by (termsOf (collected ts)) (factorsOf (collected ts)) count (equal _ _ (sizes .0)) places marks (terms-again ts (count .1))
       (factors-again ts (count .1))
 
-  pub records-numbered : (k m : ℕ) → Numbered (recordTests s blocks k m)
-  unfolding recordTests
-  records-numbered k zero = tt
-  records-numbered k (suc m) = records-numbered (suc k) m
-
-  numbers-numbered : (w : ℕ) (rows : List ℕ) (k : ℕ) (t : Term) → Numbered (termNumberTests w rows t)
-  numbers-numbered w rows k t = go (plain t)
-    where
-      go : (b : Bool) → Numbered (byKind b (8 when anyBeyond (rowAt w rows (t .row)) ∷ []) (factorNumbers w rows (t .row) (t .second) (t .first) ++ (8 when anyBeyond (rowAt w rows (t .first + 2)) ∷ [])))
-      go true = tt
-      go false = tt
-
-  pub finish-numbered : (rows : List ℕ)
-      → Numbered (finishSizes s (collected ts) blocks ++ (finishPlaces (collected ts) d ++ (finishMarks s (collected ts) d ++ finishNumbers s rows (collected ts) blocks)))
-  finish-numbered rows =
-      let l = termsOf (collected ts) in
-      let fs = factorsOf (collected ts) in
-      numbered-append (finishPlaces (collected ts) d) _
-      (numbered-append (each placeTests l) _ (each-numbered (λ k. placeTests) place-numbered 0 l) tt)
-      (numbered-append (finishMarks s (collected ts) d) _
-      (numbered-append (each (markTests s masked) l) _ (each-numbered (λ k. markTests s masked) (mark-numbered s masked) 0 l)
-      (numbered-append (each (rememberTests s) fs) _ (each-numbered (λ k. rememberTests s) (λ k t. tt) 0 fs) tt))
-      (numbered-append (each (termNumberTests (width s) rows) l) _
-      (each-numbered (λ k. termNumberTests (width s) rows) (numbers-numbered (width s) rows) 0 l)
-      (records-numbered 0 (length (productsOf ts)))))
-
   records-each : (k : ℕ) (fs : List Term) → AllFail (recordTests s blocks k (length fs)) → AllAt (RecordsLow s blocks) k fs
   unfolding recordTests
   records-each k [] a = tt
@@ -262,7 +225,7 @@ module _ (s : Session) (ts : List Term) (d : ℕ) (blocks : List ℕ) where
         let late = finishMarks s all d ++ finishNumbers s rows all blocks in
         let behind = finishPlaces all d ++ late in
         let (frame, own) = clear-parts (frameTests s rows) (finishSizes s all blocks ++ behind) tt z in
-        let (sizes, rest) = fail-parts (finishSizes s all blocks) behind (all-fail (finishSizes s all blocks ++ behind) (finish-numbered rows) own) in
+        let (sizes, rest) = fail-parts (finishSizes s all blocks) behind (all-fail (finishSizes s all blocks ++ behind) (checks-numbered s rows all d blocks) own) in
         let (places, rest') = fail-parts (finishPlaces all d) late rest in
         let (marks, numbers) = fail-parts (finishMarks s all d) (finishNumbers s rows all blocks) rest' in
         let (_, records) = fail-parts (each (termNumberTests (width s) rows) (termsOf all)) (recordTests s blocks 0 (all .products)) numbers in
@@ -283,19 +246,11 @@ module _ (s : Session) (ts : List Term) (d : ℕ) (blocks : List ℕ) where
           subst (AllAt (Agreed s rows blocks) 0) is (all-at-map _ _ (λ k t h. (h .0, h .1 .0)) 0 fs (each-fail (offTests s rows blocks) 0 fs off)),
         )
 
-    pub few-numbered : (fs : List Term) → Numbered (eachAt (fewTests s rows blocks) 0 fs)
-    few-numbered fs = each-numbered (fewTests s rows blocks) (λ k t. tt) 0 fs
-
-    open-numbered : (fs : List Term) → Numbered (openTests s rows blocks 0 fs)
-    open-numbered fs =
-        numbered-append (eachAt (fewTests s rows blocks) 0 fs) _ (few-numbered fs)
-        (each-numbered (offTests s rows blocks) (λ k t. tt) 0 fs)
-
     pub relation-finished : relationFinishRefusal s rows (collected ts) d blocks ≡ 0 → RelationFinished s rows ts d blocks
     unfolding relationFinishRefusal
     relation-finished z =
         let all = collected ts in
-        let (clear, walks) = clear-parts (relationFinishChecks s rows all d blocks) (openTests s rows blocks 0 (factorsOf all)) (finish-numbered rows) z in
+        let (clear, walks) = clear-parts (relationFinishChecks s rows all d blocks) (openTests s rows blocks 0 (factorsOf all)) (checks-numbered s rows all d blocks) z in
         let f = relation-finish-checked clear in
-        let w = walked (factorsOf all) (factors-again ts (f .placed .few)) (all-fail (openTests s rows blocks 0 (factorsOf all)) (open-numbered (factorsOf all)) walks) in
+        let w = walked (factorsOf all) (factors-again ts (f .placed .few)) (all-fail (openTests s rows blocks 0 (factorsOf all)) (open-numbered s rows blocks 0 (factorsOf all)) walks) in
         record { checked = f; enough = w .0; agreed = w .1 }

@@ -13,7 +13,8 @@ use Rattle.session.specs.Checks.{noRow, noTriple}
 use Rattle.session.proofs.Passed.{row-in, triple-in}
 use Rattle.terms.specs.declared.Term.{Term}
 use Rattle.terms.specs.declared.Terms.{Terms}
-use Rattle.terms.specs.Listed.{mostTerms, plain, productsOf, termsOf, factorsOf}
+use Rattle.terms.specs.Listed.{mostTerms, plain, productsOf, collected, termsOf, factorsOf}
+use Rattle.terms.proofs.Placing.{products-fewer, terms-again, factors-again}
 use Rattle.relation.specs.Tests.{eachAt, byKind, badCount, placeTests, Counted, Few, Every, Factors, Placed}
 
 pub numbered-append : (xs ys : List Test) → Numbered xs → Numbered ys → Numbered (xs ++ ys)
@@ -60,6 +61,11 @@ module _ (g : Shape) where
 
   pub every-factors : (all : Terms) → Counted all → Few all → Every (Placed g) (termsOf all) → Every (Factors g) (factorsOf all)
   every-factors all c f h = rw (c .same (f .terms-in)) (factors (termsOf all) h)
+
+-- what the walk hands on of any list
+pub collected-counted : (ts : List Term) → Counted (collected ts)
+collected-counted ts =
+    record { fewer = products-fewer ts; same = λ h. factors-again ts h ∙ ap productsOf (sym (terms-again ts h)) }
 
 -- what 14 leaves
 pub few : (all : Terms) → Counted all → badCount (all .count) ≡ false → Few all

@@ -6,11 +6,10 @@ use Rattle.shape.specs.declared.Shape.{Shape}
 use Rattle.shape.specs.Bounds.{lastRow, lastTriple}
 use Rattle.session.specs.declared.Session.{Session}
 use Rattle.session.specs.declared.Answer.{Answer}
-use Rattle.session.specs.Sessions.{holding, maskedTriple, finishedTriple}
+use Rattle.session.specs.Sessions.{holding, maskedTriple}
 use Rattle.terms.specs.declared.Term.{Term}
 use Rattle.relation.specs.Tests.{Factors}
 use Rattle.relation.specs.Masks.{maskedTerms}
-use Rattle.relation.specs.Finish.{finishedTerms}
 use Rattle.relation.proofs.Loops.{walked}
 
 pub session-of : (a : Answer) (s : Session) → a ≡ holding 0 0 s → a .session ≡ s
@@ -23,14 +22,6 @@ pub masked-walk : (k : ℕ) (s : Session) (ts : List Term) → walked rememberIn
 unfolding maskedTerms
 masked-walk k s [] = refl
 masked-walk k s (t ∷ ts) = masked-walk (suc k) (maskedTriple s (t .first) (t .row) (t .second)) ts
-
-abbrev pub finishIn : ℕ → Term → Session → Session
-finishIn k t s = finishedTriple s (t .first)
-
-pub finished-walk : (k : ℕ) (s : Session) (ts : List Term) → walked finishIn k ts s ≡ finishedTerms s ts
-unfolding finishedTerms
-finished-walk k s [] = refl
-finished-walk k s (t ∷ ts) = finished-walk (suc k) (finishedTriple s (t .first)) ts
 
 pub in-range : (g : Shape) (t : Term) → Factors g t → (t .first ≤ lastTriple) × (t .row ≤ lastRow) × (t .second ≤ lastRow)
 in-range g t h = (h .triple-in .triple-in, h .row-in .row-in, h .second-in .row-in)

@@ -14,7 +14,7 @@ use Rattle.session.specs.Checks.{frameTests, noRow, wrongMark}
 use Rattle.terms.specs.declared.Term.{Term}
 use Rattle.terms.specs.Listed.{mostTerms, productsOf, collected, termsOf, factorsOf}
 use Rattle.terms.proofs.Placing.{terms-again, factors-again}
-use Rattle.relation.specs.Tests.{eachAt, each, placeTests, markTests, namedTwice}
+use Rattle.relation.specs.Tests.{each, placeTests, markTests, namedTwice}
 use Rattle.relation.specs.Masks.{masksSizes, maskNumberTests, relationMasksRefusal}
 use Rattle.relation.specs.Finish.{finishSizes, rememberTests, termNumberTests, recordTests, openTests, relationFinishRefusal}
 use Rattle.relation.specs.Table.{RelationTables}
@@ -59,7 +59,7 @@ module _ (s : Session) (rows : List ℕ) (ts : List Term) where
         ++ ((each (markTests s masked) l
         ++ (7 when namedTwice f ∷ (each (rememberTests s) f ++ (7 when wrongMark s d empty ∷ []))))
         ++ (each (termNumberTests (width s) rows) l ++ recordTests s blocks 0 (length (productsOf ts)))))
-        ++ eachAt (openTests s rows blocks) 0 f
+        ++ openTests s rows blocks 0 f
 
     at-hand′ : first (frameTests s rows ++ finishSizes s (collected ts) blocks) ≡ 0 → length ts ≤ mostTerms
     at-hand′ e = inside 1 mostTerms (length ts) (all-fail before tt e .1 .1 .1 .1 .1 .1 .0) .1

@@ -15,7 +15,7 @@ use Rattle.session.specs.Sessions.{shapeOf, factorA, factorB, answer}
 use Rattle.session.specs.Rows.{width, rowAt}
 use Rattle.session.specs.Checks.{noRow, noTriple, wrongMark}
 use Rattle.session.proofs.Endings.{refused-answer, accepted-answer}
-use Rattle.opening.specs.Walking.{tooFew}
+use Rattle.opening.specs.Walking.{tooFew, disagree}
 use Rattle.terms.specs.declared.Term.{Term}
 use Rattle.terms.specs.Listed.{mostTerms, plain, productsOf, collected, termsOf, factorsOf}
 use Rattle.terms.proofs.Placing.{terms-again, factors-again}
@@ -129,6 +129,7 @@ module _ (s : Session) (rows : List ℕ) (ts : List Term) where
       let seven = each (sevens s 5) ts ++ (7 when namedTwice (productsOf ts) ∷ (kept ++ (7 when wrongMark s d 0 ∷ []))) in
       let eight = each (λ t. eights (alone t) (five t) t) ts ++ recordTests s blocks 0 (length (productsOf ts)) in
       let nine = eachAt (λ k t. 9 when tooFew s (termMaskA s rows t) (recordA s blocks k) ∷ 9 when tooFew s (termMaskB s rows t) (recordB s blocks k) ∷ []) 0 (productsOf ts) in
+      let thirteen = eachAt (λ k t. 13 when disagree s (termMaskA s rows t) (recordA s blocks k) ∷ 13 when disagree s (termMaskB s rows t) (recordB s blocks k) ∷ []) 0 (productsOf ts) in
       let o6 : Only 6 sixth = only-append 6 six (6 when noRow d ∷ []) six-all (refl, tt) in
       let ok : Only 7 kept =
       each-only 7 (λ k t. 7 when not (eqb (factorA s (t .first)) (t .row)) ∷ 7 when not (eqb (factorB s (t .first)) (t .second)) ∷ [])
@@ -143,11 +144,16 @@ module _ (s : Session) (rows : List ℕ) (ts : List Term) where
       let o9 : Only 9 nine =
       each-only 9 (λ k t. 9 when tooFew s (termMaskA s rows t) (recordA s blocks k) ∷ 9 when tooFew s (termMaskB s rows t) (recordB s blocks k) ∷ [])
       (λ k t. (refl, (refl, tt))) 0 (productsOf ts) in
-      let tail : Ranked 11 (sixth ++ (seven ++ (eight ++ nine))) =
-      ranked-group 11 6 sixth (seven ++ (eight ++ nine)) (search needs) (search needs) o6
-      (ranked-group 12 7 seven (eight ++ nine) (search needs) (search needs) o7
-      (ranked-group 14 8 eight nine (search needs) (search needs) o8 (ranked-last 16 9 nine (search needs) (search needs) o9))) in
-      let whole : Ranked 11 ((sixth ++ (seven ++ eight)) ++ nine) = rw (append-assoc sixth (seven ++ eight) nine, append-assoc seven eight nine) tail in (
+      let o13 : Only 13 thirteen =
+      each-only 13 (λ k t. 13 when disagree s (termMaskA s rows t) (recordA s blocks k) ∷ 13 when disagree s (termMaskB s rows t) (recordB s blocks k) ∷ [])
+      (λ k t. (refl, (refl, tt))) 0 (productsOf ts) in
+      let opens = nine ++ thirteen in
+      let tail : Ranked 11 (sixth ++ (seven ++ (eight ++ opens))) =
+      ranked-group 11 6 sixth (seven ++ (eight ++ opens)) (search needs) (search needs) o6
+      (ranked-group 12 7 seven (eight ++ opens) (search needs) (search needs) o7
+      (ranked-group 14 8 eight opens (search needs) (search needs) o8
+      (ranked-group 16 9 nine thirteen (search needs) (search needs) o9 (ranked-last 18 13 thirteen (search needs) (search needs) o13)))) in
+      let whole : Ranked 11 ((sixth ++ (seven ++ eight)) ++ opens) = rw (append-assoc sixth (seven ++ eight) opens, append-assoc seven eight opens) tail in (
         search needs,
         search needs,
         (

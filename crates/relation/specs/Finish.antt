@@ -13,9 +13,9 @@ use Rattle.session.specs.declared.Answer.{Answer}
 use Rattle.session.specs.Sessions.{shapeOf, factorA, factorB, marked, finishedTriple, answer}
 use Rattle.session.specs.Rows.{width, sumsAt, rowAt, withRow, summed}
 use Rattle.session.specs.Checks.{frameTests, noRow, wrongMark}
-use Rattle.opening.specs.Walking.{recordLength, badRecord, opened}
+use Rattle.opening.specs.Walking.{recordLength, badRecord, tooFew, disagree, opened}
 use Rattle.product.specs.Masks.{maskRow, factorNumbers}
-use Rattle.product.specs.Finish.{tooFewOf, withProduct}
+use Rattle.product.specs.Finish.{withProduct}
 use Rattle.terms.specs.declared.Term.{Term}
 use Rattle.terms.specs.declared.Terms.{Terms}
 use Rattle.terms.specs.Listed.{plain, termsOf, factorsOf}
@@ -78,8 +78,18 @@ finishNumbers s rows all blocks =
     each (termNumberTests (width s) rows) (termsOf all) ++ recordTests s blocks 0 (all .products)
 
 -- 9, of the two records of the product term at place k.
-abbrev pub openTests : Session → List ℕ → List ℕ → ℕ → Term → List Test
-openTests s rows blocks k t = tooFewOf s (termMaskA s rows t) (termMaskB s rows t) (recordA s blocks k) (recordB s blocks k)
+abbrev pub fewTests : Session → List ℕ → List ℕ → ℕ → Term → List Test
+fewTests s rows blocks k t =
+    9 when tooFew s (termMaskA s rows t) (recordA s blocks k) ∷ 9 when tooFew s (termMaskB s rows t) (recordB s blocks k) ∷ []
+
+-- 13, of the two records of the product term at place k.
+abbrev pub offTests : Session → List ℕ → List ℕ → ℕ → Term → List Test
+offTests s rows blocks k t =
+    13 when disagree s (termMaskA s rows t) (recordA s blocks k) ∷ 13 when disagree s (termMaskB s rows t) (recordB s blocks k) ∷ []
+
+-- 9 of every record of these product terms, from place k on, then 13 of every one: "in either record of a finish, after 9".
+abbrev pub openTests : Session → List ℕ → List ℕ → ℕ → List Term → List Test
+openTests s rows blocks k ts = eachAt (fewTests s rows blocks) k ts ++ eachAt (offTests s rows blocks) k ts
 
 -- 6 to 8
 abbrev pub finishOwn : Session → List ℕ → Terms → ℕ → List ℕ → List Test
@@ -91,7 +101,7 @@ relationFinishChecks s rows all d blocks = frameTests s rows ++ (finishSizes s a
 
 abbrev pub relationFinishTests : Session → List ℕ → Terms → ℕ → List ℕ → List Test
 relationFinishTests s rows all d blocks =
-    relationFinishChecks s rows all d blocks ++ eachAt (openTests s rows blocks) 0 (factorsOf all)
+    relationFinishChecks s rows all d blocks ++ openTests s rows blocks 0 (factorsOf all)
 
 unfoldable pub relationFinishRefusal : Session → List ℕ → Terms → ℕ → List ℕ → ℕ
 relationFinishRefusal s rows all d blocks = first (relationFinishTests s rows all d blocks)

@@ -13,7 +13,7 @@ use Rattle.session.specs.declared.Session.{Session}
 use Rattle.session.specs.Sessions.{factorA, factorB}
 use Rattle.session.specs.Rows.{width, rowAt}
 use Rattle.session.specs.Checks.{noRow, noTriple, wrongMark}
-use Rattle.opening.specs.Walking.{recordLength, tooFew}
+use Rattle.opening.specs.Walking.{recordLength, tooFew, disagree}
 use Rattle.terms.specs.declared.Term.{Term}
 use Rattle.terms.specs.Listed.{plain, productsOf, collected}
 use Rattle.relation.specs.Tests.{eachAt, each, byKind, namedTwice}
@@ -37,7 +37,7 @@ sevens s m t =
 
 abbrev pub relationMasksTable : Session → List ℕ → List Term → List ℕ → List Test
 relationMasksTable s rows ts out =
-    1 when outside 2 32 (s .n)
+    1 when outside 2 255 (s .n)
     ∷ 2 when outside 1 (s .n - 1) (s .t)
     ∷ 3 when outside 1 (s .n) (s .post)
     ∷ 4 when badPoint (s .point)
@@ -58,7 +58,7 @@ relationMasksTable s rows ts out =
 
 abbrev pub relationFinishTable : Session → List ℕ → List Term → ℕ → List ℕ → List Test
 relationFinishTable s rows ts d blocks =
-    1 when outside 2 32 (s .n)
+    1 when outside 2 255 (s .n)
     ∷ 2 when outside 1 (s .n - 1) (s .t)
     ∷ 3 when outside 1 (s .n) (s .post)
     ∷ 4 when badPoint (s .point)
@@ -81,9 +81,12 @@ relationFinishTable s rows ts d blocks =
     ∷ []))
     ts
     ++ recordTests s blocks 0 (length (productsOf ts)))))
-    ++ eachAt
+    ++ (eachAt
     (λ k t. 9 when tooFew s (termMaskA s rows t) (recordA s blocks k) ∷ 9 when tooFew s (termMaskB s rows t) (recordB s blocks k) ∷ [])
-    0 (productsOf ts))
+    0 (productsOf ts)
+    ++ eachAt
+    (λ k t. 13 when disagree s (termMaskA s rows t) (recordA s blocks k) ∷ 13 when disagree s (termMaskB s rows t) (recordB s blocks k) ∷ [])
+    0 (productsOf ts)))
 
 -- The calls' refusals are those of these tables.
 pub record RelationTables : Type 0 where

@@ -23,7 +23,8 @@ use Rattle.terms.proofs.Placing.{factors-again}
 use Rattle.relation.specs.Tests.{eachAt, each, byKind, placeTests, markTests, namedTwice}
 use Rattle.relation.specs.Masks.{masksSizes, masksMarks, maskNumberTests, relationMasksTests, relationMasksRefusal}
 use Rattle.relation.specs.Finish.{recordA, recordB, finishSizes, finishPlaces, finishMarks, rememberTests, termNumberTests, recordTests, finishNumbers, fewTests, offTests, openTests, relationFinishChecks, relationFinishRefusal}
-use Rattle.relation.proofs.Passed.{AllAt, each-fail, RelationFinishPlaced, relation-finish-checked, finish-numbered, few-numbered}
+use Rattle.relation.proofs.Passed.{AllAt, each-fail, RelationFinishPlaced, relation-finish-checked}
+use Rattle.relation.proofs.Numbering.{checks-numbered, few-numbered}
 use Rattle.runs.specs.Outline.{takes, Move, finishing, summing}
 use Rattle.runs.specs.Calls.{ToldHalf}
 use Rattle.runs.proofs.Marks.{rememberedA, rememberedB, sessionAt}
@@ -164,14 +165,14 @@ module _ (C : Run) (m : Moment) (S : State C m) (i : ℕ) (lo : 1 ≤ i) (hi : i
         let all = collected ts in
         let checks = relationFinishChecks s l all d bl in
         let walks = openTests s l bl 0 (factorsOf all) in
-        let numbered = finish-numbered s ts d bl l in
+        let numbered = checks-numbered s l all d bl in
         let z = none-before checks walks numbered checks-other e in
         let f = relation-finish-checked s ts d bl l z .placed in
         let last = sym (first-join checks walks numbered ∙ ap (λ (k : ℕ). orElse k (first walks)) z) ∙ e in
         let off = subst (λ (us : List Term). first (openTests s l bl 0 us) ≡ 13) (factors-again ts (f .few)) last in
         let nine = eachAt (fewTests s l bl) 0 fs in
         let thirteen = eachAt (offTests s l bl) 0 fs in
-        let numbered' = few-numbered s ts d bl l fs in
+        let numbered' = few-numbered s l bl 0 fs in
         let none = none-before nine thirteen numbered' (other-each (fewTests s l bl) (λ k t. omega arith) 0 fs) off in
         let agree = not-refused thirteen (all-agree f 0 fs (summing d ts) (omega arith) (waiting plan draw i M l ts d bl f) (f .remembered) (each-fail (fewTests s l bl) 0 fs (all-fail nine numbered' none)) rule) in
         let wrong : _≡_ {A = ℕ} 0 13 = sym (first-join nine thirteen numbered' ∙ ap₂ orElse none agree) ∙ off in

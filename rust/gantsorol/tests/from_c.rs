@@ -5,10 +5,19 @@ use std::mem::{offset_of, size_of};
 use std::path::{Path, PathBuf};
 use std::process::Command;
 
-use gantsorol::{Answer, Line, Number, Session, Written};
+use gantsorol::{Answer, Line, Number, Session, Term, Written};
 
 mod in_rust {
     include!("../examples/sharing.rs");
+
+    #[test]
+    fn the_example() {
+        assert_eq!(main(), Ok(()));
+    }
+}
+
+mod a_relation_in_rust {
+    include!("../examples/relation.rs");
 
     #[test]
     fn the_example() {
@@ -61,6 +70,12 @@ fn a_product_in_c() {
     check_example("product");
 }
 
+/// The fee is rides x rate for one firm, and not for the other, which says so of 43.
+#[test]
+fn a_relation_in_c() {
+    check_example("relation");
+}
+
 /// The README shows parts of the examples that the tests compile and run: lines of the file, one after the other.
 #[test]
 fn the_readme_shows_parts_of_the_examples() {
@@ -107,6 +122,7 @@ fn every_call_from_c() {
     layout!(expected,
         Session, "session": n t post point marks factor_a factor_b;
         Answer, "answer": refusal value session;
+        Term, "term": coefficient row second first;
         Number, "number": refusal value;
         Written, "written": refusal len;
         Line, "line": refusal letter row post;
