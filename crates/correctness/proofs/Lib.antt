@@ -9,3 +9,6 @@ pub mod Openings
 pub mod Theorems
 pub mod Caught
 pub mod Parts
+pub mod Relating
+pub mod Keeping
+pub mod Relation
