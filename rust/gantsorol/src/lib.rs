@@ -32,4 +32,4 @@ pub use lengths::{block_len, line_list_len, masks_len, record_len, row_draw_len,
 pub use lengths::{rows_len, triple_draw_len, LONGEST_LINE, MAX_POSTS, MODULUS, ROWS};
 pub use refusal::Refusal;
 pub use session::{Answer, Session};
-pub use works::{dealer_number, factory_row, factory_triple, Number};
+pub use works::{dealer_number, factory_row, factory_triple, write_pack, Number};
