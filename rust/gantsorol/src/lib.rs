@@ -34,4 +34,4 @@ pub use lengths::{rows_len, triple_draw_len, LONGEST_LINE, MAX_POSTS, MODULUS, R
 pub use record::{record_put, record_remove};
 pub use refusal::Refusal;
 pub use session::{Answer, Session};
-pub use works::{dealer_number, factory_row, factory_triple, Number};
+pub use works::{dealer_number, factory_row, factory_triple, write_pack, Number};

@@ -1,0 +1,8 @@
+pub mod Kinded
+pub mod Asking
+pub mod Spelt
+pub mod Rising
+pub mod Shares
+pub mod Entire
+pub mod Theorems
+pub mod Returning
