@@ -15,7 +15,7 @@ use Rattle.packfile.specs.Writing.{postAt}
 -- `room` is the length of the lent list.
 abbrev pub packTable : ℕ → ℕ → ℕ → List ℕ → List ℕ → List ℕ → ℕ → List Test
 packTable n t post points kinds draws room =
-    1 when outside 2 32 n
+    1 when outside 2 255 n
     ∷ 2 when outside 1 (n - 1) t
     ∷ 3 when outside 1 n post
     ∷ 4 when anyBadPoint points
