@@ -5,4 +5,3 @@ pub mod Rising
 pub mod Shares
 pub mod Entire
 pub mod Theorems
-pub mod Returning

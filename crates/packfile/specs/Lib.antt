@@ -4,4 +4,3 @@ pub mod Writing
 pub mod Table
 pub mod Claims
 pub mod Parts
-pub mod ReadBack
