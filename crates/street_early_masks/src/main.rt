@@ -1,4 +1,4 @@
-// The street program: reads lines from standard input, and prints an answer to each.
+// `M` lines that come before the `X`, own ones, and one for another triple, which empties the records.
 fn main() {
     console::run();
 }

@@ -1,4 +1,4 @@
-// The street program: reads lines from standard input, and prints an answer to each.
+// The records of `M` lines: replaced, emptied by another triple, left by `F`, apart from the record of `O` lines.
 fn main() {
     console::run();
 }

@@ -1,4 +1,4 @@
-// The street program: reads lines from standard input, and prints an answer to each.
+// Each new line refused: 10, 11, 7 and 9 in their order; `X` and `F` twice; nothing is printed behind a refused `X`.
 fn main() {
     console::run();
 }
