@@ -102,14 +102,14 @@ module _ (s : Shape) (c row : ℕ) (marks rows : List ℕ) (k : ℕ) (ks draws :
   pub ahead-none : Ahead s (c - 1) (suc row) marks rows ks (drop (drawnFor s k) draws)
   ahead-none = next (c - 1) marks rows (λ i h. still i (omega arith)) (λ i h. a .covered (suc i) (omega arith)) (a .room)
 
-  module _ (is : k ≡ raw) (rows' : List ℕ) (room : length rows' ≡ rowsLength s) where
+  module _ (is : k ≡ raw) where
     pub raw-free : getD marks row empty ≡ empty
     raw-free =
         let z = none-covered (λ e. omega arith) in
         ap (λ (j : ℕ). getD marks j empty) (omega arith) ∙ a .free 0 (omega arith)
 
-    pub ahead-raw : Ahead s 0 (suc row) (set marks row raw) rows' ks (drop (drawnFor s k) draws)
-    ahead-raw =
+    pub ahead-raw : (rows' : List ℕ) → length rows' ≡ rowsLength s → Ahead s 0 (suc row) (set marks row raw) rows' ks (drop (drawnFor s k) draws)
+    ahead-raw rows' room =
         let z = none-covered (λ e. omega arith) in
         next 0 (set marks row raw) rows' (λ i h. other marks row raw (suc row + i) (λ e. omega arith) (still i (omega arith)))
         (λ i h. absurd (omega arith)) room
