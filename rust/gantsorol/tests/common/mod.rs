@@ -132,6 +132,28 @@ impl Library for Verified {
         answered(given(s).finish(rows, first, record, record2))
     }
 
+    /// Relations are not exported here: the second implementation answers for both.
+    fn relation_masks(
+        &self,
+        s: reference::Session,
+        rows: &[u32],
+        terms: &[reference::Term],
+        out: &mut [u32],
+    ) -> Answer {
+        reference::REFERENCE.relation_masks(s, rows, terms, out)
+    }
+
+    fn relation_finish(
+        &self,
+        s: reference::Session,
+        rows: &mut [u32],
+        terms: &[reference::Term],
+        records: &[u32],
+        dest: usize,
+    ) -> Answer {
+        reference::REFERENCE.relation_finish(s, rows, terms, records, dest)
+    }
+
     fn factory_row(&self, n: usize, t: usize, points: &[u32], draw: &[u32], out: &mut [u32]) -> u8 {
         number_of(gantsorol::factory_row(n, t, points, draw, out))
     }
@@ -183,6 +205,19 @@ impl Library for Verified {
     fn read(&self, n: usize, t: usize, line: &[u8], out: &mut [u32]) -> ReadLine {
         let gantsorol::Line { refusal, letter, row, post } = gantsorol::read(n, t, line, out);
         ReadLine { refusal, letter, row, post }
+    }
+
+    fn write_pack(
+        &self,
+        n: usize,
+        t: usize,
+        post: usize,
+        points: &[u32],
+        kinds: &[u8],
+        draws: &[u32],
+        out: &mut [u8],
+    ) -> Written {
+        written(gantsorol::write_pack(n, t, post, points, kinds, draws, out))
     }
 
     fn street(&self, _: &[u8]) -> Vec<u8> {
