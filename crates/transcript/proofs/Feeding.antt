@@ -22,7 +22,7 @@ use Rattle.interpreter.specs.Stepping.{step, checkedStep, Ready}
 use Rattle.interpreter.proofs.Ranges.{step-ready, step-told}
 use Rattle.interpreter.proofs.Room.{ready-step}
 use Rattle.transcript.specs.declared.Feed.{Feed}
-use Rattle.transcript.specs.Text.{longSize, longNumeral, answerText, longestAnswer, printText, longestPrint}
+use Rattle.transcript.specs.Text.{longSize, longNumeral, answerText, longestAnswer, printText, printOf, longestPrint}
 use Rattle.transcript.specs.Lines.{keptLength, cut}
 use Rattle.transcript.specs.Program.{Running, leftBy, answered, grown, closed, firstFeed, running, segmented, Open, Added, Fed}
 
@@ -77,36 +77,48 @@ line-prefix f store line out o = sym (length-take-le (f .len) line (omega (arith
 pub line-in : (f : Feed) (store line out : List ℕ) → Open f store line out 1 → f .len ≤ length line
 line-in f store line out o = omega (arith, o .len-in, o .line-room)
 
+pub line-ready : (f : Feed) (store line out : List ℕ) → Open f store line out 1 → Ready (f .state) store
+line-ready f store line out o = o .ready
+
 pub print-room : (f : Feed) (store line out : List ℕ) → Open f store line out 1 → f .at + longestPrint ≤ length out
 print-room f store line out o = omega (arith, o .room)
 
-module _ (f : Feed) (store line out : List ℕ) (room : ℕ) (o : Open f store line out 1) (v : Stepped) (store' text' : List ℕ)
-    (t : room ≡ toldRoom) (c : after v store' text' ≡ checkedStep (f .state) store (take (f .len) line) room) where
-  e : after v store' text' ≡ step (f .state) store (take (f .len) line)
-  e = c ∙ ready-step (f .state) store (take (f .len) line) room (o .ready) t
+-- ---- a step, and what is printed for it
+module _ (st : State) (store line : List ℕ) (room : ℕ) (y : Ready st store) (t : room ≡ toldRoom) (v : Stepped) (store' text' : List ℕ)
+    (c : after v store' text' ≡ checkedStep st store line room) where
+  pub taken-is : after v store' text' ≡ step st store line
+  taken-is = c ∙ ready-step st store line room y t
 
-  told-is : v .told ≡ length (take (v .told) text')
-  told-is = ap (λ (a : After). a .given .told) e ∙ step-told (f .state) store (take (f .len) line) (o .ready) ∙ sym (ap (λ (a : After). length (a .told)) e)
+  pub taken-ready : length store' ≡ length store → Ready (v .state) store'
+  taken-ready p = step-ready st store line text' v store' y taken-is p
 
-  pub told-in : v .told ≤ length text'
-  told-in = omega (arith, told-is, length-take (v .told) text')
+  pub taken-told : length text' ≡ toldRoom → v .told ≤ toldRoom
+  taken-told l =
+      let k : v .told ≡ length (take (v .told) text') = ap (λ (a : After). a .given .told) taken-is ∙ step-told st store line y ∙ sym (ap (λ (a : After). length (a .told)) taken-is) in
+      omega (arith, k, length-take (v .told) text')
 
-  pub told-prefix : v .told ≡ length (take (v .told) text')
-  told-prefix = told-is
+pub told-in : (told : ℕ) (text : List ℕ) → told ≤ toldRoom → length text ≡ toldRoom → told ≤ length text
+told-in told text h l = omega arith
 
-  pub told-few : length text' ≡ toldRoom → length (take (v .told) text') ≤ toldRoom
-  told-few l = omega (arith, told-is, told-in)
+pub told-prefix : (told : ℕ) (text : List ℕ) → told ≤ toldRoom → length text ≡ toldRoom → told ≡ length (take told text)
+told-prefix told text h l = sym (length-take-le told text (omega arith))
 
+pub told-few : (told : ℕ) (text : List ℕ) → told ≤ toldRoom → length text ≡ toldRoom → length (take told text) ≤ toldRoom
+told-few told text h l = omega (arith, length-take-le told text (omega arith))
+
+-- ---- the line begun is taken
+module _ (f : Feed) (store line out : List ℕ) (o : Open f store line out 1) (v : Stepped) (store' text' : List ℕ) where
   abbrev print : List ℕ
-  print = printText (f .number + 1) (v .refusal) (v .value) (take (v .told) text')
+  print = printOf (f .number + 1) v text'
 
-  module _ (l : length text' ≡ toldRoom) (out' : List ℕ) (at' : ℕ) (p : at' ≡ f .at + length print) (q : out' ≡ overwrite (f .at) print out) where
+  module _ (out' : List ℕ) (at' : ℕ) (p : at' ≡ f .at + length print) (q : out' ≡ overwrite (f .at) print out) where
     abbrev new : Feed
     new = record { state = v .state; number = f .number + 1; len = 0; at = at' }
 
-    pub line-answered : running new store' line out' ≡ answered (running f store line out)
+    pub line-answered : after v store' text' ≡ step (f .state) store (take (f .len) line)
+        → running new store' line out' ≡ answered (running f store line out)
     unfolding answered
-    line-answered =
+    line-answered e =
         let p₀ : Running = running f store line out in
         let w : take at' out' ≡ take (f .at) out ++ print = rw (p, q) (written-front (f .at) print out (omega (arith, o .room))) in
         ap (λ (z : List ℕ). record { state = v .state; store = store'; line = []; number = f .number + 1; out = z }) w ∙ ap (leftBy p₀) e
@@ -114,12 +126,9 @@ module _ (f : Feed) (store line out : List ℕ) (room : ℕ) (o : Open f store l
     pub line-added : Added f new out out'
     line-added = record { grows = omega arith; behind = rw (p, q) (written-behind (f .at) print out (omega (arith, o .room))) }
 
-    pub line-bound : at' ≤ f .at + longestPrint
-    line-bound =
-        omega (arith, length-append (answerText (f .number + 1) (v .refusal) (v .value)) (take (v .told) text'), answer-length (f .number + 1) (v .refusal) (v .value), told-few l)
-
-  pub line-ready : length store' ≡ length store → Ready (v .state) store'
-  line-ready p = step-ready (f .state) store (take (f .len) line) text' v store' (o .ready) e p
+    pub line-bound : v .told ≤ toldRoom → length text' ≡ toldRoom → at' ≤ f .at + longestPrint
+    line-bound h l =
+        omega (arith, length-append (answerText (f .number + 1) (v .refusal) (v .value)) (take (v .told) text'), answer-length (f .number + 1) (v .refusal) (v .value), told-few (v .told) text' h l)
 
 pub none-added : (f r : Feed) (out : List ℕ) → r .at ≡ f .at → Added f r out out
 none-added f r out e = record { grows = omega arith; behind = refl }

@@ -2,6 +2,7 @@
 mod limits;
 
 use interpreter::State;
+use interpreter::Stepped;
 ghost use mathlib.Core.Path.{_≡_};
 ghost use mathlib.Core.Bool.{cond};
 ghost use mathlib.Core.List.{_++_};
@@ -9,9 +10,10 @@ ghost use Prim.Native.Nat.{_+_, _≤_};
 ghost use lib.ListN.{length, take, drop};
 ghost use lib.Dec.{ltb};
 ghost use Rattle.interpreter.specs.Products.{toldRoom};
-ghost use Rattle.interpreter.specs.Stepping.{Ready};
+ghost use Rattle.interpreter.specs.States.{after};
+ghost use Rattle.interpreter.specs.Stepping.{step, Ready};
 ghost use Rattle.csv.specs.Fields.{overwrite};
-ghost use Rattle.transcript.specs.Text.{header, longSize, longNumeral, answerText, longestAnswer, printText, longestPrint};
+ghost use Rattle.transcript.specs.Text.{header, longSize, longNumeral, answerText, longestAnswer, printText, printOf, longestPrint};
 ghost use Rattle.transcript.specs.Lines.{segment, keptLength, cut, laid};
 ghost use Rattle.transcript.specs.Limits.{feedRefusal, Moved};
 ghost use Rattle.transcript.specs.Program.{running, answered, segmented, fed, closed, lineAfter, drainedFeed, firstFeed, Open, Added, Fed};
@@ -136,6 +138,32 @@ pub struct Progress {
     pub feed: Feed,
 }
 
+// What is printed for a step that left this text, from a position on; the position behind.
+fn print_step(out: &mut [u8], at: usize, number: u64, stepped: Stepped, text: &[u8]) -> usize
+    requires { ⌜ (at + longestPrint ≤ length (now out)) × (stepped .told ≤ toldRoom) × (length (now text) ≡ toldRoom) ⌝ }
+    ensures { λ r. ⌜ (r ≡ at + length (printOf number stepped (now (text .entry))))
+        × (now (out .exit) ≡ overwrite at (printOf number stepped (now (text .entry))) (now (out .entry))) ⌝ }
+{
+    let told = stepped.told;
+    put_print(
+        out,
+        at,
+        number,
+        stepped.refusal,
+        stepped.value,
+        &text[..told],
+    )
+}
+
+// A line, where there is room for all that it may leave.
+fn take_line(state: State, store: &mut [u32], line: &[u8], text: &mut [u8]) -> Stepped
+    requires { ⌜ Ready state (now store) × (length (now text) ≡ toldRoom) ⌝ }
+    ensures { λ r. ⌜ after r (now (store .exit)) (now (text .exit)) ≡ step state (now (store .entry)) (now (line .entry)) ⌝ }
+    ensures { λ r. ⌜ Ready (r .state) (now (store .exit)) × (r .told ≤ toldRoom) ⌝ }
+{
+    interpreter::step(state, store, line, text)
+}
+
 // The line begun is taken, and its answer written.
 fn end_line(feed: Feed, store: &mut [u32], line: &[u8], out: &mut [u8]) -> Feed
     requires { ⌜ Open feed (now store) (now line) (now out) 1 ⌝ }
@@ -146,18 +174,10 @@ fn end_line(feed: Feed, store: &mut [u32], line: &[u8], out: &mut [u8]) -> Feed
 {
     let len = feed.len;
     let mut text = [0u8; interpreter::TOLD_ROOM];
-    let stepped = interpreter::step(feed.state, store, &line[..len], &mut text);
-    let state = stepped.state;
+    let stepped = take_line(feed.state, store, &line[..len], &mut text);
     let number = feed.number + 1;
-    let told = stepped.told;
-    let at = put_print(
-        out,
-        feed.at,
-        number,
-        stepped.refusal,
-        stepped.value,
-        &text[..told],
-    );
+    let at = print_step(out, feed.at, number, stepped, &text);
+    let state = stepped.state;
     Feed {
         state,
         number,
