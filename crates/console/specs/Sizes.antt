@@ -1,13 +1,13 @@
 -- How much is read and printed at a time, and how long the program reads.
 use Prim.Native.Nat.{ℕ, _*_, _%_, _^_}
-use Rattle.transcript.specs.Text.{longestAnswer}
+use Rattle.transcript.specs.Text.{longestPrint}
 
 -- The bytes of a chunk, and room for their answers.
 abbrev pub chunkSize : ℕ
-chunkSize = 4096
+chunkSize = 2048
 
 abbrev pub answersRoom : ℕ
-answersRoom = longestAnswer * chunkSize
+answersRoom = longestPrint * chunkSize
 
 -- Nothing says that an input ends: no run uses up these turns.
 abbrev pub allTurns : ℕ

@@ -11,14 +11,14 @@ ghost use mathlib.Core.Bool.{true, not};
 ghost use Prim.Native.Nat.{_+_, _≤_};
 ghost use lib.ListN.{length, take};
 ghost use Rattle.transcript.specs.Program.{running, Open};
-ghost use Rattle.console.specs.Sizes.{chunkSize};
+ghost use Rattle.console.specs.Sizes.{chunkSize, answersRoom};
 ghost use Rattle.console.specs.Serving.{Fresh, Begun, Answered, stopsAt, brokenOff, Stopped, Finished, Ended};
 ghost use Rattle.console.specs.Notes.{noteFor};
 
 // Room for a chunk and for its answers: at most one for each byte.
-const CHUNK: usize = 4096;
+const CHUNK: usize = 2048;
 
-const ANSWER_BYTES: usize = transcript::LONGEST_ANSWER * CHUNK;
+const ANSWER_BYTES: usize = transcript::LONGEST_PRINT * CHUNK;
 
 // Nothing says that an input ends: no run uses up these turns.
 const TURNS: u64 = 1 << 51;
@@ -204,6 +204,13 @@ pub struct Outcome {
     pub noted: usize,
 }
 
+// Room for the answers.
+fn answers_room() -> [u8; ANSWER_BYTES]
+    ensures { λ r. ⌜ length r ≡ answersRoom ⌝ }
+{
+    [0; ANSWER_BYTES]
+}
+
 // Reads and prints after the header.
 fn serve_input(header: Printed) -> Ending
     requires { ⌜ Begun header ⌝ }
@@ -212,7 +219,7 @@ fn serve_input(header: Printed) -> Ending
     let mut store = [0u32; store::STORE_ROOM];
     let mut line = [0u8; transcript::KEPT];
     let mut chunk = [0u8; CHUNK];
-    let mut out = [0u8; ANSWER_BYTES];
+    let mut out = answers_room();
     let served = serve(header, &mut store, &mut line, &mut chunk, &mut out);
     let feed = served.feed;
     let got = served.got;

@@ -1,13 +1,15 @@
 -- Broadcast lines, read for a session that was accepted: the ways in which they end.
 use Prim.Native.Nat.{ℕ, zero, suc, _+_, _-_, _*_, _≤_, _<_}
 use mathlib.Core.Path.{_≡_, refl, ap, sym, _∙_}
-use mathlib.Core.List.{List, [], _∷_, _++_}
+use mathlib.Core.List.{List, [], _∷_, _++_, append-nil}
 use mathlib.Core.Bool.{Bool, true, false, cond, _||_}
 use native.Mathlib.Nat.{sub-zero}
 use native.Mathlib.Omega.{arith}
 use borrow.Author.Tests.{le-ltb, eq-eqb, ne-eqb, eqb-true}
+use mir.Syntax.{w64}
+use mir.Val.{Fits}
 use lib.ListN.{length, getD, take, drop, length-drop}
-use lib.Seq.{length-take-le, take-at, getD-take}
+use lib.Seq.{length-take-le, take-at, take-all}
 use lib.Dec.{eqb, ltb}
 use Rattle.shape.specs.declared.Shape.{Shape}
 use Rattle.shape.specs.Bounds.{fewestPosts, mostPosts}
@@ -17,19 +19,19 @@ use Rattle.refusal.specs.Conditions.{outside, anyBeyond}
 use Rattle.refusal.proofs.Laws.{or-false, all-fail, inside}
 use Rattle.csv.specs.Fields.{Parsed, parsed, malformed, padded}
 use Rattle.forms.specs.Lines.{Message, lastRow}
-use Rattle.forms.specs.Forms.{formOf, isMalformed, lineTests}
+use Rattle.forms.specs.Forms.{formOf, fieldCount, isMalformed, lineTests}
 use Rattle.forms.proofs.Forms.{form-spelled}
 use Rattle.lines.specs.declared.Line.{Line}
 use Rattle.lines.specs.Order.{lineRefusal}
 use Rattle.lines.specs.Reading.{readRefusal, lineAs, listAs}
 use Rattle.session.specs.declared.Session.{Session}
 use Rattle.session.specs.Sessions.{shapeOf}
-use Rattle.store.specs.Sizes.{InStreet, mostMasks, recordRoom, openingsAt, storeRoom}
+use Rattle.store.specs.Sizes.{InStreet, mostMasks, recordRoom, openingsAt, masksAAt, masksBAt, storeRoom}
 use Rattle.store.specs.Records.{kept}
 use Rattle.interpreter.specs.declared.State.{State}
 use Rattle.interpreter.specs.declared.Stepped.{Stepped}
-use Rattle.interpreter.specs.States.{After, keepingRow, refusing, leaving}
-use Rattle.interpreter.specs.Messages.{Broadcast, heardRefusal, heard, dealing, keepStep, saying, hearStep, saidStep, Sayable}
+use Rattle.interpreter.specs.States.{After, keepingRow, keepingTriple, refusing, leaving}
+use Rattle.interpreter.specs.Messages.{Broadcast, heardRefusal, heard, dealing, keepStep, keepMasksStep, keepHalvesStep, saying, hearStep, saidStep, Sayable}
 use Rattle.interpreter.proofs.Calling.{line-refused, line-taken}
 
 -- ---- a record kept
@@ -44,6 +46,19 @@ shape-message s g xs e h = rw e h
 
 pub store-within : (store : List ℕ) → length store ≡ storeRoom → openingsAt + recordRoom ≤ length store
 store-within store e = omega arith
+
+pub store-within-a : (store : List ℕ) → length store ≡ storeRoom → masksAAt + recordRoom ≤ length store
+store-within-a store e = omega arith
+
+pub store-within-b : (store store' : List ℕ) → length store ≡ storeRoom → length store' ≡ length store → masksBAt + recordRoom ≤ length store'
+store-within-b store store' e f = omega arith
+
+pub kept-masks : (st : State) (store new newer : List ℕ) (first post : ℕ) (xs ys : List ℕ) (g : Shape) (after : State) (v : Stepped)
+    → g ≡ shapeOf (st .session) → new ≡ kept masksAAt g (eqb (st .triple) first) post xs store
+    → newer ≡ kept masksBAt g (eqb (st .triple) first) post ys new → after ≡ keepingTriple st first → v ≡ refusing after 0
+    → leaving v newer ≡ keepMasksStep st store first post xs ys
+unfolding keepMasksStep
+kept-masks st store new newer first post xs ys g after v d e f a q = rw (q, a, f, e, d)
 
 pub kept-for : (st : State) (store new : List ℕ) (row post : ℕ) (xs : List ℕ) (g : Shape) (after : State) (v : Stepped) → g ≡ shapeOf (st .session)
     → new ≡ kept openingsAt g (eqb (st .kept) row) post xs store → after ≡ keepingRow st row → v ≡ refusing after 0
@@ -151,33 +166,48 @@ module _ (st : State) (store line out : List ℕ) (i : InStreet (shapeOf (st .se
               (skip (eqb (getD line 0 0) 68) (outside 1 (s .n) (heard s line .post)) (ne-eqb (getD line 0 0) 68 (λ d. n (letter-is ∙ d))) (none-holds .1)));
         }
 
-    -- a `D` has one number, an `O` has t+1
-    numbers-length : getD line 0 0 ≡ 79 → length (heard s line .numbers) ≡ vLength (shapeOf s)
-    numbers-length o = go (formOf (vLength (shapeOf s)) line) refl (none-holds .0)
+    -- an `O` has t+1 numbers, an `M` twice as many
+    numbers-length : (k : ℕ) → fieldCount (vLength (shapeOf s)) (getD line 0 0) ≡ 2 + k → eqb (getD line 0 0) 68 ≡ false → length (heard s line .numbers) ≡ k
+    numbers-length k o x = go (formOf (vLength (shapeOf s)) line) refl (none-holds .0)
       where
-        go : (x : Parsed) → formOf (vLength (shapeOf s)) line ≡ x → isMalformed x ≡ false → length (heard s line .numbers) ≡ vLength (shapeOf s)
+        go : (y : Parsed) → formOf (vLength (shapeOf s)) line ≡ y → isMalformed y ≡ false → length (heard s line .numbers) ≡ k
         go malformed p f = let q : _≡_ {A = ℕ} 0 1 = cc in absurd (omega arith)
         go (parsed xs next) p f =
             let g = form-spelled (vLength (shapeOf s)) line xs next p in
-            let j : length xs ≡ 2 + vLength (shapeOf s) = rw o at (g .number) in
-            rw (p, o) (length-drop 2 xs ∙ omega arith)
+            rw (p, x) (length-drop 2 xs ∙ omega (arith, g .number, o))
 
-    pub hear-said : Broadcast line → (v : Stepped) (new : List ℕ) → leaving v new ≡ saidStep st store said out' → leaving v new ≡ hearStep st store line
+    abbrev theirs : List ℕ
+    theirs = heard s line .numbers
+
+    abbrev v : ℕ
+    v = vLength (shapeOf s)
+
+    opening-numbers : getD line 0 0 ≡ 79 → take v out' ≡ theirs
+    opening-numbers o = ap (take v) list-is ∙ take-at theirs _ v (numbers-length v (rw o) (rw o))
+
+    masks-numbers : getD line 0 0 ≡ 77 → out' ≡ theirs
+    masks-numbers o =
+        let n : length theirs ≡ masksLength (shapeOf s) = numbers-length (masksLength (shapeOf s)) (rw o) (rw o) in
+        let z : masksLength (shapeOf s) - length theirs ≡ 0 = omega arith in
+        list-is ∙ rw z (append-nil theirs)
+
+    pub hear-said : Broadcast line → (w : Stepped) (new : List ℕ) → leaving w new ≡ saidStep st store said out' → leaving w new ≡ hearStep st store line
     unfolding hearStep
-    hear-said b v new q =
-        line-taken st store (said .refusal) _ (saying st store (heard s line)) (leaving v new) refusal-is z
-        (q ∙ rw letter-is (go (eqb (getD line 0 0) 68) refl b))
+    hear-said b w new q =
+        line-taken st store (said .refusal) _ (saying st store (heard s line)) (leaving w new) refusal-is z
+        (q ∙ rw letter-is (go (eqb (getD line 0 0) 68) (eqb (getD line 0 0) 79) refl refl b))
       where
-        go : (t : Bool) → eqb (getD line 0 0) 68 ≡ t → (t || eqb (getD line 0 0) 79) ≡ true
-            → cond t (dealing st store (said .row) (getD out' 0 0)) (keepStep st store (said .row) (said .post) (take (vLength (shapeOf s)) out'))
-            ≡ cond t (dealing st store (heard s line .row) (getD (heard s line .numbers) 0 0)) (keepStep st store (heard s line .row) (heard s line .post) (heard s line .numbers))
-        go true d b =
-            let c : getD out' 0 0 ≡ getD (heard s line .numbers) 0 0 = ap (λ (x : List ℕ). getD x 0 0) list-is ∙ padded-first _ (heard s line .numbers) in
+        go : (t u : Bool) → eqb (getD line 0 0) 68 ≡ t → eqb (getD line 0 0) 79 ≡ u → (t || (u || eqb (getD line 0 0) 77)) ≡ true
+            → cond t (dealing st store (said .row) (getD out' 0 0))
+            (cond u (keepStep st store (said .row) (said .post) (take v out')) (keepHalvesStep st store (said .row) (said .post) out'))
+            ≡ cond t (dealing st store (heard s line .row) (getD theirs 0 0))
+            (cond u (keepStep st store (heard s line .row) (heard s line .post) theirs)
+            (keepHalvesStep st store (heard s line .row) (heard s line .post) theirs))
+        go true u d o b =
+            let c : getD out' 0 0 ≡ getD theirs 0 0 = ap (λ (x : List ℕ). getD x 0 0) list-is ∙ padded-first _ theirs in
             rw (row-is, c)
-        go false d b =
-            let w : take (vLength (shapeOf s)) out' ≡ heard s line .numbers =
-            ap (take (vLength (shapeOf s))) list-is ∙ take-at (heard s line .numbers) _ (vLength (shapeOf s)) (numbers-length (eqb-true (getD line 0 0) 79 b)) in
-            rw (row-is, post-is, w)
+        go false true d o b = rw (row-is, post-is, opening-numbers (eqb-true (getD line 0 0) 79 o))
+        go false false d o b = rw (row-is, post-is, masks-numbers (eqb-true (getD line 0 0) 77 b))
 
 -- ---- by the letter
 module _ (st : State) (store xs : List ℕ) (said : Line) (y : Sayable (st .session) said xs) where
@@ -207,5 +237,39 @@ module _ (st : State) (store xs : List ℕ) (said : Line) (y : Sayable (st .sess
       pub said-length : length (take k xs) ≡ vLength (shapeOf (st .session))
       said-length = sym said-prefix ∙ k-is
 
-      pub said-kept : (a : After) → a ≡ keepStep st store (said .row) (said .post) (take k xs) → a ≡ saidStep st store said xs
-      said-kept a q = q ∙ rw (k-is, ne-eqb (said .letter) 68 n)
+      pub said-kept : (a : After) → said .letter ≡ 79 → a ≡ keepStep st store (said .row) (said .post) (take k xs) → a ≡ saidStep st store said xs
+      said-kept a o q = q ∙ rw (k-is, ne-eqb (said .letter) 68 n, eq-eqb (said .letter) 79 o)
+
+    pub said-masks : (a : After) → (said .letter ≡ 79 → ⊥) → a ≡ keepHalvesStep st store (said .row) (said .post) xs → a ≡ saidStep st store said xs
+    said-masks a o q = q ∙ rw (ne-eqb (said .letter) 68 n, ne-eqb (said .letter) 79 o)
+
+  pub said-long : length xs ≡ masksLength (shapeOf (st .session))
+  said-long = y .long
+
+-- ---- the halves of an `M` line
+module _ (st : State) (store xs : List ℕ) (l : length xs ≡ masksLength (shapeOf (st .session))) (g : Shape) (d : g ≡ shapeOf (st .session)) (k : ℕ) (w : k ≡ vLength g) where
+  half : k ≡ vLength (shapeOf (st .session))
+  half = w ∙ ap vLength d
+
+  pub half-in : k ≤ length xs
+  half-in = omega (arith, half)
+
+  pub half-fits : InStreet (shapeOf (st .session)) → Fits w64 (k * 4)
+  half-fits i = omega (arith, half, i .n-in .1, i .t-in .1)
+
+  pub half-prefix : k ≡ length (take k xs)
+  half-prefix = sym (length-take-le k xs half-in)
+
+  pub half-length : length (take k xs) ≡ vLength (shapeOf (st .session))
+  half-length = sym half-prefix ∙ half
+
+  second : take (length xs - k) (drop k xs) ≡ drop k xs
+  second = take-all (length xs - k) (drop k xs) (omega (arith, length-drop k xs))
+
+  pub half-second : length (take (length xs - k) (drop k xs)) ≡ vLength (shapeOf (st .session))
+  half-second = ap length second ∙ length-drop k xs ∙ omega (arith, half)
+
+  pub half-kept : (a : After) (first post : ℕ) → a ≡ keepMasksStep st store first post (take k xs) (take (length xs - k) (drop k xs))
+      → a ≡ keepHalvesStep st store first post xs
+  unfolding keepHalvesStep
+  half-kept a first post q = q ∙ rw (second, half)

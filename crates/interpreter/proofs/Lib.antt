@@ -1,4 +1,6 @@
 pub mod Calling
+pub mod Lettering
+pub mod Multiplying
 pub mod Hearing
 pub mod Settings
 pub mod Ends

@@ -2,11 +2,11 @@
 use Prim.Native.Nat.{ℕ, _-_, _≤_, _<_}
 use mathlib.Core.Path.{_≡_, refl, ap, ap₂, sym, _∙_}
 use mathlib.Core.List.{List, [], _∷_}
-use mathlib.Core.Bool.{Bool, true, false, cond, _||_}
+use mathlib.Core.Bool.{Bool, true, false, not, cond, _||_}
 use native.Mathlib.Omega.{arith}
-use borrow.Author.Tests.{lt-ltb, le-ltb, eq-eqb, ltb-false}
+use borrow.Author.Tests.{lt-ltb, le-ltb, eq-eqb, ne-eqb, ltb-false}
 use lib.ListN.{length}
-use lib.Dec.{ltb}
+use lib.Dec.{eqb, ltb}
 use Rattle.shape.specs.Bounds.{fewestPosts, mostPosts}
 use Rattle.refusal.specs.Refusal.{_when_, first, orElse, outcome}
 use Rattle.refusal.specs.Conditions.{wrongLength, postsTests}
@@ -15,8 +15,9 @@ use Rattle.session.specs.Sessions.{shapeOf}
 use Rattle.store.specs.Sizes.{streetPosts, storeRoom, InStreet}
 use Rattle.interpreter.specs.declared.State.{State}
 use Rattle.interpreter.specs.declared.Stepped.{Stepped}
-use Rattle.interpreter.specs.States.{After, refusing, leaving}
-use Rattle.interpreter.specs.Stepping.{step, postsRefusal, roomRefusal, checkedStep, Ready}
+use Rattle.interpreter.specs.States.{After, refusing, after}
+use Rattle.interpreter.specs.Products.{toldRoom}
+use Rattle.interpreter.specs.Stepping.{step, postsRefusal, roomRefusal, stepRefusal, checkedStep, Ready}
 use Rattle.interpreter.proofs.Calling.{line-refused, line-taken}
 
 -- ---- a session, once an `S` was accepted
@@ -79,16 +80,37 @@ posts-asked st r e h q = q ∙ rw (e, le-ltb streetPosts (st .session .n) h)
 pub posts-unasked : (st : State) → st .started ≡ false → 0 ≡ postsRefusal st
 posts-unasked st e = rw e
 
-module _ (st : State) (store s : List ℕ) (r : ℕ) (e : r ≡ roomRefusal st store) where
-  pub step-refused : (v : Stepped) → (r ≡ 0 → ⊥) → v ≡ refusing st r → leaving v store ≡ checkedStep st store s
-  unfolding checkedStep
-  step-refused v n q = line-refused st store r _ _ v e n q
+-- ---- the room for what is printed
+pub text-wrong : (room : ℕ) → (room ≡ toldRoom → ⊥) → 5 ≡ first (5 when not (eqb room toldRoom) ∷ [])
+text-wrong room n = rw (ne-eqb room toldRoom n)
 
-  pub step-taken : (a : After) → r ≡ 0 → a ≡ step st store s → a ≡ checkedStep st store s
+pub text-fine : (room : ℕ) → room ≡ toldRoom → 0 ≡ first (5 when not (eqb room toldRoom) ∷ [])
+text-fine room e = rw (eq-eqb room toldRoom e)
+
+module _ (st : State) (store s text : List ℕ) (r a b : ℕ) (e : r ≡ orElse a b) (p : a ≡ roomRefusal st store)
+    (q : b ≡ first (5 when not (eqb (length text) toldRoom) ∷ [])) where
+  r-is : r ≡ stepRefusal st store (length text)
+  unfolding stepRefusal
+  r-is = e ∙ ap₂ orElse p q
+
+  parts : r ≡ 0 → (a ≡ 0) × (b ≡ 0)
+  parts z = orElse-zero a b (sym e ∙ z)
+
+  pub step-ready-in : r ≡ 0 → Ready st store
+  step-ready-in z = none-ready st store a p (parts z .0)
+
+  pub step-text : r ≡ 0 → length text ≡ toldRoom
+  step-text z = equal (length text) toldRoom (all-fail (5 when not (eqb (length text) toldRoom) ∷ []) tt (sym q ∙ parts z .1) .0)
+
+  pub step-refused : (v : Stepped) → (r ≡ 0 → ⊥) → v ≡ refusing st r → after v store text ≡ checkedStep st store s (length text)
   unfolding checkedStep
-  step-taken a z q = line-taken st store r _ _ a e z q
+  step-refused v n w = ap (λ (x : Stepped). after x store text) w ∙ line-refused st store r _ _ (refusing st r) r-is n refl
+
+  pub step-taken : (x : After) → r ≡ 0 → x ≡ step st store s → x ≡ checkedStep st store s (length text)
+  unfolding checkedStep
+  step-taken x z w = line-taken st store r _ _ x r-is z w
 
 -- between lines nothing is refused for want of room
-pub ready-step : (st : State) (store s : List ℕ) → Ready st store → checkedStep st store s ≡ step st store s
-unfolding checkedStep outcome
-ready-step st store s h = rw (ready-none st store h)
+pub ready-step : (st : State) (store s : List ℕ) (room : ℕ) → Ready st store → room ≡ toldRoom → checkedStep st store s room ≡ step st store s
+unfolding checkedStep stepRefusal outcome
+ready-step st store s room h e = rw (ready-none st store h, eq-eqb room toldRoom e)

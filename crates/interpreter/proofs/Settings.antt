@@ -30,12 +30,12 @@ refused-session : created 0 0 0 0 .session ≡ sessionOf 0 0 0 0
 unfolding created outcome
 refused-session = refl
 
-pub first-is : (a : Answer) → a ≡ created 0 0 0 0 → _≡_ {A = State} (record { session = a .session; started = false; kept = 0 }) firstState
-first-is a e = ap (λ (s : Session). record { session = s; started = false; kept = 0 }) (ap (λ (x : Answer). x .session) e ∙ refused-session)
+pub first-is : (a : Answer) → a ≡ created 0 0 0 0 → _≡_ {A = State} (record { session = a .session; started = false; kept = 0; triple = 0 }) firstState
+first-is a e = ap (λ (s : Session). record { session = s; started = false; kept = 0; triple = 0 }) (ap (λ (x : Answer). x .session) e ∙ refused-session)
 
 pub answer-is : (st new : State) (a : Answer) → new ≡ withSession st (a .session)
-    → _≡_ {A = Stepped} (record { state = new; refusal = a .refusal; value = a .value }) (answering st a)
-answer-is st new a e = ap (λ (x : State). record { state = x; refusal = a .refusal; value = a .value }) e
+    → _≡_ {A = Stepped} (record { state = new; refusal = a .refusal; value = a .value; told = 0 }) (answering st a)
+answer-is st new a e = ap (λ (x : State). record { state = x; refusal = a .refusal; value = a .value; told = 0 }) e
 
 -- ---- the check point as an element, or p
 pub narrow-below : (x : ℕ) → x < p → x ≡ cond (ltb x p) x p

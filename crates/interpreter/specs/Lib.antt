@@ -2,4 +2,5 @@ pub mod States
 pub mod Starting
 pub mod Letters
 pub mod Messages
+pub mod Products
 pub mod Stepping

@@ -1,27 +1,28 @@
--- Document 01, "The street program": what a broadcast line, `D` or `O`, does once an `S` was accepted. "`O` lines are kept for one
--- row: one for another row empties the record first, a second from one post replaces the first".
+-- Document 01, "The street program": what a broadcast line, `D`, `O` or `M`, does once an `S` was accepted. "`O` lines are kept for one
+-- row: one for another row empties the record first, a second from one post replaces the first"; document 02, (iii): "`M` lines, kept
+-- for one triple as `O` lines are for a row".
 use Prim.Native.Nat.{ℕ, _≤_}
 use mathlib.Core.Path.{_≡_}
 use mathlib.Core.List.{List}
-use mathlib.Core.Bool.{true, cond, _||_}
-use lib.ListN.{length, getD, take}
+use mathlib.Core.Bool.{true, cond}
+use lib.ListN.{length, getD, take, drop}
 use lib.Dec.{eqb}
 use Rattle.shape.specs.Lengths.{vLength, masksLength}
 use Rattle.refusal.specs.Refusal.{first}
 use Rattle.forms.specs.Lines.{Message}
-use Rattle.forms.specs.Forms.{message, lineTests}
+use Rattle.forms.specs.Forms.{isLetter, message, lineTests}
 use Rattle.lines.specs.declared.Line.{Line}
 use Rattle.session.specs.declared.Session.{Session}
 use Rattle.session.specs.Sessions.{shapeOf}
 use Rattle.sharing.specs.Deal.{dealAnswer, dealRows}
-use Rattle.store.specs.Sizes.{openingsAt}
+use Rattle.store.specs.Sizes.{openingsAt, masksAAt, masksBAt}
 use Rattle.store.specs.Records.{kept}
 use Rattle.interpreter.specs.declared.State.{State}
-use Rattle.interpreter.specs.States.{After, keepingRow, refusing, leaving, unless, sessionRows, calling}
+use Rattle.interpreter.specs.States.{After, keepingRow, keepingTriple, refusing, leaving, unless, sessionRows, calling}
 
 -- The letters of broadcast lines.
 abbrev pub Broadcast : List ℕ → Type 0
-Broadcast line = (eqb (getD line 0 0) 68 || eqb (getD line 0 0) 79) ≡ true
+Broadcast line = isLetter (getD line 0 0) ≡ true
 
 -- 10 and 11, as the reader of broadcast lines has them, and what the line says.
 unfoldable pub heardRefusal : Session → List ℕ → ℕ
@@ -40,10 +41,24 @@ unfoldable pub keepStep : State → List ℕ → ℕ → ℕ → List ℕ → Af
 keepStep st store row post xs =
     leaving (refusing (keepingRow st row) 0) (kept openingsAt (shapeOf (st .session)) (eqb (st .kept) row) post xs store)
 
+-- ---- "`M,first row of triple,post,` t+1 coefficients of a − l, then t+1 of b − l'": each half goes to its own record
+unfoldable pub keepMasksStep : State → List ℕ → ℕ → ℕ → List ℕ → List ℕ → After
+keepMasksStep st store first post xs ys =
+    let g = shapeOf (st .session) in
+    let same = eqb (st .triple) first in
+    leaving (refusing (keepingTriple st first) 0) (kept masksBAt g same post ys (kept masksAAt g same post xs store))
+
+unfoldable pub keepHalvesStep : State → List ℕ → ℕ → ℕ → List ℕ → After
+keepHalvesStep st store first post xs =
+    let k = vLength (shapeOf (st .session)) in
+    keepMasksStep st store first post (take k xs) (drop k xs)
+
 -- By the letter.
 abbrev pub saying : State → List ℕ → Message → After
 saying st store m =
-    cond (eqb (m .letter) 68) (dealing st store (m .row) (getD (m .numbers) 0 0)) (keepStep st store (m .row) (m .post) (m .numbers))
+    cond (eqb (m .letter) 68) (dealing st store (m .row) (getD (m .numbers) 0 0))
+    (cond (eqb (m .letter) 79) (keepStep st store (m .row) (m .post) (m .numbers))
+    (keepHalvesStep st store (m .row) (m .post) (m .numbers)))
 
 unfoldable pub hearStep : State → List ℕ → List ℕ → After
 hearStep st store line = unless (heardRefusal (st .session) line) st store (saying st store (heard (st .session) line))
@@ -53,7 +68,8 @@ hearStep st store line = unless (heardRefusal (st .session) line) st store (sayi
 abbrev pub saidStep : State → List ℕ → Line → List ℕ → After
 saidStep st store said xs =
     cond (eqb (said .letter) 68) (dealing st store (said .row) (getD xs 0 0))
-    (keepStep st store (said .row) (said .post) (take (vLength (shapeOf (st .session))) xs))
+    (cond (eqb (said .letter) 79) (keepStep st store (said .row) (said .post) (take (vLength (shapeOf (st .session))) xs))
+    (keepHalvesStep st store (said .row) (said .post) xs))
 
 pub record Sayable (s : Session) (said : Line) (xs : List ℕ) : Type 0 where
   pub long : length xs ≡ masksLength (shapeOf s)

@@ -14,9 +14,9 @@ use Rattle.interpreter.specs.declared.State.{State}
 use Rattle.interpreter.specs.declared.Stepped.{Stepped}
 use Rattle.interpreter.specs.States.{begunWith, refusing}
 
--- "any line over 1,061 bytes with its line feed"
+-- Document 02, (iii): "Lines go up to 3,173 bytes."
 abbrev pub longestLine : ℕ
-longestLine = 1061
+longestLine = 3173
 
 -- "an `S` gets 10, then 1 to 4", and document 02, (ii): "The street program stays at 32 and gives 1 above that."
 abbrev pub startTests : ℕ → ℕ → ℕ → ℕ → List Test

@@ -2,28 +2,38 @@
 use Prim.Native.Nat.{ℕ}
 use mathlib.Core.Path.{_≡_}
 use mathlib.Core.List.{List, [], _∷_}
-use mathlib.Core.Bool.{true, cond, _||_}
+use mathlib.Core.Bool.{true, not, cond}
 use lib.ListN.{length, getD}
 use lib.Dec.{eqb, ltb}
 use Rattle.refusal.specs.Refusal.{_when_, first, orElse}
 use Rattle.refusal.specs.Conditions.{wrongLength, postsTests}
+use Rattle.forms.specs.Forms.{isLetter}
 use Rattle.session.specs.Sessions.{shapeOf}
 use Rattle.store.specs.Sizes.{streetPosts, storeRoom, InStreet}
 use Rattle.interpreter.specs.declared.State.{State}
 use Rattle.interpreter.specs.States.{After, refusing, leaving, unless}
 use Rattle.interpreter.specs.Starting.{longestLine, earlyStep}
-use Rattle.interpreter.specs.Letters.{loadStep, openStep}
+use Rattle.interpreter.specs.Letters.{loadStep, loadTripleStep, linearStep, openStep}
+use Rattle.interpreter.specs.Products.{toldRoom, maskStep, finishStep}
 use Rattle.interpreter.specs.Messages.{hearStep}
 
--- By the letter: `R`, `G`, `D` and `O`; "a second `S` then gets 10, as does any other letter and any line over 1,061 bytes".
+-- By the letter, where a line prints nothing but its answer: "a second `S` then gets 10, as does any other letter".
+unfoldable pub lettersStep : State → List ℕ → List ℕ → After
+lettersStep st store s =
+    let letter = getD s 0 0 in
+    cond (eqb letter 82) (loadStep st store s)
+    (cond (eqb letter 84) (loadTripleStep st store s)
+    (cond (eqb letter 71) (openStep st store s)
+    (cond (eqb letter 76) (linearStep st store s)
+    (cond (eqb letter 70) (finishStep st store s)
+    (cond (isLetter letter) (hearStep st store s)
+    (leaving (refusing st 10) store))))))
+
+-- 10, "any line over" the longest; an `X` prints its M line.
 unfoldable pub lateStep : State → List ℕ → List ℕ → After
 lateStep st store s =
-    let letter = getD s 0 0 in
     cond (ltb longestLine (length s)) (leaving (refusing st 10) store)
-    (cond (eqb letter 82) (loadStep st store s)
-    (cond (eqb letter 71) (openStep st store s)
-    (cond (eqb letter 68 || eqb letter 79) (hearStep st store s)
-    (leaving (refusing st 10) store))))
+    (cond (eqb (getD s 0 0) 88) (maskStep st store s) (lettersStep st store s))
 
 -- One line.
 unfoldable pub step : State → List ℕ → List ℕ → After
@@ -36,8 +46,12 @@ postsRefusal st = cond (st .started) (first (1 when ltb streetPosts (st .session
 unfoldable pub roomRefusal : State → List ℕ → ℕ
 roomRefusal st store = orElse (postsRefusal st) (first (5 when wrongLength store storeRoom ∷ []))
 
-unfoldable pub checkedStep : State → List ℕ → List ℕ → After
-checkedStep st store s = unless (roomRefusal st store) st store (step st store s)
+-- 5 too of the room for what an `X` prints.
+unfoldable pub stepRefusal : State → List ℕ → ℕ → ℕ
+stepRefusal st store room = orElse (roomRefusal st store) (first (5 when not (eqb room toldRoom) ∷ []))
+
+unfoldable pub checkedStep : State → List ℕ → List ℕ → ℕ → After
+checkedStep st store s room = unless (stepRefusal st store room) st store (step st store s)
 
 -- What holds between lines: the store has room for the largest session, and a session that was accepted is one of the street's.
 pub record Ready (st : State) (store : List ℕ) : Type 0 where

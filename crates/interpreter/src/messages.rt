@@ -1,4 +1,4 @@
-// The lines that posts broadcast: `D` and `O`.
+// The lines that posts broadcast: `D`, `O` and `M`.
 use crate::State;
 use crate::Stepped;
 use lines::Line;
@@ -10,7 +10,7 @@ ghost use Rattle.session.specs.Sessions.{shapeOf};
 ghost use Rattle.sharing.specs.Deal.{dealAnswer, dealRows};
 ghost use Rattle.store.specs.Sizes.{InStreet, storeRoom};
 ghost use Rattle.interpreter.specs.States.{leaving, sessionRows, calling};
-ghost use Rattle.interpreter.specs.Messages.{keepStep, saidStep, hearStep, Broadcast, Sayable};
+ghost use Rattle.interpreter.specs.Messages.{keepStep, keepMasksStep, keepHalvesStep, saidStep, hearStep, Broadcast, Sayable};
 
 // c is dealt to a row of the session.
 fn deal(state: State, store: &mut [u32], row: usize, c: u32) -> Stepped
@@ -38,6 +38,52 @@ fn keep(state: State, store: &mut [u32], row: usize, post: usize, coefficients: 
     after.refuse(0)
 }
 
+// A post's masks are kept for a triple: those of a − l in one record, those of b − l' in the other.
+fn keep_masks(
+    state: State,
+    store: &mut [u32],
+    first: usize,
+    post: usize,
+    masks_a: &[u32],
+    masks_b: &[u32],
+) -> Stepped
+    requires { ⌜ InStreet (shapeOf (state .session)) × (length (now store) ≡ storeRoom) × (1 ≤ post) × (post ≤ state .session .n)
+        × (length (now «masks_a») ≡ vLength (shapeOf (state .session))) × (length (now «masks_b») ≡ vLength (shapeOf (state .session))) ⌝ }
+    ensures { λ r. ⌜ leaving r (now (store .exit))
+        ≡ keepMasksStep state (now (store .entry)) first post (now («masks_a» .entry)) (now («masks_b» .entry)) ⌝ }
+{
+    let shape = state.session.shape();
+    let same = state.triple == first;
+    store::keep(store, store::MASKS_A_AT, shape, same, post, masks_a);
+    store::keep(store, store::MASKS_B_AT, shape, same, post, masks_b);
+    let after = state.keeping_masks(first);
+    after.refuse(0)
+}
+
+// The same of the numbers of an `M` line, half by half.
+fn keep_halves(
+    state: State,
+    store: &mut [u32],
+    first: usize,
+    post: usize,
+    numbers: &[u32],
+) -> Stepped
+    requires { ⌜ InStreet (shapeOf (state .session)) × (length (now store) ≡ storeRoom) × (1 ≤ post) × (post ≤ state .session .n)
+        × (length (now numbers) ≡ masksLength (shapeOf (state .session))) ⌝ }
+    ensures { λ r. ⌜ leaving r (now (store .exit)) ≡ keepHalvesStep state (now (store .entry)) first post (now (numbers .entry)) ⌝ }
+{
+    let shape = state.session.shape();
+    let count = shape.v_len();
+    keep_masks(
+        state,
+        store,
+        first,
+        post,
+        &numbers[..count],
+        &numbers[count..],
+    )
+}
+
 // What a broadcast line says is done.
 fn act(state: State, store: &mut [u32], said: Line, numbers: &[u32]) -> Stepped
     requires { ⌜ InStreet (shapeOf (state .session)) × (length (now store) ≡ storeRoom) × Sayable (state .session) said (now numbers) ⌝ }
@@ -46,9 +92,12 @@ fn act(state: State, store: &mut [u32], said: Line, numbers: &[u32]) -> Stepped
     if said.letter == 68 {
         return deal(state, store, said.row, numbers[0]);
     }
-    let shape = state.session.shape();
-    let count = shape.v_len();
-    keep(state, store, said.row, said.post, &numbers[..count])
+    if said.letter == 79 {
+        let shape = state.session.shape();
+        let count = shape.v_len();
+        return keep(state, store, said.row, said.post, &numbers[..count]);
+    }
+    keep_halves(state, store, said.row, said.post, numbers)
 }
 
 // A broadcast line, whose numbers are read into a lent list.

@@ -91,3 +91,22 @@ module _ (g : Shape) (store : List ℕ) (at k : ℕ) (i : InStreet g) (h : at + 
       let d : at + k - at ≡ recordLength g = c ∙ e in
       let w : ys ≡ withBlock g post xs (recordIf same (recordAt at g store)) = rw d at q in
       rw d (ap (λ (z : List ℕ). withRecord at g z store) w)
+
+-- ---- a record, copied or empty
+module _ (store out : List ℕ) (at : ℕ) (same : Bool) (h : at + length out ≤ length store) where
+  pub copy-length : length (take (at + length out - at) (drop at store)) ≡ length out
+  copy-length =
+      let c : at + length out - at ≡ length out = add-sub-cancel-left at (length out) in
+      rw c (length-take-le (length out) (drop at store) (omega (arith, length-drop at store)))
+
+  pub copy-fits : length store < 2 ^ 64 → Fits w64 (at + length out)
+  copy-fits b = omega arith
+
+  pub copied : (new : List ℕ) → same ≡ true → new ≡ take (at + length out - at) (drop at store)
+      → new ≡ recordIf same (take (length out) (drop at store))
+  copied new e q = q ∙ rw (add-sub-cancel-left at (length out), e)
+
+  pub cleared : (new : List ℕ) → same ≡ false → new ≡ replicate (length out) 0 → new ≡ recordIf same (take (length out) (drop at store))
+  cleared new e q =
+      let l : length (take (length out) (drop at store)) ≡ length out = length-take-le (length out) (drop at store) (omega (arith, length-drop at store)) in
+      q ∙ rw (e, l)

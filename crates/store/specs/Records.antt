@@ -1,5 +1,5 @@
 -- Document 01, "The street program": "`O` lines are kept for one row: one for another row empties the record first, a second from
--- one post replaces the first".
+-- one post replaces the first". Document 02, (iii): "`M` lines, kept for one triple as `O` lines are for a row".
 use Prim.Native.Nat.{ℕ, _-_, _*_}
 use mathlib.Core.Bool.{Bool, cond}
 use mathlib.Core.List.{List, _∷_, _++_}

@@ -6,14 +6,17 @@ use Rattle.shape.specs.Bounds.{fewestPosts, rowCount}
 abbrev pub streetPosts : ℕ
 streetPosts = 32
 
--- The numbers of its longest row, with the largest t; and its most masks.
+-- The numbers of its longest row, with the largest t, and of a triple of such rows; and its most masks.
 abbrev pub longestRow : ℕ
 longestRow = 3 * streetPosts
+
+abbrev pub longestTriple : ℕ
+longestTriple = 3 * longestRow
 
 abbrev pub mostMasks : ℕ
 mostMasks = 2 * streetPosts
 
--- The store: the rows of a session, then the record of the `O` lines.
+-- The store: the rows of a session, then the record of the `O` lines and the two of the `M` lines, of a − l and of b − l'.
 abbrev pub rowsRoom : ℕ
 rowsRoom = rowCount * longestRow
 
@@ -23,8 +26,14 @@ recordRoom = streetPosts * (streetPosts + 1)
 abbrev pub openingsAt : ℕ
 openingsAt = rowsRoom
 
+abbrev pub masksAAt : ℕ
+masksAAt = openingsAt + recordRoom
+
+abbrev pub masksBAt : ℕ
+masksBAt = masksAAt + recordRoom
+
 abbrev pub storeRoom : ℕ
-storeRoom = openingsAt + recordRoom
+storeRoom = masksBAt + recordRoom
 
 -- A station that the street program serves.
 pub record InStreet (g : Shape) : Type 0 where

@@ -16,6 +16,9 @@ pub const STREET_POSTS: usize = 32;
 // The numbers of its longest row.
 pub const LONGEST_ROW: usize = 3 * STREET_POSTS;
 
+// The numbers of a triple with the longest rows.
+pub const LONGEST_TRIPLE: usize = 3 * LONGEST_ROW;
+
 // Its most masks: two messages.
 pub const MOST_MASKS: usize = 2 * STREET_POSTS;
 
@@ -24,10 +27,14 @@ pub const ROWS_ROOM: usize = shape::ROWS * LONGEST_ROW;
 
 pub const RECORD_ROOM: usize = STREET_POSTS * (STREET_POSTS + 1);
 
-// Where the record of the `O` lines stands, behind the rows.
+// Where the record of the `O` lines stands, behind the rows, and the two records of the `M` lines behind it.
 pub const OPENINGS_AT: usize = ROWS_ROOM;
 
-pub const STORE_ROOM: usize = OPENINGS_AT + RECORD_ROOM;
+pub const MASKS_A_AT: usize = OPENINGS_AT + RECORD_ROOM;
+
+pub const MASKS_B_AT: usize = MASKS_A_AT + RECORD_ROOM;
+
+pub const STORE_ROOM: usize = MASKS_B_AT + RECORD_ROOM;
 
 // A post's block: its mark and its coefficients.
 fn put_block(blocks: &mut [u32], at: usize, coefficients: &[u32])
@@ -76,4 +83,17 @@ pub fn keep(
 {
     let end = at + shape.record_len();
     keep_block(&mut store[at..end], shape, same, post, coefficients);
+}
+
+// The record that stands at a place of the store, if it is kept for what a line names, else an empty one.
+pub fn copy_record(store: &[u32], at: usize, same: bool, out: &mut [u32])
+    requires { ⌜ at + length (now out) ≤ length (now store) ⌝ }
+    ensures { λ r. ⌜ now (out .exit) ≡ recordIf same (take (length (now (out .entry))) (drop at (now (store .entry)))) ⌝ }
+{
+    if same {
+        let end = at + out.len();
+        lists::copy(&store[at..end], out);
+        return;
+    }
+    csv::clear(out);
 }

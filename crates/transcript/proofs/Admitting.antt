@@ -11,7 +11,7 @@ use Rattle.interpreter.specs.Stepping.{roomRefusal}
 use Rattle.interpreter.proofs.Room.{none-ready, ready-none}
 use Rattle.transcript.specs.declared.Feed.{Feed}
 use Rattle.transcript.specs.declared.Progress.{Progress}
-use Rattle.transcript.specs.Text.{longestAnswer}
+use Rattle.transcript.specs.Text.{longestPrint}
 use Rattle.transcript.specs.Lines.{keptLength}
 use Rattle.transcript.specs.Program.{Running, running, Open, Added, Fed}
 use Rattle.transcript.specs.Limits.{lastNumber, feedTests, feedRefusal, Moved}
@@ -26,29 +26,29 @@ module _ (f : Feed) (line out : List ℕ) (k : ℕ) where
     len-beyond h = rw (eq-eqb (length line) keptLength l, lt-ltb keptLength (f .len) h)
 
     module _ (s : f .len ≤ keptLength) where
-      full : length out < f .at + longestAnswer * k → 5 ≡ first (feedTests f line out k)
-      full h = rw (eq-eqb (length line) keptLength l, le-ltb keptLength (f .len) s, lt-ltb (length out) (f .at + longestAnswer * k) h)
+      full : length out < f .at + longestPrint * k → 5 ≡ first (feedTests f line out k)
+      full h = rw (eq-eqb (length line) keptLength l, le-ltb keptLength (f .len) s, lt-ltb (length out) (f .at + longestPrint * k) h)
 
       pub at-beyond : length out < f .at → 5 ≡ first (feedTests f line out k)
       at-beyond h = full (omega arith)
 
       module _ (a : f .at ≤ length out) where
-        pub room-small : (length out - f .at) / longestAnswer < k → 5 ≡ first (feedTests f line out k)
+        pub room-small : (length out - f .at) / longestPrint < k → 5 ≡ first (feedTests f line out k)
         room-small h = full (omega arith)
 
-        module _ (c : k ≤ (length out - f .at) / longestAnswer) where
-          fits : f .at + longestAnswer * k ≤ length out
+        module _ (c : k ≤ (length out - f .at) / longestPrint) where
+          fits : f .at + longestPrint * k ≤ length out
           fits = omega arith
 
           pub number-beyond : lastNumber - f .number < k → 11 ≡ first (feedTests f line out k)
           number-beyond h =
               let n : lastNumber < f .number + k = omega arith in
-              rw (eq-eqb (length line) keptLength l, le-ltb keptLength (f .len) s, le-ltb (length out) (f .at + longestAnswer * k) fits, lt-ltb lastNumber (f .number + k) n)
+              rw (eq-eqb (length line) keptLength l, le-ltb keptLength (f .len) s, le-ltb (length out) (f .at + longestPrint * k) fits, lt-ltb lastNumber (f .number + k) n)
 
           pub feed-fine : f .number < 2 ^ 64 → k ≤ lastNumber - f .number → 0 ≡ first (feedTests f line out k)
           feed-fine b h =
               let n : f .number + k ≤ lastNumber = omega arith in
-              rw (eq-eqb (length line) keptLength l, le-ltb keptLength (f .len) s, le-ltb (length out) (f .at + longestAnswer * k) fits, le-ltb lastNumber (f .number + k) n)
+              rw (eq-eqb (length line) keptLength l, le-ltb keptLength (f .len) s, le-ltb (length out) (f .at + longestPrint * k) fits, le-ltb lastNumber (f .number + k) n)
 
 -- ---- all together
 module _ (f : Feed) (store line out : List ℕ) (k : ℕ) where
@@ -67,14 +67,14 @@ module _ (f : Feed) (store line out : List ℕ) (k : ℕ) where
         line-room = equal (length line) keptLength (b .0);
         len-in = ltb-false keptLength (f .len) (b .1 .0);
         numbers = omega (arith, ltb-false lastNumber (f .number + k) (b .1 .1 .1 .0));
-        room = ltb-false (length out) (f .at + longestAnswer * k) (b .1 .1 .0);
+        room = ltb-false (length out) (f .at + longestPrint * k) (b .1 .1 .0);
       }
 
   pub open-none : Open f store line out k → feedRefusal f store line out k ≡ 0
   unfolding feedRefusal
   open-none o =
       let n : f .number + k ≤ lastNumber = omega (arith, o .numbers) in
-      rw (ready-none (f .state) store (o .ready), eq-eqb (length line) keptLength (o .line-room), le-ltb keptLength (f .len) (o .len-in), le-ltb (length out) (f .at + longestAnswer * k) (o .room), le-ltb lastNumber (f .number + k) n)
+      rw (ready-none (f .state) store (o .ready), eq-eqb (length line) keptLength (o .line-room), le-ltb keptLength (f .len) (o .len-in), le-ltb (length out) (f .at + longestPrint * k) (o .room), le-ltb lastNumber (f .number + k) n)
 
   module _ (new : Running) (newLine : List ℕ) (r : ℕ) (e : r ≡ feedRefusal f store line out k) where
     pub moved-nothing : (r ≡ 0 → ⊥)

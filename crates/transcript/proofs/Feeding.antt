@@ -1,23 +1,28 @@
 -- Lines taken one by one, and bytes of a line: each way in which feeding goes on.
-use Prim.Native.Nat.{ℕ, _+_, _-_, _≤_}
+use Prim.Native.Nat.{ℕ, _+_, _-_, _*_, _≤_, _<_, _^_}
 use mathlib.Core.Path.{_≡_, refl, ap, sym, _∙_}
 use mathlib.Core.List.{List, [], _∷_, _++_, append-assoc}
+use native.Mathlib.Nat.{add-sub-cancel-left}
 use native.Mathlib.Omega.{arith}
 use borrow.Author.Tests.{ne-eqb}
-use lib.ListN.{length, getD, take, drop, length-append}
+use borrow.Rule.Slice.PartMut.{putMid}
+use mir.Syntax.{w64}
+use mir.Val.{Fits}
+use lib.ListN.{length, getD, take, drop, length-append, length-drop, length-take}
 use lib.Seq.{take-at, drop-at, length-take-le}
 use Rattle.decimal.proofs.Digits.{length-digits}
 use Rattle.decimal.proofs.Sizes.{size-le}
 use Rattle.csv.specs.Fields.{fields, overwrite}
-use Rattle.csv.proofs.Overwriting.{length-fields-le}
+use Rattle.csv.proofs.Overwriting.{overwrite-part, overwrite-twice, length-fields-le}
 use Rattle.interpreter.specs.declared.Stepped.{Stepped}
 use Rattle.interpreter.specs.declared.State.{State}
-use Rattle.interpreter.specs.States.{leaving, firstState}
+use Rattle.interpreter.specs.States.{After, after, firstState}
+use Rattle.interpreter.specs.Products.{toldRoom}
 use Rattle.interpreter.specs.Stepping.{step, checkedStep, Ready}
-use Rattle.interpreter.proofs.Ranges.{step-ready}
+use Rattle.interpreter.proofs.Ranges.{step-ready, step-told}
 use Rattle.interpreter.proofs.Room.{ready-step}
 use Rattle.transcript.specs.declared.Feed.{Feed}
-use Rattle.transcript.specs.Text.{longSize, longNumeral, answerText, longestAnswer}
+use Rattle.transcript.specs.Text.{longSize, longNumeral, answerText, longestAnswer, printText, printOf, longestPrint}
 use Rattle.transcript.specs.Lines.{keptLength, cut}
 use Rattle.transcript.specs.Program.{Running, leftBy, answered, grown, closed, firstFeed, running, segmented, Open, Added, Fed}
 
@@ -32,39 +37,98 @@ written-behind at w l h =
     let n : length (take at l ++ w) ≡ at + length w = length-append (take at l) w ∙ omega (arith, length-take-le at l h) in
     ap (drop (at + length w)) (sym (append-assoc (take at l) w (drop (at + length w) l))) ∙ drop-at (take at l ++ w) _ (at + length w) n
 
-pub answer-bound : (at e number refusal value : ℕ) → e ≡ at + length (answerText number refusal value) → e ≤ at + longestAnswer
-answer-bound at e number refusal value q =
+answer-length : (number refusal value : ℕ) → length (answerText number refusal value) ≤ longestAnswer
+answer-length number refusal value =
     let rest : List ℕ = fields (refusal ∷ value ∷ []) in
     omega (arith, length-append (longNumeral number) (rest ++ (10 ∷ [])), length-append rest (10 ∷ []), length-digits (longSize number) number, size-le 19 number, length-fields-le (refusal ∷ value ∷ []))
 
-module _ (f : Feed) (store line out : List ℕ) (o : Open f store line out 1) (v : Stepped) (store' out' : List ℕ) (at' : ℕ)
-    (c : leaving v store' ≡ checkedStep (f .state) store (take (f .len) line)) where
-  e : leaving v store' ≡ step (f .state) store (take (f .len) line)
-  e = c ∙ ready-step (f .state) store (take (f .len) line) (o .ready)
+-- ---- an answer, and what is printed behind it
+module _ (out told : List ℕ) (at number refusal value : ℕ) (h : at + longestPrint ≤ length out) (t : length told ≤ toldRoom) where
+  abbrev answer : List ℕ
+  answer = answerText number refusal value
 
-  pub line-answered : at' ≡ f .at + length (answerText (f .number + 1) (v .refusal) (v .value))
-      → out' ≡ overwrite (f .at) (answerText (f .number + 1) (v .refusal) (v .value)) out
-      → running (record { state = v .state; number = f .number + 1; len = 0; at = at' }) store' line out'
-      ≡ answered (running f store line out)
-  unfolding answered
-  line-answered p q =
-      let p₀ : Running = running f store line out in
-      let t : take at' out' ≡ take (f .at) out ++ answerText (f .number + 1) (v .refusal) (v .value) =
-      rw (p, q) (written-front (f .at) (answerText (f .number + 1) (v .refusal) (v .value)) out (omega (arith, o .room))) in
-      ap (λ (z : List ℕ). record { state = v .state; store = store'; line = []; number = f .number + 1; out = z }) t
-      ∙ ap (leftBy p₀) e
+  pub print-answer : at + longestAnswer ≤ length out
+  print-answer = omega arith
 
-  pub line-added : at' ≡ f .at + length (answerText (f .number + 1) (v .refusal) (v .value))
-      → out' ≡ overwrite (f .at) (answerText (f .number + 1) (v .refusal) (v .value)) out
-      → Added f (record { state = v .state; number = f .number + 1; len = 0; at = at' }) out out'
-  line-added p q =
-      record {
-        grows = omega arith;
-        behind = rw (p, q) (written-behind (f .at) (answerText (f .number + 1) (v .refusal) (v .value)) out (omega (arith, o .room)));
-      }
+  module _ (out₁ : List ℕ) (behind : ℕ) (e : behind ≡ at + length answer) (k : length out₁ ≡ length out) where
+    pub print-fits : length out < 2 ^ 64 → Fits w64 (behind + length told)
+    print-fits b = omega (arith, answer-length number refusal value)
 
-  pub line-ready : length store' ≡ length store → Ready (v .state) store'
-  line-ready p = step-ready (f .state) store (take (f .len) line) v store' (o .ready) e p
+    pub print-in : behind + length told ≤ length out₁
+    print-in = omega (arith, answer-length number refusal value)
+
+    pub print-size : length told ≡ length (take (behind + length told - behind) (drop behind out₁))
+    print-size =
+        let c : behind + length told - behind ≡ length told = add-sub-cancel-left behind (length told) in
+        rw c (sym (length-take-le (length told) (drop behind out₁) (omega (arith, length-drop behind out₁, print-in))))
+
+    pub print-end : behind + length told ≡ at + length (printText number refusal value told)
+    print-end = omega (arith, length-append answer told)
+
+    pub print-put : (ys : List ℕ) → out₁ ≡ overwrite at answer out → ys ≡ told
+        → putMid behind (behind + length told - behind) out₁ ys ≡ overwrite at (printText number refusal value told) out
+    print-put ys o q =
+        let c : behind + length told - behind ≡ length told = add-sub-cancel-left behind (length told) in
+        rw (c, q) (overwrite-part out₁ told behind (length told) refl ∙ rw (e, o) (overwrite-twice out answer told at (omega arith)))
+
+pub line-prefix : (f : Feed) (store line out : List ℕ) → Open f store line out 1 → f .len ≡ length (take (f .len) line)
+line-prefix f store line out o = sym (length-take-le (f .len) line (omega (arith, o .len-in, o .line-room)))
+
+pub line-in : (f : Feed) (store line out : List ℕ) → Open f store line out 1 → f .len ≤ length line
+line-in f store line out o = omega (arith, o .len-in, o .line-room)
+
+pub line-ready : (f : Feed) (store line out : List ℕ) → Open f store line out 1 → Ready (f .state) store
+line-ready f store line out o = o .ready
+
+pub print-room : (f : Feed) (store line out : List ℕ) → Open f store line out 1 → f .at + longestPrint ≤ length out
+print-room f store line out o = omega (arith, o .room)
+
+-- ---- a step, and what is printed for it
+module _ (st : State) (store line : List ℕ) (room : ℕ) (y : Ready st store) (t : room ≡ toldRoom) (v : Stepped) (store' text' : List ℕ)
+    (c : after v store' text' ≡ checkedStep st store line room) where
+  pub taken-is : after v store' text' ≡ step st store line
+  taken-is = c ∙ ready-step st store line room y t
+
+  pub taken-ready : length store' ≡ length store → Ready (v .state) store'
+  taken-ready p = step-ready st store line text' v store' y taken-is p
+
+  pub taken-told : length text' ≡ toldRoom → v .told ≤ toldRoom
+  taken-told l =
+      let k : v .told ≡ length (take (v .told) text') = ap (λ (a : After). a .given .told) taken-is ∙ step-told st store line y ∙ sym (ap (λ (a : After). length (a .told)) taken-is) in
+      omega (arith, k, length-take (v .told) text')
+
+pub told-in : (told : ℕ) (text : List ℕ) → told ≤ toldRoom → length text ≡ toldRoom → told ≤ length text
+told-in told text h l = omega arith
+
+pub told-prefix : (told : ℕ) (text : List ℕ) → told ≤ toldRoom → length text ≡ toldRoom → told ≡ length (take told text)
+told-prefix told text h l = sym (length-take-le told text (omega arith))
+
+pub told-few : (told : ℕ) (text : List ℕ) → told ≤ toldRoom → length text ≡ toldRoom → length (take told text) ≤ toldRoom
+told-few told text h l = omega (arith, length-take-le told text (omega arith))
+
+-- ---- the line begun is taken
+module _ (f : Feed) (store line out : List ℕ) (o : Open f store line out 1) (v : Stepped) (store' text' : List ℕ) where
+  abbrev print : List ℕ
+  print = printOf (f .number + 1) v text'
+
+  module _ (out' : List ℕ) (at' : ℕ) (p : at' ≡ f .at + length print) (q : out' ≡ overwrite (f .at) print out) where
+    abbrev new : Feed
+    new = record { state = v .state; number = f .number + 1; len = 0; at = at' }
+
+    pub line-answered : after v store' text' ≡ step (f .state) store (take (f .len) line)
+        → running new store' line out' ≡ answered (running f store line out)
+    unfolding answered
+    line-answered e =
+        let p₀ : Running = running f store line out in
+        let w : take at' out' ≡ take (f .at) out ++ print = rw (p, q) (written-front (f .at) print out (omega (arith, o .room))) in
+        ap (λ (z : List ℕ). record { state = v .state; store = store'; line = []; number = f .number + 1; out = z }) w ∙ ap (leftBy p₀) e
+
+    pub line-added : Added f new out out'
+    line-added = record { grows = omega arith; behind = rw (p, q) (written-behind (f .at) print out (omega (arith, o .room))) }
+
+    pub line-bound : v .told ≤ toldRoom → length text' ≡ toldRoom → at' ≤ f .at + longestPrint
+    line-bound h l =
+        omega (arith, length-append (answerText (f .number + 1) (v .refusal) (v .value)) (take (v .told) text'), answer-length (f .number + 1) (v .refusal) (v .value), told-few (v .told) text' h l)
 
 pub none-added : (f r : Feed) (out : List ℕ) → r .at ≡ f .at → Added f r out out
 none-added f r out e = record { grows = omega arith; behind = refl }
@@ -97,7 +161,7 @@ module _ (f : Feed) (store line line' out part : List ℕ) (len : ℕ) (o : Open
   pub kept-fed : len ≤ keptLength → Fed f longer store 1
   kept-fed h = record { ready = o .ready; len-in = h; numbers = omega arith; room = omega arith }
 
-  pub ended-fed : (r : Feed) (store' : List ℕ) → Ready (r .state) store' → r .len ≡ 0 → r .number ≡ f .number + 1 → r .at ≤ f .at + longestAnswer
+  pub ended-fed : (r : Feed) (store' : List ℕ) → Ready (r .state) store' → r .len ≡ 0 → r .number ≡ f .number + 1 → r .at ≤ f .at + longestPrint
       → Fed f r store' 1
   ended-fed r store' a b c d = record { ready = a; len-in = omega arith; numbers = omega arith; room = omega arith }
 

@@ -9,7 +9,7 @@ use Rattle.refusal.specs.Conditions.{wrongLength}
 use Rattle.interpreter.specs.Stepping.{roomRefusal}
 use Rattle.transcript.specs.declared.Feed.{Feed}
 use Rattle.transcript.specs.declared.Progress.{Progress}
-use Rattle.transcript.specs.Text.{longestAnswer}
+use Rattle.transcript.specs.Text.{longestPrint}
 use Rattle.transcript.specs.Lines.{keptLength}
 use Rattle.transcript.specs.Program.{Running, running, Added, Fed}
 
@@ -21,7 +21,7 @@ lastNumber = 18446744073709551615
 -- the largest of 64 bits.
 abbrev pub feedTests : Feed → List ℕ → List ℕ → ℕ → List Test
 feedTests f line out k =
-    5 when wrongLength line keptLength ∷ 5 when ltb keptLength (f .len) ∷ 5 when ltb (length out) (f .at + longestAnswer * k)
+    5 when wrongLength line keptLength ∷ 5 when ltb keptLength (f .len) ∷ 5 when ltb (length out) (f .at + longestPrint * k)
     ∷ 11 when ltb lastNumber (f .number + k) ∷ []
 
 -- 1, 2 and 5 as a step has them, then these.

@@ -10,7 +10,7 @@ use Rattle.interpreter.specs.declared.State.{State}
 use Rattle.interpreter.specs.States.{After, firstState}
 use Rattle.interpreter.specs.Stepping.{step, Ready}
 use Rattle.transcript.specs.declared.Feed.{Feed}
-use Rattle.transcript.specs.Text.{header, answerText, longestAnswer}
+use Rattle.transcript.specs.Text.{header, printText, longestPrint}
 use Rattle.transcript.specs.Lines.{cut, keptLength, laid}
 
 -- The program between two bytes: what it keeps, the line begun, how many lines were answered, and what was printed.
@@ -29,7 +29,7 @@ leftBy p a =
       store = a .store;
       line = [];
       number = p .number + 1;
-      out = p .out ++ answerText (p .number + 1) (a .given .refusal) (a .given .value);
+      out = p .out ++ printText (p .number + 1) (a .given .refusal) (a .given .value) (a .told);
     }
 
 unfoldable pub answered : Running → Running
@@ -106,7 +106,7 @@ linesFrom line (b ∷ s) = cond (eqb b 10) ((line ++ (b ∷ [])) ∷ linesFrom [
 
 -- The answers to lines, one after the other, the first of which has this number.
 abbrev pub withAnswer : ℕ → After → (After → List ℕ) → List ℕ
-withAnswer number a rest = answerText number (a .given .refusal) (a .given .value) ++ rest a
+withAnswer number a rest = printText number (a .given .refusal) (a .given .value) (a .told) ++ rest a
 
 unfoldable pub answers : State → List ℕ → ℕ → List (List ℕ) → List ℕ
 answers st store number [] = []
@@ -145,7 +145,7 @@ pub record Open (f : Feed) (store line out : List ℕ) (k : ℕ) : Type 0 where
   pub line-room : length line ≡ keptLength
   pub len-in : f .len ≤ keptLength
   pub numbers : f .number + k < 2 ^ 64
-  pub room : f .at + longestAnswer * k ≤ length out
+  pub room : f .at + longestPrint * k ≤ length out
 
 -- A part of a line, which a line feed may end.
 abbrev pub segmented : Running → List ℕ → Running
@@ -166,4 +166,4 @@ pub record Fed (f r : Feed) (store : List ℕ) (k : ℕ) : Type 0 where
   pub ready : Ready (r .state) store
   pub len-in : r .len ≤ keptLength
   pub numbers : r .number ≤ f .number + k
-  pub room : r .at ≤ f .at + longestAnswer * k
+  pub room : r .at ≤ f .at + longestPrint * k

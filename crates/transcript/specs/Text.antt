@@ -1,9 +1,12 @@
 -- Document 01, "The street program": "It prints a header, then per input line its number from 1, the refusal (0 for none) and
--- the number opened (0 if none)."
-use Prim.Native.Nat.{ℕ}
+-- the number opened (0 if none)." Document 02, (iii): "X, when not refused, also prints its M line, after its answer."
+use Prim.Native.Nat.{ℕ, _+_}
 use mathlib.Core.List.{List, [], _∷_, _++_}
+use lib.ListN.{take}
 use Rattle.decimal.specs.Numeral.{lastDigits, sizeWithin}
 use Rattle.csv.specs.Fields.{fields}
+use Rattle.interpreter.specs.declared.Stepped.{Stepped}
+use Rattle.interpreter.specs.Products.{toldRoom}
 
 -- `line,refusal,value`
 abbrev pub header : List ℕ
@@ -23,3 +26,15 @@ answerText number refusal value = longNumeral number ++ (fields (refusal ∷ val
 -- No answer is longer.
 abbrev pub longestAnswer : ℕ
 longestAnswer = 43
+
+-- What is printed for a line: its answer, and behind it what an `X` prints.
+abbrev pub printText : ℕ → ℕ → ℕ → List ℕ → List ℕ
+printText number refusal value told = answerText number refusal value ++ told
+
+-- The same of a step, which left what an `X` prints at the start of a text.
+abbrev pub printOf : ℕ → Stepped → List ℕ → List ℕ
+printOf number v text = printText number (v .refusal) (v .value) (take (v .told) text)
+
+-- No more is printed for a line.
+abbrev pub longestPrint : ℕ
+longestPrint = longestAnswer + toldRoom

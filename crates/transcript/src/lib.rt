@@ -2,15 +2,18 @@
 mod limits;
 
 use interpreter::State;
+use interpreter::Stepped;
 ghost use mathlib.Core.Path.{_≡_};
 ghost use mathlib.Core.Bool.{cond};
 ghost use mathlib.Core.List.{_++_};
 ghost use Prim.Native.Nat.{_+_, _≤_};
 ghost use lib.ListN.{length, take, drop};
 ghost use lib.Dec.{ltb};
-ghost use Rattle.interpreter.specs.Stepping.{Ready};
+ghost use Rattle.interpreter.specs.Products.{toldRoom};
+ghost use Rattle.interpreter.specs.States.{after};
+ghost use Rattle.interpreter.specs.Stepping.{step, Ready};
 ghost use Rattle.csv.specs.Fields.{overwrite};
-ghost use Rattle.transcript.specs.Text.{header, longSize, longNumeral, answerText, longestAnswer};
+ghost use Rattle.transcript.specs.Text.{header, longSize, longNumeral, answerText, longestAnswer, printText, printOf, longestPrint};
 ghost use Rattle.transcript.specs.Lines.{segment, keptLength, cut, laid};
 ghost use Rattle.transcript.specs.Limits.{feedRefusal, Moved};
 ghost use Rattle.transcript.specs.Program.{running, answered, segmented, fed, closed, lineAfter, drainedFeed, firstFeed, Open, Added, Fed};
@@ -18,8 +21,8 @@ ghost use Rattle.transcript.specs.Program.{running, answered, segmented,
 // Of a line that is too long, one byte more than the longest line has is kept: enough to tell.
 pub const KEPT: usize = interpreter::LONGEST_LINE + 1;
 
-// No answer is longer.
-pub const LONGEST_ANSWER: usize = 43;
+// No more is printed for a line: its answer, and what an `X` prints behind it.
+pub const LONGEST_PRINT: usize = 43 + interpreter::TOLD_ROOM;
 
 // `line,refusal,value`
 pub fn header() -> [u8; 19]
@@ -106,6 +109,18 @@ fn append(line: &mut [u8], len: usize, part: &[u8]) -> usize
     end
 }
 
+// An answer, and what is printed behind it, from a position on; the position behind.
+fn put_print(out: &mut [u8], at: usize, number: u64, refusal: u8, value: u32, told: &[u8]) -> usize
+    requires { ⌜ (at + longestPrint ≤ length (now out)) × (length (now told) ≤ toldRoom) ⌝ }
+    ensures { λ r. ⌜ (r ≡ at + length (printText number refusal value (now (told .entry))))
+        × (now (out .exit) ≡ overwrite at (printText number refusal value (now (told .entry))) (now (out .entry))) ⌝ }
+{
+    let behind = put_answer(out, at, number, refusal, value);
+    let end = behind + told.len();
+    copy(told, &mut out[behind..end]);
+    end
+}
+
 // The program between two bytes, beside the store, the line begun and the answers.
 pub struct Feed {
     pub state: State,
@@ -123,18 +138,45 @@ pub struct Progress {
     pub feed: Feed,
 }
 
+// What is printed for a step that left this text, from a position on; the position behind.
+fn print_step(out: &mut [u8], at: usize, number: u64, stepped: Stepped, text: &[u8]) -> usize
+    requires { ⌜ (at + longestPrint ≤ length (now out)) × (stepped .told ≤ toldRoom) × (length (now text) ≡ toldRoom) ⌝ }
+    ensures { λ r. ⌜ (r ≡ at + length (printOf number stepped (now (text .entry))))
+        × (now (out .exit) ≡ overwrite at (printOf number stepped (now (text .entry))) (now (out .entry))) ⌝ }
+{
+    let told = stepped.told;
+    put_print(
+        out,
+        at,
+        number,
+        stepped.refusal,
+        stepped.value,
+        &text[..told],
+    )
+}
+
+// A line, where there is room for all that it may leave.
+fn take_line(state: State, store: &mut [u32], line: &[u8], text: &mut [u8]) -> Stepped
+    requires { ⌜ Ready state (now store) × (length (now text) ≡ toldRoom) ⌝ }
+    ensures { λ r. ⌜ after r (now (store .exit)) (now (text .exit)) ≡ step state (now (store .entry)) (now (line .entry)) ⌝ }
+    ensures { λ r. ⌜ Ready (r .state) (now (store .exit)) × (r .told ≤ toldRoom) ⌝ }
+{
+    interpreter::step(state, store, line, text)
+}
+
 // The line begun is taken, and its answer written.
 fn end_line(feed: Feed, store: &mut [u32], line: &[u8], out: &mut [u8]) -> Feed
     requires { ⌜ Open feed (now store) (now line) (now out) 1 ⌝ }
     ensures { λ r. ⌜ running r (now (store .exit)) (now (line .entry)) (now (out .exit))
         ≡ answered (running feed (now (store .entry)) (now (line .entry)) (now (out .entry))) ⌝ }
-    ensures { λ r. ⌜ Ready (r .state) (now (store .exit)) × (r .len ≡ 0) × (r .number ≡ feed .number + 1) × (r .at ≤ feed .at + longestAnswer) ⌝ }
+    ensures { λ r. ⌜ Ready (r .state) (now (store .exit)) × (r .len ≡ 0) × (r .number ≡ feed .number + 1) × (r .at ≤ feed .at + longestPrint) ⌝ }
     ensures { λ r. ⌜ Added feed r (now (out .entry)) (now (out .exit)) ⌝ }
 {
     let len = feed.len;
-    let stepped = interpreter::step(feed.state, store, &line[..len]);
+    let mut text = [0u8; interpreter::TOLD_ROOM];
+    let stepped = take_line(feed.state, store, &line[..len], &mut text);
     let number = feed.number + 1;
-    let at = put_answer(out, feed.at, number, stepped.refusal, stepped.value);
+    let at = print_step(out, feed.at, number, stepped, &text);
     let state = stepped.state;
     Feed {
         state,

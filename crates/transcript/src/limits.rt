@@ -21,7 +21,7 @@ fn feed_refusal<'a>(feed: Feed, line: &'a [u8], out: &'a [u8], count: usize) -> 
     if room < feed.at {
         return 5;
     }
-    if (room - feed.at) / crate::LONGEST_ANSWER < count {
+    if (room - feed.at) / crate::LONGEST_PRINT < count {
         return 5;
     }
     if LAST_NUMBER - feed.number < count as u64 {

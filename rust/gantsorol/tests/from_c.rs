@@ -77,16 +77,27 @@ fn the_readme_shows_parts_of_the_examples() {
     }
 }
 
-/// The README's table has each line of the station's input, and beside it what the street program prints for it.
+/// The README's tables have each line of the stations' inputs, and beside it what the street program prints for it: its
+/// answer, and behind that of an `X` its `M` line.
 #[test]
-fn the_readme_shows_the_station() {
-    let (readme, input) = (text("README.md"), text("examples/station.txt"));
-    let printed = text("examples/station.out");
-    let answers = printed.strip_prefix("line,refusal,value\n").expect("a header");
-    assert_eq!(input.lines().count(), answers.lines().count());
-    for (line, answer) in input.lines().zip(answers.lines()) {
-        let row = format!("| `{line}` | `{answer}` |");
-        assert!(readme.contains(&row), "README.md does not have {row}");
+fn the_readme_shows_the_stations() {
+    let readme = text("README.md");
+    for station in ["station", "charge"] {
+        let (input, printed) =
+            (text(&format!("examples/{station}.txt")), text(&format!("examples/{station}.out")));
+        let printed = printed.strip_prefix("line,refusal,value\n").expect("a header");
+        let mut answers: Vec<String> = vec![];
+        for line in printed.lines() {
+            match answers.last_mut() {
+                Some(answer) if line.starts_with('M') => *answer += &format!("`, then `{line}"),
+                _ => answers.push(line.to_string()),
+            }
+        }
+        assert_eq!(input.lines().count(), answers.len());
+        for (line, answer) in input.lines().zip(answers) {
+            let row = format!("| `{line}` | `{answer}` |");
+            assert!(readme.contains(&row), "README.md does not have {row}");
+        }
     }
 }
 

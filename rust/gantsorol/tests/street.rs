@@ -1,5 +1,5 @@
 //! The street program, proved and built by the gate, and the second implementation: the same output for
-//! random and mutated inputs; and the README's example. `GANTSOROL_STREET` names the program.
+//! random and mutated inputs; and the README's examples. `GANTSOROL_STREET` names the program.
 
 mod common;
 
@@ -28,17 +28,27 @@ fn printed(program: &str, input: &[u8]) -> Vec<u8> {
 }
 
 #[test]
-fn the_example_of_the_readme() {
-    let input = include_bytes!("../../../examples/station.txt");
-    let expected = include_str!("../../../examples/station.out");
-    assert_eq!(String::from_utf8_lossy(&printed(&street_program(), input)), expected);
+fn the_examples_of_the_readme() {
+    for (input, expected) in [
+        (
+            include_str!("../../../examples/station.txt"),
+            include_str!("../../../examples/station.out"),
+        ),
+        (
+            include_str!("../../../examples/charge.txt"),
+            include_str!("../../../examples/charge.out"),
+        ),
+    ] {
+        let ours = printed(&street_program(), input.as_bytes());
+        assert_eq!(String::from_utf8_lossy(&ours), expected);
+    }
 }
 
 #[test]
 fn random_inputs_through_both_programs() {
     let program = street_program();
     for seed in seeds(1_500) {
-        // now and then far more than one chunk of 4,096 bytes
+        // now and then far more than one chunk of 2,048 bytes
         let length = if seed % 50 == 0 { 2_000 } else { 60 };
         let input = street_input(seed, length);
         let ours = |input: &[u8]| printed(&program, input);

@@ -37,7 +37,7 @@ pub fn load_triple<const P: u32>(
     s.answer(try_load_triple::<P>(s, rows, first, pack))
 }
 
-fn try_load_triple<const P: u32>(
+pub(crate) fn try_load_triple<const P: u32>(
     s: Session,
     rows: &mut [u32],
     first: usize,
@@ -116,7 +116,7 @@ pub fn linear<const P: u32>(
     s.answer(try_linear::<P>(s, rows, dest, (a, b), (scale, fee)))
 }
 
-fn try_linear<const P: u32>(
+pub(crate) fn try_linear<const P: u32>(
     s: Session,
     rows: &mut [u32],
     dest: usize,

@@ -38,4 +38,4 @@ pub use product::{finish, masks};
 pub use refusal::Refusal;
 pub use session::{mark, new_session, Answer, Session};
 pub use shape::{Shape, MAX_POSTS, ROWS, TRIPLE};
-pub use street::{street, Street, LONGEST_LINE, STREET_POSTS};
+pub use street::{street, Reply, Street, LONGEST_LINE, STREET_POSTS};

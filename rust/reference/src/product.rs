@@ -21,7 +21,7 @@ pub fn masks<const P: u32>(
     s.answer(try_masks::<P>(s, rows, (a, b), first, out))
 }
 
-fn try_masks<const P: u32>(
+pub(crate) fn try_masks<const P: u32>(
     s: Session,
     rows: &[u32],
     (a, b): (usize, usize),
@@ -68,7 +68,7 @@ pub fn finish<const P: u32>(
     s.answer(try_finish::<P>(s, rows, first, [record, record2]))
 }
 
-fn try_finish<const P: u32>(
+pub(crate) fn try_finish<const P: u32>(
     s: Session,
     rows: &mut [u32],
     first: usize,

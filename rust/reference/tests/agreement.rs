@@ -158,4 +158,12 @@ fn the_street_program_answers_13() {
     let lines = "O,0,2,1,2\nG,0\nO,0,3,5,6\nG,0\nO,0,2,3,1\nG,0\n";
     let opened = answers(format!("{start}{lines}").as_bytes());
     assert_eq!(opened[3..], [(0, 0), (0, 98), (0, 0), (13, 0), (0, 0), (0, 100)]);
+    // Triple and factor have the same polynomials, so that every mask is 0, as −2 + z is at w = 2.
+    let row = "1,2,5,5,17,12,18,24";
+    let triple = format!("{start}T,2,{row},{row},{row}\nX,0,0,2\nM,2,2,0,0,0,0\n");
+    let lie = format!("{triple}M,2,3,0,0,2147483645,1\nF,2\nM,2,3,2147483645,1,0,0\nF,2\n");
+    let lie = lie + "M,2,3,1,0,0,0\nF,2\nF,2\n";
+    let refusals: Vec<u8> =
+        answers(lie.as_bytes()).into_iter().map(|(refusal, _)| refusal).collect();
+    assert_eq!(refusals[6..], [0, 13, 0, 13, 0, 0, 7]);
 }

@@ -6,6 +6,7 @@ use std::mem::discriminant;
 use reference::random::{
     paperwork, script, script_for, street_input, unwritten, wild_calls, wild_state, Call, Outcome,
     Paperwork, PaperworkOutcome, Rng, Script, Seen, State, CALL_REFUSALS, PAPERWORK_REFUSALS,
+    STREET_REFUSALS,
 };
 use reference::{Library, Session, Shape, LONGEST_LINE, REFERENCE};
 
@@ -106,27 +107,25 @@ fn random_paperwork() {
 
 #[test]
 fn random_street_inputs() {
-    let mut seen = [0; 14];
+    let mut seen = Seen::default();
     let (mut opened, mut longest) = (0, 0);
     for seed in 0..1500 {
         let input = street_input(seed, 60);
         let output = String::from_utf8(REFERENCE.street(&input)).unwrap();
-        let lines = input.split_inclusive(|&byte| byte == b'\n').count();
-        assert_eq!(output.lines().count(), lines + 1);
-        for (line, answer) in input.split_inclusive(|&b| b == b'\n').zip(output.lines().skip(1)) {
-            longest += usize::from(line.len() == LONGEST_LINE && answer.ends_with(",0,0"));
-        }
-        for line in output.lines().skip(1) {
-            let fields: Vec<usize> = line.split(',').map(|field| field.parse().unwrap()).collect();
-            seen[fields[1]] += 1;
+        let answers = || output.lines().skip(1).filter(|line| !line.starts_with('M'));
+        let lines = || input.split_inclusive(|&byte| byte == b'\n');
+        assert_eq!(answers().count(), lines().count());
+        for (line, answer) in lines().zip(answers()) {
+            let fields: Vec<usize> =
+                answer.split(',').map(|field| field.parse().unwrap()).collect();
+            longest += usize::from(line.len() == LONGEST_LINE && fields[1] == 0);
             opened += usize::from(fields[2] > 0);
+            seen.note_kind(&char::from(line[0]).to_string(), fields[1] as u8);
         }
     }
-    for refusal in [0, 1, 2, 3, 4, 7, 9, 10, 11, 13] {
-        assert!(seen[refusal] > 0, "no {refusal} in {seen:?}");
-    }
+    seen.assert_met(STREET_REFUSALS);
     assert!(opened > 1000, "only {opened} numbers opened");
-    assert!(longest > 20, "only {longest} longest lines taken");
+    assert!(longest > 10, "only {longest} longest lines taken");
 }
 
 /// "No argument makes them panic": every number at random, most of them wild.

@@ -1,28 +1,13 @@
 //! The street program.
 
+mod common;
+
 use std::io::Write;
 use std::process::{Command, Stdio};
 
+use common::program::{answers, refusals};
 use reference::random::street_input;
 use reference::{Library, LONGEST_LINE, REFERENCE};
-
-/// The refusal and value printed for each line.
-fn answers(input: &[u8]) -> Vec<(u8, u32)> {
-    let output = String::from_utf8(REFERENCE.street(input)).unwrap();
-    let mut lines = output.split_terminator('\n');
-    assert!(output.ends_with('\n'));
-    assert_eq!(lines.next(), Some("line,refusal,value"));
-    let answer = |(line, index): (&str, usize)| {
-        let fields: Vec<u32> = line.split(',').map(|field| field.parse().unwrap()).collect();
-        assert_eq!((fields.len(), fields[0]), (3, index as u32));
-        (fields[1] as u8, fields[2])
-    };
-    lines.zip(1..).map(answer).collect()
-}
-
-fn refusals(input: &[u8]) -> Vec<u8> {
-    answers(input).into_iter().map(|(refusal, _)| refusal).collect()
-}
 
 const START: &str = "S,3,1,1,2\n";
 const RAW: &str = "R,0,1,2,5,5,17,12,18,24\n";
@@ -112,7 +97,6 @@ fn the_dash_means_1() {
 const WRONG_FORM: &[&str] = &[
     "\n",
     "X,0\n",
-    "M,0,1,1,1,1,1\n",
     "R\n",
     "G\n",
     "G,\n",
@@ -169,12 +153,17 @@ fn the_last_line_without_its_line_feed_gets_10() {
 }
 
 #[test]
-fn lines_of_1061_bytes_are_taken_and_longer_ones_refused() {
-    let elements = ["2147483646"; 96].join(",");
-    let longest = format!("R,95,{elements}\n");
-    assert_eq!(longest.len(), LONGEST_LINE);
+fn lines_of_3173_bytes_are_taken_and_longer_ones_refused() {
+    let elements = ["2147483646"; 96];
+    let row = format!("R,95,{}\n", elements.join(","));
+    let longest = format!("T,93,{}\n", [elements; 3].concat().join(","));
+    assert_eq!((row.len(), longest.len()), (1061, 3173));
+    assert_eq!(LONGEST_LINE, 3173);
     let start = "S,32,31,32,1\n";
-    assert_eq!(refusals(format!("{start}{longest}").as_bytes()), [0, 0]);
+    assert_eq!(refusals(format!("{start}{longest}{row}").as_bytes()), [0, 0, 7]);
+    assert_eq!(refusals(format!("{start}{row}{longest}").as_bytes()), [0, 0, 7]);
+    let wider = longest.replace("T,93,", "T,093,");
+    assert_eq!(refusals(format!("{start}{wider}").as_bytes()), [0, 10]);
     for length in [LONGEST_LINE + 1, LONGEST_LINE + 2, 100_000] {
         let overlong = "G,0".to_string() + &" ".repeat(length - 4) + "\n";
         assert_eq!(overlong.len(), length);

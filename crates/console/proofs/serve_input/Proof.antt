@@ -16,5 +16,5 @@ returns c =
 pub serve-input-spec : {M : Type 1} → statement M
 serve-input-spec =
     tie.close
-    (tie.spec (λ c. search needs) (λ c. search needs) (λ c. search needs) (λ c. search needs) requires
+    (tie.spec (λ c κs. search needs) (λ c. search needs) (λ c. search needs) (λ c. search needs) (λ c. search needs) requires
     (λ c κs. search needs) (λ c κs. search needs) (λ c κs. search needs) returns)

@@ -9,4 +9,5 @@ ruleset ends = (needs, step-late, step-early)
 pub take-line-spec : {M : Type 1} → statement M
 take-line-spec =
     tie.close
-    (tie.spec (λ c κs. search ends) (λ c. search ends) (λ c. search ends) (λ c κs. search ends) (λ c. search ends))
+    (tie.spec (λ c κs. search ends) (λ c. search ends) (λ c. search ends) (λ c. search ends) (λ c κs. search ends)
+    (λ c. search ends))

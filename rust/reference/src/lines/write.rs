@@ -99,7 +99,7 @@ pub fn write_masks<const P: u32>(
     try_write_masks::<P>((n, t), first, post, numbers, out).into()
 }
 
-fn try_write_masks<const P: u32>(
+pub(crate) fn try_write_masks<const P: u32>(
     (n, t): (usize, usize),
     first: usize,
     post: usize,

@@ -33,6 +33,20 @@ pub const PAPERWORK_REFUSALS: Met = &[
     ("Read", &[0, 1, 2, 5, 10, 11]),
 ];
 
+/// Every refusal that a line of the street program can get, by its letter; 1 for any before a start.
+pub const STREET_REFUSALS: Met = &[
+    ("S", &[0, 1, 2, 3, 4, 10]),
+    ("R", &[0, 1, 7, 10, 11]),
+    ("T", &[0, 1, 7, 10, 11]),
+    ("D", &[0, 1, 7, 10, 11]),
+    ("O", &[0, 1, 10, 11]),
+    ("G", &[0, 1, 7, 9, 10, 11, 13]),
+    ("L", &[0, 1, 7, 10, 11]),
+    ("X", &[0, 1, 7, 10, 11]),
+    ("M", &[0, 1, 10, 11]),
+    ("F", &[0, 1, 7, 9, 10, 11, 13]),
+];
+
 /// How often each kind of call met each refusal.
 #[derive(Debug, Default)]
 pub struct Seen(BTreeMap<(String, u8), u64>);
@@ -40,7 +54,12 @@ pub struct Seen(BTreeMap<(String, u8), u64>);
 impl Seen {
     /// Counts a call's refusal.
     pub fn note(&mut self, call: &impl Debug, refusal: u8) {
-        *self.0.entry((kind(call), refusal)).or_default() += 1;
+        self.note_kind(&kind(call), refusal);
+    }
+
+    /// Counts a refusal of a call of this kind.
+    pub fn note_kind(&mut self, kind: &str, refusal: u8) {
+        *self.0.entry((kind.to_string(), refusal)).or_default() += 1;
     }
 
     /// How often a kind of call met a refusal.

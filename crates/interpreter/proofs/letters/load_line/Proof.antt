@@ -1,6 +1,7 @@
 -- `letters::load_line` meets its contract.
 use borrow.Author.Needs.{needs}
-use Rattle.interpreter.proofs.Calling.{shape-valid, pack-fits, pack-in, pack-prefix, pack-length}
+use Rattle.interpreter.proofs.Calling.{shape-valid}
+use Rattle.interpreter.proofs.Lettering.{pack-fits, pack-in, pack-prefix, pack-length}
 use Rattle.interpreter.proofs.letters.load_line.Statement.{statement}
 use Rattle.interpreter.proofs.letters.load_line.Tie as tie
 

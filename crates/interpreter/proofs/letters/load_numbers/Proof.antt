@@ -1,6 +1,6 @@
 -- `letters::load_numbers` meets its contract.
 use borrow.Author.Needs.{needs}
-use Rattle.interpreter.proofs.Calling.{row-loaded}
+use Rattle.interpreter.proofs.Lettering.{row-loaded}
 use Rattle.interpreter.proofs.letters.load_numbers.Statement.{statement}
 use Rattle.interpreter.proofs.letters.load_numbers.Tie as tie
 

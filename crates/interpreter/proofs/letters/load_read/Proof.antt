@@ -1,6 +1,6 @@
 -- `letters::load_read` meets its contract.
 use borrow.Author.Needs.{needs}
-use Rattle.interpreter.proofs.Calling.{some-numbers, load-refused, load-taken}
+use Rattle.interpreter.proofs.Lettering.{some-numbers, load-refused, load-taken}
 use Rattle.interpreter.proofs.letters.load_read.Statement.{statement}
 use Rattle.interpreter.proofs.letters.load_read.Tie as tie
 

@@ -1,6 +1,7 @@
 -- `letters::open_kept` meets its contract.
 use borrow.Author.Needs.{needs}
-use Rattle.interpreter.proofs.Calling.{shape-valid, openings-fits, openings-in, openings-after, openings-prefix, empty-in, empty-prefix, opened-kept, opened-empty}
+use Rattle.interpreter.proofs.Calling.{shape-valid}
+use Rattle.interpreter.proofs.Lettering.{openings-fits, openings-in, openings-after, openings-prefix, empty-in, empty-prefix, opened-kept, opened-empty}
 use Rattle.interpreter.proofs.letters.open_kept.Statement.{statement}
 use Rattle.interpreter.proofs.letters.open_kept.Tie as tie
 

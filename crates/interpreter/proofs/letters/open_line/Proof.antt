@@ -1,6 +1,6 @@
 -- `letters::open_line` meets its contract.
 use borrow.Author.Needs.{needs}
-use Rattle.interpreter.proofs.Calling.{open-refused, open-taken}
+use Rattle.interpreter.proofs.Lettering.{open-refused, open-taken}
 use Rattle.interpreter.proofs.letters.open_line.Statement.{statement}
 use Rattle.interpreter.proofs.letters.open_line.Tie as tie
 

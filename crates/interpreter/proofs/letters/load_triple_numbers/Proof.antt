@@ -1,0 +1,13 @@
+-- `letters::load_triple_numbers` meets its contract.
+use borrow.Author.Needs.{needs}
+use Rattle.interpreter.proofs.Lettering.{triple-loaded}
+use Rattle.interpreter.proofs.letters.load_triple_numbers.Statement.{statement}
+use Rattle.interpreter.proofs.letters.load_triple_numbers.Tie as tie
+
+ruleset ends = (needs, triple-loaded)
+
+pub load-triple-numbers-spec : {M : Type 1} → statement M
+load-triple-numbers-spec =
+    tie.close
+    (tie.spec (λ c. search ends) (λ c κs. search ends) (λ c. search ends) (λ c. search ends) (λ c. search ends)
+    (λ c κs. search ends) (λ c. search ends) (λ c. search ends))

@@ -1,0 +1,13 @@
+-- `messages::keep_masks` meets its contract.
+use borrow.Author.Needs.{needs}
+use Rattle.interpreter.proofs.Hearing.{street-shape, shape-post, shape-message, store-within-a, store-within-b, kept-masks}
+use Rattle.interpreter.proofs.messages.keep_masks.Statement.{statement}
+use Rattle.interpreter.proofs.messages.keep_masks.Tie as tie
+
+ruleset ends = (needs, street-shape, shape-post, shape-message, store-within-a, store-within-b, kept-masks)
+
+pub keep-masks-spec : {M : Type 1} → statement M
+keep-masks-spec =
+    tie.close
+    (tie.spec (λ c κs. search ends) (λ c κs. search ends) (λ c κs. search ends) (λ c κs. search ends) (λ c κs. search ends)
+    (λ c. search ends) (λ c. search ends))

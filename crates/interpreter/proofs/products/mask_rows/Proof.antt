@@ -1,0 +1,15 @@
+-- `products::mask_rows` meets its contract.
+use borrow.Author.Needs.{needs}
+use Rattle.interpreter.proofs.Calling.{shape-valid}
+use Rattle.interpreter.proofs.Hearing.{masks-in, masks-prefix}
+use Rattle.interpreter.proofs.Multiplying.{no-masks}
+use Rattle.interpreter.proofs.products.mask_rows.Statement.{statement}
+use Rattle.interpreter.proofs.products.mask_rows.Tie as tie
+
+ruleset ends = (needs, shape-valid, masks-in, masks-prefix, no-masks)
+
+pub mask-rows-spec : {M : Type 1} → statement M
+mask-rows-spec =
+    tie.close
+    (tie.spec (λ c κs. search ends) (λ c κs. search ends) (λ c. search ends) (λ c. search ends) (λ c κs. search ends)
+    (λ c. search ends) (λ c. search ends))

@@ -1,0 +1,56 @@
+//! The fields of the program's own lines: their form, then their range.
+
+use crate::lines::{body, number, numbers};
+use crate::refusal::{require, Refusal};
+use crate::shape::{ROWS, TRIPLE};
+
+/// "In `S` the field t may be `-`, meaning t = 1."
+const DASH_THRESHOLD: u64 = 1;
+
+/// The bytes up to the first comma, line feed or end of input.
+pub(super) fn first_field(line: &[u8]) -> &[u8] {
+    let end = line.iter().position(|byte| b",\n".contains(byte));
+    &line[..end.unwrap_or(line.len())]
+}
+
+/// n, t, post and check point of an `S` line of right form.
+pub(super) fn start_numbers(line: &[u8]) -> Option<[u64; 4]> {
+    let fields: Vec<&[u8]> = body(line)?.split(|&byte| byte == b',').collect();
+    let &[b"S", n, t, post, point] = fields.as_slice() else {
+        return None;
+    };
+    let t = match t {
+        b"-" => DASH_THRESHOLD,
+        t => number(t)?,
+    };
+    Some([number(n)?, t, number(post)?, number(point)?])
+}
+
+/// The `count` numbers behind the letter of a line, 10 when it has another form.
+pub(super) fn plain_numbers(line: &[u8], count: usize) -> Result<Vec<u64>, Refusal> {
+    let fields = body(line).map(|body| body.split(|&byte| byte == b',').skip(1));
+    fields.and_then(|fields| numbers(fields, count)).ok_or(Refusal::Form)
+}
+
+/// Check 11 for a row number.
+pub(super) fn row_in_range(row: u64) -> Result<usize, Refusal> {
+    require(row < ROWS as u64, Refusal::Range)?;
+    Ok(row as usize)
+}
+
+/// Check 11 for a triple's first row.
+pub(super) fn triple_in_range(first: u64) -> Result<usize, Refusal> {
+    require(first <= (ROWS - TRIPLE) as u64, Refusal::Range)?;
+    Ok(first as usize)
+}
+
+/// Check 11 for elements.
+pub(super) fn elements_in_range<const P: u32>(elements: &[u64]) -> Result<Vec<u32>, Refusal> {
+    require(elements.iter().all(|&element| element < P.into()), Refusal::Range)?;
+    Ok(elements.iter().map(|&element| element as u32).collect())
+}
+
+/// A number that is judged before it is narrowed: what doesn't fit stays out of every range.
+pub(super) fn saturated(number: u64) -> usize {
+    usize::try_from(number).unwrap_or(usize::MAX)
+}
