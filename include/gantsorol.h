@@ -21,6 +21,7 @@
  *   11  a line read has a number out of range
  *   12  the list lent for a line is shorter than the line
  *   13  an accepted share is not on the polynomial of the t+1 lowest, in either record of a finish; looked at after 9
+ *   14  a relation has no terms, or more than 32; looked at after 5
  *
  * What a caller has to see to, because no call can: a list is passed as a pointer to its first number, aligned for its
  * type, and its length in numbers (bytes for a line), which the memory really has. The lists of one call must not
@@ -50,6 +51,10 @@ extern "C" {
 #define GANTSOROL_MAX_POSTS 255
 /* The rows of a session. */
 #define GANTSOROL_ROWS 96
+/* The most terms of a relation. */
+#define GANTSOROL_MAX_TERMS 32
+/* The second row of a term that is no product. */
+#define GANTSOROL_NO_ROW 255
 /* The bytes of the longest line, its line feed included. */
 #define GANTSOROL_LONGEST_LINE 5619
 
@@ -69,6 +74,10 @@ extern "C" {
 #define GANTSOROL_TRIPLE_DRAW_LEN(n, t) (3 * GANTSOROL_ROW_DRAW_LEN(n, t) - 1)
 /* The masks of a product: t+1 coefficients for each factor. */
 #define GANTSOROL_MASKS_LEN(t) (2 * ((t) + 1))
+/* The masks of a relation's product terms, k of them. */
+#define GANTSOROL_RELATION_MASKS_LEN(t, k) ((k) * GANTSOROL_MASKS_LEN(t))
+/* The records of a relation's product terms, k of them: two records each. */
+#define GANTSOROL_RELATION_RECORDS_LEN(n, t, k) ((k) * 2 * GANTSOROL_RECORD_LEN(n, t))
 /* The list that a line read fills. */
 #define GANTSOROL_LINE_LIST_LEN(t) (2 * ((t) + 1))
 
@@ -96,6 +105,17 @@ typedef struct gantsorol_answer {
     /* the session after the call; when refused, as it was given */
     gantsorol_session session;
 } gantsorol_answer;
+
+/* A term of a relation: a coefficient times a row's number, or times the product of two rows' numbers. */
+typedef struct gantsorol_term {
+    /* an element */
+    uint32_t coefficient;
+    uint8_t row;
+    /* the second factor's row, perhaps the same; GANTSOROL_NO_ROW where the term is no product */
+    uint8_t second;
+    /* the first row of the product's triple; not looked at where the term is no product */
+    uint8_t first;
+} gantsorol_term;
 
 /* The dealer's number. */
 typedef struct gantsorol_number {
@@ -192,6 +212,39 @@ gantsorol_answer gantsorol_masks(gantsorol_session session, const uint32_t *rows
 gantsorol_answer gantsorol_finish(gantsorol_session session, uint32_t *rows, size_t rows_len, size_t first,
                                   const uint32_t *record_a, size_t record_a_len, const uint32_t *record_b,
                                   size_t record_b_len);
+
+/* ---- Relations ---- */
+
+/*
+ * A relation says that the sum of its terms is 0 modulo p. Its product terms are proved with a triple each: the masks are
+ * made, sent and heard as those of single products, then every post finishes and has its part of the sum, which is opened
+ * like any held number. It is 0 exactly when the relation holds; no number of the terms is shown.
+ *
+ * The lists of masks and of records hold those of each product term, in the order of the terms, those of a - l first:
+ * k product terms over the whole list of terms, also where that list is too long. A plain term adds nothing to them; without
+ * a product term they are empty.
+ */
+
+/*
+ * The masks of all product terms, as gantsorol_masks makes them of one: each term's rows must be held and its triple
+ * unused, and no triple may be named twice (7). Each triple's first row gets mark 5 and remembers its term's rows.
+ * rows: GANTSOROL_ROWS_LEN, read. terms: 1 to GANTSOROL_MAX_TERMS, read. out: GANTSOROL_RELATION_MASKS_LEN, written.
+ * Refusals 1 to 5, 14, 6 to 8.
+ */
+gantsorol_answer gantsorol_relation_masks(gantsorol_session session, const uint32_t *rows, size_t rows_len,
+                                          const gantsorol_term *terms, size_t terms_len, uint32_t *out, size_t out_len);
+
+/*
+ * Finishes all product terms, each as gantsorol_finish does, and writes the sum of all terms into the empty row `row`,
+ * which becomes held. Each term's rows must be held and each triple must remember its term's rows in their order (7). All
+ * checks come before the first write: a 9 or 13 of the last record leaves every triple as it was, and the call may be made
+ * again with other records.
+ * rows: GANTSOROL_ROWS_LEN, written. terms: 1 to GANTSOROL_MAX_TERMS, read. records: GANTSOROL_RELATION_RECORDS_LEN, read.
+ * Refusals 1 to 5, 14, 6 to 9, 13; 6, 7, 8, 9 and 13 each over all terms, the sum's row last.
+ */
+gantsorol_answer gantsorol_relation_finish(gantsorol_session session, uint32_t *rows, size_t rows_len,
+                                           const gantsorol_term *terms, size_t terms_len, size_t row,
+                                           const uint32_t *records, size_t records_len);
 
 /* ---- Records ---- */
 

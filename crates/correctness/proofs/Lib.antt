@@ -9,3 +9,4 @@ pub mod Openings
 pub mod Theorems
 pub mod Caught
 pub mod Parts
+pub mod Relation

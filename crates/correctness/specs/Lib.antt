@@ -3,3 +3,4 @@ pub mod Ledger
 pub mod Truth
 pub mod Claim
 pub mod Parts
+pub mod Relation

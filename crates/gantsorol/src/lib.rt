@@ -6,3 +6,4 @@ pub mod broadcast;
 pub mod calls;
 pub mod packs;
 pub mod record;
+pub mod relations;

@@ -160,7 +160,7 @@ fn open_long_mask(party: Party, rows: &[u32], factor: usize, row: usize, blocks:
 }
 
 // A factor row less a row of the triple, opened with its record.
-fn open_mask(party: Party, rows: &[u32], factor: usize, row: usize, blocks: &[u32]) -> Opened
+pub fn open_mask(party: Party, rows: &[u32], factor: usize, row: usize, blocks: &[u32]) -> Opened
     requires { ⌜ Sized (party .shape) (now rows) × RowIn (party .shape) factor × RowIn (party .shape) row × Recorded party (now blocks) ⌝ }
     ensures { λ r. ⌜ r ≡ openedRow party (maskRow (party .shape) (now (rows .entry)) factor row) (now (blocks .entry)) ⌝ }
 {
@@ -173,7 +173,7 @@ fn open_mask(party: Party, rows: &[u32], factor: usize, row: usize, blocks: &[u3
 }
 
 // The refusal of two openings: a 9 of either comes before a 13 of either.
-fn either(a: u8, b: u8) -> u8
+pub fn either(a: u8, b: u8) -> u8
     ensures { λ r. ⌜ r ≡ eitherOf a b ⌝ }
 {
     if b == 9 { 9 } else { refusal::or_else(a, b) }
@@ -235,7 +235,7 @@ fn open_masks(
 }
 
 // The second step: l'' + y l' + y' l into the triple's third row, with the fee y y'.
-fn write_product(shape: Shape, rows: &mut [u32], first: usize, y_a: u32, y_b: u32)
+pub fn write_product(shape: Shape, rows: &mut [u32], first: usize, y_a: u32, y_b: u32)
     requires { ⌜ Sized shape (now rows) × TripleIn shape first ⌝ }
     ensures { λ r. ⌜ now (rows .exit)
         ≡ withRow (rowLength shape) (first + 2) (summed (sumsAt shape) «y_b» (product «y_a» «y_b»)

@@ -97,7 +97,7 @@ fn mask(shape: Shape, rows: &[u32], factor: usize, row: usize, out: &mut [u32])
     session::rows::combine(field::P - 1, &x[..count], &y[..count], out);
 }
 
-fn masks_accepted(shape: Shape, rows: &[u32], a: usize, b: usize, first: usize, out: &mut [u32])
+pub fn masks_accepted(shape: Shape, rows: &[u32], a: usize, b: usize, first: usize, out: &mut [u32])
     requires { ⌜ Sized shape (now rows) × RowIn shape a × RowIn shape b × TripleIn shape first × (length (now out) ≡ masksLength shape) ⌝ }
     ensures { λ r. ⌜ now (out .exit) ≡ bothMasks shape (now (rows .entry)) a b first ⌝ }
 {

@@ -7,7 +7,7 @@ use mathlib.Core.Logic.{_≢_}
 use mathlib.Core.List.{List}
 use native.Mathlib.Decide.{ℕ-discrete}
 use native.Mathlib.Omega.{arith}
-use lib.ListN.{set}
+use lib.ListN.{length, set}
 use lib.Seq.{getD-set-other}
 use Rattle.field.specs.Modulus.{p}
 use Rattle.field.specs.Arithmetic.{product}
@@ -26,7 +26,7 @@ use Rattle.vectors.proofs.Linear.{row-plusTimes, row-summed}
 use Rattle.vectors.proofs.Theorems.{opened-exact}
 use Rattle.runs.specs.Draws.{pointOf}
 use Rattle.runs.specs.Calls.{at}
-use Rattle.runs.proofs.Marks.{Marks, markOf, rememberedA, rememberedB, remarked, finished, maskVectorA, maskVectorB, written}
+use Rattle.runs.proofs.Marks.{Marks, markOf, rememberedA, rememberedB, remarked, finished, sessionAt, maskVectorA, maskVectorB, written}
 use Rattle.runs.proofs.Sums.{productVector, product-sum}
 use Rattle.runs.proofs.Packs.{rowFor}
 use Rattle.runs.proofs.Holds.{Holds, wide, put-holds, keep-holds, Holder, sessionOf, combined-row}
@@ -78,20 +78,16 @@ module _ (H : Holder) where
     pub opens-b : Finish.maskB s l r ≡ heldRow s (maskVectorB M vec r)
     opens-b = combined-row H (p - 1) (rememberedB M r) (r + 1) (factor-row (rememberedB M r) (ok .b-low) (ok .b-held)) row-b
 
-  module _ (r : ℕ) (blocksA blocksB : List ℕ) (ok : Multiplying 5 M (rememberedA M r) (rememberedB M r) r) (f : Finished s l r blocksA blocksB) where
-    framed : Framed s l
-    framed = finish-framed s l r blocksA blocksB (f .checked)
+  -- the number that is opened, where t+1 of the record's polynomials are true
+  pub opened-is : plan .n < p → (x : List ℕ) (S : Vector) (bl : List ℕ) → x ≡ heldRow s S → Trusted s S bl → tooFew s x bl ≡ false
+      → disagree s x bl ≡ false → opened s x bl ≡ number S .0
+  opened-is few x S bl e trusted some agree =
+      let enough = sym (ap (λ (y : List ℕ). tooFew s y bl) e) ∙ some in
+      ap (λ (y : List ℕ). opened s y bl) e
+      ∙ opened-exact s S bl few enough (trusted few enough) (sym (ap (λ (y : List ℕ). disagree s y bl) e) ∙ agree)
 
-    few : plan .n < p
-    few = omega (arith, framed .sized .valid .n-in)
-
-    opened-is : (x : List ℕ) (S : Vector) (bl : List ℕ) → x ≡ heldRow s S → Trusted s S bl → tooFew s x bl ≡ false
-        → disagree s x bl ≡ false → opened s x bl ≡ number S .0
-    opened-is x S bl e trusted some agree =
-        let enough = sym (ap (λ (y : List ℕ). tooFew s y bl) e) ∙ some in
-        ap (λ (y : List ℕ). opened s y bl) e
-        ∙ opened-exact s S bl few enough (trusted few enough) (sym (ap (λ (y : List ℕ). disagree s y bl) e) ∙ agree)
-
+  -- the product of the triple at r, written from the numbers of a − l and of b − l'
+  module _ (r : ℕ) (ok : Multiplying 5 M (rememberedA M r) (rememberedB M r) r) (size : length l ≡ 96 * W) where
     before : (q : ℕ) → q < 96 → markOf (remarked (remarked M r 6) (r + 1) 6) q ≢ 0 → markOf M q ≢ 0
     before q lq ne = go (ℕ-discrete q r) (ℕ-discrete q (r + 1))
       where
@@ -101,22 +97,30 @@ module _ (H : Holder) where
         go (no e) (no d) =
             subst (λ (m : ℕ). m ≢ 0) (getD-set-other (set (M .marks) r 6) (r + 1) q 6 0 d ∙ getD-set-other (M .marks) r q 6 0 e) ne
 
-    pub finish-holds : Trusted s (maskVectorA M vec r) blocksA → Trusted s (maskVectorB M vec r) blocksB
-        → Holds plan draw len i (finished M r) (at vec (r + 2) (written M vec r))
-        (withProduct s (opened s (Finish.maskA s l r) blocksA) (opened s (Finish.maskB s l r) blocksB) r l)
-    unfolding withProduct
-    finish-holds ta tb =
+    pub product-holds : (M₀ : Marks) (y y' : ℕ) → y ≡ number (maskVectorA M vec r) .0 → y' ≡ number (maskVectorB M vec r) .0
+        → Holds plan draw len i (finished M r) (at vec (r + 2) (written M vec r)) (withProduct (sessionAt plan draw i M₀) y y' r l)
+    unfolding withProduct productRow
+    product-holds M₀ y y' ya yb =
         put-holds plan draw len i (remarked (remarked M r 6) (r + 1) 6) vec l
-        (keep-holds plan draw len i M (remarked (remarked M r 6) (r + 1) 6) vec l h before) (framed .sized .length-is) (r + 2) 2
+        (keep-holds plan draw len i M (remarked (remarked M r 6) (r + 1) 6) vec l h before) size (r + 2) 2
         (omega (arith, ok .r-low)) _ _ (ap₂ (λ (y y' : ℕ). productRow s y y' (rowAt W l r) (rowAt W l (r + 1)) (rowAt W l (r + 2))) ya yb ∙ rows-are ∙ row-of-product _ _ _ _ _
         ∙ ap (rowFor plan draw i) (sym (product-sum vec r _ _)))
       where
-        ya : opened s (Finish.maskA s l r) blocksA ≡ number (maskVectorA M vec r) .0
-        ya = opened-is (Finish.maskA s l r) (maskVectorA M vec r) blocksA (opens-a r ok) ta (f .enough-a) (f .agree-a)
-
-        yb : opened s (Finish.maskB s l r) blocksB ≡ number (maskVectorB M vec r) .0
-        yb = opened-is (Finish.maskB s l r) (maskVectorB M vec r) blocksB (opens-b r ok) tb (f .enough-b) (f .agree-b)
-
         rows-are : productRow s (number (maskVectorA M vec r) .0) (number (maskVectorB M vec r) .0) (rowAt W l r) (rowAt W l (r + 1)) (rowAt W l (r + 2))
             ≡ productRow s (number (maskVectorA M vec r) .0) (number (maskVectorB M vec r) .0) (rowFor plan draw i (vec r)) (rowFor plan draw i (vec (r + 1))) (rowFor plan draw i (vec (r + 2)))
         rows-are = λ j. productRow s (number (maskVectorA M vec r) .0) (number (maskVectorB M vec r) .0) (row-a r ok j) (row-b r ok j) (row-ab r ok j)
+
+  module _ (r : ℕ) (blocksA blocksB : List ℕ) (ok : Multiplying 5 M (rememberedA M r) (rememberedB M r) r) (f : Finished s l r blocksA blocksB) where
+    framed : Framed s l
+    framed = finish-framed s l r blocksA blocksB (f .checked)
+
+    few : plan .n < p
+    few = omega (arith, framed .sized .valid .n-in)
+
+    pub finish-holds : Trusted s (maskVectorA M vec r) blocksA → Trusted s (maskVectorB M vec r) blocksB
+        → Holds plan draw len i (finished M r) (at vec (r + 2) (written M vec r))
+        (withProduct s (opened s (Finish.maskA s l r) blocksA) (opened s (Finish.maskB s l r) blocksB) r l)
+    finish-holds ta tb =
+        product-holds r ok (framed .sized .length-is) M _ _
+        (opened-is few (Finish.maskA s l r) (maskVectorA M vec r) blocksA (opens-a r ok) ta (f .enough-a) (f .agree-a))
+        (opened-is few (Finish.maskB s l r) (maskVectorB M vec r) blocksB (opens-b r ok) tb (f .enough-b) (f .agree-b))

@@ -15,7 +15,6 @@ use Rattle.session.specs.Rows.{sumsAt, rowAt, withRow, combined, plusSums, summ
 use Rattle.session.proofs.RowLaws.{length-with-row, row-same, row-other}
 use Rattle.sharing.specs.Load.{withTriple}
 use Rattle.sharing.proofs.Passed.{RowLoaded, TripleLoaded, Dealt, Summed}
-use Rattle.product.proofs.Passed.{Factored}
 use Rattle.vectors.specs.Vector.{Vector, plusTimes, raised, rowOf}
 use Rattle.vectors.proofs.Linear.{length-numbers, row-plusTimes, row-raised, row-summed}
 use Rattle.runs.specs.Draws.{Plan, Draw, pointOf}
@@ -122,11 +121,11 @@ module _ (H : Holder) where
       ∙ sym (row-summed (plan .t + 1) (plan .n) i scale c (element (pointOf draw i)) (vec a) (vec b))
       ∙ ap (rowFor plan draw i) (sym (linear-sum vec a b scale c)))
 
-  pub masks-holds : (a b r : ℕ) → Factored s a b r 3 → Holds plan draw len i (marksBy (factors a b r) M) vec l
-  masks-holds a b r f = keep-holds plan draw len i M (marksBy (factors a b r) M) vec l h (λ q lq ne. go q ne (ℕ-discrete q r))
+  pub masks-holds : (a b r : ℕ) → markOf M r ≡ 3 → Holds plan draw len i (marksBy (factors a b r) M) vec l
+  masks-holds a b r three = keep-holds plan draw len i M (marksBy (factors a b r) M) vec l h (λ q lq ne. go q ne (ℕ-discrete q r))
     where
       go : (q : ℕ) → getD (set (M .marks) r 5) q 0 ≢ 0 → Dec (q ≡ r) → markOf M q ≢ 0
-      go q ne (yes e) = λ g. omega (arith, f .first-mark, ap (markOf M) e)
+      go q ne (yes e) = λ g. omega (arith, three, ap (markOf M) e)
       go q ne (no e) = subst (λ (z : ℕ). z ≢ 0) (getD-set-other (M .marks) r q 5 0 e) ne
 
   -- a triple's three rows

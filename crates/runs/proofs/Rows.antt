@@ -48,7 +48,7 @@ sized-at M r m z = record { marks = length-set (M .marks) r m ∙ z .marks; fact
 now : (M : Marks) (r m : ℕ) → Sized M → r < 96 → markOf (remarked M r m) r ≡ m
 now M r m z low = getD-set-same (M .marks) r m 0 (omega (arith, z .marks))
 
-past : (M : Marks) (r m q : ℕ) → q ≢ r → markOf (remarked M r m) q ≡ markOf M q
+pub past : (M : Marks) (r m q : ℕ) → q ≢ r → markOf (remarked M r m) q ≡ markOf M q
 past M r m q ne = getD-set-other (M .marks) r q m 0 ne
 
 -- row q is left as it is
@@ -94,6 +94,9 @@ module _ (M : Marks) (r x y z : ℕ) where
   off-three : (vec vec' : ℕ → Vector) (q : ℕ) → q ≢ r → q ≢ r + 1 → q ≢ r + 2 → vec' q ≡ vec q → Same M three vec vec' q
   off-three vec vec' q n n' n'' e =
       twice (other M r x vec vec q n refl) (twice (other one (r + 1) y vec vec q n' refl) (other two (r + 2) z vec vec' q n'' e))
+
+  pub past-three : (q : ℕ) → q ≢ r → q ≢ r + 1 → q ≢ r + 2 → markOf (remarked (remarked (remarked M r x) (r + 1) y) (r + 2) z) q ≡ markOf M q
+  past-three q n n' n'' = past two (r + 2) z q n'' ∙ past one (r + 1) y q n' ∙ past M r x q n
 
   pub on-three : Sized M → r < 94 → (markOf three r ≡ x) × (markOf three (r + 1) ≡ y) × (markOf three (r + 2) ≡ z)
   on-three s low =

@@ -1,7 +1,7 @@
--- The sum of summands: a + s b + fee is one, and so is l'' + y l' + y' l + y y'.
+-- The sum of summands: a + s b + fee is one, and so is l'' + y l' + y' l + y y'; and so are the terms of a relation, added one by one.
 use Prim.Native.Nat.{ℕ, _+_}
-use mathlib.Core.Path.{_≡_, refl, _∙_, ap}
-use mathlib.Core.List.{[], _∷_}
+use mathlib.Core.Path.{_≡_, refl, sym, _∙_, ap}
+use mathlib.Core.List.{List, [], _∷_, map}
 use Rattle.field.specs.Arithmetic.{product}
 use Rattle.field.specs.Algebra.{CommutativeRing}
 use Rattle.field.specs.Element.{Element, element}
@@ -9,8 +9,10 @@ use Rattle.field.proofs.Expression.{A, B, C, D, E, F, 𝟘, 𝟙, _:+_, _:*_, S
 use Rattle.field.proofs.Solver.{solve}
 use Rattle.field.proofs.Elements.{𝓡, element-one}
 use Rattle.vectors.specs.Vector.{Vector, plusTimes, raised}
-use Rattle.runs.specs.Outline.{once, times, fee}
-use Rattle.runs.proofs.Marks.{totalVector, productSum}
+use Rattle.terms.specs.declared.Term.{Term}
+use Rattle.relation.specs.Finish.{numberRow}
+use Rattle.runs.specs.Outline.{once, times, fee, summand}
+use Rattle.runs.proofs.Marks.{zeroVector, totalVector, productSum}
 open CommutativeRing 𝓡 using (add as _⊕_, mul as _⊗_, zero as 0ᴱ, one as 1ᴱ)
 
 infixl 65 _⊕_
@@ -61,3 +63,43 @@ product-sum vec r y y' =
         ap (λ (o : Element). l'' ⊕ o ⊗ (0ᴱ ⊕ element y ⊗ l' ⊕ o ⊗ (0ᴱ ⊕ element y' ⊗ l ⊕ o ⊗ (0ᴱ ⊕ element (product y y'))))) element-one
         ∙ solve 𝓡 (l ∷ l' ∷ l'' ∷ element y ∷ element y' ∷ element (product y y') ∷ [])
         (C :+ 𝟙 :* (𝟘 :+ D :* B :+ 𝟙 :* (𝟘 :+ E :* A :+ 𝟙 :* (𝟘 :+ F)))) (C :+ D :* B :+ E :* A :+ F) refl
+
+-- terms added one after the other, as a relation's finish does: to X, each time s times a row
+abbrev pub addedTerms : (ℕ → Vector) → Vector → List Term → Vector
+addedTerms vec X [] = X
+addedTerms vec X (t ∷ ts) = addedTerms vec (plusTimes (element (t .coefficient)) X (vec (numberRow t))) ts
+
+module _ (vec : ℕ → Vector) where
+  added : (X : Vector) (t : Term) (ts : List Term) → addedTerms vec X (t ∷ ts) ≡ plusTimes (element 1) X (totalVector vec (summand t) (map summand ts))
+  unfolding Same
+  added X t [] =
+      let Y = vec (numberRow t) in
+      λ j. record { c = at (X .c) (Y .c) j; f = λ k. at (X .f k) (Y .f k) j; v = λ i k. at (X .v i k) (Y .v i k) j }
+    where
+      at : (x y : Element) → x ⊕ element (t .coefficient) ⊗ y ≡ x ⊕ element 1 ⊗ (0ᴱ ⊕ element (t .coefficient) ⊗ y)
+      at x y =
+          sym
+          (ap (λ (o : Element). x ⊕ o ⊗ (0ᴱ ⊕ element (t .coefficient) ⊗ y)) element-one
+          ∙ solve 𝓡 (x ∷ y ∷ element (t .coefficient) ∷ []) (A :+ 𝟙 :* (𝟘 :+ C :* B)) (A :+ C :* B) refl)
+  added X t (t' ∷ ts) =
+      let Y = vec (numberRow t) in
+      let Z = totalVector vec (summand t') (map summand ts) in
+      added (plusTimes (element (t .coefficient)) X (vec (numberRow t))) t' ts
+      ∙ (λ j. record { c = at (X .c) (Y .c) (Z .c) j; f = λ k. at (X .f k) (Y .f k) (Z .f k) j; v = λ i k. at (X .v i k) (Y .v i k) (Z .v i k) j })
+    where
+      at : (x y z : Element)
+          → x ⊕ element (t .coefficient) ⊗ y ⊕ element 1 ⊗ z ≡ x ⊕ element 1 ⊗ (0ᴱ ⊕ element (t .coefficient) ⊗ y ⊕ element 1 ⊗ z)
+      at x y z =
+          ap (λ (o : Element). x ⊕ element (t .coefficient) ⊗ y ⊕ o ⊗ z) element-one
+          ∙ solve 𝓡 (x ∷ y ∷ element (t .coefficient) ∷ z ∷ []) (A :+ C :* B :+ 𝟙 :* D) (A :+ 𝟙 :* (𝟘 :+ C :* B :+ 𝟙 :* D)) refl
+          ∙ sym (ap (λ (o : Element). x ⊕ o ⊗ (0ᴱ ⊕ element (t .coefficient) ⊗ y ⊕ o ⊗ z)) element-one)
+
+  -- added to nothing, they are the sum of the terms
+  pub terms-sum : (t : Term) (ts : List Term) → addedTerms vec zeroVector (t ∷ ts) ≡ totalVector vec (summand t) (map summand ts)
+  unfolding Same
+  terms-sum t ts =
+      let Z = totalVector vec (summand t) (map summand ts) in
+      added zeroVector t ts ∙ (λ j. record { c = at (Z .c) j; f = λ k. at (Z .f k) j; v = λ i k. at (Z .v i k) j })
+    where
+      at : (z : Element) → 0ᴱ ⊕ element 1 ⊗ z ≡ z
+      at z = ap (λ (o : Element). 0ᴱ ⊕ o ⊗ z) element-one ∙ solve 𝓡 (z ∷ []) (𝟘 :+ 𝟙 :* A) A refl

@@ -6,11 +6,12 @@ use mathlib.Core.Logic.{_⊎_}
 use mathlib.Core.Bool.{false, cond}
 use mathlib.Core.List.{List, [], _∷_}
 use lib.Dec.{eqb}
-use lib.ListN.{length}
+use lib.ListN.{length, take, drop}
 use Rattle.poly.specs.Counting.{Elements}
 use Rattle.session.specs.declared.Session.{Session}
 use Rattle.session.specs.declared.Answer.{Answer}
-use Rattle.session.specs.Sessions.{created}
+use Rattle.shape.specs.Lengths.{masksLength}
+use Rattle.session.specs.Sessions.{created, shapeOf}
 use Rattle.sharing.specs.Load.{loadRowAnswer, loadRowRows, loadTripleAnswer, loadTripleRows}
 use Rattle.sharing.specs.Deal.{dealAnswer, dealRows}
 use Rattle.sharing.specs.Message.{messageAnswer, messageOut}
@@ -19,10 +20,14 @@ use Rattle.opening.specs.Walking.{recordLength, badRecord}
 use Rattle.opening.specs.Opening.{openAnswer}
 use Rattle.product.specs.Masks.{masksAnswer, masksOut}
 use Rattle.product.specs.Finish.{finishAnswer, finishRows}
+use Rattle.terms.specs.declared.Term.{Term}
+use Rattle.terms.specs.Listed.{productsOf, collected}
+use Rattle.relation.specs.Masks.{relationMasksAnswer, relationMasksOut}
+use Rattle.relation.specs.Finish.{relationFinishAnswer, relationFinishRows}
 use Rattle.forms.specs.Lines as Line
 use Rattle.forms.specs.Lines.{text}
 use Rattle.runs.specs.Draws.{Plan, Draw, pointOf}
-use Rattle.runs.specs.Outline.{Kinds, CallOf, Sending, itsOpening, itsMasks, sends}
+use Rattle.runs.specs.Outline.{cut, Kinds, CallOf, Sending, itsOpening, itsMasks, sends}
 
 -- What a post keeps between calls: "each call gets the session and rows that the one before handed back".
 pub record Post : Type 0 where
@@ -31,7 +36,7 @@ pub record Post : Type 0 where
 
 -- A call that a post makes.
 abbrev pub Actual : Kinds
-Actual = record { Pack = List ℕ; Number = ℕ; Record = List ℕ; Lent = List ℕ; Heard = Unit {0} }
+Actual = record { Pack = List ℕ; Number = ℕ; Record = List ℕ; Lent = List ℕ; Heard = Unit {0}; part = cut }
 
 abbrev pub Call : Type 0
 Call = CallOf Actual
@@ -59,6 +64,12 @@ module _ {K : Kinds} where
   abbrev pub finish : (r : ℕ) (blocksA blocksB : K .Record) → CallOf K
   finish r blocksA blocksB = CallOf.finish (record { r = r; blocksA = blocksA; blocksB = blocksB })
 
+  abbrev pub relationMasks : (terms : List Term) (lent : K .Lent) → CallOf K
+  relationMasks terms lent = CallOf.relationMasks (record { terms = terms; lent = lent })
+
+  abbrev pub relationFinish : (terms : List Term) (r : ℕ) (blocks : K .Record) → CallOf K
+  relationFinish terms r blocks = CallOf.relationFinish (record { terms = terms; r = r; blocks = blocks })
+
 abbrev pub message : (r : ℕ) (lent : List ℕ) → Call
 message r lent = CallOf.message (record { r = r; lent = lent; heard = tt })
 
@@ -71,6 +82,11 @@ pub record Performed : Type 0 where
 
 abbrev pub performed : Answer → List ℕ → List (List ℕ) → Performed
 performed answer rows lent = record { answer = answer; rows = rows; lent = lent }
+
+-- The first m parts of w numbers of a list.
+abbrev pub pieces : (w m : ℕ) → List ℕ → List (List ℕ)
+pieces w zero xs = []
+pieces w (suc m) xs = take w xs ∷ pieces w m (drop w xs)
 
 -- Each call by the definitions that its contract cites.
 unfoldable pub perform : Call → Post → Performed
@@ -92,6 +108,13 @@ perform (CallOf.masks x) q =
 perform (CallOf.finish x) q =
     performed (finishAnswer (q .session) (q .rows) (x .r) (x .blocksA) (x .blocksB))
     (finishRows (q .session) (q .rows) (x .r) (x .blocksA) (x .blocksB)) []
+perform (CallOf.relationMasks x) q =
+    performed (relationMasksAnswer (q .session) (q .rows) (collected (x .terms)) (x .lent)) (q .rows)
+    (pieces (masksLength (shapeOf (q .session))) (length (productsOf (x .terms)))
+    (relationMasksOut (q .session) (q .rows) (collected (x .terms)) (x .lent)))
+perform (CallOf.relationFinish x) q =
+    performed (relationFinishAnswer (q .session) (q .rows) (collected (x .terms)) (x .r) (x .blocks))
+    (relationFinishRows (q .session) (q .rows) (collected (x .terms)) (x .r) (x .blocks)) []
 
 -- The post after a call; and a new one, "made with the draw's n and t, its own number and the check point the draw gives it,
 -- and with any fixed numbers in the row list".

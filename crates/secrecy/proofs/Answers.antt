@@ -15,7 +15,7 @@ use Rattle.opening.specs.Opening.{openRefusal}
 use Rattle.opening.proofs.Passed.{walkTests, walk-few, OpenChecked, row-opened}
 use Rattle.vectors.specs.Vector.{number}
 use Rattle.runs.specs.Draws.{rawPack, triplePack}
-use Rattle.runs.specs.Outline.{loadRow, loadTriple, deal, message, opening, linear, masks, finish, aRecord}
+use Rattle.runs.specs.Outline.{loadRow, loadTriple, deal, message, opening, linear, masks, finish, relationMasks, relationFinish, aRecord}
 use Rattle.runs.specs.Calls.{Post, Call, Performed, perform}
 use Rattle.runs.proofs.Marks.{sessionAt}
 use Rattle.runs.proofs.Outcomes.{Doing, does, refusalOf, refusal-is, value-is}
@@ -25,6 +25,7 @@ use Rattle.secrecy.specs.Steps.{Step, Pack, Number, Record, own, sent, p
 use Rattle.secrecy.specs.Rules.{RuleWith, Rule}
 use Rattle.secrecy.proofs.Link.{Alike}
 use Rattle.secrecy.proofs.Twins as Twins
+use Rattle.secrecy.proofs.Relations as Relations
 use Rattle.secrecy.proofs.Pair as Pairs
 use Rattle.secrecy.proofs.Pair.{Two, Moments, Pair, wait-numbers, few-same}
 
@@ -162,6 +163,10 @@ module _ (T : Two) (m : Moments) (R : Pair T m)
         (wait-numbers T m R (x .r)),
     λ z. refl,
   )
+  alike (relationMasks x) rule =
+      (Relations.relation-masks-same twin (x .terms) (x .lent i), λ z. refl)
+  alike (relationFinish x) rule =
+      (Relations.relation-finish-same twin (x .terms) (x .r) (x .blocks i lines) (wait-numbers T m R), λ z. refl)
 
   refusals : (c : Step) → Rule (T .plan) c (refusalOf (c1 c) p1) lines → refusalOf (c1 c) p1 ≡ refusalOf (c2 c) p2
   refusals c rule = alike c rule .0

@@ -3,6 +3,7 @@ pub mod Near
 pub mod Shift
 pub mod Link
 pub mod Twins
+pub mod Relations
 pub mod Moves
 pub mod Entered
 pub mod State
@@ -26,4 +27,6 @@ pub mod Selections
 pub mod Listed
 pub mod Counts
 pub mod Theorems
+pub mod Thirteen
+pub mod Thirteens
 pub mod Never

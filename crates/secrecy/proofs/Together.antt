@@ -83,6 +83,7 @@ module _ (T : Two) (m : Moments) (R : Pair T m) where
       blocks = λ blocks. blocks i lines;
       lent = λ lent. lent i;
       heard = λ heard. tt;
+      parts = λ m k blocks. refl;
     }) x
 
     pub group-two : All (λ i. perform (c1 i c) (q i) ≡ perform (c2 i c) (q' i)) (T .group)

@@ -73,7 +73,7 @@ pub record Twin : Type 0 where
   pub holds' : Holds plan draw len post marks vec' rows'
 
 -- the 8 of a triple's rows and of its factors' is the same in both
-record LowSame (w : ℕ) (l l' : List ℕ) (a b r : ℕ) : Type 0 where
+pub record LowSame (w : ℕ) (l l' : List ℕ) (a b r : ℕ) : Type 0 where
   pub a-same : anyBeyond (rowAt w l a) ≡ anyBeyond (rowAt w l' a)
   pub b-same : anyBeyond (rowAt w l b) ≡ anyBeyond (rowAt w l' b)
   pub first-same : anyBeyond (rowAt w l r) ≡ anyBeyond (rowAt w l' r)
@@ -99,7 +99,7 @@ module _ (T : Twin) where
   frame-same = ap (λ (m : ℕ). sessionTests (plan .n) (plan .t) i (pointOf d i) ++ (5 when not (eqb m (96 * W)) ∷ [])) (h .long ∙ sym (h' .long))
 
   -- a row with the mark that is needed: elements in both runs
-  elements-same : (x m : ℕ) → x ≤ lastRow → markOf M x ≡ suc m → anyBeyond (rowAt W l x) ≡ anyBeyond (rowAt W l' x)
+  pub elements-same : (x m : ℕ) → x ≤ lastRow → markOf M x ≡ suc m → anyBeyond (rowAt W l x) ≡ anyBeyond (rowAt W l' x)
   elements-same x m r is =
       ap anyBeyond (held-row one x m r is) ∙ row-low plan d i (vec x) ∙ sym (ap anyBeyond (held-row two x m r is) ∙ row-low plan d i (vec' x))
 
@@ -124,7 +124,7 @@ module _ (T : Twin) where
   -- ---- the calls
 
   -- behind the frame the same tests P, then such as count only where all of these fail
-  behind : (P Q Q' : List Test) → (AllFail (frameTests s l') → AllFail P → first Q ≡ first Q')
+  pub behind : (P Q Q' : List Test) → (AllFail (frameTests s l') → AllFail P → first Q ≡ first Q')
       → first (frameTests s l ++ (P ++ Q)) ≡ first (frameTests s l' ++ (P ++ Q'))
   behind P Q Q' e =
       ap (λ (f : List Test). first (f ++ (P ++ Q))) frame-same
@@ -167,7 +167,7 @@ module _ (T : Twin) where
       let k = linear-placed s r a b scale fee f in
       ap₂ (λ (x y : Bool). first (linearLate x y)) (elements-same a 1 (k .a-in) (k .a-held)) (elements-same b 1 (k .b-in) (k .b-held)))
 
-  numbers-same : (a b r m : ℕ) → Factored s a b r (suc m) → LowSame W l l' a b r
+  pub numbers-same : (a b r m : ℕ) → Factored s a b r (suc m) → LowSame W l l' a b r
   numbers-same a b r m f = record {
     a-same = elements-same a 1 (f .a-in) (f .a-held);
     b-same = elements-same b 1 (f .b-in) (f .b-held);

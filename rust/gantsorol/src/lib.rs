@@ -24,6 +24,7 @@ mod broadcast;
 mod lengths;
 mod record;
 mod refusal;
+mod relation;
 mod session;
 mod sys;
 mod works;
@@ -33,5 +34,6 @@ pub use lengths::{block_len, line_list_len, masks_len, record_len, row_draw_len,
 pub use lengths::{rows_len, triple_draw_len, LONGEST_LINE, MAX_POSTS, MODULUS, ROWS};
 pub use record::{record_put, record_remove};
 pub use refusal::Refusal;
+pub use relation::{Term, MAX_TERMS, NO_ROW};
 pub use session::{Answer, Session};
 pub use works::{dealer_number, factory_row, factory_triple, Number};

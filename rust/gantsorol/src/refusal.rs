@@ -3,7 +3,8 @@
 use std::error::Error;
 use std::fmt;
 
-/// The number of a refusal, from 1 on: the first that applies, in the order of numbers.
+/// The number of a refusal, from 1 on: the first that applies, in the order of numbers but for 14,
+/// which comes right after 5.
 #[derive(Clone, Copy, Debug, PartialEq, Eq)]
 pub struct Refusal(pub u8);
 
@@ -33,6 +34,7 @@ impl fmt::Display for Refusal {
             11 => "a number of the line is out of range",
             12 => "the line does not fit",
             13 => "an accepted share lies off the polynomial of the others",
+            14 => "a relation has no terms, or more than 32",
             _ => "unknown",
         };
         write!(f, "refusal {}: {why}", self.0)

@@ -1,6 +1,6 @@
 //! The library's functions, as `crates/gantsorol/src` has them: `tests/declarations.rs` compares.
 
-use crate::{Answer, Line, Number, Session, Written};
+use crate::{Answer, Line, Number, Session, Term, Written};
 
 extern "C" {
     pub fn gantsorol_new(n: usize, t: usize, post: usize, point: u32) -> Answer;
@@ -80,6 +80,27 @@ extern "C" {
         record_a_len: usize,
         record_b: *const u32,
         record_b_len: usize,
+    ) -> Answer;
+
+    pub fn gantsorol_relation_masks(
+        session: Session,
+        rows: *const u32,
+        rows_len: usize,
+        terms: *const Term,
+        terms_len: usize,
+        out: *mut u32,
+        out_len: usize,
+    ) -> Answer;
+
+    pub fn gantsorol_relation_finish(
+        session: Session,
+        rows: *mut u32,
+        rows_len: usize,
+        terms: *const Term,
+        terms_len: usize,
+        row: usize,
+        records: *const u32,
+        records_len: usize,
     ) -> Answer;
 
     pub fn gantsorol_record_put(

@@ -23,6 +23,11 @@ static void layout(void) {
     FIELD(gantsorol_answer, refusal);
     FIELD(gantsorol_answer, value);
     FIELD(gantsorol_answer, session);
+    SIZE(gantsorol_term);
+    FIELD(gantsorol_term, coefficient);
+    FIELD(gantsorol_term, row);
+    FIELD(gantsorol_term, second);
+    FIELD(gantsorol_term, first);
     SIZE(gantsorol_number);
     FIELD(gantsorol_number, refusal);
     FIELD(gantsorol_number, value);
@@ -103,6 +108,54 @@ static void multiply(void) {
     keep(0, gantsorol_finish(posts[0], rows[0], ALL, 93, record_a, RECORD, record_b, RECORD));
 }
 
+/* Rows 0 and 1 multiplied once more, with the triple at row 90, less the product in row 95, and 3 times a number less itself. */
+static void relate(void) {
+    const uint32_t minus = GANTSOROL_MODULUS - 1;
+    gantsorol_term terms[] = {{1, 0, 1, 90}, {minus, 95, GANTSOROL_NO_ROW, 0}, {3, 0, 255, 255}, {minus - 2, 0, 255, 0}};
+    enum { TERMS = sizeof terms / sizeof *terms, RECORDS = GANTSOROL_RELATION_RECORDS_LEN(N, T, 1), MANY = 33 };
+    uint32_t masks[MASKS], records[RECORDS] = {0}, record[RECORD], message[T + 1];
+    gantsorol_term many[MANY];
+    for (int i = 0; i < N; i++) {
+        keep(i, gantsorol_relation_masks(posts[i], rows[i], ALL, terms, TERMS, masks, MASKS));
+        print("masks", masks, MASKS);
+        put(records, i, masks);
+        put(records + RECORD, i, masks + T + 1);
+    }
+    printf("marks %d %d %d, of rows %d and %d\n", posts[0].marks[90], posts[0].marks[91], posts[0].marks[92],
+           posts[0].factor_a[90], posts[0].factor_b[90]);
+
+    /* Refused: no terms, too many, lists for another count of product terms, rows, a triple twice, p, one post alone. */
+    for (int i = 0; i < MANY; i++)
+        many[i] = terms[2];
+    keep(0, gantsorol_relation_masks(posts[0], rows[0], ALL, NULL, 0, NULL, 0));
+    keep(0, gantsorol_relation_finish(posts[0], rows[0], ALL, many, MANY, 2, NULL, 0));
+    keep(0, gantsorol_relation_finish(posts[0], rows[0], ALL, many, MANY, 2, records, RECORDS));
+    keep(0, gantsorol_relation_masks(posts[0], rows[0], ALL, terms, TERMS, masks, MASKS));
+    keep(0, gantsorol_relation_finish(posts[0], rows[0], ALL, terms, TERMS, 2, records, RECORD));
+    keep(0, gantsorol_relation_finish(posts[0], rows[0], ALL, terms, TERMS, 96, records, RECORDS));
+    keep(0, gantsorol_relation_finish(posts[0], rows[0], ALL, terms, TERMS, 0, records, RECORDS));
+    terms[0].row = 1;
+    keep(0, gantsorol_relation_finish(posts[0], rows[0], ALL, terms, TERMS, 2, records, RECORDS));
+    terms[0].row = 0;
+    terms[3].coefficient = GANTSOROL_MODULUS;
+    keep(0, gantsorol_relation_finish(posts[0], rows[0], ALL, terms, TERMS, 2, records, RECORDS));
+    terms[3].coefficient = minus - 2;
+    for (int i = 1; i < N; i++)
+        gantsorol_record_remove(N, T, records + RECORD, RECORD, i + 1);
+    keep(0, gantsorol_relation_finish(posts[0], rows[0], ALL, terms, TERMS, 2, records, RECORDS));
+    put(records + RECORD, N - 1, masks + T + 1);
+
+    for (int i = 0; i < N; i++) {
+        keep(i, gantsorol_relation_finish(posts[i], rows[i], ALL, terms, TERMS, 2, records, RECORDS));
+        print("sum", rows[i] + 2 * ROW, ROW);
+        keep(i, gantsorol_opening_message(posts[i], rows[i], ALL, 2, message, T + 1));
+        put(record, i, message);
+    }
+    for (int i = 0; i < N; i++)
+        printf("post %d opens %u\n", i + 1, keep(i, gantsorol_open(posts[i], rows[i], ALL, 2, record, RECORD)));
+    printf("marks %d %d %d %d\n", posts[2].marks[2], posts[2].marks[90], posts[2].marks[91], posts[2].marks[92]);
+}
+
 static void write_lines(void) {
     uint8_t text[GANTSOROL_LONGEST_LINE];
     const uint32_t two[] = {3, 1}, four[] = {1, 0, 2147483646, 4};
@@ -148,6 +201,7 @@ int main(void) {
         keep(i, gantsorol_new(N, T, i + 1, points[i]));
         keep(i, gantsorol_load_row(posts[i], rows[i], ALL, 0, packs + i * ROW, ROW));
         keep(i, gantsorol_load_triple(posts[i], rows[i], ALL, 93, three, 3 * ROW));
+        keep(i, gantsorol_load_triple(posts[i], rows[i], ALL, 90, three, 3 * ROW));
         keep(i, gantsorol_deal(posts[i], rows[i], ALL, 0, c.value));
         keep(i, gantsorol_linear(posts[i], rows[i], ALL, 1, 0, 0, 2, 8));
         keep(i, gantsorol_opening_message(posts[i], rows[i], ALL, 1, message, T + 1));
@@ -159,6 +213,7 @@ int main(void) {
     printf("marks %d %d %d %d %d\n", posts[2].marks[0], posts[2].marks[1], posts[2].marks[93], posts[2].marks[94],
            posts[2].marks[95]);
     multiply();
+    relate();
 
     /* Refused: t posts alone, empty lists, and a new session that has 0 in every field. */
     for (int i = 1; i < N; i++)

@@ -166,8 +166,8 @@ fn the_binding_declares_the_exported_functions() {
 }
 
 /// The structs with these names in a Rattle or Rust source.
-fn structs(paths: &[&str]) -> BTreeMap<String, Vec<Typed>> {
-    let names = ["Session", "Answer", "Number", "Written", "Line"];
+fn structs(paths: &[String]) -> BTreeMap<String, Vec<Typed>> {
+    let names = ["Session", "Answer", "Term", "Number", "Written", "Line"];
     let mut found = BTreeMap::new();
     for text in paths.iter().map(|path| code(path)) {
         for start in text.split("pub struct ").skip(1) {
@@ -187,7 +187,7 @@ fn structs(paths: &[&str]) -> BTreeMap<String, Vec<Typed>> {
 }
 
 fn exported_structs() -> BTreeMap<String, Vec<Typed>> {
-    structs(&["crates/session/src/lib.rt", "crates/factory/src/lib.rt", "crates/lines/src/lib.rt"])
+    structs(&["session", "terms", "factory", "lines"].map(|name| format!("crates/{name}/src/lib.rt")))
 }
 
 fn c_struct((name, fields): (&String, &Vec<Typed>)) -> String {
@@ -208,9 +208,9 @@ fn the_header_has_the_structs_that_cross() {
 
 #[test]
 fn the_binding_has_the_structs_that_cross() {
-    let modules = ["session", "works", "broadcast"];
+    let modules = ["session", "relation", "works", "broadcast"];
     let paths = modules.map(|module| format!("rust/gantsorol/src/{module}.rs"));
-    assert_eq!(structs(&paths.each_ref().map(String::as_str)), exported_structs());
+    assert_eq!(structs(&paths), exported_structs());
 }
 
 #[test]

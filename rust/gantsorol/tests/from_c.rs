@@ -5,10 +5,19 @@ use std::mem::{offset_of, size_of};
 use std::path::{Path, PathBuf};
 use std::process::Command;
 
-use gantsorol::{Answer, Line, Number, Session, Written};
+use gantsorol::{Answer, Line, Number, Session, Term, Written};
 
 mod in_rust {
     include!("../examples/sharing.rs");
+
+    #[test]
+    fn the_example() {
+        assert_eq!(main(), Ok(()));
+    }
+}
+
+mod a_relation_in_rust {
+    include!("../examples/relation.rs");
 
     #[test]
     fn the_example() {
@@ -59,6 +68,12 @@ fn the_example_in_c() {
 #[test]
 fn a_product_in_c() {
     check_example("product");
+}
+
+/// The fee is rides x rate for one firm, and not for the other, which says so of 43.
+#[test]
+fn a_relation_in_c() {
+    check_example("relation");
 }
 
 /// The README shows parts of the examples that the tests compile and run: lines of the file, one after the other.
@@ -118,6 +133,7 @@ fn every_call_from_c() {
     layout!(expected,
         Session, "session": n t post point marks factor_a factor_b;
         Answer, "answer": refusal value session;
+        Term, "term": coefficient row second first;
         Number, "number": refusal value;
         Written, "written": refusal len;
         Line, "line": refusal letter row post;

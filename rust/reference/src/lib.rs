@@ -23,6 +23,7 @@ pub mod polynomial;
 mod product;
 pub mod random;
 mod refusal;
+mod relation;
 mod row;
 mod session;
 mod shape;
@@ -36,6 +37,7 @@ pub use lines::{read, write_deal, write_masks, write_opening, ReadLine, Written}
 pub use opening::open;
 pub use product::{finish, masks};
 pub use refusal::Refusal;
+pub use relation::{relation_finish, relation_masks, Term, MAX_TERMS, NO_ROW};
 pub use session::{mark, new_session, Answer, Session};
 pub use shape::{Shape, MAX_POSTS, ROWS, TRIPLE};
 pub use street::{street, Reply, Street, LONGEST_LINE, STREET_POSTS};

@@ -1,6 +1,7 @@
 //! The library as a trait, one method for each call, so that two implementations can be compared.
 
 use crate::lines::{ReadLine, Written};
+use crate::relation::{self, Term};
 use crate::session::{Answer, Session};
 use crate::{calls, factory, lines, opening, product, session, street, MODULUS};
 
@@ -57,6 +58,20 @@ pub trait Library {
         first: usize,
         record: &[u32],
         record2: &[u32],
+    ) -> Answer;
+
+    /// The masks of all product terms of a relation, 2(t+1) numbers for each.
+    fn relation_masks(&self, s: Session, rows: &[u32], terms: &[Term], out: &mut [u32]) -> Answer;
+
+    /// Finishes all product terms of a relation with two records for each, and stores the sum of
+    /// the terms in an empty row.
+    fn relation_finish(
+        &self,
+        s: Session,
+        rows: &mut [u32],
+        terms: &[Term],
+        records: &[u32],
+        dest: usize,
     ) -> Answer;
 
     /// One row for all posts from (t+1)(n+1) drawn numbers; the refusal.
@@ -173,6 +188,21 @@ impl<const P: u32> Library for Reference<P> {
         record2: &[u32],
     ) -> Answer {
         product::finish::<P>(s, rows, first, record, record2)
+    }
+
+    fn relation_masks(&self, s: Session, rows: &[u32], terms: &[Term], out: &mut [u32]) -> Answer {
+        relation::relation_masks::<P>(s, rows, terms, out)
+    }
+
+    fn relation_finish(
+        &self,
+        s: Session,
+        rows: &mut [u32],
+        terms: &[Term],
+        records: &[u32],
+        dest: usize,
+    ) -> Answer {
+        relation::relation_finish::<P>(s, rows, terms, records, dest)
     }
 
     fn factory_row(&self, n: usize, t: usize, points: &[u32], draw: &[u32], out: &mut [u32]) -> u8 {

@@ -5,11 +5,77 @@ use crate::opening::{Accepted, Record};
 use crate::refusal::Refusal;
 use crate::row::{minus, weighted_sum};
 use crate::session::{mark, Answer, Session};
-use crate::shape::{expect_length, expect_row, expect_triple, Shape, ROWS};
+use crate::shape::{expect_length, expect_row, expect_triple, Shape};
+
+/// The marks of a triple that no masks were sent for.
+pub(crate) const UNUSED: [u8; 3] = [mark::UNUSED, mark::FOLLOWING, mark::FOLLOWING];
+
+/// The marks of a triple whose masks were sent.
+pub(crate) const MASKED: [u8; 3] = [mark::MASKED, mark::FOLLOWING, mark::FOLLOWING];
+
+/// Two factor rows, and the first row of the triple that multiplies them.
+#[derive(Clone, Copy)]
+pub(crate) struct Product {
+    pub(crate) a: usize,
+    pub(crate) b: usize,
+    pub(crate) first: usize,
+}
+
+impl Product {
+    /// The product that a triple's masks were sent for. Check 7: a remembered factor row is at most
+    /// 95, and still held.
+    fn remembered(s: &Session, first: usize) -> Result<Self, Refusal> {
+        let [a, b] = [s.left[first], s.right[first]].map(usize::from);
+        for row in [a, b] {
+            expect_row(row).map_err(|_| Refusal::Mark)?;
+            s.expect_mark(row, mark::HELD)?;
+        }
+        Ok(Self { a, b, first })
+    }
+
+    /// Whether this is the product that its triple's masks were sent for.
+    pub(crate) fn is_remembered(self, s: &Session) -> bool {
+        (usize::from(s.left[self.first]), usize::from(s.right[self.first])) == (self.a, self.b)
+    }
+
+    /// "The polynomials of a − l and of b − l'", into 2(t+1) numbers.
+    pub(crate) fn write_masks<const P: u32>(self, shape: Shape, rows: &[u32], out: &mut [u32]) {
+        let parts = out.chunks_exact_mut(shape.coefficients());
+        for (part, difference) in parts.zip(self.differences::<P>(shape, rows)) {
+            part.copy_from_slice(&difference[shape.polynomial()]);
+        }
+    }
+
+    /// The rows a − l and b − l'.
+    fn differences<const P: u32>(self, shape: Shape, rows: &[u32]) -> [Vec<u32>; 2] {
+        [(self.a, self.first), (self.b, self.first + 1)]
+            .map(|(factor, pad)| minus::<P>(shape, &rows[shape.at(factor)], &rows[shape.at(pad)]))
+    }
+
+    /// "The triple's first mark becomes 5, and a and b are remembered." Both rows are at most 95.
+    pub(crate) fn masked(self, s: Session) -> Session {
+        let mut masked = s.with_mark(self.first, mark::MASKED);
+        masked.left[self.first] = self.a as u8;
+        masked.right[self.first] = self.b as u8;
+        masked
+    }
+
+    /// Check 9 for the openings of y = a − l and y' = b − l'.
+    pub(crate) fn accepted<const P: u32>(
+        self,
+        shape: Shape,
+        s: &Session,
+        rows: &[u32],
+        [left, right]: [Record; 2],
+    ) -> Result<[Accepted<P>; 2], Refusal> {
+        let [y, y2] = self.differences::<P>(shape, rows);
+        let left = Accepted::checked(shape, s, &y, left)?;
+        Ok([left, Accepted::checked(shape, s, &y2, right)?])
+    }
+}
 
 /// "For held a and b (perhaps the same) and an unused triple (marks 3, 4, 4): the polynomials of
-/// a − l and of b − l'", into a lent list of 2(t+1). "The triple's first mark becomes 5, and a and
-/// b are remembered."
+/// a − l and of b − l'", into a lent list of 2(t+1).
 pub fn masks<const P: u32>(
     s: Session,
     rows: &[u32],
@@ -18,46 +84,34 @@ pub fn masks<const P: u32>(
     first: usize,
     out: &mut [u32],
 ) -> Answer {
-    s.answer(try_masks::<P>(s, rows, (a, b), first, out))
+    s.answer(try_masks::<P>(s, rows, Product { a, b, first }, out))
 }
 
 pub(crate) fn try_masks<const P: u32>(
     s: Session,
     rows: &[u32],
-    (a, b): (usize, usize),
-    first: usize,
+    product: Product,
     out: &mut [u32],
 ) -> Result<(u32, Session), Refusal> {
     let shape = s.checked::<P>()?;
     expect_length(rows, shape.all_rows())?;
     expect_length(out, shape.masks())?;
+    let Product { a, b, first } = product;
     expect_row(a)?;
     expect_row(b)?;
     expect_triple(first)?;
     s.expect_mark(a, mark::HELD)?;
     s.expect_mark(b, mark::HELD)?;
-    s.expect_marks(first, [mark::UNUSED, mark::FOLLOWING, mark::FOLLOWING])?;
+    s.expect_marks(first, UNUSED)?;
     for row in [a, b, first, first + 1] {
         expect_elements::<P>(&rows[shape.at(row)])?;
     }
-    let (left, right) = out.split_at_mut(shape.coefficients());
-    for (part, factor, pad) in [(left, a, first), (right, b, first + 1)] {
-        let difference = minus::<P>(shape, &rows[shape.at(factor)], &rows[shape.at(pad)]);
-        part.copy_from_slice(&difference[shape.polynomial()]);
-    }
-    Ok((0, remember(s, a, b, first)))
-}
-
-/// The session that has sent the masks of a and b. Both rows are at most 95.
-fn remember(s: Session, a: usize, b: usize, first: usize) -> Session {
-    let mut masked = s.with_mark(first, mark::MASKED);
-    masked.left[first] = a as u8;
-    masked.right[first] = b as u8;
-    masked
+    product.write_masks::<P>(shape, rows, out);
+    Ok((0, product.masked(s)))
 }
 
 /// "Takes a triple marked 5, 4, 4 and two records, opens y = a − l and y' = b − l' as above, and
-/// writes l'' + y l' + y' l + y y' into the third row." "Marks become 6, 6, 2."
+/// writes l'' + y l' + y' l + y y' into the third row."
 pub fn finish<const P: u32>(
     s: Session,
     rows: &mut [u32],
@@ -72,56 +126,38 @@ pub(crate) fn try_finish<const P: u32>(
     s: Session,
     rows: &mut [u32],
     first: usize,
-    records: [&[u32]; 2],
+    [left, right]: [&[u32]; 2],
 ) -> Result<(u32, Session), Refusal> {
     let shape = s.checked::<P>()?;
     expect_length(rows, shape.all_rows())?;
-    let left_record = Record::checked_length(shape, records[0])?;
-    let right_record = Record::checked_length(shape, records[1])?;
+    let left = Record::checked_length(shape, left)?;
+    let right = Record::checked_length(shape, right)?;
     expect_triple(first)?;
-    s.expect_marks(first, [mark::MASKED, mark::FOLLOWING, mark::FOLLOWING])?;
-    let a = remembered_factor(&s, s.left[first])?;
-    let b = remembered_factor(&s, s.right[first])?;
-    for row in [a, b, first, first + 1, first + 2] {
+    s.expect_marks(first, MASKED)?;
+    let product = Product::remembered(&s, first)?;
+    for row in [product.a, product.b, first, first + 1, first + 2] {
         expect_elements::<P>(&rows[shape.at(row)])?;
     }
-    left_record.expect_numbers::<P>(s.post)?;
-    right_record.expect_numbers::<P>(s.post)?;
-
-    let accepted = |factor: usize, pad: usize, record: Record| {
-        let difference = minus::<P>(shape, &rows[shape.at(factor)], &rows[shape.at(pad)]);
-        Accepted::<P>::checked(shape, &s, &difference, record)
-    };
+    left.expect_numbers::<P>(s.post)?;
+    right.expect_numbers::<P>(s.post)?;
     // 9 "in either record of a finish", then 13 "in either record".
-    let left = accepted(a, first, left_record)?;
-    let right = accepted(b, first + 1, right_record)?;
-    let (y, y2) = (left.number()?, right.number()?);
-    let product = product_row(shape, rows, first, y, y2);
-    rows[shape.at(first + 2)].copy_from_slice(&product);
-    let done = [mark::SPENT, mark::SPENT, mark::HELD];
-    Ok((0, s.with_marks(first, done)))
+    let [left, right] = product.accepted::<P>(shape, &s, rows, [left, right])?;
+    let numbers = (left.number()?, right.number()?);
+    Ok((0, write_product(shape, s, rows, first, numbers)))
 }
 
-/// Check 7 for a remembered factor row: at most 95, and still held.
-fn remembered_factor(s: &Session, row: u8) -> Result<usize, Refusal> {
-    let row = usize::from(row);
-    if row >= ROWS {
-        return Err(Refusal::Mark);
-    }
-    s.expect_mark(row, mark::HELD)?;
-    Ok(row)
-}
-
-/// "l'' + y l' + y' l + y y' (y y' is added to m1..mn only)": the sum of rows twice, with y y' as the
-/// second one's fee.
-fn product_row<const P: u32>(
+/// "l'' + y l' + y' l + y y' (y y' is added to m1..mn only)" into the third row: the sum of rows
+/// twice, with y y' as the second one's fee. "Marks become 6, 6, 2."
+pub(crate) fn write_product<const P: u32>(
     shape: Shape,
-    rows: &[u32],
+    s: Session,
+    rows: &mut [u32],
     first: usize,
-    y: Element<P>,
-    y2: Element<P>,
-) -> Vec<u32> {
+    (y, y2): (Element<P>, Element<P>),
+) -> Session {
     let [l, l2, l3] = [first, first + 1, first + 2].map(|row| &rows[shape.at(row)]);
     let sum = weighted_sum(shape, l3, y, l2, Element::ZERO);
-    weighted_sum(shape, &sum, y2, l, y * y2)
+    let product = weighted_sum(shape, &sum, y2, l, y * y2);
+    rows[shape.at(first + 2)].copy_from_slice(&product);
+    s.with_marks(first, [mark::SPENT, mark::SPENT, mark::HELD])
 }

@@ -31,6 +31,8 @@ pub enum Refusal {
     Space = 12,
     /// an accepted share lies off the polynomial, in either record of a finish; after 9
     Disagreement = 13,
+    /// a relation of no terms or of more than 32; after 5
+    Terms = 14,
 }
 
 impl Refusal {

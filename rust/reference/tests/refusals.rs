@@ -176,7 +176,10 @@ fn needed_marks(call: &Call) -> Vec<(usize, u8)> {
         Call::Finish { first, .. } => {
             vec![(first, 5), (first + 1, 4), (first + 2, 4), (1, 2), (2, 2)]
         }
-        Call::NewSession { .. } => vec![],
+        // Relations have a file of their own.
+        Call::NewSession { .. } | Call::RelationMasks { .. } | Call::RelationFinish { .. } => {
+            vec![]
+        }
     }
 }
 

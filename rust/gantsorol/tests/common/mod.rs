@@ -5,7 +5,7 @@ use std::env;
 use std::ops::Range;
 use std::str::FromStr;
 
-use gantsorol::{Refusal, Session};
+use gantsorol::{Refusal, Session, Term};
 use reference::{Answer, Library, ReadLine, Written};
 
 /// The verified library.
@@ -43,6 +43,15 @@ fn answered(answer: gantsorol::Answer) -> Answer {
     let Session { n, t, post, point, marks, factor_a: left, factor_b: right } = session;
     let session = reference::Session { n, t, post, point, marks, left, right };
     Answer { refusal, value, session }
+}
+
+/// A term's rows are bytes here: a row above 255 is told as another that gets 6.
+fn told(terms: &[reference::Term]) -> Vec<Term> {
+    let row = |row: usize| u8::try_from(row).unwrap_or(254);
+    let term = |&reference::Term { coefficient, row: a, second, first }: &reference::Term| {
+        Term::product(coefficient, row(a), row(second), row(first))
+    };
+    terms.iter().map(term).collect()
 }
 
 fn number_of(refused: Result<(), Refusal>) -> u8 {
@@ -130,6 +139,27 @@ impl Library for Verified {
         record2: &[u32],
     ) -> Answer {
         answered(given(s).finish(rows, first, record, record2))
+    }
+
+    fn relation_masks(
+        &self,
+        s: reference::Session,
+        rows: &[u32],
+        terms: &[reference::Term],
+        out: &mut [u32],
+    ) -> Answer {
+        answered(given(s).relation_masks(rows, &told(terms), out))
+    }
+
+    fn relation_finish(
+        &self,
+        s: reference::Session,
+        rows: &mut [u32],
+        terms: &[reference::Term],
+        records: &[u32],
+        dest: usize,
+    ) -> Answer {
+        answered(given(s).relation_finish(rows, &told(terms), dest, records))
     }
 
     fn factory_row(&self, n: usize, t: usize, points: &[u32], draw: &[u32], out: &mut [u32]) -> u8 {

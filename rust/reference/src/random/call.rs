@@ -1,6 +1,6 @@
 //! The calls on a session as data.
 
-use crate::{Answer, Library, Session};
+use crate::{Answer, Library, Session, Term, NO_ROW};
 
 /// What a post keeps between two calls.
 #[derive(Clone, Debug, PartialEq, Eq)]
@@ -25,6 +25,8 @@ pub enum Call {
     Linear { dest: usize, a: usize, b: usize, scale: u32, fee: u32 },
     Masks { a: usize, b: usize, first: usize, out: usize },
     Finish { first: usize, record: Vec<u32>, record2: Vec<u32> },
+    RelationMasks { terms: Vec<Term>, out: usize },
+    RelationFinish { terms: Vec<Term>, records: Vec<u32>, dest: usize },
 }
 
 /// Everything that a call hands back or may have changed.
@@ -60,6 +62,12 @@ impl Call {
             Self::Finish { first, ref record, ref record2 } => {
                 library.finish(s, &mut rows, first, record, record2)
             }
+            Self::RelationMasks { ref terms, .. } => {
+                library.relation_masks(s, &rows, terms, &mut out)
+            }
+            Self::RelationFinish { ref terms, ref records, dest } => {
+                library.relation_finish(s, &mut rows, terms, records, dest)
+            }
         };
         Outcome {
             refusal: answer.refusal,
@@ -72,7 +80,9 @@ impl Call {
     /// The length of the list that the call fills.
     fn out_length(&self) -> usize {
         match *self {
-            Self::OpeningMessage { out, .. } | Self::Masks { out, .. } => out,
+            Self::OpeningMessage { out, .. }
+            | Self::Masks { out, .. }
+            | Self::RelationMasks { out, .. } => out,
             _ => 0,
         }
     }
@@ -83,7 +93,38 @@ impl Call {
             Self::LoadRow { pack, .. } | Self::LoadTriple { pack, .. } => vec![pack],
             Self::Open { record, .. } => vec![record],
             Self::Finish { record, record2, .. } => vec![record, record2],
+            Self::RelationFinish { records, .. } => vec![records],
             _ => vec![],
+        }
+    }
+
+    /// The terms of a relation.
+    pub(super) fn terms(&mut self) -> Option<&mut Vec<Term>> {
+        match self {
+            Self::RelationMasks { terms, .. } | Self::RelationFinish { terms, .. } => Some(terms),
+            _ => None,
+        }
+    }
+
+    /// How many terms of a relation are products.
+    pub(super) fn product_terms(&self) -> usize {
+        match self {
+            Self::RelationMasks { terms, .. } | Self::RelationFinish { terms, .. } => {
+                terms.iter().filter(|term| term.second != NO_ROW).count()
+            }
+            _ => 0,
+        }
+    }
+
+    /// Makes the list of a relation fit its product terms, of which there were `before`.
+    pub(super) fn fit_lists(&mut self, before: usize) {
+        let after = self.product_terms();
+        match self {
+            Self::RelationMasks { out, .. } => *out = *out / before * after,
+            Self::RelationFinish { records, .. } => {
+                records.resize(records.len() / before * after, 0)
+            }
+            _ => {}
         }
     }
 
@@ -98,6 +139,9 @@ impl Call {
             Self::OpeningMessage { row, out } => vec![row, out],
             Self::Linear { dest, a, b, .. } => vec![dest, a, b],
             Self::Masks { a, b, first, out } => vec![a, b, first, out],
+            Self::RelationMasks { out: size, .. } | Self::RelationFinish { dest: size, .. } => {
+                vec![size]
+            }
         }
     }
 
@@ -123,8 +167,19 @@ impl Call {
             Self::LoadTriple { first, .. } | Self::Finish { first, .. } => triple(first).to_vec(),
             Self::Linear { dest, a, b, .. } => vec![dest, a, b],
             Self::Masks { a, b, first, .. } => [&[a, b], &triple(first)[..]].concat(),
+            Self::RelationMasks { ref terms, .. } => rows_of(terms),
+            Self::RelationFinish { ref terms, dest, .. } => [&[dest], &rows_of(terms)[..]].concat(),
         }
     }
+}
+
+/// The rows that a relation's terms name; a triple that isn't looked at is named too.
+fn rows_of(terms: &[Term]) -> Vec<usize> {
+    let rows = |term: &Term| {
+        let third = term.first.saturating_add(2);
+        [term.row, term.second, term.first, term.first.saturating_add(1), third]
+    };
+    terms.iter().flat_map(rows).collect()
 }
 
 /// The most numbers of a list to be filled: a triple for 255 posts, 3 × 255 × 765, has fewer.

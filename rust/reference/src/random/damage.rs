@@ -1,7 +1,7 @@
 //! Damage to calls and to what a post keeps.
 
 use super::{Call, Rng, State};
-use crate::{Shape, ROWS};
+use crate::{Shape, Term, MAX_TERMS, NO_ROW, ROWS};
 
 /// Something wrong with session or rows.
 #[derive(Clone, Copy, Debug, PartialEq, Eq)]
@@ -121,6 +121,14 @@ pub(super) fn damage_list(rng: &mut Rng, list: &mut Vec<u32>) {
 /// The call with one argument made wrong, or at least different.
 pub(super) fn damaged(rng: &mut Rng, call: &Call) -> Call {
     let mut call = call.clone();
+    if call.terms().is_some() && rng.one_in(2) {
+        let before = call.product_terms();
+        call.terms().into_iter().for_each(|terms| damage_terms(rng, terms));
+        if before > 0 && !rng.one_in(3) {
+            call.fit_lists(before);
+        }
+        return call;
+    }
     match rng.below(3) {
         0 if !call.lists().is_empty() => {
             let mut lists = call.lists();
@@ -139,6 +147,29 @@ pub(super) fn damaged(rng: &mut Rng, call: &Call) -> Call {
         }
     }
     call
+}
+
+/// One thing about the terms of a relation made different: a term, or how many there are.
+fn damage_terms(rng: &mut Rng, terms: &mut Vec<Term>) {
+    let Some(place) = (!terms.is_empty()).then(|| rng.below(terms.len())) else {
+        terms.push(Term { coefficient: 1, row: 0, second: NO_ROW, first: 0 });
+        return;
+    };
+    let term = &mut terms[place];
+    match rng.below(12) {
+        0 => term.coefficient = rng.no_element(),
+        1 => term.coefficient = rng.element(),
+        2 => damage_size(rng, &mut term.row),
+        3 => damage_size(rng, &mut term.second),
+        4 => damage_size(rng, &mut term.first),
+        5 => (term.row, term.second) = (term.second, term.row),
+        6 => term.second = rng.pick(&[NO_ROW, NO_ROW - 1, NO_ROW + 1, ROWS, term.row]),
+        7 => terms.push(terms[place]),
+        8 => _ = terms.remove(place),
+        9 => terms.clear(),
+        10 => terms.resize(MAX_TERMS + rng.below(2), Term { second: NO_ROW, ..terms[place] }),
+        _ => terms.resize(MAX_TERMS + rng.below(2), terms[place]),
+    }
 }
 
 /// Another size, often one off.

@@ -20,6 +20,8 @@ pub const CALL_REFUSALS: Met = &[
     ("Linear", SESSION),
     ("Masks", SESSION),
     ("Finish", OPENING),
+    ("RelationMasks", &[0, 1, 2, 3, 4, 5, 6, 7, 8, 14]),
+    ("RelationFinish", &[0, 1, 2, 3, 4, 5, 6, 7, 8, 9, 13, 14]),
 ];
 
 /// Every refusal that [`Paperwork`](super::Paperwork) can get.

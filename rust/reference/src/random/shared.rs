@@ -68,6 +68,14 @@ pub struct SharedRow {
 }
 
 impl SharedRow {
+    /// The row of all zeros.
+    pub fn zero(shape: Shape) -> Self {
+        Self {
+            f: vec![0; shape.dealer_coefficients()],
+            v: vec![vec![0; shape.coefficients()]; shape.posts()],
+        }
+    }
+
     /// A random row.
     pub fn random(rng: &mut Rng, shape: Shape) -> Self {
         Self {

@@ -1,7 +1,7 @@
 //! States and calls with every number at random, which never were part of a session.
 
 use super::{Call, Rng, State};
-use crate::{Session, ROWS};
+use crate::{Session, Term, NO_ROW, ROWS};
 
 /// Numbers of a row, of two posts of which either opens with the other.
 const ROW: usize = 6;
@@ -27,7 +27,7 @@ pub fn wild_state(rng: &mut Rng, sane: bool) -> State {
 }
 
 /// Each call once, most of them wild.
-pub fn wild_calls(rng: &mut Rng) -> [Call; 9] {
+pub fn wild_calls(rng: &mut Rng) -> [Call; 11] {
     let list = |rng: &mut Rng| {
         let length = rng.pick(&[6, 6, 6, 18, 18, 5, 7, 0]);
         (0..length).map(|_| rng.number()).collect::<Vec<_>>()
@@ -43,7 +43,27 @@ pub fn wild_calls(rng: &mut Rng) -> [Call; 9] {
         Call::Linear { dest: a, a: b, b: c, scale: rng.number(), fee: rng.number() },
         Call::Masks { a, b, first: c, out: rng.pick(&[4, 4, 4, 0, 3, 5]) },
         Call::Finish { first: a, record: list(rng), record2: list(rng) },
+        Call::RelationMasks { terms: wild_terms(rng), out: rng.pick(&[0, 0, 4, 4, 8, 5]) },
+        Call::RelationFinish { terms: wild_terms(rng), records: wild_records(rng), dest: a },
     ]
+}
+
+/// Up to three terms, rarely more than 32.
+fn wild_terms(rng: &mut Rng) -> Vec<Term> {
+    let term = |rng: &mut Rng| Term {
+        coefficient: rng.number(),
+        row: if rng.one_in(4) { rng.size() } else { rng.below(ROWS) },
+        second: if rng.one_in(2) { NO_ROW } else { rng.size() },
+        first: if rng.one_in(4) { rng.size() } else { rng.below(ROWS) },
+    };
+    let count = if rng.one_in(20) { rng.between(30, 40) } else { rng.below(4) };
+    (0..count).map(|_| term(rng)).collect()
+}
+
+/// The two records of no, one or two product terms.
+fn wild_records(rng: &mut Rng) -> Vec<u32> {
+    let length = rng.pick(&[0, 0, 0, 12, 12, 24, 11, 13]);
+    (0..length).map(|_| rng.number()).collect()
 }
 
 /// A session of two posts in which every row is held but a triple's, over numbers that no factory

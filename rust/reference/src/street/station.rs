@@ -9,7 +9,7 @@ use super::{Reply, LONGEST_LINE, STREET_POSTS};
 use crate::calls::{try_deal, try_linear, try_load_row, try_load_triple};
 use crate::lines::{try_read, try_write_masks, ReadLine};
 use crate::opening::try_open;
-use crate::product::{try_finish, try_masks};
+use crate::product::{try_finish, try_masks, Product};
 use crate::refusal::{require, Refusal};
 use crate::session::Session;
 use crate::shape::Shape;
@@ -116,10 +116,11 @@ impl<const P: u32> Station<P> {
     /// "`X,a,b,first`, which makes the masks", and prints them.
     fn make_masks(&mut self, line: &[u8]) -> Result<Reply, Refusal> {
         let fields = plain_numbers(line, 3)?;
-        let factors = (row_in_range(fields[0])?, row_in_range(fields[1])?);
+        let (a, b) = (row_in_range(fields[0])?, row_in_range(fields[1])?);
         let first = triple_in_range(fields[2])?;
+        let product = Product { a, b, first };
         let mut numbers = vec![0; self.shape.masks()];
-        let masked = try_masks::<P>(self.session, &self.rows, factors, first, &mut numbers)?;
+        let masked = try_masks::<P>(self.session, &self.rows, product, &mut numbers)?;
         let line = self.mask_line_of(first, &numbers)?;
         Ok(Reply { line, ..self.take(masked)? })
     }

@@ -9,6 +9,7 @@ mod fee;
 mod one_row;
 mod products;
 mod record;
+mod relations;
 mod two_rows;
 
 use std::collections::HashMap;
@@ -17,7 +18,7 @@ use draws::{for_each_draw, Condition, ALL};
 use record::{Plan, Raw, Station, Step};
 use reference::Shape;
 use Step::{Deal, FeeWithConstant, Finish, FinishWithConstant, LoadAgain, LoadRow, LoadTriple};
-use Step::{LoadTripleAgain, Message, Open, OpenForged, Overwrite};
+use Step::{LoadTripleAgain, Message, Open, OpenForged, Overwrite, RelationFinish, RelationMasks};
 
 /// Whether every record of the group occurs equally often under both lists of secrets.
 fn equal_counts<const P: u32>(

@@ -8,14 +8,16 @@ use crate::{mark, ROWS, TRIPLE};
 impl Author<'_> {
     /// One valid call of a random kind; none when no row suits it.
     pub(super) fn act(&mut self) {
-        let _ = match self.rng.below(12) {
+        let _ = match self.rng.below(16) {
             0 | 1 => self.load_row(),
-            2 => self.load_triple(),
-            3 | 4 => self.deal(),
-            5 => self.opening_message(),
-            6 | 7 => self.open(),
-            8 => self.linear(),
-            9 => self.masks(),
+            2..=4 => self.load_triple(),
+            5 | 6 => self.deal(),
+            7 => self.opening_message(),
+            8 | 9 => self.open(),
+            10 => self.linear(),
+            11 => self.masks(),
+            12 => self.relation_masks(),
+            13 => self.relation_finish(),
             _ => self.finish(),
         };
     }
@@ -79,37 +81,6 @@ impl Author<'_> {
         let sum = self.shared(a).plus_scaled(scale, &self.shared(b)).plus_public(fee);
         self.keep(dest, mark::HELD, sum);
         self.step(Call::Linear { dest, a, b, scale, fee }, None);
-        Some(())
-    }
-
-    fn masks(&mut self) -> Option<()> {
-        let (a, b) = (self.pick(mark::HELD)?, self.pick(mark::HELD)?);
-        let first = self.pick(mark::UNUSED)?;
-        let out = 2 * self.shape.coefficients();
-        self.marks[first] = mark::MASKED;
-        self.factors[first] = (a, b);
-        self.step(Call::Masks { a, b, first, out }, None);
-        Some(())
-    }
-
-    fn finish(&mut self) -> Option<()> {
-        let first = self.pick(mark::MASKED)?;
-        let (a, b) = self.factors[first];
-        let (a, b) = (self.shared(a), self.shared(b));
-        let triple = [first, first + 1, first + 2].map(|row| self.shared(row));
-        let (y, y2) = (a.minus(&triple[0]), b.minus(&triple[1]));
-        for _ in 0..2 {
-            let kinds = [Heard::Enough, Heard::TooFew, Heard::Lies];
-            let heard = [(); 2].map(|()| self.rng.pick(&kinds));
-            let record = self.record(&y, heard[0]);
-            let call = Call::Finish { first, record, record2: self.record(&y2, heard[1]) };
-            self.steps.push(Step { trial: true, damage: vec![], call, opens_to: None });
-        }
-        let record = self.record(&y, Heard::Enough);
-        let record2 = self.record(&y2, Heard::Enough);
-        self.marks[first..first + 2].fill(mark::SPENT);
-        self.keep(first + 2, mark::HELD, SharedRow::product(&a, &b, &triple));
-        self.step(Call::Finish { first, record, record2 }, None);
         Some(())
     }
 }

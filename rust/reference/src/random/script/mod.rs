@@ -1,6 +1,7 @@
 //! A random session of one post, as a list of steps.
 
 mod calls;
+mod products;
 mod record;
 
 use super::damage::damaged;

@@ -1,5 +1,6 @@
 //! One run of a plan at all posts, and the record that a group has of it.
 
+mod broken;
 mod calls;
 mod notes;
 mod plan;
@@ -130,14 +131,16 @@ impl<'a, const P: u32> Station<'a, P> {
     fn step(&mut self, step: Step) {
         let mut lines = vec![];
         for post in 1..=self.plan.n {
-            let (answer, line) = self.step_at(step, post);
+            let (answer, made) = self.step_at(step, post);
             self.posts[post - 1].session = answer.session;
             self.record.push(answer.refusal);
             self.note_numbers(&[answer.value]);
             if self.group.contains(&post) {
                 self.note_rows(post);
             }
-            lines.extend(line.filter(|_| answer.refusal == 0));
+            if answer.refusal == 0 {
+                lines.extend(made);
+            }
         }
         for line in lines {
             self.broadcast(&line);

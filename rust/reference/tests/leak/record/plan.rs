@@ -1,5 +1,7 @@
 //! What is run: a list of steps, and what is drawn for it.
 
+use reference::Term;
+
 /// A load or a call that all posts make, or a rule broken on purpose.
 #[derive(Clone, Copy, Debug)]
 pub enum Step {
@@ -25,6 +27,13 @@ pub enum Step {
     },
     /// Finishes with all that was broadcast for the triple before.
     Finish(usize),
+    /// Makes the masks of a relation and broadcasts a line for each product term.
+    RelationMasks(&'static [Term]),
+    /// Finishes a relation with all that was broadcast for its triples before.
+    RelationFinish {
+        terms: &'static [Term],
+        dest: usize,
+    },
     /// Breaks a rule: the session's mark of a row is overwritten.
     Overwrite {
         row: usize,

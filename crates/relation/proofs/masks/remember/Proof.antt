@@ -1,0 +1,10 @@
+-- `masks::remember` meets its contract.
+use borrow.Author.Needs.{needs}
+use Rattle.relation.proofs.Remembering.{session-of}
+use Rattle.relation.proofs.masks.remember.Statement.{statement}
+use Rattle.relation.proofs.masks.remember.Tie as tie
+
+pub remember-spec : {M : Type 1} → statement M
+remember-spec =
+    tie.close
+    (tie.spec (λ c. search needs) (λ c. search needs) (λ c. search needs) (λ c κs. search needs) (λ c. search (needs, session-of)))

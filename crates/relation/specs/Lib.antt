@@ -1,0 +1,6 @@
+pub mod Tests
+pub mod Masks
+pub mod Finish
+pub mod Order
+pub mod Table
+pub mod Claims

@@ -1,0 +1,96 @@
+-- Documents 01's table and 02's (v), line by line, for a relation's two calls on a lent list of terms: one flat list of numbered
+-- tests for each, with the lines of a term for every term. proofs/Tables.antt shows that the calls' own tests, which go by what the
+-- walk over the list hands on, give the same refusal. Bounds and marks are the documents' numbers.
+use Prim.Native.Nat.{ℕ, _+_, _*_, _-_}
+use mathlib.Core.Path.{_≡_}
+use mathlib.Core.Bool.{not}
+use mathlib.Core.List.{List, [], _∷_, _++_}
+use lib.Dec.{eqb}
+use lib.ListN.{length}
+use Rattle.refusal.specs.Refusal.{Test, _when_, first}
+use Rattle.refusal.specs.Conditions.{outside, wrongLength, beyond, anyBeyond, badPoint}
+use Rattle.session.specs.declared.Session.{Session}
+use Rattle.session.specs.Sessions.{factorA, factorB}
+use Rattle.session.specs.Rows.{width, rowAt}
+use Rattle.session.specs.Checks.{noRow, noTriple, wrongMark}
+use Rattle.opening.specs.Walking.{recordLength, tooFew, disagree}
+use Rattle.terms.specs.declared.Term.{Term}
+use Rattle.terms.specs.Listed.{plain, productsOf, collected}
+use Rattle.relation.specs.Tests.{eachAt, each, byKind, namedTwice}
+use Rattle.relation.specs.Masks.{relationMasksRefusal}
+use Rattle.relation.specs.Finish.{recordTests, recordA, recordB, termMaskA, termMaskB, relationFinishRefusal}
+
+-- a term's lines
+abbrev pub sixes : Term → List Test
+sixes t = 6 when noRow (t .row) ∷ byKind (plain t) [] (6 when noRow (t .second) ∷ 6 when noTriple (t .first) ∷ [])
+
+-- with mark m on the triple's first row: 3 for masks, 5 for a finish
+abbrev pub sevens : Session → ℕ → Term → List Test
+sevens s m t =
+    byKind (plain t) (7 when wrongMark s (t .row) 2 ∷ [])
+    (7 when wrongMark s (t .row) 2
+    ∷ 7 when wrongMark s (t .second) 2
+    ∷ 7 when wrongMark s (t .first) m
+    ∷ 7 when wrongMark s (t .first + 1) 4
+    ∷ 7 when wrongMark s (t .first + 2) 4
+    ∷ [])
+
+abbrev pub relationMasksTable : Session → List ℕ → List Term → List ℕ → List Test
+relationMasksTable s rows ts out =
+    1 when outside 2 255 (s .n)
+    ∷ 2 when outside 1 (s .n - 1) (s .t)
+    ∷ 3 when outside 1 (s .n) (s .post)
+    ∷ 4 when badPoint (s .point)
+    ∷ 5 when wrongLength rows (96 * width s)
+    ∷ 5 when wrongLength out (length (productsOf ts) * (2 * (s .t + 1)))
+    ∷ 14 when outside 1 32 (length ts)
+    ∷ (each sixes ts
+    ++ ((each (sevens s 3) ts ++ (7 when namedTwice (productsOf ts) ∷ []))
+    ++ each
+    (λ t. 8 when beyond (t .coefficient)
+    ∷ byKind (plain t) []
+    (8 when anyBeyond (rowAt (width s) rows (t .row))
+    ∷ 8 when anyBeyond (rowAt (width s) rows (t .second))
+    ∷ 8 when anyBeyond (rowAt (width s) rows (t .first))
+    ∷ 8 when anyBeyond (rowAt (width s) rows (t .first + 1))
+    ∷ []))
+    ts))
+
+abbrev pub relationFinishTable : Session → List ℕ → List Term → ℕ → List ℕ → List Test
+relationFinishTable s rows ts d blocks =
+    1 when outside 2 255 (s .n)
+    ∷ 2 when outside 1 (s .n - 1) (s .t)
+    ∷ 3 when outside 1 (s .n) (s .post)
+    ∷ 4 when badPoint (s .point)
+    ∷ 5 when wrongLength rows (96 * width s)
+    ∷ 5 when wrongLength blocks (length (productsOf ts) * (2 * recordLength s))
+    ∷ 14 when outside 1 32 (length ts)
+    ∷ (((each sixes ts ++ (6 when noRow d ∷ []))
+    ++ ((each (sevens s 5) ts
+    ++ (7 when namedTwice (productsOf ts)
+    ∷ (each (λ t. 7 when not (eqb (factorA s (t .first)) (t .row)) ∷ 7 when not (eqb (factorB s (t .first)) (t .second)) ∷ []) (productsOf ts)
+    ++ (7 when wrongMark s d 0 ∷ []))))
+    ++ (each
+    (λ t. 8 when beyond (t .coefficient)
+    ∷ byKind (plain t) (8 when anyBeyond (rowAt (width s) rows (t .row)) ∷ [])
+    (8 when anyBeyond (rowAt (width s) rows (t .row))
+    ∷ 8 when anyBeyond (rowAt (width s) rows (t .second))
+    ∷ 8 when anyBeyond (rowAt (width s) rows (t .first))
+    ∷ 8 when anyBeyond (rowAt (width s) rows (t .first + 1))
+    ∷ 8 when anyBeyond (rowAt (width s) rows (t .first + 2))
+    ∷ []))
+    ts
+    ++ recordTests s blocks 0 (length (productsOf ts)))))
+    ++ (eachAt
+    (λ k t. 9 when tooFew s (termMaskA s rows t) (recordA s blocks k) ∷ 9 when tooFew s (termMaskB s rows t) (recordB s blocks k) ∷ [])
+    0 (productsOf ts)
+    ++ eachAt
+    (λ k t. 13 when disagree s (termMaskA s rows t) (recordA s blocks k) ∷ 13 when disagree s (termMaskB s rows t) (recordB s blocks k) ∷ [])
+    0 (productsOf ts)))
+
+-- The calls' refusals are those of these tables.
+pub record RelationTables : Type 0 where
+  pub masks : (s : Session) (rows : List ℕ) (ts : List Term) (out : List ℕ)
+      → relationMasksRefusal s rows (collected ts) out ≡ first (relationMasksTable s rows ts out)
+  pub finish : (s : Session) (rows : List ℕ) (ts : List Term) (d : ℕ) (blocks : List ℕ)
+      → relationFinishRefusal s rows (collected ts) d blocks ≡ first (relationFinishTable s rows ts d blocks)

@@ -1,0 +1,106 @@
+-- What a relation's finish writes: the products, the cleared row, and the sum of the terms; and the marks that it leaves.
+use Prim.Native.Nat.{ℕ, suc, _+_, _*_, _-_, _≤_}
+use mathlib.Core.Path.{_≡_, refl, sym, _∙_, ap, ap₂}
+use mathlib.Core.List.{List, [], _∷_, map}
+use lib.ListN.{length, take, drop, getD, replicate}
+use borrow.Rule.Slice.PartMut.{putMid}
+use Rattle.field.specs.Arithmetic.{product}
+use Rattle.shape.specs.declared.Shape.{Shape}
+use Rattle.shape.specs.Lengths as Lengths
+use Rattle.shape.specs.Lengths.{rowLength}
+use Rattle.session.specs.declared.Session.{Session}
+use Rattle.session.specs.Sessions.{shapeOf, finishedTriple}
+use Rattle.session.specs.Rows.{rowAt, withRow, summed}
+use Rattle.session.specs.Checks.{Framed, Sized, RowIn, TripleIn}
+use Rattle.session.proofs.RowLaws.{row-part, row-wide, row-put}
+use Rattle.product.specs.Finish.{productRow, withProduct}
+use Rattle.terms.specs.declared.Term.{Term}
+use Rattle.relation.specs.Tests.{Factors, Placed}
+use Rattle.relation.specs.Finish.{numberRow, plusTerm, plusTerms, withSum, finishedTerms}
+use Rattle.relation_finish.specs.Steps.{productsWritten}
+use Rattle.relation.proofs.Loops.{walked}
+use Rattle.relation_finish.proofs.Ends.{number-in}
+
+-- a list of rows of the same length is as good
+pub framed-kept : (s : Session) (before now : List ℕ) → Framed s before → length now ≡ length before → Framed s now
+framed-kept s before now f e = record {
+  sized = record { valid = f .sized .valid; length-is = e ∙ f .sized .length-is };
+  post-in = f .post-in;
+  point-in = f .point-in;
+}
+
+module _ (s : Session) (g : Shape) (eg : g ≡ shapeOf s) (rows : List ℕ) (t : Term) where
+  pub product-triple : Factors (shapeOf s) t → TripleIn g (t .first)
+  product-triple h = rw eg (h .triple-in)
+
+  pub product-is : (yA yB : ℕ) (out : List ℕ)
+      → out ≡ withRow (rowLength g) (t .first + 2)
+      (summed (Lengths.sumsAt g) yB (product yA yB)
+      (summed (Lengths.sumsAt g) yA 0 (rowAt (rowLength g) rows (t .first + 2)) (rowAt (rowLength g) rows (t .first + 1))) (rowAt (rowLength g) rows (t .first))) rows
+      → out ≡ withProduct s yA yB (t .first) rows
+  unfolding withProduct productRow
+  product-is yA yB out e = rw eg at e
+
+  pub sum-dest : (d : ℕ) → RowIn (shapeOf s) d → RowIn g d
+  sum-dest d h = rw eg h
+
+  pub sum-row : (r : ℕ) → Placed (shapeOf s) t → r ≡ numberRow t → RowIn g r
+  sum-row r p e = rw (eg, e) (number-in (shapeOf s) t p)
+
+  pub sum-is : (d r : ℕ) (out : List ℕ) → r ≡ numberRow t
+      → out ≡ withRow (rowLength g) d (summed (Lengths.sumsAt g) (t .coefficient) 0 (rowAt (rowLength g) rows d) (rowAt (rowLength g) rows r)) rows
+      → out ≡ plusTerm s d t rows
+  sum-is d r out e eo = rw (eg, e) at eo
+
+abbrev pub productIn : Session → List ℕ → List ℕ → ℕ → Term → List ℕ → List ℕ
+productIn s yA yB k t rows = withProduct s (getD yA k 0) (getD yB k 0) (t .first) rows
+
+pub products-walk : (s : Session) (yA yB : List ℕ) (k : ℕ) (ts : List Term) (rows : List ℕ)
+    → walked (productIn s yA yB) k ts rows ≡ productsWritten s yA yB k ts rows
+unfolding productsWritten
+products-walk s yA yB k [] rows = refl
+products-walk s yA yB k (t ∷ ts) rows = products-walk s yA yB (suc k) ts (productIn s yA yB k t rows)
+
+abbrev pub termIn : Session → ℕ → ℕ → Term → List ℕ → List ℕ
+termIn s d k t rows = plusTerm s d t rows
+
+pub terms-walk : (s : Session) (d k : ℕ) (ts : List Term) (rows : List ℕ) → walked (termIn s d) k ts rows ≡ plusTerms s d ts rows
+unfolding plusTerms
+terms-walk s d k [] rows = refl
+terms-walk s d k (t ∷ ts) rows = terms-walk s d (suc k) ts (plusTerm s d t rows)
+
+-- a row of zeros
+zeros : (l : List ℕ) → map {B = ℕ} (λ m. 0) l ≡ replicate (length l) 0
+zeros [] = refl
+zeros (x ∷ l) = ap (λ (z : List ℕ). 0 ∷ z) (zeros l)
+
+pub clear-is : (g : Shape) (rows : List ℕ) (d from w : ℕ) → from ≡ d * rowLength g → w ≡ rowLength g → Sized g rows → RowIn g d
+    → (x : List ℕ) → x ≡ map {B = ℕ} (λ m. 0) (take (from + w - from) (drop from rows))
+    → putMid from (from + w - from) rows x ≡ withRow (rowLength g) d (replicate (rowLength g) 0) rows
+clear-is g rows d from w ef ew z i x e =
+    let q : x ≡ replicate (rowLength g) 0 =
+    e ∙ zeros (take (from + w - from) (drop from rows)) ∙ ap (λ (k : ℕ). replicate k 0) (row-wide g rows d from w ef ew z i) in
+    row-put g rows d from w ef ew x (replicate (rowLength g) 0) q
+
+-- the three writes, one after the other
+module _ (s : Session) (g : Shape) (eg : g ≡ shapeOf s) where
+  pub same-row : (d : ℕ) → RowIn (shapeOf s) d → RowIn g d
+  same-row d h = rw eg h
+
+  pub sized-kept : (before now : List ℕ) → Framed s before → length now ≡ length before → Sized g now
+  sized-kept before now f e = rw eg (framed-kept s before now f e .sized)
+
+  pub write-is : (d : ℕ) (ts fs : List Term) (yA yB rows one two three : List ℕ) → one ≡ productsWritten s yA yB 0 fs rows
+      → two ≡ withRow (rowLength g) d (replicate (rowLength g) 0) one → three ≡ plusTerms s d ts two
+      → three ≡ withSum s d ts (productsWritten s yA yB 0 fs rows)
+  write-is d ts fs yA yB rows one two three e1 e2 e3 =
+      e3 ∙ ap (plusTerms s d ts) ((rw eg at e2) ∙ ap (λ (l : List ℕ). withRow (rowLength (shapeOf s)) d (replicate (rowLength (shapeOf s)) 0) l) e1)
+
+-- the marks of every product term's triple
+abbrev pub finishIn : ℕ → Term → Session → Session
+finishIn k t s = finishedTriple s (t .first)
+
+pub finished-walk : (k : ℕ) (s : Session) (ts : List Term) → walked finishIn k ts s ≡ finishedTerms s ts
+unfolding finishedTerms
+finished-walk k s [] = refl
+finished-walk k s (t ∷ ts) = finished-walk (suc k) (finishedTriple s (t .first)) ts

@@ -1,0 +1,94 @@
+// What a relation's finish writes: the products of all product terms, then the sum of the terms in its row.
+use crate::OpenedTerms;
+use session::Session;
+use shape::Shape;
+use terms::Term;
+use terms::Terms;
+ghost use mathlib.Core.Path.{_≡_};
+ghost use mathlib.Core.List.{map};
+ghost use lib.ListN.{replicate};
+ghost use Rattle.shape.specs.Lengths.{rowLength};
+ghost use Rattle.session.specs.Sessions.{shapeOf};
+ghost use Rattle.session.specs.Rows.{withRow};
+ghost use Rattle.session.specs.Checks.{Sized, Framed, RowIn};
+ghost use Rattle.product.specs.Finish.{withProduct};
+ghost use Rattle.terms.specs.Listed.{termsOf, factorsOf};
+ghost use Rattle.relation.specs.Tests.{Few, Every, Placed, Factors};
+ghost use Rattle.relation.specs.Finish.{numberRow, plusTerm, plusTerms, withSum};
+ghost use Rattle.relation_finish.specs.Steps.{productsWritten};
+
+// One product, from y and y'.
+fn write_product(session: Session, rows: &mut [u32], term: Term, y_a: u32, y_b: u32)
+    requires { ⌜ Framed session (now rows) × Factors (shapeOf session) term ⌝ }
+    ensures { λ r. ⌜ now (rows .exit) ≡ withProduct session «y_a» «y_b» (term .first) (now (rows .entry)) ⌝ }
+{
+    product::finish::write_product(session.shape(), rows, term.first as usize, y_a, y_b);
+}
+
+// The products of all product terms.
+fn write_products(session: Session, rows: &mut [u32], all: Terms, opened: OpenedTerms)
+    requires { ⌜ Framed session (now rows) × Few all × Every (Factors (shapeOf session)) (factorsOf all) ⌝ }
+    ensures { λ r. ⌜ now (rows .exit) ≡ productsWritten session (opened .«y_a») (opened .«y_b») 0 (factorsOf all) (now (rows .entry)) ⌝ }
+{
+    for k in 0..all.products {
+        write_product(session, rows, all.factors[k], opened.y_a[k], opened.y_b[k]);
+    }
+}
+
+// 0 in every place.
+fn clear(numbers: &mut [u32])
+    ensures { λ r. ⌜ now (numbers .exit) ≡ map (λ m. 0) (now (numbers .entry)) ⌝ }
+{
+    for i in 0..numbers.len() {
+        numbers[i] = 0;
+    }
+}
+
+// 0 in every place of a row.
+fn clear_row(shape: Shape, rows: &mut [u32], row: usize)
+    requires { ⌜ Sized shape (now rows) × RowIn shape row ⌝ }
+    ensures { λ r. ⌜ now (rows .exit) ≡ withRow (rowLength shape) row (replicate (rowLength shape) 0) (now (rows .entry)) ⌝ }
+{
+    let from = session::rows::row_at(shape, row);
+    let end = from + shape.row_len();
+    clear(&mut rows[from..end]);
+}
+
+// The row with a term's number.
+fn number_row(term: Term) -> usize
+    ensures { λ r. ⌜ r ≡ numberRow term ⌝ }
+{
+    if term.plain() {
+        return term.row as usize;
+    }
+    term.first as usize + 2
+}
+
+// A row plus a term's coefficient times its row.
+fn add_term(session: Session, rows: &mut [u32], dest: usize, term: Term)
+    requires { ⌜ Framed session (now rows) × RowIn (shapeOf session) dest × Placed (shapeOf session) term ⌝ }
+    ensures { λ r. ⌜ now (rows .exit) ≡ plusTerm session dest term (now (rows .entry)) ⌝ }
+{
+    let row = number_row(term);
+    session::rows::sum_rows(session.shape(), rows, dest, dest, row, term.coefficient, 0);
+}
+
+// A row plus every term's coefficient times its row.
+fn add_terms(session: Session, rows: &mut [u32], dest: usize, all: Terms)
+    requires { ⌜ Framed session (now rows) × RowIn (shapeOf session) dest × Few all × Every (Placed (shapeOf session)) (termsOf all) ⌝ }
+    ensures { λ r. ⌜ now (rows .exit) ≡ plusTerms session dest (termsOf all) (now (rows .entry)) ⌝ }
+{
+    for i in 0..all.count {
+        add_term(session, rows, dest, all.list[i]);
+    }
+}
+
+// The products, then the sum in its row.
+pub fn write(session: Session, rows: &mut [u32], all: Terms, dest: usize, opened: OpenedTerms)
+    requires { ⌜ Framed session (now rows) × Few all × Every (Placed (shapeOf session)) (termsOf all) × Every (Factors (shapeOf session)) (factorsOf all) × RowIn (shapeOf session) dest ⌝ }
+    ensures { λ r. ⌜ now (rows .exit) ≡ withSum session dest (termsOf all) (productsWritten session (opened .«y_a») (opened .«y_b») 0 (factorsOf all) (now (rows .entry))) ⌝ }
+{
+    write_products(session, rows, all, opened);
+    clear_row(session.shape(), rows, dest);
+    add_terms(session, rows, dest, all);
+}

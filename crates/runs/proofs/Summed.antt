@@ -1,0 +1,144 @@
+-- A relation's two calls at one post that holds its rows: the masks of each product term; the products, and then the sum.
+use Prim.Native.Nat.{ℕ, suc, _+_, _*_, _-_, _≤_, _<_}
+use mathlib.Core.Path.{_≡_, sym, _∙_, ap, ap₂, subst}
+use mathlib.Core.List.{List, [], _∷_, _++_}
+use native.Mathlib.Omega.{arith}
+use lib.ListN.{length, take, length-append}
+use lib.Seq.{take-at, drop-at}
+use Rattle.field.specs.Modulus.{p}
+use Rattle.field.specs.Element.{element}
+use Rattle.shape.specs.Lengths.{masksLength}
+use Rattle.poly.specs.Counting.{All}
+use Rattle.session.specs.declared.Session.{Session}
+use Rattle.session.specs.Sessions.{shapeOf, marked}
+use Rattle.session.specs.Rows.{rowAt, combined}
+use Rattle.opening.specs.Walking.{recordLength}
+use Rattle.product.specs.Masks.{maskRow, maskNumbersOf}
+use Rattle.product.proofs.Passed.{Factored}
+use Rattle.terms.specs.declared.Term.{Term}
+use Rattle.terms.specs.Listed.{productsOf}
+use Rattle.relation.specs.Masks.{termMasks}
+use Rattle.relation.specs.Finish.{recordA, recordB, termMaskA, termMaskB, withProducts, withSum, relationDone}
+use Rattle.relation.proofs.Passed.{AllAt, Enough, Agreed, RelationFinishPlaced, RelationFinished}
+use Rattle.vectors.specs.Vector.{Vector, numbers}
+use Rattle.vectors.proofs.Linear.{length-numbers}
+use Rattle.runs.specs.Draws.{pointOf}
+use Rattle.runs.specs.Outline.{takes, Move, actsIn, maskings, finishing, summing}
+use Rattle.runs.specs.Calls.{Post, Actual, pieces}
+use Rattle.runs.proofs.Marks.{Marks, rememberedA, rememberedB, remarked, less, maskVectorA, maskVectorB, marksAll, numberIn, vectorsAll}
+use Rattle.runs.proofs.Packs.{rowFor}
+use Rattle.runs.proofs.Holds.{Holds, wide, Holder, sessionOf, held-row, combined-row}
+use Rattle.runs.proofs.Finishing.{Trusted, opens-a, opens-b, opened-is}
+use Rattle.runs.proofs.Relations.{apart, Waits, finishedAll}
+use Rattle.runs.proofs.Related.{multipliedAll, marks-products, vectors-products, sum-holds, OpensTo, products-hold, finished-session, cut-is}
+use Rattle.runs.proofs.Allowed.{waiting, sum-allowed}
+use Rattle.runs.proofs.Standing.{own-numbers, Stands, FitsWith, SaysAll}
+
+module _ (H : Holder) where
+  open Holder H using (plan, draw, len, post as i, marks as M, vec, rows as l, holds as h)
+
+  abbrev s : Session
+  s = sessionOf H
+
+  -- a single product's masks
+  pub masks-at : (a b r : ℕ) → Factored s a b r 3
+      → maskNumbersOf s l a b r
+      ≡ numbers (plan .t + 1) (less (vec a) (vec r) .v i) ++ numbers (plan .t + 1) (less (vec b) (vec (r + 1)) .v i)
+  unfolding maskNumbersOf
+  masks-at a b r f =
+      ap₂ _++_
+      (half a r (held-row H a 1 (f .a-in) (f .a-held)) (held-row H r 2 (omega (arith, f .triple-in)) (f .first-mark)))
+      (half b (r + 1) (held-row H b 1 (f .b-in) (f .b-held)) (held-row H (r + 1) 3 (omega (arith, f .triple-in)) (f .second-mark)))
+    where
+      half : (x y : ℕ) → rowAt (wide plan) l x ≡ rowFor plan draw i (vec x) → rowAt (wide plan) l y ≡ rowFor plan draw i (vec y)
+          → take (plan .t + 1) (combined (p - 1) (rowAt (wide plan) l x) (rowAt (wide plan) l y)) ≡ numbers (plan .t + 1) (less (vec x) (vec y) .v i)
+      half x y ex ey =
+          ap (take (plan .t + 1)) (combined-row H (p - 1) x y ex ey)
+          ∙ own-numbers (plan .t + 1) (plan .n) i (element (pointOf draw i)) (less (vec x) (vec y))
+
+  masks-long : (a b r : ℕ) → Factored s a b r 3 → length (maskNumbersOf s l a b r) ≡ masksLength (shapeOf s)
+  masks-long a b r f =
+      let va = less (vec a) (vec r) .v i in
+      let vb = less (vec b) (vec (r + 1)) .v i in
+      ap length (masks-at a b r f) ∙ length-append (numbers (plan .t + 1) va) (numbers (plan .t + 1) vb)
+      ∙ ap₂ _+_ (length-numbers (plan .t + 1) va) (length-numbers (plan .t + 1) vb) ∙ omega arith
+
+  -- the masks of a relation, term by term
+  pub all-masks : (ts : List Term) → All (λ t. Factored s (t .row) (t .second) (t .first) 3) ts
+      → SaysAll plan draw i vec (maskings ts) (pieces (masksLength (shapeOf s)) (length ts) (termMasks (shapeOf s) l ts))
+  unfolding termMasks maskNumbersOf
+  all-masks [] f = tt
+  all-masks (t ∷ ts) f =
+      let e = masks-at (t .row) (t .second) (t .first) (f .0) in
+      let ms = maskNumbersOf s l (t .row) (t .second) (t .first) in
+      let long = masks-long (t .row) (t .second) (t .first) (f .0) in (
+        take-at ms (termMasks (shapeOf s) l ts) (masksLength (shapeOf s)) long ∙ e,
+        subst (λ (xs : List ℕ). SaysAll plan draw i vec (maskings ts) (pieces (masksLength (shapeOf s)) (length ts) xs))
+            (sym (drop-at ms (termMasks (shapeOf s) l ts) (masksLength (shapeOf s)) long)) (all-masks ts (f .1)),
+      )
+
+  -- a relation's finish: its records are trusted, so they open to the masks' numbers
+  module _ (ts : List Term) (d : ℕ) (blocks : List ℕ) (f : RelationFinished s l ts d blocks) where
+    abbrev fs : List Term
+    fs = productsOf ts
+
+    abbrev parts : ℕ
+    parts = 2 * length fs
+
+    placed : RelationFinishPlaced s ts d blocks
+    placed = f .checked .placed
+
+    few : plan .n < p
+    few = omega (arith, f .checked .framed .sized .valid .n-in)
+
+    opens-to : (k : ℕ) (us : List Term) (rest : List (Move Actual)) → length us ≤ length fs → All (Waits M) us
+        → All (λ t. (rememberedA M (t .first) ≡ t .row) × (rememberedB M (t .first) ≡ t .second)) us
+        → AllAt (Enough s l blocks) k us → AllAt (Agreed s l blocks) k us
+        → All (λ m. FitsWith plan draw i M vec (takes (m .0)) (m .1)) (finishing {K = Actual} parts blocks k us ++ rest)
+        → AllAt (OpensTo plan draw len i M l blocks M vec) k us
+    opens-to k [] rest some w r e a fit = tt
+    opens-to k (t ∷ us) rest some w r e a fit =
+        let cuts = cut-is (length fs) (recordLength s) blocks (omega arith) (placed .blocks-long) in (
+          (
+            opened-is H few (termMaskA s l t) (maskVectorA M vec (t .first)) (recordA s blocks k)
+                (ap (λ (x : ℕ). maskRow (shapeOf s) l x (t .first)) (sym (r .0 .0)) ∙ opens-a H (t .first) (w .0))
+                (subst (Trusted s (maskVectorA M vec (t .first))) (cuts (2 * k)) (fit .0 .0)) (e .0 .0) (a .0 .0),
+            opened-is H few (termMaskB s l t) (maskVectorB M vec (t .first)) (recordB s blocks k)
+                (ap (λ (x : ℕ). maskRow (shapeOf s) l x (t .first + 1)) (sym (r .0 .1)) ∙ opens-b H (t .first) (w .0))
+                (subst (Trusted s (maskVectorB M vec (t .first))) (cuts (2 * k + 1)) (fit .0 .1)) (e .0 .1) (a .0 .1),
+          ),
+          opens-to (suc k) us rest (omega arith) (w .1) (r .1) (e .1) (a .1) (fit .1),
+        )
+
+    size : length l ≡ 96 * wide plan
+    size = f .checked .framed .sized .length-is
+
+    products-now : All (λ m. FitsWith plan draw i M vec (takes (m .0)) (m .1)) (finishing {K = Actual} (2 * length (productsOf ts)) blocks 0 (productsOf ts) ++ summing d ts)
+        → Holds plan draw len i (finishedAll (productsOf ts) M) (multipliedAll (productsOf ts) M vec) (withProducts s l blocks 0 (productsOf ts) l)
+    products-now fit =
+        let w = waiting plan draw i M l ts d blocks placed in
+        products-hold plan draw len i M l blocks (sym (h .long) ∙ size) 0 fs M vec l h w (apart fs (placed .once))
+        (opens-to 0 fs (summing d ts) (omega arith) w (placed .remembered) (f .enough) (f .agreed) fit)
+
+  -- then the sum
+  pub summed-up : (ts : List Term) (d : ℕ) (blocks : List ℕ) (f : RelationFinished s l ts d blocks)
+      → All (λ m. FitsWith plan draw i M vec (takes (m .0)) (m .1)) (finishing {K = Actual} (2 * length (productsOf ts)) blocks 0 (productsOf ts) ++ summing d ts)
+      → Stands plan draw len i (marksAll (actsIn (finishing {K = Actual} (2 * length (productsOf ts)) blocks 0 (productsOf ts) ++ summing d ts)) M)
+      (vectorsAll plan draw numberIn (finishing {K = Actual} (2 * length (productsOf ts)) blocks 0 (productsOf ts) ++ summing d ts) M vec)
+      (record { session = relationDone s (productsOf ts) d; rows = withSum s d ts (withProducts s l blocks 0 (productsOf ts) l) })
+  summed-up [] d blocks f fit = absurd (omega (arith, f .checked .placed .some))
+  summed-up (t ∷ ts) d blocks f fit =
+      let fs = productsOf (t ∷ ts) in
+      let N = finishedAll fs M in
+      let hp = products-now (t ∷ ts) d blocks f fit in
+      let sum = sum-allowed plan draw i M l (t ∷ ts) d blocks (f .checked .placed) .0 .0 in
+      let rows = withProducts s l blocks 0 fs l in
+      let H' : Holder = record { plan = plan; draw = draw; len = len; post = i; marks = N; vec = multipliedAll fs M vec; rows = rows; holds = hp } in
+      let last = summing d (t ∷ ts) in
+      let q : Post = record { session = relationDone s fs d; rows = withSum s d (t ∷ ts) rows } in
+      subst (λ (Q : Marks). Stands plan draw len i Q (vectorsAll plan draw numberIn (finishing {K = Actual} (2 * length fs) blocks 0 fs ++ last) M vec) q)
+      (sym (marks-products plan draw (2 * length fs) blocks last 0 fs M))
+      (subst (λ (v : ℕ → Vector). Stands plan draw len i (remarked N d 2) v q) (sym (vectors-products plan draw (2 * length fs) blocks last 0 fs M vec)) (record {
+        session = ap (λ (x : Session). marked x d 2) (finished-session plan draw i fs M);
+        holds = sum-holds H' M d (sum .r-low) (hp .long ∙ sym (h .long) ∙ f .checked .framed .sized .length-is) (sum .r-empty) t ts (sum .held);
+      }))

@@ -1,0 +1,87 @@
+//! Relations: a sum of terms that is 0, shown without its numbers.
+
+use crate::{sys, Answer, Session};
+
+/// The most terms of a relation.
+pub const MAX_TERMS: usize = 32;
+
+/// The second row of a term that is no product.
+pub const NO_ROW: u8 = 255;
+
+/// A term of a relation: a coefficient times a row's number, or times the product of two rows'
+/// numbers.
+///
+/// The fields may hold anything: each call checks what it needs.
+#[repr(C)]
+#[derive(Clone, Copy, Debug, PartialEq, Eq)]
+pub struct Term {
+    /// An element.
+    pub coefficient: u32,
+    /// The row, or the first factor's row.
+    pub row: u8,
+    /// The second factor's row, perhaps the same, or [`NO_ROW`].
+    pub second: u8,
+    /// The first row of the product's triple; not looked at where the term is no product.
+    pub first: u8,
+}
+
+impl Term {
+    /// A coefficient times a row's number.
+    pub const fn plain(coefficient: u32, row: u8) -> Self {
+        Self { coefficient, row, second: NO_ROW, first: 0 }
+    }
+
+    /// A coefficient times the product of two rows' numbers, with the triple at `first`.
+    pub const fn product(coefficient: u32, row: u8, second: u8, first: u8) -> Self {
+        Self { coefficient, row, second, first }
+    }
+}
+
+impl Session {
+    /// The masks of all product terms of a relation, [`masks_len`](crate::masks_len) numbers for
+    /// each of them in the order of the terms, as [`masks`](Self::masks) makes those of one: each
+    /// term's rows are held, each triple is unused and named once. Refusals 1 to 5, 14, 6 to 8.
+    #[inline]
+    pub fn relation_masks(self, rows: &[u32], terms: &[Term], out: &mut [u32]) -> Answer {
+        // SAFETY: each list is a borrowed slice's pointer and length, and `out` overlaps no other.
+        unsafe {
+            sys::gantsorol_relation_masks(
+                self,
+                rows.as_ptr(),
+                rows.len(),
+                terms.as_ptr(),
+                terms.len(),
+                out.as_mut_ptr(),
+                out.len(),
+            )
+        }
+    }
+
+    /// Finishes all product terms of a relation, each as [`finish`](Self::finish) does, with two
+    /// records for each of them in the order of the terms, that of a − l first; and writes the sum
+    /// of all terms into the empty row `row`, which becomes held. Opened, it is 0 exactly when the
+    /// relation holds. A refused finish changes no triple and may be called again.
+    /// Refusals 1 to 5, 14, 6 to 9, 13.
+    #[inline]
+    pub fn relation_finish(
+        self,
+        rows: &mut [u32],
+        terms: &[Term],
+        row: usize,
+        records: &[u32],
+    ) -> Answer {
+        // SAFETY: each list is a borrowed slice's pointer and length, and `rows` overlaps no other.
+        unsafe {
+            sys::gantsorol_relation_finish(
+                self,
+                rows.as_mut_ptr(),
+                rows.len(),
+                terms.as_ptr(),
+                terms.len(),
+                row,
+                records.as_ptr(),
+                records.len(),
+            )
+        }
+    }
+}
