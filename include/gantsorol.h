@@ -19,7 +19,7 @@
  *    9  fewer than t+1 posts were accepted, in either record of a finish
  *   10  a line read has the wrong form
  *   11  a line read has a number out of range
- *   12  the list lent for a line is shorter than the line
+ *   12  the list lent for a line or a file is shorter than that
  *   13  an accepted share is not on the polynomial of the t+1 lowest, in either record of a finish; looked at after 9
  *   14  a relation has no terms, or more than 32; looked at after 5
  *
@@ -285,6 +285,20 @@ uint8_t gantsorol_factory_triple(size_t n, size_t t, const uint32_t *points, siz
 
 /* The number c = u - f(0) that the dealer of u broadcasts, where constant is f(0). Refusal 8. */
 gantsorol_number gantsorol_dealer_number(uint32_t u, uint32_t constant);
+
+/*
+ * Writes a post's pack file at the start of out: the line "S,n,t,post,checkpoint", then by rising row "R,row," and the
+ * post's part of a drawn row, or "T,row," and its three rows of a drawn triple, each line with a line feed; the rest of
+ * out stays as it is. The value is the file's length. The street program takes the file of a station of at most 32 posts.
+ * points: the n check points, read. kinds: GANTSOROL_ROWS, read: 0 for an empty row, 1 for a raw one, 3 for a triple's
+ * first, whose other two rows have 0. draws: by rising row, GANTSOROL_ROW_DRAW_LEN for each 1 and
+ * GANTSOROL_TRIPLE_DRAW_LEN for each 3, wherever it stands, read. out: at least the file's length.
+ * Refusals 1, 2, 3, 4, 5, 6 (a 3 above row 93), 7 (a kind other than 0 inside a triple), 8 (another kind, or a number
+ * drawn that is at least p) and 12.
+ */
+gantsorol_written gantsorol_write_pack(size_t n, size_t t, size_t post, const uint32_t *points, size_t points_len,
+                                       const uint8_t *kinds, size_t kinds_len, const uint32_t *draws, size_t draws_len,
+                                       uint8_t *out, size_t out_len);
 
 /* ---- Broadcast lines ---- */
 

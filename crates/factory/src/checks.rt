@@ -6,7 +6,7 @@ ghost use Rattle.refusal.specs.Refusal.{first, _when_};
 ghost use Rattle.factory.specs.Packs.{anyBadPoint, factoryRowRefusal, factoryTripleRefusal, listsTests};
 
 // 4, of every check point.
-fn check_points(points: &[u32]) -> u8
+pub fn check_points(points: &[u32]) -> u8
     ensures { λ r. ⌜ r ≡ first (4 when anyBadPoint (now (points .entry)) ∷ []) ⌝ }
 {
     for i in 0..points.len() {

@@ -2,7 +2,7 @@
 ghost use mathlib.Core.Path.{_≡_};
 ghost use Rattle.factory.specs.Packs.{factoryRowRefusal, factoryRowOut, factoryTripleRefusal, factoryTripleOut, dealerNumber};
 
-mod checks;
+pub mod checks;
 pub mod packs;
 mod part;
 

@@ -1,7 +1,12 @@
-// The factory's calls, and the dealer's number.
+// The factory's calls, the dealer's number, and pack files.
 use factory::Number;
+use lines::Written;
 ghost use mathlib.Core.Path.{_≡_};
+ghost use lib.ListN.{length};
 ghost use Rattle.factory.specs.Packs.{factoryRowRefusal, factoryRowOut, factoryTripleRefusal, factoryTripleOut, dealerNumber};
+ghost use Rattle.lines.specs.Writing.{writtenAs, partAs};
+ghost use Rattle.packfile.specs.File.{file};
+ghost use Rattle.packfile.specs.Writing.{postAt, packRefusal};
 
 #[no_mangle]
 pub extern "C" fn gantsorol_factory_row(
@@ -36,4 +41,24 @@ pub extern "C" fn gantsorol_dealer_number(u: u32, constant: u32) -> Number
     ensures { λ r. ⌜ r ≡ dealerNumber u constant ⌝ }
 {
     factory::dealer_number(u, constant)
+}
+
+#[no_mangle]
+pub extern "C" fn gantsorol_write_pack(
+    n: usize,
+    t: usize,
+    post: usize,
+    points: &[u32],
+    kinds: &[u8],
+    draws: &[u32],
+    out: &mut [u8],
+) -> Written
+    ensures { λ r. ⌜ r ≡ writtenAs
+        (packRefusal n t post (now (points .entry)) (now (kinds .entry)) (now (draws .entry)) (length (now (out .entry))))
+        (file (postAt n t post (now (points .entry))) (now (kinds .entry)) (now (draws .entry))) ⌝ }
+    ensures { λ r. ⌜ now (out .exit) ≡ partAs
+        (packRefusal n t post (now (points .entry)) (now (kinds .entry)) (now (draws .entry)) (length (now (out .entry))))
+        (file (postAt n t post (now (points .entry))) (now (kinds .entry)) (now (draws .entry))) (now (out .entry)) ⌝ }
+{
+    packfile::write(n, t, post, points, kinds, draws, out)
 }

@@ -36,4 +36,4 @@ pub use record::{record_put, record_remove};
 pub use refusal::Refusal;
 pub use relation::{Term, MAX_TERMS, NO_ROW};
 pub use session::{Answer, Session};
-pub use works::{dealer_number, factory_row, factory_triple, Number};
+pub use works::{dealer_number, factory_row, factory_triple, write_pack, Number};

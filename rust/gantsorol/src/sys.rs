@@ -145,6 +145,20 @@ extern "C" {
 
     pub fn gantsorol_dealer_number(u: u32, constant: u32) -> Number;
 
+    pub fn gantsorol_write_pack(
+        n: usize,
+        t: usize,
+        post: usize,
+        points: *const u32,
+        points_len: usize,
+        kinds: *const u8,
+        kinds_len: usize,
+        draws: *const u32,
+        draws_len: usize,
+        out: *mut u8,
+        out_len: usize,
+    ) -> Written;
+
     pub fn gantsorol_write_deal(
         n: usize,
         t: usize,

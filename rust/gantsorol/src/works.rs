@@ -1,6 +1,6 @@
-//! The factory's calls, and the dealer's number.
+//! The factory's calls, the dealer's number, and pack files.
 
-use crate::{sys, Refusal};
+use crate::{sys, Refusal, Written};
 
 /// The dealer's number.
 #[repr(C)]
@@ -80,4 +80,40 @@ pub fn factory_triple(
 pub fn dealer_number(u: u32, constant: u32) -> Number {
     // SAFETY: the function takes any values.
     unsafe { sys::gantsorol_dealer_number(u, constant) }
+}
+
+/// Writes a post's pack file at the start of `out`: its `S` line, then `R` and `T` lines by rising
+/// row; the rest stays as it is. The length is the file's.
+///
+/// `points` are the n check points. `kinds` has [`ROWS`](crate::ROWS) bytes: 0 for an empty row, 1
+/// for a raw one, 3 for a triple's first, whose other two rows have 0. `draws` has by rising row
+/// [`row_draw_len`](crate::row_draw_len) numbers for each 1 and
+/// [`triple_draw_len`](crate::triple_draw_len) for each 3, wherever it stands. Refusals 1 to 8
+/// and 12.
+#[inline]
+pub fn write_pack(
+    n: usize,
+    t: usize,
+    post: usize,
+    points: &[u32],
+    kinds: &[u8],
+    draws: &[u32],
+    out: &mut [u8],
+) -> Written {
+    // SAFETY: each list is a borrowed slice's pointer and length, and `out` overlaps no other.
+    unsafe {
+        sys::gantsorol_write_pack(
+            n,
+            t,
+            post,
+            points.as_ptr(),
+            points.len(),
+            kinds.as_ptr(),
+            kinds.len(),
+            draws.as_ptr(),
+            draws.len(),
+            out.as_mut_ptr(),
+            out.len(),
+        )
+    }
 }

@@ -25,21 +25,22 @@ impl<'a> Draw<'a> {
     fn write<const P: u32>(&self, shape: Shape, points: &[u32], out: &mut [u32]) {
         let sums = self.sums::<P>(shape);
         let parts = out.chunks_exact_mut(shape.row());
-        for ((row, &point), own) in parts.zip(points).zip(self.polynomials(shape)) {
-            row[shape.polynomial()].copy_from_slice(own);
-            row[shape.check_values()].copy_from_slice(&self.check_values::<P>(shape, point));
-            row[shape.sums()].copy_from_slice(&sums);
+        for ((part, &point), own) in parts.zip(points).zip(self.polynomials(shape)) {
+            part.copy_from_slice(&self.row::<P>(shape, own, point, &sums));
         }
+    }
+
+    /// One post's row: its own polynomial, "the check values v1(wi) to vn(wi), its own included; the
+    /// public sums m1 to mn".
+    fn row<const P: u32>(&self, shape: Shape, own: &[u32], point: u32, sums: &[u32]) -> Vec<u32> {
+        let check_values = |v| evaluate::<P>(v, point.into()).value();
+        let check_values: Vec<u32> = self.polynomials(shape).map(check_values).collect();
+        [own, &check_values, sums].concat()
     }
 
     /// v1 to vn.
     fn polynomials(&self, shape: Shape) -> impl Iterator<Item = &'a [u32]> {
         self.verification.chunks_exact(shape.coefficients())
-    }
-
-    /// "The check values v1(wi) to vn(wi), its own included."
-    fn check_values<const P: u32>(&self, shape: Shape, point: u32) -> Vec<u32> {
-        self.polynomials(shape).map(|v| evaluate::<P>(v, point.into()).value()).collect()
     }
 
     /// "The public sums m1 to mn": "mj = vj(0) + f(j)."
@@ -50,14 +51,24 @@ impl<'a> Draw<'a> {
     }
 }
 
-/// Checks 1, 2 and 4, the latter over every number of the list as it was lent; then 5 for it.
-fn checked_points<const P: u32>(n: usize, t: usize, points: &[u32]) -> Result<Shape, Refusal> {
-    let shape = Shape::checked(n, t)?;
+/// One post's row from a row's draw.
+pub(crate) fn row_of_post<const P: u32>(
+    shape: Shape,
+    draw: &[u32],
+    post: usize,
+    point: u32,
+) -> Vec<u32> {
+    let draw = Draw::split(shape, draw);
+    let own = &draw.verification[(post - 1) * shape.coefficients()..][..shape.coefficients()];
+    draw.row::<P>(shape, own, point, &draw.sums::<P>(shape))
+}
+
+/// Check 4 over every number of the list as it was lent; then 5 for it.
+pub(crate) fn expect_points<const P: u32>(shape: Shape, points: &[u32]) -> Result<(), Refusal> {
     for &point in points {
         expect_check_point::<P>(point)?;
     }
-    expect_length(points, shape.posts())?;
-    Ok(shape)
+    expect_length(points, shape.posts())
 }
 
 /// One row for all posts; the refusal, 0 for none.
@@ -80,7 +91,8 @@ fn try_factory_row<const P: u32>(
     draw: &[u32],
     out: &mut [u32],
 ) -> Result<(), Refusal> {
-    let shape = checked_points::<P>(n, t, points)?;
+    let shape = Shape::checked(n, t)?;
+    expect_points::<P>(shape, points)?;
     expect_length(draw, shape.row_draw())?;
     expect_length(out, shape.row_packs())?;
     expect_elements::<P>(draw)?;
@@ -109,7 +121,8 @@ fn try_factory_triple<const P: u32>(
     draw: &[u32],
     out: &mut [u32],
 ) -> Result<(), Refusal> {
-    let shape = checked_points::<P>(n, t, points)?;
+    let shape = Shape::checked(n, t)?;
+    expect_points::<P>(shape, points)?;
     expect_length(draw, shape.triple_draw())?;
     expect_length(out, TRIPLE * shape.row_packs())?;
     expect_elements::<P>(draw)?;
@@ -117,16 +130,19 @@ fn try_factory_triple<const P: u32>(
     Ok(())
 }
 
-/// "The third lacks f's constant, which is f(0) of l × f(0) of l'."
 fn write_triple<const P: u32>(shape: Shape, points: &[u32], draw: &[u32], out: &mut [u32]) {
-    let third_start = 2 * shape.row_draw();
-    let constant = Element::<P>::from(draw[0]) * draw[shape.row_draw()].into();
-    let mut completed = draw.to_vec();
-    completed.insert(third_start, constant.value());
+    let completed = completed_triple::<P>(shape, draw);
     let draws = completed.chunks_exact(shape.row_draw());
     for (draw, part) in draws.zip(out.chunks_exact_mut(shape.row_packs())) {
         Draw::split(shape, draw).write::<P>(shape, points, part);
     }
+}
+
+/// The three draws of a triple. "The third lacks f's constant, which is f(0) of l × f(0) of l'."
+pub(crate) fn completed_triple<const P: u32>(shape: Shape, draw: &[u32]) -> Vec<u32> {
+    let constant = Element::<P>::from(draw[0]) * draw[shape.row_draw()].into();
+    let (first_two, third) = draw.split_at(2 * shape.row_draw());
+    [first_two, &[constant.value()], third].concat()
 }
 
 /// "The dealer's number is c = u − f(0)." The refusal and c.

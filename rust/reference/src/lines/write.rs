@@ -23,7 +23,7 @@ impl From<Result<usize, Refusal>> for Written {
 }
 
 /// The line of `letter` and these numbers.
-fn line(letter: char, heading: &[usize], elements: &[u32]) -> String {
+pub(crate) fn line(letter: char, heading: &[usize], elements: &[u32]) -> String {
     let mut line = String::from(letter);
     for field in heading {
         line += &format!(",{field}");
@@ -36,7 +36,7 @@ fn line(letter: char, heading: &[usize], elements: &[u32]) -> String {
 
 /// Check 12, then the line at the start of `out`: "a written line leaves the rest of its part
 /// untouched".
-fn put(line: &str, out: &mut [u8]) -> Result<usize, Refusal> {
+pub(crate) fn put(line: &str, out: &mut [u8]) -> Result<usize, Refusal> {
     let place = out.get_mut(..line.len()).ok_or(Refusal::Space)?;
     place.copy_from_slice(line.as_bytes());
     Ok(line.len())

@@ -2,7 +2,7 @@
 //!
 //! - [`Script`]: a whole session of one post, with honest and forged records, every call, and
 //!   trials in which the call or the session is damaged.
-//! - [`Paperwork`]: calls without a session: the factory, the dealer's number, lines.
+//! - [`Paperwork`]: calls without a session: the factory, the dealer's number, lines, pack files.
 //! - [`street_input`]: an input of the street program.
 //! - [`wild_state`], [`wild_calls`], [`odd_triple`]: numbers that no session would come to.
 //!
@@ -25,7 +25,7 @@ pub use call::{unwritten, Call, Outcome, State};
 pub use compare::{compare_paperwork, compare_script, compare_street, Difference};
 pub use damage::Damage;
 pub use lines::{join, mutate};
-pub use paperwork::{paperwork, Paperwork, PaperworkOutcome};
+pub use paperwork::{paperwork, Paperwork, PaperworkOutcome, WritePack};
 pub use rng::Rng;
 pub use script::{script, script_for, Script, Step};
 pub use seen::{Met, Seen, CALL_REFUSALS, PAPERWORK_REFUSALS, STREET_REFUSALS};

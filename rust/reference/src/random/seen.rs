@@ -33,6 +33,7 @@ pub const PAPERWORK_REFUSALS: Met = &[
     ("WriteOpening", &[0, 1, 2, 3, 5, 6, 8, 12]),
     ("WriteMasks", &[0, 1, 2, 3, 5, 6, 8, 12]),
     ("Read", &[0, 1, 2, 5, 10, 11]),
+    ("WritePack", &[0, 1, 2, 3, 4, 5, 6, 7, 8, 12]),
 ];
 
 /// Every refusal that a line of the street program can get, by its letter; 1 for any before a start.
@@ -85,7 +86,7 @@ fn kind(call: &impl Debug) -> String {
     struct Name(String);
     impl Write for Name {
         fn write_str(&mut self, text: &str) -> Result {
-            let name = text.split(' ').next().unwrap_or_default();
+            let name = text.split([' ', '(']).next().unwrap_or_default();
             self.0 += name;
             if name.len() == text.len() {
                 Ok(())

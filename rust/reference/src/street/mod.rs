@@ -5,6 +5,7 @@ mod kept;
 mod station;
 
 use crate::refusal::Refusal;
+use crate::session::Session;
 use fields::first_field;
 use station::Station;
 
@@ -45,6 +46,11 @@ pub struct Street<const P: u32> {
 }
 
 impl<const P: u32> Street<P> {
+    /// The session and the rows, once there is a session.
+    pub fn state(&self) -> Option<(Session, &[u32])> {
+        self.station.as_ref().map(Station::state)
+    }
+
     /// Takes one line, with its line feed unless the input ended first.
     pub fn line(&mut self, line: &[u8]) -> Result<Reply, Refusal> {
         let start_line = first_field(line) == b"S";

@@ -46,6 +46,10 @@ impl<const P: u32> Station<P> {
         })
     }
 
+    pub(super) fn state(&self) -> (Session, &[u32]) {
+        (self.session, &self.rows)
+    }
+
     /// "Other lines get 10, then 11, then what the call answers."
     pub(super) fn line(&mut self, line: &[u8]) -> Result<Reply, Refusal> {
         match first_field(line) {

@@ -1,4 +1,6 @@
-//! Calls without a session: the factory, the dealer's number, and lines.
+//! Calls without a session: the factory, the dealer's number, lines, and pack files.
+
+mod packs;
 
 use super::call::unwritten;
 use super::damage::{damage_list, damage_size, random_length};
@@ -16,6 +18,20 @@ pub enum Paperwork {
     WriteOpening { n: usize, t: usize, row: usize, post: usize, numbers: Vec<u32>, out: usize },
     WriteMasks { n: usize, t: usize, first: usize, post: usize, numbers: Vec<u32>, out: usize },
     Read { n: usize, t: usize, line: Vec<u8>, out: usize },
+    WritePack(WritePack),
+}
+
+/// The arguments of a pack file's writer.
+#[derive(Clone, Debug, PartialEq, Eq)]
+#[allow(missing_docs)]
+pub struct WritePack {
+    pub n: usize,
+    pub t: usize,
+    pub post: usize,
+    pub points: Vec<u32>,
+    pub kinds: Vec<u8>,
+    pub draws: Vec<u32>,
+    pub out: usize,
 }
 
 /// Everything that such a call hands back or may have changed.
@@ -60,6 +76,10 @@ impl Paperwork {
                 let read = library.read(n, t, line, &mut out);
                 PaperworkOutcome::Read { read, out }
             }
+            Self::WritePack(ref pack) => {
+                let WritePack { n, t, post, points, kinds, draws, out } = pack;
+                written(*out, |out| library.write_pack(*n, *t, *post, points, kinds, draws, out))
+            }
         }
     }
 
@@ -69,6 +89,7 @@ impl Paperwork {
                 vec![points, draw]
             }
             Self::WriteOpening { numbers, .. } | Self::WriteMasks { numbers, .. } => vec![numbers],
+            Self::WritePack(WritePack { points, draws, .. }) => vec![points, draws],
             _ => vec![],
         }
     }
@@ -80,6 +101,7 @@ impl Paperwork {
             | Self::FactoryTriple { n, t, out, .. }
             | Self::Read { n, t, out, .. } => vec![n, t, out],
             Self::WriteDeal { n, t, row, out, .. } => vec![n, t, row, out],
+            Self::WritePack(WritePack { n, t, post, out, .. }) => vec![n, t, post, out],
             Self::WriteOpening { n, t, row: first, post, out, .. }
             | Self::WriteMasks { n, t, first, post, out, .. } => vec![n, t, first, post, out],
         }
@@ -101,6 +123,12 @@ impl Paperwork {
                 return;
             }
         }
+        if let Self::WritePack(pack) = self {
+            if rng.one_in(2) {
+                pack.damage_kinds(rng);
+                return;
+            }
+        }
         let (lists, sizes, scalars) =
             (self.lists().len(), self.sizes().len(), self.scalars().len());
         let choice = rng.below(lists + sizes + scalars);
@@ -114,8 +142,11 @@ impl Paperwork {
     }
 }
 
+/// The most bytes of a part to be written: a random pack file has fewer.
+const LONGEST_FILE: usize = 1 << 18;
+
 fn written(length: usize, write: impl FnOnce(&mut [u8]) -> Written) -> PaperworkOutcome {
-    let mut out: Vec<u8> = (0..length.min(1 << 16)).map(|place| 128 | place as u8).collect();
+    let mut out: Vec<u8> = (0..length.min(LONGEST_FILE)).map(|place| 128 | place as u8).collect();
     let written = write(&mut out);
     PaperworkOutcome::Written { written, out }
 }
@@ -133,26 +164,27 @@ pub fn paperwork(seed: u64) -> Paperwork {
 }
 
 fn valid(rng: &mut Rng) -> Paperwork {
-    let kind = rng.below(10);
+    let kind = rng.below(12);
     // The factory takes long for large stations.
-    let (n, t) = if kind < 2 && !rng.one_in(5) { street_shape(rng) } else { super::shape(rng) };
+    let (n, t) = if kind < 4 && !rng.one_in(5) { street_shape(rng) } else { super::shape(rng) };
     let shape = Shape::checked(n, t).expect("a random shape is in range");
     match kind {
         0 => factory_row(rng, shape, n, t),
         1 => factory_triple(rng, shape, n, t),
-        2 => Paperwork::DealerNumber { u: rng.element(), f0: rng.element() },
-        3 => {
+        2 | 3 => Paperwork::WritePack(WritePack::valid(rng, shape, n, t)),
+        4 => Paperwork::DealerNumber { u: rng.element(), f0: rng.element() },
+        5 => {
             let (row, c) = (rng.below(ROWS), rng.element());
             let out = room(rng, &join("D", [row as u64, c.into()]));
             Paperwork::WriteDeal { n, t, row, c, out }
         }
-        4 => {
+        6 => {
             let (row, post) = (rng.below(ROWS), rng.between(1, n));
             let numbers = rng.elements(shape.coefficients());
             let out = room(rng, &post_line("O", row, post, &numbers));
             Paperwork::WriteOpening { n, t, row, post, numbers, out }
         }
-        5 => {
+        7 => {
             let (first, post) = (rng.below(ROWS - TRIPLE + 1), rng.between(1, n));
             let numbers = rng.elements(shape.masks());
             let out = room(rng, &post_line("M", first, post, &numbers));

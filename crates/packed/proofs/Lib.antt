@@ -1,0 +1,8 @@
+pub mod Parts
+pub mod Returning
+pub mod Loading
+pub mod Ahead
+pub mod Bytes
+pub mod Taken
+pub mod Feeding
+pub mod Theorems

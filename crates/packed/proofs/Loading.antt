@@ -1,0 +1,93 @@
+-- A session that the works loads straight: no load is refused, and what each leaves.
+use Prim.Native.Nat.{ℕ, _+_, _*_, _≤_}
+use mathlib.Core.Path.{_≡_, refl, sym, _∙_, ap, ap₂}
+use mathlib.Core.Bool.{Bool, false, not, _||_}
+use mathlib.Core.List.{List, [], _∷_, _++_}
+use native.Mathlib.Nat.{mul-le-mul-right, add-mul}
+use native.Mathlib.Omega.{arith}
+use borrow.Author.Tests.{eq-eqb, le-ltb}
+use lib.Dec.{eqb, ltb}
+use lib.ListN.{length, getD, set, replicate}
+use Rattle.poly.specs.Counting.{Elements}
+use Rattle.shape.specs.Bounds.{rowCount, lastRow, lastTriple}
+use Rattle.shape.specs.Lengths.{rowLength, rowsLength, tripleLength}
+use Rattle.shape.specs.Marks.{empty, raw, unused, further}
+use Rattle.refusal.specs.Refusal.{first, outcome, AllFail}
+use Rattle.refusal.specs.Conditions.{wrongLength, beyond, anyBeyond}
+use Rattle.refusal.proofs.Laws.{not-refused}
+use Rattle.refusal.proofs.Elements.{element-test}
+use Rattle.lists.proofs.Parts.{length-put}
+use Rattle.session.specs.declared.Party.{Party}
+use Rattle.session.specs.declared.Session.{Session}
+use Rattle.session.specs.Sessions.{withMarks, sessionOf, sessionTests, created}
+use Rattle.session.specs.Rows.{withRow}
+use Rattle.session.specs.Checks.{frameTests}
+use Rattle.session.proofs.RowLaws.{length-with-row}
+use Rattle.sharing.specs.Load.{loadRowTests, loadRowRefusal, loadTripleTests, loadTripleRefusal, withTriple}
+use Rattle.sharing.proofs.Triples.{triple-put}
+use Rattle.packed.specs.Straight.{Loaded, newPost, rowLoaded, tripleLoaded}
+
+-- ---- tests that fail
+pub right-length : (l : List ℕ) (k : ℕ) → length l ≡ k → wrongLength l k ≡ false
+right-length l k e = ap not (eq-eqb (length l) k e)
+
+pub none-beyond : (xs : List ℕ) → Elements xs → anyBeyond xs ≡ false
+unfolding anyBeyond
+none-beyond [] h = refl
+none-beyond (x ∷ xs) h = ap₂ _||_ (element-test x (h .0)) (none-beyond xs (h .1))
+
+right-mark : (marks : List ℕ) (r m : ℕ) → getD marks r empty ≡ m → not (eqb (getD marks r empty) m) ≡ false
+right-mark marks r m e = ap not (eq-eqb (getD marks r empty) m e)
+
+-- ---- the post's session with other marks
+abbrev pub sessionAt : Party → List ℕ → Session
+sessionAt q marks = withMarks (sessionOf (q .shape .n) (q .shape .t) (q .post) (q .point)) marks
+
+abbrev pub at : Party → List ℕ → List ℕ → Loaded
+at q marks rows = record { session = sessionAt q marks; rows = rows; refusal = 0 }
+
+abbrev pub Passed : Party → Type 0
+Passed q = AllFail (sessionTests (q .shape .n) (q .shape .t) (q .post) (q .point))
+
+pub new-loaded : (q : Party) → Passed q → newPost q ≡ at q (replicate rowCount empty) (replicate (rowsLength (q .shape)) 0)
+unfolding created outcome
+new-loaded q h = rw (not-refused (sessionTests (q .shape .n) (q .shape .t) (q .post) (q .point)) h)
+
+module _ (q : Party) (h : Passed q) (marks rows : List ℕ) (room : length rows ≡ rowsLength (q .shape)) (row : ℕ) (pack : List ℕ)
+    (elements : Elements pack) where
+  module _ (long : length pack ≡ rowLength (q .shape)) (low : row ≤ lastRow) (free : getD marks row empty ≡ empty) where
+    pub row-passes : loadRowRefusal (sessionAt q marks) rows row pack ≡ 0
+    unfolding loadRowRefusal
+    row-passes =
+        not-refused (loadRowTests (sessionAt q marks) rows row pack)
+        (h .0, (h .1 .0, (h .1 .1 .0, (h .1 .1 .1 .0, (right-length rows _ room, (right-length pack _ long, (le-ltb lastRow row low, (right-mark marks row empty free, (none-beyond pack elements, tt)))))))))
+
+    pub row-is-loaded : rowLoaded (at q marks rows) row pack ≡ at q (set marks row raw) (withRow (rowLength (q .shape)) row pack rows)
+    unfolding outcome
+    row-is-loaded = rw row-passes
+
+    pub row-room : length (withRow (rowLength (q .shape)) row pack rows) ≡ rowsLength (q .shape)
+    row-room = length-with-row (rowLength (q .shape)) rowCount rows row room (omega arith) pack long ∙ room
+
+  module _ (long : length pack ≡ tripleLength (q .shape)) (low : row ≤ lastTriple) (free : getD marks row empty ≡ empty)
+      (free-1 : getD marks (row + 1) empty ≡ empty) (free-2 : getD marks (row + 2) empty ≡ empty) where
+    pub triple-passes : loadTripleRefusal (sessionAt q marks) rows row pack ≡ 0
+    unfolding loadTripleRefusal
+    triple-passes =
+        not-refused (loadTripleTests (sessionAt q marks) rows row pack)
+        (h .0, (h .1 .0, (h .1 .1 .0, (h .1 .1 .1 .0, (right-length rows _ room, (right-length pack _ long, (le-ltb lastTriple row low, (right-mark marks row empty free, (right-mark marks (row + 1) empty free-1, (right-mark marks (row + 2) empty free-2, (none-beyond pack elements, tt)))))))))))
+
+    pub triple-is-loaded : tripleLoaded (at q marks rows) row pack
+        ≡ at q (set (set (set marks row unused) (row + 1) further) (row + 2) further) (withTriple (rowLength (q .shape)) row pack rows)
+    unfolding outcome
+    triple-is-loaded = rw triple-passes
+
+    triple-fits : row * rowLength (q .shape) + 3 * rowLength (q .shape) ≤ length rows
+    triple-fits =
+        let w = rowLength (q .shape) in
+        omega (arith, room, mul-le-mul-right {m = row + 3} {n = rowCount} w (omega arith), add-mul row 3 w)
+
+    pub triple-room : length (withTriple (rowLength (q .shape)) row pack rows) ≡ rowsLength (q .shape)
+    triple-room =
+        let w = rowLength (q .shape) in
+        ap length (triple-put w row rows pack triple-fits long) ∙ length-put (row * w) (3 * w) rows pack triple-fits long ∙ room

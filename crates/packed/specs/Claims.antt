@@ -1,0 +1,60 @@
+-- Document 02, (vii): "Feeding the file to the street program gives the session and rows that loading straight from the draw gives, for
+-- every post and n up to 32." Proved in proofs/Theorems.antt. `fed`, `begun` and `output` are the program's own definition, which
+-- its code is held to.
+use Prim.Native.Nat.{ℕ, zero, suc, _+_, _≤_}
+use mathlib.Core.Path.{_≡_}
+use mathlib.Core.Bool.{_||_, cond}
+use mathlib.Core.List.{List, [], _∷_, _++_}
+use lib.Dec.{eqb}
+use lib.ListN.{drop, replicate}
+use Rattle.shape.specs.Lengths.{shape, rowsLength}
+use Rattle.shape.specs.Marks.{raw, unused}
+use Rattle.store.specs.Sizes.{streetPosts, storeRoom}
+use Rattle.interpreter.specs.States.{firstState, begunWith}
+use Rattle.transcript.specs.Text.{header, answerText}
+use Rattle.transcript.specs.Program.{Running, begun, fed, output}
+use Rattle.packfile.specs.File.{file}
+use Rattle.packfile.specs.Writing.{postAt, givenRefusal}
+use Rattle.packed.specs.Straight.{Loaded, straight}
+
+-- A line for each row that is loaded, and the start line.
+abbrev pub lineFor : ℕ → ℕ
+lineFor k = cond (eqb k raw || eqb k unused) 1 0
+
+unfoldable pub loads : List ℕ → ℕ
+loads [] = 0
+loads (k ∷ ks) = lineFor k + loads ks
+
+abbrev pub lineCount : List ℕ → ℕ
+lineCount kinds = suc (loads kinds)
+
+-- `number,0,0`, a line each, for m lines from this number on.
+unfoldable pub noRefusals : ℕ → ℕ → List ℕ
+noRefusals number zero = []
+noRefusals number (suc m) = answerText number 0 0 ++ noRefusals (number + 1) m
+
+-- The program with a session and its rows, behind which the store is as it began; no line begun; this many lines answered.
+abbrev pub programWith : ℕ → ℕ → Loaded → ℕ → Running
+programWith n t l lines =
+    record {
+      state = begunWith firstState (l .session);
+      store = l .rows ++ drop (rowsLength (shape n t)) (replicate storeRoom 0);
+      line = [];
+      number = lines;
+      out = header ++ noRefusals 1 lines;
+    }
+
+pub record Feeds (n t post : ℕ) (points kinds draws : List ℕ) : Type 0 where
+  -- no call of the straight loading is refused
+  pub loaded : straight n t post points kinds draws .refusal ≡ 0
+  -- fed the file, the program has its session and rows, and nothing else has changed
+  pub after : fed begun (file (postAt n t post points) kinds draws)
+      ≡ programWith n t (straight n t post points kinds draws) (lineCount kinds)
+  -- and all that it prints is the header and a 0 for every line
+  pub printed : output (file (postAt n t post points) kinds draws) ≡ header ++ noRefusals 1 (lineCount kinds)
+
+-- For whatever the writing call does not refuse but for a list too short.
+abbrev pub FileFeeds : Type 0
+FileFeeds =
+    (n t post : ℕ) (points kinds draws : List ℕ) → n ≤ streetPosts → givenRefusal n t post points kinds draws ≡ 0
+    → Feeds n t post points kinds draws

@@ -1,0 +1,2 @@
+pub mod Straight
+pub mod Claims

@@ -1,0 +1,1 @@
+// A post's file, fed to the street program, loads what the draw loads straight. Definitions and theorems only.

@@ -1,0 +1,10 @@
+-- `text::put_file` meets its contract.
+use Rattle.packfile.proofs.Entire.{start-room, start-within, lines-room, file-laid}
+use borrow.Author.Needs.{needs}
+use Rattle.packfile.proofs.text.put_file.Statement.{statement}
+use Rattle.packfile.proofs.text.put_file.Tie as tie
+
+ruleset turns = (needs, start-room, start-within, lines-room, file-laid)
+
+pub put-file-spec : {M : Type 1} → statement M
+put-file-spec = tie.close (tie.spec (λ c. search turns) (λ c. search turns) (λ c. search turns) (λ c. search turns) (λ c. search turns) (λ c κs. search turns) (λ c. search turns) (λ c. search turns) (λ c. search turns) (λ c κs. search turns) (λ c. search turns) (λ c. search turns) (λ c. search turns))

@@ -1,0 +1,10 @@
+-- `text::put_line` meets its contract.
+use Rattle.packfile.proofs.Spelt.{none-measured, none-laid, some-room, some-put, some-laid, few-lent, front-size}
+use borrow.Author.Needs.{needs}
+use Rattle.packfile.proofs.text.put_line.Statement.{statement}
+use Rattle.packfile.proofs.text.put_line.Tie as tie
+
+ruleset turns = (needs, none-measured, none-laid, some-room, some-put, some-laid, few-lent, front-size)
+
+pub put-line-spec : {M : Type 1} → statement M
+put-line-spec = tie.close (tie.spec (λ c κs. search turns) (λ c. search turns) (λ c. search turns) (λ c. search turns) (λ c κs. search turns) (λ c. search turns) (λ c. search turns) (λ c. search turns) (λ c κs. search turns) (λ c. search turns) (λ c. search turns) (λ c. search turns))

@@ -1,0 +1,109 @@
+// The pack file of a post: what a works copies into it, its start line and the lines of its rows.
+mod checks;
+mod kinds;
+mod parts;
+mod text;
+
+use lines::Written;
+use session::Party;
+use shape::Shape;
+ghost use mathlib.Core.Path.{_≡_};
+ghost use Prim.Native.Nat.{_≤_};
+ghost use lib.ListN.{length};
+ghost use Rattle.shape.specs.Bounds.{fewPosts};
+ghost use Rattle.lines.specs.Writing.{notWritten, writtenAs, partAs};
+ghost use Rattle.packfile.specs.File.{file};
+ghost use Rattle.packfile.specs.Writing.{postAt, roomRefusal, packRefusal};
+ghost use Rattle.packfile.specs.Parts.{Given, FileRoom};
+
+fn not_written(refusal: u8) -> Written
+    ensures { λ r. ⌜ r ≡ notWritten refusal ⌝ }
+{
+    Written { refusal, len: 0 }
+}
+
+// 12, or the file at the start of the list; `room` is for the numbers of one line.
+fn write_in(party: Party, kinds: &[u8], draws: &[u32], room: &mut [u32], out: &mut [u8]) -> Written
+    requires { ⌜ FileRoom party (now kinds) (now draws) (now room) ⌝ }
+    ensures { λ r. ⌜ r ≡ writtenAs (roomRefusal party (now (kinds .entry)) (now (draws .entry)) (length (now (out .entry))))
+        (file party (now (kinds .entry)) (now (draws .entry))) ⌝ }
+    ensures { λ r. ⌜ now (out .exit) ≡ partAs (roomRefusal party (now (kinds .entry)) (now (draws .entry)) (length (now (out .entry))))
+        (file party (now (kinds .entry)) (now (draws .entry))) (now (out .entry)) ⌝ }
+{
+    let len = text::file_len(party, kinds, draws, room);
+    if out.len() < len {
+        return not_written(12);
+    }
+    text::put_file(party, kinds, draws, room, out);
+    Written { refusal: 0, len }
+}
+
+// The same, with room for a line of a few posts.
+fn write_few(party: Party, kinds: &[u8], draws: &[u32], out: &mut [u8]) -> Written
+    requires { ⌜ Given party (now kinds) (now draws) × (party .shape .n ≤ fewPosts) ⌝ }
+    ensures { λ r. ⌜ r ≡ writtenAs (roomRefusal party (now (kinds .entry)) (now (draws .entry)) (length (now (out .entry))))
+        (file party (now (kinds .entry)) (now (draws .entry))) ⌝ }
+    ensures { λ r. ⌜ now (out .exit) ≡ partAs (roomRefusal party (now (kinds .entry)) (now (draws .entry)) (length (now (out .entry))))
+        (file party (now (kinds .entry)) (now (draws .entry))) (now (out .entry)) ⌝ }
+{
+    let shape = party.shape;
+    let end = shape.triple_len();
+    let mut room = [0u32; 3 * shape::SHORT_ROW];
+    write_in(party, kinds, draws, &mut room[..end], out)
+}
+
+// The same, with room for a line of the most posts.
+fn write_most(party: Party, kinds: &[u8], draws: &[u32], out: &mut [u8]) -> Written
+    requires { ⌜ Given party (now kinds) (now draws) ⌝ }
+    ensures { λ r. ⌜ r ≡ writtenAs (roomRefusal party (now (kinds .entry)) (now (draws .entry)) (length (now (out .entry))))
+        (file party (now (kinds .entry)) (now (draws .entry))) ⌝ }
+    ensures { λ r. ⌜ now (out .exit) ≡ partAs (roomRefusal party (now (kinds .entry)) (now (draws .entry)) (length (now (out .entry))))
+        (file party (now (kinds .entry)) (now (draws .entry))) (now (out .entry)) ⌝ }
+{
+    let shape = party.shape;
+    let end = shape.triple_len();
+    let mut room = [0u32; 3 * shape::LONGEST_ROW];
+    write_in(party, kinds, draws, &mut room[..end], out)
+}
+
+// A few posts' room is not cleared for the most.
+fn write_given(party: Party, kinds: &[u8], draws: &[u32], out: &mut [u8]) -> Written
+    requires { ⌜ Given party (now kinds) (now draws) ⌝ }
+    ensures { λ r. ⌜ r ≡ writtenAs (roomRefusal party (now (kinds .entry)) (now (draws .entry)) (length (now (out .entry))))
+        (file party (now (kinds .entry)) (now (draws .entry))) ⌝ }
+    ensures { λ r. ⌜ now (out .exit) ≡ partAs (roomRefusal party (now (kinds .entry)) (now (draws .entry)) (length (now (out .entry))))
+        (file party (now (kinds .entry)) (now (draws .entry))) (now (out .entry)) ⌝ }
+{
+    let shape = party.shape;
+    if shape.n <= shape::FEW_POSTS {
+        return write_few(party, kinds, draws, out);
+    }
+    write_most(party, kinds, draws, out)
+}
+
+// A post's file: its `S` line, then `R` and `T` lines by rising row. The value is the file's length.
+pub fn write(
+    n: usize,
+    t: usize,
+    post: usize,
+    points: &[u32],
+    kinds: &[u8],
+    draws: &[u32],
+    out: &mut [u8],
+) -> Written
+    ensures { λ r. ⌜ r ≡ writtenAs
+        (packRefusal n t post (now (points .entry)) (now (kinds .entry)) (now (draws .entry)) (length (now (out .entry))))
+        (file (postAt n t post (now (points .entry))) (now (kinds .entry)) (now (draws .entry))) ⌝ }
+    ensures { λ r. ⌜ now (out .exit) ≡ partAs
+        (packRefusal n t post (now (points .entry)) (now (kinds .entry)) (now (draws .entry)) (length (now (out .entry))))
+        (file (postAt n t post (now (points .entry))) (now (kinds .entry)) (now (draws .entry))) (now (out .entry)) ⌝ }
+{
+    let refusal = checks::refusal(n, t, post, points, kinds, draws);
+    if refusal != 0 {
+        return not_written(refusal);
+    }
+    let shape = Shape { n, t };
+    let point = points[post - 1];
+    let party = Party { shape, post, point };
+    write_given(party, kinds, draws, out)
+}

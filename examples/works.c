@@ -1,0 +1,85 @@
+/* Writes the pack file of one post: `works POST < station.txt > post.txt`.
+ *
+ * The input is decimal numbers parted by spaces or line feeds: n and t; the n check points; the kinds of the 96 rows (0 empty,
+ * 1 raw, 3 a triple's first row, with 0 for its other two); the numbers drawn, by rising row. What stands between a # and the
+ * end of its line is not read. A refusal is said on standard error, and then nothing is written. */
+#include <stdio.h>
+#include <stdlib.h>
+
+#include "gantsorol.h"
+
+/* The first byte of the next number, or EOF. */
+static int behind_spaces(void) {
+    int c = getchar();
+    while (c == ' ' || c == '\n' || c == '#') {
+        if (c == '#')
+            while (c != '\n' && c != EOF)
+                c = getchar();
+        else
+            c = getchar();
+    }
+    return c;
+}
+
+/* The next number of the input: 1, or 0 at its end, or -1 where something else stands. */
+static int next(uint32_t *number) {
+    int c = behind_spaces();
+    if (c == EOF)
+        return 0;
+    uint64_t value = 0;
+    for (; '0' <= c && c <= '9' && value <= UINT32_MAX; c = getchar())
+        value = 10 * value + (uint64_t)(c - '0');
+    if (value > UINT32_MAX || (c != EOF && c != ' ' && c != '\n'))
+        return -1;
+    *number = (uint32_t)value;
+    return 1;
+}
+
+static int fail(const char *what) {
+    fprintf(stderr, "works: %s\n", what);
+    return 1;
+}
+
+int main(int count, char **arguments) {
+    if (count != 2)
+        return fail("which post?");
+    size_t post = strtoul(arguments[1], NULL, 10);
+    uint32_t n, t, number;
+    if (next(&n) != 1 || next(&t) != 1 || n > GANTSOROL_MAX_POSTS || t >= GANTSOROL_MAX_POSTS)
+        return fail("the input does not begin with n and t");
+
+    uint32_t points[GANTSOROL_MAX_POSTS];
+    uint8_t kinds[GANTSOROL_ROWS];
+    for (size_t i = 0; i < n; i++)
+        if (next(&points[i]) != 1)
+            return fail("a check point is missing");
+    for (size_t i = 0; i < GANTSOROL_ROWS; i++) {
+        if (next(&number) != 1 || number > UINT8_MAX)
+            return fail("a kind is missing");
+        kinds[i] = (uint8_t)number;
+    }
+
+    /* No station has a larger draw than one of raw rows alone, nor a longer file. */
+    size_t room = GANTSOROL_ROWS * GANTSOROL_ROW_DRAW_LEN((size_t)n, (size_t)t), drawn = 0;
+    size_t length = 32 + GANTSOROL_ROWS * (5 + 11 * GANTSOROL_ROW_LEN((size_t)n, (size_t)t));
+    uint32_t *draws = (uint32_t *)malloc(room * sizeof *draws);
+    uint8_t *file = (uint8_t *)malloc(length);
+    if (draws == NULL || file == NULL)
+        return fail("no memory");
+    int more;
+    while ((more = next(&number)) == 1) {
+        if (drawn == room)
+            return fail("more numbers are drawn than the rows of a station take");
+        draws[drawn++] = number;
+    }
+    if (more < 0)
+        return fail("what was drawn is no number");
+
+    gantsorol_written written =
+        gantsorol_write_pack(n, t, post, points, n, kinds, GANTSOROL_ROWS, draws, drawn, file, length);
+    if (written.refusal != 0) {
+        fprintf(stderr, "works: refusal %d\n", written.refusal);
+        return 1;
+    }
+    return fwrite(file, 1, written.len, stdout) == written.len && fflush(stdout) == 0 ? 0 : fail("the file is not written");
+}

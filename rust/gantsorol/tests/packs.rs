@@ -1,0 +1,256 @@
+//! Pack files: what they say, what the street program makes of them, and the programs in C around them. `GANTSOROL_STREET`
+//! names the street program.
+
+mod common;
+
+use std::fs;
+use std::io::Write;
+use std::path::{Path, PathBuf};
+use std::process::{Command, Stdio};
+
+use common::street_program;
+use gantsorol::{row_draw_len, row_len, triple_draw_len, MODULUS, ROWS};
+
+/// Numbers that look random, from a seed.
+struct Numbers(u64);
+
+impl Numbers {
+    fn below(&mut self, bound: u32) -> u32 {
+        self.0 =
+            self.0.wrapping_mul(6_364_136_223_846_793_005).wrapping_add(1_442_695_040_888_963_407);
+        ((self.0 >> 33) % u64::from(bound)) as u32
+    }
+}
+
+struct Station {
+    n: usize,
+    t: usize,
+    points: Vec<u32>,
+    kinds: [u8; ROWS],
+    draws: Vec<u32>,
+}
+
+/// A station of n posts; of its rows about a third are raw, and where triples are asked for some begin one.
+fn station(n: usize, triples: bool) -> Station {
+    let mut numbers = Numbers(n as u64 + 1);
+    let t = 1 + numbers.below(n as u32 - 1) as usize;
+    let points = (0..n).map(|_| 1 + numbers.below(MODULUS - 1)).collect();
+    let mut kinds = [0; ROWS];
+    let mut row = 0;
+    while row < ROWS {
+        let kind = numbers.below(6);
+        if triples && kind == 3 && row + 3 <= ROWS {
+            kinds[row] = 3;
+            row += 2;
+        } else if kind < 2 {
+            kinds[row] = 1;
+        }
+        row += 1;
+    }
+    let drawn = |kind: &u8| match kind {
+        1 => row_draw_len(n, t),
+        3 => triple_draw_len(n, t),
+        _ => 0,
+    };
+    let draws = (0..kinds.iter().map(drawn).sum()).map(|_| numbers.below(MODULUS)).collect();
+    Station { n, t, points, kinds, draws }
+}
+
+impl Station {
+    fn file(&self, post: usize) -> Vec<u8> {
+        let mut out = vec![0; 32 + ROWS * (5 + 11 * row_len(self.n, self.t))];
+        let written = gantsorol::write_pack(
+            self.n,
+            self.t,
+            post,
+            &self.points,
+            &self.kinds,
+            &self.draws,
+            &mut out,
+        );
+        out.truncate(written.accepted().expect("the station is right"));
+        out
+    }
+
+    /// Each row's kind, and all posts' packs of it, from the factory's calls.
+    fn packs(&self) -> Vec<(usize, u8, Vec<u32>)> {
+        let (n, t) = (self.n, self.t);
+        let mut draws = &self.draws[..];
+        let mut packs = Vec::new();
+        for (row, &kind) in self.kinds.iter().enumerate() {
+            let rows = usize::from(kind) * n;
+            let mut out = vec![0; rows * row_len(n, t)];
+            let drawn = match kind {
+                1 => row_draw_len(n, t),
+                3 => triple_draw_len(n, t),
+                _ => continue,
+            };
+            let (draw, rest) = draws.split_at(drawn);
+            draws = rest;
+            let make = if kind == 1 { gantsorol::factory_row } else { gantsorol::factory_triple };
+            make(n, t, &self.points, draw, &mut out).expect("the draw is right");
+            packs.push((row, kind, out));
+        }
+        packs
+    }
+
+    /// A post's part of packs, or its three parts one after the other.
+    fn part(&self, packs: &[u32], post: usize) -> Vec<u32> {
+        let (row, all) = (row_len(self.n, self.t), self.n * row_len(self.n, self.t));
+        packs.chunks(all).flat_map(|rows| rows[(post - 1) * row..post * row].to_vec()).collect()
+    }
+}
+
+fn line(letter: char, numbers: impl IntoIterator<Item = u32>) -> String {
+    let fields: String = numbers.into_iter().map(|number| format!(",{number}")).collect();
+    format!("{letter}{fields}\n")
+}
+
+/// The start line, then each post's own part of the factory's packs, by rising row, at every n.
+#[test]
+fn a_file_is_a_posts_parts_by_rising_row() {
+    for n in 2..=gantsorol::MAX_POSTS.min(32) {
+        let station = station(n, true);
+        let packs = station.packs();
+        for post in [1, n / 2 + 1, n] {
+            let point = station.points[post - 1];
+            let mut text = line('S', [n as u32, station.t as u32, post as u32, point]);
+            for (row, kind, packs) in &packs {
+                let letter = if *kind == 1 { 'R' } else { 'T' };
+                text += &line(letter, [*row as u32].into_iter().chain(station.part(packs, post)));
+            }
+            assert_eq!(
+                String::from_utf8(station.file(post)).expect("text"),
+                text,
+                "n = {n}, post {post}"
+            );
+        }
+    }
+}
+
+/// Kinds out of place, unknown or inside a triple, a number of p, and a list one byte too short: the refusal, and nothing written.
+#[test]
+fn a_refused_file_leaves_the_list() {
+    let right = station(3, true);
+    let length = right.file(1).len();
+    let refused = |kinds: &[(usize, u8)], number: u32, room: usize| {
+        let mut set = [0; ROWS];
+        kinds.iter().for_each(|&(row, kind)| set[row] = kind);
+        let drawn = |kind: &u8| match kind {
+            1 => row_draw_len(3, right.t),
+            3 => triple_draw_len(3, right.t),
+            _ => 0,
+        };
+        let draws = vec![number; set.iter().map(drawn).sum()];
+        let mut out = vec![7; room];
+        let written = gantsorol::write_pack(3, right.t, 1, &right.points, &set, &draws, &mut out);
+        assert!(out.iter().all(|&byte| byte == 7) && written.len == 0);
+        written.refusal
+    };
+    assert_eq!(refused(&[(94, 3)], 0, 9_999), 6);
+    assert_eq!(refused(&[(0, 3), (2, 1), (94, 3)], 0, 9_999), 6);
+    assert_eq!(refused(&[(0, 3), (1, 2)], 0, 9_999), 7);
+    assert_eq!(refused(&[(0, 3), (2, 3)], 0, 9_999), 7);
+    assert_eq!(refused(&[(0, 2)], 0, 9_999), 8);
+    assert_eq!(refused(&[(0, 1)], MODULUS, 9_999), 8);
+    assert_eq!(refused(&[(0, 1)], 0, 20), 12);
+
+    let mut short = vec![7; length - 1];
+    let (kinds, draws) = (&right.kinds, &right.draws);
+    let written = gantsorol::write_pack(3, right.t, 1, &right.points, kinds, draws, &mut short);
+    assert_eq!((written.refusal, written.len), (12, 0));
+    assert!(short.iter().all(|&byte| byte == 7));
+    let refusal =
+        gantsorol::write_pack(3, right.t, 4, &right.points, kinds, draws, &mut short).refusal;
+    assert_eq!(refusal, 3);
+    let refusal =
+        gantsorol::write_pack(3, right.t, 1, &right.points, kinds, &draws[1..], &mut short).refusal;
+    assert_eq!(refusal, 5);
+}
+
+fn fed(program: &str, arguments: &[&str], input: &[u8]) -> String {
+    let mut child = Command::new(program)
+        .args(arguments)
+        .stdin(Stdio::piped())
+        .stdout(Stdio::piped())
+        .spawn()
+        .unwrap_or_else(|error| panic!("{program}: {error}"));
+    let mut stdin = child.stdin.take().expect("its standard input is piped");
+    let input = input.to_vec();
+    let writer = std::thread::spawn(move || stdin.write_all(&input));
+    let output = child.wait_with_output().expect("its output can be read");
+    writer.join().expect("the writer ends").expect("the program reads to the end");
+    assert!(output.status.success(), "{program} ends with {}", output.status);
+    String::from_utf8(output.stdout).expect("the program prints text")
+}
+
+/// The street program takes every line of a file, and opens what is dealt to its last raw row, at every n to 32. The lines `T`
+/// join these files when the program reads them.
+#[test]
+fn the_program_takes_the_files_and_opens() {
+    let program = street_program();
+    for n in 2..=32 {
+        let station = station(n, false);
+        let (row, _, packs) = station.packs().pop().expect("a row is raw");
+        let f = &station.draws[station.draws.len() - row_draw_len(n, station.t)..];
+        let word = 1_000_000 + n as u32;
+        let c = gantsorol::dealer_number(word, f[0]).accepted().expect("both are elements");
+        let mut lines = line('D', [row as u32, c]);
+        for post in 1..=station.t + 1 {
+            let own = station.part(&packs, post);
+            let head = [row as u32, post as u32];
+            lines += &line('O', head.into_iter().chain(own[..station.t + 1].iter().copied()));
+        }
+        lines += &format!("G,{row}\n");
+        for post in [1, n] {
+            let mut input = station.file(post);
+            input.extend_from_slice(lines.as_bytes());
+            let printed = fed(&program, &[], &input);
+            let mut answers: Vec<_> = printed.lines().skip(1).collect();
+            let opened = answers.pop().expect("an answer");
+            assert!(opened.ends_with(&format!(",0,{word}")), "n = {n}, post {post}: {opened}");
+            assert!(answers.iter().all(|answer| answer.ends_with(",0,0")), "n = {n}, post {post}");
+        }
+    }
+}
+
+fn repository() -> PathBuf {
+    Path::new(env!("CARGO_MANIFEST_DIR")).join("../..")
+}
+
+fn compiled(name: &str) -> PathBuf {
+    let binary = Path::new(env!("CARGO_TARGET_TMPDIR")).join(name);
+    let mut cc = Command::new("cc");
+    cc.args(["-std=c99", "-O2", "-Wall", "-Wextra", "-Wpedantic", "-Werror"]);
+    cc.arg("-I")
+        .arg(repository().join("include"))
+        .arg(repository().join(format!("examples/{name}.c")));
+    let output =
+        cc.arg(env!("GANTSOROL_ARCHIVE")).arg("-o").arg(&binary).output().expect("cc runs");
+    assert!(output.status.success(), "{}", String::from_utf8_lossy(&output.stderr));
+    binary
+}
+
+#[test]
+fn the_works_program_writes_a_file() {
+    let program = compiled("works");
+    let read = |path: &str| fs::read(repository().join(path)).expect("an example");
+    let printed = fed(program.to_str().expect("a path"), &["1"], &read("examples/works.txt"));
+    assert_eq!(printed.as_bytes(), read("examples/works.out"));
+}
+
+/// Random numbers of the operating system, three files, and the word at each post.
+#[test]
+fn three_posts_open_the_word() {
+    let directory = Path::new(env!("CARGO_TARGET_TMPDIR")).join("word_files");
+    fs::create_dir_all(&directory).expect("a directory");
+    let status =
+        Command::new(compiled("word")).arg(&directory).arg("20261116").status().expect("it runs");
+    assert!(status.success());
+    let read = |name: &str| fs::read(directory.join(name)).expect("it was written");
+    for post in 1..=3 {
+        let input = [read(&format!("post-{post}.txt")), read("lines.txt")].concat();
+        let printed = fed(&street_program(), &[], &input);
+        assert_eq!(printed.lines().last(), Some("7,0,20261116"));
+    }
+}
