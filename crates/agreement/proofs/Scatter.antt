@@ -14,6 +14,7 @@ use Rattle.field.specs.Element.{Element, element}
 use Rattle.field.proofs.Elements.{𝓡, element-product, element-injective}
 use Rattle.field.proofs.Modular.{product-below}
 use Rattle.poly.specs.Interpolation.{nodal, interpolated}
+use Rattle.inverses.specs.InverseTable.{most}
 use Rattle.barycentric.specs.Nodes.{Rising, lastOf, missing, following}
 use Rattle.barycentric.specs.Weights.{nodeWeight, firsts}
 use Rattle.agreement.specs.Sums.{Weighed}
@@ -61,7 +62,7 @@ nodal-missing a (y ∷ ys) (suc i) x r h b c l =
     sym (nodal-join (following a (y - suc a)) (missing y ys) x)
     ∙ zero-product _ _ (nodal-missing y ys i x (r .1) (le-of-suc-le-suc h) b c l)
 
-pub weight-missing : (xs : List ℕ) (i x : ℕ) → Rising 0 xs → lastOf 0 xs ≤ 255 → i < length xs → lastOf 0 (take i xs) < x → x < getD xs i 0
+pub weight-missing : (xs : List ℕ) (i x : ℕ) → Rising 0 xs → lastOf 0 xs ≤ most → i < length xs → lastOf 0 (take i xs) < x → x < getD xs i 0
     → nodeWeight (lastOf 0 xs) (missing 0 xs) x ≡ 0
 unfolding nodeWeight
 weight-missing xs i x r low h b c =

@@ -10,7 +10,7 @@ use Rattle.field.specs.Arithmetic.{product}
 use Rattle.poly.specs.Counting.{All}
 use Rattle.poly.specs.Interpolation.{interpolated}
 use Rattle.poly.specs.Polynomial.{weighted}
-use Rattle.inverses.specs.InverseTable.{Inverts}
+use Rattle.inverses.specs.InverseTable.{Inverts, most}
 use Rattle.barycentric.specs.Nodes.{Rising, lastOf, missing}
 use Rattle.barycentric.specs.Weights.{nodeWeight, firsts, WeightsOf}
 use Rattle.agreement.specs.Agreement.{allPairs}
@@ -39,7 +39,7 @@ tops xs ys =
 -- What the two lists are made of: the weights, the values and the value at 0.
 pub record Weighed (nodes values : List ℕ) (value : ℕ) (weights : List ℕ) : Type 0 where
   pub rising : Rising 0 nodes
-  pub low : lastOf 0 nodes ≤ 255
+  pub low : lastOf 0 nodes ≤ most
   pub same : length values ≡ length nodes
   pub at-zero : value ≡ interpolated nodes values 0
   pub room : lastOf 0 nodes < length weights

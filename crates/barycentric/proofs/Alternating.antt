@@ -103,9 +103,30 @@ sign-even (suc m) = (
   (λ n. ap neg (sign-even m .0 (omega arith))),
 )
 
-pub alternating-mirror : (m x b : ℕ) → x ≤ m → b ≡ alternating m (m - x) → mirrored (m + 1) b ≡ alternating m x
+pub mirrored-below : (n b : ℕ) → b < p → mirrored n b < p
+unfolding mirrored
+mirrored-below n b h = go (eqb (n % 2) 1)
+  where
+    go : (t : Bool) → elim t as (λ z. ℕ) [ true ↦ b | false ↦ difference 0 b ] < p
+    go true = h
+    go false = difference-below 0 b
+
+pub element-mirrored : (m b : ℕ) → element (mirrored (m + 1) b) ≡ sign 𝓡 m ⊗ element b
 unfolding mirrored Same
-alternating-mirror m x b h e = go (eqb ((m + 1) % 2) 1) refl
+element-mirrored m b = go (eqb ((m + 1) % 2) 1) refl
+  where
+    go : (t : Bool) → eqb ((m + 1) % 2) 1 ≡ t → element (elim t as (λ z. ℕ) [ true ↦ b | false ↦ difference 0 b ]) ≡ sign 𝓡 m ⊗ element b
+    go true q = sym (ap (λ (u : Element). u ⊗ element b) (sign-even m .0 (eqb-true ((m + 1) % 2) 1 q)) ∙ one-mul 𝓡 _)
+    go false q =
+        element-negative b
+        ∙ sym
+        (ap (λ (u : Element). u ⊗ element b) (sign-even m .1 (eqb-false ((m + 1) % 2) 1 q)) ∙ solve 𝓡 (element b ∷ []) (:- 𝟙 :* A) (:- A) refl)
+
+pub alternating-mirror : (m x b : ℕ) → x ≤ m → b ≡ alternating m (m - x) → mirrored (m + 1) b ≡ alternating m x
+unfolding sign Same
+alternating-mirror m x b h e =
+    element-injective (mirrored (m + 1) b) (alternating m x) (mirrored-below (m + 1) b (rw e (alternating-below m (m - x)))) (alternating-below m x)
+    (element-mirrored m b ∙ ap (λ (u : Element). sign 𝓡 m ⊗ u) turned ∙ twice m ∙ sym (element-alternating m x))
   where
     s : m - x + x ≡ m
     s = omega arith
@@ -113,13 +134,6 @@ alternating-mirror m x b h e = go (eqb ((m + 1) % 2) 1) refl
     turned : element b ≡ sign 𝓡 m ⊗ pascal 𝓡 m x
     turned = ap element e ∙ element-alternating m (m - x) ∙ pascal-mirror 𝓡 m (m - x) x s
 
-    go : (t : Bool) → eqb ((m + 1) % 2) 1 ≡ t → elim t as (λ z. ℕ) [ true ↦ b | false ↦ difference 0 b ] ≡ alternating m x
-    go true q =
-        element-injective b (alternating m x) (rw e (alternating-below m (m - x))) (alternating-below m x)
-        (turned ∙ ap (λ (u : Element). u ⊗ pascal 𝓡 m x) (sign-even m .0 (eqb-true ((m + 1) % 2) 1 q)) ∙ one-mul 𝓡 _
-        ∙ sym (element-alternating m x))
-    go false q =
-        element-injective (difference 0 b) (alternating m x) (difference-below 0 b) (alternating-below m x)
-        (element-negative b
-        ∙ ap neg (turned ∙ ap (λ (u : Element). u ⊗ pascal 𝓡 m x) (sign-even m .1 (eqb-false ((m + 1) % 2) 1 q)))
-        ∙ solve 𝓡 (pascal 𝓡 m x ∷ []) (:- (:- 𝟙 :* A)) A refl ∙ sym (element-alternating m x))
+    twice : (k : ℕ) → sign 𝓡 k ⊗ (sign 𝓡 k ⊗ pascal 𝓡 m x) ≡ pascal 𝓡 m x
+    twice ℕ.zero = one-mul 𝓡 _ ∙ one-mul 𝓡 _
+    twice (suc k) = solve 𝓡 (sign 𝓡 k ∷ pascal 𝓡 m x ∷ []) (:- A :* (:- A :* B)) (A :* (A :* B)) refl ∙ twice k

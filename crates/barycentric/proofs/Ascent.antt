@@ -6,6 +6,7 @@ use native.Mathlib.Nat.{le-of-suc-le-suc, not-suc-le-zero}
 use native.Mathlib.Omega.{arith}
 use lib.ListN.{length, take, drop, getD}
 use Rattle.field.specs.Modulus.{p}
+use Rattle.inverses.specs.InverseTable.{most}
 use Rattle.poly.specs.Counting.{All, Distinct, Elements}
 use Rattle.barycentric.specs.Nodes.{Rising, lastOf, missing, following}
 use Rattle.poly.proofs.Lists.{all-map, all-zip, all-join}
@@ -98,5 +99,5 @@ rising-further a xs k r =
     all-zip (λ z b c. (b, omega (arith, c, last-of-drop a xs k))) (drop k xs) (rising-above (lastOf a (take k xs)) (drop k xs) (rising-drop a xs k r))
     (rising-below (lastOf a (take k xs)) (drop k xs) (rising-drop a xs k r))
 
-pub missing-small : (xs gs : List ℕ) → Rising 0 xs → lastOf 0 xs ≤ 255 → gs ≡ missing 0 xs → All (λ g. g ≤ 255) gs
+pub missing-small : (xs gs : List ℕ) → Rising 0 xs → lastOf 0 xs ≤ most → gs ≡ missing 0 xs → All (λ g. g ≤ most) gs
 missing-small xs gs r h e = rw e (all-map (λ g b. omega (arith, b .1)) (missing 0 xs) (missing-between 0 xs r))

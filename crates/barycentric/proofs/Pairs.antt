@@ -1,22 +1,31 @@
--- Products of small differences, four at once: the turns of `distances`.
+-- Products of small differences, four at once, and their signs: the turns of `spans` and `above`, and what `distances` finds.
 use Prim.Native.Nat.{ℕ, suc, _+_, _-_, _*_, _%_, _≤_, _<_}
 use mathlib.Core.Path.{_≡_, refl, sym, _∙_, ap, ap₂}
+use mathlib.Core.Bool.{Bool, true, false}
 use mathlib.Core.List.{List, [], _∷_}
-use native.Mathlib.Nat.{mul-le-mul, mod-lt, mod-mod}
+use native.Mathlib.Nat.{mul-le-mul, mod-mod}
+use native.Mathlib.Numerals.{add-one}
 use native.Mathlib.Omega.{arith}
-use lib.Dec.{lit<}
-use lib.ListN.{length, take, drop, getD, length-drop}
+use borrow.Author.Tests.{ltb-true, ltb-false, lt-ltb, le-ltb}
+use lib.Dec.{lit<, ltb}
+use lib.ListN.{length, take, drop, getD, length-drop, drop-of-length-le}
 use lib.Seq.{drop-cons, take-all}
 use Rattle.field.specs.Modulus.{p}
 use Rattle.field.specs.Arithmetic.{difference, product}
 use Rattle.field.specs.Algebra.{CommutativeRing}
 use Rattle.field.specs.Element.{Element, element}
-use Rattle.field.proofs.Expression.{A, B, C, D, E, F, 𝟘, _:+_, _:*_, _:-_, Same}
+use Rattle.field.proofs.Expression.{A, B, C, D, E, F, _:+_, _:*_, _:-_, :-_, Same}
+use Rattle.field.proofs.Ring.{one-mul}
 use Rattle.field.proofs.Solver.{solve}
-use Rattle.field.proofs.Elements.{𝓡, element-path, element-zero, element-product, element-difference, element-add, element-injective}
-use Rattle.field.proofs.Modular.{product-below}
+use Rattle.field.proofs.Elements.{𝓡, element-path, element-product, element-difference, element-add, element-injective}
+use Rattle.field.proofs.Modular.{product-below, product-assoc, product-comm, product-one}
 use Rattle.poly.specs.Interpolation.{nodal}
-open CommutativeRing 𝓡 using (add as _⊕_, mul as _⊗_, neg, zero as 0ᴱ)
+use Rattle.poly.proofs.Bounds.{nodal-below}
+use Rattle.inverses.specs.InverseTable.{most}
+use Rattle.barycentric.specs.Weights.{mirrored, away, spans, over, above}
+use Rattle.barycentric.proofs.Pascal.{sign}
+use Rattle.barycentric.proofs.Alternating.{mirrored-below, element-mirrored}
+open CommutativeRing 𝓡 using (add as _⊕_, mul as _⊗_, neg)
 
 infixl 65 _⊕_
 infixl 70 _⊗_
@@ -31,48 +40,39 @@ element-mul : (a b : ℕ) → element (a * b) ≡ element a ⊗ element b
 unfolding product
 element-mul a b = sym (element-mod (a * b)) ∙ element-product a b
 
-element-modulus : element p ≡ 0ᴱ
-unfolding element
-element-modulus = sym (element-mod p) ∙ element-zero
+-- nothing wraps
+module _ (x : ℕ) (hx : x ≤ most) where
+  near : (g u : ℕ) → g ≤ most → u ≡ away x g → u ≤ 255
+  near g u h e = omega arith
 
-module _ (x a b : ℕ) (hx : x ≤ 255) (ha : a ≤ 255) (hb : b ≤ 255) where
-  pub square-fits : x * x < 4294967296
-  square-fits = omega (arith, small x x hx hx)
+  pub two-fit : (a b u v : ℕ) → a ≤ most → b ≤ most → u ≡ away x a → v ≡ away x b → u * v < 4294967296
+  two-fit a b u v h k e f = omega (arith, small u v (near a u h e) (near b v k f))
 
-  pub product-fits : a * b < 4294967296
-  product-fits = omega (arith, small a b ha hb)
+  pub four-fit : (a b c d u v w z : ℕ) → a ≤ most → b ≤ most → c ≤ most → d ≤ most → u ≡ away x a → v ≡ away x b → w ≡ away x c → z ≡ away x d
+      → u * v * (w * z) < 4294967296
+  four-fit a b c d u v w z ha hb hc hd e f g k =
+      let bound : u * v * (w * z) ≤ 65025 * 65025 =
+      mul-le-mul (small u v (near a u ha e) (near b v hb f)) (small w z (near c w hc g) (near d z hd k)) in
+      omega arith
 
-  pub sum-fits : 2147483647 + (x * x + a * b) < 4294967296
-  sum-fits = omega (arith, small x x hx hx, small a b ha hb)
-
-  pub inner-fits : x * x + a * b < 4294967296
-  inner-fits = omega (arith, small x x hx hx, small a b ha hb)
-
-  pub cross-fits : (a + b) * x < 4294967296
-  cross-fits = omega (arith, small a x ha hx, small b x hb hx)
-
-  pub cross-less : (a + b) * x ≤ 2147483647 + (x * x + a * b)
-  cross-less = omega (arith, small a x ha hx, small b x hb hx)
-
-  pub pair-value : (2147483647 + (x * x + a * b) - (a + b) * x) % p ≡ product (difference x a) (difference x b)
-  unfolding Same
-  pair-value =
-      element-injective _ _ (mod-lt v (lit< tt)) (product-below _ _)
-      (element-mod v
-      ∙ solve 𝓡 (element v ∷ element ((a + b) * x) ∷ []) A (A :+ B :- B) refl
-      ∙ ap (λ (u : Element). u ⊕ neg (element ((a + b) * x))) (sym (element-add v ((a + b) * x)) ∙ ap element whole ∙ element-add p (x * x + a * b))
-      ∙ ap₂ (λ (u w : Element). u ⊕ element (x * x + a * b) ⊕ neg w) element-modulus (element-mul (a + b) x ∙ ap (λ (u : Element). u ⊗ element x) (element-add a b))
-      ∙ ap (λ (u : Element). 0ᴱ ⊕ u ⊕ neg ((element a ⊕ element b) ⊗ element x)) (element-add (x * x) (a * b) ∙ ap₂ _⊕_ (element-mul x x) (element-mul a b))
-      ∙ solve 𝓡 (element x ∷ element a ∷ element b ∷ []) (𝟘 :+ (A :* A :+ B :* C) :- (B :+ C) :* A) ((A :- B) :* (A :- C)) refl
-      ∙ sym (element-product _ _ ∙ ap₂ _⊗_ (element-difference x a) (element-difference x b)))
-    where
-      v : ℕ
-      v = 2147483647 + (x * x + a * b) - (a + b) * x
-
-      whole : 2147483647 + (x * x + a * b) - (a + b) * x + (a + b) * x ≡ p + (x * x + a * b)
-      whole = let h = cross-less in omega arith
+pub spans-below : (gs : List ℕ) (x : ℕ) → spans gs x < p
+unfolding spans
+spans-below [] x = lit< tt
+spans-below (g ∷ gs) x = product-below _ _
 
 module _ (gs : List ℕ) (x : ℕ) where
+  pub spans-start : product 1 (spans (drop 0 gs) x) ≡ spans gs x
+  spans-start = product-comm 1 (spans gs x) ∙ product-one (spans gs x) (spans-below gs x)
+
+  pub spans-turn : (i r d v : ℕ) → i < length gs → product r (spans (drop i gs) x) ≡ spans gs x → d ≡ away x (getD gs i 0)
+      → v ≡ product r d → product v (spans (drop (i + 1) gs) x) ≡ spans gs x
+  unfolding spans
+  spans-turn i r d v h e f g = rw (g, f, add-one i) (product-assoc r _ _ ∙ rw (drop-cons gs i 0 h) at e)
+
+  pub spans-end : (i r : ℕ) → length gs ≤ i → r < p → product r (spans (drop i gs) x) ≡ spans gs x → r ≡ spans gs x
+  unfolding spans
+  spans-end i r h l e = sym (product-one r l) ∙ rw (drop-of-length-le gs h) at e
+
   drop-four : (i : ℕ) → i + 3 < length gs
       → drop i gs ≡ getD gs i 0 ∷ (getD gs (i + 1) 0 ∷ (getD gs (i + 2) 0 ∷ (getD gs (i + 3) 0 ∷ drop (i + 4) gs)))
   drop-four i h =
@@ -89,17 +89,18 @@ module _ (gs : List ℕ) (x : ℕ) where
       next : (j k : ℕ) → suc j ≡ k → j < length gs → drop j gs ≡ getD gs j 0 ∷ drop k gs
       next j k q b = drop-cons gs j 0 b ∙ ap (λ (n : ℕ). getD gs j 0 ∷ drop n gs) q
 
-  pub four-turn : (i r first second q v : ℕ) → i + 3 < length gs → product r (nodal (drop i gs) x) ≡ nodal gs x
-      → first % p ≡ product (difference x (getD gs i 0)) (difference x (getD gs (i + 1) 0))
-      → second % p ≡ product (difference x (getD gs (i + 2) 0)) (difference x (getD gs (i + 3) 0))
-      → q ≡ product first second → v ≡ product r q → product v (nodal (drop (i + 4) gs) x) ≡ nodal gs x
-  unfolding nodal Same
-  four-turn i r first second q v h e ef es eq ev =
+  abbrev sizes : ℕ → ℕ
+  sizes i = away x (getD gs i 0) * away x (getD gs (i + 1) 0) * (away x (getD gs (i + 2) 0) * away x (getD gs (i + 3) 0))
+
+  pub four-turn : (i r q v : ℕ) → i + 3 < length gs → product r (spans (drop i gs) x) ≡ spans gs x → q ≡ sizes i → v ≡ product r q
+      → product v (spans (drop (i + 4) gs) x) ≡ spans gs x
+  unfolding spans Same
+  four-turn i r q v h e eq ev =
       element-injective _ _ (product-below _ _) (product-below _ _)
       (element-product v rest
       ∙ ap (λ (u : Element). u ⊗ element rest)
       (ap element ev ∙ element-product r q
-      ∙ ap (λ (u : Element). element r ⊗ u) (ap element eq ∙ element-product first second ∙ ap₂ _⊗_ (halved first _ _ ef) (halved second _ _ es)))
+      ∙ ap (λ (u : Element). element r ⊗ u) (ap element eq ∙ element-mul _ _ ∙ ap₂ _⊗_ (element-mul _ _) (element-mul _ _)))
       ∙ solve 𝓡 (element r ∷ at i ∷ at (i + 1) ∷ at (i + 2) ∷ at (i + 3) ∷ element rest ∷ [])
       (A :* (B :* C :* (D :* E)) :* F) (A :* (B :* (C :* (D :* (E :* F))))) refl
       ∙ sym
@@ -108,18 +109,92 @@ module _ (gs : List ℕ) (x : ℕ) where
       (element-product _ _
       ∙ ap (λ (u : Element). at i ⊗ u)
       (element-product _ _ ∙ ap (λ (u : Element). at (i + 1) ⊗ u) (element-product _ _ ∙ ap (λ (u : Element). at (i + 2) ⊗ u) (element-product _ _))))))
-      ∙ ap (λ (l : List ℕ). product r (nodal l x)) (sym (drop-four i h)) ∙ e
+      ∙ ap (λ (l : List ℕ). product r (spans l x)) (sym (drop-four i h)) ∙ e
     where
       rest : ℕ
-      rest = nodal (drop (i + 4) gs) x
+      rest = spans (drop (i + 4) gs) x
 
       at : ℕ → Element
-      at j = element (difference x (getD gs j 0))
+      at j = element (away x (getD gs j 0))
 
-      halved : (w a b : ℕ) → w % p ≡ product a b → element w ≡ element a ⊗ element b
-      halved w a b z = sym (element-mod w) ∙ ap element z ∙ element-product a b
-
-  pub four-end : (i r s v n : ℕ) → n ≡ length gs → product r (nodal (drop i gs) x) ≡ nodal gs x → s ≡ nodal (take (n - i) (drop i gs)) x → v ≡ product r s
-      → v ≡ nodal gs x
+  pub four-end : (i r s v n : ℕ) → n ≡ length gs → product r (spans (drop i gs) x) ≡ spans gs x → s ≡ spans (take (n - i) (drop i gs)) x → v ≡ product r s
+      → v ≡ spans gs x
   four-end i r s v n en e es ev =
-      ev ∙ ap (product r) (es ∙ ap (λ (l : List ℕ). nodal l x) (take-all (n - i) (drop i gs) (omega (arith, length-drop i gs)))) ∙ e
+      ev ∙ ap (product r) (es ∙ ap (λ (l : List ℕ). spans l x) (take-all (n - i) (drop i gs) (omega (arith, length-drop i gs)))) ∙ e
+
+  -- counting
+  pub above-turn : (i k v : ℕ) → i < length gs → k + above (drop i gs) x ≡ above gs x → v ≡ k + over x (getD gs i 0)
+      → v + above (drop (i + 1) gs) x ≡ above gs x
+  unfolding above
+  above-turn i k v h e f =
+      let q : above (drop i gs) x ≡ over x (getD gs i 0) + above (drop (suc i) gs) x = ap (λ (s : List ℕ). above s x) (drop-cons gs i 0 h) in
+      rw (add-one i) (omega arith)
+
+  pub above-end : (i k : ℕ) → length gs ≤ i → k + above (drop i gs) x ≡ above gs x → k ≡ above gs x
+  unfolding above
+  above-end i k h e = let q : above (drop i gs) x ≡ 0 = rw (drop-of-length-le gs h) refl in omega arith
+
+pub counted-over : (k x g v : ℕ) → x < g → v ≡ k + 1 → v ≡ k + over x g
+unfolding over
+counted-over k x g v h e = e ∙ ap (λ (t : Bool). k + (elim t as (λ z. ℕ) [ true ↦ 1 | false ↦ 0 ])) (sym (lt-ltb x g h))
+
+pub counted-under : (k x g : ℕ) → g ≤ x → k ≡ k + over x g
+unfolding over
+counted-under k x g h =
+    let q : k ≡ k + 0 = omega arith in
+    q ∙ ap (λ (t : Bool). k + (elim t as (λ z. ℕ) [ true ↦ 1 | false ↦ 0 ])) (sym (le-ltb x g h))
+
+pub counted-most : (k x g v : ℕ) → v ≡ k + over x g → v ≤ k + 1
+unfolding over
+counted-most k x g v e = go (ltb x g) e
+  where
+    go : (t : Bool) → v ≡ k + (elim t as (λ z. ℕ) [ true ↦ 1 | false ↦ 0 ]) → v ≤ k + 1
+    go true q = omega arith
+    go false q = omega arith
+
+-- the difference and its size
+larger : (x g : ℕ) → g ≤ x → element x ⊕ neg (element g) ≡ element (away x g)
+unfolding Same
+larger x g h =
+    let s : x ≡ away x g + g = omega arith in
+    ap (λ (u : Element). u ⊕ neg (element g)) (ap element s ∙ element-add (away x g) g)
+    ∙ solve 𝓡 (element (away x g) ∷ element g ∷ []) (A :+ B :- B) A refl
+
+smaller : (x g : ℕ) → x < g → element x ⊕ neg (element g) ≡ neg (element (away x g))
+unfolding Same
+smaller x g h =
+    let s : g ≡ away x g + x = omega arith in
+    ap (λ (u : Element). element x ⊕ neg u) (ap element s ∙ element-add (away x g) x)
+    ∙ solve 𝓡 (element (away x g) ∷ element x ∷ []) (B :- (A :+ B)) (:- A) refl
+
+pub element-spans : (gs : List ℕ) (x : ℕ) → element (nodal gs x) ≡ sign 𝓡 (above gs x) ⊗ element (spans gs x)
+unfolding nodal spans over above sign Same
+element-spans [] x = sym (one-mul 𝓡 (element 1))
+element-spans (g ∷ gs) x =
+    element-product _ _ ∙ ap₂ _⊗_ (element-difference x g) (element-spans gs x) ∙ go (ltb x g) refl
+  where
+    k : ℕ
+    k = above gs x
+
+    more : suc k ≡ 1 + k
+    more = omega arith
+
+    same : k ≡ 0 + k
+    same = omega arith
+
+    go : (t : Bool) → ltb x g ≡ t → (element x ⊕ neg (element g)) ⊗ (sign 𝓡 k ⊗ element (spans gs x))
+        ≡ sign 𝓡 (elim t as (λ z. ℕ) [ true ↦ 1 | false ↦ 0 ] + k) ⊗ element (product (away x g) (spans gs x))
+    go true e =
+        ap (λ (u : Element). u ⊗ (sign 𝓡 k ⊗ element (spans gs x))) (smaller x g (ltb-true x g e))
+        ∙ solve 𝓡 (element (away x g) ∷ sign 𝓡 k ∷ element (spans gs x) ∷ []) (:- A :* (B :* C)) (:- B :* (A :* C)) refl
+        ∙ ap₂ (λ (j : ℕ) (u : Element). sign 𝓡 j ⊗ u) more (sym (element-product _ _))
+    go false e =
+        ap (λ (u : Element). u ⊗ (sign 𝓡 k ⊗ element (spans gs x))) (larger x g (ltb-false x g e))
+        ∙ solve 𝓡 (element (away x g) ∷ sign 𝓡 k ∷ element (spans gs x) ∷ []) (A :* (B :* C)) (B :* (A :* C)) refl
+        ∙ ap₂ (λ (j : ℕ) (u : Element). sign 𝓡 j ⊗ u) same (sym (element-product _ _))
+
+pub distances-found : (gs : List ℕ) (x s a n v : ℕ) → s ≡ spans gs x → a ≡ above gs x → n ≡ a → v ≡ mirrored (n + 1) s → v ≡ nodal gs x
+distances-found gs x s a n v es ea en ev =
+    let q : v ≡ mirrored (above gs x + 1) (spans gs x) = ev ∙ ap₂ (λ (i j : ℕ). mirrored (i + 1) j) (en ∙ ea) es in
+    element-injective v (nodal gs x) (rw q (mirrored-below (above gs x + 1) (spans gs x) (spans-below gs x))) (nodal-below gs x)
+    (ap element q ∙ element-mirrored (above gs x) (spans gs x) ∙ sym (element-spans gs x))

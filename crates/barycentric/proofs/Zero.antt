@@ -18,7 +18,7 @@ use Rattle.field.proofs.Elements.{𝓡, elements, element-zero, element-one, el
 use Rattle.field.proofs.Modular.{product-below, product-one}
 use Rattle.poly.specs.Counting.{All}
 use Rattle.poly.specs.Interpolation.{nodal, interpolated}
-use Rattle.inverses.specs.InverseTable.{Inverts}
+use Rattle.inverses.specs.InverseTable.{Inverts, most}
 use Rattle.barycentric.specs.Nodes.{Rising, lastOf, missing, following}
 use Rattle.poly.specs.Polynomial.{weighted}
 use Rattle.barycentric.specs.Weights.{alternating, nodeWeight, firsts, risesTo, Prepared}
@@ -167,6 +167,9 @@ module _ (xs gaps : List ℕ) (r : Rising 0 xs) (none : length gaps ≡ 0) (room
       ∙ ap (λ (gs : List ℕ). map (λ x. product (alternating (lastOf 0 xs) x) (nodal gs x)) (0 ∷ xs)) (sym nothing)
 
 -- what joins the functions of the code
+pub missing-few : (xs gs : List ℕ) → Rising 0 xs → lastOf 0 xs ≤ most → gs ≡ missing 0 xs → length gs ≤ most
+missing-few xs gs r h e = omega (arith, ap length e, length-missing 0 xs r)
+
 pub weights-of : (xs gs hs l : List ℕ) (m : ℕ) → gs ≡ hs → take (length xs + 1) l ≡ map (nodeWeight m gs) (0 ∷ xs)
     → take (length xs + 1) l ≡ map (nodeWeight m hs) (0 ∷ xs)
 weights-of xs gs hs l m q e = e ∙ ap (λ (g : List ℕ). map (nodeWeight m g) (0 ∷ xs)) q

@@ -21,6 +21,23 @@ alternating (suc m) (suc x) = difference (alternating m (suc x)) (alternating m 
 unfoldable pub mirrored : ℕ → ℕ → ℕ
 mirrored n b = elim (eqb (n % 2) 1) [ true ↦ b | false ↦ difference 0 b ]
 
+-- |x - g|: one of the two differences is 0.
+abbrev pub away : ℕ → ℕ → ℕ
+away x g = x - g + (g - x)
+
+-- The product of |x - g| over the list's numbers, modulo p.
+unfoldable pub spans : List ℕ → ℕ → ℕ
+spans [] x = 1
+spans (g ∷ gs) x = product (away x g) (spans gs x)
+
+-- How many of the list's numbers are above x.
+unfoldable pub over : ℕ → ℕ → ℕ
+over x g = elim (ltb x g) [ true ↦ 1 | false ↦ 0 ]
+
+unfoldable pub above : List ℕ → ℕ → ℕ
+above [] x = 0
+above (g ∷ gs) x = over x g + above gs x
+
 -- The weight of the number x among 0 to m without those of a list.
 unfoldable pub nodeWeight : ℕ → List ℕ → ℕ → ℕ
 nodeWeight m gaps x = product (alternating m x) (nodal gaps x)

@@ -2,15 +2,15 @@
 // lends. Other nodes go by `interpolate`.
 ghost use mathlib.Core.Path.{_≡_};
 ghost use mathlib.Core.List.{_∷_, map};
-ghost use Prim.Native.Nat.{_+_, _-_, _%_, _≤_, _<_};
+ghost use Prim.Native.Nat.{_+_, _*_, _-_, _≤_, _<_};
 ghost use lib.ListN.{length, take};
 ghost use Rattle.field.specs.Modulus.{p};
 ghost use Rattle.field.specs.Arithmetic.{difference, product};
 ghost use Rattle.poly.specs.Counting.{All};
-ghost use Rattle.inverses.specs.InverseTable.{Inverts};
+ghost use Rattle.inverses.specs.InverseTable.{Inverts, most};
 ghost use Rattle.poly.specs.Interpolation.{nodal, interpolated};
 ghost use Rattle.barycentric.specs.Nodes.{Rising, lastOf, missing};
-ghost use Rattle.barycentric.specs.Weights.{alternating, mirrored, nodeWeight, firsts, row, risesTo, Prepared, WeightsOf};
+ghost use Rattle.barycentric.specs.Weights.{alternating, mirrored, away, spans, over, above, nodeWeight, firsts, row, risesTo, Prepared, WeightsOf};
 
 pub fn wide(x: u32) -> usize
     ensures { λ r. ⌜ r ≡ x ⌝ }
@@ -108,34 +108,83 @@ fn missing(nodes: &[u32], list: &mut [u32])
     }
 }
 
-// (x - a) (x - b), with p added so that it is no negative number: small numbers need no remainder.
-fn pair(x: u32, a: u32, b: u32) -> u32
-    requires { ⌜ (x ≤ 255) × (a ≤ 255) × (b ≤ 255) ⌝ }
-    ensures { λ r. ⌜ r % p ≡ product (difference x a) (difference x b) ⌝ }
+// |x - g|
+fn away(x: u32, g: u32) -> u32
+    ensures { λ r. ⌜ r ≡ away x g ⌝ }
 {
-    field::P + (x * x + a * b) - (a + b) * x
+    if x < g { g - x } else { x - g }
 }
 
-// The product of x - g over small numbers g, four to a turn.
-fn distances(gaps: &[u32], x: u32) -> u32
-    requires { ⌜ (x ≤ 255) × All (λ g. g ≤ 255) (now gaps) ⌝ }
-    ensures { λ r. ⌜ r ≡ nodal (now (gaps .entry)) x ⌝ }
+// The product of |x - g| over four small numbers g, which needs no remainder.
+fn four(x: u32, a: u32, b: u32, c: u32, d: u32) -> u32
+    requires { ⌜ (x ≤ most) × (a ≤ most) × (b ≤ most) × (c ≤ most) × (d ≤ most) ⌝ }
+    ensures { λ r. ⌜ r ≡ away x a * away x b * (away x c * away x d) ⌝ }
+{
+    let first = away(x, a) * away(x, b);
+    let second = away(x, c) * away(x, d);
+    first * second
+}
+
+// The product of |x - g| over numbers g, one to a turn.
+fn few_spans(gaps: &[u32], x: u32) -> u32
+    ensures { λ r. ⌜ r ≡ spans (now (gaps .entry)) x ⌝ }
+{
+    let mut r: u32 = 1;
+    for i in 0..gaps.len() {
+        r = field::mul(r, away(x, gaps[i]));
+    }
+    r
+}
+
+// The product of |x - g| over small numbers g, four to a turn.
+fn spans(gaps: &[u32], x: u32) -> u32
+    requires { ⌜ (x ≤ most) × All (λ g. g ≤ most) (now gaps) ⌝ }
+    ensures { λ r. ⌜ r ≡ spans (now (gaps .entry)) x ⌝ }
 {
     let n = gaps.len();
     let mut r: u32 = 1;
     let mut i = 0;
     while 3 < n - i {
-        let first = pair(x, gaps[i], gaps[i + 1]);
-        let second = pair(x, gaps[i + 2], gaps[i + 3]);
-        r = field::mul(r, field::mul(first, second));
+        let next = four(x, gaps[i], gaps[i + 1], gaps[i + 2], gaps[i + 3]);
+        r = field::mul(r, next);
         i += 4;
     }
-    field::mul(r, poly::node_product(&gaps[i..], x))
+    field::mul(r, few_spans(&gaps[i..], x))
+}
+
+// One more, where g is above x.
+fn counted(count: u32, x: u32, g: u32) -> u32
+    requires { ⌜ count < most ⌝ }
+    ensures { λ r. ⌜ r ≡ count + over x g ⌝ }
+{
+    if x < g { count + 1 } else { count }
+}
+
+// How many of the numbers are above x.
+fn above(gaps: &[u32], x: u32) -> u32
+    requires { ⌜ length (now gaps) ≤ most ⌝ }
+    ensures { λ r. ⌜ r ≡ above (now (gaps .entry)) x ⌝ }
+{
+    let mut count: u32 = 0;
+    for i in 0..gaps.len() {
+        count = counted(count, x, gaps[i]);
+    }
+    count
+}
+
+// The product of x - g over small numbers g: a sign for each that is above x.
+fn distances(gaps: &[u32], x: u32) -> u32
+    requires { ⌜ (x ≤ most) × All (λ g. g ≤ most) (now gaps) × (length (now gaps) ≤ most) ⌝ }
+    ensures { λ r. ⌜ r ≡ nodal (now (gaps .entry)) x ⌝ }
+{
+    let signs = wide(above(gaps, x));
+    mirrored(spans(gaps, x), signs + 1)
 }
 
 // The weights of 0 and the nodes move to the front of the list of all numbers' weights, each times its distances to the gaps.
 fn weigh_nodes(nodes: &[u32], gaps: &[u32], list: &mut [u32])
-    requires { ⌜ Rising 0 (now nodes) × (lastOf 0 (now nodes) ≤ 255) × All (λ g. g ≤ 255) (now gaps) × (lastOf 0 (now nodes) < length (now list))
+    requires { ⌜ Rising 0 (now nodes) × (lastOf 0 (now nodes) ≤ most) × All (λ g. g ≤ most) (now gaps) × (length (now gaps) ≤ most)
+        × (lastOf 0 (now nodes) < length (now list))
         × (now list ≡ firsts (alternating (lastOf 0 (now nodes))) (length (now list))) ⌝ }
     ensures { λ r. ⌜ take (length (now (nodes .entry)) + 1) (now (list .exit))
         ≡ map (nodeWeight (lastOf 0 (now (nodes .entry))) (now (gaps .entry))) (0 ∷ now (nodes .entry)) ⌝ }
@@ -162,7 +211,7 @@ fn inverse_product(list: &[u32], inverses: &[u32]) -> u32
 
 // The missing numbers and with them the nodes' weights, where a number is missing.
 fn weigh_gaps(nodes: &[u32], gaps: &mut [u32], list: &mut [u32])
-    requires { ⌜ Rising 0 (now nodes) × (lastOf 0 (now nodes) ≤ 255) × (length (now gaps) ≡ length (missing 0 (now nodes)))
+    requires { ⌜ Rising 0 (now nodes) × (lastOf 0 (now nodes) ≤ most) × (length (now gaps) ≡ length (missing 0 (now nodes)))
         × (lastOf 0 (now nodes) < length (now list)) × (now list ≡ firsts (alternating (lastOf 0 (now nodes))) (length (now list))) ⌝ }
     ensures { λ r. ⌜ (now (gaps .exit) ≡ missing 0 (now (nodes .entry))) × WeightsOf (now (nodes .entry)) (now (list .exit)) ⌝ }
 {

@@ -13,6 +13,10 @@ most = 255
 abbrev pub few : ℕ
 few = 32
 
+-- and for very small ones
+abbrev pub veryFew : ℕ
+veryFew = 8
+
 -- The table, or the beginning of it: the inverse of k stands at k - 1.
 pub record Inverts (l : List ℕ) : Type 0 where
   pub short : length l ≤ most

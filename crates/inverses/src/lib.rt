@@ -1,10 +1,11 @@
-// The inverses of 1 to 255 modulo p. No entry is trusted: the rule is a test over the whole table, which the proofs of `to_255` and
-// `few::to_32` compute (`inverts` in proofs/Entries.antt).
+// The inverses of 1 to 255 modulo p. No entry is trusted: the rule is a test over the whole table, which the proofs of `to_255`,
+// `few::to_32` and `very_few::to_8` compute (`inverts` in proofs/Entries.antt).
 ghost use mathlib.Core.Path.{_≡_};
 ghost use lib.ListN.{length};
 ghost use Rattle.inverses.specs.InverseTable.{Inverts, most};
 
 pub mod few;
+pub mod very_few;
 
 // How many inverses the table has.
 pub const MOST: usize = 255;

@@ -10,7 +10,7 @@ ghost use Rattle.opening.specs.Blocks.{PostIn, Recorded, badBlock, badRe
 ghost use Rattle.opening.specs.Accepting.{Openable};
 
 // Where post j's block begins, with its mark.
-fn block_at(shape: Shape, j: usize) -> usize
+pub fn block_at(shape: Shape, j: usize) -> usize
     requires { ⌜ Valid shape × PostIn shape j ⌝ }
     ensures { λ r. ⌜ r ≡ (j - 1) * blockLength shape ⌝ }
 {

@@ -8,7 +8,7 @@ ghost use lib.ListN.{length, take, drop, getD};
 ghost use Rattle.poly.specs.Polynomial.{powers};
 ghost use Prim.Native.Nat.{_≤_};
 ghost use Rattle.agreement.specs.Sums.{Rooms};
-ghost use Rattle.shape.specs.Bounds.{fewPosts};
+ghost use Rattle.shape.specs.Bounds.{veryFewPosts, fewPosts};
 ghost use Rattle.shape.specs.Lengths.{needed, vLength};
 ghost use Rattle.opening.specs.Blocks.{PostIn};
 ghost use Rattle.opening.specs.Accepting.{Openable, accepts, share, WalkedAs, BehindIn, FurtherAs, agreedOn, openedRow, Roomy};
@@ -222,6 +222,36 @@ fn open_in<'a>(
     )
 }
 
+// In rooms for very few posts.
+fn open_least<'a>(party: Party, row: &'a [u32], blocks: &'a [u32]) -> Opened
+    requires { ⌜ Openable party (now row) (now blocks) × (party .shape .n ≤ veryFewPosts) ⌝ }
+    ensures { λ r. ⌜ r ≡ openedRow party (now (row .entry)) (now (blocks .entry)) ⌝ }
+{
+    let shape = party.shape;
+    let count = shape.v_len();
+    let inverses = inverses::very_few::to_8();
+    let mut powers = [0u32; shape::VERY_SHORT_V];
+    let mut posts = [0u32; shape::VERY_FEW_POSTS];
+    let mut shares = [0u32; shape::VERY_FEW_POSTS];
+    let mut gaps = [0u32; inverses::very_few::VERY_FEW];
+    let mut list = [0u32; inverses::very_few::VERY_FEW + 1];
+    let mut above = [0u32; inverses::very_few::VERY_FEW + 1];
+    let mut below = [0u32; inverses::very_few::VERY_FEW + 1];
+    open_in(
+        party,
+        row,
+        blocks,
+        &inverses,
+        &mut powers[..count],
+        &mut posts,
+        &mut shares,
+        &mut gaps,
+        &mut list,
+        &mut above,
+        &mut below,
+    )
+}
+
 // In rooms for few posts.
 fn open_small<'a>(party: Party, row: &'a [u32], blocks: &'a [u32]) -> Opened
     requires { ⌜ Openable party (now row) (now blocks) × (party .shape .n ≤ fewPosts) ⌝ }
@@ -288,7 +318,9 @@ pub fn open_row<'a>(party: Party, row: &'a [u32], blocks: &'a [u32]) -> Opened
     ensures { λ r. ⌜ r ≡ openedRow party (now (row .entry)) (now (blocks .entry)) ⌝ }
 {
     let shape = party.shape;
-    if shape.n <= shape::FEW_POSTS {
+    if shape.n <= shape::VERY_FEW_POSTS {
+        open_least(party, row, blocks)
+    } else if shape.n <= shape::FEW_POSTS {
         open_small(party, row, blocks)
     } else {
         open_large(party, row, blocks)

@@ -13,7 +13,7 @@ ghost use mathlib.Core.List.{[], _∷_};
 ghost use Prim.Native.Nat.{_+_, _≤_};
 ghost use lib.ListN.{length};
 ghost use Rattle.field.specs.Arithmetic.{product};
-ghost use Rattle.shape.specs.Bounds.{fewPosts, lastTriple};
+ghost use Rattle.shape.specs.Bounds.{veryFewPosts, fewPosts, lastTriple};
 ghost use Rattle.shape.specs.Lengths.{Valid, rowLength, sumsAt};
 ghost use Rattle.refusal.specs.Refusal.{first, _when_};
 ghost use Rattle.session.specs.Sessions.{shapeOf, partyOf, factorA, factorB};
@@ -136,6 +136,24 @@ fn open_mask_in(
     opening::walking::open_row(party, room, blocks)
 }
 
+// In a room for very few posts.
+fn open_shortest_mask(
+    party: Party,
+    rows: &[u32],
+    factor: usize,
+    row: usize,
+    blocks: &[u32],
+) -> Opened
+    requires { ⌜ Sized (party .shape) (now rows) × RowIn (party .shape) factor × RowIn (party .shape) row × Recorded party (now blocks)
+        × (party .shape .n ≤ veryFewPosts) ⌝ }
+    ensures { λ r. ⌜ r ≡ openedRow party (maskRow (party .shape) (now (rows .entry)) factor row) (now (blocks .entry)) ⌝ }
+{
+    let shape = party.shape;
+    let width = shape.row_len();
+    let mut room = [0u32; shape::VERY_SHORT_ROW];
+    open_mask_in(party, rows, factor, row, blocks, &mut room[..width])
+}
+
 // In a room for few posts.
 fn open_short_mask(party: Party, rows: &[u32], factor: usize, row: usize, blocks: &[u32]) -> Opened
     requires { ⌜ Sized (party .shape) (now rows) × RowIn (party .shape) factor × RowIn (party .shape) row × Recorded party (now blocks)
@@ -165,7 +183,9 @@ pub fn open_mask(party: Party, rows: &[u32], factor: usize, row: usize, blocks: 
     ensures { λ r. ⌜ r ≡ openedRow party (maskRow (party .shape) (now (rows .entry)) factor row) (now (blocks .entry)) ⌝ }
 {
     let shape = party.shape;
-    if shape.n <= shape::FEW_POSTS {
+    if shape.n <= shape::VERY_FEW_POSTS {
+        open_shortest_mask(party, rows, factor, row, blocks)
+    } else if shape.n <= shape::FEW_POSTS {
         open_short_mask(party, rows, factor, row, blocks)
     } else {
         open_long_mask(party, rows, factor, row, blocks)

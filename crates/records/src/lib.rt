@@ -1,9 +1,9 @@
 // A record's blocks: a post's message is put into a record, and taken out of it again.
 use shape::Shape;
 ghost use mathlib.Core.Path.{_≡_};
-ghost use Prim.Native.Nat.{suc, _*_, _-_};
+ghost use Prim.Native.Nat.{suc};
 ghost use lib.ListN.{length};
-ghost use Rattle.shape.specs.Lengths.{Valid, blockLength, recordLength, messageLength};
+ghost use Rattle.shape.specs.Lengths.{Valid, recordLength, messageLength};
 ghost use Rattle.opening.specs.Blocks.{PostIn};
 ghost use Rattle.records.specs.Records.{placeRefusal, putRefusal, withBlock, blockOf, noBlock, putRecord, removedRecord};
 
@@ -37,14 +37,6 @@ fn put_refusal(n: usize, t: usize, blocks: &[u32], post: usize, message: &[u32])
     )
 }
 
-// Where a post's block begins.
-fn block_at(shape: Shape, post: usize) -> usize
-    requires { ⌜ Valid shape × PostIn shape post ⌝ }
-    ensures { λ r. ⌜ r ≡ (post - 1) * blockLength shape ⌝ }
-{
-    (post - 1) * shape.block_len()
-}
-
 // A present block with a message.
 fn fill(block: &mut [u32], message: &[u32])
     requires { ⌜ length (now block) ≡ suc (length (now message)) ⌝ }
@@ -59,7 +51,7 @@ pub fn put_block(shape: Shape, blocks: &mut [u32], post: usize, message: &[u32])
     requires { ⌜ Valid shape × PostIn shape post × (length (now blocks) ≡ recordLength shape) × (length (now message) ≡ messageLength shape) ⌝ }
     ensures { λ r. ⌜ now (blocks .exit) ≡ withBlock shape post (blockOf (now (message .entry))) (now (blocks .entry)) ⌝ }
 {
-    let from = block_at(shape, post);
+    let from = opening::record::block_at(shape, post);
     let end = from + shape.block_len();
     fill(&mut blocks[from..end], message);
 }
@@ -68,7 +60,7 @@ fn remove_block(shape: Shape, blocks: &mut [u32], post: usize)
     requires { ⌜ Valid shape × PostIn shape post × (length (now blocks) ≡ recordLength shape) ⌝ }
     ensures { λ r. ⌜ now (blocks .exit) ≡ withBlock shape post (noBlock shape) (now (blocks .entry)) ⌝ }
 {
-    let from = block_at(shape, post);
+    let from = opening::record::block_at(shape, post);
     let end = from + shape.block_len();
     lists::clear(&mut blocks[from..end]);
 }

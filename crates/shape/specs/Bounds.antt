@@ -36,3 +36,13 @@ shortRow = 3 * fewPosts
 
 abbrev pub shortV : ℕ
 shortV = fewPosts
+
+-- and of so very few, rooms that are smaller still
+abbrev pub veryFewPosts : ℕ
+veryFewPosts = 8
+
+abbrev pub veryShortRow : ℕ
+veryShortRow = 3 * veryFewPosts
+
+abbrev pub veryShortV : ℕ
+veryShortV = veryFewPosts

@@ -24,6 +24,12 @@ pub const FEW_POSTS: usize = 32;
 pub const SHORT_ROW: usize = 3 * FEW_POSTS;
 
 pub const SHORT_V: usize = FEW_POSTS;
+// And of so very few, rooms that are smaller still.
+pub const VERY_FEW_POSTS: usize = 8;
+
+pub const VERY_SHORT_ROW: usize = 3 * VERY_FEW_POSTS;
+
+pub const VERY_SHORT_V: usize = VERY_FEW_POSTS;
 
 // The marks of rows.
 pub const EMPTY: u8 = 0;

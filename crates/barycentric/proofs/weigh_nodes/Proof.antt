@@ -30,14 +30,14 @@ slice-read-mul : tie.Need-slice-read-mul Inv-loop μ-loop
 slice-read-mul c =
     let l = c .before .before .before .before .loop in
     let a = c .before .before .before .before .before .before .before .before .before in
-    let within = node-within _ _ (a .args .list .now) _ (l .list) (l .i) (a .pre .0) (a .pre .3) (l .inv) (search needs) in
+    let within = node-within _ _ (a .args .list .now) _ (l .list) (l .i) (a .pre .0) (a .pre .4) (l .inv) (search needs) in
     omega (arith, c .before .wide .ensures)
 
 slice-write-list-2 : tie.Need-slice-write-list-2 Inv-loop μ-loop
 slice-write-list-2 c =
     let l = c .before .before .before .before .before .before .before .loop in
     let a = c .before .before .before .before .before .before .before .before .before .before .before .before in
-    place-within _ _ (a .args .list .now) _ (l .list) (l .i) (a .pre .0) (a .pre .3) (l .inv) (search needs)
+    place-within _ _ (a .args .list .now) _ (l .list) (l .i) (a .pre .0) (a .pre .4) (l .inv) (search needs)
 
 loop-again : tie.Need-loop-again Inv-loop μ-loop
 loop-again c =
@@ -45,7 +45,7 @@ loop-again c =
     let l = c .before .before .before .before .before .before .before .loop in
     let n = c .before .distances2 in
     let entry = c .before .before .before .before .wide .ensures in
-    moved-turn _ _ (a .args .list .now) _ (l .list) (l .i) (a .pre .0) (a .pre .3) (l .inv) (search needs) (n .result) _ (n .ensures)
+    moved-turn _ _ (a .args .list .now) _ (l .list) (l .i) (a .pre .0) (a .pre .4) (l .inv) (search needs) (n .result) _ (n .ensures)
     (c .mul .ensures ∙ ap (λ (k : ℕ). product (getD (l .list) k 0) (n .result)) entry)
 
 same-length : tie.Need-same-length Inv-loop μ-loop
@@ -55,7 +55,7 @@ distances-requires-2 : tie.Need-distances-requires-2 Inv-loop μ-loop
 distances-requires-2 c κs =
     let a = c .before .before .before .before .before .before .before .before .before .before in
     let l = c .before .before .before .before .before .loop in
-    (omega (arith, rising-last 0 (now (a .args .nodes)) (l .i) (a .pre .0) (search needs), a .pre .1), a .pre .2)
+    (omega (arith, rising-last 0 (now (a .args .nodes)) (l .i) (a .pre .0) (search needs), a .pre .1), a .pre .2, a .pre .3)
 
 pub weigh-nodes-spec : {M : Type 1} → statement M
 weigh-nodes-spec =
