@@ -75,5 +75,6 @@ module _ (st : State) (store : List ℕ) (number : ℕ) (out : List ℕ) (letter
   fed-line =
       fed-segment p line (omega arith)
       ∙ ap (λ (k : ℕ). fed (segmented p (take k line)) (drop k line)) whole
-      ∙ ap₂ (λ (a b : List ℕ). fed (segmented p a) b) (take-all (length line) line (omega arith)) (drop-of-length-le line {i = length line} (omega arith))
+      ∙ ap₂ (λ (a b : List ℕ). fed (segmented p a) b) (take-all (length line) line (omega arith))
+      (drop-of-length-le line {i = length line} (omega arith))
       ∙ taken-whole

@@ -1,7 +1,7 @@
 -- The rows' lines, fed one after the other, and the same rows loaded straight: both come to the same session and rows.
-use Prim.Native.Nat.{ℕ, zero, suc, _+_, _-_, _≤_, _<_}
+use Prim.Native.Nat.{ℕ, suc, _+_, _-_, _≤_, _<_}
 use mathlib.Core.Path.{_≡_, refl, sym, _∙_, ap, ap₂}
-use mathlib.Core.Bool.{Bool, true, false, _||_, cond}
+use mathlib.Core.Bool.{Bool, true, false}
 use mathlib.Core.List.{List, [], _∷_, _++_, append-assoc, append-nil}
 use native.Mathlib.Omega.{arith}
 use borrow.Author.Tests.{eqb-true}
@@ -9,15 +9,14 @@ use lib.Dec.{eqb}
 use lib.ListN.{length, take, drop, getD, set}
 use Rattle.poly.specs.Counting.{Elements}
 use Rattle.shape.specs.declared.Shape.{Shape}
-use Rattle.shape.specs.Lengths.{shape, Valid, rowLength, tripleLength, drawLength, tripleDrawLength}
+use Rattle.shape.specs.Lengths.{shape, rowLength, tripleLength, drawLength, tripleDrawLength}
 use Rattle.shape.specs.Bounds.{lastRow, lastTriple}
 use Rattle.shape.specs.Marks.{empty, raw, unused, further}
 use Rattle.csv.specs.Fields.{written}
 use Rattle.session.specs.declared.Party.{Party}
 use Rattle.session.specs.Rows.{withRow}
 use Rattle.sharing.specs.Load.{withTriple}
-use Rattle.store.specs.Sizes.{streetPosts, longestTriple}
-use Rattle.interpreter.specs.declared.State.{State}
+use Rattle.store.specs.Sizes.{streetPosts}
 use Rattle.interpreter.specs.States.{firstState, begunWith, refusing, leaving}
 use Rattle.interpreter.specs.Starting.{longestLine}
 use Rattle.interpreter.specs.Stepping.{step}
@@ -25,10 +24,10 @@ use Rattle.transcript.specs.Text.{answerText}
 use Rattle.transcript.specs.Program.{Running, leftBy, fed}
 use Rattle.transcript.proofs.Chunks.{fed-append}
 use Rattle.packfile.specs.Kinds.{drawnFor}
-use Rattle.packfile.specs.File.{postPart, tripleParts, numbersOf, letterOf, lineWith, rowLine, rowLines}
+use Rattle.packfile.specs.File.{postPart, tripleParts, numbersOf, lineWith, rowLine, rowLines}
 use Rattle.packfile.specs.Parts.{PostIn}
 use Rattle.packfile.specs.Writing.{postAt}
-use Rattle.packed.specs.Straight.{Loaded, rowPack, triplePack, kindLoaded, rowsLoaded}
+use Rattle.packed.specs.Straight.{kindLoaded, rowsLoaded}
 use Rattle.packed.specs.Claims.{lineFor, loads, noRefusals}
 use Rattle.packed.proofs.Parts.{part-elements, triple-elements, part-length, triple-length, row-pack, triple-pack}
 use Rattle.packed.proofs.Loading.{sessionAt, at, Passed, row-passes, row-is-loaded, row-room, triple-passes, triple-is-loaded, triple-room}

@@ -1,19 +1,19 @@
 -- A session that the works loads straight: no load is refused, and what each leaves.
 use Prim.Native.Nat.{ℕ, _+_, _*_, _≤_}
-use mathlib.Core.Path.{_≡_, refl, sym, _∙_, ap, ap₂}
-use mathlib.Core.Bool.{Bool, false, not, _||_}
-use mathlib.Core.List.{List, [], _∷_, _++_}
+use mathlib.Core.Path.{_≡_, refl, _∙_, ap, ap₂}
+use mathlib.Core.Bool.{false, not, _||_}
+use mathlib.Core.List.{List, [], _∷_}
 use native.Mathlib.Nat.{mul-le-mul-right, add-mul}
 use native.Mathlib.Omega.{arith}
 use borrow.Author.Tests.{eq-eqb, le-ltb}
-use lib.Dec.{eqb, ltb}
+use lib.Dec.{eqb}
 use lib.ListN.{length, getD, set, replicate}
 use Rattle.poly.specs.Counting.{Elements}
 use Rattle.shape.specs.Bounds.{rowCount, lastRow, lastTriple}
 use Rattle.shape.specs.Lengths.{rowLength, rowsLength, tripleLength}
 use Rattle.shape.specs.Marks.{empty, raw, unused, further}
-use Rattle.refusal.specs.Refusal.{first, outcome, AllFail}
-use Rattle.refusal.specs.Conditions.{wrongLength, beyond, anyBeyond}
+use Rattle.refusal.specs.Refusal.{outcome, AllFail}
+use Rattle.refusal.specs.Conditions.{wrongLength, anyBeyond}
 use Rattle.refusal.proofs.Laws.{not-refused}
 use Rattle.refusal.proofs.Elements.{element-test}
 use Rattle.lists.proofs.Parts.{length-put}
@@ -21,7 +21,6 @@ use Rattle.session.specs.declared.Party.{Party}
 use Rattle.session.specs.declared.Session.{Session}
 use Rattle.session.specs.Sessions.{withMarks, sessionOf, sessionTests, created}
 use Rattle.session.specs.Rows.{withRow}
-use Rattle.session.specs.Checks.{frameTests}
 use Rattle.session.proofs.RowLaws.{length-with-row}
 use Rattle.sharing.specs.Load.{loadRowTests, loadRowRefusal, loadTripleTests, loadTripleRefusal, withTriple}
 use Rattle.sharing.proofs.Triples.{triple-put}

@@ -1,12 +1,11 @@
 -- What the program does with a line of a file: the start line begins the post's session, a row's line loads its numbers.
-use Prim.Native.Nat.{ℕ, suc, _+_, _*_, _≤_, _<_}
-use mathlib.Core.Path.{_≡_, refl, sym, _∙_, ap}
-use mathlib.Core.Bool.{true, false}
+use Prim.Native.Nat.{ℕ, _+_, _≤_, _<_}
+use mathlib.Core.Path.{_≡_, _∙_}
+use mathlib.Core.Bool.{true}
 use mathlib.Core.List.{List, [], _∷_, _++_}
 use native.Mathlib.Omega.{arith}
 use borrow.Author.Tests.{le-ltb}
-use lib.Dec.{ltb}
-use lib.ListN.{length, take, drop, getD, set, length-append}
+use lib.ListN.{length, drop, set, length-append}
 use lib.Seq.{take-at, drop-at}
 use Rattle.field.specs.Modulus.{p}
 use Rattle.poly.specs.Counting.{Elements}
@@ -25,10 +24,10 @@ use Rattle.session.specs.Sessions.{sessionOf}
 use Rattle.session.specs.Rows.{withRow}
 use Rattle.sharing.specs.Load.{loadRowRefusal, loadTripleRefusal, withTriple}
 use Rattle.store.specs.Sizes.{streetPosts, longestTriple}
-use Rattle.reading.specs.Numbers.{numberForm, numbers, readRefusal, readTests, rowsBeyond}
-use Rattle.reading.specs.Starting.{isStart, startForm, startOf}
+use Rattle.reading.specs.Numbers.{numberForm, numbers, readRefusal, rowsBeyond}
+use Rattle.reading.specs.Starting.{isStart}
 use Rattle.interpreter.specs.declared.State.{State}
-use Rattle.interpreter.specs.States.{After, firstState, begunWith, refusing, leaving, sessionRows}
+use Rattle.interpreter.specs.States.{firstState, begunWith, refusing, leaving, sessionRows}
 use Rattle.interpreter.specs.Starting.{longestLine, startTests, startStep, earlyStep}
 use Rattle.interpreter.specs.Letters.{loading, loadStep, loadingTriple, loadTripleStep}
 use Rattle.interpreter.specs.Stepping.{lettersStep, lateStep, step}
@@ -43,7 +42,9 @@ module _ (q : Party) (post : PostIn q) (passed : Passed q) (street : q .shape .n
   four = q .shape .n ∷ q .shape .t ∷ q .post ∷ q .point ∷ []
 
   pub start-short : length (written 83 four) ≤ longestLine
-  start-short = omega (arith, length-written 83 (q .shape .n ∷ []) (q .shape .t ∷ q .post ∷ q .point ∷ []), length-fields-le (q .shape .n ∷ []), length-fields-le (q .shape .t ∷ q .post ∷ q .point ∷ []))
+  start-short =
+      let own : List ℕ = q .shape .t ∷ q .post ∷ q .point ∷ [] in
+      omega (arith, length-written 83 (q .shape .n ∷ []) own, length-fields-le (q .shape .n ∷ []), length-fields-le own)
 
   starts : isStart (startLine q) ≡ true
   unfolding startLine fields
@@ -112,7 +113,10 @@ module _ (q : Party) (marks rows tail : List ℕ) (room : length rows ≡ rowsLe
     unfolding loadStep outcome
     by-numbers =
         let k : ℕ = 1 + rowLength (q .shape) in
-        rw (line-passes 82 row lastRow pack elements low (omega arith) k (omega arith), line-numbers 82 row lastRow pack elements low (omega arith) k (omega arith))
+        rw (
+          line-passes 82 row lastRow pack elements low (omega arith) k (omega arith),
+          line-numbers 82 row lastRow pack elements low (omega arith) k (omega arith),
+        )
 
     pub row-taken : step st (rows ++ tail) (written 82 (row ∷ pack))
         ≡ leaving (refusing (begunWith firstState (sessionAt q (set marks row raw))) 0) (withRow (rowLength (q .shape)) row pack rows ++ tail)
@@ -129,7 +133,10 @@ module _ (q : Party) (marks rows tail : List ℕ) (room : length rows ≡ rowsLe
     unfolding loadTripleStep outcome
     by-numbers-3 =
         let k : ℕ = 1 + tripleLength (q .shape) in
-        rw (line-passes 84 row lastTriple pack elements low (omega arith) k (omega arith), line-numbers 84 row lastTriple pack elements low (omega arith) k (omega arith))
+        rw (
+          line-passes 84 row lastTriple pack elements low (omega arith) k (omega arith),
+          line-numbers 84 row lastTriple pack elements low (omega arith) k (omega arith),
+        )
 
     pub triple-taken : step st (rows ++ tail) (written 84 (row ∷ pack))
         ≡ leaving (refusing (begunWith firstState (sessionAt q (set (set (set marks row unused) (row + 1) further) (row + 2) further))) 0) (withTriple (rowLength (q .shape)) row pack rows ++ tail)

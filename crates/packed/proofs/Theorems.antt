@@ -1,11 +1,11 @@
 -- A post's file, fed to the street program, gives the session and rows that loading straight from the draw gives; every line gets 0.
-use Prim.Native.Nat.{ℕ, zero, suc, _+_, _-_, _≤_, _<_}
+use Prim.Native.Nat.{ℕ, zero, suc, _-_, _≤_, _<_}
 use mathlib.Core.Path.{_≡_, refl, sym, _∙_, ap, ap₂}
-use mathlib.Core.Bool.{Bool, false}
-use mathlib.Core.List.{List, [], _∷_, _++_, append-assoc, append-nil}
+use mathlib.Core.Bool.{false}
+use mathlib.Core.List.{List, [], _∷_, _++_}
 use native.Mathlib.Omega.{arith}
 use lib.Dec.{eqb}
-use lib.ListN.{length, take, drop, getD, replicate, length-replicate}
+use lib.ListN.{length, drop, getD, replicate, length-replicate}
 use Rattle.field.specs.Modulus.{p}
 use Rattle.poly.specs.Counting.{Elements}
 use Rattle.shape.specs.Bounds.{rowCount}
@@ -26,7 +26,7 @@ use Rattle.packfile.specs.File.{startLine, rowLines, file}
 use Rattle.packfile.specs.Parts.{PostIn, Given}
 use Rattle.packfile.specs.Writing.{postAt, givenTests, givenRefusal}
 use Rattle.packfile.proofs.Asking.{given-passed}
-use Rattle.packed.specs.Straight.{Loaded, newPost, rowsLoaded, straight}
+use Rattle.packed.specs.Straight.{Loaded, rowsLoaded, straight}
 use Rattle.packed.specs.Claims.{loads, lineCount, noRefusals, programWith, Feeds, FileFeeds}
 use Rattle.packed.proofs.Loading.{sessionAt, at, Passed, new-loaded}
 use Rattle.packed.proofs.Ahead.{ahead-first}

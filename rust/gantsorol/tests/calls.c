@@ -179,6 +179,21 @@ static void write_lines(void) {
     printf("%d %d %zu %zu\n", line.refusal, line.letter, line.row, line.post);
 }
 
+/* A post's file, of a raw row and a triple, and a list one byte too short for it. */
+static void pack_file(const uint32_t *points, const uint32_t *row, const uint32_t *triple) {
+    enum { DRAW = GANTSOROL_ROW_DRAW_LEN(N, T), TRIPLE = GANTSOROL_TRIPLE_DRAW_LEN(N, T), DRAWS = DRAW + TRIPLE };
+    const uint8_t kinds[GANTSOROL_ROWS] = {1, 0, 0, 3};
+    uint32_t draws[DRAWS];
+    memcpy(draws, row, DRAW * sizeof *row);
+    memcpy(draws + DRAW, triple, TRIPLE * sizeof *triple);
+    uint8_t file[256];
+    gantsorol_written written =
+        gantsorol_write_pack(N, T, 2, points, N, kinds, GANTSOROL_ROWS, draws, DRAWS, file, sizeof file);
+    printf("file %d %zu\n%.*s", written.refusal, written.len, (int)written.len, (const char *)file);
+    written = gantsorol_write_pack(N, T, 2, points, N, kinds, GANTSOROL_ROWS, draws, DRAWS, file, written.len - 1);
+    printf("file %d %zu\n", written.refusal, written.len);
+}
+
 int main(void) {
     layout();
 
@@ -192,6 +207,7 @@ int main(void) {
     print("triples", triples, 3 * N * ROW);
     gantsorol_number c = gantsorol_dealer_number(100, draw[0]), bad = gantsorol_dealer_number(GANTSOROL_MODULUS, 0);
     printf("c %d %u, %d %u\n", c.refusal, c.value, bad.refusal, bad.value);
+    pack_file(points, draw, triple);
 
     uint32_t record[RECORD], message[T + 1];
     for (int i = 0; i < N; i++) {

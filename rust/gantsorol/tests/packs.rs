@@ -30,8 +30,17 @@ struct Station {
     draws: Vec<u32>,
 }
 
-/// A station of n posts; of its rows about a third are raw, and where triples are asked for some begin one.
-fn station(n: usize, triples: bool) -> Station {
+/// How many numbers are drawn for a row of this kind.
+fn drawn(n: usize, t: usize, kind: &u8) -> usize {
+    match kind {
+        1 => row_draw_len(n, t),
+        3 => triple_draw_len(n, t),
+        _ => 0,
+    }
+}
+
+/// A station of n posts; of its rows about a third are raw, and some begin a triple.
+fn station(n: usize) -> Station {
     let mut numbers = Numbers(n as u64 + 1);
     let t = 1 + numbers.below(n as u32 - 1) as usize;
     let points = (0..n).map(|_| 1 + numbers.below(MODULUS - 1)).collect();
@@ -39,7 +48,7 @@ fn station(n: usize, triples: bool) -> Station {
     let mut row = 0;
     while row < ROWS {
         let kind = numbers.below(6);
-        if triples && kind == 3 && row + 3 <= ROWS {
+        if kind == 3 && row + 3 <= ROWS {
             kinds[row] = 3;
             row += 2;
         } else if kind < 2 {
@@ -47,12 +56,8 @@ fn station(n: usize, triples: bool) -> Station {
         }
         row += 1;
     }
-    let drawn = |kind: &u8| match kind {
-        1 => row_draw_len(n, t),
-        3 => triple_draw_len(n, t),
-        _ => 0,
-    };
-    let draws = (0..kinds.iter().map(drawn).sum()).map(|_| numbers.below(MODULUS)).collect();
+    let all: usize = kinds.iter().map(|kind| drawn(n, t, kind)).sum();
+    let draws = (0..all).map(|_| numbers.below(MODULUS)).collect();
     Station { n, t, points, kinds, draws }
 }
 
@@ -80,12 +85,10 @@ impl Station {
         for (row, &kind) in self.kinds.iter().enumerate() {
             let rows = usize::from(kind) * n;
             let mut out = vec![0; rows * row_len(n, t)];
-            let drawn = match kind {
-                1 => row_draw_len(n, t),
-                3 => triple_draw_len(n, t),
-                _ => continue,
-            };
-            let (draw, rest) = draws.split_at(drawn);
+            if kind == 0 {
+                continue;
+            }
+            let (draw, rest) = draws.split_at(drawn(n, t, &kind));
             draws = rest;
             let make = if kind == 1 { gantsorol::factory_row } else { gantsorol::factory_triple };
             make(n, t, &self.points, draw, &mut out).expect("the draw is right");
@@ -106,11 +109,11 @@ fn line(letter: char, numbers: impl IntoIterator<Item = u32>) -> String {
     format!("{letter}{fields}\n")
 }
 
-/// The start line, then each post's own part of the factory's packs, by rising row, at every n.
+/// The start line, then each post's own part of the factory's packs, by rising row, at every n of the street program and above.
 #[test]
 fn a_file_is_a_posts_parts_by_rising_row() {
-    for n in 2..=gantsorol::MAX_POSTS.min(32) {
-        let station = station(n, true);
+    for n in (2..=32).chain([33, 100, gantsorol::MAX_POSTS]) {
+        let station = station(n);
         let packs = station.packs();
         for post in [1, n / 2 + 1, n] {
             let point = station.points[post - 1];
@@ -131,17 +134,12 @@ fn a_file_is_a_posts_parts_by_rising_row() {
 /// Kinds out of place, unknown or inside a triple, a number of p, and a list one byte too short: the refusal, and nothing written.
 #[test]
 fn a_refused_file_leaves_the_list() {
-    let right = station(3, true);
+    let right = station(3);
     let length = right.file(1).len();
     let refused = |kinds: &[(usize, u8)], number: u32, room: usize| {
         let mut set = [0; ROWS];
         kinds.iter().for_each(|&(row, kind)| set[row] = kind);
-        let drawn = |kind: &u8| match kind {
-            1 => row_draw_len(3, right.t),
-            3 => triple_draw_len(3, right.t),
-            _ => 0,
-        };
-        let draws = vec![number; set.iter().map(drawn).sum()];
+        let draws = vec![number; set.iter().map(|kind| drawn(3, right.t, kind)).sum()];
         let mut out = vec![7; room];
         let written = gantsorol::write_pack(3, right.t, 1, &right.points, &set, &draws, &mut out);
         assert!(out.iter().all(|&byte| byte == 7) && written.len == 0);
@@ -184,17 +182,19 @@ fn fed(program: &str, arguments: &[&str], input: &[u8]) -> String {
     String::from_utf8(output.stdout).expect("the program prints text")
 }
 
-/// The street program takes every line of a file, and opens what is dealt to its last raw row, at every n to 32. The lines `T`
-/// join these files when the program reads them.
+/// The street program takes every line of a file, of raw rows and triples, and opens what is dealt to its last raw row, at every n
+/// to 32.
 #[test]
 fn the_program_takes_the_files_and_opens() {
     let program = street_program();
     for n in 2..=32 {
-        let station = station(n, false);
-        let (row, _, packs) = station.packs().pop().expect("a row is raw");
-        let f = &station.draws[station.draws.len() - row_draw_len(n, station.t)..];
+        let station = station(n);
+        let raw = |(_, kind, _): &(usize, u8, Vec<u32>)| *kind == 1;
+        let (row, _, packs) = station.packs().into_iter().rfind(raw).expect("a row is raw");
+        let before: usize = station.kinds[..row].iter().map(|kind| drawn(n, station.t, kind)).sum();
         let word = 1_000_000 + n as u32;
-        let c = gantsorol::dealer_number(word, f[0]).accepted().expect("both are elements");
+        let c = gantsorol::dealer_number(word, station.draws[before]);
+        let c = c.accepted().expect("both are elements");
         let mut lines = line('D', [row as u32, c]);
         for post in 1..=station.t + 1 {
             let own = station.part(&packs, post);

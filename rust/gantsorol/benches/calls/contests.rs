@@ -190,7 +190,30 @@ fn factory(i: &Inputs) -> Vec<Contest<'_>> {
             ),
             repeated(move || second(black_box(i.numbers[0]), i.numbers[1]), |a| a.refusal),
         ),
+        pack_file(i),
     ]
+}
+
+/// A post's file of a raw row and a triple.
+fn pack_file(i: &Inputs) -> Contest<'_> {
+    let (n, t, points) = (i.n, i.t, &i.points[..]);
+    let draws = [&i.row_draw[..], &i.triple_draw].concat();
+    let (mut kinds, same) = ([0; gantsorol::ROWS], draws.clone());
+    (kinds[0], kinds[1]) = (1, 3);
+    let room = 64 + 4 * 11 * gantsorol::row_len(n, t);
+    contest(
+        "write pack file",
+        filling(
+            room,
+            move |out| gantsorol::write_pack(n, t, 1, points, &kinds, &draws, out),
+            |a| a.refusal,
+        ),
+        filling(
+            room,
+            move |out| REFERENCE.write_pack(n, t, 1, points, &kinds, &same, out),
+            |a| a.refusal,
+        ),
+    )
 }
 
 fn lines(i: &Inputs) -> Vec<Contest<'_>> {

@@ -215,6 +215,19 @@ impl Library for Verified {
         ReadLine { refusal, letter, row, post }
     }
 
+    fn write_pack(
+        &self,
+        n: usize,
+        t: usize,
+        post: usize,
+        points: &[u32],
+        kinds: &[u8],
+        draws: &[u32],
+        out: &mut [u8],
+    ) -> Written {
+        written(gantsorol::write_pack(n, t, post, points, kinds, draws, out))
+    }
+
     fn street(&self, _: &[u8]) -> Vec<u8> {
         unreachable!("the street program is no exported call")
     }

@@ -120,7 +120,7 @@ impl Call {
     pub(super) fn fit_lists(&mut self, before: usize) {
         let after = self.product_terms();
         match self {
-            Self::RelationMasks { out, .. } => *out = *out / before * after,
+            Self::RelationMasks { out, .. } => *out = (*out / before).saturating_mul(after),
             Self::RelationFinish { records, .. } => {
                 records.resize(records.len() / before * after, 0)
             }
