@@ -66,7 +66,7 @@ pub fn reduce(low: u64, high: u64) -> u32
     requires { ⌜ low + high < 18446744073709551616 ⌝ }
     ensures { λ r. ⌜ r ≡ (low + high * 2147483648) % p ⌝ }
 {
-    remainder(low + high)
+    ((low + high) % WIDE_P) as u32
 }
 
 // The inverse of x, and 0 for 0: with p = q u + r, 1/u is (p - q)/r, and r is smaller than u.

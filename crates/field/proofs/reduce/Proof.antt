@@ -5,4 +5,4 @@ use Rattle.field.proofs.reduce.Statement.{statement}
 use Rattle.field.proofs.reduce.Tie as tie
 
 pub reduce-spec : {M : Type 1} → statement M
-reduce-spec = tie.close (tie.spec (λ c. search needs) (λ c κs. search needs) (λ c. search (needs, folded)))
+reduce-spec = tie.close (tie.spec (λ c. search needs) (λ c. search needs) (λ c. search (needs, folded)))
