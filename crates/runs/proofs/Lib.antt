@@ -13,5 +13,6 @@ pub mod Facts
 pub mod Start
 pub mod Rows
 pub mod Kept
+pub mod Recalled
 pub mod Allowed
 pub mod Delivered

@@ -2,7 +2,7 @@
 use mathlib.Core.Path.{_≡_, refl, _∙_, ap}
 use mathlib.Core.List.{List, [], _∷_, map}
 use Rattle.poly.specs.Counting.{All}
-use Rattle.runs.specs.Outline.{Kinds, CallOf, loadRow, loadTriple, deal, message, opening, linear, masks, finish, Act, Taking, nothingTaken, aRowPack, aTriplePack, aNumber, aRecord, twoRecords, takes, Given, Move, Outline, outline, moves, sends, actsIn, acts, EveryFrom, Every, Filling, filled}
+use Rattle.runs.specs.Outline.{Kinds, CallOf, loadRow, loadTriple, deal, message, opening, linear, masks, collect, multiply, Act, Taking, nothingTaken, aRowPack, aTriplePack, aNumber, aRecord, twoRecords, takes, Given, Move, Outline, outline, moves, sends, actsIn, acts, EveryFrom, Every, Filling, filled}
 
 -- ---- P of each of a list
 
@@ -45,7 +45,8 @@ module _ {K K' : Kinds} (f : Filling K K') where
   outline-filled (opening x) = refl
   outline-filled (linear x) = refl
   outline-filled (masks x) = refl
-  outline-filled (finish x) = refl
+  outline-filled (collect x) = refl
+  outline-filled (multiply x) = refl
 
   pub moves-filled : (c : CallOf K) → moves (filled f c) ≡ map filledMove (moves c)
   moves-filled c = ap (λ (o : Outline K'). o .moves) (outline-filled c)

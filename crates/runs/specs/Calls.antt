@@ -18,7 +18,8 @@ use Rattle.sharing.specs.Linear.{linearAnswer, linearRows}
 use Rattle.opening.specs.Walking.{recordLength, badRecord}
 use Rattle.opening.specs.Opening.{openAnswer}
 use Rattle.product.specs.Masks.{masksAnswer, masksOut}
-use Rattle.product.specs.Finish.{finishAnswer, finishRows}
+use Rattle.product.specs.Collect.{collectAnswer}
+use Rattle.product.specs.Multiply.{multiplyAnswer, multiplyRows}
 use Rattle.forms.specs.Lines as Line
 use Rattle.forms.specs.Lines.{text}
 use Rattle.runs.specs.Draws.{Plan, Draw, pointOf}
@@ -56,8 +57,11 @@ module _ {K : Kinds} where
   abbrev pub masks : (a b r : ℕ) (lent : K .Lent) → CallOf K
   masks a b r lent = CallOf.masks (record { a = a; b = b; r = r; lent = lent })
 
-  abbrev pub finish : (r : ℕ) (blocksA blocksB : K .Record) → CallOf K
-  finish r blocksA blocksB = CallOf.finish (record { r = r; blocksA = blocksA; blocksB = blocksB })
+  abbrev pub collect : (r : ℕ) (blocksA blocksB : K .Record) → CallOf K
+  collect r blocksA blocksB = CallOf.collect (record { r = r; blocksA = blocksA; blocksB = blocksB })
+
+  abbrev pub multiply : (r : ℕ) → CallOf K
+  multiply r = CallOf.multiply (record { r = r })
 
 abbrev pub message : (r : ℕ) (lent : List ℕ) → Call
 message r lent = CallOf.message (record { r = r; lent = lent; heard = tt })
@@ -89,9 +93,8 @@ perform (CallOf.linear x) q =
 perform (CallOf.masks x) q =
     performed (masksAnswer (q .session) (q .rows) (x .a) (x .b) (x .r) (x .lent)) (q .rows)
     (masksOut (q .session) (q .rows) (x .a) (x .b) (x .r) (x .lent) ∷ [])
-perform (CallOf.finish x) q =
-    performed (finishAnswer (q .session) (q .rows) (x .r) (x .blocksA) (x .blocksB))
-    (finishRows (q .session) (q .rows) (x .r) (x .blocksA) (x .blocksB)) []
+perform (CallOf.collect x) q = performed (collectAnswer (q .session) (q .rows) (x .r) (x .blocksA) (x .blocksB)) (q .rows) []
+perform (CallOf.multiply x) q = performed (multiplyAnswer (q .session) (q .rows) (x .r)) (multiplyRows (q .session) (q .rows) (x .r)) []
 
 -- The post after a call; and a new one, "made with the draw's n and t, its own number and the check point the draw gives it,
 -- and with any fixed numbers in the row list".
