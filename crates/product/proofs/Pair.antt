@@ -2,18 +2,15 @@
 use Prim.Native.Nat.{ℕ, zero, suc, _+_, _<_}
 use mathlib.Core.Path.{_≡_, refl, sym, _∙_, ap, ap₂, subst}
 use mathlib.Core.Logic.{_≢_}
-use mathlib.Core.Bool.{Bool, false, not}
+use mathlib.Core.Bool.{Bool, false}
 use mathlib.Core.List.{List, [], _∷_, _++_}
 use native.Mathlib.Omega.{arith}
-use borrow.Author.Tests.{lt-ltb, le-ltb, eq-eqb}
-use lib.Dec.{eqb, ltb}
 use lib.ListN.{length, set}
 use lib.Seq.{getD-set-same, getD-set-other}
-use Rattle.field.specs.Modulus.{p}
-use Rattle.shape.specs.Bounds.{lastTriple, rowCount}
-use Rattle.shape.specs.Marks.{further, collected as collectedMark}
+use Rattle.shape.specs.Bounds.{rowCount}
+use Rattle.shape.specs.Marks.{collected as collectedMark}
 use Rattle.refusal.specs.Refusal.{Test, _when_, first, outcome, AllFail}
-use Rattle.refusal.specs.Conditions.{beyond, anyBeyond}
+use Rattle.refusal.specs.Conditions.{anyBeyond}
 use Rattle.refusal.proofs.Laws.{all-fail, not-refused}
 use Rattle.refusal.proofs.Endings.{accepted}
 use Rattle.session.specs.declared.Session.{Session}
@@ -23,14 +20,13 @@ use Rattle.session.specs.Rows.{width, rowAt}
 use Rattle.session.specs.Checks.{frameTests}
 use Rattle.session.proofs.Endings.{accepted-answer}
 use Rattle.opening.specs.Walking.{badRecord}
-use Rattle.opening.proofs.Passed.{clear-join}
 use Rattle.opening.proofs.Theorems.{opened-below}
 use Rattle.product.specs.Masks.{maskNumbers}
 use Rattle.product.specs.Finish.{maskA, maskB, finishPlace, finishMarks, unopened, finishTests, finishRefusal, finishAnswer, finishRows, productRow, withProduct}
 use Rattle.product.specs.Collect.{numberA, numberB, collectTests, collectRefusal, collectAnswer}
-use Rattle.product.specs.Multiply.{rememberedNumbers, multiplyRefusal, multiplyAnswer, multiplyRows}
+use Rattle.product.specs.Multiply.{multiplyRefusal, multiplyAnswer, multiplyRows}
 use Rattle.product.specs.Claims.{Whole, AsFinish, collectedSession, PairFinishes}
-use Rattle.product.proofs.Passed.{Collected, collected, multiplied, multiplyEarly}
+use Rattle.product.proofs.Passed.{Collected, collected, multiplied, multiply-clear}
 
 -- one more test among those that fail
 with-one : (xs ys : List Test) (k : ℕ) (b : Bool) → AllFail (xs ++ ys) → b ≡ false → AllFail (xs ++ (k when b ∷ ys))
@@ -102,38 +98,28 @@ module _ (s : Session) (rows : List ℕ) (r : ℕ) (l l' : List ℕ) (w : Whole 
     b-is : openedB between r ≡ y'
     b-is = getD-set-same (s .«y_b») r y' 0 (omega (arith, low, w .y-b))
 
-    is : (k m : ℕ) → mark between k ≡ m → not (eqb (mark between k) m) ≡ false
-    is k m e = ap not (eq-eqb (mark between k) m e)
-
     other : (k : ℕ) → k ≢ r → mark between k ≡ mark s k
     other k ne = getD-set-other (s .marks) r k collectedMark 0 ne
 
-    element : (x v : ℕ) → x ≡ v → v < p → beyond x ≡ false
-    element x v e h = ap not (ap (λ (k : ℕ). ltb k p) e ∙ lt-ltb v p h)
-
     second-done : multiplyRefusal between rows r ≡ 0
-    unfolding multiplyRefusal
     second-done =
         let f = passed .checked in
         let k = f .placed .factors in
         let n = f .numbers .rows-low in
-        clear-join (frameTests s rows) (multiplyEarly between r ++ rememberedNumbers (width s) rows r (openedA between r) (openedB between r)) tt
-        (f .frame)
-        (clear-join (multiplyEarly between r) (rememberedNumbers (width s) rows r (openedA between r) (openedB between r)) tt
-        (not-refused (multiplyEarly between r) (
-          le-ltb lastTriple r (k .triple-in),
-          (
-            is r collectedMark (getD-set-same (s .marks) r collectedMark 0 (omega (arith, low, w .marks))),
-            (
-              is (r + 1) further (other (r + 1) (λ e. omega arith) ∙ k .second-mark),
-              (is (r + 2) further (other (r + 2) (λ e. omega arith) ∙ k .third-mark), tt),
-            ),
-          ),
-        ))
-        (not-refused (rememberedNumbers (width s) rows r (openedA between r) (openedB between r)) (
-          element _ y a-is (opened-below s (maskA s rows r) l),
-          (element _ y' b-is (opened-below s (maskB s rows r) l'), (n .first-low, (n .second-low, (parts .1, tt)))),
-        )))
+        multiply-clear between rows r (f .frame)
+        (record {
+          triple-in = k .triple-in;
+          first-mark = getD-set-same (s .marks) r collectedMark 0 (omega (arith, low, w .marks));
+          second-mark = other (r + 1) (λ e. omega arith) ∙ k .second-mark;
+          third-mark = other (r + 2) (λ e. omega arith) ∙ k .third-mark;
+        })
+        (record {
+          a-element = rw a-is (opened-below s (maskA s rows r) l);
+          b-element = rw b-is (opened-below s (maskB s rows r) l');
+          first-low = n .first-low;
+          second-low = n .second-low;
+          third-low = parts .1;
+        })
 
     rows-same : multiplyRows between rows r ≡ finishRows s rows r l l'
     unfolding withProduct productRow

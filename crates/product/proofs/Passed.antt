@@ -16,7 +16,7 @@ use Rattle.refusal.specs.Refusal.{Test, _when_, first, orElse, AllFail}
 use Rattle.refusal.specs.Conditions.{anyBeyond}
 use Rattle.refusal.proofs.Laws.{first-join, equal, all-fail, not-refused}
 use Rattle.refusal.proofs.Groups.{fail-parts}
-use Rattle.refusal.proofs.Elements.{below-p}
+use Rattle.refusal.proofs.Elements.{below-p, element-test}
 use Rattle.session.specs.declared.Session.{Session}
 use Rattle.session.specs.Sessions.{shapeOf, mark, factorA, factorB, openedA, openedB}
 use Rattle.session.specs.Rows.{width, rowAt}
@@ -258,3 +258,23 @@ multiplied s rows r z =
       numbers =
           record { a-element = below-p _ a; b-element = below-p _ b; first-low = l; second-low = l'; third-low = l'' };
     }
+
+-- and back
+pub multiply-clear : (s : Session) (rows : List ℕ) (r : ℕ) → first (frameTests s rows) ≡ 0 → MultiplyPlaced s r → MultiplyLow s rows r
+    → multiplyRefusal s rows r ≡ 0
+unfolding multiplyRefusal
+multiply-clear s rows r frame k w =
+    let numbers = rememberedNumbers (width s) rows r (openedA s r) (openedB s r) in
+    clear-join (frameTests s rows) (multiplyEarly s r ++ numbers) tt frame
+    (clear-join (multiplyEarly s r) numbers tt
+    (not-refused (multiplyEarly s r) (
+      le-ltb lastTriple r (k .triple-in),
+      (is r collectedMark (k .first-mark), (is (r + 1) further (k .second-mark), (is (r + 2) further (k .third-mark), tt))),
+    ))
+    (not-refused numbers (
+      element-test _ (w .a-element),
+      (element-test _ (w .b-element), (w .first-low, (w .second-low, (w .third-low, tt)))),
+    )))
+  where
+    is : (x m : ℕ) → mark s x ≡ m → not (eqb (mark s x) m) ≡ false
+    is x m e = ap not (eq-eqb (mark s x) m e)
