@@ -240,21 +240,29 @@ pub record Multiplied (s : Session) (rows : List ℕ) (r : ℕ) : Type 0 where
 abbrev pub multiplyEarly : Session → ℕ → List Test
 multiplyEarly s r = 6 when noTriple r ∷ wrongMarks (s .marks) r collectedMark further further
 
+pub multiply-placed : (s : Session) (r : ℕ) → AllFail (multiplyEarly s r) → MultiplyPlaced s r
+multiply-placed s r h =
+    let (low, (one, (two, (three, _)))) = h in
+    record {
+      triple-in = ltb-false lastTriple r low;
+      first-mark = equal _ _ one;
+      second-mark = equal _ _ two;
+      third-mark = equal _ _ three;
+    }
+
+-- 8 of the two numbers and of the triple's rows, whether each is high
+abbrev pub multiplyTests : (a b first second third : Bool) → List Test
+multiplyTests a b first second third = 8 when a ∷ 8 when b ∷ 8 when first ∷ 8 when second ∷ 8 when third ∷ []
+
 pub multiplied : (s : Session) (rows : List ℕ) (r : ℕ) → multiplyRefusal s rows r ≡ 0 → Multiplied s rows r
 unfolding multiplyRefusal
 multiplied s rows r z =
     let numbers = rememberedNumbers (width s) rows r (openedA s r) (openedB s r) in
     let (frame, own) = allowed s rows (multiplyEarly s r ++ numbers) tt 0 (sym z) refl in
-    let ((low, (one, (two, (three, _)))), (a, (b, (l, (l', (l'', _)))))) = fail-parts (multiplyEarly s r) numbers own in
+    let (early, (a, (b, (l, (l', (l'', _)))))) = fail-parts (multiplyEarly s r) numbers own in
     record {
       framed = frame;
-      placed =
-          record {
-            triple-in = ltb-false lastTriple r low;
-            first-mark = equal _ _ one;
-            second-mark = equal _ _ two;
-            third-mark = equal _ _ three;
-          };
+      placed = multiply-placed s r early;
       numbers =
           record { a-element = below-p _ a; b-element = below-p _ b; first-low = l; second-low = l'; third-low = l'' };
     }

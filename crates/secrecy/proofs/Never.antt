@@ -22,13 +22,15 @@ use Rattle.opening.specs.Opening.{openChecks, openRefusal}
 use Rattle.opening.proofs.Passed.{walkTests, OpenChecked, open-checked, open-walks}
 use Rattle.product.specs.Masks.{masksTests, masksRefusal}
 use Rattle.product.specs.Finish as Finish
-use Rattle.product.specs.Finish.{finishChecks, finishRefusal, unopened}
-use Rattle.product.proofs.Passed.{FinishChecked, finish-checked, finish-walks}
+use Rattle.product.specs.Finish.{unopened}
+use Rattle.product.specs.Collect.{collectChecks, collectRefusal}
+use Rattle.product.specs.Multiply.{multiplyTests, multiplyRefusal}
+use Rattle.product.proofs.Passed.{CollectChecked, collect-checked, collect-walks}
 use Rattle.vectors.specs.Vector.{Vector, numbers}
 use Rattle.vectors.specs.Claims.{heldRow}
 use Rattle.vectors.proofs.Linear.{length-numbers}
 use Rattle.vectors.proofs.Theorems.{true-agree}
-use Rattle.runs.specs.Outline.{loadRow, loadTriple, deal, message, opening, linear, masks, finish}
+use Rattle.runs.specs.Outline.{loadRow, loadTriple, deal, message, opening, linear, masks, collect, multiply}
 use Rattle.runs.specs.Calls.{Proper, Post, newPost, after, masksLine, Among, Told, ToldHalf}
 use Rattle.runs.proofs.Marks.{Marks, rememberedA, rememberedB, maskVectorA, maskVectorB, rawVector, sessionAt}
 use Rattle.runs.proofs.Outcomes as Outcomes
@@ -98,10 +100,10 @@ module _ (C : Run) (m : Moment) (S : State C m) (i : ℕ) (lo : 1 ≤ i) (hi : i
   l = q i .rows
 
   abbrev s : Session
-  s = sessionAt plan draw i M
+  s = sessionAt plan draw i M (S .posts i lo hi .opened)
 
   abbrev holder : Holder
-  holder = record { plan = plan; draw = draw; len = len i; post = i; marks = M; vec = vec; rows = l; holds = S .posts i lo hi .holds }
+  holder = record { plan = plan; draw = draw; len = len i; post = i; marks = M; opened = S .posts i lo hi .opened; vec = vec; rows = l; holds = S .posts i lo hi .holds }
 
   -- true polynomials agree
   agrees : (x : List ℕ) (X : Vector) (bl : List ℕ) → x ≡ heldRow s X
@@ -135,32 +137,32 @@ module _ (C : Run) (m : Moment) (S : State C m) (i : ℕ) (lo : 1 ≤ i) (hi : i
   module _ (r : ℕ) (blA blB : List ℕ)
       (told-a : (j : ℕ) → 1 ≤ j → j ≤ plan .n → j ≢ i → Present s blA j → ToldHalf (plan .t) (take (plan .t + 1)) r lines j (blockCoefficients (plan .t + 1) blA j))
       (told-b : (j : ℕ) → 1 ≤ j → j ≤ plan .n → j ≢ i → Present s blB j → ToldHalf (plan .t) (drop (plan .t + 1)) r lines j (blockCoefficients (plan .t + 1) blB j))
-      (e : finishRefusal s l r blA blB ≡ 13) where
+      (e : collectRefusal s l r blA blB ≡ 13) where
     abbrev xa : List ℕ
     xa = Finish.maskA s l r
 
     abbrev xb : List ℕ
     xb = Finish.maskB s l r
 
-    g : FinishChecked s l r blA blB
-    unfolding finishRefusal
-    g = finish-checked s l r blA blB (none-before (finishChecks s l r blA blB) (unopened s xa xb blA blB) tt (omega arith) e)
+    g : CollectChecked s l r blA blB
+    unfolding collectRefusal
+    g = collect-checked s l r blA blB (none-before (collectChecks s l r blA blB) (unopened s xa xb blA blB) tt (omega arith) e)
 
     ok : Multiplying 5 M (rememberedA M r) (rememberedB M r) r
-    ok = multiplying plan draw i M l _ _ r 5 (g .placed .factors)
+    ok = multiplying plan draw i M (S .posts i lo hi .opened) l _ _ r 5 (g .placed .factors)
 
     -- what an M line of the triple shows of post j
     both-are : (j : ℕ) → 1 ≤ j → j ≤ plan .n → (both : List ℕ) → length both ≡ 2 * (plan .t + 1) → Elements both
         → Among (masksLine r j both) lines → both ≡ maskNumbers C M vec r j
     both-are j lj hj both many els st =
-        S .maskings r j both (record { row = omega (arith, ok .r-low); post = (lj, hj); many = many; low = els }) st .1 (ok .first)
+        S .maskings r j both (record { row = omega (arith, ok .r-low); post = (lj, hj); many = many; low = els }) st .1 (inl (ok .first))
 
     a-long : (j : ℕ) → length (numbers (plan .t + 1) (maskVectorA M vec r .v j)) ≡ plan .t + 1
     a-long j = length-numbers (plan .t + 1) (maskVectorA M vec r .v j)
 
-    finish-never : ⊥
-    finish-never =
-        let off = walks-off (tooFew s xa blA) (tooFew s xb blB) (disagree s xa blA) (disagree s xb blB) (sym (finish-walks s l r blA blB g) ∙ e) in
+    collect-never : ⊥
+    collect-never =
+        let off = walks-off (tooFew s xa blA) (tooFew s xb blB) (disagree s xa blA) (disagree s xb blB) (sym (collect-walks s l r blA blB g) ∙ e) in
         elim (off .2) [
           | inl away ↦ not-both away (agrees xa (maskVectorA M vec r) blA (opens-a holder r ok) (λ j lj hj ne there.
               let o = told-a j lj hj ne there in
@@ -171,7 +173,7 @@ module _ (C : Run) (m : Moment) (S : State C m) (i : ℕ) (lo : 1 ≤ i) (hi : i
         ]
 
   abbrev at-post : Post
-  at-post = postAt plan draw i M l
+  at-post = postAt plan draw i M (S .posts i lo hi .opened) l
 
   low : (ts : List Test) → Within ts → first ts ≡ 13 → ⊥
   low ts w e = omega (arith, most ts w)
@@ -200,6 +202,10 @@ module _ (C : Run) (m : Moment) (S : State C m) (i : ℕ) (lo : 1 ≤ i) (hi : i
   unfolding masksRefusal
   masks-never a b r out e = low (masksTests s l a b r out) (omega arith) e
 
+  multiply-never : (r : ℕ) → multiplyRefusal s l r ≡ 13 → ⊥
+  unfolding multiplyRefusal
+  multiply-never r e = low (multiplyTests s l r) (omega arith) e
+
   never-here : (c : Step) → Rule plan c 13 lines → Outcomes.refusalOf (callAt plan draw u lines i c) at-post ≡ 13 → ⊥
   never-here (loadRow x) rule e = load-never (x .r) _ e
   never-here (loadTriple x) rule e = triple-never (x .r) _ e
@@ -209,9 +215,10 @@ module _ (C : Run) (m : Moment) (S : State C m) (i : ℕ) (lo : 1 ≤ i) (hi : i
       opening-never (x .r) (x .blocks i lines) (λ j lj hj ne there. rule (inr (inr refl)) i j lo hi lj hj ne there) e
   never-here (linear x) rule e = linear-never (x .r) (x .a) (x .b) (x .scale) (x .fee) e
   never-here (masks x) rule e = masks-never (x .a) (x .b) (x .r) _ e
-  never-here (finish x) rule e =
-      finish-never (x .r) (x .blocksA i lines) (x .blocksB i lines) (λ j lj hj ne there. rule (inr (inr refl)) .0 i j lo hi lj hj ne there)
+  never-here (collect x) rule e =
+      collect-never (x .r) (x .blocksA i lines) (x .blocksB i lines) (λ j lj hj ne there. rule (inr (inr refl)) .0 i j lo hi lj hj ne there)
       (λ j lj hj ne there. rule (inr (inr refl)) .1 i j lo hi lj hj ne there) e
+  never-here (multiply x) rule e = multiply-never (x .r) e
 
   never-at : (c : Step) → Rule plan c 13 lines → Outcomes.refusalOf (callAt plan draw u lines i c) (q i) ≡ 13 → ⊥
   never-at c rule e =
