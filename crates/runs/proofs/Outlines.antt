@@ -6,7 +6,7 @@ use lib.ListN.{length}
 use Rattle.poly.specs.Counting.{All}
 use Rattle.terms.specs.declared.Term.{Term}
 use Rattle.terms.specs.Listed.{productsOf}
-use Rattle.runs.specs.Outline.{Kinds, CallOf, loadRow, loadTriple, deal, message, opening, linear, masks, finish, relationMasks, relationFinish, factoring, maskings, finishing, summing, factors, multiplies, Act, Taking, nothingTaken, aRowPack, aTriplePack, aNumber, aRecord, twoRecords, takes, Given, Move, Outline, outline, moves, sends, actsIn, acts, EveryFrom, Every, Filling, filled}
+use Rattle.runs.specs.Outline.{Kinds, CallOf, loadRow, loadTriple, deal, message, opening, linear, masks, collect, multiply, relationMasks, relationFinish, factoring, maskings, finishing, summing, factors, collects, multiplies, Act, Taking, nothingTaken, aRowPack, aTriplePack, aNumber, aRecord, twoRecords, takes, Given, Move, Outline, outline, moves, sends, actsIn, acts, EveryFrom, Every, Filling, filled}
 
 -- ---- P of each of a list
 
@@ -66,7 +66,8 @@ module _ {K K' : Kinds} (f : Filling K K') where
   outline-filled (opening x) = refl
   outline-filled (linear x) = refl
   outline-filled (masks x) = refl
-  outline-filled (finish x) = refl
+  outline-filled (collect x) = refl
+  outline-filled (multiply x) = refl
   outline-filled (relationMasks x) =
       ap (λ (ms : List (Move K')). record { moves = ms; sends = maskings (productsOf (x .terms)); heard = [] }) (factoring-filled (productsOf (x .terms)))
   outline-filled (relationFinish x) =
