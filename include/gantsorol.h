@@ -15,12 +15,12 @@
  *    5  a list's length is not exactly the one stated
  *    6  a row is above 95, or a triple's first row above 93
  *    7  a row's mark, or a remembered row, is not what the call needs
- *    8  a number that the call is given or reads is at least p, or a record's mark is above 1
- *    9  fewer than t+1 posts were accepted, in either record of a finish
+ *    8  a number that the call is given, reads or remembers is at least p, or a record's mark is above 1
+ *    9  fewer than t+1 posts were accepted, in either record of a product
  *   10  a line read has the wrong form
  *   11  a line read has a number out of range
  *   12  the list lent for a line or a file is shorter than that
- *   13  an accepted share is not on the polynomial of the t+1 lowest, in either record of a finish; looked at after 9
+ *   13  an accepted share is not on the polynomial of the t+1 lowest, in either record of a product; looked at after 9
  *   14  a relation has no terms, or more than 32; looked at after 5
  *
  * What a caller has to see to, because no call can: a list is passed as a pointer to its first number, aligned for its
@@ -90,11 +90,14 @@ typedef struct gantsorol_session {
     /* the post's check point, 1 to p - 1 */
     uint32_t point;
     /* of each row: 0 empty, 1 raw (random, not dealt), 2 held; 3 first row of an unused triple, 4 its second or third,
-       5 first row of a triple whose masks were sent, 6 spent */
+       5 first row of a triple whose masks were sent, 6 spent, 7 first row of a triple whose masks were opened */
     uint8_t marks[GANTSOROL_ROWS];
     /* the two factor rows that a triple's masks were sent for, at its first row */
     uint8_t factor_a[GANTSOROL_ROWS];
     uint8_t factor_b[GANTSOROL_ROWS];
+    /* the two numbers that a triple's masks were opened to, at its first row; they stay after the product */
+    uint32_t y_a[GANTSOROL_ROWS];
+    uint32_t y_b[GANTSOROL_ROWS];
 } gantsorol_session;
 
 /* What a call on a session hands back. */
@@ -194,7 +197,7 @@ gantsorol_answer gantsorol_linear(gantsorol_session session, uint32_t *rows, siz
                                   size_t b, uint32_t scale, uint32_t fee);
 
 /*
- * The first half of a product: for the held rows a and b, perhaps the same, and the unused triple l, l', l'' (marks 3, 4
+ * The first step of a product: for the held rows a and b, perhaps the same, and the unused triple l, l', l'' (marks 3, 4
  * and 4) that begins at the row first, writes the masks that the post sends to out: the t+1 coefficients of a - l, then
  * the t+1 of b - l'. The row first gets mark 5, so that a triple serves one product only, and a and b are remembered.
  * rows: GANTSOROL_ROWS_LEN, read. out: GANTSOROL_MASKS_LEN, written. Refusals 1 to 8.
@@ -203,15 +206,22 @@ gantsorol_answer gantsorol_masks(gantsorol_session session, const uint32_t *rows
                                  size_t first, uint32_t *out, size_t out_len);
 
 /*
- * The second half: opens a - l with the record record_a and b - l' with record_b, each as gantsorol_open does, and
- * writes the product of a and b into the row first + 2. The marks 5, 4 and 4 of the triple become 6, 6 and 2: the
- * product is held like a dealt number. A sender's block has the first t+1 numbers of its masks in record_a, the last
- * t+1 in record_b. The rows remembered must still be held. A refused finish may be called again, with other records.
- * rows: GANTSOROL_ROWS_LEN, written. record_a, record_b: GANTSOROL_RECORD_LEN each, read. Refusals 1 to 9, 13.
+ * The second step: opens a - l with the record record_a and b - l' with record_b, each as gantsorol_open does, and
+ * remembers the two numbers. The marks 5, 4 and 4 of the triple become 7, 4 and 4. A sender's block has the first t+1
+ * numbers of its masks in record_a, the last t+1 in record_b. The rows remembered must still be held. A refused collect
+ * may be called again, with other records; after one that was done, another gets 7.
+ * rows: GANTSOROL_ROWS_LEN, read. record_a, record_b: GANTSOROL_RECORD_LEN each, read. Refusals 1 to 9, 13.
  */
-gantsorol_answer gantsorol_finish(gantsorol_session session, uint32_t *rows, size_t rows_len, size_t first,
-                                  const uint32_t *record_a, size_t record_a_len, const uint32_t *record_b,
-                                  size_t record_b_len);
+gantsorol_answer gantsorol_collect(gantsorol_session session, const uint32_t *rows, size_t rows_len, size_t first,
+                                   const uint32_t *record_a, size_t record_a_len, const uint32_t *record_b,
+                                   size_t record_b_len);
+
+/*
+ * The third step: writes the product of a and b, from the two numbers remembered, into the row first + 2. The marks 7, 4
+ * and 4 of the triple become 6, 6 and 2: the product is held like a dealt number.
+ * rows: GANTSOROL_ROWS_LEN, written. Refusals 1 to 8.
+ */
+gantsorol_answer gantsorol_multiply(gantsorol_session session, uint32_t *rows, size_t rows_len, size_t first);
 
 /* ---- Relations ---- */
 

@@ -1,30 +1,24 @@
 -- A call that is not refused: the marks allow it, and the list of rows has its full length.
-use Prim.Native.Nat.{ℕ, _+_, _*_}
-use mathlib.Core.Path.{_≡_, refl, sym, _∙_, subst}
+use Prim.Native.Nat.{ℕ, _+_, _*_, _<_}
+use mathlib.Core.Path.{_≡_, refl}
 use mathlib.Core.Logic.{inl}
-use mathlib.Core.List.{List, _++_}
+use mathlib.Core.List.{List}
 use native.Mathlib.Omega.{arith}
 use lib.ListN.{length}
 use Rattle.session.specs.declared.Session.{Session}
 use Rattle.sharing.proofs.Passed.{row-loaded, triple-loaded, dealt, message-made, summed}
 use Rattle.opening.proofs.Passed.{row-opened, open-framed}
-use Rattle.product.proofs.Passed.{Factored, masks-made, finished, finish-framed}
-use Rattle.poly.specs.Counting.{All}
-use Rattle.poly.proofs.Lists.{all-map, all-zip}
-use Rattle.terms.specs.declared.Term.{Term}
-use Rattle.terms.specs.Listed.{productsOf}
-use Rattle.relation.proofs.Passed.{RelationFinishPlaced, relation-masks-made, relation-finished}
+use Rattle.product.proofs.Passed.{Factored, masks-made, collected, collect-framed, multiplied}
 use Rattle.runs.specs.Draws.{Plan, Draw}
-use Rattle.runs.specs.Outline.{loadRow, loadTriple, deal, message, opening, linear, masks, finish, relationMasks, relationFinish, takes, actsIn, finishing, summing, acts, sends}
-use Rattle.runs.specs.Calls.{Actual, Call}
-use Rattle.runs.proofs.Marks.{Marks, rememberedB, sessionAt}
+use Rattle.runs.specs.Outline.{loadRow, loadTriple, deal, message, opening, linear, masks, collect, multiply, acts, sends}
+use Rattle.runs.specs.Calls.{Call}
+use Rattle.runs.proofs.Marks.{Marks, Opened, sessionAt}
 use Rattle.runs.proofs.Outcomes.{refusalOf}
-use Rattle.runs.proofs.Facts.{AllowedAll, ReadyFor, Allowed, Multiplying}
-use Rattle.runs.proofs.Relations.{apart, Waits, finishedAll, allowed-masks, ready-masks, sending-masks, stays-all, products-held, allowed-products, ready-products, terms-held, allowed-sum, ready-sum}
+use Rattle.runs.proofs.Facts.{Allowed, Multiplying, Tripled}
 
-module _ (plan : Plan) (draw : Draw) (i : ℕ) (M : Marks) (l : List ℕ) where
+module _ (plan : Plan) (draw : Draw) (i : ℕ) (M : Marks) (Y : Opened) (l : List ℕ) where
   abbrev s : Session
-  s = sessionAt plan draw i M
+  s = sessionAt plan draw i M Y
 
   pub multiplying : (a b r m : ℕ) → Factored s a b r m → Multiplying m M a b r
   multiplying a b r m f = record {
@@ -38,37 +32,10 @@ module _ (plan : Plan) (draw : Draw) (i : ℕ) (M : Marks) (l : List ℕ) where
     third = f .third-mark;
   }
 
-  -- a relation's finish: its product terms wait; then its acts
-  pub waiting : (ts : List Term) (d : ℕ) (blocks : List ℕ) → RelationFinishPlaced s ts d blocks → All (Waits M) (productsOf ts)
-  waiting ts d blocks f =
-      all-zip (λ t k e. subst (λ (a : ℕ). Multiplying 5 M a (rememberedB M (t .first)) (t .first)) (sym (e .0))
-      (subst (λ (b : ℕ). Multiplying 5 M (t .row) b (t .first)) (sym (e .1)) (multiplying (t .row) (t .second) (t .first) 5 k)))
-      (productsOf ts) (f .factors) (f .remembered)
-
-  module _ (ts : List Term) (d : ℕ) (blocks : List ℕ) (f : RelationFinishPlaced s ts d blocks) where
-    abbrev fs : List Term
-    fs = productsOf ts
-
-    pub sum-allowed : AllowedAll (actsIn (summing {K = Actual} d ts)) (finishedAll (productsOf ts) M)
-    sum-allowed =
-        let w = waiting ts d blocks f in
-        let a = apart fs (f .once) in
-        allowed-sum (finishedAll fs M) d ts (f .some) (omega (arith, f .sum-in))
-        (stays-all fs M w a d (λ e. omega (arith, f .sum-empty)) (λ e. omega (arith, f .sum-empty)) ∙ f .sum-empty)
-        (terms-held (finishedAll fs M) ts
-        (all-map (λ t h. (omega (arith, h .0), stays-all fs M w a (t .row) (λ e. omega (arith, h .1)) (λ e. omega (arith, h .1)) ∙ h .1)) ts (f .terms-held))
-        (products-held fs M w a))
-
-    finish-allowed : (m : ℕ) → AllowedAll (actsIn (finishing {K = Actual} m blocks 0 (productsOf ts) ++ summing d ts)) M
-    finish-allowed m = allowed-products m blocks 0 fs (summing d ts) M (waiting ts d blocks f) (apart fs (f .once)) sum-allowed
-
-    finish-ready : (m : ℕ) → All (λ a. ReadyFor M (takes a)) (actsIn (finishing {K = Actual} m blocks 0 (productsOf ts) ++ summing d ts))
-    finish-ready m = ready-products m blocks 0 fs (summing d ts) M (waiting ts d blocks f) (ready-sum d ts M)
-
   abbrev Passes : Call → Type 0
   Passes c = Allowed (acts c) (sends c) M × (length l ≡ 96 * (plan .t + 1 + 2 * plan .n))
 
-  passes : (c : Call) → refusalOf c (record { session = sessionAt plan draw i M; rows = l }) ≡ 0 → Passes c
+  passes : (c : Call) → refusalOf c (record { session = sessionAt plan draw i M Y; rows = l }) ≡ 0 → Passes c
   passes (loadRow x) z =
       let f = row-loaded s l (x .r) (x .pack) z in
       (record { moving = (((omega (arith, f .row-in), f .is-empty), tt), tt); ready = (tt, tt); sending = tt }, f .framed .sized .length-is)
@@ -113,35 +80,20 @@ module _ (plan : Plan) (draw : Draw) (i : ℕ) (M : Marks) (l : List ℕ) where
       let f = masks-made s l (x .a) (x .b) (x .r) (x .lent) z in
       let m = multiplying (x .a) (x .b) (x .r) 3 (f .placed .factors) in
       (record { moving = ((tt, m), tt); ready = (tt, tt); sending = ((m, inl refl), tt) }, f .framed .sized .length-is)
-  passes (finish x) z =
-      let f = finished s l (x .r) (x .blocksA) (x .blocksB) z .checked in
+  passes (collect x) z =
+      let f = collected s l (x .r) (x .blocksA) (x .blocksB) z .checked in
       let m = multiplying _ _ (x .r) 5 (f .placed .factors) in (
         record { moving = ((m, tt), tt); ready = (m, tt); sending = tt },
-        finish-framed s l (x .r) (x .blocksA) (x .blocksB) f .sized .length-is,
+        collect-framed s l (x .r) (x .blocksA) (x .blocksB) f .sized .length-is,
       )
-  passes (relationMasks x) z =
-      let f = relation-masks-made s l (x .terms) (x .lent) z in
-      let fs = productsOf (x .terms) in
-      let h = all-map (λ t k. multiplying (t .row) (t .second) (t .first) 3 k) fs (f .placed .factors) in (
-        record {
-          moving = allowed-masks fs M h (apart fs (f .placed .once));
-          ready = ready-masks fs M;
-          sending = sending-masks (acts (relationMasks x)) M fs h (λ m a. a);
-        },
-        f .framed .sized .length-is,
-      )
-  passes (relationFinish x) z =
-      let f = relation-finished s (x .terms) (x .r) (x .blocks) l z .checked in (
-        record {
-          moving = finish-allowed (x .terms) (x .r) (x .blocks) (f .placed) _;
-          ready = finish-ready (x .terms) (x .r) (x .blocks) (f .placed) _;
-          sending = tt;
-        },
-        f .framed .sized .length-is,
-      )
+  passes (multiply x) z =
+      let f = multiplied s l (x .r) z in
+      let k = f .placed in
+      let m : Tripled 7 M (x .r) = record { r-low = omega (arith, k .triple-in); first = k .first-mark; second = k .second-mark; third = k .third-mark } in
+      (record { moving = ((m, tt), tt); ready = (tt, tt); sending = tt }, f .framed .sized .length-is)
 
-  pub allowed : (c : Call) → refusalOf c (record { session = sessionAt plan draw i M; rows = l }) ≡ 0 → Allowed (acts c) (sends c) M
+  pub allowed : (c : Call) → refusalOf c (record { session = sessionAt plan draw i M Y; rows = l }) ≡ 0 → Allowed (acts c) (sends c) M
   allowed c z = passes c z .0
 
-  pub room : (c : Call) → refusalOf c (record { session = sessionAt plan draw i M; rows = l }) ≡ 0 → length l ≡ 96 * (plan .t + 1 + 2 * plan .n)
+  pub room : (c : Call) → refusalOf c (record { session = sessionAt plan draw i M Y; rows = l }) ≡ 0 → length l ≡ 96 * (plan .t + 1 + 2 * plan .n)
   room c z = passes c z .1

@@ -6,9 +6,6 @@ pub mod Outcomes
 pub mod Packs
 pub mod Holds
 pub mod Finishing
-pub mod Related
-pub mod Standing
-pub mod Summed
 pub mod Steps
 pub mod Lines
 pub mod Records
@@ -16,6 +13,6 @@ pub mod Facts
 pub mod Start
 pub mod Rows
 pub mod Kept
-pub mod Relations
+pub mod Recalled
 pub mod Allowed
 pub mod Delivered

@@ -3,11 +3,9 @@ use Prim.Native.Nat.{ℕ, zero, suc, _+_}
 use mathlib.Core.Path.{_≡_, refl, _∙_, ap, ap₂}
 use mathlib.Core.List.{List, [], _∷_}
 use native.Mathlib.Omega.{arith}
-use lib.ListN.{length}
-use Rattle.shape.specs.Lengths.{masksLength}
 use Rattle.refusal.specs.Refusal.{outcome}
 use Rattle.session.specs.declared.Session.{Session}
-use Rattle.session.specs.Sessions.{shapeOf, answer, marked, remembering}
+use Rattle.session.specs.Sessions.{answer, openedA, openedB, marked, remembering, recalling}
 use Rattle.session.specs.Rows.{width, coefficients, sumsAt, rowAt, withRow, plusSums, summed}
 use Rattle.sharing.specs.Load.{loadRowRefusal, loadTripleRefusal, withTriple}
 use Rattle.sharing.specs.Deal.{dealRefusal}
@@ -16,12 +14,11 @@ use Rattle.sharing.specs.Linear.{linearRefusal}
 use Rattle.opening.specs.Walking.{opened}
 use Rattle.opening.specs.Opening.{openRefusal}
 use Rattle.product.specs.Masks.{masksRefusal, maskNumbersOf}
-use Rattle.product.specs.Finish.{finishRefusal, withProduct, maskA, maskB}
-use Rattle.terms.specs.Listed.{productsOf, collected, termsOf, factorsOf}
-use Rattle.relation.specs.Masks.{relationMasksRefusal, maskedTerms, termMasks}
-use Rattle.relation.specs.Finish.{relationFinishRefusal, withProducts, withSum, relationDone}
-use Rattle.runs.specs.Outline.{loadRow, loadTriple, deal, message, opening, linear, masks, finish, relationMasks, relationFinish, Sending}
-use Rattle.runs.specs.Calls.{Post, Call, Performed, performed, pieces, perform, after, lineOf, sentIf, sentBy}
+use Rattle.product.specs.Finish.{withProduct}
+use Rattle.product.specs.Collect.{numberA, numberB, collectRefusal}
+use Rattle.product.specs.Multiply.{multiplyRefusal}
+use Rattle.runs.specs.Outline.{loadRow, loadTriple, deal, message, opening, linear, masks, collect, multiply, Sending}
+use Rattle.runs.specs.Calls.{Post, Call, Performed, performed, perform, after, lineOf, sentIf, sentBy}
 
 -- ---- one answer
 
@@ -63,8 +60,8 @@ pub record Doing : Type 0 where
 abbrev changes : ℕ → Session → List ℕ → Doing
 changes k s rows = record { refusal = k; value = 0; session = s; rows = rows; lent = []; written = [] }
 
-abbrev writes : ℕ → Session → List ℕ → List (List ℕ) → List (List ℕ) → Doing
-writes k s rows lent written = record { refusal = k; value = 0; session = s; rows = rows; lent = lent; written = written }
+abbrev writes : ℕ → Session → List ℕ → List ℕ → List ℕ → Doing
+writes k s rows lent written = record { refusal = k; value = 0; session = s; rows = rows; lent = lent ∷ []; written = written ∷ [] }
 
 abbrev pub does : Call → Post → Doing
 does (loadRow x) q =
@@ -80,7 +77,7 @@ does (deal x) q =
     (withRow (width s) (x .r) (plusSums (sumsAt s) (x .c) (rowAt (width s) (q .rows) (x .r))) (q .rows))
 does (message x) q =
     let s = q .session in
-    writes (messageRefusal s (q .rows) (x .r) (x .lent)) s (q .rows) (x .lent ∷ []) (coefficients s (rowAt (width s) (q .rows) (x .r)) ∷ [])
+    writes (messageRefusal s (q .rows) (x .r) (x .lent)) s (q .rows) (x .lent) (coefficients s (rowAt (width s) (q .rows) (x .r)))
 does (opening x) q =
     let s = q .session in
     record {
@@ -98,22 +95,15 @@ does (linear x) q =
 does (masks x) q =
     let s = q .session in
     writes (masksRefusal s (q .rows) (x .a) (x .b) (x .r) (x .lent)) (remembering (marked s (x .r) 5) (x .r) (x .a) (x .b)) (q .rows)
-    (x .lent ∷ []) (maskNumbersOf s (q .rows) (x .a) (x .b) (x .r) ∷ [])
-does (finish x) q =
+    (x .lent) (maskNumbersOf s (q .rows) (x .a) (x .b) (x .r))
+does (collect x) q =
     let s = q .session in
-    changes (finishRefusal s (q .rows) (x .r) (x .blocksA) (x .blocksB)) (marked (marked (marked s (x .r) 6) (x .r + 1) 6) (x .r + 2) 2)
-    (withProduct s (opened s (maskA s (q .rows) (x .r)) (x .blocksA)) (opened s (maskB s (q .rows) (x .r)) (x .blocksB)) (x .r) (q .rows))
-does (relationMasks x) q =
+    changes (collectRefusal s (q .rows) (x .r) (x .blocksA) (x .blocksB))
+    (recalling (marked s (x .r) 7) (x .r) (numberA s (q .rows) (x .r) (x .blocksA)) (numberB s (q .rows) (x .r) (x .blocksB))) (q .rows)
+does (multiply x) q =
     let s = q .session in
-    let all = collected (x .terms) in
-    let lines = pieces (masksLength (shapeOf s)) (length (productsOf (x .terms))) in
-    writes (relationMasksRefusal s (q .rows) all (x .lent)) (maskedTerms s (factorsOf all)) (q .rows) (lines (x .lent))
-    (lines (termMasks (shapeOf s) (q .rows) (factorsOf all)))
-does (relationFinish x) q =
-    let s = q .session in
-    let all = collected (x .terms) in
-    changes (relationFinishRefusal s (q .rows) all (x .r) (x .blocks)) (relationDone s (factorsOf all) (x .r))
-    (withSum s (x .r) (termsOf all) (withProducts s (q .rows) (x .blocks) 0 (factorsOf all) (q .rows)))
+    changes (multiplyRefusal s (q .rows) (x .r)) (marked (marked (marked s (x .r) 6) (x .r + 1) 6) (x .r + 2) 2)
+    (withProduct s (openedA s (x .r)) (openedB s (x .r)) (x .r) (q .rows))
 
 -- "Refused ... every lent list as it came": the answer, the rows and the lent list of every contract are of this form
 abbrev performed-by : Doing → Post → Performed
@@ -128,25 +118,22 @@ module _ {A : Type 0} where
   still zero x = refl
   still (suc k) x = refl
 
-  -- the parts of a lent list
-  through : {B : Type 0} (f : A → B) (k : ℕ) (x y : A) → f (outcome k x y) ≡ outcome k (f x) (f y)
+  single : (k : ℕ) (x y : A) → outcome k x y ∷ [] ≡ outcome k (x ∷ []) (y ∷ [])
   unfolding outcome
-  through f zero x y = refl
-  through f (suc k) x y = refl
+  single zero x y = refl
+  single (suc k) x y = refl
 
 performs : (c : Call) (q : Post) → perform c q ≡ performed-by (does c q) q
 unfolding perform
 performs (loadRow x) q = ap (performed _ _) (still _ [])
 performs (loadTriple x) q = ap (performed _ _) (still _ [])
 performs (deal x) q = ap (performed _ _) (still _ [])
-performs (message x) q = ap₂ (performed _) (still _ (q .rows)) (through (λ (l : List ℕ). l ∷ []) _ _ _)
+performs (message x) q = ap₂ (performed _) (still _ (q .rows)) (single _ _ _)
 performs (opening x) q = ap₂ (performed _) (still _ (q .rows)) (still _ [])
 performs (linear x) q = ap (performed _ _) (still _ [])
-performs (masks x) q = ap₂ (performed _) (still _ (q .rows)) (through (λ (l : List ℕ). l ∷ []) _ _ _)
-performs (finish x) q = ap (performed _ _) (still _ [])
-performs (relationMasks x) q =
-    ap₂ (performed _) (still _ (q .rows)) (through (pieces (masksLength (shapeOf (q .session))) (length (productsOf (x .terms)))) _ _ _)
-performs (relationFinish x) q = ap (performed _ _) (still _ [])
+performs (masks x) q = ap₂ (performed _) (still _ (q .rows)) (single _ _ _)
+performs (collect x) q = ap₂ (performed _) (still _ (q .rows)) (still _ [])
+performs (multiply x) q = ap (performed _ _) (still _ [])
 
 abbrev pub refusalOf : Call → Post → ℕ
 refusalOf c q = does c q .refusal

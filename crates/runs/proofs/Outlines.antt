@@ -1,12 +1,8 @@
 -- A call with what comes from outside put in: the same acts, the same lines.
-use Prim.Native.Nat.{ℕ, suc, _+_, _*_}
-use mathlib.Core.Path.{_≡_, refl, sym, _∙_, ap}
-use mathlib.Core.List.{List, [], _∷_, _++_, map}
-use lib.ListN.{length}
+use mathlib.Core.Path.{_≡_, refl, _∙_, ap}
+use mathlib.Core.List.{List, [], _∷_, map}
 use Rattle.poly.specs.Counting.{All}
-use Rattle.terms.specs.declared.Term.{Term}
-use Rattle.terms.specs.Listed.{productsOf}
-use Rattle.runs.specs.Outline.{Kinds, CallOf, loadRow, loadTriple, deal, message, opening, linear, masks, finish, relationMasks, relationFinish, factoring, maskings, finishing, summing, factors, multiplies, Act, Taking, nothingTaken, aRowPack, aTriplePack, aNumber, aRecord, twoRecords, takes, Given, Move, Outline, outline, moves, sends, actsIn, acts, EveryFrom, Every, Filling, filled}
+use Rattle.runs.specs.Outline.{Kinds, CallOf, loadRow, loadTriple, deal, message, opening, linear, masks, collect, multiply, Act, Taking, nothingTaken, aRowPack, aTriplePack, aNumber, aRecord, twoRecords, takes, Given, Move, Outline, outline, moves, sends, actsIn, acts, EveryFrom, Every, Filling, filled}
 
 -- ---- P of each of a list
 
@@ -40,23 +36,6 @@ module _ {K K' : Kinds} (f : Filling K K') where
   abbrev pub filledMove : Move K → Move K'
   filledMove m = (m .0, givenBy (takes (m .0)) (m .1))
 
-  -- the acts of a relation's two calls
-  factoring-filled : (ts : List Term) → factoring ts ≡ map filledMove (factoring ts)
-  factoring-filled [] = refl
-  factoring-filled (t ∷ ts) = ap (λ (ms : List (Move K')). (factors (t .row) (t .second) (t .first), tt) ∷ ms) (factoring-filled ts)
-
-  summing-filled : (r : ℕ) (ts : List Term) → summing r ts ≡ map filledMove (summing r ts)
-  summing-filled r [] = refl
-  summing-filled r (t ∷ ts) = refl
-
-  finishing-filled : (m : ℕ) (blocks : K .Record) (k : ℕ) (ts : List Term) (r : ℕ) (all : List Term)
-      → finishing m (f .blocks blocks) k ts ++ summing r all ≡ map filledMove (finishing m blocks k ts ++ summing r all)
-  finishing-filled m blocks k [] r all = summing-filled r all
-  finishing-filled m blocks k (t ∷ ts) r all =
-      let ea = sym (f .parts m (2 * k) blocks) in
-      let eb = sym (f .parts m (2 * k + 1) blocks) in
-      λ j. (multiplies (t .first), (ea j, eb j)) ∷ finishing-filled m blocks (suc k) ts r all j
-
   pub outline-filled : (c : CallOf K)
       → outline (filled f c) ≡ record { moves = map filledMove (moves c); sends = sends c; heard = map (f .heard) (outline c .heard) }
   outline-filled (loadRow x) = refl
@@ -66,12 +45,8 @@ module _ {K K' : Kinds} (f : Filling K K') where
   outline-filled (opening x) = refl
   outline-filled (linear x) = refl
   outline-filled (masks x) = refl
-  outline-filled (finish x) = refl
-  outline-filled (relationMasks x) =
-      ap (λ (ms : List (Move K')). record { moves = ms; sends = maskings (productsOf (x .terms)); heard = [] }) (factoring-filled (productsOf (x .terms)))
-  outline-filled (relationFinish x) =
-      ap (λ (ms : List (Move K')). record { moves = ms; sends = []; heard = [] })
-      (finishing-filled (2 * length (productsOf (x .terms))) (x .blocks) 0 (productsOf (x .terms)) (x .r) (x .terms))
+  outline-filled (collect x) = refl
+  outline-filled (multiply x) = refl
 
   pub moves-filled : (c : CallOf K) → moves (filled f c) ≡ map filledMove (moves c)
   moves-filled c = ap (λ (o : Outline K'). o .moves) (outline-filled c)

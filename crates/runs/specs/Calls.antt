@@ -6,12 +6,11 @@ use mathlib.Core.Logic.{_⊎_}
 use mathlib.Core.Bool.{false, cond}
 use mathlib.Core.List.{List, [], _∷_}
 use lib.Dec.{eqb}
-use lib.ListN.{length, take, drop}
+use lib.ListN.{length}
 use Rattle.poly.specs.Counting.{Elements}
 use Rattle.session.specs.declared.Session.{Session}
 use Rattle.session.specs.declared.Answer.{Answer}
-use Rattle.shape.specs.Lengths.{masksLength}
-use Rattle.session.specs.Sessions.{created, shapeOf}
+use Rattle.session.specs.Sessions.{created}
 use Rattle.sharing.specs.Load.{loadRowAnswer, loadRowRows, loadTripleAnswer, loadTripleRows}
 use Rattle.sharing.specs.Deal.{dealAnswer, dealRows}
 use Rattle.sharing.specs.Message.{messageAnswer, messageOut}
@@ -19,15 +18,12 @@ use Rattle.sharing.specs.Linear.{linearAnswer, linearRows}
 use Rattle.opening.specs.Walking.{recordLength, badRecord}
 use Rattle.opening.specs.Opening.{openAnswer}
 use Rattle.product.specs.Masks.{masksAnswer, masksOut}
-use Rattle.product.specs.Finish.{finishAnswer, finishRows}
-use Rattle.terms.specs.declared.Term.{Term}
-use Rattle.terms.specs.Listed.{productsOf, collected}
-use Rattle.relation.specs.Masks.{relationMasksAnswer, relationMasksOut}
-use Rattle.relation.specs.Finish.{relationFinishAnswer, relationFinishRows}
+use Rattle.product.specs.Collect.{collectAnswer}
+use Rattle.product.specs.Multiply.{multiplyAnswer, multiplyRows}
 use Rattle.forms.specs.Lines as Line
 use Rattle.forms.specs.Lines.{text}
 use Rattle.runs.specs.Draws.{Plan, Draw, pointOf}
-use Rattle.runs.specs.Outline.{cut, Kinds, CallOf, Sending, itsOpening, itsMasks, sends}
+use Rattle.runs.specs.Outline.{Kinds, CallOf, Sending, itsOpening, itsMasks, sends}
 
 -- What a post keeps between calls: "each call gets the session and rows that the one before handed back".
 pub record Post : Type 0 where
@@ -36,7 +32,7 @@ pub record Post : Type 0 where
 
 -- A call that a post makes.
 abbrev pub Actual : Kinds
-Actual = record { Pack = List ℕ; Number = ℕ; Record = List ℕ; Lent = List ℕ; Heard = Unit {0}; part = cut }
+Actual = record { Pack = List ℕ; Number = ℕ; Record = List ℕ; Lent = List ℕ; Heard = Unit {0} }
 
 abbrev pub Call : Type 0
 Call = CallOf Actual
@@ -61,14 +57,11 @@ module _ {K : Kinds} where
   abbrev pub masks : (a b r : ℕ) (lent : K .Lent) → CallOf K
   masks a b r lent = CallOf.masks (record { a = a; b = b; r = r; lent = lent })
 
-  abbrev pub finish : (r : ℕ) (blocksA blocksB : K .Record) → CallOf K
-  finish r blocksA blocksB = CallOf.finish (record { r = r; blocksA = blocksA; blocksB = blocksB })
+  abbrev pub collect : (r : ℕ) (blocksA blocksB : K .Record) → CallOf K
+  collect r blocksA blocksB = CallOf.collect (record { r = r; blocksA = blocksA; blocksB = blocksB })
 
-  abbrev pub relationMasks : (terms : List Term) (lent : K .Lent) → CallOf K
-  relationMasks terms lent = CallOf.relationMasks (record { terms = terms; lent = lent })
-
-  abbrev pub relationFinish : (terms : List Term) (r : ℕ) (blocks : K .Record) → CallOf K
-  relationFinish terms r blocks = CallOf.relationFinish (record { terms = terms; r = r; blocks = blocks })
+  abbrev pub multiply : (r : ℕ) → CallOf K
+  multiply r = CallOf.multiply (record { r = r })
 
 abbrev pub message : (r : ℕ) (lent : List ℕ) → Call
 message r lent = CallOf.message (record { r = r; lent = lent; heard = tt })
@@ -82,11 +75,6 @@ pub record Performed : Type 0 where
 
 abbrev pub performed : Answer → List ℕ → List (List ℕ) → Performed
 performed answer rows lent = record { answer = answer; rows = rows; lent = lent }
-
--- The first m parts of w numbers of a list.
-abbrev pub pieces : (w m : ℕ) → List ℕ → List (List ℕ)
-pieces w zero xs = []
-pieces w (suc m) xs = take w xs ∷ pieces w m (drop w xs)
 
 -- Each call by the definitions that its contract cites.
 unfoldable pub perform : Call → Post → Performed
@@ -105,16 +93,8 @@ perform (CallOf.linear x) q =
 perform (CallOf.masks x) q =
     performed (masksAnswer (q .session) (q .rows) (x .a) (x .b) (x .r) (x .lent)) (q .rows)
     (masksOut (q .session) (q .rows) (x .a) (x .b) (x .r) (x .lent) ∷ [])
-perform (CallOf.finish x) q =
-    performed (finishAnswer (q .session) (q .rows) (x .r) (x .blocksA) (x .blocksB))
-    (finishRows (q .session) (q .rows) (x .r) (x .blocksA) (x .blocksB)) []
-perform (CallOf.relationMasks x) q =
-    performed (relationMasksAnswer (q .session) (q .rows) (collected (x .terms)) (x .lent)) (q .rows)
-    (pieces (masksLength (shapeOf (q .session))) (length (productsOf (x .terms)))
-    (relationMasksOut (q .session) (q .rows) (collected (x .terms)) (x .lent)))
-perform (CallOf.relationFinish x) q =
-    performed (relationFinishAnswer (q .session) (q .rows) (collected (x .terms)) (x .r) (x .blocks))
-    (relationFinishRows (q .session) (q .rows) (collected (x .terms)) (x .r) (x .blocks)) []
+perform (CallOf.collect x) q = performed (collectAnswer (q .session) (q .rows) (x .r) (x .blocksA) (x .blocksB)) (q .rows) []
+perform (CallOf.multiply x) q = performed (multiplyAnswer (q .session) (q .rows) (x .r)) (multiplyRows (q .session) (q .rows) (x .r)) []
 
 -- The post after a call; and a new one, "made with the draw's n and t, its own number and the check point the draw gives it,
 -- and with any fixed numbers in the row list".

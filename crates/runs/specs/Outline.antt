@@ -1,29 +1,18 @@
 -- Document 01, "Calls on a session", as data: what each call is given; what it does, act by act; what it takes from outside for
 -- that; and what it sends.
-use Prim.Native.Nat.{ℕ, suc, _+_, _*_, _/_}
-use mathlib.Core.Path.{_≡_}
-use mathlib.Core.List.{List, [], _∷_, _++_, map}
-use lib.ListN.{length}
-use Rattle.session.specs.Rows.{rowAt}
-use Rattle.terms.specs.declared.Term.{Term}
-use Rattle.terms.specs.Listed.{productsOf}
-use Rattle.relation.specs.Finish.{numberRow}
+use Prim.Native.Nat.{ℕ}
+use mathlib.Core.List.{List, [], _∷_, map}
 
 -- ---- What a call is given, but session and rows.
 
--- The j-th of m equal parts of a list, from 0 on.
-abbrev pub cut : (m j : ℕ) → List ℕ → List ℕ
-cut m j xs = rowAt (length xs / m) xs j
-
 -- What comes from outside: packs, dealers' numbers, records, lists to write into, and who makes a message. In a list of calls for
--- all posts (demand 3) these are of other kinds than in one post's call. `part m j` is one of m records that are lent as one list.
+-- all posts (demand 3) these are of other kinds than in one post's call.
 pub record Kinds : Type 1 where
   pub Pack : Type 0
   pub Number : Type 0
   pub Record : Type 0
   pub Lent : Type 0
   pub Heard : Type 0
-  pub part : (m j : ℕ) → Record → Record
 
 pub record ForLoad (K : Kinds) : Type 0 where
   pub r : ℕ
@@ -55,21 +44,13 @@ pub record ForMasks (K : Kinds) : Type 0 where
   pub r : ℕ
   pub lent : K .Lent
 
-pub record ForFinish (K : Kinds) : Type 0 where
+pub record ForCollect (K : Kinds) : Type 0 where
   pub r : ℕ
   pub blocksA : K .Record
   pub blocksB : K .Record
 
--- Document 02, (v): the terms, and one list for the masks of all product terms.
-pub record ForRelationMasks (K : Kinds) : Type 0 where
-  pub terms : List Term
-  pub lent : K .Lent
-
--- The terms, the sum's row, and the records of all product terms, which "follow one another by product term, those of a − l first".
-pub record ForRelationFinish (K : Kinds) : Type 0 where
-  pub terms : List Term
+pub record ForMultiply : Type 0 where
   pub r : ℕ
-  pub blocks : K .Record
 
 pub data CallOf (K : Kinds) : Type 0 where
   loadRow : ForLoad K → CallOf K
@@ -79,9 +60,8 @@ pub data CallOf (K : Kinds) : Type 0 where
   opening : ForOpening K → CallOf K
   linear : ForLinear → CallOf K
   masks : ForMasks K → CallOf K
-  finish : ForFinish K → CallOf K
-  relationMasks : ForRelationMasks K → CallOf K
-  relationFinish : ForRelationFinish K → CallOf K
+  collect : ForCollect K → CallOf K
+  multiply : ForMultiply → CallOf K
 
 -- ---- What it does and sends, where it is not refused.
 
@@ -92,7 +72,7 @@ pub data Summand : Type 0 where
   fee : (k : ℕ) → Summand
 
 -- An act: row r is loaded; the triple at r is; row r is dealt; row r is opened; row r becomes a sum, of one summand or more; the
--- triple at r waits with the factors a and b; its third row becomes their product.
+-- triple at r waits with the factors a and b; its masks are opened, and the numbers remembered; its third row becomes the product.
 pub data Act : Type 0 where
   loads : (r : ℕ) → Act
   loadsTriple : (r : ℕ) → Act
@@ -100,6 +80,7 @@ pub data Act : Type 0 where
   opens : (r : ℕ) → Act
   sums : (r : ℕ) (t : Summand) (ts : List Summand) → Act
   factors : (a b r : ℕ) → Act
+  collects : (r : ℕ) → Act
   multiplies : (r : ℕ) → Act
 
 -- What an act takes from outside: the pack of row r; of the triple at r; the number of row r's dealer; a record of row r; records
@@ -119,7 +100,8 @@ takes (deals r) = aNumber r
 takes (opens r) = aRecord r
 takes (sums r t ts) = nothingTaken
 takes (factors a b r) = nothingTaken
-takes (multiplies r) = twoRecords r
+takes (collects r) = twoRecords r
+takes (multiplies r) = nothingTaken
 
 abbrev pub Given : Kinds → Taking → Type 0
 Given K nothingTaken = Unit {0}
@@ -147,30 +129,6 @@ pub record Outline (K : Kinds) : Type 0 where
 abbrev acting : {K : Kinds} → List (Move K) → Outline K
 acting moves = record { moves = moves; sends = []; heard = [] }
 
--- "One call makes the masks of all product terms": for each of them what a single product's masks do and send.
-abbrev pub factoring : {K : Kinds} → List Term → List (Move K)
-factoring [] = []
-factoring (t ∷ ts) = (factors (t .row) (t .second) (t .first), tt) ∷ factoring ts
-
-abbrev pub maskings : List Term → List Sending
-maskings [] = []
-maskings (t ∷ ts) = itsMasks (t .row) (t .second) (t .first) ∷ maskings ts
-
--- "another finishes them": the product terms from place k on, each with its two of m records.
-abbrev pub finishing : {K : Kinds} → (m : ℕ) → K .Record → (k : ℕ) → List Term → List (Move K)
-finishing m blocks k [] = []
-finishing {K} m blocks k (t ∷ ts) =
-    (multiplies (t .first), (K .part m (2 * k) blocks, K .part m (2 * k + 1) blocks)) ∷ finishing m blocks (suc k) ts
-
--- "and stores the sum in an empty row": of each term its coefficient times its row, or times its product in the third row of its
--- triple. (A list of no terms is refused with 14.)
-abbrev pub summand : Term → Summand
-summand t = times (t .coefficient) (numberRow t)
-
-abbrev pub summing : {K : Kinds} → (r : ℕ) → List Term → List (Move K)
-summing r [] = []
-summing r (t ∷ ts) = (sums r (summand t) (map summand ts), tt) ∷ []
-
 abbrev pub outline : {K : Kinds} → CallOf K → Outline K
 outline (loadRow x) = acting ((loads (x .r), x .pack) ∷ [])
 outline (loadTriple x) = acting ((loadsTriple (x .r), x .pack) ∷ [])
@@ -180,11 +138,8 @@ outline (opening x) = acting ((opens (x .r), x .blocks) ∷ [])
 outline (linear x) = acting ((sums (x .r) (once (x .a)) (times (x .scale) (x .b) ∷ fee (x .fee) ∷ []), tt) ∷ [])
 outline (masks x) =
     record { moves = (factors (x .a) (x .b) (x .r), tt) ∷ []; sends = itsMasks (x .a) (x .b) (x .r) ∷ []; heard = [] }
-outline (finish x) = acting ((multiplies (x .r), (x .blocksA, x .blocksB)) ∷ [])
-outline (relationMasks x) =
-    record { moves = factoring (productsOf (x .terms)); sends = maskings (productsOf (x .terms)); heard = [] }
-outline (relationFinish x) =
-    acting (finishing (2 * length (productsOf (x .terms))) (x .blocks) 0 (productsOf (x .terms)) ++ summing (x .r) (x .terms))
+outline (collect x) = acting ((collects (x .r), (x .blocksA, x .blocksB)) ∷ [])
+outline (multiply x) = acting ((multiplies (x .r), tt) ∷ [])
 
 abbrev pub moves : {K : Kinds} → CallOf K → List (Move K)
 moves c = outline c .moves
@@ -216,8 +171,6 @@ pub record Filling (K K' : Kinds) : Type 0 where
   pub blocks : K .Record → K' .Record
   pub lent : K .Lent → K' .Lent
   pub heard : K .Heard → K' .Heard
-  -- of records that are lent as one list, each part by itself
-  pub parts : (m j : ℕ) (x : K .Record) → blocks (K .part m j x) ≡ K' .part m j (blocks x)
 
 abbrev pub filled : {K K' : Kinds} → Filling K K' → CallOf K → CallOf K'
 filled f (loadRow x) = loadRow (record { r = x .r; pack = f .row (x .pack) })
@@ -227,6 +180,5 @@ filled f (message x) = message (record { r = x .r; lent = f .lent (x .lent); hea
 filled f (opening x) = opening (record { r = x .r; blocks = f .blocks (x .blocks) })
 filled f (linear x) = linear x
 filled f (masks x) = masks (record { a = x .a; b = x .b; r = x .r; lent = f .lent (x .lent) })
-filled f (finish x) = finish (record { r = x .r; blocksA = f .blocks (x .blocksA); blocksB = f .blocks (x .blocksB) })
-filled f (relationMasks x) = relationMasks (record { terms = x .terms; lent = f .lent (x .lent) })
-filled f (relationFinish x) = relationFinish (record { terms = x .terms; r = x .r; blocks = f .blocks (x .blocks) })
+filled f (collect x) = collect (record { r = x .r; blocksA = f .blocks (x .blocksA); blocksB = f .blocks (x .blocksB) })
+filled f (multiply x) = multiply x

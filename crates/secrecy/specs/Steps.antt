@@ -1,15 +1,14 @@
 -- Document 01, "What a group of posts sees": "Demand 3's list holds loads and calls on a session." One list for all posts, who
 -- make its calls in step; of each call what is fixed, and what follows the draw.
 use Prim.Native.Nat.{ℕ}
-use mathlib.Core.Path.{refl}
 use mathlib.Core.Bool.{Bool, true}
 use mathlib.Core.List.{List, [], _∷_}
 use lib.ListN.{getD}
 use Rattle.factory.specs.Packs.{dealerNumber}
 use Rattle.runs.specs.Draws.{Plan, Draw, whenRaw, rawDraw, rawPack, triplePack}
-use Rattle.runs.specs.Outline.{cut, Kinds, CallOf, outline, Filling, filled}
+use Rattle.runs.specs.Outline.{Kinds, CallOf, outline, Filling, filled}
 use Rattle.runs.specs.Calls.{Actual, Call}
-pub use Rattle.runs.specs.Calls.{loadRow, loadTriple, deal, opening, linear, masks, finish, relationMasks, relationFinish}
+pub use Rattle.runs.specs.Calls.{loadRow, loadTriple, deal, opening, linear, masks, collect, multiply}
 
 -- "A list of secrets gives one u for each row with a dealer."
 abbrev pub Secrets : Type 0
@@ -37,15 +36,7 @@ Record = ℕ → List (List ℕ) → List ℕ
 -- A call of the list, with the numbers fixed in it; lent lists, which may differ from post to post, too. An opening message may
 -- be made by few posts: `heard` says by which. It changes nothing at a post, so one that is not heard stands for none.
 abbrev pub Fixed : Kinds
-Fixed =
-    record {
-      Pack = Pack;
-      Number = Number;
-      Record = Record;
-      Lent = ℕ → List ℕ;
-      Heard = ℕ → Bool;
-      part = λ m j blocks. λ i lines. cut m j (blocks i lines);
-    }
+Fixed = record { Pack = Pack; Number = Number; Record = Record; Lent = ℕ → List ℕ; Heard = ℕ → Bool }
 
 abbrev pub Step : Type 0
 Step = CallOf Fixed
@@ -71,7 +62,6 @@ filling plan draw u lines i =
       blocks = λ blocks. blocks i lines;
       lent = λ lent. lent i;
       heard = λ heard. tt;
-      parts = λ m j blocks. refl;
     }
 
 abbrev pub callAt : Plan → Draw → Secrets → List (List ℕ) → ℕ → Step → Call

@@ -45,6 +45,8 @@ fn check_fastest() {
                     marks,
                     factor_a: left,
                     factor_b: right,
+                    y_a: [0; gantsorol::ROWS],
+                    y_b: [0; gantsorol::ROWS],
                 };
                 let answer = fastest::open(session, &copy.rows, *row, record);
                 let (ours, expected) =

@@ -1,9 +1,9 @@
--- `finish::open_both` meets its contract.
+-- `collect::open_both` meets its contract.
 use borrow.Author.Needs.{needs}
 use Rattle.product.proofs.Finishing.{same-recorded, party-sized, party-row, party-first, party-second}
 use Rattle.product.proofs.Openings.{both-refused, both-opened}
-use Rattle.product.proofs.finish.open_both.Statement.{statement}
-use Rattle.product.proofs.finish.open_both.Tie as tie
+use Rattle.product.proofs.collect.open_both.Statement.{statement}
+use Rattle.product.proofs.collect.open_both.Tie as tie
 
 ruleset steps = (needs, same-recorded, party-sized, party-row, party-first, party-second)
 

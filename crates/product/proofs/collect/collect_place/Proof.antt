@@ -1,14 +1,14 @@
--- `finish::finish_place` meets its contract.
+-- `collect::collect_place` meets its contract.
 use borrow.Author.Needs.{needs}
 use Rattle.session.proofs.Calls.{same-valid}
 use Rattle.product.proofs.Finishing.{place-joined}
-use Rattle.product.proofs.finish.finish_place.Statement.{statement}
-use Rattle.product.proofs.finish.finish_place.Tie as tie
+use Rattle.product.proofs.collect.collect_place.Statement.{statement}
+use Rattle.product.proofs.collect.collect_place.Tie as tie
 
 ruleset steps = (needs, same-valid, place-joined)
 
-pub finish-place-spec : {M : Type 1} → statement M
-finish-place-spec =
+pub collect-place-spec : {M : Type 1} → statement M
+collect-place-spec =
     tie.close
     (tie.spec (λ c κs. search needs) (λ c κs. search steps) (λ c κs. search needs) (λ c κs. search needs)
     (λ c κs. search needs) (λ c κs. search needs) (λ c κs. search needs) (λ c. search steps))

@@ -1,11 +1,11 @@
--- `finish::finish_marks` meets its contract.
+-- `collect::collect_marks` meets its contract.
 use borrow.Author.Needs.{needs}
 use Rattle.product.proofs.Finishing.{marks-joined}
-use Rattle.product.proofs.finish.finish_marks.Statement.{statement}
-use Rattle.product.proofs.finish.finish_marks.Tie as tie
+use Rattle.product.proofs.collect.collect_marks.Statement.{statement}
+use Rattle.product.proofs.collect.collect_marks.Tie as tie
 
-pub finish-marks-spec : {M : Type 1} → statement M
-finish-marks-spec =
+pub collect-marks-spec : {M : Type 1} → statement M
+collect-marks-spec =
     tie.close
     (tie.spec (λ c κs. search needs) (λ c κs. search needs) (λ c κs. search needs) (λ c κs. search needs) (λ c κs. search needs)
     (λ c. search (needs, marks-joined)))
