@@ -98,7 +98,8 @@ fn masks_refusal(session: Session, rows: &[u32], all: Terms, out: &[u32]) -> u8
 // The masks of one product term, at place i of the lent list.
 fn write_mask(shape: Shape, rows: &[u32], term: Term, i: usize, out: &mut [u32])
     requires { ⌜ Sized shape (now rows) × Factors shape term × (i * masksLength shape + masksLength shape ≤ length (now out)) ⌝ }
-    ensures { λ r. ⌜ now (out .exit) ≡ withRow (masksLength shape) i (bothMasks shape (now (rows .entry)) (term .row) (term .second) (term .first)) (now (out .entry)) ⌝ }
+    ensures { λ r. ⌜ now (out .exit)
+        ≡ withRow (masksLength shape) i (bothMasks shape (now (rows .entry)) (term .row) (term .second) (term .first)) (now (out .entry)) ⌝ }
 {
     let size = shape.masks_len();
     let from = i * size;

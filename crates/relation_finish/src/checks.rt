@@ -157,7 +157,8 @@ fn marks(session: Session, all: Terms, dest: usize) -> u8
 
 // 8, of every term and of every record.
 fn all_numbers(session: Session, rows: &[u32], all: Terms, blocks: &[u32]) -> u8
-    requires { ⌜ Framed session (now rows) × Few all × Every (Placed (shapeOf session)) (termsOf all) × (length (now blocks) ≡ all .products * (2 * recordLength (shapeOf session))) ⌝ }
+    requires { ⌜ Framed session (now rows) × Few all × Every (Placed (shapeOf session)) (termsOf all)
+        × (length (now blocks) ≡ all .products * (2 * recordLength (shapeOf session))) ⌝ }
     ensures { λ r. ⌜ r ≡ first (finishNumbers session (now (rows .entry)) all (now (blocks .entry))) ⌝ }
 {
     refusal::or_else(

@@ -27,7 +27,8 @@ fn open_mask(
     blocks: &[u32],
     j: usize,
 ) -> Opened
-    requires { ⌜ Framed session (now rows) × RowIn (shapeOf session) factor × RowIn (shapeOf session) row × (j * recordLength (shapeOf session) + recordLength (shapeOf session) ≤ length (now blocks)) ⌝ }
+    requires { ⌜ Framed session (now rows) × RowIn (shapeOf session) factor × RowIn (shapeOf session) row
+        × (j * recordLength (shapeOf session) + recordLength (shapeOf session) ≤ length (now blocks)) ⌝ }
     ensures { λ r. ⌜ r ≡ openedRow session (maskRow (shapeOf session) (now (rows .entry)) factor row) (recordAt session (now (blocks .entry)) j) ⌝ }
 {
     let blocks = checks::record(session.shape(), blocks, j);
@@ -86,7 +87,8 @@ pub fn unopened(refusal: u8) -> OpenedTerms
 
 // Every product term's two numbers, or 9, or 13.
 pub fn open_terms(session: Session, rows: &[u32], all: Terms, blocks: &[u32]) -> OpenedTerms
-    requires { ⌜ Framed session (now rows) × Few all × Every (Factors (shapeOf session)) (factorsOf all) × (length (now blocks) ≡ all .products * (2 * recordLength (shapeOf session))) ⌝ }
+    requires { ⌜ Framed session (now rows) × Few all × Every (Factors (shapeOf session)) (factorsOf all)
+        × (length (now blocks) ≡ all .products * (2 * recordLength (shapeOf session))) ⌝ }
     ensures { λ r. ⌜ r ≡ openedAll session (now (rows .entry)) all (now (blocks .entry)) ⌝ }
 {
     let mut opened = unopened(0);

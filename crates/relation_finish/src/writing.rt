@@ -85,8 +85,10 @@ fn add_terms(session: Session, rows: &mut [u32], dest: usize, all: Terms)
 
 // The products, then the sum in its row.
 pub fn write(session: Session, rows: &mut [u32], all: Terms, dest: usize, opened: OpenedTerms)
-    requires { ⌜ Framed session (now rows) × Few all × Every (Placed (shapeOf session)) (termsOf all) × Every (Factors (shapeOf session)) (factorsOf all) × RowIn (shapeOf session) dest ⌝ }
-    ensures { λ r. ⌜ now (rows .exit) ≡ withSum session dest (termsOf all) (productsWritten session (opened .«y_a») (opened .«y_b») 0 (factorsOf all) (now (rows .entry))) ⌝ }
+    requires { ⌜ Framed session (now rows) × Few all × Every (Placed (shapeOf session)) (termsOf all)
+        × Every (Factors (shapeOf session)) (factorsOf all) × RowIn (shapeOf session) dest ⌝ }
+    ensures { λ r. ⌜ now (rows .exit)
+        ≡ withSum session dest (termsOf all) (productsWritten session (opened .«y_a») (opened .«y_b») 0 (factorsOf all) (now (rows .entry))) ⌝ }
 {
     write_products(session, rows, all, opened);
     clear_row(session.shape(), rows, dest);

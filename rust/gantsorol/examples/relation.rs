@@ -58,8 +58,7 @@ fn main() -> Result<(), Refusal> {
     let mut record = [0; record_len(N, T)];
     for (post, (session, rows)) in posts.iter_mut().enumerate() {
         let mut message = [0; T + 1];
-        (*session, _) =
-            session.clone().relation_finish(rows, &terms, SUM, &records).accepted()?;
+        (*session, _) = session.clone().relation_finish(rows, &terms, SUM, &records).accepted()?;
         (*session, _) = session.clone().opening_message(rows, SUM, &mut message).accepted()?;
         record_put(N, T, &mut record, post + 1, &message)?;
     }

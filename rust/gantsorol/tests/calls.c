@@ -124,10 +124,10 @@ static void multiply(void) {
     keep(0, gantsorol_multiply(posts[0], rows[0], ALL, 93));
 }
 
-/* Rows 0 and 1 multiplied once more, with the triple at row 90, less the product in row 95, and 3 times a number less itself. */
+/* Twice the product of rows 0 and 1, with the triple at row 90, less the product in row 95, and 3 times row 0: 31100. */
 static void relate(void) {
     const uint32_t minus = GANTSOROL_MODULUS - 1;
-    gantsorol_term terms[] = {{1, 0, 1, 90}, {minus, 95, GANTSOROL_NO_ROW, 0}, {3, 0, 255, 255}, {minus - 2, 0, 255, 0}};
+    gantsorol_term terms[] = {{2, 0, 1, 90}, {minus, 95, GANTSOROL_NO_ROW, 0}, {3, 0, GANTSOROL_NO_ROW, 255}};
     enum { TERMS = sizeof terms / sizeof *terms, RECORDS = GANTSOROL_RELATION_RECORDS_LEN(N, T, 1), MANY = 33 };
     uint32_t masks[MASKS], records[RECORDS] = {0}, record[RECORD], message[T + 1];
     gantsorol_term many[MANY];
@@ -140,7 +140,7 @@ static void relate(void) {
     printf("marks %d %d %d, of rows %d and %d\n", posts[0].marks[90], posts[0].marks[91], posts[0].marks[92],
            posts[0].factor_a[90], posts[0].factor_b[90]);
 
-    /* Refused: no terms, too many, lists for another count of product terms, rows, a triple twice, p, one post alone. */
+    /* Refused: no terms, too many, lists of another length, a used triple, rows, p, one post alone. */
     for (int i = 0; i < MANY; i++)
         many[i] = terms[2];
     keep(0, gantsorol_relation_masks(posts[0], rows[0], ALL, NULL, 0, NULL, 0));
@@ -153,9 +153,9 @@ static void relate(void) {
     terms[0].row = 1;
     keep(0, gantsorol_relation_finish(posts[0], rows[0], ALL, terms, TERMS, 2, records, RECORDS));
     terms[0].row = 0;
-    terms[3].coefficient = GANTSOROL_MODULUS;
+    terms[2].coefficient = GANTSOROL_MODULUS;
     keep(0, gantsorol_relation_finish(posts[0], rows[0], ALL, terms, TERMS, 2, records, RECORDS));
-    terms[3].coefficient = minus - 2;
+    terms[2].coefficient = 3;
     for (int i = 1; i < N; i++)
         gantsorol_record_remove(N, T, records + RECORD, RECORD, i + 1);
     keep(0, gantsorol_relation_finish(posts[0], rows[0], ALL, terms, TERMS, 2, records, RECORDS));

@@ -187,7 +187,9 @@ fn structs(paths: &[String]) -> BTreeMap<String, Vec<Typed>> {
 }
 
 fn exported_structs() -> BTreeMap<String, Vec<Typed>> {
-    structs(&["session", "terms", "factory", "lines"].map(|name| format!("crates/{name}/src/lib.rt")))
+    structs(
+        &["session", "terms", "factory", "lines"].map(|name| format!("crates/{name}/src/lib.rt")),
+    )
 }
 
 fn c_struct((name, fields): (&String, &Vec<Typed>)) -> String {

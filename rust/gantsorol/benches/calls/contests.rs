@@ -2,7 +2,7 @@
 
 use std::hint::black_box;
 
-use reference::{Library, Session, REFERENCE};
+use reference::{Library, Session, Term, REFERENCE};
 
 use crate::fastest;
 use crate::inputs::Inputs;
@@ -132,6 +132,51 @@ fn sums_and_products(i: &Inputs) -> Vec<Contest<'_>> {
     ]
 }
 
+/// A relation of two terms, a product with the triple at `first` and a plain one.
+fn relation(i: &Inputs, first: u8) -> ([gantsorol::Term; 2], [Term; 2]) {
+    let (one, other) = (i.numbers[0], i.numbers[1]);
+    let ours = [gantsorol::Term::product(one, 1, 2, first), gantsorol::Term::plain(other, 1)];
+    let second = ours.map(|gantsorol::Term { coefficient, row, second, first }| Term {
+        coefficient,
+        row: row.into(),
+        second: second.into(),
+        first: first.into(),
+    });
+    (ours, second)
+}
+
+fn relations(i: &Inputs) -> Vec<Contest<'_>> {
+    let masks = || vec![0; gantsorol::masks_len(i.t)];
+    let records = || i.masked.concat();
+    let ((unused, unused2), (masked, masked2)) = (relation(i, 3), relation(i, 6));
+    vec![
+        contest(
+            "relation masks",
+            {
+                let mut out = masks();
+                on_ours(i, move |s, rows| s.relation_masks(rows, &unused, &mut out))
+            },
+            {
+                let mut out = masks();
+                on_second(i, move |s, rows| REFERENCE.relation_masks(s, rows, &unused2, &mut out))
+            },
+        ),
+        contest(
+            "relation finish",
+            {
+                let records = records();
+                on_ours(i, move |s, rows| s.relation_finish(rows, &masked, 95, &records))
+            },
+            {
+                let records = records();
+                on_second(i, move |s, rows| {
+                    REFERENCE.relation_finish(s, rows, &masked2, &records, 95)
+                })
+            },
+        ),
+    ]
+}
+
 /// A call that fills a list of `length`.
 fn filling<'a, T: Clone + Default + 'a, R>(
     length: usize,
@@ -250,7 +295,7 @@ fn lines(i: &Inputs) -> Vec<Contest<'_>> {
 
 /// Every call, in the order of the library's document.
 pub fn all(i: &Inputs) -> Vec<Contest<'_>> {
-    [loading_and_dealing, openings, sums_and_products, factory, lines]
+    [loading_and_dealing, openings, sums_and_products, relations, factory, lines]
         .into_iter()
         .flat_map(|calls| calls(i))
         .collect()
