@@ -8,15 +8,17 @@ use borrow.Author.Tests.{ne-eqb}
 use lib.ListN.{length, take}
 use Rattle.transcript.specs.declared.Progress.{Progress}
 use Rattle.transcript.specs.Text.{header}
-use Rattle.transcript.specs.Program.{Running, running, closed, drained, passed, printedFor, begun, fed, Open}
-use Rattle.transcript.specs.Limits.{feedRefusal, Moved}
+use Rattle.transcript.specs.Program.{Running, running, closed, drained, passed, printedFor, begun, fed}
+use Rattle.transcript.specs.Between.{Open, Moved}
+use Rattle.transcript.specs.Limits.{feedRefusal}
 use Rattle.transcript.proofs.Admitting.{open-none}
 use Rattle.transcript.proofs.Whole.{chunks-print}
 use Rattle.console.specs.declared.Served.{Served}
 use Rattle.console.specs.declared.port.Got.{Got}
 use Rattle.console.specs.declared.port.Printed.{Printed}
 use Rattle.console.specs.Sizes.{allTurns, wrapped}
-use Rattle.console.specs.Serving.{Begun, brokenOff, Stopped, Finished, Ended}
+use Rattle.console.specs.Serving.{brokenOff, Ended}
+use Rattle.console.specs.Between.{Begun, Stopped, Finished}
 use Rattle.console.proofs.Feeding.{neither, handed-first}
 use Rattle.console.proofs.Turns.{count-more}
 

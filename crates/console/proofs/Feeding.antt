@@ -12,13 +12,15 @@ use lib.Seq.{length-take-le}
 use Rattle.io.specs.Counts.{clamped}
 use Rattle.transcript.specs.declared.Feed.{Feed}
 use Rattle.transcript.specs.declared.Progress.{Progress}
-use Rattle.transcript.specs.Program.{Running, running, fed, drained, drainedFeed, Open, Fed}
-use Rattle.transcript.specs.Limits.{feedRefusal, Moved}
+use Rattle.transcript.specs.Program.{Running, running, fed, drained, drainedFeed}
+use Rattle.transcript.specs.Between.{Open, Fed, Moved}
+use Rattle.transcript.specs.Limits.{feedRefusal}
 use Rattle.transcript.proofs.Admitting.{open-none}
 use Rattle.console.specs.declared.Served.{Served}
 use Rattle.console.specs.declared.port.Printed.{Printed}
 use Rattle.console.specs.Sizes.{chunkSize, wrapped}
-use Rattle.console.specs.Serving.{Handed, Answered, stopsAt, brokenOff}
+use Rattle.console.specs.Serving.{stopsAt, brokenOff}
+use Rattle.console.specs.Between.{Handed, Answered}
 
 pub prefix-length : (k : ℕ) (l : List ℕ) → k ≤ length l → k ≡ length (take k l)
 prefix-length k l h = sym (length-take-le k l h)

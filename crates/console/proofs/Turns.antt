@@ -14,12 +14,14 @@ use Rattle.interpreter.specs.Stepping.{Ready}
 use Rattle.console.proofs.Feeding.{neither, prefix-length}
 use Rattle.transcript.specs.declared.Feed.{Feed}
 use Rattle.transcript.specs.Text.{header}
-use Rattle.transcript.specs.Program.{Running, running, fed, drained, passed, printedFor, begun, firstFeed, Open}
+use Rattle.transcript.specs.Program.{Running, running, fed, drained, passed, printedFor, begun, firstFeed}
+use Rattle.transcript.specs.Between.{Open}
 use Rattle.transcript.proofs.Whole.{passed-more}
 use Rattle.console.specs.declared.Served.{Served}
 use Rattle.console.specs.declared.port.Printed.{Printed}
 use Rattle.console.specs.Sizes.{chunkSize, answersRoom, allTurns, wrapped}
-use Rattle.console.specs.Serving.{Fresh, Begun, Answered, stopsAt, Filled, Stopped}
+use Rattle.console.specs.Serving.{stopsAt, Filled}
+use Rattle.console.specs.Between.{Fresh, Begun, Answered, Stopped}
 
 -- ---- what was printed
 pub printed-more : (p : Running) (cs : List (List ℕ)) (c : List ℕ) → printedFor p (cs ++ (c ∷ [])) ≡ printedFor p cs ++ fed (passed p cs) c .out

@@ -1,3 +1,4 @@
 pub mod Sizes
 pub mod Serving
 pub mod Notes
+pub mod Between

@@ -10,9 +10,11 @@ ghost use mathlib.Core.Path.{_≡_};
 ghost use mathlib.Core.Bool.{true, not};
 ghost use Prim.Native.Nat.{_+_, _≤_};
 ghost use lib.ListN.{length, take};
-ghost use Rattle.transcript.specs.Program.{running, Open};
+ghost use Rattle.transcript.specs.Program.{running};
+ghost use Rattle.transcript.specs.Between.{Open};
 ghost use Rattle.console.specs.Sizes.{chunkSize, answersRoom};
-ghost use Rattle.console.specs.Serving.{Fresh, Begun, Answered, stopsAt, brokenOff, Stopped, Finished, Ended};
+ghost use Rattle.console.specs.Serving.{stopsAt, brokenOff, Ended};
+ghost use Rattle.console.specs.Between.{Fresh, Begun, Answered, Stopped, Finished};
 ghost use Rattle.console.specs.Notes.{noteFor};
 
 // Room for a chunk and for its answers: at most one for each byte.

@@ -6,3 +6,4 @@ pub mod Bytes
 pub mod Taken
 pub mod Feeding
 pub mod Theorems
+pub mod Reckoning

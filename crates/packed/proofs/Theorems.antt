@@ -1,19 +1,21 @@
 -- A post's file, fed to the street program, gives the session and rows that loading straight from the draw gives; every line gets 0.
-use Prim.Native.Nat.{ℕ, zero, suc, _-_, _≤_, _<_}
+use Prim.Native.Nat.{ℕ, zero, suc, _+_, _-_, _≤_, _<_}
 use mathlib.Core.Path.{_≡_, refl, sym, _∙_, ap, ap₂}
 use mathlib.Core.Bool.{false}
 use mathlib.Core.List.{List, [], _∷_, _++_}
 use native.Mathlib.Omega.{arith}
 use lib.Dec.{eqb}
 use lib.ListN.{length, drop, getD, replicate, length-replicate}
+use lib.Seq.{take-append-seam}
 use Rattle.field.specs.Modulus.{p}
 use Rattle.poly.specs.Counting.{Elements}
 use Rattle.shape.specs.Bounds.{rowCount}
 use Rattle.shape.specs.Lengths.{shape, rowsLength}
 use Rattle.shape.specs.Marks.{empty}
-use Rattle.refusal.specs.Refusal.{AllFail}
+use Rattle.refusal.specs.Refusal.{Test, outcome, AllFail}
 use Rattle.refusal.specs.Conditions.{badPoint, beyond, anyBeyond}
-use Rattle.refusal.proofs.Laws.{all-fail, or-false, equal}
+use Rattle.refusal.proofs.Laws.{all-fail, not-refused, or-false, equal}
+use Rattle.refusal.proofs.Groups.{fail-parts}
 use Rattle.refusal.proofs.Elements.{below-p}
 use Rattle.factory.specs.Packs.{anyBadPoint}
 use Rattle.session.specs.declared.Party.{Party}
@@ -24,10 +26,10 @@ use Rattle.transcript.specs.Program.{Running, leftBy, begun, fed, closed, outpu
 use Rattle.transcript.proofs.Chunks.{fed-append}
 use Rattle.packfile.specs.File.{startLine, rowLines, file}
 use Rattle.packfile.specs.Parts.{PostIn, Given}
-use Rattle.packfile.specs.Writing.{postAt, givenTests, givenRefusal}
+use Rattle.packfile.specs.Writing.{postAt, givenTests, givenRefusal, roomTests, packRefusal}
 use Rattle.packfile.proofs.Asking.{given-passed}
 use Rattle.packed.specs.Straight.{Loaded, rowsLoaded, straight}
-use Rattle.packed.specs.Claims.{loads, lineCount, noRefusals, programWith, Feeds, FileFeeds}
+use Rattle.packed.specs.Claims.{loads, lineCount, noRefusals, programWith, Feeds, FileFeeds, left, CallFeeds}
 use Rattle.packed.proofs.Loading.{sessionAt, at, Passed, new-loaded}
 use Rattle.packed.proofs.Ahead.{ahead-first}
 use Rattle.packed.proofs.Bytes.{between, fed-line}
@@ -130,3 +132,26 @@ module _ (n t post : ℕ) (points kinds draws : List ℕ) (street : n ≤ street
 
 pub file-feeds : FileFeeds
 file-feeds = feeds
+
+-- ---- the call
+module _ (n t post : ℕ) (points kinds draws out : List ℕ) (z : packRefusal n t post points kinds draws (length out) ≡ 0) where
+  abbrev text : List ℕ
+  text = file (postAt n t post points) kinds draws
+
+  abbrev room : List Test
+  room = roomTests (postAt n t post points) kinds draws (length out)
+
+  none-given : givenRefusal n t post points kinds draws ≡ 0
+  unfolding packRefusal givenRefusal
+  none-given =
+      let given : List Test = givenTests n t post points kinds draws in
+      not-refused given (fail-parts given room (all-fail (given ++ room) tt z) .0)
+
+  left-is : left n t post points kinds draws out ≡ text
+  unfolding outcome
+  left-is = rw z (take-append-seam text (drop (0 + length text) out))
+
+pub call-feeds : CallFeeds
+call-feeds n t post points kinds draws out street z =
+    ap (fed begun) (left-is n t post points kinds draws out z)
+    ∙ file-feeds n t post points kinds draws street (none-given n t post points kinds draws out z) .after

@@ -6,15 +6,16 @@ use mathlib.Core.Path.{_≡_}
 use mathlib.Core.Bool.{_||_, cond}
 use mathlib.Core.List.{List, [], _∷_, _++_}
 use lib.Dec.{eqb}
-use lib.ListN.{drop, replicate}
+use lib.ListN.{length, take, drop, replicate}
 use Rattle.shape.specs.Lengths.{shape, rowsLength}
 use Rattle.shape.specs.Marks.{raw, unused}
 use Rattle.store.specs.Sizes.{streetPosts, storeRoom}
 use Rattle.interpreter.specs.States.{firstState, begunWith}
 use Rattle.transcript.specs.Text.{header, answerText}
 use Rattle.transcript.specs.Program.{Running, begun, fed, output}
+use Rattle.lines.specs.Writing.{writtenAs, partAs}
 use Rattle.packfile.specs.File.{file}
-use Rattle.packfile.specs.Writing.{postAt, givenRefusal}
+use Rattle.packfile.specs.Writing.{postAt, givenRefusal, packRefusal}
 use Rattle.packed.specs.Straight.{Loaded, straight}
 
 -- A line for each row that is loaded, and the start line.
@@ -58,3 +59,15 @@ abbrev pub FileFeeds : Type 0
 FileFeeds =
     (n t post : ℕ) (points kinds draws : List ℕ) → n ≤ streetPosts → givenRefusal n t post points kinds draws ≡ 0
     → Feeds n t post points kinds draws
+
+-- The same of the call: the bytes that it leaves, as many as it answers, fed to the program.
+abbrev pub left : ℕ → ℕ → ℕ → List ℕ → List ℕ → List ℕ → List ℕ → List ℕ
+left n t post points kinds draws out =
+    let refusal = packRefusal n t post points kinds draws (length out) in
+    let text = file (postAt n t post points) kinds draws in
+    take (writtenAs refusal text .len) (partAs refusal text out)
+
+abbrev pub CallFeeds : Type 0
+CallFeeds =
+    (n t post : ℕ) (points kinds draws out : List ℕ) → n ≤ streetPosts → packRefusal n t post points kinds draws (length out) ≡ 0
+    → fed begun (left n t post points kinds draws out) ≡ programWith n t (straight n t post points kinds draws) (lineCount kinds)

@@ -1,2 +1,3 @@
 pub mod Straight
 pub mod Claims
+pub mod Example

@@ -13,8 +13,9 @@ use Rattle.transcript.specs.declared.Feed.{Feed}
 use Rattle.transcript.specs.declared.Progress.{Progress}
 use Rattle.transcript.specs.Text.{longestPrint}
 use Rattle.transcript.specs.Lines.{keptLength}
-use Rattle.transcript.specs.Program.{Running, running, Open, Added, Fed}
-use Rattle.transcript.specs.Limits.{lastNumber, feedTests, feedRefusal, Moved}
+use Rattle.transcript.specs.Program.{Running, running}
+use Rattle.transcript.specs.Between.{Open, Added, Fed, Moved}
+use Rattle.transcript.specs.Limits.{lastNumber, feedTests, feedRefusal}
 
 -- ---- the tests, one by one
 module _ (f : Feed) (line out : List ℕ) (k : ℕ) where

@@ -7,7 +7,8 @@ use native.Mathlib.Omega.{arith}
 use lib.ListN.{length, take, drop}
 use lib.Dec.{eqb}
 use Rattle.transcript.specs.Lines.{segment, keptLength, cut}
-use Rattle.transcript.specs.Program.{Running, answered, grown, taken, fed, segmented}
+use Rattle.transcript.specs.Program.{Running, answered, grown, taken, fed}
+use Rattle.transcript.specs.Between.{segmented}
 
 -- chunk by chunk
 pub fed-append : (p : Running) (s t : List ℕ) → fed p (s ++ t) ≡ fed (fed p s) t

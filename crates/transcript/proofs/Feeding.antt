@@ -24,7 +24,8 @@ use Rattle.interpreter.proofs.Room.{ready-step}
 use Rattle.transcript.specs.declared.Feed.{Feed}
 use Rattle.transcript.specs.Text.{longSize, longNumeral, answerText, longestAnswer, printText, printOf, longestPrint}
 use Rattle.transcript.specs.Lines.{keptLength, cut}
-use Rattle.transcript.specs.Program.{Running, leftBy, answered, grown, closed, firstFeed, running, segmented, Open, Added, Fed}
+use Rattle.transcript.specs.Program.{Running, leftBy, answered, grown, closed, firstFeed, running}
+use Rattle.transcript.specs.Between.{segmented, Open, Added, Fed}
 
 -- ---- an answer behind those before it
 written-front : (at : ℕ) (w l : List ℕ) → at ≤ length l → take (at + length w) (overwrite at w l) ≡ take at l ++ w

@@ -11,7 +11,8 @@ use lib.Dec.{eqb, ltb}
 use Rattle.csv.specs.Fields.{overwrite}
 use Rattle.csv.proofs.Overwriting.{overwrite-nothing, overwrite-twice}
 use Rattle.transcript.specs.Lines.{segment, keptLength, cut, laid}
-use Rattle.transcript.specs.Program.{Running, answered, grown, taken, segmented, lineAfter}
+use Rattle.transcript.specs.Program.{Running, answered, grown, taken}
+use Rattle.transcript.specs.Between.{segmented, lineAfter}
 use Rattle.transcript.proofs.Chunks.{segment-first, segmented-more}
 
 -- ---- one byte, then others

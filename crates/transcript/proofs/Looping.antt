@@ -7,7 +7,8 @@ use lib.ListN.{length, take, drop, length-drop, drop-of-length-le}
 use lib.Seq.{drop-drop, length-take-le}
 use Rattle.transcript.specs.declared.Feed.{Feed}
 use Rattle.transcript.specs.Lines.{segment, laid}
-use Rattle.transcript.specs.Program.{Running, fed, segmented, running, lineAfter, Open, Added, Fed}
+use Rattle.transcript.specs.Program.{Running, fed, running}
+use Rattle.transcript.specs.Between.{segmented, lineAfter, Open, Added, Fed}
 use Rattle.transcript.proofs.Chunks.{segment-some, segment-within, fed-segment}
 use Rattle.transcript.proofs.Laying.{line-after}
 

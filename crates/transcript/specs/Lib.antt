@@ -2,3 +2,4 @@ pub mod Text
 pub mod Lines
 pub mod Program
 pub mod Limits
+pub mod Between

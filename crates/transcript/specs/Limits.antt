@@ -1,6 +1,5 @@
--- What a call on bytes is refused for before it looks at them, and what it hands back.
+-- What a call on bytes is refused for before it looks at them.
 use Prim.Native.Nat.{ℕ, _+_, _*_}
-use mathlib.Core.Path.{_≡_}
 use mathlib.Core.List.{List, [], _∷_}
 use lib.ListN.{length}
 use lib.Dec.{ltb}
@@ -8,10 +7,8 @@ use Rattle.refusal.specs.Refusal.{Test, _when_, first, orElse}
 use Rattle.refusal.specs.Conditions.{wrongLength}
 use Rattle.interpreter.specs.Stepping.{roomRefusal}
 use Rattle.transcript.specs.declared.Feed.{Feed}
-use Rattle.transcript.specs.declared.Progress.{Progress}
 use Rattle.transcript.specs.Text.{longestPrint}
 use Rattle.transcript.specs.Lines.{keptLength}
-use Rattle.transcript.specs.Program.{Running, running, Added, Fed}
 
 -- The largest number of a line.
 abbrev pub lastNumber : ℕ
@@ -27,12 +24,3 @@ feedTests f line out k =
 -- 1, 2 and 5 as a step has them, then these.
 unfoldable pub feedRefusal : Feed → List ℕ → List ℕ → List ℕ → ℕ → ℕ
 feedRefusal f store line out k = orElse (roomRefusal (f .state) store) (first (feedTests f line out k))
-
--- The answer to k bytes, with the lists afterwards: all as it was, where they are refused; else the new state and the new line.
-pub record Moved (x k : ℕ) (f : Feed) (store line out : List ℕ) (new : Running) (newLine : List ℕ) (r : Progress) (store' line' out' : List ℕ) : Type 0 where
-  pub refusal-is : r .refusal ≡ x
-  pub refused : (x ≡ 0 → ⊥) → (r .feed ≡ f) × (store' ≡ store) × (line' ≡ line) × (out' ≡ out)
-  pub says : x ≡ 0 → running (r .feed) store' line' out' ≡ new
-  pub line-is : x ≡ 0 → line' ≡ newLine
-  pub left : x ≡ 0 → Fed f (r .feed) store' k
-  pub added : x ≡ 0 → Added f (r .feed) out out'

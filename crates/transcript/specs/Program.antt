@@ -1,17 +1,17 @@
 -- Document 01, "The street program", whole: from the bytes that it reads to the bytes that it prints.
-use Prim.Native.Nat.{ℕ, _+_, _-_, _*_, _≤_, _<_, _^_}
+use Prim.Native.Nat.{ℕ, _+_}
 use mathlib.Core.Path.{_≡_}
 use mathlib.Core.List.{List, [], _∷_, _++_}
 use mathlib.Core.Bool.{cond}
-use lib.ListN.{length, getD, take, drop, replicate}
+use lib.ListN.{length, take, replicate}
 use lib.Dec.{eqb}
 use Rattle.store.specs.Sizes.{storeRoom}
 use Rattle.interpreter.specs.declared.State.{State}
 use Rattle.interpreter.specs.States.{After, firstState}
-use Rattle.interpreter.specs.Stepping.{step, Ready}
+use Rattle.interpreter.specs.Stepping.{step}
 use Rattle.transcript.specs.declared.Feed.{Feed}
-use Rattle.transcript.specs.Text.{header, printText, longestPrint}
-use Rattle.transcript.specs.Lines.{cut, keptLength, laid}
+use Rattle.transcript.specs.Text.{header, printText}
+use Rattle.transcript.specs.Lines.{cut}
 
 -- The program between two bytes: what it keeps, the line begun, how many lines were answered, and what was printed.
 pub record Running : Type 0 where
@@ -121,8 +121,7 @@ printed input = header ++ answers firstState (replicate storeRoom 0) 1 (linesFro
 abbrev pub PrintsAnswers : Type 0
 PrintsAnswers = (input : List ℕ) → output input ≡ printed input
 
--- ---- between the functions of the code
--- What the code's values stand for.
+-- ---- what the code's values stand for
 abbrev pub running : Feed → List ℕ → List ℕ → List ℕ → Running
 running f store line out =
     record {
@@ -138,32 +137,3 @@ firstFeed = record { state = firstState; number = 0; len = 0; at = 0 }
 
 abbrev pub drainedFeed : Feed → Feed
 drainedFeed f = record { state = f .state; number = f .number; len = f .len; at = 0 }
-
--- What holds between bytes, with room for k more.
-pub record Open (f : Feed) (store line out : List ℕ) (k : ℕ) : Type 0 where
-  pub ready : Ready (f .state) store
-  pub line-room : length line ≡ keptLength
-  pub len-in : f .len ≤ keptLength
-  pub numbers : f .number + k < 2 ^ 64
-  pub room : f .at + longestPrint * k ≤ length out
-
--- A part of a line, which a line feed may end.
-abbrev pub segmented : Running → List ℕ → Running
-segmented p s = cond (eqb (getD s (length s - 1) 0) 10) (answered (grown p s)) (grown p s)
-
--- The lent line after bytes were taken one by one: a line feed ends a line, and the next is kept from the list's start on.
-unfoldable pub lineAfter : Running → List ℕ → List ℕ → List ℕ
-lineAfter p line [] = line
-lineAfter p line (b ∷ s) = lineAfter (taken p b) (laid (length (p .line)) (b ∷ []) line) s
-
--- Answers were put behind those before them, and what stands behind is as it was.
-pub record Added (f r : Feed) (out out' : List ℕ) : Type 0 where
-  pub grows : f .at ≤ r .at
-  pub behind : drop (r .at) out' ≡ drop (r .at) out
-
--- What is left after k bytes more.
-pub record Fed (f r : Feed) (store : List ℕ) (k : ℕ) : Type 0 where
-  pub ready : Ready (r .state) store
-  pub len-in : r .len ≤ keptLength
-  pub numbers : r .number ≤ f .number + k
-  pub room : r .at ≤ f .at + longestPrint * k

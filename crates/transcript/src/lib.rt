@@ -15,8 +15,9 @@ ghost use Rattle.interpreter.specs.Stepping.{step, Ready};
 ghost use Rattle.csv.specs.Fields.{overwrite};
 ghost use Rattle.transcript.specs.Text.{header, longSize, longNumeral, answerText, longestAnswer, printText, printOf, longestPrint};
 ghost use Rattle.transcript.specs.Lines.{segment, keptLength, cut, laid};
-ghost use Rattle.transcript.specs.Limits.{feedRefusal, Moved};
-ghost use Rattle.transcript.specs.Program.{running, answered, segmented, fed, closed, lineAfter, drainedFeed, firstFeed, Open, Added, Fed};
+ghost use Rattle.transcript.specs.Limits.{feedRefusal};
+ghost use Rattle.transcript.specs.Between.{Moved, segmented, lineAfter, Open, Added, Fed};
+ghost use Rattle.transcript.specs.Program.{running, answered, fed, closed, drainedFeed, firstFeed};
 
 // Of a line that is too long, one byte more than the longest line has is kept: enough to tell.
 pub const KEPT: usize = interpreter::LONGEST_LINE + 1;

@@ -1,0 +1,52 @@
+-- Between the functions of the code: what one hands to the next, up to the contract of `run`, which is `Ended` in `Serving.antt`. No
+-- theorem is stated with these.
+use Prim.Native.Nat.{ℕ, _+_}
+use mathlib.Core.Path.{_≡_}
+use mathlib.Core.Bool.{true, false}
+use mathlib.Core.List.{List, [], _∷_, _++_}
+use lib.ListN.{length, take}
+use Rattle.transcript.specs.Text.{header}
+use Rattle.transcript.specs.Lines.{keptLength}
+use Rattle.transcript.specs.Program.{Running, fed, closed, drained, begun}
+use Rattle.console.specs.declared.Served.{Served}
+use Rattle.console.specs.declared.port.Printed.{Printed}
+use Rattle.console.specs.Sizes.{chunkSize, answersRoom, allTurns, wrapped}
+use Rattle.console.specs.Serving.{stopsAt, brokenOff, Filled, after, printedUpTo}
+
+-- The lent lists before the first chunk.
+pub record Fresh (store line chunk out : List ℕ) : Type 0 where
+  pub store-zero : store ≡ begun .store
+  pub line-room : length line ≡ keptLength
+  pub chunk-room : length chunk ≡ chunkSize
+  pub out-room : length out ≡ answersRoom
+
+-- As many bytes as the header has were handed to print, and taken.
+pub record Begun (p : Printed) : Type 0 where
+  pub total-is : p .total ≡ length header
+  pub whole-is : p .whole ≡ true
+
+-- These answers stand at the list's start, and that many bytes were handed to standard output behind those before.
+pub record Handed (answers out : List ℕ) (before after : Printed) : Type 0 where
+  pub first : take (length answers) out ≡ answers
+  pub count : after .total ≡ wrapped (before .total + length answers)
+
+-- A chunk was taken, and as many bytes as its answers have were handed to print.
+pub record Answered (p q : Running) (chunk out : List ℕ) (before after : Printed) : Type 0 where
+  pub taken : q ≡ drained (fed p chunk)
+  pub handed : Handed (fed p chunk .out) out before after
+
+-- The program stopped after these chunks: the last is empty, its answers were not taken, or the turns ran out.
+pub record Stopped (p : Running) (s : Served) : Type 0 where
+  pub chunks : List (List ℕ)
+  pub last : List ℕ
+  pub filled : Filled chunks
+  pub read : length last ≡ s .got .count
+  pub passes : p ≡ after (chunks ++ (last ∷ []))
+  pub count : s .printed .total ≡ wrapped (length (printedUpTo (chunks ++ (last ∷ []))))
+  pub why : stopsAt s ≡ false → length chunks + 1 ≡ allTurns
+
+-- The end of the input ends a line that was begun. Where the program broke off nothing more is printed, and all stays as it was.
+pub record Finished (p q : Running) (out : List ℕ) (s r : Served) : Type 0 where
+  pub same : r .got ≡ s .got
+  pub broken : brokenOff s ≡ true → (q ≡ p) × (r .printed ≡ s .printed)
+  pub closes : brokenOff s ≡ false → (q ≡ closed p) × Handed (closed p .out) out (s .printed) (r .printed)

@@ -1,0 +1,17 @@
+-- The file reckoned by hand is the one that the definitions give.
+use mathlib.Core.Path.{refl}
+use Rattle.field.specs.Arithmetic.{sum, product}
+use Rattle.decimal.specs.Numeral.{lastDigits, sizeWithin}
+use Rattle.csv.specs.Fields.{fields}
+use Rattle.poly.specs.Polynomial.{value}
+use Rattle.refusal.specs.Conditions.{anyBeyond}
+use Rattle.factory.specs.Draw.{part, eachFrom}
+use Rattle.factory.specs.Packs.{anyBadPoint}
+use Rattle.packfile.specs.Kinds.{drawnFor, drawsLength, anyRow, late, crowded, unknown}
+use Rattle.packfile.specs.File.{postPart, tripleParts, numbersOf, rowLine, rowLines, startLine, file}
+use Rattle.packfile.specs.Writing.{givenRefusal}
+use Rattle.packed.specs.Example.{Reckoned}
+
+pub reckoned : Reckoned
+unfolding givenRefusal anyBadPoint anyBeyond drawsLength drawnFor anyRow late crowded unknown file startLine rowLines rowLine numbersOf tripleParts postPart part eachFrom value sum product fields lastDigits sizeWithin
+reckoned = record { given = refl; text = refl }
