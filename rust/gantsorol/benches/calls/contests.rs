@@ -127,7 +127,10 @@ fn sums_and_products(i: &Inputs) -> Vec<Contest<'_>> {
         contest(
             "collect, multiply",
             on_ours(i, move |s, rows| s.collect(rows, 6, left, right).session.multiply(rows, 6)),
-            on_second(i, move |s, rows| REFERENCE.finish(s, rows, 6, left, right)),
+            on_second(i, move |s, rows| {
+                let opened = REFERENCE.open_masks(s, rows, 6, left, right);
+                REFERENCE.multiply(opened.session, rows, 6)
+            }),
         ),
     ]
 }

@@ -34,15 +34,15 @@ fn from_environment<T: FromStr>(name: &str) -> Option<T> {
 }
 
 fn given(s: reference::Session) -> Session {
-    let reference::Session { n, t, post, point, marks, left, right } = s;
-    let [y_a, y_b] = [[0; gantsorol::ROWS]; 2];
-    Session { n, t, post, point, marks, factor_a: left, factor_b: right, y_a, y_b }
+    let reference::Session { n, t, post, point, marks, left, right, y, y2 } = s;
+    Session { n, t, post, point, marks, factor_a: left, factor_b: right, y_a: y, y_b: y2 }
 }
 
 fn answered(answer: gantsorol::Answer) -> Answer {
     let gantsorol::Answer { refusal, value, session } = answer;
-    let Session { n, t, post, point, marks, factor_a: left, factor_b: right, .. } = session;
-    let session = reference::Session { n, t, post, point, marks, left, right };
+    let Session { n, t, post, point, marks, factor_a: left, factor_b: right, y_a: y, y_b: y2 } =
+        session;
+    let session = reference::Session { n, t, post, point, marks, left, right, y, y2 };
     Answer { refusal, value, session }
 }
 
@@ -53,31 +53,6 @@ fn told(terms: &[reference::Term]) -> Vec<Term> {
         Term::product(coefficient, row(a), row(second), row(first))
     };
     terms.iter().map(term).collect()
-}
-
-/// The old finish, of the two calls that it became: a refused one leaves the session as it was, and its
-/// 8 of the triple's third row came before 9 and 13.
-fn finish(
-    session: Session,
-    rows: &mut [u32],
-    first: usize,
-    record_a: &[u32],
-    record_b: &[u32],
-) -> gantsorol::Answer {
-    let collected = session.clone().collect(rows, first, record_a, record_b);
-    let eight = |rows: &[u32]| {
-        let width = gantsorol::row_len(session.n, session.t);
-        rows[(first + 2) * width..][..width].iter().any(|&number| number >= gantsorol::MODULUS)
-    };
-    let refusal = match collected.refusal {
-        0 => collected.session.multiply(rows, first),
-        9 | 13 if eight(rows) => gantsorol::Answer { refusal: 8, ..collected },
-        _ => collected,
-    };
-    match refusal.refusal {
-        0 => refusal,
-        _ => gantsorol::Answer { session, ..refusal },
-    }
 }
 
 fn number_of(refused: Result<(), Refusal>) -> u8 {
@@ -156,15 +131,19 @@ impl Library for Verified {
         answered(given(s).masks(rows, a, b, first, out))
     }
 
-    fn finish(
+    fn open_masks(
         &self,
         s: reference::Session,
-        rows: &mut [u32],
+        rows: &[u32],
         first: usize,
         record: &[u32],
         record2: &[u32],
     ) -> Answer {
-        answered(finish(given(s), rows, first, record, record2))
+        answered(given(s).collect(rows, first, record, record2))
+    }
+
+    fn multiply(&self, s: reference::Session, rows: &mut [u32], first: usize) -> Answer {
+        answered(given(s).multiply(rows, first))
     }
 
     fn relation_masks(
