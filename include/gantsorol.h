@@ -245,8 +245,9 @@ gantsorol_answer gantsorol_relation_masks(gantsorol_session session, const uint3
                                           const gantsorol_term *terms, size_t terms_len, uint32_t *out, size_t out_len);
 
 /*
- * Finishes all product terms, each as gantsorol_finish does, and writes the sum of all terms into the empty row `row`,
- * which becomes held. Each term's rows must be held and each triple must remember its term's rows in their order (7). All
+ * Finishes all product terms, each as gantsorol_collect and then gantsorol_multiply do, and writes the sum of all terms
+ * into the empty row `row`, which becomes held. Each term's rows must be held and each triple, with the marks 5, 4 and 4,
+ * must remember its term's rows in their order (7); the two numbers that it opens to are remembered, and stay. All
  * checks come before the first write: a 9 or 13 of the last record leaves every triple as it was, and the call may be made
  * again with other records.
  * rows: GANTSOROL_ROWS_LEN, written. terms: 1 to GANTSOROL_MAX_TERMS, read. records: GANTSOROL_RELATION_RECORDS_LEN, read.
