@@ -118,7 +118,7 @@ does (relationMasks x) q =
 does (relationFinish x) q =
     let s = q .session in
     let all = collected (x .terms) in
-    changes (relationFinishRefusal s (q .rows) all (x .r) (x .blocks)) (relationDone s (factorsOf all) (x .r))
+    changes (relationFinishRefusal s (q .rows) all (x .r) (x .blocks)) (relationDone s (q .rows) (x .blocks) (factorsOf all) (x .r))
     (withSum s (x .r) (termsOf all) (withProducts s (q .rows) (x .blocks) 0 (factorsOf all) (q .rows)))
 
 -- "Refused ... every lent list as it came": the answer, the rows and the lent list of every contract are of this form

@@ -1,6 +1,6 @@
 -- One post, one call that is not refused: the post still holds its part of every row's vector; and what it then sends.
 use Prim.Native.Nat.{ℕ, suc, _+_, _≤_}
-use mathlib.Core.Path.{_≡_, refl, sym, _∙_, ap, subst}
+use mathlib.Core.Path.{_≡_, refl, sym, _∙_, ap, ap₂, subst}
 use mathlib.Core.List.{List}
 use native.Mathlib.Omega.{arith}
 use lib.ListN.{length, take}
@@ -87,7 +87,15 @@ module _ (H : Holder) where
         ap (maskedTerms s) e ∙ masked-session plan draw i (productsOf (x .terms)) M vec Y,
         masks-hold plan draw i len (productsOf (x .terms)) M Y vec l h (allowed plan draw i M Y l (relationMasks x) z .moving),
       )
-  made k is (relationFinish x) z fit = ?
+  made k is (relationFinish x) z fit =
+      let f = relation-finished s (x .terms) (x .r) (x .blocks) l z in
+      let ef = factors-again (x .terms) (f .checked .placed .few) in
+      let et = terms-again (x .terms) (f .checked .placed .few) in
+      let o = summed-up H (x .terms) (x .r) (x .blocks) f fit in (
+        ap (λ (fs : List Term). relationDone s l (x .blocks) fs (x .r)) ef ∙ o .0,
+        subst (Holds plan draw len i (marksAfter plan draw (relationFinish x) M) (vectorsAfter plan draw (relationFinish x) M vec))
+            (ap₂ (λ (ts fs : List Term). withSum s (x .r) ts (withProducts s l (x .blocks) 0 fs l)) (sym et) (sym ef)) (o .1),
+      )
 
   moved : Recalls M vec Y → IsDraw plan draw → (c : Call) → refusalOf c p0 ≡ 0 → Fits plan draw i M vec c
       → Stands plan draw len i (marksAfter plan draw c M) (vectorsAfter plan draw c M vec) (own (does c p0))
