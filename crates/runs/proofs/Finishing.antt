@@ -112,8 +112,8 @@ module _ (H : Holder) where
     before q lq ne = go (ℕ-discrete q r) (ℕ-discrete q (r + 1))
       where
         go : Dec (q ≡ r) → Dec (q ≡ r + 1) → markOf M q ≢ 0
-        go (yes e) d = λ g. omega (arith, f .placed .first-mark, ap (markOf M) e)
-        go (no e) (yes d) = λ g. omega (arith, f .placed .second-mark, ap (markOf M) d)
+        go (yes e) d = λ g. omega (arith, ok .first, ap (markOf M) e)
+        go (no e) (yes d) = λ g. omega (arith, ok .second, ap (markOf M) d)
         go (no e) (no d) =
             subst (λ (m : ℕ). m ≢ 0) (getD-set-other (set (M .marks) r 6) (r + 1) q 6 0 d ∙ getD-set-other (M .marks) r q 6 0 e) ne
 

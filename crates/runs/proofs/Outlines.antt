@@ -55,7 +55,7 @@ module _ {K K' : Kinds} (f : Filling K K') where
   finishing-filled m blocks k (t ∷ ts) r all =
       let ea = sym (f .parts m (2 * k) blocks) in
       let eb = sym (f .parts m (2 * k + 1) blocks) in
-      λ j. (multiplies (t .first), (ea j, eb j)) ∷ finishing-filled m blocks (suc k) ts r all j
+      λ j. (collects (t .first), (ea j, eb j)) ∷ (multiplies (t .first), tt) ∷ finishing-filled m blocks (suc k) ts r all j
 
   pub outline-filled : (c : CallOf K)
       → outline (filled f c) ≡ record { moves = map filledMove (moves c); sends = sends c; heard = map (f .heard) (outline c .heard) }

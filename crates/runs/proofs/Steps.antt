@@ -67,7 +67,7 @@ module _ (H : Holder) where
   made k is (opening x) z fit = (refl, h)
   made k is (linear x) z fit =
       (refl, linear-holds H (x .r) (x .a) (x .b) (x .scale) (x .fee) (summed s l (x .r) (x .a) (x .b) (x .scale) (x .fee) z))
-  made k is (masks x) z fit = (refl, masks-holds H (x .a) (x .b) (x .r) (masks-made s l (x .a) (x .b) (x .r) (x .lent) z .placed .factors))
+  made k is (masks x) z fit = (refl, masks-holds H (x .a) (x .b) (x .r) (masks-made s l (x .a) (x .b) (x .r) (x .lent) z .placed .factors .first-mark))
   made k is (collect x) z fit =
       let ok = allowed plan draw i M Y l (collect x) z .ready .0 in
       let f = collected s l (x .r) (x .blocksA) (x .blocksB) z in
