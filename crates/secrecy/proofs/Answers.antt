@@ -186,7 +186,7 @@ module _ (T : Two) (m : Moments) (R : Pair T m)
   alike (relationMasks x) rule =
       (Relations.relation-masks-same twin (x .terms) (x .lent i), λ z. refl)
   alike (relationFinish x) rule =
-      (Relations.relation-finish-same twin (x .terms) (x .r) (x .blocks i lines) (wait-numbers T m R), λ z. refl)
+      (Relations.relation-finish-same twin (x .terms) (x .r) (x .blocks i lines) (λ r five. wait-numbers T m R r (inl five)), λ z. refl)
 
   refusals : (c : Step) → Rule (T .plan) c (refusalOf (c1 c) p1) lines → refusalOf (c1 c) p1 ≡ refusalOf (c2 c) p2
   refusals c rule = alike c rule .0

@@ -13,25 +13,11 @@ use Rattle.sharing.specs.Deal.{dealTests, dealRefusal}
 use Rattle.sharing.specs.Message.{messageTests, messageRefusal}
 use Rattle.sharing.specs.Linear.{linearTests, linearRefusal}
 use Rattle.product.specs.Masks.{masksTests, masksRefusal}
-<<<<<<< HEAD
+use Rattle.product.specs.Multiply.{multiplyTests, multiplyRefusal}
 use Rattle.vectors.specs.Vector.{Vector}
-use Rattle.runs.specs.Outline.{loadRow, loadTriple, deal, message, opening, linear, masks, finish, relationMasks, relationFinish, moves}
+use Rattle.runs.specs.Outline.{loadRow, loadTriple, deal, message, opening, linear, masks, collect, multiply, relationMasks, relationFinish, moves}
 use Rattle.runs.specs.Calls.{Post, newPost, after}
 use Rattle.runs.proofs.Marks.{Marks, rawVector, sessionAt}
-=======
-use Rattle.product.specs.Finish as Finish
-use Rattle.product.specs.Finish.{unopened}
-use Rattle.product.specs.Collect.{collectChecks, collectRefusal}
-use Rattle.product.specs.Multiply.{multiplyTests, multiplyRefusal}
-use Rattle.product.proofs.Passed.{CollectChecked, collect-checked, collect-walks}
-use Rattle.vectors.specs.Vector.{Vector, numbers}
-use Rattle.vectors.specs.Claims.{heldRow}
-use Rattle.vectors.proofs.Linear.{length-numbers}
-use Rattle.vectors.proofs.Theorems.{true-agree}
-use Rattle.runs.specs.Outline.{loadRow, loadTriple, deal, message, opening, linear, masks, collect, multiply}
-use Rattle.runs.specs.Calls.{Proper, Post, newPost, after, masksLine, Among, Told, ToldHalf}
-use Rattle.runs.proofs.Marks.{Marks, rememberedA, rememberedB, maskVectorA, maskVectorB, rawVector, sessionAt}
->>>>>>> e5b6d6f8104edb93bbc52d43fa72c85b02aab595
 use Rattle.runs.proofs.Outcomes as Outcomes
 use Rattle.runs.proofs.Outcomes.{refusal-is}
 use Rattle.runs.proofs.Steps.{postAt, named}
@@ -46,7 +32,7 @@ use Rattle.secrecy.proofs.Advance.{advance}
 use Rattle.secrecy.proofs.Onward.{idle-state}
 use Rattle.secrecy.proofs.Runs.{same-refusal}
 use Rattle.runs.proofs.Outlines.{every-all}
-use Rattle.secrecy.proofs.Thirteen.{Other, never-first, opening-never, finish-never}
+use Rattle.secrecy.proofs.Thirteen.{Other, never-first, opening-never, collect-never}
 use Rattle.secrecy.proofs.Thirteens.{relation-masks-never, relation-finish-never}
 
 -- ---- one call, at one post
@@ -61,79 +47,6 @@ module _ (C : Run) (m : Moment) (S : State C m) (i : ℕ) (lo : 1 ≤ i) (hi : i
   abbrev s : Session
   s = sessionAt plan draw i M (S .posts i lo hi .opened)
 
-<<<<<<< HEAD
-=======
-  abbrev holder : Holder
-  holder = record { plan = plan; draw = draw; len = len i; post = i; marks = M; opened = S .posts i lo hi .opened; vec = vec; rows = l; holds = S .posts i lo hi .holds }
-
-  -- true polynomials agree
-  agrees : (x : List ℕ) (X : Vector) (bl : List ℕ) → x ≡ heldRow s X
-      → ((j : ℕ) → 1 ≤ j → j ≤ plan .n → j ≢ i → Present s bl j → blockCoefficients (plan .t + 1) bl j ≡ numbers (plan .t + 1) (X .v j))
-      → tooFew s x bl ≡ false → disagree s x bl ≡ false
-  agrees x X bl e theirs enough =
-      ap (λ (y : List ℕ). disagree s y bl) e
-      ∙ true-agree s X bl (sizes plan (C .sound) .n-element) (sym (ap (λ (y : List ℕ). tooFew s y bl) e) ∙ enough) (all-true s bl X theirs)
-
-  module _ (r : ℕ) (bl : List ℕ) (told : (j : ℕ) → 1 ≤ j → j ≤ plan .n → j ≢ i → Present s bl j → Told lines r j (blockCoefficients (plan .t + 1) bl j))
-      (e : openRefusal s l r bl ≡ 13) where
-    f : OpenChecked s l r bl
-    unfolding openRefusal
-    f = open-checked s l r bl (none-before (openChecks s l r bl) (walkTests s (rowAt (width s) l r) bl) tt (omega arith) e)
-
-    proper : Proper s bl
-    proper = record { long = f .placed .record-long; low = f .record-low }
-
-    opening-never : ⊥
-    opening-never =
-        let off = walk-off (tooFew s (rowAt (width s) l r) bl) (disagree s (rowAt (width s) l r) bl) (sym (open-walks s l r bl f) ∙ e) in
-        not-both (off .1)
-        (agrees (rowAt (width s) l r) (vec r) bl (held-row holder r 1 (f .placed .row-in) (f .placed .is-held))
-        (λ j lj hj ne there. S .openings r j _ (record {
-          row = f .placed .row-in;
-          post = (lj, hj);
-          many = block-many s bl j lj hj ne proper there;
-          low = block-low s bl j lj hj ne proper there;
-        }) (told j lj hj ne there) .1) (off .0))
-
-  module _ (r : ℕ) (blA blB : List ℕ)
-      (told-a : (j : ℕ) → 1 ≤ j → j ≤ plan .n → j ≢ i → Present s blA j → ToldHalf (plan .t) (take (plan .t + 1)) r lines j (blockCoefficients (plan .t + 1) blA j))
-      (told-b : (j : ℕ) → 1 ≤ j → j ≤ plan .n → j ≢ i → Present s blB j → ToldHalf (plan .t) (drop (plan .t + 1)) r lines j (blockCoefficients (plan .t + 1) blB j))
-      (e : collectRefusal s l r blA blB ≡ 13) where
-    abbrev xa : List ℕ
-    xa = Finish.maskA s l r
-
-    abbrev xb : List ℕ
-    xb = Finish.maskB s l r
-
-    g : CollectChecked s l r blA blB
-    unfolding collectRefusal
-    g = collect-checked s l r blA blB (none-before (collectChecks s l r blA blB) (unopened s xa xb blA blB) tt (omega arith) e)
-
-    ok : Multiplying 5 M (rememberedA M r) (rememberedB M r) r
-    ok = multiplying plan draw i M (S .posts i lo hi .opened) l _ _ r 5 (g .placed .factors)
-
-    -- what an M line of the triple shows of post j
-    both-are : (j : ℕ) → 1 ≤ j → j ≤ plan .n → (both : List ℕ) → length both ≡ 2 * (plan .t + 1) → Elements both
-        → Among (masksLine r j both) lines → both ≡ maskNumbers C M vec r j
-    both-are j lj hj both many els st =
-        S .maskings r j both (record { row = omega (arith, ok .r-low); post = (lj, hj); many = many; low = els }) st .1 (inl (ok .first))
-
-    a-long : (j : ℕ) → length (numbers (plan .t + 1) (maskVectorA M vec r .v j)) ≡ plan .t + 1
-    a-long j = length-numbers (plan .t + 1) (maskVectorA M vec r .v j)
-
-    collect-never : ⊥
-    collect-never =
-        let off = walks-off (tooFew s xa blA) (tooFew s xb blB) (disagree s xa blA) (disagree s xb blB) (sym (collect-walks s l r blA blB g) ∙ e) in
-        elim (off .2) [
-          | inl away ↦ not-both away (agrees xa (maskVectorA M vec r) blA (opens-a holder r ok) (λ j lj hj ne there.
-              let o = told-a j lj hj ne there in
-              o .4 ∙ ap (take (plan .t + 1)) (both-are j lj hj (o .0) (o .1) (o .2) (o .3)) ∙ take-at (numbers (plan .t + 1) (maskVectorA M vec r .v j)) _ (plan .t + 1) (a-long j)) (off .0))
-          | inr away ↦ not-both away (agrees xb (maskVectorB M vec r) blB (opens-b holder r ok) (λ j lj hj ne there.
-              let o = told-b j lj hj ne there in
-              o .4 ∙ ap (drop (plan .t + 1)) (both-are j lj hj (o .0) (o .1) (o .2) (o .3)) ∙ drop-at (numbers (plan .t + 1) (maskVectorA M vec r .v j)) _ (plan .t + 1) (a-long j)) (off .1))
-        ]
-
->>>>>>> e5b6d6f8104edb93bbc52d43fa72c85b02aab595
   abbrev at-post : Post
   at-post = postAt plan draw i M (S .posts i lo hi .opened) l
 
@@ -177,19 +90,13 @@ module _ (C : Run) (m : Moment) (S : State C m) (i : ℕ) (lo : 1 ≤ i) (hi : i
       opening-never C m S i lo hi (x .r) (x .blocks i lines) (λ j lj hj ne there. rule (inr (inr refl)) i j lo hi lj hj ne there) e
   never-here (linear x) rule e = linear-never (x .r) (x .a) (x .b) (x .scale) (x .fee) e
   never-here (masks x) rule e = masks-never (x .a) (x .b) (x .r) _ e
-<<<<<<< HEAD
-  never-here (finish x) rule e =
-      finish-never C m S i lo hi (x .r) (x .blocksA i lines) (x .blocksB i lines) e (λ j lj hj ne there. rule (inr (inr refl)) .0 i j lo hi lj hj ne there)
+  never-here (collect x) rule e =
+      collect-never C m S i lo hi (x .r) (x .blocksA i lines) (x .blocksB i lines) e (λ j lj hj ne there. rule (inr (inr refl)) .0 i j lo hi lj hj ne there)
       (λ j lj hj ne there. rule (inr (inr refl)) .1 i j lo hi lj hj ne there)
+  never-here (multiply x) rule e = multiply-never (x .r) e
   never-here (relationMasks x) rule e = relation-masks-never C m S i lo hi (x .terms) (x .lent i) e
   never-here (relationFinish x) rule e =
       relation-finish-never C m S i lo hi (x .terms) (x .r) (x .blocks) e (every-all _ (moves (relationFinish x)) rule)
-=======
-  never-here (collect x) rule e =
-      collect-never (x .r) (x .blocksA i lines) (x .blocksB i lines) (λ j lj hj ne there. rule (inr (inr refl)) .0 i j lo hi lj hj ne there)
-      (λ j lj hj ne there. rule (inr (inr refl)) .1 i j lo hi lj hj ne there) e
-  never-here (multiply x) rule e = multiply-never (x .r) e
->>>>>>> e5b6d6f8104edb93bbc52d43fa72c85b02aab595
 
   never-at : (c : Step) → Rule plan c 13 lines → Outcomes.refusalOf (callAt plan draw u lines i c) (q i) ≡ 13 → ⊥
   never-at c rule e =
