@@ -9,4 +9,5 @@ pub mod Openings
 pub mod Theorems
 pub mod Caught
 pub mod Parts
+pub mod Relating
 pub mod Relation

@@ -113,13 +113,13 @@ module _ (G : Stander) where
 
   -- ---- 1 to 5 and 8, at a post with a row that is not empty
 
-  frame-clear : (r m : ℕ) → markOf M r ≡ suc m → first (frameTests s l) ≡ 0
+  pub frame-clear : (r m : ℕ) → markOf M r ≡ suc m → first (frameTests s l) ≡ 0
   frame-clear r m e =
       clear-join (sessionTests (plan .n) (plan .t) i (pointOf draw i)) (5 when wrongLength l (rowsLength (shapeOf s)) ∷ []) tt
       (session-passes plan draw sound is i lo hi)
       (not-refused (5 when wrongLength l (rowsLength (shapeOf s)) ∷ []) (ap not (eq-eqb (length l) (rowsLength (shapeOf s)) (h .long ∙ full r (omega (arith, e)))), tt))
 
-  numbers-pass : (r m : ℕ) → markOf M r ≡ suc m → anyBeyond (row r) ≡ false
+  pub numbers-pass : (r m : ℕ) → markOf M r ≡ suc m → anyBeyond (row r) ≡ false
   unfolding rowOf
   numbers-pass r m e =
       ap anyBeyond (is-row r m e)

@@ -1,39 +1,52 @@
 -- A relation's number by the ledger, and what its row opens to.
-use Prim.Native.Nat.{ℕ, _+_, _*_, _%_, _≤_}
+use Prim.Native.Nat.{ℕ, suc, _+_, _*_, _%_, _≤_}
 use mathlib.Core.Path.{_≡_, refl, sym, _∙_, ap, ap₂, subst}
 use mathlib.Core.Bool.{Bool, true, false}
 use mathlib.Core.Logic.{inl}
 use mathlib.Core.List.{List, [], _∷_, _++_, map}
 use native.Mathlib.Nat.{add-mod, add-zero}
 use native.Mathlib.Omega.{arith}
-use lib.ListN.{length}
+use lib.ListN.{length, take, drop}
 use Rattle.field.specs.Modulus.{p}
 use Rattle.field.specs.Arithmetic as Arithmetic
 use Rattle.field.proofs.Residues.{mul-mod-mod}
 use Rattle.poly.specs.Counting.{All}
 use Rattle.poly.proofs.Lists.{all-zip, all-second}
+use Rattle.session.specs.declared.Session.{Session}
+use Rattle.session.specs.Sessions.{shapeOf}
+use Rattle.opening.specs.Walking.{tooFew, disagree}
+use Rattle.product.specs.Masks.{maskRow}
+use Rattle.vectors.specs.Vector.{Vector, numbers}
+use Rattle.vectors.specs.Claims.{heldRow}
+use Rattle.vectors.proofs.Theorems.{true-agree}
 use Rattle.terms.specs.declared.Term.{Term}
-use Rattle.terms.specs.Listed.{plain, productsOf}
+use Rattle.terms.specs.Listed.{plain, productsOf, collected}
 use Rattle.relation.specs.Tests.{byKind}
-use Rattle.relation.specs.Finish.{numberRow}
+use Rattle.relation.specs.Finish.{recordA, recordB, termMaskA, termMaskB, relationFinishAnswer}
 use Rattle.relation.proofs.Passed.{products-back, relation-finished}
 use Rattle.runs.specs.Draws.{Plan, Draw}
 use Rattle.runs.specs.Outline.{Move, moves, finishing, summand, summing}
 use Rattle.runs.specs.Calls.{Post, Actual, Call, relationFinish}
 use Rattle.runs.proofs.Outlines.{every-all}
 use Rattle.runs.proofs.Outcomes.{refusalOf, refusal-is}
-use Rattle.runs.proofs.Marks.{Marks, rememberedA, rememberedB}
-use Rattle.runs.proofs.Relations.{Waits}
+use Rattle.runs.proofs.Marks.{Marks, markOf, rememberedA, rememberedB, maskVectorA, maskVectorB}
 use Rattle.runs.proofs.Allowed.{waiting}
+use Rattle.runs.proofs.Start.{sizes}
 use Rattle.runs.proofs.Steps.{postAt, named}
 use Rattle.correctness.specs.History.{Event, World, doneBy, turn, history, begin, Each}
 use Rattle.correctness.specs.Ledger.{Ledger, Meaning, summed, product, WrittenBy, Written, PlainOf, of-times, of-more, of-product, Plain}
-use Rattle.correctness.specs.Truth.{OwnPart, TrueFinish}
-use Rattle.correctness.specs.Claim.{Premises}
-use Rattle.correctness.specs.Relation.{termSum, Named, SumIn, RelationIn, RelationNumber, RelationShown}
+use Rattle.correctness.specs.Truth.{TrueMask, TrueOf}
+use Rattle.correctness.specs.Claim.{Premises, howMany}
+use Rattle.correctness.specs.Relation.{termSum, SumIn, RelationIn, RelationNumber, RelationShown, EachAt, Ready, Enough, AllTrue, Related, RelationsFinish}
 use Rattle.correctness.proofs.Meanings.{one-number}
 use Rattle.correctness.proofs.Standing.{Good}
 use Rattle.correctness.proofs.Theorems.{end, lens, stands, correct}
+use Rattle.correctness.proofs.Accepting.{not-few}
+use Rattle.correctness.proofs.Fitting.{all-true-of, AllSaid, told-a, told-b}
+use Rattle.correctness.proofs.Permitted as Permitted
+use Rattle.correctness.proofs.Permitted.{Stander, standerOf}
+use Rattle.correctness.proofs.Openings.{mask-a, mask-b}
+use Rattle.correctness.proofs.Relating.{relation-few, relation-done, relation-otherwise}
 
 -- ---- by the ledger
 
@@ -150,3 +163,58 @@ relation-shown plan draw L S rows before behind i r ts records h lo hi among z =
         (stands plan draw L S rows before early .posts i lo hi among) ts r records
         (each-at S _ before behind (record { post = i; call = relationFinish ts r records }) (begin plan draw rows) (h .ledger) among z)
         (sym (refusal-is (relationFinish ts r records) (history before (begin plan draw rows) .posts i)) ∙ z)
+
+-- ---- the answer of a finish
+
+-- where each accepted polynomial of a term's two records is true, no share is off
+module _ (G : Stander) (S : ℕ → Type 0) (w : World) (said : AllSaid (G .plan) (G .draw) (G .ledger) (G .sound) (G .is-draw) S w) (blocks : List ℕ) where
+  open Stander G using (plan, draw, ledger as L, sound, is-draw as is, marks as M', vec, rows as l, known as f)
+
+  abbrev s : Session
+  s = Permitted.s G
+
+  abbrev H : (List ℕ → List ℕ) → ℕ → ℕ → List ℕ → Type 0
+  H = TrueMask S w (plan .t)
+
+  agrees : (x : List ℕ) (X : Vector) → x ≡ heldRow s X → (half : List ℕ → List ℕ) (r : ℕ)
+      → ((j : ℕ) → 1 ≤ j → j ≤ plan .n → (xs : List ℕ) → H half r j xs → xs ≡ numbers (plan .t + 1) (X .v j))
+      → (bl : List ℕ) → s .t + 1 ≤ howMany s x bl → TrueOf (H half r) s x bl → disagree s x bl ≡ false
+  agrees x X e half r theirs bl many t =
+      ap (λ (y : List ℕ). disagree s y bl) e
+      ∙ true-agree s X bl (sizes plan sound .n-element) (sym (ap (λ (y : List ℕ). tooFew s y bl) e) ∙ not-few s x bl many)
+      (all-true-of s X bl (H half r) x e (λ j lj hj ne o. theirs j lj hj _ o) t)
+
+  all-agree : (k : ℕ) (us : List Term)
+      → All (λ t. (markOf M' (t .first) ≡ 5) × (rememberedA M' (t .first) ≡ t .row) × (rememberedB M' (t .first) ≡ t .second)) us
+      → EachAt (Enough (Permitted.q G) blocks) k us → EachAt (AllTrue (TrueMask S w (plan .t)) (Permitted.q G) blocks) k us
+      → EachAt (λ k t. (disagree s (termMaskA s l t) (recordA s blocks k) ≡ false) × (disagree s (termMaskB s l t) (recordB s blocks k) ≡ false)) k us
+  all-agree k [] h e t = tt
+  all-agree k (u ∷ us) h e t =
+      let r = u .first in
+      let five = h .0 .0 in
+      let ok = Permitted.waiting G r five in (
+        (
+          agrees (termMaskA s l u) (maskVectorA M' vec r) (ap (λ (x : ℕ). maskRow (shapeOf s) l x r) (sym (h .0 .1)) ∙ mask-a G r five) (take (plan .t + 1)) r
+              (told-a plan draw L sound is S w said M' vec f r ok) (recordA s blocks k) (e .0 .0) (t .0 .0),
+          agrees (termMaskB s l u) (maskVectorB M' vec r) (ap (λ (x : ℕ). maskRow (shapeOf s) l x (r + 1)) (sym (h .0 .2)) ∙ mask-b G r five) (drop (plan .t + 1)) r
+              (told-b plan draw L sound is S w said M' vec f r ok) (recordB s blocks k) (e .0 .1) (t .0 .1),
+        ),
+        all-agree (suc k) us (h .1) (e .1) (t .1),
+      )
+
+pub relations-finish : RelationsFinish
+unfolding end
+relations-finish plan draw L S rows es h i lo hi among ts r blocks =
+    let v = stands plan draw L S rows es h in let g = v .posts i lo hi among in
+    let G = standerOf plan draw L (h .sound) (h .is-draw) _ i lo hi (w .posts i) g in
+    subst
+    (λ (q : Post). Ready q ts r blocks → Related (TrueMask S w (plan .t)) q ts blocks (relationFinishAnswer (q .session) (q .rows) (collected ts) r blocks))
+    (sym (named plan draw _ i (g .marks) (g .vec) (w .posts i) (g .stands)))
+    (λ ready. record {
+      few = relation-few G ts r blocks ready;
+      exact = λ e t. relation-done G ts r blocks ready e (all-agree G S w (v .lines) blocks 0 (productsOf ts) (ready .products) e t);
+      otherwise = relation-otherwise G ts r blocks ready;
+    })
+  where
+    w : World
+    w = history es (begin plan draw rows)

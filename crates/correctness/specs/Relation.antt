@@ -1,23 +1,27 @@
 -- Document 02, (v): "That row is opened, and under demand 2's premises the relation holds modulo p exactly when the number is 0."
-use Prim.Native.Nat.{ℕ, _+_, _*_, _%_, _≤_}
+use Prim.Native.Nat.{ℕ, suc, _+_, _*_, _%_, _≤_, _<_}
 use mathlib.Core.Path.{_≡_}
 use mathlib.Core.Bool.{false}
+use mathlib.Core.Logic.{_⊎_}
 use mathlib.Core.List.{List, [], _∷_, _++_, map}
+use lib.ListN.{length, take, drop}
 use Rattle.field.specs.Modulus.{p}
 use Rattle.poly.specs.Counting.{All}
 use Rattle.session.specs.declared.Answer.{Answer}
-use Rattle.session.specs.Sessions.{mark}
+use Rattle.session.specs.Sessions.{mark, factorA, factorB}
 use Rattle.session.specs.Rows.{width, rowAt}
+use Rattle.opening.specs.Walking.{recordLength, badRecord}
 use Rattle.opening.specs.Opening.{openAnswer}
 use Rattle.terms.specs.declared.Term.{Term}
-use Rattle.terms.specs.Listed.{plain, productsOf}
-use Rattle.relation.specs.Tests.{byKind}
+use Rattle.terms.specs.Listed.{plain, productsOf, collected}
+use Rattle.relation.specs.Tests.{byKind, namedTwice}
+use Rattle.relation.specs.Finish.{recordA, recordB, termMaskA, termMaskB, relationFinishAnswer}
 use Rattle.runs.specs.Draws.{Plan, Draw}
 use Rattle.runs.specs.Outline.{summand}
 use Rattle.runs.specs.Calls.{Post, relationFinish, Proper}
 use Rattle.correctness.specs.History.{Event, World, doneBy, history, begin}
 use Rattle.correctness.specs.Ledger.{Ledger, summed, product, Plain}
-use Rattle.correctness.specs.Truth.{TruePolynomial, TrueOf}
+use Rattle.correctness.specs.Truth.{TruePolynomial, TrueMask, TrueOf}
 use Rattle.correctness.specs.Claim.{Premises, howMany}
 
 -- The sum over the terms of coefficient × (a or a × b), where `number` gives each row its number.
@@ -76,3 +80,56 @@ RelationShown =
     → RelationIn L r ts
     × ((number : ℕ → ℕ) → Named L number ts → (j : ℕ) → 1 ≤ j → j ≤ plan .n → S j
     → ShownAt S (history (before ++ (e ∷ behind)) w) r number ts j))
+
+-- ---- The answer of a relation's finish, as `Finishes` has that of a single one.
+
+-- P holds of every product term and its place, which is k for the first; of one of them.
+abbrev pub EachAt : (ℕ → Term → Type 0) → ℕ → List Term → Type 0
+EachAt P k [] = Unit {0}
+EachAt P k (t ∷ ts) = P k t × EachAt P (suc k) ts
+
+abbrev pub OneAt : (ℕ → Term → Type 0) → ℕ → List Term → Type 0
+OneAt P k [] = ⊥
+OneAt P k (t ∷ ts) = P k t ⊎ OneAt P (suc k) ts
+
+-- A relation with one to 32 terms: their rows are held, and their coefficients elements; each product term's triple waits with the
+-- term's rows, and is named once; the sum's row is empty; the records are such that 5 and 8 let them pass.
+pub record Ready (q : Post) (ts : List Term) (r : ℕ) (blocks : List ℕ) : Type 0 where
+  pub count : (1 ≤ length ts) × (length ts ≤ 32)
+  pub terms : All (λ t. (mark (q .session) (t .row) ≡ 2) × (t .coefficient < p)) ts
+  pub products : All (λ t. (mark (q .session) (t .first) ≡ 5) × (factorA (q .session) (t .first) ≡ t .row) × (factorB (q .session) (t .first) ≡ t .second)) (productsOf ts)
+  pub once : namedTwice (productsOf ts) ≡ false
+  pub empty : (r < 96) × (mark (q .session) r ≡ 0)
+  pub long : length blocks ≡ length (productsOf ts) * (2 * recordLength (q .session))
+  pub low : EachAt (λ k t. (badRecord (q .session) (recordA (q .session) blocks k) ≡ false) × (badRecord (q .session) (recordB (q .session) blocks k) ≡ false)) 0 (productsOf ts)
+
+-- Of both records of the product term at place k: fewer than t+1 are accepted of one; t+1 or more of each; each that is accepted is
+-- true, where H half r j xs says that xs is truly that half of j's masks of the triple at r.
+abbrev pub Few : Post → List ℕ → ℕ → Term → Type 0
+Few q blocks k t =
+    let s = q .session in
+    (howMany s (termMaskA s (q .rows) t) (recordA s blocks k) ≤ s .t) ⊎ (howMany s (termMaskB s (q .rows) t) (recordB s blocks k) ≤ s .t)
+
+abbrev pub Enough : Post → List ℕ → ℕ → Term → Type 0
+Enough q blocks k t =
+    let s = q .session in
+    (s .t + 1 ≤ howMany s (termMaskA s (q .rows) t) (recordA s blocks k)) × (s .t + 1 ≤ howMany s (termMaskB s (q .rows) t) (recordB s blocks k))
+
+abbrev pub AllTrue : ((List ℕ → List ℕ) → ℕ → ℕ → List ℕ → Type 0) → Post → List ℕ → ℕ → Term → Type 0
+AllTrue H q blocks k t =
+    let s = q .session in
+    TrueOf (H (take (s .t + 1)) (t .first)) s (termMaskA s (q .rows) t) (recordA s blocks k)
+    × TrueOf (H (drop (s .t + 1)) (t .first)) s (termMaskB s (q .rows) t) (recordB s blocks k)
+
+-- 9, where any record has too few; done, where each accepted polynomial of all is true; otherwise done, or 13.
+pub record Related (H : (List ℕ → List ℕ) → ℕ → ℕ → List ℕ → Type 0) (q : Post) (ts : List Term) (blocks : List ℕ) (o : Answer) : Type 0 where
+  pub few : OneAt (Few q blocks) 0 (productsOf ts) → o .refusal ≡ 9
+  pub exact : EachAt (Enough q blocks) 0 (productsOf ts) → EachAt (AllTrue H q blocks) 0 (productsOf ts) → o .refusal ≡ 0
+  pub otherwise : EachAt (Enough q blocks) 0 (productsOf ts) → (o .refusal ≡ 0) ⊎ (o .refusal ≡ 13)
+
+abbrev pub RelationsFinish : Type 1
+RelationsFinish =
+    (plan : Plan) (draw : Draw) (L : Ledger) (S : ℕ → Type 0) (rows : ℕ → List ℕ) (es : List Event)
+    → Premises plan draw L S es (begin plan draw rows) → (i : ℕ) → 1 ≤ i → i ≤ plan .n → S i → (ts : List Term) (r : ℕ) (blocks : List ℕ)
+    → (let w = history es (begin plan draw rows) in let q = w .posts i in
+    Ready q ts r blocks → Related (TrueMask S w (plan .t)) q ts blocks (relationFinishAnswer (q .session) (q .rows) (collected ts) r blocks))

@@ -32,6 +32,10 @@ use Rattle.product.specs.Masks.{masksRefusal, maskNumbersOf}
 use Rattle.product.specs.Finish.{productRow, withProduct}
 use Rattle.product.specs.Collect.{collectRefusal}
 use Rattle.product.specs.Multiply.{multiplyRefusal}
+use Rattle.terms.specs.Listed.{productsOf, padded}
+use Rattle.relation.specs.Tests.{eachAt, namedIn, namedTwice}
+use Rattle.relation.specs.Masks.{relationMasksRefusal, maskedTerms, termMasks}
+use Rattle.relation.specs.Finish.{recordTests, relationFinishRefusal, withProducts, plusTerms, finishedTerms}
 use Rattle.csv.specs.Fields.{fields}
 use Rattle.decimal.specs.Numeral.{lastDigits, sizeWithin}
 use Rattle.runs.specs.Draws.{Plan, Draw, IsRaw, Sound, IsDraw, rawLength, tripleLength, none, by, pointOf, rawDraw, tripleDraw, rawPack, triplePack}
@@ -46,7 +50,7 @@ use Rattle.correctness_examples.specs.Station.{plan, drawWith, ledger, E
 
 -- `refl` proves it where `unfolding Computes` opens the calls' definitions
 unfoldable pub Computes : {A : Type 0} → A → A → Type 0
-unfolding Arithmetic.sum Arithmetic.product Arithmetic.difference Arithmetic.euclid Arithmetic.inverse value countFrom nodal weight terms interpolated outcome anyBeyond eachFrom part dealerRefusal combined plusSums created loadRowRefusal loadTripleRefusal withTriple dealRefusal linearRefusal messageRefusal Blocks.badBlock Blocks.badBlocks Blocks.sent Accepting.accepts Accepting.share Accepting.passing Accepting.walk Accepting.opened Accepting.disagree allPairs openRefusal masksRefusal maskNumbersOf collectRefusal multiplyRefusal productRow withProduct fields lastDigits sizeWithin pointOf rawDraw tripleDraw rawPack triplePack perform newPost at
+unfolding Arithmetic.sum Arithmetic.product Arithmetic.difference Arithmetic.euclid Arithmetic.inverse value countFrom nodal weight terms interpolated outcome anyBeyond eachFrom part dealerRefusal combined plusSums created loadRowRefusal loadTripleRefusal withTriple dealRefusal linearRefusal messageRefusal Blocks.badBlock Blocks.badBlocks Blocks.sent Accepting.accepts Accepting.share Accepting.passing Accepting.walk Accepting.opened Accepting.disagree allPairs openRefusal masksRefusal maskNumbersOf collectRefusal multiplyRefusal productRow withProduct productsOf padded eachAt namedIn namedTwice relationMasksRefusal maskedTerms termMasks recordTests relationFinishRefusal withProducts plusTerms finishedTerms fields lastDigits sizeWithin pointOf rawDraw tripleDraw rawPack triplePack perform newPost at
 Computes x y = x ≡ y
 
 -- ---- plan, draws and ledger

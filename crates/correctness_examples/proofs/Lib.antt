@@ -5,3 +5,4 @@ pub mod Fooled
 pub mod Needed
 pub mod Unheard
 pub mod Contradicting
+pub mod Relating

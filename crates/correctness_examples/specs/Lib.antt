@@ -1,3 +1,4 @@
 pub mod Station
 pub mod Orders
 pub mod Contradicted
+pub mod Fees

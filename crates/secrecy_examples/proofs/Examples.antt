@@ -7,6 +7,7 @@ use Rattle.secrecy_examples.specs.ThreePostsSeen.{three, ThreeOpened}
 use Rattle.secrecy_examples.specs.FourPosts as Four
 use Rattle.secrecy_examples.specs.FourPostsSeen.{four, FourOpened, FourBooks, FourForeign}
 use Rattle.secrecy_examples.specs.Charge.{charge, ChargeOpened, ChargeBooks}
+use Rattle.secrecy_examples.specs.Relation.{relation, RelationOpened, RelationBooks}
 use Rattle.secrecy_examples.proofs.Computing.{sees}
 use Rattle.secrecy_examples.proofs.Premised.{is-draw, premises, at-work}
 
@@ -57,3 +58,19 @@ charge-opened = refl
 pub charge-books : ChargeBooks
 unfolding sees charge premises bookAfter
 charge-books = (refl, refl, refl, refl)
+
+relation-seen : sees relation ≡ relation .shown
+unfolding sees relation
+relation-seen = refl
+
+pub relation-at-work : AtWork relation
+unfolding sees relation is-draw premises
+relation-at-work = at-work relation Three.masksSent 0 relation-seen tt tt tt refl
+
+pub relation-opened : RelationOpened
+unfolding sees relation
+relation-opened = refl
+
+pub relation-books : RelationBooks
+unfolding sees relation premises bookAfter
+relation-books = (refl, refl, refl, refl)

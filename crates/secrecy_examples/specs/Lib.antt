@@ -4,3 +4,4 @@ pub mod ThreePostsSeen
 pub mod FourPosts
 pub mod FourPostsSeen
 pub mod Charge
+pub mod Relation
