@@ -31,12 +31,9 @@ fn finish_triple(session: Session, term: Term, y_a: u32, y_b: u32) -> Session
 {
     let first = term.first as usize;
     let collected = session.done_collecting(first, y_a, y_b);
-    let finished = collected.session.done_marking_triple(
-        first,
-        shape::SPENT,
-        shape::SPENT,
-        shape::HELD,
-    );
+    let finished = collected
+        .session
+        .done_marking_triple(first, shape::SPENT, shape::SPENT, shape::HELD);
     finished.session
 }
 
