@@ -1,5 +1,6 @@
 //! Sums and products of a station against the plain ones.
 
+use gantsorol::Term;
 use reference::random::Rng;
 use reference::MODULUS;
 
@@ -36,6 +37,35 @@ pub fn check_products(rng: &mut Rng, mut station: Station, seed: u64) {
     let sum = a * b + scale * a + fee;
     let square = sum * sum;
     let rows = [(4, a * b), (5, sum), (95, square), (12, square * b)];
+    check_opened(rng, station, seed, &rows);
+}
+
+/// rides × rate − fee is 0. A sum of plain terms, a square and a product over the first relation's
+/// product is the plain one, and so is a relation without a product.
+pub fn check_relations(rng: &mut Rng, mut station: Station, seed: u64) {
+    let [rides, rate, scale, other] = [(); 4].map(|()| Field::from(rng.element()));
+    let fee = rides * rate;
+    for (row, number) in [(0, rides), (1, rate), (2, fee)] {
+        station.share(rng, row, number.value());
+    }
+    for first in [3, 93, 10] {
+        station.load_triple(rng, first);
+    }
+    let (minus_one, scaled, others) = (MODULUS - 1, scale.value(), other.value());
+    let terms = [Term::product(1, 0, 1, 3), Term::plain(minus_one, 2)];
+    station.relate(rng, &terms, 20);
+    let terms = [
+        Term::plain(scaled, 1),
+        Term::product(others, 5, 2, 93),
+        Term::plain(minus_one, 0),
+        Term::product(scaled, 0, 0, 10),
+    ];
+    station.relate(rng, &terms, 21);
+    station.relate(rng, &[Term::plain(others, 21), Term::plain(1, 21)], 22);
+    let square = rides * rides;
+    let sum = scale * rate + other * (fee * fee) + Field::from(minus_one) * rides + scale * square;
+    let rows = [(20, 0.into()), (5, fee), (95, fee * fee), (12, square), (21, sum)];
+    let rows = [&rows[..], &[(22, other * sum + sum)]].concat();
     check_opened(rng, station, seed, &rows);
 }
 

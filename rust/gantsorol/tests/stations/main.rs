@@ -10,7 +10,7 @@ mod post;
 mod secrets;
 mod station;
 
-use arithmetic::{check_products, check_sums};
+use arithmetic::{check_products, check_relations, check_sums};
 use common::seeds;
 use gantsorol::Refusal;
 use liars::with_liars;
@@ -57,6 +57,21 @@ fn squares(check: Check) {
 fn sums_and_products_of_squares() {
     squares(check_sums);
     squares(check_products);
+}
+
+#[test]
+fn relations_of_squares() {
+    squares(check_relations);
+}
+
+#[test]
+fn relations_open_to_the_plain_sums() {
+    random_stations(200, check_relations);
+}
+
+#[test]
+fn relations_for_every_n_and_t() {
+    stations_of_every_n_and_t(check_relations);
 }
 
 #[test]

@@ -1,7 +1,7 @@
 //! A station: posts in random order, whose messages are lines.
 
 use gantsorol::{block_len, line_list_len, masks_len, row_len, rows_len};
-use gantsorol::{Session, Written, LONGEST_LINE};
+use gantsorol::{Session, Term, Written, LONGEST_LINE, NO_ROW};
 use reference::random::{check_points, street_shape, Rng, SharedRow};
 use reference::Shape;
 
@@ -160,6 +160,31 @@ impl Station {
     pub fn linear(&mut self, rng: &mut Rng, dest: usize, (a, b): (usize, usize), by: (u32, u32)) {
         for (_, post) in self.shuffled(rng) {
             post.call(|session, rows| session.linear(rows, dest, a, b, by.0, by.1));
+        }
+    }
+
+    /// A relation over these terms, its sum in `dest`, at every post. Each product term has an `M`
+    /// line of its own, as a single product has.
+    pub fn relate(&mut self, rng: &mut Rng, terms: &[Term], dest: usize) {
+        let (n, t) = (self.n, self.t);
+        let products = terms.iter().filter(|term| term.second != NO_ROW);
+        let firsts: Vec<usize> = products.map(|term| term.first.into()).collect();
+        let mut lines = vec![vec![]; firsts.len()];
+        for (index, post) in self.shuffled(rng) {
+            let mut masks = vec![0; firsts.len() * masks_len(t)];
+            post.call(|session, rows| session.relation_masks(rows, terms, &mut masks));
+            let masks = masks.chunks(masks_len(t)).zip(&firsts);
+            for ((masks, &first), lines) in masks.zip(&mut lines) {
+                let mut line = vec![0; LONGEST_LINE];
+                let written = gantsorol::write_masks(n, t, first, index + 1, masks, &mut line);
+                line.truncate(written.accepted().expect("room"));
+                lines.push(line);
+            }
+        }
+        let records = lines.iter().flat_map(|lines| self.records(rng, lines).concat());
+        let records: Vec<u32> = records.collect();
+        for (_, post) in self.shuffled(rng) {
+            post.call(|session, rows| session.relation_finish(rows, terms, dest, &records));
         }
     }
 
