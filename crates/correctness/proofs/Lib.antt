@@ -10,4 +10,5 @@ pub mod Theorems
 pub mod Caught
 pub mod Parts
 pub mod Relating
+pub mod Keeping
 pub mod Relation

@@ -46,6 +46,8 @@ use Rattle.correctness.proofs.Fitting.{all-true-of, AllSaid, told-a, to
 use Rattle.correctness.proofs.Permitted as Permitted
 use Rattle.correctness.proofs.Permitted.{Stander, standerOf}
 use Rattle.correctness.proofs.Openings.{mask-a, mask-b}
+use Rattle.correctness.proofs.Walking.{Inv, after-event}
+use Rattle.correctness.proofs.Keeping.{heldIn, stays-held, held-now}
 use Rattle.correctness.proofs.Relating.{relation-few, relation-done, relation-otherwise}
 
 -- ---- by the ledger
@@ -97,10 +99,18 @@ module _ (S : ℕ → Type 0) (P : Event → World → Type 0) where
   each-before [] ys w h = tt
   each-before (x ∷ xs) ys w h = (h .0, each-before xs ys (turn x w) (h .1))
 
+  each-behind : (xs ys : List Event) (w : World) → Each S P (xs ++ ys) w → Each S P ys (history xs w)
+  each-behind [] ys w h = h
+  each-behind (x ∷ xs) ys w h = each-behind xs ys (turn x w) (h .1)
+
   each-at : (xs ys : List Event) (e : Event) (w : World) → Each S P (xs ++ (e ∷ ys)) w → S (e .post)
       → doneBy e (history xs w) .answer .refusal ≡ 0 → P e (history xs w)
   each-at [] ys e w h = h .0
   each-at (x ∷ xs) ys e w h = each-at xs ys e (turn x w) (h .1)
+
+history-join : (xs ys : List Event) (w : World) → history (xs ++ ys) w ≡ history ys (history xs w)
+history-join [] ys w = refl
+history-join (x ∷ xs) ys w = history-join xs ys (turn x w)
 
 -- a post that stands by the ledger, and finishes the relation as the ledger has it
 module _ (plan : Plan) (draw : Draw) (L : Ledger) (len i : ℕ) (q : Post) (g : Good plan draw L len i q) (ts : List Term) (r : ℕ) (records : List ℕ) where
@@ -133,6 +143,7 @@ pub relation-shown : RelationShown
 unfolding lens end
 relation-shown plan draw L S rows before behind i r ts records h lo hi among z = (
   is-in,
+  held-there,
   λ number own j lj hj in-s blocks held proper enough true.
       let o = correct plan draw L S rows (before ++ (e ∷ behind)) h j lj hj in-s .opens r blocks held proper .exact enough true in
       let v = one-number L r _ _ (o .1) (relation-number L r ts number is-in own) in
@@ -154,8 +165,21 @@ relation-shown plan draw L S rows before behind i r ts records h lo hi among z =
       finishes = each-before S _ before _ (begin plan draw rows) (h .finishes);
     }
 
-    q : Post
-    q = history before (begin plan draw rows) .posts i
+    before-it : World
+    before-it = history before (begin plan draw rows)
+
+    there : Inv plan draw L S (h .sound) (h .is-draw) (λ k. length (rows k)) (history before (begin plan draw rows))
+    there = stands plan draw L S rows before early
+
+    held-there : heldIn (history (before ++ (record { post = i; call = relationFinish ts r records } ∷ behind)) (begin plan draw rows) .posts i) r
+    held-there =
+        let o = each-behind S _ before (e ∷ behind) (begin plan draw rows) (h .parts) in
+        let y = each-behind S _ before (e ∷ behind) (begin plan draw rows) (h .ledger) in
+        let t = each-behind S _ before (e ∷ behind) (begin plan draw rows) (h .finishes) in
+        subst (λ (x : World). heldIn (x .posts i) r) (sym (history-join before (e ∷ behind) (begin plan draw rows)))
+        (stays-held plan draw L S (h .sound) (h .is-draw) (λ k. length (rows k)) i lo hi among r behind (turn e before-it)
+        (after-event plan draw L S (h .sound) (h .is-draw) (λ k. length (rows k)) before-it there e (o .0) (y .0) (t .0)) (o .1) (y .1) (t .1)
+        (held-now plan draw L S (h .sound) (h .is-draw) (λ k. length (rows k)) i lo hi among r before-it there ts records z (o .0 among z) (t .0 among z)))
 
     is-in : RelationIn L r ts
     is-in =

@@ -69,7 +69,7 @@ ShownAt S w r number ts j =
     → TrueOf (TruePolynomial S w r) (q .session) (rowAt (width (q .session)) (q .rows) r) blocks
     → Shows number ts (openAnswer (q .session) (q .rows) r blocks)
 
--- A finish of the relation, not refused at the post i of S, stands somewhere in a run.
+-- A finish of the relation, not refused at the post i of S, stands somewhere in a run: the row is held at that post from then on.
 abbrev pub RelationShown : Type 1
 RelationShown =
     (plan : Plan) (draw : Draw) (L : Ledger) (S : ℕ → Type 0) (rows : ℕ → List ℕ) (before behind : List Event) (i r : ℕ) (ts : List Term)
@@ -78,6 +78,7 @@ RelationShown =
     let w = begin plan draw rows in
     Premises plan draw L S (before ++ (e ∷ behind)) w → 1 ≤ i → i ≤ plan .n → S i → doneBy e (history before w) .answer .refusal ≡ 0
     → RelationIn L r ts
+    × (mark (history (before ++ (e ∷ behind)) w .posts i .session) r ≡ 2)
     × ((number : ℕ → ℕ) → Named L number ts → (j : ℕ) → 1 ≤ j → j ≤ plan .n → S j
     → ShownAt S (history (before ++ (e ∷ behind)) w) r number ts j))
 

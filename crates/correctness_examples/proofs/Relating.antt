@@ -143,7 +143,7 @@ named = ((of-deal, λ e. of-deal), ((plain-5, absent), tt))
 by-theorem : Shows numbers fair (openAnswer (last .session) (last .rows) 7 told)
 unfolding Computes plan drawWith drawn draw starts sends early late later
 by-theorem =
-    relation-shown plan draw fees Everyone (λ i. replicate 768 0) before (late ++ (wrong ∷ later)) 1 7 fair _ premises (lit≤ tt) (lit≤ tt) tt refl .1
+    relation-shown plan draw fees Everyone (λ i. replicate 768 0) before (late ++ (wrong ∷ later)) 1 7 fair _ premises (lit≤ tt) (lit≤ tt) tt refl .2
     numbers named 1 (lit≤ tt) (lit≤ tt) tt told refl (record { long = refl; low = refl }) (lit≤ tt)
     ((λ ne. absurd (ne refl)), ((λ ne. (tt, inl (inr (inl refl)))), tt))
 
@@ -167,7 +167,7 @@ by-theorem' : (let q = history (first-part ++ (wrong ∷ later)) new .posts 1 in
 unfolding Computes plan drawWith drawn draw starts sends early late later
 by-theorem' =
     relation-shown plan draw fees Everyone (λ i. replicate 768 0) first-part later 1 8 unfair []
-    (subst (λ (es : List Event). Premises plan draw fees Everyone es new) (sym apart) premises) (lit≤ tt) (lit≤ tt) tt refl .1
+    (subst (λ (es : List Event). Premises plan draw fees Everyone es new) (sym apart) premises) (lit≤ tt) (lit≤ tt) tt refl .2
     numbers named' 1 (lit≤ tt) (lit≤ tt) tt told refl (record { long = refl; low = refl }) (lit≤ tt)
     ((λ ne. absurd (ne refl)), ((λ ne. (tt, inl (inr (inr (inl refl))))), tt))
 
