@@ -5,11 +5,11 @@ use mathlib.Core.Logic.{_≢_}
 use mathlib.Core.Bool.{Bool, false}
 use mathlib.Core.List.{List, [], _∷_, _++_}
 use native.Mathlib.Omega.{arith}
-use lib.ListN.{length, set}
+use lib.ListN.{set}
 use lib.Seq.{getD-set-same, getD-set-other}
 use Rattle.shape.specs.Bounds.{rowCount}
 use Rattle.shape.specs.Marks.{collected as collectedMark}
-use Rattle.refusal.specs.Refusal.{Test, _when_, first, outcome, AllFail}
+use Rattle.refusal.specs.Refusal.{Test, _when_, outcome, AllFail}
 use Rattle.refusal.specs.Conditions.{anyBeyond}
 use Rattle.refusal.proofs.Laws.{all-fail, not-refused}
 use Rattle.refusal.proofs.Endings.{accepted}
@@ -23,9 +23,9 @@ use Rattle.opening.specs.Walking.{badRecord}
 use Rattle.opening.proofs.Theorems.{opened-below}
 use Rattle.product.specs.Masks.{maskNumbers}
 use Rattle.product.specs.Finish.{maskA, maskB, finishPlace, finishMarks, unopened, finishTests, finishRefusal, finishAnswer, finishRows, productRow, withProduct}
-use Rattle.product.specs.Collect.{numberA, numberB, collectTests, collectRefusal, collectAnswer}
+use Rattle.product.specs.Collect.{numberA, numberB, collectTests, collectRefusal}
 use Rattle.product.specs.Multiply.{multiplyRefusal, multiplyAnswer, multiplyRows}
-use Rattle.product.specs.Claims.{Whole, AsFinish, collectedSession, PairFinishes}
+use Rattle.product.specs.Claims.{Whole, collectedSession, PairFinishes}
 use Rattle.product.proofs.Passed.{Collected, collected, multiplied, multiply-clear}
 
 -- one more test among those that fail

@@ -1,5 +1,5 @@
 -- Demand 1 of masks and of the two calls that finish became, with document 01's table for their tests; and the law of document 02, (viii),
--- about the old finish. Proved in proofs/Theorems.antt.
+-- about the old finish. Proved in proofs/Theorems.antt and proofs/Pair.antt.
 use Prim.Native.Nat.{ℕ, _+_}
 use mathlib.Core.Path.{_≡_}
 use mathlib.Core.List.{List}

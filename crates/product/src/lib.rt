@@ -7,7 +7,7 @@ pub mod finish;
 pub mod masks;
 pub mod multiply;
 
-// y = a − l and z = b − l', opened, or the refusal.
+// y = a − l and y' = b − l', opened, or the refusal.
 pub struct OpenedMasks {
     pub refusal: u8,
     pub y_a: u32,

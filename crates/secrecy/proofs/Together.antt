@@ -17,7 +17,7 @@ use Rattle.runs.specs.Draws.{pointOf, rawPack, triplePack}
 use Rattle.runs.specs.Outline.{Act, loads, loadsTriple, deals, opens, Summand, once, times, fee, sums, factors, collects, multiplies, takes, Given, Move, moves, actsIn, acts, sends, filled}
 use Rattle.runs.specs.Calls.{Call, perform, at}
 use Rattle.runs.proofs.Outlines.{every-all}
-use Rattle.runs.proofs.Marks.{Marks, markOf, rememberedA, rememberedB, remarked, finished, maskVectorA, maskVectorB, zeroVector, worthVector, totalVector, productSum, written, Masking, none, of, masking, marksBy, vectorsBy, marksAll, vectorsAll, at-same, at-other}
+use Rattle.runs.proofs.Marks.{Marks, markOf, remarked, finished, maskVectorA, maskVectorB, zeroVector, worthVector, totalVector, productSum, written, Masking, none, of, masking, marksBy, vectorsBy, marksAll, vectorsAll, at-same, at-other}
 use Rattle.runs.proofs.Outcomes.{refusalOf, refusal-is}
 use Rattle.runs.proofs.Facts.{HeldIn, AllowedBy, AllowedAll, Allowed, MasksBy, Tripled}
 use Rattle.runs.proofs.Rows.{sized-by, five-by}
