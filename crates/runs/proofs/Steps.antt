@@ -80,7 +80,6 @@ module _ (H : Holder) where
       )
   made k is (multiply x) z fit =
       let f = multiplied s l (x .r) z in (refl, multiply-holds H (x .r) f (k .each (x .r) (f .placed .first-mark)))
-
   made k is (relationMasks x) z fit =
       let f = relation-masks-made s l (x .terms) (x .lent) z .placed in
       let e = factors-again (x .terms) (f .few) in (
