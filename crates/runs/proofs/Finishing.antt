@@ -1,6 +1,6 @@
 -- One post's two calls of a finish: where t+1 of the polynomials it accepted are truly their senders', and no share of an accepted one
 -- is off their polynomial, the first remembers y and y'; then the second's third row is its part of the product.
-use Prim.Native.Nat.{ℕ, suc, _+_, _-_, _<_}
+use Prim.Native.Nat.{ℕ, suc, _+_, _*_, _-_, _<_}
 use mathlib.Core.Path.{_≡_, sym, _∙_, ap, ap₂, subst}
 use mathlib.Core.Bool.{false}
 use mathlib.Core.Logic.{_≢_}
