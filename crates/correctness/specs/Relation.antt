@@ -7,6 +7,7 @@ use mathlib.Core.List.{List, [], _∷_, _++_, map}
 use lib.ListN.{length, take, drop}
 use Rattle.field.specs.Modulus.{p}
 use Rattle.poly.specs.Counting.{All}
+use Rattle.session.specs.declared.Session.{Session}
 use Rattle.session.specs.declared.Answer.{Answer}
 use Rattle.session.specs.Sessions.{mark, factorA, factorB}
 use Rattle.session.specs.Rows.{width, rowAt}
@@ -93,16 +94,23 @@ abbrev pub OneAt : (ℕ → Term → Type 0) → ℕ → List Term → Type 0
 OneAt P k [] = ⊥
 OneAt P k (t ∷ ts) = P k t ⊎ OneAt P (suc k) ts
 
+-- A product term's triple waits with the term's rows; 8 lets both its records pass.
+abbrev pub Waits : Session → Term → Type 0
+Waits s t = (mark s (t .first) ≡ 5) × (factorA s (t .first) ≡ t .row) × (factorB s (t .first) ≡ t .second)
+
+abbrev pub LowRecords : Session → List ℕ → ℕ → Term → Type 0
+LowRecords s blocks k t = (badRecord s (recordA s blocks k) ≡ false) × (badRecord s (recordB s blocks k) ≡ false)
+
 -- A relation with one to 32 terms: their rows are held, and their coefficients elements; each product term's triple waits with the
 -- term's rows, and is named once; the sum's row is empty; the records are such that 5 and 8 let them pass.
 pub record Ready (q : Post) (ts : List Term) (r : ℕ) (blocks : List ℕ) : Type 0 where
   pub count : (1 ≤ length ts) × (length ts ≤ 32)
   pub terms : All (λ t. (mark (q .session) (t .row) ≡ 2) × (t .coefficient < p)) ts
-  pub products : All (λ t. (mark (q .session) (t .first) ≡ 5) × (factorA (q .session) (t .first) ≡ t .row) × (factorB (q .session) (t .first) ≡ t .second)) (productsOf ts)
+  pub products : All (Waits (q .session)) (productsOf ts)
   pub once : namedTwice (productsOf ts) ≡ false
   pub empty : (r < 96) × (mark (q .session) r ≡ 0)
   pub long : length blocks ≡ length (productsOf ts) * (2 * recordLength (q .session))
-  pub low : EachAt (λ k t. (badRecord (q .session) (recordA (q .session) blocks k) ≡ false) × (badRecord (q .session) (recordB (q .session) blocks k) ≡ false)) 0 (productsOf ts)
+  pub low : EachAt (LowRecords (q .session) blocks) 0 (productsOf ts)
 
 -- Of both records of the product term at place k: fewer than t+1 are accepted of one; t+1 or more of each; each that is accepted is
 -- true, where H half r j xs says that xs is truly that half of j's masks of the triple at r.

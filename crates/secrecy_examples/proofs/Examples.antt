@@ -1,5 +1,6 @@
 -- The examples are at work: the run by computing, the premises by a search, the counts by demand 3.
 use mathlib.Core.Path.{_≡_, refl}
+use mathlib.Core.List.{_++_}
 use Rattle.secrecy.specs.Book.{bookAfter}
 use Rattle.secrecy_examples.specs.Example.{AtWork}
 use Rattle.secrecy_examples.specs.ThreePosts as Three
@@ -7,6 +8,7 @@ use Rattle.secrecy_examples.specs.ThreePostsSeen.{three, ThreeOpened}
 use Rattle.secrecy_examples.specs.FourPosts as Four
 use Rattle.secrecy_examples.specs.FourPostsSeen.{four, FourOpened, FourBooks, FourForeign}
 use Rattle.secrecy_examples.specs.Charge.{charge, ChargeOpened, ChargeBooks}
+use Rattle.secrecy_examples.specs.Relation as Relation
 use Rattle.secrecy_examples.specs.Relation.{relation, RelationOpened, RelationBooks}
 use Rattle.secrecy_examples.proofs.Computing.{sees}
 use Rattle.secrecy_examples.proofs.Premised.{is-draw, premises, at-work}
@@ -65,7 +67,7 @@ relation-seen = refl
 
 pub relation-at-work : AtWork relation
 unfolding sees relation is-draw premises
-relation-at-work = at-work relation Three.masksSent 0 relation-seen tt tt tt refl
+relation-at-work = at-work relation (Three.masksSent ++ Relation.squareSent) 0 relation-seen tt tt tt refl
 
 pub relation-opened : RelationOpened
 unfolding sees relation
@@ -73,4 +75,4 @@ relation-opened = refl
 
 pub relation-books : RelationBooks
 unfolding sees relation premises bookAfter
-relation-books = (refl, refl, refl, refl)
+relation-books = (refl, refl, refl, refl, refl, refl)
