@@ -1,10 +1,11 @@
 -- A written line, fed byte by byte, is taken whole: no line feed stands in it but its last byte.
-use Prim.Native.Nat.{ℕ, _+_, _-_, _≤_}
-use mathlib.Core.Path.{_≡_, refl, _∙_, ap, ap₂}
-use mathlib.Core.List.{List, [], _∷_, _++_}
+use Prim.Native.Nat.{ℕ, _+_, _≤_}
+use mathlib.Core.Path.{_≡_, _∙_, ap}
+use mathlib.Core.Bool.{Bool, cond}
+use mathlib.Core.List.{List, [], _∷_, _++_, append-assoc}
 use native.Mathlib.Omega.{arith}
-use borrow.Author.Tests.{eq-eqb, ne-eqb}
-use lib.ListN.{length, getD, take, drop, length-append, drop-of-length-le}
+use borrow.Author.Tests.{ne-eqb}
+use lib.ListN.{length, length-append}
 use lib.Seq.{take-all}
 use Rattle.decimal.specs.Numeral.{size, numeral}
 use Rattle.decimal.proofs.Digits.{Digits, digits-are-digits}
@@ -12,9 +13,8 @@ use Rattle.csv.specs.Fields.{fields, written}
 use Rattle.interpreter.specs.declared.State.{State}
 use Rattle.interpreter.specs.Starting.{longestLine}
 use Rattle.interpreter.specs.Stepping.{step}
-use Rattle.transcript.specs.Lines.{segment, keptLength}
-use Rattle.transcript.specs.Program.{Running, leftBy, answered, grown, fed, segmented}
-use Rattle.transcript.proofs.Chunks.{fed-segment}
+use Rattle.transcript.specs.Lines.{keptLength}
+use Rattle.transcript.specs.Program.{Running, leftBy, answered, grown, fed}
 
 -- ---- bytes above a line feed
 abbrev Feedless : List ℕ → Type 0
@@ -35,46 +35,34 @@ feedless-fields [] = tt
 feedless-fields (x ∷ xs) =
     (omega arith, feedless-append (numeral x) (fields xs) (feedless-digits (numeral x) (digits-are-digits (size x) x)) (feedless-fields xs))
 
-segment-whole : (s : List ℕ) → Feedless s → segment (s ++ (10 ∷ [])) ≡ length s + 1
-unfolding segment
-segment-whole [] h = refl
-segment-whole (b ∷ s) h = rw (ne-eqb b 10 (λ e. omega (arith, h .0))) (omega (arith, segment-whole s (h .1)))
-
-last-is : (s : List ℕ) (b : ℕ) → getD (s ++ (b ∷ [])) (length s) 0 ≡ b
-last-is [] b = refl
-last-is (x ∷ s) b = last-is s b
-
 -- ---- the program between two lines
 abbrev pub between : State → List ℕ → ℕ → List ℕ → Running
 between st store number out = record { state = st; store = store; line = []; number = number; out = out }
 
-module _ (st : State) (store : List ℕ) (number : ℕ) (out : List ℕ) (letter : ℕ) (xs : List ℕ) (h : 11 ≤ letter)
-    (short : length (written letter xs) ≤ longestLine) where
-  abbrev line : List ℕ
-  line = written letter xs
-
+module _ (st : State) (store : List ℕ) (number : ℕ) (out : List ℕ) where
   abbrev p : Running
   p = between st store number out
 
-  whole : segment line ≡ length line
-  whole = segment-whole (letter ∷ fields xs) (h, feedless-fields xs) ∙ omega (arith, length-append (fields xs) (10 ∷ []))
+  abbrev with-line : List ℕ → Running
+  with-line l = record { state = st; store = store; line = l; number = number; out = out }
 
-  ends : getD line (length line - 1) 0 ≡ 10
-  ends =
-      let e : length line - 1 ≡ length (letter ∷ fields xs) = omega (arith, length-append (fields xs) (10 ∷ [])) in
-      ap (λ (k : ℕ). getD line k 0) e ∙ last-is (letter ∷ fields xs) 10
+  kept : (l : List ℕ) (b : ℕ) → length (l ++ (b ∷ [])) ≤ keptLength → grown (with-line l) (b ∷ []) ≡ with-line (l ++ (b ∷ []))
+  unfolding grown
+  kept l b h = ap with-line (take-all keptLength (l ++ (b ∷ [])) h)
 
-  taken-whole : segmented p line ≡ leftBy p (step st store line)
-  unfolding answered grown
-  taken-whole =
-      rw (eq-eqb (getD line (length line - 1) 0) 10 ends)
-      (ap (λ (l : List ℕ). leftBy p (step st store l)) (take-all keptLength line (omega arith)))
+  taken-up : (s l : List ℕ) → Feedless s → length l + length s + 1 ≤ keptLength
+      → fed (with-line l) (s ++ (10 ∷ [])) ≡ leftBy p (step st store (l ++ (s ++ (10 ∷ []))))
+  unfolding fed answered
+  taken-up [] l h short = ap answered (kept l 10 (omega (arith, length-append l (10 ∷ []))))
+  taken-up (b ∷ s) l h short =
+      let more : Running = grown (with-line l) (b ∷ []) in
+      let grows : length (l ++ (b ∷ [])) ≡ length l + 1 = length-append l (b ∷ []) in
+      ap (λ (c : Bool). fed (cond c (answered more) more) (s ++ (10 ∷ []))) (ne-eqb b 10 (λ e. omega (arith, h .0)))
+      ∙ ap (λ (r : Running). fed r (s ++ (10 ∷ []))) (kept l b (omega arith))
+      ∙ taken-up s (l ++ (b ∷ [])) (h .1) (omega arith)
+      ∙ ap (λ (z : List ℕ). leftBy p (step st store z)) (append-assoc l (b ∷ []) (s ++ (10 ∷ [])))
 
-  pub fed-line : fed p line ≡ leftBy p (step st store line)
-  unfolding fed
-  fed-line =
-      fed-segment p line (omega arith)
-      ∙ ap (λ (k : ℕ). fed (segmented p (take k line)) (drop k line)) whole
-      ∙ ap₂ (λ (a b : List ℕ). fed (segmented p a) b) (take-all (length line) line (omega arith))
-      (drop-of-length-le line {i = length line} (omega arith))
-      ∙ taken-whole
+  pub fed-line : (letter : ℕ) (xs : List ℕ) → 11 ≤ letter → length (written letter xs) ≤ longestLine
+      → fed p (written letter xs) ≡ leftBy p (step st store (written letter xs))
+  fed-line letter xs h short =
+      taken-up (letter ∷ fields xs) [] (h, feedless-fields xs) (omega (arith, length-append (fields xs) (10 ∷ [])))
