@@ -10,12 +10,14 @@
  *
  *    1  the number of posts n is outside 2 to 255
  *    2  t is outside 1 to n - 1
- *    3  the session's post, or the post of a line to be written or of a block, is outside 1 to n
+ *    3  the session's post, or the post of a line to be written, of a block or of a pack file, is outside 1 to n
  *    4  a check point is 0 or at least p
  *    5  a list's length is not exactly the one stated
  *    6  a row is above 95, or a triple's first row above 93
- *    7  a row's mark, or a remembered row, is not what the call needs
- *    8  a number that the call is given, reads or remembers is at least p, or a record's mark is above 1
+ *    7  a row's mark, or a remembered row, is not what the call needs; a relation names a triple twice; a kind other
+ *       than 0 stands inside a triple of a pack file
+ *    8  a number that the call is given, reads or remembers is at least p, a record's mark is above 1, or a kind of a
+ *       pack file is unknown
  *    9  fewer than t+1 posts were accepted, in either record of a product
  *   10  a line read has the wrong form
  *   11  a line read has a number out of range
@@ -130,7 +132,7 @@ typedef struct gantsorol_number {
 /* A writer's answer. */
 typedef struct gantsorol_written {
     uint8_t refusal;
-    /* the line's length, its line feed included; 0 when refused */
+    /* the length of the line, its line feed included, or of the file; 0 when refused */
     size_t len;
 } gantsorol_written;
 
@@ -228,7 +230,8 @@ gantsorol_answer gantsorol_multiply(gantsorol_session session, uint32_t *rows, s
 /*
  * A relation says that the sum of its terms is 0 modulo p. Its product terms are proved with a triple each: the masks are
  * made, sent and heard as those of single products, then every post finishes and has its part of the sum, which is opened
- * like any held number. It is 0 exactly when the relation holds; no number of the terms is shown.
+ * like any held number. Where the polynomials that were accepted are truly their senders', it is 0 exactly when the
+ * relation holds. Nothing but the sum is shown.
  *
  * The lists of masks and of records hold those of each product term, in the order of the terms, those of a - l first:
  * k product terms over the whole list of terms, also where that list is too long. A plain term adds nothing to them; without
@@ -251,7 +254,7 @@ gantsorol_answer gantsorol_relation_masks(gantsorol_session session, const uint3
  * checks come before the first write: a 9 or 13 of the last record leaves every triple as it was, and the call may be made
  * again with other records.
  * rows: GANTSOROL_ROWS_LEN, written. terms: 1 to GANTSOROL_MAX_TERMS, read. records: GANTSOROL_RELATION_RECORDS_LEN, read.
- * Refusals 1 to 5, 14, 6 to 9, 13; 6, 7, 8, 9 and 13 each over all terms, the sum's row last.
+ * Refusals 1 to 5, 14, 6 to 9, 13, each over all terms, 6 and 7 of the sum's row last.
  */
 gantsorol_answer gantsorol_relation_finish(gantsorol_session session, uint32_t *rows, size_t rows_len,
                                            const gantsorol_term *terms, size_t terms_len, size_t row,
