@@ -16,17 +16,17 @@
  *    6  a row is above 95, or a triple's first row above 93
  *    7  a row's mark, or a remembered row, is not what the call needs; a relation names a triple twice; a kind other
  *       than 0 stands inside a triple of a pack file
- *    8  a number that the call is given, reads or remembers is at least p, a record's mark is above 1, or a kind of a
- *       pack file is unknown
- *    9  fewer than t+1 posts were accepted, in either record of a product
+ *    8  a number that the call is given or reads, or a remembered one that it uses, is at least p, a record's mark is
+ *       above 1, or a kind of a pack file is unknown
+ *    9  fewer than t+1 posts were accepted, in any record
  *   10  a line read has the wrong form
  *   11  a line read has a number out of range
  *   12  the list lent for a line or a file is shorter than that
- *   13  an accepted share is not on the polynomial of the t+1 lowest, in either record of a product; looked at after 9
+ *   13  an accepted share is not on the polynomial of the t+1 lowest, in any record; looked at after 9 of all
  *   14  a relation has no terms, or more than 32; looked at after 5
  *
  * What a caller has to see to, because no call can: a list is passed as a pointer to its first number, aligned for its
- * type, and its length in numbers (bytes for a line), which the memory really has. The lists of one call must not
+ * type, and its length in numbers (bytes for a line or a file, kinds, or terms), which the memory really has. The lists of one call must not
  * overlap. Where the length is 0 the pointer is not used and may be NULL.
  *
  * A number is an element, 0 to p - 1. A post keeps a session, which each call takes by value and hands back, and a list
@@ -57,7 +57,7 @@ extern "C" {
 #define GANTSOROL_MAX_TERMS 32
 /* The second row of a term that is no product. */
 #define GANTSOROL_NO_ROW 255
-/* The bytes of the longest line, its line feed included. */
+/* The bytes of the longest broadcast line, its line feed included. A pack file has longer ones. */
 #define GANTSOROL_LONGEST_LINE 5619
 
 /* Lengths of lists, for n posts and threshold t. */
@@ -240,7 +240,7 @@ gantsorol_answer gantsorol_multiply(gantsorol_session session, uint32_t *rows, s
 
 /*
  * The masks of all product terms, as gantsorol_masks makes them of one: each term's rows must be held and its triple
- * unused, and no triple may be named twice (7). Each triple's first row gets mark 5 and remembers its term's rows.
+ * unused, and no triple may be named twice (7). The numbers of a plain term's row are not read. Each triple's first row gets mark 5 and remembers its term's rows.
  * rows: GANTSOROL_ROWS_LEN, read. terms: 1 to GANTSOROL_MAX_TERMS, read. out: GANTSOROL_RELATION_MASKS_LEN, written.
  * Refusals 1 to 5, 14, 6 to 8.
  */
