@@ -26,8 +26,8 @@
  *   14  a relation has no terms, or more than 32; looked at after 5
  *
  * What a caller has to see to, because no call can: a list is passed as a pointer to its first number, aligned for its
- * type, and its length in numbers (bytes for a line or a file, kinds, or terms), which the memory really has. The lists of one call must not
- * overlap. Where the length is 0 the pointer is not used and may be NULL.
+ * type, and its length in numbers (bytes for a line or a file, kinds, or terms), which the memory really has. The lists
+ * of one call must not overlap. Where the length is 0 the pointer is not used and may be NULL.
  *
  * A number is an element, 0 to p - 1. A post keeps a session, which each call takes by value and hands back, and a list
  * of GANTSOROL_ROWS_LEN(n, t) numbers, its 96 rows, which it lends to each call. Use the session that the last call
@@ -240,7 +240,8 @@ gantsorol_answer gantsorol_multiply(gantsorol_session session, uint32_t *rows, s
 
 /*
  * The masks of all product terms, as gantsorol_masks makes them of one: each term's rows must be held and its triple
- * unused, and no triple may be named twice (7). The numbers of a plain term's row are not read. Each triple's first row gets mark 5 and remembers its term's rows.
+ * unused, and no triple may be named twice (7). The numbers of a plain term's row are not read. Each triple's first row
+ * gets mark 5 and remembers its term's rows.
  * rows: GANTSOROL_ROWS_LEN, read. terms: 1 to GANTSOROL_MAX_TERMS, read. out: GANTSOROL_RELATION_MASKS_LEN, written.
  * Refusals 1 to 5, 14, 6 to 8.
  */
