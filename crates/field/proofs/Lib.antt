@@ -3,6 +3,7 @@ pub mod Expression
 pub mod Solver
 pub mod Primality
 pub mod Residues
+pub mod Folding
 pub mod Modular
 pub mod Euclid
 pub mod Fields
