@@ -67,18 +67,19 @@ int main(void) {
     share(B, 7, b);
     load_triple(triple);
 
-    /* Each post sends its masks; what all have heard are two records. Until then a finish gets 9. */
+    /* Each post sends its masks; what all have heard are two records. Until enough are there, collect gets 9. */
     for (int i = 0; i < N; i++) {
         keep(i, gantsorol_masks(posts[i], rows[i], ALL, A, B, TRIPLE, masks, MASKS));
         if (i == 0)
-            keep(i, gantsorol_finish(posts[i], rows[i], ALL, TRIPLE, record_a, RECORD, record_b, RECORD));
+            keep(i, gantsorol_collect(posts[i], rows[i], ALL, TRIPLE, record_a, RECORD, record_b, RECORD));
         hear(record_a, i, masks);
         hear(record_b, i, masks + T + 1);
     }
 
-    /* Each post finishes by itself, and has its part of the product, which is opened like any held number. */
+    /* Each post collects the masks and multiplies by itself, and has its part of the product, which is opened like any held number. */
     for (int i = 0; i < N; i++) {
-        keep(i, gantsorol_finish(posts[i], rows[i], ALL, TRIPLE, record_a, RECORD, record_b, RECORD));
+        keep(i, gantsorol_collect(posts[i], rows[i], ALL, TRIPLE, record_a, RECORD, record_b, RECORD));
+        keep(i, gantsorol_multiply(posts[i], rows[i], ALL, TRIPLE));
         keep(i, gantsorol_opening_message(posts[i], rows[i], ALL, PRODUCT, message, T + 1));
         hear(opening, i, message);
     }

@@ -10,22 +10,24 @@
  *
  *    1  the number of posts n is outside 2 to 255
  *    2  t is outside 1 to n - 1
- *    3  the session's post, or the post of a line to be written or of a block, is outside 1 to n
+ *    3  the session's post, or the post of a line to be written, of a block or of a pack file, is outside 1 to n
  *    4  a check point is 0 or at least p
  *    5  a list's length is not exactly the one stated
  *    6  a row is above 95, or a triple's first row above 93
- *    7  a row's mark, or a remembered row, is not what the call needs
- *    8  a number that the call is given or reads is at least p, or a record's mark is above 1
- *    9  fewer than t+1 posts were accepted, in either record of a finish
+ *    7  a row's mark, or a remembered row, is not what the call needs; a relation names a triple twice; a kind other
+ *       than 0 stands inside a triple of a pack file
+ *    8  a number that the call is given or reads, or a remembered one that it uses, is at least p, a record's mark is
+ *       above 1, or a kind of a pack file is unknown
+ *    9  fewer than t+1 posts were accepted, in any record
  *   10  a line read has the wrong form
  *   11  a line read has a number out of range
  *   12  the list lent for a line or a file is shorter than that
- *   13  an accepted share is not on the polynomial of the t+1 lowest, in either record of a finish; looked at after 9
+ *   13  an accepted share is not on the polynomial of the t+1 lowest, in any record; looked at after 9 of all
  *   14  a relation has no terms, or more than 32; looked at after 5
  *
  * What a caller has to see to, because no call can: a list is passed as a pointer to its first number, aligned for its
- * type, and its length in numbers (bytes for a line), which the memory really has. The lists of one call must not
- * overlap. Where the length is 0 the pointer is not used and may be NULL.
+ * type, and its length in numbers (bytes for a line or a file, kinds, or terms), which the memory really has. The lists
+ * of one call must not overlap. Where the length is 0 the pointer is not used and may be NULL.
  *
  * A number is an element, 0 to p - 1. A post keeps a session, which each call takes by value and hands back, and a list
  * of GANTSOROL_ROWS_LEN(n, t) numbers, its 96 rows, which it lends to each call. Use the session that the last call
@@ -55,7 +57,7 @@ extern "C" {
 #define GANTSOROL_MAX_TERMS 32
 /* The second row of a term that is no product. */
 #define GANTSOROL_NO_ROW 255
-/* The bytes of the longest line, its line feed included. */
+/* The bytes of the longest broadcast line, its line feed included. A pack file has longer ones. */
 #define GANTSOROL_LONGEST_LINE 5619
 
 /* Lengths of lists, for n posts and threshold t. */
@@ -90,11 +92,14 @@ typedef struct gantsorol_session {
     /* the post's check point, 1 to p - 1 */
     uint32_t point;
     /* of each row: 0 empty, 1 raw (random, not dealt), 2 held; 3 first row of an unused triple, 4 its second or third,
-       5 first row of a triple whose masks were sent, 6 spent */
+       5 first row of a triple whose masks were sent, 6 spent, 7 first row of a triple whose masks were opened */
     uint8_t marks[GANTSOROL_ROWS];
     /* the two factor rows that a triple's masks were sent for, at its first row */
     uint8_t factor_a[GANTSOROL_ROWS];
     uint8_t factor_b[GANTSOROL_ROWS];
+    /* the two numbers that a triple's masks were opened to, at its first row; they stay after the product */
+    uint32_t y_a[GANTSOROL_ROWS];
+    uint32_t y_b[GANTSOROL_ROWS];
 } gantsorol_session;
 
 /* What a call on a session hands back. */
@@ -127,7 +132,7 @@ typedef struct gantsorol_number {
 /* A writer's answer. */
 typedef struct gantsorol_written {
     uint8_t refusal;
-    /* the line's length, its line feed included; 0 when refused */
+    /* the length of the line, its line feed included, or of the file; 0 when refused */
     size_t len;
 } gantsorol_written;
 
@@ -194,7 +199,7 @@ gantsorol_answer gantsorol_linear(gantsorol_session session, uint32_t *rows, siz
                                   size_t b, uint32_t scale, uint32_t fee);
 
 /*
- * The first half of a product: for the held rows a and b, perhaps the same, and the unused triple l, l', l'' (marks 3, 4
+ * The first step of a product: for the held rows a and b, perhaps the same, and the unused triple l, l', l'' (marks 3, 4
  * and 4) that begins at the row first, writes the masks that the post sends to out: the t+1 coefficients of a - l, then
  * the t+1 of b - l'. The row first gets mark 5, so that a triple serves one product only, and a and b are remembered.
  * rows: GANTSOROL_ROWS_LEN, read. out: GANTSOROL_MASKS_LEN, written. Refusals 1 to 8.
@@ -203,22 +208,30 @@ gantsorol_answer gantsorol_masks(gantsorol_session session, const uint32_t *rows
                                  size_t first, uint32_t *out, size_t out_len);
 
 /*
- * The second half: opens a - l with the record record_a and b - l' with record_b, each as gantsorol_open does, and
- * writes the product of a and b into the row first + 2. The marks 5, 4 and 4 of the triple become 6, 6 and 2: the
- * product is held like a dealt number. A sender's block has the first t+1 numbers of its masks in record_a, the last
- * t+1 in record_b. The rows remembered must still be held. A refused finish may be called again, with other records.
- * rows: GANTSOROL_ROWS_LEN, written. record_a, record_b: GANTSOROL_RECORD_LEN each, read. Refusals 1 to 9, 13.
+ * The second step: opens a - l with the record record_a and b - l' with record_b, each as gantsorol_open does, and
+ * remembers the two numbers. The marks 5, 4 and 4 of the triple become 7, 4 and 4. A sender's block has the first t+1
+ * numbers of its masks in record_a, the last t+1 in record_b. The rows remembered must still be held. A refused collect
+ * may be called again, with other records; after one that was done, another gets 7.
+ * rows: GANTSOROL_ROWS_LEN, read. record_a, record_b: GANTSOROL_RECORD_LEN each, read. Refusals 1 to 9, 13.
  */
-gantsorol_answer gantsorol_finish(gantsorol_session session, uint32_t *rows, size_t rows_len, size_t first,
-                                  const uint32_t *record_a, size_t record_a_len, const uint32_t *record_b,
-                                  size_t record_b_len);
+gantsorol_answer gantsorol_collect(gantsorol_session session, const uint32_t *rows, size_t rows_len, size_t first,
+                                   const uint32_t *record_a, size_t record_a_len, const uint32_t *record_b,
+                                   size_t record_b_len);
+
+/*
+ * The third step: writes the product of a and b, from the two numbers remembered, into the row first + 2. The marks 7, 4
+ * and 4 of the triple become 6, 6 and 2: the product is held like a dealt number.
+ * rows: GANTSOROL_ROWS_LEN, written. Refusals 1 to 8.
+ */
+gantsorol_answer gantsorol_multiply(gantsorol_session session, uint32_t *rows, size_t rows_len, size_t first);
 
 /* ---- Relations ---- */
 
 /*
  * A relation says that the sum of its terms is 0 modulo p. Its product terms are proved with a triple each: the masks are
  * made, sent and heard as those of single products, then every post finishes and has its part of the sum, which is opened
- * like any held number. It is 0 exactly when the relation holds; no number of the terms is shown.
+ * like any held number. Where the polynomials that were accepted are truly their senders', it is 0 exactly when the
+ * relation holds. Nothing but the sum is shown.
  *
  * The lists of masks and of records hold those of each product term, in the order of the terms, those of a - l first:
  * k product terms over the whole list of terms, also where that list is too long. A plain term adds nothing to them; without
@@ -227,7 +240,8 @@ gantsorol_answer gantsorol_finish(gantsorol_session session, uint32_t *rows, siz
 
 /*
  * The masks of all product terms, as gantsorol_masks makes them of one: each term's rows must be held and its triple
- * unused, and no triple may be named twice (7). Each triple's first row gets mark 5 and remembers its term's rows.
+ * unused, and no triple may be named twice (7). The numbers of a plain term's row are not read. Each triple's first row
+ * gets mark 5 and remembers its term's rows.
  * rows: GANTSOROL_ROWS_LEN, read. terms: 1 to GANTSOROL_MAX_TERMS, read. out: GANTSOROL_RELATION_MASKS_LEN, written.
  * Refusals 1 to 5, 14, 6 to 8.
  */
@@ -235,12 +249,13 @@ gantsorol_answer gantsorol_relation_masks(gantsorol_session session, const uint3
                                           const gantsorol_term *terms, size_t terms_len, uint32_t *out, size_t out_len);
 
 /*
- * Finishes all product terms, each as gantsorol_finish does, and writes the sum of all terms into the empty row `row`,
- * which becomes held. Each term's rows must be held and each triple must remember its term's rows in their order (7). All
+ * Finishes all product terms, each as gantsorol_collect and then gantsorol_multiply do, and writes the sum of all terms
+ * into the empty row `row`, which becomes held. Each term's rows must be held and each triple, with the marks 5, 4 and 4,
+ * must remember its term's rows in their order (7); the two numbers that it opens to are remembered, and stay. All
  * checks come before the first write: a 9 or 13 of the last record leaves every triple as it was, and the call may be made
  * again with other records.
  * rows: GANTSOROL_ROWS_LEN, written. terms: 1 to GANTSOROL_MAX_TERMS, read. records: GANTSOROL_RELATION_RECORDS_LEN, read.
- * Refusals 1 to 5, 14, 6 to 9, 13; 6, 7, 8, 9 and 13 each over all terms, the sum's row last.
+ * Refusals 1 to 5, 14, 6 to 9, 13, each over all terms, 6 and 7 of the sum's row last.
  */
 gantsorol_answer gantsorol_relation_finish(gantsorol_session session, uint32_t *rows, size_t rows_len,
                                            const gantsorol_term *terms, size_t terms_len, size_t row,

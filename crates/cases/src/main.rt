@@ -141,8 +141,9 @@ fn second_loaded(rows: &mut [u32]) -> Session {
 
 // The product into row 4, and with a fee of 8 into row 5.
 fn charged(session: Session, rows: &mut [u32], record_a: &[u32], record_b: &[u32]) -> Session {
-    let finished = product::finish::finish(session, rows, 2, record_a, record_b).session;
-    sharing::linear::linear(finished, rows, 5, 4, 4, 0, 8).session
+    let collected = product::collect::collect(session, rows, 2, record_a, record_b).session;
+    let multiplied = product::multiply::multiply(collected, rows, 2).session;
+    sharing::linear::linear(multiplied, rows, 5, 4, 4, 0, 8).session
 }
 
 // Posts 1 and 2 work out a charge, 6 rides at 7 and a fee of 8, and post 1 opens it with post 2's message.

@@ -1,7 +1,7 @@
 -- A finish whose polynomials are truly their senders' is one that fits the vectors.
 use Prim.Native.Nat.{ℕ, _+_, _≤_, _<_}
 use mathlib.Core.Path.{_≡_, sym, _∙_, ap, subst}
-use mathlib.Core.Logic.{_≢_, inr}
+use mathlib.Core.Logic.{_≢_, inl, inr}
 use mathlib.Core.List.{List, [], _∷_}
 use native.Mathlib.Decide.{ℕ-discrete}
 use native.Mathlib.Omega.{arith}
@@ -21,10 +21,10 @@ use Rattle.runs.specs.Draws.{Plan, Draw, IsDraw, Sound}
 use Rattle.runs.specs.Outline.{Taking, nothingTaken, aRowPack, aTriplePack, aNumber, aRecord, twoRecords, takes, Given, Move, moves, actsIn}
 use Rattle.runs.specs.Calls.{Post, Actual, Call}
 use Rattle.runs.proofs.Outlines.{every-all}
-use Rattle.runs.proofs.Marks.{Marks, rememberedA, rememberedB, sessionAt, less, vectorA, maskVectorA, maskVectorB}
+use Rattle.runs.proofs.Marks.{Marks, rememberedA, rememberedB, noNumbers, sessionAt, less, vectorA, maskVectorA, maskVectorB}
 use Rattle.runs.proofs.Outcomes.{refusalOf}
 use Rattle.runs.proofs.Holds.{Holder}
-use Rattle.runs.proofs.Finishing.{Trusted, opens-a, opens-b}
+use Rattle.runs.proofs.Finishing.{Trusted, trusted-any, opens-a, opens-b}
 use Rattle.runs.proofs.Records.{own-true}
 use Rattle.runs.proofs.Start.{sizes}
 use Rattle.runs.proofs.Steps.{named, FitsWith, Fits}
@@ -87,7 +87,7 @@ module _ (plan : Plan) (draw : Draw) (L : Ledger) (sound : Sound plan) (is : IsD
       low = omega (arith, ok .r-low)
 
       t : Triple plan draw M vec r
-      t = f r low .triple (inr (ok .first))
+      t = f r low .triple (inr (inl (ok .first)))
 
       both-are : (j : ℕ) → 1 ≤ j → j ≤ plan .n → (half : List ℕ → List ℕ) (xs : List ℕ) → TrueMask S w (plan .t) half r j xs
           → xs ≡ half (halves plan draw r j (vec (rememberedA M r)) (vec (rememberedB M r)))
@@ -96,7 +96,7 @@ module _ (plan : Plan) (draw : Draw) (L : Ledger) (sound : Sound plan) (is : IsD
           ∙ ap half
           (told-masks plan draw L (small plan sound) (w .lines j) (all j lj hj (o .0)) r j (o .1 .0)
           (record { row = omega (arith, ok .r-low); post = (lj, hj); many = o .1 .1; low = o .1 .2 }) (o .1 .3) (rememberedA M r) (rememberedB M r)
-          (f r low .waiting (ok .first) .means) (vec (rememberedA M r)) (vec (rememberedB M r))
+          (f r low .waiting (inl (ok .first)) .means) (vec (rememberedA M r)) (vec (rememberedB M r))
           (f (rememberedA M r) (ok .a-low) .held (ok .a-held)) (f (rememberedB M r) (ok .b-low) .held (ok .b-held)))
 
       pub told-a : (j : ℕ) → 1 ≤ j → j ≤ plan .n → (xs : List ℕ) → TrueMask S w (plan .t) (take (plan .t + 1)) r j xs
@@ -123,10 +123,10 @@ module _ (plan : Plan) (draw : Draw) (L : Ledger) (sound : Sound plan) (is : IsD
       l = q .rows
 
       abbrev holder : Holder
-      holder = record { plan = plan; draw = draw; len = len; post = i; marks = M; vec = vec; rows = l; holds = g .stands .holds }
+      holder = record { plan = plan; draw = draw; len = len; post = i; marks = M; opened = g .stands .opened; vec = vec; rows = l; holds = g .stands .holds }
 
       abbrev s : Session
-      s = sessionAt plan draw i M
+      s = sessionAt plan draw i M (g .stands .opened)
 
       true-a : EnoughTrue (TrueMask S w (plan .t) (take (plan .t + 1)) r) s (Finish.maskA s l r) blocksA → Trusted s (maskVectorA M vec r) blocksA
       true-a t few enough =
@@ -151,8 +151,8 @@ module _ (plan : Plan) (draw : Draw) (L : Ledger) (sound : Sound plan) (is : IsD
           (λ (v : Post). TrueWith S w v (twoRecords r) x → FitsWith plan draw i (g .marks) (g .vec) (twoRecords r) x)
           (sym (named plan draw len i (g .marks) (g .vec) q (g .stands)))
           (λ o. (
-            true-a len i q g r (x .0) (x .1) ok (o .0),
-            true-b len i q g r (x .0) (x .1) ok (o .1),
+            trusted-any plan draw i (g .marks) (g .stands .opened) noNumbers _ (x .0) (true-a len i q g r (x .0) (x .1) ok (o .0)),
+            trusted-any plan draw i (g .marks) (g .stands .opened) noNumbers _ (x .1) (true-b len i q g r (x .0) (x .1) ok (o .1)),
           ))
           y
 

@@ -57,7 +57,7 @@ module _ (plan : Plan) (draw : Draw) (L : Ledger) (is : IsDraw plan draw) (len i
   finish-holds : (ts : List Term) (r : ℕ) (records : List ℕ) → refusalOf (relationFinish ts r records) q ≡ 0
       → Fits plan draw i (g .marks) (g .vec) (relationFinish ts r records) → heldIn (after (perform (relationFinish ts r records) q)) r
   finish-holds ts r records z fit =
-      let f = relation-finished (postAt plan draw i (g .marks) (q .rows) .session) ts r records (q .rows) (subst (λ (x : Post). refusalOf (relationFinish ts r records) x ≡ 0) (named plan draw len i (g .marks) (g .vec) q (g .stands)) z) .checked .placed in
+      let f = relation-finished (postAt plan draw i (g .marks) (g .stands .opened) (q .rows) .session) ts r records (q .rows) (subst (λ (x : Post). refusalOf (relationFinish ts r records) x ≡ 0) (named plan draw len i (g .marks) (g .vec) q (g .stands)) z) .checked .placed in
       let fs = productsOf ts in
       after-marks (relationFinish ts r records) z fit r
       (ap (λ (N : Marks). markOf N r) (marks-products plan draw (2 * length fs) records (summing r ts) 0 fs (g .marks))

@@ -29,12 +29,12 @@ use Rattle.runs.proofs.Start.{sizes}
 use Rattle.correctness.specs.History.{World}
 use Rattle.correctness.specs.Ledger.{Ledger, Plain}
 use Rattle.correctness.specs.Truth.{TrueMask, TrueOf}
-use Rattle.correctness.specs.Claim.{howMany, Opens, Finishes, Right}
+use Rattle.correctness.specs.Claim.{howMany, Opens, Collects, Right}
 use Rattle.correctness.proofs.Meanings.{Is, plain}
 use Rattle.correctness.proofs.Accepting.{Formed, too-few, not-few, formed}
 use Rattle.correctness.proofs.Fitting.{all-true-of, enough-true-of, AllSaid, told-a, told-b}
 use Rattle.correctness.proofs.Permitted as Permitted
-use Rattle.correctness.proofs.Permitted.{Stander, holder, below, is-row, open-passes, waiting, finish-few, finish-done, finish-otherwise}
+use Rattle.correctness.proofs.Permitted.{Stander, holder, below, is-row, open-passes, waiting, collect-few, collect-done, collect-otherwise, multiply-done}
 
 -- what a truth of polynomials must give, to be used in an opening
 abbrev pub Reliable : Plan → Draw → Ledger → (ℕ → ℕ → List ℕ → Type 0) → Type 0
@@ -144,22 +144,23 @@ module _ (G : Stander) where
             ∙ true-agree s X blocks (sizes plan (G .sound) .n-element) (sym (ap (λ (y : List ℕ). tooFew s y blocks) e) ∙ not-few s x blocks many)
             (all-true-of s X blocks (Half half) x e (λ j lj hj ne o. theirs j lj hj _ o) t)
 
-        finishes : (blocksA blocksB : List ℕ) → Proper s blocksA → Proper s blocksB
-            → Finishes (Half (take (plan .t + 1))) (Half (drop (plan .t + 1))) q r blocksA blocksB
-        finishes blocksA blocksB pr pr' = record {
-          few = finish-few G r blocksA blocksB five pr pr';
+        collects : (blocksA blocksB : List ℕ) → Proper s blocksA → Proper s blocksB
+            → Collects (Half (take (plan .t + 1))) (Half (drop (plan .t + 1))) q r blocksA blocksB
+        collects blocksA blocksB pr pr' = record {
+          few = collect-few G r blocksA blocksB five pr pr';
           exact = λ e e' t t'.
-              finish-done G r blocksA blocksB five pr pr' e e'
+              collect-done G r blocksA blocksB five pr pr' e e'
               (agrees (Finish.maskA s l r) (maskVectorA M vec r) (mask-a r five) (take (plan .t + 1)) said-a blocksA e t)
               (agrees (Finish.maskB s l r) (maskVectorB M vec r) (mask-b r five) (drop (plan .t + 1)) said-b blocksB e' t');
-          otherwise = finish-otherwise G r blocksA blocksB five pr pr';
+          otherwise = collect-otherwise G r blocksA blocksB five pr pr';
         }
 
       pub right : Right L P (TrueMask S w (plan .t)) q
       right = record {
         opens = opens;
         accepts-true = accepts-true;
-        finishes = λ r blocksA blocksB five. finishes r five blocksA blocksB;
+        collects = λ r blocksA blocksB five. collects r five blocksA blocksB;
+        multiplies = λ r seven. multiply-done G r seven;
         accepts-a = λ r blocks j five pr lj hj x.
             true-taken (Finish.maskA s l r) (maskVectorA M vec r) (mask-a r five) blocks j lj hj (λ ne. said-a r five j lj hj _ (x ne));
         accepts-b = λ r blocks j five pr lj hj x.

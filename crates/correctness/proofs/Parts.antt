@@ -1,7 +1,7 @@
 -- Rows that are opened in a run are the posts' parts of one vector, whatever the check points: rows held, and a − l and b − l'.
 use Prim.Native.Nat.{ℕ, _+_, _≤_}
 use mathlib.Core.Path.{_≡_, sym, _∙_, ap, ap₂, subst}
-use mathlib.Core.Logic.{inr}
+use mathlib.Core.Logic.{inl, inr}
 use mathlib.Core.List.{List}
 use native.Mathlib.Omega.{arith}
 use lib.ListN.{length, take, drop}
@@ -94,12 +94,12 @@ module _ (plan : Plan) (draw : Draw) (L : Ledger) (S : ℕ → Type 0) (rows : �
   vec = g .vec
 
   abbrev s : Session
-  s = sessionAt plan draw i M
+  s = sessionAt plan draw i M (g .stands .opened)
 
   abbrev l : List ℕ
   l = w .posts i .rows
 
-  at-post : (Q : Post → Type 0) → Q (postAt plan draw i M l) → Q (w .posts i)
+  at-post : (Q : Post → Type 0) → Q (postAt plan draw i M (g .stands .opened) l) → Q (w .posts i)
   at-post Q = subst Q (sym (named plan draw _ i M vec (w .posts i) (g .stands)))
 
   said : AllSaid plan draw L (h .sound) (h .is-draw) S w
@@ -137,7 +137,7 @@ module _ (plan : Plan) (draw : Draw) (L : Ledger) (S : ℕ → Type 0) (rows : �
         b = rememberedB M r;
         X = vec (rememberedA M r);
         Y = vec (rememberedB M r);
-        means = g .facts r (marked-low M (g .sized) r 4 five) .waiting five .means;
+        means = g .facts r (marked-low M (g .sized) r 4 five) .waiting (inl five) .means;
         is-a = g .facts (rememberedA M r) (k .a-low) .held (k .a-held);
         is-b = g .facts (rememberedB M r) (k .b-low) .held (k .b-held);
       }
@@ -161,7 +161,7 @@ module _ (plan : Plan) (draw : Draw) (L : Ledger) (S : ℕ → Type 0) (rows : �
       → PartOf HalfA (q .session) (Finish.maskA (q .session) (q .rows) r) (less (k .X) (vectorA plan draw r))
       × PartOf HalfB (q .session) (Finish.maskB (q .session) (q .rows) r) (less (k .Y) (vectorB plan draw r)))
       (λ five.
-      let t = g .facts r (marked-low M (g .sized) r 4 five) .triple (inr five) in let same = one-pair plan draw L r (factors-of five) k in
+      let t = g .facts r (marked-low M (g .sized) r 4 five) .triple (inr (inl five)) in let same = one-pair plan draw L r (factors-of five) k in
       let ea : maskVectorA M vec r ≡ less (k .X) (vectorA plan draw r) = ap₂ less (same .0) (t .is-a) in
       let eb : maskVectorB M vec r ≡ less (k .Y) (vectorB plan draw r) = ap₂ less (same .1) (t .is-b) in (
         part-from HalfA s (Finish.maskA s l r) _

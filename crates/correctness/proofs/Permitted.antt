@@ -1,5 +1,5 @@
--- One post that stands by the ledger: 1 to 8 refuse no opening of a held row and no finish of masks that were made, with records
--- that 5 and 8 let pass; and what a finish gives, by 9 and 13.
+-- One post that stands by the ledger: 1 to 8 refuse no opening of a held row and no call of a finish of masks that were made, with records
+-- that 5 and 8 let pass; and what its first call gives, by 9 and 13.
 use Prim.Native.Nat.{ℕ, suc, _+_, _*_, _-_, _≤_, _<_}
 use mathlib.Core.Path.{_≡_, refl, _∙_, ap, ap₂}
 use mathlib.Core.Bool.{Bool, true, false, not}
@@ -8,6 +8,9 @@ use mathlib.Core.List.{List, [], _∷_}
 use native.Mathlib.Omega.{arith}
 use borrow.Author.Tests.{eq-eqb}
 use lib.ListN.{length}
+use lib.Seq.{getD-set-same}
+use Rattle.field.specs.Modulus.{p}
+use Rattle.field.specs.Element.{Element}
 use Rattle.shape.specs.Lengths.{rowsLength}
 use Rattle.refusal.specs.Refusal.{_when_, first}
 use Rattle.refusal.specs.Conditions.{wrongLength, anyBeyond}
@@ -20,23 +23,26 @@ use Rattle.opening.specs.Walking.{tooFew, disagree}
 use Rattle.opening.specs.Opening.{openChecks}
 use Rattle.opening.proofs.Passed.{clear-join, OpenChecked, open-clear}
 use Rattle.product.specs.Finish as Finish
-use Rattle.product.specs.Finish.{finishRefusal, unopened, finishAnswer}
-use Rattle.product.proofs.Passed.{Factored, FinishChecked, finish-walks}
+use Rattle.product.specs.Finish.{unopened}
+use Rattle.product.specs.Collect.{collectRefusal, collectAnswer}
+use Rattle.product.specs.Multiply.{multiplyRefusal}
+use Rattle.product.proofs.Passed.{Factored, CollectChecked, collect-walks, multiply-clear}
 use Rattle.factory.proofs.Laws.{elements-append}
-use Rattle.vectors.specs.Vector.{Vector, numbers, rowOf}
+use Rattle.vectors.specs.Vector.{Vector, number, numbers, rowOf}
 use Rattle.runs.specs.Draws.{Plan, Draw, IsDraw, Sound, pointOf}
 use Rattle.runs.specs.Calls.{Proper, Post}
-use Rattle.runs.proofs.Marks.{Marks, markOf, rememberedA, rememberedB, Sized, sessionAt}
+use Rattle.runs.proofs.Marks.{Marks, markOf, rememberedA, rememberedB, Sized, maskVectorA, maskVectorB, Opened, sessionAt}
 use Rattle.runs.proofs.Outcomes.{answer-refusal, settled}
 use Rattle.runs.proofs.Packs.{rowFor}
 use Rattle.runs.proofs.Holds.{Holds, Holder, wide}
 use Rattle.runs.proofs.Lines.{elements-pass, numbers-elements}
 use Rattle.runs.proofs.Steps.{postAt}
-use Rattle.runs.proofs.Facts.{Multiplying}
+use Rattle.runs.proofs.Facts.{Multiplying, Triple}
+use Rattle.runs.proofs.Recalled.{Recalls}
 use Rattle.runs.proofs.Rows.{marked-low, on-three}
 use Rattle.runs.proofs.Start.{session-passes}
 use Rattle.correctness.specs.Ledger.{Ledger}
-use Rattle.correctness.specs.Claim.{howMany, Done}
+use Rattle.correctness.specs.Claim.{howMany, Done, Multiplies}
 use Rattle.correctness.proofs.Standing.{Known, Good}
 use Rattle.correctness.proofs.Accepting.{too-few, not-few}
 
@@ -56,6 +62,8 @@ pub record Stander : Type 0 where
   pub rows : List ℕ
   pub sized : Sized marks
   pub holds : Holds plan draw len post marks vec rows
+  pub opened : Opened
+  pub recalls : Recalls marks vec opened
   pub known : Known plan draw ledger marks vec
   pub full : (r : ℕ) → markOf marks r ≢ 0 → len ≡ 96 * wide plan
 
@@ -76,21 +84,23 @@ standerOf plan draw L sound is len i lo hi q g = record {
   rows = q .rows;
   sized = g .sized;
   holds = g .stands .holds;
+  opened = g .stands .opened;
+  recalls = g .stands .recalls;
   known = g .facts;
   full = g .full;
 }
 
 module _ (G : Stander) where
-  open Stander G using (plan, draw, ledger as L, sound, is-draw as is, len, post as i, low as lo, high as hi, marks as M, vec, rows as l, sized, holds as h, known as f, full)
+  open Stander G using (plan, draw, ledger as L, sound, is-draw as is, len, post as i, low as lo, high as hi, marks as M, vec, rows as l, sized, holds as h, opened as Y, recalls, known as f, full)
 
   abbrev pub holder : Holder
-  holder = record { plan = plan; draw = draw; len = len; post = i; marks = M; vec = vec; rows = l; holds = h }
+  holder = record { plan = plan; draw = draw; len = len; post = i; marks = M; opened = Y; vec = vec; rows = l; holds = h }
 
   abbrev pub s : Session
-  s = sessionAt plan draw i M
+  s = sessionAt plan draw i M Y
 
   abbrev pub q : Post
-  q = postAt plan draw i M l
+  q = postAt plan draw i M Y l
 
   abbrev pub row : ℕ → List ℕ
   row r = rowAt (wide plan) l r
@@ -128,11 +138,11 @@ module _ (G : Stander) where
         record-low = pr .low;
       })
 
-  -- ---- a finish
+  -- ---- the first call of a finish
 
   pub waiting : (r : ℕ) → markOf M r ≡ 5 → Multiplying 5 M (rememberedA M r) (rememberedB M r) r
   waiting r five =
-      let w = f r (below r 4 five) .waiting five in let t = f r (below r 4 five) .triple (inr five) in
+      let w = f r (below r 4 five) .waiting (inl five) in let t = f r (below r 4 five) .triple (inr (inl five)) in
       record {
         a-low = w .a-low;
         b-low = w .b-low;
@@ -160,8 +170,8 @@ module _ (G : Stander) where
       third-mark = k .third;
     }
 
-    finish-passes : FinishChecked s l r blocksA blocksB
-    finish-passes = record {
+    collect-passes : CollectChecked s l r blocksA blocksB
+    collect-passes = record {
       frame = frame-clear r 4 five;
       placed = record { a-long = pr .long; b-long = pr' .long; factors = factors };
       numbers = record {
@@ -171,7 +181,6 @@ module _ (G : Stander) where
           first-low = numbers-pass r 4 five;
           second-low = numbers-pass (r + 1) 3 (k .second);
         };
-        third-low = numbers-pass (r + 2) 3 (k .third);
         record-a-low = pr .low;
         record-b-low = pr' .low;
       };
@@ -183,42 +192,71 @@ module _ (G : Stander) where
     abbrev xb : List ℕ
     xb = Finish.maskB s l r
 
-    by-walks : finishRefusal s l r blocksA blocksB ≡ first (unopened s xa xb blocksA blocksB)
-    by-walks = finish-walks s l r blocksA blocksB finish-passes
+    by-walks : collectRefusal s l r blocksA blocksB ≡ first (unopened s xa xb blocksA blocksB)
+    by-walks = collect-walks s l r blocksA blocksB collect-passes
 
-    refusal-is : finishAnswer s l r blocksA blocksB .refusal ≡ first (unopened s xa xb blocksA blocksB)
-    refusal-is = answer-refusal (finishRefusal s l r blocksA blocksB) 0 _ s ∙ by-walks
+    refusal-is : collectAnswer s l r blocksA blocksB .refusal ≡ first (unopened s xa xb blocksA blocksB)
+    refusal-is = answer-refusal (collectRefusal s l r blocksA blocksB) 0 _ s ∙ by-walks
 
     second : (x a b : Bool) → first (9 when x ∷ 9 when true ∷ 13 when a ∷ 13 when b ∷ []) ≡ 9
     second true a b = refl
     second false a b = refl
 
-    pub finish-few : (howMany s xa blocksA ≤ plan .t) ⊎ (howMany s xb blocksB ≤ plan .t) → finishAnswer s l r blocksA blocksB .refusal ≡ 9
-    finish-few (inl e) = refusal-is ∙ rw (too-few s xa blocksA e) refl
-    finish-few (inr e) = refusal-is ∙ rw (too-few s xb blocksB e) (second (tooFew s xa blocksA) (disagree s xa blocksA) (disagree s xb blocksB))
+    pub collect-few : (howMany s xa blocksA ≤ plan .t) ⊎ (howMany s xb blocksB ≤ plan .t) → collectAnswer s l r blocksA blocksB .refusal ≡ 9
+    collect-few (inl e) = refusal-is ∙ rw (too-few s xa blocksA e) refl
+    collect-few (inr e) = refusal-is ∙ rw (too-few s xb blocksB e) (second (tooFew s xa blocksA) (disagree s xa blocksA) (disagree s xb blocksB))
 
     module _ (e : s .t + 1 ≤ howMany s xa blocksA) (e' : s .t + 1 ≤ howMany s xb blocksB) where
       -- 13 decides
       by-thirteen : first (unopened s xa xb blocksA blocksB) ≡ first (13 when disagree s xa blocksA ∷ 13 when disagree s xb blocksB ∷ [])
       by-thirteen = rw (not-few s xa blocksA e, not-few s xb blocksB e') refl
 
-      pub finish-done : disagree s xa blocksA ≡ false → disagree s xb blocksB ≡ false → Done q r blocksA blocksB
-      finish-done off off' =
+      pub collect-done : disagree s xa blocksA ≡ false → disagree s xb blocksB ≡ false → Done q r blocksA blocksB
+      collect-done off off' =
           let z = by-walks ∙ by-thirteen ∙ ap₂ (λ (x y : Bool). first (13 when x ∷ 13 when y ∷ [])) off off' in (
-            answer-refusal (finishRefusal s l r blocksA blocksB) 0 _ s ∙ z,
-            ap (λ (x : Post). mark (x .session) (r + 2)) (settled (finishRefusal s l r blocksA blocksB) 0 _ s l l z)
-                ∙ on-three M r 6 6 2 sized (k .r-low) .2,
+            answer-refusal (collectRefusal s l r blocksA blocksB) 0 _ s ∙ z,
+            ap (λ (x : Post). mark (x .session) r) (settled (collectRefusal s l r blocksA blocksB) 0 _ s l l z)
+                ∙ getD-set-same (M .marks) r 7 0 (omega (arith, sized .marks, k .r-low)),
           )
 
-      pub finish-otherwise : Done q r blocksA blocksB ⊎ (finishAnswer s l r blocksA blocksB .refusal ≡ 13)
-      finish-otherwise = go (disagree s xa blocksA) (disagree s xb blocksB) refl refl
+      pub collect-otherwise : Done q r blocksA blocksB ⊎ (collectAnswer s l r blocksA blocksB .refusal ≡ 13)
+      collect-otherwise = go (disagree s xa blocksA) (disagree s xb blocksB) refl refl
         where
           off : (x y : Bool) → disagree s xa blocksA ≡ x → disagree s xb blocksB ≡ y → first (13 when x ∷ 13 when y ∷ []) ≡ 13
-              → finishAnswer s l r blocksA blocksB .refusal ≡ 13
+              → collectAnswer s l r blocksA blocksB .refusal ≡ 13
           off x y ex ey z = refusal-is ∙ by-thirteen ∙ ap₂ (λ (a b : Bool). first (13 when a ∷ 13 when b ∷ [])) ex ey ∙ z
 
           go : (x y : Bool) → disagree s xa blocksA ≡ x → disagree s xb blocksB ≡ y
-              → Done q r blocksA blocksB ⊎ (finishAnswer s l r blocksA blocksB .refusal ≡ 13)
+              → Done q r blocksA blocksB ⊎ (collectAnswer s l r blocksA blocksB .refusal ≡ 13)
           go true y ex ey = inr (off true y ex ey refl)
           go false true ex ey = inr (off false true ex ey refl)
-          go false false ex ey = inl (finish-done ex ey)
+          go false false ex ey = inl (collect-done ex ey)
+
+  -- ---- the second call
+
+  pub multiply-done : (r : ℕ) → markOf M r ≡ 7 → Multiplies q r
+  multiply-done r seven = (
+    answer-refusal (multiplyRefusal s l r) 0 _ s ∙ z,
+    ap (λ (x : Post). mark (x .session) (r + 2)) (settled (multiplyRefusal s l r) 0 _ s l l z) ∙ on-three M r 6 6 2 sized low .2,
+  )
+    where
+      t : Triple plan draw M vec r
+      t = f r (below r 6 seven) .triple (inr (inr seven))
+
+      low : r < 94
+      low = omega (arith, below (r + 2) 3 (t .third))
+
+      element-is : (x : ℕ) (e : Element) → x ≡ e .0 → x < p
+      element-is x e h = rw h (e .1)
+
+      z : multiplyRefusal s l r ≡ 0
+      z =
+          multiply-clear s l r (frame-clear r 6 seven)
+          (record { triple-in = omega (arith, low); first-mark = seven; second-mark = t .second; third-mark = t .third })
+          (record {
+            a-element = element-is _ (number (maskVectorA M vec r)) (recalls .each r seven .is-a);
+            b-element = element-is _ (number (maskVectorB M vec r)) (recalls .each r seven .is-b);
+            first-low = numbers-pass r 6 seven;
+            second-low = numbers-pass (r + 1) 3 (t .second);
+            third-low = numbers-pass (r + 2) 3 (t .third);
+          })

@@ -2,6 +2,7 @@
 use Prim.Native.Nat.{ℕ, suc, _+_, _*_, _%_, _≤_}
 use mathlib.Core.Path.{_≡_, refl, sym, _∙_, ap, ap₂, subst}
 use mathlib.Core.Bool.{Bool, true, false}
+use mathlib.Core.Logic.{inl}
 use mathlib.Core.List.{List, [], _∷_, _++_, map}
 use native.Mathlib.Nat.{add-mod, add-zero}
 use native.Mathlib.Omega.{arith}
@@ -129,13 +130,13 @@ module _ (plan : Plan) (draw : Draw) (L : Ledger) (len i : ℕ) (q : Post) (g : 
   writes : Written draw L (relationFinish ts r records) → refusalOf (relationFinish ts r records) q ≡ 0 → RelationIn L r ts
   writes w =
       subst In (sym (named plan draw len i M (g .vec) q (g .stands))) (λ z.
-      let f = relation-finished (postAt plan draw i M (q .rows) .session) ts r records (q .rows) z .checked .placed in
+      let f = relation-finished (postAt plan draw i M (g .stands .opened) (q .rows) .session) ts r records (q .rows) z .checked .placed in
       let fs = productsOf ts in
       record {
         sum = sum-in ts (f .some) (all-second _ (finishing {K = Actual} (2 * length fs) records 0 fs) (summing r ts) (every-all _ (moves c) w));
         products =
-            all-zip (λ t k e. g .facts (t .first) (omega (arith, k .r-low)) .waiting (k .first) .means ∙ ap₂ (product (t .first)) (e .0) (e .1)) fs
-            (waiting plan draw i M (q .rows) ts r records f) (f .remembered);
+            all-zip (λ t k e. g .facts (t .first) (omega (arith, k .r-low)) .waiting (inl (k .first)) .means ∙ ap₂ (product (t .first)) (e .0) (e .1)) fs
+            (waiting plan draw i M (g .stands .opened) (q .rows) ts r records f) (f .remembered);
       })
 
 pub relation-shown : RelationShown

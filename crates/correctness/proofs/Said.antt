@@ -16,7 +16,7 @@ use Rattle.factory.proofs.Laws.{elements-append}
 use Rattle.vectors.specs.Vector.{Vector, numbers}
 use Rattle.vectors.proofs.Linear.{length-numbers}
 use Rattle.runs.specs.Draws.{Plan, Draw, IsDraw}
-use Rattle.runs.specs.Outline.{Act, loads, loadsTriple, deals, opens, sums, factors, multiplies, takes, Given, Move, moves, actsIn, Sending, itsOpening, itsMasks, sends}
+use Rattle.runs.specs.Outline.{Act, loads, loadsTriple, deals, opens, sums, factors, collects, multiplies, takes, Given, Move, moves, actsIn, Sending, itsOpening, itsMasks, sends}
 use Rattle.runs.specs.Calls.{Post, Actual, Call, perform, sentIf, openingLine, masksLine, lineOf, sentBy, broadcast, Among}
 use Rattle.runs.proofs.Outlines.{every-all}
 use Rattle.runs.proofs.Marks.{markOf, less, vectorA, vectorB, Masking, none, of, masking}
@@ -239,6 +239,7 @@ module _ (plan : Plan) (draw : Draw) (L : Ledger) (small : plan .n < tens 10) wh
     noted (opens r) x w = tt
     noted (sums r t ts) x w = tt
     noted (factors a b r) x w = w
+    noted (collects r) x w = tt
     noted (multiplies r) x w = tt
 
     all-noted : (ms : List (Move Actual)) → All Wrote ms → All Noted (map masking (actsIn ms))

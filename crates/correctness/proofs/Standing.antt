@@ -9,13 +9,13 @@ use Rattle.field.specs.Element.{element}
 use Rattle.poly.specs.Counting.{All}
 use Rattle.vectors.specs.Vector.{Vector, raised, number}
 use Rattle.runs.specs.Draws.{Plan, Draw, IsDraw}
-use Rattle.runs.specs.Outline.{Act, loads, loadsTriple, deals, opens, Summand, once, times, fee, sums, factors, multiplies, takes, Given, Move, moves, actsIn, acts, sends}
+use Rattle.runs.specs.Outline.{Act, loads, loadsTriple, deals, opens, Summand, once, times, fee, sums, factors, collects, multiplies, takes, Given, Move, moves, actsIn, acts, sends}
 use Rattle.runs.specs.Calls.{Post, Actual, Call, perform, after}
 use Rattle.runs.proofs.Marks.{Marks, markOf, rememberedA, rememberedB, Sized, less, worthVector, totalVector, written, marksBy, vectorsBy, marksAll, numberIn, vectorsAll}
 use Rattle.runs.proofs.Sums.{productVector, product-sum}
 use Rattle.runs.proofs.Outcomes.{refusalOf}
 use Rattle.runs.proofs.Steps.{Stands, named, Fits, Stand, stands-refused, stands-after}
-use Rattle.runs.proofs.Facts.{HeldIn, AllowedBy, AllowedAll, Allowed, Multiplying, Triple, Facts, Meant}
+use Rattle.runs.proofs.Facts.{HeldIn, AllowedBy, AllowedAll, Allowed, Tripled, Triple, Facts, Meant}
 use Rattle.runs.proofs.Outlines.{every-all}
 use Rattle.runs.proofs.Rows.{sized-by, sized-after}
 use Rattle.runs.proofs.Kept.{facts-by}
@@ -60,20 +60,21 @@ module _ (plan : Plan) (draw : Draw) (L : Ledger) where
     pub allowed-at : (c : Call) → refusalOf c q ≡ 0 → Allowed (acts c) (sends c) (g .marks)
     allowed-at c =
         subst (λ (x : Post). refusalOf c x ≡ 0 → Allowed (acts c) (sends c) (g .marks)) (sym (named plan draw len i (g .marks) (g .vec) q (g .stands)))
-        (allowed plan draw i (g .marks) (q .rows) c)
+        (allowed plan draw i (g .marks) (g .stands .opened) (q .rows) c)
 
     room-at : (c : Call) → refusalOf c q ≡ 0 → len ≡ 96 * (plan .t + 1 + 2 * plan .n)
     room-at c z =
         sym (g .stands .holds .long)
         ∙ subst (λ (x : Post). refusalOf c x ≡ 0 → length (q .rows) ≡ 96 * (plan .t + 1 + 2 * plan .n))
-        (sym (named plan draw len i (g .marks) (g .vec) q (g .stands))) (room plan draw i (g .marks) (q .rows) c) z
+        (sym (named plan draw len i (g .marks) (g .vec) q (g .stands))) (room plan draw i (g .marks) (g .stands .opened) (q .rows) c) z
 
   -- what a call that does what the ledger says brings
   module _ (M : Marks) (vec : ℕ → Vector) (f : Known M vec) where
-    finished-is : (r : ℕ) → Multiplying 5 M (rememberedA M r) (rememberedB M r) r → Is plan draw L (r + 2) (written M vec r)
+    finished-is : (r : ℕ) → Tripled 7 M r → Is plan draw L (r + 2) (written M vec r)
     finished-is r ok =
-        subst (λ (m : Meaning). IsOf plan draw L (r + 2) m (written M vec r)) (sym (f r low .waiting (ok .first) .means))
-        (is-product (f (rememberedA M r) (ok .a-low) .held (ok .a-held)) (f (rememberedB M r) (ok .b-low) .held (ok .b-held))
+        let w = f r low .waiting (inr (ok .first)) in
+        subst (λ (m : Meaning). IsOf plan draw L (r + 2) m (written M vec r)) (sym (w .means))
+        (is-product (f (rememberedA M r) (w .a-low) .held (w .a-held)) (f (rememberedB M r) (w .b-low) .held (w .b-held))
         (product-sum vec r _ _
         ∙ (λ j.
         productVector (number (less (vec (rememberedA M r)) (t .is-a j)) .0) (number (less (vec (rememberedB M r)) (t .is-b j)) .0)
@@ -83,7 +84,7 @@ module _ (plan : Plan) (draw : Draw) (L : Ledger) where
         low = omega (arith, ok .r-low)
 
         t : Triple plan draw M vec r
-        t = f r low .triple (inr (ok .first))
+        t = f r low .triple (inr (inr (ok .first)))
 
     -- a sum of held rows
     summand-is : (r : ℕ) (t : Summand) → HeldIn M t → IsOf plan draw L r (summed t []) (worthVector vec t)
@@ -106,6 +107,7 @@ module _ (plan : Plan) (draw : Draw) (L : Ledger) where
     meant i (sums r t ts) x ok own w =
         subst (λ (m : Meaning). IsOf plan draw L r m (totalVector vec t ts)) (sym w) (sum-is r t ts (ok .0 .held .0) (ok .0 .held .1))
     meant i (factors a b r) x ok own w = w
+    meant i (collects r) x ok own w = tt
     meant i (multiplies r) x ok own w = finished-is r (ok .0)
 
   abbrev Wrote : Move Actual → Type 0

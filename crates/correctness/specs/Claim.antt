@@ -1,6 +1,7 @@
 -- Demand 2 over whole runs: "where each polynomial accepted in every post's finishes before it, and in this opening, is truly
 -- its sender's, an opening that accepts t+1 or more gives exactly the plain number, and one that accepts fewer is refused with 9".
--- Document 02, (iv): "It refuses with 13 when an accepted share lies off that polynomial, in either record of a finish, after 9."
+-- Document 02, (iv): "It refuses with 13 when an accepted share lies off that polynomial, in either record of a finish, after 9." By (viii) the
+-- polynomials of a finish are accepted in its first call, collect; the second, multiply, takes none.
 use Prim.Native.Nat.{ℕ, _+_, _≤_}
 use mathlib.Core.Path.{_≡_}
 use mathlib.Core.Bool.{true}
@@ -13,7 +14,9 @@ use Rattle.session.specs.Sessions.{mark}
 use Rattle.session.specs.Rows.{width, rowAt}
 use Rattle.opening.specs.Walking.{sent, accepts, accepted}
 use Rattle.opening.specs.Opening.{openAnswer}
-use Rattle.product.specs.Finish.{maskA, maskB, finishAnswer}
+use Rattle.product.specs.Finish.{maskA, maskB}
+use Rattle.product.specs.Collect.{collectAnswer}
+use Rattle.product.specs.Multiply.{multiplyAnswer}
 use Rattle.runs.specs.Draws.{Plan, Draw, IsDraw, Sound}
 use Rattle.runs.specs.Calls.{Post, opening, Proper}
 use Rattle.correctness.specs.History.{Event, World, history, answers, begin, Each}
@@ -55,27 +58,32 @@ pub record Answered (L : Ledger) (P : ℕ → List ℕ → Type 0) (q : Post) (r
 abbrev pub Opens : Ledger → (ℕ → List ℕ → Type 0) → Post → ℕ → List ℕ → Type 0
 Opens L P q r blocks = Answered L P q r blocks (openAnswer (q .session) (q .rows) r blocks)
 
--- A finish that is done, and the third row held.
+-- A finish's first call that is done, and the triple's first row marked 7.
 abbrev pub Done : Post → ℕ → List ℕ → List ℕ → Type 0
 Done q r blocksA blocksB =
-    (finishAnswer (q .session) (q .rows) r blocksA blocksB .refusal ≡ 0)
-    × (mark (finishAnswer (q .session) (q .rows) r blocksA blocksB .session) (r + 2) ≡ 2)
+    (collectAnswer (q .session) (q .rows) r blocksA blocksB .refusal ≡ 0)
+    × (mark (collectAnswer (q .session) (q .rows) r blocksA blocksB .session) r ≡ 7)
 
--- Post q finishes the triple at r, whose masks it made: 9, where either record has too few; done, where each accepted polynomial of
--- both is true; otherwise done, or 13. PA and PB say whose the polynomials of a − l and of b − l' are.
-pub record Finishes (PA PB : ℕ → List ℕ → Type 0) (q : Post) (r : ℕ) (blocksA blocksB : List ℕ) : Type 0 where
+-- Post q collects the masks of the triple at r, which it made: 9, where either record has too few; done, where each accepted
+-- polynomial of both is true; otherwise done, or 13. PA and PB say whose the polynomials of a − l and of b − l' are.
+pub record Collects (PA PB : ℕ → List ℕ → Type 0) (q : Post) (r : ℕ) (blocksA blocksB : List ℕ) : Type 0 where
   pub few : (howMany (q .session) (maskA (q .session) (q .rows) r) blocksA ≤ q .session .t)
       ⊎ (howMany (q .session) (maskB (q .session) (q .rows) r) blocksB ≤ q .session .t)
-      → finishAnswer (q .session) (q .rows) r blocksA blocksB .refusal ≡ 9
+      → collectAnswer (q .session) (q .rows) r blocksA blocksB .refusal ≡ 9
   pub exact : q .session .t + 1 ≤ howMany (q .session) (maskA (q .session) (q .rows) r) blocksA
       → q .session .t + 1 ≤ howMany (q .session) (maskB (q .session) (q .rows) r) blocksB
       → TrueOf PA (q .session) (maskA (q .session) (q .rows) r) blocksA
       → TrueOf PB (q .session) (maskB (q .session) (q .rows) r) blocksB → Done q r blocksA blocksB
   pub otherwise : q .session .t + 1 ≤ howMany (q .session) (maskA (q .session) (q .rows) r) blocksA
       → q .session .t + 1 ≤ howMany (q .session) (maskB (q .session) (q .rows) r) blocksB
-      → Done q r blocksA blocksB ⊎ (finishAnswer (q .session) (q .rows) r blocksA blocksB .refusal ≡ 13)
+      → Done q r blocksA blocksB ⊎ (collectAnswer (q .session) (q .rows) r blocksA blocksB .refusal ≡ 13)
 
--- What is so at a post: of every opening of a held row and every finish, with records that 5 and 8 let pass; and a polynomial
+-- Post q multiplies by the triple at r, whose masks it opened: done, and the third row held.
+abbrev pub Multiplies : Post → ℕ → Type 0
+Multiplies q r =
+    (multiplyAnswer (q .session) (q .rows) r .refusal ≡ 0) × (mark (multiplyAnswer (q .session) (q .rows) r .session) (r + 2) ≡ 2)
+
+-- What is so at a post: of every opening of a held row and both calls of a finish, with records that 5 and 8 let pass; and a polynomial
 -- that is truly its sender's is accepted. P r j xs says that xs is truly j's polynomial of row r, and H half r j xs that xs is
 -- truly that half of j's masks of the triple at r.
 pub record Right (L : Ledger) (P : ℕ → ℕ → List ℕ → Type 0) (H : (List ℕ → List ℕ) → ℕ → ℕ → List ℕ → Type 0) (q : Post) : Type 0 where
@@ -85,10 +93,11 @@ pub record Right (L : Ledger) (P : ℕ → ℕ → List ℕ → Type 0) (H : (Li
       → 1 ≤ j → j ≤ q .session .n
       → (j ≢ q .session .post → P r j (sent (q .session) (rowAt (width (q .session)) (q .rows) r) blocks j))
       → accepts (q .session) (rowAt (width (q .session)) (q .rows) r) blocks j ≡ true
-  pub finishes : (r : ℕ) (blocksA blocksB : List ℕ) → mark (q .session) r ≡ 5 → Proper (q .session) blocksA
+  pub collects : (r : ℕ) (blocksA blocksB : List ℕ) → mark (q .session) r ≡ 5 → Proper (q .session) blocksA
       → Proper (q .session) blocksB
-      → Finishes (H (take (q .session .t + 1)) r) (H (drop (q .session .t + 1)) r) q r blocksA blocksB
-  -- of a − l, in a finish's first record: the own polynomial always, another's where it is truly the first half of its masks
+      → Collects (H (take (q .session .t + 1)) r) (H (drop (q .session .t + 1)) r) q r blocksA blocksB
+  pub multiplies : (r : ℕ) → mark (q .session) r ≡ 7 → Multiplies q r
+  -- of a − l, in a collect's first record: the own polynomial always, another's where it is truly the first half of its masks
   pub accepts-a : (r : ℕ) (blocks : List ℕ) (j : ℕ) → mark (q .session) r ≡ 5 → Proper (q .session) blocks
       → 1 ≤ j → j ≤ q .session .n
       → (j ≢ q .session .post → H (take (q .session .t + 1)) r j (sent (q .session) (maskA (q .session) (q .rows) r) blocks j))

@@ -7,7 +7,7 @@ use Rattle.field.specs.Modulus.{p}
 use Rattle.field.specs.Arithmetic as Arithmetic
 use Rattle.factory.specs.Packs.{dealerNumber}
 use Rattle.runs.specs.Draws.{Draw, rawDraw}
-use Rattle.runs.specs.Outline.{Act, loads, loadsTriple, deals, opens, Summand, once, times, fee, sums, factors, multiplies, takes, Given, moves, Every}
+use Rattle.runs.specs.Outline.{Act, loads, loadsTriple, deals, opens, Summand, once, times, fee, sums, factors, collects, multiplies, takes, Given, moves, Every}
 use Rattle.runs.specs.Calls.{Actual, Call}
 
 -- What a row holds: nothing of its own; u, dealt; a sum, of one summand or more; a times b, by the triple at r.
@@ -32,7 +32,8 @@ WrittenBy draw L (deals r) c = (u : ℕ) × (u < p) × (L r ≡ dealt u) × (c �
 WrittenBy draw L (opens r) blocks = Unit {0}
 WrittenBy draw L (sums r t ts) x = L r ≡ summed t ts
 WrittenBy draw L (factors a b r) x = L (r + 2) ≡ product r a b
-WrittenBy draw L (multiplies r) blocks = Unit {0}
+WrittenBy draw L (collects r) blocks = Unit {0}
+WrittenBy draw L (multiplies r) x = Unit {0}
 
 abbrev pub Written : Draw → Ledger → Call → Type 0
 Written draw L c = Every (λ m. WrittenBy draw L (m .0) (m .1)) (moves c)

@@ -83,7 +83,7 @@ RelationShown =
     × ((number : ℕ → ℕ) → Named L number ts → (j : ℕ) → 1 ≤ j → j ≤ plan .n → S j
     → ShownAt S (history (before ++ (e ∷ behind)) w) r number ts j))
 
--- ---- The answer of a relation's finish, as `Finishes` has that of a single one.
+-- ---- The answer of a relation's finish, as `Collects` has that of a single collect.
 
 -- P holds of every product term and its place, which is k for the first; of one of them.
 abbrev pub EachAt : (ℕ → Term → Type 0) → ℕ → List Term → Type 0

@@ -54,7 +54,7 @@ pub record EnoughTrue (P : ℕ → List ℕ → Type 0) (s : Session) (row block
   pub different : Distinct good
   pub theirs : All (λ j. (1 ≤ j) × (j ≤ s .n) × (accepts s row blocks j ≡ true) × (j ≢ s .post → P j (sent s row blocks j))) good
 
--- In a finish of the post q, of both records. Of one that is not refused no more is asked than "each polynomial accepted is truly its
+-- In a finish of the post q, of both records, which its first call takes. Of one that is not refused no more is asked than "each polynomial accepted is truly its
 -- sender's": at least t+1 of them (`AllIsEnough` in specs/Claim.antt).
 abbrev pub TrueWith : (ℕ → Type 0) → World → Post → (t : Taking) → Given Actual t → Type 0
 TrueWith S w q nothingTaken x = Unit {0}

@@ -1,4 +1,4 @@
--- A run for which the premises hold: three posts, in different orders, with a deal refused, a lie rejected and a finish that
+-- A run for which the premises hold: three posts, in different orders, with a deal refused, a lie rejected and a collect that
 -- finds too few.
 use Prim.Native.Nat.{ℕ, _<_}
 use mathlib.Core.Path.{_≡_, refl}
@@ -14,7 +14,7 @@ use Rattle.opening.specs.Walking.{acceptedPosts}
 use Rattle.opening.specs.Opening.{openAnswer}
 use Rattle.product.specs.Finish.{maskA}
 use Rattle.runs.specs.Draws.{Draw, IsDraw, rawDraw}
-use Rattle.runs.specs.Calls.{Post, message, linear, masks, finish}
+use Rattle.runs.specs.Calls.{Post, message, linear, masks, collect, multiply}
 use Rattle.runs.proofs.Lines.{elements-of}
 use Rattle.correctness.specs.History.{Event, World, history, begin, Each}
 use Rattle.correctness.specs.Ledger.{dealt, Written, Plain}
@@ -31,7 +31,7 @@ unfolding Computes drawn draw
 draw-is = is-draw drawn refl (elements-of drawn refl)
 
 answered : refusals events new
-    ≡ 0 ∷ 0 ∷ 0 ∷ 0 ∷ 0 ∷ 0 ∷ 0 ∷ 0 ∷ 0 ∷ 0 ∷ 7 ∷ 0 ∷ 0 ∷ 0 ∷ 0 ∷ 0 ∷ 0 ∷ 0 ∷ 0 ∷ 0 ∷ 0 ∷ 0 ∷ 9 ∷ 0 ∷ 0 ∷ 0 ∷ []
+    ≡ 0 ∷ 0 ∷ 0 ∷ 0 ∷ 0 ∷ 0 ∷ 0 ∷ 0 ∷ 0 ∷ 0 ∷ 7 ∷ 0 ∷ 0 ∷ 0 ∷ 0 ∷ 0 ∷ 0 ∷ 0 ∷ 0 ∷ 0 ∷ 0 ∷ 0 ∷ 9 ∷ 0 ∷ 0 ∷ 0 ∷ 0 ∷ 0 ∷ []
 unfolding Computes plan drawWith drawn draw loads deals sums ends refusals
 answered = refl
 
@@ -48,7 +48,7 @@ own-parts =
     ((tt, refl), ((tt, refl), ((refl, refl), ((refl, refl), ((tt, refl), ((tt, refl), ((tt, refl), ((tt, refl), ((refl, refl), tt)))))))))
     (tt, (tt, (tt, (tt, (tt, (tt, (tt, tt)))))))
     (tt, (tt, (tt, (tt, (tt, (tt, tt))))))
-    (tt, (tt, (tt, (tt, tt))))
+    (tt, (tt, (tt, (tt, (tt, (tt, tt))))))
 
 all-written : All (λ e. Written draw ledger (e .call)) events
 unfolding loads deals sums ends ledger
@@ -57,7 +57,7 @@ all-written =
     (tt, (tt, (tt, (tt, (tt, (tt, (tt, (tt, (tt, tt)))))))))
     (six, (six, (seven, (seven, (six, (six, (seven, tt)))))))
     (refl, (tt, (refl, (refl, (refl, (refl, tt))))))
-    (tt, (tt, (tt, (tt, tt))))
+    (tt, (tt, (tt, (tt, (tt, (tt, tt))))))
   where
     six : (u : ℕ) × (u < p) × (ledger 0 ≡ dealt u) × (dealerNumber 6 (getD (rawDraw draw 0) 0 0) .value ≡ dealerNumber u (getD (rawDraw draw 0) 0 0) .value)
     six = (6, lit< tt, refl, refl)
@@ -86,7 +86,7 @@ true-ends = (
         two-true 1 2 refl (omega arith) (lit≤ tt, lit≤ tt, refl, λ ne. (tt, (m1, refl, elements-of m1 refl, inl refl, refl))) (lit≤ tt, lit≤ tt, refl, λ ne. absurd (ne refl)),
         two-true 1 2 refl (omega arith) (lit≤ tt, lit≤ tt, refl, λ ne. (tt, (m1, refl, elements-of m1 refl, inl refl, refl))) (lit≤ tt, lit≤ tt, refl, λ ne. absurd (ne refl)),
       )),
-      ((λ m z. tt), tt),
+      ((λ m z. tt), ((λ m z. tt), ((λ m z. tt), tt))),
     ),
   ),
 )
@@ -104,7 +104,7 @@ premises = record {
 
 -- ---- what it shows
 
--- post 2's false block is not accepted: the finish takes posts 1 and 3
+-- post 2's false block is not accepted: post 1 takes its own and post 3's
 rejected : (let q = history before new .posts 1 in acceptedPosts (q .session) (maskA (q .session) (q .rows) 2) lie) ≡ 1 ∷ 3 ∷ []
 unfolding Computes plan drawWith drawn draw loads deals sums
 rejected = refl

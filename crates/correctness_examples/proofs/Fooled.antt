@@ -12,7 +12,7 @@ use Rattle.opening.specs.Walking.{opened}
 use Rattle.opening.specs.Opening.{openAnswer}
 use Rattle.product.specs.Finish.{maskA}
 use Rattle.runs.specs.Draws.{Draw}
-use Rattle.runs.specs.Calls.{message, masks, finish}
+use Rattle.runs.specs.Calls.{message, masks, collect, multiply}
 use Rattle.runs.proofs.Lines.{elements-of}
 use Rattle.correctness.specs.History.{Event, World, history, begin, Each}
 use Rattle.correctness.specs.Ledger.{Written, Plain}
@@ -113,28 +113,29 @@ m2 = 0 ∷ 2147483646 ∷ 3 ∷ 0 ∷ []
 -- of a − l post 1 takes the false p − 2 + 0z for post 2's; all else that the two accept is true
 unfoldable ends : List Event
 ends =
-    call 1 (finish 2 (0 ∷ 0 ∷ 0 ∷ 1 ∷ 2147483645 ∷ 0 ∷ 0 ∷ 0 ∷ 0 ∷ []) (0 ∷ 0 ∷ 0 ∷ 1 ∷ 3 ∷ 0 ∷ 0 ∷ 0 ∷ 0 ∷ []))
-    ∷ call 2 (finish 2 (1 ∷ 2147483643 ∷ 1 ∷ 0 ∷ 0 ∷ 0 ∷ 0 ∷ 0 ∷ 0 ∷ []) (1 ∷ 1 ∷ 0 ∷ 0 ∷ 0 ∷ 0 ∷ 0 ∷ 0 ∷ 0 ∷ []))
+    call 1 (collect 2 (0 ∷ 0 ∷ 0 ∷ 1 ∷ 2147483645 ∷ 0 ∷ 0 ∷ 0 ∷ 0 ∷ []) (0 ∷ 0 ∷ 0 ∷ 1 ∷ 3 ∷ 0 ∷ 0 ∷ 0 ∷ 0 ∷ []))
+    ∷ call 2 (collect 2 (1 ∷ 2147483643 ∷ 1 ∷ 0 ∷ 0 ∷ 0 ∷ 0 ∷ 0 ∷ 0 ∷ []) (1 ∷ 1 ∷ 0 ∷ 0 ∷ 0 ∷ 0 ∷ 0 ∷ 0 ∷ 0 ∷ []))
+    ∷ call 1 (multiply 2) ∷ call 2 (multiply 2)
     ∷ call 2 (message 4 room) ∷ []
 
 abbrev events : List Event
 events = before ++ ends
 
-answered : refusals events new ≡ 0 ∷ 0 ∷ 0 ∷ 0 ∷ 0 ∷ 0 ∷ 0 ∷ 0 ∷ 0 ∷ 0 ∷ 0 ∷ 0 ∷ 0 ∷ 0 ∷ 0 ∷ []
+answered : refusals events new ≡ 0 ∷ 0 ∷ 0 ∷ 0 ∷ 0 ∷ 0 ∷ 0 ∷ 0 ∷ 0 ∷ 0 ∷ 0 ∷ 0 ∷ 0 ∷ 0 ∷ 0 ∷ 0 ∷ 0 ∷ []
 unfolding Computes plan drawWith drawn draw loads deals ends refusals
 answered = refl
 
 -- every premise holds but the truth of post 1's finish
 all-but-one : Asked draw Everyone Everyone (AllBut 1) events new
 unfolding Computes plan drawWith drawn draw loads deals ends m1
-all-but-one = asked 1 ends (tt, (tt, (tt, tt))) (tt, (tt, (tt, tt))) (
+all-but-one = asked 1 ends (tt, (tt, (tt, (tt, (tt, tt))))) (tt, (tt, (tt, (tt, (tt, tt))))) (
   (λ ne z. absurd (ne refl)),
   (
     (λ ne z. (
       two-true 1 2 refl (omega arith) (lit≤ tt, lit≤ tt, refl, λ ne. (tt, (m1, refl, elements-of m1 refl, inl refl, refl))) (lit≤ tt, lit≤ tt, refl, λ ne. absurd (ne refl)),
       two-true 1 2 refl (omega arith) (lit≤ tt, lit≤ tt, refl, λ ne. (tt, (m1, refl, elements-of m1 refl, inl refl, refl))) (lit≤ tt, lit≤ tt, refl, λ ne. absurd (ne refl)),
     )),
-    ((λ ne z. tt), tt),
+    ((λ ne z. tt), ((λ ne z. tt), ((λ ne z. tt), tt))),
   ),
 )
 
@@ -164,14 +165,15 @@ right-fails H h = told-fails (h .opens 4 sent-record refl (record { long = refl;
 -- post 2's check point 3, finishes with y = p − 2, and sends in good faith what it then holds of row 4.
 unfoldable ends' : List Event
 ends' =
-    call 1 (finish 2 (0 ∷ 0 ∷ 0 ∷ 1 ∷ 0 ∷ 2147483646 ∷ 0 ∷ 0 ∷ 0 ∷ []) (0 ∷ 0 ∷ 0 ∷ 1 ∷ 3 ∷ 0 ∷ 0 ∷ 0 ∷ 0 ∷ []))
-    ∷ call 2 (finish 2 (1 ∷ 2147483646 ∷ 0 ∷ 0 ∷ 0 ∷ 0 ∷ 0 ∷ 0 ∷ 0 ∷ []) (1 ∷ 1 ∷ 0 ∷ 0 ∷ 0 ∷ 0 ∷ 0 ∷ 0 ∷ 0 ∷ []))
+    call 1 (collect 2 (0 ∷ 0 ∷ 0 ∷ 1 ∷ 0 ∷ 2147483646 ∷ 0 ∷ 0 ∷ 0 ∷ []) (0 ∷ 0 ∷ 0 ∷ 1 ∷ 3 ∷ 0 ∷ 0 ∷ 0 ∷ 0 ∷ []))
+    ∷ call 2 (collect 2 (1 ∷ 2147483646 ∷ 0 ∷ 0 ∷ 0 ∷ 0 ∷ 0 ∷ 0 ∷ 0 ∷ []) (1 ∷ 1 ∷ 0 ∷ 0 ∷ 0 ∷ 0 ∷ 0 ∷ 0 ∷ 0 ∷ []))
+    ∷ call 1 (multiply 2) ∷ call 2 (multiply 2)
     ∷ call 2 (message 4 room) ∷ []
 
 abbrev events' : List Event
 events' = before ++ ends'
 
-answered' : refusals events' new ≡ 0 ∷ 0 ∷ 0 ∷ 0 ∷ 0 ∷ 0 ∷ 0 ∷ 0 ∷ 0 ∷ 0 ∷ 0 ∷ 0 ∷ 0 ∷ 0 ∷ 0 ∷ []
+answered' : refusals events' new ≡ 0 ∷ 0 ∷ 0 ∷ 0 ∷ 0 ∷ 0 ∷ 0 ∷ 0 ∷ 0 ∷ 0 ∷ 0 ∷ 0 ∷ 0 ∷ 0 ∷ 0 ∷ 0 ∷ 0 ∷ []
 unfolding Computes plan drawWith drawn draw loads deals ends' refusals
 answered' = refl
 
@@ -187,12 +189,12 @@ opens-less-2 = refl
 -- every premise holds but the truth of post 2's finish
 all-but-two : Asked draw Everyone Everyone (AllBut 2) events' new
 unfolding Computes plan drawWith drawn draw loads deals ends' m2
-all-but-two = asked 2 ends' (tt, (tt, (tt, tt))) (tt, (tt, (tt, tt))) (
+all-but-two = asked 2 ends' (tt, (tt, (tt, (tt, (tt, tt))))) (tt, (tt, (tt, (tt, (tt, tt))))) (
   (λ ne z. (
     two-true 1 2 refl (omega arith) (lit≤ tt, lit≤ tt, refl, λ ne. absurd (ne refl)) (lit≤ tt, lit≤ tt, refl, λ ne. (tt, (m2, refl, elements-of m2 refl, inl refl, refl))),
     two-true 1 2 refl (omega arith) (lit≤ tt, lit≤ tt, refl, λ ne. absurd (ne refl)) (lit≤ tt, lit≤ tt, refl, λ ne. (tt, (m2, refl, elements-of m2 refl, inl refl, refl))),
   )),
-  ((λ ne z. absurd (ne refl)), ((λ ne z. absurd (ne refl)), tt)),
+  ((λ ne z. absurd (ne refl)), ((λ ne z. tt), ((λ ne z. tt), ((λ ne z. tt), tt)))),
 )
 
 abbrev end' : World

@@ -52,9 +52,9 @@ own-parts =
     together (λ e. OwnPart plan draw (e .post) (e .call))
     ((tt, refl), ((tt, refl), ((refl, refl), ((tt, refl), ((tt, refl), ((refl, refl), (tt, (tt, (tt, (tt, tt))))))))))
     (tt, (tt, (tt, (tt, (tt, (tt, tt))))))
-    ((tt, tt), tt)
-    (tt, tt)
-    ((tt, tt), (tt, tt))
+    ((tt, (tt, tt)), tt)
+    (tt, (tt, tt))
+    ((tt, (tt, tt)), (tt, tt))
     tt
     (tt, (tt, tt))
 
@@ -64,9 +64,9 @@ all-written =
     together (λ e. Written draw fees (e .call))
     (tt, (tt, (tt, (tt, (tt, (tt, (six, (seven, (six, (seven, tt))))))))))
     (refl, (refl, (refl, (refl, (refl, (refl, tt))))))
-    ((tt, refl), tt)
-    (tt, refl)
-    ((tt, refl), (tt, tt))
+    ((tt, (tt, refl)), tt)
+    (tt, (tt, refl))
+    ((tt, (tt, refl)), (tt, tt))
     refl
     (refl, (tt, tt))
   where
@@ -96,7 +96,7 @@ true-ends = (
         two-true 1 3 refl (omega arith) (lit≤ tt, lit≤ tt, refl, λ ne. absurd (ne refl)) (lit≤ tt, lit≤ tt, refl, λ ne. (tt, (m3, refl, elements-of m3 refl, inl refl, refl))),
         two-true 1 3 refl (omega arith) (lit≤ tt, lit≤ tt, refl, λ ne. absurd (ne refl)) (lit≤ tt, lit≤ tt, refl, λ ne. (tt, (m3, refl, elements-of m3 refl, inl refl, refl))),
       ),
-      tt,
+      (tt, tt),
     )),
     (
       (λ m z. (
@@ -104,7 +104,7 @@ true-ends = (
           two-true 1 3 refl (omega arith) (lit≤ tt, lit≤ tt, refl, λ ne. (tt, (m1, refl, elements-of m1 refl, inl refl, refl))) (lit≤ tt, lit≤ tt, refl, λ ne. absurd (ne refl)),
           two-true 1 3 refl (omega arith) (lit≤ tt, lit≤ tt, refl, λ ne. (tt, (m1, refl, elements-of m1 refl, inl refl, refl))) (lit≤ tt, lit≤ tt, refl, λ ne. absurd (ne refl)),
         ),
-        tt,
+        (tt, tt),
       )),
       ((λ m z. tt), ((λ m z. tt), ((λ m z. tt), ((λ m z. tt), tt)))),
     ),

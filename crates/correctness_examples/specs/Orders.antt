@@ -1,10 +1,10 @@
--- The run of demand 2's example: three posts, each in its own order, with a deal refused, a lie rejected and a finish that finds too
+-- The run of demand 2's example: three posts, each in its own order, with a deal refused, a lie rejected and a collect that finds too
 -- few.
 use Prim.Native.Nat.{ℕ}
 use mathlib.Core.List.{List, [], _∷_, _++_}
 use lib.ListN.{replicate}
 use Rattle.runs.specs.Draws.{Draw}
-use Rattle.runs.specs.Calls.{Post, message, linear, masks, finish}
+use Rattle.runs.specs.Calls.{Post, message, linear, masks, collect, multiply}
 use Rattle.correctness.specs.History.{Event, World, history, begin}
 use Rattle.correctness_examples.specs.Station.{plan, drawWith, call, load, loadThree, dealOf, room, rooms, nobody}
 
@@ -36,12 +36,14 @@ sums =
 abbrev pub lie : List ℕ
 lie = 0 ∷ 0 ∷ 0 ∷ 1 ∷ 6 ∷ 0 ∷ 1 ∷ 4 ∷ 2147483646 ∷ []
 
--- post 1 finishes with nobody's blocks, then with post 3's and the lie; post 2 with post 1's; post 3 does not
+-- post 1 collects with nobody's blocks, then with post 3's and the lie, and multiplies once post 2 has collected with post 1's; post 2
+-- multiplies too; post 3 does neither
 unfoldable pub ends : List Event
 ends =
-    call 1 (finish 2 nobody nobody)
-    ∷ call 1 (finish 2 lie (0 ∷ 0 ∷ 0 ∷ 0 ∷ 0 ∷ 0 ∷ 1 ∷ 2 ∷ 0 ∷ []))
-    ∷ call 2 (finish 2 (1 ∷ 2147483643 ∷ 1 ∷ 0 ∷ 0 ∷ 0 ∷ 0 ∷ 0 ∷ 0 ∷ []) (1 ∷ 1 ∷ 0 ∷ 0 ∷ 0 ∷ 0 ∷ 0 ∷ 0 ∷ 0 ∷ []))
+    call 1 (collect 2 nobody nobody)
+    ∷ call 1 (collect 2 lie (0 ∷ 0 ∷ 0 ∷ 0 ∷ 0 ∷ 0 ∷ 1 ∷ 2 ∷ 0 ∷ []))
+    ∷ call 2 (collect 2 (1 ∷ 2147483643 ∷ 1 ∷ 0 ∷ 0 ∷ 0 ∷ 0 ∷ 0 ∷ 0 ∷ []) (1 ∷ 1 ∷ 0 ∷ 0 ∷ 0 ∷ 0 ∷ 0 ∷ 0 ∷ 0 ∷ []))
+    ∷ call 1 (multiply 2) ∷ call 2 (multiply 2)
     ∷ call 2 (message 4 room) ∷ []
 
 abbrev pub before : List Event

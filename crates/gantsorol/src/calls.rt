@@ -9,7 +9,8 @@ ghost use Rattle.sharing.specs.Message.{messageAnswer, messageOut};
 ghost use Rattle.sharing.specs.Linear.{linearAnswer, linearRows};
 ghost use Rattle.opening.specs.Opening.{openAnswer};
 ghost use Rattle.product.specs.Masks.{masksAnswer, masksOut};
-ghost use Rattle.product.specs.Finish.{finishAnswer, finishRows};
+ghost use Rattle.product.specs.Collect.{collectAnswer};
+ghost use Rattle.product.specs.Multiply.{multiplyAnswer, multiplyRows};
 
 #[no_mangle]
 pub extern "C" fn gantsorol_new(n: usize, t: usize, post: usize, point: u32) -> Answer
@@ -109,15 +110,22 @@ pub extern "C" fn gantsorol_masks(
 }
 
 #[no_mangle]
-pub extern "C" fn gantsorol_finish(
+pub extern "C" fn gantsorol_collect(
     session: Session,
-    rows: &mut [u32],
+    rows: &[u32],
     first: usize,
     record_a: &[u32],
     record_b: &[u32],
 ) -> Answer
-    ensures { λ r. ⌜ r ≡ finishAnswer session (now (rows .entry)) first (now («record_a» .entry)) (now («record_b» .entry)) ⌝ }
-    ensures { λ r. ⌜ now (rows .exit) ≡ finishRows session (now (rows .entry)) first (now («record_a» .entry)) (now («record_b» .entry)) ⌝ }
+    ensures { λ r. ⌜ r ≡ collectAnswer session (now (rows .entry)) first (now («record_a» .entry)) (now («record_b» .entry)) ⌝ }
 {
-    product::finish::finish(session, rows, first, record_a, record_b)
+    product::collect::collect(session, rows, first, record_a, record_b)
+}
+
+#[no_mangle]
+pub extern "C" fn gantsorol_multiply(session: Session, rows: &mut [u32], first: usize) -> Answer
+    ensures { λ r. ⌜ r ≡ multiplyAnswer session (now (rows .entry)) first ⌝ }
+    ensures { λ r. ⌜ now (rows .exit) ≡ multiplyRows session (now (rows .entry)) first ⌝ }
+{
+    product::multiply::multiply(session, rows, first)
 }

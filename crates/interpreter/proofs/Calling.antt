@@ -13,13 +13,13 @@ use Rattle.session.specs.Sessions.{shapeOf}
 use Rattle.sharing.specs.Load.{loadRowAnswer, loadRowRows, loadTripleAnswer, loadTripleRows}
 use Rattle.sharing.specs.Deal.{dealAnswer, dealRows}
 use Rattle.sharing.specs.Linear.{linearAnswer, linearRows}
-use Rattle.product.specs.Finish.{finishAnswer, finishRows}
 use Rattle.opening.specs.Opening.{openAnswer}
 use Rattle.store.specs.Sizes.{InStreet, storeRoom}
 use Rattle.store.proofs.Keeping.{street-valid}
 use Rattle.interpreter.specs.declared.State.{State}
 use Rattle.interpreter.specs.declared.Stepped.{Stepped}
 use Rattle.interpreter.specs.States.{After, refusing, answering, leaving, unless, sessionRows, calling}
+use Rattle.interpreter.specs.Products.{pairAnswer, pairRows}
 
 -- ---- the two ways in which a line ends
 pub line-refused : (st : State) (store : List ℕ) (r x : ℕ) (new : After) (v : Stepped) → r ≡ x → (r ≡ 0 → ⊥) → v ≡ refusing st r
@@ -74,14 +74,14 @@ module _ (st : State) (store : List ℕ) (v : Stepped) (a : Answer) (end : ℕ) 
         called _ _ (f ∙ ap (λ (k : ℕ). linearAnswer (st .session) (take k store) dest x y scale fee) e)
         (g ∙ ap (λ (k : ℕ). linearRows (st .session) (take k store) dest x y scale fee) e)
 
-    pub finish-called : (first : ℕ) (blocksA blocksB : List ℕ) → a ≡ finishAnswer (st .session) (take end store) first blocksA blocksB
-        → part ≡ finishRows (st .session) (take end store) first blocksA blocksB
+    pub finish-called : (first : ℕ) (blocksA blocksB : List ℕ) → a ≡ pairAnswer (st .session) (take end store) first blocksA blocksB
+        → part ≡ pairRows (st .session) (take end store) first blocksA blocksB
         → leaving v (part ++ drop end store)
-        ≡ calling st store (finishAnswer (st .session) (sessionRows st store) first blocksA blocksB)
-        (finishRows (st .session) (sessionRows st store) first blocksA blocksB)
+        ≡ calling st store (pairAnswer (st .session) (sessionRows st store) first blocksA blocksB)
+        (pairRows (st .session) (sessionRows st store) first blocksA blocksB)
     finish-called first blocksA blocksB f g =
-        called _ _ (f ∙ ap (λ (k : ℕ). finishAnswer (st .session) (take k store) first blocksA blocksB) e)
-        (g ∙ ap (λ (k : ℕ). finishRows (st .session) (take k store) first blocksA blocksB) e)
+        called _ _ (f ∙ ap (λ (k : ℕ). pairAnswer (st .session) (take k store) first blocksA blocksB) e)
+        (g ∙ ap (λ (k : ℕ). pairRows (st .session) (take k store) first blocksA blocksB) e)
 
     pub deal-called : (row c : ℕ) → a ≡ dealAnswer (st .session) (take end store) row c → part ≡ dealRows (st .session) (take end store) row c
         → leaving v (part ++ drop end store)

@@ -1,6 +1,7 @@
 pub mod Calling
 pub mod Lettering
 pub mod Multiplying
+pub mod Pairing
 pub mod Hearing
 pub mod Settings
 pub mod Ends

@@ -22,7 +22,6 @@ use Rattle.session.specs.declared.Session.{Session}
 use Rattle.session.specs.declared.Answer.{Answer}
 use Rattle.session.specs.Sessions.{shapeOf, answer, maskedTriple}
 use Rattle.product.specs.Masks.{masksTests, masksRefusal, masksAnswer, maskNumbersOf, masksOut}
-use Rattle.product.specs.Finish.{finishAnswer, finishRows}
 use Rattle.store.specs.Sizes.{InStreet, streetPosts, mostMasks, recordRoom, masksAAt, masksBAt, storeRoom}
 use Rattle.store.specs.Records.{recordIf}
 use Rattle.store.proofs.Keeping.{record-room}
@@ -31,7 +30,7 @@ use Rattle.reading.proofs.Scanned.{read-numbers}
 use Rattle.interpreter.specs.declared.State.{State}
 use Rattle.interpreter.specs.declared.Stepped.{Stepped}
 use Rattle.interpreter.specs.States.{After, refusing, answering, telling, leaving, after, Untouched, sessionRows, calling}
-use Rattle.interpreter.specs.Products.{toldRoom, maskLine, noMasks, masking, maskingOf, maskStep, masksFor, finishing, finishStep, Tellable, answered}
+use Rattle.interpreter.specs.Products.{toldRoom, maskLine, noMasks, masking, maskingOf, maskStep, pairAnswer, pairRows, masksFor, finishing, finishStep, Tellable, answered}
 use Rattle.interpreter.proofs.Calling.{line-refused, line-taken}
 use Rattle.interpreter.proofs.Lettering.{take-zeros}
 
@@ -181,7 +180,7 @@ pub finish-copied : (st : State) (store : List ℕ) (ka kb : ℕ) (newA newB : L
     → kb ≡ recordLength (shapeOf (st .session)) → newA ≡ recordIf (eqb (st .triple) first) (take ka (drop masksAAt store))
     → newB ≡ recordIf (eqb (st .triple) first) (take kb (drop masksBAt store))
     → a
-    ≡ calling st store (finishAnswer (st .session) (sessionRows st store) first newA newB) (finishRows (st .session) (sessionRows st store) first newA newB)
+    ≡ calling st store (pairAnswer (st .session) (sessionRows st store) first newA newB) (pairRows (st .session) (sessionRows st store) first newA newB)
     → a ≡ finishing st store first
 unfolding finishing
 finish-copied st store ka kb newA newB first a m n e f q = q ∙ rw (e, f, m, n)

@@ -10,9 +10,11 @@ use Rattle.refusal.specs.Conditions.{outside, badPoint}
 use Rattle.shape.specs.Bounds.{fewestPosts, mostPosts, lastRow, lastTriple}
 use Rattle.forms.specs.Forms.{isLetter}
 use Rattle.session.specs.declared.Session.{Session}
-use Rattle.session.specs.Sessions.{shapeOf, answer, sessionOf}
+use Rattle.session.specs.Sessions.{shapeOf, answer, sessionOf, collectedTriple, finishedTriple}
 use Rattle.product.specs.Masks.{masksRefusal, masksAnswer, maskNumbersOf}
-use Rattle.store.specs.Sizes.{streetPosts, InStreet}
+use Rattle.product.specs.Collect.{numberA, numberB, collectRefusal}
+use Rattle.product.specs.Multiply.{multiplyRefusal, multiplyAnswer}
+use Rattle.store.specs.Sizes.{streetPosts, masksAAt, masksBAt, InStreet}
 use Rattle.reading.specs.Numbers.{numbers, readRefusal}
 use Rattle.reading.specs.declared.StartForm.{StartForm}
 use Rattle.reading.specs.declared.StartForm.the-variants.{Settings, Wrong}
@@ -23,7 +25,7 @@ use Rattle.interpreter.specs.States.{After, begunWith, refusing, answeri
 use Rattle.interpreter.specs.Starting.{longestLine, startTests, settingsStep, startStep, earlyStep}
 use Rattle.interpreter.specs.Letters.{loading, loadStep, loadingTriple, loadTripleStep, adding, linearStep, openStep}
 use Rattle.interpreter.specs.Messages.{heard, keepStep, keepMasksStep, keepHalvesStep, hearStep}
-use Rattle.interpreter.specs.Products.{maskLine, noMasks, masking, maskingOf, maskStep, finishing, finishStep}
+use Rattle.interpreter.specs.Products.{maskLine, noMasks, masking, maskingOf, maskStep, between, pairRefusal, masksFor, finishing, finishStep}
 use Rattle.interpreter.specs.Stepping.{lettersStep, lateStep, step, Ready}
 use Rattle.interpreter.proofs.Room.{tests-street}
 
@@ -105,6 +107,11 @@ unfolding outcome
 fine-answer st l zero value new old f g = (f, refl, refl)
 fine-answer st l (suc k) value new old f g = (g, refl, refl)
 
+answer-in : (x : ℕ) (new old : Session) → InStreet (shapeOf new) → InStreet (shapeOf old) → InStreet (shapeOf (answer x 0 new old .session))
+unfolding outcome
+answer-in zero new old f g = f
+answer-in (suc k) new old f g = g
+
 module _ (st : State) (i : InStreet (shapeOf (st .session))) (store s : List ℕ) where
   fine-load : FineAfter (loadStep st store s)
   unfolding loadStep loading
@@ -124,7 +131,18 @@ module _ (st : State) (i : InStreet (shapeOf (st .session))) (store s : List ℕ
 
   fine-finish : FineAfter (finishStep st store s)
   unfolding finishStep finishing
-  fine-finish = unless-has FineAfter _ st store _ (i, refl, refl) (fine-answer st store _ 0 _ _ i i)
+  fine-finish =
+      let own = st .session in
+      let rows = sessionRows st store in
+      let first = getD (numbers 1 s) 0 0 in
+      let a = masksFor masksAAt st store first in
+      let b = masksFor masksBAt st store first in
+      let half = between own rows first a b in
+      let h : InStreet (shapeOf half) =
+      answer-in (collectRefusal own rows first a b) (collectedTriple own first (numberA own rows first a) (numberB own rows first b)) own i i in
+      unless-has FineAfter _ st store _ (i, refl, refl)
+      (fine-answer st store (pairRefusal own rows first a b) 0 (multiplyAnswer half rows first .session) own
+      (answer-in (multiplyRefusal half rows first) (finishedTriple half first) half h h) i)
 
   fine-hear : FineAfter (hearStep st store s)
   unfolding hearStep keepStep keepMasksStep keepHalvesStep

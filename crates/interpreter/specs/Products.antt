@@ -1,5 +1,5 @@
 -- Document 02, (iii), the lines of a product: "`X,a,b,first`, which makes the masks; .. `F,first`, which finishes". "X, when not
--- refused, also prints its M line, after its answer."
+-- refused, also prints its M line, after its answer." By (viii), "the street program's `F` .. use the pair".
 use Prim.Native.Nat.{ℕ, _+_, _*_, _≤_}
 use mathlib.Core.Path.{_≡_}
 use mathlib.Core.List.{List, [], _∷_}
@@ -7,12 +7,14 @@ use lib.ListN.{length, getD, replicate}
 use lib.Dec.{eqb}
 use Rattle.shape.specs.Bounds.{lastRow, lastTriple}
 use Rattle.shape.specs.Lengths.{masksLength}
-use Rattle.refusal.specs.Refusal.{outcome}
+use Rattle.refusal.specs.Refusal.{orElse, outcome}
 use Rattle.forms.specs.Lines as Lines
+use Rattle.session.specs.declared.Session.{Session}
 use Rattle.session.specs.declared.Answer.{Answer}
-use Rattle.session.specs.Sessions.{shapeOf}
+use Rattle.session.specs.Sessions.{shapeOf, answer}
 use Rattle.product.specs.Masks.{masksRefusal, masksAnswer, maskNumbersOf}
-use Rattle.product.specs.Finish.{finishAnswer, finishRows}
+use Rattle.product.specs.Collect.{collectRefusal, collectAnswer}
+use Rattle.product.specs.Multiply.{multiplyRefusal, multiplyAnswer, multiplyRows}
 use Rattle.store.specs.Sizes.{streetPosts, mostMasks, masksAAt, masksBAt}
 use Rattle.store.specs.Records.{recordAt, recordIf}
 use Rattle.reading.specs.Numbers.{numbers, readRefusal}
@@ -48,7 +50,22 @@ unfoldable pub maskStep : State → List ℕ → List ℕ → After
 maskStep st store line =
     unless (readRefusal (lastRow ∷ lastRow ∷ lastTriple ∷ []) 3 line) st store (maskingOf st store (numbers 3 line))
 
--- ---- "`F,first`": the records that are kept for the triple, or empty ones
+-- ---- "`F,first`": collect, then multiply with the session that collect hands back. F has the first refusal of the two, and a refused
+-- F changes nothing, also where collect was done.
+module _ (s : Session) (rows : List ℕ) (first : ℕ) (blocksA blocksB : List ℕ) where
+  abbrev pub between : Session
+  between = collectAnswer s rows first blocksA blocksB .session
+
+  abbrev pub pairRefusal : ℕ
+  pairRefusal = orElse (collectRefusal s rows first blocksA blocksB) (multiplyRefusal between rows first)
+
+  abbrev pub pairAnswer : Answer
+  pairAnswer = answer pairRefusal 0 (multiplyAnswer between rows first .session) s
+
+  abbrev pub pairRows : List ℕ
+  pairRows = outcome pairRefusal (multiplyRows between rows first) rows
+
+-- with the records that are kept for the triple, or empty ones
 abbrev pub masksFor : ℕ → State → List ℕ → ℕ → List ℕ
 masksFor at st store first = recordIf (eqb (st .triple) first) (recordAt at (shapeOf (st .session)) store)
 
@@ -56,8 +73,8 @@ unfoldable pub finishing : State → List ℕ → ℕ → After
 finishing st store first =
     let blocksA = masksFor masksAAt st store first in
     let blocksB = masksFor masksBAt st store first in
-    calling st store (finishAnswer (st .session) (sessionRows st store) first blocksA blocksB)
-    (finishRows (st .session) (sessionRows st store) first blocksA blocksB)
+    calling st store (pairAnswer (st .session) (sessionRows st store) first blocksA blocksB)
+    (pairRows (st .session) (sessionRows st store) first blocksA blocksB)
 
 unfoldable pub finishStep : State → List ℕ → List ℕ → After
 finishStep st store line = unless (readRefusal (lastTriple ∷ []) 1 line) st store (finishing st store (getD (numbers 1 line) 0 0))

@@ -2,6 +2,7 @@
 use crate::State;
 use crate::Stepped;
 use session::Answer;
+use session::Session;
 use shape::Shape;
 ghost use mathlib.Core.Path.{_≡_};
 ghost use Prim.Native.Nat.{_≤_};
@@ -12,11 +13,11 @@ ghost use Rattle.forms.specs.Lines as Lines;
 ghost use Rattle.shape.specs.Bounds.{lastTriple};
 ghost use Rattle.shape.specs.Lengths.{recordLength};
 ghost use Rattle.session.specs.Sessions.{shapeOf};
-ghost use Rattle.product.specs.Finish.{finishAnswer, finishRows};
 ghost use Rattle.store.specs.Sizes.{InStreet, storeRoom, streetPosts, mostMasks, masksAAt, masksBAt};
 ghost use Rattle.store.specs.Records.{recordIf};
 ghost use Rattle.interpreter.specs.States.{telling, leaving, after, Untouched, sessionRows, calling};
-ghost use Rattle.interpreter.specs.Products.{toldRoom, maskLine, noMasks, masking, maskingOf, maskStep, finishing, finishStep, Tellable, answered};
+ghost use Rattle.interpreter.specs.Products.{toldRoom, maskLine, noMasks, masking, maskingOf, maskStep, pairAnswer, pairRows};
+ghost use Rattle.interpreter.specs.Products.{finishing, finishStep, Tellable, answered};
 
 // The `M` line of a triple, at the start of the lent text.
 fn tell_masks(
@@ -128,7 +129,29 @@ pub fn mask_line(state: State, store: &[u32], line: &[u8], text: &mut [u8]) -> S
     mask_numbers(state, store, &numbers, text)
 }
 
-// A triple is finished with two records.
+// A triple is finished with two records, by the pair of calls. A refused pair leaves the session as it came.
+fn finish_pair(
+    session: Session,
+    rows: &mut [u32],
+    first: usize,
+    record_a: &[u32],
+    record_b: &[u32],
+) -> Answer
+    ensures { λ r. ⌜ r ≡ pairAnswer session (now (rows .entry)) first (now («record_a» .entry)) (now («record_b» .entry)) ⌝ }
+    ensures { λ r. ⌜ now (rows .exit) ≡ pairRows session (now (rows .entry)) first (now («record_a» .entry)) (now («record_b» .entry)) ⌝ }
+{
+    let collected = product::collect::collect(session, rows, first, record_a, record_b);
+    if collected.refusal != 0 {
+        return collected;
+    }
+    let multiplied = product::multiply::multiply(collected.session, rows, first);
+    if multiplied.refusal != 0 {
+        return session.refuse(multiplied.refusal);
+    }
+    multiplied
+}
+
+// The same on the rows in the store.
 fn finish(
     state: State,
     store: &mut [u32],
@@ -138,12 +161,12 @@ fn finish(
 ) -> Stepped
     requires { ⌜ InStreet (shapeOf (state .session)) × (length (now store) ≡ storeRoom) ⌝ }
     ensures { λ r. ⌜ leaving r (now (store .exit)) ≡ calling state (now (store .entry))
-        (finishAnswer (state .session) (sessionRows state (now (store .entry))) first (now («record_a» .entry)) (now («record_b» .entry)))
-        (finishRows (state .session) (sessionRows state (now (store .entry))) first (now («record_a» .entry)) (now («record_b» .entry))) ⌝ }
+        (pairAnswer (state .session) (sessionRows state (now (store .entry))) first (now («record_a» .entry)) (now («record_b» .entry)))
+        (pairRows (state .session) (sessionRows state (now (store .entry))) first (now («record_a» .entry)) (now («record_b» .entry))) ⌝ }
 {
     let session = state.session;
     let end = crate::rows_end(session);
-    let answer = product::finish::finish(session, &mut store[..end], first, record_a, record_b);
+    let answer = finish_pair(session, &mut store[..end], first, record_a, record_b);
     state.answer(answer)
 }
 

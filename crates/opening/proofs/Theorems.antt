@@ -1,9 +1,11 @@
 -- An opening keeps to the law of every call, and what it answers where only 9 and 13 are left to decide.
-use Prim.Native.Nat.{ℕ, zero, suc}
+use Prim.Native.Nat.{ℕ, zero, suc, _<_}
 use mathlib.Core.Path.{_≡_, refl, sym, subst}
 use mathlib.Core.Bool.{true, false}
 use mathlib.Core.List.{List, [], _∷_}
 use native.Mathlib.Omega.{arith}
+use Rattle.field.specs.Modulus.{p}
+use Rattle.poly.proofs.Bounds.{interpolated-below}
 use Rattle.refusal.specs.Refusal.{Test, _when_, first, outcome}
 use Rattle.refusal.proofs.Groups.{went-on}
 use Rattle.session.specs.declared.Session.{Session}
@@ -12,12 +14,14 @@ use Rattle.session.specs.Rows.{width, rowAt}
 use Rattle.session.specs.Law.{Lawful}
 use Rattle.session.proofs.Lawful.{lawful}
 use Rattle.session.proofs.Endings.{refused-answer, accepted-answer}
+use Rattle.opening.specs.Accepting as Accepting
 use Rattle.opening.specs.Walking.{tooFew, disagree, opened}
 use Rattle.opening.specs.Opening.{openChecks, openRefusal, openAnswer}
 use Rattle.opening.specs.Table.{openTable}
 use Rattle.opening.specs.Claims.{OpeningLawful}
 
-kept : (k : ℕ) (l : List ℕ) → outcome k l l ≡ l
+-- a call that writes no list
+pub kept : (k : ℕ) (l : List ℕ) → outcome k l l ≡ l
 unfolding outcome
 kept zero l = refl
 kept (suc k) l = refl
@@ -65,3 +69,8 @@ open-number s rows r blocks clear e a =
     sym
     (accepted-answer 0 (openRefusal s rows r blocks) (opened s row blocks) (opened s row blocks) s s s
     (went-on (openChecks s rows r blocks) (late s row blocks) tt 0 (sym clear) 0 refl (rw (e, a))) refl refl refl)
+
+-- the number opened is an element
+pub opened-below : (s : Session) (row blocks : List ℕ) → opened s row blocks < p
+unfolding Accepting.opened
+opened-below s row blocks = interpolated-below _ _ 0

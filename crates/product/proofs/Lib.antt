@@ -5,5 +5,7 @@ pub mod Differences
 pub mod Finishing
 pub mod Openings
 pub mod Sums
+pub mod Multiplying
+pub mod Pair
 pub mod Theorems
 pub mod Tables

@@ -1,25 +1,22 @@
--- The two numbers that a finish opens, or its refusal, and how the call ends with them.
-use Prim.Native.Nat.{ℕ, zero, suc, _+_, _-_, _≤_}
+-- The two numbers that a finish's first call opens, or its refusal, and how the call ends with them.
+use Prim.Native.Nat.{ℕ, zero, suc, _-_, _≤_}
 use mathlib.Core.Path.{_≡_, refl, sym, _∙_, ap, ap₂}
 use mathlib.Core.Bool.{Bool, true, false}
-use mathlib.Core.List.{List, [], _∷_, _++_}
+use mathlib.Core.List.{List, [], _∷_}
 use native.Mathlib.Omega.{arith}
 use borrow.Author.Tests.{eq-eqb, ne-eqb}
 use lib.ListN.{length}
 use Rattle.field.specs.Modulus.{p}
-use Rattle.field.specs.Arithmetic.{product}
-use Rattle.shape.specs.declared.Shape.{Shape}
 use Rattle.shape.specs.Bounds.{lastTriple}
-use Rattle.shape.specs.Lengths.{rowLength, sumsAt}
+use Rattle.shape.specs.Lengths.{rowLength}
 use Rattle.refusal.specs.Refusal.{Test, _when_, first, orElse, outcome}
 use Rattle.refusal.proofs.Endings.{refused, accepted}
 use Rattle.refusal.proofs.Groups.{stopped, went-on}
 use Rattle.session.specs.declared.Party.{Party}
 use Rattle.session.specs.declared.Session.{Session}
 use Rattle.session.specs.declared.Answer.{Answer}
-use Rattle.session.specs.Sessions.{shapeOf, partyOf, holding, finishedTriple}
-use Rattle.session.specs.Rows.{rowAt, withRow, combined, summed}
-use Rattle.session.specs.Checks.{Framed, Sized, TripleIn}
+use Rattle.session.specs.Sessions.{shapeOf, partyOf, holding, collectedTriple}
+use Rattle.session.specs.Rows.{rowAt, combined}
 use Rattle.session.proofs.Endings.{refused-answer, accepted-answer}
 use Rattle.session.proofs.Writers.{length-combined}
 use Rattle.opening.specs.declared.Opened.{Opened}
@@ -30,8 +27,9 @@ use Rattle.opening.specs.Walking.{tooFew, disagree, opened}
 use Rattle.opening.proofs.Settles.{decided, opened-decided}
 use Rattle.product.specs.declared.OpenedMasks.{OpenedMasks}
 use Rattle.product.specs.Masks.{maskRow}
-use Rattle.product.specs.Finish.{maskA, maskB, finishChecks, unopened, eitherOf, found, openedBoth, openedMasks, finishRefusal, productRow, withProduct, finishAnswer, finishRows}
-use Rattle.product.proofs.Passed.{finished, finish-framed, triple-below}
+use Rattle.product.specs.Finish.{maskA, maskB, unopened, eitherOf, found, openedBoth}
+use Rattle.product.specs.Collect.{collectChecks, openedMasks, collectRefusal, collectAnswer}
+use Rattle.product.proofs.Passed.{collected}
 
 abbrev shown : ℕ → ℕ → ℕ → OpenedMasks
 shown refusal yA yB = record { refusal = refusal; «y_a» = yA; «y_b» = yB }
@@ -133,63 +131,40 @@ module _ (s : Session) (rows : List ℕ) (r : ℕ) (l l' : List ℕ) where
   late = unopened s (maskA s rows r) (maskB s rows r) l l'
 
   -- 1 to 8 stop the call, or the openings settle it
-  module _ (f : ℕ) (e : f ≡ first (finishChecks s rows r l l')) where
+  module _ (f : ℕ) (e : f ≡ first (collectChecks s rows r l l')) where
     pub masks-unopened : (f ≡ 0 → ⊥) → shown f 0 0 ≡ openedMasks s rows r l l'
-    unfolding finishRefusal
+    unfolding collectRefusal
     masks-unopened n =
-        let h : f ≡ finishRefusal s rows r l l' = stopped (finishChecks s rows r l l') late tt f e n in
+        let h : f ≡ collectRefusal s rows r l l' = stopped (collectChecks s rows r l l') late tt f e n in
         ap (λ (k : ℕ). shown k 0 0) h
-        ∙ refused f (finishRefusal s rows r l l') (shown 0 yA yB) (shown (finishRefusal s rows r l l') 0 0) h n
+        ∙ refused f (collectRefusal s rows r l l') (shown 0 yA yB) (shown (collectRefusal s rows r l l') 0 0) h n
 
     pub masks-opened : f ≡ 0 → (o : OpenedMasks) → o ≡ openedBoth s (maskA s rows r) (maskB s rows r) l l'
         → o ≡ openedMasks s rows r l l'
-    unfolding finishRefusal
+    unfolding collectRefusal
     masks-opened z o h =
-        h ∙ ap (λ (k : ℕ). found k yA yB) (went-on (finishChecks s rows r l l') late tt f e (first late) z refl)
+        h ∙ ap (λ (k : ℕ). found k yA yB) (went-on (collectChecks s rows r l l') late tt f e (first late) z refl)
 
   -- the call's two ends
   module _ (o : OpenedMasks) (e : o ≡ openedMasks s rows r l l') where
     abbrev done : Session
-    done = finishedTriple s r
+    done = collectedTriple s r yA yB
 
-    refusal-is : o .refusal ≡ finishRefusal s rows r l l'
-    refusal-is = ap (λ (a : OpenedMasks). a .refusal) e ∙ found-refusal (finishRefusal s rows r l l') yA yB
+    refusal-is : o .refusal ≡ collectRefusal s rows r l l'
+    refusal-is = ap (λ (a : OpenedMasks). a .refusal) e ∙ found-refusal (collectRefusal s rows r l l') yA yB
 
-    module _ (n : o .refusal ≡ 0 → ⊥) where
-      pub finish-refused : (a : Answer) → a ≡ holding (o .refusal) 0 s → a ≡ finishAnswer s rows r l l'
-      finish-refused a h = h ∙ refused-answer (o .refusal) (finishRefusal s rows r l l') 0 s done s refusal-is n refl
-
-      pub finish-kept : rows ≡ finishRows s rows r l l'
-      finish-kept = refused (o .refusal) (finishRefusal s rows r l l') (withProduct s yA yB r rows) rows refusal-is n
+    pub collect-refused : (o .refusal ≡ 0 → ⊥) → (a : Answer) → a ≡ holding (o .refusal) 0 s → a ≡ collectAnswer s rows r l l'
+    collect-refused n a h = h ∙ refused-answer (o .refusal) (collectRefusal s rows r l l') 0 s done s refusal-is n refl
 
     module _ (z : o .refusal ≡ 0) where
-      passed : Framed s rows × TripleIn (shapeOf s) r
-      passed =
-          let h = finished s rows r l l' (sym refusal-is ∙ z) .checked in
-          (finish-framed s rows r l l' h, triple-below (shapeOf s) r (h .placed .factors .triple-in))
+      pub collect-row : r ≤ lastTriple
+      collect-row = collected s rows r l l' (sym refusal-is ∙ z) .checked .placed .factors .triple-in
 
-      pub finish-row : r ≤ lastTriple
-      finish-row = passed .1 .triple-in
-
-      pub finish-done : (a : Answer) → a ≡ holding 0 0 done → a ≡ finishAnswer s rows r l l'
-      finish-done a h = h ∙ accepted-answer (o .refusal) (finishRefusal s rows r l l') 0 0 done done s refusal-is z refl refl
-
-      module _ (g : Shape) (eg : g ≡ shapeOf s) where
-        pub finish-sized : Sized g rows
-        finish-sized = rw eg (passed .0 .sized)
-
-        pub finish-in : TripleIn g r
-        finish-in = rw eg (passed .1)
-
-        pub finish-written : (out : List ℕ)
-            → out ≡ withRow (rowLength g) (r + 2)
-            (summed (sumsAt g) (o .«y_b») (product (o .«y_a») (o .«y_b»))
-            (summed (sumsAt g) (o .«y_a») 0 (rowAt (rowLength g) rows (r + 2)) (rowAt (rowLength g) rows (r + 1))) (rowAt (rowLength g) rows r)) rows
-            → out ≡ finishRows s rows r l l'
-        unfolding withProduct productRow
-        finish-written out eo =
-            let h = found-numbers (finishRefusal s rows r l l') yA yB (rw refusal-is at z) in
-            let ey : o .«y_a» ≡ yA = ap (λ (a : OpenedMasks). a .«y_a») e ∙ h .0 in
-            let ez : o .«y_b» ≡ yB = ap (λ (a : OpenedMasks). a .«y_b») e ∙ h .1 in
-            accepted (o .refusal) (finishRefusal s rows r l l') out (withProduct s yA yB r rows) rows refusal-is z
-            (rw eg at eo ∙ ap₂ (λ (a b : ℕ). withProduct s a b r rows) ey ez)
+      pub collect-done : (a : Answer) → a ≡ holding 0 0 (collectedTriple s r (o .«y_a») (o .«y_b»)) → a ≡ collectAnswer s rows r l l'
+      collect-done a h =
+          let k = found-numbers (collectRefusal s rows r l l') yA yB (sym refusal-is ∙ z) in
+          let ey : o .«y_a» ≡ yA = ap (λ (a : OpenedMasks). a .«y_a») e ∙ k .0 in
+          let ez : o .«y_b» ≡ yB = ap (λ (a : OpenedMasks). a .«y_b») e ∙ k .1 in
+          h
+          ∙ accepted-answer (o .refusal) (collectRefusal s rows r l l') 0 0 (collectedTriple s r (o .«y_a») (o .«y_b»)) done s refusal-is z refl
+          (ap₂ (collectedTriple s r) ey ez)

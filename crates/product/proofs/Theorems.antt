@@ -1,19 +1,23 @@
 -- The calls of this crate keep to the law of every call.
 use Prim.Native.Nat.{ℕ}
+use mathlib.Core.Path.{subst}
 use mathlib.Core.Bool.{Bool, true, false}
 use mathlib.Core.List.{List, [], _∷_}
 use native.Mathlib.Omega.{arith}
 use lib.Dec.{T, leb, leb→le, ltb, ltb→lt}
 use Rattle.refusal.specs.Refusal.{Test, _when_, Ordered}
-use Rattle.session.specs.Sessions.{maskedTriple, finishedTriple}
+use Rattle.session.specs.Sessions.{openedA, openedB, maskedTriple, collectedTriple, finishedTriple}
+use Rattle.session.specs.Law.{Lawful}
 use Rattle.session.proofs.Lawful.{lawful}
-use Rattle.opening.specs.Walking.{opened}
+use Rattle.opening.proofs.Theorems.{kept}
 use Rattle.product.specs.Masks.{masksRefusal, maskNumbersOf}
-use Rattle.product.specs.Finish.{maskA, maskB, finishRefusal, withProduct}
-use Rattle.product.specs.Table.{masksTable, finishTable}
+use Rattle.product.specs.Finish.{withProduct}
+use Rattle.product.specs.Collect.{numberA, numberB, collectRefusal, collectAnswer}
+use Rattle.product.specs.Multiply.{multiplyRefusal}
+use Rattle.product.specs.Table.{masksTable, collectTable, multiplyTable}
 use Rattle.product.specs.Claims.{ProductLawful}
 
--- the order of a table's numbers, as a test that antt computes: a finish has too many tests for one `omega`
+-- the order of a table's numbers, as a test that antt computes: a first call has too many tests for one `omega`
 abbrev rises : ℕ → List Test → Bool
 rises k [] = true
 rises k (j when b ∷ ts) = elim (leb k j) [ true ↦ elim (ltb 0 j) [ true ↦ rises j ts | false ↦ false ] | false ↦ false ]
@@ -30,11 +34,17 @@ ordered k (j when b ∷ ts) t =
     (leb→le k j (h .0), ltb→lt 0 j (i .0), ordered j ts (i .1))
 
 pub product-lawful : ProductLawful
-unfolding masksRefusal finishRefusal
+unfolding masksRefusal collectRefusal multiplyRefusal
 product-lawful = record {
   masks = λ s rows a b r out.
       lawful (masksTable s rows a b r out) (omega arith) 0 (maskedTriple s r a b) s (maskNumbersOf s rows a b r) out;
-  finish = λ s rows r blocksA blocksB.
-      lawful (finishTable s rows r blocksA blocksB) (ordered 1 (finishTable s rows r blocksA blocksB) tt) 0 (finishedTriple s r) s
-      (withProduct s (opened s (maskA s rows r) blocksA) (opened s (maskB s rows r) blocksB) r rows) rows;
+  collect = λ s rows r blocksA blocksB.
+      subst
+      (Lawful (collectTable s rows r blocksA blocksB) 0 (collectedTriple s r (numberA s rows r blocksA) (numberB s rows r blocksB)) s rows rows
+      (collectAnswer s rows r blocksA blocksB))
+      (kept (collectRefusal s rows r blocksA blocksB) rows)
+      (lawful (collectTable s rows r blocksA blocksB) (ordered 1 (collectTable s rows r blocksA blocksB) tt) 0
+      (collectedTriple s r (numberA s rows r blocksA) (numberB s rows r blocksB)) s rows rows);
+  multiply = λ s rows r.
+      lawful (multiplyTable s rows r) (omega arith) 0 (finishedTriple s r) s (withProduct s (openedA s r) (openedB s r) r rows) rows;
 }

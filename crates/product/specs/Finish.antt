@@ -1,5 +1,7 @@
 -- Document 01, "Calls on a session", Finish: "Takes a triple marked 5, 4, 4 and two records, opens y = a − l and y' = b − l' as
--- above, and writes l'' + y l' + y' l + y y' into the third row (y y' is added to m1..mn only). Marks become 6, 6, 2."
+-- above, and writes l'' + y l' + y' l + y y' into the third row (y y' is added to m1..mn only). Marks become 6, 6, 2." Document 02,
+-- (viii), makes two calls of it: Collect.antt and Multiply.antt. What both share with a finish stands here; the rest of the old
+-- call's definition stays for one law, `AsFinish` in Claims.antt.
 use Prim.Native.Nat.{ℕ, _+_}
 use mathlib.Core.Bool.{cond}
 use mathlib.Core.List.{List, [], _∷_, _++_}
@@ -72,11 +74,6 @@ finishTests s rows r blocksA blocksB =
 
 unfoldable pub finishRefusal : Session → List ℕ → ℕ → List ℕ → List ℕ → ℕ
 finishRefusal s rows r blocksA blocksB = first (finishTests s rows r blocksA blocksB)
-
--- The first step of a finish: y and y', or the refusal with 0 for both.
-abbrev pub openedMasks : Session → List ℕ → ℕ → List ℕ → List ℕ → OpenedMasks
-openedMasks s rows r blocksA blocksB =
-    found (finishRefusal s rows r blocksA blocksB) (opened s (maskA s rows r) blocksA) (opened s (maskB s rows r) blocksB)
 
 -- The second step: "l'' + y l' + y' l + y y'", by the sum of rows that linear writes: y y' is the fee of its second use (document
 -- 02, (i): "The last step of a product uses the same sum of rows").

@@ -1,4 +1,6 @@
 pub mod Masks
 pub mod Finish
+pub mod Collect
+pub mod Multiply
 pub mod Table
 pub mod Claims

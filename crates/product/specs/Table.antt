@@ -1,17 +1,19 @@
--- Document 01's table, line by line, for masks and finish: one flat list of numbered tests for each. proofs/Tables.antt shows
--- that the calls' own tests, made of groups that calls share, are these lists.
+-- Document 01's table, line by line, for masks and for the two calls that finish became (document 02, (viii)): one flat list of
+-- numbered tests for each. proofs/Tables.antt shows that the calls' own tests, made of groups that calls share, are these lists.
 use Prim.Native.Nat.{ℕ, _+_, _*_, _-_}
 use mathlib.Core.Path.{_≡_}
 use mathlib.Core.List.{List, [], _∷_}
 use Rattle.refusal.specs.Refusal.{Test, _when_}
-use Rattle.refusal.specs.Conditions.{outside, wrongLength, anyBeyond, badPoint}
+use Rattle.refusal.specs.Conditions.{outside, wrongLength, beyond, anyBeyond, badPoint}
 use Rattle.session.specs.declared.Session.{Session}
-use Rattle.session.specs.Sessions.{factorA, factorB}
+use Rattle.session.specs.Sessions.{factorA, factorB, openedA, openedB}
 use Rattle.session.specs.Rows.{width, rowAt}
 use Rattle.session.specs.Checks.{noRow, noTriple, wrongMark}
 use Rattle.opening.specs.Walking.{recordLength, badRecord, tooFew, disagree}
 use Rattle.product.specs.Masks.{masksTests}
-use Rattle.product.specs.Finish.{maskA, maskB, finishTests}
+use Rattle.product.specs.Finish.{maskA, maskB}
+use Rattle.product.specs.Collect.{collectTests}
+use Rattle.product.specs.Multiply.{multiplyTests}
 
 abbrev pub masksTable : Session → List ℕ → ℕ → ℕ → ℕ → List ℕ → List Test
 masksTable s rows a b r out =
@@ -36,8 +38,8 @@ masksTable s rows a b r out =
     ∷ []
 
 -- 7, "or remembered factor row, isn't what the call needs": one above 95, or one that is not held.
-abbrev pub finishTable : Session → List ℕ → ℕ → List ℕ → List ℕ → List Test
-finishTable s rows r blocksA blocksB =
+abbrev pub collectTable : Session → List ℕ → ℕ → List ℕ → List ℕ → List Test
+collectTable s rows r blocksA blocksB =
     1 when outside 2 255 (s .n)
     ∷ 2 when outside 1 (s .n - 1) (s .t)
     ∷ 3 when outside 1 (s .n) (s .post)
@@ -57,7 +59,6 @@ finishTable s rows r blocksA blocksB =
     ∷ 8 when anyBeyond (rowAt (width s) rows (factorB s r))
     ∷ 8 when anyBeyond (rowAt (width s) rows r)
     ∷ 8 when anyBeyond (rowAt (width s) rows (r + 1))
-    ∷ 8 when anyBeyond (rowAt (width s) rows (r + 2))
     ∷ 8 when badRecord s blocksA
     ∷ 8 when badRecord s blocksB
     ∷ 9 when tooFew s (maskA s rows r) blocksA
@@ -66,8 +67,28 @@ finishTable s rows r blocksA blocksB =
     ∷ 13 when disagree s (maskB s rows r) blocksB
     ∷ []
 
+-- "The session remembers the two numbers for each row ... one at least p gets 8."
+abbrev pub multiplyTable : Session → List ℕ → ℕ → List Test
+multiplyTable s rows r =
+    1 when outside 2 255 (s .n)
+    ∷ 2 when outside 1 (s .n - 1) (s .t)
+    ∷ 3 when outside 1 (s .n) (s .post)
+    ∷ 4 when badPoint (s .point)
+    ∷ 5 when wrongLength rows (96 * width s)
+    ∷ 6 when noTriple r
+    ∷ 7 when wrongMark s r 7
+    ∷ 7 when wrongMark s (r + 1) 4
+    ∷ 7 when wrongMark s (r + 2) 4
+    ∷ 8 when beyond (openedA s r)
+    ∷ 8 when beyond (openedB s r)
+    ∷ 8 when anyBeyond (rowAt (width s) rows r)
+    ∷ 8 when anyBeyond (rowAt (width s) rows (r + 1))
+    ∷ 8 when anyBeyond (rowAt (width s) rows (r + 2))
+    ∷ []
+
 -- The calls' own tests are these.
 pub record ProductTables : Type 0 where
   pub masks : (s : Session) (rows : List ℕ) (a b r : ℕ) (out : List ℕ) → masksTests s rows a b r out ≡ masksTable s rows a b r out
-  pub finish : (s : Session) (rows : List ℕ) (r : ℕ) (blocksA blocksB : List ℕ)
-      → finishTests s rows r blocksA blocksB ≡ finishTable s rows r blocksA blocksB
+  pub collect : (s : Session) (rows : List ℕ) (r : ℕ) (blocksA blocksB : List ℕ)
+      → collectTests s rows r blocksA blocksB ≡ collectTable s rows r blocksA blocksB
+  pub multiply : (s : Session) (rows : List ℕ) (r : ℕ) → multiplyTests s rows r ≡ multiplyTable s rows r

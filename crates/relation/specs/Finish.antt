@@ -1,5 +1,6 @@
 -- Document 02, (v): "another finishes them and stores the sum in an empty row". Every check comes before the first write. Each product
--- term is finished as a single product is; then the sum's row, cleared, gets each term's coefficient times its row.
+-- term is finished as the pair of calls finishes a single product (document 02, (viii): "the relations, use the pair"); then the sum's
+-- row, cleared, gets each term's coefficient times its row.
 use Prim.Native.Nat.{ℕ, zero, suc, _+_, _*_}
 use mathlib.Core.Bool.{not}
 use mathlib.Core.List.{List, [], _∷_, _++_}
@@ -10,7 +11,7 @@ use Rattle.refusal.specs.Refusal.{Test, _when_, first, outcome}
 use Rattle.refusal.specs.Conditions.{wrongLength, beyond, anyBeyond}
 use Rattle.session.specs.declared.Session.{Session}
 use Rattle.session.specs.declared.Answer.{Answer}
-use Rattle.session.specs.Sessions.{shapeOf, factorA, factorB, marked, finishedTriple, answer}
+use Rattle.session.specs.Sessions.{shapeOf, factorA, factorB, marked, collectedTriple, finishedTriple, answer}
 use Rattle.session.specs.Rows.{width, sumsAt, rowAt, withRow, summed}
 use Rattle.session.specs.Checks.{frameTests, noRow, wrongMark}
 use Rattle.opening.specs.Walking.{recordLength, badRecord, tooFew, disagree, opened}
@@ -37,6 +38,13 @@ termMaskA s rows t = maskRow (shapeOf s) rows (t .row) (t .first)
 
 abbrev pub termMaskB : Session → List ℕ → Term → List ℕ
 termMaskB s rows t = maskRow (shapeOf s) rows (t .second) (t .first + 1)
+
+-- The numbers that they open to with the term's two records, which start at place k: y and y'.
+abbrev pub termNumberA : Session → List ℕ → List ℕ → ℕ → Term → ℕ
+termNumberA s rows blocks k t = opened s (termMaskA s rows t) (recordA s blocks k)
+
+abbrev pub termNumberB : Session → List ℕ → List ℕ → ℕ → Term → ℕ
+termNumberB s rows blocks k t = opened s (termMaskB s rows t) (recordB s blocks k)
 
 -- 5, by the product terms of the whole list, and 14.
 abbrev pub finishSizes : Session → Terms → List ℕ → List Test
@@ -112,7 +120,7 @@ unfoldable pub withProducts : Session → List ℕ → List ℕ → ℕ → List
 withProducts s rows blocks k [] now = now
 withProducts s rows blocks k (t ∷ ts) now =
     withProducts s rows blocks (suc k) ts
-    (withProduct s (opened s (termMaskA s rows t) (recordA s blocks k)) (opened s (termMaskB s rows t) (recordB s blocks k)) (t .first) now)
+    (withProduct s (termNumberA s rows blocks k t) (termNumberB s rows blocks k t) (t .first) now)
 
 -- The row with a term's number: its row, or the product in its triple's third row.
 abbrev pub numberRow : Term → ℕ
@@ -135,18 +143,23 @@ cleared s d rows = withRow (width s) d (replicate (width s) 0) rows
 abbrev pub withSum : Session → ℕ → List Term → List ℕ → List ℕ
 withSum s d ts rows = plusTerms s d ts (cleared s d rows)
 
--- "Marks become 6, 6, 2" on each product term's triple.
-unfoldable pub finishedTerms : Session → List Term → Session
-finishedTerms s [] = s
-finishedTerms s (t ∷ ts) = finishedTerms (finishedTriple s (t .first)) ts
+-- A session whose triple at r was collected, with y and y', and then multiplied.
+abbrev pub pairDone : Session → ℕ → ℕ → ℕ → Session
+pairDone s r y y' = finishedTriple (collectedTriple s r y y') r
+
+-- The pair of calls on each product term's triple, from place k on: y and y' are remembered, the marks become 6, 6, 2.
+unfoldable pub finishedTerms : Session → List ℕ → List ℕ → ℕ → List Term → Session → Session
+finishedTerms s rows blocks k [] now = now
+finishedTerms s rows blocks k (t ∷ ts) now =
+    finishedTerms s rows blocks (suc k) ts (pairDone now (t .first) (termNumberA s rows blocks k t) (termNumberB s rows blocks k t))
 
 -- The sum's row is held.
-abbrev pub relationDone : Session → List Term → ℕ → Session
-relationDone s ts d = marked (finishedTerms s ts) d held
+abbrev pub relationDone : Session → List ℕ → List ℕ → List Term → ℕ → Session
+relationDone s rows blocks ts d = marked (finishedTerms s rows blocks 0 ts s) d held
 
 abbrev pub relationFinishAnswer : Session → List ℕ → Terms → ℕ → List ℕ → Answer
 relationFinishAnswer s rows all d blocks =
-    answer (relationFinishRefusal s rows all d blocks) 0 (relationDone s (factorsOf all) d) s
+    answer (relationFinishRefusal s rows all d blocks) 0 (relationDone s rows blocks (factorsOf all) d) s
 
 abbrev pub relationFinishRows : Session → List ℕ → Terms → ℕ → List ℕ → List ℕ
 relationFinishRows s rows all d blocks =

@@ -1,4 +1,4 @@
--- The numbers that a relation's finish opens: its refusal, and the products written from them.
+-- The numbers that a relation's finish opens: its refusal, and the products and the session from them.
 use Prim.Native.Nat.{ℕ, zero, suc, _+_, _≤_, _<_}
 use mathlib.Core.Path.{_≡_, refl, sym, _∙_, ap, ap₂}
 use mathlib.Core.Logic.{_≢_}
@@ -27,12 +27,15 @@ use Rattle.terms.specs.declared.Terms.{Terms}
 use Rattle.terms.specs.Listed.{mostTerms, termsOf, factorsOf}
 use Rattle.relation_finish.specs.declared.OpenedTerms.{OpenedTerms}
 use Rattle.relation.specs.Tests.{eachAt, Counted, Few, Every, Factors, Placed}
-use Rattle.relation.specs.Finish.{recordA, recordB, termMaskA, termMaskB, fewTests, offTests, openTests, withProducts, withSum, finishedTerms, relationDone}
+use Rattle.relation.specs.Finish.{recordA, recordB, termMaskA, termMaskB, termNumberA, termNumberB, fewTests, offTests, openTests}
+use Rattle.relation.specs.Finish.{withProducts, withSum, pairDone, finishedTerms, relationDone}
 use Rattle.relation.specs.Finish.{relationFinishChecks, relationFinishRefusal, relationFinishAnswer, relationFinishRows}
-use Rattle.relation_finish.specs.Steps.{withOpened, openedTerms, unopened, openedAll, unopenedBy, openedFinish, productsWritten}
+use Rattle.relation_finish.specs.Steps.{withOpened, openedTerms, unopened, openedAll, unopenedBy, openedFinish, productsWritten, triplesFinished}
 use Rattle.relation.proofs.Passing.{numbered-append}
 use Rattle.relation.proofs.Numbering.{checks-numbered, few-numbered, open-numbered}
+use Rattle.relation.proofs.Loops.{walked}
 use Rattle.relation_finish.proofs.Finishing.{checks-allowed}
+use Rattle.relation_finish.proofs.Summing.{products-walk, finished-walk, products-of, finished-of}
 
 -- 9, or else 13
 abbrev told : Bool → Bool → ℕ
@@ -158,25 +161,27 @@ module _ (s : Session) (rows blocks : List ℕ) where
       let other : i ≢ k = λ e. omega arith in
       (q .0 ∙ getD-set-other (o .«y_a») k i _ 0 other, q .1 ∙ getD-set-other (o .«y_b») k i _ 0 other)
 
-  written : (k : ℕ) (ts : List Term) (o : OpenedTerms) (now : List ℕ) → length (o .«y_a») ≡ mostTerms → length (o .«y_b») ≡ mostTerms
-      → k + length ts ≤ mostTerms → AllFail (eachAt (fewTests s rows blocks) k ts) → AllFail (eachAt (offTests s rows blocks) k ts)
-      → productsWritten s (openedTerms s rows blocks k ts o .«y_a») (openedTerms s rows blocks k ts o .«y_b») k ts now ≡ withProducts s rows blocks k ts now
-  unfolding openedTerms eachAt productsWritten withProducts
-  written k [] o now la lb h few off = refl
-  written k (t ∷ ts) o now la lb h few off =
+  -- what is done with each term and its numbers in the two lists is done with the numbers that it opens to
+  with-own : {X : Type 0} (f : ℕ → ℕ → Term → X → X) (k : ℕ) (ts : List Term) (o : OpenedTerms) (now : X) → length (o .«y_a») ≡ mostTerms
+      → length (o .«y_b») ≡ mostTerms → k + length ts ≤ mostTerms → AllFail (eachAt (fewTests s rows blocks) k ts) → AllFail (eachAt (offTests s rows blocks) k ts)
+      → walked (λ i t x. f (getD (openedTerms s rows blocks k ts o .«y_a») i 0) (getD (openedTerms s rows blocks k ts o .«y_b») i 0) t x) k ts now
+      ≡ walked (λ i t x. f (termNumberA s rows blocks i t) (termNumberB s rows blocks i t) t x) k ts now
+  unfolding openedTerms eachAt
+  with-own f k [] o now la lb h few off = refl
+  with-own f k (t ∷ ts) o now la lb h few off =
       let p = withOpened s rows blocks k t o in
-      let f = fail-parts (fewTests s rows blocks k t) (fews (suc k) ts) few in
+      let m = fail-parts (fewTests s rows blocks k t) (fews (suc k) ts) few in
       let g = fail-parts (offTests s rows blocks k t) (offs (suc k) ts) off in
       let q = kept-below (suc k) ts p k (omega arith) in
-      let ya : getD (openedTerms s rows blocks (suc k) ts p .«y_a») k 0 ≡ opened s (xa t) (recordA s blocks k) =
+      let ya : getD (openedTerms s rows blocks (suc k) ts p .«y_a») k 0 ≡ termNumberA s rows blocks k t =
       q .0 ∙ getD-set-same (o .«y_a») k _ 0 (omega arith) ∙ ap (λ (z : Opened). z .value) (a-is k t)
-      ∙ value-of (few-a k t) (off-a k t) (opened s (xa t) (recordA s blocks k)) (f .0 .0) (g .0 .0) in
-      let yb : getD (openedTerms s rows blocks (suc k) ts p .«y_b») k 0 ≡ opened s (xb t) (recordB s blocks k) =
+      ∙ value-of (few-a k t) (off-a k t) (termNumberA s rows blocks k t) (m .0 .0) (g .0 .0) in
+      let yb : getD (openedTerms s rows blocks (suc k) ts p .«y_b») k 0 ≡ termNumberB s rows blocks k t =
       q .1 ∙ getD-set-same (o .«y_b») k _ 0 (omega arith) ∙ ap (λ (z : Opened). z .value) (b-is k t)
-      ∙ value-of (few-b k t) (off-b k t) (opened s (xb t) (recordB s blocks k)) (f .0 .1 .0) (g .0 .1 .0) in
-      written (suc k) ts p (withProduct s (getD (openedTerms s rows blocks (suc k) ts p .«y_a») k 0) (getD (openedTerms s rows blocks (suc k) ts p .«y_b») k 0) (t .first) now)
-      (length-set (o .«y_a») k _ ∙ la) (length-set (o .«y_b») k _ ∙ lb) (omega arith) (f .1) (g .1)
-      ∙ ap₂ (λ (u v : ℕ). withProducts s rows blocks (suc k) ts (withProduct s u v (t .first) now)) ya yb
+      ∙ value-of (few-b k t) (off-b k t) (termNumberB s rows blocks k t) (m .0 .1 .0) (g .0 .1 .0) in
+      with-own f (suc k) ts p (f (getD (openedTerms s rows blocks (suc k) ts p .«y_a») k 0) (getD (openedTerms s rows blocks (suc k) ts p .«y_b») k 0) t now)
+      (length-set (o .«y_a») k _ ∙ la) (length-set (o .«y_b») k _ ∙ lb) (omega arith) (m .1) (g .1)
+      ∙ ap₂ (λ (u v : ℕ). walked (λ i t x. f (termNumberA s rows blocks i t) (termNumberB s rows blocks i t) t x) (suc k) ts (f u v t now)) ya yb
 
 module _ (s : Session) (rows : List ℕ) (all : Terms) (d : ℕ) (blocks : List ℕ) where
   abbrev checks : List Test
@@ -207,7 +212,7 @@ module _ (s : Session) (rows : List ℕ) (all : Terms) (d : ℕ) (blocks : List 
   -- the call's two ends
   module _ (c : Counted all) (o : OpenedTerms) (e : o ≡ openedFinish s rows all d blocks) where
     abbrev done : Session
-    done = relationDone s (factorsOf all) d
+    done = relationDone s rows blocks (factorsOf all) d
 
     abbrev whole : List ℕ
     whole = withSum s d (termsOf all) (withProducts s rows blocks 0 (factorsOf all) rows)
@@ -254,21 +259,32 @@ module _ (s : Session) (rows : List ℕ) (all : Terms) (d : ℕ) (blocks : List 
       pub finish-row : d ≤ lastRow
       finish-row = finish-dest .row-in
 
-      pub finish-done : (f : Session) (a : Answer) → f ≡ finishedTerms s (factorsOf all) → a ≡ holding 0 0 (marked f d held)
-          → a ≡ relationFinishAnswer s rows all d blocks
-      finish-done f a ef h =
-          h ∙ accepted-answer (o .refusal) (relationFinishRefusal s rows all d blocks) 0 0 (marked f d held) done s refusal-is z refl
-          (ap (λ (x : Session). marked x d held) ef)
-
       numbers-are : o ≡ openedAll s rows all blocks
       numbers-are = e ∙ numbers-of (first checks) checked
+
+      -- with the numbers in the two lists as with those that the terms open to
+      owned : {X : Type 0} (f : ℕ → ℕ → Term → X → X) (now : X)
+          → walked (λ i t x. f (getD (o .«y_a») i 0) (getD (o .«y_b») i 0) t x) 0 (factorsOf all) now
+          ≡ walked (λ i t x. f (termNumberA s rows blocks i t) (termNumberB s rows blocks i t) t x) 0 (factorsOf all) now
+      owned f now =
+          let l : 0 + length (factorsOf all) ≤ mostTerms = omega (arith, length-take (all .products) (all .factors), finish-few .products-in) in
+          let split = fail-parts (fews s rows blocks 0 (factorsOf all)) (offs s rows blocks 0 (factorsOf all)) (fails .1) in
+          ap (λ (x : OpenedTerms). walked (λ i t y. f (getD (x .«y_a») i 0) (getD (x .«y_b») i 0) t y) 0 (factorsOf all) now) numbers-are
+          ∙ with-own s rows blocks f 0 (factorsOf all) unopened now (length-replicate {A = ℕ} mostTerms 0) (length-replicate {A = ℕ} mostTerms 0) l (split .0) (split .1)
+
+      pub finish-done : (f : Session) (a : Answer) → f ≡ triplesFinished (o .«y_a») (o .«y_b») 0 (factorsOf all) s → a ≡ holding 0 0 (marked f d held)
+          → a ≡ relationFinishAnswer s rows all d blocks
+      finish-done f a ef h =
+          let w : f ≡ finishedTerms s rows blocks 0 (factorsOf all) s =
+          ef ∙ sym (finished-walk (o .«y_a») (o .«y_b») 0 (factorsOf all) s) ∙ owned (λ y y' t x. pairDone x (t .first) y y') s
+          ∙ finished-of s rows blocks 0 (factorsOf all) s in
+          h ∙ accepted-answer (o .refusal) (relationFinishRefusal s rows all d blocks) 0 0 (marked f d held) done s refusal-is z refl
+          (ap (λ (x : Session). marked x d held) w)
 
       pub finish-written : (out : List ℕ) → out ≡ withSum s d (termsOf all) (productsWritten s (o .«y_a») (o .«y_b») 0 (factorsOf all) rows)
           → out ≡ relationFinishRows s rows all d blocks
       finish-written out eo =
-          let l : 0 + length (factorsOf all) ≤ mostTerms = omega (arith, length-take (all .products) (all .factors), finish-few .products-in) in
-          let split = fail-parts (fews s rows blocks 0 (factorsOf all)) (offs s rows blocks 0 (factorsOf all)) (fails .1) in
-          let w = written s rows blocks 0 (factorsOf all) unopened rows (length-replicate {A = ℕ} mostTerms 0) (length-replicate {A = ℕ} mostTerms 0) l (split .0) (split .1) in
-          accepted (o .refusal) (relationFinishRefusal s rows all d blocks) out whole rows refusal-is z
-          (eo ∙ ap (λ (x : OpenedTerms). withSum s d (termsOf all) (productsWritten s (x .«y_a») (x .«y_b») 0 (factorsOf all) rows)) numbers-are
-          ∙ ap (withSum s d (termsOf all)) w)
+          let w : productsWritten s (o .«y_a») (o .«y_b») 0 (factorsOf all) rows ≡ withProducts s rows blocks 0 (factorsOf all) rows =
+          sym (products-walk s (o .«y_a») (o .«y_b») 0 (factorsOf all) rows) ∙ owned (λ y y' t x. withProduct s y y' (t .first) x) rows
+          ∙ products-of s rows blocks 0 (factorsOf all) rows in
+          accepted (o .refusal) (relationFinishRefusal s rows all d blocks) out whole rows refusal-is z (eo ∙ ap (withSum s d (termsOf all)) w)

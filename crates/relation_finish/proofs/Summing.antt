@@ -1,4 +1,4 @@
--- What a relation's finish writes: the products, the cleared row, and the sum of the terms; and the marks that it leaves.
+-- What a relation's finish writes: the products, the cleared row, and the sum of the terms; and the session that it leaves.
 use Prim.Native.Nat.{ℕ, suc, _+_, _*_, _-_, _≤_}
 use mathlib.Core.Path.{_≡_, refl, sym, _∙_, ap, ap₂}
 use mathlib.Core.List.{List, [], _∷_, map}
@@ -9,15 +9,16 @@ use Rattle.shape.specs.declared.Shape.{Shape}
 use Rattle.shape.specs.Lengths as Lengths
 use Rattle.shape.specs.Lengths.{rowLength}
 use Rattle.session.specs.declared.Session.{Session}
-use Rattle.session.specs.Sessions.{shapeOf, finishedTriple}
+use Rattle.session.specs.declared.Answer.{Answer}
+use Rattle.session.specs.Sessions.{shapeOf, holding, collectedTriple, finishedTriple}
 use Rattle.session.specs.Rows.{rowAt, withRow, summed}
 use Rattle.session.specs.Checks.{Framed, Sized, RowIn, TripleIn}
 use Rattle.session.proofs.RowLaws.{row-part, row-wide, row-put}
 use Rattle.product.specs.Finish.{productRow, withProduct}
 use Rattle.terms.specs.declared.Term.{Term}
 use Rattle.relation.specs.Tests.{Factors, Placed}
-use Rattle.relation.specs.Finish.{numberRow, plusTerm, plusTerms, withSum, finishedTerms}
-use Rattle.relation_finish.specs.Steps.{productsWritten}
+use Rattle.relation.specs.Finish.{termNumberA, termNumberB, withProducts, numberRow, plusTerm, plusTerms, withSum, pairDone, finishedTerms}
+use Rattle.relation_finish.specs.Steps.{productsWritten, triplesFinished}
 use Rattle.relation.proofs.Loops.{walked}
 use Rattle.relation_finish.proofs.Ends.{number-in}
 
@@ -96,11 +97,33 @@ module _ (s : Session) (g : Shape) (eg : g ≡ shapeOf s) where
   write-is d ts fs yA yB rows one two three e1 e2 e3 =
       e3 ∙ ap (plusTerms s d ts) ((rw eg at e2) ∙ ap (λ (l : List ℕ). withRow (rowLength (shapeOf s)) d (replicate (rowLength (shapeOf s)) 0) l) e1)
 
--- the marks of every product term's triple
-abbrev pub finishIn : ℕ → Term → Session → Session
-finishIn k t s = finishedTriple s (t .first)
+-- the pair of calls on one triple, and on every product term's
+pub pair-of : (s : Session) (r y y' : ℕ) (a b : Answer) → a ≡ holding 0 0 (collectedTriple s r y y') → b ≡ holding 0 0 (finishedTriple (a .session) r)
+    → b .session ≡ pairDone s r y y'
+pair-of s r y y' a b ea eb = ap (λ (x : Answer). x .session) eb ∙ ap (λ (x : Answer). finishedTriple (x .session) r) ea
 
-pub finished-walk : (k : ℕ) (s : Session) (ts : List Term) → walked finishIn k ts s ≡ finishedTerms s ts
-unfolding finishedTerms
-finished-walk k s [] = refl
-finished-walk k s (t ∷ ts) = finished-walk (suc k) (finishedTriple s (t .first)) ts
+abbrev pub finishIn : List ℕ → List ℕ → ℕ → Term → Session → Session
+finishIn yA yB k t s = pairDone s (t .first) (getD yA k 0) (getD yB k 0)
+
+pub finished-walk : (yA yB : List ℕ) (k : ℕ) (ts : List Term) (s : Session) → walked (finishIn yA yB) k ts s ≡ triplesFinished yA yB k ts s
+unfolding triplesFinished
+finished-walk yA yB k [] s = refl
+finished-walk yA yB k (t ∷ ts) s = finished-walk yA yB (suc k) ts (finishIn yA yB k t s)
+
+-- products and triples with the numbers that the terms open to
+module _ (s : Session) (rows blocks : List ℕ) where
+  abbrev pub productOf : ℕ → Term → List ℕ → List ℕ
+  productOf k t now = withProduct s (termNumberA s rows blocks k t) (termNumberB s rows blocks k t) (t .first) now
+
+  pub products-of : (k : ℕ) (ts : List Term) (now : List ℕ) → walked productOf k ts now ≡ withProducts s rows blocks k ts now
+  unfolding withProducts
+  products-of k [] now = refl
+  products-of k (t ∷ ts) now = products-of (suc k) ts (productOf k t now)
+
+  abbrev pub finishOf : ℕ → Term → Session → Session
+  finishOf k t now = pairDone now (t .first) (termNumberA s rows blocks k t) (termNumberB s rows blocks k t)
+
+  pub finished-of : (k : ℕ) (ts : List Term) (now : Session) → walked finishOf k ts now ≡ finishedTerms s rows blocks k ts now
+  unfolding finishedTerms
+  finished-of k [] now = refl
+  finished-of k (t ∷ ts) now = finished-of (suc k) ts (finishOf k t now)

@@ -1,5 +1,5 @@
 -- The steps of a relation's finish, as its functions hand them on: every product term's two numbers in two lists, by the term's
--- place; and the products written from these.
+-- place; and the products and the session from these.
 use Prim.Native.Nat.{ℕ, zero, suc, _+_, _*_, _≤_, _<_}
 use mathlib.Core.Path.{_≡_}
 use mathlib.Core.List.{List, [], _∷_}
@@ -15,7 +15,7 @@ use Rattle.terms.specs.declared.Term.{Term}
 use Rattle.terms.specs.declared.Terms.{Terms}
 use Rattle.terms.specs.Listed.{mostTerms, factorsOf}
 use Rattle.relation_finish.specs.declared.OpenedTerms.{OpenedTerms}
-use Rattle.relation.specs.Finish.{recordA, recordB, termMaskA, termMaskB, relationFinishChecks}
+use Rattle.relation.specs.Finish.{recordA, recordB, termMaskA, termMaskB, pairDone, relationFinishChecks}
 
 -- What 1, 2 and 5 leave of the lent list: the product term at place k has its two records there.
 pub record Pair (s : Session) (blocks : List ℕ) (k : ℕ) : Type 0 where
@@ -60,3 +60,8 @@ unfoldable pub productsWritten : Session → List ℕ → List ℕ → ℕ → L
 productsWritten s yA yB k [] rows = rows
 productsWritten s yA yB k (t ∷ ts) rows =
     productsWritten s yA yB (suc k) ts (withProduct s (getD yA k 0) (getD yB k 0) (t .first) rows)
+
+-- The triples as the pair of calls leaves them, from the two lists.
+unfoldable pub triplesFinished : List ℕ → List ℕ → ℕ → List Term → Session → Session
+triplesFinished yA yB k [] s = s
+triplesFinished yA yB k (t ∷ ts) s = triplesFinished yA yB (suc k) ts (pairDone s (t .first) (getD yA k 0) (getD yB k 0))

@@ -1,4 +1,5 @@
-// The finish of a relation: all checks, every product term's two openings, then the products, and the sum in its row.
+// The finish of a relation: all checks, every product term's two openings, then the products, the sum in its row, and the triples as
+// the pair of calls leaves them.
 pub mod checks;
 pub mod openings;
 pub mod writing;
@@ -10,11 +11,11 @@ use terms::Terms;
 ghost use mathlib.Core.Path.{_≡_};
 ghost use Prim.Native.Nat.{_≤_};
 ghost use Rattle.shape.specs.Bounds.{lastTriple};
-ghost use Rattle.session.specs.Sessions.{shapeOf, finishedTriple};
+ghost use Rattle.session.specs.Sessions.{shapeOf};
 ghost use Rattle.terms.specs.Listed.{factorsOf};
 ghost use Rattle.relation.specs.Tests.{Counted, Few, Every, Factors};
-ghost use Rattle.relation.specs.Finish.{finishedTerms, relationFinishAnswer, relationFinishRows};
-ghost use Rattle.relation_finish.specs.Steps.{openedFinish};
+ghost use Rattle.relation.specs.Finish.{pairDone, relationFinishAnswer, relationFinishRows};
+ghost use Rattle.relation_finish.specs.Steps.{openedFinish, triplesFinished};
 
 // The two numbers that each product term opens to, y and y', at its place; or the refusal.
 pub struct OpenedTerms {
@@ -23,28 +24,27 @@ pub struct OpenedTerms {
     pub y_b: [u32; terms::MOST_TERMS],
 }
 
-// "Marks become 6, 6, 2", on one product term's triple.
-fn finish_triple(session: Session, term: Term) -> Session
+// One product term's triple as the pair of calls leaves it: y and y' are remembered, and the marks become 6, 6, 2.
+fn finish_triple(session: Session, term: Term, y_a: u32, y_b: u32) -> Session
     requires { ⌜ term .first ≤ lastTriple ⌝ }
-    ensures { λ r. ⌜ r ≡ finishedTriple session (term .first) ⌝ }
+    ensures { λ r. ⌜ r ≡ pairDone session (term .first) «y_a» «y_b» ⌝ }
 {
-    let answer = session.done_marking_triple(
-        term.first as usize,
-        shape::SPENT,
-        shape::SPENT,
-        shape::HELD,
-    );
-    answer.session
+    let first = term.first as usize;
+    let collected = session.done_collecting(first, y_a, y_b);
+    let finished = collected
+        .session
+        .done_marking_triple(first, shape::SPENT, shape::SPENT, shape::HELD);
+    finished.session
 }
 
 // The same on every product term's triple.
-fn finish_triples(session: Session, all: Terms) -> Session
+fn finish_triples(session: Session, all: Terms, opened: OpenedTerms) -> Session
     requires { ⌜ Few all × Every (Factors (shapeOf session)) (factorsOf all) ⌝ }
-    ensures { λ r. ⌜ r ≡ finishedTerms session (factorsOf all) ⌝ }
+    ensures { λ r. ⌜ r ≡ triplesFinished (opened .«y_a») (opened .«y_b») 0 (factorsOf all) session ⌝ }
 {
     let mut now = session;
-    for i in 0..all.products {
-        now = finish_triple(now, all.factors[i]);
+    for k in 0..all.products {
+        now = finish_triple(now, all.factors[k], opened.y_a[k], opened.y_b[k]);
     }
     now
 }
@@ -72,5 +72,5 @@ pub fn finish(session: Session, rows: &mut [u32], all: Terms, dest: usize, block
         return session.refuse(opened.refusal);
     }
     writing::write(session, rows, all, dest, opened);
-    finish_triples(session, all).done_marking(dest, shape::HELD)
+    finish_triples(session, all, opened).done_marking(dest, shape::HELD)
 }

@@ -8,23 +8,23 @@ use lib.ListN.{length}
 use Rattle.session.specs.declared.Session.{Session}
 use Rattle.sharing.proofs.Passed.{row-loaded, triple-loaded, dealt, message-made, summed}
 use Rattle.opening.proofs.Passed.{row-opened, open-framed}
-use Rattle.product.proofs.Passed.{Factored, masks-made, finished, finish-framed}
+use Rattle.product.proofs.Passed.{Factored, masks-made, collected, collect-framed, multiplied}
 use Rattle.poly.specs.Counting.{All}
 use Rattle.poly.proofs.Lists.{all-map, all-zip}
 use Rattle.terms.specs.declared.Term.{Term}
 use Rattle.terms.specs.Listed.{productsOf}
 use Rattle.relation.proofs.Passed.{RelationFinishPlaced, relation-masks-made, relation-finished}
 use Rattle.runs.specs.Draws.{Plan, Draw}
-use Rattle.runs.specs.Outline.{loadRow, loadTriple, deal, message, opening, linear, masks, finish, relationMasks, relationFinish, takes, actsIn, finishing, summing, acts, sends}
+use Rattle.runs.specs.Outline.{loadRow, loadTriple, deal, message, opening, linear, masks, collect, multiply, relationMasks, relationFinish, takes, actsIn, finishing, summing, acts, sends}
 use Rattle.runs.specs.Calls.{Actual, Call}
-use Rattle.runs.proofs.Marks.{Marks, rememberedB, sessionAt}
+use Rattle.runs.proofs.Marks.{Marks, rememberedB, Opened, sessionAt}
 use Rattle.runs.proofs.Outcomes.{refusalOf}
-use Rattle.runs.proofs.Facts.{AllowedAll, ReadyFor, Allowed, Multiplying}
+use Rattle.runs.proofs.Facts.{AllowedAll, ReadyFor, Allowed, Multiplying, Tripled}
 use Rattle.runs.proofs.Relations.{apart, Waits, finishedAll, allowed-masks, ready-masks, sending-masks, stays-all, products-held, allowed-products, ready-products, terms-held, allowed-sum, ready-sum}
 
-module _ (plan : Plan) (draw : Draw) (i : ℕ) (M : Marks) (l : List ℕ) where
+module _ (plan : Plan) (draw : Draw) (i : ℕ) (M : Marks) (Y : Opened) (l : List ℕ) where
   abbrev s : Session
-  s = sessionAt plan draw i M
+  s = sessionAt plan draw i M Y
 
   pub multiplying : (a b r m : ℕ) → Factored s a b r m → Multiplying m M a b r
   multiplying a b r m f = record {
@@ -68,7 +68,7 @@ module _ (plan : Plan) (draw : Draw) (i : ℕ) (M : Marks) (l : List ℕ) where
   abbrev Passes : Call → Type 0
   Passes c = Allowed (acts c) (sends c) M × (length l ≡ 96 * (plan .t + 1 + 2 * plan .n))
 
-  passes : (c : Call) → refusalOf c (record { session = sessionAt plan draw i M; rows = l }) ≡ 0 → Passes c
+  passes : (c : Call) → refusalOf c (record { session = sessionAt plan draw i M Y; rows = l }) ≡ 0 → Passes c
   passes (loadRow x) z =
       let f = row-loaded s l (x .r) (x .pack) z in
       (record { moving = (((omega (arith, f .row-in), f .is-empty), tt), tt); ready = (tt, tt); sending = tt }, f .framed .sized .length-is)
@@ -113,12 +113,17 @@ module _ (plan : Plan) (draw : Draw) (i : ℕ) (M : Marks) (l : List ℕ) where
       let f = masks-made s l (x .a) (x .b) (x .r) (x .lent) z in
       let m = multiplying (x .a) (x .b) (x .r) 3 (f .placed .factors) in
       (record { moving = ((tt, m), tt); ready = (tt, tt); sending = ((m, inl refl), tt) }, f .framed .sized .length-is)
-  passes (finish x) z =
-      let f = finished s l (x .r) (x .blocksA) (x .blocksB) z .checked in
+  passes (collect x) z =
+      let f = collected s l (x .r) (x .blocksA) (x .blocksB) z .checked in
       let m = multiplying _ _ (x .r) 5 (f .placed .factors) in (
         record { moving = ((m, tt), tt); ready = (m, tt); sending = tt },
-        finish-framed s l (x .r) (x .blocksA) (x .blocksB) f .sized .length-is,
+        collect-framed s l (x .r) (x .blocksA) (x .blocksB) f .sized .length-is,
       )
+  passes (multiply x) z =
+      let f = multiplied s l (x .r) z in
+      let k = f .placed in
+      let m : Tripled 7 M (x .r) = record { r-low = omega (arith, k .triple-in); first = k .first-mark; second = k .second-mark; third = k .third-mark } in
+      (record { moving = ((m, tt), tt); ready = (tt, tt); sending = tt }, f .framed .sized .length-is)
   passes (relationMasks x) z =
       let f = relation-masks-made s l (x .terms) (x .lent) z in
       let fs = productsOf (x .terms) in
@@ -140,8 +145,8 @@ module _ (plan : Plan) (draw : Draw) (i : ℕ) (M : Marks) (l : List ℕ) where
         f .framed .sized .length-is,
       )
 
-  pub allowed : (c : Call) → refusalOf c (record { session = sessionAt plan draw i M; rows = l }) ≡ 0 → Allowed (acts c) (sends c) M
+  pub allowed : (c : Call) → refusalOf c (record { session = sessionAt plan draw i M Y; rows = l }) ≡ 0 → Allowed (acts c) (sends c) M
   allowed c z = passes c z .0
 
-  pub room : (c : Call) → refusalOf c (record { session = sessionAt plan draw i M; rows = l }) ≡ 0 → length l ≡ 96 * (plan .t + 1 + 2 * plan .n)
+  pub room : (c : Call) → refusalOf c (record { session = sessionAt plan draw i M Y; rows = l }) ≡ 0 → length l ≡ 96 * (plan .t + 1 + 2 * plan .n)
   room c z = passes c z .1

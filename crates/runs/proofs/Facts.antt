@@ -9,9 +9,9 @@ use Rattle.field.specs.Element.{element}
 use Rattle.poly.specs.Counting.{All}
 use Rattle.vectors.specs.Vector.{Vector, raised}
 use Rattle.runs.specs.Draws.{Plan, Draw, IsRaw}
-use Rattle.runs.specs.Outline.{Act, loads, loadsTriple, deals, opens, Summand, once, times, fee, sums, factors, multiplies, Taking, nothingTaken, aRowPack, aTriplePack, aNumber, aRecord, twoRecords, takes, Sending, itsOpening, itsMasks}
+use Rattle.runs.specs.Outline.{Act, loads, loadsTriple, deals, opens, Summand, once, times, fee, sums, factors, collects, multiplies, Taking, nothingTaken, aRowPack, aTriplePack, aNumber, aRecord, twoRecords, takes, Sending, itsOpening, itsMasks}
 use Rattle.runs.specs.Calls.{Among}
-use Rattle.runs.proofs.Marks.{Marks, markOf, rememberedA, rememberedB, rawVector, vectorA, vectorB, vectorAB, totalVector, written, Masking, none, of, masking, marksBy}
+use Rattle.runs.proofs.Marks.{Marks, markOf, rememberedA, rememberedB, rawVector, vectorA, vectorB, vectorAB, totalVector, written, Masking, none, of, masking, Masked, marksBy}
 
 -- ---- What the marks allow, of a call that is not refused.
 
@@ -37,6 +37,13 @@ pub record Multiplying (mark : ℕ) (M : Marks) (a b r : ℕ) : Type 0 where
   pub second : markOf M (r + 1) ≡ 4
   pub third : markOf M (r + 2) ≡ 4
 
+-- a triple from r on, whose first row has this mark
+pub record Tripled (mark : ℕ) (M : Marks) (r : ℕ) : Type 0 where
+  pub r-low : r < 94
+  pub first : markOf M r ≡ mark
+  pub second : markOf M (r + 1) ≡ 4
+  pub third : markOf M (r + 2) ≡ 4
+
 abbrev pub Needed : Act → Marks → Type 0
 Needed (loads r) M = (r < 96) × (markOf M r ≡ 0)
 Needed (loadsTriple r) M = (r < 94) × (markOf M r ≡ 0) × (markOf M (r + 1) ≡ 0) × (markOf M (r + 2) ≡ 0)
@@ -44,7 +51,8 @@ Needed (deals r) M = (r < 96) × (markOf M r ≡ 1)
 Needed (opens r) M = (r < 96) × (markOf M r ≡ 2)
 Needed (sums r t ts) M = Summing M r t ts
 Needed (factors a b r) M = Unit {0}
-Needed (multiplies r) M = Multiplying 5 M (rememberedA M r) (rememberedB M r) r
+Needed (collects r) M = Multiplying 5 M (rememberedA M r) (rememberedB M r) r
+Needed (multiplies r) M = Tripled 7 M r
 
 abbrev pub Maskable : Masking → Marks → Type 0
 Maskable none M = Unit {0}
@@ -111,8 +119,8 @@ module _ (plan : Plan) (draw : Draw) where
     pub record Fact (M : Marks) (vec : ℕ → Vector) (r : ℕ) : Type 0 where
       pub raw : markOf M r ≡ 1 → IsRaw (plan .raw r) × (vec r ≡ rawVector plan draw r)
       pub held : markOf M r ≡ 2 → Held r (vec r)
-      pub triple : (markOf M r ≡ 3) ⊎ (markOf M r ≡ 5) → Triple M vec r
-      pub waiting : markOf M r ≡ 5 → Waiting M r
+      pub triple : (markOf M r ≡ 3) ⊎ Masked (markOf M r) → Triple M vec r
+      pub waiting : Masked (markOf M r) → Waiting M r
 
     abbrev pub Facts : Marks → (ℕ → Vector) → Type 0
     Facts M vec = (r : ℕ) → r < 96 → Fact M vec r
@@ -125,4 +133,5 @@ module _ (plan : Plan) (draw : Draw) where
     Meant (opens r) c M vec = Unit {0}
     Meant (sums r t ts) c M vec = Held r (totalVector vec t ts)
     Meant (factors a b r) c M vec = Waits r a b
+    Meant (collects r) c M vec = Unit {0}
     Meant (multiplies r) c M vec = Held (r + 2) (written M vec r)

@@ -1,6 +1,6 @@
--- One post's finish: where t+1 of the polynomials it accepted are truly their senders', and no share of an accepted one is off their
--- polynomial, the third row is its part of the product.
-use Prim.Native.Nat.{ℕ, _+_, _*_, _-_, _<_}
+-- One post's two calls of a finish: where t+1 of the polynomials it accepted are truly their senders', and no share of an accepted one
+-- is off their polynomial, the first remembers y and y'; then the second's third row is its part of the product.
+use Prim.Native.Nat.{ℕ, suc, _+_, _*_, _-_, _<_}
 use mathlib.Core.Path.{_≡_, sym, _∙_, ap, ap₂, subst}
 use mathlib.Core.Bool.{false}
 use mathlib.Core.Logic.{_≢_}
@@ -13,28 +13,37 @@ use Rattle.field.specs.Modulus.{p}
 use Rattle.field.specs.Arithmetic.{product}
 use Rattle.field.specs.Element.{element}
 use Rattle.session.specs.declared.Session.{Session}
-use Rattle.session.specs.Checks.{Framed}
+use Rattle.session.specs.Sessions.{openedA, openedB}
 use Rattle.session.specs.Rows.{sumsAt, rowAt, summed}
 use Rattle.session.proofs.Summed.{plus-nothing}
 use Rattle.opening.specs.Walking.{tooFew, disagree, opened}
 use Rattle.product.specs.Finish as Finish
 use Rattle.product.specs.Finish.{productRow, withProduct}
-use Rattle.product.proofs.Passed.{Finished, finish-framed}
+use Rattle.product.specs.Collect.{numberA, numberB}
+use Rattle.product.proofs.Passed.{Collected, collect-framed, Multiplied}
 use Rattle.vectors.specs.Vector.{Vector, plusTimes, number}
 use Rattle.vectors.specs.Claims.{heldRow, EnoughTruly}
 use Rattle.vectors.proofs.Linear.{row-plusTimes, row-summed}
 use Rattle.vectors.proofs.Theorems.{opened-exact}
-use Rattle.runs.specs.Draws.{pointOf}
+use Rattle.runs.specs.Draws.{Plan, Draw, pointOf}
 use Rattle.runs.specs.Calls.{at}
-use Rattle.runs.proofs.Marks.{Marks, markOf, rememberedA, rememberedB, remarked, finished, sessionAt, maskVectorA, maskVectorB, written}
+use Rattle.runs.proofs.Marks.{Marks, markOf, rememberedA, rememberedB, remarked, finished, Opened, sessionAt, maskVectorA, maskVectorB, written}
 use Rattle.runs.proofs.Sums.{productVector, product-sum}
 use Rattle.runs.proofs.Packs.{rowFor}
 use Rattle.runs.proofs.Holds.{Holds, wide, put-holds, keep-holds, Holder, sessionOf, combined-row}
-use Rattle.runs.proofs.Facts.{Multiplying}
+use Rattle.runs.proofs.Facts.{Multiplying, Tripled}
+use Rattle.runs.proofs.Recalled.{Recalled}
 
 -- where enough polynomials are accepted, t+1 of the record's are the senders' own of the vector S
 abbrev pub Trusted : Session → Vector → List ℕ → Type 0
 Trusted s S blocks = s .n < p → tooFew s (heldRow s S) blocks ≡ false → EnoughTruly s S blocks
+
+-- by the post alone, whatever its session remembers
+module _ (plan : Plan) (draw : Draw) (i : ℕ) (M : Marks) (Y Y' : Opened) (S : Vector) (blocks : List ℕ) where
+  pub trusted-any : Trusted (sessionAt plan draw i M Y) S blocks → Trusted (sessionAt plan draw i M Y') S blocks
+  trusted-any t few enough =
+      let e = t few enough in
+      record { good = e .good; many = e .many; different = e .different; truly = e .truly }
 
 module _ (H : Holder) where
   open Holder H using (plan, draw, len, post as i, marks as M, vec, rows as l, holds as h)
@@ -66,9 +75,6 @@ module _ (H : Holder) where
     row-b : rowAt W l (r + 1) ≡ rowFor plan draw i (vec (r + 1))
     row-b = h .rows (r + 1) (omega (arith, low)) (λ e. omega (arith, ok .second))
 
-    row-ab : rowAt W l (r + 2) ≡ rowFor plan draw i (vec (r + 2))
-    row-ab = h .rows (r + 2) (omega (arith, low)) (λ e. omega (arith, ok .third))
-
     factor-row : (x : ℕ) → x < 96 → markOf M x ≡ 2 → rowAt W l x ≡ rowFor plan draw i (vec x)
     factor-row x lx e = h .rows x lx (λ z. omega arith)
 
@@ -86,8 +92,22 @@ module _ (H : Holder) where
       ap (λ (y : List ℕ). opened s y bl) e
       ∙ opened-exact s S bl few enough (trusted few enough) (sym (ap (λ (y : List ℕ). disagree s y bl) e) ∙ agree)
 
+  -- the first call: where t+1 of the polynomials accepted are true, the numbers opened are those of a − l and b − l'
+  module _ (r : ℕ) (blocksA blocksB : List ℕ) (ok : Multiplying 5 M (rememberedA M r) (rememberedB M r) r) (f : Collected s l r blocksA blocksB) where
+    few : plan .n < p
+    few = omega (arith, collect-framed s l r blocksA blocksB (f .checked) .sized .valid .n-in)
+
+    pub collect-a : Trusted s (maskVectorA M vec r) blocksA → numberA s l r blocksA ≡ number (maskVectorA M vec r) .0
+    collect-a ta = opened-is few (Finish.maskA s l r) (maskVectorA M vec r) blocksA (opens-a r ok) ta (f .enough-a) (f .agree-a)
+
+    pub collect-b : Trusted s (maskVectorB M vec r) blocksB → numberB s l r blocksB ≡ number (maskVectorB M vec r) .0
+    collect-b tb = opened-is few (Finish.maskB s l r) (maskVectorB M vec r) blocksB (opens-b r ok) tb (f .enough-b) (f .agree-b)
+
   -- the product of the triple at r, written from the numbers of a − l and of b − l'
-  module _ (r : ℕ) (ok : Multiplying 5 M (rememberedA M r) (rememberedB M r) r) (size : length l ≡ 96 * W) where
+  module _ (r m : ℕ) (ok : Tripled (suc m) M r) (size : length l ≡ 96 * W) where
+    row-is : (q k : ℕ) → q < 96 → markOf M q ≡ suc k → rowAt W l q ≡ rowFor plan draw i (vec q)
+    row-is q k low e = h .rows q low (λ g. omega arith)
+
     before : (q : ℕ) → q < 96 → markOf (remarked (remarked M r 6) (r + 1) 6) q ≢ 0 → markOf M q ≢ 0
     before q lq ne = go (ℕ-discrete q r) (ℕ-discrete q (r + 1))
       where
@@ -97,30 +117,37 @@ module _ (H : Holder) where
         go (no e) (no d) =
             subst (λ (m : ℕ). m ≢ 0) (getD-set-other (set (M .marks) r 6) (r + 1) q 6 0 d ∙ getD-set-other (M .marks) r q 6 0 e) ne
 
-    pub product-holds : (M₀ : Marks) (y y' : ℕ) → y ≡ number (maskVectorA M vec r) .0 → y' ≡ number (maskVectorB M vec r) .0
-        → Holds plan draw len i (finished M r) (at vec (r + 2) (written M vec r)) (withProduct (sessionAt plan draw i M₀) y y' r l)
+    pub product-holds : (M₀ : Marks) (Y₀ : Opened) (y y' : ℕ) → y ≡ number (maskVectorA M vec r) .0 → y' ≡ number (maskVectorB M vec r) .0
+        → Holds plan draw len i (finished M r) (at vec (r + 2) (written M vec r)) (withProduct (sessionAt plan draw i M₀ Y₀) y y' r l)
     unfolding withProduct productRow
-    product-holds M₀ y y' ya yb =
+    product-holds M₀ Y₀ y y' ya yb =
         put-holds plan draw len i (remarked (remarked M r 6) (r + 1) 6) vec l
         (keep-holds plan draw len i M (remarked (remarked M r 6) (r + 1) 6) vec l h before) size (r + 2) 2
         (omega (arith, ok .r-low)) _ _ (ap₂ (λ (y y' : ℕ). productRow s y y' (rowAt W l r) (rowAt W l (r + 1)) (rowAt W l (r + 2))) ya yb ∙ rows-are ∙ row-of-product _ _ _ _ _
         ∙ ap (rowFor plan draw i) (sym (product-sum vec r _ _)))
       where
+        row-a' : rowAt W l r ≡ rowFor plan draw i (vec r)
+        row-a' = row-is r m (omega (arith, ok .r-low)) (ok .first)
+
+        row-b' : rowAt W l (r + 1) ≡ rowFor plan draw i (vec (r + 1))
+        row-b' = row-is (r + 1) 3 (omega (arith, ok .r-low)) (ok .second)
+
+        row-ab' : rowAt W l (r + 2) ≡ rowFor plan draw i (vec (r + 2))
+        row-ab' = row-is (r + 2) 3 (omega (arith, ok .r-low)) (ok .third)
+
         rows-are : productRow s (number (maskVectorA M vec r) .0) (number (maskVectorB M vec r) .0) (rowAt W l r) (rowAt W l (r + 1)) (rowAt W l (r + 2))
             ≡ productRow s (number (maskVectorA M vec r) .0) (number (maskVectorB M vec r) .0) (rowFor plan draw i (vec r)) (rowFor plan draw i (vec (r + 1))) (rowFor plan draw i (vec (r + 2)))
-        rows-are = λ j. productRow s (number (maskVectorA M vec r) .0) (number (maskVectorB M vec r) .0) (row-a r ok j) (row-b r ok j) (row-ab r ok j)
+        rows-are = λ j. productRow s (number (maskVectorA M vec r) .0) (number (maskVectorB M vec r) .0) (row-a' j) (row-b' j) (row-ab' j)
 
-  module _ (r : ℕ) (blocksA blocksB : List ℕ) (ok : Multiplying 5 M (rememberedA M r) (rememberedB M r) r) (f : Finished s l r blocksA blocksB) where
-    framed : Framed s l
-    framed = finish-framed s l r blocksA blocksB (f .checked)
+  -- the second call, which goes by the numbers remembered
+  module _ (r : ℕ) (f : Multiplied s l r) (k : Recalled M vec (H .opened) r) where
+    tripled : Tripled 7 M r
+    tripled = record {
+      r-low = omega (arith, f .placed .triple-in);
+      first = f .placed .first-mark;
+      second = f .placed .second-mark;
+      third = f .placed .third-mark;
+    }
 
-    few : plan .n < p
-    few = omega (arith, framed .sized .valid .n-in)
-
-    pub finish-holds : Trusted s (maskVectorA M vec r) blocksA → Trusted s (maskVectorB M vec r) blocksB
-        → Holds plan draw len i (finished M r) (at vec (r + 2) (written M vec r))
-        (withProduct s (opened s (Finish.maskA s l r) blocksA) (opened s (Finish.maskB s l r) blocksB) r l)
-    finish-holds ta tb =
-        product-holds r ok (framed .sized .length-is) M _ _
-        (opened-is few (Finish.maskA s l r) (maskVectorA M vec r) blocksA (opens-a r ok) ta (f .enough-a) (f .agree-a))
-        (opened-is few (Finish.maskB s l r) (maskVectorB M vec r) blocksB (opens-b r ok) tb (f .enough-b) (f .agree-b))
+    pub multiply-holds : Holds plan draw len i (finished M r) (at vec (r + 2) (written M vec r)) (withProduct s (openedA s r) (openedB s r) r l)
+    multiply-holds = product-holds r 6 tripled (f .framed .sized .length-is) M (H .opened) _ _ (k .is-a) (k .is-b)

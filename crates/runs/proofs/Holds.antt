@@ -20,7 +20,7 @@ use Rattle.vectors.proofs.Linear.{length-numbers, row-plusTimes, row-raised, ro
 use Rattle.runs.specs.Draws.{Plan, Draw, pointOf}
 use Rattle.runs.specs.Outline.{once, times, fee, loadsTriple, factors}
 use Rattle.runs.specs.Calls.{at}
-use Rattle.runs.proofs.Marks.{Marks, markOf, remarked, marksBy, sessionAt, totalVector, at-same, at-other}
+use Rattle.runs.proofs.Marks.{Marks, markOf, remarked, marksBy, Opened, sessionAt, totalVector, at-same, at-other}
 use Rattle.runs.proofs.Sums.{linear-sum}
 use Rattle.runs.proofs.Packs.{rowFor}
 
@@ -74,12 +74,13 @@ pub record Holder : Type 0 where
   pub len : ℕ
   pub post : ℕ
   pub marks : Marks
+  pub opened : Opened
   pub vec : ℕ → Vector
   pub rows : List ℕ
   pub holds : Holds plan draw len post marks vec rows
 
 abbrev pub sessionOf : Holder → Session
-sessionOf H = sessionAt (H .plan) (H .draw) (H .post) (H .marks)
+sessionOf H = sessionAt (H .plan) (H .draw) (H .post) (H .marks) (H .opened)
 
 module _ (H : Holder) where
   open Holder H using (plan, draw, len, post as i, marks as M, vec, rows as l, holds as h)
@@ -127,6 +128,13 @@ module _ (H : Holder) where
       go : (q : ℕ) → getD (set (M .marks) r 5) q 0 ≢ 0 → Dec (q ≡ r) → markOf M q ≢ 0
       go q ne (yes e) = λ g. omega (arith, three, ap (markOf M) e)
       go q ne (no e) = subst (λ (z : ℕ). z ≢ 0) (getD-set-other (M .marks) r q 5 0 e) ne
+
+  pub collect-holds : (r : ℕ) → markOf M r ≡ 5 → Holds plan draw len i (remarked M r 7) vec l
+  collect-holds r five = keep-holds plan draw len i M (remarked M r 7) vec l h (λ q lq ne. go q ne (ℕ-discrete q r))
+    where
+      go : (q : ℕ) → getD (set (M .marks) r 7) q 0 ≢ 0 → Dec (q ≡ r) → markOf M q ≢ 0
+      go q ne (yes e) = λ g. omega (arith, five, ap (markOf M) e)
+      go q ne (no e) = subst (λ (z : ℕ). z ≢ 0) (getD-set-other (M .marks) r q 7 0 e) ne
 
   -- a triple's three rows
   pub triple-holds : (r : ℕ) (pack : List ℕ) (X Y Z : Vector)

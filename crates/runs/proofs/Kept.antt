@@ -6,10 +6,10 @@ use native.Mathlib.Omega.{arith}
 use lib.Seq.{getD-set-same}
 use Rattle.vectors.specs.Vector.{Vector}
 use Rattle.runs.specs.Draws.{Plan, Draw, IsRaw}
-use Rattle.runs.specs.Outline.{Act, factors}
-use Rattle.runs.proofs.Marks.{at-same, at-other, Marks, markOf, rememberedA, rememberedB, Sized, rawVector, finished, marksBy, vectorsBy}
-use Rattle.runs.proofs.Facts.{Multiplying, AllowedBy, Triple, Waiting, Fact, Facts, Meant}
-use Rattle.runs.proofs.Rows.{Turn, raw, first, second, third, dealt, summed, waiting, spent, spent', multiplied, Same, off-masks, on-three, turned, same, course, held-by}
+use Rattle.runs.specs.Outline.{Act, factors, collects}
+use Rattle.runs.proofs.Marks.{at-same, at-other, Marks, markOf, rememberedA, rememberedB, Sized, rawVector, finished, Masked, marksBy, vectorsBy}
+use Rattle.runs.proofs.Facts.{Tripled, AllowedBy, Triple, Waiting, Fact, Facts, Meant}
+use Rattle.runs.proofs.Rows.{Turn, raw, first, second, third, dealt, summed, waiting, collected, spent, spent', multiplied, Same, other, off-masks, on-three, turned, same, course, held-by}
 
 -- ---- The fact of a row, by its mark.
 
@@ -18,33 +18,33 @@ module _ {plan : Plan} {draw : Draw} {Held : ℕ → Vector → Type 0} {Waits :
   raw-fact e is v = record {
     raw = λ h. (is, v);
     held = λ h. absurd (omega arith);
-    triple = λ h. elim h [ inl k ↦ absurd (omega arith) | inr k ↦ absurd (omega arith) ];
-    waiting = λ h. absurd (omega arith);
+    triple = λ h. elim h [ inl k ↦ absurd (omega arith) | inr (inl k) ↦ absurd (omega arith) | inr (inr k) ↦ absurd (omega arith) ];
+    waiting = λ h. elim h [ inl k ↦ absurd (omega arith) | inr k ↦ absurd (omega arith) ];
   }
 
   held-fact : markOf M r ≡ 2 → Held r (vec r) → Fact plan draw Held Waits M vec r
   held-fact e is = record {
     raw = λ h. absurd (omega arith);
     held = λ h. is;
-    triple = λ h. elim h [ inl k ↦ absurd (omega arith) | inr k ↦ absurd (omega arith) ];
-    waiting = λ h. absurd (omega arith);
+    triple = λ h. elim h [ inl k ↦ absurd (omega arith) | inr (inl k) ↦ absurd (omega arith) | inr (inr k) ↦ absurd (omega arith) ];
+    waiting = λ h. elim h [ inl k ↦ absurd (omega arith) | inr k ↦ absurd (omega arith) ];
   }
 
-  triple-fact : 3 ≤ markOf M r → Triple plan draw M vec r → (markOf M r ≡ 5 → Waiting plan draw Held Waits M r) → Fact plan draw Held Waits M vec r
+  triple-fact : 3 ≤ markOf M r → Triple plan draw M vec r → (Masked (markOf M r) → Waiting plan draw Held Waits M r) → Fact plan draw Held Waits M vec r
   triple-fact e is waits = record { raw = λ h. absurd (omega arith); held = λ h. absurd (omega arith); triple = λ h. is; waiting = waits }
 
   -- 4 and 6 say nothing
-  idle-fact : 4 ≤ markOf M r → markOf M r ≢ 5 → Fact plan draw Held Waits M vec r
-  idle-fact e ne = record {
+  idle-fact : 4 ≤ markOf M r → markOf M r ≢ 5 → markOf M r ≢ 7 → Fact plan draw Held Waits M vec r
+  idle-fact e ne ne' = record {
     raw = λ h. absurd (omega arith);
     held = λ h. absurd (omega arith);
-    triple = λ h. elim h [ inl k ↦ absurd (omega arith) | inr k ↦ absurd (ne k) ];
-    waiting = λ h. absurd (ne h);
+    triple = λ h. elim h [ inl k ↦ absurd (omega arith) | inr (inl k) ↦ absurd (ne k) | inr (inr k) ↦ absurd (ne' k) ];
+    waiting = λ h. elim h [ inl k ↦ absurd (ne k) | inr k ↦ absurd (ne' k) ];
   }
 
--- ---- A triple's second and third row stay while its first does: of the calls only finish turns 4, and it turns the first row too.
+-- ---- A triple's second and third row stay while its first does: of the calls only multiply turns 4, and it turns the first row too.
 
-first-spent : (M : Marks) (r q : ℕ) → Sized M → Multiplying 5 M (rememberedA M r) (rememberedB M r) r → q ≡ r → markOf (finished M r) q ≡ markOf M q → ⊥
+first-spent : (M : Marks) (r q : ℕ) → Sized M → Tripled 7 M r → q ≡ r → markOf (finished M r) q ≡ markOf M q → ⊥
 first-spent M r q z ok e s =
     omega (arith, ok .first, ap (markOf M) e, ap (markOf (finished M r)) e, on-three M r 6 6 2 z (ok .r-low) .0)
 
@@ -62,7 +62,7 @@ module _ (plan : Plan) (draw : Draw) where
   vecs a c M vec = vectorsBy plan draw a c M vec
 
   -- x is the second or third row of a triple whose first stays
-  beside : (a : Act) (c : ℕ) (M : Marks) (vec : ℕ → Vector) → Sized M → AllowedBy a M → (q x : ℕ) → (q + 1 ≡ x) ⊎ (q + 2 ≡ x)
+  pub beside : (a : Act) (c : ℕ) (M : Marks) (vec : ℕ → Vector) → Sized M → AllowedBy a M → (q x : ℕ) → (q + 1 ≡ x) ⊎ (q + 2 ≡ x)
       → markOf (marksBy a M) q ≡ markOf M q → markOf M q ≢ 4 → markOf M (q + 1) ≡ 4 → markOf M x ≡ 4
       → Same M (marksBy a M) vec (vecs a c M vec) x
   beside a c M vec z ok q x e s ne h h' =
@@ -94,30 +94,31 @@ module _ (plan : Plan) (draw : Draw) where
     -- a row that the call leaves as it is
     kept : (a : Act) (c : ℕ) (M : Marks) (vec : ℕ → Vector) → Sized M → AllowedBy a M → (q : ℕ)
         → (markOf M q ≡ 2 → Held q (vec q) → Held' q (vec q))
-        → (markOf M q ≡ 5 → markOf (marksBy a M) q ≡ 5 → Waits q (rememberedA M q) (rememberedB M q) → Waits' q (rememberedA M q) (rememberedB M q))
+        → (Masked (markOf M q) → Masked (markOf (marksBy a M) q) → Waits q (rememberedA M q) (rememberedB M q) → Waits' q (rememberedA M q) (rememberedB M q))
         → Same M (marksBy a M) vec (vecs a c M vec) q → Fact plan draw Held Waits M vec q
         → Fact plan draw Held' Waits' (marksBy a M) (vecs a c M vec) q
     kept a c M vec z ok q up up' s f = record {
       raw = λ h. let y = f .raw (sym (s .mark) ∙ h) in (y .0, s .vector ∙ y .1);
       held = λ h. let e = sym (s .mark) ∙ h in rw (s .vector) (up e (f .held e));
       triple = λ h.
-          let k : (markOf M q ≡ 3) ⊎ (markOf M q ≡ 5) = rw (s .mark) at h in
-          let ne : markOf M q ≢ 4 = elim k [ inl e ↦ omega arith | inr e ↦ omega arith ] in
+          let k : (markOf M q ≡ 3) ⊎ Masked (markOf M q) = rw (s .mark) at h in
+          let ne : markOf M q ≢ 4 = elim k [ inl e ↦ omega arith | inr (inl e) ↦ omega arith | inr (inr e) ↦ omega arith ] in
           let t = f .triple k in
           stays (s .vector)
           (beside a c M vec z ok q (q + 1) (inl refl) (s .mark) ne (t .second) (t .second))
           (beside a c M vec z ok q (q + 2) (inr refl) (s .mark) ne (t .second) (t .third))
           t;
-      waiting = λ h. let e = sym (s .mark) ∙ h in let w = f .waiting e in
+      waiting = λ h. let e : Masked (markOf M q) = rw (s .mark) at h in let w = f .waiting e in
           waits a M z ok q (rememberedA M q) (rememberedB M q) (s .factor-a) (s .factor-b) (w .a-low) (w .b-low) (w .a-held) (w .b-held) (up' e h (w .means));
     }
 
     -- a row that it writes
     new : {a : Act} {q m m' : ℕ} → Turn a q m m' → (c : ℕ) (M : Marks) (vec : ℕ → Vector) → Sized M → AllowedBy a M
+        → ((x : ℕ) → x < 96 → Masked (markOf M x) → Masked (markOf (marksBy a M) x) → Waits x (rememberedA M x) (rememberedB M x) → Waits' x (rememberedA M x) (rememberedB M x))
         → Meant plan draw Held' Waits' a c M vec → Facts plan draw Held Waits M vec → markOf (marksBy a M) q ≡ m'
         → Fact plan draw Held' Waits' (marksBy a M) (vecs a c M vec) q
-    new (raw {r}) c M vec z ok me g e = raw-fact e me (at-same vec r _)
-    new (first {r}) c M vec z ok me g e =
+    new (raw {r}) c M vec z ok up me g e = raw-fact e me (at-same vec r _)
+    new (first {r}) c M vec z ok up me g e =
         let k = on-three M r 3 4 4 z (ok .0 .0) in
         triple-fact (omega arith) (record {
           drawn = me;
@@ -126,27 +127,35 @@ module _ (plan : Plan) (draw : Draw) where
           is-a = at-other _ (r + 2) _ r (omega arith) ∙ at-other _ (r + 1) _ r (omega arith) ∙ at-same vec r _;
           is-b = at-other _ (r + 2) _ (r + 1) (omega arith) ∙ at-same _ (r + 1) _;
           is-ab = at-same _ (r + 2) _;
-        }) (λ h. absurd (omega arith))
-    new second c M vec z ok me g e = idle-fact (omega arith) (omega arith)
-    new third c M vec z ok me g e = idle-fact (omega arith) (omega arith)
-    new dealt c M vec z ok me g e = held-fact e (rw at-same me)
-    new summed c M vec z ok me g e = held-fact e (rw at-same me)
-    new (waiting {a} {b} {r}) c M vec z ok me g e =
+        }) (λ h. elim h [ inl k ↦ absurd (omega arith) | inr k ↦ absurd (omega arith) ])
+    new second c M vec z ok up me g e = idle-fact (omega arith) (omega arith) (omega arith)
+    new third c M vec z ok up me g e = idle-fact (omega arith) (omega arith) (omega arith)
+    new dealt c M vec z ok up me g e = held-fact e (rw at-same me)
+    new summed c M vec z ok up me g e = held-fact e (rw at-same me)
+    new (waiting {a} {b} {r}) c M vec z ok up me g e =
         let next = off-masks M r a b vec (r + 1) (omega arith) in
         let last = off-masks M r a b vec (r + 2) (omega arith) in
         triple-fact (omega arith)
         (stays refl next last (g r (omega arith) .triple (inl (ok .1 .first))))
         (λ h. waits (factors a b r) M z ok r a b (getD-set-same (M .factor-a) r a 0 (omega arith))
         (getD-set-same (M .factor-b) r b 0 (omega arith)) (ok .1 .a-low) (ok .1 .b-low) (ok .1 .a-held) (ok .1 .b-held) me)
-    new spent c M vec z ok me g e = idle-fact (omega arith) (omega arith)
-    new spent' c M vec z ok me g e = idle-fact (omega arith) (omega arith)
-    new multiplied c M vec z ok me g e = held-fact e (rw at-same me)
+    new (collected {r}) c M vec z ok up me g e =
+        let low : r < 96 = omega (arith, ok .0 .r-low) in
+        let five = ok .0 .first in
+        let w = g r low .waiting (inl five) in
+        triple-fact (omega arith)
+        (stays refl (other M r 7 vec vec (r + 1) (omega arith) refl) (other M r 7 vec vec (r + 2) (omega arith) refl) (g r low .triple (inr (inl five))))
+        (λ h. waits (collects r) M z ok r (rememberedA M r) (rememberedB M r) refl refl (w .a-low) (w .b-low) (w .a-held) (w .b-held)
+        (up r low (inl five) (inr e) (w .means)))
+    new spent c M vec z ok up me g e = idle-fact (omega arith) (omega arith) (omega arith)
+    new spent' c M vec z ok up me g e = idle-fact (omega arith) (omega arith) (omega arith)
+    new multiplied c M vec z ok up me g e = held-fact e (rw at-same me)
 
     pub facts-by : (a : Act) (c : ℕ) (M : Marks) (vec : ℕ → Vector) → Sized M → AllowedBy a M → Meant plan draw Held' Waits' a c M vec
         → ((q : ℕ) → q < 96 → markOf M q ≡ 2 → Held q (vec q) → Held' q (vec q))
-        → ((q : ℕ) → q < 96 → markOf M q ≡ 5 → markOf (marksBy a M) q ≡ 5 → Waits q (rememberedA M q) (rememberedB M q) → Waits' q (rememberedA M q) (rememberedB M q))
+        → ((q : ℕ) → q < 96 → Masked (markOf M q) → Masked (markOf (marksBy a M) q) → Waits q (rememberedA M q) (rememberedB M q) → Waits' q (rememberedA M q) (rememberedB M q))
         → Facts plan draw Held Waits M vec → Facts plan draw Held' Waits' (marksBy a M) (vectorsBy plan draw a c M vec)
     facts-by a c M vec z ok me up up' g q low = elim (course plan draw a c M vec z ok q) [
-      | turned t ↦ new t c M vec z ok me g refl
+      | turned t ↦ new t c M vec z ok up' me g refl
       | same s ↦ kept a c M vec z ok q (up q low) (up' q low) s (g q low)
     ]

@@ -17,5 +17,6 @@ pub mod Start
 pub mod Rows
 pub mod Kept
 pub mod Relations
+pub mod Recalled
 pub mod Allowed
 pub mod Delivered

@@ -2,7 +2,7 @@
 use Prim.Native.Nat.{ℕ, _+_, _-_}
 use mathlib.Core.Path.{_≡_, ap}
 use mathlib.Core.Bool.{Bool, cond}
-use mathlib.Core.Logic.{_≢_}
+use mathlib.Core.Logic.{_≢_, _⊎_}
 use mathlib.Core.List.{List, [], _∷_}
 use borrow.Author.Tests.{eq-eqb, ne-eqb}
 use lib.ListN.{length, getD, set}
@@ -14,7 +14,7 @@ use Rattle.field.proofs.Elements.{𝓡}
 use Rattle.session.specs.declared.Session.{Session}
 use Rattle.vectors.specs.Vector.{Vector, plusTimes, raised, number, vectorOf}
 use Rattle.runs.specs.Draws.{Plan, planShape, Draw, pointOf, rawDraw, drawA, drawB, drawAB}
-use Rattle.runs.specs.Outline.{Kinds, Act, loads, loadsTriple, deals, opens, Summand, once, times, fee, sums, factors, multiplies, Taking, nothingTaken, aRowPack, aTriplePack, aNumber, aRecord, twoRecords, takes, Given, Move}
+use Rattle.runs.specs.Outline.{Kinds, Act, loads, loadsTriple, deals, opens, Summand, once, times, fee, sums, factors, collects, multiplies, Taking, nothingTaken, aRowPack, aTriplePack, aNumber, aRecord, twoRecords, takes, Given, Move}
 use Rattle.runs.specs.Calls.{Actual, at}
 open CommutativeRing 𝓡 using (zero as 0ᴱ)
 
@@ -56,10 +56,29 @@ remarked M r m = record { marks = set (M .marks) r m; factor-a = M .factor-a; fa
 abbrev pub finished : Marks → ℕ → Marks
 finished M r = remarked (remarked (remarked M r 6) (r + 1) 6) (r + 2) 2
 
--- the session of post i with these marks
-abbrev pub sessionAt : Plan → Draw → ℕ → Marks → Session
-sessionAt plan draw i M =
-    record { n = plan .n; t = plan .t; post = i; point = pointOf draw i; marks = M .marks; «factor_a» = M .factor-a; «factor_b» = M .factor-b }
+-- the numbers that a session remembers: they follow the draw
+pub record Opened : Type 0 where
+  pub y-a : List ℕ
+  pub y-b : List ℕ
+
+-- none, where a session's numbers do not matter
+abbrev pub noNumbers : Opened
+noNumbers = record { y-a = []; y-b = [] }
+
+-- the session of post i with these marks and numbers
+abbrev pub sessionAt : Plan → Draw → ℕ → Marks → Opened → Session
+sessionAt plan draw i M Y =
+    record {
+      n = plan .n;
+      t = plan .t;
+      post = i;
+      point = pointOf draw i;
+      marks = M .marks;
+      «factor_a» = M .factor-a;
+      «factor_b» = M .factor-b;
+      «y_a» = Y .y-a;
+      «y_b» = Y .y-b;
+    }
 
 -- the vectors of what was drawn
 abbrev pub rawVector : Plan → Draw → ℕ → Vector
@@ -91,7 +110,7 @@ abbrev pub totalVector : (ℕ → Vector) → Summand → List Summand → Vecto
 totalVector vec t [] = worthVector vec t
 totalVector vec t (t' ∷ ts) = plusTimes (element 1) (worthVector vec t) (totalVector vec t' ts)
 
--- the vectors that a finish of the triple at r opens
+-- the vectors that are opened for the triple at r
 abbrev pub maskVectorA : Marks → (ℕ → Vector) → ℕ → Vector
 maskVectorA M vec r = less (vec (rememberedA M r)) (vec r)
 
@@ -121,6 +140,7 @@ marksOf (deals r) = mark r 2 ∷ []
 marksOf (opens r) = []
 marksOf (sums r t ts) = mark r 2 ∷ []
 marksOf (factors a b r) = []
+marksOf (collects r) = mark r 7 ∷ []
 marksOf (multiplies r) = mark r 6 ∷ mark (r + 1) 6 ∷ mark (r + 2) 2 ∷ []
 
 -- the masks that an act makes: none, or of the rows a and b by the triple at r, which then has mark 5 and remembers a and b
@@ -135,6 +155,7 @@ masking (deals r) = none
 masking (opens r) = none
 masking (sums r t ts) = none
 masking (factors a b r) = of a b r
+masking (collects r) = none
 masking (multiplies r) = none
 
 abbrev pub markAll : List Mark → Marks → Marks
@@ -148,6 +169,22 @@ remembered (of a b r) M = record { marks = set (M .marks) r 5; factor-a = set (M
 abbrev pub marksBy : Act → Marks → Marks
 marksBy act M = remembered (masking act) (markAll (marksOf act) M)
 
+-- a triple whose masks were made, and opened or not: the mark of its first row
+abbrev pub Masked : ℕ → Type 0
+Masked m = (m ≡ 5) ⊎ (m ≡ 7)
+
+-- the numbers that it remembers: those of the vectors that are opened
+abbrev pub openedBy : Act → Marks → (ℕ → Vector) → Opened → Opened
+openedBy (loads r) M vec Y = Y
+openedBy (loadsTriple r) M vec Y = Y
+openedBy (deals r) M vec Y = Y
+openedBy (opens r) M vec Y = Y
+openedBy (sums r t ts) M vec Y = Y
+openedBy (factors a b r) M vec Y = Y
+openedBy (collects r) M vec Y =
+    record { y-a = set (Y .y-a) r (number (maskVectorA M vec r) .0); y-b = set (Y .y-b) r (number (maskVectorB M vec r) .0) }
+openedBy (multiplies r) M vec Y = Y
+
 -- with the number c that it takes
 abbrev pub vectorsBy : Plan → Draw → Act → ℕ → Marks → (ℕ → Vector) → ℕ → Vector
 vectorsBy plan draw (loads r) c M vec = at vec r (rawVector plan draw r)
@@ -157,6 +194,7 @@ vectorsBy plan draw (deals r) c M vec = at vec r (raised (element c) (vec r))
 vectorsBy plan draw (opens r) c M vec = vec
 vectorsBy plan draw (sums r t ts) c M vec = at vec r (totalVector vec t ts)
 vectorsBy plan draw (factors a b r) c M vec = vec
+vectorsBy plan draw (collects r) c M vec = vec
 vectorsBy plan draw (multiplies r) c M vec = at vec (r + 2) (written M vec r)
 
 -- ---- One act after the other.
@@ -179,3 +217,8 @@ abbrev pub vectorsAll : Plan → Draw → {K : Kinds} → ((t : Taking) → Give
 vectorsAll plan draw num [] M vec = vec
 vectorsAll plan draw num (m ∷ ms) M vec =
     vectorsAll plan draw num ms (marksBy (m .0) M) (vectorsBy plan draw (m .0) (num (takes (m .0)) (m .1)) M vec)
+
+abbrev pub openedAll : Plan → Draw → {K : Kinds} → ((t : Taking) → Given K t → ℕ) → List (Move K) → Marks → (ℕ → Vector) → Opened → Opened
+openedAll plan draw num [] M vec Y = Y
+openedAll plan draw num (m ∷ ms) M vec Y =
+    openedAll plan draw num ms (marksBy (m .0) M) (vectorsBy plan draw (m .0) (num (takes (m .0)) (m .1)) M vec) (openedBy (m .0) M vec Y)

@@ -7,7 +7,7 @@ use lib.ListN.{length}
 use Rattle.shape.specs.Lengths.{masksLength}
 use Rattle.refusal.specs.Refusal.{outcome}
 use Rattle.session.specs.declared.Session.{Session}
-use Rattle.session.specs.Sessions.{shapeOf, answer, marked, remembering}
+use Rattle.session.specs.Sessions.{shapeOf, answer, openedA, openedB, marked, remembering, recalling}
 use Rattle.session.specs.Rows.{width, coefficients, sumsAt, rowAt, withRow, plusSums, summed}
 use Rattle.sharing.specs.Load.{loadRowRefusal, loadTripleRefusal, withTriple}
 use Rattle.sharing.specs.Deal.{dealRefusal}
@@ -16,11 +16,13 @@ use Rattle.sharing.specs.Linear.{linearRefusal}
 use Rattle.opening.specs.Walking.{opened}
 use Rattle.opening.specs.Opening.{openRefusal}
 use Rattle.product.specs.Masks.{masksRefusal, maskNumbersOf}
-use Rattle.product.specs.Finish.{finishRefusal, withProduct, maskA, maskB}
+use Rattle.product.specs.Finish.{withProduct}
+use Rattle.product.specs.Collect.{numberA, numberB, collectRefusal}
+use Rattle.product.specs.Multiply.{multiplyRefusal}
 use Rattle.terms.specs.Listed.{productsOf, collected, termsOf, factorsOf}
 use Rattle.relation.specs.Masks.{relationMasksRefusal, maskedTerms, termMasks}
 use Rattle.relation.specs.Finish.{relationFinishRefusal, withProducts, withSum, relationDone}
-use Rattle.runs.specs.Outline.{loadRow, loadTriple, deal, message, opening, linear, masks, finish, relationMasks, relationFinish, Sending}
+use Rattle.runs.specs.Outline.{loadRow, loadTriple, deal, message, opening, linear, masks, collect, multiply, relationMasks, relationFinish, Sending}
 use Rattle.runs.specs.Calls.{Post, Call, Performed, performed, pieces, perform, after, lineOf, sentIf, sentBy}
 
 -- ---- one answer
@@ -99,10 +101,14 @@ does (masks x) q =
     let s = q .session in
     writes (masksRefusal s (q .rows) (x .a) (x .b) (x .r) (x .lent)) (remembering (marked s (x .r) 5) (x .r) (x .a) (x .b)) (q .rows)
     (x .lent ∷ []) (maskNumbersOf s (q .rows) (x .a) (x .b) (x .r) ∷ [])
-does (finish x) q =
+does (collect x) q =
     let s = q .session in
-    changes (finishRefusal s (q .rows) (x .r) (x .blocksA) (x .blocksB)) (marked (marked (marked s (x .r) 6) (x .r + 1) 6) (x .r + 2) 2)
-    (withProduct s (opened s (maskA s (q .rows) (x .r)) (x .blocksA)) (opened s (maskB s (q .rows) (x .r)) (x .blocksB)) (x .r) (q .rows))
+    changes (collectRefusal s (q .rows) (x .r) (x .blocksA) (x .blocksB))
+    (recalling (marked s (x .r) 7) (x .r) (numberA s (q .rows) (x .r) (x .blocksA)) (numberB s (q .rows) (x .r) (x .blocksB))) (q .rows)
+does (multiply x) q =
+    let s = q .session in
+    changes (multiplyRefusal s (q .rows) (x .r)) (marked (marked (marked s (x .r) 6) (x .r + 1) 6) (x .r + 2) 2)
+    (withProduct s (openedA s (x .r)) (openedB s (x .r)) (x .r) (q .rows))
 does (relationMasks x) q =
     let s = q .session in
     let all = collected (x .terms) in
@@ -112,7 +118,7 @@ does (relationMasks x) q =
 does (relationFinish x) q =
     let s = q .session in
     let all = collected (x .terms) in
-    changes (relationFinishRefusal s (q .rows) all (x .r) (x .blocks)) (relationDone s (factorsOf all) (x .r))
+    changes (relationFinishRefusal s (q .rows) all (x .r) (x .blocks)) (relationDone s (q .rows) (x .blocks) (factorsOf all) (x .r))
     (withSum s (x .r) (termsOf all) (withProducts s (q .rows) (x .blocks) 0 (factorsOf all) (q .rows)))
 
 -- "Refused ... every lent list as it came": the answer, the rows and the lent list of every contract are of this form
@@ -143,7 +149,8 @@ performs (message x) q = ap₂ (performed _) (still _ (q .rows)) (through (λ (l
 performs (opening x) q = ap₂ (performed _) (still _ (q .rows)) (still _ [])
 performs (linear x) q = ap (performed _ _) (still _ [])
 performs (masks x) q = ap₂ (performed _) (still _ (q .rows)) (through (λ (l : List ℕ). l ∷ []) _ _ _)
-performs (finish x) q = ap (performed _ _) (still _ [])
+performs (collect x) q = ap₂ (performed _) (still _ (q .rows)) (still _ [])
+performs (multiply x) q = ap (performed _ _) (still _ [])
 performs (relationMasks x) q =
     ap₂ (performed _) (still _ (q .rows)) (through (pieces (masksLength (shapeOf (q .session))) (length (productsOf (x .terms)))) _ _ _)
 performs (relationFinish x) q = ap (performed _ _) (still _ [])

@@ -6,7 +6,7 @@ use lib.ListN.{length}
 use Rattle.poly.specs.Counting.{All}
 use Rattle.terms.specs.declared.Term.{Term}
 use Rattle.terms.specs.Listed.{productsOf}
-use Rattle.runs.specs.Outline.{Kinds, CallOf, loadRow, loadTriple, deal, message, opening, linear, masks, finish, relationMasks, relationFinish, factoring, maskings, finishing, summing, factors, multiplies, Act, Taking, nothingTaken, aRowPack, aTriplePack, aNumber, aRecord, twoRecords, takes, Given, Move, Outline, outline, moves, sends, actsIn, acts, EveryFrom, Every, Filling, filled}
+use Rattle.runs.specs.Outline.{Kinds, CallOf, loadRow, loadTriple, deal, message, opening, linear, masks, collect, multiply, relationMasks, relationFinish, factoring, maskings, finishing, summing, factors, collects, multiplies, Act, Taking, nothingTaken, aRowPack, aTriplePack, aNumber, aRecord, twoRecords, takes, Given, Move, Outline, outline, moves, sends, actsIn, acts, EveryFrom, Every, Filling, filled}
 
 -- ---- P of each of a list
 
@@ -55,7 +55,7 @@ module _ {K K' : Kinds} (f : Filling K K') where
   finishing-filled m blocks k (t ∷ ts) r all =
       let ea = sym (f .parts m (2 * k) blocks) in
       let eb = sym (f .parts m (2 * k + 1) blocks) in
-      λ j. (multiplies (t .first), (ea j, eb j)) ∷ finishing-filled m blocks (suc k) ts r all j
+      λ j. (collects (t .first), (ea j, eb j)) ∷ (multiplies (t .first), tt) ∷ finishing-filled m blocks (suc k) ts r all j
 
   pub outline-filled : (c : CallOf K)
       → outline (filled f c) ≡ record { moves = map filledMove (moves c); sends = sends c; heard = map (f .heard) (outline c .heard) }
@@ -66,7 +66,8 @@ module _ {K K' : Kinds} (f : Filling K K') where
   outline-filled (opening x) = refl
   outline-filled (linear x) = refl
   outline-filled (masks x) = refl
-  outline-filled (finish x) = refl
+  outline-filled (collect x) = refl
+  outline-filled (multiply x) = refl
   outline-filled (relationMasks x) =
       ap (λ (ms : List (Move K')). record { moves = ms; sends = maskings (productsOf (x .terms)); heard = [] }) (factoring-filled (productsOf (x .terms)))
   outline-filled (relationFinish x) =

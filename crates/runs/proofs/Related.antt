@@ -17,22 +17,21 @@ use Rattle.session.specs.declared.Session.{Session}
 use Rattle.session.specs.Rows.{sumsAt, rowAt, withRow, combined}
 use Rattle.session.proofs.Summed.{plus-nothing}
 use Rattle.session.proofs.RowLaws.{row-same, row-other, row-again}
-use Rattle.opening.specs.Walking.{opened}
 use Rattle.terms.specs.declared.Term.{Term}
-use Rattle.relation.specs.Finish.{recordA, recordB, termMaskA, termMaskB, withProducts, numberRow, plusTerm, plusTerms, withSum, finishedTerms}
+use Rattle.relation.specs.Finish.{termNumberA, termNumberB, withProducts, numberRow, plusTerm, plusTerms, withSum, pairDone, finishedTerms}
 use Rattle.relation.specs.Masks.{maskedTerms}
 use Rattle.vectors.specs.Vector.{Vector, plusTimes, number, firsts, numbers, valueAt, rowOf}
 use Rattle.vectors.proofs.Linear.{row-plusTimes}
 use Rattle.runs.specs.Draws.{Plan, Draw, pointOf}
-use Rattle.runs.specs.Outline.{cut, Move, factors, actsIn, factoring, finishing, summand}
+use Rattle.runs.specs.Outline.{cut, Move, factors, collects, actsIn, factoring, finishing, summand}
 use Rattle.runs.specs.Calls.{Actual, at}
-use Rattle.runs.proofs.Marks.{Marks, markOf, rememberedA, rememberedB, remarked, finished, sessionAt, less, zeroVector, totalVector, maskVectorA, maskVectorB, written, at-other, marksBy, marksAll, numberIn, vectorsAll}
+use Rattle.runs.proofs.Marks.{Marks, markOf, rememberedA, rememberedB, remarked, finished, Opened, sessionAt, less, zeroVector, totalVector, maskVectorA, maskVectorB, written, at-other, marksBy, openedBy, marksAll, numberIn, vectorsAll, openedAll}
 use Rattle.runs.proofs.Sums.{addedTerms, terms-sum}
 use Rattle.runs.proofs.Packs.{rowFor}
 use Rattle.runs.proofs.Holds.{Holds, wide, row-wide, put-holds, masks-holds, Holder}
 use Rattle.runs.proofs.Finishing.{product-holds}
-use Rattle.runs.proofs.Facts.{HeldIn, Multiplying, AllowedAll}
-use Rattle.runs.proofs.Relations.{Apart, Waits, finishedAll, all-wait}
+use Rattle.runs.proofs.Facts.{HeldIn, Multiplying, Tripled, AllowedAll}
+use Rattle.runs.proofs.Relations.{Apart, Waits, done-is, finishedAll, all-wait}
 use Rattle.relation.proofs.Passed.{AllAt}
 open CommutativeRing 𝓡 using (add as _⊕_, mul as _⊗_, zero as 0ᴱ)
 
@@ -43,18 +42,38 @@ abbrev pub multipliedAll : List Term → Marks → (ℕ → Vector) → ℕ → 
 multipliedAll [] M vec = vec
 multipliedAll (t ∷ ts) M vec = multipliedAll ts (finished M (t .first)) (at vec (t .first + 2) (written M vec (t .first)))
 
--- marks and vectors after the acts: the products', then the rest
+-- the numbers remembered once the masks of these terms are opened
+abbrev pub openedTerms : List Term → Marks → (ℕ → Vector) → Opened → Opened
+openedTerms [] M vec Y = Y
+openedTerms (t ∷ ts) M vec Y =
+    openedTerms ts (finished M (t .first)) (at vec (t .first + 2) (written M vec (t .first))) (openedBy (collects (t .first)) M vec Y)
+
+-- marks, vectors and numbers after the acts: the products', then the rest
 module _ (plan : Plan) (draw : Draw) (m : ℕ) (blocks : List ℕ) (rest : List (Move Actual)) where
   pub marks-products : (k : ℕ) (ts : List Term) (M : Marks)
       → marksAll (actsIn (finishing {K = Actual} m blocks k ts ++ rest)) M ≡ marksAll (actsIn rest) (finishedAll ts M)
   marks-products k [] M = refl
-  marks-products k (t ∷ ts) M = marks-products (suc k) ts (finished M (t .first))
+  marks-products k (t ∷ ts) M =
+      ap (marksAll (actsIn (finishing {K = Actual} m blocks (suc k) ts ++ rest))) (done-is M (t .first))
+      ∙ marks-products (suc k) ts (finished M (t .first))
 
   pub vectors-products : (k : ℕ) (ts : List Term) (M : Marks) (vec : ℕ → Vector)
       → vectorsAll plan draw numberIn (finishing {K = Actual} m blocks k ts ++ rest) M vec
       ≡ vectorsAll plan draw numberIn rest (finishedAll ts M) (multipliedAll ts M vec)
   vectors-products k [] M vec = refl
-  vectors-products k (t ∷ ts) M vec = vectors-products (suc k) ts (finished M (t .first)) _
+  vectors-products k (t ∷ ts) M vec =
+      ap (λ (N : Marks). vectorsAll plan draw numberIn (finishing {K = Actual} m blocks (suc k) ts ++ rest) N (at vec (t .first + 2) (written M vec (t .first))))
+      (done-is M (t .first))
+      ∙ vectors-products (suc k) ts (finished M (t .first)) _
+
+  pub opened-products : (k : ℕ) (ts : List Term) (M : Marks) (vec : ℕ → Vector) (Y : Opened)
+      → openedAll plan draw numberIn (finishing {K = Actual} m blocks k ts ++ rest) M vec Y
+      ≡ openedAll plan draw numberIn rest (finishedAll ts M) (multipliedAll ts M vec) (openedTerms ts M vec Y)
+  opened-products k [] M vec Y = refl
+  opened-products k (t ∷ ts) M vec Y =
+      ap (λ (N : Marks). openedAll plan draw numberIn (finishing {K = Actual} m blocks (suc k) ts ++ rest) N (at vec (t .first + 2) (written M vec (t .first))) (openedBy (collects (t .first)) M vec Y))
+      (done-is M (t .first))
+      ∙ opened-products (suc k) ts (finished M (t .first)) _ _
 
 -- ---- a row of zeros
 
@@ -94,9 +113,9 @@ module _ (H : Holder) where
   abbrev row : Vector → List ℕ
   row X = rowFor plan draw i X
 
-  module _ (M₀ : Marks) (d : ℕ) (low : d < 96) (size : length l ≡ 96 * wide plan) where
+  module _ (M₀ : Marks) (Y₀ : Opened) (d : ℕ) (low : d < 96) (size : length l ≡ 96 * wide plan) where
     abbrev s₀ : Session
-    s₀ = sessionAt plan draw i M₀
+    s₀ = sessionAt plan draw i M₀ Y₀
 
     -- a term's row is held, and is not row d
     abbrev Adds : Term → Type 0
@@ -134,15 +153,18 @@ module _ (H : Holder) where
 
 -- ---- the products, one after the other
 
-module _ (plan : Plan) (draw : Draw) (len i : ℕ) (M₀ : Marks) (rows blocks : List ℕ) where
+waiting-triple : (M : Marks) (r : ℕ) → Multiplying 5 M (rememberedA M r) (rememberedB M r) r → Tripled 5 M r
+waiting-triple M r ok = record { r-low = ok .r-low; first = ok .first; second = ok .second; third = ok .third }
+
+module _ (plan : Plan) (draw : Draw) (len i : ℕ) (M₀ : Marks) (Y₀ : Opened) (rows blocks : List ℕ) where
   abbrev s : Session
-  s = sessionAt plan draw i M₀
+  s = sessionAt plan draw i M₀ Y₀
 
   -- what a term's records open to, by the marks and vectors of the moment
   abbrev pub OpensTo : Marks → (ℕ → Vector) → ℕ → Term → Type 0
   OpensTo M vec k t =
-      (opened (sessionAt plan draw i M₀) (termMaskA (sessionAt plan draw i M₀) rows t) (recordA (sessionAt plan draw i M₀) blocks k) ≡ number (maskVectorA M vec (t .first)) .0)
-      × (opened (sessionAt plan draw i M₀) (termMaskB (sessionAt plan draw i M₀) rows t) (recordB (sessionAt plan draw i M₀) blocks k) ≡ number (maskVectorB M vec (t .first)) .0)
+      (termNumberA (sessionAt plan draw i M₀ Y₀) rows blocks k t ≡ number (maskVectorA M vec (t .first)) .0)
+      × (termNumberB (sessionAt plan draw i M₀ Y₀) rows blocks k t ≡ number (maskVectorB M vec (t .first)) .0)
 
   still-opens : (M : Marks) (vec : ℕ → Vector) (r : ℕ) (X : Vector) → Multiplying 5 M (rememberedA M r) (rememberedB M r) r → (k : ℕ) (t : Term)
       → t .first ≢ r → Waits M t → OpensTo M vec k t → OpensTo (finished M r) (at vec (r + 2) X) k t
@@ -164,38 +186,48 @@ module _ (plan : Plan) (draw : Draw) (len i : ℕ) (M₀ : Marks) (rows blocks :
 
   pub products-hold : len ≡ 96 * wide plan → (k : ℕ) (ts : List Term) (M : Marks) (vec : ℕ → Vector) (l : List ℕ) → Holds plan draw len i M vec l → All (Waits M) ts → Apart ts
       → AllAt (OpensTo M vec) k ts
-      → Holds plan draw len i (finishedAll ts M) (multipliedAll ts M vec) (withProducts (sessionAt plan draw i M₀) rows blocks k ts l)
+      → Holds plan draw len i (finishedAll ts M) (multipliedAll ts M vec) (withProducts (sessionAt plan draw i M₀ Y₀) rows blocks k ts l)
   unfolding withProducts
   products-hold size k [] M vec l h w a o = h
   products-hold size k (t ∷ ts) M vec l h w a o =
       let r = t .first in
-      let H : Holder = record { plan = plan; draw = draw; len = len; post = i; marks = M; vec = vec; rows = l; holds = h } in
+      let H : Holder = record { plan = plan; draw = draw; len = len; post = i; marks = M; opened = Y₀; vec = vec; rows = l; holds = h } in
       products-hold size (suc k) ts (finished M r) (at vec (r + 2) (written M vec r)) _
-      (product-holds H r (w .0) (h .long ∙ size) M₀ _ _ (o .0 .0) (o .0 .1))
+      (product-holds H r 4 (waiting-triple M r (w .0)) (h .long ∙ size) M₀ Y₀ _ _ (o .0 .0) (o .0 .1))
       (all-wait M t ts (w .0) (a .0) (w .1)) (a .1)
       (all-open M vec r (written M vec r) (w .0) (suc k) ts (a .0) (w .1) (o .1))
 
--- ---- the sessions after the acts
+  -- the session, by the pair of calls on each term's triple
+  pub finished-session : (k : ℕ) (ts : List Term) (M : Marks) (vec : ℕ → Vector) (Y : Opened) → All (Waits M) ts → Apart ts → AllAt (OpensTo M vec) k ts
+      → finishedTerms (sessionAt plan draw i M₀ Y₀) rows blocks k ts (sessionAt plan draw i M Y)
+      ≡ sessionAt plan draw i (finishedAll ts M) (openedTerms ts M vec Y)
+  unfolding finishedTerms
+  finished-session k [] M vec Y w a o = refl
+  finished-session k (t ∷ ts) M vec Y w a o =
+      let r = t .first in
+      ap₂ (λ (y y' : ℕ). finishedTerms (sessionAt plan draw i M₀ Y₀) rows blocks (suc k) ts (pairDone (sessionAt plan draw i M Y) r y y')) (o .0 .0) (o .0 .1)
+      ∙ ap (λ (N : Marks). finishedTerms (sessionAt plan draw i M₀ Y₀) rows blocks (suc k) ts (sessionAt plan draw i N (openedBy (collects r) M vec Y))) (done-is M r)
+      ∙ finished-session (suc k) ts (finished M r) (at vec (r + 2) (written M vec r)) (openedBy (collects r) M vec Y)
+      (all-wait M t ts (w .0) (a .0) (w .1)) (a .1)
+      (all-open M vec r (written M vec r) (w .0) (suc k) ts (a .0) (w .1) (o .1))
+
+-- ---- the sessions after masks
 
 module _ (plan : Plan) (draw : Draw) (i : ℕ) where
-  pub finished-session : (ts : List Term) (M : Marks) → finishedTerms (sessionAt plan draw i M) ts ≡ sessionAt plan draw i (finishedAll ts M)
-  unfolding finishedTerms
-  finished-session [] M = refl
-  finished-session (t ∷ ts) M = finished-session ts (finished M (t .first))
-
-  pub masked-session : (ts : List Term) (M : Marks)
-      → maskedTerms (sessionAt plan draw i M) ts ≡ sessionAt plan draw i (marksAll (actsIn (factoring {K = Actual} ts)) M)
+  pub masked-session : (ts : List Term) (M : Marks) (vec : ℕ → Vector) (Y : Opened)
+      → maskedTerms (sessionAt plan draw i M Y) ts
+      ≡ sessionAt plan draw i (marksAll (actsIn (factoring {K = Actual} ts)) M) (openedAll plan draw numberIn (factoring {K = Actual} ts) M vec Y)
   unfolding maskedTerms
-  masked-session [] M = refl
-  masked-session (t ∷ ts) M = masked-session ts (marksBy (factors (t .row) (t .second) (t .first)) M)
+  masked-session [] M vec Y = refl
+  masked-session (t ∷ ts) M vec Y = masked-session ts (marksBy (factors (t .row) (t .second) (t .first)) M) vec Y
 
-  pub masks-hold : (len : ℕ) (ts : List Term) (M : Marks) (vec : ℕ → Vector) (l : List ℕ) → Holds plan draw len i M vec l
+  pub masks-hold : (len : ℕ) (ts : List Term) (M : Marks) (Y : Opened) (vec : ℕ → Vector) (l : List ℕ) → Holds plan draw len i M vec l
       → AllowedAll (actsIn (factoring {K = Actual} ts)) M
       → Holds plan draw len i (marksAll (actsIn (factoring {K = Actual} ts)) M) (vectorsAll plan draw numberIn (factoring {K = Actual} ts) M vec) l
-  masks-hold len [] M vec l h al = h
-  masks-hold len (t ∷ ts) M vec l h al =
-      let H : Holder = record { plan = plan; draw = draw; len = len; post = i; marks = M; vec = vec; rows = l; holds = h } in
-      masks-hold len ts (marksBy (factors (t .row) (t .second) (t .first)) M) vec l (masks-holds H (t .row) (t .second) (t .first) (al .0 .1 .first)) (al .1)
+  masks-hold len [] M Y vec l h al = h
+  masks-hold len (t ∷ ts) M Y vec l h al =
+      let H : Holder = record { plan = plan; draw = draw; len = len; post = i; marks = M; opened = Y; vec = vec; rows = l; holds = h } in
+      masks-hold len ts (marksBy (factors (t .row) (t .second) (t .first)) M) Y vec l (masks-holds H (t .row) (t .second) (t .first) (al .0 .1 .first)) (al .1)
 
 -- ---- one of 2 m records of R numbers each
 

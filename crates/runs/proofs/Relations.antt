@@ -1,14 +1,14 @@
 -- A relation's two calls, act by act: the marks allow each act when its turn comes, and what they are in the end.
 use Prim.Native.Nat.{ℕ, suc, _+_, _≤_, _<_}
-use mathlib.Core.Path.{_≡_, refl, sym, _∙_, ap}
+use mathlib.Core.Path.{_≡_, refl, sym, _∙_, ap, subst}
 use mathlib.Core.Bool.{Bool, true, false}
 use mathlib.Core.Logic.{_≢_, inl, inr}
 use mathlib.Core.List.{List, [], _∷_, _++_, map}
 use native.Mathlib.Decide.{decLt}
 use native.Mathlib.Omega.{arith}
 use borrow.Author.Tests.{eqb-false}
-use lib.ListN.{length, List·getD-eq-default}
-use lib.Seq.{getD-set-same}
+use lib.ListN.{length, set, List·getD-eq-default}
+use lib.Seq.{getD-set-same, set-set}
 use lib.Dec.{eqb}
 use Rattle.poly.specs.Counting.{All}
 use Rattle.poly.proofs.Lists.{all-zip}
@@ -20,7 +20,7 @@ use Rattle.relation.proofs.Passed.{products-back}
 use Rattle.runs.specs.Outline.{Act, takes, Move, factors, actsIn, factoring, maskings, finishing, summand, summing}
 use Rattle.runs.specs.Calls.{Actual, Among}
 use Rattle.runs.proofs.Marks.{Marks, markOf, rememberedA, rememberedB, remarked, finished, Masking, of, masking, marksBy}
-use Rattle.runs.proofs.Facts.{HeldIn, Multiplying, AllowedAll, ReadyFor, Sendable}
+use Rattle.runs.proofs.Facts.{HeldIn, Multiplying, Tripled, AllowedAll, ReadyFor, Sendable}
 use Rattle.runs.proofs.Rows.{past, past-three}
 
 -- ---- "a triple named twice"
@@ -82,6 +82,11 @@ sending-masks todo M (t ∷ ts) h up =
 abbrev pub Waits : Marks → Term → Type 0
 Waits M t = Multiplying 5 M (rememberedA M (t .first)) (rememberedB M (t .first)) (t .first)
 
+-- by both calls: 7, then 6, 6, 2, as 6, 6, 2 at once
+pub done-is : (M : Marks) (r : ℕ) → finished (remarked M r 7) r ≡ finished M r
+done-is M r =
+    ap (λ (l : List ℕ). record { marks = set (set l (r + 1) 6) (r + 2) 2; factor-a = M .factor-a; factor-b = M .factor-b }) (set-set (M .marks) r 7 6)
+
 -- the marks once these product terms are finished
 abbrev pub finishedAll : List Term → Marks → Marks
 finishedAll [] M = M
@@ -136,6 +141,15 @@ third-held M r ok =
     now-set (remarked (remarked M r 6) (r + 1) 6) (r + 2) 2 3
     (past (remarked M r 6) (r + 1) 6 (r + 2) (omega arith) ∙ past M r 6 (r + 2) (omega arith) ∙ ok .third)
 
+-- a triple that was just collected
+pub collected-triple : (M : Marks) (r : ℕ) → Multiplying 5 M (rememberedA M r) (rememberedB M r) r → Tripled 7 (remarked M r 7) r
+collected-triple M r ok = record {
+  r-low = ok .r-low;
+  first = now-set M r 7 4 (ok .first);
+  second = past M r 7 (r + 1) (omega arith) ∙ ok .second;
+  third = past M r 7 (r + 2) (omega arith) ∙ ok .third;
+}
+
 -- the products are held
 pub products-held : (ts : List Term) (M : Marks) → All (Waits M) ts → Apart ts
     → All (λ t. (t .first + 2 < 96) × (markOf (finishedAll ts M) (t .first + 2) ≡ 2)) ts
@@ -153,12 +167,19 @@ module _ (m : ℕ) (blocks : List ℕ) where
       → AllowedAll (actsIn rest) (finishedAll ts M) → AllowedAll (actsIn (finishing {K = Actual} m blocks k ts ++ rest)) M
   allowed-products k [] rest M h a last = last
   allowed-products k (t ∷ ts) rest M h a last =
-      ((h .0, tt), allowed-products (suc k) ts rest (finished M (t .first)) (all-wait M t ts (h .0) (a .0) (h .1)) (a .1) last)
+      let r = t .first in (
+        (h .0, tt),
+        (
+          (collected-triple M r (h .0), tt),
+          subst (AllowedAll (actsIn (finishing {K = Actual} m blocks (suc k) ts ++ rest))) (sym (done-is M r))
+              (allowed-products (suc k) ts rest (finished M r) (all-wait M t ts (h .0) (a .0) (h .1)) (a .1) last),
+        ),
+      )
 
   pub ready-products : (k : ℕ) (ts : List Term) (rest : List (Move Actual)) (M : Marks) → All (Waits M) ts
       → All (λ a. ReadyFor M (takes a)) (actsIn rest) → All (λ a. ReadyFor M (takes a)) (actsIn (finishing {K = Actual} m blocks k ts ++ rest))
   ready-products k [] rest M h last = last
-  ready-products k (t ∷ ts) rest M h last = (h .0, ready-products (suc k) ts rest M (h .1) last)
+  ready-products k (t ∷ ts) rest M h last = (h .0, (tt, ready-products (suc k) ts rest M (h .1) last))
 
 -- the terms' rows and products, once the products are written
 module _ (N : Marks) where

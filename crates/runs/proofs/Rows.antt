@@ -9,9 +9,9 @@ use lib.ListN.{length-set, List·getD-eq-default}
 use lib.Seq.{getD-set-same, getD-set-other}
 use Rattle.vectors.specs.Vector.{Vector}
 use Rattle.runs.specs.Draws.{Plan, Draw}
-use Rattle.runs.specs.Outline.{Kinds, Act, loads, loadsTriple, deals, opens, Summand, sums, factors, multiplies, Taking, takes, Given, Move, actsIn}
+use Rattle.runs.specs.Outline.{Kinds, Act, loads, loadsTriple, deals, opens, Summand, sums, factors, collects, multiplies, Taking, takes, Given, Move, actsIn}
 use Rattle.runs.specs.Calls.{Among, at}
-use Rattle.runs.proofs.Marks.{at-other, Marks, markOf, rememberedA, rememberedB, Sized, remarked, rawVector, Mark, Masking, none, of, masking, marksOf, markAll, remembered, marksBy, vectorsBy, marksAll, vectorsAll}
+use Rattle.runs.proofs.Marks.{at-other, Marks, markOf, rememberedA, rememberedB, Sized, remarked, rawVector, Mark, Masking, none, of, masking, marksOf, markAll, remembered, Masked, marksBy, vectorsBy, marksAll, vectorsAll}
 use Rattle.runs.proofs.Facts.{Maskable, AllowedBy, AllowedAll, MasksBy, MasksIn}
 
 -- ---- The rows that a call writes: which, the mark before, the mark after.
@@ -24,7 +24,8 @@ pub data Turn : Act → ℕ → ℕ → ℕ → Type 0 where
   dealt : {r : ℕ} → Turn (deals r) r 1 2
   summed : {r : ℕ} {t : Summand} {ts : List Summand} → Turn (sums r t ts) r 0 2
   waiting : {a b r : ℕ} → Turn (factors a b r) r 3 5
-  spent : {r : ℕ} → Turn (multiplies r) r 5 6
+  collected : {r : ℕ} → Turn (collects r) r 5 7
+  spent : {r : ℕ} → Turn (multiplies r) r 7 6
   spent' : {r : ℕ} → Turn (multiplies r) (r + 1) 4 6
   multiplied : {r : ℕ} → Turn (multiplies r) (r + 2) 4 2
 
@@ -34,11 +35,18 @@ from-two t = elim t [ ]
 from-six : {A : Type 0} {a : Act} {q m : ℕ} → Turn a q 6 m → A
 from-six t = elim t [ ]
 
-from-five : {a : Act} {q m : ℕ} → Turn a q 5 m → m ≡ 6
-from-five spent = refl
+from-five : {a : Act} {q m : ℕ} → Turn a q 5 m → m ≡ 7
+from-five collected = refl
+
+from-seven : {a : Act} {q m : ℕ} → Turn a q 7 m → m ≡ 6
+from-seven spent = refl
 
 to-five : {a : Act} {q m : ℕ} → Turn a q m 5 → MasksBy (masking a) q
 to-five waiting = refl
+
+to-seven : {a : Act} {q m : ℕ} → Turn a q m 7
+    → (m ≡ 5) × ((M : Marks) → (rememberedA (marksBy a M) q ≡ rememberedA M q) × (rememberedB (marksBy a M) q ≡ rememberedB M q))
+to-seven collected = (refl, λ M. (refl, refl))
 
 -- ---- Marks that are written.
 
@@ -58,7 +66,7 @@ pub record Same (M M' : Marks) (vec vec' : ℕ → Vector) (q : ℕ) : Type 0 wh
   pub factor-b : rememberedB M' q ≡ rememberedB M q
   pub vector : vec' q ≡ vec q
 
-other : (M : Marks) (r m : ℕ) (vec vec' : ℕ → Vector) (q : ℕ) → q ≢ r → vec' q ≡ vec q → Same M (remarked M r m) vec vec' q
+pub other : (M : Marks) (r m : ℕ) (vec vec' : ℕ → Vector) (q : ℕ) → q ≢ r → vec' q ≡ vec q → Same M (remarked M r m) vec vec' q
 other M r m vec vec' q ne e = record { mark = past M r m q ne; factor-a = refl; factor-b = refl; vector = e }
 
 off-one : (M : Marks) (r m : ℕ) (vec : ℕ → Vector) (X : Vector) (q : ℕ) → q ≢ r → Same M (remarked M r m) vec (at vec r X) q
@@ -136,6 +144,8 @@ module _ (plan : Plan) (draw : Draw) where
       at-row r q (turns (ok .0 .r-empty) (now M r 2 z (ok .0 .r-low)) summed) (λ n. same (off-one M r 2 vec _ q n))
   course (factors x y r) c M vec z ok q =
       at-row r q (turns (ok .1 .first) (now M r 5 z (omega arith)) waiting) (λ n. same (off-masks M r x y vec q n))
+  course (collects r) c M vec z ok q =
+      at-row r q (turns (ok .0 .first) (now M r 7 z (omega (arith, ok .0 .r-low))) collected) (λ n. same (other M r 7 vec vec q n refl))
   course (multiplies r) c M vec z ok q =
       let k = on-three M r 6 6 2 z (ok .0 .r-low) in
       at-row r q (turns (ok .0 .first) (k .0) spent) (λ n.
@@ -150,20 +160,27 @@ module _ (plan : Plan) (draw : Draw) where
       → (markOf (marksBy a M) q ≡ 2) × (vectorsBy plan draw a c M vec q ≡ vec q)
   held-by a c M vec z ok q h = elim (course a c M vec z ok q) [ turned t ↦ from-two (rw h at t) | same s ↦ (s .mark ∙ h, s .vector) ]
 
-  -- a row whose mark is 5 or 6: it stays so
-  pub past-by : (a : Act) (M : Marks) → Sized M → AllowedBy a M → (q : ℕ) → (markOf M q ≡ 5) ⊎ (markOf M q ≡ 6)
-      → (markOf (marksBy a M) q ≡ 5) ⊎ (markOf (marksBy a M) q ≡ 6)
+  -- a row whose mark is 5, 7 or 6: it stays so
+  pub past-by : (a : Act) (M : Marks) → Sized M → AllowedBy a M → (q : ℕ) → Masked (markOf M q) ⊎ (markOf M q ≡ 6)
+      → Masked (markOf (marksBy a M) q) ⊎ (markOf (marksBy a M) q ≡ 6)
   past-by a M z ok q h = elim (course a 0 M (rawVector plan draw) z ok q) [
-    | turned t ↦ elim h [ inl e ↦ inr (from-five (rw e at t)) | inr e ↦ from-six (rw e at t) ]
+    | turned t ↦ elim h [
+      | inl (inl e) ↦ inl (inr (from-five (rw e at t)))
+      | inl (inr e) ↦ inr (from-seven (rw e at t))
+      | inr e ↦ from-six (rw e at t)
+    ]
     | same s ↦ rw (s .mark) h
   ]
 
   -- a triple waits after an act: it waited before, with the same factors, or these are its masks
-  pub five-by : (a : Act) (M : Marks) → Sized M → AllowedBy a M → (q : ℕ) → q < 96 → markOf (marksBy a M) q ≡ 5
-      → ((markOf M q ≡ 5) × (rememberedA (marksBy a M) q ≡ rememberedA M q) × (rememberedB (marksBy a M) q ≡ rememberedB M q)) ⊎ MasksBy (masking a) q
+  pub five-by : (a : Act) (M : Marks) → Sized M → AllowedBy a M → (q : ℕ) → q < 96 → Masked (markOf (marksBy a M) q)
+      → (Masked (markOf M q) × (rememberedA (marksBy a M) q ≡ rememberedA M q) × (rememberedB (marksBy a M) q ≡ rememberedB M q)) ⊎ MasksBy (masking a) q
   five-by a M z ok q low h = elim (course a 0 M (rawVector plan draw) z ok q) [
-    | turned t ↦ inr (to-five (rw h at t))
-    | same s ↦ inl (sym (s .mark) ∙ h, s .factor-a, s .factor-b)
+    | turned t ↦ elim h [
+      | inl e ↦ inr (to-five (rw e at t))
+      | inr e ↦ (let k = to-seven (rw e at t) in inl (inl (k .0), k .1 M .0, k .1 M .1))
+    ]
+    | same s ↦ inl (rw (s .mark) at h, s .factor-a, s .factor-b)
   ]
 
 -- ---- Marks are 96.
@@ -204,13 +221,13 @@ module _ (plan : Plan) (draw : Draw) where
       let l = held-stays num ms (marksBy a M) (vectorsBy plan draw a c M vec) (sized-by a M z) (ok .1) q (k .0) in
       (l .0, l .1 ∙ k .1)
 
-  pub past-stays : (todo : List Act) (M : Marks) → Sized M → AllowedAll todo M → (q : ℕ) → (markOf M q ≡ 5) ⊎ (markOf M q ≡ 6)
-      → (markOf (marksAll todo M) q ≡ 5) ⊎ (markOf (marksAll todo M) q ≡ 6)
+  pub past-stays : (todo : List Act) (M : Marks) → Sized M → AllowedAll todo M → (q : ℕ) → Masked (markOf M q) ⊎ (markOf M q ≡ 6)
+      → Masked (markOf (marksAll todo M) q) ⊎ (markOf (marksAll todo M) q ≡ 6)
   past-stays [] M z ok q h = h
   past-stays (a ∷ todo) M z ok q h = past-stays todo (marksBy a M) (sized-by a M z) (ok .1) q (past-by plan draw a M z (ok .0) q h)
 
-  pub five-before : (todo : List Act) (M : Marks) → Sized M → AllowedAll todo M → (q : ℕ) → q < 96 → markOf (marksAll todo M) q ≡ 5
-      → ((markOf M q ≡ 5) × (rememberedA (marksAll todo M) q ≡ rememberedA M q) × (rememberedB (marksAll todo M) q ≡ rememberedB M q)) ⊎ MasksIn todo q
+  pub five-before : (todo : List Act) (M : Marks) → Sized M → AllowedAll todo M → (q : ℕ) → q < 96 → Masked (markOf (marksAll todo M) q)
+      → (Masked (markOf M q) × (rememberedA (marksAll todo M) q ≡ rememberedA M q) × (rememberedB (marksAll todo M) q ≡ rememberedB M q)) ⊎ MasksIn todo q
   five-before [] M z ok q low h = inl (h, refl, refl)
   five-before (a ∷ todo) M z ok q low h = elim (five-before todo (marksBy a M) (sized-by a M z) (ok .1) q low h) [
     | inr m ↦ inr (inr m)
@@ -222,9 +239,10 @@ module _ (plan : Plan) (draw : Draw) where
 
 -- ---- Masks: of an unused triple, which then waits with these factors.
 
-young : (m : Masking) (M : Marks) → Maskable m M → (r : ℕ) → MasksBy m r → (markOf M r ≡ 5) ⊎ (markOf M r ≡ 6) → ⊥
+young : (m : Masking) (M : Marks) → Maskable m M → (r : ℕ) → MasksBy m r → Masked (markOf M r) ⊎ (markOf M r ≡ 6) → ⊥
 young none M al r at past = at
-young (of x y r') M al r at (inl five) = omega (arith, ap (markOf M) at, al .first, five)
+young (of x y r') M al r at (inl (inl five)) = omega (arith, ap (markOf M) at, al .first, five)
+young (of x y r') M al r at (inl (inr seven)) = omega (arith, ap (markOf M) at, al .first, seven)
 young (of x y r') M al r at (inr six) = omega (arith, ap (markOf M) at, al .first, six)
 
 waiting-now : (m : Masking) (M : Marks) (x y r : ℕ) → Sized M → r < 94 → of x y r ≡ m
@@ -237,21 +255,21 @@ waiting-now m M x y r z low e =
     )
 
 module _ (plan : Plan) (draw : Draw) where
-  pub unmasked : (todo : List Act) (M : Marks) → Sized M → AllowedAll todo M → (r : ℕ) → MasksIn todo r → (markOf M r ≡ 5) ⊎ (markOf M r ≡ 6) → ⊥
+  pub unmasked : (todo : List Act) (M : Marks) → Sized M → AllowedAll todo M → (r : ℕ) → MasksIn todo r → Masked (markOf M r) ⊎ (markOf M r ≡ 6) → ⊥
   unmasked (a ∷ todo) M z al r (inl at) past = young (masking a) M (al .0 .1) r at past
   unmasked (a ∷ todo) M z al r (inr at) past =
       unmasked todo (marksBy a M) (sized-by a M z) (al .1) r at (past-by plan draw a M z (al .0) r past)
 
   pub waits-after : (todo : List Act) (M : Marks) → Sized M → AllowedAll todo M → (x y r : ℕ) → r < 94 → Among (of x y r) (map masking todo)
-      → ((markOf (marksAll todo M) r ≡ 5) ⊎ (markOf (marksAll todo M) r ≡ 6))
-      × (markOf (marksAll todo M) r ≡ 5 → (rememberedA (marksAll todo M) r ≡ x) × (rememberedB (marksAll todo M) r ≡ y))
+      → (Masked (markOf (marksAll todo M) r) ⊎ (markOf (marksAll todo M) r ≡ 6))
+      × (Masked (markOf (marksAll todo M) r) → (rememberedA (marksAll todo M) r ≡ x) × (rememberedB (marksAll todo M) r ≡ y))
   waits-after (a ∷ todo) M z al x y r low (inr there) = waits-after todo (marksBy a M) (sized-by a M z) (al .1) x y r low there
   waits-after (a ∷ todo) M z al x y r low (inl e) =
       let h = waiting-now (masking a) (markAll (marksOf a) M) x y r (sized-marks (marksOf a) M z) low e in (
-        past-stays plan draw todo (marksBy a M) (sized-by a M z) (al .1) r (inl (h .0)),
+        past-stays plan draw todo (marksBy a M) (sized-by a M z) (al .1) r (inl (inl (h .0))),
         λ five.
             elim (five-before plan draw todo (marksBy a M) (sized-by a M z) (al .1) r (omega arith) five) [
               | inl k ↦ (k .1 ∙ h .1, k .2 ∙ h .2)
-              | inr at ↦ absurd (unmasked todo (marksBy a M) (sized-by a M z) (al .1) r at (inl (h .0)))
+              | inr at ↦ absurd (unmasked todo (marksBy a M) (sized-by a M z) (al .1) r at (inl (inl (h .0))))
             ],
       )

@@ -13,9 +13,10 @@ use Rattle.runs.specs.Draws as Draws
 use Rattle.runs.specs.Draws.{Plan, Draw, IsRaw}
 use Rattle.runs.specs.Outline.{takes, Taking, nothingTaken, aRowPack, aTriplePack, aNumber, aRecord, twoRecords, Given, moves, acts, Sending, itsOpening, itsMasks}
 use Rattle.runs.specs.Calls.{Post, Actual, Call}
-use Rattle.runs.proofs.Marks.{Marks, sessionAt, less, maskVectorA, maskVectorB, marksAll, numberIn, vectorsAll}
+use Rattle.runs.proofs.Marks.{Marks, Opened, noNumbers, sessionAt, less, maskVectorA, maskVectorB, marksAll, numberIn, vectorsAll, openedAll}
 use Rattle.runs.proofs.Holds.{Holds}
 use Rattle.runs.proofs.Finishing.{Trusted}
+use Rattle.runs.proofs.Recalled.{Recalls}
 
 -- a row's own coefficients
 pub own-numbers : (k n i : ℕ) (w : Element) (X : Vector) → take k (rowOf k n i w X) ≡ numbers k (X .v i)
@@ -23,18 +24,20 @@ unfolding rowOf
 own-numbers k n i w X = take-at (numbers k (X .v i)) _ k (length-numbers k (X .v i))
 
 module _ (plan : Plan) (draw : Draw) where
-  abbrev pub postAt : ℕ → Marks → List ℕ → Post
-  postAt i M l = record { session = sessionAt plan draw i M; rows = l }
+  abbrev pub postAt : ℕ → Marks → Opened → List ℕ → Post
+  postAt i M Y l = record { session = sessionAt plan draw i M Y; rows = l }
 
-  -- post i, with the marks M, holds its part of the vectors
+  -- post i, with the marks M, holds its part of the vectors, and remembers the numbers of those that it opened
   pub record Stands (len i : ℕ) (M : Marks) (vec : ℕ → Vector) (q : Post) : Type 0 where
-    pub session : q .session ≡ sessionAt plan draw i M
+    pub opened : Opened
+    pub session : q .session ≡ sessionAt plan draw i M opened
     pub holds : Holds plan draw len i M vec (q .rows)
+    pub recalls : Recalls M vec opened
 
-  pub named : (len i : ℕ) (M : Marks) (vec : ℕ → Vector) (q : Post) → Stands len i M vec q → q ≡ postAt i M (q .rows)
+  pub named : (len i : ℕ) (M : Marks) (vec : ℕ → Vector) (q : Post) (h : Stands len i M vec q) → q ≡ postAt i M (h .opened) (q .rows)
   named len i M vec q h = λ j. record { session = h .session j; rows = q .rows }
 
-  -- what is given: the post's own part, and in a finish polynomials that are truly their senders'
+  -- what is given: the post's own part, and of masks polynomials that are truly their senders'
   abbrev pub FitsWith : ℕ → Marks → (ℕ → Vector) → (t : Taking) → Given Actual t → Type 0
   FitsWith i M vec nothingTaken x = Unit {0}
   FitsWith i M vec (aRowPack r) x = IsRaw (plan .raw r) × (x ≡ Draws.rawPack plan draw i r)
@@ -42,7 +45,8 @@ module _ (plan : Plan) (draw : Draw) where
   FitsWith i M vec (aNumber r) x = Unit {0}
   FitsWith i M vec (aRecord r) x = Unit {0}
   FitsWith i M vec (twoRecords r) x =
-      Trusted (sessionAt plan draw i M) (maskVectorA M vec r) (x .0) × Trusted (sessionAt plan draw i M) (maskVectorB M vec r) (x .1)
+      Trusted (sessionAt plan draw i M noNumbers) (maskVectorA M vec r) (x .0)
+      × Trusted (sessionAt plan draw i M noNumbers) (maskVectorB M vec r) (x .1)
 
   abbrev pub Fits : ℕ → Marks → (ℕ → Vector) → Call → Type 0
   Fits i M vec c = All (λ m. FitsWith i M vec (takes (m .0)) (m .1)) (moves c)
@@ -53,6 +57,9 @@ module _ (plan : Plan) (draw : Draw) where
 
   abbrev pub vectorsAfter : Call → Marks → (ℕ → Vector) → ℕ → Vector
   vectorsAfter c M vec = vectorsAll plan draw numberIn (moves c) M vec
+
+  abbrev pub openedAfter : Call → Marks → (ℕ → Vector) → Opened → Opened
+  openedAfter c M vec Y = openedAll plan draw numberIn (moves c) M vec Y
 
   -- what a call that is not refused writes into the list it was lent, line by line
   abbrev pub Says : ℕ → (ℕ → Vector) → Sending → List ℕ → Type 0

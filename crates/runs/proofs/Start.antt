@@ -20,7 +20,7 @@ use Rattle.decimal.specs.Numeral.{tens}
 use Rattle.vectors.specs.Vector.{Vector}
 use Rattle.runs.specs.Draws.{Plan, Draw, IsDraw, Sound, pointOf}
 use Rattle.runs.specs.Calls.{newPost}
-use Rattle.runs.proofs.Marks.{Marks, markOf, Sized, sessionAt}
+use Rattle.runs.proofs.Marks.{Marks, markOf, Sized, Opened, sessionAt}
 use Rattle.runs.proofs.Steps.{Stands}
 use Rattle.runs.proofs.Facts.{Facts}
 
@@ -58,6 +58,10 @@ start-mark r = elim (decLt r 96) [
   | no high ↦ List·getD-eq-default (replicate 96 0) 0 {n = r} (omega (arith, length-replicate {A = ℕ} 96 0))
 ]
 
+-- and its numbers
+pub blanks : Opened
+blanks = record { y-a = replicate 96 0; y-b = replicate 96 0 }
+
 off : (r k : ℕ) → markOf start r ≡ suc k → ⊥
 off r k e = omega (arith, start-mark r)
 
@@ -80,26 +84,31 @@ module _ (plan : Plan) (draw : Draw) (sound : Sound plan) (is : IsDraw plan draw
       ∙ ap₂ orElse (sound .posts)
       (not-refused (3 when outside 1 (plan .n) i ∷ 4 when badPoint (pointOf draw i) ∷ []) (post-passes i lo hi, (point-passes i lo hi, tt)))
 
-  made : (i : ℕ) → 1 ≤ i → i ≤ plan .n → created (plan .n) (plan .t) i (pointOf draw i) .session ≡ sessionAt plan draw i start
-  unfolding created start outcome
+  made : (i : ℕ) → 1 ≤ i → i ≤ plan .n → created (plan .n) (plan .t) i (pointOf draw i) .session ≡ sessionAt plan draw i start blanks
+  unfolding created start blanks outcome
   made i lo hi = go (first (sessionTests (plan .n) (plan .t) i (pointOf draw i))) (session-passes i lo hi)
     where
       go : (k : ℕ) → k ≡ 0
-          → answer k 0 (sessionOf (plan .n) (plan .t) i (pointOf draw i)) (sessionOf 0 0 0 0) .session ≡ sessionAt plan draw i start
+          → answer k 0 (sessionOf (plan .n) (plan .t) i (pointOf draw i)) (sessionOf 0 0 0 0) .session ≡ sessionAt plan draw i start blanks
       go zero e = refl
       go (suc k) e = absurd (omega arith)
 
   pub start-stands : (vec : ℕ → Vector) (rows : List ℕ) (i : ℕ) → 1 ≤ i → i ≤ plan .n
       → Stands plan draw (length rows) i start vec (newPost plan draw rows i)
-  unfolding newPost
+  unfolding newPost blanks
   start-stands vec rows i lo hi =
-      record { session = made i lo hi; holds = record { long = refl; rows = λ r low ne. absurd (ne (start-mark r)) } }
+      record {
+        opened = blanks;
+        session = made i lo hi;
+        holds = record { long = refl; rows = λ r low ne. absurd (ne (start-mark r)) };
+        recalls = record { sized = start-sized; a-long = length-replicate {A = ℕ} 96 0; b-long = length-replicate {A = ℕ} 96 0; each = λ r e. absurd (off r 6 e) };
+      }
 
   pub start-facts : (Held : ℕ → Vector → Type 0) (Waits : ℕ → ℕ → ℕ → Type 0) (vec : ℕ → Vector) → Facts plan draw Held Waits start vec
   start-facts Held Waits vec r low =
       record {
         raw = λ e. absurd (off r 0 e);
         held = λ e. absurd (off r 1 e);
-        triple = λ e. elim e [ inl h ↦ absurd (off r 2 h) | inr h ↦ absurd (off r 4 h) ];
-        waiting = λ e. absurd (off r 4 e);
+        triple = λ e. elim e [ inl h ↦ absurd (off r 2 h) | inr (inl h) ↦ absurd (off r 4 h) | inr (inr h) ↦ absurd (off r 6 h) ];
+        waiting = λ e. elim e [ inl h ↦ absurd (off r 4 h) | inr h ↦ absurd (off r 6 h) ];
       }

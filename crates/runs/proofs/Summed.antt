@@ -18,24 +18,24 @@ use Rattle.product.proofs.Passed.{Factored}
 use Rattle.terms.specs.declared.Term.{Term}
 use Rattle.terms.specs.Listed.{productsOf}
 use Rattle.relation.specs.Masks.{termMasks}
-use Rattle.relation.specs.Finish.{recordA, recordB, termMaskA, termMaskB, withProducts, withSum, relationDone}
+use Rattle.relation.specs.Finish.{recordA, recordB, termMaskA, termMaskB, withProducts, withSum, finishedTerms, relationDone}
 use Rattle.relation.proofs.Passed.{AllAt, Enough, Agreed, RelationFinishPlaced, RelationFinished}
 use Rattle.vectors.specs.Vector.{Vector, numbers}
 use Rattle.vectors.proofs.Linear.{length-numbers}
 use Rattle.runs.specs.Draws.{pointOf}
 use Rattle.runs.specs.Outline.{takes, Move, actsIn, maskings, finishing, summing}
-use Rattle.runs.specs.Calls.{Post, Actual, pieces}
-use Rattle.runs.proofs.Marks.{Marks, rememberedA, rememberedB, remarked, less, maskVectorA, maskVectorB, marksAll, numberIn, vectorsAll}
+use Rattle.runs.specs.Calls.{Actual, pieces}
+use Rattle.runs.proofs.Marks.{Marks, rememberedA, rememberedB, remarked, Opened, noNumbers, sessionAt, less, maskVectorA, maskVectorB, marksAll, numberIn, vectorsAll, openedAll}
 use Rattle.runs.proofs.Packs.{rowFor}
 use Rattle.runs.proofs.Holds.{Holds, wide, Holder, sessionOf, held-row, combined-row}
-use Rattle.runs.proofs.Finishing.{Trusted, opens-a, opens-b, opened-is}
+use Rattle.runs.proofs.Finishing.{Trusted, trusted-any, opens-a, opens-b, opened-is}
 use Rattle.runs.proofs.Relations.{apart, Waits, finishedAll}
-use Rattle.runs.proofs.Related.{multipliedAll, marks-products, vectors-products, sum-holds, OpensTo, products-hold, finished-session, cut-is}
+use Rattle.runs.proofs.Related.{multipliedAll, openedTerms, marks-products, vectors-products, opened-products, sum-holds, OpensTo, products-hold, finished-session, cut-is}
 use Rattle.runs.proofs.Allowed.{waiting, sum-allowed}
-use Rattle.runs.proofs.Standing.{own-numbers, Stands, FitsWith, SaysAll}
+use Rattle.runs.proofs.Standing.{own-numbers, FitsWith, SaysAll}
 
 module _ (H : Holder) where
-  open Holder H using (plan, draw, len, post as i, marks as M, vec, rows as l, holds as h)
+  open Holder H using (plan, draw, len, post as i, marks as M, opened as Y, vec, rows as l, holds as h)
 
   abbrev s : Session
   s = sessionOf H
@@ -95,50 +95,66 @@ module _ (H : Holder) where
         → All (λ t. (rememberedA M (t .first) ≡ t .row) × (rememberedB M (t .first) ≡ t .second)) us
         → AllAt (Enough s l blocks) k us → AllAt (Agreed s l blocks) k us
         → All (λ m. FitsWith plan draw i M vec (takes (m .0)) (m .1)) (finishing {K = Actual} parts blocks k us ++ rest)
-        → AllAt (OpensTo plan draw len i M l blocks M vec) k us
+        → AllAt (OpensTo plan draw len i M Y l blocks M vec) k us
     opens-to k [] rest some w r e a fit = tt
     opens-to k (t ∷ us) rest some w r e a fit =
         let cuts = cut-is (length fs) (recordLength s) blocks (omega arith) (placed .blocks-long) in (
           (
             opened-is H few (termMaskA s l t) (maskVectorA M vec (t .first)) (recordA s blocks k)
                 (ap (λ (x : ℕ). maskRow (shapeOf s) l x (t .first)) (sym (r .0 .0)) ∙ opens-a H (t .first) (w .0))
-                (subst (Trusted s (maskVectorA M vec (t .first))) (cuts (2 * k)) (fit .0 .0)) (e .0 .0) (a .0 .0),
+                (subst (Trusted s (maskVectorA M vec (t .first))) (cuts (2 * k)) (trusted-any plan draw i M noNumbers Y (maskVectorA M vec (t .first)) _ (fit .0 .0))) (e .0 .0) (a .0 .0),
             opened-is H few (termMaskB s l t) (maskVectorB M vec (t .first)) (recordB s blocks k)
                 (ap (λ (x : ℕ). maskRow (shapeOf s) l x (t .first + 1)) (sym (r .0 .1)) ∙ opens-b H (t .first) (w .0))
-                (subst (Trusted s (maskVectorB M vec (t .first))) (cuts (2 * k + 1)) (fit .0 .1)) (e .0 .1) (a .0 .1),
+                (subst (Trusted s (maskVectorB M vec (t .first))) (cuts (2 * k + 1)) (trusted-any plan draw i M noNumbers Y (maskVectorB M vec (t .first)) _ (fit .0 .1))) (e .0 .1) (a .0 .1),
           ),
-          opens-to (suc k) us rest (omega arith) (w .1) (r .1) (e .1) (a .1) (fit .1),
+          opens-to (suc k) us rest (omega arith) (w .1) (r .1) (e .1) (a .1) (fit .1 .1),
         )
 
     size : length l ≡ 96 * wide plan
     size = f .checked .framed .sized .length-is
 
-    products-now : All (λ m. FitsWith plan draw i M vec (takes (m .0)) (m .1)) (finishing {K = Actual} (2 * length (productsOf ts)) blocks 0 (productsOf ts) ++ summing d ts)
+    -- what the acts take
+    abbrev Taken : Type 0
+    Taken = All (λ m. FitsWith plan draw i M vec (takes (m .0)) (m .1)) (finishing {K = Actual} (2 * length (productsOf ts)) blocks 0 (productsOf ts) ++ summing d ts)
+
+    waits : All (Waits M) (productsOf ts)
+    waits = waiting plan draw i M Y l ts d blocks placed
+
+    opens-all : Taken → AllAt (OpensTo plan draw len i M Y l blocks M vec) 0 (productsOf ts)
+    opens-all fit = opens-to 0 fs (summing d ts) (omega arith) waits (placed .remembered) (f .enough) (f .agreed) fit
+
+    products-now : Taken
         → Holds plan draw len i (finishedAll (productsOf ts) M) (multipliedAll (productsOf ts) M vec) (withProducts s l blocks 0 (productsOf ts) l)
     products-now fit =
-        let w = waiting plan draw i M l ts d blocks placed in
-        products-hold plan draw len i M l blocks (sym (h .long) ∙ size) 0 fs M vec l h w (apart fs (placed .once))
-        (opens-to 0 fs (summing d ts) (omega arith) w (placed .remembered) (f .enough) (f .agreed) fit)
+        products-hold plan draw len i M Y l blocks (sym (h .long) ∙ size) 0 fs M vec l h waits (apart fs (placed .once)) (opens-all fit)
+
+    session-now : Taken
+        → finishedTerms s l blocks 0 (productsOf ts) s ≡ sessionAt plan draw i (finishedAll (productsOf ts) M) (openedTerms (productsOf ts) M vec Y)
+    session-now fit = finished-session plan draw len i M Y l blocks 0 fs M vec Y waits (apart fs (placed .once)) (opens-all fit)
 
   -- then the sum
   pub summed-up : (ts : List Term) (d : ℕ) (blocks : List ℕ) (f : RelationFinished s l ts d blocks)
       → All (λ m. FitsWith plan draw i M vec (takes (m .0)) (m .1)) (finishing {K = Actual} (2 * length (productsOf ts)) blocks 0 (productsOf ts) ++ summing d ts)
-      → Stands plan draw len i (marksAll (actsIn (finishing {K = Actual} (2 * length (productsOf ts)) blocks 0 (productsOf ts) ++ summing d ts)) M)
+      → (relationDone s l blocks (productsOf ts) d
+      ≡ sessionAt plan draw i (marksAll (actsIn (finishing {K = Actual} (2 * length (productsOf ts)) blocks 0 (productsOf ts) ++ summing d ts)) M)
+      (openedAll plan draw numberIn (finishing {K = Actual} (2 * length (productsOf ts)) blocks 0 (productsOf ts) ++ summing d ts) M vec Y))
+      × Holds plan draw len i (marksAll (actsIn (finishing {K = Actual} (2 * length (productsOf ts)) blocks 0 (productsOf ts) ++ summing d ts)) M)
       (vectorsAll plan draw numberIn (finishing {K = Actual} (2 * length (productsOf ts)) blocks 0 (productsOf ts) ++ summing d ts) M vec)
-      (record { session = relationDone s (productsOf ts) d; rows = withSum s d ts (withProducts s l blocks 0 (productsOf ts) l) })
+      (withSum s d ts (withProducts s l blocks 0 (productsOf ts) l))
   summed-up [] d blocks f fit = absurd (omega (arith, f .checked .placed .some))
   summed-up (t ∷ ts) d blocks f fit =
       let fs = productsOf (t ∷ ts) in
       let N = finishedAll fs M in
       let hp = products-now (t ∷ ts) d blocks f fit in
-      let sum = sum-allowed plan draw i M l (t ∷ ts) d blocks (f .checked .placed) .0 .0 in
+      let sum = sum-allowed plan draw i M Y l (t ∷ ts) d blocks (f .checked .placed) .0 .0 in
       let rows = withProducts s l blocks 0 fs l in
-      let H' : Holder = record { plan = plan; draw = draw; len = len; post = i; marks = N; vec = multipliedAll fs M vec; rows = rows; holds = hp } in
+      let H' : Holder = record { plan = plan; draw = draw; len = len; post = i; marks = N; opened = Y; vec = multipliedAll fs M vec; rows = rows; holds = hp } in
       let last = summing d (t ∷ ts) in
-      let q : Post = record { session = relationDone s fs d; rows = withSum s d (t ∷ ts) rows } in
-      subst (λ (Q : Marks). Stands plan draw len i Q (vectorsAll plan draw numberIn (finishing {K = Actual} (2 * length fs) blocks 0 fs ++ last) M vec) q)
-      (sym (marks-products plan draw (2 * length fs) blocks last 0 fs M))
-      (subst (λ (v : ℕ → Vector). Stands plan draw len i (remarked N d 2) v q) (sym (vectors-products plan draw (2 * length fs) blocks last 0 fs M vec)) (record {
-        session = ap (λ (x : Session). marked x d 2) (finished-session plan draw i fs M);
-        holds = sum-holds H' M d (sum .r-low) (hp .long ∙ sym (h .long) ∙ f .checked .framed .sized .length-is) (sum .r-empty) t ts (sum .held);
-      }))
+      let marks-are = marks-products plan draw (2 * length fs) blocks last 0 fs M in (
+        ap (λ (x : Session). marked x d 2) (session-now (t ∷ ts) d blocks f fit)
+            ∙ sym (ap₂ (sessionAt plan draw i) marks-are (opened-products plan draw (2 * length fs) blocks last 0 fs M vec Y)),
+        subst (λ (Q : Marks). Holds plan draw len i Q (vectorsAll plan draw numberIn (finishing {K = Actual} (2 * length fs) blocks 0 fs ++ last) M vec) (withSum s d (t ∷ ts) rows))
+            (sym marks-are)
+            (subst (λ (v : ℕ → Vector). Holds plan draw len i (remarked N d 2) v (withSum s d (t ∷ ts) rows)) (sym (vectors-products plan draw (2 * length fs) blocks last 0 fs M vec))
+            (sum-holds H' M Y d (sum .r-low) (hp .long ∙ sym (h .long) ∙ f .checked .framed .sized .length-is) (sum .r-empty) t ts (sum .held))),
+      )

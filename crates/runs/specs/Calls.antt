@@ -19,7 +19,8 @@ use Rattle.sharing.specs.Linear.{linearAnswer, linearRows}
 use Rattle.opening.specs.Walking.{recordLength, badRecord}
 use Rattle.opening.specs.Opening.{openAnswer}
 use Rattle.product.specs.Masks.{masksAnswer, masksOut}
-use Rattle.product.specs.Finish.{finishAnswer, finishRows}
+use Rattle.product.specs.Collect.{collectAnswer}
+use Rattle.product.specs.Multiply.{multiplyAnswer, multiplyRows}
 use Rattle.terms.specs.declared.Term.{Term}
 use Rattle.terms.specs.Listed.{productsOf, collected}
 use Rattle.relation.specs.Masks.{relationMasksAnswer, relationMasksOut}
@@ -61,8 +62,11 @@ module _ {K : Kinds} where
   abbrev pub masks : (a b r : ℕ) (lent : K .Lent) → CallOf K
   masks a b r lent = CallOf.masks (record { a = a; b = b; r = r; lent = lent })
 
-  abbrev pub finish : (r : ℕ) (blocksA blocksB : K .Record) → CallOf K
-  finish r blocksA blocksB = CallOf.finish (record { r = r; blocksA = blocksA; blocksB = blocksB })
+  abbrev pub collect : (r : ℕ) (blocksA blocksB : K .Record) → CallOf K
+  collect r blocksA blocksB = CallOf.collect (record { r = r; blocksA = blocksA; blocksB = blocksB })
+
+  abbrev pub multiply : (r : ℕ) → CallOf K
+  multiply r = CallOf.multiply (record { r = r })
 
   abbrev pub relationMasks : (terms : List Term) (lent : K .Lent) → CallOf K
   relationMasks terms lent = CallOf.relationMasks (record { terms = terms; lent = lent })
@@ -105,9 +109,8 @@ perform (CallOf.linear x) q =
 perform (CallOf.masks x) q =
     performed (masksAnswer (q .session) (q .rows) (x .a) (x .b) (x .r) (x .lent)) (q .rows)
     (masksOut (q .session) (q .rows) (x .a) (x .b) (x .r) (x .lent) ∷ [])
-perform (CallOf.finish x) q =
-    performed (finishAnswer (q .session) (q .rows) (x .r) (x .blocksA) (x .blocksB))
-    (finishRows (q .session) (q .rows) (x .r) (x .blocksA) (x .blocksB)) []
+perform (CallOf.collect x) q = performed (collectAnswer (q .session) (q .rows) (x .r) (x .blocksA) (x .blocksB)) (q .rows) []
+perform (CallOf.multiply x) q = performed (multiplyAnswer (q .session) (q .rows) (x .r)) (multiplyRows (q .session) (q .rows) (x .r)) []
 perform (CallOf.relationMasks x) q =
     performed (relationMasksAnswer (q .session) (q .rows) (collected (x .terms)) (x .lent)) (q .rows)
     (pieces (masksLength (shapeOf (q .session))) (length (productsOf (x .terms)))

@@ -55,10 +55,13 @@ pub record ForMasks (K : Kinds) : Type 0 where
   pub r : ℕ
   pub lent : K .Lent
 
-pub record ForFinish (K : Kinds) : Type 0 where
+pub record ForCollect (K : Kinds) : Type 0 where
   pub r : ℕ
   pub blocksA : K .Record
   pub blocksB : K .Record
+
+pub record ForMultiply : Type 0 where
+  pub r : ℕ
 
 -- Document 02, (v): the terms, and one list for the masks of all product terms.
 pub record ForRelationMasks (K : Kinds) : Type 0 where
@@ -79,7 +82,8 @@ pub data CallOf (K : Kinds) : Type 0 where
   opening : ForOpening K → CallOf K
   linear : ForLinear → CallOf K
   masks : ForMasks K → CallOf K
-  finish : ForFinish K → CallOf K
+  collect : ForCollect K → CallOf K
+  multiply : ForMultiply → CallOf K
   relationMasks : ForRelationMasks K → CallOf K
   relationFinish : ForRelationFinish K → CallOf K
 
@@ -92,7 +96,7 @@ pub data Summand : Type 0 where
   fee : (k : ℕ) → Summand
 
 -- An act: row r is loaded; the triple at r is; row r is dealt; row r is opened; row r becomes a sum, of one summand or more; the
--- triple at r waits with the factors a and b; its third row becomes their product.
+-- triple at r waits with the factors a and b; its masks are opened, and the numbers remembered; its third row becomes the product.
 pub data Act : Type 0 where
   loads : (r : ℕ) → Act
   loadsTriple : (r : ℕ) → Act
@@ -100,6 +104,7 @@ pub data Act : Type 0 where
   opens : (r : ℕ) → Act
   sums : (r : ℕ) (t : Summand) (ts : List Summand) → Act
   factors : (a b r : ℕ) → Act
+  collects : (r : ℕ) → Act
   multiplies : (r : ℕ) → Act
 
 -- What an act takes from outside: the pack of row r; of the triple at r; the number of row r's dealer; a record of row r; records
@@ -119,7 +124,8 @@ takes (deals r) = aNumber r
 takes (opens r) = aRecord r
 takes (sums r t ts) = nothingTaken
 takes (factors a b r) = nothingTaken
-takes (multiplies r) = twoRecords r
+takes (collects r) = twoRecords r
+takes (multiplies r) = nothingTaken
 
 abbrev pub Given : Kinds → Taking → Type 0
 Given K nothingTaken = Unit {0}
@@ -156,11 +162,13 @@ abbrev pub maskings : List Term → List Sending
 maskings [] = []
 maskings (t ∷ ts) = itsMasks (t .row) (t .second) (t .first) ∷ maskings ts
 
--- "another finishes them": the product terms from place k on, each with its two of m records.
+-- "another finishes them": the product terms from place k on, by both calls of a finish, each with its two of m records.
 abbrev pub finishing : {K : Kinds} → (m : ℕ) → K .Record → (k : ℕ) → List Term → List (Move K)
 finishing m blocks k [] = []
 finishing {K} m blocks k (t ∷ ts) =
-    (multiplies (t .first), (K .part m (2 * k) blocks, K .part m (2 * k + 1) blocks)) ∷ finishing m blocks (suc k) ts
+    (collects (t .first), (K .part m (2 * k) blocks, K .part m (2 * k + 1) blocks))
+    ∷ (multiplies (t .first), tt)
+    ∷ finishing m blocks (suc k) ts
 
 -- "and stores the sum in an empty row": of each term its coefficient times its row, or times its product in the third row of its
 -- triple. (A list of no terms is refused with 14.)
@@ -180,7 +188,8 @@ outline (opening x) = acting ((opens (x .r), x .blocks) ∷ [])
 outline (linear x) = acting ((sums (x .r) (once (x .a)) (times (x .scale) (x .b) ∷ fee (x .fee) ∷ []), tt) ∷ [])
 outline (masks x) =
     record { moves = (factors (x .a) (x .b) (x .r), tt) ∷ []; sends = itsMasks (x .a) (x .b) (x .r) ∷ []; heard = [] }
-outline (finish x) = acting ((multiplies (x .r), (x .blocksA, x .blocksB)) ∷ [])
+outline (collect x) = acting ((collects (x .r), (x .blocksA, x .blocksB)) ∷ [])
+outline (multiply x) = acting ((multiplies (x .r), tt) ∷ [])
 outline (relationMasks x) =
     record { moves = factoring (productsOf (x .terms)); sends = maskings (productsOf (x .terms)); heard = [] }
 outline (relationFinish x) =
@@ -227,6 +236,7 @@ filled f (message x) = message (record { r = x .r; lent = f .lent (x .lent); hea
 filled f (opening x) = opening (record { r = x .r; blocks = f .blocks (x .blocks) })
 filled f (linear x) = linear x
 filled f (masks x) = masks (record { a = x .a; b = x .b; r = x .r; lent = f .lent (x .lent) })
-filled f (finish x) = finish (record { r = x .r; blocksA = f .blocks (x .blocksA); blocksB = f .blocks (x .blocksB) })
+filled f (collect x) = collect (record { r = x .r; blocksA = f .blocks (x .blocksA); blocksB = f .blocks (x .blocksB) })
+filled f (multiply x) = multiply x
 filled f (relationMasks x) = relationMasks (record { terms = x .terms; lent = f .lent (x .lent) })
 filled f (relationFinish x) = relationFinish (record { terms = x .terms; r = x .r; blocks = f .blocks (x .blocks) })

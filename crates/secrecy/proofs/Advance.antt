@@ -8,7 +8,7 @@ use native.Mathlib.Omega.{arith}
 use Rattle.vectors.specs.Vector.{Vector, numbers}
 use Rattle.runs.specs.Outline.{Act, moves, acts, sends}
 use Rattle.runs.specs.Calls.{Call, perform, after, broadcast, openingLine, masksLine, Among}
-use Rattle.runs.proofs.Marks.{Marks, markOf, rememberedA, rememberedB, less, marksAll}
+use Rattle.runs.proofs.Marks.{Marks, markOf, rememberedA, rememberedB, less, marksAll, Masked}
 use Rattle.runs.proofs.Steps.{Stands, vectorsAfter, stands-after}
 use Rattle.runs.proofs.Facts.{Allowed, Facts, MasksIn}
 use Rattle.runs.proofs.Rows.{sized-after, held-stays, past-stays, five-before, unmasked}
@@ -65,7 +65,7 @@ module _ (C : Run) (m : Moment) (S : State C m) where
         (stays .0, old .1 ∙ sym (ap (λ (X : Vector). numbers (plan .t + 1) (X .v j)) (stays .1)))
 
     old-masks : (r j : ℕ) (xs : List ℕ) → AMask C r j xs → Among (masksLine r j xs) lines
-        → Past M' r × (markOf M' r ≡ 5 → xs ≡ maskNumbers C M' vec' r j)
+        → Past M' r × (Masked (markOf M' r) → xs ≡ maskNumbers C M' vec' r j)
     old-masks r j xs o a =
         let old = S .maskings r j xs o a in
         (past-stays plan draw (acts c) M (S .sized) (al .moving) r (old .0), λ five'. go (five-before plan draw (acts c) M (S .sized) (al .moving) r lr five') five' old)
@@ -73,8 +73,8 @@ module _ (C : Run) (m : Moment) (S : State C m) where
         lr : r < 96
         lr = omega (arith, o .row)
 
-        go : ((markOf M r ≡ 5) × (rememberedA M' r ≡ rememberedA M r) × (rememberedB M' r ≡ rememberedB M r)) ⊎ MasksIn (acts c) r → markOf M' r ≡ 5
-            → Past M r × (markOf M r ≡ 5 → xs ≡ maskNumbers C M vec r j) → xs ≡ maskNumbers C M' vec' r j
+        go : (Masked (markOf M r) × (rememberedA M' r ≡ rememberedA M r) × (rememberedB M' r ≡ rememberedB M r)) ⊎ MasksIn (acts c) r → Masked (markOf M' r)
+            → Past M r × (Masked (markOf M r) → xs ≡ maskNumbers C M vec r j) → xs ≡ maskNumbers C M' vec' r j
         go (inr at) five' old = absurd (unmasked plan draw (acts c) M (S .sized) (al .moving) r at (old .0))
         go (inl (five, el, er)) five' old =
             let w = S .facts r lr .waiting five in

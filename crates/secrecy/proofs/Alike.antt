@@ -122,7 +122,7 @@ module _ (T : Two) (m : Moments) (R : Pair T m) (i : ℕ) (lo : 1 ≤ i) (hi : i
       al =
           subst (λ (ss : List Sending). Allowed (acts c) ss M) (sends-at (T .plan) (T .d) (T .u) lines i c)
           (subst (λ (todo : List Act). Allowed todo (sends (c1 c)) M) (acts-at (T .plan) (T .d) (T .u) lines i c)
-          (allowed (T .plan) (T .d) i M (q i .rows) (c1 c) (subst (λ (x : Post). refusalOf (c1 c) x ≡ 0) (is-p1 T m R i lo hi) z)))
+          (allowed (T .plan) (T .d) i M (R .one .posts i lo hi .opened) (q i .rows) (c1 c) (subst (λ (x : Post). refusalOf (c1 c) x ≡ 0) (is-p1 T m R i lo hi) z)))
 
   pub record Same (o o' : Performed) (c c' : Call) : Type 0 where
     pub refusal : o .answer .refusal ≡ o' .answer .refusal

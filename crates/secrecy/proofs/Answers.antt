@@ -15,7 +15,7 @@ use Rattle.opening.specs.Opening.{openRefusal}
 use Rattle.opening.proofs.Passed.{walkTests, walk-few, OpenChecked, row-opened}
 use Rattle.vectors.specs.Vector.{number}
 use Rattle.runs.specs.Draws.{rawPack, triplePack}
-use Rattle.runs.specs.Outline.{loadRow, loadTriple, deal, message, opening, linear, masks, finish, relationMasks, relationFinish, aRecord}
+use Rattle.runs.specs.Outline.{loadRow, loadTriple, deal, message, opening, linear, masks, collect, multiply, relationMasks, relationFinish, aRecord}
 use Rattle.runs.specs.Calls.{Post, Call, Performed, perform}
 use Rattle.runs.proofs.Marks.{sessionAt}
 use Rattle.runs.proofs.Outcomes.{Doing, does, refusalOf, refusal-is, value-is}
@@ -42,7 +42,11 @@ module _ (T : Two) (m : Moments) (R : Pair T m)
   open Moments m using (marks as M, vec, vec', book as b, book' as b', lines, posts as q, posts' as q')
 
   abbrev s : Session
-  s = sessionAt (T .plan) (T .d) i M
+  s = sessionAt (T .plan) (T .d) i M (R .one .posts i lo hi .opened)
+
+  -- of the second run
+  abbrev s' : Session
+  s' = sessionAt (T .plan) (T .d) i M (R .two .posts i lo hi .opened)
 
   abbrev W : ℕ
   W = wide (T .plan)
@@ -60,10 +64,10 @@ module _ (T : Two) (m : Moments) (R : Pair T m)
   c2 c = callAt (T .plan) (T .d') (T .u') lines i c
 
   abbrev p1 : Post
-  p1 = postAt (T .plan) (T .d) i M l
+  p1 = postAt (T .plan) (T .d) i M (R .one .posts i lo hi .opened) l
 
   abbrev p2 : Post
-  p2 = postAt (T .plan) (T .d) i M l'
+  p2 = postAt (T .plan) (T .d) i M (R .two .posts i lo hi .opened) l'
 
   pub is-p1 : q i ≡ p1
   is-p1 = named (T .plan) (T .d) (T .len i) i M vec (q i) (R .one .posts i lo hi)
@@ -73,7 +77,18 @@ module _ (T : Two) (m : Moments) (R : Pair T m)
       named (T .plan) (T .d') (T .len i) i M vec' (q' i) (R .two .posts i lo hi)
       ∙ ap
       (λ (f : ℕ → ℕ). record {
-        session = record { n = T .plan .n; t = T .plan .t; post = i; point = f i; marks = M .marks; «factor_a» = M .factor-a; «factor_b» = M .factor-b };
+        session =
+            record {
+              n = T .plan .n;
+              t = T .plan .t;
+              post = i;
+              point = f i;
+              marks = M .marks;
+              «factor_a» = M .factor-a;
+              «factor_b» = M .factor-b;
+              «y_a» = R .two .posts i lo hi .opened .y-a;
+              «y_b» = R .two .posts i lo hi .opened .y-b;
+            };
         rows = q' i .rows;
       })
       (T .link .points)
@@ -100,6 +115,10 @@ module _ (T : Two) (m : Moments) (R : Pair T m)
     rows' = l';
     holds = Pairs.h T m R i lo hi;
     holds' = Pairs.h' T m R i lo hi;
+    opened = R .one .posts i lo hi .opened;
+    opened' = R .two .posts i lo hi .opened;
+    recalls = R .one .posts i lo hi .recalls;
+    recalls' = R .two .posts i lo hi .recalls;
   }
 
   module _ (r : ℕ) (blocks : Record) (rule : RuleWith (T .plan) (openRefusal s l r (blocks i lines)) lines (aRecord r) blocks) where
@@ -145,7 +164,7 @@ module _ (T : Two) (m : Moments) (R : Pair T m)
       (Twins.triple-same twin (x .r) _ _ (triple-same (x .pack)), λ z. refl)
   alike (deal x) rule = (
     Twins.deal-same twin (x .r) (dealtWith (x .c) (dealtNumber (T .plan) (T .d) (T .u) (x .r)))
-        ∙ ap (dealRefusal s l' (x .r)) (number-same (x .r) (x .c)),
+        ∙ ap (dealRefusal s' l' (x .r)) (number-same (x .r) (x .c)),
     λ z. refl,
   )
   alike (message x) rule =
@@ -158,15 +177,16 @@ module _ (T : Two) (m : Moments) (R : Pair T m)
       (Twins.linear-same twin (x .r) (x .a) (x .b) (x .scale) (x .fee), λ z. refl)
   alike (masks x) rule =
       (Twins.masks-same twin (x .a) (x .b) (x .r) (x .lent i), λ z. refl)
-  alike (finish x) rule = (
-    Twins.finish-same twin (x .r) (x .blocksA i lines) (x .blocksB i lines)
-        (wait-numbers T m R (x .r)),
+  alike (collect x) rule = (
+    Twins.collect-same twin (x .r) (x .blocksA i lines) (x .blocksB i lines)
+        (λ five. wait-numbers T m R (x .r) (inl five)),
     λ z. refl,
   )
+  alike (multiply x) rule = (Twins.multiply-same twin (x .r), λ z. refl)
   alike (relationMasks x) rule =
       (Relations.relation-masks-same twin (x .terms) (x .lent i), λ z. refl)
   alike (relationFinish x) rule =
-      (Relations.relation-finish-same twin (x .terms) (x .r) (x .blocks i lines) (wait-numbers T m R), λ z. refl)
+      (Relations.relation-finish-same twin (x .terms) (x .r) (x .blocks i lines) (λ r five. wait-numbers T m R r (inl five)), λ z. refl)
 
   refusals : (c : Step) → Rule (T .plan) c (refusalOf (c1 c) p1) lines → refusalOf (c1 c) p1 ≡ refusalOf (c2 c) p2
   refusals c rule = alike c rule .0

@@ -13,7 +13,7 @@ use Rattle.vectors.specs.Vector.{Vector, numbers}
 use Rattle.vectors.proofs.Linear.{length-numbers}
 use Rattle.runs.specs.Outline.{Act, Sending, itsOpening, itsMasks, moves, acts, sends}
 use Rattle.runs.specs.Calls.{Post, Call, perform, sentBy, broadcast, sentIf, lineOf, openingLine, masksLine, Among}
-use Rattle.runs.proofs.Marks.{Marks, markOf, rememberedA, rememberedB, less, of, masking, marksAll}
+use Rattle.runs.proofs.Marks.{Marks, markOf, rememberedA, rememberedB, less, of, masking, Masked, marksAll}
 use Rattle.runs.proofs.Outcomes.{refusalOf, refusal-is}
 use Rattle.runs.proofs.Steps.{named, Says, SaysAll, says}
 use Rattle.runs.proofs.Lines.{same-opening, same-masks, not-both, numbers-elements}
@@ -86,7 +86,7 @@ module _ (C : Run) (m : Moment) (S : State C m) where
   allowed-at c z i lo hi =
       subst (λ (ss : List Sending). Allowed (acts c) ss M) (sends-at plan draw u lines i c)
       (subst (λ (todo : List Act). Allowed todo (sends (call i c)) M) (acts-at plan draw u lines i c)
-      (allowed plan draw i M (q i .rows) (call i c)
+      (allowed plan draw i M (S .posts i lo hi .opened) (q i .rows) (call i c)
       (subst (λ (x : Post). refusalOf (call i c) x ≡ 0) (named plan draw (len i) i M vec (q i) (S .posts i lo hi)) (z i lo hi))))
 
   -- ---- what the call broadcasts
@@ -201,11 +201,11 @@ module _ (C : Run) (m : Moment) (S : State C m) where
       pub new-masks : Rule plan c 0 lines → (r j : ℕ) (xs : List ℕ) → AMask C r j xs
           → Among (masksLine r j xs) (broadcast i (call i c) (perform (call i c) (q i)))
           → Past (marksAll (acts c) M) r
-          × (markOf (marksAll (acts c) M) r ≡ 5 → xs ≡ maskNumbers C (marksAll (acts c) M) (vectorsThen plan draw u c M vec) r j)
+          × (Masked (markOf (marksAll (acts c) M) r) → xs ≡ maskNumbers C (marksAll (acts c) M) (vectorsThen plan draw u c M vec) r j)
       new-masks rule r j xs form a =
           go (masks-by (acts c) (sends c) _ _ (not-refused (call i c) z) (al .sending) said r j xs form (heard-line _ a))
         where
-          go : MadeMasks (acts c) r j xs → Past N r × (markOf N r ≡ 5 → xs ≡ maskNumbers C N w r j)
+          go : MadeMasks (acts c) r j xs → Past N r × (Masked (markOf N r) → xs ≡ maskNumbers C N w r j)
           go (x, y, ok, there, e) =
               let k = waits-after plan draw (acts c) M (S .sized) (al .moving) x y r (ok .r-low) there in (
                 k .0,

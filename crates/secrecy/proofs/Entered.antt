@@ -13,9 +13,9 @@ use Rattle.poly.specs.Counting.{All}
 use Rattle.vectors.specs.Vector.{Vector, number}
 use Rattle.vectors.proofs.Linear.{number-plusTimes}
 use Rattle.runs.specs.Draws.{Plan, Draw}
-use Rattle.runs.specs.Outline.{Act, loads, loadsTriple, deals, opens, Summand, once, times, fee, sums, factors, multiplies}
+use Rattle.runs.specs.Outline.{Act, loads, loadsTriple, deals, opens, Summand, once, times, fee, sums, factors, collects, multiplies}
 use Rattle.runs.specs.Calls.{at}
-use Rattle.runs.proofs.Marks.{Marks, Sized, markOf, zeroVector, worthVector, totalVector, rawVector, Masking, none, of, masking, marksBy, at-other}
+use Rattle.runs.proofs.Marks.{Marks, Sized, markOf, zeroVector, worthVector, totalVector, rawVector, Masking, none, of, masking, Masked, marksBy, at-other}
 use Rattle.runs.proofs.Facts.{Maskable, AllowedBy, AllowedAll}
 use Rattle.runs.proofs.Rows.{sized-by, held-by}
 use Rattle.secrecy.specs.Steps.{Secrets}
@@ -55,7 +55,7 @@ module _ (vec : ℕ → Vector) (place : ℕ → ℕ) where
 
 -- the masks of the triple at r were made
 abbrev pub Past : Marks → ℕ → Type 0
-Past M r = (markOf M r ≡ 5) ⊎ (markOf M r ≡ 6)
+Past M r = Masked (markOf M r) ⊎ (markOf M r ≡ 6)
 
 -- the numbers noted with each triple, after masks
 abbrev pub notedA : Masking → Book → ℕ → ℕ
@@ -74,6 +74,7 @@ module _ (u : Secrets) where
   noted-is (opens r) b = (refl, refl)
   noted-is (sums r t ts) b = (refl, refl)
   noted-is (factors x y r) b = (refl, refl)
+  noted-is (collects r) b = (refl, refl)
   noted-is (multiplies r) b = (refl, refl)
 
   -- a held row's place stays; so do the numbers noted for a triple whose masks were made
@@ -84,13 +85,18 @@ module _ (u : Secrets) where
   place-by M b (opens r) al x two = refl
   place-by M b (sums r t ts) al x two = at-other (b .place) r _ x (λ e. omega (arith, ap (markOf M) e, al .0 .r-empty))
   place-by M b (factors y z r) al x two = refl
+  place-by M b (collects r) al x two = refl
   place-by M b (multiplies r) al x two = at-other (b .place) (r + 2) _ x (λ e. omega (arith, ap (markOf M) e, al .0 .third))
 
   notes-stay : (M : Marks) (b : Book) (m : Masking) → Maskable m M → (x : ℕ) → Past M x
       → (notedA m b x ≡ b .factorA x) × (notedB m b x ≡ b .factorB x)
   notes-stay M b none al x past = (refl, refl)
   notes-stay M b (of y z r) al x past =
-      let ne : x ≢ r = elim past [ inl e ↦ (λ g. omega (arith, ap (markOf M) g, al .first)) | inr e ↦ (λ g. omega (arith, ap (markOf M) g, al .first)) ] in
+      let ne : x ≢ r = elim past [
+        | inl (inl e) ↦ (λ g. omega (arith, ap (markOf M) g, al .first))
+        | inl (inr e) ↦ (λ g. omega (arith, ap (markOf M) g, al .first))
+        | inr e ↦ (λ g. omega (arith, ap (markOf M) g, al .first))
+      ] in
       (at-other (b .factorA) r (b .place y) x ne, at-other (b .factorB) r (b .place z) x ne)
 
   pub notes-by : (M : Marks) (b : Book) (a : Act) → AllowedBy a M → (x : ℕ) → Past M x

@@ -13,8 +13,9 @@ use Rattle.sharing.specs.Deal.{dealTests, dealRefusal}
 use Rattle.sharing.specs.Message.{messageTests, messageRefusal}
 use Rattle.sharing.specs.Linear.{linearTests, linearRefusal}
 use Rattle.product.specs.Masks.{masksTests, masksRefusal}
+use Rattle.product.specs.Multiply.{multiplyTests, multiplyRefusal}
 use Rattle.vectors.specs.Vector.{Vector}
-use Rattle.runs.specs.Outline.{loadRow, loadTriple, deal, message, opening, linear, masks, finish, relationMasks, relationFinish, moves}
+use Rattle.runs.specs.Outline.{loadRow, loadTriple, deal, message, opening, linear, masks, collect, multiply, relationMasks, relationFinish, moves}
 use Rattle.runs.specs.Calls.{Post, newPost, after}
 use Rattle.runs.proofs.Marks.{Marks, rawVector, sessionAt}
 use Rattle.runs.proofs.Outcomes as Outcomes
@@ -31,7 +32,7 @@ use Rattle.secrecy.proofs.Advance.{advance}
 use Rattle.secrecy.proofs.Onward.{idle-state}
 use Rattle.secrecy.proofs.Runs.{same-refusal}
 use Rattle.runs.proofs.Outlines.{every-all}
-use Rattle.secrecy.proofs.Thirteen.{Other, never-first, opening-never, finish-never}
+use Rattle.secrecy.proofs.Thirteen.{Other, never-first, opening-never, collect-never}
 use Rattle.secrecy.proofs.Thirteens.{relation-masks-never, relation-finish-never}
 
 -- ---- one call, at one post
@@ -44,10 +45,10 @@ module _ (C : Run) (m : Moment) (S : State C m) (i : ℕ) (lo : 1 ≤ i) (hi : i
   l = q i .rows
 
   abbrev s : Session
-  s = sessionAt plan draw i M
+  s = sessionAt plan draw i M (S .posts i lo hi .opened)
 
   abbrev at-post : Post
-  at-post = postAt plan draw i M l
+  at-post = postAt plan draw i M (S .posts i lo hi .opened) l
 
   low : (ts : List Test) → Other ts → first ts ≡ 13 → ⊥
   low ts w e = never-first ts w e
@@ -76,6 +77,10 @@ module _ (C : Run) (m : Moment) (S : State C m) (i : ℕ) (lo : 1 ≤ i) (hi : i
   unfolding masksRefusal
   masks-never a b r out e = low (masksTests s l a b r out) (omega arith) e
 
+  multiply-never : (r : ℕ) → multiplyRefusal s l r ≡ 13 → ⊥
+  unfolding multiplyRefusal
+  multiply-never r e = low (multiplyTests s l r) (omega arith) e
+
   never-here : (c : Step) → Rule plan c 13 lines → Outcomes.refusalOf (callAt plan draw u lines i c) at-post ≡ 13 → ⊥
   never-here (loadRow x) rule e = load-never (x .r) _ e
   never-here (loadTriple x) rule e = triple-never (x .r) _ e
@@ -85,9 +90,10 @@ module _ (C : Run) (m : Moment) (S : State C m) (i : ℕ) (lo : 1 ≤ i) (hi : i
       opening-never C m S i lo hi (x .r) (x .blocks i lines) (λ j lj hj ne there. rule (inr (inr refl)) i j lo hi lj hj ne there) e
   never-here (linear x) rule e = linear-never (x .r) (x .a) (x .b) (x .scale) (x .fee) e
   never-here (masks x) rule e = masks-never (x .a) (x .b) (x .r) _ e
-  never-here (finish x) rule e =
-      finish-never C m S i lo hi (x .r) (x .blocksA i lines) (x .blocksB i lines) e (λ j lj hj ne there. rule (inr (inr refl)) .0 i j lo hi lj hj ne there)
+  never-here (collect x) rule e =
+      collect-never C m S i lo hi (x .r) (x .blocksA i lines) (x .blocksB i lines) e (λ j lj hj ne there. rule (inr (inr refl)) .0 i j lo hi lj hj ne there)
       (λ j lj hj ne there. rule (inr (inr refl)) .1 i j lo hi lj hj ne there)
+  never-here (multiply x) rule e = multiply-never (x .r) e
   never-here (relationMasks x) rule e = relation-masks-never C m S i lo hi (x .terms) (x .lent i) e
   never-here (relationFinish x) rule e =
       relation-finish-never C m S i lo hi (x .terms) (x .r) (x .blocks) e (every-all _ (moves (relationFinish x)) rule)

@@ -21,7 +21,7 @@ use Rattle.vectors.specs.Vector.{Vector, number, rowOf}
 use Rattle.runs.specs.Draws.{Plan, Draw, IsDraw, Sound, IsRaw, pointOf}
 use Rattle.runs.specs.Outline.{Act, aRecord, acts}
 use Rattle.runs.specs.Calls.{Proper, Post, openingLine, Among}
-use Rattle.runs.proofs.Marks.{Marks, Sized, markOf, rememberedA, rememberedB, sessionAt, less, maskVectorA, maskVectorB, Masking, none, of, masking}
+use Rattle.runs.proofs.Marks.{Marks, Sized, markOf, rememberedA, rememberedB, sessionAt, less, maskVectorA, maskVectorB, Masking, none, of, masking, Masked}
 use Rattle.runs.proofs.Holds.{Holds, wide}
 use Rattle.runs.proofs.Records.{Present, block-many, block-low, alone}
 use Rattle.secrecy.specs.Steps.{Secrets, Step, Record}
@@ -89,7 +89,7 @@ module _ (T : Two) where
     pub group-same : All (λ i. m .posts i ≡ m .posts' i) (T .group)
     pub agreed : (r j : ℕ) (xs : List ℕ) → AnOpening (runOne T) r j xs → Among (openingLine r j xs) (m .lines)
         → m .book .place r ≡ m .book' .place r
-    pub waiting : (r : ℕ) → r < 96 → markOf (m .marks) r ≡ 5
+    pub waiting : (r : ℕ) → r < 96 → Masked (markOf (m .marks) r)
         → (apart (m .book .factorA r) (m .book' .factorA r) ≡ T .Δ r .factor-a)
         × (apart (m .book .factorB r) (m .book' .factorB r) ≡ T .Δ r .factor-b)
 
@@ -99,7 +99,7 @@ module _ (T : Two) where
     pub one : Facts (T .plan) (T .d) (Held b) (Waits b) M vec
     pub two : Facts (T .plan) (T .d') (Held b') (Waits b') M vec'
     pub near : (r : ℕ) → r < 96 → markOf M r ≢ 0 → Near (T .plan .n) (T .plan .t + 1) (pointOf (T .d)) (T .K) (vec r) (vec' r)
-    pub waiting : (r : ℕ) → r < 96 → markOf M r ≡ 5
+    pub waiting : (r : ℕ) → r < 96 → Masked (markOf M r)
         → (apart (b .factorA r) (b' .factorA r) ≡ T .Δ r .factor-a) × (apart (b .factorB r) (b' .factorB r) ≡ T .Δ r .factor-b)
 
   -- ---- numbers in the two runs
@@ -118,7 +118,7 @@ module _ (T : Two) where
     held-gap : (r : ℕ) → r < 96 → markOf M r ≡ 2 → gap (vec r) (vec' r) ≡ apart (b .place r) (b' .place r)
     held-gap r lr two = ap₂ (λ (x y : Element). x ⊕ neg y) (held-two r lr two) (held-one r lr two)
 
-    triple-gap : (r : ℕ) → r < 96 → (markOf M r ≡ 3) ⊎ (markOf M r ≡ 5)
+    triple-gap : (r : ℕ) → r < 96 → (markOf M r ≡ 3) ⊎ Masked (markOf M r)
         → (gap (vec r) (vec' r) ≡ T .Δ r .factor-a) × (gap (vec (r + 1)) (vec' (r + 1)) ≡ T .Δ r .factor-b)
     triple-gap r lr m =
         let x = K .one r lr .triple m in
@@ -126,7 +126,7 @@ module _ (T : Two) where
         (ap₂ gap (x .is-a) (y .is-a) ∙ T .link .gap-a r lr (x .drawn), ap₂ gap (x .is-b) (y .is-b) ∙ T .link .gap-b r lr (x .drawn))
 
     -- the masks have one number in both runs
-    core-masks : (r x y : ℕ) → r < 96 → (markOf M r ≡ 3) ⊎ (markOf M r ≡ 5) → x < 96 → markOf M x ≡ 2 → y < 96 → markOf M y ≡ 2
+    core-masks : (r x y : ℕ) → r < 96 → (markOf M r ≡ 3) ⊎ Masked (markOf M r) → x < 96 → markOf M x ≡ 2 → y < 96 → markOf M y ≡ 2
         → apart (b .place x) (b' .place x) ≡ T .Δ r .factor-a → apart (b .place y) (b' .place y) ≡ T .Δ r .factor-b
         → (number (less (vec x) (vec r)) ≡ number (less (vec' x) (vec' r)))
         × (number (less (vec y) (vec (r + 1))) ≡ number (less (vec' y) (vec' (r + 1))))
@@ -136,7 +136,7 @@ module _ (T : Two) where
           mask-number (vec y) (vec' y) (vec (r + 1)) (vec' (r + 1)) (held-gap y ly hy ∙ eb ∙ sym (g .1)),
         )
 
-    pub core-wait : (r : ℕ) → markOf M r ≡ 5 → r < 96
+    pub core-wait : (r : ℕ) → Masked (markOf M r) → r < 96
         → (number (maskVectorA M vec r) ≡ number (maskVectorA M vec' r)) × (number (maskVectorB M vec r) ≡ number (maskVectorB M vec' r))
     core-wait r five lr =
         let w = K .one r lr .waiting five in
@@ -163,13 +163,13 @@ module _ (T : Two) where
     pub place-number : (r : ℕ) → r < 96 → markOf M r ≡ 2 → b .place r ≡ b' .place r → number (vec r) ≡ number (vec' r)
     place-number = core-place M vec vec' b b' core
 
-    pub masks-number : (r x y : ℕ) → r < 96 → (markOf M r ≡ 3) ⊎ (markOf M r ≡ 5) → x < 96 → markOf M x ≡ 2 → y < 96 → markOf M y ≡ 2
+    pub masks-number : (r x y : ℕ) → r < 96 → (markOf M r ≡ 3) ⊎ Masked (markOf M r) → x < 96 → markOf M x ≡ 2 → y < 96 → markOf M y ≡ 2
         → apart (b .place x) (b' .place x) ≡ T .Δ r .factor-a → apart (b .place y) (b' .place y) ≡ T .Δ r .factor-b
         → (number (less (vec x) (vec r)) ≡ number (less (vec' x) (vec' r)))
         × (number (less (vec y) (vec (r + 1))) ≡ number (less (vec' y) (vec' (r + 1))))
     masks-number = core-masks M vec vec' b b' core
 
-    pub wait-numbers : (r : ℕ) → markOf M r ≡ 5 → r < 96
+    pub wait-numbers : (r : ℕ) → Masked (markOf M r) → r < 96
         → (number (maskVectorA M vec r) ≡ number (maskVectorA M vec' r)) × (number (maskVectorB M vec r) ≡ number (maskVectorB M vec' r))
     wait-numbers = core-wait M vec vec' b b' core
 
@@ -180,7 +180,7 @@ module _ (T : Two) where
 
     module _ (i : ℕ) (lo : 1 ≤ i) (hi : i ≤ T .plan .n) where
       abbrev s : Session
-      s = sessionAt (T .plan) (T .d) i M
+      s = sessionAt (T .plan) (T .d) i M (R .one .posts i lo hi .opened)
 
       abbrev l : List ℕ
       l = q i .rows

@@ -68,7 +68,7 @@ module _ (T : Two) where
   other-by (of x y r') M N z al b b' r np rest = ap (λ (t : Bool). cond t (factorsApart b b' x y) rest) (ne-eqb r r' ne)
     where
       ne : r ≢ r'
-      ne e = np (inl (ap (λ (w : ℕ). getD (set (N .marks) r' 5) w 0) e ∙ getD-set-same (N .marks) r' 5 0 (omega (arith, al .r-low, z .marks))))
+      ne e = np (inl (inl (ap (λ (w : ℕ). getD (set (N .marks) r' 5) w 0) e ∙ getD-set-same (N .marks) r' 5 0 (omega (arith, al .r-low, z .marks)))))
 
   -- the masks made now are those that were reckoned with
   fit-by : (m : Masking) (M : Marks) → Maskable m M → (b b' : Book) (rest : ℕ → Gaps)
@@ -77,7 +77,8 @@ module _ (T : Two) where
   fit-by (of x y r') M al b b' rest h = (ap (λ (g : Gaps). g .factor-a) now, ap (λ (g : Gaps). g .factor-b) now)
     where
       young : Past M r' → ⊥
-      young (inl five) = omega (arith, al .first)
+      young (inl (inl five)) = omega (arith, al .first)
+      young (inl (inr seven)) = omega (arith, al .first)
       young (inr six) = omega (arith, al .first)
 
       now : factorsApart b b' x y ≡ T .Δ r'

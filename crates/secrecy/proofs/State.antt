@@ -18,10 +18,10 @@ use Rattle.factory.specs.Packs.{dealerNumber}
 use Rattle.vectors.specs.Vector.{Vector, raised, number, numbers, vectorOf}
 use Rattle.vectors.proofs.Linear.{length-numbers}
 use Rattle.runs.specs.Draws.{Plan, planShape, Draw, IsDraw, Sound, IsRaw, Raw, by, whenRaw, rawDraw, rawPack, triplePack}
-use Rattle.runs.specs.Outline.{Act, loads, loadsTriple, deals, opens, Summand, once, times, fee, sums, factors, multiplies, Taking, nothingTaken, aRowPack, aTriplePack, aNumber, aRecord, twoRecords, takes, Given, Move, moves, actsIn, acts, sends}
+use Rattle.runs.specs.Outline.{Act, loads, loadsTriple, deals, opens, Summand, once, times, fee, sums, factors, collects, multiplies, Taking, nothingTaken, aRowPack, aTriplePack, aNumber, aRecord, twoRecords, takes, Given, Move, moves, actsIn, acts, sends}
 use Rattle.runs.specs.Calls.{Post, Actual, openingLine, masksLine, Among, at}
 use Rattle.runs.proofs.Outlines.{every-all, givenBy, filledMove, moves-filled}
-use Rattle.runs.proofs.Marks.{Marks, Sized, markOf, rememberedA, rememberedB, maskVectorA, maskVectorB, written, sessionAt, none, of, marksBy, vectorsBy, marksAll, vectorsAll, at-same}
+use Rattle.runs.proofs.Marks.{Marks, Sized, markOf, rememberedA, rememberedB, maskVectorA, maskVectorB, written, noNumbers, sessionAt, none, of, marksBy, vectorsBy, marksAll, vectorsAll, at-same, Masked}
 use Rattle.runs.proofs.Sums.{product-sum}
 use Rattle.runs.proofs.Numbers.{dealt-number, product-number, third-number}
 use Rattle.runs.proofs.Start.{sizes}
@@ -87,7 +87,7 @@ module _ (C : Run) where
     pub openings : (r j : ℕ) (xs : List ℕ) → AnOpening r j xs → Among (openingLine r j xs) (m .lines)
         → (markOf (m .marks) r ≡ 2) × (xs ≡ numbers (C .plan .t + 1) (m .vec r .v j))
     pub maskings : (r j : ℕ) (xs : List ℕ) → AMask r j xs → Among (masksLine r j xs) (m .lines)
-        → Past (m .marks) r × (markOf (m .marks) r ≡ 5 → xs ≡ maskNumbers (m .marks) (m .vec) r j)
+        → Past (m .marks) r × (Masked (markOf (m .marks) r) → xs ≡ maskNumbers (m .marks) (m .vec) r j)
 
   -- a post of it
   abbrev pub standAt : (m : Moment) → State m → (i : ℕ) → 1 ≤ i → i ≤ C .plan .n → Stand
@@ -120,18 +120,18 @@ module _ (C : Run) where
           go Raw.none x = absurd x
           go (by dealer) x = refl
 
-      product-is : (r : ℕ) → Facts.Multiplying 5 M (rememberedA M r) (rememberedB M r) r
+      product-is : (r : ℕ) → Facts.Tripled 7 M r
           → number (written M vec r) ≡ element (product (b .factorA r) (b .factorB r))
       product-is r al =
           let g = f r (omega (arith, al .r-low)) in
-          let t = g .triple (inr (al .first)) in
-          let w = g .waiting (al .first) in
+          let t = g .triple (inr (inr (al .first))) in
+          let w = g .waiting (inr (al .first)) in
           ap number (product-sum vec r _ _)
           ∙ product-number (vec (rememberedA M r)) (vec (rememberedB M r)) (vec r) (vec (r + 1)) (vec (r + 2))
           (ap number (t .is-ab) ∙ third-number plan draw r ∙ sym (ap₂ (λ (X Y : Vector). number X ⊗ number Y) (t .is-a) (t .is-b)))
           ∙ ap₂ _⊗_
-          (f (rememberedA M r) (al .a-low) .held (al .a-held) ∙ ap element (sym (w .means .0)))
-          (f (rememberedB M r) (al .b-low) .held (al .b-held) ∙ ap element (sym (w .means .1)))
+          (f (rememberedA M r) (w .a-low) .held (w .a-held) ∙ ap element (sym (w .means .0)))
+          (f (rememberedB M r) (w .b-low) .held (w .b-held) ∙ ap element (sym (w .means .1)))
           ∙ sym (element-product (b .factorA r) (b .factorB r))
 
       -- the rows of a sum
@@ -153,7 +153,8 @@ module _ (C : Run) where
           total-number vec (b .place) t ts (number-of t (al .0 .held .0)) (all-map number-of ts (al .0 .held .1))
           ∙ ap element (sym (at-same (b .place) r _))
       meant (factors x y r) t al rule = (at-same (b .factorA) r (b .place x), at-same (b .factorB) r (b .place y))
-      meant (multiplies r) blocks al rule = product-is r (al .0) ∙ ap element (sym (at-same (b .place) (r + 2) _))
+      meant (collects r) blocks al rule = tt
+      meant (multiplies r) x al rule = product-is r (al .0) ∙ ap element (sym (at-same (b .place) (r + 2) _))
 
     pub facts-step : (M : Marks) (vec : ℕ → Vector) (b : Book) (a : Act) (x : Given Fixed (takes a)) → Sized M → AllowedBy a M
         → RuleWith plan 0 lines (takes a) x → Facts plan draw (Held b) (Waits b) M vec
@@ -200,11 +201,11 @@ module _ (C : Run) where
       fits-with (aNumber r) x al rule = tt
       fits-with (aRecord r) x al rule = tt
       fits-with (twoRecords r) x al rule = (
-        all-trusted (sessionAt plan draw i M) (x .0 i lines) (maskVectorA M vec r) (λ j lj hj ne there.
+        all-trusted (sessionAt plan draw i M noNumbers) (x .0 i lines) (maskVectorA M vec r) (λ j lj hj ne there.
             let o = rule (inl refl) .0 i j lo hi lj hj ne there in
             o .4 ∙ ap (take (plan .t + 1)) (both-are j lj hj (o .0) (o .1) (o .2) (o .3))
             ∙ take-at (numbers (plan .t + 1) (maskVectorA M vec r .v j)) _ (plan .t + 1) (length-numbers (plan .t + 1) (maskVectorA M vec r .v j))),
-        all-trusted (sessionAt plan draw i M) (x .1 i lines) (maskVectorB M vec r) (λ j lj hj ne there.
+        all-trusted (sessionAt plan draw i M noNumbers) (x .1 i lines) (maskVectorB M vec r) (λ j lj hj ne there.
             let o = rule (inl refl) .1 i j lo hi lj hj ne there in
             o .4 ∙ ap (drop (plan .t + 1)) (both-are j lj hj (o .0) (o .1) (o .2) (o .3))
             ∙ drop-at (numbers (plan .t + 1) (maskVectorA M vec r .v j)) _ (plan .t + 1) (length-numbers (plan .t + 1) (maskVectorA M vec r .v j))),
@@ -214,7 +215,7 @@ module _ (C : Run) where
           both-are : (j : ℕ) → 1 ≤ j → j ≤ plan .n → (both : List ℕ) → length both ≡ 2 * (plan .t + 1) → Elements both
               → Among (masksLine r j both) lines → both ≡ maskNumbers M vec r j
           both-are j lj hj both many els st =
-              S .maskings r j both (record { row = omega (arith, al .r-low); post = (lj, hj); many = many; low = els }) st .1 (al .first)
+              S .maskings r j both (record { row = omega (arith, al .r-low); post = (lj, hj); many = many; low = els }) st .1 (inl (al .first))
 
       fits-all : (ms : List (Move Fixed)) → All (λ a. ReadyFor M (takes a)) (actsIn ms) → All (λ m. RuleWith plan 0 lines (takes (m .0)) (m .1)) ms
           → All (λ m. FitsWith plan draw i M vec (takes (m .0)) (m .1)) (map (filledMove (filling plan draw u lines i)) ms)

@@ -3,6 +3,7 @@
 use Prim.Native.Nat.{ℕ, _+_, _*_, _<_}
 use mathlib.Core.Path.{_≡_, sym, _∙_, ap, subst}
 use mathlib.Core.Bool.{not}
+use mathlib.Core.Logic.{inl, inr}
 use mathlib.Core.List.{List, [], _∷_}
 use native.Mathlib.Omega.{arith}
 use lib.ListN.{length}
@@ -145,7 +146,7 @@ module _ (plan : Plan) (group : List ℕ) (rows : ℕ → List ℕ) (cs : List S
           near = λ r lr ne. absurd (ne (start-mark r));
           group-same = all-of (λ i. ap (λ (f : ℕ → ℕ). record { session = created (plan .n) (plan .t) i (f i) .session; rows = rows i }) (sym (moved-points plan group u u' Δ d))) group;
           agreed = λ r j xs o a. absurd a;
-          waiting = λ r lr five. absurd (omega (arith, start-mark r));
+          waiting = λ r lr masked. elim masked [ inl five ↦ absurd (omega (arith, start-mark r)) | inr seven ↦ absurd (omega (arith, start-mark r)) ];
         }
 
     -- the entries of the run are the record's
@@ -184,7 +185,7 @@ module _ (plan : Plan) (group : List ℕ) (rows : ℕ → List ℕ) (cs : List S
         P : Pair two (ended .end)
         P = ended .pair
 
-        session : q i .session ≡ sessionAt plan d i (ended .end .marks)
+        session : q i .session ≡ sessionAt plan d i (ended .end .marks) (ended .pair .one .posts i lo hi .opened)
         session = sym (ap (λ (f : ℕ → Post). f i .session) (ended .posts-are)) ∙ P .one .posts i lo hi .session
 
         two-is : markOf (ended .end .marks) r ≡ 2

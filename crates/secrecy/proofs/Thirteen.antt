@@ -1,4 +1,4 @@
--- No opening and no finish gets 13 at a post whose records show what their senders broadcast: true polynomials agree.
+-- No opening and no collect gets 13 at a post whose records show what their senders broadcast: true polynomials agree.
 use Prim.Native.Nat.{ℕ, zero, suc, _+_, _*_, _≤_}
 use mathlib.Core.Path.{_≡_, refl, sym, _∙_, ap}
 use mathlib.Core.Bool.{Bool, true, false}
@@ -16,8 +16,9 @@ use Rattle.opening.specs.Walking.{blockCoefficients, tooFew, disagree}
 use Rattle.opening.specs.Opening.{openChecks, openRefusal}
 use Rattle.opening.proofs.Passed.{walkTests, OpenChecked, open-checked, open-walks}
 use Rattle.product.specs.Finish as Finish
-use Rattle.product.specs.Finish.{finishChecks, finishRefusal, unopened}
-use Rattle.product.proofs.Passed.{FinishChecked, finish-checked, finish-walks}
+use Rattle.product.specs.Finish.{unopened}
+use Rattle.product.specs.Collect.{collectChecks, collectRefusal}
+use Rattle.product.proofs.Passed.{CollectChecked, collect-checked, collect-walks}
 use Rattle.vectors.specs.Vector.{Vector, numbers}
 use Rattle.vectors.specs.Claims.{heldRow}
 use Rattle.vectors.proofs.Linear.{length-numbers}
@@ -80,10 +81,10 @@ module _ (C : Run) (m : Moment) (S : State C m) (i : ℕ) (lo : 1 ≤ i) (hi : i
   l = q i .rows
 
   abbrev s : Session
-  s = sessionAt plan draw i M
+  s = sessionAt plan draw i M (S .posts i lo hi .opened)
 
   abbrev holder : Holder
-  holder = record { plan = plan; draw = draw; len = len i; post = i; marks = M; vec = vec; rows = l; holds = S .posts i lo hi .holds }
+  holder = record { plan = plan; draw = draw; len = len i; post = i; marks = M; opened = S .posts i lo hi .opened; vec = vec; rows = l; holds = S .posts i lo hi .holds }
 
   -- true polynomials agree
   pub agrees : (x : List ℕ) (X : Vector) (bl : List ℕ) → x ≡ heldRow s X
@@ -125,7 +126,7 @@ module _ (C : Run) (m : Moment) (S : State C m) (i : ℕ) (lo : 1 ≤ i) (hi : i
     both-are : (j : ℕ) → 1 ≤ j → j ≤ plan .n → (both : List ℕ) → length both ≡ 2 * (plan .t + 1) → Elements both
         → Among (masksLine r j both) lines → both ≡ maskNumbers C M vec r j
     both-are j lj hj both many els st =
-        S .maskings r j both (record { row = omega (arith, ok .r-low); post = (lj, hj); many = many; low = els }) st .1 (ok .first)
+        S .maskings r j both (record { row = omega (arith, ok .r-low); post = (lj, hj); many = many; low = els }) st .1 (inl (ok .first))
 
     a-long : (j : ℕ) → length (numbers (plan .t + 1) (maskVectorA M vec r .v j)) ≡ plan .t + 1
     a-long j = length-numbers (plan .t + 1) (maskVectorA M vec r .v j)
@@ -142,23 +143,23 @@ module _ (C : Run) (m : Moment) (S : State C m) (i : ℕ) (lo : 1 ≤ i) (hi : i
         let o = told j lj hj ne there in
         o .4 ∙ ap (drop (plan .t + 1)) (both-are j lj hj (o .0) (o .1) (o .2) (o .3)) ∙ drop-at (numbers (plan .t + 1) (maskVectorA M vec r .v j)) _ (plan .t + 1) (a-long j))
 
-  module _ (r : ℕ) (blA blB : List ℕ) (e : finishRefusal s l r blA blB ≡ 13) where
+  module _ (r : ℕ) (blA blB : List ℕ) (e : collectRefusal s l r blA blB ≡ 13) where
     abbrev xa : List ℕ
     xa = Finish.maskA s l r
 
     abbrev xb : List ℕ
     xb = Finish.maskB s l r
 
-    g : FinishChecked s l r blA blB
-    unfolding finishRefusal
-    g = finish-checked s l r blA blB (none-before (finishChecks s l r blA blB) (unopened s xa xb blA blB) tt (omega arith) e)
+    g : CollectChecked s l r blA blB
+    unfolding collectRefusal
+    g = collect-checked s l r blA blB (none-before (collectChecks s l r blA blB) (unopened s xa xb blA blB) tt (omega arith) e)
 
     ok : Multiplying 5 M (rememberedA M r) (rememberedB M r) r
-    ok = multiplying plan draw i M l _ _ r 5 (g .placed .factors)
+    ok = multiplying plan draw i M (S .posts i lo hi .opened) l _ _ r 5 (g .placed .factors)
 
-    pub finish-never : Halves r (take (plan .t + 1)) blA → Halves r (drop (plan .t + 1)) blB → ⊥
-    finish-never told-a told-b =
-        let off = walks-off (tooFew s xa blA) (tooFew s xb blB) (disagree s xa blA) (disagree s xb blB) (sym (finish-walks s l r blA blB g) ∙ e) in
+    pub collect-never : Halves r (take (plan .t + 1)) blA → Halves r (drop (plan .t + 1)) blB → ⊥
+    collect-never told-a told-b =
+        let off = walks-off (tooFew s xa blA) (tooFew s xb blB) (disagree s xa blA) (disagree s xb blB) (sym (collect-walks s l r blA blB g) ∙ e) in
         elim (off .2) [
           | inl away ↦ not-both away (agrees-a r ok blA told-a (off .0))
           | inr away ↦ not-both away (agrees-b r ok blB told-b (off .1))

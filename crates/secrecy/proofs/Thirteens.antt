@@ -89,7 +89,7 @@ module _ (C : Run) (m : Moment) (S : State C m) (i : ℕ) (lo : 1 ≤ i) (hi : i
   l = q i .rows
 
   abbrev s : Session
-  s = sessionAt plan draw i M
+  s = sessionAt plan draw i M (S .posts i lo hi .opened)
 
   other-marks : (m : ℕ) (ts : List Term) → Other (each (markTests s m) ts)
   other-marks m ts = other-each (λ k. markTests s m) (other-mark s m) 0 ts
@@ -154,7 +154,7 @@ module _ (C : Run) (m : Moment) (S : State C m) (i : ℕ) (lo : 1 ≤ i) (hi : i
                 subst (λ (x : List ℕ). blockMark (plan .t + 1) x j ≡ 1 → ToldHalf (plan .t) (drop (plan .t + 1)) (t .first) lines j (blockCoefficients (plan .t + 1) x j))
                 (cuts (2 * k + 1)) (shown .1 i j lo hi lj hj ne)))
                 (few .0 .1 .0),
-            all-agree f (suc k) us rest (omega arith) (w .1) (r .1) (few .1) (rule .1),
+            all-agree f (suc k) us rest (omega arith) (w .1) (r .1) (few .1) (rule .1 .1),
           ),
         )
 
@@ -174,6 +174,6 @@ module _ (C : Run) (m : Moment) (S : State C m) (i : ℕ) (lo : 1 ≤ i) (hi : i
         let thirteen = eachAt (offTests s l bl) 0 fs in
         let numbered' = few-numbered s l bl 0 fs in
         let none = none-before nine thirteen numbered' (other-each (fewTests s l bl) (λ k t. omega arith) 0 fs) off in
-        let agree = not-refused thirteen (all-agree f 0 fs (summing d ts) (omega arith) (waiting plan draw i M l ts d bl f) (f .remembered) (each-fail (fewTests s l bl) 0 fs (all-fail nine numbered' none)) rule) in
+        let agree = not-refused thirteen (all-agree f 0 fs (summing d ts) (omega arith) (waiting plan draw i M (S .posts i lo hi .opened) l ts d bl f) (f .remembered) (each-fail (fewTests s l bl) 0 fs (all-fail nine numbered' none)) rule) in
         let wrong : _≡_ {A = ℕ} 0 13 = sym (first-join nine thirteen numbered' ∙ ap₂ orElse none agree) ∙ off in
         omega arith

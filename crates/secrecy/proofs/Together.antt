@@ -14,12 +14,12 @@ use Rattle.poly.proofs.Lists.{all-map}
 use Rattle.factory.specs.Draw.{eachFrom}
 use Rattle.vectors.specs.Vector.{Vector, raised, number}
 use Rattle.runs.specs.Draws.{pointOf, rawPack, triplePack}
-use Rattle.runs.specs.Outline.{Act, loads, loadsTriple, deals, opens, Summand, once, times, fee, sums, factors, multiplies, takes, Given, Move, moves, actsIn, acts, sends, filled}
+use Rattle.runs.specs.Outline.{Act, loads, loadsTriple, deals, opens, Summand, once, times, fee, sums, factors, collects, multiplies, takes, Given, Move, moves, actsIn, acts, sends, filled}
 use Rattle.runs.specs.Calls.{Call, perform, at}
 use Rattle.runs.proofs.Outlines.{every-all}
-use Rattle.runs.proofs.Marks.{Marks, markOf, rememberedA, rememberedB, remarked, finished, maskVectorA, maskVectorB, zeroVector, worthVector, totalVector, productSum, written, Masking, none, of, masking, marksBy, vectorsBy, marksAll, vectorsAll, at-same, at-other}
+use Rattle.runs.proofs.Marks.{Marks, markOf, remarked, finished, maskVectorA, maskVectorB, zeroVector, worthVector, totalVector, productSum, written, Masking, none, of, masking, marksBy, vectorsBy, marksAll, vectorsAll, at-same, at-other}
 use Rattle.runs.proofs.Outcomes.{refusalOf, refusal-is}
-use Rattle.runs.proofs.Facts.{HeldIn, AllowedBy, AllowedAll, Allowed, MasksBy, Multiplying}
+use Rattle.runs.proofs.Facts.{HeldIn, AllowedBy, AllowedAll, Allowed, MasksBy, Tripled}
 use Rattle.runs.proofs.Rows.{sized-by, five-by}
 use Rattle.secrecy.specs.Steps.{Fixed, Step, Pack, Number, own, sent, packed, dealtWith, callAt, heardFrom, dealtNumber}
 use Rattle.secrecy.specs.Seen.{posts, joined, linesOf}
@@ -157,11 +157,11 @@ module _ (T : Two) (lines : List (List ℕ)) where
     near-of (times s x) h = K .near x (h .0) (nonzero x 1 (h .1))
     near-of (fee k) h = tt
 
-    near-finish : (x : ℕ) → Multiplying 5 M (rememberedA M x) (rememberedB M x) x
+    near-finish : (x : ℕ) → Tripled 7 M x
         → AllNear (finished M x) (at vec (x + 2) (written M vec x)) (at vec' (x + 2) (written M vec' x))
     near-finish x al =
         near-put (remarked (remarked M x 6) (x + 1) 6) vec vec'
-        (near-mark (remarked M x 6) vec vec' (near-mark M vec vec' (K .near) x 6 (nonzero x 4 (al .first))) (x + 1) 6 second) (x + 2) 2 (written M vec x) (written M vec' x) new
+        (near-mark (remarked M x 6) vec vec' (near-mark M vec vec' (K .near) x 6 (nonzero x 6 (al .first))) (x + 1) 6 second) (x + 2) 2 (written M vec x) (written M vec' x) new
       where
         second : markOf (remarked M x 6) (x + 1) ≢ 0
         second g = omega (arith, getD-set-other (M .marks) x (x + 1) 6 0 (omega arith), al .second)
@@ -170,7 +170,7 @@ module _ (T : Two) (lines : List (List ℕ)) where
         low = al .r-low
 
         w : (number (maskVectorA M vec x) ≡ number (maskVectorA M vec' x)) × (number (maskVectorB M vec x) ≡ number (maskVectorB M vec' x))
-        w = core-wait T M vec vec' b b' K x (al .first) (omega (arith, low))
+        w = core-wait T M vec vec' b b' K x (inr (al .first)) (omega (arith, low))
 
         y : ℕ
         y = number (maskVectorA M vec x) .0
@@ -179,7 +179,7 @@ module _ (T : Two) (lines : List (List ℕ)) where
         y' = number (maskVectorB M vec x) .0
 
         n0 : Nearly (vec x) (vec' x)
-        n0 = K .near x (omega (arith, low)) (nonzero x 4 (al .first))
+        n0 = K .near x (omega (arith, low)) (nonzero x 6 (al .first))
 
         n1 : Nearly (vec (x + 1)) (vec' (x + 1))
         n1 = K .near (x + 1) (omega (arith, low)) (nonzero (x + 1) 3 (al .second))
@@ -218,7 +218,8 @@ module _ (T : Two) (lines : List (List ℕ)) where
     near-by (sums r t ts) x al rule =
         near-put M vec vec' (K .near) r 2 _ _ (near-total vec vec' t ts (near-of t (al .0 .held .0)) (all-map near-of ts (al .0 .held .1)))
     near-by (factors x y r) t al rule = near-mark M vec vec' (K .near) r 5 (nonzero r 2 (al .1 .first))
-    near-by (multiplies r) blocks al rule = near-finish r (al .0)
+    near-by (collects r) blocks al rule = near-mark M vec vec' (K .near) r 7 (nonzero r 4 (al .0 .first))
+    near-by (multiplies r) x al rule = near-finish r (al .0)
 
     -- a triple whose masks the act makes: they are those that were reckoned with
     masked-now : (m : Masking) → FitBy T m b b' → (r : ℕ) → MasksBy m r

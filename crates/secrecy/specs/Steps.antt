@@ -9,7 +9,7 @@ use Rattle.factory.specs.Packs.{dealerNumber}
 use Rattle.runs.specs.Draws.{Plan, Draw, whenRaw, rawDraw, rawPack, triplePack}
 use Rattle.runs.specs.Outline.{cut, Kinds, CallOf, outline, Filling, filled}
 use Rattle.runs.specs.Calls.{Actual, Call}
-pub use Rattle.runs.specs.Calls.{loadRow, loadTriple, deal, opening, linear, masks, finish, relationMasks, relationFinish}
+pub use Rattle.runs.specs.Calls.{loadRow, loadTriple, deal, opening, linear, masks, collect, multiply, relationMasks, relationFinish}
 
 -- "A list of secrets gives one u for each row with a dealer."
 abbrev pub Secrets : Type 0

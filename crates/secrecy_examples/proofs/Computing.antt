@@ -17,7 +17,9 @@ use Rattle.agreement.specs.Agreement.{allPairs}
 use Rattle.opening.specs.Accepting as Accepting
 use Rattle.opening.specs.Opening.{openRefusal}
 use Rattle.product.specs.Masks.{masksRefusal, maskNumbersOf}
-use Rattle.product.specs.Finish.{finishRefusal, productRow, withProduct}
+use Rattle.product.specs.Finish.{productRow, withProduct}
+use Rattle.product.specs.Collect.{collectRefusal}
+use Rattle.product.specs.Multiply.{multiplyRefusal}
 use Rattle.terms.specs.Listed.{productsOf, padded}
 use Rattle.relation.specs.Tests.{eachAt, namedIn, namedTwice}
 use Rattle.relation.specs.Masks.{relationMasksRefusal, maskedTerms, termMasks}
@@ -31,5 +33,5 @@ use Rattle.secrecy.specs.Seen.{Seen, posts, allRows, joined, entryOf, run, poly
 use Rattle.secrecy_examples.specs.Example.{Example, seenOf}
 
 unfoldable pub sees : Example → Seen
-unfolding sum product difference euclid inverse value nodal weight terms interpolated outcome anyBeyond eachFrom part dealerRefusal combined plusSums created loadRowRefusal loadTripleRefusal withTriple dealRefusal messageRefusal linearRefusal Blocks.badBlock Blocks.badBlocks Blocks.sent Accepting.accepts Accepting.share Accepting.passing Accepting.walk Accepting.opened Accepting.disagree allPairs openRefusal masksRefusal maskNumbersOf finishRefusal productRow withProduct productsOf padded eachAt namedIn namedTwice relationMasksRefusal maskedTerms termMasks recordTests relationFinishRefusal withProducts plusTerms finishedTerms lastDigits sizeWithin fields pointOf rawDraw tripleDraw rawPack triplePack perform newPost at dealtNumber posts allRows joined entryOf run polynomialSeen dealSeen rawSeen tripleSeen seen
+unfolding sum product difference euclid inverse value nodal weight terms interpolated outcome anyBeyond eachFrom part dealerRefusal combined plusSums created loadRowRefusal loadTripleRefusal withTriple dealRefusal messageRefusal linearRefusal Blocks.badBlock Blocks.badBlocks Blocks.sent Accepting.accepts Accepting.share Accepting.passing Accepting.walk Accepting.opened Accepting.disagree allPairs openRefusal masksRefusal maskNumbersOf collectRefusal multiplyRefusal productRow withProduct productsOf padded eachAt namedIn namedTwice relationMasksRefusal maskedTerms termMasks recordTests relationFinishRefusal withProducts plusTerms finishedTerms lastDigits sizeWithin fields pointOf rawDraw tripleDraw rawPack triplePack perform newPost at dealtNumber posts allRows joined entryOf run polynomialSeen dealSeen rawSeen tripleSeen seen
 sees x = seenOf x

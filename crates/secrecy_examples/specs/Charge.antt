@@ -9,7 +9,7 @@ use Rattle.field.specs.Modulus.{p}
 use Rattle.forms.specs.Lines.{text}
 use Rattle.forms.specs.Lines as Line
 use Rattle.runs.specs.Calls.{openingLine}
-use Rattle.secrecy.specs.Steps.{Record, Step, own, sent, loadRow, loadTriple, deal, message, opening, linear, masks, finish}
+use Rattle.secrecy.specs.Steps.{Record, Step, own, sent, loadRow, loadTriple, deal, message, opening, linear, masks, collect, multiply}
 use Rattle.secrecy.specs.Seen.{Entry, Seen, posts}
 use Rattle.secrecy_examples.specs.Example.{Example, openedBy, bookedAt, padded, of, blocks, present}
 use Rattle.secrecy_examples.specs.ThreePosts.{raws, triples, group, draw, zeros, masksA, masksB}
@@ -33,7 +33,8 @@ stepsWith fee =
     ∷ linear 2 0 1 0 fee
     ∷ loadTriple 3 (own 3)
     ∷ masks 2 1 3 (λ i. replicate 4 0)
-    ∷ finish 3 masksA masksB
+    ∷ collect 3 masksA masksB
+    ∷ multiply 3
     ∷ message 5 (λ i. replicate 2 0) (λ i. true)
     ∷ opening 5 charges
     ∷ []
@@ -75,6 +76,7 @@ told =
     ∷ call 0 0 [] (dealt ++ raised0)
     ∷ call 0 0 [] ready
     ∷ call 0 0 masksLines ready
+    ∷ call 0 0 [] ready
     ∷ call 0 0 [] finished
     ∷ call 0 0 (map (λ j. openingLine 5 j (of chargeSent j)) (posts 3)) finished
     ∷ call 0 12 [] finished
@@ -114,7 +116,7 @@ charge = chargeWith 1
 
 -- The opening is the 11th call of the list.
 abbrev pub ChargeOpened : Type 0
-ChargeOpened = openedBy charge 10 ≡ replicate 3 12
+ChargeOpened = openedBy charge 11 ≡ replicate 3 12
 
 -- Document 02, (i): "A charge opened is the plain sum with the fee, and that is the number which must agree between two lists of
 -- secrets": the product in both books, and what it would be without the fee.

@@ -9,7 +9,7 @@ use Rattle.field.specs.Modulus.{p}
 use Rattle.factory.specs.Draw.{eachFrom}
 use Rattle.runs.specs.Draws.{Raw, Draw, by}
 use Rattle.secrecy.specs.Steps as Steps
-use Rattle.secrecy.specs.Steps.{Pack, Record, Step, own, sent, loadRow, loadTriple, deal, message, opening, linear, masks, finish}
+use Rattle.secrecy.specs.Steps.{Pack, Record, Step, own, sent, loadRow, loadTriple, deal, message, opening, linear, masks, collect, multiply}
 use Rattle.secrecy.specs.Seen.{member}
 use Rattle.secrecy_examples.specs.Example.{padded, of, blocks, present}
 
@@ -122,8 +122,8 @@ abbrev pub messageOf : ℕ → List ℕ → Step
 messageOf r senders = message r (λ i. replicate 3 0) (λ i. member i senders)
 
 -- Refused: another post's pack (7), packs of wrong lengths (5), a deal of a row that is empty (7), a load into row 3, which holds
--- a sum by then (7), a triple at row 94 (6), a finish and an opening with too few polynomials (9), an opening with a record of a
--- wrong length (5).
+-- a sum by then (7), a triple at row 94 (6), a product before its masks are opened (7), a collect and an opening with too few
+-- polynomials (9), an opening with a record of a wrong length (5).
 unfoldable pub steps : List Step
 steps =
     loadRow 0 (own 0)
@@ -141,8 +141,10 @@ steps =
     ∷ loadTriple 4 (own 4)
     ∷ linear 7 0 1 1 0
     ∷ masks 0 1 4 (λ i. replicate 6 i)
-    ∷ finish 4 (masksA one) (masksB one)
-    ∷ finish 4 (masksA forA) (masksB forB)
+    ∷ multiply 4
+    ∷ collect 4 (masksA one) (masksB one)
+    ∷ collect 4 (masksA forA) (masksB forB)
+    ∷ multiply 4
     ∷ messageOf 6 (3 ∷ [])
     ∷ opening 6 (heardBy onlyThree (of productSent))
     ∷ messageOf 6 (1 ∷ 4 ∷ [])

@@ -96,7 +96,9 @@ told =
     ∷ call 0 0 [] loaded
     ∷ call 0 0 [] (loaded ++ (summed ∷ []))
     ∷ call 0 0 masksLines (loaded ++ (summed ∷ []))
+    ∷ call 7 0 [] (loaded ++ (summed ∷ []))
     ∷ call 9 0 [] (loaded ++ (summed ∷ []))
+    ∷ call 0 0 [] (loaded ++ (summed ∷ []))
     ∷ call 0 0 [] finished
     ∷ call 0 0 (openingLines 6 productSent (3 ∷ [])) finished
     ∷ call 9 0 [] finished
@@ -150,7 +152,7 @@ four =
 
 -- The product's opening is the 21st call of the list, that of the sum with a half the 24th.
 abbrev pub FourOpened : Type 0
-FourOpened = (openedBy four 20 ≡ replicate 4 30) × (openedBy four 23 ≡ replicate 4 8)
+FourOpened = (openedBy four 22 ≡ replicate 4 30) × (openedBy four 25 ≡ replicate 4 8)
 
 -- The product, in row 6, is the same in both books; the sum in row 7, which is not opened, is not.
 abbrev pub FourBooks : Type 0

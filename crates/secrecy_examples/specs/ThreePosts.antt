@@ -5,7 +5,7 @@ use mathlib.Core.Bool.{true}
 use mathlib.Core.List.{List, [], _∷_}
 use lib.ListN.{take, drop, replicate}
 use Rattle.runs.specs.Draws.{Raw, Draw, by}
-use Rattle.secrecy.specs.Steps.{Record, Step, own, sent, loadRow, loadTriple, deal, message, opening, linear, masks, finish}
+use Rattle.secrecy.specs.Steps.{Record, Step, own, sent, loadRow, loadTriple, deal, message, opening, linear, masks, collect, multiply}
 use Rattle.secrecy_examples.specs.Example.{padded, of, blocks, present}
 
 -- Row 0 is dealt by post 1, row 1 by someone who is no post, row 2 by post 3, which is in the group; one triple, at row 3.
@@ -72,7 +72,8 @@ products i lines = blocks 3 (λ j. present (of productSent j))
 unfoldable pub sums : Record
 sums i lines = blocks 3 (λ j. present (of sumSent j))
 
--- A second deal of row 0 is refused (7), a sum into row 96 too (6), and an opening of the product before any message (9).
+-- A second deal of row 0 is refused (7), a sum into row 96 too (6), masks collected once more (7), and an opening of the product before
+-- any message (9). The messages of row 6 are made between the two calls of the finish.
 unfoldable pub steps : List Step
 steps =
     loadRow 0 (own 0)
@@ -86,10 +87,12 @@ steps =
     ∷ linear 6 0 1 1 0
     ∷ linear 96 0 1 1 0
     ∷ masks 0 1 3 (λ i. replicate 4 0)
-    ∷ finish 3 masksA masksB
+    ∷ collect 3 masksA masksB
+    ∷ collect 3 masksA masksB
+    ∷ message 6 (λ i. replicate 2 0) (λ i. true)
+    ∷ multiply 3
     ∷ opening 5 nothing
     ∷ message 5 (λ i. replicate 2 0) (λ i. true)
     ∷ opening 5 products
-    ∷ message 6 (λ i. replicate 2 0) (λ i. true)
     ∷ opening 6 sums
     ∷ []

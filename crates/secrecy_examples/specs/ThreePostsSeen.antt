@@ -83,11 +83,13 @@ told =
     ∷ call 0 0 [] summed
     ∷ call 6 0 [] summed
     ∷ call 0 0 masksLines summed
+    ∷ call 0 0 [] summed
+    ∷ call 7 0 [] summed
+    ∷ call 0 0 sumLines summed
     ∷ call 0 0 [] finished
     ∷ call 9 0 [] finished
     ∷ call 0 0 productLines finished
     ∷ call 0 42 [] finished
-    ∷ call 0 0 sumLines finished
     ∷ call 0 13 [] finished
     ∷ []
 
@@ -123,4 +125,4 @@ three =
 
 -- The product's opening is the 15th call of the list, the sum's the 17th.
 abbrev pub ThreeOpened : Type 0
-ThreeOpened = (openedBy three 14 ≡ replicate 3 42) × (openedBy three 16 ≡ replicate 3 13)
+ThreeOpened = (openedBy three 17 ≡ replicate 3 42) × (openedBy three 18 ≡ replicate 3 13)

@@ -4,7 +4,7 @@ use mathlib.Core.List.{List, [], _∷_, _++_}
 use lib.ListN.{getD, set, replicate}
 use Rattle.shape.specs.declared.Shape.{Shape}
 use Rattle.shape.specs.Bounds.{rowCount}
-use Rattle.shape.specs.Marks.{empty, held, unused, further, masked, spent}
+use Rattle.shape.specs.Marks.{empty, held, unused, further, masked, spent, collected}
 use Rattle.shape.specs.Lengths.{shape}
 use Rattle.refusal.specs.Refusal.{Test, _when_, first, outcome}
 use Rattle.refusal.specs.Conditions.{outside, badPoint, postsTests}
@@ -32,18 +32,71 @@ factorA s r = getD (s .«factor_a») r 0
 abbrev pub factorB : Session → ℕ → ℕ
 factorB s r = getD (s .«factor_b») r 0
 
+-- "The session remembers the two numbers for each row" (document 02, (viii)): y and y' stand at the triple's first row.
+abbrev pub openedA : Session → ℕ → ℕ
+openedA s r = getD (s .«y_a») r 0
+
+abbrev pub openedB : Session → ℕ → ℕ
+openedB s r = getD (s .«y_b») r 0
+
 -- The session with one part of it anew. These and `sessionOf` name every field; nothing else does.
 abbrev pub withPoint : Session → ℕ → Session
-withPoint s w = record { n = s .n; t = s .t; post = s .post; point = w; marks = s .marks; «factor_a» = s .«factor_a»; «factor_b» = s .«factor_b» }
+withPoint s w =
+    record {
+      n = s .n;
+      t = s .t;
+      post = s .post;
+      point = w;
+      marks = s .marks;
+      «factor_a» = s .«factor_a»;
+      «factor_b» = s .«factor_b»;
+      «y_a» = s .«y_a»;
+      «y_b» = s .«y_b»;
+    }
 
 abbrev pub withMarks : Session → List ℕ → Session
 withMarks s marks =
-    record { n = s .n; t = s .t; post = s .post; point = s .point; marks = marks; «factor_a» = s .«factor_a»; «factor_b» = s .«factor_b» }
+    record {
+      n = s .n;
+      t = s .t;
+      post = s .post;
+      point = s .point;
+      marks = marks;
+      «factor_a» = s .«factor_a»;
+      «factor_b» = s .«factor_b»;
+      «y_a» = s .«y_a»;
+      «y_b» = s .«y_b»;
+    }
 
 abbrev pub withFactors : Session → List ℕ → List ℕ → Session
 withFactors s «factor_a» «factor_b» =
-    record { n = s .n; t = s .t; post = s .post; point = s .point; marks = s .marks; «factor_a» = «factor_a»; «factor_b» = «factor_b» }
+    record {
+      n = s .n;
+      t = s .t;
+      post = s .post;
+      point = s .point;
+      marks = s .marks;
+      «factor_a» = «factor_a»;
+      «factor_b» = «factor_b»;
+      «y_a» = s .«y_a»;
+      «y_b» = s .«y_b»;
+    }
 
+abbrev pub withOpened : Session → List ℕ → List ℕ → Session
+withOpened s «y_a» «y_b» =
+    record {
+      n = s .n;
+      t = s .t;
+      post = s .post;
+      point = s .point;
+      marks = s .marks;
+      «factor_a» = s .«factor_a»;
+      «factor_b» = s .«factor_b»;
+      «y_a» = «y_a»;
+      «y_b» = «y_b»;
+    }
+
+-- A new session remembers no rows and no numbers: "0 when new".
 abbrev pub sessionOf : ℕ → ℕ → ℕ → ℕ → Session
 sessionOf n t post point =
     record {
@@ -54,6 +107,8 @@ sessionOf n t post point =
       marks = replicate rowCount empty;
       «factor_a» = replicate rowCount 0;
       «factor_b» = replicate rowCount 0;
+      «y_a» = replicate rowCount 0;
+      «y_b» = replicate rowCount 0;
     }
 
 -- The session with another mark on row r.
@@ -75,6 +130,14 @@ loadedTriple s r = markedTriple s r unused further further
 -- "The triple's first mark becomes 5, and a and b are remembered."
 abbrev pub maskedTriple : Session → ℕ → ℕ → ℕ → Session
 maskedTriple s r a b = remembering (marked s r masked) r a b
+
+-- The session that remembers the numbers y and y' of the triple at r.
+abbrev pub recalling : Session → ℕ → ℕ → ℕ → Session
+recalling s r y y' = withOpened s (set (s .«y_a») r y) (set (s .«y_b») r y')
+
+-- "The first call opens y and y' and remembers them; the triple's first row then has mark 7."
+abbrev pub collectedTriple : Session → ℕ → ℕ → ℕ → Session
+collectedTriple s r y y' = recalling (marked s r collected) r y y'
 
 -- "Marks become 6, 6, 2."
 abbrev pub finishedTriple : Session → ℕ → Session

@@ -8,7 +8,7 @@ use shape::Shape;
 ghost use mathlib.Core.Path.{_≡_};
 ghost use Prim.Native.Nat.{_≤_};
 ghost use Rattle.shape.specs.Bounds.{lastRow, lastTriple};
-ghost use Rattle.session.specs.Sessions.{shapeOf, partyOf, marked, markedTriple, maskedTriple, sessionOf, holding, created};
+ghost use Rattle.session.specs.Sessions.{shapeOf, partyOf, marked, markedTriple, maskedTriple, collectedTriple, sessionOf, holding, created};
 
 // Who opens a number: the station's shape, the post's own number and its check point.
 pub struct Party {
@@ -28,6 +28,9 @@ pub struct Session {
     // the factor rows that the masks of a triple remember, at its first row
     pub factor_a: [u8; shape::ROWS],
     pub factor_b: [u8; shape::ROWS],
+    // the numbers that the masks of a triple were opened to, at its first row
+    pub y_a: [u32; shape::ROWS],
+    pub y_b: [u32; shape::ROWS],
 }
 
 // What a call hands back.
@@ -39,7 +42,7 @@ pub struct Answer {
 }
 
 impl Session {
-    // All rows are empty, and no factor rows are remembered.
+    // All rows are empty, and no factor rows and no numbers are remembered.
     fn empty(n: usize, t: usize, post: usize, point: u32) -> Session
         ensures { λ r. ⌜ r ≡ sessionOf n t post point ⌝ }
     {
@@ -51,6 +54,8 @@ impl Session {
             marks: [shape::EMPTY; shape::ROWS],
             factor_a: [0; shape::ROWS],
             factor_b: [0; shape::ROWS],
+            y_a: [0; shape::ROWS],
+            y_b: [0; shape::ROWS],
         }
     }
 
@@ -135,6 +140,17 @@ impl Session {
         self.marks[first] = shape::MASKED;
         self.factor_a[first] = a as u8;
         self.factor_b[first] = b as u8;
+        self.done(0)
+    }
+
+    // Done: the masks of the triple at `first` were opened to y_a and y_b.
+    pub fn done_collecting(mut self, first: usize, y_a: u32, y_b: u32) -> Answer
+        requires { ⌜ first ≤ lastTriple ⌝ }
+        ensures { λ r. ⌜ r ≡ holding 0 0 (collectedTriple self first «y_a» «y_b») ⌝ }
+    {
+        self.marks[first] = shape::COLLECTED;
+        self.y_a[first] = y_a;
+        self.y_b[first] = y_b;
         self.done(0)
     }
 }

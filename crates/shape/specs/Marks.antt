@@ -26,6 +26,10 @@ masked = 5
 abbrev pub spent : ℕ
 spent = 6
 
+-- document 02, (viii): "The first call opens y and y' and remembers them; the triple's first row then has mark 7."
+abbrev pub collected : ℕ
+collected = 7
+
 -- of a record's block: "a mark (0 absent, 1 present)"
 abbrev pub absent : ℕ
 absent = 0

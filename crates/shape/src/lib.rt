@@ -45,6 +45,8 @@ pub const FURTHER: u8 = 4;
 pub const MASKED: u8 = 5;
 
 pub const SPENT: u8 = 6;
+// of a triple's first row, once its masks were opened
+pub const COLLECTED: u8 = 7;
 
 // The marks of a record's blocks.
 pub const ABSENT: u32 = 0;

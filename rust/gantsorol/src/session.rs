@@ -17,12 +17,17 @@ pub struct Session {
     pub post: usize,
     /// The post's check point.
     pub point: u32,
-    /// The mark of each row: 0 empty, 1 raw, 2 held; 3, 4 and 5 belong to triples, 6 is spent.
+    /// The mark of each row: 0 empty, 1 raw, 2 held; 3, 4, 5 and 7 belong to triples, 6 is
+    /// spent.
     pub marks: [u8; ROWS],
     /// At the first row of a triple whose masks were sent: the first factor's row.
     pub factor_a: [u8; ROWS],
     /// At the first row of a triple whose masks were sent: the second factor's row.
     pub factor_b: [u8; ROWS],
+    /// At the first row of a triple whose masks were opened: y = a − l. It stays after the product.
+    pub y_a: [u32; ROWS],
+    /// At the first row of a triple whose masks were opened: y' = b − l'. It stays after the product.
+    pub y_b: [u32; ROWS],
 }
 
 /// What a call on a session hands back.
@@ -145,7 +150,7 @@ impl Session {
         }
     }
 
-    /// The first half of a product: for held a and b, perhaps the same, and the unused triple at
+    /// The first step of a product: for held a and b, perhaps the same, and the unused triple at
     /// `first`, writes the masks into `out`, [`masks_len`](crate::masks_len) numbers: the
     /// coefficients of a − l, then of b − l'. The triple serves no other product.
     /// Refusals 1 to 8.
@@ -166,22 +171,16 @@ impl Session {
         }
     }
 
-    /// The second half: opens a − l with the record `record_a` and b − l' with `record_b`, each like
-    /// [`open`](Self::open), and writes the product into row `first` + 2, which becomes held. A
-    /// refused finish may be called again. Refusals 1 to 9, 13.
+    /// The second step: opens a − l with the record `record_a` and b − l' with `record_b`, each like
+    /// [`open`](Self::open), and remembers the two numbers. A refused collect may be called again;
+    /// after one that was done, another gets 7. Refusals 1 to 9, 13.
     #[inline]
-    pub fn finish(
-        self,
-        rows: &mut [u32],
-        first: usize,
-        record_a: &[u32],
-        record_b: &[u32],
-    ) -> Answer {
-        // SAFETY: each list is a borrowed slice's pointer and length, and `rows` overlaps no other.
+    pub fn collect(self, rows: &[u32], first: usize, record_a: &[u32], record_b: &[u32]) -> Answer {
+        // SAFETY: each list is a borrowed slice's pointer and length; none is written.
         unsafe {
-            sys::gantsorol_finish(
+            sys::gantsorol_collect(
                 self,
-                rows.as_mut_ptr(),
+                rows.as_ptr(),
                 rows.len(),
                 first,
                 record_a.as_ptr(),
@@ -190,5 +189,13 @@ impl Session {
                 record_b.len(),
             )
         }
+    }
+
+    /// The third step: writes the product, from the two numbers remembered, into row `first` + 2,
+    /// which becomes held. Refusals 1 to 8.
+    #[inline]
+    pub fn multiply(self, rows: &mut [u32], first: usize) -> Answer {
+        // SAFETY: the list is a borrowed slice's pointer and length.
+        unsafe { sys::gantsorol_multiply(self, rows.as_mut_ptr(), rows.len(), first) }
     }
 }

@@ -71,15 +71,22 @@ extern "C" {
         out_len: usize,
     ) -> Answer;
 
-    pub fn gantsorol_finish(
+    pub fn gantsorol_collect(
         session: Session,
-        rows: *mut u32,
+        rows: *const u32,
         rows_len: usize,
         first: usize,
         record_a: *const u32,
         record_a_len: usize,
         record_b: *const u32,
         record_b_len: usize,
+    ) -> Answer;
+
+    pub fn gantsorol_multiply(
+        session: Session,
+        rows: *mut u32,
+        rows_len: usize,
+        first: usize,
     ) -> Answer;
 
     pub fn gantsorol_relation_masks(

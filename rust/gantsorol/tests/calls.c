@@ -19,6 +19,8 @@ static void layout(void) {
     FIELD(gantsorol_session, marks);
     FIELD(gantsorol_session, factor_a);
     FIELD(gantsorol_session, factor_b);
+    FIELD(gantsorol_session, y_a);
+    FIELD(gantsorol_session, y_b);
     SIZE(gantsorol_answer);
     FIELD(gantsorol_answer, refusal);
     FIELD(gantsorol_answer, value);
@@ -78,34 +80,48 @@ static void multiply(void) {
         put(record_b, i, masks + i * MASKS + T + 1);
     }
 
-    /* Refused: one triple for two products, one block only, p, no records, rows above 93, an empty triple. */
+    /* Refused: one triple for two products, one block only, p, no records, rows above 93, an empty triple, nothing collected. */
     keep(0, gantsorol_masks(posts[0], rows[0], ALL, 0, 1, 93, masks, MASKS));
-    keep(0, gantsorol_finish(posts[0], rows[0], ALL, 93, record_a, RECORD, none, RECORD));
-    keep(0, gantsorol_finish(posts[0], rows[0], ALL, 93, none, RECORD, record_b, RECORD));
+    keep(0, gantsorol_collect(posts[0], rows[0], ALL, 93, record_a, RECORD, none, RECORD));
+    keep(0, gantsorol_collect(posts[0], rows[0], ALL, 93, none, RECORD, record_b, RECORD));
     uint32_t true_one = record_b[BLOCK + 1];
     record_b[BLOCK + 1] = GANTSOROL_MODULUS;
-    keep(0, gantsorol_finish(posts[0], rows[0], ALL, 93, record_a, RECORD, record_b, RECORD));
+    keep(0, gantsorol_collect(posts[0], rows[0], ALL, 93, record_a, RECORD, record_b, RECORD));
     record_b[BLOCK + 1] = true_one;
-    keep(0, gantsorol_finish(posts[0], rows[0], ALL, 93, NULL, 0, NULL, 0));
-    keep(0, gantsorol_finish(posts[0], rows[0], ALL, 94, record_a, RECORD, record_b, RECORD));
-    keep(0, gantsorol_finish(posts[0], rows[0], ALL, 92, record_a, RECORD, record_b, RECORD));
+    keep(0, gantsorol_collect(posts[0], rows[0], ALL, 93, NULL, 0, NULL, 0));
+    keep(0, gantsorol_collect(posts[0], rows[0], ALL, 94, record_a, RECORD, record_b, RECORD));
+    keep(0, gantsorol_collect(posts[0], rows[0], ALL, 92, record_a, RECORD, record_b, RECORD));
+    keep(0, gantsorol_multiply(posts[0], rows[0], ALL, 93));
 
     /* A false polynomial for b - l' from post 2 is not accepted where another post is there. */
     record_b[BLOCK + 1]++;
-    keep(0, gantsorol_finish(posts[0], rows[0], ALL, 93, record_a, RECORD, record_b, RECORD));
+    keep(0, gantsorol_collect(posts[0], rows[0], ALL, 93, record_a, RECORD, record_b, RECORD));
     record_b[BLOCK + 1]--;
     for (int i = 1; i < N; i++)
-        keep(i, gantsorol_finish(posts[i], rows[i], ALL, 93, record_a, RECORD, record_b, RECORD));
+        keep(i, gantsorol_collect(posts[i], rows[i], ALL, 93, record_a, RECORD, record_b, RECORD));
+    printf("marks %d %d %d, numbers %u and %u\n", posts[0].marks[93], posts[0].marks[94], posts[0].marks[95],
+           posts[0].y_a[93], posts[0].y_b[93]);
+
+    /* Refused: collected once more, rows above 93, no rows, a remembered number of p. */
+    keep(0, gantsorol_collect(posts[0], rows[0], ALL, 93, record_a, RECORD, record_b, RECORD));
+    keep(0, gantsorol_multiply(posts[0], rows[0], ALL, 94));
+    keep(0, gantsorol_multiply(posts[0], NULL, 0, 93));
+    uint32_t number = posts[0].y_b[93];
+    posts[0].y_b[93] = GANTSOROL_MODULUS;
+    keep(0, gantsorol_multiply(posts[0], rows[0], ALL, 93));
+    posts[0].y_b[93] = number;
     for (int i = 0; i < N; i++) {
+        keep(i, gantsorol_multiply(posts[i], rows[i], ALL, 93));
         print("product", rows[i] + 95 * ROW, ROW);
         keep(i, gantsorol_opening_message(posts[i], rows[i], ALL, 95, message, T + 1));
         put(record, i, message);
     }
     for (int i = 0; i < N; i++)
         printf("post %d opens %u\n", i + 1, keep(i, gantsorol_open(posts[i], rows[i], ALL, 95, record, RECORD)));
-    printf("marks %d %d %d, of rows %d and %d\n", posts[2].marks[93], posts[2].marks[94], posts[2].marks[95],
-           posts[2].factor_a[93], posts[2].factor_b[93]);
-    keep(0, gantsorol_finish(posts[0], rows[0], ALL, 93, record_a, RECORD, record_b, RECORD));
+    printf("marks %d %d %d, of rows %d and %d, numbers %u and %u\n", posts[2].marks[93], posts[2].marks[94],
+           posts[2].marks[95], posts[2].factor_a[93], posts[2].factor_b[93], posts[2].y_a[93], posts[2].y_b[93]);
+    keep(0, gantsorol_collect(posts[0], rows[0], ALL, 93, record_a, RECORD, record_b, RECORD));
+    keep(0, gantsorol_multiply(posts[0], rows[0], ALL, 93));
 }
 
 /* Twice the product of rows 0 and 1, with the triple at row 90, less the product in row 95, and 3 times row 0: 31100. */

@@ -54,7 +54,12 @@ fn every_n_and_t() {
         compare(seed, &script_for(&mut Rng::new(seed), n, t, 30), &mut seen);
     }
     if fixed_seeds() {
-        seen.assert_met(&[("Open", &[0, 9]), ("Masks", &[0]), ("Finish", &[0, 9])]);
+        seen.assert_met(&[
+            ("Open", &[0, 9]),
+            ("Masks", &[0]),
+            ("OpenMasks", &[0, 9]),
+            ("Multiply", &[0]),
+        ]);
     }
 }
 
@@ -74,7 +79,7 @@ fn squares() {
         compare(seed, &script_for(&mut rng, n, t, 25), &mut seen);
     }
     if fixed_seeds() {
-        seen.assert_met(&[("Open", &[0, 8, 9]), ("Masks", &[0]), ("Finish", &[0, 8, 9])]);
+        seen.assert_met(&[("Open", &[0, 8, 9]), ("Masks", &[0]), ("OpenMasks", &[0, 8, 9])]);
         seen.assert_met(&[("RelationMasks", &[0]), ("RelationFinish", &[0, 9])]);
     }
 }
@@ -161,21 +166,26 @@ fn products_of_odd_numbers() {
     let mut seen = Seen::default();
     for seed in seeds(30_000) {
         let mut rng = Rng::new(seed);
-        let sending = rng.one_in(3);
-        let (state, first) = odd_triple(&mut rng, if sending { 3 } else { 5 });
+        let mark = rng.pick(&[3, 5, 5, 7]);
+        let (state, first) = odd_triple(&mut rng, mark);
         let record = |rng: &mut Rng| match rng.below(12) {
             0 => (0..6).map(|_| rng.number()).collect(),
             _ => (0..6).map(|place| u32::from(place % 3 == 0 || rng.one_in(12))).collect(),
         };
-        let call = match sending {
-            true => Call::Masks { a: rng.below(96), b: rng.below(96), first, out: 4 },
-            false => Call::Finish { first, record: record(&mut rng), record2: record(&mut rng) },
+        let call = match mark {
+            3 => Call::Masks { a: rng.below(96), b: rng.below(96), first, out: 4 },
+            5 => Call::OpenMasks { first, record: record(&mut rng), record2: record(&mut rng) },
+            _ => Call::Multiply { first },
         };
         seen.note(&call, compare_call(seed, &call, &state));
     }
     if fixed_seeds() {
-        seen.assert_met(&[("Masks", &[0, 7, 8]), ("Finish", &[0, 7, 8, 9])]);
-        assert!(seen.count("Finish", 0) > 500, "{seen:?}");
+        seen.assert_met(&[
+            ("Masks", &[0, 7, 8]),
+            ("OpenMasks", &[0, 7, 8, 9]),
+            ("Multiply", &[0, 8]),
+        ]);
+        assert!(seen.count("OpenMasks", 0) > 500, "{seen:?}");
     }
 }
 
@@ -275,7 +285,7 @@ fn relations_of_many_terms() {
 /// Lists that are only read may be one list: both records here are parts of it.
 #[test]
 fn two_records_that_are_parts_of_one_list() {
-    let mut finished = 0;
+    let mut opened = 0;
     for seed in seeds(5_000) {
         let mut rng = Rng::new(seed);
         let (State { session, rows }, first) = odd_triple(&mut rng, 5);
@@ -283,13 +293,12 @@ fn two_records_that_are_parts_of_one_list() {
             (0..9).map(|place| u32::from(place % 3 == 0 || rng.one_in(9))).collect();
         let [left, right] =
             [(); 2].map(|()| rng.pick(&[0, 0, 3, 3, 1, 2])).map(|start| &list[start..start + 6]);
-        let (mut ours, mut second) = (rows.clone(), rows);
-        let answer = Verified.finish(session, &mut ours, first, left, right);
-        let expected = REFERENCE.finish(session, &mut second, first, left, right);
-        assert_eq!((&answer, ours), (&expected, second), "seed {seed}");
-        finished += u64::from(answer.refusal == 0);
+        let answer = Verified.open_masks(session, &rows, first, left, right);
+        let expected = REFERENCE.open_masks(session, &rows, first, left, right);
+        assert_eq!(answer, expected, "seed {seed}");
+        opened += u64::from(answer.refusal == 0);
     }
-    assert!(!fixed_seeds() || finished > 50, "only {finished} products");
+    assert!(!fixed_seeds() || opened > 50, "only {opened} triples opened");
 }
 
 /// Lists that are only read may be one list: the record here is a part of the rows.

@@ -64,7 +64,7 @@ fn the_example_in_c() {
     check_example("sharing");
 }
 
-/// The first finish is alone with its post; the second has heard the others.
+/// The first collect is alone with its post; the second has heard the others.
 #[test]
 fn a_product_in_c() {
     check_example("product");
@@ -131,7 +131,7 @@ macro_rules! layout {
 fn every_call_from_c() {
     let mut expected = String::new();
     layout!(expected,
-        Session, "session": n t post point marks factor_a factor_b;
+        Session, "session": n t post point marks factor_a factor_b y_a y_b;
         Answer, "answer": refusal value session;
         Term, "term": coefficient row second first;
         Number, "number": refusal value;

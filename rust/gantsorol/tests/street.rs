@@ -1,9 +1,12 @@
 //! The street program, proved and built by the gate, and the second implementation: the same output for
-//! random and mutated inputs; and the README's examples. `GANTSOROL_STREET` names the program.
+//! random and mutated inputs and for the stored ones of `street_inputs/`; and the README's examples.
+//! `GANTSOROL_STREET` names the program.
 
 mod common;
 
+use std::fs;
 use std::io::Write;
+use std::path::Path;
 use std::process::{Command, Stdio};
 use std::thread;
 
@@ -41,6 +44,49 @@ fn the_examples_of_the_readme() {
     ] {
         let ours = printed(&street_program(), input.as_bytes());
         assert_eq!(String::from_utf8_lossy(&ours), expected);
+    }
+}
+
+/// Each `NAME.txt` of `street_inputs/` gives its `NAME.out`, by the program and by the second implementation.
+#[test]
+fn the_stored_inputs() {
+    let stored = Path::new(env!("CARGO_MANIFEST_DIR")).join("tests/street_inputs");
+    let mut inputs = 0;
+    for entry in fs::read_dir(stored).expect("the folder is there") {
+        let path = entry.expect("its files are").path();
+        if path.extension().is_none_or(|extension| extension != "txt") {
+            continue;
+        }
+        let name = path.display();
+        let input = fs::read(&path).expect("an input can be read");
+        let expected = fs::read(path.with_extension("out")).expect("an output can be read");
+        assert!(printed(&street_program(), &input) == expected, "{name}, by the program");
+        assert!(REFERENCE.street(&input) == expected, "{name}, by the second implementation");
+        inputs += 1;
+    }
+    assert_eq!(inputs, 15, "stored inputs");
+}
+
+/// Rides × rate + fee by three runs of the program: the `M` lines that each reads of another post are those which
+/// that post's run prints.
+#[test]
+fn the_charge_at_three_posts() {
+    let lines = |name: &str| -> Vec<String> {
+        let path = Path::new(env!("CARGO_MANIFEST_DIR")).join("tests/street_inputs").join(name);
+        let text = fs::read_to_string(path).expect("a stored text can be read");
+        text.lines().filter(|line| line.starts_with("M,")).map(str::to_owned).collect()
+    };
+    let (mut told, mut heard) = (Vec::new(), Vec::new());
+    for post in 1..=3 {
+        told.push(lines(&format!("charge{post}.out")));
+        heard.push(lines(&format!("charge{post}.txt")));
+    }
+    for (post, lines) in heard.iter().enumerate() {
+        let others: Vec<_> = told.iter().enumerate().filter(|(i, _)| *i != post).collect();
+        assert!(!told[post].is_empty(), "post {} prints its masks", post + 1);
+        for (i, sent) in others {
+            assert!(sent.iter().all(|line| lines.contains(line)), "post {} reads {}", post + 1, i + 1);
+        }
     }
 }
 

@@ -37,7 +37,7 @@ pub use library::{Library, Reference, REFERENCE};
 pub use lines::{read, write_deal, write_masks, write_opening, ReadLine, Written};
 pub use opening::open;
 pub use pack::write_pack;
-pub use product::{finish, masks};
+pub use product::{masks, multiply, open_masks};
 pub use refusal::Refusal;
 pub use relation::{relation_finish, relation_masks, Term, MAX_TERMS, NO_ROW};
 pub use session::{mark, new_session, Answer, Session};

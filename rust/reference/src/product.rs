@@ -1,4 +1,4 @@
-//! Multiplication with factory triples (DOTMP): masks, then finish.
+//! Multiplication with factory triples (DOTMP): masks, then the two calls of a finish.
 
 use crate::field::{expect_elements, Element};
 use crate::opening::{Accepted, Record};
@@ -12,6 +12,9 @@ pub(crate) const UNUSED: [u8; 3] = [mark::UNUSED, mark::FOLLOWING, mark::FOLLOWI
 
 /// The marks of a triple whose masks were sent.
 pub(crate) const MASKED: [u8; 3] = [mark::MASKED, mark::FOLLOWING, mark::FOLLOWING];
+
+/// The marks of a triple whose masks were opened.
+const OPENED: [u8; 3] = [mark::OPENED, mark::FOLLOWING, mark::FOLLOWING];
 
 /// Two factor rows, and the first row of the triple that multiplies them.
 #[derive(Clone, Copy)]
@@ -72,6 +75,18 @@ impl Product {
         let left = Accepted::checked(shape, s, &y, left)?;
         Ok([left, Accepted::checked(shape, s, &y2, right)?])
     }
+
+    /// The session that remembers y and y'.
+    pub(crate) fn opened<const P: u32>(
+        self,
+        s: Session,
+        (y, y2): (Element<P>, Element<P>),
+    ) -> Session {
+        let mut opened = s.with_mark(self.first, mark::OPENED);
+        opened.y[self.first] = y.value();
+        opened.y2[self.first] = y2.value();
+        opened
+    }
 }
 
 /// "For held a and b (perhaps the same) and an unused triple (marks 3, 4, 4): the polynomials of
@@ -110,21 +125,21 @@ pub(crate) fn try_masks<const P: u32>(
     Ok((0, product.masked(s)))
 }
 
-/// "Takes a triple marked 5, 4, 4 and two records, opens y = a − l and y' = b − l' as above, and
-/// writes l'' + y l' + y' l + y y' into the third row."
-pub fn finish<const P: u32>(
+/// "Finish becomes two calls." The first "takes a triple marked 5, 4, 4 and two records", "opens y and
+/// y' and remembers them; the triple's first row then has mark 7".
+pub fn open_masks<const P: u32>(
     s: Session,
-    rows: &mut [u32],
+    rows: &[u32],
     first: usize,
     record: &[u32],
     record2: &[u32],
 ) -> Answer {
-    s.answer(try_finish::<P>(s, rows, first, [record, record2]))
+    s.answer(try_open_masks::<P>(s, rows, first, [record, record2]))
 }
 
-pub(crate) fn try_finish<const P: u32>(
+pub(crate) fn try_open_masks<const P: u32>(
     s: Session,
-    rows: &mut [u32],
+    rows: &[u32],
     first: usize,
     [left, right]: [&[u32]; 2],
 ) -> Result<(u32, Session), Refusal> {
@@ -135,7 +150,7 @@ pub(crate) fn try_finish<const P: u32>(
     expect_triple(first)?;
     s.expect_marks(first, MASKED)?;
     let product = Product::remembered(&s, first)?;
-    for row in [product.a, product.b, first, first + 1, first + 2] {
+    for row in [product.a, product.b, first, first + 1] {
         expect_elements::<P>(&rows[shape.at(row)])?;
     }
     left.expect_numbers::<P>(s.post)?;
@@ -143,18 +158,41 @@ pub(crate) fn try_finish<const P: u32>(
     // 9 "in either record of a finish", then 13 "in either record".
     let [left, right] = product.accepted::<P>(shape, &s, rows, [left, right])?;
     let numbers = (left.number()?, right.number()?);
-    Ok((0, write_product(shape, s, rows, first, numbers)))
+    Ok((0, product.opened(s, numbers)))
 }
 
-/// "l'' + y l' + y' l + y y' (y y' is added to m1..mn only)" into the third row: the sum of rows
-/// twice, with y y' as the second one's fee. "Marks become 6, 6, 2."
+/// "The second takes only the triple and writes the product." "After both calls" the marks are "6, 6,
+/// 2".
+pub fn multiply<const P: u32>(s: Session, rows: &mut [u32], first: usize) -> Answer {
+    s.answer(try_multiply::<P>(s, rows, first))
+}
+
+pub(crate) fn try_multiply<const P: u32>(
+    s: Session,
+    rows: &mut [u32],
+    first: usize,
+) -> Result<(u32, Session), Refusal> {
+    let shape = s.checked::<P>()?;
+    expect_length(rows, shape.all_rows())?;
+    expect_triple(first)?;
+    s.expect_marks(first, OPENED)?;
+    // "One at least p gets 8."
+    expect_elements::<P>(&[s.y[first], s.y2[first]])?;
+    for row in [first, first + 1, first + 2] {
+        expect_elements::<P>(&rows[shape.at(row)])?;
+    }
+    Ok((0, write_product::<P>(shape, s, rows, first)))
+}
+
+/// "l'' + y l' + y' l + y y' (y y' is added to m1..mn only)" into the third row, with the numbers
+/// remembered: the sum of rows twice, with y y' as the second one's fee.
 pub(crate) fn write_product<const P: u32>(
     shape: Shape,
     s: Session,
     rows: &mut [u32],
     first: usize,
-    (y, y2): (Element<P>, Element<P>),
 ) -> Session {
+    let (y, y2) = (Element::<P>::from(s.y[first]), Element::from(s.y2[first]));
     let [l, l2, l3] = [first, first + 1, first + 2].map(|row| &rows[shape.at(row)]);
     let sum = weighted_sum(shape, l3, y, l2, Element::ZERO);
     let product = weighted_sum(shape, &sum, y2, l, y * y2);

@@ -159,7 +159,8 @@ fn try_relation_finish<const P: u32>(
     let numbers = opened_masks::<P>(shape, &s, rows, &products, &records)?;
     let mut finished = s.with_mark(dest, mark::HELD);
     for (product, numbers) in products.iter().zip(numbers) {
-        finished = write_product(shape, finished, rows, product.first, numbers);
+        let opened = product.opened(finished, numbers);
+        finished = write_product::<P>(shape, opened, rows, product.first);
     }
     write_sum::<P>(shape, rows, terms, dest);
     Ok((0, finished))

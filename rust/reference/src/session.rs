@@ -19,9 +19,12 @@ pub mod mark {
     pub const MASKED: u8 = 5;
     /// Spent.
     pub const SPENT: u8 = 6;
+    /// First row of a triple whose masks were opened.
+    pub const OPENED: u8 = 7;
 }
 
-/// "The session remembers n, t, post, check point, the marks, and for mark 5 the two factor rows."
+/// "The session remembers n, t, post, check point, the marks, and for mark 5 the two factor rows";
+/// for mark 7 "the two numbers" of the masks.
 ///
 /// The fields may hold anything; each call checks them anew.
 #[derive(Clone, Copy, Debug, PartialEq, Eq)]
@@ -40,6 +43,10 @@ pub struct Session {
     pub left: [u8; ROWS],
     /// At a triple's first row: the second factor row.
     pub right: [u8; ROWS],
+    /// At a triple's first row: y = a − l, "0 when new and kept after the product".
+    pub y: [u32; ROWS],
+    /// At a triple's first row: y' = b − l'.
+    pub y2: [u32; ROWS],
 }
 
 impl Session {
@@ -52,6 +59,8 @@ impl Session {
         marks: [mark::EMPTY; ROWS],
         left: [0; ROWS],
         right: [0; ROWS],
+        y: [0; ROWS],
+        y2: [0; ROWS],
     };
 
     /// Checks 1 to 4.

@@ -113,7 +113,7 @@ fn a_finish_checks_8_then_9_then_13_in_either_record() {
         (no_element, short, 8),
     ] {
         let (record, record2) = (left[left_case].clone(), right[right_case].clone());
-        let call = Call::Finish { first: 6, record, record2 };
+        let call = Call::OpenMasks { first: 6, record, record2 };
         if refusal == 0 {
             assert_taken(&state, call);
         } else {

@@ -92,9 +92,11 @@ fn p9_a_product() {
     let [left, right] = station.masks(0, 1, 2);
     assert_eq!(number_of_masks(station.shape, &left, left_sums), 4);
     assert_eq!(number_of_masks(station.shape, &right, right_sums), 2);
-    let [record, record2] = [left, right].map(|masks| record(station.shape, &masks));
-    station.each(|_| Call::Finish { first: 2, record: record.clone(), record2: record2.clone() });
-    assert_eq!(station.posts[0].session.marks[2..5], [6, 6, 2]);
+    let records = [left, right].map(|masks| record(station.shape, &masks));
+    station.finish(2, &records);
+    let session = &station.posts[0].session;
+    assert_eq!((session.y[2], session.y2[2]), (4, 2));
+    assert_eq!(session.marks[2..5], [6, 6, 2]);
     assert_eq!(station.open(4), [42, 42, 42]);
 }
 

@@ -30,7 +30,8 @@ fn calls_and_rows_read() -> (State, Vec<(Call, Vec<usize>)>) {
         (Call::Open { row: 9, record: to_record(&messages) }, vec![9]),
         (Call::Linear { dest: 50, a: 1, b: 2, scale: 3, fee: 4 }, vec![1, 2]),
         (Call::Masks { a: 1, b: 2, first: 3, out: 4 }, vec![1, 2, 3, 4]),
-        (Call::Finish { first: 6, record, record2 }, vec![1, 2, 6, 7, 8]),
+        (Call::OpenMasks { first: 6, record, record2 }, vec![1, 2, 6, 7]),
+        (Call::Multiply { first: 80 }, vec![80, 81, 82]),
     ];
     (state, calls)
 }
@@ -119,7 +120,7 @@ fn the_reach_of_8_in_a_record() {
 fn the_reach_of_8_in_both_records_of_a_finish() {
     let (state, _, masks) = furnished_post(2);
     let [left, right] = masks.map(|masks| to_record(&masks));
-    let finish = |record, record2| Call::Finish { first: 6, record, record2 };
+    let finish = |record, record2| Call::OpenMasks { first: 6, record, record2 };
     assert_reach_in_record(&state, &left, |record| finish(record, right.clone()));
     assert_reach_in_record(&state, &right, |record2| finish(left.clone(), record2));
 }
@@ -131,7 +132,7 @@ fn eight_comes_before_nine_also_behind_the_walks_end_and_in_the_other_record() {
     // Post 1's walk ends at post 2; post 3's block is looked at all the same.
     let mut behind = left.clone();
     behind[8] = MODULUS;
-    let finish = |record: &[u32], record2: &[u32]| Call::Finish {
+    let finish = |record: &[u32], record2: &[u32]| Call::OpenMasks {
         first: 6,
         record: record.to_vec(),
         record2: record2.to_vec(),
@@ -150,10 +151,13 @@ fn eight_comes_before_nine_also_behind_the_walks_end_and_in_the_other_record() {
 fn a_refused_finish_may_be_called_again() {
     let (state, _, masks) = furnished_post(3);
     let [left, right] = masks.map(|masks| to_record(&masks));
-    let short = Call::Finish { first: 6, record: left.clone(), record2: vec![0; 9] };
+    let short = Call::OpenMasks { first: 6, record: left.clone(), record2: vec![0; 9] };
     assert_refused(&state, short, 9);
-    let full = Call::Finish { first: 6, record: left, record2: right };
-    let done = assert_taken(&state, full.clone()).state;
+    let full = Call::OpenMasks { first: 6, record: left, record2: right };
+    let opened = assert_taken(&state, full.clone()).state;
+    assert_eq!(opened.session.marks[6..9], [7, 4, 4]);
+    assert_refused(&opened, full.clone(), 7);
+    let done = assert_taken(&opened, Call::Multiply { first: 6 }).state;
     assert_eq!(done.session.marks[6..9], [6, 6, 2]);
     assert_refused(&done, full, 7);
 }

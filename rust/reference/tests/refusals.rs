@@ -26,7 +26,8 @@ fn valid_calls() -> (State, Vec<Call>) {
         Call::Open { row: 9, record: opening },
         Call::Linear { dest: 95, a: 1, b: 2, scale: MODULUS - 1, fee: MODULUS - 1 },
         Call::Masks { a: 1, b: 1, first: 3, out: 4 },
-        Call::Finish { first: 6, record: left, record2: right },
+        Call::OpenMasks { first: 6, record: left, record2: right },
+        Call::Multiply { first: 80 },
     ];
     (state, calls)
 }
@@ -130,7 +131,7 @@ fn lists_one_short_and_one_long_get_5_before_anything_behind() {
         let (wrong, right) = (vec![MODULUS; length], vec![0; 9]);
         assert_refused(&state, Call::Open { row: 96, record: wrong.clone() }, 5);
         for (record, record2) in [(wrong.clone(), right.clone()), (right, wrong)] {
-            assert_refused(&state, Call::Finish { first: 94, record, record2 }, 5);
+            assert_refused(&state, Call::OpenMasks { first: 94, record, record2 }, 5);
         }
     }
 }
@@ -155,8 +156,9 @@ fn rows_above_the_last_get_6_before_marks_and_numbers() {
         assert_refused(&state, Call::LoadTriple { first, pack: vec![MODULUS; 24] }, 6);
         assert_refused(&state, Call::Masks { a: 0, b: 0, first, out: 4 }, 6);
         let nonsense = vec![MODULUS; 9];
-        let call = Call::Finish { first, record: nonsense.clone(), record2: nonsense };
+        let call = Call::OpenMasks { first, record: nonsense.clone(), record2: nonsense };
         assert_refused(&state, call, 6);
+        assert_refused(&state, Call::Multiply { first }, 6);
     }
     assert_taken(&state, Call::Linear { dest: 95, a: 1, b: 2, scale: 0, fee: 0 });
     assert_taken(&state, Call::LoadTriple { first: 93, pack: vec![0; 24] });
@@ -173,9 +175,10 @@ fn needed_marks(call: &Call) -> Vec<(usize, u8)> {
         Call::Masks { a, b, first, .. } => {
             vec![(a, 2), (b, 2), (first, 3), (first + 1, 4), (first + 2, 4)]
         }
-        Call::Finish { first, .. } => {
+        Call::OpenMasks { first, .. } => {
             vec![(first, 5), (first + 1, 4), (first + 2, 4), (1, 2), (2, 2)]
         }
+        Call::Multiply { first } => vec![(first, 7), (first + 1, 4), (first + 2, 4)],
         // Relations have a file of their own.
         Call::NewSession { .. } | Call::RelationMasks { .. } | Call::RelationFinish { .. } => {
             vec![]
@@ -214,7 +217,7 @@ fn marks_that_a_call_does_not_need_are_not_looked_at() {
 #[test]
 fn remembered_rows_of_a_finish_must_be_held() {
     let (state, _, [left, right]) = post_1();
-    let call = Call::Finish { first: 6, record: left, record2: right };
+    let call = Call::OpenMasks { first: 6, record: left, record2: right };
     for row in [0, 3, 6, 7, 8, 95, 96, 97, 255] {
         for damage in [Damage::Left { first: 6, row }, Damage::Right { first: 6, row }] {
             assert_refused(&with(&state, &[damage]), call.clone(), 7);

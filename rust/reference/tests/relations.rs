@@ -99,8 +99,7 @@ fn a_relation_is_masks_finishes_and_sums() {
     let finish = Call::RelationFinish { terms: terms.to_vec(), records: records.clone(), dest: 40 };
     whole.each(|_| finish.clone());
     for (first, part) in [(13, 0), (10, 1)] {
-        let [record, record2] = [0, 9].map(|half| records[part * 18 + half..][..9].to_vec());
-        single.each(|_| Call::Finish { first, record: record.clone(), record2: record2.clone() });
+        single.finish(first, &[0, 9].map(|half| records[part * 18 + half..][..9].to_vec()));
     }
     let sum = |dest, a, b, scale| Call::Linear { dest, a, b, scale, fee: 0 };
     single.each(|_| sum(41, 15, 15, 2));
@@ -111,6 +110,8 @@ fn a_relation_is_masks_finishes_and_sums() {
         single.rows[41 * 8..43 * 8].fill(0);
         assert!(whole == single);
         assert_eq!(whole.session.marks[10..16], [6, 6, 2, 6, 6, 2]);
+        // y = 5 − 2 and y' = 35 − (−1).
+        assert_eq!((whole.session.y[10], whole.session.y2[13]), (3, 36));
     }
 }
 
@@ -124,8 +125,7 @@ fn single_calls_and_relations_may_follow_each_other() {
     station.each(|_| finish.clone());
     assert_eq!(station.open(20), [420; 3]);
     let records = masks(&mut station, &[product(5, 3, 3, 13)]);
-    let (record, record2) = (records[..9].to_vec(), records[9..].to_vec());
-    station.each(|_| Call::Finish { first: 13, record: record.clone(), record2: record2.clone() });
+    station.finish(13, &[records[..9].to_vec(), records[9..].to_vec()]);
     assert_eq!(station.open(15), [25; 3]);
 }
 
@@ -195,6 +195,7 @@ fn a_finish_needs_the_remembered_rows_in_order() {
         Damage::Right { first: 13, row: 0 },
         Damage::Right { first: 10, row: 255 },
         Damage::Mark { row: 13, mark: 3 },
+        Damage::Mark { row: 13, mark: 7 },
         Damage::Mark { row: 15, mark: 2 },
     ] {
         let mut wrong = state.clone();

@@ -25,6 +25,8 @@ fn check(script: &Script, seen: &mut Seen) {
     }
     let shape = Shape::checked(state.session.n, state.session.t).unwrap();
     assert_eq!(state.session.marks, script.marks);
+    let remembered = state.session.y.into_iter().zip(state.session.y2);
+    assert!(remembered.eq(script.opened.map(|[y, y2]| (y, y2))));
     for row in 0..96 {
         let written = script.written.iter().find(|(written, _)| *written == row);
         let expected = written.map_or(&script.rows[shape.at(row)], |(_, numbers)| numbers);
@@ -63,7 +65,7 @@ fn every_n_and_t() {
             check(&script_for(&mut rng, n, t, 30), &mut seen);
         }
     }
-    seen.assert_met(&[("Open", &[0, 9, 13]), ("Finish", &[0, 9, 13])]);
+    seen.assert_met(&[("Open", &[0, 9, 13]), ("OpenMasks", &[0, 9, 13])]);
 }
 
 /// "n as a parameter": the larger station does what the smaller one does.

@@ -125,9 +125,12 @@ fn sums_and_products(i: &Inputs) -> Vec<Contest<'_>> {
             },
         ),
         contest(
-            "finish",
-            on_ours(i, move |s, rows| s.finish(rows, 6, left, right)),
-            on_second(i, move |s, rows| REFERENCE.finish(s, rows, 6, left, right)),
+            "collect, multiply",
+            on_ours(i, move |s, rows| s.collect(rows, 6, left, right).session.multiply(rows, 6)),
+            on_second(i, move |s, rows| {
+                let opened = REFERENCE.open_masks(s, rows, 6, left, right);
+                REFERENCE.multiply(opened.session, rows, 6)
+            }),
         ),
     ]
 }

@@ -49,7 +49,17 @@ impl Inputs {
         Self {
             n,
             t,
-            ours: gantsorol::Session { n, t, post, point, marks, factor_a: left, factor_b: right },
+            ours: gantsorol::Session {
+                n,
+                t,
+                post,
+                point,
+                marks,
+                factor_a: left,
+                factor_b: right,
+                y_a: [0; gantsorol::ROWS],
+                y_b: [0; gantsorol::ROWS],
+            },
             second: second.session,
             rows,
             row_draw: raw.draw(),

@@ -36,7 +36,7 @@ fn check_fastest() {
         for (step, outcome) in script.steps.iter().zip(script.replay(&REFERENCE)) {
             if let Call::Open { row, record } = &step.call {
                 let copy = step.damaged(&state);
-                let Session { n, t, post, point, marks, left, right } = copy.session;
+                let Session { n, t, post, point, marks, left, right, y, y2 } = copy.session;
                 let session = gantsorol::Session {
                     n,
                     t,
@@ -45,6 +45,8 @@ fn check_fastest() {
                     marks,
                     factor_a: left,
                     factor_b: right,
+                    y_a: y,
+                    y_b: y2,
                 };
                 let answer = fastest::open(session, &copy.rows, *row, record);
                 let (ours, expected) =

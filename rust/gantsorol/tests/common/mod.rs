@@ -34,14 +34,15 @@ fn from_environment<T: FromStr>(name: &str) -> Option<T> {
 }
 
 fn given(s: reference::Session) -> Session {
-    let reference::Session { n, t, post, point, marks, left, right } = s;
-    Session { n, t, post, point, marks, factor_a: left, factor_b: right }
+    let reference::Session { n, t, post, point, marks, left, right, y, y2 } = s;
+    Session { n, t, post, point, marks, factor_a: left, factor_b: right, y_a: y, y_b: y2 }
 }
 
 fn answered(answer: gantsorol::Answer) -> Answer {
     let gantsorol::Answer { refusal, value, session } = answer;
-    let Session { n, t, post, point, marks, factor_a: left, factor_b: right } = session;
-    let session = reference::Session { n, t, post, point, marks, left, right };
+    let Session { n, t, post, point, marks, factor_a: left, factor_b: right, y_a: y, y_b: y2 } =
+        session;
+    let session = reference::Session { n, t, post, point, marks, left, right, y, y2 };
     Answer { refusal, value, session }
 }
 
@@ -130,15 +131,19 @@ impl Library for Verified {
         answered(given(s).masks(rows, a, b, first, out))
     }
 
-    fn finish(
+    fn open_masks(
         &self,
         s: reference::Session,
-        rows: &mut [u32],
+        rows: &[u32],
         first: usize,
         record: &[u32],
         record2: &[u32],
     ) -> Answer {
-        answered(given(s).finish(rows, first, record, record2))
+        answered(given(s).collect(rows, first, record, record2))
+    }
+
+    fn multiply(&self, s: reference::Session, rows: &mut [u32], first: usize) -> Answer {
+        answered(given(s).multiply(rows, first))
     }
 
     fn relation_masks(

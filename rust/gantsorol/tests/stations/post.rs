@@ -31,11 +31,17 @@ impl Post {
     pub fn finish(&mut self, first: usize, [left, right]: &[Vec<u32>; 2]) -> Result<(), Refusal> {
         let session = self.session.take().expect("every call hands the session back");
         let before = (session.clone(), self.rows.clone());
-        let answer = session.finish(&mut self.rows, first, left, right);
-        self.session = Some(answer.session.clone());
+        let answer = session.collect(&self.rows, first, left, right);
+        assert_eq!((answer.value, &self.rows), (0, &before.1));
         if answer.refusal != 0 {
-            assert_eq!((&answer.session, &self.rows), (&before.0, &before.1));
+            assert_eq!(answer.session, before.0);
+            self.session = Some(before.0);
+            return answer.accepted().map(|_| ());
         }
-        answer.accepted().map(|(_, value)| assert_eq!(value, 0))
+        let again = answer.session.clone().collect(&self.rows, first, left, right);
+        assert_eq!(again.accepted(), Err(Refusal(7)));
+        self.session = Some(answer.session);
+        assert_eq!(self.call(|session, rows| session.multiply(rows, first)), 0);
+        Ok(())
     }
 }

@@ -52,15 +52,18 @@ pub trait Library {
         out: &mut [u32],
     ) -> Answer;
 
-    /// Opens both masks and writes the product into the triple's third row.
-    fn finish(
+    /// The first call of a finish: opens both masks and remembers the numbers.
+    fn open_masks(
         &self,
         s: Session,
-        rows: &mut [u32],
+        rows: &[u32],
         first: usize,
         record: &[u32],
         record2: &[u32],
     ) -> Answer;
+
+    /// The second call of a finish: writes the product into the triple's third row.
+    fn multiply(&self, s: Session, rows: &mut [u32], first: usize) -> Answer;
 
     /// The masks of all product terms of a relation, 2(t+1) numbers for each.
     fn relation_masks(&self, s: Session, rows: &[u32], terms: &[Term], out: &mut [u32]) -> Answer;

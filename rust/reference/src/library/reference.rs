@@ -63,15 +63,19 @@ impl<const P: u32> Library for Reference<P> {
         product::masks::<P>(s, rows, a, b, first, out)
     }
 
-    fn finish(
+    fn open_masks(
         &self,
         s: Session,
-        rows: &mut [u32],
+        rows: &[u32],
         first: usize,
         record: &[u32],
         record2: &[u32],
     ) -> Answer {
-        product::finish::<P>(s, rows, first, record, record2)
+        product::open_masks::<P>(s, rows, first, record, record2)
+    }
+
+    fn multiply(&self, s: Session, rows: &mut [u32], first: usize) -> Answer {
+        product::multiply::<P>(s, rows, first)
     }
 
     fn relation_masks(&self, s: Session, rows: &[u32], terms: &[Term], out: &mut [u32]) -> Answer {

@@ -24,7 +24,8 @@ pub enum Call {
     Open { row: usize, record: Vec<u32> },
     Linear { dest: usize, a: usize, b: usize, scale: u32, fee: u32 },
     Masks { a: usize, b: usize, first: usize, out: usize },
-    Finish { first: usize, record: Vec<u32>, record2: Vec<u32> },
+    OpenMasks { first: usize, record: Vec<u32>, record2: Vec<u32> },
+    Multiply { first: usize },
     RelationMasks { terms: Vec<Term>, out: usize },
     RelationFinish { terms: Vec<Term>, records: Vec<u32>, dest: usize },
 }
@@ -59,9 +60,10 @@ impl Call {
                 library.linear(s, &mut rows, dest, a, b, scale, fee)
             }
             Self::Masks { a, b, first, .. } => library.masks(s, &rows, a, b, first, &mut out),
-            Self::Finish { first, ref record, ref record2 } => {
-                library.finish(s, &mut rows, first, record, record2)
+            Self::OpenMasks { first, ref record, ref record2 } => {
+                library.open_masks(s, &rows, first, record, record2)
             }
+            Self::Multiply { first } => library.multiply(s, &mut rows, first),
             Self::RelationMasks { ref terms, .. } => {
                 library.relation_masks(s, &rows, terms, &mut out)
             }
@@ -92,7 +94,7 @@ impl Call {
         match self {
             Self::LoadRow { pack, .. } | Self::LoadTriple { pack, .. } => vec![pack],
             Self::Open { record, .. } => vec![record],
-            Self::Finish { record, record2, .. } => vec![record, record2],
+            Self::OpenMasks { record, record2, .. } => vec![record, record2],
             Self::RelationFinish { records, .. } => vec![records],
             _ => vec![],
         }
@@ -135,7 +137,9 @@ impl Call {
             Self::LoadRow { row, .. } | Self::Deal { row, .. } | Self::Open { row, .. } => {
                 vec![row]
             }
-            Self::LoadTriple { first, .. } | Self::Finish { first, .. } => vec![first],
+            Self::LoadTriple { first, .. }
+            | Self::OpenMasks { first, .. }
+            | Self::Multiply { first } => vec![first],
             Self::OpeningMessage { row, out } => vec![row, out],
             Self::Linear { dest, a, b, .. } => vec![dest, a, b],
             Self::Masks { a, b, first, out } => vec![a, b, first, out],
@@ -155,7 +159,7 @@ impl Call {
         }
     }
 
-    /// The rows that the call names, the factor rows of a finish aside.
+    /// The rows that the call names, the factor rows that a session remembers aside.
     pub fn rows(&self) -> Vec<usize> {
         let triple = |first: usize| [first, first.saturating_add(1), first.saturating_add(2)];
         match *self {
@@ -164,7 +168,9 @@ impl Call {
             | Self::Deal { row, .. }
             | Self::OpeningMessage { row, .. }
             | Self::Open { row, .. } => vec![row],
-            Self::LoadTriple { first, .. } | Self::Finish { first, .. } => triple(first).to_vec(),
+            Self::LoadTriple { first, .. }
+            | Self::OpenMasks { first, .. }
+            | Self::Multiply { first } => triple(first).to_vec(),
             Self::Linear { dest, a, b, .. } => vec![dest, a, b],
             Self::Masks { a, b, first, .. } => [&[a, b], &triple(first)[..]].concat(),
             Self::RelationMasks { ref terms, .. } => rows_of(terms),

@@ -10,6 +10,8 @@ pub enum Damage {
     Mark { row: usize, mark: u8 },
     Left { first: usize, row: u8 },
     Right { first: usize, row: u8 },
+    Y { first: usize, number: u32 },
+    Y2 { first: usize, number: u32 },
     Number { place: usize, number: u32 },
     Posts(usize),
     Threshold(usize),
@@ -26,6 +28,8 @@ impl Damage {
             Self::Mark { row, mark } => session.marks[row] = mark,
             Self::Left { first, row } => session.left[first] = row,
             Self::Right { first, row } => session.right[first] = row,
+            Self::Y { first, number } => session.y[first] = number,
+            Self::Y2 { first, number } => session.y2[first] = number,
             Self::Number { place, number } => {
                 if let Some(place) = state.rows.get_mut(place) {
                     *place = number;
@@ -47,7 +51,7 @@ impl Damage {
             Some(row) if !rng.one_in(5) => row,
             _ => some_row,
         };
-        match rng.below(12) {
+        match rng.below(14) {
             0..=2 => Self::Mark { row, mark: random_mark(rng) },
             3 => Self::Left { first: row, row: random_factor(rng) },
             4 => Self::Right { first: row, row: random_factor(rng) },
@@ -55,6 +59,8 @@ impl Damage {
                 Self::Number { place: random_place(rng, shape, row), number: rng.no_element() }
             }
             8 => Self::Length(random_length(rng, shape.all_rows())),
+            9 => Self::Y { first: row, number: rng.number() },
+            10 => Self::Y2 { first: row, number: rng.number() },
             _ => Self::random_heading(rng),
         }
     }
@@ -72,8 +78,8 @@ impl Damage {
 
 fn random_mark(rng: &mut Rng) -> u8 {
     match rng.below(8) {
-        0 => rng.pick(&[7, 8, 255]),
-        _ => rng.below(7) as u8,
+        0 => rng.pick(&[8, 9, 255]),
+        _ => rng.below(8) as u8,
     }
 }
 

@@ -19,7 +19,8 @@ pub const CALL_REFUSALS: Met = &[
     ("Open", OPENING),
     ("Linear", SESSION),
     ("Masks", SESSION),
-    ("Finish", OPENING),
+    ("OpenMasks", OPENING),
+    ("Multiply", SESSION),
     ("RelationMasks", &[0, 1, 2, 3, 4, 5, 6, 7, 8, 14]),
     ("RelationFinish", &[0, 1, 2, 3, 4, 5, 6, 7, 8, 9, 13, 14]),
 ];

@@ -14,9 +14,11 @@ pub fn wild_state(rng: &mut Rng, sane: bool) -> State {
         t: if sane { 1 } else { rng.size() },
         post: if sane { rng.between(1, 2) } else { rng.size() },
         point: if sane { 3 } else { rng.number() },
-        marks: bytes(rng, 8),
+        marks: bytes(rng, 9),
         left: bytes(rng, 100),
         right: bytes(rng, 256),
+        y: std::array::from_fn(|_| rng.number()),
+        y2: std::array::from_fn(|_| rng.number()),
     };
     let length = if sane { ROWS * ROW } else { rng.below(600) };
     let rows = match rng.below(2) {
@@ -27,7 +29,7 @@ pub fn wild_state(rng: &mut Rng, sane: bool) -> State {
 }
 
 /// Each call once, most of them wild.
-pub fn wild_calls(rng: &mut Rng) -> [Call; 11] {
+pub fn wild_calls(rng: &mut Rng) -> [Call; 12] {
     let list = |rng: &mut Rng| {
         let length = rng.pick(&[6, 6, 6, 18, 18, 5, 7, 0]);
         (0..length).map(|_| rng.number()).collect::<Vec<_>>()
@@ -42,7 +44,8 @@ pub fn wild_calls(rng: &mut Rng) -> [Call; 11] {
         Call::Open { row: a, record: list(rng) },
         Call::Linear { dest: a, a: b, b: c, scale: rng.number(), fee: rng.number() },
         Call::Masks { a, b, first: c, out: rng.pick(&[4, 4, 4, 0, 3, 5]) },
-        Call::Finish { first: a, record: list(rng), record2: list(rng) },
+        Call::OpenMasks { first: a, record: list(rng), record2: list(rng) },
+        Call::Multiply { first: a },
         Call::RelationMasks { terms: wild_terms(rng), out: rng.pick(&[0, 0, 4, 4, 8, 5]) },
         Call::RelationFinish { terms: wild_terms(rng), records: wild_records(rng), dest: a },
     ]

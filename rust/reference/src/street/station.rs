@@ -9,7 +9,7 @@ use super::{Reply, LONGEST_LINE, STREET_POSTS};
 use crate::calls::{try_deal, try_linear, try_load_row, try_load_triple};
 use crate::lines::{try_read, try_write_masks, ReadLine};
 use crate::opening::try_open;
-use crate::product::{try_finish, try_masks, Product};
+use crate::product::{try_masks, try_multiply, try_open_masks, Product};
 use crate::refusal::{require, Refusal};
 use crate::session::Session;
 use crate::shape::Shape;
@@ -145,13 +145,15 @@ impl<const P: u32> Station<P> {
         Ok(Reply::default())
     }
 
-    /// "`F,first`, which finishes", and leaves the records as they are.
+    /// "`F,first`, which finishes" by the pair of calls, and leaves the records as they are. It answers
+    /// the first refusal of the two, and a refused one changes nothing.
     fn finish(&mut self, line: &[u8]) -> Result<Reply, Refusal> {
         let fields = plain_numbers(line, 1)?;
         let first = triple_in_range(fields[0])?;
         let [left, right] = self.masks.records(first);
-        let finished = try_finish::<P>(self.session, &mut self.rows, first, [&left, &right])?;
-        self.take(finished)
+        let (_, opened) = try_open_masks::<P>(self.session, &self.rows, first, [&left, &right])?;
+        let multiplied = try_multiply::<P>(opened, &mut self.rows, first)?;
+        self.take(multiplied)
     }
 
     /// A `D`, `O` or `M` line, with a list of its elements.

@@ -151,14 +151,20 @@ impl Station {
     /// The product of two rows into a triple's third row.
     pub fn multiply(&mut self, a: usize, b: usize, first: usize) {
         let records = self.masks(a, b, first).map(|masks| record(self.shape, &masks));
-        let [left, right] = records;
-        self.each(|_| Call::Finish { first, record: left.clone(), record2: right.clone() });
+        self.finish(first, &records);
+    }
+
+    /// Both calls of a finish, with these records.
+    pub fn finish(&mut self, first: usize, [record, record2]: &[Vec<u32>; 2]) {
+        let (record, record2) = (record.clone(), record2.clone());
+        self.each(|_| Call::OpenMasks { first, record: record.clone(), record2: record2.clone() });
+        self.each(|_| Call::Multiply { first });
     }
 }
 
 /// A station as reckoned by hand: row 0 raw; rows 1 and 2 hold 6 and 7; rows 3 to 5 are an unused
-/// triple with l = 2 and l' = 5; rows 6 to 8 one whose masks of rows 1 and 2 were sent. Row 9 holds
-/// 100, the others are empty.
+/// triple with l = 2 and l' = 5; rows 6 to 8 one whose masks of rows 1 and 2 were sent, rows 80 to 82
+/// one whose masks were opened. Row 9 holds 100, the others are empty.
 pub fn furnished() -> (Station, [Vec<Message>; 2]) {
     let mut station = Station::hand();
     let triple = [hand_row([2, 9]), hand_row([5, 1]), hand_row([10, 8])];
@@ -168,6 +174,10 @@ pub fn furnished() -> (Station, [Vec<Message>; 2]) {
     station.load_triple(3, &triple);
     station.load_triple(6, &triple);
     let masks = station.masks(1, 2, 6);
+    station.load_triple(80, &triple);
+    let [left, right] = station.masks(1, 2, 80).map(|masks| record(station.shape, &masks));
+    let call = Call::OpenMasks { first: 80, record: left, record2: right };
+    station.each(|_| call.clone());
     station.share(9, &hand_row([7, 4]), 100);
     (station, masks)
 }

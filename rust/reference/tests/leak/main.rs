@@ -10,6 +10,7 @@ mod one_row;
 mod products;
 mod record;
 mod relations;
+mod two_calls;
 mod two_rows;
 
 use std::collections::HashMap;
@@ -18,7 +19,10 @@ use draws::{for_each_draw, Condition, ALL};
 use record::{Plan, Raw, Station, Step};
 use reference::Shape;
 use Step::{Deal, FeeWithConstant, Finish, FinishWithConstant, LoadAgain, LoadRow, LoadTriple};
-use Step::{LoadTripleAgain, Message, Open, OpenForged, Overwrite, RelationFinish, RelationMasks};
+use Step::{
+    LoadTripleAgain, Message, Multiply, Open, OpenForged, OpenMasks, Overwrite, RelationFinish,
+    RelationMasks, Remember,
+};
 
 /// Whether every record of the group occurs equally often under both lists of secrets.
 fn equal_counts<const P: u32>(

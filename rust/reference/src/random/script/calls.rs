@@ -8,7 +8,7 @@ use crate::{mark, ROWS, TRIPLE};
 impl Author<'_> {
     /// One valid call of a random kind; none when no row suits it.
     pub(super) fn act(&mut self) {
-        let _ = match self.rng.below(16) {
+        let _ = match self.rng.below(17) {
             0 | 1 => self.load_row(),
             2..=4 => self.load_triple(),
             5 | 6 => self.deal(),
@@ -18,7 +18,8 @@ impl Author<'_> {
             11 => self.masks(),
             12 => self.relation_masks(),
             13 => self.relation_finish(),
-            _ => self.finish(),
+            14 | 15 => self.open_masks(),
+            _ => self.multiply(),
         };
     }
 

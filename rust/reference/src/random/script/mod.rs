@@ -42,6 +42,8 @@ pub struct Script {
     pub written: Vec<(usize, Vec<u32>)>,
     /// The marks after the last step.
     pub marks: [u8; ROWS],
+    /// The numbers that the session remembers for each row, after the last step.
+    pub opened: [[u32; 2]; ROWS],
 }
 
 impl Script {
@@ -79,6 +81,7 @@ pub fn script_for(rng: &mut Rng, n: usize, t: usize, length: usize) -> Script {
         marks: [mark::EMPTY; ROWS],
         shared: vec![None; ROWS],
         factors: [(0, 0); ROWS],
+        opened: [[0; 2]; ROWS],
         steps: vec![],
         rng,
     };
@@ -94,6 +97,7 @@ struct Author<'r> {
     marks: [u8; ROWS],
     shared: Vec<Option<SharedRow>>,
     factors: [(usize, usize); ROWS],
+    opened: [[u32; 2]; ROWS],
     steps: Vec<Step>,
 }
 
@@ -123,7 +127,7 @@ impl Author<'_> {
         let written = written
             .filter_map(|(row, shared)| Some((row, shared.as_ref()?.row_of(self.post, point))))
             .collect();
-        Script { rows, steps: self.steps, written, marks: self.marks }
+        Script { rows, steps: self.steps, written, marks: self.marks, opened: self.opened }
     }
 
     /// A valid call, with trials of it before and after.

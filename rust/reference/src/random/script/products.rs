@@ -19,24 +19,43 @@ impl Author<'_> {
         self.factors[first] = (a, b);
     }
 
-    pub(super) fn finish(&mut self) -> Option<()> {
+    pub(super) fn open_masks(&mut self) -> Option<()> {
         let first = self.pick(mark::MASKED)?;
         for _ in 0..2 {
             let [record, record2] = self.some_records(first);
-            let call = Call::Finish { first, record, record2 };
+            let call = Call::OpenMasks { first, record, record2 };
             self.steps.push(Step { trial: true, damage: vec![], call, opens_to: None });
         }
         let [record, record2] = self.records(first, [Heard::Enough; 2]);
-        self.multiplied(first);
-        self.step(Call::Finish { first, record, record2 }, None);
+        self.opened(first);
+        self.step(Call::OpenMasks { first, record, record2 }, None);
         Some(())
+    }
+
+    /// The masks' numbers are remembered.
+    fn opened(&mut self, first: usize) {
+        let numbers = self.differences(first).map(|difference| difference.number());
+        self.marks[first] = mark::OPENED;
+        self.opened[first] = numbers;
+    }
+
+    pub(super) fn multiply(&mut self) -> Option<()> {
+        let first = self.pick(mark::OPENED)?;
+        self.multiplied(first);
+        self.step(Call::Multiply { first }, None);
+        Some(())
+    }
+
+    /// The rows a − l and b − l'.
+    fn differences(&self, first: usize) -> [SharedRow; 2] {
+        let (a, b) = self.factors[first];
+        let y = self.shared(a).minus(&self.shared(first));
+        [y, self.shared(b).minus(&self.shared(first + 1))]
     }
 
     /// Records of a triple's masks.
     fn records(&mut self, first: usize, heard: [Heard; 2]) -> [Vec<u32>; 2] {
-        let (a, b) = self.factors[first];
-        let y = self.shared(a).minus(&self.shared(first));
-        let y2 = self.shared(b).minus(&self.shared(first + 1));
+        let [y, y2] = self.differences(first);
         [self.record(&y, heard[0]), self.record(&y2, heard[1])]
     }
 
@@ -92,7 +111,10 @@ impl Author<'_> {
         let records =
             firsts.iter().flat_map(|&first| self.records(first, [Heard::Enough; 2]).concat());
         let records = records.collect();
-        firsts.iter().for_each(|&first| self.multiplied(first));
+        for &first in &firsts {
+            self.opened(first);
+            self.multiplied(first);
+        }
         self.keep_sum(&terms, dest);
         self.step(Call::RelationFinish { terms, records, dest }, None);
         Some(())

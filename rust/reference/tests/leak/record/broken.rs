@@ -10,6 +10,12 @@ fn overwrite(mut session: Session, row: usize, mark: u8) -> Answer {
     Answer { refusal: 0, value: 0, session }
 }
 
+/// The session with another number y of a triple.
+fn remember(mut session: Session, first: usize, y: u32) -> Answer {
+    session.y[first] = y;
+    Answer { refusal: 0, value: 0, session }
+}
+
 /// The number of a factor row less a row of the triple, opened with its record: on copies in which
 /// both are held, and the last row is empty.
 fn masked_number<const P: u32>(
@@ -34,6 +40,7 @@ impl<const P: u32> Station<'_, P> {
     pub(super) fn break_rule(&self, s: Session, rows: &mut [u32], step: Step) -> Answer {
         match step {
             Step::Overwrite { row, mark } => overwrite(s, row, mark),
+            Step::Remember { first, y } => remember(s, first, y),
             Step::LoadAgain { of, into } => self.load_row(s, rows, of, into),
             Step::LoadTripleAgain { of, into } => self.load_triple(s, rows, of, into),
             Step::FinishWithConstant(first) => self.finish_with_constant(s, rows, first),

@@ -1,8 +1,8 @@
 //! A step at one post, and the lines that it makes.
 
 use reference::{
-    deal, finish, linear, load_row, load_triple, masks, open, opening_message, relation_finish,
-    relation_masks, write_masks, write_opening, Answer, Session, Term, NO_ROW,
+    deal, linear, load_row, load_triple, masks, multiply, open, open_masks, opening_message,
+    relation_finish, relation_masks, write_masks, write_opening, Answer, Session, Term, NO_ROW,
 };
 
 use super::{Station, Step};
@@ -36,6 +36,8 @@ impl<const P: u32> Station<'_, P> {
             Step::Open(row) => open::<P>(s, rows, row, &self.heard(b'O', row, 0)),
             Step::Linear { dest, a, b, scale, fee } => linear::<P>(s, rows, dest, a, b, scale, fee),
             Step::Finish(first) => self.finish(s, rows, first),
+            Step::OpenMasks(first) => self.open_masks(s, rows, first),
+            Step::Multiply(first) => multiply::<P>(s, rows, first),
             Step::RelationFinish { terms, dest } => {
                 let records: Vec<u32> =
                     firsts(terms).flat_map(|first| self.heard_masks(first).concat()).collect();
@@ -94,10 +96,19 @@ impl<const P: u32> Station<'_, P> {
         [0, 1].map(|part| self.heard(b'M', first, part))
     }
 
-    /// Finishes with what was heard of a triple's masks.
+    /// Both calls of a finish, with what was heard of a triple's masks.
     pub(super) fn finish(&self, s: Session, rows: &mut [u32], first: usize) -> Answer {
+        let opened = self.open_masks(s, rows, first);
+        if opened.refusal == 0 {
+            multiply::<P>(opened.session, rows, first)
+        } else {
+            opened
+        }
+    }
+
+    fn open_masks(&self, s: Session, rows: &[u32], first: usize) -> Answer {
         let [left, right] = self.heard_masks(first);
-        finish::<P>(s, rows, first, &left, &right)
+        open_masks::<P>(s, rows, first, &left, &right)
     }
 
     /// The line of a message, or of masks when there are twice as many numbers.

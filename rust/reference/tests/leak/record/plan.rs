@@ -25,8 +25,12 @@ pub enum Step {
         b: usize,
         first: usize,
     },
-    /// Finishes with all that was broadcast for the triple before.
+    /// Finishes with all that was broadcast for the triple before: both calls.
     Finish(usize),
+    /// The first call of a finish.
+    OpenMasks(usize),
+    /// The second call of a finish.
+    Multiply(usize),
     /// Makes the masks of a relation and broadcasts a line for each product term.
     RelationMasks(&'static [Term]),
     /// Finishes a relation with all that was broadcast for its triples before.
@@ -38,6 +42,11 @@ pub enum Step {
     Overwrite {
         row: usize,
         mark: u8,
+    },
+    /// Breaks a rule: the first of the numbers that a session remembers for a triple is overwritten.
+    Remember {
+        first: usize,
+        y: u32,
     },
     /// Breaks a rule: the pack drawn for row `of` is loaded into another one too.
     LoadAgain {

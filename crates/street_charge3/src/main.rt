@@ -1,4 +1,0 @@
-// Post 3 of the same three works out the charge with the `M` lines that posts 1 and 2 print.
-fn main() {
-    console::run();
-}

@@ -1,4 +1,0 @@
-// The street program on an empty input.
-fn main() {
-    console::run();
-}
