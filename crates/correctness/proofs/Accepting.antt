@@ -11,9 +11,9 @@ use lib.ListN.{length, length-take}
 use Rattle.poly.specs.Counting.{Elements}
 use Rattle.poly.proofs.Lists.{all-zip}
 use Rattle.session.specs.declared.Session.{Session}
-use Rattle.opening.specs.Blocks as Blocks
+use Rattle.blocks.specs.Blocks as Blocks
+use Rattle.accepting.proofs.Accepted.{walk-first}
 use Rattle.opening.specs.Walking.{blockMark, sent, accepts, accepted, acceptedPosts, tooFew}
-use Rattle.opening.proofs.Accepted.{walk-first}
 use Rattle.vectors.proofs.Passing.{all-passing, distinct-passing}
 use Rattle.runs.proofs.Records.{sent-there, block-many, block-low}
 use Rattle.runs.specs.Calls.{Proper}

@@ -22,11 +22,11 @@ use Rattle.sharing.specs.Load.{loadRowRefusal, loadTripleRefusal, withTriple}
 use Rattle.sharing.specs.Deal.{dealRefusal}
 use Rattle.sharing.specs.Linear.{linearRefusal}
 use Rattle.sharing.specs.Message.{messageRefusal}
-use Rattle.opening.specs.Blocks as Blocks
+use Rattle.blocks.specs.Blocks as Blocks
 use Rattle.agreement.specs.Agreement.{allPairs}
 use Rattle.session.specs.declared.Session.{Session}
+use Rattle.accepting.specs.Accepting as Accepting
 use Rattle.opening.specs.Walking.{sent, accepts}
-use Rattle.opening.specs.Accepting as Accepting
 use Rattle.opening.specs.Opening.{openRefusal}
 use Rattle.product.specs.Masks.{masksRefusal, maskNumbersOf}
 use Rattle.product.specs.Finish.{productRow, withProduct}

@@ -20,8 +20,8 @@ use Rattle.session.specs.Sessions.{shapeOf, partyOf, factorA, factorB}
 use Rattle.session.specs.Checks.{frameTests, noRow, noTriple, Framed, Sized, RowIn, TripleIn}
 use Rattle.session.proofs.Passed.{row-below}
 use Rattle.session.proofs.Calls.{frame-passed, stopped-at-frame, past-frame}
-use Rattle.opening.specs.Blocks as Blocks
-use Rattle.opening.specs.Blocks.{Recorded}
+use Rattle.blocks.specs.Blocks as Blocks
+use Rattle.blocks.specs.Between.{Recorded}
 use Rattle.opening.specs.Walking.{recordLength, badRecord}
 use Rattle.product.specs.Masks.{tripleMarks, factorNumbers, maskNumbers}
 use Rattle.product.specs.Finish.{finishPlace, finishMarks}

@@ -19,12 +19,11 @@ use Rattle.session.specs.Sessions.{shapeOf, partyOf, holding, collectedTriple}
 use Rattle.session.specs.Rows.{rowAt, combined}
 use Rattle.session.proofs.Endings.{refused-answer, accepted-answer}
 use Rattle.session.proofs.Writers.{length-combined}
-use Rattle.opening.specs.declared.Opened.{Opened}
-use Rattle.opening.specs.Blocks.{Recorded}
-use Rattle.opening.specs.Accepting as Accepting
-use Rattle.opening.specs.Accepting.{Openable}
+use Rattle.blocks.specs.Between.{Recorded, Openable}
+use Rattle.walk.specs.declared.Opened.{Opened}
+use Rattle.walk.specs.Number as Number
+use Rattle.walk.proofs.Settles.{decided, opened-decided}
 use Rattle.opening.specs.Walking.{tooFew, disagree, opened}
-use Rattle.opening.proofs.Settles.{decided, opened-decided}
 use Rattle.product.specs.declared.OpenedMasks.{OpenedMasks}
 use Rattle.product.specs.Masks.{maskRow}
 use Rattle.product.specs.Finish.{maskA, maskB, unopened, eitherOf, found, openedBoth}
@@ -44,8 +43,8 @@ module _ (q : Party) (rows room made blocks x y : List ℕ) (k r : ℕ) (ex : x 
   mask-openable lx ly h =
       record { recorded = h; row-length = ap length em ∙ length-combined (p - 1) x y (lx ∙ sym ly) ∙ lx }
 
-  pub mask-opened : (o : Opened) → o ≡ Accepting.openedRow q made blocks → o ≡ Accepting.openedRow q (maskRow (q .shape) rows k r) blocks
-  mask-opened o eo = eo ∙ ap (λ (l : List ℕ). Accepting.openedRow q l blocks) made-is
+  pub mask-opened : (o : Opened) → o ≡ Number.openedRow q made blocks → o ≡ Number.openedRow q (maskRow (q .shape) rows k r) blocks
+  mask-opened o eo = eo ∙ ap (λ (l : List ℕ). Number.openedRow q l blocks) made-is
 
 module _ (r a b : ℕ) where
   pub either-nine : b ≡ 9 → r ≡ 9 → r ≡ eitherOf a b
@@ -78,7 +77,7 @@ values false false false false v v' e = (refl, refl)
 
 -- both, from what the two openings gave
 module _ (s : Session) (m : Party) (em : m ≡ partyOf s) (rows l l' : List ℕ) (k k' r r' : ℕ) (o o' : Opened) (q : ℕ)
-    (eo : o ≡ Accepting.openedRow m (maskRow (m .shape) rows k r) l) (eo' : o' ≡ Accepting.openedRow m (maskRow (m .shape) rows k' r') l')
+    (eo : o ≡ Number.openedRow m (maskRow (m .shape) rows k r) l) (eo' : o' ≡ Number.openedRow m (maskRow (m .shape) rows k' r') l')
     (eq : q ≡ eitherOf (o .refusal) (o' .refusal)) where
   abbrev x : List ℕ
   x = maskRow (shapeOf s) rows k r

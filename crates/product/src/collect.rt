@@ -14,7 +14,7 @@ ghost use Rattle.shape.specs.Lengths.{Valid};
 ghost use Rattle.refusal.specs.Refusal.{first, _when_};
 ghost use Rattle.session.specs.Sessions.{shapeOf, partyOf, factorA, factorB};
 ghost use Rattle.session.specs.Checks.{noRow, Framed, RowIn, TripleIn};
-ghost use Rattle.opening.specs.Blocks.{Recorded};
+ghost use Rattle.blocks.specs.Between.{Recorded};
 ghost use Rattle.product.specs.Finish.{maskA, maskB, finishPlace, finishMarks, openedBoth};
 ghost use Rattle.product.specs.Collect.{collectNumbers, collectOwn, collectChecks, openedMasks, collectAnswer};
 
@@ -62,8 +62,8 @@ fn collect_numbers(
 {
     let party = session.party();
     let records = refusal::or_else(
-        opening::record::refusal(party, record_a),
-        opening::record::refusal(party, record_b),
+        blocks::refusal(party, record_a),
+        blocks::refusal(party, record_b),
     );
     refusal::or_else(
         masks::factor_numbers(session.shape(), rows, a, b, row),

@@ -1,8 +1,8 @@
 // The two jobs of document 01's finish, of which document 02, (viii), makes two calls, `collect` and `multiply`: a mask is opened; the
 // product l'' + y l' + y' l + y y' goes into the triple's third row.
-use opening::Opened;
 use session::Party;
 use shape::Shape;
+use walk::Opened;
 ghost use mathlib.Core.Path.{_≡_};
 ghost use Prim.Native.Nat.{_+_, _≤_};
 ghost use lib.ListN.{length};
@@ -11,8 +11,8 @@ ghost use Rattle.shape.specs.Bounds.{veryFewPosts, fewPosts};
 ghost use Rattle.shape.specs.Lengths.{rowLength, sumsAt};
 ghost use Rattle.session.specs.Rows.{rowAt, withRow, summed};
 ghost use Rattle.session.specs.Checks.{Sized, RowIn, TripleIn};
-ghost use Rattle.opening.specs.Blocks.{Recorded};
-ghost use Rattle.opening.specs.Accepting.{openedRow};
+ghost use Rattle.blocks.specs.Between.{Recorded};
+ghost use Rattle.walk.specs.Number.{openedRow};
 ghost use Rattle.product.specs.Masks.{maskRow};
 ghost use Rattle.product.specs.Finish.{eitherOf};
 
@@ -36,7 +36,7 @@ fn open_mask_in(
         session::rows::row(shape, rows, row),
         room,
     );
-    opening::walking::open_row(party, room, blocks)
+    rooms::open_row(party, room, blocks)
 }
 
 // In a room for very few posts.

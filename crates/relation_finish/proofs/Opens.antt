@@ -18,9 +18,9 @@ use Rattle.session.specs.Checks.{Framed, RowIn}
 use Rattle.shape.specs.Bounds.{lastRow}
 use Rattle.shape.specs.Marks.{held}
 use Rattle.session.proofs.Endings.{refused-answer, accepted-answer}
-use Rattle.opening.specs.declared.Opened.{Opened}
+use Rattle.walk.specs.declared.Opened.{Opened}
+use Rattle.walk.proofs.Settles.{decided, opened-decided}
 use Rattle.opening.specs.Walking.{tooFew, disagree, opened, openedRow}
-use Rattle.opening.proofs.Settles.{decided, opened-decided}
 use Rattle.product.specs.Finish.{eitherOf, withProduct}
 use Rattle.terms.specs.declared.Term.{Term}
 use Rattle.terms.specs.declared.Terms.{Terms}

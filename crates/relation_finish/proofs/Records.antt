@@ -18,10 +18,10 @@ use Rattle.session.specs.Rows.{rowAt}
 use Rattle.session.specs.Checks.{RowIn}
 use Rattle.session.proofs.Passed.{row-below}
 use Rattle.session.proofs.RowLaws.{next}
-use Rattle.opening.specs.declared.Opened.{Opened}
-use Rattle.opening.specs.Blocks as Blocks
-use Rattle.opening.specs.Blocks.{Recorded}
-use Rattle.opening.specs.Accepting as Accepting
+use Rattle.blocks.specs.Blocks as Blocks
+use Rattle.blocks.specs.Between.{Recorded}
+use Rattle.walk.specs.declared.Opened.{Opened}
+use Rattle.walk.specs.Number as Number
 use Rattle.opening.specs.Walking.{recordLength, badRecord, openedRow}
 use Rattle.product.specs.Masks.{maskRow}
 use Rattle.product.specs.Finish.{eitherOf}
@@ -57,7 +57,7 @@ module _ (s : Session) (g : Shape) (eg : g ≡ shapeOf s) (blocks : List ℕ) (j
       pub record-is : (u : ℕ) → u ≡ first (8 when Blocks.badRecord q x ∷ []) → u ≡ first (8 when badRecord s (recordAt s blocks j) ∷ [])
       record-is u eu = rw (eq, ex, eg) at eu
 
-      pub mask-is : (rows : List ℕ) (a r : ℕ) (o : Opened) → o ≡ Accepting.openedRow q (maskRow (q .shape) rows a r) x
+      pub mask-is : (rows : List ℕ) (a r : ℕ) (o : Opened) → o ≡ Number.openedRow q (maskRow (q .shape) rows a r) x
           → o ≡ openedRow s (maskRow (shapeOf s) rows a r) (recordAt s blocks j)
       mask-is rows a r o eo = rw (eq, ex, eg) at eo
 

@@ -8,7 +8,7 @@ use Rattle.shape.specs.Lengths.{Valid}
 use Rattle.refusal.specs.Refusal.{first, outcome}
 use Rattle.session.specs.declared.Session.{Session}
 use Rattle.session.specs.Sessions.{shapeOf}
-use Rattle.opening.specs.declared.Opened.{Opened}
+use Rattle.walk.specs.declared.Opened.{Opened}
 use Rattle.opening.specs.Walking.{recordLength, openedRow}
 use Rattle.product.specs.Finish.{eitherOf, withProduct}
 use Rattle.terms.specs.declared.Term.{Term}

@@ -93,7 +93,7 @@ fn record_refusal(session: Session, blocks: &[u32], j: usize) -> u8
     ensures { λ r. ⌜ r ≡ first (8 when badRecord session (recordAt session (now (blocks .entry)) j) ∷ []) ⌝ }
 {
     let blocks = record(session.shape(), blocks, j);
-    opening::record::refusal(session.party(), blocks)
+    blocks::refusal(session.party(), blocks)
 }
 
 // 8, of the two records of the product term at place k.

@@ -1,10 +1,10 @@
 // The openings of a relation's finish: y and y' of every product term, with the first refusal among them.
 use crate::OpenedTerms;
 use crate::checks;
-use opening::Opened;
 use session::Session;
 use terms::Term;
 use terms::Terms;
+use walk::Opened;
 ghost use mathlib.Core.Path.{_≡_};
 ghost use Prim.Native.Nat.{_+_, _*_, _≤_, _<_};
 ghost use lib.ListN.{length};

@@ -15,11 +15,11 @@ use Rattle.poly.proofs.Lists.{all-map}
 use Rattle.refusal.proofs.Laws.{or-false}
 use Rattle.session.specs.declared.Session.{Session}
 use Rattle.session.specs.Sessions.{shapeOf}
-use Rattle.opening.specs.Blocks as Blocks
-use Rattle.opening.specs.Accepting as Accepting
+use Rattle.blocks.specs.Blocks as Blocks
+use Rattle.blocks.proofs.Blocks.{post-in}
+use Rattle.accepting.specs.Accepting as Accepting
+use Rattle.accepting.proofs.Accepted.{all-accepted, distinct-accepted}
 use Rattle.opening.specs.Walking.{blockMark, blockCoefficients, badBlock, badBlocks, sent, accepts, accepted, acceptedPosts, tooFew, walk}
-use Rattle.opening.proofs.Blocks.{post-in}
-use Rattle.opening.proofs.Accepted.{all-accepted, distinct-accepted}
 use Rattle.vectors.specs.Vector.{Vector, numbers}
 use Rattle.vectors.specs.Claims.{heldRow, Truly}
 use Rattle.vectors.proofs.Passing.{all-passing}

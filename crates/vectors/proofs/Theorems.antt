@@ -30,12 +30,12 @@ use Rattle.shape.specs.Row.{checkValue, publicSum}
 use Rattle.session.specs.Sessions.{shapeOf, holding}
 use Rattle.session.specs.Rows.{combined}
 use Rattle.session.proofs.Writers.{length-combined}
-use Rattle.opening.specs.Accepting as Accepting
+use Rattle.accepting.specs.Accepting as Accepting
+use Rattle.accepting.proofs.Accepted.{Accepted, all-accepted, distinct-accepted, accepted-enough, walk-first}
 use Rattle.opening.specs.Walking.{sent, accepts, share, accepted, acceptedPosts, further, tooFew, disagree, opened}
 use Rattle.opening.specs.Opening.{openAnswer}
 use Rattle.opening.proofs.Opens.{open-allowed}
 use Rattle.opening.proofs.Theorems.{open-nine, open-thirteen, open-number}
-use Rattle.opening.proofs.Accepted.{Accepted, all-accepted, distinct-accepted, accepted-enough, walk-first}
 use Rattle.vectors.specs.Vector.{Vector, plusTimes, number, firsts, numbers, valueAt, checkOf, sumAt, rowOf, vectorOf}
 use Rattle.vectors.specs.Claims.{PartLinear, heldRow, Truly, AcceptedAgrees, TrueAccepted, EnoughTruly, OpeningExact}
 use Rattle.vectors.proofs.Passing.{all-parts, all-passing, given-passing}

@@ -2,7 +2,7 @@
 use mathlib.Core.Path.{refl}
 use borrow.Author.Needs.{needs}
 use Rattle.shape.specs.Bounds.{shortRow}
-use Rattle.opening.proofs.Fronts.{front-length, front-size}
+use Rattle.walk.proofs.Fronts.{front-length, front-size}
 use Rattle.product.proofs.finish.open_short_mask.Statement.{statement}
 use Rattle.product.proofs.finish.open_short_mask.Tie as tie
 

@@ -2,7 +2,7 @@
 use mathlib.Core.Path.{refl}
 use borrow.Author.Needs.{needs}
 use Rattle.shape.specs.Bounds.{veryShortRow}
-use Rattle.opening.proofs.Fronts.{front-length, front-size}
+use Rattle.walk.proofs.Fronts.{front-length, front-size}
 use Rattle.product.proofs.finish.open_shortest_mask.Statement.{statement}
 use Rattle.product.proofs.finish.open_shortest_mask.Tie as tie
 

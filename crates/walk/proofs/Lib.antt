@@ -1,0 +1,4 @@
+pub mod Walks
+pub mod Behind
+pub mod Settles
+pub mod Fronts
