@@ -27,7 +27,7 @@ use Rattle.product.specs.Finish.{unopened}
 use Rattle.product.specs.Collect.{collectRefusal, collectAnswer}
 use Rattle.product.specs.Multiply.{multiplyRefusal}
 use Rattle.product.proofs.Passed.{Factored, CollectChecked, collect-walks, multiply-clear}
-use Rattle.factory.proofs.Laws.{elements-append}
+use Rattle.parts.proofs.Laws.{elements-append}
 use Rattle.vectors.specs.Vector.{Vector, number, numbers, rowOf}
 use Rattle.runs.specs.Draws.{Plan, Draw, IsDraw, Sound, pointOf}
 use Rattle.runs.specs.Calls.{Proper, Post}

@@ -12,7 +12,7 @@ use Rattle.decimal.specs.Numeral.{tens, leading}
 use Rattle.csv.specs.Fields.{fields, written, Parsed, parsed, malformed, fieldsAt, Small}
 use Rattle.csv.proofs.Overwriting.{fields-append}
 use Rattle.csv.proofs.Reading.{fields-read}
-use Rattle.factory.proofs.Laws.{elements-append}
+use Rattle.parts.proofs.Laws.{elements-append}
 use Rattle.vectors.specs.Vector.{Vector, numbers}
 use Rattle.vectors.proofs.Linear.{length-numbers}
 use Rattle.runs.specs.Draws.{Plan, Draw, IsDraw}

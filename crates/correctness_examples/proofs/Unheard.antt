@@ -7,7 +7,7 @@ use mathlib.Core.List.{List, [], _∷_, _++_}
 use native.Mathlib.Omega.{arith}
 use lib.Dec.{lit<, lit≤}
 use lib.ListN.{getD, length, replicate}
-use Rattle.factory.specs.Packs.{dealerNumber}
+use Rattle.factory.specs.Calls.{dealerNumber}
 use Rattle.session.specs.declared.Answer.{Answer}
 use Rattle.runs.specs.Calls.{message, opening}
 use Rattle.correctness.specs.History.{Event, World, answers, begin}

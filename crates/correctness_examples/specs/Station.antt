@@ -4,7 +4,7 @@ use mathlib.Core.Logic.{_≢_}
 use mathlib.Core.List.{List, [], _∷_}
 use lib.Dec.{eqb}
 use lib.ListN.{getD, replicate}
-use Rattle.factory.specs.Packs.{dealerNumber}
+use Rattle.factory.specs.Calls.{dealerNumber}
 use Rattle.runs.specs.Draws.{Plan, Draw, none, by, rawDraw, rawPack, triplePack}
 use Rattle.runs.specs.Calls.{Call, loadRow, loadTriple, deal}
 use Rattle.correctness.specs.History.{Event, World, doneBy, turn}

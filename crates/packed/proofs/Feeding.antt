@@ -23,9 +23,10 @@ use Rattle.interpreter.specs.Stepping.{step}
 use Rattle.transcript.specs.Text.{answerText}
 use Rattle.transcript.specs.Program.{Running, leftBy, fed}
 use Rattle.transcript.proofs.Chunks.{fed-append}
-use Rattle.packfile.specs.Kinds.{drawnFor}
-use Rattle.packfile.specs.File.{postPart, tripleParts, numbersOf, lineWith, rowLine, rowLines}
-use Rattle.packfile.specs.Parts.{PostIn}
+use Rattle.kinds.specs.Kinds.{drawnFor}
+use Rattle.packrow.specs.Numbers.{postPart, tripleParts, numbersOf}
+use Rattle.packlines.specs.File.{lineWith, rowLine, rowLines}
+use Rattle.packrow.specs.Between.{PostIn}
 use Rattle.packfile.specs.Writing.{postAt}
 use Rattle.packed.specs.Straight.{kindLoaded, rowsLoaded}
 use Rattle.packed.specs.Claims.{lineFor, loads, noRefusals}

@@ -14,7 +14,7 @@ use Rattle.interpreter.specs.States.{firstState, begunWith}
 use Rattle.transcript.specs.Text.{header, answerText}
 use Rattle.transcript.specs.Program.{Running, begun, fed, output}
 use Rattle.lines.specs.Writing.{writtenAs, partAs}
-use Rattle.packfile.specs.File.{file}
+use Rattle.packlines.specs.File.{file}
 use Rattle.packfile.specs.Writing.{postAt, givenRefusal, packRefusal}
 use Rattle.packed.specs.Straight.{Loaded, straight}
 

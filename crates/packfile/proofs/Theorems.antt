@@ -10,7 +10,7 @@ use Rattle.refusal.proofs.Decided.{keeps}
 use Rattle.csv.specs.Fields.{overwrite}
 use Rattle.lines.specs.declared.Written.{Written}
 use Rattle.lines.specs.Writing.{notWritten}
-use Rattle.packfile.specs.File.{file}
+use Rattle.packlines.specs.File.{file}
 use Rattle.packfile.specs.Writing.{postAt, packRefusal}
 use Rattle.packfile.specs.Table.{packTable}
 use Rattle.packfile.specs.Claims.{PackLawful}

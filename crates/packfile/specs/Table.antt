@@ -7,9 +7,9 @@ use lib.ListN.{length}
 use Rattle.shape.specs.Lengths.{shape}
 use Rattle.refusal.specs.Refusal.{Test, _when_}
 use Rattle.refusal.specs.Conditions.{outside, wrongLength, anyBeyond}
-use Rattle.factory.specs.Packs.{anyBadPoint}
-use Rattle.packfile.specs.Kinds.{drawsLength, anyRow, late, crowded, unknown}
-use Rattle.packfile.specs.File.{file}
+use Rattle.factory.specs.Calls.{anyBadPoint}
+use Rattle.kinds.specs.Kinds.{drawsLength, anyRow, late, crowded, unknown}
+use Rattle.packlines.specs.File.{file}
 use Rattle.packfile.specs.Writing.{postAt}
 
 -- `room` is the length of the lent list.

@@ -18,8 +18,9 @@ use Rattle.refusal.specs.Conditions.{wrongLength, postsTests}
 use Rattle.refusal.proofs.Laws.{all-fail, not-refused}
 use Rattle.refusal.proofs.Elements.{element-test}
 use Rattle.session.specs.Rows.{rowAt}
-use Rattle.factory.specs.Packs.{packs, triplePacks, anyBadPoint, factoryTests, factoryRowRefusal, factoryTripleRefusal}
-use Rattle.factory.proofs.Laws.{length-packs, packs-part}
+use Rattle.packs.specs.Packs.{packs, triplePacks}
+use Rattle.factory.specs.Calls.{anyBadPoint, factoryTests, factoryRowRefusal, factoryTripleRefusal}
+use Rattle.packs.proofs.Laws.{length-packs, packs-part}
 use Rattle.factory.proofs.Theorems.{row-done, triple-done}
 use Rattle.runs.specs.Draws.{Plan, planShape, Draw, IsRaw, Sound, IsDraw, rowLength, pointOf, rawDraw, tripleDraw, drawA, drawB, drawAB, partOf, rawPack, triplePack}
 use Rattle.runs.specs.Packs.{RowGiven, TripleGiven, FactoryPacks}

@@ -17,7 +17,7 @@ use Rattle.field.proofs.Elements.{𝓡, element-zero, element-one, element-prod
 use Rattle.poly.specs.Counting.{Elements}
 use Rattle.refusal.specs.Refusal.{outcome}
 use Rattle.refusal.proofs.Elements.{element-test}
-use Rattle.factory.specs.Packs.{dealerRefusal, dealerNumber}
+use Rattle.factory.specs.Calls.{dealerRefusal, dealerNumber}
 use Rattle.vectors.specs.Vector.{Vector, plusTimes, raised, number, vectorOf}
 use Rattle.vectors.proofs.Linear.{number-plusTimes}
 use Rattle.vectors.proofs.Draws.{element-at}

@@ -11,7 +11,7 @@ use Rattle.field.proofs.Modular.{product-below}
 use Rattle.shape.specs.Bounds.{rowCount}
 use Rattle.shape.specs.Lengths.{vLength, tripleDrawLength}
 use Rattle.poly.specs.Counting.{Elements}
-use Rattle.factory.proofs.Laws.{elements-take, elements-drop}
+use Rattle.parts.proofs.Laws.{elements-take, elements-drop}
 use Rattle.vectors.specs.Vector.{Vector, rowOf, vectorOf}
 use Rattle.vectors.proofs.Draws.{part-is-row}
 use Rattle.runs.specs.Draws.{Plan, planShape, Draw, Raw, none, by, IsRaw, whenRaw, IsDraw, rowLength, pointOf, rawDraw, tripleDraw, drawA, drawB, drawAB, partOf, rawPack, triplePack}

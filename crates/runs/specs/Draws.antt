@@ -12,7 +12,7 @@ use Rattle.shape.specs.Lengths.{shape, drawLength, tripleDrawLength}
 use Rattle.poly.specs.Counting.{All, Elements}
 use Rattle.refusal.specs.Refusal.{first}
 use Rattle.refusal.specs.Conditions.{postsTests}
-use Rattle.factory.specs.Draw.{part, firstDraw, secondDraw, thirdDraw}
+use Rattle.parts.specs.Draw.{part, firstDraw, secondDraw, thirdDraw}
 
 -- Whether a row is drawn raw, and who deals it: a post, or a number outside 1..n for someone who is no post.
 pub data Raw : Type 0 where

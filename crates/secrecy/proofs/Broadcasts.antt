@@ -7,8 +7,8 @@ use mathlib.Core.List.{List, [], _∷_, _++_, map}
 use native.Mathlib.Omega.{arith}
 use lib.ListN.{length, length-append}
 use Rattle.poly.specs.Counting.{All, Elements}
-use Rattle.factory.specs.Draw.{eachFrom}
-use Rattle.factory.proofs.Laws.{elements-append}
+use Rattle.parts.specs.Draw.{eachFrom}
+use Rattle.parts.proofs.Laws.{elements-append}
 use Rattle.vectors.specs.Vector.{Vector, numbers}
 use Rattle.vectors.proofs.Linear.{length-numbers}
 use Rattle.runs.specs.Outline.{Act, Sending, itsOpening, itsMasks, moves, acts, sends}

@@ -23,10 +23,10 @@ use Rattle.shape.specs.Bounds.{rowCount}
 use Rattle.refusal.proofs.Laws.{not-refused}
 use Rattle.refusal.proofs.Ranges.{posts-passed}
 use Rattle.refusal.proofs.Elements.{element-test}
-use Rattle.factory.specs.Draw.{part, firstDraw, secondDraw, thirdDraw}
-use Rattle.factory.specs.Packs.{dealerRefusal, dealerNumber}
+use Rattle.parts.specs.Draw.{part, firstDraw, secondDraw, thirdDraw}
+use Rattle.factory.specs.Calls.{dealerRefusal, dealerNumber}
 use Rattle.factory.specs.declared.Number.{Number}
-use Rattle.factory.proofs.Laws.{elements-append}
+use Rattle.parts.proofs.Laws.{elements-append}
 use Rattle.vectors.specs.Vector.{Vector, numbers, checkOf, sumAt, rowOf, vectorOf}
 use Rattle.runs.specs.Draws.{Plan, planShape, Raw, none, by, IsRaw, whenRaw, Sound, Draw, IsDraw, rowLength, rawLength, tripleLength, pointOf, rawDraw, tripleDraw, rawPack, triplePack}
 use Rattle.runs.proofs.Start.{all-at}

@@ -7,7 +7,7 @@ use lib.ListN.{length, getD, replicate}
 use Rattle.field.specs.Modulus.{p}
 use Rattle.poly.specs.Counting.{All, Distinct}
 use Rattle.poly.proofs.Lists.{all-map}
-use Rattle.factory.specs.Draw.{eachFrom}
+use Rattle.parts.specs.Draw.{eachFrom}
 use Rattle.runs.specs.Draws.{Plan, Draw, IsDraw, Lists, rawLength, tripleLength}
 use Rattle.secrecy.specs.Seen.{allRows}
 use Rattle.runs.specs.Calls.{Among}

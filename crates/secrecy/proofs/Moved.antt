@@ -20,7 +20,7 @@ use Rattle.poly.proofs.Lists.{all-map}
 use Rattle.shape.specs.Bounds.{fewestPosts, mostPosts}
 use Rattle.refusal.specs.Conditions.{postsTests}
 use Rattle.refusal.proofs.Laws.{all-fail, inside}
-use Rattle.factory.specs.Draw.{thirdDraw}
+use Rattle.parts.specs.Draw.{thirdDraw}
 use Rattle.runs.proofs.Start.{all-at}
 use Rattle.runs.specs.Draws.{Plan, planShape, Sound, Draw, Lists, IsDraw, rowLength, rawLength, tripleLength, pointOf, rawDraw, tripleDraw, drawA, drawB, drawAB}
 use Rattle.secrecy.specs.Steps.{Secrets}

@@ -11,7 +11,7 @@ use lib.ListN.{getD, set}
 use lib.Seq.{getD-set-same}
 use Rattle.poly.specs.Counting.{All}
 use Rattle.refusal.specs.Refusal.{outcome}
-use Rattle.factory.specs.Draw.{eachFrom}
+use Rattle.parts.specs.Draw.{eachFrom}
 use Rattle.vectors.specs.Vector.{Vector}
 use Rattle.runs.specs.Outline.{Act, acts, sends}
 use Rattle.runs.specs.Calls.{Post, Call, Performed, after}

@@ -16,7 +16,7 @@ use Rattle.poly.specs.Counting.{Elements}
 use Rattle.poly.proofs.Coefficients.{ev}
 use Rattle.shape.specs.declared.Shape.{Shape}
 use Rattle.shape.specs.Lengths.{fLength, vLength, drawLength}
-use Rattle.factory.proofs.Laws.{drawn-room}
+use Rattle.parts.proofs.Laws.{drawn-room}
 use Rattle.vectors.specs.Vector.{Vector, plusTimes, number, firsts, numbers, valueAt, rowOf, vectorOf}
 use Rattle.secrecy.proofs.Near.{gap, Near}
 open CommutativeRing 𝓡 using (add as _⊕_, mul as _⊗_, neg, zero as 0ᴱ, one as 1ᴱ)

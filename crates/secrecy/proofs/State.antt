@@ -14,7 +14,7 @@ use Rattle.field.proofs.Elements.{𝓡, element-product}
 use Rattle.poly.specs.Counting.{All, Elements}
 use Rattle.poly.proofs.Lists.{all-map}
 use Rattle.refusal.specs.Refusal.{first}
-use Rattle.factory.specs.Packs.{dealerNumber}
+use Rattle.factory.specs.Calls.{dealerNumber}
 use Rattle.vectors.specs.Vector.{Vector, raised, number, numbers, vectorOf}
 use Rattle.vectors.proofs.Linear.{length-numbers}
 use Rattle.runs.specs.Draws.{Plan, planShape, Draw, IsDraw, Sound, IsRaw, Raw, by, whenRaw, rawDraw, rawPack, triplePack}

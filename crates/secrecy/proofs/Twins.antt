@@ -31,7 +31,7 @@ use Rattle.product.specs.Finish.{unopened}
 use Rattle.product.specs.Collect.{collectRefusal, collectNumbers}
 use Rattle.product.specs.Multiply.{rememberedNumbers, multiplyRefusal}
 use Rattle.product.proofs.Passed.{Factored, factorTests, masksEarly, masks-placed, collectEarly, collect-placed, collectRest, multiplyEarly, multiply-placed, multiplyTests}
-use Rattle.factory.proofs.Laws.{elements-append}
+use Rattle.parts.proofs.Laws.{elements-append}
 use Rattle.vectors.specs.Vector.{Vector, number, numbers, rowOf}
 use Rattle.runs.specs.Draws.{Plan, Draw, pointOf}
 use Rattle.runs.proofs.Marks.{Marks, markOf, rememberedA, rememberedB, Opened, sessionAt, less, maskVectorA, maskVectorB}

@@ -8,7 +8,7 @@ use lib.Dec.{eqb}
 use lib.ListN.{replicate}
 use Rattle.field.specs.Modulus.{p}
 use Rattle.poly.specs.Counting.{Distinct}
-use Rattle.factory.specs.Draw.{eachFrom}
+use Rattle.parts.specs.Draw.{eachFrom}
 use Rattle.runs.specs.Draws.{Plan, Draw, IsDraw, rawLength, tripleLength}
 use Rattle.runs.specs.Calls.{Among}
 use Rattle.secrecy.specs.Steps.{Secrets, Step}

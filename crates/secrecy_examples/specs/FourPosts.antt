@@ -6,7 +6,7 @@ use mathlib.Core.List.{List, [], _∷_, _++_}
 use lib.Dec.{eqb}
 use lib.ListN.{take, drop, replicate}
 use Rattle.field.specs.Modulus.{p}
-use Rattle.factory.specs.Draw.{eachFrom}
+use Rattle.parts.specs.Draw.{eachFrom}
 use Rattle.runs.specs.Draws.{Raw, Draw, by}
 use Rattle.secrecy.specs.Steps as Steps
 use Rattle.secrecy.specs.Steps.{Pack, Record, Step, own, sent, loadRow, loadTriple, deal, message, opening, linear, masks, collect, multiply}

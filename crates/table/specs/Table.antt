@@ -6,8 +6,8 @@ use mathlib.Core.Bool.{true, false}
 use mathlib.Core.List.{List, [], _∷_, _++_, map}
 use lib.ListN.{getD}
 use Rattle.shape.specs.Lengths.{shape}
-use Rattle.factory.specs.Draw.{part, eachPost, firstDraw, secondDraw, thirdDraw}
-use Rattle.factory.specs.Packs.{dealerNumber}
+use Rattle.parts.specs.Draw.{part, eachPost, firstDraw, secondDraw, thirdDraw}
+use Rattle.factory.specs.Calls.{dealerNumber}
 use Rattle.session.specs.declared.Session.{Session}
 use Rattle.session.specs.Sessions.{created}
 use Rattle.session.specs.Rows.{sumsAt, coefficients, plusSums}

@@ -20,8 +20,8 @@ use Rattle.poly.proofs.Bounds.{value-below}
 use Rattle.poly.proofs.Numbers.{toElements, elements-value}
 use Rattle.shape.specs.declared.Shape.{Shape}
 use Rattle.shape.specs.Lengths.{fLength, vLength, drawLength}
-use Rattle.factory.specs.Draw.{drawnF, drawnV, eachFrom, sumOf, part}
-use Rattle.factory.proofs.Laws.{drawn-room}
+use Rattle.parts.specs.Draw.{drawnF, drawnV, eachFrom, sumOf, part}
+use Rattle.parts.proofs.Laws.{drawn-room}
 use Rattle.vectors.specs.Vector.{Vector, firsts, numbers, valueAt, checkOf, sumAt, rowOf, vectorOf}
 use Rattle.vectors.proofs.Linear.{sum-number}
 open CommutativeRing 𝓡 using (add as _⊕_, zero as 0ᴱ)

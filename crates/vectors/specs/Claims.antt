@@ -14,7 +14,7 @@ use Rattle.shape.specs.Lengths.{vLength, drawLength}
 use Rattle.session.specs.declared.Session.{Session}
 use Rattle.session.specs.Sessions.{shapeOf, holding}
 use Rattle.session.specs.Rows.{width, rowAt, combined}
-use Rattle.factory.specs.Draw.{part}
+use Rattle.parts.specs.Draw.{part}
 use Rattle.opening.specs.Walking.{sent, accepts, accepted, tooFew}
 use Rattle.opening.specs.Opening.{openChecks, openAnswer}
 use Rattle.vectors.specs.Vector.{Vector, number, numbers, rowOf}
