@@ -18,10 +18,10 @@ use Rattle.factory.specs.Draw.{eachFrom, part}
 use Rattle.factory.specs.Packs.{dealerRefusal, dealerNumber}
 use Rattle.session.specs.Rows.{combined, plusSums}
 use Rattle.session.specs.Sessions.{created}
-use Rattle.sharing.specs.Load.{loadRowRefusal, loadTripleRefusal, withTriple}
-use Rattle.sharing.specs.Deal.{dealRefusal}
-use Rattle.sharing.specs.Linear.{linearRefusal}
-use Rattle.sharing.specs.Message.{messageRefusal}
+use Rattle.load.specs.Load.{loadRowRefusal, loadTripleRefusal, withTriple}
+use Rattle.deal.specs.Deal.{dealRefusal}
+use Rattle.linear.specs.Linear.{linearRefusal}
+use Rattle.message.specs.Message.{messageRefusal}
 use Rattle.opening.specs.Blocks as Blocks
 use Rattle.agreement.specs.Agreement.{allPairs}
 use Rattle.session.specs.declared.Session.{Session}

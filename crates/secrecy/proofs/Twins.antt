@@ -18,11 +18,13 @@ use Rattle.session.specs.declared.Session.{Session}
 use Rattle.session.specs.Sessions.{sessionTests}
 use Rattle.session.specs.Rows.{rowAt, combined}
 use Rattle.session.specs.Checks.{frameTests, noRow, noTriple, wrongMark}
-use Rattle.sharing.specs.Load.{loadRowRefusal, loadTripleRefusal}
-use Rattle.sharing.specs.Deal.{dealRefusal}
-use Rattle.sharing.specs.Message.{messageRefusal}
-use Rattle.sharing.specs.Linear.{linearRefusal}
-use Rattle.sharing.proofs.Passed.{dealPlace, dealLate, deal-placed, messagePlace, messageLate, message-placed, linearPlace, linearLate, linear-placed}
+use Rattle.load.specs.Load.{loadRowRefusal, loadTripleRefusal}
+use Rattle.deal.specs.Deal.{dealRefusal}
+use Rattle.message.specs.Message.{messageRefusal}
+use Rattle.linear.specs.Linear.{linearRefusal}
+use Rattle.deal.proofs.Passed.{dealPlace, dealLate, deal-placed}
+use Rattle.message.proofs.Passed.{messagePlace, messageLate, message-placed}
+use Rattle.linear.proofs.Passed.{linearPlace, linearLate, linear-placed}
 use Rattle.opening.specs.Opening.{openRefusal}
 use Rattle.opening.proofs.Passed.{openPlace, openNumbers, walkTests, open-placed, OpenChecked}
 use Rattle.product.specs.Masks.{masksRefusal, maskNumbers}
