@@ -1,13 +1,13 @@
--- `rows::combine_rows` meets its contract: the first i numbers of row dest are written, every other number is as it was.
+-- `combine_rows` meets its contract: the first i numbers of row dest are written, every other number is as it was.
 use Prim.Native.Nat.{_-_, _*_, _≤_}
 use mathlib.Core.Path.{_≡_}
 use lib.ListN.{length}
 use lib.Seq.{paste}
 use borrow.Author.Needs.{needs}
 use Rattle.session.specs.Rows.{rowAt, combined}
-use Rattle.session.proofs.Within.{within-start, within-more, within-end}
-use Rattle.session.proofs.rows.combine_rows.Statement.{statement}
-use Rattle.session.proofs.rows.combine_rows.Tie as tie
+use Rattle.sums.proofs.Within.{within-start, within-more, within-end}
+use Rattle.sums.proofs.combine_rows.Statement.{statement}
+use Rattle.sums.proofs.combine_rows.Tie as tie
 
 abbrev Inv-loop : tie.InvT-loop
 Inv-loop rows₀ dest a b scale width to from other i₀ rows i =

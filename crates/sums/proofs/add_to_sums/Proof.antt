@@ -1,9 +1,9 @@
--- `rows::add_to_sums` meets its contract.
+-- `add_to_sums` meets its contract.
 use borrow.Author.Needs.{needs}
 use Rattle.session.specs.Rows.{plusSums}
 use Rattle.session.proofs.RowLaws.{sums-put}
-use Rattle.session.proofs.rows.add_to_sums.Statement.{statement}
-use Rattle.session.proofs.rows.add_to_sums.Tie as tie
+use Rattle.sums.proofs.add_to_sums.Statement.{statement}
+use Rattle.sums.proofs.add_to_sums.Tie as tie
 
 pub add-to-sums-spec : {M : Type 1} → statement M
 unfolding plusSums

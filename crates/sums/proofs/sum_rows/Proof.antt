@@ -1,8 +1,8 @@
--- `rows::sum_rows` meets its contract.
+-- `sum_rows` meets its contract.
 use borrow.Author.Needs.{needs}
-use Rattle.session.proofs.Summed.{sum-without-fee, sum-with-fee}
-use Rattle.session.proofs.rows.sum_rows.Statement.{statement}
-use Rattle.session.proofs.rows.sum_rows.Tie as tie
+use Rattle.sums.proofs.Summed.{sum-without-fee, sum-with-fee}
+use Rattle.sums.proofs.sum_rows.Statement.{statement}
+use Rattle.sums.proofs.sum_rows.Tie as tie
 
 pub sum-rows-spec : {M : Type 1} → statement M
 sum-rows-spec =

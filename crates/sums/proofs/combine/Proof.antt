@@ -1,12 +1,12 @@
--- `rows::combine` meets its contract.
+-- `combine` meets its contract.
 use Prim.Native.Nat.{_-_}
 use lib.ListN.{length}
 use borrow.Author.Needs.{needs}
 use Rattle.session.specs.Rows.{combined}
 use Rattle.lists.proofs.Filled.{Filled}
-use Rattle.session.proofs.Writers.{combined-more, combined-end}
-use Rattle.session.proofs.rows.combine.Statement.{statement}
-use Rattle.session.proofs.rows.combine.Tie as tie
+use Rattle.sums.proofs.Writers.{combined-more, combined-end}
+use Rattle.sums.proofs.combine.Statement.{statement}
+use Rattle.sums.proofs.combine.Tie as tie
 
 abbrev Inv-loop : tie.InvT-loop
 Inv-loop scale x y out₀ i₀ i-end out i = Filled (combined scale x y) out₀ i out

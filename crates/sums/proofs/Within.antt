@@ -12,10 +12,10 @@ use Rattle.field.specs.Arithmetic.{sum, product}
 use Rattle.shape.specs.declared.Shape.{Shape}
 use Rattle.shape.specs.Bounds.{rowCount}
 use Rattle.shape.specs.Lengths.{rowLength}
 use Rattle.session.specs.Rows.{rowAt, withRow, combined}
-use Rattle.session.specs.Checks.{Sized, RowIn}
+use Rattle.session.specs.Between.{Sized, RowIn}
 use Rattle.session.proofs.RowLaws.{next, row-room, length-row}
-use Rattle.session.proofs.Writers.{length-combined, getD-combined}
+use Rattle.sums.proofs.Writers.{length-combined, getD-combined}
 
 -- what stands before the part that is being written, or behind what has been written of it, is as it was
 module _ (l : List ℕ) (at : ℕ) (s : List ℕ) (n k : ℕ) (room : at + n ≤ length l) (long : n ≤ length s) where

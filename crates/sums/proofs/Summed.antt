@@ -9,10 +9,10 @@ use Rattle.field.proofs.Modular.{sum-below, sum-comm, sum-zero}
 use Rattle.shape.specs.declared.Shape.{Shape}
 use Rattle.shape.specs.Bounds.{rowCount}
 use Rattle.shape.specs.Lengths.{rowLength, sumsAt}
 use Rattle.session.specs.Rows.{rowAt, withRow, combined, plusSums, summed}
-use Rattle.session.specs.Checks.{Sized, RowIn}
+use Rattle.session.specs.Between.{Sized, RowIn}
 use Rattle.session.proofs.RowLaws.{length-row, row-same, row-again}
-use Rattle.session.proofs.Writers.{length-combined}
+use Rattle.sums.proofs.Writers.{length-combined}
 
 length-plus-sums : (k c : ℕ) (row : List ℕ) → length (plusSums k c row) ≡ length row
 unfolding plusSums

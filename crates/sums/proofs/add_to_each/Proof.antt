@@ -1,13 +1,13 @@
--- `rows::add_to_each` meets its contract.
+-- `add_to_each` meets its contract.
 use Prim.Native.Nat.{_-_}
 use mathlib.Core.List.{map}
 use lib.ListN.{length}
 use borrow.Author.Needs.{needs}
 use Rattle.field.specs.Arithmetic.{sum}
 use Rattle.lists.proofs.Filled.{Filled}
-use Rattle.session.proofs.Writers.{mapped-more, mapped-end}
-use Rattle.session.proofs.rows.add_to_each.Statement.{statement}
-use Rattle.session.proofs.rows.add_to_each.Tie as tie
+use Rattle.sums.proofs.Writers.{mapped-more, mapped-end}
+use Rattle.sums.proofs.add_to_each.Statement.{statement}
+use Rattle.sums.proofs.add_to_each.Tie as tie
 
 abbrev Inv-loop : tie.InvT-loop
 Inv-loop sums₀ c i₀ i-end sums i = Filled (map (λ m. sum m c) sums₀) sums₀ i sums
