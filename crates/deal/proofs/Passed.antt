@@ -15,7 +15,8 @@ use Rattle.refusal.proofs.Groups.{fail-parts}
 use Rattle.session.specs.declared.Session.{Session}
 use Rattle.session.specs.Sessions.{mark}
 use Rattle.session.specs.Rows.{width, rowAt}
-use Rattle.session.specs.Checks.{noRow, wrongMark, Framed}
+use Rattle.session.specs.Checks.{noRow, wrongMark}
+use Rattle.session.specs.Between.{Framed}
 use Rattle.session.proofs.Calls.{allowed}
 use Rattle.deal.specs.Deal.{dealRefusal}
 

@@ -32,6 +32,6 @@ pub fn deal(session: Session, rows: &mut [u32], row: usize, c: u32) -> Answer
     if refusal != 0 {
         return session.refuse(refusal);
     }
-    session::rows::add_to_sums(session.shape(), rows, row, c);
+    sums::add_to_sums(session.shape(), rows, row, c);
     session.done_marking(row, shape::HELD)
 }

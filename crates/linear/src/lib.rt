@@ -71,6 +71,6 @@ pub fn linear(
     if refusal != 0 {
         return session.refuse(refusal);
     }
-    session::rows::sum_rows(session.shape(), rows, dest, a, b, scale, fee);
+    sums::sum_rows(session.shape(), rows, dest, a, b, scale, fee);
     session.done_marking(dest, shape::HELD)
 }

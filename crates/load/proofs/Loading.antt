@@ -17,7 +17,8 @@ use Rattle.refusal.proofs.Endings.{accepted}
 use Rattle.session.specs.declared.Session.{Session}
 use Rattle.session.specs.Sessions.{shapeOf}
 use Rattle.session.specs.Rows.{width, withRow}
-use Rattle.session.specs.Checks.{frameTests, noRow, noTriple, wrongMark, wrongMarks, Sized, RowIn, TripleIn}
+use Rattle.session.specs.Checks.{frameTests, noRow, noTriple, wrongMark, wrongMarks}
+use Rattle.session.specs.Between.{Sized, RowIn, TripleIn}
 use Rattle.session.proofs.Passed.{row-below}
 use Rattle.session.proofs.Calls.{stopped-at-frame, past-frame}
 use Rattle.load.specs.Load.{loadRowRefusal, loadRowRows, loadTripleRefusal, withTriple, loadTripleRows}

@@ -14,7 +14,8 @@ use Rattle.refusal.proofs.Laws.{equal}
 use Rattle.session.specs.declared.Session.{Session}
 use Rattle.session.specs.Sessions.{shapeOf, mark}
 use Rattle.session.specs.Rows.{width}
-use Rattle.session.specs.Checks.{noRow, noTriple, wrongMark, wrongMarks, Framed}
+use Rattle.session.specs.Checks.{noRow, noTriple, wrongMark, wrongMarks}
+use Rattle.session.specs.Between.{Framed}
 use Rattle.session.proofs.Calls.{allowed}
 use Rattle.load.specs.Load.{loadRowRefusal, loadTripleRefusal}
 

@@ -10,7 +10,7 @@ use borrow.Rule.Slice.PartMut.{putMid}
 use Rattle.shape.specs.declared.Shape.{Shape}
 use Rattle.shape.specs.Lengths.{rowLength, tripleLength}
 use Rattle.session.specs.Rows.{rowAt, withRow}
-use Rattle.session.specs.Checks.{Sized, TripleIn}
+use Rattle.session.specs.Between.{Sized, TripleIn}
 use Rattle.session.proofs.RowLaws.{next-row-put}
 use Rattle.load.specs.Load.{withTriple}
 

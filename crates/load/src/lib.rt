@@ -10,7 +10,8 @@ ghost use Rattle.refusal.specs.Refusal.{first, _when_};
 ghost use Rattle.shape.specs.Bounds.{lastTriple};
 ghost use Rattle.shape.specs.Marks.{empty};
 ghost use Rattle.shape.specs.Lengths.{rowLength, tripleLength};
-ghost use Rattle.session.specs.Checks.{wrongMark, wrongMarks, Sized, TripleIn};
+ghost use Rattle.session.specs.Checks.{wrongMark, wrongMarks};
+ghost use Rattle.session.specs.Between.{Sized, TripleIn};
 ghost use Rattle.load.specs.Load.{loadRowRefusal, loadRowAnswer, loadRowRows, loadTripleRefusal, loadTripleAnswer, loadTripleRows, withTriple};
 
 // The refusal, where 7 has been looked up.

@@ -16,7 +16,8 @@ use Rattle.refusal.proofs.Endings.{accepted}
 use Rattle.session.specs.declared.Session.{Session}
 use Rattle.session.specs.Sessions.{shapeOf}
 use Rattle.session.specs.Rows.{width, rowAt}
-use Rattle.session.specs.Checks.{frameTests, noRow, wrongMark, Sized, RowIn}
+use Rattle.session.specs.Checks.{frameTests, noRow, wrongMark}
+use Rattle.session.specs.Between.{Sized, RowIn}
 use Rattle.session.proofs.Passed.{row-below}
 use Rattle.session.proofs.Calls.{stopped-at-frame, past-frame}
 use Rattle.message.specs.Message.{messageRefusal, messageOut}

@@ -10,7 +10,8 @@ ghost use Rattle.shape.specs.Marks.{held};
 ghost use Rattle.shape.specs.Lengths.{rowLength, vLength};
 ghost use Rattle.shape.specs.Row.{coefficients};
 ghost use Rattle.session.specs.Rows.{rowAt};
-ghost use Rattle.session.specs.Checks.{wrongMark, Sized, RowIn};
+ghost use Rattle.session.specs.Checks.{wrongMark};
+ghost use Rattle.session.specs.Between.{Sized, RowIn};
 ghost use Rattle.message.specs.Message.{messageRefusal, messageAnswer, messageOut};
 
 // The refusal, where 7 has been looked up.
