@@ -18,10 +18,10 @@ use Rattle.parts.specs.Draw.{eachFrom, part}
 use Rattle.factory.specs.Calls.{dealerRefusal, dealerNumber}
 use Rattle.session.specs.Rows.{combined, plusSums}
 use Rattle.session.specs.Sessions.{created}
-use Rattle.sharing.specs.Load.{loadRowRefusal, loadTripleRefusal, withTriple}
-use Rattle.sharing.specs.Deal.{dealRefusal}
-use Rattle.sharing.specs.Linear.{linearRefusal}
-use Rattle.sharing.specs.Message.{messageRefusal}
+use Rattle.load.specs.Load.{loadRowRefusal, loadTripleRefusal, withTriple}
+use Rattle.deal.specs.Deal.{dealRefusal}
+use Rattle.linear.specs.Linear.{linearRefusal}
+use Rattle.message.specs.Message.{messageRefusal}
 use Rattle.blocks.specs.Blocks as Blocks
 use Rattle.agreement.specs.Agreement.{allPairs}
 use Rattle.session.specs.declared.Session.{Session}
@@ -42,7 +42,7 @@ use Rattle.runs.specs.Draws.{Plan, Draw, IsRaw, Sound, IsDraw, rawLength, tripl
 use Rattle.runs.specs.Outline.{Taking, nothingTaken, aRowPack, aTriplePack, aNumber, aRecord, twoRecords, takes, Given, Move, moves}
 use Rattle.runs.specs.Calls.{Post, Actual, Call, loadRow, loadTriple, deal, perform, newPost, at}
 use Rattle.runs.proofs.Outlines.{all-every}
-use Rattle.runs.proofs.Lines.{elements-of}
+use Rattle.factory.proofs.Laws.{elements-of}
 use Rattle.correctness.specs.History.{Event, World, doneBy, turn, history, Each}
 use Rattle.correctness.specs.Ledger.{Ledger, nothing, dealt, sum, product, Written, Plain, of-deal, of-row, of-times, of-fee, of-more, of-product}
 use Rattle.correctness.specs.Truth.{OwnPart, EnoughTrue, TrueWith, TrueFinish}

@@ -3,10 +3,10 @@ use session::Answer;
 use session::Session;
 ghost use mathlib.Core.Path.{_≡_};
 ghost use Rattle.session.specs.Sessions.{created};
-ghost use Rattle.sharing.specs.Load.{loadRowAnswer, loadRowRows, loadTripleAnswer, loadTripleRows};
-ghost use Rattle.sharing.specs.Deal.{dealAnswer, dealRows};
-ghost use Rattle.sharing.specs.Message.{messageAnswer, messageOut};
-ghost use Rattle.sharing.specs.Linear.{linearAnswer, linearRows};
+ghost use Rattle.load.specs.Load.{loadRowAnswer, loadRowRows, loadTripleAnswer, loadTripleRows};
+ghost use Rattle.deal.specs.Deal.{dealAnswer, dealRows};
+ghost use Rattle.message.specs.Message.{messageAnswer, messageOut};
+ghost use Rattle.linear.specs.Linear.{linearAnswer, linearRows};
 ghost use Rattle.opening.specs.Opening.{openAnswer};
 ghost use Rattle.product.specs.Masks.{masksAnswer, masksOut};
 ghost use Rattle.product.specs.Collect.{collectAnswer};
@@ -29,7 +29,7 @@ pub extern "C" fn gantsorol_load_row(
     ensures { λ r. ⌜ r ≡ loadRowAnswer session (now (rows .entry)) row (now (pack .entry)) ⌝ }
     ensures { λ r. ⌜ now (rows .exit) ≡ loadRowRows session (now (rows .entry)) row (now (pack .entry)) ⌝ }
 {
-    sharing::load::load_row(session, rows, row, pack)
+    load::load_row(session, rows, row, pack)
 }
 
 #[no_mangle]
@@ -42,7 +42,7 @@ pub extern "C" fn gantsorol_load_triple(
     ensures { λ r. ⌜ r ≡ loadTripleAnswer session (now (rows .entry)) first (now (pack .entry)) ⌝ }
     ensures { λ r. ⌜ now (rows .exit) ≡ loadTripleRows session (now (rows .entry)) first (now (pack .entry)) ⌝ }
 {
-    sharing::load::load_triple(session, rows, first, pack)
+    load::load_triple(session, rows, first, pack)
 }
 
 #[no_mangle]
@@ -50,7 +50,7 @@ pub extern "C" fn gantsorol_deal(session: Session, rows: &mut [u32], row: usize,
     ensures { λ r. ⌜ r ≡ dealAnswer session (now (rows .entry)) row c ⌝ }
     ensures { λ r. ⌜ now (rows .exit) ≡ dealRows session (now (rows .entry)) row c ⌝ }
 {
-    sharing::deal::deal(session, rows, row, c)
+    deal::deal(session, rows, row, c)
 }
 
 #[no_mangle]
@@ -63,7 +63,7 @@ pub extern "C" fn gantsorol_opening_message(
     ensures { λ r. ⌜ r ≡ messageAnswer session (now (rows .entry)) row (now (out .entry)) ⌝ }
     ensures { λ r. ⌜ now (out .exit) ≡ messageOut session (now (rows .entry)) row (now (out .entry)) ⌝ }
 {
-    sharing::message::opening_message(session, rows, row, out)
+    message::opening_message(session, rows, row, out)
 }
 
 #[no_mangle]
@@ -91,7 +91,7 @@ pub extern "C" fn gantsorol_linear(
     ensures { λ r. ⌜ r ≡ linearAnswer session (now (rows .entry)) dest a b scale fee ⌝ }
     ensures { λ r. ⌜ now (rows .exit) ≡ linearRows session (now (rows .entry)) dest a b scale fee ⌝ }
 {
-    sharing::linear::linear(session, rows, dest, a, b, scale, fee)
+    linear::linear(session, rows, dest, a, b, scale, fee)
 }
 
 #[no_mangle]

@@ -10,9 +10,9 @@ use Rattle.shape.specs.Lengths.{Valid, rowsLength}
 use Rattle.refusal.proofs.Endings.{refused, accepted}
 use Rattle.session.specs.declared.Answer.{Answer}
 use Rattle.session.specs.Sessions.{shapeOf}
-use Rattle.sharing.specs.Load.{loadRowAnswer, loadRowRows, loadTripleAnswer, loadTripleRows}
-use Rattle.sharing.specs.Deal.{dealAnswer, dealRows}
-use Rattle.sharing.specs.Linear.{linearAnswer, linearRows}
+use Rattle.load.specs.Load.{loadRowAnswer, loadRowRows, loadTripleAnswer, loadTripleRows}
+use Rattle.deal.specs.Deal.{dealAnswer, dealRows}
+use Rattle.linear.specs.Linear.{linearAnswer, linearRows}
 use Rattle.opening.specs.Opening.{openAnswer}
 use Rattle.store.specs.Sizes.{InStreet, storeRoom}
 use Rattle.store.proofs.Keeping.{street-valid}

@@ -14,8 +14,8 @@ use Rattle.shape.specs.Lengths.{rowLength, tripleLength, recordLength}
 use Rattle.refusal.specs.Refusal.{outcome}
 use Rattle.session.specs.Sessions.{shapeOf}
 use Rattle.session.specs.Rows.{width}
-use Rattle.sharing.specs.Load.{loadRowAnswer, loadRowRows, loadTripleAnswer, loadTripleRows}
-use Rattle.sharing.specs.Linear.{linearAnswer, linearRows}
+use Rattle.load.specs.Load.{loadRowAnswer, loadRowRows, loadTripleAnswer, loadTripleRows}
+use Rattle.linear.specs.Linear.{linearAnswer, linearRows}
 use Rattle.opening.specs.Opening.{openAnswer}
 use Rattle.store.specs.Sizes.{InStreet, longestRow, longestTriple, rowsRoom, recordRoom, openingsAt, storeRoom}
 use Rattle.store.specs.Records.{recordAt}

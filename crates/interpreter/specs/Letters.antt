@@ -7,8 +7,8 @@ use Rattle.shape.specs.Bounds.{lastRow, lastTriple}
 use Rattle.shape.specs.Lengths.{tripleLength}
 use Rattle.session.specs.Sessions.{shapeOf}
 use Rattle.session.specs.Rows.{width}
-use Rattle.sharing.specs.Load.{loadRowAnswer, loadRowRows, loadTripleAnswer, loadTripleRows}
-use Rattle.sharing.specs.Linear.{linearAnswer, linearRows}
+use Rattle.load.specs.Load.{loadRowAnswer, loadRowRows, loadTripleAnswer, loadTripleRows}
+use Rattle.linear.specs.Linear.{linearAnswer, linearRows}
 use Rattle.opening.specs.Opening.{openAnswer}
 use Rattle.store.specs.Sizes.{openingsAt}
 use Rattle.store.specs.Records.{recordAt, recordIf}

@@ -14,7 +14,7 @@ use Rattle.forms.specs.Forms.{isLetter, message, lineTests}
 use Rattle.lines.specs.declared.Line.{Line}
 use Rattle.session.specs.declared.Session.{Session}
 use Rattle.session.specs.Sessions.{shapeOf}
-use Rattle.sharing.specs.Deal.{dealAnswer, dealRows}
+use Rattle.deal.specs.Deal.{dealAnswer, dealRows}
 use Rattle.store.specs.Sizes.{openingsAt, masksAAt, masksBAt}
 use Rattle.store.specs.Records.{kept}
 use Rattle.interpreter.specs.declared.State.{State}

@@ -8,8 +8,8 @@ ghost use lib.Dec.{eqb};
 ghost use Rattle.session.specs.Sessions.{shapeOf};
 ghost use Rattle.session.specs.Rows.{width};
 ghost use Rattle.shape.specs.Lengths.{tripleLength};
-ghost use Rattle.sharing.specs.Load.{loadRowAnswer, loadRowRows, loadTripleAnswer, loadTripleRows};
-ghost use Rattle.sharing.specs.Linear.{linearAnswer, linearRows};
+ghost use Rattle.load.specs.Load.{loadRowAnswer, loadRowRows, loadTripleAnswer, loadTripleRows};
+ghost use Rattle.linear.specs.Linear.{linearAnswer, linearRows};
 ghost use Rattle.opening.specs.Opening.{openAnswer};
 ghost use Rattle.store.specs.Sizes.{InStreet, openingsAt, recordRoom, storeRoom};
 ghost use Rattle.store.specs.Records.{recordAt, recordIf};
@@ -25,7 +25,7 @@ fn load(state: State, store: &mut [u32], row: usize, pack: &[u32]) -> Stepped
 {
     let session = state.session;
     let end = crate::rows_end(session);
-    let answer = sharing::load::load_row(session, &mut store[..end], row, pack);
+    let answer = load::load_row(session, &mut store[..end], row, pack);
     state.answer(answer)
 }
 
@@ -72,7 +72,7 @@ fn load_triple(state: State, store: &mut [u32], first: usize, pack: &[u32]) -> S
 {
     let session = state.session;
     let end = crate::rows_end(session);
-    let answer = sharing::load::load_triple(session, &mut store[..end], first, pack);
+    let answer = load::load_triple(session, &mut store[..end], first, pack);
     state.answer(answer)
 }
 
@@ -127,7 +127,7 @@ fn add(
 {
     let session = state.session;
     let end = crate::rows_end(session);
-    let answer = sharing::linear::linear(session, &mut store[..end], dest, a, b, scale, fee);
+    let answer = linear::linear(session, &mut store[..end], dest, a, b, scale, fee);
     state.answer(answer)
 }
 

@@ -7,7 +7,7 @@ ghost use Prim.Native.Nat.{_≤_};
 ghost use lib.ListN.{length};
 ghost use Rattle.shape.specs.Lengths.{vLength, masksLength};
 ghost use Rattle.session.specs.Sessions.{shapeOf};
-ghost use Rattle.sharing.specs.Deal.{dealAnswer, dealRows};
+ghost use Rattle.deal.specs.Deal.{dealAnswer, dealRows};
 ghost use Rattle.store.specs.Sizes.{InStreet, storeRoom};
 ghost use Rattle.interpreter.specs.States.{leaving, sessionRows, calling};
 ghost use Rattle.interpreter.specs.Messages.{keepStep, keepMasksStep, keepHalvesStep, saidStep, hearStep, Broadcast, Sayable};
@@ -21,7 +21,7 @@ fn deal(state: State, store: &mut [u32], row: usize, c: u32) -> Stepped
 {
     let session = state.session;
     let end = crate::rows_end(session);
-    let answer = sharing::deal::deal(session, &mut store[..end], row, c);
+    let answer = deal::deal(session, &mut store[..end], row, c);
     state.answer(answer)
 }
 

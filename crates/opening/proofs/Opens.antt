@@ -16,7 +16,8 @@ use Rattle.session.specs.declared.Session.{Session}
 use Rattle.session.specs.declared.Answer.{Answer}
 use Rattle.session.specs.Sessions.{shapeOf, partyOf, holding, answer}
 use Rattle.session.specs.Rows.{width, rowAt}
-use Rattle.session.specs.Checks.{frameTests, noRow, wrongMark, Framed, Sized, RowIn}
+use Rattle.session.specs.Checks.{frameTests, noRow, wrongMark}
+use Rattle.session.specs.Between.{Framed, Sized, RowIn}
 use Rattle.session.proofs.Passed.{row-below}
 use Rattle.session.proofs.Endings.{refused-answer}
 use Rattle.blocks.specs.Blocks as Blocks

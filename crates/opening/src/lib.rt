@@ -4,7 +4,7 @@ use session::Session;
 ghost use mathlib.Core.Path.{_≡_};
 ghost use Rattle.refusal.specs.Refusal.{first};
 ghost use lib.ListN.{length};
-ghost use Rattle.session.specs.Checks.{Framed};
+ghost use Rattle.session.specs.Between.{Framed};
 ghost use Rattle.opening.specs.Walking.{recordLength};
 ghost use Rattle.opening.specs.Opening.{rowChecks, openChecks, openAnswer};
 

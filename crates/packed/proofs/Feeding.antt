@@ -15,7 +15,7 @@ use Rattle.shape.specs.Marks.{empty, raw, unused, further}
 use Rattle.csv.specs.Fields.{written}
 use Rattle.session.specs.declared.Party.{Party}
 use Rattle.session.specs.Rows.{withRow}
-use Rattle.sharing.specs.Load.{withTriple}
+use Rattle.load.specs.Load.{withTriple}
 use Rattle.store.specs.Sizes.{streetPosts}
 use Rattle.interpreter.specs.States.{firstState, begunWith, refusing, leaving}
 use Rattle.interpreter.specs.Starting.{longestLine}

@@ -22,8 +22,8 @@ use Rattle.session.specs.declared.Session.{Session}
 use Rattle.session.specs.Sessions.{withMarks, sessionOf, sessionTests, created}
 use Rattle.session.specs.Rows.{withRow}
 use Rattle.session.proofs.RowLaws.{length-with-row}
-use Rattle.sharing.specs.Load.{loadRowTests, loadRowRefusal, loadTripleTests, loadTripleRefusal, withTriple}
-use Rattle.sharing.proofs.Triples.{triple-put}
+use Rattle.load.specs.Load.{loadRowTests, loadRowRefusal, loadTripleTests, loadTripleRefusal, withTriple}
+use Rattle.load.proofs.Triples.{triple-put}
 use Rattle.packed.specs.Straight.{Loaded, newPost, rowLoaded, tripleLoaded}
 
 -- ---- tests that fail

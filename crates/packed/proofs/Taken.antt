@@ -22,7 +22,7 @@ use Rattle.csv.proofs.Laying.{length-written}
 use Rattle.session.specs.declared.Party.{Party}
 use Rattle.session.specs.Sessions.{sessionOf}
 use Rattle.session.specs.Rows.{withRow}
-use Rattle.sharing.specs.Load.{loadRowRefusal, loadTripleRefusal, withTriple}
+use Rattle.load.specs.Load.{loadRowRefusal, loadTripleRefusal, withTriple}
 use Rattle.store.specs.Sizes.{streetPosts, longestTriple}
 use Rattle.reading.specs.Numbers.{numberForm, numbers, readRefusal, rowsBeyond}
 use Rattle.reading.specs.Starting.{isStart}

@@ -14,7 +14,7 @@ use Rattle.session.specs.declared.Answer.{Answer}
 use Rattle.session.specs.Sessions.{created}
 use Rattle.session.specs.Rows.{rowAt}
 use Rattle.packs.specs.Packs.{packs, triplePacks}
-use Rattle.sharing.specs.Load.{loadRowAnswer, loadRowRows, loadTripleAnswer, loadTripleRows}
+use Rattle.load.specs.Load.{loadRowAnswer, loadRowRows, loadTripleAnswer, loadTripleRows}
 use Rattle.kinds.specs.Kinds.{drawnFor}
 use Rattle.packfile.specs.Writing.{postAt}
 

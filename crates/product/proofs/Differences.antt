@@ -13,9 +13,9 @@ use Rattle.shape.specs.Bounds.{rowCount}
 use Rattle.shape.specs.Lengths.{rowLength, vLength, masksLength}
 use Rattle.shape.specs.Row.{coefficients}
 use Rattle.session.specs.Rows.{rowAt, combined}
-use Rattle.session.specs.Checks.{Sized, RowIn, TripleIn}
+use Rattle.session.specs.Between.{Sized, RowIn, TripleIn}
 use Rattle.session.proofs.RowLaws.{length-row}
-use Rattle.session.proofs.Writers.{length-combined}
+use Rattle.sums.proofs.Writers.{length-combined}
 use Rattle.product.specs.Masks.{maskRow, bothMasks}
 
 -- the first k numbers of a sum of rows are the sum of their first k numbers

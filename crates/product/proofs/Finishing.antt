@@ -17,7 +17,8 @@ use Rattle.refusal.proofs.Groups.{chained, stopped, went-on}
 use Rattle.session.specs.declared.Party.{Party}
 use Rattle.session.specs.declared.Session.{Session}
 use Rattle.session.specs.Sessions.{shapeOf, partyOf, factorA, factorB}
-use Rattle.session.specs.Checks.{frameTests, noRow, noTriple, Framed, Sized, RowIn, TripleIn}
+use Rattle.session.specs.Checks.{frameTests, noRow, noTriple}
+use Rattle.session.specs.Between.{Framed, Sized, RowIn, TripleIn}
 use Rattle.session.proofs.Passed.{row-below}
 use Rattle.session.proofs.Calls.{frame-passed, stopped-at-frame, past-frame}
 use Rattle.blocks.specs.Blocks as Blocks

@@ -15,7 +15,8 @@ use Rattle.refusal.proofs.Groups.{chained, stopped, went-on}
 use Rattle.refusal.proofs.Endings.{accepted}
 use Rattle.session.specs.declared.Session.{Session}
 use Rattle.session.specs.Sessions.{shapeOf}
-use Rattle.session.specs.Checks.{frameTests, noRow, noTriple, Framed, Sized, RowIn, TripleIn}
+use Rattle.session.specs.Checks.{frameTests, noRow, noTriple}
+use Rattle.session.specs.Between.{Framed, Sized, RowIn, TripleIn}
 use Rattle.session.proofs.Passed.{row-below}
 use Rattle.session.proofs.Calls.{frame-passed, stopped-at-frame, past-frame}
 use Rattle.product.specs.Masks.{masksPlace, tripleMarks, factorNumbers, maskNumbers, masksRefusal, bothMasks, maskNumbersOf, masksOut}

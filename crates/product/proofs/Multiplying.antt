@@ -19,7 +19,8 @@ use Rattle.refusal.proofs.Endings.{accepted}
 use Rattle.session.specs.declared.Session.{Session}
 use Rattle.session.specs.Sessions.{shapeOf, openedA, openedB}
 use Rattle.session.specs.Rows.{width, rowAt, withRow, summed}
-use Rattle.session.specs.Checks.{frameTests, noTriple, wrongMarks, Framed, Sized, TripleIn}
+use Rattle.session.specs.Checks.{frameTests, noTriple, wrongMarks}
+use Rattle.session.specs.Between.{Framed, Sized, TripleIn}
 use Rattle.session.proofs.Calls.{frame-passed, stopped-at-frame, past-frame}
 use Rattle.product.specs.Finish.{productRow, withProduct}
 use Rattle.product.specs.Multiply.{rememberedNumbers, multiplyOwn, multiplyRefusal, multiplyRows}

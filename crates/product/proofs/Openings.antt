@@ -18,7 +18,7 @@ use Rattle.session.specs.declared.Answer.{Answer}
 use Rattle.session.specs.Sessions.{shapeOf, partyOf, holding, collectedTriple}
 use Rattle.session.specs.Rows.{rowAt, combined}
 use Rattle.session.proofs.Endings.{refused-answer, accepted-answer}
-use Rattle.session.proofs.Writers.{length-combined}
+use Rattle.sums.proofs.Writers.{length-combined}
 use Rattle.blocks.specs.Between.{Recorded, Openable}
 use Rattle.walk.specs.declared.Opened.{Opened}
 use Rattle.walk.specs.Number as Number

@@ -20,7 +20,8 @@ use Rattle.refusal.proofs.Elements.{below-p, element-test}
 use Rattle.session.specs.declared.Session.{Session}
 use Rattle.session.specs.Sessions.{shapeOf, mark, factorA, factorB, openedA, openedB}
 use Rattle.session.specs.Rows.{width, rowAt}
-use Rattle.session.specs.Checks.{frameTests, noRow, noTriple, wrongMarks, Framed, TripleIn}
+use Rattle.session.specs.Checks.{frameTests, noRow, noTriple, wrongMarks}
+use Rattle.session.specs.Between.{Framed, TripleIn}
 use Rattle.session.proofs.Calls.{frame-passed, allowed}
 use Rattle.opening.specs.Walking.{recordLength, badRecord, tooFew, disagree}
 use Rattle.opening.proofs.Passed.{clear-parts, clear-join}

@@ -10,10 +10,10 @@ use Rattle.shape.specs.declared.Shape.{Shape}
 use Rattle.shape.specs.Bounds.{rowCount}
 use Rattle.shape.specs.Lengths.{rowLength, sumsAt}
 use Rattle.session.specs.Rows.{rowAt, withRow, summed}
-use Rattle.session.specs.Checks.{Sized, RowIn, TripleIn}
+use Rattle.session.specs.Between.{Sized, RowIn, TripleIn}
 use Rattle.session.proofs.Passed.{row-below}
 use Rattle.session.proofs.RowLaws.{row-same, row-again, row-other}
-use Rattle.session.proofs.Summed.{length-summed}
+use Rattle.sums.proofs.Summed.{length-summed}
 
 module _ (g : Shape) (rows : List ℕ) (r : ℕ) (z : Sized g rows) (i : TripleIn g r) where
   abbrev w : ℕ

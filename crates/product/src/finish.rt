@@ -10,7 +10,7 @@ ghost use Rattle.field.specs.Arithmetic.{product};
 ghost use Rattle.shape.specs.Bounds.{veryFewPosts, fewPosts};
 ghost use Rattle.shape.specs.Lengths.{rowLength, sumsAt};
 ghost use Rattle.session.specs.Rows.{rowAt, withRow, summed};
-ghost use Rattle.session.specs.Checks.{Sized, RowIn, TripleIn};
+ghost use Rattle.session.specs.Between.{Sized, RowIn, TripleIn};
 ghost use Rattle.blocks.specs.Between.{Recorded};
 ghost use Rattle.walk.specs.Number.{openedRow};
 ghost use Rattle.product.specs.Masks.{maskRow};
@@ -30,7 +30,7 @@ fn open_mask_in(
     ensures { λ r. ⌜ r ≡ openedRow party (maskRow (party .shape) (now (rows .entry)) factor row) (now (blocks .entry)) ⌝ }
 {
     let shape = party.shape;
-    session::rows::combine(
+    sums::combine(
         field::P - 1,
         session::rows::row(shape, rows, factor),
         session::rows::row(shape, rows, row),
@@ -113,6 +113,6 @@ pub fn write_product(shape: Shape, rows: &mut [u32], first: usize, y_a: u32, y_b
 {
     let third = first + 2;
     let fee = field::mul(y_a, y_b);
-    session::rows::sum_rows(shape, rows, third, third, first + 1, y_a, 0);
-    session::rows::sum_rows(shape, rows, third, third, first, y_b, fee);
+    sums::sum_rows(shape, rows, third, third, first + 1, y_a, 0);
+    sums::sum_rows(shape, rows, third, third, first, y_b, fee);
 }

@@ -10,7 +10,7 @@ ghost use Rattle.shape.specs.Lengths.{Valid, vLength, rowLength, masksLength};
 ghost use Rattle.shape.specs.Row.{coefficients};
 ghost use Rattle.refusal.specs.Refusal.{first};
 ghost use Rattle.session.specs.Sessions.{shapeOf};
-ghost use Rattle.session.specs.Checks.{Sized, RowIn, TripleIn};
+ghost use Rattle.session.specs.Between.{Sized, RowIn, TripleIn};
 ghost use Rattle.product.specs.Masks.{maskRow, masksPlace, tripleMarks, factorNumbers, masksRefusal, masksAnswer, bothMasks, masksOut};
 
 // 7, of the factor rows a and b and of the triple at `row`, whose first row needs this mark.
@@ -94,7 +94,7 @@ fn mask(shape: Shape, rows: &[u32], factor: usize, row: usize, out: &mut [u32])
     let count = shape.v_len();
     let x = session::rows::row(shape, rows, factor);
     let y = session::rows::row(shape, rows, row);
-    session::rows::combine(field::P - 1, &x[..count], &y[..count], out);
+    sums::combine(field::P - 1, &x[..count], &y[..count], out);
 }
 
 pub fn masks_accepted(shape: Shape, rows: &[u32], a: usize, b: usize, first: usize, out: &mut [u32])

@@ -8,7 +8,7 @@ ghost use Prim.Native.Nat.{_≤_};
 ghost use Rattle.shape.specs.Bounds.{lastTriple};
 ghost use Rattle.shape.specs.Lengths.{rowLength};
 ghost use Rattle.refusal.specs.Refusal.{first};
-ghost use Rattle.session.specs.Checks.{Framed, Sized};
+ghost use Rattle.session.specs.Between.{Framed, Sized};
 ghost use Rattle.product.specs.Multiply.{rememberedNumbers, multiplyOwn, multiplyRefusal, multiplyAnswer, multiplyRows};
 
 // 8, of the two numbers and of the triple's three rows.

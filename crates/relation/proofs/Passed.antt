@@ -17,7 +17,8 @@ use Rattle.refusal.proofs.Groups.{fail-parts}
 use Rattle.session.specs.declared.Session.{Session}
 use Rattle.session.specs.Sessions.{shapeOf, mark, factorA, factorB}
 use Rattle.session.specs.Rows.{width}
-use Rattle.session.specs.Checks.{frameTests, noRow, noTriple, wrongMark, Framed}
+use Rattle.session.specs.Checks.{frameTests, noRow, noTriple, wrongMark}
+use Rattle.session.specs.Between.{Framed}
 use Rattle.session.proofs.Calls.{frame-passed}
 use Rattle.opening.specs.Walking.{recordLength, badRecord, tooFew, disagree}
 use Rattle.opening.proofs.Passed.{clear-parts}

@@ -13,7 +13,7 @@ ghost use Rattle.shape.specs.Lengths.{Valid, rowLength, masksLength};
 ghost use Rattle.refusal.specs.Refusal.{first};
 ghost use Rattle.session.specs.Sessions.{shapeOf, maskedTriple};
 ghost use Rattle.session.specs.Rows.{withRow};
-ghost use Rattle.session.specs.Checks.{Sized, Framed};
+ghost use Rattle.session.specs.Between.{Sized, Framed};
 ghost use Rattle.product.specs.Masks.{bothMasks};
 ghost use Rattle.terms.specs.Listed.{termsOf, factorsOf};
 ghost use Rattle.relation.specs.Tests.{each, Counted, Few, Every, Placed, Factors};

@@ -14,7 +14,7 @@ use Rattle.refusal.specs.Conditions.{beyond, anyBeyond}
 use Rattle.session.specs.declared.Session.{Session}
 use Rattle.session.specs.Sessions.{factorA, factorB}
 use Rattle.session.specs.Rows.{rowAt}
-use Rattle.session.specs.Checks.{RowIn}
+use Rattle.session.specs.Between.{RowIn}
 use Rattle.session.proofs.Passed.{row-below}
 use Rattle.product.specs.Masks.{factorNumbers}
 use Rattle.product.proofs.Joining.{joined}

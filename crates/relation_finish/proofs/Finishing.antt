@@ -19,7 +19,8 @@ use Rattle.refusal.proofs.Groups.{chained, stopped, went-on, fail-parts}
 use Rattle.session.specs.declared.Session.{Session}
 use Rattle.session.specs.Sessions.{shapeOf}
 use Rattle.session.specs.Rows.{width}
-use Rattle.session.specs.Checks.{frameTests, noRow, wrongMark, Framed, RowIn}
+use Rattle.session.specs.Checks.{frameTests, noRow, wrongMark}
+use Rattle.session.specs.Between.{Framed, RowIn}
 use Rattle.session.proofs.Passed.{row-in}
 use Rattle.session.proofs.Calls.{frame-passed, stopped-at-frame, past-frame, allowed}
 use Rattle.opening.specs.Walking.{recordLength}

@@ -14,7 +14,7 @@ use Rattle.refusal.proofs.Endings.{refused, accepted}
 use Rattle.session.specs.declared.Session.{Session}
 use Rattle.session.specs.declared.Answer.{Answer}
 use Rattle.session.specs.Sessions.{shapeOf, partyOf, holding, marked}
-use Rattle.session.specs.Checks.{Framed, RowIn}
+use Rattle.session.specs.Between.{Framed, RowIn}
 use Rattle.shape.specs.Bounds.{lastRow}
 use Rattle.shape.specs.Marks.{held}
 use Rattle.session.proofs.Endings.{refused-answer, accepted-answer}

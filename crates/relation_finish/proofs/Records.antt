@@ -15,7 +15,7 @@ use Rattle.session.specs.declared.Party.{Party}
 use Rattle.session.specs.declared.Session.{Session}
 use Rattle.session.specs.Sessions.{shapeOf, partyOf}
 use Rattle.session.specs.Rows.{rowAt}
-use Rattle.session.specs.Checks.{RowIn}
+use Rattle.session.specs.Between.{RowIn}
 use Rattle.session.proofs.Passed.{row-below}
 use Rattle.session.proofs.RowLaws.{next}
 use Rattle.blocks.specs.Blocks as Blocks

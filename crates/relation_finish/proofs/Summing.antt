@@ -12,7 +12,7 @@ use Rattle.session.specs.declared.Session.{Session}
 use Rattle.session.specs.declared.Answer.{Answer}
 use Rattle.session.specs.Sessions.{shapeOf, holding, collectedTriple, finishedTriple}
 use Rattle.session.specs.Rows.{rowAt, withRow, summed}
-use Rattle.session.specs.Checks.{Framed, Sized, RowIn, TripleIn}
+use Rattle.session.specs.Between.{Framed, Sized, RowIn, TripleIn}
 use Rattle.session.proofs.RowLaws.{row-part, row-wide, row-put}
 use Rattle.product.specs.Finish.{productRow, withProduct}
 use Rattle.terms.specs.declared.Term.{Term}

@@ -12,7 +12,7 @@ ghost use Rattle.shape.specs.Lengths.{Valid, rowLength, recordLength};
 ghost use Rattle.refusal.specs.Refusal.{first, _when_};
 ghost use Rattle.session.specs.Sessions.{shapeOf};
 ghost use Rattle.session.specs.Rows.{rowAt};
-ghost use Rattle.session.specs.Checks.{Sized, Framed};
+ghost use Rattle.session.specs.Between.{Sized, Framed};
 ghost use Rattle.opening.specs.Walking.{badRecord};
 ghost use Rattle.terms.specs.Listed.{termsOf, factorsOf};
 ghost use Rattle.relation.specs.Tests.{each, Counted, Few, Every, Placed, Factors};

@@ -10,7 +10,7 @@ ghost use Prim.Native.Nat.{_+_, _*_, _≤_, _<_};
 ghost use lib.ListN.{length};
 ghost use Rattle.shape.specs.Lengths.{recordLength};
 ghost use Rattle.session.specs.Sessions.{shapeOf};
-ghost use Rattle.session.specs.Checks.{Framed, RowIn};
+ghost use Rattle.session.specs.Between.{Framed, RowIn};
 ghost use Rattle.opening.specs.Walking.{openedRow};
 ghost use Rattle.product.specs.Masks.{maskRow};
 ghost use Rattle.terms.specs.Listed.{mostTerms, factorsOf};

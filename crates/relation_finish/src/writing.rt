@@ -10,7 +10,7 @@ ghost use lib.ListN.{replicate};
 ghost use Rattle.shape.specs.Lengths.{rowLength};
 ghost use Rattle.session.specs.Sessions.{shapeOf};
 ghost use Rattle.session.specs.Rows.{withRow};
-ghost use Rattle.session.specs.Checks.{Sized, Framed, RowIn};
+ghost use Rattle.session.specs.Between.{Sized, Framed, RowIn};
 ghost use Rattle.product.specs.Finish.{withProduct};
 ghost use Rattle.terms.specs.Listed.{termsOf, factorsOf};
 ghost use Rattle.relation.specs.Tests.{Few, Every, Placed, Factors};
@@ -70,7 +70,7 @@ fn add_term(session: Session, rows: &mut [u32], dest: usize, term: Term)
     ensures { λ r. ⌜ now (rows .exit) ≡ plusTerm session dest term (now (rows .entry)) ⌝ }
 {
     let row = number_row(term);
-    session::rows::sum_rows(session.shape(), rows, dest, dest, row, term.coefficient, 0);
+    sums::sum_rows(session.shape(), rows, dest, dest, row, term.coefficient, 0);
 }
 
 // A row plus every term's coefficient times its row.

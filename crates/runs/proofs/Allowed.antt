@@ -6,7 +6,10 @@ use mathlib.Core.List.{List, _++_}
 use native.Mathlib.Omega.{arith}
 use lib.ListN.{length}
 use Rattle.session.specs.declared.Session.{Session}
-use Rattle.sharing.proofs.Passed.{row-loaded, triple-loaded, dealt, message-made, summed}
+use Rattle.load.proofs.Passed.{row-loaded, triple-loaded}
+use Rattle.deal.proofs.Passed.{dealt}
+use Rattle.message.proofs.Passed.{message-made}
+use Rattle.linear.proofs.Passed.{summed}
 use Rattle.opening.proofs.Passed.{row-opened, open-framed}
 use Rattle.product.proofs.Passed.{Factored, masks-made, collected, collect-framed, multiplied}
 use Rattle.poly.specs.Counting.{All}

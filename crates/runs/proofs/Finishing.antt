@@ -15,7 +15,7 @@ use Rattle.field.specs.Element.{element}
 use Rattle.session.specs.declared.Session.{Session}
 use Rattle.session.specs.Sessions.{openedA, openedB}
 use Rattle.session.specs.Rows.{sumsAt, rowAt, summed}
-use Rattle.session.proofs.Summed.{plus-nothing}
+use Rattle.sums.proofs.Summed.{plus-nothing}
 use Rattle.opening.specs.Walking.{tooFew, disagree, opened}
 use Rattle.product.specs.Finish as Finish
 use Rattle.product.specs.Finish.{productRow, withProduct}

@@ -13,8 +13,10 @@ use Rattle.shape.specs.Bounds.{rowCount, lastRow, lastTriple}
 use Rattle.session.specs.declared.Session.{Session}
 use Rattle.session.specs.Rows.{sumsAt, rowAt, withRow, combined, plusSums, summed}
 use Rattle.session.proofs.RowLaws.{length-with-row, row-same, row-other}
-use Rattle.sharing.specs.Load.{withTriple}
-use Rattle.sharing.proofs.Passed.{RowLoaded, TripleLoaded, Dealt, Summed}
+use Rattle.load.specs.Load.{withTriple}
+use Rattle.load.proofs.Passed.{RowLoaded, TripleLoaded}
+use Rattle.deal.proofs.Passed.{Dealt}
+use Rattle.linear.proofs.Passed.{Summed}
 use Rattle.vectors.specs.Vector.{Vector, plusTimes, raised, rowOf}
 use Rattle.vectors.proofs.Linear.{length-numbers, row-plusTimes, row-raised, row-summed}
 use Rattle.runs.specs.Draws.{Plan, Draw, pointOf}

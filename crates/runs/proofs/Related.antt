@@ -15,7 +15,7 @@ use Rattle.poly.specs.Counting.{All}
 use Rattle.poly.proofs.Lists.{all-join}
 use Rattle.session.specs.declared.Session.{Session}
 use Rattle.session.specs.Rows.{sumsAt, rowAt, withRow, combined}
-use Rattle.session.proofs.Summed.{plus-nothing}
+use Rattle.sums.proofs.Summed.{plus-nothing}
 use Rattle.session.proofs.RowLaws.{row-same, row-other, row-again}
 use Rattle.terms.specs.declared.Term.{Term}
 use Rattle.relation.specs.Finish.{termNumberA, termNumberB, withProducts, numberRow, plusTerm, plusTerms, withSum, pairDone, finishedTerms}

@@ -9,7 +9,10 @@ use Rattle.shape.specs.Lengths.{masksLength}
 use Rattle.session.specs.declared.Session.{Session}
 use Rattle.session.specs.Sessions.{shapeOf, marked, recalling}
 use Rattle.session.specs.Rows.{width, coefficients, rowAt}
-use Rattle.sharing.proofs.Passed.{row-loaded, triple-loaded, dealt, MessageMade, message-made, summed}
+use Rattle.load.proofs.Passed.{row-loaded, triple-loaded}
+use Rattle.deal.proofs.Passed.{dealt}
+use Rattle.message.proofs.Passed.{MessageMade, message-made}
+use Rattle.linear.proofs.Passed.{summed}
 use Rattle.product.proofs.Passed.{masks-made, collected, multiplied}
 use Rattle.terms.specs.declared.Term.{Term}
 use Rattle.terms.specs.Listed.{productsOf}

@@ -12,10 +12,10 @@ use Rattle.session.specs.declared.Session.{Session}
 use Rattle.session.specs.declared.Answer.{Answer}
 use Rattle.shape.specs.Lengths.{masksLength}
 use Rattle.session.specs.Sessions.{created, shapeOf}
-use Rattle.sharing.specs.Load.{loadRowAnswer, loadRowRows, loadTripleAnswer, loadTripleRows}
-use Rattle.sharing.specs.Deal.{dealAnswer, dealRows}
-use Rattle.sharing.specs.Message.{messageAnswer, messageOut}
-use Rattle.sharing.specs.Linear.{linearAnswer, linearRows}
+use Rattle.load.specs.Load.{loadRowAnswer, loadRowRows, loadTripleAnswer, loadTripleRows}
+use Rattle.deal.specs.Deal.{dealAnswer, dealRows}
+use Rattle.message.specs.Message.{messageAnswer, messageOut}
+use Rattle.linear.specs.Linear.{linearAnswer, linearRows}
 use Rattle.opening.specs.Walking.{recordLength, badRecord}
 use Rattle.opening.specs.Opening.{openAnswer}
 use Rattle.product.specs.Masks.{masksAnswer, masksOut}

@@ -9,7 +9,7 @@ use Rattle.refusal.specs.Refusal.{first, outcome}
 use Rattle.session.specs.declared.Session.{Session}
 use Rattle.session.specs.Sessions.{answer}
 use Rattle.session.specs.Rows.{rowAt}
-use Rattle.sharing.specs.Deal.{dealRefusal}
+use Rattle.deal.specs.Deal.{dealRefusal}
 use Rattle.opening.specs.Walking.{opened}
 use Rattle.opening.specs.Opening.{openRefusal}
 use Rattle.opening.proofs.Passed.{walkTests, walk-few, OpenChecked, row-opened}

@@ -18,11 +18,13 @@ use Rattle.session.specs.declared.Session.{Session}
 use Rattle.session.specs.Sessions.{sessionTests}
 use Rattle.session.specs.Rows.{rowAt, combined}
 use Rattle.session.specs.Checks.{frameTests, noRow, noTriple, wrongMark}
-use Rattle.sharing.specs.Load.{loadRowRefusal, loadTripleRefusal}
-use Rattle.sharing.specs.Deal.{dealRefusal}
-use Rattle.sharing.specs.Message.{messageRefusal}
-use Rattle.sharing.specs.Linear.{linearRefusal}
-use Rattle.sharing.proofs.Passed.{dealPlace, dealLate, deal-placed, messagePlace, messageLate, message-placed, linearPlace, linearLate, linear-placed}
+use Rattle.load.specs.Load.{loadRowRefusal, loadTripleRefusal}
+use Rattle.deal.specs.Deal.{dealRefusal}
+use Rattle.message.specs.Message.{messageRefusal}
+use Rattle.linear.specs.Linear.{linearRefusal}
+use Rattle.deal.proofs.Passed.{dealPlace, dealLate, deal-placed}
+use Rattle.message.proofs.Passed.{messagePlace, messageLate, message-placed}
+use Rattle.linear.proofs.Passed.{linearPlace, linearLate, linear-placed}
 use Rattle.opening.specs.Opening.{openRefusal}
 use Rattle.opening.proofs.Passed.{openPlace, openNumbers, walkTests, open-placed, OpenChecked}
 use Rattle.product.specs.Masks.{masksRefusal, maskNumbers}
@@ -38,7 +40,8 @@ use Rattle.runs.proofs.Marks.{Marks, markOf, rememberedA, rememberedB, Opened, 
 use Rattle.runs.proofs.Packs.{rowFor}
 use Rattle.runs.proofs.Holds.{Holds, Holder, wide, held-row, combined-row}
 use Rattle.runs.proofs.Recalled.{Recalls}
-use Rattle.runs.proofs.Lines.{elements-pass, numbers-elements}
+use Rattle.factory.proofs.Laws.{elements-pass}
+use Rattle.runs.proofs.Lines.{numbers-elements}
 use Rattle.secrecy.proofs.Near.{Near, near-plusTimes, near-same}
 use Rattle.secrecy.proofs.Link.{Alike}
 

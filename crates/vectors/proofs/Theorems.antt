@@ -29,7 +29,7 @@ use Rattle.shape.specs.Lengths.{fLength, vLength}
 use Rattle.shape.specs.Row.{checkValue, publicSum}
 use Rattle.session.specs.Sessions.{shapeOf, holding}
 use Rattle.session.specs.Rows.{combined}
-use Rattle.session.proofs.Writers.{length-combined}
+use Rattle.sums.proofs.Writers.{length-combined}
 use Rattle.accepting.specs.Accepting as Accepting
 use Rattle.accepting.proofs.Accepted.{Accepted, all-accepted, distinct-accepted, accepted-enough, walk-first}
 use Rattle.opening.specs.Walking.{sent, accepts, share, accepted, acceptedPosts, further, tooFew, disagree, opened}

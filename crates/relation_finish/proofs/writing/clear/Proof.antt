@@ -4,7 +4,7 @@ use mathlib.Core.List.{map}
 use lib.ListN.{length}
 use borrow.Author.Needs.{needs}
 use Rattle.lists.proofs.Filled.{Filled}
-use Rattle.session.proofs.Writers.{mapped-more, mapped-end}
+use Rattle.sums.proofs.Writers.{mapped-more, mapped-end}
 use Rattle.relation_finish.proofs.writing.clear.Statement.{statement}
 use Rattle.relation_finish.proofs.writing.clear.Tie as tie
 
