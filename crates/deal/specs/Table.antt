@@ -3,11 +3,12 @@
 use Prim.Native.Nat.{ℕ, _*_, _-_}
 use mathlib.Core.Path.{_≡_}
 use mathlib.Core.List.{List, [], _∷_}
+use lib.Dec.{ltb}
 use Rattle.refusal.specs.Refusal.{Test, _when_}
 use Rattle.refusal.specs.Conditions.{outside, wrongLength, beyond, anyBeyond, badPoint}
 use Rattle.session.specs.declared.Session.{Session}
 use Rattle.session.specs.Rows.{width, rowAt}
-use Rattle.session.specs.Checks.{noRow, wrongMark}
+use Rattle.session.specs.Checks.{wrongMark}
 use Rattle.deal.specs.Deal.{dealTests}
 
 abbrev pub dealTable : Session → List ℕ → ℕ → ℕ → List Test
@@ -17,7 +18,7 @@ dealTable s rows r c =
     ∷ 3 when outside 1 (s .n) (s .post)
     ∷ 4 when badPoint (s .point)
     ∷ 5 when wrongLength rows (96 * width s)
-    ∷ 6 when noRow r
+    ∷ 6 when ltb 95 r
     ∷ 7 when wrongMark s r 1
     ∷ 8 when beyond c
     ∷ 8 when anyBeyond (rowAt (width s) rows r)

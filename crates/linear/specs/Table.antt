@@ -3,11 +3,12 @@
 use Prim.Native.Nat.{ℕ, _*_, _-_}
 use mathlib.Core.Path.{_≡_}
 use mathlib.Core.List.{List, [], _∷_}
+use lib.Dec.{ltb}
 use Rattle.refusal.specs.Refusal.{Test, _when_}
 use Rattle.refusal.specs.Conditions.{outside, wrongLength, beyond, anyBeyond, badPoint}
 use Rattle.session.specs.declared.Session.{Session}
 use Rattle.session.specs.Rows.{width, rowAt}
-use Rattle.session.specs.Checks.{noRow, wrongMark}
+use Rattle.session.specs.Checks.{wrongMark}
 use Rattle.linear.specs.Linear.{linearTests}
 
 abbrev pub linearTable : Session → List ℕ → ℕ → ℕ → ℕ → ℕ → ℕ → List Test
@@ -17,9 +18,9 @@ linearTable s rows r a b scale fee =
     ∷ 3 when outside 1 (s .n) (s .post)
     ∷ 4 when badPoint (s .point)
     ∷ 5 when wrongLength rows (96 * width s)
-    ∷ 6 when noRow r
-    ∷ 6 when noRow a
-    ∷ 6 when noRow b
+    ∷ 6 when ltb 95 r
+    ∷ 6 when ltb 95 a
+    ∷ 6 when ltb 95 b
     ∷ 7 when wrongMark s r 0
     ∷ 7 when wrongMark s a 2
     ∷ 7 when wrongMark s b 2

@@ -3,11 +3,12 @@
 use Prim.Native.Nat.{ℕ, _+_, _*_, _-_}
 use mathlib.Core.Path.{_≡_}
 use mathlib.Core.List.{List, [], _∷_}
+use lib.Dec.{ltb}
 use Rattle.refusal.specs.Refusal.{Test, _when_}
 use Rattle.refusal.specs.Conditions.{outside, wrongLength, anyBeyond, badPoint}
 use Rattle.session.specs.declared.Session.{Session}
 use Rattle.session.specs.Rows.{width}
-use Rattle.session.specs.Checks.{noRow, noTriple, wrongMark}
+use Rattle.session.specs.Checks.{wrongMark}
 use Rattle.load.specs.Load.{loadRowTests, loadTripleTests}
 
 abbrev pub loadRowTable : Session → List ℕ → ℕ → List ℕ → List Test
@@ -18,7 +19,7 @@ loadRowTable s rows r pack =
     ∷ 4 when badPoint (s .point)
     ∷ 5 when wrongLength rows (96 * width s)
     ∷ 5 when wrongLength pack (width s)
-    ∷ 6 when noRow r
+    ∷ 6 when ltb 95 r
     ∷ 7 when wrongMark s r 0
     ∷ 8 when anyBeyond pack
     ∷ []
@@ -31,7 +32,7 @@ loadTripleTable s rows r pack =
     ∷ 4 when badPoint (s .point)
     ∷ 5 when wrongLength rows (96 * width s)
     ∷ 5 when wrongLength pack (3 * width s)
-    ∷ 6 when noTriple r
+    ∷ 6 when ltb 93 r
     ∷ 7 when wrongMark s r 0
     ∷ 7 when wrongMark s (r + 1) 0
     ∷ 7 when wrongMark s (r + 2) 0

@@ -3,12 +3,13 @@
 use Prim.Native.Nat.{ℕ, _+_, _*_, _-_}
 use mathlib.Core.Path.{_≡_}
 use mathlib.Core.List.{List, [], _∷_}
+use lib.Dec.{ltb}
 use Rattle.refusal.specs.Refusal.{Test, _when_}
 use Rattle.refusal.specs.Conditions.{outside, wrongLength, beyond, anyBeyond, badPoint}
 use Rattle.session.specs.declared.Session.{Session}
 use Rattle.session.specs.Sessions.{factorA, factorB, openedA, openedB}
 use Rattle.session.specs.Rows.{width, rowAt}
-use Rattle.session.specs.Checks.{noRow, noTriple, wrongMark}
+use Rattle.session.specs.Checks.{wrongMark}
 use Rattle.opening.specs.Walking.{recordLength, badRecord, tooFew, disagree}
 use Rattle.product.specs.Masks.{masksTests}
 use Rattle.product.specs.Finish.{maskA, maskB}
@@ -23,9 +24,9 @@ masksTable s rows a b r out =
     ∷ 4 when badPoint (s .point)
     ∷ 5 when wrongLength rows (96 * width s)
     ∷ 5 when wrongLength out (2 * (s .t + 1))
-    ∷ 6 when noRow a
-    ∷ 6 when noRow b
-    ∷ 6 when noTriple r
+    ∷ 6 when ltb 95 a
+    ∷ 6 when ltb 95 b
+    ∷ 6 when ltb 93 r
     ∷ 7 when wrongMark s a 2
     ∷ 7 when wrongMark s b 2
     ∷ 7 when wrongMark s r 3
@@ -47,9 +48,9 @@ collectTable s rows r blocksA blocksB =
     ∷ 5 when wrongLength rows (96 * width s)
     ∷ 5 when wrongLength blocksA (recordLength s)
     ∷ 5 when wrongLength blocksB (recordLength s)
-    ∷ 6 when noTriple r
-    ∷ 7 when noRow (factorA s r)
-    ∷ 7 when noRow (factorB s r)
+    ∷ 6 when ltb 93 r
+    ∷ 7 when ltb 95 (factorA s r)
+    ∷ 7 when ltb 95 (factorB s r)
     ∷ 7 when wrongMark s (factorA s r) 2
     ∷ 7 when wrongMark s (factorB s r) 2
     ∷ 7 when wrongMark s r 5
@@ -75,7 +76,7 @@ multiplyTable s rows r =
     ∷ 3 when outside 1 (s .n) (s .post)
     ∷ 4 when badPoint (s .point)
     ∷ 5 when wrongLength rows (96 * width s)
-    ∷ 6 when noTriple r
+    ∷ 6 when ltb 93 r
     ∷ 7 when wrongMark s r 7
     ∷ 7 when wrongMark s (r + 1) 4
     ∷ 7 when wrongMark s (r + 2) 4
