@@ -11,7 +11,11 @@
 
 #include "gantsorol.h"
 
-enum { MOST = 40, P = GANTSOROL_MODULUS, POST = 2, TEN_DIGITS = 1000000000, FEE = 80, SCALE = 35, TWO = 2 };
+#ifndef MOST
+#define MOST 40
+#endif
+
+enum { P = GANTSOROL_MODULUS, POST = 2, TEN_DIGITS = 1000000000, FEE = 80, SCALE = 35, TWO = 2 };
 /* Rows: two numbers, two triples, a sum, a relation's sum, one that stays empty. */
 enum { A = 0, B = 1, FIRST = 2, SECOND = 5, SUM = 8, RELATION = 9, EMPTY = 10, DRAWN = 8 };
 
@@ -139,15 +143,9 @@ static void open_row(size_t row, uint32_t opened) {
     keep(gantsorol_open(session, rows, rows_len, row, record, record_len), 0, opened, "open");
 }
 
-/* Openings of A in which not all is well. */
-static void open_otherwise(void) {
-    static uint32_t record[GANTSOROL_RECORD_LEN(MOST, MOST)];
+/* The last post's polynomial is not its own, and enough others are there. */
+static void open_forged(uint32_t *record) {
     uint32_t *last = record + (n - 1) * block + 1, w = points[POST - 1], s = drawn(1);
-    /* Post 1 is taken out, so that the last is needed or nearly so. */
-    hear(A, n - t > 1 ? n - t : 1, n, record);
-    must(gantsorol_record_remove(n, t, record, record_len, 1) == 0, "record remove");
-    keep(gantsorol_open(session, rows, rows_len, A, record, record_len), 0, numbers[A], "open, few there");
-    /* The last is false, and enough others are there, if there are more than t+1 posts. */
     hear(A, 1, n, record);
     last[0] = plus(last[0], 1, 1);
     keep(gantsorol_open(session, rows, rows_len, A, record, record_len), 0, numbers[A], "open, one false");
@@ -155,10 +153,21 @@ static void open_otherwise(void) {
     last[0] = plus(polynomial(A, n)[0], P - s, w);
     last[1] = plus(last[1], 1, s);
     keep(gantsorol_open(session, rows, rows_len, A, record, record_len), 13, 0, "open, 13");
-    /* Too few: post 1, and the post itself only where t is more than 1. */
+}
+
+/* Openings of A in which not all is well. */
+static void open_otherwise(void) {
+    static uint32_t record[GANTSOROL_RECORD_LEN(MOST, MOST)];
+    /* The last t+1, beside the post itself. */
+    hear(A, n - t, n, record);
+    keep(gantsorol_open(session, rows, rows_len, A, record, record_len), 0, numbers[A], "open, few there");
+    if (k < n)
+        open_forged(record);
+    /* Too few: the post itself, and where t is more than 1 some others. */
     hear(A, 1, t - 1, record);
     keep(gantsorol_open(session, rows, rows_len, A, record, record_len), 9, 0, "open, 9");
     must(gantsorol_record_put(n, t, record, record_len, n, polynomial(A, n), k) == 0, "record put");
+    must(gantsorol_record_remove(n, t, record, record_len, n) == 0, "record remove");
 }
 
 #ifdef BRANCHING
@@ -259,13 +268,12 @@ static void write_pack(void) {
     gantsorol_written written =
         gantsorol_write_pack(n, t, POST, points, n, kinds, GANTSOROL_ROWS, draw, draw_len, file, sizeof file);
     must(written.refusal == 0, "write pack");
-    printf("%zu\n", written.len);
 }
 
 int main(int count, char **arguments) {
     must(count == 5, "n, t, the first seed, and how many?");
     n = strtoul(arguments[1], NULL, 10), t = strtoul(arguments[2], NULL, 10), k = t + 1;
-    must(POST < n && n <= MOST && t > 0 && k < n, "n or t");
+    must(POST < n && n <= MOST && t > 0 && t < n, "n or t");
     row_len = GANTSOROL_ROW_LEN(n, t), rows_len = GANTSOROL_ROWS_LEN(n, t), draw_len = GANTSOROL_ROW_DRAW_LEN(n, t);
     block = GANTSOROL_BLOCK_LEN(t), record_len = GANTSOROL_RECORD_LEN(n, t);
     uint64_t first = strtoull(arguments[3], NULL, 10), seeds = strtoull(arguments[4], NULL, 10);
