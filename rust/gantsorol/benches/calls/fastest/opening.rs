@@ -1,35 +1,8 @@
-//! The opening and the factory's row, as fast as plain Rust makes them, with every check and the same
-//! answers. Lists are of the size of the station: up to 32 posts, or up to the most.
+//! The opening. Lists are of the size of the station: up to 32 posts, or up to the most.
 
-use gantsorol::{block_len, row_draw_len, row_len, rows_len};
-use gantsorol::{Answer, Session, MAX_POSTS, MODULUS, ROWS};
+use gantsorol::{block_len, row_len, rows_len, Answer, Session, MAX_POSTS, ROWS};
 
-const P: u64 = MODULUS as u64;
-
-/// So many posts are few: lists of this length are enough for them.
-const FEW: usize = 32;
-
-/// x modulo p, for x below 2^62: p is 2^31 − 1.
-const fn reduced(x: u64) -> u64 {
-    let once = (x & P) + (x >> 31);
-    let twice = (once & P) + (once >> 31);
-    if twice >= P {
-        twice - P
-    } else {
-        twice
-    }
-}
-
-/// a b modulo p, for elements: once folded, less than 2p is left.
-const fn product(a: u64, b: u64) -> u64 {
-    let whole = a * b;
-    let once = (whole & P) + (whole >> 31);
-    if once >= P {
-        once - P
-    } else {
-        once
-    }
-}
+use super::{any_beyond, checked_shape, is_point, powers, product, reduced, value, FEW, P};
 
 const fn inverse(x: u64) -> u64 {
     let (mut power, mut base, mut exponent) = (1, x, P - 2);
@@ -66,19 +39,6 @@ static TABLE: Table = {
     }
     table
 };
-
-/// Refusals 1 and 2.
-fn checked_shape(n: usize, t: usize) -> Result<(), u8> {
-    match () {
-        () if !(2..=MAX_POSTS).contains(&n) => Err(1),
-        () if t < 1 || t >= n => Err(2),
-        () => Ok(()),
-    }
-}
-
-fn is_point(point: u32) -> bool {
-    point != 0 && point < MODULUS
-}
 
 /// The opening.
 pub fn open(session: Session, rows: &[u32], row: usize, record: &[u32]) -> Answer {
@@ -181,34 +141,6 @@ fn fit<const N: usize>(
     })
 }
 
-/// Whether a number is no element; no early end, so that several are looked at at once.
-fn any_beyond(numbers: &[u32]) -> bool {
-    numbers.iter().fold(false, |beyond, &number| beyond | (number >= MODULUS))
-}
-
-/// The powers of x, each from two that are about half as high, so that they don't wait in a row.
-/// Numbers of 32 bits, so that their products with others are taken two at a time.
-fn powers<const N: usize>(x: u32, count: usize) -> [u32; N] {
-    let mut powers = [1; N];
-    powers[1] = x;
-    for exponent in 2..count {
-        let (half, rest) = (powers[exponent / 2], powers[exponent - exponent / 2]);
-        powers[exponent] = product(half.into(), rest.into()) as u32;
-    }
-    powers
-}
-
-/// A polynomial's value: the low and the high halves of the products are added up by themselves.
-fn value(coefficients: &[u32], powers: &[u32]) -> u64 {
-    let (mut low, mut high) = (0, 0);
-    for (&coefficient, &power) in coefficients.iter().zip(powers) {
-        let term = u64::from(coefficient) * u64::from(power);
-        low += term & P;
-        high += term >> 31;
-    }
-    reduced(low + high)
-}
-
 /// The weights of these nodes, k for post k + 1, which rise, and the factor of all of them at 0.
 ///
 /// A share's factor at 0 is the product of k / (k − j) over the other nodes k. Over all posts from the
@@ -243,53 +175,4 @@ fn weighed<const N: usize>(nodes: &[usize]) -> ([u64; N], u64) {
         *weight = if minus { P - term } else { term };
     }
     (weights, all)
-}
-
-/// The factory's row.
-pub fn factory_row(n: usize, t: usize, points: &[u32], draw: &[u32], out: &mut [u32]) -> u8 {
-    let write = if n <= FEW { write_packs::<FEW> } else { write_packs::<MAX_POSTS> };
-    match checked_factory(n, t, points, draw, out) {
-        Ok(()) => write(n, t, points, draw, out),
-        Err(refusal) => return refusal,
-    }
-    0
-}
-
-/// Refusals 1 to 8.
-fn checked_factory(
-    n: usize,
-    t: usize,
-    points: &[u32],
-    draw: &[u32],
-    out: &[u32],
-) -> Result<(), u8> {
-    checked_shape(n, t)?;
-    let lengths = [n, row_draw_len(n, t), n * row_len(n, t)];
-    match () {
-        () if !points.iter().all(|&point| is_point(point)) => Err(4),
-        () if [points.len(), draw.len(), out.len()] != lengths => Err(5),
-        () if any_beyond(draw) => Err(8),
-        () => Ok(()),
-    }
-}
-
-/// All posts' rows: the public sums once, then of each post the powers of its check point, and a sum
-/// of products for each polynomial.
-fn write_packs<const N: usize>(n: usize, t: usize, points: &[u32], draw: &[u32], out: &mut [u32]) {
-    let (f, vs) = draw.split_at(t + 1);
-    let mut sums = [0; N];
-    for (j, v) in vs.chunks_exact(t + 1).enumerate() {
-        let powers = powers::<N>(j as u32 + 1, t + 1);
-        sums[j] = reduced(u64::from(v[0]) + value(f, &powers)) as u32;
-    }
-    for (i, (row, &point)) in out.chunks_exact_mut(row_len(n, t)).zip(points).enumerate() {
-        let (own, seen) = row.split_at_mut(t + 1);
-        let (checks, public) = seen.split_at_mut(n);
-        let powers = powers::<N>(point, t + 1);
-        own.copy_from_slice(&vs[i * (t + 1)..][..t + 1]);
-        for (check, v) in checks.iter_mut().zip(vs.chunks_exact(t + 1)) {
-            *check = value(v, &powers) as u32;
-        }
-        public.copy_from_slice(&sums[..n]);
-    }
 }
