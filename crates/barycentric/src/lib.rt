@@ -10,7 +10,7 @@ ghost use Rattle.poly.specs.Counting.{All};
 ghost use Rattle.inverses.specs.InverseTable.{Inverts, most};
 ghost use Rattle.poly.specs.Interpolation.{nodal, interpolated};
 ghost use Rattle.barycentric.specs.Nodes.{Rising, lastOf, missing};
-ghost use Rattle.barycentric.specs.Weights.{alternating, mirrored, away, spans, over, above, nodeWeight, firsts, row, risesTo, Prepared, WeightsOf};
+ghost use Rattle.barycentric.specs.Weights.{alternating, mirrored, away, spans, above, nodeWeight, firsts, row, risesTo, Prepared, WeightsOf};
 
 pub fn wide(x: u32) -> usize
     ensures { λ r. ⌜ r ≡ x ⌝ }
@@ -125,15 +125,24 @@ fn four(x: u32, a: u32, b: u32, c: u32, d: u32) -> u32
     first * second
 }
 
-// The product of |x - g| over numbers g, one to a turn.
+// The product of |x - g| over fewer than four small numbers g, which needs no remainder either.
 fn few_spans(gaps: &[u32], x: u32) -> u32
+    requires { ⌜ (x ≤ most) × All (λ g. g ≤ most) (now gaps) × (length (now gaps) < 4) ⌝ }
     ensures { λ r. ⌜ r ≡ spans (now (gaps .entry)) x ⌝ }
 {
-    let mut r: u32 = 1;
-    for i in 0..gaps.len() {
-        r = field::mul(r, away(x, gaps[i]));
+    let n = gaps.len();
+    if n == 0 {
+        return 1;
     }
-    r
+    let first = away(x, gaps[0]);
+    if n == 1 {
+        return first;
+    }
+    let two = first * away(x, gaps[1]);
+    if n == 2 {
+        return two;
+    }
+    two * away(x, gaps[2])
 }
 
 // The product of |x - g| over small numbers g, four to a turn.
@@ -152,47 +161,29 @@ fn spans(gaps: &[u32], x: u32) -> u32
     field::mul(r, few_spans(&gaps[i..], x))
 }
 
-// One more, where g is above x.
-fn counted(count: u32, x: u32, g: u32) -> u32
-    requires { ⌜ count < most ⌝ }
-    ensures { λ r. ⌜ r ≡ count + over x g ⌝ }
-{
-    if x < g { count + 1 } else { count }
-}
-
-// How many of the numbers are above x.
-fn above(gaps: &[u32], x: u32) -> u32
-    requires { ⌜ length (now gaps) ≤ most ⌝ }
-    ensures { λ r. ⌜ r ≡ above (now (gaps .entry)) x ⌝ }
-{
-    let mut count: u32 = 0;
-    for i in 0..gaps.len() {
-        count = counted(count, x, gaps[i]);
-    }
-    count
-}
-
-// The product of x - g over small numbers g: a sign for each that is above x.
-fn distances(gaps: &[u32], x: u32) -> u32
-    requires { ⌜ (x ≤ most) × All (λ g. g ≤ most) (now gaps) × (length (now gaps) ≤ most) ⌝ }
+// The product of x - g over small numbers g: a sign for each that is above x, `signs` in all.
+fn distances(gaps: &[u32], x: u32, signs: usize) -> u32
+    requires { ⌜ (x ≤ most) × All (λ g. g ≤ most) (now gaps) × (signs ≤ most) × (signs ≡ above (now gaps) x) ⌝ }
     ensures { λ r. ⌜ r ≡ nodal (now (gaps .entry)) x ⌝ }
 {
-    let signs = wide(above(gaps, x));
     mirrored(spans(gaps, x), signs + 1)
 }
 
-// The weights of 0 and the nodes move to the front of the list of all numbers' weights, each times its distances to the gaps.
+// The weights of 0 and the nodes move to the front of the list of all numbers' weights, each times its distances to the gaps. Of the numbers
+// up to node x all but i + 1 are gaps, so those above it need no count.
 fn weigh_nodes(nodes: &[u32], gaps: &[u32], list: &mut [u32])
-    requires { ⌜ Rising 0 (now nodes) × (lastOf 0 (now nodes) ≤ most) × All (λ g. g ≤ most) (now gaps) × (length (now gaps) ≤ most)
+    requires { ⌜ Rising 0 (now nodes) × (lastOf 0 (now nodes) ≤ most) × (now gaps ≡ missing 0 (now nodes))
         × (lastOf 0 (now nodes) < length (now list))
         × (now list ≡ firsts (alternating (lastOf 0 (now nodes))) (length (now list))) ⌝ }
     ensures { λ r. ⌜ take (length (now (nodes .entry)) + 1) (now (list .exit))
         ≡ map (nodeWeight (lastOf 0 (now (nodes .entry))) (now (gaps .entry))) (0 ∷ now (nodes .entry)) ⌝ }
 {
-    list[0] = distances(gaps, 0);
+    let missed = gaps.len();
+    list[0] = distances(gaps, 0, missed);
     for i in 0..nodes.len() {
         let x = wide(nodes[i]);
-        list[i + 1] = field::mul(list[x], distances(gaps, nodes[i]));
+        let above = missed + (i + 1) - x;
+        list[i + 1] = field::mul(list[x], distances(gaps, nodes[i], above));
     }
 }
 
