@@ -35,7 +35,8 @@ use Rattle.runs.proofs.Marks.{Marks, markOf, rememberedA, rememberedB, Sized, m
 use Rattle.runs.proofs.Outcomes.{answer-refusal, settled}
 use Rattle.runs.proofs.Packs.{rowFor}
 use Rattle.runs.proofs.Holds.{Holds, Holder, wide}
-use Rattle.runs.proofs.Lines.{elements-pass, numbers-elements}
+use Rattle.factory.proofs.Laws.{elements-pass}
+use Rattle.runs.proofs.Lines.{numbers-elements}
 use Rattle.runs.proofs.Steps.{postAt}
 use Rattle.runs.proofs.Facts.{Multiplying, Triple}
 use Rattle.runs.proofs.Recalled.{Recalls}

@@ -42,7 +42,7 @@ use Rattle.runs.specs.Draws.{Plan, Draw, IsRaw, Sound, IsDraw, rawLength, tripl
 use Rattle.runs.specs.Outline.{Taking, nothingTaken, aRowPack, aTriplePack, aNumber, aRecord, twoRecords, takes, Given, Move, moves}
 use Rattle.runs.specs.Calls.{Post, Actual, Call, loadRow, loadTriple, deal, perform, newPost, at}
 use Rattle.runs.proofs.Outlines.{all-every}
-use Rattle.runs.proofs.Lines.{elements-of}
+use Rattle.factory.proofs.Laws.{elements-of}
 use Rattle.correctness.specs.History.{Event, World, doneBy, turn, history, Each}
 use Rattle.correctness.specs.Ledger.{Ledger, nothing, dealt, sum, product, Written, Plain, of-deal, of-row, of-times, of-fee, of-more, of-product}
 use Rattle.correctness.specs.Truth.{OwnPart, EnoughTrue, TrueWith, TrueFinish}

@@ -12,7 +12,7 @@ use Rattle.poly.specs.Counting.{All}
 use Rattle.factory.specs.Calls.{dealerNumber}
 use Rattle.opening.specs.Opening.{openAnswer}
 use Rattle.runs.specs.Draws.{rawDraw}
-use Rattle.runs.proofs.Lines.{elements-of}
+use Rattle.factory.proofs.Laws.{elements-of}
 use Rattle.correctness.specs.History.{Event, World, history, begin, Each}
 use Rattle.correctness.specs.Ledger.{dealt, Written, Plain, of-deal, of-row, of-times, of-fee, of-more, of-product}
 use Rattle.correctness.specs.Truth.{OwnPart, TrueFinish}

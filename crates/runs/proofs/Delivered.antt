@@ -25,7 +25,7 @@ use Rattle.factory.proofs.Theorems.{row-done, triple-done}
 use Rattle.runs.specs.Draws.{Plan, planShape, Draw, IsRaw, Sound, IsDraw, rowLength, pointOf, rawDraw, tripleDraw, drawA, drawB, drawAB, partOf, rawPack, triplePack}
 use Rattle.runs.specs.Packs.{RowGiven, TripleGiven, FactoryPacks}
 use Rattle.runs.proofs.Packs.{Drawn, raw-drawn, triple-drawn, a-drawn, b-drawn, ab-drawn}
-use Rattle.runs.proofs.Lines.{elements-pass}
+use Rattle.factory.proofs.Laws.{elements-pass}
 
 points-pass : (ws : List ℕ) → All (λ w. (1 ≤ w) × (w < p)) ws → anyBadPoint ws ≡ false
 unfolding anyBadPoint

@@ -26,7 +26,7 @@ use Rattle.vectors.proofs.Passing.{all-passing}
 use Rattle.vectors.proofs.Theorems.{all-enough}
 use Rattle.runs.specs.Calls.{Proper}
 use Rattle.runs.proofs.Finishing.{Trusted}
-use Rattle.runs.proofs.Lines.{elements-of}
+use Rattle.factory.proofs.Laws.{elements-of}
 use Rattle.runs.proofs.Steps.{own-numbers}
 
 module _ (s : Session) (blocks : List ℕ) where

@@ -32,7 +32,8 @@ use Rattle.runs.specs.Draws.{Plan, planShape, Raw, none, by, IsRaw, whenRaw, So
 use Rattle.runs.proofs.Start.{all-at}
 use Rattle.runs.proofs.Marks.{rawVector, vectorA, vectorB, vectorAB}
 use Rattle.runs.proofs.Outcomes.{done-is}
-use Rattle.runs.proofs.Lines.{elements-pass, numbers-elements}
+use Rattle.factory.proofs.Laws.{elements-pass}
+use Rattle.runs.proofs.Lines.{numbers-elements}
 use Rattle.runs.proofs.Packs.{rowFor, Drawn, raw-drawn, a-drawn, b-drawn, ab-drawn, raw-pack, triple-pack}
 use Rattle.runs.proofs.Holds.{row-wide}
 use Rattle.secrecy.specs.Steps.{Secrets, dealtNumber}

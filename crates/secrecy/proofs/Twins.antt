@@ -38,7 +38,8 @@ use Rattle.runs.proofs.Marks.{Marks, markOf, rememberedA, rememberedB, Opened, 
 use Rattle.runs.proofs.Packs.{rowFor}
 use Rattle.runs.proofs.Holds.{Holds, Holder, wide, held-row, combined-row}
 use Rattle.runs.proofs.Recalled.{Recalls}
-use Rattle.runs.proofs.Lines.{elements-pass, numbers-elements}
+use Rattle.factory.proofs.Laws.{elements-pass}
+use Rattle.runs.proofs.Lines.{numbers-elements}
 use Rattle.secrecy.proofs.Near.{Near, near-plusTimes, near-same}
 use Rattle.secrecy.proofs.Link.{Alike}
 
