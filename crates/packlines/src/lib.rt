@@ -45,8 +45,8 @@ fn put_line(
     if count == 0 {
         return 0;
     }
-    let head = [row as u32];
-    csv::put_line(letter_of(kind), &head, &room[..count], out)
+    let number = [row as u32];
+    csv::put_line(letter_of(kind), &number, &room[..count], out)
 }
 
 // How many bytes all rows' lines have.
