@@ -10,6 +10,7 @@ use borrow.Author.Tests.{lt-ltb, le-ltb, ne-eqb}
 use lib.ListN.{length, length-take}
 use Rattle.poly.specs.Counting.{Elements}
 use Rattle.poly.proofs.Lists.{all-zip}
+use Rattle.shape.specs.Marks.{present}
 use Rattle.session.specs.declared.Session.{Session}
 use Rattle.opening.specs.Blocks as Blocks
 use Rattle.opening.specs.Walking.{blockMark, sent, accepts, accepted, acceptedPosts, tooFew}
@@ -38,14 +39,14 @@ module _ (s : Session) (row blocks : List ℕ) where
   -- what counts for another post is nothing, or t+1 elements
   pub formed : Proper s blocks → (j : ℕ) → 1 ≤ j → j ≤ s .n → j ≢ s .post → Formed (s .t + 1) (sent s row blocks j)
   unfolding Blocks.sent
-  formed pr j lo hi ne = go (ℕ-discrete (blockMark (s .t + 1) blocks j) 1)
+  formed pr j lo hi ne = go (ℕ-discrete (blockMark (s .t + 1) blocks j) present)
     where
-      go : Dec (blockMark (s .t + 1) blocks j ≡ 1) → Formed (s .t + 1) (sent s row blocks j)
+      go : Dec (blockMark (s .t + 1) blocks j ≡ present) → Formed (s .t + 1) (sent s row blocks j)
       go (yes e) = inr (
         ap length (sent-there s blocks j lo hi ne row e) ∙ block-many s blocks j lo hi ne pr e,
         rw (sent-there s blocks j lo hi ne row e) (block-low s blocks j lo hi ne pr e),
       )
-      go (no e) = inl (rw (ne-eqb j (s .post) ne, ne-eqb (blockMark (s .t + 1) blocks j) 1 e))
+      go (no e) = inl (rw (ne-eqb j (s .post) ne, ne-eqb (blockMark (s .t + 1) blocks j) present e))
 
 pub all-is-enough : AllIsEnough
 all-is-enough P s row blocks h a = record {

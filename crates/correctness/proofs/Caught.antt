@@ -12,6 +12,7 @@ use Rattle.field.specs.Modulus.{p}
 use Rattle.poly.specs.Counting.{countFrom, agreements}
 use Rattle.poly.specs.Polynomial.{value}
 use Rattle.poly.proofs.Theorems.{false-polynomials-pass}
+use Rattle.shape.specs.Marks.{present}
 use Rattle.session.specs.Sessions.{withPoint}
 use Rattle.opening.specs.Walking.{blockMark, blockCoefficients, accepts}
 use Rattle.vectors.specs.Vector.{numbers}
@@ -43,7 +44,7 @@ count-none from (suc k) = count-none (suc from) k
 
 pub false-caught : FalseCaught
 unfolding agreements
-false-caught s X blocks j lo hi other proper untrue = go (ℕ-discrete (blockMark (s .t + 1) blocks j) 1)
+false-caught s X blocks j lo hi other proper untrue = go (ℕ-discrete (blockMark (s .t + 1) blocks j) present)
   where
     block : List ℕ
     block = blockCoefficients (s .t + 1) blocks j

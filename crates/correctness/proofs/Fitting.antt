@@ -9,6 +9,8 @@ use lib.ListN.{take, drop}
 use lib.Seq.{take-at, drop-at}
 use Rattle.poly.specs.Counting.{All}
 use Rattle.poly.proofs.Lists.{all-map, all-zip}
+use Rattle.shape.specs.Bounds.{rowCount}
+use Rattle.shape.specs.Marks.{masked}
 use Rattle.decimal.specs.Numeral.{tens}
 use Rattle.session.specs.declared.Session.{Session}
 use Rattle.opening.specs.Walking.{sent, accepts, accepted}
@@ -82,8 +84,8 @@ module _ (plan : Plan) (draw : Draw) (L : Ledger) (sound : Sound plan) (is : IsD
 
   module _ (S : ℕ → Type 0) (w : World) (all : AllSaid S w) where
     -- of a triple whose masks were made, a half of j's is its polynomial of a − l, or of b − l'
-    module _ (M : Marks) (vec : ℕ → Vector) (f : Known plan draw L M vec) (r : ℕ) (ok : Multiplying 5 M (rememberedA M r) (rememberedB M r) r) where
-      low : r < 96
+    module _ (M : Marks) (vec : ℕ → Vector) (f : Known plan draw L M vec) (r : ℕ) (ok : Multiplying masked M (rememberedA M r) (rememberedB M r) r) where
+      low : r < rowCount
       low = omega (arith, ok .r-low)
 
       t : Triple plan draw M vec r
@@ -112,7 +114,7 @@ module _ (plan : Plan) (draw : Draw) (L : Ledger) (sound : Sound plan) (is : IsD
           ∙ ap (λ (X : Vector). numbers (plan .t + 1) (less (vec (rememberedB M r)) X .v j)) (sym (t .is-b))
 
     -- a finish that is not refused
-    module _ (len i : ℕ) (q : Post) (g : Good plan draw L len i q) (r : ℕ) (blocksA blocksB : List ℕ) (ok : Multiplying 5 (g .marks) (rememberedA (g .marks) r) (rememberedB (g .marks) r) r) where
+    module _ (len i : ℕ) (q : Post) (g : Good plan draw L len i q) (r : ℕ) (blocksA blocksB : List ℕ) (ok : Multiplying masked (g .marks) (rememberedA (g .marks) r) (rememberedB (g .marks) r) r) where
       abbrev M : Marks
       M = g .marks
 

@@ -9,6 +9,8 @@ use native.Mathlib.Decide.{ℕ-discrete}
 use native.Mathlib.Omega.{arith}
 use lib.ListN.{take, drop}
 use Rattle.field.specs.Modulus.{p}
+use Rattle.shape.specs.Bounds.{lastRow}
+use Rattle.shape.specs.Marks.{held, masked}
 use Rattle.refusal.specs.Refusal.{first}
 use Rattle.session.specs.declared.Session.{Session}
 use Rattle.session.specs.declared.Answer.{Answer}
@@ -39,7 +41,7 @@ use Rattle.correctness.proofs.Permitted.{Stander, holder, below, is-row
 -- what a truth of polynomials must give, to be used in an opening
 abbrev pub Reliable : Plan → Draw → Ledger → (ℕ → ℕ → List ℕ → Type 0) → Type 0
 Reliable plan draw L P =
-    (r j : ℕ) (xs : List ℕ) → r ≤ 95 → 1 ≤ j → j ≤ plan .n → Formed (plan .t + 1) xs → P r j xs
+    (r j : ℕ) (xs : List ℕ) → r ≤ lastRow → 1 ≤ j → j ≤ plan .n → Formed (plan .t + 1) xs → P r j xs
     → (X : Vector) → Is plan draw L r X → xs ≡ numbers (plan .t + 1) (X .v j)
 
 module _ (G : Stander) where
@@ -66,23 +68,23 @@ module _ (G : Stander) where
       go (yes g) = subst (Truly s S blocks) (sym g) (own-true s blocks S)
       go (no g) = sym (ap (λ (y : List ℕ). sent s y blocks j) e) ∙ truly g
 
-  module _ (r : ℕ) (five : markOf M r ≡ 5) where
+  module _ (r : ℕ) (five : markOf M r ≡ masked) where
     pub mask-a : Finish.maskA s l r ≡ heldRow s (maskVectorA M vec r)
-    mask-a = combined-row (holder G) (p - 1) (rememberedA M r) r (is-row G (rememberedA M r) 1 (waiting G r five .a-held)) (is-row G r 4 five)
+    mask-a = combined-row (holder G) (p - 1) (rememberedA M r) r (is-row G (rememberedA M r) (waiting G r five .a-held)) (is-row G r five)
 
     pub mask-b : Finish.maskB s l r ≡ heldRow s (maskVectorB M vec r)
     mask-b =
-        combined-row (holder G) (p - 1) (rememberedB M r) (r + 1) (is-row G (rememberedB M r) 1 (waiting G r five .b-held))
-        (is-row G (r + 1) 3 (waiting G r five .second))
+        combined-row (holder G) (p - 1) (rememberedB M r) (r + 1) (is-row G (rememberedB M r) (waiting G r five .b-held))
+        (is-row G (r + 1) (waiting G r five .second))
 
   module _ (P : ℕ → ℕ → List ℕ → Type 0) (truth : Reliable plan draw L P) where
-    sent-is : (r : ℕ) (blocks : List ℕ) (j : ℕ) → markOf M r ≡ 2 → Proper s blocks → 1 ≤ j → j ≤ plan .n → j ≢ i
+    sent-is : (r : ℕ) (blocks : List ℕ) (j : ℕ) → markOf M r ≡ held → Proper s blocks → 1 ≤ j → j ≤ plan .n → j ≢ i
         → P r j (sent s (row r) blocks j) → sent s (row r) blocks j ≡ numbers (plan .t + 1) (vec r .v j)
     sent-is r blocks j two pr lj hj ne x =
-        truth r j (sent s (row r) blocks j) (omega (arith, below G r 1 two)) lj hj (formed s (row r) blocks pr j lj hj ne) x (vec r)
-        (f r (below G r 1 two) .held two)
+        truth r j (sent s (row r) blocks j) (omega (arith, below G r two)) lj hj (formed s (row r) blocks pr j lj hj ne) x (vec r)
+        (f r (below G r two) .held two)
 
-    opens : (r : ℕ) (blocks : List ℕ) → markOf M r ≡ 2 → Proper s blocks → Opens L (P r) q r blocks
+    opens : (r : ℕ) (blocks : List ℕ) → markOf M r ≡ held → Proper s blocks → Opens L (P r) q r blocks
     opens r blocks two pr = record {
       few = λ e. ap (λ (o : Answer). o .refusal) (open-nine s l r blocks clear (too-few s (row r) blocks e));
       exact = λ e t.
@@ -98,7 +100,7 @@ module _ (G : Stander) where
         clear = open-passes G r blocks two pr
 
         is-held : row r ≡ heldRow s (vec r)
-        is-held = is-row G r 1 two
+        is-held = is-row G r two
 
         gives : (j : ℕ) → 1 ≤ j → j ≤ plan .n → j ≢ i → P r j (sent s (row r) blocks j) → sent s (row r) blocks j ≡ numbers (plan .t + 1) (vec r .v j)
         gives j lj hj ne x = sent-is r blocks j two pr lj hj ne x
@@ -109,7 +111,7 @@ module _ (G : Stander) where
         number-given : {o : Answer} → o ≡ holding 0 (number (vec r) .0) s → (o .refusal ≡ 0) × Plain L r (o .value)
         number-given e = (
           ap (λ (o : Answer). o .refusal) e,
-          subst (Plain L r) (sym (ap (λ (o : Answer). o .value) e)) (plain plan draw L is (f r (below G r 1 two) .held two)),
+          subst (Plain L r) (sym (ap (λ (o : Answer). o .value) e)) (plain plan draw L is (f r (below G r two) .held two)),
         )
 
         go : s .t + 1 ≤ howMany s (row r) blocks → (off : Bool) → disagree s (row r) blocks ≡ off
@@ -117,15 +119,15 @@ module _ (G : Stander) where
         go e true z = inr (ap (λ (o : Answer). o .refusal) (open-thirteen s l r blocks clear (not-few s (row r) blocks e) z))
         go e false z = inl (ap (λ (o : Answer). o .refusal) (open-number s l r blocks clear (not-few s (row r) blocks e) z))
 
-    accepts-true : (r : ℕ) (blocks : List ℕ) (j : ℕ) → markOf M r ≡ 2 → Proper s blocks → 1 ≤ j → j ≤ plan .n
+    accepts-true : (r : ℕ) (blocks : List ℕ) (j : ℕ) → markOf M r ≡ held → Proper s blocks → 1 ≤ j → j ≤ plan .n
         → (j ≢ i → P r j (sent s (row r) blocks j)) → accepts s (row r) blocks j ≡ true
     accepts-true r blocks j two pr lj hj x =
-        true-taken (row r) (vec r) (is-row G r 1 two) blocks j lj hj (λ ne. sent-is r blocks j two pr lj hj ne (x ne))
+        true-taken (row r) (vec r) (is-row G r two) blocks j lj hj (λ ne. sent-is r blocks j two pr lj hj ne (x ne))
 
     -- ---- what posts told of masks
 
     module _ (S : ℕ → Type 0) (w : World) (all : AllSaid plan draw L (G .sound) is S w) where
-      module _ (r : ℕ) (five : markOf M r ≡ 5) where
+      module _ (r : ℕ) (five : markOf M r ≡ masked) where
         abbrev Half : (List ℕ → List ℕ) → ℕ → List ℕ → Type 0
         Half half = TrueMask S w (plan .t) half r
 

@@ -12,6 +12,7 @@ use Rattle.field.specs.Arithmetic as Arithmetic
 use Rattle.field.proofs.Residues.{mul-mod-mod}
 use Rattle.poly.specs.Counting.{All}
 use Rattle.poly.proofs.Lists.{all-zip, all-second}
+use Rattle.shape.specs.Marks.{masked}
 use Rattle.session.specs.declared.Session.{Session}
 use Rattle.session.specs.Sessions.{shapeOf}
 use Rattle.opening.specs.Walking.{tooFew, disagree}
@@ -209,7 +210,7 @@ module _ (G : Stander) (S : ℕ → Type 0) (w : World) (said : AllSaid (G .plan
       (all-true-of s X bl (H half r) x e (λ j lj hj ne o. theirs j lj hj _ o) t)
 
   all-agree : (k : ℕ) (us : List Term)
-      → All (λ t. (markOf M' (t .first) ≡ 5) × (rememberedA M' (t .first) ≡ t .row) × (rememberedB M' (t .first) ≡ t .second)) us
+      → All (λ t. (markOf M' (t .first) ≡ masked) × (rememberedA M' (t .first) ≡ t .row) × (rememberedB M' (t .first) ≡ t .second)) us
       → EachAt (Enough (Permitted.q G) blocks) k us → EachAt (AllTrue (TrueMask S w (plan .t)) (Permitted.q G) blocks) k us
       → EachAt (λ k t. (disagree s (termMaskA s l t) (recordA s blocks k) ≡ false) × (disagree s (termMaskB s l t) (recordB s blocks k) ≡ false)) k us
   all-agree k [] h e t = tt

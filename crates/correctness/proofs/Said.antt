@@ -8,6 +8,8 @@ use native.Mathlib.Omega.{arith}
 use lib.ListN.{length, getD, drop, length-append}
 use lib.Seq.{getD-at}
 use Rattle.poly.specs.Counting.{All, Elements}
+use Rattle.shape.specs.Bounds.{rowCount, lastRow}
+use Rattle.shape.specs.Marks.{held, unused}
 use Rattle.decimal.specs.Numeral.{tens, leading}
 use Rattle.csv.specs.Fields.{fields, written, Parsed, parsed, malformed, fieldsAt, Small}
 use Rattle.csv.proofs.Overwriting.{fields-append}
@@ -137,7 +139,7 @@ module _ (plan : Plan) (draw : Draw) (L : Ledger) (small : plan .n < tens 10) wh
     ]
 
     -- none has no numbers
-    pub never-bare : (r j : ℕ) → r ≤ 95 → j ≤ plan .n → Among (openingLine r j []) lines → ⊥
+    pub never-bare : (r j : ℕ) → r ≤ lastRow → j ≤ plan .n → Among (openingLine r j []) lines → ⊥
     never-bare r j hr hj m = elim (among-all Said lines all (openingLine r j []) m) [
       | inl l ↦ go l (l .xs) refl
       | inr l ↦ let z : _≡_ {A = ℕ} 79 77 = ap (λ (s : List ℕ). getD s 0 0) (l .is) in omega arith
@@ -175,7 +177,7 @@ module _ (plan : Plan) (draw : Draw) (L : Ledger) (small : plan .n < tens 10) wh
     once P zero line lines f a = (f refl, a)
     once P (suc n) line lines f a = a
 
-    new-opening : (r : ℕ) (xs : List ℕ) → (r < 96) × (markOf (g .marks) r ≡ 2) → xs ≡ numbers k (g .vec r .v i) → OpeningSaid (openingLine r i xs)
+    new-opening : (r : ℕ) (xs : List ℕ) → (r < rowCount) × (markOf (g .marks) r ≡ held) → xs ≡ numbers k (g .vec r .v i) → OpeningSaid (openingLine r i xs)
     new-opening r xs ok says = record {
       row = r;
       post = i;
@@ -192,7 +194,7 @@ module _ (plan : Plan) (draw : Draw) (L : Ledger) (small : plan .n < tens 10) wh
       says = says;
     }
 
-    new-masks : (a b r : ℕ) (xs : List ℕ) → Multiplying 3 (g .marks) a b r
+    new-masks : (a b r : ℕ) (xs : List ℕ) → Multiplying unused (g .marks) a b r
         → xs ≡ numbers k (less (g .vec a) (g .vec r) .v i) ++ numbers k (less (g .vec b) (g .vec (r + 1)) .v i) → L (r + 2) ≡ product r a b
         → MasksSaid (masksLine r i xs)
     new-masks a b r xs ok said means = record {

@@ -10,6 +10,8 @@ use borrow.Author.Tests.{eq-eqb, ne-eqb}
 use lib.Dec.{eqb}
 use lib.ListN.{length, getD, take}
 use Rattle.field.specs.Element.{element}
+use Rattle.shape.specs.Bounds.{lastRow}
+use Rattle.shape.specs.Marks.{held as heldMark}
 use Rattle.session.specs.declared.Answer.{Answer}
 use Rattle.session.specs.Sessions.{mark}
 use Rattle.session.specs.Rows.{width, coefficients, rowAt}
@@ -46,7 +48,7 @@ module _ (plan : Plan) (draw : Draw) (L : Ledger) (S : ℕ → Type 0) (rows : �
       (beginning plan draw L S (h .sound) (h .is-draw) rows) (h .parts) (h .ledger) (h .finishes)
 
   -- what a post of S told
-  telling : (r j : ℕ) (xs : List ℕ) → r ≤ 95 → 1 ≤ j → j ≤ plan .n → S j → Formed (plan .t + 1) xs → Told (end .lines j) r j xs
+  telling : (r j : ℕ) (xs : List ℕ) → r ≤ lastRow → 1 ≤ j → j ≤ plan .n → S j → Formed (plan .t + 1) xs → Told (end .lines j) r j xs
       → (X : Vector) → Is plan draw L r X → xs ≡ numbers (plan .t + 1) (X .v j)
   telling r j xs low lo hi among (inl e) m X is =
       absurd (never-bare plan draw L (small plan (h .sound)) (end .lines j) (stands .lines j lo hi among) r j low hi (subst (λ (ys : List ℕ). Among (openingLine r j ys) (end .lines j)) e m))
@@ -55,15 +57,15 @@ module _ (plan : Plan) (draw : Draw) (L : Ledger) (S : ℕ → Type 0) (rows : �
 
   -- what it holds
   holding : (j : ℕ) (q : Post) (g : Good plan draw L (lens j) j q) (r : ℕ) (xs : List ℕ)
-      → (mark (q .session) r ≡ 2) × (xs ≡ coefficients (q .session) (rowAt (width (q .session)) (q .rows) r))
+      → (mark (q .session) r ≡ heldMark) × (xs ≡ coefficients (q .session) (rowAt (width (q .session)) (q .rows) r))
       → (X : Vector) → Is plan draw L r X → xs ≡ numbers (plan .t + 1) (X .v j)
   holding j q g r xs =
       subst
-      (λ (x : Post). (mark (x .session) r ≡ 2) × (xs ≡ coefficients (x .session) (rowAt (width (x .session)) (x .rows) r))
+      (λ (x : Post). (mark (x .session) r ≡ heldMark) × (xs ≡ coefficients (x .session) (rowAt (width (x .session)) (x .rows) r))
       → (X : Vector) → Is plan draw L r X → xs ≡ numbers (plan .t + 1) (X .v j))
       (sym (named plan draw (lens j) j (g .marks) (g .vec) q (g .stands)))
       (λ o X is.
-      let low = marked-low (g .marks) (g .sized) r 1 (o .0) in
+      let low = marked-low (g .marks) (g .sized) r (o .0) in
       o .1 ∙ ap (take (plan .t + 1)) (g .stands .holds .rows r low (omega (arith, o .0)))
       ∙ own-numbers (plan .t + 1) (plan .n) j (element (pointOf draw j)) (g .vec r)
       ∙ ap (λ (Y : Vector). numbers (plan .t + 1) (Y .v j)) (one plan draw L (g .facts r low .held (o .0)) is))

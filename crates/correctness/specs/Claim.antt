@@ -8,6 +8,7 @@ use mathlib.Core.Bool.{true}
 use mathlib.Core.Logic.{_≢_, _⊎_}
 use mathlib.Core.List.{List, _∷_, _++_}
 use lib.ListN.{length, getD, take, drop}
+use Rattle.shape.specs.Marks.{held, masked, collected}
 use Rattle.session.specs.declared.Session.{Session}
 use Rattle.session.specs.declared.Answer.{Answer}
 use Rattle.session.specs.Sessions.{mark}
@@ -62,7 +63,7 @@ Opens L P q r blocks = Answered L P q r blocks (openAnswer (q .session) (q .rows
 abbrev pub Done : Post → ℕ → List ℕ → List ℕ → Type 0
 Done q r blocksA blocksB =
     (collectAnswer (q .session) (q .rows) r blocksA blocksB .refusal ≡ 0)
-    × (mark (collectAnswer (q .session) (q .rows) r blocksA blocksB .session) r ≡ 7)
+    × (mark (collectAnswer (q .session) (q .rows) r blocksA blocksB .session) r ≡ collected)
 
 -- Post q collects the masks of the triple at r, which it made: 9, where either record has too few; done, where each accepted
 -- polynomial of both is true; otherwise done, or 13. PA and PB say whose the polynomials of a − l and of b − l' are.
@@ -81,29 +82,29 @@ pub record Collects (PA PB : ℕ → List ℕ → Type 0) (q : Post) (r : ℕ) (
 -- Post q multiplies by the triple at r, whose masks it opened: done, and the third row held.
 abbrev pub Multiplies : Post → ℕ → Type 0
 Multiplies q r =
-    (multiplyAnswer (q .session) (q .rows) r .refusal ≡ 0) × (mark (multiplyAnswer (q .session) (q .rows) r .session) (r + 2) ≡ 2)
+    (multiplyAnswer (q .session) (q .rows) r .refusal ≡ 0) × (mark (multiplyAnswer (q .session) (q .rows) r .session) (r + 2) ≡ held)
 
 -- What is so at a post: of every opening of a held row and both calls of a finish, with records that 5 and 8 let pass; and a polynomial
 -- that is truly its sender's is accepted. P r j xs says that xs is truly j's polynomial of row r, and H half r j xs that xs is
 -- truly that half of j's masks of the triple at r.
 pub record Right (L : Ledger) (P : ℕ → ℕ → List ℕ → Type 0) (H : (List ℕ → List ℕ) → ℕ → ℕ → List ℕ → Type 0) (q : Post) : Type 0 where
-  pub opens : (r : ℕ) (blocks : List ℕ) → mark (q .session) r ≡ 2 → Proper (q .session) blocks → Opens L (P r) q r blocks
+  pub opens : (r : ℕ) (blocks : List ℕ) → mark (q .session) r ≡ held → Proper (q .session) blocks → Opens L (P r) q r blocks
   -- of a held row: the own polynomial always, another's where it is truly its
-  pub accepts-true : (r : ℕ) (blocks : List ℕ) (j : ℕ) → mark (q .session) r ≡ 2 → Proper (q .session) blocks
+  pub accepts-true : (r : ℕ) (blocks : List ℕ) (j : ℕ) → mark (q .session) r ≡ held → Proper (q .session) blocks
       → 1 ≤ j → j ≤ q .session .n
       → (j ≢ q .session .post → P r j (sent (q .session) (rowAt (width (q .session)) (q .rows) r) blocks j))
       → accepts (q .session) (rowAt (width (q .session)) (q .rows) r) blocks j ≡ true
-  pub collects : (r : ℕ) (blocksA blocksB : List ℕ) → mark (q .session) r ≡ 5 → Proper (q .session) blocksA
+  pub collects : (r : ℕ) (blocksA blocksB : List ℕ) → mark (q .session) r ≡ masked → Proper (q .session) blocksA
       → Proper (q .session) blocksB
       → Collects (H (take (q .session .t + 1)) r) (H (drop (q .session .t + 1)) r) q r blocksA blocksB
-  pub multiplies : (r : ℕ) → mark (q .session) r ≡ 7 → Multiplies q r
+  pub multiplies : (r : ℕ) → mark (q .session) r ≡ collected → Multiplies q r
   -- of a − l, in a collect's first record: the own polynomial always, another's where it is truly the first half of its masks
-  pub accepts-a : (r : ℕ) (blocks : List ℕ) (j : ℕ) → mark (q .session) r ≡ 5 → Proper (q .session) blocks
+  pub accepts-a : (r : ℕ) (blocks : List ℕ) (j : ℕ) → mark (q .session) r ≡ masked → Proper (q .session) blocks
       → 1 ≤ j → j ≤ q .session .n
       → (j ≢ q .session .post → H (take (q .session .t + 1)) r j (sent (q .session) (maskA (q .session) (q .rows) r) blocks j))
       → accepts (q .session) (maskA (q .session) (q .rows) r) blocks j ≡ true
   -- of b − l', in its second record: so with the second half
-  pub accepts-b : (r : ℕ) (blocks : List ℕ) (j : ℕ) → mark (q .session) r ≡ 5 → Proper (q .session) blocks
+  pub accepts-b : (r : ℕ) (blocks : List ℕ) (j : ℕ) → mark (q .session) r ≡ masked → Proper (q .session) blocks
       → 1 ≤ j → j ≤ q .session .n
       → (j ≢ q .session .post → H (drop (q .session .t + 1)) r j (sent (q .session) (maskB (q .session) (q .rows) r) blocks j))
       → accepts (q .session) (maskB (q .session) (q .rows) r) blocks j ≡ true
@@ -123,7 +124,7 @@ abbrev pub OpeningsAnswered : Type 1
 OpeningsAnswered =
     (plan : Plan) (draw : Draw) (L : Ledger) (S : ℕ → Type 0) (rows : ℕ → List ℕ) (before behind : List Event) (i r : ℕ) (blocks : List ℕ)
     (none : Answer) → Premises plan draw L S before (begin plan draw rows) → 1 ≤ i → i ≤ plan .n → S i
-    → mark (history before (begin plan draw rows) .posts i .session) r ≡ 2
+    → mark (history before (begin plan draw rows) .posts i .session) r ≡ held
     → Proper (history before (begin plan draw rows) .posts i .session) blocks
     → Answered L (TruePolynomial S (history before (begin plan draw rows)) r) (history before (begin plan draw rows) .posts i) r blocks
     (getD (answers (before ++ (record { post = i; call = opening r blocks } ∷ behind)) (begin plan draw rows)) (length before) none)

@@ -6,6 +6,7 @@ use mathlib.Core.List.{List}
 use lib.ListN.{length, take, drop}
 use Rattle.field.specs.Modulus.{p}
 use Rattle.poly.specs.Counting.{Elements, countFrom}
+use Rattle.shape.specs.Marks.{held, masked}
 use Rattle.session.specs.declared.Session.{Session}
 use Rattle.session.specs.Sessions.{mark, withPoint}
 use Rattle.session.specs.Rows.{width, rowAt}
@@ -56,14 +57,14 @@ abbrev pub HeldParts : Type 1
 HeldParts =
     (plan : Plan) (draw : Draw) (L : Ledger) (S : ℕ → Type 0) (rows : ℕ → List ℕ) (es : List Event)
     → Premises plan draw L S es (begin plan draw rows) → (i r : ℕ) → 1 ≤ i → i ≤ plan .n → S i
-    → mark (history es (begin plan draw rows) .posts i .session) r ≡ 2
-    → (X : Vector) × Plain L r (number X .0) × OneVector plan draw L 2 r (λ s rows. rowAt (width s) rows r) (λ S w. TruePolynomial S w r) X
+    → mark (history es (begin plan draw rows) .posts i .session) r ≡ held
+    → (X : Vector) × Plain L r (number X .0) × OneVector plan draw L held r (λ s rows. rowAt (width s) rows r) (λ S w. TruePolynomial S w r) X
 
 -- So of a − l and of b − l', for a triple whose masks were made.
 abbrev pub MaskParts : Type 1
 MaskParts =
     (plan : Plan) (draw : Draw) (L : Ledger) (S : ℕ → Type 0) (rows : ℕ → List ℕ) (es : List Event)
     → Premises plan draw L S es (begin plan draw rows) → (i r : ℕ) → 1 ≤ i → i ≤ plan .n → S i
-    → mark (history es (begin plan draw rows) .posts i .session) r ≡ 5
-    → ((X : Vector) × OneVector plan draw L 5 r (λ s rows. maskA s rows r) (λ S w. TrueMask S w (plan .t) (take (plan .t + 1)) r) X)
-    × ((X : Vector) × OneVector plan draw L 5 r (λ s rows. maskB s rows r) (λ S w. TrueMask S w (plan .t) (drop (plan .t + 1)) r) X)
+    → mark (history es (begin plan draw rows) .posts i .session) r ≡ masked
+    → ((X : Vector) × OneVector plan draw L masked r (λ s rows. maskA s rows r) (λ S w. TrueMask S w (plan .t) (take (plan .t + 1)) r) X)
+    × ((X : Vector) × OneVector plan draw L masked r (λ s rows. maskB s rows r) (λ S w. TrueMask S w (plan .t) (drop (plan .t + 1)) r) X)

@@ -6,6 +6,7 @@ use mathlib.Core.Logic.{_≢_, _⊎_}
 use mathlib.Core.List.{List}
 use lib.ListN.{length, take, drop}
 use Rattle.poly.specs.Counting.{All, Distinct}
+use Rattle.shape.specs.Marks.{held}
 use Rattle.session.specs.declared.Session.{Session}
 use Rattle.session.specs.Sessions.{mark}
 use Rattle.session.specs.Rows.{width, coefficients, rowAt}
@@ -32,7 +33,7 @@ OwnPart plan draw i c = Every (λ m. OwnWith plan draw i (takes (m .0)) (m .1)) 
 abbrev pub Owned : World → ℕ → ℕ → List ℕ → Type 0
 Owned w r j xs =
     let s = w .posts j .session in
-    (mark s r ≡ 2) × (xs ≡ coefficients s (rowAt (width s) (w .posts j .rows) r))
+    (mark s r ≡ held) × (xs ≡ coefficients s (rowAt (width s) (w .posts j .rows) r))
 
 -- xs is "truly its sender's" polynomial of row r: the sender j is one of the posts S, and its own call made xs earlier in the
 -- order, or it holds xs though it never sent it.

@@ -9,6 +9,7 @@ use lib.Dec.{ltb}
 use lib.ListN.{length}
 use Rattle.field.specs.Element.{Element}
 use Rattle.poly.specs.Counting.{Elements}
+use Rattle.shape.specs.Bounds.{lastRow, lastTriple}
 use Rattle.refusal.specs.Conditions.{beyond, anyBeyond, outside}
 use Rattle.refusal.proofs.Laws.{or-false}
 use Rattle.refusal.proofs.Elements.{below-p, element-test}
@@ -45,13 +46,13 @@ within low high x a b = ap₂ _||_ (le-ltb x low a) (le-ltb high x b)
 -- post j of n posts, with k coefficients to a polynomial
 module _ (n k : ℕ) (small : n < tens 10) where
   pub record Opening (r j : ℕ) (xs : List ℕ) : Type 0 where
-    pub row : r ≤ 95
+    pub row : r ≤ lastRow
     pub post : (1 ≤ j) × (j ≤ n)
     pub many : length xs ≡ k
     pub low : Elements xs
 
   pub record Masks (r j : ℕ) (xs : List ℕ) : Type 0 where
-    pub row : r ≤ 93
+    pub row : r ≤ lastTriple
     pub post : (1 ≤ j) × (j ≤ n)
     pub many : length xs ≡ 2 * k
     pub low : Elements xs
@@ -63,11 +64,11 @@ module _ (n k : ℕ) (small : n < tens 10) where
 
   opening-sent : (r j : ℕ) (xs : List ℕ) → Opening r j xs → Sent n k (Line.opening r j xs)
   opening-sent r j xs o =
-      record { letter-is = refl; count = o .many; no-post = λ e. absurd (omega arith); in-range = in-range 95 r j xs (o .row) (o .post) (o .low) }
+      record { letter-is = refl; count = o .many; no-post = λ e. absurd (omega arith); in-range = in-range lastRow r j xs (o .row) (o .post) (o .low) }
 
   masks-sent : (r j : ℕ) (xs : List ℕ) → Masks r j xs → Sent n k (Line.masks r j xs)
   masks-sent r j xs o =
-      record { letter-is = refl; count = o .many; no-post = λ e. absurd (omega arith); in-range = in-range 93 r j xs (o .row) (o .post) (o .low) }
+      record { letter-is = refl; count = o .many; no-post = λ e. absurd (omega arith); in-range = in-range lastTriple r j xs (o .row) (o .post) (o .low) }
 
   same-parts : (a b : Message) → a ≡ b → (a .row ≡ b .row) × (a .post ≡ b .post) × (a .numbers ≡ b .numbers)
   same-parts a b e = (ap (λ (m : Message). m .row) e, ap (λ (m : Message). m .post) e, ap (λ (m : Message). m .numbers) e)

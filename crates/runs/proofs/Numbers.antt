@@ -15,6 +15,7 @@ use Rattle.field.proofs.Expression.{A, B, C, D, 𝟘, 𝟙, _:+_, _:*_, _:-_, :
 use Rattle.field.proofs.Solver.{solve}
 use Rattle.field.proofs.Elements.{𝓡, element-zero, element-one, element-product, element-difference, element-of-number}
 use Rattle.poly.specs.Counting.{Elements}
+use Rattle.shape.specs.Bounds.{rowCount}
 use Rattle.refusal.specs.Refusal.{outcome}
 use Rattle.refusal.proofs.Elements.{element-test}
 use Rattle.factory.specs.Packs.{dealerRefusal, dealerNumber}
@@ -93,9 +94,9 @@ module _ (plan : Plan) (draw : Draw) where
   module _ (is : IsDraw plan draw) where
     raw-low : (r : ℕ) → Elements (rawDraw draw r)
     unfolding rawDraw
-    raw-low r = go (decLe 96 r)
+    raw-low r = go (decLe rowCount r)
       where
-        go : Dec (96 ≤ r) → Elements (getD (draw .raws) r [])
+        go : Dec (rowCount ≤ r) → Elements (getD (draw .raws) r [])
         go (yes h) = rw (List·getD-eq-default (draw .raws) [] {n = r} (omega (arith, is .raws .count))) tt
         go (no h) = is .raws .each r (omega arith) .1
 

@@ -12,6 +12,7 @@ use lib.Seq.{length-take-le}
 use Rattle.field.specs.Element.{element}
 use Rattle.poly.specs.Counting.{All, Distinct, Elements}
 use Rattle.poly.proofs.Lists.{all-map}
+use Rattle.shape.specs.Marks.{present}
 use Rattle.refusal.proofs.Laws.{or-false}
 use Rattle.session.specs.declared.Session.{Session}
 use Rattle.session.specs.Sessions.{shapeOf}
@@ -32,7 +33,7 @@ use Rattle.runs.proofs.Steps.{own-numbers}
 module _ (s : Session) (blocks : List ℕ) where
   -- post j's block is there
   abbrev pub Present : ℕ → Type 0
-  Present j = blockMark (s .t + 1) blocks j ≡ 1
+  Present j = blockMark (s .t + 1) blocks j ≡ present
 
   abbrev block : ℕ → List ℕ
   block j = blockCoefficients (s .t + 1) blocks j
@@ -52,17 +53,17 @@ module _ (s : Session) (blocks : List ℕ) where
   module _ (j : ℕ) (lo : 1 ≤ j) (hi : j ≤ s .n) (other : j ≢ s .post) where
     pub sent-there : (row : List ℕ) → Present j → sent s row blocks j ≡ block j
     unfolding Blocks.sent
-    sent-there row e = rw (ne-eqb j (s .post) other, eq-eqb (blockMark (s .t + 1) blocks j) 1 e)
+    sent-there row e = rw (ne-eqb j (s .post) other, eq-eqb (blockMark (s .t + 1) blocks j) present e)
 
     -- a post that is accepted has its block there
     pub accepted-there : (row : List ℕ) → accepts s row blocks j ≡ true → Present j
     unfolding Accepting.accepts Blocks.sent
-    accepted-there row a = go (ℕ-discrete (blockMark (s .t + 1) blocks j) 1)
+    accepted-there row a = go (ℕ-discrete (blockMark (s .t + 1) blocks j) present)
       where
-        go : Dec (blockMark (s .t + 1) blocks j ≡ 1) → Present j
+        go : Dec (blockMark (s .t + 1) blocks j ≡ present) → Present j
         go (yes e) = e
         go (no e) =
-            let z : false ≡ true = rw (ne-eqb j (s .post) other, ne-eqb (blockMark (s .t + 1) blocks j) 1 e) at a in
+            let z : false ≡ true = rw (ne-eqb j (s .post) other, ne-eqb (blockMark (s .t + 1) blocks j) present e) at a in
             let w : _≡_ {A = ℕ} 0 1 = cc in absurd (omega arith)
 
     module _ (proper : Proper s blocks) (there : Present j) where

@@ -6,6 +6,7 @@ use native.Mathlib.Omega.{arith}
 use lib.ListN.{length, take}
 use Rattle.field.specs.Element.{element}
 use Rattle.shape.specs.Lengths.{masksLength}
+use Rattle.shape.specs.Marks.{collected as collectedMark}
 use Rattle.session.specs.declared.Session.{Session}
 use Rattle.session.specs.Sessions.{shapeOf, marked, recalling}
 use Rattle.session.specs.Rows.{width, coefficients, rowAt}
@@ -73,7 +74,7 @@ module _ (H : Holder) where
       let f = collected s l (x .r) (x .blocksA) (x .blocksB) z in
       let fit-a = trusted-any plan draw i M noNumbers Y (maskVectorA M vec (x .r)) (x .blocksA) (fit .0 .0) in
       let fit-b = trusted-any plan draw i M noNumbers Y (maskVectorB M vec (x .r)) (x .blocksB) (fit .0 .1) in (
-        ap₂ (λ (a b : ℕ). recalling (marked s (x .r) 7) (x .r) a b)
+        ap₂ (λ (a b : ℕ). recalling (marked s (x .r) collectedMark) (x .r) a b)
             (collect-a H (x .r) (x .blocksA) (x .blocksB) ok f fit-a)
             (collect-b H (x .r) (x .blocksA) (x .blocksB) ok f fit-b),
         collect-holds H (x .r) (ok .first),
@@ -108,7 +109,7 @@ module _ (H : Holder) where
 
   message-at : (r : ℕ) (lent : List ℕ) → MessageMade s l r lent → coefficients s (rowAt (width s) l r) ≡ numbers (plan .t + 1) (vec r .v i)
   message-at r lent f =
-      ap (take (plan .t + 1)) (held-row H r 1 (f .placed .row-in) (f .placed .is-held))
+      ap (take (plan .t + 1)) (held-row H r (f .placed .row-in) (f .placed .is-held))
       ∙ own-numbers (plan .t + 1) (plan .n) i (element (pointOf draw i)) (vec r)
 
   says-at : (c : Call) → refusalOf c p0 ≡ 0 → SaysAll plan draw i vec (sends c) (does c p0 .written)

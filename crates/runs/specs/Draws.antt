@@ -43,7 +43,7 @@ pub record Sound (plan : Plan) : Type 0 where
   pub raws : (r : ℕ) → IsRaw (plan .raw r) → r ≤ lastRow
   pub triples : (r : ℕ) → plan .triple r ≡ true → r ≤ lastTriple
 
--- All check points, post 1's first; for each of the 96 rows what was drawn for it raw, and what was drawn for a triple from it
+-- All check points, post 1's first; for each row what was drawn for it raw, and what was drawn for a triple from it
 -- on; nothing where nothing was.
 pub record Draw : Type 0 where
   pub points : List ℕ
@@ -61,7 +61,7 @@ rawLength plan r = whenRaw (plan .raw r) (rowLength plan) 0
 abbrev pub tripleLength : Plan → ℕ → ℕ
 tripleLength plan r = cond (plan .triple r) (tripleDrawLength (planShape plan)) 0
 
--- 96 lists, the r-th of `many r` elements
+-- a list for each row, the r-th of `many r` elements
 pub record Lists (many : ℕ → ℕ) (ls : List (List ℕ)) : Type 0 where
   pub count : length ls ≡ rowCount
   pub each : (r : ℕ) → r < rowCount → (length (getD ls r []) ≡ many r) × Elements (getD ls r [])

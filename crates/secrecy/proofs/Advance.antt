@@ -5,6 +5,8 @@ use mathlib.Core.Logic.{_⊎_, inl, inr}
 use mathlib.Core.Bool.{cond}
 use mathlib.Core.List.{List, [], _++_}
 use native.Mathlib.Omega.{arith}
+use Rattle.shape.specs.Bounds.{rowCount}
+use Rattle.shape.specs.Marks.{held}
 use Rattle.vectors.specs.Vector.{Vector, numbers}
 use Rattle.runs.specs.Outline.{Act, moves, acts, sends}
 use Rattle.runs.specs.Calls.{Call, perform, after, broadcast, openingLine, masksLine, Among}
@@ -58,7 +60,7 @@ module _ (C : Run) (m : Moment) (S : State C m) where
 
     -- a line broadcast before still shows what it showed
     old-opening : (r j : ℕ) (xs : List ℕ) → AnOpening C r j xs → Among (openingLine r j xs) lines
-        → (markOf M' r ≡ 2) × (xs ≡ numbers (plan .t + 1) (vec' r .v j))
+        → (markOf M' r ≡ held) × (xs ≡ numbers (plan .t + 1) (vec' r .v j))
     old-opening r j xs o a =
         let old = S .openings r j xs o a in
         let stays = held-stays plan draw (numberAt plan draw u) (moves c) M vec (S .sized) (al .moving) r (old .0) in
@@ -70,7 +72,7 @@ module _ (C : Run) (m : Moment) (S : State C m) where
         let old = S .maskings r j xs o a in
         (past-stays plan draw (acts c) M (S .sized) (al .moving) r (old .0), λ five'. go (five-before plan draw (acts c) M (S .sized) (al .moving) r lr five') five' old)
       where
-        lr : r < 96
+        lr : r < rowCount
         lr = omega (arith, o .row)
 
         go : (Masked (markOf M r) × (rememberedA M' r ≡ rememberedA M r) × (rememberedB M' r ≡ rememberedB M r)) ⊎ MasksIn (acts c) r → Masked (markOf M' r)

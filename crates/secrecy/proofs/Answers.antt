@@ -123,7 +123,7 @@ module _ (T : Two) (m : Moments) (R : Pair T m)
 
   module _ (r : ℕ) (blocks : Record) (rule : RuleWith (T .plan) (openRefusal s l r (blocks i lines)) lines (aRecord r) blocks) where
     row-is : OpenChecked s l r (blocks i lines) → number (vec r) ≡ number (vec' r) → rowAt W l r ≡ rowAt W l' r
-    row-is f = Twins.row-same twin r 1 (f .placed .row-in) (f .placed .is-held)
+    row-is f = Twins.row-same twin r (f .placed .row-in) (f .placed .is-held)
 
     walk-same : OpenChecked s l r (blocks i lines)
         → first (walkTests s (rowAt W l r) (blocks i lines)) ≡ first (walkTests s (rowAt W l' r) (blocks i lines))

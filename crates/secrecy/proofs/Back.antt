@@ -10,6 +10,7 @@ use Rattle.field.specs.Element.{Element, element}
 use Rattle.field.proofs.Expression.{A, B, _:-_, :-_, Same}
 use Rattle.field.proofs.Solver.{solve}
 use Rattle.field.proofs.Elements.{𝓡}
+use Rattle.shape.specs.Bounds.{rowCount}
 use Rattle.runs.specs.Draws.{Plan, Sound, Draw, IsDraw, rowLength, rawLength, tripleLength, pointOf, tripleDraw}
 use Rattle.secrecy.specs.Steps.{Secrets}
 use Rattle.secrecy.specs.Claim.{Group}
@@ -40,7 +41,7 @@ module _ (plan : Plan) (group : List ℕ) (u u' : Secrets) (Δ Δ' : ℕ → Gap
       (lists-elements (rawLength plan) (d .raws) (is .raws) r)
       (solve 𝓡 (element (u r) ∷ element (u' r) ∷ []) (A :- B) (:- (B :- A)) refl))
 
-  triple-here : (r : ℕ) → r < 96 → (b : Bool) → plan .triple r ≡ b
+  triple-here : (r : ℕ) → r < rowCount → (b : Bool) → plan .triple r ≡ b
       → hither r (forth r (getD (d .triples) r [])) ≡ getD (d .triples) r []
   unfolding tripleDraw
   triple-here r row false e =

@@ -7,6 +7,8 @@ use mathlib.Core.List.{List, [], _∷_, _++_, map}
 use native.Mathlib.Omega.{arith}
 use lib.ListN.{length, length-append}
 use Rattle.poly.specs.Counting.{All, Elements}
+use Rattle.shape.specs.Bounds.{rowCount, lastTriple}
+use Rattle.shape.specs.Marks.{held, unused}
 use Rattle.factory.specs.Draw.{eachFrom}
 use Rattle.factory.proofs.Laws.{elements-append}
 use Rattle.vectors.specs.Vector.{Vector, numbers}
@@ -95,7 +97,7 @@ module _ (C : Run) (m : Moment) (S : State C m) where
     not-refused : (c : Call) → refusalOf c (q i) ≡ 0 → perform c (q i) .answer .refusal ≡ 0
     not-refused c z = refusal-is c (q i) ∙ z
 
-    made-opening : (r : ℕ) (xs : List ℕ) → xs ≡ numbers (plan .t + 1) (vec r .v i) → r < 96 → AnOpening C r i xs
+    made-opening : (r : ℕ) (xs : List ℕ) → xs ≡ numbers (plan .t + 1) (vec r .v i) → r < rowCount → AnOpening C r i xs
     made-opening r xs e low =
         record {
           row = omega arith;
@@ -107,7 +109,7 @@ module _ (C : Run) (m : Moment) (S : State C m) where
     abbrev halves : ℕ → ℕ → ℕ → ℕ → List ℕ
     halves x y r j = numbers (plan .t + 1) (less (vec x) (vec r) .v j) ++ numbers (plan .t + 1) (less (vec y) (vec (r + 1)) .v j)
 
-    made-masks : (x y r : ℕ) (xs : List ℕ) → xs ≡ halves x y r i → r < 94 → AMask C r i xs
+    made-masks : (x y r : ℕ) (xs : List ℕ) → xs ≡ halves x y r i → r ≤ lastTriple → AMask C r i xs
     made-masks x y r xs e low =
         let k = plan .t + 1 in
         let va = less (vec x) (vec r) .v i in
@@ -122,7 +124,7 @@ module _ (C : Run) (m : Moment) (S : State C m) where
     -- one line
     opening-one : (todo : List Act) (s : Sending) (ys : List ℕ) → Sendable todo M s → Says plan draw i vec s ys
         → (r j : ℕ) (xs : List ℕ) → AnOpening C r j xs → openingLine r j xs ≡ lineOf i s ys
-        → MessageBy s r × (markOf M r ≡ 2) × (xs ≡ numbers (plan .t + 1) (vec r .v j))
+        → MessageBy s r × (markOf M r ≡ held) × (xs ≡ numbers (plan .t + 1) (vec r .v j))
     opening-one todo (itsOpening r') ys al says r j xs form e =
         let same = same-opening (plan .n) (plan .t + 1) (sizes plan (C .sound) .n-high) r j r' i xs ys form (made-opening r' ys says (al .0)) e in
         (same .0, ap (markOf M) (same .0) ∙ al .1, same .2 ∙ says ∙ sym (ap₂ (λ (x y : ℕ). numbers (plan .t + 1) (vec x .v y)) (same .0) (same .1)))
@@ -131,7 +133,7 @@ module _ (C : Run) (m : Moment) (S : State C m) where
 
     -- masks of the rows x and y by the triple at r, of which post j's are xs
     abbrev MadeMasks : List Act → ℕ → ℕ → List ℕ → Type 0
-    MadeMasks todo r j xs = (x : ℕ) × (y : ℕ) × Multiplying 3 M x y r × Among (of x y r) (map masking todo) × (xs ≡ halves x y r j)
+    MadeMasks todo r j xs = (x : ℕ) × (y : ℕ) × Multiplying unused M x y r × Among (of x y r) (map masking todo) × (xs ≡ halves x y r j)
 
     masks-one : (todo : List Act) (s : Sending) (ys : List ℕ) → Sendable todo M s → Says plan draw i vec s ys
         → (r j : ℕ) (xs : List ℕ) → AMask C r j xs → masksLine r j xs ≡ lineOf i s ys → MadeMasks todo r j xs
@@ -141,7 +143,7 @@ module _ (C : Run) (m : Moment) (S : State C m) where
         let same = same-masks (plan .n) (plan .t + 1) (sizes plan (C .sound) .n-high) r j r' i xs ys form (made-masks x y r' ys says (al .0 .r-low)) e in (
           x,
           y,
-          subst (Multiplying 3 M x y) (sym (same .0)) (al .0),
+          subst (Multiplying unused M x y) (sym (same .0)) (al .0),
           subst (λ (w : ℕ). Among (of x y w) (map masking todo)) (sym (same .0)) (al .1),
           same .2 ∙ says ∙ sym (ap₂ (λ (v w : ℕ). halves x y v w) (same .0) (same .1)),
         )
@@ -149,7 +151,7 @@ module _ (C : Run) (m : Moment) (S : State C m) where
     -- one line after the other
     opening-by : (todo : List Act) (ss : List Sending) (k : ℕ) (parts : List (List ℕ)) → k ≡ 0 → All (Sendable todo M) ss
         → SaysAll plan draw i vec ss parts → (r j : ℕ) (xs : List ℕ) → AnOpening C r j xs → Among (openingLine r j xs) (sentBy i k ss parts)
-        → MessageIn ss r × (markOf M r ≡ 2) × (xs ≡ numbers (plan .t + 1) (vec r .v j))
+        → MessageIn ss r × (markOf M r ≡ held) × (xs ≡ numbers (plan .t + 1) (vec r .v j))
     opening-by todo [] k parts z al says r j xs form a = absurd a
     opening-by todo (s ∷ ss) k [] z al says r j xs form a = absurd a
     opening-by todo (s ∷ ss) k (ys ∷ parts) z al says r j xs form a = elim (one-line _ _ _ k z a) [
@@ -174,7 +176,7 @@ module _ (C : Run) (m : Moment) (S : State C m) where
       abbrev w : ℕ → Vector
       w = vectorsThen plan draw u c M vec
 
-      stays : (x : ℕ) → markOf M x ≡ 2 → (markOf N x ≡ 2) × (w x ≡ vec x)
+      stays : (x : ℕ) → markOf M x ≡ held → (markOf N x ≡ held) × (w x ≡ vec x)
       stays x two = held-stays plan draw (numberAt plan draw u) (moves c) M vec (S .sized) (al .moving) x two
 
       said : SaysAll plan draw i vec (sends c) (perform (call i c) (q i) .lent)
@@ -191,8 +193,8 @@ module _ (C : Run) (m : Moment) (S : State C m) where
 
       pub new-opening : (r j : ℕ) (xs : List ℕ) → AnOpening C r j xs
           → Among (openingLine r j xs) (broadcast i (call i c) (perform (call i c) (q i)))
-          → MessageIn (sends c) r × (markOf (marksAll (acts c) M) r ≡ 2)
-          × (xs ≡ numbers (plan .t + 1) (vectorsThen plan draw u c M vec r .v j)) × (markOf M r ≡ 2)
+          → MessageIn (sends c) r × (markOf (marksAll (acts c) M) r ≡ held)
+          × (xs ≡ numbers (plan .t + 1) (vectorsThen plan draw u c M vec r .v j)) × (markOf M r ≡ held)
       new-opening r j xs form a =
           let n = opening-by (acts c) (sends c) _ _ (not-refused (call i c) z) (al .sending) said r j xs form (heard-line _ a) in
           let k = stays r (n .1) in
@@ -210,7 +212,7 @@ module _ (C : Run) (m : Moment) (S : State C m) where
               let k = waits-after plan draw (acts c) M (S .sized) (al .moving) x y r (ok .r-low) there in (
                 k .0,
                 λ five.
-                    let lr : r < 96 = omega (arith, ok .r-low) in
+                    let lr : r < rowCount = omega (arith, ok .r-low) in
                     let t = S .facts r lr .triple (inl (ok .first)) in
                     let t' = facts-on C m S c al rule r lr .triple (inr five) in
                     let lf = k .1 five in

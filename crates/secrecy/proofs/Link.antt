@@ -7,6 +7,7 @@ use mathlib.Core.List.{List}
 use lib.ListN.{length}
 use Rattle.field.specs.Element.{Element, element}
 use Rattle.poly.specs.Counting.{All}
+use Rattle.shape.specs.Bounds.{rowCount}
 use Rattle.refusal.specs.Conditions.{anyBeyond}
 use Rattle.vectors.specs.Vector.{Vector}
 use Rattle.runs.specs.Draws.{Plan, Draw, IsRaw, pointOf, rawPack, triplePack}
@@ -30,12 +31,12 @@ module _ (plan : Plan) (group : List ℕ) (d d' : Draw) (u u' : Secrets) (K : Ve
 
   pub record Link : Type 0 where
     pub points : pointOf d' ≡ pointOf d
-    pub near-raw : (r : ℕ) → r < 96 → IsRaw (plan .raw r) → Nearly (rawVector plan d r) (rawVector plan d' r)
-    pub near-a : (r : ℕ) → r < 96 → plan .triple r ≡ true → Nearly (vectorA plan d r) (vectorA plan d' r)
-    pub near-b : (r : ℕ) → r < 96 → plan .triple r ≡ true → Nearly (vectorB plan d r) (vectorB plan d' r)
-    pub near-ab : (r : ℕ) → r < 96 → plan .triple r ≡ true → Nearly (vectorAB plan d r) (vectorAB plan d' r)
-    pub gap-a : (r : ℕ) → r < 96 → plan .triple r ≡ true → gap (vectorA plan d r) (vectorA plan d' r) ≡ Δ r .factor-a
-    pub gap-b : (r : ℕ) → r < 96 → plan .triple r ≡ true → gap (vectorB plan d r) (vectorB plan d' r) ≡ Δ r .factor-b
+    pub near-raw : (r : ℕ) → r < rowCount → IsRaw (plan .raw r) → Nearly (rawVector plan d r) (rawVector plan d' r)
+    pub near-a : (r : ℕ) → r < rowCount → plan .triple r ≡ true → Nearly (vectorA plan d r) (vectorA plan d' r)
+    pub near-b : (r : ℕ) → r < rowCount → plan .triple r ≡ true → Nearly (vectorB plan d r) (vectorB plan d' r)
+    pub near-ab : (r : ℕ) → r < rowCount → plan .triple r ≡ true → Nearly (vectorAB plan d r) (vectorAB plan d' r)
+    pub gap-a : (r : ℕ) → r < rowCount → plan .triple r ≡ true → gap (vectorA plan d r) (vectorA plan d' r) ≡ Δ r .factor-a
+    pub gap-b : (r : ℕ) → r < rowCount → plan .triple r ≡ true → gap (vectorB plan d r) (vectorB plan d' r) ≡ Δ r .factor-b
     pub deals : (r : ℕ) → dealtNumber plan d u r ≡ dealtNumber plan d' u' r
     pub raw-alike : (i k : ℕ) → i ≤ plan .n → Alike (rawPack plan d i k) (rawPack plan d' i k)
     pub triple-alike : (i k : ℕ) → i ≤ plan .n → Alike (triplePack plan d i k) (triplePack plan d' i k)

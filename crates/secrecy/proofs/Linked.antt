@@ -128,10 +128,10 @@ module _ (plan : Plan) (group : List ℕ) (u u' : Secrets) (Δ : ℕ → Gaps) (
       ap (λ (l : List ℕ). gap (vector xs) (vector l)) e
       ∙ gap-shift (planShape plan) K δ xs (kernel-unit plan group d sound few is) (some-drawn xs h)
 
-  near-raw : (r : ℕ) → r < 96 → IsRaw (plan .raw r) → Nearly (rawVector plan d r) (rawVector plan d' r)
+  near-raw : (r : ℕ) → r < rowCount → IsRaw (plan .raw r) → Nearly (rawVector plan d r) (rawVector plan d' r)
   near-raw r row h = nearly (secretGap u u' r) _ _ (moved-raw plan group u u' Δ d r) (raw-drawn plan d is r row h)
 
-  module _ (r : ℕ) (row : r < 96) (h : plan .triple r ≡ true) where
+  module _ (r : ℕ) (row : r < rowCount) (h : plan .triple r ≡ true) where
     near-a : Nearly (vectorA plan d r) (vectorA plan d' r)
     near-a = nearly (Δ r .factor-a) _ _ (moved-a plan group u u' Δ d sound few is r row h) (a-drawn plan d is r row h)
 
@@ -160,7 +160,7 @@ module _ (plan : Plan) (group : List ℕ) (u u' : Secrets) (Δ : ℕ → Gaps) (
       go none e = refl
       go (by m) e =
           let raw : IsRaw (plan .raw r) = subst IsRaw (sym e) tt in
-          let row : r < 96 = omega (arith, sound .raws r raw) in
+          let row : r < rowCount = omega (arith, sound .raws r raw) in
           let drawn = raw-drawn plan d is r row raw in
           let new : element f1 ≡ element f0 ⊕ secretGap u u' r =
           ap (λ (l : List ℕ). element (getD l 0 0)) (moved-raw plan group u u' Δ d r)

@@ -17,7 +17,7 @@ use Rattle.field.proofs.Solver.{solve}
 use Rattle.field.proofs.Elements.{𝓡, element-product}
 use Rattle.poly.specs.Counting.{All, Elements}
 use Rattle.poly.proofs.Lists.{all-map}
-use Rattle.shape.specs.Bounds.{fewestPosts, mostPosts}
+use Rattle.shape.specs.Bounds.{fewestPosts, mostPosts, rowCount}
 use Rattle.refusal.specs.Conditions.{postsTests}
 use Rattle.refusal.proofs.Laws.{all-fail, inside}
 use Rattle.factory.specs.Draw.{thirdDraw}
@@ -77,12 +77,12 @@ each-lists many f ls none long low h =
 module _ (many : ℕ → ℕ) (ls : List (List ℕ)) (h : Lists many ls) (r : ℕ) where
   pub lists-nothing : many r ≡ 0 → getD ls r [] ≡ []
   lists-nothing e =
-      elim (decLt r 96)
+      elim (decLt r rowCount)
       [ yes l ↦ nothing (getD ls r []) (h .each r l .0 ∙ e) | no l ↦ List·getD-eq-default ls [] (omega (arith, h .count)) ]
 
   pub lists-elements : Elements (getD ls r [])
   lists-elements =
-      elim (decLt r 96) [
+      elim (decLt r rowCount) [
         | yes l ↦ h .each r l .1
         | no l ↦ subst Elements (sym (List·getD-eq-default ls [] (omega (arith, h .count)))) tt
       ]
@@ -176,14 +176,14 @@ module _ (plan : Plan) (group : List ℕ) (d : Draw) (sound : Sound plan) (few :
 pub row-some : (plan : Plan) → 1 ≤ rowLength plan
 row-some plan = omega arith
 
-pub triple-long : (plan : Plan) (d : Draw) → IsDraw plan d → (r : ℕ) → r < 96 → plan .triple r ≡ true
+pub triple-long : (plan : Plan) (d : Draw) → IsDraw plan d → (r : ℕ) → r < rowCount → plan .triple r ≡ true
     → rowLength plan + rowLength plan ≤ length (tripleDraw d r)
 unfolding tripleDraw
 triple-long plan d is r row drawn =
     omega (arith, row-some plan, is .triples .each r row .0 ∙ ap (λ (b : Bool). cond b (3 * rowLength plan - 1) 0) drawn)
 
 module _ (plan : Plan) (group : List ℕ) (u u' : Secrets) (Δ : ℕ → Gaps) (d : Draw) (sound : Sound plan)
-    (few : Group plan group) (is : IsDraw plan d) (r : ℕ) (row : r < 96) (drawn : plan .triple r ≡ true) where
+    (few : Group plan group) (is : IsDraw plan d) (r : ℕ) (row : r < rowCount) (drawn : plan .triple r ≡ true) where
   long : rowLength plan + rowLength plan ≤ length (tripleDraw d r)
   long = triple-long plan d is r row drawn
 

@@ -13,6 +13,8 @@ use Rattle.field.specs.Element.{element}
 use Rattle.field.proofs.Elements.{𝓡, element-product}
 use Rattle.poly.specs.Counting.{All, Elements}
 use Rattle.poly.proofs.Lists.{all-map}
+use Rattle.shape.specs.Bounds.{rowCount}
+use Rattle.shape.specs.Marks.{raw, held, collected}
 use Rattle.refusal.specs.Refusal.{first}
 use Rattle.factory.specs.Packs.{dealerNumber}
 use Rattle.vectors.specs.Vector.{Vector, raised, number, numbers, vectorOf}
@@ -85,7 +87,7 @@ module _ (C : Run) where
     pub posts : (i : ℕ) → 1 ≤ i → i ≤ C .plan .n → Stands (C .plan) (C .draw) (C .len i) i (m .marks) (m .vec) (m .posts i)
     pub facts : Facts (C .plan) (C .draw) (Held (m .book)) (Waits (m .book)) (m .marks) (m .vec)
     pub openings : (r j : ℕ) (xs : List ℕ) → AnOpening r j xs → Among (openingLine r j xs) (m .lines)
-        → (markOf (m .marks) r ≡ 2) × (xs ≡ numbers (C .plan .t + 1) (m .vec r .v j))
+        → (markOf (m .marks) r ≡ held) × (xs ≡ numbers (C .plan .t + 1) (m .vec r .v j))
     pub maskings : (r j : ℕ) (xs : List ℕ) → AMask r j xs → Among (masksLine r j xs) (m .lines)
         → Past (m .marks) r × (Masked (markOf (m .marks) r) → xs ≡ maskNumbers (m .marks) (m .vec) r j)
 
@@ -108,7 +110,7 @@ module _ (C : Run) where
 
   module _ (lines : List (List ℕ)) where
     module _ (M : Marks) (vec : ℕ → Vector) (b : Book) (f : Facts plan draw (Held b) (Waits b) M vec) where
-      dealt-is : (r : ℕ) → r < 96 → markOf M r ≡ 1 → number (raised (element (dealtNumber plan draw u r)) (vec r)) ≡ element (u r)
+      dealt-is : (r : ℕ) → r < rowCount → markOf M r ≡ raw → number (raised (element (dealtNumber plan draw u r)) (vec r)) ≡ element (u r)
       unfolding dealtNumber
       dealt-is r lr one =
           let g = f r lr .raw one in
@@ -120,7 +122,7 @@ module _ (C : Run) where
           go Raw.none x = absurd x
           go (by dealer) x = refl
 
-      product-is : (r : ℕ) → Facts.Tripled 7 M r
+      product-is : (r : ℕ) → Facts.Tripled collected M r
           → number (written M vec r) ≡ element (product (b .factorA r) (b .factorB r))
       product-is r al =
           let g = f r (omega (arith, al .r-low)) in
@@ -234,5 +236,5 @@ module _ (C : Run) where
     facts-on c al rule = facts-all lines (moves c) M vec b (S .sized) (al .moving) (every-all _ (moves c) rule) (S .facts)
 
     -- a held row's place stays
-    pub place-stays : (c : Step) → Allowed (acts c) (sends c) M → (x : ℕ) → markOf M x ≡ 2 → entered u c b .place x ≡ b .place x
+    pub place-stays : (c : Step) → Allowed (acts c) (sends c) M → (x : ℕ) → markOf M x ≡ held → entered u c b .place x ≡ b .place x
     place-stays c al x two = place-all plan draw u (acts c) M b (S .sized) (al .moving) x two

@@ -15,6 +15,7 @@ use Rattle.field.proofs.Elements.{𝓡}
 use Rattle.poly.proofs.Lists.{all-of, all-map}
 use Rattle.vectors.specs.Vector.{Vector}
 use Rattle.field.specs.Modulus.{p}
+use Rattle.shape.specs.Marks.{held as heldMark}
 use Rattle.runs.specs.Draws.{Plan, Draw, IsDraw, IsRaw, pointOf}
 use Rattle.runs.specs.Outline.{Sending, itsOpening, itsMasks, sends}
 use Rattle.runs.specs.Calls.{Post, newPost}
@@ -188,7 +189,7 @@ module _ (plan : Plan) (group : List ℕ) (rows : ℕ → List ℕ) (cs : List S
         session : q i .session ≡ sessionAt plan d i (ended .end .marks) (ended .pair .one .posts i lo hi .opened)
         session = sym (ap (λ (f : ℕ → Post). f i .session) (ended .posts-are)) ∙ P .one .posts i lo hi .session
 
-        two-is : markOf (ended .end .marks) r ≡ 2
+        two-is : markOf (ended .end .marks) r ≡ heldMark
         two-is = sym (ap (λ (x : Session). mark x r) session) ∙ held
 
         places : ended .end .book .place r ≡ ended .end .book' .place r
@@ -200,7 +201,7 @@ module _ (plan : Plan) (group : List ℕ) (rows : ℕ → List ℕ) (cs : List S
         same : rowAt (plan .t + 1 + 2 * plan .n) (q i .rows) r ≡ rowAt (plan .t + 1 + 2 * plan .n) (q' i .rows) r
         same =
             ap (λ (f : ℕ → Post). rowAt (plan .t + 1 + 2 * plan .n) (f i .rows) r) (sym (ended .posts-are))
-            ∙ row-same (twin two (ended .end) P i lo hi) r 1 low two-is
+            ∙ row-same (twin two (ended .end) P i lo hi) r low two-is
             (place-number two (ended .end) P r (omega arith) two-is places)
             ∙ ap (λ (f : ℕ → Post). rowAt (plan .t + 1 + 2 * plan .n) (f i .rows) r) (ended .posts-are')
 

@@ -8,6 +8,7 @@ use native.Mathlib.Omega.{arith}
 use lib.ListN.{length, take, drop}
 use lib.Seq.{take-at, drop-at}
 use Rattle.poly.specs.Counting.{Elements}
+use Rattle.shape.specs.Marks.{masked}
 use Rattle.refusal.specs.Refusal.{Test, _when_, first, orElse}
 use Rattle.refusal.proofs.Laws.{Numbered, first-join}
 use Rattle.session.specs.declared.Session.{Session}
@@ -107,7 +108,7 @@ module _ (C : Run) (m : Moment) (S : State C m) (i : ℕ) (lo : 1 ≤ i) (hi : i
     opening-never =
         let off = walk-off (tooFew s (rowAt (width s) l r) bl) (disagree s (rowAt (width s) l r) bl) (sym (open-walks s l r bl f) ∙ e) in
         not-both (off .1)
-        (agrees (rowAt (width s) l r) (vec r) bl (held-row holder r 1 (f .placed .row-in) (f .placed .is-held))
+        (agrees (rowAt (width s) l r) (vec r) bl (held-row holder r (f .placed .row-in) (f .placed .is-held))
         (λ j lj hj ne there. S .openings r j _ (record {
           row = f .placed .row-in;
           post = (lj, hj);
@@ -121,7 +122,7 @@ module _ (C : Run) (m : Moment) (S : State C m) (i : ℕ) (lo : 1 ≤ i) (hi : i
       (j : ℕ) → 1 ≤ j → j ≤ plan .n → j ≢ i → Present s bl j → ToldHalf (plan .t) half r lines j (blockCoefficients (plan .t + 1) bl j)
 
   -- the two masks of a triple that waits, opened with what was broadcast
-  module _ (r : ℕ) (ok : Multiplying 5 M (rememberedA M r) (rememberedB M r) r) where
+  module _ (r : ℕ) (ok : Multiplying masked M (rememberedA M r) (rememberedB M r) r) where
     -- what an M line of the triple shows of post j
     both-are : (j : ℕ) → 1 ≤ j → j ≤ plan .n → (both : List ℕ) → length both ≡ 2 * (plan .t + 1) → Elements both
         → Among (masksLine r j both) lines → both ≡ maskNumbers C M vec r j
@@ -154,8 +155,8 @@ module _ (C : Run) (m : Moment) (S : State C m) (i : ℕ) (lo : 1 ≤ i) (hi : i
     unfolding collectRefusal
     g = collect-checked s l r blA blB (none-before (collectChecks s l r blA blB) (unopened s xa xb blA blB) tt (omega arith) e)
 
-    ok : Multiplying 5 M (rememberedA M r) (rememberedB M r) r
-    ok = multiplying plan draw i M (S .posts i lo hi .opened) l _ _ r 5 (g .placed .factors)
+    ok : Multiplying masked M (rememberedA M r) (rememberedB M r) r
+    ok = multiplying plan draw i M (S .posts i lo hi .opened) l _ _ r masked (g .placed .factors)
 
     pub collect-never : Halves r (take (plan .t + 1)) blA → Halves r (drop (plan .t + 1)) blB → ⊥
     collect-never told-a told-b =

@@ -11,6 +11,8 @@ use Rattle.field.specs.Arithmetic.{product}
 use Rattle.field.specs.Element.{Element, element}
 use Rattle.poly.specs.Counting.{All}
 use Rattle.poly.proofs.Lists.{all-map}
+use Rattle.shape.specs.Bounds.{rowCount, lastTriple}
+use Rattle.shape.specs.Marks.{empty, raw, held, unused, further, masked, spent, collected}
 use Rattle.factory.specs.Draw.{eachFrom}
 use Rattle.vectors.specs.Vector.{Vector, raised, number}
 use Rattle.runs.specs.Draws.{pointOf, rawPack, triplePack}
@@ -103,7 +105,7 @@ module _ (T : Two) (lines : List (List ℕ)) where
 
   -- every row with a mark
   abbrev AllNear : Marks → (ℕ → Vector) → (ℕ → Vector) → Type 0
-  AllNear N v v' = (r : ℕ) → r < 96 → markOf N r ≢ 0 → Near (T .plan .n) (T .plan .t + 1) (pointOf (T .d)) (T .K) (v r) (v' r)
+  AllNear N v v' = (r : ℕ) → r < rowCount → markOf N r ≢ empty → Near (T .plan .n) (T .plan .t + 1) (pointOf (T .d)) (T .K) (v r) (v' r)
 
   -- one row written
   near-put : (N : Marks) (v v' : ℕ → Vector) → AllNear N v v' → (x m : ℕ) (X X' : Vector) → Nearly X X' → AllNear (remarked N x m) (at v x X) (at v' x X')
@@ -120,11 +122,11 @@ module _ (T : Two) (lines : List (List ℕ)) where
           (h r lr (subst (λ (y : ℕ). y ≢ 0) (getD-set-other (N .marks) x r m 0 e) ne)))
 
   -- a mark changed that was not 0
-  near-mark : (N : Marks) (v v' : ℕ → Vector) → AllNear N v v' → (x m : ℕ) → markOf N x ≢ 0 → AllNear (remarked N x m) v v'
+  near-mark : (N : Marks) (v v' : ℕ → Vector) → AllNear N v v' → (x m : ℕ) → markOf N x ≢ empty → AllNear (remarked N x m) v v'
   near-mark N v v' h x m was r lr ne = go (ℕ-discrete r x)
     where
       go : Dec (r ≡ x) → Nearly (v r) (v' r)
-      go (yes e) = h r lr (subst (λ (y : ℕ). markOf N y ≢ 0) (sym e) was)
+      go (yes e) = h r lr (subst (λ (y : ℕ). markOf N y ≢ empty) (sym e) was)
       go (no e) = h r lr (subst (λ (y : ℕ). y ≢ 0) (getD-set-other (N .marks) x r m 0 e) ne)
 
   -- a sum of rows that are near
@@ -148,25 +150,25 @@ module _ (T : Two) (lines : List (List ℕ)) where
         (totalVector vec t' ts) (totalVector vec' t' ts) (near-worth t h) (near-total t' ts (hs .0) (hs .1))
 
   module _ (M : Marks) (vec vec' : ℕ → Vector) (b b' : Book) (K : Core T M vec vec' b b') where
-    nonzero : (r m : ℕ) → markOf M r ≡ suc m → markOf M r ≢ 0
-    nonzero r m e g = omega arith
+    nonzero : (r : ℕ) {m : ℕ} → markOf M r ≡ suc m → markOf M r ≢ empty
+    nonzero r e g = omega arith
 
     -- a sum of held rows
     near-of : (t : Summand) → HeldIn M t → NearIn vec vec' t
-    near-of (once a) h = K .near a (h .0) (nonzero a 1 (h .1))
-    near-of (times s x) h = K .near x (h .0) (nonzero x 1 (h .1))
+    near-of (once a) h = K .near a (h .0) (nonzero a (h .1))
+    near-of (times s x) h = K .near x (h .0) (nonzero x (h .1))
     near-of (fee k) h = tt
 
-    near-finish : (x : ℕ) → Tripled 7 M x
+    near-finish : (x : ℕ) → Tripled collected M x
         → AllNear (finished M x) (at vec (x + 2) (written M vec x)) (at vec' (x + 2) (written M vec' x))
     near-finish x al =
-        near-put (remarked (remarked M x 6) (x + 1) 6) vec vec'
-        (near-mark (remarked M x 6) vec vec' (near-mark M vec vec' (K .near) x 6 (nonzero x 6 (al .first))) (x + 1) 6 second) (x + 2) 2 (written M vec x) (written M vec' x) new
+        near-put (remarked (remarked M x spent) (x + 1) spent) vec vec'
+        (near-mark (remarked M x spent) vec vec' (near-mark M vec vec' (K .near) x spent (nonzero x (al .first))) (x + 1) spent second) (x + 2) held (written M vec x) (written M vec' x) new
       where
-        second : markOf (remarked M x 6) (x + 1) ≢ 0
-        second g = omega (arith, getD-set-other (M .marks) x (x + 1) 6 0 (omega arith), al .second)
+        second : markOf (remarked M x spent) (x + 1) ≢ empty
+        second g = omega (arith, getD-set-other (M .marks) x (x + 1) spent 0 (omega arith), al .second)
 
-        low : x < 94
+        low : x ≤ lastTriple
         low = al .r-low
 
         w : (number (maskVectorA M vec x) ≡ number (maskVectorA M vec' x)) × (number (maskVectorB M vec x) ≡ number (maskVectorB M vec' x))
@@ -179,13 +181,13 @@ module _ (T : Two) (lines : List (List ℕ)) where
         y' = number (maskVectorB M vec x) .0
 
         n0 : Nearly (vec x) (vec' x)
-        n0 = K .near x (omega (arith, low)) (nonzero x 6 (al .first))
+        n0 = K .near x (omega (arith, low)) (nonzero x (al .first))
 
         n1 : Nearly (vec (x + 1)) (vec' (x + 1))
-        n1 = K .near (x + 1) (omega (arith, low)) (nonzero (x + 1) 3 (al .second))
+        n1 = K .near (x + 1) (omega (arith, low)) (nonzero (x + 1) (al .second))
 
         n2 : Nearly (vec (x + 2)) (vec' (x + 2))
-        n2 = K .near (x + 2) (omega (arith, low)) (nonzero (x + 2) 3 (al .third))
+        n2 = K .near (x + 2) (omega (arith, low)) (nonzero (x + 2) (al .third))
 
         new : Nearly (written M vec x) (written M vec' x)
         new =
@@ -200,25 +202,25 @@ module _ (T : Two) (lines : List (List ℕ)) where
     v2 a x = vectorsBy (T .plan) (T .d') a (numberAt (T .plan) (T .d') (T .u') (takes a) x) M vec'
 
     near-by : (a : Act) (x : Given Fixed (takes a)) → AllowedBy a M → RuleWith (T .plan) 0 lines (takes a) x → AllNear (marksBy a M) (v1 a x) (v2 a x)
-    near-by (loads r) (own m) al rule = near-put M vec vec' (K .near) r 1 _ _ (T .link .near-raw r (al .0 .0) (rule refl .1))
+    near-by (loads r) (own m) al rule = near-put M vec vec' (K .near) r raw _ _ (T .link .near-raw r (al .0 .0) (rule refl .1))
     near-by (loads r) (Pack.fixed xs) al rule = absurd (rule refl)
     near-by (loadsTriple r) (own m) al rule =
         let t = rule refl .1 in
-        let lr : r < 96 = omega (arith, al .0 .0) in
-        near-put (remarked (remarked M r 3) (r + 1) 4) _ _
-        (near-put (remarked M r 3) _ _ (near-put M vec vec' (K .near) r 3 _ _ (T .link .near-a r lr t)) (r + 1) 4 _ _ (T .link .near-b r lr t))
-        (r + 2) 4 _ _ (T .link .near-ab r lr t)
+        let lr : r < rowCount = omega (arith, al .0 .0) in
+        near-put (remarked (remarked M r unused) (r + 1) further) _ _
+        (near-put (remarked M r unused) _ _ (near-put M vec vec' (K .near) r unused _ _ (T .link .near-a r lr t)) (r + 1) further _ _ (T .link .near-b r lr t))
+        (r + 2) further _ _ (T .link .near-ab r lr t)
     near-by (loadsTriple r) (Pack.fixed xs) al rule = absurd (rule refl)
     near-by (deals r) sent al rule =
-        near-put M vec vec' (K .near) r 2 _ _
+        near-put M vec vec' (K .near) r held _ _
         (subst (λ (c : ℕ). Near (T .plan .n) (T .plan .t + 1) (pointOf (T .d)) (T .K) (raised (element (dealtNumber (T .plan) (T .d) (T .u) r)) (vec r)) (raised (element c) (vec' r))) (T .link .deals r)
-        (near-raised (T .plan .n) (T .plan .t + 1) (pointOf (T .d)) (T .K) (dealtNumber (T .plan) (T .d) (T .u) r) (vec r) (vec' r) (K .near r (al .0 .0) (nonzero r 0 (al .0 .1)))))
+        (near-raised (T .plan .n) (T .plan .t + 1) (pointOf (T .d)) (T .K) (dealtNumber (T .plan) (T .d) (T .u) r) (vec r) (vec' r) (K .near r (al .0 .0) (nonzero r (al .0 .1)))))
     near-by (deals r) (Number.fixed x) al rule = absurd (rule refl)
     near-by (opens r) blocks al rule = K .near
     near-by (sums r t ts) x al rule =
-        near-put M vec vec' (K .near) r 2 _ _ (near-total vec vec' t ts (near-of t (al .0 .held .0)) (all-map near-of ts (al .0 .held .1)))
-    near-by (factors x y r) t al rule = near-mark M vec vec' (K .near) r 5 (nonzero r 2 (al .1 .first))
-    near-by (collects r) blocks al rule = near-mark M vec vec' (K .near) r 7 (nonzero r 4 (al .0 .first))
+        near-put M vec vec' (K .near) r held _ _ (near-total vec vec' t ts (near-of t (al .0 .held .0)) (all-map near-of ts (al .0 .held .1)))
+    near-by (factors x y r) t al rule = near-mark M vec vec' (K .near) r masked (nonzero r (al .1 .first))
+    near-by (collects r) blocks al rule = near-mark M vec vec' (K .near) r collected (nonzero r (al .0 .first))
     near-by (multiplies r) x al rule = near-finish r (al .0)
 
     -- a triple whose masks the act makes: they are those that were reckoned with

@@ -7,6 +7,7 @@ use mathlib.Core.Logic.{_≢_, _⊎_}
 use mathlib.Core.List.{List, [], _∷_, _++_}
 use lib.ListN.{take, drop, getD}
 use Rattle.poly.specs.Counting.{All}
+use Rattle.shape.specs.Marks.{present}
 use Rattle.opening.specs.Walking.{blockMark, blockCoefficients}
 use Rattle.runs.specs.Draws.{Plan, IsRaw}
 use Rattle.runs.specs.Outline.{Taking, nothingTaken, aRowPack, aTriplePack, aNumber, aRecord, twoRecords, takes, Given, moves, Every}
@@ -42,7 +43,7 @@ FromDealer (Number.fixed x) = ⊥
 -- that post j broadcast xs.
 abbrev pub OnlySent : Plan → (ℕ → List ℕ → Type 0) → (ℕ → List ℕ) → Type 0
 OnlySent plan Shown blocks =
-    (i j : ℕ) → 1 ≤ i → i ≤ plan .n → 1 ≤ j → j ≤ plan .n → j ≢ i → blockMark (plan .t + 1) (blocks i) j ≡ 1
+    (i j : ℕ) → 1 ≤ i → i ≤ plan .n → 1 ≤ j → j ≤ plan .n → j ≢ i → blockMark (plan .t + 1) (blocks i) j ≡ present
     → Shown j (blockCoefficients (plan .t + 1) (blocks i) j)
 
 -- An opening that comes to the walk: not refused, or refused with 9 or 13.

@@ -4,6 +4,7 @@ use mathlib.Core.Bool.{Bool, false, cond, _||_}
 use mathlib.Core.List.{List, [], _∷_, _++_, map}
 use lib.Dec.{eqb}
 use lib.ListN.{take}
+use Rattle.shape.specs.Bounds.{rowCount}
 use Rattle.factory.specs.Draw.{eachFrom}
 use Rattle.forms.specs.Lines as Line
 use Rattle.forms.specs.Lines.{text}
@@ -11,12 +12,12 @@ use Rattle.runs.specs.Draws.{Plan, Draw, none, by, whenRaw, pointOf, rawDraw, r
 use Rattle.runs.specs.Calls.{Post, Performed, perform, after, broadcast, newPost}
 use Rattle.secrecy.specs.Steps.{Secrets, Step, callAt, heardFrom, dealtNumber}
 
--- the posts 1 to n; the rows 0 to 95
+-- the posts 1 to n; the rows from 0 on
 unfoldable pub posts : ℕ → List ℕ
 posts n = eachFrom 1 n (λ i. i)
 
 unfoldable pub allRows : List ℕ
-allRows = eachFrom 0 96 (λ r. r)
+allRows = eachFrom 0 rowCount (λ r. r)
 
 unfoldable pub joined : {A : Type 0} → List (List A) → List A
 joined [] = []

@@ -9,6 +9,7 @@ use lib.Dec.{eqb}
 use lib.ListN.{length, take, drop}
 use Rattle.field.specs.Modulus.{p}
 use Rattle.poly.specs.Counting.{Elements}
+use Rattle.shape.specs.Marks.{present}
 use Rattle.opening.specs.Walking.{blockMark, blockCoefficients}
 use Rattle.runs.specs.Draws as Draws
 use Rattle.runs.specs.Draws.{Plan, Raw, IsRaw}
@@ -69,7 +70,7 @@ told-half (m ∷ sent) t half r lines j xs =
 -- what is asked of post j's block in post i's record
 abbrev pub Block : Plan → (ℕ → List ℕ → Type 0) → (ℕ → List ℕ) → ℕ → ℕ → Type 0
 Block plan Shown blocks i j =
-    j ≢ i → blockMark (plan .t + 1) (blocks i) j ≡ 1 → Shown j (blockCoefficients (plan .t + 1) (blocks i) j)
+    j ≢ i → blockMark (plan .t + 1) (blocks i) j ≡ present → Shown j (blockCoefficients (plan .t + 1) (blocks i) j)
 
 module _ (plan : Plan) (Shown : ℕ → List ℕ → Type 0) (shown : (j : ℕ) (xs : List ℕ) → Option (Shown j xs)) (blocks : ℕ → List ℕ) where
   unfoldable pub block : (i j : ℕ) → Option (Block plan Shown blocks i j)
@@ -77,7 +78,7 @@ module _ (plan : Plan) (Shown : ℕ → List ℕ → Type 0) (shown : (j : ℕ) 
   block i j =
       either (tested (eqb j i) (λ e ne. absurd (ne (eqb-true j i e))))
       (some (λ h ne. h)
-      also where-equal (blockMark (plan .t + 1) (blocks i) j) 1 (shown j (blockCoefficients (plan .t + 1) (blocks i) j)))
+      also where-equal (blockMark (plan .t + 1) (blocks i) j) present (shown j (blockCoefficients (plan .t + 1) (blocks i) j)))
 
   unfoldable pub only-sent : Option (OnlySent plan Shown blocks)
   unfolding _also_ each-post block

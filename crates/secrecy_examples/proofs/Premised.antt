@@ -11,6 +11,7 @@ use lib.Dec.{eqb, lit<}
 use lib.ListN.{length, getD}
 use Rattle.field.specs.Modulus.{p}
 use Rattle.poly.specs.Counting.{All, Elements}
+use Rattle.shape.specs.Bounds.{rowCount, lastRow, lastTriple}
 use Rattle.refusal.specs.Refusal.{first}
 use Rattle.refusal.specs.Conditions.{postsTests}
 use Rattle.runs.specs.Draws as Draws
@@ -38,8 +39,8 @@ unfoldable pub lists : (many : ℕ → ℕ) (ls : List (List ℕ)) → Option (L
 unfolding _also_ both equal elements each-below
 lists many ls =
     some (λ e h. record { count = e; each = h })
-    also equal (length ls) 96
-    also each-below (Fits many ls) 96 (λ r. both (equal (length (getD ls r [])) (many r)) (elements (getD ls r [])))
+    also equal (length ls) rowCount
+    also each-below (Fits many ls) rowCount (λ r. both (equal (length (getD ls r [])) (many r)) (elements (getD ls r [])))
 
 unfoldable pub is-draw : (plan : Plan) (draw : Draw) → Option (IsDraw plan draw)
 unfolding _also_ both equal at-most below each lists
@@ -98,16 +99,16 @@ module _ (raws : List Raw) (group us us' : List ℕ) where
   dealers = some of-listed also each-below Dealer (length raws) (λ r. dealer-same group (getD raws r Draws.none) (getD us r 0) (getD us' r 0))
 
 module _ (x : Example) where
-  pub raws-in : length (x .raws) ≤ 96 → (r : ℕ) → IsRaw (planOf x .raw r) → r ≤ 95
+  pub raws-in : length (x .raws) ≤ rowCount → (r : ℕ) → IsRaw (planOf x .raw r) → r ≤ lastRow
   raws-in l r h = let m = raw-listed (x .raws) r h in omega arith
 
   unfoldable pub sound : Option (Sound (planOf x))
   unfolding _also_ equal at-most each
   sound =
-      some (λ e l a. record { posts = e; raws = raws-in l; triples = of-member (λ r. r ≤ 93) (x .triples) a })
+      some (λ e l a. record { posts = e; raws = raws-in l; triples = of-member (λ r. r ≤ lastTriple) (x .triples) a })
       also equal (first (postsTests (x .n) (x .t))) 0
-      also at-most (length (x .raws)) 96
-      also each (λ r. at-most r 93) (x .triples)
+      also at-most (length (x .raws)) rowCount
+      also each (λ r. at-most r lastTriple) (x .triples)
 
   unfoldable pub group-few : Option (Group (planOf x) (x .group))
   unfolding _also_ both at-most each
