@@ -11,7 +11,7 @@ use lib.ListN.{length}
 use lib.Seq.{getD-set-same}
 use Rattle.field.specs.Modulus.{p}
 use Rattle.field.specs.Element.{Element}
-use Rattle.shape.specs.Lengths.{rowsLength}
+use Rattle.shape.specs.Lengths.{rowsLength, needed}
 use Rattle.shape.specs.Bounds.{rowCount, lastTriple}
 use Rattle.shape.specs.Marks.{empty, held, masked, spent, collected}
 use Rattle.refusal.specs.Refusal.{_when_, first}
@@ -23,21 +23,19 @@ use Rattle.session.specs.Rows.{rowAt}
 use Rattle.session.specs.Checks.{frameTests}
 use Rattle.opening.specs.Walking.{tooFew, disagree}
 use Rattle.opening.specs.Opening.{openChecks}
-use Rattle.opening.proofs.Passed.{clear-join, OpenChecked, open-clear}
+use Rattle.opening.proofs.Passed.{clear-join, open-clear}
 use Rattle.product.specs.Finish as Finish
 use Rattle.product.specs.Finish.{unopened}
 use Rattle.product.specs.Collect.{collectRefusal, collectAnswer}
 use Rattle.product.specs.Multiply.{multiplyRefusal}
 use Rattle.product.proofs.Passed.{Factored, CollectChecked, collect-walks, multiply-clear}
-use Rattle.factory.proofs.Laws.{elements-append}
-use Rattle.vectors.specs.Vector.{Vector, number, numbers, rowOf}
+use Rattle.vectors.specs.Vector.{Vector, number, numbers}
 use Rattle.runs.specs.Draws.{Plan, Draw, IsDraw, Sound, pointOf}
 use Rattle.runs.specs.Calls.{Proper, Post}
 use Rattle.runs.proofs.Marks.{Marks, markOf, rememberedA, rememberedB, Sized, maskVectorA, maskVectorB, Opened, sessionAt}
 use Rattle.runs.proofs.Outcomes.{answer-refusal, settled}
 use Rattle.runs.proofs.Packs.{rowFor}
-use Rattle.runs.proofs.Holds.{Holds, Holder, wide}
-use Rattle.runs.proofs.Lines.{elements-pass, numbers-elements}
+use Rattle.runs.proofs.Holds.{Holds, Holder, wide, row-low}
 use Rattle.runs.proofs.Steps.{postAt}
 use Rattle.runs.proofs.Facts.{Multiplying, Triple}
 use Rattle.runs.proofs.Recalled.{Recalls}
@@ -122,12 +120,7 @@ module _ (G : Stander) where
       (not-refused (5 when wrongLength l (rowsLength (shapeOf s)) ∷ []) (ap not (eq-eqb (length l) (rowsLength (shapeOf s)) (h .long ∙ full r (omega (arith, e)))), tt))
 
   pub numbers-pass : (r : ℕ) {m : ℕ} → markOf M r ≡ suc m → anyBeyond (row r) ≡ false
-  unfolding rowOf
-  numbers-pass r e =
-      ap anyBeyond (is-row r e)
-      ∙ elements-pass (rowFor plan draw i (vec r))
-      (elements-append (numbers (plan .t + 1) _) _ (numbers-elements (plan .t + 1) _)
-      (elements-append (numbers (plan .n) _) _ (numbers-elements (plan .n) _) (numbers-elements (plan .n) _)))
+  numbers-pass r e = ap anyBeyond (is-row r e) ∙ row-low plan draw i (vec r)
 
   -- ---- an opening
 
@@ -204,11 +197,11 @@ module _ (G : Stander) where
     second true a b = refl
     second false a b = refl
 
-    pub collect-few : (howMany s xa blocksA ≤ plan .t) ⊎ (howMany s xb blocksB ≤ plan .t) → collectAnswer s l r blocksA blocksB .refusal ≡ 9
+    pub collect-few : (howMany s xa blocksA < needed (shapeOf s)) ⊎ (howMany s xb blocksB < needed (shapeOf s)) → collectAnswer s l r blocksA blocksB .refusal ≡ 9
     collect-few (inl e) = refusal-is ∙ rw (too-few s xa blocksA e) refl
     collect-few (inr e) = refusal-is ∙ rw (too-few s xb blocksB e) (second (tooFew s xa blocksA) (disagree s xa blocksA) (disagree s xb blocksB))
 
-    module _ (e : s .t + 1 ≤ howMany s xa blocksA) (e' : s .t + 1 ≤ howMany s xb blocksB) where
+    module _ (e : needed (shapeOf s) ≤ howMany s xa blocksA) (e' : needed (shapeOf s) ≤ howMany s xb blocksB) where
       -- 13 decides
       by-thirteen : first (unopened s xa xb blocksA blocksB) ≡ first (13 when disagree s xa blocksA ∷ 13 when disagree s xb blocksB ∷ [])
       by-thirteen = rw (not-few s xa blocksA e, not-few s xb blocksB e') refl

@@ -10,6 +10,7 @@ use lib.Seq.{getD-at}
 use Rattle.poly.specs.Counting.{All, Elements}
 use Rattle.shape.specs.Bounds.{rowCount, lastRow}
 use Rattle.shape.specs.Marks.{held, unused}
+use Rattle.shape.specs.Lengths.{vLength}
 use Rattle.decimal.specs.Numeral.{tens, leading}
 use Rattle.csv.specs.Fields.{fields, written, Parsed, parsed, malformed, fieldsAt, Small}
 use Rattle.csv.proofs.Overwriting.{fields-append}
@@ -17,7 +18,7 @@ use Rattle.csv.proofs.Reading.{fields-read}
 use Rattle.factory.proofs.Laws.{elements-append}
 use Rattle.vectors.specs.Vector.{Vector, numbers}
 use Rattle.vectors.proofs.Linear.{length-numbers}
-use Rattle.runs.specs.Draws.{Plan, Draw, IsDraw}
+use Rattle.runs.specs.Draws.{Plan, Draw, IsDraw, planShape}
 use Rattle.runs.specs.Outline.{Act, loads, loadsTriple, deals, opens, sums, factors, collects, multiplies, takes, Given, Move, moves, actsIn, Sending, itsOpening, itsMasks, sends}
 use Rattle.runs.specs.Calls.{Post, Actual, Call, perform, sentIf, openingLine, masksLine, lineOf, sentBy, broadcast, Among}
 use Rattle.runs.proofs.Outlines.{every-all}
@@ -77,11 +78,11 @@ among-all P (y ∷ ys) a x (inr m) = among-all P ys (a .1) x m
 -- j's masks by the triple at r, of rows with the vectors X and Y
 abbrev pub halves : Plan → Draw → ℕ → ℕ → Vector → Vector → List ℕ
 halves plan draw r j X Y =
-    numbers (plan .t + 1) (less X (vectorA plan draw r) .v j) ++ numbers (plan .t + 1) (less Y (vectorB plan draw r) .v j)
+    numbers (vLength (planShape plan)) (less X (vectorA plan draw r) .v j) ++ numbers (vLength (planShape plan)) (less Y (vectorB plan draw r) .v j)
 
 module _ (plan : Plan) (draw : Draw) (L : Ledger) (small : plan .n < tens 10) where
   abbrev k : ℕ
-  k = plan .t + 1
+  k = vLength (planShape plan)
 
   module _ (r j : ℕ) (X Y : Vector) where
     first-half : List ℕ

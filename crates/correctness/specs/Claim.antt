@@ -2,23 +2,24 @@
 -- its sender's, an opening that accepts t+1 or more gives exactly the plain number, and one that accepts fewer is refused with 9".
 -- Document 02, (iv): "It refuses with 13 when an accepted share lies off that polynomial, in either record of a finish, after 9." By (viii) the
 -- polynomials of a finish are accepted in its first call, collect; the second, multiply, takes none.
-use Prim.Native.Nat.{ℕ, _+_, _≤_}
+use Prim.Native.Nat.{ℕ, _+_, _≤_, _<_}
 use mathlib.Core.Path.{_≡_}
 use mathlib.Core.Bool.{true}
 use mathlib.Core.Logic.{_≢_, _⊎_}
 use mathlib.Core.List.{List, _∷_, _++_}
 use lib.ListN.{length, getD, take, drop}
 use Rattle.shape.specs.Marks.{held, masked, collected}
+use Rattle.shape.specs.Lengths.{needed, vLength}
 use Rattle.session.specs.declared.Session.{Session}
 use Rattle.session.specs.declared.Answer.{Answer}
-use Rattle.session.specs.Sessions.{mark}
+use Rattle.session.specs.Sessions.{mark, shapeOf}
 use Rattle.session.specs.Rows.{width, rowAt}
 use Rattle.opening.specs.Walking.{sent, accepts, accepted}
 use Rattle.opening.specs.Opening.{openAnswer}
 use Rattle.product.specs.Finish.{maskA, maskB}
 use Rattle.product.specs.Collect.{collectAnswer}
 use Rattle.product.specs.Multiply.{multiplyAnswer}
-use Rattle.runs.specs.Draws.{Plan, Draw, IsDraw, Sound}
+use Rattle.runs.specs.Draws.{Plan, Draw, IsDraw, Sound, planShape}
 use Rattle.runs.specs.Calls.{Post, opening, Proper}
 use Rattle.correctness.specs.History.{Event, World, history, answers, begin, Each}
 use Rattle.correctness.specs.Ledger.{Ledger, Written, Plain}
@@ -40,20 +41,20 @@ howMany s row blocks = length (accepted s row blocks)
 -- Where each polynomial accepted is truly its sender's, at least t+1 are.
 abbrev pub AllIsEnough : Type 1
 AllIsEnough =
-    (P : ℕ → List ℕ → Type 0) (s : Session) (row blocks : List ℕ) → s .t + 1 ≤ howMany s row blocks → TrueOf P s row blocks
+    (P : ℕ → List ℕ → Type 0) (s : Session) (row blocks : List ℕ) → needed (shapeOf s) ≤ howMany s row blocks → TrueOf P s row blocks
     → EnoughTrue P s row blocks
 
 -- Post q opens the held row r with a record, and o is the answer. P j xs says that xs is truly j's polynomial of that row. Fewer
 -- than t+1 accepted: 9. Each accepted polynomial true: the number, and never 13. At least t+1 of them true, whichever they are: the
 -- number, or 13 (document 02, (iv)). Otherwise a number, or 13.
 pub record Answered (L : Ledger) (P : ℕ → List ℕ → Type 0) (q : Post) (r : ℕ) (blocks : List ℕ) (o : Answer) : Type 0 where
-  pub few : howMany (q .session) (rowAt (width (q .session)) (q .rows) r) blocks ≤ q .session .t → o .refusal ≡ 9
-  pub exact : q .session .t + 1 ≤ howMany (q .session) (rowAt (width (q .session)) (q .rows) r) blocks
+  pub few : howMany (q .session) (rowAt (width (q .session)) (q .rows) r) blocks < needed (shapeOf (q .session)) → o .refusal ≡ 9
+  pub exact : needed (shapeOf (q .session)) ≤ howMany (q .session) (rowAt (width (q .session)) (q .rows) r) blocks
       → TrueOf P (q .session) (rowAt (width (q .session)) (q .rows) r) blocks → (o .refusal ≡ 0) × Plain L r (o .value)
-  pub agreed : q .session .t + 1 ≤ howMany (q .session) (rowAt (width (q .session)) (q .rows) r) blocks
+  pub agreed : needed (shapeOf (q .session)) ≤ howMany (q .session) (rowAt (width (q .session)) (q .rows) r) blocks
       → EnoughTrue P (q .session) (rowAt (width (q .session)) (q .rows) r) blocks
       → ((o .refusal ≡ 0) × Plain L r (o .value)) ⊎ (o .refusal ≡ 13)
-  pub otherwise : q .session .t + 1 ≤ howMany (q .session) (rowAt (width (q .session)) (q .rows) r) blocks
+  pub otherwise : needed (shapeOf (q .session)) ≤ howMany (q .session) (rowAt (width (q .session)) (q .rows) r) blocks
       → (o .refusal ≡ 0) ⊎ (o .refusal ≡ 13)
 
 abbrev pub Opens : Ledger → (ℕ → List ℕ → Type 0) → Post → ℕ → List ℕ → Type 0
@@ -68,15 +69,15 @@ Done q r blocksA blocksB =
 -- Post q collects the masks of the triple at r, which it made: 9, where either record has too few; done, where each accepted
 -- polynomial of both is true; otherwise done, or 13. PA and PB say whose the polynomials of a − l and of b − l' are.
 pub record Collects (PA PB : ℕ → List ℕ → Type 0) (q : Post) (r : ℕ) (blocksA blocksB : List ℕ) : Type 0 where
-  pub few : (howMany (q .session) (maskA (q .session) (q .rows) r) blocksA ≤ q .session .t)
-      ⊎ (howMany (q .session) (maskB (q .session) (q .rows) r) blocksB ≤ q .session .t)
+  pub few : (howMany (q .session) (maskA (q .session) (q .rows) r) blocksA < needed (shapeOf (q .session)))
+      ⊎ (howMany (q .session) (maskB (q .session) (q .rows) r) blocksB < needed (shapeOf (q .session)))
       → collectAnswer (q .session) (q .rows) r blocksA blocksB .refusal ≡ 9
-  pub exact : q .session .t + 1 ≤ howMany (q .session) (maskA (q .session) (q .rows) r) blocksA
-      → q .session .t + 1 ≤ howMany (q .session) (maskB (q .session) (q .rows) r) blocksB
+  pub exact : needed (shapeOf (q .session)) ≤ howMany (q .session) (maskA (q .session) (q .rows) r) blocksA
+      → needed (shapeOf (q .session)) ≤ howMany (q .session) (maskB (q .session) (q .rows) r) blocksB
       → TrueOf PA (q .session) (maskA (q .session) (q .rows) r) blocksA
       → TrueOf PB (q .session) (maskB (q .session) (q .rows) r) blocksB → Done q r blocksA blocksB
-  pub otherwise : q .session .t + 1 ≤ howMany (q .session) (maskA (q .session) (q .rows) r) blocksA
-      → q .session .t + 1 ≤ howMany (q .session) (maskB (q .session) (q .rows) r) blocksB
+  pub otherwise : needed (shapeOf (q .session)) ≤ howMany (q .session) (maskA (q .session) (q .rows) r) blocksA
+      → needed (shapeOf (q .session)) ≤ howMany (q .session) (maskB (q .session) (q .rows) r) blocksB
       → Done q r blocksA blocksB ⊎ (collectAnswer (q .session) (q .rows) r blocksA blocksB .refusal ≡ 13)
 
 -- Post q multiplies by the triple at r, whose masks it opened: done, and the third row held.
@@ -96,17 +97,17 @@ pub record Right (L : Ledger) (P : ℕ → ℕ → List ℕ → Type 0) (H : (Li
       → accepts (q .session) (rowAt (width (q .session)) (q .rows) r) blocks j ≡ true
   pub collects : (r : ℕ) (blocksA blocksB : List ℕ) → mark (q .session) r ≡ masked → Proper (q .session) blocksA
       → Proper (q .session) blocksB
-      → Collects (H (take (q .session .t + 1)) r) (H (drop (q .session .t + 1)) r) q r blocksA blocksB
+      → Collects (H (take (vLength (shapeOf (q .session)))) r) (H (drop (vLength (shapeOf (q .session)))) r) q r blocksA blocksB
   pub multiplies : (r : ℕ) → mark (q .session) r ≡ collected → Multiplies q r
   -- of a − l, in a collect's first record: the own polynomial always, another's where it is truly the first half of its masks
   pub accepts-a : (r : ℕ) (blocks : List ℕ) (j : ℕ) → mark (q .session) r ≡ masked → Proper (q .session) blocks
       → 1 ≤ j → j ≤ q .session .n
-      → (j ≢ q .session .post → H (take (q .session .t + 1)) r j (sent (q .session) (maskA (q .session) (q .rows) r) blocks j))
+      → (j ≢ q .session .post → H (take (vLength (shapeOf (q .session)))) r j (sent (q .session) (maskA (q .session) (q .rows) r) blocks j))
       → accepts (q .session) (maskA (q .session) (q .rows) r) blocks j ≡ true
   -- of b − l', in its second record: so with the second half
   pub accepts-b : (r : ℕ) (blocks : List ℕ) (j : ℕ) → mark (q .session) r ≡ masked → Proper (q .session) blocks
       → 1 ≤ j → j ≤ q .session .n
-      → (j ≢ q .session .post → H (drop (q .session .t + 1)) r j (sent (q .session) (maskB (q .session) (q .rows) r) blocks j))
+      → (j ≢ q .session .post → H (drop (vLength (shapeOf (q .session)))) r j (sent (q .session) (maskB (q .session) (q .rows) r) blocks j))
       → accepts (q .session) (maskB (q .session) (q .rows) r) blocks j ≡ true
 
 -- At every post of S, after any run of all posts. S may be all posts, or those alone whose polynomials count: what the others do
@@ -116,7 +117,7 @@ Correct =
     (plan : Plan) (draw : Draw) (L : Ledger) (S : ℕ → Type 0) (rows : ℕ → List ℕ) (es : List Event)
     → Premises plan draw L S es (begin plan draw rows) → (i : ℕ) → 1 ≤ i → i ≤ plan .n → S i
     → Right L (TruePolynomial S (history es (begin plan draw rows)))
-    (TrueMask S (history es (begin plan draw rows)) (plan .t)) (history es (begin plan draw rows) .posts i)
+    (TrueMask S (history es (begin plan draw rows)) (planShape plan)) (history es (begin plan draw rows) .posts i)
 
 -- "before it": the answer of an opening that stands in a run, with premises on the calls before it, whatever is done behind it.
 -- (The answer at its place in the list of answers; `none` would be that of a place beyond the list.)

@@ -9,9 +9,10 @@ use Rattle.field.specs.Modulus.{p}
 use Rattle.poly.specs.Counting.{All}
 use Rattle.shape.specs.Bounds.{rowCount}
 use Rattle.shape.specs.Marks.{empty as emptyMark, held, masked}
+use Rattle.shape.specs.Lengths.{needed, vLength}
 use Rattle.session.specs.declared.Session.{Session}
 use Rattle.session.specs.declared.Answer.{Answer}
-use Rattle.session.specs.Sessions.{mark, factorA, factorB}
+use Rattle.session.specs.Sessions.{mark, factorA, factorB, shapeOf}
 use Rattle.session.specs.Rows.{width, rowAt}
 use Rattle.opening.specs.Walking.{recordLength, badRecord}
 use Rattle.opening.specs.Opening.{openAnswer}
@@ -19,7 +20,7 @@ use Rattle.terms.specs.declared.Term.{Term}
 use Rattle.terms.specs.Listed.{mostTerms, plain, productsOf, collected}
 use Rattle.relation.specs.Tests.{byKind, namedTwice}
 use Rattle.relation.specs.Finish.{recordA, recordB, termMaskA, termMaskB, relationFinishAnswer}
-use Rattle.runs.specs.Draws.{Plan, Draw}
+use Rattle.runs.specs.Draws.{Plan, Draw, planShape}
 use Rattle.runs.specs.Outline.{summand}
 use Rattle.runs.specs.Calls.{Post, relationFinish, Proper}
 use Rattle.correctness.specs.History.{Event, World, doneBy, history, begin}
@@ -68,7 +69,7 @@ abbrev pub ShownAt : (ℕ → Type 0) → World → ℕ → (ℕ → ℕ) → Li
 ShownAt S w r number ts j =
     let q = w .posts j in
     (blocks : List ℕ) → mark (q .session) r ≡ held → Proper (q .session) blocks
-    → q .session .t + 1 ≤ howMany (q .session) (rowAt (width (q .session)) (q .rows) r) blocks
+    → needed (shapeOf (q .session)) ≤ howMany (q .session) (rowAt (width (q .session)) (q .rows) r) blocks
     → TrueOf (TruePolynomial S w r) (q .session) (rowAt (width (q .session)) (q .rows) r) blocks
     → Shows number ts (openAnswer (q .session) (q .rows) r blocks)
 
@@ -119,18 +120,18 @@ pub record Ready (q : Post) (ts : List Term) (r : ℕ) (blocks : List ℕ) : Typ
 abbrev pub Few : Post → List ℕ → ℕ → Term → Type 0
 Few q blocks k t =
     let s = q .session in
-    (howMany s (termMaskA s (q .rows) t) (recordA s blocks k) ≤ s .t) ⊎ (howMany s (termMaskB s (q .rows) t) (recordB s blocks k) ≤ s .t)
+    (howMany s (termMaskA s (q .rows) t) (recordA s blocks k) < needed (shapeOf s)) ⊎ (howMany s (termMaskB s (q .rows) t) (recordB s blocks k) < needed (shapeOf s))
 
 abbrev pub Enough : Post → List ℕ → ℕ → Term → Type 0
 Enough q blocks k t =
     let s = q .session in
-    (s .t + 1 ≤ howMany s (termMaskA s (q .rows) t) (recordA s blocks k)) × (s .t + 1 ≤ howMany s (termMaskB s (q .rows) t) (recordB s blocks k))
+    (needed (shapeOf s) ≤ howMany s (termMaskA s (q .rows) t) (recordA s blocks k)) × (needed (shapeOf s) ≤ howMany s (termMaskB s (q .rows) t) (recordB s blocks k))
 
 abbrev pub AllTrue : ((List ℕ → List ℕ) → ℕ → ℕ → List ℕ → Type 0) → Post → List ℕ → ℕ → Term → Type 0
 AllTrue H q blocks k t =
     let s = q .session in
-    TrueOf (H (take (s .t + 1)) (t .first)) s (termMaskA s (q .rows) t) (recordA s blocks k)
-    × TrueOf (H (drop (s .t + 1)) (t .first)) s (termMaskB s (q .rows) t) (recordB s blocks k)
+    TrueOf (H (take (vLength (shapeOf s))) (t .first)) s (termMaskA s (q .rows) t) (recordA s blocks k)
+    × TrueOf (H (drop (vLength (shapeOf s))) (t .first)) s (termMaskB s (q .rows) t) (recordB s blocks k)
 
 -- 9, where any record has too few; done, where each accepted polynomial of all is true; otherwise done, or 13.
 pub record Related (H : (List ℕ → List ℕ) → ℕ → ℕ → List ℕ → Type 0) (q : Post) (ts : List Term) (blocks : List ℕ) (o : Answer) : Type 0 where
@@ -143,4 +144,4 @@ RelationsFinish =
     (plan : Plan) (draw : Draw) (L : Ledger) (S : ℕ → Type 0) (rows : ℕ → List ℕ) (es : List Event)
     → Premises plan draw L S es (begin plan draw rows) → (i : ℕ) → 1 ≤ i → i ≤ plan .n → S i → (ts : List Term) (r : ℕ) (blocks : List ℕ)
     → (let w = history es (begin plan draw rows) in let q = w .posts i in
-    Ready q ts r blocks → Related (TrueMask S w (plan .t)) q ts blocks (relationFinishAnswer (q .session) (q .rows) (collected ts) r blocks))
+    Ready q ts r blocks → Related (TrueMask S w (planShape plan)) q ts blocks (relationFinishAnswer (q .session) (q .rows) (collected ts) r blocks))

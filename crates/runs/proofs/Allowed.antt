@@ -1,5 +1,5 @@
 -- A call that is not refused: the marks allow it, and the list of rows has its full length.
-use Prim.Native.Nat.{ℕ, _+_, _*_}
+use Prim.Native.Nat.{ℕ, _+_}
 use mathlib.Core.Path.{_≡_, refl, sym, _∙_, subst}
 use mathlib.Core.Logic.{inl}
 use mathlib.Core.List.{List, _++_}
@@ -11,12 +11,12 @@ use Rattle.opening.proofs.Passed.{row-opened, open-framed}
 use Rattle.product.proofs.Passed.{Factored, masks-made, collected, collect-framed, multiplied}
 use Rattle.poly.specs.Counting.{All}
 use Rattle.poly.proofs.Lists.{all-map, all-zip}
-use Rattle.shape.specs.Bounds.{rowCount}
 use Rattle.shape.specs.Marks.{unused, masked, collected as collectedMark}
+use Rattle.shape.specs.Lengths.{rowsLength}
 use Rattle.terms.specs.declared.Term.{Term}
 use Rattle.terms.specs.Listed.{productsOf}
 use Rattle.relation.proofs.Passed.{RelationFinishPlaced, relation-masks-made, relation-finished}
-use Rattle.runs.specs.Draws.{Plan, Draw}
+use Rattle.runs.specs.Draws.{Plan, Draw, planShape}
 use Rattle.runs.specs.Outline.{loadRow, loadTriple, deal, message, opening, linear, masks, collect, multiply, relationMasks, relationFinish, takes, actsIn, finishing, summing, acts, sends}
 use Rattle.runs.specs.Calls.{Actual, Call}
 use Rattle.runs.proofs.Marks.{Marks, rememberedB, Opened, sessionAt}
@@ -68,7 +68,7 @@ module _ (plan : Plan) (draw : Draw) (i : ℕ) (M : Marks) (Y : Opened) (l : Lis
     finish-ready m = ready-products m blocks 0 fs (summing d ts) M (waiting ts d blocks f) (ready-sum d ts M)
 
   abbrev Passes : Call → Type 0
-  Passes c = Allowed (acts c) (sends c) M × (length l ≡ rowCount * (plan .t + 1 + 2 * plan .n))
+  Passes c = Allowed (acts c) (sends c) M × (length l ≡ rowsLength (planShape plan))
 
   passes : (c : Call) → refusalOf c (record { session = sessionAt plan draw i M Y; rows = l }) ≡ 0 → Passes c
   passes (loadRow x) z =
@@ -150,5 +150,5 @@ module _ (plan : Plan) (draw : Draw) (i : ℕ) (M : Marks) (Y : Opened) (l : Lis
   pub allowed : (c : Call) → refusalOf c (record { session = sessionAt plan draw i M Y; rows = l }) ≡ 0 → Allowed (acts c) (sends c) M
   allowed c z = passes c z .0
 
-  pub room : (c : Call) → refusalOf c (record { session = sessionAt plan draw i M Y; rows = l }) ≡ 0 → length l ≡ rowCount * (plan .t + 1 + 2 * plan .n)
+  pub room : (c : Call) → refusalOf c (record { session = sessionAt plan draw i M Y; rows = l }) ≡ 0 → length l ≡ rowsLength (planShape plan)
   room c z = passes c z .1

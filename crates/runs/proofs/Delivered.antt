@@ -11,7 +11,7 @@ use lib.Seq.{take-append-le, drop-append-le, drop-append-add}
 use Rattle.field.specs.Modulus.{p}
 use Rattle.shape.specs.declared.Shape.{Shape}
 use Rattle.shape.specs.Bounds.{rowCount}
-use Rattle.shape.specs.Lengths.{tripleDrawLength, packsLength, rowLength as shapeRow}
+use Rattle.shape.specs.Lengths.{tripleDrawLength, packsLength, rowLength}
 use Rattle.poly.specs.Counting.{All}
 use Rattle.refusal.specs.Refusal.{first}
 use Rattle.refusal.specs.Conditions.{wrongLength, postsTests}
@@ -21,7 +21,7 @@ use Rattle.session.specs.Rows.{rowAt}
 use Rattle.factory.specs.Packs.{packs, triplePacks, anyBadPoint, factoryTests, factoryRowRefusal, factoryTripleRefusal}
 use Rattle.factory.proofs.Laws.{length-packs, packs-part}
 use Rattle.factory.proofs.Theorems.{row-done, triple-done}
-use Rattle.runs.specs.Draws.{Plan, planShape, Draw, IsRaw, Sound, IsDraw, rowLength, pointOf, rawDraw, tripleDraw, drawA, drawB, drawAB, partOf, rawPack, triplePack}
+use Rattle.runs.specs.Draws.{Plan, planShape, Draw, IsRaw, Sound, IsDraw, drawnLength, pointOf, rawDraw, tripleDraw, drawA, drawB, drawAB, partOf, rawPack, triplePack}
 use Rattle.runs.specs.Packs.{RowGiven, TripleGiven, FactoryPacks}
 use Rattle.runs.proofs.Packs.{Drawn, raw-drawn, triple-drawn, a-drawn, b-drawn, ab-drawn}
 use Rattle.runs.proofs.Lines.{elements-pass}
@@ -49,7 +49,7 @@ module _ (plan : Plan) (draw : Draw) (sound : Sound plan) (is : IsDraw plan draw
   S = planShape plan
 
   abbrev W : ℕ
-  W = shapeRow S
+  W = rowLength S
 
   -- 1 to 8 of a factory's call
   clear : (xs : List ℕ) (many : ℕ) → Drawn many xs → (out : List ℕ) (room : ℕ) → length out ≡ room
@@ -62,7 +62,7 @@ module _ (plan : Plan) (draw : Draw) (sound : Sound plan) (is : IsDraw plan draw
       sized : (l : List ℕ) (m : ℕ) → length l ≡ m → wrongLength l m ≡ false
       sized l m h = ap not (eq-eqb (length l) m h)
 
-  module _ (xs : List ℕ) (d : Drawn (rowLength plan) xs) where
+  module _ (xs : List ℕ) (d : Drawn (drawnLength plan) xs) where
     pack-of : (i : ℕ) → 1 ≤ i → i ≤ plan .n → rowAt W (packs S (draw .points) xs) (i - 1) ≡ partOf plan draw i xs
     unfolding pointOf
     pack-of i lo hi = packs-part S xs (d .many) (draw .points) (is .posts) i lo hi
@@ -79,11 +79,11 @@ module _ (plan : Plan) (draw : Draw) (sound : Sound plan) (is : IsDraw plan draw
         ∙ pack-of (rawDraw draw r) d i lo hi;
   }
     where
-      d : Drawn (rowLength plan) (rawDraw draw r)
+      d : Drawn (drawnLength plan) (rawDraw draw r)
       d = raw-drawn plan draw is r (omega (arith, sound .raws r raw)) raw
 
       done : factoryRowRefusal (plan .n) (plan .t) (draw .points) (rawDraw draw r) out ≡ 0
-      done = clear (rawDraw draw r) (rowLength plan) d out (packsLength S) e
+      done = clear (rawDraw draw r) (drawnLength plan) d out (packsLength S) e
 
   triple-given : (r : ℕ) (out : List ℕ) → plan .triple r ≡ true → length out ≡ 3 * packsLength S → TripleGiven plan draw r out
   unfolding factoryTripleRefusal triplePack triplePacks
@@ -101,13 +101,13 @@ module _ (plan : Plan) (draw : Draw) (sound : Sound plan) (is : IsDraw plan draw
       done : factoryTripleRefusal (plan .n) (plan .t) (draw .points) (tripleDraw draw r) out ≡ 0
       done = clear (tripleDraw draw r) (tripleDrawLength S) (triple-drawn plan draw is r low three) out (3 * packsLength S) e
 
-      da : Drawn (rowLength plan) (drawA plan draw r)
+      da : Drawn (drawnLength plan) (drawA plan draw r)
       da = a-drawn plan draw is r low three
 
-      db : Drawn (rowLength plan) (drawB plan draw r)
+      db : Drawn (drawnLength plan) (drawB plan draw r)
       db = b-drawn plan draw is r low three
 
-      dab : Drawn (rowLength plan) (drawAB plan draw r)
+      dab : Drawn (drawnLength plan) (drawAB plan draw r)
       dab = ab-drawn plan draw is r low three
 
       A : List ℕ

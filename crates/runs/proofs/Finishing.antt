@@ -26,8 +26,8 @@ use Rattle.product.proofs.Passed.{Collected, collect-framed, Multiplied}
 use Rattle.vectors.specs.Vector.{Vector, plusTimes, number}
 use Rattle.vectors.specs.Claims.{heldRow, EnoughTruly}
 use Rattle.vectors.proofs.Linear.{row-plusTimes, row-summed}
-use Rattle.vectors.proofs.Theorems.{opened-exact}
-use Rattle.runs.specs.Draws.{Plan, Draw, pointOf}
+use Rattle.vectors.proofs.Shares.{opened-exact}
+use Rattle.runs.specs.Draws.{Plan, Draw, pointOf, planShape}
 use Rattle.runs.specs.Calls.{at}
 use Rattle.runs.proofs.Marks.{Marks, markOf, rememberedA, rememberedB, remarked, finished, Opened, sessionAt, maskVectorA, maskVectorB, written}
 use Rattle.runs.proofs.Sums.{productVector, product-sum}
@@ -63,8 +63,8 @@ module _ (H : Holder) where
   row-of-product y y' a b c =
       let w = element (pointOf draw i) in
       ap (λ (x : List ℕ). summed (sumsAt s) y' (product y y') x (rowFor plan draw i a))
-      (plus-nothing (sumsAt s) y (rowFor plan draw i c) (rowFor plan draw i b) ∙ sym (row-plusTimes (plan .t + 1) (plan .n) i y w c b))
-      ∙ sym (row-summed (plan .t + 1) (plan .n) i y' (product y y') w (plusTimes (element y) c b) a)
+      (plus-nothing (sumsAt s) y (rowFor plan draw i c) (rowFor plan draw i b) ∙ sym (row-plusTimes (planShape plan) i y w c b))
+      ∙ sym (row-summed (planShape plan) i y' (product y y') w (plusTimes (element y) c b) a)
 
   -- the rows of a triple that waits, and those that are opened
   module _ (r : ℕ) (ok : Multiplying masked M (rememberedA M r) (rememberedB M r) r) where

@@ -1,6 +1,7 @@
 -- One post: each row with a mark is its part of the row's vector; and each call that is not refused keeps that.
 use Prim.Native.Nat.{ℕ, suc, _+_, _*_, _≤_, _<_}
 use mathlib.Core.Path.{_≡_, sym, _∙_, ap, ap₂, subst}
+use mathlib.Core.Bool.{false}
 use mathlib.Core.Logic.{_≢_}
 use mathlib.Core.List.{List, [], _∷_, _++_, append-assoc}
 use native.Mathlib.Nat.{zero-mul, one-mul}
@@ -9,25 +10,30 @@ use native.Mathlib.Omega.{arith}
 use lib.ListN.{length, take, drop, getD, set, length-append}
 use lib.Seq.{take-at, drop-at, take-all, getD-set-other}
 use Rattle.field.specs.Element.{element}
+use Rattle.poly.specs.Counting.{Elements}
+use Rattle.refusal.specs.Conditions.{anyBeyond}
+use Rattle.factory.proofs.Laws.{elements-append}
 use Rattle.shape.specs.Bounds.{rowCount, lastRow, lastTriple}
 use Rattle.shape.specs.Marks.{empty, raw, held, unused, further, masked, collected}
+use Rattle.shape.specs.Lengths.{vLength, rowLength}
 use Rattle.session.specs.declared.Session.{Session}
 use Rattle.session.specs.Rows.{sumsAt, rowAt, withRow, combined, plusSums, summed}
 use Rattle.session.proofs.RowLaws.{length-with-row, row-same, row-other}
 use Rattle.sharing.specs.Load.{withTriple}
 use Rattle.sharing.proofs.Passed.{RowLoaded, TripleLoaded, Dealt, Summed}
-use Rattle.vectors.specs.Vector.{Vector, plusTimes, raised, rowOf}
+use Rattle.vectors.specs.Vector.{Vector, plusTimes, raised, numbers, rowOf}
 use Rattle.vectors.proofs.Linear.{length-numbers, row-plusTimes, row-raised, row-summed}
-use Rattle.runs.specs.Draws.{Plan, Draw, pointOf}
+use Rattle.runs.specs.Draws.{Plan, Draw, pointOf, planShape}
 use Rattle.runs.specs.Outline.{once, times, fee, loadsTriple, factors}
 use Rattle.runs.specs.Calls.{at}
 use Rattle.runs.proofs.Marks.{Marks, markOf, remarked, marksBy, Opened, sessionAt, totalVector, at-same, at-other}
 use Rattle.runs.proofs.Sums.{linear-sum}
 use Rattle.runs.proofs.Packs.{rowFor}
+use Rattle.runs.proofs.Lines.{elements-pass, numbers-elements}
 
 -- how many numbers a row has
 abbrev pub wide : Plan → ℕ
-wide plan = plan .t + 1 + 2 * plan .n
+wide plan = rowLength (planShape plan)
 
 module _ (plan : Plan) (draw : Draw) where
   abbrev W : ℕ
@@ -36,6 +42,16 @@ module _ (plan : Plan) (draw : Draw) where
   pub row-wide : (i : ℕ) (X : Vector) → length (rowFor plan draw i X) ≡ W
   unfolding rowOf
   row-wide i X = simp (length-append, length-numbers) (omega arith)
+
+  -- and they are elements
+  pub row-elements : (i : ℕ) (X : Vector) → Elements (rowFor plan draw i X)
+  unfolding rowOf
+  row-elements i X =
+      elements-append (numbers (vLength (planShape plan)) _) _ (numbers-elements (vLength (planShape plan)) _)
+      (elements-append (numbers (plan .n) _) _ (numbers-elements (plan .n) _) (numbers-elements (plan .n) _))
+
+  pub row-low : (i : ℕ) (X : Vector) → anyBeyond (rowFor plan draw i X) ≡ false
+  row-low i X = elements-pass (rowFor plan draw i X) (row-elements i X)
 
   -- post i's list of rows, `len` numbers long
   pub record Holds (len i : ℕ) (M : Marks) (vec : ℕ → Vector) (l : List ℕ) : Type 0 where
@@ -105,13 +121,13 @@ module _ (H : Holder) where
   deal-holds r c f =
       put-holds plan draw len i M vec l h (f .framed .sized .length-is) r held (omega (arith, f .placed .row-in)) _ _
       (ap (plusSums (sumsAt s) c) (held-row r (f .placed .row-in) (f .placed .is-raw))
-      ∙ sym (row-raised (plan .t + 1) (plan .n) i c (element (pointOf draw i)) (vec r)))
+      ∙ sym (row-raised (planShape plan) i c (element (pointOf draw i)) (vec r)))
 
   -- x plus scale times y of two rows is the row of that sum
   pub combined-row : (k a b : ℕ) → rowAt N l a ≡ rowFor plan draw i (vec a) → rowAt N l b ≡ rowFor plan draw i (vec b)
       → combined k (rowAt N l a) (rowAt N l b) ≡ rowFor plan draw i (plusTimes (element k) (vec a) (vec b))
   combined-row k a b ea eb =
-      ap₂ (combined k) ea eb ∙ sym (row-plusTimes (plan .t + 1) (plan .n) i k (element (pointOf draw i)) (vec a) (vec b))
+      ap₂ (combined k) ea eb ∙ sym (row-plusTimes (planShape plan) i k (element (pointOf draw i)) (vec a) (vec b))
 
   pub linear-holds : (r a b scale c : ℕ) → Summed s l r a b scale c
       → Holds plan draw len i (remarked M r held) (at vec r (totalVector vec (once a) (times scale b ∷ fee c ∷ [])))
@@ -120,7 +136,7 @@ module _ (H : Holder) where
       let k = f .placed in
       put-holds plan draw len i M vec l h (f .framed .sized .length-is) r held (omega (arith, k .row-in)) _ _
       (ap₂ (summed (sumsAt s) scale c) (held-row a (k .a-in) (k .a-held)) (held-row b (k .b-in) (k .b-held))
-      ∙ sym (row-summed (plan .t + 1) (plan .n) i scale c (element (pointOf draw i)) (vec a) (vec b))
+      ∙ sym (row-summed (planShape plan) i scale c (element (pointOf draw i)) (vec a) (vec b))
       ∙ ap (rowFor plan draw i) (sym (linear-sum vec a b scale c)))
 
   pub masks-holds : (a b r : ℕ) → markOf M r ≡ unused → Holds plan draw len i (marksBy (factors a b r) M) vec l

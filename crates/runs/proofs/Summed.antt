@@ -7,7 +7,7 @@ use lib.ListN.{length, take, length-append}
 use lib.Seq.{take-at, drop-at}
 use Rattle.field.specs.Modulus.{p}
 use Rattle.field.specs.Element.{element}
-use Rattle.shape.specs.Lengths.{masksLength}
+use Rattle.shape.specs.Lengths.{masksLength, vLength}
 use Rattle.shape.specs.Bounds.{rowCount}
 use Rattle.shape.specs.Marks.{held, unused}
 use Rattle.poly.specs.Counting.{All}
@@ -24,10 +24,10 @@ use Rattle.relation.specs.Finish.{recordA, recordB, termMaskA, termMaskB, withP
 use Rattle.relation.proofs.Passed.{AllAt, Enough, Agreed, RelationFinishPlaced, RelationFinished}
 use Rattle.vectors.specs.Vector.{Vector, numbers}
 use Rattle.vectors.proofs.Linear.{length-numbers}
-use Rattle.runs.specs.Draws.{pointOf}
+use Rattle.runs.specs.Draws.{pointOf, planShape}
 use Rattle.runs.specs.Outline.{takes, Move, actsIn, maskings, finishing, summing}
 use Rattle.runs.specs.Calls.{Actual, pieces}
-use Rattle.runs.proofs.Marks.{Marks, rememberedA, rememberedB, remarked, Opened, noNumbers, sessionAt, less, maskVectorA, maskVectorB, marksAll, numberIn, vectorsAll, openedAll}
+use Rattle.runs.proofs.Marks.{Marks, rememberedA, rememberedB, remarked, noNumbers, sessionAt, less, maskVectorA, maskVectorB, marksAll, numberIn, vectorsAll, openedAll}
 use Rattle.runs.proofs.Packs.{rowFor}
 use Rattle.runs.proofs.Holds.{Holds, wide, Holder, sessionOf, held-row, combined-row}
 use Rattle.runs.proofs.Finishing.{Trusted, trusted-any, opens-a, opens-b, opened-is}
@@ -45,7 +45,7 @@ module _ (H : Holder) where
   -- a single product's masks
   pub masks-at : (a b r : ℕ) → Factored s a b r unused
       → maskNumbersOf s l a b r
-      ≡ numbers (plan .t + 1) (less (vec a) (vec r) .v i) ++ numbers (plan .t + 1) (less (vec b) (vec (r + 1)) .v i)
+      ≡ numbers (vLength (planShape plan)) (less (vec a) (vec r) .v i) ++ numbers (vLength (planShape plan)) (less (vec b) (vec (r + 1)) .v i)
   unfolding maskNumbersOf
   masks-at a b r f =
       ap₂ _++_
@@ -53,17 +53,17 @@ module _ (H : Holder) where
       (half b (r + 1) (held-row H b (f .b-in) (f .b-held)) (held-row H (r + 1) (omega (arith, f .triple-in)) (f .second-mark)))
     where
       half : (x y : ℕ) → rowAt (wide plan) l x ≡ rowFor plan draw i (vec x) → rowAt (wide plan) l y ≡ rowFor plan draw i (vec y)
-          → take (plan .t + 1) (combined (p - 1) (rowAt (wide plan) l x) (rowAt (wide plan) l y)) ≡ numbers (plan .t + 1) (less (vec x) (vec y) .v i)
+          → take (vLength (planShape plan)) (combined (p - 1) (rowAt (wide plan) l x) (rowAt (wide plan) l y)) ≡ numbers (vLength (planShape plan)) (less (vec x) (vec y) .v i)
       half x y ex ey =
-          ap (take (plan .t + 1)) (combined-row H (p - 1) x y ex ey)
-          ∙ own-numbers (plan .t + 1) (plan .n) i (element (pointOf draw i)) (less (vec x) (vec y))
+          ap (take (vLength (planShape plan))) (combined-row H (p - 1) x y ex ey)
+          ∙ own-numbers (planShape plan) i (element (pointOf draw i)) (less (vec x) (vec y))
 
   masks-long : (a b r : ℕ) → Factored s a b r unused → length (maskNumbersOf s l a b r) ≡ masksLength (shapeOf s)
   masks-long a b r f =
       let va = less (vec a) (vec r) .v i in
       let vb = less (vec b) (vec (r + 1)) .v i in
-      ap length (masks-at a b r f) ∙ length-append (numbers (plan .t + 1) va) (numbers (plan .t + 1) vb)
-      ∙ ap₂ _+_ (length-numbers (plan .t + 1) va) (length-numbers (plan .t + 1) vb) ∙ omega arith
+      ap length (masks-at a b r f) ∙ length-append (numbers (vLength (planShape plan)) va) (numbers (vLength (planShape plan)) vb)
+      ∙ ap₂ _+_ (length-numbers (vLength (planShape plan)) va) (length-numbers (vLength (planShape plan)) vb) ∙ omega arith
 
   -- the masks of a relation, term by term
   pub all-masks : (ts : List Term) → All (λ t. Factored s (t .row) (t .second) (t .first) unused) ts

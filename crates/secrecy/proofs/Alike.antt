@@ -10,10 +10,11 @@ use Rattle.field.specs.Element.{element}
 use Rattle.poly.specs.Counting.{All}
 use Rattle.shape.specs.Bounds.{rowCount}
 use Rattle.shape.specs.Marks.{empty, held as heldMark}
+use Rattle.shape.specs.Lengths.{vLength}
 use Rattle.session.specs.Sessions.{answer}
 use Rattle.vectors.specs.Vector.{Vector, number, numbers}
-use Rattle.runs.specs.Draws.{pointOf}
-use Rattle.runs.specs.Outline.{Act, masks, acts, Sending, itsOpening, itsMasks, sends}
+use Rattle.runs.specs.Draws.{pointOf, planShape}
+use Rattle.runs.specs.Outline.{Act, acts, Sending, itsOpening, itsMasks, sends}
 use Rattle.runs.specs.Calls.{Post, Call, Performed, perform, sentBy, broadcast, lineOf, Among}
 use Rattle.runs.proofs.Outlines.{every-all}
 use Rattle.runs.proofs.Marks.{Marks, Sized, markOf, less, rawVector, Masking, of, masking, marksBy}
@@ -22,7 +23,7 @@ use Rattle.runs.proofs.Facts.{AllowedAll, Allowed, Sendable}
 use Rattle.runs.proofs.Rows.{sized-by, held-by}
 use Rattle.runs.proofs.Allowed.{allowed}
 use Rattle.runs.proofs.Steps.{own-numbers, Says, SaysAll, says}
-use Rattle.secrecy.specs.Steps.{Step, sent, callAt}
+use Rattle.secrecy.specs.Steps.{Step, callAt}
 use Rattle.secrecy.specs.Rules.{Rule}
 use Rattle.secrecy.specs.Book.{Book, enteredBy, AgreesBy, Agrees}
 use Rattle.secrecy.proofs.Moves.{acts-at, sends-at}
@@ -55,19 +56,19 @@ module _ (T : Two) (m : Moments) (R : Pair T m) (i : ℕ) (lo : 1 ≤ i) (hi : i
   abbrev c2 : Step → Call
   c2 c = callAt (T .plan) (T .d') (T .u') lines i c
 
-  abbrev near : (r : ℕ) → r < rowCount → markOf M r ≢ empty → Near (T .plan .n) (T .plan .t + 1) (pointOf (T .d)) (T .K) (vec r) (vec' r)
+  abbrev near : (r : ℕ) → r < rowCount → markOf M r ≢ empty → Near (planShape (T .plan)) (pointOf (T .d)) (T .K) (vec r) (vec' r)
   near = R .near
 
   abbrev k : ℕ
-  k = T .plan .t + 1
+  k = vLength (planShape (T .plan))
 
   -- post i's numbers of two near vectors with one number
-  numbers-same : (S S' : Vector) → Near (T .plan .n) (T .plan .t + 1) (pointOf (T .d)) (T .K) S S' → number S ≡ number S'
+  numbers-same : (S S' : Vector) → Near (planShape (T .plan)) (pointOf (T .d)) (T .K) S S' → number S ≡ number S'
       → numbers k (S .v i) ≡ numbers k (S' .v i)
   numbers-same S S' h e =
-      sym (own-numbers k (T .plan .n) i (element (pointOf (T .d) i)) S)
-      ∙ ap (take k) (near-same (T .plan .n) k (pointOf (T .d)) (T .K) S S' h e i lo hi)
-      ∙ own-numbers k (T .plan .n) i (element (pointOf (T .d) i)) S'
+      sym (own-numbers (planShape (T .plan)) i (element (pointOf (T .d) i)) S)
+      ∙ ap (take k) (near-same (planShape (T .plan)) (pointOf (T .d)) (T .K) S S' h e i lo hi)
+      ∙ own-numbers (planShape (T .plan)) i (element (pointOf (T .d) i)) S'
 
   nonzero : (r : ℕ) {m : ℕ} → markOf M r ≡ suc m → markOf M r ≢ empty
   nonzero r e g = omega arith
@@ -76,7 +77,7 @@ module _ (T : Two) (m : Moments) (R : Pair T m) (i : ℕ) (lo : 1 ≤ i) (hi : i
       → numbers k (less (vec x) (vec y) .v i) ≡ numbers k (less (vec' x) (vec' y) .v i)
   mask-numbers x y lx hx ly hy e =
       numbers-same (less (vec x) (vec y)) (less (vec' x) (vec' y))
-      (near-plusTimes (T .plan .n) k (pointOf (T .d)) (T .K) (p - 1) (vec x) (vec' x) (vec y) (vec' y) (near x lx hx) (near y ly hy)) e
+      (near-plusTimes (planShape (T .plan)) (pointOf (T .d)) (T .K) (p - 1) (vec x) (vec' x) (vec y) (vec' y) (near x lx hx) (near y ly hy)) e
 
   -- what is sent of a call with these acts
   module _ (todo : List Act) (al : AllowedAll todo M) (fit : FitAll T todo b b') where

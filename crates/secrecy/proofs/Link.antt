@@ -1,6 +1,6 @@
 -- What the matched draw has to do with the first: every vector drawn differs by a multiple of the group's kernel, so the group
 -- sees no difference, and no dealer's number changes.
-use Prim.Native.Nat.{ℕ, _+_, _≤_, _<_}
+use Prim.Native.Nat.{ℕ, _≤_, _<_}
 use mathlib.Core.Path.{_≡_}
 use mathlib.Core.Bool.{true}
 use mathlib.Core.List.{List}
@@ -10,7 +10,7 @@ use Rattle.poly.specs.Counting.{All}
 use Rattle.shape.specs.Bounds.{rowCount}
 use Rattle.refusal.specs.Conditions.{anyBeyond}
 use Rattle.vectors.specs.Vector.{Vector}
-use Rattle.runs.specs.Draws.{Plan, Draw, IsRaw, pointOf, rawPack, triplePack}
+use Rattle.runs.specs.Draws.{Plan, Draw, IsRaw, pointOf, rawPack, triplePack, planShape}
 use Rattle.runs.proofs.Marks.{rawVector, vectorA, vectorB, vectorAB}
 use Rattle.secrecy.specs.Steps.{Secrets, dealtNumber}
 use Rattle.secrecy.proofs.Near.{gap, Near, Unseen}
@@ -27,7 +27,7 @@ pub record Alike (xs ys : List ℕ) : Type 0 where
 
 module _ (plan : Plan) (group : List ℕ) (d d' : Draw) (u u' : Secrets) (K : Vector) (Δ : ℕ → Gaps) where
   abbrev Nearly : Vector → Vector → Type 0
-  Nearly = Near (plan .n) (plan .t + 1) (pointOf d) K
+  Nearly = Near (planShape plan) (pointOf d) K
 
   pub record Link : Type 0 where
     pub points : pointOf d' ≡ pointOf d
@@ -42,4 +42,4 @@ module _ (plan : Plan) (group : List ℕ) (d d' : Draw) (u u' : Secrets) (K : Ve
     pub triple-alike : (i k : ℕ) → i ≤ plan .n → Alike (triplePack plan d i k) (triplePack plan d' i k)
     pub raw-group : All (λ i. (k : ℕ) → rawPack plan d i k ≡ rawPack plan d' i k) group
     pub triple-group : All (λ i. (k : ℕ) → triplePack plan d i k ≡ triplePack plan d' i k) group
-    pub unseen : All (λ i. Unseen (plan .t + 1) i (element (pointOf d i)) K) group
+    pub unseen : All (λ i. Unseen (planShape plan) i (element (pointOf d i)) K) group

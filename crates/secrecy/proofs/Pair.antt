@@ -3,7 +3,7 @@ use Prim.Native.Nat.{ℕ, _+_, _≤_, _<_}
 use mathlib.Core.Path.{_≡_, refl, sym, _∙_, ap, ap₂}
 use mathlib.Core.Bool.{Bool, true, false}
 use mathlib.Core.Logic.{_≢_, _⊎_, inl, inr}
-use mathlib.Core.List.{List, [], _∷_, _++_}
+use mathlib.Core.List.{List, [], _∷_}
 use native.Mathlib.Decide.{ℕ-discrete}
 use native.Mathlib.Omega.{arith}
 use Rattle.field.specs.Modulus.{p}
@@ -13,6 +13,7 @@ use Rattle.field.proofs.Elements.{𝓡, element-path}
 use Rattle.poly.specs.Counting.{All}
 use Rattle.shape.specs.Bounds.{rowCount}
 use Rattle.shape.specs.Marks.{empty, held, unused}
+use Rattle.shape.specs.Lengths.{vLength}
 use Rattle.refusal.specs.Refusal.{_when_, first}
 use Rattle.session.specs.declared.Session.{Session}
 use Rattle.session.specs.Rows.{rowAt}
@@ -20,7 +21,7 @@ use Rattle.opening.specs.Walking.{blockCoefficients, tooFew, disagree}
 use Rattle.opening.specs.Opening.{openRefusal}
 use Rattle.opening.proofs.Passed.{OpenChecked, open-walks}
 use Rattle.vectors.specs.Vector.{Vector, number, rowOf}
-use Rattle.runs.specs.Draws.{Plan, Draw, IsDraw, Sound, IsRaw, pointOf}
+use Rattle.runs.specs.Draws.{Plan, Draw, IsDraw, Sound, IsRaw, pointOf, planShape}
 use Rattle.runs.specs.Outline.{Act, aRecord, acts}
 use Rattle.runs.specs.Calls.{Proper, Post, openingLine, Among}
 use Rattle.runs.proofs.Marks.{Marks, Sized, markOf, rememberedA, rememberedB, sessionAt, less, maskVectorA, maskVectorB, Masking, none, of, masking, Masked}
@@ -87,7 +88,7 @@ module _ (T : Two) where
     pub one : State (runOne T) (momentOne m)
     pub two : State (runTwo T) (momentTwo m)
     pub near : (r : ℕ) → r < rowCount → markOf (m .marks) r ≢ empty
-        → Near (T .plan .n) (T .plan .t + 1) (pointOf (T .d)) (T .K) (m .vec r) (m .vec' r)
+        → Near (planShape (T .plan)) (pointOf (T .d)) (T .K) (m .vec r) (m .vec' r)
     pub group-same : All (λ i. m .posts i ≡ m .posts' i) (T .group)
     pub agreed : (r j : ℕ) (xs : List ℕ) → AnOpening (runOne T) r j xs → Among (openingLine r j xs) (m .lines)
         → m .book .place r ≡ m .book' .place r
@@ -100,7 +101,7 @@ module _ (T : Two) where
     pub sized : Sized M
     pub one : Facts (T .plan) (T .d) (Held b) (Waits b) M vec
     pub two : Facts (T .plan) (T .d') (Held b') (Waits b') M vec'
-    pub near : (r : ℕ) → r < rowCount → markOf M r ≢ empty → Near (T .plan .n) (T .plan .t + 1) (pointOf (T .d)) (T .K) (vec r) (vec' r)
+    pub near : (r : ℕ) → r < rowCount → markOf M r ≢ empty → Near (planShape (T .plan)) (pointOf (T .d)) (T .K) (vec r) (vec' r)
     pub waiting : (r : ℕ) → r < rowCount → Masked (markOf M r)
         → (apart (b .factorA r) (b' .factorA r) ≡ T .Δ r .factor-a) × (apart (b .factorB r) (b' .factorB r) ≡ T .Δ r .factor-b)
 
@@ -199,7 +200,7 @@ module _ (T : Two) where
           let g = R .two .posts i lo hi .holds in
           record {
             long = g .long;
-            rows = λ r lr ne. g .rows r lr ne ∙ ap (λ (f : ℕ → ℕ). rowOf (T .plan .t + 1) (T .plan .n) i (element (f i)) (vec' r)) (T .link .points);
+            rows = λ r lr ne. g .rows r lr ne ∙ ap (λ (f : ℕ → ℕ). rowOf (planShape (T .plan)) i (element (f i)) (vec' r)) (T .link .points);
           }
 
       -- an opening that comes to the walk finds one number in both runs, or nobody's polynomial but the own
@@ -224,7 +225,7 @@ module _ (T : Two) where
             proper : Proper s (blocks i lines)
             proper = record { long = f .placed .record-long; low = f .record-low }
 
-            message : AnOpening (runOne T) r j (blockCoefficients (T .plan .t + 1) (blocks i lines) j)
+            message : AnOpening (runOne T) r j (blockCoefficients (vLength (planShape (T .plan))) (blocks i lines) j)
             message =
                 record {
                   row = f .placed .row-in;

@@ -32,14 +32,11 @@ use Rattle.product.specs.Finish.{unopened}
 use Rattle.product.specs.Collect.{collectRefusal, collectNumbers}
 use Rattle.product.specs.Multiply.{rememberedNumbers, multiplyRefusal}
 use Rattle.product.proofs.Passed.{Factored, factorTests, masksEarly, masks-placed, collectEarly, collect-placed, collectRest, multiplyEarly, multiply-placed, multiplyTests}
-use Rattle.factory.proofs.Laws.{elements-append}
-use Rattle.vectors.specs.Vector.{Vector, number, numbers, rowOf}
-use Rattle.runs.specs.Draws.{Plan, Draw, pointOf}
+use Rattle.vectors.specs.Vector.{Vector, number}
+use Rattle.runs.specs.Draws.{Plan, Draw, pointOf, planShape}
 use Rattle.runs.proofs.Marks.{Marks, markOf, rememberedA, rememberedB, Opened, sessionAt, less, maskVectorA, maskVectorB}
-use Rattle.runs.proofs.Packs.{rowFor}
-use Rattle.runs.proofs.Holds.{Holds, Holder, wide, held-row, combined-row}
+use Rattle.runs.proofs.Holds.{Holds, Holder, wide, row-low, held-row, combined-row}
 use Rattle.runs.proofs.Recalled.{Recalls}
-use Rattle.runs.proofs.Lines.{elements-pass, numbers-elements}
 use Rattle.secrecy.proofs.Near.{Near, near-plusTimes, near-same}
 use Rattle.secrecy.proofs.Link.{Alike}
 
@@ -51,14 +48,6 @@ same-after [] ys zs h = h tt
 same-after (k when true ∷ xs) ys zs h = refl
 same-after (k when false ∷ xs) ys zs h = same-after xs ys zs (λ f. h (refl, f))
 
--- rows of vectors are elements
-pub row-low : (plan : Plan) (d : Draw) (i : ℕ) (X : Vector) → anyBeyond (rowFor plan d i X) ≡ false
-unfolding rowOf
-row-low plan d i X =
-    elements-pass (rowFor plan d i X)
-    (elements-append (numbers (plan .t + 1) (X .v i)) _ (numbers-elements (plan .t + 1) (X .v i))
-    (elements-append (numbers (plan .n) _) (numbers (plan .n) _) (numbers-elements (plan .n) _) (numbers-elements (plan .n) _)))
-
 -- ---- one post in both runs, with the same marks
 
 pub record Twin : Type 0 where
@@ -68,7 +57,7 @@ pub record Twin : Type 0 where
   pub marks : Marks
   pub vec : ℕ → Vector
   pub vec' : ℕ → Vector
-  pub near : (r : ℕ) → r < rowCount → markOf marks r ≢ empty → Near (plan .n) (plan .t + 1) (pointOf draw) K (vec r) (vec' r)
+  pub near : (r : ℕ) → r < rowCount → markOf marks r ≢ empty → Near (planShape plan) (pointOf draw) K (vec r) (vec' r)
   pub post : ℕ
   pub low : 1 ≤ post
   pub high : post ≤ plan .n
@@ -116,13 +105,13 @@ module _ (T : Twin) where
   elements-same x r is =
       ap anyBeyond (held-row one x r is) ∙ row-low plan d i (vec x) ∙ sym (ap anyBeyond (held-row two x r is) ∙ row-low plan d i (vec' x))
 
-  there : (x : ℕ) {m : ℕ} → x ≤ lastRow → markOf M x ≡ suc m → Near (plan .n) (plan .t + 1) (pointOf d) K (vec x) (vec' x)
+  there : (x : ℕ) {m : ℕ} → x ≤ lastRow → markOf M x ≡ suc m → Near (planShape plan) (pointOf d) K (vec x) (vec' x)
   there x r is = near x (omega arith) (λ e. omega arith)
 
   -- a row of one number in both runs; a difference of one number
   pub row-same : (x : ℕ) {m : ℕ} → x ≤ lastRow → markOf M x ≡ suc m → number (vec x) ≡ number (vec' x) → rowAt W l x ≡ rowAt W l' x
   row-same x r is e =
-      held-row one x r is ∙ near-same (plan .n) (plan .t + 1) (pointOf d) K (vec x) (vec' x) (there x r is) e i lo hi
+      held-row one x r is ∙ near-same (planShape plan) (pointOf d) K (vec x) (vec' x) (there x r is) e i lo hi
       ∙ sym (held-row two x r is)
 
   pub mask-same : (a x : ℕ) {m : ℕ} → a ≤ lastRow → markOf M a ≡ held → x ≤ lastRow → markOf M x ≡ suc m
@@ -130,8 +119,8 @@ module _ (T : Twin) where
       → combined (p - 1) (rowAt W l a) (rowAt W l x) ≡ combined (p - 1) (rowAt W l' a) (rowAt W l' x)
   mask-same a x ra ia rx ix e =
       combined-row one (p - 1) a x (held-row one a ra ia) (held-row one x rx ix)
-      ∙ near-same (plan .n) (plan .t + 1) (pointOf d) K (less (vec a) (vec x)) (less (vec' a) (vec' x))
-      (near-plusTimes (plan .n) (plan .t + 1) (pointOf d) K (p - 1) (vec a) (vec' a) (vec x) (vec' x) (there a ra ia) (there x rx ix)) e i lo hi
+      ∙ near-same (planShape plan) (pointOf d) K (less (vec a) (vec x)) (less (vec' a) (vec' x))
+      (near-plusTimes (planShape plan) (pointOf d) K (p - 1) (vec a) (vec' a) (vec x) (vec' x) (there a ra ia) (there x rx ix)) e i lo hi
       ∙ sym (combined-row two (p - 1) a x (held-row two a ra ia) (held-row two x rx ix))
 
   -- ---- the calls
