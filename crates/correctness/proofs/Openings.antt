@@ -1,6 +1,6 @@
 -- One post that stands by the ledger: what its openings give, and that it accepts what is true, for every record that 5 and 8
 -- let pass.
-use Prim.Native.Nat.{ℕ, _+_, _-_, _≤_}
+use Prim.Native.Nat.{ℕ, _-_, _≤_}
 use mathlib.Core.Path.{_≡_, refl, sym, _∙_, ap, subst}
 use mathlib.Core.Bool.{Bool, true, false}
 use mathlib.Core.Logic.{_≢_, _⊎_, inl, inr}
@@ -8,7 +8,6 @@ use mathlib.Core.List.{List}
 use native.Mathlib.Decide.{ℕ-discrete}
 use native.Mathlib.Omega.{arith}
 use lib.ListN.{take, drop}
-use Rattle.field.specs.Modulus.{p}
 use Rattle.shape.specs.Bounds.{lastRow}
 use Rattle.shape.specs.Marks.{held, masked}
 use Rattle.shape.specs.Lengths.{needed, vLength}
@@ -27,8 +26,8 @@ use Rattle.vectors.proofs.Shares.{true-agree}
 use Rattle.vectors.proofs.Theorems.{opening-exact}
 use Rattle.runs.specs.Draws.{Plan, Draw, planShape}
 use Rattle.runs.specs.Calls.{Proper, Post}
-use Rattle.runs.proofs.Marks.{markOf, rememberedA, rememberedB, maskVectorA, maskVectorB}
-use Rattle.runs.proofs.Holds.{combined-row}
+use Rattle.runs.proofs.Marks.{markOf, maskVectorA, maskVectorB}
+use Rattle.runs.proofs.Finishing.{opens-a, opens-b}
 use Rattle.runs.proofs.Records.{own-true}
 use Rattle.runs.proofs.Start.{sizes}
 use Rattle.correctness.specs.History.{World}
@@ -36,7 +35,7 @@ use Rattle.correctness.specs.Ledger.{Ledger, Plain}
 use Rattle.correctness.specs.Truth.{TrueMask, TrueOf}
 use Rattle.correctness.specs.Claim.{howMany, Opens, Collects, Right}
 use Rattle.correctness.proofs.Meanings.{Is, plain}
-use Rattle.correctness.proofs.Accepting.{Formed, too-few, not-few, formed}
+use Rattle.correctness.proofs.Accepting.{Formed, too-few, not-few, formed, enough-accepted}
 use Rattle.correctness.proofs.Fitting.{all-true-of, enough-true-of, AllSaid, told-a, told-b}
 use Rattle.correctness.proofs.Permitted as Permitted
 use Rattle.correctness.proofs.Permitted.{Stander, holder, below, is-row, open-passes, waiting, collect-few, collect-done, collect-otherwise, multiply-done}
@@ -73,12 +72,10 @@ module _ (G : Stander) where
 
   module _ (r : ℕ) (five : markOf M r ≡ masked) where
     pub mask-a : Finish.maskA s l r ≡ heldRow s (maskVectorA M vec r)
-    mask-a = combined-row (holder G) (p - 1) (rememberedA M r) r (is-row G (rememberedA M r) (waiting G r five .a-held)) (is-row G r five)
+    mask-a = opens-a (holder G) r (waiting G r five)
 
     pub mask-b : Finish.maskB s l r ≡ heldRow s (maskVectorB M vec r)
-    mask-b =
-        combined-row (holder G) (p - 1) (rememberedB M r) (r + 1) (is-row G (rememberedB M r) (waiting G r five .b-held))
-        (is-row G (r + 1) (waiting G r five .second))
+    mask-b = opens-b (holder G) r (waiting G r five)
 
   module _ (P : ℕ → ℕ → List ℕ → Type 0) (truth : Reliable plan draw L P) where
     sent-is : (r : ℕ) (blocks : List ℕ) (j : ℕ) → markOf M r ≡ held → Proper s blocks → 1 ≤ j → j ≤ plan .n → j ≢ i
@@ -92,7 +89,7 @@ module _ (G : Stander) where
       few = λ e. ap (λ (o : Answer). o .refusal) (open-nine s l r blocks clear (too-few s (row r) blocks e));
       exact = λ e t.
           number-given (opening-exact s (vec r) l r blocks clear is-held .1 (enough e) (all-true-of s (vec r) blocks (P r) (row r) is-held gives t));
-      agreed = λ e t. elim (opening-exact s (vec r) l r blocks clear is-held .2 (enough e) (enough-true-of s (vec r) blocks (P r) (row r) is-held gives t)) [
+      agreed = λ t. elim (opening-exact s (vec r) l r blocks clear is-held .2 (enough (enough-accepted (P r) s (row r) blocks t)) (enough-true-of s (vec r) blocks (P r) (row r) is-held gives t)) [
         | inl o ↦ inl (number-given o)
         | inr o ↦ inr (ap (λ (o : Answer). o .refusal) o)
       ];

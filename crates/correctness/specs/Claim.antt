@@ -51,8 +51,7 @@ pub record Answered (L : Ledger) (P : ℕ → List ℕ → Type 0) (q : Post) (r
   pub few : howMany (q .session) (rowAt (width (q .session)) (q .rows) r) blocks < needed (shapeOf (q .session)) → o .refusal ≡ 9
   pub exact : needed (shapeOf (q .session)) ≤ howMany (q .session) (rowAt (width (q .session)) (q .rows) r) blocks
       → TrueOf P (q .session) (rowAt (width (q .session)) (q .rows) r) blocks → (o .refusal ≡ 0) × Plain L r (o .value)
-  pub agreed : needed (shapeOf (q .session)) ≤ howMany (q .session) (rowAt (width (q .session)) (q .rows) r) blocks
-      → EnoughTrue P (q .session) (rowAt (width (q .session)) (q .rows) r) blocks
+  pub agreed : EnoughTrue P (q .session) (rowAt (width (q .session)) (q .rows) r) blocks
       → ((o .refusal ≡ 0) × Plain L r (o .value)) ⊎ (o .refusal ≡ 13)
   pub otherwise : needed (shapeOf (q .session)) ≤ howMany (q .session) (rowAt (width (q .session)) (q .rows) r) blocks
       → (o .refusal ≡ 0) ⊎ (o .refusal ≡ 13)

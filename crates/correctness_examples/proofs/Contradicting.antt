@@ -55,7 +55,7 @@ by-theorem : ((refusalWith false-low ≡ 0) × Plain ledger 0 (openAnswer (opene
 unfolding Computes plan drawWith drawn draw dealing
 by-theorem =
     correct plan draw ledger Everyone zeros dealing premises 1 (lit≤ tt) (lit≤ tt) tt .opens 0 false-low refl
-    (record { long = refl; low = refl }) .agreed (lit≤ tt)
+    (record { long = refl; low = refl }) .agreed
     (two-true 1 3 refl (omega arith) (lit≤ tt, lit≤ tt, refl, λ ne. absurd (ne refl)) (lit≤ tt, lit≤ tt, refl, λ ne. (tt, inl (inl refl))))
 
 -- and where all are, it is the plain number

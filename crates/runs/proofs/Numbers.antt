@@ -71,6 +71,11 @@ product-number a b l l' l'' e =
     is-y' : element (y' .0) ≡ number b ⊕ neg 1ᴱ ⊗ number l'
     is-y' = element-of-number y' ∙ less-number b l'
 
+-- the number that a dealer gives, where both of its numbers are elements
+pub dealer-number : (u f : ℕ) → u < p → f < p → dealerNumber u f .value ≡ difference u f
+unfolding dealerRefusal outcome
+dealer-number u f h k = rw (element-test u h, element-test f k) refl
+
 module _ (plan : Plan) (draw : Draw) where
   positive : 0 < drawnLength plan
   positive = omega arith
@@ -99,10 +104,6 @@ module _ (plan : Plan) (draw : Draw) where
         go : Dec (rowCount ≤ r) → Elements (getD (draw .raws) r [])
         go (yes h) = rw (List·getD-eq-default (draw .raws) [] {n = r} (omega (arith, is .raws .count))) tt
         go (no h) = is .raws .each r (omega arith) .1
-
-    dealer-number : (u f : ℕ) → u < p → f < p → dealerNumber u f .value ≡ difference u f
-    unfolding dealerRefusal outcome
-    dealer-number u f h k = rw (element-test u h, element-test f k) refl
 
     -- c = u − f(0): the row's number is u
     pub dealt-number : (r u : ℕ) → u < p

@@ -187,6 +187,9 @@ module _ (plan : Plan) (draw : Draw) where
 
 -- ---- There are as many marks as rows.
 
+pub nonzero : (M : Marks) (r : ℕ) {m : ℕ} → markOf M r ≡ suc m → markOf M r ≢ empty
+nonzero M r e g = omega arith
+
 pub marked-low : (M : Marks) → Sized M → (r : ℕ) {m : ℕ} → markOf M r ≡ suc m → r < rowCount
 marked-low M z r e = elim (decLt r rowCount) [
   | yes low ↦ low

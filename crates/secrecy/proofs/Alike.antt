@@ -20,7 +20,7 @@ use Rattle.runs.proofs.Outlines.{every-all}
 use Rattle.runs.proofs.Marks.{Marks, Sized, markOf, less, rawVector, Masking, of, masking, marksBy}
 use Rattle.runs.proofs.Outcomes.{refusalOf, refusal-is, silent}
 use Rattle.runs.proofs.Facts.{AllowedAll, Allowed, Sendable}
-use Rattle.runs.proofs.Rows.{sized-by, held-by}
+use Rattle.runs.proofs.Rows.{sized-by, held-by, nonzero}
 use Rattle.runs.proofs.Allowed.{allowed}
 use Rattle.runs.proofs.Steps.{own-numbers, Says, SaysAll, says}
 use Rattle.secrecy.specs.Steps.{Step, callAt}
@@ -70,9 +70,6 @@ module _ (T : Two) (m : Moments) (R : Pair T m) (i : ℕ) (lo : 1 ≤ i) (hi : i
       ∙ ap (take k) (near-same (planShape (T .plan)) (pointOf (T .d)) (T .K) S S' h e i lo hi)
       ∙ own-numbers (planShape (T .plan)) i (element (pointOf (T .d) i)) S'
 
-  nonzero : (r : ℕ) {m : ℕ} → markOf M r ≡ suc m → markOf M r ≢ empty
-  nonzero r e g = omega arith
-
   mask-numbers : (x y : ℕ) → x < rowCount → markOf M x ≢ empty → y < rowCount → markOf M y ≢ empty → number (less (vec x) (vec y)) ≡ number (less (vec' x) (vec' y))
       → numbers k (less (vec x) (vec y) .v i) ≡ numbers k (less (vec' x) (vec' y) .v i)
   mask-numbers x y lx hx ly hy e =
@@ -84,15 +81,15 @@ module _ (T : Two) (m : Moments) (R : Pair T m) (i : ℕ) (lo : 1 ≤ i) (hi : i
     part-same : (s : Sending) (xs xs' : List ℕ) → Sendable todo M s → Says (T .plan) (T .d) i vec s xs → Says (T .plan) (T .d') i vec' s xs'
         → AgreesBy 0 b b' s → xs ≡ xs'
     part-same (itsOpening r) xs xs' ok said said' agree =
-        said ∙ numbers-same (vec r) (vec' r) (near r (ok .0) (nonzero r (ok .1))) (place-number T m R r (ok .0) (ok .1) (agree refl)) ∙ sym said'
+        said ∙ numbers-same (vec r) (vec' r) (near r (ok .0) (nonzero M r (ok .1))) (place-number T m R r (ok .0) (ok .1) (agree refl)) ∙ sym said'
     part-same (itsMasks x y r) xs xs' ok said said' agree =
         let o = ok .0 in
         let f = fit-among T todo M b b' (R .one .sized) al fit x y r (ok .1) (o .a-held) (o .b-held) in
         let lr : r < rowCount = omega (arith, o .r-low) in
         let e = masks-number T m R r x y lr (inl (o .first)) (o .a-low) (o .a-held) (o .b-low) (o .b-held) (f .0) (f .1) in
         said
-        ∙ ap₂ _++_ (mask-numbers x r (o .a-low) (nonzero x (o .a-held)) lr (nonzero r (o .first)) (e .0))
-        (mask-numbers y (r + 1) (o .b-low) (nonzero y (o .b-held)) (omega (arith, o .r-low)) (nonzero (r + 1) (o .second)) (e .1))
+        ∙ ap₂ _++_ (mask-numbers x r (o .a-low) (nonzero M x (o .a-held)) lr (nonzero M r (o .first)) (e .0))
+        (mask-numbers y (r + 1) (o .b-low) (nonzero M y (o .b-held)) (omega (arith, o .r-low)) (nonzero M (r + 1) (o .second)) (e .1))
         ∙ sym said'
 
     parts-same : (ss : List Sending) (parts parts' : List (List ℕ)) → All (Sendable todo M) ss → SaysAll (T .plan) (T .d) i vec ss parts

@@ -8,7 +8,6 @@ use mathlib.Core.List.{List, [], _∷_, _++_}
 use native.Mathlib.Omega.{arith}
 use lib.ListN.{length, getD, length-append}
 use Rattle.field.specs.Modulus.{p}
-use Rattle.field.specs.Arithmetic.{difference}
 use Rattle.field.specs.Algebra.{CommutativeRing}
 use Rattle.field.specs.Element.{Element, element}
 use Rattle.field.proofs.Modular.{difference-below}
@@ -17,23 +16,19 @@ use Rattle.field.proofs.Solver.{solve}
 use Rattle.field.proofs.Elements.{𝓡, element-injective, element-difference}
 use Rattle.poly.specs.Counting.{Elements}
 use Rattle.poly.proofs.Lists.{all-zip}
-use Rattle.refusal.specs.Refusal.{_when_}
-use Rattle.refusal.specs.Conditions.{beyond, anyBeyond}
+use Rattle.refusal.specs.Conditions.{anyBeyond}
 use Rattle.shape.specs.Bounds.{rowCount}
-use Rattle.refusal.proofs.Laws.{not-refused}
 use Rattle.refusal.proofs.Ranges.{posts-passed}
-use Rattle.refusal.proofs.Elements.{element-test}
 use Rattle.factory.specs.Draw.{part, firstDraw, secondDraw, thirdDraw}
-use Rattle.factory.specs.Packs.{dealerRefusal, dealerNumber}
-use Rattle.factory.specs.declared.Number.{Number}
+use Rattle.factory.specs.Packs.{dealerNumber}
 use Rattle.factory.proofs.Laws.{elements-append}
 use Rattle.vectors.specs.Vector.{Vector, rowOf, vectorOf}
 use Rattle.runs.specs.Draws.{Plan, planShape, Raw, none, by, IsRaw, whenRaw, Sound, Draw, IsDraw, drawnLength, rawLength, tripleLength, pointOf, rawDraw, tripleDraw, rawPack, triplePack}
 use Rattle.runs.proofs.Start.{all-at}
 use Rattle.runs.proofs.Marks.{rawVector, vectorA, vectorB, vectorAB}
-use Rattle.runs.proofs.Outcomes.{done-is}
 use Rattle.runs.proofs.Lines.{elements-pass}
 use Rattle.runs.proofs.Packs.{rowFor, Drawn, raw-drawn, a-drawn, b-drawn, ab-drawn, raw-pack, triple-pack}
+use Rattle.runs.proofs.Numbers.{dealer-number}
 use Rattle.runs.proofs.Holds.{row-wide, row-elements}
 use Rattle.secrecy.specs.Steps.{Secrets, dealtNumber}
 use Rattle.secrecy.specs.Claim.{Group}
@@ -55,14 +50,6 @@ raw-or (by dealer) = inr tt
 true-or : (b : Bool) → (b ≡ false) ⊎ (b ≡ true)
 true-or true = inr refl
 true-or false = inl refl
-
--- the number that a dealer gives, where both of its numbers are elements
-dealer-value : (x y : ℕ) → x < p → y < p → dealerNumber x y .value ≡ difference x y
-unfolding dealerRefusal
-dealer-value x y lx ly =
-    ap (λ (z : Number). z .value)
-    (done-is (dealerRefusal x y) _ _
-    (not-refused (8 when beyond x ∷ 8 when beyond y ∷ []) (element-test x lx, (element-test y ly, tt))))
 
 -- ---- two packs of elements, as long
 
@@ -159,12 +146,12 @@ module _ (plan : Plan) (group : List ℕ) (u u' : Secrets) (Δ : ℕ → Gaps) (
           ap (λ (l : List ℕ). element (getD l 0 0)) (moved-raw plan group u u' Δ d r)
           ∙ shift-constant (layout plan group d) (secretGap u u' r) (rawDraw d r) (layout-unit plan group d sound few is)
           (some-drawn _ drawn) in
-          dealer-value (u r) f0 (secrets r raw .0) (low _ drawn)
+          dealer-number (u r) f0 (secrets r raw .0) (low _ drawn)
           ∙ element-injective _ _ (difference-below (u r) f0) (difference-below (u' r) f1)
           (element-difference (u r) f0
           ∙ solve 𝓡 (element (u r) ∷ element (u' r) ∷ element f0 ∷ []) (A :- C) (B :- (C :+ (B :- A))) refl
           ∙ ap (λ (z : Element). element (u' r) ⊕ neg z) (sym new) ∙ sym (element-difference (u' r) f1))
-          ∙ sym (dealer-value (u' r) f1 (secrets r raw .1) (low _ (raw-drawn plan d' is' r row raw)))
+          ∙ sym (dealer-number (u' r) f1 (secrets r raw .1) (low _ (raw-drawn plan d' is' r row raw)))
 
   -- ---- packs
 

@@ -22,8 +22,8 @@ use Rattle.runs.proofs.Outlines.{every-all}
 use Rattle.runs.proofs.Marks.{Marks, markOf, remarked, finished, maskVectorA, maskVectorB, zeroVector, worthVector, totalVector, productSum, written, Masking, none, of, masking, marksBy, vectorsBy, marksAll, vectorsAll, at-same, at-other}
 use Rattle.runs.proofs.Outcomes.{refusalOf, refusal-is}
 use Rattle.runs.proofs.Facts.{HeldIn, AllowedBy, AllowedAll, Allowed, MasksBy, Tripled}
-use Rattle.runs.proofs.Rows.{sized-by, five-by}
-use Rattle.secrecy.specs.Steps.{Fixed, Step, Pack, Number, own, sent, packed, dealtWith, callAt, heardFrom, dealtNumber}
+use Rattle.runs.proofs.Rows.{sized-by, five-by, nonzero}
+use Rattle.secrecy.specs.Steps.{Fixed, Step, Pack, Number, own, sent, packed, callAt, heardFrom, dealtNumber}
 use Rattle.secrecy.specs.Seen.{posts, joined, linesOf}
 use Rattle.secrecy.specs.Rules.{RuleWith, Rule}
 use Rattle.secrecy.specs.Book.{Book, Agrees, enteredBy, enteredAll, entered}
@@ -32,6 +32,7 @@ use Rattle.secrecy.proofs.Entered.{notedA, notedB, noted-is, notes-by}
 use Rattle.secrecy.proofs.State.{facts-step}
 use Rattle.secrecy.proofs.Near.{Near, near-self, near-plusTimes, near-raised}
 use Rattle.secrecy.proofs.Pair.{Two, runOne, runTwo, Moments, Pair, apart, Core, core, core-wait, FitBy, FitAll, Fit}
+use Rattle.secrecy.proofs.Answers.{number-same}
 use Rattle.secrecy.proofs.Alike.{Same, same-answers}
 
 -- a map over the posts 1 to n
@@ -72,16 +73,12 @@ module _ (T : Two) (m : Moments) (R : Pair T m) where
     pack-same (own m) packs packs' i e = e m
     pack-same (Pack.fixed xs) packs packs' i e = refl
 
-    number-same : (r : ℕ) (x : Number) → dealtWith x (dealtNumber (T .plan) (T .d) (T .u) r) ≡ dealtWith x (dealtNumber (T .plan) (T .d') (T .u') r)
-    number-same r sent = T .link .deals r
-    number-same r (Number.fixed x) = refl
-
     calls-same : (i : ℕ) (x : Step) → ((m : ℕ) → rawPack (T .plan) (T .d) i m ≡ rawPack (T .plan) (T .d') i m)
         → ((m : ℕ) → triplePack (T .plan) (T .d) i m ≡ triplePack (T .plan) (T .d') i m) → c1 i x ≡ c2 i x
     calls-same i x e f = λ j. filled (record {
       row = λ pack. pack-same pack (rawPack (T .plan) (T .d)) (rawPack (T .plan) (T .d')) i e j;
       triple = λ pack. pack-same pack (triplePack (T .plan) (T .d)) (triplePack (T .plan) (T .d')) i f j;
-      number = λ r c. number-same r c j;
+      number = λ r c. number-same T r c j;
       blocks = λ blocks. blocks i lines;
       lent = λ lent. lent i;
       heard = λ heard. tt;
@@ -150,20 +147,17 @@ module _ (T : Two) (lines : List (List ℕ)) where
         (totalVector vec t' ts) (totalVector vec' t' ts) (near-worth t h) (near-total t' ts (hs .0) (hs .1))
 
   module _ (M : Marks) (vec vec' : ℕ → Vector) (b b' : Book) (K : Core T M vec vec' b b') where
-    nonzero : (r : ℕ) {m : ℕ} → markOf M r ≡ suc m → markOf M r ≢ empty
-    nonzero r e g = omega arith
-
     -- a sum of held rows
     near-of : (t : Summand) → HeldIn M t → NearIn vec vec' t
-    near-of (once a) h = K .near a (h .0) (nonzero a (h .1))
-    near-of (times s x) h = K .near x (h .0) (nonzero x (h .1))
+    near-of (once a) h = K .near a (h .0) (nonzero M a (h .1))
+    near-of (times s x) h = K .near x (h .0) (nonzero M x (h .1))
     near-of (fee k) h = tt
 
     near-finish : (x : ℕ) → Tripled collected M x
         → AllNear (finished M x) (at vec (x + 2) (written M vec x)) (at vec' (x + 2) (written M vec' x))
     near-finish x al =
         near-put (remarked (remarked M x spent) (x + 1) spent) vec vec'
-        (near-mark (remarked M x spent) vec vec' (near-mark M vec vec' (K .near) x spent (nonzero x (al .first))) (x + 1) spent second) (x + 2) held (written M vec x) (written M vec' x) new
+        (near-mark (remarked M x spent) vec vec' (near-mark M vec vec' (K .near) x spent (nonzero M x (al .first))) (x + 1) spent second) (x + 2) held (written M vec x) (written M vec' x) new
       where
         second : markOf (remarked M x spent) (x + 1) ≢ empty
         second g = omega (arith, getD-set-other (M .marks) x (x + 1) spent 0 (omega arith), al .second)
@@ -181,13 +175,13 @@ module _ (T : Two) (lines : List (List ℕ)) where
         y' = number (maskVectorB M vec x) .0
 
         n0 : Nearly (vec x) (vec' x)
-        n0 = K .near x (omega (arith, low)) (nonzero x (al .first))
+        n0 = K .near x (omega (arith, low)) (nonzero M x (al .first))
 
         n1 : Nearly (vec (x + 1)) (vec' (x + 1))
-        n1 = K .near (x + 1) (omega (arith, low)) (nonzero (x + 1) (al .second))
+        n1 = K .near (x + 1) (omega (arith, low)) (nonzero M (x + 1) (al .second))
 
         n2 : Nearly (vec (x + 2)) (vec' (x + 2))
-        n2 = K .near (x + 2) (omega (arith, low)) (nonzero (x + 2) (al .third))
+        n2 = K .near (x + 2) (omega (arith, low)) (nonzero M (x + 2) (al .third))
 
         new : Nearly (written M vec x) (written M vec' x)
         new =
@@ -214,13 +208,13 @@ module _ (T : Two) (lines : List (List ℕ)) where
     near-by (deals r) sent al rule =
         near-put M vec vec' (K .near) r held _ _
         (subst (λ (c : ℕ). Near (planShape (T .plan)) (pointOf (T .d)) (T .K) (raised (element (dealtNumber (T .plan) (T .d) (T .u) r)) (vec r)) (raised (element c) (vec' r))) (T .link .deals r)
-        (near-raised (planShape (T .plan)) (pointOf (T .d)) (T .K) (dealtNumber (T .plan) (T .d) (T .u) r) (vec r) (vec' r) (K .near r (al .0 .0) (nonzero r (al .0 .1)))))
+        (near-raised (planShape (T .plan)) (pointOf (T .d)) (T .K) (dealtNumber (T .plan) (T .d) (T .u) r) (vec r) (vec' r) (K .near r (al .0 .0) (nonzero M r (al .0 .1)))))
     near-by (deals r) (Number.fixed x) al rule = absurd (rule refl)
     near-by (opens r) blocks al rule = K .near
     near-by (sums r t ts) x al rule =
         near-put M vec vec' (K .near) r held _ _ (near-total vec vec' t ts (near-of t (al .0 .held .0)) (all-map near-of ts (al .0 .held .1)))
-    near-by (factors x y r) t al rule = near-mark M vec vec' (K .near) r masked (nonzero r (al .1 .first))
-    near-by (collects r) blocks al rule = near-mark M vec vec' (K .near) r collected (nonzero r (al .0 .first))
+    near-by (factors x y r) t al rule = near-mark M vec vec' (K .near) r masked (nonzero M r (al .1 .first))
+    near-by (collects r) blocks al rule = near-mark M vec vec' (K .near) r collected (nonzero M r (al .0 .first))
     near-by (multiplies r) x al rule = near-finish r (al .0)
 
     -- a triple whose masks the act makes: they are those that were reckoned with

@@ -7,13 +7,14 @@ use mathlib.Core.List.{List, [], _∷_}
 use mathlib.Core.Option.{Option, some, IsSome}
 use native.Mathlib.Omega.{arith}
 use borrow.Author.Tests.{eqb-true, eqb-false, not-true}
-use lib.Dec.{eqb, lit<}
+use lib.Dec.{eqb}
 use lib.ListN.{length, getD}
 use Rattle.field.specs.Modulus.{p}
 use Rattle.poly.specs.Counting.{All, Elements}
 use Rattle.shape.specs.Bounds.{rowCount, lastRow, lastTriple}
 use Rattle.refusal.specs.Refusal.{first}
 use Rattle.refusal.specs.Conditions.{postsTests}
+use Rattle.vectors.proofs.Draws.{element-at}
 use Rattle.runs.specs.Draws as Draws
 use Rattle.runs.specs.Draws.{Raw, Plan, Draw, IsRaw, Sound, Lists, IsDraw, rawLength, tripleLength}
 use Rattle.runs.specs.Calls.{Among}
@@ -66,11 +67,6 @@ module _ (P : ℕ → Type 0) where
       go : (b : Bool) → eqb r x ≡ b → (b || member r xs) ≡ true → (member r xs ≡ true → P r) → P r
       go true e m h = subst P (sym (eqb-true r x e)) (a .0)
       go false e m h = h m
-
-pub of-list : (us : List ℕ) → Elements us → (r : ℕ) → getD us r 0 < p
-of-list [] a r = lit< tt
-of-list (u ∷ us) a zero = a .0
-of-list (u ∷ us) a (suc r) = of-list us (a .1) r
 
 pub outside-group : (group : List ℕ) (d x y : ℕ) → not (member d group) ≡ true
     → (dealer : ℕ) → Draws.by d ≡ Draws.by dealer → member dealer group ≡ true → x ≡ y
@@ -125,7 +121,7 @@ module _ (x : Example) where
       some (λ s g e e' d a k q. record {
         sound = s;
         group-few = g;
-        secrets = λ r raw. (of-list (x .secrets) e r, of-list (x .secrets') e' r);
+        secrets = λ r raw. (element-at (x .secrets) e r, element-at (x .secrets') e' r);
         dealers = d;
         same-answers = a;
         rules = k;
