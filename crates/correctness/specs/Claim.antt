@@ -38,23 +38,31 @@ pub record Premises (plan : Plan) (draw : Draw) (L : Ledger) (S : ℕ → Type 0
 abbrev pub howMany : Session → List ℕ → List ℕ → ℕ
 howMany s row blocks = length (accepted s row blocks)
 
+-- Fewer than t+1; t+1 or more.
+abbrev pub TooFew : Session → List ℕ → List ℕ → Type 0
+TooFew s row blocks = howMany s row blocks < needed (shapeOf s)
+
+abbrev pub Enough : Session → List ℕ → List ℕ → Type 0
+Enough s row blocks = needed (shapeOf s) ≤ howMany s row blocks
+
+-- A post's row r.
+abbrev pub rowIn : Post → ℕ → List ℕ
+rowIn q r = rowAt (width (q .session)) (q .rows) r
+
 -- Where each polynomial accepted is truly its sender's, at least t+1 are.
 abbrev pub AllIsEnough : Type 1
 AllIsEnough =
-    (P : ℕ → List ℕ → Type 0) (s : Session) (row blocks : List ℕ) → needed (shapeOf s) ≤ howMany s row blocks → TrueOf P s row blocks
-    → EnoughTrue P s row blocks
+    (P : ℕ → List ℕ → Type 0) (s : Session) (row blocks : List ℕ) → Enough s row blocks → TrueOf P s row blocks → EnoughTrue P s row blocks
 
 -- Post q opens the held row r with a record, and o is the answer. P j xs says that xs is truly j's polynomial of that row. Fewer
 -- than t+1 accepted: 9. Each accepted polynomial true: the number, and never 13. At least t+1 of them true, whichever they are: the
 -- number, or 13 (document 02, (iv)). Otherwise a number, or 13.
 pub record Answered (L : Ledger) (P : ℕ → List ℕ → Type 0) (q : Post) (r : ℕ) (blocks : List ℕ) (o : Answer) : Type 0 where
-  pub few : howMany (q .session) (rowAt (width (q .session)) (q .rows) r) blocks < needed (shapeOf (q .session)) → o .refusal ≡ 9
-  pub exact : needed (shapeOf (q .session)) ≤ howMany (q .session) (rowAt (width (q .session)) (q .rows) r) blocks
-      → TrueOf P (q .session) (rowAt (width (q .session)) (q .rows) r) blocks → (o .refusal ≡ 0) × Plain L r (o .value)
-  pub agreed : EnoughTrue P (q .session) (rowAt (width (q .session)) (q .rows) r) blocks
-      → ((o .refusal ≡ 0) × Plain L r (o .value)) ⊎ (o .refusal ≡ 13)
-  pub otherwise : needed (shapeOf (q .session)) ≤ howMany (q .session) (rowAt (width (q .session)) (q .rows) r) blocks
-      → (o .refusal ≡ 0) ⊎ (o .refusal ≡ 13)
+  pub few : TooFew (q .session) (rowIn q r) blocks → o .refusal ≡ 9
+  pub exact : Enough (q .session) (rowIn q r) blocks → TrueOf P (q .session) (rowIn q r) blocks
+      → (o .refusal ≡ 0) × Plain L r (o .value)
+  pub agreed : EnoughTrue P (q .session) (rowIn q r) blocks → ((o .refusal ≡ 0) × Plain L r (o .value)) ⊎ (o .refusal ≡ 13)
+  pub otherwise : Enough (q .session) (rowIn q r) blocks → (o .refusal ≡ 0) ⊎ (o .refusal ≡ 13)
 
 abbrev pub Opens : Ledger → (ℕ → List ℕ → Type 0) → Post → ℕ → List ℕ → Type 0
 Opens L P q r blocks = Answered L P q r blocks (openAnswer (q .session) (q .rows) r blocks)
@@ -68,15 +76,12 @@ Done q r blocksA blocksB =
 -- Post q collects the masks of the triple at r, which it made: 9, where either record has too few; done, where each accepted
 -- polynomial of both is true; otherwise done, or 13. PA and PB say whose the polynomials of a − l and of b − l' are.
 pub record Collects (PA PB : ℕ → List ℕ → Type 0) (q : Post) (r : ℕ) (blocksA blocksB : List ℕ) : Type 0 where
-  pub few : (howMany (q .session) (maskA (q .session) (q .rows) r) blocksA < needed (shapeOf (q .session)))
-      ⊎ (howMany (q .session) (maskB (q .session) (q .rows) r) blocksB < needed (shapeOf (q .session)))
+  pub few : TooFew (q .session) (maskA (q .session) (q .rows) r) blocksA ⊎ TooFew (q .session) (maskB (q .session) (q .rows) r) blocksB
       → collectAnswer (q .session) (q .rows) r blocksA blocksB .refusal ≡ 9
-  pub exact : needed (shapeOf (q .session)) ≤ howMany (q .session) (maskA (q .session) (q .rows) r) blocksA
-      → needed (shapeOf (q .session)) ≤ howMany (q .session) (maskB (q .session) (q .rows) r) blocksB
+  pub exact : Enough (q .session) (maskA (q .session) (q .rows) r) blocksA → Enough (q .session) (maskB (q .session) (q .rows) r) blocksB
       → TrueOf PA (q .session) (maskA (q .session) (q .rows) r) blocksA
       → TrueOf PB (q .session) (maskB (q .session) (q .rows) r) blocksB → Done q r blocksA blocksB
-  pub otherwise : needed (shapeOf (q .session)) ≤ howMany (q .session) (maskA (q .session) (q .rows) r) blocksA
-      → needed (shapeOf (q .session)) ≤ howMany (q .session) (maskB (q .session) (q .rows) r) blocksB
+  pub otherwise : Enough (q .session) (maskA (q .session) (q .rows) r) blocksA → Enough (q .session) (maskB (q .session) (q .rows) r) blocksB
       → Done q r blocksA blocksB ⊎ (collectAnswer (q .session) (q .rows) r blocksA blocksB .refusal ≡ 13)
 
 -- Post q multiplies by the triple at r, whose masks it opened: done, and the third row held.
@@ -92,8 +97,8 @@ pub record Right (L : Ledger) (P : ℕ → ℕ → List ℕ → Type 0) (H : (Li
   -- of a held row: the own polynomial always, another's where it is truly its
   pub accepts-true : (r : ℕ) (blocks : List ℕ) (j : ℕ) → mark (q .session) r ≡ held → Proper (q .session) blocks
       → 1 ≤ j → j ≤ q .session .n
-      → (j ≢ q .session .post → P r j (sent (q .session) (rowAt (width (q .session)) (q .rows) r) blocks j))
-      → accepts (q .session) (rowAt (width (q .session)) (q .rows) r) blocks j ≡ true
+      → (j ≢ q .session .post → P r j (sent (q .session) (rowIn q r) blocks j))
+      → accepts (q .session) (rowIn q r) blocks j ≡ true
   pub collects : (r : ℕ) (blocksA blocksB : List ℕ) → mark (q .session) r ≡ masked → Proper (q .session) blocksA
       → Proper (q .session) blocksB
       → Collects (H (take (vLength (shapeOf (q .session)))) r) (H (drop (vLength (shapeOf (q .session)))) r) q r blocksA blocksB

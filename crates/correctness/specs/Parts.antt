@@ -36,9 +36,10 @@ FalseCaught =
 -- that xs, t+1 elements, is j's. What a record shows of j and is not j's passes at no more than t points.
 pub record PartOf (P : ℕ → List ℕ → Type 0) (s : Session) (row : List ℕ) (X : Vector) : Type 0 where
   pub part : row ≡ heldRow s X
-  pub polynomial : (j : ℕ) (xs : List ℕ) → 1 ≤ j → j ≤ s .n → length xs ≡ vLength (shapeOf s) → Elements xs → P j xs → xs ≡ numbers (vLength (shapeOf s)) (X .v j)
-  pub caught : (blocks : List ℕ) (j : ℕ) (xs : List ℕ) → 1 ≤ j → j ≤ s .n → j ≢ s .post → Proper s blocks → length xs ≡ vLength (shapeOf s) → Elements xs
-      → P j xs → (sent s row blocks j ≡ xs → ⊥) → pointsPassed s X blocks j < vLength (shapeOf s)
+  pub polynomial : (j : ℕ) (xs : List ℕ) → 1 ≤ j → j ≤ s .n → length xs ≡ vLength (shapeOf s) → Elements xs → P j xs
+      → xs ≡ numbers (vLength (shapeOf s)) (X .v j)
+  pub caught : (blocks : List ℕ) (j : ℕ) (xs : List ℕ) → 1 ≤ j → j ≤ s .n → j ≢ s .post → Proper s blocks
+      → length xs ≡ vLength (shapeOf s) → Elements xs → P j xs → (sent s row blocks j ≡ xs → ⊥) → pointsPassed s X blocks j < vLength (shapeOf s)
 
 -- The same numbers drawn, with other check points.
 abbrev pub withPoints : List ℕ → Draw → Draw
@@ -67,5 +68,7 @@ MaskParts =
     (plan : Plan) (draw : Draw) (L : Ledger) (S : ℕ → Type 0) (rows : ℕ → List ℕ) (es : List Event)
     → Premises plan draw L S es (begin plan draw rows) → (i r : ℕ) → 1 ≤ i → i ≤ plan .n → S i
     → mark (history es (begin plan draw rows) .posts i .session) r ≡ masked
-    → ((X : Vector) × OneVector plan draw L masked r (λ s rows. maskA s rows r) (λ S w. TrueMask S w (planShape plan) (take (vLength (planShape plan))) r) X)
-    × ((X : Vector) × OneVector plan draw L masked r (λ s rows. maskB s rows r) (λ S w. TrueMask S w (planShape plan) (drop (vLength (planShape plan))) r) X)
+    → ((X : Vector)
+    × OneVector plan draw L masked r (λ s rows. maskA s rows r) (λ S w. TrueMask S w (planShape plan) (take (vLength (planShape plan))) r) X)
+    × ((X : Vector)
+    × OneVector plan draw L masked r (λ s rows. maskB s rows r) (λ S w. TrueMask S w (planShape plan) (drop (vLength (planShape plan))) r) X)

@@ -9,11 +9,10 @@ use Rattle.field.specs.Modulus.{p}
 use Rattle.poly.specs.Counting.{All}
 use Rattle.shape.specs.Bounds.{rowCount}
 use Rattle.shape.specs.Marks.{empty as emptyMark, held, masked}
-use Rattle.shape.specs.Lengths.{needed, vLength}
+use Rattle.shape.specs.Lengths.{vLength}
 use Rattle.session.specs.declared.Session.{Session}
 use Rattle.session.specs.declared.Answer.{Answer}
 use Rattle.session.specs.Sessions.{mark, factorA, factorB, shapeOf}
-use Rattle.session.specs.Rows.{width, rowAt}
 use Rattle.opening.specs.Walking.{recordLength, badRecord}
 use Rattle.opening.specs.Opening.{openAnswer}
 use Rattle.terms.specs.declared.Term.{Term}
@@ -26,7 +25,8 @@ use Rattle.runs.specs.Calls.{Post, relationFinish, Proper}
 use Rattle.correctness.specs.History.{Event, World, doneBy, history, begin}
 use Rattle.correctness.specs.Ledger.{Ledger, summed, product, Plain}
 use Rattle.correctness.specs.Truth.{TruePolynomial, TrueMask, TrueOf}
-use Rattle.correctness.specs.Claim.{Premises, howMany}
+use Rattle.correctness.specs.Claim as Claim
+use Rattle.correctness.specs.Claim.{Premises, TooFew, rowIn}
 
 -- The sum over the terms of coefficient × (a or a × b), where `number` gives each row its number.
 abbrev pub termSum : (ℕ → ℕ) → List Term → ℕ
@@ -69,8 +69,7 @@ abbrev pub ShownAt : (ℕ → Type 0) → World → ℕ → (ℕ → ℕ) → Li
 ShownAt S w r number ts j =
     let q = w .posts j in
     (blocks : List ℕ) → mark (q .session) r ≡ held → Proper (q .session) blocks
-    → needed (shapeOf (q .session)) ≤ howMany (q .session) (rowAt (width (q .session)) (q .rows) r) blocks
-    → TrueOf (TruePolynomial S w r) (q .session) (rowAt (width (q .session)) (q .rows) r) blocks
+    → Claim.Enough (q .session) (rowIn q r) blocks → TrueOf (TruePolynomial S w r) (q .session) (rowIn q r) blocks
     → Shows number ts (openAnswer (q .session) (q .rows) r blocks)
 
 -- A finish of the relation, not refused at the post i of S, stands somewhere in a run: the row is held at that post from then on.
@@ -120,12 +119,12 @@ pub record Ready (q : Post) (ts : List Term) (r : ℕ) (blocks : List ℕ) : Typ
 abbrev pub Few : Post → List ℕ → ℕ → Term → Type 0
 Few q blocks k t =
     let s = q .session in
-    (howMany s (termMaskA s (q .rows) t) (recordA s blocks k) < needed (shapeOf s)) ⊎ (howMany s (termMaskB s (q .rows) t) (recordB s blocks k) < needed (shapeOf s))
+    TooFew s (termMaskA s (q .rows) t) (recordA s blocks k) ⊎ TooFew s (termMaskB s (q .rows) t) (recordB s blocks k)
 
 abbrev pub Enough : Post → List ℕ → ℕ → Term → Type 0
 Enough q blocks k t =
     let s = q .session in
-    (needed (shapeOf s) ≤ howMany s (termMaskA s (q .rows) t) (recordA s blocks k)) × (needed (shapeOf s) ≤ howMany s (termMaskB s (q .rows) t) (recordB s blocks k))
+    Claim.Enough s (termMaskA s (q .rows) t) (recordA s blocks k) × Claim.Enough s (termMaskB s (q .rows) t) (recordB s blocks k)
 
 abbrev pub AllTrue : ((List ℕ → List ℕ) → ℕ → ℕ → List ℕ → Type 0) → Post → List ℕ → ℕ → Term → Type 0
 AllTrue H q blocks k t =

@@ -78,7 +78,8 @@ module _ (plan : Plan) (group : List ℕ) (draw : Draw) (u : Secrets) where
 
   -- f of row r, "whose dealer is a post of the group"
   unfoldable pub polynomialSeen : ℕ → List ℕ
-  polynomialSeen r = elim (plan .raw r) [ none ↦ [] | by dealer ↦ cond (member dealer group) (drawnF (planShape plan) (rawDraw draw r)) [] ]
+  polynomialSeen r =
+      elim (plan .raw r) [ none ↦ [] | by dealer ↦ cond (member dealer group) (drawnF (planShape plan) (rawDraw draw r)) [] ]
 
   -- the D line of row r's dealer
   unfoldable pub dealSeen : ℕ → List ℕ
