@@ -1,5 +1,5 @@
 -- What the example and the counterexamples share: three posts, two raw rows and a triple; and how premises are shown by computing.
-use Prim.Native.Nat.{ℕ, zero, suc, _≤_, _<_}
+use Prim.Native.Nat.{ℕ, zero, suc, _-_, _≤_, _<_}
 use mathlib.Core.Path.{_≡_, refl, sym}
 use mathlib.Core.Logic.{_≢_}
 use mathlib.Core.Bool.{true}
@@ -12,6 +12,7 @@ use Rattle.field.specs.Arithmetic as Arithmetic
 use Rattle.poly.specs.Counting.{All, Elements, countFrom}
 use Rattle.poly.specs.Polynomial.{value}
 use Rattle.poly.specs.Interpolation.{nodal, weight, terms, interpolated}
+use Rattle.shape.specs.Bounds.{rowCount, lastRow}
 use Rattle.refusal.specs.Refusal.{outcome}
 use Rattle.refusal.specs.Conditions.{anyBeyond}
 use Rattle.parts.specs.Draw.{eachFrom, part}
@@ -59,7 +60,7 @@ pub sound : Sound plan
 unfolding plan
 sound = record { posts = refl; raws = raws; triples = λ r e. let g = eqb-true r 2 e in omega arith }
   where
-    raws : (r : ℕ) → IsRaw (plan .raw r) → r ≤ 95
+    raws : (r : ℕ) → IsRaw (plan .raw r) → r ≤ lastRow
     raws zero h = lit≤ tt
     raws (suc zero) h = lit≤ tt
     raws (suc (suc r)) h = absurd h
@@ -78,16 +79,16 @@ is-draw x many low = record {
   triples = record { count = refl; each = triples };
 }
   where
-    raws : (r : ℕ) → r < 96 → (length (getD (drawWith x .raws) r []) ≡ rawLength plan r) × Elements (getD (drawWith x .raws) r [])
+    raws : (r : ℕ) → r < rowCount → (length (getD (drawWith x .raws) r []) ≡ rawLength plan r) × Elements (getD (drawWith x .raws) r [])
     raws zero h = (refl, elements-of (getD (drawWith x .raws) 0 []) refl)
     raws (suc zero) h = (refl, elements-of (getD (drawWith x .raws) 1 []) refl)
-    raws (suc (suc r)) h = rw (none-there 94 r) (refl, tt)
+    raws (suc (suc r)) h = rw (none-there (rowCount - 2) r) (refl, tt)
 
-    triples : (r : ℕ) → r < 96 → (length (getD (drawWith x .triples) r []) ≡ tripleLength plan r) × Elements (getD (drawWith x .triples) r [])
+    triples : (r : ℕ) → r < rowCount → (length (getD (drawWith x .triples) r []) ≡ tripleLength plan r) × Elements (getD (drawWith x .triples) r [])
     triples zero h = (refl, tt)
     triples (suc zero) h = (refl, tt)
     triples (suc (suc zero)) h = (many, low)
-    triples (suc (suc (suc r))) h = rw (none-there 93 r, ne-eqb (suc (suc (suc r))) 2 (omega arith)) (refl, tt)
+    triples (suc (suc (suc r))) h = rw (none-there (rowCount - 3) r, ne-eqb (suc (suc (suc r))) 2 (omega arith)) (refl, tt)
 
 pub plain-6 : Plain ledger 0 6
 unfolding ledger

@@ -6,7 +6,6 @@ use mathlib.Core.Logic.{_≢_, inl, inr}
 use mathlib.Core.List.{List, [], _∷_, _++_}
 use native.Mathlib.Omega.{arith}
 use lib.Dec.{lit<, lit≤}
-use lib.ListN.{replicate}
 use Rattle.poly.specs.Counting.{All}
 use Rattle.opening.specs.Walking.{opened}
 use Rattle.opening.specs.Opening.{openAnswer}
@@ -19,7 +18,7 @@ use Rattle.correctness.specs.Ledger.{Written, Plain}
 use Rattle.correctness.specs.Truth.{OwnPart, TruePolynomial, TrueFinish}
 use Rattle.correctness.specs.Claim.{Opens, Right}
 use Rattle.correctness.proofs.Meanings.{one-number}
-use Rattle.correctness_examples.specs.Station.{plan, drawWith, ledger, call, load, loadThree, dealOf, room, rooms, refusals, Everyone, AllBut}
+use Rattle.correctness_examples.specs.Station.{plan, drawWith, ledger, call, load, loadThree, dealOf, zeros, room, rooms, refusals, Everyone, AllBut}
 use Rattle.correctness_examples.proofs.Computing.{Computes, is-draw, plain-42, two-true, Asked, all-join, each-join, each-of, each-quiet}
 use Rattle.correctness_examples.specs.Orders as Example
 use Rattle.correctness_examples.specs.Orders.{last}
@@ -64,7 +63,7 @@ abbrev before : List Event
 before = loads ++ deals
 
 abbrev new : World
-new = begin plan draw (λ i. replicate 768 0)
+new = begin plan draw zeros
 
 abbrev Own : Event → Type 0
 Own e = OwnPart plan draw (e .post) (e .call)
