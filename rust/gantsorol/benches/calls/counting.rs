@@ -47,12 +47,12 @@ fn counts() -> Vec<u64> {
 pub fn print() {
     let mut counts = counts().into_iter();
     for (n, t) in SIZES {
-        println!("n = {n}, t = {t}: instructions\n{:<16} {:>10} {:>10} {:>10}   ours/second ours/fastest", "call", "ours", "second", "fastest");
+        println!("n = {n}, t = {t}: instructions\n{:<18} {:>10} {:>10} {:>10}   ours/second ours/fastest", "call", "ours", "second", "fastest");
         let inputs = Inputs::new(n, t);
         for contest in contests::all(&inputs) {
             let of: Vec<u64> = counts.by_ref().take(contest.runs.len()).collect();
             let ratio = |other: u64| of[0] as f64 / other as f64;
-            print!("{:<16} {:>10} {:>10}", contest.name, of[0], of[1]);
+            print!("{:<18} {:>10} {:>10}", contest.name, of[0], of[1]);
             match of.get(2) {
                 Some(&fastest) => {
                     println!(" {fastest:>10}   {:<11.2} {:.2}", ratio(of[1]), ratio(fastest))

@@ -45,7 +45,7 @@ fn main() {
         let inputs = Inputs::new(n, t);
         println!("n = {n}, t = {t}: {} rounds", rounds(n));
         println!(
-            "{:<16} {:>10} {:>10}   {:<18} {:<18} ours/fastest",
+            "{:<18} {:>10} {:>10}   {:<18} {:<18} ours/fastest",
             "call", "ours, ns", "second, ns", "ours/second", "ours/ours again"
         );
         let mut held: Vec<Held> = contests::all(&inputs).into_iter().map(Held::new).collect();
