@@ -1,7 +1,8 @@
 -- What a relation's finish writes: the products, the cleared row, and the sum of the terms; and the session that it leaves.
-use Prim.Native.Nat.{ℕ, suc, _+_, _*_, _-_, _≤_}
+use Prim.Native.Nat.{ℕ, suc, _+_, _*_, _-_, _<_}
 use mathlib.Core.Path.{_≡_, refl, sym, _∙_, ap, ap₂}
 use mathlib.Core.List.{List, [], _∷_, map}
+use native.Mathlib.Omega.{arith}
 use lib.ListN.{length, take, drop, getD, replicate}
 use borrow.Rule.Slice.PartMut.{putMid}
 use Rattle.field.specs.Arithmetic.{product}
@@ -16,9 +17,11 @@ use Rattle.session.specs.Checks.{Framed, Sized, RowIn, TripleIn}
 use Rattle.session.proofs.RowLaws.{row-part, row-wide, row-put}
 use Rattle.product.specs.Finish.{productRow, withProduct}
 use Rattle.terms.specs.declared.Term.{Term}
-use Rattle.relation.specs.Tests.{Factors, Placed}
+use Rattle.terms.specs.declared.Terms.{Terms}
+use Rattle.terms.specs.Listed.{mostTerms, blank}
+use Rattle.relation.specs.Tests.{Factors, Placed, Few}
 use Rattle.relation.specs.Finish.{termNumberA, termNumberB, withProducts, numberRow, plusTerm, plusTerms, withSum, pairDone, finishedTerms}
-use Rattle.relation_finish.specs.Steps.{productsWritten, triplesFinished}
+use Rattle.relation_finish.specs.Steps.{coefficientAt, plusTimes, productsWritten, triplesFinished}
 use Rattle.relation.proofs.Loops.{walked}
 use Rattle.relation_finish.proofs.Ends.{number-in}
 
@@ -48,10 +51,10 @@ module _ (s : Session) (g : Shape) (eg : g ≡ shapeOf s) (rows : List ℕ) (t :
   pub sum-row : (r : ℕ) → Placed (shapeOf s) t → r ≡ numberRow t → RowIn g r
   sum-row r p e = rw (eg, e) (number-in (shapeOf s) t p)
 
-  pub sum-is : (d r : ℕ) (out : List ℕ) → r ≡ numberRow t
-      → out ≡ withRow (rowLength g) d (summed (Lengths.sumsAt g) (t .coefficient) 0 (rowAt (rowLength g) rows d) (rowAt (rowLength g) rows r)) rows
-      → out ≡ plusTerm s d t rows
-  sum-is d r out e eo = rw (eg, e) at eo
+  pub sum-is : (d c r : ℕ) (out : List ℕ) → r ≡ numberRow t
+      → out ≡ withRow (rowLength g) d (summed (Lengths.sumsAt g) c 0 (rowAt (rowLength g) rows d) (rowAt (rowLength g) rows r)) rows
+      → out ≡ plusTimes s d c (numberRow t) rows
+  sum-is d c r out e eo = rw (eg, e) at eo
 
 abbrev pub productIn : Session → List ℕ → List ℕ → ℕ → Term → List ℕ → List ℕ
 productIn s yA yB k t rows = withProduct s (getD yA k 0) (getD yB k 0) (t .first) rows
@@ -61,6 +64,15 @@ pub products-walk : (s : Session) (yA yB : List ℕ) (k : ℕ) (ts : List Term) 
 unfolding productsWritten
 products-walk s yA yB k [] rows = refl
 products-walk s yA yB k (t ∷ ts) rows = products-walk s yA yB (suc k) ts (productIn s yA yB k t rows)
+
+-- the place of a term is one of the array's
+pub term-place : (all : Terms) (i : ℕ) → Few all → i < all .count → i < mostTerms
+term-place all i few h = omega (arith, few .terms-in)
+
+-- the sum with a term's own coefficient
+pub term-added : (s : Session) (all : Terms) (d i c : ℕ) (rows out : List ℕ) → c ≡ coefficientAt all i
+    → out ≡ plusTimes s d c (numberRow (getD (all .list) i blank)) rows → out ≡ plusTerm s d (getD (all .list) i blank) rows
+term-added s all d i c rows out e eo = rw e at eo
 
 abbrev pub termIn : Session → ℕ → ℕ → Term → List ℕ → List ℕ
 termIn s d k t rows = plusTerm s d t rows

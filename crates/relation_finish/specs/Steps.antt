@@ -8,12 +8,13 @@ use Rattle.shape.specs.Lengths.{Valid}
 use Rattle.refusal.specs.Refusal.{first, outcome}
 use Rattle.session.specs.declared.Session.{Session}
 use Rattle.session.specs.Sessions.{shapeOf}
+use Rattle.session.specs.Rows.{width, sumsAt, rowAt, withRow, summed}
 use Rattle.opening.specs.declared.Opened.{Opened}
 use Rattle.opening.specs.Walking.{recordLength, openedRow}
 use Rattle.product.specs.Finish.{eitherOf, withProduct}
 use Rattle.terms.specs.declared.Term.{Term}
 use Rattle.terms.specs.declared.Terms.{Terms}
-use Rattle.terms.specs.Listed.{mostTerms, factorsOf}
+use Rattle.terms.specs.Listed.{mostTerms, blank, factorsOf}
 use Rattle.relation_finish.specs.declared.OpenedTerms.{OpenedTerms}
 use Rattle.relation.specs.Finish.{recordA, recordB, termMaskA, termMaskB, pairDone, relationFinishChecks}
 
@@ -60,6 +61,14 @@ unfoldable pub productsWritten : Session → List ℕ → List ℕ → ℕ → L
 productsWritten s yA yB k [] rows = rows
 productsWritten s yA yB k (t ∷ ts) rows =
     productsWritten s yA yB (suc k) ts (withProduct s (getD yA k 0) (getD yB k 0) (t .first) rows)
+
+-- The coefficient of the term at place i.
+abbrev pub coefficientAt : Terms → ℕ → ℕ
+coefficientAt all i = getD (all .list) i blank .coefficient
+
+-- Row d plus c times row r: `plusTerm` of a term with these.
+abbrev pub plusTimes : Session → ℕ → ℕ → ℕ → List ℕ → List ℕ
+plusTimes s d c r rows = withRow (width s) d (summed (sumsAt s) c 0 (rowAt (width s) rows d) (rowAt (width s) rows r)) rows
 
 -- The triples as the pair of calls leaves them, from the two lists.
 unfoldable pub triplesFinished : List ℕ → List ℕ → ℕ → List Term → Session → Session

@@ -6,16 +6,17 @@ use terms::Term;
 use terms::Terms;
 ghost use mathlib.Core.Path.{_≡_};
 ghost use mathlib.Core.List.{map};
+ghost use Prim.Native.Nat.{_<_};
 ghost use lib.ListN.{replicate};
 ghost use Rattle.shape.specs.Lengths.{rowLength};
 ghost use Rattle.session.specs.Sessions.{shapeOf};
 ghost use Rattle.session.specs.Rows.{withRow};
 ghost use Rattle.session.specs.Checks.{Sized, Framed, RowIn};
 ghost use Rattle.product.specs.Finish.{withProduct};
-ghost use Rattle.terms.specs.Listed.{termsOf, factorsOf};
+ghost use Rattle.terms.specs.Listed.{mostTerms, termsOf, factorsOf};
 ghost use Rattle.relation.specs.Tests.{Few, Every, Placed, Factors};
-ghost use Rattle.relation.specs.Finish.{numberRow, plusTerm, plusTerms, withSum};
-ghost use Rattle.relation_finish.specs.Steps.{productsWritten};
+ghost use Rattle.relation.specs.Finish.{numberRow, plusTerms, withSum};
+ghost use Rattle.relation_finish.specs.Steps.{coefficientAt, plusTimes, productsWritten};
 
 // One product, from y and y'.
 fn write_product(session: Session, rows: &mut [u32], term: Term, y_a: u32, y_b: u32)
@@ -64,13 +65,21 @@ fn number_row(term: Term) -> usize
     term.first as usize + 2
 }
 
-// A row plus a term's coefficient times its row.
-fn add_term(session: Session, rows: &mut [u32], dest: usize, term: Term)
+// A row plus a coefficient times a term's row.
+fn add_term(session: Session, rows: &mut [u32], dest: usize, coefficient: u32, term: Term)
     requires { ⌜ Framed session (now rows) × RowIn (shapeOf session) dest × Placed (shapeOf session) term ⌝ }
-    ensures { λ r. ⌜ now (rows .exit) ≡ plusTerm session dest term (now (rows .entry)) ⌝ }
+    ensures { λ r. ⌜ now (rows .exit) ≡ plusTimes session dest coefficient (numberRow term) (now (rows .entry)) ⌝ }
 {
     let row = number_row(term);
-    session::rows::sum_rows(session.shape(), rows, dest, dest, row, term.coefficient, 0);
+    session::rows::sum_rows(session.shape(), rows, dest, dest, row, coefficient, 0);
+}
+
+// The coefficient of the term at a place.
+fn coefficient_at(all: Terms, i: usize) -> u32
+    requires { ⌜ i < mostTerms ⌝ }
+    ensures { λ r. ⌜ r ≡ coefficientAt all i ⌝ }
+{
+    all.list[i].coefficient
 }
 
 // A row plus every term's coefficient times its row.
@@ -79,7 +88,7 @@ fn add_terms(session: Session, rows: &mut [u32], dest: usize, all: Terms)
     ensures { λ r. ⌜ now (rows .exit) ≡ plusTerms session dest (termsOf all) (now (rows .entry)) ⌝ }
 {
     for i in 0..all.count {
-        add_term(session, rows, dest, all.list[i]);
+        add_term(session, rows, dest, coefficient_at(all, i), all.list[i]);
     }
 }
 

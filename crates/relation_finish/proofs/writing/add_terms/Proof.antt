@@ -9,7 +9,7 @@ use Rattle.session.specs.Sessions.{shapeOf}
 use Rattle.terms.specs.Listed.{termsOf}
 use Rattle.relation.specs.Tests.{Placed}
 use Rattle.relation.proofs.Loops.{walked, Leads, goes, gone, every-at}
-use Rattle.relation_finish.proofs.Summing.{framed-kept, termIn, terms-walk}
+use Rattle.relation_finish.proofs.Summing.{framed-kept, term-place, term-added, termIn, terms-walk}
 use Rattle.relation_finish.proofs.writing.add_terms.Statement.{statement}
 use Rattle.relation_finish.proofs.writing.add_terms.Tie as tie
 
@@ -24,8 +24,8 @@ abbrev μ-loop : tie.MeasureT-loop
 
 add-term-requires : tie.Need-add-term-requires Inv-loop μ-loop
 add-term-requires c κs =
-    let a = c .before .before .before .before .before in
-    let q = c .before .before .before .loop in
+    let a = c .before .before .before .before .before .before in
+    let q = c .before .before .before .before .loop in
     let k : length (a .args .t4 .list) ≡ mostTerms = simp length-map at (a .good .1 .1 .1 .0 .1 .1 .1 .1 .0 .1 .0 .1) in
     let m : a .args .t4 .count ≤ length (a .args .t4 .list) = omega (arith, a .pre .2 .terms-in) in (
       framed-kept (a .args .session) (a .args .rows .now) (q .rows) (a .pre .0) (q .inv .1),
@@ -35,14 +35,14 @@ add-term-requires c κs =
 
 loop-again : tie.Need-loop-again Inv-loop μ-loop
 loop-again c =
-    let a = c .before .before .before .before .before .before .before .before in
-    let q = c .before .before .before .before .before .before .loop in
+    let a = c .before .before .before .before .before .before .before .before .before in
+    let q = c .before .before .before .before .before .before .before .loop in
     let k : length (a .args .t4 .list) ≡ mostTerms = simp length-map at (a .good .1 .1 .1 .0 .1 .1 .1 .1 .0 .1 .0 .1) in
     let m : a .args .t4 .count ≤ length (a .args .t4 .list) = omega (arith, a .pre .2 .terms-in) in (
       omega arith,
       search needs,
       goes (termIn (a .args .session) (a .args .dest)) (a .args .t4 .list) (a .args .t4 .count) _ _ (q .i) _ (search needs) m
-          (c .before .before .add-term .ensures) (q .inv .2),
+          (search (needs, term-added)) (q .inv .2),
     )
 
 returns : tie.Need-returns Inv-loop μ-loop
@@ -54,5 +54,6 @@ returns c =
 pub add-terms-spec : {M : Type 1} → statement M
 add-terms-spec =
     tie.close
-    (tie.spec Inv-loop μ-loop (λ c. (omega arith, refl, refl)) (λ c. search needs) (λ c. omega (arith, c .before .before .before .before .pre .2 .terms-in))
+    (tie.spec Inv-loop μ-loop (λ c. (omega arith, refl, refl)) (λ c κs. search (needs, term-place)) (λ c. search needs)
+    (λ c. search (needs, term-place))
     add-term-requires (λ c. search needs) (λ c. search needs) loop-again (λ c. search needs) returns)
