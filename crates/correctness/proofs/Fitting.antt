@@ -12,7 +12,7 @@ use Rattle.poly.proofs.Lists.{all-map, all-zip}
 use Rattle.decimal.specs.Numeral.{tens}
 use Rattle.session.specs.declared.Session.{Session}
 use Rattle.opening.specs.Walking.{sent, accepts, accepted}
-use Rattle.product.specs.Finish as Finish
+use Rattle.collect.specs.Collect as Collect
 use Rattle.vectors.specs.Vector.{Vector, numbers}
 use Rattle.vectors.specs.Claims.{heldRow, Truly, EnoughTruly}
 use Rattle.vectors.proofs.Linear.{length-numbers}
@@ -128,14 +128,14 @@ module _ (plan : Plan) (draw : Draw) (L : Ledger) (sound : Sound plan) (is : IsD
       abbrev s : Session
       s = sessionAt plan draw i M (g .stands .opened)
 
-      true-a : EnoughTrue (TrueMask S w (plan .t) (take (plan .t + 1)) r) s (Finish.maskA s l r) blocksA → Trusted s (maskVectorA M vec r) blocksA
+      true-a : EnoughTrue (TrueMask S w (plan .t) (take (plan .t + 1)) r) s (Collect.maskA s l r) blocksA → Trusted s (maskVectorA M vec r) blocksA
       true-a t few enough =
-          enough-true-of s (maskVectorA M vec r) blocksA (TrueMask S w (plan .t) (take (plan .t + 1)) r) (Finish.maskA s l r) (opens-a holder r ok)
+          enough-true-of s (maskVectorA M vec r) blocksA (TrueMask S w (plan .t) (take (plan .t + 1)) r) (Collect.maskA s l r) (opens-a holder r ok)
           (λ j lj hj ne o. told-a M vec (g .facts) r ok j lj hj _ o) t
 
-      true-b : EnoughTrue (TrueMask S w (plan .t) (drop (plan .t + 1)) r) s (Finish.maskB s l r) blocksB → Trusted s (maskVectorB M vec r) blocksB
+      true-b : EnoughTrue (TrueMask S w (plan .t) (drop (plan .t + 1)) r) s (Collect.maskB s l r) blocksB → Trusted s (maskVectorB M vec r) blocksB
       true-b t few enough =
-          enough-true-of s (maskVectorB M vec r) blocksB (TrueMask S w (plan .t) (drop (plan .t + 1)) r) (Finish.maskB s l r) (opens-b holder r ok)
+          enough-true-of s (maskVectorB M vec r) blocksB (TrueMask S w (plan .t) (drop (plan .t + 1)) r) (Collect.maskB s l r) (opens-b holder r ok)
           (λ j lj hj ne o. told-b M vec (g .facts) r ok j lj hj _ o) t
 
     module _ (len i : ℕ) (q : Post) (g : Good plan draw L len i q) where

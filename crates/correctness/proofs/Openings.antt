@@ -16,7 +16,7 @@ use Rattle.session.specs.Sessions.{holding}
 use Rattle.opening.specs.Walking.{sent, accepts, tooFew, disagree}
 use Rattle.opening.specs.Opening.{openChecks, openAnswer}
 use Rattle.opening.proofs.Theorems.{open-nine, open-thirteen, open-number}
-use Rattle.product.specs.Finish as Finish
+use Rattle.collect.specs.Collect as Collect
 use Rattle.vectors.specs.Vector.{Vector, number, numbers}
 use Rattle.vectors.specs.Claims.{heldRow, Truly}
 use Rattle.vectors.proofs.Theorems.{true-accepted, true-agree, opening-exact}
@@ -67,10 +67,10 @@ module _ (G : Stander) where
       go (no g) = sym (ap (λ (y : List ℕ). sent s y blocks j) e) ∙ truly g
 
   module _ (r : ℕ) (five : markOf M r ≡ 5) where
-    pub mask-a : Finish.maskA s l r ≡ heldRow s (maskVectorA M vec r)
+    pub mask-a : Collect.maskA s l r ≡ heldRow s (maskVectorA M vec r)
     mask-a = combined-row (holder G) (p - 1) (rememberedA M r) r (is-row G (rememberedA M r) 1 (waiting G r five .a-held)) (is-row G r 4 five)
 
-    pub mask-b : Finish.maskB s l r ≡ heldRow s (maskVectorB M vec r)
+    pub mask-b : Collect.maskB s l r ≡ heldRow s (maskVectorB M vec r)
     mask-b =
         combined-row (holder G) (p - 1) (rememberedB M r) (r + 1) (is-row G (rememberedB M r) 1 (waiting G r five .b-held))
         (is-row G (r + 1) 3 (waiting G r five .second))
@@ -150,8 +150,8 @@ module _ (G : Stander) where
           few = collect-few G r blocksA blocksB five pr pr';
           exact = λ e e' t t'.
               collect-done G r blocksA blocksB five pr pr' e e'
-              (agrees (Finish.maskA s l r) (maskVectorA M vec r) (mask-a r five) (take (plan .t + 1)) said-a blocksA e t)
-              (agrees (Finish.maskB s l r) (maskVectorB M vec r) (mask-b r five) (drop (plan .t + 1)) said-b blocksB e' t');
+              (agrees (Collect.maskA s l r) (maskVectorA M vec r) (mask-a r five) (take (plan .t + 1)) said-a blocksA e t)
+              (agrees (Collect.maskB s l r) (maskVectorB M vec r) (mask-b r five) (drop (plan .t + 1)) said-b blocksB e' t');
           otherwise = collect-otherwise G r blocksA blocksB five pr pr';
         }
 
@@ -162,7 +162,7 @@ module _ (G : Stander) where
         collects = λ r blocksA blocksB five. collects r five blocksA blocksB;
         multiplies = λ r seven. multiply-done G r seven;
         accepts-a = λ r blocks j five pr lj hj x.
-            true-taken (Finish.maskA s l r) (maskVectorA M vec r) (mask-a r five) blocks j lj hj (λ ne. said-a r five j lj hj _ (x ne));
+            true-taken (Collect.maskA s l r) (maskVectorA M vec r) (mask-a r five) blocks j lj hj (λ ne. said-a r five j lj hj _ (x ne));
         accepts-b = λ r blocks j five pr lj hj x.
-            true-taken (Finish.maskB s l r) (maskVectorB M vec r) (mask-b r five) blocks j lj hj (λ ne. said-b r five j lj hj _ (x ne));
+            true-taken (Collect.maskB s l r) (maskVectorB M vec r) (mask-b r five) blocks j lj hj (λ ne. said-b r five j lj hj _ (x ne));
       }

@@ -15,7 +15,7 @@ use Rattle.poly.proofs.Lists.{all-zip, all-second}
 use Rattle.session.specs.declared.Session.{Session}
 use Rattle.session.specs.Sessions.{shapeOf}
 use Rattle.opening.specs.Walking.{tooFew, disagree}
-use Rattle.product.specs.Masks.{maskRow}
+use Rattle.product_masks.specs.Masks.{maskRow}
 use Rattle.vectors.specs.Vector.{Vector, numbers}
 use Rattle.vectors.specs.Claims.{heldRow}
 use Rattle.vectors.proofs.Theorems.{true-agree}

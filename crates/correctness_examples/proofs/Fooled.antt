@@ -10,7 +10,7 @@ use lib.ListN.{replicate}
 use Rattle.poly.specs.Counting.{All}
 use Rattle.opening.specs.Walking.{opened}
 use Rattle.opening.specs.Opening.{openAnswer}
-use Rattle.product.specs.Finish.{maskA}
+use Rattle.collect.specs.Collect.{maskA}
 use Rattle.runs.specs.Draws.{Draw}
 use Rattle.runs.specs.Calls.{message, masks, collect, multiply}
 use Rattle.runs.proofs.Lines.{elements-of}

@@ -16,8 +16,8 @@ use Rattle.session.specs.Sessions.{factorA, factorB}
 use Rattle.session.specs.Rows.{rowAt}
 use Rattle.session.specs.Checks.{RowIn}
 use Rattle.session.proofs.Passed.{row-below}
-use Rattle.product.specs.Masks.{factorNumbers}
-use Rattle.product.proofs.Joining.{joined}
+use Rattle.product_masks.specs.Masks.{factorNumbers}
+use Rattle.product_masks.proofs.Joining.{joined}
 use Rattle.terms.specs.declared.Term.{Term}
 use Rattle.terms.specs.Listed.{plain}
 use Rattle.relation.specs.Tests.{byKind, Placed}

@@ -23,7 +23,7 @@ use Rattle.session.specs.Checks.{frameTests, noRow, wrongMark, Framed, RowIn}
 use Rattle.session.proofs.Passed.{row-in}
 use Rattle.session.proofs.Calls.{frame-passed, stopped-at-frame, past-frame, allowed}
 use Rattle.opening.specs.Walking.{recordLength}
-use Rattle.product.proofs.Joining.{joined}
+use Rattle.product_masks.proofs.Joining.{joined}
 use Rattle.terms.specs.declared.Terms.{Terms}
 use Rattle.terms.specs.Listed.{termsOf, factorsOf}
 use Rattle.relation.specs.Tests.{each, badCount, placeTests, markTests, namedTwice, Counted, Few, Every, Factors, Placed}

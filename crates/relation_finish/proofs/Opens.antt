@@ -21,7 +21,8 @@ use Rattle.session.proofs.Endings.{refused-answer, accepted-answer}
 use Rattle.opening.specs.declared.Opened.{Opened}
 use Rattle.opening.specs.Walking.{tooFew, disagree, opened, openedRow}
 use Rattle.opening.proofs.Settles.{decided, opened-decided}
-use Rattle.product.specs.Finish.{eitherOf, withProduct}
+use Rattle.mask_opening.specs.Either.{eitherOf}
+use Rattle.multiply.specs.Multiply.{withProduct}
 use Rattle.terms.specs.declared.Term.{Term}
 use Rattle.terms.specs.declared.Terms.{Terms}
 use Rattle.terms.specs.Listed.{mostTerms, termsOf, factorsOf}

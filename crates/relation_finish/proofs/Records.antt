@@ -23,9 +23,9 @@ use Rattle.opening.specs.Blocks as Blocks
 use Rattle.opening.specs.Blocks.{Recorded}
 use Rattle.opening.specs.Accepting as Accepting
 use Rattle.opening.specs.Walking.{recordLength, badRecord, openedRow}
-use Rattle.product.specs.Masks.{maskRow}
-use Rattle.product.specs.Finish.{eitherOf}
-use Rattle.product.proofs.Joining.{joined}
+use Rattle.product_masks.specs.Masks.{maskRow}
+use Rattle.mask_opening.specs.Either.{eitherOf}
+use Rattle.product_masks.proofs.Joining.{joined}
 use Rattle.terms.specs.declared.Term.{Term}
 use Rattle.terms.specs.Listed.{mostTerms}
 use Rattle.relation_finish.specs.declared.OpenedTerms.{OpenedTerms}

@@ -15,7 +15,7 @@ use Rattle.session.specs.Sessions.{shapeOf, holding, collectedTriple, finishedT
 use Rattle.session.specs.Rows.{rowAt, withRow, summed}
 use Rattle.session.specs.Checks.{Framed, Sized, RowIn, TripleIn}
 use Rattle.session.proofs.RowLaws.{row-part, row-wide, row-put}
-use Rattle.product.specs.Finish.{productRow, withProduct}
+use Rattle.multiply.specs.Multiply.{productRow, withProduct}
 use Rattle.terms.specs.declared.Term.{Term}
 use Rattle.terms.specs.declared.Terms.{Terms}
 use Rattle.terms.specs.Listed.{mostTerms, blank}

@@ -11,7 +11,8 @@ use Rattle.session.specs.Sessions.{shapeOf}
 use Rattle.session.specs.Rows.{width, sumsAt, rowAt, withRow, summed}
 use Rattle.opening.specs.declared.Opened.{Opened}
 use Rattle.opening.specs.Walking.{recordLength, openedRow}
-use Rattle.product.specs.Finish.{eitherOf, withProduct}
+use Rattle.mask_opening.specs.Either.{eitherOf}
+use Rattle.multiply.specs.Multiply.{withProduct}
 use Rattle.terms.specs.declared.Term.{Term}
 use Rattle.terms.specs.declared.Terms.{Terms}
 use Rattle.terms.specs.Listed.{mostTerms, blank, factorsOf}

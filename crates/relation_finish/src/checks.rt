@@ -58,7 +58,7 @@ fn number(shape: Shape, rows: &[u32], term: Term) -> u8
         return refusal::or_else(coefficient, session::checks::numbers(shape, rows, row));
     }
     let first = term.first as usize;
-    let factors = product::masks::factor_numbers(shape, rows, row, term.second as usize, first);
+    let factors = product_masks::factor_numbers(shape, rows, row, term.second as usize, first);
     let third = session::checks::numbers(shape, rows, first + 2);
     refusal::or_else(coefficient, refusal::or_else(factors, third))
 }

@@ -12,7 +12,7 @@ ghost use Rattle.shape.specs.Lengths.{recordLength};
 ghost use Rattle.session.specs.Sessions.{shapeOf};
 ghost use Rattle.session.specs.Checks.{Framed, RowIn};
 ghost use Rattle.opening.specs.Walking.{openedRow};
-ghost use Rattle.product.specs.Masks.{maskRow};
+ghost use Rattle.product_masks.specs.Masks.{maskRow};
 ghost use Rattle.terms.specs.Listed.{mostTerms, factorsOf};
 ghost use Rattle.relation.specs.Tests.{Few, Every, Factors};
 ghost use Rattle.relation.specs.Finish.{recordAt};
@@ -32,7 +32,7 @@ fn open_mask(
     ensures { λ r. ⌜ r ≡ openedRow session (maskRow (shapeOf session) (now (rows .entry)) factor row) (recordAt session (now (blocks .entry)) j) ⌝ }
 {
     let blocks = checks::record(session.shape(), blocks, j);
-    product::finish::open_mask(session.party(), rows, factor, row, blocks)
+    mask_opening::open_mask(session.party(), rows, factor, row, blocks)
 }
 
 // 9, or else 13, of the product term at place k behind those before it, and its two numbers.
@@ -40,9 +40,9 @@ fn keep(k: usize, a: Opened, b: Opened, before: OpenedTerms) -> OpenedTerms
     requires { ⌜ k < mostTerms ⌝ }
     ensures { λ r. ⌜ r ≡ keptAt k a b before ⌝ }
 {
-    let own = product::finish::either(a.refusal, b.refusal);
+    let own = mask_opening::either(a.refusal, b.refusal);
     let mut opened = before;
-    opened.refusal = product::finish::either(before.refusal, own);
+    opened.refusal = mask_opening::either(before.refusal, own);
     opened.y_a[k] = a.value;
     opened.y_b[k] = b.value;
     opened

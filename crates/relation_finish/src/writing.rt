@@ -12,7 +12,7 @@ ghost use Rattle.shape.specs.Lengths.{rowLength};
 ghost use Rattle.session.specs.Sessions.{shapeOf};
 ghost use Rattle.session.specs.Rows.{withRow};
 ghost use Rattle.session.specs.Checks.{Sized, Framed, RowIn};
-ghost use Rattle.product.specs.Finish.{withProduct};
+ghost use Rattle.multiply.specs.Multiply.{withProduct};
 ghost use Rattle.terms.specs.Listed.{mostTerms, termsOf, factorsOf};
 ghost use Rattle.relation.specs.Tests.{Few, Every, Placed, Factors};
 ghost use Rattle.relation.specs.Finish.{numberRow, plusTerms, withSum};
@@ -23,7 +23,7 @@ fn write_product(session: Session, rows: &mut [u32], term: Term, y_a: u32, y_b: 
     requires { ⌜ Framed session (now rows) × Factors (shapeOf session) term ⌝ }
     ensures { λ r. ⌜ now (rows .exit) ≡ withProduct session «y_a» «y_b» (term .first) (now (rows .entry)) ⌝ }
 {
-    product::finish::write_product(session.shape(), rows, term.first as usize, y_a, y_b);
+    multiply::write_product(session.shape(), rows, term.first as usize, y_a, y_b);
 }
 
 // The products of all product terms.

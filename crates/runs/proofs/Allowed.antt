@@ -8,7 +8,9 @@ use lib.ListN.{length}
 use Rattle.session.specs.declared.Session.{Session}
 use Rattle.sharing.proofs.Passed.{row-loaded, triple-loaded, dealt, message-made, summed}
 use Rattle.opening.proofs.Passed.{row-opened, open-framed}
-use Rattle.product.proofs.Passed.{Factored, masks-made, collected, collect-framed, multiplied}
+use Rattle.product_masks.proofs.Passed.{Factored, masks-made}
+use Rattle.collect.proofs.Passed.{collected, collect-framed}
+use Rattle.multiply.proofs.Passed.{multiplied}
 use Rattle.poly.specs.Counting.{All}
 use Rattle.poly.proofs.Lists.{all-map, all-zip}
 use Rattle.terms.specs.declared.Term.{Term}

@@ -10,7 +10,9 @@ use Rattle.session.specs.declared.Session.{Session}
 use Rattle.session.specs.Sessions.{shapeOf, marked, recalling}
 use Rattle.session.specs.Rows.{width, coefficients, rowAt}
 use Rattle.sharing.proofs.Passed.{row-loaded, triple-loaded, dealt, MessageMade, message-made, summed}
-use Rattle.product.proofs.Passed.{masks-made, collected, multiplied}
+use Rattle.product_masks.proofs.Passed.{masks-made}
+use Rattle.collect.proofs.Passed.{collected}
+use Rattle.multiply.proofs.Passed.{multiplied}
 use Rattle.terms.specs.declared.Term.{Term}
 use Rattle.terms.specs.Listed.{productsOf}
 use Rattle.terms.proofs.Placing.{terms-again, factors-again}

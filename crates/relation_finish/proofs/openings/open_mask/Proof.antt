@@ -1,7 +1,7 @@
 -- `finish::open_mask` meets its contract.
 use borrow.Author.Needs.{needs}
 use Rattle.session.proofs.Calls.{same-valid}
-use Rattle.product.proofs.Finishing.{party-sized, party-row}
+use Rattle.collect.proofs.Finishing.{party-sized, party-row}
 use Rattle.relation_finish.proofs.Records.{same-room, recorded, mask-is}
 use Rattle.relation_finish.proofs.openings.open_mask.Statement.{statement}
 use Rattle.relation_finish.proofs.openings.open_mask.Tie as tie
