@@ -1,7 +1,6 @@
 // The openings of a relation's finish: y and y' of every product term, with the first refusal among them.
-use crate::OpenedTerms;
-use crate::checks;
 use opening::Opened;
+use relation_writing::OpenedTerms;
 use session::Session;
 use terms::Term;
 use terms::Terms;
@@ -16,7 +15,8 @@ ghost use Rattle.product_masks.specs.Masks.{maskRow};
 ghost use Rattle.terms.specs.Listed.{mostTerms, factorsOf};
 ghost use Rattle.relation.specs.Tests.{Few, Every, Factors};
 ghost use Rattle.relation.specs.Finish.{recordAt};
-ghost use Rattle.relation_finish.specs.Steps.{Pair, keptAt, withOpened, openedAll, unopenedBy};
+ghost use Rattle.relation_checks.specs.Steps.{Pair};
+ghost use Rattle.relation_finish.specs.Steps.{keptAt, withOpened, openedAll, unopenedBy};
 
 // A factor row less a row of the triple, opened with the record at place j.
 fn open_mask(
@@ -31,7 +31,7 @@ fn open_mask(
         × (j * recordLength (shapeOf session) + recordLength (shapeOf session) ≤ length (now blocks)) ⌝ }
     ensures { λ r. ⌜ r ≡ openedRow session (maskRow (shapeOf session) (now (rows .entry)) factor row) (recordAt session (now (blocks .entry)) j) ⌝ }
 {
-    let blocks = checks::record(session.shape(), blocks, j);
+    let blocks = relation_checks::record(session.shape(), blocks, j);
     mask_opening::open_mask(session.party(), rows, factor, row, blocks)
 }
 
