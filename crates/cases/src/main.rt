@@ -93,7 +93,7 @@ fn loaded(
 fn masked(session: Session, rows: &mut [u32], sent: &mut [u32]) -> Session {
     let rides = deal::deal(session, rows, 0, 2147483646).session;
     let rate = deal::deal(rides, rows, 1, 4).session;
-    product::masks::masks(rate, rows, 0, 1, 2, sent).session
+    product_masks::masks(rate, rows, 0, 1, 2, sent).session
 }
 
 // The three rows of a triple, one after the other.
@@ -141,8 +141,8 @@ fn second_loaded(rows: &mut [u32]) -> Session {
 
 // The product into row 4, and with a fee of 8 into row 5.
 fn charged(session: Session, rows: &mut [u32], record_a: &[u32], record_b: &[u32]) -> Session {
-    let collected = product::collect::collect(session, rows, 2, record_a, record_b).session;
-    let multiplied = product::multiply::multiply(collected, rows, 2).session;
+    let collected = collect::collect(session, rows, 2, record_a, record_b).session;
+    let multiplied = multiply::multiply(collected, rows, 2).session;
     linear::linear(multiplied, rows, 5, 4, 4, 0, 8).session
 }
 

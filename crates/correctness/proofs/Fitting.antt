@@ -16,7 +16,7 @@ use Rattle.decimal.specs.Numeral.{tens}
 use Rattle.session.specs.declared.Session.{Session}
 use Rattle.session.specs.Sessions.{shapeOf}
 use Rattle.opening.specs.Walking.{sent, accepts, accepted}
-use Rattle.product.specs.Finish as Finish
+use Rattle.collect.specs.Collect as Collect
 use Rattle.vectors.specs.Vector.{Vector, numbers}
 use Rattle.vectors.specs.Claims.{heldRow, Truly, EnoughTruly}
 use Rattle.vectors.proofs.Linear.{length-numbers}
@@ -132,14 +132,14 @@ module _ (plan : Plan) (draw : Draw) (L : Ledger) (sound : Sound plan) (is : IsD
       abbrev s : Session
       s = sessionAt plan draw i M (g .stands .opened)
 
-      true-a : EnoughTrue (TrueMask S w (planShape plan) (take (vLength (planShape plan))) r) s (Finish.maskA s l r) blocksA → Trusted s (maskVectorA M vec r) blocksA
+      true-a : EnoughTrue (TrueMask S w (planShape plan) (take (vLength (planShape plan))) r) s (Collect.maskA s l r) blocksA → Trusted s (maskVectorA M vec r) blocksA
       true-a t few enough =
-          enough-true-of s (maskVectorA M vec r) blocksA (TrueMask S w (planShape plan) (take (vLength (planShape plan))) r) (Finish.maskA s l r) (opens-a holder r ok)
+          enough-true-of s (maskVectorA M vec r) blocksA (TrueMask S w (planShape plan) (take (vLength (planShape plan))) r) (Collect.maskA s l r) (opens-a holder r ok)
           (λ j lj hj ne o. told-a M vec (g .facts) r ok j lj hj _ o) t
 
-      true-b : EnoughTrue (TrueMask S w (planShape plan) (drop (vLength (planShape plan))) r) s (Finish.maskB s l r) blocksB → Trusted s (maskVectorB M vec r) blocksB
+      true-b : EnoughTrue (TrueMask S w (planShape plan) (drop (vLength (planShape plan))) r) s (Collect.maskB s l r) blocksB → Trusted s (maskVectorB M vec r) blocksB
       true-b t few enough =
-          enough-true-of s (maskVectorB M vec r) blocksB (TrueMask S w (planShape plan) (drop (vLength (planShape plan))) r) (Finish.maskB s l r) (opens-b holder r ok)
+          enough-true-of s (maskVectorB M vec r) blocksB (TrueMask S w (planShape plan) (drop (vLength (planShape plan))) r) (Collect.maskB s l r) (opens-b holder r ok)
           (λ j lj hj ne o. told-b M vec (g .facts) r ok j lj hj _ o) t
 
     module _ (len i : ℕ) (q : Post) (g : Good plan draw L len i q) where

@@ -18,7 +18,7 @@ use Rattle.session.specs.Sessions.{holding, shapeOf}
 use Rattle.opening.specs.Walking.{sent, accepts, tooFew, disagree}
 use Rattle.opening.specs.Opening.{openChecks, openAnswer}
 use Rattle.opening.proofs.Theorems.{open-nine, open-thirteen, open-number}
-use Rattle.product.specs.Finish as Finish
+use Rattle.collect.specs.Collect as Collect
 use Rattle.vectors.specs.Vector.{Vector, number, numbers}
 use Rattle.vectors.specs.Claims.{heldRow, Truly}
 use Rattle.vectors.proofs.HeldRows.{true-accepted}
@@ -71,10 +71,10 @@ module _ (G : Stander) where
       go (no g) = sym (ap (λ (y : List ℕ). sent s y blocks j) e) ∙ truly g
 
   module _ (r : ℕ) (five : markOf M r ≡ masked) where
-    pub mask-a : Finish.maskA s l r ≡ heldRow s (maskVectorA M vec r)
+    pub mask-a : Collect.maskA s l r ≡ heldRow s (maskVectorA M vec r)
     mask-a = opens-a (holder G) r (waiting G r five)
 
-    pub mask-b : Finish.maskB s l r ≡ heldRow s (maskVectorB M vec r)
+    pub mask-b : Collect.maskB s l r ≡ heldRow s (maskVectorB M vec r)
     mask-b = opens-b (holder G) r (waiting G r five)
 
   module _ (P : ℕ → ℕ → List ℕ → Type 0) (truth : Reliable plan draw L P) where
@@ -152,8 +152,8 @@ module _ (G : Stander) where
           few = collect-few G r blocksA blocksB five pr pr';
           exact = λ e e' t t'.
               collect-done G r blocksA blocksB five pr pr' e e'
-              (agrees (Finish.maskA s l r) (maskVectorA M vec r) (mask-a r five) (take (vLength (planShape plan))) said-a blocksA e t)
-              (agrees (Finish.maskB s l r) (maskVectorB M vec r) (mask-b r five) (drop (vLength (planShape plan))) said-b blocksB e' t');
+              (agrees (Collect.maskA s l r) (maskVectorA M vec r) (mask-a r five) (take (vLength (planShape plan))) said-a blocksA e t)
+              (agrees (Collect.maskB s l r) (maskVectorB M vec r) (mask-b r five) (drop (vLength (planShape plan))) said-b blocksB e' t');
           otherwise = collect-otherwise G r blocksA blocksB five pr pr';
         }
 
@@ -164,7 +164,7 @@ module _ (G : Stander) where
         collects = λ r blocksA blocksB five. collects r five blocksA blocksB;
         multiplies = λ r seven. multiply-done G r seven;
         accepts-a = λ r blocks j five pr lj hj x.
-            true-taken (Finish.maskA s l r) (maskVectorA M vec r) (mask-a r five) blocks j lj hj (λ ne. said-a r five j lj hj _ (x ne));
+            true-taken (Collect.maskA s l r) (maskVectorA M vec r) (mask-a r five) blocks j lj hj (λ ne. said-a r five j lj hj _ (x ne));
         accepts-b = λ r blocks j five pr lj hj x.
-            true-taken (Finish.maskB s l r) (maskVectorB M vec r) (mask-b r five) blocks j lj hj (λ ne. said-b r five j lj hj _ (x ne));
+            true-taken (Collect.maskB s l r) (maskVectorB M vec r) (mask-b r five) blocks j lj hj (λ ne. said-b r five j lj hj _ (x ne));
       }

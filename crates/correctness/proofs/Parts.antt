@@ -12,7 +12,7 @@ use Rattle.session.specs.declared.Session.{Session}
 use Rattle.session.specs.Sessions.{mark, shapeOf}
 use Rattle.session.specs.Rows.{width, rowAt}
 use Rattle.opening.specs.Walking.{sent}
-use Rattle.product.specs.Finish as Finish
+use Rattle.collect.specs.Collect as Collect
 use Rattle.vectors.specs.Vector.{Vector, numbers}
 use Rattle.vectors.specs.Claims.{heldRow}
 use Rattle.runs.specs.Draws.{Plan, Draw, rawDraw, tripleDraw, planShape}
@@ -154,22 +154,22 @@ module _ (plan : Plan) (draw : Draw) (L : Ledger) (S : ℕ → Type 0) (rows : �
   HalfB = TrueMask S w (planShape plan) (drop (vLength (planShape plan))) r
 
   both-masks : (k : Factors plan draw L r) → mark (w .posts i .session) r ≡ masked
-      → PartOf HalfA (w .posts i .session) (Finish.maskA (w .posts i .session) l r) (less (k .X) (vectorA plan draw r))
-      × PartOf HalfB (w .posts i .session) (Finish.maskB (w .posts i .session) l r) (less (k .Y) (vectorB plan draw r))
+      → PartOf HalfA (w .posts i .session) (Collect.maskA (w .posts i .session) l r) (less (k .X) (vectorA plan draw r))
+      × PartOf HalfB (w .posts i .session) (Collect.maskB (w .posts i .session) l r) (less (k .Y) (vectorB plan draw r))
   unfolding w factors-of
   both-masks k =
       at-post
       (λ (q : Post). mark (q .session) r ≡ masked
-      → PartOf HalfA (q .session) (Finish.maskA (q .session) (q .rows) r) (less (k .X) (vectorA plan draw r))
-      × PartOf HalfB (q .session) (Finish.maskB (q .session) (q .rows) r) (less (k .Y) (vectorB plan draw r)))
+      → PartOf HalfA (q .session) (Collect.maskA (q .session) (q .rows) r) (less (k .X) (vectorA plan draw r))
+      × PartOf HalfB (q .session) (Collect.maskB (q .session) (q .rows) r) (less (k .Y) (vectorB plan draw r)))
       (λ five.
       let t = g .facts r (marked-low M (g .sized) r five) .triple (inr (inl five)) in let same = one-pair plan draw L r (factors-of five) k in
       let ea : maskVectorA M vec r ≡ less (k .X) (vectorA plan draw r) = ap₂ less (same .0) (t .is-a) in
       let eb : maskVectorB M vec r ≡ less (k .Y) (vectorB plan draw r) = ap₂ less (same .1) (t .is-b) in (
-        part-from HalfA s (Finish.maskA s l r) _
+        part-from HalfA s (Collect.maskA s l r) _
             (Openings.mask-a G r five ∙ ap (heldRow s) ea)
             (λ j xs lj hj many elements m. told-a plan draw L (h .sound) (h .is-draw) S w said M vec (g .facts) r (waiting five) j lj hj xs m ∙ ap (λ (Z : Vector). numbers (vLength (planShape plan)) (Z .v j)) ea),
-        part-from HalfB s (Finish.maskB s l r) _
+        part-from HalfB s (Collect.maskB s l r) _
             (Openings.mask-b G r five ∙ ap (heldRow s) eb)
             (λ j xs lj hj many elements m. told-b plan draw L (h .sound) (h .is-draw) S w said M vec (g .facts) r (waiting five) j lj hj xs m ∙ ap (λ (Z : Vector). numbers (vLength (planShape plan)) (Z .v j)) eb),
       ))
@@ -198,8 +198,8 @@ mask-parts plan draw L S rows es h i r lo hi among five = (
         (i' : ℕ) (lo' : 1 ≤ i') (hi' : i' ≤ plan .n) (among' : S' i')
         → (let v = history es' (begin plan (withPoints points draw) rows') in let q = v .posts i' in
         mark (q .session) r ≡ masked
-        → PartOf (TrueMask S' v (planShape plan) (take (vLength (planShape plan))) r) (q .session) (Finish.maskA (q .session) (q .rows) r) (less (k .X) (vectorA plan draw r))
-        × PartOf (TrueMask S' v (planShape plan) (drop (vLength (planShape plan))) r) (q .session) (Finish.maskB (q .session) (q .rows) r) (less (k .Y) (vectorB plan draw r)))
+        → PartOf (TrueMask S' v (planShape plan) (take (vLength (planShape plan))) r) (q .session) (Collect.maskA (q .session) (q .rows) r) (less (k .X) (vectorA plan draw r))
+        × PartOf (TrueMask S' v (planShape plan) (drop (vLength (planShape plan))) r) (q .session) (Collect.maskB (q .session) (q .rows) r) (less (k .Y) (vectorB plan draw r)))
     both points S' rows' es' h' i' lo' hi' among' =
         both-masks plan (withPoints points draw) L S' rows' es' h' i' lo' hi' among' r (record {
           a = k .a;

@@ -24,11 +24,12 @@ use Rattle.session.specs.Checks.{frameTests}
 use Rattle.opening.specs.Walking.{tooFew, disagree}
 use Rattle.opening.specs.Opening.{openChecks}
 use Rattle.opening.proofs.Passed.{clear-join, open-clear}
-use Rattle.product.specs.Finish as Finish
-use Rattle.product.specs.Finish.{unopened}
-use Rattle.product.specs.Collect.{collectRefusal, collectAnswer}
-use Rattle.product.specs.Multiply.{multiplyRefusal}
-use Rattle.product.proofs.Passed.{Factored, CollectChecked, collect-walks, multiply-clear}
+use Rattle.collect.specs.Collect as Collect
+use Rattle.collect.specs.Collect.{unopened, collectRefusal, collectAnswer}
+use Rattle.multiply.specs.Multiply.{multiplyRefusal}
+use Rattle.product_masks.proofs.Passed.{Factored}
+use Rattle.collect.proofs.Passed.{CollectChecked, collect-walks}
+use Rattle.multiply.proofs.Passed.{multiply-clear}
 use Rattle.vectors.specs.Vector.{Vector, number, numbers}
 use Rattle.runs.specs.Draws.{Plan, Draw, IsDraw, Sound, pointOf}
 use Rattle.runs.specs.Calls.{Proper, Post}
@@ -182,10 +183,10 @@ module _ (G : Stander) where
     }
 
     abbrev xa : List ℕ
-    xa = Finish.maskA s l r
+    xa = Collect.maskA s l r
 
     abbrev xb : List ℕ
-    xb = Finish.maskB s l r
+    xb = Collect.maskB s l r
 
     by-walks : collectRefusal s l r blocksA blocksB ≡ first (unopened s xa xb blocksA blocksB)
     by-walks = collect-walks s l r blocksA blocksB collect-passes

@@ -17,7 +17,7 @@ use Rattle.shape.specs.Lengths.{needed, vLength}
 use Rattle.session.specs.declared.Session.{Session}
 use Rattle.session.specs.Sessions.{shapeOf}
 use Rattle.opening.specs.Walking.{tooFew, disagree}
-use Rattle.product.specs.Masks.{maskRow}
+use Rattle.product_masks.specs.Masks.{maskRow}
 use Rattle.vectors.specs.Vector.{Vector, numbers}
 use Rattle.vectors.specs.Claims.{heldRow}
 use Rattle.vectors.proofs.Shares.{true-agree}

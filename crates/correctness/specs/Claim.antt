@@ -16,9 +16,8 @@ use Rattle.session.specs.Sessions.{mark, shapeOf}
 use Rattle.session.specs.Rows.{width, rowAt}
 use Rattle.opening.specs.Walking.{sent, accepts, accepted}
 use Rattle.opening.specs.Opening.{openAnswer}
-use Rattle.product.specs.Finish.{maskA, maskB}
-use Rattle.product.specs.Collect.{collectAnswer}
-use Rattle.product.specs.Multiply.{multiplyAnswer}
+use Rattle.collect.specs.Collect.{maskA, maskB, collectAnswer}
+use Rattle.multiply.specs.Multiply.{multiplyAnswer}
 use Rattle.runs.specs.Draws.{Plan, Draw, IsDraw, Sound, planShape}
 use Rattle.runs.specs.Calls.{Post, opening, Proper}
 use Rattle.correctness.specs.History.{Event, World, history, answers, begin, Each}

@@ -12,7 +12,7 @@ use Rattle.session.specs.declared.Session.{Session}
 use Rattle.session.specs.Sessions.{mark, withPoint, shapeOf}
 use Rattle.session.specs.Rows.{width, rowAt}
 use Rattle.opening.specs.Walking.{sent, accepts}
-use Rattle.product.specs.Finish.{maskA, maskB}
+use Rattle.collect.specs.Collect.{maskA, maskB}
 use Rattle.vectors.specs.Vector.{Vector, number, numbers}
 use Rattle.vectors.specs.Claims.{heldRow}
 use Rattle.runs.specs.Draws.{Plan, Draw, planShape}

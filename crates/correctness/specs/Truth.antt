@@ -13,7 +13,7 @@ use Rattle.session.specs.declared.Session.{Session}
 use Rattle.session.specs.Sessions.{mark, shapeOf}
 use Rattle.session.specs.Rows.{width, coefficients, rowAt}
 use Rattle.opening.specs.Walking.{sent, accepts, accepted}
-use Rattle.product.specs.Finish.{maskA, maskB}
+use Rattle.collect.specs.Collect.{maskA, maskB}
 use Rattle.runs.specs.Draws.{Plan, Draw, IsRaw, rawPack, triplePack}
 use Rattle.runs.specs.Outline.{Taking, nothingTaken, aRowPack, aTriplePack, aNumber, aRecord, twoRecords, takes, Given, moves, Every}
 use Rattle.runs.specs.Calls.{Post, Actual, Call, Told, ToldHalf}

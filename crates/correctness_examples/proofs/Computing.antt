@@ -29,10 +29,9 @@ use Rattle.session.specs.declared.Session.{Session}
 use Rattle.accepting.specs.Accepting as Accepting
 use Rattle.opening.specs.Walking.{sent, accepts}
 use Rattle.opening.specs.Opening.{openRefusal}
-use Rattle.product.specs.Masks.{masksRefusal, maskNumbersOf}
-use Rattle.product.specs.Finish.{productRow, withProduct}
-use Rattle.product.specs.Collect.{collectRefusal}
-use Rattle.product.specs.Multiply.{multiplyRefusal}
+use Rattle.product_masks.specs.Masks.{masksRefusal, maskNumbersOf}
+use Rattle.collect.specs.Collect.{collectRefusal}
+use Rattle.multiply.specs.Multiply.{productRow, withProduct, multiplyRefusal}
 use Rattle.terms.specs.Listed.{productsOf, padded}
 use Rattle.relation.specs.Tests.{eachAt, namedIn, namedTwice}
 use Rattle.relation.specs.Masks.{relationMasksRefusal, maskedTerms, termMasks}

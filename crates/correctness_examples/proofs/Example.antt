@@ -12,7 +12,7 @@ use Rattle.poly.specs.Counting.{All}
 use Rattle.factory.specs.Calls.{dealerNumber}
 use Rattle.opening.specs.Walking.{acceptedPosts}
 use Rattle.opening.specs.Opening.{openAnswer}
-use Rattle.product.specs.Finish.{maskA}
+use Rattle.collect.specs.Collect.{maskA}
 use Rattle.runs.specs.Draws.{Draw, IsDraw, rawDraw}
 use Rattle.runs.specs.Calls.{Post, message, linear, masks, collect, multiply}
 use Rattle.factory.proofs.Laws.{elements-of}

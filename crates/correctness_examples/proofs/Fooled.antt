@@ -9,7 +9,7 @@ use lib.Dec.{lit<, lit≤}
 use Rattle.poly.specs.Counting.{All}
 use Rattle.opening.specs.Walking.{opened}
 use Rattle.opening.specs.Opening.{openAnswer}
-use Rattle.product.specs.Finish.{maskA}
+use Rattle.collect.specs.Collect.{maskA}
 use Rattle.runs.specs.Draws.{Draw}
 use Rattle.runs.specs.Calls.{message, masks, collect, multiply}
 use Rattle.factory.proofs.Laws.{elements-of}

@@ -8,9 +8,9 @@ ghost use Rattle.deal.specs.Deal.{dealAnswer, dealRows};
 ghost use Rattle.message.specs.Message.{messageAnswer, messageOut};
 ghost use Rattle.linear.specs.Linear.{linearAnswer, linearRows};
 ghost use Rattle.opening.specs.Opening.{openAnswer};
-ghost use Rattle.product.specs.Masks.{masksAnswer, masksOut};
-ghost use Rattle.product.specs.Collect.{collectAnswer};
-ghost use Rattle.product.specs.Multiply.{multiplyAnswer, multiplyRows};
+ghost use Rattle.product_masks.specs.Masks.{masksAnswer, masksOut};
+ghost use Rattle.collect.specs.Collect.{collectAnswer};
+ghost use Rattle.multiply.specs.Multiply.{multiplyAnswer, multiplyRows};
 
 #[no_mangle]
 pub extern "C" fn gantsorol_new(n: usize, t: usize, post: usize, point: u32) -> Answer
@@ -106,7 +106,7 @@ pub extern "C" fn gantsorol_masks(
     ensures { λ r. ⌜ r ≡ masksAnswer session (now (rows .entry)) a b first (now (out .entry)) ⌝ }
     ensures { λ r. ⌜ now (out .exit) ≡ masksOut session (now (rows .entry)) a b first (now (out .entry)) ⌝ }
 {
-    product::masks::masks(session, rows, a, b, first, out)
+    product_masks::masks(session, rows, a, b, first, out)
 }
 
 #[no_mangle]
@@ -119,7 +119,7 @@ pub extern "C" fn gantsorol_collect(
 ) -> Answer
     ensures { λ r. ⌜ r ≡ collectAnswer session (now (rows .entry)) first (now («record_a» .entry)) (now («record_b» .entry)) ⌝ }
 {
-    product::collect::collect(session, rows, first, record_a, record_b)
+    collect::collect(session, rows, first, record_a, record_b)
 }
 
 #[no_mangle]
@@ -127,5 +127,5 @@ pub extern "C" fn gantsorol_multiply(session: Session, rows: &mut [u32], first: 
     ensures { λ r. ⌜ r ≡ multiplyAnswer session (now (rows .entry)) first ⌝ }
     ensures { λ r. ⌜ now (rows .exit) ≡ multiplyRows session (now (rows .entry)) first ⌝ }
 {
-    product::multiply::multiply(session, rows, first)
+    multiply::multiply(session, rows, first)
 }

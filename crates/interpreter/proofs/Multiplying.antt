@@ -21,7 +21,7 @@ use Rattle.forms.specs.Lines as Lines
 use Rattle.session.specs.declared.Session.{Session}
 use Rattle.session.specs.declared.Answer.{Answer}
 use Rattle.session.specs.Sessions.{shapeOf, answer, maskedTriple}
-use Rattle.product.specs.Masks.{masksTests, masksRefusal, masksAnswer, maskNumbersOf, masksOut}
+use Rattle.product_masks.specs.Masks.{masksTests, masksRefusal, masksAnswer, maskNumbersOf, masksOut}
 use Rattle.store.specs.Sizes.{InStreet, streetPosts, mostMasks, recordRoom, masksAAt, masksBAt, storeRoom}
 use Rattle.store.specs.Records.{recordIf}
 use Rattle.store.proofs.Keeping.{record-room}

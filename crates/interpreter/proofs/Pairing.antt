@@ -7,9 +7,8 @@ use Rattle.refusal.specs.Refusal.{orElse, outcome}
 use Rattle.session.specs.declared.Session.{Session}
 use Rattle.session.specs.declared.Answer.{Answer}
 use Rattle.session.specs.Sessions.{holding, answer, collectedTriple, finishedTriple}
-use Rattle.product.specs.Finish.{withProduct}
-use Rattle.product.specs.Collect.{collectRefusal, collectAnswer}
-use Rattle.product.specs.Multiply.{multiplyRefusal, multiplyAnswer, multiplyRows}
+use Rattle.collect.specs.Collect.{collectRefusal, collectAnswer}
+use Rattle.multiply.specs.Multiply.{withProduct, multiplyRefusal, multiplyAnswer, multiplyRows}
 use Rattle.interpreter.specs.Products.{between, pairAnswer, pairRows}
 
 -- an answer has its refusal

@@ -11,9 +11,9 @@ use Rattle.shape.specs.Bounds.{fewestPosts, mostPosts, lastRow, lastTriple}
 use Rattle.forms.specs.Forms.{isLetter}
 use Rattle.session.specs.declared.Session.{Session}
 use Rattle.session.specs.Sessions.{shapeOf, answer, sessionOf, collectedTriple, finishedTriple}
-use Rattle.product.specs.Masks.{masksRefusal, masksAnswer, maskNumbersOf}
-use Rattle.product.specs.Collect.{numberA, numberB, collectRefusal}
-use Rattle.product.specs.Multiply.{multiplyRefusal, multiplyAnswer}
+use Rattle.product_masks.specs.Masks.{masksRefusal, masksAnswer, maskNumbersOf}
+use Rattle.collect.specs.Collect.{numberA, numberB, collectRefusal}
+use Rattle.multiply.specs.Multiply.{multiplyRefusal, multiplyAnswer}
 use Rattle.store.specs.Sizes.{streetPosts, masksAAt, masksBAt, InStreet}
 use Rattle.reading.specs.Numbers.{numbers, readRefusal}
 use Rattle.reading.specs.declared.StartForm.{StartForm}

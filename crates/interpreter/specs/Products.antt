@@ -12,9 +12,9 @@ use Rattle.forms.specs.Lines as Lines
 use Rattle.session.specs.declared.Session.{Session}
 use Rattle.session.specs.declared.Answer.{Answer}
 use Rattle.session.specs.Sessions.{shapeOf, answer}
-use Rattle.product.specs.Masks.{masksRefusal, masksAnswer, maskNumbersOf}
-use Rattle.product.specs.Collect.{collectRefusal, collectAnswer}
-use Rattle.product.specs.Multiply.{multiplyRefusal, multiplyAnswer, multiplyRows}
+use Rattle.product_masks.specs.Masks.{masksRefusal, masksAnswer, maskNumbersOf}
+use Rattle.collect.specs.Collect.{collectRefusal, collectAnswer}
+use Rattle.multiply.specs.Multiply.{multiplyRefusal, multiplyAnswer, multiplyRows}
 use Rattle.store.specs.Sizes.{streetPosts, mostMasks, masksAAt, masksBAt}
 use Rattle.store.specs.Records.{recordAt, recordIf}
 use Rattle.reading.specs.Numbers.{numbers, readRefusal}

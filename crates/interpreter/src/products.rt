@@ -74,7 +74,7 @@ fn mask(
 {
     let session = state.session;
     let end = crate::rows_end(session);
-    let answer = product::masks::masks(session, &store[..end], a, b, first, masks);
+    let answer = product_masks::masks(session, &store[..end], a, b, first, masks);
     answer_masks(state, answer, first, masks, text)
 }
 
@@ -140,11 +140,11 @@ fn finish_pair(
     ensures { λ r. ⌜ r ≡ pairAnswer session (now (rows .entry)) first (now («record_a» .entry)) (now («record_b» .entry)) ⌝ }
     ensures { λ r. ⌜ now (rows .exit) ≡ pairRows session (now (rows .entry)) first (now («record_a» .entry)) (now («record_b» .entry)) ⌝ }
 {
-    let collected = product::collect::collect(session, rows, first, record_a, record_b);
+    let collected = collect::collect(session, rows, first, record_a, record_b);
     if collected.refusal != 0 {
         return collected;
     }
-    let multiplied = product::multiply::multiply(collected.session, rows, first);
+    let multiplied = multiply::multiply(collected.session, rows, first);
     if multiplied.refusal != 0 {
         return session.refuse(multiplied.refusal);
     }

@@ -18,7 +18,7 @@ use Rattle.session.specs.Rows.{width, withRow}
 use Rattle.session.specs.Checks.{frameTests}
 use Rattle.session.specs.Between.{Framed, Sized}
 use Rattle.session.proofs.Calls.{frame-passed, stopped-at-frame, past-frame, allowed}
-use Rattle.product.proofs.Joining.{joined}
+use Rattle.product_masks.proofs.Joining.{joined}
 use Rattle.shape.specs.Marks.{unused}
 use Rattle.terms.specs.declared.Terms.{Terms}
 use Rattle.terms.specs.Listed.{termsOf, factorsOf}

@@ -16,7 +16,7 @@ use Rattle.session.specs.Between.{Sized, RowIn, TripleIn}
 use Rattle.session.proofs.Passed.{row-below}
 use Rattle.session.proofs.RowLaws.{next, length-row, length-with-row}
 use Rattle.sums.proofs.Writers.{length-combined}
-use Rattle.product.specs.Masks.{maskRow, bothMasks}
+use Rattle.product_masks.specs.Masks.{maskRow, bothMasks}
 use Rattle.terms.specs.declared.Term.{Term}
 use Rattle.relation.specs.Tests.{Every, Factors}
 use Rattle.relation.specs.Masks.{termMasks}

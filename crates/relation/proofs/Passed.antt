@@ -22,8 +22,8 @@ use Rattle.session.specs.Between.{Framed}
 use Rattle.session.proofs.Calls.{frame-passed}
 use Rattle.opening.specs.Walking.{recordLength, badRecord, tooFew, disagree}
 use Rattle.opening.proofs.Passed.{clear-parts}
-use Rattle.product.specs.Masks.{tripleMarks}
-use Rattle.product.proofs.Passed.{Factored, factored}
+use Rattle.product_masks.specs.Masks.{tripleMarks}
+use Rattle.product_masks.proofs.Passed.{Factored, factored}
 use Rattle.terms.specs.declared.Term.{Term}
 use Rattle.terms.specs.Listed.{mostTerms, plain, productsOf, collected, termsOf, factorsOf}
 use Rattle.terms.proofs.Placing.{terms-again, factors-again}

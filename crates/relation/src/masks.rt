@@ -14,7 +14,7 @@ ghost use Rattle.refusal.specs.Refusal.{first};
 ghost use Rattle.session.specs.Sessions.{shapeOf, maskedTriple};
 ghost use Rattle.session.specs.Rows.{withRow};
 ghost use Rattle.session.specs.Between.{Sized, Framed};
-ghost use Rattle.product.specs.Masks.{bothMasks};
+ghost use Rattle.product_masks.specs.Masks.{bothMasks};
 ghost use Rattle.terms.specs.Listed.{termsOf, factorsOf};
 ghost use Rattle.relation.specs.Tests.{each, Counted, Few, Every, Placed, Factors};
 ghost use Rattle.relation.specs.Masks.{masksSizes, maskNumberTests, masksOwn, maskedTerms, termMasks};
@@ -30,7 +30,7 @@ fn number(shape: Shape, rows: &[u32], term: Term) -> u8
         return coefficient;
     }
     let row = term.row as usize;
-    let factors = product::masks::factor_numbers(
+    let factors = product_masks::factor_numbers(
         shape,
         rows,
         row,
@@ -104,7 +104,7 @@ fn write_mask(shape: Shape, rows: &[u32], term: Term, i: usize, out: &mut [u32])
     let size = shape.masks_len();
     let from = i * size;
     let end = from + size;
-    product::masks::masks_accepted(
+    product_masks::masks_accepted(
         shape,
         rows,
         term.row as usize,

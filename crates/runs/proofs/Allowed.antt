@@ -11,7 +11,9 @@ use Rattle.deal.proofs.Passed.{dealt}
 use Rattle.message.proofs.Passed.{message-made}
 use Rattle.linear.proofs.Passed.{summed}
 use Rattle.opening.proofs.Passed.{row-opened, open-framed}
-use Rattle.product.proofs.Passed.{Factored, masks-made, collected, collect-framed, multiplied}
+use Rattle.product_masks.proofs.Passed.{Factored, masks-made}
+use Rattle.collect.proofs.Passed.{collected, collect-framed}
+use Rattle.multiply.proofs.Passed.{multiplied}
 use Rattle.poly.specs.Counting.{All}
 use Rattle.poly.proofs.Lists.{all-map, all-zip}
 use Rattle.shape.specs.Marks.{unused, masked, collected as collectedMark}

@@ -19,10 +19,11 @@ use Rattle.session.specs.Sessions.{openedA, openedB}
 use Rattle.session.specs.Rows.{sumsAt, rowAt, summed}
 use Rattle.sums.proofs.Summed.{plus-nothing}
 use Rattle.opening.specs.Walking.{tooFew, disagree, opened}
-use Rattle.product.specs.Finish as Finish
-use Rattle.product.specs.Finish.{productRow, withProduct}
-use Rattle.product.specs.Collect.{numberA, numberB}
-use Rattle.product.proofs.Passed.{Collected, collect-framed, Multiplied}
+use Rattle.collect.specs.Collect as Collect
+use Rattle.collect.specs.Collect.{numberA, numberB}
+use Rattle.multiply.specs.Multiply.{productRow, withProduct}
+use Rattle.collect.proofs.Passed.{Collected, collect-framed}
+use Rattle.multiply.proofs.Passed.{Multiplied}
 use Rattle.vectors.specs.Vector.{Vector, plusTimes, number}
 use Rattle.vectors.specs.Claims.{heldRow, EnoughTruly}
 use Rattle.vectors.proofs.Linear.{row-plusTimes, row-summed}
@@ -80,10 +81,10 @@ module _ (H : Holder) where
     factor-row : (x : ℕ) → x < rowCount → markOf M x ≡ held → rowAt W l x ≡ rowFor plan draw i (vec x)
     factor-row x lx e = h .rows x lx (λ z. omega arith)
 
-    pub opens-a : Finish.maskA s l r ≡ heldRow s (maskVectorA M vec r)
+    pub opens-a : Collect.maskA s l r ≡ heldRow s (maskVectorA M vec r)
     opens-a = combined-row H (p - 1) (rememberedA M r) r (factor-row (rememberedA M r) (ok .a-low) (ok .a-held)) row-a
 
-    pub opens-b : Finish.maskB s l r ≡ heldRow s (maskVectorB M vec r)
+    pub opens-b : Collect.maskB s l r ≡ heldRow s (maskVectorB M vec r)
     opens-b = combined-row H (p - 1) (rememberedB M r) (r + 1) (factor-row (rememberedB M r) (ok .b-low) (ok .b-held)) row-b
 
   -- the number that is opened, where t+1 of the record's polynomials are true
@@ -100,10 +101,10 @@ module _ (H : Holder) where
     few = omega (arith, collect-framed s l r blocksA blocksB (f .checked) .sized .valid .n-in)
 
     pub collect-a : Trusted s (maskVectorA M vec r) blocksA → numberA s l r blocksA ≡ number (maskVectorA M vec r) .0
-    collect-a ta = opened-is few (Finish.maskA s l r) (maskVectorA M vec r) blocksA (opens-a r ok) ta (f .enough-a) (f .agree-a)
+    collect-a ta = opened-is few (Collect.maskA s l r) (maskVectorA M vec r) blocksA (opens-a r ok) ta (f .enough-a) (f .agree-a)
 
     pub collect-b : Trusted s (maskVectorB M vec r) blocksB → numberB s l r blocksB ≡ number (maskVectorB M vec r) .0
-    collect-b tb = opened-is few (Finish.maskB s l r) (maskVectorB M vec r) blocksB (opens-b r ok) tb (f .enough-b) (f .agree-b)
+    collect-b tb = opened-is few (Collect.maskB s l r) (maskVectorB M vec r) blocksB (opens-b r ok) tb (f .enough-b) (f .agree-b)
 
   -- the product of the triple at r, written from the numbers of a − l and of b − l'
   module _ (r : ℕ) {m : ℕ} (ok : Tripled (suc m) M r) (size : length l ≡ rowCount * W) where

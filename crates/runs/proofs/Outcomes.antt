@@ -16,10 +16,9 @@ use Rattle.message.specs.Message.{messageRefusal}
 use Rattle.linear.specs.Linear.{linearRefusal}
 use Rattle.opening.specs.Walking.{opened}
 use Rattle.opening.specs.Opening.{openRefusal}
-use Rattle.product.specs.Masks.{masksRefusal, maskNumbersOf}
-use Rattle.product.specs.Finish.{withProduct}
-use Rattle.product.specs.Collect.{numberA, numberB, collectRefusal}
-use Rattle.product.specs.Multiply.{multiplyRefusal}
+use Rattle.product_masks.specs.Masks.{masksRefusal, maskNumbersOf}
+use Rattle.collect.specs.Collect.{numberA, numberB, collectRefusal}
+use Rattle.multiply.specs.Multiply.{withProduct, multiplyRefusal}
 use Rattle.terms.specs.Listed.{productsOf, collected, termsOf, factorsOf}
 use Rattle.relation.specs.Masks.{relationMasksRefusal, maskedTerms, termMasks}
 use Rattle.relation.specs.Finish.{relationFinishRefusal, withProducts, withSum, relationDone}

@@ -14,7 +14,9 @@ use Rattle.load.proofs.Passed.{row-loaded, triple-loaded}
 use Rattle.deal.proofs.Passed.{dealt}
 use Rattle.message.proofs.Passed.{MessageMade, message-made}
 use Rattle.linear.proofs.Passed.{summed}
-use Rattle.product.proofs.Passed.{masks-made, collected, multiplied}
+use Rattle.product_masks.proofs.Passed.{masks-made}
+use Rattle.collect.proofs.Passed.{collected}
+use Rattle.multiply.proofs.Passed.{multiplied}
 use Rattle.terms.specs.declared.Term.{Term}
 use Rattle.terms.specs.Listed.{productsOf}
 use Rattle.terms.proofs.Placing.{terms-again, factors-again}

@@ -15,8 +15,8 @@ use Rattle.session.specs.declared.Session.{Session}
 use Rattle.session.specs.Sessions.{shapeOf, marked}
 use Rattle.session.specs.Rows.{rowAt, combined}
 use Rattle.opening.specs.Walking.{recordLength}
-use Rattle.product.specs.Masks.{maskRow, maskNumbersOf}
-use Rattle.product.proofs.Passed.{Factored}
+use Rattle.product_masks.specs.Masks.{maskRow, maskNumbersOf}
+use Rattle.product_masks.proofs.Passed.{Factored}
 use Rattle.terms.specs.declared.Term.{Term}
 use Rattle.terms.specs.Listed.{productsOf}
 use Rattle.relation.specs.Masks.{termMasks}

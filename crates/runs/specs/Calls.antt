@@ -19,9 +19,9 @@ use Rattle.message.specs.Message.{messageAnswer, messageOut}
 use Rattle.linear.specs.Linear.{linearAnswer, linearRows}
 use Rattle.opening.specs.Walking.{recordLength, badRecord}
 use Rattle.opening.specs.Opening.{openAnswer}
-use Rattle.product.specs.Masks.{masksAnswer, masksOut}
-use Rattle.product.specs.Collect.{collectAnswer}
-use Rattle.product.specs.Multiply.{multiplyAnswer, multiplyRows}
+use Rattle.product_masks.specs.Masks.{masksAnswer, masksOut}
+use Rattle.collect.specs.Collect.{collectAnswer}
+use Rattle.multiply.specs.Multiply.{multiplyAnswer, multiplyRows}
 use Rattle.terms.specs.declared.Term.{Term}
 use Rattle.terms.specs.Listed.{productsOf, collected}
 use Rattle.relation.specs.Masks.{relationMasksAnswer, relationMasksOut}

@@ -12,8 +12,8 @@ use Rattle.load.specs.Load.{loadRowTests, loadRowRefusal, loadTripleTests, load
 use Rattle.deal.specs.Deal.{dealTests, dealRefusal}
 use Rattle.message.specs.Message.{messageTests, messageRefusal}
 use Rattle.linear.specs.Linear.{linearTests, linearRefusal}
-use Rattle.product.specs.Masks.{masksTests, masksRefusal}
-use Rattle.product.specs.Multiply.{multiplyTests, multiplyRefusal}
+use Rattle.product_masks.specs.Masks.{masksTests, masksRefusal}
+use Rattle.multiply.specs.Multiply.{multiplyTests, multiplyRefusal}
 use Rattle.vectors.specs.Vector.{Vector}
 use Rattle.runs.specs.Outline.{loadRow, loadTriple, deal, message, opening, linear, masks, collect, multiply, relationMasks, relationFinish, moves}
 use Rattle.runs.specs.Calls.{Post, newPost, after}

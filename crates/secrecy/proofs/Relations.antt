@@ -13,8 +13,8 @@ use Rattle.refusal.specs.Conditions.{beyond, anyBeyond}
 use Rattle.session.specs.declared.Session.{Session}
 use Rattle.session.specs.Rows.{rowAt}
 use Rattle.opening.specs.Walking.{tooFew, disagree}
-use Rattle.product.specs.Masks.{factorNumbers}
-use Rattle.product.proofs.Passed.{Factored, factorTests}
+use Rattle.product_masks.specs.Masks.{factorNumbers}
+use Rattle.product_masks.proofs.Passed.{Factored, factorTests}
 use Rattle.terms.specs.declared.Term.{Term}
 use Rattle.terms.specs.declared.Terms.{Terms}
 use Rattle.terms.specs.Listed.{plain, productsOf, collected, termsOf, factorsOf}

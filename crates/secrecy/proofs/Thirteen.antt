@@ -17,10 +17,9 @@ use Rattle.session.specs.Rows.{width, rowAt}
 use Rattle.opening.specs.Walking.{blockCoefficients, tooFew, disagree}
 use Rattle.opening.specs.Opening.{openChecks, openRefusal}
 use Rattle.opening.proofs.Passed.{walkTests, OpenChecked, open-checked, open-walks}
-use Rattle.product.specs.Finish as Finish
-use Rattle.product.specs.Finish.{unopened}
-use Rattle.product.specs.Collect.{collectChecks, collectRefusal}
-use Rattle.product.proofs.Passed.{CollectChecked, collect-checked, collect-walks}
+use Rattle.collect.specs.Collect as Collect
+use Rattle.collect.specs.Collect.{unopened, collectChecks, collectRefusal}
+use Rattle.collect.proofs.Passed.{CollectChecked, collect-checked, collect-walks}
 use Rattle.vectors.specs.Vector.{Vector, numbers}
 use Rattle.vectors.specs.Claims.{heldRow}
 use Rattle.vectors.proofs.Linear.{length-numbers}
@@ -134,24 +133,24 @@ module _ (C : Run) (m : Moment) (S : State C m) (i : ℕ) (lo : 1 ≤ i) (hi : i
     a-long : (j : ℕ) → length (numbers (vLength (planShape plan)) (maskVectorA M vec r .v j)) ≡ vLength (planShape plan)
     a-long j = length-numbers (vLength (planShape plan)) (maskVectorA M vec r .v j)
 
-    pub agrees-a : (bl : List ℕ) → Halves r (take (vLength (planShape plan))) bl → tooFew s (Finish.maskA s l r) bl ≡ false → disagree s (Finish.maskA s l r) bl ≡ false
+    pub agrees-a : (bl : List ℕ) → Halves r (take (vLength (planShape plan))) bl → tooFew s (Collect.maskA s l r) bl ≡ false → disagree s (Collect.maskA s l r) bl ≡ false
     agrees-a bl told =
-        agrees (Finish.maskA s l r) (maskVectorA M vec r) bl (opens-a holder r ok) (λ j lj hj ne there.
+        agrees (Collect.maskA s l r) (maskVectorA M vec r) bl (opens-a holder r ok) (λ j lj hj ne there.
         let o = told j lj hj ne there in
         o .4 ∙ ap (take (vLength (planShape plan))) (both-are j lj hj (o .0) (o .1) (o .2) (o .3)) ∙ take-at (numbers (vLength (planShape plan)) (maskVectorA M vec r .v j)) _ (vLength (planShape plan)) (a-long j))
 
-    pub agrees-b : (bl : List ℕ) → Halves r (drop (vLength (planShape plan))) bl → tooFew s (Finish.maskB s l r) bl ≡ false → disagree s (Finish.maskB s l r) bl ≡ false
+    pub agrees-b : (bl : List ℕ) → Halves r (drop (vLength (planShape plan))) bl → tooFew s (Collect.maskB s l r) bl ≡ false → disagree s (Collect.maskB s l r) bl ≡ false
     agrees-b bl told =
-        agrees (Finish.maskB s l r) (maskVectorB M vec r) bl (opens-b holder r ok) (λ j lj hj ne there.
+        agrees (Collect.maskB s l r) (maskVectorB M vec r) bl (opens-b holder r ok) (λ j lj hj ne there.
         let o = told j lj hj ne there in
         o .4 ∙ ap (drop (vLength (planShape plan))) (both-are j lj hj (o .0) (o .1) (o .2) (o .3)) ∙ drop-at (numbers (vLength (planShape plan)) (maskVectorA M vec r .v j)) _ (vLength (planShape plan)) (a-long j))
 
   module _ (r : ℕ) (blA blB : List ℕ) (e : collectRefusal s l r blA blB ≡ 13) where
     abbrev xa : List ℕ
-    xa = Finish.maskA s l r
+    xa = Collect.maskA s l r
 
     abbrev xb : List ℕ
-    xb = Finish.maskB s l r
+    xb = Collect.maskB s l r
 
     g : CollectChecked s l r blA blB
     unfolding collectRefusal

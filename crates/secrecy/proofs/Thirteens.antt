@@ -17,7 +17,7 @@ use Rattle.session.specs.Sessions.{shapeOf}
 use Rattle.session.specs.Rows.{width, rowAt}
 use Rattle.session.specs.Checks.{frameTests, noRow, noTriple, wrongMark}
 use Rattle.opening.specs.Walking.{recordLength, blockMark, blockCoefficients, tooFew, disagree}
-use Rattle.product.specs.Masks.{tripleMarks, factorNumbers, maskRow}
+use Rattle.product_masks.specs.Masks.{tripleMarks, factorNumbers, maskRow}
 use Rattle.terms.specs.declared.Term.{Term}
 use Rattle.terms.specs.Listed.{plain, productsOf, collected, termsOf, factorsOf}
 use Rattle.terms.proofs.Placing.{factors-again}

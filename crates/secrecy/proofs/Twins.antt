@@ -28,12 +28,13 @@ use Rattle.message.proofs.Passed.{messagePlace, messageLate, message-placed}
 use Rattle.linear.proofs.Passed.{linearPlace, linearLate, linear-placed}
 use Rattle.opening.specs.Opening.{openRefusal}
 use Rattle.opening.proofs.Passed.{openPlace, openNumbers, walkTests, open-placed, OpenChecked}
-use Rattle.product.specs.Masks.{masksRefusal, maskNumbers}
-use Rattle.product.specs.Finish as Finish
-use Rattle.product.specs.Finish.{unopened}
-use Rattle.product.specs.Collect.{collectRefusal, collectNumbers}
-use Rattle.product.specs.Multiply.{rememberedNumbers, multiplyRefusal}
-use Rattle.product.proofs.Passed.{Factored, factorTests, masksEarly, masks-placed, collectEarly, collect-placed, collectRest, multiplyEarly, multiply-placed, multiplyTests}
+use Rattle.product_masks.specs.Masks.{masksRefusal, maskNumbers}
+use Rattle.collect.specs.Collect.{unopened, collectRefusal, collectNumbers}
+use Rattle.multiply.specs.Multiply.{rememberedNumbers, multiplyRefusal}
+use Rattle.collect.specs.Collect as Collect
+use Rattle.product_masks.proofs.Passed.{Factored, factorTests, masksEarly, masks-placed}
+use Rattle.collect.proofs.Passed.{collectEarly, collect-placed, collectRest}
+use Rattle.multiply.proofs.Passed.{multiplyEarly, multiply-placed, multiplyTests}
 use Rattle.vectors.specs.Vector.{Vector, number}
 use Rattle.runs.specs.Draws.{Plan, Draw, pointOf, planShape}
 use Rattle.runs.proofs.Marks.{Marks, markOf, rememberedA, rememberedB, Opened, sessionAt, less, maskVectorA, maskVectorB}
@@ -204,7 +205,7 @@ module _ (T : Twin) where
       ++ unopened s (x j) (y j) blocksA blocksB))
     where
       late : List ℕ → List Test
-      late rows = collectNumbers s rows (rememberedA M r) (rememberedB M r) r blocksA blocksB ++ unopened s (Finish.maskA s rows r) (Finish.maskB s rows r) blocksA blocksB
+      late rows = collectNumbers s rows (rememberedA M r) (rememberedB M r) r blocksA blocksB ++ unopened s (Collect.maskA s rows r) (Collect.maskB s rows r) blocksA blocksB
 
   -- the second: the numbers remembered are elements in both
   pub multiply-same : (r : ℕ) → multiplyRefusal s l r ≡ multiplyRefusal s' l' r

@@ -12,7 +12,7 @@ use Rattle.session.specs.Sessions.{created}
 use Rattle.agreement.specs.Agreement.{allPairs}
 use Rattle.blocks.specs.Blocks as Blocks
 use Rattle.accepting.specs.Accepting as Accepting
-use Rattle.product.specs.Finish.{productRow}
+use Rattle.multiply.specs.Multiply.{productRow}
 use Rattle.decimal.specs.Numeral.{lastDigits, sizeWithin, leading, valueAfter, fieldOf}
 use Rattle.csv.specs.Fields.{fields, fieldsAt}
 use Rattle.forms.specs.Forms.{formOf}

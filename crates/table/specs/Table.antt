@@ -12,9 +12,10 @@ use Rattle.session.specs.declared.Session.{Session}
 use Rattle.session.specs.Sessions.{created}
 use Rattle.session.specs.Rows.{sumsAt, coefficients, plusSums}
 use Rattle.opening.specs.Walking.{accepts, share, acceptedPosts, openedRow}
-use Rattle.product.specs.declared.OpenedMasks.{OpenedMasks}
-use Rattle.product.specs.Masks.{less}
-use Rattle.product.specs.Finish.{openedBoth, productRow}
+use Rattle.product_masks.specs.Masks.{less}
+use Rattle.collect.specs.declared.OpenedMasks.{OpenedMasks}
+use Rattle.collect.specs.Collect.{openedBoth}
+use Rattle.multiply.specs.Multiply.{productRow}
 use Rattle.forms.specs.Lines.{deal, text}
 use Rattle.forms.specs.Forms.{message}
 use Rattle.lines.specs.Reading.{readRefusal, lineAs, listAs}
