@@ -9,8 +9,8 @@ use borrow.Author.Tests.{eqb-false}
 use lib.Dec.{eqb}
 use lib.ListN.{length, take, length-replicate, length-append}
 use Rattle.store.specs.Sizes.{storeRoom}
-use Rattle.interpreter.specs.States.{firstState}
-use Rattle.interpreter.specs.Stepping.{Ready}
+use Rattle.states.specs.States.{firstState}
+use Rattle.interpreter.specs.Between.{Ready}
 use Rattle.console.proofs.Feeding.{neither, prefix-length}
 use Rattle.transcript.specs.declared.Feed.{Feed}
 use Rattle.transcript.specs.Text.{header}

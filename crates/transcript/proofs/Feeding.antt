@@ -14,11 +14,12 @@ use Rattle.decimal.proofs.Digits.{length-digits}
 use Rattle.decimal.proofs.Sizes.{size-le}
 use Rattle.csv.specs.Fields.{fields, overwrite}
 use Rattle.csv.proofs.Overwriting.{overwrite-part, overwrite-twice, length-fields-le}
-use Rattle.interpreter.specs.declared.Stepped.{Stepped}
-use Rattle.interpreter.specs.declared.State.{State}
-use Rattle.interpreter.specs.States.{After, after, firstState}
-use Rattle.interpreter.specs.Products.{toldRoom}
-use Rattle.interpreter.specs.Stepping.{step, checkedStep, Ready}
+use Rattle.states.specs.declared.Stepped.{Stepped}
+use Rattle.states.specs.declared.State.{State}
+use Rattle.states.specs.States.{After, after, firstState}
+use Rattle.masklines.specs.Steps.{toldRoom}
+use Rattle.interpreter.specs.Stepping.{step, checkedStep}
+use Rattle.interpreter.specs.Between.{Ready}
 use Rattle.interpreter.proofs.Ranges.{step-ready, step-told}
 use Rattle.interpreter.proofs.Room.{ready-step}
 use Rattle.transcript.specs.declared.Feed.{Feed}

@@ -7,8 +7,8 @@ use native.Mathlib.Omega.{arith}
 use borrow.Author.Tests.{ne-eqb}
 use lib.ListN.{length, replicate}
 use lib.Dec.{eqb}
-use Rattle.interpreter.specs.declared.State.{State}
-use Rattle.interpreter.specs.States.{After, firstState}
+use Rattle.states.specs.declared.State.{State}
+use Rattle.states.specs.States.{After, firstState}
 use Rattle.interpreter.specs.Stepping.{step}
 use Rattle.store.specs.Sizes.{storeRoom}
 use Rattle.interpreter.proofs.Cutting.{step-cut}

@@ -6,8 +6,8 @@ use mathlib.Core.Bool.{cond}
 use lib.ListN.{length, take, replicate}
 use lib.Dec.{eqb}
 use Rattle.store.specs.Sizes.{storeRoom}
-use Rattle.interpreter.specs.declared.State.{State}
-use Rattle.interpreter.specs.States.{After, firstState}
+use Rattle.states.specs.declared.State.{State}
+use Rattle.states.specs.States.{After, firstState}
 use Rattle.interpreter.specs.Stepping.{step}
 use Rattle.transcript.specs.declared.Feed.{Feed}
 use Rattle.transcript.specs.Text.{header, printText}

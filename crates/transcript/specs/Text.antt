@@ -5,8 +5,8 @@ use mathlib.Core.List.{List, [], _∷_, _++_}
 use lib.ListN.{take}
 use Rattle.decimal.specs.Numeral.{lastDigits, sizeWithin}
 use Rattle.csv.specs.Fields.{fields}
-use Rattle.interpreter.specs.declared.Stepped.{Stepped}
-use Rattle.interpreter.specs.Products.{toldRoom}
+use Rattle.states.specs.declared.Stepped.{Stepped}
+use Rattle.masklines.specs.Steps.{toldRoom}
 
 -- `line,refusal,value`
 abbrev pub header : List ℕ

@@ -1,17 +1,18 @@
 // The transcript: input bytes split into lines, and the answers as text.
 mod limits;
 
-use interpreter::State;
-use interpreter::Stepped;
+use states::State;
+use states::Stepped;
 ghost use mathlib.Core.Path.{_≡_};
 ghost use mathlib.Core.Bool.{cond};
 ghost use mathlib.Core.List.{_++_};
 ghost use Prim.Native.Nat.{_+_, _≤_};
 ghost use lib.ListN.{length, take, drop};
 ghost use lib.Dec.{ltb};
-ghost use Rattle.interpreter.specs.Products.{toldRoom};
-ghost use Rattle.interpreter.specs.States.{after};
-ghost use Rattle.interpreter.specs.Stepping.{step, Ready};
+ghost use Rattle.masklines.specs.Steps.{toldRoom};
+ghost use Rattle.states.specs.States.{after};
+ghost use Rattle.interpreter.specs.Stepping.{step};
+ghost use Rattle.interpreter.specs.Between.{Ready};
 ghost use Rattle.csv.specs.Fields.{overwrite};
 ghost use Rattle.transcript.specs.Text.{header, longSize, longNumeral, answerText, longestAnswer, printText, printOf, longestPrint};
 ghost use Rattle.transcript.specs.Lines.{segment, keptLength, cut, laid};
@@ -20,10 +21,10 @@ ghost use Rattle.transcript.specs.Between.{Moved, segmented, lineAfter, 
 ghost use Rattle.transcript.specs.Program.{running, answered, fed, closed, drainedFeed, firstFeed};
 
 // Of a line that is too long, one byte more than the longest line has is kept: enough to tell.
-pub const KEPT: usize = interpreter::LONGEST_LINE + 1;
+pub const KEPT: usize = startlines::LONGEST_LINE + 1;
 
 // No more is printed for a line: its answer, and what an `X` prints behind it.
-pub const LONGEST_PRINT: usize = 43 + interpreter::TOLD_ROOM;
+pub const LONGEST_PRINT: usize = 43 + masklines::TOLD_ROOM;
 
 // `line,refusal,value`
 pub fn header() -> [u8; 19]
@@ -174,7 +175,7 @@ fn end_line(feed: Feed, store: &mut [u32], line: &[u8], out: &mut [u8]) -> Feed
     ensures { λ r. ⌜ Added feed r (now (out .entry)) (now (out .exit)) ⌝ }
 {
     let len = feed.len;
-    let mut text = [0u8; interpreter::TOLD_ROOM];
+    let mut text = [0u8; masklines::TOLD_ROOM];
     let stepped = take_line(feed.state, store, &line[..len], &mut text);
     let number = feed.number + 1;
     let at = print_step(out, feed.at, number, stepped, &text);
