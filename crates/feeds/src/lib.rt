@@ -56,7 +56,13 @@ fn end_line(feed: Feed, store: &mut [u32], line: &[u8], out: &mut [u8]) -> Feed
 }
 
 // A part of a line: its bytes are kept, and a line feed at its end ends the line.
-pub fn take_part(feed: Feed, store: &mut [u32], line: &mut [u8], part: &[u8], out: &mut [u8]) -> Feed
+pub fn take_part(
+    feed: Feed,
+    store: &mut [u32],
+    line: &mut [u8],
+    part: &[u8],
+    out: &mut [u8],
+) -> Feed
     requires { ⌜ Open feed (now store) (now line) (now out) 1 × (1 ≤ length (now part)) ⌝ }
     ensures { λ r. ⌜ running r (now (store .exit)) (now (line .exit)) (now (out .exit))
         ≡ segmented (running feed (now (store .entry)) (now (line .entry)) (now (out .entry))) (now (part .entry)) ⌝ }
