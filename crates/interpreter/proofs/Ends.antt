@@ -12,7 +12,7 @@ use Rattle.states.specs.declared.State.{State}
 use Rattle.states.specs.declared.Stepped.{Stepped}
 use Rattle.states.specs.States.{After, refusing, leaving, after}
 use Rattle.startlines.specs.Steps.{longestLine, earlyStep}
-use Rattle.packlines.specs.Steps.{loadStep, loadTripleStep}
+use Rattle.loadlines.specs.Steps.{loadStep, loadTripleStep}
 use Rattle.rowlines.specs.Steps.{linearStep, openStep}
 use Rattle.postlines.specs.Steps.{Broadcast, hearStep}
 use Rattle.masklines.specs.Steps.{maskStep}

@@ -23,7 +23,7 @@ use Rattle.states.specs.declared.State.{State}
 use Rattle.states.specs.declared.Stepped.{Stepped}
 use Rattle.states.specs.States.{After, begunWith, refusing, answering, telling, leaving, after, unless, sessionRows}
 use Rattle.startlines.specs.Steps.{longestLine, startTests, settingsStep, startStep, earlyStep}
-use Rattle.packlines.specs.Steps.{loading, loadStep, loadingTriple, loadTripleStep}
+use Rattle.loadlines.specs.Steps.{loading, loadStep, loadingTriple, loadTripleStep}
 use Rattle.rowlines.specs.Steps.{adding, linearStep, openStep}
 use Rattle.postlines.specs.Steps.{heard, keepStep, keepMasksStep, keepHalvesStep, hearStep}
 use Rattle.masklines.specs.Steps.{maskLine, noMasks, masking, maskingOf, maskStep}

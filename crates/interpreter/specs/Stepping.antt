@@ -11,7 +11,7 @@ use Rattle.store.specs.Sizes.{streetPosts, storeRoom}
 use Rattle.states.specs.declared.State.{State}
 use Rattle.states.specs.States.{After, refusing, leaving, unless}
 use Rattle.startlines.specs.Steps.{longestLine, earlyStep}
-use Rattle.packlines.specs.Steps.{loadStep, loadTripleStep}
+use Rattle.loadlines.specs.Steps.{loadStep, loadTripleStep}
 use Rattle.rowlines.specs.Steps.{linearStep, openStep}
 use Rattle.masklines.specs.Steps.{toldRoom, maskStep}
 use Rattle.finishlines.specs.Steps.{finishStep}

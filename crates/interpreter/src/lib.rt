@@ -20,8 +20,8 @@ fn by_letter(state: State, store: &mut [u32], line: &[u8]) -> Stepped
     ensures { λ r. ⌜ leaving r (now (store .exit)) ≡ lettersStep state (now (store .entry)) (now (line .entry)) ⌝ }
 {
     match line[0] {
-        82 => packlines::load_line(state, store, line),
-        84 => packlines::load_triple_line(state, store, line),
+        82 => loadlines::load_line(state, store, line),
+        84 => loadlines::load_triple_line(state, store, line),
         71 => rowlines::open_line(state, store, line),
         76 => rowlines::linear_line(state, store, line),
         70 => finishlines::finish_line(state, store, line),

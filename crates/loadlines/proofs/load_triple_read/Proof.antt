@@ -1,8 +1,8 @@
 -- `load_triple_read` meets its contract.
 use borrow.Author.Needs.{needs}
-use Rattle.packlines.proofs.Packing.{some-numbers, triple-refused, triple-taken}
-use Rattle.packlines.proofs.load_triple_read.Statement.{statement}
-use Rattle.packlines.proofs.load_triple_read.Tie as tie
+use Rattle.loadlines.proofs.Packing.{some-numbers, triple-refused, triple-taken}
+use Rattle.loadlines.proofs.load_triple_read.Statement.{statement}
+use Rattle.loadlines.proofs.load_triple_read.Tie as tie
 
 ruleset ends = (needs, some-numbers, triple-refused, triple-taken)
 

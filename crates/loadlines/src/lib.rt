@@ -10,7 +10,7 @@ ghost use Rattle.shape.specs.Lengths.{tripleLength};
 ghost use Rattle.sharing.specs.Load.{loadRowAnswer, loadRowRows, loadTripleAnswer, loadTripleRows};
 ghost use Rattle.store.specs.Sizes.{InStreet, storeRoom};
 ghost use Rattle.states.specs.States.{leaving, sessionRows, calling};
-ghost use Rattle.packlines.specs.Steps.{loading, loadStep, loadingTriple, loadTripleStep};
+ghost use Rattle.loadlines.specs.Steps.{loading, loadStep, loadingTriple, loadTripleStep};
 
 // A pack is loaded into the session's rows.
 fn load(state: State, store: &mut [u32], row: usize, pack: &[u32]) -> Stepped

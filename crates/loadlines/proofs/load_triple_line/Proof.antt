@@ -1,9 +1,9 @@
 -- `load_triple_line` meets its contract.
 use borrow.Author.Needs.{needs}
 use Rattle.states.proofs.Calling.{shape-valid}
-use Rattle.packlines.proofs.Packing.{triple-fits, triple-in, triple-prefix, triple-length}
-use Rattle.packlines.proofs.load_triple_line.Statement.{statement}
-use Rattle.packlines.proofs.load_triple_line.Tie as tie
+use Rattle.loadlines.proofs.Packing.{triple-fits, triple-in, triple-prefix, triple-length}
+use Rattle.loadlines.proofs.load_triple_line.Statement.{statement}
+use Rattle.loadlines.proofs.load_triple_line.Tie as tie
 
 ruleset ends = (needs, shape-valid, triple-fits, triple-in, triple-prefix, triple-length)
 

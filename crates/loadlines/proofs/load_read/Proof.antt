@@ -1,8 +1,8 @@
 -- `load_read` meets its contract.
 use borrow.Author.Needs.{needs}
-use Rattle.packlines.proofs.Packing.{some-numbers, load-refused, load-taken}
-use Rattle.packlines.proofs.load_read.Statement.{statement}
-use Rattle.packlines.proofs.load_read.Tie as tie
+use Rattle.loadlines.proofs.Packing.{some-numbers, load-refused, load-taken}
+use Rattle.loadlines.proofs.load_read.Statement.{statement}
+use Rattle.loadlines.proofs.load_read.Tie as tie
 
 ruleset ends = (needs, some-numbers, load-refused, load-taken)
 

@@ -1,9 +1,9 @@
 -- `load_triple` meets its contract.
 use borrow.Author.Needs.{needs}
 use Rattle.states.proofs.Calling.{rows-in, rows-prefix}
-use Rattle.packlines.proofs.Packing.{triple-called}
-use Rattle.packlines.proofs.load_triple.Statement.{statement}
-use Rattle.packlines.proofs.load_triple.Tie as tie
+use Rattle.loadlines.proofs.Packing.{triple-called}
+use Rattle.loadlines.proofs.load_triple.Statement.{statement}
+use Rattle.loadlines.proofs.load_triple.Tie as tie
 
 ruleset ends = (needs, rows-in, rows-prefix, triple-called)
 

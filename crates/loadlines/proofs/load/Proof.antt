@@ -1,9 +1,9 @@
 -- `load` meets its contract.
 use borrow.Author.Needs.{needs}
 use Rattle.states.proofs.Calling.{rows-in, rows-prefix}
-use Rattle.packlines.proofs.Packing.{load-called}
-use Rattle.packlines.proofs.load.Statement.{statement}
-use Rattle.packlines.proofs.load.Tie as tie
+use Rattle.loadlines.proofs.Packing.{load-called}
+use Rattle.loadlines.proofs.load.Statement.{statement}
+use Rattle.loadlines.proofs.load.Tie as tie
 
 ruleset ends = (needs, rows-in, rows-prefix, load-called)
 

@@ -1,8 +1,8 @@
 -- `load_numbers` meets its contract.
 use borrow.Author.Needs.{needs}
-use Rattle.packlines.proofs.Packing.{row-loaded}
-use Rattle.packlines.proofs.load_numbers.Statement.{statement}
-use Rattle.packlines.proofs.load_numbers.Tie as tie
+use Rattle.loadlines.proofs.Packing.{row-loaded}
+use Rattle.loadlines.proofs.load_numbers.Statement.{statement}
+use Rattle.loadlines.proofs.load_numbers.Tie as tie
 
 ruleset ends = (needs, row-loaded)
 

@@ -20,7 +20,7 @@ use Rattle.reading.proofs.Scanned.{read-numbers}
 use Rattle.states.specs.declared.State.{State}
 use Rattle.states.specs.declared.Stepped.{Stepped}
 use Rattle.states.specs.States.{After, refusing, answering, leaving, sessionRows, calling}
-use Rattle.packlines.specs.Steps.{loading, loadStep, loadingTriple, loadTripleStep}
+use Rattle.loadlines.specs.Steps.{loading, loadStep, loadingTriple, loadTripleStep}
 use Rattle.states.proofs.Calling.{line-refused, line-taken, called}
 use Rattle.session.specs.declared.Answer.{Answer}
 

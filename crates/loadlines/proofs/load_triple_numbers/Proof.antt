@@ -1,8 +1,8 @@
 -- `load_triple_numbers` meets its contract.
 use borrow.Author.Needs.{needs}
-use Rattle.packlines.proofs.Packing.{triple-loaded}
-use Rattle.packlines.proofs.load_triple_numbers.Statement.{statement}
-use Rattle.packlines.proofs.load_triple_numbers.Tie as tie
+use Rattle.loadlines.proofs.Packing.{triple-loaded}
+use Rattle.loadlines.proofs.load_triple_numbers.Statement.{statement}
+use Rattle.loadlines.proofs.load_triple_numbers.Tie as tie
 
 ruleset ends = (needs, triple-loaded)
 

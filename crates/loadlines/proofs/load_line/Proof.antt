@@ -1,9 +1,9 @@
 -- `load_line` meets its contract.
 use borrow.Author.Needs.{needs}
 use Rattle.states.proofs.Calling.{shape-valid}
-use Rattle.packlines.proofs.Packing.{pack-fits, pack-in, pack-prefix, pack-length}
-use Rattle.packlines.proofs.load_line.Statement.{statement}
-use Rattle.packlines.proofs.load_line.Tie as tie
+use Rattle.loadlines.proofs.Packing.{pack-fits, pack-in, pack-prefix, pack-length}
+use Rattle.loadlines.proofs.load_line.Statement.{statement}
+use Rattle.loadlines.proofs.load_line.Tie as tie
 
 ruleset ends = (needs, shape-valid, pack-fits, pack-in, pack-prefix, pack-length)
 
