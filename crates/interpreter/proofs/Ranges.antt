@@ -19,14 +19,17 @@ use Rattle.reading.specs.Numbers.{numbers, readRefusal}
 use Rattle.reading.specs.declared.StartForm.{StartForm}
 use Rattle.reading.specs.declared.StartForm.the-variants.{Settings, Wrong}
 use Rattle.reading.specs.Starting.{isStart, startForm, startOf}
-use Rattle.interpreter.specs.declared.State.{State}
-use Rattle.interpreter.specs.declared.Stepped.{Stepped}
-use Rattle.interpreter.specs.States.{After, begunWith, refusing, answering, telling, leaving, after, unless, sessionRows}
-use Rattle.interpreter.specs.Starting.{longestLine, startTests, settingsStep, startStep, earlyStep}
-use Rattle.interpreter.specs.Letters.{loading, loadStep, loadingTriple, loadTripleStep, adding, linearStep, openStep}
-use Rattle.interpreter.specs.Messages.{heard, keepStep, keepMasksStep, keepHalvesStep, hearStep}
-use Rattle.interpreter.specs.Products.{maskLine, noMasks, masking, maskingOf, maskStep, between, pairRefusal, masksFor, finishing, finishStep}
-use Rattle.interpreter.specs.Stepping.{lettersStep, lateStep, step, Ready}
+use Rattle.states.specs.declared.State.{State}
+use Rattle.states.specs.declared.Stepped.{Stepped}
+use Rattle.states.specs.States.{After, begunWith, refusing, answering, telling, leaving, after, unless, sessionRows}
+use Rattle.startlines.specs.Steps.{longestLine, startTests, settingsStep, startStep, earlyStep}
+use Rattle.loadlines.specs.Steps.{loading, loadStep, loadingTriple, loadTripleStep}
+use Rattle.rowlines.specs.Steps.{adding, linearStep, openStep}
+use Rattle.postlines.specs.Steps.{heard, keepStep, keepMasksStep, keepHalvesStep, hearStep}
+use Rattle.masklines.specs.Steps.{maskLine, noMasks, masking, maskingOf, maskStep}
+use Rattle.finishlines.specs.Steps.{between, pairRefusal, masksFor, finishing, finishStep}
+use Rattle.interpreter.specs.Stepping.{lettersStep, lateStep, step}
+use Rattle.interpreter.specs.Between.{Ready}
 use Rattle.interpreter.proofs.Room.{tests-street}
 
 -- the state after a line, if it has a session, has one of the street's

@@ -17,11 +17,11 @@ use Rattle.session.specs.declared.Party.{Party}
 use Rattle.session.specs.Rows.{withRow}
 use Rattle.load.specs.Load.{withTriple}
 use Rattle.store.specs.Sizes.{streetPosts}
-use Rattle.interpreter.specs.States.{firstState, begunWith, refusing, leaving}
-use Rattle.interpreter.specs.Starting.{longestLine}
+use Rattle.states.specs.States.{firstState, begunWith, refusing, leaving}
+use Rattle.startlines.specs.Steps.{longestLine}
 use Rattle.interpreter.specs.Stepping.{step}
-use Rattle.transcript.specs.Text.{answerText}
-use Rattle.transcript.specs.Program.{Running, leftBy, fed}
+use Rattle.answers.specs.Text.{answerText}
+use Rattle.feeds.specs.Program.{Running, leftBy, fed}
 use Rattle.transcript.proofs.Chunks.{fed-append}
 use Rattle.kinds.specs.Kinds.{drawnFor}
 use Rattle.packrow.specs.Numbers.{postPart, tripleParts, numbersOf}

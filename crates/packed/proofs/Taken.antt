@@ -26,10 +26,10 @@ use Rattle.load.specs.Load.{loadRowRefusal, loadTripleRefusal, withTriple}
 use Rattle.store.specs.Sizes.{streetPosts, longestTriple}
 use Rattle.reading.specs.Numbers.{numberForm, numbers, readRefusal, rowsBeyond}
 use Rattle.reading.specs.Starting.{isStart}
-use Rattle.interpreter.specs.declared.State.{State}
-use Rattle.interpreter.specs.States.{firstState, begunWith, refusing, leaving, sessionRows}
-use Rattle.interpreter.specs.Starting.{longestLine, startTests, startStep, earlyStep}
-use Rattle.interpreter.specs.Letters.{loading, loadStep, loadingTriple, loadTripleStep}
+use Rattle.states.specs.declared.State.{State}
+use Rattle.states.specs.States.{firstState, begunWith, refusing, leaving, sessionRows}
+use Rattle.startlines.specs.Steps.{longestLine, startTests, startStep, earlyStep}
+use Rattle.loadlines.specs.Steps.{loading, loadStep, loadingTriple, loadTripleStep}
 use Rattle.interpreter.specs.Stepping.{lettersStep, lateStep, step}
 use Rattle.factory.proofs.Laws.{elements-pass}
 use Rattle.packlines.specs.File.{startLine}

@@ -20,9 +20,9 @@ use Rattle.factory.specs.Calls.{anyBadPoint}
 use Rattle.factory.proofs.Laws.{elements-of}
 use Rattle.session.specs.declared.Party.{Party}
 use Rattle.store.specs.Sizes.{streetPosts, storeRoom}
-use Rattle.interpreter.specs.States.{firstState, begunWith}
-use Rattle.transcript.specs.Text.{header, answerText}
-use Rattle.transcript.specs.Program.{Running, leftBy, begun, fed, closed, output}
+use Rattle.states.specs.States.{firstState, begunWith}
+use Rattle.answers.specs.Text.{header, answerText}
+use Rattle.feeds.specs.Program.{Running, leftBy, begun, fed, closed, output}
 use Rattle.transcript.proofs.Chunks.{fed-append}
 use Rattle.packlines.specs.File.{startLine, rowLines, file}
 use Rattle.packrow.specs.Between.{PostIn}
