@@ -1,7 +1,7 @@
 // A mask, a − l or b − l', opened with its record; and the refusal of two openings. The first call of a finish and a relation's finish
 // use both.
-use walk::Opened;
 use session::Party;
+use walk::Opened;
 ghost use mathlib.Core.Path.{_≡_};
 ghost use Prim.Native.Nat.{_≤_};
 ghost use lib.ListN.{length};

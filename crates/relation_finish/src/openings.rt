@@ -1,9 +1,9 @@
 // The openings of a relation's finish: y and y' of every product term, with the first refusal among them.
-use walk::Opened;
 use relation_writing::OpenedTerms;
 use session::Session;
 use terms::Term;
 use terms::Terms;
+use walk::Opened;
 ghost use mathlib.Core.Path.{_≡_};
 ghost use Prim.Native.Nat.{_+_, _*_, _≤_, _<_};
 ghost use lib.ListN.{length};
