@@ -44,7 +44,7 @@ collectTable s rows r blocksA blocksB =
     ∷ []
 
 -- The call's own tests are these.
-abbrev pub CollectTabled : Type 0
-CollectTabled =
+abbrev pub CollectTable : Type 0
+CollectTable =
     (s : Session) (rows : List ℕ) (r : ℕ) (blocksA blocksB : List ℕ)
     → collectTests s rows r blocksA blocksB ≡ collectTable s rows r blocksA blocksB

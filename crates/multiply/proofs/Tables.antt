@@ -1,6 +1,6 @@
 -- The tests of a finish's second call are document 01's table.
 use mathlib.Core.Path.{refl}
-use Rattle.multiply.specs.Table.{MultiplyTabled}
+use Rattle.multiply.specs.Table.{MultiplyTable}
 
-pub multiply-tabled : MultiplyTabled
+pub multiply-tabled : MultiplyTable
 multiply-tabled s rows r = refl

@@ -32,5 +32,5 @@ multiplyTable s rows r =
     ∷ []
 
 -- The call's own tests are these.
-abbrev pub MultiplyTabled : Type 0
-MultiplyTabled = (s : Session) (rows : List ℕ) (r : ℕ) → multiplyTests s rows r ≡ multiplyTable s rows r
+abbrev pub MultiplyTable : Type 0
+MultiplyTable = (s : Session) (rows : List ℕ) (r : ℕ) → multiplyTests s rows r ≡ multiplyTable s rows r

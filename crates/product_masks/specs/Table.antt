@@ -34,6 +34,6 @@ masksTable s rows a b r out =
     ∷ []
 
 -- The call's own tests are these.
-abbrev pub MasksTabled : Type 0
-MasksTabled =
+abbrev pub MasksTable : Type 0
+MasksTable =
     (s : Session) (rows : List ℕ) (a b r : ℕ) (out : List ℕ) → masksTests s rows a b r out ≡ masksTable s rows a b r out
