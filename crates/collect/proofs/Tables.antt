@@ -2,5 +2,5 @@
 use mathlib.Core.Path.{refl}
 use Rattle.collect.specs.Table.{CollectTable}
 
-pub collect-tabled : CollectTable
-collect-tabled s rows r blocksA blocksB = refl
+pub collect-table : CollectTable
+collect-table s rows r blocksA blocksB = refl

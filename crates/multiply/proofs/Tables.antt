@@ -2,5 +2,5 @@
 use mathlib.Core.Path.{refl}
 use Rattle.multiply.specs.Table.{MultiplyTable}
 
-pub multiply-tabled : MultiplyTable
-multiply-tabled s rows r = refl
+pub multiply-table : MultiplyTable
+multiply-table s rows r = refl

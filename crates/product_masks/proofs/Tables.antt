@@ -2,5 +2,5 @@
 use mathlib.Core.Path.{refl}
 use Rattle.product_masks.specs.Table.{MasksTable}
 
-pub masks-tabled : MasksTable
-masks-tabled s rows a b r out = refl
+pub masks-table : MasksTable
+masks-table s rows a b r out = refl
