@@ -78,7 +78,7 @@ one-pair plan draw L r k k' =
       one plan draw L (k .is-b) (subst (λ (x : ℕ). Is plan draw L x (k' .Y)) gb (k' .is-b)),
     )
 
-module _ (plan : Plan) (draw : Draw) (L : Ledger) (S : ℕ → Type 0) (rows : ℕ → List ℕ) (es : List Event) (h : Premises plan draw L S es (begin plan draw rows)) (i : ℕ) (lo : 1 ≤ i) (hi : i ≤ plan .n) (among : S i) (r : ℕ) where
+module _ (plan : Plan) (draw : Draw) (L : Ledger) (S : ℕ → Type 0) (rows : ℕ → List ℕ) (es : List Event) (h : Premises plan draw L S es rows) (i : ℕ) (lo : 1 ≤ i) (hi : i ≤ plan .n) (among : S i) (r : ℕ) where
   w : World
   w = end plan draw L S rows es h
 
@@ -194,7 +194,7 @@ mask-parts plan draw L S rows es h i r lo hi among five = (
     k : Factors plan draw L r
     k = factors plan draw L S rows es h i lo hi among r five
 
-    both : (points : List ℕ) (S' : ℕ → Type 0) (rows' : ℕ → List ℕ) (es' : List Event) (h' : Premises plan (withPoints points draw) L S' es' (begin plan (withPoints points draw) rows'))
+    both : (points : List ℕ) (S' : ℕ → Type 0) (rows' : ℕ → List ℕ) (es' : List Event) (h' : Premises plan (withPoints points draw) L S' es' rows')
         (i' : ℕ) (lo' : 1 ≤ i') (hi' : i' ≤ plan .n) (among' : S' i')
         → (let v = history es' (begin plan (withPoints points draw) rows') in let q = v .posts i' in
         mark (q .session) r ≡ masked

@@ -158,7 +158,7 @@ relation-shown plan draw L S rows before behind i r ts records h lo hi among z =
     w : World
     w = begin plan draw rows
 
-    early : Premises plan draw L S before (begin plan draw rows)
+    early : Premises plan draw L S before rows
     early = record {
       sound = h .sound;
       is-draw = h .is-draw;

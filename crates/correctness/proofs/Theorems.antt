@@ -35,7 +35,7 @@ use Rattle.correctness.proofs.Walking.{Inv, after-all, beginning}
 use Rattle.correctness.proofs.Permitted.{standerOf}
 use Rattle.correctness.proofs.Openings.{Reliable, right}
 
-module _ (plan : Plan) (draw : Draw) (L : Ledger) (S : ℕ → Type 0) (rows : ℕ → List ℕ) (es : List Event) (h : Premises plan draw L S es (begin plan draw rows)) where
+module _ (plan : Plan) (draw : Draw) (L : Ledger) (S : ℕ → Type 0) (rows : ℕ → List ℕ) (es : List Event) (h : Premises plan draw L S es rows) where
   unfoldable pub lens : ℕ → ℕ
   lens i = length (rows i)
 

@@ -20,18 +20,18 @@ use Rattle.collect.specs.Collect.{maskA, maskB, collectAnswer}
 use Rattle.multiply.specs.Multiply.{multiplyAnswer}
 use Rattle.runs.specs.Draws.{Plan, Draw, IsDraw, Sound, planShape}
 use Rattle.runs.specs.Calls.{Post, opening, Proper}
-use Rattle.correctness.specs.History.{Event, World, history, answers, begin, Each}
+use Rattle.correctness.specs.History.{Event, history, answers, begin, Each}
 use Rattle.correctness.specs.Ledger.{Ledger, Written, Plain}
 use Rattle.correctness.specs.Truth.{OwnPart, TruePolynomial, TrueMask, TrueOf, EnoughTrue, TrueFinish}
 
 -- The premises, on the calls of the posts S alone: sessions of one draw; the same deals, sums and masks; true polynomials in all
 -- their finishes. Any other post may load, deal, send and finish what it likes.
-pub record Premises (plan : Plan) (draw : Draw) (L : Ledger) (S : ℕ → Type 0) (es : List Event) (w : World) : Type 0 where
+pub record Premises (plan : Plan) (draw : Draw) (L : Ledger) (S : ℕ → Type 0) (es : List Event) (rows : ℕ → List ℕ) : Type 0 where
   pub sound : Sound plan
   pub is-draw : IsDraw plan draw
-  pub parts : Each S (λ e v. OwnPart plan draw (e .post) (e .call)) es w
-  pub ledger : Each S (λ e v. Written draw L (e .call)) es w
-  pub finishes : Each S (λ e v. TrueFinish S v (v .posts (e .post)) (e .call)) es w
+  pub parts : Each S (λ e v. OwnPart plan draw (e .post) (e .call)) es (begin plan draw rows)
+  pub ledger : Each S (λ e v. Written draw L (e .call)) es (begin plan draw rows)
+  pub finishes : Each S (λ e v. TrueFinish S v (v .posts (e .post)) (e .call)) es (begin plan draw rows)
 
 -- How many polynomials a post accepts for a row, of all n posts.
 abbrev pub howMany : Session → List ℕ → List ℕ → ℕ
@@ -118,7 +118,7 @@ pub record Right (L : Ledger) (P : ℕ → ℕ → List ℕ → Type 0) (H : (Li
 abbrev pub Correct : Type 1
 Correct =
     (plan : Plan) (draw : Draw) (L : Ledger) (S : ℕ → Type 0) (rows : ℕ → List ℕ) (es : List Event)
-    → Premises plan draw L S es (begin plan draw rows) → (i : ℕ) → 1 ≤ i → i ≤ plan .n → S i
+    → Premises plan draw L S es rows → (i : ℕ) → 1 ≤ i → i ≤ plan .n → S i
     → Right L (TruePolynomial S (history es (begin plan draw rows)))
     (TrueMask S (history es (begin plan draw rows)) (planShape plan)) (history es (begin plan draw rows) .posts i)
 
@@ -127,7 +127,7 @@ Correct =
 abbrev pub OpeningsAnswered : Type 1
 OpeningsAnswered =
     (plan : Plan) (draw : Draw) (L : Ledger) (S : ℕ → Type 0) (rows : ℕ → List ℕ) (before behind : List Event) (i r : ℕ) (blocks : List ℕ)
-    (none : Answer) → Premises plan draw L S before (begin plan draw rows) → 1 ≤ i → i ≤ plan .n → S i
+    (none : Answer) → Premises plan draw L S before rows → 1 ≤ i → i ≤ plan .n → S i
     → mark (history before (begin plan draw rows) .posts i .session) r ≡ held
     → Proper (history before (begin plan draw rows) .posts i .session) blocks
     → Answered L (TruePolynomial S (history before (begin plan draw rows)) r) (history before (begin plan draw rows) .posts i) r blocks

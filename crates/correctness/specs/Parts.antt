@@ -50,7 +50,7 @@ withPoints points draw = record { points = points; raws = draw .raws; triples = 
 abbrev pub OneVector : Plan → Draw → Ledger → (m r : ℕ) → (Session → List ℕ → List ℕ) → ((ℕ → Type 0) → World → ℕ → List ℕ → Type 0) → Vector → Type 1
 OneVector plan draw L m r row P X =
     (points : List ℕ) (S : ℕ → Type 0) (rows : ℕ → List ℕ) (es : List Event)
-    → Premises plan (withPoints points draw) L S es (begin plan (withPoints points draw) rows) → (i : ℕ) → 1 ≤ i → i ≤ plan .n → S i
+    → Premises plan (withPoints points draw) L S es rows → (i : ℕ) → 1 ≤ i → i ≤ plan .n → S i
     → (let w = history es (begin plan (withPoints points draw) rows) in let q = w .posts i in
     mark (q .session) r ≡ m → PartOf (P S w) (q .session) (row (q .session) (q .rows)) X)
 
@@ -58,7 +58,7 @@ OneVector plan draw L m r row P X =
 abbrev pub HeldParts : Type 1
 HeldParts =
     (plan : Plan) (draw : Draw) (L : Ledger) (S : ℕ → Type 0) (rows : ℕ → List ℕ) (es : List Event)
-    → Premises plan draw L S es (begin plan draw rows) → (i r : ℕ) → 1 ≤ i → i ≤ plan .n → S i
+    → Premises plan draw L S es rows → (i r : ℕ) → 1 ≤ i → i ≤ plan .n → S i
     → mark (history es (begin plan draw rows) .posts i .session) r ≡ held
     → (X : Vector) × Plain L r (number X .0) × OneVector plan draw L held r (λ s rows. rowAt (width s) rows r) (λ S w. TruePolynomial S w r) X
 
@@ -66,7 +66,7 @@ HeldParts =
 abbrev pub MaskParts : Type 1
 MaskParts =
     (plan : Plan) (draw : Draw) (L : Ledger) (S : ℕ → Type 0) (rows : ℕ → List ℕ) (es : List Event)
-    → Premises plan draw L S es (begin plan draw rows) → (i r : ℕ) → 1 ≤ i → i ≤ plan .n → S i
+    → Premises plan draw L S es rows → (i r : ℕ) → 1 ≤ i → i ≤ plan .n → S i
     → mark (history es (begin plan draw rows) .posts i .session) r ≡ masked
     → ((X : Vector)
     × OneVector plan draw L masked r (λ s rows. maskA s rows r) (λ S w. TrueMask S w (planShape plan) (take (vLength (planShape plan))) r) X)

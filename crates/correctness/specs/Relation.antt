@@ -79,7 +79,7 @@ RelationShown =
     (records : List ℕ)
     → (let e : Event = record { post = i; call = relationFinish ts r records } in
     let w = begin plan draw rows in
-    Premises plan draw L S (before ++ (e ∷ behind)) w → 1 ≤ i → i ≤ plan .n → S i → doneBy e (history before w) .answer .refusal ≡ 0
+    Premises plan draw L S (before ++ (e ∷ behind)) rows → 1 ≤ i → i ≤ plan .n → S i → doneBy e (history before w) .answer .refusal ≡ 0
     → RelationIn L r ts
     × (mark (history (before ++ (e ∷ behind)) w .posts i .session) r ≡ held)
     × ((number : ℕ → ℕ) → Named L number ts → (j : ℕ) → 1 ≤ j → j ≤ plan .n → S j
@@ -141,6 +141,6 @@ pub record Related (H : (List ℕ → List ℕ) → ℕ → ℕ → List ℕ →
 abbrev pub RelationsFinish : Type 1
 RelationsFinish =
     (plan : Plan) (draw : Draw) (L : Ledger) (S : ℕ → Type 0) (rows : ℕ → List ℕ) (es : List Event)
-    → Premises plan draw L S es (begin plan draw rows) → (i : ℕ) → 1 ≤ i → i ≤ plan .n → S i → (ts : List Term) (r : ℕ) (blocks : List ℕ)
+    → Premises plan draw L S es rows → (i : ℕ) → 1 ≤ i → i ≤ plan .n → S i → (ts : List Term) (r : ℕ) (blocks : List ℕ)
     → (let w = history es (begin plan draw rows) in let q = w .posts i in
     Ready q ts r blocks → Related (TrueMask S w (planShape plan)) q ts blocks (relationFinishAnswer (q .session) (q .rows) (collected ts) r blocks))

@@ -6,7 +6,7 @@ use mathlib.Core.Bool.{true}
 use mathlib.Core.List.{List, [], _∷_, _++_}
 use native.Mathlib.Omega.{arith}
 use borrow.Author.Tests.{eqb-true, ne-eqb}
-use lib.Dec.{eqb, lit<, lit≤}
+use lib.Dec.{lit<, lit≤}
 use lib.ListN.{length, getD, replicate}
 use Rattle.field.specs.Arithmetic as Arithmetic
 use Rattle.poly.specs.Counting.{All, Elements, countFrom}
@@ -16,7 +16,7 @@ use Rattle.shape.specs.Bounds.{rowCount, lastRow}
 use Rattle.refusal.specs.Refusal.{outcome}
 use Rattle.refusal.specs.Conditions.{anyBeyond}
 use Rattle.parts.specs.Draw.{eachFrom, part}
-use Rattle.factory.specs.Calls.{dealerRefusal, dealerNumber}
+use Rattle.factory.specs.Calls.{dealerRefusal}
 use Rattle.session.specs.Rows.{combined, plusSums}
 use Rattle.session.specs.Sessions.{created}
 use Rattle.load.specs.Load.{loadRowRefusal, loadTripleRefusal, withTriple}
@@ -38,13 +38,13 @@ use Rattle.relation.specs.Masks.{relationMasksRefusal, maskedTerms, termMasks}
 use Rattle.relation.specs.Finish.{recordTests, relationFinishRefusal, withProducts, plusTerms, finishedTerms}
 use Rattle.csv.specs.Fields.{fields}
 use Rattle.decimal.specs.Numeral.{lastDigits, sizeWithin}
-use Rattle.runs.specs.Draws.{Plan, Draw, IsRaw, Sound, IsDraw, rawLength, tripleLength, none, by, pointOf, rawDraw, tripleDraw, rawPack, triplePack}
+use Rattle.runs.specs.Draws.{Draw, IsRaw, Sound, IsDraw, rawLength, tripleLength, pointOf, rawDraw, tripleDraw, rawPack, triplePack}
 use Rattle.runs.specs.Outline.{Taking, nothingTaken, aRowPack, aTriplePack, aNumber, aRecord, twoRecords, takes, Given, Move, moves}
-use Rattle.runs.specs.Calls.{Post, Actual, Call, loadRow, loadTriple, deal, perform, newPost, at}
+use Rattle.runs.specs.Calls.{Post, Actual, perform, newPost, at}
 use Rattle.runs.proofs.Outlines.{all-every}
 use Rattle.factory.proofs.Laws.{elements-of}
-use Rattle.correctness.specs.History.{Event, World, doneBy, turn, history, Each}
-use Rattle.correctness.specs.Ledger.{Ledger, nothing, dealt, sum, product, Written, Plain, of-deal, of-row, of-times, of-fee, of-more, of-product}
+use Rattle.correctness.specs.History.{Event, World, turn, history, Each}
+use Rattle.correctness.specs.Ledger.{sum, product, Written, Plain, of-deal, of-row, of-times, of-fee, of-more, of-product}
 use Rattle.correctness.specs.Truth.{OwnPart, EnoughTrue, TrueWith, TrueFinish}
 use Rattle.correctness_examples.specs.Station.{plan, drawWith, ledger, Everyone}
 

@@ -1,9 +1,7 @@
 -- A lie that a later post contradicts is refused with 13, by computing and by the theorem: of the three polynomials accepted two are
 -- true, so that the answer is the plain number or 13.
-use Prim.Native.Nat.{ℕ}
 use mathlib.Core.Path.{_≡_, refl}
 use mathlib.Core.Logic.{_⊎_, inl}
-use mathlib.Core.List.{List, [], _∷_}
 use native.Mathlib.Omega.{arith}
 use lib.Dec.{lit<, lit≤}
 use Rattle.opening.specs.Opening.{openAnswer}
@@ -27,7 +25,7 @@ contradicted = record {
   opens = refl;
 }
 
-premises : Premises plan draw ledger Everyone dealing new
+premises : Premises plan draw ledger Everyone dealing zeros
 unfolding plan dealing ledger
 premises = record {
   sound = sound;

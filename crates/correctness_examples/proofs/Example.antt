@@ -13,16 +13,15 @@ use Rattle.factory.specs.Calls.{dealerNumber}
 use Rattle.opening.specs.Walking.{acceptedPosts}
 use Rattle.opening.specs.Opening.{openAnswer}
 use Rattle.collect.specs.Collect.{maskA}
-use Rattle.runs.specs.Draws.{Draw, IsDraw, rawDraw}
-use Rattle.runs.specs.Calls.{Post, message, linear, masks, collect, multiply}
+use Rattle.runs.specs.Draws.{IsDraw, rawDraw}
 use Rattle.factory.proofs.Laws.{elements-of}
-use Rattle.correctness.specs.History.{Event, World, history, begin, Each}
+use Rattle.correctness.specs.History.{Event, history, Each}
 use Rattle.correctness.specs.Ledger.{dealt, Written, Plain}
 use Rattle.correctness.specs.Truth.{OwnPart, TrueFinish}
 use Rattle.correctness.specs.Claim.{Premises}
 use Rattle.correctness.proofs.Meanings.{one-number}
 use Rattle.correctness.proofs.Theorems.{correct}
-use Rattle.correctness_examples.specs.Station.{plan, drawWith, ledger, call, load, loadThree, dealOf, zeros, room, rooms, nobody, refusals, Everyone}
+use Rattle.correctness_examples.specs.Station.{plan, drawWith, ledger, call, zeros, refusals, Everyone}
 use Rattle.correctness_examples.specs.Orders.{drawn, draw, loads, deals, sums, ends, before, events, new, lie, last, true-record}
 use Rattle.correctness_examples.proofs.Computing.{Computes, sound, is-draw, plain-42, two-true, all-join, each-join, each-of, each-quiet}
 
@@ -91,7 +90,7 @@ true-ends = (
   ),
 )
 
-pub premises : Premises plan draw ledger Everyone events (begin plan draw zeros)
+pub premises : Premises plan draw ledger Everyone events zeros
 unfolding Computes plan drawn draw loads deals sums ends
 premises = record {
   sound = sound;

@@ -7,7 +7,7 @@ use mathlib.Core.List.{List, [], _∷_, _++_}
 use lib.Dec.{lit≤}
 use Rattle.opening.specs.Opening.{openAnswer}
 use Rattle.runs.specs.Calls.{Post, message, linear}
-use Rattle.correctness.specs.History.{Event, history, begin}
+use Rattle.correctness.specs.History.{Event, history}
 use Rattle.correctness.specs.Ledger.{Written, Plain, of-deal, of-row, of-times, of-fee, of-more}
 use Rattle.correctness.specs.Truth.{OwnPart, TrueFinish}
 use Rattle.correctness.specs.Claim.{Premises}
@@ -24,7 +24,7 @@ more =
     call 2 (linear 6 0 4 2 0) ∷ call 1 (linear 6 0 4 2 0) ∷ call 2 (message 6 room)
     ∷ call 1 (linear 8 4 4 0 8) ∷ call 2 (linear 8 4 4 0 8) ∷ call 2 (message 8 room) ∷ []
 
-longer : Premises plan draw ledger Everyone (events ++ more) (begin plan draw zeros)
+longer : Premises plan draw ledger Everyone (events ++ more) zeros
 unfolding plan more ledger
 longer = record {
   sound = premises .sound;

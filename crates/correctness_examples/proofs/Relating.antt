@@ -13,7 +13,7 @@ use Rattle.factory.specs.Calls.{dealerNumber}
 use Rattle.opening.specs.Opening.{openAnswer}
 use Rattle.runs.specs.Draws.{rawDraw}
 use Rattle.factory.proofs.Laws.{elements-of}
-use Rattle.correctness.specs.History.{Event, World, history, begin, Each}
+use Rattle.correctness.specs.History.{Event, World, history, Each}
 use Rattle.correctness.specs.Ledger.{dealt, Written, Plain, of-deal, of-row, of-times, of-fee, of-more, of-product}
 use Rattle.correctness.specs.Truth.{OwnPart, TrueFinish}
 use Rattle.correctness.specs.Claim.{Premises}
@@ -111,7 +111,7 @@ true-ends = (
   ),
 )
 
-pub premises : Premises plan draw fees Everyone events (begin plan draw zeros)
+pub premises : Premises plan draw fees Everyone events zeros
 unfolding Computes plan drawn draw starts sends early late later
 premises = record {
   sound = sound;
@@ -167,7 +167,7 @@ by-theorem' : (let q = history (first-part ++ (wrong ∷ later)) new .posts 1 in
 unfolding Computes plan drawWith drawn draw starts sends early late later
 by-theorem' =
     relation-shown plan draw fees Everyone zeros first-part later 1 8 unfair []
-    (subst (λ (es : List Event). Premises plan draw fees Everyone es new) (sym apart) premises) (lit≤ tt) (lit≤ tt) tt refl .2
+    (subst (λ (es : List Event). Premises plan draw fees Everyone es zeros) (sym apart) premises) (lit≤ tt) (lit≤ tt) tt refl .2
     numbers named' 1 (lit≤ tt) (lit≤ tt) tt told refl (record { long = refl; low = refl }) (lit≤ tt)
     ((λ ne. absurd (ne refl)), ((λ ne. (tt, inl (inr (inr (inl refl))))), tt))
 

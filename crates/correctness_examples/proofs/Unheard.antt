@@ -37,7 +37,7 @@ abbrev new : World
 new = begin plan draw zeros
 
 -- no ledger fits all posts: c is p − 1 of 6, and 1 of 8
-no-premises : (L : Ledger) → Premises plan draw L Everyone before new → ⊥
+no-premises : (L : Ledger) → Premises plan draw L Everyone before zeros → ⊥
 unfolding Computes plan drawWith drawn draw before
 no-premises L h =
     let a = h .ledger .1 .1 .1 .0 tt refl in let b = h .ledger .1 .1 .1 .1 .1 .0 tt refl in let e : a .0 ≡ b .0 = cc in
@@ -45,7 +45,7 @@ no-premises L h =
     absurd (omega arith)
 
 -- but this one fits all but post 3
-premises : Premises plan draw ledger (AllBut 3) before new
+premises : Premises plan draw ledger (AllBut 3) before zeros
 unfolding plan before ledger
 premises = record {
   sound = sound;
