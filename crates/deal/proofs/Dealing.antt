@@ -9,12 +9,12 @@ use Rattle.shape.specs.Lengths.{rowLength, sumsAt}
 use Rattle.refusal.specs.Refusal.{Test, _when_, first, orElse}
 use Rattle.refusal.specs.Conditions.{beyond, anyBeyond}
 use Rattle.refusal.proofs.Groups.{chained}
-use Rattle.refusal.proofs.Endings.{accepted}
+use Rattle.refusal.proofs.Endings.{refused, accepted}
 use Rattle.session.specs.declared.Session.{Session}
 use Rattle.session.specs.Sessions.{shapeOf}
 use Rattle.session.specs.Rows.{width, rowAt, withRow, plusSums}
 use Rattle.session.specs.Checks.{frameTests, noRow, wrongMark}
-use Rattle.session.specs.Between.{Sized, RowIn}
+use Rattle.session.specs.Between.{Sized, RowIn, Allows}
 use Rattle.session.proofs.Passed.{row-below}
 use Rattle.session.proofs.Calls.{stopped-at-frame, past-frame}
 use Rattle.deal.specs.Deal.{dealRefusal, dealRows}
@@ -37,19 +37,22 @@ module _ (s : Session) (rows : List ℕ) (r c : ℕ) where
       let h : q9 ≡ first (8 when anyBeyond (rowAt (width s) rows r) ∷ []) = rw eg at e9 in
       past-frame s rows own f z e n (chained own tt z (cc))
 
+  pub deal-allows : (f : ℕ) → f ≡ dealRefusal s rows r c → Allows f (r ≤ lastRow)
+  deal-allows f e = record { allowed = λ n. dealt s rows r c (sym e ∙ n) .placed .row-in }
+
+  pub deal-untouched : (f : ℕ) → f ≡ dealRefusal s rows r c → (f ≡ 0 → ⊥) → rows ≡ dealRows s rows r c
+  deal-untouched f e n = refused f (dealRefusal s rows r c) (withRow (width s) r (plusSums (sumsAt (shapeOf s)) c (rowAt (width s) rows r)) rows) rows e n
+
   module _ (f : ℕ) (e : f ≡ dealRefusal s rows r c) (n : f ≡ 0) where
     passed : Dealt s rows r c
     passed = dealt s rows r c (sym e ∙ n)
-
-    pub deal-row : r ≤ lastRow
-    deal-row = passed .placed .row-in
 
     module _ (g : Shape) (eg : g ≡ shapeOf s) where
       pub deal-sized : Sized g rows
       deal-sized = rw eg (passed .framed .sized)
 
       pub deal-in : RowIn g r
-      deal-in = row-below g r deal-row
+      deal-in = row-below g r (passed .placed .row-in)
 
       pub deal-written : (out : List ℕ)
           → out ≡ withRow (rowLength g) r (plusSums (sumsAt g) c (rowAt (rowLength g) rows r)) rows → out ≡ dealRows s rows r c

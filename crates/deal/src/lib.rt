@@ -11,17 +11,25 @@ fn deal_refusal(session: Session, rows: &[u32], row: usize, c: u32) -> u8
     if frame != 0 {
         return frame;
     }
+    let held = session.marks;
+    let marks = session::checks::wrong_mark(&held, row, shape::RAW);
     let numbers = refusal::or_else(
         refusal::number(c),
         session::checks::numbers(session.shape(), rows, row),
     );
-    refusal::or_else(
-        session::checks::row(row),
-        refusal::or_else(
-            session::checks::wrong_mark(&session.marks, row, shape::RAW),
-            numbers,
-        ),
-    )
+    let place = session::checks::row(row);
+    refusal::or_else(place, refusal::or_else(marks, numbers))
+}
+
+// The rows, after a call with this refusal.
+fn deal_rows(session: Session, rows: &mut [u32], row: usize, c: u32, refusal: u8)
+    requires { ⌜ refusal ≡ dealRefusal session (now rows) row c ⌝ }
+    ensures { λ r. ⌜ now (rows .exit) ≡ dealRows session (now (rows .entry)) row c ⌝ }
+{
+    if refusal != 0 {
+        return;
+    }
+    sums::add_to_sums(session.shape(), rows, row, c);
 }
 
 pub fn deal(session: Session, rows: &mut [u32], row: usize, c: u32) -> Answer
@@ -29,9 +37,6 @@ pub fn deal(session: Session, rows: &mut [u32], row: usize, c: u32) -> Answer
     ensures { λ r. ⌜ now (rows .exit) ≡ dealRows session (now (rows .entry)) row c ⌝ }
 {
     let refusal = deal_refusal(session, rows, row, c);
-    if refusal != 0 {
-        return session.refuse(refusal);
-    }
-    sums::add_to_sums(session.shape(), rows, row, c);
-    session.done_marking(row, shape::HELD)
+    deal_rows(session, rows, row, c, refusal);
+    session.answer_marking(refusal, row, shape::HELD)
 }

@@ -9,12 +9,12 @@ use Rattle.refusal.specs.Refusal.{Test, _when_, first, orElse}
 use Rattle.refusal.specs.Conditions.{beyond, anyBeyond}
 use Rattle.refusal.proofs.Laws.{first-join}
 use Rattle.refusal.proofs.Groups.{first-chain}
-use Rattle.refusal.proofs.Endings.{accepted}
+use Rattle.refusal.proofs.Endings.{refused, accepted}
 use Rattle.session.specs.declared.Session.{Session}
 use Rattle.session.specs.Sessions.{shapeOf}
 use Rattle.session.specs.Rows.{width, rowAt, withRow, summed}
 use Rattle.session.specs.Checks.{frameTests, noRow}
-use Rattle.session.specs.Between.{Sized, RowIn}
+use Rattle.session.specs.Between.{Sized, RowIn, Allows}
 use Rattle.session.proofs.Passed.{row-below}
 use Rattle.session.proofs.Calls.{stopped-at-frame, past-frame}
 use Rattle.linear.specs.Linear.{linearMarks, linearRefusal, linearRows}
@@ -56,19 +56,24 @@ module _ (s : Session) (rows : List ℕ) (r a b scale fee : ℕ) where
         first-chain numbers tt,
       ))
 
+  pub linear-allows : (f : ℕ) → f ≡ linearRefusal s rows r a b scale fee → Allows f (r ≤ lastRow)
+  linear-allows f e = record { allowed = λ n. Passed.summed s rows r a b scale fee (sym e ∙ n) .placed .row-in }
+
+  pub linear-untouched : (f : ℕ) → f ≡ linearRefusal s rows r a b scale fee → (f ≡ 0 → ⊥) → rows ≡ linearRows s rows r a b scale fee
+  linear-untouched f e n =
+      refused f (linearRefusal s rows r a b scale fee)
+      (withRow (width s) r (summed (sumsAt (shapeOf s)) scale fee (rowAt (width s) rows a) (rowAt (width s) rows b)) rows) rows e n
+
   module _ (f : ℕ) (e : f ≡ linearRefusal s rows r a b scale fee) (n : f ≡ 0) where
     passed : Summed s rows r a b scale fee
     passed = Passed.summed s rows r a b scale fee (sym e ∙ n)
-
-    pub linear-row : r ≤ lastRow
-    linear-row = passed .placed .row-in
 
     module _ (g : Shape) (eg : g ≡ shapeOf s) where
       pub linear-sized : Sized g rows
       linear-sized = rw eg (passed .framed .sized)
 
       pub linear-in : RowIn g r
-      linear-in = row-below g r linear-row
+      linear-in = row-below g r (passed .placed .row-in)
 
       pub linear-in-a : RowIn g a
       linear-in-a = row-below g a (passed .placed .a-in)

@@ -35,6 +35,7 @@ fn linear_refusal(
         return frame;
     }
     let shape = session.shape();
+    let marks = session.marks;
     let numbers = refusal::or_else(
         refusal::number(scale),
         refusal::or_else(
@@ -45,7 +46,7 @@ fn linear_refusal(
             ),
         ),
     );
-    let marked = refusal::or_else(linear_marks(&session.marks, dest, a, b), numbers);
+    let marked = refusal::or_else(linear_marks(&marks, dest, a, b), numbers);
     refusal::or_else(
         session::checks::row(dest),
         refusal::or_else(
@@ -53,6 +54,26 @@ fn linear_refusal(
             refusal::or_else(session::checks::row(b), marked),
         ),
     )
+}
+
+// The rows, after a call with this refusal.
+fn linear_rows(
+    session: Session,
+    rows: &mut [u32],
+    dest: usize,
+    a: usize,
+    b: usize,
+    scale: u32,
+    fee: u32,
+    refusal: u8,
+)
+    requires { ⌜ refusal ≡ linearRefusal session (now rows) dest a b scale fee ⌝ }
+    ensures { λ r. ⌜ now (rows .exit) ≡ linearRows session (now (rows .entry)) dest a b scale fee ⌝ }
+{
+    if refusal != 0 {
+        return;
+    }
+    sums::sum_rows(session.shape(), rows, dest, a, b, scale, fee);
 }
 
 pub fn linear(
@@ -68,9 +89,6 @@ pub fn linear(
     ensures { λ r. ⌜ now (rows .exit) ≡ linearRows session (now (rows .entry)) dest a b scale fee ⌝ }
 {
     let refusal = linear_refusal(session, rows, dest, a, b, scale, fee);
-    if refusal != 0 {
-        return session.refuse(refusal);
-    }
-    sums::sum_rows(session.shape(), rows, dest, a, b, scale, fee);
-    session.done_marking(dest, shape::HELD)
+    linear_rows(session, rows, dest, a, b, scale, fee, refusal);
+    session.answer_marking(refusal, dest, shape::HELD)
 }

@@ -13,12 +13,12 @@ use Rattle.refusal.specs.Refusal.{Test, _when_, first, orElse}
 use Rattle.refusal.specs.Conditions.{wrongLength, anyBeyond}
 use Rattle.refusal.proofs.Laws.{first-join, orElse-zero, all-fail}
 use Rattle.refusal.proofs.Groups.{chained, stopped, went-on}
-use Rattle.refusal.proofs.Endings.{accepted}
+use Rattle.refusal.proofs.Endings.{refused, accepted}
 use Rattle.session.specs.declared.Session.{Session}
 use Rattle.session.specs.Sessions.{shapeOf}
 use Rattle.session.specs.Rows.{width, withRow}
 use Rattle.session.specs.Checks.{frameTests, noRow, noTriple, wrongMark, wrongMarks}
-use Rattle.session.specs.Between.{Sized, RowIn, TripleIn}
+use Rattle.session.specs.Between.{Sized, RowIn, TripleIn, Allows}
 use Rattle.session.proofs.Passed.{row-below}
 use Rattle.session.proofs.Calls.{stopped-at-frame, past-frame}
 use Rattle.load.specs.Load.{loadRowRefusal, loadRowRows, loadTripleRefusal, withTriple, loadTripleRows}
@@ -46,6 +46,12 @@ module _ (s : Session) (rows : List ℕ) (r : ℕ) (pack : List ℕ) where
   load-row-checked g f w q5 q6 q7 q8 x y z eg e n ew e5 e6 e7 e8 ex ey ez =
       let h : q5 ≡ first (5 when wrongLength pack (width s) ∷ []) = rw (ew, eg) at e5 in
       past-frame s rows own-row f z e n (chained own-row tt z (cc))
+
+  pub load-row-allows : (f : ℕ) → f ≡ loadRowRefusal s rows r pack → Allows f (r ≤ lastRow)
+  load-row-allows f e = record { allowed = λ n. row-loaded s rows r pack (sym e ∙ n) .row-in }
+
+  pub load-row-untouched : (f : ℕ) → f ≡ loadRowRefusal s rows r pack → (f ≡ 0 → ⊥) → rows ≡ loadRowRows s rows r pack
+  load-row-untouched f e n = refused f (loadRowRefusal s rows r pack) (withRow (width s) r pack rows) rows e n
 
   module _ (f : ℕ) (e : f ≡ loadRowRefusal s rows r pack) (n : f ≡ 0) where
     row-passed : RowLoaded s rows r pack
@@ -97,6 +103,12 @@ module _ (s : Session) (rows : List ℕ) (r : ℕ) (pack : List ℕ) where
         let e7 : q7 ≡ first marks = e7′ (placed-below r q5 q6 p e6 ep h) in
         past-frame s rows (placed ++ late) f z e n
         (went-on placed late tt p place z h (cc (first-join marks (8 when anyBeyond pack ∷ []) tt)))
+
+  pub load-triple-allows : (f : ℕ) → f ≡ loadTripleRefusal s rows r pack → Allows f (r ≤ lastTriple)
+  load-triple-allows f e = record { allowed = λ n. triple-loaded s rows r pack (sym e ∙ n) .triple-in }
+
+  pub load-triple-untouched : (f : ℕ) → f ≡ loadTripleRefusal s rows r pack → (f ≡ 0 → ⊥) → rows ≡ loadTripleRows s rows r pack
+  load-triple-untouched f e n = refused f (loadTripleRefusal s rows r pack) (withTriple (width s) r pack rows) rows e n
 
   module _ (f : ℕ) (e : f ≡ loadTripleRefusal s rows r pack) (n : f ≡ 0) where
     triple-passed : TripleLoaded s rows r pack

@@ -29,17 +29,26 @@ fn load_row_refusal(session: Session, rows: &[u32], row: usize, pack: &[u32], ma
     refusal::or_else(size, refusal::or_else(session::checks::row(row), empty))
 }
 
+// The rows, after a call with this refusal.
+fn load_row_rows(session: Session, rows: &mut [u32], row: usize, pack: &[u32], refusal: u8)
+    requires { ⌜ refusal ≡ loadRowRefusal session (now rows) row (now pack) ⌝ }
+    ensures { λ r. ⌜ now (rows .exit) ≡ loadRowRows session (now (rows .entry)) row (now (pack .entry)) ⌝ }
+{
+    if refusal != 0 {
+        return;
+    }
+    session::rows::put_row(session.shape(), rows, row, pack);
+}
+
 pub fn load_row(session: Session, rows: &mut [u32], row: usize, pack: &[u32]) -> Answer
     ensures { λ r. ⌜ r ≡ loadRowAnswer session (now (rows .entry)) row (now (pack .entry)) ⌝ }
     ensures { λ r. ⌜ now (rows .exit) ≡ loadRowRows session (now (rows .entry)) row (now (pack .entry)) ⌝ }
 {
-    let marks = session::checks::wrong_mark(&session.marks, row, shape::EMPTY);
+    let held = session.marks;
+    let marks = session::checks::wrong_mark(&held, row, shape::EMPTY);
     let refusal = load_row_refusal(session, rows, row, pack, marks);
-    if refusal != 0 {
-        return session.refuse(refusal);
-    }
-    session::rows::put_row(session.shape(), rows, row, pack);
-    session.done_marking(row, shape::RAW)
+    load_row_rows(session, rows, row, pack, refusal);
+    session.answer_marking(refusal, row, shape::RAW)
 }
 
 // 7, of the three rows from `row` on, which have to be empty; 0 where there are no three.
@@ -80,15 +89,25 @@ fn load_triple_accepted(shape: Shape, rows: &mut [u32], first: usize, pack: &[u3
     lists::copy(pack, &mut rows[from..end]);
 }
 
+// The rows, after a call with this refusal.
+fn load_triple_rows(session: Session, rows: &mut [u32], first: usize, pack: &[u32], refusal: u8)
+    requires { ⌜ refusal ≡ loadTripleRefusal session (now rows) first (now pack) ⌝ }
+    ensures { λ r. ⌜ now (rows .exit) ≡ loadTripleRows session (now (rows .entry)) first (now (pack .entry)) ⌝ }
+{
+    if refusal != 0 {
+        return;
+    }
+    load_triple_accepted(session.shape(), rows, first, pack);
+}
+
 pub fn load_triple(session: Session, rows: &mut [u32], first: usize, pack: &[u32]) -> Answer
     ensures { λ r. ⌜ r ≡ loadTripleAnswer session (now (rows .entry)) first (now (pack .entry)) ⌝ }
     ensures { λ r. ⌜ now (rows .exit) ≡ loadTripleRows session (now (rows .entry)) first (now (pack .entry)) ⌝ }
 {
-    let marks = full_triple(&session.marks, first);
+    let held = session.marks;
+    let marks = full_triple(&held, first);
     let refusal = load_triple_refusal(session, rows, first, pack, marks);
-    if refusal != 0 {
-        return session.refuse(refusal);
-    }
-    load_triple_accepted(session.shape(), rows, first, pack);
-    session.done_marking_triple(first, shape::UNUSED, shape::FURTHER, shape::FURTHER)
+    load_triple_rows(session, rows, first, pack, refusal);
+    let further = shape::FURTHER;
+    session.answer_marking_triple(refusal, first, shape::UNUSED, further, further)
 }

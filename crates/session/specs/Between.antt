@@ -30,3 +30,7 @@ pub record RowIn (s : Shape) (r : ℕ) : Type 0 where
 pub record TripleIn (s : Shape) (r : ℕ) : Type 0 where
   pub triple-in : r ≤ lastTriple
   pub room : r * rowLength s ≤ lastTriple * rowLength s
+
+-- What a call may go by that was not refused.
+pub record Allows (refusal : ℕ) (what : Type 0) : Type 0 where
+  pub allowed : refusal ≡ 0 → what

@@ -8,7 +8,8 @@ use shape::Shape;
 ghost use mathlib.Core.Path.{_≡_};
 ghost use Prim.Native.Nat.{_≤_};
 ghost use Rattle.shape.specs.Bounds.{lastRow, lastTriple};
-ghost use Rattle.session.specs.Sessions.{shapeOf, partyOf, marked, markedTriple, maskedTriple, collectedTriple, sessionOf, holding, created};
+ghost use Rattle.session.specs.Sessions.{shapeOf, partyOf, marked, markedTriple, maskedTriple, collectedTriple, sessionOf, holding, answer, created};
+ghost use Rattle.session.specs.Between.{Allows};
 
 // Who opens a number: the station's shape, the post's own number and its check point.
 pub struct Party {
@@ -121,6 +122,22 @@ impl Session {
         self.done(0)
     }
 
+    // How a call ends that marks a row: refused, the session as it came; else with the mark. One method for both, called once: the
+    // session is copied in, changed and copied out, and nowhere else.
+    pub fn answer_marking(mut self, refusal: u8, row: usize, mark: u8) -> Answer
+        requires { ⌜ Allows refusal (row ≤ lastRow) ⌝ }
+        ensures { λ r. ⌜ r ≡ answer refusal 0 (marked self row mark) self ⌝ }
+    {
+        if refusal == 0 {
+            self.marks[row] = mark;
+        }
+        Answer {
+            refusal,
+            value: 0,
+            session: self,
+        }
+    }
+
     // Done, with other marks on a triple's three rows.
     pub fn done_marking_triple(mut self, first: usize, a: u8, b: u8, c: u8) -> Answer
         requires { ⌜ first ≤ lastTriple ⌝ }
@@ -130,6 +147,30 @@ impl Session {
         self.marks[first + 1] = b;
         self.marks[first + 2] = c;
         self.done(0)
+    }
+
+    // The same, with other marks on a triple's three rows.
+    pub fn answer_marking_triple(
+        mut self,
+        refusal: u8,
+        first: usize,
+        one: u8,
+        two: u8,
+        three: u8,
+    ) -> Answer
+        requires { ⌜ Allows refusal (first ≤ lastTriple) ⌝ }
+        ensures { λ r. ⌜ r ≡ answer refusal 0 (markedTriple self first one two three) self ⌝ }
+    {
+        if refusal == 0 {
+            self.marks[first] = one;
+            self.marks[first + 1] = two;
+            self.marks[first + 2] = three;
+        }
+        Answer {
+            refusal,
+            value: 0,
+            session: self,
+        }
     }
 
     // Done: the masks of the triple at `first` were sent for the factor rows a and b.

@@ -12,5 +12,5 @@ linear-refusal-spec =
     tie.close
     (tie.spec (λ c κs. search needs) (λ c. search steps) (λ c κs. search needs) (λ c κs. search needs) (λ c κs. search needs)
     (λ c κs. search steps) (λ c κs. search steps) (λ c κs. search needs) (λ c κs. search needs) (λ c κs. search needs)
-    (λ c κs. search needs) (λ c κs. search needs) (λ c κs. search needs) (λ c κs. search needs) (λ c κs. search needs)
-    (λ c κs. search needs) (λ c κs. search needs) (λ c κs. search needs) (λ c. search steps))
+    (λ c. search needs) (λ c κs. search needs) (λ c κs. search needs) (λ c κs. search needs) (λ c κs. search needs)
+    (λ c κs. search needs) (λ c κs. search needs) (λ c κs. search needs) (λ c κs. search needs) (λ c. search steps))
