@@ -1,5 +1,5 @@
 // Interpolation at 0 through rising numbers from 1 to 255, as post numbers are: every inverse comes from a table that the caller
-// lends. Other nodes go by `interpolate`.
+// lends.
 ghost use mathlib.Core.Path.{_≡_};
 ghost use mathlib.Core.List.{_∷_, map};
 ghost use Prim.Native.Nat.{_+_, _*_, _-_, _≤_, _<_};
@@ -10,26 +10,12 @@ ghost use Rattle.poly.specs.Counting.{All};
 ghost use Rattle.inverses.specs.InverseTable.{Inverts, most};
 ghost use Rattle.poly.specs.Interpolation.{nodal, interpolated};
 ghost use Rattle.barycentric.specs.Nodes.{Rising, lastOf, missing};
-ghost use Rattle.barycentric.specs.Weights.{alternating, mirrored, away, spans, above, nodeWeight, firsts, row, risesTo, Prepared, WeightsOf};
+ghost use Rattle.barycentric.specs.Weights.{alternating, mirrored, away, spans, above, nodeWeight, firsts, row, Prepared, WeightsOf};
 
 pub fn wide(x: u32) -> usize
     ensures { λ r. ⌜ r ≡ x ⌝ }
 {
     x as usize
-}
-
-// Whether the nodes are rising numbers from 1 to the limit.
-pub fn rises(nodes: &[u32], limit: usize) -> bool
-    ensures { λ r. ⌜ r ≡ risesTo limit 0 (now (nodes .entry)) ⌝ }
-{
-    let mut last: u32 = 0;
-    for i in 0..nodes.len() {
-        if nodes[i] <= last {
-            return false;
-        }
-        last = nodes[i];
-    }
-    wide(last) <= limit
 }
 
 // 1 / (0 - k): p less the table's entry.
@@ -237,35 +223,4 @@ pub fn at_zero_rising(
     let end = nodes.len() + 1;
     let s = poly::weigh(values, &list[1..end]);
     field::mul(field::sub(0, s), inverse_product(gaps, inverses))
-}
-
-// The interpolation at 0. The table of inverses and room for as many numbers, and one more in the list, are lent.
-pub fn at_zero(
-    nodes: &[u32],
-    values: &[u32],
-    inverses: &[u32],
-    gaps: &mut [u32],
-    list: &mut [u32],
-) -> u32
-    requires { ⌜ Inverts (now inverses) × (length (now inverses) ≤ length (now gaps)) × (length (now inverses) < length (now list)) ⌝ }
-    ensures { λ r. ⌜ r ≡ interpolated (now (nodes .entry)) (now (values .entry)) 0 ⌝ }
-{
-    let k = nodes.len();
-    if 0 < k {
-        if values.len() == k {
-            if rises(nodes, inverses.len()) {
-                let last = wide(nodes[k - 1]);
-                let missed = last - k;
-                let end = last + 1;
-                return at_zero_rising(
-                    nodes,
-                    values,
-                    inverses,
-                    &mut gaps[..missed],
-                    &mut list[..end],
-                );
-            }
-        }
-    }
-    poly::interpolate(nodes, values, 0)
 }

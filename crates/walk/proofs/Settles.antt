@@ -5,10 +5,11 @@ use mathlib.Core.Bool.{Bool, true, false, not}
 use mathlib.Core.List.{List, [], _∷_, _++_, map}
 use native.Mathlib.Omega.{arith}
 use borrow.Author.Tests.{lt-ltb, le-ltb}
-use lib.ListN.{length, take, drop, length-map, length-append}
+use lib.ListN.{length, take, drop, length-map, length-append, take-append-drop}
 use lib.Seq.{take-at, drop-at, length-take-le}
 use Rattle.agreement.specs.Agreement as Found
 use Rattle.agreement.specs.Agreement.{allAgree}
+use Rattle.agreement.specs.Sums.{Reached}
 use Rattle.poly.specs.Interpolation.{interpolated}
 use Rattle.refusal.specs.Refusal.{_when_, first, outcome}
 use Rattle.shape.specs.Lengths.{needed}
@@ -16,11 +17,13 @@ use Rattle.session.specs.declared.Party.{Party}
 use Rattle.walk.specs.declared.Walk.{Walk}
 use Rattle.walk.specs.declared.Opened.{Opened}
 use Rattle.walk.specs.declared.Walk.the-variants.{Enough, TooFew}
-use Rattle.accepting.specs.Accepting.{passing, accepts, share, acceptedPosts, further, tooFew, disagree, opened}
+use Rattle.accepting.specs.Accepting.{passing, accepts, share, acceptedPosts, accepted, further, tooFew, disagree, opened}
 use Rattle.walk.specs.Number.{orNine, openedRow}
 use Rattle.walk.specs.Between.{outcomeOf, WalkedAs, BehindIn, FurtherAs, agreedOn}
+use Rattle.accepting.proofs.Accepted.{takes-first}
 use Rattle.walk.proofs.Walks.{Counted, counted}
 use Rattle.walk.proofs.Behind.{Behind, end-behind}
+use Rattle.walk.proofs.Upward.{passing-rises, passing-last}
 
 -- what the agreement found
 module _ (xs ys zs ws : List ℕ) (v : ℕ) (a : Bool) (f : Found.Settles xs ys zs ws v a) where
@@ -89,15 +92,28 @@ module _ (q : Party) (row blocks : List ℕ) where
       paired = length-map lowest (share q row blocks) ∙ some
 
       -- the lists as the code lends them
-      pub enough-in : k ≤ length (take count p)
+      enough-in : k ≤ length (take count p)
       enough-in = rw posts-are (omega (arith, length-append lowest rest, some))
 
-      pub same-many : length (take count q₁) ≡ length (take count p)
+      same-many : length (take count q₁) ≡ length (take count p)
       same-many =
           ap length shares-are
           ∙ length-append (shares lowest) (shares rest)
           ∙ ap₂ _+_ (length-map lowest (share q row blocks)) (length-map rest (share q row blocks))
           ∙ sym (ap length posts-are ∙ length-append lowest rest)
+
+      all-posts : take count p ≡ accepted q row blocks
+      all-posts =
+          posts-are ∙ ap (λ (l : List ℕ). l ++ rest) (takes-first q row blocks) ∙ take-append-drop need (accepted q row blocks)
+
+      pub reached-in : (t : List ℕ) → n ≤ length t → Reached (take count p) (take count q₁) k t
+      reached-in t h = record {
+        rising = rw all-posts (passing-rises (accepts q row blocks) 0 1 n (omega arith));
+        within = rw all-posts (omega (arith, passing-last (accepts q row blocks) 0 1 n n (omega arith) (omega arith)));
+        paired = same-many;
+        some = omega arith;
+        enough = enough-in;
+      }
 
       pub opens-agreed : (r : Opened)
           → r ≡ agreedOn (take k (take count p)) (take k (take count q₁)) (drop k (take count p)) (drop k (take count q₁))

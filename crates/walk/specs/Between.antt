@@ -51,8 +51,9 @@ pub record FurtherAs (q : Party) (row blocks : List ℕ) (need last : ℕ) (post
 abbrev pub agreedOn : List ℕ → List ℕ → List ℕ → List ℕ → Opened
 agreedOn xs ys zs ws = orThirteen (not (allAgree xs ys zs ws)) (interpolated xs ys 0)
 
--- What is lent to an opening: the table of inverses, and rooms.
+-- What is lent to an opening: a table of inverses that reaches every post, and rooms.
 pub record Roomy (s : Shape) (inverses posts shares gaps list above below : List ℕ) : Type 0 where
   pub posts-room : s .n ≤ length posts
   pub shares-room : s .n ≤ length shares
+  pub reach : s .n ≤ length inverses
   pub lent : Rooms inverses gaps list above below

@@ -5,7 +5,7 @@ ghost use mathlib.Core.Path.{_≡_};
 ghost use lib.ListN.{length, take, drop};
 ghost use Prim.Native.Nat.{_≤_};
 ghost use Rattle.poly.specs.Polynomial.{powers};
-ghost use Rattle.agreement.specs.Sums.{Rooms};
+ghost use Rattle.agreement.specs.Sums.{Reached, Rooms};
 ghost use Rattle.shape.specs.Lengths.{needed, vLength};
 ghost use Rattle.blocks.specs.Between.{Openable};
 ghost use Rattle.walk.specs.Number.{openedRow};
@@ -104,7 +104,7 @@ fn agreed(
     above: &mut [u32],
     below: &mut [u32],
 ) -> Opened
-    requires { ⌜ (need ≤ length (now posts)) × (length (now shares) ≡ length (now posts))
+    requires { ⌜ Reached (now posts) (now shares) need (now inverses)
         × Rooms (now inverses) (now gaps) (now list) (now above) (now below) ⌝ }
     ensures { λ r. ⌜ r
         ≡ agreedOn (take need (now (posts .entry))) (take need (now (shares .entry))) (drop need (now (posts .entry)))

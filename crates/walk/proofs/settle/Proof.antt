@@ -2,7 +2,7 @@
 use mathlib.Core.Path.{refl}
 use borrow.Author.Needs.{needs}
 use Rattle.walk.proofs.Fronts.{front-length}
-use Rattle.walk.proofs.Settles.{behind-in, enough-in, same-many, opens-agreed, opens-few}
+use Rattle.walk.proofs.Settles.{behind-in, reached-in, opens-agreed, opens-few}
 use Rattle.walk.proofs.settle.Statement.{statement}
 use Rattle.walk.proofs.settle.Tie as tie
 
@@ -10,7 +10,7 @@ walk-further-requires : tie.Need-walk-further-requires
 walk-further-requires c κs = (search needs, search needs, search (needs, behind-in))
 
 agreed-requires : tie.Need-agreed-requires
-agreed-requires c κs = (search (needs, enough-in), search (needs, same-many), search needs)
+agreed-requires c κs = (search (needs, reached-in), search needs)
 
 returns : tie.Need-returns
 returns c =
