@@ -1,5 +1,5 @@
 -- Document 02, (viii): "the relations, use the pair". By induction over the product terms.
-use Prim.Native.Nat.{ℕ, suc, _+_, _*_, _≤_, _<_}
+use Prim.Native.Nat.{ℕ, zero, suc, _+_, _*_, _≤_}
 use mathlib.Core.Path.{_≡_, refl, sym, _∙_, ap, ap₂, subst}
 use mathlib.Core.Logic.{_≢_}
 use mathlib.Core.Bool.{false}
@@ -62,25 +62,21 @@ module _ (s : Session) (rows blocks : List ℕ) where
       → l' ≡ withProduct s (termNumberA s rows blocks k t) (termNumberB s rows blocks k t) (t .first) l
       → Left (suc k) ts next l' → Left k (t ∷ ts) now l
   unfolding PairsAccepted sessionAfter rowsAfter finishedTerms withProducts
-  in-front k t ts now next l l' one two three en el (ok, (session, written)) =
+  in-front k t ts now next l l' one two three en el (ok, session, written) =
       let e : next ≡ secondCall blocks k t now l .session = sym (ap (λ (x : Answer). x .session) two) in
       let f : l' ≡ secondRows blocks k t now l = sym three in (
         (
           one,
-          (
-            ap (λ (x : Answer). x .refusal) two,
-            subst (λ (q : Session). PairsAccepted blocks (suc k) ts q (secondRows blocks k t now l)) e (subst (PairsAccepted blocks (suc k) ts next) f ok),
-          ),
+          ap (λ (x : Answer). x .refusal) two,
+          subst (λ (q : Session). PairsAccepted blocks (suc k) ts q (secondRows blocks k t now l)) e (subst (PairsAccepted blocks (suc k) ts next) f ok),
         ),
-        (
-          ap (finishedTerms s rows blocks (suc k) ts) (sym en) ∙ session ∙ ap₂ (sessionAfter blocks (suc k) ts) e f,
-          ap (withProducts s rows blocks (suc k) ts) (sym el) ∙ written ∙ ap₂ (rowsAfter blocks (suc k) ts) e f,
-        ),
+        ap (finishedTerms s rows blocks (suc k) ts) (sym en) ∙ session ∙ ap₂ (sessionAfter blocks (suc k) ts) e f,
+        ap (withProducts s rows blocks (suc k) ts) (sym el) ∙ written ∙ ap₂ (rowsAfter blocks (suc k) ts) e f,
       )
 
   none : (k : ℕ) (now : Session) (l : List ℕ) → Left k [] now l
   unfolding PairsAccepted sessionAfter rowsAfter finishedTerms withProducts
-  none k now l = (tt, (refl, refl))
+  none k now l = (tt, refl, refl)
 
   length-marks : (m : List ℕ) (r : ℕ) → length (pairMarks s rows blocks m r) ≡ length m
   length-marks m r =
@@ -179,13 +175,13 @@ module _ (s : Session) (rows blocks : List ℕ) where
 -- the answer's refusal is the call's
 refusal-is : (x : ℕ) (new old : Session) → answer x 0 new old .refusal ≡ 0 → x ≡ 0
 unfolding outcome
-refusal-is 0 new old e = refl
+refusal-is zero new old e = refl
 refusal-is (suc x) new old e = e
 
 pub finish-is-pairs : FinishIsPairs
 finish-is-pairs s rows ts d blocks whole e =
     let z = refusal-is (relationFinishRefusal s rows (collected ts) d blocks) (relationDone s rows blocks (factorsOf (collected ts)) d) s e in
-    let (ok, (session, written)) = whole-walk s rows blocks ts d whole z in
+    let (ok, session, written) = whole-walk s rows blocks ts d whole z in
     record {
       accepted = ok;
       session-is = session-left s rows blocks ts d whole z ∙ ap (λ (q : Session). marked q d held) session;
