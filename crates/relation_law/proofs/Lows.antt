@@ -5,7 +5,7 @@ use mathlib.Core.Bool.{Bool, false}
 use mathlib.Core.List.{List, [], _∷_, _++_}
 use lib.ListN.{length}
 use Rattle.poly.specs.Counting.{All}
-use Rattle.refusal.specs.Refusal.{Test, _when_, first, AllFail}
+use Rattle.refusal.specs.Refusal.{_when_, first, AllFail}
 use Rattle.refusal.specs.Conditions.{anyBeyond}
 use Rattle.refusal.proofs.Laws.{all-fail}
 use Rattle.refusal.proofs.Groups.{fail-parts}

@@ -1,22 +1,22 @@
 -- One pair of calls in the walk: it is accepted, what it leaves, and that the terms behind it wait as they did.
-use Prim.Native.Nat.{ℕ, _+_, _*_, _≤_, _<_}
+use Prim.Native.Nat.{ℕ, _+_, _≤_, _<_}
 use mathlib.Core.Path.{_≡_, refl, sym, _∙_, ap, ap₂, subst}
 use mathlib.Core.Logic.{_≢_}
-use mathlib.Core.List.{List, [], _∷_}
+use mathlib.Core.List.{List}
 use native.Mathlib.Omega.{arith}
 use lib.ListN.{length, set}
 use lib.Seq.{getD-set-same, getD-set-other}
 use Rattle.field.specs.Modulus.{p}
 use Rattle.shape.specs.Bounds.{rowCount, lastRow, lastTriple}
 use Rattle.shape.specs.Marks.{held, further, masked, spent, collected as collectedMark}
-use Rattle.refusal.specs.Refusal.{first}
+use Rattle.refusal.specs.Refusal.{first, outcome}
 use Rattle.refusal.specs.Conditions.{anyBeyond}
 use Rattle.refusal.proofs.Laws.{not-refused}
 use Rattle.refusal.proofs.Endings.{accepted}
 use Rattle.session.specs.declared.Session.{Session}
 use Rattle.session.specs.declared.Answer.{Answer}
-use Rattle.session.specs.Sessions.{shapeOf, markIn, mark, factorA, factorB, openedA, openedB, withMarks, withOpened, collectedTriple, finishedTriple, holding, answer}
-use Rattle.session.specs.Rows.{width, rowAt, withRow}
+use Rattle.session.specs.Sessions.{shapeOf, markIn, factorA, factorB, openedA, openedB, withMarks, withOpened, collectedTriple, finishedTriple, holding, answer}
+use Rattle.session.specs.Rows.{width, rowAt}
 use Rattle.session.specs.Checks.{frameTests}
 use Rattle.session.specs.Between.{Sized}
 use Rattle.session.proofs.Calls.{frame-passed}
@@ -36,13 +36,24 @@ use Rattle.relation.proofs.Passed.{Enough, Agreed, RecordsLow}
 use Rattle.relation_law.specs.Pairs.{firstCall, secondCall, secondRows}
 use Rattle.relation_law.proofs.Lows.{TermLow}
 
--- The relation's session and rows are s and rows. In the walk the marks m, the numbers a and b, and the rows l take their places.
+-- a session in the walk: marks and remembered numbers are new
+abbrev pub stateOf : Session → List ℕ → List ℕ → List ℕ → Session
+stateOf s m a b = withOpened (withMarks s m) a b
+
+-- the marks behind a pair
+abbrev pub pairMarks : List ℕ → ℕ → List ℕ
+pairMarks m r = set (set (set (set m r collectedMark) r spent) (r + 1) spent) (r + 2) held
+
+pub answered : (x : ℕ) (new old : Session) → x ≡ 0 → answer x 0 new old ≡ holding 0 0 new
+answered x new old e = sym (accepted-answer x x 0 0 new new old refl e refl refl)
+
+pub left : (x : ℕ) (new old : List ℕ) → x ≡ 0 → outcome x new old ≡ new
+left x new old e = sym (accepted x x new new old refl e refl)
+
+-- s and rows are those that the relation's finish got. In the walk the marks are m, the remembered numbers a and b, and the rows l.
 module _ (s : Session) (rows blocks : List ℕ) where
   abbrev w : ℕ
   w = width s
-
-  abbrev pub stateOf : List ℕ → List ℕ → List ℕ → Session
-  stateOf m a b = withOpened (withMarks s m) a b
 
   -- of a product term at place k: what stays
   pub record Stays (k : ℕ) (t : Term) : Type 0 where
@@ -77,13 +88,9 @@ module _ (s : Session) (rows blocks : List ℕ) where
     pub y-b : length b ≡ rowCount
     pub as-long : length l ≡ length rows
 
-  -- the marks behind a pair
-  abbrev pub pairMarks : List ℕ → ℕ → List ℕ
-  pairMarks m r = set (set (set (set m r collectedMark) r spent) (r + 1) spent) (r + 2) held
-
   module _ (frame : first (frameTests s rows) ≡ 0) (m a b l : List ℕ) (long : Long m a b l) (k : ℕ) (t : Term) (f : Stays k t) (h : Waits m l t) where
     abbrev now : Session
-    now = stateOf m a b
+    now = stateOf s m a b
 
     abbrev r : ℕ
     r = t .first
@@ -158,9 +165,6 @@ module _ (s : Session) (rows blocks : List ℕ) where
           ),
         )
 
-    answered : (x : ℕ) (new old : Session) → x ≡ 0 → answer x 0 new old ≡ holding 0 0 new
-    answered x new old e = sym (accepted-answer x x 0 0 new new old refl e refl refl)
-
     pub first-is : firstCall blocks k t now l ≡ holding 0 0 (collectedTriple now (t .first) (termNumberA s rows blocks k t) (termNumberB s rows blocks k t))
     first-is =
         answered (collectRefusal now l r la lb) _ now collect-done
@@ -203,7 +207,7 @@ module _ (s : Session) (rows blocks : List ℕ) where
     pub rows-are : secondRows blocks k t now l ≡ withProduct s (termNumberA s rows blocks k t) (termNumberB s rows blocks k t) (t .first) l
     rows-are =
         ap (λ (x : Answer). multiplyRows (x .session) l r) first-is
-        ∙ sym (accepted (multiplyRefusal between l r) (multiplyRefusal between l r) (withProduct between (openedA between r) (openedB between r) r l) _ l refl multiply-done refl)
+        ∙ left (multiplyRefusal between l r) (withProduct between (openedA between r) (openedB between r) r l) l multiply-done
         ∙ product-is
 
     -- ---- what is left to the terms behind

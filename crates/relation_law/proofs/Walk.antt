@@ -14,13 +14,11 @@ use Rattle.poly.specs.Counting.{All}
 use Rattle.poly.proofs.Lists.{all-map, all-zip}
 use Rattle.refusal.specs.Refusal.{first, outcome}
 use Rattle.refusal.proofs.Laws.{or-false}
-use Rattle.refusal.proofs.Endings.{accepted}
 use Rattle.session.specs.declared.Session.{Session}
 use Rattle.session.specs.declared.Answer.{Answer}
 use Rattle.session.specs.Sessions.{factorA, factorB, marked, holding, answer}
 use Rattle.session.specs.Checks.{frameTests}
 use Rattle.session.proofs.RowLaws.{length-row}
-use Rattle.session.proofs.Endings.{accepted-answer}
 use Rattle.opening.specs.Walking.{recordLength}
 use Rattle.product_masks.proofs.Passed.{Factored}
 use Rattle.multiply.specs.Multiply.{withProduct}
@@ -32,9 +30,9 @@ use Rattle.relation.specs.Tests.{namedIn, namedTwice}
 use Rattle.relation.specs.Finish.{termNumberA, termNumberB, withProducts, withSum, pairDone, finishedTerms, relationDone, relationFinishRefusal, relationFinishAnswer, relationFinishRows}
 use Rattle.relation.proofs.Passed.{AllAt, Enough, Agreed, RecordsLow, RelationFinished, relation-finished}
 use Rattle.relation_law.specs.Pairs.{firstCall, secondCall, secondRows, PairsAccepted, sessionAfter, rowsAfter}
-use Rattle.relation_law.specs.Claims.{AsPairs, FinishIsPairs}
+use Rattle.relation_law.specs.Claims.{FinishIsPairs}
 use Rattle.relation_law.proofs.Lows.{TermLow, frame-clear, terms-low}
-use Rattle.relation_law.proofs.Step.{stateOf, Stays, Waits, Long, pairMarks, first-is, second-is, rows-are, written-long, still-waits}
+use Rattle.relation_law.proofs.Step.{stateOf, pairMarks, answered, left, Stays, Waits, Long, first-is, second-is, rows-are, written-long, still-waits}
 
 -- no triple is that of a term behind
 named-apart : (r : ℕ) (ts : List Term) → namedIn r ts ≡ false → All (λ t. t .first ≢ r) ts
@@ -47,6 +45,13 @@ twice-parts : (t : Term) (ts : List Term) → namedTwice (t ∷ ts) ≡ false �
 unfolding namedTwice
 twice-parts t ts e = let h = or-false (namedIn (t .first) ts) (namedTwice ts) e in (named-apart (t .first) ts (h .0), h .1)
 
+length-marks : (m : List ℕ) (r : ℕ) → length (pairMarks m r) ≡ length m
+length-marks m r =
+    let one = set m r collectedMark in
+    let two = set one r spent in
+    let three = set two (r + 1) spent in
+    length-set three (r + 2) held ∙ length-set two (r + 1) spent ∙ length-set one r spent ∙ length-set m r collectedMark
+
 module _ (s : Session) (rows blocks : List ℕ) where
   -- the walk is accepted, and leaves what the relation's finish leaves behind its product terms
   abbrev Left : ℕ → List Term → Session → List ℕ → Type 0
@@ -56,49 +61,43 @@ module _ (s : Session) (rows blocks : List ℕ) where
       × (withProducts s rows blocks k ts l ≡ rowsAfter blocks k ts now l)
 
   -- one pair more in front
-  in-front : (k : ℕ) (t : Term) (ts : List Term) (now next : Session) (l l' : List ℕ) → firstCall blocks k t now l .refusal ≡ 0
-      → secondCall blocks k t now l ≡ holding 0 0 next → secondRows blocks k t now l ≡ l'
-      → next ≡ pairDone now (t .first) (termNumberA s rows blocks k t) (termNumberB s rows blocks k t)
-      → l' ≡ withProduct s (termNumberA s rows blocks k t) (termNumberB s rows blocks k t) (t .first) l
-      → Left (suc k) ts next l' → Left k (t ∷ ts) now l
+  in-front : (k : ℕ) (t : Term) (ts : List Term) (now : Session) (l : List ℕ) → firstCall blocks k t now l .refusal ≡ 0
+      → secondCall blocks k t now l ≡ holding 0 0 (pairDone now (t .first) (termNumberA s rows blocks k t) (termNumberB s rows blocks k t))
+      → secondRows blocks k t now l ≡ withProduct s (termNumberA s rows blocks k t) (termNumberB s rows blocks k t) (t .first) l
+      → Left (suc k) ts (pairDone now (t .first) (termNumberA s rows blocks k t) (termNumberB s rows blocks k t))
+      (withProduct s (termNumberA s rows blocks k t) (termNumberB s rows blocks k t) (t .first) l)
+      → Left k (t ∷ ts) now l
   unfolding PairsAccepted sessionAfter rowsAfter finishedTerms withProducts
-  in-front k t ts now next l l' one two three en el (ok, session, written) =
-      let e : next ≡ secondCall blocks k t now l .session = sym (ap (λ (x : Answer). x .session) two) in
-      let f : l' ≡ secondRows blocks k t now l = sym three in (
+  in-front k t ts now l one two three (ok, session, written) =
+      let e = sym (ap (λ (x : Answer). x .session) two) in
+      let f = sym three in (
         (
           one,
           ap (λ (x : Answer). x .refusal) two,
-          subst (λ (q : Session). PairsAccepted blocks (suc k) ts q (secondRows blocks k t now l)) e (subst (PairsAccepted blocks (suc k) ts next) f ok),
+          subst (λ (q : Session). PairsAccepted blocks (suc k) ts q (secondRows blocks k t now l)) e (subst (PairsAccepted blocks (suc k) ts _) f ok),
         ),
-        ap (finishedTerms s rows blocks (suc k) ts) (sym en) ∙ session ∙ ap₂ (sessionAfter blocks (suc k) ts) e f,
-        ap (withProducts s rows blocks (suc k) ts) (sym el) ∙ written ∙ ap₂ (rowsAfter blocks (suc k) ts) e f,
+        session ∙ ap₂ (sessionAfter blocks (suc k) ts) e f,
+        written ∙ ap₂ (rowsAfter blocks (suc k) ts) e f,
       )
 
   none : (k : ℕ) (now : Session) (l : List ℕ) → Left k [] now l
   unfolding PairsAccepted sessionAfter rowsAfter finishedTerms withProducts
   none k now l = (tt, refl, refl)
 
-  length-marks : (m : List ℕ) (r : ℕ) → length (pairMarks s rows blocks m r) ≡ length m
-  length-marks m r =
-      let one = set m r collectedMark in
-      let two = set one r spent in
-      let three = set two (r + 1) spent in
-      length-set three (r + 2) held ∙ length-set two (r + 1) spent ∙ length-set one r spent ∙ length-set m r collectedMark
-
   module _ (frame : first (frameTests s rows) ≡ 0) where
     walked : (k : ℕ) (ts : List Term) (m a b l : List ℕ) → Long s rows blocks m a b l → AllAt (Stays s rows blocks) k ts → All (Waits s rows blocks m l) ts
-        → namedTwice ts ≡ false → Left k ts (stateOf s rows blocks m a b) l
-    walked k [] m a b l long f h once = none k (stateOf s rows blocks m a b) l
+        → namedTwice ts ≡ false → Left k ts (stateOf s m a b) l
+    walked k [] m a b l long f h once = none k (stateOf s m a b) l
     walked k (t ∷ ts) m a b l long (f, fs) (h, hs) once =
         let r = t .first in
-        let now = stateOf s rows blocks m a b in
+        let now = stateOf s m a b in
         let y = termNumberA s rows blocks k t in
         let y' = termNumberB s rows blocks k t in
         let (apart, rest) = twice-parts t ts once in
-        in-front k t ts now (pairDone now r y y') l (withProduct s y y' r l)
+        in-front k t ts now l
         (ap (λ (x : Answer). x .refusal) (first-is s rows blocks frame m a b l long k t f h))
-        (second-is s rows blocks frame m a b l long k t f h) (rows-are s rows blocks frame m a b l long k t f h) refl refl
-        (walked (suc k) ts (pairMarks s rows blocks m r) (set a r y) (set b r y') (withProduct s y y' r l)
+        (second-is s rows blocks frame m a b l long k t f h) (rows-are s rows blocks frame m a b l long k t f h)
+        (walked (suc k) ts (pairMarks m r) (set a r y) (set b r y') (withProduct s y y' r l)
         (record {
           marks = length-marks m r ∙ long .marks;
           y-a = length-set a r y ∙ long .y-a;
@@ -130,19 +129,18 @@ module _ (s : Session) (rows blocks : List ℕ) where
       → All (λ t. (factorA s (t .first) ≡ t .row) × (factorB s (t .first) ≡ t .second)) ts → All (TermLow s rows) ts
       → AllAt (RecordsLow s blocks) k ts → AllAt (Enough s rows blocks) k ts → AllAt (Agreed s rows blocks) k ts → AllAt (Stays s rows blocks) k ts
   staying all size k [] few kept low records enough agreed = tt
-  staying all size k (t ∷ ts) few (e, kept) (n, low) (x, records) (y, enough) (z, agreed) =
-      (
-        record {
-          remembered = e;
-          low = n;
-          a-long = length-row (recordLength s) (2 * all) blocks (2 * k) size (omega arith);
-          b-long = length-row (recordLength s) (2 * all) blocks (2 * k + 1) size (omega arith);
-          records-low = x;
-          enough = y;
-          agreed = z;
-        },
-        staying all size (suc k) ts (omega arith) kept low records enough agreed,
-      )
+  staying all size k (t ∷ ts) few (e, kept) (n, low) (x, records) (y, enough) (z, agreed) = (
+    record {
+      remembered = e;
+      low = n;
+      a-long = length-row (recordLength s) (2 * all) blocks (2 * k) size (omega arith);
+      b-long = length-row (recordLength s) (2 * all) blocks (2 * k + 1) size (omega arith);
+      records-low = x;
+      enough = y;
+      agreed = z;
+    },
+    staying all size (suc k) ts (omega arith) kept low records enough agreed,
+  )
 
   module _ (ts : List Term) (d : ℕ) (whole : Whole s) (z : relationFinishRefusal s rows (collected ts) d blocks ≡ 0) where
     passed : RelationFinished s rows ts d blocks
@@ -162,14 +160,14 @@ module _ (s : Session) (rows blocks : List ℕ) where
     session-left =
         let x = relationFinishRefusal s rows (collected ts) d blocks in
         let new = relationDone s rows blocks (factorsOf (collected ts)) d in
-        ap (λ (q : Answer). q .session) (sym (accepted-answer x x 0 0 new new s refl z refl refl))
+        ap (λ (q : Answer). q .session) (answered x new s z)
         ∙ ap (λ (l : List Term). relationDone s rows blocks l d) (factors-again ts (passed .checked .placed .few))
 
     rows-left : relationFinishRows s rows (collected ts) d blocks ≡ withSum s d ts (withProducts s rows blocks 0 (productsOf ts) rows)
     rows-left =
         let x = relationFinishRefusal s rows (collected ts) d blocks in
         let few = passed .checked .placed .few in
-        sym (accepted x x _ (withSum s d (termsOf (collected ts)) (withProducts s rows blocks 0 (factorsOf (collected ts)) rows)) rows refl z refl)
+        left x (withSum s d (termsOf (collected ts)) (withProducts s rows blocks 0 (factorsOf (collected ts)) rows)) rows z
         ∙ ap₂ (λ (l fs : List Term). withSum s d l (withProducts s rows blocks 0 fs rows)) (terms-again ts few) (factors-again ts few)
 
 -- the answer's refusal is the call's
