@@ -49,7 +49,7 @@ module _ (s : Session) (rows : List ℕ) (r yA yB : ℕ) (z : Sized (shapeOf s) 
   abbrev row : List ℕ
   row = productRow s yA yB (rowAt w rows r) (rowAt w rows (r + 1)) (rowAt w rows (r + 2))
 
-  row-long : length row ≡ w
+  pub row-long : length row ≡ w
   unfolding productRow
   row-long =
       sym (ap₂ (λ (a b : List ℕ). length (summed (sumsAt s) yB (product yA yB) a b))

@@ -46,7 +46,7 @@ each-fail f k [] a = tt
 each-fail f k (t ∷ ts) a =
     let q = fail-parts (f k t) (eachAt f (suc k) ts) a in (q .0, each-fail f (suc k) ts (q .1))
 
-forget : (P : Term → Type 0) (k : ℕ) (ts : List Term) → AllAt (λ k. P) k ts → All P ts
+pub forget : (P : Term → Type 0) (k : ℕ) (ts : List Term) → AllAt (λ k. P) k ts → All P ts
 forget P k [] a = tt
 forget P k (t ∷ ts) a = (a .0, forget P (suc k) ts (a .1))
 
@@ -56,7 +56,7 @@ products-step : (P Q : Term → Type 0) → ((t : Term) → plain t ≡ false �
 products-step P Q h true t ts e x r = r
 products-step P Q h false t ts e x r = (h t e x, r)
 
-products-all : (P Q : Term → Type 0) → ((t : Term) → plain t ≡ false → P t → Q t) → (ts : List Term) → All P ts → All Q (productsOf ts)
+pub products-all : (P Q : Term → Type 0) → ((t : Term) → plain t ≡ false → P t → Q t) → (ts : List Term) → All P ts → All Q (productsOf ts)
 unfolding productsOf
 products-all P Q h [] a = tt
 products-all P Q h (t ∷ ts) a = products-step P Q h (plain t) t ts refl (a .0) (products-all P Q h ts (a .1))
