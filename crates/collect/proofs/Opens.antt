@@ -11,8 +11,8 @@ use Rattle.refusal.proofs.Groups.{stopped, went-on}
 use Rattle.session.specs.declared.Party.{Party}
 use Rattle.session.specs.declared.Session.{Session}
 use Rattle.session.specs.declared.Answer.{Answer}
-use Rattle.session.specs.Sessions.{shapeOf, partyOf, holding, collectedTriple}
-use Rattle.session.proofs.Endings.{refused-answer, accepted-answer}
+use Rattle.session.specs.Sessions.{shapeOf, partyOf, answer, collectedTriple}
+use Rattle.session.specs.Between.{Allows}
 use Rattle.walk.specs.declared.Opened.{Opened}
 use Rattle.walk.specs.Number as Number
 use Rattle.walk.proofs.Settles.{decided, opened-decided}
@@ -87,10 +87,11 @@ unfolding outcome
 found-refusal zero yA yB = refl
 found-refusal (suc k) yA yB = refl
 
-found-numbers : (k yA yB : ℕ) → k ≡ 0 → (found k yA yB .«y_a» ≡ yA) × (found k yA yB .«y_b» ≡ yB)
+found-answer : (s : Session) (r k yA yB : ℕ)
+    → answer (found k yA yB .refusal) 0 (collectedTriple s r (found k yA yB .«y_a») (found k yA yB .«y_b»)) s ≡ answer k 0 (collectedTriple s r yA yB) s
 unfolding outcome
-found-numbers zero yA yB e = (refl, refl)
-found-numbers (suc k) yA yB e = absurd (omega arith)
+found-answer s r zero yA yB = refl
+found-answer s r (suc k) yA yB = refl
 
 module _ (s : Session) (rows : List ℕ) (r : ℕ) (l l' : List ℕ) where
   abbrev yA : ℕ
@@ -117,26 +118,17 @@ module _ (s : Session) (rows : List ℕ) (r : ℕ) (l l' : List ℕ) where
     masks-opened z o h =
         h ∙ ap (λ (k : ℕ). found k yA yB) (went-on (collectChecks s rows r l l') late tt f e (first late) z refl)
 
-  -- the call's two ends
+  -- the call's end
   module _ (o : OpenedMasks) (e : o ≡ openedMasks s rows r l l') where
-    abbrev done : Session
-    done = collectedTriple s r yA yB
-
     refusal-is : o .refusal ≡ collectRefusal s rows r l l'
     refusal-is = ap (λ (a : OpenedMasks). a .refusal) e ∙ found-refusal (collectRefusal s rows r l l') yA yB
 
-    pub collect-refused : (o .refusal ≡ 0 → ⊥) → (a : Answer) → a ≡ holding (o .refusal) 0 s → a ≡ collectAnswer s rows r l l'
-    collect-refused n a h = h ∙ refused-answer (o .refusal) (collectRefusal s rows r l l') 0 s done s refusal-is n refl
+    pub collect-allows : Allows (o .refusal) (r ≤ lastTriple)
+    collect-allows = record { allowed = λ n. collected s rows r l l' (sym refusal-is ∙ n) .checked .placed .factors .triple-in }
 
-    module _ (z : o .refusal ≡ 0) where
-      pub collect-row : r ≤ lastTriple
-      collect-row = collected s rows r l l' (sym refusal-is ∙ z) .checked .placed .factors .triple-in
-
-      pub collect-done : (a : Answer) → a ≡ holding 0 0 (collectedTriple s r (o .«y_a») (o .«y_b»)) → a ≡ collectAnswer s rows r l l'
-      collect-done a h =
-          let k = found-numbers (collectRefusal s rows r l l') yA yB (sym refusal-is ∙ z) in
-          let ey : o .«y_a» ≡ yA = ap (λ (a : OpenedMasks). a .«y_a») e ∙ k .0 in
-          let ez : o .«y_b» ≡ yB = ap (λ (a : OpenedMasks). a .«y_b») e ∙ k .1 in
-          h
-          ∙ accepted-answer (o .refusal) (collectRefusal s rows r l l') 0 0 (collectedTriple s r (o .«y_a») (o .«y_b»)) done s refusal-is z refl
-          (ap₂ (collectedTriple s r) ey ez)
+    -- what stands for y and y' in a refused call is not looked at
+    pub collect-ended : (a : Answer) → a ≡ answer (o .refusal) 0 (collectedTriple s r (o .«y_a») (o .«y_b»)) s → a ≡ collectAnswer s rows r l l'
+    collect-ended a h =
+        h
+        ∙ ap (λ (k : OpenedMasks). answer (k .refusal) 0 (collectedTriple s r (k .«y_a») (k .«y_b»)) s) e
+        ∙ found-answer s r (collectRefusal s rows r l l') yA yB

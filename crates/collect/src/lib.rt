@@ -81,8 +81,10 @@ fn collect_own(session: Session, rows: &[u32], row: usize, record_a: &[u32], rec
     requires { ⌜ Framed session (now rows) × (row ≤ lastTriple) × Recorded (partyOf session) (now «record_a») × Recorded (partyOf session) (now «record_b») ⌝ }
     ensures { λ r. ⌜ r ≡ first (collectOwn session (now (rows .entry)) row (now («record_a» .entry)) (now («record_b» .entry))) ⌝ }
 {
-    let a = session.factor_a[row] as usize;
-    let b = session.factor_b[row] as usize;
+    let factor_a = session.factor_a;
+    let factor_b = session.factor_b;
+    let a = factor_a[row] as usize;
+    let b = factor_b[row] as usize;
     refusal::or_else(
         collect_marks(session, a, b, row),
         collect_numbers(session, rows, a, b, row, record_a, record_b),
@@ -124,8 +126,10 @@ fn open_both(
         ≡ openedBoth session (maskA session (now (rows .entry)) row) (maskB session (now (rows .entry)) row) (now («record_a» .entry))
         (now («record_b» .entry)) ⌝ }
 {
-    let a = session.factor_a[row] as usize;
-    let b = session.factor_b[row] as usize;
+    let factor_a = session.factor_a;
+    let factor_b = session.factor_b;
+    let a = factor_a[row] as usize;
+    let b = factor_b[row] as usize;
     let party = session.party();
     let y_a = mask_opening::open_mask(party, rows, a, row, record_a);
     let y_b = mask_opening::open_mask(party, rows, b, row + 1, record_b);
@@ -175,8 +179,5 @@ pub fn collect(
     ensures { λ r. ⌜ r ≡ collectAnswer session (now (rows .entry)) first (now («record_a» .entry)) (now («record_b» .entry)) ⌝ }
 {
     let opened = open_masks(session, rows, first, record_a, record_b);
-    if opened.refusal != 0 {
-        return session.refuse(opened.refusal);
-    }
-    session.done_collecting(first, opened.y_a, opened.y_b)
+    session.answer_collecting(opened.refusal, first, opened.y_a, opened.y_b)
 }

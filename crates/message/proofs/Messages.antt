@@ -12,7 +12,7 @@ use Rattle.shape.specs.Row.{coefficients}
 use Rattle.refusal.specs.Refusal.{Test, _when_, first, orElse}
 use Rattle.refusal.specs.Conditions.{wrongLength, anyBeyond}
 use Rattle.refusal.proofs.Groups.{chained}
-use Rattle.refusal.proofs.Endings.{accepted}
+use Rattle.refusal.proofs.Endings.{refused, accepted}
 use Rattle.session.specs.declared.Session.{Session}
 use Rattle.session.specs.Sessions.{shapeOf}
 use Rattle.session.specs.Rows.{width, rowAt}
@@ -45,6 +45,9 @@ module _ (s : Session) (rows : List ℕ) (r : ℕ) (out : List ℕ) where
       let h5 : q5 ≡ first (5 when wrongLength out (messageLength (shapeOf s)) ∷ []) = rw (ew, eg) at e5 in
       let h8 : q8 ≡ first (8 when anyBeyond (rowAt (width s) rows r) ∷ []) = rw eg at e8 in
       past-frame s rows own f z e n (chained own tt z (cc))
+
+  pub message-untouched : (f : ℕ) → f ≡ messageRefusal s rows r out → (f ≡ 0 → ⊥) → out ≡ messageOut s rows r out
+  message-untouched f e n = refused f (messageRefusal s rows r out) (coefficients (shapeOf s) (rowAt (width s) rows r)) out e n
 
   module _ (f : ℕ) (e : f ≡ messageRefusal s rows r out) (n : f ≡ 0) where
     passed : MessageMade s rows r out

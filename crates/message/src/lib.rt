@@ -38,15 +38,25 @@ fn message_accepted(shape: Shape, rows: &[u32], row: usize, out: &mut [u32])
     lists::copy(&own[..count], out);
 }
 
+// The lent list, after a call with this refusal.
+fn message_out(session: Session, rows: &[u32], row: usize, out: &mut [u32], refusal: u8)
+    requires { ⌜ refusal ≡ messageRefusal session (now rows) row (now out) ⌝ }
+    ensures { λ r. ⌜ now (out .exit) ≡ messageOut session (now (rows .entry)) row (now (out .entry)) ⌝ }
+{
+    if refusal != 0 {
+        return;
+    }
+    message_accepted(session.shape(), rows, row, out);
+}
+
+// A message changes nothing: refused or not, the session goes back as it came.
 pub fn opening_message(session: Session, rows: &[u32], row: usize, out: &mut [u32]) -> Answer
     ensures { λ r. ⌜ r ≡ messageAnswer session (now (rows .entry)) row (now (out .entry)) ⌝ }
     ensures { λ r. ⌜ now (out .exit) ≡ messageOut session (now (rows .entry)) row (now (out .entry)) ⌝ }
 {
-    let marks = session::checks::wrong_mark(&session.marks, row, shape::HELD);
+    let held = session.marks;
+    let marks = session::checks::wrong_mark(&held, row, shape::HELD);
     let refusal = message_refusal(session, rows, row, out, marks);
-    if refusal != 0 {
-        return session.refuse(refusal);
-    }
-    message_accepted(session.shape(), rows, row, out);
-    session.done(0)
+    message_out(session, rows, row, out, refusal);
+    session.refuse(refusal)
 }

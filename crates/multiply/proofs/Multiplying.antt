@@ -15,12 +15,12 @@ use Rattle.refusal.specs.Refusal.{Test, _when_, first, orElse}
 use Rattle.refusal.specs.Conditions.{beyond, anyBeyond}
 use Rattle.refusal.proofs.Laws.{all-fail}
 use Rattle.refusal.proofs.Groups.{chained, stopped, went-on}
-use Rattle.refusal.proofs.Endings.{accepted}
+use Rattle.refusal.proofs.Endings.{refused, accepted}
 use Rattle.session.specs.declared.Session.{Session}
 use Rattle.session.specs.Sessions.{shapeOf, openedA, openedB}
 use Rattle.session.specs.Rows.{width, rowAt, withRow, summed}
 use Rattle.session.specs.Checks.{frameTests, noTriple, wrongMarks}
-use Rattle.session.specs.Between.{Framed, Sized, TripleIn}
+use Rattle.session.specs.Between.{Framed, Sized, TripleIn, Allows}
 use Rattle.session.proofs.Calls.{frame-passed, stopped-at-frame, past-frame}
 use Rattle.multiply.specs.Multiply.{productRow, withProduct, rememberedNumbers, multiplyOwn, multiplyRefusal, multiplyRows}
 use Rattle.product_masks.proofs.Passed.{triple-below}
@@ -61,6 +61,12 @@ module _ (s : Session) (rows : List ℕ) (r : ℕ) where
       pub multiply-checked : q ≡ 0 → (w : ℕ) → w ≡ first (multiplyOwn s rows r) → w ≡ multiplyRefusal s rows r
       unfolding multiplyRefusal
       multiply-checked y w h = past-frame s rows (place ++ multiplyOwn s rows r) f w e z (went-on place (multiplyOwn s rows r) tt q g w y h)
+
+  pub multiply-allows : (f : ℕ) → f ≡ multiplyRefusal s rows r → Allows f (r ≤ lastTriple)
+  multiply-allows f e = record { allowed = λ n. multiplied s rows r (sym e ∙ n) .placed .triple-in }
+
+  pub multiply-untouched : (f : ℕ) → f ≡ multiplyRefusal s rows r → (f ≡ 0 → ⊥) → rows ≡ multiplyRows s rows r
+  multiply-untouched f e n = refused f (multiplyRefusal s rows r) (withProduct s (openedA s r) (openedB s r) r rows) rows e n
 
   module _ (f : ℕ) (e : f ≡ multiplyRefusal s rows r) (z : f ≡ 0) where
     pub multiply-row : r ≤ lastTriple

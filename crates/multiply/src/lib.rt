@@ -33,10 +33,11 @@ fn multiply_own(session: Session, rows: &[u32], row: usize) -> u8
     requires { ⌜ Framed session (now rows) × (row ≤ lastTriple) ⌝ }
     ensures { λ r. ⌜ r ≡ first (multiplyOwn session (now (rows .entry)) row) ⌝ }
 {
-    let y_a = session.y_a[row];
-    let y_b = session.y_b[row];
+    let y_a = session.y_a;
+    let y_b = session.y_b;
+    let held = session.marks;
     let marks = session::checks::wrong_marks(
-        &session.marks,
+        &held,
         row,
         shape::COLLECTED,
         shape::FURTHER,
@@ -44,7 +45,7 @@ fn multiply_own(session: Session, rows: &[u32], row: usize) -> u8
     );
     refusal::or_else(
         marks,
-        remembered_numbers(session.shape(), rows, row, y_a, y_b),
+        remembered_numbers(session.shape(), rows, row, y_a[row], y_b[row]),
     )
 }
 
@@ -77,16 +78,24 @@ pub fn write_product(shape: Shape, rows: &mut [u32], first: usize, y_a: u32, y_b
     sums::sum_rows(shape, rows, third, third, first, y_b, fee);
 }
 
+// The rows, after a call with this refusal.
+fn multiply_rows(session: Session, rows: &mut [u32], first: usize, refusal: u8)
+    requires { ⌜ refusal ≡ multiplyRefusal session (now rows) first ⌝ }
+    ensures { λ r. ⌜ now (rows .exit) ≡ multiplyRows session (now (rows .entry)) first ⌝ }
+{
+    if refusal != 0 {
+        return;
+    }
+    let y_a = session.y_a;
+    let y_b = session.y_b;
+    write_product(session.shape(), rows, first, y_a[first], y_b[first]);
+}
+
 pub fn multiply(session: Session, rows: &mut [u32], first: usize) -> Answer
     ensures { λ r. ⌜ r ≡ multiplyAnswer session (now (rows .entry)) first ⌝ }
     ensures { λ r. ⌜ now (rows .exit) ≡ multiplyRows session (now (rows .entry)) first ⌝ }
 {
     let refusal = multiply_refusal(session, rows, first);
-    if refusal != 0 {
-        return session.refuse(refusal);
-    }
-    let y_a = session.y_a[first];
-    let y_b = session.y_b[first];
-    write_product(session.shape(), rows, first, y_a, y_b);
-    session.done_marking_triple(first, shape::SPENT, shape::SPENT, shape::HELD)
+    multiply_rows(session, rows, first, refusal);
+    session.answer_marking_triple(refusal, first, shape::SPENT, shape::SPENT, shape::HELD)
 }

@@ -12,11 +12,11 @@ use Rattle.refusal.specs.Refusal.{Test, _when_, first, orElse}
 use Rattle.refusal.specs.Conditions.{wrongLength}
 use Rattle.refusal.proofs.Laws.{all-fail}
 use Rattle.refusal.proofs.Groups.{chained, stopped, went-on}
-use Rattle.refusal.proofs.Endings.{accepted}
+use Rattle.refusal.proofs.Endings.{refused, accepted}
 use Rattle.session.specs.declared.Session.{Session}
 use Rattle.session.specs.Sessions.{shapeOf}
 use Rattle.session.specs.Checks.{frameTests, noRow, noTriple}
-use Rattle.session.specs.Between.{Framed, Sized, RowIn, TripleIn}
+use Rattle.session.specs.Between.{Framed, Sized, RowIn, TripleIn, Allows}
 use Rattle.session.proofs.Passed.{row-below}
 use Rattle.session.proofs.Calls.{frame-passed, stopped-at-frame, past-frame}
 use Rattle.product_masks.specs.Masks.{masksPlace, tripleMarks, factorNumbers, maskNumbers, masksRefusal, bothMasks, maskNumbersOf, masksOut}
@@ -75,15 +75,6 @@ module _ (s : Session) (rows : List ℕ) (a b r : ℕ) (out : List ℕ) where
           h .placed .out-long,
         )
 
-    pub masks-first : r ≤ lastTriple
-    masks-first = passed .3 .triple-in
-
-    pub masks-a : a ≤ lastRow
-    masks-a = passed .1 .row-in
-
-    pub masks-b : b ≤ lastRow
-    masks-b = passed .2 .row-in
-
     module _ (g : Shape) (eg : g ≡ shapeOf s) where
       pub masks-allowed : Sized g rows × RowIn g a × RowIn g b × TripleIn g r × (length out ≡ masksLength g)
       masks-allowed = rw eg (passed .0 .sized, passed .1, passed .2, passed .3, passed .4)
@@ -91,3 +82,16 @@ module _ (s : Session) (rows : List ℕ) (a b r : ℕ) (out : List ℕ) where
       pub masks-written : (new : List ℕ) → new ≡ bothMasks g rows a b r → new ≡ masksOut s rows a b r out
       unfolding maskNumbersOf
       masks-written new eo = accepted f (masksRefusal s rows a b r out) new (maskNumbersOf s rows a b r) out e n (rw eg at eo)
+
+  pub masks-untouched : (f : ℕ) → f ≡ masksRefusal s rows a b r out → (f ≡ 0 → ⊥) → out ≡ masksOut s rows a b r out
+  masks-untouched f e n = refused f (masksRefusal s rows a b r out) (maskNumbersOf s rows a b r) out e n
+
+  module _ (f : ℕ) (e : f ≡ masksRefusal s rows a b r out) where
+    pub masks-first : Allows f (r ≤ lastTriple)
+    masks-first = record { allowed = λ n. passed f e n .3 .triple-in }
+
+    pub masks-a : Allows f (a ≤ lastRow)
+    masks-a = record { allowed = λ n. passed f e n .1 .row-in }
+
+    pub masks-b : Allows f (b ≤ lastRow)
+    masks-b = record { allowed = λ n. passed f e n .2 .row-in }

@@ -21,19 +21,11 @@ pub fn triple_marks(session: Session, a: usize, b: usize, row: usize, mark: u8) 
     requires { ⌜ row ≤ lastTriple ⌝ }
     ensures { λ r. ⌜ r ≡ first (tripleMarks session a b row mark) ⌝ }
 {
-    let triple = session::checks::wrong_marks(
-        &session.marks,
-        row,
-        mark,
-        shape::FURTHER,
-        shape::FURTHER,
-    );
+    let held = session.marks;
+    let triple = session::checks::wrong_marks(&held, row, mark, shape::FURTHER, shape::FURTHER);
     refusal::or_else(
-        session::checks::wrong_mark(&session.marks, a, shape::HELD),
-        refusal::or_else(
-            session::checks::wrong_mark(&session.marks, b, shape::HELD),
-            triple,
-        ),
+        session::checks::wrong_mark(&held, a, shape::HELD),
+        refusal::or_else(session::checks::wrong_mark(&held, b, shape::HELD), triple),
     )
 }
 
@@ -109,6 +101,25 @@ pub fn masks_accepted(shape: Shape, rows: &[u32], a: usize, b: usize, first: usi
     mask(shape, rows, b, first + 1, &mut out[count..]);
 }
 
+// The lent list, after a call with this refusal.
+fn masks_out(
+    session: Session,
+    rows: &[u32],
+    a: usize,
+    b: usize,
+    first: usize,
+    out: &mut [u32],
+    refusal: u8,
+)
+    requires { ⌜ refusal ≡ masksRefusal session (now rows) a b first (now out) ⌝ }
+    ensures { λ r. ⌜ now (out .exit) ≡ masksOut session (now (rows .entry)) a b first (now (out .entry)) ⌝ }
+{
+    if refusal != 0 {
+        return;
+    }
+    masks_accepted(session.shape(), rows, a, b, first, out);
+}
+
 pub fn masks(
     session: Session,
     rows: &[u32],
@@ -121,9 +132,6 @@ pub fn masks(
     ensures { λ r. ⌜ now (out .exit) ≡ masksOut session (now (rows .entry)) a b first (now (out .entry)) ⌝ }
 {
     let refusal = masks_refusal(session, rows, a, b, first, out);
-    if refusal != 0 {
-        return session.refuse(refusal);
-    }
-    masks_accepted(session.shape(), rows, a, b, first, out);
-    session.done_masking(first, a, b)
+    masks_out(session, rows, a, b, first, out, refusal);
+    session.answer_masking(refusal, first, a, b)
 }

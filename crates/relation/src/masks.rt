@@ -129,7 +129,8 @@ fn remember(session: Session, term: Term) -> Session
     requires { ⌜ (term .first ≤ lastTriple) × (term .row ≤ lastRow) × (term .second ≤ lastRow) ⌝ }
     ensures { λ r. ⌜ r ≡ maskedTriple session (term .first) (term .row) (term .second) ⌝ }
 {
-    let answer = session.done_masking(term.first as usize, term.row as usize, term.second as usize);
+    let first = term.first as usize;
+    let answer = session.answer_masking(0, first, term.row as usize, term.second as usize);
     answer.session
 }
 

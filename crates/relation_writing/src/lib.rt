@@ -118,10 +118,10 @@ fn finish_triple(session: Session, term: Term, y_a: u32, y_b: u32) -> Session
     ensures { λ r. ⌜ r ≡ pairDone session (term .first) «y_a» «y_b» ⌝ }
 {
     let first = term.first as usize;
-    let collected = session.done_collecting(first, y_a, y_b);
+    let collected = session.answer_collecting(0, first, y_a, y_b);
     let finished = collected
         .session
-        .done_marking_triple(first, shape::SPENT, shape::SPENT, shape::HELD);
+        .answer_marking_triple(0, first, shape::SPENT, shape::SPENT, shape::HELD);
     finished.session
 }
 

@@ -7,5 +7,5 @@ use Rattle.product_masks.proofs.triple_marks.Tie as tie
 pub triple-marks-spec : {M : Type 1} → statement M
 triple-marks-spec =
     tie.close
-    (tie.spec (λ c κs. search needs) (λ c κs. search needs) (λ c κs. search needs) (λ c κs. search needs) (λ c κs. search needs)
+    (tie.spec (λ c. search needs) (λ c κs. search needs) (λ c. search needs) (λ c κs. search needs) (λ c. search needs) (λ c κs. search needs) (λ c κs. search needs) (λ c κs. search needs)
     (λ c. search (needs, marks-joined)))
