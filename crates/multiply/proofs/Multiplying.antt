@@ -1,14 +1,11 @@
 -- The refusal of a finish's second call from the groups of checks that its code joins, what holds where there is none, and how it ends.
-use Prim.Native.Nat.{ℕ, _+_, _*_, _≤_, _<_}
+use Prim.Native.Nat.{ℕ, _+_, _≤_}
 use mathlib.Core.Path.{_≡_, sym, _∙_}
 use mathlib.Core.List.{List, [], _∷_, _++_}
-use native.Mathlib.Omega.{arith}
-use mir.Syntax.{w64}
-use mir.Val.{Fits}
 use borrow.Author.Tests.{ltb-false}
 use Rattle.field.specs.Arithmetic.{product}
 use Rattle.shape.specs.declared.Shape.{Shape}
-use Rattle.shape.specs.Bounds.{rowCount, lastTriple}
+use Rattle.shape.specs.Bounds.{lastTriple}
 use Rattle.shape.specs.Marks.{further, collected}
 use Rattle.shape.specs.Lengths.{rowLength, sumsAt}
 use Rattle.refusal.specs.Refusal.{Test, _when_, first, orElse}
@@ -33,12 +30,12 @@ pub numbers-joined : (n : ℕ) (rows : List ℕ) (r yA yB u v w x y d e f g : �
     → d ≡ orElse x y → e ≡ orElse w d → f ≡ orElse v e → g ≡ orElse u f → g ≡ first (rememberedNumbers n rows r yA yB)
 numbers-joined n rows r yA yB u v w x y d e f g eu ev ew ex ey ed ee ef eg = chained (rememberedNumbers n rows r yA yB) tt g (cc)
 
-pub own-joined : (s : Session) (g : Shape) (rows : List ℕ) (r u v w : ℕ) → g ≡ shapeOf s
+pub own-joined : (s : Session) (g : Shape) (rows : List ℕ) (r yA yB u v w : ℕ) → yA ≡ openedA s r → yB ≡ openedB s r → g ≡ shapeOf s
     → u ≡ first (wrongMarks (s .marks) r collected further further)
-    → v ≡ first (rememberedNumbers (rowLength g) rows r (openedA s r) (openedB s r)) → w ≡ orElse u v → w ≡ first (multiplyOwn s rows r)
-own-joined s g rows r u v w eg eu ev ew =
+    → v ≡ first (rememberedNumbers (rowLength g) rows r yA yB) → w ≡ orElse u v → w ≡ first (multiplyOwn s rows r)
+own-joined s g rows r yA yB u v w eA eB eg eu ev ew =
     joined (wrongMarks (s .marks) r collected further further) (rememberedNumbers (width s) rows r (openedA s r) (openedB s r)) tt u v w eu
-    (rw eg at ev) ew
+    (rw (eg, eA, eB) at ev) ew
 
 module _ (s : Session) (rows : List ℕ) (r : ℕ) where
   abbrev place : List Test
@@ -72,12 +69,6 @@ module _ (s : Session) (rows : List ℕ) (r : ℕ) where
     pub multiply-row : r ≤ lastTriple
     multiply-row = multiplied s rows r (sym e ∙ z) .placed .triple-in
 
-    pub multiply-in-array : r < rowCount
-    multiply-in-array = omega (arith, multiply-row)
-
-    pub multiply-place : Fits w64 (r * 4)
-    multiply-place = record { fits = omega (arith, multiply-row) }
-
     module _ (g : Shape) (eg : g ≡ shapeOf s) where
       pub multiply-sized : Sized g rows
       multiply-sized = rw eg (multiplied s rows r (sym e ∙ z) .framed .sized)
@@ -85,11 +76,11 @@ module _ (s : Session) (rows : List ℕ) (r : ℕ) where
       pub multiply-in : TripleIn g r
       multiply-in = triple-below g r multiply-row
 
-      pub multiply-written : (out : List ℕ)
+      pub multiply-written : (out : List ℕ) (yA yB : ℕ) → yA ≡ openedA s r → yB ≡ openedB s r
           → out ≡ withRow (rowLength g) (r + 2)
-          (summed (sumsAt g) (openedB s r) (product (openedA s r) (openedB s r))
-          (summed (sumsAt g) (openedA s r) 0 (rowAt (rowLength g) rows (r + 2)) (rowAt (rowLength g) rows (r + 1))) (rowAt (rowLength g) rows r)) rows
+          (summed (sumsAt g) yB (product yA yB)
+          (summed (sumsAt g) yA 0 (rowAt (rowLength g) rows (r + 2)) (rowAt (rowLength g) rows (r + 1))) (rowAt (rowLength g) rows r)) rows
           → out ≡ multiplyRows s rows r
       unfolding withProduct productRow
-      multiply-written out eo =
-          accepted f (multiplyRefusal s rows r) out (withProduct s (openedA s r) (openedB s r) r rows) rows e z (rw eg at eo)
+      multiply-written out yA yB eA eB eo =
+          accepted f (multiplyRefusal s rows r) out (withProduct s (openedA s r) (openedB s r) r rows) rows e z (rw (eg, eA, eB) at eo)

@@ -4,10 +4,12 @@ use session::Session;
 use shape::Shape;
 ghost use mathlib.Core.Path.{_≡_};
 ghost use Prim.Native.Nat.{_+_, _≤_};
+ghost use lib.ListN.{getD};
 ghost use Rattle.field.specs.Arithmetic.{product};
 ghost use Rattle.shape.specs.Bounds.{lastTriple};
 ghost use Rattle.shape.specs.Lengths.{rowLength, sumsAt};
 ghost use Rattle.refusal.specs.Refusal.{first};
+ghost use Rattle.session.specs.Sessions.{openedA, openedB};
 ghost use Rattle.session.specs.Rows.{rowAt, withRow, summed};
 ghost use Rattle.session.specs.Between.{Framed, Sized, TripleIn};
 ghost use Rattle.multiply.specs.Multiply.{rememberedNumbers, multiplyOwn, multiplyRefusal, multiplyAnswer, multiplyRows};
@@ -28,13 +30,18 @@ fn remembered_numbers(shape: Shape, rows: &[u32], row: usize, y_a: u32, y_b: u32
     )
 }
 
+// A remembered number; 0 for a row that is none. It is read once for all: a list of them is copied for each look.
+fn number(numbers: &[u32], row: usize) -> u32
+    ensures { λ r. ⌜ r ≡ getD (now (numbers .entry)) row 0 ⌝ }
+{
+    if row < numbers.len() { numbers[row] } else { 0 }
+}
+
 // 7 and 8, once 1 to 6 have passed.
-fn multiply_own(session: Session, rows: &[u32], row: usize) -> u8
-    requires { ⌜ Framed session (now rows) × (row ≤ lastTriple) ⌝ }
+fn multiply_own(session: Session, rows: &[u32], row: usize, y_a: u32, y_b: u32) -> u8
+    requires { ⌜ Framed session (now rows) × (row ≤ lastTriple) × («y_a» ≡ openedA session row) × («y_b» ≡ openedB session row) ⌝ }
     ensures { λ r. ⌜ r ≡ first (multiplyOwn session (now (rows .entry)) row) ⌝ }
 {
-    let y_a = session.y_a;
-    let y_b = session.y_b;
     let held = session.marks;
     let marks = session::checks::wrong_marks(
         &held,
@@ -45,11 +52,12 @@ fn multiply_own(session: Session, rows: &[u32], row: usize) -> u8
     );
     refusal::or_else(
         marks,
-        remembered_numbers(session.shape(), rows, row, y_a[row], y_b[row]),
+        remembered_numbers(session.shape(), rows, row, y_a, y_b),
     )
 }
 
-fn multiply_refusal(session: Session, rows: &[u32], first: usize) -> u8
+fn multiply_refusal(session: Session, rows: &[u32], first: usize, y_a: u32, y_b: u32) -> u8
+    requires { ⌜ («y_a» ≡ openedA session first) × («y_b» ≡ openedB session first) ⌝ }
     ensures { λ r. ⌜ r ≡ multiplyRefusal session (now (rows .entry)) first ⌝ }
 {
     let frame = session.frame(rows);
@@ -60,7 +68,7 @@ fn multiply_refusal(session: Session, rows: &[u32], first: usize) -> u8
     if place != 0 {
         return place;
     }
-    multiply_own(session, rows, first)
+    multiply_own(session, rows, first, y_a, y_b)
 }
 
 // l'' + y l' + y' l into the triple's third row, with the fee y y'.
@@ -79,23 +87,25 @@ pub fn write_product(shape: Shape, rows: &mut [u32], first: usize, y_a: u32, y_b
 }
 
 // The rows, after a call with this refusal.
-fn multiply_rows(session: Session, rows: &mut [u32], first: usize, refusal: u8)
-    requires { ⌜ refusal ≡ multiplyRefusal session (now rows) first ⌝ }
+fn multiply_rows(session: Session, rows: &mut [u32], first: usize, y_a: u32, y_b: u32, refusal: u8)
+    requires { ⌜ («y_a» ≡ openedA session first) × («y_b» ≡ openedB session first) × (refusal ≡ multiplyRefusal session (now rows) first) ⌝ }
     ensures { λ r. ⌜ now (rows .exit) ≡ multiplyRows session (now (rows .entry)) first ⌝ }
 {
     if refusal != 0 {
         return;
     }
-    let y_a = session.y_a;
-    let y_b = session.y_b;
-    write_product(session.shape(), rows, first, y_a[first], y_b[first]);
+    write_product(session.shape(), rows, first, y_a, y_b);
 }
 
 pub fn multiply(session: Session, rows: &mut [u32], first: usize) -> Answer
     ensures { λ r. ⌜ r ≡ multiplyAnswer session (now (rows .entry)) first ⌝ }
     ensures { λ r. ⌜ now (rows .exit) ≡ multiplyRows session (now (rows .entry)) first ⌝ }
 {
-    let refusal = multiply_refusal(session, rows, first);
-    multiply_rows(session, rows, first, refusal);
+    let held_a = session.y_a;
+    let held_b = session.y_b;
+    let y_a = number(&held_a, first);
+    let y_b = number(&held_b, first);
+    let refusal = multiply_refusal(session, rows, first, y_a, y_b);
+    multiply_rows(session, rows, first, y_a, y_b, refusal);
     session.answer_marking_triple(refusal, first, shape::SPENT, shape::SPENT, shape::HELD)
 }

@@ -10,4 +10,5 @@ ruleset steps = (endings, multiply-allows)
 pub multiply-spec : {M : Type 1} → statement M
 multiply-spec =
     tie.close
-    (tie.spec (λ c κs. search needs) (λ c κs. search needs) (λ c κs. search steps) (λ c. search needs) (λ c. search steps))
+    (tie.spec (λ c. search needs) (λ c κs. search needs) (λ c. search needs) (λ c κs. search needs) (λ c κs. search needs) (λ c κs. search needs) (λ c κs. search steps) (λ c. search needs)
+    (λ c. search steps))

@@ -8,8 +8,9 @@ multiply-own-requires : tie.Need-multiply-own-requires
 multiply-own-requires c κs =
     let d = c .before .before in
     let a = d .before .before .before .args in
-    multiply-placed (a .session) (a .rows .now) (a .first) _ (d .before .frame .ensures) (d .if1 .left) _ (c .before .triple .ensures)
-    (c .if2 .left)
+    let placed = multiply-placed (a .session) (a .rows .now) (a .first) _ (d .before .frame .ensures) (d .if1 .left) _ (c .before .triple .ensures)
+    (c .if2 .left) in
+    (placed .0, placed .1, d .before .before .before .pre .0, d .before .before .before .pre .1)
 
 pub multiply-refusal-spec : {M : Type 1} → statement M
 multiply-refusal-spec =
