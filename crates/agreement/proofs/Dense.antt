@@ -29,10 +29,9 @@ use Rattle.agreement.specs.Agreement.{agrees}
 use Rattle.barycentric.specs.Weights.{nodeWeight, firsts}
 use Rattle.agreement.specs.Sums.{tablePart, fits}
 use Rattle.poly.proofs.Lists.{all-map, all-of, all-under, all-zip}
-use Rattle.poly.proofs.Bounds.{weighted-below, interpolated-below}
+use Rattle.poly.proofs.Bounds.{weighted-below, interpolated-below, nonzero}
 use Rattle.poly.proofs.Coefficients.{ev}
 use Rattle.poly.proofs.Lagrange.{nodalAt-nonzero}
-use Rattle.poly.proofs.Fractions.{nonzero}
 use Rattle.poly.proofs.Numbers.{toElements, element-nodal}
 use Rattle.barycentric.proofs.Sums.{sumBelow, sumOver, sumBelow-same, sumBelow-front, sumBelow-back, sumOver-same}
 use Rattle.barycentric.proofs.Barycentric.{over, above, below, sums-of-fit, fit-of-sums}

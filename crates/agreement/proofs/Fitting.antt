@@ -1,11 +1,11 @@
 -- The turns of the loops in src/agreement.rt: a test of every further node with its value.
-use Prim.Native.Nat.{ℕ, suc, _+_, _-_, _≤_, _<_}
+use Prim.Native.Nat.{ℕ, suc, _+_, _≤_, _<_}
 use mathlib.Core.Path.{_≡_, refl, sym, _∙_, ap, ap₂}
 use mathlib.Core.Bool.{Bool, true, false}
 use mathlib.Core.List.{List, [], _∷_}
 use native.Mathlib.Numerals.{add-one}
 use native.Mathlib.Omega.{arith}
-use borrow.Author.Tests.{lt-ltb, le-ltb, ne-eqb, eq-eqb}
+use borrow.Author.Tests.{lt-ltb, le-ltb}
 use lib.Dec.{eqb}
 use lib.ListN.{length, drop, getD, drop-of-length-le}
 use lib.Seq.{drop-cons}
@@ -13,8 +13,7 @@ use Rattle.field.specs.Modulus.{p}
 use Rattle.field.specs.Arithmetic.{product}
 use Rattle.poly.specs.Counting.{All}
 use Rattle.poly.specs.Polynomial.{weighted}
-use Rattle.poly.specs.Interpolation.{interpolated}
-use Rattle.agreement.specs.Agreement.{allPairs, agrees}
+use Rattle.agreement.specs.Agreement.{allPairs}
 use Rattle.agreement.specs.Sums.{tablePart, fits}
 
 module _ (test : ℕ → ℕ → Bool) (zs ys : List ℕ) where
@@ -62,14 +61,6 @@ module _ (table above below : List ℕ) (z y : ℕ) where
       → bottom ≡ weighted below (tablePart table (length below) z) → w ≡ product y bottom → eqb top w ≡ fits table above below z y
   unfolding fits
   fits-by top bottom w h et eb ew = ap₂ eqb et (ew ∙ ap (product y) eb) ∙ sym (ap chosen (lt-ltb y p h))
-
--- a value by the general way
-module _ (xs ys : List ℕ) (z y v : ℕ) (e : v ≡ interpolated xs ys z) where
-  pub agrees-not : (v ≡ y → ⊥) → agrees xs ys z y ≡ false
-  agrees-not n = ne-eqb y (interpolated xs ys z) (λ q. n (e ∙ sym q))
-
-  pub agrees-so : v ≡ y → agrees xs ys z y ≡ true
-  agrees-so q = eq-eqb y (interpolated xs ys z) (sym q ∙ e)
 
 -- two tests that answer alike at every further node
 pub pairs-same : (f g : ℕ → ℕ → Bool) (zs ws : List ℕ) → All (λ z. (w : ℕ) → f z w ≡ g z w) zs → allPairs f zs ws ≡ allPairs g zs ws

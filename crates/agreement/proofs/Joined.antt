@@ -9,11 +9,12 @@ use lib.Seq.{take-all, length-take-le}
 use Rattle.agreement.specs.Agreement.{allPairs, allAgree, agrees}
 use Rattle.poly.specs.Counting.{All}
 use Rattle.poly.specs.Interpolation.{interpolated}
+use Rattle.inverses.specs.InverseTable.{most}
 use Rattle.barycentric.specs.Nodes.{Rising, lastOf}
-use Rattle.barycentric.specs.Weights.{risesTo, Prepared, WeightsOf}
-use Rattle.agreement.specs.Sums.{fits, allFit, tops, bottoms, Weighed, Cleared, Further, Rooms}
+use Rattle.barycentric.specs.Weights.{Prepared, WeightsOf}
+use Rattle.agreement.specs.Sums.{fits, allFit, tops, bottoms, Weighed, Cleared, Further, Reached, Rooms}
 use Rattle.poly.proofs.Lists.{all-map}
-use Rattle.barycentric.proofs.Rows.{rising-of, length-firsts}
+use Rattle.barycentric.proofs.Rows.{length-firsts}
 use Rattle.barycentric.proofs.Ascent.{rising-last, rising-count, last-of-take, rising-take, rising-further}
 use Rattle.agreement.proofs.Fitting.{pairs-same}
 use Rattle.agreement.proofs.Dense.{fits-agrees}
@@ -52,58 +53,79 @@ weighed-of xs ys t gs l₀ l v prepared same e w k = record {
   weights-are = w;
 }
 
--- what the test of all nodes shows of the first k and of the further ones
-pub record Parted (xs : List ℕ) (limit k last : ℕ) : Type 0 where
+-- what the posts' rising shows of the first k and of the further ones
+record Parted (xs : List ℕ) (limit k last : ℕ) : Type 0 where
   pub rising : Rising 0 (take k xs)
   pub is-last : last ≡ lastOf 0 (take k xs)
   pub most : last ≤ limit
   pub count : k ≤ last
   pub reached : All (λ z. (suc last ≤ z) × (z ≤ limit)) (drop k xs)
 
-pub parted : (xs : List ℕ) (limit k last : ℕ) → true ≡ risesTo limit 0 xs → k ≤ length xs → 0 < k → last ≡ getD xs (k - 1) 0 → Parted xs limit k last
-parted xs limit k last e few some el =
-    let f = rising-of limit 0 xs (sym e) in
-    let q : suc (k - 1) ≡ k = omega arith in
-    let i : k - 1 < length xs = omega arith in
+parted : (xs ys t : List ℕ) (k last : ℕ) → Reached xs ys k t → last ≡ getD xs (k - 1) 0 → Parted xs (length t) k last
+parted xs ys t k last f el =
+    let q : suc (k - 1) ≡ k = omega (arith, f .some) in
+    let i : k - 1 < length xs = omega (arith, f .some, f .enough) in
     let il : last ≡ lastOf 0 (take k xs) = el ∙ sym (last-of-take 0 xs (k - 1) i) ∙ ap (λ (n : ℕ). lastOf 0 (take n xs)) q in
     record {
-      rising = rising-take 0 xs k (f .0);
+      rising = rising-take 0 xs k (f .rising);
       is-last = il;
-      most = omega (arith, f .1, rising-last 0 xs (k - 1) (f .0) i);
-      count = omega (arith, rising-count 0 xs k (f .0) few);
-      reached = all-map (λ z h. (omega (arith, h .0), omega (arith, h .1, f .1))) (drop k xs) (rising-further 0 xs k (f .0));
+      most = omega (arith, f .within, rising-last 0 xs (k - 1) (f .rising) i);
+      count = omega (arith, rising-count 0 xs k (f .rising) (f .enough));
+      reached = all-map (λ z h. (omega (arith, h .0), omega (arith, h .1, f .within))) (drop k xs) (rising-further 0 xs k (f .rising));
     }
 
 -- a list's end as the code lends it
 pub rest-all : (l : List ℕ) (n k : ℕ) → n ≡ length l → take (n - k) (drop k l) ≡ drop k l
 rest-all l n k e = take-all (n - k) (drop k l) (omega (arith, length-drop k l))
 
-module _ (posts shares t gs l a b : List ℕ) (k last : ℕ) (f : Parted posts (length t) k last) (few : k ≤ length posts)
-    (same : length shares ≡ length posts) (rooms : Rooms t gs l a b) where
-  pub parted-prepared : 0 < k → Prepared (take k posts) t (take (last - k) gs) (take (last + 1) l)
-  parted-prepared some =
-      let n = length-take-le k posts few in
+pub parted-same : (xs ys t : List ℕ) (k : ℕ) → Reached xs ys k t → length (take k ys) ≡ length (take k xs)
+parted-same xs ys t k r = length-take-le k ys (omega (arith, r .enough, r .paired)) ∙ sym (length-take-le k xs (r .enough))
+
+module _ (posts shares t gs l a b : List ℕ) (k last : ℕ) (r : Reached posts shares k t) (is : last ≡ getD posts (k - 1) 0)
+    (rooms : Rooms t gs l a b) where
+  f : Parted posts (length t) k last
+  f = parted posts shares t k last r is
+
+  -- the lists' parts that the code lends
+  pub count-in : k ≤ last
+  count-in = f .count
+
+  pub end-in : last ≤ most
+  end-in = omega (arith, f .most, rooms .table .short)
+
+  pub gaps-in : last - k ≤ length gs
+  gaps-in = omega (arith, f .most, rooms .gap-room)
+
+  pub list-in : last + 1 ≤ length l
+  list-in = omega (arith, f .most, rooms .room)
+
+  pub above-in : last + 1 ≤ length a
+  above-in = omega (arith, f .most, rooms .above-room)
+
+  pub below-in : last + 1 ≤ length b
+  below-in = omega (arith, f .most, rooms .below-room)
+
+  pub parted-prepared : Prepared (take k posts) t (take (last - k) gs) (take (last + 1) l)
+  parted-prepared =
+      let n = length-take-le k posts (r .enough) in
       record {
         rising = f .rising;
-        some = omega arith;
+        some = omega (arith, r .some);
         table = rooms .table;
         within = omega (arith, f .is-last, f .most);
-        gap-room = omega (arith, f .is-last, f .count, f .most, length-take-le (last - k) gs (omega (arith, f .most, rooms .gap-room)));
-        room = omega (arith, f .is-last, length-take-le (last + 1) l (omega (arith, f .most, rooms .room)));
+        gap-room = omega (arith, f .is-last, f .count, length-take-le (last - k) gs gaps-in);
+        room = omega (arith, f .is-last, length-take-le (last + 1) l list-in);
       }
-
-  pub parted-same : length (take k shares) ≡ length (take k posts)
-  parted-same = length-take-le k shares (omega arith) ∙ sym (length-take-le k posts few)
 
   pub parted-further : (zs ss : List ℕ) → zs ≡ drop k posts → ss ≡ drop k shares
       → Further (lastOf 0 (take k posts)) zs ss t (take (last + 1) a) (take (last + 1) b)
   parted-further zs ss ez es = record {
-    paired = ap length es ∙ length-drop k shares ∙ ap (λ (n : ℕ). n - k) same ∙ sym (ap length ez ∙ length-drop k posts);
+    paired = ap length es ∙ length-drop k shares ∙ ap (λ (n : ℕ). n - k) (r .paired) ∙ sym (ap length ez ∙ length-drop k posts);
     table = rooms .table;
     reached = subst (λ (s : List ℕ). All (λ z. (suc (lastOf 0 (take k posts)) ≤ z) × (z ≤ length t)) s) (sym ez)
         (all-map (λ z h. (omega (arith, h .0, f .is-last), h .1)) (drop k posts) (f .reached));
-    above-room = omega (arith, f .is-last, length-take-le (last + 1) a (omega (arith, f .most, rooms .above-room)));
-    below-room = omega (arith, f .is-last, length-take-le (last + 1) b (omega (arith, f .most, rooms .below-room)));
+    above-room = omega (arith, f .is-last, length-take-le (last + 1) a above-in);
+    below-room = omega (arith, f .is-last, length-take-le (last + 1) b below-in);
   }
 
 -- the answer, with the further ones as the code lends them

@@ -57,6 +57,14 @@ pub record Further (m : ℕ) (further shares inverses above below : List ℕ) : 
   pub above-room : length above ≡ suc m
   pub below-room : length below ≡ suc m
 
+-- Rising posts that the table reaches, each with a share, and k of them to go by.
+pub record Reached (posts shares : List ℕ) (k : ℕ) (inverses : List ℕ) : Type 0 where
+  pub rising : Rising 0 posts
+  pub within : lastOf 0 posts ≤ length inverses
+  pub paired : length shares ≡ length posts
+  pub some : 0 < k
+  pub enough : k ≤ length posts
+
 -- What a caller lends: the table, and room for as many numbers and one more.
 pub record Rooms (inverses gaps list above below : List ℕ) : Type 0 where
   pub table : Inverts inverses

@@ -6,7 +6,7 @@ ghost use Rattle.agreement.specs.Agreement.{allAgree, Settles};
 ghost use Rattle.poly.specs.Counting.{All};
 ghost use Rattle.barycentric.specs.Nodes.{lastOf};
 ghost use Rattle.barycentric.specs.Weights.{Prepared};
-ghost use Rattle.agreement.specs.Sums.{fits, allFit, tops, bottoms, Weighed, Cleared, Further, Rooms};
+ghost use Rattle.agreement.specs.Sums.{fits, allFit, tops, bottoms, Weighed, Cleared, Further, Reached, Rooms};
 
 // Whether the value y at z fits.
 fn fits(z: usize, y: u32, inverses: &[u32], above: &[u32], below: &[u32]) -> bool
@@ -30,19 +30,6 @@ fn all_fit(nodes: &[u32], values: &[u32], inverses: &[u32], above: &[u32], below
     for i in 0..nodes.len() {
         let z = barycentric::wide(nodes[i]);
         if !fits(z, values[i], inverses, above, below) {
-            return false;
-        }
-    }
-    true
-}
-
-// Whether all values at further nodes agree, whatever the nodes are.
-fn all_agree(nodes: &[u32], values: &[u32], further: &[u32], shares: &[u32]) -> bool
-    requires { ⌜ length (now shares) ≡ length (now further) ⌝ }
-    ensures { λ r. ⌜ r ≡ allAgree (now (nodes .entry)) (now (values .entry)) (now (further .entry)) (now (shares .entry)) ⌝ }
-{
-    for i in 0..further.len() {
-        if poly::interpolate(nodes, values, further[i]) != shares[i] {
             return false;
         }
     }
@@ -158,17 +145,6 @@ fn through_rising(
     Found { agree, value }
 }
 
-// The same by the general way, whatever the nodes are.
-fn through_any(posts: &[u32], shares: &[u32], k: usize) -> Found
-    requires { ⌜ (k ≤ length (now posts)) × (length (now shares) ≡ length (now posts)) ⌝ }
-    ensures { λ r. ⌜ Settles (take k (now (posts .entry))) (take k (now (shares .entry))) (drop k (now (posts .entry)))
-        (drop k (now (shares .entry))) (r .value) (r .agree) ⌝ }
-{
-    let value = poly::interpolate(&posts[..k], &shares[..k], 0);
-    let agree = all_agree(&posts[..k], &shares[..k], &posts[k..], &shares[k..]);
-    Found { agree, value }
-}
-
 // The value at 0 of the polynomial through the first k shares, and whether all further shares lie on it. The table of inverses is lent, and
 // room for as many numbers and one more.
 pub fn through(
@@ -181,27 +157,22 @@ pub fn through(
     above: &mut [u32],
     below: &mut [u32],
 ) -> Found
-    requires { ⌜ (k ≤ length (now posts)) × (length (now shares) ≡ length (now posts)) × Rooms (now inverses) (now gaps) (now list) (now above) (now below) ⌝ }
+    requires { ⌜ Reached (now posts) (now shares) k (now inverses) × Rooms (now inverses) (now gaps) (now list) (now above) (now below) ⌝ }
     ensures { λ r. ⌜ Settles (take k (now (posts .entry))) (take k (now (shares .entry))) (drop k (now (posts .entry)))
         (drop k (now (shares .entry))) (r .value) (r .agree) ⌝ }
 {
-    if 0 < k {
-        if barycentric::rises(posts, inverses.len()) {
-            let last = barycentric::wide(posts[k - 1]);
-            let missed = last - k;
-            let end = last + 1;
-            return through_rising(
-                &posts[..k],
-                &shares[..k],
-                &posts[k..],
-                &shares[k..],
-                inverses,
-                &mut gaps[..missed],
-                &mut list[..end],
-                &mut above[..end],
-                &mut below[..end],
-            );
-        }
-    }
-    through_any(posts, shares, k)
+    let last = barycentric::wide(posts[k - 1]);
+    let missed = last - k;
+    let end = last + 1;
+    through_rising(
+        &posts[..k],
+        &shares[..k],
+        &posts[k..],
+        &shares[k..],
+        inverses,
+        &mut gaps[..missed],
+        &mut list[..end],
+        &mut above[..end],
+        &mut below[..end],
+    )
 }

@@ -50,7 +50,7 @@ rising-below a (x ∷ xs) r = (rising-most x xs (r .1), rising-below x xs (r .1)
 pub rising-elements : (a : ℕ) (xs : List ℕ) → Rising a xs → lastOf a xs < p → Elements xs
 rising-elements a xs r h = all-map (λ x l. omega arith) xs (rising-below a xs r)
 
-following-between : (a n : ℕ) → All (λ g. (a < g) × (g ≤ a + n)) (following a n)
+pub following-between : (a n : ℕ) → All (λ g. (a < g) × (g ≤ a + n)) (following a n)
 unfolding following
 following-between a ℕ.zero = tt
 following-between a (suc n) = ((omega arith, omega arith), all-map (λ g h. (omega (arith, h .0), omega (arith, h .1))) (following (suc a) n) (following-between (suc a) n))

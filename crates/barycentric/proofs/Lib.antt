@@ -6,5 +6,6 @@ pub mod Alternating
 pub mod Rows
 pub mod Ascent
 pub mod Pairs
+pub mod Signs
 pub mod Moves
 pub mod Zero

@@ -1,14 +1,13 @@
--- Products of small differences, four at once, and their signs: the turns of `spans` and `above`, and what `distances` finds.
+-- Products of small differences, four at once, and their signs: the turns of `spans`, what fewer than four make, and what `distances` finds.
 use Prim.Native.Nat.{ℕ, suc, _+_, _-_, _*_, _%_, _≤_, _<_}
 use mathlib.Core.Path.{_≡_, refl, sym, _∙_, ap, ap₂}
 use mathlib.Core.Bool.{Bool, true, false}
 use mathlib.Core.List.{List, [], _∷_}
-use native.Mathlib.Nat.{mul-le-mul, mod-mod}
-use native.Mathlib.Numerals.{add-one}
+use native.Mathlib.Nat.{mul-le-mul, mul-assoc, mod-mod, mod-eq-of-lt}
 use native.Mathlib.Omega.{arith}
-use borrow.Author.Tests.{ltb-true, ltb-false, lt-ltb, le-ltb}
+use borrow.Author.Tests.{ltb-true, ltb-false}
 use lib.Dec.{lit<, ltb}
-use lib.ListN.{length, take, drop, getD, length-drop, drop-of-length-le}
+use lib.ListN.{length, take, drop, getD, length-drop}
 use lib.Seq.{drop-cons, take-all}
 use Rattle.field.specs.Modulus.{p}
 use Rattle.field.specs.Arithmetic.{difference, product}
@@ -19,6 +18,7 @@ use Rattle.field.proofs.Ring.{one-mul}
 use Rattle.field.proofs.Solver.{solve}
 use Rattle.field.proofs.Elements.{𝓡, element-path, element-product, element-difference, element-add, element-injective}
 use Rattle.field.proofs.Modular.{product-below, product-assoc, product-comm, product-one}
+use Rattle.poly.specs.Counting.{All}
 use Rattle.poly.specs.Interpolation.{nodal}
 use Rattle.poly.proofs.Bounds.{nodal-below}
 use Rattle.inverses.specs.InverseTable.{most}
@@ -55,6 +55,75 @@ module _ (x : ℕ) (hx : x ≤ most) where
       mul-le-mul (small u v (near a u ha e) (near b v hb f)) (small w z (near c w hc g) (near d z hd k)) in
       omega arith
 
+  -- fewer than four, as they are
+  pub first-fit : (gs : List ℕ) (u v : ℕ) → All (λ g. g ≤ most) gs → (length gs ≡ 0 → ⊥) → (length gs ≡ 1 → ⊥) → u ≡ away x (getD gs 0 0)
+      → v ≡ away x (getD gs 1 0) → u * v < 4294967296
+  first-fit [] u v l i j e f = absurd (i refl)
+  first-fit (a ∷ []) u v l i j e f = absurd (j refl)
+  first-fit (a ∷ (b ∷ gs)) u v l i j e f = two-fit a b u v (l .0) (l .1 .0) e f
+
+  three-most : (a b c u v w : ℕ) → a ≤ most → b ≤ most → c ≤ most → u ≡ away x a → v ≡ away x b → w ≡ away x c → u * v * w < p
+  three-most a b c u v w ha hb hc e f g =
+      let bound : u * v * w ≤ 65025 * 255 = mul-le-mul (small u v (near a u ha e) (near b v hb f)) (near c w hc g) in
+      omega arith
+
+  pub three-fit : (gs : List ℕ) (u v w : ℕ) → All (λ g. g ≤ most) gs → (length gs ≡ 0 → ⊥) → (length gs ≡ 1 → ⊥) → (length gs ≡ 2 → ⊥)
+      → u ≡ away x (getD gs 0 0) → v ≡ away x (getD gs 1 0) → w ≡ away x (getD gs 2 0) → u * v * w < 4294967296
+  three-fit [] u v w l i j k e f g = absurd (i refl)
+  three-fit (a ∷ []) u v w l i j k e f g = absurd (j refl)
+  three-fit (a ∷ (b ∷ [])) u v w l i j k e f g = absurd (k refl)
+  three-fit (a ∷ (b ∷ (c ∷ gs))) u v w l i j k e f g = omega (arith, three-most a b c u v w (l .0) (l .1 .0) (l .1 .1 .0) e f g)
+
+  pub spans-none : (gs : List ℕ) → length gs ≡ 0 → 1 ≡ spans gs x
+  unfolding spans
+  spans-none [] e = refl
+  spans-none (g ∷ gs) e = absurd (omega arith)
+
+  pub spans-one : (gs : List ℕ) (u : ℕ) → All (λ g. g ≤ most) gs → length gs ≡ 1 → u ≡ away x (getD gs 0 0) → u ≡ spans gs x
+  unfolding spans
+  spans-one [] u l e f = absurd (omega arith)
+  spans-one (a ∷ []) u l e f =
+      f ∙ sym (product-one (away x a) (omega (arith, near a (away x a) (l .0) refl)))
+  spans-one (a ∷ (b ∷ gs)) u l e f = absurd (omega arith)
+
+  pub spans-two : (gs : List ℕ) (u v : ℕ) → All (λ g. g ≤ most) gs → length gs ≡ 2 → u ≡ away x (getD gs 0 0) → v ≡ away x (getD gs 1 0)
+      → u * v ≡ spans gs x
+  unfolding spans product
+  spans-two [] u v l e f g = absurd (omega arith)
+  spans-two (a ∷ []) u v l e f g = absurd (omega arith)
+  spans-two (a ∷ (b ∷ [])) u v l e f g =
+      let low : u * v < p = omega (arith, small u v (near a u (l .0) f) (near b v (l .1 .0) g)) in
+      sym (mod-eq-of-lt low) ∙ rw (f, g) (ap (product (away x a)) (spans-one (b ∷ []) (away x b) (l .1) refl refl))
+  spans-two (a ∷ (b ∷ (c ∷ gs))) u v l e f g = absurd (omega arith)
+
+  pub spans-three : (gs : List ℕ) (u v w : ℕ) → All (λ g. g ≤ most) gs → length gs < 4 → (length gs ≡ 0 → ⊥) → (length gs ≡ 1 → ⊥) → (length gs ≡ 2 → ⊥)
+      → u ≡ away x (getD gs 0 0) → v ≡ away x (getD gs 1 0) → w ≡ away x (getD gs 2 0) → u * v * w ≡ spans gs x
+  unfolding spans product
+  spans-three [] u v w l e i j k f g h = absurd (i refl)
+  spans-three (a ∷ []) u v w l e i j k f g h = absurd (j refl)
+  spans-three (a ∷ (b ∷ [])) u v w l e i j k f g h = absurd (k refl)
+  spans-three (a ∷ (b ∷ (c ∷ []))) u v w l e i j k f g h =
+      sym (mod-eq-of-lt (three-most a b c u v w (l .0) (l .1 .0) (l .1 .1 .0) f g h))
+      ∙ ap (λ (n : ℕ). n % p) (mul-assoc u v w)
+      ∙ rw (f, g, h) (ap (product (away x a)) (spans-two (b ∷ (c ∷ [])) (away x b) (away x c) (l .1) refl refl refl))
+  spans-three (a ∷ (b ∷ (c ∷ (d ∷ gs)))) u v w l e i j k f g h = absurd (omega arith)
+
+-- what is left behind the fours
+all-behind : (P : ℕ → Type 0) (l : List ℕ) (i : ℕ) → All P l → All P (drop i l)
+all-behind P l ℕ.zero a = a
+all-behind P [] (suc i) a = tt
+all-behind P (x ∷ l) (suc i) a = all-behind P l i (a .1)
+
+module _ (gs : List ℕ) (i : ℕ) where
+  rest : take (length gs - i) (drop i gs) ≡ drop i gs
+  rest = take-all (length gs - i) (drop i gs) (omega (arith, length-drop i gs))
+
+  pub rest-small : All (λ g. g ≤ most) gs → All (λ g. g ≤ most) (take (length gs - i) (drop i gs))
+  rest-small a = rw rest (all-behind (λ g. g ≤ most) gs i a)
+
+  pub rest-few : length gs - i ≤ 3 → length (take (length gs - i) (drop i gs)) < 4
+  rest-few h = rw rest (omega (arith, length-drop i gs))
+
 pub spans-below : (gs : List ℕ) (x : ℕ) → spans gs x < p
 unfolding spans
 spans-below [] x = lit< tt
@@ -63,15 +132,6 @@ spans-below (g ∷ gs) x = product-below _ _
 module _ (gs : List ℕ) (x : ℕ) where
   pub spans-start : product 1 (spans (drop 0 gs) x) ≡ spans gs x
   spans-start = product-comm 1 (spans gs x) ∙ product-one (spans gs x) (spans-below gs x)
-
-  pub spans-turn : (i r d v : ℕ) → i < length gs → product r (spans (drop i gs) x) ≡ spans gs x → d ≡ away x (getD gs i 0)
-      → v ≡ product r d → product v (spans (drop (i + 1) gs) x) ≡ spans gs x
-  unfolding spans
-  spans-turn i r d v h e f g = rw (g, f, add-one i) (product-assoc r _ _ ∙ rw (drop-cons gs i 0 h) at e)
-
-  pub spans-end : (i r : ℕ) → length gs ≤ i → r < p → product r (spans (drop i gs) x) ≡ spans gs x → r ≡ spans gs x
-  unfolding spans
-  spans-end i r h l e = sym (product-one r l) ∙ rw (drop-of-length-le gs h) at e
 
   drop-four : (i : ℕ) → i + 3 < length gs
       → drop i gs ≡ getD gs i 0 ∷ (getD gs (i + 1) 0 ∷ (getD gs (i + 2) 0 ∷ (getD gs (i + 3) 0 ∷ drop (i + 4) gs)))
@@ -122,36 +182,6 @@ module _ (gs : List ℕ) (x : ℕ) where
   four-end i r s v n en e es ev =
       ev ∙ ap (product r) (es ∙ ap (λ (l : List ℕ). spans l x) (take-all (n - i) (drop i gs) (omega (arith, length-drop i gs)))) ∙ e
 
-  -- counting
-  pub above-turn : (i k v : ℕ) → i < length gs → k + above (drop i gs) x ≡ above gs x → v ≡ k + over x (getD gs i 0)
-      → v + above (drop (i + 1) gs) x ≡ above gs x
-  unfolding above
-  above-turn i k v h e f =
-      let q : above (drop i gs) x ≡ over x (getD gs i 0) + above (drop (suc i) gs) x = ap (λ (s : List ℕ). above s x) (drop-cons gs i 0 h) in
-      rw (add-one i) (omega arith)
-
-  pub above-end : (i k : ℕ) → length gs ≤ i → k + above (drop i gs) x ≡ above gs x → k ≡ above gs x
-  unfolding above
-  above-end i k h e = let q : above (drop i gs) x ≡ 0 = rw (drop-of-length-le gs h) refl in omega arith
-
-pub counted-over : (k x g v : ℕ) → x < g → v ≡ k + 1 → v ≡ k + over x g
-unfolding over
-counted-over k x g v h e = e ∙ ap (λ (t : Bool). k + (elim t as (λ z. ℕ) [ true ↦ 1 | false ↦ 0 ])) (sym (lt-ltb x g h))
-
-pub counted-under : (k x g : ℕ) → g ≤ x → k ≡ k + over x g
-unfolding over
-counted-under k x g h =
-    let q : k ≡ k + 0 = omega arith in
-    q ∙ ap (λ (t : Bool). k + (elim t as (λ z. ℕ) [ true ↦ 1 | false ↦ 0 ])) (sym (le-ltb x g h))
-
-pub counted-most : (k x g v : ℕ) → v ≡ k + over x g → v ≤ k + 1
-unfolding over
-counted-most k x g v e = go (ltb x g) e
-  where
-    go : (t : Bool) → v ≡ k + (elim t as (λ z. ℕ) [ true ↦ 1 | false ↦ 0 ]) → v ≤ k + 1
-    go true q = omega arith
-    go false q = omega arith
-
 -- the difference and its size
 larger : (x g : ℕ) → g ≤ x → element x ⊕ neg (element g) ≡ element (away x g)
 unfolding Same
@@ -193,8 +223,8 @@ element-spans (g ∷ gs) x =
         ∙ solve 𝓡 (element (away x g) ∷ sign 𝓡 k ∷ element (spans gs x) ∷ []) (A :* (B :* C)) (B :* (A :* C)) refl
         ∙ ap₂ (λ (j : ℕ) (u : Element). sign 𝓡 j ⊗ u) same (sym (element-product _ _))
 
-pub distances-found : (gs : List ℕ) (x s a n v : ℕ) → s ≡ spans gs x → a ≡ above gs x → n ≡ a → v ≡ mirrored (n + 1) s → v ≡ nodal gs x
-distances-found gs x s a n v es ea en ev =
-    let q : v ≡ mirrored (above gs x + 1) (spans gs x) = ev ∙ ap₂ (λ (i j : ℕ). mirrored (i + 1) j) (en ∙ ea) es in
+pub distances-found : (gs : List ℕ) (x s n v : ℕ) → s ≡ spans gs x → n ≡ above gs x → v ≡ mirrored (n + 1) s → v ≡ nodal gs x
+distances-found gs x s n v es en ev =
+    let q : v ≡ mirrored (above gs x + 1) (spans gs x) = ev ∙ ap₂ (λ (i j : ℕ). mirrored (i + 1) j) en es in
     element-injective v (nodal gs x) (rw q (mirrored-below (above gs x + 1) (spans gs x) (spans-below gs x))) (nodal-below gs x)
     (ap element q ∙ element-mirrored (above gs x) (spans gs x) ∙ sym (element-spans gs x))

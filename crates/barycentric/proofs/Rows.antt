@@ -1,4 +1,4 @@
--- The turns of the loops in src/lib.rt that test the nodes and fill the row of weights, as facts about plain lists and numbers.
+-- The turns of the loops in src/lib.rt that fill the row of weights, as facts about plain lists and numbers.
 use Prim.Native.Nat.{ℕ, suc, _+_, _-_, _%_, _≤_, _<_}
 use mathlib.Core.Path.{_≡_, refl, sym, _∙_, ap, ap₂}
 use mathlib.Core.Bool.{Bool, true, false}
@@ -7,54 +7,14 @@ use native.Mathlib.Nat.{not-suc-le-zero, mod-eq-of-lt}
 use native.Mathlib.Decide.{decLt}
 use native.Mathlib.Numerals.{add-one}
 use native.Mathlib.Omega.{arith}
-use borrow.Author.Tests.{ltb-true, leb-true, lt-ltb, le-ltb, eq-eqb, ne-eqb}
-use lib.Dec.{ltb, leb}
-use lib.ListN.{length, take, drop, getD, set, drop-of-length-le, length-append, List·getD-append}
-use lib.Seq.{drop-cons, take-suc-set, take-all, getD-take, getD-append-seam}
+use borrow.Author.Tests.{eq-eqb, ne-eqb}
+use lib.ListN.{length, take, getD, set, length-append, List·getD-append}
+use lib.Seq.{take-suc-set, take-all, getD-take, getD-append-seam}
 use Rattle.field.specs.Modulus.{p}
 use Rattle.field.specs.Arithmetic.{difference, product}
 use Rattle.inverses.specs.InverseTable.{Inverts}
-use Rattle.barycentric.specs.Nodes.{Rising, lastOf}
-use Rattle.barycentric.specs.Weights.{alternating, mirrored, firsts, risesTo}
+use Rattle.barycentric.specs.Weights.{alternating, mirrored, firsts}
 use Rattle.barycentric.proofs.Alternating.{negative-inverse, alternating-below, alternating-next, alternating-mirror}
-
--- the test whether nodes rise
-module _ (limit : ℕ) (xs : List ℕ) where
-  pub rises-start : risesTo limit 0 (drop 0 xs) ≡ risesTo limit 0 xs
-  rises-start = refl
-
-  pub rises-stop : (last i : ℕ) → i < length xs → getD xs i 0 ≤ last → risesTo limit last (drop i xs) ≡ risesTo limit 0 xs
-      → false ≡ risesTo limit 0 xs
-  unfolding risesTo
-  rises-stop last i h l e =
-      sym (ap (λ (t : Bool). elim t as (λ z. Bool) [ true ↦ risesTo limit (getD xs i 0) (drop (suc i) xs) | false ↦ false ]) (le-ltb last (getD xs i 0) l))
-      ∙ rw (drop-cons xs i 0 h) at e
-
-  pub rises-turn : (last i : ℕ) → i < length xs → last < getD xs i 0 → risesTo limit last (drop i xs) ≡ risesTo limit 0 xs
-      → risesTo limit (getD xs i 0) (drop (i + 1) xs) ≡ risesTo limit 0 xs
-  unfolding risesTo
-  rises-turn last i h l e =
-      ap (λ (k : ℕ). risesTo limit (getD xs i 0) (drop k xs)) (add-one i)
-      ∙ sym (ap (λ (t : Bool). elim t as (λ z. Bool) [ true ↦ risesTo limit (getD xs i 0) (drop (suc i) xs) | false ↦ false ]) (lt-ltb last (getD xs i 0) l))
-      ∙ rw (drop-cons xs i 0 h) at e
-
-  pub rises-end : (last w i : ℕ) → length xs ≤ i → risesTo limit last (drop i xs) ≡ risesTo limit 0 xs → w ≡ last
-      → leb w limit ≡ risesTo limit 0 xs
-  unfolding risesTo
-  rises-end last w i h e q = ap (λ (k : ℕ). leb k limit) q ∙ rw (drop-of-length-le xs h) at e
-
-pub rising-of : (limit a : ℕ) (xs : List ℕ) → risesTo limit a xs ≡ true → Rising a xs × (lastOf a xs ≤ limit)
-unfolding risesTo
-rising-of limit a [] e = (tt, leb-true a limit e)
-rising-of limit a (x ∷ xs) e = go (ltb a x) refl e (rising-of limit x xs)
-  where
-    none : {T : Type 0} → false ≡ true → T
-    none q = let z : _≡_ {A = ℕ} 0 1 = cc in absurd (omega arith)
-
-    go : (t : Bool) → ltb a x ≡ t → elim t as (λ z. Bool) [ true ↦ risesTo limit x xs | false ↦ false ] ≡ true
-        → (risesTo limit x xs ≡ true → Rising x xs × (lastOf x xs ≤ limit)) → ((a < x) × Rising x xs) × (lastOf x xs ≤ limit)
-    go true q r more = ((ltb-true a x q, more r .0), more r .1)
-    go false q r more = none r
 
 -- an entry of the table
 module _ (t : List ℕ) (k : ℕ) (right : Inverts t) (some : 0 < k) (in-it : k ≤ length t) where

@@ -1,12 +1,11 @@
 -- Interpolation at 0 through rising nodes: the weights that the code makes, and one inverse for all of them.
 use Prim.Native.Nat.{ℕ, suc, _+_, _-_, _≤_, _<_}
 use mathlib.Core.Path.{_≡_, refl, sym, _∙_, ap, ap₂}
-use mathlib.Core.Bool.{true}
 use mathlib.Core.List.{List, [], _∷_, _++_, map, map-append}
 use native.Mathlib.Numerals.{add-one}
 use native.Mathlib.Omega.{arith}
-use lib.ListN.{length, take, drop, getD, length-map, length-append}
-use lib.Seq.{take-all, length-take-le}
+use lib.ListN.{length, take, drop, length-map, length-append}
+use lib.Seq.{take-all}
 use Rattle.field.specs.Modulus.{p}
 use Rattle.field.specs.Arithmetic.{difference, product}
 use Rattle.field.specs.Algebra.{CommutativeRing}
@@ -18,10 +17,10 @@ use Rattle.field.proofs.Elements.{𝓡, elements, element-zero, element-one, el
 use Rattle.field.proofs.Modular.{product-below, product-one}
 use Rattle.poly.specs.Counting.{All}
 use Rattle.poly.specs.Interpolation.{nodal, interpolated}
-use Rattle.inverses.specs.InverseTable.{Inverts, most}
+use Rattle.inverses.specs.InverseTable.{most}
 use Rattle.barycentric.specs.Nodes.{Rising, lastOf, missing, following}
 use Rattle.poly.specs.Polynomial.{weighted}
-use Rattle.barycentric.specs.Weights.{alternating, nodeWeight, firsts, risesTo, Prepared}
+use Rattle.barycentric.specs.Weights.{alternating, nodeWeight, firsts, Prepared}
 use Rattle.poly.proofs.Lists.{all-of, all-map, map-same}
 use Rattle.poly.proofs.Bounds.{interpolated-below}
 use Rattle.poly.proofs.Coefficients.{ev}
@@ -32,8 +31,8 @@ use Rattle.barycentric.proofs.Pascal.{pascal}
 use Rattle.barycentric.proofs.Barycentric.{Kills, at-first}
 use Rattle.barycentric.proofs.Gaps.{length-following, following-end, length-missing, gapped, gapped-kills}
 use Rattle.barycentric.proofs.Alternating.{element-suc, element-nodeWeight, alternating-below}
-use Rattle.barycentric.proofs.Ascent.{rising-count, last-of-take, rising-distinct, rising-elements, missing-between}
-use Rattle.barycentric.proofs.Rows.{rising-of, length-firsts}
+use Rattle.barycentric.proofs.Ascent.{rising-distinct, rising-elements, missing-between}
+use Rattle.barycentric.proofs.Rows.{length-firsts}
 open CommutativeRing 𝓡 using (add as _⊕_, mul as _⊗_, neg, zero as 0ᴱ, one as 1ᴱ, mul-one)
 
 infixl 65 _⊕_
@@ -200,32 +199,3 @@ module _ (xs t gs l₀ : List ℕ) (prepared : Prepared xs t gs l₀) where
       at-zero xs ys (prepared .rising) (omega (arith, prepared .within, prepared .table .short)) (sym same) s d v
       (es ∙ ap (weighted ys) (behind-first l (nodeWeight (lastOf 0 xs) (missing 0 xs)) xs (length xs) el))
       (ap (λ (g : List ℕ). product d (nodal g 0)) (sym eh) ∙ ed) (ev ∙ ap (λ (u : ℕ). product u d) ee)
-
--- what the test of the nodes shows
-pub record Placed (xs : List ℕ) (limit k last : ℕ) : Type 0 where
-  pub rising : Rising 0 xs
-  pub is-last : last ≡ lastOf 0 xs
-  pub most : last ≤ limit
-  pub count : k ≤ last
-
-pub placed : (xs : List ℕ) (limit k last : ℕ) → true ≡ risesTo limit 0 xs → k ≡ length xs → 0 < k → last ≡ getD xs (k - 1) 0 → Placed xs limit k last
-placed xs limit k last e ek some el =
-    let f = rising-of limit 0 xs (sym e) in
-    let q : suc (k - 1) ≡ k = omega arith in
-    let i : k - 1 < length xs = omega arith in
-    let whole : take k xs ≡ xs = take-all k xs (omega arith) in
-    let il : last ≡ lastOf 0 xs =
-    el ∙ sym (last-of-take 0 xs (k - 1) i) ∙ ap (λ (n : ℕ). lastOf 0 (take n xs)) q ∙ ap (lastOf 0) whole in
-    let c : 0 + k ≤ lastOf 0 xs = rw whole at (rising-count 0 xs k (f .0) (omega arith)) in
-    record { rising = f .0; is-last = il; most = omega (arith, f .1); count = omega arith }
-
-pub prepared : (xs t gs l : List ℕ) (last : ℕ) → Placed xs (length t) (length xs) last → 0 < length xs → Inverts t → length t ≤ length gs
-    → length t < length l → Prepared xs t (take (last - length xs) gs) (take (last + 1) l)
-prepared xs t gs l last f some table gap-room room = record {
-  rising = f .rising;
-  some = some;
-  table = table;
-  within = omega (arith, f .is-last, f .most);
-  gap-room = omega (arith, f .is-last, f .count, f .most, length-take-le (last - length xs) gs (omega (arith, f .most)));
-  room = omega (arith, f .is-last, length-take-le (last + 1) l (omega (arith, f .most)));
-}

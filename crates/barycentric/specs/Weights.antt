@@ -1,9 +1,9 @@
 -- Between the functions of the code: weights of rising nodes.
 use Prim.Native.Nat.{ℕ, zero, suc, _+_, _-_, _%_, _≤_, _<_}
 use mathlib.Core.Path.{_≡_}
-use mathlib.Core.Bool.{Bool, true, false}
+use mathlib.Core.Bool.{true, false}
 use mathlib.Core.List.{List, [], _∷_, _++_, map}
-use lib.Dec.{eqb, leb, ltb}
+use lib.Dec.{eqb, ltb}
 use lib.ListN.{length, take, drop}
 use Rattle.field.specs.Modulus.{p}
 use Rattle.field.specs.Arithmetic.{difference, product}
@@ -50,11 +50,6 @@ firsts f (suc n) = firsts f n ++ (f n ∷ [])
 -- The row of n numbers: the weights of 0 to n - 1.
 abbrev pub row : ℕ → List ℕ
 row n = firsts (alternating (n - 1)) n
-
--- The test whether numbers rise, from above a to at most a limit.
-unfoldable pub risesTo : ℕ → ℕ → List ℕ → Bool
-risesTo limit a [] = leb a limit
-risesTo limit a (x ∷ xs) = elim (ltb a x) [ true ↦ risesTo limit x xs | false ↦ false ]
 
 -- Rising nodes that the table reaches, with room for the missing numbers and for the weights of all numbers up to the last node.
 pub record Prepared (nodes inverses gaps list : List ℕ) : Type 0 where

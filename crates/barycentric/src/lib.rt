@@ -1,5 +1,5 @@
 // Interpolation at 0 through rising numbers from 1 to 255, as post numbers are: every inverse comes from a table that the caller
-// lends. Other nodes go by `interpolate`.
+// lends.
 ghost use mathlib.Core.Path.{_≡_};
 ghost use mathlib.Core.List.{_∷_, map};
 ghost use Prim.Native.Nat.{_+_, _*_, _-_, _≤_, _<_};
@@ -10,26 +10,12 @@ ghost use Rattle.poly.specs.Counting.{All};
 ghost use Rattle.inverses.specs.InverseTable.{Inverts, most};
 ghost use Rattle.poly.specs.Interpolation.{nodal, interpolated};
 ghost use Rattle.barycentric.specs.Nodes.{Rising, lastOf, missing};
-ghost use Rattle.barycentric.specs.Weights.{alternating, mirrored, away, spans, over, above, nodeWeight, firsts, row, risesTo, Prepared, WeightsOf};
+ghost use Rattle.barycentric.specs.Weights.{alternating, mirrored, away, spans, above, nodeWeight, firsts, row, Prepared, WeightsOf};
 
 pub fn wide(x: u32) -> usize
     ensures { λ r. ⌜ r ≡ x ⌝ }
 {
     x as usize
-}
-
-// Whether the nodes are rising numbers from 1 to the limit.
-pub fn rises(nodes: &[u32], limit: usize) -> bool
-    ensures { λ r. ⌜ r ≡ risesTo limit 0 (now (nodes .entry)) ⌝ }
-{
-    let mut last: u32 = 0;
-    for i in 0..nodes.len() {
-        if nodes[i] <= last {
-            return false;
-        }
-        last = nodes[i];
-    }
-    wide(last) <= limit
 }
 
 // 1 / (0 - k): p less the table's entry.
@@ -125,15 +111,24 @@ fn four(x: u32, a: u32, b: u32, c: u32, d: u32) -> u32
     first * second
 }
 
-// The product of |x - g| over numbers g, one to a turn.
+// The product of |x - g| over fewer than four small numbers g, which needs no remainder either.
 fn few_spans(gaps: &[u32], x: u32) -> u32
+    requires { ⌜ (x ≤ most) × All (λ g. g ≤ most) (now gaps) × (length (now gaps) < 4) ⌝ }
     ensures { λ r. ⌜ r ≡ spans (now (gaps .entry)) x ⌝ }
 {
-    let mut r: u32 = 1;
-    for i in 0..gaps.len() {
-        r = field::mul(r, away(x, gaps[i]));
+    let n = gaps.len();
+    if n == 0 {
+        return 1;
     }
-    r
+    let first = away(x, gaps[0]);
+    if n == 1 {
+        return first;
+    }
+    let two = first * away(x, gaps[1]);
+    if n == 2 {
+        return two;
+    }
+    two * away(x, gaps[2])
 }
 
 // The product of |x - g| over small numbers g, four to a turn.
@@ -152,47 +147,29 @@ fn spans(gaps: &[u32], x: u32) -> u32
     field::mul(r, few_spans(&gaps[i..], x))
 }
 
-// One more, where g is above x.
-fn counted(count: u32, x: u32, g: u32) -> u32
-    requires { ⌜ count < most ⌝ }
-    ensures { λ r. ⌜ r ≡ count + over x g ⌝ }
-{
-    if x < g { count + 1 } else { count }
-}
-
-// How many of the numbers are above x.
-fn above(gaps: &[u32], x: u32) -> u32
-    requires { ⌜ length (now gaps) ≤ most ⌝ }
-    ensures { λ r. ⌜ r ≡ above (now (gaps .entry)) x ⌝ }
-{
-    let mut count: u32 = 0;
-    for i in 0..gaps.len() {
-        count = counted(count, x, gaps[i]);
-    }
-    count
-}
-
-// The product of x - g over small numbers g: a sign for each that is above x.
-fn distances(gaps: &[u32], x: u32) -> u32
-    requires { ⌜ (x ≤ most) × All (λ g. g ≤ most) (now gaps) × (length (now gaps) ≤ most) ⌝ }
+// The product of x - g over small numbers g: a sign for each that is above x, `signs` in all.
+fn distances(gaps: &[u32], x: u32, signs: usize) -> u32
+    requires { ⌜ (x ≤ most) × All (λ g. g ≤ most) (now gaps) × (signs ≤ most) × (signs ≡ above (now gaps) x) ⌝ }
     ensures { λ r. ⌜ r ≡ nodal (now (gaps .entry)) x ⌝ }
 {
-    let signs = wide(above(gaps, x));
     mirrored(spans(gaps, x), signs + 1)
 }
 
-// The weights of 0 and the nodes move to the front of the list of all numbers' weights, each times its distances to the gaps.
+// The weights of 0 and the nodes move to the front of the list of all numbers' weights, each times its distances to the gaps. Of the numbers
+// up to node x all but i + 1 are gaps, so those above it need no count.
 fn weigh_nodes(nodes: &[u32], gaps: &[u32], list: &mut [u32])
-    requires { ⌜ Rising 0 (now nodes) × (lastOf 0 (now nodes) ≤ most) × All (λ g. g ≤ most) (now gaps) × (length (now gaps) ≤ most)
+    requires { ⌜ Rising 0 (now nodes) × (lastOf 0 (now nodes) ≤ most) × (now gaps ≡ missing 0 (now nodes))
         × (lastOf 0 (now nodes) < length (now list))
         × (now list ≡ firsts (alternating (lastOf 0 (now nodes))) (length (now list))) ⌝ }
     ensures { λ r. ⌜ take (length (now (nodes .entry)) + 1) (now (list .exit))
         ≡ map (nodeWeight (lastOf 0 (now (nodes .entry))) (now (gaps .entry))) (0 ∷ now (nodes .entry)) ⌝ }
 {
-    list[0] = distances(gaps, 0);
+    let missed = gaps.len();
+    list[0] = distances(gaps, 0, missed);
     for i in 0..nodes.len() {
         let x = wide(nodes[i]);
-        list[i + 1] = field::mul(list[x], distances(gaps, nodes[i]));
+        let above = missed + (i + 1) - x;
+        list[i + 1] = field::mul(list[x], distances(gaps, nodes[i], above));
     }
 }
 
@@ -246,35 +223,4 @@ pub fn at_zero_rising(
     let end = nodes.len() + 1;
     let s = poly::weigh(values, &list[1..end]);
     field::mul(field::sub(0, s), inverse_product(gaps, inverses))
-}
-
-// The interpolation at 0. The table of inverses and room for as many numbers, and one more in the list, are lent.
-pub fn at_zero(
-    nodes: &[u32],
-    values: &[u32],
-    inverses: &[u32],
-    gaps: &mut [u32],
-    list: &mut [u32],
-) -> u32
-    requires { ⌜ Inverts (now inverses) × (length (now inverses) ≤ length (now gaps)) × (length (now inverses) < length (now list)) ⌝ }
-    ensures { λ r. ⌜ r ≡ interpolated (now (nodes .entry)) (now (values .entry)) 0 ⌝ }
-{
-    let k = nodes.len();
-    if 0 < k {
-        if values.len() == k {
-            if rises(nodes, inverses.len()) {
-                let last = wide(nodes[k - 1]);
-                let missed = last - k;
-                let end = last + 1;
-                return at_zero_rising(
-                    nodes,
-                    values,
-                    inverses,
-                    &mut gaps[..missed],
-                    &mut list[..end],
-                );
-            }
-        }
-    }
-    poly::interpolate(nodes, values, 0)
 }

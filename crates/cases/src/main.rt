@@ -41,16 +41,16 @@ fn begin(case: &[u8], n: usize, t: usize) {
 fn load_into(case: &[u8], row: usize) {
     let mut rows = [0u32; 768];
     let session = Session::new(3, 1, 1, 2).session;
-    let answer = sharing::load::load_row(session, &mut rows, row, &[1, 2, 5, 5, 17, 12, 18, 24]);
+    let answer = load::load_row(session, &mut rows, row, &[1, 2, 5, 5, 17, 12, 18, 24]);
     show(case, answer.refusal, answer.value);
 }
 
 // A post of three that holds a = 100 in row 0 and a + (p − 1) a in row 1.
 fn prepared(post: usize, point: u32, rows: &mut [u32], pack: &[u32]) -> Session {
     let session = Session::new(3, 1, post, point).session;
-    let loaded = sharing::load::load_row(session, rows, 0, pack).session;
-    let dealt = sharing::deal::deal(loaded, rows, 0, 93).session;
-    sharing::linear::linear(dealt, rows, 1, 0, 0, 2147483646, 0).session
+    let loaded = load::load_row(session, rows, 0, pack).session;
+    let dealt = deal::deal(loaded, rows, 0, 93).session;
+    linear::linear(dealt, rows, 1, 0, 0, 2147483646, 0).session
 }
 
 // Post 1 opens this row with post 2's message.
@@ -60,7 +60,7 @@ fn open_with_two(case: &[u8], row: usize) {
     let mut sent = [0u32; 2];
     let first = prepared(1, 2, &mut rows, &[1, 2, 5, 5, 17, 12, 18, 24]);
     let second = prepared(2, 3, &mut other, &[3, 1, 7, 6, 23, 12, 18, 24]);
-    sharing::message::opening_message(second, &other, row, &mut sent);
+    message::opening_message(second, &other, row, &mut sent);
     let blocks = [0, 0, 0, 1, sent[0], sent[1], 0, 0, 0];
     let answer = opening::open(first, &rows, row, &blocks);
     show(case, answer.refusal, answer.value);
@@ -84,16 +84,16 @@ fn loaded(
     triple: &[u32],
 ) -> Session {
     let new = Session::new(3, 1, post, point).session;
-    let first = sharing::load::load_row(new, rows, 0, a).session;
-    let second = sharing::load::load_row(first, rows, 1, b).session;
-    sharing::load::load_triple(second, rows, 2, triple).session
+    let first = load::load_row(new, rows, 0, a).session;
+    let second = load::load_row(first, rows, 1, b).session;
+    load::load_triple(second, rows, 2, triple).session
 }
 
 // Row 0 becomes 6 and row 1 becomes 7; the post makes its masks.
 fn masked(session: Session, rows: &mut [u32], sent: &mut [u32]) -> Session {
-    let rides = sharing::deal::deal(session, rows, 0, 2147483646).session;
-    let rate = sharing::deal::deal(rides, rows, 1, 4).session;
-    product::masks::masks(rate, rows, 0, 1, 2, sent).session
+    let rides = deal::deal(session, rows, 0, 2147483646).session;
+    let rate = deal::deal(rides, rows, 1, 4).session;
+    product_masks::masks(rate, rows, 0, 1, 2, sent).session
 }
 
 // The three rows of a triple, one after the other.
@@ -141,9 +141,9 @@ fn second_loaded(rows: &mut [u32]) -> Session {
 
 // The product into row 4, and with a fee of 8 into row 5.
 fn charged(session: Session, rows: &mut [u32], record_a: &[u32], record_b: &[u32]) -> Session {
-    let collected = product::collect::collect(session, rows, 2, record_a, record_b).session;
-    let multiplied = product::multiply::multiply(collected, rows, 2).session;
-    sharing::linear::linear(multiplied, rows, 5, 4, 4, 0, 8).session
+    let collected = collect::collect(session, rows, 2, record_a, record_b).session;
+    let multiplied = multiply::multiply(collected, rows, 2).session;
+    linear::linear(multiplied, rows, 5, 4, 4, 0, 8).session
 }
 
 // Posts 1 and 2 work out a charge, 6 rides at 7 and a fee of 8, and post 1 opens it with post 2's message.
@@ -167,7 +167,7 @@ fn open_charge(case: &[u8]) {
         &[1, mine[0], mine[1], 0, 0, 0, 0, 0, 0],
         &[1, mine[2], mine[3], 0, 0, 0, 0, 0, 0],
     );
-    sharing::message::opening_message(second, &other, 5, &mut sent);
+    message::opening_message(second, &other, 5, &mut sent);
     let blocks = [0, 0, 0, 1, sent[0], sent[1], 0, 0, 0];
     let answer = opening::open(first, &rows, 5, &blocks);
     show(case, answer.refusal, answer.value);

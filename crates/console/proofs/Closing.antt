@@ -7,9 +7,10 @@ use native.Mathlib.Omega.{arith}
 use borrow.Author.Tests.{ne-eqb}
 use lib.ListN.{length, take}
 use Rattle.transcript.specs.declared.Progress.{Progress}
-use Rattle.transcript.specs.Text.{header}
-use Rattle.transcript.specs.Program.{Running, running, closed, drained, passed, printedFor, begun, fed}
-use Rattle.transcript.specs.Between.{Open, Moved}
+use Rattle.answers.specs.Text.{header}
+use Rattle.feeds.specs.Program.{Running, running, closed, drained, passed, printedFor, begun, fed}
+use Rattle.feeds.specs.Between.{Open}
+use Rattle.transcript.specs.Between.{Moved}
 use Rattle.transcript.specs.Limits.{feedRefusal}
 use Rattle.transcript.proofs.Admitting.{open-none}
 use Rattle.transcript.proofs.Whole.{chunks-print}

@@ -10,10 +10,11 @@ use lib.Signed.{ltZ}
 use lib.ListN.{length, take, length-take}
 use lib.Seq.{length-take-le}
 use Rattle.io.specs.Counts.{clamped}
-use Rattle.transcript.specs.declared.Feed.{Feed}
+use Rattle.feeds.specs.declared.Feed.{Feed}
 use Rattle.transcript.specs.declared.Progress.{Progress}
-use Rattle.transcript.specs.Program.{Running, running, fed, drained, drainedFeed}
-use Rattle.transcript.specs.Between.{Open, Fed, Moved}
+use Rattle.feeds.specs.Program.{Running, running, fed, drained, drainedFeed}
+use Rattle.feeds.specs.Between.{Open, Fed}
+use Rattle.transcript.specs.Between.{Moved}
 use Rattle.transcript.specs.Limits.{feedRefusal}
 use Rattle.transcript.proofs.Admitting.{open-none}
 use Rattle.console.specs.declared.Served.{Served}

@@ -9,13 +9,13 @@ use borrow.Author.Tests.{eqb-false}
 use lib.Dec.{eqb}
 use lib.ListN.{length, take, length-replicate, length-append}
 use Rattle.store.specs.Sizes.{storeRoom}
-use Rattle.interpreter.specs.States.{firstState}
-use Rattle.interpreter.specs.Stepping.{Ready}
+use Rattle.states.specs.States.{firstState}
+use Rattle.interpreter.specs.Between.{Ready}
 use Rattle.console.proofs.Feeding.{neither, prefix-length}
-use Rattle.transcript.specs.declared.Feed.{Feed}
-use Rattle.transcript.specs.Text.{header}
-use Rattle.transcript.specs.Program.{Running, running, fed, drained, passed, printedFor, begun, firstFeed}
-use Rattle.transcript.specs.Between.{Open}
+use Rattle.feeds.specs.declared.Feed.{Feed}
+use Rattle.answers.specs.Text.{header}
+use Rattle.feeds.specs.Program.{Running, running, fed, drained, passed, printedFor, begun, firstFeed}
+use Rattle.feeds.specs.Between.{Open}
 use Rattle.transcript.proofs.Whole.{passed-more}
 use Rattle.console.specs.declared.Served.{Served}
 use Rattle.console.specs.declared.port.Printed.{Printed}

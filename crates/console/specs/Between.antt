@@ -5,9 +5,9 @@ use mathlib.Core.Path.{_≡_}
 use mathlib.Core.Bool.{true, false}
 use mathlib.Core.List.{List, [], _∷_, _++_}
 use lib.ListN.{length, take}
-use Rattle.transcript.specs.Text.{header}
-use Rattle.transcript.specs.Lines.{keptLength}
-use Rattle.transcript.specs.Program.{Running, fed, closed, drained, begun}
+use Rattle.answers.specs.Text.{header}
+use Rattle.splitting.specs.Lines.{keptLength}
+use Rattle.feeds.specs.Program.{Running, fed, closed, drained, begun}
 use Rattle.console.specs.declared.Served.{Served}
 use Rattle.console.specs.declared.port.Printed.{Printed}
 use Rattle.console.specs.Sizes.{chunkSize, answersRoom, allTurns, wrapped}

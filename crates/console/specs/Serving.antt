@@ -5,8 +5,8 @@ use mathlib.Core.Bool.{Bool, true, false, not, cond}
 use mathlib.Core.List.{List, [], _∷_, _++_}
 use lib.ListN.{length}
 use lib.Dec.{eqb}
-use Rattle.transcript.specs.Text.{header}
-use Rattle.transcript.specs.Program.{Running, closed, drained, passed, printedFor, joined, output, begun}
+use Rattle.answers.specs.Text.{header}
+use Rattle.feeds.specs.Program.{Running, closed, drained, passed, printedFor, joined, output, begun}
 use Rattle.console.specs.declared.Served.{Served}
 use Rattle.console.specs.Sizes.{allTurns, wrapped}
 

@@ -1,6 +1,6 @@
 -- How much is read and printed at a time, and how long the program reads.
 use Prim.Native.Nat.{ℕ, _*_, _%_, _^_}
-use Rattle.transcript.specs.Text.{longestPrint}
+use Rattle.answers.specs.Text.{longestPrint}
 
 -- The bytes of a chunk, and room for their answers.
 abbrev pub chunkSize : ℕ

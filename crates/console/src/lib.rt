@@ -3,15 +3,15 @@
 mod notes;
 mod port;
 
+use feeds::Feed;
 use port::Got;
 use port::Printed;
-use transcript::Feed;
 ghost use mathlib.Core.Path.{_≡_};
 ghost use mathlib.Core.Bool.{true, not};
 ghost use Prim.Native.Nat.{_+_, _≤_};
 ghost use lib.ListN.{length, take};
-ghost use Rattle.transcript.specs.Program.{running};
-ghost use Rattle.transcript.specs.Between.{Open};
+ghost use Rattle.feeds.specs.Program.{running};
+ghost use Rattle.feeds.specs.Between.{Open};
 ghost use Rattle.console.specs.Sizes.{chunkSize, answersRoom};
 ghost use Rattle.console.specs.Serving.{stopsAt, brokenOff, Ended};
 ghost use Rattle.console.specs.Between.{Fresh, Begun, Answered, Stopped, Finished};
@@ -20,7 +20,7 @@ ghost use Rattle.console.specs.Notes.{noteFor};
 // Room for a chunk and for its answers: at most one for each byte.
 const CHUNK: usize = 2048;
 
-const ANSWER_BYTES: usize = transcript::LONGEST_PRINT * CHUNK;
+const ANSWER_BYTES: usize = answers::LONGEST_PRINT * CHUNK;
 
 // Nothing says that an input ends: no run uses up these turns.
 const TURNS: u64 = 1 << 51;
@@ -60,7 +60,7 @@ fn answer_chunk(
     let at = fed.at;
     let printed = port::print(before, &out[..at]);
     Answers {
-        feed: transcript::drain(fed),
+        feed: feeds::drain(fed),
         printed,
     }
 }
@@ -130,7 +130,7 @@ fn serve_chunks(
     ensures { λ r. ⌜ Stopped (running (r .feed) (now (store .exit)) (now (line .exit)) (now (out .exit))) r ⌝ }
     ensures { λ r. ⌜ Open (r .feed) (now (store .exit)) (now (line .exit)) (now (out .exit)) 1 ⌝ }
 {
-    let mut feed = transcript::begin();
+    let mut feed = feeds::begin();
     let mut printed = header;
     let mut turns = TURNS;
     loop {
@@ -219,7 +219,7 @@ fn serve_input(header: Printed) -> Ending
     ensures { λ r. ⌜ Ended (r .lines) (r .total) (r .unread) (r .unwritten) ⌝ }
 {
     let mut store = [0u32; store::STORE_ROOM];
-    let mut line = [0u8; transcript::KEPT];
+    let mut line = [0u8; splitting::KEPT];
     let mut chunk = [0u8; CHUNK];
     let mut out = answers_room();
     let served = serve(header, &mut store, &mut line, &mut chunk, &mut out);

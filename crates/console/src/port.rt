@@ -6,7 +6,7 @@ ghost use mathlib.Core.Path.{_≡_};
 ghost use mathlib.Core.Bool.{true};
 ghost use Prim.Native.Nat.{_+_, _≤_};
 ghost use lib.ListN.{length};
-ghost use Rattle.transcript.specs.Text.{header};
+ghost use Rattle.answers.specs.Text.{header};
 ghost use Rattle.console.specs.Sizes.{wrapped};
 
 // What a read answered: how many bytes it put at the buffer's start, 0 at the end of the input, and whether it failed.
@@ -64,7 +64,7 @@ fn hand(text: &[u8]) -> Printed
 pub fn begin() -> Printed
     ensures { λ r. ⌜ r .total ≡ length header ⌝ }
 {
-    let header = transcript::header();
+    let header = answers::header();
     hand(&header)
 }
 

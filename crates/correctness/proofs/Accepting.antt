@@ -1,22 +1,28 @@
--- How many posts a walk takes, what counts for a post in a record that 5 and 8 let pass, and truth of all accepted as truth of enough.
-use Prim.Native.Nat.{ℕ, _+_, _≤_, min}
-use mathlib.Core.Path.{_≡_, _∙_, ap}
+-- How many posts a walk takes, what counts for a post in a record that 5 and 8 let pass, and truth of all accepted and of enough.
+use Prim.Native.Nat.{ℕ, _≤_, min, _<_}
+use mathlib.Core.Path.{_≡_, sym, _∙_, ap}
 use mathlib.Core.Bool.{true, false}
 use mathlib.Core.Logic.{_≢_, _⊎_, inl, inr}
-use mathlib.Core.List.{List, []}
+use mathlib.Core.List.{List, [], _∷_}
 use native.Mathlib.Decide.{ℕ-discrete}
 use native.Mathlib.Omega.{arith}
 use borrow.Author.Tests.{lt-ltb, le-ltb, ne-eqb}
 use lib.ListN.{length, length-take}
 use Rattle.poly.specs.Counting.{Elements}
 use Rattle.poly.proofs.Lists.{all-zip}
+use Rattle.agreement.specs.Agreement.{Given}
+use Rattle.shape.specs.Marks.{present}
+use Rattle.shape.specs.Lengths.{needed, vLength}
 use Rattle.session.specs.declared.Session.{Session}
-use Rattle.opening.specs.Blocks as Blocks
+use Rattle.session.specs.Sessions.{shapeOf}
+use Rattle.blocks.specs.Blocks as Blocks
+use Rattle.accepting.proofs.Accepted.{walk-first}
 use Rattle.opening.specs.Walking.{blockMark, sent, accepts, accepted, acceptedPosts, tooFew}
-use Rattle.opening.proofs.Accepted.{walk-first}
-use Rattle.vectors.proofs.Passing.{all-passing, distinct-passing}
+use Rattle.vectors.proofs.Passing.{all-passing, distinct-passing, given-passing}
 use Rattle.runs.proofs.Records.{sent-there, block-many, block-low}
-use Rattle.runs.specs.Calls.{Proper}
+use Rattle.runs.specs.Calls.{Proper, Among}
+use Rattle.runs.proofs.Inside.{all-among, inside-length}
+use Rattle.correctness.specs.Truth.{EnoughTrue}
 use Rattle.correctness.specs.Claim.{howMany, AllIsEnough}
 
 -- nothing, or k elements
@@ -26,26 +32,26 @@ Formed k xs = (xs ≡ []) ⊎ ((length xs ≡ k) × Elements xs)
 -- 9, by the number of those that pass
 module _ (s : Session) (row blocks : List ℕ) where
   -- a walk takes all that are accepted, up to t+1
-  walk-length : length (acceptedPosts s row blocks) ≡ min (s .t + 1) (howMany s row blocks)
-  walk-length = ap length (walk-first (accepts s row blocks) 1 (s .n) (s .t + 1)) ∙ length-take (s .t + 1) (accepted s row blocks)
+  walk-length : length (acceptedPosts s row blocks) ≡ min (needed (shapeOf s)) (howMany s row blocks)
+  walk-length = ap length (walk-first (accepts s row blocks) 1 (s .n) (needed (shapeOf s))) ∙ length-take (needed (shapeOf s)) (accepted s row blocks)
 
-  pub too-few : howMany s row blocks ≤ s .t → tooFew s row blocks ≡ true
-  too-few h = lt-ltb (length (acceptedPosts s row blocks)) (s .t + 1) (omega (arith, walk-length))
+  pub too-few : howMany s row blocks < needed (shapeOf s) → tooFew s row blocks ≡ true
+  too-few h = lt-ltb (length (acceptedPosts s row blocks)) (needed (shapeOf s)) (omega (arith, walk-length))
 
-  pub not-few : s .t + 1 ≤ howMany s row blocks → tooFew s row blocks ≡ false
-  not-few h = le-ltb (length (acceptedPosts s row blocks)) (s .t + 1) (omega (arith, walk-length))
+  pub not-few : needed (shapeOf s) ≤ howMany s row blocks → tooFew s row blocks ≡ false
+  not-few h = le-ltb (length (acceptedPosts s row blocks)) (needed (shapeOf s)) (omega (arith, walk-length))
 
   -- what counts for another post is nothing, or t+1 elements
-  pub formed : Proper s blocks → (j : ℕ) → 1 ≤ j → j ≤ s .n → j ≢ s .post → Formed (s .t + 1) (sent s row blocks j)
+  pub formed : Proper s blocks → (j : ℕ) → 1 ≤ j → j ≤ s .n → j ≢ s .post → Formed (vLength (shapeOf s)) (sent s row blocks j)
   unfolding Blocks.sent
-  formed pr j lo hi ne = go (ℕ-discrete (blockMark (s .t + 1) blocks j) 1)
+  formed pr j lo hi ne = go (ℕ-discrete (blockMark (vLength (shapeOf s)) blocks j) present)
     where
-      go : Dec (blockMark (s .t + 1) blocks j ≡ 1) → Formed (s .t + 1) (sent s row blocks j)
+      go : Dec (blockMark (vLength (shapeOf s)) blocks j ≡ present) → Formed (vLength (shapeOf s)) (sent s row blocks j)
       go (yes e) = inr (
         ap length (sent-there s blocks j lo hi ne row e) ∙ block-many s blocks j lo hi ne pr e,
         rw (sent-there s blocks j lo hi ne row e) (block-low s blocks j lo hi ne pr e),
       )
-      go (no e) = inl (rw (ne-eqb j (s .post) ne, ne-eqb (blockMark (s .t + 1) blocks j) 1 e))
+      go (no e) = inl (rw (ne-eqb j (s .post) ne, ne-eqb (blockMark (vLength (shapeOf s)) blocks j) present e))
 
 pub all-is-enough : AllIsEnough
 all-is-enough P s row blocks h a = record {
@@ -56,3 +62,20 @@ all-is-enough P s row blocks h a = record {
       all-zip (λ j k t. (k .from-on, omega (arith, k .before), k .passes, t)) (accepted s row blocks)
       (all-passing (accepts s row blocks) 1 (s .n)) a;
 }
+
+-- and back: posts that are accepted, each once, are no more than all that are
+given-among : (x y : ℕ) (l vs : List ℕ) → Given x y l vs → Among x l
+given-among x y (n ∷ l) (v ∷ vs) (inl e) = inl (sym (e .0))
+given-among x y (n ∷ l) (v ∷ vs) (inr g) = inr (given-among x y l vs g)
+
+pub enough-accepted : (P : ℕ → List ℕ → Type 0) (s : Session) (row blocks : List ℕ) → EnoughTrue P s row blocks
+    → needed (shapeOf s) ≤ howMany s row blocks
+enough-accepted P s row blocks t =
+    let inside : length (t .good) ≤ howMany s row blocks = inside-length (t .good) (accepted s row blocks) (t .different) there in
+    omega (arith, t .many)
+  where
+    there : (j : ℕ) → Among j (t .good) → Among j (accepted s row blocks)
+    there j m =
+        let h = all-among _ (t .good) (t .theirs) j m in
+        given-among j j (accepted s row blocks) _
+        (given-passing (accepts s row blocks) (λ x. x) 1 (s .n) j (record { passes = h .2; from-on = h .0; before = omega (arith, h .1) }))

@@ -12,12 +12,14 @@ use Rattle.field.specs.Modulus.{p}
 use Rattle.poly.specs.Counting.{countFrom, agreements}
 use Rattle.poly.specs.Polynomial.{value}
 use Rattle.poly.proofs.Theorems.{false-polynomials-pass}
-use Rattle.session.specs.Sessions.{withPoint}
+use Rattle.shape.specs.Marks.{present}
+use Rattle.shape.specs.Lengths.{vLength}
+use Rattle.session.specs.Sessions.{withPoint, shapeOf}
 use Rattle.opening.specs.Walking.{blockMark, blockCoefficients, accepts}
 use Rattle.vectors.specs.Vector.{numbers}
 use Rattle.vectors.specs.Claims.{heldRow}
 use Rattle.vectors.proofs.Linear.{length-numbers}
-use Rattle.vectors.proofs.Theorems.{accepted-agrees}
+use Rattle.vectors.proofs.HeldRows.{accepted-agrees}
 use Rattle.runs.proofs.Lines.{numbers-elements}
 use Rattle.runs.proofs.Records.{Present, sent-there, accepted-there, block-many, block-low}
 use Rattle.correctness.specs.Parts.{FalseCaught}
@@ -43,13 +45,13 @@ count-none from (suc k) = count-none (suc from) k
 
 pub false-caught : FalseCaught
 unfolding agreements
-false-caught s X blocks j lo hi other proper untrue = go (ℕ-discrete (blockMark (s .t + 1) blocks j) 1)
+false-caught s X blocks j lo hi other proper untrue = let h = few (ℕ-discrete (blockMark (vLength (shapeOf s)) blocks j) present) in omega (arith, many)
   where
     block : List ℕ
-    block = blockCoefficients (s .t + 1) blocks j
+    block = blockCoefficients (vLength (shapeOf s)) blocks j
 
     own : List ℕ
-    own = numbers (s .t + 1) (X .v j)
+    own = numbers (vLength (shapeOf s)) (X .v j)
 
     there-at : (w : ℕ) → accepts (withPoint s w) (heldRow (withPoint s w) X) blocks j ≡ true → Present s blocks j
     there-at w a = accepted-there (withPoint s w) blocks j lo hi other (heldRow (withPoint s w) X) a
@@ -61,12 +63,19 @@ false-caught s X blocks j lo hi other proper untrue = go (ℕ-discrete (blockMar
         (sym (ap (λ (q : List ℕ). value q w) (sent-there (withPoint s w) blocks j lo hi other (heldRow (withPoint s w) X) (there-at w a)))
         ∙ accepted-agrees (withPoint s w) X blocks j lo hi a)
 
-    go : Dec (Present s blocks j) → countFrom (λ w. accepts (withPoint s w) (heldRow (withPoint s w) X) blocks j) 1 (p - 1) ≤ s .t
-    go (yes there) =
+    -- a v's degree, at most
+    degree : ℕ
+    degree = vLength (shapeOf s) - 1
+
+    many : degree + 1 ≡ vLength (shapeOf s)
+    many = omega arith
+
+    few : Dec (Present s blocks j) → countFrom (λ w. accepts (withPoint s w) (heldRow (withPoint s w) X) blocks j) 1 (p - 1) ≤ degree
+    few (yes there) =
         le-trans (count-within (λ w. accepts (withPoint s w) (heldRow (withPoint s w) X) blocks j) (λ w. eqb (value block w) (value own w)) agrees-at 1 (p - 1))
-        (false-polynomials-pass (s .t) block own (block-low s blocks j lo hi other proper there) (numbers-elements (s .t + 1) (X .v j))
-        (block-many s blocks j lo hi other proper there) (length-numbers (s .t + 1) (X .v j))
+        (false-polynomials-pass degree block own (block-low s blocks j lo hi other proper there) (numbers-elements (vLength (shapeOf s)) (X .v j))
+        (block-many s blocks j lo hi other proper there ∙ sym many) (length-numbers (vLength (shapeOf s)) (X .v j) ∙ sym many)
         (λ e. untrue (sent-there s blocks j lo hi other (heldRow s X) there ∙ e)))
-    go (no absent) =
+    few (no absent) =
         le-trans (count-within (λ w. accepts (withPoint s w) (heldRow (withPoint s w) X) blocks j) (λ w. false) (λ w a. absurd (absent (there-at w a))) 1 (p - 1))
         (omega (arith, count-none 1 (p - 1)))

@@ -1,5 +1,5 @@
 -- A finish whose polynomials are truly their senders' is one that fits the vectors.
-use Prim.Native.Nat.{ℕ, _+_, _≤_, _<_}
+use Prim.Native.Nat.{ℕ, _≤_, _<_}
 use mathlib.Core.Path.{_≡_, sym, _∙_, ap, subst}
 use mathlib.Core.Logic.{_≢_, inl, inr}
 use mathlib.Core.List.{List, [], _∷_}
@@ -9,15 +9,19 @@ use lib.ListN.{take, drop}
 use lib.Seq.{take-at, drop-at}
 use Rattle.poly.specs.Counting.{All}
 use Rattle.poly.proofs.Lists.{all-map, all-zip}
+use Rattle.shape.specs.Bounds.{rowCount}
+use Rattle.shape.specs.Marks.{masked}
+use Rattle.shape.specs.Lengths.{vLength}
 use Rattle.decimal.specs.Numeral.{tens}
 use Rattle.session.specs.declared.Session.{Session}
+use Rattle.session.specs.Sessions.{shapeOf}
 use Rattle.opening.specs.Walking.{sent, accepts, accepted}
-use Rattle.product.specs.Finish as Finish
+use Rattle.collect.specs.Collect as Collect
 use Rattle.vectors.specs.Vector.{Vector, numbers}
 use Rattle.vectors.specs.Claims.{heldRow, Truly, EnoughTruly}
 use Rattle.vectors.proofs.Linear.{length-numbers}
 use Rattle.vectors.proofs.Passing.{all-passing}
-use Rattle.runs.specs.Draws.{Plan, Draw, IsDraw, Sound}
+use Rattle.runs.specs.Draws.{Plan, Draw, IsDraw, Sound, planShape}
 use Rattle.runs.specs.Outline.{Taking, nothingTaken, aRowPack, aTriplePack, aNumber, aRecord, twoRecords, takes, Given, Move, moves, actsIn}
 use Rattle.runs.specs.Calls.{Post, Actual, Call}
 use Rattle.runs.proofs.Outlines.{every-all}
@@ -38,7 +42,7 @@ use Rattle.correctness.proofs.Said.{Said, told-masks, halves}
 -- where P gives the senders' own polynomials of S, at the other posts
 abbrev Gives : Session → Vector → List ℕ → (ℕ → List ℕ → Type 0) → List ℕ → Type 0
 Gives s S blocks P row =
-    (j : ℕ) → 1 ≤ j → j ≤ s .n → j ≢ s .post → P j (sent s row blocks j) → sent s row blocks j ≡ numbers (s .t + 1) (S .v j)
+    (j : ℕ) → 1 ≤ j → j ≤ s .n → j ≢ s .post → P j (sent s row blocks j) → sent s row blocks j ≡ numbers (vLength (shapeOf s)) (S .v j)
 
 module _ (s : Session) (S : Vector) (blocks : List ℕ) (P : ℕ → List ℕ → Type 0) where
   one-true : Gives s S blocks P (heldRow s S) → (j : ℕ) → 1 ≤ j → j ≤ s .n → (j ≢ s .post → P j (sent s (heldRow s S) blocks j)) → Truly s S blocks j
@@ -82,14 +86,14 @@ module _ (plan : Plan) (draw : Draw) (L : Ledger) (sound : Sound plan) (is : IsD
 
   module _ (S : ℕ → Type 0) (w : World) (all : AllSaid S w) where
     -- of a triple whose masks were made, a half of j's is its polynomial of a − l, or of b − l'
-    module _ (M : Marks) (vec : ℕ → Vector) (f : Known plan draw L M vec) (r : ℕ) (ok : Multiplying 5 M (rememberedA M r) (rememberedB M r) r) where
-      low : r < 96
+    module _ (M : Marks) (vec : ℕ → Vector) (f : Known plan draw L M vec) (r : ℕ) (ok : Multiplying masked M (rememberedA M r) (rememberedB M r) r) where
+      low : r < rowCount
       low = omega (arith, ok .r-low)
 
       t : Triple plan draw M vec r
       t = f r low .triple (inr (inl (ok .first)))
 
-      both-are : (j : ℕ) → 1 ≤ j → j ≤ plan .n → (half : List ℕ → List ℕ) (xs : List ℕ) → TrueMask S w (plan .t) half r j xs
+      both-are : (j : ℕ) → 1 ≤ j → j ≤ plan .n → (half : List ℕ → List ℕ) (xs : List ℕ) → TrueMask S w (planShape plan) half r j xs
           → xs ≡ half (halves plan draw r j (vec (rememberedA M r)) (vec (rememberedB M r)))
       both-are j lj hj half xs o =
           o .1 .4
@@ -99,20 +103,20 @@ module _ (plan : Plan) (draw : Draw) (L : Ledger) (sound : Sound plan) (is : IsD
           (f r low .waiting (inl (ok .first)) .means) (vec (rememberedA M r)) (vec (rememberedB M r))
           (f (rememberedA M r) (ok .a-low) .held (ok .a-held)) (f (rememberedB M r) (ok .b-low) .held (ok .b-held)))
 
-      pub told-a : (j : ℕ) → 1 ≤ j → j ≤ plan .n → (xs : List ℕ) → TrueMask S w (plan .t) (take (plan .t + 1)) r j xs
-          → xs ≡ numbers (plan .t + 1) (maskVectorA M vec r .v j)
+      pub told-a : (j : ℕ) → 1 ≤ j → j ≤ plan .n → (xs : List ℕ) → TrueMask S w (planShape plan) (take (vLength (planShape plan))) r j xs
+          → xs ≡ numbers (vLength (planShape plan)) (maskVectorA M vec r .v j)
       told-a j lj hj xs o =
-          both-are j lj hj (take (plan .t + 1)) xs o ∙ take-at (numbers (plan .t + 1) (less (vec (rememberedA M r)) (vectorA plan draw r) .v j)) _ (plan .t + 1) (length-numbers (plan .t + 1) _)
-          ∙ ap (λ (X : Vector). numbers (plan .t + 1) (less (vec (rememberedA M r)) X .v j)) (sym (t .is-a))
+          both-are j lj hj (take (vLength (planShape plan))) xs o ∙ take-at (numbers (vLength (planShape plan)) (less (vec (rememberedA M r)) (vectorA plan draw r) .v j)) _ (vLength (planShape plan)) (length-numbers (vLength (planShape plan)) _)
+          ∙ ap (λ (X : Vector). numbers (vLength (planShape plan)) (less (vec (rememberedA M r)) X .v j)) (sym (t .is-a))
 
-      pub told-b : (j : ℕ) → 1 ≤ j → j ≤ plan .n → (xs : List ℕ) → TrueMask S w (plan .t) (drop (plan .t + 1)) r j xs
-          → xs ≡ numbers (plan .t + 1) (maskVectorB M vec r .v j)
+      pub told-b : (j : ℕ) → 1 ≤ j → j ≤ plan .n → (xs : List ℕ) → TrueMask S w (planShape plan) (drop (vLength (planShape plan))) r j xs
+          → xs ≡ numbers (vLength (planShape plan)) (maskVectorB M vec r .v j)
       told-b j lj hj xs o =
-          both-are j lj hj (drop (plan .t + 1)) xs o ∙ drop-at (numbers (plan .t + 1) (less (vec (rememberedA M r)) (vectorA plan draw r) .v j)) _ (plan .t + 1) (length-numbers (plan .t + 1) _)
-          ∙ ap (λ (X : Vector). numbers (plan .t + 1) (less (vec (rememberedB M r)) X .v j)) (sym (t .is-b))
+          both-are j lj hj (drop (vLength (planShape plan))) xs o ∙ drop-at (numbers (vLength (planShape plan)) (less (vec (rememberedA M r)) (vectorA plan draw r) .v j)) _ (vLength (planShape plan)) (length-numbers (vLength (planShape plan)) _)
+          ∙ ap (λ (X : Vector). numbers (vLength (planShape plan)) (less (vec (rememberedB M r)) X .v j)) (sym (t .is-b))
 
     -- a finish that is not refused
-    module _ (len i : ℕ) (q : Post) (g : Good plan draw L len i q) (r : ℕ) (blocksA blocksB : List ℕ) (ok : Multiplying 5 (g .marks) (rememberedA (g .marks) r) (rememberedB (g .marks) r) r) where
+    module _ (len i : ℕ) (q : Post) (g : Good plan draw L len i q) (r : ℕ) (blocksA blocksB : List ℕ) (ok : Multiplying masked (g .marks) (rememberedA (g .marks) r) (rememberedB (g .marks) r) r) where
       abbrev M : Marks
       M = g .marks
 
@@ -128,14 +132,14 @@ module _ (plan : Plan) (draw : Draw) (L : Ledger) (sound : Sound plan) (is : IsD
       abbrev s : Session
       s = sessionAt plan draw i M (g .stands .opened)
 
-      true-a : EnoughTrue (TrueMask S w (plan .t) (take (plan .t + 1)) r) s (Finish.maskA s l r) blocksA → Trusted s (maskVectorA M vec r) blocksA
+      true-a : EnoughTrue (TrueMask S w (planShape plan) (take (vLength (planShape plan))) r) s (Collect.maskA s l r) blocksA → Trusted s (maskVectorA M vec r) blocksA
       true-a t few enough =
-          enough-true-of s (maskVectorA M vec r) blocksA (TrueMask S w (plan .t) (take (plan .t + 1)) r) (Finish.maskA s l r) (opens-a holder r ok)
+          enough-true-of s (maskVectorA M vec r) blocksA (TrueMask S w (planShape plan) (take (vLength (planShape plan))) r) (Collect.maskA s l r) (opens-a holder r ok)
           (λ j lj hj ne o. told-a M vec (g .facts) r ok j lj hj _ o) t
 
-      true-b : EnoughTrue (TrueMask S w (plan .t) (drop (plan .t + 1)) r) s (Finish.maskB s l r) blocksB → Trusted s (maskVectorB M vec r) blocksB
+      true-b : EnoughTrue (TrueMask S w (planShape plan) (drop (vLength (planShape plan))) r) s (Collect.maskB s l r) blocksB → Trusted s (maskVectorB M vec r) blocksB
       true-b t few enough =
-          enough-true-of s (maskVectorB M vec r) blocksB (TrueMask S w (plan .t) (drop (plan .t + 1)) r) (Finish.maskB s l r) (opens-b holder r ok)
+          enough-true-of s (maskVectorB M vec r) blocksB (TrueMask S w (planShape plan) (drop (vLength (planShape plan))) r) (Collect.maskB s l r) (opens-b holder r ok)
           (λ j lj hj ne o. told-b M vec (g .facts) r ok j lj hj _ o) t
 
     module _ (len i : ℕ) (q : Post) (g : Good plan draw L len i q) where

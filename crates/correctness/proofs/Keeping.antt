@@ -6,6 +6,8 @@ use native.Mathlib.Decide.{ℕ-discrete}
 use native.Mathlib.Omega.{arith}
 use lib.ListN.{length}
 use lib.Seq.{getD-set-same}
+use Rattle.shape.specs.Bounds.{rowCount}
+use Rattle.shape.specs.Marks.{held}
 use Rattle.session.specs.declared.Session.{Session}
 use Rattle.session.specs.Sessions.{mark}
 use Rattle.terms.specs.declared.Term.{Term}
@@ -28,16 +30,16 @@ use Rattle.correctness.proofs.Fitting.{fits}
 use Rattle.correctness.proofs.Walking.{Inv, after-event}
 
 abbrev pub heldIn : Post → ℕ → Type 0
-heldIn q r = mark (q .session) r ≡ 2
+heldIn q r = mark (q .session) r ≡ held
 
--- the sum's row is below 96, as its marks are
+-- the sum's row is one of the session's, as its marks are
 sized-finished : (ts : List Term) (M : Marks) → Sized M → Sized (finishedAll ts M)
 sized-finished [] M z = z
 sized-finished (t ∷ ts) M z = sized-finished ts (finished M (t .first)) (sized-by (multiplies (t .first)) M z)
 
 module _ (plan : Plan) (draw : Draw) (L : Ledger) (is : IsDraw plan draw) (len i : ℕ) (hi : i ≤ plan .n) (q : Post) (g : Good plan draw L len i q) where
   -- by the marks after the call
-  after-marks : (c : Call) → refusalOf c q ≡ 0 → Fits plan draw i (g .marks) (g .vec) c → (r : ℕ) → markOf (marksAll (acts c) (g .marks)) r ≡ 2
+  after-marks : (c : Call) → refusalOf c q ≡ 0 → Fits plan draw i (g .marks) (g .vec) c → (r : ℕ) → markOf (marksAll (acts c) (g .marks)) r ≡ held
       → heldIn (after (perform c q)) r
   after-marks c z fit r two = ap (λ (x : Session). mark x r) (stands-after (standOf plan draw L is len i hi q g) c z fit .session) ∙ two
 
@@ -50,9 +52,9 @@ module _ (plan : Plan) (draw : Draw) (L : Ledger) (is : IsDraw plan draw) (len i
   call-keeps c (suc k) z fit r two = ap (λ (x : Session). mark x r) (refused c q k z .0) ∙ two
 
   -- the finish of a relation
-  sum-held : (r : ℕ) (ts : List Term) (N : Marks) → Sized N → 1 ≤ length ts → r < 96 → markOf (marksAll (actsIn (summing {K = Actual} r ts)) N) r ≡ 2
+  sum-held : (r : ℕ) (ts : List Term) (N : Marks) → Sized N → 1 ≤ length ts → r < rowCount → markOf (marksAll (actsIn (summing {K = Actual} r ts)) N) r ≡ held
   sum-held r [] N z some low = absurd (omega arith)
-  sum-held r (t ∷ ts) N z some low = getD-set-same (N .marks) r 2 0 (omega (arith, z .marks))
+  sum-held r (t ∷ ts) N z some low = getD-set-same (N .marks) r held 0 (omega (arith, z .marks))
 
   finish-holds : (ts : List Term) (r : ℕ) (records : List ℕ) → refusalOf (relationFinish ts r records) q ≡ 0
       → Fits plan draw i (g .marks) (g .vec) (relationFinish ts r records) → heldIn (after (perform (relationFinish ts r records) q)) r

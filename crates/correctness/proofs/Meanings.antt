@@ -11,7 +11,7 @@ use Rattle.field.proofs.Expression.{A, B, 𝟘, 𝟙, _:+_, _:*_, Same}
 use Rattle.field.proofs.Solver.{solve}
 use Rattle.field.proofs.Elements.{𝓡, element-one, element-product, element-of-number, number-below}
 use Rattle.field.proofs.Modular.{product-below}
-use Rattle.factory.specs.Packs.{dealerNumber}
+use Rattle.factory.specs.Calls.{dealerNumber}
 use Rattle.vectors.specs.Vector.{Vector, plusTimes, raised, number}
 use Rattle.vectors.proofs.Linear.{number-plusTimes, sum-number}
 use Rattle.runs.specs.Draws.{Plan, Draw, IsDraw, rawDraw}

@@ -1,6 +1,6 @@
 -- One post that stands by the ledger: what its openings give, and that it accepts what is true, for every record that 5 and 8
 -- let pass.
-use Prim.Native.Nat.{ℕ, suc, _+_, _*_, _-_, _≤_, _<_}
+use Prim.Native.Nat.{ℕ, _-_, _≤_}
 use mathlib.Core.Path.{_≡_, refl, sym, _∙_, ap, subst}
 use mathlib.Core.Bool.{Bool, true, false}
 use mathlib.Core.Logic.{_≢_, _⊎_, inl, inr}
@@ -8,22 +8,26 @@ use mathlib.Core.List.{List}
 use native.Mathlib.Decide.{ℕ-discrete}
 use native.Mathlib.Omega.{arith}
 use lib.ListN.{take, drop}
-use Rattle.field.specs.Modulus.{p}
+use Rattle.shape.specs.Bounds.{lastRow}
+use Rattle.shape.specs.Marks.{held, masked}
+use Rattle.shape.specs.Lengths.{needed, vLength}
 use Rattle.refusal.specs.Refusal.{first}
 use Rattle.session.specs.declared.Session.{Session}
 use Rattle.session.specs.declared.Answer.{Answer}
-use Rattle.session.specs.Sessions.{holding}
+use Rattle.session.specs.Sessions.{holding, shapeOf}
 use Rattle.opening.specs.Walking.{sent, accepts, tooFew, disagree}
 use Rattle.opening.specs.Opening.{openChecks, openAnswer}
 use Rattle.opening.proofs.Theorems.{open-nine, open-thirteen, open-number}
-use Rattle.product.specs.Finish as Finish
+use Rattle.collect.specs.Collect as Collect
 use Rattle.vectors.specs.Vector.{Vector, number, numbers}
 use Rattle.vectors.specs.Claims.{heldRow, Truly}
-use Rattle.vectors.proofs.Theorems.{true-accepted, true-agree, opening-exact}
-use Rattle.runs.specs.Draws.{Plan, Draw}
+use Rattle.vectors.proofs.HeldRows.{true-accepted}
+use Rattle.vectors.proofs.Shares.{true-agree}
+use Rattle.vectors.proofs.Theorems.{opening-exact}
+use Rattle.runs.specs.Draws.{Plan, Draw, planShape}
 use Rattle.runs.specs.Calls.{Proper, Post}
-use Rattle.runs.proofs.Marks.{markOf, rememberedA, rememberedB, maskVectorA, maskVectorB}
-use Rattle.runs.proofs.Holds.{combined-row}
+use Rattle.runs.proofs.Marks.{markOf, maskVectorA, maskVectorB}
+use Rattle.runs.proofs.Finishing.{opens-a, opens-b}
 use Rattle.runs.proofs.Records.{own-true}
 use Rattle.runs.proofs.Start.{sizes}
 use Rattle.correctness.specs.History.{World}
@@ -31,7 +35,7 @@ use Rattle.correctness.specs.Ledger.{Ledger, Plain}
 use Rattle.correctness.specs.Truth.{TrueMask, TrueOf}
 use Rattle.correctness.specs.Claim.{howMany, Opens, Collects, Right}
 use Rattle.correctness.proofs.Meanings.{Is, plain}
-use Rattle.correctness.proofs.Accepting.{Formed, too-few, not-few, formed}
+use Rattle.correctness.proofs.Accepting.{Formed, too-few, not-few, formed, enough-accepted}
 use Rattle.correctness.proofs.Fitting.{all-true-of, enough-true-of, AllSaid, told-a, told-b}
 use Rattle.correctness.proofs.Permitted as Permitted
 use Rattle.correctness.proofs.Permitted.{Stander, holder, below, is-row, open-passes, waiting, collect-few, collect-done, collect-otherwise, multiply-done}
@@ -39,8 +43,8 @@ use Rattle.correctness.proofs.Permitted.{Stander, holder, below, is-row
 -- what a truth of polynomials must give, to be used in an opening
 abbrev pub Reliable : Plan → Draw → Ledger → (ℕ → ℕ → List ℕ → Type 0) → Type 0
 Reliable plan draw L P =
-    (r j : ℕ) (xs : List ℕ) → r ≤ 95 → 1 ≤ j → j ≤ plan .n → Formed (plan .t + 1) xs → P r j xs
-    → (X : Vector) → Is plan draw L r X → xs ≡ numbers (plan .t + 1) (X .v j)
+    (r j : ℕ) (xs : List ℕ) → r ≤ lastRow → 1 ≤ j → j ≤ plan .n → Formed (vLength (planShape plan)) xs → P r j xs
+    → (X : Vector) → Is plan draw L r X → xs ≡ numbers (vLength (planShape plan)) (X .v j)
 
 module _ (G : Stander) where
   open Stander G using (plan, draw, ledger as L, is-draw as is, post as i, marks as M, vec, rows as l, known as f)
@@ -58,7 +62,7 @@ module _ (G : Stander) where
 
   -- of a row that is the post's part of S
   true-taken : (x : List ℕ) (S : Vector) → x ≡ heldRow s S → (blocks : List ℕ) (j : ℕ) → 1 ≤ j → j ≤ plan .n
-      → (j ≢ i → sent s x blocks j ≡ numbers (plan .t + 1) (S .v j)) → accepts s x blocks j ≡ true
+      → (j ≢ i → sent s x blocks j ≡ numbers (vLength (planShape plan)) (S .v j)) → accepts s x blocks j ≡ true
   true-taken x S e blocks j lj hj truly =
       ap (λ (y : List ℕ). accepts s y blocks j) e ∙ true-accepted s S blocks j lj hj (go (ℕ-discrete j i))
     where
@@ -66,28 +70,26 @@ module _ (G : Stander) where
       go (yes g) = subst (Truly s S blocks) (sym g) (own-true s blocks S)
       go (no g) = sym (ap (λ (y : List ℕ). sent s y blocks j) e) ∙ truly g
 
-  module _ (r : ℕ) (five : markOf M r ≡ 5) where
-    pub mask-a : Finish.maskA s l r ≡ heldRow s (maskVectorA M vec r)
-    mask-a = combined-row (holder G) (p - 1) (rememberedA M r) r (is-row G (rememberedA M r) 1 (waiting G r five .a-held)) (is-row G r 4 five)
+  module _ (r : ℕ) (five : markOf M r ≡ masked) where
+    pub mask-a : Collect.maskA s l r ≡ heldRow s (maskVectorA M vec r)
+    mask-a = opens-a (holder G) r (waiting G r five)
 
-    pub mask-b : Finish.maskB s l r ≡ heldRow s (maskVectorB M vec r)
-    mask-b =
-        combined-row (holder G) (p - 1) (rememberedB M r) (r + 1) (is-row G (rememberedB M r) 1 (waiting G r five .b-held))
-        (is-row G (r + 1) 3 (waiting G r five .second))
+    pub mask-b : Collect.maskB s l r ≡ heldRow s (maskVectorB M vec r)
+    mask-b = opens-b (holder G) r (waiting G r five)
 
   module _ (P : ℕ → ℕ → List ℕ → Type 0) (truth : Reliable plan draw L P) where
-    sent-is : (r : ℕ) (blocks : List ℕ) (j : ℕ) → markOf M r ≡ 2 → Proper s blocks → 1 ≤ j → j ≤ plan .n → j ≢ i
-        → P r j (sent s (row r) blocks j) → sent s (row r) blocks j ≡ numbers (plan .t + 1) (vec r .v j)
+    sent-is : (r : ℕ) (blocks : List ℕ) (j : ℕ) → markOf M r ≡ held → Proper s blocks → 1 ≤ j → j ≤ plan .n → j ≢ i
+        → P r j (sent s (row r) blocks j) → sent s (row r) blocks j ≡ numbers (vLength (planShape plan)) (vec r .v j)
     sent-is r blocks j two pr lj hj ne x =
-        truth r j (sent s (row r) blocks j) (omega (arith, below G r 1 two)) lj hj (formed s (row r) blocks pr j lj hj ne) x (vec r)
-        (f r (below G r 1 two) .held two)
+        truth r j (sent s (row r) blocks j) (omega (arith, below G r two)) lj hj (formed s (row r) blocks pr j lj hj ne) x (vec r)
+        (f r (below G r two) .held two)
 
-    opens : (r : ℕ) (blocks : List ℕ) → markOf M r ≡ 2 → Proper s blocks → Opens L (P r) q r blocks
+    opens : (r : ℕ) (blocks : List ℕ) → markOf M r ≡ held → Proper s blocks → Opens L (P r) q r blocks
     opens r blocks two pr = record {
       few = λ e. ap (λ (o : Answer). o .refusal) (open-nine s l r blocks clear (too-few s (row r) blocks e));
       exact = λ e t.
           number-given (opening-exact s (vec r) l r blocks clear is-held .1 (enough e) (all-true-of s (vec r) blocks (P r) (row r) is-held gives t));
-      agreed = λ e t. elim (opening-exact s (vec r) l r blocks clear is-held .2 (enough e) (enough-true-of s (vec r) blocks (P r) (row r) is-held gives t)) [
+      agreed = λ t. elim (opening-exact s (vec r) l r blocks clear is-held .2 (enough (enough-accepted (P r) s (row r) blocks t)) (enough-true-of s (vec r) blocks (P r) (row r) is-held gives t)) [
         | inl o ↦ inl (number-given o)
         | inr o ↦ inr (ap (λ (o : Answer). o .refusal) o)
       ];
@@ -98,71 +100,71 @@ module _ (G : Stander) where
         clear = open-passes G r blocks two pr
 
         is-held : row r ≡ heldRow s (vec r)
-        is-held = is-row G r 1 two
+        is-held = is-row G r two
 
-        gives : (j : ℕ) → 1 ≤ j → j ≤ plan .n → j ≢ i → P r j (sent s (row r) blocks j) → sent s (row r) blocks j ≡ numbers (plan .t + 1) (vec r .v j)
+        gives : (j : ℕ) → 1 ≤ j → j ≤ plan .n → j ≢ i → P r j (sent s (row r) blocks j) → sent s (row r) blocks j ≡ numbers (vLength (planShape plan)) (vec r .v j)
         gives j lj hj ne x = sent-is r blocks j two pr lj hj ne x
 
-        enough : s .t + 1 ≤ howMany s (row r) blocks → tooFew s (heldRow s (vec r)) blocks ≡ false
+        enough : needed (shapeOf s) ≤ howMany s (row r) blocks → tooFew s (heldRow s (vec r)) blocks ≡ false
         enough e = sym (ap (λ (x : List ℕ). tooFew s x blocks) is-held) ∙ not-few s (row r) blocks e
 
         number-given : {o : Answer} → o ≡ holding 0 (number (vec r) .0) s → (o .refusal ≡ 0) × Plain L r (o .value)
         number-given e = (
           ap (λ (o : Answer). o .refusal) e,
-          subst (Plain L r) (sym (ap (λ (o : Answer). o .value) e)) (plain plan draw L is (f r (below G r 1 two) .held two)),
+          subst (Plain L r) (sym (ap (λ (o : Answer). o .value) e)) (plain plan draw L is (f r (below G r two) .held two)),
         )
 
-        go : s .t + 1 ≤ howMany s (row r) blocks → (off : Bool) → disagree s (row r) blocks ≡ off
+        go : needed (shapeOf s) ≤ howMany s (row r) blocks → (off : Bool) → disagree s (row r) blocks ≡ off
             → (openAnswer s l r blocks .refusal ≡ 0) ⊎ (openAnswer s l r blocks .refusal ≡ 13)
         go e true z = inr (ap (λ (o : Answer). o .refusal) (open-thirteen s l r blocks clear (not-few s (row r) blocks e) z))
         go e false z = inl (ap (λ (o : Answer). o .refusal) (open-number s l r blocks clear (not-few s (row r) blocks e) z))
 
-    accepts-true : (r : ℕ) (blocks : List ℕ) (j : ℕ) → markOf M r ≡ 2 → Proper s blocks → 1 ≤ j → j ≤ plan .n
+    accepts-true : (r : ℕ) (blocks : List ℕ) (j : ℕ) → markOf M r ≡ held → Proper s blocks → 1 ≤ j → j ≤ plan .n
         → (j ≢ i → P r j (sent s (row r) blocks j)) → accepts s (row r) blocks j ≡ true
     accepts-true r blocks j two pr lj hj x =
-        true-taken (row r) (vec r) (is-row G r 1 two) blocks j lj hj (λ ne. sent-is r blocks j two pr lj hj ne (x ne))
+        true-taken (row r) (vec r) (is-row G r two) blocks j lj hj (λ ne. sent-is r blocks j two pr lj hj ne (x ne))
 
     -- ---- what posts told of masks
 
     module _ (S : ℕ → Type 0) (w : World) (all : AllSaid plan draw L (G .sound) is S w) where
-      module _ (r : ℕ) (five : markOf M r ≡ 5) where
+      module _ (r : ℕ) (five : markOf M r ≡ masked) where
         abbrev Half : (List ℕ → List ℕ) → ℕ → List ℕ → Type 0
-        Half half = TrueMask S w (plan .t) half r
+        Half half = TrueMask S w (planShape plan) half r
 
-        said-a : (j : ℕ) → 1 ≤ j → j ≤ plan .n → (xs : List ℕ) → Half (take (plan .t + 1)) j xs → xs ≡ numbers (plan .t + 1) (maskVectorA M vec r .v j)
+        said-a : (j : ℕ) → 1 ≤ j → j ≤ plan .n → (xs : List ℕ) → Half (take (vLength (planShape plan))) j xs → xs ≡ numbers (vLength (planShape plan)) (maskVectorA M vec r .v j)
         said-a = told-a plan draw L (G .sound) is S w all M vec f r (waiting G r five)
 
-        said-b : (j : ℕ) → 1 ≤ j → j ≤ plan .n → (xs : List ℕ) → Half (drop (plan .t + 1)) j xs → xs ≡ numbers (plan .t + 1) (maskVectorB M vec r .v j)
+        said-b : (j : ℕ) → 1 ≤ j → j ≤ plan .n → (xs : List ℕ) → Half (drop (vLength (planShape plan))) j xs → xs ≡ numbers (vLength (planShape plan)) (maskVectorB M vec r .v j)
         said-b = told-b plan draw L (G .sound) is S w all M vec f r (waiting G r five)
 
         -- where each accepted polynomial of a record is true, no share is off
         agrees : (x : List ℕ) (X : Vector) → x ≡ heldRow s X → (half : List ℕ → List ℕ)
-            → ((j : ℕ) → 1 ≤ j → j ≤ plan .n → (xs : List ℕ) → Half half j xs → xs ≡ numbers (plan .t + 1) (X .v j))
-            → (blocks : List ℕ) → s .t + 1 ≤ howMany s x blocks → TrueOf (Half half) s x blocks → disagree s x blocks ≡ false
+            → ((j : ℕ) → 1 ≤ j → j ≤ plan .n → (xs : List ℕ) → Half half j xs → xs ≡ numbers (vLength (planShape plan)) (X .v j))
+            → (blocks : List ℕ) → needed (shapeOf s) ≤ howMany s x blocks → TrueOf (Half half) s x blocks → disagree s x blocks ≡ false
         agrees x X e half theirs blocks many t =
             ap (λ (y : List ℕ). disagree s y blocks) e
             ∙ true-agree s X blocks (sizes plan (G .sound) .n-element) (sym (ap (λ (y : List ℕ). tooFew s y blocks) e) ∙ not-few s x blocks many)
             (all-true-of s X blocks (Half half) x e (λ j lj hj ne o. theirs j lj hj _ o) t)
 
         collects : (blocksA blocksB : List ℕ) → Proper s blocksA → Proper s blocksB
-            → Collects (Half (take (plan .t + 1))) (Half (drop (plan .t + 1))) q r blocksA blocksB
+            → Collects (Half (take (vLength (planShape plan)))) (Half (drop (vLength (planShape plan)))) q r blocksA blocksB
         collects blocksA blocksB pr pr' = record {
           few = collect-few G r blocksA blocksB five pr pr';
           exact = λ e e' t t'.
               collect-done G r blocksA blocksB five pr pr' e e'
-              (agrees (Finish.maskA s l r) (maskVectorA M vec r) (mask-a r five) (take (plan .t + 1)) said-a blocksA e t)
-              (agrees (Finish.maskB s l r) (maskVectorB M vec r) (mask-b r five) (drop (plan .t + 1)) said-b blocksB e' t');
+              (agrees (Collect.maskA s l r) (maskVectorA M vec r) (mask-a r five) (take (vLength (planShape plan))) said-a blocksA e t)
+              (agrees (Collect.maskB s l r) (maskVectorB M vec r) (mask-b r five) (drop (vLength (planShape plan))) said-b blocksB e' t');
           otherwise = collect-otherwise G r blocksA blocksB five pr pr';
         }
 
-      pub right : Right L P (TrueMask S w (plan .t)) q
+      pub right : Right L P (TrueMask S w (planShape plan)) q
       right = record {
         opens = opens;
         accepts-true = accepts-true;
         collects = λ r blocksA blocksB five. collects r five blocksA blocksB;
         multiplies = λ r seven. multiply-done G r seven;
         accepts-a = λ r blocks j five pr lj hj x.
-            true-taken (Finish.maskA s l r) (maskVectorA M vec r) (mask-a r five) blocks j lj hj (λ ne. said-a r five j lj hj _ (x ne));
+            true-taken (Collect.maskA s l r) (maskVectorA M vec r) (mask-a r five) blocks j lj hj (λ ne. said-a r five j lj hj _ (x ne));
         accepts-b = λ r blocks j five pr lj hj x.
-            true-taken (Finish.maskB s l r) (maskVectorB M vec r) (mask-b r five) blocks j lj hj (λ ne. said-b r five j lj hj _ (x ne));
+            true-taken (Collect.maskB s l r) (maskVectorB M vec r) (mask-b r five) blocks j lj hj (λ ne. said-b r five j lj hj _ (x ne));
       }

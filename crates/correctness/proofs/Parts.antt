@@ -6,14 +6,16 @@ use mathlib.Core.List.{List}
 use native.Mathlib.Omega.{arith}
 use lib.ListN.{length, take, drop}
 use Rattle.poly.specs.Counting.{Elements}
+use Rattle.shape.specs.Marks.{held, masked}
+use Rattle.shape.specs.Lengths.{vLength}
 use Rattle.session.specs.declared.Session.{Session}
-use Rattle.session.specs.Sessions.{mark}
+use Rattle.session.specs.Sessions.{mark, shapeOf}
 use Rattle.session.specs.Rows.{width, rowAt}
 use Rattle.opening.specs.Walking.{sent}
-use Rattle.product.specs.Finish as Finish
+use Rattle.collect.specs.Collect as Collect
 use Rattle.vectors.specs.Vector.{Vector, numbers}
 use Rattle.vectors.specs.Claims.{heldRow}
-use Rattle.runs.specs.Draws.{Plan, Draw, rawDraw, tripleDraw}
+use Rattle.runs.specs.Draws.{Plan, Draw, rawDraw, tripleDraw, planShape}
 use Rattle.runs.specs.Calls.{Post}
 use Rattle.runs.proofs.Marks.{Marks, rememberedA, rememberedB, sessionAt, less, vectorA, vectorB, maskVectorA, maskVectorB}
 use Rattle.runs.proofs.Facts.{Multiplying}
@@ -34,7 +36,7 @@ use Rattle.correctness.proofs.Theorems.{lens, end, stands, reliable}
 use Rattle.correctness.proofs.Caught.{false-caught}
 
 part-from : (P : ℕ → List ℕ → Type 0) (s : Session) (row : List ℕ) (X : Vector) → row ≡ heldRow s X
-    → ((j : ℕ) (xs : List ℕ) → 1 ≤ j → j ≤ s .n → length xs ≡ s .t + 1 → Elements xs → P j xs → xs ≡ numbers (s .t + 1) (X .v j))
+    → ((j : ℕ) (xs : List ℕ) → 1 ≤ j → j ≤ s .n → length xs ≡ vLength (shapeOf s) → Elements xs → P j xs → xs ≡ numbers (vLength (shapeOf s)) (X .v j))
     → PartOf P s row X
 part-from P s row X e theirs = record {
   part = e;
@@ -76,7 +78,7 @@ one-pair plan draw L r k k' =
       one plan draw L (k .is-b) (subst (λ (x : ℕ). Is plan draw L x (k' .Y)) gb (k' .is-b)),
     )
 
-module _ (plan : Plan) (draw : Draw) (L : Ledger) (S : ℕ → Type 0) (rows : ℕ → List ℕ) (es : List Event) (h : Premises plan draw L S es (begin plan draw rows)) (i : ℕ) (lo : 1 ≤ i) (hi : i ≤ plan .n) (among : S i) (r : ℕ) where
+module _ (plan : Plan) (draw : Draw) (L : Ledger) (S : ℕ → Type 0) (rows : ℕ → List ℕ) (es : List Event) (h : Premises plan draw L S es rows) (i : ℕ) (lo : 1 ≤ i) (hi : i ≤ plan .n) (among : S i) (r : ℕ) where
   w : World
   w = end plan draw L S rows es h
 
@@ -108,28 +110,28 @@ module _ (plan : Plan) (draw : Draw) (L : Ledger) (S : ℕ → Type 0) (rows : �
 
   -- ---- a row that is held
 
-  held-is : mark (w .posts i .session) r ≡ 2 → Is plan draw L r (vec r)
+  held-is : mark (w .posts i .session) r ≡ held → Is plan draw L r (vec r)
   held-is =
-      at-post (λ (q : Post). mark (q .session) r ≡ 2 → Is plan draw L r (vec r))
-      (λ two. g .facts r (marked-low M (g .sized) r 1 two) .held two)
+      at-post (λ (q : Post). mark (q .session) r ≡ held → Is plan draw L r (vec r))
+      (λ two. g .facts r (marked-low M (g .sized) r two) .held two)
 
-  held-part : (X : Vector) → Is plan draw L r X → mark (w .posts i .session) r ≡ 2
+  held-part : (X : Vector) → Is plan draw L r X → mark (w .posts i .session) r ≡ held
       → PartOf (TruePolynomial S w r) (w .posts i .session) (rowAt (width (w .posts i .session)) l r) X
   unfolding w
   held-part X is =
-      at-post (λ (q : Post). mark (q .session) r ≡ 2 → PartOf (TruePolynomial S w r) (q .session) (rowAt (width (q .session)) (q .rows) r) X)
+      at-post (λ (q : Post). mark (q .session) r ≡ held → PartOf (TruePolynomial S w r) (q .session) (rowAt (width (q .session)) (q .rows) r) X)
       (λ two.
-      let low = marked-low M (g .sized) r 1 two in
+      let low = marked-low M (g .sized) r two in
       part-from (TruePolynomial S w r) s (rowAt (width s) l r) X
       (g .stands .holds .rows r low (omega (arith, two)) ∙ ap (heldRow s) (one plan draw L (g .facts r low .held two) is))
       (λ j xs lj hj many elements m. reliable plan draw L S rows es h r j xs (omega (arith, low)) lj hj (inr (many, elements)) m X is))
 
   -- ---- masks that were made
 
-  waiting : mark s r ≡ 5 → Multiplying 5 M (rememberedA M r) (rememberedB M r) r
+  waiting : mark s r ≡ masked → Multiplying masked M (rememberedA M r) (rememberedB M r) r
   waiting = Permitted.waiting G r
 
-  factors-of : mark s r ≡ 5 → Factors plan draw L r
+  factors-of : mark s r ≡ masked → Factors plan draw L r
   factors-of five =
       let k = waiting five in
       record {
@@ -137,39 +139,39 @@ module _ (plan : Plan) (draw : Draw) (L : Ledger) (S : ℕ → Type 0) (rows : �
         b = rememberedB M r;
         X = vec (rememberedA M r);
         Y = vec (rememberedB M r);
-        means = g .facts r (marked-low M (g .sized) r 4 five) .waiting (inl five) .means;
+        means = g .facts r (marked-low M (g .sized) r five) .waiting (inl five) .means;
         is-a = g .facts (rememberedA M r) (k .a-low) .held (k .a-held);
         is-b = g .facts (rememberedB M r) (k .b-low) .held (k .b-held);
       }
 
-  factors : mark (w .posts i .session) r ≡ 5 → Factors plan draw L r
-  factors = at-post (λ (q : Post). mark (q .session) r ≡ 5 → Factors plan draw L r) factors-of
+  factors : mark (w .posts i .session) r ≡ masked → Factors plan draw L r
+  factors = at-post (λ (q : Post). mark (q .session) r ≡ masked → Factors plan draw L r) factors-of
 
   abbrev HalfA : ℕ → List ℕ → Type 0
-  HalfA = TrueMask S w (plan .t) (take (plan .t + 1)) r
+  HalfA = TrueMask S w (planShape plan) (take (vLength (planShape plan))) r
 
   abbrev HalfB : ℕ → List ℕ → Type 0
-  HalfB = TrueMask S w (plan .t) (drop (plan .t + 1)) r
+  HalfB = TrueMask S w (planShape plan) (drop (vLength (planShape plan))) r
 
-  both-masks : (k : Factors plan draw L r) → mark (w .posts i .session) r ≡ 5
-      → PartOf HalfA (w .posts i .session) (Finish.maskA (w .posts i .session) l r) (less (k .X) (vectorA plan draw r))
-      × PartOf HalfB (w .posts i .session) (Finish.maskB (w .posts i .session) l r) (less (k .Y) (vectorB plan draw r))
+  both-masks : (k : Factors plan draw L r) → mark (w .posts i .session) r ≡ masked
+      → PartOf HalfA (w .posts i .session) (Collect.maskA (w .posts i .session) l r) (less (k .X) (vectorA plan draw r))
+      × PartOf HalfB (w .posts i .session) (Collect.maskB (w .posts i .session) l r) (less (k .Y) (vectorB plan draw r))
   unfolding w factors-of
   both-masks k =
       at-post
-      (λ (q : Post). mark (q .session) r ≡ 5
-      → PartOf HalfA (q .session) (Finish.maskA (q .session) (q .rows) r) (less (k .X) (vectorA plan draw r))
-      × PartOf HalfB (q .session) (Finish.maskB (q .session) (q .rows) r) (less (k .Y) (vectorB plan draw r)))
+      (λ (q : Post). mark (q .session) r ≡ masked
+      → PartOf HalfA (q .session) (Collect.maskA (q .session) (q .rows) r) (less (k .X) (vectorA plan draw r))
+      × PartOf HalfB (q .session) (Collect.maskB (q .session) (q .rows) r) (less (k .Y) (vectorB plan draw r)))
       (λ five.
-      let t = g .facts r (marked-low M (g .sized) r 4 five) .triple (inr (inl five)) in let same = one-pair plan draw L r (factors-of five) k in
+      let t = g .facts r (marked-low M (g .sized) r five) .triple (inr (inl five)) in let same = one-pair plan draw L r (factors-of five) k in
       let ea : maskVectorA M vec r ≡ less (k .X) (vectorA plan draw r) = ap₂ less (same .0) (t .is-a) in
       let eb : maskVectorB M vec r ≡ less (k .Y) (vectorB plan draw r) = ap₂ less (same .1) (t .is-b) in (
-        part-from HalfA s (Finish.maskA s l r) _
+        part-from HalfA s (Collect.maskA s l r) _
             (Openings.mask-a G r five ∙ ap (heldRow s) ea)
-            (λ j xs lj hj many elements m. told-a plan draw L (h .sound) (h .is-draw) S w said M vec (g .facts) r (waiting five) j lj hj xs m ∙ ap (λ (Z : Vector). numbers (plan .t + 1) (Z .v j)) ea),
-        part-from HalfB s (Finish.maskB s l r) _
+            (λ j xs lj hj many elements m. told-a plan draw L (h .sound) (h .is-draw) S w said M vec (g .facts) r (waiting five) j lj hj xs m ∙ ap (λ (Z : Vector). numbers (vLength (planShape plan)) (Z .v j)) ea),
+        part-from HalfB s (Collect.maskB s l r) _
             (Openings.mask-b G r five ∙ ap (heldRow s) eb)
-            (λ j xs lj hj many elements m. told-b plan draw L (h .sound) (h .is-draw) S w said M vec (g .facts) r (waiting five) j lj hj xs m ∙ ap (λ (Z : Vector). numbers (plan .t + 1) (Z .v j)) eb),
+            (λ j xs lj hj many elements m. told-b plan draw L (h .sound) (h .is-draw) S w said M vec (g .facts) r (waiting five) j lj hj xs m ∙ ap (λ (Z : Vector). numbers (vLength (planShape plan)) (Z .v j)) eb),
       ))
 
 pub held-parts : HeldParts
@@ -192,12 +194,12 @@ mask-parts plan draw L S rows es h i r lo hi among five = (
     k : Factors plan draw L r
     k = factors plan draw L S rows es h i lo hi among r five
 
-    both : (points : List ℕ) (S' : ℕ → Type 0) (rows' : ℕ → List ℕ) (es' : List Event) (h' : Premises plan (withPoints points draw) L S' es' (begin plan (withPoints points draw) rows'))
+    both : (points : List ℕ) (S' : ℕ → Type 0) (rows' : ℕ → List ℕ) (es' : List Event) (h' : Premises plan (withPoints points draw) L S' es' rows')
         (i' : ℕ) (lo' : 1 ≤ i') (hi' : i' ≤ plan .n) (among' : S' i')
         → (let v = history es' (begin plan (withPoints points draw) rows') in let q = v .posts i' in
-        mark (q .session) r ≡ 5
-        → PartOf (TrueMask S' v (plan .t) (take (plan .t + 1)) r) (q .session) (Finish.maskA (q .session) (q .rows) r) (less (k .X) (vectorA plan draw r))
-        × PartOf (TrueMask S' v (plan .t) (drop (plan .t + 1)) r) (q .session) (Finish.maskB (q .session) (q .rows) r) (less (k .Y) (vectorB plan draw r)))
+        mark (q .session) r ≡ masked
+        → PartOf (TrueMask S' v (planShape plan) (take (vLength (planShape plan))) r) (q .session) (Collect.maskA (q .session) (q .rows) r) (less (k .X) (vectorA plan draw r))
+        × PartOf (TrueMask S' v (planShape plan) (drop (vLength (planShape plan))) r) (q .session) (Collect.maskB (q .session) (q .rows) r) (less (k .Y) (vectorB plan draw r)))
     both points S' rows' es' h' i' lo' hi' among' =
         both-masks plan (withPoints points draw) L S' rows' es' h' i' lo' hi' among' r (record {
           a = k .a;

@@ -11,7 +11,9 @@ use lib.ListN.{length}
 use lib.Seq.{getD-set-same}
 use Rattle.field.specs.Modulus.{p}
 use Rattle.field.specs.Element.{Element}
-use Rattle.shape.specs.Lengths.{rowsLength}
+use Rattle.shape.specs.Lengths.{rowsLength, needed}
+use Rattle.shape.specs.Bounds.{rowCount, lastTriple}
+use Rattle.shape.specs.Marks.{empty, held, masked, spent, collected}
 use Rattle.refusal.specs.Refusal.{_when_, first}
 use Rattle.refusal.specs.Conditions.{wrongLength, anyBeyond}
 use Rattle.refusal.proofs.Laws.{not-refused}
@@ -21,21 +23,20 @@ use Rattle.session.specs.Rows.{rowAt}
 use Rattle.session.specs.Checks.{frameTests}
 use Rattle.opening.specs.Walking.{tooFew, disagree}
 use Rattle.opening.specs.Opening.{openChecks}
-use Rattle.opening.proofs.Passed.{clear-join, OpenChecked, open-clear}
-use Rattle.product.specs.Finish as Finish
-use Rattle.product.specs.Finish.{unopened}
-use Rattle.product.specs.Collect.{collectRefusal, collectAnswer}
-use Rattle.product.specs.Multiply.{multiplyRefusal}
-use Rattle.product.proofs.Passed.{Factored, CollectChecked, collect-walks, multiply-clear}
-use Rattle.factory.proofs.Laws.{elements-append}
-use Rattle.vectors.specs.Vector.{Vector, number, numbers, rowOf}
+use Rattle.opening.proofs.Passed.{clear-join, open-clear}
+use Rattle.collect.specs.Collect as Collect
+use Rattle.collect.specs.Collect.{unopened, collectRefusal, collectAnswer}
+use Rattle.multiply.specs.Multiply.{multiplyRefusal}
+use Rattle.product_masks.proofs.Passed.{Factored}
+use Rattle.collect.proofs.Passed.{CollectChecked, collect-walks}
+use Rattle.multiply.proofs.Passed.{multiply-clear}
+use Rattle.vectors.specs.Vector.{Vector, number, numbers}
 use Rattle.runs.specs.Draws.{Plan, Draw, IsDraw, Sound, pointOf}
 use Rattle.runs.specs.Calls.{Proper, Post}
 use Rattle.runs.proofs.Marks.{Marks, markOf, rememberedA, rememberedB, Sized, maskVectorA, maskVectorB, Opened, sessionAt}
 use Rattle.runs.proofs.Outcomes.{answer-refusal, settled}
 use Rattle.runs.proofs.Packs.{rowFor}
-use Rattle.runs.proofs.Holds.{Holds, Holder, wide}
-use Rattle.runs.proofs.Lines.{elements-pass, numbers-elements}
+use Rattle.runs.proofs.Holds.{Holds, Holder, wide, row-low}
 use Rattle.runs.proofs.Steps.{postAt}
 use Rattle.runs.proofs.Facts.{Multiplying, Triple}
 use Rattle.runs.proofs.Recalled.{Recalls}
@@ -65,7 +66,7 @@ pub record Stander : Type 0 where
   pub opened : Opened
   pub recalls : Recalls marks vec opened
   pub known : Known plan draw ledger marks vec
-  pub full : (r : ℕ) → markOf marks r ≢ 0 → len ≡ 96 * wide plan
+  pub full : (r : ℕ) → markOf marks r ≢ empty → len ≡ rowCount * wide plan
 
 abbrev pub standerOf : (plan : Plan) (draw : Draw) (L : Ledger) → Sound plan → IsDraw plan draw → (len i : ℕ) → 1 ≤ i → i ≤ plan .n → (q : Post)
     → Good plan draw L len i q → Stander
@@ -105,48 +106,43 @@ module _ (G : Stander) where
   abbrev pub row : ℕ → List ℕ
   row r = rowAt (wide plan) l r
 
-  pub below : (r m : ℕ) → markOf M r ≡ suc m → r < 96
-  below r m e = marked-low M sized r m e
+  pub below : (r : ℕ) {m : ℕ} → markOf M r ≡ suc m → r < rowCount
+  below r e = marked-low M sized r e
 
-  pub is-row : (r m : ℕ) → markOf M r ≡ suc m → row r ≡ rowFor plan draw i (vec r)
-  is-row r m e = h .rows r (below r m e) (omega (arith, e))
+  pub is-row : (r : ℕ) {m : ℕ} → markOf M r ≡ suc m → row r ≡ rowFor plan draw i (vec r)
+  is-row r e = h .rows r (below r e) (omega (arith, e))
 
   -- ---- 1 to 5 and 8, at a post with a row that is not empty
 
-  pub frame-clear : (r m : ℕ) → markOf M r ≡ suc m → first (frameTests s l) ≡ 0
-  frame-clear r m e =
+  pub frame-clear : (r : ℕ) {m : ℕ} → markOf M r ≡ suc m → first (frameTests s l) ≡ 0
+  frame-clear r e =
       clear-join (sessionTests (plan .n) (plan .t) i (pointOf draw i)) (5 when wrongLength l (rowsLength (shapeOf s)) ∷ []) tt
       (session-passes plan draw sound is i lo hi)
       (not-refused (5 when wrongLength l (rowsLength (shapeOf s)) ∷ []) (ap not (eq-eqb (length l) (rowsLength (shapeOf s)) (h .long ∙ full r (omega (arith, e)))), tt))
 
-  pub numbers-pass : (r m : ℕ) → markOf M r ≡ suc m → anyBeyond (row r) ≡ false
-  unfolding rowOf
-  numbers-pass r m e =
-      ap anyBeyond (is-row r m e)
-      ∙ elements-pass (rowFor plan draw i (vec r))
-      (elements-append (numbers (plan .t + 1) _) _ (numbers-elements (plan .t + 1) _)
-      (elements-append (numbers (plan .n) _) _ (numbers-elements (plan .n) _) (numbers-elements (plan .n) _)))
+  pub numbers-pass : (r : ℕ) {m : ℕ} → markOf M r ≡ suc m → anyBeyond (row r) ≡ false
+  numbers-pass r e = ap anyBeyond (is-row r e) ∙ row-low plan draw i (vec r)
 
   -- ---- an opening
 
-  pub open-passes : (r : ℕ) (blocks : List ℕ) → markOf M r ≡ 2 → Proper s blocks → first (openChecks s l r blocks) ≡ 0
+  pub open-passes : (r : ℕ) (blocks : List ℕ) → markOf M r ≡ held → Proper s blocks → first (openChecks s l r blocks) ≡ 0
   open-passes r blocks two pr =
       open-clear s l r blocks (record {
-        frame = frame-clear r 1 two;
-        placed = record { record-long = pr .long; row-in = omega (arith, below r 1 two); is-held = two };
-        row-low = numbers-pass r 1 two;
+        frame = frame-clear r two;
+        placed = record { record-long = pr .long; row-in = omega (arith, below r two); is-held = two };
+        row-low = numbers-pass r two;
         record-low = pr .low;
       })
 
   -- ---- the first call of a finish
 
-  pub waiting : (r : ℕ) → markOf M r ≡ 5 → Multiplying 5 M (rememberedA M r) (rememberedB M r) r
+  pub waiting : (r : ℕ) → markOf M r ≡ masked → Multiplying masked M (rememberedA M r) (rememberedB M r) r
   waiting r five =
-      let w = f r (below r 4 five) .waiting (inl five) in let t = f r (below r 4 five) .triple (inr (inl five)) in
+      let w = f r (below r five) .waiting (inl five) in let t = f r (below r five) .triple (inr (inl five)) in
       record {
         a-low = w .a-low;
         b-low = w .b-low;
-        r-low = omega (arith, below (r + 2) 3 (t .third));
+        r-low = omega (arith, below (r + 2) (t .third));
         a-held = w .a-held;
         b-held = w .b-held;
         first = five;
@@ -154,11 +150,11 @@ module _ (G : Stander) where
         third = t .third;
       }
 
-  module _ (r : ℕ) (blocksA blocksB : List ℕ) (five : markOf M r ≡ 5) (pr : Proper s blocksA) (pr' : Proper s blocksB) where
-    k : Multiplying 5 M (rememberedA M r) (rememberedB M r) r
+  module _ (r : ℕ) (blocksA blocksB : List ℕ) (five : markOf M r ≡ masked) (pr : Proper s blocksA) (pr' : Proper s blocksB) where
+    k : Multiplying masked M (rememberedA M r) (rememberedB M r) r
     k = waiting r five
 
-    factors : Factored s (rememberedA M r) (rememberedB M r) r 5
+    factors : Factored s (rememberedA M r) (rememberedB M r) r masked
     factors = record {
       a-in = omega (arith, k .a-low);
       b-in = omega (arith, k .b-low);
@@ -172,14 +168,14 @@ module _ (G : Stander) where
 
     collect-passes : CollectChecked s l r blocksA blocksB
     collect-passes = record {
-      frame = frame-clear r 4 five;
+      frame = frame-clear r five;
       placed = record { a-long = pr .long; b-long = pr' .long; factors = factors };
       numbers = record {
         rows-low = record {
-          a-low = numbers-pass (rememberedA M r) 1 (k .a-held);
-          b-low = numbers-pass (rememberedB M r) 1 (k .b-held);
-          first-low = numbers-pass r 4 five;
-          second-low = numbers-pass (r + 1) 3 (k .second);
+          a-low = numbers-pass (rememberedA M r) (k .a-held);
+          b-low = numbers-pass (rememberedB M r) (k .b-held);
+          first-low = numbers-pass r five;
+          second-low = numbers-pass (r + 1) (k .second);
         };
         record-a-low = pr .low;
         record-b-low = pr' .low;
@@ -187,10 +183,10 @@ module _ (G : Stander) where
     }
 
     abbrev xa : List ℕ
-    xa = Finish.maskA s l r
+    xa = Collect.maskA s l r
 
     abbrev xb : List ℕ
-    xb = Finish.maskB s l r
+    xb = Collect.maskB s l r
 
     by-walks : collectRefusal s l r blocksA blocksB ≡ first (unopened s xa xb blocksA blocksB)
     by-walks = collect-walks s l r blocksA blocksB collect-passes
@@ -202,11 +198,11 @@ module _ (G : Stander) where
     second true a b = refl
     second false a b = refl
 
-    pub collect-few : (howMany s xa blocksA ≤ plan .t) ⊎ (howMany s xb blocksB ≤ plan .t) → collectAnswer s l r blocksA blocksB .refusal ≡ 9
+    pub collect-few : (howMany s xa blocksA < needed (shapeOf s)) ⊎ (howMany s xb blocksB < needed (shapeOf s)) → collectAnswer s l r blocksA blocksB .refusal ≡ 9
     collect-few (inl e) = refusal-is ∙ rw (too-few s xa blocksA e) refl
     collect-few (inr e) = refusal-is ∙ rw (too-few s xb blocksB e) (second (tooFew s xa blocksA) (disagree s xa blocksA) (disagree s xb blocksB))
 
-    module _ (e : s .t + 1 ≤ howMany s xa blocksA) (e' : s .t + 1 ≤ howMany s xb blocksB) where
+    module _ (e : needed (shapeOf s) ≤ howMany s xa blocksA) (e' : needed (shapeOf s) ≤ howMany s xb blocksB) where
       -- 13 decides
       by-thirteen : first (unopened s xa xb blocksA blocksB) ≡ first (13 when disagree s xa blocksA ∷ 13 when disagree s xb blocksB ∷ [])
       by-thirteen = rw (not-few s xa blocksA e, not-few s xb blocksB e') refl
@@ -216,7 +212,7 @@ module _ (G : Stander) where
           let z = by-walks ∙ by-thirteen ∙ ap₂ (λ (x y : Bool). first (13 when x ∷ 13 when y ∷ [])) off off' in (
             answer-refusal (collectRefusal s l r blocksA blocksB) 0 _ s ∙ z,
             ap (λ (x : Post). mark (x .session) r) (settled (collectRefusal s l r blocksA blocksB) 0 _ s l l z)
-                ∙ getD-set-same (M .marks) r 7 0 (omega (arith, sized .marks, k .r-low)),
+                ∙ getD-set-same (M .marks) r collected 0 (omega (arith, sized .marks, k .r-low)),
           )
 
       pub collect-otherwise : Done q r blocksA blocksB ⊎ (collectAnswer s l r blocksA blocksB .refusal ≡ 13)
@@ -234,29 +230,29 @@ module _ (G : Stander) where
 
   -- ---- the second call
 
-  pub multiply-done : (r : ℕ) → markOf M r ≡ 7 → Multiplies q r
+  pub multiply-done : (r : ℕ) → markOf M r ≡ collected → Multiplies q r
   multiply-done r seven = (
     answer-refusal (multiplyRefusal s l r) 0 _ s ∙ z,
-    ap (λ (x : Post). mark (x .session) (r + 2)) (settled (multiplyRefusal s l r) 0 _ s l l z) ∙ on-three M r 6 6 2 sized low .2,
+    ap (λ (x : Post). mark (x .session) (r + 2)) (settled (multiplyRefusal s l r) 0 _ s l l z) ∙ on-three M r spent spent held sized low .2,
   )
     where
       t : Triple plan draw M vec r
-      t = f r (below r 6 seven) .triple (inr (inr seven))
+      t = f r (below r seven) .triple (inr (inr seven))
 
-      low : r < 94
-      low = omega (arith, below (r + 2) 3 (t .third))
+      low : r ≤ lastTriple
+      low = omega (arith, below (r + 2) (t .third))
 
       element-is : (x : ℕ) (e : Element) → x ≡ e .0 → x < p
       element-is x e h = rw h (e .1)
 
       z : multiplyRefusal s l r ≡ 0
       z =
-          multiply-clear s l r (frame-clear r 6 seven)
+          multiply-clear s l r (frame-clear r seven)
           (record { triple-in = omega (arith, low); first-mark = seven; second-mark = t .second; third-mark = t .third })
           (record {
             a-element = element-is _ (number (maskVectorA M vec r)) (recalls .each r seven .is-a);
             b-element = element-is _ (number (maskVectorB M vec r)) (recalls .each r seven .is-b);
-            first-low = numbers-pass r 6 seven;
-            second-low = numbers-pass (r + 1) 3 (t .second);
-            third-low = numbers-pass (r + 2) 3 (t .third);
+            first-low = numbers-pass r seven;
+            second-low = numbers-pass (r + 1) (t .second);
+            third-low = numbers-pass (r + 2) (t .third);
           })

@@ -10,7 +10,7 @@ use lib.Dec.{eqb}
 use lib.ListN.{length}
 use Rattle.field.specs.Modulus.{p}
 use Rattle.shape.specs.Bounds.{lastRow, lastTriple}
-use Rattle.shape.specs.Marks.{empty, held, masked}
+use Rattle.shape.specs.Marks.{empty, held, further, masked}
 use Rattle.poly.specs.Counting.{All}
 use Rattle.poly.proofs.Lists.{all-map, all-zip}
 use Rattle.refusal.specs.Refusal.{Test, _when_, first, orElse, AllFail}
@@ -23,9 +23,9 @@ use Rattle.session.specs.Rows.{width, rowAt}
 use Rattle.session.specs.Checks.{frameTests, noRow, noTriple, wrongMark}
 use Rattle.opening.specs.Walking.{recordLength, badRecord, tooFew, disagree}
 use Rattle.opening.proofs.Passed.{clear-join}
-use Rattle.product.specs.Masks.{tripleMarks, factorNumbers}
+use Rattle.product_masks.specs.Masks.{tripleMarks, factorNumbers}
 use Rattle.terms.specs.declared.Term.{Term}
-use Rattle.terms.specs.Listed.{plain, productsOf, collected, termsOf, factorsOf}
+use Rattle.terms.specs.Listed.{mostTerms, plain, productsOf, collected, termsOf, factorsOf}
 use Rattle.terms.proofs.Placing.{terms-again, factors-again}
 use Rattle.relation.specs.Tests.{eachAt, each, byKind, placeTests, markTests, namedTwice}
 use Rattle.relation.specs.Finish.{recordA, recordB, termMaskA, termMaskB, finishSizes, finishPlaces, rememberTests, finishMarks, termNumberTests, recordTests, finishNumbers, fewTests, offTests, openTests, relationFinishChecks, relationFinishRefusal, relationFinishAnswer}
@@ -72,20 +72,20 @@ module _ (G : Stander) (ts : List Term) (r : ℕ) (blocks : List ℕ) (ready : R
 
   -- a term: its row is held, its coefficient an element, and a product's triple waits with its rows
   record Fine (t : Term) : Type 0 where
-    pub row : markOf M (t .row) ≡ 2
+    pub row : markOf M (t .row) ≡ held
     pub coefficient : t .coefficient < p
-    pub product : plain t ≡ false → Multiplying 5 M (t .row) (t .second) (t .first)
+    pub product : plain t ≡ false → Multiplying masked M (t .row) (t .second) (t .first)
 
-  waits : All (λ t. Multiplying 5 M (t .row) (t .second) (t .first)) (productsOf ts)
+  waits : All (λ t. Multiplying masked M (t .row) (t .second) (t .first)) (productsOf ts)
   waits =
-      all-map (λ t h. subst (λ (a : ℕ). Multiplying 5 M a (t .second) (t .first)) (h .1)
-      (subst (λ (b : ℕ). Multiplying 5 M (rememberedA M (t .first)) b (t .first)) (h .2) (waiting G (t .first) (h .0)))) (productsOf ts) (ready .products)
+      all-map (λ t h. subst (λ (a : ℕ). Multiplying masked M a (t .second) (t .first)) (h .1)
+      (subst (λ (b : ℕ). Multiplying masked M (rememberedA M (t .first)) b (t .first)) (h .2) (waiting G (t .first) (h .0)))) (productsOf ts) (ready .products)
 
   all-fine : All Fine ts
   all-fine = all-zip (λ t h k. record { row = h .0; coefficient = h .1; product = k }) ts (ready .terms) (products-back _ ts waits)
 
   low-row : (t : Term) → Fine t → noRow (t .row) ≡ false
-  low-row t f = le-ltb lastRow (t .row) (omega (arith, below G (t .row) 1 (f .row)))
+  low-row t f = le-ltb lastRow (t .row) (omega (arith, below G (t .row) (f .row)))
 
   place-fails : (t : Term) (b : Bool) → plain t ≡ b → Fine t → AllFail (byKind b [] (6 when noRow (t .second) ∷ 6 when noTriple (t .first) ∷ []))
   place-fails t true e f = tt
@@ -93,17 +93,17 @@ module _ (G : Stander) (ts : List Term) (r : ℕ) (blocks : List ℕ) (ready : R
       let k = f .product e in (le-ltb lastRow (t .second) (omega (arith, k .b-low)), (le-ltb lastTriple (t .first) (omega (arith, k .r-low)), tt))
 
   mark-fails : (t : Term) (b : Bool) → plain t ≡ b → Fine t → AllFail (byKind b (7 when wrongMark s (t .row) held ∷ []) (tripleMarks s (t .row) (t .second) (t .first) masked))
-  mark-fails t true e f = (is-mark s (t .row) 2 (f .row), tt)
+  mark-fails t true e f = (is-mark s (t .row) held (f .row), tt)
   mark-fails t false e f =
       let k = f .product e in
-      (is-mark s (t .row) 2 (k .a-held), (is-mark s (t .second) 2 (k .b-held), (is-mark s (t .first) 5 (k .first), (is-mark s (t .first + 1) 4 (k .second), (is-mark s (t .first + 2) 4 (k .third), tt)))))
+      (is-mark s (t .row) held (k .a-held), (is-mark s (t .second) held (k .b-held), (is-mark s (t .first) masked (k .first), (is-mark s (t .first + 1) further (k .second), (is-mark s (t .first + 2) further (k .third), tt)))))
 
   number-fails : (t : Term) (b : Bool) → plain t ≡ b → Fine t
       → AllFail (byKind b (8 when anyBeyond (rowAt (width s) l (t .row)) ∷ []) (factorNumbers (width s) l (t .row) (t .second) (t .first) ++ (8 when anyBeyond (rowAt (width s) l (t .first + 2)) ∷ [])))
-  number-fails t true e f = (numbers-pass G (t .row) 1 (f .row), tt)
+  number-fails t true e f = (numbers-pass G (t .row) (f .row), tt)
   number-fails t false e f =
       let k = f .product e in
-      (numbers-pass G (t .row) 1 (k .a-held), (numbers-pass G (t .second) 1 (k .b-held), (numbers-pass G (t .first) 4 (k .first), (numbers-pass G (t .first + 1) 3 (k .second), (numbers-pass G (t .first + 2) 3 (k .third), tt)))))
+      (numbers-pass G (t .row) (k .a-held), (numbers-pass G (t .second) (k .b-held), (numbers-pass G (t .first) (k .first), (numbers-pass G (t .first + 1) (k .second), (numbers-pass G (t .first + 2) (k .third), tt)))))
 
   -- the tests of the terms that were handed on
   each-term : (f : Term → List Test) → ((t : Term) → Fine t → AllFail (f t)) → AllFail (each f (termsOf (collected ts)))
@@ -121,7 +121,7 @@ module _ (G : Stander) (ts : List Term) (r : ℕ) (blocks : List ℕ) (ready : R
 
   some-row : (us : List Term) → 1 ≤ length us → All Fine us → first (frameTests s l) ≡ 0
   some-row [] some a = absurd (omega arith)
-  some-row (t ∷ us) some a = frame-clear G (t .row) 1 (a .0 .row)
+  some-row (t ∷ us) some a = frame-clear G (t .row) (a .0 .row)
 
   checks-clear : first (relationFinishChecks s l (collected ts) r blocks) ≡ 0
   checks-clear =
@@ -132,7 +132,7 @@ module _ (G : Stander) (ts : List Term) (r : ℕ) (blocks : List ℕ) (ready : R
       (not-refused (finishSizes s all blocks ++ (finishPlaces all r ++ (finishMarks s all r ++ finishNumbers s l all blocks))) (
         ap not (eq-eqb (length blocks) (length fs * (2 * recordLength s)) (ready .long)),
         (
-          ap₂ _||_ (le-ltb (length ts) 1 (ready .count .0)) (le-ltb 32 (length ts) (ready .count .1)),
+          ap₂ _||_ (le-ltb (length ts) 1 (ready .count .0)) (le-ltb mostTerms (length ts) (ready .count .1)),
           fail-join (finishPlaces all r) (finishMarks s all r ++ finishNumbers s l all blocks)
               (fail-join (each placeTests (termsOf all)) (6 when noRow r ∷ []) (each-term placeTests (λ t f. (low-row t f, place-fails t (plain t) refl f))) (le-ltb lastRow r (omega (arith, ready .empty .0)), tt))
               (fail-join (finishMarks s all r) (finishNumbers s l all blocks)
@@ -143,7 +143,7 @@ module _ (G : Stander) (ts : List Term) (r : ℕ) (blocks : List ℕ) (ready : R
                     (subst (λ (us : List Term). AllFail (each (rememberTests s) us)) is
                     (each-fails (λ k. rememberTests s) 0 fs (everywhere (λ t. AllFail (rememberTests s t)) 0 fs
                     (all-map (λ t h. (ap not (eq-eqb (factorA s (t .first)) (t .row) (h .1)), (ap not (eq-eqb (factorB s (t .first)) (t .second) (h .2)), tt))) fs (ready .products)))))
-                    (is-mark s r 0 (ready .empty .1), tt),
+                    (is-mark s r empty (ready .empty .1), tt),
               ))
               (fail-join (each (termNumberTests (width s) l) (termsOf all)) (recordTests s blocks 0 (all .products))
               (each-term (termNumberTests (width s) l) (λ t f. (element-test (t .coefficient) (f .coefficient), number-fails t (plain t) refl f)))

@@ -12,19 +12,21 @@ use Rattle.field.specs.Arithmetic as Arithmetic
 use Rattle.field.proofs.Residues.{mul-mod-mod}
 use Rattle.poly.specs.Counting.{All}
 use Rattle.poly.proofs.Lists.{all-zip, all-second}
+use Rattle.shape.specs.Marks.{masked}
+use Rattle.shape.specs.Lengths.{needed, vLength}
 use Rattle.session.specs.declared.Session.{Session}
 use Rattle.session.specs.Sessions.{shapeOf}
 use Rattle.opening.specs.Walking.{tooFew, disagree}
-use Rattle.product.specs.Masks.{maskRow}
+use Rattle.product_masks.specs.Masks.{maskRow}
 use Rattle.vectors.specs.Vector.{Vector, numbers}
 use Rattle.vectors.specs.Claims.{heldRow}
-use Rattle.vectors.proofs.Theorems.{true-agree}
+use Rattle.vectors.proofs.Shares.{true-agree}
 use Rattle.terms.specs.declared.Term.{Term}
 use Rattle.terms.specs.Listed.{plain, productsOf, collected}
 use Rattle.relation.specs.Tests.{byKind}
 use Rattle.relation.specs.Finish.{recordA, recordB, termMaskA, termMaskB, relationFinishAnswer}
 use Rattle.relation.proofs.Passed.{products-back, relation-finished}
-use Rattle.runs.specs.Draws.{Plan, Draw}
+use Rattle.runs.specs.Draws.{Plan, Draw, planShape}
 use Rattle.runs.specs.Outline.{Move, moves, finishing, summand, summing}
 use Rattle.runs.specs.Calls.{Post, Actual, Call, relationFinish}
 use Rattle.runs.proofs.Outlines.{every-all}
@@ -156,7 +158,7 @@ relation-shown plan draw L S rows before behind i r ts records h lo hi among z =
     w : World
     w = begin plan draw rows
 
-    early : Premises plan draw L S before (begin plan draw rows)
+    early : Premises plan draw L S before rows
     early = record {
       sound = h .sound;
       is-draw = h .is-draw;
@@ -198,19 +200,19 @@ module _ (G : Stander) (S : ℕ → Type 0) (w : World) (said : AllSaid (G .plan
   s = Permitted.s G
 
   abbrev H : (List ℕ → List ℕ) → ℕ → ℕ → List ℕ → Type 0
-  H = TrueMask S w (plan .t)
+  H = TrueMask S w (planShape plan)
 
   agrees : (x : List ℕ) (X : Vector) → x ≡ heldRow s X → (half : List ℕ → List ℕ) (r : ℕ)
-      → ((j : ℕ) → 1 ≤ j → j ≤ plan .n → (xs : List ℕ) → H half r j xs → xs ≡ numbers (plan .t + 1) (X .v j))
-      → (bl : List ℕ) → s .t + 1 ≤ howMany s x bl → TrueOf (H half r) s x bl → disagree s x bl ≡ false
+      → ((j : ℕ) → 1 ≤ j → j ≤ plan .n → (xs : List ℕ) → H half r j xs → xs ≡ numbers (vLength (planShape plan)) (X .v j))
+      → (bl : List ℕ) → needed (shapeOf s) ≤ howMany s x bl → TrueOf (H half r) s x bl → disagree s x bl ≡ false
   agrees x X e half r theirs bl many t =
       ap (λ (y : List ℕ). disagree s y bl) e
       ∙ true-agree s X bl (sizes plan sound .n-element) (sym (ap (λ (y : List ℕ). tooFew s y bl) e) ∙ not-few s x bl many)
       (all-true-of s X bl (H half r) x e (λ j lj hj ne o. theirs j lj hj _ o) t)
 
   all-agree : (k : ℕ) (us : List Term)
-      → All (λ t. (markOf M' (t .first) ≡ 5) × (rememberedA M' (t .first) ≡ t .row) × (rememberedB M' (t .first) ≡ t .second)) us
-      → EachAt (Enough (Permitted.q G) blocks) k us → EachAt (AllTrue (TrueMask S w (plan .t)) (Permitted.q G) blocks) k us
+      → All (λ t. (markOf M' (t .first) ≡ masked) × (rememberedA M' (t .first) ≡ t .row) × (rememberedB M' (t .first) ≡ t .second)) us
+      → EachAt (Enough (Permitted.q G) blocks) k us → EachAt (AllTrue (TrueMask S w (planShape plan)) (Permitted.q G) blocks) k us
       → EachAt (λ k t. (disagree s (termMaskA s l t) (recordA s blocks k) ≡ false) × (disagree s (termMaskB s l t) (recordB s blocks k) ≡ false)) k us
   all-agree k [] h e t = tt
   all-agree k (u ∷ us) h e t =
@@ -218,9 +220,9 @@ module _ (G : Stander) (S : ℕ → Type 0) (w : World) (said : AllSaid (G .plan
       let five = h .0 .0 in
       let ok = Permitted.waiting G r five in (
         (
-          agrees (termMaskA s l u) (maskVectorA M' vec r) (ap (λ (x : ℕ). maskRow (shapeOf s) l x r) (sym (h .0 .1)) ∙ mask-a G r five) (take (plan .t + 1)) r
+          agrees (termMaskA s l u) (maskVectorA M' vec r) (ap (λ (x : ℕ). maskRow (shapeOf s) l x r) (sym (h .0 .1)) ∙ mask-a G r five) (take (vLength (planShape plan))) r
               (told-a plan draw L sound is S w said M' vec f r ok) (recordA s blocks k) (e .0 .0) (t .0 .0),
-          agrees (termMaskB s l u) (maskVectorB M' vec r) (ap (λ (x : ℕ). maskRow (shapeOf s) l x (r + 1)) (sym (h .0 .2)) ∙ mask-b G r five) (drop (plan .t + 1)) r
+          agrees (termMaskB s l u) (maskVectorB M' vec r) (ap (λ (x : ℕ). maskRow (shapeOf s) l x (r + 1)) (sym (h .0 .2)) ∙ mask-b G r five) (drop (vLength (planShape plan))) r
               (told-b plan draw L sound is S w said M' vec f r ok) (recordB s blocks k) (e .0 .1) (t .0 .1),
         ),
         all-agree (suc k) us (h .1) (e .1) (t .1),
@@ -232,7 +234,7 @@ relations-finish plan draw L S rows es h i lo hi among ts r blocks =
     let v = stands plan draw L S rows es h in let g = v .posts i lo hi among in
     let G = standerOf plan draw L (h .sound) (h .is-draw) _ i lo hi (w .posts i) g in
     subst
-    (λ (q : Post). Ready q ts r blocks → Related (TrueMask S w (plan .t)) q ts blocks (relationFinishAnswer (q .session) (q .rows) (collected ts) r blocks))
+    (λ (q : Post). Ready q ts r blocks → Related (TrueMask S w (planShape plan)) q ts blocks (relationFinishAnswer (q .session) (q .rows) (collected ts) r blocks))
     (sym (named plan draw _ i (g .marks) (g .vec) (w .posts i) (g .stands)))
     (λ ready. record {
       few = relation-few G ts r blocks ready;

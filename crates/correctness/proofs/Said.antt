@@ -8,20 +8,24 @@ use native.Mathlib.Omega.{arith}
 use lib.ListN.{length, getD, drop, length-append}
 use lib.Seq.{getD-at}
 use Rattle.poly.specs.Counting.{All, Elements}
+use Rattle.shape.specs.Bounds.{rowCount, lastRow}
+use Rattle.shape.specs.Marks.{held, unused}
+use Rattle.shape.specs.Lengths.{vLength}
 use Rattle.decimal.specs.Numeral.{tens, leading}
 use Rattle.csv.specs.Fields.{fields, written, Parsed, parsed, malformed, fieldsAt, Small}
 use Rattle.csv.proofs.Overwriting.{fields-append}
 use Rattle.csv.proofs.Reading.{fields-read}
-use Rattle.factory.proofs.Laws.{elements-append}
+use Rattle.parts.proofs.Laws.{elements-append}
 use Rattle.vectors.specs.Vector.{Vector, numbers}
 use Rattle.vectors.proofs.Linear.{length-numbers}
-use Rattle.runs.specs.Draws.{Plan, Draw, IsDraw}
+use Rattle.runs.specs.Draws.{Plan, Draw, IsDraw, planShape}
 use Rattle.runs.specs.Outline.{Act, loads, loadsTriple, deals, opens, sums, factors, collects, multiplies, takes, Given, Move, moves, actsIn, Sending, itsOpening, itsMasks, sends}
 use Rattle.runs.specs.Calls.{Post, Actual, Call, perform, sentIf, openingLine, masksLine, lineOf, sentBy, broadcast, Among}
 use Rattle.runs.proofs.Outlines.{every-all}
 use Rattle.runs.proofs.Marks.{markOf, less, vectorA, vectorB, Masking, none, of, masking}
 use Rattle.runs.proofs.Outcomes.{refusalOf, refusal-is}
 use Rattle.runs.proofs.Facts.{Sendable, Multiplying, Triple}
+use Rattle.runs.proofs.Inside.{all-among}
 use Rattle.runs.proofs.Lines.{Opening, Masks, same-opening, same-masks, not-both, numbers-elements}
 use Rattle.runs.proofs.Steps.{Says, SaysAll, says}
 use Rattle.correctness.specs.Ledger.{Ledger, product, WrittenBy, Written}
@@ -66,20 +70,16 @@ module _ (r j r' j' x : ℕ) (xs : List ℕ) (small : Small (r ∷ j ∷ [])) (s
       reads' : fieldsAt 2 whole 1 ≡ parsed (r' ∷ j' ∷ []) (1 + length (fields (r' ∷ j' ∷ [])))
       reads' = fields-read (r' ∷ j' ∷ []) whole more 1 small' refl behind
 
-among-all : {A : Type 0} (P : A → Type 0) (xs : List A) → All P xs → (x : A) → Among x xs → P x
-among-all P (y ∷ ys) a x (inl e) = subst P (sym e) (a .0)
-among-all P (y ∷ ys) a x (inr m) = among-all P ys (a .1) x m
-
 -- ---- lines by the ledger
 
 -- j's masks by the triple at r, of rows with the vectors X and Y
 abbrev pub halves : Plan → Draw → ℕ → ℕ → Vector → Vector → List ℕ
 halves plan draw r j X Y =
-    numbers (plan .t + 1) (less X (vectorA plan draw r) .v j) ++ numbers (plan .t + 1) (less Y (vectorB plan draw r) .v j)
+    numbers (vLength (planShape plan)) (less X (vectorA plan draw r) .v j) ++ numbers (vLength (planShape plan)) (less Y (vectorB plan draw r) .v j)
 
 module _ (plan : Plan) (draw : Draw) (L : Ledger) (small : plan .n < tens 10) where
   abbrev k : ℕ
-  k = plan .t + 1
+  k = vLength (planShape plan)
 
   module _ (r j : ℕ) (X Y : Vector) where
     first-half : List ℕ
@@ -128,7 +128,7 @@ module _ (plan : Plan) (draw : Draw) (L : Ledger) (small : plan .n < tens 10) wh
     -- an opening message that was broadcast is its sender's of the ledger's vector
     pub told : (r j : ℕ) (xs : List ℕ) → Opening (plan .n) k small r j xs → Among (openingLine r j xs) lines
         → (X : Vector) → Is plan draw L r X → xs ≡ numbers k (X .v j)
-    told r j xs o m X is = elim (among-all Said lines all (openingLine r j xs) m) [
+    told r j xs o m X is = elim (all-among Said lines all (openingLine r j xs) m) [
       | inl l ↦
           let e = same-opening (plan .n) k small r j (l .row) (l .post) xs (l .xs) o (l .form) (l .is) in
           e .2 ∙ l .says
@@ -137,8 +137,8 @@ module _ (plan : Plan) (draw : Draw) (L : Ledger) (small : plan .n < tens 10) wh
     ]
 
     -- none has no numbers
-    pub never-bare : (r j : ℕ) → r ≤ 95 → j ≤ plan .n → Among (openingLine r j []) lines → ⊥
-    never-bare r j hr hj m = elim (among-all Said lines all (openingLine r j []) m) [
+    pub never-bare : (r j : ℕ) → r ≤ lastRow → j ≤ plan .n → Among (openingLine r j []) lines → ⊥
+    never-bare r j hr hj m = elim (all-among Said lines all (openingLine r j []) m) [
       | inl l ↦ go l (l .xs) refl
       | inr l ↦ let z : _≡_ {A = ℕ} 79 77 = ap (λ (s : List ℕ). getD s 0 0) (l .is) in omega arith
     ]
@@ -155,7 +155,7 @@ module _ (plan : Plan) (draw : Draw) (L : Ledger) (small : plan .n < tens 10) wh
     -- masks that were broadcast are their sender's of the ledger's vectors
     pub told-masks : (r j : ℕ) (both : List ℕ) → Masks (plan .n) k small r j both → Among (masksLine r j both) lines
         → (a b : ℕ) → L (r + 2) ≡ product r a b → (X Y : Vector) → Is plan draw L a X → Is plan draw L b Y → both ≡ halves plan draw r j X Y
-    told-masks r j both o m a b me X Y ia ib = elim (among-all Said lines all (masksLine r j both) m) [
+    told-masks r j both o m a b me X Y ia ib = elim (all-among Said lines all (masksLine r j both) m) [
       | inl l ↦ absurd (not-both (plan .n) k small (l .row) (l .post) r j (l .xs) both (l .form) o (sym (l .is)))
       | inr l ↦
           let e = same-masks (plan .n) k small r j (l .row) (l .post) both (l .xs) o (l .form) (l .is) in
@@ -175,7 +175,7 @@ module _ (plan : Plan) (draw : Draw) (L : Ledger) (small : plan .n < tens 10) wh
     once P zero line lines f a = (f refl, a)
     once P (suc n) line lines f a = a
 
-    new-opening : (r : ℕ) (xs : List ℕ) → (r < 96) × (markOf (g .marks) r ≡ 2) → xs ≡ numbers k (g .vec r .v i) → OpeningSaid (openingLine r i xs)
+    new-opening : (r : ℕ) (xs : List ℕ) → (r < rowCount) × (markOf (g .marks) r ≡ held) → xs ≡ numbers k (g .vec r .v i) → OpeningSaid (openingLine r i xs)
     new-opening r xs ok says = record {
       row = r;
       post = i;
@@ -192,7 +192,7 @@ module _ (plan : Plan) (draw : Draw) (L : Ledger) (small : plan .n < tens 10) wh
       says = says;
     }
 
-    new-masks : (a b r : ℕ) (xs : List ℕ) → Multiplying 3 (g .marks) a b r
+    new-masks : (a b r : ℕ) (xs : List ℕ) → Multiplying unused (g .marks) a b r
         → xs ≡ numbers k (less (g .vec a) (g .vec r) .v i) ++ numbers k (less (g .vec b) (g .vec (r + 1)) .v i) → L (r + 2) ≡ product r a b
         → MasksSaid (masksLine r i xs)
     new-masks a b r xs ok said means = record {
@@ -250,7 +250,7 @@ module _ (plan : Plan) (draw : Draw) (L : Ledger) (small : plan .n < tens 10) wh
         → All Wrote ms → Said (lineOf i s xs)
     said-one ms (itsOpening r) xs ok says w = inl (new-opening r xs ok says)
     said-one ms (itsMasks a b r) xs ok says w =
-        inr (new-masks a b r xs (ok .0) says (among-all Noted (map masking (actsIn ms)) (all-noted ms w) (of a b r) (ok .1)))
+        inr (new-masks a b r xs (ok .0) says (all-among Noted (map masking (actsIn ms)) (all-noted ms w) (of a b r) (ok .1)))
 
     said-by : (ms : List (Move Actual)) (ss : List Sending) (k : ℕ) (parts : List (List ℕ))
         → (k ≡ 0 → All (Sendable (actsIn ms) (g .marks)) ss × SaysAll plan draw i (g .vec) ss parts × All Wrote ms)

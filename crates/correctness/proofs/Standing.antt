@@ -1,5 +1,5 @@
 -- One post by the ledger: each row it holds is its part of the ledger's vector, and each call that is not refused keeps that.
-use Prim.Native.Nat.{ℕ, suc, _+_, _*_, _≤_, _<_}
+use Prim.Native.Nat.{ℕ, suc, _+_, _≤_, _<_}
 use mathlib.Core.Path.{_≡_, refl, sym, _∙_, ap₂, subst}
 use mathlib.Core.Logic.{_≢_, inr}
 use mathlib.Core.List.{List, [], _∷_}
@@ -7,8 +7,11 @@ use native.Mathlib.Omega.{arith}
 use lib.ListN.{length}
 use Rattle.field.specs.Element.{element}
 use Rattle.poly.specs.Counting.{All}
+use Rattle.shape.specs.Bounds.{rowCount}
+use Rattle.shape.specs.Marks.{empty, collected}
+use Rattle.shape.specs.Lengths.{rowsLength}
 use Rattle.vectors.specs.Vector.{Vector, raised, number}
-use Rattle.runs.specs.Draws.{Plan, Draw, IsDraw}
+use Rattle.runs.specs.Draws.{Plan, Draw, IsDraw, planShape}
 use Rattle.runs.specs.Outline.{Act, loads, loadsTriple, deals, opens, Summand, once, times, fee, sums, factors, collects, multiplies, takes, Given, Move, moves, actsIn, acts, sends}
 use Rattle.runs.specs.Calls.{Post, Actual, Call, perform, after}
 use Rattle.runs.proofs.Marks.{Marks, markOf, rememberedA, rememberedB, Sized, less, worthVector, totalVector, written, marksBy, vectorsBy, marksAll, numberIn, vectorsAll}
@@ -39,7 +42,7 @@ module _ (plan : Plan) (draw : Draw) (L : Ledger) where
     pub sized : Sized marks
     pub stands : Stands plan draw len i marks vec q
     pub facts : Known marks vec
-    pub full : (r : ℕ) → markOf marks r ≢ 0 → len ≡ 96 * (plan .t + 1 + 2 * plan .n)
+    pub full : (r : ℕ) → markOf marks r ≢ empty → len ≡ rowsLength (planShape plan)
 
   abbrev pub standOf : IsDraw plan draw → (len i : ℕ) → i ≤ plan .n → (q : Post) → Good len i q → Stand
   standOf is len i hi q g = record {
@@ -62,15 +65,15 @@ module _ (plan : Plan) (draw : Draw) (L : Ledger) where
         subst (λ (x : Post). refusalOf c x ≡ 0 → Allowed (acts c) (sends c) (g .marks)) (sym (named plan draw len i (g .marks) (g .vec) q (g .stands)))
         (allowed plan draw i (g .marks) (g .stands .opened) (q .rows) c)
 
-    room-at : (c : Call) → refusalOf c q ≡ 0 → len ≡ 96 * (plan .t + 1 + 2 * plan .n)
+    room-at : (c : Call) → refusalOf c q ≡ 0 → len ≡ rowsLength (planShape plan)
     room-at c z =
         sym (g .stands .holds .long)
-        ∙ subst (λ (x : Post). refusalOf c x ≡ 0 → length (q .rows) ≡ 96 * (plan .t + 1 + 2 * plan .n))
+        ∙ subst (λ (x : Post). refusalOf c x ≡ 0 → length (q .rows) ≡ rowsLength (planShape plan))
         (sym (named plan draw len i (g .marks) (g .vec) q (g .stands))) (room plan draw i (g .marks) (g .stands .opened) (q .rows) c) z
 
   -- what a call that does what the ledger says brings
   module _ (M : Marks) (vec : ℕ → Vector) (f : Known M vec) where
-    finished-is : (r : ℕ) → Tripled 7 M r → Is plan draw L (r + 2) (written M vec r)
+    finished-is : (r : ℕ) → Tripled collected M r → Is plan draw L (r + 2) (written M vec r)
     finished-is r ok =
         let w = f r low .waiting (inr (ok .first)) in
         subst (λ (m : Meaning). IsOf plan draw L (r + 2) m (written M vec r)) (sym (w .means))
@@ -80,7 +83,7 @@ module _ (plan : Plan) (draw : Draw) (L : Ledger) where
         productVector (number (less (vec (rememberedA M r)) (t .is-a j)) .0) (number (less (vec (rememberedB M r)) (t .is-b j)) .0)
         (t .is-a j) (t .is-b j) (t .is-ab j))))
       where
-        low : r < 96
+        low : r < rowCount
         low = omega (arith, ok .r-low)
 
         t : Triple plan draw M vec r

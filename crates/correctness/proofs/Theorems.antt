@@ -10,11 +10,14 @@ use borrow.Author.Tests.{eq-eqb, ne-eqb}
 use lib.Dec.{eqb}
 use lib.ListN.{length, getD, take}
 use Rattle.field.specs.Element.{element}
+use Rattle.shape.specs.Bounds.{lastRow}
+use Rattle.shape.specs.Marks.{held as heldMark}
+use Rattle.shape.specs.Lengths.{vLength}
 use Rattle.session.specs.declared.Answer.{Answer}
 use Rattle.session.specs.Sessions.{mark}
 use Rattle.session.specs.Rows.{width, coefficients, rowAt}
 use Rattle.vectors.specs.Vector.{Vector, numbers}
-use Rattle.runs.specs.Draws.{Plan, Draw, pointOf}
+use Rattle.runs.specs.Draws.{Plan, Draw, pointOf, planShape}
 use Rattle.runs.specs.Calls.{Post, opening, perform, after, openingLine, Among, Told, at}
 use Rattle.runs.proofs.Marks.{at-same, at-other}
 use Rattle.runs.proofs.Steps.{own-numbers, named}
@@ -32,7 +35,7 @@ use Rattle.correctness.proofs.Walking.{Inv, after-all, beginning}
 use Rattle.correctness.proofs.Permitted.{standerOf}
 use Rattle.correctness.proofs.Openings.{Reliable, right}
 
-module _ (plan : Plan) (draw : Draw) (L : Ledger) (S : ℕ → Type 0) (rows : ℕ → List ℕ) (es : List Event) (h : Premises plan draw L S es (begin plan draw rows)) where
+module _ (plan : Plan) (draw : Draw) (L : Ledger) (S : ℕ → Type 0) (rows : ℕ → List ℕ) (es : List Event) (h : Premises plan draw L S es rows) where
   unfoldable pub lens : ℕ → ℕ
   lens i = length (rows i)
 
@@ -46,8 +49,8 @@ module _ (plan : Plan) (draw : Draw) (L : Ledger) (S : ℕ → Type 0) (rows : �
       (beginning plan draw L S (h .sound) (h .is-draw) rows) (h .parts) (h .ledger) (h .finishes)
 
   -- what a post of S told
-  telling : (r j : ℕ) (xs : List ℕ) → r ≤ 95 → 1 ≤ j → j ≤ plan .n → S j → Formed (plan .t + 1) xs → Told (end .lines j) r j xs
-      → (X : Vector) → Is plan draw L r X → xs ≡ numbers (plan .t + 1) (X .v j)
+  telling : (r j : ℕ) (xs : List ℕ) → r ≤ lastRow → 1 ≤ j → j ≤ plan .n → S j → Formed (vLength (planShape plan)) xs → Told (end .lines j) r j xs
+      → (X : Vector) → Is plan draw L r X → xs ≡ numbers (vLength (planShape plan)) (X .v j)
   telling r j xs low lo hi among (inl e) m X is =
       absurd (never-bare plan draw L (small plan (h .sound)) (end .lines j) (stands .lines j lo hi among) r j low hi (subst (λ (ys : List ℕ). Among (openingLine r j ys) (end .lines j)) e m))
   telling r j xs low lo hi among (inr e) m X is =
@@ -55,18 +58,18 @@ module _ (plan : Plan) (draw : Draw) (L : Ledger) (S : ℕ → Type 0) (rows : �
 
   -- what it holds
   holding : (j : ℕ) (q : Post) (g : Good plan draw L (lens j) j q) (r : ℕ) (xs : List ℕ)
-      → (mark (q .session) r ≡ 2) × (xs ≡ coefficients (q .session) (rowAt (width (q .session)) (q .rows) r))
-      → (X : Vector) → Is plan draw L r X → xs ≡ numbers (plan .t + 1) (X .v j)
+      → (mark (q .session) r ≡ heldMark) × (xs ≡ coefficients (q .session) (rowAt (width (q .session)) (q .rows) r))
+      → (X : Vector) → Is plan draw L r X → xs ≡ numbers (vLength (planShape plan)) (X .v j)
   holding j q g r xs =
       subst
-      (λ (x : Post). (mark (x .session) r ≡ 2) × (xs ≡ coefficients (x .session) (rowAt (width (x .session)) (x .rows) r))
-      → (X : Vector) → Is plan draw L r X → xs ≡ numbers (plan .t + 1) (X .v j))
+      (λ (x : Post). (mark (x .session) r ≡ heldMark) × (xs ≡ coefficients (x .session) (rowAt (width (x .session)) (x .rows) r))
+      → (X : Vector) → Is plan draw L r X → xs ≡ numbers (vLength (planShape plan)) (X .v j))
       (sym (named plan draw (lens j) j (g .marks) (g .vec) q (g .stands)))
       (λ o X is.
-      let low = marked-low (g .marks) (g .sized) r 1 (o .0) in
-      o .1 ∙ ap (take (plan .t + 1)) (g .stands .holds .rows r low (omega (arith, o .0)))
-      ∙ own-numbers (plan .t + 1) (plan .n) j (element (pointOf draw j)) (g .vec r)
-      ∙ ap (λ (Y : Vector). numbers (plan .t + 1) (Y .v j)) (one plan draw L (g .facts r low .held (o .0)) is))
+      let low = marked-low (g .marks) (g .sized) r (o .0) in
+      o .1 ∙ ap (take (vLength (planShape plan))) (g .stands .holds .rows r low (omega (arith, o .0)))
+      ∙ own-numbers (planShape plan) j (element (pointOf draw j)) (g .vec r)
+      ∙ ap (λ (Y : Vector). numbers (vLength (planShape plan)) (Y .v j)) (one plan draw L (g .facts r low .held (o .0)) is))
 
   pub reliable : Reliable plan draw L (TruePolynomial S end)
   reliable r j xs low lo hi form (among, inl m) X is = telling r j xs low lo hi among form m X is
@@ -76,7 +79,7 @@ pub correct : Correct
 unfolding end
 correct plan draw L S rows es h i lo hi among =
     let v = stands plan draw L S rows es h in let g = v .posts i lo hi among in
-    subst (Right L (TruePolynomial S w) (TrueMask S w (plan .t))) (sym (named plan draw _ i (g .marks) (g .vec) (w .posts i) (g .stands)))
+    subst (Right L (TruePolynomial S w) (TrueMask S w (planShape plan))) (sym (named plan draw _ i (g .marks) (g .vec) (w .posts i) (g .stands)))
     (right (standerOf plan draw L (h .sound) (h .is-draw) _ i lo hi (w .posts i) g) (TruePolynomial S w) (reliable plan draw L S rows es h) S w (v .lines))
   where
     w : World

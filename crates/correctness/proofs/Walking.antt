@@ -4,6 +4,7 @@ use mathlib.Core.Path.{_≡_, refl, sym, _∙_, subst}
 use mathlib.Core.List.{List, [], _∷_, _++_}
 use native.Mathlib.Decide.{ℕ-discrete}
 use lib.ListN.{length}
+use Rattle.poly.proofs.Lists.{all-join}
 use Rattle.poly.specs.Counting.{All}
 use Rattle.runs.specs.Draws.{Plan, Draw, IsDraw, Sound}
 use Rattle.runs.specs.Calls.{Post, after, broadcast, at}
@@ -16,10 +17,6 @@ use Rattle.correctness.specs.Truth.{OwnPart, TrueFinish}
 use Rattle.correctness.proofs.Standing.{Good, good-after, good-refused}
 use Rattle.correctness.proofs.Said.{new-said}
 use Rattle.correctness.proofs.Fitting.{Line, AllSaid, small, fits}
-
-all-append : {A : Type 0} (P : A → Type 0) (xs ys : List A) → All P xs → All P ys → All P (xs ++ ys)
-all-append P [] ys a b = b
-all-append P (x ∷ xs) ys a b = (a .0, all-append P xs ys (a .1) b)
 
 -- a function changed at one place: what holds of it, place by place
 at-each : {A : Type 0} (P : ℕ → A → Type 0) (f : ℕ → A) (r : ℕ) (x : A) → ((i : ℕ) → P i (f i)) → P r x → (i : ℕ) → P i (at f r x i)
@@ -57,7 +54,7 @@ module _ (plan : Plan) (draw : Draw) (L : Ledger) (S : ℕ → Type 0) (sound : 
 
         says : All (Line plan draw L sound is) (w .lines (e .post) ++ broadcast (e .post) (e .call) (doneBy e w))
         says =
-            all-append (Line plan draw L sound is) (w .lines (e .post)) (broadcast (e .post) (e .call) (doneBy e w)) (v .lines (e .post) lo hi among)
+            all-join (Line plan draw L sound is) (w .lines (e .post)) (broadcast (e .post) (e .call) (doneBy e w)) (v .lines (e .post) lo hi among)
             (new-said plan draw L (small plan sound) is (lens (e .post)) (e .post) lo hi q g (e .call) (λ z. wrote among (is-zero z)))
 
       pub after-event : Inv (turn e w)

@@ -2,58 +2,66 @@
 -- its sender's, an opening that accepts t+1 or more gives exactly the plain number, and one that accepts fewer is refused with 9".
 -- Document 02, (iv): "It refuses with 13 when an accepted share lies off that polynomial, in either record of a finish, after 9." By (viii) the
 -- polynomials of a finish are accepted in its first call, collect; the second, multiply, takes none.
-use Prim.Native.Nat.{ℕ, _+_, _≤_}
+use Prim.Native.Nat.{ℕ, _+_, _≤_, _<_}
 use mathlib.Core.Path.{_≡_}
 use mathlib.Core.Bool.{true}
 use mathlib.Core.Logic.{_≢_, _⊎_}
 use mathlib.Core.List.{List, _∷_, _++_}
 use lib.ListN.{length, getD, take, drop}
+use Rattle.shape.specs.Marks.{held, masked, collected}
+use Rattle.shape.specs.Lengths.{needed, vLength}
 use Rattle.session.specs.declared.Session.{Session}
 use Rattle.session.specs.declared.Answer.{Answer}
-use Rattle.session.specs.Sessions.{mark}
+use Rattle.session.specs.Sessions.{mark, shapeOf}
 use Rattle.session.specs.Rows.{width, rowAt}
 use Rattle.opening.specs.Walking.{sent, accepts, accepted}
 use Rattle.opening.specs.Opening.{openAnswer}
-use Rattle.product.specs.Finish.{maskA, maskB}
-use Rattle.product.specs.Collect.{collectAnswer}
-use Rattle.product.specs.Multiply.{multiplyAnswer}
-use Rattle.runs.specs.Draws.{Plan, Draw, IsDraw, Sound}
+use Rattle.collect.specs.Collect.{maskA, maskB, collectAnswer}
+use Rattle.multiply.specs.Multiply.{multiplyAnswer}
+use Rattle.runs.specs.Draws.{Plan, Draw, IsDraw, Sound, planShape}
 use Rattle.runs.specs.Calls.{Post, opening, Proper}
-use Rattle.correctness.specs.History.{Event, World, history, answers, begin, Each}
+use Rattle.correctness.specs.History.{Event, history, answers, begin, Each}
 use Rattle.correctness.specs.Ledger.{Ledger, Written, Plain}
 use Rattle.correctness.specs.Truth.{OwnPart, TruePolynomial, TrueMask, TrueOf, EnoughTrue, TrueFinish}
 
 -- The premises, on the calls of the posts S alone: sessions of one draw; the same deals, sums and masks; true polynomials in all
 -- their finishes. Any other post may load, deal, send and finish what it likes.
-pub record Premises (plan : Plan) (draw : Draw) (L : Ledger) (S : ℕ → Type 0) (es : List Event) (w : World) : Type 0 where
+pub record Premises (plan : Plan) (draw : Draw) (L : Ledger) (S : ℕ → Type 0) (es : List Event) (rows : ℕ → List ℕ) : Type 0 where
   pub sound : Sound plan
   pub is-draw : IsDraw plan draw
-  pub parts : Each S (λ e v. OwnPart plan draw (e .post) (e .call)) es w
-  pub ledger : Each S (λ e v. Written draw L (e .call)) es w
-  pub finishes : Each S (λ e v. TrueFinish S v (v .posts (e .post)) (e .call)) es w
+  pub parts : Each S (λ e v. OwnPart plan draw (e .post) (e .call)) es (begin plan draw rows)
+  pub ledger : Each S (λ e v. Written draw L (e .call)) es (begin plan draw rows)
+  pub finishes : Each S (λ e v. TrueFinish S v (v .posts (e .post)) (e .call)) es (begin plan draw rows)
 
 -- How many polynomials a post accepts for a row, of all n posts.
 abbrev pub howMany : Session → List ℕ → List ℕ → ℕ
 howMany s row blocks = length (accepted s row blocks)
 
+-- Fewer than t+1; t+1 or more.
+abbrev pub TooFew : Session → List ℕ → List ℕ → Type 0
+TooFew s row blocks = howMany s row blocks < needed (shapeOf s)
+
+abbrev pub Enough : Session → List ℕ → List ℕ → Type 0
+Enough s row blocks = needed (shapeOf s) ≤ howMany s row blocks
+
+-- A post's row r.
+abbrev pub rowIn : Post → ℕ → List ℕ
+rowIn q r = rowAt (width (q .session)) (q .rows) r
+
 -- Where each polynomial accepted is truly its sender's, at least t+1 are.
 abbrev pub AllIsEnough : Type 1
 AllIsEnough =
-    (P : ℕ → List ℕ → Type 0) (s : Session) (row blocks : List ℕ) → s .t + 1 ≤ howMany s row blocks → TrueOf P s row blocks
-    → EnoughTrue P s row blocks
+    (P : ℕ → List ℕ → Type 0) (s : Session) (row blocks : List ℕ) → Enough s row blocks → TrueOf P s row blocks → EnoughTrue P s row blocks
 
 -- Post q opens the held row r with a record, and o is the answer. P j xs says that xs is truly j's polynomial of that row. Fewer
 -- than t+1 accepted: 9. Each accepted polynomial true: the number, and never 13. At least t+1 of them true, whichever they are: the
 -- number, or 13 (document 02, (iv)). Otherwise a number, or 13.
 pub record Answered (L : Ledger) (P : ℕ → List ℕ → Type 0) (q : Post) (r : ℕ) (blocks : List ℕ) (o : Answer) : Type 0 where
-  pub few : howMany (q .session) (rowAt (width (q .session)) (q .rows) r) blocks ≤ q .session .t → o .refusal ≡ 9
-  pub exact : q .session .t + 1 ≤ howMany (q .session) (rowAt (width (q .session)) (q .rows) r) blocks
-      → TrueOf P (q .session) (rowAt (width (q .session)) (q .rows) r) blocks → (o .refusal ≡ 0) × Plain L r (o .value)
-  pub agreed : q .session .t + 1 ≤ howMany (q .session) (rowAt (width (q .session)) (q .rows) r) blocks
-      → EnoughTrue P (q .session) (rowAt (width (q .session)) (q .rows) r) blocks
-      → ((o .refusal ≡ 0) × Plain L r (o .value)) ⊎ (o .refusal ≡ 13)
-  pub otherwise : q .session .t + 1 ≤ howMany (q .session) (rowAt (width (q .session)) (q .rows) r) blocks
-      → (o .refusal ≡ 0) ⊎ (o .refusal ≡ 13)
+  pub few : TooFew (q .session) (rowIn q r) blocks → o .refusal ≡ 9
+  pub exact : Enough (q .session) (rowIn q r) blocks → TrueOf P (q .session) (rowIn q r) blocks
+      → (o .refusal ≡ 0) × Plain L r (o .value)
+  pub agreed : EnoughTrue P (q .session) (rowIn q r) blocks → ((o .refusal ≡ 0) × Plain L r (o .value)) ⊎ (o .refusal ≡ 13)
+  pub otherwise : Enough (q .session) (rowIn q r) blocks → (o .refusal ≡ 0) ⊎ (o .refusal ≡ 13)
 
 abbrev pub Opens : Ledger → (ℕ → List ℕ → Type 0) → Post → ℕ → List ℕ → Type 0
 Opens L P q r blocks = Answered L P q r blocks (openAnswer (q .session) (q .rows) r blocks)
@@ -62,50 +70,47 @@ Opens L P q r blocks = Answered L P q r blocks (openAnswer (q .session) (q .rows
 abbrev pub Done : Post → ℕ → List ℕ → List ℕ → Type 0
 Done q r blocksA blocksB =
     (collectAnswer (q .session) (q .rows) r blocksA blocksB .refusal ≡ 0)
-    × (mark (collectAnswer (q .session) (q .rows) r blocksA blocksB .session) r ≡ 7)
+    × (mark (collectAnswer (q .session) (q .rows) r blocksA blocksB .session) r ≡ collected)
 
 -- Post q collects the masks of the triple at r, which it made: 9, where either record has too few; done, where each accepted
 -- polynomial of both is true; otherwise done, or 13. PA and PB say whose the polynomials of a − l and of b − l' are.
 pub record Collects (PA PB : ℕ → List ℕ → Type 0) (q : Post) (r : ℕ) (blocksA blocksB : List ℕ) : Type 0 where
-  pub few : (howMany (q .session) (maskA (q .session) (q .rows) r) blocksA ≤ q .session .t)
-      ⊎ (howMany (q .session) (maskB (q .session) (q .rows) r) blocksB ≤ q .session .t)
+  pub few : TooFew (q .session) (maskA (q .session) (q .rows) r) blocksA ⊎ TooFew (q .session) (maskB (q .session) (q .rows) r) blocksB
       → collectAnswer (q .session) (q .rows) r blocksA blocksB .refusal ≡ 9
-  pub exact : q .session .t + 1 ≤ howMany (q .session) (maskA (q .session) (q .rows) r) blocksA
-      → q .session .t + 1 ≤ howMany (q .session) (maskB (q .session) (q .rows) r) blocksB
+  pub exact : Enough (q .session) (maskA (q .session) (q .rows) r) blocksA → Enough (q .session) (maskB (q .session) (q .rows) r) blocksB
       → TrueOf PA (q .session) (maskA (q .session) (q .rows) r) blocksA
       → TrueOf PB (q .session) (maskB (q .session) (q .rows) r) blocksB → Done q r blocksA blocksB
-  pub otherwise : q .session .t + 1 ≤ howMany (q .session) (maskA (q .session) (q .rows) r) blocksA
-      → q .session .t + 1 ≤ howMany (q .session) (maskB (q .session) (q .rows) r) blocksB
+  pub otherwise : Enough (q .session) (maskA (q .session) (q .rows) r) blocksA → Enough (q .session) (maskB (q .session) (q .rows) r) blocksB
       → Done q r blocksA blocksB ⊎ (collectAnswer (q .session) (q .rows) r blocksA blocksB .refusal ≡ 13)
 
 -- Post q multiplies by the triple at r, whose masks it opened: done, and the third row held.
 abbrev pub Multiplies : Post → ℕ → Type 0
 Multiplies q r =
-    (multiplyAnswer (q .session) (q .rows) r .refusal ≡ 0) × (mark (multiplyAnswer (q .session) (q .rows) r .session) (r + 2) ≡ 2)
+    (multiplyAnswer (q .session) (q .rows) r .refusal ≡ 0) × (mark (multiplyAnswer (q .session) (q .rows) r .session) (r + 2) ≡ held)
 
 -- What is so at a post: of every opening of a held row and both calls of a finish, with records that 5 and 8 let pass; and a polynomial
 -- that is truly its sender's is accepted. P r j xs says that xs is truly j's polynomial of row r, and H half r j xs that xs is
 -- truly that half of j's masks of the triple at r.
 pub record Right (L : Ledger) (P : ℕ → ℕ → List ℕ → Type 0) (H : (List ℕ → List ℕ) → ℕ → ℕ → List ℕ → Type 0) (q : Post) : Type 0 where
-  pub opens : (r : ℕ) (blocks : List ℕ) → mark (q .session) r ≡ 2 → Proper (q .session) blocks → Opens L (P r) q r blocks
+  pub opens : (r : ℕ) (blocks : List ℕ) → mark (q .session) r ≡ held → Proper (q .session) blocks → Opens L (P r) q r blocks
   -- of a held row: the own polynomial always, another's where it is truly its
-  pub accepts-true : (r : ℕ) (blocks : List ℕ) (j : ℕ) → mark (q .session) r ≡ 2 → Proper (q .session) blocks
+  pub accepts-true : (r : ℕ) (blocks : List ℕ) (j : ℕ) → mark (q .session) r ≡ held → Proper (q .session) blocks
       → 1 ≤ j → j ≤ q .session .n
-      → (j ≢ q .session .post → P r j (sent (q .session) (rowAt (width (q .session)) (q .rows) r) blocks j))
-      → accepts (q .session) (rowAt (width (q .session)) (q .rows) r) blocks j ≡ true
-  pub collects : (r : ℕ) (blocksA blocksB : List ℕ) → mark (q .session) r ≡ 5 → Proper (q .session) blocksA
+      → (j ≢ q .session .post → P r j (sent (q .session) (rowIn q r) blocks j))
+      → accepts (q .session) (rowIn q r) blocks j ≡ true
+  pub collects : (r : ℕ) (blocksA blocksB : List ℕ) → mark (q .session) r ≡ masked → Proper (q .session) blocksA
       → Proper (q .session) blocksB
-      → Collects (H (take (q .session .t + 1)) r) (H (drop (q .session .t + 1)) r) q r blocksA blocksB
-  pub multiplies : (r : ℕ) → mark (q .session) r ≡ 7 → Multiplies q r
+      → Collects (H (take (vLength (shapeOf (q .session)))) r) (H (drop (vLength (shapeOf (q .session)))) r) q r blocksA blocksB
+  pub multiplies : (r : ℕ) → mark (q .session) r ≡ collected → Multiplies q r
   -- of a − l, in a collect's first record: the own polynomial always, another's where it is truly the first half of its masks
-  pub accepts-a : (r : ℕ) (blocks : List ℕ) (j : ℕ) → mark (q .session) r ≡ 5 → Proper (q .session) blocks
+  pub accepts-a : (r : ℕ) (blocks : List ℕ) (j : ℕ) → mark (q .session) r ≡ masked → Proper (q .session) blocks
       → 1 ≤ j → j ≤ q .session .n
-      → (j ≢ q .session .post → H (take (q .session .t + 1)) r j (sent (q .session) (maskA (q .session) (q .rows) r) blocks j))
+      → (j ≢ q .session .post → H (take (vLength (shapeOf (q .session)))) r j (sent (q .session) (maskA (q .session) (q .rows) r) blocks j))
       → accepts (q .session) (maskA (q .session) (q .rows) r) blocks j ≡ true
   -- of b − l', in its second record: so with the second half
-  pub accepts-b : (r : ℕ) (blocks : List ℕ) (j : ℕ) → mark (q .session) r ≡ 5 → Proper (q .session) blocks
+  pub accepts-b : (r : ℕ) (blocks : List ℕ) (j : ℕ) → mark (q .session) r ≡ masked → Proper (q .session) blocks
       → 1 ≤ j → j ≤ q .session .n
-      → (j ≢ q .session .post → H (drop (q .session .t + 1)) r j (sent (q .session) (maskB (q .session) (q .rows) r) blocks j))
+      → (j ≢ q .session .post → H (drop (vLength (shapeOf (q .session)))) r j (sent (q .session) (maskB (q .session) (q .rows) r) blocks j))
       → accepts (q .session) (maskB (q .session) (q .rows) r) blocks j ≡ true
 
 -- At every post of S, after any run of all posts. S may be all posts, or those alone whose polynomials count: what the others do
@@ -113,17 +118,17 @@ pub record Right (L : Ledger) (P : ℕ → ℕ → List ℕ → Type 0) (H : (Li
 abbrev pub Correct : Type 1
 Correct =
     (plan : Plan) (draw : Draw) (L : Ledger) (S : ℕ → Type 0) (rows : ℕ → List ℕ) (es : List Event)
-    → Premises plan draw L S es (begin plan draw rows) → (i : ℕ) → 1 ≤ i → i ≤ plan .n → S i
+    → Premises plan draw L S es rows → (i : ℕ) → 1 ≤ i → i ≤ plan .n → S i
     → Right L (TruePolynomial S (history es (begin plan draw rows)))
-    (TrueMask S (history es (begin plan draw rows)) (plan .t)) (history es (begin plan draw rows) .posts i)
+    (TrueMask S (history es (begin plan draw rows)) (planShape plan)) (history es (begin plan draw rows) .posts i)
 
 -- "before it": the answer of an opening that stands in a run, with premises on the calls before it, whatever is done behind it.
 -- (The answer at its place in the list of answers; `none` would be that of a place beyond the list.)
 abbrev pub OpeningsAnswered : Type 1
 OpeningsAnswered =
     (plan : Plan) (draw : Draw) (L : Ledger) (S : ℕ → Type 0) (rows : ℕ → List ℕ) (before behind : List Event) (i r : ℕ) (blocks : List ℕ)
-    (none : Answer) → Premises plan draw L S before (begin plan draw rows) → 1 ≤ i → i ≤ plan .n → S i
-    → mark (history before (begin plan draw rows) .posts i .session) r ≡ 2
+    (none : Answer) → Premises plan draw L S before rows → 1 ≤ i → i ≤ plan .n → S i
+    → mark (history before (begin plan draw rows) .posts i .session) r ≡ held
     → Proper (history before (begin plan draw rows) .posts i .session) blocks
     → Answered L (TruePolynomial S (history before (begin plan draw rows)) r) (history before (begin plan draw rows) .posts i) r blocks
     (getD (answers (before ++ (record { post = i; call = opening r blocks } ∷ behind)) (begin plan draw rows)) (length before) none)

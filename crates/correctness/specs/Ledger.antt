@@ -5,7 +5,7 @@ use mathlib.Core.List.{List, [], _∷_}
 use lib.ListN.{getD}
 use Rattle.field.specs.Modulus.{p}
 use Rattle.field.specs.Arithmetic as Arithmetic
-use Rattle.factory.specs.Packs.{dealerNumber}
+use Rattle.factory.specs.Calls.{dealerNumber}
 use Rattle.runs.specs.Draws.{Draw, rawDraw}
 use Rattle.runs.specs.Outline.{Act, loads, loadsTriple, deals, opens, Summand, once, times, fee, sums, factors, collects, multiplies, takes, Given, moves, Every}
 use Rattle.runs.specs.Calls.{Actual, Call}

@@ -7,23 +7,26 @@ use mathlib.Core.List.{List, [], _∷_, _++_, map}
 use lib.ListN.{length, take, drop}
 use Rattle.field.specs.Modulus.{p}
 use Rattle.poly.specs.Counting.{All}
+use Rattle.shape.specs.Bounds.{rowCount}
+use Rattle.shape.specs.Marks.{empty as emptyMark, held, masked}
+use Rattle.shape.specs.Lengths.{vLength}
 use Rattle.session.specs.declared.Session.{Session}
 use Rattle.session.specs.declared.Answer.{Answer}
-use Rattle.session.specs.Sessions.{mark, factorA, factorB}
-use Rattle.session.specs.Rows.{width, rowAt}
+use Rattle.session.specs.Sessions.{mark, factorA, factorB, shapeOf}
 use Rattle.opening.specs.Walking.{recordLength, badRecord}
 use Rattle.opening.specs.Opening.{openAnswer}
 use Rattle.terms.specs.declared.Term.{Term}
-use Rattle.terms.specs.Listed.{plain, productsOf, collected}
+use Rattle.terms.specs.Listed.{mostTerms, plain, productsOf, collected}
 use Rattle.relation.specs.Tests.{byKind, namedTwice}
 use Rattle.relation.specs.Finish.{recordA, recordB, termMaskA, termMaskB, relationFinishAnswer}
-use Rattle.runs.specs.Draws.{Plan, Draw}
+use Rattle.runs.specs.Draws.{Plan, Draw, planShape}
 use Rattle.runs.specs.Outline.{summand}
 use Rattle.runs.specs.Calls.{Post, relationFinish, Proper}
 use Rattle.correctness.specs.History.{Event, World, doneBy, history, begin}
 use Rattle.correctness.specs.Ledger.{Ledger, summed, product, Plain}
 use Rattle.correctness.specs.Truth.{TruePolynomial, TrueMask, TrueOf}
-use Rattle.correctness.specs.Claim.{Premises, howMany}
+use Rattle.correctness.specs.Claim as Claim
+use Rattle.correctness.specs.Claim.{Premises, TooFew, rowIn}
 
 -- The sum over the terms of coefficient × (a or a × b), where `number` gives each row its number.
 abbrev pub termSum : (ℕ → ℕ) → List Term → ℕ
@@ -65,9 +68,8 @@ pub record Shows (number : ℕ → ℕ) (ts : List Term) (o : Answer) : Type 0 w
 abbrev pub ShownAt : (ℕ → Type 0) → World → ℕ → (ℕ → ℕ) → List Term → ℕ → Type 0
 ShownAt S w r number ts j =
     let q = w .posts j in
-    (blocks : List ℕ) → mark (q .session) r ≡ 2 → Proper (q .session) blocks
-    → q .session .t + 1 ≤ howMany (q .session) (rowAt (width (q .session)) (q .rows) r) blocks
-    → TrueOf (TruePolynomial S w r) (q .session) (rowAt (width (q .session)) (q .rows) r) blocks
+    (blocks : List ℕ) → mark (q .session) r ≡ held → Proper (q .session) blocks
+    → Claim.Enough (q .session) (rowIn q r) blocks → TrueOf (TruePolynomial S w r) (q .session) (rowIn q r) blocks
     → Shows number ts (openAnswer (q .session) (q .rows) r blocks)
 
 -- A finish of the relation, not refused at the post i of S, stands somewhere in a run: the row is held at that post from then on.
@@ -77,9 +79,9 @@ RelationShown =
     (records : List ℕ)
     → (let e : Event = record { post = i; call = relationFinish ts r records } in
     let w = begin plan draw rows in
-    Premises plan draw L S (before ++ (e ∷ behind)) w → 1 ≤ i → i ≤ plan .n → S i → doneBy e (history before w) .answer .refusal ≡ 0
+    Premises plan draw L S (before ++ (e ∷ behind)) rows → 1 ≤ i → i ≤ plan .n → S i → doneBy e (history before w) .answer .refusal ≡ 0
     → RelationIn L r ts
-    × (mark (history (before ++ (e ∷ behind)) w .posts i .session) r ≡ 2)
+    × (mark (history (before ++ (e ∷ behind)) w .posts i .session) r ≡ held)
     × ((number : ℕ → ℕ) → Named L number ts → (j : ℕ) → 1 ≤ j → j ≤ plan .n → S j
     → ShownAt S (history (before ++ (e ∷ behind)) w) r number ts j))
 
@@ -96,7 +98,7 @@ OneAt P k (t ∷ ts) = P k t ⊎ OneAt P (suc k) ts
 
 -- A product term's triple waits with the term's rows; 8 lets both its records pass.
 abbrev pub Waits : Session → Term → Type 0
-Waits s t = (mark s (t .first) ≡ 5) × (factorA s (t .first) ≡ t .row) × (factorB s (t .first) ≡ t .second)
+Waits s t = (mark s (t .first) ≡ masked) × (factorA s (t .first) ≡ t .row) × (factorB s (t .first) ≡ t .second)
 
 abbrev pub LowRecords : Session → List ℕ → ℕ → Term → Type 0
 LowRecords s blocks k t = (badRecord s (recordA s blocks k) ≡ false) × (badRecord s (recordB s blocks k) ≡ false)
@@ -104,11 +106,11 @@ LowRecords s blocks k t = (badRecord s (recordA s blocks k) ≡ false) × (badRe
 -- A relation with one to 32 terms: their rows are held, and their coefficients elements; each product term's triple waits with the
 -- term's rows, and is named once; the sum's row is empty; the records are such that 5 and 8 let them pass.
 pub record Ready (q : Post) (ts : List Term) (r : ℕ) (blocks : List ℕ) : Type 0 where
-  pub count : (1 ≤ length ts) × (length ts ≤ 32)
-  pub terms : All (λ t. (mark (q .session) (t .row) ≡ 2) × (t .coefficient < p)) ts
+  pub count : (1 ≤ length ts) × (length ts ≤ mostTerms)
+  pub terms : All (λ t. (mark (q .session) (t .row) ≡ held) × (t .coefficient < p)) ts
   pub products : All (Waits (q .session)) (productsOf ts)
   pub once : namedTwice (productsOf ts) ≡ false
-  pub empty : (r < 96) × (mark (q .session) r ≡ 0)
+  pub empty : (r < rowCount) × (mark (q .session) r ≡ emptyMark)
   pub long : length blocks ≡ length (productsOf ts) * (2 * recordLength (q .session))
   pub low : EachAt (LowRecords (q .session) blocks) 0 (productsOf ts)
 
@@ -117,18 +119,18 @@ pub record Ready (q : Post) (ts : List Term) (r : ℕ) (blocks : List ℕ) : Typ
 abbrev pub Few : Post → List ℕ → ℕ → Term → Type 0
 Few q blocks k t =
     let s = q .session in
-    (howMany s (termMaskA s (q .rows) t) (recordA s blocks k) ≤ s .t) ⊎ (howMany s (termMaskB s (q .rows) t) (recordB s blocks k) ≤ s .t)
+    TooFew s (termMaskA s (q .rows) t) (recordA s blocks k) ⊎ TooFew s (termMaskB s (q .rows) t) (recordB s blocks k)
 
 abbrev pub Enough : Post → List ℕ → ℕ → Term → Type 0
 Enough q blocks k t =
     let s = q .session in
-    (s .t + 1 ≤ howMany s (termMaskA s (q .rows) t) (recordA s blocks k)) × (s .t + 1 ≤ howMany s (termMaskB s (q .rows) t) (recordB s blocks k))
+    Claim.Enough s (termMaskA s (q .rows) t) (recordA s blocks k) × Claim.Enough s (termMaskB s (q .rows) t) (recordB s blocks k)
 
 abbrev pub AllTrue : ((List ℕ → List ℕ) → ℕ → ℕ → List ℕ → Type 0) → Post → List ℕ → ℕ → Term → Type 0
 AllTrue H q blocks k t =
     let s = q .session in
-    TrueOf (H (take (s .t + 1)) (t .first)) s (termMaskA s (q .rows) t) (recordA s blocks k)
-    × TrueOf (H (drop (s .t + 1)) (t .first)) s (termMaskB s (q .rows) t) (recordB s blocks k)
+    TrueOf (H (take (vLength (shapeOf s))) (t .first)) s (termMaskA s (q .rows) t) (recordA s blocks k)
+    × TrueOf (H (drop (vLength (shapeOf s))) (t .first)) s (termMaskB s (q .rows) t) (recordB s blocks k)
 
 -- 9, where any record has too few; done, where each accepted polynomial of all is true; otherwise done, or 13.
 pub record Related (H : (List ℕ → List ℕ) → ℕ → ℕ → List ℕ → Type 0) (q : Post) (ts : List Term) (blocks : List ℕ) (o : Answer) : Type 0 where
@@ -139,6 +141,6 @@ pub record Related (H : (List ℕ → List ℕ) → ℕ → ℕ → List ℕ →
 abbrev pub RelationsFinish : Type 1
 RelationsFinish =
     (plan : Plan) (draw : Draw) (L : Ledger) (S : ℕ → Type 0) (rows : ℕ → List ℕ) (es : List Event)
-    → Premises plan draw L S es (begin plan draw rows) → (i : ℕ) → 1 ≤ i → i ≤ plan .n → S i → (ts : List Term) (r : ℕ) (blocks : List ℕ)
+    → Premises plan draw L S es rows → (i : ℕ) → 1 ≤ i → i ≤ plan .n → S i → (ts : List Term) (r : ℕ) (blocks : List ℕ)
     → (let w = history es (begin plan draw rows) in let q = w .posts i in
-    Ready q ts r blocks → Related (TrueMask S w (plan .t)) q ts blocks (relationFinishAnswer (q .session) (q .rows) (collected ts) r blocks))
+    Ready q ts r blocks → Related (TrueMask S w (planShape plan)) q ts blocks (relationFinishAnswer (q .session) (q .rows) (collected ts) r blocks))

@@ -1,50 +1,50 @@
 -- What the example and the counterexamples share: three posts, two raw rows and a triple; and how premises are shown by computing.
-use Prim.Native.Nat.{ℕ, zero, suc, _≤_, _<_}
+use Prim.Native.Nat.{ℕ, zero, suc, _-_, _≤_, _<_}
 use mathlib.Core.Path.{_≡_, refl, sym}
 use mathlib.Core.Logic.{_≢_}
 use mathlib.Core.Bool.{true}
 use mathlib.Core.List.{List, [], _∷_, _++_}
 use native.Mathlib.Omega.{arith}
 use borrow.Author.Tests.{eqb-true, ne-eqb}
-use lib.Dec.{eqb, lit<, lit≤}
+use lib.Dec.{lit<, lit≤}
 use lib.ListN.{length, getD, replicate}
 use Rattle.field.specs.Arithmetic as Arithmetic
 use Rattle.poly.specs.Counting.{All, Elements, countFrom}
 use Rattle.poly.specs.Polynomial.{value}
 use Rattle.poly.specs.Interpolation.{nodal, weight, terms, interpolated}
+use Rattle.shape.specs.Bounds.{rowCount, lastRow}
 use Rattle.refusal.specs.Refusal.{outcome}
 use Rattle.refusal.specs.Conditions.{anyBeyond}
-use Rattle.factory.specs.Draw.{eachFrom, part}
-use Rattle.factory.specs.Packs.{dealerRefusal, dealerNumber}
+use Rattle.parts.specs.Draw.{eachFrom, part}
+use Rattle.factory.specs.Calls.{dealerRefusal}
 use Rattle.session.specs.Rows.{combined, plusSums}
 use Rattle.session.specs.Sessions.{created}
-use Rattle.sharing.specs.Load.{loadRowRefusal, loadTripleRefusal, withTriple}
-use Rattle.sharing.specs.Deal.{dealRefusal}
-use Rattle.sharing.specs.Linear.{linearRefusal}
-use Rattle.sharing.specs.Message.{messageRefusal}
-use Rattle.opening.specs.Blocks as Blocks
+use Rattle.load.specs.Load.{loadRowRefusal, loadTripleRefusal, withTriple}
+use Rattle.deal.specs.Deal.{dealRefusal}
+use Rattle.linear.specs.Linear.{linearRefusal}
+use Rattle.message.specs.Message.{messageRefusal}
+use Rattle.blocks.specs.Blocks as Blocks
 use Rattle.agreement.specs.Agreement.{allPairs}
 use Rattle.session.specs.declared.Session.{Session}
+use Rattle.accepting.specs.Accepting as Accepting
 use Rattle.opening.specs.Walking.{sent, accepts}
-use Rattle.opening.specs.Accepting as Accepting
 use Rattle.opening.specs.Opening.{openRefusal}
-use Rattle.product.specs.Masks.{masksRefusal, maskNumbersOf}
-use Rattle.product.specs.Finish.{productRow, withProduct}
-use Rattle.product.specs.Collect.{collectRefusal}
-use Rattle.product.specs.Multiply.{multiplyRefusal}
+use Rattle.product_masks.specs.Masks.{masksRefusal, maskNumbersOf}
+use Rattle.collect.specs.Collect.{collectRefusal}
+use Rattle.multiply.specs.Multiply.{productRow, withProduct, multiplyRefusal}
 use Rattle.terms.specs.Listed.{productsOf, padded}
 use Rattle.relation.specs.Tests.{eachAt, namedIn, namedTwice}
 use Rattle.relation.specs.Masks.{relationMasksRefusal, maskedTerms, termMasks}
 use Rattle.relation.specs.Finish.{recordTests, relationFinishRefusal, withProducts, plusTerms, finishedTerms}
 use Rattle.csv.specs.Fields.{fields}
 use Rattle.decimal.specs.Numeral.{lastDigits, sizeWithin}
-use Rattle.runs.specs.Draws.{Plan, Draw, IsRaw, Sound, IsDraw, rawLength, tripleLength, none, by, pointOf, rawDraw, tripleDraw, rawPack, triplePack}
+use Rattle.runs.specs.Draws.{Draw, IsRaw, Sound, IsDraw, rawLength, tripleLength, pointOf, rawDraw, tripleDraw, rawPack, triplePack}
 use Rattle.runs.specs.Outline.{Taking, nothingTaken, aRowPack, aTriplePack, aNumber, aRecord, twoRecords, takes, Given, Move, moves}
-use Rattle.runs.specs.Calls.{Post, Actual, Call, loadRow, loadTriple, deal, perform, newPost, at}
+use Rattle.runs.specs.Calls.{Post, Actual, perform, newPost, at}
 use Rattle.runs.proofs.Outlines.{all-every}
-use Rattle.runs.proofs.Lines.{elements-of}
-use Rattle.correctness.specs.History.{Event, World, doneBy, turn, history, Each}
-use Rattle.correctness.specs.Ledger.{Ledger, nothing, dealt, sum, product, Written, Plain, of-deal, of-row, of-times, of-fee, of-more, of-product}
+use Rattle.factory.proofs.Laws.{elements-of}
+use Rattle.correctness.specs.History.{Event, World, turn, history, Each}
+use Rattle.correctness.specs.Ledger.{sum, product, Written, Plain, of-deal, of-row, of-times, of-fee, of-more, of-product}
 use Rattle.correctness.specs.Truth.{OwnPart, EnoughTrue, TrueWith, TrueFinish}
 use Rattle.correctness_examples.specs.Station.{plan, drawWith, ledger, Everyone}
 
@@ -59,7 +59,7 @@ pub sound : Sound plan
 unfolding plan
 sound = record { posts = refl; raws = raws; triples = λ r e. let g = eqb-true r 2 e in omega arith }
   where
-    raws : (r : ℕ) → IsRaw (plan .raw r) → r ≤ 95
+    raws : (r : ℕ) → IsRaw (plan .raw r) → r ≤ lastRow
     raws zero h = lit≤ tt
     raws (suc zero) h = lit≤ tt
     raws (suc (suc r)) h = absurd h
@@ -78,16 +78,16 @@ is-draw x many low = record {
   triples = record { count = refl; each = triples };
 }
   where
-    raws : (r : ℕ) → r < 96 → (length (getD (drawWith x .raws) r []) ≡ rawLength plan r) × Elements (getD (drawWith x .raws) r [])
+    raws : (r : ℕ) → r < rowCount → (length (getD (drawWith x .raws) r []) ≡ rawLength plan r) × Elements (getD (drawWith x .raws) r [])
     raws zero h = (refl, elements-of (getD (drawWith x .raws) 0 []) refl)
     raws (suc zero) h = (refl, elements-of (getD (drawWith x .raws) 1 []) refl)
-    raws (suc (suc r)) h = rw (none-there 94 r) (refl, tt)
+    raws (suc (suc r)) h = rw (none-there (rowCount - 2) r) (refl, tt)
 
-    triples : (r : ℕ) → r < 96 → (length (getD (drawWith x .triples) r []) ≡ tripleLength plan r) × Elements (getD (drawWith x .triples) r [])
+    triples : (r : ℕ) → r < rowCount → (length (getD (drawWith x .triples) r []) ≡ tripleLength plan r) × Elements (getD (drawWith x .triples) r [])
     triples zero h = (refl, tt)
     triples (suc zero) h = (refl, tt)
     triples (suc (suc zero)) h = (many, low)
-    triples (suc (suc (suc r))) h = rw (none-there 93 r, ne-eqb (suc (suc (suc r))) 2 (omega arith)) (refl, tt)
+    triples (suc (suc (suc r))) h = rw (none-there (rowCount - 3) r, ne-eqb (suc (suc (suc r))) 2 (omega arith)) (refl, tt)
 
 pub plain-6 : Plain ledger 0 6
 unfolding ledger

@@ -1,17 +1,14 @@
 -- A lie that a later post contradicts is refused with 13, by computing and by the theorem: of the three polynomials accepted two are
 -- true, so that the answer is the plain number or 13.
-use Prim.Native.Nat.{ℕ}
 use mathlib.Core.Path.{_≡_, refl}
 use mathlib.Core.Logic.{_⊎_, inl}
-use mathlib.Core.List.{List, [], _∷_}
 use native.Mathlib.Omega.{arith}
 use lib.Dec.{lit<, lit≤}
-use lib.ListN.{replicate}
 use Rattle.opening.specs.Opening.{openAnswer}
 use Rattle.correctness.specs.Ledger.{Plain}
 use Rattle.correctness.specs.Claim.{Premises}
 use Rattle.correctness.proofs.Theorems.{correct}
-use Rattle.correctness_examples.specs.Station.{plan, drawWith, ledger, Everyone}
+use Rattle.correctness_examples.specs.Station.{plan, drawWith, ledger, Everyone, zeros}
 use Rattle.correctness_examples.specs.Orders.{drawn, draw, new}
 use Rattle.correctness_examples.specs.Contradicted.{dealing, opener, false-low, sent-both, refusalWith, Contradicted}
 use Rattle.correctness_examples.proofs.Computing.{Computes, sound, two-true, each-quiet}
@@ -28,7 +25,7 @@ contradicted = record {
   opens = refl;
 }
 
-premises : Premises plan draw ledger Everyone dealing new
+premises : Premises plan draw ledger Everyone dealing zeros
 unfolding plan dealing ledger
 premises = record {
   sound = sound;
@@ -55,14 +52,14 @@ by-theorem : ((refusalWith false-low ≡ 0) × Plain ledger 0 (openAnswer (opene
     ⊎ (refusalWith false-low ≡ 13)
 unfolding Computes plan drawWith drawn draw dealing
 by-theorem =
-    correct plan draw ledger Everyone (λ i. replicate 768 0) dealing premises 1 (lit≤ tt) (lit≤ tt) tt .opens 0 false-low refl
-    (record { long = refl; low = refl }) .agreed (lit≤ tt)
+    correct plan draw ledger Everyone zeros dealing premises 1 (lit≤ tt) (lit≤ tt) tt .opens 0 false-low refl
+    (record { long = refl; low = refl }) .agreed
     (two-true 1 3 refl (omega arith) (lit≤ tt, lit≤ tt, refl, λ ne. absurd (ne refl)) (lit≤ tt, lit≤ tt, refl, λ ne. (tt, inl (inl refl))))
 
 -- and where all are, it is the plain number
 sent-by-theorem : (refusalWith sent-both ≡ 0) × Plain ledger 0 (openAnswer (opener .session) (opener .rows) 0 sent-both .value)
 unfolding Computes plan drawWith drawn draw dealing
 sent-by-theorem =
-    correct plan draw ledger Everyone (λ i. replicate 768 0) dealing premises 1 (lit≤ tt) (lit≤ tt) tt .opens 0 sent-both refl
+    correct plan draw ledger Everyone zeros dealing premises 1 (lit≤ tt) (lit≤ tt) tt .opens 0 sent-both refl
     (record { long = refl; low = refl }) .exact (lit≤ tt)
     ((λ ne. absurd (ne refl)), ((λ ne. (tt, inl (inl refl))), ((λ ne. (tt, inl (inl refl))), tt)))

@@ -6,23 +6,22 @@ use mathlib.Core.Logic.{inl, inr}
 use mathlib.Core.List.{List, [], _∷_, _++_}
 use native.Mathlib.Omega.{arith}
 use lib.Dec.{lit<, lit≤}
-use lib.ListN.{getD, replicate}
+use lib.ListN.{getD}
 use Rattle.field.specs.Modulus.{p}
 use Rattle.poly.specs.Counting.{All}
-use Rattle.factory.specs.Packs.{dealerNumber}
+use Rattle.factory.specs.Calls.{dealerNumber}
 use Rattle.opening.specs.Walking.{acceptedPosts}
 use Rattle.opening.specs.Opening.{openAnswer}
-use Rattle.product.specs.Finish.{maskA}
-use Rattle.runs.specs.Draws.{Draw, IsDraw, rawDraw}
-use Rattle.runs.specs.Calls.{Post, message, linear, masks, collect, multiply}
-use Rattle.runs.proofs.Lines.{elements-of}
-use Rattle.correctness.specs.History.{Event, World, history, begin, Each}
+use Rattle.collect.specs.Collect.{maskA}
+use Rattle.runs.specs.Draws.{IsDraw, rawDraw}
+use Rattle.factory.proofs.Laws.{elements-of}
+use Rattle.correctness.specs.History.{Event, history, Each}
 use Rattle.correctness.specs.Ledger.{dealt, Written, Plain}
 use Rattle.correctness.specs.Truth.{OwnPart, TrueFinish}
 use Rattle.correctness.specs.Claim.{Premises}
 use Rattle.correctness.proofs.Meanings.{one-number}
 use Rattle.correctness.proofs.Theorems.{correct}
-use Rattle.correctness_examples.specs.Station.{plan, drawWith, ledger, call, load, loadThree, dealOf, room, rooms, nobody, refusals, Everyone}
+use Rattle.correctness_examples.specs.Station.{plan, drawWith, ledger, call, zeros, refusals, Everyone}
 use Rattle.correctness_examples.specs.Orders.{drawn, draw, loads, deals, sums, ends, before, events, new, lie, last, true-record}
 use Rattle.correctness_examples.proofs.Computing.{Computes, sound, is-draw, plain-42, two-true, all-join, each-join, each-of, each-quiet}
 
@@ -91,7 +90,7 @@ true-ends = (
   ),
 )
 
-pub premises : Premises plan draw ledger Everyone events (begin plan draw (λ i. replicate 768 0))
+pub premises : Premises plan draw ledger Everyone events zeros
 unfolding Computes plan drawn draw loads deals sums ends
 premises = record {
   sound = sound;
@@ -117,7 +116,7 @@ opens-42 = refl
 by-theorem : Plain ledger 4 (openAnswer (last .session) (last .rows) 4 true-record .value)
 unfolding Computes plan drawWith drawn draw loads deals sums ends
 by-theorem =
-    correct plan draw ledger Everyone (λ i. replicate 768 0) events premises 1 (lit≤ tt) (lit≤ tt) tt .opens 4 true-record refl
+    correct plan draw ledger Everyone zeros events premises 1 (lit≤ tt) (lit≤ tt) tt .opens 4 true-record refl
     (record { long = refl; low = refl }) .exact (lit≤ tt) ((λ ne. absurd (ne refl)), ((λ ne. (tt, inl (inr (inl refl)))), tt)) .1
 
 is-42 : openAnswer (last .session) (last .rows) 4 true-record .value ≡ 42

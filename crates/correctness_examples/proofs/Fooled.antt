@@ -6,20 +6,19 @@ use mathlib.Core.Logic.{_≢_, inl, inr}
 use mathlib.Core.List.{List, [], _∷_, _++_}
 use native.Mathlib.Omega.{arith}
 use lib.Dec.{lit<, lit≤}
-use lib.ListN.{replicate}
 use Rattle.poly.specs.Counting.{All}
 use Rattle.opening.specs.Walking.{opened}
 use Rattle.opening.specs.Opening.{openAnswer}
-use Rattle.product.specs.Finish.{maskA}
+use Rattle.collect.specs.Collect.{maskA}
 use Rattle.runs.specs.Draws.{Draw}
 use Rattle.runs.specs.Calls.{message, masks, collect, multiply}
-use Rattle.runs.proofs.Lines.{elements-of}
+use Rattle.factory.proofs.Laws.{elements-of}
 use Rattle.correctness.specs.History.{Event, World, history, begin, Each}
 use Rattle.correctness.specs.Ledger.{Written, Plain}
 use Rattle.correctness.specs.Truth.{OwnPart, TruePolynomial, TrueFinish}
 use Rattle.correctness.specs.Claim.{Opens, Right}
 use Rattle.correctness.proofs.Meanings.{one-number}
-use Rattle.correctness_examples.specs.Station.{plan, drawWith, ledger, call, load, loadThree, dealOf, room, rooms, refusals, Everyone, AllBut}
+use Rattle.correctness_examples.specs.Station.{plan, drawWith, ledger, call, load, loadThree, dealOf, zeros, room, rooms, refusals, Everyone, AllBut}
 use Rattle.correctness_examples.proofs.Computing.{Computes, is-draw, plain-42, two-true, Asked, all-join, each-join, each-of, each-quiet}
 use Rattle.correctness_examples.specs.Orders as Example
 use Rattle.correctness_examples.specs.Orders.{last}
@@ -64,7 +63,7 @@ abbrev before : List Event
 before = loads ++ deals
 
 abbrev new : World
-new = begin plan draw (λ i. replicate 768 0)
+new = begin plan draw zeros
 
 abbrev Own : Event → Type 0
 Own e = OwnPart plan draw (e .post) (e .call)

@@ -6,7 +6,6 @@ use mathlib.Core.Logic.{_≢_, inl}
 use mathlib.Core.List.{List, [], _∷_}
 use native.Mathlib.Omega.{arith}
 use lib.Dec.{lit<, lit≤}
-use lib.ListN.{replicate}
 use Rattle.opening.specs.Opening.{openAnswer}
 use Rattle.runs.specs.Calls.{message, loadRow, linear}
 use Rattle.correctness.specs.History.{Event, World, history, begin}
@@ -14,13 +13,13 @@ use Rattle.correctness.specs.Ledger.{Plain}
 use Rattle.correctness.specs.Truth.{TruePolynomial}
 use Rattle.correctness.specs.Claim.{Opens}
 use Rattle.correctness.proofs.Meanings.{one-number}
-use Rattle.correctness_examples.specs.Station.{plan, drawWith, ledger, call, load, dealOf, room, Everyone, AllBut}
+use Rattle.correctness_examples.specs.Station.{plan, drawWith, ledger, call, load, dealOf, zeros, room, Everyone, AllBut}
 use Rattle.correctness_examples.proofs.Computing.{Computes, plain-6, plain-18, Asked, each-quiet}
 use Rattle.correctness_examples.specs.Orders.{drawn, draw}
 use Rattle.correctness_examples.proofs.Example.{draw-is}
 
 abbrev new : World
-new = begin plan draw (λ i. replicate 768 0)
+new = begin plan draw zeros
 
 -- another number than the plain one
 not-it : (r x y z : ℕ) → x ≡ y → y ≢ z → Plain ledger r z → Plain ledger r x → ⊥

@@ -5,16 +5,15 @@ use mathlib.Core.Path.{_≡_, refl}
 use mathlib.Core.Logic.{inl, inr}
 use mathlib.Core.List.{List, [], _∷_, _++_}
 use lib.Dec.{lit≤}
-use lib.ListN.{replicate}
 use Rattle.opening.specs.Opening.{openAnswer}
 use Rattle.runs.specs.Calls.{Post, message, linear}
-use Rattle.correctness.specs.History.{Event, history, begin}
+use Rattle.correctness.specs.History.{Event, history}
 use Rattle.correctness.specs.Ledger.{Written, Plain, of-deal, of-row, of-times, of-fee, of-more}
 use Rattle.correctness.specs.Truth.{OwnPart, TrueFinish}
 use Rattle.correctness.specs.Claim.{Premises}
 use Rattle.correctness.proofs.Meanings.{one-number}
 use Rattle.correctness.proofs.Theorems.{correct}
-use Rattle.correctness_examples.specs.Station.{plan, drawWith, ledger, call, room, Everyone}
+use Rattle.correctness_examples.specs.Station.{plan, drawWith, ledger, call, zeros, room, Everyone}
 use Rattle.correctness_examples.proofs.Computing.{Computes, plain-42, each-join, each-of, each-quiet}
 use Rattle.correctness_examples.specs.Orders.{drawn, draw, loads, deals, sums, ends, events, new}
 use Rattle.correctness_examples.proofs.Example.{premises}
@@ -25,7 +24,7 @@ more =
     call 2 (linear 6 0 4 2 0) ∷ call 1 (linear 6 0 4 2 0) ∷ call 2 (message 6 room)
     ∷ call 1 (linear 8 4 4 0 8) ∷ call 2 (linear 8 4 4 0 8) ∷ call 2 (message 8 room) ∷ []
 
-longer : Premises plan draw ledger Everyone (events ++ more) (begin plan draw (λ i. replicate 768 0))
+longer : Premises plan draw ledger Everyone (events ++ more) zeros
 unfolding plan more ledger
 longer = record {
   sound = premises .sound;
@@ -54,7 +53,7 @@ number r blocks = openAnswer (last .session) (last .rows) r blocks .value
 by-theorem : Plain ledger 6 (number 6 (heard 79 39))
 unfolding Computes plan drawWith drawn draw loads deals sums ends more
 by-theorem =
-    correct plan draw ledger Everyone (λ i. replicate 768 0) (events ++ more) longer 1 (lit≤ tt) (lit≤ tt) tt .opens 6 (heard 79 39) refl
+    correct plan draw ledger Everyone zeros (events ++ more) longer 1 (lit≤ tt) (lit≤ tt) tt .opens 6 (heard 79 39) refl
     (record { long = refl; low = refl }) .exact (lit≤ tt) ((λ ne. absurd (ne refl)), ((λ ne. (tt, inl (inr (inr (inl refl))))), tt)) .1
 
 -- 6 + 2 · 42, by the ledger alone
@@ -69,7 +68,7 @@ is-90 = one-number ledger 6 _ 90 by-theorem plain-90
 charged : Plain ledger 8 (number 8 (heard 38 19))
 unfolding Computes plan drawWith drawn draw loads deals sums ends more
 charged =
-    correct plan draw ledger Everyone (λ i. replicate 768 0) (events ++ more) longer 1 (lit≤ tt) (lit≤ tt) tt .opens 8 (heard 38 19) refl
+    correct plan draw ledger Everyone zeros (events ++ more) longer 1 (lit≤ tt) (lit≤ tt) tt .opens 8 (heard 38 19) refl
     (record { long = refl; low = refl }) .exact (lit≤ tt) ((λ ne. absurd (ne refl)), ((λ ne. (tt, inl (inr (inr (inr (inl refl)))))), tt)) .1
 
 plain-50 : Plain ledger 8 50

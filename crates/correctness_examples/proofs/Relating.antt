@@ -6,20 +6,20 @@ use mathlib.Core.Logic.{_≢_, inl, inr}
 use mathlib.Core.List.{List, [], _∷_, _++_, append-assoc}
 use native.Mathlib.Omega.{arith}
 use lib.Dec.{lit<, lit≤}
-use lib.ListN.{getD, replicate}
+use lib.ListN.{getD}
 use Rattle.field.specs.Modulus.{p}
 use Rattle.poly.specs.Counting.{All}
-use Rattle.factory.specs.Packs.{dealerNumber}
+use Rattle.factory.specs.Calls.{dealerNumber}
 use Rattle.opening.specs.Opening.{openAnswer}
 use Rattle.runs.specs.Draws.{rawDraw}
-use Rattle.runs.proofs.Lines.{elements-of}
-use Rattle.correctness.specs.History.{Event, World, history, begin, Each}
+use Rattle.factory.proofs.Laws.{elements-of}
+use Rattle.correctness.specs.History.{Event, World, history, Each}
 use Rattle.correctness.specs.Ledger.{dealt, Written, Plain, of-deal, of-row, of-times, of-fee, of-more, of-product}
 use Rattle.correctness.specs.Truth.{OwnPart, TrueFinish}
 use Rattle.correctness.specs.Claim.{Premises}
 use Rattle.correctness.specs.Relation.{Named, Shows}
 use Rattle.correctness.proofs.Relation.{relation-shown}
-use Rattle.correctness_examples.specs.Station.{plan, drawWith, refusals, Everyone}
+use Rattle.correctness_examples.specs.Station.{plan, drawWith, refusals, Everyone, zeros}
 use Rattle.correctness_examples.specs.Orders.{drawn, draw}
 use Rattle.correctness_examples.specs.Fees.{fair, unfair, fees, starts, sends, early, closing, wrong, late, later, before, events, new, last, told, numbers}
 use Rattle.correctness_examples.proofs.Computing.{Computes, sound, two-true, all-join, each-join, each-of, each-quiet}
@@ -111,7 +111,7 @@ true-ends = (
   ),
 )
 
-pub premises : Premises plan draw fees Everyone events (begin plan draw (λ i. replicate 768 0))
+pub premises : Premises plan draw fees Everyone events zeros
 unfolding Computes plan drawn draw starts sends early late later
 premises = record {
   sound = sound;
@@ -143,7 +143,7 @@ named = ((of-deal, λ e. of-deal), ((plain-5, absent), tt))
 by-theorem : Shows numbers fair (openAnswer (last .session) (last .rows) 7 told)
 unfolding Computes plan drawWith drawn draw starts sends early late later
 by-theorem =
-    relation-shown plan draw fees Everyone (λ i. replicate 768 0) before (late ++ (wrong ∷ later)) 1 7 fair _ premises (lit≤ tt) (lit≤ tt) tt refl .2
+    relation-shown plan draw fees Everyone zeros before (late ++ (wrong ∷ later)) 1 7 fair _ premises (lit≤ tt) (lit≤ tt) tt refl .2
     numbers named 1 (lit≤ tt) (lit≤ tt) tt told refl (record { long = refl; low = refl }) (lit≤ tt)
     ((λ ne. absurd (ne refl)), ((λ ne. (tt, inl (inr (inl refl)))), tt))
 
@@ -166,8 +166,8 @@ apart = append-assoc before (closing ∷ late) (wrong ∷ later)
 by-theorem' : (let q = history (first-part ++ (wrong ∷ later)) new .posts 1 in Shows numbers unfair (openAnswer (q .session) (q .rows) 8 told))
 unfolding Computes plan drawWith drawn draw starts sends early late later
 by-theorem' =
-    relation-shown plan draw fees Everyone (λ i. replicate 768 0) first-part later 1 8 unfair []
-    (subst (λ (es : List Event). Premises plan draw fees Everyone es new) (sym apart) premises) (lit≤ tt) (lit≤ tt) tt refl .2
+    relation-shown plan draw fees Everyone zeros first-part later 1 8 unfair []
+    (subst (λ (es : List Event). Premises plan draw fees Everyone es zeros) (sym apart) premises) (lit≤ tt) (lit≤ tt) tt refl .2
     numbers named' 1 (lit≤ tt) (lit≤ tt) tt told refl (record { long = refl; low = refl }) (lit≤ tt)
     ((λ ne. absurd (ne refl)), ((λ ne. (tt, inl (inr (inr (inl refl))))), tt))
 

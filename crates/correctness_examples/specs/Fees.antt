@@ -2,13 +2,13 @@
 -- Rides are 6 and the rate is 7; one fee is 42, another 43.
 use Prim.Native.Nat.{ℕ}
 use mathlib.Core.List.{List, [], _∷_, _++_}
-use lib.ListN.{getD, replicate}
+use lib.ListN.{getD}
 use Rattle.terms.specs.declared.Term.{Term}
 use Rattle.runs.specs.Outline.{times}
 use Rattle.runs.specs.Calls.{Post, message, linear, relationMasks, relationFinish}
 use Rattle.correctness.specs.History.{Event, World, history, begin}
 use Rattle.correctness.specs.Ledger.{Ledger, nothing, dealt, sum, summed, product}
-use Rattle.correctness_examples.specs.Station.{plan, call, load, loadThree, dealOf, room, rooms, nobody}
+use Rattle.correctness_examples.specs.Station.{plan, call, load, loadThree, dealOf, zeros, room, rooms, nobody}
 use Rattle.correctness_examples.specs.Orders.{draw}
 
 abbrev plainTerm : ℕ → ℕ → Term
@@ -69,7 +69,7 @@ abbrev pub events : List Event
 events = before ++ (closing ∷ (late ++ (wrong ∷ later)))
 
 abbrev pub new : World
-new = begin plan draw (λ i. replicate 768 0)
+new = begin plan draw zeros
 
 abbrev pub last : Post
 last = history events new .posts 1

@@ -1,10 +1,12 @@
 -- The station of demand 2's examples: three posts, two raw rows and a triple; its ledger, and events written short.
-use Prim.Native.Nat.{ℕ, zero, suc}
+use Prim.Native.Nat.{ℕ, zero, suc, _-_}
 use mathlib.Core.Logic.{_≢_}
 use mathlib.Core.List.{List, [], _∷_}
 use lib.Dec.{eqb}
 use lib.ListN.{getD, replicate}
-use Rattle.factory.specs.Packs.{dealerNumber}
+use Rattle.shape.specs.Bounds.{rowCount}
+use Rattle.shape.specs.Lengths.{shape, rowsLength}
+use Rattle.factory.specs.Calls.{dealerNumber}
 use Rattle.runs.specs.Draws.{Plan, Draw, none, by, rawDraw, rawPack, triplePack}
 use Rattle.runs.specs.Calls.{Call, loadRow, loadTriple, deal}
 use Rattle.correctness.specs.History.{Event, World, doneBy, turn}
@@ -23,8 +25,8 @@ plan = record {
 unfoldable pub drawWith : List ℕ → Draw
 drawWith x = record {
   points = 2 ∷ 3 ∷ 5 ∷ [];
-  raws = (7 ∷ 4 ∷ 1 ∷ 2 ∷ 3 ∷ 1 ∷ 5 ∷ 6 ∷ []) ∷ (3 ∷ 5 ∷ 2 ∷ 1 ∷ 1 ∷ 1 ∷ 4 ∷ 2 ∷ []) ∷ replicate 94 [];
-  triples = [] ∷ [] ∷ x ∷ replicate 93 [];
+  raws = (7 ∷ 4 ∷ 1 ∷ 2 ∷ 3 ∷ 1 ∷ 5 ∷ 6 ∷ []) ∷ (3 ∷ 5 ∷ 2 ∷ 1 ∷ 1 ∷ 1 ∷ 4 ∷ 2 ∷ []) ∷ replicate (rowCount - 2) [];
+  triples = [] ∷ [] ∷ x ∷ replicate (rowCount - 3) [];
 }
 
 -- row 0 is 6, row 1 is 7, row 4 their product by the triple at 2, row 5 is 6 + 2 · 7, row 6 is 6 + 2 · (6 · 7), row 7 is 6 + 2 · 6,
@@ -45,6 +47,10 @@ loadThree draw i = call i (loadTriple 2 (triplePack plan draw i 2))
 
 abbrev pub dealOf : Draw → ℕ → ℕ → ℕ → Event
 dealOf draw i r u = call i (deal r (dealerNumber u (getD (rawDraw draw r) 0 0) .value))
+
+-- the rows that each post begins with
+abbrev pub zeros : ℕ → List ℕ
+zeros i = replicate (rowsLength (shape 3 1)) 0
 
 -- room for an opening message and for masks, and a record without blocks
 abbrev pub room : List ℕ

@@ -5,10 +5,9 @@ use mathlib.Core.List.{List, [], _∷_, _++_, append-assoc, append-nil}
 use mathlib.Core.Bool.{Bool, true, false, _&&_, cond}
 use native.Mathlib.Omega.{arith}
 use native.Mathlib.Numerals.{add-one}
-use borrow.Author.Fill.{fill-more}
 use borrow.Author.Tests.{eqb-true, eq-eqb, ne-eqb}
-use lib.ListN.{length, getD, set, take, drop, replicate, length-set, List·getD-eq-default}
-use lib.Seq.{take-suc-set, take-all, drop-length}
+use lib.ListN.{length, getD, set, take, length-set, List·getD-eq-default}
+use lib.Seq.{take-suc-set, take-all}
 use lib.Dec.{eqb, ltb}
 use Rattle.decimal.specs.declared.Field.{Field}
 use Rattle.decimal.specs.declared.Field.the-variants.{Number, Wrong}
@@ -210,11 +209,3 @@ module _ (s ys : List ℕ) (from-at : ℕ) where
             rest = taken-rest;
             says = taken-says;
           }
-
--- ---- zeros in every place
-module _ (d out : List ℕ) (i : ℕ) (e : out ≡ replicate i 0 ++ drop i d) where
-  pub cleared-more : i < length d → set out i 0 ≡ replicate (i + 1) 0 ++ drop (i + 1) d
-  cleared-more h = rw e (fill-more i 0 d h)
-
-  pub cleared-end : i ≤ length d → length d ≤ i → out ≡ replicate (length d) 0
-  cleared-end a b = let n : i ≡ length d = omega arith in e ∙ rw (n, drop-length d) (append-nil (replicate (length d) 0))

@@ -3,7 +3,7 @@ ghost use mathlib.Core.Path.{_≡_};
 ghost use mathlib.Core.Bool.{cond};
 ghost use mathlib.Core.List.{_++_};
 ghost use Prim.Native.Nat.{_+_, _≤_, _<_};
-ghost use lib.ListN.{length, replicate};
+ghost use lib.ListN.{length};
 ghost use lib.Dec.{ltb};
 ghost use Rattle.csv.specs.Fields.{field, fields, written, overwrite, fieldsAt, ended, runOf, numbersOf, Fillable, padded};
 ghost use Rattle.csv.specs.Walk.{commaField, readAt, stepFrom, counted, settled, numberIn};
@@ -238,20 +238,11 @@ pub fn fill(line: &[u8], at: usize, out: &mut [u32])
     }
 }
 
-// 0 in every place.
-pub fn clear(out: &mut [u32])
-    ensures { λ r. ⌜ now (out .exit) ≡ replicate (length (now (out .entry))) 0 ⌝ }
-{
-    for i in 0..out.len() {
-        out[i] = 0;
-    }
-}
-
 // The numbers of `count` fields from a position at the start of a list, and 0 in the places behind.
 pub fn fill_front(line: &[u8], at: usize, count: usize, out: &mut [u32])
     requires { ⌜ (count ≤ length (now out)) × Fillable (fieldsAt count (now line) at) ⌝ }
     ensures { λ r. ⌜ now (out .exit) ≡ padded (length (now (out .entry))) (numbersOf (fieldsAt count (now (line .entry)) at)) ⌝ }
 {
     fill(line, at, &mut out[..count]);
-    clear(&mut out[count..]);
+    lists::clear(&mut out[count..]);
 }

@@ -43,9 +43,13 @@ unfoldable pub valueAfter : ℕ → List ℕ → ℕ
 valueAfter a [] = a
 valueAfter a (d ∷ ds) = valueAfter (a * 10 + (d - 48)) ds
 
+-- "1 to 10 digits".
+abbrev pub mostDigits : ℕ
+mostDigits = 10
+
 -- k digits of which b is the first have the form of a number.
 abbrev pub wellFormed : ℕ → ℕ → Bool
-wellFormed k b = leb 1 k && (leb k 10 && (eqb k 1 || not (eqb b 48)))
+wellFormed k b = leb 1 k && (leb k mostDigits && (eqb k 1 || not (eqb b 48)))
 
 -- The number that s begins with, where s is what a line has from position `at` on.
 unfoldable pub fieldOf : List ℕ → ℕ → Field

@@ -1,8 +1,11 @@
 // Decimal numbers: written digit by digit into a part of bytes, and read at a position of a line.
 ghost use mathlib.Core.Path.{_≡_};
-ghost use Prim.Native.Nat.{_+_, _≤_};
-ghost use lib.ListN.{length, take, drop};
-ghost use Rattle.decimal.specs.Numeral.{size, lastDigits, leading, valueAfter, fieldAt};
+ghost use lib.ListN.{length};
+ghost use Rattle.decimal.specs.Numeral.{size, lastDigits, fieldAt};
+ghost use Rattle.decimal.specs.Between.{WalkEnd, DigitsAt};
+
+// "1 to 10 digits".
+const MOST_DIGITS: usize = 10;
 
 // What stands at a position: a number and the position behind it, or none.
 pub enum Field {
@@ -42,50 +45,59 @@ fn wide(b: u8) -> u64
     b as u64
 }
 
-// How far the digits from a position reach.
-fn digits_end(line: &[u8], at: usize) -> usize
-    ensures { λ r. ⌜ r ≡ at + leading (drop at (now (line .entry))) ⌝ }
-{
-    let mut i = at;
-    while i < line.len() {
-        if line[i] < 48 {
-            return i;
-        }
-        if 57 < line[i] {
-            return i;
-        }
-        i += 1;
-    }
-    i
+// Digits from a position on: what they say, and the position behind them.
+struct Span {
+    value: u64,
+    end: usize,
 }
 
-// What the digits from a position say.
-fn value_of(line: &[u8], at: usize, end: usize) -> u64
-    requires { ⌜ (end ≡ at + leading (drop at (now line))) × (leading (drop at (now line)) ≤ 10) ⌝ }
-    ensures { λ r. ⌜ r ≡ valueAfter 0 (take (leading (drop at (now (line .entry)))) (drop at (now (line .entry)))) ⌝ }
+// Where a walk over digits ends: one digit more than a number has is enough to tell.
+fn walk_end(len: usize, at: usize) -> usize
+    ensures { λ r. ⌜ WalkEnd len at r ⌝ }
 {
+    if len <= at {
+        return at;
+    }
+    if len - at <= MOST_DIGITS {
+        return len;
+    }
+    at + MOST_DIGITS + 1
+}
+
+// The digits from a position, in one walk.
+fn digits_at(line: &[u8], at: usize) -> Span
+    ensures { λ r. ⌜ DigitsAt (now (line .entry)) at (r .value) (r .end) ⌝ }
+{
+    let end = walk_end(line.len(), at);
     let mut sum: u64 = 0;
     let mut i = at;
     while i < end {
+        if line[i] < 48 {
+            return Span { value: sum, end: i };
+        }
+        if 57 < line[i] {
+            return Span { value: sum, end: i };
+        }
         sum = sum * 10 + wide(line[i] - 48);
         i += 1;
     }
-    sum
+    Span { value: sum, end: i }
 }
 
 // The number at a position.
 pub fn field_at(line: &[u8], at: usize) -> Field
     ensures { λ r. ⌜ r ≡ fieldAt (now (line .entry)) at ⌝ }
 {
-    let end = digits_end(line, at);
+    let digits = digits_at(line, at);
+    let end = digits.end;
     let k = end - at;
     if k < 1 {
         return Field::Wrong; // no digit
     }
-    if 10 < k {
+    if MOST_DIGITS < k {
         return Field::Wrong; // too many digits
     }
-    let value = value_of(line, at, end);
+    let value = digits.value;
     if k == 1 {
         return Field::Number { value, next: end };
     }

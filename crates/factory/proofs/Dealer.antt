@@ -12,7 +12,7 @@ use Rattle.refusal.proofs.Laws.{all-fail}
 use Rattle.refusal.proofs.Elements.{below-p}
 use Rattle.refusal.proofs.Groups.{stopped, went-on}
 use Rattle.refusal.proofs.Endings.{refused, accepted}
-use Rattle.factory.specs.Packs.{dealerRefusal, dealerNumber}
+use Rattle.factory.specs.Calls.{dealerRefusal, dealerNumber}
 use Rattle.factory.specs.declared.Number.{Number}
 
 abbrev number : ℕ → ℕ → Number

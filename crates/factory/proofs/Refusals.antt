@@ -16,8 +16,8 @@ use Rattle.refusal.specs.Conditions.{wrongLength, badPoint, anyBeyond, postsTes
 use Rattle.refusal.proofs.Laws.{all-fail, equal}
 use Rattle.refusal.proofs.Groups.{first-chain, stopped, went-on, fail-parts}
 use Rattle.refusal.proofs.Ranges.{posts-valid}
-use Rattle.factory.specs.Packs.{anyBadPoint, factoryTests, factoryRowRefusal, factoryTripleRefusal, listsTests}
-use Rattle.factory.specs.Writers.{Fine}
+use Rattle.factory.specs.Calls.{anyBadPoint, factoryTests, factoryRowRefusal, factoryTripleRefusal, listsTests}
+use Rattle.packs.specs.Between.{Fine}
 
 -- one turn of the search: the answer for the rest of the points is the answer for all
 module _ (l : List ℕ) (i : ℕ) (b : Bool) where

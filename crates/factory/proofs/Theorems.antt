@@ -9,7 +9,8 @@ use Rattle.shape.specs.Lengths.{shape}
 use Rattle.refusal.specs.Refusal.{first}
 use Rattle.refusal.proofs.Decided.{keeps}
 use Rattle.factory.specs.declared.Number.{Number}
-use Rattle.factory.specs.Packs.{packs, triplePacks, factoryRowRefusal, factoryRowOut, factoryTripleRefusal, factoryTripleOut, dealerRefusal}
+use Rattle.packs.specs.Packs.{packs, triplePacks}
+use Rattle.factory.specs.Calls.{factoryRowRefusal, factoryRowOut, factoryTripleRefusal, factoryTripleOut, dealerRefusal}
 use Rattle.factory.specs.Table.{rowTable, tripleTable, dealerTable}
 use Rattle.factory.specs.Claims.{FactoryLawful}
 

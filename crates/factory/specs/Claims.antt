@@ -6,7 +6,8 @@ use Rattle.field.specs.Arithmetic.{difference}
 use Rattle.shape.specs.Lengths.{shape}
 use Rattle.refusal.specs.Refusal.{first, Keeps}
 use Rattle.factory.specs.declared.Number.{Number}
-use Rattle.factory.specs.Packs.{packs, triplePacks, factoryRowRefusal, factoryRowOut, factoryTripleRefusal, factoryTripleOut, dealerNumber}
+use Rattle.packs.specs.Packs.{packs, triplePacks}
+use Rattle.factory.specs.Calls.{factoryRowRefusal, factoryRowOut, factoryTripleRefusal, factoryTripleOut, dealerNumber}
 use Rattle.factory.specs.Table.{rowTable, tripleTable, dealerTable}
 
 -- The answers' refusals, and the lent list: the packs, or as it came.

@@ -1,5 +1,3 @@
-pub mod Draw
-pub mod Packs
-pub mod Writers
+pub mod Calls
 pub mod Table
 pub mod Claims

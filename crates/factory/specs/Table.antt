@@ -6,7 +6,7 @@ use mathlib.Core.List.{List, [], _∷_}
 use Rattle.shape.specs.Lengths.{shape, drawLength, tripleDrawLength, packsLength}
 use Rattle.refusal.specs.Refusal.{Test, _when_}
 use Rattle.refusal.specs.Conditions.{outside, wrongLength, beyond, anyBeyond}
-use Rattle.factory.specs.Packs.{anyBadPoint, factoryRowTests, factoryTripleTests, dealerTests}
+use Rattle.factory.specs.Calls.{anyBadPoint, factoryRowTests, factoryTripleTests, dealerTests}
 
 abbrev pub rowTable : ℕ → ℕ → List ℕ → List ℕ → List ℕ → List Test
 rowTable n t points draw out =

@@ -3,7 +3,7 @@ use shape::Shape;
 ghost use mathlib.Core.Path.{_≡_};
 ghost use mathlib.Core.List.{[], _∷_};
 ghost use Rattle.refusal.specs.Refusal.{first, _when_};
-ghost use Rattle.factory.specs.Packs.{anyBadPoint, factoryRowRefusal, factoryTripleRefusal, listsTests};
+ghost use Rattle.factory.specs.Calls.{anyBadPoint, factoryRowRefusal, factoryTripleRefusal, listsTests};
 
 // 4, of every check point.
 pub fn check_points(points: &[u32]) -> u8

@@ -1,10 +1,8 @@
 // The factory: the posts' parts of a drawn row, and of a drawn triple.
 ghost use mathlib.Core.Path.{_≡_};
-ghost use Rattle.factory.specs.Packs.{factoryRowRefusal, factoryRowOut, factoryTripleRefusal, factoryTripleOut, dealerNumber};
+ghost use Rattle.factory.specs.Calls.{factoryRowRefusal, factoryRowOut, factoryTripleRefusal, factoryTripleOut, dealerNumber};
 
 pub mod checks;
-pub mod packs;
-mod part;
 
 use shape::Shape;
 

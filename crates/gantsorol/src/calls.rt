@@ -3,14 +3,14 @@ use session::Answer;
 use session::Session;
 ghost use mathlib.Core.Path.{_≡_};
 ghost use Rattle.session.specs.Sessions.{created};
-ghost use Rattle.sharing.specs.Load.{loadRowAnswer, loadRowRows, loadTripleAnswer, loadTripleRows};
-ghost use Rattle.sharing.specs.Deal.{dealAnswer, dealRows};
-ghost use Rattle.sharing.specs.Message.{messageAnswer, messageOut};
-ghost use Rattle.sharing.specs.Linear.{linearAnswer, linearRows};
+ghost use Rattle.load.specs.Load.{loadRowAnswer, loadRowRows, loadTripleAnswer, loadTripleRows};
+ghost use Rattle.deal.specs.Deal.{dealAnswer, dealRows};
+ghost use Rattle.message.specs.Message.{messageAnswer, messageOut};
+ghost use Rattle.linear.specs.Linear.{linearAnswer, linearRows};
 ghost use Rattle.opening.specs.Opening.{openAnswer};
-ghost use Rattle.product.specs.Masks.{masksAnswer, masksOut};
-ghost use Rattle.product.specs.Collect.{collectAnswer};
-ghost use Rattle.product.specs.Multiply.{multiplyAnswer, multiplyRows};
+ghost use Rattle.product_masks.specs.Masks.{masksAnswer, masksOut};
+ghost use Rattle.collect.specs.Collect.{collectAnswer};
+ghost use Rattle.multiply.specs.Multiply.{multiplyAnswer, multiplyRows};
 
 #[no_mangle]
 pub extern "C" fn gantsorol_new(n: usize, t: usize, post: usize, point: u32) -> Answer
@@ -29,7 +29,7 @@ pub extern "C" fn gantsorol_load_row(
     ensures { λ r. ⌜ r ≡ loadRowAnswer session (now (rows .entry)) row (now (pack .entry)) ⌝ }
     ensures { λ r. ⌜ now (rows .exit) ≡ loadRowRows session (now (rows .entry)) row (now (pack .entry)) ⌝ }
 {
-    sharing::load::load_row(session, rows, row, pack)
+    load::load_row(session, rows, row, pack)
 }
 
 #[no_mangle]
@@ -42,7 +42,7 @@ pub extern "C" fn gantsorol_load_triple(
     ensures { λ r. ⌜ r ≡ loadTripleAnswer session (now (rows .entry)) first (now (pack .entry)) ⌝ }
     ensures { λ r. ⌜ now (rows .exit) ≡ loadTripleRows session (now (rows .entry)) first (now (pack .entry)) ⌝ }
 {
-    sharing::load::load_triple(session, rows, first, pack)
+    load::load_triple(session, rows, first, pack)
 }
 
 #[no_mangle]
@@ -50,7 +50,7 @@ pub extern "C" fn gantsorol_deal(session: Session, rows: &mut [u32], row: usize,
     ensures { λ r. ⌜ r ≡ dealAnswer session (now (rows .entry)) row c ⌝ }
     ensures { λ r. ⌜ now (rows .exit) ≡ dealRows session (now (rows .entry)) row c ⌝ }
 {
-    sharing::deal::deal(session, rows, row, c)
+    deal::deal(session, rows, row, c)
 }
 
 #[no_mangle]
@@ -63,7 +63,7 @@ pub extern "C" fn gantsorol_opening_message(
     ensures { λ r. ⌜ r ≡ messageAnswer session (now (rows .entry)) row (now (out .entry)) ⌝ }
     ensures { λ r. ⌜ now (out .exit) ≡ messageOut session (now (rows .entry)) row (now (out .entry)) ⌝ }
 {
-    sharing::message::opening_message(session, rows, row, out)
+    message::opening_message(session, rows, row, out)
 }
 
 #[no_mangle]
@@ -91,7 +91,7 @@ pub extern "C" fn gantsorol_linear(
     ensures { λ r. ⌜ r ≡ linearAnswer session (now (rows .entry)) dest a b scale fee ⌝ }
     ensures { λ r. ⌜ now (rows .exit) ≡ linearRows session (now (rows .entry)) dest a b scale fee ⌝ }
 {
-    sharing::linear::linear(session, rows, dest, a, b, scale, fee)
+    linear::linear(session, rows, dest, a, b, scale, fee)
 }
 
 #[no_mangle]
@@ -106,7 +106,7 @@ pub extern "C" fn gantsorol_masks(
     ensures { λ r. ⌜ r ≡ masksAnswer session (now (rows .entry)) a b first (now (out .entry)) ⌝ }
     ensures { λ r. ⌜ now (out .exit) ≡ masksOut session (now (rows .entry)) a b first (now (out .entry)) ⌝ }
 {
-    product::masks::masks(session, rows, a, b, first, out)
+    product_masks::masks(session, rows, a, b, first, out)
 }
 
 #[no_mangle]
@@ -119,7 +119,7 @@ pub extern "C" fn gantsorol_collect(
 ) -> Answer
     ensures { λ r. ⌜ r ≡ collectAnswer session (now (rows .entry)) first (now («record_a» .entry)) (now («record_b» .entry)) ⌝ }
 {
-    product::collect::collect(session, rows, first, record_a, record_b)
+    collect::collect(session, rows, first, record_a, record_b)
 }
 
 #[no_mangle]
@@ -127,5 +127,5 @@ pub extern "C" fn gantsorol_multiply(session: Session, rows: &mut [u32], first: 
     ensures { λ r. ⌜ r ≡ multiplyAnswer session (now (rows .entry)) first ⌝ }
     ensures { λ r. ⌜ now (rows .exit) ≡ multiplyRows session (now (rows .entry)) first ⌝ }
 {
-    product::multiply::multiply(session, rows, first)
+    multiply::multiply(session, rows, first)
 }

@@ -3,9 +3,9 @@ use factory::Number;
 use lines::Written;
 ghost use mathlib.Core.Path.{_≡_};
 ghost use lib.ListN.{length};
-ghost use Rattle.factory.specs.Packs.{factoryRowRefusal, factoryRowOut, factoryTripleRefusal, factoryTripleOut, dealerNumber};
+ghost use Rattle.factory.specs.Calls.{factoryRowRefusal, factoryRowOut, factoryTripleRefusal, factoryTripleOut, dealerNumber};
 ghost use Rattle.lines.specs.Writing.{writtenAs, partAs};
-ghost use Rattle.packfile.specs.File.{file};
+ghost use Rattle.packlines.specs.File.{file};
 ghost use Rattle.packfile.specs.Writing.{postAt, packRefusal};
 
 #[no_mangle]

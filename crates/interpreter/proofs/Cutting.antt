@@ -9,10 +9,10 @@ use lib.ListN.{length, take}
 use lib.Seq.{take-all, length-take-le, getD-take}
 use lib.Dec.{ltb}
 use Rattle.reading.specs.Starting.{isStart}
-use Rattle.interpreter.specs.declared.State.{State}
-use Rattle.interpreter.specs.declared.Stepped.{Stepped}
-use Rattle.interpreter.specs.States.{refusing, leaving}
-use Rattle.interpreter.specs.Starting.{longestLine, startStep, earlyStep}
+use Rattle.states.specs.declared.State.{State}
+use Rattle.states.specs.declared.Stepped.{Stepped}
+use Rattle.states.specs.States.{refusing, leaving}
+use Rattle.startlines.specs.Steps.{longestLine, startStep, earlyStep}
 use Rattle.interpreter.specs.Stepping.{lateStep, step}
 
 module _ (st : State) (store s : List ℕ) where

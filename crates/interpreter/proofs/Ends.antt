@@ -8,14 +8,17 @@ use borrow.Author.Tests.{lt-ltb, le-ltb, ne-eqb}
 use lib.ListN.{length, getD, List·getD-eq-default}
 use Rattle.session.specs.Sessions.{shapeOf}
 use Rattle.store.specs.Sizes.{storeRoom, InStreet}
-use Rattle.interpreter.specs.declared.State.{State}
-use Rattle.interpreter.specs.declared.Stepped.{Stepped}
-use Rattle.interpreter.specs.States.{After, refusing, leaving, after}
-use Rattle.interpreter.specs.Starting.{longestLine, earlyStep}
-use Rattle.interpreter.specs.Letters.{loadStep, loadTripleStep, linearStep, openStep}
-use Rattle.interpreter.specs.Messages.{Broadcast, hearStep}
-use Rattle.interpreter.specs.Products.{maskStep, finishStep}
-use Rattle.interpreter.specs.Stepping.{lettersStep, lateStep, step, Ready}
+use Rattle.states.specs.declared.State.{State}
+use Rattle.states.specs.declared.Stepped.{Stepped}
+use Rattle.states.specs.States.{After, refusing, leaving, after}
+use Rattle.startlines.specs.Steps.{longestLine, earlyStep}
+use Rattle.loadlines.specs.Steps.{loadStep, loadTripleStep}
+use Rattle.rowlines.specs.Steps.{linearStep, openStep}
+use Rattle.postlines.specs.Steps.{Broadcast, hearStep}
+use Rattle.masklines.specs.Steps.{maskStep}
+use Rattle.finishlines.specs.Steps.{finishStep}
+use Rattle.interpreter.specs.Stepping.{lettersStep, lateStep, step}
+use Rattle.interpreter.specs.Between.{Ready}
 use Rattle.interpreter.proofs.Ranges.{early-quiet, letters-fine}
 
 pub letter-deal : (s : List ℕ) → getD s 0 0 ≡ 68 → Broadcast s

@@ -1,9 +1,3 @@
-pub mod Calling
-pub mod Lettering
-pub mod Multiplying
-pub mod Pairing
-pub mod Hearing
-pub mod Settings
 pub mod Ends
 pub mod Room
 pub mod Ranges

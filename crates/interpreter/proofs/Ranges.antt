@@ -11,22 +11,25 @@ use Rattle.shape.specs.Bounds.{fewestPosts, mostPosts, lastRow, lastTriple}
 use Rattle.forms.specs.Forms.{isLetter}
 use Rattle.session.specs.declared.Session.{Session}
 use Rattle.session.specs.Sessions.{shapeOf, answer, sessionOf, collectedTriple, finishedTriple}
-use Rattle.product.specs.Masks.{masksRefusal, masksAnswer, maskNumbersOf}
-use Rattle.product.specs.Collect.{numberA, numberB, collectRefusal}
-use Rattle.product.specs.Multiply.{multiplyRefusal, multiplyAnswer}
+use Rattle.product_masks.specs.Masks.{masksRefusal, masksAnswer, maskNumbersOf}
+use Rattle.collect.specs.Collect.{numberA, numberB, collectRefusal}
+use Rattle.multiply.specs.Multiply.{multiplyRefusal, multiplyAnswer}
 use Rattle.store.specs.Sizes.{streetPosts, masksAAt, masksBAt, InStreet}
 use Rattle.reading.specs.Numbers.{numbers, readRefusal}
 use Rattle.reading.specs.declared.StartForm.{StartForm}
 use Rattle.reading.specs.declared.StartForm.the-variants.{Settings, Wrong}
 use Rattle.reading.specs.Starting.{isStart, startForm, startOf}
-use Rattle.interpreter.specs.declared.State.{State}
-use Rattle.interpreter.specs.declared.Stepped.{Stepped}
-use Rattle.interpreter.specs.States.{After, begunWith, refusing, answering, telling, leaving, after, unless, sessionRows}
-use Rattle.interpreter.specs.Starting.{longestLine, startTests, settingsStep, startStep, earlyStep}
-use Rattle.interpreter.specs.Letters.{loading, loadStep, loadingTriple, loadTripleStep, adding, linearStep, openStep}
-use Rattle.interpreter.specs.Messages.{heard, keepStep, keepMasksStep, keepHalvesStep, hearStep}
-use Rattle.interpreter.specs.Products.{maskLine, noMasks, masking, maskingOf, maskStep, between, pairRefusal, masksFor, finishing, finishStep}
-use Rattle.interpreter.specs.Stepping.{lettersStep, lateStep, step, Ready}
+use Rattle.states.specs.declared.State.{State}
+use Rattle.states.specs.declared.Stepped.{Stepped}
+use Rattle.states.specs.States.{After, begunWith, refusing, answering, telling, leaving, after, unless, sessionRows}
+use Rattle.startlines.specs.Steps.{longestLine, startTests, settingsStep, startStep, earlyStep}
+use Rattle.loadlines.specs.Steps.{loading, loadStep, loadingTriple, loadTripleStep}
+use Rattle.rowlines.specs.Steps.{adding, linearStep, openStep}
+use Rattle.postlines.specs.Steps.{heard, keepStep, keepMasksStep, keepHalvesStep, hearStep}
+use Rattle.masklines.specs.Steps.{maskLine, noMasks, masking, maskingOf, maskStep}
+use Rattle.finishlines.specs.Steps.{between, pairRefusal, masksFor, finishing, finishStep}
+use Rattle.interpreter.specs.Stepping.{lettersStep, lateStep, step}
+use Rattle.interpreter.specs.Between.{Ready}
 use Rattle.interpreter.proofs.Room.{tests-street}
 
 -- the state after a line, if it has a session, has one of the street's

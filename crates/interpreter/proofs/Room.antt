@@ -13,12 +13,13 @@ use Rattle.refusal.specs.Conditions.{wrongLength, postsTests}
 use Rattle.refusal.proofs.Laws.{orElse-zero, all-fail, inside, equal}
 use Rattle.session.specs.Sessions.{shapeOf}
 use Rattle.store.specs.Sizes.{streetPosts, storeRoom, InStreet}
-use Rattle.interpreter.specs.declared.State.{State}
-use Rattle.interpreter.specs.declared.Stepped.{Stepped}
-use Rattle.interpreter.specs.States.{After, refusing, after}
-use Rattle.interpreter.specs.Products.{toldRoom}
-use Rattle.interpreter.specs.Stepping.{step, postsRefusal, roomRefusal, stepRefusal, checkedStep, Ready}
-use Rattle.interpreter.proofs.Calling.{line-refused, line-taken}
+use Rattle.states.specs.declared.State.{State}
+use Rattle.states.specs.declared.Stepped.{Stepped}
+use Rattle.states.specs.States.{After, refusing, after}
+use Rattle.masklines.specs.Steps.{toldRoom}
+use Rattle.interpreter.specs.Stepping.{step, postsRefusal, roomRefusal, stepRefusal, checkedStep}
+use Rattle.interpreter.specs.Between.{Ready}
+use Rattle.states.proofs.Calling.{line-refused, line-taken}
 
 -- ---- a session, once an `S` was accepted
 pub tests-street : (n t : ℕ) → first (1 when ltb streetPosts n ∷ postsTests n t) ≡ 0 → (fewestPosts ≤ n) × (n ≤ streetPosts) × (1 ≤ t) × (t ≤ n - 1)

@@ -1,6 +1,2 @@
-pub mod States
-pub mod Starting
-pub mod Letters
-pub mod Messages
-pub mod Products
 pub mod Stepping
+pub mod Between

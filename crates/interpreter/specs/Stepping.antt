@@ -1,21 +1,21 @@
 -- Document 01, "The street program": what one line does to the program's state.
 use Prim.Native.Nat.{ℕ}
-use mathlib.Core.Path.{_≡_}
 use mathlib.Core.List.{List, [], _∷_}
-use mathlib.Core.Bool.{true, not, cond}
+use mathlib.Core.Bool.{not, cond}
 use lib.ListN.{length, getD}
 use lib.Dec.{eqb, ltb}
 use Rattle.refusal.specs.Refusal.{_when_, first, orElse}
 use Rattle.refusal.specs.Conditions.{wrongLength, postsTests}
 use Rattle.forms.specs.Forms.{isLetter}
-use Rattle.session.specs.Sessions.{shapeOf}
-use Rattle.store.specs.Sizes.{streetPosts, storeRoom, InStreet}
-use Rattle.interpreter.specs.declared.State.{State}
-use Rattle.interpreter.specs.States.{After, refusing, leaving, unless}
-use Rattle.interpreter.specs.Starting.{longestLine, earlyStep}
-use Rattle.interpreter.specs.Letters.{loadStep, loadTripleStep, linearStep, openStep}
-use Rattle.interpreter.specs.Products.{toldRoom, maskStep, finishStep}
-use Rattle.interpreter.specs.Messages.{hearStep}
+use Rattle.store.specs.Sizes.{streetPosts, storeRoom}
+use Rattle.states.specs.declared.State.{State}
+use Rattle.states.specs.States.{After, refusing, leaving, unless}
+use Rattle.startlines.specs.Steps.{longestLine, earlyStep}
+use Rattle.loadlines.specs.Steps.{loadStep, loadTripleStep}
+use Rattle.rowlines.specs.Steps.{linearStep, openStep}
+use Rattle.masklines.specs.Steps.{toldRoom, maskStep}
+use Rattle.finishlines.specs.Steps.{finishStep}
+use Rattle.postlines.specs.Steps.{hearStep}
 
 -- By the letter, where a line prints nothing but its answer: "a second `S` then gets 10, as does any other letter".
 unfoldable pub lettersStep : State → List ℕ → List ℕ → After
@@ -52,8 +52,3 @@ stepRefusal st store room = orElse (roomRefusal st store) (first (5 when not (eq
 
 unfoldable pub checkedStep : State → List ℕ → List ℕ → ℕ → After
 checkedStep st store s room = unless (stepRefusal st store room) st store (step st store s)
-
--- What holds between lines: the store has room for the largest session, and a session that was accepted is one of the street's.
-pub record Ready (st : State) (store : List ℕ) : Type 0 where
-  pub store-room : length store ≡ storeRoom
-  pub in-range : st .started ≡ true → InStreet (shapeOf (st .session))

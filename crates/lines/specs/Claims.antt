@@ -1,8 +1,9 @@
 -- What is claimed of the calls on lines; proved in proofs/Theorems.antt and proofs/Sending.antt.
-use Prim.Native.Nat.{ℕ, _+_, _*_}
+use Prim.Native.Nat.{ℕ}
 use mathlib.Core.Path.{_≡_}
 use mathlib.Core.List.{List}
 use lib.ListN.{length, take, drop}
+use Rattle.shape.specs.Lengths.{shape, vLength, masksLength}
 use Rattle.refusal.specs.Refusal.{Test, first, Decides, Keeps}
 use Rattle.csv.specs.Fields.{padded}
 use Rattle.forms.specs.Lines.{Message, deal, opening, masks, text}
@@ -39,21 +40,21 @@ pub record LinesLawful : Type 0 where
   -- letter, row and post, or the refusal and zeros
   pub read-answer : (n t : ℕ) (s out : List ℕ)
       → Keeps {A = Line} (readTable n t s out)
-      (record { refusal = 0; letter = message (t + 1) s .letter; row = message (t + 1) s .row; post = message (t + 1) s .post })
-      (noLine (first (readTable n t s out))) (lineAs (readRefusal n t s out) (message (t + 1) s))
+      (record { refusal = 0; letter = message (vLength (shape n t)) s .letter; row = message (vLength (shape n t)) s .row; post = message (vLength (shape n t)) s .post })
+      (noLine (first (readTable n t s out))) (lineAs (readRefusal n t s out) (message (vLength (shape n t)) s))
   -- "from its start; the places behind are set to 0", or the list as it came
   pub read-list : (n t : ℕ) (s out : List ℕ)
-      → Keeps (readTable n t s out) (padded (length out) (message (t + 1) s .numbers)) out
-      (listAs (readRefusal n t s out) (message (t + 1) s) out)
+      → Keeps (readTable n t s out) (padded (length out) (message (vLength (shape n t)) s .numbers)) out
+      (listAs (readRefusal n t s out) (message (vLength (shape n t)) s) out)
 
 -- ---- demand 2
 -- The bytes that a writer with this refusal laid for m, read into a list of 2(t+1) numbers: the reader says m again.
 abbrev pub ReadBack : ℕ → ℕ → ℕ → Message → List ℕ → List ℕ → Type 0
 ReadBack n t refusal m part out =
     let s = take (writtenAs refusal (text m) .len) (partAs refusal (text m) part) in
-    refusal ≡ 0 → length out ≡ 2 * (t + 1)
-    → (lineAs (readRefusal n t s out) (message (t + 1) s) ≡ lineAs 0 m)
-    × (listAs (readRefusal n t s out) (message (t + 1) s) out ≡ listAs 0 m out)
+    refusal ≡ 0 → length out ≡ masksLength (shape n t)
+    → (lineAs (readRefusal n t s out) (message (vLength (shape n t)) s) ≡ lineAs 0 m)
+    × (listAs (readRefusal n t s out) (message (vLength (shape n t)) s) out ≡ listAs 0 m out)
 
 pub record WritersReadBack : Type 0 where
   pub deal-back : (n t row c : ℕ) (part out : List ℕ) → ReadBack n t (writeDealRefusal n t row c (length part)) (deal row c) part out
@@ -66,4 +67,4 @@ pub record WritersReadBack : Type 0 where
 abbrev pub ReaderToWriter : Type 0
 ReaderToWriter =
     (n t : ℕ) (s out : List ℕ) → readRefusal n t s out ≡ 0
-    → (s ≡ text (message (t + 1) s)) × (writeRefusal n t (message (t + 1) s) (length s) ≡ 0)
+    → (s ≡ text (message (vLength (shape n t)) s)) × (writeRefusal n t (message (vLength (shape n t)) s) (length s) ≡ 0)

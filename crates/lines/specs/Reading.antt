@@ -1,7 +1,8 @@
 -- Reading a line: which refusal, and what a call leaves.
-use Prim.Native.Nat.{ℕ, _+_, _*_}
+use Prim.Native.Nat.{ℕ}
 use mathlib.Core.List.{List, _∷_}
 use lib.ListN.{length}
+use Rattle.shape.specs.Lengths.{shape, vLength, masksLength}
 use Rattle.refusal.specs.Refusal.{_when_, outcome}
 use Rattle.refusal.specs.Conditions.{wrongLength}
 use Rattle.csv.specs.Fields.{padded}
@@ -11,7 +12,7 @@ use Rattle.lines.specs.declared.Line.{Line}
 use Rattle.lines.specs.Order.{lineRefusal}
 
 abbrev pub readRefusal : ℕ → ℕ → List ℕ → List ℕ → ℕ
-readRefusal n t s out = lineRefusal n t (5 when wrongLength out (2 * (t + 1)) ∷ lineTests n (t + 1) s)
+readRefusal n t s out = lineRefusal n t (5 when wrongLength out (masksLength (shape n t)) ∷ lineTests n (vLength (shape n t)) s)
 
 abbrev pub noLine : ℕ → Line
 noLine refusal = record { refusal = refusal; letter = 0; row = 0; post = 0 }

@@ -5,6 +5,7 @@ use mathlib.Core.Path.{_≡_}
 use mathlib.Core.List.{List, [], _∷_, _++_}
 use lib.ListN.{length}
 use lib.Dec.{ltb}
+use Rattle.shape.specs.Lengths.{shape, vLength, masksLength}
 use Rattle.refusal.specs.Refusal.{Test, _when_}
 use Rattle.refusal.specs.Conditions.{outside, wrongLength, beyond, anyBeyond, postsTests}
 use Rattle.forms.specs.Lines.{deal, opening, masks, text}
@@ -56,8 +57,8 @@ readTable n t s out =
 pub record LineTables : Type 0 where
   pub write-deal : (n t row c room : ℕ) → postsTests n t ++ dealtTests row c room ≡ writeDealTable n t row c room
   pub write-opening : (n t row post : ℕ) (xs : List ℕ) (room : ℕ)
-      → postsTests n t ++ postedTests n 79 (t + 1) row post xs room ≡ writeOpeningTable n t row post xs room
+      → postsTests n t ++ postedTests n 79 (vLength (shape n t)) row post xs room ≡ writeOpeningTable n t row post xs room
   pub write-masks : (n t row post : ℕ) (xs : List ℕ) (room : ℕ)
-      → postsTests n t ++ postedTests n 77 (2 * (t + 1)) row post xs room ≡ writeMasksTable n t row post xs room
+      → postsTests n t ++ postedTests n 77 (masksLength (shape n t)) row post xs room ≡ writeMasksTable n t row post xs room
   pub read : (n t : ℕ) (s out : List ℕ)
-      → postsTests n t ++ (5 when wrongLength out (2 * (t + 1)) ∷ lineTests n (t + 1) s) ≡ readTable n t s out
+      → postsTests n t ++ (5 when wrongLength out (masksLength (shape n t)) ∷ lineTests n (vLength (shape n t)) s) ≡ readTable n t s out

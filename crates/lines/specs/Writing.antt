@@ -1,9 +1,10 @@
 -- Writing a line: which refusal, and what a call leaves.
 use mathlib.Core.Bool.{cond}
-use Prim.Native.Nat.{ℕ, _+_, _*_}
+use Prim.Native.Nat.{ℕ}
 use mathlib.Core.List.{List, [], _∷_}
 use lib.ListN.{length, getD}
 use lib.Dec.{eqb, ltb}
+use Rattle.shape.specs.Lengths.{shape, vLength, masksLength}
 use Rattle.refusal.specs.Refusal.{Test, _when_, outcome}
 use Rattle.refusal.specs.Conditions.{outside, wrongLength, beyond, anyBeyond}
 use Rattle.csv.specs.Fields.{written, overwrite}
@@ -29,10 +30,10 @@ abbrev pub writeDealRefusal : ℕ → ℕ → ℕ → ℕ → ℕ → ℕ
 writeDealRefusal n t row c room = lineRefusal n t (dealtTests row c room)
 
 abbrev pub writeOpeningRefusal : ℕ → ℕ → ℕ → ℕ → List ℕ → ℕ → ℕ
-writeOpeningRefusal n t row post xs room = lineRefusal n t (postedTests n 79 (t + 1) row post xs room)
+writeOpeningRefusal n t row post xs room = lineRefusal n t (postedTests n 79 (vLength (shape n t)) row post xs room)
 
 abbrev pub writeMasksRefusal : ℕ → ℕ → ℕ → ℕ → List ℕ → ℕ → ℕ
-writeMasksRefusal n t row post xs room = lineRefusal n t (postedTests n 77 (2 * (t + 1)) row post xs room)
+writeMasksRefusal n t row post xs room = lineRefusal n t (postedTests n 77 (masksLength (shape n t)) row post xs room)
 
 -- The refusal of the call that writes a message, by its letter.
 abbrev pub writeRefusal : ℕ → ℕ → Message → ℕ → ℕ

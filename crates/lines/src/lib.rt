@@ -3,6 +3,7 @@ ghost use mathlib.Core.Path.{_≡_};
 ghost use Prim.Native.Nat.{_+_, _*_, _≤_};
 ghost use mathlib.Core.List.{_∷_};
 ghost use lib.ListN.{length};
+ghost use Rattle.shape.specs.Lengths.{shape, vLength};
 ghost use Rattle.refusal.specs.Refusal.{first};
 ghost use Rattle.csv.specs.Fields.{written};
 ghost use Rattle.forms.specs.Lines.{text, deal, opening, masks};
@@ -232,9 +233,9 @@ fn read_line(n: usize, k: usize, line: &[u8], out: &mut [u32]) -> Line
 
 // Any of the three lines, into a list of 2(t+1) numbers.
 pub fn read(n: usize, t: usize, line: &[u8], out: &mut [u32]) -> Line
-    ensures { λ r. ⌜ r ≡ lineAs (readRefusal n t (now (line .entry)) (now (out .entry))) (message (t + 1) (now (line .entry))) ⌝ }
+    ensures { λ r. ⌜ r ≡ lineAs (readRefusal n t (now (line .entry)) (now (out .entry))) (message (vLength (shape n t)) (now (line .entry))) ⌝ }
     ensures { λ r. ⌜ now (out .exit)
-        ≡ listAs (readRefusal n t (now (line .entry)) (now (out .entry))) (message (t + 1) (now (line .entry))) (now (out .entry)) ⌝ }
+        ≡ listAs (readRefusal n t (now (line .entry)) (now (out .entry))) (message (vLength (shape n t)) (now (line .entry))) (now (out .entry)) ⌝ }
 {
     let posts = refusal::posts(n, t);
     if posts != 0 {

@@ -1,10 +1,4 @@
 pub mod Passed
-pub mod Blocks
-pub mod Walks
-pub mod Behind
-pub mod Settles
-pub mod Fronts
 pub mod Opens
 pub mod Theorems
-pub mod Accepted
 pub mod Tables

@@ -16,19 +16,19 @@ use Rattle.session.specs.declared.Session.{Session}
 use Rattle.session.specs.declared.Answer.{Answer}
 use Rattle.session.specs.Sessions.{shapeOf, partyOf, holding, answer}
 use Rattle.session.specs.Rows.{width, rowAt}
-use Rattle.session.specs.Checks.{frameTests, noRow, wrongMark, Framed, Sized, RowIn}
+use Rattle.session.specs.Checks.{frameTests, noRow, wrongMark}
+use Rattle.session.specs.Between.{Framed, Sized, RowIn}
 use Rattle.session.proofs.Passed.{row-below}
 use Rattle.session.proofs.Endings.{refused-answer}
-use Rattle.opening.specs.declared.Opened.{Opened}
-use Rattle.opening.specs.Blocks as Blocks
-use Rattle.opening.specs.Blocks.{Recorded}
-use Rattle.opening.specs.Accepting as Accepting
-use Rattle.opening.specs.Accepting.{Openable}
+use Rattle.blocks.specs.Blocks as Blocks
+use Rattle.blocks.specs.Between.{Recorded, Openable}
+use Rattle.walk.specs.declared.Opened.{Opened}
+use Rattle.walk.specs.Number as Number
+use Rattle.walk.proofs.Settles.{openingOf, opened-decided}
 use Rattle.opening.specs.Walking.{recordLength, badRecord, tooFew, disagree, opened}
 use Rattle.opening.specs.Opening.{rowChecks, openChecks, openRefusal, openAnswer}
 use Rattle.opening.proofs.Passed as Passed
 use Rattle.opening.proofs.Passed.{open-framed}
-use Rattle.opening.proofs.Settles.{openingOf, opened-decided}
 
 -- a session's record, for the party that the code made of it
 module _ (s : Session) (rows blocks : List ℕ) where
@@ -119,7 +119,7 @@ module _ (s : Session) (rows : List ℕ) (r : ℕ) (blocks : List ℕ) where
           found : ℕ → Opened
           found k = openingOf k number
 
-          module _ (o : Opened) (eo : o ≡ Accepting.openedRow q x blocks) where
+          module _ (o : Opened) (eo : o ≡ Number.openedRow q x blocks) where
             walked : o ≡ found (first late)
             unfolding found
             walked = (eo ∙ rw (eq, ex, eg)) ∙ opened-decided (partyOf s) row blocks

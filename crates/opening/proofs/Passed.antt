@@ -14,7 +14,8 @@ use Rattle.refusal.proofs.Groups.{fail-parts}
 use Rattle.session.specs.declared.Session.{Session}
 use Rattle.session.specs.Sessions.{mark}
 use Rattle.session.specs.Rows.{width, rowAt}
-use Rattle.session.specs.Checks.{frameTests, noRow, wrongMark, Framed}
+use Rattle.session.specs.Checks.{frameTests, noRow, wrongMark}
+use Rattle.session.specs.Between.{Framed}
 use Rattle.session.proofs.Calls.{frame-passed}
 use Rattle.opening.specs.Walking.{recordLength, badRecord, tooFew, disagree}
 use Rattle.opening.specs.Opening.{openChecks, openTests, openRefusal}

@@ -14,7 +14,7 @@ use Rattle.session.specs.Rows.{width, rowAt}
 use Rattle.session.specs.Law.{Lawful}
 use Rattle.session.proofs.Lawful.{lawful}
 use Rattle.session.proofs.Endings.{refused-answer, accepted-answer}
-use Rattle.opening.specs.Accepting as Accepting
+use Rattle.accepting.specs.Accepting as Accepting
 use Rattle.opening.specs.Walking.{tooFew, disagree, opened}
 use Rattle.opening.specs.Opening.{openChecks, openRefusal, openAnswer}
 use Rattle.opening.specs.Table.{openTable}

@@ -1,5 +1,3 @@
-pub mod Blocks
-pub mod Accepting
 pub mod Walking
 pub mod Opening
 pub mod Table

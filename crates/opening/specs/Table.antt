@@ -3,11 +3,12 @@
 use Prim.Native.Nat.{ℕ, _*_, _-_}
 use mathlib.Core.Path.{_≡_}
 use mathlib.Core.List.{List, [], _∷_}
+use lib.Dec.{ltb}
 use Rattle.refusal.specs.Refusal.{Test, _when_}
 use Rattle.refusal.specs.Conditions.{outside, wrongLength, anyBeyond, badPoint}
 use Rattle.session.specs.declared.Session.{Session}
 use Rattle.session.specs.Rows.{width, rowAt}
-use Rattle.session.specs.Checks.{noRow, wrongMark}
+use Rattle.session.specs.Checks.{wrongMark}
 use Rattle.opening.specs.Walking.{recordLength, badRecord, tooFew, disagree}
 use Rattle.opening.specs.Opening.{openTests}
 
@@ -19,7 +20,7 @@ openTable s rows r blocks =
     ∷ 4 when badPoint (s .point)
     ∷ 5 when wrongLength rows (96 * width s)
     ∷ 5 when wrongLength blocks (recordLength s)
-    ∷ 6 when noRow r
+    ∷ 6 when ltb 95 r
     ∷ 7 when wrongMark s r 2
     ∷ 8 when anyBeyond (rowAt (width s) rows r)
     ∷ 8 when badRecord s blocks

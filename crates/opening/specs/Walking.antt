@@ -5,11 +5,12 @@ use mathlib.Core.List.{List}
 use Rattle.shape.specs.Lengths as Lengths
 use Rattle.session.specs.declared.Session.{Session}
 use Rattle.session.specs.Sessions.{shapeOf, partyOf}
-use Rattle.opening.specs.declared.Opened.{Opened}
-use Rattle.opening.specs.Blocks as Blocks
-use Rattle.opening.specs.Accepting as Accepting
-unfoldable pub use Rattle.opening.specs.Blocks.{blockMark, blockCoefficients}
-unfoldable pub use Rattle.opening.specs.Accepting.{walk}
+use Rattle.blocks.specs.Blocks as Blocks
+use Rattle.accepting.specs.Accepting as Accepting
+use Rattle.walk.specs.declared.Opened.{Opened}
+use Rattle.walk.specs.Number as Number
+pub use Rattle.blocks.specs.Blocks.{blockMark, blockCoefficients}
+unfoldable pub use Rattle.accepting.specs.Accepting.{walk}
 
 abbrev pub recordLength : Session → ℕ
 recordLength s = Lengths.recordLength (shapeOf s)
@@ -51,4 +52,4 @@ abbrev pub opened : Session → List ℕ → List ℕ → ℕ
 opened s = Accepting.opened (partyOf s)
 
 abbrev pub openedRow : Session → List ℕ → List ℕ → Opened
-openedRow s = Accepting.openedRow (partyOf s)
+openedRow s = Number.openedRow (partyOf s)

@@ -1,30 +1,12 @@
 // Opening: a post checks what the others sent of a row, and brings the number out.
-//
-// The walk over the posts works on one row and one record of blocks, so that a product opens its masks by it too.
-pub mod record;
-pub mod walking;
-
 use session::Answer;
 use session::Session;
 ghost use mathlib.Core.Path.{_≡_};
 ghost use Rattle.refusal.specs.Refusal.{first};
 ghost use lib.ListN.{length};
-ghost use Rattle.session.specs.Checks.{Framed};
+ghost use Rattle.session.specs.Between.{Framed};
 ghost use Rattle.opening.specs.Walking.{recordLength};
 ghost use Rattle.opening.specs.Opening.{rowChecks, openChecks, openAnswer};
-
-// How the walk over the posts ends.
-pub enum Walk {
-    // t+1 accepted, the last of them at this post
-    Enough(usize),
-    TooFew,
-}
-
-// A number brought out, or the refusal.
-pub struct Opened {
-    pub refusal: u8,
-    pub value: u32,
-}
 
 // 6 to 8 of an opening, once 1 to 5 have passed.
 fn row_checks(session: Session, rows: &[u32], row: usize, blocks: &[u32]) -> u8
@@ -33,7 +15,7 @@ fn row_checks(session: Session, rows: &[u32], row: usize, blocks: &[u32]) -> u8
 {
     let numbers = refusal::or_else(
         session::checks::numbers(session.shape(), rows, row),
-        record::refusal(session.party(), blocks),
+        blocks::refusal(session.party(), blocks),
     );
     refusal::or_else(
         session::checks::row(row),
@@ -69,7 +51,7 @@ pub fn open<'a>(session: Session, rows: &'a [u32], row: usize, blocks: &'a [u32]
         return session.refuse(refusal);
     }
     let own = session::rows::row(session.shape(), rows, row);
-    let opened = walking::open_row(session.party(), own, blocks);
+    let opened = rooms::open_row(session.party(), own, blocks);
     if opened.refusal != 0 {
         return session.refuse(opened.refusal);
     }

@@ -14,8 +14,8 @@ use Rattle.shape.specs.Bounds.{rowCount, lastRow, lastTriple}
 use Rattle.shape.specs.Lengths.{rowsLength}
 use Rattle.shape.specs.Marks.{empty, raw, unused, further}
 use Rattle.refusal.proofs.Laws.{or-false}
-use Rattle.factory.proofs.Laws.{elements-take, elements-drop}
-use Rattle.packfile.specs.Kinds.{drawnFor, drawsLength, anyRow, late, crowded}
+use Rattle.parts.proofs.Laws.{elements-take, elements-drop}
+use Rattle.kinds.specs.Kinds.{drawnFor, drawsLength, anyRow, late, crowded}
 
 -- Before row `row`, of which on `c` rows are covered by a triple.
 pub record Ahead (s : Shape) (c row : ℕ) (marks rows kinds draws : List ℕ) : Type 0 where

@@ -10,11 +10,11 @@ use lib.Seq.{take-all}
 use Rattle.decimal.specs.Numeral.{size, numeral}
 use Rattle.decimal.proofs.Digits.{Digits, digits-are-digits}
 use Rattle.csv.specs.Fields.{fields, written}
-use Rattle.interpreter.specs.declared.State.{State}
-use Rattle.interpreter.specs.Starting.{longestLine}
+use Rattle.states.specs.declared.State.{State}
+use Rattle.startlines.specs.Steps.{longestLine}
 use Rattle.interpreter.specs.Stepping.{step}
-use Rattle.transcript.specs.Lines.{keptLength}
-use Rattle.transcript.specs.Program.{Running, leftBy, answered, grown, fed}
+use Rattle.splitting.specs.Lines.{keptLength}
+use Rattle.feeds.specs.Program.{Running, leftBy, answered, grown, fed}
 
 -- ---- bytes above a line feed
 abbrev Feedless : List ℕ → Type 0

@@ -15,17 +15,18 @@ use Rattle.shape.specs.Marks.{empty, raw, unused, further}
 use Rattle.csv.specs.Fields.{written}
 use Rattle.session.specs.declared.Party.{Party}
 use Rattle.session.specs.Rows.{withRow}
-use Rattle.sharing.specs.Load.{withTriple}
+use Rattle.load.specs.Load.{withTriple}
 use Rattle.store.specs.Sizes.{streetPosts}
-use Rattle.interpreter.specs.States.{firstState, begunWith, refusing, leaving}
-use Rattle.interpreter.specs.Starting.{longestLine}
+use Rattle.states.specs.States.{firstState, begunWith, refusing, leaving}
+use Rattle.startlines.specs.Steps.{longestLine}
 use Rattle.interpreter.specs.Stepping.{step}
-use Rattle.transcript.specs.Text.{answerText}
-use Rattle.transcript.specs.Program.{Running, leftBy, fed}
+use Rattle.answers.specs.Text.{answerText}
+use Rattle.feeds.specs.Program.{Running, leftBy, fed}
 use Rattle.transcript.proofs.Chunks.{fed-append}
-use Rattle.packfile.specs.Kinds.{drawnFor}
-use Rattle.packfile.specs.File.{postPart, tripleParts, numbersOf, lineWith, rowLine, rowLines}
-use Rattle.packfile.specs.Parts.{PostIn}
+use Rattle.kinds.specs.Kinds.{drawnFor}
+use Rattle.packrow.specs.Numbers.{postPart, tripleParts, numbersOf}
+use Rattle.packlines.specs.File.{lineWith, rowLine, rowLines}
+use Rattle.packrow.specs.Between.{PostIn}
 use Rattle.packfile.specs.Writing.{postAt}
 use Rattle.packed.specs.Straight.{kindLoaded, rowsLoaded}
 use Rattle.packed.specs.Claims.{lineFor, loads, noRefusals}

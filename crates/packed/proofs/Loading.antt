@@ -1,8 +1,8 @@
 -- A session that the works loads straight: no load is refused, and what each leaves.
 use Prim.Native.Nat.{ℕ, _+_, _*_, _≤_}
-use mathlib.Core.Path.{_≡_, refl, _∙_, ap, ap₂}
-use mathlib.Core.Bool.{false, not, _||_}
-use mathlib.Core.List.{List, [], _∷_}
+use mathlib.Core.Path.{_≡_, _∙_, ap}
+use mathlib.Core.Bool.{false, not}
+use mathlib.Core.List.{List}
 use native.Mathlib.Nat.{mul-le-mul-right, add-mul}
 use native.Mathlib.Omega.{arith}
 use borrow.Author.Tests.{eq-eqb, le-ltb}
@@ -13,27 +13,22 @@ use Rattle.shape.specs.Bounds.{rowCount, lastRow, lastTriple}
 use Rattle.shape.specs.Lengths.{rowLength, rowsLength, tripleLength}
 use Rattle.shape.specs.Marks.{empty, raw, unused, further}
 use Rattle.refusal.specs.Refusal.{outcome, AllFail}
-use Rattle.refusal.specs.Conditions.{wrongLength, anyBeyond}
+use Rattle.refusal.specs.Conditions.{wrongLength}
 use Rattle.refusal.proofs.Laws.{not-refused}
-use Rattle.refusal.proofs.Elements.{element-test}
+use Rattle.factory.proofs.Laws.{elements-pass}
 use Rattle.lists.proofs.Parts.{length-put}
 use Rattle.session.specs.declared.Party.{Party}
 use Rattle.session.specs.declared.Session.{Session}
 use Rattle.session.specs.Sessions.{withMarks, sessionOf, sessionTests, created}
 use Rattle.session.specs.Rows.{withRow}
 use Rattle.session.proofs.RowLaws.{length-with-row}
-use Rattle.sharing.specs.Load.{loadRowTests, loadRowRefusal, loadTripleTests, loadTripleRefusal, withTriple}
-use Rattle.sharing.proofs.Triples.{triple-put}
+use Rattle.load.specs.Load.{loadRowTests, loadRowRefusal, loadTripleTests, loadTripleRefusal, withTriple}
+use Rattle.load.proofs.Triples.{triple-put}
 use Rattle.packed.specs.Straight.{Loaded, newPost, rowLoaded, tripleLoaded}
 
 -- ---- tests that fail
 pub right-length : (l : List ℕ) (k : ℕ) → length l ≡ k → wrongLength l k ≡ false
 right-length l k e = ap not (eq-eqb (length l) k e)
-
-pub none-beyond : (xs : List ℕ) → Elements xs → anyBeyond xs ≡ false
-unfolding anyBeyond
-none-beyond [] h = refl
-none-beyond (x ∷ xs) h = ap₂ _||_ (element-test x (h .0)) (none-beyond xs (h .1))
 
 right-mark : (marks : List ℕ) (r m : ℕ) → getD marks r empty ≡ m → not (eqb (getD marks r empty) m) ≡ false
 right-mark marks r m e = ap not (eq-eqb (getD marks r empty) m e)
@@ -59,7 +54,7 @@ module _ (q : Party) (h : Passed q) (marks rows : List ℕ) (room : length rows 
     unfolding loadRowRefusal
     row-passes =
         not-refused (loadRowTests (sessionAt q marks) rows row pack)
-        (h .0, (h .1 .0, (h .1 .1 .0, (h .1 .1 .1 .0, (right-length rows _ room, (right-length pack _ long, (le-ltb lastRow row low, (right-mark marks row empty free, (none-beyond pack elements, tt)))))))))
+        (h .0, (h .1 .0, (h .1 .1 .0, (h .1 .1 .1 .0, (right-length rows _ room, (right-length pack _ long, (le-ltb lastRow row low, (right-mark marks row empty free, (elements-pass pack elements, tt)))))))))
 
     pub row-is-loaded : rowLoaded (at q marks rows) row pack ≡ at q (set marks row raw) (withRow (rowLength (q .shape)) row pack rows)
     unfolding outcome
@@ -74,7 +69,7 @@ module _ (q : Party) (h : Passed q) (marks rows : List ℕ) (room : length rows 
     unfolding loadTripleRefusal
     triple-passes =
         not-refused (loadTripleTests (sessionAt q marks) rows row pack)
-        (h .0, (h .1 .0, (h .1 .1 .0, (h .1 .1 .1 .0, (right-length rows _ room, (right-length pack _ long, (le-ltb lastTriple row low, (right-mark marks row empty free, (right-mark marks (row + 1) empty free-1, (right-mark marks (row + 2) empty free-2, (none-beyond pack elements, tt)))))))))))
+        (h .0, (h .1 .0, (h .1 .1 .0, (h .1 .1 .1 .0, (right-length rows _ room, (right-length pack _ long, (le-ltb lastTriple row low, (right-mark marks row empty free, (right-mark marks (row + 1) empty free-1, (right-mark marks (row + 2) empty free-2, (elements-pass pack elements, tt)))))))))))
 
     pub triple-is-loaded : tripleLoaded (at q marks rows) row pack
         ≡ at q (set (set (set marks row unused) (row + 1) further) (row + 2) further) (withTriple (rowLength (q .shape)) row pack rows)

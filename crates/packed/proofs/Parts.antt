@@ -1,11 +1,10 @@
 -- A post's part of what the factory's calls write is its part of the draw: as many numbers as a load takes, all of them elements.
 use Prim.Native.Nat.{ℕ, zero, suc, _+_, _*_, _-_, _≤_, _<_}
-use mathlib.Core.Path.{_≡_, sym, _∙_, ap, ap₂}
+use mathlib.Core.Path.{_≡_, _∙_, ap, ap₂}
 use mathlib.Core.List.{List, [], _∷_, _++_}
-use native.Mathlib.Nat.{mul-le-mul-right, add-mul}
 use native.Mathlib.Omega.{arith}
 use lib.ListN.{length, take, drop, getD, length-append, length-drop}
-use lib.Seq.{length-take-le, take-append-le, drop-append-le, drop-append-add}
+use lib.Seq.{length-take-le}
 use Rattle.field.specs.Modulus.{p}
 use Rattle.field.specs.Arithmetic.{product}
 use Rattle.field.proofs.Modular.{sum-below, product-below}
@@ -15,11 +14,12 @@ use Rattle.shape.specs.declared.Shape.{Shape}
 use Rattle.shape.specs.Lengths.{shape, fLength, vLength, rowLength, tripleLength, drawLength, tripleDrawLength}
 use Rattle.session.specs.declared.Party.{Party}
 use Rattle.session.specs.Rows.{rowAt}
-use Rattle.factory.specs.Draw.{drawnF, drawnV, sumOf, eachFrom, part, firstDraw, secondDraw, thirdDraw}
-use Rattle.factory.specs.Packs.{packs, triplePacks}
-use Rattle.factory.proofs.Laws.{length-part, length-packs, packs-part, elements-take, elements-drop, elements-append}
-use Rattle.packfile.specs.File.{postPart, tripleParts}
-use Rattle.packfile.specs.Parts.{PostIn}
+use Rattle.parts.specs.Draw.{drawnF, drawnV, sumOf, eachFrom, part, firstDraw, secondDraw, thirdDraw}
+use Rattle.packs.specs.Packs.{packs, triplePacks}
+use Rattle.parts.proofs.Laws.{length-part, elements-take, elements-drop, elements-append}
+use Rattle.packs.proofs.Laws.{length-packs, packs-part, row-among, row-behind}
+use Rattle.packrow.specs.Numbers.{postPart, tripleParts}
+use Rattle.packrow.specs.Between.{PostIn}
 use Rattle.packfile.specs.Writing.{postAt}
 use Rattle.packed.specs.Straight.{rowPack, triplePack}
 
@@ -84,18 +84,6 @@ triple-length q draw post e =
     let b = part-length q (secondDraw d draw) post (second-drawn (q .shape) draw e) in
     let c = part-length q (thirdDraw d draw) post (third-drawn (q .shape) draw e) in
     simp length-append (omega (arith, a, b, c))
-
--- ---- a row of joined lists, the first of m rows: among them, or behind
-module _ (w m : ℕ) (a b : List ℕ) (many : length a ≡ m * w) where
-  row-among : (j : ℕ) → j < m → rowAt w (a ++ b) j ≡ rowAt w a j
-  row-among j h =
-      let room : j * w + w ≤ length a = omega (arith, mul-le-mul-right {m = j + 1} {n = m} w (omega arith), add-mul j 1 w) in
-      ap (take w) (drop-append-le (j * w) a b (omega arith)) ∙ take-append-le w (drop (j * w) a) b (omega (arith, length-drop (j * w) a))
-
-  row-behind : (j : ℕ) → rowAt w (a ++ b) (m + j) ≡ rowAt w b j
-  row-behind j =
-      ap (take w)
-      (ap (λ (k : ℕ). drop k (a ++ b)) (add-mul m j w ∙ ap (λ (k : ℕ). k + j * w) (sym many)) ∙ drop-append-add a b (j * w))
 
 -- ---- the factory's calls
 module _ (n t post : ℕ) (points : List ℕ) (many : length points ≡ n) (lo : 1 ≤ post) (hi : post ≤ n) where

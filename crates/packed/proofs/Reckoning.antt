@@ -5,10 +5,11 @@ use Rattle.decimal.specs.Numeral.{lastDigits, sizeWithin}
 use Rattle.csv.specs.Fields.{fields}
 use Rattle.poly.specs.Polynomial.{value}
 use Rattle.refusal.specs.Conditions.{anyBeyond}
-use Rattle.factory.specs.Draw.{part, eachFrom}
-use Rattle.factory.specs.Packs.{anyBadPoint}
-use Rattle.packfile.specs.Kinds.{drawnFor, drawsLength, anyRow, late, crowded, unknown}
-use Rattle.packfile.specs.File.{postPart, tripleParts, numbersOf, rowLine, rowLines, startLine, file}
+use Rattle.parts.specs.Draw.{part, eachFrom}
+use Rattle.factory.specs.Calls.{anyBadPoint}
+use Rattle.kinds.specs.Kinds.{drawnFor, drawsLength, anyRow, late, crowded, unknown}
+use Rattle.packrow.specs.Numbers.{postPart, tripleParts, numbersOf}
+use Rattle.packlines.specs.File.{rowLine, rowLines, startLine, file}
 use Rattle.packfile.specs.Writing.{givenRefusal}
 use Rattle.packed.specs.Example.{Reckoned}
 

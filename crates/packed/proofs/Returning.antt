@@ -20,8 +20,8 @@ use Rattle.csv.specs.Fields.{fields, written, parsed, fieldsAt, ended, Small}
 use Rattle.csv.proofs.Overwriting.{fields-append}
 use Rattle.csv.proofs.Reading.{fields-read}
 use Rattle.reading.specs.Starting.{dashAt, startForm, behindPosts}
-use Rattle.packfile.specs.File.{startLine}
-use Rattle.packfile.specs.Parts.{PostIn}
+use Rattle.packlines.specs.File.{startLine}
+use Rattle.packrow.specs.Between.{PostIn}
 
 -- ---- the law
 pub record ReadInTwo (s xs ys : List ℕ) : Type 0 where

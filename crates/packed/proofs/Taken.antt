@@ -22,19 +22,20 @@ use Rattle.csv.proofs.Laying.{length-written}
 use Rattle.session.specs.declared.Party.{Party}
 use Rattle.session.specs.Sessions.{sessionOf}
 use Rattle.session.specs.Rows.{withRow}
-use Rattle.sharing.specs.Load.{loadRowRefusal, loadTripleRefusal, withTriple}
+use Rattle.load.specs.Load.{loadRowRefusal, loadTripleRefusal, withTriple}
 use Rattle.store.specs.Sizes.{streetPosts, longestTriple}
 use Rattle.reading.specs.Numbers.{numberForm, numbers, readRefusal, rowsBeyond}
 use Rattle.reading.specs.Starting.{isStart}
-use Rattle.interpreter.specs.declared.State.{State}
-use Rattle.interpreter.specs.States.{firstState, begunWith, refusing, leaving, sessionRows}
-use Rattle.interpreter.specs.Starting.{longestLine, startTests, startStep, earlyStep}
-use Rattle.interpreter.specs.Letters.{loading, loadStep, loadingTriple, loadTripleStep}
+use Rattle.states.specs.declared.State.{State}
+use Rattle.states.specs.States.{firstState, begunWith, refusing, leaving, sessionRows}
+use Rattle.startlines.specs.Steps.{longestLine, startTests, startStep, earlyStep}
+use Rattle.loadlines.specs.Steps.{loading, loadStep, loadingTriple, loadTripleStep}
 use Rattle.interpreter.specs.Stepping.{lettersStep, lateStep, step}
-use Rattle.packfile.specs.File.{startLine}
-use Rattle.packfile.specs.Parts.{PostIn}
+use Rattle.factory.proofs.Laws.{elements-pass}
+use Rattle.packlines.specs.File.{startLine}
+use Rattle.packrow.specs.Between.{PostIn}
 use Rattle.packed.proofs.Returning.{line-reads-back, elements-small, start-reads-back}
-use Rattle.packed.proofs.Loading.{none-beyond, sessionAt, Passed}
+use Rattle.packed.proofs.Loading.{sessionAt, Passed}
 
 -- ---- the start line
 module _ (q : Party) (post : PostIn q) (passed : Passed q) (street : q .shape .n ≤ streetPosts) (b : q .point < p) where
@@ -72,7 +73,7 @@ module _ (letter row last : ℕ) (pack : List ℕ) (elements : Elements pack) (l
 
   pub line-passes : readRefusal (last ∷ []) k (written letter (row ∷ pack)) ≡ 0
   unfolding readRefusal rowsBeyond
-  line-passes = rw (form, none-beyond (row ∷ pack) (omega arith, elements), le-ltb last row low)
+  line-passes = rw (form, elements-pass (row ∷ pack) (omega arith, elements), le-ltb last row low)
 
 -- ---- no line is too long
 two-digits : (row : ℕ) → row ≤ lastRow → size row ≤ 2

@@ -8,24 +8,25 @@ use lib.Dec.{eqb}
 use lib.ListN.{length, drop, getD, replicate, length-replicate}
 use lib.Seq.{take-append-seam}
 use Rattle.field.specs.Modulus.{p}
-use Rattle.poly.specs.Counting.{Elements}
 use Rattle.shape.specs.Bounds.{rowCount}
 use Rattle.shape.specs.Lengths.{shape, rowsLength}
 use Rattle.shape.specs.Marks.{empty}
 use Rattle.refusal.specs.Refusal.{Test, outcome, AllFail}
-use Rattle.refusal.specs.Conditions.{badPoint, beyond, anyBeyond}
+use Rattle.refusal.specs.Conditions.{badPoint, beyond}
 use Rattle.refusal.proofs.Laws.{all-fail, not-refused, or-false, equal}
 use Rattle.refusal.proofs.Groups.{fail-parts}
 use Rattle.refusal.proofs.Elements.{below-p}
-use Rattle.factory.specs.Packs.{anyBadPoint}
+use Rattle.factory.specs.Calls.{anyBadPoint}
+use Rattle.factory.proofs.Laws.{elements-of}
 use Rattle.session.specs.declared.Party.{Party}
 use Rattle.store.specs.Sizes.{streetPosts, storeRoom}
-use Rattle.interpreter.specs.States.{firstState, begunWith}
-use Rattle.transcript.specs.Text.{header, answerText}
-use Rattle.transcript.specs.Program.{Running, leftBy, begun, fed, closed, output}
+use Rattle.states.specs.States.{firstState, begunWith}
+use Rattle.answers.specs.Text.{header, answerText}
+use Rattle.feeds.specs.Program.{Running, leftBy, begun, fed, closed, output}
 use Rattle.transcript.proofs.Chunks.{fed-append}
-use Rattle.packfile.specs.File.{startLine, rowLines, file}
-use Rattle.packfile.specs.Parts.{PostIn, Given}
+use Rattle.packlines.specs.File.{startLine, rowLines, file}
+use Rattle.packrow.specs.Between.{PostIn}
+use Rattle.packfile.specs.Between.{Given}
 use Rattle.packfile.specs.Writing.{postAt, givenTests, givenRefusal, roomTests, packRefusal}
 use Rattle.packfile.proofs.Asking.{given-passed}
 use Rattle.packed.specs.Straight.{Loaded, rowsLoaded, straight}
@@ -37,11 +38,6 @@ use Rattle.packed.proofs.Taken.{start-short, start-taken}
 use Rattle.packed.proofs.Feeding.{running, Reached, more-answers, reached}
 
 -- ---- what the writing call's tests leave
-elements-of : (xs : List ℕ) → anyBeyond xs ≡ false → Elements xs
-unfolding anyBeyond
-elements-of [] e = tt
-elements-of (x ∷ xs) e = let h = or-false (beyond x) (anyBeyond xs) e in (below-p x (h .0), elements-of xs (h .1))
-
 point-of : (ws : List ℕ) (i : ℕ) → i < length ws → anyBadPoint ws ≡ false → badPoint (getD ws i 0) ≡ false
 unfolding anyBadPoint
 point-of [] i h e = absurd (omega arith)

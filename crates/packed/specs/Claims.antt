@@ -10,11 +10,11 @@ use lib.ListN.{length, take, drop, replicate}
 use Rattle.shape.specs.Lengths.{shape, rowsLength}
 use Rattle.shape.specs.Marks.{raw, unused}
 use Rattle.store.specs.Sizes.{streetPosts, storeRoom}
-use Rattle.interpreter.specs.States.{firstState, begunWith}
-use Rattle.transcript.specs.Text.{header, answerText}
-use Rattle.transcript.specs.Program.{Running, begun, fed, output}
+use Rattle.states.specs.States.{firstState, begunWith}
+use Rattle.answers.specs.Text.{header, answerText}
+use Rattle.feeds.specs.Program.{Running, begun, fed, output}
 use Rattle.lines.specs.Writing.{writtenAs, partAs}
-use Rattle.packfile.specs.File.{file}
+use Rattle.packlines.specs.File.{file}
 use Rattle.packfile.specs.Writing.{postAt, givenRefusal, packRefusal}
 use Rattle.packed.specs.Straight.{Loaded, straight}
 

@@ -5,7 +5,7 @@ use mathlib.Core.Path.{_≡_}
 use mathlib.Core.List.{List, [], _∷_, _++_}
 use lib.ListN.{replicate}
 use Rattle.csv.specs.Fields.{written}
-use Rattle.packfile.specs.File.{file}
+use Rattle.packlines.specs.File.{file}
 use Rattle.packfile.specs.Writing.{postAt, givenRefusal}
 
 abbrev pub points : List ℕ

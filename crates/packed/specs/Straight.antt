@@ -13,9 +13,9 @@ use Rattle.session.specs.declared.Session.{Session}
 use Rattle.session.specs.declared.Answer.{Answer}
 use Rattle.session.specs.Sessions.{created}
 use Rattle.session.specs.Rows.{rowAt}
-use Rattle.factory.specs.Packs.{packs, triplePacks}
-use Rattle.sharing.specs.Load.{loadRowAnswer, loadRowRows, loadTripleAnswer, loadTripleRows}
-use Rattle.packfile.specs.Kinds.{drawnFor}
+use Rattle.packs.specs.Packs.{packs, triplePacks}
+use Rattle.load.specs.Load.{loadRowAnswer, loadRowRows, loadTripleAnswer, loadTripleRows}
+use Rattle.kinds.specs.Kinds.{drawnFor}
 use Rattle.packfile.specs.Writing.{postAt}
 
 -- "each post's row is written into its own part of the lent list, post 1 first"

@@ -13,15 +13,15 @@ use Rattle.refusal.specs.Conditions.{outside, wrongLength, anyBeyond, postsTest
 use Rattle.refusal.proofs.Laws.{first-join, all-fail, inside, equal}
 use Rattle.refusal.proofs.Groups.{first-chain, stopped, went-on}
 use Rattle.refusal.proofs.Endings.{refused}
-use Rattle.factory.specs.Packs.{anyBadPoint}
+use Rattle.factory.specs.Calls.{anyBadPoint}
 use Rattle.session.specs.declared.Party.{Party}
 use Rattle.csv.specs.Fields.{overwrite}
 use Rattle.lines.specs.declared.Written.{Written}
 use Rattle.lines.specs.Writing.{notWritten, writtenAs, partAs}
-use Rattle.packfile.specs.Kinds.{drawsLength, anyRow, late, crowded, unknown}
-use Rattle.packfile.specs.File.{file}
+use Rattle.kinds.specs.Kinds.{drawsLength, anyRow, late, crowded, unknown}
+use Rattle.packlines.specs.File.{file}
 use Rattle.packfile.specs.Writing.{postAt, frameTests, drawnTests, givenTests, roomTests, frameRefusal, drawnRefusal, givenRefusal, roomRefusal, packRefusal}
-use Rattle.packfile.specs.Parts.{Given}
+use Rattle.packfile.specs.Between.{Given}
 
 -- ---- each test asked by itself, and the answers joined
 pub frame-joined : (n t post : ℕ) (points kinds : List ℕ) (a b c d e u v w r : ℕ)

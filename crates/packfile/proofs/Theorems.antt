@@ -10,13 +10,14 @@ use Rattle.refusal.proofs.Decided.{keeps}
 use Rattle.csv.specs.Fields.{overwrite}
 use Rattle.lines.specs.declared.Written.{Written}
 use Rattle.lines.specs.Writing.{notWritten}
-use Rattle.packfile.specs.File.{file}
+use Rattle.kinds.specs.Kinds.{late}
+use Rattle.packlines.specs.File.{file}
 use Rattle.packfile.specs.Writing.{postAt, packRefusal}
 use Rattle.packfile.specs.Table.{packTable}
 use Rattle.packfile.specs.Claims.{PackLawful}
 
 pub pack-lawful : PackLawful
-unfolding packRefusal
+unfolding packRefusal late
 pack-lawful = record {
   refusal = λ n t post points kinds draws room. refl;
   answer = λ n t post points kinds draws out.

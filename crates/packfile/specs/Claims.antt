@@ -7,7 +7,7 @@ use Rattle.refusal.specs.Refusal.{first, Keeps}
 use Rattle.csv.specs.Fields.{overwrite}
 use Rattle.lines.specs.declared.Written.{Written}
 use Rattle.lines.specs.Writing.{notWritten, writtenAs, partAs}
-use Rattle.packfile.specs.File.{file}
+use Rattle.packlines.specs.File.{file}
 use Rattle.packfile.specs.Writing.{postAt, packRefusal}
 use Rattle.packfile.specs.Table.{packTable}
 

@@ -1,15 +1,16 @@
 -- Document 02's (vii) with document 01's table, line by line: one flat list of numbered tests. proofs/Theorems.antt shows that the
 -- call's own tests are this list.
 use Prim.Native.Nat.{ℕ, _-_}
+use mathlib.Core.Bool.{_&&_}
 use mathlib.Core.List.{List, [], _∷_}
-use lib.Dec.{ltb}
+use lib.Dec.{eqb, ltb}
 use lib.ListN.{length}
 use Rattle.shape.specs.Lengths.{shape}
 use Rattle.refusal.specs.Refusal.{Test, _when_}
 use Rattle.refusal.specs.Conditions.{outside, wrongLength, anyBeyond}
-use Rattle.factory.specs.Packs.{anyBadPoint}
-use Rattle.packfile.specs.Kinds.{drawsLength, anyRow, late, crowded, unknown}
-use Rattle.packfile.specs.File.{file}
+use Rattle.factory.specs.Calls.{anyBadPoint}
+use Rattle.kinds.specs.Kinds.{drawsLength, anyRow, crowded, unknown}
+use Rattle.packlines.specs.File.{file}
 use Rattle.packfile.specs.Writing.{postAt}
 
 -- `room` is the length of the lent list.
@@ -22,7 +23,7 @@ packTable n t post points kinds draws room =
     ∷ 5 when wrongLength points n
     ∷ 5 when wrongLength kinds 96
     ∷ 5 when wrongLength draws (drawsLength (shape n t) kinds)
-    ∷ 6 when anyRow late 0 kinds
+    ∷ 6 when anyRow (λ row k ks. eqb k 3 && ltb 93 row) 0 kinds
     ∷ 7 when anyRow crowded 0 kinds
     ∷ 8 when anyRow unknown 0 kinds
     ∷ 8 when anyBeyond draws

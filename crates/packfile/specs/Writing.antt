@@ -8,10 +8,10 @@ use Rattle.shape.specs.Bounds.{rowCount}
 use Rattle.shape.specs.Lengths.{shape}
 use Rattle.refusal.specs.Refusal.{Test, _when_, first}
 use Rattle.refusal.specs.Conditions.{outside, wrongLength, anyBeyond, postsTests}
-use Rattle.factory.specs.Packs.{anyBadPoint}
+use Rattle.factory.specs.Calls.{anyBadPoint}
 use Rattle.session.specs.declared.Party.{Party}
-use Rattle.packfile.specs.Kinds.{drawsLength, anyRow, late, crowded, unknown}
-use Rattle.packfile.specs.File.{file}
+use Rattle.kinds.specs.Kinds.{drawsLength, anyRow, late, crowded, unknown}
+use Rattle.packlines.specs.File.{file}
 
 -- The post that the file is for: "Each post i has one check point wi".
 abbrev pub postAt : ℕ → ℕ → ℕ → List ℕ → Party

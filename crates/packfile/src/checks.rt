@@ -1,5 +1,4 @@
 // The refusals of the call but 12. All of them come before the first write.
-use crate::kinds as rows;
 use shape::Shape;
 ghost use mathlib.Core.Path.{_≡_};
 ghost use mathlib.Core.List.{[], _∷_};
@@ -34,12 +33,12 @@ fn drawn(shape: Shape, kinds: &[u8], draws: &[u32]) -> u8
     requires { ⌜ Valid shape × (length (now kinds) ≡ rowCount) ⌝ }
     ensures { λ r. ⌜ r ≡ drawnRefusal shape (now (kinds .entry)) (now (draws .entry)) ⌝ }
 {
-    let numbers = refusal::or_else(rows::unknown_kinds(kinds), refusal::numbers(draws));
+    let numbers = refusal::or_else(kinds::unknown_kinds(kinds), refusal::numbers(draws));
     let placed = refusal::or_else(
-        rows::late_triples(kinds),
-        refusal::or_else(rows::crowded_triples(kinds), numbers),
+        kinds::late_triples(kinds),
+        refusal::or_else(kinds::crowded_triples(kinds), numbers),
     );
-    refusal::or_else(refusal::size(draws, rows::draws_len(shape, kinds)), placed)
+    refusal::or_else(refusal::size(draws, kinds::draws_len(shape, kinds)), placed)
 }
 
 // Lengths are computed only where n, t and the kinds have passed, so that nothing overflows.

@@ -1,8 +1,5 @@
 // The pack file of a post: what a works copies into it, its start line and the lines of its rows.
 mod checks;
-mod kinds;
-mod parts;
-mod text;
 
 use lines::Written;
 use session::Party;
@@ -12,9 +9,10 @@ ghost use Prim.Native.Nat.{_≤_};
 ghost use lib.ListN.{length};
 ghost use Rattle.shape.specs.Bounds.{fewPosts};
 ghost use Rattle.lines.specs.Writing.{notWritten, writtenAs, partAs};
-ghost use Rattle.packfile.specs.File.{file};
+ghost use Rattle.packlines.specs.File.{file};
 ghost use Rattle.packfile.specs.Writing.{postAt, roomRefusal, packRefusal};
-ghost use Rattle.packfile.specs.Parts.{Given, FileRoom};
+ghost use Rattle.packfile.specs.Between.{Given};
+ghost use Rattle.packlines.specs.Between.{FileRoom};
 
 fn not_written(refusal: u8) -> Written
     ensures { λ r. ⌜ r ≡ notWritten refusal ⌝ }
@@ -30,11 +28,11 @@ fn write_in(party: Party, kinds: &[u8], draws: &[u32], room: &mut [u32], out: &m
     ensures { λ r. ⌜ now (out .exit) ≡ partAs (roomRefusal party (now (kinds .entry)) (now (draws .entry)) (length (now (out .entry))))
         (file party (now (kinds .entry)) (now (draws .entry))) (now (out .entry)) ⌝ }
 {
-    let len = text::file_len(party, kinds, draws, room);
+    let len = packlines::file_len(party, kinds, draws, room);
     if out.len() < len {
         return not_written(12);
     }
-    text::put_file(party, kinds, draws, room, out);
+    packlines::put_file(party, kinds, draws, room, out);
     Written { refusal: 0, len }
 }
 

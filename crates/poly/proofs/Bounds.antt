@@ -1,11 +1,16 @@
--- Every value, sum and interpolation is an element; lengths.
+-- Every value, sum and interpolation is an element; a number that is not 0 is an element that is not 0; lengths.
 use Prim.Native.Nat.{ℕ, zero, suc, _<_}
-use mathlib.Core.Path.{_≡_, refl, ap}
+use mathlib.Core.Path.{_≡_, refl, sym, _∙_, ap}
+use mathlib.Core.Logic.{_≢_}
 use mathlib.Core.List.{List, [], _∷_}
+use native.Mathlib.Omega.{arith}
 use lib.Dec.{lit<}
 use lib.ListN.{length}
 use Rattle.field.specs.Modulus.{p}
 use Rattle.field.specs.Arithmetic.{product}
+use Rattle.field.specs.Algebra.{CommutativeRing}
+use Rattle.field.specs.Element.{element}
+use Rattle.field.proofs.Elements.{𝓡, element-zero, element-injective}
 use Rattle.field.proofs.Modular.{sum-below, product-below}
 use Rattle.poly.specs.Polynomial.{value, powersFrom, weighted}
 use Rattle.poly.specs.Interpolation.{nodal, terms, interpolated}
@@ -40,3 +45,6 @@ pub length-powersFrom : (y x k : ℕ) → length (powersFrom y x k) ≡ k
 unfolding powersFrom
 length-powersFrom y x zero = refl
 length-powersFrom y x (suc k) = ap suc (length-powersFrom (product y x) x k)
+
+pub nonzero : (x : ℕ) → 0 < x → x < p → element x ≢ CommutativeRing.zero 𝓡
+nonzero x some low e = absurd (omega (arith, element-injective x 0 low (lit< tt) (e ∙ sym element-zero)))

@@ -6,6 +6,4 @@ pub mod Coefficients
 pub mod Roots
 pub mod Lagrange
 pub mod Numbers
-pub mod Fractions
-pub mod Passing
 pub mod Theorems

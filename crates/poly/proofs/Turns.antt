@@ -12,8 +12,8 @@ use Rattle.field.specs.Modulus.{p}
 use Rattle.field.specs.Arithmetic.{sum, difference, product}
 use Rattle.field.proofs.Modular.{sum-assoc, sum-comm, sum-zero, product-assoc, product-comm, product-one}
 use Rattle.poly.specs.Polynomial.{value, powersFrom, weighted}
-use Rattle.poly.specs.Interpolation.{nodal, others, terms, interpolated}
-use Rattle.poly.proofs.Bounds.{weighted-below, nodal-below, interpolated-below}
+use Rattle.poly.specs.Interpolation.{nodal}
+use Rattle.poly.proofs.Bounds.{weighted-below, nodal-below}
 
 -- Horner's rule, from the last coefficient down
 module _ (cs : List ℕ) (x : ℕ) where
@@ -134,51 +134,9 @@ module _ (xs ys : List ℕ) where
           let b : length ys ≤ i = omega (arith, k (omega arith)) in
           rw (drop-of-length-le ys b, weighted-none (drop i xs)) at e
 
--- the product of z less each node
-module _ (xs : List ℕ) (z : ℕ) where
-  pub nodal-start : product 1 (nodal (drop 0 xs) z) ≡ nodal xs z
-  nodal-start = product-comm 1 (nodal xs z) ∙ product-one (nodal xs z) (nodal-below xs z)
-
-  pub nodal-turn : (i r d v : ℕ) → i < length xs → product r (nodal (drop i xs) z) ≡ nodal xs z → d ≡ difference z (getD xs i 0)
-      → v ≡ product r d → product v (nodal (drop (i + 1) xs) z) ≡ nodal xs z
-  unfolding nodal
-  nodal-turn i r d v h e f g = rw (g, f, add-one i) (product-assoc r _ _ ∙ rw (drop-cons xs i 0 h) at e)
-
-  pub nodal-end : (i r : ℕ) → length xs ≤ i → r < p → product r (nodal (drop i xs) z) ≡ nodal xs z → r ≡ nodal xs z
-  unfolding nodal
-  nodal-end i r h l e = sym (product-one r l) ∙ rw (drop-of-length-le xs h) at e
-
--- the product over the nodes but the j-th
+-- the product of z less each node of two lists
 pub nodal-join : (xs ys : List ℕ) (z : ℕ) → product (nodal xs z) (nodal ys z) ≡ nodal (xs ++ ys) z
 unfolding nodal
 nodal-join [] ys z = product-comm 1 (nodal ys z) ∙ product-one (nodal ys z) (nodal-below ys z)
 nodal-join (x ∷ xs) ys z =
     product-assoc (difference z x) (nodal xs z) (nodal ys z) ∙ ap (product (difference z x)) (nodal-join xs ys z)
-
-pub others-join : (xs : List ℕ) (j z l r v : ℕ) → l ≡ nodal (take j xs) z
-    → r ≡ nodal (take (length xs - (j + 1)) (drop (j + 1) xs)) z → v ≡ product l r → v ≡ nodal (others j xs) z
-others-join xs j z l r v e f g =
-    rw (g, e, f, add-one j, take-all (length xs - suc j) (drop (suc j) xs) (omega (arith, length-drop (suc j) xs)))
-    (nodal-join (take j xs) (drop (suc j) xs) z)
-
--- Lagrange's terms
-module _ (xs ys : List ℕ) (z : ℕ) where
-  pub terms-start : (r : ℕ) → r ≡ 0 → sum r (terms z [] xs ys) ≡ interpolated xs ys z
-  unfolding interpolated
-  terms-start r e = rw e (sum-zero (interpolated xs ys z) (interpolated-below xs ys z))
-
-  terms-none : (passed l : List ℕ) → terms z passed l [] ≡ 0
-  unfolding terms
-  terms-none passed [] = refl
-  terms-none passed (x ∷ l) = refl
-
-  pub terms-end : (j r m : ℕ) → m ≤ j → (m < length xs → length ys ≤ m) → r < p
-      → sum r (terms z (take j xs) (drop j xs) (drop j ys)) ≡ interpolated xs ys z → r ≡ interpolated xs ys z
-  unfolding terms
-  terms-end j r m h k l e = sum-end r (interpolated xs ys z) l (go (decLe (length xs) m))
-    where
-      go : Dec (length xs ≤ m) → sum r 0 ≡ interpolated xs ys z
-      go (yes a) = let b : length xs ≤ j = omega arith in rw (drop-of-length-le xs b) at e
-      go (no a) =
-          let b : length ys ≤ j = omega (arith, k (omega arith)) in
-          rw (drop-of-length-le ys b, terms-none (take j xs) (drop j xs)) at e

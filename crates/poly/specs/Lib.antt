@@ -2,4 +2,3 @@ pub mod Polynomial
 pub mod Interpolation
 pub mod Counting
 pub mod Claims
-pub mod Quotients

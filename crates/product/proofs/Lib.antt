@@ -1,11 +1,2 @@
-pub mod Passed
-pub mod Joining
-pub mod Masking
-pub mod Differences
-pub mod Finishing
-pub mod Openings
-pub mod Sums
-pub mod Multiplying
+pub mod Written
 pub mod Pair
-pub mod Theorems
-pub mod Tables

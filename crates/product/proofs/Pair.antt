@@ -1,32 +1,35 @@
--- Document 02, (viii): the two calls of a finish leave what the old finish left.
+-- Document 02, (viii): the two calls of a finish leave what the old finish left, with anything between them that leaves the triple.
 use Prim.Native.Nat.{ℕ, zero, suc, _+_, _<_}
 use mathlib.Core.Path.{_≡_, refl, sym, _∙_, ap, ap₂, subst}
 use mathlib.Core.Logic.{_≢_}
 use mathlib.Core.Bool.{Bool, false}
 use mathlib.Core.List.{List, [], _∷_, _++_}
 use native.Mathlib.Omega.{arith}
-use lib.ListN.{set}
+use lib.ListN.{length, set, length-set}
 use lib.Seq.{getD-set-same, getD-set-other}
 use Rattle.shape.specs.Bounds.{rowCount}
+use Rattle.shape.specs.Lengths.{shape, rowLength}
 use Rattle.shape.specs.Marks.{collected as collectedMark}
-use Rattle.refusal.specs.Refusal.{Test, _when_, outcome, AllFail}
+use Rattle.refusal.specs.Refusal.{Test, _when_, first, outcome, AllFail}
 use Rattle.refusal.specs.Conditions.{anyBeyond}
 use Rattle.refusal.proofs.Laws.{all-fail, not-refused}
 use Rattle.refusal.proofs.Endings.{accepted}
 use Rattle.session.specs.declared.Session.{Session}
 use Rattle.session.specs.declared.Answer.{Answer}
-use Rattle.session.specs.Sessions.{mark, factorA, factorB, openedA, openedB, withMarks, recalling, collectedTriple, finishedTriple, holding, answer}
-use Rattle.session.specs.Rows.{width, rowAt}
+use Rattle.session.specs.Sessions.{mark, factorA, factorB, openedA, openedB, marked, withMarks, recalling, collectedTriple, finishedTriple, holding, answer}
+use Rattle.session.specs.Rows.{width, rowAt, withRow}
 use Rattle.session.specs.Checks.{frameTests}
 use Rattle.session.proofs.Endings.{accepted-answer}
 use Rattle.opening.specs.Walking.{badRecord}
 use Rattle.opening.proofs.Theorems.{opened-below}
-use Rattle.product.specs.Masks.{maskNumbers}
-use Rattle.product.specs.Finish.{maskA, maskB, finishPlace, finishMarks, unopened, finishTests, finishRefusal, finishAnswer, finishRows, productRow, withProduct}
-use Rattle.product.specs.Collect.{numberA, numberB, collectTests, collectRefusal}
-use Rattle.product.specs.Multiply.{multiplyRefusal, multiplyAnswer, multiplyRows}
-use Rattle.product.specs.Claims.{Whole, collectedSession, PairFinishes}
-use Rattle.product.proofs.Passed.{Collected, collected, multiplied, multiply-clear}
+use Rattle.product_masks.specs.Masks.{maskNumbers}
+use Rattle.collect.specs.Collect.{maskA, maskB, finishPlace, finishMarks, unopened, numberA, numberB, collectTests, collectRefusal}
+use Rattle.multiply.specs.Multiply.{productRow, withProduct, multiplyRefusal, multiplyAnswer, multiplyRows}
+use Rattle.product.specs.Finish.{finishTests, finishRefusal, finishAnswer, finishRows}
+use Rattle.product.specs.Claims.{Whole, withMarksOf, collectedSession, PairFinishes, Untouched, PairFinishesLater}
+use Rattle.collect.proofs.Passed.{Collected, collected, collect-framed}
+use Rattle.multiply.proofs.Passed.{multiplied, multiply-clear}
+use Rattle.product.proofs.Written.{third-read}
 
 -- one more test among those that fail
 with-one : (xs ys : List Test) (k : ℕ) (b : Bool) → AllFail (xs ++ ys) → b ≡ false → AllFail (xs ++ (k when b ∷ ys))
@@ -48,6 +51,31 @@ answered k value new old e = sym (accepted-answer k k value value new new old re
 
 left : (k : ℕ) (new old : List ℕ) → k ≡ 0 → outcome k new old ≡ new
 left k new old e = sym (accepted k k new new old refl e refl)
+
+-- what the second call reads of a later session and rows
+module _ (s : Session) (rows : List ℕ) (s' : Session) (rows' : List ℕ) {r : ℕ} (u : Untouched s rows r s' rows') where
+  wide-same : width s' ≡ width s
+  wide-same = ap₂ (λ (n t : ℕ). rowLength (shape n t)) (u .n-same) (u .t-same)
+
+  frame-same : first (frameTests s rows) ≡ 0 → first (frameTests s' rows') ≡ 0
+  frame-same h = rw (u .n-same, u .t-same, u .post-same, u .point-same, u .length-same) h
+
+  read-same : (k : ℕ) → rowAt (width s) rows' k ≡ rowAt (width s) rows k → rowAt (width s') rows' k ≡ rowAt (width s) rows k
+  read-same k e = ap (λ (v : ℕ). rowAt v rows' k) wide-same ∙ e
+
+  low-same : (k : ℕ) → rowAt (width s) rows' k ≡ rowAt (width s) rows k → anyBeyond (rowAt (width s) rows k) ≡ false
+      → anyBeyond (rowAt (width s') rows' k) ≡ false
+  low-same k e h = ap anyBeyond (read-same k e) ∙ h
+
+  low-back : (k : ℕ) → rowAt (width s) rows' k ≡ rowAt (width s) rows k → anyBeyond (rowAt (width s') rows' k) ≡ false
+      → anyBeyond (rowAt (width s) rows k) ≡ false
+  low-back k e h = sym (ap anyBeyond (read-same k e)) ∙ h
+
+  product-same : withProduct s' (openedA s' r) (openedB s' r) r rows'
+      ≡ withRow (width s) (r + 2)
+      (productRow s (openedA s r) (openedB s r) (rowAt (width s) rows r) (rowAt (width s) rows (r + 1)) (rowAt (width s) rows (r + 2))) rows'
+  unfolding withProduct productRow
+  product-same = rw (u .n-same, u .t-same, u .y-a, u .y-b, u .first-row, u .second-row, u .third-row) refl
 
 module _ (s : Session) (rows : List ℕ) (r : ℕ) (l l' : List ℕ) (w : Whole s) where
   abbrev y : ℕ
@@ -73,11 +101,13 @@ module _ (s : Session) (rows : List ℕ) (r : ℕ) (l l' : List ℕ) (w : Whole 
   is-between z = ap (λ (a : Answer). a .session) (answered (collectRefusal s rows r l l') 0 between s z)
 
   -- the old call from the two
-  old-done : collectRefusal s rows r l l' ≡ 0 → multiplyRefusal between rows r ≡ 0 → finishRefusal s rows r l l' ≡ 0
+  old-done : collectRefusal s rows r l l' ≡ 0 → (s' : Session) (rows' : List ℕ) → Untouched between rows r s' rows'
+      → multiplyRefusal s' rows' r ≡ 0 → finishRefusal s rows r l l' ≡ 0
   unfolding finishRefusal collectRefusal
-  old-done z z' =
+  old-done z s' rows' u z' =
       not-refused (finishTests s rows r l l')
-      (with-one early late 8 third (all-fail (collectTests s rows r l l') tt z) (multiplied between rows r z' .numbers .third-low))
+      (with-one early late 8 third (all-fail (collectTests s rows r l l') tt z)
+      (low-back between rows s' rows' u (r + 2) (u .third-row) (multiplied s' rows' r z' .numbers .third-low)))
 
   module _ (z : finishRefusal s rows r l l' ≡ 0) where
     parts : (collectRefusal s rows r l l' ≡ 0) × (third ≡ false)
@@ -101,50 +131,123 @@ module _ (s : Session) (rows : List ℕ) (r : ℕ) (l l' : List ℕ) (w : Whole 
     other : (k : ℕ) → k ≢ r → mark between k ≡ mark s k
     other k ne = getD-set-other (s .marks) r k collectedMark 0 ne
 
-    second-done : multiplyRefusal between rows r ≡ 0
-    second-done =
-        let f = passed .checked in
-        let k = f .placed .factors in
-        let n = f .numbers .rows-low in
-        multiply-clear between rows r (f .frame)
-        (record {
-          triple-in = k .triple-in;
-          first-mark = getD-set-same (s .marks) r collectedMark 0 (omega (arith, low, w .marks));
-          second-mark = other (r + 1) (λ e. omega arith) ∙ k .second-mark;
-          third-mark = other (r + 2) (λ e. omega arith) ∙ k .third-mark;
-        })
-        (record {
-          a-element = rw a-is (opened-below s (maskA s rows r) l);
-          b-element = rw b-is (opened-below s (maskB s rows r) l');
-          first-low = n .first-low;
-          second-low = n .second-low;
-          third-low = parts .1;
-        })
+    -- the marks that the old call left
+    old-marks : (mark (finishedTriple s r) r ≡ 6) × (mark (finishedTriple s r) (r + 1) ≡ 6) × (mark (finishedTriple s r) (r + 2) ≡ 2)
+    old-marks =
+        let one = set (s .marks) r 6 in
+        let two = set one (r + 1) 6 in
+        let k : r + 2 < rowCount = omega (arith, passed .checked .placed .factors .triple-in) in
+        let e : length one ≡ rowCount = length-set (s .marks) r 6 ∙ w .marks in
+        let f : length two ≡ rowCount = length-set one (r + 1) 6 ∙ e in (
+          getD-set-other two (r + 2) r 2 0 (λ e. omega arith) ∙ getD-set-other one (r + 1) r 6 0 (λ e. omega arith)
+              ∙ getD-set-same (s .marks) r 6 0 (omega (arith, w .marks)),
+          getD-set-other two (r + 2) (r + 1) 2 0 (λ e. omega arith) ∙ getD-set-same one (r + 1) 6 0 (omega arith),
+          getD-set-same two (r + 2) 2 0 (omega arith),
+        )
 
-    rows-same : multiplyRows between rows r ≡ finishRows s rows r l l'
-    unfolding withProduct productRow
-    rows-same =
-        left (multiplyRefusal between rows r) (withProduct between (openedA between r) (openedB between r) r rows) rows second-done
-        ∙ ap₂ (λ (a b : ℕ). withProduct s a b r rows) a-is b-is
-        ∙ sym (left (finishRefusal s rows r l l') (withProduct s y y' r rows) rows z)
+    old-session : finishAnswer s rows r l l' .session ≡ finishedTriple s r
+    old-session = ap (λ (a : Answer). a .session) (answered (finishRefusal s rows r l l') 0 (finishedTriple s r) s z)
 
-    session-same : multiplyAnswer between rows r ≡ holding 0 0 (recalling (finishAnswer s rows r l l' .session) r y y')
-    session-same =
-        answered (multiplyRefusal between rows r) 0 (finishedTriple between r) between second-done
-        ∙ ap (λ (m : List ℕ). holding 0 0 (withMarks between (set (set m (r + 1) 6) (r + 2) 2))) (set-again (s .marks) r 7 6)
-        ∙ sym (ap (λ (a : Answer). holding 0 0 (recalling (a .session) r y y')) (answered (finishRefusal s rows r l l') 0 (finishedTriple s r) s z))
+    with-old-marks : (q : Session) → finishedTriple q r ≡ withMarksOf q r (finishAnswer s rows r l l' .session)
+    with-old-marks q =
+        let (e, f, g) = old-marks in
+        sym (ap (withMarksOf q r) old-session
+        ∙ ap₂ (λ (a b : ℕ). marked (marked (marked q r a) (r + 1) b) (r + 2) (mark (finishedTriple s r) (r + 2))) e f
+        ∙ ap (λ (a : ℕ). marked (marked (marked q r 6) (r + 1) 6) (r + 2) a) g)
+
+    -- right behind the first call: the old session, but for the two numbers that stay
+    both-marks : finishedTriple (collectedSession s rows r l l') r ≡ recalling (finishAnswer s rows r l l' .session) r y y'
+    both-marks =
+        ap (λ (q : Session). finishedTriple q r) (is-between (parts .0))
+        ∙ ap (λ (m : List ℕ). withMarks between (set (set m (r + 1) 6) (r + 2) 2)) (set-again (s .marks) r 7 6)
+        ∙ sym (ap (λ (q : Session). recalling q r y y') old-session)
+
+    -- the row that it wrote
+    abbrev row : List ℕ
+    row = productRow s y y' (rowAt (width s) rows r) (rowAt (width s) rows (r + 1)) (rowAt (width s) rows (r + 2))
+
+    old-rows : finishRows s rows r l l' ≡ withRow (width s) (r + 2) row rows
+    unfolding withProduct
+    old-rows = left (finishRefusal s rows r l l') (withProduct s y y' r rows) rows z
+
+    old-row : rowAt (width s) (finishRows s rows r l l') (r + 2) ≡ row
+    old-row =
+        ap (λ (m : List ℕ). rowAt (width s) m (r + 2)) old-rows
+        ∙ third-read s rows r y y' (collect-framed s rows r l l' (passed .checked) .sized) (passed .checked .placed .factors .triple-in)
+
+    -- the second call, on a later session and rows
+    module _ (s' : Session) (rows' : List ℕ) (u : Untouched between rows r s' rows') where
+      second-done : multiplyRefusal s' rows' r ≡ 0
+      second-done =
+          let f = passed .checked in
+          let k = f .placed .factors in
+          let n = f .numbers .rows-low in
+          multiply-clear s' rows' r (frame-same between rows s' rows' u (f .frame))
+          (record {
+            triple-in = k .triple-in;
+            first-mark = u .first-mark ∙ getD-set-same (s .marks) r collectedMark 0 (omega (arith, low, w .marks));
+            second-mark = u .second-mark ∙ other (r + 1) (λ e. omega arith) ∙ k .second-mark;
+            third-mark = u .third-mark ∙ other (r + 2) (λ e. omega arith) ∙ k .third-mark;
+          })
+          (record {
+            a-element = rw (u .y-a, a-is) (opened-below s (maskA s rows r) l);
+            b-element = rw (u .y-b, b-is) (opened-below s (maskB s rows r) l');
+            first-low = low-same between rows s' rows' u r (u .first-row) (n .first-low);
+            second-low = low-same between rows s' rows' u (r + 1) (u .second-row) (n .second-low);
+            third-low = low-same between rows s' rows' u (r + 2) (u .third-row) (parts .1);
+          })
+
+      rows-later : multiplyRows s' rows' r ≡ withRow (width s) (r + 2) (rowAt (width s) (finishRows s rows r l l') (r + 2)) rows'
+      unfolding productRow
+      rows-later =
+          left (multiplyRefusal s' rows' r) (withProduct s' (openedA s' r) (openedB s' r) r rows') rows' second-done
+          ∙ product-same between rows s' rows' u
+          ∙ ap₂ (λ (a b : ℕ). withRow (width s) (r + 2) (productRow s a b (rowAt (width s) rows r) (rowAt (width s) rows (r + 1)) (rowAt (width s) rows (r + 2))) rows')
+          a-is b-is
+          ∙ sym (ap (λ (m : List ℕ). withRow (width s) (r + 2) m rows') old-row)
+
+      session-later : multiplyAnswer s' rows' r ≡ holding 0 0 (withMarksOf s' r (finishAnswer s rows r l l' .session))
+      session-later =
+          answered (multiplyRefusal s' rows' r) 0 (finishedTriple s' r) s' second-done ∙ ap (holding 0 0) (with-old-marks s')
+
+pub pair-finishes-later : PairFinishesLater
+pair-finishes-later s rows r l l' s' rows' w u = record {
+  both = λ z. (parts s rows r l l' w z .0, second-done s rows r l l' w z s' rows' (moved (parts s rows r l l' w z .0)));
+  one = λ z z'. old-done s rows r l l' w z s' rows' (moved z) z';
+  rows-are = λ z. rows-later s rows r l l' w z s' rows' (moved (parts s rows r l l' w z .0));
+  session-is = λ z. session-later s rows r l l' w z s' rows' (moved (parts s rows r l l' w z .0));
+}
+  where
+    moved : collectRefusal s rows r l l' ≡ 0 → Untouched (between s rows r l l' w) rows r s' rows'
+    moved z = subst (λ (q : Session). Untouched q rows r s' rows') (is-between s rows r l l' w z) u
+
+-- nothing between the two calls
+untouched : (s : Session) (rows : List ℕ) (r : ℕ) → Untouched s rows r s rows
+untouched s rows r = record {
+  n-same = refl;
+  t-same = refl;
+  post-same = refl;
+  point-same = refl;
+  length-same = refl;
+  first-row = refl;
+  second-row = refl;
+  third-row = refl;
+  first-mark = refl;
+  second-mark = refl;
+  third-mark = refl;
+  y-a = refl;
+  y-b = refl;
+}
 
 pub pair-finishes : PairFinishes
-pair-finishes s rows r l l' w = record {
-  both = λ z.
-      let e = is-between s rows r l l' w (parts s rows r l l' w z .0) in
-      (parts s rows r l l' w z .0, subst (λ (q : Session). multiplyRefusal q rows r ≡ 0) (sym e) (second-done s rows r l l' w z));
-  one = λ z z'.
-      old-done s rows r l l' w z (subst (λ (q : Session). multiplyRefusal q rows r ≡ 0) (is-between s rows r l l' w z) z');
-  rows-are = λ z.
-      let e = is-between s rows r l l' w (parts s rows r l l' w z .0) in
-      ap (λ (q : Session). multiplyRows q rows r) e ∙ rows-same s rows r l l' w z;
-  session-is = λ z.
-      let e = is-between s rows r l l' w (parts s rows r l l' w z .0) in
-      ap (λ (q : Session). multiplyAnswer q rows r) e ∙ session-same s rows r l l' w z;
-}
+pair-finishes s rows r l l' w =
+    let q = collectedSession s rows r l l' in
+    let at-once = pair-finishes-later s rows r l l' q rows w (untouched q rows r) in
+    record {
+      both = at-once .both;
+      one = at-once .one;
+      rows-are = λ z.
+          at-once .rows-are z ∙ ap (λ (m : List ℕ). withRow (width s) (r + 2) m rows) (old-row s rows r l l' w z) ∙ sym (old-rows s rows r l l' w z);
+      session-is = λ z.
+          at-once .session-is z ∙ ap (holding 0 0) (sym (with-old-marks s rows r l l' w z q) ∙ both-marks s rows r l l' w z);
+    }

@@ -10,8 +10,8 @@ use Rattle.refusal.proofs.Laws.{inside, equal, all-fail, not-refused}
 use Rattle.refusal.proofs.Groups.{chained, stopped, went-on, fail-parts}
 use Rattle.refusal.proofs.Endings.{accepted}
 use Rattle.refusal.proofs.Ranges.{posts-valid}
-use Rattle.opening.specs.Blocks.{PostIn}
-use Rattle.opening.proofs.Blocks.{post-in}
+use Rattle.blocks.specs.Between.{PostIn}
+use Rattle.blocks.proofs.Blocks.{post-in}
 use Rattle.records.specs.Records.{placeTests, placeRefusal, messageTests, putTests, putRefusal, withBlock, blockOf, noBlock, putRecord, removedRecord}
 
 module _ (n t : ℕ) (blocks : List ℕ) (post : ℕ) where

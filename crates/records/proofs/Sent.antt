@@ -18,7 +18,8 @@ use Rattle.shape.specs.Row.{coefficients}
 use Rattle.session.specs.declared.Party.{Party}
 use Rattle.session.specs.Rows.{rowAt}
 use Rattle.session.proofs.RowLaws.{row-same, row-other}
-use Rattle.opening.specs.Blocks.{sent, PostIn}
+use Rattle.blocks.specs.Blocks.{sent}
+use Rattle.blocks.specs.Between.{PostIn}
 use Rattle.records.specs.Records.{withBlock}
 
 -- a block's mark, and the coefficients behind it

@@ -13,7 +13,8 @@ use Rattle.refusal.specs.Refusal.{outcome}
 use Rattle.refusal.proofs.Decided.{keeps}
 use Rattle.refusal.proofs.Endings.{refused, accepted}
 use Rattle.session.specs.declared.Party.{Party}
-use Rattle.opening.specs.Blocks.{sent, PostIn}
+use Rattle.blocks.specs.Blocks.{sent}
+use Rattle.blocks.specs.Between.{PostIn}
 use Rattle.records.specs.Records.{placeRefusal, putRefusal, withBlock, blockOf, noBlock}
 use Rattle.records.specs.Table.{putTable, removeTable}
 use Rattle.records.specs.Claims.{RecordsLawful, SentAfter, MessagesSent}

@@ -9,7 +9,7 @@ use borrow.Rule.Slice.PartMut.{putMid, same-len-mid}
 use Rattle.lists.proofs.Parts.{part-length, put-whole}
 use Rattle.shape.specs.declared.Shape.{Shape}
 use Rattle.shape.specs.Lengths.{blockLength, recordLength}
-use Rattle.opening.specs.Blocks.{PostIn}
+use Rattle.blocks.specs.Between.{PostIn}
 use Rattle.records.specs.Records.{withBlock, noBlock}
 
 -- the mark is stored, and the message goes behind it

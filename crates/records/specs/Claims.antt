@@ -7,7 +7,7 @@ use mathlib.Core.List.{List, []}
 use Rattle.shape.specs.Lengths.{shape}
 use Rattle.refusal.specs.Refusal.{first, Keeps}
 use Rattle.session.specs.declared.Party.{Party}
-use Rattle.opening.specs.Blocks.{sent}
+use Rattle.blocks.specs.Blocks.{sent}
 use Rattle.records.specs.Records.{placeRefusal, putRefusal, withBlock, blockOf, noBlock, putRecord, removedRecord}
 use Rattle.records.specs.Table.{putTable, removeTable}
 

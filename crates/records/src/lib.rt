@@ -4,7 +4,7 @@ ghost use mathlib.Core.Path.{_≡_};
 ghost use Prim.Native.Nat.{suc};
 ghost use lib.ListN.{length};
 ghost use Rattle.shape.specs.Lengths.{Valid, recordLength, messageLength};
-ghost use Rattle.opening.specs.Blocks.{PostIn};
+ghost use Rattle.blocks.specs.Between.{PostIn};
 ghost use Rattle.records.specs.Records.{placeRefusal, putRefusal, withBlock, blockOf, noBlock, putRecord, removedRecord};
 
 // 1, 2, 3, and 5 of the record.
@@ -51,7 +51,7 @@ pub fn put_block(shape: Shape, blocks: &mut [u32], post: usize, message: &[u32])
     requires { ⌜ Valid shape × PostIn shape post × (length (now blocks) ≡ recordLength shape) × (length (now message) ≡ messageLength shape) ⌝ }
     ensures { λ r. ⌜ now (blocks .exit) ≡ withBlock shape post (blockOf (now (message .entry))) (now (blocks .entry)) ⌝ }
 {
-    let from = opening::record::block_at(shape, post);
+    let from = blocks::block_at(shape, post);
     let end = from + shape.block_len();
     fill(&mut blocks[from..end], message);
 }
@@ -60,7 +60,7 @@ fn remove_block(shape: Shape, blocks: &mut [u32], post: usize)
     requires { ⌜ Valid shape × PostIn shape post × (length (now blocks) ≡ recordLength shape) ⌝ }
     ensures { λ r. ⌜ now (blocks .exit) ≡ withBlock shape post (noBlock shape) (now (blocks .entry)) ⌝ }
 {
-    let from = opening::record::block_at(shape, post);
+    let from = blocks::block_at(shape, post);
     let end = from + shape.block_len();
     lists::clear(&mut blocks[from..end]);
 }

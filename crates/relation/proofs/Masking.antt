@@ -15,9 +15,10 @@ use Rattle.refusal.proofs.Endings.{refused, accepted}
 use Rattle.session.specs.declared.Session.{Session}
 use Rattle.session.specs.Sessions.{shapeOf}
 use Rattle.session.specs.Rows.{width, withRow}
-use Rattle.session.specs.Checks.{frameTests, Framed, Sized}
+use Rattle.session.specs.Checks.{frameTests}
+use Rattle.session.specs.Between.{Framed, Sized}
 use Rattle.session.proofs.Calls.{frame-passed, stopped-at-frame, past-frame, allowed}
-use Rattle.product.proofs.Joining.{joined}
+use Rattle.product_masks.proofs.Joining.{joined}
 use Rattle.shape.specs.Marks.{unused}
 use Rattle.terms.specs.declared.Terms.{Terms}
 use Rattle.terms.specs.Listed.{termsOf, factorsOf}

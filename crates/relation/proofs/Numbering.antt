@@ -9,7 +9,7 @@ use Rattle.refusal.proofs.Laws.{Numbered}
 use Rattle.session.specs.declared.Session.{Session}
 use Rattle.session.specs.Rows.{width, rowAt}
 use Rattle.session.specs.Checks.{noRow, wrongMark}
-use Rattle.product.specs.Masks.{factorNumbers}
+use Rattle.product_masks.specs.Masks.{factorNumbers}
 use Rattle.terms.specs.declared.Term.{Term}
 use Rattle.terms.specs.declared.Terms.{Terms}
 use Rattle.terms.specs.Listed.{plain, termsOf, factorsOf}

@@ -12,11 +12,11 @@ use Rattle.shape.specs.Bounds.{rowCount}
 use Rattle.shape.specs.Lengths.{rowLength, vLength, masksLength}
 use Rattle.shape.specs.Row.{coefficients}
 use Rattle.session.specs.Rows.{rowAt, withRow}
-use Rattle.session.specs.Checks.{Sized, RowIn, TripleIn}
+use Rattle.session.specs.Between.{Sized, RowIn, TripleIn}
 use Rattle.session.proofs.Passed.{row-below}
 use Rattle.session.proofs.RowLaws.{next, length-row, length-with-row}
-use Rattle.session.proofs.Writers.{length-combined}
-use Rattle.product.specs.Masks.{maskRow, bothMasks}
+use Rattle.sums.proofs.Writers.{length-combined}
+use Rattle.product_masks.specs.Masks.{maskRow, bothMasks}
 use Rattle.terms.specs.declared.Term.{Term}
 use Rattle.relation.specs.Tests.{Every, Factors}
 use Rattle.relation.specs.Masks.{termMasks}

@@ -17,12 +17,13 @@ use Rattle.refusal.proofs.Groups.{fail-parts}
 use Rattle.session.specs.declared.Session.{Session}
 use Rattle.session.specs.Sessions.{shapeOf, mark, factorA, factorB}
 use Rattle.session.specs.Rows.{width}
-use Rattle.session.specs.Checks.{frameTests, noRow, noTriple, wrongMark, Framed}
+use Rattle.session.specs.Checks.{frameTests, noRow, noTriple, wrongMark}
+use Rattle.session.specs.Between.{Framed}
 use Rattle.session.proofs.Calls.{frame-passed}
 use Rattle.opening.specs.Walking.{recordLength, badRecord, tooFew, disagree}
 use Rattle.opening.proofs.Passed.{clear-parts}
-use Rattle.product.specs.Masks.{tripleMarks}
-use Rattle.product.proofs.Passed.{Factored, factored}
+use Rattle.product_masks.specs.Masks.{tripleMarks}
+use Rattle.product_masks.proofs.Passed.{Factored, factored}
 use Rattle.terms.specs.declared.Term.{Term}
 use Rattle.terms.specs.Listed.{mostTerms, plain, productsOf, collected, termsOf, factorsOf}
 use Rattle.terms.proofs.Placing.{terms-again, factors-again}
@@ -45,7 +46,7 @@ each-fail f k [] a = tt
 each-fail f k (t ∷ ts) a =
     let q = fail-parts (f k t) (eachAt f (suc k) ts) a in (q .0, each-fail f (suc k) ts (q .1))
 
-forget : (P : Term → Type 0) (k : ℕ) (ts : List Term) → AllAt (λ k. P) k ts → All P ts
+pub forget : (P : Term → Type 0) (k : ℕ) (ts : List Term) → AllAt (λ k. P) k ts → All P ts
 forget P k [] a = tt
 forget P k (t ∷ ts) a = (a .0, forget P (suc k) ts (a .1))
 
@@ -55,7 +56,7 @@ products-step : (P Q : Term → Type 0) → ((t : Term) → plain t ≡ false �
 products-step P Q h true t ts e x r = r
 products-step P Q h false t ts e x r = (h t e x, r)
 
-products-all : (P Q : Term → Type 0) → ((t : Term) → plain t ≡ false → P t → Q t) → (ts : List Term) → All P ts → All Q (productsOf ts)
+pub products-all : (P Q : Term → Type 0) → ((t : Term) → plain t ≡ false → P t → Q t) → (ts : List Term) → All P ts → All Q (productsOf ts)
 unfolding productsOf
 products-all P Q h [] a = tt
 products-all P Q h (t ∷ ts) a = products-step P Q h (plain t) t ts refl (a .0) (products-all P Q h ts (a .1))

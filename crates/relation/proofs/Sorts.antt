@@ -14,8 +14,8 @@ use Rattle.refusal.proofs.Groups.{three}
 use Rattle.session.specs.declared.Session.{Session}
 use Rattle.session.specs.Sessions.{shapeOf}
 use Rattle.session.specs.Checks.{noRow, noTriple, wrongMark}
-use Rattle.product.specs.Masks.{tripleMarks, factorNumbers}
-use Rattle.product.proofs.Joining.{joined}
+use Rattle.product_masks.specs.Masks.{tripleMarks, factorNumbers}
+use Rattle.product_masks.proofs.Joining.{joined}
 use Rattle.terms.specs.declared.Term.{Term}
 use Rattle.terms.specs.Listed.{plain}
 use Rattle.relation.specs.Tests.{byKind, placeTests, markTests, Placed}

@@ -15,8 +15,8 @@ use Rattle.session.specs.Sessions.{shapeOf, factorA, factorB, marked, collected
 use Rattle.session.specs.Rows.{width, sumsAt, rowAt, withRow, summed}
 use Rattle.session.specs.Checks.{frameTests, noRow, wrongMark}
 use Rattle.opening.specs.Walking.{recordLength, badRecord, tooFew, disagree, opened}
-use Rattle.product.specs.Masks.{maskRow, factorNumbers}
-use Rattle.product.specs.Finish.{withProduct}
+use Rattle.product_masks.specs.Masks.{maskRow, factorNumbers}
+use Rattle.multiply.specs.Multiply.{withProduct}
 use Rattle.terms.specs.declared.Term.{Term}
 use Rattle.terms.specs.declared.Terms.{Terms}
 use Rattle.terms.specs.Listed.{plain, termsOf, factorsOf}

@@ -12,7 +12,7 @@ use Rattle.session.specs.declared.Answer.{Answer}
 use Rattle.session.specs.Sessions.{shapeOf, maskedTriple, answer}
 use Rattle.session.specs.Rows.{width}
 use Rattle.session.specs.Checks.{frameTests}
-use Rattle.product.specs.Masks.{factorNumbers, bothMasks}
+use Rattle.product_masks.specs.Masks.{factorNumbers, bothMasks}
 use Rattle.terms.specs.declared.Term.{Term}
 use Rattle.terms.specs.declared.Terms.{Terms}
 use Rattle.terms.specs.Listed.{plain, termsOf, factorsOf}

@@ -5,14 +5,14 @@ use Prim.Native.Nat.{ℕ, _+_, _*_, _-_}
 use mathlib.Core.Path.{_≡_}
 use mathlib.Core.Bool.{not}
 use mathlib.Core.List.{List, [], _∷_, _++_}
-use lib.Dec.{eqb}
+use lib.Dec.{eqb, ltb}
 use lib.ListN.{length}
 use Rattle.refusal.specs.Refusal.{Test, _when_, first}
 use Rattle.refusal.specs.Conditions.{outside, wrongLength, beyond, anyBeyond, badPoint}
 use Rattle.session.specs.declared.Session.{Session}
 use Rattle.session.specs.Sessions.{factorA, factorB}
 use Rattle.session.specs.Rows.{width, rowAt}
-use Rattle.session.specs.Checks.{noRow, noTriple, wrongMark}
+use Rattle.session.specs.Checks.{wrongMark}
 use Rattle.opening.specs.Walking.{recordLength, tooFew, disagree}
 use Rattle.terms.specs.declared.Term.{Term}
 use Rattle.terms.specs.Listed.{plain, productsOf, collected}
@@ -22,7 +22,7 @@ use Rattle.relation.specs.Finish.{recordTests, recordA, recordB, termMas
 
 -- a term's lines
 abbrev pub sixes : Term → List Test
-sixes t = 6 when noRow (t .row) ∷ byKind (plain t) [] (6 when noRow (t .second) ∷ 6 when noTriple (t .first) ∷ [])
+sixes t = 6 when ltb 95 (t .row) ∷ byKind (plain t) [] (6 when ltb 95 (t .second) ∷ 6 when ltb 93 (t .first) ∷ [])
 
 -- with mark m on the triple's first row: 3 for masks, 5 for a finish
 abbrev pub sevens : Session → ℕ → Term → List Test
@@ -65,7 +65,7 @@ relationFinishTable s rows ts d blocks =
     ∷ 5 when wrongLength rows (96 * width s)
     ∷ 5 when wrongLength blocks (length (productsOf ts) * (2 * recordLength s))
     ∷ 14 when outside 1 32 (length ts)
-    ∷ (((each sixes ts ++ (6 when noRow d ∷ []))
+    ∷ (((each sixes ts ++ (6 when ltb 95 d ∷ []))
     ++ ((each (sevens s 5) ts
     ++ (7 when namedTwice (productsOf ts)
     ∷ (each (λ t. 7 when not (eqb (factorA s (t .first)) (t .row)) ∷ 7 when not (eqb (factorB s (t .first)) (t .second)) ∷ []) (productsOf ts)

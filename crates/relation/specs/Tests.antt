@@ -8,9 +8,10 @@ use Rattle.shape.specs.Marks.{held}
 use Rattle.refusal.specs.Refusal.{Test, _when_}
 use Rattle.refusal.specs.Conditions.{outside}
 use Rattle.session.specs.declared.Session.{Session}
-use Rattle.session.specs.Checks.{noRow, noTriple, wrongMark, RowIn, TripleIn}
+use Rattle.session.specs.Checks.{noRow, noTriple, wrongMark}
+use Rattle.session.specs.Between.{RowIn, TripleIn}
 use Rattle.shape.specs.declared.Shape.{Shape}
-use Rattle.product.specs.Masks.{tripleMarks}
+use Rattle.product_masks.specs.Masks.{tripleMarks}
 use Rattle.terms.specs.declared.Term.{Term}
 use Rattle.terms.specs.declared.Terms.{Terms}
 use Rattle.terms.specs.Listed.{mostTerms, plain, productsOf, termsOf, factorsOf}

@@ -68,7 +68,7 @@ fn mark(session: Session, term: Term, mark: u8) -> u8
     if term.plain() {
         return session::checks::wrong_mark(&session.marks, row, shape::HELD);
     }
-    product::masks::triple_marks(
+    product_masks::triple_marks(
         session,
         row,
         term.second as usize,

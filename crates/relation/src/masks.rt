@@ -13,8 +13,8 @@ ghost use Rattle.shape.specs.Lengths.{Valid, rowLength, masksLength};
 ghost use Rattle.refusal.specs.Refusal.{first};
 ghost use Rattle.session.specs.Sessions.{shapeOf, maskedTriple};
 ghost use Rattle.session.specs.Rows.{withRow};
-ghost use Rattle.session.specs.Checks.{Sized, Framed};
-ghost use Rattle.product.specs.Masks.{bothMasks};
+ghost use Rattle.session.specs.Between.{Sized, Framed};
+ghost use Rattle.product_masks.specs.Masks.{bothMasks};
 ghost use Rattle.terms.specs.Listed.{termsOf, factorsOf};
 ghost use Rattle.relation.specs.Tests.{each, Counted, Few, Every, Placed, Factors};
 ghost use Rattle.relation.specs.Masks.{masksSizes, maskNumberTests, masksOwn, maskedTerms, termMasks};
@@ -30,7 +30,7 @@ fn number(shape: Shape, rows: &[u32], term: Term) -> u8
         return coefficient;
     }
     let row = term.row as usize;
-    let factors = product::masks::factor_numbers(
+    let factors = product_masks::factor_numbers(
         shape,
         rows,
         row,
@@ -104,7 +104,7 @@ fn write_mask(shape: Shape, rows: &[u32], term: Term, i: usize, out: &mut [u32])
     let size = shape.masks_len();
     let from = i * size;
     let end = from + size;
-    product::masks::masks_accepted(
+    product_masks::masks_accepted(
         shape,
         rows,
         term.row as usize,
@@ -129,7 +129,8 @@ fn remember(session: Session, term: Term) -> Session
     requires { ⌜ (term .first ≤ lastTriple) × (term .row ≤ lastRow) × (term .second ≤ lastRow) ⌝ }
     ensures { λ r. ⌜ r ≡ maskedTriple session (term .first) (term .row) (term .second) ⌝ }
 {
-    let answer = session.done_masking(term.first as usize, term.row as usize, term.second as usize);
+    let first = term.first as usize;
+    let answer = session.answer_masking(0, first, term.row as usize, term.second as usize);
     answer.session
 }
 

@@ -1,5 +1,2 @@
-pub mod Ends
-pub mod Records
-pub mod Summing
-pub mod Finishing
+pub mod Kept
 pub mod Opens

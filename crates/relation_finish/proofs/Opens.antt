@@ -14,28 +14,30 @@ use Rattle.refusal.proofs.Endings.{refused, accepted}
 use Rattle.session.specs.declared.Session.{Session}
 use Rattle.session.specs.declared.Answer.{Answer}
 use Rattle.session.specs.Sessions.{shapeOf, partyOf, holding, marked}
-use Rattle.session.specs.Checks.{Framed, RowIn}
+use Rattle.session.specs.Between.{Framed, RowIn}
 use Rattle.shape.specs.Bounds.{lastRow}
 use Rattle.shape.specs.Marks.{held}
 use Rattle.session.proofs.Endings.{refused-answer, accepted-answer}
-use Rattle.opening.specs.declared.Opened.{Opened}
+use Rattle.walk.specs.declared.Opened.{Opened}
+use Rattle.walk.proofs.Settles.{decided, opened-decided}
 use Rattle.opening.specs.Walking.{tooFew, disagree, opened, openedRow}
-use Rattle.opening.proofs.Settles.{decided, opened-decided}
-use Rattle.product.specs.Finish.{eitherOf, withProduct}
+use Rattle.mask_opening.specs.Either.{eitherOf}
+use Rattle.multiply.specs.Multiply.{withProduct}
 use Rattle.terms.specs.declared.Term.{Term}
 use Rattle.terms.specs.declared.Terms.{Terms}
 use Rattle.terms.specs.Listed.{mostTerms, termsOf, factorsOf}
-use Rattle.relation_finish.specs.declared.OpenedTerms.{OpenedTerms}
+use Rattle.relation_writing.specs.declared.OpenedTerms.{OpenedTerms}
 use Rattle.relation.specs.Tests.{eachAt, Counted, Few, Every, Factors, Placed}
 use Rattle.relation.specs.Finish.{recordA, recordB, termMaskA, termMaskB, termNumberA, termNumberB, fewTests, offTests, openTests}
 use Rattle.relation.specs.Finish.{withProducts, withSum, pairDone, finishedTerms, relationDone}
 use Rattle.relation.specs.Finish.{relationFinishChecks, relationFinishRefusal, relationFinishAnswer, relationFinishRows}
-use Rattle.relation_finish.specs.Steps.{withOpened, openedTerms, unopened, openedAll, unopenedBy, openedFinish, productsWritten, triplesFinished}
+use Rattle.relation_writing.specs.Steps.{productsWritten, triplesFinished}
+use Rattle.relation_finish.specs.Steps.{withOpened, openedTerms, unopened, openedAll, unopenedBy, openedFinish}
 use Rattle.relation.proofs.Passing.{numbered-append}
 use Rattle.relation.proofs.Numbering.{checks-numbered, few-numbered, open-numbered}
 use Rattle.relation.proofs.Loops.{walked}
-use Rattle.relation_finish.proofs.Finishing.{checks-allowed}
-use Rattle.relation_finish.proofs.Summing.{products-walk, finished-walk, products-of, finished-of}
+use Rattle.relation_checks.proofs.Finishing.{checks-allowed}
+use Rattle.relation_writing.proofs.Summing.{products-walk, finished-walk, products-of, finished-of}
 
 -- 9, or else 13
 abbrev told : Bool → Bool → ℕ

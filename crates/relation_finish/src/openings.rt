@@ -1,22 +1,22 @@
 // The openings of a relation's finish: y and y' of every product term, with the first refusal among them.
-use crate::OpenedTerms;
-use crate::checks;
-use opening::Opened;
+use relation_writing::OpenedTerms;
 use session::Session;
 use terms::Term;
 use terms::Terms;
+use walk::Opened;
 ghost use mathlib.Core.Path.{_≡_};
 ghost use Prim.Native.Nat.{_+_, _*_, _≤_, _<_};
 ghost use lib.ListN.{length};
 ghost use Rattle.shape.specs.Lengths.{recordLength};
 ghost use Rattle.session.specs.Sessions.{shapeOf};
-ghost use Rattle.session.specs.Checks.{Framed, RowIn};
+ghost use Rattle.session.specs.Between.{Framed, RowIn};
 ghost use Rattle.opening.specs.Walking.{openedRow};
-ghost use Rattle.product.specs.Masks.{maskRow};
+ghost use Rattle.product_masks.specs.Masks.{maskRow};
 ghost use Rattle.terms.specs.Listed.{mostTerms, factorsOf};
 ghost use Rattle.relation.specs.Tests.{Few, Every, Factors};
 ghost use Rattle.relation.specs.Finish.{recordAt};
-ghost use Rattle.relation_finish.specs.Steps.{Pair, keptAt, withOpened, openedAll, unopenedBy};
+ghost use Rattle.relation_checks.specs.Steps.{Pair};
+ghost use Rattle.relation_finish.specs.Steps.{keptAt, withOpened, openedAll, unopenedBy};
 
 // A factor row less a row of the triple, opened with the record at place j.
 fn open_mask(
@@ -31,8 +31,8 @@ fn open_mask(
         × (j * recordLength (shapeOf session) + recordLength (shapeOf session) ≤ length (now blocks)) ⌝ }
     ensures { λ r. ⌜ r ≡ openedRow session (maskRow (shapeOf session) (now (rows .entry)) factor row) (recordAt session (now (blocks .entry)) j) ⌝ }
 {
-    let blocks = checks::record(session.shape(), blocks, j);
-    product::finish::open_mask(session.party(), rows, factor, row, blocks)
+    let blocks = relation_checks::record(session.shape(), blocks, j);
+    mask_opening::open_mask(session.party(), rows, factor, row, blocks)
 }
 
 // 9, or else 13, of the product term at place k behind those before it, and its two numbers.
@@ -40,9 +40,9 @@ fn keep(k: usize, a: Opened, b: Opened, before: OpenedTerms) -> OpenedTerms
     requires { ⌜ k < mostTerms ⌝ }
     ensures { λ r. ⌜ r ≡ keptAt k a b before ⌝ }
 {
-    let own = product::finish::either(a.refusal, b.refusal);
+    let own = mask_opening::either(a.refusal, b.refusal);
     let mut opened = before;
-    opened.refusal = product::finish::either(before.refusal, own);
+    opened.refusal = mask_opening::either(before.refusal, own);
     opened.y_a[k] = a.value;
     opened.y_b[k] = b.value;
     opened

@@ -1,20 +1,27 @@
 -- A call that is not refused: the marks allow it, and the list of rows has its full length.
-use Prim.Native.Nat.{ℕ, _+_, _*_}
+use Prim.Native.Nat.{ℕ, _+_}
 use mathlib.Core.Path.{_≡_, refl, sym, _∙_, subst}
 use mathlib.Core.Logic.{inl}
 use mathlib.Core.List.{List, _++_}
 use native.Mathlib.Omega.{arith}
 use lib.ListN.{length}
 use Rattle.session.specs.declared.Session.{Session}
-use Rattle.sharing.proofs.Passed.{row-loaded, triple-loaded, dealt, message-made, summed}
+use Rattle.load.proofs.Passed.{row-loaded, triple-loaded}
+use Rattle.deal.proofs.Passed.{dealt}
+use Rattle.message.proofs.Passed.{message-made}
+use Rattle.linear.proofs.Passed.{summed}
 use Rattle.opening.proofs.Passed.{row-opened, open-framed}
-use Rattle.product.proofs.Passed.{Factored, masks-made, collected, collect-framed, multiplied}
+use Rattle.product_masks.proofs.Passed.{Factored, masks-made}
+use Rattle.collect.proofs.Passed.{collected, collect-framed}
+use Rattle.multiply.proofs.Passed.{multiplied}
 use Rattle.poly.specs.Counting.{All}
 use Rattle.poly.proofs.Lists.{all-map, all-zip}
+use Rattle.shape.specs.Marks.{unused, masked, collected as collectedMark}
+use Rattle.shape.specs.Lengths.{rowsLength}
 use Rattle.terms.specs.declared.Term.{Term}
 use Rattle.terms.specs.Listed.{productsOf}
 use Rattle.relation.proofs.Passed.{RelationFinishPlaced, relation-masks-made, relation-finished}
-use Rattle.runs.specs.Draws.{Plan, Draw}
+use Rattle.runs.specs.Draws.{Plan, Draw, planShape}
 use Rattle.runs.specs.Outline.{loadRow, loadTriple, deal, message, opening, linear, masks, collect, multiply, relationMasks, relationFinish, takes, actsIn, finishing, summing, acts, sends}
 use Rattle.runs.specs.Calls.{Actual, Call}
 use Rattle.runs.proofs.Marks.{Marks, rememberedB, Opened, sessionAt}
@@ -41,8 +48,8 @@ module _ (plan : Plan) (draw : Draw) (i : ℕ) (M : Marks) (Y : Opened) (l : Lis
   -- a relation's finish: its product terms wait; then its acts
   pub waiting : (ts : List Term) (d : ℕ) (blocks : List ℕ) → RelationFinishPlaced s ts d blocks → All (Waits M) (productsOf ts)
   waiting ts d blocks f =
-      all-zip (λ t k e. subst (λ (a : ℕ). Multiplying 5 M a (rememberedB M (t .first)) (t .first)) (sym (e .0))
-      (subst (λ (b : ℕ). Multiplying 5 M (t .row) b (t .first)) (sym (e .1)) (multiplying (t .row) (t .second) (t .first) 5 k)))
+      all-zip (λ t k e. subst (λ (a : ℕ). Multiplying masked M a (rememberedB M (t .first)) (t .first)) (sym (e .0))
+      (subst (λ (b : ℕ). Multiplying masked M (t .row) b (t .first)) (sym (e .1)) (multiplying (t .row) (t .second) (t .first) masked k)))
       (productsOf ts) (f .factors) (f .remembered)
 
   module _ (ts : List Term) (d : ℕ) (blocks : List ℕ) (f : RelationFinishPlaced s ts d blocks) where
@@ -66,7 +73,7 @@ module _ (plan : Plan) (draw : Draw) (i : ℕ) (M : Marks) (Y : Opened) (l : Lis
     finish-ready m = ready-products m blocks 0 fs (summing d ts) M (waiting ts d blocks f) (ready-sum d ts M)
 
   abbrev Passes : Call → Type 0
-  Passes c = Allowed (acts c) (sends c) M × (length l ≡ 96 * (plan .t + 1 + 2 * plan .n))
+  Passes c = Allowed (acts c) (sends c) M × (length l ≡ rowsLength (planShape plan))
 
   passes : (c : Call) → refusalOf c (record { session = sessionAt plan draw i M Y; rows = l }) ≡ 0 → Passes c
   passes (loadRow x) z =
@@ -111,23 +118,23 @@ module _ (plan : Plan) (draw : Draw) (i : ℕ) (M : Marks) (Y : Opened) (l : Lis
   )
   passes (masks x) z =
       let f = masks-made s l (x .a) (x .b) (x .r) (x .lent) z in
-      let m = multiplying (x .a) (x .b) (x .r) 3 (f .placed .factors) in
+      let m = multiplying (x .a) (x .b) (x .r) unused (f .placed .factors) in
       (record { moving = ((tt, m), tt); ready = (tt, tt); sending = ((m, inl refl), tt) }, f .framed .sized .length-is)
   passes (collect x) z =
       let f = collected s l (x .r) (x .blocksA) (x .blocksB) z .checked in
-      let m = multiplying _ _ (x .r) 5 (f .placed .factors) in (
+      let m = multiplying _ _ (x .r) masked (f .placed .factors) in (
         record { moving = ((m, tt), tt); ready = (m, tt); sending = tt },
         collect-framed s l (x .r) (x .blocksA) (x .blocksB) f .sized .length-is,
       )
   passes (multiply x) z =
       let f = multiplied s l (x .r) z in
       let k = f .placed in
-      let m : Tripled 7 M (x .r) = record { r-low = omega (arith, k .triple-in); first = k .first-mark; second = k .second-mark; third = k .third-mark } in
+      let m : Tripled collectedMark M (x .r) = record { r-low = omega (arith, k .triple-in); first = k .first-mark; second = k .second-mark; third = k .third-mark } in
       (record { moving = ((m, tt), tt); ready = (tt, tt); sending = tt }, f .framed .sized .length-is)
   passes (relationMasks x) z =
       let f = relation-masks-made s l (x .terms) (x .lent) z in
       let fs = productsOf (x .terms) in
-      let h = all-map (λ t k. multiplying (t .row) (t .second) (t .first) 3 k) fs (f .placed .factors) in (
+      let h = all-map (λ t k. multiplying (t .row) (t .second) (t .first) unused k) fs (f .placed .factors) in (
         record {
           moving = allowed-masks fs M h (apart fs (f .placed .once));
           ready = ready-masks fs M;
@@ -148,5 +155,5 @@ module _ (plan : Plan) (draw : Draw) (i : ℕ) (M : Marks) (Y : Opened) (l : Lis
   pub allowed : (c : Call) → refusalOf c (record { session = sessionAt plan draw i M Y; rows = l }) ≡ 0 → Allowed (acts c) (sends c) M
   allowed c z = passes c z .0
 
-  pub room : (c : Call) → refusalOf c (record { session = sessionAt plan draw i M Y; rows = l }) ≡ 0 → length l ≡ 96 * (plan .t + 1 + 2 * plan .n)
+  pub room : (c : Call) → refusalOf c (record { session = sessionAt plan draw i M Y; rows = l }) ≡ 0 → length l ≡ rowsLength (planShape plan)
   room c z = passes c z .1

@@ -4,6 +4,8 @@ use mathlib.Core.Path.{_≡_, refl, sym, _∙_, ap}
 use mathlib.Core.Logic.{_≢_, _⊎_, inl, inr}
 use native.Mathlib.Omega.{arith}
 use lib.Seq.{getD-set-same}
+use Rattle.shape.specs.Bounds.{rowCount}
+use Rattle.shape.specs.Marks.{raw as rawMark, held as heldMark, unused, further, masked, spent as spentMark, collected as collectedMark}
 use Rattle.vectors.specs.Vector.{Vector}
 use Rattle.runs.specs.Draws.{Plan, Draw, IsRaw}
 use Rattle.runs.specs.Outline.{Act, factors, collects}
@@ -14,7 +16,7 @@ use Rattle.runs.proofs.Rows.{Turn, raw, first, second, third, dealt, su
 -- ---- The fact of a row, by its mark.
 
 module _ {plan : Plan} {draw : Draw} {Held : ℕ → Vector → Type 0} {Waits : ℕ → ℕ → ℕ → Type 0} {M : Marks} {vec : ℕ → Vector} {r : ℕ} where
-  raw-fact : markOf M r ≡ 1 → IsRaw (plan .raw r) → vec r ≡ rawVector plan draw r → Fact plan draw Held Waits M vec r
+  raw-fact : markOf M r ≡ rawMark → IsRaw (plan .raw r) → vec r ≡ rawVector plan draw r → Fact plan draw Held Waits M vec r
   raw-fact e is v = record {
     raw = λ h. (is, v);
     held = λ h. absurd (omega arith);
@@ -22,7 +24,7 @@ module _ {plan : Plan} {draw : Draw} {Held : ℕ → Vector → Type 0} {Waits :
     waiting = λ h. elim h [ inl k ↦ absurd (omega arith) | inr k ↦ absurd (omega arith) ];
   }
 
-  held-fact : markOf M r ≡ 2 → Held r (vec r) → Fact plan draw Held Waits M vec r
+  held-fact : markOf M r ≡ heldMark → Held r (vec r) → Fact plan draw Held Waits M vec r
   held-fact e is = record {
     raw = λ h. absurd (omega arith);
     held = λ h. is;
@@ -30,11 +32,11 @@ module _ {plan : Plan} {draw : Draw} {Held : ℕ → Vector → Type 0} {Waits :
     waiting = λ h. elim h [ inl k ↦ absurd (omega arith) | inr k ↦ absurd (omega arith) ];
   }
 
-  triple-fact : 3 ≤ markOf M r → Triple plan draw M vec r → (Masked (markOf M r) → Waiting plan draw Held Waits M r) → Fact plan draw Held Waits M vec r
+  triple-fact : unused ≤ markOf M r → Triple plan draw M vec r → (Masked (markOf M r) → Waiting plan draw Held Waits M r) → Fact plan draw Held Waits M vec r
   triple-fact e is waits = record { raw = λ h. absurd (omega arith); held = λ h. absurd (omega arith); triple = λ h. is; waiting = waits }
 
   -- 4 and 6 say nothing
-  idle-fact : 4 ≤ markOf M r → markOf M r ≢ 5 → markOf M r ≢ 7 → Fact plan draw Held Waits M vec r
+  idle-fact : further ≤ markOf M r → markOf M r ≢ masked → markOf M r ≢ collectedMark → Fact plan draw Held Waits M vec r
   idle-fact e ne ne' = record {
     raw = λ h. absurd (omega arith);
     held = λ h. absurd (omega arith);
@@ -44,12 +46,12 @@ module _ {plan : Plan} {draw : Draw} {Held : ℕ → Vector → Type 0} {Waits :
 
 -- ---- A triple's second and third row stay while its first does: of the calls only multiply turns 4, and it turns the first row too.
 
-first-spent : (M : Marks) (r q : ℕ) → Sized M → Tripled 7 M r → q ≡ r → markOf (finished M r) q ≡ markOf M q → ⊥
+first-spent : (M : Marks) (r q : ℕ) → Sized M → Tripled collectedMark M r → q ≡ r → markOf (finished M r) q ≡ markOf M q → ⊥
 first-spent M r q z ok e s =
-    omega (arith, ok .first, ap (markOf M) e, ap (markOf (finished M r)) e, on-three M r 6 6 2 z (ok .r-low) .0)
+    omega (arith, ok .first, ap (markOf M) e, ap (markOf (finished M r)) e, on-three M r spentMark spentMark heldMark z (ok .r-low) .0)
 
-apart : {a : Act} {x m : ℕ} → Turn a x 4 m → (M : Marks) (q : ℕ) → Sized M → AllowedBy a M → (q + 1 ≡ x) ⊎ (q + 2 ≡ x)
-    → markOf (marksBy a M) q ≡ markOf M q → markOf M q ≢ 4 → markOf M (q + 1) ≡ 4 → ⊥
+apart : {a : Act} {x m : ℕ} → Turn a x further m → (M : Marks) (q : ℕ) → Sized M → AllowedBy a M → (q + 1 ≡ x) ⊎ (q + 2 ≡ x)
+    → markOf (marksBy a M) q ≡ markOf M q → markOf M q ≢ further → markOf M (q + 1) ≡ further → ⊥
 apart (spent' {r}) M q z ok (inl e) s ne h = first-spent M r q z (ok .0) (omega arith) s
 apart (spent' {r}) M q z ok (inr e) s ne h = let k : q + 1 ≡ r = omega arith in omega (arith, ap (markOf M) k)
 apart (multiplied {r}) M q z ok (inl e) s ne h = let k : q ≡ r + 1 = omega arith in ne (ap (markOf M) k ∙ ok .0 .second)
@@ -63,7 +65,7 @@ module _ (plan : Plan) (draw : Draw) where
 
   -- x is the second or third row of a triple whose first stays
   pub beside : (a : Act) (c : ℕ) (M : Marks) (vec : ℕ → Vector) → Sized M → AllowedBy a M → (q x : ℕ) → (q + 1 ≡ x) ⊎ (q + 2 ≡ x)
-      → markOf (marksBy a M) q ≡ markOf M q → markOf M q ≢ 4 → markOf M (q + 1) ≡ 4 → markOf M x ≡ 4
+      → markOf (marksBy a M) q ≡ markOf M q → markOf M q ≢ further → markOf M (q + 1) ≡ further → markOf M x ≡ further
       → Same M (marksBy a M) vec (vecs a c M vec) x
   beside a c M vec z ok q x e s ne h h' =
       elim (course plan draw a c M vec z ok x) [ turned t ↦ absurd (apart (rw h' at t) M q z ok e s ne h) | same s' ↦ s' ]
@@ -82,7 +84,7 @@ module _ (plan : Plan) (draw : Draw) where
   module _ (Held : ℕ → Vector → Type 0) (Waits : ℕ → ℕ → ℕ → Type 0) (Held' : ℕ → Vector → Type 0) (Waits' : ℕ → ℕ → ℕ → Type 0) where
     -- the factors of a waiting triple are held after the call too
     waits : (a : Act) (M : Marks) → Sized M → AllowedBy a M → (q x y : ℕ) → rememberedA (marksBy a M) q ≡ x → rememberedB (marksBy a M) q ≡ y
-        → x < 96 → y < 96 → markOf M x ≡ 2 → markOf M y ≡ 2 → Waits' q x y → Waiting plan draw Held' Waits' (marksBy a M) q
+        → x < rowCount → y < rowCount → markOf M x ≡ heldMark → markOf M y ≡ heldMark → Waits' q x y → Waiting plan draw Held' Waits' (marksBy a M) q
     waits a M z ok q x y e e' low low' h h' means = record {
       means = rw (e, e') means;
       a-low = rw e low;
@@ -93,7 +95,7 @@ module _ (plan : Plan) (draw : Draw) where
 
     -- a row that the call leaves as it is
     kept : (a : Act) (c : ℕ) (M : Marks) (vec : ℕ → Vector) → Sized M → AllowedBy a M → (q : ℕ)
-        → (markOf M q ≡ 2 → Held q (vec q) → Held' q (vec q))
+        → (markOf M q ≡ heldMark → Held q (vec q) → Held' q (vec q))
         → (Masked (markOf M q) → Masked (markOf (marksBy a M) q) → Waits q (rememberedA M q) (rememberedB M q) → Waits' q (rememberedA M q) (rememberedB M q))
         → Same M (marksBy a M) vec (vecs a c M vec) q → Fact plan draw Held Waits M vec q
         → Fact plan draw Held' Waits' (marksBy a M) (vecs a c M vec) q
@@ -101,8 +103,8 @@ module _ (plan : Plan) (draw : Draw) where
       raw = λ h. let y = f .raw (sym (s .mark) ∙ h) in (y .0, s .vector ∙ y .1);
       held = λ h. let e = sym (s .mark) ∙ h in rw (s .vector) (up e (f .held e));
       triple = λ h.
-          let k : (markOf M q ≡ 3) ⊎ Masked (markOf M q) = rw (s .mark) at h in
-          let ne : markOf M q ≢ 4 = elim k [ inl e ↦ omega arith | inr (inl e) ↦ omega arith | inr (inr e) ↦ omega arith ] in
+          let k : (markOf M q ≡ unused) ⊎ Masked (markOf M q) = rw (s .mark) at h in
+          let ne : markOf M q ≢ further = elim k [ inl e ↦ omega arith | inr (inl e) ↦ omega arith | inr (inr e) ↦ omega arith ] in
           let t = f .triple k in
           stays (s .vector)
           (beside a c M vec z ok q (q + 1) (inl refl) (s .mark) ne (t .second) (t .second))
@@ -114,12 +116,12 @@ module _ (plan : Plan) (draw : Draw) where
 
     -- a row that it writes
     new : {a : Act} {q m m' : ℕ} → Turn a q m m' → (c : ℕ) (M : Marks) (vec : ℕ → Vector) → Sized M → AllowedBy a M
-        → ((x : ℕ) → x < 96 → Masked (markOf M x) → Masked (markOf (marksBy a M) x) → Waits x (rememberedA M x) (rememberedB M x) → Waits' x (rememberedA M x) (rememberedB M x))
+        → ((x : ℕ) → x < rowCount → Masked (markOf M x) → Masked (markOf (marksBy a M) x) → Waits x (rememberedA M x) (rememberedB M x) → Waits' x (rememberedA M x) (rememberedB M x))
         → Meant plan draw Held' Waits' a c M vec → Facts plan draw Held Waits M vec → markOf (marksBy a M) q ≡ m'
         → Fact plan draw Held' Waits' (marksBy a M) (vecs a c M vec) q
     new (raw {r}) c M vec z ok up me g e = raw-fact e me (at-same vec r _)
     new (first {r}) c M vec z ok up me g e =
-        let k = on-three M r 3 4 4 z (ok .0 .0) in
+        let k = on-three M r unused further further z (ok .0 .0) in
         triple-fact (omega arith) (record {
           drawn = me;
           second = k .1;
@@ -140,11 +142,11 @@ module _ (plan : Plan) (draw : Draw) where
         (λ h. waits (factors a b r) M z ok r a b (getD-set-same (M .factor-a) r a 0 (omega arith))
         (getD-set-same (M .factor-b) r b 0 (omega arith)) (ok .1 .a-low) (ok .1 .b-low) (ok .1 .a-held) (ok .1 .b-held) me)
     new (collected {r}) c M vec z ok up me g e =
-        let low : r < 96 = omega (arith, ok .0 .r-low) in
+        let low : r < rowCount = omega (arith, ok .0 .r-low) in
         let five = ok .0 .first in
         let w = g r low .waiting (inl five) in
         triple-fact (omega arith)
-        (stays refl (other M r 7 vec vec (r + 1) (omega arith) refl) (other M r 7 vec vec (r + 2) (omega arith) refl) (g r low .triple (inr (inl five))))
+        (stays refl (other M r collectedMark vec vec (r + 1) (omega arith) refl) (other M r collectedMark vec vec (r + 2) (omega arith) refl) (g r low .triple (inr (inl five))))
         (λ h. waits (collects r) M z ok r (rememberedA M r) (rememberedB M r) refl refl (w .a-low) (w .b-low) (w .a-held) (w .b-held)
         (up r low (inl five) (inr e) (w .means)))
     new spent c M vec z ok up me g e = idle-fact (omega arith) (omega arith) (omega arith)
@@ -152,8 +154,8 @@ module _ (plan : Plan) (draw : Draw) where
     new multiplied c M vec z ok up me g e = held-fact e (rw at-same me)
 
     pub facts-by : (a : Act) (c : ℕ) (M : Marks) (vec : ℕ → Vector) → Sized M → AllowedBy a M → Meant plan draw Held' Waits' a c M vec
-        → ((q : ℕ) → q < 96 → markOf M q ≡ 2 → Held q (vec q) → Held' q (vec q))
-        → ((q : ℕ) → q < 96 → Masked (markOf M q) → Masked (markOf (marksBy a M) q) → Waits q (rememberedA M q) (rememberedB M q) → Waits' q (rememberedA M q) (rememberedB M q))
+        → ((q : ℕ) → q < rowCount → markOf M q ≡ heldMark → Held q (vec q) → Held' q (vec q))
+        → ((q : ℕ) → q < rowCount → Masked (markOf M q) → Masked (markOf (marksBy a M) q) → Waits q (rememberedA M q) (rememberedB M q) → Waits' q (rememberedA M q) (rememberedB M q))
         → Facts plan draw Held Waits M vec → Facts plan draw Held' Waits' (marksBy a M) (vectorsBy plan draw a c M vec)
     facts-by a c M vec z ok me up up' g q low = elim (course plan draw a c M vec z ok q) [
       | turned t ↦ new t c M vec z ok up' me g refl

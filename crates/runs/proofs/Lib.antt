@@ -1,4 +1,5 @@
 pub mod Outlines
+pub mod Inside
 pub mod Marks
 pub mod Sums
 pub mod Numbers

@@ -2,16 +2,16 @@
 use Prim.Native.Nat.{ℕ, zero, suc, _*_, _≤_, _<_}
 use mathlib.Core.Path.{_≡_, refl, ap, ap₂}
 use mathlib.Core.Bool.{false, _||_}
-use mathlib.Core.List.{List, [], _∷_}
+use mathlib.Core.List.{List}
 use native.Mathlib.Omega.{arith}
 use borrow.Author.Tests.{le-ltb}
 use lib.Dec.{ltb}
 use lib.ListN.{length}
 use Rattle.field.specs.Element.{Element}
 use Rattle.poly.specs.Counting.{Elements}
-use Rattle.refusal.specs.Conditions.{beyond, anyBeyond, outside}
-use Rattle.refusal.proofs.Laws.{or-false}
-use Rattle.refusal.proofs.Elements.{below-p, element-test}
+use Rattle.shape.specs.Bounds.{lastRow, lastTriple}
+use Rattle.refusal.specs.Conditions.{anyBeyond, outside}
+use Rattle.factory.proofs.Laws.{elements-pass}
 use Rattle.decimal.specs.Numeral.{tens}
 use Rattle.forms.specs.Lines as Line
 use Rattle.forms.specs.Lines.{Message}
@@ -21,16 +21,6 @@ use Rattle.vectors.specs.Vector.{numbers}
 use Rattle.runs.specs.Calls.{openingLine, masksLine}
 
 -- ---- elements
-
-pub elements-pass : (xs : List ℕ) → Elements xs → anyBeyond xs ≡ false
-unfolding anyBeyond
-elements-pass [] e = refl
-elements-pass (x ∷ xs) e = ap₂ _||_ (element-test x (e .0)) (elements-pass xs (e .1))
-
-pub elements-of : (xs : List ℕ) → anyBeyond xs ≡ false → Elements xs
-unfolding anyBeyond
-elements-of [] e = tt
-elements-of (x ∷ xs) e = let h = or-false (beyond x) (anyBeyond xs) e in (below-p x (h .0), elements-of xs (h .1))
 
 pub numbers-elements : (k : ℕ) (a : ℕ → Element) → Elements (numbers k a)
 unfolding numbers
@@ -45,13 +35,13 @@ within low high x a b = ap₂ _||_ (le-ltb x low a) (le-ltb high x b)
 -- post j of n posts, with k coefficients to a polynomial
 module _ (n k : ℕ) (small : n < tens 10) where
   pub record Opening (r j : ℕ) (xs : List ℕ) : Type 0 where
-    pub row : r ≤ 95
+    pub row : r ≤ lastRow
     pub post : (1 ≤ j) × (j ≤ n)
     pub many : length xs ≡ k
     pub low : Elements xs
 
   pub record Masks (r j : ℕ) (xs : List ℕ) : Type 0 where
-    pub row : r ≤ 93
+    pub row : r ≤ lastTriple
     pub post : (1 ≤ j) × (j ≤ n)
     pub many : length xs ≡ 2 * k
     pub low : Elements xs
@@ -63,11 +53,11 @@ module _ (n k : ℕ) (small : n < tens 10) where
 
   opening-sent : (r j : ℕ) (xs : List ℕ) → Opening r j xs → Sent n k (Line.opening r j xs)
   opening-sent r j xs o =
-      record { letter-is = refl; count = o .many; no-post = λ e. absurd (omega arith); in-range = in-range 95 r j xs (o .row) (o .post) (o .low) }
+      record { letter-is = refl; count = o .many; no-post = λ e. absurd (omega arith); in-range = in-range lastRow r j xs (o .row) (o .post) (o .low) }
 
   masks-sent : (r j : ℕ) (xs : List ℕ) → Masks r j xs → Sent n k (Line.masks r j xs)
   masks-sent r j xs o =
-      record { letter-is = refl; count = o .many; no-post = λ e. absurd (omega arith); in-range = in-range 93 r j xs (o .row) (o .post) (o .low) }
+      record { letter-is = refl; count = o .many; no-post = λ e. absurd (omega arith); in-range = in-range lastTriple r j xs (o .row) (o .post) (o .low) }
 
   same-parts : (a b : Message) → a ≡ b → (a .row ≡ b .row) × (a .post ≡ b .post) × (a .numbers ≡ b .numbers)
   same-parts a b e = (ap (λ (m : Message). m .row) e, ap (λ (m : Message). m .post) e, ap (λ (m : Message). m .numbers) e)

@@ -11,6 +11,8 @@ use Rattle.field.specs.Arithmetic.{product}
 use Rattle.field.specs.Algebra.{CommutativeRing}
 use Rattle.field.specs.Element.{element}
 use Rattle.field.proofs.Elements.{𝓡}
+use Rattle.shape.specs.Bounds.{rowCount}
+use Rattle.shape.specs.Marks.{raw, held, unused, further, masked, spent, collected}
 use Rattle.session.specs.declared.Session.{Session}
 use Rattle.vectors.specs.Vector.{Vector, plusTimes, raised, number, vectorOf}
 use Rattle.runs.specs.Draws.{Plan, planShape, Draw, pointOf, rawDraw, drawA, drawB, drawAB}
@@ -46,15 +48,15 @@ abbrev pub rememberedB : Marks → ℕ → ℕ
 rememberedB M r = getD (M .factor-b) r 0
 
 pub record Sized (M : Marks) : Type 0 where
-  pub marks : length (M .marks) ≡ 96
-  pub factor-a : length (M .factor-a) ≡ 96
-  pub factor-b : length (M .factor-b) ≡ 96
+  pub marks : length (M .marks) ≡ rowCount
+  pub factor-a : length (M .factor-a) ≡ rowCount
+  pub factor-b : length (M .factor-b) ≡ rowCount
 
 abbrev pub remarked : Marks → ℕ → ℕ → Marks
 remarked M r m = record { marks = set (M .marks) r m; factor-a = M .factor-a; factor-b = M .factor-b }
 
 abbrev pub finished : Marks → ℕ → Marks
-finished M r = remarked (remarked (remarked M r 6) (r + 1) 6) (r + 2) 2
+finished M r = remarked (remarked (remarked M r spent) (r + 1) spent) (r + 2) held
 
 -- the numbers that a session remembers: they follow the draw
 pub record Opened : Type 0 where
@@ -134,14 +136,14 @@ abbrev mark : ℕ → ℕ → Mark
 mark r m = record { row = r; is = m }
 
 abbrev pub marksOf : Act → List Mark
-marksOf (loads r) = mark r 1 ∷ []
-marksOf (loadsTriple r) = mark r 3 ∷ mark (r + 1) 4 ∷ mark (r + 2) 4 ∷ []
-marksOf (deals r) = mark r 2 ∷ []
+marksOf (loads r) = mark r raw ∷ []
+marksOf (loadsTriple r) = mark r unused ∷ mark (r + 1) further ∷ mark (r + 2) further ∷ []
+marksOf (deals r) = mark r held ∷ []
 marksOf (opens r) = []
-marksOf (sums r t ts) = mark r 2 ∷ []
+marksOf (sums r t ts) = mark r held ∷ []
 marksOf (factors a b r) = []
-marksOf (collects r) = mark r 7 ∷ []
-marksOf (multiplies r) = mark r 6 ∷ mark (r + 1) 6 ∷ mark (r + 2) 2 ∷ []
+marksOf (collects r) = mark r collected ∷ []
+marksOf (multiplies r) = mark r spent ∷ mark (r + 1) spent ∷ mark (r + 2) held ∷ []
 
 -- the masks that an act makes: none, or of the rows a and b by the triple at r, which then has mark 5 and remembers a and b
 pub data Masking : Type 0 where
@@ -164,14 +166,14 @@ markAll (m ∷ ms) M = markAll ms (remarked M (m .row) (m .is))
 
 abbrev pub remembered : Masking → Marks → Marks
 remembered none M = M
-remembered (of a b r) M = record { marks = set (M .marks) r 5; factor-a = set (M .factor-a) r a; factor-b = set (M .factor-b) r b }
+remembered (of a b r) M = record { marks = set (M .marks) r masked; factor-a = set (M .factor-a) r a; factor-b = set (M .factor-b) r b }
 
 abbrev pub marksBy : Act → Marks → Marks
 marksBy act M = remembered (masking act) (markAll (marksOf act) M)
 
 -- a triple whose masks were made, and opened or not: the mark of its first row
 abbrev pub Masked : ℕ → Type 0
-Masked m = (m ≡ 5) ⊎ (m ≡ 7)
+Masked m = (m ≡ masked) ⊎ (m ≡ collected)
 
 -- the numbers that it remembers: those of the vectors that are opened
 abbrev pub openedBy : Act → Marks → (ℕ → Vector) → Opened → Opened

@@ -8,20 +8,21 @@ use native.Mathlib.Omega.{arith}
 use lib.ListN.{getD, take, drop, List·getD-eq-default}
 use lib.Seq.{getD-take, getD-drop}
 use Rattle.field.specs.Modulus.{p}
-use Rattle.field.specs.Arithmetic.{sum, product, difference}
+use Rattle.field.specs.Arithmetic.{product, difference}
 use Rattle.field.specs.Algebra.{CommutativeRing}
 use Rattle.field.specs.Element.{Element, element}
 use Rattle.field.proofs.Expression.{A, B, C, D, 𝟘, 𝟙, _:+_, _:*_, _:-_, :-_, Same}
 use Rattle.field.proofs.Solver.{solve}
 use Rattle.field.proofs.Elements.{𝓡, element-zero, element-one, element-product, element-difference, element-of-number}
 use Rattle.poly.specs.Counting.{Elements}
+use Rattle.shape.specs.Bounds.{rowCount}
 use Rattle.refusal.specs.Refusal.{outcome}
 use Rattle.refusal.proofs.Elements.{element-test}
-use Rattle.factory.specs.Packs.{dealerRefusal, dealerNumber}
+use Rattle.factory.specs.Calls.{dealerRefusal, dealerNumber}
 use Rattle.vectors.specs.Vector.{Vector, plusTimes, raised, number, vectorOf}
 use Rattle.vectors.proofs.Linear.{number-plusTimes}
 use Rattle.vectors.proofs.Draws.{element-at}
-use Rattle.runs.specs.Draws.{Plan, Draw, IsDraw, rowLength, rawDraw, tripleDraw}
+use Rattle.runs.specs.Draws.{Plan, Draw, IsDraw, drawnLength, rawDraw, tripleDraw}
 use Rattle.runs.proofs.Marks.{less, rawVector, vectorA, vectorB, vectorAB}
 use Rattle.runs.proofs.Sums.{productVector}
 open CommutativeRing 𝓡 using (add as _⊕_, mul as _⊗_, neg, zero as 0ᴱ, one as 1ᴱ)
@@ -70,38 +71,39 @@ product-number a b l l' l'' e =
     is-y' : element (y' .0) ≡ number b ⊕ neg 1ᴱ ⊗ number l'
     is-y' = element-of-number y' ∙ less-number b l'
 
+-- the number that a dealer gives, where both of its numbers are elements
+pub dealer-number : (u f : ℕ) → u < p → f < p → dealerNumber u f .value ≡ difference u f
+unfolding dealerRefusal outcome
+dealer-number u f h k = rw (element-test u h, element-test f k) refl
+
 module _ (plan : Plan) (draw : Draw) where
-  positive : 0 < rowLength plan
+  positive : 0 < drawnLength plan
   positive = omega arith
 
   -- "f(0) of l × f(0) of l'"
   pub third-number : (r : ℕ) → number (vectorAB plan draw r) ≡ number (vectorA plan draw r) ⊗ number (vectorB plan draw r)
   unfolding vectorOf Same
   third-number r =
-      ap (λ (z : Element). 0ᴱ ⊕ z) (element-product (getD d 0 0) (getD d (rowLength plan) 0))
-      ∙ solve 𝓡 (element (getD d 0 0) ∷ element (getD d (rowLength plan) 0) ∷ []) (𝟘 :+ A :* B) ((𝟘 :+ A) :* (𝟘 :+ B)) refl
-      ∙ sym (ap₂ (λ (x y : ℕ). (0ᴱ ⊕ element x) ⊗ (0ᴱ ⊕ element y)) (getD-take (rowLength plan) d 0 0 positive) second)
+      ap (λ (z : Element). 0ᴱ ⊕ z) (element-product (getD d 0 0) (getD d (drawnLength plan) 0))
+      ∙ solve 𝓡 (element (getD d 0 0) ∷ element (getD d (drawnLength plan) 0) ∷ []) (𝟘 :+ A :* B) ((𝟘 :+ A) :* (𝟘 :+ B)) refl
+      ∙ sym (ap₂ (λ (x y : ℕ). (0ᴱ ⊕ element x) ⊗ (0ᴱ ⊕ element y)) (getD-take (drawnLength plan) d 0 0 positive) second)
     where
       d : List ℕ
       d = tripleDraw draw r
 
-      second : getD (take (rowLength plan) (drop (rowLength plan) d)) 0 0 ≡ getD d (rowLength plan) 0
+      second : getD (take (drawnLength plan) (drop (drawnLength plan) d)) 0 0 ≡ getD d (drawnLength plan) 0
       second =
-          getD-take (rowLength plan) (drop (rowLength plan) d) 0 0 positive ∙ getD-drop (rowLength plan) d 0 0
-          ∙ ap (λ (k : ℕ). getD d k 0) (add-zero (rowLength plan))
+          getD-take (drawnLength plan) (drop (drawnLength plan) d) 0 0 positive ∙ getD-drop (drawnLength plan) d 0 0
+          ∙ ap (λ (k : ℕ). getD d k 0) (add-zero (drawnLength plan))
 
   module _ (is : IsDraw plan draw) where
     raw-low : (r : ℕ) → Elements (rawDraw draw r)
     unfolding rawDraw
-    raw-low r = go (decLe 96 r)
+    raw-low r = go (decLe rowCount r)
       where
-        go : Dec (96 ≤ r) → Elements (getD (draw .raws) r [])
+        go : Dec (rowCount ≤ r) → Elements (getD (draw .raws) r [])
         go (yes h) = rw (List·getD-eq-default (draw .raws) [] {n = r} (omega (arith, is .raws .count))) tt
         go (no h) = is .raws .each r (omega arith) .1
-
-    dealer-number : (u f : ℕ) → u < p → f < p → dealerNumber u f .value ≡ difference u f
-    unfolding dealerRefusal outcome
-    dealer-number u f h k = rw (element-test u h, element-test f k) refl
 
     -- c = u − f(0): the row's number is u
     pub dealt-number : (r u : ℕ) → u < p

@@ -5,20 +5,20 @@ use mathlib.Core.List.{List, [], _∷_}
 use native.Mathlib.Omega.{arith}
 use lib.ListN.{length}
 use Rattle.shape.specs.Lengths.{masksLength}
+use Rattle.shape.specs.Marks.{raw, held, unused, further, masked, spent, collected as collectedMark}
 use Rattle.refusal.specs.Refusal.{outcome}
 use Rattle.session.specs.declared.Session.{Session}
 use Rattle.session.specs.Sessions.{shapeOf, answer, openedA, openedB, marked, remembering, recalling}
 use Rattle.session.specs.Rows.{width, coefficients, sumsAt, rowAt, withRow, plusSums, summed}
-use Rattle.sharing.specs.Load.{loadRowRefusal, loadTripleRefusal, withTriple}
-use Rattle.sharing.specs.Deal.{dealRefusal}
-use Rattle.sharing.specs.Message.{messageRefusal}
-use Rattle.sharing.specs.Linear.{linearRefusal}
+use Rattle.load.specs.Load.{loadRowRefusal, loadTripleRefusal, withTriple}
+use Rattle.deal.specs.Deal.{dealRefusal}
+use Rattle.message.specs.Message.{messageRefusal}
+use Rattle.linear.specs.Linear.{linearRefusal}
 use Rattle.opening.specs.Walking.{opened}
 use Rattle.opening.specs.Opening.{openRefusal}
-use Rattle.product.specs.Masks.{masksRefusal, maskNumbersOf}
-use Rattle.product.specs.Finish.{withProduct}
-use Rattle.product.specs.Collect.{numberA, numberB, collectRefusal}
-use Rattle.product.specs.Multiply.{multiplyRefusal}
+use Rattle.product_masks.specs.Masks.{masksRefusal, maskNumbersOf}
+use Rattle.collect.specs.Collect.{numberA, numberB, collectRefusal}
+use Rattle.multiply.specs.Multiply.{withProduct, multiplyRefusal}
 use Rattle.terms.specs.Listed.{productsOf, collected, termsOf, factorsOf}
 use Rattle.relation.specs.Masks.{relationMasksRefusal, maskedTerms, termMasks}
 use Rattle.relation.specs.Finish.{relationFinishRefusal, withProducts, withSum, relationDone}
@@ -71,14 +71,14 @@ writes k s rows lent written = record { refusal = k; value = 0; session = s; row
 abbrev pub does : Call → Post → Doing
 does (loadRow x) q =
     let s = q .session in
-    changes (loadRowRefusal s (q .rows) (x .r) (x .pack)) (marked s (x .r) 1) (withRow (width s) (x .r) (x .pack) (q .rows))
+    changes (loadRowRefusal s (q .rows) (x .r) (x .pack)) (marked s (x .r) raw) (withRow (width s) (x .r) (x .pack) (q .rows))
 does (loadTriple x) q =
     let s = q .session in
-    changes (loadTripleRefusal s (q .rows) (x .r) (x .pack)) (marked (marked (marked s (x .r) 3) (x .r + 1) 4) (x .r + 2) 4)
+    changes (loadTripleRefusal s (q .rows) (x .r) (x .pack)) (marked (marked (marked s (x .r) unused) (x .r + 1) further) (x .r + 2) further)
     (withTriple (width s) (x .r) (x .pack) (q .rows))
 does (deal x) q =
     let s = q .session in
-    changes (dealRefusal s (q .rows) (x .r) (x .c)) (marked s (x .r) 2)
+    changes (dealRefusal s (q .rows) (x .r) (x .c)) (marked s (x .r) held)
     (withRow (width s) (x .r) (plusSums (sumsAt s) (x .c) (rowAt (width s) (q .rows) (x .r))) (q .rows))
 does (message x) q =
     let s = q .session in
@@ -95,19 +95,19 @@ does (opening x) q =
     }
 does (linear x) q =
     let s = q .session in
-    changes (linearRefusal s (q .rows) (x .r) (x .a) (x .b) (x .scale) (x .fee)) (marked s (x .r) 2)
+    changes (linearRefusal s (q .rows) (x .r) (x .a) (x .b) (x .scale) (x .fee)) (marked s (x .r) held)
     (withRow (width s) (x .r) (summed (sumsAt s) (x .scale) (x .fee) (rowAt (width s) (q .rows) (x .a)) (rowAt (width s) (q .rows) (x .b))) (q .rows))
 does (masks x) q =
     let s = q .session in
-    writes (masksRefusal s (q .rows) (x .a) (x .b) (x .r) (x .lent)) (remembering (marked s (x .r) 5) (x .r) (x .a) (x .b)) (q .rows)
+    writes (masksRefusal s (q .rows) (x .a) (x .b) (x .r) (x .lent)) (remembering (marked s (x .r) masked) (x .r) (x .a) (x .b)) (q .rows)
     (x .lent ∷ []) (maskNumbersOf s (q .rows) (x .a) (x .b) (x .r) ∷ [])
 does (collect x) q =
     let s = q .session in
     changes (collectRefusal s (q .rows) (x .r) (x .blocksA) (x .blocksB))
-    (recalling (marked s (x .r) 7) (x .r) (numberA s (q .rows) (x .r) (x .blocksA)) (numberB s (q .rows) (x .r) (x .blocksB))) (q .rows)
+    (recalling (marked s (x .r) collectedMark) (x .r) (numberA s (q .rows) (x .r) (x .blocksA)) (numberB s (q .rows) (x .r) (x .blocksB))) (q .rows)
 does (multiply x) q =
     let s = q .session in
-    changes (multiplyRefusal s (q .rows) (x .r)) (marked (marked (marked s (x .r) 6) (x .r + 1) 6) (x .r + 2) 2)
+    changes (multiplyRefusal s (q .rows) (x .r)) (marked (marked (marked s (x .r) spent) (x .r + 1) spent) (x .r + 2) held)
     (withProduct s (openedA s (x .r)) (openedB s (x .r)) (x .r) (q .rows))
 does (relationMasks x) q =
     let s = q .session in

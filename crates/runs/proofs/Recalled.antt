@@ -6,6 +6,8 @@ use mathlib.Core.List.{List, [], _∷_}
 use native.Mathlib.Omega.{arith}
 use lib.ListN.{length, getD, length-set}
 use lib.Seq.{getD-set-same, getD-set-other}
+use Rattle.shape.specs.Bounds.{rowCount}
+use Rattle.shape.specs.Marks.{held, further, collected as collectedMark}
 use Rattle.vectors.specs.Vector.{Vector, number}
 use Rattle.runs.specs.Draws.{Plan, Draw}
 use Rattle.runs.specs.Outline.{Kinds, Act, loads, loadsTriple, deals, opens, sums, factors, collects, multiplies, Taking, takes, Given, Move, actsIn}
@@ -16,17 +18,17 @@ use Rattle.runs.proofs.Kept.{beside}
 
 -- the triple at r: its factors are held, its second row waits, and y and y' are remembered
 pub record Recalled (M : Marks) (vec : ℕ → Vector) (Y : Opened) (r : ℕ) : Type 0 where
-  pub a-held : markOf M (rememberedA M r) ≡ 2
-  pub b-held : markOf M (rememberedB M r) ≡ 2
-  pub second : markOf M (r + 1) ≡ 4
+  pub a-held : markOf M (rememberedA M r) ≡ held
+  pub b-held : markOf M (rememberedB M r) ≡ held
+  pub second : markOf M (r + 1) ≡ further
   pub is-a : getD (Y .y-a) r 0 ≡ number (maskVectorA M vec r) .0
   pub is-b : getD (Y .y-b) r 0 ≡ number (maskVectorB M vec r) .0
 
 pub record Recalls (M : Marks) (vec : ℕ → Vector) (Y : Opened) : Type 0 where
   pub sized : Sized M
-  pub a-long : length (Y .y-a) ≡ 96
-  pub b-long : length (Y .y-b) ≡ 96
-  pub each : (r : ℕ) → markOf M r ≡ 7 → Recalled M vec Y r
+  pub a-long : length (Y .y-a) ≡ rowCount
+  pub b-long : length (Y .y-b) ≡ rowCount
+  pub each : (r : ℕ) → markOf M r ≡ collectedMark → Recalled M vec Y r
 
 -- the lists keep their length, and what stands at a triple with mark 7
 module _ (M : Marks) (vec : ℕ → Vector) (Y : Opened) where
@@ -40,7 +42,7 @@ module _ (M : Marks) (vec : ℕ → Vector) (Y : Opened) where
   long-by (collects r) = (length-set (Y .y-a) r _, length-set (Y .y-b) r _)
   long-by (multiplies r) = (refl, refl)
 
-  stay-by : (a : Act) → AllowedBy a M → (q : ℕ) → markOf M q ≡ 7
+  stay-by : (a : Act) → AllowedBy a M → (q : ℕ) → markOf M q ≡ collectedMark
       → (getD (openedBy a M vec Y .y-a) q 0 ≡ getD (Y .y-a) q 0) × (getD (openedBy a M vec Y .y-b) q 0 ≡ getD (Y .y-b) q 0)
   stay-by (loads r) ok q e = (refl, refl)
   stay-by (loadsTriple r) ok q e = (refl, refl)
@@ -55,18 +57,18 @@ module _ (M : Marks) (vec : ℕ → Vector) (Y : Opened) where
 
 module _ (plan : Plan) (draw : Draw) where
   -- a triple that is opened now
-  now-recalled : {a : Act} {q m : ℕ} → Turn a q m 7 → (c : ℕ) (M : Marks) (vec : ℕ → Vector) (Y : Opened) → Recalls M vec Y → AllowedBy a M
+  now-recalled : {a : Act} {q m : ℕ} → Turn a q m collectedMark → (c : ℕ) (M : Marks) (vec : ℕ → Vector) (Y : Opened) → Recalls M vec Y → AllowedBy a M
       → Recalled (marksBy a M) (vectorsBy plan draw a c M vec) (openedBy a M vec Y) q
   now-recalled (collected {r}) c M vec Y k ok = record {
     a-held = held-by plan draw (collects r) c M vec (k .sized) ok (rememberedA M r) (ok .0 .a-held) .0;
     b-held = held-by plan draw (collects r) c M vec (k .sized) ok (rememberedB M r) (ok .0 .b-held) .0;
-    second = getD-set-other (M .marks) r (r + 1) 7 0 (λ e. omega arith) ∙ ok .0 .second;
+    second = getD-set-other (M .marks) r (r + 1) collectedMark 0 (λ e. omega arith) ∙ ok .0 .second;
     is-a = getD-set-same (Y .y-a) r _ 0 (omega (arith, k .a-long, ok .0 .r-low));
     is-b = getD-set-same (Y .y-b) r _ 0 (omega (arith, k .b-long, ok .0 .r-low));
   }
 
   -- one that was opened before
-  still-recalled : (a : Act) (c : ℕ) (M : Marks) (vec : ℕ → Vector) (Y : Opened) → Recalls M vec Y → AllowedBy a M → (q : ℕ) → markOf M q ≡ 7
+  still-recalled : (a : Act) (c : ℕ) (M : Marks) (vec : ℕ → Vector) (Y : Opened) → Recalls M vec Y → AllowedBy a M → (q : ℕ) → markOf M q ≡ collectedMark
       → Same M (marksBy a M) vec (vectorsBy plan draw a c M vec) q
       → Recalled (marksBy a M) (vectorsBy plan draw a c M vec) (openedBy a M vec Y) q
   still-recalled a c M vec Y k ok q e s =

@@ -13,16 +13,19 @@ use Rattle.field.proofs.Solver.{solve}
 use Rattle.field.proofs.Elements.{𝓡}
 use Rattle.poly.specs.Counting.{All}
 use Rattle.poly.proofs.Lists.{all-join}
+use Rattle.shape.specs.Bounds.{rowCount}
+use Rattle.shape.specs.Marks.{empty, held as heldMark, masked}
+use Rattle.shape.specs.Lengths.{fLength, vLength}
 use Rattle.session.specs.declared.Session.{Session}
 use Rattle.session.specs.Rows.{sumsAt, rowAt, withRow, combined}
-use Rattle.session.proofs.Summed.{plus-nothing}
+use Rattle.sums.proofs.Summed.{plus-nothing}
 use Rattle.session.proofs.RowLaws.{row-same, row-other, row-again}
 use Rattle.terms.specs.declared.Term.{Term}
 use Rattle.relation.specs.Finish.{termNumberA, termNumberB, withProducts, numberRow, plusTerm, plusTerms, withSum, pairDone, finishedTerms}
 use Rattle.relation.specs.Masks.{maskedTerms}
 use Rattle.vectors.specs.Vector.{Vector, plusTimes, number, firsts, numbers, valueAt, rowOf}
 use Rattle.vectors.proofs.Linear.{row-plusTimes}
-use Rattle.runs.specs.Draws.{Plan, Draw, pointOf}
+use Rattle.runs.specs.Draws.{Plan, Draw, pointOf, planShape}
 use Rattle.runs.specs.Outline.{cut, Move, factors, collects, actsIn, factoring, finishing, summand}
 use Rattle.runs.specs.Calls.{Actual, at}
 use Rattle.runs.proofs.Marks.{Marks, markOf, rememberedA, rememberedB, remarked, finished, Opened, sessionAt, less, zeroVector, totalVector, maskVectorA, maskVectorB, written, at-other, marksBy, openedBy, marksAll, numberIn, vectorsAll, openedAll}
@@ -97,10 +100,10 @@ module _ (plan : Plan) (draw : Draw) (i : ℕ) where
   zero-row =
       ap (λ (k : ℕ). replicate k 0) (sym (row-wide plan draw i zeroVector))
       ∙ all-zero (rowFor plan draw i zeroVector)
-      (all-join _ (numbers (plan .t + 1) _) _ (zero-numbers (plan .t + 1) _ (λ k. refl))
-      (all-join _ (numbers (plan .n) _) _ (zero-numbers (plan .n) _ (λ j. zero-value (plan .t + 1) _))
+      (all-join _ (numbers (vLength (planShape plan)) _) _ (zero-numbers (vLength (planShape plan)) _ (λ k. refl))
+      (all-join _ (numbers (plan .n) _) _ (zero-numbers (plan .n) _ (λ j. zero-value (vLength (planShape plan)) _))
       (zero-numbers (plan .n) _ (λ j.
-      ap (λ (z : Element). 0ᴱ ⊕ z ⊕ 0ᴱ) (zero-value (plan .t + 1) (element (suc j))) ∙ solve 𝓡 [] (𝟘 :+ 𝟘 :+ 𝟘) 𝟘 refl))))
+      ap (λ (z : Element). 0ᴱ ⊕ z ⊕ 0ᴱ) (zero-value (fLength (planShape plan)) (element (suc j))) ∙ solve 𝓡 [] (𝟘 :+ 𝟘 :+ 𝟘) 𝟘 refl))))
 
 -- ---- the sum of the terms, in row d
 
@@ -113,7 +116,7 @@ module _ (H : Holder) where
   abbrev row : Vector → List ℕ
   row X = rowFor plan draw i X
 
-  module _ (M₀ : Marks) (Y₀ : Opened) (d : ℕ) (low : d < 96) (size : length l ≡ 96 * wide plan) where
+  module _ (M₀ : Marks) (Y₀ : Opened) (d : ℕ) (low : d < rowCount) (size : length l ≡ rowCount * wide plan) where
     abbrev s₀ : Session
     s₀ = sessionAt plan draw i M₀ Y₀
 
@@ -126,10 +129,10 @@ module _ (H : Holder) where
     one-more X t a =
         ap (λ (x : List ℕ). withRow W d x (withRow W d (row X) l))
         (plus-nothing (sumsAt s₀) (t .coefficient) (rowAt W (withRow W d (row X) l) d) (rowAt W (withRow W d (row X) l) (numberRow t))
-        ∙ ap₂ (combined (t .coefficient)) (row-same W 96 l d size low (row X) (row-wide plan draw i X))
-        (row-other W 96 l d size low (row X) (row-wide plan draw i X) (numberRow t) (a .0) ∙ a .1)
-        ∙ sym (row-plusTimes (plan .t + 1) (plan .n) i (t .coefficient) (element (pointOf draw i)) X (vec (numberRow t))))
-        ∙ row-again W 96 l d size low (row X) (row-wide plan draw i X) (row (plusTimes (element (t .coefficient)) X (vec (numberRow t))))
+        ∙ ap₂ (combined (t .coefficient)) (row-same W rowCount l d size low (row X) (row-wide plan draw i X))
+        (row-other W rowCount l d size low (row X) (row-wide plan draw i X) (numberRow t) (a .0) ∙ a .1)
+        ∙ sym (row-plusTimes (planShape plan) i (t .coefficient) (element (pointOf draw i)) X (vec (numberRow t))))
+        ∙ row-again W rowCount l d size low (row X) (row-wide plan draw i X) (row (plusTimes (element (t .coefficient)) X (vec (numberRow t))))
 
     all-added : (X : Vector) (ts : List Term) → All Adds ts
         → plusTerms s₀ d ts (withRow W d (row X) l) ≡ withRow W d (row (addedTerms vec X ts)) l
@@ -137,23 +140,23 @@ module _ (H : Holder) where
     all-added X [] a = refl
     all-added X (t ∷ ts) a = ap (plusTerms s₀ d ts) (one-more X t (a .0)) ∙ all-added _ ts (a .1)
 
-    adds-of : markOf M d ≡ 0 → (ts : List Term) → All (HeldIn M) (map summand ts) → All Adds ts
+    adds-of : markOf M d ≡ empty → (ts : List Term) → All (HeldIn M) (map summand ts) → All Adds ts
     adds-of was [] a = tt
     adds-of was (t ∷ ts) a = (
       ((λ e. omega (arith, ap (markOf M) e, a .0 .1)), h .rows (numberRow t) (a .0 .0) (λ e. omega (arith, a .0 .1))),
       adds-of was ts (a .1),
     )
 
-    pub sum-holds : markOf M d ≡ 0 → (t : Term) (ts : List Term) → All (HeldIn M) (map summand (t ∷ ts))
-        → Holds plan draw len i (remarked M d 2) (at vec d (totalVector vec (summand t) (map summand ts))) (withSum s₀ d (t ∷ ts) l)
+    pub sum-holds : markOf M d ≡ empty → (t : Term) (ts : List Term) → All (HeldIn M) (map summand (t ∷ ts))
+        → Holds plan draw len i (remarked M d heldMark) (at vec d (totalVector vec (summand t) (map summand ts))) (withSum s₀ d (t ∷ ts) l)
     sum-holds was t ts held =
-        subst (Holds plan draw len i (remarked M d 2) (at vec d (totalVector vec (summand t) (map summand ts))))
+        subst (Holds plan draw len i (remarked M d heldMark) (at vec d (totalVector vec (summand t) (map summand ts))))
         (sym (ap (λ (x : List ℕ). plusTerms s₀ d (t ∷ ts) (withRow W d x l)) (zero-row plan draw i) ∙ all-added zeroVector (t ∷ ts) (adds-of was (t ∷ ts) held)))
-        (put-holds plan draw len i M vec l h size d 2 low _ _ (ap row (terms-sum vec t ts)))
+        (put-holds plan draw len i M vec l h size d heldMark low _ _ (ap row (terms-sum vec t ts)))
 
 -- ---- the products, one after the other
 
-waiting-triple : (M : Marks) (r : ℕ) → Multiplying 5 M (rememberedA M r) (rememberedB M r) r → Tripled 5 M r
+waiting-triple : (M : Marks) (r : ℕ) → Multiplying masked M (rememberedA M r) (rememberedB M r) r → Tripled masked M r
 waiting-triple M r ok = record { r-low = ok .r-low; first = ok .first; second = ok .second; third = ok .third }
 
 module _ (plan : Plan) (draw : Draw) (len i : ℕ) (M₀ : Marks) (Y₀ : Opened) (rows blocks : List ℕ) where
@@ -166,7 +169,7 @@ module _ (plan : Plan) (draw : Draw) (len i : ℕ) (M₀ : Marks) (Y₀ : Opened
       (termNumberA (sessionAt plan draw i M₀ Y₀) rows blocks k t ≡ number (maskVectorA M vec (t .first)) .0)
       × (termNumberB (sessionAt plan draw i M₀ Y₀) rows blocks k t ≡ number (maskVectorB M vec (t .first)) .0)
 
-  still-opens : (M : Marks) (vec : ℕ → Vector) (r : ℕ) (X : Vector) → Multiplying 5 M (rememberedA M r) (rememberedB M r) r → (k : ℕ) (t : Term)
+  still-opens : (M : Marks) (vec : ℕ → Vector) (r : ℕ) (X : Vector) → Multiplying masked M (rememberedA M r) (rememberedB M r) r → (k : ℕ) (t : Term)
       → t .first ≢ r → Waits M t → OpensTo M vec k t → OpensTo (finished M r) (at vec (r + 2) X) k t
   still-opens M vec r X ok k t ne w o =
       let q = t .first in
@@ -178,13 +181,13 @@ module _ (plan : Plan) (draw : Draw) (len i : ℕ) (M₀ : Marks) (Y₀ : Opened
         o .1 ∙ ap₂ (λ (A B : Vector). number (less A B) .0) (sym eb) (sym e1),
       )
 
-  all-open : (M : Marks) (vec : ℕ → Vector) (r : ℕ) (X : Vector) → Multiplying 5 M (rememberedA M r) (rememberedB M r) r → (k : ℕ) (ts : List Term)
+  all-open : (M : Marks) (vec : ℕ → Vector) (r : ℕ) (X : Vector) → Multiplying masked M (rememberedA M r) (rememberedB M r) r → (k : ℕ) (ts : List Term)
       → All (λ t. t .first ≢ r) ts → All (Waits M) ts → AllAt (OpensTo M vec) k ts → AllAt (OpensTo (finished M r) (at vec (r + 2) X)) k ts
   all-open M vec r X ok k [] ne w o = tt
   all-open M vec r X ok k (t ∷ ts) ne w o =
       (still-opens M vec r X ok k t (ne .0) (w .0) (o .0), all-open M vec r X ok (suc k) ts (ne .1) (w .1) (o .1))
 
-  pub products-hold : len ≡ 96 * wide plan → (k : ℕ) (ts : List Term) (M : Marks) (vec : ℕ → Vector) (l : List ℕ) → Holds plan draw len i M vec l → All (Waits M) ts → Apart ts
+  pub products-hold : len ≡ rowCount * wide plan → (k : ℕ) (ts : List Term) (M : Marks) (vec : ℕ → Vector) (l : List ℕ) → Holds plan draw len i M vec l → All (Waits M) ts → Apart ts
       → AllAt (OpensTo M vec) k ts
       → Holds plan draw len i (finishedAll ts M) (multipliedAll ts M vec) (withProducts (sessionAt plan draw i M₀ Y₀) rows blocks k ts l)
   unfolding withProducts
@@ -193,7 +196,7 @@ module _ (plan : Plan) (draw : Draw) (len i : ℕ) (M₀ : Marks) (Y₀ : Opened
       let r = t .first in
       let H : Holder = record { plan = plan; draw = draw; len = len; post = i; marks = M; opened = Y₀; vec = vec; rows = l; holds = h } in
       products-hold size (suc k) ts (finished M r) (at vec (r + 2) (written M vec r)) _
-      (product-holds H r 4 (waiting-triple M r (w .0)) (h .long ∙ size) M₀ Y₀ _ _ (o .0 .0) (o .0 .1))
+      (product-holds H r (waiting-triple M r (w .0)) (h .long ∙ size) M₀ Y₀ _ _ (o .0 .0) (o .0 .1))
       (all-wait M t ts (w .0) (a .0) (w .1)) (a .1)
       (all-open M vec r (written M vec r) (w .0) (suc k) ts (a .0) (w .1) (o .1))
 

@@ -12,6 +12,8 @@ use lib.Seq.{getD-set-same, set-set}
 use lib.Dec.{eqb}
 use Rattle.poly.specs.Counting.{All}
 use Rattle.poly.proofs.Lists.{all-zip}
+use Rattle.shape.specs.Bounds.{rowCount}
+use Rattle.shape.specs.Marks.{empty, held as heldMark, unused, further, masked, spent, collected}
 use Rattle.refusal.proofs.Laws.{or-false}
 use Rattle.terms.specs.declared.Term.{Term}
 use Rattle.terms.specs.Listed.{plain, productsOf}
@@ -46,19 +48,19 @@ apart (t ∷ ts) e = let h = or-false (namedIn (t .first) ts) (namedTwice ts) e 
 abbrev pub Termed : ℕ → Marks → Term → Type 0
 Termed m M t = Multiplying m M (t .row) (t .second) (t .first)
 
-still-unused : (M : Marks) (a b r x y q : ℕ) → Multiplying 3 M a b r → q ≢ r → Multiplying 3 M x y q → Multiplying 3 (marksBy (factors a b r) M) x y q
+still-unused : (M : Marks) (a b r x y q : ℕ) → Multiplying unused M a b r → q ≢ r → Multiplying unused M x y q → Multiplying unused (marksBy (factors a b r) M) x y q
 still-unused M a b r x y q ok ne h = record {
   a-low = h .a-low;
   b-low = h .b-low;
   r-low = h .r-low;
-  a-held = past M r 5 x (λ e. omega (arith, ap (markOf M) e, h .a-held, ok .first)) ∙ h .a-held;
-  b-held = past M r 5 y (λ e. omega (arith, ap (markOf M) e, h .b-held, ok .first)) ∙ h .b-held;
-  first = past M r 5 q ne ∙ h .first;
-  second = past M r 5 (q + 1) (λ e. omega (arith, ap (markOf M) e, h .second, ok .first)) ∙ h .second;
-  third = past M r 5 (q + 2) (λ e. omega (arith, ap (markOf M) e, h .third, ok .first)) ∙ h .third;
+  a-held = past M r masked x (λ e. omega (arith, ap (markOf M) e, h .a-held, ok .first)) ∙ h .a-held;
+  b-held = past M r masked y (λ e. omega (arith, ap (markOf M) e, h .b-held, ok .first)) ∙ h .b-held;
+  first = past M r masked q ne ∙ h .first;
+  second = past M r masked (q + 1) (λ e. omega (arith, ap (markOf M) e, h .second, ok .first)) ∙ h .second;
+  third = past M r masked (q + 2) (λ e. omega (arith, ap (markOf M) e, h .third, ok .first)) ∙ h .third;
 }
 
-pub allowed-masks : (ts : List Term) (M : Marks) → All (Termed 3 M) ts → Apart ts → AllowedAll (actsIn (factoring {K = Actual} ts)) M
+pub allowed-masks : (ts : List Term) (M : Marks) → All (Termed unused M) ts → Apart ts → AllowedAll (actsIn (factoring {K = Actual} ts)) M
 allowed-masks [] M h a = tt
 allowed-masks (t ∷ ts) M h a = (
   (tt, h .0),
@@ -70,7 +72,7 @@ pub ready-masks : (ts : List Term) (M : Marks) → All (λ a. ReadyFor M (takes 
 ready-masks [] M = tt
 ready-masks (t ∷ ts) M = (tt, ready-masks ts M)
 
-pub sending-masks : (todo : List Act) (M : Marks) (ts : List Term) → All (Termed 3 M) ts
+pub sending-masks : (todo : List Act) (M : Marks) (ts : List Term) → All (Termed unused M) ts
     → ((m : Masking) → Among m (map masking (actsIn (factoring {K = Actual} ts))) → Among m (map masking todo)) → All (Sendable todo M) (maskings ts)
 sending-masks todo M [] h up = tt
 sending-masks todo M (t ∷ ts) h up =
@@ -80,12 +82,12 @@ sending-masks todo M (t ∷ ts) h up =
 
 -- a product term whose triple waits
 abbrev pub Waits : Marks → Term → Type 0
-Waits M t = Multiplying 5 M (rememberedA M (t .first)) (rememberedB M (t .first)) (t .first)
+Waits M t = Multiplying masked M (rememberedA M (t .first)) (rememberedB M (t .first)) (t .first)
 
 -- by both calls: 7, then 6, 6, 2, as 6, 6, 2 at once
-pub done-is : (M : Marks) (r : ℕ) → finished (remarked M r 7) r ≡ finished M r
+pub done-is : (M : Marks) (r : ℕ) → finished (remarked M r collected) r ≡ finished M r
 done-is M r =
-    ap (λ (l : List ℕ). record { marks = set (set l (r + 1) 6) (r + 2) 2; factor-a = M .factor-a; factor-b = M .factor-b }) (set-set (M .marks) r 7 6)
+    ap (λ (l : List ℕ). record { marks = set (set l (r + 1) spent) (r + 2) heldMark; factor-a = M .factor-a; factor-b = M .factor-b }) (set-set (M .marks) r collected spent)
 
 -- the marks once these product terms are finished
 abbrev pub finishedAll : List Term → Marks → Marks
@@ -93,26 +95,26 @@ finishedAll [] M = M
 finishedAll (t ∷ ts) M = finishedAll ts (finished M (t .first))
 
 -- a finish of the triple at r leaves a row that is neither 4 nor 5
-off-triple : (M : Marks) (r q : ℕ) → Multiplying 5 M (rememberedA M r) (rememberedB M r) r → markOf M q ≢ 4 → markOf M q ≢ 5
+off-triple : (M : Marks) (r q : ℕ) → Multiplying masked M (rememberedA M r) (rememberedB M r) r → markOf M q ≢ further → markOf M q ≢ masked
     → markOf (finished M r) q ≡ markOf M q
 off-triple M r q ok ne ne' =
-    past-three M r 6 6 2 q (λ e. ne' (ap (markOf M) e ∙ ok .first)) (λ e. ne (ap (markOf M) e ∙ ok .second)) (λ e. ne (ap (markOf M) e ∙ ok .third))
+    past-three M r spent spent heldMark q (λ e. ne' (ap (markOf M) e ∙ ok .first)) (λ e. ne (ap (markOf M) e ∙ ok .second)) (λ e. ne (ap (markOf M) e ∙ ok .third))
 
-still-waits : (M : Marks) (r q : ℕ) → Multiplying 5 M (rememberedA M r) (rememberedB M r) r → q ≢ r
-    → Multiplying 5 M (rememberedA M q) (rememberedB M q) q → Multiplying 5 (finished M r) (rememberedA M q) (rememberedB M q) q
+still-waits : (M : Marks) (r q : ℕ) → Multiplying masked M (rememberedA M r) (rememberedB M r) r → q ≢ r
+    → Multiplying masked M (rememberedA M q) (rememberedB M q) q → Multiplying masked (finished M r) (rememberedA M q) (rememberedB M q) q
 still-waits M r q ok ne h = record {
   a-low = h .a-low;
   b-low = h .b-low;
   r-low = h .r-low;
   a-held = off-triple M r (rememberedA M q) ok (λ e. omega (arith, h .a-held)) (λ e. omega (arith, h .a-held)) ∙ h .a-held;
   b-held = off-triple M r (rememberedB M q) ok (λ e. omega (arith, h .b-held)) (λ e. omega (arith, h .b-held)) ∙ h .b-held;
-  first = past-three M r 6 6 2 q ne (λ e. omega (arith, ap (markOf M) e, h .first, ok .second)) (λ e. omega (arith, ap (markOf M) e, h .first, ok .third)) ∙ h .first;
+  first = past-three M r spent spent heldMark q ne (λ e. omega (arith, ap (markOf M) e, h .first, ok .second)) (λ e. omega (arith, ap (markOf M) e, h .first, ok .third)) ∙ h .first;
   second =
-      past-three M r 6 6 2 (q + 1) (λ e. omega (arith, ap (markOf M) e, h .second, ok .first)) (λ e. ne (omega arith))
+      past-three M r spent spent heldMark (q + 1) (λ e. omega (arith, ap (markOf M) e, h .second, ok .first)) (λ e. ne (omega arith))
       (λ e. let g : q ≡ r + 1 = omega arith in omega (arith, ap (markOf M) g, h .first, ok .second))
       ∙ h .second;
   third =
-      past-three M r 6 6 2 (q + 2) (λ e. omega (arith, ap (markOf M) e, h .third, ok .first))
+      past-three M r spent spent heldMark (q + 2) (λ e. omega (arith, ap (markOf M) e, h .third, ok .first))
       (λ e. let g : q + 1 ≡ r = omega arith in omega (arith, ap (markOf M) g, h .second, ok .first)) (λ e. ne (omega arith))
       ∙ h .third;
 }
@@ -122,7 +124,7 @@ pub all-wait : (M : Marks) (t : Term) (ts : List Term) → Waits M t → All (λ
 all-wait M t ts ok ne h = all-zip (λ t' w n. still-waits M (t .first) (t' .first) ok n w) ts h ne
 
 -- rows that stay: neither 4 nor 5
-pub stays-all : (ts : List Term) (M : Marks) → All (Waits M) ts → Apart ts → (q : ℕ) → markOf M q ≢ 4 → markOf M q ≢ 5
+pub stays-all : (ts : List Term) (M : Marks) → All (Waits M) ts → Apart ts → (q : ℕ) → markOf M q ≢ further → markOf M q ≢ masked
     → markOf (finishedAll ts M) q ≡ markOf M q
 stays-all [] M h a q ne ne' = refl
 stays-all (t ∷ ts) M h a q ne ne' =
@@ -130,29 +132,29 @@ stays-all (t ∷ ts) M h a q ne ne' =
     stays-all ts (finished M (t .first)) (all-wait M t ts (h .0) (a .0) (h .1)) (a .1) q (λ z. ne (sym e ∙ z)) (λ z. ne' (sym e ∙ z)) ∙ e
 
 -- a mark in the place of another
-now-set : (M : Marks) (r x m : ℕ) → markOf M r ≡ suc m → markOf (remarked M r x) r ≡ x
-now-set M r x m e = elim (decLt r (length (M .marks))) [
+now-set : (M : Marks) (r x : ℕ) {m : ℕ} → markOf M r ≡ suc m → markOf (remarked M r x) r ≡ x
+now-set M r x e = elim (decLt r (length (M .marks))) [
   | yes low ↦ getD-set-same (M .marks) r x 0 low
   | no high ↦ absurd (omega (arith, List·getD-eq-default (M .marks) 0 {n = r} (omega arith)))
 ]
 
-third-held : (M : Marks) (r : ℕ) → Multiplying 5 M (rememberedA M r) (rememberedB M r) r → markOf (finished M r) (r + 2) ≡ 2
+third-held : (M : Marks) (r : ℕ) → Multiplying masked M (rememberedA M r) (rememberedB M r) r → markOf (finished M r) (r + 2) ≡ heldMark
 third-held M r ok =
-    now-set (remarked (remarked M r 6) (r + 1) 6) (r + 2) 2 3
-    (past (remarked M r 6) (r + 1) 6 (r + 2) (omega arith) ∙ past M r 6 (r + 2) (omega arith) ∙ ok .third)
+    now-set (remarked (remarked M r spent) (r + 1) spent) (r + 2) heldMark
+    (past (remarked M r spent) (r + 1) spent (r + 2) (omega arith) ∙ past M r spent (r + 2) (omega arith) ∙ ok .third)
 
 -- a triple that was just collected
-pub collected-triple : (M : Marks) (r : ℕ) → Multiplying 5 M (rememberedA M r) (rememberedB M r) r → Tripled 7 (remarked M r 7) r
+pub collected-triple : (M : Marks) (r : ℕ) → Multiplying masked M (rememberedA M r) (rememberedB M r) r → Tripled collected (remarked M r collected) r
 collected-triple M r ok = record {
   r-low = ok .r-low;
-  first = now-set M r 7 4 (ok .first);
-  second = past M r 7 (r + 1) (omega arith) ∙ ok .second;
-  third = past M r 7 (r + 2) (omega arith) ∙ ok .third;
+  first = now-set M r collected (ok .first);
+  second = past M r collected (r + 1) (omega arith) ∙ ok .second;
+  third = past M r collected (r + 2) (omega arith) ∙ ok .third;
 }
 
 -- the products are held
 pub products-held : (ts : List Term) (M : Marks) → All (Waits M) ts → Apart ts
-    → All (λ t. (t .first + 2 < 96) × (markOf (finishedAll ts M) (t .first + 2) ≡ 2)) ts
+    → All (λ t. (t .first + 2 < rowCount) × (markOf (finishedAll ts M) (t .first + 2) ≡ heldMark)) ts
 products-held [] M h a = tt
 products-held (t ∷ ts) M h a =
     let N = finished M (t .first) in
@@ -184,23 +186,23 @@ module _ (m : ℕ) (blocks : List ℕ) where
 -- the terms' rows and products, once the products are written
 module _ (N : Marks) where
   abbrev pub ThirdHeld : Term → Type 0
-  ThirdHeld t = (t .first + 2 < 96) × (markOf N (t .first + 2) ≡ 2)
+  ThirdHeld t = (t .first + 2 < rowCount) × (markOf N (t .first + 2) ≡ heldMark)
 
-  held-term : (t : Term) (b : Bool) → plain t ≡ b → (t .row < 96) × (markOf N (t .row) ≡ 2) → (plain t ≡ false → ThirdHeld t)
-      → (byKind b (t .row) (t .first + 2) < 96) × (markOf N (byKind b (t .row) (t .first + 2)) ≡ 2)
+  held-term : (t : Term) (b : Bool) → plain t ≡ b → (t .row < rowCount) × (markOf N (t .row) ≡ heldMark) → (plain t ≡ false → ThirdHeld t)
+      → (byKind b (t .row) (t .first + 2) < rowCount) × (markOf N (byKind b (t .row) (t .first + 2)) ≡ heldMark)
   held-term t true e row third = row
   held-term t false e row third = third e
 
-  pub terms-held : (ts : List Term) → All (λ t. (t .row < 96) × (markOf N (t .row) ≡ 2)) ts → All ThirdHeld (productsOf ts)
+  pub terms-held : (ts : List Term) → All (λ t. (t .row < rowCount) × (markOf N (t .row) ≡ heldMark)) ts → All ThirdHeld (productsOf ts)
       → All (HeldIn N) (map summand ts)
   terms-held ts rows thirds = go ts rows (products-back ThirdHeld ts thirds)
     where
-      go : (l : List Term) → All (λ t. (t .row < 96) × (markOf N (t .row) ≡ 2)) l → All (λ t. plain t ≡ false → ThirdHeld t) l
+      go : (l : List Term) → All (λ t. (t .row < rowCount) × (markOf N (t .row) ≡ heldMark)) l → All (λ t. plain t ≡ false → ThirdHeld t) l
           → All (HeldIn N) (map summand l)
       go [] a b = tt
       go (t ∷ l) a b = (held-term t (plain t) refl (a .0) (b .0), go l (a .1) (b .1))
 
-  pub allowed-sum : (r : ℕ) (ts : List Term) → 1 ≤ length ts → r < 96 → markOf N r ≡ 0 → All (HeldIn N) (map summand ts)
+  pub allowed-sum : (r : ℕ) (ts : List Term) → 1 ≤ length ts → r < rowCount → markOf N r ≡ empty → All (HeldIn N) (map summand ts)
       → AllowedAll (actsIn (summing {K = Actual} r ts)) N
   allowed-sum r [] some low is held = tt
   allowed-sum r (t ∷ ts) some low is held = ((record { r-low = low; r-empty = is; held = held }, tt), tt)

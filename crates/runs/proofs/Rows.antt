@@ -1,5 +1,5 @@
 -- What a call that is not refused makes of each row: it turns the row's mark, or leaves the row as it is.
-use Prim.Native.Nat.{ℕ, suc, _+_, _<_}
+use Prim.Native.Nat.{ℕ, suc, _+_, _≤_, _<_}
 use mathlib.Core.Path.{_≡_, refl, sym, _∙_, ap, subst}
 use mathlib.Core.Logic.{_≢_, _⊎_, inl, inr}
 use mathlib.Core.List.{List, [], _∷_, map}
@@ -7,6 +7,8 @@ use native.Mathlib.Decide.{ℕ-discrete, decLt}
 use native.Mathlib.Omega.{arith}
 use lib.ListN.{length-set, List·getD-eq-default}
 use lib.Seq.{getD-set-same, getD-set-other}
+use Rattle.shape.specs.Bounds.{rowCount, lastTriple}
+use Rattle.shape.specs.Marks.{empty, raw as rawMark, held, unused, further, masked, spent as spentMark, collected as collectedMark}
 use Rattle.vectors.specs.Vector.{Vector}
 use Rattle.runs.specs.Draws.{Plan, Draw}
 use Rattle.runs.specs.Outline.{Kinds, Act, loads, loadsTriple, deals, opens, Summand, sums, factors, collects, multiplies, Taking, takes, Given, Move, actsIn}
@@ -17,35 +19,35 @@ use Rattle.runs.proofs.Facts.{Maskable, AllowedBy, AllowedAll, MasksBy,
 -- ---- The rows that a call writes: which, the mark before, the mark after.
 
 pub data Turn : Act → ℕ → ℕ → ℕ → Type 0 where
-  raw : {r : ℕ} → Turn (loads r) r 0 1
-  first : {r : ℕ} → Turn (loadsTriple r) r 0 3
-  second : {r : ℕ} → Turn (loadsTriple r) (r + 1) 0 4
-  third : {r : ℕ} → Turn (loadsTriple r) (r + 2) 0 4
-  dealt : {r : ℕ} → Turn (deals r) r 1 2
-  summed : {r : ℕ} {t : Summand} {ts : List Summand} → Turn (sums r t ts) r 0 2
-  waiting : {a b r : ℕ} → Turn (factors a b r) r 3 5
-  collected : {r : ℕ} → Turn (collects r) r 5 7
-  spent : {r : ℕ} → Turn (multiplies r) r 7 6
-  spent' : {r : ℕ} → Turn (multiplies r) (r + 1) 4 6
-  multiplied : {r : ℕ} → Turn (multiplies r) (r + 2) 4 2
+  raw : {r : ℕ} → Turn (loads r) r empty rawMark
+  first : {r : ℕ} → Turn (loadsTriple r) r empty unused
+  second : {r : ℕ} → Turn (loadsTriple r) (r + 1) empty further
+  third : {r : ℕ} → Turn (loadsTriple r) (r + 2) empty further
+  dealt : {r : ℕ} → Turn (deals r) r rawMark held
+  summed : {r : ℕ} {t : Summand} {ts : List Summand} → Turn (sums r t ts) r empty held
+  waiting : {a b r : ℕ} → Turn (factors a b r) r unused masked
+  collected : {r : ℕ} → Turn (collects r) r masked collectedMark
+  spent : {r : ℕ} → Turn (multiplies r) r collectedMark spentMark
+  spent' : {r : ℕ} → Turn (multiplies r) (r + 1) further spentMark
+  multiplied : {r : ℕ} → Turn (multiplies r) (r + 2) further held
 
-from-two : {A : Type 0} {a : Act} {q m : ℕ} → Turn a q 2 m → A
+from-two : {A : Type 0} {a : Act} {q m : ℕ} → Turn a q held m → A
 from-two t = elim t [ ]
 
-from-six : {A : Type 0} {a : Act} {q m : ℕ} → Turn a q 6 m → A
+from-six : {A : Type 0} {a : Act} {q m : ℕ} → Turn a q spentMark m → A
 from-six t = elim t [ ]
 
-from-five : {a : Act} {q m : ℕ} → Turn a q 5 m → m ≡ 7
+from-five : {a : Act} {q m : ℕ} → Turn a q masked m → m ≡ collectedMark
 from-five collected = refl
 
-from-seven : {a : Act} {q m : ℕ} → Turn a q 7 m → m ≡ 6
+from-seven : {a : Act} {q m : ℕ} → Turn a q collectedMark m → m ≡ spentMark
 from-seven spent = refl
 
-to-five : {a : Act} {q m : ℕ} → Turn a q m 5 → MasksBy (masking a) q
+to-five : {a : Act} {q m : ℕ} → Turn a q m masked → MasksBy (masking a) q
 to-five waiting = refl
 
-to-seven : {a : Act} {q m : ℕ} → Turn a q m 7
-    → (m ≡ 5) × ((M : Marks) → (rememberedA (marksBy a M) q ≡ rememberedA M q) × (rememberedB (marksBy a M) q ≡ rememberedB M q))
+to-seven : {a : Act} {q m : ℕ} → Turn a q m collectedMark
+    → (m ≡ masked) × ((M : Marks) → (rememberedA (marksBy a M) q ≡ rememberedA M q) × (rememberedB (marksBy a M) q ≡ rememberedB M q))
 to-seven collected = (refl, λ M. (refl, refl))
 
 -- ---- Marks that are written.
@@ -53,7 +55,7 @@ to-seven collected = (refl, λ M. (refl, refl))
 sized-at : (M : Marks) (r m : ℕ) → Sized M → Sized (remarked M r m)
 sized-at M r m z = record { marks = length-set (M .marks) r m ∙ z .marks; factor-a = z .factor-a; factor-b = z .factor-b }
 
-now : (M : Marks) (r m : ℕ) → Sized M → r < 96 → markOf (remarked M r m) r ≡ m
+now : (M : Marks) (r m : ℕ) → Sized M → r < rowCount → markOf (remarked M r m) r ≡ m
 now M r m z low = getD-set-same (M .marks) r m 0 (omega (arith, z .marks))
 
 pub past : (M : Marks) (r m q : ℕ) → q ≢ r → markOf (remarked M r m) q ≡ markOf M q
@@ -74,7 +76,7 @@ off-one M r m vec X q ne = other M r m vec (at vec r X) q ne (at-other vec r X q
 
 pub off-masks : (M : Marks) (r a b : ℕ) (vec : ℕ → Vector) (q : ℕ) → q ≢ r → Same M (marksBy (factors a b r) M) vec vec q
 off-masks M r a b vec q ne = record {
-  mark = past M r 5 q ne;
+  mark = past M r masked q ne;
   factor-a = getD-set-other (M .factor-a) r q a 0 ne;
   factor-b = getD-set-other (M .factor-b) r q b 0 ne;
   vector = refl;
@@ -106,7 +108,7 @@ module _ (M : Marks) (r x y z : ℕ) where
   pub past-three : (q : ℕ) → q ≢ r → q ≢ r + 1 → q ≢ r + 2 → markOf (remarked (remarked (remarked M r x) (r + 1) y) (r + 2) z) q ≡ markOf M q
   past-three q n n' n'' = past two (r + 2) z q n'' ∙ past one (r + 1) y q n' ∙ past M r x q n
 
-  pub on-three : Sized M → r < 94 → (markOf three r ≡ x) × (markOf three (r + 1) ≡ y) × (markOf three (r + 2) ≡ z)
+  pub on-three : Sized M → r ≤ lastTriple → (markOf three r ≡ x) × (markOf three (r + 1) ≡ y) × (markOf three (r + 2) ≡ z)
   on-three s low =
       let s₁ = sized-at M r x s in
       let s₂ = sized-at one (r + 1) y s₁ in (
@@ -131,38 +133,38 @@ module _ (plan : Plan) (draw : Draw) where
     at-row r q here there = elim (ℕ-discrete q r) [ yes e ↦ subst (Course a c M vec) (sym e) here | no ne ↦ there ne ]
 
   pub course : (a : Act) (c : ℕ) (M : Marks) (vec : ℕ → Vector) → Sized M → AllowedBy a M → (q : ℕ) → Course a c M vec q
-  course (loads r) c M vec z ok q = at-row r q (turns (ok .0 .1) (now M r 1 z (ok .0 .0)) raw) (λ n. same (off-one M r 1 vec _ q n))
+  course (loads r) c M vec z ok q = at-row r q (turns (ok .0 .1) (now M r rawMark z (ok .0 .0)) raw) (λ n. same (off-one M r rawMark vec _ q n))
   course (loadsTriple r) c M vec z ok q =
-      let k = on-three M r 3 4 4 z (ok .0 .0) in
+      let k = on-three M r unused further further z (ok .0 .0) in
       at-row r q (turns (ok .0 .1) (k .0) first) (λ n.
       at-row (r + 1) q (turns (ok .0 .2) (k .1) second) (λ n'.
       at-row (r + 2) q (turns (ok .0 .3) (k .2) third) (λ n''.
-      same (off-three M r 3 4 4 vec _ q n n' n'' (at-other _ (r + 2) _ q n'' ∙ at-other _ (r + 1) _ q n' ∙ at-other vec r _ q n)))))
-  course (deals r) c M vec z ok q = at-row r q (turns (ok .0 .1) (now M r 2 z (ok .0 .0)) dealt) (λ n. same (off-one M r 2 vec _ q n))
+      same (off-three M r unused further further vec _ q n n' n'' (at-other _ (r + 2) _ q n'' ∙ at-other _ (r + 1) _ q n' ∙ at-other vec r _ q n)))))
+  course (deals r) c M vec z ok q = at-row r q (turns (ok .0 .1) (now M r held z (ok .0 .0)) dealt) (λ n. same (off-one M r held vec _ q n))
   course (opens r) c M vec z ok q = same (record { mark = refl; factor-a = refl; factor-b = refl; vector = refl })
   course (sums r t ts) c M vec z ok q =
-      at-row r q (turns (ok .0 .r-empty) (now M r 2 z (ok .0 .r-low)) summed) (λ n. same (off-one M r 2 vec _ q n))
+      at-row r q (turns (ok .0 .r-empty) (now M r held z (ok .0 .r-low)) summed) (λ n. same (off-one M r held vec _ q n))
   course (factors x y r) c M vec z ok q =
-      at-row r q (turns (ok .1 .first) (now M r 5 z (omega arith)) waiting) (λ n. same (off-masks M r x y vec q n))
+      at-row r q (turns (ok .1 .first) (now M r masked z (omega arith)) waiting) (λ n. same (off-masks M r x y vec q n))
   course (collects r) c M vec z ok q =
-      at-row r q (turns (ok .0 .first) (now M r 7 z (omega (arith, ok .0 .r-low))) collected) (λ n. same (other M r 7 vec vec q n refl))
+      at-row r q (turns (ok .0 .first) (now M r collectedMark z (omega (arith, ok .0 .r-low))) collected) (λ n. same (other M r collectedMark vec vec q n refl))
   course (multiplies r) c M vec z ok q =
-      let k = on-three M r 6 6 2 z (ok .0 .r-low) in
+      let k = on-three M r spentMark spentMark held z (ok .0 .r-low) in
       at-row r q (turns (ok .0 .first) (k .0) spent) (λ n.
       at-row (r + 1) q (turns (ok .0 .second) (k .1) spent') (λ n'.
       at-row (r + 2) q (turns (ok .0 .third) (k .2) multiplied) (λ n''.
-      same (off-three M r 6 6 2 vec _ q n n' n'' (at-other vec (r + 2) _ q n'')))))
+      same (off-three M r spentMark spentMark held vec _ q n n' n'' (at-other vec (r + 2) _ q n'')))))
 
   -- ---- What stays.
 
   -- held rows, with their vectors
-  pub held-by : (a : Act) (c : ℕ) (M : Marks) (vec : ℕ → Vector) → Sized M → AllowedBy a M → (q : ℕ) → markOf M q ≡ 2
-      → (markOf (marksBy a M) q ≡ 2) × (vectorsBy plan draw a c M vec q ≡ vec q)
+  pub held-by : (a : Act) (c : ℕ) (M : Marks) (vec : ℕ → Vector) → Sized M → AllowedBy a M → (q : ℕ) → markOf M q ≡ held
+      → (markOf (marksBy a M) q ≡ held) × (vectorsBy plan draw a c M vec q ≡ vec q)
   held-by a c M vec z ok q h = elim (course a c M vec z ok q) [ turned t ↦ from-two (rw h at t) | same s ↦ (s .mark ∙ h, s .vector) ]
 
   -- a row whose mark is 5, 7 or 6: it stays so
-  pub past-by : (a : Act) (M : Marks) → Sized M → AllowedBy a M → (q : ℕ) → Masked (markOf M q) ⊎ (markOf M q ≡ 6)
-      → Masked (markOf (marksBy a M) q) ⊎ (markOf (marksBy a M) q ≡ 6)
+  pub past-by : (a : Act) (M : Marks) → Sized M → AllowedBy a M → (q : ℕ) → Masked (markOf M q) ⊎ (markOf M q ≡ spentMark)
+      → Masked (markOf (marksBy a M) q) ⊎ (markOf (marksBy a M) q ≡ spentMark)
   past-by a M z ok q h = elim (course a 0 M (rawVector plan draw) z ok q) [
     | turned t ↦ elim h [
       | inl (inl e) ↦ inl (inr (from-five (rw e at t)))
@@ -173,7 +175,7 @@ module _ (plan : Plan) (draw : Draw) where
   ]
 
   -- a triple waits after an act: it waited before, with the same factors, or these are its masks
-  pub five-by : (a : Act) (M : Marks) → Sized M → AllowedBy a M → (q : ℕ) → q < 96 → Masked (markOf (marksBy a M) q)
+  pub five-by : (a : Act) (M : Marks) → Sized M → AllowedBy a M → (q : ℕ) → q < rowCount → Masked (markOf (marksBy a M) q)
       → (Masked (markOf M q) × (rememberedA (marksBy a M) q ≡ rememberedA M q) × (rememberedB (marksBy a M) q ≡ rememberedB M q)) ⊎ MasksBy (masking a) q
   five-by a M z ok q low h = elim (course a 0 M (rawVector plan draw) z ok q) [
     | turned t ↦ elim h [
@@ -183,10 +185,13 @@ module _ (plan : Plan) (draw : Draw) where
     | same s ↦ inl (rw (s .mark) at h, s .factor-a, s .factor-b)
   ]
 
--- ---- Marks are 96.
+-- ---- There are as many marks as rows.
 
-pub marked-low : (M : Marks) → Sized M → (r m : ℕ) → markOf M r ≡ suc m → r < 96
-marked-low M z r m e = elim (decLt r 96) [
+pub nonzero : (M : Marks) (r : ℕ) {m : ℕ} → markOf M r ≡ suc m → markOf M r ≢ empty
+nonzero M r e g = omega arith
+
+pub marked-low : (M : Marks) → Sized M → (r : ℕ) {m : ℕ} → markOf M r ≡ suc m → r < rowCount
+marked-low M z r e = elim (decLt r rowCount) [
   | yes low ↦ low
   | no high ↦ absurd (omega (arith, List·getD-eq-default (M .marks) 0 {n = r} (omega arith)))
 ]
@@ -198,7 +203,7 @@ sized-marks (m ∷ ms) M z = sized-marks ms (remarked M (m .row) (m .is)) (sized
 sized-notes : (m : Masking) (M : Marks) → Sized M → Sized (remembered m M)
 sized-notes none M z = z
 sized-notes (of a b r) M z =
-    record { marks = length-set (M .marks) r 5 ∙ z .marks; factor-a = length-set (M .factor-a) r a ∙ z .factor-a; factor-b = length-set (M .factor-b) r b ∙ z .factor-b }
+    record { marks = length-set (M .marks) r masked ∙ z .marks; factor-a = length-set (M .factor-a) r a ∙ z .factor-a; factor-b = length-set (M .factor-b) r b ∙ z .factor-b }
 
 pub sized-by : (a : Act) (M : Marks) → Sized M → Sized (marksBy a M)
 sized-by a M z = sized-notes (masking a) (markAll (marksOf a) M) (sized-marks (marksOf a) M z)
@@ -211,8 +216,8 @@ sized-after (a ∷ todo) M z = sized-after todo (marksBy a M) (sized-by a M z)
 
 module _ (plan : Plan) (draw : Draw) where
   pub held-stays : {K : Kinds} (num : (t : Taking) → Given K t → ℕ) (ms : List (Move K)) (M : Marks) (vec : ℕ → Vector) → Sized M
-      → AllowedAll (actsIn ms) M → (q : ℕ) → markOf M q ≡ 2
-      → (markOf (marksAll (actsIn ms) M) q ≡ 2) × (vectorsAll plan draw num ms M vec q ≡ vec q)
+      → AllowedAll (actsIn ms) M → (q : ℕ) → markOf M q ≡ held
+      → (markOf (marksAll (actsIn ms) M) q ≡ held) × (vectorsAll plan draw num ms M vec q ≡ vec q)
   held-stays num [] M vec z ok q h = (h, refl)
   held-stays num (m ∷ ms) M vec z ok q h =
       let a = m .0 in
@@ -221,12 +226,12 @@ module _ (plan : Plan) (draw : Draw) where
       let l = held-stays num ms (marksBy a M) (vectorsBy plan draw a c M vec) (sized-by a M z) (ok .1) q (k .0) in
       (l .0, l .1 ∙ k .1)
 
-  pub past-stays : (todo : List Act) (M : Marks) → Sized M → AllowedAll todo M → (q : ℕ) → Masked (markOf M q) ⊎ (markOf M q ≡ 6)
-      → Masked (markOf (marksAll todo M) q) ⊎ (markOf (marksAll todo M) q ≡ 6)
+  pub past-stays : (todo : List Act) (M : Marks) → Sized M → AllowedAll todo M → (q : ℕ) → Masked (markOf M q) ⊎ (markOf M q ≡ spentMark)
+      → Masked (markOf (marksAll todo M) q) ⊎ (markOf (marksAll todo M) q ≡ spentMark)
   past-stays [] M z ok q h = h
   past-stays (a ∷ todo) M z ok q h = past-stays todo (marksBy a M) (sized-by a M z) (ok .1) q (past-by plan draw a M z (ok .0) q h)
 
-  pub five-before : (todo : List Act) (M : Marks) → Sized M → AllowedAll todo M → (q : ℕ) → q < 96 → Masked (markOf (marksAll todo M) q)
+  pub five-before : (todo : List Act) (M : Marks) → Sized M → AllowedAll todo M → (q : ℕ) → q < rowCount → Masked (markOf (marksAll todo M) q)
       → (Masked (markOf M q) × (rememberedA (marksAll todo M) q ≡ rememberedA M q) × (rememberedB (marksAll todo M) q ≡ rememberedB M q)) ⊎ MasksIn todo q
   five-before [] M z ok q low h = inl (h, refl, refl)
   five-before (a ∷ todo) M z ok q low h = elim (five-before todo (marksBy a M) (sized-by a M z) (ok .1) q low h) [
@@ -239,29 +244,29 @@ module _ (plan : Plan) (draw : Draw) where
 
 -- ---- Masks: of an unused triple, which then waits with these factors.
 
-young : (m : Masking) (M : Marks) → Maskable m M → (r : ℕ) → MasksBy m r → Masked (markOf M r) ⊎ (markOf M r ≡ 6) → ⊥
+young : (m : Masking) (M : Marks) → Maskable m M → (r : ℕ) → MasksBy m r → Masked (markOf M r) ⊎ (markOf M r ≡ spentMark) → ⊥
 young none M al r at past = at
 young (of x y r') M al r at (inl (inl five)) = omega (arith, ap (markOf M) at, al .first, five)
 young (of x y r') M al r at (inl (inr seven)) = omega (arith, ap (markOf M) at, al .first, seven)
 young (of x y r') M al r at (inr six) = omega (arith, ap (markOf M) at, al .first, six)
 
-waiting-now : (m : Masking) (M : Marks) (x y r : ℕ) → Sized M → r < 94 → of x y r ≡ m
-    → (markOf (remembered m M) r ≡ 5) × (rememberedA (remembered m M) r ≡ x) × (rememberedB (remembered m M) r ≡ y)
+waiting-now : (m : Masking) (M : Marks) (x y r : ℕ) → Sized M → r ≤ lastTriple → of x y r ≡ m
+    → (markOf (remembered m M) r ≡ masked) × (rememberedA (remembered m M) r ≡ x) × (rememberedB (remembered m M) r ≡ y)
 waiting-now m M x y r z low e =
-    subst (λ (w : Masking). (markOf (remembered w M) r ≡ 5) × (rememberedA (remembered w M) r ≡ x) × (rememberedB (remembered w M) r ≡ y)) e (
-      getD-set-same (M .marks) r 5 0 (omega (arith, z .marks)),
+    subst (λ (w : Masking). (markOf (remembered w M) r ≡ masked) × (rememberedA (remembered w M) r ≡ x) × (rememberedB (remembered w M) r ≡ y)) e (
+      getD-set-same (M .marks) r masked 0 (omega (arith, z .marks)),
       getD-set-same (M .factor-a) r x 0 (omega (arith, z .factor-a)),
       getD-set-same (M .factor-b) r y 0 (omega (arith, z .factor-b)),
     )
 
 module _ (plan : Plan) (draw : Draw) where
-  pub unmasked : (todo : List Act) (M : Marks) → Sized M → AllowedAll todo M → (r : ℕ) → MasksIn todo r → Masked (markOf M r) ⊎ (markOf M r ≡ 6) → ⊥
+  pub unmasked : (todo : List Act) (M : Marks) → Sized M → AllowedAll todo M → (r : ℕ) → MasksIn todo r → Masked (markOf M r) ⊎ (markOf M r ≡ spentMark) → ⊥
   unmasked (a ∷ todo) M z al r (inl at) past = young (masking a) M (al .0 .1) r at past
   unmasked (a ∷ todo) M z al r (inr at) past =
       unmasked todo (marksBy a M) (sized-by a M z) (al .1) r at (past-by plan draw a M z (al .0) r past)
 
-  pub waits-after : (todo : List Act) (M : Marks) → Sized M → AllowedAll todo M → (x y r : ℕ) → r < 94 → Among (of x y r) (map masking todo)
-      → (Masked (markOf (marksAll todo M) r) ⊎ (markOf (marksAll todo M) r ≡ 6))
+  pub waits-after : (todo : List Act) (M : Marks) → Sized M → AllowedAll todo M → (x y r : ℕ) → r ≤ lastTriple → Among (of x y r) (map masking todo)
+      → (Masked (markOf (marksAll todo M) r) ⊎ (markOf (marksAll todo M) r ≡ spentMark))
       × (Masked (markOf (marksAll todo M) r) → (rememberedA (marksAll todo M) r ≡ x) × (rememberedB (marksAll todo M) r ≡ y))
   waits-after (a ∷ todo) M z al x y r low (inr there) = waits-after todo (marksBy a M) (sized-by a M z) (al .1) x y r low there
   waits-after (a ∷ todo) M z al x y r low (inl e) =

@@ -7,10 +7,12 @@ use lib.ListN.{take}
 use lib.Seq.{take-at}
 use Rattle.field.specs.Element.{Element}
 use Rattle.poly.specs.Counting.{All}
+use Rattle.shape.specs.declared.Shape.{Shape}
+use Rattle.shape.specs.Lengths.{vLength}
 use Rattle.vectors.specs.Vector.{Vector, numbers, rowOf}
 use Rattle.vectors.proofs.Linear.{length-numbers}
 use Rattle.runs.specs.Draws as Draws
-use Rattle.runs.specs.Draws.{Plan, Draw, IsRaw}
+use Rattle.runs.specs.Draws.{Plan, Draw, IsRaw, planShape}
 use Rattle.runs.specs.Outline.{takes, Taking, nothingTaken, aRowPack, aTriplePack, aNumber, aRecord, twoRecords, Given, moves, acts, Sending, itsOpening, itsMasks}
 use Rattle.runs.specs.Calls.{Post, Actual, Call}
 use Rattle.runs.proofs.Marks.{Marks, Opened, noNumbers, sessionAt, less, maskVectorA, maskVectorB, marksAll, numberIn, vectorsAll, openedAll}
@@ -19,9 +21,9 @@ use Rattle.runs.proofs.Finishing.{Trusted}
 use Rattle.runs.proofs.Recalled.{Recalls}
 
 -- a row's own coefficients
-pub own-numbers : (k n i : ℕ) (w : Element) (X : Vector) → take k (rowOf k n i w X) ≡ numbers k (X .v i)
+pub own-numbers : (g : Shape) (i : ℕ) (w : Element) (X : Vector) → take (vLength g) (rowOf g i w X) ≡ numbers (vLength g) (X .v i)
 unfolding rowOf
-own-numbers k n i w X = take-at (numbers k (X .v i)) _ k (length-numbers k (X .v i))
+own-numbers g i w X = take-at (numbers (vLength g) (X .v i)) _ (vLength g) (length-numbers (vLength g) (X .v i))
 
 module _ (plan : Plan) (draw : Draw) where
   abbrev pub postAt : ℕ → Marks → Opened → List ℕ → Post
@@ -63,9 +65,9 @@ module _ (plan : Plan) (draw : Draw) where
 
   -- what a call that is not refused writes into the list it was lent, line by line
   abbrev pub Says : ℕ → (ℕ → Vector) → Sending → List ℕ → Type 0
-  Says i vec (itsOpening r) xs = xs ≡ numbers (plan .t + 1) (vec r .v i)
+  Says i vec (itsOpening r) xs = xs ≡ numbers (vLength (planShape plan)) (vec r .v i)
   Says i vec (itsMasks a b r) xs =
-      xs ≡ numbers (plan .t + 1) (less (vec a) (vec r) .v i) ++ numbers (plan .t + 1) (less (vec b) (vec (r + 1)) .v i)
+      xs ≡ numbers (vLength (planShape plan)) (less (vec a) (vec r) .v i) ++ numbers (vLength (planShape plan)) (less (vec b) (vec (r + 1)) .v i)
 
   abbrev pub SaysAll : ℕ → (ℕ → Vector) → List Sending → List (List ℕ) → Type 0
   SaysAll i vec [] parts = Unit {0}

@@ -10,7 +10,8 @@ use borrow.Author.Tests.{le-ltb, ne-eqb}
 use lib.ListN.{length, getD, replicate, length-replicate, getD-replicate, List·getD-eq-default}
 use Rattle.field.specs.Modulus.{p}
 use Rattle.poly.specs.Counting.{All}
-use Rattle.shape.specs.Bounds.{fewestPosts, mostPosts}
+use Rattle.shape.specs.Bounds.{fewestPosts, mostPosts, rowCount}
+use Rattle.shape.specs.Marks.{empty}
 use Rattle.refusal.specs.Refusal.{_when_, first, orElse, outcome}
 use Rattle.refusal.specs.Conditions.{outside, badPoint, postsTests}
 use Rattle.refusal.proofs.Laws.{first-join, not-refused, all-fail, inside}
@@ -25,7 +26,7 @@ use Rattle.runs.proofs.Steps.{Stands}
 use Rattle.runs.proofs.Facts.{Facts}
 
 pub record Sizes (plan : Plan) : Type 0 where
-  pub n-low : 2 ≤ plan .n
+  pub n-low : fewestPosts ≤ plan .n
   pub n-high : plan .n < tens 10
   pub n-element : plan .n < p
   pub t-low : 1 ≤ plan .t
@@ -45,25 +46,25 @@ all-at P (x ∷ xs) a (suc i) h = all-at P xs (a .1) i (omega arith)
 
 -- the marks of a new session
 pub start : Marks
-start = record { marks = replicate 96 0; factor-a = replicate 96 0; factor-b = replicate 96 0 }
+start = record { marks = replicate rowCount 0; factor-a = replicate rowCount 0; factor-b = replicate rowCount 0 }
 
 pub start-sized : Sized start
 unfolding start
-start-sized = record { marks = length-replicate {A = ℕ} 96 0; factor-a = length-replicate {A = ℕ} 96 0; factor-b = length-replicate {A = ℕ} 96 0 }
+start-sized = record { marks = length-replicate {A = ℕ} rowCount 0; factor-a = length-replicate {A = ℕ} rowCount 0; factor-b = length-replicate {A = ℕ} rowCount 0 }
 
-pub start-mark : (r : ℕ) → markOf start r ≡ 0
+pub start-mark : (r : ℕ) → markOf start r ≡ empty
 unfolding start
-start-mark r = elim (decLt r 96) [
-  | yes low ↦ getD-replicate 96 r 0 0 low
-  | no high ↦ List·getD-eq-default (replicate 96 0) 0 {n = r} (omega (arith, length-replicate {A = ℕ} 96 0))
+start-mark r = elim (decLt r rowCount) [
+  | yes low ↦ getD-replicate rowCount r 0 0 low
+  | no high ↦ List·getD-eq-default (replicate rowCount 0) 0 {n = r} (omega (arith, length-replicate {A = ℕ} rowCount 0))
 ]
 
 -- and its numbers
 pub blanks : Opened
-blanks = record { y-a = replicate 96 0; y-b = replicate 96 0 }
+blanks = record { y-a = replicate rowCount 0; y-b = replicate rowCount 0 }
 
-off : (r k : ℕ) → markOf start r ≡ suc k → ⊥
-off r k e = omega (arith, start-mark r)
+off : (r : ℕ) {k : ℕ} → markOf start r ≡ suc k → ⊥
+off r e = omega (arith, start-mark r)
 
 module _ (plan : Plan) (draw : Draw) (sound : Sound plan) (is : IsDraw plan draw) where
   pub point-in : (i : ℕ) → 1 ≤ i → i ≤ plan .n → (1 ≤ pointOf draw i) × (pointOf draw i < p)
@@ -101,14 +102,14 @@ module _ (plan : Plan) (draw : Draw) (sound : Sound plan) (is : IsDraw plan draw
         opened = blanks;
         session = made i lo hi;
         holds = record { long = refl; rows = λ r low ne. absurd (ne (start-mark r)) };
-        recalls = record { sized = start-sized; a-long = length-replicate {A = ℕ} 96 0; b-long = length-replicate {A = ℕ} 96 0; each = λ r e. absurd (off r 6 e) };
+        recalls = record { sized = start-sized; a-long = length-replicate {A = ℕ} rowCount 0; b-long = length-replicate {A = ℕ} rowCount 0; each = λ r e. absurd (off r e) };
       }
 
   pub start-facts : (Held : ℕ → Vector → Type 0) (Waits : ℕ → ℕ → ℕ → Type 0) (vec : ℕ → Vector) → Facts plan draw Held Waits start vec
   start-facts Held Waits vec r low =
       record {
-        raw = λ e. absurd (off r 0 e);
-        held = λ e. absurd (off r 1 e);
-        triple = λ e. elim e [ inl h ↦ absurd (off r 2 h) | inr (inl h) ↦ absurd (off r 4 h) | inr (inr h) ↦ absurd (off r 6 h) ];
-        waiting = λ e. elim e [ inl h ↦ absurd (off r 4 h) | inr h ↦ absurd (off r 6 h) ];
+        raw = λ e. absurd (off r e);
+        held = λ e. absurd (off r e);
+        triple = λ e. elim e [ inl h ↦ absurd (off r h) | inr (inl h) ↦ absurd (off r h) | inr (inr h) ↦ absurd (off r h) ];
+        waiting = λ e. elim e [ inl h ↦ absurd (off r h) | inr h ↦ absurd (off r h) ];
       }

@@ -1,16 +1,22 @@
 -- One post, one call that is not refused: the post still holds its part of every row's vector; and what it then sends.
-use Prim.Native.Nat.{ℕ, suc, _+_, _≤_}
+use Prim.Native.Nat.{ℕ, suc, _≤_}
 use mathlib.Core.Path.{_≡_, refl, sym, _∙_, ap, ap₂, subst}
 use mathlib.Core.List.{List}
 use native.Mathlib.Omega.{arith}
 use lib.ListN.{length, take}
 use Rattle.field.specs.Element.{element}
-use Rattle.shape.specs.Lengths.{masksLength}
+use Rattle.shape.specs.Lengths.{masksLength, vLength}
+use Rattle.shape.specs.Marks.{collected as collectedMark}
 use Rattle.session.specs.declared.Session.{Session}
 use Rattle.session.specs.Sessions.{shapeOf, marked, recalling}
 use Rattle.session.specs.Rows.{width, coefficients, rowAt}
-use Rattle.sharing.proofs.Passed.{row-loaded, triple-loaded, dealt, MessageMade, message-made, summed}
-use Rattle.product.proofs.Passed.{masks-made, collected, multiplied}
+use Rattle.load.proofs.Passed.{row-loaded, triple-loaded}
+use Rattle.deal.proofs.Passed.{dealt}
+use Rattle.message.proofs.Passed.{MessageMade, message-made}
+use Rattle.linear.proofs.Passed.{summed}
+use Rattle.product_masks.proofs.Passed.{masks-made}
+use Rattle.collect.proofs.Passed.{collected}
+use Rattle.multiply.proofs.Passed.{multiplied}
 use Rattle.terms.specs.declared.Term.{Term}
 use Rattle.terms.specs.Listed.{productsOf}
 use Rattle.terms.proofs.Placing.{terms-again, factors-again}
@@ -18,10 +24,10 @@ use Rattle.relation.specs.Masks.{maskedTerms, termMasks}
 use Rattle.relation.specs.Finish.{withProducts, withSum, relationDone}
 use Rattle.relation.proofs.Passed.{relation-masks-made, relation-finished}
 use Rattle.vectors.specs.Vector.{Vector, numbers}
-use Rattle.runs.specs.Draws.{Plan, Draw, IsDraw, pointOf}
+use Rattle.runs.specs.Draws.{Plan, Draw, IsDraw, pointOf, planShape}
 use Rattle.runs.specs.Outline.{loadRow, loadTriple, deal, message, opening, linear, masks, collect, multiply, relationMasks, relationFinish, maskings, moves, sends}
 use Rattle.runs.specs.Calls.{Post, Call, pieces, perform, after}
-use Rattle.runs.proofs.Marks.{Marks, Opened, noNumbers, sessionAt, maskVectorA, maskVectorB, numberIn}
+use Rattle.runs.proofs.Marks.{Marks, noNumbers, sessionAt, maskVectorA, maskVectorB, numberIn}
 use Rattle.runs.proofs.Outcomes.{refusalOf, does, own, done, written-is, refused}
 use Rattle.runs.proofs.Packs.{raw-pack, triple-pack}
 use Rattle.runs.proofs.Holds.{Holds, Holder, sessionOf, held-row, load-holds, triple-holds, deal-holds, linear-holds, masks-holds, collect-holds}
@@ -73,7 +79,7 @@ module _ (H : Holder) where
       let f = collected s l (x .r) (x .blocksA) (x .blocksB) z in
       let fit-a = trusted-any plan draw i M noNumbers Y (maskVectorA M vec (x .r)) (x .blocksA) (fit .0 .0) in
       let fit-b = trusted-any plan draw i M noNumbers Y (maskVectorB M vec (x .r)) (x .blocksB) (fit .0 .1) in (
-        ap₂ (λ (a b : ℕ). recalling (marked s (x .r) 7) (x .r) a b)
+        ap₂ (λ (a b : ℕ). recalling (marked s (x .r) collectedMark) (x .r) a b)
             (collect-a H (x .r) (x .blocksA) (x .blocksB) ok f fit-a)
             (collect-b H (x .r) (x .blocksA) (x .blocksB) ok f fit-b),
         collect-holds H (x .r) (ok .first),
@@ -106,10 +112,10 @@ module _ (H : Holder) where
         recalls = recalls-all plan draw numberIn (moves c) M vec Y k (allowed plan draw i M Y l c z .moving);
       }
 
-  message-at : (r : ℕ) (lent : List ℕ) → MessageMade s l r lent → coefficients s (rowAt (width s) l r) ≡ numbers (plan .t + 1) (vec r .v i)
+  message-at : (r : ℕ) (lent : List ℕ) → MessageMade s l r lent → coefficients s (rowAt (width s) l r) ≡ numbers (vLength (planShape plan)) (vec r .v i)
   message-at r lent f =
-      ap (take (plan .t + 1)) (held-row H r 1 (f .placed .row-in) (f .placed .is-held))
-      ∙ own-numbers (plan .t + 1) (plan .n) i (element (pointOf draw i)) (vec r)
+      ap (take (vLength (planShape plan))) (held-row H r (f .placed .row-in) (f .placed .is-held))
+      ∙ own-numbers (planShape plan) i (element (pointOf draw i)) (vec r)
 
   says-at : (c : Call) → refusalOf c p0 ≡ 0 → SaysAll plan draw i vec (sends c) (does c p0 .written)
   says-at (loadRow x) z = tt

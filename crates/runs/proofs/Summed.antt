@@ -7,14 +7,16 @@ use lib.ListN.{length, take, length-append}
 use lib.Seq.{take-at, drop-at}
 use Rattle.field.specs.Modulus.{p}
 use Rattle.field.specs.Element.{element}
-use Rattle.shape.specs.Lengths.{masksLength}
+use Rattle.shape.specs.Lengths.{masksLength, vLength}
+use Rattle.shape.specs.Bounds.{rowCount}
+use Rattle.shape.specs.Marks.{held, unused}
 use Rattle.poly.specs.Counting.{All}
 use Rattle.session.specs.declared.Session.{Session}
 use Rattle.session.specs.Sessions.{shapeOf, marked}
 use Rattle.session.specs.Rows.{rowAt, combined}
 use Rattle.opening.specs.Walking.{recordLength}
-use Rattle.product.specs.Masks.{maskRow, maskNumbersOf}
-use Rattle.product.proofs.Passed.{Factored}
+use Rattle.product_masks.specs.Masks.{maskRow, maskNumbersOf}
+use Rattle.product_masks.proofs.Passed.{Factored}
 use Rattle.terms.specs.declared.Term.{Term}
 use Rattle.terms.specs.Listed.{productsOf}
 use Rattle.relation.specs.Masks.{termMasks}
@@ -22,10 +24,10 @@ use Rattle.relation.specs.Finish.{recordA, recordB, termMaskA, termMaskB, withP
 use Rattle.relation.proofs.Passed.{AllAt, Enough, Agreed, RelationFinishPlaced, RelationFinished}
 use Rattle.vectors.specs.Vector.{Vector, numbers}
 use Rattle.vectors.proofs.Linear.{length-numbers}
-use Rattle.runs.specs.Draws.{pointOf}
+use Rattle.runs.specs.Draws.{pointOf, planShape}
 use Rattle.runs.specs.Outline.{takes, Move, actsIn, maskings, finishing, summing}
 use Rattle.runs.specs.Calls.{Actual, pieces}
-use Rattle.runs.proofs.Marks.{Marks, rememberedA, rememberedB, remarked, Opened, noNumbers, sessionAt, less, maskVectorA, maskVectorB, marksAll, numberIn, vectorsAll, openedAll}
+use Rattle.runs.proofs.Marks.{Marks, rememberedA, rememberedB, remarked, noNumbers, sessionAt, less, maskVectorA, maskVectorB, marksAll, numberIn, vectorsAll, openedAll}
 use Rattle.runs.proofs.Packs.{rowFor}
 use Rattle.runs.proofs.Holds.{Holds, wide, Holder, sessionOf, held-row, combined-row}
 use Rattle.runs.proofs.Finishing.{Trusted, trusted-any, opens-a, opens-b, opened-is}
@@ -41,30 +43,30 @@ module _ (H : Holder) where
   s = sessionOf H
 
   -- a single product's masks
-  pub masks-at : (a b r : ℕ) → Factored s a b r 3
+  pub masks-at : (a b r : ℕ) → Factored s a b r unused
       → maskNumbersOf s l a b r
-      ≡ numbers (plan .t + 1) (less (vec a) (vec r) .v i) ++ numbers (plan .t + 1) (less (vec b) (vec (r + 1)) .v i)
+      ≡ numbers (vLength (planShape plan)) (less (vec a) (vec r) .v i) ++ numbers (vLength (planShape plan)) (less (vec b) (vec (r + 1)) .v i)
   unfolding maskNumbersOf
   masks-at a b r f =
       ap₂ _++_
-      (half a r (held-row H a 1 (f .a-in) (f .a-held)) (held-row H r 2 (omega (arith, f .triple-in)) (f .first-mark)))
-      (half b (r + 1) (held-row H b 1 (f .b-in) (f .b-held)) (held-row H (r + 1) 3 (omega (arith, f .triple-in)) (f .second-mark)))
+      (half a r (held-row H a (f .a-in) (f .a-held)) (held-row H r (omega (arith, f .triple-in)) (f .first-mark)))
+      (half b (r + 1) (held-row H b (f .b-in) (f .b-held)) (held-row H (r + 1) (omega (arith, f .triple-in)) (f .second-mark)))
     where
       half : (x y : ℕ) → rowAt (wide plan) l x ≡ rowFor plan draw i (vec x) → rowAt (wide plan) l y ≡ rowFor plan draw i (vec y)
-          → take (plan .t + 1) (combined (p - 1) (rowAt (wide plan) l x) (rowAt (wide plan) l y)) ≡ numbers (plan .t + 1) (less (vec x) (vec y) .v i)
+          → take (vLength (planShape plan)) (combined (p - 1) (rowAt (wide plan) l x) (rowAt (wide plan) l y)) ≡ numbers (vLength (planShape plan)) (less (vec x) (vec y) .v i)
       half x y ex ey =
-          ap (take (plan .t + 1)) (combined-row H (p - 1) x y ex ey)
-          ∙ own-numbers (plan .t + 1) (plan .n) i (element (pointOf draw i)) (less (vec x) (vec y))
+          ap (take (vLength (planShape plan))) (combined-row H (p - 1) x y ex ey)
+          ∙ own-numbers (planShape plan) i (element (pointOf draw i)) (less (vec x) (vec y))
 
-  masks-long : (a b r : ℕ) → Factored s a b r 3 → length (maskNumbersOf s l a b r) ≡ masksLength (shapeOf s)
+  masks-long : (a b r : ℕ) → Factored s a b r unused → length (maskNumbersOf s l a b r) ≡ masksLength (shapeOf s)
   masks-long a b r f =
       let va = less (vec a) (vec r) .v i in
       let vb = less (vec b) (vec (r + 1)) .v i in
-      ap length (masks-at a b r f) ∙ length-append (numbers (plan .t + 1) va) (numbers (plan .t + 1) vb)
-      ∙ ap₂ _+_ (length-numbers (plan .t + 1) va) (length-numbers (plan .t + 1) vb) ∙ omega arith
+      ap length (masks-at a b r f) ∙ length-append (numbers (vLength (planShape plan)) va) (numbers (vLength (planShape plan)) vb)
+      ∙ ap₂ _+_ (length-numbers (vLength (planShape plan)) va) (length-numbers (vLength (planShape plan)) vb) ∙ omega arith
 
   -- the masks of a relation, term by term
-  pub all-masks : (ts : List Term) → All (λ t. Factored s (t .row) (t .second) (t .first) 3) ts
+  pub all-masks : (ts : List Term) → All (λ t. Factored s (t .row) (t .second) (t .first) unused) ts
       → SaysAll plan draw i vec (maskings ts) (pieces (masksLength (shapeOf s)) (length ts) (termMasks (shapeOf s) l ts))
   unfolding termMasks maskNumbersOf
   all-masks [] f = tt
@@ -110,7 +112,7 @@ module _ (H : Holder) where
           opens-to (suc k) us rest (omega arith) (w .1) (r .1) (e .1) (a .1) (fit .1 .1),
         )
 
-    size : length l ≡ 96 * wide plan
+    size : length l ≡ rowCount * wide plan
     size = f .checked .framed .sized .length-is
 
     -- what the acts take
@@ -151,10 +153,10 @@ module _ (H : Holder) where
       let H' : Holder = record { plan = plan; draw = draw; len = len; post = i; marks = N; opened = Y; vec = multipliedAll fs M vec; rows = rows; holds = hp } in
       let last = summing d (t ∷ ts) in
       let marks-are = marks-products plan draw (2 * length fs) blocks last 0 fs M in (
-        ap (λ (x : Session). marked x d 2) (session-now (t ∷ ts) d blocks f fit)
+        ap (λ (x : Session). marked x d held) (session-now (t ∷ ts) d blocks f fit)
             ∙ sym (ap₂ (sessionAt plan draw i) marks-are (opened-products plan draw (2 * length fs) blocks last 0 fs M vec Y)),
         subst (λ (Q : Marks). Holds plan draw len i Q (vectorsAll plan draw numberIn (finishing {K = Actual} (2 * length fs) blocks 0 fs ++ last) M vec) (withSum s d (t ∷ ts) rows))
             (sym marks-are)
-            (subst (λ (v : ℕ → Vector). Holds plan draw len i (remarked N d 2) v (withSum s d (t ∷ ts) rows)) (sym (vectors-products plan draw (2 * length fs) blocks last 0 fs M vec))
+            (subst (λ (v : ℕ → Vector). Holds plan draw len i (remarked N d held) v (withSum s d (t ∷ ts) rows)) (sym (vectors-products plan draw (2 * length fs) blocks last 0 fs M vec))
             (sum-holds H' M Y d (sum .r-low) (hp .long ∙ sym (h .long) ∙ f .checked .framed .sized .length-is) (sum .r-empty) t ts (sum .held))),
       )

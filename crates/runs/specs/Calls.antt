@@ -1,6 +1,6 @@
 -- Document 01, "Calls on a session", as steps of a run: each call by the definitions that its contract cites, and what it
 -- broadcasts.
-use Prim.Native.Nat.{ℕ, zero, suc, _+_, _*_}
+use Prim.Native.Nat.{ℕ, zero, suc}
 use mathlib.Core.Path.{_≡_}
 use mathlib.Core.Logic.{_⊎_}
 use mathlib.Core.Bool.{false, cond}
@@ -10,17 +10,18 @@ use lib.ListN.{length, take, drop}
 use Rattle.poly.specs.Counting.{Elements}
 use Rattle.session.specs.declared.Session.{Session}
 use Rattle.session.specs.declared.Answer.{Answer}
+use Rattle.shape.specs.declared.Shape.{Shape}
 use Rattle.shape.specs.Lengths.{masksLength}
 use Rattle.session.specs.Sessions.{created, shapeOf}
-use Rattle.sharing.specs.Load.{loadRowAnswer, loadRowRows, loadTripleAnswer, loadTripleRows}
-use Rattle.sharing.specs.Deal.{dealAnswer, dealRows}
-use Rattle.sharing.specs.Message.{messageAnswer, messageOut}
-use Rattle.sharing.specs.Linear.{linearAnswer, linearRows}
+use Rattle.load.specs.Load.{loadRowAnswer, loadRowRows, loadTripleAnswer, loadTripleRows}
+use Rattle.deal.specs.Deal.{dealAnswer, dealRows}
+use Rattle.message.specs.Message.{messageAnswer, messageOut}
+use Rattle.linear.specs.Linear.{linearAnswer, linearRows}
 use Rattle.opening.specs.Walking.{recordLength, badRecord}
 use Rattle.opening.specs.Opening.{openAnswer}
-use Rattle.product.specs.Masks.{masksAnswer, masksOut}
-use Rattle.product.specs.Collect.{collectAnswer}
-use Rattle.product.specs.Multiply.{multiplyAnswer, multiplyRows}
+use Rattle.product_masks.specs.Masks.{masksAnswer, masksOut}
+use Rattle.collect.specs.Collect.{collectAnswer}
+use Rattle.multiply.specs.Multiply.{multiplyAnswer, multiplyRows}
 use Rattle.terms.specs.declared.Term.{Term}
 use Rattle.terms.specs.Listed.{productsOf, collected}
 use Rattle.relation.specs.Masks.{relationMasksAnswer, relationMasksOut}
@@ -167,9 +168,9 @@ Told lines r j xs = Among (openingLine r j xs) lines
 
 -- "or for that factor of that triple": xs is a half of the masks of the triple at r that post j broadcast, of a − l the first t+1
 -- numbers, of b − l' the others.
-abbrev pub ToldHalf : ℕ → (List ℕ → List ℕ) → ℕ → List (List ℕ) → ℕ → List ℕ → Type 0
-ToldHalf t half r lines j xs =
-    (both : List ℕ) × (length both ≡ 2 * (t + 1)) × Elements both × Among (masksLine r j both) lines × (xs ≡ half both)
+abbrev pub ToldHalf : Shape → (List ℕ → List ℕ) → ℕ → List (List ℕ) → ℕ → List ℕ → Type 0
+ToldHalf s half r lines j xs =
+    (both : List ℕ) × (length both ≡ masksLength s) × Elements both × Among (masksLine r j both) lines × (xs ≡ half both)
 
 -- A function changed at one place.
 unfoldable pub at : {A : Type 0} → (ℕ → A) → ℕ → A → ℕ → A

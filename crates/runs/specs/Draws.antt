@@ -12,7 +12,7 @@ use Rattle.shape.specs.Lengths.{shape, drawLength, tripleDrawLength}
 use Rattle.poly.specs.Counting.{All, Elements}
 use Rattle.refusal.specs.Refusal.{first}
 use Rattle.refusal.specs.Conditions.{postsTests}
-use Rattle.factory.specs.Draw.{part, firstDraw, secondDraw, thirdDraw}
+use Rattle.parts.specs.Draw.{part, firstDraw, secondDraw, thirdDraw}
 
 -- Whether a row is drawn raw, and who deals it: a post, or a number outside 1..n for someone who is no post.
 pub data Raw : Type 0 where
@@ -43,7 +43,7 @@ pub record Sound (plan : Plan) : Type 0 where
   pub raws : (r : ℕ) → IsRaw (plan .raw r) → r ≤ lastRow
   pub triples : (r : ℕ) → plan .triple r ≡ true → r ≤ lastTriple
 
--- All check points, post 1's first; for each of the 96 rows what was drawn for it raw, and what was drawn for a triple from it
+-- All check points, post 1's first; for each row what was drawn for it raw, and what was drawn for a triple from it
 -- on; nothing where nothing was.
 pub record Draw : Type 0 where
   pub points : List ℕ
@@ -51,17 +51,17 @@ pub record Draw : Type 0 where
   pub triples : List (List ℕ)
 
 -- "t+1 coefficients of f, then t+1 for each of v1 to vn"
-abbrev pub rowLength : Plan → ℕ
-rowLength plan = drawLength (planShape plan)
+abbrev pub drawnLength : Plan → ℕ
+drawnLength plan = drawLength (planShape plan)
 
 abbrev pub rawLength : Plan → ℕ → ℕ
-rawLength plan r = whenRaw (plan .raw r) (rowLength plan) 0
+rawLength plan r = whenRaw (plan .raw r) (drawnLength plan) 0
 
 -- "Three such draws for l, l' and l'', but the third lacks f's constant"
 abbrev pub tripleLength : Plan → ℕ → ℕ
 tripleLength plan r = cond (plan .triple r) (tripleDrawLength (planShape plan)) 0
 
--- 96 lists, the r-th of `many r` elements
+-- a list for each row, the r-th of `many r` elements
 pub record Lists (many : ℕ → ℕ) (ls : List (List ℕ)) : Type 0 where
   pub count : length ls ≡ rowCount
   pub each : (r : ℕ) → r < rowCount → (length (getD ls r []) ≡ many r) × Elements (getD ls r [])
@@ -86,13 +86,13 @@ unfoldable pub tripleDraw : Draw → ℕ → List ℕ
 tripleDraw draw r = getD (draw .triples) r []
 
 abbrev pub drawA : Plan → Draw → ℕ → List ℕ
-drawA plan draw r = firstDraw (rowLength plan) (tripleDraw draw r)
+drawA plan draw r = firstDraw (drawnLength plan) (tripleDraw draw r)
 
 abbrev pub drawB : Plan → Draw → ℕ → List ℕ
-drawB plan draw r = secondDraw (rowLength plan) (tripleDraw draw r)
+drawB plan draw r = secondDraw (drawnLength plan) (tripleDraw draw r)
 
 abbrev pub drawAB : Plan → Draw → ℕ → List ℕ
-drawAB plan draw r = thirdDraw (rowLength plan) (tripleDraw draw r)
+drawAB plan draw r = thirdDraw (drawnLength plan) (tripleDraw draw r)
 
 -- Post i's part of a drawn row, and its packs: "its own part of drawn rows and triples".
 abbrev pub partOf : Plan → Draw → ℕ → List ℕ → List ℕ

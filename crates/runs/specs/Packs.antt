@@ -7,7 +7,7 @@ use mathlib.Core.List.{List, _++_}
 use lib.ListN.{length}
 use Rattle.shape.specs.Lengths.{rowLength, packsLength}
 use Rattle.session.specs.Rows.{rowAt}
-use Rattle.factory.specs.Packs.{factoryRowRefusal, factoryRowOut, factoryTripleRefusal, factoryTripleOut}
+use Rattle.factory.specs.Calls.{factoryRowRefusal, factoryRowOut, factoryTripleRefusal, factoryTripleOut}
 use Rattle.runs.specs.Draws.{Plan, planShape, Draw, IsRaw, Sound, IsDraw, rawDraw, tripleDraw, rawPack, triplePack}
 
 -- The call for row r, drawn raw.

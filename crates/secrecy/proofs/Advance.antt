@@ -5,9 +5,13 @@ use mathlib.Core.Logic.{_⊎_, inl, inr}
 use mathlib.Core.Bool.{cond}
 use mathlib.Core.List.{List, [], _++_}
 use native.Mathlib.Omega.{arith}
+use Rattle.shape.specs.Bounds.{rowCount}
+use Rattle.shape.specs.Marks.{held}
+use Rattle.shape.specs.Lengths.{vLength}
 use Rattle.vectors.specs.Vector.{Vector, numbers}
 use Rattle.runs.specs.Outline.{Act, moves, acts, sends}
 use Rattle.runs.specs.Calls.{Call, perform, after, broadcast, openingLine, masksLine, Among}
+use Rattle.runs.specs.Draws.{planShape}
 use Rattle.runs.proofs.Marks.{Marks, markOf, rememberedA, rememberedB, less, marksAll, Masked}
 use Rattle.runs.proofs.Steps.{Stands, vectorsAfter, stands-after}
 use Rattle.runs.proofs.Facts.{Allowed, Facts, MasksIn}
@@ -58,11 +62,11 @@ module _ (C : Run) (m : Moment) (S : State C m) where
 
     -- a line broadcast before still shows what it showed
     old-opening : (r j : ℕ) (xs : List ℕ) → AnOpening C r j xs → Among (openingLine r j xs) lines
-        → (markOf M' r ≡ 2) × (xs ≡ numbers (plan .t + 1) (vec' r .v j))
+        → (markOf M' r ≡ held) × (xs ≡ numbers (vLength (planShape plan)) (vec' r .v j))
     old-opening r j xs o a =
         let old = S .openings r j xs o a in
         let stays = held-stays plan draw (numberAt plan draw u) (moves c) M vec (S .sized) (al .moving) r (old .0) in
-        (stays .0, old .1 ∙ sym (ap (λ (X : Vector). numbers (plan .t + 1) (X .v j)) (stays .1)))
+        (stays .0, old .1 ∙ sym (ap (λ (X : Vector). numbers (vLength (planShape plan)) (X .v j)) (stays .1)))
 
     old-masks : (r j : ℕ) (xs : List ℕ) → AMask C r j xs → Among (masksLine r j xs) lines
         → Past M' r × (Masked (markOf M' r) → xs ≡ maskNumbers C M' vec' r j)
@@ -70,7 +74,7 @@ module _ (C : Run) (m : Moment) (S : State C m) where
         let old = S .maskings r j xs o a in
         (past-stays plan draw (acts c) M (S .sized) (al .moving) r (old .0), λ five'. go (five-before plan draw (acts c) M (S .sized) (al .moving) r lr five') five' old)
       where
-        lr : r < 96
+        lr : r < rowCount
         lr = omega (arith, o .row)
 
         go : (Masked (markOf M r) × (rememberedA M' r ≡ rememberedA M r) × (rememberedB M' r ≡ rememberedB M r)) ⊎ MasksIn (acts c) r → Masked (markOf M' r)
@@ -85,7 +89,7 @@ module _ (C : Run) (m : Moment) (S : State C m) where
             let e0 : vec r ≡ vec' r = t .is-a ∙ sym (t' .is-a) in
             let e1 : vec (r + 1) ≡ vec' (r + 1) = t .is-b ∙ sym (t' .is-b) in
             old .1 five
-            ∙ (λ m. numbers (plan .t + 1) (less (ea m) (e0 m) .v j) ++ numbers (plan .t + 1) (less (eb m) (e1 m) .v j))
+            ∙ (λ m. numbers (vLength (planShape plan)) (less (ea m) (e0 m) .v j) ++ numbers (vLength (planShape plan)) (less (eb m) (e1 m) .v j))
 
     abbrev pub onward : Moment
     onward =

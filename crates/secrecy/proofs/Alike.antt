@@ -8,19 +8,22 @@ use lib.ListN.{take}
 use Rattle.field.specs.Modulus.{p}
 use Rattle.field.specs.Element.{element}
 use Rattle.poly.specs.Counting.{All}
+use Rattle.shape.specs.Bounds.{rowCount}
+use Rattle.shape.specs.Marks.{empty, held as heldMark}
+use Rattle.shape.specs.Lengths.{vLength}
 use Rattle.session.specs.Sessions.{answer}
 use Rattle.vectors.specs.Vector.{Vector, number, numbers}
-use Rattle.runs.specs.Draws.{pointOf}
-use Rattle.runs.specs.Outline.{Act, masks, acts, Sending, itsOpening, itsMasks, sends}
+use Rattle.runs.specs.Draws.{pointOf, planShape}
+use Rattle.runs.specs.Outline.{Act, acts, Sending, itsOpening, itsMasks, sends}
 use Rattle.runs.specs.Calls.{Post, Call, Performed, perform, sentBy, broadcast, lineOf, Among}
 use Rattle.runs.proofs.Outlines.{every-all}
 use Rattle.runs.proofs.Marks.{Marks, Sized, markOf, less, rawVector, Masking, of, masking, marksBy}
 use Rattle.runs.proofs.Outcomes.{refusalOf, refusal-is, silent}
 use Rattle.runs.proofs.Facts.{AllowedAll, Allowed, Sendable}
-use Rattle.runs.proofs.Rows.{sized-by, held-by}
+use Rattle.runs.proofs.Rows.{sized-by, held-by, nonzero}
 use Rattle.runs.proofs.Allowed.{allowed}
 use Rattle.runs.proofs.Steps.{own-numbers, Says, SaysAll, says}
-use Rattle.secrecy.specs.Steps.{Step, sent, callAt}
+use Rattle.secrecy.specs.Steps.{Step, callAt}
 use Rattle.secrecy.specs.Rules.{Rule}
 use Rattle.secrecy.specs.Book.{Book, enteredBy, AgreesBy, Agrees}
 use Rattle.secrecy.proofs.Moves.{acts-at, sends-at}
@@ -32,16 +35,16 @@ use Rattle.secrecy.proofs.Answers.{is-p1, answers-same}
 
 -- masks among the acts are those that were reckoned with: the numbers of held rows stay
 fit-among : (T : Two) (todo : List Act) (M : Marks) (b b' : Book) → Sized M → AllowedAll todo M → FitAll T todo b b' → (x y r : ℕ)
-    → Among (of x y r) (map masking todo) → markOf M x ≡ 2 → markOf M y ≡ 2 → FitBy T (of x y r) b b'
+    → Among (of x y r) (map masking todo) → markOf M x ≡ heldMark → markOf M y ≡ heldMark → FitBy T (of x y r) b b'
 fit-among T (a ∷ todo) M b b' z al fit x y r (inl e) hx hy = subst (λ (m : Masking). FitBy T m b b') (sym e) (fit .0)
 fit-among T (a ∷ todo) M b b' z al fit x y r (inr there) hx hy =
     let k = fit-among T todo (marksBy a M) (enteredBy (T .u) a b) (enteredBy (T .u') a b') (sized-by a M z) (al .1) (fit .1) x y r there (held x hx) (held y hy) in
     (sym (places x hx) ∙ k .0, sym (places y hy) ∙ k .1)
   where
-    held : (w : ℕ) → markOf M w ≡ 2 → markOf (marksBy a M) w ≡ 2
+    held : (w : ℕ) → markOf M w ≡ heldMark → markOf (marksBy a M) w ≡ heldMark
     held w h = held-by (T .plan) (T .d) a 0 M (rawVector (T .plan) (T .d)) z (al .0) w h .0
 
-    places : (w : ℕ) → markOf M w ≡ 2 → apart (enteredBy (T .u) a b .place w) (enteredBy (T .u') a b' .place w) ≡ apart (b .place w) (b' .place w)
+    places : (w : ℕ) → markOf M w ≡ heldMark → apart (enteredBy (T .u) a b .place w) (enteredBy (T .u') a b' .place w) ≡ apart (b .place w) (b' .place w)
     places w h = ap₂ apart (place-by (T .u) M b a (al .0) w h) (place-by (T .u') M b' a (al .0) w h)
 
 module _ (T : Two) (m : Moments) (R : Pair T m) (i : ℕ) (lo : 1 ≤ i) (hi : i ≤ T .plan .n) where
@@ -53,43 +56,40 @@ module _ (T : Two) (m : Moments) (R : Pair T m) (i : ℕ) (lo : 1 ≤ i) (hi : i
   abbrev c2 : Step → Call
   c2 c = callAt (T .plan) (T .d') (T .u') lines i c
 
-  abbrev near : (r : ℕ) → r < 96 → markOf M r ≢ 0 → Near (T .plan .n) (T .plan .t + 1) (pointOf (T .d)) (T .K) (vec r) (vec' r)
+  abbrev near : (r : ℕ) → r < rowCount → markOf M r ≢ empty → Near (planShape (T .plan)) (pointOf (T .d)) (T .K) (vec r) (vec' r)
   near = R .near
 
   abbrev k : ℕ
-  k = T .plan .t + 1
+  k = vLength (planShape (T .plan))
 
   -- post i's numbers of two near vectors with one number
-  numbers-same : (S S' : Vector) → Near (T .plan .n) (T .plan .t + 1) (pointOf (T .d)) (T .K) S S' → number S ≡ number S'
+  numbers-same : (S S' : Vector) → Near (planShape (T .plan)) (pointOf (T .d)) (T .K) S S' → number S ≡ number S'
       → numbers k (S .v i) ≡ numbers k (S' .v i)
   numbers-same S S' h e =
-      sym (own-numbers k (T .plan .n) i (element (pointOf (T .d) i)) S)
-      ∙ ap (take k) (near-same (T .plan .n) k (pointOf (T .d)) (T .K) S S' h e i lo hi)
-      ∙ own-numbers k (T .plan .n) i (element (pointOf (T .d) i)) S'
+      sym (own-numbers (planShape (T .plan)) i (element (pointOf (T .d) i)) S)
+      ∙ ap (take k) (near-same (planShape (T .plan)) (pointOf (T .d)) (T .K) S S' h e i lo hi)
+      ∙ own-numbers (planShape (T .plan)) i (element (pointOf (T .d) i)) S'
 
-  nonzero : (r j : ℕ) → markOf M r ≡ suc j → markOf M r ≢ 0
-  nonzero r j e g = omega arith
-
-  mask-numbers : (x y : ℕ) → x < 96 → markOf M x ≢ 0 → y < 96 → markOf M y ≢ 0 → number (less (vec x) (vec y)) ≡ number (less (vec' x) (vec' y))
+  mask-numbers : (x y : ℕ) → x < rowCount → markOf M x ≢ empty → y < rowCount → markOf M y ≢ empty → number (less (vec x) (vec y)) ≡ number (less (vec' x) (vec' y))
       → numbers k (less (vec x) (vec y) .v i) ≡ numbers k (less (vec' x) (vec' y) .v i)
   mask-numbers x y lx hx ly hy e =
       numbers-same (less (vec x) (vec y)) (less (vec' x) (vec' y))
-      (near-plusTimes (T .plan .n) k (pointOf (T .d)) (T .K) (p - 1) (vec x) (vec' x) (vec y) (vec' y) (near x lx hx) (near y ly hy)) e
+      (near-plusTimes (planShape (T .plan)) (pointOf (T .d)) (T .K) (p - 1) (vec x) (vec' x) (vec y) (vec' y) (near x lx hx) (near y ly hy)) e
 
   -- what is sent of a call with these acts
   module _ (todo : List Act) (al : AllowedAll todo M) (fit : FitAll T todo b b') where
     part-same : (s : Sending) (xs xs' : List ℕ) → Sendable todo M s → Says (T .plan) (T .d) i vec s xs → Says (T .plan) (T .d') i vec' s xs'
         → AgreesBy 0 b b' s → xs ≡ xs'
     part-same (itsOpening r) xs xs' ok said said' agree =
-        said ∙ numbers-same (vec r) (vec' r) (near r (ok .0) (nonzero r 1 (ok .1))) (place-number T m R r (ok .0) (ok .1) (agree refl)) ∙ sym said'
+        said ∙ numbers-same (vec r) (vec' r) (near r (ok .0) (nonzero M r (ok .1))) (place-number T m R r (ok .0) (ok .1) (agree refl)) ∙ sym said'
     part-same (itsMasks x y r) xs xs' ok said said' agree =
         let o = ok .0 in
         let f = fit-among T todo M b b' (R .one .sized) al fit x y r (ok .1) (o .a-held) (o .b-held) in
-        let lr : r < 96 = omega (arith, o .r-low) in
+        let lr : r < rowCount = omega (arith, o .r-low) in
         let e = masks-number T m R r x y lr (inl (o .first)) (o .a-low) (o .a-held) (o .b-low) (o .b-held) (f .0) (f .1) in
         said
-        ∙ ap₂ _++_ (mask-numbers x r (o .a-low) (nonzero x 1 (o .a-held)) lr (nonzero r 2 (o .first)) (e .0))
-        (mask-numbers y (r + 1) (o .b-low) (nonzero y 1 (o .b-held)) (omega (arith, o .r-low)) (nonzero (r + 1) 3 (o .second)) (e .1))
+        ∙ ap₂ _++_ (mask-numbers x r (o .a-low) (nonzero M x (o .a-held)) lr (nonzero M r (o .first)) (e .0))
+        (mask-numbers y (r + 1) (o .b-low) (nonzero M y (o .b-held)) (omega (arith, o .r-low)) (nonzero M (r + 1) (o .second)) (e .1))
         ∙ sym said'
 
     parts-same : (ss : List Sending) (parts parts' : List (List ℕ)) → All (Sendable todo M) ss → SaysAll (T .plan) (T .d) i vec ss parts

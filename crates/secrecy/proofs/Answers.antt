@@ -9,7 +9,7 @@ use Rattle.refusal.specs.Refusal.{first, outcome}
 use Rattle.session.specs.declared.Session.{Session}
 use Rattle.session.specs.Sessions.{answer}
 use Rattle.session.specs.Rows.{rowAt}
-use Rattle.sharing.specs.Deal.{dealRefusal}
+use Rattle.deal.specs.Deal.{dealRefusal}
 use Rattle.opening.specs.Walking.{opened}
 use Rattle.opening.specs.Opening.{openRefusal}
 use Rattle.opening.proofs.Passed.{walkTests, walk-few, OpenChecked, row-opened}
@@ -36,6 +36,11 @@ value-one zero zero v w new old new' old' e h = h refl
 value-one zero (suc j) v w new old new' old' e h = absurd (omega arith)
 value-one (suc k) zero v w new old new' old' e h = absurd (omega arith)
 value-one (suc k) (suc j) v w new old new' old' e h = refl
+
+-- a deal's number is the same in both runs
+pub number-same : (T : Two) (r : ℕ) (x : Number) → dealtWith x (dealtNumber (T .plan) (T .d) (T .u) r) ≡ dealtWith x (dealtNumber (T .plan) (T .d') (T .u') r)
+number-same T r sent = T .link .deals r
+number-same T r (Number.fixed x) = refl
 
 module _ (T : Two) (m : Moments) (R : Pair T m)
     (i : ℕ) (lo : 1 ≤ i) (hi : i ≤ T .plan .n) where
@@ -123,7 +128,7 @@ module _ (T : Two) (m : Moments) (R : Pair T m)
 
   module _ (r : ℕ) (blocks : Record) (rule : RuleWith (T .plan) (openRefusal s l r (blocks i lines)) lines (aRecord r) blocks) where
     row-is : OpenChecked s l r (blocks i lines) → number (vec r) ≡ number (vec' r) → rowAt W l r ≡ rowAt W l' r
-    row-is f = Twins.row-same twin r 1 (f .placed .row-in) (f .placed .is-held)
+    row-is f = Twins.row-same twin r (f .placed .row-in) (f .placed .is-held)
 
     walk-same : OpenChecked s l r (blocks i lines)
         → first (walkTests s (rowAt W l r) (blocks i lines)) ≡ first (walkTests s (rowAt W l' r) (blocks i lines))
@@ -153,10 +158,6 @@ module _ (T : Two) (m : Moments) (R : Pair T m)
   triple-same (own k) = T .link .triple-alike i k hi
   triple-same (Pack.fixed xs) = same-pack (xs i)
 
-  number-same : (r : ℕ) (x : Number) → dealtWith x (dealtNumber (T .plan) (T .d) (T .u) r) ≡ dealtWith x (dealtNumber (T .plan) (T .d') (T .u') r)
-  number-same r sent = T .link .deals r
-  number-same r (Number.fixed x) = refl
-
   alike : (c : Step) → Rule (T .plan) c (refusalOf (c1 c) p1) lines → Answering (does (c1 c) p1) (does (c2 c) p2)
   alike (loadRow x) rule =
       (Twins.load-same twin (x .r) _ _ (raw-same (x .pack)), λ z. refl)
@@ -164,7 +165,7 @@ module _ (T : Two) (m : Moments) (R : Pair T m)
       (Twins.triple-same twin (x .r) _ _ (triple-same (x .pack)), λ z. refl)
   alike (deal x) rule = (
     Twins.deal-same twin (x .r) (dealtWith (x .c) (dealtNumber (T .plan) (T .d) (T .u) (x .r)))
-        ∙ ap (dealRefusal s' l' (x .r)) (number-same (x .r) (x .c)),
+        ∙ ap (dealRefusal s' l' (x .r)) (number-same T (x .r) (x .c)),
     λ z. refl,
   )
   alike (message x) rule =

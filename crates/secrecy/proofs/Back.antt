@@ -10,7 +10,8 @@ use Rattle.field.specs.Element.{Element, element}
 use Rattle.field.proofs.Expression.{A, B, _:-_, :-_, Same}
 use Rattle.field.proofs.Solver.{solve}
 use Rattle.field.proofs.Elements.{𝓡}
-use Rattle.runs.specs.Draws.{Plan, Sound, Draw, IsDraw, rowLength, rawLength, tripleLength, pointOf, tripleDraw}
+use Rattle.shape.specs.Bounds.{rowCount}
+use Rattle.runs.specs.Draws.{Plan, Sound, Draw, IsDraw, drawnLength, rawLength, tripleLength, pointOf, tripleDraw}
 use Rattle.secrecy.specs.Steps.{Secrets}
 use Rattle.secrecy.specs.Claim.{Group}
 use Rattle.secrecy.proofs.Shift.{shift, shift-back}
@@ -26,10 +27,10 @@ module _ (plan : Plan) (group : List ℕ) (u u' : Secrets) (Δ Δ' : ℕ → Gap
   fl = layout plan group d
 
   abbrev forth : ℕ → List ℕ → List ℕ
-  forth r = movedTriple (rowLength plan) fl (Δ r .factor-a) (Δ r .factor-b)
+  forth r = movedTriple (drawnLength plan) fl (Δ r .factor-a) (Δ r .factor-b)
 
   abbrev hither : ℕ → List ℕ → List ℕ
-  hither r = movedTriple (rowLength plan) fl (Δ' r .factor-a) (Δ' r .factor-b)
+  hither r = movedTriple (drawnLength plan) fl (Δ' r .factor-a) (Δ' r .factor-b)
 
   raws-back : each (λ r. shift fl (secretGap u' u r)) (each (λ r. shift fl (secretGap u u' r)) (d .raws)) ≡ d .raws
   unfolding Same
@@ -40,17 +41,17 @@ module _ (plan : Plan) (group : List ℕ) (u u' : Secrets) (Δ Δ' : ℕ → Gap
       (lists-elements (rawLength plan) (d .raws) (is .raws) r)
       (solve 𝓡 (element (u r) ∷ element (u' r) ∷ []) (A :- B) (:- (B :- A)) refl))
 
-  triple-here : (r : ℕ) → r < 96 → (b : Bool) → plan .triple r ≡ b
+  triple-here : (r : ℕ) → r < rowCount → (b : Bool) → plan .triple r ≡ b
       → hither r (forth r (getD (d .triples) r [])) ≡ getD (d .triples) r []
   unfolding tripleDraw
   triple-here r row false e =
       let empty : getD (d .triples) r [] ≡ [] =
-      lists-nothing (tripleLength plan) (d .triples) (is .triples) r (ap (λ (b : Bool). cond b (3 * rowLength plan - 1) 0) e) in
+      lists-nothing (tripleLength plan) (d .triples) (is .triples) r (ap (λ (b : Bool). cond b (3 * drawnLength plan - 1) 0) e) in
       ap (λ (l : List ℕ). hither r (forth r l)) empty
-      ∙ ap (hither r) (triple-none (rowLength plan) fl (Δ r .factor-a) (Δ r .factor-b))
-      ∙ triple-none (rowLength plan) fl (Δ' r .factor-a) (Δ' r .factor-b) ∙ sym empty
+      ∙ ap (hither r) (triple-none (drawnLength plan) fl (Δ r .factor-a) (Δ r .factor-b))
+      ∙ triple-none (drawnLength plan) fl (Δ' r .factor-a) (Δ' r .factor-b) ∙ sym empty
   triple-here r row true e =
-      triple-back (rowLength plan) fl (Δ r .factor-a) (Δ r .factor-b) (Δ' r .factor-a) (Δ' r .factor-b) (getD (d .triples) r [])
+      triple-back (drawnLength plan) fl (Δ r .factor-a) (Δ r .factor-b) (Δ' r .factor-a) (Δ' r .factor-b) (getD (d .triples) r [])
       (triple-long plan d is r row e) (row-some plan) (layout-unit plan group d sound few is)
       (lists-elements (tripleLength plan) (d .triples) (is .triples) r) (factor-a r) (factor-b r)
 

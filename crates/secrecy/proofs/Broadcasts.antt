@@ -7,12 +7,16 @@ use mathlib.Core.List.{List, [], _∷_, _++_, map}
 use native.Mathlib.Omega.{arith}
 use lib.ListN.{length, length-append}
 use Rattle.poly.specs.Counting.{All, Elements}
-use Rattle.factory.specs.Draw.{eachFrom}
-use Rattle.factory.proofs.Laws.{elements-append}
+use Rattle.shape.specs.Bounds.{rowCount, lastTriple}
+use Rattle.shape.specs.Marks.{held, unused}
+use Rattle.shape.specs.Lengths.{vLength}
+use Rattle.parts.specs.Draw.{eachFrom}
+use Rattle.parts.proofs.Laws.{elements-append}
 use Rattle.vectors.specs.Vector.{Vector, numbers}
 use Rattle.vectors.proofs.Linear.{length-numbers}
 use Rattle.runs.specs.Outline.{Act, Sending, itsOpening, itsMasks, moves, acts, sends}
 use Rattle.runs.specs.Calls.{Post, Call, perform, sentBy, broadcast, sentIf, lineOf, openingLine, masksLine, Among}
+use Rattle.runs.specs.Draws.{planShape}
 use Rattle.runs.proofs.Marks.{Marks, markOf, rememberedA, rememberedB, less, of, masking, Masked, marksAll}
 use Rattle.runs.proofs.Outcomes.{refusalOf, refusal-is}
 use Rattle.runs.proofs.Steps.{named, Says, SaysAll, says}
@@ -95,21 +99,21 @@ module _ (C : Run) (m : Moment) (S : State C m) where
     not-refused : (c : Call) → refusalOf c (q i) ≡ 0 → perform c (q i) .answer .refusal ≡ 0
     not-refused c z = refusal-is c (q i) ∙ z
 
-    made-opening : (r : ℕ) (xs : List ℕ) → xs ≡ numbers (plan .t + 1) (vec r .v i) → r < 96 → AnOpening C r i xs
+    made-opening : (r : ℕ) (xs : List ℕ) → xs ≡ numbers (vLength (planShape plan)) (vec r .v i) → r < rowCount → AnOpening C r i xs
     made-opening r xs e low =
         record {
           row = omega arith;
           post = (lo, hi);
-          many = ap length e ∙ length-numbers (plan .t + 1) (vec r .v i);
-          low = subst Elements (sym e) (numbers-elements (plan .t + 1) (vec r .v i));
+          many = ap length e ∙ length-numbers (vLength (planShape plan)) (vec r .v i);
+          low = subst Elements (sym e) (numbers-elements (vLength (planShape plan)) (vec r .v i));
         }
 
     abbrev halves : ℕ → ℕ → ℕ → ℕ → List ℕ
-    halves x y r j = numbers (plan .t + 1) (less (vec x) (vec r) .v j) ++ numbers (plan .t + 1) (less (vec y) (vec (r + 1)) .v j)
+    halves x y r j = numbers (vLength (planShape plan)) (less (vec x) (vec r) .v j) ++ numbers (vLength (planShape plan)) (less (vec y) (vec (r + 1)) .v j)
 
-    made-masks : (x y r : ℕ) (xs : List ℕ) → xs ≡ halves x y r i → r < 94 → AMask C r i xs
+    made-masks : (x y r : ℕ) (xs : List ℕ) → xs ≡ halves x y r i → r ≤ lastTriple → AMask C r i xs
     made-masks x y r xs e low =
-        let k = plan .t + 1 in
+        let k = vLength (planShape plan) in
         let va = less (vec x) (vec r) .v i in
         let vb = less (vec y) (vec (r + 1)) .v i in
         record {
@@ -122,26 +126,26 @@ module _ (C : Run) (m : Moment) (S : State C m) where
     -- one line
     opening-one : (todo : List Act) (s : Sending) (ys : List ℕ) → Sendable todo M s → Says plan draw i vec s ys
         → (r j : ℕ) (xs : List ℕ) → AnOpening C r j xs → openingLine r j xs ≡ lineOf i s ys
-        → MessageBy s r × (markOf M r ≡ 2) × (xs ≡ numbers (plan .t + 1) (vec r .v j))
+        → MessageBy s r × (markOf M r ≡ held) × (xs ≡ numbers (vLength (planShape plan)) (vec r .v j))
     opening-one todo (itsOpening r') ys al says r j xs form e =
-        let same = same-opening (plan .n) (plan .t + 1) (sizes plan (C .sound) .n-high) r j r' i xs ys form (made-opening r' ys says (al .0)) e in
-        (same .0, ap (markOf M) (same .0) ∙ al .1, same .2 ∙ says ∙ sym (ap₂ (λ (x y : ℕ). numbers (plan .t + 1) (vec x .v y)) (same .0) (same .1)))
+        let same = same-opening (plan .n) (vLength (planShape plan)) (sizes plan (C .sound) .n-high) r j r' i xs ys form (made-opening r' ys says (al .0)) e in
+        (same .0, ap (markOf M) (same .0) ∙ al .1, same .2 ∙ says ∙ sym (ap₂ (λ (x y : ℕ). numbers (vLength (planShape plan)) (vec x .v y)) (same .0) (same .1)))
     opening-one todo (itsMasks x y r') ys al says r j xs form e =
-        absurd (not-both (plan .n) (plan .t + 1) (sizes plan (C .sound) .n-high) r j r' i xs ys form (made-masks x y r' ys says (al .0 .r-low)) e)
+        absurd (not-both (plan .n) (vLength (planShape plan)) (sizes plan (C .sound) .n-high) r j r' i xs ys form (made-masks x y r' ys says (al .0 .r-low)) e)
 
     -- masks of the rows x and y by the triple at r, of which post j's are xs
     abbrev MadeMasks : List Act → ℕ → ℕ → List ℕ → Type 0
-    MadeMasks todo r j xs = (x : ℕ) × (y : ℕ) × Multiplying 3 M x y r × Among (of x y r) (map masking todo) × (xs ≡ halves x y r j)
+    MadeMasks todo r j xs = (x : ℕ) × (y : ℕ) × Multiplying unused M x y r × Among (of x y r) (map masking todo) × (xs ≡ halves x y r j)
 
     masks-one : (todo : List Act) (s : Sending) (ys : List ℕ) → Sendable todo M s → Says plan draw i vec s ys
         → (r j : ℕ) (xs : List ℕ) → AMask C r j xs → masksLine r j xs ≡ lineOf i s ys → MadeMasks todo r j xs
     masks-one todo (itsOpening r') ys al says r j xs form e =
-        absurd (not-both (plan .n) (plan .t + 1) (sizes plan (C .sound) .n-high) r' i r j ys xs (made-opening r' ys says (al .0)) form (sym e))
+        absurd (not-both (plan .n) (vLength (planShape plan)) (sizes plan (C .sound) .n-high) r' i r j ys xs (made-opening r' ys says (al .0)) form (sym e))
     masks-one todo (itsMasks x y r') ys al says r j xs form e =
-        let same = same-masks (plan .n) (plan .t + 1) (sizes plan (C .sound) .n-high) r j r' i xs ys form (made-masks x y r' ys says (al .0 .r-low)) e in (
+        let same = same-masks (plan .n) (vLength (planShape plan)) (sizes plan (C .sound) .n-high) r j r' i xs ys form (made-masks x y r' ys says (al .0 .r-low)) e in (
           x,
           y,
-          subst (Multiplying 3 M x y) (sym (same .0)) (al .0),
+          subst (Multiplying unused M x y) (sym (same .0)) (al .0),
           subst (λ (w : ℕ). Among (of x y w) (map masking todo)) (sym (same .0)) (al .1),
           same .2 ∙ says ∙ sym (ap₂ (λ (v w : ℕ). halves x y v w) (same .0) (same .1)),
         )
@@ -149,7 +153,7 @@ module _ (C : Run) (m : Moment) (S : State C m) where
     -- one line after the other
     opening-by : (todo : List Act) (ss : List Sending) (k : ℕ) (parts : List (List ℕ)) → k ≡ 0 → All (Sendable todo M) ss
         → SaysAll plan draw i vec ss parts → (r j : ℕ) (xs : List ℕ) → AnOpening C r j xs → Among (openingLine r j xs) (sentBy i k ss parts)
-        → MessageIn ss r × (markOf M r ≡ 2) × (xs ≡ numbers (plan .t + 1) (vec r .v j))
+        → MessageIn ss r × (markOf M r ≡ held) × (xs ≡ numbers (vLength (planShape plan)) (vec r .v j))
     opening-by todo [] k parts z al says r j xs form a = absurd a
     opening-by todo (s ∷ ss) k [] z al says r j xs form a = absurd a
     opening-by todo (s ∷ ss) k (ys ∷ parts) z al says r j xs form a = elim (one-line _ _ _ k z a) [
@@ -174,7 +178,7 @@ module _ (C : Run) (m : Moment) (S : State C m) where
       abbrev w : ℕ → Vector
       w = vectorsThen plan draw u c M vec
 
-      stays : (x : ℕ) → markOf M x ≡ 2 → (markOf N x ≡ 2) × (w x ≡ vec x)
+      stays : (x : ℕ) → markOf M x ≡ held → (markOf N x ≡ held) × (w x ≡ vec x)
       stays x two = held-stays plan draw (numberAt plan draw u) (moves c) M vec (S .sized) (al .moving) x two
 
       said : SaysAll plan draw i vec (sends c) (perform (call i c) (q i) .lent)
@@ -191,12 +195,12 @@ module _ (C : Run) (m : Moment) (S : State C m) where
 
       pub new-opening : (r j : ℕ) (xs : List ℕ) → AnOpening C r j xs
           → Among (openingLine r j xs) (broadcast i (call i c) (perform (call i c) (q i)))
-          → MessageIn (sends c) r × (markOf (marksAll (acts c) M) r ≡ 2)
-          × (xs ≡ numbers (plan .t + 1) (vectorsThen plan draw u c M vec r .v j)) × (markOf M r ≡ 2)
+          → MessageIn (sends c) r × (markOf (marksAll (acts c) M) r ≡ held)
+          × (xs ≡ numbers (vLength (planShape plan)) (vectorsThen plan draw u c M vec r .v j)) × (markOf M r ≡ held)
       new-opening r j xs form a =
           let n = opening-by (acts c) (sends c) _ _ (not-refused (call i c) z) (al .sending) said r j xs form (heard-line _ a) in
           let k = stays r (n .1) in
-          (n .0, k .0, n .2 ∙ ap (λ (X : Vector). numbers (plan .t + 1) (X .v j)) (sym (k .1)), n .1)
+          (n .0, k .0, n .2 ∙ ap (λ (X : Vector). numbers (vLength (planShape plan)) (X .v j)) (sym (k .1)), n .1)
 
       pub new-masks : Rule plan c 0 lines → (r j : ℕ) (xs : List ℕ) → AMask C r j xs
           → Among (masksLine r j xs) (broadcast i (call i c) (perform (call i c) (q i)))
@@ -210,7 +214,7 @@ module _ (C : Run) (m : Moment) (S : State C m) where
               let k = waits-after plan draw (acts c) M (S .sized) (al .moving) x y r (ok .r-low) there in (
                 k .0,
                 λ five.
-                    let lr : r < 96 = omega (arith, ok .r-low) in
+                    let lr : r < rowCount = omega (arith, ok .r-low) in
                     let t = S .facts r lr .triple (inl (ok .first)) in
                     let t' = facts-on C m S c al rule r lr .triple (inr five) in
                     let lf = k .1 five in
@@ -218,5 +222,5 @@ module _ (C : Run) (m : Moment) (S : State C m) where
                     let eb : vec y ≡ w (rememberedB N r) = sym (ap w (lf .1) ∙ stays y (ok .b-held) .1) in
                     let e0 : vec r ≡ w r = t .is-a ∙ sym (t' .is-a) in
                     let e1 : vec (r + 1) ≡ w (r + 1) = t .is-b ∙ sym (t' .is-b) in
-                    e ∙ (λ m. numbers (plan .t + 1) (less (ea m) (e0 m) .v j) ++ numbers (plan .t + 1) (less (eb m) (e1 m) .v j)),
+                    e ∙ (λ m. numbers (vLength (planShape plan)) (less (ea m) (e0 m) .v j) ++ numbers (vLength (planShape plan)) (less (eb m) (e1 m) .v j)),
               )

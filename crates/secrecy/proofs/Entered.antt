@@ -10,6 +10,7 @@ use Rattle.field.proofs.Expression.{A, B, 𝟘, 𝟙, _:+_, _:*_, Same}
 use Rattle.field.proofs.Solver.{solve}
 use Rattle.field.proofs.Elements.{𝓡, element-one, element-sum, element-product}
 use Rattle.poly.specs.Counting.{All}
+use Rattle.shape.specs.Marks.{held, spent}
 use Rattle.vectors.specs.Vector.{Vector, number}
 use Rattle.vectors.proofs.Linear.{number-plusTimes}
 use Rattle.runs.specs.Draws.{Plan, Draw}
@@ -55,7 +56,7 @@ module _ (vec : ℕ → Vector) (place : ℕ → ℕ) where
 
 -- the masks of the triple at r were made
 abbrev pub Past : Marks → ℕ → Type 0
-Past M r = Masked (markOf M r) ⊎ (markOf M r ≡ 6)
+Past M r = Masked (markOf M r) ⊎ (markOf M r ≡ spent)
 
 -- the numbers noted with each triple, after masks
 abbrev pub notedA : Masking → Book → ℕ → ℕ
@@ -78,7 +79,7 @@ module _ (u : Secrets) where
   noted-is (multiplies r) b = (refl, refl)
 
   -- a held row's place stays; so do the numbers noted for a triple whose masks were made
-  pub place-by : (M : Marks) (b : Book) (a : Act) → AllowedBy a M → (x : ℕ) → markOf M x ≡ 2 → enteredBy u a b .place x ≡ b .place x
+  pub place-by : (M : Marks) (b : Book) (a : Act) → AllowedBy a M → (x : ℕ) → markOf M x ≡ held → enteredBy u a b .place x ≡ b .place x
   place-by M b (loads r) al x two = refl
   place-by M b (loadsTriple r) al x two = refl
   place-by M b (deals r) al x two = at-other (b .place) r (u r) x (λ e. omega (arith, ap (markOf M) e, al .0 .1))
@@ -107,7 +108,7 @@ module _ (u : Secrets) where
       (ap (λ (f : ℕ → ℕ). f x) (n .0) ∙ k .0, ap (λ (f : ℕ → ℕ). f x) (n .1) ∙ k .1)
 
 pub place-all : (plan : Plan) (draw : Draw) (u : Secrets) (todo : List Act) (M : Marks) (b : Book) → Sized M → AllowedAll todo M → (x : ℕ)
-    → markOf M x ≡ 2 → enteredAll u todo b .place x ≡ b .place x
+    → markOf M x ≡ held → enteredAll u todo b .place x ≡ b .place x
 place-all plan draw u [] M b z al x two = refl
 place-all plan draw u (a ∷ todo) M b z al x two =
     place-all plan draw u todo (marksBy a M) (enteredBy u a b) (sized-by a M z) (al .1) x

@@ -1,7 +1,7 @@
 -- The vector that a group of posts cannot see: its number is one, but its public sums are all zero, and so are the
 -- polynomials and the check values of everyone in the group. Added to a shared number's vector, it changes the number and no
 -- row of the group.
-use Prim.Native.Nat.{ℕ, zero, suc, _≤_}
+use Prim.Native.Nat.{ℕ, zero, suc, _≤_, _<_}
 use mathlib.Core.Path.{_≡_, refl, sym, _∙_, ap, ap₂}
 use mathlib.Core.Logic.{_≢_}
 use mathlib.Core.List.{List, [], _∷_}
@@ -18,7 +18,9 @@ use Rattle.poly.specs.Counting.{All}
 use Rattle.poly.proofs.Lists.{all-map}
 use Rattle.poly.proofs.Coefficients.{ev, timesNodes, nodalAt, ev-timesNodes, ev-constant, length-timesNodes, nodalAt-self}
 use Rattle.poly.proofs.Lagrange.{nodalAt-nonzero}
-use Rattle.vectors.specs.Vector.{Vector, number, firsts, valueAt, checkOf, sumAt}
+use Rattle.shape.specs.declared.Shape.{Shape}
+use Rattle.shape.specs.Lengths.{fLength, vLength}
+use Rattle.vectors.specs.Vector.{Vector, firsts, valueAt, checkOf, sumAt}
 open CommutativeRing 𝓡 using (add as _⊕_, mul as _⊗_, neg, zero as 0ᴱ, one as 1ᴱ)
 
 infixl 65 _⊕_
@@ -104,22 +106,22 @@ module _ (gs ws : List Element) where
   unfolding kernel
   kernel-constant a = constant-is-value (hiding gs) ∙ hiding-at-zero gs a
 
-  -- the public sums of all posts are nothing: -L(j) W(0) + L(j)
-  pub kernel-sums : (t : ℕ) → length gs ≤ t → All (λ r. r ≢ 0ᴱ) ws → (j : ℕ) → sumAt (suc t) kernel j ≡ 0ᴱ
+  -- the public sums of all posts are nothing, -L(j) W(0) + L(j): f has a coefficient more than the group has posts
+  pub kernel-sums : (s : Shape) → length gs < fLength s → All (λ r. r ≢ 0ᴱ) ws → (j : ℕ) → sumAt s kernel j ≡ 0ᴱ
   unfolding kernel L Same
-  kernel-sums t few a j =
+  kernel-sums s few a j =
       ap₂ (λ (x y : Element). neg (L (element (suc j))) ⊗ x ⊕ y ⊕ 0ᴱ) (constant-is-value (hiding ws) ∙ hiding-at-zero ws a)
-      (valueAt-coefficient (suc t) (hiding gs) (element (suc j)) (omega (arith, length-hiding gs)))
+      (valueAt-coefficient (fLength s) (hiding gs) (element (suc j)) (omega (arith, length-hiding gs)))
       ∙ solve 𝓡 (L (element (suc j)) ∷ []) (:- A :* 𝟙 :+ A :+ 𝟘) 𝟘 refl
 
-  -- the check values at the group's check points are nothing
-  pub kernel-checks : (t : ℕ) → length ws ≤ t → All (λ w. (j : ℕ) → checkOf (suc t) w kernel j ≡ 0ᴱ) ws
+  -- the check values at the group's check points are nothing: a v has a coefficient more than the group has points
+  pub kernel-checks : (s : Shape) → length ws < vLength s → All (λ w. (j : ℕ) → checkOf s w kernel j ≡ 0ᴱ) ws
   unfolding kernel
-  kernel-checks t few = all-map none ws (hiding-at-nodes ws)
+  kernel-checks s few = all-map none ws (hiding-at-nodes ws)
     where
-      none : (w : Element) → ev 𝓡 (hiding ws) w ≡ 0ᴱ → (j : ℕ) → checkOf (suc t) w kernel j ≡ 0ᴱ
+      none : (w : Element) → ev 𝓡 (hiding ws) w ≡ 0ᴱ → (j : ℕ) → checkOf s w kernel j ≡ 0ᴱ
       none w e j =
-          valueAt-times (suc t) (neg (L (element (suc j)))) (coefficient (hiding ws)) w
+          valueAt-times (vLength s) (neg (L (element (suc j)))) (coefficient (hiding ws)) w
           ∙ ap (λ (z : Element). neg (L (element (suc j))) ⊗ z)
-          (valueAt-coefficient (suc t) (hiding ws) w (omega (arith, length-hiding ws)) ∙ e)
+          (valueAt-coefficient (vLength s) (hiding ws) w (omega (arith, length-hiding ws)) ∙ e)
           ∙ mul-zero 𝓡 _

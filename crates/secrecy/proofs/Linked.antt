@@ -8,7 +8,6 @@ use mathlib.Core.List.{List, [], _∷_, _++_}
 use native.Mathlib.Omega.{arith}
 use lib.ListN.{length, getD, length-append}
 use Rattle.field.specs.Modulus.{p}
-use Rattle.field.specs.Arithmetic.{difference}
 use Rattle.field.specs.Algebra.{CommutativeRing}
 use Rattle.field.specs.Element.{Element, element}
 use Rattle.field.proofs.Modular.{difference-below}
@@ -17,24 +16,20 @@ use Rattle.field.proofs.Solver.{solve}
 use Rattle.field.proofs.Elements.{𝓡, element-injective, element-difference}
 use Rattle.poly.specs.Counting.{Elements}
 use Rattle.poly.proofs.Lists.{all-zip}
-use Rattle.refusal.specs.Refusal.{_when_}
-use Rattle.refusal.specs.Conditions.{beyond, anyBeyond}
+use Rattle.refusal.specs.Conditions.{anyBeyond}
 use Rattle.shape.specs.Bounds.{rowCount}
-use Rattle.refusal.proofs.Laws.{not-refused}
 use Rattle.refusal.proofs.Ranges.{posts-passed}
-use Rattle.refusal.proofs.Elements.{element-test}
-use Rattle.factory.specs.Draw.{part, firstDraw, secondDraw, thirdDraw}
-use Rattle.factory.specs.Packs.{dealerRefusal, dealerNumber}
-use Rattle.factory.specs.declared.Number.{Number}
-use Rattle.factory.proofs.Laws.{elements-append}
-use Rattle.vectors.specs.Vector.{Vector, numbers, checkOf, sumAt, rowOf, vectorOf}
-use Rattle.runs.specs.Draws.{Plan, planShape, Raw, none, by, IsRaw, whenRaw, Sound, Draw, IsDraw, rowLength, rawLength, tripleLength, pointOf, rawDraw, tripleDraw, rawPack, triplePack}
+use Rattle.parts.specs.Draw.{part, firstDraw, secondDraw, thirdDraw}
+use Rattle.factory.specs.Calls.{dealerNumber}
+use Rattle.parts.proofs.Laws.{elements-append}
+use Rattle.vectors.specs.Vector.{Vector, rowOf, vectorOf}
+use Rattle.runs.specs.Draws.{Plan, planShape, Raw, none, by, IsRaw, whenRaw, Sound, Draw, IsDraw, drawnLength, rawLength, tripleLength, pointOf, rawDraw, tripleDraw, rawPack, triplePack}
 use Rattle.runs.proofs.Start.{all-at}
 use Rattle.runs.proofs.Marks.{rawVector, vectorA, vectorB, vectorAB}
-use Rattle.runs.proofs.Outcomes.{done-is}
-use Rattle.runs.proofs.Lines.{elements-pass, numbers-elements}
+use Rattle.factory.proofs.Laws.{elements-pass}
 use Rattle.runs.proofs.Packs.{rowFor, Drawn, raw-drawn, a-drawn, b-drawn, ab-drawn, raw-pack, triple-pack}
-use Rattle.runs.proofs.Holds.{row-wide}
+use Rattle.runs.proofs.Numbers.{dealer-number}
+use Rattle.runs.proofs.Holds.{row-wide, row-elements}
 use Rattle.secrecy.specs.Steps.{Secrets, dealtNumber}
 use Rattle.secrecy.specs.Claim.{Group}
 use Rattle.secrecy.proofs.Kernel.{kernel-c}
@@ -55,14 +50,6 @@ raw-or (by dealer) = inr tt
 true-or : (b : Bool) → (b ≡ false) ⊎ (b ≡ true)
 true-or true = inr refl
 true-or false = inl refl
-
--- the number that a dealer gives, where both of its numbers are elements
-dealer-value : (x y : ℕ) → x < p → y < p → dealerNumber x y .value ≡ difference x y
-unfolding dealerRefusal
-dealer-value x y lx ly =
-    ap (λ (z : Number). z .value)
-    (done-is (dealerRefusal x y) _ _
-    (not-refused (8 when beyond x ∷ 8 when beyond y ∷ []) (element-test x lx, (element-test y ly, tt))))
 
 -- ---- two packs of elements, as long
 
@@ -86,13 +73,6 @@ alike xs ys a b e g h =
 same-alike : (xs ys : List ℕ) → xs ≡ ys → Alike xs ys
 same-alike xs ys e = record { long = ap length e; low = ap anyBeyond e }
 
-row-elements : (k n i : ℕ) (w : Element) (S : Vector) → Elements (rowOf k n i w S)
-unfolding rowOf
-row-elements k n i w S =
-    elements-append (numbers k (S .v i)) _ (numbers-elements k (S .v i))
-    (elements-append (numbers n (checkOf k w S)) (numbers n (sumAt k S)) (numbers-elements n (checkOf k w S))
-    (numbers-elements n (sumAt k S)))
-
 module _ (plan : Plan) (group : List ℕ) (u u' : Secrets) (Δ : ℕ → Gaps) (d : Draw) (sound : Sound plan)
     (few : Group plan group) (secrets : (r : ℕ) → IsRaw (plan .raw r) → (u r < p) × (u' r < p)) (is : IsDraw plan d) where
   abbrev d' : Draw
@@ -110,28 +90,28 @@ module _ (plan : Plan) (group : List ℕ) (u u' : Secrets) (Δ : ℕ → Gaps) (
   -- ---- near
 
   abbrev Nearly : Vector → Vector → Type 0
-  Nearly = Near (plan .n) (plan .t + 1) (pointOf d) K
+  Nearly = Near (planShape plan) (pointOf d) K
 
-  nearly : (δ : Element) (xs ys : List ℕ) → ys ≡ shift (layout plan group d) δ xs → Drawn (rowLength plan) xs
+  nearly : (δ : Element) (xs ys : List ℕ) → ys ≡ shift (layout plan group d) δ xs → Drawn (drawnLength plan) xs
       → Nearly (vector xs) (vector ys)
   nearly δ xs ys e h =
       subst (λ (l : List ℕ). Nearly (vector xs) (vector l)) (sym e)
       (near-shift (planShape plan) K δ (pointOf d) xs
       (kernel-c (groupPosts (pointOf d) group) (groupPoints (pointOf d) group)) (kernel-unit plan group d sound few is) (h .many))
 
-  some-drawn : (xs : List ℕ) → Drawn (rowLength plan) xs → 1 ≤ length xs
+  some-drawn : (xs : List ℕ) → Drawn (drawnLength plan) xs → 1 ≤ length xs
   some-drawn xs h = omega (arith, h .many, row-some plan)
 
-  gap-is : (δ : Element) (xs ys : List ℕ) → ys ≡ shift (layout plan group d) δ xs → Drawn (rowLength plan) xs
+  gap-is : (δ : Element) (xs ys : List ℕ) → ys ≡ shift (layout plan group d) δ xs → Drawn (drawnLength plan) xs
       → gap (vector xs) (vector ys) ≡ δ
   gap-is δ xs ys e h =
       ap (λ (l : List ℕ). gap (vector xs) (vector l)) e
       ∙ gap-shift (planShape plan) K δ xs (kernel-unit plan group d sound few is) (some-drawn xs h)
 
-  near-raw : (r : ℕ) → r < 96 → IsRaw (plan .raw r) → Nearly (rawVector plan d r) (rawVector plan d' r)
+  near-raw : (r : ℕ) → r < rowCount → IsRaw (plan .raw r) → Nearly (rawVector plan d r) (rawVector plan d' r)
   near-raw r row h = nearly (secretGap u u' r) _ _ (moved-raw plan group u u' Δ d r) (raw-drawn plan d is r row h)
 
-  module _ (r : ℕ) (row : r < 96) (h : plan .triple r ≡ true) where
+  module _ (r : ℕ) (row : r < rowCount) (h : plan .triple r ≡ true) where
     near-a : Nearly (vectorA plan d r) (vectorA plan d' r)
     near-a = nearly (Δ r .factor-a) _ _ (moved-a plan group u u' Δ d sound few is r row h) (a-drawn plan d is r row h)
 
@@ -153,25 +133,25 @@ module _ (plan : Plan) (group : List ℕ) (u u' : Secrets) (Δ : ℕ → Gaps) (
       f1 : ℕ
       f1 = getD (rawDraw d' r) 0 0
 
-      low : (xs : List ℕ) → Drawn (rowLength plan) xs → getD xs 0 0 < p
+      low : (xs : List ℕ) → Drawn (drawnLength plan) xs → getD xs 0 0 < p
       low xs h = all-at (λ x. x < p) xs (h .low) 0 (some-drawn xs h)
 
       go : (k : Raw) → plan .raw r ≡ k → whenRaw k (dealerNumber (u r) f0 .value) 0 ≡ whenRaw k (dealerNumber (u' r) f1 .value) 0
       go none e = refl
       go (by m) e =
           let raw : IsRaw (plan .raw r) = subst IsRaw (sym e) tt in
-          let row : r < 96 = omega (arith, sound .raws r raw) in
+          let row : r < rowCount = omega (arith, sound .raws r raw) in
           let drawn = raw-drawn plan d is r row raw in
           let new : element f1 ≡ element f0 ⊕ secretGap u u' r =
           ap (λ (l : List ℕ). element (getD l 0 0)) (moved-raw plan group u u' Δ d r)
           ∙ shift-constant (layout plan group d) (secretGap u u' r) (rawDraw d r) (layout-unit plan group d sound few is)
           (some-drawn _ drawn) in
-          dealer-value (u r) f0 (secrets r raw .0) (low _ drawn)
+          dealer-number (u r) f0 (secrets r raw .0) (low _ drawn)
           ∙ element-injective _ _ (difference-below (u r) f0) (difference-below (u' r) f1)
           (element-difference (u r) f0
           ∙ solve 𝓡 (element (u r) ∷ element (u' r) ∷ element f0 ∷ []) (A :- C) (B :- (C :+ (B :- A))) refl
           ∙ ap (λ (z : Element). element (u' r) ⊕ neg z) (sym new) ∙ sym (element-difference (u' r) f1))
-          ∙ sym (dealer-value (u' r) f1 (secrets r raw .1) (low _ (raw-drawn plan d' is' r row raw)))
+          ∙ sym (dealer-number (u' r) f1 (secrets r raw .1) (low _ (raw-drawn plan d' is' r row raw)))
 
   -- ---- packs
 
@@ -187,30 +167,30 @@ module _ (plan : Plan) (group : List ℕ) (u u' : Secrets) (Δ : ℕ → Gaps) (
       ∙ sym (moved-raw plan group u u' Δ d r ∙ ap (shift (layout plan group d) (secretGap u u' r)) empty ∙ shift-empty _ _))
     where
       empty : rawDraw d r ≡ []
-      empty = lists-nothing (rawLength plan) (d .raws) (is .raws) r (ap (λ (k : Raw). whenRaw k (rowLength plan) 0) e)
+      empty = lists-nothing (rawLength plan) (d .raws) (is .raws) r (ap (λ (k : Raw). whenRaw k (drawnLength plan) 0) e)
 
   triple-same : (i r : ℕ) → plan .triple r ≡ false → triplePack plan d i r ≡ triplePack plan d' i r
   unfolding triplePack tripleDraw
   triple-same i r e =
       ap₂
       (λ (w : ℕ) (l : List ℕ).
-      part (planShape plan) i w (firstDraw (rowLength plan) l)
-      ++ (part (planShape plan) i w (secondDraw (rowLength plan) l)
-      ++ part (planShape plan) i w (thirdDraw (rowLength plan) l)))
+      part (planShape plan) i w (firstDraw (drawnLength plan) l)
+      ++ (part (planShape plan) i w (secondDraw (drawnLength plan) l)
+      ++ part (planShape plan) i w (thirdDraw (drawnLength plan) l)))
       (point-same i)
       (empty ∙ sym (moved-triple plan group u u' Δ d r ∙ ap (movedTriple _ _ _ _) empty ∙ triple-none _ _ _ _))
     where
       empty : tripleDraw d r ≡ []
       empty =
           lists-nothing (tripleLength plan) (d .triples) (is .triples) r
-          (ap (λ (b : Bool). cond b (3 * rowLength plan - 1) 0) e)
+          (ap (λ (b : Bool). cond b (3 * drawnLength plan - 1) 0) e)
 
   -- all posts: packs of elements, and as long
   both-rows : (i : ℕ) (X Y : Vector) → Both (rowFor plan d i X) (rowFor plan d' i Y)
   both-rows i X Y = (
     row-wide plan d i X ∙ sym (row-wide plan d' i Y),
-    row-elements (plan .t + 1) (plan .n) i (element (pointOf d i)) X,
-    row-elements (plan .t + 1) (plan .n) i (element (pointOf d' i)) Y,
+    row-elements plan d i X,
+    row-elements plan d' i Y,
   )
 
   there : (i : ℕ) → i ≤ plan .n → i - 1 < plan .n
@@ -240,11 +220,11 @@ module _ (plan : Plan) (group : List ℕ) (u u' : Secrets) (Δ : ℕ → Gaps) (
       ]
 
   -- the group: the same packs
-  module _ (i : ℕ) (post : (1 ≤ i) × (i ≤ plan .n)) (un : Unseen (plan .t + 1) i (element (pointOf d i)) K) where
+  module _ (i : ℕ) (post : (1 ≤ i) × (i ≤ plan .n)) (un : Unseen (planShape plan) i (element (pointOf d i)) K) where
     same-row : (X Y : Vector) → Nearly X Y → rowFor plan d i X ≡ rowFor plan d' i Y
     same-row X Y h =
-        near-blind (plan .n) (plan .t + 1) (pointOf d) K X Y h i (post .0) (post .1) un
-        ∙ ap (λ (w : ℕ). rowOf (plan .t + 1) (plan .n) i (element w) Y) (point-same i)
+        near-blind (planShape plan) (pointOf d) K X Y h i (post .0) (post .1) un
+        ∙ ap (λ (w : ℕ). rowOf (planShape plan) i (element w) Y) (point-same i)
 
     raw-blind : (k : ℕ) → rawPack plan d i k ≡ rawPack plan d' i k
     raw-blind k =

@@ -7,7 +7,8 @@ use lib.ListN.{length, getD, replicate}
 use Rattle.field.specs.Modulus.{p}
 use Rattle.poly.specs.Counting.{All, Distinct}
 use Rattle.poly.proofs.Lists.{all-map}
-use Rattle.factory.specs.Draw.{eachFrom}
+use Rattle.shape.specs.Bounds.{rowCount}
+use Rattle.parts.specs.Draw.{eachFrom}
 use Rattle.runs.specs.Draws.{Plan, Draw, IsDraw, Lists, rawLength, tripleLength}
 use Rattle.secrecy.specs.Seen.{allRows}
 use Rattle.runs.specs.Calls.{Among}
@@ -41,7 +42,7 @@ module _ (low many k : ℕ) where
       every ℕ.zero = tt
       every (ℕ.suc j) = (numbers-distinct low many, every j)
 
--- 96 lists, the r-th of `many r` elements
+-- a list for each row, the r-th of `many r` elements
 module _ (many : ℕ → ℕ) where
   abbrev ofRow : ℕ → List (List ℕ)
   ofRow r = listsOf 0 p (many r)
@@ -61,14 +62,14 @@ module _ (many : ℕ → ℕ) where
   rows-are : (ls : List (List ℕ)) → Among ls (allLists many) → Lists many ls
   unfolding allLists allRows
   rows-are ls m =
-      let (e, f) = fits-rows ofRow [] 0 96 ls (choices-fit (map ofRow (eachFrom 0 96 (λ r. r))) ls m) in
+      let (e, f) = fits-rows ofRow [] 0 rowCount ls (choices-fit (map ofRow (eachFrom 0 rowCount (λ r. r))) ls m) in
       record { count = e; each = λ r l. below r (getD ls r []) (f r l) }
 
   rows-have : (ls : List (List ℕ)) → Lists many ls → Among ls (allLists many)
   unfolding allLists allRows
   rows-have ls h =
-      fit-choices (map ofRow (eachFrom 0 96 (λ r. r))) ls
-      (rows-fit ofRow [] 0 96 ls (h .count) (λ r l. of-below r (getD ls r []) (h .each r l .0) (h .each r l .1)))
+      fit-choices (map ofRow (eachFrom 0 rowCount (λ r. r))) ls
+      (rows-fit ofRow [] 0 rowCount ls (h .count) (λ r l. of-below r (getD ls r []) (h .each r l .0) (h .each r l .1)))
 
   rows-distinct : Distinct (allLists many)
   unfolding allLists

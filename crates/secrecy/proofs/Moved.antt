@@ -17,12 +17,12 @@ use Rattle.field.proofs.Solver.{solve}
 use Rattle.field.proofs.Elements.{𝓡, element-product}
 use Rattle.poly.specs.Counting.{All, Elements}
 use Rattle.poly.proofs.Lists.{all-map}
-use Rattle.shape.specs.Bounds.{fewestPosts, mostPosts}
+use Rattle.shape.specs.Bounds.{fewestPosts, mostPosts, rowCount}
 use Rattle.refusal.specs.Conditions.{postsTests}
 use Rattle.refusal.proofs.Laws.{all-fail, inside}
-use Rattle.factory.specs.Draw.{thirdDraw}
+use Rattle.parts.specs.Draw.{thirdDraw}
 use Rattle.runs.proofs.Start.{all-at}
-use Rattle.runs.specs.Draws.{Plan, planShape, Sound, Draw, Lists, IsDraw, rowLength, rawLength, tripleLength, pointOf, rawDraw, tripleDraw, drawA, drawB, drawAB}
+use Rattle.runs.specs.Draws.{Plan, planShape, Sound, Draw, Lists, IsDraw, drawnLength, rawLength, tripleLength, pointOf, rawDraw, tripleDraw, drawA, drawB, drawAB}
 use Rattle.secrecy.specs.Steps.{Secrets}
 use Rattle.secrecy.specs.Claim.{Group}
 use Rattle.secrecy.proofs.Kernel.{kernel-constant}
@@ -77,12 +77,12 @@ each-lists many f ls none long low h =
 module _ (many : ℕ → ℕ) (ls : List (List ℕ)) (h : Lists many ls) (r : ℕ) where
   pub lists-nothing : many r ≡ 0 → getD ls r [] ≡ []
   lists-nothing e =
-      elim (decLt r 96)
+      elim (decLt r rowCount)
       [ yes l ↦ nothing (getD ls r []) (h .each r l .0 ∙ e) | no l ↦ List·getD-eq-default ls [] (omega (arith, h .count)) ]
 
   pub lists-elements : Elements (getD ls r [])
   lists-elements =
-      elim (decLt r 96) [
+      elim (decLt r rowCount) [
         | yes l ↦ h .each r l .1
         | no l ↦ subst Elements (sym (List·getD-eq-default ls [] (omega (arith, h .count)))) tt
       ]
@@ -99,14 +99,14 @@ secretGap u u' r = element (u' r) ⊕ neg (element (u r))
 
 -- by how much the number of the third draw for a triple differs
 abbrev pub productGap : Plan → (ℕ → Gaps) → Draw → ℕ → Element
-productGap plan Δ d r = cross (rowLength plan) (Δ r .factor-a) (Δ r .factor-b) (tripleDraw d r)
+productGap plan Δ d r = cross (drawnLength plan) (Δ r .factor-a) (Δ r .factor-b) (tripleDraw d r)
 
 module _ (plan : Plan) (group : List ℕ) (u u' : Secrets) (Δ : ℕ → Gaps) (d : Draw) where
   abbrev fl : ℕ → Element
   fl = layout plan group d
 
   abbrev atTriple : ℕ → List ℕ → List ℕ
-  atTriple r = movedTriple (rowLength plan) (layout plan group d) (Δ r .factor-a) (Δ r .factor-b)
+  atTriple r = movedTriple (drawnLength plan) (layout plan group d) (Δ r .factor-a) (Δ r .factor-b)
 
   -- Where nothing was drawn the list is empty, and stays so.
   unfoldable pub moved : Draw
@@ -114,7 +114,7 @@ module _ (plan : Plan) (group : List ℕ) (u u' : Secrets) (Δ : ℕ → Gaps) (
       record {
         points = d .points;
         raws = each (λ r. shift (layout plan group d) (secretGap u u' r)) (d .raws);
-        triples = each (λ r. movedTriple (rowLength plan) (layout plan group d) (Δ r .factor-a) (Δ r .factor-b)) (d .triples);
+        triples = each (λ r. movedTriple (drawnLength plan) (layout plan group d) (Δ r .factor-a) (Δ r .factor-b)) (d .triples);
       }
 
   pub moved-points : pointOf moved ≡ pointOf d
@@ -126,7 +126,7 @@ module _ (plan : Plan) (group : List ℕ) (u u' : Secrets) (Δ : ℕ → Gaps) (
   moved-raw = each-at (λ r. shift fl (secretGap u u' r)) (λ r. shift-empty _ _) (d .raws)
 
   pub moved-triple : (r : ℕ)
-      → tripleDraw moved r ≡ movedTriple (rowLength plan) (layout plan group d) (Δ r .factor-a) (Δ r .factor-b) (tripleDraw d r)
+      → tripleDraw moved r ≡ movedTriple (drawnLength plan) (layout plan group d) (Δ r .factor-a) (Δ r .factor-b) (tripleDraw d r)
   unfolding moved tripleDraw
   moved-triple = each-at atTriple (λ r. triple-none _ _ _ _) (d .triples)
 
@@ -141,8 +141,8 @@ module _ (plan : Plan) (group : List ℕ) (u u' : Secrets) (Δ : ℕ → Gaps) (
             (λ r. elements-shift fl (secretGap u u' r)) (is .raws);
         triples =
             each-lists (tripleLength plan) atTriple (d .triples) (λ r. triple-none _ _ _ _)
-            (λ r. length-triple (rowLength plan) fl (Δ r .factor-a) (Δ r .factor-b))
-            (λ r. elements-triple (rowLength plan) fl (Δ r .factor-a) (Δ r .factor-b)) (is .triples);
+            (λ r. length-triple (drawnLength plan) fl (Δ r .factor-a) (Δ r .factor-b))
+            (λ r. elements-triple (drawnLength plan) fl (Δ r .factor-a) (Δ r .factor-b)) (is .triples);
       }
 
 -- ---- the kernel of a group of posts
@@ -164,50 +164,48 @@ module _ (plan : Plan) (group : List ℕ) (d : Draw) (sound : Sound plan) (few :
   pub layout-unit : layout plan group d 0 ≡ 1ᴱ
   layout-unit = flat-f (planShape plan) (groupKernel (pointOf d) group) 0 (omega arith) ∙ kernel-unit
 
-  pub group-unseen : All (λ i. Unseen (plan .t + 1) i (element (pointOf d i)) (groupKernel (pointOf d) group)) group
+  pub group-unseen : All (λ i. Unseen (planShape plan) i (element (pointOf d i)) (groupKernel (pointOf d) group)) group
   group-unseen =
-      let e : suc (plan .t) ≡ plan .t + 1 = omega arith in
-      subst (λ (k : ℕ). All (λ i. Unseen k i (element (pointOf d i)) (groupKernel (pointOf d) group)) group) e
-      (kernel-unseen (pointOf d) group (plan .t) (few .few)
-      (nonzero-nodes (pointOf d) group (all-map point-in group (few .members))))
+      kernel-unseen (pointOf d) group (planShape plan) (omega (arith, few .few)) (omega (arith, few .few))
+      (nonzero-nodes (pointOf d) group (all-map point-in group (few .members)))
 
 -- ---- a triple's three draws
 
-pub row-some : (plan : Plan) → 1 ≤ rowLength plan
+pub row-some : (plan : Plan) → 1 ≤ drawnLength plan
 row-some plan = omega arith
 
-pub triple-long : (plan : Plan) (d : Draw) → IsDraw plan d → (r : ℕ) → r < 96 → plan .triple r ≡ true
-    → rowLength plan + rowLength plan ≤ length (tripleDraw d r)
+pub triple-long : (plan : Plan) (d : Draw) → IsDraw plan d → (r : ℕ) → r < rowCount → plan .triple r ≡ true
+    → drawnLength plan + drawnLength plan ≤ length (tripleDraw d r)
 unfolding tripleDraw
 triple-long plan d is r row drawn =
-    omega (arith, row-some plan, is .triples .each r row .0 ∙ ap (λ (b : Bool). cond b (3 * rowLength plan - 1) 0) drawn)
+    omega (arith, row-some plan, is .triples .each r row .0 ∙ ap (λ (b : Bool). cond b (3 * drawnLength plan - 1) 0) drawn)
 
 module _ (plan : Plan) (group : List ℕ) (u u' : Secrets) (Δ : ℕ → Gaps) (d : Draw) (sound : Sound plan)
-    (few : Group plan group) (is : IsDraw plan d) (r : ℕ) (row : r < 96) (drawn : plan .triple r ≡ true) where
-  long : rowLength plan + rowLength plan ≤ length (tripleDraw d r)
+    (few : Group plan group) (is : IsDraw plan d) (r : ℕ) (row : r < rowCount) (drawn : plan .triple r ≡ true) where
+  long : drawnLength plan + drawnLength plan ≤ length (tripleDraw d r)
   long = triple-long plan d is r row drawn
 
   pub moved-a : drawA plan (moved plan group u u' Δ d) r ≡ shift (layout plan group d) (Δ r .factor-a) (drawA plan d r)
   moved-a =
-      ap (take (rowLength plan)) (moved-triple plan group u u' Δ d r)
-      ∙ triple-first (rowLength plan) (layout plan group d) (Δ r .factor-a) (Δ r .factor-b) (tripleDraw d r) long
+      ap (take (drawnLength plan)) (moved-triple plan group u u' Δ d r)
+      ∙ triple-first (drawnLength plan) (layout plan group d) (Δ r .factor-a) (Δ r .factor-b) (tripleDraw d r) long
 
   pub moved-b : drawB plan (moved plan group u u' Δ d) r ≡ shift (layout plan group d) (Δ r .factor-b) (drawB plan d r)
   moved-b =
-      ap (λ (l : List ℕ). take (rowLength plan) (drop (rowLength plan) l)) (moved-triple plan group u u' Δ d r)
-      ∙ triple-second (rowLength plan) (layout plan group d) (Δ r .factor-a) (Δ r .factor-b) (tripleDraw d r) long
+      ap (λ (l : List ℕ). take (drawnLength plan) (drop (drawnLength plan) l)) (moved-triple plan group u u' Δ d r)
+      ∙ triple-second (drawnLength plan) (layout plan group d) (Δ r .factor-a) (Δ r .factor-b) (tripleDraw d r) long
 
   pub moved-ab : drawAB plan (moved plan group u u' Δ d) r ≡ shift (layout plan group d) (productGap plan Δ d r) (drawAB plan d r)
   unfolding Same
   moved-ab =
-      ap (thirdDraw (rowLength plan)) (moved-triple plan group u u' Δ d r)
-      ∙ ap (λ (l : List ℕ). product m0 m1 ∷ l) (triple-rest (rowLength plan) fl a b (tripleDraw d r) long)
+      ap (thirdDraw (drawnLength plan)) (moved-triple plan group u u' Δ d r)
+      ∙ ap (λ (l : List ℕ). product m0 m1 ∷ l) (triple-rest (drawnLength plan) fl a b (tripleDraw d r) long)
       ∙ shift-cons (planShape plan) (groupKernel (pointOf d) group) (productGap plan Δ d r) (product l0 l1)
-      (product m0 m1) (drop (rowLength plan + rowLength plan) (tripleDraw d r)) (kernel-unit plan group d sound few is)
+      (product m0 m1) (drop (drawnLength plan + drawnLength plan) (tripleDraw d r)) (kernel-unit plan group d sound few is)
       (product-below m0 m1)
       (element-product m0 m1
-      ∙ ap₂ _⊗_ (triple-a (rowLength plan) fl a b (tripleDraw d r) long (row-some plan) unit)
-      (triple-b (rowLength plan) fl a b (tripleDraw d r) long (row-some plan) unit)
+      ∙ ap₂ _⊗_ (triple-a (drawnLength plan) fl a b (tripleDraw d r) long (row-some plan) unit)
+      (triple-b (drawnLength plan) fl a b (tripleDraw d r) long (row-some plan) unit)
       ∙ solve 𝓡 (element l0 ∷ element l1 ∷ a ∷ b ∷ []) ((A :+ C) :* (B :+ D)) (A :* B :+ (A :* D :+ B :* C :+ C :* D)) refl
       ∙ ap (λ (z : Element). z ⊕ productGap plan Δ d r) (sym (element-product l0 l1)))
     where
@@ -227,10 +225,10 @@ module _ (plan : Plan) (group : List ℕ) (u u' : Secrets) (Δ : ℕ → Gaps) (
       l0 = getD (tripleDraw d r) 0 0
 
       l1 : ℕ
-      l1 = getD (tripleDraw d r) (rowLength plan) 0
+      l1 = getD (tripleDraw d r) (drawnLength plan) 0
 
       m0 : ℕ
-      m0 = getD (movedTriple (rowLength plan) fl a b (tripleDraw d r)) 0 0
+      m0 = getD (movedTriple (drawnLength plan) fl a b (tripleDraw d r)) 0 0
 
       m1 : ℕ
-      m1 = getD (movedTriple (rowLength plan) fl a b (tripleDraw d r)) (rowLength plan) 0
+      m1 = getD (movedTriple (drawnLength plan) fl a b (tripleDraw d r)) (drawnLength plan) 0

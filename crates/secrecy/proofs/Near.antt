@@ -16,6 +16,8 @@ use Rattle.field.proofs.Solver.{solve}
 use Rattle.field.proofs.Elements.{𝓡, element-injective, element-zero}
 use Rattle.poly.specs.Counting.{All}
 use Rattle.poly.proofs.Lists.{all-zip}
+use Rattle.shape.specs.declared.Shape.{Shape}
+use Rattle.shape.specs.Lengths.{fLength, vLength, sumsAt}
 use Rattle.session.specs.Rows.{combined, plusSums}
 use Rattle.vectors.specs.Vector.{Vector, plusTimes, raised, number, numbers, checkOf, sumAt, rowOf}
 use Rattle.vectors.proofs.Linear.{valueAt-plusTimes, sumAt-plusTimes, row-plusTimes, number-plusTimes, row-raised}
@@ -53,14 +55,14 @@ mask-number a a' l l' e =
 
 -- ---- near
 
--- n posts with the check points pts, k coefficients, and the kernel K
-module _ (n k : ℕ) (pts : ℕ → ℕ) (K : Vector) where
+-- posts with the check points pts, and the kernel K
+module _ (g : Shape) (pts : ℕ → ℕ) (K : Vector) where
   row : ℕ → Vector → List ℕ
-  row i S = rowOf k n i (element (pts i)) S
+  row i S = rowOf g i (element (pts i)) S
 
   abbrev pub Near : Vector → Vector → Type 0
   Near S S' =
-      (i : ℕ) → 1 ≤ i → i ≤ n → rowOf k n i (element (pts i)) S' ≡ rowOf k n i (element (pts i)) (plusTimes (gap S S') S K)
+      (i : ℕ) → 1 ≤ i → i ≤ g .n → rowOf g i (element (pts i)) S' ≡ rowOf g i (element (pts i)) (plusTimes (gap S S') S K)
 
   -- a vector that is the same in both runs
   pub near-self : (S : Vector) → Near S S
@@ -70,9 +72,9 @@ module _ (n k : ℕ) (pts : ℕ → ℕ) (K : Vector) where
   pub near-plusTimes : (s : ℕ) (S S' Z Z' : Vector) → Near S S' → Near Z Z'
       → Near (plusTimes (element s) S Z) (plusTimes (element s) S' Z')
   unfolding row Same
-  near-plusTimes s S S' Z Z' h g i lo hi =
-      row-plusTimes k n i s (element (pts i)) S' Z' ∙ ap₂ (combined s) (h i lo hi) (g i lo hi)
-      ∙ sym (row-plusTimes k n i s (element (pts i)) (plusTimes (gap S S') S K) (plusTimes (gap Z Z') Z K))
+  near-plusTimes s S S' Z Z' h h' i lo hi =
+      row-plusTimes g i s (element (pts i)) S' Z' ∙ ap₂ (combined s) (h i lo hi) (h' i lo hi)
+      ∙ sym (row-plusTimes g i s (element (pts i)) (plusTimes (gap S S') S K) (plusTimes (gap Z Z') Z K))
       ∙ ap (row i)
       (λ t. record {
         c = mix (S .c) (Z .c) (K .c) t;
@@ -98,8 +100,8 @@ module _ (n k : ℕ) (pts : ℕ → ℕ) (K : Vector) where
   pub near-raised : (c : ℕ) (S S' : Vector) → Near S S' → Near (raised (element c) S) (raised (element c) S')
   unfolding row Same
   near-raised c S S' h i lo hi =
-      row-raised k n i c (element (pts i)) S' ∙ ap (plusSums (k + n) c) (h i lo hi)
-      ∙ sym (row-raised k n i c (element (pts i)) (plusTimes (gap S S') S K))
+      row-raised g i c (element (pts i)) S' ∙ ap (plusSums (sumsAt g) c) (h i lo hi)
+      ∙ sym (row-raised g i c (element (pts i)) (plusTimes (gap S S') S K))
       ∙ ap (row i) (λ t. record { c = mix t; f = λ m. S .f m ⊕ gaps t ⊗ K .f m; v = λ j m. S .v j m ⊕ gaps t ⊗ K .v j m })
     where
       whole : Element
@@ -115,8 +117,8 @@ module _ (n k : ℕ) (pts : ℕ → ℕ) (K : Vector) where
           ∙ ap (λ (z : Element). S .c ⊕ element c ⊕ z ⊗ K .c) gaps
 
   -- with one number, every post has one row
-  pub near-same : (S S' : Vector) → Near S S' → number S ≡ number S' → (i : ℕ) → 1 ≤ i → i ≤ n
-      → rowOf k n i (element (pts i)) S ≡ rowOf k n i (element (pts i)) S'
+  pub near-same : (S S' : Vector) → Near S S' → number S ≡ number S' → (i : ℕ) → 1 ≤ i → i ≤ g .n
+      → rowOf g i (element (pts i)) S ≡ rowOf g i (element (pts i)) S'
   unfolding row
   near-same S S' h e i lo hi =
       sym
@@ -126,27 +128,27 @@ module _ (n k : ℕ) (pts : ℕ → ℕ) (K : Vector) where
 -- ---- the group
 
 -- Nothing of K is in the row of post i, whose check point is w.
-pub record Unseen (k i : ℕ) (w : Element) (K : Vector) : Type 0 where
+pub record Unseen (g : Shape) (i : ℕ) (w : Element) (K : Vector) : Type 0 where
   pub own : (m : ℕ) → K .v i m ≡ 0ᴱ
-  pub checks : (j : ℕ) → checkOf k w K j ≡ 0ᴱ
-  pub sums : (j : ℕ) → sumAt k K j ≡ 0ᴱ
+  pub checks : (j : ℕ) → checkOf g w K j ≡ 0ᴱ
+  pub sums : (j : ℕ) → sumAt g K j ≡ 0ᴱ
 
 -- What is not in a row cannot change it.
-pub blind : (k n i : ℕ) (w δ : Element) (S K : Vector) → Unseen k i w K → rowOf k n i w (plusTimes δ S K) ≡ rowOf k n i w S
+pub blind : (g : Shape) (i : ℕ) (w δ : Element) (S K : Vector) → Unseen g i w K → rowOf g i w (plusTimes δ S K) ≡ rowOf g i w S
 unfolding rowOf
-blind k n i w δ S K u =
-    ap₂ _++_ (ap (numbers k) (fun-ext (λ m. gone (S .v i m) (K .v i m) (u .own m))))
+blind g i w δ S K u =
+    ap₂ _++_ (ap (numbers (vLength g)) (fun-ext (λ m. gone (S .v i m) (K .v i m) (u .own m))))
     (ap₂ _++_
-    (ap (numbers n) (fun-ext (λ j. valueAt-plusTimes k (S .v (suc j)) (K .v (suc j)) δ w ∙ gone _ _ (u .checks j))))
-    (ap (numbers n) (fun-ext (λ j. sumAt-plusTimes k δ S K j ∙ gone _ _ (u .sums j)))))
+    (ap (numbers (g .n)) (fun-ext (λ j. valueAt-plusTimes (vLength g) (S .v (suc j)) (K .v (suc j)) δ w ∙ gone _ _ (u .checks j))))
+    (ap (numbers (g .n)) (fun-ext (λ j. sumAt-plusTimes g δ S K j ∙ gone _ _ (u .sums j)))))
   where
     gone : (a e : Element) → e ≡ 0ᴱ → a ⊕ δ ⊗ e ≡ a
     gone a e z = ap (λ (x : Element). a ⊕ δ ⊗ x) z ∙ ap (λ (x : Element). a ⊕ x) (mul-zero 𝓡 δ) ∙ add-zero a
 
 -- near vectors have one row at a post that sees nothing of the kernel
-pub near-blind : (n k : ℕ) (pts : ℕ → ℕ) (K S S' : Vector) → Near n k pts K S S' → (i : ℕ) → 1 ≤ i → i ≤ n
-    → Unseen k i (element (pts i)) K → rowOf k n i (element (pts i)) S ≡ rowOf k n i (element (pts i)) S'
-near-blind n k pts K S S' h i lo hi u = sym (h i lo hi ∙ blind k n i (element (pts i)) (gap S S') S K u)
+pub near-blind : (g : Shape) (pts : ℕ → ℕ) (K S S' : Vector) → Near g pts K S S' → (i : ℕ) → 1 ≤ i → i ≤ g .n
+    → Unseen g i (element (pts i)) K → rowOf g i (element (pts i)) S ≡ rowOf g i (element (pts i)) S'
+near-blind g pts K S S' h i lo hi u = sym (h i lo hi ∙ blind g i (element (pts i)) (gap S S') S K u)
 
 all-mapped : (P : Element → Type 0) (e : ℕ → Element) (l : List ℕ) → All P (map e l) → All (λ i. P (e i)) l
 all-mapped P e [] a = tt
@@ -171,12 +173,12 @@ module _ (pts : ℕ → ℕ) (group : List ℕ) where
   abbrev pub groupKernel : Vector
   groupKernel = kernel groupPosts groupPoints
 
-  pub kernel-unseen : (t : ℕ) → length group ≤ t → All (λ w. w ≢ 0ᴱ) groupPoints
-      → All (λ i. Unseen (suc t) i (element (pts i)) groupKernel) group
-  kernel-unseen t few nonzero =
+  pub kernel-unseen : (g : Shape) → length group < fLength g → length group < vLength g → All (λ w. w ≢ 0ᴱ) groupPoints
+      → All (λ i. Unseen g i (element (pts i)) groupKernel) group
+  kernel-unseen g few few' nonzero =
       all-zip (λ i e c. record { own = kernel-own groupPosts groupPoints i e; checks = c; sums = sums }) group
       (all-mapped _ element group (L-at groupPosts groupPoints))
-      (all-mapped _ (λ i. element (pts i)) group (kernel-checks groupPosts groupPoints t (omega (arith, length-map group (λ i. element (pts i))))))
+      (all-mapped _ (λ i. element (pts i)) group (kernel-checks groupPosts groupPoints g (omega (arith, length-map group (λ i. element (pts i))))))
     where
-      sums : (j : ℕ) → sumAt (suc t) groupKernel j ≡ 0ᴱ
-      sums = kernel-sums groupPosts groupPoints t (omega (arith, length-map group element)) nonzero
+      sums : (j : ℕ) → sumAt g groupKernel j ≡ 0ᴱ
+      sums = kernel-sums groupPosts groupPoints g (omega (arith, length-map group element)) nonzero

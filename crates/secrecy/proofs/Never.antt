@@ -8,12 +8,12 @@ use lib.ListN.{length}
 use Rattle.poly.specs.Counting.{All}
 use Rattle.refusal.specs.Refusal.{Test, first}
 use Rattle.session.specs.declared.Session.{Session}
-use Rattle.sharing.specs.Load.{loadRowTests, loadRowRefusal, loadTripleTests, loadTripleRefusal}
-use Rattle.sharing.specs.Deal.{dealTests, dealRefusal}
-use Rattle.sharing.specs.Message.{messageTests, messageRefusal}
-use Rattle.sharing.specs.Linear.{linearTests, linearRefusal}
-use Rattle.product.specs.Masks.{masksTests, masksRefusal}
-use Rattle.product.specs.Multiply.{multiplyTests, multiplyRefusal}
+use Rattle.load.specs.Load.{loadRowTests, loadRowRefusal, loadTripleTests, loadTripleRefusal}
+use Rattle.deal.specs.Deal.{dealTests, dealRefusal}
+use Rattle.message.specs.Message.{messageTests, messageRefusal}
+use Rattle.linear.specs.Linear.{linearTests, linearRefusal}
+use Rattle.product_masks.specs.Masks.{masksTests, masksRefusal}
+use Rattle.multiply.specs.Multiply.{multiplyTests, multiplyRefusal}
 use Rattle.vectors.specs.Vector.{Vector}
 use Rattle.runs.specs.Outline.{loadRow, loadTriple, deal, message, opening, linear, masks, collect, multiply, relationMasks, relationFinish, moves}
 use Rattle.runs.specs.Calls.{Post, newPost, after}

@@ -7,6 +7,7 @@ use mathlib.Core.List.{List, [], _∷_, _++_, map, append-nil}
 use native.Mathlib.Omega.{arith}
 use Rattle.poly.specs.Counting.{All}
 use Rattle.poly.proofs.Lists.{all-map}
+use Rattle.shape.specs.Marks.{held}
 use Rattle.vectors.specs.Vector.{Vector}
 use Rattle.runs.specs.Outline.{Sending, itsOpening, itsMasks, acts, sends}
 use Rattle.runs.specs.Calls.{Post, Call, perform, after, broadcast, openingLine, masksLine, Among}
@@ -154,7 +155,7 @@ module _ (T : Two) (m : Moments) (R : Pair T m) where
     al' = allowed-at (runTwo T) (momentTwo m) (R .two) c z' 1 (omega arith) one-post
 
     -- a row that was opened keeps its place in both books
-    places : (r : ℕ) → markOf M r ≡ 2 → b .place r ≡ b' .place r → entered (T .u) c b .place r ≡ entered (T .u') c b' .place r
+    places : (r : ℕ) → markOf M r ≡ held → b .place r ≡ b' .place r → entered (T .u) c b .place r ≡ entered (T .u') c b' .place r
     places r two e =
         place-stays (runOne T) (momentOne m) (R .one) c al r two ∙ e
         ∙ sym (place-stays (runTwo T) (momentTwo m) (R .two) c al' r two)

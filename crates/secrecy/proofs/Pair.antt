@@ -3,7 +3,7 @@ use Prim.Native.Nat.{ℕ, _+_, _≤_, _<_}
 use mathlib.Core.Path.{_≡_, refl, sym, _∙_, ap, ap₂}
 use mathlib.Core.Bool.{Bool, true, false}
 use mathlib.Core.Logic.{_≢_, _⊎_, inl, inr}
-use mathlib.Core.List.{List, [], _∷_, _++_}
+use mathlib.Core.List.{List, [], _∷_}
 use native.Mathlib.Decide.{ℕ-discrete}
 use native.Mathlib.Omega.{arith}
 use Rattle.field.specs.Modulus.{p}
@@ -11,6 +11,9 @@ use Rattle.field.specs.Algebra.{CommutativeRing}
 use Rattle.field.specs.Element.{Element, element}
 use Rattle.field.proofs.Elements.{𝓡, element-path}
 use Rattle.poly.specs.Counting.{All}
+use Rattle.shape.specs.Bounds.{rowCount}
+use Rattle.shape.specs.Marks.{empty, held, unused}
+use Rattle.shape.specs.Lengths.{vLength}
 use Rattle.refusal.specs.Refusal.{_when_, first}
 use Rattle.session.specs.declared.Session.{Session}
 use Rattle.session.specs.Rows.{rowAt}
@@ -18,7 +21,7 @@ use Rattle.opening.specs.Walking.{blockCoefficients, tooFew, disagree}
 use Rattle.opening.specs.Opening.{openRefusal}
 use Rattle.opening.proofs.Passed.{OpenChecked, open-walks}
 use Rattle.vectors.specs.Vector.{Vector, number, rowOf}
-use Rattle.runs.specs.Draws.{Plan, Draw, IsDraw, Sound, IsRaw, pointOf}
+use Rattle.runs.specs.Draws.{Plan, Draw, IsDraw, Sound, IsRaw, pointOf, planShape}
 use Rattle.runs.specs.Outline.{Act, aRecord, acts}
 use Rattle.runs.specs.Calls.{Proper, Post, openingLine, Among}
 use Rattle.runs.proofs.Marks.{Marks, Sized, markOf, rememberedA, rememberedB, sessionAt, less, maskVectorA, maskVectorB, Masking, none, of, masking, Masked}
@@ -84,12 +87,12 @@ module _ (T : Two) where
   pub record Pair (m : Moments) : Type 0 where
     pub one : State (runOne T) (momentOne m)
     pub two : State (runTwo T) (momentTwo m)
-    pub near : (r : ℕ) → r < 96 → markOf (m .marks) r ≢ 0
-        → Near (T .plan .n) (T .plan .t + 1) (pointOf (T .d)) (T .K) (m .vec r) (m .vec' r)
+    pub near : (r : ℕ) → r < rowCount → markOf (m .marks) r ≢ empty
+        → Near (planShape (T .plan)) (pointOf (T .d)) (T .K) (m .vec r) (m .vec' r)
     pub group-same : All (λ i. m .posts i ≡ m .posts' i) (T .group)
     pub agreed : (r j : ℕ) (xs : List ℕ) → AnOpening (runOne T) r j xs → Among (openingLine r j xs) (m .lines)
         → m .book .place r ≡ m .book' .place r
-    pub waiting : (r : ℕ) → r < 96 → Masked (markOf (m .marks) r)
+    pub waiting : (r : ℕ) → r < rowCount → Masked (markOf (m .marks) r)
         → (apart (m .book .factorA r) (m .book' .factorA r) ≡ T .Δ r .factor-a)
         × (apart (m .book .factorB r) (m .book' .factorB r) ≡ T .Δ r .factor-b)
 
@@ -98,27 +101,27 @@ module _ (T : Two) where
     pub sized : Sized M
     pub one : Facts (T .plan) (T .d) (Held b) (Waits b) M vec
     pub two : Facts (T .plan) (T .d') (Held b') (Waits b') M vec'
-    pub near : (r : ℕ) → r < 96 → markOf M r ≢ 0 → Near (T .plan .n) (T .plan .t + 1) (pointOf (T .d)) (T .K) (vec r) (vec' r)
-    pub waiting : (r : ℕ) → r < 96 → Masked (markOf M r)
+    pub near : (r : ℕ) → r < rowCount → markOf M r ≢ empty → Near (planShape (T .plan)) (pointOf (T .d)) (T .K) (vec r) (vec' r)
+    pub waiting : (r : ℕ) → r < rowCount → Masked (markOf M r)
         → (apart (b .factorA r) (b' .factorA r) ≡ T .Δ r .factor-a) × (apart (b .factorB r) (b' .factorB r) ≡ T .Δ r .factor-b)
 
   -- ---- numbers in the two runs
 
   module _ (M : Marks) (vec vec' : ℕ → Vector) (b b' : Book) (K : Core M vec vec' b b') where
-    held-one : (r : ℕ) → r < 96 → markOf M r ≡ 2 → number (vec r) ≡ element (b .place r)
+    held-one : (r : ℕ) → r < rowCount → markOf M r ≡ held → number (vec r) ≡ element (b .place r)
     held-one r lr two = K .one r lr .held two
 
-    held-two : (r : ℕ) → r < 96 → markOf M r ≡ 2 → number (vec' r) ≡ element (b' .place r)
+    held-two : (r : ℕ) → r < rowCount → markOf M r ≡ held → number (vec' r) ≡ element (b' .place r)
     held-two r lr two = K .two r lr .held two
 
     -- a held row with one place in both books has one number
-    core-place : (r : ℕ) → r < 96 → markOf M r ≡ 2 → b .place r ≡ b' .place r → number (vec r) ≡ number (vec' r)
+    core-place : (r : ℕ) → r < rowCount → markOf M r ≡ held → b .place r ≡ b' .place r → number (vec r) ≡ number (vec' r)
     core-place r lr two e = held-one r lr two ∙ ap element e ∙ sym (held-two r lr two)
 
-    held-gap : (r : ℕ) → r < 96 → markOf M r ≡ 2 → gap (vec r) (vec' r) ≡ apart (b .place r) (b' .place r)
+    held-gap : (r : ℕ) → r < rowCount → markOf M r ≡ held → gap (vec r) (vec' r) ≡ apart (b .place r) (b' .place r)
     held-gap r lr two = ap₂ (λ (x y : Element). x ⊕ neg y) (held-two r lr two) (held-one r lr two)
 
-    triple-gap : (r : ℕ) → r < 96 → (markOf M r ≡ 3) ⊎ Masked (markOf M r)
+    triple-gap : (r : ℕ) → r < rowCount → (markOf M r ≡ unused) ⊎ Masked (markOf M r)
         → (gap (vec r) (vec' r) ≡ T .Δ r .factor-a) × (gap (vec (r + 1)) (vec' (r + 1)) ≡ T .Δ r .factor-b)
     triple-gap r lr m =
         let x = K .one r lr .triple m in
@@ -126,7 +129,7 @@ module _ (T : Two) where
         (ap₂ gap (x .is-a) (y .is-a) ∙ T .link .gap-a r lr (x .drawn), ap₂ gap (x .is-b) (y .is-b) ∙ T .link .gap-b r lr (x .drawn))
 
     -- the masks have one number in both runs
-    core-masks : (r x y : ℕ) → r < 96 → (markOf M r ≡ 3) ⊎ Masked (markOf M r) → x < 96 → markOf M x ≡ 2 → y < 96 → markOf M y ≡ 2
+    core-masks : (r x y : ℕ) → r < rowCount → (markOf M r ≡ unused) ⊎ Masked (markOf M r) → x < rowCount → markOf M x ≡ held → y < rowCount → markOf M y ≡ held
         → apart (b .place x) (b' .place x) ≡ T .Δ r .factor-a → apart (b .place y) (b' .place y) ≡ T .Δ r .factor-b
         → (number (less (vec x) (vec r)) ≡ number (less (vec' x) (vec' r)))
         × (number (less (vec y) (vec (r + 1))) ≡ number (less (vec' y) (vec' (r + 1))))
@@ -136,7 +139,7 @@ module _ (T : Two) where
           mask-number (vec y) (vec' y) (vec (r + 1)) (vec' (r + 1)) (held-gap y ly hy ∙ eb ∙ sym (g .1)),
         )
 
-    pub core-wait : (r : ℕ) → Masked (markOf M r) → r < 96
+    pub core-wait : (r : ℕ) → Masked (markOf M r) → r < rowCount
         → (number (maskVectorA M vec r) ≡ number (maskVectorA M vec' r)) × (number (maskVectorB M vec r) ≡ number (maskVectorB M vec' r))
     core-wait r five lr =
         let w = K .one r lr .waiting five in
@@ -160,16 +163,16 @@ module _ (T : Two) where
     pub core : Core (m .marks) (m .vec) (m .vec') (m .book) (m .book')
     core = record { sized = R .one .sized; one = R .one .facts; two = R .two .facts; near = R .near; waiting = R .waiting }
 
-    pub place-number : (r : ℕ) → r < 96 → markOf M r ≡ 2 → b .place r ≡ b' .place r → number (vec r) ≡ number (vec' r)
+    pub place-number : (r : ℕ) → r < rowCount → markOf M r ≡ held → b .place r ≡ b' .place r → number (vec r) ≡ number (vec' r)
     place-number = core-place M vec vec' b b' core
 
-    pub masks-number : (r x y : ℕ) → r < 96 → (markOf M r ≡ 3) ⊎ Masked (markOf M r) → x < 96 → markOf M x ≡ 2 → y < 96 → markOf M y ≡ 2
+    pub masks-number : (r x y : ℕ) → r < rowCount → (markOf M r ≡ unused) ⊎ Masked (markOf M r) → x < rowCount → markOf M x ≡ held → y < rowCount → markOf M y ≡ held
         → apart (b .place x) (b' .place x) ≡ T .Δ r .factor-a → apart (b .place y) (b' .place y) ≡ T .Δ r .factor-b
         → (number (less (vec x) (vec r)) ≡ number (less (vec' x) (vec' r)))
         × (number (less (vec y) (vec (r + 1))) ≡ number (less (vec' y) (vec' (r + 1))))
     masks-number = core-masks M vec vec' b b' core
 
-    pub wait-numbers : (r : ℕ) → Masked (markOf M r) → r < 96
+    pub wait-numbers : (r : ℕ) → Masked (markOf M r) → r < rowCount
         → (number (maskVectorA M vec r) ≡ number (maskVectorA M vec' r)) × (number (maskVectorB M vec r) ≡ number (maskVectorB M vec' r))
     wait-numbers = core-wait M vec vec' b b' core
 
@@ -197,7 +200,7 @@ module _ (T : Two) where
           let g = R .two .posts i lo hi .holds in
           record {
             long = g .long;
-            rows = λ r lr ne. g .rows r lr ne ∙ ap (λ (f : ℕ → ℕ). rowOf (T .plan .t + 1) (T .plan .n) i (element (f i)) (vec' r)) (T .link .points);
+            rows = λ r lr ne. g .rows r lr ne ∙ ap (λ (f : ℕ → ℕ). rowOf (planShape (T .plan)) i (element (f i)) (vec' r)) (T .link .points);
           }
 
       -- an opening that comes to the walk finds one number in both runs, or nobody's polynomial but the own
@@ -222,7 +225,7 @@ module _ (T : Two) where
             proper : Proper s (blocks i lines)
             proper = record { long = f .placed .record-long; low = f .record-low }
 
-            message : AnOpening (runOne T) r j (blockCoefficients (T .plan .t + 1) (blocks i lines) j)
+            message : AnOpening (runOne T) r j (blockCoefficients (vLength (planShape (T .plan))) (blocks i lines) j)
             message =
                 record {
                   row = f .placed .row-in;

@@ -6,13 +6,15 @@ use mathlib.Core.List.{List, [], _∷_, _++_, append-assoc}
 use native.Mathlib.Omega.{arith}
 use Rattle.poly.specs.Counting.{All}
 use Rattle.poly.proofs.Lists.{all-map, all-zip}
+use Rattle.shape.specs.Bounds.{rowCount}
+use Rattle.shape.specs.Marks.{unused, masked}
 use Rattle.refusal.specs.Refusal.{Test, _when_, first}
 use Rattle.refusal.specs.Conditions.{beyond, anyBeyond}
 use Rattle.session.specs.declared.Session.{Session}
 use Rattle.session.specs.Rows.{rowAt}
 use Rattle.opening.specs.Walking.{tooFew, disagree}
-use Rattle.product.specs.Masks.{factorNumbers}
-use Rattle.product.proofs.Passed.{Factored, factorTests}
+use Rattle.product_masks.specs.Masks.{factorNumbers}
+use Rattle.product_masks.proofs.Passed.{Factored, factorTests}
 use Rattle.terms.specs.declared.Term.{Term}
 use Rattle.terms.specs.declared.Terms.{Terms}
 use Rattle.terms.specs.Listed.{plain, productsOf, collected, termsOf, factorsOf}
@@ -52,12 +54,12 @@ module _ (T : Twin) where
 
   -- ---- masks
 
-  mask-tests : (t : Term) (b : Bool) → plain t ≡ b → (plain t ≡ false → Factored s (t .row) (t .second) (t .first) 3)
+  mask-tests : (t : Term) (b : Bool) → plain t ≡ b → (plain t ≡ false → Factored s (t .row) (t .second) (t .first) unused)
       → _≡_ {A = List Test} (8 when beyond (t .coefficient) ∷ byKind b [] (factorNumbers W l (t .row) (t .second) (t .first)))
       (8 when beyond (t .coefficient) ∷ byKind b [] (factorNumbers W l' (t .row) (t .second) (t .first)))
   mask-tests t true is f = refl
   mask-tests t false is f =
-      let e = numbers-same T (t .row) (t .second) (t .first) 2 (f is) in
+      let e = numbers-same T (t .row) (t .second) (t .first) (f is) in
       λ j. 8 when beyond (t .coefficient) ∷ factorTests (e .a-same j) (e .b-same j) (e .first-same j) (e .second-same j)
 
   pub relation-masks-same : (ts : List Term) (lent : List ℕ) → relationMasksRefusal s l (collected ts) lent ≡ relationMasksRefusal s' l' (collected ts) lent
@@ -79,28 +81,28 @@ module _ (T : Twin) where
   -- ---- a finish
 
   term-tests : (t : Term) (b : Bool) → plain t ≡ b → anyBeyond (rowAt W l (t .row)) ≡ anyBeyond (rowAt W l' (t .row))
-      → (plain t ≡ false → Factored s (t .row) (t .second) (t .first) 5)
+      → (plain t ≡ false → Factored s (t .row) (t .second) (t .first) masked)
       → _≡_ {A = List Test} (8 when beyond (t .coefficient) ∷ byKind b (8 when anyBeyond (rowAt W l (t .row)) ∷ []) (factorNumbers W l (t .row) (t .second) (t .first) ++ (8 when anyBeyond (rowAt W l (t .first + 2)) ∷ [])))
       (8 when beyond (t .coefficient) ∷ byKind b (8 when anyBeyond (rowAt W l' (t .row)) ∷ []) (factorNumbers W l' (t .row) (t .second) (t .first) ++ (8 when anyBeyond (rowAt W l' (t .first + 2)) ∷ [])))
   term-tests t true is e f = ap (λ (b : Bool). 8 when beyond (t .coefficient) ∷ 8 when b ∷ []) e
   term-tests t false is e' f =
-      let e = numbers-same T (t .row) (t .second) (t .first) 4 (f is) in
-      let third = elements-same T (t .first + 2) 3 (omega (arith, f is .triple-in)) (f is .third-mark) in
+      let e = numbers-same T (t .row) (t .second) (t .first) (f is) in
+      let third = elements-same T (t .first + 2) (omega (arith, f is .triple-in)) (f is .third-mark) in
       λ j. 8 when beyond (t .coefficient) ∷ (factorTests (e .a-same j) (e .b-same j) (e .first-same j) (e .second-same j) ++ (8 when third j ∷ []))
 
   -- the masks have one number in both runs
   abbrev pub OneNumber : Type 0
-  OneNumber = (r : ℕ) → markOf M r ≡ 5 → r < 96
+  OneNumber = (r : ℕ) → markOf M r ≡ masked → r < rowCount
       → (number (maskVectorA M vec r) ≡ number (maskVectorA M vec' r)) × (number (maskVectorB M vec r) ≡ number (maskVectorB M vec' r))
 
-  masks-one : OneNumber → (t : Term) → Factored s (t .row) (t .second) (t .first) 5
+  masks-one : OneNumber → (t : Term) → Factored s (t .row) (t .second) (t .first) masked
       → (rememberedA M (t .first) ≡ t .row) × (rememberedB M (t .first) ≡ t .second)
       → (termMaskA s l t ≡ termMaskA s l' t) × (termMaskB s l t ≡ termMaskB s l' t)
   masks-one eq t f e =
       let w = eq (t .first) (f .first-mark) (omega (arith, f .triple-in)) in (
-        mask-same T (t .row) (t .first) 4 (f .a-in) (f .a-held) (omega (arith, f .triple-in)) (f .first-mark)
+        mask-same T (t .row) (t .first) (f .a-in) (f .a-held) (omega (arith, f .triple-in)) (f .first-mark)
             (subst (λ (a : ℕ). number (less (vec a) (vec (t .first))) ≡ number (less (vec' a) (vec' (t .first)))) (e .0) (w .0)),
-        mask-same T (t .second) (t .first + 1) 3 (f .b-in) (f .b-held) (omega (arith, f .triple-in)) (f .second-mark)
+        mask-same T (t .second) (t .first + 1) (f .b-in) (f .b-held) (omega (arith, f .triple-in)) (f .second-mark)
             (subst (λ (b : ℕ). number (less (vec b) (vec (t .first + 1))) ≡ number (less (vec' b) (vec' (t .first + 1)))) (e .1) (w .1)),
       )
 
@@ -139,7 +141,7 @@ module _ (T : Twin) where
           (ap₂ _++_
           (each-same (λ k. termNumberTests W l) (λ k. termNumberTests W l') 0 (termsOf (collected ts))
           (subst (All (λ t. (k : ℕ) → termNumberTests W l t ≡ termNumberTests W l' t)) (sym (terms-again ts (k .few)))
-          (all-zip (λ t h f k. term-tests t (plain t) refl (elements-same T (t .row) 1 (h .0) (h .1)) f) ts (k .terms-held) (products-back _ ts (k .factors)))))
+          (all-zip (λ t h f k. term-tests t (plain t) refl (elements-same T (t .row) (h .0) (h .1)) f) ts (k .terms-held) (products-back _ ts (k .factors)))))
           (records-any blocks 0 (collected ts .products)))
           (ap₂ _++_
           (each-same (fewTests s l blocks) (fewTests s l' blocks) 0 (factorsOf (collected ts))

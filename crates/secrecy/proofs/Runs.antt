@@ -10,8 +10,10 @@ use borrow.Author.Tests.{eq-eqb, ne-eqb}
 use lib.ListN.{getD, set}
 use lib.Seq.{getD-set-same}
 use Rattle.poly.specs.Counting.{All}
+use Rattle.shape.specs.Bounds.{rowCount}
+use Rattle.shape.specs.Marks.{masked}
 use Rattle.refusal.specs.Refusal.{outcome}
-use Rattle.factory.specs.Draw.{eachFrom}
+use Rattle.parts.specs.Draw.{eachFrom}
 use Rattle.vectors.specs.Vector.{Vector}
 use Rattle.runs.specs.Outline.{Act, acts, sends}
 use Rattle.runs.specs.Calls.{Post, Call, Performed, after}
@@ -68,11 +70,11 @@ module _ (T : Two) where
   other-by (of x y r') M N z al b b' r np rest = ap (λ (t : Bool). cond t (factorsApart b b' x y) rest) (ne-eqb r r' ne)
     where
       ne : r ≢ r'
-      ne e = np (inl (inl (ap (λ (w : ℕ). getD (set (N .marks) r' 5) w 0) e ∙ getD-set-same (N .marks) r' 5 0 (omega (arith, al .r-low, z .marks)))))
+      ne e = np (inl (inl (ap (λ (w : ℕ). getD (set (N .marks) r' masked) w 0) e ∙ getD-set-same (N .marks) r' masked 0 (omega (arith, al .r-low, z .marks)))))
 
   -- the masks made now are those that were reckoned with
   fit-by : (m : Masking) (M : Marks) → Maskable m M → (b b' : Book) (rest : ℕ → Gaps)
-      → ((r : ℕ) → r < 96 → (Past M r → ⊥) → reckonedBy m b b' r (rest r) ≡ T .Δ r) → FitBy T m b b'
+      → ((r : ℕ) → r < rowCount → (Past M r → ⊥) → reckonedBy m b b' r (rest r) ≡ T .Δ r) → FitBy T m b b'
   fit-by none M al b b' rest h = tt
   fit-by (of x y r') M al b b' rest h = (ap (λ (g : Gaps). g .factor-a) now, ap (λ (g : Gaps). g .factor-b) now)
     where
@@ -93,7 +95,7 @@ module _ (T : Two) where
       ∙ other-all todo (marksBy a M) (enteredBy (T .u) a b) (enteredBy (T .u') a b') (sized-by a M z) (al .1) r np rest
 
   fit-all : (todo : List Act) (M : Marks) (b b' : Book) → Sized M → AllowedAll todo M → (rest : ℕ → Gaps)
-      → ((r : ℕ) → r < 96 → (Past M r → ⊥) → reckonedAll (T .u) (T .u') todo b b' r (rest r) ≡ T .Δ r) → FitAll T todo b b'
+      → ((r : ℕ) → r < rowCount → (Past M r → ⊥) → reckonedAll (T .u) (T .u') todo b b' r (rest r) ≡ T .Δ r) → FitAll T todo b b'
   fit-all [] M b b' z al rest h = tt
   fit-all (a ∷ todo) M b b' z al rest h = (
     fit-by (masking a) M (al .0 .1) b b' (λ r. reckonedAll (T .u) (T .u') todo (enteredBy (T .u) a b) (enteredBy (T .u') a b') r (rest r)) h,
@@ -106,19 +108,19 @@ module _ (T : Two) where
   module _ (m : Moments) (R : Pair T m) where
     open Moments m using (marks as M, vec, vec', book as b, book' as b', lines, posts as q, posts' as q')
 
-    here-other : (c : Step) → Allowed (acts c) (sends c) M → (r : ℕ) → r < 96 → (Past (marksAll (acts c) M) r → ⊥) → (rest : Gaps)
+    here-other : (c : Step) → Allowed (acts c) (sends c) M → (r : ℕ) → r < rowCount → (Past (marksAll (acts c) M) r → ⊥) → (rest : Gaps)
         → reckonedHere (T .u) (T .u') c 0 b b' r rest ≡ rest
     here-other c al r lr np rest = other-all (acts c) M b b' (R .one .sized) (al .moving) r np rest
 
     fit-of : (c : Step) → Allowed (acts c) (sends c) M → (rest : ℕ → Gaps)
-        → ((r : ℕ) → r < 96 → (Past M r → ⊥) → reckonedHere (T .u) (T .u') c 0 b b' r (rest r) ≡ T .Δ r) → Fit T m R c
+        → ((r : ℕ) → r < rowCount → (Past M r → ⊥) → reckonedHere (T .u) (T .u') c 0 b b' r (rest r) ≡ T .Δ r) → Fit T m R c
     fit-of c al rest h = fit-all (acts c) M b b' (R .one .sized) (al .moving) rest h
 
   -- ---- the whole list
 
   -- the masks to come are those that were reckoned with
   abbrev pub Foreseen : List Step → Marks → List Entry → Book → Book → Type 0
-  Foreseen cs M es b b' = (r : ℕ) → r < 96 → (Past M r → ⊥) → reckoned (T .u) (T .u') cs es b b' r ≡ T .Δ r
+  Foreseen cs M es b b' = (r : ℕ) → r < rowCount → (Past M r → ⊥) → reckoned (T .u) (T .u') cs es b b' r ≡ T .Δ r
 
   -- what the two runs show from here on
   abbrev pub shownOne : List Step → Moments → List Entry
@@ -251,7 +253,7 @@ module _ (T : Two) where
           al =
               allowed-at (runOne T) (momentOne m) (R .one) c z 1 (omega arith) (omega (arith, sizes (T .plan) (T .sound) .n-low))
 
-          now : (r : ℕ) → r < 96 → (Past (m .marks) r → ⊥)
+          now : (r : ℕ) → r < rowCount → (Past (m .marks) r → ⊥)
               → reckonedHere (T .u) (T .u') c 0 b b' r (reckoned (T .u) (T .u') cs es (entered (T .u) c b) (entered (T .u') c b') r) ≡ T .Δ r
           now r lr np =
               subst (λ (k : ℕ). reckonedHere (T .u) (T .u') c k b b' r (reckoned (T .u) (T .u') cs es (booked (T .u) c k b) (booked (T .u') c k b') r) ≡ T .Δ r) ek

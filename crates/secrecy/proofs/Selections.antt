@@ -8,10 +8,11 @@ use native.Mathlib.Decide.{ℕ-discrete}
 use native.Mathlib.Omega.{arith}
 use lib.ListN.{length, getD, replicate}
 use Rattle.poly.specs.Counting.{All, Distinct}
-use Rattle.factory.specs.Draw.{eachFrom}
+use Rattle.parts.specs.Draw.{eachFrom}
 use Rattle.runs.specs.Calls.{Among}
 use Rattle.secrecy.specs.Count.{forEach, choices}
-use Rattle.secrecy.proofs.Counting.{all-among, among-all, among-map, map-among, map-distinct}
+use Rattle.runs.proofs.Inside.{all-among, among-all}
+use Rattle.secrecy.proofs.Counting.{among-map, map-among, map-distinct}
 
 -- members of two lists in one
 module _ {A : Type 0} where

@@ -2,9 +2,12 @@
 -- by δ is undone by moving by -δ, so that the draws of two lists of secrets are matched one to one.
 use Prim.Native.Nat.{ℕ, zero, suc, _+_, _*_, _/_, _%_, _-_, _≤_, _<_}
 use mathlib.Core.Path.{_≡_, refl, sym, _∙_, ap, ap₂}
+use mathlib.Core.Bool.{Bool, cond}
 use mathlib.Core.List.{List, [], _∷_, _++_}
-use native.Mathlib.Nat.{add-zero, suc-mul, mod-eq-of-lt, div-eq-of-lt, mul-add-mod-self-right, mul-add-div-right}
+use native.Mathlib.Nat.{add-zero, mod-eq-of-lt, div-eq-of-lt, mul-add-mod-self-right, mul-add-div-right}
 use native.Mathlib.Omega.{arith}
+use borrow.Author.Tests.{lt-ltb, le-ltb}
+use lib.Dec.{ltb}
 use lib.ListN.{length, getD}
 use Rattle.field.specs.Modulus.{p}
 use Rattle.field.specs.Algebra.{CommutativeRing}
@@ -16,7 +19,7 @@ use Rattle.poly.specs.Counting.{Elements}
 use Rattle.poly.proofs.Coefficients.{ev}
 use Rattle.shape.specs.declared.Shape.{Shape}
 use Rattle.shape.specs.Lengths.{fLength, vLength, drawLength}
-use Rattle.factory.proofs.Laws.{drawn-room}
+use Rattle.parts.proofs.Laws.{drawn-room}
 use Rattle.vectors.specs.Vector.{Vector, plusTimes, number, firsts, numbers, valueAt, rowOf, vectorOf}
 use Rattle.secrecy.proofs.Near.{gap, Near}
 open CommutativeRing 𝓡 using (add as _⊕_, mul as _⊗_, neg, zero as 0ᴱ, one as 1ᴱ)
@@ -84,53 +87,56 @@ value-agree zero a b x h = refl
 value-agree (suc k) a b x h =
     ap₂ (λ (c y : Element). c ⊕ x ⊗ y) (h 0 (omega arith)) (value-agree k _ _ x (λ i l. h (suc i) (omega arith)))
 
--- A row looks at k coefficients and at n posts only.
-pub row-agree : (k n i : ℕ) (w : Element) (S Z : Vector) → 1 ≤ k → 1 ≤ i → i ≤ n → S .c ≡ Z .c
-    → ((m : ℕ) → m < k → S .f m ≡ Z .f m) → ((j m : ℕ) → j < n → m < k → S .v (suc j) m ≡ Z .v (suc j) m)
-    → rowOf k n i w S ≡ rowOf k n i w Z
+-- A row looks at so many coefficients and at n posts only.
+pub row-agree : (s : Shape) (i : ℕ) (w : Element) (S Z : Vector) → 1 ≤ i → i ≤ s .n → S .c ≡ Z .c
+    → ((m : ℕ) → m < fLength s → S .f m ≡ Z .f m) → ((j m : ℕ) → j < s .n → m < vLength s → S .v (suc j) m ≡ Z .v (suc j) m)
+    → rowOf s i w S ≡ rowOf s i w Z
 unfolding rowOf
-row-agree k n zero w S Z pos lo hi c f v = absurd (omega arith)
-row-agree k n (suc i) w S Z pos lo hi c f v =
-    ap₂ _++_ (numbers-agree k _ _ (λ m h. v i m (omega arith) h))
-    (ap₂ _++_ (numbers-agree n _ _ (λ j h. value-agree k _ _ w (λ m g. v j m h g)))
-    (numbers-agree n _ _ (λ j h. ap₂ _⊕_ (ap₂ _⊕_ (v j 0 h (omega arith)) (value-agree k _ _ (element (suc j)) f)) c)))
+row-agree s zero w S Z lo hi c f v = absurd (omega arith)
+row-agree s (suc i) w S Z lo hi c f v =
+    ap₂ _++_ (numbers-agree (vLength s) _ _ (λ m h. v i m (omega arith) h))
+    (ap₂ _++_ (numbers-agree (s .n) _ _ (λ j h. value-agree (vLength s) _ _ w (λ m g. v j m h g)))
+    (numbers-agree (s .n) _ _ (λ j h. ap₂ _⊕_ (ap₂ _⊕_ (v j 0 h (omega arith)) (value-agree (fLength s) _ _ (element (suc j)) f)) c)))
 
 -- ---- draws
 
--- K laid out as a draw is: f, then v1 to vn, k coefficients each
+-- K laid out as a draw is: f, then v1 to vn
 module _ (s : Shape) (K : Vector) where
   abbrev k : ℕ
   k = vLength s
 
-  pub flat : ℕ → Element
-  flat m = elim (m / k) [ zero ↦ K .f (m % k) | suc j ↦ K .v (suc j) (m % k) ]
+  -- the m-th number behind f
+  behind : ℕ → Element
+  behind m = K .v (suc (m / k)) (m % k)
 
-  pub flat-f : (m : ℕ) → m < k → flat m ≡ K .f m
+  pub flat : ℕ → Element
+  flat m = cond (ltb m (fLength s)) (K .f m) (behind (m - fLength s))
+
+  pub flat-f : (m : ℕ) → m < fLength s → flat m ≡ K .f m
   unfolding flat
-  flat-f m h =
-      ap₂ (λ (x y : ℕ). elim x as (λ z. Element) [ zero ↦ K .f y | suc j ↦ K .v (suc j) y ]) (div-eq-of-lt h) (mod-eq-of-lt h)
+  flat-f m h = ap (λ (b : Bool). cond b (K .f m) (behind (m - fLength s))) (lt-ltb m (fLength s) h)
 
   pub flat-v : (j m : ℕ) → m < k → flat (fLength s + (suc j - 1) * k + m) ≡ K .v (suc j) m
-  unfolding flat
+  unfolding flat behind
   flat-v j m h =
-      ap flat place
-      ∙ ap₂ (λ (x y : ℕ). elim x as (λ z. Element) [ zero ↦ K .f y | suc j ↦ K .v (suc j) y ])
-      (mul-add-div-right (omega arith) (suc j) m ∙ ap (λ (z : ℕ). suc j + z) (div-eq-of-lt h) ∙ add-zero (suc j))
-      (mul-add-mod-self-right (suc j) k m ∙ mod-eq-of-lt h)
+      ap flat (ap (λ (z : ℕ). fLength s + z * k + m) before ∙ omega arith)
+      ∙ ap (λ (b : Bool). cond b (K .f (fLength s + (j * k + m))) (behind (fLength s + (j * k + m) - fLength s)))
+      (le-ltb (fLength s + (j * k + m)) (fLength s) (omega arith))
+      ∙ ap behind (omega arith)
+      ∙ ap₂ (λ (x y : ℕ). K .v (suc x) y)
+      (mul-add-div-right (omega arith) j m ∙ ap (λ (z : ℕ). j + z) (div-eq-of-lt h) ∙ add-zero j)
+      (mul-add-mod-self-right j k m ∙ mod-eq-of-lt h)
     where
       before : suc j - 1 ≡ j
       before = omega arith
 
-      place : fLength s + (suc j - 1) * k + m ≡ suc j * k + m
-      place = ap (λ (z : ℕ). fLength s + z * k + m) before ∙ omega (arith, suc-mul j k)
-
   module _ (δ : Element) where
     -- The vector of a draw moved is the draw's vector plus δ K: every post's row ..
     pub shift-row : (i : ℕ) (w : Element) (d : List ℕ) → K .c ≡ 0ᴱ → length d ≡ drawLength s → 1 ≤ i → i ≤ s .n
-        → rowOf k (s .n) i w (vectorOf s (shift flat δ d)) ≡ rowOf k (s .n) i w (plusTimes δ (vectorOf s d) K)
+        → rowOf s i w (vectorOf s (shift flat δ d)) ≡ rowOf s i w (plusTimes δ (vectorOf s d) K)
     unfolding vectorOf Same
     shift-row i w d kc size lo hi =
-        row-agree k (s .n) i w _ _ (omega arith) lo hi
+        row-agree s i w _ _ lo hi
         (solve 𝓡 (δ ∷ []) 𝟘 (𝟘 :+ A :* 𝟘) refl ∙ ap (λ (z : Element). 0ᴱ ⊕ δ ⊗ z) (sym kc))
         (λ m h. shift-at flat δ d m (omega (arith, size)) ∙ ap (λ (z : Element). element (getD d m 0) ⊕ δ ⊗ z) (flat-f m h))
         (λ j m g h.
@@ -156,10 +162,10 @@ module _ (s : Shape) (K : Vector) where
         ∙ solve 𝓡 (number (vectorOf s d) ∷ δ ∷ []) (A :+ B :- A) B refl
 
     pub near-shift : (pts : ℕ → ℕ) (d : List ℕ) → K .c ≡ 0ᴱ → K .f 0 ≡ 1ᴱ → length d ≡ drawLength s
-        → Near (s .n) k pts K (vectorOf s d) (vectorOf s (shift flat δ d))
+        → Near s pts K (vectorOf s d) (vectorOf s (shift flat δ d))
     near-shift pts d kc one size i lo hi =
         shift-row i (element (pts i)) d kc size lo hi
-        ∙ ap (λ (z : Element). rowOf k (s .n) i (element (pts i)) (plusTimes z (vectorOf s d) K)) (sym (gap-shift d one some))
+        ∙ ap (λ (z : Element). rowOf s i (element (pts i)) (plusTimes z (vectorOf s d) K)) (sym (gap-shift d one some))
       where
         some : 1 ≤ length d
         some = omega (arith, size)

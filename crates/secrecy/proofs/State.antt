@@ -1,5 +1,5 @@
 -- One run of the list: what every post holds, what the marks say of vectors and book, and what was broadcast.
-use Prim.Native.Nat.{ℕ, _+_, _*_, _≤_, _<_}
+use Prim.Native.Nat.{ℕ, _+_, _≤_, _<_}
 use mathlib.Core.Path.{_≡_, refl, sym, _∙_, ap, ap₂, subst}
 use mathlib.Core.Logic.{inl, inr}
 use mathlib.Core.List.{List, [], _∷_, _++_, map}
@@ -13,15 +13,18 @@ use Rattle.field.specs.Element.{element}
 use Rattle.field.proofs.Elements.{𝓡, element-product}
 use Rattle.poly.specs.Counting.{All, Elements}
 use Rattle.poly.proofs.Lists.{all-map}
+use Rattle.shape.specs.Bounds.{rowCount}
+use Rattle.shape.specs.Marks.{raw, held, collected}
+use Rattle.shape.specs.Lengths.{vLength, masksLength}
 use Rattle.refusal.specs.Refusal.{first}
-use Rattle.factory.specs.Packs.{dealerNumber}
+use Rattle.factory.specs.Calls.{dealerNumber}
 use Rattle.vectors.specs.Vector.{Vector, raised, number, numbers, vectorOf}
 use Rattle.vectors.proofs.Linear.{length-numbers}
 use Rattle.runs.specs.Draws.{Plan, planShape, Draw, IsDraw, Sound, IsRaw, Raw, by, whenRaw, rawDraw, rawPack, triplePack}
 use Rattle.runs.specs.Outline.{Act, loads, loadsTriple, deals, opens, Summand, once, times, fee, sums, factors, collects, multiplies, Taking, nothingTaken, aRowPack, aTriplePack, aNumber, aRecord, twoRecords, takes, Given, Move, moves, actsIn, acts, sends}
-use Rattle.runs.specs.Calls.{Post, Actual, openingLine, masksLine, Among, at}
+use Rattle.runs.specs.Calls.{Post, Actual, openingLine, masksLine, Among}
 use Rattle.runs.proofs.Outlines.{every-all, givenBy, filledMove, moves-filled}
-use Rattle.runs.proofs.Marks.{Marks, Sized, markOf, rememberedA, rememberedB, maskVectorA, maskVectorB, written, noNumbers, sessionAt, none, of, marksBy, vectorsBy, marksAll, vectorsAll, at-same, Masked}
+use Rattle.runs.proofs.Marks.{Marks, Sized, markOf, rememberedA, rememberedB, maskVectorA, maskVectorB, written, noNumbers, sessionAt, none, marksBy, vectorsBy, marksAll, vectorsAll, at-same, Masked}
 use Rattle.runs.proofs.Sums.{product-sum}
 use Rattle.runs.proofs.Numbers.{dealt-number, product-number, third-number}
 use Rattle.runs.proofs.Start.{sizes}
@@ -71,21 +74,21 @@ module _ (C : Run) where
 
   -- a well-formed O line; a well-formed M line
   abbrev pub AnOpening : ℕ → ℕ → List ℕ → Type 0
-  AnOpening r j xs = Opening (C .plan .n) (C .plan .t + 1) (sizes (C .plan) (C .sound) .n-high) r j xs
+  AnOpening r j xs = Opening (C .plan .n) (vLength (planShape (C .plan))) (sizes (C .plan) (C .sound) .n-high) r j xs
 
   abbrev pub AMask : ℕ → ℕ → List ℕ → Type 0
-  AMask r j xs = Masks (C .plan .n) (C .plan .t + 1) (sizes (C .plan) (C .sound) .n-high) r j xs
+  AMask r j xs = Masks (C .plan .n) (vLength (planShape (C .plan))) (sizes (C .plan) (C .sound) .n-high) r j xs
 
   -- what an M line of the triple at r shows of post j
   abbrev pub maskNumbers : Marks → (ℕ → Vector) → ℕ → ℕ → List ℕ
-  maskNumbers M vec r j = numbers (C .plan .t + 1) (maskVectorA M vec r .v j) ++ numbers (C .plan .t + 1) (maskVectorB M vec r .v j)
+  maskNumbers M vec r j = numbers (vLength (planShape (C .plan))) (maskVectorA M vec r .v j) ++ numbers (vLength (planShape (C .plan))) (maskVectorB M vec r .v j)
 
   pub record State (m : Moment) : Type 0 where
     pub sized : Sized (m .marks)
     pub posts : (i : ℕ) → 1 ≤ i → i ≤ C .plan .n → Stands (C .plan) (C .draw) (C .len i) i (m .marks) (m .vec) (m .posts i)
     pub facts : Facts (C .plan) (C .draw) (Held (m .book)) (Waits (m .book)) (m .marks) (m .vec)
     pub openings : (r j : ℕ) (xs : List ℕ) → AnOpening r j xs → Among (openingLine r j xs) (m .lines)
-        → (markOf (m .marks) r ≡ 2) × (xs ≡ numbers (C .plan .t + 1) (m .vec r .v j))
+        → (markOf (m .marks) r ≡ held) × (xs ≡ numbers (vLength (planShape (C .plan))) (m .vec r .v j))
     pub maskings : (r j : ℕ) (xs : List ℕ) → AMask r j xs → Among (masksLine r j xs) (m .lines)
         → Past (m .marks) r × (Masked (markOf (m .marks) r) → xs ≡ maskNumbers (m .marks) (m .vec) r j)
 
@@ -108,7 +111,7 @@ module _ (C : Run) where
 
   module _ (lines : List (List ℕ)) where
     module _ (M : Marks) (vec : ℕ → Vector) (b : Book) (f : Facts plan draw (Held b) (Waits b) M vec) where
-      dealt-is : (r : ℕ) → r < 96 → markOf M r ≡ 1 → number (raised (element (dealtNumber plan draw u r)) (vec r)) ≡ element (u r)
+      dealt-is : (r : ℕ) → r < rowCount → markOf M r ≡ raw → number (raised (element (dealtNumber plan draw u r)) (vec r)) ≡ element (u r)
       unfolding dealtNumber
       dealt-is r lr one =
           let g = f r lr .raw one in
@@ -120,7 +123,7 @@ module _ (C : Run) where
           go Raw.none x = absurd x
           go (by dealer) x = refl
 
-      product-is : (r : ℕ) → Facts.Tripled 7 M r
+      product-is : (r : ℕ) → Facts.Tripled collected M r
           → number (written M vec r) ≡ element (product (b .factorA r) (b .factorB r))
       product-is r al =
           let g = f r (omega (arith, al .r-low)) in
@@ -203,16 +206,16 @@ module _ (C : Run) where
       fits-with (twoRecords r) x al rule = (
         all-trusted (sessionAt plan draw i M noNumbers) (x .0 i lines) (maskVectorA M vec r) (λ j lj hj ne there.
             let o = rule (inl refl) .0 i j lo hi lj hj ne there in
-            o .4 ∙ ap (take (plan .t + 1)) (both-are j lj hj (o .0) (o .1) (o .2) (o .3))
-            ∙ take-at (numbers (plan .t + 1) (maskVectorA M vec r .v j)) _ (plan .t + 1) (length-numbers (plan .t + 1) (maskVectorA M vec r .v j))),
+            o .4 ∙ ap (take (vLength (planShape plan))) (both-are j lj hj (o .0) (o .1) (o .2) (o .3))
+            ∙ take-at (numbers (vLength (planShape plan)) (maskVectorA M vec r .v j)) _ (vLength (planShape plan)) (length-numbers (vLength (planShape plan)) (maskVectorA M vec r .v j))),
         all-trusted (sessionAt plan draw i M noNumbers) (x .1 i lines) (maskVectorB M vec r) (λ j lj hj ne there.
             let o = rule (inl refl) .1 i j lo hi lj hj ne there in
-            o .4 ∙ ap (drop (plan .t + 1)) (both-are j lj hj (o .0) (o .1) (o .2) (o .3))
-            ∙ drop-at (numbers (plan .t + 1) (maskVectorA M vec r .v j)) _ (plan .t + 1) (length-numbers (plan .t + 1) (maskVectorA M vec r .v j))),
+            o .4 ∙ ap (drop (vLength (planShape plan))) (both-are j lj hj (o .0) (o .1) (o .2) (o .3))
+            ∙ drop-at (numbers (vLength (planShape plan)) (maskVectorA M vec r .v j)) _ (vLength (planShape plan)) (length-numbers (vLength (planShape plan)) (maskVectorA M vec r .v j))),
       )
         where
           -- what an M line of the triple shows of post j
-          both-are : (j : ℕ) → 1 ≤ j → j ≤ plan .n → (both : List ℕ) → length both ≡ 2 * (plan .t + 1) → Elements both
+          both-are : (j : ℕ) → 1 ≤ j → j ≤ plan .n → (both : List ℕ) → length both ≡ masksLength (planShape plan) → Elements both
               → Among (masksLine r j both) lines → both ≡ maskNumbers M vec r j
           both-are j lj hj both many els st =
               S .maskings r j both (record { row = omega (arith, al .r-low); post = (lj, hj); many = many; low = els }) st .1 (inl (al .first))
@@ -234,5 +237,5 @@ module _ (C : Run) where
     facts-on c al rule = facts-all lines (moves c) M vec b (S .sized) (al .moving) (every-all _ (moves c) rule) (S .facts)
 
     -- a held row's place stays
-    pub place-stays : (c : Step) → Allowed (acts c) (sends c) M → (x : ℕ) → markOf M x ≡ 2 → entered u c b .place x ≡ b .place x
+    pub place-stays : (c : Step) → Allowed (acts c) (sends c) M → (x : ℕ) → markOf M x ≡ held → entered u c b .place x ≡ b .place x
     place-stays c al x two = place-all plan draw u (acts c) M b (S .sized) (al .moving) x two

@@ -1,8 +1,7 @@
 -- Demand 3: the draws that show a record under one list of secrets are matched one to one with those that show it under the
 -- other; and so there are as many.
-use Prim.Native.Nat.{ℕ, _+_, _*_, _<_}
+use Prim.Native.Nat.{ℕ, _<_}
 use mathlib.Core.Path.{_≡_, sym, _∙_, ap, subst}
-use mathlib.Core.Bool.{not}
 use mathlib.Core.Logic.{inl, inr}
 use mathlib.Core.List.{List, [], _∷_}
 use native.Mathlib.Omega.{arith}
@@ -15,7 +14,9 @@ use Rattle.field.proofs.Elements.{𝓡}
 use Rattle.poly.proofs.Lists.{all-of, all-map}
 use Rattle.vectors.specs.Vector.{Vector}
 use Rattle.field.specs.Modulus.{p}
-use Rattle.runs.specs.Draws.{Plan, Draw, IsDraw, IsRaw, pointOf}
+use Rattle.shape.specs.Marks.{held as heldMark}
+use Rattle.shape.specs.Lengths.{rowLength}
+use Rattle.runs.specs.Draws.{Plan, Draw, IsDraw, IsRaw, pointOf, planShape}
 use Rattle.runs.specs.Outline.{Sending, itsOpening, itsMasks, sends}
 use Rattle.runs.specs.Calls.{Post, newPost}
 use Rattle.runs.proofs.Outlines.{every-all, all-every}
@@ -188,7 +189,7 @@ module _ (plan : Plan) (group : List ℕ) (rows : ℕ → List ℕ) (cs : List S
         session : q i .session ≡ sessionAt plan d i (ended .end .marks) (ended .pair .one .posts i lo hi .opened)
         session = sym (ap (λ (f : ℕ → Post). f i .session) (ended .posts-are)) ∙ P .one .posts i lo hi .session
 
-        two-is : markOf (ended .end .marks) r ≡ 2
+        two-is : markOf (ended .end .marks) r ≡ heldMark
         two-is = sym (ap (λ (x : Session). mark x r) session) ∙ held
 
         places : ended .end .book .place r ≡ ended .end .book' .place r
@@ -197,12 +198,12 @@ module _ (plan : Plan) (group : List ℕ) (rows : ℕ → List ℕ) (cs : List S
             ∙ subst (λ (es : List Entry). bookAfter u cs es blank .place r ≡ bookAfter u' cs es blank .place r) (sym shown) agree
             ∙ sym (ap (λ (x : Book). x .place r) (ended .book-is'))
 
-        same : rowAt (plan .t + 1 + 2 * plan .n) (q i .rows) r ≡ rowAt (plan .t + 1 + 2 * plan .n) (q' i .rows) r
+        same : rowAt (rowLength (planShape plan)) (q i .rows) r ≡ rowAt (rowLength (planShape plan)) (q' i .rows) r
         same =
-            ap (λ (f : ℕ → Post). rowAt (plan .t + 1 + 2 * plan .n) (f i .rows) r) (sym (ended .posts-are))
-            ∙ row-same (twin two (ended .end) P i lo hi) r 1 low two-is
+            ap (λ (f : ℕ → Post). rowAt (rowLength (planShape plan)) (f i .rows) r) (sym (ended .posts-are))
+            ∙ row-same (twin two (ended .end) P i lo hi) r low two-is
             (place-number two (ended .end) P r (omega arith) two-is places)
-            ∙ ap (λ (f : ℕ → Post). rowAt (plan .t + 1 + 2 * plan .n) (f i .rows) r) (ended .posts-are')
+            ∙ ap (λ (f : ℕ → Post). rowAt (rowLength (planShape plan)) (f i .rows) r) (ended .posts-are')
 
     transfer : Shows plan group rows cs u' R (moved plan group u u' Δ d)
     unfolding seen

@@ -1,5 +1,5 @@
 -- No opening and no collect gets 13 at a post whose records show what their senders broadcast: true polynomials agree.
-use Prim.Native.Nat.{ℕ, zero, suc, _+_, _*_, _≤_}
+use Prim.Native.Nat.{ℕ, zero, suc, _+_, _≤_}
 use mathlib.Core.Path.{_≡_, refl, sym, _∙_, ap}
 use mathlib.Core.Bool.{Bool, true, false}
 use mathlib.Core.Logic.{_≢_, _⊎_, inl, inr}
@@ -8,6 +8,8 @@ use native.Mathlib.Omega.{arith}
 use lib.ListN.{length, take, drop}
 use lib.Seq.{take-at, drop-at}
 use Rattle.poly.specs.Counting.{Elements}
+use Rattle.shape.specs.Marks.{masked}
+use Rattle.shape.specs.Lengths.{vLength, masksLength}
 use Rattle.refusal.specs.Refusal.{Test, _when_, first, orElse}
 use Rattle.refusal.proofs.Laws.{Numbered, first-join}
 use Rattle.session.specs.declared.Session.{Session}
@@ -15,15 +17,15 @@ use Rattle.session.specs.Rows.{width, rowAt}
 use Rattle.opening.specs.Walking.{blockCoefficients, tooFew, disagree}
 use Rattle.opening.specs.Opening.{openChecks, openRefusal}
 use Rattle.opening.proofs.Passed.{walkTests, OpenChecked, open-checked, open-walks}
-use Rattle.product.specs.Finish as Finish
-use Rattle.product.specs.Finish.{unopened}
-use Rattle.product.specs.Collect.{collectChecks, collectRefusal}
-use Rattle.product.proofs.Passed.{CollectChecked, collect-checked, collect-walks}
+use Rattle.collect.specs.Collect as Collect
+use Rattle.collect.specs.Collect.{unopened, collectChecks, collectRefusal}
+use Rattle.collect.proofs.Passed.{CollectChecked, collect-checked, collect-walks}
 use Rattle.vectors.specs.Vector.{Vector, numbers}
 use Rattle.vectors.specs.Claims.{heldRow}
 use Rattle.vectors.proofs.Linear.{length-numbers}
-use Rattle.vectors.proofs.Theorems.{true-agree}
+use Rattle.vectors.proofs.Shares.{true-agree}
 use Rattle.runs.specs.Calls.{Proper, masksLine, Among, Told, ToldHalf}
+use Rattle.runs.specs.Draws.{planShape}
 use Rattle.runs.proofs.Marks.{rememberedA, rememberedB, maskVectorA, maskVectorB, sessionAt}
 use Rattle.runs.proofs.Holds.{Holder, held-row}
 use Rattle.runs.proofs.Finishing.{opens-a, opens-b}
@@ -88,13 +90,13 @@ module _ (C : Run) (m : Moment) (S : State C m) (i : ℕ) (lo : 1 ≤ i) (hi : i
 
   -- true polynomials agree
   pub agrees : (x : List ℕ) (X : Vector) (bl : List ℕ) → x ≡ heldRow s X
-      → ((j : ℕ) → 1 ≤ j → j ≤ plan .n → j ≢ i → Present s bl j → blockCoefficients (plan .t + 1) bl j ≡ numbers (plan .t + 1) (X .v j))
+      → ((j : ℕ) → 1 ≤ j → j ≤ plan .n → j ≢ i → Present s bl j → blockCoefficients (vLength (planShape plan)) bl j ≡ numbers (vLength (planShape plan)) (X .v j))
       → tooFew s x bl ≡ false → disagree s x bl ≡ false
   agrees x X bl e theirs enough =
       ap (λ (y : List ℕ). disagree s y bl) e
       ∙ true-agree s X bl (sizes plan (C .sound) .n-element) (sym (ap (λ (y : List ℕ). tooFew s y bl) e) ∙ enough) (all-true s bl X theirs)
 
-  module _ (r : ℕ) (bl : List ℕ) (told : (j : ℕ) → 1 ≤ j → j ≤ plan .n → j ≢ i → Present s bl j → Told lines r j (blockCoefficients (plan .t + 1) bl j))
+  module _ (r : ℕ) (bl : List ℕ) (told : (j : ℕ) → 1 ≤ j → j ≤ plan .n → j ≢ i → Present s bl j → Told lines r j (blockCoefficients (vLength (planShape plan)) bl j))
       (e : openRefusal s l r bl ≡ 13) where
     f : OpenChecked s l r bl
     unfolding openRefusal
@@ -107,7 +109,7 @@ module _ (C : Run) (m : Moment) (S : State C m) (i : ℕ) (lo : 1 ≤ i) (hi : i
     opening-never =
         let off = walk-off (tooFew s (rowAt (width s) l r) bl) (disagree s (rowAt (width s) l r) bl) (sym (open-walks s l r bl f) ∙ e) in
         not-both (off .1)
-        (agrees (rowAt (width s) l r) (vec r) bl (held-row holder r 1 (f .placed .row-in) (f .placed .is-held))
+        (agrees (rowAt (width s) l r) (vec r) bl (held-row holder r (f .placed .row-in) (f .placed .is-held))
         (λ j lj hj ne there. S .openings r j _ (record {
           row = f .placed .row-in;
           post = (lj, hj);
@@ -118,46 +120,46 @@ module _ (C : Run) (m : Moment) (S : State C m) (i : ℕ) (lo : 1 ≤ i) (hi : i
   -- what a record shows of each j is that half of j's M line of the triple at r
   abbrev pub Halves : ℕ → (List ℕ → List ℕ) → List ℕ → Type 0
   Halves r half bl =
-      (j : ℕ) → 1 ≤ j → j ≤ plan .n → j ≢ i → Present s bl j → ToldHalf (plan .t) half r lines j (blockCoefficients (plan .t + 1) bl j)
+      (j : ℕ) → 1 ≤ j → j ≤ plan .n → j ≢ i → Present s bl j → ToldHalf (planShape plan) half r lines j (blockCoefficients (vLength (planShape plan)) bl j)
 
   -- the two masks of a triple that waits, opened with what was broadcast
-  module _ (r : ℕ) (ok : Multiplying 5 M (rememberedA M r) (rememberedB M r) r) where
+  module _ (r : ℕ) (ok : Multiplying masked M (rememberedA M r) (rememberedB M r) r) where
     -- what an M line of the triple shows of post j
-    both-are : (j : ℕ) → 1 ≤ j → j ≤ plan .n → (both : List ℕ) → length both ≡ 2 * (plan .t + 1) → Elements both
+    both-are : (j : ℕ) → 1 ≤ j → j ≤ plan .n → (both : List ℕ) → length both ≡ masksLength (planShape plan) → Elements both
         → Among (masksLine r j both) lines → both ≡ maskNumbers C M vec r j
     both-are j lj hj both many els st =
         S .maskings r j both (record { row = omega (arith, ok .r-low); post = (lj, hj); many = many; low = els }) st .1 (inl (ok .first))
 
-    a-long : (j : ℕ) → length (numbers (plan .t + 1) (maskVectorA M vec r .v j)) ≡ plan .t + 1
-    a-long j = length-numbers (plan .t + 1) (maskVectorA M vec r .v j)
+    a-long : (j : ℕ) → length (numbers (vLength (planShape plan)) (maskVectorA M vec r .v j)) ≡ vLength (planShape plan)
+    a-long j = length-numbers (vLength (planShape plan)) (maskVectorA M vec r .v j)
 
-    pub agrees-a : (bl : List ℕ) → Halves r (take (plan .t + 1)) bl → tooFew s (Finish.maskA s l r) bl ≡ false → disagree s (Finish.maskA s l r) bl ≡ false
+    pub agrees-a : (bl : List ℕ) → Halves r (take (vLength (planShape plan))) bl → tooFew s (Collect.maskA s l r) bl ≡ false → disagree s (Collect.maskA s l r) bl ≡ false
     agrees-a bl told =
-        agrees (Finish.maskA s l r) (maskVectorA M vec r) bl (opens-a holder r ok) (λ j lj hj ne there.
+        agrees (Collect.maskA s l r) (maskVectorA M vec r) bl (opens-a holder r ok) (λ j lj hj ne there.
         let o = told j lj hj ne there in
-        o .4 ∙ ap (take (plan .t + 1)) (both-are j lj hj (o .0) (o .1) (o .2) (o .3)) ∙ take-at (numbers (plan .t + 1) (maskVectorA M vec r .v j)) _ (plan .t + 1) (a-long j))
+        o .4 ∙ ap (take (vLength (planShape plan))) (both-are j lj hj (o .0) (o .1) (o .2) (o .3)) ∙ take-at (numbers (vLength (planShape plan)) (maskVectorA M vec r .v j)) _ (vLength (planShape plan)) (a-long j))
 
-    pub agrees-b : (bl : List ℕ) → Halves r (drop (plan .t + 1)) bl → tooFew s (Finish.maskB s l r) bl ≡ false → disagree s (Finish.maskB s l r) bl ≡ false
+    pub agrees-b : (bl : List ℕ) → Halves r (drop (vLength (planShape plan))) bl → tooFew s (Collect.maskB s l r) bl ≡ false → disagree s (Collect.maskB s l r) bl ≡ false
     agrees-b bl told =
-        agrees (Finish.maskB s l r) (maskVectorB M vec r) bl (opens-b holder r ok) (λ j lj hj ne there.
+        agrees (Collect.maskB s l r) (maskVectorB M vec r) bl (opens-b holder r ok) (λ j lj hj ne there.
         let o = told j lj hj ne there in
-        o .4 ∙ ap (drop (plan .t + 1)) (both-are j lj hj (o .0) (o .1) (o .2) (o .3)) ∙ drop-at (numbers (plan .t + 1) (maskVectorA M vec r .v j)) _ (plan .t + 1) (a-long j))
+        o .4 ∙ ap (drop (vLength (planShape plan))) (both-are j lj hj (o .0) (o .1) (o .2) (o .3)) ∙ drop-at (numbers (vLength (planShape plan)) (maskVectorA M vec r .v j)) _ (vLength (planShape plan)) (a-long j))
 
   module _ (r : ℕ) (blA blB : List ℕ) (e : collectRefusal s l r blA blB ≡ 13) where
     abbrev xa : List ℕ
-    xa = Finish.maskA s l r
+    xa = Collect.maskA s l r
 
     abbrev xb : List ℕ
-    xb = Finish.maskB s l r
+    xb = Collect.maskB s l r
 
     g : CollectChecked s l r blA blB
     unfolding collectRefusal
     g = collect-checked s l r blA blB (none-before (collectChecks s l r blA blB) (unopened s xa xb blA blB) tt (omega arith) e)
 
-    ok : Multiplying 5 M (rememberedA M r) (rememberedB M r) r
-    ok = multiplying plan draw i M (S .posts i lo hi .opened) l _ _ r 5 (g .placed .factors)
+    ok : Multiplying masked M (rememberedA M r) (rememberedB M r) r
+    ok = multiplying plan draw i M (S .posts i lo hi .opened) l _ _ r masked (g .placed .factors)
 
-    pub collect-never : Halves r (take (plan .t + 1)) blA → Halves r (drop (plan .t + 1)) blB → ⊥
+    pub collect-never : Halves r (take (vLength (planShape plan))) blA → Halves r (drop (vLength (planShape plan))) blB → ⊥
     collect-never told-a told-b =
         let off = walks-off (tooFew s xa blA) (tooFew s xb blB) (disagree s xa blA) (disagree s xb blB) (sym (collect-walks s l r blA blB g) ∙ e) in
         elim (off .2) [

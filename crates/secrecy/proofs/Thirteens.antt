@@ -7,7 +7,8 @@ use mathlib.Core.List.{List, [], _∷_, _++_}
 use native.Mathlib.Omega.{arith}
 use lib.ListN.{length, take, drop}
 use Rattle.poly.specs.Counting.{All}
-use Rattle.shape.specs.Marks.{empty, held, unused, masked}
+use Rattle.shape.specs.Marks.{empty, held, unused, masked, present}
+use Rattle.shape.specs.Lengths.{vLength}
 use Rattle.refusal.specs.Refusal.{Test, _when_, first, orElse, AllFail}
 use Rattle.refusal.specs.Conditions.{beyond, anyBeyond}
 use Rattle.refusal.proofs.Laws.{first-join, all-fail, not-refused}
@@ -16,7 +17,7 @@ use Rattle.session.specs.Sessions.{shapeOf}
 use Rattle.session.specs.Rows.{width, rowAt}
 use Rattle.session.specs.Checks.{frameTests, noRow, noTriple, wrongMark}
 use Rattle.opening.specs.Walking.{recordLength, blockMark, blockCoefficients, tooFew, disagree}
-use Rattle.product.specs.Masks.{tripleMarks, factorNumbers, maskRow}
+use Rattle.product_masks.specs.Masks.{tripleMarks, factorNumbers, maskRow}
 use Rattle.terms.specs.declared.Term.{Term}
 use Rattle.terms.specs.Listed.{plain, productsOf, collected, termsOf, factorsOf}
 use Rattle.terms.proofs.Placing.{factors-again}
@@ -27,6 +28,7 @@ use Rattle.relation.proofs.Passed.{AllAt, each-fail, RelationFinishPlaced, rela
 use Rattle.relation.proofs.Numbering.{checks-numbered, few-numbered}
 use Rattle.runs.specs.Outline.{takes, Move, finishing, summing}
 use Rattle.runs.specs.Calls.{ToldHalf}
+use Rattle.runs.specs.Draws.{planShape}
 use Rattle.runs.proofs.Marks.{rememberedA, rememberedB, sessionAt}
 use Rattle.runs.proofs.Related.{cut-is}
 use Rattle.runs.proofs.Relations.{Waits}
@@ -144,14 +146,14 @@ module _ (C : Run) (m : Moment) (S : State C m) (i : ℕ) (lo : 1 ≤ i) (hi : i
           subst (λ (x : List ℕ). tooFew s x (recordA s bl k) ≡ false → disagree s x (recordA s bl k) ≡ false)
               (ap (λ (x : ℕ). maskRow (shapeOf s) l x (t .first)) (r .0 .0))
               (agrees-a C m S i lo hi (t .first) (w .0) (recordA s bl k) (λ j lj hj ne.
-              subst (λ (x : List ℕ). blockMark (plan .t + 1) x j ≡ 1 → ToldHalf (plan .t) (take (plan .t + 1)) (t .first) lines j (blockCoefficients (plan .t + 1) x j))
+              subst (λ (x : List ℕ). blockMark (vLength (planShape plan)) x j ≡ present → ToldHalf (planShape plan) (take (vLength (planShape plan))) (t .first) lines j (blockCoefficients (vLength (planShape plan)) x j))
               (cuts (2 * k)) (shown .0 i j lo hi lj hj ne)))
               (few .0 .0),
           (
             subst (λ (x : List ℕ). tooFew s x (recordB s bl k) ≡ false → disagree s x (recordB s bl k) ≡ false)
                 (ap (λ (x : ℕ). maskRow (shapeOf s) l x (t .first + 1)) (r .0 .1))
                 (agrees-b C m S i lo hi (t .first) (w .0) (recordB s bl k) (λ j lj hj ne.
-                subst (λ (x : List ℕ). blockMark (plan .t + 1) x j ≡ 1 → ToldHalf (plan .t) (drop (plan .t + 1)) (t .first) lines j (blockCoefficients (plan .t + 1) x j))
+                subst (λ (x : List ℕ). blockMark (vLength (planShape plan)) x j ≡ present → ToldHalf (planShape plan) (drop (vLength (planShape plan))) (t .first) lines j (blockCoefficients (vLength (planShape plan)) x j))
                 (cuts (2 * k + 1)) (shown .1 i j lo hi lj hj ne)))
                 (few .0 .1 .0),
             all-agree f (suc k) us rest (omega arith) (w .1) (r .1) (few .1) (rule .1 .1),

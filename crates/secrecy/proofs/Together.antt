@@ -11,17 +11,19 @@ use Rattle.field.specs.Arithmetic.{product}
 use Rattle.field.specs.Element.{Element, element}
 use Rattle.poly.specs.Counting.{All}
 use Rattle.poly.proofs.Lists.{all-map}
-use Rattle.factory.specs.Draw.{eachFrom}
+use Rattle.shape.specs.Bounds.{rowCount, lastTriple}
+use Rattle.shape.specs.Marks.{empty, raw, held, unused, further, masked, spent, collected}
+use Rattle.parts.specs.Draw.{eachFrom}
 use Rattle.vectors.specs.Vector.{Vector, raised, number}
-use Rattle.runs.specs.Draws.{pointOf, rawPack, triplePack}
+use Rattle.runs.specs.Draws.{pointOf, rawPack, triplePack, planShape}
 use Rattle.runs.specs.Outline.{Act, loads, loadsTriple, deals, opens, Summand, once, times, fee, sums, factors, collects, multiplies, takes, Given, Move, moves, actsIn, acts, sends, filled}
 use Rattle.runs.specs.Calls.{Call, perform, at}
 use Rattle.runs.proofs.Outlines.{every-all}
 use Rattle.runs.proofs.Marks.{Marks, markOf, remarked, finished, maskVectorA, maskVectorB, zeroVector, worthVector, totalVector, productSum, written, Masking, none, of, masking, marksBy, vectorsBy, marksAll, vectorsAll, at-same, at-other}
 use Rattle.runs.proofs.Outcomes.{refusalOf, refusal-is}
 use Rattle.runs.proofs.Facts.{HeldIn, AllowedBy, AllowedAll, Allowed, MasksBy, Tripled}
-use Rattle.runs.proofs.Rows.{sized-by, five-by}
-use Rattle.secrecy.specs.Steps.{Fixed, Step, Pack, Number, own, sent, packed, dealtWith, callAt, heardFrom, dealtNumber}
+use Rattle.runs.proofs.Rows.{sized-by, five-by, nonzero}
+use Rattle.secrecy.specs.Steps.{Fixed, Step, Pack, Number, own, sent, packed, callAt, heardFrom, dealtNumber}
 use Rattle.secrecy.specs.Seen.{posts, joined, linesOf}
 use Rattle.secrecy.specs.Rules.{RuleWith, Rule}
 use Rattle.secrecy.specs.Book.{Book, Agrees, enteredBy, enteredAll, entered}
@@ -30,6 +32,7 @@ use Rattle.secrecy.proofs.Entered.{notedA, notedB, noted-is, notes-by}
 use Rattle.secrecy.proofs.State.{facts-step}
 use Rattle.secrecy.proofs.Near.{Near, near-self, near-plusTimes, near-raised}
 use Rattle.secrecy.proofs.Pair.{Two, runOne, runTwo, Moments, Pair, apart, Core, core, core-wait, FitBy, FitAll, Fit}
+use Rattle.secrecy.proofs.Answers.{number-same}
 use Rattle.secrecy.proofs.Alike.{Same, same-answers}
 
 -- a map over the posts 1 to n
@@ -70,16 +73,12 @@ module _ (T : Two) (m : Moments) (R : Pair T m) where
     pack-same (own m) packs packs' i e = e m
     pack-same (Pack.fixed xs) packs packs' i e = refl
 
-    number-same : (r : ℕ) (x : Number) → dealtWith x (dealtNumber (T .plan) (T .d) (T .u) r) ≡ dealtWith x (dealtNumber (T .plan) (T .d') (T .u') r)
-    number-same r sent = T .link .deals r
-    number-same r (Number.fixed x) = refl
-
     calls-same : (i : ℕ) (x : Step) → ((m : ℕ) → rawPack (T .plan) (T .d) i m ≡ rawPack (T .plan) (T .d') i m)
         → ((m : ℕ) → triplePack (T .plan) (T .d) i m ≡ triplePack (T .plan) (T .d') i m) → c1 i x ≡ c2 i x
     calls-same i x e f = λ j. filled (record {
       row = λ pack. pack-same pack (rawPack (T .plan) (T .d)) (rawPack (T .plan) (T .d')) i e j;
       triple = λ pack. pack-same pack (triplePack (T .plan) (T .d)) (triplePack (T .plan) (T .d')) i f j;
-      number = λ r c. number-same r c j;
+      number = λ r c. number-same T r c j;
       blocks = λ blocks. blocks i lines;
       lent = λ lent. lent i;
       heard = λ heard. tt;
@@ -99,11 +98,11 @@ module _ (T : Two) (m : Moments) (R : Pair T m) where
 
 module _ (T : Two) (lines : List (List ℕ)) where
   abbrev Nearly : Vector → Vector → Type 0
-  Nearly = Near (T .plan .n) (T .plan .t + 1) (pointOf (T .d)) (T .K)
+  Nearly = Near (planShape (T .plan)) (pointOf (T .d)) (T .K)
 
   -- every row with a mark
   abbrev AllNear : Marks → (ℕ → Vector) → (ℕ → Vector) → Type 0
-  AllNear N v v' = (r : ℕ) → r < 96 → markOf N r ≢ 0 → Near (T .plan .n) (T .plan .t + 1) (pointOf (T .d)) (T .K) (v r) (v' r)
+  AllNear N v v' = (r : ℕ) → r < rowCount → markOf N r ≢ empty → Near (planShape (T .plan)) (pointOf (T .d)) (T .K) (v r) (v' r)
 
   -- one row written
   near-put : (N : Marks) (v v' : ℕ → Vector) → AllNear N v v' → (x m : ℕ) (X X' : Vector) → Nearly X X' → AllNear (remarked N x m) (at v x X) (at v' x X')
@@ -111,62 +110,59 @@ module _ (T : Two) (lines : List (List ℕ)) where
     where
       go : Dec (r ≡ x) → Nearly (at v x X r) (at v' x X' r)
       go (yes e) =
-          subst (λ (y : ℕ). Near (T .plan .n) (T .plan .t + 1) (pointOf (T .d)) (T .K) (at v x X y) (at v' x X' y)) (sym e)
-          (subst (λ (Y : Vector). Near (T .plan .n) (T .plan .t + 1) (pointOf (T .d)) (T .K) Y (at v' x X' x)) (sym (at-same v x X))
-          (subst (λ (Y : Vector). Near (T .plan .n) (T .plan .t + 1) (pointOf (T .d)) (T .K) X Y) (sym (at-same v' x X')) new))
+          subst (λ (y : ℕ). Near (planShape (T .plan)) (pointOf (T .d)) (T .K) (at v x X y) (at v' x X' y)) (sym e)
+          (subst (λ (Y : Vector). Near (planShape (T .plan)) (pointOf (T .d)) (T .K) Y (at v' x X' x)) (sym (at-same v x X))
+          (subst (λ (Y : Vector). Near (planShape (T .plan)) (pointOf (T .d)) (T .K) X Y) (sym (at-same v' x X')) new))
       go (no e) =
-          subst (λ (Y : Vector). Near (T .plan .n) (T .plan .t + 1) (pointOf (T .d)) (T .K) Y (at v' x X' r)) (sym (at-other v x X r e))
-          (subst (λ (Y : Vector). Near (T .plan .n) (T .plan .t + 1) (pointOf (T .d)) (T .K) (v r) Y) (sym (at-other v' x X' r e))
+          subst (λ (Y : Vector). Near (planShape (T .plan)) (pointOf (T .d)) (T .K) Y (at v' x X' r)) (sym (at-other v x X r e))
+          (subst (λ (Y : Vector). Near (planShape (T .plan)) (pointOf (T .d)) (T .K) (v r) Y) (sym (at-other v' x X' r e))
           (h r lr (subst (λ (y : ℕ). y ≢ 0) (getD-set-other (N .marks) x r m 0 e) ne)))
 
   -- a mark changed that was not 0
-  near-mark : (N : Marks) (v v' : ℕ → Vector) → AllNear N v v' → (x m : ℕ) → markOf N x ≢ 0 → AllNear (remarked N x m) v v'
+  near-mark : (N : Marks) (v v' : ℕ → Vector) → AllNear N v v' → (x m : ℕ) → markOf N x ≢ empty → AllNear (remarked N x m) v v'
   near-mark N v v' h x m was r lr ne = go (ℕ-discrete r x)
     where
       go : Dec (r ≡ x) → Nearly (v r) (v' r)
-      go (yes e) = h r lr (subst (λ (y : ℕ). markOf N y ≢ 0) (sym e) was)
+      go (yes e) = h r lr (subst (λ (y : ℕ). markOf N y ≢ empty) (sym e) was)
       go (no e) = h r lr (subst (λ (y : ℕ). y ≢ 0) (getD-set-other (N .marks) x r m 0 e) ne)
 
   -- a sum of rows that are near
   module _ (vec vec' : ℕ → Vector) where
     abbrev NearIn : Summand → Type 0
-    NearIn (once a) = Near (T .plan .n) (T .plan .t + 1) (pointOf (T .d)) (T .K) (vec a) (vec' a)
-    NearIn (times s b) = Near (T .plan .n) (T .plan .t + 1) (pointOf (T .d)) (T .K) (vec b) (vec' b)
+    NearIn (once a) = Near (planShape (T .plan)) (pointOf (T .d)) (T .K) (vec a) (vec' a)
+    NearIn (times s b) = Near (planShape (T .plan)) (pointOf (T .d)) (T .K) (vec b) (vec' b)
     NearIn (fee k) = Unit {0}
 
     near-worth : (t : Summand) → NearIn t → Nearly (worthVector vec t) (worthVector vec' t)
     near-worth (once a) h = h
     near-worth (times s b) h =
-        near-plusTimes (T .plan .n) (T .plan .t + 1) (pointOf (T .d)) (T .K) s zeroVector zeroVector (vec b) (vec' b)
-        (near-self (T .plan .n) (T .plan .t + 1) (pointOf (T .d)) (T .K) zeroVector) h
-    near-worth (fee k) h = near-self (T .plan .n) (T .plan .t + 1) (pointOf (T .d)) (T .K) (raised (element k) zeroVector)
+        near-plusTimes (planShape (T .plan)) (pointOf (T .d)) (T .K) s zeroVector zeroVector (vec b) (vec' b)
+        (near-self (planShape (T .plan)) (pointOf (T .d)) (T .K) zeroVector) h
+    near-worth (fee k) h = near-self (planShape (T .plan)) (pointOf (T .d)) (T .K) (raised (element k) zeroVector)
 
     near-total : (t : Summand) (ts : List Summand) → NearIn t → All NearIn ts → Nearly (totalVector vec t ts) (totalVector vec' t ts)
     near-total t [] h hs = near-worth t h
     near-total t (t' ∷ ts) h hs =
-        near-plusTimes (T .plan .n) (T .plan .t + 1) (pointOf (T .d)) (T .K) 1 (worthVector vec t) (worthVector vec' t)
+        near-plusTimes (planShape (T .plan)) (pointOf (T .d)) (T .K) 1 (worthVector vec t) (worthVector vec' t)
         (totalVector vec t' ts) (totalVector vec' t' ts) (near-worth t h) (near-total t' ts (hs .0) (hs .1))
 
   module _ (M : Marks) (vec vec' : ℕ → Vector) (b b' : Book) (K : Core T M vec vec' b b') where
-    nonzero : (r m : ℕ) → markOf M r ≡ suc m → markOf M r ≢ 0
-    nonzero r m e g = omega arith
-
     -- a sum of held rows
     near-of : (t : Summand) → HeldIn M t → NearIn vec vec' t
-    near-of (once a) h = K .near a (h .0) (nonzero a 1 (h .1))
-    near-of (times s x) h = K .near x (h .0) (nonzero x 1 (h .1))
+    near-of (once a) h = K .near a (h .0) (nonzero M a (h .1))
+    near-of (times s x) h = K .near x (h .0) (nonzero M x (h .1))
     near-of (fee k) h = tt
 
-    near-finish : (x : ℕ) → Tripled 7 M x
+    near-finish : (x : ℕ) → Tripled collected M x
         → AllNear (finished M x) (at vec (x + 2) (written M vec x)) (at vec' (x + 2) (written M vec' x))
     near-finish x al =
-        near-put (remarked (remarked M x 6) (x + 1) 6) vec vec'
-        (near-mark (remarked M x 6) vec vec' (near-mark M vec vec' (K .near) x 6 (nonzero x 6 (al .first))) (x + 1) 6 second) (x + 2) 2 (written M vec x) (written M vec' x) new
+        near-put (remarked (remarked M x spent) (x + 1) spent) vec vec'
+        (near-mark (remarked M x spent) vec vec' (near-mark M vec vec' (K .near) x spent (nonzero M x (al .first))) (x + 1) spent second) (x + 2) held (written M vec x) (written M vec' x) new
       where
-        second : markOf (remarked M x 6) (x + 1) ≢ 0
-        second g = omega (arith, getD-set-other (M .marks) x (x + 1) 6 0 (omega arith), al .second)
+        second : markOf (remarked M x spent) (x + 1) ≢ empty
+        second g = omega (arith, getD-set-other (M .marks) x (x + 1) spent 0 (omega arith), al .second)
 
-        low : x < 94
+        low : x ≤ lastTriple
         low = al .r-low
 
         w : (number (maskVectorA M vec x) ≡ number (maskVectorA M vec' x)) × (number (maskVectorB M vec x) ≡ number (maskVectorB M vec' x))
@@ -179,17 +175,17 @@ module _ (T : Two) (lines : List (List ℕ)) where
         y' = number (maskVectorB M vec x) .0
 
         n0 : Nearly (vec x) (vec' x)
-        n0 = K .near x (omega (arith, low)) (nonzero x 6 (al .first))
+        n0 = K .near x (omega (arith, low)) (nonzero M x (al .first))
 
         n1 : Nearly (vec (x + 1)) (vec' (x + 1))
-        n1 = K .near (x + 1) (omega (arith, low)) (nonzero (x + 1) 3 (al .second))
+        n1 = K .near (x + 1) (omega (arith, low)) (nonzero M (x + 1) (al .second))
 
         n2 : Nearly (vec (x + 2)) (vec' (x + 2))
-        n2 = K .near (x + 2) (omega (arith, low)) (nonzero (x + 2) 3 (al .third))
+        n2 = K .near (x + 2) (omega (arith, low)) (nonzero M (x + 2) (al .third))
 
         new : Nearly (written M vec x) (written M vec' x)
         new =
-            subst (Near (T .plan .n) (T .plan .t + 1) (pointOf (T .d)) (T .K) (written M vec x))
+            subst (Near (planShape (T .plan)) (pointOf (T .d)) (T .K) (written M vec x))
             (ap₂ (λ (a c : Element). productSum vec' x (a .0) (c .0)) (w .0) (w .1))
             (near-total vec vec' (once (x + 2)) (times y (x + 1) ∷ times y' x ∷ fee (product y y') ∷ []) n2 (n1, (n0, (tt, tt))))
 
@@ -200,25 +196,25 @@ module _ (T : Two) (lines : List (List ℕ)) where
     v2 a x = vectorsBy (T .plan) (T .d') a (numberAt (T .plan) (T .d') (T .u') (takes a) x) M vec'
 
     near-by : (a : Act) (x : Given Fixed (takes a)) → AllowedBy a M → RuleWith (T .plan) 0 lines (takes a) x → AllNear (marksBy a M) (v1 a x) (v2 a x)
-    near-by (loads r) (own m) al rule = near-put M vec vec' (K .near) r 1 _ _ (T .link .near-raw r (al .0 .0) (rule refl .1))
+    near-by (loads r) (own m) al rule = near-put M vec vec' (K .near) r raw _ _ (T .link .near-raw r (al .0 .0) (rule refl .1))
     near-by (loads r) (Pack.fixed xs) al rule = absurd (rule refl)
     near-by (loadsTriple r) (own m) al rule =
         let t = rule refl .1 in
-        let lr : r < 96 = omega (arith, al .0 .0) in
-        near-put (remarked (remarked M r 3) (r + 1) 4) _ _
-        (near-put (remarked M r 3) _ _ (near-put M vec vec' (K .near) r 3 _ _ (T .link .near-a r lr t)) (r + 1) 4 _ _ (T .link .near-b r lr t))
-        (r + 2) 4 _ _ (T .link .near-ab r lr t)
+        let lr : r < rowCount = omega (arith, al .0 .0) in
+        near-put (remarked (remarked M r unused) (r + 1) further) _ _
+        (near-put (remarked M r unused) _ _ (near-put M vec vec' (K .near) r unused _ _ (T .link .near-a r lr t)) (r + 1) further _ _ (T .link .near-b r lr t))
+        (r + 2) further _ _ (T .link .near-ab r lr t)
     near-by (loadsTriple r) (Pack.fixed xs) al rule = absurd (rule refl)
     near-by (deals r) sent al rule =
-        near-put M vec vec' (K .near) r 2 _ _
-        (subst (λ (c : ℕ). Near (T .plan .n) (T .plan .t + 1) (pointOf (T .d)) (T .K) (raised (element (dealtNumber (T .plan) (T .d) (T .u) r)) (vec r)) (raised (element c) (vec' r))) (T .link .deals r)
-        (near-raised (T .plan .n) (T .plan .t + 1) (pointOf (T .d)) (T .K) (dealtNumber (T .plan) (T .d) (T .u) r) (vec r) (vec' r) (K .near r (al .0 .0) (nonzero r 0 (al .0 .1)))))
+        near-put M vec vec' (K .near) r held _ _
+        (subst (λ (c : ℕ). Near (planShape (T .plan)) (pointOf (T .d)) (T .K) (raised (element (dealtNumber (T .plan) (T .d) (T .u) r)) (vec r)) (raised (element c) (vec' r))) (T .link .deals r)
+        (near-raised (planShape (T .plan)) (pointOf (T .d)) (T .K) (dealtNumber (T .plan) (T .d) (T .u) r) (vec r) (vec' r) (K .near r (al .0 .0) (nonzero M r (al .0 .1)))))
     near-by (deals r) (Number.fixed x) al rule = absurd (rule refl)
     near-by (opens r) blocks al rule = K .near
     near-by (sums r t ts) x al rule =
-        near-put M vec vec' (K .near) r 2 _ _ (near-total vec vec' t ts (near-of t (al .0 .held .0)) (all-map near-of ts (al .0 .held .1)))
-    near-by (factors x y r) t al rule = near-mark M vec vec' (K .near) r 5 (nonzero r 2 (al .1 .first))
-    near-by (collects r) blocks al rule = near-mark M vec vec' (K .near) r 7 (nonzero r 4 (al .0 .first))
+        near-put M vec vec' (K .near) r held _ _ (near-total vec vec' t ts (near-of t (al .0 .held .0)) (all-map near-of ts (al .0 .held .1)))
+    near-by (factors x y r) t al rule = near-mark M vec vec' (K .near) r masked (nonzero M r (al .1 .first))
+    near-by (collects r) blocks al rule = near-mark M vec vec' (K .near) r collected (nonzero M r (al .0 .first))
     near-by (multiplies r) x al rule = near-finish r (al .0)
 
     -- a triple whose masks the act makes: they are those that were reckoned with

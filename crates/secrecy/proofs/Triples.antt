@@ -13,7 +13,7 @@ use Rattle.field.proofs.Expression.{A, B, C, D, 𝟙, _:+_, _:*_, :-_, Same}
 use Rattle.field.proofs.Solver.{solve}
 use Rattle.field.proofs.Elements.{𝓡}
 use Rattle.poly.specs.Counting.{Elements}
-use Rattle.factory.proofs.Laws.{elements-append, elements-take, elements-drop}
+use Rattle.parts.proofs.Laws.{elements-append, elements-take, elements-drop}
 use Rattle.secrecy.proofs.Shift.{shift, length-shift, elements-shift, shift-at, shift-back}
 open CommutativeRing 𝓡 using (add as _⊕_, mul as _⊗_, neg, one as 1ᴱ)
 

@@ -9,7 +9,8 @@ use lib.Dec.{eqb}
 use lib.ListN.{length, getD}
 use Rattle.field.specs.Modulus.{p}
 use Rattle.field.specs.Element.{Element}
-use Rattle.shape.specs.Bounds.{lastRow}
+use Rattle.shape.specs.Bounds.{rowCount, lastRow}
+use Rattle.shape.specs.Marks.{empty, held, masked}
 use Rattle.refusal.specs.Refusal.{Test, _when_, first, AllFail}
 use Rattle.refusal.specs.Conditions.{beyond, anyBeyond}
 use Rattle.refusal.proofs.Laws.{not-refused}
@@ -18,27 +19,27 @@ use Rattle.session.specs.declared.Session.{Session}
 use Rattle.session.specs.Sessions.{sessionTests}
 use Rattle.session.specs.Rows.{rowAt, combined}
 use Rattle.session.specs.Checks.{frameTests, noRow, noTriple, wrongMark}
-use Rattle.sharing.specs.Load.{loadRowRefusal, loadTripleRefusal}
-use Rattle.sharing.specs.Deal.{dealRefusal}
-use Rattle.sharing.specs.Message.{messageRefusal}
-use Rattle.sharing.specs.Linear.{linearRefusal}
-use Rattle.sharing.proofs.Passed.{dealPlace, dealLate, deal-placed, messagePlace, messageLate, message-placed, linearPlace, linearLate, linear-placed}
+use Rattle.load.specs.Load.{loadRowRefusal, loadTripleRefusal}
+use Rattle.deal.specs.Deal.{dealRefusal}
+use Rattle.message.specs.Message.{messageRefusal}
+use Rattle.linear.specs.Linear.{linearRefusal}
+use Rattle.deal.proofs.Passed.{dealPlace, dealLate, deal-placed}
+use Rattle.message.proofs.Passed.{messagePlace, messageLate, message-placed}
+use Rattle.linear.proofs.Passed.{linearPlace, linearLate, linear-placed}
 use Rattle.opening.specs.Opening.{openRefusal}
 use Rattle.opening.proofs.Passed.{openPlace, openNumbers, walkTests, open-placed, OpenChecked}
-use Rattle.product.specs.Masks.{masksRefusal, maskNumbers}
-use Rattle.product.specs.Finish as Finish
-use Rattle.product.specs.Finish.{unopened}
-use Rattle.product.specs.Collect.{collectRefusal, collectNumbers}
-use Rattle.product.specs.Multiply.{rememberedNumbers, multiplyRefusal}
-use Rattle.product.proofs.Passed.{Factored, factorTests, masksEarly, masks-placed, collectEarly, collect-placed, collectRest, multiplyEarly, multiply-placed, multiplyTests}
-use Rattle.factory.proofs.Laws.{elements-append}
-use Rattle.vectors.specs.Vector.{Vector, number, numbers, rowOf}
-use Rattle.runs.specs.Draws.{Plan, Draw, pointOf}
+use Rattle.product_masks.specs.Masks.{masksRefusal, maskNumbers}
+use Rattle.collect.specs.Collect.{unopened, collectRefusal, collectNumbers}
+use Rattle.multiply.specs.Multiply.{rememberedNumbers, multiplyRefusal}
+use Rattle.collect.specs.Collect as Collect
+use Rattle.product_masks.proofs.Passed.{Factored, factorTests, masksEarly, masks-placed}
+use Rattle.collect.proofs.Passed.{collectEarly, collect-placed, collectRest}
+use Rattle.multiply.proofs.Passed.{multiplyEarly, multiply-placed, multiplyTests}
+use Rattle.vectors.specs.Vector.{Vector, number}
+use Rattle.runs.specs.Draws.{Plan, Draw, pointOf, planShape}
 use Rattle.runs.proofs.Marks.{Marks, markOf, rememberedA, rememberedB, Opened, sessionAt, less, maskVectorA, maskVectorB}
-use Rattle.runs.proofs.Packs.{rowFor}
-use Rattle.runs.proofs.Holds.{Holds, Holder, wide, held-row, combined-row}
+use Rattle.runs.proofs.Holds.{Holds, Holder, wide, row-low, held-row, combined-row}
 use Rattle.runs.proofs.Recalled.{Recalls}
-use Rattle.runs.proofs.Lines.{elements-pass, numbers-elements}
 use Rattle.secrecy.proofs.Near.{Near, near-plusTimes, near-same}
 use Rattle.secrecy.proofs.Link.{Alike}
 
@@ -50,14 +51,6 @@ same-after [] ys zs h = h tt
 same-after (k when true ∷ xs) ys zs h = refl
 same-after (k when false ∷ xs) ys zs h = same-after xs ys zs (λ f. h (refl, f))
 
--- rows of vectors are elements
-pub row-low : (plan : Plan) (d : Draw) (i : ℕ) (X : Vector) → anyBeyond (rowFor plan d i X) ≡ false
-unfolding rowOf
-row-low plan d i X =
-    elements-pass (rowFor plan d i X)
-    (elements-append (numbers (plan .t + 1) (X .v i)) _ (numbers-elements (plan .t + 1) (X .v i))
-    (elements-append (numbers (plan .n) _) (numbers (plan .n) _) (numbers-elements (plan .n) _) (numbers-elements (plan .n) _)))
-
 -- ---- one post in both runs, with the same marks
 
 pub record Twin : Type 0 where
@@ -67,7 +60,7 @@ pub record Twin : Type 0 where
   pub marks : Marks
   pub vec : ℕ → Vector
   pub vec' : ℕ → Vector
-  pub near : (r : ℕ) → r < 96 → markOf marks r ≢ 0 → Near (plan .n) (plan .t + 1) (pointOf draw) K (vec r) (vec' r)
+  pub near : (r : ℕ) → r < rowCount → markOf marks r ≢ empty → Near (planShape plan) (pointOf draw) K (vec r) (vec' r)
   pub post : ℕ
   pub low : 1 ≤ post
   pub high : post ≤ plan .n
@@ -108,30 +101,30 @@ module _ (T : Twin) where
   two = record { plan = plan; draw = d; len = len; post = i; marks = M; opened = Y'; vec = vec'; rows = l'; holds = h' }
 
   frame-same : frameTests s l ≡ frameTests s l'
-  frame-same = ap (λ (m : ℕ). sessionTests (plan .n) (plan .t) i (pointOf d i) ++ (5 when not (eqb m (96 * W)) ∷ [])) (h .long ∙ sym (h' .long))
+  frame-same = ap (λ (m : ℕ). sessionTests (plan .n) (plan .t) i (pointOf d i) ++ (5 when not (eqb m (rowCount * W)) ∷ [])) (h .long ∙ sym (h' .long))
 
   -- a row with the mark that is needed: elements in both runs
-  pub elements-same : (x m : ℕ) → x ≤ lastRow → markOf M x ≡ suc m → anyBeyond (rowAt W l x) ≡ anyBeyond (rowAt W l' x)
-  elements-same x m r is =
-      ap anyBeyond (held-row one x m r is) ∙ row-low plan d i (vec x) ∙ sym (ap anyBeyond (held-row two x m r is) ∙ row-low plan d i (vec' x))
+  pub elements-same : (x : ℕ) {m : ℕ} → x ≤ lastRow → markOf M x ≡ suc m → anyBeyond (rowAt W l x) ≡ anyBeyond (rowAt W l' x)
+  elements-same x r is =
+      ap anyBeyond (held-row one x r is) ∙ row-low plan d i (vec x) ∙ sym (ap anyBeyond (held-row two x r is) ∙ row-low plan d i (vec' x))
 
-  there : (x m : ℕ) → x ≤ lastRow → markOf M x ≡ suc m → Near (plan .n) (plan .t + 1) (pointOf d) K (vec x) (vec' x)
-  there x m r is = near x (omega arith) (λ e. omega arith)
+  there : (x : ℕ) {m : ℕ} → x ≤ lastRow → markOf M x ≡ suc m → Near (planShape plan) (pointOf d) K (vec x) (vec' x)
+  there x r is = near x (omega arith) (λ e. omega arith)
 
   -- a row of one number in both runs; a difference of one number
-  pub row-same : (x m : ℕ) → x ≤ lastRow → markOf M x ≡ suc m → number (vec x) ≡ number (vec' x) → rowAt W l x ≡ rowAt W l' x
-  row-same x m r is e =
-      held-row one x m r is ∙ near-same (plan .n) (plan .t + 1) (pointOf d) K (vec x) (vec' x) (there x m r is) e i lo hi
-      ∙ sym (held-row two x m r is)
+  pub row-same : (x : ℕ) {m : ℕ} → x ≤ lastRow → markOf M x ≡ suc m → number (vec x) ≡ number (vec' x) → rowAt W l x ≡ rowAt W l' x
+  row-same x r is e =
+      held-row one x r is ∙ near-same (planShape plan) (pointOf d) K (vec x) (vec' x) (there x r is) e i lo hi
+      ∙ sym (held-row two x r is)
 
-  pub mask-same : (a x m : ℕ) → a ≤ lastRow → markOf M a ≡ 2 → x ≤ lastRow → markOf M x ≡ suc m
+  pub mask-same : (a x : ℕ) {m : ℕ} → a ≤ lastRow → markOf M a ≡ held → x ≤ lastRow → markOf M x ≡ suc m
       → number (less (vec a) (vec x)) ≡ number (less (vec' a) (vec' x))
       → combined (p - 1) (rowAt W l a) (rowAt W l x) ≡ combined (p - 1) (rowAt W l' a) (rowAt W l' x)
-  mask-same a x m ra ia rx ix e =
-      combined-row one (p - 1) a x (held-row one a 1 ra ia) (held-row one x m rx ix)
-      ∙ near-same (plan .n) (plan .t + 1) (pointOf d) K (less (vec a) (vec x)) (less (vec' a) (vec' x))
-      (near-plusTimes (plan .n) (plan .t + 1) (pointOf d) K (p - 1) (vec a) (vec' a) (vec x) (vec' x) (there a 1 ra ia) (there x m rx ix)) e i lo hi
-      ∙ sym (combined-row two (p - 1) a x (held-row two a 1 ra ia) (held-row two x m rx ix))
+  mask-same a x ra ia rx ix e =
+      combined-row one (p - 1) a x (held-row one a ra ia) (held-row one x rx ix)
+      ∙ near-same (planShape plan) (pointOf d) K (less (vec a) (vec x)) (less (vec' a) (vec' x))
+      (near-plusTimes (planShape plan) (pointOf d) K (p - 1) (vec a) (vec' a) (vec x) (vec' x) (there a ra ia) (there x rx ix)) e i lo hi
+      ∙ sym (combined-row two (p - 1) a x (held-row two a ra ia) (held-row two x rx ix))
 
   -- ---- the calls
 
@@ -163,13 +156,13 @@ module _ (T : Twin) where
   unfolding dealRefusal
   deal-same r c =
       behind (dealPlace s r c) (dealLate (anyBeyond (rowAt W l r))) (dealLate (anyBeyond (rowAt W l' r))) (λ fr f.
-      let k = deal-placed s r c f in ap (λ (b : Bool). first (dealLate b)) (elements-same r 0 (k .row-in) (k .is-raw)))
+      let k = deal-placed s r c f in ap (λ (b : Bool). first (dealLate b)) (elements-same r (k .row-in) (k .is-raw)))
 
   pub message-same : (r : ℕ) (lent : List ℕ) → messageRefusal s l r lent ≡ messageRefusal s' l' r lent
   unfolding messageRefusal
   message-same r lent =
       behind (messagePlace s r lent) (messageLate (anyBeyond (rowAt W l r))) (messageLate (anyBeyond (rowAt W l' r))) (λ fr f.
-      let k = message-placed s r lent f in ap (λ (b : Bool). first (messageLate b)) (elements-same r 1 (k .row-in) (k .is-held)))
+      let k = message-placed s r lent f in ap (λ (b : Bool). first (messageLate b)) (elements-same r (k .row-in) (k .is-held)))
 
   pub linear-same : (r a b scale fee : ℕ) → linearRefusal s l r a b scale fee ≡ linearRefusal s' l' r a b scale fee
   unfolding linearRefusal
@@ -177,42 +170,42 @@ module _ (T : Twin) where
       behind (linearPlace s r a b scale fee) (linearLate (anyBeyond (rowAt W l a)) (anyBeyond (rowAt W l b)))
       (linearLate (anyBeyond (rowAt W l' a)) (anyBeyond (rowAt W l' b))) (λ fr f.
       let k = linear-placed s r a b scale fee f in
-      ap₂ (λ (x y : Bool). first (linearLate x y)) (elements-same a 1 (k .a-in) (k .a-held)) (elements-same b 1 (k .b-in) (k .b-held)))
+      ap₂ (λ (x y : Bool). first (linearLate x y)) (elements-same a (k .a-in) (k .a-held)) (elements-same b (k .b-in) (k .b-held)))
 
-  pub numbers-same : (a b r m : ℕ) → Factored s a b r (suc m) → LowSame W l l' a b r
-  numbers-same a b r m f = record {
-    a-same = elements-same a 1 (f .a-in) (f .a-held);
-    b-same = elements-same b 1 (f .b-in) (f .b-held);
-    first-same = elements-same r m (omega (arith, f .triple-in)) (f .first-mark);
-    second-same = elements-same (r + 1) 3 (omega (arith, f .triple-in)) (f .second-mark);
+  pub numbers-same : (a b r : ℕ) {m : ℕ} → Factored s a b r (suc m) → LowSame W l l' a b r
+  numbers-same a b r f = record {
+    a-same = elements-same a (f .a-in) (f .a-held);
+    b-same = elements-same b (f .b-in) (f .b-held);
+    first-same = elements-same r (omega (arith, f .triple-in)) (f .first-mark);
+    second-same = elements-same (r + 1) (omega (arith, f .triple-in)) (f .second-mark);
   }
 
   pub masks-same : (a b r : ℕ) (lent : List ℕ) → masksRefusal s l a b r lent ≡ masksRefusal s' l' a b r lent
   unfolding masksRefusal
   masks-same a b r lent =
       behind (masksEarly s a b r lent) (maskNumbers s l a b r) (maskNumbers s l' a b r) (λ fr f.
-      let e = numbers-same a b r 2 (masks-placed s a b r lent f .factors) in
+      let e = numbers-same a b r (masks-placed s a b r lent f .factors) in
       λ j. first (factorTests (e .a-same j) (e .b-same j) (e .first-same j) (e .second-same j)))
 
   -- the first call of a finish, whose masks have one number in both runs
   pub collect-same : (r : ℕ) (blocksA blocksB : List ℕ)
-      → (markOf M r ≡ 5 → r < 96 → (number (maskVectorA M vec r) ≡ number (maskVectorA M vec' r)) × (number (maskVectorB M vec r) ≡ number (maskVectorB M vec' r)))
+      → (markOf M r ≡ masked → r < rowCount → (number (maskVectorA M vec r) ≡ number (maskVectorA M vec' r)) × (number (maskVectorB M vec r) ≡ number (maskVectorB M vec' r)))
       → collectRefusal s l r blocksA blocksB ≡ collectRefusal s' l' r blocksA blocksB
   unfolding collectRefusal
   collect-same r blocksA blocksB eq =
       behind (collectEarly s r blocksA blocksB) (late l) (late l') (λ fr f.
       let k = collect-placed s r blocksA blocksB f .factors in
-      let e = numbers-same (rememberedA M r) (rememberedB M r) r 4 k in
+      let e = numbers-same (rememberedA M r) (rememberedB M r) r k in
       let w = eq (k .first-mark) (omega (arith, k .triple-in)) in
-      let x = mask-same (rememberedA M r) r 4 (k .a-in) (k .a-held) (omega (arith, k .triple-in)) (k .first-mark) (w .0) in
-      let y = mask-same (rememberedB M r) (r + 1) 3 (k .b-in) (k .b-held) (omega (arith, k .triple-in)) (k .second-mark) (w .1) in
+      let x = mask-same (rememberedA M r) r (k .a-in) (k .a-held) (omega (arith, k .triple-in)) (k .first-mark) (w .0) in
+      let y = mask-same (rememberedB M r) (r + 1) (k .b-in) (k .b-held) (omega (arith, k .triple-in)) (k .second-mark) (w .1) in
       λ j.
       first
       ((factorTests (e .a-same j) (e .b-same j) (e .first-same j) (e .second-same j) ++ collectRest s blocksA blocksB)
       ++ unopened s (x j) (y j) blocksA blocksB))
     where
       late : List ℕ → List Test
-      late rows = collectNumbers s rows (rememberedA M r) (rememberedB M r) r blocksA blocksB ++ unopened s (Finish.maskA s rows r) (Finish.maskB s rows r) blocksA blocksB
+      late rows = collectNumbers s rows (rememberedA M r) (rememberedB M r) r blocksA blocksB ++ unopened s (Collect.maskA s rows r) (Collect.maskB s rows r) blocksA blocksB
 
   -- the second: the numbers remembered are elements in both
   pub multiply-same : (r : ℕ) → multiplyRefusal s l r ≡ multiplyRefusal s' l' r
@@ -224,9 +217,9 @@ module _ (T : Twin) where
       let w' = recalls' .each r (k .first-mark) in
       let a = low-same _ _ (number (maskVectorA M vec r)) (number (maskVectorA M vec' r)) (w .is-a) (w' .is-a) in
       let b = low-same _ _ (number (maskVectorB M vec r)) (number (maskVectorB M vec' r)) (w .is-b) (w' .is-b) in
-      let one = elements-same r 6 (omega (arith, k .triple-in)) (k .first-mark) in
-      let two = elements-same (r + 1) 3 (omega (arith, k .triple-in)) (k .second-mark) in
-      let three = elements-same (r + 2) 3 (omega (arith, k .triple-in)) (k .third-mark) in
+      let one = elements-same r (omega (arith, k .triple-in)) (k .first-mark) in
+      let two = elements-same (r + 1) (omega (arith, k .triple-in)) (k .second-mark) in
+      let three = elements-same (r + 2) (omega (arith, k .triple-in)) (k .third-mark) in
       λ j. first (multiplyTests (a j) (b j) (one j) (two j) (three j)))
     where
       late : Opened → List ℕ → List Test
@@ -243,7 +236,7 @@ module _ (T : Twin) where
   open-same r blocks walk =
       behind (openPlace s r blocks) (late l) (late l') (λ fr f.
       let k = open-placed s r blocks f in
-      let e = elements-same r 1 (k .row-in) (k .is-held) in
+      let e = elements-same r (k .row-in) (k .is-held) in
       ap (λ (b : Bool). first (openNumbers s b blocks ++ walkTests s (rowAt W l r) blocks)) e
       ∙ same-after (openNumbers s (anyBeyond (rowAt W l' r)) blocks) (walkTests s (rowAt W l r) blocks) (walkTests s (rowAt W l' r) blocks) (λ g.
       let (high, (bad, _)) = g in

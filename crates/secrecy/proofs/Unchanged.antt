@@ -1,10 +1,9 @@
 -- What the group sees of the draw itself is the same of the matched draw: its check points, its packs, the polynomials of the
 -- dealers in the group, and what the dealers broadcast.
-use Prim.Native.Nat.{ℕ, _+_, _<_}
+use Prim.Native.Nat.{ℕ, _<_}
 use mathlib.Core.Path.{_≡_, refl, sym, _∙_, ap, ap₂, fun-ext}
 use mathlib.Core.Bool.{Bool, true, false, cond}
 use mathlib.Core.List.{List, [], _∷_, map}
-use lib.ListN.{take}
 use Rattle.field.specs.Modulus.{p}
 use Rattle.field.specs.Algebra.{CommutativeRing}
 use Rattle.field.specs.Element.{element}
@@ -13,7 +12,8 @@ use Rattle.poly.specs.Counting.{All}
 use Rattle.poly.proofs.Lists.{all-map}
 use Rattle.forms.specs.Lines as Line
 use Rattle.forms.specs.Lines.{text}
-use Rattle.runs.specs.Draws.{Plan, Raw, none, by, IsRaw, whenRaw, Sound, Draw, IsDraw, rawLength, pointOf, rawDraw}
+use Rattle.parts.specs.Draw.{drawnF}
+use Rattle.runs.specs.Draws.{Plan, Raw, none, by, IsRaw, whenRaw, Sound, Draw, IsDraw, rawLength, pointOf, rawDraw, planShape}
 use Rattle.secrecy.specs.Steps.{Secrets}
 use Rattle.secrecy.specs.Seen.{allRows, member, polynomialSeen, dealSeen, rawSeen, tripleSeen}
 use Rattle.secrecy.specs.Claim.{Group}
@@ -71,16 +71,16 @@ module _ (plan : Plan) (group : List ℕ) (u u' : Secrets) (Δ : ℕ → Gaps) (
     same-polynomial r = go (plan .raw r) refl
       where
         shown : Draw → Raw → List ℕ
-        shown e k = elim k [ none ↦ [] | by dealer ↦ cond (member dealer group) (take (plan .t + 1) (rawDraw e r)) [] ]
+        shown e k = elim k [ none ↦ [] | by dealer ↦ cond (member dealer group) (drawnF (planShape plan) (rawDraw e r)) [] ]
 
         go : (k : Raw) → plan .raw r ≡ k → shown d k ≡ shown d' k
         go none e = refl
         go (by dealer) e = pick (member dealer group) refl
           where
             pick : (b : Bool) → member dealer group ≡ b
-                → cond b (take (plan .t + 1) (rawDraw d r)) [] ≡ cond b (take (plan .t + 1) (rawDraw d' r)) []
+                → cond b (drawnF (planShape plan) (rawDraw d r)) [] ≡ cond b (drawnF (planShape plan) (rawDraw d' r)) []
             pick false f = refl
-            pick true f = ap (take (plan .t + 1)) (one-secret r (dealers r dealer e f))
+            pick true f = ap (drawnF (planShape plan)) (one-secret r (dealers r dealer e f))
 
     pub same-polynomials : map (polynomialSeen plan group d u) allRows ≡ map (polynomialSeen plan group d' u') allRows
     same-polynomials = ap (λ (f : ℕ → List ℕ). map f allRows) (fun-ext same-polynomial)

@@ -8,6 +8,8 @@ use mathlib.Core.List.{List, []}
 use lib.ListN.{length}
 use Rattle.field.specs.Modulus.{p}
 use Rattle.poly.specs.Counting.{All}
+use Rattle.shape.specs.Bounds.{lastRow}
+use Rattle.shape.specs.Marks.{held}
 use Rattle.session.specs.Sessions.{mark}
 use Rattle.session.specs.Rows.{width, rowAt}
 use Rattle.runs.specs.Draws.{Plan, Draw, IsDraw, IsRaw, Sound, by}
@@ -59,7 +61,7 @@ abbrev pub AgreeingRows : Plan → (ℕ → List ℕ) → List Step → Secrets 
 AgreeingRows plan rows cs u u' R d d' =
     let q = postsAfter plan d u cs [] (λ i. newPost plan d (rows i) i) in
     let q' = postsAfter plan d' u' cs [] (λ i. newPost plan d' (rows i) i) in
-    (i : ℕ) → 1 ≤ i → i ≤ plan .n → (r : ℕ) → r ≤ 95 → mark (q i .session) r ≡ 2
+    (i : ℕ) → 1 ≤ i → i ≤ plan .n → (r : ℕ) → r ≤ lastRow → mark (q i .session) r ≡ held
     → bookAfter u cs (R .entries) blank .place r ≡ bookAfter u' cs (R .entries) blank .place r
     → rowAt (width (q i .session)) (q i .rows) r ≡ rowAt (width (q i .session)) (q' i .rows) r
 

@@ -8,7 +8,7 @@ use lib.Dec.{eqb}
 use lib.ListN.{replicate}
 use Rattle.field.specs.Modulus.{p}
 use Rattle.poly.specs.Counting.{Distinct}
-use Rattle.factory.specs.Draw.{eachFrom}
+use Rattle.parts.specs.Draw.{eachFrom}
 use Rattle.runs.specs.Draws.{Plan, Draw, IsDraw, rawLength, tripleLength}
 use Rattle.runs.specs.Calls.{Among}
 use Rattle.secrecy.specs.Steps.{Secrets, Step}
@@ -34,7 +34,7 @@ choices (c ∷ cs) = forEach c (λ x. map (λ xs. x ∷ xs) (choices cs))
 unfoldable pub listsOf : ℕ → ℕ → ℕ → List (List ℕ)
 listsOf low many k = choices (replicate k (eachFrom low many (λ x. x)))
 
--- all lists of 96 lists, the r-th of `many r` elements
+-- all lists of a list for each row, the r-th of `many r` elements
 unfoldable pub allLists : (ℕ → ℕ) → List (List (List ℕ))
 allLists many = choices (map (λ r. listsOf 0 p (many r)) allRows)
 

@@ -7,8 +7,10 @@ use mathlib.Core.Logic.{_≢_, _⊎_}
 use mathlib.Core.List.{List, [], _∷_, _++_}
 use lib.ListN.{take, drop, getD}
 use Rattle.poly.specs.Counting.{All}
+use Rattle.shape.specs.Marks.{present}
+use Rattle.shape.specs.Lengths.{vLength}
 use Rattle.opening.specs.Walking.{blockMark, blockCoefficients}
-use Rattle.runs.specs.Draws.{Plan, IsRaw}
+use Rattle.runs.specs.Draws.{Plan, IsRaw, planShape}
 use Rattle.runs.specs.Outline.{Taking, nothingTaken, aRowPack, aTriplePack, aNumber, aRecord, twoRecords, takes, Given, moves, Every}
 use Rattle.runs.specs.Calls.{Told, ToldHalf}
 use Rattle.secrecy.specs.Steps.{Pack, Number, Fixed, Step, own, sent}
@@ -42,8 +44,8 @@ FromDealer (Number.fixed x) = ⊥
 -- that post j broadcast xs.
 abbrev pub OnlySent : Plan → (ℕ → List ℕ → Type 0) → (ℕ → List ℕ) → Type 0
 OnlySent plan Shown blocks =
-    (i j : ℕ) → 1 ≤ i → i ≤ plan .n → 1 ≤ j → j ≤ plan .n → j ≢ i → blockMark (plan .t + 1) (blocks i) j ≡ 1
-    → Shown j (blockCoefficients (plan .t + 1) (blocks i) j)
+    (i j : ℕ) → 1 ≤ i → i ≤ plan .n → 1 ≤ j → j ≤ plan .n → j ≢ i → blockMark (vLength (planShape plan)) (blocks i) j ≡ present
+    → Shown j (blockCoefficients (vLength (planShape plan)) (blocks i) j)
 
 -- An opening that comes to the walk: not refused, or refused with 9 or 13.
 abbrev pub Walks : ℕ → Type 0
@@ -58,8 +60,8 @@ RuleWith plan k lines (aNumber r) c = k ≡ 0 → FromDealer c
 RuleWith plan k lines (aRecord r) blocks = Walks k → OnlySent plan (Told lines r) (λ i. blocks i lines)
 RuleWith plan k lines (twoRecords r) blocks =
     Walks k
-    → OnlySent plan (ToldHalf (plan .t) (take (plan .t + 1)) r lines) (λ i. blocks .0 i lines)
-    × OnlySent plan (ToldHalf (plan .t) (drop (plan .t + 1)) r lines) (λ i. blocks .1 i lines)
+    → OnlySent plan (ToldHalf (planShape plan) (take (vLength (planShape plan))) r lines) (λ i. blocks .0 i lines)
+    × OnlySent plan (ToldHalf (planShape plan) (drop (vLength (planShape plan))) r lines) (λ i. blocks .1 i lines)
 
 abbrev pub Rule : Plan → Step → ℕ → List (List ℕ) → Type 0
 Rule plan c k lines = Every (λ m. RuleWith plan k lines (takes (m .0)) (m .1)) (moves c)

@@ -3,20 +3,20 @@ use Prim.Native.Nat.{ℕ, _+_}
 use mathlib.Core.Bool.{Bool, false, cond, _||_}
 use mathlib.Core.List.{List, [], _∷_, _++_, map}
 use lib.Dec.{eqb}
-use lib.ListN.{take}
-use Rattle.factory.specs.Draw.{eachFrom}
+use Rattle.shape.specs.Bounds.{rowCount}
+use Rattle.parts.specs.Draw.{drawnF, eachFrom}
 use Rattle.forms.specs.Lines as Line
 use Rattle.forms.specs.Lines.{text}
-use Rattle.runs.specs.Draws.{Plan, Draw, none, by, whenRaw, pointOf, rawDraw, rawPack, triplePack}
+use Rattle.runs.specs.Draws.{Plan, Draw, none, by, whenRaw, pointOf, rawDraw, rawPack, triplePack, planShape}
 use Rattle.runs.specs.Calls.{Post, Performed, perform, after, broadcast, newPost}
 use Rattle.secrecy.specs.Steps.{Secrets, Step, callAt, heardFrom, dealtNumber}
 
--- the posts 1 to n; the rows 0 to 95
+-- the posts 1 to n; the rows from 0 on
 unfoldable pub posts : ℕ → List ℕ
 posts n = eachFrom 1 n (λ i. i)
 
 unfoldable pub allRows : List ℕ
-allRows = eachFrom 0 96 (λ r. r)
+allRows = eachFrom 0 rowCount (λ r. r)
 
 unfoldable pub joined : {A : Type 0} → List (List A) → List A
 joined [] = []
@@ -78,7 +78,8 @@ module _ (plan : Plan) (group : List ℕ) (draw : Draw) (u : Secrets) where
 
   -- f of row r, "whose dealer is a post of the group"
   unfoldable pub polynomialSeen : ℕ → List ℕ
-  polynomialSeen r = elim (plan .raw r) [ none ↦ [] | by dealer ↦ cond (member dealer group) (take (plan .t + 1) (rawDraw draw r)) [] ]
+  polynomialSeen r =
+      elim (plan .raw r) [ none ↦ [] | by dealer ↦ cond (member dealer group) (drawnF (planShape plan) (rawDraw draw r)) [] ]
 
   -- the D line of row r's dealer
   unfoldable pub dealSeen : ℕ → List ℕ

@@ -5,7 +5,7 @@ use mathlib.Core.Path.{refl}
 use mathlib.Core.Bool.{Bool, true}
 use mathlib.Core.List.{List, [], _∷_}
 use lib.ListN.{getD}
-use Rattle.factory.specs.Packs.{dealerNumber}
+use Rattle.factory.specs.Calls.{dealerNumber}
 use Rattle.runs.specs.Draws.{Plan, Draw, whenRaw, rawDraw, rawPack, triplePack}
 use Rattle.runs.specs.Outline.{cut, Kinds, CallOf, outline, Filling, filled}
 use Rattle.runs.specs.Calls.{Actual, Call}

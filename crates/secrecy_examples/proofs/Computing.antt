@@ -4,22 +4,21 @@ use Rattle.poly.specs.Polynomial.{value}
 use Rattle.poly.specs.Interpolation.{nodal, weight, terms, interpolated}
 use Rattle.refusal.specs.Refusal.{outcome}
 use Rattle.refusal.specs.Conditions.{anyBeyond}
-use Rattle.factory.specs.Draw.{eachFrom, part}
-use Rattle.factory.specs.Packs.{dealerRefusal}
+use Rattle.parts.specs.Draw.{eachFrom, part}
+use Rattle.factory.specs.Calls.{dealerRefusal}
 use Rattle.session.specs.Rows.{combined, plusSums}
 use Rattle.session.specs.Sessions.{created}
-use Rattle.sharing.specs.Load.{loadRowRefusal, loadTripleRefusal, withTriple}
-use Rattle.sharing.specs.Deal.{dealRefusal}
-use Rattle.sharing.specs.Message.{messageRefusal}
-use Rattle.sharing.specs.Linear.{linearRefusal}
-use Rattle.opening.specs.Blocks as Blocks
+use Rattle.load.specs.Load.{loadRowRefusal, loadTripleRefusal, withTriple}
+use Rattle.deal.specs.Deal.{dealRefusal}
+use Rattle.message.specs.Message.{messageRefusal}
+use Rattle.linear.specs.Linear.{linearRefusal}
+use Rattle.blocks.specs.Blocks as Blocks
 use Rattle.agreement.specs.Agreement.{allPairs}
-use Rattle.opening.specs.Accepting as Accepting
+use Rattle.accepting.specs.Accepting as Accepting
 use Rattle.opening.specs.Opening.{openRefusal}
-use Rattle.product.specs.Masks.{masksRefusal, maskNumbersOf}
-use Rattle.product.specs.Finish.{productRow, withProduct}
-use Rattle.product.specs.Collect.{collectRefusal}
-use Rattle.product.specs.Multiply.{multiplyRefusal}
+use Rattle.product_masks.specs.Masks.{masksRefusal, maskNumbersOf}
+use Rattle.collect.specs.Collect.{collectRefusal}
+use Rattle.multiply.specs.Multiply.{productRow, withProduct, multiplyRefusal}
 use Rattle.terms.specs.Listed.{productsOf, padded}
 use Rattle.relation.specs.Tests.{eachAt, namedIn, namedTwice}
 use Rattle.relation.specs.Masks.{relationMasksRefusal, maskedTerms, termMasks}

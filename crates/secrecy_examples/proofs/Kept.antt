@@ -1,5 +1,5 @@
 -- Searches for the proof that a record keeps the rules, that its answers are the same, and that the numbers opened agree.
-use Prim.Native.Nat.{ℕ, _+_, _*_, _≤_}
+use Prim.Native.Nat.{ℕ, _+_, _≤_}
 use mathlib.Core.Path.{_≡_}
 use mathlib.Core.Logic.{_≢_, ⊎-elim}
 use mathlib.Core.List.{List, [], _∷_, _++_}
@@ -9,9 +9,12 @@ use lib.Dec.{eqb}
 use lib.ListN.{length, take, drop}
 use Rattle.field.specs.Modulus.{p}
 use Rattle.poly.specs.Counting.{Elements}
+use Rattle.shape.specs.declared.Shape.{Shape}
+use Rattle.shape.specs.Marks.{present}
+use Rattle.shape.specs.Lengths.{vLength, masksLength}
 use Rattle.opening.specs.Walking.{blockMark, blockCoefficients}
 use Rattle.runs.specs.Draws as Draws
-use Rattle.runs.specs.Draws.{Plan, Raw, IsRaw}
+use Rattle.runs.specs.Draws.{Plan, Raw, IsRaw, planShape}
 use Rattle.runs.specs.Outline.{Taking, nothingTaken, aRowPack, aTriplePack, aNumber, aRecord, twoRecords, takes, Given, moves, Sending, itsOpening, itsMasks, sends, EveryFrom, Every}
 use Rattle.runs.specs.Calls.{Told, ToldHalf, masksLine, openingLine}
 use Rattle.secrecy.specs.Steps as Steps
@@ -56,20 +59,20 @@ unfoldable pub told : (lines : List (List ℕ)) (r j : ℕ) (xs : List ℕ) → 
 unfolding among
 told lines r j xs = among (openingLine r j xs) lines
 
-unfoldable pub told-half : (sent : List (List ℕ)) (t : ℕ) (half : List ℕ → List ℕ) (r : ℕ) (lines : List (List ℕ)) (j : ℕ) (xs : List ℕ)
-    → Option (ToldHalf t half r lines j xs)
+unfoldable pub told-half : (sent : List (List ℕ)) (g : Shape) (half : List ℕ → List ℕ) (r : ℕ) (lines : List (List ℕ)) (j : ℕ) (xs : List ℕ)
+    → Option (ToldHalf g half r lines j xs)
 unfolding either _also_ equal elements among same
-told-half [] t half r lines j xs = none
-told-half (m ∷ sent) t half r lines j xs =
+told-half [] g half r lines j xs = none
+told-half (m ∷ sent) g half r lines j xs =
     either
     (some (λ many low line e. (m, many, low, line, e))
-    also equal (length m) (2 * (t + 1)) also elements m also among (masksLine r j m) lines also same xs (half m))
-    (told-half sent t half r lines j xs)
+    also equal (length m) (masksLength g) also elements m also among (masksLine r j m) lines also same xs (half m))
+    (told-half sent g half r lines j xs)
 
 -- what is asked of post j's block in post i's record
 abbrev pub Block : Plan → (ℕ → List ℕ → Type 0) → (ℕ → List ℕ) → ℕ → ℕ → Type 0
 Block plan Shown blocks i j =
-    j ≢ i → blockMark (plan .t + 1) (blocks i) j ≡ 1 → Shown j (blockCoefficients (plan .t + 1) (blocks i) j)
+    j ≢ i → blockMark (vLength (planShape plan)) (blocks i) j ≡ present → Shown j (blockCoefficients (vLength (planShape plan)) (blocks i) j)
 
 module _ (plan : Plan) (Shown : ℕ → List ℕ → Type 0) (shown : (j : ℕ) (xs : List ℕ) → Option (Shown j xs)) (blocks : ℕ → List ℕ) where
   unfoldable pub block : (i j : ℕ) → Option (Block plan Shown blocks i j)
@@ -77,7 +80,7 @@ module _ (plan : Plan) (Shown : ℕ → List ℕ → Type 0) (shown : (j : ℕ) 
   block i j =
       either (tested (eqb j i) (λ e ne. absurd (ne (eqb-true j i e))))
       (some (λ h ne. h)
-      also where-equal (blockMark (plan .t + 1) (blocks i) j) 1 (shown j (blockCoefficients (plan .t + 1) (blocks i) j)))
+      also where-equal (blockMark (vLength (planShape plan)) (blocks i) j) present (shown j (blockCoefficients (vLength (planShape plan)) (blocks i) j)))
 
   unfoldable pub only-sent : Option (OnlySent plan Shown blocks)
   unfolding _also_ each-post block
@@ -114,8 +117,8 @@ module _ (plan : Plan) (sent : List (List ℕ)) where
   rule-with k lines (twoRecords r) blocks =
       where-walks k
       (both
-      (only-sent plan (ToldHalf (plan .t) (take (plan .t + 1)) r lines) (told-half sent (plan .t) (take (plan .t + 1)) r lines) (λ i. blocks .0 i lines))
-      (only-sent plan (ToldHalf (plan .t) (drop (plan .t + 1)) r lines) (told-half sent (plan .t) (drop (plan .t + 1)) r lines) (λ i. blocks .1 i lines)))
+      (only-sent plan (ToldHalf (planShape plan) (take (vLength (planShape plan))) r lines) (told-half sent (planShape plan) (take (vLength (planShape plan))) r lines) (λ i. blocks .0 i lines))
+      (only-sent plan (ToldHalf (planShape plan) (drop (vLength (planShape plan))) r lines) (told-half sent (planShape plan) (drop (vLength (planShape plan))) r lines) (λ i. blocks .1 i lines)))
 
   unfoldable pub rule : (c : Step) (k : ℕ) (lines : List (List ℕ)) → Option (Rule plan c k lines)
   unfolding every rule-with

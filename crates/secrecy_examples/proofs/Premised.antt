@@ -7,12 +7,14 @@ use mathlib.Core.List.{List, [], _∷_}
 use mathlib.Core.Option.{Option, some, IsSome}
 use native.Mathlib.Omega.{arith}
 use borrow.Author.Tests.{eqb-true, eqb-false, not-true}
-use lib.Dec.{eqb, lit<}
+use lib.Dec.{eqb}
 use lib.ListN.{length, getD}
 use Rattle.field.specs.Modulus.{p}
 use Rattle.poly.specs.Counting.{All, Elements}
+use Rattle.shape.specs.Bounds.{rowCount, lastRow, lastTriple}
 use Rattle.refusal.specs.Refusal.{first}
 use Rattle.refusal.specs.Conditions.{postsTests}
+use Rattle.vectors.proofs.Draws.{element-at}
 use Rattle.runs.specs.Draws as Draws
 use Rattle.runs.specs.Draws.{Raw, Plan, Draw, IsRaw, Sound, Lists, IsDraw, rawLength, tripleLength}
 use Rattle.runs.specs.Calls.{Among}
@@ -38,8 +40,8 @@ unfoldable pub lists : (many : ℕ → ℕ) (ls : List (List ℕ)) → Option (L
 unfolding _also_ both equal elements each-below
 lists many ls =
     some (λ e h. record { count = e; each = h })
-    also equal (length ls) 96
-    also each-below (Fits many ls) 96 (λ r. both (equal (length (getD ls r [])) (many r)) (elements (getD ls r [])))
+    also equal (length ls) rowCount
+    also each-below (Fits many ls) rowCount (λ r. both (equal (length (getD ls r [])) (many r)) (elements (getD ls r [])))
 
 unfoldable pub is-draw : (plan : Plan) (draw : Draw) → Option (IsDraw plan draw)
 unfolding _also_ both equal at-most below each lists
@@ -65,11 +67,6 @@ module _ (P : ℕ → Type 0) where
       go : (b : Bool) → eqb r x ≡ b → (b || member r xs) ≡ true → (member r xs ≡ true → P r) → P r
       go true e m h = subst P (sym (eqb-true r x e)) (a .0)
       go false e m h = h m
-
-pub of-list : (us : List ℕ) → Elements us → (r : ℕ) → getD us r 0 < p
-of-list [] a r = lit< tt
-of-list (u ∷ us) a zero = a .0
-of-list (u ∷ us) a (suc r) = of-list us (a .1) r
 
 pub outside-group : (group : List ℕ) (d x y : ℕ) → not (member d group) ≡ true
     → (dealer : ℕ) → Draws.by d ≡ Draws.by dealer → member dealer group ≡ true → x ≡ y
@@ -98,16 +95,16 @@ module _ (raws : List Raw) (group us us' : List ℕ) where
   dealers = some of-listed also each-below Dealer (length raws) (λ r. dealer-same group (getD raws r Draws.none) (getD us r 0) (getD us' r 0))
 
 module _ (x : Example) where
-  pub raws-in : length (x .raws) ≤ 96 → (r : ℕ) → IsRaw (planOf x .raw r) → r ≤ 95
+  pub raws-in : length (x .raws) ≤ rowCount → (r : ℕ) → IsRaw (planOf x .raw r) → r ≤ lastRow
   raws-in l r h = let m = raw-listed (x .raws) r h in omega arith
 
   unfoldable pub sound : Option (Sound (planOf x))
   unfolding _also_ equal at-most each
   sound =
-      some (λ e l a. record { posts = e; raws = raws-in l; triples = of-member (λ r. r ≤ 93) (x .triples) a })
+      some (λ e l a. record { posts = e; raws = raws-in l; triples = of-member (λ r. r ≤ lastTriple) (x .triples) a })
       also equal (first (postsTests (x .n) (x .t))) 0
-      also at-most (length (x .raws)) 96
-      also each (λ r. at-most r 93) (x .triples)
+      also at-most (length (x .raws)) rowCount
+      also each (λ r. at-most r lastTriple) (x .triples)
 
   unfoldable pub group-few : Option (Group (planOf x) (x .group))
   unfolding _also_ both at-most each
@@ -124,7 +121,7 @@ module _ (x : Example) where
       some (λ s g e e' d a k q. record {
         sound = s;
         group-few = g;
-        secrets = λ r raw. (of-list (x .secrets) e r, of-list (x .secrets') e' r);
+        secrets = λ r raw. (element-at (x .secrets) e r, element-at (x .secrets') e' r);
         dealers = d;
         same-answers = a;
         rules = k;

@@ -5,6 +5,8 @@ use mathlib.Core.Path.{_≡_}
 use mathlib.Core.Logic.{_≢_}
 use mathlib.Core.List.{List, [], _∷_, _++_, map}
 use lib.ListN.{length, drop, getD, replicate}
+use Rattle.shape.specs.Bounds.{rowCount}
+use Rattle.shape.specs.Marks.{present as presentMark}
 use Rattle.runs.specs.Draws.{Raw, none, Plan, Draw, IsRaw}
 use Rattle.secrecy.specs.Steps.{Secrets, Step}
 use Rattle.secrecy.specs.Seen.{Entry, Seen, member, posts, joined, seen}
@@ -62,9 +64,9 @@ bookedAt x us r = bookAfter (secretsOf us) (x .steps) (x .shown .entries) blank 
 
 -- ---- for the data of examples
 
--- 96 lists, empty behind those that are given
+-- a list for each row, empty behind those that are given
 abbrev pub padded : List (List ℕ) → List (List ℕ)
-padded ls = ls ++ replicate (96 - length ls) []
+padded ls = ls ++ replicate (rowCount - length ls) []
 
 -- post j's of one list for each post
 abbrev pub of : List (List ℕ) → ℕ → List ℕ
@@ -75,7 +77,7 @@ abbrev pub blocks : ℕ → (ℕ → List ℕ) → List ℕ
 blocks n block = joined (map block (posts n))
 
 abbrev pub present : List ℕ → List ℕ
-present xs = 1 ∷ xs
+present xs = presentMark ∷ xs
 
 -- the rows of post i with other numbers from the start on
 abbrev pub filled : (ℕ → List ℕ) → ℕ → List ℕ → List ℕ

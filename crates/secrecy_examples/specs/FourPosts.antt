@@ -1,12 +1,14 @@
 -- A second example for demand 3: n = 4, t = 2, posts 2 and 4 are the group. 3 and 10 are dealt, or 5 and 6; their product, 30, and
 -- the first with half the second, 8, are opened, each after messages of three posts; their sum is made and not opened.
-use Prim.Native.Nat.{ℕ}
+use Prim.Native.Nat.{ℕ, _+_}
 use mathlib.Core.Bool.{cond}
 use mathlib.Core.List.{List, [], _∷_, _++_}
 use lib.Dec.{eqb}
 use lib.ListN.{take, drop, replicate}
 use Rattle.field.specs.Modulus.{p}
-use Rattle.factory.specs.Draw.{eachFrom}
+use Rattle.shape.specs.Bounds.{lastTriple}
+use Rattle.shape.specs.Lengths.{shape, rowsLength}
+use Rattle.parts.specs.Draw.{eachFrom}
 use Rattle.runs.specs.Draws.{Raw, Draw, by}
 use Rattle.secrecy.specs.Steps as Steps
 use Rattle.secrecy.specs.Steps.{Pack, Record, Step, own, sent, loadRow, loadTriple, deal, message, opening, linear, masks, collect, multiply}
@@ -48,9 +50,9 @@ draw =
           ∷ []);
     }
 
--- 96 rows of 11 numbers, from i upward at post i
+-- rows of numbers from i upward at post i
 unfoldable pub start : ℕ → List ℕ
-start i = eachFrom i 1056 (λ x. x)
+start i = eachFrom i (rowsLength (shape 4 2)) (λ x. x)
 
 -- Each post is lent another's pack of row 0.
 abbrev pub raw0at1 : List ℕ
@@ -122,8 +124,8 @@ abbrev pub messageOf : ℕ → List ℕ → Step
 messageOf r senders = message r (λ i. replicate 3 0) (λ i. member i senders)
 
 -- Refused: another post's pack (7), packs of wrong lengths (5), a deal of a row that is empty (7), a load into row 3, which holds
--- a sum by then (7), a triple at row 94 (6), a product before its masks are opened (7), a collect and an opening with too few
--- polynomials (9), an opening with a record of a wrong length (5).
+-- a sum by then (7), a triple behind the last row for one (6), a product before its masks are opened (7), a collect and an opening
+-- with too few polynomials (9), an opening with a record of a wrong length (5).
 unfoldable pub steps : List Step
 steps =
     loadRow 0 (own 0)
@@ -137,7 +139,7 @@ steps =
     ∷ deal 3 (Steps.fixed 5)
     ∷ linear 3 0 1 half 0
     ∷ loadRow 3 (own 3)
-    ∷ loadTriple 94 (own 4)
+    ∷ loadTriple (lastTriple + 1) (own 4)
     ∷ loadTriple 4 (own 4)
     ∷ linear 7 0 1 1 0
     ∷ masks 0 1 4 (λ i. replicate 6 i)

@@ -4,6 +4,8 @@ use Prim.Native.Nat.{ℕ}
 use mathlib.Core.Bool.{true}
 use mathlib.Core.List.{List, [], _∷_}
 use lib.ListN.{take, drop, replicate}
+use Rattle.shape.specs.Bounds.{rowCount}
+use Rattle.shape.specs.Lengths.{shape, rowsLength}
 use Rattle.runs.specs.Draws.{Raw, Draw, by}
 use Rattle.secrecy.specs.Steps.{Record, Step, own, sent, loadRow, loadTriple, deal, message, opening, linear, masks, collect, multiply}
 use Rattle.secrecy_examples.specs.Example.{padded, of, blocks, present}
@@ -38,9 +40,9 @@ draw =
           ∷ []);
     }
 
--- 96 rows of 8 numbers, all 0
+-- rows all 0
 unfoldable pub zeros : ℕ → List ℕ
-zeros i = replicate 768 0
+zeros i = replicate (rowsLength (shape 3 1)) 0
 
 -- The posts' masks, and their messages of the product and of the sum.
 abbrev pub masksSent : List (List ℕ)
@@ -72,7 +74,7 @@ products i lines = blocks 3 (λ j. present (of productSent j))
 unfoldable pub sums : Record
 sums i lines = blocks 3 (λ j. present (of sumSent j))
 
--- A second deal of row 0 is refused (7), a sum into row 96 too (6), masks collected once more (7), and an opening of the product before
+-- A second deal of row 0 is refused (7), a sum into a row behind the last too (6), masks collected once more (7), and an opening of the product before
 -- any message (9). The messages of row 6 are made between the two calls of the finish.
 unfoldable pub steps : List Step
 steps =
@@ -85,7 +87,7 @@ steps =
     ∷ deal 2 sent
     ∷ deal 0 sent
     ∷ linear 6 0 1 1 0
-    ∷ linear 96 0 1 1 0
+    ∷ linear rowCount 0 1 1 0
     ∷ masks 0 1 3 (λ i. replicate 4 0)
     ∷ collect 3 masksA masksB
     ∷ collect 3 masksA masksB

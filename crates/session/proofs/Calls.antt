@@ -9,7 +9,8 @@ use Rattle.refusal.proofs.Laws.{Numbered, all-fail}
 use Rattle.refusal.proofs.Groups.{stopped, went-on, fail-parts}
 use Rattle.session.specs.declared.Session.{Session}
 use Rattle.session.specs.Sessions.{shapeOf}
-use Rattle.session.specs.Checks.{frameTests, Framed, Sized}
+use Rattle.session.specs.Checks.{frameTests}
+use Rattle.session.specs.Between.{Framed, Sized}
 use Rattle.session.proofs.Passed.{framed}
 
 module _ (s : Session) (rows : List ℕ) (r : ℕ) (e : r ≡ first (frameTests s rows)) (z : r ≡ 0) where

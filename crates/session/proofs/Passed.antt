@@ -17,7 +17,8 @@ use Rattle.refusal.proofs.Groups.{first-chain, stopped, went-on}
 use Rattle.refusal.proofs.Ranges.{posts-valid}
 use Rattle.session.specs.declared.Session.{Session}
 use Rattle.session.specs.Sessions.{shapeOf, sessionTests}
-use Rattle.session.specs.Checks.{frameTests, noRow, noTriple, Framed, RowIn, TripleIn}
+use Rattle.session.specs.Checks.{frameTests, noRow, noTriple}
+use Rattle.session.specs.Between.{Framed, RowIn, TripleIn}
 
 pub framed : (s : Session) (rows : List ℕ) → AllFail (frameTests s rows) → Framed s rows
 framed s rows h =

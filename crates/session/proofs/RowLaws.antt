@@ -16,7 +16,7 @@ use Rattle.shape.specs.declared.Shape.{Shape}
 use Rattle.shape.specs.Bounds.{rowCount}
 use Rattle.shape.specs.Lengths.{Valid, rowLength, sumsAt}
 use Rattle.session.specs.Rows.{rowAt, withRow}
-use Rattle.session.specs.Checks.{Sized, RowIn}
+use Rattle.session.specs.Between.{Sized, RowIn}
 
 -- a row ends where the next begins
 pub next : (q r w : ℕ) → q < r → q * w + w ≤ r * w

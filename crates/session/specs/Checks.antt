@@ -1,14 +1,10 @@
--- Document 01, "Where each refusal is checked": the tests that the calls on a session share, and what holds where they fail.
-use Prim.Native.Nat.{ℕ, _+_, _*_, _≤_, _<_}
-use mathlib.Core.Path.{_≡_}
+-- Document 01, "Where each refusal is checked": the tests that the calls on a session share.
+use Prim.Native.Nat.{ℕ, _+_}
 use mathlib.Core.Bool.{Bool, not}
 use mathlib.Core.List.{List, [], _∷_, _++_}
 use lib.Dec.{ltb, eqb}
-use lib.ListN.{length}
-use Rattle.field.specs.Modulus.{p}
-use Rattle.shape.specs.declared.Shape.{Shape}
 use Rattle.shape.specs.Bounds.{lastRow, lastTriple}
-use Rattle.shape.specs.Lengths.{Valid, rowLength, rowsLength}
+use Rattle.shape.specs.Lengths.{rowsLength}
 use Rattle.refusal.specs.Refusal.{Test, _when_}
 use Rattle.refusal.specs.Conditions.{wrongLength}
 use Rattle.session.specs.declared.Session.{Session}
@@ -36,24 +32,3 @@ wrongMark s r m = wrongMarkIn (s .marks) r m
 abbrev pub wrongMarks : List ℕ → ℕ → ℕ → ℕ → ℕ → List Test
 wrongMarks marks r a b c =
     7 when wrongMarkIn marks r a ∷ 7 when wrongMarkIn marks (r + 1) b ∷ 7 when wrongMarkIn marks (r + 2) c ∷ []
-
--- What 1, 2 and 5 leave of a list of rows.
-pub record Sized (s : Shape) (rows : List ℕ) : Type 0 where
-  pub valid : Valid s
-  pub length-is : length rows ≡ rowsLength s
-
--- What 1 to 5 leave to a call.
-pub record Framed (s : Session) (rows : List ℕ) : Type 0 where
-  pub sized : Sized (shapeOf s) rows
-  pub post-in : (1 ≤ s .post) × (s .post ≤ s .n)
-  pub point-in : (0 < s .point) × (s .point < p)
-
--- A row number that 6 leaves, with room for the row in the list.
-pub record RowIn (s : Shape) (r : ℕ) : Type 0 where
-  pub row-in : r ≤ lastRow
-  pub room : r * rowLength s ≤ lastRow * rowLength s
-
--- A triple's first row that 6 leaves, with room for its three rows in the list.
-pub record TripleIn (s : Shape) (r : ℕ) : Type 0 where
-  pub triple-in : r ≤ lastTriple
-  pub room : r * rowLength s ≤ lastTriple * rowLength s

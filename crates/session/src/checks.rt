@@ -11,7 +11,8 @@ ghost use Rattle.session.specs.Sessions.{markIn, sessionTests};
 ghost use Rattle.shape.specs.Bounds.{lastTriple};
 ghost use Rattle.shape.specs.Lengths.{rowLength};
 ghost use Rattle.session.specs.Rows.{rowAt};
-ghost use Rattle.session.specs.Checks.{frameTests, noRow, noTriple, wrongMarkIn, wrongMarks, Sized};
+ghost use Rattle.session.specs.Checks.{frameTests, noRow, noTriple, wrongMarkIn, wrongMarks};
+ghost use Rattle.session.specs.Between.{Sized};
 
 // 1 to 4, of a session's settings.
 pub fn settings(n: usize, t: usize, post: usize, point: u32) -> u8

@@ -8,7 +8,8 @@ use shape::Shape;
 ghost use mathlib.Core.Path.{_≡_};
 ghost use Prim.Native.Nat.{_≤_};
 ghost use Rattle.shape.specs.Bounds.{lastRow, lastTriple};
-ghost use Rattle.session.specs.Sessions.{shapeOf, partyOf, marked, markedTriple, maskedTriple, collectedTriple, sessionOf, holding, created};
+ghost use Rattle.session.specs.Sessions.{shapeOf, partyOf, marked, markedTriple, maskedTriple, collectedTriple, sessionOf, holding, answer, created};
+ghost use Rattle.session.specs.Between.{Allows};
 
 // Who opens a number: the station's shape, the post's own number and its check point.
 pub struct Party {
@@ -112,45 +113,77 @@ impl Session {
         }
     }
 
-    // Done, with another mark on a row.
-    pub fn done_marking(mut self, row: usize, mark: u8) -> Answer
-        requires { ⌜ row ≤ lastRow ⌝ }
-        ensures { λ r. ⌜ r ≡ holding 0 0 (marked self row mark) ⌝ }
+    // How a call ends that marks a row: refused, the session as it came; else with the mark. One method for both, called once: the
+    // session is copied in, changed and copied out, and nowhere else.
+    pub fn answer_marking(mut self, refusal: u8, row: usize, mark: u8) -> Answer
+        requires { ⌜ Allows refusal (row ≤ lastRow) ⌝ }
+        ensures { λ r. ⌜ r ≡ answer refusal 0 (marked self row mark) self ⌝ }
     {
-        self.marks[row] = mark;
-        self.done(0)
+        if refusal == 0 {
+            self.marks[row] = mark;
+        }
+        Answer {
+            refusal,
+            value: 0,
+            session: self,
+        }
     }
 
-    // Done, with other marks on a triple's three rows.
-    pub fn done_marking_triple(mut self, first: usize, a: u8, b: u8, c: u8) -> Answer
-        requires { ⌜ first ≤ lastTriple ⌝ }
-        ensures { λ r. ⌜ r ≡ holding 0 0 (markedTriple self first a b c) ⌝ }
+    // The same, with other marks on a triple's three rows.
+    pub fn answer_marking_triple(
+        mut self,
+        refusal: u8,
+        first: usize,
+        one: u8,
+        two: u8,
+        three: u8,
+    ) -> Answer
+        requires { ⌜ Allows refusal (first ≤ lastTriple) ⌝ }
+        ensures { λ r. ⌜ r ≡ answer refusal 0 (markedTriple self first one two three) self ⌝ }
     {
-        self.marks[first] = a;
-        self.marks[first + 1] = b;
-        self.marks[first + 2] = c;
-        self.done(0)
+        if refusal == 0 {
+            self.marks[first] = one;
+            self.marks[first + 1] = two;
+            self.marks[first + 2] = three;
+        }
+        Answer {
+            refusal,
+            value: 0,
+            session: self,
+        }
     }
 
-    // Done: the masks of the triple at `first` were sent for the factor rows a and b.
-    pub fn done_masking(mut self, first: usize, a: usize, b: usize) -> Answer
-        requires { ⌜ (first ≤ lastTriple) × (a ≤ lastRow) × (b ≤ lastRow) ⌝ }
-        ensures { λ r. ⌜ r ≡ holding 0 0 (maskedTriple self first a b) ⌝ }
+    // The same, of masks: the triple at `first` remembers the factor rows a and b.
+    pub fn answer_masking(mut self, refusal: u8, first: usize, a: usize, b: usize) -> Answer
+        requires { ⌜ Allows refusal (first ≤ lastTriple) × Allows refusal (a ≤ lastRow) × Allows refusal (b ≤ lastRow) ⌝ }
+        ensures { λ r. ⌜ r ≡ answer refusal 0 (maskedTriple self first a b) self ⌝ }
     {
-        self.marks[first] = shape::MASKED;
-        self.factor_a[first] = a as u8;
-        self.factor_b[first] = b as u8;
-        self.done(0)
+        if refusal == 0 {
+            self.marks[first] = shape::MASKED;
+            self.factor_a[first] = a as u8;
+            self.factor_b[first] = b as u8;
+        }
+        Answer {
+            refusal,
+            value: 0,
+            session: self,
+        }
     }
 
-    // Done: the masks of the triple at `first` were opened to y_a and y_b.
-    pub fn done_collecting(mut self, first: usize, y_a: u32, y_b: u32) -> Answer
-        requires { ⌜ first ≤ lastTriple ⌝ }
-        ensures { λ r. ⌜ r ≡ holding 0 0 (collectedTriple self first «y_a» «y_b») ⌝ }
+    // The same, of a finish's first call: the masks of the triple at `first` were opened to y_a and y_b.
+    pub fn answer_collecting(mut self, refusal: u8, first: usize, y_a: u32, y_b: u32) -> Answer
+        requires { ⌜ Allows refusal (first ≤ lastTriple) ⌝ }
+        ensures { λ r. ⌜ r ≡ answer refusal 0 (collectedTriple self first «y_a» «y_b») self ⌝ }
     {
-        self.marks[first] = shape::COLLECTED;
-        self.y_a[first] = y_a;
-        self.y_b[first] = y_b;
-        self.done(0)
+        if refusal == 0 {
+            self.marks[first] = shape::COLLECTED;
+            self.y_a[first] = y_a;
+            self.y_b[first] = y_b;
+        }
+        Answer {
+            refusal,
+            value: 0,
+            session: self,
+        }
     }
 }

@@ -53,7 +53,7 @@ pub const ABSENT: u32 = 0;
 
 pub const PRESENT: u32 = 1;
 
-// n posts, of which any t+1 bring a number out and t learn nothing.
+// n posts, of which any t+1 bring a number out and t that keep the rules learn nothing.
 pub struct Shape {
     pub n: usize,
     pub t: usize,

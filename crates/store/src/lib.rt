@@ -54,7 +54,7 @@ fn empty_unless(blocks: &mut [u32], same: bool)
     if same {
         return;
     }
-    csv::clear(blocks);
+    lists::clear(blocks);
 }
 
 // A post's coefficients in a record, which is emptied first unless it is kept for what the line names.
@@ -95,5 +95,5 @@ pub fn copy_record(store: &[u32], at: usize, same: bool, out: &mut [u32])
         lists::copy(&store[at..end], out);
         return;
     }
-    csv::clear(out);
+    lists::clear(out);
 }

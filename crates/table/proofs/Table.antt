@@ -5,14 +5,14 @@ use Rattle.poly.specs.Polynomial.{value}
 use Rattle.poly.specs.Interpolation.{nodal, weight, terms, interpolated}
 use Rattle.refusal.specs.Refusal.{outcome}
 use Rattle.refusal.specs.Conditions.{anyBeyond}
-use Rattle.factory.specs.Draw.{eachFrom, part}
-use Rattle.factory.specs.Packs.{dealerRefusal}
+use Rattle.parts.specs.Draw.{eachFrom, part}
+use Rattle.factory.specs.Calls.{dealerRefusal}
 use Rattle.session.specs.Rows.{combined, plusSums}
 use Rattle.session.specs.Sessions.{created}
 use Rattle.agreement.specs.Agreement.{allPairs}
-use Rattle.opening.specs.Blocks as Blocks
-use Rattle.opening.specs.Accepting as Accepting
-use Rattle.product.specs.Finish.{productRow}
+use Rattle.blocks.specs.Blocks as Blocks
+use Rattle.accepting.specs.Accepting as Accepting
+use Rattle.multiply.specs.Multiply.{productRow}
 use Rattle.decimal.specs.Numeral.{lastDigits, sizeWithin, leading, valueAfter, fieldOf}
 use Rattle.csv.specs.Fields.{fields, fieldsAt}
 use Rattle.forms.specs.Forms.{formOf}
@@ -28,7 +28,7 @@ unfolding outcome lastDigits sizeWithin fields lineRefusal
 writes = record { answer = refl; bytes = refl }
 
 pub table : Table
-unfolding sum product difference euclid inverse value nodal weight terms interpolated anyBeyond outcome eachFrom part dealerRefusal combined plusSums created Blocks.sent Accepting.accepts Accepting.share Accepting.passing Accepting.walk Accepting.walkEnd Accepting.disagree Accepting.opened allPairs productRow leading valueAfter fieldOf fieldsAt formOf lineRefusal pointAt drawn drawnA drawnB drawnTriple
+unfolding sum product difference euclid inverse value nodal weight terms interpolated anyBeyond outcome eachFrom part dealerRefusal combined plusSums created Blocks.sent Accepting.accepts Accepting.share Accepting.passing Accepting.walk Accepting.disagree Accepting.opened allPairs productRow leading valueAfter fieldOf fieldsAt formOf lineRefusal pointAt drawn drawnA drawnB drawnTriple
 table =
     record {
       p1 = refl;

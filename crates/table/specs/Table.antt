@@ -6,15 +6,16 @@ use mathlib.Core.Bool.{true, false}
 use mathlib.Core.List.{List, [], _∷_, _++_, map}
 use lib.ListN.{getD}
 use Rattle.shape.specs.Lengths.{shape}
-use Rattle.factory.specs.Draw.{part, eachPost, firstDraw, secondDraw, thirdDraw}
-use Rattle.factory.specs.Packs.{dealerNumber}
+use Rattle.parts.specs.Draw.{part, eachPost, firstDraw, secondDraw, thirdDraw}
+use Rattle.factory.specs.Calls.{dealerNumber}
 use Rattle.session.specs.declared.Session.{Session}
 use Rattle.session.specs.Sessions.{created}
 use Rattle.session.specs.Rows.{sumsAt, coefficients, plusSums}
 use Rattle.opening.specs.Walking.{accepts, share, acceptedPosts, openedRow}
-use Rattle.product.specs.declared.OpenedMasks.{OpenedMasks}
-use Rattle.product.specs.Masks.{less}
-use Rattle.product.specs.Finish.{openedBoth, productRow}
+use Rattle.product_masks.specs.Masks.{less}
+use Rattle.collect.specs.declared.OpenedMasks.{OpenedMasks}
+use Rattle.collect.specs.Collect.{openedBoth}
+use Rattle.multiply.specs.Multiply.{productRow}
 use Rattle.forms.specs.Lines.{deal, text}
 use Rattle.forms.specs.Forms.{message}
 use Rattle.lines.specs.Reading.{readRefusal, lineAs, listAs}

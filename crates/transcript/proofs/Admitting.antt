@@ -1,7 +1,7 @@
 -- There is room for k bytes exactly where they are not refused; and what the calls hand back.
 use Prim.Native.Nat.{ℕ, _+_, _-_, _*_, _/_, _≤_, _<_, _^_}
 use mathlib.Core.Path.{_≡_, refl, ap₂, sym, _∙_}
-use mathlib.Core.List.{List, [], _∷_}
+use mathlib.Core.List.{List}
 use native.Mathlib.Omega.{arith}
 use borrow.Author.Tests.{lt-ltb, le-ltb, eq-eqb, ne-eqb, ltb-false}
 use lib.ListN.{length}
@@ -9,12 +9,12 @@ use Rattle.refusal.specs.Refusal.{first, orElse}
 use Rattle.refusal.proofs.Laws.{orElse-zero, all-fail, equal}
 use Rattle.interpreter.specs.Stepping.{roomRefusal}
 use Rattle.interpreter.proofs.Room.{none-ready, ready-none}
-use Rattle.transcript.specs.declared.Feed.{Feed}
-use Rattle.transcript.specs.declared.Progress.{Progress}
-use Rattle.transcript.specs.Text.{longestPrint}
-use Rattle.transcript.specs.Lines.{keptLength}
-use Rattle.transcript.specs.Program.{Running, running}
-use Rattle.transcript.specs.Between.{Open, Added, Fed, Moved}
+use Rattle.feeds.specs.declared.Feed.{Feed}
+use Rattle.answers.specs.Text.{longestPrint}
+use Rattle.splitting.specs.Lines.{keptLength}
+use Rattle.feeds.specs.Program.{Running, running}
+use Rattle.feeds.specs.Between.{Open, Added, Fed}
+use Rattle.transcript.specs.Between.{Moved}
 use Rattle.transcript.specs.Limits.{lastNumber, feedTests, feedRefusal}
 
 -- ---- the tests, one by one

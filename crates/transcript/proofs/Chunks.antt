@@ -1,14 +1,14 @@
 -- A chunk is taken line by line; how the input is cut into chunks makes no difference.
 use Prim.Native.Nat.{ℕ, zero, suc, _-_, _≤_}
-use mathlib.Core.Path.{_≡_, refl, ap, sym, _∙_}
+use mathlib.Core.Path.{_≡_, refl, ap, _∙_}
 use mathlib.Core.List.{List, [], _∷_, _++_, append-assoc}
 use mathlib.Core.Bool.{Bool, true, false, cond}
 use native.Mathlib.Omega.{arith}
 use lib.ListN.{length, take, drop}
 use lib.Dec.{eqb}
-use Rattle.transcript.specs.Lines.{segment, keptLength, cut}
-use Rattle.transcript.specs.Program.{Running, answered, grown, taken, fed}
-use Rattle.transcript.specs.Between.{segmented}
+use Rattle.splitting.specs.Lines.{segment, keptLength, cut}
+use Rattle.feeds.specs.Program.{Running, answered, grown, taken, fed}
+use Rattle.feeds.specs.Between.{segmented}
 
 -- chunk by chunk
 pub fed-append : (p : Running) (s t : List ℕ) → fed p (s ++ t) ≡ fed (fed p s) t

@@ -10,9 +10,10 @@ use lib.Seq.{take-nil, take-all, length-take-le}
 use lib.Dec.{eqb, ltb}
 use Rattle.csv.specs.Fields.{overwrite}
 use Rattle.csv.proofs.Overwriting.{overwrite-nothing, overwrite-twice}
-use Rattle.transcript.specs.Lines.{segment, keptLength, cut, laid}
-use Rattle.transcript.specs.Program.{Running, answered, grown, taken}
-use Rattle.transcript.specs.Between.{segmented, lineAfter}
+use Rattle.splitting.specs.Lines.{segment, keptLength, cut, laid}
+use Rattle.feeds.specs.Program.{Running, answered, grown}
+use Rattle.feeds.specs.Between.{segmented}
+use Rattle.transcript.specs.Between.{lineAfter}
 use Rattle.transcript.proofs.Chunks.{segment-first, segmented-more}
 
 -- ---- one byte, then others

@@ -1,7 +1,3 @@
-pub mod Counting
-pub mod Answering
-pub mod Segments
-pub mod Feeding
 pub mod Chunks
 pub mod Laying
 pub mod Looping

@@ -5,10 +5,11 @@ use mathlib.Core.List.{List}
 use native.Mathlib.Omega.{arith}
 use lib.ListN.{length, take, drop, length-drop, drop-of-length-le}
 use lib.Seq.{drop-drop, length-take-le}
-use Rattle.transcript.specs.declared.Feed.{Feed}
-use Rattle.transcript.specs.Lines.{segment, laid}
-use Rattle.transcript.specs.Program.{Running, fed, running}
-use Rattle.transcript.specs.Between.{segmented, lineAfter, Open, Added, Fed}
+use Rattle.feeds.specs.declared.Feed.{Feed}
+use Rattle.splitting.specs.Lines.{segment, laid}
+use Rattle.feeds.specs.Program.{Running, fed, running}
+use Rattle.feeds.specs.Between.{segmented, Open, Added, Fed}
+use Rattle.transcript.specs.Between.{lineAfter}
 use Rattle.transcript.proofs.Chunks.{segment-some, segment-within, fed-segment}
 use Rattle.transcript.proofs.Laying.{line-after}
 

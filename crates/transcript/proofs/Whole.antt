@@ -7,14 +7,14 @@ use native.Mathlib.Omega.{arith}
 use borrow.Author.Tests.{ne-eqb}
 use lib.ListN.{length, replicate}
 use lib.Dec.{eqb}
-use Rattle.interpreter.specs.declared.State.{State}
-use Rattle.interpreter.specs.States.{After, firstState}
+use Rattle.states.specs.declared.State.{State}
+use Rattle.states.specs.States.{After, firstState}
 use Rattle.interpreter.specs.Stepping.{step}
 use Rattle.store.specs.Sizes.{storeRoom}
 use Rattle.interpreter.proofs.Cutting.{step-cut}
-use Rattle.transcript.specs.Text.{header}
-use Rattle.transcript.specs.Lines.{keptLength, cut}
-use Rattle.transcript.specs.Program.{Running, leftBy, answered, grown, taken, fed, closed, drained, passed, printedFor, joined, ChunksPrint, begun, output, linesFrom, withAnswer, answers, printed, PrintsAnswers}
+use Rattle.answers.specs.Text.{header}
+use Rattle.splitting.specs.Lines.{keptLength, cut}
+use Rattle.feeds.specs.Program.{Running, leftBy, answered, grown, taken, fed, closed, drained, passed, printedFor, joined, ChunksPrint, begun, output, linesFrom, withAnswer, answers, printed, PrintsAnswers}
 use Rattle.transcript.proofs.Chunks.{cut-again, fed-append}
 
 -- ---- by lines

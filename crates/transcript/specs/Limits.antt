@@ -6,9 +6,9 @@ use lib.Dec.{ltb}
 use Rattle.refusal.specs.Refusal.{Test, _when_, first, orElse}
 use Rattle.refusal.specs.Conditions.{wrongLength}
 use Rattle.interpreter.specs.Stepping.{roomRefusal}
-use Rattle.transcript.specs.declared.Feed.{Feed}
-use Rattle.transcript.specs.Text.{longestPrint}
-use Rattle.transcript.specs.Lines.{keptLength}
+use Rattle.feeds.specs.declared.Feed.{Feed}
+use Rattle.answers.specs.Text.{longestPrint}
+use Rattle.splitting.specs.Lines.{keptLength}
 
 -- The largest number of a line.
 abbrev pub lastNumber : ℕ

@@ -1,5 +1,5 @@
 // What is refused before a byte is looked at.
-use crate::Feed;
+use feeds::Feed;
 ghost use mathlib.Core.Path.{_≡_};
 ghost use Rattle.refusal.specs.Refusal.{first};
 ghost use Rattle.transcript.specs.Limits.{feedTests, feedRefusal};
@@ -11,17 +11,17 @@ const LAST_NUMBER: u64 = 18446744073709551615;
 fn feed_refusal<'a>(feed: Feed, line: &'a [u8], out: &'a [u8], count: usize) -> u8
     ensures { λ r. ⌜ r ≡ first (feedTests feed (now (line .entry)) (now (out .entry)) count) ⌝ }
 {
-    if line.len() != crate::KEPT {
+    if line.len() != splitting::KEPT {
         return 5;
     }
-    if crate::KEPT < feed.len {
+    if splitting::KEPT < feed.len {
         return 5;
     }
     let room = out.len();
     if room < feed.at {
         return 5;
     }
-    if (room - feed.at) / crate::LONGEST_PRINT < count {
+    if (room - feed.at) / answers::LONGEST_PRINT < count {
         return 5;
     }
     if LAST_NUMBER - feed.number < count as u64 {

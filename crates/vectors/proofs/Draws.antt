@@ -20,8 +20,8 @@ use Rattle.poly.proofs.Bounds.{value-below}
 use Rattle.poly.proofs.Numbers.{toElements, elements-value}
 use Rattle.shape.specs.declared.Shape.{Shape}
 use Rattle.shape.specs.Lengths.{fLength, vLength, drawLength}
-use Rattle.factory.specs.Draw.{drawnF, drawnV, eachFrom, sumOf, part}
-use Rattle.factory.proofs.Laws.{drawn-room}
+use Rattle.parts.specs.Draw.{drawnF, drawnV, eachFrom, sumOf, part}
+use Rattle.parts.proofs.Laws.{drawn-room}
 use Rattle.vectors.specs.Vector.{Vector, firsts, numbers, valueAt, checkOf, sumAt, rowOf, vectorOf}
 use Rattle.vectors.proofs.Linear.{sum-number}
 open CommutativeRing 𝓡 using (add as _⊕_, zero as 0ᴱ)
@@ -90,7 +90,7 @@ module _ (s : Shape) (draw : List ℕ) (low : Elements draw) (size : length draw
   first-of zero a h = absurd (omega arith)
   first-of (suc k) a h = refl
 
-  pub part-is-row : (i w : ℕ) → i - 1 < s .n → part s i w draw ≡ rowOf (vLength s) (s .n) i (element w) S
+  pub part-is-row : (i w : ℕ) → i - 1 < s .n → part s i w draw ≡ rowOf s i (element w) S
   unfolding part rowOf vectorOf Same
   part-is-row i w h =
       ap₂ _++_ (v-numbers i h)
@@ -99,7 +99,7 @@ module _ (s : Shape) (draw : List ℕ) (low : Elements draw) (size : length draw
       one-more : (j : ℕ) → 1 + j ≡ suc j
       one-more j = omega arith
 
-      checks : (j : ℕ) → j < s .n → value (drawnV s draw (1 + j)) w ≡ checkOf (vLength s) (element w) S j .0
+      checks : (j : ℕ) → j < s .n → value (drawnV s draw (1 + j)) w ≡ checkOf s (element w) S j .0
       checks j l =
           ap (λ (q : List ℕ). value q w) (v-numbers (1 + j) (omega arith)) ∙ value-numbers (vLength s) _ w
           ∙ ap (λ (m : ℕ). valueAt (vLength s) (S .v m) (element w) .0) (one-more j)
@@ -109,7 +109,7 @@ module _ (s : Shape) (draw : List ℕ) (low : Elements draw) (size : length draw
           sum-number x (y .0) ∙ ap (λ (z : Element). (x ⊕ z) .0) (element-of-number y)
           ∙ ap (λ (z : Element). z .0) (solve 𝓡 (x ∷ y ∷ []) (A :+ B) (A :+ B :+ 𝟘) refl)
 
-      sums : (j : ℕ) → j < s .n → sumOf s draw (1 + j) ≡ sumAt (fLength s) S j .0
+      sums : (j : ℕ) → j < s .n → sumOf s draw (1 + j) ≡ sumAt s S j .0
       sums j l =
           ap₂ sum
           (ap (λ (q : List ℕ). getD q 0 0) (v-numbers (1 + j) (omega arith))

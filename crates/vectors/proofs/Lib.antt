@@ -1,4 +1,6 @@
 pub mod Linear
 pub mod Draws
 pub mod Passing
+pub mod HeldRows
+pub mod Shares
 pub mod Theorems

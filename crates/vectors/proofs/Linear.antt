@@ -11,6 +11,8 @@ use Rattle.field.proofs.Expression.{A, B, C, D, E, F, G, 𝟘, _:+_, _:*_, Same
 use Rattle.field.proofs.Solver.{solve}
 use Rattle.field.proofs.Elements.{𝓡, element-sum, element-product, element-of-number, number-below}
 use Rattle.field.proofs.Modular.{sum-below}
+use Rattle.shape.specs.declared.Shape.{Shape}
+use Rattle.shape.specs.Lengths.{fLength, vLength, sumsAt}
 use Rattle.session.specs.Rows.{combined, plusSums, summed}
 use Rattle.vectors.specs.Vector.{Vector, plusTimes, raised, number, firsts, numbers, valueAt, checkOf, sumAt, rowOf}
 open CommutativeRing 𝓡 using (add as _⊕_, mul as _⊗_)
@@ -57,33 +59,33 @@ unfolding combined numbers
 combined-last s zero a b = refl
 combined-last s (suc k) a b = ap₂ _∷_ (combined-number s (a 0) (b 0)) (combined-last s k (λ i. a (suc i)) (λ i. b (suc i)))
 
-pub sumAt-plusTimes : (k : ℕ) (s : Element) (S S' : Vector) (j : ℕ) → sumAt k (plusTimes s S S') j ≡ sumAt k S j ⊕ s ⊗ sumAt k S' j
+pub sumAt-plusTimes : (g : Shape) (s : Element) (S S' : Vector) (j : ℕ) → sumAt g (plusTimes s S S') j ≡ sumAt g S j ⊕ s ⊗ sumAt g S' j
 unfolding Same
-sumAt-plusTimes k s S S' j =
+sumAt-plusTimes g s S S' j =
     ap (λ (z : Element). S .v (suc j) 0 ⊕ s ⊗ S' .v (suc j) 0 ⊕ z ⊕ (S .c ⊕ s ⊗ S' .c))
-    (valueAt-plusTimes k (S .f) (S' .f) s (element (suc j)))
+    (valueAt-plusTimes (fLength g) (S .f) (S' .f) s (element (suc j)))
     ∙ solve 𝓡
-    (s ∷ S .v (suc j) 0 ∷ S' .v (suc j) 0 ∷ valueAt k (S .f) (element (suc j)) ∷ valueAt k (S' .f) (element (suc j)) ∷ S .c ∷ S' .c ∷ [])
+    (s ∷ S .v (suc j) 0 ∷ S' .v (suc j) 0 ∷ valueAt (fLength g) (S .f) (element (suc j)) ∷ valueAt (fLength g) (S' .f) (element (suc j)) ∷ S .c ∷ S' .c ∷ [])
     (B :+ A :* C :+ (D :+ A :* E) :+ (F :+ A :* G)) (B :+ D :+ F :+ A :* (C :+ E :+ G)) refl
 
 -- the row of S + s S' is the row of S plus s times that of S'
-pub row-plusTimes : (k n i s : ℕ) (w : Element) (S S' : Vector)
-    → rowOf k n i w (plusTimes (element s) S S') ≡ combined s (rowOf k n i w S) (rowOf k n i w S')
+pub row-plusTimes : (g : Shape) (i s : ℕ) (w : Element) (S S' : Vector)
+    → rowOf g i w (plusTimes (element s) S S') ≡ combined s (rowOf g i w S) (rowOf g i w S')
 unfolding rowOf
-row-plusTimes k n i s w S S' =
-    sym (combined-numbers s k (S .v i) (S' .v i) _ _ ∙ ap (λ (l : List ℕ). numbers k (plusTimes (element s) S S' .v i) ++ l) rest)
+row-plusTimes g i s w S S' =
+    sym (combined-numbers s (vLength g) (S .v i) (S' .v i) _ _ ∙ ap (λ (l : List ℕ). numbers (vLength g) (plusTimes (element s) S S' .v i) ++ l) rest)
   where
-    checks : numbers n (λ j. checkOf k w S j ⊕ element s ⊗ checkOf k w S' j) ≡ numbers n (checkOf k w (plusTimes (element s) S S'))
-    checks = ap (numbers n) (fun-ext (λ j. sym (valueAt-plusTimes k (S .v (suc j)) (S' .v (suc j)) (element s) w)))
+    checks : numbers (g .n) (λ j. checkOf g w S j ⊕ element s ⊗ checkOf g w S' j) ≡ numbers (g .n) (checkOf g w (plusTimes (element s) S S'))
+    checks = ap (numbers (g .n)) (fun-ext (λ j. sym (valueAt-plusTimes (vLength g) (S .v (suc j)) (S' .v (suc j)) (element s) w)))
 
-    sums : numbers n (λ j. sumAt k S j ⊕ element s ⊗ sumAt k S' j) ≡ numbers n (sumAt k (plusTimes (element s) S S'))
-    sums = ap (numbers n) (fun-ext (λ j. sym (sumAt-plusTimes k (element s) S S' j)))
+    sums : numbers (g .n) (λ j. sumAt g S j ⊕ element s ⊗ sumAt g S' j) ≡ numbers (g .n) (sumAt g (plusTimes (element s) S S'))
+    sums = ap (numbers (g .n)) (fun-ext (λ j. sym (sumAt-plusTimes g (element s) S S' j)))
 
-    rest : combined s (numbers n (checkOf k w S) ++ numbers n (sumAt k S)) (numbers n (checkOf k w S') ++ numbers n (sumAt k S'))
-        ≡ numbers n (checkOf k w (plusTimes (element s) S S')) ++ numbers n (sumAt k (plusTimes (element s) S S'))
+    rest : combined s (numbers (g .n) (checkOf g w S) ++ numbers (g .n) (sumAt g S)) (numbers (g .n) (checkOf g w S') ++ numbers (g .n) (sumAt g S'))
+        ≡ numbers (g .n) (checkOf g w (plusTimes (element s) S S')) ++ numbers (g .n) (sumAt g (plusTimes (element s) S S'))
     rest =
-        combined-numbers s n (checkOf k w S) (checkOf k w S') _ _
-        ∙ ap₂ _++_ checks (combined-last s n (sumAt k S) (sumAt k S') ∙ sums)
+        combined-numbers s (g .n) (checkOf g w S) (checkOf g w S') _ _
+        ∙ ap₂ _++_ checks (combined-last s (g .n) (sumAt g S) (sumAt g S') ∙ sums)
 
 pub number-plusTimes : (s : Element) (S S' : Vector) → number (plusTimes s S S') ≡ number S ⊕ s ⊗ number S'
 unfolding Same
@@ -96,35 +98,35 @@ raised-numbers zero c a = refl
 raised-numbers (suc n) c a = ap₂ _∷_ (sum-number (a 0) c) (raised-numbers n c (λ i. a (suc i)))
 
 -- the row of S with c added is the row of S with c added to its sums
-pub row-raised : (k n i c : ℕ) (w : Element) (S : Vector)
-    → rowOf k n i w (raised (element c) S) ≡ plusSums (k + n) c (rowOf k n i w S)
+pub row-raised : (g : Shape) (i c : ℕ) (w : Element) (S : Vector)
+    → rowOf g i w (raised (element c) S) ≡ plusSums (sumsAt g) c (rowOf g i w S)
 unfolding rowOf plusSums Same
-row-raised k n i c w S =
+row-raised g i c w S =
     sym
-    (ap (λ (l : List ℕ). take (k + n) l ++ map (λ m. sum m c) (drop (k + n) l)) (sym (append-assoc a b m))
-    ∙ ap₂ _++_ (take-at (a ++ b) m (k + n) size)
-    (ap (map (λ x. sum x c)) (drop-at (a ++ b) m (k + n) size) ∙ raised-numbers n c (sumAt k S) ∙ ap (numbers n) (fun-ext more))
+    (ap (λ (l : List ℕ). take (sumsAt g) l ++ map (λ m. sum m c) (drop (sumsAt g) l)) (sym (append-assoc a b m))
+    ∙ ap₂ _++_ (take-at (a ++ b) m (sumsAt g) size)
+    (ap (map (λ x. sum x c)) (drop-at (a ++ b) m (sumsAt g) size) ∙ raised-numbers (g .n) c (sumAt g S) ∙ ap (numbers (g .n)) (fun-ext more))
     ∙ append-assoc a b _)
   where
     a : List ℕ
-    a = numbers k (S .v i)
+    a = numbers (vLength g) (S .v i)
 
     b : List ℕ
-    b = numbers n (checkOf k w S)
+    b = numbers (g .n) (checkOf g w S)
 
     m : List ℕ
-    m = numbers n (sumAt k S)
+    m = numbers (g .n) (sumAt g S)
 
-    size : length (a ++ b) ≡ k + n
-    size = length-append a b ∙ ap₂ _+_ (length-numbers k (S .v i)) (length-numbers n (checkOf k w S))
+    size : length (a ++ b) ≡ sumsAt g
+    size = length-append a b ∙ ap₂ _+_ (length-numbers (vLength g) (S .v i)) (length-numbers (g .n) (checkOf g w S))
 
-    more : (j : ℕ) → sumAt k S j ⊕ element c ≡ sumAt k (raised (element c) S) j
+    more : (j : ℕ) → sumAt g S j ⊕ element c ≡ sumAt g (raised (element c) S) j
     more j =
-        solve 𝓡 (S .v (suc j) 0 ∷ valueAt k (S .f) (element (suc j)) ∷ S .c ∷ element c ∷ [])
+        solve 𝓡 (S .v (suc j) 0 ∷ valueAt (fLength g) (S .f) (element (suc j)) ∷ S .c ∷ element c ∷ [])
         (A :+ B :+ C :+ D) (A :+ B :+ (C :+ D)) refl
 
 -- the row of S + s S' with a fee added is the sum of the rows with that fee
-pub row-summed : (k n i s fee : ℕ) (w : Element) (S S' : Vector)
-    → rowOf k n i w (raised (element fee) (plusTimes (element s) S S')) ≡ summed (k + n) s fee (rowOf k n i w S) (rowOf k n i w S')
-row-summed k n i s fee w S S' =
-    row-raised k n i fee w (plusTimes (element s) S S') ∙ ap (plusSums (k + n) fee) (row-plusTimes k n i s w S S')
+pub row-summed : (g : Shape) (i s fee : ℕ) (w : Element) (S S' : Vector)
+    → rowOf g i w (raised (element fee) (plusTimes (element s) S S')) ≡ summed (sumsAt g) s fee (rowOf g i w S) (rowOf g i w S')
+row-summed g i s fee w S S' =
+    row-raised g i fee w (plusTimes (element s) S S') ∙ ap (plusSums (sumsAt g) fee) (row-plusTimes g i s w S S')

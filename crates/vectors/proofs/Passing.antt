@@ -9,8 +9,8 @@ use native.Mathlib.Omega.{arith}
 use Rattle.poly.specs.Counting.{All, Distinct}
 use Rattle.poly.proofs.Lists.{all-map}
 use Rattle.agreement.specs.Agreement.{Given}
-use Rattle.opening.specs.Accepting.{passing}
-use Rattle.opening.proofs.Accepted.{Accepted}
+use Rattle.accepting.specs.Accepting.{passing}
+use Rattle.accepting.proofs.Accepted.{Accepted}
 
 pub all-parts : {A : Type 0} (P : A → Type 0) (xs ys : List A) → All P (xs ++ ys) → All P xs × All P ys
 all-parts P [] ys a = (tt, a)

@@ -10,11 +10,11 @@ use Rattle.poly.specs.Polynomial.{value}
 use Rattle.refusal.specs.Refusal.{first}
 use Rattle.poly.specs.Counting.{All, Distinct, Elements}
 use Rattle.shape.specs.declared.Shape.{Shape}
-use Rattle.shape.specs.Lengths.{vLength, drawLength}
+use Rattle.shape.specs.Lengths.{needed, vLength, drawLength}
 use Rattle.session.specs.declared.Session.{Session}
 use Rattle.session.specs.Sessions.{shapeOf, holding}
 use Rattle.session.specs.Rows.{width, rowAt, combined}
-use Rattle.factory.specs.Draw.{part}
+use Rattle.parts.specs.Draw.{part}
 use Rattle.opening.specs.Walking.{sent, accepts, accepted, tooFew}
 use Rattle.opening.specs.Opening.{openChecks, openAnswer}
 use Rattle.vectors.specs.Vector.{Vector, number, numbers, rowOf}
@@ -27,7 +27,7 @@ PartLinear =
 
 -- The row of a session's post.
 abbrev pub heldRow : Session → Vector → List ℕ
-heldRow s S = rowOf (vLength (shapeOf s)) (s .n) (s .post) (element (s .point)) S
+heldRow s S = rowOf (shapeOf s) (s .post) (element (s .point)) S
 
 -- A record shows of post j the polynomial that j really has.
 abbrev pub Truly : Session → Vector → List ℕ → ℕ → Type 0
@@ -49,7 +49,7 @@ TrueAccepted =
 -- Of at least t+1 posts, whichever they are, a record shows the polynomials that they really have.
 pub record EnoughTruly (s : Session) (S : Vector) (blocks : List ℕ) : Type 0 where
   pub good : List ℕ
-  pub many : s .t + 1 ≤ length good
+  pub many : needed (shapeOf s) ≤ length good
   pub different : Distinct good
   pub truly : All (λ j. (1 ≤ j) × (j ≤ s .n) × Truly s S blocks j) good
 

@@ -40,15 +40,15 @@ unfoldable pub valueAt : ℕ → (ℕ → Element) → Element → Element
 valueAt k a x = elementValue (firsts k a) x
 
 -- check value and public sum of post j + 1
-abbrev pub checkOf : ℕ → Element → Vector → ℕ → Element
-checkOf k w S j = valueAt k (S .v (suc j)) w
+abbrev pub checkOf : Shape → Element → Vector → ℕ → Element
+checkOf s w S j = valueAt (vLength s) (S .v (suc j)) w
 
-abbrev pub sumAt : ℕ → Vector → ℕ → Element
-sumAt k S j = S .v (suc j) 0 ⊕ valueAt k (S .f) (element (suc j)) ⊕ S .c
+abbrev pub sumAt : Shape → Vector → ℕ → Element
+sumAt s S j = S .v (suc j) 0 ⊕ valueAt (fLength s) (S .f) (element (suc j)) ⊕ S .c
 
--- post i's row, with check point w: k coefficients, n check values, n sums
-unfoldable pub rowOf : ℕ → ℕ → ℕ → Element → Vector → List ℕ
-rowOf k n i w S = numbers k (S .v i) ++ (numbers n (checkOf k w S) ++ numbers n (sumAt k S))
+-- post i's row, with check point w: its v's coefficients, n check values, n sums
+unfoldable pub rowOf : Shape → ℕ → Element → Vector → List ℕ
+rowOf s i w S = numbers (vLength s) (S .v i) ++ (numbers (s .n) (checkOf s w S) ++ numbers (s .n) (sumAt s S))
 
 -- the vector of a draw, with the dealer's number 0
 unfoldable pub vectorOf : Shape → List ℕ → Vector

@@ -1,14 +1,13 @@
 //! The header and the binding declare what the library exports: names, parameters, results and
 //! structs are those of the Rattle sources, and the archive has these functions and no other.
 
+mod common;
+
 use std::collections::{BTreeMap, BTreeSet};
 use std::fs;
-use std::path::{Path, PathBuf};
-use std::process::Command;
+use std::path::Path;
 
-fn repository() -> PathBuf {
-    Path::new(env!("CARGO_MANIFEST_DIR")).join("../..")
-}
+use common::programs::{exports, repository};
 
 /// A file's text without line comments, block comments, attributes and preprocessor lines.
 fn code(path: &str) -> String {
@@ -217,19 +216,13 @@ fn the_binding_has_the_structs_that_cross() {
 
 #[test]
 fn the_archive_has_the_declared_functions_and_no_other() {
-    let mut nm = Command::new("nm");
-    nm.args(["-g", "--defined-only", env!("GANTSOROL_ARCHIVE")]);
-    let output = nm.output().expect("nm runs");
-    assert!(output.status.success(), "{}", String::from_utf8_lossy(&output.stderr));
-    let listed = String::from_utf8(output.stdout).expect("nm writes text");
-    let symbols = listed.lines().filter_map(|line| line.split_once(" T "));
-    let symbols: BTreeSet<String> = symbols.map(|(_, name)| name.to_string()).collect();
+    let exports = exports(Path::new(env!("GANTSOROL_ARCHIVE")));
     let declarations = header().0;
     let name = |declaration: &String| {
         let (head, _) = declaration.split_once(" (").expect("a function has parameters");
         head.rsplit(' ').next().unwrap_or_default().to_string()
     };
-    assert_eq!(symbols, declarations.iter().map(name).collect());
-    let others = listed.lines().filter(|line| line.contains(' ') && !line.contains(" T "));
-    assert_eq!(others.collect::<Vec<_>>(), Vec::<&str>::new());
+    let declared: BTreeMap<String, String> =
+        declarations.iter().map(|declaration| (name(declaration), "T".to_string())).collect();
+    assert_eq!(exports, declared);
 }

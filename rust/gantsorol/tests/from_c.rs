@@ -1,10 +1,13 @@
 //! The library from C and C++ with the header, the examples, and what the README shows of them.
 
+mod common;
+
 use std::fs;
 use std::mem::{offset_of, size_of};
-use std::path::{Path, PathBuf};
+use std::path::Path;
 use std::process::Command;
 
+use common::programs::{compiled, ended, repository, C, CPP};
 use gantsorol::{Answer, Line, Number, Session, Term, Written};
 
 mod in_rust {
@@ -25,30 +28,15 @@ mod a_relation_in_rust {
     }
 }
 
-fn repository() -> PathBuf {
-    Path::new(env!("CARGO_MANIFEST_DIR")).join("../..")
-}
-
 fn text(path: &str) -> String {
     fs::read_to_string(repository().join(path)).unwrap_or_else(|error| panic!("{path}: {error}"))
 }
 
-/// Compiles a program with the header and the archive, runs it, and gives what it prints.
+/// What a program prints, compiled with the header and the archive.
 fn run(program: &str, source: &Path, options: &[&str]) -> String {
-    let binary = Path::new(env!("CARGO_TARGET_TMPDIR")).join(program);
-    let mut cc = Command::new("cc");
-    cc.args(["-O2", "-Wall", "-Wextra", "-Wpedantic", "-Werror"]).args(options);
-    cc.arg("-I").arg(repository().join("include")).arg(source);
-    cc.args(["-x", "none", env!("GANTSOROL_ARCHIVE"), "-o"]).arg(&binary);
-    let compiled = cc.output().expect("cc runs");
-    assert!(compiled.status.success(), "{}", String::from_utf8_lossy(&compiled.stderr));
-    let ran = Command::new(&binary).output().expect("the program runs");
-    assert!(ran.status.success(), "{program} ends with {}", ran.status);
+    let ran = ended(&mut Command::new(compiled(program, source, options)));
     String::from_utf8(ran.stdout).expect("the program prints text")
 }
-
-const C: [&str; 1] = ["-std=c99"];
-const CPP: [&str; 3] = ["-std=c++11", "-x", "c++"];
 
 /// An example prints what stands in the file beside it, compiled as C and as C++.
 #[track_caller]

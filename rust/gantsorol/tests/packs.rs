@@ -3,11 +3,12 @@
 
 mod common;
 
+use std::ffi::OsStr;
 use std::fs;
-use std::io::Write;
 use std::path::{Path, PathBuf};
-use std::process::{Command, Stdio};
+use std::process::Command;
 
+use common::programs::{compiled, printed, repository, C};
 use common::street_program;
 use gantsorol::{row_draw_len, row_len, triple_draw_len, MODULUS, ROWS};
 
@@ -166,20 +167,9 @@ fn a_refused_file_leaves_the_list() {
     assert_eq!(refusal, 5);
 }
 
-fn fed(program: &str, arguments: &[&str], input: &[u8]) -> String {
-    let mut child = Command::new(program)
-        .args(arguments)
-        .stdin(Stdio::piped())
-        .stdout(Stdio::piped())
-        .spawn()
-        .unwrap_or_else(|error| panic!("{program}: {error}"));
-    let mut stdin = child.stdin.take().expect("its standard input is piped");
-    let input = input.to_vec();
-    let writer = std::thread::spawn(move || stdin.write_all(&input));
-    let output = child.wait_with_output().expect("its output can be read");
-    writer.join().expect("the writer ends").expect("the program reads to the end");
-    assert!(output.status.success(), "{program} ends with {}", output.status);
-    String::from_utf8(output.stdout).expect("the program prints text")
+fn fed(program: impl AsRef<OsStr>, arguments: &[&str], input: &[u8]) -> String {
+    let printed = printed(Command::new(program).args(arguments), input);
+    String::from_utf8(printed).expect("the program prints text")
 }
 
 /// The street program takes every line of a file, of raw rows and triples, and opens what is dealt to its last raw row, at every n
@@ -214,28 +204,16 @@ fn the_program_takes_the_files_and_opens() {
     }
 }
 
-fn repository() -> PathBuf {
-    Path::new(env!("CARGO_MANIFEST_DIR")).join("../..")
-}
-
-fn compiled(name: &str) -> PathBuf {
-    let binary = Path::new(env!("CARGO_TARGET_TMPDIR")).join(name);
-    let mut cc = Command::new("cc");
-    cc.args(["-std=c99", "-O2", "-Wall", "-Wextra", "-Wpedantic", "-Werror"]);
-    cc.arg("-I")
-        .arg(repository().join("include"))
-        .arg(repository().join(format!("examples/{name}.c")));
-    let output =
-        cc.arg(env!("GANTSOROL_ARCHIVE")).arg("-o").arg(&binary).output().expect("cc runs");
-    assert!(output.status.success(), "{}", String::from_utf8_lossy(&output.stderr));
-    binary
+/// An example, compiled.
+fn example(name: &str) -> PathBuf {
+    compiled(name, &repository().join(format!("examples/{name}.c")), &C)
 }
 
 #[test]
 fn the_works_program_writes_a_file() {
-    let program = compiled("works");
+    let program = example("works");
     let read = |path: &str| fs::read(repository().join(path)).expect("an example");
-    let printed = fed(program.to_str().expect("a path"), &["1"], &read("examples/works.txt"));
+    let printed = fed(program, &["1"], &read("examples/works.txt"));
     assert_eq!(printed.as_bytes(), read("examples/works.out"));
 }
 
@@ -245,7 +223,7 @@ fn three_posts_open_the_word() {
     let directory = Path::new(env!("CARGO_TARGET_TMPDIR")).join("word_files");
     fs::create_dir_all(&directory).expect("a directory");
     let status =
-        Command::new(compiled("word")).arg(&directory).arg("20261116").status().expect("it runs");
+        Command::new(example("word")).arg(&directory).arg("20261116").status().expect("it runs");
     assert!(status.success());
     let read = |name: &str| fs::read(directory.join(name)).expect("it was written");
     for post in 1..=3 {

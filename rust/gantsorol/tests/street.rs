@@ -5,29 +5,16 @@
 mod common;
 
 use std::fs;
-use std::io::Write;
 use std::path::Path;
-use std::process::{Command, Stdio};
-use std::thread;
+use std::process::Command;
 
-use common::{seeds, street_program};
+use common::{programs, seeds, street_program};
 use reference::random::{compare_street, street_input};
 use reference::{Library, REFERENCE};
 
-/// What the program prints for an input, which is written while its output is read.
-fn printed(program: &str, input: &[u8]) -> Vec<u8> {
-    let mut child = Command::new(program)
-        .stdin(Stdio::piped())
-        .stdout(Stdio::piped())
-        .spawn()
-        .unwrap_or_else(|error| panic!("{program}: {error}"));
-    let mut stdin = child.stdin.take().expect("its standard input is piped");
-    thread::scope(|scope| {
-        scope.spawn(move || stdin.write_all(input).expect("the program reads to the end"));
-        let output = child.wait_with_output().expect("its output can be read");
-        assert!(output.status.success(), "{}", output.status);
-        output.stdout
-    })
+/// What the street program prints.
+fn printed(input: &[u8]) -> Vec<u8> {
+    programs::printed(&mut Command::new(street_program()), input)
 }
 
 #[test]
@@ -42,7 +29,7 @@ fn the_examples_of_the_readme() {
             include_str!("../../../examples/charge.out"),
         ),
     ] {
-        let ours = printed(&street_program(), input.as_bytes());
+        let ours = printed(input.as_bytes());
         assert_eq!(String::from_utf8_lossy(&ours), expected);
     }
 }
@@ -60,7 +47,7 @@ fn the_stored_inputs() {
         let name = path.display();
         let input = fs::read(&path).expect("an input can be read");
         let expected = fs::read(path.with_extension("out")).expect("an output can be read");
-        assert!(printed(&street_program(), &input) == expected, "{name}, by the program");
+        assert!(printed(&input) == expected, "{name}, by the program");
         assert!(REFERENCE.street(&input) == expected, "{name}, by the second implementation");
         inputs += 1;
     }
@@ -85,20 +72,23 @@ fn the_charge_at_three_posts() {
         let others: Vec<_> = told.iter().enumerate().filter(|(i, _)| *i != post).collect();
         assert!(!told[post].is_empty(), "post {} prints its masks", post + 1);
         for (i, sent) in others {
-            assert!(sent.iter().all(|line| lines.contains(line)), "post {} reads {}", post + 1, i + 1);
+            assert!(
+                sent.iter().all(|line| lines.contains(line)),
+                "post {} reads {}",
+                post + 1,
+                i + 1
+            );
         }
     }
 }
 
 #[test]
 fn random_inputs_through_both_programs() {
-    let program = street_program();
     for seed in seeds(1_500) {
         // now and then far more than one chunk of 2,048 bytes
         let length = if seed % 50 == 0 { 2_000 } else { 60 };
         let input = street_input(seed, length);
-        let ours = |input: &[u8]| printed(&program, input);
-        if let Some(difference) = compare_street(&input, ours, |input| REFERENCE.street(input)) {
+        if let Some(difference) = compare_street(&input, printed, |input| REFERENCE.street(input)) {
             panic!("seed {seed}, the verified program on the left:\n{difference}");
         }
     }

@@ -8,7 +8,4 @@ mirrored-requires : tie.Need-mirrored-requires
 mirrored-requires c κs = rw (c .spans .ensures) (spans-below _ _)
 
 pub distances-spec : {M : Type 1} → statement M
-distances-spec =
-    tie.close
-    (tie.spec (λ c κs. search needs) (λ c κs. search needs) (λ c κs. search needs) (λ c. search needs) mirrored-requires
-    (λ c. search (needs, distances-found)))
+distances-spec = tie.close (tie.spec (λ c κs. search needs) (λ c. search needs) mirrored-requires (λ c. search (needs, distances-found)))

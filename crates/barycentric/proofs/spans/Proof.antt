@@ -8,7 +8,7 @@ use Rattle.inverses.specs.InverseTable.{most}
 use Rattle.poly.proofs.Lists.{all-at}
 use Rattle.field.specs.Arithmetic.{product}
 use Rattle.barycentric.specs.Weights.{spans}
-use Rattle.barycentric.proofs.Pairs.{spans-start, four-turn, four-end}
+use Rattle.barycentric.proofs.Pairs.{rest-small, rest-few, spans-start, four-turn, four-end}
 use Rattle.barycentric.proofs.spans.Statement.{statement}
 use Rattle.barycentric.proofs.spans.Tie as tie
 
@@ -32,9 +32,12 @@ loop-again c =
     let l = c .before .before .before .before .before .before .before .loop in
     (search needs, four-turn (now (a .args .gaps)) (a .args .x) (l .i) (l .r) _ _ (search needs) (l .inv .1) (c .before .four .ensures) (c .mul .ensures))
 
+few-spans-requires : tie.Need-few-spans-requires Inv-loop μ-loop
+few-spans-requires c κs = (search needs, search (needs, rest-small), search (needs, rest-few))
+
 pub spans-spec : {M : Type 1} → statement M
 spans-spec =
     tie.close
     (tie.spec Inv-loop μ-loop (λ c. search (needs, spans-start)) (λ c. search needs) (λ c. search needs) (λ c. search needs) (λ c. search needs) (λ c. search needs) (λ c. search needs) (λ c. search needs) (λ c. search needs) (λ c. search needs) (λ c. search needs) (λ c. search needs) (λ c. search needs) four-requires (λ c κs. search needs) (λ c. search needs)
     (λ c. search needs) loop-again (λ c. search needs) (λ c. search needs) (λ c. search needs) (λ c. search needs)
-    (λ c κs. search needs) (λ c κs. search needs) (λ c. search (needs, four-end)))
+    few-spans-requires (λ c κs. search needs) (λ c. search (needs, four-end)))

@@ -1,6 +1,6 @@
 -- `write_few` meets its contract.
 use mathlib.Core.Path.{refl}
-use Rattle.packfile.proofs.Entire.{few-length, few-room}
+use Rattle.packfile.proofs.Rooms.{few-length, few-room}
 use borrow.Author.Needs.{needs}
 use Rattle.packfile.proofs.write_few.Statement.{statement}
 use Rattle.packfile.proofs.write_few.Tie as tie

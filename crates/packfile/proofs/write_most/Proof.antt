@@ -1,6 +1,6 @@
 -- `write_most` meets its contract.
 use mathlib.Core.Path.{refl}
-use Rattle.packfile.proofs.Entire.{most-length, most-room}
+use Rattle.packfile.proofs.Rooms.{most-length, most-room}
 use borrow.Author.Needs.{needs}
 use Rattle.packfile.proofs.write_most.Statement.{statement}
 use Rattle.packfile.proofs.write_most.Tie as tie

@@ -1,6 +1,6 @@
 -- `finish::open` meets its contract.
 use borrow.Author.Needs.{needs}
-use Rattle.relation_finish.proofs.Finishing.{checks-allowed}
+use Rattle.relation_checks.proofs.Finishing.{checks-allowed}
 use Rattle.relation_finish.proofs.Opens.{terms-unopened, terms-opened}
 use Rattle.relation_finish.proofs.open.Statement.{statement}
 use Rattle.relation_finish.proofs.open.Tie as tie

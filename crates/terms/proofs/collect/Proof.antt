@@ -3,7 +3,7 @@
 use mathlib.Core.Path.{_≡_, refl, sym}
 use mathlib.Core.List.{List, [], _∷_}
 use mathlib.Core.WellFounded.{WellFounded, InvImage·wf}
-use Prim.Native.Nat.{ℕ, _+_, _-_, _≤_, _<_, _^_, zero-le}
+use Prim.Native.Nat.{ℕ, suc, _+_, _-_, _≤_, _<_, _^_, zero-le}
 use native.Mathlib.Nat.{lt-trans}
 use native.Mathlib.Omega.{arith}
 use native.Mathlib.Numerals.{add-one}
@@ -92,13 +92,13 @@ module _ (ts : List Term) where
 
   abbrev next : (s : Stage ts) → s .at < length ts → (v : Val) → Is All.the-row (more s) (v ∷ []) → Stage ts
   next s h v is = record {
-    at = s .at + 1;
-    within = omega arith;
+    at = suc (s .at);
+    within = h;
     so-far = more s;
     val = v;
     is = is;
-    few = placed-few (s .so-far) (s .at) (term s) (s .few);
-    leads = rw (add-one (s .at)) (rw (drop-cons ts (s .at) blank h) at (s .leads));
+    few = rw (add-one (s .at)) at (placed-few (s .so-far) (s .at) (term s) (s .few));
+    leads = rw (drop-cons ts (s .at) blank h) at (s .leads);
   }
 
   abbrev start : (v : Val) → Is All.the-row (noneOf (length ts)) (v ∷ []) → Stage ts
@@ -214,7 +214,9 @@ module _ {M : Type 1} (𝓤 : URA M) (H : Heap 𝓤) (A : Atoms 𝓤) (mem : Mem
             (and-then ! (local ! 7 refl) (and-then ! (local ! 9 refl) (and-then ! (local ! 19 refl) (no-more !)))) (λ u.
             gets ! tt put.ended (put.clauses 𝓤 H A mem run) (to-put s) u (more ts s) (λ r ws. id⊢ 𝓤 _) (λ p-is. let-go ! $ let-go ! $
             land ! (from ! (stop !)) (store ! 6 refl (typed (more ts s) u p-is .0)) $
-            assigns-last ! (bin ! (local ! 8 refl) (lit ! tt) (record { fits = fits h })) (from ! (stop !)) (store ! 8 refl (tt, record { fits = fits h })) $
+            assigns-last ! (bin ! (local ! 8 refl) (lit ! tt) (record { fits = omega (arith, room .1) })) (from ! (stop !)) (store ! 8 refl (tt, record { fits = omega (arith, room .1) })) $
+            -- one term further
+            rewrite ! 8 (λ (k : ℕ). ‵ (fat fullShare word a₃ 0 (vint w64 k))) (add-one (s .at)) refl $
             forget ! 12 refl $ forget ! 14 refl $ forget ! 16 refl $ forget ! 18 refl $
             again ! (Nearer ts) At s (next ts s h u p-is) (omega arith)))))
             (λ over. exec ! (𝓣 .C) (𝓣 .Λ) En body.t-5 (atRet En (Own .post outside)) $
@@ -223,9 +225,6 @@ module _ {M : Type 1} (𝓤 : URA M) (H : Heap 𝓤) (A : Atoms 𝓤) (mem : Mem
             forget ! 1 refl $ forget ! 3 refl $ forget ! 5 refl $ forget ! 7 refl $ forget ! 11 refl $ forget ! 13 refl $
             move ! (1 ∷ 2 ∷ 3 ∷ 4 ∷ 5 ∷ 6 ∷ 7 ∷ 8 ∷ 9 ∷ 10 ∷ 11 ∷ 12 ∷ 13 ∷ 14 ∷ 15 ∷ 16 ∷ 17 ∷ 18 ∷ []) $ frees-all ! En $
             by ! (leaves s (all-placed ts s (nltb→le (s .at) n over))))
-          where
-            fits : s .at < n → s .at + 1 < 2 ^ 64
-            fits h = omega (arith, room .0)
 
       -- up to the loop, once `all` and `i` have their first values
       abbrev Begun : Stage ts → List (Item 𝓤)

@@ -40,7 +40,6 @@ impl Inputs {
         let mut second = reference::new_session::<{ reference::MODULUS }>(n, t, 1, points[0]);
         second.session.marks[..9].copy_from_slice(&[1, 2, 2, 3, 4, 4, 5, 4, 4]);
         (second.session.left[6], second.session.right[6]) = (1, 2);
-        let reference::Session { post, point, marks, left, right, .. } = second.session;
         let [l, l2, _] = &triples[1];
         let masked = [a.minus(l), b.minus(l2)].map(|row| record(&row, |_| true));
         // Post 1 is there in any case; of the others the last t, or every second one.
@@ -49,17 +48,7 @@ impl Inputs {
         Self {
             n,
             t,
-            ours: gantsorol::Session {
-                n,
-                t,
-                post,
-                point,
-                marks,
-                factor_a: left,
-                factor_b: right,
-                y_a: [0; gantsorol::ROWS],
-                y_b: [0; gantsorol::ROWS],
-            },
+            ours: given(&second.session),
             second: second.session,
             rows,
             row_draw: raw.draw(),
@@ -80,4 +69,20 @@ impl Inputs {
 fn record(shared: &SharedRow, present: impl Fn(usize) -> bool) -> Vec<u32> {
     let block = |(v, post): (&Vec<u32>, usize)| [&[u32::from(present(post))], &v[..]].concat();
     shared.v.iter().zip(1..).flat_map(block).collect()
+}
+
+/// The binding's session for the second implementation's.
+pub fn given(session: &reference::Session) -> gantsorol::Session {
+    let reference::Session { n, t, post, point, marks, left, right, y, y2 } = *session;
+    gantsorol::Session {
+        n,
+        t,
+        post,
+        point,
+        marks,
+        factor_a: left,
+        factor_b: right,
+        y_a: y,
+        y_b: y2,
+    }
 }

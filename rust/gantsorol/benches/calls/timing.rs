@@ -87,7 +87,7 @@ impl<'a> Held<'a> {
         let against = |other: usize| ratios(&self.taken[0], &self.taken[other]);
         let fastest = if self.counts.len() == 3 { against(2) } else { String::new() };
         println!(
-            "{:<16} {ours:>10.0} {second:>10.0}   {:<18} {:<18} {fastest}",
+            "{:<18} {ours:>10.0} {second:>10.0}   {:<18} {:<18} {fastest}",
             self.contest.name,
             against(1),
             against(self.counts.len())

@@ -1,6 +1,8 @@
 //! The verified library as the second implementation's trait, so that both can be compared.
 #![allow(dead_code)]
 
+pub mod programs;
+
 use std::env;
 use std::ops::Range;
 use std::str::FromStr;

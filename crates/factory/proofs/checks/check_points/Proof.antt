@@ -3,7 +3,7 @@ use Prim.Native.Nat.{_-_}
 use mathlib.Core.Path.{_≡_}
 use lib.ListN.{length, drop}
 use borrow.Author.Needs.{needs}
-use Rattle.factory.specs.Packs.{anyBadPoint}
+use Rattle.factory.specs.Calls.{anyBadPoint}
 use Rattle.factory.proofs.Refusals.{bad-found, good-passed, points-ended}
 use Rattle.factory.proofs.checks.check_points.Statement.{statement}
 use Rattle.factory.proofs.checks.check_points.Tie as tie

@@ -1,5 +1,6 @@
 -- `masks::remember` meets its contract.
 use borrow.Author.Needs.{needs}
+use Rattle.session.proofs.Endings.{allowed-anyhow, plainly}
 use Rattle.relation.proofs.Remembering.{session-of}
 use Rattle.relation.proofs.masks.remember.Statement.{statement}
 use Rattle.relation.proofs.masks.remember.Tie as tie
@@ -7,4 +8,4 @@ use Rattle.relation.proofs.masks.remember.Tie as tie
 pub remember-spec : {M : Type 1} → statement M
 remember-spec =
     tie.close
-    (tie.spec (λ c. search needs) (λ c. search needs) (λ c. search needs) (λ c κs. search needs) (λ c. search (needs, session-of)))
+    (tie.spec (λ c. search needs) (λ c. search needs) (λ c. search needs) (λ c κs. search (needs, allowed-anyhow)) (λ c. search (needs, plainly, session-of)))

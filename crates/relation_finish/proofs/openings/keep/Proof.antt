@@ -1,6 +1,6 @@
 -- `finish::keep` meets its contract.
 use borrow.Author.Needs.{needs}
-use Rattle.relation_finish.proofs.Records.{kept}
+use Rattle.relation_finish.proofs.Kept.{kept}
 use Rattle.relation_finish.proofs.openings.keep.Statement.{statement}
 use Rattle.relation_finish.proofs.openings.keep.Tie as tie
 

@@ -1,6 +1,6 @@
 -- `finish::open_term` meets its contract.
 use borrow.Author.Needs.{needs}
-use Rattle.relation_finish.proofs.Records.{both-kept}
+use Rattle.relation_finish.proofs.Kept.{both-kept}
 use Rattle.relation_finish.proofs.openings.open_term.Statement.{statement}
 use Rattle.relation_finish.proofs.openings.open_term.Tie as tie
 

@@ -10,7 +10,8 @@ use Rattle.terms.specs.Listed.{factorsOf}
 use Rattle.relation.specs.Tests.{Factors}
 use Rattle.relation_finish.specs.Steps.{withOpened, unopened}
 use Rattle.relation.proofs.Loops.{walked, Leads, goes, gone, every-at}
-use Rattle.relation_finish.proofs.Records.{pair-in, opened-walk}
+use Rattle.relation_checks.proofs.Pairs.{pair-in}
+use Rattle.relation_finish.proofs.Kept.{opened-walk}
 use Rattle.relation_finish.proofs.openings.open_terms.Statement.{statement}
 use Rattle.relation_finish.proofs.openings.open_terms.Tie as tie
 

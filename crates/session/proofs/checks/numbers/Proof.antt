@@ -14,7 +14,7 @@ use Rattle.shape.specs.Lengths.{rowLength, rowsLength}
 use Rattle.refusal.specs.Refusal.{first, _when_}
 use Rattle.refusal.specs.Conditions.{anyBeyond}
 use Rattle.session.specs.Rows.{rowAt}
-use Rattle.session.specs.Checks.{Sized}
+use Rattle.session.specs.Between.{Sized}
 use Rattle.session.proofs.Passed.{row-below}
 use Rattle.session.proofs.checks.numbers.Statement.{statement}
 use Rattle.session.proofs.checks.numbers.Tie as tie

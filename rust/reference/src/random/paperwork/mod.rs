@@ -145,7 +145,8 @@ impl Paperwork {
 /// The most bytes of a part to be written: a random pack file has fewer.
 const LONGEST_FILE: usize = 1 << 18;
 
-fn written(length: usize, write: impl FnOnce(&mut [u8]) -> Written) -> PaperworkOutcome {
+/// What a writer hands back and leaves in a part of so many bytes, in which every write is seen.
+pub fn written(length: usize, write: impl FnOnce(&mut [u8]) -> Written) -> PaperworkOutcome {
     let mut out: Vec<u8> = (0..length.min(LONGEST_FILE)).map(|place| 128 | place as u8).collect();
     let written = write(&mut out);
     PaperworkOutcome::Written { written, out }

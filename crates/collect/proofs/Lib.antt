@@ -1,0 +1,5 @@
+pub mod Passed
+pub mod Finishing
+pub mod Opens
+pub mod Theorems
+pub mod Tables

@@ -1,0 +1,42 @@
+// Deal: c is added to m1..mn of a raw row, which becomes held.
+use session::Answer;
+use session::Session;
+ghost use mathlib.Core.Path.{_≡_};
+ghost use Rattle.deal.specs.Deal.{dealRefusal, dealAnswer, dealRows};
+
+fn deal_refusal(session: Session, rows: &[u32], row: usize, c: u32) -> u8
+    ensures { λ r. ⌜ r ≡ dealRefusal session (now (rows .entry)) row c ⌝ }
+{
+    let frame = session.frame(rows);
+    if frame != 0 {
+        return frame;
+    }
+    let held = session.marks;
+    let marks = session::checks::wrong_mark(&held, row, shape::RAW);
+    let numbers = refusal::or_else(
+        refusal::number(c),
+        session::checks::numbers(session.shape(), rows, row),
+    );
+    let place = session::checks::row(row);
+    refusal::or_else(place, refusal::or_else(marks, numbers))
+}
+
+// The rows, after a call with this refusal.
+fn deal_rows(session: Session, rows: &mut [u32], row: usize, c: u32, refusal: u8)
+    requires { ⌜ refusal ≡ dealRefusal session (now rows) row c ⌝ }
+    ensures { λ r. ⌜ now (rows .exit) ≡ dealRows session (now (rows .entry)) row c ⌝ }
+{
+    if refusal != 0 {
+        return;
+    }
+    sums::add_to_sums(session.shape(), rows, row, c);
+}
+
+pub fn deal(session: Session, rows: &mut [u32], row: usize, c: u32) -> Answer
+    ensures { λ r. ⌜ r ≡ dealAnswer session (now (rows .entry)) row c ⌝ }
+    ensures { λ r. ⌜ now (rows .exit) ≡ dealRows session (now (rows .entry)) row c ⌝ }
+{
+    let refusal = deal_refusal(session, rows, row, c);
+    deal_rows(session, rows, row, c, refusal);
+    session.answer_marking(refusal, row, shape::HELD)
+}

@@ -1,0 +1,19 @@
+-- Between the functions of the code. No theorem is stated with these.
+use Prim.Native.Nat.{ℕ, suc, _+_, _≤_, _<_}
+use mathlib.Core.Path.{_≡_}
+use mathlib.Core.List.{List}
+use lib.ListN.{take, drop}
+use Rattle.decimal.specs.Numeral.{mostDigits, leading, valueAfter}
+
+-- A walk from a position of a line of this length: to the line's end, but over no more than one digit above the most.
+pub record WalkEnd (len at end : ℕ) : Type 0 where
+  pub from : at ≤ end
+  pub near : end ≤ at + suc mostDigits
+  pub within : at < end → end ≤ len
+  pub whole : end ≤ at + mostDigits → len ≤ end
+
+-- Where the walk left the digits, and what those say that it passed: all of them, unless there are more than the most.
+pub record DigitsAt (s : List ℕ) (at v end : ℕ) : Type 0 where
+  pub from : at ≤ end
+  pub few : end ≤ at + mostDigits → (end ≡ at + leading (drop at s)) × (v ≡ valueAfter 0 (take (leading (drop at s)) (drop at s)))
+  pub many : at + mostDigits < end → mostDigits < leading (drop at s)

@@ -1,0 +1,5 @@
+pub mod Passed
+pub mod Loading
+pub mod Triples
+pub mod Theorems
+pub mod Tables

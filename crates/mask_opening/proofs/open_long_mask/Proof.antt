@@ -1,0 +1,18 @@
+-- `mask_opening::open_long_mask` meets its contract.
+use mathlib.Core.Path.{refl}
+use borrow.Author.Needs.{needs}
+use Rattle.shape.specs.Bounds.{longestRow}
+use Rattle.walk.proofs.Fronts.{front-length, front-size}
+use Rattle.mask_opening.proofs.open_long_mask.Statement.{statement}
+use Rattle.mask_opening.proofs.open_long_mask.Tie as tie
+
+open-mask-in-requires : tie.Need-open-mask-in-requires
+open-mask-in-requires c κs =
+    let width = c .before .row-len in
+    (search needs, search needs, search needs, search needs, front-size (width .result) longestRow _ _ (width .ensures) (search needs) refl)
+
+pub open-long-mask-spec : {M : Type 1} → statement M
+open-long-mask-spec =
+    tie.close
+    (tie.spec (λ c κs. search needs) (λ c. search needs) (λ c. front-length _ longestRow _ (search needs) refl)
+    open-mask-in-requires (λ c. search needs))

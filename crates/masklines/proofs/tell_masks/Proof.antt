@@ -1,0 +1,13 @@
+-- `tell_masks` meets its contract.
+use borrow.Author.Needs.{needs}
+use Rattle.masklines.proofs.Masking.{told-fits, told-is}
+use Rattle.masklines.proofs.tell_masks.Statement.{statement}
+use Rattle.masklines.proofs.tell_masks.Tie as tie
+
+ruleset ends = (needs, told-fits, told-is)
+
+pub tell-masks-spec : {M : Type 1} → statement M
+tell-masks-spec =
+    tie.close
+    (tie.spec (λ c. search ends) (λ c. search ends) (λ c. search ends) (λ c κs. search ends) (λ c κs. search ends)
+    (λ c. search ends) (λ c. search ends))

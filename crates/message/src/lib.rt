@@ -1,0 +1,62 @@
+// Opening message: the t+1 coefficients of a held row, into a lent list.
+use session::Answer;
+use session::Session;
+use shape::Shape;
+ghost use mathlib.Core.Path.{_≡_};
+ghost use lib.ListN.{length};
+ghost use mathlib.Core.List.{[], _∷_};
+ghost use Rattle.refusal.specs.Refusal.{first, _when_};
+ghost use Rattle.shape.specs.Marks.{held};
+ghost use Rattle.shape.specs.Lengths.{rowLength, vLength};
+ghost use Rattle.shape.specs.Row.{coefficients};
+ghost use Rattle.session.specs.Rows.{rowAt};
+ghost use Rattle.session.specs.Checks.{wrongMark};
+ghost use Rattle.session.specs.Between.{Sized, RowIn};
+ghost use Rattle.message.specs.Message.{messageRefusal, messageAnswer, messageOut};
+
+// The refusal, where 7 has been looked up.
+fn message_refusal(session: Session, rows: &[u32], row: usize, out: &[u32], marks: u8) -> u8
+    requires { ⌜ marks ≡ first (7 when wrongMark session row held ∷ []) ⌝ }
+    ensures { λ r. ⌜ r ≡ messageRefusal session (now (rows .entry)) row (now (out .entry)) ⌝ }
+{
+    let frame = session.frame(rows);
+    if frame != 0 {
+        return frame;
+    }
+    let shape = session.shape();
+    let size = refusal::size(out, shape.v_len());
+    let held = refusal::or_else(marks, session::checks::numbers(shape, rows, row));
+    refusal::or_else(size, refusal::or_else(session::checks::row(row), held))
+}
+
+fn message_accepted(shape: Shape, rows: &[u32], row: usize, out: &mut [u32])
+    requires { ⌜ Sized shape (now rows) × RowIn shape row × (length (now out) ≡ vLength shape) ⌝ }
+    ensures { λ r. ⌜ now (out .exit) ≡ coefficients shape (rowAt (rowLength shape) (now (rows .entry)) row) ⌝ }
+{
+    let count = shape.v_len();
+    let own = session::rows::row(shape, rows, row);
+    lists::copy(&own[..count], out);
+}
+
+// The lent list, after a call with this refusal.
+fn message_out(session: Session, rows: &[u32], row: usize, out: &mut [u32], refusal: u8)
+    requires { ⌜ refusal ≡ messageRefusal session (now rows) row (now out) ⌝ }
+    ensures { λ r. ⌜ now (out .exit) ≡ messageOut session (now (rows .entry)) row (now (out .entry)) ⌝ }
+{
+    if refusal != 0 {
+        return;
+    }
+    message_accepted(session.shape(), rows, row, out);
+}
+
+// A message changes nothing: refused or not, the session goes back as it came.
+pub fn opening_message(session: Session, rows: &[u32], row: usize, out: &mut [u32]) -> Answer
+    ensures { λ r. ⌜ r ≡ messageAnswer session (now (rows .entry)) row (now (out .entry)) ⌝ }
+    ensures { λ r. ⌜ now (out .exit) ≡ messageOut session (now (rows .entry)) row (now (out .entry)) ⌝ }
+{
+    let held = session.marks;
+    let marks = session::checks::wrong_mark(&held, row, shape::HELD);
+    let refusal = message_refusal(session, rows, row, out, marks);
+    message_out(session, rows, row, out, refusal);
+    session.refuse(refusal)
+}

@@ -1,0 +1,5 @@
+pub mod Passed
+pub mod Sums
+pub mod Multiplying
+pub mod Theorems
+pub mod Tables

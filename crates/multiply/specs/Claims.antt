@@ -1,0 +1,14 @@
+-- Demand 1 of a finish's second call, with document 01's table for its tests; proved in proofs/Theorems.antt.
+use Prim.Native.Nat.{ℕ, _+_}
+use mathlib.Core.List.{List}
+use Rattle.session.specs.declared.Session.{Session}
+use Rattle.session.specs.Sessions.{openedA, openedB, marked}
+use Rattle.session.specs.Law.{Lawful}
+use Rattle.multiply.specs.Multiply.{withProduct, multiplyAnswer, multiplyRows}
+use Rattle.multiply.specs.Table.{multiplyTable}
+
+abbrev pub MultiplyLawful : Type 0
+MultiplyLawful =
+    (s : Session) (rows : List ℕ) (r : ℕ)
+    → Lawful (multiplyTable s rows r) 0 (marked (marked (marked s r 6) (r + 1) 6) (r + 2) 2) s
+    (withProduct s (openedA s r) (openedB s r) r rows) rows (multiplyAnswer s rows r) (multiplyRows s rows r)

@@ -1,0 +1,3 @@
+pub mod Multiply
+pub mod Table
+pub mod Claims

@@ -1,9 +1,0 @@
-use Rattle.packfile.proofs.Kinded.{drawn-raw, drawn-triple, drawn-none}
-use borrow.Author.Needs.{needs}
-use Rattle.packfile.proofs.kinds.drawn_for.Statement.{statement}
-use Rattle.packfile.proofs.kinds.drawn_for.Tie as tie
-
-ruleset turns = (needs, drawn-raw, drawn-triple, drawn-none)
-
-pub drawn-for-spec : {M : Type 1} → statement M
-drawn-for-spec = tie.close (tie.spec (λ c κs. search turns) (λ c. search turns) (λ c κs. search turns) (λ c. search turns) (λ c. search turns))

@@ -1,0 +1,3 @@
+pub mod Spelt
+pub mod Rising
+pub mod Entire

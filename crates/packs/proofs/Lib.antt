@@ -1,0 +1,4 @@
+pub mod Posts
+pub mod Rest
+pub mod Factors
+pub mod Laws

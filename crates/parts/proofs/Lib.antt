@@ -1,0 +1,4 @@
+pub mod Turns
+pub mod Halves
+pub mod Parts
+pub mod Laws

@@ -1,0 +1,6 @@
+-- The tests of masks are document 01's table.
+use mathlib.Core.Path.{refl}
+use Rattle.product_masks.specs.Table.{MasksTable}
+
+pub masks-table : MasksTable
+masks-table s rows a b r out = refl

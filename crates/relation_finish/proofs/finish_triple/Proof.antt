@@ -1,8 +1,0 @@
--- `finish::finish_triple` meets its contract.
-use borrow.Author.Needs.{needs}
-use Rattle.relation_finish.proofs.Summing.{pair-of}
-use Rattle.relation_finish.proofs.finish_triple.Statement.{statement}
-use Rattle.relation_finish.proofs.finish_triple.Tie as tie
-
-pub finish-triple-spec : {M : Type 1} → statement M
-finish-triple-spec = tie.close (tie.spec (λ c. search needs) (λ c κs. search needs) (λ c κs. search needs) (λ c. search (needs, pair-of)))

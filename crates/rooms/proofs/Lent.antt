@@ -1,0 +1,31 @@
+-- What an opening is lent: the rooms are long enough, stay so, and the powers fill theirs.
+use Prim.Native.Nat.{ℕ, _+_, _≤_}
+use mathlib.Core.Path.{_≡_, _∙_, ap}
+use mathlib.Core.List.{List}
+use native.Mathlib.Omega.{arith}
+use lib.ListN.{length}
+use Rattle.poly.specs.Polynomial.{powers}
+use Rattle.inverses.specs.InverseTable.{Inverts}
+use Rattle.shape.specs.declared.Shape.{Shape}
+use Rattle.walk.specs.Between.{Roomy}
+
+-- a table that reaches so many posts, with rooms for them and for as many numbers as it has
+pub rooms : (s : Shape) (size most : ℕ) → s .n ≤ most → (inverses posts shares gaps list above below : List ℕ) → most ≤ length inverses
+    → length inverses ≤ size → Inverts inverses → length posts ≡ most → length shares ≡ most → length gaps ≡ size → length list ≡ size + 1
+    → length above ≡ size + 1 → length below ≡ size + 1 → Roomy s inverses posts shares gaps list above below
+rooms s size most h inverses posts shares gaps list above below reach k i ep es eg el ea eb = record {
+  posts-room = omega arith;
+  shares-room = omega arith;
+  reach = omega arith;
+  lent = record { table = i; gap-room = omega arith; room = omega arith; above-room = omega arith; below-room = omega arith };
+}
+
+pub roomy-kept : (s : Shape) (inverses posts posts′ shares shares′ gaps list above below : List ℕ)
+    → Roomy s inverses posts shares gaps list above below → length posts′ ≡ length posts → length shares′ ≡ length shares
+    → Roomy s inverses posts′ shares′ gaps list above below
+roomy-kept s inverses posts posts′ shares shares′ gaps list above below r ep es =
+    record { posts-room = rw ep (r .posts-room); shares-room = rw es (r .shares-room); reach = r .reach; lent = r .lent }
+
+-- a list, filled with powers
+pub powers-whole : (x k : ℕ) (old new : List ℕ) → length old ≡ k → new ≡ powers x (length old) → new ≡ powers x k
+powers-whole x k old new e f = f ∙ ap (powers x) e

@@ -1,0 +1,153 @@
+// The opening of one row with one record, in rooms that fit the station: a small one clears short lists only.
+use session::Party;
+use walk::Opened;
+ghost use mathlib.Core.Path.{_≡_};
+ghost use Prim.Native.Nat.{_≤_};
+ghost use lib.ListN.{length};
+ghost use Rattle.shape.specs.Bounds.{veryFewPosts, fewPosts};
+ghost use Rattle.shape.specs.Lengths.{vLength};
+ghost use Rattle.blocks.specs.Between.{Openable};
+ghost use Rattle.walk.specs.Number.{openedRow};
+ghost use Rattle.walk.specs.Between.{Roomy};
+
+// The number that a row opens to with a record, or 9, or 13, with the table of inverses and lent room for the powers of the check point, the
+// posts, the shares and the agreement's lists.
+fn open_in<'a>(
+    party: Party,
+    row: &'a [u32],
+    blocks: &'a [u32],
+    inverses: &[u32],
+    powers: &mut [u32],
+    posts: &mut [u32],
+    shares: &mut [u32],
+    gaps: &mut [u32],
+    list: &mut [u32],
+    above: &mut [u32],
+    below: &mut [u32],
+) -> Opened
+    requires { ⌜ Openable party (now row) (now blocks) × (length (now powers) ≡ vLength (party .shape))
+        × Roomy (party .shape) (now inverses) (now posts) (now shares) (now gaps) (now list) (now above) (now below) ⌝ }
+    ensures { λ r. ⌜ r ≡ openedRow party (now (row .entry)) (now (blocks .entry)) ⌝ }
+{
+    poly::powers(party.point, powers);
+    let outcome = walk::walk_posts(party, row, blocks, powers, posts, shares);
+    walk::settle(
+        party,
+        row,
+        blocks,
+        powers,
+        outcome,
+        posts,
+        shares,
+        inverses,
+        gaps,
+        list,
+        above,
+        below,
+    )
+}
+
+// In rooms for very few posts.
+fn open_least<'a>(party: Party, row: &'a [u32], blocks: &'a [u32]) -> Opened
+    requires { ⌜ Openable party (now row) (now blocks) × (party .shape .n ≤ veryFewPosts) ⌝ }
+    ensures { λ r. ⌜ r ≡ openedRow party (now (row .entry)) (now (blocks .entry)) ⌝ }
+{
+    let shape = party.shape;
+    let count = shape.v_len();
+    let inverses = inverses::very_few::to_8();
+    let mut powers = [0u32; shape::VERY_SHORT_V];
+    let mut posts = [0u32; shape::VERY_FEW_POSTS];
+    let mut shares = [0u32; shape::VERY_FEW_POSTS];
+    let mut gaps = [0u32; inverses::very_few::VERY_FEW];
+    let mut list = [0u32; inverses::very_few::VERY_FEW + 1];
+    let mut above = [0u32; inverses::very_few::VERY_FEW + 1];
+    let mut below = [0u32; inverses::very_few::VERY_FEW + 1];
+    open_in(
+        party,
+        row,
+        blocks,
+        &inverses,
+        &mut powers[..count],
+        &mut posts,
+        &mut shares,
+        &mut gaps,
+        &mut list,
+        &mut above,
+        &mut below,
+    )
+}
+
+// In rooms for few posts.
+fn open_small<'a>(party: Party, row: &'a [u32], blocks: &'a [u32]) -> Opened
+    requires { ⌜ Openable party (now row) (now blocks) × (party .shape .n ≤ fewPosts) ⌝ }
+    ensures { λ r. ⌜ r ≡ openedRow party (now (row .entry)) (now (blocks .entry)) ⌝ }
+{
+    let shape = party.shape;
+    let count = shape.v_len();
+    let inverses = inverses::few::to_32();
+    let mut powers = [0u32; shape::SHORT_V];
+    let mut posts = [0u32; shape::FEW_POSTS];
+    let mut shares = [0u32; shape::FEW_POSTS];
+    let mut gaps = [0u32; inverses::few::FEW];
+    let mut list = [0u32; inverses::few::FEW + 1];
+    let mut above = [0u32; inverses::few::FEW + 1];
+    let mut below = [0u32; inverses::few::FEW + 1];
+    open_in(
+        party,
+        row,
+        blocks,
+        &inverses,
+        &mut powers[..count],
+        &mut posts,
+        &mut shares,
+        &mut gaps,
+        &mut list,
+        &mut above,
+        &mut below,
+    )
+}
+
+// In rooms for the most posts.
+fn open_large<'a>(party: Party, row: &'a [u32], blocks: &'a [u32]) -> Opened
+    requires { ⌜ Openable party (now row) (now blocks) ⌝ }
+    ensures { λ r. ⌜ r ≡ openedRow party (now (row .entry)) (now (blocks .entry)) ⌝ }
+{
+    let shape = party.shape;
+    let count = shape.v_len();
+    let inverses = inverses::to_255();
+    let mut powers = [0u32; shape::LONGEST_V];
+    let mut posts = [0u32; shape::MOST_POSTS];
+    let mut shares = [0u32; shape::MOST_POSTS];
+    let mut gaps = [0u32; inverses::MOST];
+    let mut list = [0u32; inverses::MOST + 1];
+    let mut above = [0u32; inverses::MOST + 1];
+    let mut below = [0u32; inverses::MOST + 1];
+    open_in(
+        party,
+        row,
+        blocks,
+        &inverses,
+        &mut powers[..count],
+        &mut posts,
+        &mut shares,
+        &mut gaps,
+        &mut list,
+        &mut above,
+        &mut below,
+    )
+}
+
+// The number that a row opens to with a record, or 9, or 13.
+pub fn open_row<'a>(party: Party, row: &'a [u32], blocks: &'a [u32]) -> Opened
+    requires { ⌜ Openable party (now row) (now blocks) ⌝ }
+    ensures { λ r. ⌜ r ≡ openedRow party (now (row .entry)) (now (blocks .entry)) ⌝ }
+{
+    let shape = party.shape;
+    if shape.n <= shape::VERY_FEW_POSTS {
+        open_least(party, row, blocks)
+    } else if shape.n <= shape::FEW_POSTS {
+        open_small(party, row, blocks)
+    } else {
+        open_large(party, row, blocks)
+    }
+}

@@ -1,0 +1,14 @@
+-- `add` meets its contract.
+use borrow.Author.Needs.{needs}
+use Rattle.states.proofs.Calling.{rows-in, rows-prefix}
+use Rattle.rowlines.proofs.Lettering.{linear-called}
+use Rattle.rowlines.proofs.add.Statement.{statement}
+use Rattle.rowlines.proofs.add.Tie as tie
+
+ruleset ends = (needs, rows-in, rows-prefix, linear-called)
+
+pub add-spec : {M : Type 1} → statement M
+add-spec =
+    tie.close
+    (tie.spec (λ c κs. search ends) (λ c. search ends) (λ c. search ends) (λ c κs. search ends) (λ c κs. search ends)
+    (λ c. search ends) (λ c. search ends))

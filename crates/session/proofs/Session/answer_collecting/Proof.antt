@@ -1,0 +1,12 @@
+-- `Session::answer_collecting` meets its contract.
+use borrow.Author.Needs.{needs}
+use Rattle.session.proofs.Endings.{first-allowed, place-allowed, ends-accepted, ends-refused}
+use Rattle.session.proofs.Session.answer_collecting.Statement.{statement}
+use Rattle.session.proofs.Session.answer_collecting.Tie as tie
+
+ruleset steps = (needs, first-allowed, place-allowed, ends-accepted, ends-refused)
+
+pub answer-collecting-spec : {M : Type 1} → statement M
+answer-collecting-spec =
+    tie.close
+    (tie.spec (λ c. search steps) (λ c. search steps) (λ c. search steps) (λ c. search steps) (λ c. search steps) (λ c. search steps) (λ c. search steps))

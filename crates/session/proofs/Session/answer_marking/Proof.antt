@@ -1,0 +1,10 @@
+-- `Session::answer_marking` meets its contract.
+use borrow.Author.Needs.{needs}
+use Rattle.session.proofs.Endings.{row-allowed, ends-accepted, ends-refused}
+use Rattle.session.proofs.Session.answer_marking.Statement.{statement}
+use Rattle.session.proofs.Session.answer_marking.Tie as tie
+
+ruleset steps = (needs, row-allowed, ends-accepted, ends-refused)
+
+pub answer-marking-spec : {M : Type 1} → statement M
+answer-marking-spec = tie.close (tie.spec (λ c. search steps) (λ c. search steps) (λ c. search steps))

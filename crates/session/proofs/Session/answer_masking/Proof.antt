@@ -1,0 +1,12 @@
+-- `Session::answer_masking` meets its contract.
+use borrow.Author.Needs.{needs}
+use Rattle.session.proofs.Endings.{first-allowed, row-fits, ends-accepted, ends-refused}
+use Rattle.session.proofs.Session.answer_masking.Statement.{statement}
+use Rattle.session.proofs.Session.answer_masking.Tie as tie
+
+ruleset steps = (needs, first-allowed, row-fits, ends-accepted, ends-refused)
+
+pub answer-masking-spec : {M : Type 1} → statement M
+answer-masking-spec =
+    tie.close
+    (tie.spec (λ c. search steps) (λ c. search steps) (λ c. search steps) (λ c. search steps) (λ c. search steps) (λ c. search steps) (λ c. search steps))

@@ -1,0 +1,3 @@
+pub mod Writers
+pub mod Within
+pub mod Summed

@@ -1,0 +1,5 @@
+pub mod Walks
+pub mod Behind
+pub mod Upward
+pub mod Settles
+pub mod Fronts

@@ -1,0 +1,147 @@
+//! Calls on a session.
+
+use std::hint::black_box;
+
+use reference::{Library, Term, REFERENCE};
+
+use super::{contest, on_ours, on_second, repeated, Contest};
+use crate::fastest;
+use crate::inputs::Inputs;
+
+fn opening<'a>(name: &'static str, i: &'a Inputs, record: &'a [u32]) -> Contest<'a> {
+    let ours = on_ours(i, move |s, rows| s.open(rows, 1, record));
+    let second = on_second(i, move |s, rows| REFERENCE.open(s, rows, 1, record));
+    let fastest = on_ours(i, move |s, rows| fastest::open(s, rows, 1, record));
+    Contest { name, runs: vec![ours, second, fastest] }
+}
+
+fn loading_and_dealing(i: &Inputs) -> Vec<Contest<'_>> {
+    let (n, t, point) = (i.n, i.t, i.points[0]);
+    vec![
+        contest(
+            "new",
+            repeated(move || gantsorol::Session::new(n, t, 1, black_box(point)), |a| a.refusal),
+            repeated(move || REFERENCE.new_session(n, t, 1, black_box(point)), |a| a.refusal),
+        ),
+        contest(
+            "load row",
+            on_ours(i, move |s, rows| s.load_row(rows, 95, &i.pack)),
+            on_second(i, move |s, rows| REFERENCE.load_row(s, rows, 95, &i.pack)),
+        ),
+        contest(
+            "load triple",
+            on_ours(i, move |s, rows| s.load_triple(rows, 93, &i.triple_pack)),
+            on_second(i, move |s, rows| REFERENCE.load_triple(s, rows, 93, &i.triple_pack)),
+        ),
+        contest(
+            "deal",
+            on_ours(i, move |s, rows| s.deal(rows, 0, i.numbers[0])),
+            on_second(i, move |s, rows| REFERENCE.deal(s, rows, 0, i.numbers[0])),
+        ),
+    ]
+}
+
+fn openings(i: &Inputs) -> Vec<Contest<'_>> {
+    let message = || vec![0; i.t + 1];
+    vec![
+        contest(
+            "opening message",
+            {
+                let mut out = message();
+                on_ours(i, move |s, rows| s.opening_message(rows, 1, &mut out))
+            },
+            {
+                let mut out = message();
+                on_second(i, move |s, rows| REFERENCE.opening_message(s, rows, 1, &mut out))
+            },
+        ),
+        opening("open", i, &i.record),
+        opening("open, few there", i, &i.scattered),
+        opening("open, 2 missing", i, &i.one_missing),
+    ]
+}
+
+fn sums_and_products(i: &Inputs) -> Vec<Contest<'_>> {
+    let masks = || vec![0; gantsorol::masks_len(i.t)];
+    let [left, right] = &i.masked;
+    vec![
+        contest(
+            "linear",
+            on_ours(i, move |s, rows| s.linear(rows, 95, 1, 2, i.numbers[0], i.numbers[1])),
+            on_second(i, move |s, rows| {
+                REFERENCE.linear(s, rows, 95, 1, 2, i.numbers[0], i.numbers[1])
+            }),
+        ),
+        contest(
+            "masks",
+            {
+                let mut out = masks();
+                on_ours(i, move |s, rows| s.masks(rows, 1, 2, 3, &mut out))
+            },
+            {
+                let mut out = masks();
+                on_second(i, move |s, rows| REFERENCE.masks(s, rows, 1, 2, 3, &mut out))
+            },
+        ),
+        contest(
+            "collect, multiply",
+            on_ours(i, move |s, rows| s.collect(rows, 6, left, right).session.multiply(rows, 6)),
+            on_second(i, move |s, rows| {
+                let opened = REFERENCE.open_masks(s, rows, 6, left, right);
+                REFERENCE.multiply(opened.session, rows, 6)
+            }),
+        ),
+    ]
+}
+
+/// A relation of two terms, a product with the triple at `first` and a plain one.
+fn relation(i: &Inputs, first: u8) -> ([gantsorol::Term; 2], [Term; 2]) {
+    let (one, other) = (i.numbers[0], i.numbers[1]);
+    let ours = [gantsorol::Term::product(one, 1, 2, first), gantsorol::Term::plain(other, 1)];
+    let second = ours.map(|gantsorol::Term { coefficient, row, second, first }| Term {
+        coefficient,
+        row: row.into(),
+        second: second.into(),
+        first: first.into(),
+    });
+    (ours, second)
+}
+
+fn relations(i: &Inputs) -> Vec<Contest<'_>> {
+    let masks = || vec![0; gantsorol::masks_len(i.t)];
+    let records = || i.masked.concat();
+    let ((unused, unused2), (masked, masked2)) = (relation(i, 3), relation(i, 6));
+    vec![
+        contest(
+            "relation masks",
+            {
+                let mut out = masks();
+                on_ours(i, move |s, rows| s.relation_masks(rows, &unused, &mut out))
+            },
+            {
+                let mut out = masks();
+                on_second(i, move |s, rows| REFERENCE.relation_masks(s, rows, &unused2, &mut out))
+            },
+        ),
+        contest(
+            "relation finish",
+            {
+                let records = records();
+                on_ours(i, move |s, rows| s.relation_finish(rows, &masked, 95, &records))
+            },
+            {
+                let records = records();
+                on_second(i, move |s, rows| {
+                    REFERENCE.relation_finish(s, rows, &masked2, &records, 95)
+                })
+            },
+        ),
+    ]
+}
+
+pub fn all(i: &Inputs) -> Vec<Contest<'_>> {
+    [loading_and_dealing, openings, sums_and_products, relations]
+        .into_iter()
+        .flat_map(|calls| calls(i))
+        .collect()
+}

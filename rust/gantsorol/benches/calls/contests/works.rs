@@ -1,0 +1,83 @@
+//! The factory's calls, the dealer's number and pack files.
+
+use std::hint::black_box;
+
+use reference::{Library, REFERENCE};
+
+use super::{contest, filling, repeated, Contest};
+use crate::fastest;
+use crate::inputs::Inputs;
+
+fn refused(answer: &Result<(), gantsorol::Refusal>) -> u8 {
+    answer.as_ref().err().map_or(0, |refusal| refusal.0)
+}
+
+/// The second implementation's dealer's number, over C's interface as ours is: to hand the answer
+/// over takes as long as to work it out.
+extern "C" fn second_number(u: u32, constant: u32) -> gantsorol::Number {
+    let (refusal, value) = REFERENCE.dealer_number(u, constant);
+    gantsorol::Number { refusal, value }
+}
+
+fn factory_row(i: &Inputs) -> Contest<'_> {
+    let (n, t, points, draw) = (i.n, i.t, &i.points[..], &i.row_draw[..]);
+    let packs = n * gantsorol::row_len(n, t);
+    let ours = filling(packs, move |out| gantsorol::factory_row(n, t, points, draw, out), refused);
+    let second = filling(packs, move |out| REFERENCE.factory_row(n, t, points, draw, out), |&a| a);
+    let fastest = filling(packs, move |out| fastest::factory_row(n, t, points, draw, out), |&a| a);
+    Contest { name: "factory row", runs: vec![ours, second, fastest] }
+}
+
+pub fn all(i: &Inputs) -> Vec<Contest<'_>> {
+    let (n, t) = (i.n, i.t);
+    let packs = n * gantsorol::row_len(n, t);
+    let second: extern "C" fn(u32, u32) -> gantsorol::Number = second_number;
+    let second = black_box(second);
+    vec![
+        factory_row(i),
+        contest(
+            "factory triple",
+            filling(
+                3 * packs,
+                move |out| gantsorol::factory_triple(n, t, &i.points, &i.triple_draw, out),
+                refused,
+            ),
+            filling(
+                3 * packs,
+                move |out| REFERENCE.factory_triple(n, t, &i.points, &i.triple_draw, out),
+                |&a| a,
+            ),
+        ),
+        contest(
+            "dealer's number",
+            repeated(
+                move || gantsorol::dealer_number(black_box(i.numbers[0]), i.numbers[1]),
+                |a| a.refusal,
+            ),
+            repeated(move || second(black_box(i.numbers[0]), i.numbers[1]), |a| a.refusal),
+        ),
+        pack_file(i),
+    ]
+}
+
+/// A post's file of a raw row and a triple.
+fn pack_file(i: &Inputs) -> Contest<'_> {
+    let (n, t, points) = (i.n, i.t, &i.points[..]);
+    let draws = [&i.row_draw[..], &i.triple_draw].concat();
+    let (mut kinds, same) = ([0; gantsorol::ROWS], draws.clone());
+    (kinds[0], kinds[1]) = (1, 3);
+    let room = 64 + 4 * 11 * gantsorol::row_len(n, t);
+    contest(
+        "write pack file",
+        filling(
+            room,
+            move |out| gantsorol::write_pack(n, t, 1, points, &kinds, &draws, out),
+            |a| a.refusal,
+        ),
+        filling(
+            room,
+            move |out| REFERENCE.write_pack(n, t, 1, points, &kinds, &same, out),
+            |a| a.refusal,
+        ),
+    )
+}

@@ -1,0 +1,84 @@
+//! Calls as fast as plain Rust makes them, with every check and the same answers.
+
+mod factory;
+mod opening;
+mod reading;
+mod writing;
+
+use gantsorol::{MAX_POSTS, MODULUS};
+
+pub use factory::factory_row;
+pub use opening::open;
+pub use reading::read;
+pub use writing::{write_masks, write_opening};
+
+const P: u64 = MODULUS as u64;
+
+/// So many posts are few: lists of this length are enough for them.
+const FEW: usize = 32;
+
+/// The most numbers of a line.
+const MOST_NUMBERS: usize = 2 * MAX_POSTS;
+
+/// x modulo p, for x below 2^62: p is 2^31 − 1.
+const fn reduced(x: u64) -> u64 {
+    let once = (x & P) + (x >> 31);
+    let twice = (once & P) + (once >> 31);
+    if twice >= P {
+        twice - P
+    } else {
+        twice
+    }
+}
+
+/// a b modulo p, for elements: once folded, less than 2p is left.
+const fn product(a: u64, b: u64) -> u64 {
+    let whole = a * b;
+    let once = (whole & P) + (whole >> 31);
+    if once >= P {
+        once - P
+    } else {
+        once
+    }
+}
+
+/// Refusals 1 and 2.
+fn checked_shape(n: usize, t: usize) -> Result<(), u8> {
+    match () {
+        () if !(2..=MAX_POSTS).contains(&n) => Err(1),
+        () if t < 1 || t >= n => Err(2),
+        () => Ok(()),
+    }
+}
+
+fn is_point(point: u32) -> bool {
+    point != 0 && point < MODULUS
+}
+
+/// Whether a number is no element; no early end, so that several are looked at at once.
+fn any_beyond(numbers: &[u32]) -> bool {
+    numbers.iter().fold(false, |beyond, &number| beyond | (number >= MODULUS))
+}
+
+/// The powers of x, each from two that are about half as high, so that they don't wait in a row.
+/// Numbers of 32 bits, so that their products with others are taken two at a time.
+fn powers<const N: usize>(x: u32, count: usize) -> [u32; N] {
+    let mut powers = [1; N];
+    powers[1] = x;
+    for exponent in 2..count {
+        let (half, rest) = (powers[exponent / 2], powers[exponent - exponent / 2]);
+        powers[exponent] = product(half.into(), rest.into()) as u32;
+    }
+    powers
+}
+
+/// A polynomial's value: the low and the high halves of the products are added up by themselves.
+fn value(coefficients: &[u32], powers: &[u32]) -> u64 {
+    let (mut low, mut high) = (0, 0);
+    for (&coefficient, &power) in coefficients.iter().zip(powers) {
+        let term = u64::from(coefficient) * u64::from(power);
+        low += term & P;
+        high += term >> 31;
+    }
+    reduced(low + high)
+}

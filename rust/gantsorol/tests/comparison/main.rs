@@ -1,0 +1,126 @@
+//! The verified library and the second implementation, call by call: refusal, value, session, every
+//! number of every list. A difference is printed as the shortest case that shows it.
+
+#[path = "../common/mod.rs"]
+mod common;
+
+mod odd;
+mod one_list;
+mod paperwork;
+
+use common::{seeds, Verified};
+use gantsorol::MAX_POSTS;
+use reference::random::{
+    compare_paperwork, compare_script, script, script_for, wild_calls, wild_state, Call, Rng,
+    Script, Seen, State, CALL_REFUSALS,
+};
+use reference::{random, Reference, REFERENCE};
+
+/// Whether the seeds are the gate's, so that what they reach is known.
+fn fixed_seeds() -> bool {
+    let set = |name| std::env::var_os(name).is_some();
+    !set("GANTSOROL_SEED") && !set("GANTSOROL_CASES")
+}
+
+/// Compares a script, and checks the valid steps against what the works knows.
+#[track_caller]
+fn compare(seed: u64, script: &Script, seen: &mut Seen) {
+    if let Some(difference) = compare_script(script, &Verified, &REFERENCE) {
+        panic!("seed {seed}, the verified library on the left:\n{difference}");
+    }
+    for (step, outcome) in script.steps.iter().zip(script.replay(&Verified)) {
+        seen.note(&step.call, outcome.refusal);
+        if !step.trial {
+            let answer = (outcome.refusal, outcome.value);
+            assert_eq!(answer, (0, step.opens_to.unwrap_or(0)), "seed {seed}: {step:?}");
+        }
+    }
+}
+
+#[test]
+fn random_sessions() {
+    let mut seen = Seen::default();
+    for seed in seeds(4_000) {
+        compare(seed, &script(seed, 60), &mut seen);
+    }
+    if fixed_seeds() {
+        seen.assert_met(CALL_REFUSALS);
+    }
+}
+
+/// The n and t of each script go through all pairs, one after the other.
+#[test]
+fn every_n_and_t() {
+    let pairs: Vec<(usize, usize)> = (2..=32).flat_map(|n| (1..n).map(move |t| (n, t))).collect();
+    let mut seen = Seen::default();
+    for seed in seeds(4 * pairs.len() as u64) {
+        let (n, t) = pairs[(seed % pairs.len() as u64) as usize];
+        compare(seed, &script_for(&mut Rng::new(seed), n, t, 30), &mut seen);
+    }
+    if fixed_seeds() {
+        seen.assert_met(&[
+            ("Open", &[0, 9]),
+            ("Masks", &[0]),
+            ("OpenMasks", &[0, 9]),
+            ("Multiply", &[0]),
+        ]);
+    }
+}
+
+/// Stations of a square, 33 to 255 posts: t small, in the middle and n − 1. Valid, refused and
+/// damaged calls, as in every script.
+#[test]
+fn squares() {
+    let mut seen = Seen::default();
+    for seed in seeds(240) {
+        let mut rng = Rng::new(seed);
+        let n = if rng.one_in(4) { MAX_POSTS } else { rng.between(33, MAX_POSTS) };
+        let t = match seed % 3 {
+            0 => rng.between(1, 4),
+            1 => rng.between(n / 2 - 2, n / 2 + 2),
+            _ => n - 1,
+        };
+        compare(seed, &script_for(&mut rng, n, t, 25), &mut seen);
+    }
+    if fixed_seeds() {
+        seen.assert_met(&[("Open", &[0, 8, 9]), ("Masks", &[0]), ("OpenMasks", &[0, 8, 9])]);
+        seen.assert_met(&[("RelationMasks", &[0]), ("RelationFinish", &[0, 9])]);
+    }
+}
+
+/// Makes a call on both libraries, which must answer alike; the refusal.
+#[track_caller]
+fn compare_call(seed: u64, call: &Call, state: &State) -> u8 {
+    let (ours, second) = (call.perform(&Verified, state), call.perform(&REFERENCE, state));
+    assert_eq!(ours, second, "seed {seed}: {call:?} on {state:?}");
+    ours.refusal
+}
+
+/// Every number at random, most of them wild, in calls that never were part of a session.
+#[test]
+fn wild_arguments() {
+    for seed in seeds(100_000) {
+        let mut rng = Rng::new(seed);
+        let state = wild_state(&mut rng, seed % 2 == 0);
+        for call in wild_calls(&mut rng) {
+            compare_call(seed, &call, &state);
+        }
+    }
+}
+
+/// The comparison can fail: over another prime nearly every script ends in a short difference.
+#[test]
+fn another_prime_is_told_apart() {
+    let other = Reference::<2_147_483_629>;
+    let mut found = 0;
+    for seed in 0..20 {
+        if let Some(difference) = compare_script(&script(seed, 60), &Verified, &other) {
+            found += 1;
+            assert!(difference.case.len() <= 6, "{difference}");
+        }
+    }
+    assert!(found > 10, "only {found} of 20 scripts tell the primes apart");
+    let papers = (0..2000)
+        .filter(|&seed| compare_paperwork(&random::paperwork(seed), &Verified, &other).is_some());
+    assert!(papers.count() > 100);
+}

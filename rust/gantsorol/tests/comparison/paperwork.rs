@@ -1,0 +1,65 @@
+//! Calls without a session: the factory, lines, pack files; and the bounds of what they take.
+
+use gantsorol::MAX_POSTS;
+use reference::random::{
+    compare_paperwork, paperwork, Paperwork, PaperworkOutcome, Seen, PAPERWORK_REFUSALS,
+};
+use reference::{Library, REFERENCE};
+
+use crate::common::{seeds, Verified};
+use crate::fixed_seeds;
+
+/// 255 posts are taken and 256 refused, whatever t is; the street program's 33 are taken here.
+#[test]
+fn the_last_number_of_posts() {
+    for (n, refusal) in [(2, 0), (33, 0), (254, 0), (255, 0), (256, 1), (257, 1)] {
+        for t in [1, n / 2, n - 1] {
+            assert_eq!(Verified.new_session(n, t, n, 1).refusal, refusal, "{n}, {t}");
+            assert_eq!(Verified.write_deal(n, t, 0, 0, &mut [0; 6]).refusal, refusal, "{n}, {t}");
+            assert_eq!(Verified.read(n, t, b"D,0,0\n", &mut vec![0; 2 * (t + 1)]).refusal, refusal);
+        }
+        for t in [0, n] {
+            let expected = if refusal == 0 { 2 } else { 1 };
+            assert_eq!(Verified.new_session(n, t, n, 1).refusal, expected, "{n}, {t}");
+        }
+    }
+}
+
+/// The longest line, an `M` of the last triple from post 255 with t = 254: the formula's 5,619.
+#[test]
+fn the_longest_line() {
+    let (n, t) = (MAX_POSTS, MAX_POSTS - 1);
+    let numbers = vec![gantsorol::MODULUS - 1; gantsorol::masks_len(t)];
+    let mut line = vec![0; gantsorol::LONGEST_LINE];
+    let written = Verified.write_masks(n, t, 93, n, &numbers, &mut line);
+    assert_eq!((written.refusal, written.length), (0, 5_619));
+    let mut list = vec![0; gantsorol::line_list_len(t)];
+    assert_eq!(Verified.read(n, t, &line, &mut list).refusal, 0);
+    assert_eq!(list, numbers);
+    let short = &mut line[..gantsorol::LONGEST_LINE - 1];
+    assert_eq!(Verified.write_masks(n, t, 93, n, &numbers, short).refusal, 12);
+}
+
+fn refusal(outcome: &PaperworkOutcome) -> u8 {
+    match outcome {
+        PaperworkOutcome::Factory { refusal, .. } => *refusal,
+        PaperworkOutcome::DealerNumber { refusal, .. } => *refusal,
+        PaperworkOutcome::Written { written, .. } => written.refusal,
+        PaperworkOutcome::Read { read, .. } => read.refusal,
+    }
+}
+
+#[test]
+fn factory_and_lines() {
+    let mut seen = Seen::default();
+    for seed in seeds(150_000) {
+        let work: Paperwork = paperwork(seed);
+        if let Some(difference) = compare_paperwork(&work, &Verified, &REFERENCE) {
+            panic!("seed {seed}, the verified library on the left:\n{difference}");
+        }
+        seen.note(&work, refusal(&work.perform(&Verified)));
+    }
+    if fixed_seeds() {
+        seen.assert_met(PAPERWORK_REFUSALS);
+    }
+}

@@ -1,0 +1,77 @@
+//! The room that each call takes: how deep it goes into the stack, by `room.c` around the list of calls of `counts/calls.c`, and the
+//! bytes of code and constants that a program with this call alone links. The table:
+//!
+//!     cargo test --release --test room -- --nocapture
+
+#[path = "../common/mod.rs"]
+mod common;
+
+use std::collections::BTreeMap;
+use std::fs;
+use std::path::{Path, PathBuf};
+use std::process::Command;
+
+use common::programs::{compiled, ended, exports};
+
+const SIZES: [[usize; 2]; 3] = [[3, 1], [32, 31], [255, 254]];
+
+/// No call goes deeper, at any size.
+const DEEPEST: usize = 20_000;
+
+/// The library's calls.
+fn calls() -> Vec<String> {
+    exports(Path::new(env!("GANTSOROL_ARCHIVE"))).into_keys().collect()
+}
+
+/// The list of calls, for stations of up to 255 posts, with each call measured.
+fn measuring() -> PathBuf {
+    let tests = Path::new(env!("CARGO_MANIFEST_DIR")).join("tests");
+    let listed: String = calls().iter().map(|call| format!("CALL({call})")).collect();
+    let mut options = vec!["-std=gnu99".to_string(), "-DMOST=255".to_string()];
+    // No function is looked up at its first call: that takes stack too.
+    options.extend([format!("-DCALLS={listed}"), "-Wl,-z,now".to_string()]);
+    options.extend(calls().iter().map(|call| format!("-Wl,--wrap={call}")));
+    options.push(tests.join("room/room.c").display().to_string());
+    let options: Vec<&str> = options.iter().map(String::as_str).collect();
+    compiled("room", &tests.join("counts/calls.c"), &options)
+}
+
+/// The most stack of each call, in bytes.
+fn stack(program: &Path, [n, t]: [usize; 2]) -> BTreeMap<String, usize> {
+    let arguments = [n, t, 0, 2].map(|number| number.to_string());
+    let printed = ended(Command::new(program).args(arguments)).stdout;
+    let printed = String::from_utf8(printed).expect("the program prints text");
+    let lines = printed.lines().filter_map(|line| line.split_once(' '));
+    lines.map(|(call, most)| (call.to_string(), most.parse().expect("a number"))).collect()
+}
+
+/// The bytes of code and constants of a program that has these calls and does nothing.
+fn linked(calls: &[String]) -> usize {
+    let source = Path::new(env!("CARGO_TARGET_TMPDIR")).join("room_empty.c");
+    fs::write(&source, "int main(void) { return 0; }\n").expect("a file can be written");
+    let kept: Vec<String> = calls.iter().map(|call| format!("-Wl,-u,{call}")).collect();
+    let options = kept.iter().map(String::as_str).chain(["-Wl,--gc-sections"]);
+    let program = compiled("room_linked", &source, &options.collect::<Vec<_>>());
+    let printed = String::from_utf8(ended(Command::new("size").arg("-A").arg(program)).stdout);
+    let printed = printed.expect("size prints text");
+    let sections = printed.lines().map(|line| line.split_whitespace().collect::<Vec<_>>());
+    let counted = sections.filter(|line| matches!(line[..], [".text" | ".rodata", ..]));
+    counted.map(|line| line[1].parse::<usize>().expect("a size")).sum()
+}
+
+#[test]
+fn the_room_of_each_call() {
+    let program = measuring();
+    let stacks = SIZES.map(|size| stack(&program, size));
+    let empty = linked(&[]);
+    println!("| Call | stack at (3, 1) | (32, 31) | (255, 254) | linked alone |");
+    println!("|---|---|---|---|---|");
+    for call in calls() {
+        let [small, middle, large] = stacks.each_ref().map(|stack| stack[&call]);
+        let alone = linked(std::slice::from_ref(&call)) - empty;
+        println!("| {call} | {small} | {middle} | {large} | {alone} |");
+        assert!(small > 0 && middle > 0 && large > 0, "{call} was made at each size");
+        assert!(small.max(middle).max(large) <= DEEPEST, "{call} goes deeper than {DEEPEST}");
+    }
+    println!("\nThe whole library: {} bytes linked", linked(&calls()) - empty);
+}
