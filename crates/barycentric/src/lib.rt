@@ -131,7 +131,7 @@ fn few_spans(gaps: &[u32], x: u32) -> u32
     two * away(x, gaps[2])
 }
 
-// The product of |x - g| over small numbers g, four to a turn: what is no whole turn comes first, so that no product by 1 is taken.
+// The product of |x - g| over small numbers g, four to a turn. What is no whole turn comes first, so no product is left for the end.
 fn spans(gaps: &[u32], x: u32) -> u32
     requires { ⌜ (x ≤ most) × All (λ g. g ≤ most) (now gaps) ⌝ }
     ensures { λ r. ⌜ r ≡ spans (now (gaps .entry)) x ⌝ }
