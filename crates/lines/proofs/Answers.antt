@@ -23,7 +23,8 @@ use Rattle.forms.specs.declared.Form.{Form}
 use Rattle.forms.specs.declared.Form.the-variants.{Right, Wrong}
 use Rattle.forms.specs.Lines.{Message, lastRow}
 use Rattle.lines.specs.Order.{lineRefusal}
-use Rattle.forms.specs.Forms.{fieldCount, formOf, messageOf, message, outOfRange, beyondRange, lineTests, headOf, Scanned, ScanOf}
+use Rattle.forms.specs.Forms.{fieldCount, formOf, messageOf, message, outOfRange, beyondRange, lineTests}
+use Rattle.forms.specs.Between.{headOf, Scanned, ScanOf}
 use Rattle.lines.specs.Reading.{readRefusal, noLine, lineAs, listAs}
 use Rattle.forms.proofs.Forms.{form-spelled}
 use Rattle.lines.proofs.Refusing.{posts-refuse, posts-pass}
