@@ -1,6 +1,6 @@
 // Broadcast lines: `D`, `O` and `M` written into a lent part of bytes and read from a lent line.
 ghost use mathlib.Core.Path.{_≡_};
-ghost use Prim.Native.Nat.{_+_, _*_, _≤_};
+ghost use Prim.Native.Nat.{_*_, _≤_};
 ghost use mathlib.Core.List.{_∷_};
 ghost use lib.ListN.{length};
 ghost use Rattle.shape.specs.Lengths.{shape, vLength};
