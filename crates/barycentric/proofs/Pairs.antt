@@ -7,8 +7,8 @@ use native.Mathlib.Nat.{mul-le-mul, mul-assoc, mod-mod, mod-eq-of-lt}
 use native.Mathlib.Omega.{arith}
 use borrow.Author.Tests.{ltb-true, ltb-false}
 use lib.Dec.{lit<, ltb}
-use lib.ListN.{length, take, drop, getD, length-drop}
-use lib.Seq.{drop-cons, take-all}
+use lib.ListN.{length, take, drop, getD, length-take, length-drop}
+use lib.Seq.{drop-cons}
 use Rattle.field.specs.Modulus.{p}
 use Rattle.field.specs.Arithmetic.{difference, product}
 use Rattle.field.specs.Algebra.{CommutativeRing}
@@ -108,30 +108,39 @@ module _ (x : ℕ) (hx : x ≤ most) where
       ∙ rw (f, g, h) (ap (product (away x a)) (spans-two (b ∷ (c ∷ [])) (away x b) (away x c) (l .1) refl refl refl))
   spans-three (a ∷ (b ∷ (c ∷ (d ∷ gs)))) u v w l e i j k f g h = absurd (omega arith)
 
--- what is left behind the fours
-all-behind : (P : ℕ → Type 0) (l : List ℕ) (i : ℕ) → All P l → All P (drop i l)
-all-behind P l ℕ.zero a = a
-all-behind P [] (suc i) a = tt
-all-behind P (x ∷ l) (suc i) a = all-behind P l i (a .1)
+-- those before the fours
+all-front : (P : ℕ → Type 0) (l : List ℕ) (i : ℕ) → All P l → All P (take i l)
+all-front P l ℕ.zero a = tt
+all-front P [] (suc i) a = tt
+all-front P (x ∷ l) (suc i) a = (a .0, all-front P l i (a .1))
 
 module _ (gs : List ℕ) (i : ℕ) where
-  rest : take (length gs - i) (drop i gs) ≡ drop i gs
-  rest = take-all (length gs - i) (drop i gs) (omega (arith, length-drop i gs))
+  front : take (i - 0) (drop 0 gs) ≡ take i gs
+  front = let e : i - 0 ≡ i = omega arith in ap (λ (n : ℕ). take n gs) e
 
-  pub rest-small : All (λ g. g ≤ most) gs → All (λ g. g ≤ most) (take (length gs - i) (drop i gs))
-  rest-small a = rw rest (all-behind (λ g. g ≤ most) gs i a)
+  pub front-small : All (λ g. g ≤ most) gs → All (λ g. g ≤ most) (take (i - 0) (drop 0 gs))
+  front-small a = rw front (all-front (λ g. g ≤ most) gs i a)
 
-  pub rest-few : length gs - i ≤ 3 → length (take (length gs - i) (drop i gs)) < 4
-  rest-few h = rw rest (omega (arith, length-drop i gs))
+  pub front-few : i < 4 → length (take (i - 0) (drop 0 gs)) < 4
+  front-few h = rw front (omega (arith, length-take i gs))
 
 pub spans-below : (gs : List ℕ) (x : ℕ) → spans gs x < p
 unfolding spans
 spans-below [] x = lit< tt
 spans-below (g ∷ gs) x = product-below _ _
 
+one-product : (a : ℕ) → a < p → product 1 a ≡ a
+one-product a h = product-comm 1 a ∙ product-one a h
+
+spans-parts : (gs : List ℕ) (x i : ℕ) → product (spans (take i gs) x) (spans (drop i gs) x) ≡ spans gs x
+unfolding spans
+spans-parts gs x ℕ.zero = one-product (spans gs x) (spans-below gs x)
+spans-parts [] x (suc i) = one-product 1 (lit< tt)
+spans-parts (g ∷ gs) x (suc i) = product-assoc (away x g) (spans (take i gs) x) (spans (drop i gs) x) ∙ ap (product (away x g)) (spans-parts gs x i)
+
 module _ (gs : List ℕ) (x : ℕ) where
-  pub spans-start : product 1 (spans (drop 0 gs) x) ≡ spans gs x
-  spans-start = product-comm 1 (spans gs x) ∙ product-one (spans gs x) (spans-below gs x)
+  pub spans-start : (i r : ℕ) → r ≡ spans (take (i - 0) (drop 0 gs)) x → product r (spans (drop i gs) x) ≡ spans gs x
+  spans-start i r e = ap (λ (n : ℕ). product n (spans (drop i gs) x)) (e ∙ ap (λ (l : List ℕ). spans l x) (front gs i)) ∙ spans-parts gs x i
 
   drop-four : (i : ℕ) → i + 3 < length gs
       → drop i gs ≡ getD gs i 0 ∷ (getD gs (i + 1) 0 ∷ (getD gs (i + 2) 0 ∷ (getD gs (i + 3) 0 ∷ drop (i + 4) gs)))
@@ -177,10 +186,9 @@ module _ (gs : List ℕ) (x : ℕ) where
       at : ℕ → Element
       at j = element (away x (getD gs j 0))
 
-  pub four-end : (i r s v n : ℕ) → n ≡ length gs → product r (spans (drop i gs) x) ≡ spans gs x → s ≡ spans (take (n - i) (drop i gs)) x → v ≡ product r s
-      → v ≡ spans gs x
-  four-end i r s v n en e es ev =
-      ev ∙ ap (product r) (es ∙ ap (λ (l : List ℕ). spans l x) (take-all (n - i) (drop i gs) (omega (arith, length-drop i gs)))) ∙ e
+  pub fours-end : (i r : ℕ) → r < p → x ≤ most → length gs ≤ i → product r (spans (drop i gs) x) ≡ spans gs x → r ≡ spans gs x
+  fours-end i r b h l e =
+      sym (product-one r b) ∙ ap (product r) (spans-none x h (drop i gs) (omega (arith, length-drop i gs))) ∙ e
 
 -- the difference and its size
 larger : (x g : ℕ) → g ≤ x → element x ⊕ neg (element g) ≡ element (away x g)

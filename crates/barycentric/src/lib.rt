@@ -131,20 +131,20 @@ fn few_spans(gaps: &[u32], x: u32) -> u32
     two * away(x, gaps[2])
 }
 
-// The product of |x - g| over small numbers g, four to a turn.
+// The product of |x - g| over small numbers g, four to a turn. What is no whole turn comes first, so no product is left for the end.
 fn spans(gaps: &[u32], x: u32) -> u32
     requires { ⌜ (x ≤ most) × All (λ g. g ≤ most) (now gaps) ⌝ }
     ensures { λ r. ⌜ r ≡ spans (now (gaps .entry)) x ⌝ }
 {
     let n = gaps.len();
-    let mut r: u32 = 1;
-    let mut i = 0;
-    while 3 < n - i {
+    let mut i = n % 4;
+    let mut r = few_spans(&gaps[0..i], x);
+    while i < n {
         let next = four(x, gaps[i], gaps[i + 1], gaps[i + 2], gaps[i + 3]);
         r = field::mul(r, next);
         i += 4;
     }
-    field::mul(r, few_spans(&gaps[i..], x))
+    r
 }
 
 // The product of x - g over small numbers g: a sign for each that is above x, `signs` in all.

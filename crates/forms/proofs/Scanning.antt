@@ -13,7 +13,8 @@ use Rattle.csv.specs.Fields.{Parsed, parsed, malformed, push, fieldsAt, ended, 
 use Rattle.csv.proofs.Single.{first-found, first-broken}
 use Rattle.forms.specs.declared.Form.{Form}
 use Rattle.forms.specs.declared.Form.the-variants.{Right, Wrong}
-use Rattle.forms.specs.Forms.{isLetter, numberCount, fieldCount, formOf, headOf, ScanOf, scanRest}
+use Rattle.forms.specs.Forms.{isLetter, numberCount, fieldCount, formOf}
+use Rattle.forms.specs.Between.{headOf, ScanOf, scanRest}
 
 -- ---- the numbers behind row and post
 module _ (s : List ℕ) (letter row post at count : ℕ) (r : Run) (e : r ≡ runOf (ended s (fieldsAt count s at))) where

@@ -5,7 +5,8 @@ ghost use Prim.Native.Nat.{_≤_};
 ghost use Rattle.refusal.specs.Conditions.{beyond};
 ghost use Rattle.csv.specs.Fields.{fieldsAt, ended};
 ghost use Rattle.forms.specs.Lines.{lastRow};
-ghost use Rattle.forms.specs.Forms.{isLetter, numberCount, formOf, outOfRange, ScanOf, scanRest};
+ghost use Rattle.forms.specs.Forms.{isLetter, numberCount, formOf, outOfRange};
+ghost use Rattle.forms.specs.Between.{ScanOf, scanRest};
 use csv::Run;
 
 // What the scan of a line finds: where its numbers stand behind row and post, how many, and the largest.

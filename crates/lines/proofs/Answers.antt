@@ -8,6 +8,7 @@ use borrow.Author.Tests.{eq-eqb, ne-eqb, eqb-true}
 use lib.ListN.{length, getD, drop, length-append}
 use lib.Dec.{ltb, eqb}
 use Rattle.field.specs.Modulus.{p}
+use Rattle.shape.specs.Lengths.{shape, vLength, masksLength}
 use Rattle.refusal.specs.Refusal.{Test, _when_, first, outcome}
 use Rattle.refusal.specs.Conditions.{outside, wrongLength, beyond, postsTests}
 use Rattle.refusal.proofs.Laws.{or-false}
@@ -22,8 +23,9 @@ use Rattle.forms.specs.declared.Form.{Form}
 use Rattle.forms.specs.declared.Form.the-variants.{Right, Wrong}
 use Rattle.forms.specs.Lines.{Message, lastRow}
 use Rattle.lines.specs.Order.{lineRefusal}
-use Rattle.forms.specs.Forms.{fieldCount, formOf, messageOf, message, outOfRange, beyondRange, lineTests, headOf, Scanned, ScanOf}
-use Rattle.lines.specs.Reading.{noLine, lineAs, listAs}
+use Rattle.forms.specs.Forms.{fieldCount, formOf, messageOf, message, outOfRange, beyondRange, lineTests}
+use Rattle.forms.specs.Between.{headOf, Scanned, ScanOf}
+use Rattle.lines.specs.Reading.{readRefusal, noLine, lineAs, listAs}
 use Rattle.forms.proofs.Forms.{form-spelled}
 use Rattle.lines.proofs.Refusing.{posts-refuse, posts-pass}
 
@@ -119,24 +121,32 @@ module _ (n t f : ℕ) (e : f ≡ first (postsTests n t)) (ys : List Test) (m : 
       q ∙ ap noLine (posts-refuse n t f e ys h)
       ∙ refused f (lineRefusal n t ys) (record { refusal = 0; letter = m .letter; row = m .row; post = m .post }) (noLine (lineRefusal n t ys)) (posts-refuse n t f e ys h) h
 
-module _ (n t f : ℕ) (e : f ≡ first (postsTests n t)) (z : f ≡ 0) (ys : List Test) (m : Message) (out : List ℕ) where
+-- `room` is the length that the list must have, as the code counts it
+module _ (n t f : ℕ) (e : f ≡ first (postsTests n t)) (z : f ≡ 0) (s out : List ℕ) (room : ℕ) (c : room ≡ masksLength (shape n t)) where
+  abbrev k : ℕ
+  k = vLength (shape n t)
+
   abbrev tests : List Test
-  tests = 5 when wrongLength out (2 * (t + 1)) ∷ ys
+  tests = 5 when wrongLength out (masksLength (shape n t)) ∷ lineTests n k s
 
-  pub missized-line : (v : Line) → (length out ≡ 2 * (t + 1) → ⊥) → v ≡ noLine 5 → v ≡ lineAs (lineRefusal n t tests) m
+  pub missized-line : (v : Line) → (length out ≡ room → ⊥) → v ≡ noLine 5 → v ≡ lineAs (readRefusal n t s out) (message k s)
   unfolding outcome
-  missized-line v h q = rw (← posts-pass n t f e z tests, ne-eqb (length out) (2 * (t + 1)) h) q
+  missized-line v h q = rw (← posts-pass n t f e z tests, ne-eqb (length out) (masksLength (shape n t)) (rw c at h)) q
 
-  pub missized-list : (length out ≡ 2 * (t + 1) → ⊥) → out ≡ listAs (lineRefusal n t tests) m out
+  pub missized-list : (length out ≡ room → ⊥) → out ≡ listAs (readRefusal n t s out) (message k s) out
   unfolding outcome
-  missized-list h = rw (← posts-pass n t f e z tests, ne-eqb (length out) (2 * (t + 1)) h)
+  missized-list h = rw (← posts-pass n t f e z tests, ne-eqb (length out) (masksLength (shape n t)) (rw c at h))
 
-  module _ (h : length out ≡ 2 * (t + 1)) where
-    sized : first ys ≡ lineRefusal n t tests
-    sized = rw (← posts-pass n t f e z tests, eq-eqb (length out) (2 * (t + 1)) h)
+  module _ (h : length out ≡ room) where
+    sized : first (lineTests n k s) ≡ readRefusal n t s out
+    sized = rw (← posts-pass n t f e z tests, eq-eqb (length out) (masksLength (shape n t)) (h ∙ c))
 
-    pub sized-line : (v : Line) → v ≡ lineAs (first ys) m → v ≡ lineAs (lineRefusal n t tests) m
-    sized-line v q = q ∙ ap (λ (r : ℕ). lineAs r m) sized
+    module _ (j : ℕ) (d : j ≡ k) where
+      pub twice-long : length out ≡ 2 * j
+      twice-long = omega arith
 
-    pub sized-list : (v : List ℕ) → v ≡ listAs (first ys) m out → v ≡ listAs (lineRefusal n t tests) m out
-    sized-list v q = q ∙ ap (λ (r : ℕ). listAs r m out) sized
+      pub sized-line : (v : Line) → v ≡ lineAs (first (lineTests n j s)) (message j s) → v ≡ lineAs (readRefusal n t s out) (message k s)
+      sized-line v q = (rw d at q) ∙ ap (λ (r : ℕ). lineAs r (message k s)) sized
+
+      pub sized-list : (v : List ℕ) → v ≡ listAs (first (lineTests n j s)) (message j s) out → v ≡ listAs (readRefusal n t s out) (message k s) out
+      sized-list v q = (rw d at q) ∙ ap (λ (r : ℕ). listAs r (message k s) out) sized

@@ -1,18 +1,19 @@
 -- The checks of a line to be written, one after the other, and the two ways in which writing ends.
-use Prim.Native.Nat.{ℕ, _+_, _-_, _*_, _≤_, _<_}
+use Prim.Native.Nat.{ℕ, _≤_, _<_}
 use mathlib.Core.Path.{_≡_, refl, ap, sym, _∙_}
 use mathlib.Core.List.{List, [], _∷_, _++_}
 use native.Mathlib.Omega.{arith}
 use borrow.Author.Tests.{lt-ltb, le-ltb, eq-eqb, ne-eqb, ltb-false}
-use mir.Syntax.{w32, w64}
+use mir.Syntax.{w32}
 use mir.Val.{Fits}
 use lib.ListN.{length}
 use lib.Dec.{ltb}
-use Rattle.shape.specs.Bounds.{fewestPosts, mostPosts}
+use Rattle.shape.specs.Lengths.{shape, vLength, masksLength}
 use Rattle.refusal.specs.Refusal.{Test, _when_, first, outcome, AllFail}
 use Rattle.refusal.specs.Conditions.{beyond, anyBeyond, postsTests}
 use Rattle.refusal.proofs.Groups.{stopped, went-on}
 use Rattle.refusal.proofs.Laws.{all-fail, inside}
+use Rattle.refusal.proofs.Ranges.{posts-passed}
 use Rattle.refusal.proofs.Endings.{refused, accepted}
 use Rattle.csv.specs.Fields.{written}
 use Rattle.forms.specs.Lines.{deal, text, lastRow}
@@ -124,25 +125,14 @@ module _ (n t f : ℕ) (e : f ≡ first (postsTests n t)) where
   posts-keep ys new old h = refused f (lineRefusal n t ys) new old (posts-refuse ys h) h
 
   module _ (z : f ≡ 0) where
-    posts-fine : (n ≤ mostPosts) × (t ≤ n - 1)
-    posts-fine =
-        let a = all-fail (postsTests n t) tt (sym e ∙ z) in
-        (inside fewestPosts mostPosts n (a .0) .1, inside 1 (n - 1) t (a .1 .0) .1)
-
     pub posts-n : n ≤ 4294967295
-    posts-n = omega (arith, posts-fine .0)
+    posts-n = let v = posts-passed n t f e z in omega (arith, v .n-in)
 
-    pub posts-one : t + 1 ≤ 4294967296
-    posts-one = let b = posts-fine in omega arith
+    pub posts-one : (k : ℕ) → k ≡ vLength (shape n t) → k ≤ 4294967296
+    posts-one k q = let v = posts-passed n t f e z in omega (arith, v .n-in, v .t-in)
 
-    pub posts-two : 2 * (t + 1) ≤ 4294967296
-    posts-two = let b = posts-fine in omega arith
-
-    pub posts-add : Fits w64 (t + 1)
-    posts-add = omega (arith, posts-one)
-
-    pub posts-mul : Fits w64 (2 * (t + 1))
-    posts-mul = omega (arith, posts-two)
+    pub posts-two : (k : ℕ) → k ≡ masksLength (shape n t) → k ≤ 4294967296
+    posts-two k q = let v = posts-passed n t f e z in omega (arith, v .n-in, v .t-in)
 
     pub posts-pass : (ys : List Test) → first ys ≡ lineRefusal n t ys
     unfolding lineRefusal
@@ -163,3 +153,14 @@ module _ (n t f : ℕ) (e : f ≡ first (postsTests n t)) (z : f ≡ 0) (ys : Li
 
   pub list-then : (v new old : List ℕ) → v ≡ outcome (first ys) new old → v ≡ outcome (lineRefusal n t ys) new old
   list-then v new old h = h ∙ ap (λ (r : ℕ). outcome r new old) (posts-pass n t f e z ys)
+
+-- of a line with a post, whose numbers were counted by the shape
+module _ (n t f : ℕ) (e : f ≡ first (postsTests n t)) (z : f ≡ 0) (letter k count row post : ℕ) (q : k ≡ count) (xs : List ℕ) (room : ℕ) where
+  abbrev counted : ℕ → List Test
+  counted c = postedTests n letter c row post xs room
+
+  pub posted-answer : (v : Written) (line : List ℕ) → v ≡ writtenAs (first (counted k)) line → v ≡ writtenAs (lineRefusal n t (counted count)) line
+  posted-answer v line h = answer-then n t f e z (counted count) v line (rw q at h)
+
+  pub posted-list : (v new old : List ℕ) → v ≡ outcome (first (counted k)) new old → v ≡ outcome (lineRefusal n t (counted count)) new old
+  posted-list v new old h = list-then n t f e z (counted count) v new old (rw q at h)

@@ -1,6 +1,6 @@
 // Broadcast lines: `D`, `O` and `M` written into a lent part of bytes and read from a lent line.
 ghost use mathlib.Core.Path.{_≡_};
-ghost use Prim.Native.Nat.{_+_, _*_, _≤_};
+ghost use Prim.Native.Nat.{_*_, _≤_};
 ghost use mathlib.Core.List.{_∷_};
 ghost use lib.ListN.{length};
 ghost use Rattle.shape.specs.Lengths.{shape, vLength};
@@ -11,6 +11,7 @@ ghost use Rattle.forms.specs.Forms.{message, lineTests};
 ghost use Rattle.lines.specs.Writing.{postedTests, dealtTests, writeDealRefusal, writeOpeningRefusal, writeMasksRefusal, notWritten, writtenAs, partAs};
 ghost use Rattle.lines.specs.Reading.{readRefusal, noLine, lineAs, listAs};
 use forms::Form;
+use shape::Shape;
 
 // The answer of a writer: the refusal, and the line's length.
 #[repr(C)]
@@ -143,7 +144,7 @@ pub fn write_deal(n: usize, t: usize, row: usize, c: u32, out: &mut [u8]) -> Wri
     write_dealt(row, c, out)
 }
 
-// `O,row,post,` and the t+1 coefficients.
+// `O,row,post,` and the coefficients of a message.
 pub fn write_opening(
     n: usize,
     t: usize,
@@ -163,10 +164,11 @@ pub fn write_opening(
     if posts != 0 {
         return not_written(posts);
     }
-    write_posted(n, 79, t + 1, row, post, coefficients, out)
+    let shape = Shape { n, t };
+    write_posted(n, 79, shape.v_len(), row, post, coefficients, out)
 }
 
-// `M,row,post,` and the t+1 coefficients of each of the two masks.
+// `M,row,post,` and the coefficients of the two masks.
 pub fn write_masks(
     n: usize,
     t: usize,
@@ -186,7 +188,8 @@ pub fn write_masks(
     if posts != 0 {
         return not_written(posts);
     }
-    write_posted(n, 77, 2 * (t + 1), row, post, coefficients, out)
+    let shape = Shape { n, t };
+    write_posted(n, 77, shape.masks_len(), row, post, coefficients, out)
 }
 
 fn no_line(refusal: u8) -> Line
@@ -231,7 +234,7 @@ fn read_line(n: usize, k: usize, line: &[u8], out: &mut [u32]) -> Line
     }
 }
 
-// Any of the three lines, into a list of 2(t+1) numbers.
+// Any of the three lines, into a list as long as masks.
 pub fn read(n: usize, t: usize, line: &[u8], out: &mut [u32]) -> Line
     ensures { λ r. ⌜ r ≡ lineAs (readRefusal n t (now (line .entry)) (now (out .entry))) (message (vLength (shape n t)) (now (line .entry))) ⌝ }
     ensures { λ r. ⌜ now (out .exit)
@@ -241,8 +244,9 @@ pub fn read(n: usize, t: usize, line: &[u8], out: &mut [u32]) -> Line
     if posts != 0 {
         return no_line(posts);
     }
-    if out.len() != 2 * (t + 1) {
+    let shape = Shape { n, t };
+    if out.len() != shape.masks_len() {
         return no_line(5);
     }
-    read_line(n, t + 1, line, out)
+    read_line(n, shape.v_len(), line, out)
 }

@@ -1,6 +1,6 @@
 -- `serve_input` lends fresh lists, and tells what `serve` ensured.
 use borrow.Author.Needs.{needs}
-use Rattle.console.proofs.Closing.{ended-told}
+use Rattle.console.proofs.Beginning.{ended-told}
 use Rattle.console.proofs.serve_input.Statement.{statement}
 use Rattle.console.proofs.serve_input.Tie as tie
 
