@@ -12,7 +12,7 @@ use Rattle.poly.specs.Counting.{All, Distinct}
 use Rattle.poly.proofs.Lists.{all-map, all-zip}
 use Rattle.agreement.specs.Agreement.{Given}
 use Rattle.accepting.specs.Accepting.{passing}
-use Rattle.accepting.proofs.Accepted.{Accepted}
+use Rattle.accepting.proofs.Accepted.{Accepted, later}
 
 pub all-parts : {A : Type 0} (P : A → Type 0) (xs ys : List A) → All P (xs ++ ys) → All P xs × All P ys
 all-parts P [] ys a = (tt, a)
@@ -57,13 +57,10 @@ module _ (x : ℕ) where
       go (no ne) h = ((others-all (λ z. z ≢ y) l (a .0), h .0), (ne, h .1))
 
 module _ (test : ℕ → Bool) where
-  later : (j k x : ℕ) → Accepted test (suc j) k x → Accepted test j (suc k) x
-  later j k x a = record { passes = a .passes; from-on = omega (arith, a .from-on); before = omega (arith, a .before) }
-
   pub all-passing : (j k : ℕ) → All (Accepted test j k) (passing test j k)
   unfolding passing
   all-passing j zero = tt
-  all-passing j (suc k) = go (test j) refl (all-map (later j k) (passing test (suc j) k) (all-passing (suc j) k))
+  all-passing j (suc k) = go (test j) refl (all-map (later test j k) (passing test (suc j) k) (all-passing (suc j) k))
     where
       go : (b : Bool) → test j ≡ b → All (Accepted test j (suc k)) (passing test (suc j) k)
           → All (Accepted test j (suc k)) (elim b as (λ z. List ℕ) [ true ↦ j ∷ passing test (suc j) k | false ↦ passing test (suc j) k ])
@@ -80,7 +77,7 @@ module _ (test : ℕ → Bool) where
       go true a = (all-map (λ x h e. omega (arith, h .from-on)) (passing test (suc j) k) (all-passing (suc j) k), a)
       go false a = a
 
-  -- of the posts behind j
+  -- one of the posts from j on that is not j, as one of those behind it
   behind : (j k x : ℕ) → Accepted test j (suc k) x → x ≢ j → Accepted test (suc j) k x
   behind j k x a ne = record { passes = a .passes; from-on = omega (arith, a .from-on, ne); before = omega (arith, a .before) }
 
@@ -106,11 +103,7 @@ module _ (test : ℕ → Bool) where
     pub given-passing : (j k x : ℕ) → Accepted test j k x → Has x (passing test j k)
     unfolding passing
     given-passing j zero x a = absurd (omega (arith, a .from-on, a .before))
-    given-passing j (suc k) x a = go (test j) refl (ℕ-discrete j x) (λ ne. given-passing (suc j) k x (record {
-      passes = a .passes;
-      from-on = omega (arith, a .from-on);
-      before = omega (arith, a .before);
-    }))
+    given-passing j (suc k) x a = go (test j) refl (ℕ-discrete j x) (λ ne. given-passing (suc j) k x (behind j k x a (λ e. ne (sym e))))
       where
         go : (b : Bool) → test j ≡ b → Dec (j ≡ x) → (j ≢ x → Has x (passing test (suc j) k))
             → Has x (elim b as (λ z. List ℕ) [ true ↦ j ∷ passing test (suc j) k | false ↦ passing test (suc j) k ])
