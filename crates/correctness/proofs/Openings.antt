@@ -35,7 +35,7 @@ use Rattle.correctness.specs.Ledger.{Ledger, Plain}
 use Rattle.correctness.specs.Truth.{TrueMask, TrueOf}
 use Rattle.correctness.specs.Claim.{howMany, Opens, Collects, Right}
 use Rattle.correctness.proofs.Meanings.{Is, plain}
-use Rattle.correctness.proofs.Accepting.{Formed, too-few, not-few, formed, enough-accepted}
+use Rattle.correctness.proofs.Accepting.{Formed, too-few, not-few, formed}
 use Rattle.correctness.proofs.Fitting.{all-true-of, enough-true-of, AllSaid, told-a, told-b}
 use Rattle.correctness.proofs.Permitted as Permitted
 use Rattle.correctness.proofs.Permitted.{Stander, holder, below, is-row, open-passes, waiting, collect-few, collect-done, collect-otherwise, multiply-done}
@@ -89,7 +89,7 @@ module _ (G : Stander) where
       few = λ e. ap (λ (o : Answer). o .refusal) (open-nine s l r blocks clear (too-few s (row r) blocks e));
       exact = λ e t.
           number-given (opening-exact s (vec r) l r blocks clear is-held .1 (enough e) (all-true-of s (vec r) blocks (P r) (row r) is-held gives t));
-      agreed = λ t. elim (opening-exact s (vec r) l r blocks clear is-held .2 (enough (enough-accepted (P r) s (row r) blocks t)) (enough-true-of s (vec r) blocks (P r) (row r) is-held gives t)) [
+      agreed = λ t. elim (opening-exact s (vec r) l r blocks clear is-held .2 (enough-true-of s (vec r) blocks (P r) (row r) is-held gives t)) [
         | inl o ↦ inl (number-given o)
         | inr o ↦ inr (ap (λ (o : Answer). o .refusal) o)
       ];

@@ -1,4 +1,4 @@
--- `masks::remember_all` meets its contract.
+-- `remember_all` meets its contract.
 use Prim.Native.Nat.{_≤_, _-_}
 use mathlib.Core.Path.{_≡_, refl, _∙_}
 use native.Mathlib.Omega.{arith}
@@ -7,11 +7,11 @@ use borrow.Author.Needs.{needs}
 use Rattle.terms.specs.Listed.{mostTerms}
 use Rattle.session.specs.Sessions.{shapeOf}
 use Rattle.terms.specs.Listed.{factorsOf}
 use Rattle.relation.specs.Tests.{Factors}
 use Rattle.relation.proofs.Loops.{walked, Leads, goes, gone, every-at}
-use Rattle.relation.proofs.Remembering.{rememberIn, masked-walk, in-range}
-use Rattle.relation.proofs.masks.remember_all.Statement.{statement}
-use Rattle.relation.proofs.masks.remember_all.Tie as tie
+use Rattle.relation_masks.proofs.Remembering.{rememberIn, masked-walk, in-range}
+use Rattle.relation_masks.proofs.remember_all.Statement.{statement}
+use Rattle.relation_masks.proofs.remember_all.Tie as tie
 
 abbrev Inv-loop : tie.InvT-loop
 Inv-loop all now₀ i₀ i-end now i =

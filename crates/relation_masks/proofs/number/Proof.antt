@@ -1,8 +1,8 @@
--- `masks::number` meets its contract.
+-- `number` meets its contract.
 use borrow.Author.Needs.{needs}
 use Rattle.relation.proofs.Sorts.{number-plain, number-first, number-product}
-use Rattle.relation.proofs.masks.number.Statement.{statement}
-use Rattle.relation.proofs.masks.number.Tie as tie
+use Rattle.relation_masks.proofs.number.Statement.{statement}
+use Rattle.relation_masks.proofs.number.Tie as tie
 
 pub number-spec : {M : Type 1} → statement M
 number-spec =

@@ -1,4 +1,4 @@
--- `masks::numbers` meets its contract.
+-- `numbers` meets its contract.
 use Prim.Native.Nat.{_≤_, _-_}
 use mathlib.Core.Path.{_≡_, refl}
 use native.Mathlib.Omega.{arith}
@@ -6,12 +6,12 @@ use lib.ListN.{length, length-map}
 use borrow.Author.Needs.{needs}
 use Rattle.terms.specs.Listed.{mostTerms}
 use Rattle.shape.specs.Lengths.{rowLength}
 use Rattle.relation.specs.Tests.{Placed}
 use Rattle.relation.specs.Masks.{maskNumberTests}
 use Rattle.relation.proofs.Loops.{SoFar, asked, all-asked, every-at}
 use Rattle.relation.proofs.Sorts.{number-numbered}
-use Rattle.relation.proofs.masks.numbers.Statement.{statement}
-use Rattle.relation.proofs.masks.numbers.Tie as tie
+use Rattle.relation_masks.proofs.numbers.Statement.{statement}
+use Rattle.relation_masks.proofs.numbers.Tie as tie
 
 abbrev Inv-loop : tie.InvT-loop
 Inv-loop shape rows all refusal₀ i₀ i-end refusal i =

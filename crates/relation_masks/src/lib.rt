@@ -1,5 +1,6 @@
-// The masks of all product terms: their checks, the masks one term after the other, and the triples that remember their terms' rows.
-use crate::checks;
+// A relation's first call, the masks of all product terms: their checks, the masks one term after the other, and the triples that
+// remember their terms' rows.
+use relation::checks;
 use session::Answer;
 use session::Session;
 use shape::Shape;

@@ -1,9 +1,9 @@
--- `masks::masks` meets its contract.
+-- `masks` meets its contract.
 use borrow.Author.Needs.{needs}
 use Rattle.session.proofs.Endings.{endings}
-use Rattle.relation.proofs.Masking.{masks-few, masks-factors, masks-allowed, masks-written}
-use Rattle.relation.proofs.masks.masks.Statement.{statement}
-use Rattle.relation.proofs.masks.masks.Tie as tie
+use Rattle.relation_masks.proofs.Masking.{masks-few, masks-factors, masks-allowed, masks-written}
+use Rattle.relation_masks.proofs.masks.Statement.{statement}
+use Rattle.relation_masks.proofs.masks.Tie as tie
 
 ruleset steps = (endings, masks-few, masks-factors, masks-written)
 

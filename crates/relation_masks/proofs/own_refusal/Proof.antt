@@ -1,9 +1,9 @@
--- `masks::own_refusal` meets its contract.
+-- `own_refusal` meets its contract.
 use borrow.Author.Needs.{needs}
 use Rattle.session.proofs.Calls.{same-sized}
-use Rattle.relation.proofs.Masking.{own-stopped, own-placed, own-done}
-use Rattle.relation.proofs.masks.own_refusal.Statement.{statement}
-use Rattle.relation.proofs.masks.own_refusal.Tie as tie
+use Rattle.relation_masks.proofs.Masking.{own-stopped, own-placed, own-done}
+use Rattle.relation_masks.proofs.own_refusal.Statement.{statement}
+use Rattle.relation_masks.proofs.own_refusal.Tie as tie
 
 ruleset steps = (needs, same-sized, own-placed)
 

@@ -9,7 +9,7 @@ use Rattle.shape.specs.declared.Shape.{Shape}
 use Rattle.shape.specs.Lengths.{Valid, rowLength, masksLength}
 use Rattle.refusal.specs.Refusal.{Test, _when_, first, orElse}
 use Rattle.refusal.specs.Conditions.{wrongLength}
-use Rattle.refusal.proofs.Laws.{Numbered, equal, all-fail}
+use Rattle.refusal.proofs.Laws.{equal, all-fail}
 use Rattle.refusal.proofs.Groups.{chained, stopped, went-on, fail-parts}
 use Rattle.refusal.proofs.Endings.{refused, accepted}
 use Rattle.session.specs.declared.Session.{Session}
@@ -22,10 +22,10 @@ use Rattle.product_masks.proofs.Joining.{joined}
 use Rattle.shape.specs.Marks.{unused}
 use Rattle.terms.specs.declared.Terms.{Terms}
 use Rattle.terms.specs.Listed.{termsOf, factorsOf}
 use Rattle.relation.specs.Tests.{each, badCount, placeTests, markTests, namedTwice, Counted, Few, Every, Factors, Placed}
 use Rattle.relation.specs.Masks.{masksSizes, masksMarks, maskNumberTests, masksOwn, relationMasksRefusal, termMasks, relationMasksOut}
-use Rattle.relation.proofs.Sorts.{place-numbered, mark-numbered, number-numbered}
-use Rattle.relation.proofs.Passing.{numbered-append, each-numbered, every-placed, every-factors, few}
+use Rattle.relation.proofs.Numbering.{placed-numbered, unused-numbered, mask-marks-numbered, masks-numbered}
+use Rattle.relation.proofs.Passing.{every-placed, every-factors, few}
 
 pub masks-some : (g : Shape) (k : ℕ) → Valid g → k ≡ masksLength g → 0 < k
 masks-some g k v e = omega (arith, e)
@@ -37,7 +37,6 @@ masks-sized s g all out k u v w eg ek eu ev ew =
     let h : u ≡ first (5 when wrongLength out (all .products * masksLength (shapeOf s)) ∷ []) = rw (ek, eg) at eu in
     chained (masksSizes s all out) tt w (cc)
 
--- the tests have numbers
 module _ (s : Session) (rows : List ℕ) (all : Terms) where
   abbrev places : List Test
   places = each placeTests (termsOf all)
@@ -45,37 +44,23 @@ module _ (s : Session) (rows : List ℕ) (all : Terms) where
   abbrev numbers : List Test
   numbers = each (maskNumberTests (width s) rows) (termsOf all)
 
-  places-numbered : Numbered (each placeTests (termsOf all))
-  places-numbered = each-numbered (λ k. placeTests) place-numbered 0 (termsOf all)
-
-  marks-numbered : Numbered (masksMarks s all)
-  marks-numbered =
-      numbered-append (each (markTests s unused) (termsOf all)) (7 when namedTwice (factorsOf all) ∷ [])
-      (each-numbered (λ k. markTests s unused) (mark-numbered s unused) 0 (termsOf all)) tt
-
-  pub own-numbered : Numbered (masksOwn s rows all)
-  own-numbered =
-      numbered-append places (masksMarks s all ++ numbers) places-numbered
-      (numbered-append (masksMarks s all) numbers marks-numbered
-      (each-numbered (λ k. maskNumberTests (width s) rows) (number-numbered (width s) rows) 0 (termsOf all)))
-
   -- 6 stops the call, or it goes on
   module _ (p : ℕ) (e : p ≡ first (each placeTests (termsOf all))) where
     pub own-stopped : (p ≡ 0 → ⊥) → p ≡ first (masksOwn s rows all)
-    own-stopped n = stopped places (masksMarks s all ++ numbers) places-numbered p e n
+    own-stopped n = stopped places (masksMarks s all ++ numbers) (placed-numbered all) p e n
 
     module _ (z : p ≡ 0) where
       pub own-placed : (g : Shape) → Every (Placed g) (termsOf all)
-      own-placed g = every-placed g (termsOf all) (all-fail places places-numbered (sym e ∙ z))
+      own-placed g = every-placed g (termsOf all) (all-fail places (placed-numbered all) (sym e ∙ z))
 
       pub own-done : (g : Shape) (u v m w x : ℕ) → g ≡ shapeOf s → u ≡ first (each (markTests s unused) (termsOf all))
           → v ≡ first (7 when namedTwice (factorsOf all) ∷ []) → m ≡ orElse u v
           → w ≡ first (each (maskNumberTests (rowLength g) rows) (termsOf all)) → x ≡ orElse m w → x ≡ first (masksOwn s rows all)
       own-done g u v m w x eg eu ev em ew ex =
-          went-on places (masksMarks s all ++ numbers) places-numbered p e x z
-          (joined (masksMarks s all) numbers marks-numbered m w x
+          went-on places (masksMarks s all ++ numbers) (placed-numbered all) p e x z
+          (joined (masksMarks s all) numbers (mask-marks-numbered s rows all) m w x
           (joined (each (markTests s unused) (termsOf all)) (7 when namedTwice (factorsOf all) ∷ [])
-          (each-numbered (λ k. markTests s unused) (mark-numbered s unused) 0 (termsOf all)) u v m eu ev em)
+          (unused-numbered s rows all) u v m eu ev em)
           (rw eg at ew) ex)
 
 -- the frame stops the call, or the sizes do, or it goes on
@@ -111,7 +96,7 @@ module _ (s : Session) (rows : List ℕ) (all : Terms) (out : List ℕ) (c : Cou
     passed : Framed s rows × Few all × Every (Factors (shapeOf s)) (factorsOf all) × (length out ≡ all .products * masksLength (shapeOf s))
     unfolding relationMasksRefusal
     passed =
-        let h = allowed s rows (sizes ++ own) (own-numbered s rows all) f e n in
+        let h = allowed s rows (sizes ++ own) (masks-numbered s rows all) f e n in
         let few = few all c (h .1 .1 .0) in
         let placed = every-placed (shapeOf s) (termsOf all) (fail-parts (places s rows all) (masksMarks s all ++ numbers s rows all) (h .1 .1 .1) .0) in
         (h .0, few, every-factors (shapeOf s) all c few placed, equal (length out) (all .products * masksLength (shapeOf s)) (h .1 .0))

@@ -1,9 +1,9 @@
--- `masks::write_mask` meets its contract.
+-- `write_mask` meets its contract.
 use borrow.Author.Needs.{needs}
 use Rattle.shape.specs.Lengths.{masksLength}
 use Rattle.relation.proofs.Sizes.{from-fits, end-fits, end-in, part-put}
-use Rattle.relation.proofs.masks.write_mask.Statement.{statement}
-use Rattle.relation.proofs.masks.write_mask.Tie as tie
+use Rattle.relation_masks.proofs.write_mask.Statement.{statement}
+use Rattle.relation_masks.proofs.write_mask.Tie as tie
 
 ruleset steps = (needs, from-fits, end-fits, end-in, part-put)
 

@@ -1,9 +1,9 @@
--- `masks::sizes` meets its contract.
+-- `sizes` meets its contract.
 use borrow.Author.Needs.{needs}
 use Rattle.session.proofs.Calls.{same-valid}
-use Rattle.relation.proofs.Masking.{masks-some, masks-sized}
-use Rattle.relation.proofs.masks.sizes.Statement.{statement}
-use Rattle.relation.proofs.masks.sizes.Tie as tie
+use Rattle.relation_masks.proofs.Masking.{masks-some, masks-sized}
+use Rattle.relation_masks.proofs.sizes.Statement.{statement}
+use Rattle.relation_masks.proofs.sizes.Tie as tie
 
 ruleset steps = (needs, same-valid, masks-some, masks-sized)
 

@@ -1,4 +1,4 @@
--- `masks::write_masks` meets its contract.
+-- `write_masks` meets its contract.
 use Prim.Native.Nat.{ℕ, _≤_, _-_, _*_}
 use mathlib.Core.Path.{_≡_, refl, sym, _∙_, ap}
 use native.Mathlib.Omega.{arith}
@@ -8,11 +8,11 @@ use Rattle.terms.specs.Listed.{mostTerms}
 use lib.Seq.{length-take-le}
 use Rattle.shape.specs.Lengths.{masksLength}
 use Rattle.terms.specs.Listed.{factorsOf}
 use Rattle.relation.specs.Tests.{Factors}
 use Rattle.relation.proofs.Loops.{walked, Leads, goes, gone, every-at}
-use Rattle.relation.proofs.Parts.{maskIn, part-room, part-kept, masks-walk}
-use Rattle.relation.proofs.masks.write_masks.Statement.{statement}
-use Rattle.relation.proofs.masks.write_masks.Tie as tie
+use Rattle.relation_masks.proofs.Parts.{maskIn, part-room, part-kept, masks-walk}
+use Rattle.relation_masks.proofs.write_masks.Statement.{statement}
+use Rattle.relation_masks.proofs.write_masks.Tie as tie
 
 abbrev Inv-loop : tie.InvT-loop
 Inv-loop shape rows out₀ all i₀ i-end out i =

@@ -1,9 +1,9 @@
--- `masks::remember` meets its contract.
+-- `remember` meets its contract.
 use borrow.Author.Needs.{needs}
 use Rattle.session.proofs.Endings.{allowed-anyhow, plainly}
-use Rattle.relation.proofs.Remembering.{session-of}
-use Rattle.relation.proofs.masks.remember.Statement.{statement}
-use Rattle.relation.proofs.masks.remember.Tie as tie
+use Rattle.relation_masks.proofs.Remembering.{session-of}
+use Rattle.relation_masks.proofs.remember.Statement.{statement}
+use Rattle.relation_masks.proofs.remember.Tie as tie
 
 pub remember-spec : {M : Type 1} → statement M
 remember-spec =

@@ -1,8 +1,8 @@
--- `masks::masks_refusal` meets its contract.
+-- `masks_refusal` meets its contract.
 use borrow.Author.Needs.{needs}
-use Rattle.relation.proofs.Masking.{masks-stopped, masks-valid, masks-unsized, masks-framed, masks-checked}
-use Rattle.relation.proofs.masks.masks_refusal.Statement.{statement}
-use Rattle.relation.proofs.masks.masks_refusal.Tie as tie
+use Rattle.relation_masks.proofs.Masking.{masks-stopped, masks-valid, masks-unsized, masks-framed, masks-checked}
+use Rattle.relation_masks.proofs.masks_refusal.Statement.{statement}
+use Rattle.relation_masks.proofs.masks_refusal.Tie as tie
 
 own-refusal-requires : tie.Need-own-refusal-requires
 own-refusal-requires c κs =
