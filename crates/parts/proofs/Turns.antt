@@ -11,9 +11,11 @@ use lib.ListN.{length, take, drop, getD, set, length-drop}
 use lib.Seq.{take-suc-set, take-all, length-take-le}
 use Rattle.field.specs.Arithmetic.{sum, product}
 use Rattle.poly.specs.Polynomial.{value, powers, weighted}
+use Rattle.poly.specs.Counting.{Elements}
+use Rattle.poly.proofs.Bounds.{powers-below}
 use Rattle.poly.proofs.Numbers.{weighted-powers}
 use Rattle.shape.specs.declared.Shape.{Shape}
-use Rattle.shape.specs.Bounds.{mostPosts, longestRow}
+use Rattle.shape.specs.Bounds.{mostPosts, longestRow, longestV}
 use Rattle.shape.specs.Lengths.{Valid, fLength, vLength}
 use Rattle.shape.proofs.Small.{each-small}
 use Rattle.parts.specs.Draw.{eachFrom}
@@ -69,6 +71,13 @@ module _ (f : ℕ → ℕ) (n : ℕ) (l : List ℕ) where
 pub weighed : (cs old new : List ℕ) (x r : ℕ) → length cs ≤ length old → new ≡ powers x (length old) → r ≡ weighted cs new
     → r ≡ value cs x
 weighed cs old new x r h e g = g ∙ ap (weighted cs) e ∙ weighted-powers cs x (length old) h
+
+-- what `weigh_elements` needs: few powers, and each an element
+pub powers-short : (s : Shape) (vs old : List ℕ) → Drawn s vs old → length old ≤ longestV
+powers-short s vs old d = omega (arith, d .room, d .valid .n-in, d .valid .t-in)
+
+pub elements-filled : (old new : List ℕ) (x : ℕ) → new ≡ powers x (length old) → Elements new
+elements-filled old new x e = rw e (powers-below x (length old))
 
 -- a check value
 pub weighed-is : (s : Shape) (vs powers q : List ℕ) (i r : ℕ) → q ≡ vOf s vs i → r ≡ weighted q powers → r ≡ weighedAt s powers vs i

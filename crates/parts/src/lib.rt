@@ -7,6 +7,8 @@ ghost use mathlib.Core.List.{_∷_, _++_};
 ghost use Prim.Native.Nat.{_+_, _*_, _≤_, _<_};
 ghost use lib.ListN.{length};
 ghost use Rattle.poly.specs.Polynomial.{value};
+ghost use Rattle.poly.specs.Counting.{Elements};
+ghost use Rattle.shape.specs.Bounds.{longestV};
 ghost use Rattle.shape.specs.Lengths.{Valid, vLength, rowLength};
 ghost use Rattle.parts.specs.Draw.{eachFrom};
 ghost use Rattle.parts.specs.Between.{vOf, weighedAt, checkValues, sumAt, sums, partWith, Drawn, Higher};
@@ -28,12 +30,12 @@ fn v<'a>(shape: Shape, vs: &'a [u32], i: usize) -> &'a [u32]
 
 // The sum of the products of each polynomial's coefficients with the powers.
 fn weigh_each(shape: Shape, vs: &[u32], powers: &[u32], out: &mut [u32])
-    requires { ⌜ Drawn shape (now vs) (now powers) × (length (now out) ≡ shape .n) ⌝ }
+    requires { ⌜ Drawn shape (now vs) (now powers) × Elements (now powers) × (length (now out) ≡ shape .n) ⌝ }
     ensures { λ r. ⌜ now (out .exit) ≡ eachFrom 0 (shape .n) (weighedAt shape (now (powers .entry)) (now (vs .entry))) ⌝ }
 {
     let n = shape.n;
     for i in 0..n {
-        out[i] = poly::weigh(v(shape, vs, i), powers);
+        out[i] = poly::weigh_elements(v(shape, vs, i), powers);
     }
 }
 
@@ -63,14 +65,14 @@ fn write_check_values(shape: Shape, w: u32, vs: &[u32], powers: &mut [u32], out:
 
 // f(x).
 fn shared_value(constant: u32, higher: &[u32], x: u32, powers: &mut [u32]) -> u32
-    requires { ⌜ length (now higher) ≤ length (now powers) ⌝ }
+    requires { ⌜ (length (now higher) ≤ length (now powers)) × (length (now powers) ≤ longestV) ⌝ }
     ensures { λ r. ⌜ r ≡ value (constant ∷ now (higher .entry)) x ⌝ }
 {
     if higher.len() <= FEW {
         return field::add_product(constant, x, poly::evaluate(higher, x));
     }
     poly::powers(x, powers);
-    field::add_product(constant, x, poly::weigh(higher, powers))
+    field::add_product(constant, x, poly::weigh_elements(higher, powers))
 }
 
 // mj = vj(0) + f(j), of post j = i + 1.

@@ -1,10 +1,10 @@
 -- `write_check_values` meets its contract.
 use borrow.Author.Needs.{needs}
-use Rattle.parts.proofs.Turns.{checks-written}
+use Rattle.parts.proofs.Turns.{elements-filled, checks-written}
 use Rattle.parts.proofs.write_check_values.Statement.{statement}
 use Rattle.parts.proofs.write_check_values.Tie as tie
 
-ruleset steps = (needs, checks-written)
+ruleset steps = (needs, elements-filled, checks-written)
 
 pub write-check-values-spec : {M : Type 1} → statement M
 write-check-values-spec =
