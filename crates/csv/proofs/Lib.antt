@@ -1,4 +1,5 @@
 pub mod Overwriting
+pub mod Fronting
 pub mod Laying
 pub mod Moving
 pub mod Calls

@@ -8,6 +8,7 @@ ghost use lib.Dec.{ltb};
 ghost use Rattle.csv.specs.Fields.{field, fields, written, overwrite, fieldsAt, ended, runOf, numbersOf, Fillable, padded};
 ghost use Rattle.csv.specs.Walk.{commaField, readAt, stepFrom, counted, settled, numberIn};
 use decimal::Field;
+use decimal::lanes;
 
 // What a first pass over fields tells of them: the largest number, and the position behind them.
 pub enum Run {
@@ -15,8 +16,8 @@ pub enum Run {
     Broken,
 }
 
-// A comma and a number from a position on; the position behind.
-pub fn put_field(out: &mut [u8], at: usize, x: u32) -> usize
+// A comma and a number from a position on; the position behind. Few numbers are short.
+fn put_short(out: &mut [u8], at: usize, x: u32) -> usize
     requires { ⌜ at + length (field x) ≤ length (now out) ⌝ }
     ensures { λ r. ⌜ (r ≡ at + length (field x)) × (now (out .exit) ≡ overwrite at (field x) (now (out .entry))) ⌝ }
 {
@@ -25,6 +26,29 @@ pub fn put_field(out: &mut [u8], at: usize, x: u32) -> usize
     let end = from + decimal::size_of(x);
     decimal::put_digits(&mut out[from..end], x as u64);
     end
+}
+
+// The same for a number of nine or ten digits: ten are written, and the comma over the first where it is a zero.
+fn put_long(out: &mut [u8], at: usize, x: u32) -> usize
+    requires { ⌜ (at + length (field x) ≤ length (now out)) × (100000000 ≤ x) ⌝ }
+    ensures { λ r. ⌜ (r ≡ at + length (field x)) × (now (out .exit) ≡ overwrite at (field x) (now (out .entry))) ⌝ }
+{
+    let end = at + 1 + lanes::long_size(x);
+    let from = end - 10;
+    lanes::put_ten(&mut out[from..end], x);
+    out[at] = 44;
+    end
+}
+
+// The same for any number.
+pub fn put_field(out: &mut [u8], at: usize, x: u32) -> usize
+    requires { ⌜ at + length (field x) ≤ length (now out) ⌝ }
+    ensures { λ r. ⌜ (r ≡ at + length (field x)) × (now (out .exit) ≡ overwrite at (field x) (now (out .entry))) ⌝ }
+{
+    if x < 100000000 {
+        return put_short(out, at, x);
+    }
+    put_long(out, at, x)
 }
 
 // The same for each number of a list.

@@ -27,6 +27,10 @@ pub tens-grow : (k m : ℕ) → tens k ≤ tens (m + k)
 tens-grow k zero = let e : 0 + k ≡ k = omega arith in rw e (omega arith)
 tens-grow k (suc m) = let e : suc m + k ≡ suc (m + k) = omega arith in rw e (omega (arith, tens-grow k m))
 
+pub tens-pos : (k : ℕ) → 0 < tens k
+tens-pos zero = omega arith
+tens-pos (suc k) = omega (arith, tens-pos k)
+
 -- how many
 pub length-digits : (k x : ℕ) → length (lastDigits k x) ≡ k
 unfolding lastDigits

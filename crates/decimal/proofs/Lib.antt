@@ -4,3 +4,5 @@ pub mod Numerals
 pub mod Positions
 pub mod Scanning
 pub mod Spelling
+pub mod SideBySide
+pub mod Joining

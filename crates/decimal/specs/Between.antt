@@ -2,8 +2,14 @@
 use Prim.Native.Nat.{ℕ, suc, _+_, _≤_, _<_}
 use mathlib.Core.Path.{_≡_}
 use mathlib.Core.List.{List}
+use mathlib.Core.Bool.{cond}
 use lib.ListN.{take, drop}
+use lib.Dec.{ltb}
 use Rattle.decimal.specs.Numeral.{mostDigits, leading, valueAfter}
+
+-- 1 for a number that reaches a bound.
+abbrev pub reached : ℕ → ℕ → ℕ
+reached x bound = cond (ltb x bound) 0 1
 
 -- A walk from a position of a line of this length: to the line's end, but over no more than one digit above the most.
 pub record WalkEnd (len at end : ℕ) : Type 0 where

@@ -1,8 +1,11 @@
 // Decimal numbers: written digit by digit into a part of bytes, and read at a position of a line.
 ghost use mathlib.Core.Path.{_≡_};
+ghost use Prim.Native.Nat.{_≤_};
 ghost use lib.ListN.{length};
 ghost use Rattle.decimal.specs.Numeral.{size, lastDigits, fieldAt};
-ghost use Rattle.decimal.specs.Between.{WalkEnd, DigitsAt};
+ghost use Rattle.decimal.specs.Between.{reached, WalkEnd, DigitsAt};
+
+pub mod lanes;
 
 // "1 to 10 digits".
 const MOST_DIGITS: usize = 10;
@@ -13,17 +16,23 @@ pub enum Field {
     Wrong,
 }
 
-// How many digits a number has.
+// 1 for a number that reaches a bound, 0 for one below it.
+fn reaches(x: u32, bound: u32) -> usize
+    ensures { λ r. ⌜ (r ≡ reached x bound) × (r ≤ 1) ⌝ }
+{
+    if x < bound {
+        return 0;
+    }
+    1
+}
+
+// How many digits a number has: one more for each power of ten that it reaches. Every number takes the same steps.
 pub fn size_of(x: u32) -> usize
     ensures { λ r. ⌜ r ≡ size x ⌝ }
 {
-    let mut k: usize = 1;
-    let mut y = x;
-    while 10 <= y {
-        y = y / 10;
-        k += 1;
-    }
-    k
+    let to_five = 1 + reaches(x, 10) + reaches(x, 100) + reaches(x, 1000) + reaches(x, 10000);
+    let to_eight = reaches(x, 100000) + reaches(x, 1000000) + reaches(x, 10000000);
+    to_five + to_eight + reaches(x, 100000000) + reaches(x, 1000000000)
 }
 
 // A number's last digits, as many as the part has places.
