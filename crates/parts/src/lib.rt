@@ -14,7 +14,7 @@ ghost use Rattle.parts.specs.Draw.{eachFrom};
 ghost use Rattle.parts.specs.Between.{vOf, weighedAt, checkValues, sumAt, sums, partWith, Drawn, ChecksRoom, Higher};
 
 // So few coefficients go by Horner's rule: their powers would take longer.
-const FEW: usize = 4;
+const FEW: usize = 2;
 
 // The polynomial of post i + 1.
 fn v<'a>(shape: Shape, vs: &'a [u32], i: usize) -> &'a [u32]
