@@ -1,5 +1,5 @@
 -- Digits of a number that is written in two parts, and bytes taken from one number.
-use Prim.Native.Nat.{ℕ, zero, suc, _+_, _*_, _/_, _%_, _<_}
+use Prim.Native.Nat.{ℕ, zero, suc, _+_, _-_, _*_, _/_, _%_, _<_}
 use mathlib.Core.Path.{_≡_, refl, ap, sym, _∙_}
 use mathlib.Core.List.{List, [], _∷_, _++_, append-assoc, append-nil}
 use native.Mathlib.Omega.{arith}
@@ -34,7 +34,7 @@ one-zero : lastDigits 1 0 ≡ 48 ∷ []
 unfolding lastDigits
 one-zero = refl
 
-pub two-digits : (z : ℕ) → z < 100 → lastDigits 2 z ≡ (48 + z / 10) ∷ (48 + z % 10) ∷ []
+two-digits : (z : ℕ) → z < 100 → lastDigits 2 z ≡ (48 + z / 10) ∷ (48 + z % 10) ∷ []
 unfolding lastDigits
 two-digits z h = let e : z / 10 % 10 ≡ z / 10 = omega arith in rw e
 
@@ -113,10 +113,21 @@ bytes-of-eight v =
     )
 
 -- ten stores
-pub ten-put : (l : List ℕ) (x u v : ℕ) → length l ≡ 10 → u ≡ packed (lastDigits 2 (x / 100000000)) → v ≡ packed (lastDigits 8 (x % 100000000))
-    → stores 0 (u % 256 ∷ u / 256 % 256 ∷ eight-bytes v) l ≡ lastDigits 10 x
-ten-put l x u v n d e =
-    let a : bytes 2 u ≡ lastDigits 2 (x / 100000000) = bytes-digits 2 u (x / 100000000) d in
-    let b : eight-bytes v ≡ lastDigits 8 (x % 100000000) = sym (bytes-of-eight v) ∙ bytes-digits 8 v (x % 100000000) e in
-    stores-all (u % 256 ∷ u / 256 % 256 ∷ eight-bytes v) l n
-    ∙ ap (λ (r : List ℕ). bytes 2 u ++ r) b ∙ ap (λ (r : List ℕ). r ++ lastDigits 8 (x % 100000000)) a ∙ sym (ten-digits x)
+module _ (l : List ℕ) (x v : ℕ) (n : length l ≡ 10) (h : x < 4294967296) where
+  abbrev high : ℕ
+  high = x / 100000000
+
+  first-tens : high * 13 / 128 ≡ high / 10
+  first-tens = omega arith
+
+  first-ones : high - 10 * (high * 13 / 128) ≡ high % 10
+  first-ones = omega (arith, first-tens)
+
+  pub ten-put : v ≡ packed (lastDigits 8 (x % 100000000))
+      → stores 0 ((48 + high * 13 / 128) ∷ (48 + (high - 10 * (high * 13 / 128))) ∷ eight-bytes v) l ≡ lastDigits 10 x
+  ten-put e =
+      let a : (48 + high * 13 / 128) ∷ (48 + (high - 10 * (high * 13 / 128))) ∷ [] ≡ lastDigits 2 high =
+      rw (first-ones, first-tens) (sym (two-digits high (omega arith))) in
+      let b : eight-bytes v ≡ lastDigits 8 (x % 100000000) = sym (bytes-of-eight v) ∙ bytes-digits 8 v (x % 100000000) e in
+      stores-all ((48 + high * 13 / 128) ∷ (48 + (high - 10 * (high * 13 / 128))) ∷ eight-bytes v) l n
+      ∙ rw b (ap (λ (r : List ℕ). r ++ lastDigits 8 (x % 100000000)) a ∙ sym (ten-digits x))

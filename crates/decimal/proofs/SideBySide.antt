@@ -9,7 +9,7 @@ use lib.Bits.{bitAnd, and-block, and-mask, and-zero-r}
 use lib.Pow.{pow-pos}
 use Rattle.decimal.specs.Numeral.{tens, lastDigits}
 use Rattle.decimal.specs.Lanes.{quarters, packed}
-use Rattle.decimal.proofs.Joining.{spread, two-digits, eight-digits}
+use Rattle.decimal.proofs.Joining.{spread, eight-digits}
 
 -- a mask of two sides masks each
 and-sides : (k q m s : ℕ) → s < 2 ^ k → bitAnd q (m * 2 ^ k + s) ≡ bitAnd (q / 2 ^ k) m * 2 ^ k + bitAnd (q % 2 ^ k) s
@@ -177,8 +177,3 @@ module _ (x : ℕ) (h : x < 100000000) where
 
     pub eight-are : r * 256 + 3472328296227680304 - 2559 * tens-in r ≡ packed (lastDigits 8 x)
     eight-are = rw (eight-digits x h) (tens-packed _ _ _ _ first-pair second-pair third-pair last-pair r e)
-
--- ---- the digits of a number of two
-pub two-are : (x : ℕ) → x < 100 → x * 256 + 12336 - 2559 * (x * 103 / 1024) ≡ packed (lastDigits 2 x)
-unfolding packed
-two-are x h = rw (two-digits x h) (omega arith)

@@ -13,8 +13,6 @@ const FOUR_BITS: u64 = 0x000f_000f_000f_000f;
 // The digit 0 in each byte.
 const ZEROS: u64 = 0x3030_3030_3030_3030;
 
-const TWO_ZEROS: u32 = 0x3030;
-
 // The pairs of two numbers of four digits: both are divided by 100 in one product, for 10486 / 2^20 is near enough to 1 / 100.
 // What is left of each goes 16 bits higher: 2^16 (y - 100 h) + h is 2^16 y - 6553599 h.
 fn pairs(a: u64, b: u64) -> u64
@@ -37,24 +35,17 @@ fn eight(x: u32) -> u64
     pairs * 256 + ZEROS - 2559 * tens
 }
 
-// The same for a number of two.
-fn two(x: u32) -> u32
-    requires { ⌜ x < 100 ⌝ }
-    ensures { λ r. ⌜ r ≡ packed (lastDigits 2 x) ⌝ }
-{
-    let tens = x * 103 / 1024;
-    x * 256 + TWO_ZEROS - 2559 * tens
-}
-
-// Ten digits of a number. Bytes of one number are stored in a row, so that they take one store.
+// Ten digits of a number. The bytes of the last eight are stored in a row, so that they take one store.
+// The first two say less than 43, where 13 / 2^7 is near enough to 1 / 10: no product is waited for.
 pub fn put_ten(part: &mut [u8], x: u32)
     requires { ⌜ length (now part) ≡ 10 ⌝ }
     ensures { λ r. ⌜ now (part .exit) ≡ lastDigits 10 x ⌝ }
 {
-    let high = two(x / 100000000);
+    let high = x / 100000000;
+    let tens = high * 13 / 128;
     let low = eight(x % 100000000);
-    part[0] = (high % 256) as u8;
-    part[1] = (high / 256 % 256) as u8;
+    part[0] = 48 + tens as u8;
+    part[1] = 48 + (high - 10 * tens) as u8;
     part[2] = (low % 256) as u8;
     part[3] = (low / 256 % 256) as u8;
     part[4] = (low / 65536 % 256) as u8;

@@ -2,6 +2,7 @@
 use Prim.Native.Nat.{ℕ, _≤_, _<_}
 use mathlib.Core.Path.{_≡_, refl, ap, sym, _∙_}
 use mathlib.Core.List.{List, [], _∷_, _++_}
+use mathlib.Core.Bool.{Bool, true, false}
 use native.Mathlib.Omega.{arith}
 use borrow.Author.Tests.{lt-ltb, le-ltb, eq-eqb, ne-eqb, ltb-false}
 use mir.Syntax.{w32}
@@ -52,15 +53,15 @@ module _ (n letter count row post : ℕ) (xs : List ℕ) (room : ℕ) where
           pub number-beyond : (g ≡ 0 → ⊥) → g ≡ refusal
           number-beyond h = stopped (8 when anyBeyond xs ∷ []) room-test tt g e h ∙ behind
 
-          module _ (z : g ≡ 0) (m : ℕ) (w : m ≡ length (written 0 (row ∷ post ∷ xs))) where
+          module _ (z : g ≡ 0) (lacks : Bool) (w : lacks ≡ ltb room (length (written 0 (row ∷ post ∷ xs)))) where
             ends : (r : ℕ) → r ≡ first room-test → r ≡ refusal
             ends r q = went-on (8 when anyBeyond xs ∷ []) room-test tt g e r z q ∙ behind
 
-            pub part-short : room < m → 12 ≡ refusal
-            part-short h = ends 12 (rw (← w, lt-ltb room m h))
+            pub part-short : lacks ≡ true → 12 ≡ refusal
+            part-short h = ends 12 (rw (← w, h))
 
-            pub part-fits : m ≤ room → 0 ≡ refusal
-            part-fits h = ends 0 (rw (← w, le-ltb room m h))
+            pub part-fits : lacks ≡ false → 0 ≡ refusal
+            part-fits h = ends 0 (rw (← w, h))
 
   -- a line that is not refused
   module _ (r : ℕ) (e : r ≡ refusal) (z : r ≡ 0) where
@@ -70,14 +71,14 @@ module _ (n letter count row post : ℕ) (xs : List ℕ) (room : ℕ) where
     pub posted-row : Fits w32 row
     posted-row = omega (arith, ltb-false (lastRow letter) row (none-holds .1 .1 .0), last-row-le letter)
 
-    pub posted-post : n ≤ 4294967295 → Fits w32 post
+    pub posted-post : n ≤ 255 → Fits w32 post
     posted-post h = let b = inside 1 n post (none-holds .0) in omega arith
 
     pub posted-room : length (written letter ((row ∷ post ∷ []) ++ xs)) ≤ room
     posted-room = ltb-false room _ (none-holds .1 .1 .1 .1 .0)
 
-pub row-fits : (letter row last : ℕ) → last ≡ lastRow letter → row ≤ last → Fits w32 row
-row-fits letter row last l h = omega (arith, last-row-le letter)
+pub row-low : (letter row last : ℕ) → last ≡ lastRow letter → row ≤ last → row ≤ 95
+row-low letter row last l h = omega (arith, last-row-le letter)
 
 -- ---- 6, 8 and 12 of a `D`
 module _ (row c room : ℕ) where
@@ -125,7 +126,7 @@ module _ (n t f : ℕ) (e : f ≡ first (postsTests n t)) where
   posts-keep ys new old h = refused f (lineRefusal n t ys) new old (posts-refuse ys h) h
 
   module _ (z : f ≡ 0) where
-    pub posts-n : n ≤ 4294967295
+    pub posts-n : n ≤ 255
     posts-n = let v = posts-passed n t f e z in omega (arith, v .n-in)
 
     pub posts-one : (k : ℕ) → k ≡ vLength (shape n t) → k ≤ 4294967296

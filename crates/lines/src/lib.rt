@@ -3,6 +3,7 @@ ghost use mathlib.Core.Path.{_≡_};
 ghost use Prim.Native.Nat.{_*_, _≤_};
 ghost use mathlib.Core.List.{_∷_};
 ghost use lib.ListN.{length};
+ghost use lib.Dec.{ltb};
 ghost use Rattle.shape.specs.Lengths.{shape, vLength};
 ghost use Rattle.refusal.specs.Refusal.{first};
 ghost use Rattle.csv.specs.Fields.{written};
@@ -35,6 +36,23 @@ fn not_written(refusal: u8) -> Written
     Written { refusal, len: 0 }
 }
 
+// A letter, a row, a post and a line feed, with two commas, take no more bytes, and a number with its comma no more than these.
+const MOST_FRAME: usize = 9;
+
+const MOST_FIELD: usize = 11;
+
+// Whether a part is too short for a line with a post. The line is measured only where the longest has no room.
+fn lacks_room(room: usize, row: usize, post: usize, numbers: &[u32]) -> bool
+    requires { ⌜ (row ≤ 95) × (post ≤ 255) × (length (now numbers) ≤ 4294967296) ⌝ }
+    ensures { λ r. ⌜ r ≡ ltb room (length (written 0 (row ∷ post ∷ now (numbers .entry)))) ⌝ }
+{
+    if MOST_FRAME + MOST_FIELD * numbers.len() <= room {
+        return false;
+    }
+    let head = [row as u32, post as u32];
+    room < csv::line_len(&head, numbers)
+}
+
 // 3, 5, 6, 8 and 12 of a line with a post.
 fn posted_refusal(
     n: usize,
@@ -45,7 +63,7 @@ fn posted_refusal(
     numbers: &[u32],
     room: usize,
 ) -> u8
-    requires { ⌜ (n ≤ 4294967295) × (count ≤ 4294967296) ⌝ }
+    requires { ⌜ (n ≤ 255) × (count ≤ 4294967296) ⌝ }
     ensures { λ r. ⌜ r ≡ first (postedTests n letter count row post (now (numbers .entry)) room) ⌝ }
 {
     if post < 1 {
@@ -64,8 +82,7 @@ fn posted_refusal(
     if beyond != 0 {
         return beyond;
     }
-    let head = [row as u32, post as u32];
-    if room < csv::line_len(&head, numbers) {
+    if lacks_room(room, row, post, numbers) {
         return 12;
     }
     0
@@ -81,7 +98,7 @@ fn write_posted(
     numbers: &[u32],
     out: &mut [u8],
 ) -> Written
-    requires { ⌜ (n ≤ 4294967295) × (count ≤ 4294967296) ⌝ }
+    requires { ⌜ (n ≤ 255) × (count ≤ 4294967296) ⌝ }
     ensures { λ r. ⌜ r
         ≡ writtenAs (first (postedTests n letter count row post (now (numbers .entry)) (length (now (out .entry)))))
         (written letter (row ∷ post ∷ now (numbers .entry))) ⌝ }
