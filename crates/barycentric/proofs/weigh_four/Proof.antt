@@ -20,12 +20,12 @@ four-requires : tie.Need-four-requires Inv-loop μ-loop
 four-requires c κs =
     let a = c .before .before .before .before .before .before .before .before in
     let at = gap-small (now (a .args .nodes)) (now (a .args .gaps)) (a .args .k) (a .args .list .now) (a .pre .0) in
-    (omega arith, at (a .args .k) (search needs), at (a .args .k + 1) (search needs), at (a .args .k + 2) (search needs), at (a .args .k + 3) (a .pre .1))
+    (omega arith, at _ (search needs), at _ (search needs), at _ (search needs), at _ (search needs))
 
 loop-holds : tie.Need-loop-holds Inv-loop μ-loop
 loop-holds c =
     let a = c .before .before .before .before .before .before .before .before .before .before in
-    gaining-start _ _ _ (a .args .list .now) _ _ (a .pre .0) (a .pre .1) (c .before .four .ensures) (c .mul .ensures)
+    gaining-start _ _ _ (a .args .list .now) _ _ (a .pre .0) (a .pre .1) (search needs) (c .mul .ensures)
 
 slice-read-mul-2 : tie.Need-slice-read-mul-2 Inv-loop μ-loop
 slice-read-mul-2 c =
@@ -40,10 +40,10 @@ four-requires-2 c κs =
     let place : l .i < length (now (a .args .nodes)) = search needs in
     let at = gap-small (now (a .args .nodes)) (now (a .args .gaps)) (a .args .k) (a .args .list .now) (a .pre .0) in (
       omega (arith, rising-last 0 (now (a .args .nodes)) (l .i) (a .pre .0 .rising) place, a .pre .0 .within),
-      at (a .args .k) (search needs),
-      at (a .args .k + 1) (search needs),
-      at (a .args .k + 2) (search needs),
-      at (a .args .k + 3) (a .pre .1),
+      at _ (search needs),
+      at _ (search needs),
+      at _ (search needs),
+      at _ (search needs),
     )
 
 slice-write-list-2 : tie.Need-slice-write-list-2 Inv-loop μ-loop
@@ -77,7 +77,7 @@ loop-again : tie.Need-loop-again Inv-loop μ-loop
 loop-again c =
     let a = c .before .before .before .before .before .before .before .before .before .before .before .before .before .before .before .before in
     let l = c .before .before .before .before .before .loop in
-    gaining-turn _ _ _ (a .args .list .now) _ (a .pre .0) (l .list) (l .i) (l .inv) _ _ (search needs) (a .pre .1) (c .before .four2 .ensures) (c .mul2 .ensures)
+    gaining-turn _ _ _ (a .args .list .now) _ (a .pre .0) (l .list) (l .i) (l .inv) _ _ (search needs) (a .pre .1) (search needs) (c .mul2 .ensures)
 
 same-length : tie.Need-same-length Inv-loop μ-loop
 same-length c = c .before .loop .inv .sized ∙ length-set (c .before .before .before .before .before .before .before .before .before .before .before .before .args .list .now) 0 _
