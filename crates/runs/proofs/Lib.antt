@@ -5,6 +5,7 @@ pub mod Sums
 pub mod Numbers
 pub mod Outcomes
 pub mod Packs
+pub mod Sent
 pub mod Holds
 pub mod Finishing
 pub mod Related

@@ -1,0 +1,25 @@
+-- Document 01, demand 3, "a row counts as opened from its first opening message ...; masks don't count": which lines each call sends, said
+-- beside the outline, call by call. A row is opened by its opening message and by no other call; the theorems of demand 3 ask for equal
+-- numbers at every line of an opening that the outline has.
+use Prim.Native.Nat.{ℕ}
+use mathlib.Core.Path.{_≡_}
+use mathlib.Core.List.{List, [], _∷_, map}
+use Rattle.terms.specs.declared.Term.{Term}
+use Rattle.terms.specs.Listed.{productsOf}
+use Rattle.runs.specs.Outline.{Kinds, CallOf, loadRow, loadTriple, deal, message, opening, linear, masks, collect, multiply, relationMasks, relationFinish, Sending, itsOpening, itsMasks, sends}
+
+abbrev pub linesOf : {K : Kinds} → CallOf K → List Sending
+linesOf (loadRow x) = []
+linesOf (loadTriple x) = []
+linesOf (deal x) = []
+linesOf (message x) = itsOpening (x .r) ∷ []
+linesOf (opening x) = []
+linesOf (linear x) = []
+linesOf (masks x) = itsMasks (x .a) (x .b) (x .r) ∷ []
+linesOf (collect x) = []
+linesOf (multiply x) = []
+linesOf (relationMasks x) = map (λ t. itsMasks (t .row) (t .second) (t .first)) (productsOf (x .terms))
+linesOf (relationFinish x) = []
+
+pub record Sent : Type 1 where
+  pub lines : {K : Kinds} (c : CallOf K) → sends c ≡ linesOf c
