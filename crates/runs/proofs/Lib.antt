@@ -1,3 +1,4 @@
+pub mod Sent
 pub mod Outlines
 pub mod Inside
 pub mod Marks
@@ -5,7 +6,6 @@ pub mod Sums
 pub mod Numbers
 pub mod Outcomes
 pub mod Packs
-pub mod Sent
 pub mod Holds
 pub mod Finishing
 pub mod Related
