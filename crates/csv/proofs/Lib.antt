@@ -7,5 +7,7 @@ pub mod Locals
 pub mod Carrying
 pub mod Stepping
 pub mod Passing
+pub mod Rooming
+pub mod Lodging
 pub mod Single
 pub mod Reading

@@ -8,10 +8,7 @@ use borrow.Author.Tests.{le-leb, leb-true}
 use lib.ListN.{length, take, length-append}
 use lib.Dec.{leb}
 use Rattle.decimal.specs.Numeral.{tens, lastDigits, isDigit, leading, valueAfter}
-
-abbrev pub Digits : List ℕ → Type 0
-Digits [] = Unit {0}
-Digits (d ∷ ds) = ((48 ≤ d) × (d ≤ 57)) × Digits ds
+pub use Rattle.decimal.specs.Between.{Digits}
 
 pub and-true : (a b : Bool) → (a && b) ≡ true → (a ≡ true) × (b ≡ true)
 and-true true b e = (refl, e)

@@ -10,8 +10,9 @@ ghost use Rattle.csv.specs.Fields.{written};
 ghost use Rattle.forms.specs.Lines.{text, deal, opening, masks};
 ghost use Rattle.forms.specs.Forms.{message, lineTests};
 ghost use Rattle.lines.specs.Writing.{postedTests, dealtTests, writeDealRefusal, writeOpeningRefusal, writeMasksRefusal, notWritten, writtenAs, partAs};
-ghost use Rattle.lines.specs.Reading.{readRefusal, noLine, lineAs, listAs};
-use forms::Form;
+ghost use Rattle.lines.specs.Reading.{readRefusal, noLine, limitOf, lineAs, listAs};
+use csv::Run;
+use forms::Head;
 use shape::Shape;
 
 // The answer of a writer: the refusal, and the line's length.
@@ -220,34 +221,46 @@ fn no_line(refusal: u8) -> Line
     }
 }
 
+// What the numbers of a line stay below, if its row and post are in range: p. No number is below 0.
+fn limit_of(misplaced: bool) -> u64
+    ensures { λ r. ⌜ r ≡ limitOf misplaced ⌝ }
+{
+    if misplaced { 0 } else { 2147483647 }
+}
+
 // 10 and 11 of a line with messages of k coefficients, or its numbers.
 fn read_line(n: usize, k: usize, line: &[u8], out: &mut [u32]) -> Line
     requires { ⌜ (1 ≤ k) × (k ≤ 4294967296) × (length (now out) ≡ 2 * k) ⌝ }
     ensures { λ r. ⌜ r ≡ lineAs (first (lineTests n k (now (line .entry)))) (message k (now (line .entry))) ⌝ }
     ensures { λ r. ⌜ now (out .exit) ≡ listAs (first (lineTests n k (now (line .entry)))) (message k (now (line .entry))) (now (out .entry)) ⌝ }
 {
-    let form = forms::scan(line, k);
-    match form {
-        Form::Right {
+    let head = forms::head_of(line, k);
+    match head {
+        Head::Right {
             letter,
             row,
             post,
             at,
             count,
-            largest,
         } => {
-            if forms::out_of_range(n, letter, row, post, largest) {
-                return no_line(11);
-            }
-            csv::fill_front(line, at, count, out);
-            Line {
-                refusal: 0,
-                letter,
-                row: row as usize,
-                post: post as usize,
+            let limit = limit_of(forms::out_of_range(n, letter, row, post, 0));
+            let run = forms::read_front(line, at, limit, count, out);
+            match run {
+                Run::Fields { largest, next: _ } => {
+                    if limit <= largest {
+                        return no_line(11);
+                    }
+                    Line {
+                        refusal: 0,
+                        letter,
+                        row: row as usize,
+                        post: post as usize,
+                    }
+                }
+                Run::Broken => no_line(10),
             }
         }
-        Form::Wrong => no_line(10),
+        Head::Wrong => no_line(10),
     }
 }
 
