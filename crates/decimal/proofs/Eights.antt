@@ -7,7 +7,7 @@ use mir.Val.{Fits}
 use lib.Bits.{bitAnd, and-block, and-mask}
 use Rattle.decimal.specs.Numeral.{valueAfter}
 use Rattle.decimal.specs.Between.{Digits, bytesOf}
-use Rattle.decimal.proofs.Lanes.{top-byte}
+use Rattle.decimal.proofs.EightDigits.{top-byte}
 
 -- every second byte is kept
 kept : (a m p q : ℕ) → p < 256 → q < 256 → bitAnd (a * 65536 + (q * 256 + p)) (m * 65536 + 255) ≡ bitAnd a m * 65536 + p

@@ -2,7 +2,7 @@ pub mod Digits
 pub mod Sizes
 pub mod Numerals
 pub mod Positions
-pub mod Lanes
+pub mod EightDigits
 pub mod Eights
 pub mod Scanning
 pub mod Spelling

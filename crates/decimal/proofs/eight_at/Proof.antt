@@ -1,6 +1,6 @@
 -- `eight_at` meets its contract.
 use borrow.Author.Needs.{needs}
-use Rattle.decimal.proofs.Lanes.{eight-there}
+use Rattle.decimal.proofs.EightDigits.{eight-there}
 use Rattle.decimal.proofs.eight_at.Statement.{statement}
 use Rattle.decimal.proofs.eight_at.Tie as tie
 

@@ -1,6 +1,6 @@
 -- `four` meets its contract.
 use borrow.Author.Needs.{needs}
-use Rattle.decimal.proofs.Lanes.{four-small, four-bytes}
+use Rattle.decimal.proofs.EightDigits.{four-small, four-bytes}
 use Rattle.decimal.proofs.four.Statement.{statement}
 use Rattle.decimal.proofs.four.Tie as tie
 

@@ -1,6 +1,6 @@
 -- `only_digits` meets its contract.
 use borrow.Author.Needs.{needs}
-use Rattle.decimal.proofs.Lanes.{six-fits, digits-told}
+use Rattle.decimal.proofs.EightDigits.{six-fits, digits-told}
 use Rattle.decimal.proofs.only_digits.Statement.{statement}
 use Rattle.decimal.proofs.only_digits.Tie as tie
 
