@@ -16,6 +16,7 @@ and-sides : (k q m s : ℕ) → s < 2 ^ k → bitAnd q (m * 2 ^ k + s) ≡ bitAn
 and-sides k q m s h =
     ap (λ (n : ℕ). bitAnd n (m * 2 ^ k + s)) (sym (div-add-mod' q (2 ^ k))) ∙ and-block k (q / 2 ^ k) m (q % 2 ^ k) s (mod-lt q (pow-pos k)) h
 
+-- the two sides of such a product; 42950656 is 10486 * 2^32 / 2^20
 module _ (q u b : ℕ) (e : q ≡ u + b * 42950656) (h : u < 100) where
   low-side : q % 4294967296 % 128 ≡ u
   low-side =

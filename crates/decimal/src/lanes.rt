@@ -36,7 +36,7 @@ fn eight(x: u32) -> u64
 }
 
 // Ten digits of a number. The bytes of the last eight are stored in a row, so that they take one store.
-// The first two say less than 43, where 13 / 2^7 is near enough to 1 / 10: no product is waited for.
+// The first two say less than 43, where 13 / 2^7 is near enough to 1 / 10.
 pub fn put_ten(part: &mut [u8], x: u32)
     requires { ⌜ length (now part) ≡ 10 ⌝ }
     ensures { λ r. ⌜ now (part .exit) ≡ lastDigits 10 x ⌝ }
