@@ -157,7 +157,7 @@ module _ (s : Session) (rows blocks : List ℕ) where
         ∙ ap₂ (λ (l fs : List Term). withSum s d l (withProducts s rows blocks 0 fs rows)) (terms-again ts few) (factors-again ts few)
 
 -- the answer's refusal is the call's
-refusal-is : (x : ℕ) (new old : Session) → answer x 0 new old .refusal ≡ 0 → x ≡ 0
+pub refusal-is : (x : ℕ) (new old : Session) → answer x 0 new old .refusal ≡ 0 → x ≡ 0
 unfolding outcome
 refusal-is zero new old e = refl
 refusal-is (suc x) new old e = e
