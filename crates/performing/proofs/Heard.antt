@@ -1,4 +1,4 @@
--- A line of few numbers in range is read, says these numbers and is not too long.
+-- A line of numbers in range is read, says these numbers and, with few of them, is not too long.
 use Prim.Native.Nat.{ℕ, _+_, _≤_}
 use mathlib.Core.Path.{_≡_}
 use mathlib.Core.Bool.{false}
@@ -30,6 +30,7 @@ module _ (letter : ℕ) (xs : List ℕ) (elements : Elements xs) where
   unfolding readRefusal
   passes lasts h = rw (reads, elements-pass xs elements, h)
 
-pub few-short : (letter : ℕ) (xs : List ℕ) → length xs ≤ 5 → length (written letter xs) ≤ longestLine
+-- a whole `M` has 66 numbers at most
+pub line-short : (letter : ℕ) (xs : List ℕ) → length xs ≤ 66 → length (written letter xs) ≤ longestLine
 unfolding fields
-few-short letter xs few = omega (arith, length-written letter [] xs, length-fields-le xs)
+line-short letter xs few = omega (arith, length-written letter [] xs, length-fields-le xs)

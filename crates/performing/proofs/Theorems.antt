@@ -36,7 +36,7 @@ use Rattle.finishlines.specs.Steps.{masksFor, finishing, finishStep}
 use Rattle.masklines.specs.Steps.{maskLine, noMasks, masking, maskingOf, maskStep}
 use Rattle.interpreter.specs.Stepping.{lettersStep, lateStep, step}
 use Rattle.performing.specs.Claims.{Does, LinearLine, MasksLine, DealLine, OpenLine, Finishes, FinishLine, StreetPerforms}
-use Rattle.performing.proofs.Heard.{elements-small, says, passes, few-short}
+use Rattle.performing.proofs.Heard.{elements-small, says, passes, line-short}
 
 succ : (k : ℕ) → suc k ≡ 0 → ⊥
 succ k e = omega arith
@@ -62,7 +62,7 @@ module _ (st : State) (store : List ℕ) (started : st .started ≡ true) where
 
     linear-letter : step st store (written 76 five) ≡ linearStep st store (written 76 five)
     unfolding step lateStep lettersStep
-    linear-letter = rw (started, le-ltb longestLine (length (written 76 five)) (few-short 76 five (omega arith)))
+    linear-letter = rw (started, le-ltb longestLine (length (written 76 five)) (line-short 76 five (omega arith)))
 
     linear-numbers : linearStep st store (written 76 five) ≡ adding st store five
     unfolding linearStep outcome
@@ -104,7 +104,7 @@ module _ (st : State) (store : List ℕ) (started : st .started ≡ true) where
 
     masks-letter : step st store (written 88 three) ≡ maskStep st store (written 88 three)
     unfolding step lateStep
-    masks-letter = rw (started, le-ltb longestLine (length (written 88 three)) (few-short 88 three (omega arith)))
+    masks-letter = rw (started, le-ltb longestLine (length (written 88 three)) (line-short 88 three (omega arith)))
 
     masks-numbers : maskStep st store (written 88 three) ≡ masking st store a b first
     unfolding maskStep maskingOf outcome
@@ -146,7 +146,7 @@ module _ (st : State) (store : List ℕ) (started : st .started ≡ true) where
 
     open-letter : step st store (written 71 one) ≡ openStep st store (written 71 one)
     unfolding step lateStep lettersStep
-    open-letter = rw (started, le-ltb longestLine (length (written 71 one)) (few-short 71 one (omega arith)))
+    open-letter = rw (started, le-ltb longestLine (length (written 71 one)) (line-short 71 one (omega arith)))
 
     open-numbers : openStep st store (written 71 one) ≡ opening st store one
     unfolding openStep outcome
@@ -181,7 +181,7 @@ module _ (st : State) (store : List ℕ) (started : st .started ≡ true) where
 
     deal-letter : step st store (written 68 two) ≡ hearStep st store (written 68 two)
     unfolding step lateStep lettersStep
-    deal-letter = rw (started, le-ltb longestLine (length (written 68 two)) (few-short 68 two (omega arith)))
+    deal-letter = rw (started, le-ltb longestLine (length (written 68 two)) (line-short 68 two (omega arith)))
 
     deal-numbers : hearStep st store (written 68 two) ≡ dealing st store row c
     unfolding hearStep outcome
@@ -237,7 +237,7 @@ module _ (st : State) (store : List ℕ) (started : st .started ≡ true) where
 
     finish-letter : step st store (written 70 alone) ≡ finishStep st store (written 70 alone)
     unfolding step lateStep lettersStep
-    finish-letter = rw (started, le-ltb longestLine (length (written 70 alone)) (few-short 70 alone (omega arith)))
+    finish-letter = rw (started, le-ltb longestLine (length (written 70 alone)) (line-short 70 alone (omega arith)))
 
     finish-numbers : finishStep st store (written 70 alone) ≡ finishing st store first
     unfolding finishStep outcome

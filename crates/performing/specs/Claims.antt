@@ -36,16 +36,16 @@ pub record Does (st : State) (store : List ℕ) (given : Answer) (rows : List �
   pub refusal : a .given .refusal ≡ given .refusal
   pub value : a .given .value ≡ given .value
 
+-- The record at a place of the store, if it is kept for what the line names, else an empty one.
+abbrev pub recordFor : State → List ℕ → ℕ → ℕ → ℕ → List ℕ
+recordFor st store at kept named = recordIf (eqb kept named) (recordAt at (shapeOf (st .session)) store)
+
 module _ (st : State) (store : List ℕ) where
   abbrev own : Session
   own = st .session
 
   abbrev rows : List ℕ
   rows = sessionRows st store
-
-  -- the record at a place of the store, if it is kept for what the line names, else an empty one
-  abbrev recordFor : ℕ → ℕ → ℕ → List ℕ
-  recordFor at kept named = recordIf (eqb kept named) (recordAt at (shapeOf own) store)
 
   -- "`L,dest,a,b,s,fee`"
   abbrev pub LinearLine : Type 0
@@ -74,7 +74,7 @@ module _ (st : State) (store : List ℕ) where
   abbrev pub OpenLine : Type 0
   OpenLine =
       (row : ℕ) → row ≤ lastRow
-      → Does st store (openAnswer own rows row (recordFor openingsAt (st .kept) row)) rows (step st store (written 71 (row ∷ [])))
+      → Does st store (openAnswer own rows row (recordFor st store openingsAt (st .kept) row)) rows (step st store (written 71 (row ∷ [])))
 
   -- "`F,first`, which finishes", with the two records that are kept for the triple, or empty ones: collect, and where it was not refused
   -- multiply, with the session that collect hands back. Where either is refused nothing changes.
@@ -87,8 +87,8 @@ module _ (st : State) (store : List ℕ) where
   abbrev pub FinishLine : Type 0
   FinishLine =
       (first : ℕ) → first ≤ lastTriple
-      → (let masksA = recordFor masksAAt (st .triple) first in
-      let masksB = recordFor masksBAt (st .triple) first in
+      → (let masksA = recordFor st store masksAAt (st .triple) first in
+      let masksB = recordFor st store masksBAt (st .triple) first in
       let collected = collectAnswer own rows first masksA masksB in
       let between = collected .session in
       Finishes collected (multiplyAnswer between rows first) (multiplyRows between rows first) (step st store (written 70 (first ∷ []))))
