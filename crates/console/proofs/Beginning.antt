@@ -13,20 +13,18 @@ use Rattle.serving.specs.Between.{Begun}
 pub header-taken : (p : Printed) (b : Bool) → p .total ≡ length header → b ≡ p .whole → b ≡ true → Begun p
 header-taken p b t e w = record { total-is = t; whole-is = sym e ∙ w }
 
-pub none-read : (p : Printed) (t : ℕ) → t ≡ p .total → p .total ≡ length header → Ended 0 t false true
+pub none-read : (p : Printed) (t : ℕ) → t ≡ p .total → p .total ≡ length header → Ended 0 t false true false
 unfolding passed printedFor fed
 none-read p t e h =
     record {
       chunks = [];
       last = [];
       filled = tt;
-      why = λ w. absurd (true≢false w);
-      closing = false;
-      whole = λ _ w. absurd (true≢false w);
-      cut = λ u. absurd (true≢false (sym u));
+      why = λ w. absurd (true≢false (sym w));
+      told = λ _. refl;
       lines-is = refl;
       count = e ∙ h;
     }
 
-pub ended-told : (n t t' : ℕ) (u u' w w' : Bool) → t' ≡ t → u' ≡ u → w' ≡ w → Ended n t u (not w) → Ended n t' u' (not w')
-ended-told n t t' u u' w w' a b c h = rw (a, b, c) h
+pub ended-told : (n t t' : ℕ) (u u' w w' k : Bool) → t' ≡ t → u' ≡ u → w' ≡ w → Ended n t u (not w) k → Ended n t' u' (not w') k
+ended-told n t t' u u' w w' k a b c h = rw (a, b, c) h

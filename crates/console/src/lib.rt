@@ -23,6 +23,8 @@ pub struct Ending {
     pub unread: bool,
     // printing failed
     pub unwritten: bool,
+    // the answers to every chunk were taken
+    pub taken: bool,
 }
 
 // The same, with the note on what failed.
@@ -42,13 +44,14 @@ fn answers_room() -> [u8; ANSWER_BYTES]
 // Reads and prints after the header.
 fn serve_input(header: Printed) -> Ending
     requires { ⌜ Begun header ⌝ }
-    ensures { λ r. ⌜ Ended (r .lines) (r .total) (r .unread) (r .unwritten) ⌝ }
+    ensures { λ r. ⌜ Ended (r .lines) (r .total) (r .unread) (r .unwritten) (r .taken) ⌝ }
 {
     let mut store = [0u32; store::STORE_ROOM];
     let mut line = [0u8; splitting::KEPT];
     let mut chunk = [0u8; chunks::CHUNK];
     let mut out = answers_room();
-    let served = serving::serve(header, &mut store, &mut line, &mut chunk, &mut out);
+    let run = serving::serve(header, &mut store, &mut line, &mut chunk, &mut out);
+    let served = run.last;
     let feed = served.feed;
     let got = served.got;
     let printed = served.printed;
@@ -57,12 +60,13 @@ fn serve_input(header: Printed) -> Ending
         total: printed.total(),
         unread: got.failed(),
         unwritten: !printed.whole(),
+        taken: run.taken,
     }
 }
 
 // Prints the header, and reads where it was taken.
 fn start() -> Ending
-    ensures { λ r. ⌜ Ended (r .lines) (r .total) (r .unread) (r .unwritten) ⌝ }
+    ensures { λ r. ⌜ Ended (r .lines) (r .total) (r .unread) (r .unwritten) (r .taken) ⌝ }
 {
     let header = port::begin();
     if header.whole() {
@@ -73,12 +77,13 @@ fn start() -> Ending
         total: header.total(),
         unread: false,
         unwritten: true,
+        taken: false,
     }
 }
 
 // The whole program: how it ended, and how many bytes were handed to standard error.
 pub fn run() -> Outcome
-    ensures { λ r. ⌜ Ended (r .ending .lines) (r .ending .total) (r .ending .unread) (r .ending .unwritten)
+    ensures { λ r. ⌜ Ended (r .ending .lines) (r .ending .total) (r .ending .unread) (r .ending .unwritten) (r .ending .taken)
         × (r .noted ≡ length (noteFor (r .ending .unread) (r .ending .unwritten))) ⌝ }
 {
     let ending = start();

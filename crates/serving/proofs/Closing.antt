@@ -1,7 +1,7 @@
 -- The end of the input, and of the program.
 use Prim.Native.Nat.{ℕ, _+_, _≤_, _<_}
-use mathlib.Core.Path.{_≡_, refl, ap, sym, _∙_}
-use mathlib.Core.Bool.{Bool, true, false, not, true≢false}
+use mathlib.Core.Path.{_≡_, refl, ap, ap₂, sym, _∙_}
+use mathlib.Core.Bool.{Bool, true, false, not, cond, true≢false}
 use mathlib.Core.List.{List, [], _∷_, _++_, append-assoc}
 use native.Mathlib.Omega.{arith}
 use borrow.Author.Tests.{ne-eqb}
@@ -20,7 +20,7 @@ use Rattle.port.specs.declared.Printed.{Printed}
 use Rattle.port.specs.Counts.{wrapped}
 use Rattle.serving.specs.Sizes.{allTurns}
 use Rattle.chunks.specs.Stopping.{brokenOff}
-use Rattle.serving.specs.Serving.{Ended}
+use Rattle.serving.specs.Serving.{Ended, closes}
 use Rattle.serving.specs.Between.{Stopped, Finished}
 use Rattle.chunks.proofs.Feeding.{neither, handed-first}
 use Rattle.serving.proofs.Turns.{count-more}
@@ -56,53 +56,62 @@ module _ (s : Served) (store line out newLine : List ℕ) (g : Progress) (store'
       }
 
 -- ---- the end of the program
-module _ (s r : Served) (p q : Running) (out : List ℕ) (h : Stopped p s) (f : Finished p q out s r) where
+shut : (unread whole : Bool) → closes unread whole ≡ not (cond unread true (not whole))
+shut true whole = refl
+shut false true = refl
+shut false false = refl
+
+module _ (s r : Served) (p q : Running) (out : List ℕ) (taken : Bool) (h : Stopped p s) (k : taken ≡ s .printed .whole) (f : Finished p q out s r) where
   abbrev all : List (List ℕ)
   all = h .chunks ++ (h .last ∷ [])
 
-  late : not (s .printed .whole) ≡ false → 0 < length (h .last) → length (h .chunks) + 1 ≡ allTurns
-  late w l = h .why (rw (ne-eqb (s .got .count) 0 (λ z. absurd (omega (arith, h .read))), w))
+  abbrev Told : Type 0
+  Told = Ended (q .number) (r .printed .total) (r .got .failed) (not (r .printed .whole)) taken
 
-  broken-ended : brokenOff s ≡ true → Ended (q .number) (r .printed .total) (r .got .failed) (not (r .printed .whole))
+  late : taken ≡ true → 0 < length (h .last) → length (h .chunks) + 1 ≡ allTurns
+  late t l = h .why (rw (ne-eqb (s .got .count) 0 (λ z. absurd (omega (arith, h .read))), sym k ∙ t))
+
+  closing : closes (r .got .failed) taken ≡ not (brokenOff s)
+  closing = ap₂ closes (ap (λ (z : Got). z .failed) (f .same)) k ∙ shut (s .got .failed) (s .printed .whole)
+
+  broken-ended : brokenOff s ≡ true → Told
   broken-ended b =
       let e = f .broken b in
-      let unwritten : not (r .printed .whole) ≡ not (s .printed .whole) = ap (λ (z : Printed). not (z .whole)) (e .1) in
+      let cut : closes (r .got .failed) taken ≡ false = closing ∙ ap not b in
       record {
         chunks = h .chunks;
         last = h .last;
         filled = h .filled;
-        why = λ w. late (sym unwritten ∙ w);
-        closing = false;
-        whole = λ u w. absurd (true≢false (sym b ∙ rw (sym (ap (λ (z : Got). z .failed) (f .same)) ∙ u, sym unwritten ∙ w)));
-        cut = λ _. refl;
-        lines-is = ap (λ (z : Running). z .number) (e .0 ∙ h .passes);
-        count = ap (λ (z : Printed). z .total) (e .1) ∙ h .count;
+        why = late;
+        told = λ t. ap (λ (z : Printed). not (z .whole)) (e .1) ∙ ap not (sym k ∙ t);
+        lines-is = rw cut (ap (λ (z : Running). z .number) (e .0 ∙ h .passes));
+        count = rw cut (ap (λ (z : Printed). z .total) (e .1) ∙ h .count);
       }
 
-  closed-ended : brokenOff s ≡ false → Ended (q .number) (r .printed .total) (r .got .failed) (not (r .printed .whole))
+  closed-ended : brokenOff s ≡ false → Told
   closed-ended b =
       let e = f .closes b in
       let n = neither (s .got .failed) (s .printed .whole) b in
+      let ends : closes (r .got .failed) taken ≡ true = closing ∙ ap not b in
       record {
         chunks = h .chunks;
         last = h .last;
         filled = h .filled;
-        why = λ _. late (ap not (n .1));
-        closing = true;
-        whole = λ _ _. refl;
-        cut = λ u. absurd (true≢false (sym u ∙ ap (λ (z : Got). z .failed) (f .same) ∙ n .0));
-        lines-is = ap (λ (z : Running). z .number) (e .0 ∙ ap closed (h .passes));
+        why = late;
+        told = λ t. absurd (true≢false (sym (n .1) ∙ sym k ∙ t));
+        lines-is = rw ends (ap (λ (z : Running). z .number) (e .0 ∙ ap closed (h .passes)));
         count =
-            count-more (s .printed .total) (r .printed .total) (header ++ printedFor (drained begun) all) (closed p .out) (h .count) (e .1 .count)
+            rw ends
+            (count-more (s .printed .total) (r .printed .total) (header ++ printedFor (drained begun) all) (closed p .out) (h .count) (e .1 .count)
             ∙ ap (λ (t : List ℕ). wrapped (length t))
             (append-assoc header (printedFor (drained begun) all) (closed p .out)
             ∙ ap (λ (z : Running). header ++ (printedFor (drained begun) all ++ closed z .out)) (h .passes)
-            ∙ chunks-print all);
+            ∙ chunks-print all));
       }
 
-  pub all-served : Ended (q .number) (r .printed .total) (r .got .failed) (not (r .printed .whole))
+  pub all-served : Told
   all-served = go (brokenOff s) refl
     where
-      go : (b : Bool) → brokenOff s ≡ b → Ended (q .number) (r .printed .total) (r .got .failed) (not (r .printed .whole))
+      go : (b : Bool) → brokenOff s ≡ b → Told
       go true e = broken-ended e
       go false e = closed-ended e

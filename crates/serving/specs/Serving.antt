@@ -1,7 +1,7 @@
 -- What was read and printed up to the last chunk, and at the end.
 use Prim.Native.Nat.{ℕ, _+_, _<_}
 use mathlib.Core.Path.{_≡_}
-use mathlib.Core.Bool.{Bool, true, false, cond}
+use mathlib.Core.Bool.{Bool, true, false, not, _&&_, cond}
 use mathlib.Core.List.{List, [], _∷_, _++_}
 use lib.ListN.{length}
 use Rattle.answers.specs.Text.{header}
@@ -28,16 +28,19 @@ finally closing chunks = cond closing (closed (after chunks)) (after chunks)
 abbrev pub printedInAll : Bool → List (List ℕ) → List ℕ
 printedInAll closing chunks = cond closing (output (joined chunks)) (printedUpTo chunks)
 
--- How many lines were answered, how many bytes were handed to standard output, whether reading failed, and whether printing did.
--- No contract says which bytes are read: it is so for some chunks, of which only the last may be empty. Where nothing failed the
--- last is empty, or the turns ran out, and as many bytes as the whole output of these chunks has were handed over.
-pub record Ended (lines total : ℕ) (unread unwritten : Bool) : Type 0 where
+-- The end of the input ends a last line where no read failed and the answers to every chunk were taken.
+abbrev pub closes : Bool → Bool → Bool
+closes unread taken = not unread && taken
+
+-- How many lines were answered, how many bytes were handed to standard output, whether reading failed, whether printing did, and
+-- whether the answers to every chunk were taken, so that only the last line's may not be. No contract says which bytes are read: it is so
+-- for some chunks, of which only the last may be empty. Where all answers were taken the last is empty, or the turns ran out; where
+-- nothing failed as many bytes as the whole output of these chunks has were handed over.
+pub record Ended (lines total : ℕ) (unread unwritten taken : Bool) : Type 0 where
   pub chunks : List (List ℕ)
   pub last : List ℕ
   pub filled : Filled chunks
-  pub why : unwritten ≡ false → 0 < length last → length chunks + 1 ≡ allTurns
-  pub closing : Bool
-  pub whole : unread ≡ false → unwritten ≡ false → closing ≡ true
-  pub cut : unread ≡ true → closing ≡ false
-  pub lines-is : lines ≡ finally closing (chunks ++ (last ∷ [])) .number
-  pub count : total ≡ wrapped (length (printedInAll closing (chunks ++ (last ∷ []))))
+  pub why : taken ≡ true → 0 < length last → length chunks + 1 ≡ allTurns
+  pub told : taken ≡ false → unwritten ≡ true
+  pub lines-is : lines ≡ finally (closes unread taken) (chunks ++ (last ∷ [])) .number
+  pub count : total ≡ wrapped (length (printedInAll (closes unread taken) (chunks ++ (last ∷ []))))

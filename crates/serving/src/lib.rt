@@ -7,6 +7,12 @@ ghost use Rattle.feeds.specs.Between.{Open};
 ghost use Rattle.serving.specs.Serving.{Ended};
 ghost use Rattle.serving.specs.Between.{Fresh, Begun, Stopped, Finished};
 
+// How the reading ended: the program then, and whether the answers to every chunk were taken.
+pub struct Run {
+    pub last: Served,
+    pub taken: bool,
+}
+
 // Nothing says that an input ends: no run uses up these turns.
 const TURNS: u64 = 1 << 51;
 
@@ -71,10 +77,14 @@ pub fn serve(
     line: &mut [u8],
     chunk: &mut [u8],
     out: &mut [u8],
-) -> Served
+) -> Run
     requires { ⌜ Fresh (now store) (now line) (now chunk) (now out) × Begun header ⌝ }
-    ensures { λ r. ⌜ Ended (r .feed .number) (r .printed .total) (r .got .failed) (not (r .printed .whole)) ⌝ }
+    ensures { λ r. ⌜ Ended (r .last .feed .number) (r .last .printed .total) (r .last .got .failed)
+        (not (r .last .printed .whole)) (r .taken) ⌝ }
 {
     let served = serve_chunks(header, store, line, chunk, out);
-    finish(served, store, line, out)
+    let printed = served.printed;
+    let taken = printed.whole();
+    let last = finish(served, store, line, out);
+    Run { last, taken }
 }

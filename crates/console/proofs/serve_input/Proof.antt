@@ -10,8 +10,8 @@ requires c κs =
 
 returns : tie.Need-returns
 returns c =
-    let served = c .before .before .before .before .before .before .before .before .before .before in
-    ended-told _ _ _ _ _ _ _ (c .before .before .total .ensures) (c .before .failed .ensures) (c .whole .ensures) (served .serve .ensures)
+    let served = c .before .before .before .before .before .before .before .before .before .before .before in
+    ended-told _ _ _ _ _ _ _ _ (c .before .before .total .ensures) (c .before .failed .ensures) (c .whole .ensures) (served .serve .ensures)
 
 pub serve-input-spec : {M : Type 1} → statement M
 serve-input-spec =
