@@ -1,9 +1,9 @@
 -- A refused line changes nothing: letter by letter, from what a refused call of the library leaves.
 use Prim.Native.Nat.{ℕ, zero, suc}
-use mathlib.Core.Path.{_≡_, refl}
-use mathlib.Core.List.{List, _++_}
+use mathlib.Core.Path.{refl}
+use mathlib.Core.List.{List}
 use mathlib.Core.Bool.{Bool, true, false, cond}
-use lib.ListN.{length, getD, drop, take-append-drop}
+use lib.ListN.{length, getD, take-append-drop}
 use lib.Dec.{eqb, ltb}
 use Rattle.shape.specs.Lengths.{rowsLength}
 use Rattle.refusal.specs.Refusal.{first, outcome}

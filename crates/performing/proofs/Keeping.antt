@@ -1,12 +1,12 @@
 -- An `O` and an `M` line put their message into the record of their kind, and leave the rest of the store.
-use Prim.Native.Nat.{ℕ, _+_, _*_, _-_, _≤_, _<_}
+use Prim.Native.Nat.{ℕ, _+_, _-_, _≤_, _<_}
 use mathlib.Core.Path.{_≡_, refl, ap, ap₂, sym, subst, _∙_}
 use mathlib.Core.Bool.{Bool, true, false, not, _||_}
-use mathlib.Core.List.{List, [], _∷_, _++_}
+use mathlib.Core.List.{List, _∷_, _++_}
 use native.Mathlib.Omega.{arith}
 use borrow.Author.Tests.{le-ltb, eq-eqb}
 use lib.Dec.{eqb}
-use lib.ListN.{length, take, drop, replicate, length-drop, length-append, length-replicate}
+use lib.ListN.{length, take, drop, length-drop, length-append, length-replicate}
 use lib.Seq.{length-take-le, take-at, drop-at}
 use Rattle.lists.proofs.Parts.{length-put, part-same, part-before, part-after}
 use Rattle.poly.specs.Counting.{Elements}
@@ -25,7 +25,7 @@ use Rattle.session.proofs.RowLaws.{length-with-row}
 use Rattle.records.specs.Records.{putTests, putRefusal, putRecord, withBlock, blockOf}
 use Rattle.factory.proofs.Laws.{elements-pass}
 use Rattle.store.specs.Sizes.{openingsAt, masksAAt, masksBAt, storeRoom, recordRoom, InStreet}
-use Rattle.store.specs.Records.{recordAt, recordIf, withRecord, kept}
+use Rattle.store.specs.Records.{recordAt, recordIf, kept}
 use Rattle.store.proofs.Keeping.{record-room}
 use Rattle.states.specs.declared.State.{State}
 use Rattle.states.specs.States.{After, keepingRow, keepingTriple, refusing}
@@ -33,7 +33,7 @@ use Rattle.startlines.specs.Steps.{longestLine}
 use Rattle.postlines.specs.Steps.{heardRefusal, keepStep, keepMasksStep, keepHalvesStep, saying, hearStep}
 use Rattle.interpreter.specs.Stepping.{lettersStep, lateStep, step}
 use Rattle.performing.specs.Claims.{recordFor}
-use Rattle.performing.specs.Records.{Stored, OpeningLine, MasksKeptLine, StreetKeeps}
+use Rattle.performing.specs.Records.{Stored, StreetKeeps}
 use Rattle.performing.proofs.Heard.{line-short}
 
 none : {a b : Bool} → a ≡ false → b ≡ false → (a || b) ≡ false

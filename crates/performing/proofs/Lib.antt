@@ -1,3 +1,4 @@
 pub mod Heard
 pub mod Theorems
+pub mod Loading
 pub mod Keeping

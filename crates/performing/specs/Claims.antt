@@ -1,29 +1,32 @@
--- Document 02, (iii): "`L,dest,a,b,s,fee`; `X,a,b,first`, which makes the masks; .. `F,first`, which finishes", and document 01's `D,row,c`
--- and `G,row`: what a line does, told by the library's own calls, whose exports have these definitions in their contracts. A line of the
--- right form, its numbers in range, leaves the session and the rows that the call leaves for these numbers in this order, and answers as
--- the call does. Proved in proofs/Theorems.antt.
+-- What a line of the street program does, told by the library's own calls, whose exports have these definitions in their contracts. Document
+-- 02, (iii): "`L,dest,a,b,s,fee`", "`X,a,b,first`, which makes the masks", "`F,first`, which finishes", `T`; document 01: `D`, `G`, `R`. A
+-- line of the right form, its numbers in range, leaves the session and the rows that the call leaves for these numbers in this order, and
+-- answers as the call does. Proved in proofs/Theorems.antt and proofs/Loading.antt; Records.antt has `O` and `M`.
 use Prim.Native.Nat.{ℕ, _≤_, _<_}
 use mathlib.Core.Path.{_≡_}
 use mathlib.Core.Bool.{true}
 use mathlib.Core.List.{List, [], _∷_, _++_}
 use lib.Dec.{eqb}
-use lib.ListN.{drop, replicate}
+use lib.ListN.{length, drop, replicate}
 use Rattle.field.specs.Modulus.{p}
+use Rattle.poly.specs.Counting.{Elements}
 use Rattle.shape.specs.Bounds.{lastRow, lastTriple}
-use Rattle.shape.specs.Lengths.{rowsLength, masksLength}
+use Rattle.shape.specs.Lengths.{rowsLength, masksLength, tripleLength}
 use Rattle.refusal.specs.Refusal.{outcome}
 use Rattle.csv.specs.Fields.{written}
 use Rattle.forms.specs.Lines as Lines
 use Rattle.session.specs.declared.Session.{Session}
 use Rattle.session.specs.declared.Answer.{Answer}
 use Rattle.session.specs.Sessions.{shapeOf}
+use Rattle.session.specs.Rows.{width}
+use Rattle.load.specs.Load.{loadRowAnswer, loadRowRows, loadTripleAnswer, loadTripleRows}
 use Rattle.linear.specs.Linear.{linearAnswer, linearRows}
 use Rattle.deal.specs.Deal.{dealAnswer, dealRows}
 use Rattle.opening.specs.Opening.{openAnswer}
 use Rattle.product_masks.specs.Masks.{masksAnswer, masksOut}
 use Rattle.collect.specs.Collect.{collectAnswer}
 use Rattle.multiply.specs.Multiply.{multiplyAnswer, multiplyRows}
-use Rattle.store.specs.Sizes.{openingsAt, masksAAt, masksBAt}
+use Rattle.store.specs.Sizes.{openingsAt, masksAAt, masksBAt, InStreet}
 use Rattle.store.specs.Records.{recordAt, recordIf}
 use Rattle.states.specs.declared.State.{State}
 use Rattle.states.specs.States.{After, withSession, sessionRows}
@@ -93,6 +96,18 @@ module _ (st : State) (store : List ℕ) where
       let between = collected .session in
       Finishes collected (multiplyAnswer between rows first) (multiplyRows between rows first) (step st store (written 70 (first ∷ []))))
 
+  -- "`R,row,` and a raw row's numbers"
+  abbrev pub LoadLine : Type 0
+  LoadLine =
+      (row : ℕ) (pack : List ℕ) → row ≤ lastRow → length pack ≡ width own → Elements pack
+      → Does st store (loadRowAnswer own rows row pack) (loadRowRows own rows row pack) (step st store (written 82 (row ∷ pack)))
+
+  -- "`T,first,` and a triple's three rows of numbers"
+  abbrev pub TripleLine : Type 0
+  TripleLine =
+      (first : ℕ) (pack : List ℕ) → first ≤ lastTriple → length pack ≡ tripleLength (shapeOf own) → Elements pack
+      → Does st store (loadTripleAnswer own rows first pack) (loadTripleRows own rows first pack) (step st store (written 84 (first ∷ pack)))
+
 -- Once an `S` was accepted.
 pub record LinesPerform (st : State) (store : List ℕ) : Type 0 where
   pub linear : LinearLine st store
@@ -103,3 +118,11 @@ pub record LinesPerform (st : State) (store : List ℕ) : Type 0 where
 
 abbrev pub StreetPerforms : Type 0
 StreetPerforms = (st : State) (store : List ℕ) → st .started ≡ true → LinesPerform st store
+
+-- The same of the long lines, with n up to 32, where none is too long.
+pub record LoadsPerform (st : State) (store : List ℕ) : Type 0 where
+  pub load : LoadLine st store
+  pub triple : TripleLine st store
+
+abbrev pub StreetLoads : Type 0
+StreetLoads = (st : State) (store : List ℕ) → st .started ≡ true → InStreet (shapeOf (st .session)) → LoadsPerform st store
