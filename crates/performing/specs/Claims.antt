@@ -14,7 +14,6 @@ use Rattle.shape.specs.Bounds.{lastRow, lastTriple}
 use Rattle.shape.specs.Lengths.{rowsLength, masksLength, tripleLength}
 use Rattle.refusal.specs.Refusal.{outcome}
 use Rattle.csv.specs.Fields.{written}
-use Rattle.forms.specs.Lines as Lines
 use Rattle.session.specs.declared.Session.{Session}
 use Rattle.session.specs.declared.Answer.{Answer}
 use Rattle.session.specs.Sessions.{shapeOf}
@@ -65,7 +64,7 @@ module _ (st : State) (store : List ℕ) where
       let given = masksAnswer own rows a b first lent in
       let line = step st store (written 88 (a ∷ b ∷ first ∷ [])) in
       Does st store given rows line
-      × (line .told ≡ outcome (given .refusal) (Lines.text (Lines.masks first (own .post) (masksOut own rows a b first lent))) []))
+      × (line .told ≡ outcome (given .refusal) (written 77 (first ∷ own .post ∷ masksOut own rows a b first lent)) []))
 
   -- "`D,row,c`"
   abbrev pub DealLine : Type 0
