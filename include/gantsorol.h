@@ -230,8 +230,9 @@ gantsorol_answer gantsorol_multiply(gantsorol_session session, uint32_t *rows, s
 /*
  * A relation says that the sum of its terms is 0 modulo p. Its product terms are proved with a triple each: the masks are
  * made, sent and heard as those of single products, then every post finishes and has its part of the sum, which is opened
- * like any held number. Where the polynomials that were accepted are truly their senders', it is 0 exactly when the
- * relation holds. Nothing but the sum is shown.
+ * like any held number. Where the posts have parts of one draw, made the same deals, sums and masks, and the
+ * polynomials that were accepted are truly their senders', it is 0 exactly when the relation holds. Nothing but the sum is
+ * shown.
  *
  * The lists of masks and of records hold those of each product term, in the order of the terms, those of a - l first:
  * k product terms over the whole list of terms, also where that list is too long. A plain term adds nothing to them; without

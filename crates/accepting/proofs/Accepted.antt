@@ -18,7 +18,8 @@ pub record Accepted (test : ℕ → Bool) (j k x : ℕ) : Type 0 where
   pub before : x < j + k
 
 module _ (test : ℕ → Bool) where
-  later : (j k x : ℕ) → Accepted test (suc j) k x → Accepted test j (suc k) x
+  -- one of the posts behind j, as one of the posts from j on
+  pub later : (j k x : ℕ) → Accepted test (suc j) k x → Accepted test j (suc k) x
   later j k x a = record { passes = a .passes; from-on = omega (arith, a .from-on); before = omega (arith, a .before) }
 
   pub all-accepted : (j k need : ℕ) → All (Accepted test j k) (walk test j k need)

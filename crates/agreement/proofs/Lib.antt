@@ -1,4 +1,5 @@
 pub mod Agreeing
+pub mod Meaning
 pub mod Fitting
 pub mod Dense
 pub mod Scatter

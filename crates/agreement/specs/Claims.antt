@@ -1,4 +1,5 @@
--- Request (iv): what agreement of the accepted shares makes exact, for any nodes; proved in proofs/Agreeing.antt.
+-- Request (iv): what agreement of the accepted shares means and makes exact, for any nodes; proved in proofs/Agreeing.antt and
+-- proofs/Meaning.antt.
 use Prim.Native.Nat.{ℕ, _≤_}
 use mathlib.Core.Path.{_≡_}
 use mathlib.Core.Bool.{true}
@@ -22,3 +23,13 @@ abbrev pub TrueValuesAgree : Type 0
 TrueValuesAgree =
     (xs zs : List ℕ) → Elements xs → Distinct xs → (g : List ℕ) → length g ≤ length xs
     → allAgree xs (map (value g) xs) zs (map (value g) zs) ≡ true
+
+-- One polynomial, with as many coefficients as there are first nodes, has all these values at all these nodes.
+abbrev pub OnOne : List ℕ → List ℕ → List ℕ → List ℕ → Type 0
+OnOne xs ys zs ws = (g : List ℕ) × (length g ≡ length xs) × (map (value g) (xs ++ zs) ≡ ys ++ ws)
+
+-- "every further accepted share must lie on the same polynomial of degree at most t": all agree exactly where there is such a polynomial.
+abbrev pub AgreementMeans : Type 0
+AgreementMeans =
+    (xs ys zs ws : List ℕ) → Elements xs → Distinct xs → Elements ys → length xs ≡ length ys → length zs ≡ length ws
+    → (allAgree xs ys zs ws ≡ true → OnOne xs ys zs ws) × (OnOne xs ys zs ws → allAgree xs ys zs ws ≡ true)

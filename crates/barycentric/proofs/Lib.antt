@@ -8,4 +8,5 @@ pub mod Ascent
 pub mod Pairs
 pub mod Signs
 pub mod Moves
+pub mod Fours
 pub mod Zero

@@ -1,30 +1,29 @@
--- Products of small differences, four at once, and their signs: the turns of `spans`, what fewer than four make, and what `distances` finds.
+-- Products of small differences and their signs: that four fit, what fewer than four make, and that a weight gains four at once.
 use Prim.Native.Nat.{ℕ, suc, _+_, _-_, _*_, _%_, _≤_, _<_}
 use mathlib.Core.Path.{_≡_, refl, sym, _∙_, ap, ap₂}
 use mathlib.Core.Bool.{Bool, true, false}
-use mathlib.Core.List.{List, [], _∷_}
+use mathlib.Core.List.{List, [], _∷_, _++_}
 use native.Mathlib.Nat.{mul-le-mul, mul-assoc, mod-mod, mod-eq-of-lt}
 use native.Mathlib.Omega.{arith}
 use borrow.Author.Tests.{ltb-true, ltb-false}
 use lib.Dec.{lit<, ltb}
-use lib.ListN.{length, take, drop, getD, length-drop}
-use lib.Seq.{drop-cons, take-all}
+use lib.ListN.{length, take, drop, getD, length-take}
+use lib.Seq.{take-suc, take-all}
 use Rattle.field.specs.Modulus.{p}
 use Rattle.field.specs.Arithmetic.{difference, product}
 use Rattle.field.specs.Algebra.{CommutativeRing}
 use Rattle.field.specs.Element.{Element, element}
-use Rattle.field.proofs.Expression.{A, B, C, D, E, F, _:+_, _:*_, _:-_, :-_, Same}
+use Rattle.field.proofs.Expression.{A, B, C, D, E, _:+_, _:*_, _:-_, :-_, Same}
 use Rattle.field.proofs.Ring.{one-mul}
 use Rattle.field.proofs.Solver.{solve}
 use Rattle.field.proofs.Elements.{𝓡, element-path, element-product, element-difference, element-add, element-injective}
-use Rattle.field.proofs.Modular.{product-below, product-assoc, product-comm, product-one}
+use Rattle.field.proofs.Modular.{product-below, product-one}
 use Rattle.poly.specs.Counting.{All}
 use Rattle.poly.specs.Interpolation.{nodal}
-use Rattle.poly.proofs.Bounds.{nodal-below}
 use Rattle.inverses.specs.InverseTable.{most}
-use Rattle.barycentric.specs.Weights.{mirrored, away, spans, over, above}
+use Rattle.barycentric.specs.Weights.{alternating, mirrored, away, spans, over, above, nodeWeight, weightTo}
 use Rattle.barycentric.proofs.Pascal.{sign}
-use Rattle.barycentric.proofs.Alternating.{mirrored-below, element-mirrored}
+use Rattle.barycentric.proofs.Alternating.{element-mirrored}
 open CommutativeRing 𝓡 using (add as _⊕_, mul as _⊗_, neg)
 
 infixl 65 _⊕_
@@ -108,79 +107,56 @@ module _ (x : ℕ) (hx : x ≤ most) where
       ∙ rw (f, g, h) (ap (product (away x a)) (spans-two (b ∷ (c ∷ [])) (away x b) (away x c) (l .1) refl refl refl))
   spans-three (a ∷ (b ∷ (c ∷ (d ∷ gs)))) u v w l e i j k f g h = absurd (omega arith)
 
--- what is left behind the fours
-all-behind : (P : ℕ → Type 0) (l : List ℕ) (i : ℕ) → All P l → All P (drop i l)
-all-behind P l ℕ.zero a = a
-all-behind P [] (suc i) a = tt
-all-behind P (x ∷ l) (suc i) a = all-behind P l i (a .1)
+-- those before the fours
+all-front : (P : ℕ → Type 0) (l : List ℕ) (i : ℕ) → All P l → All P (take i l)
+all-front P l ℕ.zero a = tt
+all-front P [] (suc i) a = tt
+all-front P (x ∷ l) (suc i) a = (a .0, all-front P l i (a .1))
 
 module _ (gs : List ℕ) (i : ℕ) where
-  rest : take (length gs - i) (drop i gs) ≡ drop i gs
-  rest = take-all (length gs - i) (drop i gs) (omega (arith, length-drop i gs))
+  front : take (i - 0) (drop 0 gs) ≡ take i gs
+  front = let e : i - 0 ≡ i = omega arith in ap (λ (n : ℕ). take n gs) e
 
-  pub rest-small : All (λ g. g ≤ most) gs → All (λ g. g ≤ most) (take (length gs - i) (drop i gs))
-  rest-small a = rw rest (all-behind (λ g. g ≤ most) gs i a)
+  pub front-small : All (λ g. g ≤ most) gs → All (λ g. g ≤ most) (take (i - 0) (drop 0 gs))
+  front-small a = rw front (all-front (λ g. g ≤ most) gs i a)
 
-  pub rest-few : length gs - i ≤ 3 → length (take (length gs - i) (drop i gs)) < 4
-  rest-few h = rw rest (omega (arith, length-drop i gs))
+  pub front-few : i < 4 → length (take (i - 0) (drop 0 gs)) < 4
+  front-few h = rw front (omega (arith, length-take i gs))
 
 pub spans-below : (gs : List ℕ) (x : ℕ) → spans gs x < p
 unfolding spans
 spans-below [] x = lit< tt
 spans-below (g ∷ gs) x = product-below _ _
 
+pub distances-found : (gs : List ℕ) (few x s n v : ℕ) → s ≡ spans (take (few - 0) (drop 0 gs)) x → v ≡ mirrored (n + 1) s
+    → v ≡ mirrored (n + 1) (spans (take few gs) x)
+distances-found gs few x s n v es ev = ev ∙ ap (mirrored (n + 1)) (es ∙ ap (λ (l : List ℕ). spans l x) (front gs few))
+
+-- the product with one number more, and with four
 module _ (gs : List ℕ) (x : ℕ) where
-  pub spans-start : product 1 (spans (drop 0 gs) x) ≡ spans gs x
-  spans-start = product-comm 1 (spans gs x) ∙ product-one (spans gs x) (spans-below gs x)
+  abbrev at : ℕ → Element
+  at j = element (away x (getD gs j 0))
 
-  drop-four : (i : ℕ) → i + 3 < length gs
-      → drop i gs ≡ getD gs i 0 ∷ (getD gs (i + 1) 0 ∷ (getD gs (i + 2) 0 ∷ (getD gs (i + 3) 0 ∷ drop (i + 4) gs)))
-  drop-four i h =
-      let one : suc i ≡ i + 1 = omega arith in
-      let two : suc (i + 1) ≡ i + 2 = omega arith in
-      let three : suc (i + 2) ≡ i + 3 = omega arith in
-      let four : suc (i + 3) ≡ i + 4 = omega arith in
-      next i (i + 1) one (omega arith)
-      ∙ ap (λ (l : List ℕ). getD gs i 0 ∷ l)
-      (next (i + 1) (i + 2) two (omega arith)
-      ∙ ap (λ (l : List ℕ). getD gs (i + 1) 0 ∷ l)
-      (next (i + 2) (i + 3) three (omega arith) ∙ ap (λ (l : List ℕ). getD gs (i + 2) 0 ∷ l) (next (i + 3) (i + 4) four (omega arith))))
-    where
-      next : (j k : ℕ) → suc j ≡ k → j < length gs → drop j gs ≡ getD gs j 0 ∷ drop k gs
-      next j k q b = drop-cons gs j 0 b ∙ ap (λ (n : ℕ). getD gs j 0 ∷ drop n gs) q
-
-  abbrev sizes : ℕ → ℕ
-  sizes i = away x (getD gs i 0) * away x (getD gs (i + 1) 0) * (away x (getD gs (i + 2) 0) * away x (getD gs (i + 3) 0))
-
-  pub four-turn : (i r q v : ℕ) → i + 3 < length gs → product r (spans (drop i gs) x) ≡ spans gs x → q ≡ sizes i → v ≡ product r q
-      → product v (spans (drop (i + 4) gs) x) ≡ spans gs x
+  spans-behind : (k : ℕ) (l : List ℕ) → element (spans (l ++ (getD gs k 0 ∷ [])) x) ≡ element (spans l x) ⊗ at k
   unfolding spans Same
-  four-turn i r q v h e eq ev =
-      element-injective _ _ (product-below _ _) (product-below _ _)
-      (element-product v rest
-      ∙ ap (λ (u : Element). u ⊗ element rest)
-      (ap element ev ∙ element-product r q
-      ∙ ap (λ (u : Element). element r ⊗ u) (ap element eq ∙ element-mul _ _ ∙ ap₂ _⊗_ (element-mul _ _) (element-mul _ _)))
-      ∙ solve 𝓡 (element r ∷ at i ∷ at (i + 1) ∷ at (i + 2) ∷ at (i + 3) ∷ element rest ∷ [])
-      (A :* (B :* C :* (D :* E)) :* F) (A :* (B :* (C :* (D :* (E :* F))))) refl
-      ∙ sym
-      (element-product r _
-      ∙ ap (λ (u : Element). element r ⊗ u)
-      (element-product _ _
-      ∙ ap (λ (u : Element). at i ⊗ u)
-      (element-product _ _ ∙ ap (λ (u : Element). at (i + 1) ⊗ u) (element-product _ _ ∙ ap (λ (u : Element). at (i + 2) ⊗ u) (element-product _ _))))))
-      ∙ ap (λ (l : List ℕ). product r (spans l x)) (sym (drop-four i h)) ∙ e
-    where
-      rest : ℕ
-      rest = spans (drop (i + 4) gs) x
+  spans-behind k [] = element-product _ 1 ∙ 𝓡 .mul-comm _ _
+  spans-behind k (g ∷ l) =
+      element-product _ _ ∙ ap (λ (u : Element). element (away x g) ⊗ u) (spans-behind k l)
+      ∙ solve 𝓡 (element (away x g) ∷ element (spans l x) ∷ at k ∷ []) (A :* (B :* C)) (A :* B :* C) refl
+      ∙ ap (λ (u : Element). u ⊗ at k) (sym (element-product _ _))
 
-      at : ℕ → Element
-      at j = element (away x (getD gs j 0))
+  spans-next : (k j : ℕ) → k < length gs → j ≡ suc k → element (spans (take j gs) x) ≡ element (spans (take k gs) x) ⊗ at k
+  spans-next k j h q =
+      ap (λ (n : ℕ). element (spans (take n gs) x)) q ∙ ap (λ (l : List ℕ). element (spans l x)) (take-suc gs k 0 h) ∙ spans-behind k (take k gs)
 
-  pub four-end : (i r s v n : ℕ) → n ≡ length gs → product r (spans (drop i gs) x) ≡ spans gs x → s ≡ spans (take (n - i) (drop i gs)) x → v ≡ product r s
-      → v ≡ spans gs x
-  four-end i r s v n en e es ev =
-      ev ∙ ap (product r) (es ∙ ap (λ (l : List ℕ). spans l x) (take-all (n - i) (drop i gs) (omega (arith, length-drop i gs)))) ∙ e
+  spans-four : (k : ℕ) → k + 3 < length gs
+      → element (spans (take (k + 4) gs) x) ≡ element (spans (take k gs) x) ⊗ (at k ⊗ at (k + 1) ⊗ (at (k + 2) ⊗ at (k + 3)))
+  unfolding Same
+  spans-four k h =
+      spans-next (k + 3) (k + 4) h (omega arith) ∙ ap (λ (u : Element). u ⊗ at (k + 3)) (spans-next (k + 2) (k + 3) (omega arith) (omega arith))
+      ∙ ap (λ (u : Element). u ⊗ at (k + 2) ⊗ at (k + 3)) (spans-next (k + 1) (k + 2) (omega arith) (omega arith))
+      ∙ ap (λ (u : Element). u ⊗ at (k + 1) ⊗ at (k + 2) ⊗ at (k + 3)) (spans-next k (k + 1) (omega arith) (omega arith))
+      ∙ solve 𝓡 (element (spans (take k gs) x) ∷ at k ∷ at (k + 1) ∷ at (k + 2) ∷ at (k + 3) ∷ []) (A :* B :* C :* D :* E) (A :* (B :* C :* (D :* E))) refl
 
 -- the difference and its size
 larger : (x g : ℕ) → g ≤ x → element x ⊕ neg (element g) ≡ element (away x g)
@@ -223,8 +199,38 @@ element-spans (g ∷ gs) x =
         ∙ solve 𝓡 (element (away x g) ∷ sign 𝓡 k ∷ element (spans gs x) ∷ []) (A :* (B :* C)) (B :* (A :* C)) refl
         ∙ ap₂ (λ (j : ℕ) (u : Element). sign 𝓡 j ⊗ u) same (sym (element-product _ _))
 
-pub distances-found : (gs : List ℕ) (x s n v : ℕ) → s ≡ spans gs x → n ≡ above gs x → v ≡ mirrored (n + 1) s → v ≡ nodal gs x
-distances-found gs x s n v es en ev =
-    let q : v ≡ mirrored (above gs x + 1) (spans gs x) = ev ∙ ap₂ (λ (i j : ℕ). mirrored (i + 1) j) en es in
-    element-injective v (nodal gs x) (rw q (mirrored-below (above gs x + 1) (spans gs x) (spans-below gs x))) (nodal-below gs x)
-    (ap element q ∙ element-mirrored (above gs x) (spans gs x) ∙ sym (element-spans gs x))
+-- a weight with the distances to the first k numbers
+module _ (m : ℕ) (gs : List ℕ) (x : ℕ) where
+  element-weightTo : (k : ℕ) → element (weightTo m gs k x) ≡ element (alternating m x) ⊗ (sign 𝓡 (above gs x) ⊗ element (spans (take k gs) x))
+  unfolding weightTo
+  element-weightTo k = element-product _ _ ∙ ap (λ (u : Element). element (alternating m x) ⊗ u) (element-mirrored (above gs x) (spans (take k gs) x))
+
+  pub weight-below : (k : ℕ) → weightTo m gs k x < p
+  unfolding weightTo
+  weight-below k = product-below _ _
+
+  pub weight-start : (k n s b v : ℕ) → b ≡ alternating m x → n ≡ above gs x → s ≡ mirrored (n + 1) (spans (take k gs) x) → v ≡ product b s
+      → v ≡ weightTo m gs k x
+  unfolding weightTo
+  weight-start k n s b v eb en es ev = ev ∙ ap₂ product eb (es ∙ ap (λ (j : ℕ). mirrored (j + 1) (spans (take k gs) x)) en)
+
+  pub weight-four : (k b q v : ℕ) → k + 3 < length gs → b ≡ weightTo m gs k x
+      → q ≡ away x (getD gs k 0) * away x (getD gs (k + 1) 0) * (away x (getD gs (k + 2) 0) * away x (getD gs (k + 3) 0)) → v ≡ product b q
+      → v ≡ weightTo m gs (k + 4) x
+  unfolding Same
+  weight-four k b q v h eb eq ev =
+      element-injective v (weightTo m gs (k + 4) x) (rw ev (product-below b q)) (weight-below (k + 4))
+      (ap element ev ∙ element-product b q
+      ∙ ap₂ _⊗_ (ap element eb ∙ element-weightTo k) (ap element eq ∙ element-mul _ _ ∙ ap₂ _⊗_ (element-mul _ _) (element-mul _ _))
+      ∙ solve 𝓡 (element (alternating m x) ∷ sign 𝓡 (above gs x) ∷ element (spans (take k gs) x) ∷ four ∷ []) (A :* (B :* C) :* D) (A :* (B :* (C :* D))) refl
+      ∙ ap (λ (u : Element). element (alternating m x) ⊗ (sign 𝓡 (above gs x) ⊗ u)) (sym (spans-four gs x k h)) ∙ sym (element-weightTo (k + 4)))
+    where
+      four : Element
+      four = at gs x k ⊗ at gs x (k + 1) ⊗ (at gs x (k + 2) ⊗ at gs x (k + 3))
+
+  pub weight-all : (k : ℕ) → length gs ≤ k → weightTo m gs k x ≡ nodeWeight m gs x
+  unfolding nodeWeight
+  weight-all k h =
+      element-injective (weightTo m gs k x) (nodeWeight m gs x) (weight-below k) (product-below _ _)
+      (element-weightTo k ∙ ap (λ (l : List ℕ). element (alternating m x) ⊗ (sign 𝓡 (above gs x) ⊗ element (spans l x))) (take-all k gs h)
+      ∙ ap (λ (u : Element). element (alternating m x) ⊗ u) (sym (element-spans gs x)) ∙ sym (element-product _ _))

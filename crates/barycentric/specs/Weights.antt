@@ -7,7 +7,7 @@ use lib.Dec.{eqb, ltb}
 use lib.ListN.{length, take, drop}
 use Rattle.field.specs.Modulus.{p}
 use Rattle.field.specs.Arithmetic.{difference, product}
-use Rattle.inverses.specs.InverseTable.{Inverts}
+use Rattle.inverses.specs.InverseTable.{Inverts, most}
 use Rattle.poly.specs.Interpolation.{nodal, interpolated}
 use Rattle.barycentric.specs.Nodes.{Rising, lastOf, missing}
 
@@ -42,6 +42,10 @@ above (g ∷ gs) x = over x g + above gs x
 unfoldable pub nodeWeight : ℕ → List ℕ → ℕ → ℕ
 nodeWeight m gaps x = product (alternating m x) (nodal gaps x)
 
+-- The same, but of the distances to the list's numbers the first k only, with the sign of all.
+unfoldable pub weightTo : ℕ → List ℕ → ℕ → ℕ → ℕ
+weightTo m gaps k x = product (alternating m x) (mirrored (above gaps x + 1) (spans (take k gaps) x))
+
 -- f 0, .., f (n - 1)
 unfoldable pub firsts : (ℕ → ℕ) → ℕ → List ℕ
 firsts f zero = []
@@ -59,6 +63,14 @@ pub record Prepared (nodes inverses gaps list : List ℕ) : Type 0 where
   pub within : lastOf 0 nodes ≤ length inverses
   pub gap-room : length gaps + length nodes ≡ lastOf 0 nodes
   pub room : length list ≡ lastOf 0 nodes + 1
+
+-- The weights of 0 and of rising nodes with the distances to the first k missing numbers, at the front of a list.
+pub record Weighing (nodes gaps : List ℕ) (k : ℕ) (list : List ℕ) : Type 0 where
+  pub rising : Rising 0 nodes
+  pub within : lastOf 0 nodes ≤ most
+  pub those : gaps ≡ missing 0 nodes
+  pub room : length nodes < length list
+  pub front : take (length nodes + 1) list ≡ map (weightTo (lastOf 0 nodes) gaps k) (0 ∷ nodes)
 
 -- The nodes' weights, with the weight of 0 first.
 abbrev pub WeightsOf : List ℕ → List ℕ → Type 0

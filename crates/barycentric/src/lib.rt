@@ -10,7 +10,7 @@ ghost use Rattle.poly.specs.Counting.{All};
 ghost use Rattle.inverses.specs.InverseTable.{Inverts, most};
 ghost use Rattle.poly.specs.Interpolation.{nodal, interpolated};
 ghost use Rattle.barycentric.specs.Nodes.{Rising, lastOf, missing};
-ghost use Rattle.barycentric.specs.Weights.{alternating, mirrored, away, spans, above, nodeWeight, firsts, row, Prepared, WeightsOf};
+ghost use Rattle.barycentric.specs.Weights.{alternating, mirrored, away, spans, nodeWeight, firsts, row, Prepared, Weighing, WeightsOf};
 
 pub fn wide(x: u32) -> usize
     ensures { λ r. ⌜ r ≡ x ⌝ }
@@ -131,32 +131,48 @@ fn few_spans(gaps: &[u32], x: u32) -> u32
     two * away(x, gaps[2])
 }
 
-// The product of |x - g| over small numbers g, four to a turn.
-fn spans(gaps: &[u32], x: u32) -> u32
-    requires { ⌜ (x ≤ most) × All (λ g. g ≤ most) (now gaps) ⌝ }
-    ensures { λ r. ⌜ r ≡ spans (now (gaps .entry)) x ⌝ }
+// The product of x - g over the first few gaps, with the sign of that over all: one for each gap above x, `signs` in all.
+fn distances(gaps: &[u32], few: usize, x: u32, signs: usize) -> u32
+    requires { ⌜ (x ≤ most) × All (λ g. g ≤ most) (now gaps) × (few ≤ length (now gaps)) × (few < 4) × (signs ≤ most) ⌝ }
+    ensures { λ r. ⌜ r ≡ mirrored (signs + 1) (spans (take few (now (gaps .entry))) x) ⌝ }
 {
-    let n = gaps.len();
-    let mut r: u32 = 1;
-    let mut i = 0;
-    while 3 < n - i {
-        let next = four(x, gaps[i], gaps[i + 1], gaps[i + 2], gaps[i + 3]);
-        r = field::mul(r, next);
-        i += 4;
+    mirrored(few_spans(&gaps[0..few], x), signs + 1)
+}
+
+// The weights of 0 and the nodes move to the front of the list of all numbers' weights, each times its distances to the first few gaps. Of the
+// numbers up to node x all but i + 1 are gaps, so those above it need no count.
+fn weigh_few(nodes: &[u32], gaps: &[u32], few: usize, list: &mut [u32])
+    requires { ⌜ Rising 0 (now nodes) × (lastOf 0 (now nodes) ≤ most) × (now gaps ≡ missing 0 (now nodes))
+        × (few ≤ length (now gaps)) × (few < 4) × (lastOf 0 (now nodes) < length (now list))
+        × (now list ≡ firsts (alternating (lastOf 0 (now nodes))) (length (now list))) ⌝ }
+    ensures { λ r. ⌜ Weighing (now (nodes .entry)) (now (gaps .entry)) few (now (list .exit)) ⌝ }
+{
+    let missed = gaps.len();
+    list[0] = distances(gaps, few, 0, missed);
+    for i in 0..nodes.len() {
+        let x = wide(nodes[i]);
+        let above = missed + (i + 1) - x;
+        list[i + 1] = field::mul(list[x], distances(gaps, few, nodes[i], above));
     }
-    field::mul(r, few_spans(&gaps[i..], x))
 }
 
-// The product of x - g over small numbers g: a sign for each that is above x, `signs` in all.
-fn distances(gaps: &[u32], x: u32, signs: usize) -> u32
-    requires { ⌜ (x ≤ most) × All (λ g. g ≤ most) (now gaps) × (signs ≤ most) × (signs ≡ above (now gaps) x) ⌝ }
-    ensures { λ r. ⌜ r ≡ nodal (now (gaps .entry)) x ⌝ }
+// The weights times their distances to the next four gaps. All nodes are in one loop, so that the compiler takes several at once.
+fn weigh_four(nodes: &[u32], gaps: &[u32], k: usize, list: &mut [u32])
+    requires { ⌜ Weighing (now nodes) (now gaps) k (now list) × (k + 3 < length (now gaps)) ⌝ }
+    ensures { λ r. ⌜ Weighing (now (nodes .entry)) (now (gaps .entry)) (k + 4) (now (list .exit)) ⌝ }
 {
-    mirrored(spans(gaps, x), signs + 1)
+    let a = gaps[k];
+    let b = gaps[k + 1];
+    let c = gaps[k + 2];
+    let d = gaps[k + 3];
+    list[0] = field::mul(list[0], four(0, a, b, c, d));
+    for i in 0..nodes.len() {
+        let at = i + 1;
+        list[at] = field::mul(list[at], four(nodes[i], a, b, c, d));
+    }
 }
 
-// The weights of 0 and the nodes move to the front of the list of all numbers' weights, each times its distances to the gaps. Of the numbers
-// up to node x all but i + 1 are gaps, so those above it need no count.
+// The weights of 0 and the nodes, four gaps to a turn. What is no whole turn comes first.
 fn weigh_nodes(nodes: &[u32], gaps: &[u32], list: &mut [u32])
     requires { ⌜ Rising 0 (now nodes) × (lastOf 0 (now nodes) ≤ most) × (now gaps ≡ missing 0 (now nodes))
         × (lastOf 0 (now nodes) < length (now list))
@@ -164,26 +180,36 @@ fn weigh_nodes(nodes: &[u32], gaps: &[u32], list: &mut [u32])
     ensures { λ r. ⌜ take (length (now (nodes .entry)) + 1) (now (list .exit))
         ≡ map (nodeWeight (lastOf 0 (now (nodes .entry))) (now (gaps .entry))) (0 ∷ now (nodes .entry)) ⌝ }
 {
-    let missed = gaps.len();
-    list[0] = distances(gaps, 0, missed);
-    for i in 0..nodes.len() {
-        let x = wide(nodes[i]);
-        let above = missed + (i + 1) - x;
-        list[i + 1] = field::mul(list[x], distances(gaps, nodes[i], above));
+    let n = gaps.len();
+    let mut k = n % 4;
+    weigh_few(nodes, gaps, k, list);
+    while k < n {
+        weigh_four(nodes, gaps, k, list);
+        k += 4;
     }
 }
 
-// The product of 1 / (0 - x) over the list's numbers.
+// The product of 1 / (0 - x) over the list's numbers, two to a turn: so one product of a turn does not wait for the turn before.
 fn inverse_product(list: &[u32], inverses: &[u32]) -> u32
     requires { ⌜ Inverts (now inverses) × All (λ x. (0 < x) × (x ≤ length (now inverses))) (now list) ⌝ }
     ensures { λ r. ⌜ product r (nodal (now (list .entry)) 0) ≡ 1 ⌝ }
 {
+    let n = list.len();
     let mut r: u32 = 1;
-    for i in 0..list.len() {
+    let mut i = 0;
+    while 1 < n - i {
         let x = wide(list[i]);
-        r = field::mul(r, negative_inverse(inverses, x));
+        let y = wide(list[i + 1]);
+        r = field::mul(
+            r,
+            field::mul(negative_inverse(inverses, x), negative_inverse(inverses, y)),
+        );
+        i += 2;
     }
-    r
+    if n <= i {
+        return r;
+    }
+    field::mul(r, negative_inverse(inverses, wide(list[i])))
 }
 
 // The missing numbers and with them the nodes' weights, where a number is missing.

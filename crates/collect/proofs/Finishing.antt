@@ -1,5 +1,5 @@
 -- The refusal of a finish's first call from the groups of checks that its code joins, and what holds where there is none.
-use Prim.Native.Nat.{ℕ, _+_, _≤_}
+use Prim.Native.Nat.{ℕ, _≤_}
 use mathlib.Core.Path.{_≡_, sym, _∙_}
 use mathlib.Core.List.{List, [], _∷_, _++_}
 use native.Mathlib.Omega.{arith}
@@ -18,13 +18,14 @@ use Rattle.session.specs.declared.Party.{Party}
 use Rattle.session.specs.declared.Session.{Session}
 use Rattle.session.specs.Sessions.{shapeOf, partyOf, factorA, factorB}
 use Rattle.session.specs.Checks.{frameTests, noRow, noTriple}
-use Rattle.session.specs.Between.{Framed, Sized, RowIn, TripleIn}
+use Rattle.session.specs.Between.{Framed, RowIn, TripleIn}
 use Rattle.session.proofs.Passed.{row-below}
 use Rattle.session.proofs.Calls.{frame-passed, stopped-at-frame, past-frame}
 use Rattle.blocks.specs.Blocks as Blocks
 use Rattle.blocks.specs.Between.{Recorded}
 use Rattle.opening.specs.Walking.{recordLength, badRecord}
 use Rattle.product_masks.specs.Masks.{tripleMarks, factorNumbers, maskNumbers}
+use Rattle.mask_opening.specs.Between.{Maskable}
 use Rattle.collect.specs.Collect.{finishPlace, finishMarks, collectNumbers, collectOwn, collectChecks}
 use Rattle.product_masks.proofs.Passed.{triple-below}
 use Rattle.product_masks.proofs.Joining.{joined}
@@ -43,17 +44,10 @@ module _ (s : Session) (q : Party) (e : q ≡ partyOf s) where
   pub same-recorded : (l : List ℕ) → Recorded (partyOf s) l → Recorded q l
   same-recorded l h = rw e h
 
-  pub party-sized : (rows : List ℕ) → Framed s rows → Sized (q .shape) rows
-  party-sized rows f = rw e (f .sized)
-
-  pub party-row : (r : ℕ) → RowIn (shapeOf s) r → RowIn (q .shape) r
-  party-row r h = rw e h
-
-  pub party-first : (r : ℕ) → TripleIn (shapeOf s) r → RowIn (q .shape) r
-  party-first r i = row-below (q .shape) r (omega (arith, i .triple-in))
-
-  pub party-second : (r : ℕ) → TripleIn (shapeOf s) r → RowIn (q .shape) (r + 1)
-  party-second r i = row-below (q .shape) (r + 1) (omega (arith, i .triple-in))
+  pub party-maskable : (rows : List ℕ) (a b r : ℕ) (l l' : List ℕ) → Framed s rows → RowIn (shapeOf s) a → RowIn (shapeOf s) b
+      → TripleIn (shapeOf s) r → Recorded (partyOf s) l → Recorded (partyOf s) l' → Maskable q rows a b r l l'
+  party-maskable rows a b r l l' f ha hb hr h h' =
+      rw e (record { sized = f .sized; a-in = ha; b-in = hb; triple-in = hr; recorded-a = h; recorded-b = h' })
 
 pub marks-joined : (s : Session) (a b r u v w d e : ℕ) → u ≡ first (7 when noRow a ∷ []) → v ≡ first (7 when noRow b ∷ [])
     → w ≡ first (tripleMarks s a b r masked) → d ≡ orElse v w → e ≡ orElse u d → e ≡ first (finishMarks s a b r)

@@ -1,5 +1,5 @@
 -- The two numbers that a finish's first call opens, or its refusal, and how the call ends with them.
-use Prim.Native.Nat.{ℕ, zero, suc, _≤_}
+use Prim.Native.Nat.{ℕ, zero, suc, _+_, _≤_}
 use mathlib.Core.Path.{_≡_, refl, sym, _∙_, ap, ap₂}
 use mathlib.Core.Bool.{Bool, true, false}
 use mathlib.Core.List.{List, [], _∷_}
@@ -14,11 +14,12 @@ use Rattle.session.specs.declared.Answer.{Answer}
 use Rattle.session.specs.Sessions.{shapeOf, partyOf, answer, collectedTriple}
 use Rattle.session.specs.Between.{Allows}
 use Rattle.walk.specs.declared.Opened.{Opened}
-use Rattle.walk.specs.Number as Number
 use Rattle.walk.proofs.Settles.{decided, opened-decided}
 use Rattle.opening.specs.Walking.{tooFew, disagree, opened}
 use Rattle.product_masks.specs.Masks.{maskRow}
+use Rattle.mask_opening.specs.declared.OpenedPair.{OpenedPair}
 use Rattle.mask_opening.specs.Either.{eitherOf}
+use Rattle.mask_opening.specs.Pair.{openedPair}
 use Rattle.collect.specs.declared.OpenedMasks.{OpenedMasks}
 use Rattle.collect.specs.Collect.{maskA, maskB, unopened, found, openedBoth, collectChecks, openedMasks, collectRefusal, collectAnswer}
 use Rattle.collect.proofs.Passed.{collected}
@@ -49,20 +50,22 @@ values false false false true v v' e = absurd (omega arith)
 values false false false false v v' e = (refl, refl)
 
 -- both, from what the two openings gave
-module _ (s : Session) (m : Party) (em : m ≡ partyOf s) (rows l l' : List ℕ) (k k' r r' : ℕ) (o o' : Opened) (q : ℕ)
-    (eo : o ≡ Number.openedRow m (maskRow (m .shape) rows k r) l) (eo' : o' ≡ Number.openedRow m (maskRow (m .shape) rows k' r') l')
-    (eq : q ≡ eitherOf (o .refusal) (o' .refusal)) where
+module _ (s : Session) (m : Party) (em : m ≡ partyOf s) (rows l l' : List ℕ) (k k' r : ℕ) (o : OpenedPair) (q : ℕ)
+    (eo : o ≡ openedPair m rows k k' r l l') (eq : q ≡ eitherOf (o .a .refusal) (o .b .refusal)) where
   abbrev x : List ℕ
   x = maskRow (shapeOf s) rows k r
 
   abbrev x' : List ℕ
-  x' = maskRow (shapeOf s) rows k' r'
+  x' = maskRow (shapeOf s) rows k' (r + 1)
 
-  first-is : o ≡ decided (tooFew s x l) (disagree s x l) (opened s x l)
-  first-is = (rw em at eo) ∙ opened-decided (partyOf s) x l
+  own : o ≡ openedPair (partyOf s) rows k k' r l l'
+  own = rw em at eo
 
-  second-is : o' ≡ decided (tooFew s x' l') (disagree s x' l') (opened s x' l')
-  second-is = (rw em at eo') ∙ opened-decided (partyOf s) x' l'
+  first-is : o .a ≡ decided (tooFew s x l) (disagree s x l) (opened s x l)
+  first-is = ap (λ (z : OpenedPair). z .a) own ∙ opened-decided (partyOf s) x l
+
+  second-is : o .b ≡ decided (tooFew s x' l') (disagree s x' l') (opened s x' l')
+  second-is = ap (λ (z : OpenedPair). z .b) own ∙ opened-decided (partyOf s) x' l'
 
   few : q ≡ first (unopened s x x' l l')
   few =
@@ -75,10 +78,10 @@ module _ (s : Session) (m : Party) (em : m ≡ partyOf s) (rows l l' : List ℕ)
       ap (λ (k : ℕ). shown k 0 0) few
       ∙ refused q (first (unopened s x x' l l')) (shown 0 (opened s x l) (opened s x' l')) (shown (first (unopened s x x' l l')) 0 0) few n
 
-  pub both-opened : q ≡ 0 → shown 0 (o .value) (o' .value) ≡ openedBoth s x x' l l'
+  pub both-opened : q ≡ 0 → shown 0 (o .a .value) (o .b .value) ≡ openedBoth s x x' l l'
   both-opened z =
       let h = values (tooFew s x l) (tooFew s x' l') (disagree s x l) (disagree s x' l') (opened s x l) (opened s x' l') (rw few at z) in
-      accepted q (first (unopened s x x' l l')) (shown 0 (o .value) (o' .value)) (shown 0 (opened s x l) (opened s x' l'))
+      accepted q (first (unopened s x x' l l')) (shown 0 (o .a .value) (o .b .value)) (shown 0 (opened s x l) (opened s x' l'))
       (shown (first (unopened s x x' l l')) 0 0) few z
       (ap₂ (shown 0) (ap (λ (a : Opened). a .value) first-is ∙ h .0) (ap (λ (a : Opened). a .value) second-is ∙ h .1))
 

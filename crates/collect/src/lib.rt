@@ -1,7 +1,9 @@
 // The first call of a finish: y = a − l and y' = b − l' are opened and remembered.
 //
 // The records `record_a` and `record_b` are those of a − l and b − l'. No row is written.
+use mask_opening::OpenedPair;
 use session::Answer;
+use session::Party;
 use session::Session;
 ghost use mathlib.Core.Path.{_≡_};
 ghost use mathlib.Core.List.{[], _∷_};
@@ -13,6 +15,8 @@ ghost use Rattle.session.specs.Sessions.{shapeOf, partyOf, factorA, factorB};
 ghost use Rattle.session.specs.Checks.{noRow};
 ghost use Rattle.session.specs.Between.{Framed, RowIn, TripleIn};
 ghost use Rattle.blocks.specs.Between.{Recorded};
+ghost use Rattle.mask_opening.specs.Pair.{openedPair};
+ghost use Rattle.mask_opening.specs.Between.{Maskable};
 ghost use Rattle.collect.specs.Collect.{maskA, maskB, finishPlace, finishMarks, openedBoth, collectNumbers, collectOwn, collectChecks};
 ghost use Rattle.collect.specs.Collect.{openedMasks, collectAnswer};
 
@@ -112,6 +116,26 @@ fn collect_checks(
     collect_own(session, rows, row, record_a, record_b)
 }
 
+// Both masks, in rooms that fit the station.
+fn open_pair(
+    party: Party,
+    rows: &[u32],
+    a: usize,
+    b: usize,
+    first: usize,
+    record_a: &[u32],
+    record_b: &[u32],
+) -> OpenedPair
+    requires { ⌜ Maskable party (now rows) a b first (now «record_a») (now «record_b») ⌝ }
+    ensures { λ r. ⌜ r ≡ openedPair party (now (rows .entry)) a b first (now («record_a» .entry)) (now («record_b» .entry)) ⌝ }
+{
+    let shape = party.shape;
+    if shape.n <= shape::FEW_POSTS {
+        return mask_opening::open_few_pair(party, rows, a, b, first, record_a, record_b);
+    }
+    mask_opening::open_large_pair(party, rows, a, b, first, record_a, record_b)
+}
+
 // y and y', or 9, or 13.
 fn open_both(
     session: Session,
@@ -131,8 +155,9 @@ fn open_both(
     let a = factor_a[row] as usize;
     let b = factor_b[row] as usize;
     let party = session.party();
-    let y_a = mask_opening::open_mask(party, rows, a, row, record_a);
-    let y_b = mask_opening::open_mask(party, rows, b, row + 1, record_b);
+    let pair = open_pair(party, rows, a, b, row, record_a, record_b);
+    let y_a = pair.a;
+    let y_b = pair.b;
     let refusal = mask_opening::either(y_a.refusal, y_b.refusal);
     if refusal != 0 {
         return OpenedMasks {

@@ -1,4 +1,1 @@
-pub mod Sizes
-pub mod Serving
 pub mod Notes
-pub mod Between

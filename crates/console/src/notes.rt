@@ -1,5 +1,4 @@
 // What is said on standard error.
-use crate::port;
 ghost use mathlib.Core.Path.{_≡_};
 ghost use lib.ListN.{length};
 ghost use Rattle.console.specs.Notes.{unreadNote, unwrittenNote, noteFor};

@@ -1,16 +1,15 @@
 -- How many posts a walk takes, what counts for a post in a record that 5 and 8 let pass, and truth of all accepted and of enough.
 use Prim.Native.Nat.{ℕ, _≤_, min, _<_}
-use mathlib.Core.Path.{_≡_, sym, _∙_, ap}
+use mathlib.Core.Path.{_≡_, _∙_, ap}
 use mathlib.Core.Bool.{true, false}
 use mathlib.Core.Logic.{_≢_, _⊎_, inl, inr}
-use mathlib.Core.List.{List, [], _∷_}
+use mathlib.Core.List.{List, []}
 use native.Mathlib.Decide.{ℕ-discrete}
 use native.Mathlib.Omega.{arith}
 use borrow.Author.Tests.{lt-ltb, le-ltb, ne-eqb}
 use lib.ListN.{length, length-take}
 use Rattle.poly.specs.Counting.{Elements}
 use Rattle.poly.proofs.Lists.{all-zip}
-use Rattle.agreement.specs.Agreement.{Given}
 use Rattle.shape.specs.Marks.{present}
 use Rattle.shape.specs.Lengths.{needed, vLength}
 use Rattle.session.specs.declared.Session.{Session}
@@ -18,11 +17,9 @@ use Rattle.session.specs.Sessions.{shapeOf}
 use Rattle.blocks.specs.Blocks as Blocks
 use Rattle.accepting.proofs.Accepted.{walk-first}
 use Rattle.opening.specs.Walking.{blockMark, sent, accepts, accepted, acceptedPosts, tooFew}
-use Rattle.vectors.proofs.Passing.{all-passing, distinct-passing, given-passing}
+use Rattle.vectors.proofs.Passing.{all-passing, distinct-passing}
 use Rattle.runs.proofs.Records.{sent-there, block-many, block-low}
-use Rattle.runs.specs.Calls.{Proper, Among}
-use Rattle.runs.proofs.Inside.{all-among, inside-length}
-use Rattle.correctness.specs.Truth.{EnoughTrue}
+use Rattle.runs.specs.Calls.{Proper}
 use Rattle.correctness.specs.Claim.{howMany, AllIsEnough}
 
 -- nothing, or k elements
@@ -62,20 +59,3 @@ all-is-enough P s row blocks h a = record {
       all-zip (λ j k t. (k .from-on, omega (arith, k .before), k .passes, t)) (accepted s row blocks)
       (all-passing (accepts s row blocks) 1 (s .n)) a;
 }
-
--- and back: posts that are accepted, each once, are no more than all that are
-given-among : (x y : ℕ) (l vs : List ℕ) → Given x y l vs → Among x l
-given-among x y (n ∷ l) (v ∷ vs) (inl e) = inl (sym (e .0))
-given-among x y (n ∷ l) (v ∷ vs) (inr g) = inr (given-among x y l vs g)
-
-pub enough-accepted : (P : ℕ → List ℕ → Type 0) (s : Session) (row blocks : List ℕ) → EnoughTrue P s row blocks
-    → needed (shapeOf s) ≤ howMany s row blocks
-enough-accepted P s row blocks t =
-    let inside : length (t .good) ≤ howMany s row blocks = inside-length (t .good) (accepted s row blocks) (t .different) there in
-    omega (arith, t .many)
-  where
-    there : (j : ℕ) → Among j (t .good) → Among j (accepted s row blocks)
-    there j m =
-        let h = all-among _ (t .good) (t .theirs) j m in
-        given-among j j (accepted s row blocks) _
-        (given-passing (accepts s row blocks) (λ x. x) 1 (s .n) j (record { passes = h .2; from-on = h .0; before = omega (arith, h .1) }))

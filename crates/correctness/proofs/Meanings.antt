@@ -1,5 +1,5 @@
--- The vector of a row, by ledger and draw: a row has one at most, and the number of it is the row's plain number.
-use Prim.Native.Nat.{ℕ, _<_}
+-- The vector of a row, by ledger and draw: a row has one at most, and the number of it is the row's plain number; and so what y and y' are.
+use Prim.Native.Nat.{ℕ, _+_, _<_}
 use mathlib.Core.Path.{_≡_, refl, sym, _∙_, ap, ap₂, subst}
 use mathlib.Core.List.{List, [], _∷_}
 use lib.ListN.{getD}
@@ -7,20 +7,20 @@ use Rattle.field.specs.Modulus.{p}
 use Rattle.field.specs.Arithmetic as Arithmetic
 use Rattle.field.specs.Algebra.{CommutativeRing}
 use Rattle.field.specs.Element.{Element, element}
-use Rattle.field.proofs.Expression.{A, B, 𝟘, 𝟙, _:+_, _:*_, Same}
+use Rattle.field.proofs.Expression.{A, B, 𝟘, 𝟙, _:+_, _:*_, _:-_, :-_, Same}
 use Rattle.field.proofs.Solver.{solve}
-use Rattle.field.proofs.Elements.{𝓡, element-one, element-product, element-of-number, number-below}
-use Rattle.field.proofs.Modular.{product-below}
+use Rattle.field.proofs.Elements.{𝓡, element-one, element-product, element-difference, element-of-number, number-below}
+use Rattle.field.proofs.Modular.{product-below, difference-below}
 use Rattle.factory.specs.Calls.{dealerNumber}
-use Rattle.vectors.specs.Vector.{Vector, plusTimes, raised, number}
+use Rattle.vectors.specs.Vector.{Vector, plusTimes, raised, number, vectorOf}
 use Rattle.vectors.proofs.Linear.{number-plusTimes, sum-number}
-use Rattle.runs.specs.Draws.{Plan, Draw, IsDraw, rawDraw}
+use Rattle.runs.specs.Draws.{Plan, Draw, IsDraw, rawDraw, planShape, drawA, drawB}
 use Rattle.runs.specs.Outline.{Summand, once, times, fee}
 use Rattle.runs.proofs.Marks.{less, zeroVector, rawVector, vectorA, vectorB, vectorAB}
 use Rattle.runs.proofs.Sums.{productVector}
-use Rattle.runs.proofs.Numbers.{product-number, third-number, dealt-number}
-use Rattle.correctness.specs.Ledger.{Meaning, dealt, summed, product, Ledger, PlainOf, of-deal, of-row, of-times, of-fee, of-more, of-product, Plain, OneNumber}
-open CommutativeRing 𝓡 using (add as _⊕_, mul as _⊗_)
+use Rattle.runs.proofs.Numbers.{less-number, product-number, third-number, dealt-number}
+use Rattle.correctness.specs.Ledger.{Meaning, dealt, summed, product, Ledger, PlainOf, of-deal, of-row, of-times, of-fee, of-more, of-product, Plain, OneNumber, MaskNumbers}
+open CommutativeRing 𝓡 using (add as _⊕_, mul as _⊗_, neg)
 
 infixl 65 _⊕_
 infixl 70 _⊗_
@@ -112,6 +112,31 @@ module _ (plan : Plan) (draw : Draw) (L : Ledger) where
 
   pub plain : IsDraw plan draw → {r : ℕ} {Z : Vector} → Is r Z → Plain L r (number Z .0)
   plain is x = plain-of is x
+
+  -- the number of a − l, where l is drawn
+  less-drawn : (X : Vector) (d : List ℕ) → number (less X (vectorOf (planShape plan) d)) .0 ≡ Arithmetic.difference (number X .0) (getD d 0 0)
+  unfolding vectorOf Same
+  less-drawn X d =
+      let f = getD d 0 0 in
+      ap (λ (z : Element). z .0)
+      (less-number X (vectorOf (planShape plan) d) ∙ solve 𝓡 (number X ∷ element f ∷ []) (A :+ :- 𝟙 :* (𝟘 :+ B)) (A :- B) refl
+      ∙ ap (λ (z : Element). z ⊕ neg (element f)) (sym (element-of-number (number X))) ∙ sym (element-difference (number X .0) f))
+      ∙ number-below _ (difference-below (number X .0) f)
+
+  -- y and y' of the triple at r, by the vectors of a and b
+  pub mask-numbers : IsDraw plan draw → {r a b : ℕ} {X Y : Vector} → L (r + 2) ≡ product r a b → Is a X → Is b Y
+      → MaskNumbers plan draw L r (number (less X (vectorA plan draw r)) .0) (number (less Y (vectorB plan draw r)) .0)
+  mask-numbers is {r = r} {a = a} {b = b} {X = X} {Y = Y} means x y = record {
+    a = a;
+    b = b;
+    factors = means;
+    number-a = number X .0;
+    number-b = number Y .0;
+    plain-a = plain is x;
+    plain-b = plain is y;
+    is-y = less-drawn X (drawA plan draw r);
+    is-y' = less-drawn Y (drawB plan draw r);
+  }
 
 -- a row has one plain number at most
 same-number : (L : Ledger) {m : Meaning} {x y : ℕ} → PlainOf L m x → PlainOf L m y → x ≡ y

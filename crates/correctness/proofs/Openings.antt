@@ -1,6 +1,6 @@
 -- One post that stands by the ledger: what its openings give, and that it accepts what is true, for every record that 5 and 8
 -- let pass.
-use Prim.Native.Nat.{ℕ, _-_, _≤_}
+use Prim.Native.Nat.{ℕ, _-_, _≤_, _<_}
 use mathlib.Core.Path.{_≡_, refl, sym, _∙_, ap, subst}
 use mathlib.Core.Bool.{Bool, true, false}
 use mathlib.Core.Logic.{_≢_, _⊎_, inl, inr}
@@ -8,37 +8,37 @@ use mathlib.Core.List.{List}
 use native.Mathlib.Decide.{ℕ-discrete}
 use native.Mathlib.Omega.{arith}
 use lib.ListN.{take, drop}
-use Rattle.shape.specs.Bounds.{lastRow}
+use Rattle.shape.specs.Bounds.{rowCount, lastRow}
 use Rattle.shape.specs.Marks.{held, masked}
 use Rattle.shape.specs.Lengths.{needed, vLength}
 use Rattle.refusal.specs.Refusal.{first}
 use Rattle.session.specs.declared.Session.{Session}
 use Rattle.session.specs.declared.Answer.{Answer}
-use Rattle.session.specs.Sessions.{holding, shapeOf}
-use Rattle.opening.specs.Walking.{sent, accepts, tooFew, disagree}
+use Rattle.session.specs.Sessions.{holding, shapeOf, openedA, openedB}
+use Rattle.opening.specs.Walking.{sent, accepts, tooFew, disagree, opened}
 use Rattle.opening.specs.Opening.{openChecks, openAnswer}
 use Rattle.opening.proofs.Theorems.{open-nine, open-thirteen, open-number}
 use Rattle.collect.specs.Collect as Collect
 use Rattle.vectors.specs.Vector.{Vector, number, numbers}
 use Rattle.vectors.specs.Claims.{heldRow, Truly}
 use Rattle.vectors.proofs.HeldRows.{true-accepted}
-use Rattle.vectors.proofs.Shares.{true-agree}
+use Rattle.vectors.proofs.Shares.{true-agree, all-enough}
 use Rattle.vectors.proofs.Theorems.{opening-exact}
 use Rattle.runs.specs.Draws.{Plan, Draw, planShape}
 use Rattle.runs.specs.Calls.{Proper, Post}
-use Rattle.runs.proofs.Marks.{markOf, maskVectorA, maskVectorB}
-use Rattle.runs.proofs.Finishing.{opens-a, opens-b}
+use Rattle.runs.proofs.Marks.{markOf, rememberedA, rememberedB, less, vectorA, maskVectorA, maskVectorB, Masked}
+use Rattle.runs.proofs.Finishing.{opens-a, opens-b, opened-is}
 use Rattle.runs.proofs.Records.{own-true}
 use Rattle.runs.proofs.Start.{sizes}
 use Rattle.correctness.specs.History.{World}
-use Rattle.correctness.specs.Ledger.{Ledger, Plain}
+use Rattle.correctness.specs.Ledger.{Ledger, Plain, MaskNumbers}
 use Rattle.correctness.specs.Truth.{TrueMask, TrueOf}
-use Rattle.correctness.specs.Claim.{howMany, Opens, Collects, Right}
-use Rattle.correctness.proofs.Meanings.{Is, plain}
-use Rattle.correctness.proofs.Accepting.{Formed, too-few, not-few, formed, enough-accepted}
+use Rattle.correctness.specs.Claim.{howMany, Opens, Remembers, Collects, Right}
+use Rattle.correctness.proofs.Meanings.{Is, plain, mask-numbers}
+use Rattle.correctness.proofs.Accepting.{Formed, too-few, not-few, formed}
 use Rattle.correctness.proofs.Fitting.{all-true-of, enough-true-of, AllSaid, told-a, told-b}
 use Rattle.correctness.proofs.Permitted as Permitted
-use Rattle.correctness.proofs.Permitted.{Stander, holder, below, is-row, open-passes, waiting, collect-few, collect-done, collect-otherwise, multiply-done}
+use Rattle.correctness.proofs.Permitted.{Stander, holder, below, is-row, open-passes, waiting, collect-few, collect-done, collect-recalls, collect-otherwise, multiply-done}
 
 -- what a truth of polynomials must give, to be used in an opening
 abbrev pub Reliable : Plan → Draw → Ledger → (ℕ → ℕ → List ℕ → Type 0) → Type 0
@@ -77,6 +77,22 @@ module _ (G : Stander) where
     pub mask-b : Collect.maskB s l r ≡ heldRow s (maskVectorB M vec r)
     mask-b = opens-b (holder G) r (waiting G r five)
 
+  -- y and y' by the ledger, of a triple whose masks were made; and a session that has them
+  module _ (r : ℕ) (low : r < rowCount) (m : Masked (markOf M r)) where
+    mask-numbers-are : MaskNumbers plan draw L r (number (maskVectorA M vec r) .0) (number (maskVectorB M vec r) .0)
+    mask-numbers-are =
+        let w = f r low .waiting m in
+        let t = f r low .triple (inr m) in
+        subst (λ (A : Vector). MaskNumbers plan draw L r (number (less (vec (rememberedA M r)) A) .0) (number (maskVectorB M vec r) .0)) (sym (t .is-a))
+        (subst (λ (B : Vector). MaskNumbers plan draw L r (number (less (vec (rememberedA M r)) (vectorA plan draw r)) .0) (number (less (vec (rememberedB M r)) B) .0)) (sym (t .is-b))
+        (mask-numbers plan draw L is (w .means) (f (rememberedA M r) (w .a-low) .held (w .a-held)) (f (rememberedB M r) (w .b-low) .held (w .b-held))))
+
+    remembered : (s' : Session) → openedA s' r ≡ number (maskVectorA M vec r) .0 → openedB s' r ≡ number (maskVectorB M vec r) .0
+        → Remembers plan draw L s' r
+    remembered s' ea eb =
+        subst (λ (y : ℕ). MaskNumbers plan draw L r y (openedB s' r)) (sym ea)
+        (subst (MaskNumbers plan draw L r (number (maskVectorA M vec r) .0)) (sym eb) mask-numbers-are)
+
   module _ (P : ℕ → ℕ → List ℕ → Type 0) (truth : Reliable plan draw L P) where
     sent-is : (r : ℕ) (blocks : List ℕ) (j : ℕ) → markOf M r ≡ held → Proper s blocks → 1 ≤ j → j ≤ plan .n → j ≢ i
         → P r j (sent s (row r) blocks j) → sent s (row r) blocks j ≡ numbers (vLength (planShape plan)) (vec r .v j)
@@ -89,7 +105,7 @@ module _ (G : Stander) where
       few = λ e. ap (λ (o : Answer). o .refusal) (open-nine s l r blocks clear (too-few s (row r) blocks e));
       exact = λ e t.
           number-given (opening-exact s (vec r) l r blocks clear is-held .1 (enough e) (all-true-of s (vec r) blocks (P r) (row r) is-held gives t));
-      agreed = λ t. elim (opening-exact s (vec r) l r blocks clear is-held .2 (enough (enough-accepted (P r) s (row r) blocks t)) (enough-true-of s (vec r) blocks (P r) (row r) is-held gives t)) [
+      agreed = λ t. elim (opening-exact s (vec r) l r blocks clear is-held .2 (enough-true-of s (vec r) blocks (P r) (row r) is-held gives t)) [
         | inl o ↦ inl (number-given o)
         | inr o ↦ inr (ap (λ (o : Answer). o .refusal) o)
       ];
@@ -146,22 +162,39 @@ module _ (G : Stander) where
             ∙ true-agree s X blocks (sizes plan (G .sound) .n-element) (sym (ap (λ (y : List ℕ). tooFew s y blocks) e) ∙ not-few s x blocks many)
             (all-true-of s X blocks (Half half) x e (λ j lj hj ne o. theirs j lj hj _ o) t)
 
+        -- and the number that is opened is the vector's
+        opens-to : (x : List ℕ) (X : Vector) → x ≡ heldRow s X → (half : List ℕ → List ℕ)
+            → ((j : ℕ) → 1 ≤ j → j ≤ plan .n → (xs : List ℕ) → Half half j xs → xs ≡ numbers (vLength (planShape plan)) (X .v j))
+            → (blocks : List ℕ) → needed (shapeOf s) ≤ howMany s x blocks → TrueOf (Half half) s x blocks → opened s x blocks ≡ number X .0
+        opens-to x X e half theirs blocks many t =
+            opened-is (holder G) (sizes plan (G .sound) .n-element) x X blocks e
+            (λ few enough. all-enough s X blocks few enough (all-true-of s X blocks (Half half) x e (λ j lj hj ne o. theirs j lj hj _ o) t))
+            (not-few s x blocks many) (agrees x X e half theirs blocks many t)
+
         collects : (blocksA blocksB : List ℕ) → Proper s blocksA → Proper s blocksB
-            → Collects (Half (take (vLength (planShape plan)))) (Half (drop (vLength (planShape plan)))) q r blocksA blocksB
+            → Collects plan draw L (Half (take (vLength (planShape plan)))) (Half (drop (vLength (planShape plan)))) q r blocksA blocksB
         collects blocksA blocksB pr pr' = record {
           few = collect-few G r blocksA blocksB five pr pr';
           exact = λ e e' t t'.
-              collect-done G r blocksA blocksB five pr pr' e e'
-              (agrees (Collect.maskA s l r) (maskVectorA M vec r) (mask-a r five) (take (vLength (planShape plan))) said-a blocksA e t)
-              (agrees (Collect.maskB s l r) (maskVectorB M vec r) (mask-b r five) (drop (vLength (planShape plan))) said-b blocksB e' t');
+              let half = take (vLength (planShape plan)) in
+              let half' = drop (vLength (planShape plan)) in
+              let on = agrees (Collect.maskA s l r) (maskVectorA M vec r) (mask-a r five) half said-a blocksA e t in
+              let on' = agrees (Collect.maskB s l r) (maskVectorB M vec r) (mask-b r five) half' said-b blocksB e' t' in
+              let back = collect-recalls G r blocksA blocksB five pr pr' e e' on on' in (
+                collect-done G r blocksA blocksB five pr pr' e e' on on',
+                remembered r (below G r five) (inl five) (Collect.collectAnswer s l r blocksA blocksB .session)
+                    (back .0 ∙ opens-to (Collect.maskA s l r) (maskVectorA M vec r) (mask-a r five) half said-a blocksA e t)
+                    (back .1 ∙ opens-to (Collect.maskB s l r) (maskVectorB M vec r) (mask-b r five) half' said-b blocksB e' t'),
+              );
           otherwise = collect-otherwise G r blocksA blocksB five pr pr';
         }
 
-      pub right : Right L P (TrueMask S w (planShape plan)) q
+      pub right : Right plan draw L P (TrueMask S w (planShape plan)) q
       right = record {
         opens = opens;
         accepts-true = accepts-true;
         collects = λ r blocksA blocksB five. collects r five blocksA blocksB;
+        remembers = λ r seven. let k = G .recalls .each r seven in remembered r (below G r seven) (inr seven) s (k .is-a) (k .is-b);
         multiplies = λ r seven. multiply-done G r seven;
         accepts-a = λ r blocks j five pr lj hj x.
             true-taken (Collect.maskA s l r) (maskVectorA M vec r) (mask-a r five) blocks j lj hj (λ ne. said-a r five j lj hj _ (x ne));

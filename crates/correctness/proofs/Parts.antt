@@ -26,7 +26,7 @@ use Rattle.correctness.specs.Ledger.{Meaning, Ledger, product}
 use Rattle.correctness.specs.Truth.{TruePolynomial, TrueMask}
 use Rattle.correctness.specs.Claim.{Premises}
 use Rattle.correctness.specs.Parts.{PartOf, withPoints, HeldParts, MaskParts}
-use Rattle.correctness.proofs.Meanings.{IsOf, Is, is-dealt, is-row, is-times, is-fee, is-more, is-product, one, plain}
+use Rattle.correctness.proofs.Meanings.{IsOf, Is, is-dealt, is-row, is-times, is-fee, is-more, is-product, one, plain, mask-numbers}
 use Rattle.correctness.proofs.Standing.{Good}
 use Rattle.correctness.proofs.Fitting.{AllSaid, told-a, told-b}
 use Rattle.correctness.proofs.Permitted as Permitted
@@ -187,8 +187,11 @@ held-parts plan draw L S rows es h i r lo hi among two =
 pub mask-parts : MaskParts
 unfolding w end tripleDraw
 mask-parts plan draw L S rows es h i r lo hi among five = (
-  (_, (λ points S' rows' es' h' i' lo' hi' among' five'. both points S' rows' es' h' i' lo' hi' among' five' .0)),
-  (_, (λ points S' rows' es' h' i' lo' hi' among' five'. both points S' rows' es' h' i' lo' hi' among' five' .1)),
+  _,
+  _,
+  mask-numbers plan draw L (h .is-draw) (k .means) (k .is-a) (k .is-b),
+  (λ points S' rows' es' h' i' lo' hi' among' five'. both points S' rows' es' h' i' lo' hi' among' five' .0),
+  (λ points S' rows' es' h' i' lo' hi' among' five'. both points S' rows' es' h' i' lo' hi' among' five' .1),
 )
   where
     k : Factors plan draw L r

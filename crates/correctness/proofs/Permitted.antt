@@ -18,14 +18,14 @@ use Rattle.refusal.specs.Refusal.{_when_, first}
 use Rattle.refusal.specs.Conditions.{wrongLength, anyBeyond}
 use Rattle.refusal.proofs.Laws.{not-refused}
 use Rattle.session.specs.declared.Session.{Session}
-use Rattle.session.specs.Sessions.{shapeOf, sessionTests, mark}
+use Rattle.session.specs.Sessions.{shapeOf, sessionTests, mark, openedA, openedB}
 use Rattle.session.specs.Rows.{rowAt}
 use Rattle.session.specs.Checks.{frameTests}
 use Rattle.opening.specs.Walking.{tooFew, disagree}
 use Rattle.opening.specs.Opening.{openChecks}
 use Rattle.opening.proofs.Passed.{clear-join, open-clear}
 use Rattle.collect.specs.Collect as Collect
-use Rattle.collect.specs.Collect.{unopened, collectRefusal, collectAnswer}
+use Rattle.collect.specs.Collect.{numberA, numberB, unopened, collectRefusal, collectAnswer}
 use Rattle.multiply.specs.Multiply.{multiplyRefusal}
 use Rattle.product_masks.proofs.Passed.{Factored}
 use Rattle.collect.proofs.Passed.{CollectChecked, collect-walks}
@@ -207,12 +207,25 @@ module _ (G : Stander) where
       by-thirteen : first (unopened s xa xb blocksA blocksB) ≡ first (13 when disagree s xa blocksA ∷ 13 when disagree s xb blocksB ∷ [])
       by-thirteen = rw (not-few s xa blocksA e, not-few s xb blocksB e') refl
 
+      clear : disagree s xa blocksA ≡ false → disagree s xb blocksB ≡ false → collectRefusal s l r blocksA blocksB ≡ 0
+      clear off off' = by-walks ∙ by-thirteen ∙ ap₂ (λ (x y : Bool). first (13 when x ∷ 13 when y ∷ [])) off off'
+
       pub collect-done : disagree s xa blocksA ≡ false → disagree s xb blocksB ≡ false → Done q r blocksA blocksB
       collect-done off off' =
-          let z = by-walks ∙ by-thirteen ∙ ap₂ (λ (x y : Bool). first (13 when x ∷ 13 when y ∷ [])) off off' in (
+          let z = clear off off' in (
             answer-refusal (collectRefusal s l r blocksA blocksB) 0 _ s ∙ z,
             ap (λ (x : Post). mark (x .session) r) (settled (collectRefusal s l r blocksA blocksB) 0 _ s l l z)
                 ∙ getD-set-same (M .marks) r collected 0 (omega (arith, sized .marks, k .r-low)),
+          )
+
+      -- the session that is handed back remembers the numbers opened
+      pub collect-recalls : disagree s xa blocksA ≡ false → disagree s xb blocksB ≡ false
+          → (let s' = collectAnswer s l r blocksA blocksB .session in
+          (openedA s' r ≡ numberA s l r blocksA) × (openedB s' r ≡ numberB s l r blocksB))
+      collect-recalls off off' =
+          let back = settled (collectRefusal s l r blocksA blocksB) 0 _ s l l (clear off off') in (
+            ap (λ (x : Post). openedA (x .session) r) back ∙ getD-set-same (Y .y-a) r _ 0 (omega (arith, recalls .a-long, k .r-low)),
+            ap (λ (x : Post). openedB (x .session) r) back ∙ getD-set-same (Y .y-b) r _ 0 (omega (arith, recalls .b-long, k .r-low)),
           )
 
       pub collect-otherwise : Done q r blocksA blocksB ⊎ (collectAnswer s l r blocksA blocksB .refusal ≡ 13)

@@ -79,7 +79,7 @@ pub correct : Correct
 unfolding end
 correct plan draw L S rows es h i lo hi among =
     let v = stands plan draw L S rows es h in let g = v .posts i lo hi among in
-    subst (Right L (TruePolynomial S w) (TrueMask S w (planShape plan))) (sym (named plan draw _ i (g .marks) (g .vec) (w .posts i) (g .stands)))
+    subst (Right plan draw L (TruePolynomial S w) (TrueMask S w (planShape plan))) (sym (named plan draw _ i (g .marks) (g .vec) (w .posts i) (g .stands)))
     (right (standerOf plan draw L (h .sound) (h .is-draw) _ i lo hi (w .posts i) g) (TruePolynomial S w) (reliable plan draw L S rows es h) S w (v .lines))
   where
     w : World

@@ -12,7 +12,7 @@ use Rattle.shape.specs.Marks.{held, masked, collected}
 use Rattle.shape.specs.Lengths.{needed, vLength}
 use Rattle.session.specs.declared.Session.{Session}
 use Rattle.session.specs.declared.Answer.{Answer}
-use Rattle.session.specs.Sessions.{mark, shapeOf}
+use Rattle.session.specs.Sessions.{mark, shapeOf, openedA, openedB}
 use Rattle.session.specs.Rows.{width, rowAt}
 use Rattle.opening.specs.Walking.{sent, accepts, accepted}
 use Rattle.opening.specs.Opening.{openAnswer}
@@ -21,7 +21,7 @@ use Rattle.multiply.specs.Multiply.{multiplyAnswer}
 use Rattle.runs.specs.Draws.{Plan, Draw, IsDraw, Sound, planShape}
 use Rattle.runs.specs.Calls.{Post, opening, Proper}
 use Rattle.correctness.specs.History.{Event, history, answers, begin, Each}
-use Rattle.correctness.specs.Ledger.{Ledger, Written, Plain}
+use Rattle.correctness.specs.Ledger.{Ledger, Written, Plain, MaskNumbers}
 use Rattle.correctness.specs.Truth.{OwnPart, TruePolynomial, TrueMask, TrueOf, EnoughTrue, TrueFinish}
 
 -- The premises, on the calls of the posts S alone: sessions of one draw; the same deals, sums and masks; true polynomials in all
@@ -72,14 +72,20 @@ Done q r blocksA blocksB =
     (collectAnswer (q .session) (q .rows) r blocksA blocksB .refusal ≡ 0)
     × (mark (collectAnswer (q .session) (q .rows) r blocksA blocksB .session) r ≡ collected)
 
--- Post q collects the masks of the triple at r, which it made: 9, where either record has too few; done, where each accepted
--- polynomial of both is true; otherwise done, or 13. PA and PB say whose the polynomials of a − l and of b − l' are.
-pub record Collects (PA PB : ℕ → List ℕ → Type 0) (q : Post) (r : ℕ) (blocksA blocksB : List ℕ) : Type 0 where
+-- What a session remembers of the triple at r is y and y': "The first call opens y and y' and remembers them".
+abbrev pub Remembers : Plan → Draw → Ledger → Session → ℕ → Type 0
+Remembers plan draw L s r = MaskNumbers plan draw L r (openedA s r) (openedB s r)
+
+-- Post q collects the masks of the triple at r, which it made: 9, where either record has too few; done, and y and y' remembered in the
+-- session that is handed back, where each accepted polynomial of both is true; otherwise done, or 13. PA and PB say whose the polynomials
+-- of a − l and of b − l' are.
+pub record Collects (plan : Plan) (draw : Draw) (L : Ledger) (PA PB : ℕ → List ℕ → Type 0) (q : Post) (r : ℕ) (blocksA blocksB : List ℕ) : Type 0 where
   pub few : TooFew (q .session) (maskA (q .session) (q .rows) r) blocksA ⊎ TooFew (q .session) (maskB (q .session) (q .rows) r) blocksB
       → collectAnswer (q .session) (q .rows) r blocksA blocksB .refusal ≡ 9
   pub exact : Enough (q .session) (maskA (q .session) (q .rows) r) blocksA → Enough (q .session) (maskB (q .session) (q .rows) r) blocksB
       → TrueOf PA (q .session) (maskA (q .session) (q .rows) r) blocksA
-      → TrueOf PB (q .session) (maskB (q .session) (q .rows) r) blocksB → Done q r blocksA blocksB
+      → TrueOf PB (q .session) (maskB (q .session) (q .rows) r) blocksB
+      → Done q r blocksA blocksB × Remembers plan draw L (collectAnswer (q .session) (q .rows) r blocksA blocksB .session) r
   pub otherwise : Enough (q .session) (maskA (q .session) (q .rows) r) blocksA → Enough (q .session) (maskB (q .session) (q .rows) r) blocksB
       → Done q r blocksA blocksB ⊎ (collectAnswer (q .session) (q .rows) r blocksA blocksB .refusal ≡ 13)
 
@@ -91,7 +97,7 @@ Multiplies q r =
 -- What is so at a post: of every opening of a held row and both calls of a finish, with records that 5 and 8 let pass; and a polynomial
 -- that is truly its sender's is accepted. P r j xs says that xs is truly j's polynomial of row r, and H half r j xs that xs is
 -- truly that half of j's masks of the triple at r.
-pub record Right (L : Ledger) (P : ℕ → ℕ → List ℕ → Type 0) (H : (List ℕ → List ℕ) → ℕ → ℕ → List ℕ → Type 0) (q : Post) : Type 0 where
+pub record Right (plan : Plan) (draw : Draw) (L : Ledger) (P : ℕ → ℕ → List ℕ → Type 0) (H : (List ℕ → List ℕ) → ℕ → ℕ → List ℕ → Type 0) (q : Post) : Type 0 where
   pub opens : (r : ℕ) (blocks : List ℕ) → mark (q .session) r ≡ held → Proper (q .session) blocks → Opens L (P r) q r blocks
   -- of a held row: the own polynomial always, another's where it is truly its
   pub accepts-true : (r : ℕ) (blocks : List ℕ) (j : ℕ) → mark (q .session) r ≡ held → Proper (q .session) blocks
@@ -100,7 +106,9 @@ pub record Right (L : Ledger) (P : ℕ → ℕ → List ℕ → Type 0) (H : (Li
       → accepts (q .session) (rowIn q r) blocks j ≡ true
   pub collects : (r : ℕ) (blocksA blocksB : List ℕ) → mark (q .session) r ≡ masked → Proper (q .session) blocksA
       → Proper (q .session) blocksB
-      → Collects (H (take (vLength (shapeOf (q .session)))) r) (H (drop (vLength (shapeOf (q .session)))) r) q r blocksA blocksB
+      → Collects plan draw L (H (take (vLength (shapeOf (q .session)))) r) (H (drop (vLength (shapeOf (q .session)))) r) q r blocksA blocksB
+  -- mark 7 says that y and y' are remembered
+  pub remembers : (r : ℕ) → mark (q .session) r ≡ collected → Remembers plan draw L (q .session) r
   pub multiplies : (r : ℕ) → mark (q .session) r ≡ collected → Multiplies q r
   -- of a − l, in a collect's first record: the own polynomial always, another's where it is truly the first half of its masks
   pub accepts-a : (r : ℕ) (blocks : List ℕ) (j : ℕ) → mark (q .session) r ≡ masked → Proper (q .session) blocks
@@ -119,7 +127,7 @@ abbrev pub Correct : Type 1
 Correct =
     (plan : Plan) (draw : Draw) (L : Ledger) (S : ℕ → Type 0) (rows : ℕ → List ℕ) (es : List Event)
     → Premises plan draw L S es rows → (i : ℕ) → 1 ≤ i → i ≤ plan .n → S i
-    → Right L (TruePolynomial S (history es (begin plan draw rows)))
+    → Right plan draw L (TruePolynomial S (history es (begin plan draw rows)))
     (TrueMask S (history es (begin plan draw rows)) (planShape plan)) (history es (begin plan draw rows) .posts i)
 
 -- "before it": the answer of an opening that stands in a run, with premises on the calls before it, whatever is done behind it.

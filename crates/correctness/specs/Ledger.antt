@@ -6,7 +6,7 @@ use lib.ListN.{getD}
 use Rattle.field.specs.Modulus.{p}
 use Rattle.field.specs.Arithmetic as Arithmetic
 use Rattle.factory.specs.Calls.{dealerNumber}
-use Rattle.runs.specs.Draws.{Draw, rawDraw}
+use Rattle.runs.specs.Draws.{Plan, Draw, rawDraw, drawA, drawB}
 use Rattle.runs.specs.Outline.{Act, loads, loadsTriple, deals, opens, Summand, once, times, fee, sums, factors, collects, multiplies, takes, Given, moves, Every}
 use Rattle.runs.specs.Calls.{Actual, Call}
 
@@ -56,3 +56,16 @@ Plain L r x = PlainOf L (L r) x
 -- A row has one plain number at most.
 abbrev pub OneNumber : Type 0
 OneNumber = (L : Ledger) (r x y : ℕ) → Plain L r x → Plain L r y → x ≡ y
+
+-- "opens y and y'" (document 02, (viii)): what y and y' are, for the triple at r. The ledger has the product of the rows a and b by it. y is
+-- a's plain number less l's, and y' is b's less that of l'; the number of l, or of l', is f(0) of its draw.
+pub record MaskNumbers (plan : Plan) (draw : Draw) (L : Ledger) (r y y' : ℕ) : Type 0 where
+  pub a : ℕ
+  pub b : ℕ
+  pub factors : L (r + 2) ≡ product r a b
+  pub number-a : ℕ
+  pub number-b : ℕ
+  pub plain-a : Plain L a number-a
+  pub plain-b : Plain L b number-b
+  pub is-y : y ≡ Arithmetic.difference number-a (getD (drawA plan draw r) 0 0)
+  pub is-y' : y' ≡ Arithmetic.difference number-b (getD (drawB plan draw r) 0 0)

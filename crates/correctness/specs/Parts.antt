@@ -18,7 +18,7 @@ use Rattle.vectors.specs.Claims.{heldRow}
 use Rattle.runs.specs.Draws.{Plan, Draw, planShape}
 use Rattle.runs.specs.Calls.{Proper}
 use Rattle.correctness.specs.History.{Event, World, history, begin}
-use Rattle.correctness.specs.Ledger.{Ledger, Plain}
+use Rattle.correctness.specs.Ledger.{Ledger, Plain, MaskNumbers}
 use Rattle.correctness.specs.Truth.{TruePolynomial, TrueMask}
 use Rattle.correctness.specs.Claim.{Premises}
 
@@ -62,13 +62,12 @@ HeldParts =
     → mark (history es (begin plan draw rows) .posts i .session) r ≡ held
     → (X : Vector) × Plain L r (number X .0) × OneVector plan draw L held r (λ s rows. rowAt (width s) rows r) (λ S w. TruePolynomial S w r) X
 
--- So of a − l and of b − l', for a triple whose masks were made.
+-- So of a − l and of b − l', for a triple whose masks were made: their numbers are y and y'.
 abbrev pub MaskParts : Type 1
 MaskParts =
     (plan : Plan) (draw : Draw) (L : Ledger) (S : ℕ → Type 0) (rows : ℕ → List ℕ) (es : List Event)
     → Premises plan draw L S es rows → (i r : ℕ) → 1 ≤ i → i ≤ plan .n → S i
     → mark (history es (begin plan draw rows) .posts i .session) r ≡ masked
-    → ((X : Vector)
-    × OneVector plan draw L masked r (λ s rows. maskA s rows r) (λ S w. TrueMask S w (planShape plan) (take (vLength (planShape plan))) r) X)
-    × ((X : Vector)
-    × OneVector plan draw L masked r (λ s rows. maskB s rows r) (λ S w. TrueMask S w (planShape plan) (drop (vLength (planShape plan))) r) X)
+    → (X : Vector) × (Y : Vector) × MaskNumbers plan draw L r (number X .0) (number Y .0)
+    × OneVector plan draw L masked r (λ s rows. maskA s rows r) (λ S w. TrueMask S w (planShape plan) (take (vLength (planShape plan))) r) X
+    × OneVector plan draw L masked r (λ s rows. maskB s rows r) (λ S w. TrueMask S w (planShape plan) (drop (vLength (planShape plan))) r) Y

@@ -154,7 +154,7 @@ unfolding Computes plan drawWith drawn draw loads deals ends
 told-fails h =
     not-plain _ 24 opens-24 (omega arith) (h .exact (lit≤ tt) ((λ ne. absurd (ne refl)), ((λ ne. (tt, inl (inr (inl refl)))), tt)) .1)
 
-right-fails : (H : (List ℕ → List ℕ) → ℕ → ℕ → List ℕ → Type 0) → Right ledger (TruePolynomial Everyone end) H (end .posts 1) → ⊥
+right-fails : (H : (List ℕ → List ℕ) → ℕ → ℕ → List ℕ → Type 0) → Right plan draw ledger (TruePolynomial Everyone end) H (end .posts 1) → ⊥
 unfolding Computes plan drawWith drawn draw loads deals ends
 right-fails H h = told-fails (h .opens 4 sent-record refl (record { long = refl; low = refl }))
 
@@ -212,6 +212,6 @@ unfolding Computes plan drawWith drawn draw loads deals ends'
 told-fails' h =
     not-plain _ 54 opens-54 (omega arith) (h .exact (lit≤ tt) ((λ ne. absurd (ne refl)), ((λ ne. (tt, inl (inr (inl refl)))), tt)) .1)
 
-right-fails' : (H : (List ℕ → List ℕ) → ℕ → ℕ → List ℕ → Type 0) → Right ledger (TruePolynomial Everyone end') H (end' .posts 1) → ⊥
+right-fails' : (H : (List ℕ → List ℕ) → ℕ → ℕ → List ℕ → Type 0) → Right plan draw ledger (TruePolynomial Everyone end') H (end' .posts 1) → ⊥
 unfolding Computes plan drawWith drawn draw loads deals ends'
 right-fails' H h = told-fails' (h .opens 4 faithful-record refl (record { long = refl; low = refl }))

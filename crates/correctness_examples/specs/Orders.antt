@@ -54,7 +54,7 @@ events = before ++ ends
 abbrev pub new : World
 new = begin plan draw zeros
 
--- post 1 at the end, and a record with post 2's message; post 3's block, behind the place where the walk stops, is false
+-- post 1 at the end, and a record with post 2's message; post 3's block is false, and is looked at and rejected
 abbrev pub last : Post
 last = history events new .posts 1
 

@@ -1,14 +1,12 @@
--- Whole lines laid into a part of bytes, and numbers laid into a list with zeros behind.
-use Prim.Native.Nat.{ℕ, _+_, _-_, _≤_, _<_, _^_}
+-- Whole lines laid into a part of bytes.
+use Prim.Native.Nat.{ℕ, _+_, _≤_, _<_, _^_}
 use mathlib.Core.Path.{_≡_, ap, sym, _∙_}
-use mathlib.Core.List.{List, [], _∷_, _++_, append-nil}
+use mathlib.Core.List.{List, [], _∷_, _++_}
 use native.Mathlib.Omega.{arith}
-use borrow.Rule.Slice.PartMut.{putMid}
 use mir.Syntax.{w64}
 use mir.Val.{Fits}
-use lib.ListN.{length, set, take, drop, replicate, length-append, length-drop, length-set}
-use lib.Seq.{take-at, drop-at, take-all, drop-length, length-take-le}
-use Rattle.csv.specs.Fields.{fields, written, overwrite, fieldsAt, numbersOf, Fillable, padded}
+use lib.ListN.{length, set, length-append, length-set}
+use Rattle.csv.specs.Fields.{fields, written, overwrite}
 use Rattle.csv.proofs.Overwriting.{overwrite-byte, overwrite-twice, fields-append, length-fields-le}
 
 -- ---- how long a line is
@@ -69,23 +67,3 @@ module _ (letter : ℕ) (hs xs o : List ℕ) (h : length (written letter (hs ++ 
           let t : w₂ ++ (10 ∷ []) ≡ written letter (hs ++ xs) =
           ap (λ (l : List ℕ). letter ∷ (l ++ (10 ∷ []))) (sym (fields-append hs xs)) in
           overwrite-byte o₂ e 10 room-feed ∙ rw (n₂, q₂) (overwrite-twice o w₂ (10 ∷ []) 0 z) ∙ ap (λ (w : List ℕ). overwrite 0 w o) t
-
--- ---- numbers at the front of a list, and zeros behind
-module _ (s out : List ℕ) (at count : ℕ) (b : count ≤ length out) where
-  pub front-count : count ≡ length (take count out)
-  front-count = sym (length-take-le count out b)
-
-  pub front-fillable : Fillable (fieldsAt count s at) → Fillable (fieldsAt (length (take count out)) s at)
-  front-fillable h = rw (length-take-le count out b) h
-
-  pub front-filled : (ys zs : List ℕ) → ys ≡ numbersOf (fieldsAt (length (take count out)) s at) → length ys ≡ length (take count out)
-      → zs ≡ replicate (length (take (length (ys ++ drop count out) - count) (drop count (ys ++ drop count out)))) 0
-      → putMid count (length (ys ++ drop count out) - count) (ys ++ drop count out) zs ≡ padded (length out) (numbersOf (fieldsAt count s at))
-  front-filled ys zs e n z =
-      let c : length ys ≡ count = n ∙ length-take-le count out b in
-      let r : List ℕ = drop count out in
-      let w : ys ≡ numbersOf (fieldsAt count s at) = e ∙ rw (length-take-le count out b) in
-      let m : length (ys ++ r) - count ≡ length r = omega (arith, length-append ys r) in
-      let k : length r ≡ length out - length ys = omega (arith, length-drop count out) in
-      let q : zs ≡ replicate (length out - length ys) 0 = z ∙ rw (m, drop-at ys r count c, take-all (length r) r (omega arith), k) in
-      rw (m, take-at ys r count c, drop-at ys r count c, drop-length r, ← w, q) (ap (λ (l : List ℕ). ys ++ l) (append-nil _))

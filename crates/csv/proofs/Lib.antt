@@ -1,4 +1,5 @@
 pub mod Overwriting
+pub mod Fronting
 pub mod Laying
 pub mod Moving
 pub mod Calls
@@ -6,5 +7,7 @@ pub mod Locals
 pub mod Carrying
 pub mod Stepping
 pub mod Passing
+pub mod Rooming
+pub mod Lodging
 pub mod Single
 pub mod Reading

@@ -1,5 +1,5 @@
 -- One field at a position, and what a pass has when it has read one more.
-use Prim.Native.Nat.{ℕ, _+_, _-_, _≤_, _<_}
+use Prim.Native.Nat.{ℕ, _+_, _-_, _%_, _≤_}
 use mathlib.Core.Path.{_≡_}
 use mathlib.Core.List.{List}
 use mathlib.Core.Bool.{true, false, cond}
@@ -15,7 +15,7 @@ use Rattle.decimal.specs.Numeral.{fieldAt}
 use Rattle.csv.specs.declared.Run.the-variants.{Fields, Broken}
 use Rattle.csv.specs.declared.Read.{Read}
 use Rattle.csv.specs.declared.Tally.{Tally}
-use Rattle.csv.specs.Walk.{commaField, readAt, counted, settled, numberIn}
+use Rattle.csv.specs.Walk.{commaField, readAt, counted, settled, lowIn}
 
 module _ (s : List ℕ) (at : ℕ) where
   pub comma-short : length s ≤ at → Wrong ≡ commaField s at
@@ -49,5 +49,11 @@ module _ (t : Tally) (at : ℕ) where
   pub settle-broken : t .whole ≡ false → Broken ≡ settled t at
   settle-broken h = rw h
 
-pub number-fits : (f : Field) (x next : ℕ) → f ≡ Number x next → numberIn f < 4294967296 → Fits w32 x
-number-fits f x next w h = let q : numberIn f ≡ x = rw w in omega (arith, q)
+pub low-fits : (x : ℕ) → Fits w32 (x % 4294967296)
+low-fits x = omega arith
+
+pub low-is : (f : Field) (x next : ℕ) → f ≡ Number x next → x % 4294967296 ≡ lowIn f
+low-is f x next w = rw w
+
+pub low-none : (f : Field) → f ≡ Wrong → 0 ≡ lowIn f
+low-none f w = rw w

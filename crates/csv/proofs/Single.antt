@@ -61,7 +61,7 @@ larger-above m x = go (ltb m x) refl
     go true e = (omega (arith, ltb-true m x e), omega arith)
     go false e = (omega arith, omega (arith, ltb-false m x e))
 
-largest-above : (m : ℕ) (xs : List ℕ) → m ≤ largestFrom m xs
+pub largest-above : (m : ℕ) (xs : List ℕ) → m ≤ largestFrom m xs
 largest-above m [] = omega arith
 largest-above m (x ∷ xs) = omega (arith, larger-above m x .0, largest-above (cond (ltb m x) x m) xs)
 

@@ -1,8 +1,9 @@
 -- Document 01, "Broadcast lines": "The reader that walks the fields keeps the caller's line and how far it has read, with no copy."
-use Prim.Native.Nat.{ℕ, _+_, _-_}
-use mathlib.Core.List.{List}
-use mathlib.Core.Bool.{false, cond}
-use lib.ListN.{getD}
+use Prim.Native.Nat.{ℕ, _+_, _-_, _%_}
+use mathlib.Core.Path.{_≡_}
+use mathlib.Core.List.{List, [], _∷_}
+use mathlib.Core.Bool.{false, _&&_, cond}
+use lib.ListN.{length, getD}
 use lib.Dec.{eqb, ltb}
 use denote.Ref.{now}
 use Rattle.decimal.specs.declared.Field.{Field}
@@ -14,6 +15,7 @@ use Rattle.csv.specs.declared.Step.{Step}
 use Rattle.csv.specs.declared.Tally.{Tally}
 use Rattle.csv.specs.declared.Run.{Run}
 use Rattle.csv.specs.declared.Run.the-variants.{Fields, Broken}
+use Rattle.csv.specs.Fields.{Parsed, parsed, malformed}
 
 -- The field at a position of a line: a comma, and a number behind it.
 abbrev pub commaField : List ℕ → ℕ → Field
@@ -42,6 +44,20 @@ counted t Wrong = record { left = 0; largest = t .largest; whole = false }
 abbrev pub settled : Tally → ℕ → Run
 settled t at = cond (t .whole) (Fields (t .largest) at) Broken
 
-abbrev pub numberIn : Field → ℕ
-numberIn (Number x next) = x
-numberIn Wrong = 0
+-- What is told of fields that end at a position, where they are the last of a line.
+abbrev pub endOf : List ℕ → ℕ → ℕ → Run
+endOf s at m = cond (eqb (getD s at 0) 10 && eqb (length s) (at + 1)) (Fields m at) Broken
+
+-- The lowest 32 bits of a field's number, and of each number of a list.
+abbrev pub lowIn : Field → ℕ
+lowIn (Number x next) = x % 4294967296
+lowIn Wrong = 0
+
+unfoldable pub lows : List ℕ → List ℕ
+lows [] = []
+lows (x ∷ xs) = (x % 4294967296) ∷ lows xs
+
+-- What a room has that fields were read into: the lowest bits of their numbers, where they are fields.
+abbrev pub Roomed : Parsed → List ℕ → Type 0
+Roomed (parsed xs next) l = l ≡ lows xs
+Roomed malformed l = Unit {0}

@@ -5,9 +5,10 @@ ghost use mathlib.Core.List.{_++_};
 ghost use Prim.Native.Nat.{_+_, _≤_, _<_};
 ghost use lib.ListN.{length};
 ghost use lib.Dec.{ltb};
-ghost use Rattle.csv.specs.Fields.{field, fields, written, overwrite, fieldsAt, ended, runOf, numbersOf, Fillable, padded};
-ghost use Rattle.csv.specs.Walk.{commaField, readAt, stepFrom, counted, settled, numberIn};
+ghost use Rattle.csv.specs.Fields.{field, fields, written, overwrite, fieldsAt, ended, runOf, runFrom, numbersOf, Fillable};
+ghost use Rattle.csv.specs.Walk.{commaField, readAt, stepFrom, counted, settled, endOf, lowIn, Roomed};
 use decimal::Field;
+use decimal::lanes;
 
 // What a first pass over fields tells of them: the largest number, and the position behind them.
 pub enum Run {
@@ -15,8 +16,8 @@ pub enum Run {
     Broken,
 }
 
-// A comma and a number from a position on; the position behind.
-pub fn put_field(out: &mut [u8], at: usize, x: u32) -> usize
+// A comma and a number from a position on; the position behind. Few numbers are short.
+fn put_short(out: &mut [u8], at: usize, x: u32) -> usize
     requires { ⌜ at + length (field x) ≤ length (now out) ⌝ }
     ensures { λ r. ⌜ (r ≡ at + length (field x)) × (now (out .exit) ≡ overwrite at (field x) (now (out .entry))) ⌝ }
 {
@@ -25,6 +26,29 @@ pub fn put_field(out: &mut [u8], at: usize, x: u32) -> usize
     let end = from + decimal::size_of(x);
     decimal::put_digits(&mut out[from..end], x as u64);
     end
+}
+
+// The same for a number of nine or ten digits: ten are written, and the comma over the first where it is a zero.
+fn put_long(out: &mut [u8], at: usize, x: u32) -> usize
+    requires { ⌜ (at + length (field x) ≤ length (now out)) × (100000000 ≤ x) ⌝ }
+    ensures { λ r. ⌜ (r ≡ at + length (field x)) × (now (out .exit) ≡ overwrite at (field x) (now (out .entry))) ⌝ }
+{
+    let end = at + 1 + lanes::long_size(x);
+    let from = end - 10;
+    lanes::put_ten(&mut out[from..end], x);
+    out[at] = 44;
+    end
+}
+
+// The same for any number.
+pub fn put_field(out: &mut [u8], at: usize, x: u32) -> usize
+    requires { ⌜ at + length (field x) ≤ length (now out) ⌝ }
+    ensures { λ r. ⌜ (r ≡ at + length (field x)) × (now (out .exit) ≡ overwrite at (field x) (now (out .entry))) ⌝ }
+{
+    if x < 100000000 {
+        return put_short(out, at, x);
+    }
+    put_long(out, at, x)
 }
 
 // The same for each number of a list.
@@ -191,58 +215,77 @@ pub fn fields_at(line: &[u8], at: usize, k: usize) -> Run
     settle(tally, reader.at)
 }
 
-// The same for the last k fields of a line: behind them stands a line feed, and nothing more.
+// What is told of fields that end at a position, where they are the last of a line: a line feed stands there, and nothing behind it.
+pub fn line_end(line: &[u8], at: usize, largest: u64) -> Run
+    ensures { λ r. ⌜ r ≡ endOf (now (line .entry)) at largest ⌝ }
+{
+    if line.len() <= at {
+        return Run::Broken; // nothing behind the fields
+    }
+    if line[at] != 10 {
+        return Run::Broken; // no line feed
+    }
+    if line.len() != at + 1 {
+        return Run::Broken; // bytes behind the line feed
+    }
+    Run::Fields { largest, next: at }
+}
+
+// The same for the last k fields of a line.
 pub fn last_fields_at(line: &[u8], at: usize, k: usize) -> Run
     ensures { λ r. ⌜ r ≡ runOf (ended (now (line .entry)) (fieldsAt k (now (line .entry)) at)) ⌝ }
 {
     let run = fields_at(line, at, k);
     match run {
-        Run::Fields { largest, next } => {
-            if line.len() <= next {
-                return Run::Broken; // nothing behind the fields
-            }
-            if line[next] != 10 {
-                return Run::Broken; // no line feed
-            }
-            if line.len() != next + 1 {
-                return Run::Broken; // bytes behind the line feed
-            }
-            Run::Fields { largest, next }
-        }
+        Run::Fields { largest, next } => line_end(line, next, largest),
         Run::Broken => Run::Broken,
     }
 }
 
-fn number_of(field: Field) -> u32
-    requires { ⌜ numberIn field < 4294967296 ⌝ }
-    ensures { λ r. ⌜ r ≡ numberIn field ⌝ }
+// The lowest 32 bits of a number, in which it stands whole if it is small enough.
+fn low_of(field: Field) -> u32
+    ensures { λ r. ⌜ r ≡ lowIn field ⌝ }
 {
     match field {
-        Field::Number { value, next } => value as u32,
+        Field::Number { value, next } => (value % 4294967296) as u32,
         Field::Wrong => 0,
     }
 }
 
-// The numbers of as many fields from a position as the list has places: a second reader walks them.
+// As many fields from a position as the room has places: what they are like, and their numbers.
+pub fn read_part(line: &[u8], at: usize, largest: u64, room: &mut [u32]) -> Run
+    ensures { λ r. ⌜ (r ≡ runFrom largest (fieldsAt (length (now (room .entry))) (now (line .entry)) at))
+        × Roomed (fieldsAt (length (now (room .entry))) (now (line .entry)) at) (now (room .exit)) ⌝ }
+{
+    let mut reader = Reader { line, at };
+    let mut tally = Tally {
+        left: room.len(),
+        largest,
+        whole: true,
+    };
+    let mut i = 0;
+    while 0 < tally.left {
+        let step = next_field(reader);
+        room[i] = low_of(step.field);
+        tally = count(tally, step.field);
+        reader = step.reader;
+        i += 1;
+    }
+    settle(tally, reader.at)
+}
+
+// One field: its number, which is told as the largest, and the position behind it.
+pub fn one_field(line: &[u8], at: usize) -> Run
+    ensures { λ r. ⌜ r ≡ runOf (fieldsAt 1 (now (line .entry)) at) ⌝ }
+{
+    let mut room = [0u32; 1];
+    read_part(line, at, 0, &mut room)
+}
+
+// The numbers of as many fields from a position as the list has places, where they are known to fit.
 pub fn fill(line: &[u8], at: usize, out: &mut [u32])
     requires { ⌜ Fillable (fieldsAt (length (now out)) (now line) at) ⌝ }
     ensures { λ r. ⌜ now (out .exit) ≡ numbersOf (fieldsAt (length (now (out .entry))) (now (line .entry)) at) ⌝ }
 {
-    let mut reader = Reader { line, at };
-    let mut i = 0;
-    while i < out.len() {
-        let step = next_field(reader);
-        out[i] = number_of(step.field);
-        reader = step.reader;
-        i += 1;
-    }
-}
-
-// The numbers of `count` fields from a position at the start of a list, and 0 in the places behind.
-pub fn fill_front(line: &[u8], at: usize, count: usize, out: &mut [u32])
-    requires { ⌜ (count ≤ length (now out)) × Fillable (fieldsAt count (now line) at) ⌝ }
-    ensures { λ r. ⌜ now (out .exit) ≡ padded (length (now (out .entry))) (numbersOf (fieldsAt count (now (line .entry)) at)) ⌝ }
-{
-    fill(line, at, &mut out[..count]);
-    lists::clear(&mut out[count..]);
+    read_part(line, at, 0, out);
 }

@@ -1,5 +1,7 @@
 -- Demand 1 of a deal, with document 01's table for its tests; proved in proofs/Theorems.antt.
 use Prim.Native.Nat.{ℕ}
+use mathlib.Core.Path.{_≡_}
+use mathlib.Core.Logic.{_≢_}
 use mathlib.Core.List.{List}
 use Rattle.session.specs.declared.Session.{Session}
 use Rattle.session.specs.Sessions.{marked}
@@ -13,3 +15,8 @@ DealLawful =
     (s : Session) (rows : List ℕ) (r c : ℕ)
     → Lawful (dealTable s rows r c) 0 (marked s r 2) s
     (withRow (width s) r (plusSums (sumsAt s) c (rowAt (width s) rows r)) rows) rows (dealAnswer s rows r c) (dealRows s rows r c)
+
+-- "rows that a call doesn't name keep every number"
+abbrev pub DealKeepsOthers : Type 0
+DealKeepsOthers =
+    (s : Session) (rows : List ℕ) (r c q : ℕ) → q ≢ r → rowAt (width s) (dealRows s rows r c) q ≡ rowAt (width s) rows q

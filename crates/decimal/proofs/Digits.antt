@@ -8,10 +8,7 @@ use borrow.Author.Tests.{le-leb, leb-true}
 use lib.ListN.{length, take, length-append}
 use lib.Dec.{leb}
 use Rattle.decimal.specs.Numeral.{tens, lastDigits, isDigit, leading, valueAfter}
-
-abbrev pub Digits : List ℕ → Type 0
-Digits [] = Unit {0}
-Digits (d ∷ ds) = ((48 ≤ d) × (d ≤ 57)) × Digits ds
+pub use Rattle.decimal.specs.Between.{Digits}
 
 pub and-true : (a b : Bool) → (a && b) ≡ true → (a ≡ true) × (b ≡ true)
 and-true true b e = (refl, e)
@@ -26,6 +23,10 @@ digit-is b e = let h = and-true (leb 48 b) (leb b 57) e in (leb-true 48 b (h .0)
 pub tens-grow : (k m : ℕ) → tens k ≤ tens (m + k)
 tens-grow k zero = let e : 0 + k ≡ k = omega arith in rw e (omega arith)
 tens-grow k (suc m) = let e : suc m + k ≡ suc (m + k) = omega arith in rw e (omega (arith, tens-grow k m))
+
+pub tens-pos : (k : ℕ) → 0 < tens k
+tens-pos zero = omega arith
+tens-pos (suc k) = omega (arith, tens-pos k)
 
 -- how many
 pub length-digits : (k x : ℕ) → length (lastDigits k x) ≡ k

@@ -2,5 +2,9 @@ pub mod Digits
 pub mod Sizes
 pub mod Numerals
 pub mod Positions
+pub mod EightDigits
+pub mod Eights
 pub mod Scanning
 pub mod Spelling
+pub mod SideBySide
+pub mod Joining

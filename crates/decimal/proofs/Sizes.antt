@@ -8,7 +8,7 @@ use borrow.Author.Tests.{lt-ltb, le-ltb, ltb-true, ltb-false}
 use lib.ListN.{length, getD, List·getD-append}
 use lib.Dec.{ltb}
 use Rattle.decimal.specs.Numeral.{tens, lastDigits, sizeWithin, valueAfter}
-use Rattle.decimal.proofs.Digits.{Digits, length-digits}
+use Rattle.decimal.proofs.Digits.{Digits, tens-pos, length-digits}
 
 pub size-pos : (f x : ℕ) → 1 ≤ sizeWithin f x
 unfolding sizeWithin
@@ -79,3 +79,11 @@ first-digit (suc f) x h l = by-one-digit (ltb x 10) refl (first-digit f (x / 10)
         let j : ℕ = sizeWithin f (x / 10) in
         let n : 0 < length (lastDigits j (x / 10)) = omega (arith, length-digits j (x / 10), size-pos f (x / 10)) in
         g (omega arith) (omega arith) (sym (List·getD-append (lastDigits j (x / 10)) _ 0 0 n) ∙ z)
+
+-- a number of so many places has so many digits
+pub size-places : (f k x : ℕ) → k ≤ f → tens k ≤ x → x < tens (suc k) → sizeWithin f x ≡ suc k
+unfolding sizeWithin
+size-places f zero x h l u = size-one f x (omega arith)
+size-places zero (suc k) x h l u = absurd (omega arith)
+size-places (suc f) (suc k) x h l u =
+    rw (le-ltb x 10 (omega (arith, tens-pos k))) (omega (arith, size-places f k (x / 10) (omega arith) (omega arith) (omega arith)))

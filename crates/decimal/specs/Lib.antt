@@ -1,2 +1,3 @@
 pub mod Numeral
 pub mod Between
+pub mod Lanes

@@ -4,3 +4,5 @@ pub mod Ranges
 pub mod RoundTrip
 pub mod Longest
 pub mod Cases
+pub mod Joining
+pub mod Fronts

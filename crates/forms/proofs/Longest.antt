@@ -7,6 +7,8 @@ use native.Mathlib.Omega.{arith}
 use borrow.Author.Tests.{le-ltb}
 use lib.ListN.{length, replicate, length-append, length-replicate}
 use lib.Dec.{eqb}
+use Rattle.shape.specs.Bounds.{mostPosts}
+use Rattle.shape.specs.Lengths.{shape, vLength}
 use Rattle.refusal.specs.Conditions.{outside, anyBeyond}
 use Rattle.refusal.proofs.Laws.{inside}
 use Rattle.decimal.specs.Numeral.{sizeWithin, size}
@@ -80,9 +82,11 @@ pub longest-lines : LongestLines
 unfolding sizeWithin
 longest-lines = (refl, refl, refl)
 
--- fewer posts, or a smaller t, make no line longer
-longest-grows : (n m t : ℕ) → n ≤ m → t + 1 ≤ n → longest n (t + 1) ≤ longest m m
-longest-grows n m t h g = omega (arith, size-grows 9 n m h)
+-- fewer posts, or fewer coefficients, make no line longer
+longest-grows : (n m k : ℕ) → n ≤ m → k ≤ m → longest n k ≤ longest m m
+longest-grows n m k h g = omega (arith, size-grows 9 n m h)
 
 pub at-most-5619 : AtMost5619
-at-most-5619 n t m h g s = omega (arith, none-longer n (t + 1) m (omega arith) s, longest-grows n 255 t h g, longest-lines .1)
+at-most-5619 n t m h g s =
+    let k = vLength (shape n t) in
+    omega (arith, none-longer n k m (omega arith) s, longest-grows n mostPosts k h (omega arith), longest-lines .1)

@@ -1,7 +1,7 @@
--- The scan of a line: each way in which it ends.
+-- The head of a line: each way in which it ends.
 use Prim.Native.Nat.{ℕ, suc, _+_, _*_, _≤_, _<_}
-use mathlib.Core.Path.{_≡_, refl, ap, sym, _∙_}
-use mathlib.Core.List.{List, [], _∷_, _++_}
+use mathlib.Core.Path.{_≡_, refl, ap, _∙_}
+use mathlib.Core.List.{List, [], _∷_}
 use mathlib.Core.Bool.{Bool, true, false, _&&_, cond}
 use native.Mathlib.Omega.{arith}
 use borrow.Author.Tests.{eq-eqb, ne-eqb}
@@ -9,28 +9,12 @@ use lib.ListN.{length, getD, List·getD-eq-default}
 use lib.Dec.{eqb}
 use Rattle.csv.specs.declared.Run.{Run}
 use Rattle.csv.specs.declared.Run.the-variants.{Fields, Broken}
-use Rattle.csv.specs.Fields.{Parsed, parsed, malformed, push, fieldsAt, ended, runOf, largestFrom}
+use Rattle.csv.specs.Fields.{Parsed, parsed, malformed, push, fieldsAt, ended, runOf}
 use Rattle.csv.proofs.Single.{first-found, first-broken}
-use Rattle.forms.specs.declared.Form.{Form}
-use Rattle.forms.specs.declared.Form.the-variants.{Right, Wrong}
-use Rattle.forms.specs.Forms.{isLetter, numberCount, fieldCount, formOf, headOf, ScanOf, scanRest}
-
--- ---- the numbers behind row and post
-module _ (s : List ℕ) (letter row post at count : ℕ) (r : Run) (e : r ≡ runOf (ended s (fieldsAt count s at))) where
-  pub rest-broken : r ≡ Broken → Wrong ≡ scanRest letter row post at count (ended s (fieldsAt count s at))
-  rest-broken w = go (ended s (fieldsAt count s at)) (sym e ∙ w)
-    where
-      go : (o : Parsed) → runOf o ≡ Broken → Wrong ≡ scanRest letter row post at count o
-      go malformed q = refl
-      go (parsed xs next) q = let z : _≡_ {A = ℕ} 0 1 = cc in absurd (omega arith)
-
-  pub rest-found : (largest next : ℕ) → r ≡ Fields largest next
-      → Right letter row post at count largest ≡ scanRest letter row post at count (ended s (fieldsAt count s at))
-  rest-found largest next w = go (ended s (fieldsAt count s at)) (sym e ∙ w)
-    where
-      go : (o : Parsed) → runOf o ≡ Fields largest next → Right letter row post at count largest ≡ scanRest letter row post at count o
-      go malformed q = let z : _≡_ {A = ℕ} 0 1 = cc in absurd (omega arith)
-      go (parsed xs then) q = let a : largest ≡ largestFrom 0 xs = cc in ap (Right letter row post at count) a
+use Rattle.forms.specs.declared.Head.{Head}
+use Rattle.forms.specs.declared.Head.the-variants.{Right}
+use Rattle.forms.specs.Forms.{isLetter, numberCount, fieldCount, formOf}
+use Rattle.forms.specs.Between.{before, HeadOf}
 
 -- ---- the letter
 module _ (k b count : ℕ) (h : 1 ≤ k) (e : count ≡ cond (isLetter b) (numberCount k b) 0) where
@@ -53,11 +37,7 @@ module _ (k b count : ℕ) (h : 1 ≤ k) (e : count ≡ cond (isLetter b) (numbe
       go true l q = absurd (omega (arith, some-number (eqb b 68) (eqb b 79)))
       go false l q = refl
 
--- ---- the scan of a line, which is the form's
-abbrev before : List ℕ → Parsed → Parsed
-before hs (parsed xs next) = parsed (hs ++ xs) next
-before hs malformed = malformed
-
+-- ---- the head of a line
 ended-push : (s : List ℕ) (x : ℕ) (o : Parsed) → ended s (push x o) ≡ before (x ∷ []) (ended s o)
 ended-push s x malformed = refl
 ended-push s x (parsed xs next) = go (eqb (getD s next 0) 10 && eqb (length s) (next + 1))
@@ -69,21 +49,6 @@ ended-push s x (parsed xs next) = go (eqb (getD s next 0) 10 && eqb (length s) (
 before-before : (x y : ℕ) (o : Parsed) → before (x ∷ []) (before (y ∷ []) o) ≡ before (x ∷ y ∷ []) o
 before-before x y malformed = refl
 before-before x y (parsed xs next) = refl
-
--- the scan ends as its last part does
-scan-is : (o : Parsed) (s : List ℕ) (letter row post at count : ℕ) (r : Form) → letter ≡ getD s 0 0 → (letter ≡ 68 → post ≡ 0)
-    → o ≡ before (headOf letter row post) (ended s (fieldsAt count s at)) → r ≡ scanRest letter row post at count (ended s (fieldsAt count s at)) → ScanOf o s r
-scan-is o s letter row post at count r l p e q = go (fieldsAt count s at) refl e q
-  where
-    last : (xs : List ℕ) (next : ℕ) (t : Bool) → fieldsAt count s at ≡ parsed xs next → o ≡ before (headOf letter row post) (cond t (parsed xs next) malformed)
-        → r ≡ scanRest letter row post at count (cond t (parsed xs next) malformed) → ScanOf o s r
-    last xs next true f e q =
-        rw q record { numbers = xs; next = next; letter-is = l; post-is = p; all = e; rest = f; largest-is = refl }
-    last xs next false f e q = rw q e
-
-    go : (x : Parsed) → fieldsAt count s at ≡ x → o ≡ before (headOf letter row post) (ended s x) → r ≡ scanRest letter row post at count (ended s x) → ScanOf o s r
-    go malformed f e q = rw q e
-    go (parsed xs next) f e q = last xs next (eqb (getD s next 0) 10 && eqb (length s) (next + 1)) f e q
 
 module _ (k : ℕ) (s : List ℕ) where
   pub scan-empty : length s < 1 → formOf k s ≡ malformed
@@ -119,10 +84,19 @@ module _ (k : ℕ) (s : List ℕ) where
         behind-row =
             fields-are (suc left) one-more ∙ ap (ended s) (first-found left s 1 r e row next w) ∙ ended-push s row (fieldsAt left s next)
 
-        pub scan-deal : (v : Form) → getD s 0 0 ≡ 68 → v ≡ scanRest (getD s 0 0) row 0 next count (ended s (fieldsAt count s next)) → ScanOf (formOf k s) s v
+        enough : count ≤ 2 * k
+        enough = by-letter (eqb (getD s 0 0) 68) (eqb (getD s 0 0) 79) (letter-there k (getD s 0 0) count h c g .1)
+          where
+            by-letter : (x y : Bool) → count ≡ cond x 1 (cond y k (2 * k)) → count ≤ 2 * k
+            by-letter true y q = omega arith
+            by-letter false true q = omega arith
+            by-letter false false q = omega arith
+
+        pub scan-deal : (v : Head) → getD s 0 0 ≡ 68 → v ≡ Right (getD s 0 0) row 0 next count → HeadOf k s v
         scan-deal v d q =
             let z : 0 + count ≡ count = omega arith in
-            scan-is (formOf k s) s (getD s 0 0) row 0 next count v refl (λ u. refl) (behind-row ∙ rw (eq-eqb (getD s 0 0) 68 d, z)) q
+            rw q
+            record { letter-is = refl; post-is = λ u. refl; few = enough; all = behind-row ∙ rw (eq-eqb (getD s 0 0) 68 d, z) }
 
         module _ (d : getD s 0 0 ≡ 68 → ⊥) (p : Run) (f : p ≡ runOf (fieldsAt 1 s next)) where
           one : left ≡ suc count
@@ -131,11 +105,15 @@ module _ (k : ℕ) (s : List ℕ) where
           pub scan-no-post : p ≡ Broken → formOf k s ≡ malformed
           scan-no-post u = behind-row ∙ rw (one, first-broken count s next p f u)
 
-          pub scan-posted : (v : Form) (post at : ℕ) → p ≡ Fields post at
-              → v ≡ scanRest (getD s 0 0) row post at count (ended s (fieldsAt count s at)) → ScanOf (formOf k s) s v
+          pub scan-posted : (v : Head) (post at : ℕ) → p ≡ Fields post at → v ≡ Right (getD s 0 0) row post at count → HeadOf k s v
           scan-posted v post at u q =
-              scan-is (formOf k s) s (getD s 0 0) row post at count v refl (λ x. absurd (d x))
-              (behind-row
-              ∙ rw (one, first-found count s next p f post at u, ended-push s post (fieldsAt count s at), ne-eqb (getD s 0 0) 68 d)
-              (before-before row post (ended s (fieldsAt count s at))))
-              q
+              rw q
+              record {
+                letter-is = refl;
+                post-is = λ x. absurd (d x);
+                few = enough;
+                all =
+                    behind-row
+                    ∙ rw (one, first-found count s next p f post at u, ended-push s post (fieldsAt count s at), ne-eqb (getD s 0 0) 68 d)
+                    (before-before row post (ended s (fieldsAt count s at)));
+              }

@@ -4,6 +4,8 @@ use Prim.Native.Nat.{ℕ, _+_, _*_, _≤_, _<_}
 use mathlib.Core.Path.{_≡_}
 use mathlib.Core.List.{List}
 use lib.ListN.{length, replicate}
+use Rattle.shape.specs.Bounds.{mostPosts}
+use Rattle.shape.specs.Lengths.{shape, vLength}
 use Rattle.refusal.specs.Refusal.{first}
 use Rattle.decimal.specs.Numeral.{tens, size}
 use Rattle.forms.specs.Lines.{Message, masks, text}
@@ -49,4 +51,4 @@ abbrev pub LongestLines : Type 0
 LongestLines = (longest 32 32 ≡ 712) × (longest 255 255 ≡ 5619) × (longest 255 509 ≡ 11207)
 
 abbrev pub AtMost5619 : Type 0
-AtMost5619 = (n t : ℕ) (m : Message) → n ≤ 255 → t + 1 ≤ n → Sent n (t + 1) m → length (text m) ≤ 5619
+AtMost5619 = (n t : ℕ) (m : Message) → n ≤ mostPosts → t < n → Sent n (vLength (shape n t)) m → length (text m) ≤ 5619

@@ -2,8 +2,8 @@
 use lines::Line;
 use lines::Written;
 ghost use mathlib.Core.Path.{_≡_};
-ghost use Prim.Native.Nat.{_+_};
 ghost use lib.ListN.{length};
+ghost use Rattle.shape.specs.Lengths.{shape, vLength};
 ghost use Rattle.forms.specs.Lines.{text, deal, opening, masks};
 ghost use Rattle.forms.specs.Forms.{message};
 ghost use Rattle.lines.specs.Writing.{writeDealRefusal, writeOpeningRefusal, writeMasksRefusal, writtenAs, partAs};
@@ -63,9 +63,9 @@ pub extern "C" fn gantsorol_write_masks(
 
 #[no_mangle]
 pub extern "C" fn gantsorol_read(n: usize, t: usize, line: &[u8], out: &mut [u32]) -> Line
-    ensures { λ r. ⌜ r ≡ lineAs (readRefusal n t (now (line .entry)) (now (out .entry))) (message (t + 1) (now (line .entry))) ⌝ }
+    ensures { λ r. ⌜ r ≡ lineAs (readRefusal n t (now (line .entry)) (now (out .entry))) (message (vLength (shape n t)) (now (line .entry))) ⌝ }
     ensures { λ r. ⌜ now (out .exit)
-        ≡ listAs (readRefusal n t (now (line .entry)) (now (out .entry))) (message (t + 1) (now (line .entry))) (now (out .entry)) ⌝ }
+        ≡ listAs (readRefusal n t (now (line .entry)) (now (out .entry))) (message (vLength (shape n t)) (now (line .entry))) (now (out .entry)) ⌝ }
 {
     lines::read(n, t, line, out)
 }

@@ -18,7 +18,7 @@ pub extern "C" fn gantsorol_relation_masks(
     ensures { λ r. ⌜ r ≡ relationMasksAnswer session (now (rows .entry)) (collected (now (terms .entry))) (now (out .entry)) ⌝ }
     ensures { λ r. ⌜ now (out .exit) ≡ relationMasksOut session (now (rows .entry)) (collected (now (terms .entry))) (now (out .entry)) ⌝ }
 {
-    relation::masks::masks(session, rows, terms::collect(terms), out)
+    relation_masks::masks(session, rows, terms::collect(terms), out)
 }
 
 #[no_mangle]

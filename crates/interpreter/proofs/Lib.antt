@@ -2,3 +2,4 @@ pub mod Ends
 pub mod Room
 pub mod Ranges
 pub mod Cutting
+pub mod Keeping

@@ -1,5 +1,7 @@
 -- Demand 1 of a linear call, with document 01's table for its tests; proved in proofs/Theorems.antt.
 use Prim.Native.Nat.{ℕ}
+use mathlib.Core.Path.{_≡_}
+use mathlib.Core.Logic.{_≢_}
 use mathlib.Core.List.{List}
 use Rattle.session.specs.declared.Session.{Session}
 use Rattle.session.specs.Sessions.{marked}
@@ -14,3 +16,9 @@ LinearLawful =
     → Lawful (linearTable s rows r a b scale fee) 0 (marked s r 2) s
     (withRow (width s) r (summed (sumsAt s) scale fee (rowAt (width s) rows a) (rowAt (width s) rows b)) rows) rows
     (linearAnswer s rows r a b scale fee) (linearRows s rows r a b scale fee)
+
+-- "rows that a call doesn't name keep every number", and so do the rows a and b, where they are not the one written
+abbrev pub LinearKeepsOthers : Type 0
+LinearKeepsOthers =
+    (s : Session) (rows : List ℕ) (r a b scale fee q : ℕ) → q ≢ r
+    → rowAt (width s) (linearRows s rows r a b scale fee) q ≡ rowAt (width s) rows q

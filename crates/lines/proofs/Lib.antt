@@ -1,3 +1,4 @@
+pub mod Measuring
 pub mod Refusing
 pub mod Answers
 pub mod Sending

@@ -1,18 +1,20 @@
 -- The checks of a line to be written, one after the other, and the two ways in which writing ends.
-use Prim.Native.Nat.{ℕ, _+_, _-_, _*_, _≤_, _<_}
+use Prim.Native.Nat.{ℕ, _≤_, _<_}
 use mathlib.Core.Path.{_≡_, refl, ap, sym, _∙_}
 use mathlib.Core.List.{List, [], _∷_, _++_}
+use mathlib.Core.Bool.{Bool, true, false}
 use native.Mathlib.Omega.{arith}
 use borrow.Author.Tests.{lt-ltb, le-ltb, eq-eqb, ne-eqb, ltb-false}
-use mir.Syntax.{w32, w64}
+use mir.Syntax.{w32}
 use mir.Val.{Fits}
 use lib.ListN.{length}
 use lib.Dec.{ltb}
-use Rattle.shape.specs.Bounds.{fewestPosts, mostPosts}
+use Rattle.shape.specs.Lengths.{shape, vLength, masksLength}
 use Rattle.refusal.specs.Refusal.{Test, _when_, first, outcome, AllFail}
 use Rattle.refusal.specs.Conditions.{beyond, anyBeyond, postsTests}
 use Rattle.refusal.proofs.Groups.{stopped, went-on}
 use Rattle.refusal.proofs.Laws.{all-fail, inside}
+use Rattle.refusal.proofs.Ranges.{posts-passed}
 use Rattle.refusal.proofs.Endings.{refused, accepted}
 use Rattle.csv.specs.Fields.{written}
 use Rattle.forms.specs.Lines.{deal, text, lastRow}
@@ -51,15 +53,15 @@ module _ (n letter count row post : ℕ) (xs : List ℕ) (room : ℕ) where
           pub number-beyond : (g ≡ 0 → ⊥) → g ≡ refusal
           number-beyond h = stopped (8 when anyBeyond xs ∷ []) room-test tt g e h ∙ behind
 
-          module _ (z : g ≡ 0) (m : ℕ) (w : m ≡ length (written 0 (row ∷ post ∷ xs))) where
+          module _ (z : g ≡ 0) (lacks : Bool) (w : lacks ≡ ltb room (length (written 0 (row ∷ post ∷ xs)))) where
             ends : (r : ℕ) → r ≡ first room-test → r ≡ refusal
             ends r q = went-on (8 when anyBeyond xs ∷ []) room-test tt g e r z q ∙ behind
 
-            pub part-short : room < m → 12 ≡ refusal
-            part-short h = ends 12 (rw (← w, lt-ltb room m h))
+            pub part-short : lacks ≡ true → 12 ≡ refusal
+            part-short h = ends 12 (rw (← w, h))
 
-            pub part-fits : m ≤ room → 0 ≡ refusal
-            part-fits h = ends 0 (rw (← w, le-ltb room m h))
+            pub part-fits : lacks ≡ false → 0 ≡ refusal
+            part-fits h = ends 0 (rw (← w, h))
 
   -- a line that is not refused
   module _ (r : ℕ) (e : r ≡ refusal) (z : r ≡ 0) where
@@ -69,14 +71,14 @@ module _ (n letter count row post : ℕ) (xs : List ℕ) (room : ℕ) where
     pub posted-row : Fits w32 row
     posted-row = omega (arith, ltb-false (lastRow letter) row (none-holds .1 .1 .0), last-row-le letter)
 
-    pub posted-post : n ≤ 4294967295 → Fits w32 post
+    pub posted-post : n ≤ 255 → Fits w32 post
     posted-post h = let b = inside 1 n post (none-holds .0) in omega arith
 
     pub posted-room : length (written letter ((row ∷ post ∷ []) ++ xs)) ≤ room
     posted-room = ltb-false room _ (none-holds .1 .1 .1 .1 .0)
 
-pub row-fits : (letter row last : ℕ) → last ≡ lastRow letter → row ≤ last → Fits w32 row
-row-fits letter row last l h = omega (arith, last-row-le letter)
+pub row-low : (letter row last : ℕ) → last ≡ lastRow letter → row ≤ last → row ≤ 95
+row-low letter row last l h = omega (arith, last-row-le letter)
 
 -- ---- 6, 8 and 12 of a `D`
 module _ (row c room : ℕ) where
@@ -124,25 +126,14 @@ module _ (n t f : ℕ) (e : f ≡ first (postsTests n t)) where
   posts-keep ys new old h = refused f (lineRefusal n t ys) new old (posts-refuse ys h) h
 
   module _ (z : f ≡ 0) where
-    posts-fine : (n ≤ mostPosts) × (t ≤ n - 1)
-    posts-fine =
-        let a = all-fail (postsTests n t) tt (sym e ∙ z) in
-        (inside fewestPosts mostPosts n (a .0) .1, inside 1 (n - 1) t (a .1 .0) .1)
+    pub posts-n : n ≤ 255
+    posts-n = let v = posts-passed n t f e z in omega (arith, v .n-in)
 
-    pub posts-n : n ≤ 4294967295
-    posts-n = omega (arith, posts-fine .0)
+    pub posts-one : (k : ℕ) → k ≡ vLength (shape n t) → k ≤ 4294967296
+    posts-one k q = let v = posts-passed n t f e z in omega (arith, v .n-in, v .t-in)
 
-    pub posts-one : t + 1 ≤ 4294967296
-    posts-one = let b = posts-fine in omega arith
-
-    pub posts-two : 2 * (t + 1) ≤ 4294967296
-    posts-two = let b = posts-fine in omega arith
-
-    pub posts-add : Fits w64 (t + 1)
-    posts-add = omega (arith, posts-one)
-
-    pub posts-mul : Fits w64 (2 * (t + 1))
-    posts-mul = omega (arith, posts-two)
+    pub posts-two : (k : ℕ) → k ≡ masksLength (shape n t) → k ≤ 4294967296
+    posts-two k q = let v = posts-passed n t f e z in omega (arith, v .n-in, v .t-in)
 
     pub posts-pass : (ys : List Test) → first ys ≡ lineRefusal n t ys
     unfolding lineRefusal
@@ -163,3 +154,14 @@ module _ (n t f : ℕ) (e : f ≡ first (postsTests n t)) (z : f ≡ 0) (ys : Li
 
   pub list-then : (v new old : List ℕ) → v ≡ outcome (first ys) new old → v ≡ outcome (lineRefusal n t ys) new old
   list-then v new old h = h ∙ ap (λ (r : ℕ). outcome r new old) (posts-pass n t f e z ys)
+
+-- of a line with a post, whose numbers were counted by the shape
+module _ (n t f : ℕ) (e : f ≡ first (postsTests n t)) (z : f ≡ 0) (letter k count row post : ℕ) (q : k ≡ count) (xs : List ℕ) (room : ℕ) where
+  abbrev counted : ℕ → List Test
+  counted c = postedTests n letter c row post xs room
+
+  pub posted-answer : (v : Written) (line : List ℕ) → v ≡ writtenAs (first (counted k)) line → v ≡ writtenAs (lineRefusal n t (counted count)) line
+  posted-answer v line h = answer-then n t f e z (counted count) v line (rw q at h)
+
+  pub posted-list : (v new old : List ℕ) → v ≡ outcome (first (counted k)) new old → v ≡ outcome (lineRefusal n t (counted count)) new old
+  posted-list v new old h = list-then n t f e z (counted count) v new old (rw q at h)

@@ -1,5 +1,5 @@
 -- Between writer and reader: the reader takes every line that a writer makes, and a writer makes every line that the reader takes.
-use Prim.Native.Nat.{ℕ, _+_, _*_, _≤_, _<_}
+use Prim.Native.Nat.{ℕ, _≤_, _<_}
 use mathlib.Core.Path.{_≡_, refl, ap, sym, _∙_}
 use mathlib.Core.List.{List, [], _∷_}
 use mathlib.Core.Bool.{Bool, true, false, not, _||_, cond}
@@ -8,6 +8,7 @@ use borrow.Author.Tests.{le-ltb, eq-eqb, eqb-true, eqb-false}
 use lib.ListN.{length, getD}
 use lib.Dec.{ltb, eqb}
 use Rattle.shape.specs.Bounds.{fewestPosts, mostPosts}
+use Rattle.shape.specs.Lengths.{shape, vLength, masksLength}
 use Rattle.refusal.specs.Refusal.{Test, _when_, first}
 use Rattle.refusal.specs.Conditions.{outside, wrongLength, beyond, anyBeyond, postsTests}
 use Rattle.refusal.proofs.Laws.{first-join, orElse-zero, all-fail, not-refused, or-false, inside, equal}
@@ -33,7 +34,11 @@ module _ (n t : ℕ) (ys : List Test) where
 
 -- ---- what a writer takes is a message that posts send
 module _ (n t : ℕ) where
-  deal-sent : (row c room : ℕ) → writeDealRefusal n t row c room ≡ 0 → Sent n (t + 1) (deal row c)
+  -- the number of a message's coefficients
+  abbrev k : ℕ
+  k = vLength (shape n t)
+
+  deal-sent : (row c room : ℕ) → writeDealRefusal n t row c room ≡ 0 → Sent n k (deal row c)
   unfolding anyBeyond
   deal-sent row c room e =
       let a = all-fail (dealtTests row c room) tt (both-zero n t (dealtTests row c room) e .1) in
@@ -44,8 +49,8 @@ module _ (n t : ℕ) where
   posted letter row post xs = record { letter = letter; row = row; post = post; numbers = xs }
 
   module _ (row post : ℕ) (xs : List ℕ) (room : ℕ) where
-    posted-sent : (letter count : ℕ) → isLetter letter ≡ true → eqb letter 68 ≡ false → count ≡ numberCount (t + 1) letter
-        → lineRefusal n t (postedTests n letter count row post xs room) ≡ 0 → Sent n (t + 1) (posted letter row post xs)
+    posted-sent : (letter count : ℕ) → isLetter letter ≡ true → eqb letter 68 ≡ false → count ≡ numberCount k letter
+        → lineRefusal n t (postedTests n letter count row post xs room) ≡ 0 → Sent n k (posted letter row post xs)
     posted-sent letter count l d c e =
         let ys : List Test = postedTests n letter count row post xs room in
         let a = all-fail ys tt (both-zero n t ys e .1) in
@@ -56,25 +61,25 @@ module _ (n t : ℕ) where
           in-range = rw (a .1 .1 .0, d, a .0, a .1 .1 .1 .0);
         }
 
-    opening-sent : writeOpeningRefusal n t row post xs room ≡ 0 → Sent n (t + 1) (opening row post xs)
-    opening-sent e = posted-sent 79 (t + 1) refl refl refl e
+    opening-sent : writeOpeningRefusal n t row post xs room ≡ 0 → Sent n k (opening row post xs)
+    opening-sent e = posted-sent 79 k refl refl refl e
 
-    masks-sent : writeMasksRefusal n t row post xs room ≡ 0 → Sent n (t + 1) (masks row post xs)
-    masks-sent e = posted-sent 77 (2 * (t + 1)) refl refl refl e
+    masks-sent : writeMasksRefusal n t row post xs room ≡ 0 → Sent n k (masks row post xs)
+    masks-sent e = posted-sent 77 (masksLength (shape n t)) refl refl refl e
 
   -- and the reader takes its line back, whatever the tests ys of the writer were
-  writer-to-reader : (ys : List Test) (m : Message) (out : List ℕ) → lineRefusal n t ys ≡ 0 → Sent n (t + 1) m → length out ≡ 2 * (t + 1)
-      → (readRefusal n t (text m) out ≡ 0) × (message (t + 1) (text m) ≡ m)
+  writer-to-reader : (ys : List Test) (m : Message) (out : List ℕ) → lineRefusal n t ys ≡ 0 → Sent n k m → length out ≡ masksLength (shape n t)
+      → (readRefusal n t (text m) out ≡ 0) × (message k (text m) ≡ m)
   writer-to-reader ys m out e h l =
       let p = both-zero n t ys e .0 in
       let a = all-fail (postsTests n t) tt p in
       let b : n < tens 10 = omega (arith, inside fewestPosts mostPosts n (a .0) .1) in
-      let r = written-reads-back n (t + 1) m b h in
-      let zs : List Test = 5 when wrongLength out (2 * (t + 1)) ∷ lineTests n (t + 1) (text m) in
-      let f : first zs ≡ 0 = rw (eq-eqb (length out) (2 * (t + 1)) l) (r .0) in
+      let r = written-reads-back n k m b h in
+      let zs : List Test = 5 when wrongLength out (masksLength (shape n t)) ∷ lineTests n k (text m) in
+      let f : first zs ≡ 0 = rw (eq-eqb (length out) (masksLength (shape n t)) l) (r .0) in
       (zero-both n t zs p f, r .1)
 
-  read-back : (ys : List Test) (m : Message) → (lineRefusal n t ys ≡ 0 → Sent n (t + 1) m) → (part out : List ℕ)
+  read-back : (ys : List Test) (m : Message) → (lineRefusal n t ys ≡ 0 → Sent n k m) → (part out : List ℕ)
       → ReadBack n t (lineRefusal n t ys) m part out
   read-back ys m h part out e l =
       let r = writer-to-reader ys m out e (h e) l in
@@ -82,16 +87,16 @@ module _ (n t : ℕ) where
       (ap (λ (x : Message). lineAs 0 x) (r .1), ap (λ (x : Message). listAs 0 x out) (r .1))
 
   -- ---- a message that posts send is taken by its writer, where the part has room
-  sent-row : (m : Message) → Sent n (t + 1) m → ltb (lastRow (m .letter)) (m .row) ≡ false
+  sent-row : (m : Message) → Sent n k m → ltb (lastRow (m .letter)) (m .row) ≡ false
   sent-row m h = or-false (ltb (lastRow (m .letter)) (m .row)) _ (h .in-range) .0
 
-  sent-rest : (m : Message) → Sent n (t + 1) m → (cond (eqb (m .letter) 68) false (outside 1 n (m .post)) ≡ false) × (anyBeyond (m .numbers) ≡ false)
+  sent-rest : (m : Message) → Sent n k m → (cond (eqb (m .letter) 68) false (outside 1 n (m .post)) ≡ false) × (anyBeyond (m .numbers) ≡ false)
   sent-rest m h =
       or-false (cond (eqb (m .letter) 68) false (outside 1 n (m .post))) (anyBeyond (m .numbers))
       (or-false (ltb (lastRow (m .letter)) (m .row)) _ (h .in-range) .1)
 
   module _ (p : first (postsTests n t) ≡ 0) (row post : ℕ) (xs : List ℕ) (room : ℕ) where
-    sent-posted : (letter count : ℕ) → eqb letter 68 ≡ false → count ≡ numberCount (t + 1) letter → Sent n (t + 1) (posted letter row post xs)
+    sent-posted : (letter count : ℕ) → eqb letter 68 ≡ false → count ≡ numberCount k letter → Sent n k (posted letter row post xs)
         → length (text (posted letter row post xs)) ≤ room → lineRefusal n t (postedTests n letter count row post xs room) ≡ 0
     sent-posted letter count d c h l =
         let r = sent-rest (posted letter row post xs) h in
@@ -100,7 +105,7 @@ module _ (n t : ℕ) where
         (not-refused ys
         (rw d at (r .0), (ap not (eq-eqb (length xs) count (h .count ∙ sym c)), (sent-row (posted letter row post xs) h, (r .1, (le-ltb room _ (rw d at l), tt))))))
 
-    sent-deal : Sent n (t + 1) (posted 68 row post xs)
+    sent-deal : Sent n k (posted 68 row post xs)
         → length (text (posted 68 row post xs)) ≤ room → writeDealRefusal n t row (getD xs 0 0) room ≡ 0
     unfolding anyBeyond
     sent-deal h l = go xs (h .count) (sent-rest _ h .1) l
@@ -115,14 +120,14 @@ module _ (n t : ℕ) where
 
     -- by the letter
     by-letter : (letter : ℕ) (x y z : Bool) → eqb letter 68 ≡ x → eqb letter 79 ≡ y → eqb letter 77 ≡ z → (x || (y || z)) ≡ true
-        → Sent n (t + 1) (posted letter row post xs) → length (text (posted letter row post xs)) ≤ room
+        → Sent n k (posted letter row post xs) → length (text (posted letter row post xs)) ≤ room
         → cond x (writeDealRefusal n t row (getD xs 0 0) room) (cond y (writeOpeningRefusal n t row post xs room) (writeMasksRefusal n t row post xs room)) ≡ 0
     by-letter letter true y z d o m i h l = let e = eqb-true letter 68 d in sent-deal (rw e at h) (rw e at l)
-    by-letter letter false true z d o m i h l = let e = eqb-true letter 79 o in sent-posted 79 (t + 1) refl refl (rw e at h) (rw e at l)
-    by-letter letter false false true d o m i h l = let e = eqb-true letter 77 m in sent-posted 77 (2 * (t + 1)) refl refl (rw e at h) (rw e at l)
+    by-letter letter false true z d o m i h l = let e = eqb-true letter 79 o in sent-posted 79 k refl refl (rw e at h) (rw e at l)
+    by-letter letter false false true d o m i h l = let e = eqb-true letter 77 m in sent-posted 77 (masksLength (shape n t)) refl refl (rw e at h) (rw e at l)
     by-letter letter false false false d o m i h l = let z : _≡_ {A = ℕ} 0 1 = cc in absurd (omega arith)
 
-    sent-is-written : (letter : ℕ) → Sent n (t + 1) (posted letter row post xs) → length (text (posted letter row post xs)) ≤ room → writeRefusal n t (posted letter row post xs) room ≡ 0
+    sent-is-written : (letter : ℕ) → Sent n k (posted letter row post xs) → length (text (posted letter row post xs)) ≤ room → writeRefusal n t (posted letter row post xs) room ≡ 0
     sent-is-written letter h l = by-letter letter (eqb letter 68) (eqb letter 79) (eqb letter 77) refl refl refl (h .letter-is) h l
 
 pub writers-read-back : WritersReadBack
@@ -130,20 +135,20 @@ writers-read-back = record {
   deal-back = λ n t row c part out.
       read-back n t (dealtTests row c (length part)) (deal row c) (deal-sent n t row c (length part)) part out;
   opening-back = λ n t row post xs part out.
-      read-back n t (postedTests n 79 (t + 1) row post xs (length part)) (opening row post xs)
+      read-back n t (postedTests n 79 (vLength (shape n t)) row post xs (length part)) (opening row post xs)
       (opening-sent n t row post xs (length part)) part out;
   masks-back = λ n t row post xs part out.
-      read-back n t (postedTests n 77 (2 * (t + 1)) row post xs (length part)) (masks row post xs)
+      read-back n t (postedTests n 77 (masksLength (shape n t)) row post xs (length part)) (masks row post xs)
       (masks-sent n t row post xs (length part)) part out;
 }
 
 -- ---- every line that the reader takes is the one that the writer makes of its message
 pub reader-to-writer : ReaderToWriter
 reader-to-writer n t s out e =
-    let ys : List Test = 5 when wrongLength out (2 * (t + 1)) ∷ lineTests n (t + 1) s in
+    let ys : List Test = 5 when wrongLength out (masksLength (shape n t)) ∷ lineTests n (vLength (shape n t)) s in
     let b = both-zero n t ys e in
     let a = all-fail ys tt (b .1) in
-    let r = read-is-written n (t + 1) s (not-refused (lineTests n (t + 1) s) (a .1)) in
-    let m : Message = message (t + 1) s in
+    let r = read-is-written n (vLength (shape n t)) s (not-refused (lineTests n (vLength (shape n t)) s) (a .1)) in
+    let m : Message = message (vLength (shape n t)) s in
     let l : length (text m) ≤ length s = omega (arith, ap length (r .0)) in
     (r .0, sent-is-written n t (b .0) (m .row) (m .post) (m .numbers) (length s) (m .letter) (r .1) l)

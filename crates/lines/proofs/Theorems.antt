@@ -7,6 +7,7 @@ use native.Mathlib.Nat.{zero-add}
 use native.Mathlib.Omega.{arith}
 use lib.ListN.{length, take, drop}
 use lib.Seq.{take-at, drop-at}
+use Rattle.shape.specs.Lengths.{shape, vLength}
 use Rattle.refusal.specs.Refusal.{Test, first, outcome, Ordered}
 use Rattle.refusal.proofs.Decided.{decides, keeps}
 use Rattle.csv.specs.Fields.{overwrite, padded}
@@ -54,9 +55,9 @@ lines-lawful = record {
   write-masks = λ n t row post xs part.
       write-lawful (writeMasksTable n t row post xs (length part)) (omega arith) (text (masks row post xs)) part;
   read-answer = λ n t s out.
-      let m = message (t + 1) s in
+      let m = message (vLength (shape n t)) s in
       keeps Line 1 (readTable n t s out) (omega arith) (record { refusal = 0; letter = m .letter; row = m .row; post = m .post })
       (noLine (first (readTable n t s out)));
   read-list = λ n t s out.
-      keeps (List ℕ) 1 (readTable n t s out) (omega arith) (padded (length out) (message (t + 1) s .numbers)) out;
+      keeps (List ℕ) 1 (readTable n t s out) (omega arith) (padded (length out) (message (vLength (shape n t)) s .numbers)) out;
 }

@@ -48,7 +48,7 @@ pub record LinesLawful : Type 0 where
       (listAs (readRefusal n t s out) (message (vLength (shape n t)) s) out)
 
 -- ---- demand 2
--- The bytes that a writer with this refusal laid for m, read into a list of 2(t+1) numbers: the reader says m again.
+-- The bytes that a writer with this refusal laid for m, read into a list as long as masks: the reader says m again.
 abbrev pub ReadBack : ℕ → ℕ → ℕ → Message → List ℕ → List ℕ → Type 0
 ReadBack n t refusal m part out =
     let s = take (writtenAs refusal (text m) .len) (partAs refusal (text m) part) in

@@ -1,7 +1,9 @@
 -- Reading a line: which refusal, and what a call leaves.
 use Prim.Native.Nat.{ℕ}
 use mathlib.Core.List.{List, _∷_}
+use mathlib.Core.Bool.{Bool, cond}
 use lib.ListN.{length}
+use Rattle.field.specs.Modulus.{p}
 use Rattle.shape.specs.Lengths.{shape, vLength, masksLength}
 use Rattle.refusal.specs.Refusal.{_when_, outcome}
 use Rattle.refusal.specs.Conditions.{wrongLength}
@@ -16,6 +18,10 @@ readRefusal n t s out = lineRefusal n t (5 when wrongLength out (masksLength (sh
 
 abbrev pub noLine : ℕ → Line
 noLine refusal = record { refusal = refusal; letter = 0; row = 0; post = 0 }
+
+-- What a line's numbers stay below: p, or 0 where its row or post is out of range.
+abbrev pub limitOf : Bool → ℕ
+limitOf misplaced = cond misplaced 0 p
 
 -- The answer: letter, row and post, or the refusal and zeros.
 abbrev pub lineAs : ℕ → Message → Line

@@ -1,16 +1,19 @@
 // Broadcast lines: `D`, `O` and `M` written into a lent part of bytes and read from a lent line.
 ghost use mathlib.Core.Path.{_≡_};
-ghost use Prim.Native.Nat.{_+_, _*_, _≤_};
+ghost use Prim.Native.Nat.{_*_, _≤_};
 ghost use mathlib.Core.List.{_∷_};
 ghost use lib.ListN.{length};
+ghost use lib.Dec.{ltb};
 ghost use Rattle.shape.specs.Lengths.{shape, vLength};
 ghost use Rattle.refusal.specs.Refusal.{first};
 ghost use Rattle.csv.specs.Fields.{written};
 ghost use Rattle.forms.specs.Lines.{text, deal, opening, masks};
 ghost use Rattle.forms.specs.Forms.{message, lineTests};
 ghost use Rattle.lines.specs.Writing.{postedTests, dealtTests, writeDealRefusal, writeOpeningRefusal, writeMasksRefusal, notWritten, writtenAs, partAs};
-ghost use Rattle.lines.specs.Reading.{readRefusal, noLine, lineAs, listAs};
-use forms::Form;
+ghost use Rattle.lines.specs.Reading.{readRefusal, noLine, limitOf, lineAs, listAs};
+use csv::Run;
+use forms::Head;
+use shape::Shape;
 
 // The answer of a writer: the refusal, and the line's length.
 #[repr(C)]
@@ -34,6 +37,23 @@ fn not_written(refusal: u8) -> Written
     Written { refusal, len: 0 }
 }
 
+// A letter, a row, a post and a line feed, with two commas, take no more bytes, and a number with its comma no more than these.
+const MOST_FRAME: usize = 9;
+
+const MOST_FIELD: usize = 11;
+
+// Whether a part is too short for a line with a post. The line is measured only where the longest has no room.
+fn lacks_room(room: usize, row: usize, post: usize, numbers: &[u32]) -> bool
+    requires { ⌜ (row ≤ 95) × (post ≤ 255) × (length (now numbers) ≤ 4294967296) ⌝ }
+    ensures { λ r. ⌜ r ≡ ltb room (length (written 0 (row ∷ post ∷ now (numbers .entry)))) ⌝ }
+{
+    if MOST_FRAME + MOST_FIELD * numbers.len() <= room {
+        return false;
+    }
+    let head = [row as u32, post as u32];
+    room < csv::line_len(&head, numbers)
+}
+
 // 3, 5, 6, 8 and 12 of a line with a post.
 fn posted_refusal(
     n: usize,
@@ -44,7 +64,7 @@ fn posted_refusal(
     numbers: &[u32],
     room: usize,
 ) -> u8
-    requires { ⌜ (n ≤ 4294967295) × (count ≤ 4294967296) ⌝ }
+    requires { ⌜ (n ≤ 255) × (count ≤ 4294967296) ⌝ }
     ensures { λ r. ⌜ r ≡ first (postedTests n letter count row post (now (numbers .entry)) room) ⌝ }
 {
     if post < 1 {
@@ -63,8 +83,7 @@ fn posted_refusal(
     if beyond != 0 {
         return beyond;
     }
-    let head = [row as u32, post as u32];
-    if room < csv::line_len(&head, numbers) {
+    if lacks_room(room, row, post, numbers) {
         return 12;
     }
     0
@@ -80,7 +99,7 @@ fn write_posted(
     numbers: &[u32],
     out: &mut [u8],
 ) -> Written
-    requires { ⌜ (n ≤ 4294967295) × (count ≤ 4294967296) ⌝ }
+    requires { ⌜ (n ≤ 255) × (count ≤ 4294967296) ⌝ }
     ensures { λ r. ⌜ r
         ≡ writtenAs (first (postedTests n letter count row post (now (numbers .entry)) (length (now (out .entry)))))
         (written letter (row ∷ post ∷ now (numbers .entry))) ⌝ }
@@ -143,7 +162,7 @@ pub fn write_deal(n: usize, t: usize, row: usize, c: u32, out: &mut [u8]) -> Wri
     write_dealt(row, c, out)
 }
 
-// `O,row,post,` and the t+1 coefficients.
+// `O,row,post,` and the coefficients of a message.
 pub fn write_opening(
     n: usize,
     t: usize,
@@ -163,10 +182,11 @@ pub fn write_opening(
     if posts != 0 {
         return not_written(posts);
     }
-    write_posted(n, 79, t + 1, row, post, coefficients, out)
+    let shape = Shape { n, t };
+    write_posted(n, 79, shape.v_len(), row, post, coefficients, out)
 }
 
-// `M,row,post,` and the t+1 coefficients of each of the two masks.
+// `M,row,post,` and the coefficients of the two masks.
 pub fn write_masks(
     n: usize,
     t: usize,
@@ -186,7 +206,8 @@ pub fn write_masks(
     if posts != 0 {
         return not_written(posts);
     }
-    write_posted(n, 77, 2 * (t + 1), row, post, coefficients, out)
+    let shape = Shape { n, t };
+    write_posted(n, 77, shape.masks_len(), row, post, coefficients, out)
 }
 
 fn no_line(refusal: u8) -> Line
@@ -200,38 +221,50 @@ fn no_line(refusal: u8) -> Line
     }
 }
 
+// What the numbers of a line stay below, if its row and post are in range: p. No number is below 0.
+fn limit_of(misplaced: bool) -> u64
+    ensures { λ r. ⌜ r ≡ limitOf misplaced ⌝ }
+{
+    if misplaced { 0 } else { 2147483647 }
+}
+
 // 10 and 11 of a line with messages of k coefficients, or its numbers.
 fn read_line(n: usize, k: usize, line: &[u8], out: &mut [u32]) -> Line
     requires { ⌜ (1 ≤ k) × (k ≤ 4294967296) × (length (now out) ≡ 2 * k) ⌝ }
     ensures { λ r. ⌜ r ≡ lineAs (first (lineTests n k (now (line .entry)))) (message k (now (line .entry))) ⌝ }
     ensures { λ r. ⌜ now (out .exit) ≡ listAs (first (lineTests n k (now (line .entry)))) (message k (now (line .entry))) (now (out .entry)) ⌝ }
 {
-    let form = forms::scan(line, k);
-    match form {
-        Form::Right {
+    let head = forms::head_of(line, k);
+    match head {
+        Head::Right {
             letter,
             row,
             post,
             at,
             count,
-            largest,
         } => {
-            if forms::out_of_range(n, letter, row, post, largest) {
-                return no_line(11);
-            }
-            csv::fill_front(line, at, count, out);
-            Line {
-                refusal: 0,
-                letter,
-                row: row as usize,
-                post: post as usize,
+            let limit = limit_of(forms::out_of_range(n, letter, row, post, 0));
+            let run = forms::read_front(line, at, limit, count, out);
+            match run {
+                Run::Fields { largest, next: _ } => {
+                    if limit <= largest {
+                        return no_line(11);
+                    }
+                    Line {
+                        refusal: 0,
+                        letter,
+                        row: row as usize,
+                        post: post as usize,
+                    }
+                }
+                Run::Broken => no_line(10),
             }
         }
-        Form::Wrong => no_line(10),
+        Head::Wrong => no_line(10),
     }
 }
 
-// Any of the three lines, into a list of 2(t+1) numbers.
+// Any of the three lines, into a list as long as masks.
 pub fn read(n: usize, t: usize, line: &[u8], out: &mut [u32]) -> Line
     ensures { λ r. ⌜ r ≡ lineAs (readRefusal n t (now (line .entry)) (now (out .entry))) (message (vLength (shape n t)) (now (line .entry))) ⌝ }
     ensures { λ r. ⌜ now (out .exit)
@@ -241,8 +274,9 @@ pub fn read(n: usize, t: usize, line: &[u8], out: &mut [u32]) -> Line
     if posts != 0 {
         return no_line(posts);
     }
-    if out.len() != 2 * (t + 1) {
+    let shape = Shape { n, t };
+    if out.len() != shape.masks_len() {
         return no_line(5);
     }
-    read_line(n, t + 1, line, out)
+    read_line(n, shape.v_len(), line, out)
 }

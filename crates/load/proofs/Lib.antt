@@ -3,3 +3,4 @@ pub mod Loading
 pub mod Triples
 pub mod Theorems
 pub mod Tables
+pub mod Kept

@@ -1,1 +1,3 @@
+pub mod Between
 pub mod Either
+pub mod Pair

@@ -1,6 +1,7 @@
-// A mask, a − l or b − l', opened with its record; and the refusal of two openings. The first call of a finish and a relation's finish
-// use both.
+// The two masks of a product, a − l and b − l', opened with their records; and the refusal of two openings. The first call of a finish and a
+// relation's finish use both, and each chooses the size of the rooms by itself (see rooms).
 use session::Party;
+use shape::Shape;
 use walk::Opened;
 ghost use mathlib.Core.Path.{_≡_};
 ghost use Prim.Native.Nat.{_≤_};
@@ -8,88 +9,182 @@ ghost use lib.ListN.{length};
 ghost use Rattle.shape.specs.Bounds.{veryFewPosts, fewPosts};
 ghost use Rattle.shape.specs.Lengths.{rowLength};
 ghost use Rattle.session.specs.Between.{Sized, RowIn};
-ghost use Rattle.blocks.specs.Between.{Recorded};
-ghost use Rattle.walk.specs.Number.{openedRow};
 ghost use Rattle.product_masks.specs.Masks.{maskRow};
 ghost use Rattle.mask_opening.specs.Either.{eitherOf};
+ghost use Rattle.mask_opening.specs.Pair.{openedPair};
+ghost use Rattle.mask_opening.specs.Between.{Maskable};
 
-// A factor row less a row of the triple, made in the lent room and opened with its record.
-fn open_mask_in(
-    party: Party,
-    rows: &[u32],
-    factor: usize,
-    row: usize,
-    blocks: &[u32],
-    room: &mut [u32],
-) -> Opened
-    requires { ⌜ Sized (party .shape) (now rows) × RowIn (party .shape) factor × RowIn (party .shape) row × Recorded party (now blocks)
-        × (length (now room) ≡ rowLength (party .shape)) ⌝ }
-    ensures { λ r. ⌜ r ≡ openedRow party (maskRow (party .shape) (now (rows .entry)) factor row) (now (blocks .entry)) ⌝ }
+// What the two masks of a product open to.
+pub struct OpenedPair {
+    pub a: Opened,
+    pub b: Opened,
+}
+
+// A factor row less a row of the triple, made in the lent room.
+fn make_mask(shape: Shape, rows: &[u32], factor: usize, row: usize, room: &mut [u32])
+    requires { ⌜ Sized shape (now rows) × RowIn shape factor × RowIn shape row × (length (now room) ≡ rowLength shape) ⌝ }
+    ensures { λ r. ⌜ (now (room .exit) ≡ maskRow shape (now (rows .entry)) factor row) × (length (now (room .exit)) ≡ rowLength shape) ⌝ }
 {
-    let shape = party.shape;
     sums::combine(
         field::P - 1,
         session::rows::row(shape, rows, factor),
         session::rows::row(shape, rows, row),
         room,
     );
-    rooms::open_row(party, room, blocks)
+}
+
+// Both masks of the triple at `first`, made one after the other in the lent room and opened with their records.
+fn open_pair_in(
+    party: Party,
+    rows: &[u32],
+    a: usize,
+    b: usize,
+    first: usize,
+    record_a: &[u32],
+    record_b: &[u32],
+    room: &mut [u32],
+) -> OpenedPair
+    requires { ⌜ Maskable party (now rows) a b first (now «record_a») (now «record_b») × (length (now room) ≡ rowLength (party .shape)) ⌝ }
+    ensures { λ r. ⌜ r ≡ openedPair party (now (rows .entry)) a b first (now («record_a» .entry)) (now («record_b» .entry)) ⌝ }
+{
+    let shape = party.shape;
+    make_mask(shape, rows, a, first, room);
+    let opened_a = rooms::open_row(party, room, record_a);
+    make_mask(shape, rows, b, first + 1, room);
+    let opened_b = rooms::open_row(party, room, record_b);
+    OpenedPair {
+        a: opened_a,
+        b: opened_b,
+    }
 }
 
 // In a room for very few posts.
-fn open_shortest_mask(
+fn open_least_pair(
     party: Party,
     rows: &[u32],
-    factor: usize,
-    row: usize,
-    blocks: &[u32],
-) -> Opened
-    requires { ⌜ Sized (party .shape) (now rows) × RowIn (party .shape) factor × RowIn (party .shape) row × Recorded party (now blocks)
-        × (party .shape .n ≤ veryFewPosts) ⌝ }
-    ensures { λ r. ⌜ r ≡ openedRow party (maskRow (party .shape) (now (rows .entry)) factor row) (now (blocks .entry)) ⌝ }
+    a: usize,
+    b: usize,
+    first: usize,
+    record_a: &[u32],
+    record_b: &[u32],
+) -> OpenedPair
+    requires { ⌜ Maskable party (now rows) a b first (now «record_a») (now «record_b») × (party .shape .n ≤ veryFewPosts) ⌝ }
+    ensures { λ r. ⌜ r ≡ openedPair party (now (rows .entry)) a b first (now («record_a» .entry)) (now («record_b» .entry)) ⌝ }
 {
     let shape = party.shape;
     let width = shape.row_len();
     let mut room = [0u32; shape::VERY_SHORT_ROW];
-    open_mask_in(party, rows, factor, row, blocks, &mut room[..width])
+    open_pair_in(
+        party,
+        rows,
+        a,
+        b,
+        first,
+        record_a,
+        record_b,
+        &mut room[..width],
+    )
 }
 
 // In a room for few posts.
-fn open_short_mask(party: Party, rows: &[u32], factor: usize, row: usize, blocks: &[u32]) -> Opened
-    requires { ⌜ Sized (party .shape) (now rows) × RowIn (party .shape) factor × RowIn (party .shape) row × Recorded party (now blocks)
-        × (party .shape .n ≤ fewPosts) ⌝ }
-    ensures { λ r. ⌜ r ≡ openedRow party (maskRow (party .shape) (now (rows .entry)) factor row) (now (blocks .entry)) ⌝ }
+fn open_small_pair(
+    party: Party,
+    rows: &[u32],
+    a: usize,
+    b: usize,
+    first: usize,
+    record_a: &[u32],
+    record_b: &[u32],
+) -> OpenedPair
+    requires { ⌜ Maskable party (now rows) a b first (now «record_a») (now «record_b») × (party .shape .n ≤ fewPosts) ⌝ }
+    ensures { λ r. ⌜ r ≡ openedPair party (now (rows .entry)) a b first (now («record_a» .entry)) (now («record_b» .entry)) ⌝ }
 {
     let shape = party.shape;
     let width = shape.row_len();
     let mut room = [0u32; shape::SHORT_ROW];
-    open_mask_in(party, rows, factor, row, blocks, &mut room[..width])
+    open_pair_in(
+        party,
+        rows,
+        a,
+        b,
+        first,
+        record_a,
+        record_b,
+        &mut room[..width],
+    )
 }
 
-// In a room for the most posts.
-fn open_long_mask(party: Party, rows: &[u32], factor: usize, row: usize, blocks: &[u32]) -> Opened
-    requires { ⌜ Sized (party .shape) (now rows) × RowIn (party .shape) factor × RowIn (party .shape) row × Recorded party (now blocks) ⌝ }
-    ensures { λ r. ⌜ r ≡ openedRow party (maskRow (party .shape) (now (rows .entry)) factor row) (now (blocks .entry)) ⌝ }
+// Of a station of few posts.
+pub fn open_few_pair(
+    party: Party,
+    rows: &[u32],
+    a: usize,
+    b: usize,
+    first: usize,
+    record_a: &[u32],
+    record_b: &[u32],
+) -> OpenedPair
+    requires { ⌜ Maskable party (now rows) a b first (now «record_a») (now «record_b») × (party .shape .n ≤ fewPosts) ⌝ }
+    ensures { λ r. ⌜ r ≡ openedPair party (now (rows .entry)) a b first (now («record_a» .entry)) (now («record_b» .entry)) ⌝ }
+{
+    let shape = party.shape;
+    if shape.n <= shape::VERY_FEW_POSTS {
+        return open_least_pair(party, rows, a, b, first, record_a, record_b);
+    }
+    open_small_pair(party, rows, a, b, first, record_a, record_b)
+}
+
+// The same in the rooms of the most posts, which have more than one caller then.
+fn open_large_pair_in(
+    party: Party,
+    rows: &[u32],
+    a: usize,
+    b: usize,
+    first: usize,
+    record_a: &[u32],
+    record_b: &[u32],
+    room: &mut [u32],
+) -> OpenedPair
+    requires { ⌜ Maskable party (now rows) a b first (now «record_a») (now «record_b») × (length (now room) ≡ rowLength (party .shape)) ⌝ }
+    ensures { λ r. ⌜ r ≡ openedPair party (now (rows .entry)) a b first (now («record_a» .entry)) (now («record_b» .entry)) ⌝ }
+{
+    let shape = party.shape;
+    make_mask(shape, rows, a, first, room);
+    let opened_a = rooms::open_large(party, room, record_a);
+    make_mask(shape, rows, b, first + 1, room);
+    let opened_b = rooms::open_large(party, room, record_b);
+    OpenedPair {
+        a: opened_a,
+        b: opened_b,
+    }
+}
+
+// Of a station of any size.
+pub fn open_large_pair(
+    party: Party,
+    rows: &[u32],
+    a: usize,
+    b: usize,
+    first: usize,
+    record_a: &[u32],
+    record_b: &[u32],
+) -> OpenedPair
+    requires { ⌜ Maskable party (now rows) a b first (now «record_a») (now «record_b») ⌝ }
+    ensures { λ r. ⌜ r ≡ openedPair party (now (rows .entry)) a b first (now («record_a» .entry)) (now («record_b» .entry)) ⌝ }
 {
     let shape = party.shape;
     let width = shape.row_len();
     let mut room = [0u32; shape::LONGEST_ROW];
-    open_mask_in(party, rows, factor, row, blocks, &mut room[..width])
-}
-
-// A factor row less a row of the triple, opened with its record.
-pub fn open_mask(party: Party, rows: &[u32], factor: usize, row: usize, blocks: &[u32]) -> Opened
-    requires { ⌜ Sized (party .shape) (now rows) × RowIn (party .shape) factor × RowIn (party .shape) row × Recorded party (now blocks) ⌝ }
-    ensures { λ r. ⌜ r ≡ openedRow party (maskRow (party .shape) (now (rows .entry)) factor row) (now (blocks .entry)) ⌝ }
-{
-    let shape = party.shape;
-    if shape.n <= shape::VERY_FEW_POSTS {
-        open_shortest_mask(party, rows, factor, row, blocks)
-    } else if shape.n <= shape::FEW_POSTS {
-        open_short_mask(party, rows, factor, row, blocks)
-    } else {
-        open_long_mask(party, rows, factor, row, blocks)
-    }
+    open_large_pair_in(
+        party,
+        rows,
+        a,
+        b,
+        first,
+        record_a,
+        record_b,
+        &mut room[..width],
+    )
 }
 
 // The refusal of two openings: a 9 of either comes before a 13 of either.

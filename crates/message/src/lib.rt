@@ -49,7 +49,7 @@ fn message_out(session: Session, rows: &[u32], row: usize, out: &mut [u32], refu
     message_accepted(session.shape(), rows, row, out);
 }
 
-// A message changes nothing: refused or not, the session goes back as it came.
+// A message changes nothing: refused or not, the session goes back as it came, with the refusal or with 0 for none.
 pub fn opening_message(session: Session, rows: &[u32], row: usize, out: &mut [u32]) -> Answer
     ensures { λ r. ⌜ r ≡ messageAnswer session (now (rows .entry)) row (now (out .entry)) ⌝ }
     ensures { λ r. ⌜ now (out .exit) ≡ messageOut session (now (rows .entry)) row (now (out .entry)) ⌝ }
@@ -58,5 +58,9 @@ pub fn opening_message(session: Session, rows: &[u32], row: usize, out: &mut [u3
     let marks = session::checks::wrong_mark(&held, row, shape::HELD);
     let refusal = message_refusal(session, rows, row, out, marks);
     message_out(session, rows, row, out, refusal);
-    session.refuse(refusal)
+    Answer {
+        refusal,
+        value: 0,
+        session,
+    }
 }

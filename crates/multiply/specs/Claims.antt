@@ -1,8 +1,11 @@
 -- Demand 1 of a finish's second call, with document 01's table for its tests; proved in proofs/Theorems.antt.
 use Prim.Native.Nat.{ℕ, _+_}
+use mathlib.Core.Path.{_≡_}
+use mathlib.Core.Logic.{_≢_}
 use mathlib.Core.List.{List}
 use Rattle.session.specs.declared.Session.{Session}
 use Rattle.session.specs.Sessions.{openedA, openedB, marked}
+use Rattle.session.specs.Rows.{width, rowAt}
 use Rattle.session.specs.Law.{Lawful}
 use Rattle.multiply.specs.Multiply.{withProduct, multiplyAnswer, multiplyRows}
 use Rattle.multiply.specs.Table.{multiplyTable}
@@ -12,3 +15,8 @@ MultiplyLawful =
     (s : Session) (rows : List ℕ) (r : ℕ)
     → Lawful (multiplyTable s rows r) 0 (marked (marked (marked s r 6) (r + 1) 6) (r + 2) 2) s
     (withProduct s (openedA s r) (openedB s r) r rows) rows (multiplyAnswer s rows r) (multiplyRows s rows r)
+
+-- "rows that a call doesn't name keep every number", and so do the triple's first two
+abbrev pub MultiplyKeepsOthers : Type 0
+MultiplyKeepsOthers =
+    (s : Session) (rows : List ℕ) (r q : ℕ) → q ≢ r + 2 → rowAt (width s) (multiplyRows s rows r) q ≡ rowAt (width s) rows q

@@ -2,3 +2,4 @@ pub mod Passed
 pub mod Opens
 pub mod Theorems
 pub mod Tables
+pub mod Unread

@@ -9,7 +9,7 @@ use lib.Dec.{eqb}
 use lib.ListN.{length, take, drop, replicate}
 use Rattle.shape.specs.Lengths.{shape, rowsLength}
 use Rattle.shape.specs.Marks.{raw, unused}
-use Rattle.store.specs.Sizes.{streetPosts, storeRoom}
+use Rattle.store.specs.Sizes.{storeRoom}
 use Rattle.states.specs.States.{firstState, begunWith}
 use Rattle.answers.specs.Text.{header, answerText}
 use Rattle.feeds.specs.Program.{Running, begun, fed, output}
@@ -57,7 +57,7 @@ pub record Feeds (n t post : ℕ) (points kinds draws : List ℕ) : Type 0 where
 -- For whatever the writing call does not refuse but for a list too short.
 abbrev pub FileFeeds : Type 0
 FileFeeds =
-    (n t post : ℕ) (points kinds draws : List ℕ) → n ≤ streetPosts → givenRefusal n t post points kinds draws ≡ 0
+    (n t post : ℕ) (points kinds draws : List ℕ) → n ≤ 32 → givenRefusal n t post points kinds draws ≡ 0
     → Feeds n t post points kinds draws
 
 -- The same of the call: the bytes that it leaves, as many as it answers, fed to the program.
@@ -69,5 +69,5 @@ left n t post points kinds draws out =
 
 abbrev pub CallFeeds : Type 0
 CallFeeds =
-    (n t post : ℕ) (points kinds draws out : List ℕ) → n ≤ streetPosts → packRefusal n t post points kinds draws (length out) ≡ 0
+    (n t post : ℕ) (points kinds draws out : List ℕ) → n ≤ 32 → packRefusal n t post points kinds draws (length out) ≡ 0
     → fed begun (left n t post points kinds draws out) ≡ programWith n t (straight n t post points kinds draws) (lineCount kinds)

@@ -1,3 +1,4 @@
+pub mod Passed
 pub mod Posts
 pub mod Rest
 pub mod Factors

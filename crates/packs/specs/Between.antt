@@ -2,10 +2,12 @@
 -- with these. What the factory writes is in `Packs.antt`.
 use Prim.Native.Nat.{ℕ, suc, _+_, _*_, _≤_}
 use mathlib.Core.Path.{_≡_}
+use mathlib.Core.Logic.{_⊎_}
 use mathlib.Core.List.{List, [], _∷_, _++_}
-use lib.ListN.{length}
+use lib.ListN.{length, take, drop}
+use lib.Seq.{paste}
 use Rattle.shape.specs.declared.Shape.{Shape}
-use Rattle.shape.specs.Lengths.{Valid, rowLength, drawLength, packsLength}
+use Rattle.shape.specs.Lengths.{Valid, sumsAt, rowLength, drawLength, packsLength}
 use Rattle.parts.specs.Between.{partWith}
 
 -- `vs` are v1 to vn, and m the public sums: the parts of the posts from post i + 1 on.
@@ -13,10 +15,22 @@ unfoldable pub partsWith : Shape → List ℕ → List ℕ → ℕ → List ℕ 
 partsWith s vs m i [] = []
 partsWith s vs m i (w ∷ ws) = partWith s vs m i w ++ partsWith s vs m (suc i) ws
 
+-- the public sums of the first row, and the list with them in the row from `at` on
+abbrev pub firstSums : Shape → List ℕ → List ℕ
+firstSums s out = take (s .n) (drop (sumsAt s) out)
+
+abbrev pub passedOn : Shape → ℕ → List ℕ → List ℕ
+passedOn s at out = paste out (at + sumsAt s) (drop (sumsAt s) out) (s .n)
+
+-- the row from `at` on, which is the first or does not reach into it
+pub record RowAt (s : Shape) (at : ℕ) (out : List ℕ) : Type 0 where
+  pub valid : Valid s
+  pub apart : (at ≡ 0) ⊎ (rowLength s ≤ at)
+  pub inside : at + rowLength s ≤ length out
+
 -- the parts of so many posts behind the first i
-pub record PartsRoom (s : Shape) (i : ℕ) (points m out : List ℕ) : Type 0 where
+pub record PartsRoom (s : Shape) (i : ℕ) (points out : List ℕ) : Type 0 where
   pub posts : i + length points ≤ s .n
-  pub sums : length m ≡ s .n
   pub room : length out ≡ length points * rowLength s
 
 -- the same, where `rest` is a draw but for its first number

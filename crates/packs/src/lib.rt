@@ -2,122 +2,46 @@
 use shape::Shape;
 ghost use mathlib.Core.Path.{_≡_};
 ghost use mathlib.Core.List.{_∷_, _++_};
-ghost use Prim.Native.Nat.{_+_, _*_, _≤_};
-ghost use lib.ListN.{length};
-ghost use Rattle.shape.specs.Bounds.{fewPosts};
-ghost use Rattle.shape.specs.Lengths.{vLength, drawLength, tripleDrawLength, packsLength};
+ghost use Prim.Native.Nat.{_+_, _*_};
+ghost use Rattle.shape.specs.Lengths.{drawLength, tripleDrawLength, packsLength};
 ghost use Rattle.parts.specs.Draw.{firstDraw, secondDraw};
 ghost use Rattle.packs.specs.Packs.{partsFrom, packs, triplePacks};
-ghost use Rattle.packs.specs.Between.{partsWith, PartsRoom, PostsRoom, Fine, FactorsRoom};
+ghost use Rattle.packs.specs.Between.{passedOn, firstSums, partsWith, RowAt, PartsRoom, PostsRoom, Fine, FactorsRoom};
 ghost use Rattle.parts.specs.Between.{Drawn};
 
-// The middle part of `out` is lent for one post after the other; `i` posts stand before the first.
-fn write_parts(
-    shape: Shape,
-    i: usize,
-    points: &[u32],
-    vs: &[u32],
-    sums: &[u32],
-    powers: &mut [u32],
-    out: &mut [u32],
-)
-    requires { ⌜ Drawn shape (now vs) (now powers) × PartsRoom shape i (now points) (now sums) (now out) ⌝ }
-    ensures { λ r. ⌜ now (out .exit) ≡ partsWith shape (now (vs .entry)) (now (sums .entry)) i (now (points .entry)) ⌝ }
+// The public sums of the first row, to their place in the row from `at` on.
+fn pass_sums_on(shape: Shape, at: usize, out: &mut [u32])
+    requires { ⌜ RowAt shape at (now out) ⌝ }
+    ensures { λ r. ⌜ now (out .exit) ≡ passedOn shape at (now (out .entry)) ⌝ }
+{
+    let n = shape.n;
+    let first = shape.sums_at();
+    let sums = at + first;
+    for i in 0..n {
+        let from = first + i;
+        let to = sums + i;
+        out[to] = out[from];
+    }
+}
+
+// The middle part of `out` is lent for one post after the other; `i` posts stand before the first. The public sums stand in the first
+// row.
+fn write_parts(shape: Shape, i: usize, points: &[u32], vs: &[u32], out: &mut [u32])
+    requires { ⌜ Drawn shape (now vs) × PartsRoom shape i (now points) (now out) ⌝ }
+    ensures { λ r. ⌜ now (out .exit) ≡ partsWith shape (now (vs .entry)) (firstSums shape (now (out .entry))) i (now (points .entry)) ⌝ }
 {
     let width = shape.row_len();
     let mut at = 0;
     for j in 0..points.len() {
         let end = at + width;
-        parts::write_part(shape, i + j, points[j], vs, sums, powers, &mut out[at..end]);
+        pass_sums_on(shape, at, out);
+        parts::write_part(shape, i + j, points[j], vs, &mut out[at..end]);
         at = end;
     }
 }
 
-// The parts, with lent room for the powers of a point and for the public sums. A draw is its first number and the rest, so that
-// f's constant need not stand in it.
-fn write_posts_in(
-    shape: Shape,
-    i: usize,
-    points: &[u32],
-    constant: u32,
-    rest: &[u32],
-    powers: &mut [u32],
-    sums: &mut [u32],
-    out: &mut [u32],
-)
-    requires { ⌜ PostsRoom shape i (now points) (now rest) (now out) × (length (now powers) ≡ vLength shape) × (length (now sums) ≡ shape .n) ⌝ }
-    ensures { λ r. ⌜ now (out .exit) ≡ partsFrom shape (constant ∷ now (rest .entry)) (i + 1) (now (points .entry)) ⌝ }
-{
-    let higher = shape.f_len() - 1;
-    parts::write_sums(
-        shape,
-        constant,
-        &rest[..higher],
-        &rest[higher..],
-        powers,
-        sums,
-    );
-    write_parts(shape, i, points, &rest[higher..], sums, powers, out);
-}
-
-// The same, with room for a few posts.
-fn write_posts_few(
-    shape: Shape,
-    i: usize,
-    points: &[u32],
-    constant: u32,
-    rest: &[u32],
-    out: &mut [u32],
-)
-    requires { ⌜ PostsRoom shape i (now points) (now rest) (now out) × (shape .n ≤ fewPosts) ⌝ }
-    ensures { λ r. ⌜ now (out .exit) ≡ partsFrom shape (constant ∷ now (rest .entry)) (i + 1) (now (points .entry)) ⌝ }
-{
-    let n = shape.n;
-    let k = shape.v_len();
-    let mut powers = [0u32; shape::SHORT_V];
-    let mut sums = [0u32; shape::FEW_POSTS];
-    write_posts_in(
-        shape,
-        i,
-        points,
-        constant,
-        rest,
-        &mut powers[..k],
-        &mut sums[..n],
-        out,
-    );
-}
-
-// The same, with room for the most posts.
-fn write_posts_most(
-    shape: Shape,
-    i: usize,
-    points: &[u32],
-    constant: u32,
-    rest: &[u32],
-    out: &mut [u32],
-)
-    requires { ⌜ PostsRoom shape i (now points) (now rest) (now out) ⌝ }
-    ensures { λ r. ⌜ now (out .exit) ≡ partsFrom shape (constant ∷ now (rest .entry)) (i + 1) (now (points .entry)) ⌝ }
-{
-    let n = shape.n;
-    let k = shape.v_len();
-    let mut powers = [0u32; shape::LONGEST_V];
-    let mut sums = [0u32; shape::MOST_POSTS];
-    write_posts_in(
-        shape,
-        i,
-        points,
-        constant,
-        rest,
-        &mut powers[..k],
-        &mut sums[..n],
-        out,
-    );
-}
-
-// The parts of the posts that have these check points; `i` posts stand before the first. A few posts' room is not cleared for the
-// most.
+// The parts of the posts that have these check points; `i` posts stand before the first. A draw is its first number and the rest, so
+// that f's constant need not stand in it.
 pub fn write_posts(
     shape: Shape,
     i: usize,
@@ -129,11 +53,19 @@ pub fn write_posts(
     requires { ⌜ PostsRoom shape i (now points) (now rest) (now out) ⌝ }
     ensures { λ r. ⌜ now (out .exit) ≡ partsFrom shape (constant ∷ now (rest .entry)) (i + 1) (now (points .entry)) ⌝ }
 {
-    if shape.n <= shape::FEW_POSTS {
-        write_posts_few(shape, i, points, constant, rest, out);
+    if points.len() < 1 {
         return;
     }
-    write_posts_most(shape, i, points, constant, rest, out);
+    let higher = shape.f_len() - 1;
+    let width = shape.row_len();
+    parts::write_sums(
+        shape,
+        constant,
+        &rest[..higher],
+        &rest[higher..],
+        &mut out[..width],
+    );
+    write_parts(shape, i, points, &rest[higher..], out);
 }
 
 // The packs of a row whose draw has all its numbers.

@@ -1,6 +1,6 @@
 -- A list whose first n numbers are lent and written, and then the rest.
 use Prim.Native.Nat.{ℕ, _+_, _-_, _≤_}
-use mathlib.Core.Path.{_≡_, sym, _∙_, ap}
+use mathlib.Core.Path.{_≡_, _∙_, ap}
 use mathlib.Core.List.{List, _++_, append-nil}
 use native.Mathlib.Omega.{arith}
 use lib.ListN.{length, take, drop, length-append, length-drop, drop-of-length-le}
@@ -35,16 +35,3 @@ module _ (n m : ℕ) (l : List ℕ) (sized : length l ≡ n + m) where
         let e : length ys ≡ n = kept ∙ front-length in
         let h : length (drop n l) ≤ length (fronted n l ys) - n = omega (arith, length-append ys (drop n l)) in
         rw (take-at ys (drop n l) n e, drop-at ys (drop n l) n e, drop-of-length-le (drop n l) h, append-nil zs, f, g)
-
--- two halves of equal length
-pub halved : (n : ℕ) (l ys zs a b : List ℕ) → length l ≡ n + n → length ys ≡ length (take n l) → ys ≡ a → zs ≡ b
-    → putMid n (length (fronted n l ys) - n) (fronted n l ys) zs ≡ a ++ b
-halved n l ys zs a b sized kept f g = joined n n l sized ys kept zs a b f g
-
--- the first k numbers of a list with room for m
-module _ (k m : ℕ) (l : List ℕ) (room : k ≤ m) (sized : length l ≡ m) where
-  pub start-length : k ≡ length (take k l)
-  start-length = sym (length-take-le k l (omega arith))
-
-  pub start-size : (j : ℕ) → k ≡ j → length (take k l) ≡ j
-  start-size j e = sym start-length ∙ e

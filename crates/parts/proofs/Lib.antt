@@ -1,4 +1,5 @@
 pub mod Turns
 pub mod Halves
+pub mod Row
 pub mod Parts
 pub mod Laws

@@ -1,4 +1,4 @@
--- A part, from f and from v1 to vn apart, and what `write_part` makes of its list.
+-- A part, from f and from v1 to vn apart.
 use Prim.Native.Nat.{ℕ, zero, suc, _+_, _*_, _-_}
 use mathlib.Core.Path.{_≡_, refl, sym, _∙_, ap, ap₂}
 use mathlib.Core.List.{List, _∷_, _++_}
@@ -6,13 +6,11 @@ use native.Mathlib.Numerals.{add-one}
 use native.Mathlib.Omega.{arith}
 use lib.ListN.{length, take, drop}
 use lib.Seq.{take-at, drop-append-add}
-use borrow.Rule.Slice.PartMut.{putMid}
 use Rattle.poly.specs.Polynomial.{value}
 use Rattle.shape.specs.declared.Shape.{Shape}
-use Rattle.shape.specs.Lengths.{fLength, vLength, rowLength}
+use Rattle.shape.specs.Lengths.{fLength, vLength}
 use Rattle.parts.specs.Draw.{drawnF, drawnV, eachFrom, eachPost, sumOf, part}
 use Rattle.parts.specs.Between.{vOf, checkAt, checkValues, sumAt, sums, partWith}
-use Rattle.parts.proofs.Halves.{fronted, back, front-length, back-length, joined}
 
 -- counted from the next number on
 each-next : (f g : ℕ → ℕ) → ((i : ℕ) → f (suc i) ≡ g i) → (j m : ℕ) → eachFrom (suc j) m f ≡ eachFrom j m g
@@ -43,22 +41,3 @@ module _ (s : Shape) (f vs : List ℕ) (sized : length f ≡ fLength s) where
   pub part-split : (i w : ℕ) → part s (suc i) w (f ++ vs) ≡ partWith s vs (sums s f vs) i w
   unfolding part
   part-split i w = ap₂ _++_ (v-next i) (ap₂ _++_ (check-values w) public-sums)
-
--- `write_part` writes the coefficients of vi, and then the values
-module _ (s : Shape) (k : ℕ) (out : List ℕ) (ek : k ≡ vLength s) (room : length out ≡ rowLength s) where
-  cut : length out ≡ k + (s .n + s .n)
-  cut = omega (arith, room, ek)
-
-  pub coefficients-lent : length (take k out) ≡ k
-  coefficients-lent = front-length k (s .n + s .n) out cut
-
-  pub coefficients-fit : (q : List ℕ) → length q ≡ vLength s → length q ≡ length (take k out)
-  coefficients-fit q e = e ∙ sym (coefficients-lent ∙ ek)
-
-  module _ (ys : List ℕ) (kept : length ys ≡ length (take k out)) where
-    pub values-lent : length (back k out ys) ≡ s .n + s .n
-    values-lent = back-length k (s .n + s .n) out cut ys kept
-
-    pub part-written : (i w : ℕ) (vs m q zs : List ℕ) → q ≡ vOf s vs i → ys ≡ q → zs ≡ checkValues s w vs ++ m
-        → putMid k (length (fronted k out ys) - k) (fronted k out ys) zs ≡ partWith s vs m i w
-    part-written i w vs m q zs own f g = joined k (s .n + s .n) out cut ys kept zs _ _ (f ∙ own) g

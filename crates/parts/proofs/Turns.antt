@@ -1,4 +1,4 @@
--- The turns of the loops in src/part.rt, each as a fact about plain lists and numbers.
+-- The turns of the loops in src/lib.rt, each as a fact about plain lists and numbers.
 use Prim.Native.Nat.{ℕ, zero, suc, _+_, _*_, _-_, _≤_, _<_}
 use mathlib.Core.Path.{_≡_, refl, sym, _∙_, ap, ap₂}
 use mathlib.Core.List.{List, [], _∷_, _++_, append-assoc, append-nil}
@@ -11,13 +11,15 @@ use lib.ListN.{length, take, drop, getD, set, length-drop}
 use lib.Seq.{take-suc-set, take-all, length-take-le}
 use Rattle.field.specs.Arithmetic.{sum, product}
 use Rattle.poly.specs.Polynomial.{value, powers, weighted}
+use Rattle.poly.specs.Counting.{Elements}
+use Rattle.poly.proofs.Bounds.{powers-below}
 use Rattle.poly.proofs.Numbers.{weighted-powers}
 use Rattle.shape.specs.declared.Shape.{Shape}
-use Rattle.shape.specs.Bounds.{mostPosts, longestRow}
-use Rattle.shape.specs.Lengths.{Valid, fLength, vLength}
+use Rattle.shape.specs.Bounds.{mostPosts, longestRow, longestV}
+use Rattle.shape.specs.Lengths.{Valid, vLength}
 use Rattle.shape.proofs.Small.{each-small}
 use Rattle.parts.specs.Draw.{eachFrom}
-use Rattle.parts.specs.Between.{vOf, weighedAt, checkAt, checkValues, sumAt, Drawn, Higher}
+use Rattle.parts.specs.Between.{vOf, weighedAt, checkAt, checkValues, sumAt, Higher}
 
 -- block i of n blocks of k numbers lies in their list
 pub block-room : (i n k m : ℕ) → i < n → m ≡ n * k → i * k + k ≤ m
@@ -70,6 +72,13 @@ pub weighed : (cs old new : List ℕ) (x r : ℕ) → length cs ≤ length old �
     → r ≡ value cs x
 weighed cs old new x r h e g = g ∙ ap (weighted cs) e ∙ weighted-powers cs x (length old) h
 
+-- what `weigh_elements` needs: few powers, and each an element
+pub powers-short : (s : Shape) (old : List ℕ) → Valid s → length old ≡ vLength s → length old ≤ longestV
+powers-short s old v e = omega (arith, e, v .n-in, v .t-in)
+
+pub elements-filled : (old new : List ℕ) (x : ℕ) → new ≡ powers x (length old) → Elements new
+elements-filled old new x e = rw e (powers-below x (length old))
+
 -- a check value
 pub weighed-is : (s : Shape) (vs powers q : List ℕ) (i r : ℕ) → q ≡ vOf s vs i → r ≡ weighted q powers → r ≡ weighedAt s powers vs i
 unfolding weighedAt
@@ -89,15 +98,13 @@ unfolding eachFrom
 each-agree f g h j zero = refl
 each-agree f g h j (suc m) = ap₂ _∷_ (h j) (each-agree f g h (suc j) m)
 
-pub checks-written : (s : Shape) (vs old new out : List ℕ) (w : ℕ) → Drawn s vs old → new ≡ powers w (length old)
-    → out ≡ eachFrom 0 (s .n) (weighedAt s new vs) → out ≡ checkValues s w vs
+pub checks-weighed : (s : Shape) (vs ps : List ℕ) (w : ℕ) → ps ≡ powers w (vLength s)
+    → eachFrom 0 (s .n) (weighedAt s ps vs) ≡ checkValues s w vs
 unfolding checkAt weighedAt
-checks-written s vs old new out w d e f =
-    f
-    ∙ each-agree (weighedAt s new vs) (checkAt s w vs)
-    (λ i. ap (weighted (vOf s vs i)) (e ∙ ap (powers w) (d .room))
-    ∙ weighted-powers (vOf s vs i) w (vLength s) (take-few (vLength s) (drop (i * vLength s) vs)))
-    0 (s .n)
+checks-weighed s vs ps w e =
+    each-agree (weighedAt s ps vs) (checkAt s w vs)
+    (λ i. ap (weighted (vOf s vs i)) e ∙ weighted-powers (vOf s vs i) w (vLength s) (take-few (vLength s) (drop (i * vLength s) vs))) 0
+    (s .n)
 
 -- a value of f
 pub f-value : (c x r u : ℕ) (higher old new : List ℕ) → length higher ≤ length old → new ≡ powers x (length old)
@@ -109,8 +116,8 @@ pub f-horner : (c x r u : ℕ) (higher : List ℕ) → u ≡ value higher x → 
 unfolding value
 f-horner c x r u higher e g = g ∙ ap (λ (y : ℕ). sum c (product x y)) e
 
-pub higher-room : (s : Shape) (vs higher powers : List ℕ) → Drawn s vs powers → Higher s higher → length higher ≤ length powers
-higher-room s vs higher powers d h = omega (arith, d .room, h)
+pub higher-room : (s : Shape) (higher powers : List ℕ) → length powers ≡ vLength s → Higher s higher → length higher ≤ length powers
+higher-room s higher powers e h = omega (arith, e, h)
 
 -- a sum
 pub some-coefficient : (s : Shape) (q : List ℕ) → length q ≡ vLength s → 0 < length q

@@ -7,7 +7,7 @@ use lib.ListN.{length, take, drop, getD}
 use Rattle.field.specs.Arithmetic.{sum}
 use Rattle.poly.specs.Polynomial.{value, weighted}
 use Rattle.shape.specs.declared.Shape.{Shape}
-use Rattle.shape.specs.Lengths.{Valid, fLength, vLength}
+use Rattle.shape.specs.Lengths.{Valid, fLength, vLength, sumsAt}
 use Rattle.parts.specs.Draw.{eachFrom}
 
 -- `vs` are v1 to vn, the posts counted from 0: their polynomials, v1(w) to vn(w), and v1(0) + f(1) to vn(0) + f(n)
@@ -33,11 +33,14 @@ sums s f vs = eachFrom 0 (s .n) (sumAt s f vs)
 abbrev pub partWith : Shape → List ℕ → List ℕ → ℕ → ℕ → List ℕ
 partWith s vs m i w = vOf s vs i ++ (checkValues s w vs ++ m)
 
--- v1 to vn of a valid station, and room for the powers of a point.
-pub record Drawn (s : Shape) (vs powers : List ℕ) : Type 0 where
+-- v1 to vn of a valid station
+pub record Drawn (s : Shape) (vs : List ℕ) : Type 0 where
   pub valid : Valid s
   pub drawn : length vs ≡ s .n * vLength s
-  pub room : length powers ≡ vLength s
+
+-- room for the powers of a point, and behind it for the check values
+abbrev pub ChecksRoom : Shape → List ℕ → Type 0
+ChecksRoom s out = length out ≡ sumsAt s
 
 -- `higher` are f's coefficients behind its constant
 abbrev pub Higher : Shape → List ℕ → Type 0

@@ -12,8 +12,9 @@ use Rattle.field.specs.Algebra.{CommutativeRing}
 use Rattle.field.specs.Element.{element}
 use Rattle.field.proofs.Elements.{𝓡, element-zero, element-injective}
 use Rattle.field.proofs.Modular.{sum-below, product-below}
-use Rattle.poly.specs.Polynomial.{value, powersFrom, weighted}
+use Rattle.poly.specs.Polynomial.{value, powersFrom, powers, weighted}
 use Rattle.poly.specs.Interpolation.{nodal, terms, interpolated}
+use Rattle.poly.specs.Counting.{Elements}
 
 pub value-below : (cs : List ℕ) (x : ℕ) → value cs x < p
 unfolding value
@@ -45,6 +46,15 @@ pub length-powersFrom : (y x k : ℕ) → length (powersFrom y x k) ≡ k
 unfolding powersFrom
 length-powersFrom y x zero = refl
 length-powersFrom y x (suc k) = ap suc (length-powersFrom (product y x) x k)
+
+-- powers are elements
+powers-from-below : (y x k : ℕ) → y < p → Elements (powersFrom y x k)
+unfolding powersFrom
+powers-from-below y x zero h = tt
+powers-from-below y x (suc k) h = (h, powers-from-below (product y x) x k (product-below y x))
+
+pub powers-below : (x k : ℕ) → Elements (powers x k)
+powers-below x k = powers-from-below 1 x k (lit< tt)
 
 pub nonzero : (x : ℕ) → 0 < x → x < p → element x ≢ CommutativeRing.zero 𝓡
 nonzero x some low e = absurd (omega (arith, element-injective x 0 low (lit< tt) (e ∙ sym element-zero)))

@@ -2,3 +2,4 @@ pub mod Polynomial
 pub mod Interpolation
 pub mod Counting
 pub mod Claims
+pub mod Between

@@ -1,11 +1,14 @@
 // Polynomials over the p elements: values and sums of products. Coefficients stand constant first. Interpolation is defined in
 // specs/Interpolation.antt; `barycentric` reckons it.
 //
-// Every public function is total: the lists have any length and hold any numbers, one of p or more standing for its remainder.
+// Every public function but `weigh_elements` is total: the lists have any length and hold any numbers, one of p or more standing for
+// its remainder.
 ghost use mathlib.Core.Path.{_≡_};
-ghost use Prim.Native.Nat.{_-_, _≤_, _<_};
+ghost use Prim.Native.Nat.{_+_, _-_, _≤_, _<_};
 ghost use lib.ListN.{length, take, drop};
 ghost use Rattle.poly.specs.Polynomial.{value, powers, weighted};
+ghost use Rattle.poly.specs.Counting.{Elements};
+ghost use Rattle.poly.specs.Between.{twoProducts};
 
 // The value at x, by Horner's rule.
 pub fn evaluate(coefficients: &[u32], x: u32) -> u32
@@ -91,4 +94,35 @@ pub fn weigh(list: &[u32], weights: &[u32]) -> u32
         i = end;
     }
     r
+}
+
+// The sum of two products with elements, which fits into 64 bits.
+fn two_products(list: &[u32], elements: &[u32], i: usize) -> u64
+    requires { ⌜ (i + 1 < length (now list)) × (i + 1 < length (now elements)) × Elements (now elements) ⌝ }
+    ensures { λ r. ⌜ r ≡ twoProducts (now (list .entry)) (now (elements .entry)) i ⌝ }
+{
+    let next = i + 1;
+    field::whole_product(list[i], elements[i]) + field::whole_product(list[next], elements[next])
+}
+
+// The sum of the products with elements, as the powers of a point are: two products are added up before they are cut in halves.
+pub fn weigh_elements(list: &[u32], elements: &[u32]) -> u32
+    requires { ⌜ (length (now list) ≤ 65536) × (length (now list) ≤ length (now elements)) × Elements (now elements) ⌝ }
+    ensures { λ r. ⌜ r ≡ weighted (now (list .entry)) (now (elements .entry)) ⌝ }
+{
+    let m = list.len();
+    let mut low: u64 = 0;
+    let mut high: u64 = 0;
+    let mut i = 0;
+    while 1 < m - i {
+        let two = two_products(list, elements, i);
+        low += two % HALF;
+        high += two / HALF;
+        i += 2;
+    }
+    if m <= i {
+        return field::reduce(low, high);
+    }
+    let last = field::whole_product(list[i], elements[i]);
+    field::reduce(low + last % HALF, high + last / HALF)
 }

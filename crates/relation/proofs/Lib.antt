@@ -2,10 +2,7 @@ pub mod Loops
 pub mod Sorts
 pub mod Sizes
 pub mod Naming
-pub mod Remembering
-pub mod Parts
 pub mod Passing
-pub mod Masking
 pub mod Numbering
 pub mod Ranks
 pub mod Tables

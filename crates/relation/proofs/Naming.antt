@@ -1,12 +1,15 @@
--- The search for a triple that is named twice: its turns.
+-- The search for a triple that is named twice: its turns; and what holds where it finds none.
 use Prim.Native.Nat.{ℕ, suc, _+_, _≤_, _<_}
 use mathlib.Core.Path.{_≡_, refl, sym, _∙_, ap}
 use mathlib.Core.Bool.{Bool, true, false, _||_}
+use mathlib.Core.Logic.{_≢_}
 use mathlib.Core.List.{List, [], _∷_}
-use borrow.Author.Tests.{eq-eqb, ne-eqb}
+use borrow.Author.Tests.{eq-eqb, ne-eqb, eqb-false}
 use lib.Dec.{eqb}
 use lib.ListN.{length, take, drop, getD}
+use Rattle.poly.specs.Counting.{All}
 use Rattle.refusal.specs.Refusal.{_when_, first}
+use Rattle.refusal.proofs.Laws.{or-false}
 use Rattle.terms.specs.declared.Term.{Term}
 use Rattle.terms.specs.Listed.{blank}
 use Rattle.relation.specs.Tests.{namedIn, namedTwice}
@@ -53,3 +56,13 @@ module _ (l : List Term) (n i : ℕ) where
     twice-out h =
         let f : false ≡ all = rw (past-end l n i h) at e in
         rw (← f) refl
+
+-- no triple is that of a term behind
+named-apart : (r : ℕ) (ts : List Term) → namedIn r ts ≡ false → All (λ t. t .first ≢ r) ts
+unfolding namedIn
+named-apart r [] e = tt
+named-apart r (t ∷ ts) e = let h = or-false (eqb (t .first) r) (namedIn r ts) e in (eqb-false (t .first) r (h .0), named-apart r ts (h .1))
+
+pub twice-parts : (t : Term) (ts : List Term) → namedTwice (t ∷ ts) ≡ false → All (λ u. u .first ≢ t .first) ts × (namedTwice ts ≡ false)
+unfolding namedTwice
+twice-parts t ts e = let h = or-false (namedIn (t .first) ts) (namedTwice ts) e in (named-apart (t .first) ts (h .0), h .1)

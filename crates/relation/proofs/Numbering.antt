@@ -1,8 +1,8 @@
--- No test of a relation's finish has the number 0.
+-- No test of a relation's two calls has the number 0.
 use Prim.Native.Nat.{ℕ, zero, suc, _+_}
 use mathlib.Core.Bool.{Bool, true, false}
 use mathlib.Core.List.{List, [], _∷_, _++_}
-use Rattle.shape.specs.Marks.{empty, masked}
+use Rattle.shape.specs.Marks.{empty, unused, masked}
 use Rattle.refusal.specs.Refusal.{Test, _when_}
 use Rattle.refusal.specs.Conditions.{anyBeyond}
 use Rattle.refusal.proofs.Laws.{Numbered}
@@ -14,9 +14,10 @@ use Rattle.terms.specs.declared.Term.{Term}
 use Rattle.terms.specs.declared.Terms.{Terms}
 use Rattle.terms.specs.Listed.{plain, termsOf, factorsOf}
 use Rattle.relation.specs.Tests.{eachAt, each, byKind, placeTests, markTests, namedTwice}
+use Rattle.relation.specs.Masks.{maskNumberTests, masksMarks, masksOwn}
 use Rattle.relation.specs.Finish.{finishPlaces, rememberTests, finishMarks, termNumberTests, recordTests, finishNumbers, finishOwn, fewTests, offTests}
 use Rattle.relation.specs.Finish.{openTests, relationFinishChecks}
-use Rattle.relation.proofs.Sorts.{place-numbered, mark-numbered}
+use Rattle.relation.proofs.Sorts.{place-numbered, mark-numbered, number-numbered}
 use Rattle.relation.proofs.Passing.{numbered-append, each-numbered}
 
 pub remember-numbered : (s : Session) (k : ℕ) (t : Term) → Numbered (rememberTests s t)
@@ -36,12 +37,28 @@ unfolding recordTests
 records-numbered s blocks k zero = tt
 records-numbered s blocks k (suc m) = records-numbered s blocks (suc k) m
 
-module _ (s : Session) (rows : List ℕ) (all : Terms) (d : ℕ) (blocks : List ℕ) where
-  pub placed-numbered : Numbered (each placeTests (termsOf all))
-  placed-numbered = each-numbered (λ k. placeTests) place-numbered 0 (termsOf all)
+pub placed-numbered : (all : Terms) → Numbered (each placeTests (termsOf all))
+placed-numbered all = each-numbered (λ k. placeTests) place-numbered 0 (termsOf all)
 
+-- of the masks
+module _ (s : Session) (rows : List ℕ) (all : Terms) where
+  pub unused-numbered : Numbered (each (markTests s unused) (termsOf all))
+  unused-numbered = each-numbered (λ k. markTests s unused) (mark-numbered s unused) 0 (termsOf all)
+
+  pub mask-marks-numbered : Numbered (masksMarks s all)
+  mask-marks-numbered = numbered-append (each (markTests s unused) (termsOf all)) (7 when namedTwice (factorsOf all) ∷ []) unused-numbered tt
+
+  pub masks-numbered : Numbered (masksOwn s rows all)
+  masks-numbered =
+      let numbers = each (maskNumberTests (width s) rows) (termsOf all) in
+      numbered-append (each placeTests (termsOf all)) (masksMarks s all ++ numbers) (placed-numbered all)
+      (numbered-append (masksMarks s all) numbers mask-marks-numbered
+      (each-numbered (λ k. maskNumberTests (width s) rows) (number-numbered (width s) rows) 0 (termsOf all)))
+
+-- of the finish
+module _ (s : Session) (rows : List ℕ) (all : Terms) (d : ℕ) (blocks : List ℕ) where
   pub places-numbered : Numbered (finishPlaces all d)
-  places-numbered = numbered-append (each placeTests (termsOf all)) (6 when noRow d ∷ []) placed-numbered tt
+  places-numbered = numbered-append (each placeTests (termsOf all)) (6 when noRow d ∷ []) (placed-numbered all) tt
 
   pub remembered-numbered : Numbered (each (rememberTests s) (factorsOf all))
   remembered-numbered = each-numbered (λ k. rememberTests s) (remember-numbered s) 0 (factorsOf all)

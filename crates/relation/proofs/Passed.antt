@@ -30,8 +30,7 @@ use Rattle.terms.proofs.Placing.{terms-again, factors-again}
 use Rattle.relation.specs.Tests.{eachAt, each, byKind, placeTests, markTests, namedTwice}
 use Rattle.relation.specs.Masks.{masksSizes, masksMarks, maskNumberTests, relationMasksRefusal}
 use Rattle.relation.specs.Finish.{recordA, recordB, termMaskA, termMaskB, finishSizes, finishPlaces, rememberTests, finishMarks, termNumberTests, recordTests, finishNumbers, fewTests, offTests, openTests, relationFinishChecks, relationFinishRefusal}
-use Rattle.relation.proofs.Masking.{own-numbered}
-use Rattle.relation.proofs.Numbering.{checks-numbered, open-numbered}
+use Rattle.relation.proofs.Numbering.{masks-numbered, checks-numbered, open-numbered}
 
 -- ---- tests of every term
 
@@ -136,7 +135,7 @@ relation-masks-made s rows ts out z =
     let eights = each (maskNumberTests (width s) rows) (termsOf all) in
     let behind = each placeTests (termsOf all) ++ (masksMarks s all ++ eights) in
     let (frame, own) = clear-parts (frameTests s rows) (masksSizes s all out ++ behind) tt z in
-    let (sizes, rest) = fail-parts (masksSizes s all out) behind (all-fail (masksSizes s all out ++ behind) (own-numbered s rows all) own) in
+    let (sizes, rest) = fail-parts (masksSizes s all out) behind (all-fail (masksSizes s all out ++ behind) (masks-numbered s rows all) own) in
     let (place, rest') = fail-parts (each placeTests (termsOf all)) (masksMarks s all ++ eights) rest in
     let (marks, _) = fail-parts (masksMarks s all) eights rest' in
     record { framed = frame-passed s rows 0 (sym frame) refl; placed = relation-masks-placed s ts out sizes place marks }

@@ -19,11 +19,11 @@ use Rattle.opening.specs.Walking.{tooFew, disagree}
 use Rattle.terms.specs.declared.Term.{Term}
 use Rattle.terms.specs.Listed.{mostTerms, plain, productsOf, collected, termsOf, factorsOf}
 use Rattle.terms.proofs.Placing.{terms-again, factors-again}
-use Rattle.relation.specs.Tests.{eachAt, each, byKind, namedTwice}
+use Rattle.relation.specs.Tests.{eachAt, each, byKind}
 use Rattle.relation.specs.Masks.{maskedTerms, termMasks, relationMasksRefusal}
 use Rattle.relation.specs.Finish.{recordA, recordB, recordTests, termMaskA, termMaskB, withProducts, withSum, relationDone, relationFinishRefusal}
 use Rattle.relation.specs.Order.{rank, Ranked, LawfulAfterFive}
-use Rattle.relation.specs.Table.{sixes, sevens, relationMasksTable, relationFinishTable}
+use Rattle.relation.specs.Table.{sixes, sevens, relationMasksTable, relationFinishTable, repeats, triplesOf}
 use Rattle.relation.specs.Claims.{RelationLawful}
 use Rattle.relation.proofs.Ranks.{settles, Only, only-append, each-only, ranked-group, ranked-last}
 use Rattle.relation.proofs.Tables.{relation-tables}
@@ -97,10 +97,10 @@ module _ (s : Session) (rows : List ℕ) (ts : List Term) where
 
   masks-ranked : (out : List ℕ) → Ranked 0 (relationMasksTable s rows ts out)
   masks-ranked out =
-      let seven = each (sevens s 3) ts ++ (7 when namedTwice (productsOf ts) ∷ []) in
+      let seven = each (sevens s 3) ts ++ (7 when repeats (triplesOf ts) ∷ []) in
       let eight = each (λ t. eights [] (four t) t) ts in
       let o7 : Only 7 seven =
-      only-append 7 (each (sevens s 3) ts) (7 when namedTwice (productsOf ts) ∷ []) (each-only 7 (λ k. sevens s 3) (seven-only s 3) 0 ts) (refl, tt) in
+      only-append 7 (each (sevens s 3) ts) (7 when repeats (triplesOf ts) ∷ []) (each-only 7 (λ k. sevens s 3) (seven-only s 3) 0 ts) (refl, tt) in
       let o8 : Only 8 eight = each-only 8 (λ k t. eights [] (four t) t) (eight-only (λ t. []) four (λ t. tt) (λ t. (refl, (refl, (refl, (refl, tt)))))) 0 ts in
       let tail : Ranked 11 (six ++ (seven ++ eight)) =
       ranked-group 11 6 six (seven ++ eight) (search needs) (search needs) six-all
@@ -126,7 +126,7 @@ module _ (s : Session) (rows : List ℕ) (ts : List Term) where
   finish-ranked d blocks =
       let sixth = six ++ (6 when noRow d ∷ []) in
       let kept = each (λ t. 7 when not (eqb (factorA s (t .first)) (t .row)) ∷ 7 when not (eqb (factorB s (t .first)) (t .second)) ∷ []) (productsOf ts) in
-      let seven = each (sevens s 5) ts ++ (7 when namedTwice (productsOf ts) ∷ (kept ++ (7 when wrongMark s d 0 ∷ []))) in
+      let seven = each (sevens s 5) ts ++ (7 when repeats (triplesOf ts) ∷ (kept ++ (7 when wrongMark s d 0 ∷ []))) in
       let eight = each (λ t. eights (alone t) (five t) t) ts ++ recordTests s blocks 0 (length (productsOf ts)) in
       let nine = eachAt (λ k t. 9 when tooFew s (termMaskA s rows t) (recordA s blocks k) ∷ 9 when tooFew s (termMaskB s rows t) (recordB s blocks k) ∷ []) 0 (productsOf ts) in
       let thirteen = eachAt (λ k t. 13 when disagree s (termMaskA s rows t) (recordA s blocks k) ∷ 13 when disagree s (termMaskB s rows t) (recordB s blocks k) ∷ []) 0 (productsOf ts) in
@@ -135,7 +135,7 @@ module _ (s : Session) (rows : List ℕ) (ts : List Term) where
       each-only 7 (λ k t. 7 when not (eqb (factorA s (t .first)) (t .row)) ∷ 7 when not (eqb (factorB s (t .first)) (t .second)) ∷ [])
       (λ k t. (refl, (refl, tt))) 0 (productsOf ts) in
       let o7 : Only 7 seven =
-      only-append 7 (each (sevens s 5) ts) (7 when namedTwice (productsOf ts) ∷ (kept ++ (7 when wrongMark s d 0 ∷ [])))
+      only-append 7 (each (sevens s 5) ts) (7 when repeats (triplesOf ts) ∷ (kept ++ (7 when wrongMark s d 0 ∷ [])))
       (each-only 7 (λ k. sevens s 5) (seven-only s 5) 0 ts) (refl, only-append 7 kept (7 when wrongMark s d 0 ∷ []) ok (refl, tt)) in
       let o8 : Only 8 eight =
       only-append 8 (each (λ t. eights (alone t) (five t) t) ts) (recordTests s blocks 0 (length (productsOf ts)))

@@ -3,8 +3,8 @@
 -- walk over the list hands on, give the same refusal. Bounds and marks are the documents' numbers.
 use Prim.Native.Nat.{ℕ, _+_, _*_, _-_}
 use mathlib.Core.Path.{_≡_}
-use mathlib.Core.Bool.{not}
-use mathlib.Core.List.{List, [], _∷_, _++_}
+use mathlib.Core.Bool.{Bool, false, not, _||_}
+use mathlib.Core.List.{List, [], _∷_, _++_, map}
 use lib.Dec.{eqb, ltb}
 use lib.ListN.{length}
 use Rattle.refusal.specs.Refusal.{Test, _when_, first}
@@ -16,9 +16,22 @@ use Rattle.session.specs.Checks.{wrongMark}
 use Rattle.opening.specs.Walking.{recordLength, tooFew, disagree}
 use Rattle.terms.specs.declared.Term.{Term}
 use Rattle.terms.specs.Listed.{plain, productsOf, collected}
-use Rattle.relation.specs.Tests.{eachAt, each, byKind, namedTwice}
+use Rattle.relation.specs.Tests.{eachAt, each, byKind}
 use Rattle.relation.specs.Masks.{relationMasksRefusal}
 use Rattle.relation.specs.Finish.{recordTests, recordA, recordB, termMaskA, termMaskB, relationFinishRefusal}
+
+-- whether a number stands twice in a list
+unfoldable pub isAmong : ℕ → List ℕ → Bool
+isAmong x [] = false
+isAmong x (y ∷ ys) = eqb y x || isAmong x ys
+
+unfoldable pub repeats : List ℕ → Bool
+repeats [] = false
+repeats (x ∷ xs) = isAmong x xs || repeats xs
+
+-- the triples that the product terms name, by their first rows
+abbrev pub triplesOf : List Term → List ℕ
+triplesOf ts = map (λ t. t .first) (productsOf ts)
 
 -- a term's lines
 abbrev pub sixes : Term → List Test
@@ -45,7 +58,7 @@ relationMasksTable s rows ts out =
     ∷ 5 when wrongLength out (length (productsOf ts) * (2 * (s .t + 1)))
     ∷ 14 when outside 1 32 (length ts)
     ∷ (each sixes ts
-    ++ ((each (sevens s 3) ts ++ (7 when namedTwice (productsOf ts) ∷ []))
+    ++ ((each (sevens s 3) ts ++ (7 when repeats (triplesOf ts) ∷ []))
     ++ each
     (λ t. 8 when beyond (t .coefficient)
     ∷ byKind (plain t) []
@@ -67,7 +80,7 @@ relationFinishTable s rows ts d blocks =
     ∷ 14 when outside 1 32 (length ts)
     ∷ (((each sixes ts ++ (6 when ltb 95 d ∷ []))
     ++ ((each (sevens s 5) ts
-    ++ (7 when namedTwice (productsOf ts)
+    ++ (7 when repeats (triplesOf ts)
     ∷ (each (λ t. 7 when not (eqb (factorA s (t .first)) (t .row)) ∷ 7 when not (eqb (factorB s (t .first)) (t .second)) ∷ []) (productsOf ts)
     ++ (7 when wrongMark s d 0 ∷ []))))
     ++ (each

@@ -1,38 +1,42 @@
 // The openings of a relation's finish: y and y' of every product term, with the first refusal among them.
+use mask_opening::OpenedPair;
 use relation_writing::OpenedTerms;
+use session::Party;
 use session::Session;
 use terms::Term;
 use terms::Terms;
 use walk::Opened;
 ghost use mathlib.Core.Path.{_≡_};
-ghost use Prim.Native.Nat.{_+_, _*_, _≤_, _<_};
+ghost use Prim.Native.Nat.{_*_, _<_};
 ghost use lib.ListN.{length};
 ghost use Rattle.shape.specs.Lengths.{recordLength};
 ghost use Rattle.session.specs.Sessions.{shapeOf};
-ghost use Rattle.session.specs.Between.{Framed, RowIn};
-ghost use Rattle.opening.specs.Walking.{openedRow};
-ghost use Rattle.product_masks.specs.Masks.{maskRow};
+ghost use Rattle.session.specs.Between.{Framed};
+ghost use Rattle.mask_opening.specs.Pair.{openedPair};
+ghost use Rattle.mask_opening.specs.Between.{Maskable};
 ghost use Rattle.terms.specs.Listed.{mostTerms, factorsOf};
 ghost use Rattle.relation.specs.Tests.{Few, Every, Factors};
-ghost use Rattle.relation.specs.Finish.{recordAt};
 ghost use Rattle.relation_checks.specs.Steps.{Pair};
 ghost use Rattle.relation_finish.specs.Steps.{keptAt, withOpened, openedAll, unopenedBy};
 
-// A factor row less a row of the triple, opened with the record at place j.
-fn open_mask(
-    session: Session,
+// Both masks of a product term, in rooms that fit the station.
+fn open_pair(
+    party: Party,
     rows: &[u32],
-    factor: usize,
-    row: usize,
-    blocks: &[u32],
-    j: usize,
-) -> Opened
-    requires { ⌜ Framed session (now rows) × RowIn (shapeOf session) factor × RowIn (shapeOf session) row
-        × (j * recordLength (shapeOf session) + recordLength (shapeOf session) ≤ length (now blocks)) ⌝ }
-    ensures { λ r. ⌜ r ≡ openedRow session (maskRow (shapeOf session) (now (rows .entry)) factor row) (recordAt session (now (blocks .entry)) j) ⌝ }
+    a: usize,
+    b: usize,
+    first: usize,
+    record_a: &[u32],
+    record_b: &[u32],
+) -> OpenedPair
+    requires { ⌜ Maskable party (now rows) a b first (now «record_a») (now «record_b») ⌝ }
+    ensures { λ r. ⌜ r ≡ openedPair party (now (rows .entry)) a b first (now («record_a» .entry)) (now («record_b» .entry)) ⌝ }
 {
-    let blocks = relation_checks::record(session.shape(), blocks, j);
-    mask_opening::open_mask(session.party(), rows, factor, row, blocks)
+    let shape = party.shape;
+    if shape.n <= shape::FEW_POSTS {
+        return mask_opening::open_few_pair(party, rows, a, b, first, record_a, record_b);
+    }
+    mask_opening::open_large_pair(party, rows, a, b, first, record_a, record_b)
 }
 
 // 9, or else 13, of the product term at place k behind those before it, and its two numbers.
@@ -60,18 +64,20 @@ fn open_term(
     requires { ⌜ Framed session (now rows) × Pair session (now blocks) k × Factors (shapeOf session) term ⌝ }
     ensures { λ r. ⌜ r ≡ withOpened session (now (rows .entry)) (now (blocks .entry)) k term before ⌝ }
 {
+    let shape = session.shape();
     let place = 2 * k;
-    let first = term.first as usize;
-    let a = open_mask(session, rows, term.row as usize, first, blocks, place);
-    let b = open_mask(
-        session,
+    let record_a = relation_checks::record(shape, blocks, place);
+    let record_b = relation_checks::record(shape, blocks, place + 1);
+    let pair = open_pair(
+        session.party(),
         rows,
+        term.row as usize,
         term.second as usize,
-        first + 1,
-        blocks,
-        place + 1,
+        term.first as usize,
+        record_a,
+        record_b,
     );
-    keep(k, a, b, before)
+    keep(k, pair.a, pair.b, before)
 }
 
 // No numbers yet, and this refusal.

@@ -1,3 +1,4 @@
 pub mod Lows
 pub mod Step
 pub mod Walk
+pub mod Masking

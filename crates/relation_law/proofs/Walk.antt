@@ -1,19 +1,15 @@
 -- Document 02, (viii): "the relations, use the pair". By induction over the product terms.
 use Prim.Native.Nat.{ℕ, zero, suc, _+_, _*_, _≤_}
 use mathlib.Core.Path.{_≡_, refl, sym, _∙_, ap, ap₂, subst}
-use mathlib.Core.Logic.{_≢_}
 use mathlib.Core.Bool.{false}
 use mathlib.Core.List.{List, [], _∷_}
 use native.Mathlib.Nat.{mul-assoc, mul-comm}
 use native.Mathlib.Omega.{arith}
-use borrow.Author.Tests.{eqb-false}
-use lib.Dec.{eqb}
 use lib.ListN.{length, set, length-set}
 use Rattle.shape.specs.Marks.{held, masked, spent, collected as collectedMark}
 use Rattle.poly.specs.Counting.{All}
 use Rattle.poly.proofs.Lists.{all-map, all-zip}
 use Rattle.refusal.specs.Refusal.{first, outcome}
-use Rattle.refusal.proofs.Laws.{or-false}
 use Rattle.session.specs.declared.Session.{Session}
 use Rattle.session.specs.declared.Answer.{Answer}
 use Rattle.session.specs.Sessions.{factorA, factorB, marked, holding, answer}
@@ -26,24 +22,14 @@ use Rattle.product.specs.Claims.{Whole}
 use Rattle.terms.specs.declared.Term.{Term}
 use Rattle.terms.specs.Listed.{productsOf, collected, termsOf, factorsOf}
 use Rattle.terms.proofs.Placing.{terms-again, factors-again}
-use Rattle.relation.specs.Tests.{namedIn, namedTwice}
+use Rattle.relation.specs.Tests.{namedTwice}
 use Rattle.relation.specs.Finish.{termNumberA, termNumberB, withProducts, withSum, pairDone, finishedTerms, relationDone, relationFinishRefusal, relationFinishAnswer, relationFinishRows}
+use Rattle.relation.proofs.Naming.{twice-parts}
 use Rattle.relation.proofs.Passed.{AllAt, Enough, Agreed, RecordsLow, RelationFinished, relation-finished}
 use Rattle.relation_law.specs.Pairs.{firstCall, secondCall, secondRows, PairsAccepted, sessionAfter, rowsAfter}
 use Rattle.relation_law.specs.Claims.{FinishIsPairs}
 use Rattle.relation_law.proofs.Lows.{TermLow, frame-clear, terms-low}
 use Rattle.relation_law.proofs.Step.{stateOf, pairMarks, answered, left, Stays, Waits, Long, first-is, second-is, rows-are, written-long, still-waits}
-
--- no triple is that of a term behind
-named-apart : (r : ℕ) (ts : List Term) → namedIn r ts ≡ false → All (λ t. t .first ≢ r) ts
-unfolding namedIn
-named-apart r [] e = tt
-named-apart r (t ∷ ts) e =
-    let h = or-false (eqb (t .first) r) (namedIn r ts) e in (eqb-false (t .first) r (h .0), named-apart r ts (h .1))
-
-twice-parts : (t : Term) (ts : List Term) → namedTwice (t ∷ ts) ≡ false → All (λ u. u .first ≢ t .first) ts × (namedTwice ts ≡ false)
-unfolding namedTwice
-twice-parts t ts e = let h = or-false (namedIn (t .first) ts) (namedTwice ts) e in (named-apart (t .first) ts (h .0), h .1)
 
 length-marks : (m : List ℕ) (r : ℕ) → length (pairMarks m r) ≡ length m
 length-marks m r =
@@ -171,7 +157,7 @@ module _ (s : Session) (rows blocks : List ℕ) where
         ∙ ap₂ (λ (l fs : List Term). withSum s d l (withProducts s rows blocks 0 fs rows)) (terms-again ts few) (factors-again ts few)
 
 -- the answer's refusal is the call's
-refusal-is : (x : ℕ) (new old : Session) → answer x 0 new old .refusal ≡ 0 → x ≡ 0
+pub refusal-is : (x : ℕ) (new old : Session) → answer x 0 new old .refusal ≡ 0 → x ≡ 0
 unfolding outcome
 refusal-is zero new old e = refl
 refusal-is (suc x) new old e = e

@@ -1,4 +1,5 @@
--- The law of document 02, (viii), about a relation's finish; proved in proofs/Walk.antt.
+-- What a relation's two calls have to do with the single ones. Its finish, by document 02, (viii): proved in proofs/Walk.antt. Its masks, by
+-- (v): proved in proofs/Masking.antt.
 use Prim.Native.Nat.{ℕ}
 use mathlib.Core.Path.{_≡_}
 use mathlib.Core.List.{List}
@@ -8,8 +9,10 @@ use Rattle.session.specs.Sessions.{marked}
 use Rattle.product.specs.Claims.{Whole}
 use Rattle.terms.specs.declared.Term.{Term}
 use Rattle.terms.specs.Listed.{productsOf, collected}
+use Rattle.relation.specs.Masks.{relationMasksAnswer, relationMasksOut}
 use Rattle.relation.specs.Finish.{withSum, relationFinishAnswer, relationFinishRows}
 use Rattle.relation_law.specs.Pairs.{PairsAccepted, sessionAfter, rowsAfter}
+use Rattle.relation_law.specs.Singles.{SinglesAccepted, singlesSession, singlesLists}
 
 module _ (s : Session) (rows : List ℕ) (ts : List Term) (d : ℕ) (blocks : List ℕ) where
   pub record AsPairs : Type 0 where
@@ -24,3 +27,17 @@ abbrev pub FinishIsPairs : Type 0
 FinishIsPairs =
     (s : Session) (rows : List ℕ) (ts : List Term) (d : ℕ) (blocks : List ℕ) → Whole s
     → relationFinishAnswer s rows (collected ts) d blocks .refusal ≡ 0 → AsPairs s rows ts d blocks
+
+module _ (s : Session) (rows : List ℕ) (ts : List Term) (out : List ℕ) where
+  pub record AsSingles : Type 0 where
+    -- `masks` is accepted at each product term, one term after the other
+    pub accepted : SinglesAccepted rows (productsOf ts) s out
+    -- and then leaves the session that the relation's masks leave
+    pub session-is : relationMasksAnswer s rows (collected ts) out .session ≡ singlesSession rows (productsOf ts) s out
+    -- and the same list: "Masks and records follow one another by product term"
+    pub lists-are : relationMasksOut s rows (collected ts) out ≡ singlesLists rows (productsOf ts) s out
+
+abbrev pub MasksAreSingles : Type 0
+MasksAreSingles =
+    (s : Session) (rows : List ℕ) (ts : List Term) (out : List ℕ) → relationMasksAnswer s rows (collected ts) out .refusal ≡ 0
+    → AsSingles s rows ts out

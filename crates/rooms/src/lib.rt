@@ -1,4 +1,6 @@
-// The opening of one row with one record, in rooms that fit the station: a small one clears short lists only.
+// The opening of one row with one record, in rooms that fit the station: a small one clears short lists only. The three sizes are public: the
+// compiler puts a function that has one call into its caller, and its rooms with it; those of the most posts have more than one, and stay off
+// a small station's stack.
 use session::Party;
 use walk::Opened;
 ghost use mathlib.Core.Path.{_≡_};
@@ -48,7 +50,7 @@ fn open_in<'a>(
 }
 
 // In rooms for very few posts.
-fn open_least<'a>(party: Party, row: &'a [u32], blocks: &'a [u32]) -> Opened
+pub fn open_least<'a>(party: Party, row: &'a [u32], blocks: &'a [u32]) -> Opened
     requires { ⌜ Openable party (now row) (now blocks) × (party .shape .n ≤ veryFewPosts) ⌝ }
     ensures { λ r. ⌜ r ≡ openedRow party (now (row .entry)) (now (blocks .entry)) ⌝ }
 {
@@ -78,7 +80,7 @@ fn open_least<'a>(party: Party, row: &'a [u32], blocks: &'a [u32]) -> Opened
 }
 
 // In rooms for few posts.
-fn open_small<'a>(party: Party, row: &'a [u32], blocks: &'a [u32]) -> Opened
+pub fn open_small<'a>(party: Party, row: &'a [u32], blocks: &'a [u32]) -> Opened
     requires { ⌜ Openable party (now row) (now blocks) × (party .shape .n ≤ fewPosts) ⌝ }
     ensures { λ r. ⌜ r ≡ openedRow party (now (row .entry)) (now (blocks .entry)) ⌝ }
 {
@@ -108,7 +110,7 @@ fn open_small<'a>(party: Party, row: &'a [u32], blocks: &'a [u32]) -> Opened
 }
 
 // In rooms for the most posts.
-fn open_large<'a>(party: Party, row: &'a [u32], blocks: &'a [u32]) -> Opened
+pub fn open_large<'a>(party: Party, row: &'a [u32], blocks: &'a [u32]) -> Opened
     requires { ⌜ Openable party (now row) (now blocks) ⌝ }
     ensures { λ r. ⌜ r ≡ openedRow party (now (row .entry)) (now (blocks .entry)) ⌝ }
 {

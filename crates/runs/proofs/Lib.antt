@@ -1,3 +1,4 @@
+pub mod Sent
 pub mod Outlines
 pub mod Inside
 pub mod Marks

@@ -6,18 +6,16 @@ use mathlib.Core.Logic.{_≢_, inl, inr}
 use mathlib.Core.List.{List, [], _∷_, _++_, map}
 use native.Mathlib.Decide.{decLt}
 use native.Mathlib.Omega.{arith}
-use borrow.Author.Tests.{eqb-false}
 use lib.ListN.{length, set, List·getD-eq-default}
 use lib.Seq.{getD-set-same, set-set}
-use lib.Dec.{eqb}
 use Rattle.poly.specs.Counting.{All}
 use Rattle.poly.proofs.Lists.{all-zip}
 use Rattle.shape.specs.Bounds.{rowCount}
 use Rattle.shape.specs.Marks.{empty, held as heldMark, unused, further, masked, spent, collected}
-use Rattle.refusal.proofs.Laws.{or-false}
 use Rattle.terms.specs.declared.Term.{Term}
 use Rattle.terms.specs.Listed.{plain, productsOf}
-use Rattle.relation.specs.Tests.{byKind, namedIn, namedTwice}
+use Rattle.relation.specs.Tests.{byKind, namedTwice}
+use Rattle.relation.proofs.Naming.{twice-parts}
 use Rattle.relation.proofs.Passed.{products-back}
 use Rattle.runs.specs.Outline.{Act, takes, Move, factors, actsIn, factoring, maskings, finishing, summand, summing}
 use Rattle.runs.specs.Calls.{Actual, Among}
@@ -25,22 +23,14 @@ use Rattle.runs.proofs.Marks.{Marks, markOf, rememberedA, rememberedB, 
 use Rattle.runs.proofs.Facts.{HeldIn, Multiplying, Tripled, AllowedAll, ReadyFor, Sendable}
 use Rattle.runs.proofs.Rows.{past, past-three}
 
--- ---- "a triple named twice"
-
-named-apart : (r : ℕ) (ts : List Term) → namedIn r ts ≡ false → All (λ t. t .first ≢ r) ts
-unfolding namedIn
-named-apart r [] e = tt
-named-apart r (t ∷ ts) e = let h = or-false (eqb (t .first) r) (namedIn r ts) e in (eqb-false (t .first) r (h .0), named-apart r ts (h .1))
-
--- no triple is that of a term behind
+-- ---- "a triple named twice": no triple is that of a term behind
 abbrev pub Apart : List Term → Type 0
 Apart [] = Unit {0}
 Apart (t ∷ ts) = All (λ t'. t' .first ≢ t .first) ts × Apart ts
 
 pub apart : (ts : List Term) → namedTwice ts ≡ false → Apart ts
-unfolding namedTwice
 apart [] e = tt
-apart (t ∷ ts) e = let h = or-false (namedIn (t .first) ts) (namedTwice ts) e in (named-apart (t .first) ts (h .0), apart ts (h .1))
+apart (t ∷ ts) e = let h = twice-parts t ts e in (h .0, apart ts (h .1))
 
 -- ---- masks
 

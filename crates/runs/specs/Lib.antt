@@ -2,3 +2,4 @@ pub mod Draws
 pub mod Outline
 pub mod Calls
 pub mod Packs
+pub mod Sent

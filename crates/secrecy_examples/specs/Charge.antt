@@ -114,7 +114,7 @@ unfoldable pub charge : Example
 unfolding chargeWith
 charge = chargeWith 1
 
--- The opening is the 11th call of the list.
+-- The opening is the call at place 11 of the list, counted from 0.
 abbrev pub ChargeOpened : Type 0
 ChargeOpened = openedBy charge 11 ≡ replicate 3 12
 

@@ -169,7 +169,7 @@ relation =
       shown = shown;
     }
 
--- The opening is the 14th call of the list.
+-- The opening is the call at place 13 of the list, counted from 0.
 abbrev pub RelationOpened : Type 0
 RelationOpened = openedBy relation 13 ≡ replicate 3 0
 

@@ -123,6 +123,6 @@ three =
       shown = shown;
     }
 
--- The product's opening is the 15th call of the list, the sum's the 17th.
+-- The product's opening is the call at place 17 of the list, counted from 0, the sum's the one at 18.
 abbrev pub ThreeOpened : Type 0
 ThreeOpened = (openedBy three 17 ≡ replicate 3 42) × (openedBy three 18 ≡ replicate 3 13)

@@ -4,3 +4,4 @@ pub mod RowLaws
 pub mod Calls
 pub mod Lawful
 pub mod Tables
+pub mod Kept

@@ -1,9 +1,14 @@
--- Demand 1, of every call on a session and of a new one; proved in proofs/Lawful.antt. Law.antt says what Lawful is.
-use Prim.Native.Nat.{ℕ}
+-- Demand 1, of every call on a session and of a new one; proved in proofs/Lawful.antt. Law.antt says what Lawful is. And what
+-- writing a row leaves as it was; proved in proofs/Kept.antt.
+use Prim.Native.Nat.{ℕ, _*_, _<_}
+use mathlib.Core.Path.{_≡_}
+use mathlib.Core.Logic.{_≢_}
 use mathlib.Core.List.{List}
+use lib.ListN.{length}
 use Rattle.refusal.specs.Refusal.{Test, first, outcome, Ordered, Keeps}
 use Rattle.session.specs.declared.Session.{Session}
 use Rattle.session.specs.Sessions.{holding, answer, sessionOf, created}
+use Rattle.session.specs.Rows.{rowAt, withRow}
 use Rattle.session.specs.Law.{Lawful}
 use Rattle.session.specs.Table.{newTable}
 
@@ -19,3 +24,10 @@ NewLawful =
     (n t post point : ℕ)
     → Keeps (newTable n t post point) (holding 0 0 (sessionOf n t post point))
     (holding (first (newTable n t post point)) 0 (sessionOf 0 0 0 0)) (created n t post point)
+
+-- "rows that a call doesn't name keep every number": of k rows of w numbers, x takes the place of row r and of no other. Each call
+-- that writes rows has an instance, in its crate's specs/Claims.antt.
+abbrev pub OthersKept : Type 0
+OthersKept =
+    (w k : ℕ) (rows : List ℕ) (r : ℕ) (x : List ℕ) → length rows ≡ k * w → r < k → length x ≡ w → (q : ℕ) → q ≢ r
+    → rowAt w (withRow w r x rows) q ≡ rowAt w rows q

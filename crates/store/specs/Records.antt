@@ -1,13 +1,12 @@
 -- Document 01, "The street program": "`O` lines are kept for one row: one for another row empties the record first, a second from
 -- one post replaces the first". Document 02, (iii): "`M` lines, kept for one triple as `O` lines are for a row".
-use Prim.Native.Nat.{ℕ, _-_, _*_}
+use Prim.Native.Nat.{ℕ}
 use mathlib.Core.Bool.{Bool, cond}
-use mathlib.Core.List.{List, _∷_, _++_}
+use mathlib.Core.List.{List, _++_}
 use lib.ListN.{length, take, drop, replicate}
-use Rattle.csv.specs.Fields.{overwrite}
 use Rattle.shape.specs.declared.Shape.{Shape}
-use Rattle.shape.specs.Marks.{present}
-use Rattle.shape.specs.Lengths.{blockLength, recordLength}
+use Rattle.shape.specs.Lengths.{recordLength}
+use Rattle.records.specs.Records.{withBlock, blockOf}
 
 -- The record that stands at a place of the store.
 abbrev pub recordAt : ℕ → Shape → List ℕ → List ℕ
@@ -17,14 +16,10 @@ recordAt at g store = take (recordLength g) (drop at store)
 abbrev pub recordIf : Bool → List ℕ → List ℕ
 recordIf same blocks = cond same blocks (replicate (length blocks) 0)
 
--- The record with a post's block present: a mark and its coefficients.
-abbrev pub withBlock : Shape → ℕ → List ℕ → List ℕ → List ℕ
-withBlock g post xs blocks = overwrite ((post - 1) * blockLength g) (present ∷ xs) blocks
-
 -- The store with another record at a place.
 abbrev pub withRecord : ℕ → Shape → List ℕ → List ℕ → List ℕ
 withRecord at g blocks store = take at store ++ (blocks ++ drop (recordLength g) (drop at store))
 
 -- The store after a post's coefficients were put into the record at a place.
 unfoldable pub kept : ℕ → Shape → Bool → ℕ → List ℕ → List ℕ → List ℕ
-kept at g same post xs store = withRecord at g (withBlock g post xs (recordIf same (recordAt at g store))) store
+kept at g same post xs store = withRecord at g (withBlock g post (blockOf xs) (recordIf same (recordAt at g store))) store

@@ -1,14 +1,12 @@
 // The street program's store: one lent list with the rows of its session, and behind them the records of the lines that it keeps.
 use shape::Shape;
 ghost use mathlib.Core.Path.{_≡_};
-ghost use mathlib.Core.List.{_∷_};
 ghost use Prim.Native.Nat.{_+_, _≤_};
 ghost use lib.ListN.{length, take, drop};
-ghost use Rattle.csv.specs.Fields.{overwrite};
-ghost use Rattle.shape.specs.Marks.{present};
 ghost use Rattle.shape.specs.Lengths.{vLength, recordLength};
+ghost use Rattle.records.specs.Records.{withBlock, blockOf};
 ghost use Rattle.store.specs.Sizes.{InStreet, recordRoom};
-ghost use Rattle.store.specs.Records.{recordIf, withBlock, kept};
+ghost use Rattle.store.specs.Records.{recordIf, kept};
 
 // The street program's own bound on n. The sizes below follow from it.
 pub const STREET_POSTS: usize = 32;
@@ -36,17 +34,6 @@ pub const MASKS_B_AT: usize = MASKS_A_AT + RECORD_ROOM;
 
 pub const STORE_ROOM: usize = MASKS_B_AT + RECORD_ROOM;
 
-// A post's block: its mark and its coefficients.
-fn put_block(blocks: &mut [u32], at: usize, coefficients: &[u32])
-    requires { ⌜ at + 1 + length (now coefficients) ≤ length (now blocks) ⌝ }
-    ensures { λ r. ⌜ now (blocks .exit) ≡ overwrite at (present ∷ now (coefficients .entry)) (now (blocks .entry)) ⌝ }
-{
-    blocks[at] = shape::PRESENT;
-    let from = at + 1;
-    let end = from + coefficients.len();
-    lists::copy(coefficients, &mut blocks[from..end]);
-}
-
 // The record is emptied, unless it is kept for what a line names.
 fn empty_unless(blocks: &mut [u32], same: bool)
     ensures { λ r. ⌜ now (blocks .exit) ≡ recordIf same (now (blocks .entry)) ⌝ }
@@ -61,11 +48,10 @@ fn empty_unless(blocks: &mut [u32], same: bool)
 fn keep_block(blocks: &mut [u32], shape: Shape, same: bool, post: usize, coefficients: &[u32])
     requires { ⌜ InStreet shape × (length (now blocks) ≡ recordLength shape) × (1 ≤ post) × (post ≤ shape .n)
         × (length (now coefficients) ≡ vLength shape) ⌝ }
-    ensures { λ r. ⌜ now (blocks .exit) ≡ withBlock shape post (now (coefficients .entry)) (recordIf same (now (blocks .entry))) ⌝ }
+    ensures { λ r. ⌜ now (blocks .exit) ≡ withBlock shape post (blockOf (now (coefficients .entry))) (recordIf same (now (blocks .entry))) ⌝ }
 {
-    let at = (post - 1) * shape.block_len();
     empty_unless(blocks, same);
-    put_block(blocks, at, coefficients);
+    records::put_block(shape, blocks, post, coefficients);
 }
 
 // The same for the record that stands at a place of the store.

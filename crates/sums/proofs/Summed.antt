@@ -14,7 +14,7 @@ use Rattle.session.specs.Between.{Sized, RowIn}
 use Rattle.session.proofs.RowLaws.{length-row, row-same, row-again}
 use Rattle.sums.proofs.Writers.{length-combined}
 
-length-plus-sums : (k c : ℕ) (row : List ℕ) → length (plusSums k c row) ≡ length row
+pub length-plus-sums : (k c : ℕ) (row : List ℕ) → length (plusSums k c row) ≡ length row
 unfolding plusSums
 length-plus-sums k c row =
     length-append (take k row) (map (λ m. sum m c) (drop k row)) ∙ ap (λ (n : ℕ). length (take k row) + n) (length-map (drop k row) (λ m. sum m c))

@@ -4,8 +4,8 @@ use mathlib.Core.Path.{_≡_, refl, sym, _∙_, ap, ap₂, subst}
 use mathlib.Core.Bool.{false, not}
 use mathlib.Core.List.{List, [], _∷_, _++_, map, map-append}
 use native.Mathlib.Omega.{arith}
-use borrow.Author.Tests.{not-false}
-use lib.ListN.{length, getD, take-append-drop, length-map}
+use borrow.Author.Tests.{le-ltb, not-false}
+use lib.ListN.{length, getD, take-append-drop, length-map, length-take}
 use Rattle.field.specs.Modulus.{p}
 use Rattle.field.specs.Arithmetic.{difference}
 use Rattle.field.specs.Algebra.{CommutativeRing}
@@ -30,7 +30,7 @@ use Rattle.vectors.specs.Vector.{Vector, number, firsts, numbers, valueA
 use Rattle.vectors.specs.Claims.{heldRow, Truly, EnoughTruly}
 use Rattle.vectors.proofs.Linear.{length-numbers}
 use Rattle.vectors.proofs.Draws.{value-numbers}
-use Rattle.vectors.proofs.Passing.{all-parts, all-passing, given-passing}
+use Rattle.vectors.proofs.Passing.{all-parts, all-passing, passing-most, given-passing}
 use Rattle.vectors.proofs.HeldRows.{number-at, sum-of-row, true-passes}
 open CommutativeRing 𝓡 using (add as _⊕_, mul as _⊗_, neg)
 
@@ -121,6 +121,23 @@ module _ (s : Session) (S : Vector) (blocks : List ℕ) where
   all-parts-of : (P : ℕ → Type 0) → All P (accepted s row blocks) → All P posts × All P behind
   all-parts-of P a = all-parts P posts behind (subst (All P) (sym in-all) a)
 
+  -- where t+1 posts' polynomials are their own, t+1 are accepted
+  true-accepts : (j : ℕ) → (1 ≤ j) × (j ≤ s .n) × Truly s S blocks j → Accepted (accepts s row blocks) 1 (s .n) j
+  true-accepts zero h = absurd (omega (arith, h .0))
+  true-accepts (suc j) h =
+      record { passes = true-passes s S blocks j (omega (arith, h .1)) (h .2); from-on = h .0; before = omega (arith, h .1) }
+
+  pub truly-enough : EnoughTruly s S blocks → tooFew s row blocks ≡ false
+  truly-enough t =
+      le-ltb (length (acceptedPosts s row blocks)) (needed g)
+      (omega (
+        arith,
+        ap length (walk-first (accepts s row blocks) 1 (s .n) (needed g)),
+        length-take (needed g) (accepted s row blocks),
+        t .many,
+        passing-most (accepts s row blocks) 1 (s .n) (t .good) (t .different) (all-map true-accepts (t .good) (t .truly)),
+      ))
+
   module _ (few : s .n < p) (enough : tooFew s row blocks ≡ false) where
     posts-low : Elements posts
     posts-low = all-map (λ j a. omega (arith, a .before)) posts in-range
@@ -154,11 +171,7 @@ module _ (s : Session) (S : Vector) (blocks : List ℕ) where
         given zero h = absurd (omega (arith, h .0))
         given (suc j) h =
             rw (← map-append (share s row blocks) posts behind, in-all, ← share-true j (omega (arith, h .1)) (h .2))
-            (given-passing (accepts s row blocks) (share s row blocks) 1 (s .n) (suc j) (record {
-              passes = true-passes s S blocks j (omega (arith, h .1)) (h .2);
-              from-on = h .0;
-              before = omega (arith, h .1);
-            }))
+            (given-passing (accepts s row blocks) (share s row blocks) 1 (s .n) (suc j) (true-accepts (suc j) h))
 
     -- where all accepted are true, no share is off the line
     pub true-agree : All (Truly s S blocks) (accepted s row blocks) → disagree s row blocks ≡ false

@@ -28,7 +28,7 @@ use Rattle.vectors.specs.Vector.{plusTimes, number, rowOf, vectorOf}
 use Rattle.vectors.specs.Claims.{PartLinear, heldRow, EnoughTruly, OpeningExact}
 use Rattle.vectors.proofs.Linear.{row-plusTimes}
 use Rattle.vectors.proofs.Draws.{part-is-row}
-use Rattle.vectors.proofs.Shares.{opened-exact, true-agree, all-enough}
+use Rattle.vectors.proofs.Shares.{truly-enough, opened-exact, true-agree, all-enough}
 open CommutativeRing 𝓡 using (add as _⊕_, mul as _⊗_)
 
 infixl 65 _⊕_
@@ -79,7 +79,7 @@ pub opening-exact : OpeningExact
 opening-exact s S rows r blocks clear held = (
   (λ few. open-nine s rows r blocks clear (rw held few)),
   (λ enough a. number-is enough (all-enough s S blocks posts-few enough a) (true-agree s S blocks posts-few enough a)),
-  (λ enough t. decided enough t (disagree s (heldRow s S) blocks) refl),
+  (λ t. decided (truly-enough s S blocks t) t (disagree s (heldRow s S) blocks) refl),
 )
   where
     posts-few : s .n < p

@@ -54,8 +54,9 @@ pub record EnoughTruly (s : Session) (S : Vector) (blocks : List ℕ) : Type 0 w
   pub truly : All (λ j. (1 ≤ j) × (j ≤ s .n) × Truly s S blocks j) good
 
 -- Demand 2, one opening, of a row that 1 to 8 let pass and that is the post's part of a vector: fewer than t+1 accepted give 9;
--- t+1 or more, where each polynomial accepted is its sender's, give f(0) + c; and where t+1 of them are, they give f(0) + c, or 13
--- (document 02, (iv): "every further accepted share must lie on the same polynomial of degree at most t").
+-- t+1 or more, where each polynomial accepted is its sender's, give f(0) + c; and where t+1 posts' polynomials are their own, whichever
+-- posts they are, the answer is f(0) + c, or 13 (document 02, (iv): "every further accepted share must lie on the same polynomial of
+-- degree at most t").
 abbrev pub OpeningExact : Type 0
 OpeningExact =
     (s : Session) (S : Vector) (rows : List ℕ) (r : ℕ) (blocks : List ℕ) → first (openChecks s rows r blocks) ≡ 0
@@ -63,5 +64,4 @@ OpeningExact =
     → (tooFew s (heldRow s S) blocks ≡ true → openAnswer s rows r blocks ≡ holding 9 0 s)
     × (tooFew s (heldRow s S) blocks ≡ false → All (Truly s S blocks) (accepted s (heldRow s S) blocks)
     → openAnswer s rows r blocks ≡ holding 0 (number S .0) s)
-    × (tooFew s (heldRow s S) blocks ≡ false → EnoughTruly s S blocks
-    → (openAnswer s rows r blocks ≡ holding 0 (number S .0) s) ⊎ (openAnswer s rows r blocks ≡ holding 13 0 s))
+    × (EnoughTruly s S blocks → (openAnswer s rows r blocks ≡ holding 0 (number S .0) s) ⊎ (openAnswer s rows r blocks ≡ holding 13 0 s))

@@ -11,7 +11,8 @@ use Rattle.session.specs.declared.Party.{Party}
 use Rattle.walk.specs.declared.Walk.{Walk}
 use Rattle.walk.specs.declared.Walk.the-variants.{Enough, TooFew}
 use Rattle.accepting.specs.Accepting.{passing, accepts, share}
-use Rattle.walk.specs.Between.{walkEnd, BehindIn, FurtherAs}
+use Rattle.walk.specs.Number.{walkEnd}
+use Rattle.walk.specs.Between.{BehindIn, FurtherAs}
 
 -- one post
 module _ (test : ℕ → Bool) (j k : ℕ) where

@@ -18,8 +18,9 @@ use Rattle.walk.specs.declared.Walk.{Walk}
 use Rattle.walk.specs.declared.Opened.{Opened}
 use Rattle.walk.specs.declared.Walk.the-variants.{Enough, TooFew}
 use Rattle.accepting.specs.Accepting.{passing, accepts, share, acceptedPosts, accepted, further, tooFew, disagree, opened}
-use Rattle.walk.specs.Number.{orNine, openedRow}
-use Rattle.walk.specs.Between.{outcomeOf, WalkedAs, BehindIn, FurtherAs, agreedOn}
+use Rattle.walk.specs.Number.{orNine, openedRow, outcomeOf, answerOf}
+use Rattle.walk.specs.Between.{WalkedAs, BehindIn, FurtherAs, agreedOn}
+use Rattle.walk.specs.Claims.{OutcomeAnswers}
 use Rattle.accepting.proofs.Accepted.{takes-first}
 use Rattle.walk.proofs.Walks.{Counted, counted}
 use Rattle.walk.proofs.Behind.{Behind, end-behind}
@@ -159,3 +160,20 @@ opened-decided q row blocks = go (tooFew q row blocks) (disagree q row blocks)
     go true off = refl
     go false true = refl
     go false false = refl
+
+-- by the walk's two cases
+pub outcome-answers : OutcomeAnswers
+outcome-answers q row blocks = go (outcomeOf q row blocks) (counted q row blocks)
+  where
+    off : Bool
+    off = disagree q row blocks
+
+    number : ℕ
+    number = opened q row blocks
+
+    go : (end : Walk) → Counted end (length (acceptedPosts q row blocks)) (needed (q .shape))
+        → orNine (tooFew q row blocks) off number ≡ answerOf end off number
+    go TooFew h = rw (lt-ltb (length (acceptedPosts q row blocks)) (needed (q .shape)) h)
+    go (Enough last) h =
+        let same : length (acceptedPosts q row blocks) ≡ needed (q .shape) = h in
+        rw (le-ltb (length (acceptedPosts q row blocks)) (needed (q .shape)) (omega arith))

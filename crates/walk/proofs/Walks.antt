@@ -12,7 +12,8 @@ use Rattle.session.specs.declared.Party.{Party}
 use Rattle.walk.specs.declared.Walk.{Walk}
 use Rattle.walk.specs.declared.Walk.the-variants.{Enough, TooFew}
 use Rattle.accepting.specs.Accepting.{walk, accepts, share, acceptedPosts}
-use Rattle.walk.specs.Between.{walkEnd, outcomeOf, WalkedAs}
+use Rattle.walk.specs.Number.{walkEnd, outcomeOf}
+use Rattle.walk.specs.Between.{WalkedAs}
 
 -- one post
 module _ (test : ℕ → Bool) (j k need : ℕ) where

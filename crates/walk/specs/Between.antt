@@ -1,8 +1,8 @@
--- Between the functions of the code: how the first walk ends, what each walk hands on, and what is lent to them. No theorem is stated
+-- Between the functions of the code: what each walk hands on, and what is lent to them. No theorem is stated
 -- with these.
-use Prim.Native.Nat.{ℕ, zero, suc, _-_, _≤_}
+use Prim.Native.Nat.{ℕ, suc, _-_, _≤_}
 use mathlib.Core.Path.{_≡_}
-use mathlib.Core.Bool.{Bool, true, false, not}
+use mathlib.Core.Bool.{not}
 use mathlib.Core.List.{List, _++_, map}
 use lib.ListN.{length, take}
 use Rattle.poly.specs.Interpolation.{interpolated}
@@ -13,19 +13,8 @@ use Rattle.shape.specs.Lengths.{needed}
 use Rattle.session.specs.declared.Party.{Party}
 use Rattle.accepting.specs.Accepting.{accepts, share, passing, acceptedPosts}
 use Rattle.walk.specs.declared.Walk.{Walk}
-use Rattle.walk.specs.declared.Walk.the-variants.{Enough, TooFew}
 use Rattle.walk.specs.declared.Opened.{Opened}
-use Rattle.walk.specs.Number.{orThirteen}
-
--- The walk's outcome: enough at the post that completes them, or too few.
-unfoldable pub walkEnd : (ℕ → Bool) → ℕ → ℕ → ℕ → Walk
-walkEnd test j k zero = Enough (j - 1)
-walkEnd test j zero (suc need) = TooFew
-walkEnd test j (suc k) (suc need) =
-    elim (test j) [ true ↦ walkEnd test (suc j) k need | false ↦ walkEnd test (suc j) k (suc need) ]
-
-abbrev pub outcomeOf : Party → List ℕ → List ℕ → Walk
-outcomeOf q row blocks = walkEnd (accepts q row blocks) 1 (q .shape .n) (needed (q .shape))
+use Rattle.walk.specs.Number.{orThirteen, outcomeOf}
 
 -- What the walk hands on: its outcome, and the accepted posts and their shares at the start of two lists.
 pub record WalkedAs (q : Party) (row blocks : List ℕ) (end : Walk) (posts shares : List ℕ) : Type 0 where

@@ -34,6 +34,15 @@ fn the_examples_of_the_readme() {
     }
 }
 
+/// What `rt check` runs the program on, document 01's example, a charge and a sum of two rows, is what the second implementation prints too.
+#[test]
+fn the_run_of_the_crate() {
+    let (input, expected) =
+        (include_str!("../../../crates/street/stdin"), include_str!("../../../crates/street/stdout"));
+    assert_eq!(String::from_utf8_lossy(&printed(input.as_bytes())), expected);
+    assert_eq!(String::from_utf8_lossy(&REFERENCE.street(input.as_bytes())), expected);
+}
+
 /// Each `NAME.txt` of `street_inputs/` gives its `NAME.out`, by the program and by the second implementation.
 #[test]
 fn the_stored_inputs() {

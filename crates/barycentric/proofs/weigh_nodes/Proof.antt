@@ -1,91 +1,22 @@
--- `barycentric::weigh_nodes` meets its contract: the weights of 0 and of the first i nodes stand in front.
-use Prim.Native.Nat.{ℕ, _+_, _-_, _<_}
-use mathlib.Core.Path.{refl, _∙_, ap}
-use native.Mathlib.Omega.{arith}
-use lib.ListN.{length, getD, length-set}
-use denote.Ref.{now}
+-- `barycentric::weigh_nodes` meets its contract: the weights have their distances to the first k gaps, and whole fours are left.
+use Prim.Native.Nat.{_-_, _%_, _≤_}
+use mathlib.Core.Path.{_≡_}
+use lib.ListN.{length}
 use borrow.Author.Needs.{needs}
-use Rattle.field.specs.Arithmetic.{product}
-use Rattle.barycentric.proofs.Ascent.{rising-last, missing-small}
-use Rattle.barycentric.proofs.Signs.{above-zero, above-at, gaps-fit, node-under}
-use Rattle.barycentric.proofs.Zero.{missing-few}
-use Rattle.barycentric.proofs.Moves.{Moved, moved-start, node-within, place-within, moved-turn, moved-end}
+use Rattle.barycentric.specs.Weights.{Weighing}
+use Rattle.barycentric.proofs.Fours.{weighing-end}
 use Rattle.barycentric.proofs.weigh_nodes.Statement.{statement}
 use Rattle.barycentric.proofs.weigh_nodes.Tie as tie
 
 abbrev Inv-loop : tie.InvT-loop
-Inv-loop nodes gaps list₀ missed i₀ i-end list i = Moved nodes gaps (length list₀) list i
+Inv-loop nodes gaps list₀ n k₀ list k =
+    (k ≤ length gaps) × (k % 4 ≡ length gaps % 4) × (length list ≡ length list₀) × Weighing nodes gaps k list
 
 abbrev μ-loop : tie.MeasureT-loop
-μ-loop nodes gaps list₀ missed i₀ i-end list i = length nodes - i
-
-distances-requires : tie.Need-distances-requires Inv-loop μ-loop
-distances-requires c κs =
-    let a = c .before .before .before in
-    (omega arith, missing-small _ _ (a .pre .0) (a .pre .1) (a .pre .2), missing-few _ _ (a .pre .0) (a .pre .1) (a .pre .2), above-zero _ _ (a .pre .0) (a .pre .2) _ refl)
-
-loop-holds : tie.Need-loop-holds Inv-loop μ-loop
-loop-holds c =
-    let a = c .before .before .before .before in
-    moved-start _ _ (a .args .list .now) _ (search needs) (search needs) (c .distances .ensures)
-
--- the numbers up to the node are at most the last
-add-above-2 : tie.Need-add-above-2 Inv-loop μ-loop
-add-above-2 c =
-    let a = c .before .before .before .before .before .before .before .before in
-    let l = c .before .before .before .loop in
-    record { fits = omega (arith, gaps-fit _ _ (a .pre .0) (a .pre .2) (l .i) (search needs) (a .pre .1)) }
-
-sub-above : tie.Need-sub-above Inv-loop μ-loop
-sub-above c =
-    let a = c .before .before .before .before .before .before .before .before in
-    let l = c .before .before .before .loop in
-    omega (arith, c .wide .ensures, node-under _ _ (a .pre .0) (a .pre .2) (l .i) (search needs))
-
--- the node's weight is in the list, and so is its new place
-mul-mul : tie.Need-mul-mul Inv-loop μ-loop
-mul-mul c = omega (arith, c .wide .ensures, c .before .shared-slice-known3 .given (c .before .before .before .loop .i))
-
-slice-read-mul : tie.Need-slice-read-mul Inv-loop μ-loop
-slice-read-mul c =
-    let l = c .before .before .before .before .loop in
-    let a = c .before .before .before .before .before .before .before .before .before in
-    let within = node-within _ _ (a .args .list .now) _ (l .list) (l .i) (a .pre .0) (a .pre .3) (l .inv) (search needs) in
-    omega (arith, c .before .wide .ensures)
-
-slice-write-list-2 : tie.Need-slice-write-list-2 Inv-loop μ-loop
-slice-write-list-2 c =
-    let l = c .before .before .before .before .before .before .before .loop in
-    let a = c .before .before .before .before .before .before .before .before .before .before .before .before in
-    place-within _ _ (a .args .list .now) _ (l .list) (l .i) (a .pre .0) (a .pre .3) (l .inv) (search needs)
-
-loop-again : tie.Need-loop-again Inv-loop μ-loop
-loop-again c =
-    let a = c .before .before .before .before .before .before .before .before .before .before .before .before in
-    let l = c .before .before .before .before .before .before .before .loop in
-    let n = c .before .distances2 in
-    let entry = c .before .before .before .before .wide .ensures in
-    moved-turn _ _ (a .args .list .now) _ (l .list) (l .i) (a .pre .0) (a .pre .3) (l .inv) (search needs) (n .result) _ (n .ensures)
-    (c .mul .ensures ∙ ap (λ (k : ℕ). product (getD (l .list) k 0) (n .result)) entry)
-
-same-length : tie.Need-same-length Inv-loop μ-loop
-same-length c = c .before .loop .inv .sized ∙ length-set (c .before .before .before .before .before .before .args .list .now) 0 _
-
-distances-requires-2 : tie.Need-distances-requires-2 Inv-loop μ-loop
-distances-requires-2 c κs =
-    let a = c .before .before .before .before .before .before .before .before .before .before in
-    let l = c .before .before .before .before .before .loop in
-    let place : l .i < length (now (a .args .nodes)) = search needs in
-    let node = c .before .before .wide .ensures in (
-      omega (arith, rising-last 0 (now (a .args .nodes)) (l .i) (a .pre .0) place, a .pre .1),
-      missing-small _ _ (a .pre .0) (a .pre .1) (a .pre .2),
-      omega (arith, gaps-fit _ _ (a .pre .0) (a .pre .2) (l .i) place (a .pre .1)),
-      ap (λ (x : ℕ). length (now (a .args .gaps)) + (l .i + 1) - x) node ∙ above-at _ _ (a .pre .0) (a .pre .2) (l .i) place,
-    )
+μ-loop nodes gaps list₀ n k₀ list k = length gaps - k
 
 pub weigh-nodes-spec : {M : Type 1} → statement M
 weigh-nodes-spec =
     tie.close
-    (tie.spec Inv-loop μ-loop distances-requires (λ c. search needs) loop-holds (λ c. search needs) (λ c. search needs) (λ c κs. search needs)
-    (λ c. search needs) add-above-2 sub-above mul-mul slice-read-mul (λ c. search needs) (λ c. search needs) distances-requires-2 (λ c κs. search needs)
-    (λ c. search needs) (λ c. search needs) slice-write-list-2 (λ c. search needs) (λ c. search needs) loop-again same-length (λ c. search (needs, moved-end)))
+    (tie.spec Inv-loop μ-loop (λ c κs. search needs) (λ c. search needs) (λ c κs. search needs) (λ c. search needs) (λ c. search needs) (λ c. search needs)
+    (λ c. search needs) (λ c. search (needs, weighing-end)))

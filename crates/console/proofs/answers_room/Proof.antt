@@ -1,7 +1,7 @@
 -- `answers_room` has the room's length, whatever it is.
 use Prim.Native.Nat.{ℕ}
 use lib.ListN.{length-replicate}
-use Rattle.console.specs.Sizes.{answersRoom}
+use Rattle.serving.specs.Sizes.{answersRoom}
 use Rattle.console.proofs.answers_room.Statement.{statement}
 use Rattle.console.proofs.answers_room.Tie as tie
 

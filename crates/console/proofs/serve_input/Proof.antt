@@ -1,6 +1,6 @@
 -- `serve_input` lends fresh lists, and tells what `serve` ensured.
 use borrow.Author.Needs.{needs}
-use Rattle.console.proofs.Closing.{ended-told}
+use Rattle.console.proofs.Beginning.{ended-told}
 use Rattle.console.proofs.serve_input.Statement.{statement}
 use Rattle.console.proofs.serve_input.Tie as tie
 
@@ -10,8 +10,8 @@ requires c κs =
 
 returns : tie.Need-returns
 returns c =
-    let served = c .before .before .before .before .before .before .before .before .before .before in
-    ended-told _ _ _ _ _ _ _ (c .before .before .total .ensures) (c .before .failed .ensures) (c .whole .ensures) (served .serve .ensures)
+    let served = c .before .before .before .before .before .before .before .before .before .before .before in
+    ended-told _ _ _ _ _ _ _ _ (c .before .before .total .ensures) (c .before .failed .ensures) (c .whole .ensures) (served .serve .ensures)
 
 pub serve-input-spec : {M : Type 1} → statement M
 serve-input-spec =

@@ -1,6 +1,6 @@
 -- `start` reads only where the header was taken.
 use borrow.Author.Needs.{needs}
-use Rattle.console.proofs.Closing.{header-taken, none-read}
+use Rattle.console.proofs.Beginning.{header-taken, none-read}
 use Rattle.console.proofs.start.Statement.{statement}
 use Rattle.console.proofs.start.Tie as tie
 

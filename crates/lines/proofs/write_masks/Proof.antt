@@ -1,13 +1,14 @@
 -- `write_masks` meets its contract.
 use borrow.Author.Needs.{needs}
-use Rattle.lines.proofs.Refusing.{posts-refuse, posts-keep, posts-n, posts-two, posts-add, posts-mul, refused-answer, answer-then, list-then}
+use Rattle.refusal.proofs.Ranges.{posts-passed}
+use Rattle.lines.proofs.Refusing.{posts-refuse, posts-keep, posts-n, posts-two, refused-answer, posted-answer, posted-list}
 use Rattle.lines.proofs.write_masks.Statement.{statement}
 use Rattle.lines.proofs.write_masks.Tie as tie
 
-ruleset ends = (needs, posts-refuse, posts-keep, posts-n, posts-two, posts-add, posts-mul, refused-answer, answer-then, list-then)
+ruleset ends = (needs, posts-passed, posts-refuse, posts-keep, posts-n, posts-two, refused-answer, posted-answer, posted-list)
 
 pub write-masks-spec : {M : Type 1} → statement M
 write-masks-spec =
     tie.close
     (tie.spec (λ c κs. search ends) (λ c κs. search ends) (λ c. search ends) (λ c. search ends)
-    (λ c. search ends) (λ c κs. search ends) (λ c. search ends) (λ c. search ends))
+    (λ c κs. search ends) (λ c. search ends) (λ c. search ends))

@@ -54,9 +54,9 @@ use Rattle.terms.proofs.collect.Met as collect-met
 use Rattle.relation.specs.Tests.{Counted}
 use Rattle.relation.specs.Masks.{relationMasksAnswer, relationMasksOut}
 use Rattle.relation.proofs.Passing.{collected-counted}
-use Rattle.relation.proofs.masks.masks as work
-use Rattle.relation.proofs.masks.masks.Symbol as work-code
-use Rattle.relation.proofs.masks.masks.Met as work-met
+use Rattle.relation_masks.proofs.masks as work
+use Rattle.relation_masks.proofs.masks.Symbol as work-code
+use Rattle.relation_masks.proofs.masks.Met as work-met
 use Rattle.gantsorol.proofs.relations.gantsorol_relation_masks as own
 use Rattle.gantsorol.proofs.relations.gantsorol_relation_masks.Code as code
 use Rattle.gantsorol.proofs.relations.gantsorol_relation_masks.Key as key
@@ -191,4 +191,4 @@ gantsorol-relation-masks-spec 𝓤 H 𝓜 𝓖 𝓡 =
     entered 𝓤 H (Own 𝓤 H A mem run) (𝓣 .C) (𝓣 .Λ) key.name code.function (code.unfolded 𝓤 H 𝓜 𝓡)
     (meets 𝓤 H A mem run (givenOf 𝓤 H 𝓜 𝓖) (tablesOf 𝓤 H 𝓜 𝓣)
     (cited 𝓤 H (Collect 𝓤 H A mem run) 𝓜 𝓡 code.env collect-code.name collect-code.routine code.calls-terms·collect (collect-met.met 𝓤 H 𝓜 𝓖 𝓡))
-    (cited 𝓤 H (Work 𝓤 H A mem run) 𝓜 𝓡 code.env work-code.name work-code.routine code.calls-relation·masks·masks (work-met.met 𝓤 H 𝓜 𝓖 𝓡)))
+    (cited 𝓤 H (Work 𝓤 H A mem run) 𝓜 𝓡 code.env work-code.name work-code.routine code.calls-relation-masks·masks (work-met.met 𝓤 H 𝓜 𝓖 𝓡)))

@@ -1,0 +1,4 @@
+pub mod Heard
+pub mod Theorems
+pub mod Loading
+pub mod Keeping

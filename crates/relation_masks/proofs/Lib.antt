@@ -1,0 +1,3 @@
+pub mod Remembering
+pub mod Parts
+pub mod Masking

@@ -1,0 +1,3 @@
+pub mod Sizes
+pub mod Serving
+pub mod Between
