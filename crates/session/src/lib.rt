@@ -113,9 +113,9 @@ impl Session {
         }
     }
 
-    // How a call ends that marks a row: refused, the session as it came; else with the mark. One method for both, called once. Of the
-    // session only the list that changes is copied to a place of its own; the rest goes straight into the answer. A `mut self` would
-    // be copied whole before the change, and whole again into the answer.
+    // How a call ends that marks a row: refused, the session as it came; else with the mark. One method for both, called once. The list
+    // that changes is copied, to be changed; the rest is copied once, straight into the answer. With `mut self` the whole session would
+    // be copied twice: to be changed, and into the answer.
     pub fn answer_marking(self, refusal: u8, row: usize, mark: u8) -> Answer
         requires { ⌜ Allows refusal (row ≤ lastRow) ⌝ }
         ensures { λ r. ⌜ r ≡ answer refusal 0 (marked self row mark) self ⌝ }

@@ -1,4 +1,4 @@
--- `Session::answer_marking_triple` meets its contract.
+-- `Session::answer_marking_triple` meets its contract. Where the two ways meet, the list is what the way left.
 use mathlib.Core.Logic.{⊎-elim}
 use borrow.Author.Needs.{needs}
 use Rattle.session.proofs.Endings.{first-allowed, second-allowed, third-allowed, second-fits, third-fits, ends-accepted, ends-refused}
