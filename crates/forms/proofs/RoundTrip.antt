@@ -19,7 +19,7 @@ use Rattle.forms.proofs.Forms.{form-spelled, form-read}
 use Rattle.forms.proofs.Ranges.{last-row-le}
 
 -- ---- what the range says
-none-beyond : (xs : List ℕ) → anyBeyond xs ≡ false → Small xs
+pub none-beyond : (xs : List ℕ) → anyBeyond xs ≡ false → Small xs
 unfolding anyBeyond
 none-beyond [] e = tt
 none-beyond (x ∷ xs) e =
