@@ -37,8 +37,8 @@ unfoldable pub bytesOf : ℕ → ℕ → List ℕ
 bytesOf zero x = []
 bytesOf (suc k) x = (x % 256) ∷ bytesOf k (x / 256)
 
--- Eight digits stand at a position and say v, and three bytes more stand behind them.
+-- Eight digits stand at a position and say v, and two bytes more stand behind them.
 pub record BehindEight (s : List ℕ) (at v : ℕ) : Type 0 where
-  pub room : at + suc mostDigits ≤ length s
+  pub room : at + mostDigits ≤ length s
   pub digits : Digits (take 8 (drop at s))
   pub says : v ≡ valueAfter 0 (take 8 (drop at s))

@@ -165,6 +165,12 @@ fn behind_eight(line: &[u8], at: usize, v: u64) -> Span
         };
     }
     let ten = nine * 10 + wide(tenth - 48);
+    if line.len() <= at + 10 {
+        return Span {
+            value: ten,
+            end: at + 10,
+        };
+    }
     let behind = line[at + 10];
     if behind < 48 {
         return Span {
@@ -184,14 +190,14 @@ fn behind_eight(line: &[u8], at: usize, v: u64) -> Span
     }
 }
 
-// The digits from a position: eight at once where there are as many, else in one walk.
+// The digits from a position: eight at once where there are as many, else in one walk. Nine and a line feed are enough bytes for that.
 fn digits_at(line: &[u8], at: usize) -> Span
     ensures { λ r. ⌜ DigitsAt (now (line .entry)) at (r .value) (r .end) ⌝ }
 {
-    if line.len() < 11 {
+    if line.len() < MOST_DIGITS {
         return walk_digits(line, at);
     }
-    if line.len() - 11 < at {
+    if line.len() - MOST_DIGITS < at {
         return walk_digits(line, at);
     }
     let x = eight_at(line, at);
@@ -201,11 +207,11 @@ fn digits_at(line: &[u8], at: usize) -> Span
     walk_digits(line, at)
 }
 
-// The number at a position.
-pub fn field_at(line: &[u8], at: usize) -> Field
+// The number at a position, of digits that are known.
+fn field_of(line: &[u8], at: usize, digits: Span) -> Field
+    requires { ⌜ DigitsAt (now line) at (digits .value) (digits .end) ⌝ }
     ensures { λ r. ⌜ r ≡ fieldAt (now (line .entry)) at ⌝ }
 {
-    let digits = digits_at(line, at);
     let end = digits.end;
     let k = end - at;
     if k < 1 {
@@ -222,4 +228,18 @@ pub fn field_at(line: &[u8], at: usize) -> Field
         return Field::Wrong; // a leading zero
     }
     Field::Number { value, next: end }
+}
+
+// The number at a position.
+pub fn field_at(line: &[u8], at: usize) -> Field
+    ensures { λ r. ⌜ r ≡ fieldAt (now (line .entry)) at ⌝ }
+{
+    field_of(line, at, digits_at(line, at))
+}
+
+// The same where few digits are expected: they are walked, without a look at eight.
+pub fn short_field_at(line: &[u8], at: usize) -> Field
+    ensures { λ r. ⌜ r ≡ fieldAt (now (line .entry)) at ⌝ }
+{
+    field_of(line, at, walk_digits(line, at))
 }

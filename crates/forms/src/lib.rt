@@ -11,6 +11,7 @@ ghost use Rattle.forms.specs.Lines.{lastRow};
 ghost use Rattle.forms.specs.Forms.{isLetter, numberCount, outOfRange};
 ghost use Rattle.forms.specs.Between.{HeadOf, belowLimit, PartOf};
 use csv::Run;
+use csv::short;
 
 // What the head of a line tells: where its numbers stand behind row and post, and how many they are.
 pub enum Head {
@@ -73,14 +74,14 @@ pub fn head_of(line: &[u8], k: usize) -> Head
     if count < 1 {
         return Head::Wrong;
     }
-    let run = csv::one_field(line, 1);
+    let run = short::one_field(line, 1);
     match run {
         Run::Fields { largest, next } => {
             let row = largest;
             if letter == 68 {
                 return right(letter, row, 0, next, count);
             }
-            let second = csv::one_field(line, next);
+            let second = short::one_field(line, next);
             match second {
                 Run::Fields { largest, next } => right(letter, row, largest, next, count),
                 Run::Broken => Head::Wrong,
@@ -139,7 +140,8 @@ fn lay(kept: bool, from: &[u32], to: &mut [u32])
     }
 }
 
-// The fields behind those whose numbers are in front: the list takes all of them.
+// The fields behind those whose numbers are in front: the list takes all of them. Where none is left the line's end is asked for here, which
+// spares a short line a second call.
 fn read_behind(
     line: &[u8],
     at: usize,
@@ -155,6 +157,11 @@ fn read_behind(
         (now (out .entry)) ⌝ }
 {
     let n = front.len();
+    if out.len() <= n {
+        let run = csv::line_end(line, at, largest);
+        lay(below(run, limit), front, out);
+        return run;
+    }
     let run = read_fields(line, at, largest, limit, &mut out[n..]);
     lay(below(run, limit), front, &mut out[..n]);
     run
