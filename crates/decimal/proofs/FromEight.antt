@@ -11,7 +11,7 @@ use lib.ListN.{length, getD, take, drop, length-drop, take-append-drop}
 use lib.Seq.{drop-drop, length-take-le}
 use lib.Dec.{ltb}
 use Rattle.decimal.specs.Numeral.{mostDigits, leading, valueAfter}
-use Rattle.decimal.specs.Between.{WalkEnd, DigitsAt, Digits, bytesOf, BehindEight}
+use Rattle.decimal.specs.Between.{WalkEnd, DigitsAt, Digits, bytesOf, BehindEight, BehindNine}
 use Rattle.decimal.proofs.Digits.{leading-append, value-below}
 use Rattle.decimal.proofs.Scanning.{walk-part, walk-whole, Walked, walked-below, walked-above, walked-end, walked-mul, walked-add, walked-more}
 
@@ -83,42 +83,61 @@ module _ (s : List ℕ) (at v : ℕ) (p : BehindEight s at v) where
       pub nine-add : Fits w64 (v * 10 + x)
       nine-add = walked-add s at end v (at + 8) eight-walked x (omega (arith, far .ten)) g e
 
-      nine-walked : Walked s at end (v * 10 + x) (at + 9)
-      nine-walked =
-          let i : at + 8 + 1 ≡ at + 9 = omega arith in
-          rw i at (walked-more s at end v (at + 8) eight-walked x (omega (arith, far .ten)) b g e)
+      pub behind-nine : BehindNine s at (v * 10 + x)
+      behind-nine = record { eight = v; front = p; low = b; high = g; says = ap (λ (d : ℕ). v * 10 + d) e }
 
-      pub nine-below : getD s (at + 9) 0 < 48 → DigitsAt s at (v * 10 + x) (at + 9)
-      nine-below h = walked-below s at end (v * 10 + x) (at + 9) nine-walked (omega (arith, far .ten)) h
+as-said : (s : List ℕ) (at end v x i : ℕ) → v ≡ x → Walked s at end x i → Walked s at end v i
+as-said s at end v x i e w = rw e w
 
-      pub nine-above : 57 < getD s (at + 9) 0 → DigitsAt s at (v * 10 + x) (at + 9)
-      nine-above h = walked-above s at end (v * 10 + x) (at + 9) nine-walked (omega (arith, far .ten)) h
+module _ (s : List ℕ) (at v : ℕ) (p : BehindNine s at v) where
+  abbrev last : Far s at (p .eight) (p .front)
+  last = far s at (p .eight) (p .front)
 
-      module _ (y : ℕ) (c : 48 ≤ getD s (at + 9) 0) (f : getD s (at + 9) 0 ≤ 57) where
-        pub ten-mul : Fits w64 ((v * 10 + x) * 10)
-        ten-mul = walked-mul s at end (v * 10 + x) (at + 9) nine-walked (omega (arith, far .ten))
+  abbrev stop : ℕ
+  stop = last .end
 
-        module _ (d : y ≡ getD s (at + 9) 0 - 48) where
-          pub ten-add : Fits w64 ((v * 10 + x) * 10 + y)
-          ten-add = walked-add s at end (v * 10 + x) (at + 9) nine-walked y (omega (arith, far .ten)) f d
+  nine-walked : Walked s at stop v (at + 9)
+  nine-walked =
+      let i : at + 8 + 1 ≡ at + 9 = omega arith in
+      let d : ℕ = getD s (at + 8) 0 - 48 in
+      let w = eight-walked s at (p .eight) (p .front) in
+      as-said s at stop v (p .eight * 10 + d) (at + 9) (p .says)
+      (rw i at (walked-more s at stop (p .eight) (at + 8) w d (omega (arith, last .ten)) (p .low) (p .high) refl))
 
-          ten-walked : Walked s at end ((v * 10 + x) * 10 + y) (at + 10)
-          ten-walked =
-              let i : at + 9 + 1 ≡ at + 10 = omega arith in
-              rw i at (walked-more s at end (v * 10 + x) (at + 9) nine-walked y (omega (arith, far .ten)) c f d)
+  pub nine-room : at + mostDigits ≤ length s
+  nine-room = p .front .room
 
-          pub ten-last : length s ≤ at + 10 → DigitsAt s at ((v * 10 + x) * 10 + y) (at + 10)
-          ten-last h = walked-end s at end ((v * 10 + x) * 10 + y) (at + 10) ten-walked (far .no-more h)
+  pub nine-below : getD s (at + 9) 0 < 48 → DigitsAt s at v (at + 9)
+  nine-below h = walked-below s at stop v (at + 9) nine-walked (omega (arith, last .ten)) h
 
-          module _ (l : at + 10 < length s) where
-            pub ten-below : getD s (at + 10) 0 < 48 → DigitsAt s at ((v * 10 + x) * 10 + y) (at + 10)
-            ten-below h = walked-below s at end ((v * 10 + x) * 10 + y) (at + 10) ten-walked (far .more l) h
+  pub nine-above : 57 < getD s (at + 9) 0 → DigitsAt s at v (at + 9)
+  nine-above h = walked-above s at stop v (at + 9) nine-walked (omega (arith, last .ten)) h
 
-            pub ten-above : 57 < getD s (at + 10) 0 → DigitsAt s at ((v * 10 + x) * 10 + y) (at + 10)
-            ten-above h = walked-above s at end ((v * 10 + x) * 10 + y) (at + 10) ten-walked (far .more l) h
+  module _ (y : ℕ) (c : 48 ≤ getD s (at + 9) 0) (f : getD s (at + 9) 0 ≤ 57) where
+    pub ten-mul : Fits w64 (v * 10)
+    ten-mul = walked-mul s at stop v (at + 9) nine-walked (omega (arith, last .ten))
 
-            -- an eleventh digit: what is said does not matter
-            pub too-many : 48 ≤ getD s (at + 10) 0 → getD s (at + 10) 0 ≤ 57 → DigitsAt s at ((v * 10 + x) * 10 + y) (at + 11)
-            too-many h k =
-                let w = walked-more s at end ((v * 10 + x) * 10 + y) (at + 10) ten-walked (getD s (at + 10) 0 - 48) (far .more l) h k refl in
-                record { from = omega arith; few = λ q. absurd (omega arith); many = λ q. omega (arith, w .leads) }
+    module _ (d : y ≡ getD s (at + 9) 0 - 48) where
+      pub ten-add : Fits w64 (v * 10 + y)
+      ten-add = walked-add s at stop v (at + 9) nine-walked y (omega (arith, last .ten)) f d
+
+      ten-walked : Walked s at stop (v * 10 + y) (at + 10)
+      ten-walked =
+          let i : at + 9 + 1 ≡ at + 10 = omega arith in
+          rw i at (walked-more s at stop v (at + 9) nine-walked y (omega (arith, last .ten)) c f d)
+
+      pub ten-last : length s ≤ at + 10 → DigitsAt s at (v * 10 + y) (at + 10)
+      ten-last h = walked-end s at stop (v * 10 + y) (at + 10) ten-walked (last .no-more h)
+
+      module _ (l : at + 10 < length s) where
+        pub ten-below : getD s (at + 10) 0 < 48 → DigitsAt s at (v * 10 + y) (at + 10)
+        ten-below h = walked-below s at stop (v * 10 + y) (at + 10) ten-walked (last .more l) h
+
+        pub ten-above : 57 < getD s (at + 10) 0 → DigitsAt s at (v * 10 + y) (at + 10)
+        ten-above h = walked-above s at stop (v * 10 + y) (at + 10) ten-walked (last .more l) h
+
+        -- an eleventh digit: what is said does not matter
+        pub too-many : 48 ≤ getD s (at + 10) 0 → getD s (at + 10) 0 ≤ 57 → DigitsAt s at (v * 10 + y) (at + 11)
+        too-many h k =
+            let w = walked-more s at stop (v * 10 + y) (at + 10) ten-walked (getD s (at + 10) 0 - 48) (last .more l) h k refl in
+            record { from = omega arith; few = λ q. absurd (omega arith); many = λ q. omega (arith, w .leads) }

@@ -4,7 +4,7 @@ ghost use mathlib.Core.List.{[], _∷_};
 ghost use Prim.Native.Nat.{_+_, _≤_, _<_};
 ghost use lib.ListN.{length, take, drop};
 ghost use Rattle.decimal.specs.Numeral.{size, lastDigits, valueAfter, fieldAt};
-ghost use Rattle.decimal.specs.Between.{reached, WalkEnd, DigitsAt, Digits, DigitsIf, bytesOf, BehindEight};
+ghost use Rattle.decimal.specs.Between.{reached, WalkEnd, DigitsAt, Digits, DigitsIf, bytesOf, BehindEight, BehindNine};
 
 pub mod lanes;
 
@@ -132,6 +132,41 @@ fn value_of(x: u64) -> u64
     fours % 65536 * 10000 + fours / 4294967296 % 65536
 }
 
+// The digits from a position, of which nine are known and say v.
+fn behind_nine(line: &[u8], at: usize, v: u64) -> Span
+    requires { ⌜ BehindNine (now line) at v ⌝ }
+    ensures { λ r. ⌜ DigitsAt (now (line .entry)) at (r .value) (r .end) ⌝ }
+{
+    let tenth = line[at + 9];
+    if tenth < 48 {
+        return Span {
+            value: v,
+            end: at + 9,
+        };
+    }
+    if 57 < tenth {
+        return Span {
+            value: v,
+            end: at + 9,
+        };
+    }
+    let ten = v * 10 + wide(tenth - 48);
+    let end = at + 10;
+    if line.len() <= end {
+        return Span { value: ten, end };
+    }
+    if line[end] < 48 {
+        return Span { value: ten, end };
+    }
+    if 57 < line[end] {
+        return Span { value: ten, end };
+    }
+    Span {
+        value: ten,
+        end: at + 11,
+    }
+}
+
 // The digits from a position, of which eight are known and say v.
 fn behind_eight(line: &[u8], at: usize, v: u64) -> Span
     requires { ⌜ BehindEight (now line) at v ⌝ }
@@ -150,44 +185,7 @@ fn behind_eight(line: &[u8], at: usize, v: u64) -> Span
             end: at + 8,
         };
     }
-    let nine = v * 10 + wide(ninth - 48);
-    let tenth = line[at + 9];
-    if tenth < 48 {
-        return Span {
-            value: nine,
-            end: at + 9,
-        };
-    }
-    if 57 < tenth {
-        return Span {
-            value: nine,
-            end: at + 9,
-        };
-    }
-    let ten = nine * 10 + wide(tenth - 48);
-    if line.len() <= at + 10 {
-        return Span {
-            value: ten,
-            end: at + 10,
-        };
-    }
-    let behind = line[at + 10];
-    if behind < 48 {
-        return Span {
-            value: ten,
-            end: at + 10,
-        };
-    }
-    if 57 < behind {
-        return Span {
-            value: ten,
-            end: at + 10,
-        };
-    }
-    Span {
-        value: ten,
-        end: at + 11,
-    }
+    behind_nine(line, at, v * 10 + wide(ninth - 48))
 }
 
 // The digits from a position: eight at once where there are as many, else in one walk. Nine and a line feed are enough bytes for that.
