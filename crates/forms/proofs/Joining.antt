@@ -17,7 +17,7 @@ use Rattle.csv.specs.declared.Run.the-variants.{Fields, Broken}
 use Rattle.csv.specs.Walk.{endOf, lows, Roomed}
 use Rattle.csv.specs.Fields.{Parsed, parsed, malformed, push, behind, fieldsAt, ended, numbersOf, largestFrom, runFrom}
 use Rattle.csv.proofs.Rooming.{lows-fit}
-use Rattle.forms.specs.Between.{PartOf, belowLimit}
+use Rattle.forms.specs.Between.{PartOf, roomSize, belowLimit}
 use Rattle.csv.proofs.Single.{largest-above, largest-narrow}
 
 -- ---- fields in two parts
@@ -175,7 +175,7 @@ module _ (s out front : List ℕ) (at m : ℕ) (b : length front ≤ length out)
     behind-same zs e = omega (arith, length-append zs (drop n laid), behind-count, ap length left-is, mid-long)
 
 -- ---- a part in a room, and the fields behind it
-module _ (s out room : List ℕ) (at m n : ℕ) (p : PartOf (length out) n) (r32 : length room ≡ 32) where
+module _ (s out room : List ℕ) (at m n : ℕ) (p : PartOf (length out) n) (sized : length room ≡ roomSize) where
   part-long : length (take n room) ≡ n
   part-long = length-take-le n room (omega (arith, p .fits))
 

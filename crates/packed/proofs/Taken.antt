@@ -83,7 +83,7 @@ module _ (letter row last : ℕ) (pack : List ℕ) (elements : Elements pack) (l
 -- ---- no line is too long
 two-digits : (row : ℕ) → row ≤ lastRow → size row ≤ 2
 unfolding sizeWithin
-two-digits row h = size-grows 9 row 95 h
+two-digits row h = size-grows 9 row lastRow h
 
 pub line-short : (letter row : ℕ) (pack : List ℕ) → row ≤ lastRow → length pack ≤ longestTriple
     → length (written letter (row ∷ pack)) ≤ longestLine
