@@ -50,7 +50,7 @@ use Rattle.correctness.proofs.Permitted.{Stander, standerOf}
 use Rattle.correctness.proofs.Openings.{mask-a, mask-b}
 use Rattle.correctness.proofs.Walking.{Inv, after-event}
 use Rattle.correctness.proofs.Keeping.{heldIn, stays-held, held-now}
-use Rattle.correctness.proofs.Relating.{relation-few, relation-done, relation-otherwise}
+use Rattle.correctness.proofs.Relating.{relation-few, relation-done, relation-otherwise, relation-thirteen}
 
 -- ---- by the ledger
 
@@ -240,6 +240,7 @@ relations-finish plan draw L S rows es h i lo hi among ts r blocks =
       few = relation-few G ts r blocks ready;
       exact = λ e t. relation-done G ts r blocks ready e (all-agree G S w (v .lines) blocks 0 (productsOf ts) (ready .products) e t);
       otherwise = relation-otherwise G ts r blocks ready;
+      thirteen = relation-thirteen G ts r blocks ready;
     })
   where
     w : World
