@@ -217,31 +217,31 @@ module _ (G : Stander) (ts : List Term) (r : ℕ) (blocks : List ℕ) (ready : R
   relation-otherwise e = rw (by-thirteen e) (only-thirteen 0 fs)
 
   -- and it is 13 exactly where a share of one of them is off
-  off-one : (a b : Bool) (xs : List Test) (Q : Type 0) → (Q → first xs ≡ 13) → ((a ≡ true) ⊎ (b ≡ true)) ⊎ Q → first (13 when a ∷ 13 when b ∷ xs) ≡ 13
-  off-one true b xs Q h o = refl
-  off-one false true xs Q h o = refl
-  off-one false false xs Q h (inl (inl e)) = absurd (false≢true e)
-  off-one false false xs Q h (inl (inr e)) = absurd (false≢true e)
-  off-one false false xs Q h (inr o) = h o
+  one-off : (a b : Bool) (xs : List Test) (Q : Type 0) → (Q → first xs ≡ 13) → ((a ≡ true) ⊎ (b ≡ true)) ⊎ Q → first (13 when a ∷ 13 when b ∷ xs) ≡ 13
+  one-off true b xs Q h o = refl
+  one-off false true xs Q h o = refl
+  one-off false false xs Q h (inl (inl e)) = absurd (false≢true e)
+  one-off false false xs Q h (inl (inr e)) = absurd (false≢true e)
+  one-off false false xs Q h (inr o) = h o
 
-  one-off : (a b : Bool) (xs : List Test) (Q : Type 0) → (first xs ≡ 13 → Q) → first (13 when a ∷ 13 when b ∷ xs) ≡ 13 → ((a ≡ true) ⊎ (b ≡ true)) ⊎ Q
-  one-off true b xs Q h z = inl (inl refl)
-  one-off false true xs Q h z = inl (inr refl)
-  one-off false false xs Q h z = inr (h z)
+  off-one : (a b : Bool) (xs : List Test) (Q : Type 0) → (first xs ≡ 13 → Q) → first (13 when a ∷ 13 when b ∷ xs) ≡ 13 → ((a ≡ true) ⊎ (b ≡ true)) ⊎ Q
+  off-one true b xs Q h z = inl (inl refl)
+  off-one false true xs Q h z = inl (inr refl)
+  off-one false false xs Q h z = inr (h z)
 
   off-first : (k : ℕ) (us : List Term) → OneAt (Off (Permitted.q G) blocks) k us → first (eachAt (offTests s l blocks) k us) ≡ 13
   unfolding eachAt
   off-first k [] o = absurd o
   off-first k (t ∷ us) o =
-      off-one (disagree s (termMaskA s l t) (recordA s blocks k)) (disagree s (termMaskB s l t) (recordB s blocks k)) (eachAt (offTests s l blocks) (suc k) us) _
-      (off-first (suc k) us) o
+      one-off (disagree s (termMaskA s l t) (recordA s blocks k)) (disagree s (termMaskB s l t) (recordB s blocks k))
+      (eachAt (offTests s l blocks) (suc k) us) _ (off-first (suc k) us) o
 
   first-off : (k : ℕ) (us : List Term) → first (eachAt (offTests s l blocks) k us) ≡ 13 → OneAt (Off (Permitted.q G) blocks) k us
   unfolding eachAt
   first-off k [] z = absurd (omega arith)
   first-off k (t ∷ us) z =
-      one-off (disagree s (termMaskA s l t) (recordA s blocks k)) (disagree s (termMaskB s l t) (recordB s blocks k)) (eachAt (offTests s l blocks) (suc k) us) _
-      (first-off (suc k) us) z
+      off-one (disagree s (termMaskA s l t) (recordA s blocks k)) (disagree s (termMaskB s l t) (recordB s blocks k))
+      (eachAt (offTests s l blocks) (suc k) us) _ (first-off (suc k) us) z
 
   pub relation-thirteen : EachAt (Enough (Permitted.q G) blocks) 0 (productsOf ts)
       → (OneAt (Off (Permitted.q G) blocks) 0 (productsOf ts) → relationFinishAnswer s l (collected ts) r blocks .refusal ≡ 13)
