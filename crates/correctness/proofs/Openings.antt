@@ -88,7 +88,7 @@ module _ (G : Stander) where
         (subst (λ (B : Vector). MaskNumbers plan draw L r (number (less (vec (rememberedA M r)) (vectorA plan draw r)) .0) (number (less (vec (rememberedB M r)) B) .0)) (sym (t .is-b))
         (mask-numbers plan draw L is (w .means) (f (rememberedA M r) (w .a-low) .held (w .a-held)) (f (rememberedB M r) (w .b-low) .held (w .b-held))))
 
-    remembered : (s' : Session) → openedA s' r ≡ number (maskVectorA M vec r) .0 → openedB s' r ≡ number (maskVectorB M vec r) .0
+    pub remembered : (s' : Session) → openedA s' r ≡ number (maskVectorA M vec r) .0 → openedB s' r ≡ number (maskVectorB M vec r) .0
         → Remembers plan draw L s' r
     remembered s' ea eb =
         subst (λ (y : ℕ). MaskNumbers plan draw L r y (openedB s' r)) (sym ea)
