@@ -1,3 +1,4 @@
 pub mod Parts
+pub mod Weights
 pub mod Accepted
 pub mod Same

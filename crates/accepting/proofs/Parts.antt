@@ -1,5 +1,5 @@
 -- A post's part, as the code looks at it: none, or its value at the check point; and its constant.
-use Prim.Native.Nat.{ℕ, _+_, _-_}
+use Prim.Native.Nat.{ℕ, _+_, _-_, _≤_}
 use mathlib.Core.Path.{_≡_, refl, sym, _∙_, ap}
 use mathlib.Core.Bool.{false}
 use mathlib.Core.List.{List, [], _∷_}
@@ -7,8 +7,7 @@ use native.Mathlib.Omega.{arith}
 use borrow.Author.Tests.{eq-eqb, ne-eqb}
 use lib.Dec.{eqb}
 use lib.ListN.{length, getD}
-use Rattle.poly.specs.Polynomial.{powers, weighted}
-use Rattle.poly.proofs.Numbers.{weighted-powers}
+use Rattle.poly.specs.Polynomial.{value}
 use Rattle.shape.specs.Lengths.{vLength, checksAt}
 use Rattle.session.specs.declared.Party.{Party}
 use Rattle.blocks.specs.Blocks.{sent}
@@ -23,19 +22,14 @@ module _ (q : Party) (row blocks : List ℕ) (j : ℕ) where
   unfolding accepts
   accepted-none part e z = rw (eq-eqb (length (sent q row blocks j)) 0 (sym (ap length e) ∙ z))
 
-  pub accepted-value : (part weights : List ℕ) (v checks : ℕ) → part ≡ sent q row blocks j → (length part ≡ 0 → ⊥)
-      → weights ≡ powers (q .point) k → v ≡ weighted part weights → checks ≡ checksAt (q .shape)
-      → eqb v (getD row (checks + (j - 1)) 0) ≡ accepts q row blocks j
+  pub accepted-value : (part : List ℕ) (v checks : ℕ) → part ≡ sent q row blocks j → (length part ≡ 0 → ⊥)
+      → v ≡ value part (q .point) → checks ≡ checksAt (q .shape) → eqb v (getD row (checks + (j - 1)) 0) ≡ accepts q row blocks j
   unfolding accepts
-  accepted-value part weights v checks e n p h ec =
-      rw (
-        h,
-        p,
-        e,
-        ec,
-        weighted-powers (sent q row blocks j) (q .point) k (length-sent q row blocks j),
-        ne-eqb (length (sent q row blocks j)) 0 (λ z. n (ap length e ∙ z)),
-      )
+  accepted-value part v checks e n h ec =
+      rw (h, e, ec, ne-eqb (length (sent q row blocks j)) 0 (λ z. n (ap length e ∙ z)))
+
+  pub part-short : (part : List ℕ) → part ≡ sent q row blocks j → length part ≤ k
+  part-short part e = rw e (length-sent q row blocks j)
 
 pub no-constant : (part : List ℕ) → length part ≡ 0 → 0 ≡ getD part 0 0
 no-constant [] e = refl

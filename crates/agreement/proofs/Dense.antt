@@ -9,8 +9,8 @@ use native.Mathlib.Omega.{arith}
 use native.Mathlib.Decide.{decLt, ℕ-discrete}
 use borrow.Author.Tests.{eq-eqb, ne-eqb, lt-ltb, le-ltb}
 use lib.Dec.{eqb, ltb, lit<}
-use lib.ListN.{length, drop, getD, length-drop}
-use lib.Seq.{getD-take, getD-drop, length-take-le}
+use lib.ListN.{length, drop, getD}
+use lib.Seq.{getD-take, getD-drop}
 use Rattle.field.specs.Modulus.{p}
 use Rattle.field.specs.Arithmetic.{product}
 use Rattle.field.specs.Algebra.{CommutativeRing, Field}
@@ -40,6 +40,7 @@ use Rattle.barycentric.proofs.Alternating.{element-suc, element-nodeWeight}
 use Rattle.barycentric.proofs.Ascent.{rising-above, rising-below, missing-between}
 use Rattle.barycentric.proofs.Rows.{length-firsts, firsts-at}
 use Rattle.barycentric.proofs.Zero.{δ, δ-kills, passing, passing-few, passing-at, first-weight}
+use Rattle.agreement.proofs.Fitting.{taken-length}
 open CommutativeRing 𝓡 using (add as _⊕_, mul as _⊗_, neg, zero as 0ᴱ, one as 1ᴱ, mul-assoc, mul-one)
 open Field elements using (inv, mul-inv)
 
@@ -85,7 +86,7 @@ module _ (xs t : List ℕ) (r : Rising 0 xs) (table : Inverts t) (z : ℕ) (beyo
   unfolding m
   part-length =
       let q : z - (z - suc (lastOf 0 xs)) ≡ suc (lastOf 0 xs) = omega arith in
-      length-take-le (z - (z - suc (lastOf 0 xs))) (drop (z - suc (lastOf 0 xs)) t) (omega (arith, length-drop (z - suc (lastOf 0 xs)) t)) ∙ q
+      taken-length t (z - suc (lastOf 0 xs)) z reached ∙ q
 
   -- the part's entry at j
   part-at : (j : ℕ) → j < suc m → element (getD (tablePart t (suc m) z) j 0) ≡ over elements element (element z) (m - j)

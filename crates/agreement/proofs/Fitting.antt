@@ -1,5 +1,5 @@
 -- The turns of the loops in src/agreement.rt: a test of every further node with its value.
-use Prim.Native.Nat.{ℕ, suc, _+_, _≤_, _<_}
+use Prim.Native.Nat.{ℕ, suc, _+_, _-_, _≤_, _<_}
 use mathlib.Core.Path.{_≡_, refl, sym, _∙_, ap, ap₂}
 use mathlib.Core.Bool.{Bool, true, false}
 use mathlib.Core.List.{List, [], _∷_}
@@ -7,12 +7,13 @@ use native.Mathlib.Numerals.{add-one}
 use native.Mathlib.Omega.{arith}
 use borrow.Author.Tests.{lt-ltb, le-ltb}
 use lib.Dec.{eqb}
-use lib.ListN.{length, drop, getD, drop-of-length-le}
-use lib.Seq.{drop-cons}
+use lib.ListN.{length, take, drop, getD, length-drop, drop-of-length-le}
+use lib.Seq.{drop-cons, getD-take, getD-drop, length-take-le}
 use Rattle.field.specs.Modulus.{p}
 use Rattle.field.specs.Arithmetic.{product}
-use Rattle.poly.specs.Counting.{All}
+use Rattle.poly.specs.Counting.{All, Elements}
 use Rattle.poly.specs.Polynomial.{weighted}
+use Rattle.inverses.specs.InverseTable.{Inverts}
 use Rattle.agreement.specs.Agreement.{allPairs}
 use Rattle.agreement.specs.Sums.{tablePart, fits}
 
@@ -45,6 +46,23 @@ module _ (test : ℕ → ℕ → Bool) (zs ys : List ℕ) where
 -- a test's answer, where the node is known by another name
 pub at-node : (test : ℕ → ℕ → Bool) (z w y : ℕ) (r b : Bool) → w ≡ z → r ≡ test w y → r ≡ b → test z y ≡ b
 at-node test z w y r b q e f = ap (λ (k : ℕ). test k y) (sym q) ∙ sym e ∙ f
+
+-- a part of the table is of elements, as `weigh_elements` needs it
+elements-of : (l : List ℕ) → ((i : ℕ) → i < length l → getD l i 0 < p) → Elements l
+elements-of [] h = tt
+elements-of (x ∷ l) h = (h 0 (omega arith), elements-of l (λ i k. h (suc i) (omega arith)))
+
+module _ (t : List ℕ) (from z : ℕ) (within : z ≤ length t) where
+  pub taken-length : length (take (z - from) (drop from t)) ≡ z - from
+  taken-length = length-take-le (z - from) (drop from t) (omega (arith, length-drop from t))
+
+  pub part-elements : Inverts t → Elements (take (z - from) (drop from t))
+  part-elements table = elements-of (take (z - from) (drop from t)) each
+    where
+      each : (i : ℕ) → i < length (take (z - from) (drop from t)) → getD (take (z - from) (drop from t)) i 0 < p
+      each i h =
+          let k : i < z - from = omega (arith, taken-length) in
+          rw (getD-take (z - from) (drop from t) i 0 k, getD-drop from t i 0) (table .elements (from + i) (omega arith))
 
 -- one value
 module _ (table above below : List ℕ) (z y : ℕ) where

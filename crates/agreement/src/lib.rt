@@ -4,27 +4,29 @@ ghost use Prim.Native.Nat.{suc, _≤_, _<_};
 ghost use lib.ListN.{length, take, drop};
 ghost use Rattle.agreement.specs.Agreement.{allAgree, Settles};
 ghost use Rattle.poly.specs.Counting.{All};
+ghost use Rattle.inverses.specs.InverseTable.{Inverts};
 ghost use Rattle.barycentric.specs.Nodes.{lastOf};
 ghost use Rattle.barycentric.specs.Weights.{Prepared};
 ghost use Rattle.agreement.specs.Sums.{fits, allFit, tops, bottoms, Weighed, Cleared, Further, Reached, Rooms};
 
 // Whether the value y at z fits.
 fn fits(z: usize, y: u32, inverses: &[u32], above: &[u32], below: &[u32]) -> bool
-    requires { ⌜ (length (now below) ≤ z) × (z ≤ length (now inverses)) ⌝ }
+    requires { ⌜ Inverts (now inverses) × (length (now above) ≡ length (now below)) × (length (now below) ≤ z) × (z ≤ length (now inverses)) ⌝ }
     ensures { λ r. ⌜ r ≡ fits (now (inverses .entry)) (now (above .entry)) (now (below .entry)) z y ⌝ }
 {
     if field::P <= y {
         return false;
     }
     let from = z - below.len();
-    let top = poly::weigh(above, &inverses[from..z]);
-    let bottom = poly::weigh(below, &inverses[from..z]);
+    let top = poly::weigh_elements(above, &inverses[from..z]);
+    let bottom = poly::weigh_elements(below, &inverses[from..z]);
     top == field::mul(y, bottom)
 }
 
 // Whether all values at further nodes fit.
 fn all_fit(nodes: &[u32], values: &[u32], inverses: &[u32], above: &[u32], below: &[u32]) -> bool
-    requires { ⌜ (length (now values) ≡ length (now nodes)) × All (λ z. (length (now below) ≤ z) × (z ≤ length (now inverses))) (now nodes) ⌝ }
+    requires { ⌜ Inverts (now inverses) × (length (now above) ≡ length (now below)) × (length (now values) ≡ length (now nodes))
+        × All (λ z. (length (now below) ≤ z) × (z ≤ length (now inverses))) (now nodes) ⌝ }
     ensures { λ r. ⌜ r ≡ allFit (now (inverses .entry)) (now (above .entry)) (now (below .entry)) (now (nodes .entry)) (now (values .entry)) ⌝ }
 {
     for i in 0..nodes.len() {

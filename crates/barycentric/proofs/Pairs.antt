@@ -28,7 +28,7 @@ open CommutativeRing 𝓡 using (add as _⊕_, mul as _⊗_, neg)
 
 infixl 65 _⊕_
 infixl 70 _⊗_
-small : (a b : ℕ) → a ≤ 255 → b ≤ 255 → a * b ≤ 65025
+small : (a b : ℕ) → a ≤ most → b ≤ most → a * b ≤ most * most
 small a b h k = mul-le-mul h k
 
 element-mod : (a : ℕ) → element (a % p) ≡ element a
@@ -41,7 +41,7 @@ element-mul a b = sym (element-mod (a * b)) ∙ element-product a b
 
 -- nothing wraps
 module _ (x : ℕ) (hx : x ≤ most) where
-  near : (g u : ℕ) → g ≤ most → u ≡ away x g → u ≤ 255
+  near : (g u : ℕ) → g ≤ most → u ≡ away x g → u ≤ most
   near g u h e = omega arith
 
   pub two-fit : (a b u v : ℕ) → a ≤ most → b ≤ most → u ≡ away x a → v ≡ away x b → u * v < 4294967296
@@ -50,7 +50,7 @@ module _ (x : ℕ) (hx : x ≤ most) where
   pub four-fit : (a b c d u v w z : ℕ) → a ≤ most → b ≤ most → c ≤ most → d ≤ most → u ≡ away x a → v ≡ away x b → w ≡ away x c → z ≡ away x d
       → u * v * (w * z) < 4294967296
   four-fit a b c d u v w z ha hb hc hd e f g k =
-      let bound : u * v * (w * z) ≤ 65025 * 65025 =
+      let bound : u * v * (w * z) ≤ most * most * (most * most) =
       mul-le-mul (small u v (near a u ha e) (near b v hb f)) (small w z (near c w hc g) (near d z hd k)) in
       omega arith
 
@@ -63,7 +63,7 @@ module _ (x : ℕ) (hx : x ≤ most) where
 
   three-most : (a b c u v w : ℕ) → a ≤ most → b ≤ most → c ≤ most → u ≡ away x a → v ≡ away x b → w ≡ away x c → u * v * w < p
   three-most a b c u v w ha hb hc e f g =
-      let bound : u * v * w ≤ 65025 * 255 = mul-le-mul (small u v (near a u ha e) (near b v hb f)) (near c w hc g) in
+      let bound : u * v * w ≤ most * most * most = mul-le-mul (small u v (near a u ha e) (near b v hb f)) (near c w hc g) in
       omega arith
 
   pub three-fit : (gs : List ℕ) (u v w : ℕ) → All (λ g. g ≤ most) gs → (length gs ≡ 0 → ⊥) → (length gs ≡ 1 → ⊥) → (length gs ≡ 2 → ⊥)

@@ -3,9 +3,9 @@
 use Prim.Native.Nat.{ℕ}
 use mathlib.Core.Path.{_≡_}
 use mathlib.Core.List.{List}
-use lib.ListN.{length}
+use lib.ListN.{length, set}
 use Rattle.session.specs.declared.Session.{Session}
-use Rattle.session.specs.Sessions.{partyOf, marked, recalling}
+use Rattle.session.specs.Sessions.{partyOf, marked, withOpened}
 use Rattle.session.specs.Law.{Lawful}
 use Rattle.blocks.specs.Claims.{Alike}
 use Rattle.opening.specs.Walking.{recordLength}
@@ -17,7 +17,7 @@ abbrev pub CollectLawful : Type 0
 CollectLawful =
     (s : Session) (rows : List ℕ) (r : ℕ) (blocksA blocksB : List ℕ)
     → Lawful (collectTable s rows r blocksA blocksB) 0
-    (recalling (marked s r 7) r (numberA s rows r blocksA) (numberB s rows r blocksB)) s rows rows
+    (withOpened (marked s r 7) (set (s .«y_a») r (numberA s rows r blocksA)) (set (s .«y_b») r (numberB s rows r blocksB))) s rows rows
     (collectAnswer s rows r blocksA blocksB) rows
 
 -- A finish opens its two records "as above": in neither is the own block looked at, its mark included, nor an absent block's

@@ -6,7 +6,7 @@ use mathlib.Core.Logic.{_≢_, _⊎_, inl, inr}
 use mathlib.Core.List.{List, []}
 use native.Mathlib.Decide.{ℕ-discrete}
 use native.Mathlib.Omega.{arith}
-use borrow.Author.Tests.{lt-ltb, le-ltb, ne-eqb}
+use borrow.Author.Tests.{ltb-false, lt-ltb, le-ltb, ne-eqb}
 use lib.ListN.{length, length-take}
 use Rattle.poly.specs.Counting.{Elements}
 use Rattle.poly.proofs.Lists.{all-zip}
@@ -37,6 +37,9 @@ module _ (s : Session) (row blocks : List ℕ) where
 
   pub not-few : needed (shapeOf s) ≤ howMany s row blocks → tooFew s row blocks ≡ false
   not-few h = le-ltb (length (acceptedPosts s row blocks)) (needed (shapeOf s)) (omega (arith, walk-length))
+
+  pub enough-of : tooFew s row blocks ≡ false → needed (shapeOf s) ≤ howMany s row blocks
+  enough-of e = omega (arith, walk-length, ltb-false (length (acceptedPosts s row blocks)) (needed (shapeOf s)) e)
 
   -- what counts for another post is nothing, or t+1 elements
   pub formed : Proper s blocks → (j : ℕ) → 1 ≤ j → j ≤ s .n → j ≢ s .post → Formed (vLength (shapeOf s)) (sent s row blocks j)

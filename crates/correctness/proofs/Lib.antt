@@ -10,5 +10,6 @@ pub mod Theorems
 pub mod Caught
 pub mod Parts
 pub mod Relating
+pub mod Recalling
 pub mod Keeping
 pub mod Relation

@@ -15,30 +15,31 @@ use Rattle.refusal.specs.Refusal.{first}
 use Rattle.session.specs.declared.Session.{Session}
 use Rattle.session.specs.declared.Answer.{Answer}
 use Rattle.session.specs.Sessions.{holding, shapeOf, openedA, openedB}
-use Rattle.opening.specs.Walking.{sent, accepts, tooFew, disagree, opened}
+use Rattle.opening.specs.Walking.{sent, accepts, tooFew, disagree}
 use Rattle.opening.specs.Opening.{openChecks, openAnswer}
 use Rattle.opening.proofs.Theorems.{open-nine, open-thirteen, open-number}
 use Rattle.collect.specs.Collect as Collect
 use Rattle.vectors.specs.Vector.{Vector, number, numbers}
-use Rattle.vectors.specs.Claims.{heldRow, Truly}
+use Rattle.vectors.specs.Claims.{heldRow, Truly, EnoughTruly}
 use Rattle.vectors.proofs.HeldRows.{true-accepted}
-use Rattle.vectors.proofs.Shares.{true-agree, all-enough}
+use Rattle.vectors.proofs.Shares.{true-agree, all-enough, truly-enough}
 use Rattle.vectors.proofs.Theorems.{opening-exact}
 use Rattle.runs.specs.Draws.{Plan, Draw, planShape}
 use Rattle.runs.specs.Calls.{Proper, Post}
 use Rattle.runs.proofs.Marks.{markOf, rememberedA, rememberedB, less, vectorA, maskVectorA, maskVectorB, Masked}
-use Rattle.runs.proofs.Finishing.{opens-a, opens-b, opened-is}
+use Rattle.runs.proofs.Finishing.{Trusted, opens-a, opens-b, opened-is}
 use Rattle.runs.proofs.Records.{own-true}
 use Rattle.runs.proofs.Start.{sizes}
 use Rattle.correctness.specs.History.{World}
 use Rattle.correctness.specs.Ledger.{Ledger, Plain, MaskNumbers}
-use Rattle.correctness.specs.Truth.{TrueMask, TrueOf}
-use Rattle.correctness.specs.Claim.{howMany, Opens, Remembers, Collects, Right}
+use Rattle.correctness.specs.Truth.{TrueMask, TrueOf, EnoughTrue}
+use Rattle.correctness.specs.Claim.{howMany, Opens, Done, Remembers, Collects, Right}
 use Rattle.correctness.proofs.Meanings.{Is, plain, mask-numbers}
-use Rattle.correctness.proofs.Accepting.{Formed, too-few, not-few, formed}
+use Rattle.correctness.proofs.Accepting.{Formed, too-few, not-few, enough-of, formed}
 use Rattle.correctness.proofs.Fitting.{all-true-of, enough-true-of, AllSaid, told-a, told-b}
 use Rattle.correctness.proofs.Permitted as Permitted
-use Rattle.correctness.proofs.Permitted.{Stander, holder, below, is-row, open-passes, waiting, collect-few, collect-done, collect-recalls, collect-otherwise, multiply-done}
+use Rattle.correctness.proofs.Permitted.{Stander, holder, below, is-row, open-passes, waiting, multiply-done}
+use Rattle.correctness.proofs.Permitted.{collect-few, collect-done, collect-recalls, collect-thirteen, collect-otherwise}
 
 -- what a truth of polynomials must give, to be used in an opening
 abbrev pub Reliable : Plan → Draw → Ledger → (ℕ → ℕ → List ℕ → Type 0) → Type 0
@@ -87,7 +88,7 @@ module _ (G : Stander) where
         (subst (λ (B : Vector). MaskNumbers plan draw L r (number (less (vec (rememberedA M r)) (vectorA plan draw r)) .0) (number (less (vec (rememberedB M r)) B) .0)) (sym (t .is-b))
         (mask-numbers plan draw L is (w .means) (f (rememberedA M r) (w .a-low) .held (w .a-held)) (f (rememberedB M r) (w .b-low) .held (w .b-held))))
 
-    remembered : (s' : Session) → openedA s' r ≡ number (maskVectorA M vec r) .0 → openedB s' r ≡ number (maskVectorB M vec r) .0
+    pub remembered : (s' : Session) → openedA s' r ≡ number (maskVectorA M vec r) .0 → openedB s' r ≡ number (maskVectorB M vec r) .0
         → Remembers plan draw L s' r
     remembered s' ea eb =
         subst (λ (y : ℕ). MaskNumbers plan draw L r y (openedB s' r)) (sym ea)
@@ -162,32 +163,73 @@ module _ (G : Stander) where
             ∙ true-agree s X blocks (sizes plan (G .sound) .n-element) (sym (ap (λ (y : List ℕ). tooFew s y blocks) e) ∙ not-few s x blocks many)
             (all-true-of s X blocks (Half half) x e (λ j lj hj ne o. theirs j lj hj _ o) t)
 
-        -- and the number that is opened is the vector's
-        opens-to : (x : List ℕ) (X : Vector) → x ≡ heldRow s X → (half : List ℕ → List ℕ)
-            → ((j : ℕ) → 1 ≤ j → j ≤ plan .n → (xs : List ℕ) → Half half j xs → xs ≡ numbers (vLength (planShape plan)) (X .v j))
-            → (blocks : List ℕ) → needed (shapeOf s) ≤ howMany s x blocks → TrueOf (Half half) s x blocks → opened s x blocks ≡ number X .0
-        opens-to x X e half theirs blocks many t =
-            opened-is (holder G) (sizes plan (G .sound) .n-element) x X blocks e
-            (λ few enough. all-enough s X blocks few enough (all-true-of s X blocks (Half half) x e (λ j lj hj ne o. theirs j lj hj _ o) t))
-            (not-few s x blocks many) (agrees x X e half theirs blocks many t)
+        -- where t+1 of them are true and no share is off, it is done, and y and y' are remembered
+        both-opened : (blocksA blocksB : List ℕ) → Proper s blocksA → Proper s blocksB → needed (shapeOf s) ≤ howMany s (Collect.maskA s l r) blocksA
+            → needed (shapeOf s) ≤ howMany s (Collect.maskB s l r) blocksB → disagree s (Collect.maskA s l r) blocksA ≡ false
+            → disagree s (Collect.maskB s l r) blocksB ≡ false → Trusted s (maskVectorA M vec r) blocksA → Trusted s (maskVectorB M vec r) blocksB
+            → Done q r blocksA blocksB × Remembers plan draw L (Collect.collectAnswer s l r blocksA blocksB .session) r
+        both-opened blocksA blocksB pr pr' e e' on on' t t' =
+            let small = sizes plan (G .sound) .n-element in
+            let back = collect-recalls G r blocksA blocksB five pr pr' e e' on on' in
+            let y = opened-is (holder G) small (Collect.maskA s l r) (maskVectorA M vec r) blocksA (mask-a r five) t (not-few s _ blocksA e) on in
+            let y' = opened-is (holder G) small (Collect.maskB s l r) (maskVectorB M vec r) blocksB (mask-b r five) t' (not-few s _ blocksB e') on' in (
+              collect-done G r blocksA blocksB five pr pr' e e' on on',
+              remembered r (below G r five) (inl five) (Collect.collectAnswer s l r blocksA blocksB .session) (back .0 ∙ y) (back .1 ∙ y'),
+            )
 
-        collects : (blocksA blocksB : List ℕ) → Proper s blocksA → Proper s blocksB
-            → Collects plan draw L (Half (take (vLength (planShape plan)))) (Half (drop (vLength (planShape plan)))) q r blocksA blocksB
+        -- t+1 true polynomials of a record: of the vector, and so enough
+        module _ (x : List ℕ) (X : Vector) (e : x ≡ heldRow s X) (half : List ℕ → List ℕ)
+            (theirs : (j : ℕ) → 1 ≤ j → j ≤ plan .n → (xs : List ℕ) → Half half j xs → xs ≡ numbers (vLength (planShape plan)) (X .v j)) (blocks : List ℕ) where
+          trusted : EnoughTrue (Half half) s x blocks → EnoughTruly s X blocks
+          trusted t = enough-true-of s X blocks (Half half) x e (λ j lj hj ne o. theirs j lj hj _ o) t
+
+          many : EnoughTrue (Half half) s x blocks → needed (shapeOf s) ≤ howMany s x blocks
+          many t = enough-of s x blocks (ap (λ (y : List ℕ). tooFew s y blocks) e ∙ truly-enough s X blocks (trusted t))
+
+          all-trusted : TrueOf (Half half) s x blocks → Trusted s X blocks
+          all-trusted t few enough = all-enough s X blocks few enough (all-true-of s X blocks (Half half) x e (λ j lj hj ne o. theirs j lj hj _ o) t)
+
+        abbrev half : List ℕ → List ℕ
+        half = take (vLength (planShape plan))
+
+        abbrev half' : List ℕ → List ℕ
+        half' = drop (vLength (planShape plan))
+
+        collects : (blocksA blocksB : List ℕ) → Proper s blocksA → Proper s blocksB → Collects plan draw L (Half half) (Half half') q r blocksA blocksB
         collects blocksA blocksB pr pr' = record {
           few = collect-few G r blocksA blocksB five pr pr';
           exact = λ e e' t t'.
-              let half = take (vLength (planShape plan)) in
-              let half' = drop (vLength (planShape plan)) in
-              let on = agrees (Collect.maskA s l r) (maskVectorA M vec r) (mask-a r five) half said-a blocksA e t in
-              let on' = agrees (Collect.maskB s l r) (maskVectorB M vec r) (mask-b r five) half' said-b blocksB e' t' in
-              let back = collect-recalls G r blocksA blocksB five pr pr' e e' on on' in (
-                collect-done G r blocksA blocksB five pr pr' e e' on on',
-                remembered r (below G r five) (inl five) (Collect.collectAnswer s l r blocksA blocksB .session)
-                    (back .0 ∙ opens-to (Collect.maskA s l r) (maskVectorA M vec r) (mask-a r five) half said-a blocksA e t)
-                    (back .1 ∙ opens-to (Collect.maskB s l r) (maskVectorB M vec r) (mask-b r five) half' said-b blocksB e' t'),
-              );
+              both-opened blocksA blocksB pr pr' e e' (agrees xa XA (mask-a r five) half said-a blocksA e t)
+              (agrees xb XB (mask-b r five) half' said-b blocksB e' t')
+              (all-trusted xa XA (mask-a r five) half said-a blocksA t) (all-trusted xb XB (mask-b r five) half' said-b blocksB t');
+          agreed = λ t t'.
+              go t t' (many xa XA (mask-a r five) half said-a blocksA t) (many xb XB (mask-b r five) half' said-b blocksB t') (disagree s xa blocksA)
+              (disagree s xb blocksB) refl refl;
           otherwise = collect-otherwise G r blocksA blocksB five pr pr';
+          thirteen = collect-thirteen G r blocksA blocksB five pr pr';
         }
+          where
+            xa : List ℕ
+            xa = Collect.maskA s l r
+
+            xb : List ℕ
+            xb = Collect.maskB s l r
+
+            XA : Vector
+            XA = maskVectorA M vec r
+
+            XB : Vector
+            XB = maskVectorB M vec r
+
+            go : EnoughTrue (Half half) s xa blocksA → EnoughTrue (Half half') s xb blocksB → needed (shapeOf s) ≤ howMany s xa blocksA
+                → needed (shapeOf s) ≤ howMany s xb blocksB → (x y : Bool) → disagree s xa blocksA ≡ x → disagree s xb blocksB ≡ y
+                → (Done q r blocksA blocksB × Remembers plan draw L (Collect.collectAnswer s l r blocksA blocksB .session) r)
+                ⊎ (Collect.collectAnswer s l r blocksA blocksB .refusal ≡ 13)
+            go t t' e e' true y ex ey = inr (collect-thirteen G r blocksA blocksB five pr pr' e e' .0 (inl ex))
+            go t t' e e' false true ex ey = inr (collect-thirteen G r blocksA blocksB five pr pr' e e' .0 (inr ey))
+            go t t' e e' false false ex ey =
+                inl (both-opened blocksA blocksB pr pr' e e' ex ey (λ few enough. trusted xa XA (mask-a r five) half said-a blocksA t)
+                (λ few enough. trusted xb XB (mask-b r five) half' said-b blocksB t'))
 
       pub right : Right plan draw L P (TrueMask S w (planShape plan)) q
       right = record {

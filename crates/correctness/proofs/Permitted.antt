@@ -1,7 +1,7 @@
 -- One post that stands by the ledger: 1 to 8 refuse no opening of a held row and no call of a finish of masks that were made, with records
 -- that 5 and 8 let pass; and what its first call gives, by 9 and 13.
 use Prim.Native.Nat.{ℕ, suc, _+_, _*_, _-_, _≤_, _<_}
-use mathlib.Core.Path.{_≡_, refl, _∙_, ap, ap₂}
+use mathlib.Core.Path.{_≡_, refl, sym, _∙_, ap, ap₂}
 use mathlib.Core.Bool.{Bool, true, false, not}
 use mathlib.Core.Logic.{_≢_, _⊎_, inl, inr}
 use mathlib.Core.List.{List, [], _∷_}
@@ -43,9 +43,21 @@ use Rattle.runs.proofs.Recalled.{Recalls}
 use Rattle.runs.proofs.Rows.{marked-low, on-three}
 use Rattle.runs.proofs.Start.{session-passes}
 use Rattle.correctness.specs.Ledger.{Ledger}
-use Rattle.correctness.specs.Claim.{howMany, Done, Multiplies}
+use Rattle.correctness.specs.Claim.{howMany, Done, EitherOff, Multiplies}
 use Rattle.correctness.proofs.Standing.{Known, Good}
 use Rattle.correctness.proofs.Accepting.{too-few, not-few}
+
+-- 13 of two records
+one-off : (x y : Bool) → (x ≡ true) ⊎ (y ≡ true) → first (13 when x ∷ 13 when y ∷ []) ≡ 13
+one-off true y o = refl
+one-off false true o = refl
+one-off false false (inl e) = absurd (omega (arith, ap (λ (b : Bool). first (13 when b ∷ [])) e))
+one-off false false (inr e) = absurd (omega (arith, ap (λ (b : Bool). first (13 when b ∷ [])) e))
+
+off-one : (x y : Bool) → first (13 when x ∷ 13 when y ∷ []) ≡ 13 → (x ≡ true) ⊎ (y ≡ true)
+off-one true y z = inl refl
+off-one false true z = inr refl
+off-one false false z = absurd (omega arith)
 
 -- post i by the ledger, with its marks, its rows and their vectors
 pub record Stander : Type 0 where
@@ -228,17 +240,23 @@ module _ (G : Stander) where
             ap (λ (x : Post). openedB (x .session) r) back ∙ getD-set-same (Y .y-b) r _ 0 (omega (arith, recalls .b-long, k .r-low)),
           )
 
+      by-off : collectAnswer s l r blocksA blocksB .refusal ≡ first (13 when disagree s xa blocksA ∷ 13 when disagree s xb blocksB ∷ [])
+      by-off = refusal-is ∙ by-thirteen
+
+      pub collect-thirteen : (EitherOff q r blocksA blocksB → collectAnswer s l r blocksA blocksB .refusal ≡ 13)
+          × (collectAnswer s l r blocksA blocksB .refusal ≡ 13 → EitherOff q r blocksA blocksB)
+      collect-thirteen = (
+        (λ o. by-off ∙ one-off (disagree s xa blocksA) (disagree s xb blocksB) o),
+        (λ z. off-one (disagree s xa blocksA) (disagree s xb blocksB) (sym by-off ∙ z)),
+      )
+
       pub collect-otherwise : Done q r blocksA blocksB ⊎ (collectAnswer s l r blocksA blocksB .refusal ≡ 13)
       collect-otherwise = go (disagree s xa blocksA) (disagree s xb blocksB) refl refl
         where
-          off : (x y : Bool) → disagree s xa blocksA ≡ x → disagree s xb blocksB ≡ y → first (13 when x ∷ 13 when y ∷ []) ≡ 13
-              → collectAnswer s l r blocksA blocksB .refusal ≡ 13
-          off x y ex ey z = refusal-is ∙ by-thirteen ∙ ap₂ (λ (a b : Bool). first (13 when a ∷ 13 when b ∷ [])) ex ey ∙ z
-
           go : (x y : Bool) → disagree s xa blocksA ≡ x → disagree s xb blocksB ≡ y
               → Done q r blocksA blocksB ⊎ (collectAnswer s l r blocksA blocksB .refusal ≡ 13)
-          go true y ex ey = inr (off true y ex ey refl)
-          go false true ex ey = inr (off false true ex ey refl)
+          go true y ex ey = inr (collect-thirteen .0 (inl ex))
+          go false true ex ey = inr (collect-thirteen .0 (inr ey))
           go false false ex ey = inl (collect-done ex ey)
 
   -- ---- the second call

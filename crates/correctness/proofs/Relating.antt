@@ -1,7 +1,7 @@
 -- A relation's finish at a post that stands by the ledger: 1 to 8 refuse nothing, and what it gives, by 9 and 13.
 use Prim.Native.Nat.{ℕ, suc, _+_, _*_, _≤_, _<_}
 use mathlib.Core.Path.{_≡_, refl, sym, _∙_, ap, ap₂, subst}
-use mathlib.Core.Bool.{Bool, true, false, not, _||_}
+use mathlib.Core.Bool.{Bool, true, false, not, _||_, false≢true}
 use mathlib.Core.Logic.{_⊎_, inl, inr}
 use mathlib.Core.List.{List, [], _∷_, _++_}
 use native.Mathlib.Omega.{arith}
@@ -34,7 +34,7 @@ use Rattle.relation.proofs.Passed.{products-back}
 use Rattle.runs.proofs.Marks.{markOf, rememberedA}
 use Rattle.runs.proofs.Outcomes.{answer-refusal}
 use Rattle.runs.proofs.Facts.{Multiplying}
-use Rattle.correctness.specs.Relation.{EachAt, OneAt, Ready, Few, Enough}
+use Rattle.correctness.specs.Relation.{EachAt, OneAt, Ready, Few, Enough, Off}
 use Rattle.correctness.proofs.Accepting.{too-few, not-few}
 use Rattle.correctness.proofs.Permitted as Permitted
 use Rattle.correctness.proofs.Permitted.{Stander, below, frame-clear, numbers-pass, waiting}
@@ -215,3 +215,35 @@ module _ (G : Stander) (ts : List Term) (r : ℕ) (blocks : List ℕ) (ready : R
   pub relation-otherwise : EachAt (Enough (Permitted.q G) blocks) 0 (productsOf ts)
       → (relationFinishAnswer s l (collected ts) r blocks .refusal ≡ 0) ⊎ (relationFinishAnswer s l (collected ts) r blocks .refusal ≡ 13)
   relation-otherwise e = rw (by-thirteen e) (only-thirteen 0 fs)
+
+  -- and it is 13 exactly where a share of one of them is off
+  one-off : (a b : Bool) (xs : List Test) (Q : Type 0) → (Q → first xs ≡ 13) → ((a ≡ true) ⊎ (b ≡ true)) ⊎ Q → first (13 when a ∷ 13 when b ∷ xs) ≡ 13
+  one-off true b xs Q h o = refl
+  one-off false true xs Q h o = refl
+  one-off false false xs Q h (inl (inl e)) = absurd (false≢true e)
+  one-off false false xs Q h (inl (inr e)) = absurd (false≢true e)
+  one-off false false xs Q h (inr o) = h o
+
+  off-one : (a b : Bool) (xs : List Test) (Q : Type 0) → (first xs ≡ 13 → Q) → first (13 when a ∷ 13 when b ∷ xs) ≡ 13 → ((a ≡ true) ⊎ (b ≡ true)) ⊎ Q
+  off-one true b xs Q h z = inl (inl refl)
+  off-one false true xs Q h z = inl (inr refl)
+  off-one false false xs Q h z = inr (h z)
+
+  off-first : (k : ℕ) (us : List Term) → OneAt (Off (Permitted.q G) blocks) k us → first (eachAt (offTests s l blocks) k us) ≡ 13
+  unfolding eachAt
+  off-first k [] o = absurd o
+  off-first k (t ∷ us) o =
+      one-off (disagree s (termMaskA s l t) (recordA s blocks k)) (disagree s (termMaskB s l t) (recordB s blocks k))
+      (eachAt (offTests s l blocks) (suc k) us) _ (off-first (suc k) us) o
+
+  first-off : (k : ℕ) (us : List Term) → first (eachAt (offTests s l blocks) k us) ≡ 13 → OneAt (Off (Permitted.q G) blocks) k us
+  unfolding eachAt
+  first-off k [] z = absurd (omega arith)
+  first-off k (t ∷ us) z =
+      off-one (disagree s (termMaskA s l t) (recordA s blocks k)) (disagree s (termMaskB s l t) (recordB s blocks k))
+      (eachAt (offTests s l blocks) (suc k) us) _ (first-off (suc k) us) z
+
+  pub relation-thirteen : EachAt (Enough (Permitted.q G) blocks) 0 (productsOf ts)
+      → (OneAt (Off (Permitted.q G) blocks) 0 (productsOf ts) → relationFinishAnswer s l (collected ts) r blocks .refusal ≡ 13)
+      × (relationFinishAnswer s l (collected ts) r blocks .refusal ≡ 13 → OneAt (Off (Permitted.q G) blocks) 0 (productsOf ts))
+  relation-thirteen e = ((λ o. by-thirteen e ∙ off-first 0 fs o), (λ z. first-off 0 fs (sym (by-thirteen e) ∙ z)))

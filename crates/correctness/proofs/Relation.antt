@@ -50,7 +50,8 @@ use Rattle.correctness.proofs.Permitted.{Stander, standerOf}
 use Rattle.correctness.proofs.Openings.{mask-a, mask-b}
 use Rattle.correctness.proofs.Walking.{Inv, after-event}
 use Rattle.correctness.proofs.Keeping.{heldIn, stays-held, held-now}
-use Rattle.correctness.proofs.Relating.{relation-few, relation-done, relation-otherwise}
+use Rattle.correctness.proofs.Relating.{relation-few, relation-done, relation-otherwise, relation-thirteen}
+use Rattle.correctness.proofs.Recalling.{relation-agreed}
 
 -- ---- by the ledger
 
@@ -234,12 +235,16 @@ relations-finish plan draw L S rows es h i lo hi among ts r blocks =
     let v = stands plan draw L S rows es h in let g = v .posts i lo hi among in
     let G = standerOf plan draw L (h .sound) (h .is-draw) _ i lo hi (w .posts i) g in
     subst
-    (λ (q : Post). Ready q ts r blocks → Related (TrueMask S w (planShape plan)) q ts blocks (relationFinishAnswer (q .session) (q .rows) (collected ts) r blocks))
+    (λ (q : Post).
+    Ready q ts r blocks
+    → Related plan draw L (TrueMask S w (planShape plan)) q ts blocks (relationFinishAnswer (q .session) (q .rows) (collected ts) r blocks))
     (sym (named plan draw _ i (g .marks) (g .vec) (w .posts i) (g .stands)))
     (λ ready. record {
       few = relation-few G ts r blocks ready;
       exact = λ e t. relation-done G ts r blocks ready e (all-agree G S w (v .lines) blocks 0 (productsOf ts) (ready .products) e t);
+      agreed = relation-agreed G S w (v .lines) blocks ts r ready;
       otherwise = relation-otherwise G ts r blocks ready;
+      thirteen = relation-thirteen G ts r blocks ready;
     })
   where
     w : World

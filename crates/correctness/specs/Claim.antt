@@ -14,7 +14,7 @@ use Rattle.session.specs.declared.Session.{Session}
 use Rattle.session.specs.declared.Answer.{Answer}
 use Rattle.session.specs.Sessions.{mark, shapeOf, openedA, openedB}
 use Rattle.session.specs.Rows.{width, rowAt}
-use Rattle.opening.specs.Walking.{sent, accepts, accepted}
+use Rattle.opening.specs.Walking.{sent, accepts, accepted, disagree}
 use Rattle.opening.specs.Opening.{openAnswer}
 use Rattle.collect.specs.Collect.{maskA, maskB, collectAnswer}
 use Rattle.multiply.specs.Multiply.{multiplyAnswer}
@@ -76,9 +76,15 @@ Done q r blocksA blocksB =
 abbrev pub Remembers : Plan → Draw → Ledger → Session → ℕ → Type 0
 Remembers plan draw L s r = MaskNumbers plan draw L r (openedA s r) (openedB s r)
 
+-- "an accepted share lies off that polynomial, in either record of a finish": of a − l with the first, or of b − l' with the second.
+abbrev pub EitherOff : Post → ℕ → List ℕ → List ℕ → Type 0
+EitherOff q r blocksA blocksB =
+    (disagree (q .session) (maskA (q .session) (q .rows) r) blocksA ≡ true) ⊎ (disagree (q .session) (maskB (q .session) (q .rows) r) blocksB ≡ true)
+
 -- Post q collects the masks of the triple at r, which it made: 9, where either record has too few; done, and y and y' remembered in the
--- session that is handed back, where each accepted polynomial of both is true; otherwise done, or 13. PA and PB say whose the polynomials
--- of a − l and of b − l' are.
+-- session that is handed back, where each accepted polynomial of both is true; so too, or 13, where at least t+1 of each are true, whichever
+-- they are; otherwise done, or 13, and 13 exactly where a share of either record is off. PA and PB say whose the polynomials of a − l and of
+-- b − l' are.
 pub record Collects (plan : Plan) (draw : Draw) (L : Ledger) (PA PB : ℕ → List ℕ → Type 0) (q : Post) (r : ℕ) (blocksA blocksB : List ℕ) : Type 0 where
   pub few : TooFew (q .session) (maskA (q .session) (q .rows) r) blocksA ⊎ TooFew (q .session) (maskB (q .session) (q .rows) r) blocksB
       → collectAnswer (q .session) (q .rows) r blocksA blocksB .refusal ≡ 9
@@ -86,8 +92,15 @@ pub record Collects (plan : Plan) (draw : Draw) (L : Ledger) (PA PB : ℕ → Li
       → TrueOf PA (q .session) (maskA (q .session) (q .rows) r) blocksA
       → TrueOf PB (q .session) (maskB (q .session) (q .rows) r) blocksB
       → Done q r blocksA blocksB × Remembers plan draw L (collectAnswer (q .session) (q .rows) r blocksA blocksB .session) r
+  pub agreed : EnoughTrue PA (q .session) (maskA (q .session) (q .rows) r) blocksA
+      → EnoughTrue PB (q .session) (maskB (q .session) (q .rows) r) blocksB
+      → (Done q r blocksA blocksB × Remembers plan draw L (collectAnswer (q .session) (q .rows) r blocksA blocksB .session) r)
+      ⊎ (collectAnswer (q .session) (q .rows) r blocksA blocksB .refusal ≡ 13)
   pub otherwise : Enough (q .session) (maskA (q .session) (q .rows) r) blocksA → Enough (q .session) (maskB (q .session) (q .rows) r) blocksB
       → Done q r blocksA blocksB ⊎ (collectAnswer (q .session) (q .rows) r blocksA blocksB .refusal ≡ 13)
+  pub thirteen : Enough (q .session) (maskA (q .session) (q .rows) r) blocksA → Enough (q .session) (maskB (q .session) (q .rows) r) blocksB
+      → (EitherOff q r blocksA blocksB → collectAnswer (q .session) (q .rows) r blocksA blocksB .refusal ≡ 13)
+      × (collectAnswer (q .session) (q .rows) r blocksA blocksB .refusal ≡ 13 → EitherOff q r blocksA blocksB)
 
 -- Post q multiplies by the triple at r, whose masks it opened: done, and the third row held.
 abbrev pub Multiplies : Post → ℕ → Type 0

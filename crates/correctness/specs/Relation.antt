@@ -1,7 +1,7 @@
 -- Document 02, (v): "That row is opened, and under demand 2's premises the relation holds modulo p exactly when the number is 0."
 use Prim.Native.Nat.{ℕ, suc, _+_, _*_, _%_, _≤_, _<_}
 use mathlib.Core.Path.{_≡_}
-use mathlib.Core.Bool.{false}
+use mathlib.Core.Bool.{true, false}
 use mathlib.Core.Logic.{_⊎_}
 use mathlib.Core.List.{List, [], _∷_, _++_, map}
 use lib.ListN.{length, take, drop}
@@ -13,7 +13,7 @@ use Rattle.shape.specs.Lengths.{vLength}
 use Rattle.session.specs.declared.Session.{Session}
 use Rattle.session.specs.declared.Answer.{Answer}
 use Rattle.session.specs.Sessions.{mark, factorA, factorB, shapeOf}
-use Rattle.opening.specs.Walking.{recordLength, badRecord}
+use Rattle.opening.specs.Walking.{recordLength, badRecord, disagree}
 use Rattle.opening.specs.Opening.{openAnswer}
 use Rattle.terms.specs.declared.Term.{Term}
 use Rattle.terms.specs.Listed.{mostTerms, plain, productsOf, collected}
@@ -24,9 +24,9 @@ use Rattle.runs.specs.Outline.{summand}
 use Rattle.runs.specs.Calls.{Post, relationFinish, Proper}
 use Rattle.correctness.specs.History.{Event, World, doneBy, history, begin}
 use Rattle.correctness.specs.Ledger.{Ledger, summed, product, Plain}
-use Rattle.correctness.specs.Truth.{TruePolynomial, TrueMask, TrueOf}
+use Rattle.correctness.specs.Truth.{TruePolynomial, TrueMask, TrueOf, EnoughTrue}
 use Rattle.correctness.specs.Claim as Claim
-use Rattle.correctness.specs.Claim.{Premises, TooFew, rowIn}
+use Rattle.correctness.specs.Claim.{Premises, TooFew, rowIn, Remembers}
 
 -- The sum over the terms of coefficient × (a or a × b), where `number` gives each row its number.
 abbrev pub termSum : (ℕ → ℕ) → List Term → ℕ
@@ -132,15 +132,36 @@ AllTrue H q blocks k t =
     TrueOf (H (take (vLength (shapeOf s))) (t .first)) s (termMaskA s (q .rows) t) (recordA s blocks k)
     × TrueOf (H (drop (vLength (shapeOf s))) (t .first)) s (termMaskB s (q .rows) t) (recordB s blocks k)
 
--- 9, where any record has too few; done, where each accepted polynomial of all is true; otherwise done, or 13.
-pub record Related (H : (List ℕ → List ℕ) → ℕ → ℕ → List ℕ → Type 0) (q : Post) (ts : List Term) (blocks : List ℕ) (o : Answer) : Type 0 where
+-- At least t+1 of each are true, whichever they are.
+abbrev pub SomeTrue : ((List ℕ → List ℕ) → ℕ → ℕ → List ℕ → Type 0) → Post → List ℕ → ℕ → Term → Type 0
+SomeTrue H q blocks k t =
+    let s = q .session in
+    EnoughTrue (H (take (vLength (shapeOf s))) (t .first)) s (termMaskA s (q .rows) t) (recordA s blocks k)
+    × EnoughTrue (H (drop (vLength (shapeOf s))) (t .first)) s (termMaskB s (q .rows) t) (recordB s blocks k)
+
+-- An accepted share of either of them lies off the polynomial: "in either record of a finish".
+abbrev pub Off : Post → List ℕ → ℕ → Term → Type 0
+Off q blocks k t =
+    let s = q .session in
+    (disagree s (termMaskA s (q .rows) t) (recordA s blocks k) ≡ true) ⊎ (disagree s (termMaskB s (q .rows) t) (recordB s blocks k) ≡ true)
+
+-- 9, where any record has too few; done, where each accepted polynomial of all is true; done, and y and y' of every product term
+-- remembered in the session that is handed back, or 13, where at least t+1 of each record are true, whichever they are; otherwise done, or
+-- 13, and 13 exactly where a share of any record is off.
+pub record Related (plan : Plan) (draw : Draw) (L : Ledger) (H : (List ℕ → List ℕ) → ℕ → ℕ → List ℕ → Type 0)
+    (q : Post) (ts : List Term) (blocks : List ℕ) (o : Answer) : Type 0 where
   pub few : OneAt (Few q blocks) 0 (productsOf ts) → o .refusal ≡ 9
   pub exact : EachAt (Enough q blocks) 0 (productsOf ts) → EachAt (AllTrue H q blocks) 0 (productsOf ts) → o .refusal ≡ 0
+  pub agreed : EachAt (SomeTrue H q blocks) 0 (productsOf ts)
+      → ((o .refusal ≡ 0) × All (λ t. Remembers plan draw L (o .session) (t .first)) (productsOf ts)) ⊎ (o .refusal ≡ 13)
   pub otherwise : EachAt (Enough q blocks) 0 (productsOf ts) → (o .refusal ≡ 0) ⊎ (o .refusal ≡ 13)
+  pub thirteen : EachAt (Enough q blocks) 0 (productsOf ts)
+      → (OneAt (Off q blocks) 0 (productsOf ts) → o .refusal ≡ 13) × (o .refusal ≡ 13 → OneAt (Off q blocks) 0 (productsOf ts))
 
 abbrev pub RelationsFinish : Type 1
 RelationsFinish =
     (plan : Plan) (draw : Draw) (L : Ledger) (S : ℕ → Type 0) (rows : ℕ → List ℕ) (es : List Event)
     → Premises plan draw L S es rows → (i : ℕ) → 1 ≤ i → i ≤ plan .n → S i → (ts : List Term) (r : ℕ) (blocks : List ℕ)
     → (let w = history es (begin plan draw rows) in let q = w .posts i in
-    Ready q ts r blocks → Related (TrueMask S w (planShape plan)) q ts blocks (relationFinishAnswer (q .session) (q .rows) (collected ts) r blocks))
+    Ready q ts r blocks
+    → Related plan draw L (TrueMask S w (planShape plan)) q ts blocks (relationFinishAnswer (q .session) (q .rows) (collected ts) r blocks))

@@ -4,6 +4,7 @@ use Prim.Native.Nat.{ℕ}
 use mathlib.Core.List.{List, [], _∷_, _++_}
 use lib.ListN.{getD}
 use Rattle.terms.specs.declared.Term.{Term}
+use Rattle.terms.specs.Listed.{noRow}
 use Rattle.runs.specs.Outline.{times}
 use Rattle.runs.specs.Calls.{Post, message, linear, relationMasks, relationFinish}
 use Rattle.correctness.specs.History.{Event, World, history, begin}
@@ -12,7 +13,7 @@ use Rattle.correctness_examples.specs.Station.{plan, call, load, loadThr
 use Rattle.correctness_examples.specs.Orders.{draw}
 
 abbrev plainTerm : ℕ → ℕ → Term
-plainTerm c r = record { coefficient = c; row = r; second = 255; first = 0 }
+plainTerm c r = record { coefficient = c; row = r; second = noRow; first = 0 }
 
 -- rides × rate − fee, by the triple at 2; and, of the product that is then in row 4, product − the other fee
 abbrev pub fair : List Term

@@ -4,8 +4,8 @@ use mathlib.Core.Path.{_≡_, refl, sym, _∙_}
 use mathlib.Core.List.{List, [], _∷_}
 use mathlib.Core.Bool.{Bool, true, false, cond}
 use native.Mathlib.Omega.{arith}
-use borrow.Author.Tests.{ltb-true, ltb-false}
-use lib.ListN.{getD}
+use borrow.Author.Tests.{ltb-true, ltb-false, ne-eqb}
+use lib.ListN.{length, getD, List·getD-eq-default}
 use lib.Dec.{eqb, ltb}
 use Rattle.decimal.specs.declared.Field.{Field}
 use Rattle.decimal.specs.declared.Field.the-variants.{Number, Wrong}
@@ -21,6 +21,25 @@ largest-one x = go (ltb 0 x) refl
     go : (t : Bool) → ltb 0 x ≡ t → cond t x 0 ≡ x
     go true e = refl
     go false e = omega (arith, ltb-false 0 x e)
+
+-- ---- one field, by what stands at its position
+module _ (s : List ℕ) (at : ℕ) where
+  pub one-short : length s ≤ at → Broken ≡ runOf (fieldsAt 1 s at)
+  unfolding fieldsAt
+  one-short h = rw (List·getD-eq-default s 0 h)
+
+  pub one-none : (getD s at 0 ≡ 44 → ⊥) → Broken ≡ runOf (fieldsAt 1 s at)
+  unfolding fieldsAt
+  one-none h = rw (ne-eqb (getD s at 0) 44 h)
+
+  module _ (f : Field) (c : getD s at 0 ≡ 44) (e : f ≡ fieldAt s (at + 1)) where
+    pub one-number : (x next : ℕ) → f ≡ Number x next → Fields x next ≡ runOf (fieldsAt 1 s at)
+    unfolding fieldsAt
+    one-number x next w = rw (c, ← e, w, largest-one x)
+
+    pub one-wrong : f ≡ Wrong → Broken ≡ runOf (fieldsAt 1 s at)
+    unfolding fieldsAt
+    one-wrong w = rw (c, ← e, w)
 
 module _ (k : ℕ) (s : List ℕ) (at : ℕ) (r : Run) (e : r ≡ runOf (fieldsAt 1 s at)) where
   pub first-found : (x next : ℕ) → r ≡ Fields x next → fieldsAt (suc k) s at ≡ push x (fieldsAt k s next)

@@ -10,6 +10,8 @@ ghost use Rattle.csv.specs.Walk.{commaField, readAt, stepFrom, counted, 
 use decimal::Field;
 use decimal::lanes;
 
+pub mod short;
+
 // What a first pass over fields tells of them: the largest number, and the position behind them.
 pub enum Run {
     Fields { largest: u64, next: usize },
@@ -272,14 +274,6 @@ pub fn read_part(line: &[u8], at: usize, largest: u64, room: &mut [u32]) -> Run
         i += 1;
     }
     settle(tally, reader.at)
-}
-
-// One field: its number, which is told as the largest, and the position behind it.
-pub fn one_field(line: &[u8], at: usize) -> Run
-    ensures { λ r. ⌜ r ≡ runOf (fieldsAt 1 (now (line .entry)) at) ⌝ }
-{
-    let mut room = [0u32; 1];
-    read_part(line, at, 0, &mut room)
 }
 
 // The numbers of as many fields from a position as the list has places, where they are known to fit.

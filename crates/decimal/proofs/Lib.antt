@@ -4,6 +4,7 @@ pub mod Numerals
 pub mod Positions
 pub mod EightDigits
 pub mod Eights
+pub mod FromEight
 pub mod Scanning
 pub mod Spelling
 pub mod SideBySide

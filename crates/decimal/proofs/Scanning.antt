@@ -1,6 +1,6 @@
 -- The walk over the digits of a line: its turns and ends.
 use Prim.Native.Nat.{ℕ, suc, _+_, _-_, _*_, _≤_, _<_, _^_}
-use mathlib.Core.Path.{_≡_, refl, ap, sym, _∙_}
+use mathlib.Core.Path.{_≡_, refl, ap}
 use mathlib.Core.List.{List, [], _∷_, _++_}
 use mathlib.Core.Bool.{Bool, true, false, and-false, cond}
 use native.Mathlib.Omega.{arith}
@@ -119,89 +119,6 @@ module _ (s : List ℕ) (at end sum i : ℕ) (inv : Walked s at end sum i) where
         small = rw k (omega (arith, inv .small));
         says = rw e (rw (n, drop-cons s i 0 (walked-within h), ← add-one i) at (inv .says));
       }
-
--- ---- eight digits at once, and up to three behind them
-pub behind-eight : (s : List ℕ) (at x v : ℕ) → bytesOf 8 x ≡ take 8 (drop at s) → Digits (bytesOf 8 x) → v ≡ valueAfter 0 (bytesOf 8 x)
-    → 11 ≤ length s → at ≤ length s - 11 → BehindEight s at v
-behind-eight s at x v e d q h g = record { room = omega arith; digits = rw e at d; says = rw e at q }
-
-value-append : (a : ℕ) (ds es : List ℕ) → valueAfter a (ds ++ es) ≡ valueAfter (valueAfter a ds) es
-unfolding valueAfter
-value-append a [] es = refl
-value-append a (d ∷ ds) es = value-append (a * 10 + (d - 48)) ds es
-
-take-more : (ds es : List ℕ) (k : ℕ) → take (length ds + k) (ds ++ es) ≡ ds ++ take k es
-take-more [] es k = let e : 0 + k ≡ k = omega arith in rw e
-take-more (d ∷ ds) es k = let e : suc (length ds) + k ≡ suc (length ds + k) = omega arith in rw e (ap (λ (l : List ℕ). d ∷ l) (take-more ds es k))
-
-module _ (s : List ℕ) (at v : ℕ) (p : BehindEight s at v) where
-  eight-walked : Walked s at (at + 11) v (at + 8)
-  eight-walked =
-      let ds : List ℕ = take 8 (drop at s) in
-      let n : length ds ≡ 8 = length-take-le 8 (drop at s) (rw (length-drop at s) (omega (arith, p .room))) in
-      let e : drop at s ≡ ds ++ drop (at + 8) s = sym (take-append-drop 8 (drop at s)) ∙ ap (λ (l : List ℕ). ds ++ l) (drop-drop 8 at s) in
-      let l : leading (drop at s) ≡ length ds + leading (drop (at + 8) s) = ap leading e ∙ leading-append ds (drop (at + 8) s) (p .digits) in
-      let z : at + 8 - at ≡ 8 = omega arith in
-      let t : take (leading (drop at s)) (drop at s) ≡ ds ++ take (leading (drop (at + 8) s)) (drop (at + 8) s) =
-      ap (λ (k : ℕ). take k (drop at s)) l ∙ ap (take (length ds + leading (drop (at + 8) s))) e ∙ take-more ds (drop (at + 8) s) (leading (drop (at + 8) s)) in
-      record {
-        walk = record { from = omega arith; near = omega arith; within = λ q. omega (arith, p .room); whole = λ q. absurd (omega arith) };
-        from = omega arith;
-        upto = omega arith;
-        leads = omega (arith, l, n);
-        small = rw (z, p .says) (rw n at (value-below ds 0 0 (p .digits) (omega arith)));
-        says = rw (p .says) (sym (ap (valueAfter 0) t ∙ value-append 0 ds (take (leading (drop (at + 8) s)) (drop (at + 8) s))));
-      }
-
-  pub eight-below : getD s (at + 8) 0 < 48 → DigitsAt s at v (at + 8)
-  eight-below h = walked-below s at (at + 11) v (at + 8) eight-walked (omega arith) h
-
-  pub eight-above : 57 < getD s (at + 8) 0 → DigitsAt s at v (at + 8)
-  eight-above h = walked-above s at (at + 11) v (at + 8) eight-walked (omega arith) h
-
-  module _ (x : ℕ) (b : 48 ≤ getD s (at + 8) 0) (g : getD s (at + 8) 0 ≤ 57) where
-    pub nine-mul : Fits w64 (v * 10)
-    nine-mul = walked-mul s at (at + 11) v (at + 8) eight-walked (omega arith)
-
-    module _ (e : x ≡ getD s (at + 8) 0 - 48) where
-      pub nine-add : Fits w64 (v * 10 + x)
-      nine-add = walked-add s at (at + 11) v (at + 8) eight-walked x (omega arith) g e
-
-      nine-walked : Walked s at (at + 11) (v * 10 + x) (at + 9)
-      nine-walked =
-          let i : at + 8 + 1 ≡ at + 9 = omega arith in
-          rw i at (walked-more s at (at + 11) v (at + 8) eight-walked x (omega arith) b g e)
-
-      pub nine-below : getD s (at + 9) 0 < 48 → DigitsAt s at (v * 10 + x) (at + 9)
-      nine-below h = walked-below s at (at + 11) (v * 10 + x) (at + 9) nine-walked (omega arith) h
-
-      pub nine-above : 57 < getD s (at + 9) 0 → DigitsAt s at (v * 10 + x) (at + 9)
-      nine-above h = walked-above s at (at + 11) (v * 10 + x) (at + 9) nine-walked (omega arith) h
-
-      module _ (y : ℕ) (c : 48 ≤ getD s (at + 9) 0) (f : getD s (at + 9) 0 ≤ 57) where
-        pub ten-mul : Fits w64 ((v * 10 + x) * 10)
-        ten-mul = walked-mul s at (at + 11) (v * 10 + x) (at + 9) nine-walked (omega arith)
-
-        module _ (d : y ≡ getD s (at + 9) 0 - 48) where
-          pub ten-add : Fits w64 ((v * 10 + x) * 10 + y)
-          ten-add = walked-add s at (at + 11) (v * 10 + x) (at + 9) nine-walked y (omega arith) f d
-
-          ten-walked : Walked s at (at + 11) ((v * 10 + x) * 10 + y) (at + 10)
-          ten-walked =
-              let i : at + 9 + 1 ≡ at + 10 = omega arith in
-              rw i at (walked-more s at (at + 11) (v * 10 + x) (at + 9) nine-walked y (omega arith) c f d)
-
-          pub ten-below : getD s (at + 10) 0 < 48 → DigitsAt s at ((v * 10 + x) * 10 + y) (at + 10)
-          ten-below h = walked-below s at (at + 11) ((v * 10 + x) * 10 + y) (at + 10) ten-walked (omega arith) h
-
-          pub ten-above : 57 < getD s (at + 10) 0 → DigitsAt s at ((v * 10 + x) * 10 + y) (at + 10)
-          ten-above h = walked-above s at (at + 11) ((v * 10 + x) * 10 + y) (at + 10) ten-walked (omega arith) h
-
-          -- an eleventh digit: what is said does not matter
-          pub too-many : 48 ≤ getD s (at + 10) 0 → getD s (at + 10) 0 ≤ 57 → DigitsAt s at ((v * 10 + x) * 10 + y) (at + 11)
-          too-many h k =
-              let w = walked-more s at (at + 11) ((v * 10 + x) * 10 + y) (at + 10) ten-walked (getD s (at + 10) 0 - 48) (omega arith) h k refl in
-              record { from = omega arith; few = λ q. absurd (omega arith); many = λ q. omega (arith, w .leads) }
 
 -- ---- a digit stands at i
 pub record DigitAt (s : List ℕ) (i : ℕ) : Type 0 where

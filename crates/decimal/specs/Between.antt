@@ -1,9 +1,9 @@
 -- Between the functions of the code. No theorem is stated with these.
-use Prim.Native.Nat.{ℕ, zero, suc, _+_, _/_, _%_, _≤_, _<_}
+use Prim.Native.Nat.{ℕ, zero, suc, _+_, _-_, _*_, _/_, _%_, _≤_, _<_}
 use mathlib.Core.Path.{_≡_}
 use mathlib.Core.List.{List, [], _∷_}
 use mathlib.Core.Bool.{Bool, true, false, cond}
-use lib.ListN.{length, take, drop}
+use lib.ListN.{length, getD, take, drop}
 use lib.Dec.{ltb}
 use Rattle.decimal.specs.Numeral.{mostDigits, leading, valueAfter}
 
@@ -37,8 +37,16 @@ unfoldable pub bytesOf : ℕ → ℕ → List ℕ
 bytesOf zero x = []
 bytesOf (suc k) x = (x % 256) ∷ bytesOf k (x / 256)
 
--- Eight digits stand at a position and say v, and three bytes more stand behind them.
+-- Eight digits stand at a position and say v, and two bytes more stand behind them.
 pub record BehindEight (s : List ℕ) (at v : ℕ) : Type 0 where
-  pub room : at + suc mostDigits ≤ length s
+  pub room : at + mostDigits ≤ length s
   pub digits : Digits (take 8 (drop at s))
   pub says : v ≡ valueAfter 0 (take 8 (drop at s))
+
+-- The same with the digit behind them: nine say v.
+pub record BehindNine (s : List ℕ) (at v : ℕ) : Type 0 where
+  pub eight : ℕ
+  pub front : BehindEight s at eight
+  pub low : 48 ≤ getD s (at + 8) 0
+  pub high : getD s (at + 8) 0 ≤ 57
+  pub says : v ≡ eight * 10 + (getD s (at + 8) 0 - 48)

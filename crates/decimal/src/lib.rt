@@ -4,7 +4,7 @@ ghost use mathlib.Core.List.{[], _∷_};
 ghost use Prim.Native.Nat.{_+_, _≤_, _<_};
 ghost use lib.ListN.{length, take, drop};
 ghost use Rattle.decimal.specs.Numeral.{size, lastDigits, valueAfter, fieldAt};
-ghost use Rattle.decimal.specs.Between.{reached, WalkEnd, DigitsAt, Digits, DigitsIf, bytesOf, BehindEight};
+ghost use Rattle.decimal.specs.Between.{reached, WalkEnd, DigitsAt, Digits, DigitsIf, bytesOf, BehindEight, BehindNine};
 
 pub mod lanes;
 
@@ -132,6 +132,41 @@ fn value_of(x: u64) -> u64
     fours % 65536 * 10000 + fours / 4294967296 % 65536
 }
 
+// The digits from a position, of which nine are known and say v.
+fn behind_nine(line: &[u8], at: usize, v: u64) -> Span
+    requires { ⌜ BehindNine (now line) at v ⌝ }
+    ensures { λ r. ⌜ DigitsAt (now (line .entry)) at (r .value) (r .end) ⌝ }
+{
+    let tenth = line[at + 9];
+    if tenth < 48 {
+        return Span {
+            value: v,
+            end: at + 9,
+        };
+    }
+    if 57 < tenth {
+        return Span {
+            value: v,
+            end: at + 9,
+        };
+    }
+    let ten = v * 10 + wide(tenth - 48);
+    let end = at + 10;
+    if line.len() <= end {
+        return Span { value: ten, end };
+    }
+    if line[end] < 48 {
+        return Span { value: ten, end };
+    }
+    if 57 < line[end] {
+        return Span { value: ten, end };
+    }
+    Span {
+        value: ten,
+        end: at + 11,
+    }
+}
+
 // The digits from a position, of which eight are known and say v.
 fn behind_eight(line: &[u8], at: usize, v: u64) -> Span
     requires { ⌜ BehindEight (now line) at v ⌝ }
@@ -150,48 +185,17 @@ fn behind_eight(line: &[u8], at: usize, v: u64) -> Span
             end: at + 8,
         };
     }
-    let nine = v * 10 + wide(ninth - 48);
-    let tenth = line[at + 9];
-    if tenth < 48 {
-        return Span {
-            value: nine,
-            end: at + 9,
-        };
-    }
-    if 57 < tenth {
-        return Span {
-            value: nine,
-            end: at + 9,
-        };
-    }
-    let ten = nine * 10 + wide(tenth - 48);
-    let behind = line[at + 10];
-    if behind < 48 {
-        return Span {
-            value: ten,
-            end: at + 10,
-        };
-    }
-    if 57 < behind {
-        return Span {
-            value: ten,
-            end: at + 10,
-        };
-    }
-    Span {
-        value: ten,
-        end: at + 11,
-    }
+    behind_nine(line, at, v * 10 + wide(ninth - 48))
 }
 
-// The digits from a position: eight at once where there are as many, else in one walk.
+// The digits from a position: eight at once where there are as many, else in one walk. Nine and a line feed are enough bytes for that.
 fn digits_at(line: &[u8], at: usize) -> Span
     ensures { λ r. ⌜ DigitsAt (now (line .entry)) at (r .value) (r .end) ⌝ }
 {
-    if line.len() < 11 {
+    if line.len() < MOST_DIGITS {
         return walk_digits(line, at);
     }
-    if line.len() - 11 < at {
+    if line.len() - MOST_DIGITS < at {
         return walk_digits(line, at);
     }
     let x = eight_at(line, at);
@@ -201,11 +205,11 @@ fn digits_at(line: &[u8], at: usize) -> Span
     walk_digits(line, at)
 }
 
-// The number at a position.
-pub fn field_at(line: &[u8], at: usize) -> Field
+// The number at a position, of digits that are known.
+fn field_of(line: &[u8], at: usize, digits: Span) -> Field
+    requires { ⌜ DigitsAt (now line) at (digits .value) (digits .end) ⌝ }
     ensures { λ r. ⌜ r ≡ fieldAt (now (line .entry)) at ⌝ }
 {
-    let digits = digits_at(line, at);
     let end = digits.end;
     let k = end - at;
     if k < 1 {
@@ -222,4 +226,18 @@ pub fn field_at(line: &[u8], at: usize) -> Field
         return Field::Wrong; // a leading zero
     }
     Field::Number { value, next: end }
+}
+
+// The number at a position.
+pub fn field_at(line: &[u8], at: usize) -> Field
+    ensures { λ r. ⌜ r ≡ fieldAt (now (line .entry)) at ⌝ }
+{
+    field_of(line, at, digits_at(line, at))
+}
+
+// The same where few digits are expected: they are walked, without a look at eight.
+pub fn short_field_at(line: &[u8], at: usize) -> Field
+    ensures { λ r. ⌜ r ≡ fieldAt (now (line .entry)) at ⌝ }
+{
+    field_of(line, at, walk_digits(line, at))
 }

@@ -11,8 +11,7 @@ use Rattle.states.specs.declared.Stepped.{Stepped}
 use Rattle.states.specs.declared.State.{State}
 use Rattle.states.specs.States.{After, after, firstState}
 use Rattle.masklines.specs.Steps.{toldRoom}
-use Rattle.interpreter.specs.Stepping.{step, checkedStep}
-use Rattle.interpreter.specs.Between.{Ready}
+use Rattle.interpreter.specs.Stepping.{step, checkedStep, Ready}
 use Rattle.interpreter.proofs.Ranges.{step-ready, step-told}
 use Rattle.interpreter.proofs.Room.{ready-step}
 use Rattle.feeds.specs.declared.Feed.{Feed}

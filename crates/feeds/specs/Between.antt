@@ -6,7 +6,7 @@ use mathlib.Core.List.{List}
 use mathlib.Core.Bool.{cond}
 use lib.ListN.{length, getD, drop}
 use lib.Dec.{eqb}
-use Rattle.interpreter.specs.Between.{Ready}
+use Rattle.interpreter.specs.Stepping.{Ready}
 use Rattle.feeds.specs.declared.Feed.{Feed}
 use Rattle.answers.specs.Text.{longestPrint}
 use Rattle.splitting.specs.Lines.{keptLength}

@@ -17,7 +17,7 @@ use Rattle.csv.specs.declared.Run.the-variants.{Fields, Broken}
 use Rattle.csv.specs.Walk.{endOf, lows, Roomed}
 use Rattle.csv.specs.Fields.{Parsed, parsed, malformed, push, behind, fieldsAt, ended, numbersOf, largestFrom, runFrom}
 use Rattle.csv.proofs.Rooming.{lows-fit}
-use Rattle.forms.specs.Between.{PartOf, belowLimit}
+use Rattle.forms.specs.Between.{PartOf, roomSize, belowLimit}
 use Rattle.csv.proofs.Single.{largest-above, largest-narrow}
 
 -- ---- fields in two parts
@@ -97,6 +97,22 @@ module _ (s out : List ℕ) (at m : ℕ) (h : length out < 1) where
       nothing (x ∷ l) h = absurd (omega arith)
   empty-list false = refl
 
+-- ---- numbers in front that are all: the end of the line is left
+module _ (s out front : List ℕ) (at m : ℕ) (b : length front ≤ length out) (h : length out ≤ length front) where
+  none-left : length out - length front ≡ 0
+  none-left = omega arith
+
+  pub all-count : length front ≡ length out
+  all-count = omega arith
+
+  pub all-run : (r : Run) → r ≡ endOf s at m → r ≡ runFrom m (ended s (fieldsAt (length out - length front) s at))
+  all-run r e = rw none-left (empty-run s [] at m (omega arith) r e)
+
+  pub all-list : (r : Run) (limit : ℕ) (t : Bool) (zs : List ℕ) → t ≡ belowLimit r limit → zs ≡ cond t front out
+      → zs ≡ cond (belowLimit r limit) (front ++ numbersOf (fieldsAt (length out - length front) s at)) out
+  unfolding fieldsAt
+  all-list r limit t zs f g = rw (none-left, append-nil, ← f) g
+
 -- ---- numbers in front, and the fields behind them
 module _ (s out front : List ℕ) (at m : ℕ) (b : length front ≤ length out) where
   abbrev n : ℕ
@@ -159,7 +175,7 @@ module _ (s out front : List ℕ) (at m : ℕ) (b : length front ≤ length out)
     behind-same zs e = omega (arith, length-append zs (drop n laid), behind-count, ap length left-is, mid-long)
 
 -- ---- a part in a room, and the fields behind it
-module _ (s out room : List ℕ) (at m n : ℕ) (p : PartOf (length out) n) (r32 : length room ≡ 32) where
+module _ (s out room : List ℕ) (at m n : ℕ) (p : PartOf (length out) n) (sized : length room ≡ roomSize) where
   part-long : length (take n room) ≡ n
   part-long = length-take-le n room (omega (arith, p .fits))
 

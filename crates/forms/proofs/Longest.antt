@@ -7,7 +7,7 @@ use native.Mathlib.Omega.{arith}
 use borrow.Author.Tests.{le-ltb}
 use lib.ListN.{length, replicate, length-append, length-replicate}
 use lib.Dec.{eqb}
-use Rattle.shape.specs.Bounds.{mostPosts}
+use Rattle.shape.specs.Bounds.{mostPosts, lastRow, lastTriple}
 use Rattle.shape.specs.Lengths.{shape, vLength}
 use Rattle.refusal.specs.Conditions.{outside, anyBeyond}
 use Rattle.refusal.proofs.Laws.{inside}
@@ -29,9 +29,9 @@ two-fields : (x y : ℕ) → length (fields (x ∷ y ∷ [])) ≡ 2 + size x + s
 unfolding fields
 two-fields x y = omega (arith, length-append (field x) (field y ++ []), length-append (field y) [], length-field x, length-field y)
 
-size-95 : size 95 ≡ 2
+size-last-row : size lastRow ≡ 2
 unfolding sizeWithin
-size-95 = refl
+size-last-row = refl
 
 -- no line that posts send is longer
 pub none-longer : NoneLonger
@@ -41,7 +41,7 @@ none-longer n k m l h = go (eqb (m .letter) 68) (eqb (m .letter) 79) (h .count) 
     r = in-range n m (h .in-range)
 
     row : size (m .row) ≤ 2
-    row = omega (arith, size-95, size-grows 9 (m .row) 95 (omega (arith, r .row, last-row-le (m .letter))))
+    row = omega (arith, size-last-row, size-grows 9 (m .row) lastRow (omega (arith, r .row, last-row-le (m .letter))))
 
     go : (x y : Bool) → length (m .numbers) ≡ cond x 1 (cond y k (2 * k)) → cond x false (outside 1 n (m .post)) ≡ false
         → length (written (m .letter) (cond x (m .row ∷ m .numbers) (m .row ∷ m .post ∷ m .numbers))) ≤ longest n k
@@ -75,7 +75,7 @@ one-as-long n k h = (
     no-post = λ q. absurd (omega arith);
     in-range = rw (le-ltb n 1 h, le-ltb n n (omega arith)) (elements (2 * k));
   },
-  omega (arith, length-written 77 (93 ∷ n ∷ []) (replicate (2 * k) 2147483646), two-fields 93 n, ten-digits (2 * k)),
+  omega (arith, length-written 77 (lastTriple ∷ n ∷ []) (replicate (2 * k) 2147483646), two-fields lastTriple n, ten-digits (2 * k)),
 )
 
 pub longest-lines : LongestLines

@@ -7,15 +7,16 @@ use native.Mathlib.Omega.{arith}
 use borrow.Author.Tests.{lt-ltb, le-ltb, eq-eqb, ne-eqb, ltb-true, ltb-false}
 use lib.Dec.{ltb, eqb}
 use Rattle.field.specs.Modulus.{p}
+use Rattle.shape.specs.Bounds.{lastRow, lastTriple}
 use Rattle.refusal.specs.Conditions.{outside, beyond, anyBeyond}
 use Rattle.csv.specs.Fields.{largestFrom}
-use Rattle.forms.specs.Lines.{lastRow}
+use Rattle.forms.specs.Lines.{lastRowOf}
 use Rattle.forms.specs.Forms.{outOfRange}
 
-pub last-row-le : (letter : ℕ) → lastRow letter ≤ 95
+pub last-row-le : (letter : ℕ) → lastRowOf letter ≤ lastRow
 last-row-le letter = go (eqb letter 77)
   where
-    go : (b : Bool) → cond b 93 95 ≤ 95
+    go : (b : Bool) → cond b lastTriple lastRow ≤ lastRow
     go true = omega arith
     go false = omega arith
 
@@ -30,9 +31,9 @@ module _ (n letter row post largest : ℕ) where
   broken = outOfRange n letter row post (beyond largest)
 
   pub largest-beyond : p ≤ largest → true ≡ broken
-  largest-beyond h = rw (le-ltb largest p h) (sym (or-true (ltb (lastRow letter) row) (cond (eqb letter 68) false (outside 1 n post))))
+  largest-beyond h = rw (le-ltb largest p h) (sym (or-true (ltb (lastRowOf letter) row) (cond (eqb letter 68) false (outside 1 n post))))
 
-  module _ (h : largest < p) (last : ℕ) (l : last ≡ lastRow letter) where
+  module _ (h : largest < p) (last : ℕ) (l : last ≡ lastRowOf letter) where
     pub row-beyond : last < row → true ≡ broken
     row-beyond r = rw (← l, lt-ltb last row r)
 

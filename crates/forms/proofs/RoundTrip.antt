@@ -12,14 +12,14 @@ use Rattle.refusal.proofs.Laws.{or-false, inside, all-fail}
 use Rattle.refusal.proofs.Elements.{below-p}
 use Rattle.decimal.specs.Numeral.{tens}
 use Rattle.csv.specs.Fields.{fields, written, Parsed, parsed, malformed, numbersOf, Small}
-use Rattle.forms.specs.Lines.{Message, fieldsOf, text, lastRow}
+use Rattle.forms.specs.Lines.{Message, fieldsOf, text, lastRowOf}
 use Rattle.forms.specs.Forms.{numberCount, fieldCount, formOf, messageOf, message, isMalformed, beyondRange, lineTests, Sent}
 use Rattle.forms.specs.Claims.{WrittenReadsBack, ReadIsWritten, NoOtherLine, OneMessage}
 use Rattle.forms.proofs.Forms.{form-spelled, form-read}
 use Rattle.forms.proofs.Ranges.{last-row-le}
 
 -- ---- what the range says
-none-beyond : (xs : List ℕ) → anyBeyond xs ≡ false → Small xs
+pub none-beyond : (xs : List ℕ) → anyBeyond xs ≡ false → Small xs
 unfolding anyBeyond
 none-beyond [] e = tt
 none-beyond (x ∷ xs) e =
@@ -28,15 +28,15 @@ none-beyond (x ∷ xs) e =
 
 -- row, post and numbers of a message in range
 pub record WithinBounds (n : ℕ) (m : Message) : Type 0 where
-  pub row : m .row ≤ lastRow (m .letter)
+  pub row : m .row ≤ lastRowOf (m .letter)
   pub post : cond (eqb (m .letter) 68) false (outside 1 n (m .post)) ≡ false
   pub numbers : Small (m .numbers)
 
 pub in-range : (n : ℕ) (m : Message) → beyondRange n m ≡ false → WithinBounds n m
 in-range n m e =
-    let a = or-false (ltb (lastRow (m .letter)) (m .row)) _ e in
+    let a = or-false (ltb (lastRowOf (m .letter)) (m .row)) _ e in
     let b = or-false (cond (eqb (m .letter) 68) false (outside 1 n (m .post))) _ (a .1) in
-    record { row = ltb-false (lastRow (m .letter)) (m .row) (a .0); post = b .0; numbers = none-beyond (m .numbers) (b .1) }
+    record { row = ltb-false (lastRowOf (m .letter)) (m .row) (a .0); post = b .0; numbers = none-beyond (m .numbers) (b .1) }
 
 fields-small : (n : ℕ) (m : Message) → n < tens 10 → WithinBounds n m → Small (fieldsOf m)
 fields-small n m l h = go (eqb (m .letter) 68) (h .post)

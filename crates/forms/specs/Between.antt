@@ -38,8 +38,12 @@ abbrev pub belowLimit : Run → ℕ → Bool
 belowLimit (Fields largest next) limit = ltb largest limit
 belowLimit Broken limit = false
 
+-- So many numbers of a line wait in one room. No answer depends on it.
+abbrev pub roomSize : ℕ
+roomSize = 32
+
 -- A part of a list's places, as many as a room has: at least one, where there is one.
 pub record PartOf (len n : ℕ) : Type 0 where
   pub within : n ≤ len
-  pub fits : n ≤ 32
+  pub fits : n ≤ roomSize
   pub some : 1 ≤ len → 1 ≤ n

@@ -4,7 +4,7 @@ use Prim.Native.Nat.{ℕ, _+_, _*_, _≤_, _<_}
 use mathlib.Core.Path.{_≡_}
 use mathlib.Core.List.{List}
 use lib.ListN.{length, replicate}
-use Rattle.shape.specs.Bounds.{mostPosts}
+use Rattle.shape.specs.Bounds.{mostPosts, lastTriple}
 use Rattle.shape.specs.Lengths.{shape, vLength}
 use Rattle.refusal.specs.Refusal.{first}
 use Rattle.decimal.specs.Numeral.{tens, size}
@@ -41,7 +41,7 @@ NoneLonger = (n k : ℕ) (m : Message) → 1 ≤ k → Sent n k m → length (te
 
 -- One is as long: the last triple's masks from the last post, with every coefficient p - 1.
 abbrev pub longestMasks : ℕ → ℕ → Message
-longestMasks n k = masks 93 n (replicate (2 * k) 2147483646)
+longestMasks n k = masks lastTriple n (replicate (2 * k) 2147483646)
 
 abbrev pub OneAsLong : Type 0
 OneAsLong = (n k : ℕ) → 1 ≤ n → Sent n k (longestMasks n k) × (length (text (longestMasks n k)) ≡ longest n k)

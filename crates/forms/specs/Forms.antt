@@ -8,7 +8,7 @@ use lib.Dec.{eqb, ltb}
 use Rattle.refusal.specs.Refusal.{Test, _when_}
 use Rattle.refusal.specs.Conditions.{outside, anyBeyond}
 use Rattle.csv.specs.Fields.{Parsed, parsed, malformed, fieldsAt, ended, numbersOf}
-use Rattle.forms.specs.Lines.{Message, lastRow}
+use Rattle.forms.specs.Lines.{Message, lastRowOf}
 
 abbrev pub isLetter : ℕ → Bool
 isLetter b = eqb b 68 || (eqb b 79 || eqb b 77)
@@ -45,7 +45,7 @@ message k s = messageOf (getD s 0 0) (numbersOf (formOf k s))
 
 -- "element at least p, row above 95 (a triple's first above 93), post outside 1..n"; `big` says the first.
 abbrev pub outOfRange : ℕ → ℕ → ℕ → ℕ → Bool → Bool
-outOfRange n letter row post big = ltb (lastRow letter) row || (cond (eqb letter 68) false (outside 1 n post) || big)
+outOfRange n letter row post big = ltb (lastRowOf letter) row || (cond (eqb letter 68) false (outside 1 n post) || big)
 
 abbrev pub beyondRange : ℕ → Message → Bool
 beyondRange n m = outOfRange n (m .letter) (m .row) (m .post) (anyBeyond (m .numbers))

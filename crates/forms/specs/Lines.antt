@@ -3,6 +3,7 @@ use mathlib.Core.Bool.{cond}
 use Prim.Native.Nat.{ℕ}
 use mathlib.Core.List.{List, [], _∷_}
 use lib.Dec.{eqb}
+use Rattle.shape.specs.Bounds.{lastRow, lastTriple}
 use Rattle.csv.specs.Fields.{written}
 
 -- What a line says. A `D` has no post, which counts as 0.
@@ -31,5 +32,5 @@ abbrev pub text : Message → List ℕ
 text m = written (m .letter) (fieldsOf m)
 
 -- "row above 95, or a triple's first above 93"
-abbrev pub lastRow : ℕ → ℕ
-lastRow letter = cond (eqb letter 77) 93 95
+abbrev pub lastRowOf : ℕ → ℕ
+lastRowOf letter = cond (eqb letter 77) lastTriple lastRow

@@ -7,10 +7,11 @@ ghost use lib.ListN.{length, replicate};
 ghost use Rattle.refusal.specs.Conditions.{beyond};
 ghost use Rattle.csv.specs.Fields.{fieldsAt, ended, runOf, runFrom, numbersOf, padded};
 ghost use Rattle.forms.specs.declared.Head.the-variants.{Right};
-ghost use Rattle.forms.specs.Lines.{lastRow};
+ghost use Rattle.forms.specs.Lines.{lastRowOf};
 ghost use Rattle.forms.specs.Forms.{isLetter, numberCount, outOfRange};
 ghost use Rattle.forms.specs.Between.{HeadOf, belowLimit, PartOf};
 use csv::Run;
+use csv::short;
 
 // What the head of a line tells: where its numbers stand behind row and post, and how many they are.
 pub enum Head {
@@ -38,9 +39,13 @@ fn right(letter: u8, row: u64, post: u64, at: usize, count: usize) -> Head
 
 // "row above 95, or a triple's first above 93".
 pub fn last_row(letter: u8) -> usize
-    ensures { λ r. ⌜ r ≡ lastRow letter ⌝ }
+    ensures { λ r. ⌜ r ≡ lastRowOf letter ⌝ }
 {
-    if letter == 77 { 93 } else { 95 }
+    if letter == 77 {
+        shape::LAST_TRIPLE
+    } else {
+        shape::LAST_ROW
+    }
 }
 
 // How many numbers stand behind row and post; 0 where the byte is no letter of a line.
@@ -73,14 +78,14 @@ pub fn head_of(line: &[u8], k: usize) -> Head
     if count < 1 {
         return Head::Wrong;
     }
-    let run = csv::one_field(line, 1);
+    let run = short::one_field(line, 1);
     match run {
         Run::Fields { largest, next } => {
             let row = largest;
             if letter == 68 {
                 return right(letter, row, 0, next, count);
             }
-            let second = csv::one_field(line, next);
+            let second = short::one_field(line, next);
             match second {
                 Run::Fields { largest, next } => right(letter, row, largest, next, count),
                 Run::Broken => Head::Wrong,
@@ -122,11 +127,14 @@ fn below(run: Run, limit: u64) -> bool
     }
 }
 
+// How many numbers of a line wait in one room until the line's end is seen.
+const ROOM_SIZE: usize = 32;
+
 // How many of some fields are read at once: the places of a room.
 fn part_of(len: usize) -> usize
     ensures { λ r. ⌜ PartOf len r ⌝ }
 {
-    if len < 32 { len } else { 32 }
+    if len < ROOM_SIZE { len } else { ROOM_SIZE }
 }
 
 // A list takes the numbers of another, if it is to.
@@ -139,7 +147,8 @@ fn lay(kept: bool, from: &[u32], to: &mut [u32])
     }
 }
 
-// The fields behind those whose numbers are in front: the list takes all of them.
+// The fields behind those whose numbers are in front: the list takes all of them. Where none is left the line's end is asked for here, which
+// spares a short line a second call.
 fn read_behind(
     line: &[u8],
     at: usize,
@@ -155,6 +164,11 @@ fn read_behind(
         (now (out .entry)) ⌝ }
 {
     let n = front.len();
+    if out.len() <= n {
+        let run = csv::line_end(line, at, largest);
+        lay(below(run, limit), front, out);
+        return run;
+    }
     let run = read_fields(line, at, largest, limit, &mut out[n..]);
     lay(below(run, limit), front, &mut out[..n]);
     run
@@ -171,7 +185,7 @@ pub fn read_fields(line: &[u8], at: usize, largest: u64, limit: u64, out: &mut [
     if out.len() < 1 {
         return csv::line_end(line, at, largest);
     }
-    let mut room = [0u32; 32];
+    let mut room = [0u32; ROOM_SIZE];
     let n = part_of(out.len());
     let part = csv::read_part(line, at, largest, &mut room[..n]);
     match part {

@@ -17,8 +17,7 @@ use Rattle.rowlines.specs.Steps.{linearStep, openStep}
 use Rattle.postlines.specs.Steps.{Broadcast, hearStep}
 use Rattle.masklines.specs.Steps.{maskStep}
 use Rattle.finishlines.specs.Steps.{finishStep}
-use Rattle.interpreter.specs.Stepping.{lettersStep, lateStep, step}
-use Rattle.interpreter.specs.Between.{Ready}
+use Rattle.interpreter.specs.Stepping.{lettersStep, lateStep, step, Ready}
 use Rattle.interpreter.proofs.Ranges.{early-quiet, letters-fine}
 
 pub letter-deal : (s : List ℕ) → getD s 0 0 ≡ 68 → Broadcast s

@@ -28,8 +28,7 @@ use Rattle.rowlines.specs.Steps.{adding, linearStep, openStep}
 use Rattle.postlines.specs.Steps.{heard, keepStep, keepMasksStep, keepHalvesStep, hearStep}
 use Rattle.masklines.specs.Steps.{maskLine, noMasks, masking, maskingOf, maskStep}
 use Rattle.finishlines.specs.Steps.{between, pairRefusal, masksFor, finishing, finishStep}
-use Rattle.interpreter.specs.Stepping.{lettersStep, lateStep, step}
-use Rattle.interpreter.specs.Between.{Ready}
+use Rattle.interpreter.specs.Stepping.{lettersStep, lateStep, step, Ready}
 use Rattle.interpreter.proofs.Room.{tests-street}
 
 -- the state after a line, if it has a session, has one of the street's

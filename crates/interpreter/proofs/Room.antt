@@ -17,8 +17,7 @@ use Rattle.states.specs.declared.State.{State}
 use Rattle.states.specs.declared.Stepped.{Stepped}
 use Rattle.states.specs.States.{After, refusing, after}
 use Rattle.masklines.specs.Steps.{toldRoom}
-use Rattle.interpreter.specs.Stepping.{step, postsRefusal, roomRefusal, stepRefusal, checkedStep}
-use Rattle.interpreter.specs.Between.{Ready}
+use Rattle.interpreter.specs.Stepping.{step, postsRefusal, roomRefusal, stepRefusal, checkedStep, Ready}
 use Rattle.states.proofs.Calling.{line-refused, line-taken}
 
 -- ---- a session, once an `S` was accepted

@@ -1,13 +1,15 @@
 -- Document 01, "The street program": what one line does to the program's state.
 use Prim.Native.Nat.{ℕ}
+use mathlib.Core.Path.{_≡_}
 use mathlib.Core.List.{List, [], _∷_}
-use mathlib.Core.Bool.{not, cond}
+use mathlib.Core.Bool.{true, not, cond}
 use lib.ListN.{length, getD}
 use lib.Dec.{eqb, ltb}
 use Rattle.refusal.specs.Refusal.{_when_, first, orElse}
 use Rattle.refusal.specs.Conditions.{wrongLength, postsTests}
 use Rattle.forms.specs.Forms.{isLetter}
-use Rattle.store.specs.Sizes.{streetPosts, storeRoom}
+use Rattle.session.specs.Sessions.{shapeOf}
+use Rattle.store.specs.Sizes.{streetPosts, storeRoom, InStreet}
 use Rattle.states.specs.declared.State.{State}
 use Rattle.states.specs.States.{After, refusing, leaving, unless}
 use Rattle.startlines.specs.Steps.{longestLine, earlyStep}
@@ -38,6 +40,11 @@ lateStep st store s =
 -- One line.
 unfoldable pub step : State → List ℕ → List ℕ → After
 step st store s = cond (st .started) (lateStep st store s) (leaving (earlyStep st s) store)
+
+-- What holds between lines: the store has room for the largest session, and a session that was accepted is one of the street's.
+pub record Ready (st : State) (store : List ℕ) : Type 0 where
+  pub store-room : length store ≡ storeRoom
+  pub in-range : st .started ≡ true → InStreet (shapeOf (st .session))
 
 -- Before the line is looked at: 1 and 2 of a session that no `S` can have made, 5 of the store, which has room for the largest.
 abbrev pub postsRefusal : State → ℕ

@@ -11,8 +11,7 @@ ghost use lib.Dec.{eqb};
 ghost use Rattle.refusal.specs.Refusal.{first, _when_};
 ghost use Rattle.states.specs.States.{leaving, after, Untouched};
 ghost use Rattle.masklines.specs.Steps.{toldRoom};
-ghost use Rattle.interpreter.specs.Stepping.{step, lettersStep, lateStep, postsRefusal, roomRefusal, checkedStep};
-ghost use Rattle.interpreter.specs.Between.{Ready};
+ghost use Rattle.interpreter.specs.Stepping.{step, lettersStep, lateStep, postsRefusal, roomRefusal, checkedStep, Ready};
 
 // A line by its letter, where it prints nothing but its answer.
 fn by_letter(state: State, store: &mut [u32], line: &[u8]) -> Stepped

@@ -11,7 +11,7 @@ use lib.Dec.{T, eqb, eqb→eq, ltb, ltb→lt}
 use lib.ListN.{length, getD}
 use Rattle.field.specs.Modulus.{p}
 use Rattle.field.specs.Arithmetic.{product}
-use Rattle.inverses.specs.InverseTable.{Inverts}
+use Rattle.inverses.specs.InverseTable.{most, Inverts}
 
 -- the entries up to place n are elements, and each times its index is 1
 abbrev right : List ℕ → ℕ → Bool
@@ -35,7 +35,7 @@ right-at (suc n) l k h t =
       | inr i ↦ right-at n l k (le-of-suc-le-suc i) (both (right l (suc n)) (inverts n l) t .1)
     ]
 
-module _ (n : ℕ) (l : List ℕ) (t : T (inverts n l)) (e : length l ≡ suc n) (short : n < 255) where
+module _ (n : ℕ) (l : List ℕ) (t : T (inverts n l)) (e : length l ≡ suc n) (short : n < most) where
   parts : (i : ℕ) → i < length l → T (ltb (getD l i 0) p) × T (eqb (product (getD l i 0) (suc i)) 1)
   parts i h = both (ltb (getD l i 0) p) (eqb (product (getD l i 0) (suc i)) 1) (right-at n l i (omega arith) t)
 

@@ -19,7 +19,7 @@ use Rattle.forms.proofs.Ranges.{largest-any}
 use Rattle.lines.specs.declared.Line.{Line}
 use Rattle.forms.specs.declared.Head.{Head}
 use Rattle.forms.specs.declared.Head.the-variants.{Right, Wrong}
-use Rattle.forms.specs.Lines.{Message, lastRow}
+use Rattle.forms.specs.Lines.{Message, lastRowOf}
 use Rattle.lines.specs.Order.{lineRefusal}
 use Rattle.forms.specs.Forms.{formOf, messageOf, message, outOfRange, beyondRange, lineTests}
 use Rattle.forms.specs.Between.{headOf, before, Headed, HeadOf, belowLimit}
@@ -137,7 +137,7 @@ module _ (n k : ℕ) (s out : List ℕ) (f : Head) (form : HeadOf k s f) where
                 rw (
                   range-is,
                   scanned .all,
-                  limit-out (ltb (lastRow letter) row) (cond (eqb letter 68) false (outside 1 n post)) largest (omega (arith, limit-is)),
+                  limit-out (ltb (lastRowOf letter) row) (cond (eqb letter 68) false (outside 1 n post)) largest (omega (arith, limit-is)),
                 )
 
             pub beyond-line : (v : Line) → v ≡ noLine 11 → v ≡ lineAs refusal (message k s)
@@ -154,7 +154,7 @@ module _ (n k : ℕ) (s out : List ℕ) (f : Head) (form : HeadOf k s f) where
                 rw (
                   range-is,
                   scanned .all,
-                  limit-in (ltb (lastRow letter) row) (cond (eqb letter 68) false (outside 1 n post)) largest (omega (arith, limit-is)),
+                  limit-in (ltb (lastRowOf letter) row) (cond (eqb letter 68) false (outside 1 n post)) largest (omega (arith, limit-is)),
                 )
 
             pub taken-line : _≡_ {A = Line} (record { refusal = 0; letter = letter; row = row; post = post }) (lineAs refusal (message k s))

@@ -7,6 +7,7 @@ use native.Mathlib.Omega.{arith}
 use borrow.Author.Tests.{le-ltb}
 use lib.ListN.{length, length-append}
 use lib.Dec.{ltb}
+use Rattle.shape.specs.Bounds.{mostPosts, lastRow}
 use Rattle.decimal.specs.Numeral.{sizeWithin, size}
 use Rattle.decimal.proofs.Sizes.{size-grows}
 use Rattle.csv.specs.Fields.{field, fields, written}
@@ -17,19 +18,19 @@ two-fields : (x y : ℕ) → length (fields (x ∷ y ∷ [])) ≡ 2 + size x + s
 unfolding fields
 two-fields x y = omega (arith, length-append (field x) (field y ++ []), length-append (field y) [], length-field x, length-field y)
 
-size-95 : size 95 ≡ 2
+size-last-row : size lastRow ≡ 2
 unfolding sizeWithin
-size-95 = refl
+size-last-row = refl
 
-size-255 : size 255 ≡ 3
+size-most-posts : size mostPosts ≡ 3
 unfolding sizeWithin
-size-255 = refl
+size-most-posts = refl
 
 module _ (room row post : ℕ) (xs : List ℕ) where
-  pub roomy : row ≤ 95 → post ≤ 255 → 9 + 11 * length xs ≤ room → false ≡ ltb room (length (written 0 (row ∷ post ∷ xs)))
+  pub roomy : row ≤ lastRow → post ≤ mostPosts → 9 + 11 * length xs ≤ room → false ≡ ltb room (length (written 0 (row ∷ post ∷ xs)))
   roomy h g r =
-      let u : size row ≤ 2 = omega (arith, size-95, size-grows 9 row 95 h) in
-      let v : size post ≤ 3 = omega (arith, size-255, size-grows 9 post 255 g) in
+      let u : size row ≤ 2 = omega (arith, size-last-row, size-grows 9 row lastRow h) in
+      let v : size post ≤ 3 = omega (arith, size-most-posts, size-grows 9 post mostPosts g) in
       sym (le-ltb room (length (written 0 (row ∷ post ∷ xs)))
       (omega (arith, length-written 0 (row ∷ post ∷ []) xs, two-fields row post, length-fields-le xs)))
 

@@ -9,6 +9,7 @@ use mir.Syntax.{w32}
 use mir.Val.{Fits}
 use lib.ListN.{length}
 use lib.Dec.{ltb}
+use Rattle.shape.specs.Bounds.{mostPosts, lastRow}
 use Rattle.shape.specs.Lengths.{shape, vLength, masksLength}
 use Rattle.refusal.specs.Refusal.{Test, _when_, first, outcome, AllFail}
 use Rattle.refusal.specs.Conditions.{beyond, anyBeyond, postsTests}
@@ -17,7 +18,7 @@ use Rattle.refusal.proofs.Laws.{all-fail, inside}
 use Rattle.refusal.proofs.Ranges.{posts-passed}
 use Rattle.refusal.proofs.Endings.{refused, accepted}
 use Rattle.csv.specs.Fields.{written}
-use Rattle.forms.specs.Lines.{deal, text, lastRow}
+use Rattle.forms.specs.Lines.{deal, text, lastRowOf}
 use Rattle.forms.proofs.Ranges.{last-row-le}
 use Rattle.lines.specs.declared.Written.{Written}
 use Rattle.lines.specs.Order.{lineRefusal}
@@ -39,7 +40,7 @@ module _ (n letter count row post : ℕ) (xs : List ℕ) (room : ℕ) where
       pub numbers-missized : (length xs ≡ count → ⊥) → 5 ≡ refusal
       numbers-missized c = rw (le-ltb post 1 a, le-ltb n post b, ne-eqb (length xs) count c)
 
-      module _ (c : length xs ≡ count) (last : ℕ) (l : last ≡ lastRow letter) where
+      module _ (c : length xs ≡ count) (last : ℕ) (l : last ≡ lastRowOf letter) where
         pub row-above : last < row → 6 ≡ refusal
         row-above d = rw (le-ltb post 1 a, le-ltb n post b, eq-eqb (length xs) count c, ← l, lt-ltb last row d)
 
@@ -69,28 +70,28 @@ module _ (n letter count row post : ℕ) (xs : List ℕ) (room : ℕ) where
     none-holds = all-fail (postedTests n letter count row post xs room) tt (sym e ∙ z)
 
     pub posted-row : Fits w32 row
-    posted-row = omega (arith, ltb-false (lastRow letter) row (none-holds .1 .1 .0), last-row-le letter)
+    posted-row = omega (arith, ltb-false (lastRowOf letter) row (none-holds .1 .1 .0), last-row-le letter)
 
-    pub posted-post : n ≤ 255 → Fits w32 post
+    pub posted-post : n ≤ mostPosts → Fits w32 post
     posted-post h = let b = inside 1 n post (none-holds .0) in omega arith
 
     pub posted-room : length (written letter ((row ∷ post ∷ []) ++ xs)) ≤ room
     posted-room = ltb-false room _ (none-holds .1 .1 .1 .1 .0)
 
-pub row-low : (letter row last : ℕ) → last ≡ lastRow letter → row ≤ last → row ≤ 95
+pub row-low : (letter row last : ℕ) → last ≡ lastRowOf letter → row ≤ last → row ≤ lastRow
 row-low letter row last l h = omega (arith, last-row-le letter)
 
 -- ---- 6, 8 and 12 of a `D`
 module _ (row c room : ℕ) where
-  pub deal-above : 95 < row → 6 ≡ first (dealtTests row c room)
-  deal-above d = rw (lt-ltb 95 row d)
+  pub deal-above : lastRow < row → 6 ≡ first (dealtTests row c room)
+  deal-above d = rw (lt-ltb lastRow row d)
 
-  module _ (d : row ≤ 95) (g : ℕ) (e : g ≡ first (8 when beyond c ∷ [])) where
+  module _ (d : row ≤ lastRow) (g : ℕ) (e : g ≡ first (8 when beyond c ∷ [])) where
     abbrev deal-room : List Test
     deal-room = 12 when ltb room (length (text (deal row c))) ∷ []
 
     deal-behind : first (8 when beyond c ∷ deal-room) ≡ first (dealtTests row c room)
-    deal-behind = rw (le-ltb 95 row d)
+    deal-behind = rw (le-ltb lastRow row d)
 
     pub deal-beyond : (g ≡ 0 → ⊥) → g ≡ first (dealtTests row c room)
     deal-beyond h = stopped (8 when beyond c ∷ []) deal-room tt g e h ∙ deal-behind
@@ -111,7 +112,7 @@ module _ (row c room : ℕ) where
     none-of-deal = all-fail (dealtTests row c room) tt (sym e ∙ z)
 
     pub deal-row : Fits w32 row
-    deal-row = omega (arith, ltb-false 95 row (none-of-deal .0))
+    deal-row = omega (arith, ltb-false lastRow row (none-of-deal .0))
 
     pub deal-line : length (written 68 ((row ∷ []) ++ (c ∷ []))) ≤ room
     deal-line = ltb-false room _ (none-of-deal .1 .1 .0)
@@ -126,7 +127,7 @@ module _ (n t f : ℕ) (e : f ≡ first (postsTests n t)) where
   posts-keep ys new old h = refused f (lineRefusal n t ys) new old (posts-refuse ys h) h
 
   module _ (z : f ≡ 0) where
-    pub posts-n : n ≤ 255
+    pub posts-n : n ≤ mostPosts
     posts-n = let v = posts-passed n t f e z in omega (arith, v .n-in)
 
     pub posts-one : (k : ℕ) → k ≡ vLength (shape n t) → k ≤ 4294967296

@@ -13,7 +13,7 @@ use Rattle.refusal.specs.Refusal.{Test, _when_, first}
 use Rattle.refusal.specs.Conditions.{outside, wrongLength, beyond, anyBeyond, postsTests}
 use Rattle.refusal.proofs.Laws.{first-join, orElse-zero, all-fail, not-refused, or-false, inside, equal}
 use Rattle.decimal.specs.Numeral.{tens}
-use Rattle.forms.specs.Lines.{Message, deal, opening, masks, text, lastRow}
+use Rattle.forms.specs.Lines.{Message, deal, opening, masks, text, lastRowOf}
 use Rattle.forms.specs.Forms.{isLetter, numberCount, message, lineTests, Sent}
 use Rattle.forms.proofs.RoundTrip.{written-reads-back, read-is-written}
 use Rattle.lines.specs.Order.{lineRefusal}
@@ -87,13 +87,13 @@ module _ (n t : ℕ) where
       (ap (λ (x : Message). lineAs 0 x) (r .1), ap (λ (x : Message). listAs 0 x out) (r .1))
 
   -- ---- a message that posts send is taken by its writer, where the part has room
-  sent-row : (m : Message) → Sent n k m → ltb (lastRow (m .letter)) (m .row) ≡ false
-  sent-row m h = or-false (ltb (lastRow (m .letter)) (m .row)) _ (h .in-range) .0
+  sent-row : (m : Message) → Sent n k m → ltb (lastRowOf (m .letter)) (m .row) ≡ false
+  sent-row m h = or-false (ltb (lastRowOf (m .letter)) (m .row)) _ (h .in-range) .0
 
   sent-rest : (m : Message) → Sent n k m → (cond (eqb (m .letter) 68) false (outside 1 n (m .post)) ≡ false) × (anyBeyond (m .numbers) ≡ false)
   sent-rest m h =
       or-false (cond (eqb (m .letter) 68) false (outside 1 n (m .post))) (anyBeyond (m .numbers))
-      (or-false (ltb (lastRow (m .letter)) (m .row)) _ (h .in-range) .1)
+      (or-false (ltb (lastRowOf (m .letter)) (m .row)) _ (h .in-range) .1)
 
   module _ (p : first (postsTests n t) ≡ 0) (row post : ℕ) (xs : List ℕ) (room : ℕ) where
     sent-posted : (letter count : ℕ) → eqb letter 68 ≡ false → count ≡ numberCount k letter → Sent n k (posted letter row post xs)

@@ -4,11 +4,12 @@ use Prim.Native.Nat.{ℕ}
 use mathlib.Core.List.{List, [], _∷_}
 use lib.ListN.{length, getD}
 use lib.Dec.{eqb, ltb}
+use Rattle.shape.specs.Bounds.{lastRow}
 use Rattle.shape.specs.Lengths.{shape, vLength, masksLength}
 use Rattle.refusal.specs.Refusal.{Test, _when_, outcome}
 use Rattle.refusal.specs.Conditions.{outside, wrongLength, beyond, anyBeyond}
 use Rattle.csv.specs.Fields.{written, overwrite}
-use Rattle.forms.specs.Lines.{Message, deal, text, lastRow}
+use Rattle.forms.specs.Lines.{Message, deal, text, lastRowOf}
 use Rattle.lines.specs.declared.Written.{Written}
 use Rattle.lines.specs.Order.{lineRefusal}
 
@@ -17,14 +18,14 @@ abbrev pub postedTests : ℕ → ℕ → ℕ → ℕ → ℕ → List ℕ → �
 postedTests n letter count row post xs room =
     3 when outside 1 n post
     ∷ 5 when wrongLength xs count
-    ∷ 6 when ltb (lastRow letter) row
+    ∷ 6 when ltb (lastRowOf letter) row
     ∷ 8 when anyBeyond xs
     ∷ 12 when ltb room (length (written letter (row ∷ post ∷ xs)))
     ∷ []
 
 -- 6, 8 and 12 of a `D`.
 abbrev pub dealtTests : ℕ → ℕ → ℕ → List Test
-dealtTests row c room = 6 when ltb 95 row ∷ 8 when beyond c ∷ 12 when ltb room (length (text (deal row c))) ∷ []
+dealtTests row c room = 6 when ltb lastRow row ∷ 8 when beyond c ∷ 12 when ltb room (length (text (deal row c))) ∷ []
 
 abbrev pub writeDealRefusal : ℕ → ℕ → ℕ → ℕ → ℕ → ℕ
 writeDealRefusal n t row c room = lineRefusal n t (dealtTests row c room)

@@ -4,6 +4,7 @@ ghost use Prim.Native.Nat.{_*_, _≤_};
 ghost use mathlib.Core.List.{_∷_};
 ghost use lib.ListN.{length};
 ghost use lib.Dec.{ltb};
+ghost use Rattle.shape.specs.Bounds.{mostPosts, lastRow};
 ghost use Rattle.shape.specs.Lengths.{shape, vLength};
 ghost use Rattle.refusal.specs.Refusal.{first};
 ghost use Rattle.csv.specs.Fields.{written};
@@ -44,7 +45,7 @@ const MOST_FIELD: usize = 11;
 
 // Whether a part is too short for a line with a post. The line is measured only where the longest has no room.
 fn lacks_room(room: usize, row: usize, post: usize, numbers: &[u32]) -> bool
-    requires { ⌜ (row ≤ 95) × (post ≤ 255) × (length (now numbers) ≤ 4294967296) ⌝ }
+    requires { ⌜ (row ≤ lastRow) × (post ≤ mostPosts) × (length (now numbers) ≤ 4294967296) ⌝ }
     ensures { λ r. ⌜ r ≡ ltb room (length (written 0 (row ∷ post ∷ now (numbers .entry)))) ⌝ }
 {
     if MOST_FRAME + MOST_FIELD * numbers.len() <= room {
@@ -64,7 +65,7 @@ fn posted_refusal(
     numbers: &[u32],
     room: usize,
 ) -> u8
-    requires { ⌜ (n ≤ 255) × (count ≤ 4294967296) ⌝ }
+    requires { ⌜ (n ≤ mostPosts) × (count ≤ 4294967296) ⌝ }
     ensures { λ r. ⌜ r ≡ first (postedTests n letter count row post (now (numbers .entry)) room) ⌝ }
 {
     if post < 1 {
@@ -99,7 +100,7 @@ fn write_posted(
     numbers: &[u32],
     out: &mut [u8],
 ) -> Written
-    requires { ⌜ (n ≤ 255) × (count ≤ 4294967296) ⌝ }
+    requires { ⌜ (n ≤ mostPosts) × (count ≤ 4294967296) ⌝ }
     ensures { λ r. ⌜ r
         ≡ writtenAs (first (postedTests n letter count row post (now (numbers .entry)) (length (now (out .entry)))))
         (written letter (row ∷ post ∷ now (numbers .entry))) ⌝ }
@@ -120,7 +121,7 @@ fn write_posted(
 fn dealt_refusal(row: usize, c: u32, room: usize) -> u8
     ensures { λ r. ⌜ r ≡ first (dealtTests row c room) ⌝ }
 {
-    if 95 < row {
+    if shape::LAST_ROW < row {
         return 6;
     }
     let beyond = refusal::number(c);

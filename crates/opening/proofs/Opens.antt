@@ -83,11 +83,10 @@ module _ (s : Session) (rows : List ℕ) (r : ℕ) (blocks : List ℕ) where
 
   -- the call ends before the walk, or with what the walk found
   module _ (f : ℕ) (e : f ≡ first (openChecks s rows r blocks)) where
-    pub open-refused : (a : Answer) → (f ≡ 0 → ⊥) → a ≡ holding f 0 s → a ≡ openAnswer s rows r blocks
+    pub open-refused : (f ≡ 0 → ⊥) → holding f 0 s ≡ openAnswer s rows r blocks
     unfolding openRefusal
-    open-refused a n h =
-        h
-        ∙ refused-answer f (openRefusal s rows r blocks) (opened s row blocks) s s s (stopped (openChecks s rows r blocks) late tt f e n)
+    open-refused n =
+        refused-answer f (openRefusal s rows r blocks) (opened s row blocks) s s s (stopped (openChecks s rows r blocks) late tt f e n)
         n refl
 
     module _ (z : f ≡ 0) where
@@ -124,23 +123,13 @@ module _ (s : Session) (rows : List ℕ) (r : ℕ) (blocks : List ℕ) where
             unfolding found
             walked = (eo ∙ rw (eq, ex, eg)) ∙ opened-decided (partyOf s) row blocks
 
-            last : (a : Answer) → a ≡ answer (first late) number s s → a ≡ openAnswer s rows r blocks
-            unfolding openRefusal
-            last a h =
-                h ∙ ap (λ (k : ℕ). answer k number s s) (went-on (openChecks s rows r blocks) late tt f e (first late) z refl)
-
-            pub open-few : (a : Answer) → (o .refusal ≡ 0 → ⊥) → a ≡ holding (o .refusal) 0 s → a ≡ openAnswer s rows r blocks
-            unfolding outcome found
-            open-few a n h = last a (rw walked at h ∙ go (first late) (rw walked at n))
+            pub open-walked : holding (o .refusal) (o .value) s ≡ openAnswer s rows r blocks
+            unfolding outcome found openRefusal
+            open-walked =
+                rw walked
+                (go (first late)
+                ∙ ap (λ (k : ℕ). answer k number s s) (went-on (openChecks s rows r blocks) late tt f e (first late) z refl))
               where
-                go : (k : ℕ) → (found k .refusal ≡ 0 → ⊥) → holding (found k .refusal) 0 s ≡ answer k number s s
-                go zero n = absurd (n refl)
-                go (suc k) n = refl
-
-            pub open-done : (a : Answer) → o .refusal ≡ 0 → a ≡ holding 0 (o .value) s → a ≡ openAnswer s rows r blocks
-            unfolding outcome found
-            open-done a n h = last a (rw walked at h ∙ go (first late) (rw walked at n))
-              where
-                go : (k : ℕ) → found k .refusal ≡ 0 → holding 0 (found k .value) s ≡ answer k number s s
-                go zero n = refl
-                go (suc k) n = let no : suc k ≡ 0 = n in absurd (omega arith)
+                go : (k : ℕ) → holding (found k .refusal) (found k .value) s ≡ answer k number s s
+                go zero = refl
+                go (suc k) = refl

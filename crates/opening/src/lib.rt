@@ -1,33 +1,33 @@
 // Opening: a post checks what the others sent of a row, and brings the number out.
 use session::Answer;
 use session::Session;
+use walk::Opened;
 ghost use mathlib.Core.Path.{_≡_};
-ghost use Rattle.refusal.specs.Refusal.{first};
+ghost use mathlib.Core.List.{[], _∷_};
 ghost use lib.ListN.{length};
+ghost use Rattle.shape.specs.Marks.{held};
+ghost use Rattle.refusal.specs.Refusal.{first, _when_};
+ghost use Rattle.session.specs.Sessions.{holding};
+ghost use Rattle.session.specs.Checks.{wrongMark};
 ghost use Rattle.session.specs.Between.{Framed};
 ghost use Rattle.opening.specs.Walking.{recordLength};
 ghost use Rattle.opening.specs.Opening.{rowChecks, openChecks, openAnswer};
 
-// 6 to 8 of an opening, once 1 to 5 have passed.
-fn row_checks(session: Session, rows: &[u32], row: usize, blocks: &[u32]) -> u8
-    requires { ⌜ Framed session (now rows) × (length (now blocks) ≡ recordLength session) ⌝ }
+// 6 to 8 of an opening, once 1 to 5 have passed and 7 has been looked up.
+fn row_checks(session: Session, rows: &[u32], row: usize, blocks: &[u32], mark: u8) -> u8
+    requires { ⌜ Framed session (now rows) × (length (now blocks) ≡ recordLength session) × (mark ≡ first (7 when wrongMark session row held ∷ [])) ⌝ }
     ensures { λ r. ⌜ r ≡ first (rowChecks session (now (rows .entry)) row (now (blocks .entry))) ⌝ }
 {
     let numbers = refusal::or_else(
         session::checks::numbers(session.shape(), rows, row),
         blocks::refusal(session.party(), blocks),
     );
-    refusal::or_else(
-        session::checks::row(row),
-        refusal::or_else(
-            session::checks::wrong_mark(&session.marks, row, shape::HELD),
-            numbers,
-        ),
-    )
+    refusal::or_else(session::checks::row(row), refusal::or_else(mark, numbers))
 }
 
-// 1 to 8 of an opening; 9 is the walk's.
-fn open_checks(session: Session, rows: &[u32], row: usize, blocks: &[u32]) -> u8
+// 1 to 8 of an opening; 9 and 13 are the walk's.
+fn open_checks(session: Session, rows: &[u32], row: usize, blocks: &[u32], mark: u8) -> u8
+    requires { ⌜ mark ≡ first (7 when wrongMark session row held ∷ []) ⌝ }
     ensures { λ r. ⌜ r ≡ first (openChecks session (now (rows .entry)) row (now (blocks .entry))) ⌝ }
 {
     let frame = session.frame(rows);
@@ -39,21 +39,33 @@ fn open_checks(session: Session, rows: &[u32], row: usize, blocks: &[u32]) -> u8
     if size != 0 {
         return size;
     }
-    row_checks(session, rows, row, blocks)
+    row_checks(session, rows, row, blocks, mark)
 }
 
-// Opens a held row with a record of what the posts sent. Session and rows stay as they are.
+// The number that a row opens to, or the refusal: the answer but for the session.
+fn opened<'a>(session: Session, rows: &'a [u32], row: usize, blocks: &'a [u32], mark: u8) -> Opened
+    requires { ⌜ mark ≡ first (7 when wrongMark session row held ∷ []) ⌝ }
+    ensures { λ r. ⌜ holding (r .refusal) (r .value) session ≡ openAnswer session (now (rows .entry)) row (now (blocks .entry)) ⌝ }
+{
+    let refusal = open_checks(session, rows, row, blocks, mark);
+    if refusal != 0 {
+        return Opened { refusal, value: 0 };
+    }
+    let own = session::rows::row(session.shape(), rows, row);
+    rooms::open_row(session.party(), own, blocks)
+}
+
+// Opens a held row with a record of what the posts sent. Session and rows stay as they are: there is one end, refused or not, so that the
+// session is copied once. 7 is looked up in a copy of the marks, since a list that is lent stays in memory with all that it is a part of.
 pub fn open<'a>(session: Session, rows: &'a [u32], row: usize, blocks: &'a [u32]) -> Answer
     ensures { λ r. ⌜ r ≡ openAnswer session (now (rows .entry)) row (now (blocks .entry)) ⌝ }
 {
-    let refusal = open_checks(session, rows, row, blocks);
-    if refusal != 0 {
-        return session.refuse(refusal);
+    let marks = session.marks;
+    let mark = session::checks::wrong_mark(&marks, row, shape::HELD);
+    let found = opened(session, rows, row, blocks, mark);
+    Answer {
+        refusal: found.refusal,
+        value: found.value,
+        session,
     }
-    let own = session::rows::row(session.shape(), rows, row);
-    let opened = rooms::open_row(session.party(), own, blocks);
-    if opened.refusal != 0 {
-        return session.refuse(opened.refusal);
-    }
-    session.done(opened.value)
 }

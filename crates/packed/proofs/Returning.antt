@@ -1,5 +1,5 @@
--- What is written is read: one law over the fields' writer and scanner, for a line read in one go and for one read in two, its first
--- fields and then the others.
+-- What is written is read: one law over the fields' writer and scanner, for a line that is read in two, its first fields and then the
+-- others.
 use Prim.Native.Nat.{ℕ, _+_, _≤_, _<_}
 use mathlib.Core.Path.{_≡_, refl, _∙_, ap}
 use mathlib.Core.Bool.{Bool, true, false, _&&_}
@@ -9,7 +9,6 @@ use borrow.Author.Tests.{eq-eqb, ne-eqb}
 use lib.Dec.{eqb}
 use lib.ListN.{length, drop, getD, length-append}
 use Rattle.field.specs.Modulus.{p}
-use Rattle.poly.specs.Counting.{Elements}
 use Rattle.session.specs.declared.Party.{Party}
 use Rattle.decimal.specs.Numeral.{size, numeral, leading}
 use Rattle.decimal.proofs.Digits.{Digits, digits-are-digits}
@@ -57,7 +56,7 @@ module _ (letter : ℕ) (xs ys : List ℕ) where
         length-append (fields xs) (fields ys),
       )
 
-pub line-reads-back : (letter : ℕ) (xs ys : List ℕ) → Small (xs ++ ys) → ReadInTwo (written letter (xs ++ ys)) xs ys
+line-reads-back : (letter : ℕ) (xs ys : List ℕ) → Small (xs ++ ys) → ReadInTwo (written letter (xs ++ ys)) xs ys
 unfolding leading
 line-reads-back letter xs ys h =
     let s : List ℕ = written letter (xs ++ ys) in
@@ -70,10 +69,6 @@ line-reads-back letter xs ys h =
       first = fields-read xs s (fields ys ++ (10 ∷ [])) 1 (small .0) (no-digit ys) (from-first letter xs ys);
       rest = rw (r, g, eq-eqb (length s) (end + 1) (line-length letter xs ys));
     }
-
-pub elements-small : (xs : List ℕ) → Elements xs → Small xs
-elements-small [] h = tt
-elements-small (x ∷ xs) h = (omega (arith, h .0), elements-small xs (h .1))
 
 -- ---- the start line: no dash stands for t
 digit-first : (ds rest : List ℕ) → Digits ds → 1 ≤ length ds → 48 ≤ getD (ds ++ rest) 0 0

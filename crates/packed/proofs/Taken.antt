@@ -1,7 +1,7 @@
 -- What the program does with a line of a file: the start line begins the post's session, a row's line loads its numbers.
 use Prim.Native.Nat.{ℕ, _+_, _≤_, _<_}
 use mathlib.Core.Path.{_≡_, _∙_}
-use mathlib.Core.Bool.{true}
+use mathlib.Core.Bool.{true, false}
 use mathlib.Core.List.{List, [], _∷_, _++_}
 use native.Mathlib.Omega.{arith}
 use borrow.Author.Tests.{le-ltb}
@@ -13,10 +13,11 @@ use Rattle.shape.specs.Bounds.{lastRow, lastTriple}
 use Rattle.shape.specs.Lengths.{rowLength, rowsLength, tripleLength}
 use Rattle.shape.specs.Marks.{raw, unused, further}
 use Rattle.refusal.specs.Refusal.{first, outcome}
+use Rattle.refusal.specs.Conditions.{anyBeyond}
 use Rattle.refusal.proofs.Laws.{not-refused}
 use Rattle.decimal.specs.Numeral.{size, sizeWithin}
 use Rattle.decimal.proofs.Sizes.{size-grows}
-use Rattle.csv.specs.Fields.{field, fields, written, parsed}
+use Rattle.csv.specs.Fields.{field, fields, written}
 use Rattle.csv.proofs.Overwriting.{length-field, length-fields-le}
 use Rattle.csv.proofs.Laying.{length-written}
 use Rattle.session.specs.declared.Party.{Party}
@@ -24,8 +25,9 @@ use Rattle.session.specs.Sessions.{sessionOf}
 use Rattle.session.specs.Rows.{withRow}
 use Rattle.load.specs.Load.{loadRowRefusal, loadTripleRefusal, withTriple}
 use Rattle.store.specs.Sizes.{streetPosts, longestTriple}
-use Rattle.reading.specs.Numbers.{numberForm, numbers, readRefusal, rowsBeyond}
+use Rattle.reading.specs.Numbers.{numbers, readRefusal, rowsBeyond}
 use Rattle.reading.specs.Starting.{isStart}
+use Rattle.reading.proofs.Written.{says, passes}
 use Rattle.states.specs.declared.State.{State}
 use Rattle.states.specs.States.{firstState, begunWith, refusing, leaving, sessionRows}
 use Rattle.startlines.specs.Steps.{longestLine, startTests, startStep, earlyStep}
@@ -34,7 +36,7 @@ use Rattle.interpreter.specs.Stepping.{lettersStep, lateStep, step}
 use Rattle.factory.proofs.Laws.{elements-pass}
 use Rattle.packlines.specs.File.{startLine}
 use Rattle.packrow.specs.Between.{PostIn}
-use Rattle.packed.proofs.Returning.{line-reads-back, elements-small, start-reads-back}
+use Rattle.packed.proofs.Returning.{start-reads-back}
 use Rattle.packed.proofs.Loading.{sessionAt, Passed}
 
 -- ---- the start line
@@ -62,23 +64,26 @@ module _ (q : Party) (post : PostIn q) (passed : Passed q) (street : q .shape .n
 -- ---- a line of a row and its numbers, read
 module _ (letter row last : ℕ) (pack : List ℕ) (elements : Elements pack) (low : row ≤ last) (small : last < p) (k : ℕ)
     (many : length pack + 1 ≡ k) where
-  form : numberForm k (written letter (row ∷ pack)) ≡ parsed (row ∷ pack) (1 + length (fields (row ∷ pack)))
-  unfolding numberForm fields
-  form =
-      let e : k ≡ length (row ∷ pack) = omega arith in
-      rw e (line-reads-back letter [] (row ∷ pack) (elements-small (row ∷ pack) (omega arith, elements)) .rest)
+  fine : anyBeyond (row ∷ pack) ≡ false
+  fine = elements-pass (row ∷ pack) (omega arith, elements)
+
+  all : k ≡ length (row ∷ pack)
+  all = omega arith
+
+  within : rowsBeyond (last ∷ []) (row ∷ pack) ≡ false
+  unfolding rowsBeyond
+  within = rw (le-ltb last row low)
 
   pub line-numbers : numbers k (written letter (row ∷ pack)) ≡ row ∷ pack
-  line-numbers = rw form
+  line-numbers = rw all (says letter (row ∷ pack) fine)
 
   pub line-passes : readRefusal (last ∷ []) k (written letter (row ∷ pack)) ≡ 0
-  unfolding readRefusal rowsBeyond
-  line-passes = rw (form, elements-pass (row ∷ pack) (omega arith, elements), le-ltb last row low)
+  line-passes = rw all (passes letter (row ∷ pack) fine (last ∷ []) within)
 
 -- ---- no line is too long
 two-digits : (row : ℕ) → row ≤ lastRow → size row ≤ 2
 unfolding sizeWithin
-two-digits row h = size-grows 9 row 95 h
+two-digits row h = size-grows 9 row lastRow h
 
 pub line-short : (letter row : ℕ) (pack : List ℕ) → row ≤ lastRow → length pack ≤ longestTriple
     → length (written letter (row ∷ pack)) ≤ longestLine

@@ -11,7 +11,7 @@ use lib.Seq.{length-take-le, take-at, drop-at}
 use Rattle.lists.proofs.Parts.{length-put, part-same, part-before, part-after}
 use Rattle.poly.specs.Counting.{Elements}
 use Rattle.parts.proofs.Laws.{elements-append}
-use Rattle.shape.specs.Bounds.{lastRow, lastTriple}
+use Rattle.shape.specs.Bounds.{fewestPosts, mostPosts, lastRow, lastTriple}
 use Rattle.shape.specs.Lengths.{vLength, blockLength, recordLength, rowsLength}
 use Rattle.refusal.specs.Refusal.{outcome}
 use Rattle.refusal.proofs.Laws.{not-refused}
@@ -68,7 +68,7 @@ module _ (st : State) (i : InStreet (shapeOf (st .session))) where
     put-passes =
         let g = shapeOf (st .session) in
         not-refused (putTests n (st .session .t) found post xs) (
-          none (le-ltb n 2 (i .n-in .0)) (le-ltb 255 n (omega (arith, i .n-in .1))),
+          none (le-ltb n fewestPosts (i .n-in .0)) (le-ltb mostPosts n (omega (arith, i .n-in .1))),
           (
             none (le-ltb (g .t) 1 (i .t-in .0)) (le-ltb (n - 1) (g .t) (i .t-in .1)),
             (
@@ -133,7 +133,7 @@ module _ (st : State) (i : InStreet (shapeOf (st .session))) where
             letter-is = refl;
             count = long;
             no-post = λ e. absurd (omega arith);
-            in-range = none (le-ltb 95 row named) (none (none (le-ltb post 1 low) (le-ltb n post high)) (elements-pass xs elements));
+            in-range = none (le-ltb lastRow row named) (none (none (le-ltb post 1 low) (le-ltb n post high)) (elements-pass xs elements));
           }
 
       opening-letter : step st store (written 79 (row ∷ post ∷ xs)) ≡ hearStep st store (written 79 (row ∷ post ∷ xs))
@@ -177,7 +177,7 @@ module _ (st : State) (i : InStreet (shapeOf (st .session))) where
             count = omega (arith, length-append xs ys);
             no-post = λ e. absurd (omega arith);
             in-range =
-                none (le-ltb 93 first named)
+                none (le-ltb lastTriple first named)
                 (none (none (le-ltb post 1 low) (le-ltb n post high)) (elements-pass (xs ++ ys) (elements-append xs ys elements elements')));
           }
 

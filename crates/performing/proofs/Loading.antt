@@ -32,7 +32,7 @@ use Rattle.performing.proofs.Heard.{says, passes}
 load-short : (letter row : ℕ) (pack : List ℕ) → row ≤ lastRow → length pack ≤ longestTriple → length (written letter (row ∷ pack)) ≤ longestLine
 unfolding fields sizeWithin
 load-short letter row pack h l =
-    let digits : size row ≤ 2 = size-grows 9 row 95 h in
+    let digits : size row ≤ 2 = size-grows 9 row lastRow h in
     omega (arith, length-written letter (row ∷ []) pack, length-append (field row) [], length-field row, digits, length-fields-le pack)
 
 module _ (letter row last : ℕ) (pack : List ℕ) (elements : Elements (row ∷ pack)) (low : row ≤ last) (k : ℕ) (many : length pack + 1 ≡ k) where

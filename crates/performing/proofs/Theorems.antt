@@ -15,6 +15,7 @@ use Rattle.csv.specs.Fields.{fields, written, parsed}
 use Rattle.forms.specs.Lines as Lines
 use Rattle.forms.specs.Forms.{formOf}
 use Rattle.forms.proofs.Forms.{form-read}
+use Rattle.forms.proofs.RoundTrip.{none-beyond}
 use Rattle.factory.proofs.Laws.{elements-pass}
 use Rattle.session.specs.declared.Session.{Session}
 use Rattle.session.specs.declared.Answer.{Answer}
@@ -36,7 +37,7 @@ use Rattle.finishlines.specs.Steps.{masksFor, finishing, finishStep}
 use Rattle.masklines.specs.Steps.{maskLine, noMasks, masking, maskingOf, maskStep}
 use Rattle.interpreter.specs.Stepping.{lettersStep, lateStep, step}
 use Rattle.performing.specs.Claims.{Does, LinearLine, MasksLine, DealLine, OpenLine, Finishes, FinishLine, StreetPerforms}
-use Rattle.performing.proofs.Heard.{elements-small, says, passes, line-short}
+use Rattle.performing.proofs.Heard.{says, passes, line-short}
 
 succ : (k : ℕ) → suc k ≡ 0 → ⊥
 succ k e = omega arith
@@ -173,7 +174,7 @@ module _ (st : State) (store : List ℕ) (started : st .started ≡ true) where
     two-elements = (omega arith, (element, tt))
 
     deal-form : formOf (vLength (shapeOf (st .session))) (written 68 two) ≡ parsed two (1 + length (fields two))
-    deal-form = form-read (vLength (shapeOf (st .session))) 68 two refl refl (elements-small two two-elements)
+    deal-form = form-read (vLength (shapeOf (st .session))) 68 two refl refl (none-beyond two (elements-pass two two-elements))
 
     deal-passes : heardRefusal (st .session) (written 68 two) ≡ 0
     unfolding heardRefusal

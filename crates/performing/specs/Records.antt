@@ -17,8 +17,7 @@ use Rattle.store.specs.Sizes.{openingsAt, masksAAt, masksBAt}
 use Rattle.store.specs.Records.{recordAt}
 use Rattle.states.specs.declared.State.{State}
 use Rattle.states.specs.States.{After, keepingRow, keepingTriple, refusing, sessionRows}
-use Rattle.interpreter.specs.Stepping.{step}
-use Rattle.interpreter.specs.Between.{Ready}
+use Rattle.interpreter.specs.Stepping.{step, Ready}
 use Rattle.performing.specs.Claims.{recordFor}
 
 module _ (st : State) (store : List ℕ) where

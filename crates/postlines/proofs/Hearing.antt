@@ -18,7 +18,7 @@ use Rattle.refusal.specs.Refusal.{outcome}
 use Rattle.refusal.specs.Conditions.{outside, anyBeyond}
 use Rattle.refusal.proofs.Laws.{or-false, all-fail, inside}
 use Rattle.csv.specs.Fields.{Parsed, parsed, malformed, padded}
-use Rattle.forms.specs.Lines.{Message, lastRow}
+use Rattle.forms.specs.Lines.{Message, lastRowOf}
 use Rattle.forms.specs.Forms.{formOf, fieldCount, isMalformed, lineTests}
 use Rattle.forms.proofs.Forms.{form-spelled}
 use Rattle.lines.specs.declared.Line.{Line}
@@ -150,7 +150,7 @@ module _ (st : State) (store line out : List ℕ) (i : InStreet (shapeOf (st .se
     none-holds =
         let t = all-fail (lineTests (s .n) (vLength (shapeOf s)) line) tt (sym refusal-is ∙ z) in
         let m = heard s line in
-        let x = or-false (ltb (lastRow (getD line 0 0)) (m .row)) (far || anyBeyond (m .numbers)) (t .1 .0) in
+        let x = or-false (ltb (lastRowOf (getD line 0 0)) (m .row)) (far || anyBeyond (m .numbers)) (t .1 .0) in
         (t .0, or-false far (anyBeyond (m .numbers)) (x .1) .0)
 
     pub hear-sayable : length out' ≡ length out → Sayable s said out'

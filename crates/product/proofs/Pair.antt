@@ -29,7 +29,7 @@ use Rattle.product.specs.Finish.{finishTests, finishRefusal, finishAnswe
 use Rattle.product.specs.Claims.{Whole, withMarksOf, collectedSession, PairFinishes, Untouched, PairFinishesLater}
 use Rattle.collect.proofs.Passed.{Collected, collected, collect-framed}
 use Rattle.multiply.proofs.Passed.{multiplied, multiply-clear}
-use Rattle.product.proofs.Written.{third-read}
+use Rattle.multiply.proofs.Written.{third-read}
 
 -- one more test among those that fail
 with-one : (xs ys : List Test) (k : ℕ) (b : Bool) → AllFail (xs ++ ys) → b ≡ false → AllFail (xs ++ (k when b ∷ ys))
@@ -171,6 +171,7 @@ module _ (s : Session) (rows : List ℕ) (r : ℕ) (l l' : List ℕ) (w : Whole 
     old-rows = left (finishRefusal s rows r l l') (withProduct s y y' r rows) rows z
 
     old-row : rowAt (width s) (finishRows s rows r l l') (r + 2) ≡ row
+    unfolding withProduct
     old-row =
         ap (λ (m : List ℕ). rowAt (width s) m (r + 2)) old-rows
         ∙ third-read s rows r y y' (collect-framed s rows r l l' (passed .checked) .sized) (passed .checked .placed .factors .triple-in)

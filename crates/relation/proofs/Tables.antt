@@ -16,9 +16,9 @@ use Rattle.session.specs.Checks.{frameTests, noRow, wrongMark}
 use Rattle.terms.specs.declared.Term.{Term}
 use Rattle.terms.specs.Listed.{mostTerms, productsOf, collected, termsOf, factorsOf}
 use Rattle.terms.proofs.Placing.{terms-again, factors-again}
-use Rattle.relation.specs.Tests.{each, placeTests, markTests, namedIn, namedTwice}
+use Rattle.relation.specs.Tests.{eachAt, each, placeTests, markTests, namedIn, namedTwice}
 use Rattle.relation.specs.Masks.{masksSizes, maskNumberTests, relationMasksRefusal}
-use Rattle.relation.specs.Finish.{finishSizes, rememberTests, termNumberTests, recordTests, openTests, relationFinishRefusal}
+use Rattle.relation.specs.Finish.{finishSizes, rememberTests, termNumberTests, recordPair, recordTests, openTests, relationFinishRefusal}
 use Rattle.relation.specs.Table.{isAmong, repeats, triplesOf, RelationTables}
 
 -- late tests that differ only where early ones refuse
@@ -45,6 +45,13 @@ unfolding namedTwice repeats
 named-repeats [] = refl
 named-repeats (t ∷ ts) = ap₂ (λ (a b : Bool). a || b) (named-among (t .first) ts) (named-repeats ts)
 
+-- the records' tests, by product terms
+records-each : (s : Session) (blocks : List ℕ) (k : ℕ) (us : List Term)
+    → recordTests s blocks k (length us) ≡ eachAt (λ k t. recordPair s blocks k) k us
+unfolding recordTests eachAt
+records-each s blocks k [] = refl
+records-each s blocks k (t ∷ us) = ap (λ (l : List Test). recordPair s blocks k ++ l) (records-each s blocks (suc k) us)
+
 module _ (s : Session) (rows : List ℕ) (ts : List Term) where
   module _ (out : List ℕ) where
     abbrev early : List Test
@@ -66,24 +73,34 @@ module _ (s : Session) (rows : List ℕ) (ts : List Term) where
     abbrev before : List Test
     before = frameTests s rows ++ finishSizes s (collected ts) blocks
 
-    abbrev behind : List Term → List Term → Bool → List Test
-    behind l f twice =
+    abbrev behind : List Term → List Term → Bool → List Test → List Test
+    behind l f twice records =
         ((each placeTests l ++ (6 when noRow d ∷ []))
         ++ ((each (markTests s masked) l
         ++ (7 when twice ∷ (each (rememberTests s) f ++ (7 when wrongMark s d empty ∷ []))))
-        ++ (each (termNumberTests (width s) rows) l ++ recordTests s blocks 0 (length (productsOf ts)))))
+        ++ (each (termNumberTests (width s) rows) l ++ records)))
         ++ openTests s rows blocks 0 f
 
     at-hand′ : first (frameTests s rows ++ finishSizes s (collected ts) blocks) ≡ 0 → length ts ≤ mostTerms
     at-hand′ e = inside 1 mostTerms (length ts) (all-fail before tt e .1 .1 .1 .1 .1 .1 .0) .1
 
-    pub finish-table : first (before ++ behind (termsOf (collected ts)) (factorsOf (collected ts)) (namedTwice (factorsOf (collected ts))))
-        ≡ first (before ++ behind ts (productsOf ts) (repeats (triplesOf ts)))
+    -- the records' tests, counted as the call does and by product terms
+    abbrev counted : List Test
+    counted = recordTests s blocks 0 (length (productsOf ts))
+
+    abbrev pairs : List Test
+    pairs = eachAt (λ k t. recordPair s blocks k) 0 (productsOf ts)
+
+    abbrev again : List Term
+    again = factorsOf (collected ts)
+
+    pub finish-table : first (before ++ behind (termsOf (collected ts)) again (namedTwice again) counted)
+        ≡ first (before ++ behind ts (productsOf ts) (repeats (triplesOf ts)) pairs)
     finish-table =
-        late-same before (behind (termsOf (collected ts)) (factorsOf (collected ts)) (namedTwice (factorsOf (collected ts))))
-        (behind ts (productsOf ts) (repeats (triplesOf ts))) tt
-        (λ e. ap₂ (λ (l f : List Term). behind l f (namedTwice f)) (terms-again ts (at-hand′ e)) (factors-again ts (at-hand′ e))
-        ∙ ap (behind ts (productsOf ts)) (named-repeats (productsOf ts)))
+        late-same before (behind (termsOf (collected ts)) again (namedTwice again) counted)
+        (behind ts (productsOf ts) (repeats (triplesOf ts)) pairs) tt
+        (λ e. ap₂ (λ (l f : List Term). behind l f (namedTwice f) counted) (terms-again ts (at-hand′ e)) (factors-again ts (at-hand′ e))
+        ∙ ap₂ (behind ts (productsOf ts)) (named-repeats (productsOf ts)) (records-each s blocks 0 (productsOf ts)))
 
 pub relation-tables : RelationTables
 unfolding relationMasksRefusal relationFinishRefusal

@@ -21,7 +21,7 @@ use Rattle.terms.specs.Listed.{mostTerms, plain, productsOf, collected, termsOf
 use Rattle.terms.proofs.Placing.{terms-again, factors-again}
 use Rattle.relation.specs.Tests.{eachAt, each, byKind}
 use Rattle.relation.specs.Masks.{maskedTerms, termMasks, relationMasksRefusal}
-use Rattle.relation.specs.Finish.{recordA, recordB, recordTests, termMaskA, termMaskB, withProducts, withSum, relationDone, relationFinishRefusal}
+use Rattle.relation.specs.Finish.{recordA, recordB, recordPair, termMaskA, termMaskB, withProducts, withSum, relationDone, relationFinishRefusal}
 use Rattle.relation.specs.Order.{rank, Ranked, LawfulAfterFive}
 use Rattle.relation.specs.Table.{sixes, sevens, relationMasksTable, relationFinishTable, repeats, triplesOf}
 use Rattle.relation.specs.Claims.{RelationLawful}
@@ -70,11 +70,6 @@ eight-only one other f g k t = (refl, go (plain t))
     go : (b : Bool) → Only 8 (byKind b (one t) (other t))
     go true = f t
     go false = g t
-
-records-only : (s : Session) (blocks : List ℕ) (k m : ℕ) → Only 8 (recordTests s blocks k m)
-unfolding recordTests
-records-only s blocks k zero = tt
-records-only s blocks k (suc m) = (refl, (refl, records-only s blocks (suc k) m))
 
 module _ (s : Session) (rows : List ℕ) (ts : List Term) where
   abbrev row : ℕ → Test
@@ -127,7 +122,8 @@ module _ (s : Session) (rows : List ℕ) (ts : List Term) where
       let sixth = six ++ (6 when noRow d ∷ []) in
       let kept = each (λ t. 7 when not (eqb (factorA s (t .first)) (t .row)) ∷ 7 when not (eqb (factorB s (t .first)) (t .second)) ∷ []) (productsOf ts) in
       let seven = each (sevens s 5) ts ++ (7 when repeats (triplesOf ts) ∷ (kept ++ (7 when wrongMark s d 0 ∷ []))) in
-      let eight = each (λ t. eights (alone t) (five t) t) ts ++ recordTests s blocks 0 (length (productsOf ts)) in
+      let pairs = eachAt (λ k t. recordPair s blocks k) 0 (productsOf ts) in
+      let eight = each (λ t. eights (alone t) (five t) t) ts ++ pairs in
       let nine = eachAt (λ k t. 9 when tooFew s (termMaskA s rows t) (recordA s blocks k) ∷ 9 when tooFew s (termMaskB s rows t) (recordB s blocks k) ∷ []) 0 (productsOf ts) in
       let thirteen = eachAt (λ k t. 13 when disagree s (termMaskA s rows t) (recordA s blocks k) ∷ 13 when disagree s (termMaskB s rows t) (recordB s blocks k) ∷ []) 0 (productsOf ts) in
       let o6 : Only 6 sixth = only-append 6 six (6 when noRow d ∷ []) six-all (refl, tt) in
@@ -138,9 +134,9 @@ module _ (s : Session) (rows : List ℕ) (ts : List Term) where
       only-append 7 (each (sevens s 5) ts) (7 when repeats (triplesOf ts) ∷ (kept ++ (7 when wrongMark s d 0 ∷ [])))
       (each-only 7 (λ k. sevens s 5) (seven-only s 5) 0 ts) (refl, only-append 7 kept (7 when wrongMark s d 0 ∷ []) ok (refl, tt)) in
       let o8 : Only 8 eight =
-      only-append 8 (each (λ t. eights (alone t) (five t) t) ts) (recordTests s blocks 0 (length (productsOf ts)))
+      only-append 8 (each (λ t. eights (alone t) (five t) t) ts) pairs
       (each-only 8 (λ k t. eights (alone t) (five t) t) (eight-only alone five (λ t. (refl, tt)) (λ t. (refl, (refl, (refl, (refl, (refl, tt))))))) 0 ts)
-      (records-only s blocks 0 (length (productsOf ts))) in
+      (each-only 8 (λ k t. recordPair s blocks k) (λ k t. (refl, (refl, tt))) 0 (productsOf ts)) in
       let o9 : Only 9 nine =
       each-only 9 (λ k t. 9 when tooFew s (termMaskA s rows t) (recordA s blocks k) ∷ 9 when tooFew s (termMaskB s rows t) (recordB s blocks k) ∷ [])
       (λ k t. (refl, (refl, tt))) 0 (productsOf ts) in

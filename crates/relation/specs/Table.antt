@@ -13,12 +13,12 @@ use Rattle.session.specs.declared.Session.{Session}
 use Rattle.session.specs.Sessions.{factorA, factorB}
 use Rattle.session.specs.Rows.{width, rowAt}
 use Rattle.session.specs.Checks.{wrongMark}
-use Rattle.opening.specs.Walking.{recordLength, tooFew, disagree}
+use Rattle.opening.specs.Walking.{recordLength, badRecord, tooFew, disagree}
 use Rattle.terms.specs.declared.Term.{Term}
-use Rattle.terms.specs.Listed.{plain, productsOf, collected}
+use Rattle.terms.specs.Listed.{productsOf, collected}
 use Rattle.relation.specs.Tests.{eachAt, each, byKind}
 use Rattle.relation.specs.Masks.{relationMasksRefusal}
-use Rattle.relation.specs.Finish.{recordTests, recordA, recordB, termMaskA, termMaskB, relationFinishRefusal}
+use Rattle.relation.specs.Finish.{recordA, recordB, termMaskA, termMaskB, relationFinishRefusal}
 
 -- whether a number stands twice in a list
 unfoldable pub isAmong : ℕ → List ℕ → Bool
@@ -33,14 +33,18 @@ repeats (x ∷ xs) = isAmong x xs || repeats xs
 abbrev pub triplesOf : List Term → List ℕ
 triplesOf ts = map (λ t. t .first) (productsOf ts)
 
+-- "a second row or 255 for none"
+abbrev pub single : Term → Bool
+single t = eqb (t .second) 255
+
 -- a term's lines
 abbrev pub sixes : Term → List Test
-sixes t = 6 when ltb 95 (t .row) ∷ byKind (plain t) [] (6 when ltb 95 (t .second) ∷ 6 when ltb 93 (t .first) ∷ [])
+sixes t = 6 when ltb 95 (t .row) ∷ byKind (single t) [] (6 when ltb 95 (t .second) ∷ 6 when ltb 93 (t .first) ∷ [])
 
 -- with mark m on the triple's first row: 3 for masks, 5 for a finish
 abbrev pub sevens : Session → ℕ → Term → List Test
 sevens s m t =
-    byKind (plain t) (7 when wrongMark s (t .row) 2 ∷ [])
+    byKind (single t) (7 when wrongMark s (t .row) 2 ∷ [])
     (7 when wrongMark s (t .row) 2
     ∷ 7 when wrongMark s (t .second) 2
     ∷ 7 when wrongMark s (t .first) m
@@ -61,7 +65,7 @@ relationMasksTable s rows ts out =
     ++ ((each (sevens s 3) ts ++ (7 when repeats (triplesOf ts) ∷ []))
     ++ each
     (λ t. 8 when beyond (t .coefficient)
-    ∷ byKind (plain t) []
+    ∷ byKind (single t) []
     (8 when anyBeyond (rowAt (width s) rows (t .row))
     ∷ 8 when anyBeyond (rowAt (width s) rows (t .second))
     ∷ 8 when anyBeyond (rowAt (width s) rows (t .first))
@@ -85,7 +89,7 @@ relationFinishTable s rows ts d blocks =
     ++ (7 when wrongMark s d 0 ∷ []))))
     ++ (each
     (λ t. 8 when beyond (t .coefficient)
-    ∷ byKind (plain t) (8 when anyBeyond (rowAt (width s) rows (t .row)) ∷ [])
+    ∷ byKind (single t) (8 when anyBeyond (rowAt (width s) rows (t .row)) ∷ [])
     (8 when anyBeyond (rowAt (width s) rows (t .row))
     ∷ 8 when anyBeyond (rowAt (width s) rows (t .second))
     ∷ 8 when anyBeyond (rowAt (width s) rows (t .first))
@@ -93,7 +97,7 @@ relationFinishTable s rows ts d blocks =
     ∷ 8 when anyBeyond (rowAt (width s) rows (t .first + 2))
     ∷ []))
     ts
-    ++ recordTests s blocks 0 (length (productsOf ts)))))
+    ++ eachAt (λ k t. 8 when badRecord s (recordA s blocks k) ∷ 8 when badRecord s (recordB s blocks k) ∷ []) 0 (productsOf ts))))
     ++ (eachAt
     (λ k t. 9 when tooFew s (termMaskA s rows t) (recordA s blocks k) ∷ 9 when tooFew s (termMaskB s rows t) (recordB s blocks k) ∷ [])
     0 (productsOf ts)

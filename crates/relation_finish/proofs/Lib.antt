@@ -1,2 +1,4 @@
 pub mod Kept
 pub mod Opens
+pub mod Others
+pub mod Unread

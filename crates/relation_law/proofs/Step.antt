@@ -21,7 +21,6 @@ use Rattle.session.specs.Checks.{frameTests}
 use Rattle.session.specs.Between.{Sized}
 use Rattle.session.proofs.Calls.{frame-passed}
 use Rattle.session.proofs.Endings.{accepted-answer}
-use Rattle.session.proofs.RowLaws.{row-other, length-with-row}
 use Rattle.opening.specs.Walking.{recordLength, tooFew, disagree, opened}
 use Rattle.opening.proofs.Theorems.{opened-below}
 use Rattle.product_masks.specs.Masks.{less}
@@ -29,7 +28,7 @@ use Rattle.collect.specs.Collect.{maskA, maskB, unopened, collectRefusal}
 use Rattle.collect.proofs.Passed.{CollectChecked, collect-walks}
 use Rattle.multiply.specs.Multiply.{productRow, withProduct, multiplyRefusal, multiplyAnswer, multiplyRows}
 use Rattle.multiply.proofs.Passed.{multiply-clear}
-use Rattle.product.proofs.Written.{row-long}
+use Rattle.multiply.proofs.Written.{others-read, length-written}
 use Rattle.terms.specs.declared.Term.{Term}
 use Rattle.relation.specs.Finish.{recordA, recordB, termMaskA, termMaskB, termNumberA, termNumberB, pairDone}
 use Rattle.relation.proofs.Passed.{Enough, Agreed, RecordsLow}
@@ -212,22 +211,11 @@ module _ (s : Session) (rows blocks : List ℕ) where
 
     -- ---- what is left to the terms behind
 
-    abbrev row : List ℕ
-    row = productRow s y y' (rowAt w l r) (rowAt w l (r + 1)) (rowAt w l (r + 2))
-
-    wide : length row ≡ w
-    wide = row-long s l r y y' sized (h .triple-in)
-
-    in-rows : r + 2 < rowCount
-    in-rows = omega (arith, h .triple-in)
-
     pub written-long : length (withProduct s (termNumberA s rows blocks k t) (termNumberB s rows blocks k t) (t .first) l) ≡ length l
-    unfolding withProduct
-    written-long = length-with-row w rowCount l (r + 2) (sized .length-is) in-rows row wide
+    written-long = length-written s l r y y' sized (h .triple-in)
 
     other-row : (q : ℕ) → q ≢ r + 2 → rowAt w (withProduct s y y' r l) q ≡ rowAt w l q
-    unfolding withProduct
-    other-row q ne = row-other w rowCount l (r + 2) (sized .length-is) in-rows row wide q ne
+    other-row q ne = others-read s l r y y' sized (h .triple-in) q ne
 
     other-mark : (q : ℕ) → q ≢ r → q ≢ r + 1 → q ≢ r + 2 → markIn (pairMarks m r) q ≡ markIn m q
     other-mark q n0 n1 n2 =

@@ -1,10 +1,9 @@
--- What an opening is lent: the rooms are long enough, stay so, and the powers fill theirs.
+-- What an opening is lent: the rooms are long enough, and stay so.
 use Prim.Native.Nat.{ℕ, _+_, _≤_}
-use mathlib.Core.Path.{_≡_, _∙_, ap}
+use mathlib.Core.Path.{_≡_}
 use mathlib.Core.List.{List}
 use native.Mathlib.Omega.{arith}
 use lib.ListN.{length}
-use Rattle.poly.specs.Polynomial.{powers}
 use Rattle.inverses.specs.InverseTable.{Inverts}
 use Rattle.shape.specs.declared.Shape.{Shape}
 use Rattle.walk.specs.Between.{Roomy}
@@ -25,7 +24,3 @@ pub roomy-kept : (s : Shape) (inverses posts posts′ shares shares′ gaps list
     → Roomy s inverses posts′ shares′ gaps list above below
 roomy-kept s inverses posts posts′ shares shares′ gaps list above below r ep es =
     record { posts-room = rw ep (r .posts-room); shares-room = rw es (r .shares-room); reach = r .reach; lent = r .lent }
-
--- a list, filled with powers
-pub powers-whole : (x k : ℕ) (old new : List ℕ) → length old ≡ k → new ≡ powers x (length old) → new ≡ powers x k
-powers-whole x k old new e f = f ∙ ap (powers x) e

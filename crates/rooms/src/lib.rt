@@ -12,14 +12,14 @@ ghost use Rattle.blocks.specs.Between.{Openable};
 ghost use Rattle.walk.specs.Number.{openedRow};
 ghost use Rattle.walk.specs.Between.{Roomy};
 
-// The number that a row opens to with a record, or 9, or 13, with the table of inverses and lent room for the powers of the check point, the
-// posts, the shares and the agreement's lists.
+// The number that a row opens to with a record, or 9, or 13, with the table of inverses and lent room for the polynomials' weights, the posts,
+// the shares and the agreement's lists.
 fn open_in<'a>(
     party: Party,
     row: &'a [u32],
     blocks: &'a [u32],
     inverses: &[u32],
-    powers: &mut [u32],
+    weights: &mut [u32],
     posts: &mut [u32],
     shares: &mut [u32],
     gaps: &mut [u32],
@@ -27,17 +27,17 @@ fn open_in<'a>(
     above: &mut [u32],
     below: &mut [u32],
 ) -> Opened
-    requires { ⌜ Openable party (now row) (now blocks) × (length (now powers) ≡ vLength (party .shape))
+    requires { ⌜ Openable party (now row) (now blocks) × (length (now weights) ≡ vLength (party .shape))
         × Roomy (party .shape) (now inverses) (now posts) (now shares) (now gaps) (now list) (now above) (now below) ⌝ }
     ensures { λ r. ⌜ r ≡ openedRow party (now (row .entry)) (now (blocks .entry)) ⌝ }
 {
-    poly::powers(party.point, powers);
-    let outcome = walk::walk_posts(party, row, blocks, powers, posts, shares);
+    accepting::fill_weights(party, weights);
+    let outcome = walk::walk_posts(party, row, blocks, weights, posts, shares);
     walk::settle(
         party,
         row,
         blocks,
-        powers,
+        weights,
         outcome,
         posts,
         shares,
@@ -57,7 +57,7 @@ pub fn open_least<'a>(party: Party, row: &'a [u32], blocks: &'a [u32]) -> Opened
     let shape = party.shape;
     let count = shape.v_len();
     let inverses = inverses::very_few::to_8();
-    let mut powers = [0u32; shape::VERY_SHORT_V];
+    let mut weights = [0u32; shape::VERY_SHORT_V];
     let mut posts = [0u32; shape::VERY_FEW_POSTS];
     let mut shares = [0u32; shape::VERY_FEW_POSTS];
     let mut gaps = [0u32; inverses::very_few::VERY_FEW];
@@ -69,7 +69,7 @@ pub fn open_least<'a>(party: Party, row: &'a [u32], blocks: &'a [u32]) -> Opened
         row,
         blocks,
         &inverses,
-        &mut powers[..count],
+        &mut weights[..count],
         &mut posts,
         &mut shares,
         &mut gaps,
@@ -87,7 +87,7 @@ pub fn open_small<'a>(party: Party, row: &'a [u32], blocks: &'a [u32]) -> Opened
     let shape = party.shape;
     let count = shape.v_len();
     let inverses = inverses::few::to_32();
-    let mut powers = [0u32; shape::SHORT_V];
+    let mut weights = [0u32; shape::SHORT_V];
     let mut posts = [0u32; shape::FEW_POSTS];
     let mut shares = [0u32; shape::FEW_POSTS];
     let mut gaps = [0u32; inverses::few::FEW];
@@ -99,7 +99,7 @@ pub fn open_small<'a>(party: Party, row: &'a [u32], blocks: &'a [u32]) -> Opened
         row,
         blocks,
         &inverses,
-        &mut powers[..count],
+        &mut weights[..count],
         &mut posts,
         &mut shares,
         &mut gaps,
@@ -117,7 +117,7 @@ pub fn open_large<'a>(party: Party, row: &'a [u32], blocks: &'a [u32]) -> Opened
     let shape = party.shape;
     let count = shape.v_len();
     let inverses = inverses::to_255();
-    let mut powers = [0u32; shape::LONGEST_V];
+    let mut weights = [0u32; shape::LONGEST_V];
     let mut posts = [0u32; shape::MOST_POSTS];
     let mut shares = [0u32; shape::MOST_POSTS];
     let mut gaps = [0u32; inverses::MOST];
@@ -129,7 +129,7 @@ pub fn open_large<'a>(party: Party, row: &'a [u32], blocks: &'a [u32]) -> Opened
         row,
         blocks,
         &inverses,
-        &mut powers[..count],
+        &mut weights[..count],
         &mut posts,
         &mut shares,
         &mut gaps,

@@ -8,6 +8,7 @@ use lib.ListN.{take, drop, replicate}
 use Rattle.forms.specs.Lines.{text}
 use Rattle.forms.specs.Lines as Line
 use Rattle.terms.specs.declared.Term.{Term}
+use Rattle.terms.specs.Listed.{noRow}
 use Rattle.runs.specs.Draws.{Raw, Draw, by}
 use Rattle.runs.specs.Calls.{openingLine, masksLine}
 use Rattle.secrecy.specs.Steps.{Record, Step, own, sent, loadRow, loadTriple, deal, message, opening, relationMasks, relationFinish}
@@ -45,7 +46,7 @@ draw =
 abbrev pub terms : List Term
 terms =
     record { coefficient = 1; row = 0; second = 1; first = 3 }
-    ∷ record { coefficient = 2147483646; row = 2; second = 255; first = 0 }
+    ∷ record { coefficient = 2147483646; row = 2; second = noRow; first = 0 }
     ∷ record { coefficient = 1; row = 0; second = 0; first = 6 }
     ∷ []
 

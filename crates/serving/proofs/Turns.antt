@@ -10,7 +10,7 @@ use lib.Dec.{eqb}
 use lib.ListN.{length, take, length-replicate, length-append}
 use Rattle.store.specs.Sizes.{storeRoom}
 use Rattle.states.specs.States.{firstState}
-use Rattle.interpreter.specs.Between.{Ready}
+use Rattle.interpreter.specs.Stepping.{Ready}
 use Rattle.chunks.proofs.Feeding.{neither, prefix-length}
 use Rattle.feeds.specs.declared.Feed.{Feed}
 use Rattle.answers.specs.Text.{header}

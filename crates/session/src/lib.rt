@@ -113,25 +113,27 @@ impl Session {
         }
     }
 
-    // How a call ends that marks a row: refused, the session as it came; else with the mark. One method for both, called once: the
-    // session is copied in, changed and copied out, and nowhere else.
-    pub fn answer_marking(mut self, refusal: u8, row: usize, mark: u8) -> Answer
+    // How a call ends that marks a row: refused, the session as it came; else with the mark. One method for both, called once. The list
+    // that changes is copied, to be changed; the rest is copied once, straight into the answer. With `mut self` the whole session would
+    // be copied twice: to be changed, and into the answer.
+    pub fn answer_marking(self, refusal: u8, row: usize, mark: u8) -> Answer
         requires { ⌜ Allows refusal (row ≤ lastRow) ⌝ }
         ensures { λ r. ⌜ r ≡ answer refusal 0 (marked self row mark) self ⌝ }
     {
+        let mut marks = self.marks;
         if refusal == 0 {
-            self.marks[row] = mark;
+            marks[row] = mark;
         }
         Answer {
             refusal,
             value: 0,
-            session: self,
+            session: Session { marks, ..self },
         }
     }
 
     // The same, with other marks on a triple's three rows.
     pub fn answer_marking_triple(
-        mut self,
+        self,
         refusal: u8,
         first: usize,
         one: u8,
@@ -141,49 +143,66 @@ impl Session {
         requires { ⌜ Allows refusal (first ≤ lastTriple) ⌝ }
         ensures { λ r. ⌜ r ≡ answer refusal 0 (markedTriple self first one two three) self ⌝ }
     {
+        let mut marks = self.marks;
         if refusal == 0 {
-            self.marks[first] = one;
-            self.marks[first + 1] = two;
-            self.marks[first + 2] = three;
+            marks[first] = one;
+            marks[first + 1] = two;
+            marks[first + 2] = three;
         }
         Answer {
             refusal,
             value: 0,
-            session: self,
+            session: Session { marks, ..self },
         }
     }
 
     // The same, of masks: the triple at `first` remembers the factor rows a and b.
-    pub fn answer_masking(mut self, refusal: u8, first: usize, a: usize, b: usize) -> Answer
+    pub fn answer_masking(self, refusal: u8, first: usize, a: usize, b: usize) -> Answer
         requires { ⌜ Allows refusal (first ≤ lastTriple) × Allows refusal (a ≤ lastRow) × Allows refusal (b ≤ lastRow) ⌝ }
         ensures { λ r. ⌜ r ≡ answer refusal 0 (maskedTriple self first a b) self ⌝ }
     {
+        let mut marks = self.marks;
+        let mut factor_a = self.factor_a;
+        let mut factor_b = self.factor_b;
         if refusal == 0 {
-            self.marks[first] = shape::MASKED;
-            self.factor_a[first] = a as u8;
-            self.factor_b[first] = b as u8;
+            marks[first] = shape::MASKED;
+            factor_a[first] = a as u8;
+            factor_b[first] = b as u8;
         }
         Answer {
             refusal,
             value: 0,
-            session: self,
+            session: Session {
+                marks,
+                factor_a,
+                factor_b,
+                ..self
+            },
         }
     }
 
     // The same, of a finish's first call: the masks of the triple at `first` were opened to y_a and y_b.
-    pub fn answer_collecting(mut self, refusal: u8, first: usize, y_a: u32, y_b: u32) -> Answer
+    pub fn answer_collecting(self, refusal: u8, first: usize, y_a: u32, y_b: u32) -> Answer
         requires { ⌜ Allows refusal (first ≤ lastTriple) ⌝ }
         ensures { λ r. ⌜ r ≡ answer refusal 0 (collectedTriple self first «y_a» «y_b») self ⌝ }
     {
+        let mut marks = self.marks;
+        let mut opened_a = self.y_a;
+        let mut opened_b = self.y_b;
         if refusal == 0 {
-            self.marks[first] = shape::COLLECTED;
-            self.y_a[first] = y_a;
-            self.y_b[first] = y_b;
+            marks[first] = shape::COLLECTED;
+            opened_a[first] = y_a;
+            opened_b[first] = y_b;
         }
         Answer {
             refusal,
             value: 0,
-            session: self,
+            session: Session {
+                marks,
+                y_a: opened_a,
+                y_b: opened_b,
+                ..self
+            },
         }
     }
 }

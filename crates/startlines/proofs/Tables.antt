@@ -6,8 +6,10 @@ use mathlib.Core.List.{List, [], _∷_}
 use native.Mathlib.Omega.{arith}
 use borrow.Author.Tests.{le-ltb, ltb-false}
 use lib.Dec.{ltb}
+use Rattle.shape.specs.Bounds.{fewestPosts, mostPosts}
 use Rattle.refusal.specs.Refusal.{Test, _when_, first}
 use Rattle.refusal.specs.Conditions.{outside, badPoint}
+use Rattle.store.specs.Sizes.{streetPosts}
 use Rattle.startlines.specs.Table.{StartTable}
 
 -- The library's upper bound says nothing more where the program's has passed.
@@ -21,5 +23,5 @@ merged false false false ts h = refl
 
 pub start-table : StartTable
 start-table n t post point =
-    merged (ltb n 2) (ltb 32 n) (ltb 255 n) (2 when outside 1 (n - 1) t ∷ 3 when outside 1 n post ∷ 4 when badPoint point ∷ [])
-    (λ e. le-ltb 255 n (omega (arith, ltb-false 32 n e)))
+    merged (ltb n fewestPosts) (ltb streetPosts n) (ltb mostPosts n) (2 when outside 1 (n - 1) t ∷ 3 when outside 1 n post ∷ 4 when badPoint point ∷ [])
+    (λ e. le-ltb mostPosts n (omega (arith, ltb-false streetPosts n e)))

@@ -4,10 +4,10 @@ use session::Party;
 ghost use mathlib.Core.Path.{_≡_};
 ghost use lib.ListN.{length, take, drop};
 ghost use Prim.Native.Nat.{_≤_};
-ghost use Rattle.poly.specs.Polynomial.{powers};
 ghost use Rattle.agreement.specs.Sums.{Reached, Rooms};
-ghost use Rattle.shape.specs.Lengths.{needed, vLength};
+ghost use Rattle.shape.specs.Lengths.{needed};
 ghost use Rattle.blocks.specs.Between.{Openable};
+ghost use Rattle.accepting.specs.Between.{PowersWhereLong};
 ghost use Rattle.walk.specs.Number.{openedRow};
 ghost use Rattle.walk.specs.Between.{WalkedAs, BehindIn, FurtherAs, agreedOn, Roomy};
 
@@ -34,7 +34,7 @@ pub fn walk_posts<'a>(
     posts: &mut [u32],
     shares: &mut [u32],
 ) -> Walk
-    requires { ⌜ Openable party (now row) (now blocks) × (now weights ≡ powers (party .point) (vLength (party .shape)))
+    requires { ⌜ Openable party (now row) (now blocks) × PowersWhereLong party (now weights)
         × (needed (party .shape) ≤ length (now posts)) × (needed (party .shape) ≤ length (now shares)) ⌝ }
     ensures { λ r. ⌜ WalkedAs party (now (row .entry)) (now (blocks .entry)) r (now (posts .exit)) (now (shares .exit)) ⌝ }
 {
@@ -51,8 +51,9 @@ pub fn walk_posts<'a>(
             break Walk::TooFew;
         }
         if accepting::accepts(party, row, blocks, j, weights) {
+            let share = accepting::share(party, row, blocks, j);
             posts[count] = j as u32;
-            shares[count] = accepting::share(party, row, blocks, j);
+            shares[count] = share;
             count += 1;
         }
         j += 1;
@@ -72,7 +73,7 @@ fn walk_further<'a>(
     posts: &mut [u32],
     shares: &mut [u32],
 ) -> usize
-    requires { ⌜ Openable party (now row) (now blocks) × (now weights ≡ powers (party .point) (vLength (party .shape)))
+    requires { ⌜ Openable party (now row) (now blocks) × PowersWhereLong party (now weights)
         × BehindIn (party .shape .n) need last (now posts) (now shares) ⌝ }
     ensures { λ r. ⌜ FurtherAs party (now (row .entry)) (now (blocks .entry)) need last (now (posts .entry)) (now (shares .entry)) r
         (now (posts .exit)) (now (shares .exit)) ⌝ }
@@ -84,8 +85,9 @@ fn walk_further<'a>(
     let mut j = next;
     while j <= n {
         if accepting::accepts(party, row, blocks, j, weights) {
+            let share = accepting::share(party, row, blocks, j);
             posts[count] = j as u32;
-            shares[count] = accepting::share(party, row, blocks, j);
+            shares[count] = share;
             count += 1;
         }
         j += 1;
@@ -138,7 +140,7 @@ pub fn settle<'a>(
     above: &mut [u32],
     below: &mut [u32],
 ) -> Opened
-    requires { ⌜ Openable party (now row) (now blocks) × (now weights ≡ powers (party .point) (vLength (party .shape)))
+    requires { ⌜ Openable party (now row) (now blocks) × PowersWhereLong party (now weights)
         × WalkedAs party (now row) (now blocks) outcome (now posts) (now shares)
         × Roomy (party .shape) (now inverses) (now posts) (now shares) (now gaps) (now list) (now above) (now below) ⌝ }
     ensures { λ r. ⌜ r ≡ openedRow party (now (row .entry)) (now (blocks .entry)) ⌝ }

@@ -256,7 +256,7 @@ int main(void) {
     keep(0, gantsorol_open(posts[0], rows[0], ALL, 1, record, RECORD));
     keep(0, gantsorol_open(posts[0], NULL, 0, 1, NULL, 0));
     keep(0, gantsorol_deal(posts[0], NULL, 0, 1, 0));
-    gantsorol_answer none = gantsorol_new(256, T, 1, 2);
+    gantsorol_answer none = gantsorol_new(GANTSOROL_MAX_POSTS + 1, T, 1, 2);
     gantsorol_session zero = {0};
     printf("none %d %u %d\n", none.refusal, none.value, memcmp(none.session.marks, zero.marks, sizeof zero.marks));
     write_lines();

@@ -8,6 +8,7 @@ use std::fs;
 use std::path::Path;
 
 use common::programs::{exports, repository};
+use gantsorol::{LONGEST_LINE, MAX_POSTS, MAX_TERMS, MODULUS, NO_ROW, ROWS};
 
 /// A file's text without line comments, block comments, attributes and preprocessor lines.
 fn code(path: &str) -> String {
@@ -225,4 +226,24 @@ fn the_archive_has_the_declared_functions_and_no_other() {
     let declared: BTreeMap<String, String> =
         declarations.iter().map(|declaration| (name(declaration), "T".to_string())).collect();
     assert_eq!(exports, declared);
+}
+
+/// The binding's tests hold them against the library.
+#[test]
+fn the_header_has_the_constants_of_the_binding() {
+    let header = fs::read_to_string(repository().join("include/gantsorol.h")).expect("the header");
+    let constant = |line: &str| {
+        let (name, value) = line.strip_prefix("#define GANTSOROL_")?.split_once(' ')?;
+        Some((name.to_string(), value.trim_end_matches('u').parse::<usize>().ok()?))
+    };
+    let expected = [
+        ("LONGEST_LINE", LONGEST_LINE),
+        ("MAX_POSTS", MAX_POSTS),
+        ("MAX_TERMS", MAX_TERMS),
+        ("MODULUS", MODULUS as usize),
+        ("NO_ROW", NO_ROW.into()),
+        ("ROWS", ROWS),
+    ]
+    .map(|(name, value)| (name.to_string(), value));
+    assert_eq!(header.lines().filter_map(constant).collect::<BTreeMap<_, _>>(), expected.into());
 }

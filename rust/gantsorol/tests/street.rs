@@ -37,8 +37,10 @@ fn the_examples_of_the_readme() {
 /// What `rt check` runs the program on, document 01's example, a charge and a sum of two rows, is what the second implementation prints too.
 #[test]
 fn the_run_of_the_crate() {
-    let (input, expected) =
-        (include_str!("../../../crates/street/stdin"), include_str!("../../../crates/street/stdout"));
+    let (input, expected) = (
+        include_str!("../../../crates/street/stdin"),
+        include_str!("../../../crates/street/stdout"),
+    );
     assert_eq!(String::from_utf8_lossy(&printed(input.as_bytes())), expected);
     assert_eq!(String::from_utf8_lossy(&REFERENCE.street(input.as_bytes())), expected);
 }

@@ -9,7 +9,7 @@ all-fit-requires : tie.Need-all-fit-requires
 all-fit-requires c κs =
     let a = c .before .before .before .before .before .before .before .before .before .before .before .before .before .before .before .before .before in
     let l = c .before .before .before .before .before .before .lay in
-    (search needs, reached-of _ _ _ _ _ _ _ _ _ (a .pre .0) (a .pre .1) [] _ (l .ensures .1))
+    (a .pre .1 .table, search needs, search needs, reached-of _ _ _ _ _ _ _ _ _ (a .pre .0) (a .pre .1) [] _ (l .ensures .1))
 
 returns : tie.Need-returns
 returns c = search (needs, all-agreed)

@@ -20,10 +20,11 @@ abbrev μ-loop : tie.MeasureT-loop
 fits-requires : tie.Need-fits-requires Inv-loop μ-loop
 fits-requires c κs =
     let a = c .before .before .before .before .before .before .before .before .before .before in
+    let i = c .before .before .before .before .loop .i in
     let within =
-    all-at (λ z. (length (now (a .args .below)) ≤ z) × (z ≤ length (now (a .args .inverses)))) (now (a .args .nodes)) (c .before .before .before .before .loop .i) 0 (search needs) (a .pre .1) in
+    all-at (λ z. (length (now (a .args .below)) ≤ z) × (z ≤ length (now (a .args .inverses)))) (now (a .args .nodes)) i 0 (search needs) (a .pre .3) in
     let z = c .before .wide .ensures in
-    (omega (arith, within .0), omega (arith, within .1))
+    (a .pre .0, a .pre .1, omega (arith, within .0), omega (arith, within .1))
 
 returns : tie.Need-returns Inv-loop μ-loop
 returns c =
@@ -33,7 +34,7 @@ returns c =
     let tested =
     at-node (fits (now (a .args .inverses)) (now (a .args .above)) (now (a .args .below))) _ _ _ _ _ (c .before .before .before .wide .ensures) (f .ensures)
     (not-true (f .result) (c .if1 .taken)) in
-    tested-stop _ (now (a .args .nodes)) (now (a .args .values)) (l .i) (search needs) (a .pre .0) (l .inv .1) tested
+    tested-stop _ (now (a .args .nodes)) (now (a .args .values)) (l .i) (search needs) (a .pre .2) (l .inv .1) tested
 
 loop-again : tie.Need-loop-again Inv-loop μ-loop
 loop-again c =
@@ -43,7 +44,7 @@ loop-again c =
     let tested =
     at-node (fits (now (a .args .inverses)) (now (a .args .above)) (now (a .args .below))) _ _ _ _ _ (c .before .before .before .wide .ensures) (f .ensures)
     (not-false (f .result) (c .if1 .left)) in
-    (search needs, tested-turn _ (now (a .args .nodes)) (now (a .args .values)) (l .i) (search needs) (a .pre .0) (l .inv .1) tested)
+    (search needs, tested-turn _ (now (a .args .nodes)) (now (a .args .values)) (l .i) (search needs) (a .pre .2) (l .inv .1) tested)
 
 pub all-fit-spec : {M : Type 1} → statement M
 all-fit-spec =

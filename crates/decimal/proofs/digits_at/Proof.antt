@@ -1,7 +1,7 @@
 -- `digits_at` meets its contract.
 use borrow.Author.Needs.{needs}
 use Rattle.decimal.proofs.EightDigits.{told-digits}
-use Rattle.decimal.proofs.Scanning.{behind-eight}
+use Rattle.decimal.proofs.FromEight.{behind-eight}
 use Rattle.decimal.proofs.digits_at.Statement.{statement}
 use Rattle.decimal.proofs.digits_at.Tie as tie
 

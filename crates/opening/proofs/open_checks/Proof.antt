@@ -10,7 +10,7 @@ row-checks-requires c κs =
     let size = c .before in
     let shape = size .before .before in
     let a = c .before .before .before .before .before .before .before .before .args in
-    (search (needs, frame-passed), record-long (a .session) (a .rows .now) (a .blocks .now) _ (shape .shape .ensures) _ _ (size .before .record-len .ensures) (size .size .ensures) (c .if2 .left))
+    (search (needs, frame-passed), record-long (a .session) (a .rows .now) (a .blocks .now) _ (shape .shape .ensures) _ _ (size .before .record-len .ensures) (size .size .ensures) (c .if2 .left), search needs)
 
 pub open-checks-spec : {M : Type 1} → statement M
 open-checks-spec =

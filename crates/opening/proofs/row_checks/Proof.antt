@@ -11,5 +11,4 @@ pub row-checks-spec : {M : Type 1} → statement M
 row-checks-spec =
     tie.close
     (tie.spec (λ c κs. search needs) (λ c κs. search steps) (λ c κs. search needs) (λ c κs. search steps)
-    (λ c κs. search needs) (λ c κs. search needs) (λ c κs. search needs) (λ c κs. search needs) (λ c κs. search needs)
-    (λ c. search steps))
+    (λ c κs. search needs) (λ c κs. search needs) (λ c κs. search needs) (λ c κs. search needs) (λ c. search steps))

@@ -1,16 +1,14 @@
 -- `open_in` meets its contract.
 use borrow.Author.Needs.{needs}
-use Rattle.rooms.proofs.Lent.{powers-whole, roomy-kept}
+use Rattle.rooms.proofs.Lent.{roomy-kept}
 use Rattle.rooms.proofs.open_in.Statement.{statement}
 use Rattle.rooms.proofs.open_in.Tie as tie
 
-ruleset steps = (needs, powers-whole)
-
 settle-requires : tie.Need-settle-requires
-settle-requires c κs = (search needs, search steps, search needs, search (needs, roomy-kept))
+settle-requires c κs = (search needs, search needs, search needs, search (needs, roomy-kept))
 
 pub open-in-spec : {M : Type 1} → statement M
 open-in-spec =
     tie.close
-    (tie.spec (λ c κs. search needs) (λ c κs. search steps) settle-requires (λ c. search needs) (λ c. search needs)
+    (tie.spec (λ c κs. search needs) (λ c κs. search needs) settle-requires (λ c. search needs) (λ c. search needs)
     (λ c. search needs) (λ c. search needs) (λ c. search needs) (λ c. search needs) (λ c. search needs) (λ c. search needs))

@@ -30,6 +30,6 @@ returns c = search (needs, party-sought)
 pub walk-further-spec : {M : Type 1} → statement M
 walk-further-spec =
     tie.close
-    (tie.spec Inv-loop μ-loop (λ c. search steps) (λ c. search steps) (λ c κs. search steps) (λ c. search steps) (λ c. search steps)
-    (λ c. search steps) (λ c κs. search steps) (λ c. search steps) (λ c. search steps) (λ c. search steps) (λ c. search steps)
+    (tie.spec Inv-loop μ-loop (λ c. search steps) (λ c. search steps) (λ c κs. search steps) (λ c κs. search steps) (λ c. search steps)
+    (λ c. search steps) (λ c. search steps) (λ c. search steps) (λ c. search steps) (λ c. search steps) (λ c. search steps)
     (λ c. search steps) loop-again (λ c. search needs) (λ c. search needs) returns)

@@ -37,6 +37,6 @@ pub walk-posts-spec : {M : Type 1} → statement M
 walk-posts-spec =
     tie.close
     (tie.spec Inv-loop μ-loop (λ c κs. search needs) (λ c. search steps) (λ c. search steps) (λ c κs. search steps)
-    (λ c. search steps) (λ c. search steps) (λ c. search steps) (λ c κs. search steps) (λ c. search steps) (λ c. search steps)
+    (λ c κs. search steps) (λ c. search steps) (λ c. search steps) (λ c. search steps) (λ c. search steps) (λ c. search steps)
     (λ c. search steps) (λ c. search steps) (λ c. search needs) loop-again (λ c. search needs) (λ c. search needs) returns
     (λ c. search needs) (λ c. search needs) returns-2)

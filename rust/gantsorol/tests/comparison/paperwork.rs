@@ -2,7 +2,7 @@
 
 use gantsorol::MAX_POSTS;
 use reference::random::{
-    compare_paperwork, paperwork, Paperwork, PaperworkOutcome, Seen, PAPERWORK_REFUSALS,
+    compare_paperwork, paperwork, Met, Paperwork, PaperworkOutcome, Seen, PAPERWORK_REFUSALS,
 };
 use reference::{Library, REFERENCE};
 
@@ -49,17 +49,47 @@ fn refusal(outcome: &PaperworkOutcome) -> u8 {
     }
 }
 
+/// What stations of 33 to 255 posts meet.
+const SQUARES: Met = &[
+    ("FactoryRow", &[0, 2, 4, 5, 8]),
+    ("FactoryTriple", &[0, 2, 4, 5, 8]),
+    ("WriteDeal", &[0, 2, 6, 8, 12]),
+    ("WriteOpening", &[0, 2, 3, 5, 6, 8, 12]),
+    ("WriteMasks", &[0, 2, 3, 5, 6, 8, 12]),
+    ("Read", &[0, 2, 5, 10, 11]),
+    ("WritePack", &[0, 2, 3, 4, 5, 6, 7, 8, 12]),
+];
+
+/// The number of posts; of a dealer's number none.
+fn posts(work: &Paperwork) -> usize {
+    match *work {
+        Paperwork::FactoryRow { n, .. }
+        | Paperwork::FactoryTriple { n, .. }
+        | Paperwork::WriteDeal { n, .. }
+        | Paperwork::WriteOpening { n, .. }
+        | Paperwork::WriteMasks { n, .. }
+        | Paperwork::Read { n, .. } => n,
+        Paperwork::WritePack(ref pack) => pack.n,
+        Paperwork::DealerNumber { .. } => 0,
+    }
+}
+
 #[test]
 fn factory_and_lines() {
-    let mut seen = Seen::default();
+    let (mut seen, mut squares) = (Seen::default(), Seen::default());
     for seed in seeds(150_000) {
         let work: Paperwork = paperwork(seed);
         if let Some(difference) = compare_paperwork(&work, &Verified, &REFERENCE) {
             panic!("seed {seed}, the verified library on the left:\n{difference}");
         }
-        seen.note(&work, refusal(&work.perform(&Verified)));
+        let refusal = refusal(&work.perform(&Verified));
+        seen.note(&work, refusal);
+        if (33..=MAX_POSTS).contains(&posts(&work)) {
+            squares.note(&work, refusal);
+        }
     }
     if fixed_seeds() {
         seen.assert_met(PAPERWORK_REFUSALS);
+        squares.assert_met(SQUARES);
     }
 }

@@ -42,8 +42,8 @@ fn stations_of_every_n_and_t(check: Check) {
 }
 
 /// Squares: t small, in the middle and n − 1.
-const SQUARES: [(usize, usize); 6] =
-    [(33, 16), (64, 63), (100, 3), (200, 150), (255, 1), (255, 127)];
+const SQUARES: [(usize, usize); 7] =
+    [(33, 16), (64, 63), (100, 3), (200, 150), (255, 1), (255, 127), (255, 254)];
 
 fn squares(check: Check) {
     for (n, t) in SQUARES {
@@ -94,63 +94,71 @@ fn products_for_every_n_and_t() {
     stations_of_every_n_and_t(check_products);
 }
 
+fn check_few(rng: &mut Rng, mut station: Station, seed: u64) {
+    let (secret, own, lines) = shared_secret(rng, &mut station);
+    // The post itself is one of them.
+    for (others, expected) in [(station.t - 1, Err(Refusal(9))), (station.t, Ok(secret))] {
+        let record = station.record(rng, &lines[..others]);
+        assert_eq!(station.posts[own].try_open(7, &record), expected, "seed {seed}");
+    }
+}
+
 #[test]
 fn t_posts_get_9_and_any_t_plus_1_the_number() {
-    for seed in seeds(500) {
-        let mut rng = Rng::new(seed);
-        let (station, secret, own, lines) = shared_secret(&mut rng);
-        // The post itself is one of them.
-        for (others, expected) in [(station.t - 1, Err(Refusal(9))), (station.t, Ok(secret))] {
-            let record = station.record(&mut rng, &lines[..others]);
-            assert_eq!(station.posts[own].try_open(7, &record), expected, "seed {seed}");
-        }
+    random_stations(500, check_few);
+    squares(check_few);
+}
+
+fn check_forged(rng: &mut Rng, mut station: Station, seed: u64) {
+    let (secret, own, lines) = shared_secret(rng, &mut station);
+    let (n, t) = (station.n, station.t);
+    // With n − 1 − t liars among the others t are left, with one more t − 1.
+    for (liars, expected) in [(n - 1 - t, Ok(secret)), (n - t, Err(Refusal(9)))] {
+        let mut record = station.record(rng, &lines);
+        with_liars(rng, &station, own, liars, &mut record);
+        assert_eq!(station.posts[own].try_open(7, &record), expected, "seed {seed}");
     }
 }
 
 #[test]
 fn forged_polynomials_are_rejected() {
-    for seed in seeds(500) {
-        let mut rng = Rng::new(seed);
-        let (station, secret, own, lines) = shared_secret(&mut rng);
-        let (n, t) = (station.n, station.t);
-        // With n − 1 − t liars among the others t are left, with one more t − 1.
-        for (liars, expected) in [(n - 1 - t, Ok(secret)), (n - t, Err(Refusal(9)))] {
-            let mut record = station.record(&mut rng, &lines);
-            with_liars(&mut rng, &station, own, liars, &mut record);
-            assert_eq!(station.posts[own].try_open(7, &record), expected, "seed {seed}");
-        }
-    }
+    random_stations(500, check_forged);
+    squares(check_forged);
 }
 
 /// Either record of a finish may be the short one.
+fn check_few_masks(rng: &mut Rng, station: Station, _: u64) {
+    let masked = Masked::new(rng, station);
+    let t = masked.station.t;
+    let records = |others| masked.station.records(rng, &masked.lines[..others]);
+    let [few, enough] = [t - 1, t].map(records);
+    masked.check(rng, &mixed(&enough, &few), &enough);
+}
+
 #[test]
 fn t_masks_get_9_and_any_t_plus_1_the_product() {
-    for seed in seeds(200) {
-        let mut rng = Rng::new(seed);
-        let masked = Masked::random(&mut rng);
-        let t = masked.station.t;
-        let records = |others| masked.station.records(&mut rng, &masked.lines[..others]);
-        let [few, enough] = [t - 1, t].map(records);
-        masked.check(&mut rng, &mixed(&enough, &few), &enough);
-    }
+    random_stations(200, check_few_masks);
+    squares(check_few_masks);
 }
 
 /// The liars of the two records are other posts.
+fn check_forged_masks(rng: &mut Rng, station: Station, _: u64) {
+    let masked = Masked::new(rng, station);
+    let (n, t, own) = (masked.station.n, masked.station.t, masked.own);
+    let [enough, few] = [n - 1 - t, n - t].map(|liars| {
+        let mut records = masked.all.clone();
+        for record in &mut records {
+            with_liars(rng, &masked.station, own, liars, record);
+        }
+        records
+    });
+    masked.check(rng, &mixed(&enough, &few), &enough);
+}
+
 #[test]
 fn forged_masks_are_rejected() {
-    for seed in seeds(200) {
-        let mut rng = Rng::new(seed);
-        let masked = Masked::random(&mut rng);
-        let (n, t, own) = (masked.station.n, masked.station.t, masked.own);
-        let [enough, few] = [n - 1 - t, n - t].map(|liars| {
-            let mut records = masked.all.clone();
-            for record in &mut records {
-                with_liars(&mut rng, &masked.station, own, liars, record);
-            }
-            records
-        });
-        masked.check(&mut rng, &mixed(&enough, &few), &enough);
-    }
+    random_stations(200, check_forged_masks);
+    squares(check_forged_masks);
 }
 
 /// A liar who knows the post's check point passes there, and shifts the number: 3(z − w) added.

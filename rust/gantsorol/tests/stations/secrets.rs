@@ -17,13 +17,12 @@ fn one_post(rng: &mut Rng, mut lines: Vec<Vec<u8>>) -> (usize, Vec<Vec<u8>>) {
 }
 
 /// One secret in row 7, one post, and the lines of the others.
-pub fn shared_secret(rng: &mut Rng) -> (Station, u32, usize, Vec<Vec<u8>>) {
-    let mut station = Station::random(rng);
+pub fn shared_secret(rng: &mut Rng, station: &mut Station) -> (u32, usize, Vec<Vec<u8>>) {
     let secret = rng.element();
     station.share(rng, 7, secret);
     let lines = station.lines(rng, 7);
     let (own, lines) = one_post(rng, lines);
-    (station, secret, own, lines)
+    (secret, own, lines)
 }
 
 /// Secrets in rows 0 and 1, whose masks by the triple at row 2 are sent.
@@ -38,8 +37,7 @@ pub struct Masked {
 }
 
 impl Masked {
-    pub fn random(rng: &mut Rng) -> Self {
-        let mut station = Station::random(rng);
+    pub fn new(rng: &mut Rng, mut station: Station) -> Self {
         let [a, b] = [(); 2].map(|()| rng.element());
         station.share(rng, 0, a);
         station.share(rng, 1, b);

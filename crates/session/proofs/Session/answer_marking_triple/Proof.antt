@@ -1,4 +1,5 @@
--- `Session::answer_marking_triple` meets its contract.
+-- `Session::answer_marking_triple` meets its contract. Where the two ways meet, the list is what the way left.
+use mathlib.Core.Logic.{⊎-elim}
 use borrow.Author.Needs.{needs}
 use Rattle.session.proofs.Endings.{first-allowed, second-allowed, third-allowed, second-fits, third-fits, ends-accepted, ends-refused}
 use Rattle.session.proofs.Session.answer_marking_triple.Statement.{statement}
@@ -9,4 +10,5 @@ ruleset steps = (needs, first-allowed, second-allowed, third-allowed, second-fit
 pub answer-marking-triple-spec : {M : Type 1} → statement M
 answer-marking-triple-spec =
     tie.close
-    (tie.spec (λ c. search steps) (λ c. search steps) (λ c. search steps) (λ c. search steps) (λ c. search steps) (λ c. search steps) (λ c. search steps))
+    (tie.spec (λ c. search steps) (λ c. search steps) (λ c. search steps) (λ c. search steps) (λ c. search steps)
+    (λ c. ⊎-elim (λ w. rw (w .1) (search steps)) (λ w. rw (w .1) (search steps)) (c .before .before .before .before .if1 .came)))

@@ -2,7 +2,7 @@
 
 use gantsorol::{row_draw_len, row_len, MAX_POSTS};
 
-use super::{any_beyond, checked_shape, is_point, powers, reduced, value, FEW};
+use super::{any_beyond, checked_shape, is_point, powers, reduced, value, FEW, P};
 
 /// The factory's row.
 pub fn factory_row(n: usize, t: usize, points: &[u32], draw: &[u32], out: &mut [u32]) -> u8 {
@@ -39,7 +39,7 @@ fn write_packs<const N: usize>(n: usize, t: usize, points: &[u32], draw: &[u32],
     let mut sums = [0; N];
     for (j, v) in vs.chunks_exact(t + 1).enumerate() {
         let powers = powers::<N>(j as u32 + 1, t + 1);
-        sums[j] = reduced(u64::from(v[0]) + value(f, &powers)) as u32;
+        sums[j] = reduced(u64::from(v[0]) + value_in::<N>(f, &powers)) as u32;
     }
     for (i, (row, &point)) in out.chunks_exact_mut(row_len(n, t)).zip(points).enumerate() {
         let (own, seen) = row.split_at_mut(t + 1);
@@ -47,8 +47,22 @@ fn write_packs<const N: usize>(n: usize, t: usize, points: &[u32], draw: &[u32],
         let powers = powers::<N>(point, t + 1);
         own.copy_from_slice(&vs[i * (t + 1)..][..t + 1]);
         for (check, v) in checks.iter_mut().zip(vs.chunks_exact(t + 1)) {
-            *check = value(v, &powers) as u32;
+            *check = value_in::<N>(v, &powers) as u32;
         }
         public.copy_from_slice(&sums[..n]);
     }
+}
+
+/// A polynomial's value: with few posts it is quicker here to cut each product in halves.
+fn value_in<const N: usize>(coefficients: &[u32], powers: &[u32]) -> u64 {
+    if N > FEW {
+        return value(coefficients, powers);
+    }
+    let (mut low, mut high) = (0, 0);
+    for (&coefficient, &power) in coefficients.iter().zip(powers) {
+        let term = u64::from(coefficient) * u64::from(power);
+        low += term & P;
+        high += term >> 31;
+    }
+    reduced(low + high)
 }

@@ -72,13 +72,17 @@ fn powers<const N: usize>(x: u32, count: usize) -> [u32; N] {
     powers
 }
 
-/// A polynomial's value: the low and the high halves of the products are added up by themselves.
+/// A polynomial's value. Two products with elements fit into 64 bits and are added up first; then the low and the high halves by
+/// themselves.
 fn value(coefficients: &[u32], powers: &[u32]) -> u64 {
+    let term = |coefficient: &u32, power: &u32| u64::from(*coefficient) * u64::from(*power);
+    let (pairs, last) = coefficients.as_chunks::<2>();
     let (mut low, mut high) = (0, 0);
-    for (&coefficient, &power) in coefficients.iter().zip(powers) {
-        let term = u64::from(coefficient) * u64::from(power);
-        low += term & P;
-        high += term >> 31;
+    for ([first, second], [power, next]) in pairs.iter().zip(powers.as_chunks::<2>().0) {
+        let two = term(first, power) + term(second, next);
+        low += two & P;
+        high += two >> 31;
     }
-    reduced(low + high)
+    let rest: u64 = last.iter().zip(&powers[2 * pairs.len()..]).map(|(a, b)| term(a, b)).sum();
+    reduced(low + (rest & P) + high + (rest >> 31))
 }
