@@ -7,20 +7,20 @@ use Rattle.shape.specs.Bounds.{rowCount}
 use Rattle.shape.specs.Marks.{held}
 use Rattle.session.specs.Sessions.{shapeOf, marked}
 use Rattle.session.specs.Rows.{width, sumsAt, rowAt, withRow, summed}
-use Rattle.session.proofs.Lawful.{lawful}
+use Rattle.session.proofs.Lawful.{lawful-by}
 use Rattle.session.proofs.Passed.{row-below}
 use Rattle.session.proofs.Kept.{others-kept, outcome-keeps}
 use Rattle.sums.proofs.Summed.{length-summed}
 use Rattle.linear.specs.Linear.{linearRefusal}
-use Rattle.linear.specs.Table.{linearTable}
 use Rattle.linear.specs.Claims.{LinearLawful, LinearKeepsOthers}
+use Rattle.linear.proofs.Tables.{linear-table}
 use Rattle.linear.proofs.Passed as Passed
 use Rattle.linear.proofs.Passed.{Summed}
 
 pub linear-lawful : LinearLawful
 unfolding linearRefusal
 linear-lawful s rows r a b scale fee =
-    lawful (linearTable s rows r a b scale fee) (omega arith) 0 (marked s r held) s
+    lawful-by (linear-table s rows r a b scale fee) (omega arith) 0 (marked s r held) s
     (withRow (width s) r (summed (sumsAt s) scale fee (rowAt (width s) rows a) (rowAt (width s) rows b)) rows) rows
 
 pub linear-keeps-others : LinearKeepsOthers
