@@ -54,6 +54,6 @@ good w h = ap₂ (λ (a b : Bool). a || b) (ne-eqb w 0 (omega (arith, h .0))) (e
 pub points-mean : PointsMean
 unfolding anyBadPoint
 points-mean = record {
-  points-pass = none-fails badPoint anyBadPoint refl (λ w ws. refl) (λ w. (1 ≤ w) × (w ≤ 2147483646)) in-range good;
-  passes-points = each-passes badPoint anyBadPoint refl (λ w ws. refl) (λ w. (1 ≤ w) × (w ≤ 2147483646)) in-range good;
+  range-passes = none-fails badPoint anyBadPoint refl (λ w ws. refl) (λ w. (1 ≤ w) × (w ≤ 2147483646)) in-range good;
+  passes-range = each-passes badPoint anyBadPoint refl (λ w ws. refl) (λ w. (1 ≤ w) × (w ≤ 2147483646)) in-range good;
 }

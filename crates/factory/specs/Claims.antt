@@ -28,5 +28,5 @@ pub record FactoryLawful : Type 0 where
 
 -- "4: a check point is 0 or at least p", of a list: false exactly where each is 1 to 2147483646.
 pub record PointsMean : Type 0 where
-  pub points-pass : (ws : List ℕ) → ((i : ℕ) → i < length ws → (1 ≤ getD ws i 0) × (getD ws i 0 ≤ 2147483646)) → anyBadPoint ws ≡ false
-  pub passes-points : (ws : List ℕ) → anyBadPoint ws ≡ false → (i : ℕ) → i < length ws → (1 ≤ getD ws i 0) × (getD ws i 0 ≤ 2147483646)
+  pub range-passes : (ws : List ℕ) → ((i : ℕ) → i < length ws → (1 ≤ getD ws i 0) × (getD ws i 0 ≤ 2147483646)) → anyBadPoint ws ≡ false
+  pub passes-range : (ws : List ℕ) → anyBadPoint ws ≡ false → (i : ℕ) → i < length ws → (1 ≤ getD ws i 0) × (getD ws i 0 ≤ 2147483646)

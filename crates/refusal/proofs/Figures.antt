@@ -49,6 +49,6 @@ conditions-mean = record {
   passes-inside = inside;
   length-passes = λ l k e. ap not (eq-eqb (length l) k e);
   passes-length = λ l k. equal (length l) k;
-  elements-pass = none-fails beyond anyBeyond refl (λ x xs. refl) (λ x. x ≤ 2147483646) low (λ x h. element-test x (omega arith));
-  passes-elements = each-passes beyond anyBeyond refl (λ x xs. refl) (λ x. x ≤ 2147483646) low (λ x h. element-test x (omega arith));
+  numbers-pass = none-fails beyond anyBeyond refl (λ x xs. refl) (λ x. x ≤ 2147483646) low (λ x h. element-test x (omega arith));
+  passes-numbers = each-passes beyond anyBeyond refl (λ x xs. refl) (λ x. x ≤ 2147483646) low (λ x h. element-test x (omega arith));
 }

@@ -32,5 +32,5 @@ pub record ConditionsMean : Type 0 where
   pub length-passes : (l : List ℕ) (k : ℕ) → length l ≡ k → wrongLength l k ≡ false
   pub passes-length : (l : List ℕ) (k : ℕ) → wrongLength l k ≡ false → length l ≡ k
   -- 8, of a list: no number is at least p
-  pub elements-pass : (l : List ℕ) → ((i : ℕ) → i < length l → getD l i 0 ≤ 2147483646) → anyBeyond l ≡ false
-  pub passes-elements : (l : List ℕ) → anyBeyond l ≡ false → (i : ℕ) → i < length l → getD l i 0 ≤ 2147483646
+  pub numbers-pass : (l : List ℕ) → ((i : ℕ) → i < length l → getD l i 0 ≤ 2147483646) → anyBeyond l ≡ false
+  pub passes-numbers : (l : List ℕ) → anyBeyond l ≡ false → (i : ℕ) → i < length l → getD l i 0 ≤ 2147483646

@@ -61,7 +61,7 @@ records-each s blocks k (t ∷ us) = ap (λ (l : List Test). recordPair s blocks
 
 -- a term's 8, with the test of its coefficient in figures
 figured : (rest : Term → List Test)
-    → (λ (t : Term). 8 when beyond (t .coefficient) ∷ rest t) ≡ (λ (t : Term). 8 when ltb 2147483646 (t .coefficient) ∷ rest t)
+    → _≡_ {A = Term → List Test} (λ t. 8 when beyond (t .coefficient) ∷ rest t) (λ t. 8 when ltb 2147483646 (t .coefficient) ∷ rest t)
 figured rest = λ j t. 8 when beyond-figures (t .coefficient) j ∷ rest t
 
 module _ (s : Session) (rows : List ℕ) (ts : List Term) where
