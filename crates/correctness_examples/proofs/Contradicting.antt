@@ -65,7 +65,14 @@ by-theorem =
     (record { long = refl; low = refl }) .agreed
     (two-true 1 3 refl (omega arith) (lit≤ tt, lit≤ tt, refl, λ ne. absurd (ne refl)) (lit≤ tt, lit≤ tt, refl, λ ne. (tt, inl (inl refl))))
 
--- and where all are, it is the plain number
+-- it is 13, since a share is off
+off-by-theorem : refusalWith false-low ≡ 13
+unfolding Computes plan drawWith drawn draw dealing
+off-by-theorem =
+    correct plan draw ledger Everyone zeros dealing premises 1 (lit≤ tt) (lit≤ tt) tt .opens 0 false-low refl
+    (record { long = refl; low = refl }) .thirteen (lit≤ tt) .0 refl
+
+-- and where all are true, it is the plain number
 sent-by-theorem : (refusalWith sent-both ≡ 0) × Plain ledger 0 (openAnswer (opener .session) (opener .rows) 0 sent-both .value)
 unfolding Computes plan drawWith drawn draw dealing
 sent-by-theorem =
