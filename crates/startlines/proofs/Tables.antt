@@ -9,6 +9,7 @@ use lib.Dec.{ltb}
 use Rattle.shape.specs.Bounds.{fewestPosts, mostPosts}
 use Rattle.refusal.specs.Refusal.{Test, _when_, first}
 use Rattle.refusal.specs.Conditions.{outside, badPoint}
+use Rattle.refusal.proofs.Figures.{point-figures}
 use Rattle.store.specs.Sizes.{streetPosts}
 use Rattle.startlines.specs.Table.{StartTable}
 
@@ -23,5 +24,6 @@ merged false false false ts h = refl
 
 pub start-table : StartTable
 start-table n t post point =
-    merged (ltb n fewestPosts) (ltb streetPosts n) (ltb mostPosts n) (2 when outside 1 (n - 1) t ∷ 3 when outside 1 n post ∷ 4 when badPoint point ∷ [])
-    (λ e. le-ltb mostPosts n (omega (arith, ltb-false streetPosts n e)))
+    rw (← point-figures point)
+    (merged (ltb n fewestPosts) (ltb streetPosts n) (ltb mostPosts n) (2 when outside 1 (n - 1) t ∷ 3 when outside 1 n post ∷ 4 when badPoint point ∷ [])
+    (λ e. le-ltb mostPosts n (omega (arith, ltb-false streetPosts n e))))

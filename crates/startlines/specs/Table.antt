@@ -3,9 +3,11 @@
 -- tests give the same refusal.
 use Prim.Native.Nat.{ℕ, _-_}
 use mathlib.Core.Path.{_≡_}
+use mathlib.Core.Bool.{_||_}
 use mathlib.Core.List.{List, [], _∷_}
+use lib.Dec.{eqb, ltb}
 use Rattle.refusal.specs.Refusal.{Test, _when_, first}
-use Rattle.refusal.specs.Conditions.{outside, badPoint}
+use Rattle.refusal.specs.Conditions.{outside}
 use Rattle.startlines.specs.Steps.{startTests}
 
 abbrev pub startTable : ℕ → ℕ → ℕ → ℕ → List Test
@@ -13,7 +15,7 @@ startTable n t post point =
     1 when outside 2 32 n
     ∷ 2 when outside 1 (n - 1) t
     ∷ 3 when outside 1 n post
-    ∷ 4 when badPoint point
+    ∷ 4 when (eqb point 0 || ltb 2147483646 point)
     ∷ []
 
 abbrev pub StartTable : Type 0
