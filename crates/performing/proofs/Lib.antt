@@ -5,3 +5,4 @@ pub mod Keeping
 pub mod Spelling
 pub mod Lines
 pub mod Table
+pub mod Starting

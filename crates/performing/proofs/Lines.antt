@@ -41,7 +41,7 @@ or-none : (b : Bool) → b || false ≡ b
 or-none true = refl
 or-none false = refl
 
-above : (x : ℕ) → ltb 2147483646 x ≡ beyond x
+pub above : (x : ℕ) → ltb 2147483646 x ≡ beyond x
 above x = go (ltb x p) refl
   where
     go : (b : Bool) → ltb x p ≡ b → ltb 2147483646 x ≡ not b
