@@ -6,3 +6,4 @@ pub mod Spelling
 pub mod Lines
 pub mod Table
 pub mod Starting
+pub mod TwoLines

@@ -1,35 +1,24 @@
 -- The table of the street program's lines, letter by letter.
-use Prim.Native.Nat.{ℕ, zero, suc, _+_, _*_, _≤_, _<_}
+use Prim.Native.Nat.{ℕ, zero, suc, _≤_, _<_}
 use mathlib.Core.Path.{_≡_, refl, ap, ap₂, sym, _∙_}
 use mathlib.Core.Bool.{Bool, true, false, not, _||_}
 use mathlib.Core.List.{List, [], _∷_}
 use native.Mathlib.Omega.{arith}
-use borrow.Author.Tests.{lt-ltb, le-ltb, eq-eqb, ne-eqb, ltb-true, ltb-false, eqb-true, eqb-false}
+use borrow.Author.Tests.{lt-ltb, le-ltb, ltb-true, ltb-false, eqb-true, eqb-false}
 use lib.Dec.{eqb, ltb}
-use lib.ListN.{length, getD, drop}
+use lib.ListN.{length}
 use Rattle.field.specs.Modulus.{p}
-use Rattle.shape.specs.Bounds.{lastRow, lastTriple}
-use Rattle.shape.specs.Lengths.{vLength}
 use Rattle.refusal.specs.Refusal.{_when_, first, orElse, outcome}
-use Rattle.refusal.specs.Conditions.{outside, beyond, anyBeyond}
+use Rattle.refusal.specs.Conditions.{beyond, anyBeyond}
 use Rattle.refusal.proofs.Elements.{element-test}
 use Rattle.csv.specs.Fields.{written, Parsed, parsed, malformed}
-use Rattle.forms.specs.Forms.{formOf, messageOf, message, beyondRange}
 use Rattle.session.specs.declared.Session.{Session}
-use Rattle.session.specs.Sessions.{shapeOf, answer}
-use Rattle.session.specs.Rows.{width}
+use Rattle.session.specs.Sessions.{answer}
 use Rattle.reading.specs.Numbers.{numberForm, numbers, rowsBeyond, readRefusal}
 use Rattle.states.specs.declared.State.{State}
-use Rattle.states.specs.declared.Stepped.{Stepped}
-use Rattle.states.specs.States.{After, refusing, leaving, unless, sessionRows}
-use Rattle.startlines.specs.Steps.{longestLine}
-use Rattle.loadlines.specs.Steps.{loading, loadStep, loadingTriple, loadTripleStep}
-use Rattle.rowlines.specs.Steps.{adding, linearStep, opening, openStep}
-use Rattle.postlines.specs.Steps.{heardRefusal, heard, keepStep, keepMasksStep, keepHalvesStep, saying, hearStep}
-use Rattle.masklines.specs.Steps.{noMasks, masking, maskingOf, maskStep}
-use Rattle.finishlines.specs.Steps.{finishing, finishStep}
-use Rattle.interpreter.specs.Stepping.{lettersStep, lateStep, step}
-use Rattle.performing.specs.Lines.{TenDigits, Spelled, Range, _to_, anyOutside, lineTable, refusalOf, Letter, noCall, LineTable, StreetTable}
+use Rattle.states.specs.States.{After, refusing, leaving, unless}
+use Rattle.interpreter.specs.Stepping.{lateStep, step}
+use Rattle.performing.specs.Lines.{TenDigits, Spelled, Range, _to_, anyOutside, lineTable, refusalOf, Letter}
 use Rattle.performing.proofs.Spelling.{small, short, form-spells, form-reads, form-other}
 
 -- ---- 11 in figures

@@ -1,11 +1,10 @@
 -- A letter and numbers are written in one way: other numbers have other bytes, and what is read is what is written.
-use Prim.Native.Nat.{ℕ, suc, _+_, _≤_, _<_}
+use Prim.Native.Nat.{ℕ, suc, _+_}
 use mathlib.Core.Path.{_≡_, refl, ap, sym, _∙_}
 use mathlib.Core.List.{List, [], _∷_, _++_, append-assoc}
 use native.Mathlib.Omega.{arith}
 use lib.ListN.{length, getD, drop}
 use lib.Seq.{drop-at}
-use Rattle.decimal.specs.declared.Field.{Field}
 use Rattle.decimal.specs.declared.Field.the-variants.{Number}
 use Rattle.decimal.specs.Numeral.{size, numeral, leading, fieldOf}
 use Rattle.decimal.proofs.Numerals.{length-numeral, numeral-reads}

@@ -4,7 +4,7 @@ use mathlib.Core.Path.{_≡_, refl, ap, sym, subst, _∙_}
 use mathlib.Core.Bool.{Bool, true, false, _&&_, _||_, true≢false, cond}
 use mathlib.Core.List.{List, [], _∷_, _++_, append-assoc}
 use native.Mathlib.Omega.{arith}
-use borrow.Author.Tests.{lt-ltb, le-ltb, eq-eqb, ne-eqb, ltb-true, ltb-false}
+use borrow.Author.Tests.{lt-ltb, le-ltb, eq-eqb, ne-eqb, ltb-false}
 use lib.Dec.{eqb, ltb}
 use lib.ListN.{length, getD, drop, length-append, length-drop}
 use Rattle.refusal.specs.Refusal.{Test, _when_, first, outcome}
@@ -14,20 +14,19 @@ use Rattle.decimal.proofs.Digits.{Digits, digits-are-digits}
 use Rattle.decimal.proofs.Numerals.{length-numeral, numeral-reads}
 use Rattle.decimal.proofs.Sizes.{size-pos, size-le}
 use Rattle.decimal.proofs.Positions.{head-at, drop-past}
-use Rattle.csv.specs.Fields.{fields, written, parsed, malformed, push, fieldsAt, ended, Small}
+use Rattle.csv.specs.Fields.{fields, written, parsed, push, fieldsAt, ended, Small}
 use Rattle.csv.proofs.Reading.{fields-read}
 use Rattle.csv.proofs.Overwriting.{length-fields-le}
 use Rattle.session.specs.declared.Session.{Session}
 use Rattle.session.specs.Sessions.{sessionOf}
-use Rattle.reading.specs.declared.StartForm.{StartForm}
-use Rattle.reading.specs.declared.StartForm.the-variants.{Settings, Wrong}
+use Rattle.reading.specs.declared.StartForm.the-variants.{Settings}
 use Rattle.reading.specs.Starting.{dashAt, behindPosts, startForm, startOf}
 use Rattle.states.specs.declared.State.{State}
 use Rattle.states.specs.States.{After, begunWith, refusing, leaving}
 use Rattle.startlines.specs.Steps.{longestLine, startTests, beginStep, settingsStep, startStep, earlyStep}
 use Rattle.interpreter.specs.Stepping.{lettersStep, lateStep, step}
 use Rattle.performing.specs.Lines.{TenDigits, refusalOf}
-use Rattle.performing.specs.Starting.{dashed, DashIsOne, settingsTable, Begins, StartTable, StreetStarts}
+use Rattle.performing.specs.Starting.{dashed, DashIsOne, settingsTable, Begins, StreetStarts}
 use Rattle.performing.proofs.Heard.{line-short}
 use Rattle.performing.proofs.Spelling.{small}
 use Rattle.performing.proofs.Lines.{above}

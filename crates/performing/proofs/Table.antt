@@ -1,28 +1,24 @@
 -- The table of the street program's lines: each letter's step, and no other letter.
-use Prim.Native.Nat.{ℕ, zero, suc, _+_, _*_, _≤_, _<_}
+use Prim.Native.Nat.{ℕ, zero, suc, _+_, _*_, _≤_}
 use mathlib.Core.Path.{_≡_, refl, ap, ap₂, sym, _∙_}
-use mathlib.Core.Bool.{Bool, true, false, not, _||_}
+use mathlib.Core.Bool.{Bool, true, false}
 use mathlib.Core.List.{List, [], _∷_}
 use native.Mathlib.Omega.{arith}
 use borrow.Author.Tests.{le-ltb, ne-eqb, ltb-true, ltb-false}
-use lib.Dec.{eqb, ltb}
-use lib.ListN.{length, getD, drop}
+use lib.Dec.{ltb}
+use lib.ListN.{length, getD}
 use Rattle.shape.specs.Bounds.{lastRow, lastTriple}
-use Rattle.shape.specs.Lengths.{vLength}
 use Rattle.refusal.specs.Refusal.{_when_, first, orElse, outcome}
-use Rattle.refusal.specs.Conditions.{anyBeyond}
-use Rattle.csv.specs.Fields.{Parsed, parsed, malformed}
+use Rattle.csv.specs.Fields.{parsed, malformed}
 use Rattle.forms.specs.Forms.{formOf, messageOf, beyondRange}
-use Rattle.session.specs.Sessions.{shapeOf}
-use Rattle.session.specs.declared.Answer.{Answer}
 use Rattle.product_masks.specs.Masks.{masksRefusal, masksAnswer, maskNumbersOf}
-use Rattle.collect.specs.Collect.{collectRefusal, collectAnswer}
-use Rattle.multiply.specs.Multiply.{multiplyRefusal, multiplyAnswer}
+use Rattle.collect.specs.Collect.{collectRefusal}
+use Rattle.multiply.specs.Multiply.{multiplyRefusal}
 use Rattle.store.specs.Sizes.{masksAAt, masksBAt}
-use Rattle.reading.specs.Numbers.{numberForm, numbers, readRefusal}
+use Rattle.reading.specs.Numbers.{numberForm}
 use Rattle.states.specs.declared.State.{State}
 use Rattle.states.specs.declared.Stepped.{Stepped}
-use Rattle.states.specs.States.{After, answering, telling, refusing, leaving, unless, sessionRows}
+use Rattle.states.specs.States.{After, answering, telling, refusing, leaving, sessionRows}
 use Rattle.startlines.specs.Steps.{longestLine}
 use Rattle.loadlines.specs.Steps.{loading, loadStep, loadingTriple, loadTripleStep}
 use Rattle.rowlines.specs.Steps.{adding, linearStep, opening, openStep}
@@ -30,7 +26,7 @@ use Rattle.postlines.specs.Steps.{heardRefusal, heard, keepStep, keepMasksStep,
 use Rattle.masklines.specs.Steps.{maskLine, noMasks, masking, maskingOf, maskStep}
 use Rattle.finishlines.specs.Steps.{masksFor, between, pairRefusal, finishing, finishStep}
 use Rattle.interpreter.specs.Stepping.{lettersStep, lateStep, step}
-use Rattle.performing.specs.Lines.{Range, _to_, anyOutside, refusalOf, Letter, dealCall, loadCall, tripleCall, openCall, linearCall, masksCall, finishCall, noCall, LineTable, StreetTable}
+use Rattle.performing.specs.Lines.{Range, _to_, anyOutside, refusalOf, Letter, dealCall, loadCall, tripleCall, openCall, linearCall, masksCall, finishCall, noCall, StreetTable}
 use Rattle.performing.proofs.Lines.{elements-outside, letter-of, unless-refusal, answer-refusal, over, numbers-letter}
 
 told-refusal : (x : ℕ) (v : Stepped) (store line : List ℕ)
@@ -38,11 +34,6 @@ told-refusal : (x : ℕ) (v : Stepped) (store line : List ℕ)
 unfolding outcome
 told-refusal zero v store line = refl
 told-refusal (suc x) v store line = refl
-
--- the second number of a line
-second : (xs : List ℕ) → getD (drop 1 xs) 0 0 ≡ getD xs 1 0
-second [] = refl
-second (x ∷ xs) = refl
 
 module _ (st : State) (store : List ℕ) (started : st .started ≡ true) where
   -- ---- lines of numbers

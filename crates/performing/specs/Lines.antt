@@ -2,7 +2,7 @@
 -- any other letter and any line over 1,061 bytes with its line feed" (document 02, (iii): 3,173). "A line's form is looked at first: .. other
 -- lines get 10, then 11, then what the call answers." Bounds and counts are figures, not the names of `shape`, `store` and `startlines`.
 -- Proved in proofs/Lines.antt.
-use Prim.Native.Nat.{ℕ, _+_, _*_, _≤_, _<_}
+use Prim.Native.Nat.{ℕ, _+_, _*_, _<_}
 use mathlib.Core.Path.{_≡_}
 use mathlib.Core.Bool.{Bool, true, false, not, _||_}
 use mathlib.Core.List.{List, [], _∷_}
@@ -21,7 +21,7 @@ use Rattle.multiply.specs.Multiply.{multiplyAnswer}
 use Rattle.store.specs.Sizes.{openingsAt, masksAAt, masksBAt}
 use Rattle.states.specs.declared.State.{State}
 use Rattle.states.specs.States.{sessionRows}
-use Rattle.interpreter.specs.Stepping.{step, Ready}
+use Rattle.interpreter.specs.Stepping.{step}
 use Rattle.performing.specs.Claims.{recordFor}
 
 -- "A number has 1 to 10 digits".

@@ -45,10 +45,10 @@ pub record KeptFor (st : State) (row triple : ℕ) (a : After) : Type 0 where
   pub quiet : Quiet a
 
 -- What an `O` or an `M` of a post may say.
-pub record FromPost (st : State) (post : ℕ) (xs : List ℕ) : Type 0 where
+pub record FromPost (own : Session) (post : ℕ) (xs : List ℕ) : Type 0 where
   pub low : 1 ≤ post
-  pub high : post ≤ st .session .n
-  pub long : length xs ≡ st .session .t + 1
+  pub high : post ≤ own .n
+  pub long : length xs ≡ own .t + 1
   pub elements : Elements xs
 
 -- The record that a line finds at a place: as it was, where it is kept for what the line names, else empty.
@@ -95,10 +95,10 @@ module _ (st : State) (store : List ℕ) where
 
   pub record OneLine : Type 0 where
     -- "one for another row empties the record first"
-    pub opening : (row post : ℕ) (xs blocks : List ℕ) → row ≤ 95 → FromPost st post xs → Finds st store openingsAt (st .kept) row blocks
+    pub opening : (row post : ℕ) (xs blocks : List ℕ) → row ≤ 95 → FromPost own post xs → Finds st store openingsAt (st .kept) row blocks
         → (let a = openingLine st store row post xs in
         KeptFor st row (st .triple) a × Stored st store (putInto st blocks post xs) (recordOf st masksAAt store) (recordOf st masksBAt store) a)
-    pub masks : (first post : ℕ) (xs ys blocksA blocksB : List ℕ) → first ≤ 93 → FromPost st post xs → FromPost st post ys
+    pub masks : (first post : ℕ) (xs ys blocksA blocksB : List ℕ) → first ≤ 93 → FromPost own post xs → FromPost own post ys
         → Finds st store masksAAt (st .triple) first blocksA → Finds st store masksBAt (st .triple) first blocksB
         → (let a = masksLine st store first post xs ys in
         KeptFor st (st .kept) first a
@@ -114,9 +114,9 @@ module _ (st : State) (store : List ℕ) where
     pub open-same : Opens own rows (a .given .state) (a .store) row (putInto st blocks post xs) (openLine (a .given .state) (a .store) row)
     pub open-other : (row' : ℕ) → row' ≤ 95 → (row ≡ row' → ⊥)
         → Opens own rows (a .given .state) (a .store) row' (noBlocks st) (openLine (a .given .state) (a .store) row')
-    pub opening-same : (post' : ℕ) (xs' : List ℕ) → FromPost st post' xs'
+    pub opening-same : (post' : ℕ) (xs' : List ℕ) → FromPost own post' xs'
         → recordOf st openingsAt (openingLine (a .given .state) (a .store) row post' xs' .store) ≡ putInto st (putInto st blocks post xs) post' xs'
-    pub opening-other : (row' post' : ℕ) (xs' : List ℕ) → row' ≤ 95 → (row ≡ row' → ⊥) → FromPost st post' xs'
+    pub opening-other : (row' post' : ℕ) (xs' : List ℕ) → row' ≤ 95 → (row ≡ row' → ⊥) → FromPost own post' xs'
         → recordOf st openingsAt (openingLine (a .given .state) (a .store) row' post' xs' .store) ≡ putInto st (noBlocks st) post' xs'
 
   -- and an accepted `M`
@@ -125,19 +125,19 @@ module _ (st : State) (store : List ℕ) where
         (finishLine (a .given .state) (a .store) first)
     pub finish-other : (first' : ℕ) → first' ≤ 93 → (first ≡ first' → ⊥)
         → FinishesWith own rows (a .given .state) (a .store) first' (noBlocks st) (noBlocks st) (finishLine (a .given .state) (a .store) first')
-    pub masks-same : (post' : ℕ) (xs' ys' : List ℕ) → FromPost st post' xs' → FromPost st post' ys'
+    pub masks-same : (post' : ℕ) (xs' ys' : List ℕ) → FromPost own post' xs' → FromPost own post' ys'
         → (let b = masksLine (a .given .state) (a .store) first post' xs' ys' in
         (recordOf st masksAAt (b .store) ≡ putInto st (putInto st blocksA post xs) post' xs')
         × (recordOf st masksBAt (b .store) ≡ putInto st (putInto st blocksB post ys) post' ys'))
-    pub masks-other : (first' post' : ℕ) (xs' ys' : List ℕ) → first' ≤ 93 → (first ≡ first' → ⊥) → FromPost st post' xs' → FromPost st post' ys'
+    pub masks-other : (first' post' : ℕ) (xs' ys' : List ℕ) → first' ≤ 93 → (first ≡ first' → ⊥) → FromPost own post' xs' → FromPost own post' ys'
         → (let b = masksLine (a .given .state) (a .store) first' post' xs' ys' in
         (recordOf st masksAAt (b .store) ≡ putInto st (noBlocks st) post' xs')
         × (recordOf st masksBAt (b .store) ≡ putInto st (noBlocks st) post' ys'))
 
   pub record TwoLines : Type 0 where
-    pub opening : (row post : ℕ) (xs blocks : List ℕ) → row ≤ 95 → FromPost st post xs → Finds st store openingsAt (st .kept) row blocks
+    pub opening : (row post : ℕ) (xs blocks : List ℕ) → row ≤ 95 → FromPost own post xs → Finds st store openingsAt (st .kept) row blocks
         → BehindOpening row post xs blocks (openingLine st store row post xs)
-    pub masks : (first post : ℕ) (xs ys blocksA blocksB : List ℕ) → first ≤ 93 → FromPost st post xs → FromPost st post ys
+    pub masks : (first post : ℕ) (xs ys blocksA blocksB : List ℕ) → first ≤ 93 → FromPost own post xs → FromPost own post ys
         → Finds st store masksAAt (st .triple) first blocksA → Finds st store masksBAt (st .triple) first blocksB
         → BehindMasks first post xs ys blocksA blocksB (masksLine st store first post xs ys)
 
