@@ -196,7 +196,8 @@ module _ (st : State) (store : List ℕ) (e : st .started ≡ false) (n t post p
   tests-table : first (startTests n t post point) ≡ first (settingsTable n t post point)
   tests-table =
       rw (above point)
-      (merged (ltb n 2) (ltb 32 n) (ltb 255 n) (2 when outside 1 (n - 1) t ∷ 3 when outside 1 n post ∷ 4 when badPoint point ∷ []) (λ q. le-ltb 255 n (omega (arith, ltb-false 32 n q))))
+      (merged (ltb n 2) (ltb 32 n) (ltb 255 n) (2 when outside 1 (n - 1) t ∷ 3 when outside 1 n post ∷ 4 when badPoint point ∷ [])
+      (λ q. le-ltb 255 n (omega (arith, ltb-false 32 n q))))
 
   begin-refusal : (x : ℕ) (s : Session) → outcome x (refusing (begunWith st s) 0) (refusing st x) .refusal ≡ x
   unfolding outcome

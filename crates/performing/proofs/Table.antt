@@ -4,10 +4,11 @@ use mathlib.Core.Path.{_≡_, refl, ap, ap₂, sym, _∙_}
 use mathlib.Core.Bool.{Bool, true, false}
 use mathlib.Core.List.{List, [], _∷_}
 use native.Mathlib.Omega.{arith}
-use borrow.Author.Tests.{le-ltb, ne-eqb, ltb-true, ltb-false}
-use lib.Dec.{ltb}
+use borrow.Author.Tests.{le-ltb, ltb-true, ltb-false}
+use lib.Dec.{eqb, ltb}
 use lib.ListN.{length, getD}
 use Rattle.shape.specs.Bounds.{lastRow, lastTriple}
+use Rattle.refusal.proofs.Laws.{or-false}
 use Rattle.refusal.specs.Refusal.{_when_, first, orElse, outcome}
 use Rattle.csv.specs.Fields.{parsed, malformed}
 use Rattle.forms.specs.Forms.{formOf, messageOf, beyondRange}
@@ -26,7 +27,7 @@ use Rattle.postlines.specs.Steps.{heardRefusal, heard, keepStep, keepMasksStep,
 use Rattle.masklines.specs.Steps.{maskLine, noMasks, masking, maskingOf, maskStep}
 use Rattle.finishlines.specs.Steps.{masksFor, between, pairRefusal, finishing, finishStep}
 use Rattle.interpreter.specs.Stepping.{lettersStep, lateStep, step}
-use Rattle.performing.specs.Lines.{Range, _to_, anyOutside, refusalOf, Letter, dealCall, loadCall, tripleCall, openCall, linearCall, masksCall, finishCall, noCall, StreetTable}
+use Rattle.performing.specs.Lines.{letters, isOneOf, Range, _to_, anyOutside, refusalOf, Letter, dealCall, loadCall, tripleCall, openCall, linearCall, masksCall, finishCall, noCall, StreetTable}
 use Rattle.performing.proofs.Lines.{elements-outside, letter-of, unless-refusal, answer-refusal, over, numbers-letter}
 
 told-refusal : (x : ℕ) (v : Stepped) (store line : List ℕ)
@@ -232,42 +233,34 @@ module _ (st : State) (store : List ℕ) (started : st .started ≡ true) where
       range (x ∷ y ∷ ys) e = masks-range x y ys
 
   -- ---- no other letter
-  other-step : (s : List ℕ) → (getD s 0 0 ≡ 82 → ⊥) → (getD s 0 0 ≡ 84 → ⊥) → (getD s 0 0 ≡ 68 → ⊥) → (getD s 0 0 ≡ 79 → ⊥) → (getD s 0 0 ≡ 77 → ⊥)
-      → (getD s 0 0 ≡ 71 → ⊥) → (getD s 0 0 ≡ 76 → ⊥) → (getD s 0 0 ≡ 88 → ⊥) → (getD s 0 0 ≡ 70 → ⊥) → length s ≤ 3173
-      → step st store s ≡ leaving (refusing st 10) store
+  other-step : (s : List ℕ) → isOneOf letters (getD s 0 0) ≡ false → length s ≤ 3173 → step st store s ≡ leaving (refusing st 10) store
   unfolding step lateStep lettersStep
-  other-step s a b c d e f g h i l =
+  other-step s n l =
       let x = getD s 0 0 in
-      rw (
-        started,
-        le-ltb longestLine (length s) l,
-        ne-eqb x 88 h,
-        ne-eqb x 82 a,
-        ne-eqb x 84 b,
-        ne-eqb x 71 f,
-        ne-eqb x 76 g,
-        ne-eqb x 70 i,
-        ne-eqb x 68 c,
-        ne-eqb x 79 d,
-        ne-eqb x 77 e,
-      )
+      let r = or-false (eqb x 82) _ n in
+      let t = or-false (eqb x 84) _ (r .1) in
+      let d = or-false (eqb x 68) _ (t .1) in
+      let o = or-false (eqb x 79) _ (d .1) in
+      let m = or-false (eqb x 77) _ (o .1) in
+      let g = or-false (eqb x 71) _ (m .1) in
+      let f = or-false (eqb x 76) _ (g .1) in
+      let e = or-false (eqb x 88) _ (f .1) in
+      let i = or-false (eqb x 70) false (e .1) in
+      rw (started, le-ltb longestLine (length s) l, e .0, r .0, t .0, g .0, f .0, i .0, d .0, o .0, m .0)
 
-  other : (s : List ℕ) → (getD s 0 0 ≡ 82 → ⊥) → (getD s 0 0 ≡ 84 → ⊥) → (getD s 0 0 ≡ 68 → ⊥) → (getD s 0 0 ≡ 79 → ⊥) → (getD s 0 0 ≡ 77 → ⊥)
-      → (getD s 0 0 ≡ 71 → ⊥) → (getD s 0 0 ≡ 76 → ⊥) → (getD s 0 0 ≡ 88 → ⊥) → (getD s 0 0 ≡ 70 → ⊥) → refusalOf st store s ≡ 10
-  other s a b c d e f g h i = go (ltb 3173 (length s)) refl
+  other : (s : List ℕ) → isOneOf letters (getD s 0 0) ≡ false → refusalOf st store s ≡ 10
+  other s n = go (ltb 3173 (length s)) refl
     where
       go : (x : Bool) → ltb 3173 (length s) ≡ x → refusalOf st store s ≡ 10
       go true q = over st store started s (ltb-true 3173 (length s) q)
-      go false q = ap (λ (v : After). v .given .refusal) (other-step s a b c d e f g h i (ltb-false 3173 (length s) q))
+      go false q = ap (λ (v : After). v .given .refusal) (other-step s n (ltb-false 3173 (length s) q))
 
 pub street-table : StreetTable
 street-table st store started =
     record {
       overlong = over st store started;
-      second-start =
-          λ rest. other st store started (83 ∷ rest) (λ e. omega arith) (λ e. omega arith) (λ e. omega arith) (λ e. omega arith) (λ e. omega arith) (λ e. omega arith) (λ e. omega arith) (λ e. omega arith) (λ e. omega arith);
-      no-letter =
-          other st store started [] (λ e. omega arith) (λ e. omega arith) (λ e. omega arith) (λ e. omega arith) (λ e. omega arith) (λ e. omega arith) (λ e. omega arith) (λ e. omega arith) (λ e. omega arith);
+      second-start = λ rest. other st store started (83 ∷ rest) refl;
+      no-letter = other st store started [] refl;
       other-letter = λ b rest. other st store started (b ∷ rest);
       load = load-letter st store started;
       triple = triple-letter st store started;

@@ -53,6 +53,14 @@ lineTable letter count ranges xs =
     ∷ 11 when anyOutside ranges xs
     ∷ []
 
+-- `R`, `T`, `D`, `O`, `M`, `G`, `L`, `X` and `F`; 83 is `S`.
+abbrev pub letters : List ℕ
+letters = 82 ∷ 84 ∷ 68 ∷ 79 ∷ 77 ∷ 71 ∷ 76 ∷ 88 ∷ 70 ∷ []
+
+abbrev pub isOneOf : List ℕ → ℕ → Bool
+isOneOf [] b = false
+isOneOf (x ∷ xs) b = eqb b x || isOneOf xs b
+
 module _ (st : State) (store : List ℕ) where
   abbrev pub refusalOf : List ℕ → ℕ
   refusalOf s = step st store s .given .refusal
@@ -105,13 +113,12 @@ module _ (st : State) (store : List ℕ) where
   abbrev pub noCall : List ℕ → ℕ
   noCall xs = 0
 
-  -- ---- the table. 82, 84, 68, 79, 77, 71, 76, 88, 70 are `R`, `T`, `D`, `O`, `M`, `G`, `L`, `X`, `F`, and 83 is `S`.
+  -- ---- the table
   pub record LineTable : Type 0 where
     pub overlong : (s : List ℕ) → 3173 < length s → refusalOf s ≡ 10
     pub second-start : (rest : List ℕ) → refusalOf (83 ∷ rest) ≡ 10
     pub no-letter : refusalOf [] ≡ 10
-    pub other-letter : (b : ℕ) (rest : List ℕ) → (b ≡ 82 → ⊥) → (b ≡ 84 → ⊥) → (b ≡ 68 → ⊥) → (b ≡ 79 → ⊥) → (b ≡ 77 → ⊥) → (b ≡ 71 → ⊥)
-        → (b ≡ 76 → ⊥) → (b ≡ 88 → ⊥) → (b ≡ 70 → ⊥) → refusalOf (b ∷ rest) ≡ 10
+    pub other-letter : (b : ℕ) (rest : List ℕ) → isOneOf letters b ≡ false → refusalOf (b ∷ rest) ≡ 10
     -- "`R,row,` and a raw row's numbers", "t+1+2n elements"
     pub load : Letter 82 (1 + (t + 1 + 2 * n)) (0 to 95 ∷ []) loadCall
     -- "`T,first,` and a triple's three rows of numbers"
