@@ -164,8 +164,11 @@ module _ (st : State) (i : InStreet (shapeOf (st .session))) where
             },
           )
 
+      pub opening-is : step st store (written 79 (row ∷ post ∷ xs)) ≡ keepStep st store row post xs
+      opening-is = opening-letter ∙ hears (opening row post xs) sent-opening
+
       pub opening-done : OpeningDone (step st store (written 79 (row ∷ post ∷ xs)))
-      opening-done = subst OpeningDone (sym (opening-letter ∙ hears (opening row post xs) sent-opening)) opening-kept
+      opening-done = subst OpeningDone (sym opening-is) opening-kept
 
     -- each half to its own record
     module _ (first : ℕ) (xs ys : List ℕ) (named : first ≤ lastTriple) (long : length xs ≡ vLength (shapeOf (st .session)))
@@ -235,9 +238,15 @@ module _ (st : State) (i : InStreet (shapeOf (st .session))) where
             },
           )
 
+      pub masks-is : step st store (written 77 (first ∷ post ∷ (xs ++ ys))) ≡ keepMasksStep st store first post xs ys
+      masks-is = masks-letter ∙ hears (masks first post (xs ++ ys)) sent-masks ∙ masks-halves
+
+      -- the store keeps its length
+      pub masks-room : length (kept masksBAt (shapeOf (st .session)) same post ys half) ≡ storeRoom
+      masks-room = kept-length half half-room masksBAt (omega arith) same post low high ys long' elements'
+
       pub masks-done : MasksDone (step st store (written 77 (first ∷ post ∷ (xs ++ ys))))
-      masks-done =
-          subst MasksDone (sym (masks-letter ∙ hears (masks first post (xs ++ ys)) sent-masks ∙ masks-halves)) masks-kept
+      masks-done = subst MasksDone (sym masks-is) masks-kept
 
 pub street-keeps : StreetKeeps
 street-keeps st store started ready =

@@ -1,2 +1,5 @@
 pub mod Claims
 pub mod Records
+pub mod Lines
+pub mod Starting
+pub mod TwoLines

@@ -1,0 +1,25 @@
+-- The text of an answer: two by computing, and its order.
+use Prim.Native.Nat.{ℕ}
+use mathlib.Core.Path.{_≡_, refl, ap}
+use mathlib.Core.List.{List, [], _++_, append-assoc}
+use lib.ListN.{take}
+use Rattle.decimal.specs.Numeral.{numeral, lastDigits, sizeWithin}
+use Rattle.csv.specs.Fields.{fields}
+use Rattle.answers.specs.Text.{longNumeral, answerText}
+use Rattle.answers.specs.Claims.{threeDigits, AnswerTexts}
+
+in-order : (number refusal value : ℕ) → answerText number refusal value ≡ threeDigits (longNumeral number) (numeral refusal) (numeral value)
+unfolding fields
+in-order number refusal value = simp append-assoc
+
+pub answer-texts : AnswerTexts
+unfolding lastDigits sizeWithin fields
+answer-texts =
+    record {
+      opened = refl;
+      refused = refl;
+      largest = refl;
+      order = in-order;
+      printed = λ number refusal value told. ap (λ (l : List ℕ). l ++ told) (in-order number refusal value);
+      stepped = λ number v text. ap (λ (l : List ℕ). l ++ take (v .told) text) (in-order number (v .refusal) (v .value));
+    }
