@@ -5,5 +5,6 @@ pub mod Keeping
 pub mod Spelling
 pub mod Lines
 pub mod Table
+pub mod StartText
 pub mod Starting
 pub mod TwoLines

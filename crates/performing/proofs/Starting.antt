@@ -4,7 +4,7 @@ use mathlib.Core.Path.{_≡_, refl, ap, sym, subst, _∙_}
 use mathlib.Core.Bool.{Bool, true, false, _&&_, _||_, true≢false, cond}
 use mathlib.Core.List.{List, [], _∷_, _++_, append-assoc}
 use native.Mathlib.Omega.{arith}
-use borrow.Author.Tests.{lt-ltb, le-ltb, eq-eqb, ne-eqb, ltb-false}
+use borrow.Author.Tests.{lt-ltb, le-ltb, eq-eqb, ne-eqb, ltb-true, ltb-false}
 use lib.Dec.{eqb, ltb}
 use lib.ListN.{length, getD, drop, length-append, length-drop}
 use Rattle.refusal.specs.Refusal.{Test, _when_, first, outcome}
@@ -14,7 +14,7 @@ use Rattle.decimal.proofs.Digits.{Digits, digits-are-digits}
 use Rattle.decimal.proofs.Numerals.{length-numeral, numeral-reads}
 use Rattle.decimal.proofs.Sizes.{size-pos, size-le}
 use Rattle.decimal.proofs.Positions.{head-at, drop-past}
-use Rattle.csv.specs.Fields.{fields, written, parsed, push, fieldsAt, ended, Small}
+use Rattle.csv.specs.Fields.{fields, written, Parsed, parsed, malformed, push, fieldsAt, ended, Small}
 use Rattle.csv.proofs.Reading.{fields-read}
 use Rattle.csv.proofs.Overwriting.{length-fields-le}
 use Rattle.session.specs.declared.Session.{Session}
@@ -26,15 +26,13 @@ use Rattle.states.specs.States.{After, begunWith, refusing, leaving}
 use Rattle.startlines.specs.Steps.{longestLine, startTests, beginStep, settingsStep, startStep, earlyStep}
 use Rattle.interpreter.specs.Stepping.{lettersStep, lateStep, step}
 use Rattle.performing.specs.Lines.{TenDigits, refusalOf}
-use Rattle.performing.specs.Starting.{dashed, DashIsOne, settingsTable, Begins, StreetStarts}
+use Rattle.performing.specs.Starting.{dashed, DashIsOne, settingsTable, Begins, StartText, StreetStarts}
 use Rattle.performing.proofs.Heard.{line-short}
 use Rattle.performing.proofs.Spelling.{small}
+use Rattle.performing.proofs.StartText.{feed, line, figure-line, dash-line, start-spells}
 use Rattle.performing.proofs.Lines.{above}
 
 -- ---- fields that end a line
-abbrev feed : List ℕ → List ℕ
-feed xs = fields xs ++ (10 ∷ [])
-
 module _ (xs s : List ℕ) (at : ℕ) (h : Small xs) (e : drop at s ≡ feed xs) where
   abbrev end : ℕ
   end = at + length (fields xs)
@@ -54,9 +52,6 @@ no-digit [] = refl
 no-digit (y ∷ ys) = refl
 
 -- ---- n, the first field
-abbrev line : ℕ → List ℕ → List ℕ
-line n tail = 83 ∷ 44 ∷ (numeral n ++ tail)
-
 at-tail : (n : ℕ) (tail : List ℕ) → drop (2 + size n) (line n tail) ≡ tail
 at-tail n tail = drop-past (line n tail) 2 (size n) (numeral n) tail refl (length-numeral n)
 
@@ -107,15 +102,6 @@ module _ (n post point : ℕ) (h : TenDigits (n ∷ post ∷ point ∷ [])) wher
       let dash : getD s (at + 1) 0 ≡ 45 = head-at s (at + 1) ∙ ap (λ (l : List ℕ). getD l 0 0) e₁ in
       let e₂ : drop (at + 2) s ≡ feed own = drop-past s at 2 (44 ∷ 45 ∷ []) (feed own) e refl in
       rw (posts-read n (44 ∷ 45 ∷ feed own) (h .0) refl, comma, dash, last-fields own s (at + 2) (small own (h .1)) e₂)
-
-  -- the bytes of the two lines
-  figure-line : (t : ℕ) → written 83 (n ∷ t ∷ own) ≡ line n (feed (t ∷ own))
-  unfolding fields
-  figure-line t = ap (λ (l : List ℕ). 83 ∷ 44 ∷ l) (append-assoc (numeral n) (fields (t ∷ own)) (10 ∷ []))
-
-  dash-line : dashed n post point ≡ line n (44 ∷ 45 ∷ feed own)
-  unfolding fields
-  dash-line = simp append-assoc
 
   dash-short : length (line n (44 ∷ 45 ∷ feed own)) ≤ 3173
   dash-short =
@@ -182,7 +168,7 @@ module _ (st : State) (store : List ℕ) (e : st .started ≡ false) (n t post p
       let g : TenDigits (n ∷ post ∷ point ∷ []) = (h .0, h .1 .1) in
       early st store e _ (line-short 83 (n ∷ t ∷ post ∷ point ∷ []) (omega arith))
       ∙ ap (λ v. leaving (settingsStep st v) store)
-      (ap (λ (l : List ℕ). startOf (startForm l)) (figure-line n post point g t) ∙ figure-read n post point g t (h .1 .0))
+      (ap (λ (l : List ℕ). startOf (startForm l)) (figure-line n (t ∷ post ∷ point ∷ [])) ∙ figure-read n post point g t (h .1 .0))
 
   -- the library's upper bound says nothing more where the program's has passed
   merged : (few many more : Bool) (ts : List Test) → (many ≡ false → more ≡ false)
@@ -225,6 +211,17 @@ module _ (st : State) (store : List ℕ) (e : st .started ≡ false) (n t post p
         quiet = record { told = refl; told-none = refl };
       })
 
+-- no other bytes
+module _ (st : State) (store : List ℕ) (e : st .started ≡ false) (rest : List ℕ) (n : refusalOf st store (83 ∷ 44 ∷ rest) ≡ 10 → ⊥) where
+  start-form : (o : Parsed) → length (83 ∷ 44 ∷ rest) ≤ 3173 → startForm (83 ∷ 44 ∷ rest) ≡ o → StartText (83 ∷ 44 ∷ rest)
+  start-form malformed l f =
+      absurd (n (refusal-is st store _ 10 (early st store e rest l ∙ ap (λ o. leaving (settingsStep st (startOf o)) store) f)))
+  start-form (parsed xs next) l f = start-spells rest xs next f
+
+  start-text : (b : Bool) → ltb 3173 (length (83 ∷ 44 ∷ rest)) ≡ b → StartText (83 ∷ 44 ∷ rest)
+  start-text true q = absurd (n (refusal-is st store _ 10 (early-long st store e rest (ltb-true 3173 (length (83 ∷ 44 ∷ rest)) q))))
+  start-text false q = start-form (startForm (83 ∷ 44 ∷ rest)) (ltb-false 3173 (length (83 ∷ 44 ∷ rest)) q) refl
+
 pub street-starts : StreetStarts
 street-starts st store e =
     record {
@@ -234,6 +231,7 @@ street-starts st store e =
       bare = refusal-is st store (83 ∷ []) 10 (early-bare st store e);
       no-fields = λ rest. refusal-is st store (83 ∷ 10 ∷ rest) 10 (early-feed st store e rest);
       overlong = λ rest h. refusal-is st store (83 ∷ 44 ∷ rest) 10 (early-long st store e rest (omega arith));
+      spelled = λ rest n. start-text st store e rest n (ltb 3173 (length (83 ∷ 44 ∷ rest))) refl;
       settings = settings-refusal st store e;
       begins = begins st store e;
     }
@@ -246,11 +244,11 @@ dash-is-one st store n post point h = go (st .started) refl
     own = post ∷ point ∷ []
 
     figure-short : length (line n (feed (1 ∷ own))) ≤ 3173
-    figure-short = subst (λ (l : List ℕ). length l ≤ 3173) (figure-line n post point h 1) (line-short 83 (n ∷ 1 ∷ own) (omega arith))
+    figure-short = subst (λ (l : List ℕ). length l ≤ 3173) (figure-line n (1 ∷ own)) (line-short 83 (n ∷ 1 ∷ own) (omega arith))
 
     go : (b : Bool) → st .started ≡ b → step st store (dashed n post point) ≡ step st store (written 83 (n ∷ 1 ∷ own))
     go true e = late st store _ e ∙ sym (late st store _ e)
     go false e =
-        ap (step st store) (dash-line n post point h) ∙ early st store e _ (dash-short n post point h)
+        ap (step st store) (dash-line n post point) ∙ early st store e _ (dash-short n post point h)
         ∙ ap (λ v. leaving (settingsStep st v) store) (dash-read n post point h ∙ sym (figure-read n post point h 1 (omega arith)))
-        ∙ sym (early st store e _ figure-short) ∙ ap (step st store) (sym (figure-line n post point h 1))
+        ∙ sym (early st store e _ figure-short) ∙ ap (step st store) (sym (figure-line n (1 ∷ own)))

@@ -47,9 +47,9 @@ module _ (st : State) (store : List ℕ) (started : st .started ≡ true) (ready
   street = ready .in-range started
 
   -- the record that a line finds
-  found : (at kept named : ℕ) (blocks : List ℕ) → at + recordRoom ≤ storeRoom → Finds st store at kept named blocks
-      → blocks ≡ recordFor st store at kept named
-  found at kept named blocks place f = go (eqb kept named) refl
+  found : (at last named : ℕ) (blocks : List ℕ) → at + recordRoom ≤ storeRoom → Finds st store at last named blocks
+      → blocks ≡ recordFor st store at last named
+  found at last named blocks place f = go (eqb last named) refl
     where
       long : length (recordOf st at store) ≡ own .n * (own .t + 2)
       long =
@@ -57,9 +57,9 @@ module _ (st : State) (store : List ℕ) (started : st .started ≡ true) (ready
           length-take-le (recordLength (shapeOf own)) (drop at store) (omega (arith, record-room (shapeOf own) street, length-drop at store, ready .store-room))
           ∙ ap (λ (j : ℕ). own .n * j) k
 
-      go : (b : Bool) → eqb kept named ≡ b → blocks ≡ recordIf b (recordOf st at store)
-      go true e = f .same (eqb-true kept named e)
-      go false e = f .other (eqb-false kept named e) ∙ ap (λ (j : ℕ). replicate j 0) (sym long)
+      go : (b : Bool) → eqb last named ≡ b → blocks ≡ recordIf b (recordOf st at store)
+      go true e = f .same (eqb-true last named e)
+      go false e = f .other (eqb-false last named e) ∙ ap (λ (j : ℕ). replicate j 0) (sym long)
 
   -- ---- `G` and `F`
   opened : (row : ℕ) (blocks : List ℕ) → row ≤ 95 → Finds st store openingsAt (st .kept) row blocks

@@ -48,6 +48,11 @@ pub record Begins (st : State) (store : List ℕ) (n t post point : ℕ) (a : Af
   pub value : a .given .value ≡ 0
   pub quiet : Quiet a
 
+-- The bytes of an `S`: four numbers, or a dash for the second.
+pub data StartText (s : List ℕ) : Type 0 where
+  figures : (n t post point : ℕ) → TenDigits (n ∷ t ∷ post ∷ point ∷ []) → s ≡ written 83 (n ∷ t ∷ post ∷ point ∷ []) → StartText s
+  with-dash : (n post point : ℕ) → TenDigits (n ∷ post ∷ point ∷ []) → s ≡ dashed n post point → StartText s
+
 module _ (st : State) (store : List ℕ) where
   pub record StartTable : Type 0 where
     -- 1: the first field is no `S`, or longer than one
@@ -58,6 +63,8 @@ module _ (st : State) (store : List ℕ) where
     pub bare : refusalOf st store (83 ∷ []) ≡ 10
     pub no-fields : (rest : List ℕ) → refusalOf st store (83 ∷ 10 ∷ rest) ≡ 10
     pub overlong : (rest : List ℕ) → 3171 < length rest → refusalOf st store (83 ∷ 44 ∷ rest) ≡ 10
+    -- bytes of any other form get 10
+    pub spelled : (rest : List ℕ) → (refusalOf st store (83 ∷ 44 ∷ rest) ≡ 10 → ⊥) → StartText (83 ∷ 44 ∷ rest)
     -- 1 to 4
     pub settings : (n t post point : ℕ) → TenDigits (n ∷ t ∷ post ∷ point ∷ [])
         → refusalOf st store (written 83 (n ∷ t ∷ post ∷ point ∷ [])) ≡ first (settingsTable n t post point)
