@@ -7,11 +7,13 @@ pub mod Relations
 pub mod Moves
 pub mod Entered
 pub mod State
+pub mod Dealings
 pub mod Broadcasts
 pub mod Advance
 pub mod Pair
 pub mod Answers
 pub mod Alike
+pub mod OneCall
 pub mod Together
 pub mod Onward
 pub mod Reckoned
@@ -26,6 +28,7 @@ pub mod Tests
 pub mod Selections
 pub mod Listed
 pub mod Counts
+pub mod Matched
 pub mod Theorems
 pub mod Thirteen
 pub mod Thirteens

@@ -17,7 +17,7 @@ module _ (plan : Plan) (draw : Draw) (u : Secrets) where
   numberAt nothingTaken x = 0
   numberAt (aRowPack r) x = 0
   numberAt (aTriplePack r) x = 0
-  numberAt (aNumber r) x = dealtWith x (dealtNumber plan draw u r)
+  numberAt (aNumber r) x = dealtWith x (dealtNumber plan draw u)
   numberAt (aRecord r) x = 0
   numberAt (twoRecords r) x = 0
 

@@ -46,6 +46,7 @@ apart x x' = element x' ⊕ neg (element x)
 pub record Two : Type 0 where
   pub plan : Plan
   pub group : List ℕ
+  pub members : All (λ i. (1 ≤ i) × (i ≤ plan .n)) group
   pub sound : Sound plan
   pub len : ℕ → ℕ
   pub d : Draw

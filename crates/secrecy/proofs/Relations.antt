@@ -4,6 +4,7 @@ use mathlib.Core.Path.{_≡_, refl, sym, _∙_, ap, ap₂, subst}
 use mathlib.Core.Bool.{Bool, true, false}
 use mathlib.Core.List.{List, [], _∷_, _++_, append-assoc}
 use native.Mathlib.Omega.{arith}
+use lib.ListN.{length}
 use Rattle.poly.specs.Counting.{All}
 use Rattle.poly.proofs.Lists.{all-map, all-zip}
 use Rattle.shape.specs.Bounds.{rowCount}
@@ -62,9 +63,10 @@ module _ (T : Twin) where
       let e = numbers-same T (t .row) (t .second) (t .first) (f is) in
       λ j. 8 when beyond (t .coefficient) ∷ factorTests (e .a-same j) (e .b-same j) (e .first-same j) (e .second-same j)
 
-  pub relation-masks-same : (ts : List Term) (lent : List ℕ) → relationMasksRefusal s l (collected ts) lent ≡ relationMasksRefusal s' l' (collected ts) lent
+  pub relation-masks-same : (ts : List Term) (lent lent' : List ℕ) → length lent ≡ length lent'
+      → relationMasksRefusal s l (collected ts) lent ≡ relationMasksRefusal s' l' (collected ts) lent'
   unfolding relationMasksRefusal
-  relation-masks-same ts lent =
+  relation-masks-same ts lent lent' e =
       let all = collected ts in
       behind T (masksSizes s all lent) (each placeTests (termsOf all) ++ (masksMarks s all ++ late l)) (each placeTests (termsOf all) ++ (masksMarks s all ++ late l')) (λ fr sizes.
       same-after (each placeTests (termsOf all)) (masksMarks s all ++ late l) (masksMarks s all ++ late l') (λ place.
@@ -74,6 +76,7 @@ module _ (T : Twin) where
       (each-same (λ k. maskNumberTests W l) (λ k. maskNumberTests W l') 0 (termsOf all)
       (subst (All (λ t. (k : ℕ) → maskNumberTests W l t ≡ maskNumberTests W l' t)) (sym (terms-again ts (k .few)))
       (all-map (λ t f k. mask-tests t (plain t) refl f) ts (products-back _ ts (k .factors))))))))
+      ∙ rw e
     where
       late : List ℕ → List Test
       late rows = each (maskNumberTests W rows) (termsOf (collected ts))

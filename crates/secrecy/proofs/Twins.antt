@@ -158,11 +158,13 @@ module _ (T : Twin) where
       behind (dealPlace s r c) (dealLate (anyBeyond (rowAt W l r))) (dealLate (anyBeyond (rowAt W l' r))) (λ fr f.
       let k = deal-placed s r c f in ap (λ (b : Bool). first (dealLate b)) (elements-same r (k .row-in) (k .is-raw)))
 
-  pub message-same : (r : ℕ) (lent : List ℕ) → messageRefusal s l r lent ≡ messageRefusal s' l' r lent
+  -- of a list to write into only the length is looked at
+  pub message-same : (r : ℕ) (lent lent' : List ℕ) → length lent ≡ length lent' → messageRefusal s l r lent ≡ messageRefusal s' l' r lent'
   unfolding messageRefusal
-  message-same r lent =
+  message-same r lent lent' e =
       behind (messagePlace s r lent) (messageLate (anyBeyond (rowAt W l r))) (messageLate (anyBeyond (rowAt W l' r))) (λ fr f.
       let k = message-placed s r lent f in ap (λ (b : Bool). first (messageLate b)) (elements-same r (k .row-in) (k .is-held)))
+      ∙ rw e
 
   pub linear-same : (r a b scale fee : ℕ) → linearRefusal s l r a b scale fee ≡ linearRefusal s' l' r a b scale fee
   unfolding linearRefusal
@@ -180,12 +182,13 @@ module _ (T : Twin) where
     second-same = elements-same (r + 1) (omega (arith, f .triple-in)) (f .second-mark);
   }
 
-  pub masks-same : (a b r : ℕ) (lent : List ℕ) → masksRefusal s l a b r lent ≡ masksRefusal s' l' a b r lent
+  pub masks-same : (a b r : ℕ) (lent lent' : List ℕ) → length lent ≡ length lent' → masksRefusal s l a b r lent ≡ masksRefusal s' l' a b r lent'
   unfolding masksRefusal
-  masks-same a b r lent =
+  masks-same a b r lent lent' long =
       behind (masksEarly s a b r lent) (maskNumbers s l a b r) (maskNumbers s l' a b r) (λ fr f.
       let e = numbers-same a b r (masks-placed s a b r lent f .factors) in
       λ j. first (factorTests (e .a-same j) (e .b-same j) (e .first-same j) (e .second-same j)))
+      ∙ rw long
 
   -- the first call of a finish, whose masks have one number in both runs
   pub collect-same : (r : ℕ) (blocksA blocksB : List ℕ)

@@ -4,7 +4,7 @@ use Prim.Native.Nat.{ℕ, _≤_, _<_}
 use mathlib.Core.Path.{_≡_}
 use mathlib.Core.Bool.{true}
 use mathlib.Core.Logic.{_≢_}
-use mathlib.Core.List.{List, []}
+use mathlib.Core.List.{List}
 use lib.ListN.{length}
 use Rattle.field.specs.Modulus.{p}
 use Rattle.poly.specs.Counting.{All}
@@ -13,7 +13,7 @@ use Rattle.shape.specs.Marks.{held}
 use Rattle.session.specs.Sessions.{mark}
 use Rattle.session.specs.Rows.{width, rowAt}
 use Rattle.runs.specs.Draws.{Plan, Draw, IsDraw, IsRaw, Sound, by}
-use Rattle.runs.specs.Calls.{newPost}
+use Rattle.runs.specs.Calls.{Post, newPost}
 use Rattle.secrecy.specs.Steps.{Secrets, Step}
 use Rattle.secrecy.specs.Seen.{Seen, member, postsAfter, seen}
 use Rattle.secrecy.specs.Rules.{SameAnswers, Rules, refusalOf}
@@ -32,7 +32,7 @@ pub record Premises (plan : Plan) (group : List ℕ) (u u' : Secrets) (cs : List
   pub secrets : (r : ℕ) → IsRaw (plan .raw r) → (u r < p) × (u' r < p)
   pub dealers : (r dealer : ℕ) → plan .raw r ≡ by dealer → member dealer group ≡ true → u r ≡ u' r
   pub same-answers : SameAnswers (R .entries)
-  pub rules : Rules plan cs (R .entries) []
+  pub rules : Rules plan cs (R .entries) (R .deals)
   pub agree : Agree u u' cs (R .entries) blank blank
 
 -- The draw shows the record R under the secrets u.
@@ -55,27 +55,45 @@ Secrecy =
     (plan : Plan) (group : List ℕ) (rows : ℕ → List ℕ) (cs : List Step) (u u' : Secrets) (R : Seen)
     → Premises plan group u u' cs R → Matching (Shows plan group rows cs u R) (Shows plan group rows cs u' R)
 
--- Of a draw d and the one matched with it: at every post, not only in the group, a held row whose place is the same in both
--- books is the same in both runs.
-abbrev pub AgreeingRows : Plan → (ℕ → List ℕ) → List Step → Secrets → Secrets → Seen → Draw → Draw → Type 0
-AgreeingRows plan rows cs u u' R d d' =
-    let q = postsAfter plan d u cs [] (λ i. newPost plan d (rows i) i) in
-    let q' = postsAfter plan d' u' cs [] (λ i. newPost plan d' (rows i) i) in
-    (i : ℕ) → 1 ≤ i → i ≤ plan .n → (r : ℕ) → r ≤ lastRow → mark (q i .session) r ≡ held
-    → bookAfter u cs (R .entries) blank .place r ≡ bookAfter u' cs (R .entries) blank .place r
-    → rowAt (width (q i .session)) (q i .rows) r ≡ rowAt (width (q i .session)) (q' i .rows) r
+-- The posts after the calls, of a draw that shows R.
+abbrev pub postsOf : Plan → (ℕ → List ℕ) → List Step → Seen → Secrets → Draw → ℕ → Post
+postsOf plan rows cs R u draw = postsAfter plan draw u cs (R .deals) (λ i. newPost plan draw (rows i) i)
+
+-- One post in two runs: "The session remembers n, t, post, check point, the marks, and ... the two factor rows", all the same; and its
+-- list of rows is as long.
+pub record SameStanding (q q' : Post) : Type 0 where
+  pub n : q .session .n ≡ q' .session .n
+  pub t : q .session .t ≡ q' .session .t
+  pub post : q .session .post ≡ q' .session .post
+  pub point : q .session .point ≡ q' .session .point
+  pub marks : q .session .marks ≡ q' .session .marks
+  pub factor-a : q .session .«factor_a» ≡ q' .session .«factor_a»
+  pub factor-b : q .session .«factor_b» ≡ q' .session .«factor_b»
+  pub long : length (q .rows) ≡ length (q' .rows)
+
+-- Of a draw d and the one matched with it: the check points are the same; and at every post, not only in the group, so is what the
+-- session remembers, and each held row whose place is the same in both books.
+pub record Beside (plan : Plan) (rows : ℕ → List ℕ) (cs : List Step) (u u' : Secrets) (R : Seen) (d d' : Draw) : Type 0 where
+  pub points : d .points ≡ d' .points
+  pub standing : (i : ℕ) → 1 ≤ i → i ≤ plan .n → SameStanding (postsOf plan rows cs R u d i) (postsOf plan rows cs R u' d' i)
+  pub agreeing : (i : ℕ) → 1 ≤ i → i ≤ plan .n → (r : ℕ) → r ≤ lastRow
+      → let q = postsOf plan rows cs R u d i in
+      let q' = postsOf plan rows cs R u' d' i in
+      mark (q .session) r ≡ held
+      → bookAfter u cs (R .entries) blank .place r ≡ bookAfter u' cs (R .entries) blank .place r
+      → rowAt (width (q .session)) (q .rows) r ≡ rowAt (width (q .session)) (q' .rows) r
 
 -- The same matching, with that.
 abbrev pub SecrecyEverywhere : Type 0
 SecrecyEverywhere =
     (plan : Plan) (group : List ℕ) (rows : ℕ → List ℕ) (cs : List Step) (u u' : Secrets) (R : Seen) → Premises plan group u u' cs R
     → (m : Matching (Shows plan group rows cs u R) (Shows plan group rows cs u' R))
-    × ((d : Draw) → Shows plan group rows cs u R d → AgreeingRows plan rows cs u u' R d (m .to d))
+    × ((d : Draw) → Shows plan group rows cs u R d → Beside plan rows cs u u' R d (m .to d))
 
 -- Document 02, (iv), under the rules: what a record shows was broadcast by its sender, so that accepted posts agree, and no call of the
 -- list is refused with 13.
 abbrev pub NeverThirteen : Type 0
 NeverThirteen =
     (plan : Plan) (group : List ℕ) (rows : ℕ → List ℕ) (cs : List Step) (u : Secrets) (R : Seen) → Sound plan
-    → ((r : ℕ) → IsRaw (plan .raw r) → u r < p) → SameAnswers (R .entries) → Rules plan cs (R .entries) []
+    → ((r : ℕ) → IsRaw (plan .raw r) → u r < p) → SameAnswers (R .entries) → Rules plan cs (R .entries) (R .deals)
     → (d : Draw) → Shows plan group rows cs u R d → All (λ e. refusalOf e ≢ 13) (R .entries)

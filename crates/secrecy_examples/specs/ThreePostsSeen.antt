@@ -7,9 +7,9 @@ use Rattle.forms.specs.Lines.{text}
 use Rattle.forms.specs.Lines as Line
 use Rattle.runs.specs.Calls.{openingLine, masksLine}
 use Rattle.secrecy.specs.Seen.{Entry, Seen, posts}
-use Rattle.secrecy_examples.specs.Example.{Example, openedBy, padded, of, filled, entry}
+use Rattle.secrecy_examples.specs.Example.{Example, secretsOf, openedBy, padded, of, filled, entry}
 use Rattle.secrecy_examples.specs.ThreePosts.{raws, triples, group, zeros}
-use Rattle.secrecy_examples.specs.ThreePosts.{masksSent, productSent, sumSent, nothing, masksA, masksB, products, sums, steps, draw}
+use Rattle.secrecy_examples.specs.ThreePosts.{masksSent, productSent, sumSent, nothing, masksA, masksB, products, sums, used, steps, draw}
 
 -- Post 3's rows as they come from the factory; the first is P4 of document 01.
 abbrev pub raw0 : List ℕ
@@ -122,6 +122,10 @@ three =
       secrets' = 7 ∷ 6 ∷ 9 ∷ [];
       shown = shown;
     }
+
+-- The list lent for the message of row 5 holds what was sent of row 6.
+abbrev pub ThreeLent : Type 0
+ThreeLent = map (λ i. map (λ x. x draw (secretsOf (three .secrets))) (used i)) (posts 3) ≡ sumSent
 
 -- The product's opening is the call at place 17 of the list, counted from 0, the sum's the one at 18.
 abbrev pub ThreeOpened : Type 0
