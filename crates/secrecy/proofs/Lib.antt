@@ -15,6 +15,7 @@ pub mod Answers
 pub mod Alike
 pub mod OneCall
 pub mod Together
+pub mod Sessions
 pub mod Onward
 pub mod Reckoned
 pub mod Runs

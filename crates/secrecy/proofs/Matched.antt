@@ -24,7 +24,7 @@ use Rattle.secrecy.specs.Steps.{Secrets, Step}
 use Rattle.secrecy.specs.Seen.{Entry, Seen, run, dealLines, seen}
 use Rattle.secrecy.specs.Rules.{SameAnswers, Rules}
 use Rattle.secrecy.specs.Book.{Book, blank, bookAfter, Agree}
-use Rattle.secrecy.specs.Claim.{Premises, Shows, postsOf, SameStanding, Beside}
+use Rattle.secrecy.specs.Claim.{Premises, Shows, Abreast, postsOf, Beside}
 use Rattle.secrecy.proofs.Near.{groupKernel}
 use Rattle.secrecy.proofs.Link.{Gaps}
 use Rattle.secrecy.proofs.Moved.{moved, moved-is, moved-points}
@@ -114,6 +114,11 @@ module _ (plan : Plan) (group : List ℕ) (rows : ℕ → List ℕ) (cs : List S
     deals-two : dealLines plan group (moved plan group u u' Δ d) u' ≡ R .deals
     deals-two = sym (same-deals plan group u u' Δ d (h .sound) (h .group-few) (h .secrets) (s .is-draw)) ∙ deals-one
 
+    new-same : (i : ℕ) → new d i ≡ new (moved plan group u u' Δ d) i
+    unfolding new newPost
+    new-same i =
+        ap (λ (f : ℕ → ℕ). record { session = created (plan .n) (plan .t) i (f i) .session; rows = rows i }) (sym (moved-points plan group u u' Δ d))
+
     pair : Pair two beginning
     unfolding beginning new newPost
     pair =
@@ -121,7 +126,8 @@ module _ (plan : Plan) (group : List ℕ) (rows : ℕ → List ℕ) (cs : List S
           one = begins d u (s .is-draw) (λ r raw. h .secrets r raw .0) deals-one;
           two = begins (moved plan group u u' Δ d) u' is' (λ r raw. h .secrets r raw .1) deals-two;
           near = λ r lr ne. absurd (ne (start-mark r));
-          group-same = all-of (λ i. ap (λ (f : ℕ → ℕ). record { session = created (plan .n) (plan .t) i (f i) .session; rows = rows i }) (sym (moved-points plan group u u' Δ d))) group;
+          sessions = λ i lo hi. ap (λ (x : Post). x .session) (new-same i);
+          group-same = all-of new-same group;
           agreed = λ r j xs o a. absurd (no-opening (record { plan = plan; draw = d; u = u; len = λ i. length (rows i); sound = h .sound; is-draw = s .is-draw; low = λ r raw. h .secrets r raw .0 }) group r j xs (subst (Among (openingLine r j xs)) (sym deals-one) a));
           waiting = λ r lr masked. elim masked [ inl five ↦ absurd (omega (arith, start-mark r)) | inr seven ↦ absurd (omega (arith, start-mark r)) ];
         }
@@ -171,33 +177,12 @@ module _ (plan : Plan) (group : List ℕ) (rows : ℕ → List ℕ) (cs : List S
       session : q i .session ≡ sessionAt plan d i (end .marks) (side .one .posts i lo hi .opened)
       session = sym (ap (λ (f : ℕ → Post). f i .session) ends) ∙ side .one .posts i lo hi .session
 
-      session' : q' i .session ≡ sessionAt plan (moved plan group u u' Δ d) i (end .marks) (side .two .posts i lo hi .opened)
-      session' = sym (ap (λ (f : ℕ → Post). f i .session) ends') ∙ side .two .posts i lo hi .session
-
-      -- what the session remembers, but for opened numbers, and the length of the rows
-      stands : SameStanding (q i) (q' i)
-      stands =
-          record {
-            n = ap (λ (x : Session). x .n) session ∙ sym (ap (λ (x : Session). x .n) session');
-            t = ap (λ (x : Session). x .t) session ∙ sym (ap (λ (x : Session). x .t) session');
-            post = ap (λ (x : Session). x .post) session ∙ sym (ap (λ (x : Session). x .post) session');
-            point =
-                ap (λ (x : Session). x .point) session ∙ sym (ap (λ (f : ℕ → ℕ). f i) (moved-points plan group u u' Δ d))
-                ∙ sym (ap (λ (x : Session). x .point) session');
-            marks = ap (λ (x : Session). x .marks) session ∙ sym (ap (λ (x : Session). x .marks) session');
-            factor-a = ap (λ (x : Session). x .«factor_a») session ∙ sym (ap (λ (x : Session). x .«factor_a») session');
-            factor-b = ap (λ (x : Session). x .«factor_b») session ∙ sym (ap (λ (x : Session). x .«factor_b») session');
-            long =
-                ap (λ (f : ℕ → Post). length (f i .rows)) (sym ends) ∙ side .one .posts i lo hi .holds .long
-                ∙ sym (side .two .posts i lo hi .holds .long) ∙ ap (λ (f : ℕ → Post). length (f i .rows)) ends';
-          }
-
       -- a held row whose place agrees
-      agrees : (r : ℕ) → r ≤ lastRow → mark (q i .session) r ≡ heldMark
+      row-is : (r : ℕ) → r ≤ lastRow → mark (q i .session) r ≡ heldMark
           → bookAfter u cs (R .entries) blank .place r ≡ bookAfter u' cs (R .entries) blank .place r
           → rowAt (width (q i .session)) (q i .rows) r ≡ rowAt (width (q i .session)) (q' i .rows) r
       unfolding beginning
-      agrees r low held agree =
+      row-is r low held agree =
           ap (λ (w : ℕ). rowAt w (q i .rows) r) (ap width session) ∙ same
           ∙ sym (ap (λ (w : ℕ). rowAt w (q' i .rows) r) (ap width session))
         where
@@ -217,9 +202,20 @@ module _ (plan : Plan) (group : List ℕ) (rows : ℕ → List ℕ) (cs : List S
               (place-number two (ended .end) (ended .pair) r (omega arith) two-is places)
               ∙ ap (λ (f : ℕ → Post). rowAt (rowLength (planShape plan)) (f i .rows) r) ends'
 
+      abreast : Abreast (q i) (q' i) (bookAfter u cs (R .entries) blank) (bookAfter u' cs (R .entries) blank)
+      abreast =
+          record {
+            session =
+                ap (λ (f : ℕ → Post). f i .session) (sym ends) ∙ side .sessions i lo hi ∙ ap (λ (f : ℕ → Post). f i .session) ends';
+            long =
+                ap (λ (f : ℕ → Post). length (f i .rows)) (sym ends) ∙ side .one .posts i lo hi .holds .long
+                ∙ sym (side .two .posts i lo hi .holds .long) ∙ ap (λ (f : ℕ → Post). length (f i .rows)) ends';
+            rows = row-is;
+          }
+
     pub beside : Beside plan rows cs u u' R d (moved plan group u u' Δ d)
     unfolding q q' moved
-    beside = record { points = refl; standing = stands; agreeing = agrees }
+    beside = record { points = refl; posts = abreast }
 
     -- the matched draw shows the record under the other secrets
     pub transfer : Shows plan group rows cs u' R (moved plan group u u' Δ d)

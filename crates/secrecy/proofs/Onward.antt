@@ -30,6 +30,7 @@ use Rattle.secrecy.proofs.Advance.{advance}
 use Rattle.secrecy.proofs.Pair.{Two, runOne, runTwo, Moments, momentOne, momentTwo, Pair, Fit}
 use Rattle.secrecy.proofs.OneCall.{posts-same, refused-two, lines-two, group-two}
 use Rattle.secrecy.proofs.Together.{core-after}
+use Rattle.secrecy.proofs.Sessions.{session-idle, session-live}
 
 -- ---- refused: nothing is broadcast, and the posts are as they were
 
@@ -136,6 +137,7 @@ module _ (T : Two) (m : Moments) (R : Pair T m) where
         two = shared M vec' b' _ _ _ (lines-two T m R c (suc k) z rule agree none)
             (idle-state (runTwo T) (momentTwo m) c k (refused-two T m R c (suc k) z rule agree none) (R .two));
         near = R .near;
+        sessions = λ i lo hi. session-idle T m R c i lo hi k (z i lo hi) (refused-two T m R c (suc k) z rule agree none i lo hi);
         group-same = group-two T m R c (suc k) z rule agree none;
         agreed = λ r j xs o a. R .agreed r j xs o (subst (Among (openingLine r j xs)) (as-before (runOne T) (momentOne m) c k z) a);
         waiting = R .waiting;
@@ -179,6 +181,7 @@ module _ (T : Two) (m : Moments) (R : Pair T m) where
         two = shared _ _ _ _ _ _ (lines-two T m R c 0 z rule agree (λ e. fit))
             (advance (runTwo T) (momentTwo m) (R .two) c rule (z' c z rule agree fit));
         near = core-after T m R c (al c z rule agree fit) rule fit .near;
+        sessions = λ i lo hi. session-live T m R c i lo hi (z i lo hi) (z' c z rule agree fit i lo hi) (al c z rule agree fit) rule fit;
         group-same = group-two T m R c 0 z rule agree (λ e. fit);
         agreed = λ r j xs o a. by-line r j xs o (among-append (openingLine r j xs) lines (linesOf (T .plan) (T .d) (T .u) lines c q) a);
         waiting = core-after T m R c (al c z rule agree fit) rule fit .waiting;

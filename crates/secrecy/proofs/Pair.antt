@@ -90,6 +90,7 @@ module _ (T : Two) where
     pub two : State (runTwo T) (momentTwo m)
     pub near : (r : ℕ) → r < rowCount → markOf (m .marks) r ≢ empty
         → Near (planShape (T .plan)) (pointOf (T .d)) (T .K) (m .vec r) (m .vec' r)
+    pub sessions : (i : ℕ) → 1 ≤ i → i ≤ T .plan .n → m .posts i .session ≡ m .posts' i .session
     pub group-same : All (λ i. m .posts i ≡ m .posts' i) (T .group)
     pub agreed : (r j : ℕ) (xs : List ℕ) → AnOpening (runOne T) r j xs → Among (openingLine r j xs) (m .lines)
         → m .book .place r ≡ m .book' .place r

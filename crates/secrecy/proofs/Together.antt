@@ -1,10 +1,11 @@
 -- Marks, vectors and books in the two runs: they stay side by side, one act after the other.
 use Prim.Native.Nat.{ℕ, _+_, _≤_, _<_}
-use mathlib.Core.Path.{_≡_, refl, sym, _∙_, ap₂, subst}
+use mathlib.Core.Path.{_≡_, refl, sym, _∙_, ap, ap₂, subst}
 use mathlib.Core.Logic.{_≢_, inl, inr}
 use mathlib.Core.List.{List, [], _∷_}
 use native.Mathlib.Decide.{ℕ-discrete}
 use native.Mathlib.Omega.{arith}
+use lib.ListN.{set}
 use lib.Seq.{getD-set-other}
 use Rattle.field.specs.Arithmetic.{product}
 use Rattle.field.specs.Element.{Element, element}
@@ -17,13 +18,13 @@ use Rattle.runs.specs.Draws.{pointOf, planShape}
 use Rattle.runs.specs.Outline.{Act, loads, loadsTriple, deals, opens, Summand, once, times, fee, sums, factors, collects, multiplies, takes, Given, Move, moves, actsIn, acts, sends, masks}
 use Rattle.runs.specs.Calls.{at}
 use Rattle.runs.proofs.Outlines.{every-all}
-use Rattle.runs.proofs.Marks.{Marks, markOf, remarked, finished, maskVectorA, maskVectorB, zeroVector, worthVector, totalVector, productSum, written, Masking, none, of, masking, marksBy, vectorsBy, marksAll, vectorsAll, at-same, at-other}
+use Rattle.runs.proofs.Marks.{Marks, Opened, openedBy, openedAll, markOf, remarked, finished, maskVectorA, maskVectorB, zeroVector, worthVector, totalVector, productSum, written, Masking, none, of, masking, marksBy, vectorsBy, marksAll, vectorsAll, at-same, at-other}
 use Rattle.runs.proofs.Facts.{HeldIn, AllowedBy, AllowedAll, Allowed, MasksBy, Tripled}
 use Rattle.runs.proofs.Rows.{sized-by, five-by, nonzero}
 use Rattle.secrecy.specs.Steps.{Fixed, Step, dealtWith, dealtNumber}
 use Rattle.secrecy.specs.Rules.{RuleWith, Rule}
 use Rattle.secrecy.specs.Book.{Book, enteredBy, enteredAll, entered}
-use Rattle.secrecy.proofs.Moves.{numberAt, vectorsThen}
+use Rattle.secrecy.proofs.Moves.{numberAt, vectorsThen, openedThen}
 use Rattle.secrecy.proofs.Entered.{notedA, notedB, noted-is, notes-by}
 use Rattle.secrecy.proofs.State.{Dealt, facts-step}
 use Rattle.secrecy.proofs.Near.{Near, near-self, near-plusTimes, near-raised}
@@ -148,6 +149,18 @@ module _ (T : Two) (lines : List (List ℕ)) (ds : Dealt (runOne T) lines) (ds' 
     near-by (collects r) blocks al rule = near-mark M vec vec' (K .near) r collected (nonzero M r (al .0 .first))
     near-by (multiplies r) x al rule = near-finish r (al .0)
 
+    opened-by : (a : Act) → AllowedBy a M → (Y : Opened) → openedBy a M vec Y ≡ openedBy a M vec' Y
+    opened-by (loads r) al Y = refl
+    opened-by (loadsTriple r) al Y = refl
+    opened-by (deals r) al Y = refl
+    opened-by (opens r) al Y = refl
+    opened-by (sums r t ts) al Y = refl
+    opened-by (factors x y r) al Y = refl
+    opened-by (collects r) al Y =
+        let w = core-wait T M vec vec' b b' K r (inl (al .0 .first)) (omega (arith, al .0 .r-low)) in
+        ap₂ (λ (x y : Element). record { y-a = set (Y .y-a) r (x .0); y-b = set (Y .y-b) r (y .0) }) (w .0) (w .1)
+    opened-by (multiplies r) al Y = refl
+
     -- a triple whose masks the act makes: they are those that were reckoned with
     masked-now : (m : Masking) → FitBy T m b b' → (r : ℕ) → MasksBy m r
         → (apart (notedA m b r) (notedA m b' r) ≡ T .Δ r .factor-a) × (apart (notedB m b r) (notedB m b' r) ≡ T .Δ r .factor-b)
@@ -199,9 +212,27 @@ module _ (T : Two) (lines : List (List ℕ)) (ds : Dealt (runOne T) lines) (ds' 
       core-all ms (marksBy (m .0) M) _ _ (enteredBy (T .u) (m .0) b) (enteredBy (T .u') (m .0) b')
       (core-by M vec vec' b b' K (m .0) (m .1) (al .0) (rule .0) (fit .0)) (al .1) (rule .1) (fit .1)
 
+  -- masks are opened to the same numbers
+  opened-all : (ms : List (Move Fixed)) (M : Marks) (vec vec' : ℕ → Vector) (b b' : Book) → Core T M vec vec' b b'
+      → AllowedAll (actsIn ms) M → All (λ m. RuleWith (T .plan) 0 lines (takes (m .0)) (m .1)) ms → FitAll T (actsIn ms) b b' → (Y : Opened)
+      → openedAll (T .plan) (T .d) (numberAt (T .plan) (T .d) (T .u)) ms M vec Y
+      ≡ openedAll (T .plan) (T .d') (numberAt (T .plan) (T .d') (T .u')) ms M vec' Y
+  opened-all [] M vec vec' b b' K al rule fit Y = refl
+  opened-all (m ∷ ms) M vec vec' b b' K al rule fit Y =
+      opened-all ms (marksBy (m .0) M) _ _ (enteredBy (T .u) (m .0) b) (enteredBy (T .u') (m .0) b')
+      (core-by M vec vec' b b' K (m .0) (m .1) (al .0) (rule .0) (fit .0)) (al .1) (rule .1) (fit .1) (openedBy (m .0) M vec Y)
+      ∙ ap (openedAll (T .plan) (T .d') (numberAt (T .plan) (T .d') (T .u')) ms (marksBy (m .0) M) (v2 M vec vec' b b' K (m .0) (m .1)))
+      (opened-by M vec vec' b b' K (m .0) (al .0) Y)
+
 pub core-after : (T : Two) (m : Moments) (R : Pair T m) (c : Step) → Allowed (acts c) (sends c) (m .marks) → Rule (T .plan) c 0 (m .lines)
     → Fit T m R c
     → Core T (marksAll (acts c) (m .marks)) (vectorsThen (T .plan) (T .d) (T .u) c (m .marks) (m .vec))
     (vectorsThen (T .plan) (T .d') (T .u') c (m .marks) (m .vec')) (entered (T .u) c (m .book)) (entered (T .u') c (m .book'))
 core-after T m R c al rule fit =
     core-all T (m .lines) (R .one .dealings) (R .two .dealings) (moves c) (m .marks) (m .vec) (m .vec') (m .book) (m .book') (core T m R) (al .moving) (every-all _ (moves c) rule) fit
+
+pub opened-after : (T : Two) (m : Moments) (R : Pair T m) (c : Step) → Allowed (acts c) (sends c) (m .marks) → Rule (T .plan) c 0 (m .lines)
+    → Fit T m R c → (Y : Opened)
+    → openedThen (T .plan) (T .d) (T .u) c (m .marks) (m .vec) Y ≡ openedThen (T .plan) (T .d') (T .u') c (m .marks) (m .vec') Y
+opened-after T m R c al rule fit =
+    opened-all T (m .lines) (R .one .dealings) (R .two .dealings) (moves c) (m .marks) (m .vec) (m .vec') (m .book) (m .book') (core T m R) (al .moving) (every-all _ (moves c) rule) fit

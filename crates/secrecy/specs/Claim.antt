@@ -17,7 +17,7 @@ use Rattle.runs.specs.Calls.{Post, newPost}
 use Rattle.secrecy.specs.Steps.{Secrets, Step}
 use Rattle.secrecy.specs.Seen.{Seen, member, postsAfter, seen}
 use Rattle.secrecy.specs.Rules.{SameAnswers, Rules, refusalOf}
-use Rattle.secrecy.specs.Book.{blank, bookAfter, Agree}
+use Rattle.secrecy.specs.Book.{Book, blank, bookAfter, Agree}
 
 -- A group of at most t posts.
 pub record Group (plan : Plan) (group : List ℕ) : Type 0 where
@@ -55,33 +55,23 @@ Secrecy =
     (plan : Plan) (group : List ℕ) (rows : ℕ → List ℕ) (cs : List Step) (u u' : Secrets) (R : Seen)
     → Premises plan group u u' cs R → Matching (Shows plan group rows cs u R) (Shows plan group rows cs u' R)
 
+-- One post after the same calls in two runs, with the books of both: the whole session is the same, its marks and all that it remembers,
+-- and the list of rows is as long; so is a held row whose place is the same in both books.
+pub record Abreast (q q' : Post) (b b' : Book) : Type 0 where
+  pub session : q .session ≡ q' .session
+  pub long : length (q .rows) ≡ length (q' .rows)
+  pub rows : (r : ℕ) → r ≤ lastRow → mark (q .session) r ≡ held → b .place r ≡ b' .place r
+      → rowAt (width (q .session)) (q .rows) r ≡ rowAt (width (q .session)) (q' .rows) r
+
 -- The posts after the calls, of a draw that shows R.
 abbrev pub postsOf : Plan → (ℕ → List ℕ) → List Step → Seen → Secrets → Draw → ℕ → Post
 postsOf plan rows cs R u draw = postsAfter plan draw u cs (R .deals) (λ i. newPost plan draw (rows i) i)
 
--- One post in two runs: "The session remembers n, t, post, check point, the marks, and ... the two factor rows", all the same; and its
--- list of rows is as long.
-pub record SameStanding (q q' : Post) : Type 0 where
-  pub n : q .session .n ≡ q' .session .n
-  pub t : q .session .t ≡ q' .session .t
-  pub post : q .session .post ≡ q' .session .post
-  pub point : q .session .point ≡ q' .session .point
-  pub marks : q .session .marks ≡ q' .session .marks
-  pub factor-a : q .session .«factor_a» ≡ q' .session .«factor_a»
-  pub factor-b : q .session .«factor_b» ≡ q' .session .«factor_b»
-  pub long : length (q .rows) ≡ length (q' .rows)
-
--- Of a draw d and the one matched with it: the check points are the same; and at every post, not only in the group, so is what the
--- session remembers, and each held row whose place is the same in both books.
+-- A draw and the one matched with it: every check point is the same, and every post, not only those of the group, stands abreast.
 pub record Beside (plan : Plan) (rows : ℕ → List ℕ) (cs : List Step) (u u' : Secrets) (R : Seen) (d d' : Draw) : Type 0 where
   pub points : d .points ≡ d' .points
-  pub standing : (i : ℕ) → 1 ≤ i → i ≤ plan .n → SameStanding (postsOf plan rows cs R u d i) (postsOf plan rows cs R u' d' i)
-  pub agreeing : (i : ℕ) → 1 ≤ i → i ≤ plan .n → (r : ℕ) → r ≤ lastRow
-      → let q = postsOf plan rows cs R u d i in
-      let q' = postsOf plan rows cs R u' d' i in
-      mark (q .session) r ≡ held
-      → bookAfter u cs (R .entries) blank .place r ≡ bookAfter u' cs (R .entries) blank .place r
-      → rowAt (width (q .session)) (q .rows) r ≡ rowAt (width (q .session)) (q' .rows) r
+  pub posts : (i : ℕ) → 1 ≤ i → i ≤ plan .n
+      → Abreast (postsOf plan rows cs R u d i) (postsOf plan rows cs R u' d' i) (bookAfter u cs (R .entries) blank) (bookAfter u' cs (R .entries) blank)
 
 -- The same matching, with that.
 abbrev pub SecrecyEverywhere : Type 0
