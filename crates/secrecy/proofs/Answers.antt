@@ -27,7 +27,7 @@ use Rattle.runs.proofs.Marks.{sessionAt}
 use Rattle.runs.proofs.Outcomes.{Doing, does, refusalOf, refusal-is, value-is}
 use Rattle.runs.proofs.Holds.{wide}
 use Rattle.runs.proofs.Steps.{postAt, named}
-use Rattle.secrecy.specs.Steps.{Secrets, Step, PackNumber, PackAt, its, other, Number, sent, Record, Lent, packNumber, packed, dealtWith, callAt, dealtNumber}
+use Rattle.secrecy.specs.Steps.{Secrets, Step, PackNumber, PackAt, its, other, Number, sent, Record, Lent, packNumber, packed, dealtWith, filling, callAt, dealtNumber}
 use Rattle.secrecy.specs.Rules.{RuleWith, Rule}
 use Rattle.secrecy.proofs.Link.{Alike}
 use Rattle.secrecy.proofs.Twins as Twins
@@ -179,7 +179,8 @@ module _ (T : Two) (m : Moments) (R : Pair T m)
   triple-same (other xs) = pack-alike (T .d) (T .d') (T .u) (T .u') xs
 
   -- a list to write into is as long in both runs
-  as-long : (lent : Lent) → length (map (λ x. x (T .d) (T .u)) (lent i)) ≡ length (map (λ x. x (T .d') (T .u')) (lent i))
+  as-long : (lent : Lent)
+      → length (filling (T .plan) (T .d) (T .u) lines i .lent lent) ≡ length (filling (T .plan) (T .d') (T .u') lines i .lent lent)
   as-long lent = length-map (lent i) _ ∙ sym (length-map (lent i) _)
 
   alike : (c : Step) → Rule (T .plan) c (refusalOf (c1 c) p1) lines → Answering (does (c1 c) p1) (does (c2 c) p2)

@@ -1,4 +1,5 @@
--- The D lines, which stand before the first call: each shows its row's number; no O or M line is among them, and no D line among those.
+-- The D lines stand before the first call: each shows its row's number, no O or M line is among them, and no call broadcasts one.
+-- So a run begins.
 use Prim.Native.Nat.{ℕ, zero, suc, _+_, _-_, _%_, _<_}
 use mathlib.Core.Path.{_≡_, refl, sym, _∙_, ap, ap₂}
 use mathlib.Core.Bool.{_||_}
@@ -8,7 +9,7 @@ use native.Mathlib.Omega.{arith}
 use native.Mathlib.Nat.{mod-lt}
 use borrow.Author.Tests.{le-ltb}
 use lib.Dec.{lit<}
-use lib.ListN.{getD}
+use lib.ListN.{length, getD}
 use Rattle.field.specs.Modulus.{p}
 use Rattle.field.specs.Arithmetic.{difference}
 use Rattle.shape.specs.Bounds.{rowCount, lastRow}
@@ -21,13 +22,15 @@ use Rattle.forms.specs.Lines as Line
 use Rattle.forms.specs.Lines.{Message, text}
 use Rattle.forms.specs.Forms.{Sent}
 use Rattle.forms.proofs.RoundTrip.{one-message}
-use Rattle.runs.specs.Draws.{Raw, none, by, whenRaw, rawDraw}
+use Rattle.runs.specs.Draws.{Raw, none, by, whenRaw, IsRaw, Plan, Draw, Sound, IsDraw, rawDraw}
 use Rattle.runs.specs.Outline.{Sending, itsOpening, itsMasks}
-use Rattle.runs.specs.Calls.{Among, openingLine, masksLine, lineOf, sentIf, sentBy}
-use Rattle.runs.proofs.Start.{sizes}
-use Rattle.secrecy.specs.Steps.{dealtNumber}
+use Rattle.runs.specs.Calls.{newPost, Among, openingLine, masksLine, lineOf, sentIf, sentBy}
+use Rattle.runs.proofs.Marks.{rawVector}
+use Rattle.runs.proofs.Start.{sizes, start, start-sized, start-stands, start-facts}
+use Rattle.secrecy.specs.Steps.{Secrets, dealtNumber}
 use Rattle.secrecy.specs.Seen.{allRows, dealSeen, dealLines}
-use Rattle.secrecy.proofs.State.{Run, Dealt}
+use Rattle.secrecy.specs.Book.{blank}
+use Rattle.secrecy.proofs.State.{Run, State, Dealt}
 
 -- one of a list for each row
 among-each : {A : Type 0} (x : A) (f : ℕ → A) (j m : ℕ) → Among x (map f (eachFrom j m (λ r. r))) → (r : ℕ) × (r < j + m) × (x ≡ f r)
@@ -110,3 +113,21 @@ deal-unsent r x i k (s ∷ ss) (xs ∷ parts) a = go k (deal-unsent r x i k ss p
     go zero later (inl e) = deal-no-line r x i s xs e
     go zero later (inr l) = later l
     go (suc j) later l = later l
+
+-- ---- the start of a run
+
+module _ (plan : Plan) (draw : Draw) (u : Secrets) (rows : ℕ → List ℕ) (sound : Sound plan) (is : IsDraw plan draw)
+    (low : (r : ℕ) → IsRaw (plan .raw r) → u r < p) (group : List ℕ) where
+  abbrev pub fresh : Run
+  fresh = record { plan = plan; draw = draw; u = u; len = λ i. length (rows i); sound = sound; is-draw = is; low = low }
+
+  pub begun : State fresh (record { marks = start; vec = rawVector plan draw; book = blank; lines = dealLines plan group draw u; posts = λ i. newPost plan draw (rows i) i })
+  begun =
+      record {
+        sized = start-sized;
+        posts = λ i lo hi. start-stands plan draw sound is (rawVector plan draw) (rows i) i lo hi;
+        facts = start-facts plan draw sound is _ _ (rawVector plan draw);
+        dealings = deals-right fresh group;
+        openings = λ r j xs o a. absurd (no-opening fresh group r j xs a);
+        maskings = λ r j xs o a. absurd (no-masks fresh group r j xs a);
+      }

@@ -5,9 +5,7 @@ use mathlib.Core.Logic.{inl, inr}
 use mathlib.Core.List.{List}
 use native.Mathlib.Omega.{arith}
 use lib.ListN.{length}
-use Rattle.field.specs.Algebra.{CommutativeRing}
 use Rattle.field.specs.Modulus.{p}
-use Rattle.field.proofs.Elements.{𝓡}
 use Rattle.poly.proofs.Lists.{all-of}
 use Rattle.shape.specs.Bounds.{lastRow}
 use Rattle.shape.specs.Marks.{held as heldMark}
@@ -15,11 +13,10 @@ use Rattle.shape.specs.Lengths.{rowLength}
 use Rattle.session.specs.declared.Session.{Session}
 use Rattle.session.specs.Sessions.{mark, created}
 use Rattle.session.specs.Rows.{width, rowAt}
-use Rattle.vectors.specs.Vector.{Vector}
 use Rattle.runs.specs.Draws.{Plan, Draw, IsDraw, IsRaw, pointOf, planShape}
-use Rattle.runs.specs.Calls.{Post, newPost, openingLine, masksLine, Among}
-use Rattle.runs.proofs.Marks.{markOf, sessionAt}
-use Rattle.runs.proofs.Start.{start, start-sized, start-mark, start-stands, start-facts}
+use Rattle.runs.specs.Calls.{Post, newPost, openingLine, Among}
+use Rattle.runs.proofs.Marks.{markOf, rawVector, sessionAt}
+use Rattle.runs.proofs.Start.{start, start-mark}
 use Rattle.secrecy.specs.Steps.{Secrets, Step}
 use Rattle.secrecy.specs.Seen.{Entry, Seen, run, dealLines, seen}
 use Rattle.secrecy.specs.Rules.{SameAnswers, Rules}
@@ -30,14 +27,13 @@ use Rattle.secrecy.proofs.Link.{Gaps}
 use Rattle.secrecy.proofs.Moved.{moved, moved-is, moved-points}
 use Rattle.secrecy.proofs.Linked.{link}
 use Rattle.secrecy.proofs.Unchanged.{same-points, same-raws, same-triples, same-polynomials, same-deals}
-use Rattle.secrecy.proofs.State.{Run, State, Dealt}
-use Rattle.secrecy.proofs.Dealings.{deals-right, no-opening, no-masks}
+use Rattle.secrecy.proofs.State.{State}
+use Rattle.secrecy.proofs.Dealings.{no-opening, fresh, begun}
 use Rattle.secrecy.proofs.Twins.{row-same}
 use Rattle.secrecy.proofs.Answers.{twin}
-use Rattle.secrecy.proofs.Pair.{Two, Moments, Pair, place-number}
+use Rattle.secrecy.proofs.Pair.{Two, runOne, Moments, Pair, place-number}
 use Rattle.secrecy.proofs.Reckoned.{reckoned}
 use Rattle.secrecy.proofs.Runs.{Ended, runs}
-open CommutativeRing 𝓡 using (zero as 0ᴱ)
 
 module _ (plan : Plan) (group : List ℕ) (rows : ℕ → List ℕ) (cs : List Step) (u u' : Secrets) (R : Seen) (h : Premises plan group u u' cs R) where
   -- the masks that the list makes
@@ -69,9 +65,6 @@ module _ (plan : Plan) (group : List ℕ) (rows : ℕ → List ℕ) (cs : List S
           link = link plan group u u' Δ d (h .sound) (h .group-few) (h .secrets) (s .is-draw);
         }
 
-    none : Vector
-    none = record { c = 0ᴱ; f = λ i. 0ᴱ; v = λ j i. 0ᴱ }
-
     -- new posts of a draw
     new : Draw → ℕ → Post
     new e i = newPost plan e (rows i) i
@@ -80,30 +73,13 @@ module _ (plan : Plan) (group : List ℕ) (rows : ℕ → List ℕ) (cs : List S
     beginning =
         record {
           marks = start;
-          vec = λ r. none;
-          vec' = λ r. none;
+          vec = rawVector plan d;
+          vec' = rawVector plan (moved plan group u u' Δ d);
           book = blank;
           book' = blank;
           lines = R .deals;
           posts = new d;
           posts' = new (moved plan group u u' Δ d);
-        }
-
-    -- the runs start side by side
-    begins : (e : Draw) (w : Secrets) (is : IsDraw plan e) (low : (r : ℕ) → IsRaw (plan .raw r) → w r < p)
-        → dealLines plan group e w ≡ R .deals
-        → State (record { plan = plan; draw = e; u = w; len = λ i. length (rows i); sound = h .sound; is-draw = is; low = low })
-        (record { marks = start; vec = λ r. none; book = blank; lines = R .deals; posts = new e })
-    unfolding new
-    begins e w is low are =
-        let C : Run = record { plan = plan; draw = e; u = w; len = λ i. length (rows i); sound = h .sound; is-draw = is; low = low } in
-        record {
-          dealings = subst (Dealt C) are (deals-right C group);
-          sized = start-sized;
-          posts = λ i lo hi. start-stands plan e (h .sound) is (λ r. none) (rows i) i lo hi;
-          facts = start-facts plan e (h .sound) is _ _ (λ r. none);
-          openings = λ r j xs o a. absurd (no-opening C group r j xs (subst (Among (openingLine r j xs)) (sym are) a));
-          maskings = λ r j xs o a. absurd (no-masks C group r j xs (subst (Among (masksLine r j xs)) (sym are) a));
         }
 
     -- the D lines are the record's, of both draws
@@ -113,6 +89,17 @@ module _ (plan : Plan) (group : List ℕ) (rows : ℕ → List ℕ) (cs : List S
 
     deals-two : dealLines plan group (moved plan group u u' Δ d) u' ≡ R .deals
     deals-two = sym (same-deals plan group u u' Δ d (h .sound) (h .group-few) (h .secrets) (s .is-draw)) ∙ deals-one
+
+    -- the runs start side by side
+    begins : (e : Draw) (w : Secrets) (is : IsDraw plan e) (low : (r : ℕ) → IsRaw (plan .raw r) → w r < p) → dealLines plan group e w ≡ R .deals
+        → State (fresh plan e w rows (h .sound) is low group)
+        (record { marks = start; vec = rawVector plan e; book = blank; lines = R .deals; posts = new e })
+    unfolding new
+    begins e w is low are =
+        subst
+        (λ (l : List (List ℕ)). State (fresh plan e w rows (h .sound) is low group)
+        (record { marks = start; vec = rawVector plan e; book = blank; lines = l; posts = new e }))
+        are (begun plan e w rows (h .sound) is low group)
 
     new-same : (i : ℕ) → new d i ≡ new (moved plan group u u' Δ d) i
     unfolding new newPost
@@ -128,7 +115,7 @@ module _ (plan : Plan) (group : List ℕ) (rows : ℕ → List ℕ) (cs : List S
           near = λ r lr ne. absurd (ne (start-mark r));
           sessions = λ i lo hi. ap (λ (x : Post). x .session) (new-same i);
           group-same = all-of new-same group;
-          agreed = λ r j xs o a. absurd (no-opening (record { plan = plan; draw = d; u = u; len = λ i. length (rows i); sound = h .sound; is-draw = s .is-draw; low = λ r raw. h .secrets r raw .0 }) group r j xs (subst (Among (openingLine r j xs)) (sym deals-one) a));
+          agreed = λ r j xs o a. absurd (no-opening (runOne two) group r j xs (subst (Among (openingLine r j xs)) (sym deals-one) a));
           waiting = λ r lr masked. elim masked [ inl five ↦ absurd (omega (arith, start-mark r)) | inr seven ↦ absurd (omega (arith, start-mark r)) ];
         }
 

@@ -6,7 +6,6 @@ use mathlib.Core.Logic.{_⊎_, inl, inr}
 use mathlib.Core.List.{List, [], _∷_, _++_, map, append-nil}
 use native.Mathlib.Omega.{arith}
 use Rattle.poly.specs.Counting.{All}
-use Rattle.poly.proofs.Lists.{all-map}
 use Rattle.shape.specs.Marks.{held}
 use Rattle.vectors.specs.Vector.{Vector}
 use Rattle.forms.specs.Lines as Line

@@ -15,7 +15,7 @@ use Rattle.shape.specs.Bounds.{rowCount, lastTriple}
 use Rattle.shape.specs.Marks.{empty, raw, held, unused, further, masked, spent, collected}
 use Rattle.vectors.specs.Vector.{Vector, raised, number}
 use Rattle.runs.specs.Draws.{pointOf, planShape}
-use Rattle.runs.specs.Outline.{Act, loads, loadsTriple, deals, opens, Summand, once, times, fee, sums, factors, collects, multiplies, takes, Given, Move, moves, actsIn, acts, sends, masks}
+use Rattle.runs.specs.Outline.{Act, loads, loadsTriple, deals, opens, Summand, once, times, fee, sums, factors, collects, multiplies, takes, Given, Move, moves, actsIn, acts, sends}
 use Rattle.runs.specs.Calls.{at}
 use Rattle.runs.proofs.Outlines.{every-all}
 use Rattle.runs.proofs.Marks.{Marks, Opened, openedBy, openedAll, markOf, remarked, finished, maskVectorA, maskVectorB, zeroVector, worthVector, totalVector, productSum, written, Masking, none, of, masking, marksBy, vectorsBy, marksAll, vectorsAll, at-same, at-other}

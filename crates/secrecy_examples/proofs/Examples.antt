@@ -47,7 +47,7 @@ four-books = (refl, refl, refl, refl)
 
 pub four-mixed : FourMixed
 unfolding sees four
-four-mixed = (refl, refl, refl, refl)
+four-mixed = refl
 
 charge-seen : sees charge ≡ charge .shown
 unfolding sees charge

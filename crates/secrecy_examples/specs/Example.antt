@@ -8,7 +8,6 @@ use lib.ListN.{length, drop, getD, replicate}
 use Rattle.shape.specs.Bounds.{rowCount}
 use Rattle.shape.specs.Marks.{present as presentMark}
 use Rattle.runs.specs.Draws.{Raw, none, Plan, Draw, IsRaw}
-use Rattle.secrecy.specs.Steps as Steps
 use Rattle.secrecy.specs.Steps.{Secrets, Following, PackNumber, PackAt, other, Step}
 use Rattle.secrecy.specs.Seen.{Entry, Seen, member, posts, joined, seen}
 use Rattle.secrecy.specs.Book.{blank, bookAfter}

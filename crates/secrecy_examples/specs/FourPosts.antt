@@ -53,7 +53,7 @@ draw =
 unfoldable pub start : ℕ → List ℕ
 start i = eachFrom i (rowsLength (shape 4 2)) (λ x. x)
 
--- The numbers of post i's pack of row 0 at the places listed, whatever is drawn.
+-- Numbers of post i's pack of row 0, whatever is drawn: those at the places listed.
 abbrev pub numbersOf : ℕ → List ℕ → List PackNumber
 numbersOf i places = map (λ k. element (λ draw u. getD (part (shape 4 2) i (pointOf draw i) (rawDraw draw 0)) k 0)) places
 
@@ -124,9 +124,9 @@ half = 1073741824
 abbrev pub messageOf : ℕ → List ℕ → Step
 messageOf r senders = message r (λ i. still (replicate 3 0)) (λ i. member i senders)
 
--- Refused: packs that differ in kind (7), packs of wrong lengths (5), a deal of a row that is empty, with row 0's c (7), a load into row 3, which holds
--- a sum by then (7), a triple behind the last row for one (6), a product before its masks are opened (7), a collect and an opening
--- with too few polynomials (9), an opening with a record of a wrong length (5).
+-- Refused: packs that differ in kind (7), packs of wrong lengths (5), a deal of a row that is empty, with row 0's c (7), a load into
+-- row 3, which holds a sum by then (7), a triple behind the last row for one (6), a product before its masks are opened (7), a collect
+-- and an opening with too few polynomials (9), an opening with a record of a wrong length (5).
 unfoldable pub steps : List Step
 steps =
     loadRow 0 (own 0)

@@ -2,13 +2,11 @@
 use Prim.Native.Nat.{ℕ}
 use mathlib.Core.Path.{_≡_}
 use mathlib.Core.List.{List, [], _∷_, _++_, map}
-use lib.ListN.{take, getD, replicate}
-use Rattle.field.specs.Modulus.{p}
+use lib.ListN.{getD, replicate}
 use Rattle.forms.specs.Lines.{text}
 use Rattle.forms.specs.Lines as Line
-use Rattle.runs.specs.Draws.{rawPack}
-use Rattle.runs.specs.Calls.{openingLine, masksLine}
-use Rattle.secrecy.specs.Steps.{packed}
+use Rattle.runs.specs.Calls.{loadRow, openingLine, masksLine}
+use Rattle.secrecy.specs.Steps.{callAt}
 use Rattle.secrecy.specs.Seen.{Entry, Seen, posts, joined}
 use Rattle.secrecy_examples.specs.Example.{Example, planOf, secretsOf, openedBy, bookedAt, padded, of, filled, entry}
 use Rattle.secrecy_examples.specs.FourPosts.{raws, triples, group, draw, start}
@@ -164,13 +162,13 @@ FourBooks =
     × (bookedAt four (four .secrets) 7 ≡ 13)
     × (bookedAt four (four .secrets') 7 ≡ 11)
 
--- What posts 1 to 4 are lent in the second call: post 1's pack, once more, fixed numbers, and post 4's but for the last number.
-abbrev pub lentAt : ℕ → List ℕ
-lentAt i = packed (mixed i) draw (secretsOf (four .secrets)) (rawPack (planOf four) draw i)
-
+-- The second call as each post makes it: with post 1's pack twice, fixed numbers, and post 4's pack but for its last number.
 abbrev pub FourMixed : Type 0
 FourMixed =
-    (lentAt 1 ≡ rawPack (planOf four) draw 1 0)
-    × (lentAt 2 ≡ rawPack (planOf four) draw 1 0)
-    × (lentAt 3 ≡ replicate 11 8)
-    × (lentAt 4 ≡ take 10 (rawPack (planOf four) draw 4 0) ++ (p ∷ []))
+    map (λ i. callAt (planOf four) draw (secretsOf (four .secrets)) [] i (loadRow 0 mixed)) (posts 4)
+    ≡ map (loadRow 0)
+    ((1 ∷ 2 ∷ 3 ∷ 86 ∷ 58 ∷ 60 ∷ 102 ∷ 13 ∷ 22 ∷ 33 ∷ 41 ∷ [])
+    ∷ (1 ∷ 2 ∷ 3 ∷ 86 ∷ 58 ∷ 60 ∷ 102 ∷ 13 ∷ 22 ∷ 33 ∷ 41 ∷ [])
+    ∷ replicate 11 8
+    ∷ (2 ∷ 0 ∷ 4 ∷ 162 ∷ 108 ∷ 96 ∷ 198 ∷ 13 ∷ 22 ∷ 33 ∷ 2147483647 ∷ [])
+    ∷ [])

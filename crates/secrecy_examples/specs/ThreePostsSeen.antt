@@ -1,13 +1,16 @@
 -- What post 3 sees of the example, number by number.
 use Prim.Native.Nat.{ℕ}
 use mathlib.Core.Path.{_≡_}
+use mathlib.Core.Bool.{true}
 use mathlib.Core.List.{List, [], _∷_, _++_, map}
 use lib.ListN.{replicate}
 use Rattle.forms.specs.Lines.{text}
 use Rattle.forms.specs.Lines as Line
-use Rattle.runs.specs.Calls.{openingLine, masksLine}
+use Rattle.runs.specs.Calls.{message, openingLine, masksLine}
+use Rattle.secrecy.specs.Steps as Steps
+use Rattle.secrecy.specs.Steps.{callAt}
 use Rattle.secrecy.specs.Seen.{Entry, Seen, posts}
-use Rattle.secrecy_examples.specs.Example.{Example, secretsOf, openedBy, padded, of, filled, entry}
+use Rattle.secrecy_examples.specs.Example.{Example, planOf, secretsOf, openedBy, padded, of, filled, entry}
 use Rattle.secrecy_examples.specs.ThreePosts.{raws, triples, group, zeros}
 use Rattle.secrecy_examples.specs.ThreePosts.{masksSent, productSent, sumSent, nothing, masksA, masksB, products, sums, used, steps, draw}
 
@@ -123,9 +126,11 @@ three =
       shown = shown;
     }
 
--- The list lent for the message of row 5 holds what was sent of row 6.
+-- The message of row 5 as each post makes it: the list that it is lent holds what was sent of row 6.
 abbrev pub ThreeLent : Type 0
-ThreeLent = map (λ i. map (λ x. x draw (secretsOf (three .secrets))) (used i)) (posts 3) ≡ sumSent
+ThreeLent =
+    map (λ i. callAt (planOf three) draw (secretsOf (three .secrets)) [] i (Steps.message 5 used (λ i. true))) (posts 3)
+    ≡ map (λ i. message 5 (of sumSent i)) (posts 3)
 
 -- The product's opening is the call at place 17 of the list, counted from 0, the sum's the one at 18.
 abbrev pub ThreeOpened : Type 0
