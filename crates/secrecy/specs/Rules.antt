@@ -32,7 +32,7 @@ abbrev pub SameAnswers : List Entry → Type 0
 SameAnswers es = All (λ e. AllSame (e .refusals)) es
 
 -- "to load, where a load isn't refused, nothing but its own part of drawn rows and triples, each at most once, as drawn and into the
--- rows it was drawn for": every post. Once, since a row that was loaded is never empty again.
+-- rows it was drawn for", asked at every post. Once, since a row that was loaded is never empty again.
 abbrev pub OwnPack : Plan → Pack → ℕ → Type 0 → Type 0
 OwnPack plan pack r Drawn = Drawn × ((i : ℕ) → 1 ≤ i → i ≤ plan .n → pack i ≡ its r)
 

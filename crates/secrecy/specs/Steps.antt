@@ -24,12 +24,14 @@ dealtNumber plan draw u r = whenRaw (plan .raw r) (dealerNumber (u r) (getD (raw
 abbrev pub Following : Type 0
 Following = Draw → Secrets → ℕ
 
--- What a post loads: "its own part" of what was drawn for row k; or other numbers, another post's pack among them, each of which
--- is fixed or an element that follows the draw. Packs may differ in kind from post to post.
+-- A number of a pack that is not the own part: fixed, or an element that follows the draw. So how long the pack is, and whether 8 meets
+-- it, is fixed.
 pub data PackNumber : Type 0 where
   fixed : ℕ → PackNumber
   element : Following → PackNumber
 
+-- What a post loads: "its own part" of what was drawn for row k; or other numbers, as of another post's pack. A pack may be of another
+-- kind at each post.
 pub data PackAt : Type 0 where
   its : (k : ℕ) → PackAt
   other : List PackNumber → PackAt

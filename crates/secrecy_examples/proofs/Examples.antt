@@ -1,10 +1,11 @@
 -- The examples are at work: the run by computing, the premises by a search, the counts by demand 3.
 use mathlib.Core.Path.{_≡_, refl}
 use mathlib.Core.List.{_++_}
+use Rattle.secrecy.specs.Seen.{postsAfter}
 use Rattle.secrecy.specs.Book.{bookAfter}
 use Rattle.secrecy_examples.specs.Example.{AtWork}
 use Rattle.secrecy_examples.specs.ThreePosts as Three
-use Rattle.secrecy_examples.specs.ThreePostsSeen.{three, ThreeLent, ThreeOpened}
+use Rattle.secrecy_examples.specs.ThreePostsSeen.{three, ThreeLent, ThreeEnds, ThreeOpened}
 use Rattle.secrecy_examples.specs.FourPosts as Four
 use Rattle.secrecy_examples.specs.FourPostsSeen.{four, FourOpened, FourBooks, FourMixed}
 use Rattle.secrecy_examples.specs.Charge.{charge, ChargeOpened, ChargeBooks}
@@ -28,6 +29,10 @@ three-opened = (refl, refl)
 pub three-lent : ThreeLent
 unfolding sees three
 three-lent = refl
+
+pub three-ends : ThreeEnds
+unfolding sees three postsAfter
+three-ends = refl
 
 four-seen : sees four ≡ four .shown
 unfolding sees four

@@ -80,8 +80,9 @@ sums i lines = blocks 3 (λ j. present (of sumSent j))
 abbrev pub used : ℕ → List Following
 used i = map (λ k draw u. sum (getD (rawDraw draw 0) (2 * i + k) 0) (getD (rawDraw draw 1) (2 * i + k) 0)) (0 ∷ 1 ∷ [])
 
--- Row 1 is dealt with 4, which is what its dealer broadcast. A second deal of row 0 is refused (7), a sum into a row behind the last too (6), masks collected once more (7), and an opening of the product before
--- any message (9). The messages of row 6 are made between the two calls of the finish.
+-- Row 1 is dealt with the fixed number 4, which is the one that its dealer broadcast. A second deal of row 0 is refused (7), a sum
+-- into a row behind the last too (6), masks collected once more (7), and an opening of the product before any message (9). The
+-- messages of row 6 are made between the two calls of the finish.
 unfoldable pub steps : List Step
 steps =
     loadRow 0 (own 0)
