@@ -72,10 +72,6 @@ module _ (T : Two) (m : Moments) (R : Pair T m)
   abbrev s : Session
   s = sessionAt (T .plan) (T .d) i M (R .one .posts i lo hi .opened)
 
-  -- of the second run
-  abbrev s' : Session
-  s' = sessionAt (T .plan) (T .d) i M (R .two .posts i lo hi .opened)
-
   abbrev W : ℕ
   W = wide (T .plan)
 
@@ -95,31 +91,13 @@ module _ (T : Two) (m : Moments) (R : Pair T m)
   p1 = postAt (T .plan) (T .d) i M (R .one .posts i lo hi .opened) l
 
   abbrev p2 : Post
-  p2 = postAt (T .plan) (T .d) i M (R .two .posts i lo hi .opened) l'
+  p2 = postAt (T .plan) (T .d) i M (R .one .posts i lo hi .opened) l'
 
   pub is-p1 : q i ≡ p1
   is-p1 = named (T .plan) (T .d) (T .len i) i M vec (q i) (R .one .posts i lo hi)
 
   is-p2 : q' i ≡ p2
-  is-p2 =
-      named (T .plan) (T .d') (T .len i) i M vec' (q' i) (R .two .posts i lo hi)
-      ∙ ap
-      (λ (f : ℕ → ℕ). record {
-        session =
-            record {
-              n = T .plan .n;
-              t = T .plan .t;
-              post = i;
-              point = f i;
-              marks = M .marks;
-              «factor_a» = M .factor-a;
-              «factor_b» = M .factor-b;
-              «y_a» = R .two .posts i lo hi .opened .y-a;
-              «y_b» = R .two .posts i lo hi .opened .y-b;
-            };
-        rows = q' i .rows;
-      })
-      (T .link .points)
+  is-p2 = λ j. record { session = (sym (R .sessions i lo hi) ∙ R .one .posts i lo hi .session) j; rows = q' i .rows }
 
   -- ---- the refusal
 
@@ -141,9 +119,6 @@ module _ (T : Two) (m : Moments) (R : Pair T m)
     holds = Pairs.h T m R i lo hi;
     holds' = Pairs.h' T m R i lo hi;
     opened = R .one .posts i lo hi .opened;
-    opened' = R .two .posts i lo hi .opened;
-    recalls = R .one .posts i lo hi .recalls;
-    recalls' = R .two .posts i lo hi .recalls;
   }
 
   module _ (r : ℕ) (blocks : Record) (rule : RuleWith (T .plan) (openRefusal s l r (blocks i lines)) lines (aRecord r) blocks) where
@@ -190,7 +165,7 @@ module _ (T : Two) (m : Moments) (R : Pair T m)
       (Twins.triple-same twin (x .r) _ _ (triple-same (x .pack i)), λ z. refl)
   alike (deal x) rule = (
     Twins.deal-same twin (x .r) (dealtWith (x .c) (dealtNumber (T .plan) (T .d) (T .u)))
-        ∙ ap (dealRefusal s' l' (x .r)) (number-same T (x .c)),
+        ∙ ap (dealRefusal s l' (x .r)) (number-same T (x .c)),
     λ z. refl,
   )
   alike (message x) rule =
