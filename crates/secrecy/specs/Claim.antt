@@ -55,8 +55,8 @@ Secrecy =
     (plan : Plan) (group : List ℕ) (rows : ℕ → List ℕ) (cs : List Step) (u u' : Secrets) (R : Seen)
     → Premises plan group u u' cs R → Matching (Shows plan group rows cs u R) (Shows plan group rows cs u' R)
 
--- One post after the same calls in two runs, with the books of both: the whole session is the same, its marks and all that it remembers,
--- and the list of rows is as long; so is a held row whose place is the same in both books.
+-- One post after the same calls in two runs, with the books of both: the session is the same, its marks and all that it remembers; the
+-- list of rows is as long; and a held row is the same where its place is the same in both books.
 pub record Abreast (q q' : Post) (b b' : Book) : Type 0 where
   pub session : q .session ≡ q' .session
   pub long : length (q .rows) ≡ length (q' .rows)

@@ -20,7 +20,7 @@ Secrets = ℕ → ℕ
 unfoldable pub dealtNumber : Plan → Draw → Secrets → ℕ → ℕ
 dealtNumber plan draw u r = whenRaw (plan .raw r) (dealerNumber (u r) (getD (rawDraw draw r) 0 0) .value) 0
 
--- A number that follows the draw in any way, as those do that earlier calls left in a list.
+-- A number that follows the draw in any way, and the secrets, as what earlier calls left in a list does.
 abbrev pub Following : Type 0
 Following = Draw → Secrets → ℕ
 
@@ -52,7 +52,7 @@ pub data Number : Type 0 where
 abbrev pub Record : Type 0
 Record = ℕ → List (List ℕ) → List ℕ
 
--- A list to write into: for each post how long it is, which is fixed, and what stands in it, which may follow the draw.
+-- A list to write into: for each post what stands in it, which may follow the draw; how long it is, is fixed.
 abbrev pub Lent : Type 0
 Lent = ℕ → List Following
 
