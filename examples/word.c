@@ -1,10 +1,12 @@
 /* From draws to an opened word: `word DIRECTORY WORD`. Draws a station of three posts from the operating system's random
  * numbers, writes each post's pack file, deals the word, and writes the lines by which every post opens it. The street program
- * then reads a post's file and these lines. */
+ * then reads a post's file and these lines. A post's file is secret: only its owner may read it. */
+#define _POSIX_C_SOURCE 200809L
 #include <stdio.h>
 #include <stdlib.h>
 
 #include "gantsorol.h"
+#include "given.h"
 
 enum { N = 3, T = 1, DRAW = GANTSOROL_ROW_DRAW_LEN(N, T), ROW = GANTSOROL_ROW_LEN(N, T) };
 
@@ -30,7 +32,7 @@ static uint32_t draw_from(uint32_t low) {
 static FILE *created(const char *directory, const char *name) {
     char path[4096];
     must(snprintf(path, sizeof path, "%s/%s.txt", directory, name) < (int)sizeof path, "the path is too long");
-    FILE *file = fopen(path, "wb");
+    FILE *file = own_file(path);
     must(file != NULL, path);
     return file;
 }
@@ -43,7 +45,8 @@ static void put(FILE *file, const uint8_t *text, gantsorol_written written) {
 int main(int count, char **arguments) {
     must(count == 3, "which directory, and which word?");
     const char *directory = arguments[1];
-    uint32_t word = (uint32_t)strtoul(arguments[2], NULL, 10);
+    uint32_t word;
+    must(given_number(arguments[2], GANTSOROL_MODULUS, &word), "the word is no number below 2147483647");
 
     /* The works: check points, and one raw row, row 0. Its draw is f, then v1 to vn. */
     random_numbers = fopen("/dev/urandom", "rb");
@@ -65,7 +68,7 @@ int main(int count, char **arguments) {
 
     /* The dealer, who got f, broadcasts c. */
     gantsorol_number c = gantsorol_dealer_number(word, draw[0]);
-    must(c.refusal == 0, "the word is not below p");
+    must(c.refusal == 0, "the word is refused");
     FILE *lines = created(directory, "lines");
     put(lines, text, gantsorol_write_deal(N, T, 0, c.value, text, sizeof text));
 

@@ -2,11 +2,14 @@
  *
  * The input is decimal numbers parted by spaces or line feeds: n and t; the n check points; the kinds of the 96 rows (0 empty,
  * 1 raw, 3 a triple's first row, with 0 for its other two); the numbers drawn, by rising row. What stands between a # and the
- * end of its line is not read. A refusal is said on standard error, and then nothing is written. */
+ * end of its line is not read. A refusal is said on standard error, and then nothing is written. The file is secret: `umask 077`
+ * before, so that only its owner may read it. */
+#define _POSIX_C_SOURCE 200809L
 #include <stdio.h>
 #include <stdlib.h>
 
 #include "gantsorol.h"
+#include "given.h"
 
 /* The first byte of the next number, or EOF. */
 static int behind_spaces(void) {
@@ -41,10 +44,9 @@ static int fail(const char *what) {
 }
 
 int main(int count, char **arguments) {
-    if (count != 2)
+    uint32_t post, n, t, number;
+    if (count != 2 || !given_number(arguments[1], GANTSOROL_MAX_POSTS + 1, &post))
         return fail("which post?");
-    size_t post = strtoul(arguments[1], NULL, 10);
-    uint32_t n, t, number;
     if (next(&n) != 1 || next(&t) != 1 || n > GANTSOROL_MAX_POSTS || t >= GANTSOROL_MAX_POSTS)
         return fail("the input does not begin with n and t");
 
