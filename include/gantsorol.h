@@ -5,25 +5,8 @@
  * between calls and may be called from several threads.
  *
  * Any values are allowed. Every call, whatever it is given, does its one job or answers with a refusal, the number of
- * the first condition below that applies; 0 means none. A refused call changes no list and no session, and its value
- * is 0.
- *
- *    1  the number of posts n is outside 2 to 255
- *    2  t is outside 1 to n - 1
- *    3  the session's post, or the post of a line to be written, of a block or of a pack file, is outside 1 to n
- *    4  a check point is 0 or at least p
- *    5  a list's length is not exactly the one stated
- *    6  a row is above 95, or a triple's first row above 93
- *    7  a row's mark, or a remembered row, is not what the call needs; a relation names a triple twice; a kind other
- *       than 0 stands inside a triple of a pack file
- *    8  a number that the call is given or reads, or a remembered one that it uses, is at least p, a record's mark is
- *       above 1, or a kind of a pack file is unknown
- *    9  fewer than t+1 posts were accepted, in any record
- *   10  a line read has the wrong form
- *   11  a line read has a number out of range
- *   12  the list lent for a line or a file is shorter than that
- *   13  an accepted share is not on the polynomial of the t+1 lowest, in any record; looked at after 9 of all
- *   14  a relation has no terms, or more than 32; looked at after 5
+ * the first condition of gantsorol_refusal_text that applies; 0 means none. A refused call changes no list and no session,
+ * and its value is 0.
  *
  * What a caller has to see to, because no call can: a list is passed as a pointer to its first number, aligned for its
  * type, and its length in numbers (bytes for a line or a file, kinds, or terms), which the memory really has. The lists
@@ -42,6 +25,67 @@
 
 #include <stddef.h>
 #include <stdint.h>
+
+/*
+ * Refusals. Conditions are looked at in the order of their numbers, but for 14, which comes right after 5; each over all
+ * lists and terms before the next. 15 to 19 are kept for what is to come.
+ */
+enum gantsorol_refusal {
+    GANTSOROL_OK = 0,
+    GANTSOROL_BAD_POST_COUNT = 1,
+    GANTSOROL_BAD_THRESHOLD = 2,
+    GANTSOROL_BAD_POST = 3,
+    GANTSOROL_BAD_CHECK_POINT = 4,
+    GANTSOROL_BAD_LENGTH = 5,
+    GANTSOROL_NO_SUCH_ROW = 6,
+    GANTSOROL_WRONG_MARK = 7,
+    GANTSOROL_NOT_AN_ELEMENT = 8,
+    GANTSOROL_TOO_FEW_ACCEPTED = 9,
+    GANTSOROL_MALFORMED_LINE = 10,
+    GANTSOROL_LINE_OUT_OF_RANGE = 11,
+    GANTSOROL_NO_ROOM = 12,
+    GANTSOROL_INCONSISTENT_SHARES = 13,
+    GANTSOROL_BAD_TERM_COUNT = 14
+};
+
+/* A refusal in words: the condition that applies. */
+static inline const char *gantsorol_refusal_text(uint8_t refusal) {
+    switch (refusal) {
+    case GANTSOROL_OK:
+        return "no refusal";
+    case GANTSOROL_BAD_POST_COUNT:
+        return "the number of posts n is outside 2 to 255";
+    case GANTSOROL_BAD_THRESHOLD:
+        return "t is outside 1 to n - 1";
+    case GANTSOROL_BAD_POST:
+        return "the session's post, or the post of a line to be written, of a block or of a pack file, is outside 1 to n";
+    case GANTSOROL_BAD_CHECK_POINT:
+        return "a check point is 0 or at least p";
+    case GANTSOROL_BAD_LENGTH:
+        return "a list's length is not exactly the one stated";
+    case GANTSOROL_NO_SUCH_ROW:
+        return "a row is above 95, or a triple's first row above 93";
+    case GANTSOROL_WRONG_MARK:
+        return "a row's mark, or a remembered row, is not what the call needs; a relation names a triple twice; "
+               "a kind other than 0 stands inside a triple of a pack file";
+    case GANTSOROL_NOT_AN_ELEMENT:
+        return "a number is at least p, a record's mark is above 1, or a kind of a pack file is unknown";
+    case GANTSOROL_TOO_FEW_ACCEPTED:
+        return "fewer than t+1 posts were accepted, in any record";
+    case GANTSOROL_MALFORMED_LINE:
+        return "a line read has the wrong form";
+    case GANTSOROL_LINE_OUT_OF_RANGE:
+        return "a line read has a number out of range";
+    case GANTSOROL_NO_ROOM:
+        return "the list lent for a line or a file is shorter than that";
+    case GANTSOROL_INCONSISTENT_SHARES:
+        return "an accepted share is not on the polynomial of the t+1 lowest, in any record";
+    case GANTSOROL_BAD_TERM_COUNT:
+        return "a relation has no terms, or more than 32";
+    default:
+        return "unknown to this header";
+    }
+}
 
 #ifdef __cplusplus
 extern "C" {
@@ -185,10 +229,10 @@ gantsorol_answer gantsorol_opening_message(gantsorol_session session, const uint
  * coefficients of an absent one. A block whose polynomial does not have the row's check value at the post's check point
  * is not accepted. The number comes from the t+1 accepted posts with the lowest numbers; the shares of all further ones
  * must agree with them, or the refusal is 13.
- * rows: GANTSOROL_ROWS_LEN, read. blocks: GANTSOROL_RECORD_LEN, read. Refusals 1 to 9, 13.
+ * rows: GANTSOROL_ROWS_LEN, read. record: GANTSOROL_RECORD_LEN, read. Refusals 1 to 9, 13.
  */
 gantsorol_answer gantsorol_open(gantsorol_session session, const uint32_t *rows, size_t rows_len, size_t row,
-                                const uint32_t *blocks, size_t blocks_len);
+                                const uint32_t *record, size_t record_len);
 
 /*
  * Writes row a plus scale times row b, both held and perhaps the same, into the empty row dest, which becomes held. The
@@ -267,17 +311,17 @@ gantsorol_answer gantsorol_relation_finish(gantsorol_session session, uint32_t *
 /*
  * Puts what a post sent, the t+1 coefficients of its message or of one of its masks, into the post's block of a record,
  * which becomes present; the refusal. What stood in the block is written over, the other blocks stay as they are.
- * blocks: GANTSOROL_RECORD_LEN, written. message: t+1, read. Refusals 1, 2, 3, 5 and 8.
+ * record: GANTSOROL_RECORD_LEN, written. message: t+1, read. Refusals 1, 2, 3, 5 and 8.
  */
-uint8_t gantsorol_record_put(size_t n, size_t t, uint32_t *blocks, size_t blocks_len, size_t post,
+uint8_t gantsorol_record_put(size_t n, size_t t, uint32_t *record, size_t record_len, size_t post,
                              const uint32_t *message, size_t message_len);
 
 /*
  * Takes a post's message out of a record again: its block becomes absent, all zeros, and the other blocks stay as they
  * are; the refusal.
- * blocks: GANTSOROL_RECORD_LEN, written. Refusals 1, 2, 3 and 5.
+ * record: GANTSOROL_RECORD_LEN, written. Refusals 1, 2, 3 and 5.
  */
-uint8_t gantsorol_record_remove(size_t n, size_t t, uint32_t *blocks, size_t blocks_len, size_t post);
+uint8_t gantsorol_record_remove(size_t n, size_t t, uint32_t *record, size_t record_len, size_t post);
 
 /* ---- The factory and the dealer ---- */
 

@@ -35,6 +35,6 @@ fn main() -> Result<(), Refusal> {
 
     // Without it post 1 is alone, and too few is refusal 9.
     record_remove(N, T, &mut record, 2)?;
-    assert_eq!(session.open(&rows, 0, &record).accepted(), Err(Refusal(9)));
+    assert_eq!(session.open(&rows, 0, &record).accepted(), Err(Refusal::TooFewAccepted));
     Ok(())
 }

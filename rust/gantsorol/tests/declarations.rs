@@ -41,6 +41,14 @@ fn squeezed(code: &str) -> String {
 /// A name with its type as the Rattle source has it.
 type Typed = (String, String);
 
+/// What the exports call otherwise than the header and the binding: there a record has one name in every call.
+const CALLED: [(&str, &str); 1] = [("blocks", "record")];
+
+fn called(name: &str) -> String {
+    let found = CALLED.iter().find(|(exported, _)| *exported == name);
+    found.map_or(name, |(_, called)| called).to_string()
+}
+
 /// `name: type` parted by commas, without `pub`.
 fn typed(list: &str) -> Vec<Typed> {
     let entries = list.split(',').map(str::trim).filter(|entry| !entry.is_empty());
@@ -72,7 +80,10 @@ fn exported() -> Vec<Function> {
         let result = rest.trim_start().strip_prefix("->").expect("a function has a result");
         Function {
             name: head.split('<').next().unwrap_or_default().to_string(),
-            parameters: typed(parameters),
+            parameters: typed(parameters)
+                .into_iter()
+                .map(|(name, of)| (called(&name), of))
+                .collect(),
             result: result.split_whitespace().next().unwrap_or_default().to_string(),
         }
     };

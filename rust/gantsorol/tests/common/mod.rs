@@ -58,7 +58,7 @@ fn told(terms: &[reference::Term]) -> Vec<Term> {
 }
 
 fn number_of(refused: Result<(), Refusal>) -> u8 {
-    refused.err().map_or(0, |Refusal(number)| number)
+    refused.err().map_or(0, Refusal::number)
 }
 
 fn written(gantsorol::Written { refusal, len }: gantsorol::Written) -> Written {
