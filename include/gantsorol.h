@@ -26,6 +26,11 @@
 #include <stddef.h>
 #include <stdint.h>
 
+/* The version: the minor number counts the requests that are in (CHANGES.md). */
+#define GANTSOROL_VERSION_MAJOR 0
+#define GANTSOROL_VERSION_MINOR 8
+#define GANTSOROL_VERSION_PATCH 0
+
 /*
  * Refusals. Conditions are looked at in the order of their numbers, but for 14, which comes right after 5; each over all
  * lists and terms before the next. 15 to 19 are kept for what is to come.
