@@ -9,6 +9,8 @@
 #include "given.h"
 
 enum { N = 3, T = 1, DRAW = GANTSOROL_ROW_DRAW_LEN(N, T), ROW = GANTSOROL_ROW_LEN(N, T) };
+/* The pack file, of one raw row, is longer than any line. */
+enum { TEXT = GANTSOROL_PACK_FILE_LEN(N, T, 1, 0) };
 
 static FILE *random_numbers;
 
@@ -38,7 +40,7 @@ static FILE *created(const char *directory, const char *name) {
 }
 
 static void put(FILE *file, const uint8_t *text, gantsorol_written written) {
-    must(written.refusal == 0, "a line or a file is refused");
+    must(written.refusal == GANTSOROL_OK, gantsorol_refusal_text(written.refusal));
     must(fwrite(text, 1, written.len, file) == written.len, "a line or a file is not written");
 }
 
@@ -52,7 +54,7 @@ int main(int count, char **arguments) {
     random_numbers = fopen("/dev/urandom", "rb");
     must(random_numbers != NULL, "no random numbers");
     uint32_t points[N], draw[DRAW], packs[N * ROW];
-    uint8_t kinds[GANTSOROL_ROWS] = {1}, text[1024];
+    uint8_t kinds[GANTSOROL_ROWS] = {GANTSOROL_KIND_RAW}, text[TEXT];
     for (int i = 0; i < N; i++)
         points[i] = draw_from(1);
     for (int i = 0; i < DRAW; i++)
@@ -68,12 +70,12 @@ int main(int count, char **arguments) {
 
     /* The dealer, who got f, broadcasts c. */
     gantsorol_number c = gantsorol_dealer_number(word, draw[0]);
-    must(c.refusal == 0, "the word is refused");
+    must(c.refusal == GANTSOROL_OK, gantsorol_refusal_text(c.refusal));
     FILE *lines = created(directory, "lines");
     put(lines, text, gantsorol_write_deal(N, T, 0, c.value, text, sizeof text));
 
     /* The posts broadcast their polynomials of row 0, and open it. */
-    must(gantsorol_factory_row(N, T, points, N, draw, DRAW, packs, N * ROW) == 0, "the packs");
+    must(gantsorol_factory_row(N, T, points, N, draw, DRAW, packs, N * ROW) == GANTSOROL_OK, "the packs");
     for (int i = 0; i < N; i++)
         put(lines, text, gantsorol_write_opening(N, T, 0, i + 1, packs + i * ROW, T + 1, text, sizeof text));
     must(fputs("G,0\n", lines) >= 0 && fclose(lines) == 0, "the lines");

@@ -62,8 +62,8 @@ int main(int count, char **arguments) {
     }
 
     /* No station has a larger draw than one of raw rows alone, nor a longer file. */
-    size_t room = GANTSOROL_ROWS * GANTSOROL_ROW_DRAW_LEN((size_t)n, (size_t)t), drawn = 0;
-    size_t length = 32 + GANTSOROL_ROWS * (5 + 11 * GANTSOROL_ROW_LEN((size_t)n, (size_t)t));
+    size_t room = GANTSOROL_DRAWS_LEN((size_t)n, (size_t)t, GANTSOROL_ROWS, 0), drawn = 0;
+    size_t length = GANTSOROL_PACK_FILE_LEN((size_t)n, (size_t)t, GANTSOROL_ROWS, 0);
     uint32_t *draws = (uint32_t *)malloc(room * sizeof *draws);
     uint8_t *file = (uint8_t *)malloc(length);
     if (draws == NULL || file == NULL)
@@ -79,9 +79,7 @@ int main(int count, char **arguments) {
 
     gantsorol_written written =
         gantsorol_write_pack(n, t, post, points, n, kinds, GANTSOROL_ROWS, draws, drawn, file, length);
-    if (written.refusal != 0) {
-        fprintf(stderr, "works: refusal %d\n", written.refusal);
-        return 1;
-    }
+    if (written.refusal != GANTSOROL_OK)
+        return fail(gantsorol_refusal_text(written.refusal));
     return fwrite(file, 1, written.len, stdout) == written.len && fflush(stdout) == 0 ? 0 : fail("the file is not written");
 }

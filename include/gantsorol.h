@@ -92,10 +92,6 @@ static inline const char *gantsorol_refusal_text(uint8_t refusal) {
     }
 }
 
-#ifdef __cplusplus
-extern "C" {
-#endif
-
 /* p, the number of elements. */
 #define GANTSOROL_MODULUS 2147483647u
 /* The largest number of posts. */
@@ -106,31 +102,85 @@ extern "C" {
 #define GANTSOROL_MAX_TERMS 32
 /* The second row of a term that is no product. */
 #define GANTSOROL_NO_ROW 255
-/* The bytes of the longest broadcast line, its line feed included. A pack file has longer ones. */
+/* The bytes of the longest broadcast line of any station, its line feed included. A pack file has longer ones. */
 #define GANTSOROL_LONGEST_LINE 5619
 
 /* Lengths of lists, for n posts and threshold t. */
 
-/* A row. */
-#define GANTSOROL_ROW_LEN(n, t) ((t) + 1 + 2 * (n))
+/* A row: the t+1 coefficients of the post's own polynomial, constant first, n check values, n public sums. */
+#define GANTSOROL_ROW_LEN(n, t) (GANTSOROL_MESSAGE_LEN(t) + 2 * (n))
 /* A session's rows. */
 #define GANTSOROL_ROWS_LEN(n, t) (GANTSOROL_ROWS * GANTSOROL_ROW_LEN(n, t))
-/* A record's block: a mark, 0 absent or 1 present, then t+1 coefficients. */
-#define GANTSOROL_BLOCK_LEN(t) ((t) + 2)
+/* An opening message: t+1 coefficients. */
+#define GANTSOROL_MESSAGE_LEN(t) ((t) + 1)
+/* A record's block: a mark, 0 absent or 1 present, then a message. */
+#define GANTSOROL_BLOCK_LEN(t) (1 + GANTSOROL_MESSAGE_LEN(t))
 /* A record: a block for each post, post 1 first. */
 #define GANTSOROL_RECORD_LEN(n, t) ((n) * GANTSOROL_BLOCK_LEN(t))
-/* The draw of a row: the t+1 coefficients of f, then those of v1 to vn. */
-#define GANTSOROL_ROW_DRAW_LEN(n, t) (((t) + 1) * ((n) + 1))
-/* The draw of a triple: three draws of a row, the third without f's constant. */
-#define GANTSOROL_TRIPLE_DRAW_LEN(n, t) (3 * GANTSOROL_ROW_DRAW_LEN(n, t) - 1)
-/* The masks of a product: t+1 coefficients for each factor. */
-#define GANTSOROL_MASKS_LEN(t) (2 * ((t) + 1))
+/* The masks of a product: a message for each factor. */
+#define GANTSOROL_MASKS_LEN(t) (2 * GANTSOROL_MESSAGE_LEN(t))
 /* The masks of a relation's product terms, k of them. */
 #define GANTSOROL_RELATION_MASKS_LEN(t, k) ((k) * GANTSOROL_MASKS_LEN(t))
 /* The records of a relation's product terms, k of them: two records each. */
 #define GANTSOROL_RELATION_RECORDS_LEN(n, t, k) ((k) * 2 * GANTSOROL_RECORD_LEN(n, t))
 /* The list that a line read fills. */
-#define GANTSOROL_LINE_LIST_LEN(t) (2 * ((t) + 1))
+#define GANTSOROL_LINE_LIST_LEN(t) (2 * GANTSOROL_MESSAGE_LEN(t))
+
+/* The draw of a row: the t+1 coefficients of f, then those of v1 to vn. */
+#define GANTSOROL_ROW_DRAW_LEN(n, t) (((t) + 1) * ((n) + 1))
+/* The draw of a triple: three draws of a row, the third without f's constant. */
+#define GANTSOROL_TRIPLE_DRAW_LEN(n, t) (3 * GANTSOROL_ROW_DRAW_LEN(n, t) - 1)
+/* All draws of a station with so many raw rows and triples. */
+#define GANTSOROL_DRAWS_LEN(n, t, raw, triples)                                                                             \
+    ((raw) * GANTSOROL_ROW_DRAW_LEN(n, t) + (triples) * GANTSOROL_TRIPLE_DRAW_LEN(n, t))
+/* All posts' packs of a row. */
+#define GANTSOROL_PACKS_LEN(n, t) ((n) * GANTSOROL_ROW_LEN(n, t))
+/* One post's pack of a triple: its rows of l, l' and l''. */
+#define GANTSOROL_TRIPLE_PACK_LEN(n, t) (3 * GANTSOROL_ROW_LEN(n, t))
+/* All posts' packs of a triple. */
+#define GANTSOROL_TRIPLE_PACKS_LEN(n, t) ((n) * GANTSOROL_TRIPLE_PACK_LEN(n, t))
+
+/* Bytes of the longest lines and files, line feeds included. A comma and an element are 11 bytes. */
+
+/* The digits of a number of posts, of a post or of t. */
+#define GANTSOROL_DIGITS(n) ((n) < 10 ? 1 : (n) < 100 ? 2 : 3)
+/* A "D" line. */
+#define GANTSOROL_DEAL_LINE_LEN 16
+/* An "O" line. */
+#define GANTSOROL_OPENING_LINE_LEN(n, t) (6 + GANTSOROL_DIGITS(n) + 11 * GANTSOROL_MESSAGE_LEN(t))
+/* An "M" line, which is the longest of a station. */
+#define GANTSOROL_MASKS_LINE_LEN(n, t) (6 + GANTSOROL_DIGITS(n) + 11 * GANTSOROL_MASKS_LEN(t))
+/* A pack file's "R" line and its "T" line. */
+#define GANTSOROL_ROW_LINE_LEN(n, t) (5 + 11 * GANTSOROL_ROW_LEN(n, t))
+#define GANTSOROL_TRIPLE_LINE_LEN(n, t) (5 + 11 * GANTSOROL_TRIPLE_PACK_LEN(n, t))
+/* A pack file with so many raw rows and triples. */
+#define GANTSOROL_PACK_FILE_LEN(n, t, raw, triples)                                                                         \
+    (16 + 2 * GANTSOROL_DIGITS(n) + GANTSOROL_DIGITS(t) + (raw) * GANTSOROL_ROW_LINE_LEN(n, t) +                            \
+     (triples) * GANTSOROL_TRIPLE_LINE_LEN(n, t))
+
+/* The kind of a row in a station's plan. */
+enum gantsorol_kind {
+    /* an empty row, or the second or third of a triple */
+    GANTSOROL_KIND_EMPTY = 0,
+    GANTSOROL_KIND_RAW = 1,
+    /* the first row of a triple */
+    GANTSOROL_KIND_TRIPLE = 3
+};
+
+/* Where the draw of a row stands in the list of draws of gantsorol_write_pack; with GANTSOROL_ROWS for row, that list's
+   length. kinds: GANTSOROL_ROWS of them, row: at most that. */
+static inline size_t gantsorol_draw_place(size_t n, size_t t, const uint8_t *kinds, size_t row) {
+    size_t raw = 0, triples = 0;
+    for (size_t i = 0; i < row; i++) {
+        raw += kinds[i] == GANTSOROL_KIND_RAW;
+        triples += kinds[i] == GANTSOROL_KIND_TRIPLE;
+    }
+    return GANTSOROL_DRAWS_LEN(n, t, raw, triples);
+}
+
+#ifdef __cplusplus
+extern "C" {
+#endif
 
 /* What a post remembers beside its rows. Each call checks the fields anew. */
 typedef struct gantsorol_session {

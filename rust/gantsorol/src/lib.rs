@@ -30,10 +30,9 @@ mod sys;
 mod works;
 
 pub use broadcast::{read, write_deal, write_masks, write_opening, Line, Written};
-pub use lengths::{block_len, line_list_len, masks_len, record_len, row_draw_len, row_len};
-pub use lengths::{rows_len, triple_draw_len, LONGEST_LINE, MAX_POSTS, MODULUS, ROWS};
+pub use lengths::*;
 pub use record::{record_put, record_remove};
 pub use refusal::Refusal;
-pub use relation::{Term, MAX_TERMS, NO_ROW};
+pub use relation::Term;
 pub use session::{Answer, Session};
 pub use works::{dealer_number, factory_row, factory_triple, write_pack, Number};

@@ -1,12 +1,6 @@
 //! Relations: a sum of terms that is 0, shown without its numbers.
 
-use crate::{sys, Answer, Session};
-
-/// The most terms of a relation.
-pub const MAX_TERMS: usize = 32;
-
-/// The second row of a term that is no product.
-pub const NO_ROW: u8 = 255;
+use crate::{sys, Answer, Session, NO_ROW};
 
 /// A term of a relation: a coefficient times a row's number, or times the product of two rows'
 /// numbers.

@@ -8,7 +8,7 @@ use std::fs;
 use std::path::Path;
 
 use common::programs::{exports, repository};
-use gantsorol::{LONGEST_LINE, MAX_POSTS, MAX_TERMS, MODULUS, NO_ROW, ROWS};
+use gantsorol::{DEAL_LINE_LEN, LONGEST_LINE, MAX_POSTS, MAX_TERMS, MODULUS, NO_ROW, ROWS};
 
 /// A file's text without line comments, block comments, attributes and preprocessor lines.
 fn code(path: &str) -> String {
@@ -249,6 +249,7 @@ fn the_header_has_the_constants_of_the_binding() {
         Some((name.to_string(), value.trim_end_matches('u').parse::<usize>().ok()?))
     };
     let expected = [
+        ("DEAL_LINE_LEN", DEAL_LINE_LEN),
         ("LONGEST_LINE", LONGEST_LINE),
         ("MAX_POSTS", MAX_POSTS),
         ("MAX_TERMS", MAX_TERMS),

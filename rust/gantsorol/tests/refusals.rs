@@ -7,7 +7,7 @@ use std::path::Path;
 use std::process::Command;
 
 use common::programs::{compiled, ended, repository, C, CPP};
-use gantsorol::{write_pack, Refusal, MAX_POSTS, MAX_TERMS, ROWS};
+use gantsorol::{draw_place, write_pack, Refusal, MAX_POSTS, MAX_TERMS, ROWS};
 
 /// The names of the header's enum, by number, without their prefix.
 fn names() -> Vec<String> {
@@ -96,7 +96,7 @@ fn a_refused_pack_file_is_told_what_is_wrong() {
     let refused = |kinds: &[(usize, u8)], room: usize| {
         let mut set = [0; ROWS];
         kinds.iter().for_each(|&(row, kind)| set[row] = kind);
-        let draws = vec![0; set.iter().map(|kind| [0, 8, 0, 23][usize::from(*kind)]).sum()];
+        let draws = vec![0; draw_place(3, 1, &set, ROWS)];
         let written = write_pack(3, 1, 1, &[2, 3, 5], &set, &draws, &mut vec![0; room]);
         written.accepted().expect_err("it is refused").to_string()
     };
