@@ -1,24 +1,64 @@
 /*
  * Gantsorol: verifiable secret sharing for dock posts.
  *
- * The library is libgantsorol.a (`rt staticlib gantsorol`). It needs no initialisation, allocates nothing, keeps nothing
- * between calls and may be called from several threads.
+ * For x86-64 only, by the rules of System V. The library is libgantsorol.a (`rt staticlib gantsorol`, or `./install`).
+ * It needs no initialisation, allocates nothing, keeps nothing between calls and takes nothing but memcpy and memset.
+ * docs/INTEGRATING.md goes from an empty folder to a post.
  *
  * Any values are allowed. Every call, whatever it is given, does its one job or answers with a refusal, the number of
- * the first condition of gantsorol_refusal_text that applies; 0 means none. A refused call changes no list and no session,
- * and its value is 0.
+ * the first condition of gantsorol_refusal_text that applies; 0 means none. A refused call changes no list and no
+ * session, and its value is 0.
  *
  * What a caller has to see to, because no call can: a list is passed as a pointer to its first number, aligned for its
  * type, and its length in numbers (bytes for a line or a file, kinds, or terms), which the memory really has. The lists
  * of one call must not overlap. Where the length is 0 the pointer is not used and may be NULL.
  *
  * A number is an element, 0 to p - 1. A post keeps a session, which each call takes by value and hands back, and a list
- * of GANTSOROL_ROWS_LEN(n, t) numbers, its 96 rows, which it lends to each call. Use the session that the last call
- * handed back, never an older one: a row would be opened or dealt that no longer is what the old marks say.
+ * of GANTSOROL_ROWS_LEN(n, t) numbers, its 96 rows, which it lends to each call; they need not be cleared before. Use
+ * the session that the last call handed back, never an older one: a row would be opened or dealt that no longer is what
+ * the old marks say. So a session belongs to one thread at a time; different sessions may be used by different threads.
  *
  * A row is a post's part of one shared number: the t+1 coefficients of the post's own polynomial, constant first; n
- * check values; n public sums. A record holds what the posts sent of one row, a block for each; all zeros is a record
- * in which every post is absent.
+ * check values; n public sums. A record holds what the posts sent of one row, a block for each; all zeros is a record in
+ * which every post is absent.
+ *
+ * Power loss. Store the session that a call hands back, and the rows with it where they were written, before the line
+ * that the call made is sent. With an older session a triple would be used twice, and two masks of one triple tell the
+ * difference of two factors to whoever hears them.
+ *
+ * Senders. A line names its post, and nobody checks that it comes from there: the carrier has to. A later
+ * gantsorol_record_put of a post writes over the one before.
+ *
+ * On 9 (GANTSOROL_TOO_FEW_ACCEPTED) wait for more messages, put them into the record and call again. A message that is
+ * there and not accepted is not the polynomial that this post has a check value of; the call does not say whose it is.
+ *
+ * On 13 (GANTSOROL_INCONSISTENT_SHARES) an accepted share is off, perhaps the own one, which no record takes out. Take
+ * one post out of the record, call again, and put it back: where t+3 or more were accepted and one of the others is off,
+ * the call is done only without that one. Any t+1 shares agree: with posts removed down to t+1 a number has passed no
+ * such check, and is not to be taken on its word.
+ *
+ * Erase, with gantsorol_erase, what is no longer needed: draws and packs once the pack files are written, and those once
+ * they are loaded; the dealer's f once c is sent; messages, records, rows and the session with its last opening. Copies
+ * of the session that calls had on the stack stay there until they are written over.
+ *
+ * Bytes, for (n, t); GANTSOROL_..._LEN below give numbers of 4 bytes, and bytes for lines and files:
+ *
+ *                         (3, 1)    (32, 15)   (255, 127)
+ *    session               1,088       1,088        1,088
+ *    answer                1,096       1,096        1,096
+ *    rows                  3,072      30,720      244,992
+ *    record                   36       2,176      131,580
+ *    draw of a row            32       2,112      131,072
+ *    draw of a triple         92       6,332      393,212
+ *    longest line             51         360        2,825
+ *
+ * No call takes more than GANTSOROL_MOST_STACK bytes of stack, beside its arguments and its answer; docs/INTEGRATING.md
+ * has the figures of each call.
+ *
+ * What the calls read. A refusal 8 looks at every number of each row that the call reads from: an opening message gets
+ * it for a bad check value or public sum too. Masks and collect leave the triple's third row unread; multiply reads
+ * neither factor row, only the triple's rows and the two numbers remembered. Check points are looked at before lengths:
+ * a bad one behind the n-th gets 4, not 5.
  */
 #ifndef GANTSOROL_H
 #define GANTSOROL_H
@@ -102,6 +142,8 @@ static inline const char *gantsorol_refusal_text(uint8_t refusal) {
 #define GANTSOROL_MAX_TERMS 32
 /* The second row of a term that is no product. */
 #define GANTSOROL_NO_ROW 255
+/* More stack than any call takes, beside its arguments and its answer. */
+#define GANTSOROL_MOST_STACK 20000
 /* The bytes of the longest broadcast line of any station, its line feed included. A pack file has longer ones. */
 #define GANTSOROL_LONGEST_LINE 5619
 
@@ -176,6 +218,13 @@ static inline size_t gantsorol_draw_place(size_t n, size_t t, const uint8_t *kin
         triples += kinds[i] == GANTSOROL_KIND_TRIPLE;
     }
     return GANTSOROL_DRAWS_LEN(n, t, raw, triples);
+}
+
+/* Zeros over a list, a session or a line that is no longer needed: the compiler leaves no write out. */
+static inline void gantsorol_erase(void *memory, size_t bytes) {
+    volatile uint8_t *byte = (volatile uint8_t *)memory;
+    for (size_t i = 0; i < bytes; i++)
+        byte[i] = 0;
 }
 
 #ifdef __cplusplus

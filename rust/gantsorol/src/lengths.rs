@@ -24,6 +24,9 @@ pub const KIND_RAW: u8 = 1;
 /// The kind of a triple's first row.
 pub const KIND_TRIPLE: u8 = 3;
 
+/// More bytes of stack than any call takes, beside its arguments and its answer.
+pub const MOST_STACK: usize = 20_000;
+
 /// The bytes of the longest broadcast line of any station, its line feed included.
 pub const LONGEST_LINE: usize = 5619;
 

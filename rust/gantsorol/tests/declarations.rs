@@ -8,7 +8,9 @@ use std::fs;
 use std::path::Path;
 
 use common::programs::{exports, repository};
-use gantsorol::{DEAL_LINE_LEN, LONGEST_LINE, MAX_POSTS, MAX_TERMS, MODULUS, NO_ROW, ROWS};
+use gantsorol::{
+    DEAL_LINE_LEN, LONGEST_LINE, MAX_POSTS, MAX_TERMS, MODULUS, MOST_STACK, NO_ROW, ROWS,
+};
 
 /// A file's text without line comments, block comments, attributes and preprocessor lines.
 fn code(path: &str) -> String {
@@ -254,6 +256,7 @@ fn the_header_has_the_constants_of_the_binding() {
         ("MAX_POSTS", MAX_POSTS),
         ("MAX_TERMS", MAX_TERMS),
         ("MODULUS", MODULUS as usize),
+        ("MOST_STACK", MOST_STACK),
         ("NO_ROW", NO_ROW.into()),
         ("ROWS", ROWS),
     ]

@@ -12,11 +12,9 @@ use std::path::{Path, PathBuf};
 use std::process::Command;
 
 use common::programs::{compiled, ended, exports};
+use gantsorol::MOST_STACK;
 
 const SIZES: [[usize; 2]; 3] = [[3, 1], [32, 31], [255, 254]];
-
-/// No call goes deeper, at any size.
-const DEEPEST: usize = 20_000;
 
 /// The calls that open, and by how much a small station's stack stays below that of the most posts: their rooms are not on it.
 const OPENING: [&str; 3] = ["gantsorol_open", "gantsorol_collect", "gantsorol_relation_finish"];
@@ -85,7 +83,7 @@ fn the_room_of_each_call() {
         let alone = linked(std::slice::from_ref(&call)) - empty;
         println!("| {call} | {small} | {middle} | {large} | {alone} |");
         assert!(small > 0 && middle > 0 && large > 0, "{call} was made at each size");
-        assert!(small.max(middle).max(large) <= DEEPEST, "{call} goes deeper than {DEEPEST}");
+        assert!(small.max(middle).max(large) < MOST_STACK, "{call} goes deeper than {MOST_STACK}");
         let spared = !OPENING.contains(&call.as_str()) || small.max(middle) + SPARED <= large;
         assert!(
             spared,
