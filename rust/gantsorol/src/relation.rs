@@ -19,15 +19,25 @@ pub struct Term {
     pub first: u8,
 }
 
+/// A row as a term has it. Above 95 there is none: those that are no byte, and the byte that stands
+/// for no second row, are told as another that gets [`Refusal::NoSuchRow`](crate::Refusal::NoSuchRow).
+const fn told(row: usize) -> u8 {
+    if row < NO_ROW as usize {
+        row as u8
+    } else {
+        NO_ROW - 1
+    }
+}
+
 impl Term {
     /// A coefficient times a row's number.
-    pub const fn plain(coefficient: u32, row: u8) -> Self {
-        Self { coefficient, row, second: NO_ROW, first: 0 }
+    pub const fn plain(coefficient: u32, row: usize) -> Self {
+        Self { coefficient, row: told(row), second: NO_ROW, first: 0 }
     }
 
     /// A coefficient times the product of two rows' numbers, with the triple at `first`.
-    pub const fn product(coefficient: u32, row: u8, second: u8, first: u8) -> Self {
-        Self { coefficient, row, second, first }
+    pub const fn product(coefficient: u32, row: usize, second: usize, first: usize) -> Self {
+        Self { coefficient, row: told(row), second: told(second), first: told(first) }
     }
 }
 

@@ -53,9 +53,7 @@ impl Post {
         &mut self,
         call: impl FnOnce(Session, &mut Vec<u32>) -> Answer,
     ) -> Result<u32, Refusal> {
-        let answer = call(self.session.clone(), &mut self.rows);
-        self.session = answer.session.clone();
-        answer.accepted().map(|(_, value)| value)
+        call(self.session.take(), &mut self.rows).keep(&mut self.session)
     }
 
     #[track_caller]
