@@ -44,6 +44,18 @@ fn a_word_that_is_no_element_is_refused_before_a_file_is_written() {
     check_refused(&program, &["/no/such/folder", "5"]);
 }
 
+#[test]
+fn a_station_of_no_elements_is_refused_before_a_file_is_written() {
+    let (program, directory) = (example("station", "given_station"), folder("given_stations"));
+    let path = directory.to_str().expect("a path in UTF-8");
+    for number in NO_NUMBERS.into_iter().chain(["2147483647"]) {
+        check_refused(&program, &[path, number, "1", "1"]);
+        check_refused(&program, &[path, "1", "1", number]);
+    }
+    check_refused(&program, &[path, "1", "1"]);
+    assert_eq!(fs::read_dir(&directory).expect("a folder").count(), 0);
+}
+
 /// Also where a file stands that others may read.
 #[test]
 fn only_their_owner_reads_pack_files() {
