@@ -10,6 +10,7 @@ use std::process::{Command, Stdio};
 use std::sync::mpsc::{channel, Sender};
 use std::sync::OnceLock;
 use std::thread;
+use std::time::Duration;
 
 use common::programs::{compiled, ended, repository, C, CPP};
 
@@ -119,8 +120,8 @@ impl Station {
             input.write_all(self.deals().as_bytes()).expect("it takes the deals");
         }
         let mut opened = vec![];
-        for event in told {
-            match event {
+        while opened.len() < posts.len() {
+            match told.recv_timeout(Duration::from_secs(60)).expect("no post waits for ever") {
                 // A post that has ended takes no more lines.
                 Event::Line(from, line) => {
                     let line = carried(from, &line);
