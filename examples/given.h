@@ -2,6 +2,7 @@
 #include <fcntl.h>
 #include <stdint.h>
 #include <stdio.h>
+#include <string.h>
 #include <sys/stat.h>
 #include <unistd.h>
 
@@ -27,4 +28,19 @@ static inline FILE *own_file(const char *path) {
         return NULL;
     int opened = open(path, O_WRONLY | O_CREAT | O_EXCL, S_IRUSR | S_IWUSR);
     return opened < 0 ? NULL : fdopen(opened, "wb");
+}
+
+/* Writes the names of the files in a path's folder through to the disk: 1, or 0 where that fails. Without it a renamed file
+   may have its old contents again after a power loss. */
+static inline int synced_folder(const char *path) {
+    char folder[4096];
+    const char *end = strrchr(path, '/');
+    size_t length = end == NULL ? 0 : (size_t)(end - path) + 1;
+    if (snprintf(folder, sizeof folder, "./%.*s", (int)length, path) >= (int)sizeof folder)
+        return 0;
+    int opened = open(path[0] == '/' ? folder + 2 : folder, O_RDONLY);
+    if (opened < 0)
+        return 0;
+    int done = fsync(opened) == 0;
+    return close(opened) == 0 && done;
 }

@@ -1,6 +1,4 @@
 /* Reading a pack file: the library writes them and reads none. */
-#include <string.h>
-
 #include "gantsorol.h"
 #include "given.h"
 

@@ -45,7 +45,7 @@ static void store(void) {
     FILE *file = own_file(path);
     must(file != NULL && fwrite(&state, sizeof state, 1, file) == 1, "the state is not stored");
     must(fflush(file) == 0 && fsync(fileno(file)) == 0 && fclose(file) == 0, "the state is not stored");
-    must(rename(path, state_path) == 0, "the state is not stored");
+    must(rename(path, state_path) == 0 && synced_folder(state_path), "the state is not stored");
 }
 
 /* The state from before a power loss, with its lines sent again; 0 where there is none. */

@@ -66,6 +66,10 @@
 #include <stddef.h>
 #include <stdint.h>
 
+#if !defined(__x86_64__) || defined(__ILP32__) || defined(_WIN32)
+#error "libgantsorol.a is for x86-64, by the rules of System V"
+#endif
+
 /* The version: the minor number counts the requests that are in (CHANGES.md). */
 #define GANTSOROL_VERSION_MAJOR 0
 #define GANTSOROL_VERSION_MINOR 8

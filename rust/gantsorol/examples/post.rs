@@ -101,7 +101,10 @@ impl<W: Write> Post<W> {
         file.write_all(&bytes)?;
         file.sync_all()?;
         erase(&mut bytes);
-        fs::rename(new, &self.state)
+        fs::rename(new, &self.state)?;
+        // Without this the old state may be back after a power loss.
+        let folder = self.state.parent().filter(|folder| !folder.as_os_str().is_empty());
+        File::open(folder.unwrap_or(Path::new(".")))?.sync_all()
     }
 
     // The state from before a power loss; its lines are sent again.

@@ -25,6 +25,9 @@
 #![deny(missing_docs)]
 #![no_std]
 
+#[cfg(any(not(target_arch = "x86_64"), not(target_pointer_width = "64"), windows))]
+compile_error!("libgantsorol.a is for x86-64, by the rules of System V");
+
 mod broadcast;
 mod erase;
 mod lengths;

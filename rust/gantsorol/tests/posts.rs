@@ -83,7 +83,7 @@ impl Station {
     fn start(&self, post: usize, kind: Kind, events: &Sender<Event>) -> Box<dyn Write + Send> {
         let (input, feeding) = io::pipe().expect("a pipe");
         let (output, sending) = io::pipe().expect("a pipe");
-        let (pack, state) = (self.pack(post), self.state(post));
+        let (pack, state, kept) = (self.pack(post), self.state(post), self.state(post));
         let run = move || match kind {
             Kind::Rust => in_rust::told(&pack, &state, BufReader::new(input), sending),
             Kind::C => {
@@ -103,7 +103,7 @@ impl Station {
         let events = events.clone();
         thread::spawn(move || {
             let running = thread::spawn(run);
-            forward(post, output, &events);
+            forward(post, output, &kept, &events);
             let opened = running.join().expect("it ends").unwrap_or_else(|why| why);
             let _ = events.send(Event::Ended(post, opened));
         });
@@ -139,9 +139,17 @@ impl Station {
     }
 }
 
-fn forward(post: usize, output: PipeReader, events: &Sender<Event>) {
+/// Hands a post's lines on. Each was stored before it was sent: a state without it would be the one from before.
+fn forward(post: usize, output: PipeReader, state: &Path, events: &Sender<Event>) {
     for line in BufReader::new(output).lines() {
-        let _ = events.send(Event::Line(post, line.expect("text") + "\n"));
+        let line = line.expect("text") + "\n";
+        let lacks =
+            |stored: Vec<u8>| !stored.windows(line.len()).any(|part| part == line.as_bytes());
+        let event = match fs::read(state).is_ok_and(lacks) {
+            true => Event::Ended(post, format!("{line} is sent and not stored")),
+            false => Event::Line(post, line),
+        };
+        let _ = events.send(event);
     }
 }
 
