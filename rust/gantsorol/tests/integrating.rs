@@ -57,12 +57,16 @@ fn every_block_is_a_part_of_an_example() {
     }
 }
 
-/// A folder with nothing but a clone in it, and pkg-config where the machine has none.
+/// A folder with nothing but what the page uses of a clone, and pkg-config where the machine has none.
 fn empty_folder() -> PathBuf {
     let folder = Path::new(env!("CARGO_TARGET_TMPDIR")).join("integrating");
     let _ = fs::remove_dir_all(&folder);
     fs::create_dir_all(folder.join("bin")).expect("a folder can be made");
-    symlink(repository(), folder.join("gantsorol")).expect("a link can be made");
+    let clone = folder.join("gantsorol");
+    fs::create_dir_all(&clone).expect("a folder can be made");
+    for part in ["install", "include", "examples"] {
+        symlink(repository().join(part), clone.join(part)).expect("a link can be made");
+    }
     if Command::new("pkg-config").arg("--version").output().is_err() {
         let own = folder.join("bin/pkg-config");
         let flags = "-I$PKG_CONFIG_PATH/../../include -L$PKG_CONFIG_PATH/.. -lgantsorol";

@@ -218,7 +218,7 @@ fn three_posts_open_the_word() {
     let read = |name: &str| fs::read(directory.join(name)).expect("it was written");
     for post in 1..=3 {
         let input = [read(&format!("post-{post}.txt")), read("lines.txt")].concat();
-        let printed = fed(&street_program(), &[], &input);
+        let printed = fed(street_program(), &[], &input);
         assert_eq!(printed.lines().last(), Some("7,0,20261116"));
     }
 }
