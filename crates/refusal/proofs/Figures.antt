@@ -9,7 +9,7 @@ use borrow.Author.Tests.{lt-ltb, le-ltb, eq-eqb}
 use lib.Dec.{eqb, ltb}
 use lib.ListN.{length, getD}
 use Rattle.field.specs.Modulus.{p}
-use Rattle.refusal.specs.Conditions.{outside, wrongLength, beyond, anyBeyond, badPoint}
+use Rattle.refusal.specs.Conditions.{beyond, anyBeyond, badPoint}
 use Rattle.refusal.specs.Claims.{ConditionsMean}
 use Rattle.refusal.proofs.Laws.{or-false, inside, equal}
 use Rattle.refusal.proofs.Elements.{below-p, element-test}
