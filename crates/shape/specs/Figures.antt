@@ -6,7 +6,8 @@ use mathlib.Core.List.{List}
 use lib.ListN.{take, getD}
 use Rattle.shape.specs.declared.Shape.{Shape}
 use Rattle.shape.specs.Bounds.{fewestPosts, mostPosts, rowCount, lastRow, lastTriple}
-use Rattle.shape.specs.Lengths.{needed, fLength, vLength, checksAt, sumsAt, rowLength, tripleLength, rowsLength, blockLength, recordLength, drawLength, tripleDrawLength, packsLength, messageLength, masksLength}
+use Rattle.shape.specs.Lengths.{needed, fLength, vLength, checksAt, sumsAt, rowLength, tripleLength, rowsLength}
+use Rattle.shape.specs.Lengths.{blockLength, recordLength, drawLength, tripleDrawLength, packsLength, messageLength, masksLength}
 use Rattle.shape.specs.Marks.{empty, raw, held, unused, further, masked, spent, collected, absent, present}
 use Rattle.shape.specs.Row.{coefficients, checkValue, publicSum}
 
