@@ -83,7 +83,7 @@ look-line-requires c κs =
     let t = c .before .before .before .before .before .before .before .if1 .taken in
     let f = c .before .before .before .before .before .changes .ensures in
     let y = c .before .before .before .before .if2 .left in
-    (turn-able _ _ _ _ _ _ _ _ _ _ _ _ _ _ inv z _ e _ d _ _ _ pr t, turn-change _ _ _ f y, inv .room .ready .store-room, turn-numbers _ _ _ _ _ _ _ _ _ _ _ _ _ _ inv z _ e _ d _ _ _ pr (search (needs, c .before .before .before .before .before .before .before .before .before .before .before .before .read-part)), search turns, turn-number _ _ _ _ _ _ _ _ _ _ _ _ _ _ inv z _ e _ d _ _ _ pr, turn-room _ _ _ _ _ _ _ _ _ _ _ _ _ _ inv z _ e _ d _ _ _ pr)
+    (turn-able _ _ _ _ _ _ _ _ _ _ _ _ _ _ inv z _ e _ d _ _ _ pr t, sym f ∙ y, inv .room .ready .store-room, turn-numbers _ _ _ _ _ _ _ _ _ _ _ _ _ _ inv z _ e _ d _ _ _ pr (search (needs, c .before .before .before .before .before .before .before .before .before .before .before .before .read-part)), search turns, turn-number _ _ _ _ _ _ _ _ _ _ _ _ _ _ inv z _ e _ d _ _ _ pr, turn-room _ _ _ _ _ _ _ _ _ _ _ _ _ _ inv z _ e _ d _ _ _ pr)
 
 loop-again-3 : tie.Need-loop-again-3 Inv-loop μ-loop
 loop-again-3 c =
