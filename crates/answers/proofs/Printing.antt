@@ -1,7 +1,7 @@
 -- What is printed for a line, behind what was printed before: it has room, and the rest stays.
 use Prim.Native.Nat.{ℕ, _+_, _-_, _≤_, _<_, _^_}
 use mathlib.Core.Path.{_≡_, refl, ap, sym, _∙_}
-use mathlib.Core.List.{List, [], _∷_, _++_, append-assoc}
+use mathlib.Core.List.{List, [], _∷_, _++_, append-assoc, append-nil}
 use native.Mathlib.Nat.{add-sub-cancel-left}
 use native.Mathlib.Omega.{arith}
 use borrow.Rule.Slice.PartMut.{putMid}
@@ -11,7 +11,9 @@ use lib.ListN.{length, take, drop, length-append, length-drop}
 use lib.Seq.{take-at, drop-at, length-take-le}
 use Rattle.decimal.proofs.Digits.{length-digits}
 use Rattle.decimal.proofs.Sizes.{size-le}
-use Rattle.csv.specs.Fields.{fields, overwrite}
+use Rattle.csv.specs.Fields.{fields, written, overwrite}
+use Rattle.csv.proofs.Laying.{length-written}
+use Rattle.store.specs.Sizes.{mostMasks}
 use Rattle.csv.proofs.Overwriting.{overwrite-part, overwrite-twice, length-fields-le}
 use Rattle.masklines.specs.Steps.{toldRoom}
 use Rattle.answers.specs.Text.{longSize, longNumeral, answerText, longestAnswer, printText, longestPrint}
@@ -61,11 +63,47 @@ module _ (out told : List ℕ) (at number refusal value : ℕ) (h : at + longest
         let c : behind + length told - behind ≡ length told = add-sub-cancel-left behind (length told) in
         rw (c, q) (overwrite-part out₁ told behind (length told) refl ∙ rw (e, o) (overwrite-twice out answer told at (omega arith)))
 
-pub told-in : (told : ℕ) (text : List ℕ) → told ≤ toldRoom → length text ≡ toldRoom → told ≤ length text
-told-in told text h l = omega arith
+-- ---- nothing behind it
+module _ (at number refusal value r : ℕ) where
+  pub plain-room : (out : List ℕ) → at + longestPrint ≤ length out → at + longestAnswer ≤ length out
+  plain-room out h = omega arith
 
-pub told-prefix : (told : ℕ) (text : List ℕ) → told ≤ toldRoom → length text ≡ toldRoom → told ≡ length (take told text)
-told-prefix told text h l = sym (length-take-le told text (omega arith))
+  pub plain-end : r ≡ at + length (answerText number refusal value) → r ≡ at + length (printText number refusal value [])
+  plain-end q = q ∙ ap (λ (w : List ℕ). at + length w) (sym (append-nil (answerText number refusal value)))
 
-pub told-few : (told : ℕ) (text : List ℕ) → told ≤ toldRoom → length text ≡ toldRoom → length (take told text) ≤ toldRoom
-told-few told text h l = omega (arith, length-take-le told text (omega arith))
+  pub plain-put : (out out' : List ℕ) → out' ≡ overwrite at (answerText number refusal value) out → out' ≡ overwrite at (printText number refusal value []) out
+  plain-put out out' q = q ∙ ap (λ (w : List ℕ). overwrite at w out) (sym (append-nil (answerText number refusal value)))
+
+-- ---- the M line of an `X`
+module _ (first post : ℕ) (xs text : List ℕ) (h : length xs ≤ mostMasks) (e : length text ≡ toldRoom) where
+  abbrev line : List ℕ
+  line = written 77 ((first ∷ post ∷ []) ++ xs)
+
+  line-short : length line ≤ toldRoom
+  line-short = omega (arith, length-written 77 (first ∷ post ∷ []) xs, length-fields-le (first ∷ post ∷ []), length-fields-le xs)
+
+  pub told-fits : length line ≤ length text
+  told-fits = omega (arith, line-short)
+
+  pub told-short : (len : ℕ) → len ≡ length line → len ≤ toldRoom
+  told-short len k = omega (arith, line-short)
+
+  pub told-front : (text' : List ℕ) (len : ℕ) → len ≡ length line → text' ≡ overwrite 0 line text → take len text' ≡ line
+  told-front text' len k q = rw (q, k) (take-at line (drop (0 + length line) text) (length line) refl)
+
+module _ (text : List ℕ) (len : ℕ) (h : len ≤ toldRoom) (l : length text ≡ toldRoom) where
+  pub told-in : len ≤ length text
+  told-in = omega arith
+
+  pub told-prefix : len ≡ length (take len text)
+  told-prefix = sym (length-take-le len text told-in)
+
+  pub told-few : length (take len text) ≤ toldRoom
+  told-few = omega (arith, told-prefix)
+
+  module _ (line : List ℕ) (front : take len text ≡ line) where
+    pub masks-end : (r at number : ℕ) → r ≡ at + length (printText number 0 0 (take len text)) → r ≡ at + length (printText number 0 0 line)
+    masks-end r at number p = p ∙ ap (λ (w : List ℕ). at + length (printText number 0 0 w)) front
+
+    pub masks-put : (at number : ℕ) (out out' : List ℕ) → out' ≡ overwrite at (printText number 0 0 (take len text)) out → out' ≡ overwrite at (printText number 0 0 line) out
+    masks-put at number out out' p = p ∙ ap (λ (w : List ℕ). overwrite at (printText number 0 0 w) out) front

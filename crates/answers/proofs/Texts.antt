@@ -2,7 +2,6 @@
 use Prim.Native.Nat.{ℕ}
 use mathlib.Core.Path.{_≡_, refl, ap}
 use mathlib.Core.List.{List, [], _++_, append-assoc}
-use lib.ListN.{take}
 use Rattle.decimal.specs.Numeral.{numeral, lastDigits, sizeWithin}
 use Rattle.csv.specs.Fields.{fields}
 use Rattle.answers.specs.Text.{longNumeral, answerText}
@@ -21,5 +20,4 @@ answer-texts =
       largest = refl;
       order = in-order;
       printed = λ number refusal value told. ap (λ (l : List ℕ). l ++ told) (in-order number refusal value);
-      stepped = λ number v text. ap (λ (l : List ℕ). l ++ take (v .told) text) (in-order number (v .refusal) (v .value));
     }

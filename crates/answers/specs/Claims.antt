@@ -3,10 +3,8 @@
 use Prim.Native.Nat.{ℕ}
 use mathlib.Core.Path.{_≡_}
 use mathlib.Core.List.{List, [], _∷_, _++_}
-use lib.ListN.{take}
 use Rattle.decimal.specs.Numeral.{numeral}
-use Rattle.states.specs.declared.Stepped.{Stepped}
-use Rattle.answers.specs.Text.{longNumeral, answerText, printText, printOf}
+use Rattle.answers.specs.Text.{longNumeral, answerText, printText}
 
 -- The digits of three numbers, a comma between them and a line feed behind.
 abbrev pub threeDigits : List ℕ → List ℕ → List ℕ → List ℕ
@@ -26,5 +24,3 @@ pub record AnswerTexts : Type 0 where
   -- "X, when not refused, also prints its M line, after its answer."
   pub printed : (number refusal value : ℕ) (told : List ℕ)
       → printText number refusal value told ≡ threeDigits (longNumeral number) (numeral refusal) (numeral value) ++ told
-  pub stepped : (number : ℕ) (v : Stepped) (text : List ℕ)
-      → printOf number v text ≡ threeDigits (longNumeral number) (numeral (v .refusal)) (numeral (v .value)) ++ take (v .told) text

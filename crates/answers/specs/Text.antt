@@ -2,10 +2,8 @@
 -- the number opened (0 if none)." Document 02, (iii): "X, when not refused, also prints its M line, after its answer."
 use Prim.Native.Nat.{ℕ, _+_}
 use mathlib.Core.List.{List, [], _∷_, _++_}
-use lib.ListN.{take}
 use Rattle.decimal.specs.Numeral.{lastDigits, sizeWithin}
 use Rattle.csv.specs.Fields.{fields}
-use Rattle.states.specs.declared.Stepped.{Stepped}
 use Rattle.masklines.specs.Steps.{toldRoom}
 
 -- `line,refusal,value`
@@ -30,10 +28,6 @@ longestAnswer = 43
 -- What is printed for a line: its answer, and behind it what an `X` prints.
 abbrev pub printText : ℕ → ℕ → ℕ → List ℕ → List ℕ
 printText number refusal value told = answerText number refusal value ++ told
-
--- The same of a step, which left what an `X` prints at the start of a text.
-abbrev pub printOf : ℕ → Stepped → List ℕ → List ℕ
-printOf number v text = printText number (v .refusal) (v .value) (take (v .told) text)
 
 -- No more is printed for a line.
 abbrev pub longestPrint : ℕ

@@ -1,11 +1,13 @@
 // The answers as text.
-use states::Stepped;
 ghost use mathlib.Core.Path.{_≡_};
+ghost use mathlib.Core.List.{[]};
 ghost use Prim.Native.Nat.{_+_, _≤_};
-ghost use lib.ListN.{length};
+ghost use lib.ListN.{length, take};
 ghost use Rattle.masklines.specs.Steps.{toldRoom};
+ghost use Rattle.forms.specs.Lines as Lines;
+ghost use Rattle.store.specs.Sizes.{streetPosts, mostMasks};
 ghost use Rattle.csv.specs.Fields.{overwrite};
-ghost use Rattle.answers.specs.Text.{header, longSize, longNumeral, answerText, longestAnswer, printText, printOf, longestPrint};
+ghost use Rattle.answers.specs.Text.{header, longSize, longNumeral, answerText, longestAnswer, printText, longestPrint};
 
 // No more is printed for a line: its answer, and what an `X` prints behind it.
 pub const LONGEST_PRINT: usize = 43 + masklines::TOLD_ROOM;
@@ -49,7 +51,7 @@ fn put_answer(out: &mut [u8], at: usize, number: u64, refusal: u8, value: u32) -
     let behind = put_number(out, at, number);
     let list = [refusal as u32, value];
     let end = csv::put_fields(out, behind, &list);
-    out[end] = 10;
+    out[end] = b'\n';
     end + 1
 }
 
@@ -75,19 +77,38 @@ fn put_print(out: &mut [u8], at: usize, number: u64, refusal: u8, value: u32, to
     end
 }
 
-// What is printed for a step that left this text, from a position on; the position behind.
-pub fn print_step(out: &mut [u8], at: usize, number: u64, stepped: Stepped, text: &[u8]) -> usize
-    requires { ⌜ (at + longestPrint ≤ length (now out)) × (stepped .told ≤ toldRoom) × (length (now text) ≡ toldRoom) ⌝ }
-    ensures { λ r. ⌜ (r ≡ at + length (printOf number stepped (now (text .entry))))
-        × (now (out .exit) ≡ overwrite at (printOf number stepped (now (text .entry))) (now (out .entry))) ⌝ }
+// The answer to a line that prints nothing else, from a position on; the position behind.
+pub fn print(out: &mut [u8], at: usize, number: u64, refusal: u8, value: u32) -> usize
+    requires { ⌜ at + longestPrint ≤ length (now out) ⌝ }
+    ensures { λ r. ⌜ (r ≡ at + length (printText number refusal value []))
+        × (now (out .exit) ≡ overwrite at (printText number refusal value []) (now (out .entry))) ⌝ }
 {
-    let told = stepped.told;
-    put_print(
-        out,
-        at,
-        number,
-        stepped.refusal,
-        stepped.value,
-        &text[..told],
-    )
+    put_answer(out, at, number, refusal, value)
+}
+
+// The M line of an `X`, at the start of a lent text; how many bytes it has.
+fn tell_masks(first: u32, post: usize, masks: &[u32], text: &mut [u8]) -> usize
+    requires { ⌜ (post ≤ streetPosts) × (length (now masks) ≤ mostMasks) × (length (now text) ≡ toldRoom) ⌝ }
+    ensures { λ r. ⌜ (r ≤ toldRoom) × (take r (now (text .exit)) ≡ Lines.text (Lines.masks first post (now (masks .entry)))) ⌝ }
+{
+    let head = [first, post as u32];
+    csv::put_line(b'M', &head, masks, text)
+}
+
+// The answer to an `X` that is not refused, and its M line, from a position on; the position behind.
+pub fn print_masks(
+    out: &mut [u8],
+    at: usize,
+    number: u64,
+    first: u32,
+    post: usize,
+    masks: &[u32],
+) -> usize
+    requires { ⌜ (at + longestPrint ≤ length (now out)) × (post ≤ streetPosts) × (length (now masks) ≤ mostMasks) ⌝ }
+    ensures { λ r. ⌜ (r ≡ at + length (printText number 0 0 (Lines.text (Lines.masks first post (now (masks .entry))))))
+        × (now (out .exit) ≡ overwrite at (printText number 0 0 (Lines.text (Lines.masks first post (now (masks .entry))))) (now (out .entry))) ⌝ }
+{
+    let mut text = [0u8; masklines::TOLD_ROOM];
+    let len = tell_masks(first, post, masks, &mut text);
+    put_print(out, at, number, 0, 0, &text[..len])
 }

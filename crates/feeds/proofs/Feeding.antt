@@ -1,123 +1,245 @@
--- Lines taken one by one, and bytes of a line: each way in which feeding goes on.
-use Prim.Native.Nat.{ℕ, _+_, _-_, _≤_}
-use mathlib.Core.Path.{_≡_, refl, ap, sym, _∙_}
-use mathlib.Core.List.{List, [], _++_}
+-- Bytes of a line kept, a line read where it has ended, and the answer to one printed.
+use Prim.Native.Nat.{ℕ, _+_, _-_, _≤_, _<_, _^_}
+use mathlib.Core.Path.{_≡_, refl, ap, ap₂, sym, _∙_}
+use mathlib.Core.List.{List, [], _∷_, _++_}
+use mathlib.Core.Bool.{Bool, true, false, not, cond}
 use native.Mathlib.Omega.{arith}
-use borrow.Author.Tests.{ne-eqb}
-use lib.ListN.{length, getD, take, length-append, length-take}
+use borrow.Author.Tests.{eq-eqb, ne-eqb, eqb-true}
+use lib.ListN.{length, getD, take, drop, length-append}
 use lib.Seq.{length-take-le}
+use lib.Dec.{eqb}
+use Rattle.shape.specs.declared.Shape.{Shape}
+use Rattle.shape.specs.Lengths.{Valid, masksLength}
+use Rattle.refusal.specs.Refusal.{outcome}
+use Rattle.refusal.proofs.Endings.{refused, accepted}
 use Rattle.csv.specs.Fields.{overwrite}
-use Rattle.states.specs.declared.Stepped.{Stepped}
+use Rattle.csv.proofs.Overwriting.{length-fields-le}
+use Rattle.csv.proofs.Laying.{length-written}
+use Rattle.forms.specs.Lines as Lines
+use Rattle.session.specs.declared.Session.{Session}
+use Rattle.store.specs.Sizes.{mostMasks, streetPosts}
+use Rattle.store.proofs.Keeping.{street-valid}
 use Rattle.states.specs.declared.State.{State}
-use Rattle.states.specs.States.{After, after, firstState}
+use Rattle.states.specs.declared.Head.{Head}
+use Rattle.states.specs.States.{After, Stepped, firstState, stateOf}
 use Rattle.masklines.specs.Steps.{toldRoom}
-use Rattle.interpreter.specs.Stepping.{step, checkedStep, Ready}
-use Rattle.interpreter.proofs.Ranges.{step-ready, step-told}
-use Rattle.interpreter.proofs.Room.{ready-step}
+use Rattle.interpreter.specs.declared.orders.Order.{Order}
+use Rattle.interpreter.specs.declared.Outcome.{Outcome}
+use Rattle.interpreter.specs.Orders.{Accepted, Reads, looking}
+use Rattle.interpreter.specs.Changes.{Looked, held, looked}
+use Rattle.answers.specs.Text.{answerText, printText, longestPrint}
+use Rattle.answers.proofs.Printing.{written-front, written-behind, answer-length}
+use Rattle.splitting.specs.Lines.{keptLength, cut, laid}
 use Rattle.feeds.specs.declared.Feed.{Feed}
-use Rattle.answers.specs.Text.{answerText, printOf, longestPrint}
-use Rattle.splitting.specs.Lines.{keptLength, cut}
+use Rattle.feeds.specs.declared.Part.{Part}
 use Rattle.feeds.specs.Program.{Running, leftBy, answered, grown, closed, firstFeed, running}
-use Rattle.feeds.specs.Between.{segmented, Open, Added, Fed}
-use Rattle.answers.proofs.Printing.{written-front, written-behind, answer-length, told-few}
+use Rattle.feeds.specs.Between.{segmented, Added, feedOf, grownHead, answeredHead, unreadOrder, turned, PartRead, toldText, TellRoom, Answered, Seen}
 
-pub line-prefix : (f : Feed) (store line out : List ℕ) → Open f store line out 1 → f .len ≡ length (take (f .len) line)
-line-prefix f store line out o = sym (length-take-le (f .len) line (omega (arith, o .len-in, o .line-room)))
-
-pub line-in : (f : Feed) (store line out : List ℕ) → Open f store line out 1 → f .len ≤ length line
-line-in f store line out o = omega (arith, o .len-in, o .line-room)
-
-pub line-ready : (f : Feed) (store line out : List ℕ) → Open f store line out 1 → Ready (f .state) store
-line-ready f store line out o = o .ready
-
-pub print-room : (f : Feed) (store line out : List ℕ) → Open f store line out 1 → f .at + longestPrint ≤ length out
-print-room f store line out o = omega (arith, o .room)
-
--- ---- a step, and what is printed for it
-module _ (st : State) (store line : List ℕ) (room : ℕ) (y : Ready st store) (t : room ≡ toldRoom) (v : Stepped) (store' text' : List ℕ)
-    (c : after v store' text' ≡ checkedStep st store line room) where
-  pub taken-is : after v store' text' ≡ step st store line
-  taken-is = c ∙ ready-step st store line room y t
-
-  pub taken-ready : length store' ≡ length store → Ready (v .state) store'
-  taken-ready p = step-ready st store line text' v store' y taken-is p
-
-  pub taken-told : length text' ≡ toldRoom → v .told ≤ toldRoom
-  taken-told l =
-      let k : v .told ≡ length (take (v .told) text') = ap (λ (a : After). a .given .told) taken-is ∙ step-told st store line y ∙ sym (ap (λ (a : After). length (a .told)) taken-is) in
-      omega (arith, k, length-take (v .told) text')
-
--- ---- the line begun is taken
-module _ (f : Feed) (store line out : List ℕ) (o : Open f store line out 1) (v : Stepped) (store' text' : List ℕ) where
-  abbrev print : List ℕ
-  print = printOf (f .number + 1) v text'
-
-  module _ (out' : List ℕ) (at' : ℕ) (p : at' ≡ f .at + length print) (q : out' ≡ overwrite (f .at) print out) where
-    abbrev new : Feed
-    new = record { state = v .state; number = f .number + 1; len = 0; at = at' }
-
-    pub line-answered : after v store' text' ≡ step (f .state) store (take (f .len) line)
-        → running new store' line out' ≡ answered (running f store line out)
-    unfolding answered
-    line-answered e =
-        let p₀ : Running = running f store line out in
-        let w : take at' out' ≡ take (f .at) out ++ print = rw (p, q) (written-front (f .at) print out (omega (arith, o .room))) in
-        ap (λ (z : List ℕ). record { state = v .state; store = store'; line = []; number = f .number + 1; out = z }) w ∙ ap (leftBy p₀) e
-
-    pub line-added : Added f new out out'
-    line-added = record { grows = omega arith; behind = rw (p, q) (written-behind (f .at) print out (omega (arith, o .room))) }
-
-    pub line-bound : v .told ≤ toldRoom → length text' ≡ toldRoom → at' ≤ f .at + longestPrint
-    line-bound h l =
-        omega (arith, length-append (answerText (f .number + 1) (v .refusal) (v .value)) (take (v .told) text'), answer-length (f .number + 1) (v .refusal) (v .value), told-few (v .told) text' h l)
-
-pub none-added : (f r : Feed) (out : List ℕ) → r .at ≡ f .at → Added f r out out
-none-added f r out e = record { grows = omega arith; behind = refl }
-
-pub behind-added : (f g r : Feed) (out out' : List ℕ) → g .at ≡ f .at → Added g r out out' → Added f r out out'
-behind-added f g r out out' e a = record { grows = omega (arith, a .grows); behind = a .behind }
-
--- ---- a part of a line
-module _ (f : Feed) (store line line' out part : List ℕ) (len : ℕ) (o : Open f store line out 1) (w : 1 ≤ length part) where
-  abbrev longer : Feed
-  longer = record { state = f .state; number = f .number; len = len; at = f .at }
-
-  module _ (q : take len line' ≡ cut (take (f .len) line ++ part)) where
-    part-grown : running longer store line' out ≡ grown (running f store line out) part
-    unfolding grown
-    part-grown =
-        ap (λ (z : List ℕ). record { state = f .state; store = store; line = z; number = f .number; out = take (f .at) out }) q
-
-    pub part-ended : (r : Feed) (store' out' : List ℕ) → getD part (length part - 1) 0 ≡ 10
-        → running r store' line' out' ≡ answered (running longer store line' out)
-        → running r store' line' out' ≡ segmented (running f store line out) part
-    part-ended r store' out' b e = e ∙ ap answered part-grown ∙ rw b
-
-    pub part-kept : (getD part (length part - 1) 0 ≡ 10 → ⊥) → running longer store line' out ≡ segmented (running f store line out) part
-    part-kept b = part-grown ∙ rw (ne-eqb (getD part (length part - 1) 0) 10 b)
-
-  pub part-open : len ≤ keptLength → length line' ≡ length line → Open longer store line' out 1
-  part-open h l = record { ready = o .ready; line-room = l ∙ o .line-room; len-in = h; numbers = o .numbers; room = o .room }
-
-  pub kept-fed : len ≤ keptLength → Fed f longer store 1
-  kept-fed h = record { ready = o .ready; len-in = h; numbers = omega arith; room = omega arith }
-
-  pub ended-fed : (r : Feed) (store' : List ℕ) → Ready (r .state) store' → r .len ≡ 0 → r .number ≡ f .number + 1 → r .at ≤ f .at + longestPrint
-      → Fed f r store' 1
-  ended-fed r store' a b c d = record { ready = a; len-in = omega arith; numbers = omega arith; room = omega arith }
-
--- ---- the first and the last
 pub begin-is : (st : State) → st ≡ firstState → _≡_ {A = Feed} (record { state = st; number = 0; len = 0; at = 0 }) firstFeed
 begin-is st e = ap (λ (s : State). record { state = s; number = 0; len = 0; at = 0 }) e
 
-module _ (f : Feed) (store line out : List ℕ) (o : Open f store line out 1) where
-  begun-length : length (take (f .len) line) ≡ f .len
-  begun-length = length-take-le (f .len) line (omega (arith, o .len-in, o .line-room))
+-- ---- bytes are kept
+module _ (h : Head) (line part : List ℕ) (closing : Bool) where
+  pub closing-line : closing ≡ true → line ≡ cond closing line (laid (h .len) part line)
+  closing-line e = rw e
 
-  pub close-nothing : f .len ≡ 0 → running f store line out ≡ closed (running f store line out)
-  unfolding closed
-  close-nothing e = rw (begun-length ∙ e)
+  pub closing-front : closing ≡ true → take (h .len) line ≡ cond closing (take (h .len) line) (cut (take (h .len) line ++ part))
+  closing-front e = rw e
 
-  pub close-line : (v : Running) → (f .len ≡ 0 → ⊥) → v ≡ answered (running f store line out) → v ≡ closed (running f store line out)
-  unfolding closed
-  close-line v n q = q ∙ rw (begun-length, ne-eqb (f .len) 0 n)
+  pub closing-len : closing ≡ true → h .len ≡ cond closing (h .len) (h .len)
+  closing-len e = rw e
+
+  module _ (n : closing ≡ false) (len : ℕ) (line' : List ℕ) where
+    pub grown-line : line' ≡ laid (h .len) part line → line' ≡ cond closing line (laid (h .len) part line)
+    grown-line q = q ∙ rw n
+
+    pub grown-front : take len line' ≡ cut (take (h .len) line ++ part) → take len line' ≡ cond closing (take (h .len) line) (cut (take (h .len) line ++ part))
+    grown-front q = q ∙ rw n
+
+    pub grown-len : len ≡ cond closing (h .len) len
+    grown-len = rw n
+
+-- ---- a line ends
+module _ (part : List ℕ) (closing : Bool) (len : ℕ) where
+  abbrev Ends : Bool
+  Ends = cond closing (not (eqb len 0)) (eqb (getD part (length part - 1) 0) 10)
+
+  pub ends-closing : closing ≡ true → (b : Bool) → b ≡ not (eqb len 0) → b ≡ Ends
+  ends-closing e b q = q ∙ rw e
+
+  pub ends-feed : closing ≡ false → (b : Bool) → b ≡ eqb (getD part (length part - 1) 0) 10 → b ≡ Ends
+  ends-feed e b q = q ∙ rw e
+
+-- ---- an `S` is accepted
+module _ (letter refusal : ℕ) (started : Bool) where
+  pub starts-by : letter ≡ 83 → (b : Bool) → b ≡ eqb refusal 0 → b ≡ cond (eqb letter 83) (eqb refusal 0) started
+  starts-by e b q = q ∙ rw e
+
+  pub starts-not : (letter ≡ 83 → ⊥) → started ≡ cond (eqb letter 83) (eqb refusal 0) started
+  starts-not n = rw (ne-eqb letter 83 n)
+
+pub head-answered : (h : Head) (letter refusal at : ℕ) (b : Bool) → b ≡ cond (eqb letter 83) (eqb refusal 0) (h .started)
+    → _≡_ {A = Head} (record { started = b; kept = h .kept; triple = h .triple; number = h .number + 1; len = 0; at = at }) (answeredHead h letter refusal at)
+head-answered h letter refusal at b e =
+    ap (λ (x : Bool). record { started = x; kept = h .kept; triple = h .triple; number = h .number + 1; len = 0; at = at }) e
+
+-- ---- a part is read
+module _ (g : Shape) (h grown-head : Head) (line part line' : List ℕ) (closing : Bool) (l : length line ≡ keptLength) (a : h .len ≤ keptLength)
+    (p : grown-head ≡ grownHead h (grown-head .len)) (q : grown-head .len ≤ keptLength)
+    (e : line' ≡ cond closing line (laid (h .len) part line))
+    (f : take (grown-head .len) line' ≡ cond closing (take (h .len) line) (cut (take (h .len) line ++ part)))
+    (k : grown-head .len ≡ cond closing (h .len) (grown-head .len)) where
+  pub line-within : length line' ≡ length line → grown-head .len ≤ length line'
+  line-within m = omega arith
+
+  pub line-prefix : length line' ≡ length line → grown-head .len ≡ length (take (grown-head .len) line')
+  line-prefix m = sym (length-take-le (grown-head .len) line' (line-within m))
+
+  pub head-started : Accepted (h .started) g → Accepted (h .started) g
+  head-started x = x
+
+  module _ (s : Session) (store out : List ℕ) where
+    abbrev before : Running
+    before = running (feedOf s h) store line out
+
+    abbrev now' : Running
+    now' = running (feedOf s grown-head) store line' out
+
+    after-is : now' ≡ record { state = stateOf s h; store = store; line = take (grown-head .len) line'; number = h .number; out = take (h .at) out }
+    after-is = ap (λ (x : Head). record { state = stateOf s x; store = store; line = take (grown-head .len) line'; number = x .number; out = take (x .at) out }) p
+
+    turns : (b : Bool) → closing ≡ b → (ended : Bool) → ended ≡ cond b (not (eqb (grown-head .len) 0)) (eqb (getD part (length part - 1) 0) 10)
+        → turned b before part ≡ cond ended (answered now') now'
+    unfolding closed grown
+    turns true c ended t =
+        let same : now' ≡ before =
+        after-is ∙ ap (λ (x : List ℕ). record { state = stateOf s h; store = store; line = x; number = h .number; out = take (h .at) out }) (rw c at f) in
+        let len : grown-head .len ≡ h .len = rw c at k in
+        let begun : length (take (h .len) line) ≡ h .len = length-take-le (h .len) line (omega arith) in
+        rw (t, same, len, begun) (pick (eqb (h .len) 0))
+      where
+        pick : (z : Bool) → cond z before (answered before) ≡ cond (not z) (answered before) before
+        pick true = refl
+        pick false = refl
+    turns false c ended t =
+        let same : now' ≡ grown before part =
+        after-is ∙ ap (λ (x : List ℕ). record { state = stateOf s h; store = store; line = x; number = h .number; out = take (h .at) out }) (rw c at f) in
+        rw (t, same)
+
+  abbrev Ended : Bool
+  Ended = cond closing (not (eqb (grown-head .len) 0)) (eqb (getD part (length part - 1) 0) 10)
+
+  pub part-ended : (b : Bool) (o : Order) (xs : List ℕ) → b ≡ Ended → b ≡ true → Reads (h .started) g (take (grown-head .len) line') o xs
+      → PartRead g h line part closing (record { ended = true; order = o; head = grown-head }) line' xs
+  part-ended b o xs t z r =
+      record {
+        head-is = p;
+        len-in = q;
+        line-is = e;
+        reads = λ _. r;
+        says = λ s store out. turns s store out closing refl true (sym z ∙ t);
+      }
+
+  pub part-begun : (b : Bool) (o : Order) (xs : List ℕ) → b ≡ Ended → b ≡ false
+      → PartRead g h line part closing (record { ended = false; order = o; head = grown-head }) line' xs
+  part-begun b o xs t z =
+      record {
+        head-is = p;
+        len-in = q;
+        line-is = e;
+        reads = λ y. absurd (let x : _≡_ {A = ℕ} 0 1 = cc in omega arith);
+        says = λ s store out. turns s store out closing refl false (sym z ∙ t);
+      }
+
+-- ---- a line is answered
+module _ (h : Head) (out : List ℕ) (room : h .at + longestPrint ≤ length out) where
+  pub print-limit : (number refusal value : ℕ) (told : List ℕ) → length told ≤ toldRoom → length (printText number refusal value told) ≤ longestPrint
+  print-limit number refusal value told t =
+      omega (arith, length-append (answerText number refusal value) told, answer-length number refusal value)
+
+  module _ (s s' : Session) (store store' : List ℕ) (r : Head) (out' : List ℕ) (given : Stepped) (told : List ℕ) where
+    pub answered-by : r .len ≡ 0 → r .number ≡ h .number + 1 → stateOf s' r ≡ given .state
+        → r .at ≡ h .at + length (printText (h .number + 1) (given .refusal) (given .value) told)
+        → out' ≡ overwrite (h .at) (printText (h .number + 1) (given .refusal) (given .value) told) out
+        → (line : List ℕ) → running (feedOf s' r) store' line out' ≡ leftBy (running (feedOf s h) store line out) (record { given = given; store = store'; told = told })
+    answered-by z n st p q line =
+        let text : List ℕ = printText (h .number + 1) (given .refusal) (given .value) told in
+        let w : take (r .at) out' ≡ take (h .at) out ++ text = rw (p, q) (written-front (h .at) text out (omega arith)) in
+        rw (z, n, w, st)
+
+  pub answered-added : (s s' : Session) (r : Head) (out' text : List ℕ) → r .at ≡ h .at + length text → out' ≡ overwrite (h .at) text out
+      → Added (feedOf s h) (feedOf s' r) out out'
+  answered-added s s' r out' text p q =
+      record { grows = omega arith; behind = rw (p, q) (written-behind (h .at) text out (omega arith)) }
+
+module _ (s : Session) (h : Head) (o : Order) (xs store out store' out' : List ℕ) (room : h .at + longestPrint ≤ length out) (v : Outcome)
+    (d : Looked s (h .kept) (h .triple) o xs store v store') (at : ℕ)
+    (p : at ≡ h .at + length (printText (h .number + 1) (v .refusal) (v .value) []))
+    (q : out' ≡ overwrite (h .at) (printText (h .number + 1) (v .refusal) (v .value) []) out) where
+  abbrev next : Head
+  next = record { started = h .started; kept = v .kept; triple = v .triple; number = h .number + 1; len = 0; at = at }
+
+  pub line-seen : Seen s h o xs store out next store' out'
+  line-seen =
+      record {
+        says = λ line.
+            answered-by h out room s s store store' next out' (looked (stateOf s h) v store' .given) [] refl refl refl p q line
+            ∙ ap (leftBy (running (feedOf s h) store line out)) (d .says (h .started));
+        len-none = refl;
+        number-next = refl;
+        at-in = omega (arith, print-limit h out room (h .number + 1) (v .refusal) (v .value) [] (omega arith));
+        added = answered-added h out room s s next out' (printText (h .number + 1) (v .refusal) (v .value) []) p q;
+      }
+
+-- ---- a change is answered
+module _ (h : Head) (letter refusal post : ℕ) (g : Shape) (xs ms out : List ℕ) (t : TellRoom letter refusal post g xs ms) (room : h .at + longestPrint ≤ length out) where
+  abbrev told : List ℕ
+  told = toldText letter refusal post g xs ms
+
+  pub tell-number : 2 < length xs
+  tell-number = omega (arith, t .number-in)
+
+  module _ (at : ℕ) (out' : List ℕ) where
+    pub told-plain : (letter ≡ 88 → ⊥) → at ≡ h .at + length (printText (h .number + 1) refusal 0 [])
+        → out' ≡ overwrite (h .at) (printText (h .number + 1) refusal 0 []) out → Answered h letter refusal told out at out'
+    told-plain n p q =
+        rw (ne-eqb letter 88 n)
+        (record { at-is = p; out-is = q; at-in = omega (arith, print-limit h out room (h .number + 1) refusal 0 [] (omega arith)) })
+
+    pub told-refused : letter ≡ 88 → (refusal ≡ 0 → ⊥) → at ≡ h .at + length (printText (h .number + 1) refusal 0 [])
+        → out' ≡ overwrite (h .at) (printText (h .number + 1) refusal 0 []) out → Answered h letter refusal told out at out'
+    told-refused e n p q =
+        let none : [] ≡ told = rw e (refused {A = List ℕ} refusal refusal _ [] refl n) in
+        rw (← none)
+        (record { at-is = p; out-is = q; at-in = omega (arith, print-limit h out room (h .number + 1) refusal 0 [] (omega arith)) })
+
+    module _ (e : letter ≡ 88) (z : refusal ≡ 0) where
+      pub tell-post : post ≤ streetPosts
+      tell-post = t .post-in e z
+
+      pub tell-valid : Valid g
+      tell-valid = street-valid g (t .street e z)
+
+      module _ (count : ℕ) (k : count ≡ masksLength g) where
+        pub tell-count : count ≤ length ms
+        tell-count = let i = t .street e z in omega (arith, t .masks-room, i .n-in .1, i .t-in .1)
+
+        pub tell-prefix : count ≡ length (take count ms)
+        tell-prefix = sym (length-take-le count ms tell-count)
+
+        pub tell-few : length (take count ms) ≤ mostMasks
+        tell-few = let i = t .street e z in omega (arith, t .masks-room, tell-prefix, i .n-in .1, i .t-in .1)
+
+        abbrev line : List ℕ
+        line = Lines.text (Lines.masks (getD xs 2 0) post (take count ms))
+
+        line-limit : length line ≤ toldRoom
+        line-limit =
+            omega (arith, length-written 77 (getD xs 2 0 ∷ post ∷ []) (take count ms), length-fields-le (getD xs 2 0 ∷ post ∷ []), length-fields-le (take count ms), tell-few)
+
+        pub told-masks : at ≡ h .at + length (printText (h .number + 1) 0 0 line)
+            → out' ≡ overwrite (h .at) (printText (h .number + 1) 0 0 line) out → Answered h letter refusal told out at out'
+        told-masks p q =
+            let all : line ≡ told = rw (e, ← k) (accepted {A = List ℕ} refusal refusal line line [] refl z refl) in
+            rw (← all, z)
+            (record { at-is = p; out-is = q; at-in = omega (arith, print-limit h out room (h .number + 1) 0 0 line line-limit) })

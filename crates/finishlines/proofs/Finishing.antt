@@ -1,76 +1,107 @@
--- The ways in which an `F` ends.
-use Prim.Native.Nat.{ℕ, _+_, _≤_}
-use mathlib.Core.Path.{_≡_, ap, sym, _∙_}
-use mathlib.Core.List.{List, [], _∷_, _++_}
+-- The calls of an `F`, on the session's rows and the records in the store.
+use Prim.Native.Nat.{ℕ, zero, suc, _+_, _≤_}
+use mathlib.Core.Path.{_≡_, refl, ap, sym, _∙_}
+use mathlib.Core.Bool.{Bool}
+use mathlib.Core.List.{List, _++_}
 use native.Mathlib.Omega.{arith}
-use lib.ListN.{length, getD, take, drop}
-use lib.Seq.{length-take-le}
+use lib.ListN.{length, take, drop, take-append-drop}
 use lib.Dec.{eqb}
 use Rattle.shape.specs.declared.Shape.{Shape}
-use Rattle.shape.specs.Bounds.{lastTriple}
-use Rattle.shape.specs.Lengths.{rowsLength, recordLength}
-use Rattle.refusal.specs.Refusal.{outcome}
+use Rattle.shape.specs.Lengths.{rowsLength}
+use Rattle.refusal.specs.Refusal.{orElse, outcome}
+use Rattle.refusal.proofs.Endings.{refused, accepted}
 use Rattle.session.specs.declared.Session.{Session}
 use Rattle.session.specs.declared.Answer.{Answer}
-use Rattle.session.specs.Sessions.{shapeOf}
-use Rattle.store.specs.Sizes.{InStreet, recordRoom, masksAAt, masksBAt, storeRoom}
-use Rattle.store.specs.Records.{recordIf}
-use Rattle.store.proofs.Keeping.{record-room}
-use Rattle.reading.specs.Numbers.{numbers, elementsRefusal, readRefusal}
-use Rattle.reading.proofs.Scanned.{read-numbers}
-use Rattle.states.specs.declared.State.{State}
-use Rattle.states.specs.declared.Stepped.{Stepped}
-use Rattle.states.specs.States.{After, refusing, answering, leaving, sessionRows, calling}
-use Rattle.finishlines.specs.Steps.{pairAnswer, pairRows, finishing, finishStep}
-use Rattle.states.proofs.Calling.{line-refused, line-taken, called}
+use Rattle.session.specs.Sessions.{shapeOf, answer, collectedTriple, finishedTriple}
+use Rattle.collect.specs.Collect.{numberA, numberB, collectRefusal, collectAnswer}
+use Rattle.multiply.specs.Multiply.{multiplyRefusal, multiplyAnswer, multiplyRows}
+use Rattle.store.specs.Sizes.{InStreet, recordRoom, storeRoom, masksAAt, masksBAt}
+use Rattle.store.specs.Records.{recordAt, recordIf}
+use Rattle.states.specs.States.{rowsOf, withRows, settled}
+use Rattle.finishlines.specs.Steps.{between, pairAnswer, pairRows}
+use Rattle.finishlines.specs.Between.{afterAnswer, afterRows}
 
-module _ (st : State) (store : List ℕ) (v : Stepped) (a : Answer) (end : ℕ) (e : end ≡ rowsLength (shapeOf (st .session))) (q : v ≡ answering st a) (part : List ℕ) where
-  pub finish-called : (first : ℕ) (blocksA blocksB : List ℕ) → a ≡ pairAnswer (st .session) (take end store) first blocksA blocksB
-      → part ≡ pairRows (st .session) (take end store) first blocksA blocksB
-      → leaving v (part ++ drop end store)
-      ≡ calling st store (pairAnswer (st .session) (sessionRows st store) first blocksA blocksB)
-      (pairRows (st .session) (sessionRows st store) first blocksA blocksB)
-  finish-called first blocksA blocksB f g =
-      called st store v a end e q part _ _ (f ∙ ap (λ (k : ℕ). pairAnswer (st .session) (take k store) first blocksA blocksB) e)
-      (g ∙ ap (λ (k : ℕ). pairRows (st .session) (take k store) first blocksA blocksB) e)
+-- ---- where the records stand
+pub masks-a-within : (store : List ℕ) → length store ≡ storeRoom → masksAAt + recordRoom ≤ length store
+masks-a-within store l = omega arith
 
-module _ (g : Shape) (store : List ℕ) (i : InStreet g) (l : length store ≡ storeRoom) (out : List ℕ) (n : length out ≡ recordLength g) where
-  pub masks-a-in : masksAAt + length out ≤ length store
-  masks-a-in = omega (arith, record-room g i)
+pub masks-b-within : (store : List ℕ) → length store ≡ storeRoom → masksBAt + recordRoom ≤ length store
+masks-b-within store l = omega arith
 
-  pub masks-b-in : masksBAt + length out ≤ length store
-  masks-b-in = omega (arith, record-room g i)
+pub collected-kept : (s : Session) (store a b : List ℕ) (g : Shape) (end first : ℕ) (same : Bool) (ans : Answer) → g ≡ shapeOf s
+    → end ≡ rowsLength (shapeOf s) → a ≡ recordIf same (recordAt masksAAt g store) → b ≡ recordIf same (recordAt masksBAt g store)
+    → ans ≡ collectAnswer s (take end store) first a b
+    → ans
+    ≡ collectAnswer s (rowsOf s store) first (recordIf same (recordAt masksAAt (shapeOf s) store)) (recordIf same (recordAt masksBAt (shapeOf s) store))
+collected-kept s store a b g end first same ans d e f h q = q ∙ rw (e, f, h, d)
 
-pub finish-copied : (st : State) (store : List ℕ) (ka kb : ℕ) (newA newB : List ℕ) (first : ℕ) (a : After) → ka ≡ recordLength (shapeOf (st .session))
-    → kb ≡ recordLength (shapeOf (st .session)) → newA ≡ recordIf (eqb (st .triple) first) (take ka (drop masksAAt store))
-    → newB ≡ recordIf (eqb (st .triple) first) (take kb (drop masksBAt store))
-    → a
-    ≡ calling st store (pairAnswer (st .session) (sessionRows st store) first newA newB) (pairRows (st .session) (sessionRows st store) first newA newB)
-    → a ≡ finishing st store first
-unfolding finishing
-finish-copied st store ka kb newA newB first a m n e f q = q ∙ rw (e, f, m, n)
+-- ---- the second call
+module _ (a : Answer) (store : List ℕ) (first : ℕ) where
+  module _ (n : a .refusal ≡ 0 → ⊥) where
+    pub after-refused : a ≡ afterAnswer a store first
+    after-refused = refused (a .refusal) (a .refusal) _ a refl n
 
-pub record-shape : (s : Session) (g : Shape) (xs : List ℕ) → g ≡ shapeOf s → length xs ≡ recordLength (shapeOf s) → length xs ≡ recordLength g
-record-shape s g xs e h = rw e h
+    pub after-unwritten : store ≡ afterRows a store first
+    after-unwritten = refused (a .refusal) (a .refusal) _ store refl n
 
-module _ (g h : Shape) (i : InStreet h) (d : g ≡ h) (k : ℕ) (e : k ≡ recordLength g) (zeros : List ℕ) (l : length zeros ≡ recordRoom) where
-  pub record-in : k ≤ length zeros
-  record-in = let r : k ≡ recordLength h = e ∙ ap recordLength d in omega (arith, record-room h i)
+  module _ (z : a .refusal ≡ 0) (end : ℕ) (e : end ≡ rowsLength (shapeOf (a .session))) where
+    pub after-done : (b : Answer) → b ≡ multiplyAnswer (a .session) (take end store) first → b ≡ afterAnswer a store first
+    after-done b q = accepted (a .refusal) (a .refusal) b _ a refl z (q ∙ rw e)
 
-  pub record-prefix : k ≡ length (take k zeros)
-  record-prefix = sym (length-take-le k zeros record-in)
+    pub after-written : (part : List ℕ) → part ≡ multiplyRows (a .session) (take end store) first → part ++ drop end store ≡ afterRows a store first
+    after-written part q = accepted (a .refusal) (a .refusal) (part ++ drop end store) _ store refl z (rw (q, e))
 
-  pub record-long : length (take k zeros) ≡ recordLength h
-  record-long = sym record-prefix ∙ e ∙ ap recordLength d
+-- ---- both
+collected-shape : (x : ℕ) (s : Session) (first y y' : ℕ) → shapeOf (answer x 0 (collectedTriple s first y y') s .session) ≡ shapeOf s
+unfolding outcome
+collected-shape zero s first y y' = refl
+collected-shape (suc k) s first y y' = refl
 
-module _ (st : State) (store line : List ℕ) (r : ℕ) (e : r ≡ readRefusal (lastTriple ∷ []) 1 line) where
-  pub finish-refused : (v : Stepped) → (r ≡ 0 → ⊥) → v ≡ refusing st r → leaving v store ≡ finishStep st store line
-  unfolding finishStep
-  finish-refused v n q = line-refused st store r _ _ v e n q
+module _ (s : Session) (store : List ℕ) (first : ℕ) (same : Bool) (c : Answer) where
+  abbrev rows : List ℕ
+  rows = rowsOf s store
 
-  pub finish-taken : (out' : List ℕ) → r ≡ 0 → out' ≡ outcome (elementsRefusal 1 line) (numbers 1 line) (0 ∷ [])
-      → (first : ℕ) → first ≡ getD out' 0 0 → (a : After) → a ≡ finishing st store first → a ≡ finishStep st store line
-  unfolding finishStep
-  finish-taken out' z f first w a q =
-      line-taken st store r _ _ a e z
-      (q ∙ ap (finishing st store) (w ∙ ap (λ (xs : List ℕ). getD xs 0 0) (read-numbers (lastTriple ∷ []) line (0 ∷ []) out' r e z f)))
+  abbrev blocksA : List ℕ
+  blocksA = recordIf same (recordAt masksAAt (shapeOf s) store)
+
+  abbrev blocksB : List ℕ
+  blocksB = recordIf same (recordAt masksBAt (shapeOf s) store)
+
+  module _ (e : c ≡ collectAnswer s rows first blocksA blocksB) where
+    c-shape : shapeOf (c .session) ≡ shapeOf s
+    c-shape = ap (λ (x : Answer). shapeOf (x .session)) e ∙ collected-shape (collectRefusal s rows first blocksA blocksB) s first (numberA s rows first blocksA) (numberB s rows first blocksB)
+
+    pub collected-street : InStreet (shapeOf s) → InStreet (shapeOf (c .session))
+    collected-street i = rw c-shape i
+
+    abbrev done : Session
+    done = collectedTriple s first (numberA s rows first blocksA) (numberB s rows first blocksB)
+
+    twice : (m : ℕ) (new old : Session) → settled s (answer m 0 new old) ≡ answer m 0 (answer m 0 new old .session) s
+    unfolding outcome
+    twice zero new old = refl
+    twice (suc k) new old = refl
+
+    settle : (k : ℕ)
+        → (let h = answer k 0 done s .session in settled s (afterAnswer (answer k 0 done s) store first) ≡ answer (orElse k (multiplyRefusal h rows first)) 0 (multiplyAnswer h rows first .session) s)
+    unfolding outcome
+    settle zero = twice (multiplyRefusal done rows first) (finishedTriple done first) done
+    settle (suc k) = refl
+
+    pub pair-settled : (r : Answer) → r ≡ afterAnswer c store first → settled s r ≡ pairAnswer s rows first blocksA blocksB
+    pair-settled r q =
+        ap (settled s) (q ∙ ap (λ (x : Answer). afterAnswer x store first) e) ∙ settle (collectRefusal s rows first blocksA blocksB)
+
+    leaves : (m : ℕ) (new old : List ℕ) → outcome m new old ≡ outcome m (outcome m new old) old
+    unfolding outcome
+    leaves zero new old = refl
+    leaves (suc k) new old = refl
+
+    write : (k : ℕ)
+        → (let h = answer k 0 done s .session in afterRows (answer k 0 done s) store first ≡ withRows s (outcome (orElse k (multiplyRefusal h rows first)) (multiplyRows h rows first) rows) store)
+    unfolding outcome
+    write zero = ap (λ (l : List ℕ). withRows s l store) (leaves (multiplyRefusal done rows first) _ rows)
+    write (suc k) = sym (take-append-drop (rowsLength (shapeOf s)) store)
+
+    pub pair-written : (l : List ℕ) → l ≡ afterRows c store first → l ≡ withRows s (pairRows s rows first blocksA blocksB) store
+    pair-written l q = q ∙ ap (λ (x : Answer). afterRows x store first) e ∙ write (collectRefusal s rows first blocksA blocksB)

@@ -1,115 +1,57 @@
-// The line that finishes a product: `F`.
+// The calls of the line that finishes a product: `F`.
 use session::Answer;
 use session::Session;
-use shape::Shape;
-use states::State;
-use states::Stepped;
 ghost use mathlib.Core.Path.{_≡_};
-ghost use lib.ListN.{length, take, drop};
-ghost use Rattle.shape.specs.Lengths.{recordLength};
+ghost use lib.ListN.{length, replicate};
+ghost use lib.Dec.{eqb};
 ghost use Rattle.session.specs.Sessions.{shapeOf};
-ghost use Rattle.store.specs.Sizes.{InStreet, storeRoom, masksAAt, masksBAt};
-ghost use Rattle.store.specs.Records.{recordIf};
-ghost use Rattle.states.specs.States.{leaving, sessionRows, calling};
-ghost use Rattle.finishlines.specs.Steps.{pairAnswer, pairRows, finishing, finishStep};
+ghost use Rattle.collect.specs.Collect.{collectAnswer};
+ghost use Rattle.multiply.specs.Multiply.{multiplyAnswer, multiplyRows};
+ghost use Rattle.store.specs.Sizes.{InStreet, recordRoom, storeRoom, masksAAt, masksBAt};
+ghost use Rattle.store.specs.Records.{recordAt, recordIf};
+ghost use Rattle.states.specs.States.{rowsOf, withRows, settled};
+ghost use Rattle.finishlines.specs.Steps.{pairAnswer, pairRows};
+ghost use Rattle.finishlines.specs.Between.{afterAnswer, afterRows};
 
-// A triple is finished with two records, by the pair of calls. A refused pair leaves the session as it came.
-fn finish_pair(
-    session: Session,
-    rows: &mut [u32],
-    first: usize,
-    record_a: &[u32],
-    record_b: &[u32],
-) -> Answer
-    ensures { λ r. ⌜ r ≡ pairAnswer session (now (rows .entry)) first (now («record_a» .entry)) (now («record_b» .entry)) ⌝ }
-    ensures { λ r. ⌜ now (rows .exit) ≡ pairRows session (now (rows .entry)) first (now («record_a» .entry)) (now («record_b» .entry)) ⌝ }
+// y and y' are worked out with the two records of the `M` lines where they stand, if they are kept for the triple, else with empty ones.
+fn collect_kept<'a>(session: Session, store: &'a [u32], empty: &'a [u32], same: bool, first: usize) -> Answer
+    requires { ⌜ InStreet (shapeOf session) × (length (now store) ≡ storeRoom) × (now empty ≡ replicate recordRoom 0) ⌝ }
+    ensures { λ r. ⌜ r ≡ collectAnswer session (rowsOf session (now (store .entry))) first
+        (recordIf same (recordAt masksAAt (shapeOf session) (now (store .entry))))
+        (recordIf same (recordAt masksBAt (shapeOf session) (now (store .entry)))) ⌝ }
 {
-    let collected = collect::collect(session, rows, first, record_a, record_b);
+    let shape = session.shape();
+    let end = states::rows_end(session);
+    let record_a = store::record(shape, store, empty, store::MASKS_A_AT, same);
+    let record_b = store::record(shape, store, empty, store::MASKS_B_AT, same);
+    collect::collect(session, &store[..end], first, record_a, record_b)
+}
+
+// The second call, where the first was not refused.
+fn multiply_after(collected: Answer, store: &mut [u32], first: usize) -> Answer
+    requires { ⌜ InStreet (shapeOf (collected .session)) × (length (now store) ≡ storeRoom) ⌝ }
+    ensures { λ r. ⌜ r ≡ afterAnswer collected (now (store .entry)) first ⌝ }
+    ensures { λ r. ⌜ now (store .exit) ≡ afterRows collected (now (store .entry)) first ⌝ }
+{
     if collected.refusal != 0 {
         return collected;
     }
-    let multiplied = multiply::multiply(collected.session, rows, first);
-    if multiplied.refusal != 0 {
-        return session.refuse(multiplied.refusal);
-    }
-    multiplied
-}
-
-// The same on the rows in the store.
-fn finish(
-    state: State,
-    store: &mut [u32],
-    first: usize,
-    record_a: &[u32],
-    record_b: &[u32],
-) -> Stepped
-    requires { ⌜ InStreet (shapeOf (state .session)) × (length (now store) ≡ storeRoom) ⌝ }
-    ensures { λ r. ⌜ leaving r (now (store .exit)) ≡ calling state (now (store .entry))
-        (pairAnswer (state .session) (sessionRows state (now (store .entry))) first (now («record_a» .entry)) (now («record_b» .entry)))
-        (pairRows (state .session) (sessionRows state (now (store .entry))) first (now («record_a» .entry)) (now («record_b» .entry))) ⌝ }
-{
-    let session = state.session;
+    let session = collected.session;
     let end = states::rows_end(session);
-    let answer = finish_pair(session, &mut store[..end], first, record_a, record_b);
-    state.answer(answer)
+    multiply::multiply(session, &mut store[..end], first)
 }
 
-// The two records of the `M` lines, or empty ones, into lent lists.
-fn copy_masks(shape: Shape, store: &[u32], same: bool, record_a: &mut [u32], record_b: &mut [u32])
-    requires { ⌜ InStreet shape × (length (now store) ≡ storeRoom) × (length (now «record_a») ≡ recordLength shape)
-        × (length (now «record_b») ≡ recordLength shape) ⌝ }
-    ensures { λ r. ⌜ now («record_a» .exit) ≡ recordIf same (take (length (now («record_a» .entry))) (drop masksAAt (now (store .entry)))) ⌝ }
-    ensures { λ r. ⌜ now («record_b» .exit) ≡ recordIf same (take (length (now («record_b» .entry))) (drop masksBAt (now (store .entry)))) ⌝ }
+// A triple is finished, by the pair of calls, with the records that are kept for it, or with empty ones. The session of a refused answer is of no use.
+pub fn finish(session: Session, store: &mut [u32], empty: &[u32], triple: usize, first: usize) -> Answer
+    requires { ⌜ InStreet (shapeOf session) × (length (now store) ≡ storeRoom) × (now empty ≡ replicate recordRoom 0) ⌝ }
+    ensures { λ r. ⌜ settled session r ≡ pairAnswer session (rowsOf session (now (store .entry))) first
+        (recordIf (eqb triple first) (recordAt masksAAt (shapeOf session) (now (store .entry))))
+        (recordIf (eqb triple first) (recordAt masksBAt (shapeOf session) (now (store .entry)))) ⌝ }
+    ensures { λ r. ⌜ now (store .exit) ≡ withRows session (pairRows session (rowsOf session (now (store .entry))) first
+        (recordIf (eqb triple first) (recordAt masksAAt (shapeOf session) (now (store .entry))))
+        (recordIf (eqb triple first) (recordAt masksBAt (shapeOf session) (now (store .entry))))) (now (store .entry)) ⌝ }
 {
-    store::copy_record(store, store::MASKS_A_AT, same, record_a);
-    store::copy_record(store, store::MASKS_B_AT, same, record_b);
-}
-
-// A triple is finished with the records that are kept for it, or with empty ones, which are copied into lent lists.
-fn finish_copied(
-    state: State,
-    store: &mut [u32],
-    first: usize,
-    record_a: &mut [u32],
-    record_b: &mut [u32],
-) -> Stepped
-    requires { ⌜ InStreet (shapeOf (state .session)) × (length (now store) ≡ storeRoom)
-        × (length (now «record_a») ≡ recordLength (shapeOf (state .session))) × (length (now «record_b») ≡ recordLength (shapeOf (state .session))) ⌝ }
-    ensures { λ r. ⌜ leaving r (now (store .exit)) ≡ finishing state (now (store .entry)) first ⌝ }
-{
-    let same = state.triple == first;
-    copy_masks(state.session.shape(), store, same, record_a, record_b);
-    finish(state, store, first, record_a, record_b)
-}
-
-// The same with room for the records.
-fn finish_kept(state: State, store: &mut [u32], first: usize) -> Stepped
-    requires { ⌜ InStreet (shapeOf (state .session)) × (length (now store) ≡ storeRoom) ⌝ }
-    ensures { λ r. ⌜ leaving r (now (store .exit)) ≡ finishing state (now (store .entry)) first ⌝ }
-{
-    let shape = state.session.shape();
-    let count = shape.record_len();
-    let mut record_a = states::empty_record();
-    let mut record_b = states::empty_record();
-    finish_copied(
-        state,
-        store,
-        first,
-        &mut record_a[..count],
-        &mut record_b[..count],
-    )
-}
-
-// `F,first`.
-pub fn finish_line(state: State, store: &mut [u32], line: &[u8]) -> Stepped
-    requires { ⌜ InStreet (shapeOf (state .session)) × (length (now store) ≡ storeRoom) ⌝ }
-    ensures { λ r. ⌜ leaving r (now (store .exit)) ≡ finishStep state (now (store .entry)) (now (line .entry)) ⌝ }
-{
-    let lasts = [shape::LAST_TRIPLE as u32];
-    let mut numbers = [0u32; 1];
-    let refusal = reading::read(line, &lasts, &mut numbers);
-    if refusal != 0 {
-        return state.refuse(refusal);
-    }
-    finish_kept(state, store, states::place(numbers[0]))
+    let same = triple == first;
+    let collected = collect_kept(session, store, empty, same, first);
+    multiply_after(collected, store, first)
 }

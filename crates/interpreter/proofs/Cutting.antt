@@ -10,7 +10,7 @@ use lib.Seq.{take-all, length-take-le, getD-take}
 use lib.Dec.{ltb}
 use Rattle.reading.specs.Starting.{isStart}
 use Rattle.states.specs.declared.State.{State}
-use Rattle.states.specs.declared.Stepped.{Stepped}
+use Rattle.states.specs.States.{Stepped}
 use Rattle.states.specs.States.{refusing, leaving}
 use Rattle.startlines.specs.Steps.{longestLine, startStep, earlyStep}
 use Rattle.interpreter.specs.Stepping.{lateStep, step}

@@ -16,7 +16,7 @@ use Rattle.reading.specs.declared.StartForm.{StartForm}
 use Rattle.reading.specs.declared.StartForm.the-variants.{Settings, Wrong}
 use Rattle.reading.specs.Starting.{isStart, startForm, startOf}
 use Rattle.states.specs.declared.State.{State}
-use Rattle.states.specs.declared.Stepped.{Stepped}
+use Rattle.states.specs.States.{Stepped}
 use Rattle.states.specs.States.{After, begunWith, refusing, answering, telling, leaving, unless, sessionRows, calling}
 use Rattle.startlines.specs.Steps.{longestLine, startTests, settingsStep, startStep, earlyStep}
 use Rattle.loadlines.specs.Steps.{loading, loadStep, loadingTriple, loadTripleStep}

@@ -20,8 +20,8 @@ use Rattle.reading.specs.declared.StartForm.{StartForm}
 use Rattle.reading.specs.declared.StartForm.the-variants.{Settings, Wrong}
 use Rattle.reading.specs.Starting.{isStart, startForm, startOf}
 use Rattle.states.specs.declared.State.{State}
-use Rattle.states.specs.declared.Stepped.{Stepped}
-use Rattle.states.specs.States.{After, begunWith, refusing, answering, telling, leaving, after, unless, sessionRows}
+use Rattle.states.specs.States.{Stepped}
+use Rattle.states.specs.States.{After, begunWith, refusing, answering, telling, leaving, unless, sessionRows}
 use Rattle.startlines.specs.Steps.{longestLine, startTests, settingsStep, startStep, earlyStep}
 use Rattle.loadlines.specs.Steps.{loading, loadStep, loadingTriple, loadTripleStep}
 use Rattle.rowlines.specs.Steps.{adding, linearStep, openStep}
@@ -239,7 +239,6 @@ step-told st store s r = go (st .started) refl
     go false e = early-quiet st s
 
 -- what holds between lines holds after a line, where the store keeps its length
-pub step-ready : (st : State) (store s text : List ℕ) (v : Stepped) (l : List ℕ) → Ready st store
-    → after v l text ≡ step st store s → length l ≡ length store → Ready (v .state) l
-step-ready st store s text v l r e p =
-    record { store-room = p ∙ r .store-room; in-range = rw (← e) at (fine-step st store s (r .in-range)) }
+pub step-ready : (st : State) (store s : List ℕ) (a : After) → Ready st store → a ≡ step st store s → length (a .store) ≡ length store
+    → Ready (a .given .state) (a .store)
+step-ready st store s a r e p = record { store-room = p ∙ r .store-room; in-range = rw (← e) at (fine-step st store s (r .in-range)) }

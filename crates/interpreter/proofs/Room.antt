@@ -14,11 +14,8 @@ use Rattle.refusal.proofs.Laws.{orElse-zero, all-fail, inside, equal}
 use Rattle.session.specs.Sessions.{shapeOf}
 use Rattle.store.specs.Sizes.{streetPosts, storeRoom, InStreet}
 use Rattle.states.specs.declared.State.{State}
-use Rattle.states.specs.declared.Stepped.{Stepped}
-use Rattle.states.specs.States.{After, refusing, after}
-use Rattle.masklines.specs.Steps.{toldRoom}
-use Rattle.interpreter.specs.Stepping.{step, postsRefusal, roomRefusal, stepRefusal, checkedStep, Ready}
-use Rattle.states.proofs.Calling.{line-refused, line-taken}
+use Rattle.states.specs.States.{After}
+use Rattle.interpreter.specs.Stepping.{postsRefusal, roomRefusal, Ready}
 
 -- ---- a session, once an `S` was accepted
 pub tests-street : (n t : ℕ) → first (1 when ltb streetPosts n ∷ postsTests n t) ≡ 0 → (fewestPosts ≤ n) × (n ≤ streetPosts) × (1 ≤ t) × (t ≤ n - 1)
@@ -79,38 +76,3 @@ posts-asked st r e h q = q ∙ rw (e, le-ltb streetPosts (st .session .n) h)
 
 pub posts-unasked : (st : State) → st .started ≡ false → 0 ≡ postsRefusal st
 posts-unasked st e = rw e
-
--- ---- the room for what is printed
-pub text-wrong : (room : ℕ) → (room ≡ toldRoom → ⊥) → 5 ≡ first (5 when not (eqb room toldRoom) ∷ [])
-text-wrong room n = rw (ne-eqb room toldRoom n)
-
-pub text-fine : (room : ℕ) → room ≡ toldRoom → 0 ≡ first (5 when not (eqb room toldRoom) ∷ [])
-text-fine room e = rw (eq-eqb room toldRoom e)
-
-module _ (st : State) (store s text : List ℕ) (r a b : ℕ) (e : r ≡ orElse a b) (p : a ≡ roomRefusal st store)
-    (q : b ≡ first (5 when not (eqb (length text) toldRoom) ∷ [])) where
-  r-is : r ≡ stepRefusal st store (length text)
-  unfolding stepRefusal
-  r-is = e ∙ ap₂ orElse p q
-
-  parts : r ≡ 0 → (a ≡ 0) × (b ≡ 0)
-  parts z = orElse-zero a b (sym e ∙ z)
-
-  pub step-ready-in : r ≡ 0 → Ready st store
-  step-ready-in z = none-ready st store a p (parts z .0)
-
-  pub step-text : r ≡ 0 → length text ≡ toldRoom
-  step-text z = equal (length text) toldRoom (all-fail (5 when not (eqb (length text) toldRoom) ∷ []) tt (sym q ∙ parts z .1) .0)
-
-  pub step-refused : (v : Stepped) → (r ≡ 0 → ⊥) → v ≡ refusing st r → after v store text ≡ checkedStep st store s (length text)
-  unfolding checkedStep
-  step-refused v n w = ap (λ (x : Stepped). after x store text) w ∙ line-refused st store r _ _ (refusing st r) r-is n refl
-
-  pub step-taken : (x : After) → r ≡ 0 → x ≡ step st store s → x ≡ checkedStep st store s (length text)
-  unfolding checkedStep
-  step-taken x z w = line-taken st store r _ _ x r-is z w
-
--- between lines nothing is refused for want of room
-pub ready-step : (st : State) (store s : List ℕ) (room : ℕ) → Ready st store → room ≡ toldRoom → checkedStep st store s room ≡ step st store s
-unfolding checkedStep stepRefusal outcome
-ready-step st store s room h e = rw (ready-none st store h, eq-eqb room toldRoom e)

@@ -1,64 +1,144 @@
-// The station: what each line of the street program does to its state.
+// The station: what each line of the street program does. A line is read into its order (`orders`); then it is either a change of the
+// session, one function with one call site for each of the library's calls, or a look.
+pub mod orders;
 
+use orders::Order;
+use session::Answer;
+use session::Session;
 use states::State;
-use states::Stepped;
 ghost use mathlib.Core.Path.{_≡_};
-ghost use mathlib.Core.Bool.{true, not};
-ghost use mathlib.Core.List.{[], _∷_};
-ghost use Prim.Native.Nat.{_≤_};
-ghost use lib.ListN.{length};
-ghost use lib.Dec.{eqb};
-ghost use Rattle.refusal.specs.Refusal.{first, _when_};
-ghost use Rattle.states.specs.States.{leaving, after, Untouched};
-ghost use Rattle.masklines.specs.Steps.{toldRoom};
-ghost use Rattle.interpreter.specs.Stepping.{step, lettersStep, lateStep, postsRefusal, roomRefusal, checkedStep, Ready};
+ghost use mathlib.Core.Bool.{true, false};
+ghost use lib.ListN.{length, replicate};
+ghost use Rattle.session.specs.Sessions.{shapeOf};
+ghost use Rattle.store.specs.Sizes.{InStreet, storeRoom, numbersRoom, recordRoom, mostMasks};
+ghost use Rattle.interpreter.specs.Stepping.{postsRefusal, roomRefusal};
+ghost use Rattle.interpreter.specs.Orders.{isChange};
+ghost use Rattle.interpreter.specs.Changes.{Able, Changed, Looked, Opened};
 
-// A line by its letter, where it prints nothing but its answer.
-fn by_letter(state: State, store: &mut [u32], line: &[u8]) -> Stepped
-    requires { ⌜ Ready state (now store) × (state .started ≡ true) × (1 ≤ length (now line)) ⌝ }
-    ensures { λ r. ⌜ leaving r (now (store .exit)) ≡ lettersStep state (now (store .entry)) (now (line .entry)) ⌝ }
+// What a look hands back: the answer, and what the records are kept for.
+pub struct Outcome {
+    pub refusal: u8,
+    pub value: u32,
+    pub kept: usize,
+    pub triple: usize,
+}
+
+// Whether the line of a letter may change the session.
+pub fn changes(letter: u8) -> bool
+    ensures { λ r. ⌜ r ≡ isChange letter ⌝ }
 {
-    match line[0] {
-        82 => loadlines::load_line(state, store, line),
-        84 => loadlines::load_triple_line(state, store, line),
-        71 => rowlines::open_line(state, store, line),
-        76 => rowlines::linear_line(state, store, line),
-        70 => finishlines::finish_line(state, store, line),
-        68 => postlines::hear_line(state, store, line),
-        79 => postlines::hear_line(state, store, line),
-        77 => postlines::hear_line(state, store, line),
-        _ => state.refuse(10),
+    match letter {
+        b'R' => true,
+        b'T' => true,
+        b'F' => true,
+        b'L' => true,
+        b'X' => true,
+        b'D' => true,
+        b'S' => true,
+        _ => false,
     }
 }
 
-// A line once an `S` was accepted.
-fn late(state: State, store: &mut [u32], line: &[u8], text: &mut [u8]) -> Stepped
-    requires { ⌜ Ready state (now store) × (state .started ≡ true) × (length (now text) ≡ toldRoom) ⌝ }
-    ensures { λ r. ⌜ after r (now (store .exit)) (now (text .exit)) ≡ lateStep state (now (store .entry)) (now (line .entry)) ⌝ }
-    ensures { λ r. ⌜ Untouched r (now (text .entry)) (now (text .exit)) ⌝ }
+// A line that may change the session. The masks of an `X` are made in a lent list.
+pub fn change(
+    session: Session,
+    triple: usize,
+    store: &mut [u32],
+    line: &[u8],
+    order: Order,
+    numbers: &[u32],
+    empty: &[u32],
+    masks: &mut [u32],
+) -> Answer
+    requires { ⌜ Able session order × (isChange (order .letter) ≡ true) × (length (now store) ≡ storeRoom) × (length (now numbers) ≡ numbersRoom)
+        × (now empty ≡ replicate recordRoom 0) × (length (now masks) ≡ mostMasks) ⌝ }
+    ensures { λ r. ⌜ Changed session triple order (now (numbers .entry)) (now (line .entry)) (now (store .entry)) r (now (store .exit)) (now (masks .exit)) ⌝ }
 {
-    if startlines::LONGEST_LINE < line.len() {
-        return state.refuse(10);
+    let shape = session.shape();
+    let letter = order.letter;
+    match letter {
+        b'D' => postlines::deal(session, store, order.row, numbers[0]),
+        b'R' => {
+            let count = 1 + shape.row_len();
+            loadlines::load_row(session, store, &numbers[..count])
+        }
+        b'T' => {
+            let count = 1 + shape.triple_len();
+            loadlines::load_triple(session, store, &numbers[..count])
+        }
+        b'L' => rowlines::add(session, store, numbers),
+        b'X' => masklines::mask(session, store, numbers, masks),
+        b'F' => finishlines::finish(session, store, empty, triple, states::place(numbers[0])),
+        _ => startlines::start(line),
     }
-    if line.len() < 1 {
-        return state.refuse(10);
-    }
-    if line[0] == 88 {
-        return masklines::mask_line(state, store, line, text);
-    }
-    by_letter(state, store, line)
 }
 
-// A line, where the lists have room for it.
-fn take_line(state: State, store: &mut [u32], line: &[u8], text: &mut [u8]) -> Stepped
-    requires { ⌜ Ready state (now store) × (length (now text) ≡ toldRoom) ⌝ }
-    ensures { λ r. ⌜ after r (now (store .exit)) (now (text .exit)) ≡ step state (now (store .entry)) (now (line .entry)) ⌝ }
-    ensures { λ r. ⌜ Untouched r (now (text .entry)) (now (text .exit)) ⌝ }
+// A `G`.
+fn open<'a>(
+    session: Session,
+    kept: usize,
+    triple: usize,
+    store: &'a [u32],
+    empty: &'a [u32],
+    row: usize,
+) -> Outcome
+    requires { ⌜ InStreet (shapeOf session) × (length (now store) ≡ storeRoom) × (now empty ≡ replicate recordRoom 0) ⌝ }
+    ensures { λ r. ⌜ Opened session kept triple (now (store .entry)) row r ⌝ }
 {
-    if state.started {
-        return late(state, store, line, text);
+    let found = rowlines::open(session, store, empty, kept, row);
+    Outcome {
+        refusal: found.refusal,
+        value: found.value,
+        kept,
+        triple,
     }
-    startlines::early(state, line)
+}
+
+// A line that leaves the session as it is.
+pub fn look(
+    session: Session,
+    kept: usize,
+    triple: usize,
+    store: &mut [u32],
+    order: Order,
+    numbers: &[u32],
+    empty: &[u32],
+) -> Outcome
+    requires { ⌜ Able session order × (isChange (order .letter) ≡ false) × (length (now store) ≡ storeRoom) × (length (now numbers) ≡ numbersRoom)
+        × (now empty ≡ replicate recordRoom 0) ⌝ }
+    ensures { λ r. ⌜ Looked session kept triple order (now (numbers .entry)) (now (store .entry)) r (now (store .exit)) ⌝ }
+{
+    let shape = session.shape();
+    let letter = order.letter;
+    match letter {
+        b'G' => open(session, kept, triple, store, empty, states::place(numbers[0])),
+        b'O' => {
+            let count = shape.v_len();
+            postlines::keep(shape, store, kept == order.row, order.post, &numbers[..count]);
+            Outcome {
+                refusal: 0,
+                value: 0,
+                kept: order.row,
+                triple,
+            }
+        }
+        b'M' => {
+            let count = shape.masks_len();
+            postlines::keep_masks(shape, store, triple == order.row, order.post, &numbers[..count]);
+            Outcome {
+                refusal: 0,
+                value: 0,
+                kept,
+                triple: order.row,
+            }
+        }
+        _ => Outcome {
+            refusal: order.refusal,
+            value: 0,
+            kept,
+            triple,
+        },
+    }
 }
 
 // 1 and 2 of a session that no `S` can have made.
@@ -83,27 +163,4 @@ pub fn room_refusal(state: State, store: &[u32]) -> u8
         posts_refusal(state),
         refusal::size(store, store::STORE_ROOM),
     )
-}
-
-// 5 of the room for what an `X` prints.
-fn text_refusal(room: usize) -> u8
-    ensures { λ r. ⌜ r ≡ first (5 when not (eqb room toldRoom) ∷ []) ⌝ }
-{
-    if room != masklines::TOLD_ROOM {
-        return 5;
-    }
-    0
-}
-
-// One line, of any bytes, with or without a line feed at its end. What an `X` prints stands at the start of the lent text.
-pub fn step(state: State, store: &mut [u32], line: &[u8], text: &mut [u8]) -> Stepped
-    ensures { λ r. ⌜ after r (now (store .exit)) (now (text .exit))
-        ≡ checkedStep state (now (store .entry)) (now (line .entry)) (length (now (text .entry))) ⌝ }
-    ensures { λ r. ⌜ Untouched r (now (text .entry)) (now (text .exit)) ⌝ }
-{
-    let room = refusal::or_else(room_refusal(state, store), text_refusal(text.len()));
-    if room != 0 {
-        return state.refuse(room);
-    }
-    take_line(state, store, line, text)
 }

@@ -2,19 +2,19 @@
 use Prim.Native.Nat.{ℕ, _≤_}
 use mathlib.Core.Path.{_≡_}
 use mathlib.Core.List.{List}
-use lib.ListN.{length}
+use lib.ListN.{take, replicate}
 use Rattle.shape.specs.Bounds.{lastTriple}
-use Rattle.refusal.specs.Refusal.{outcome}
+use Rattle.shape.specs.Lengths.{masksLength}
+use Rattle.session.specs.declared.Session.{Session}
 use Rattle.session.specs.declared.Answer.{Answer}
+use Rattle.session.specs.Sessions.{shapeOf}
+use Rattle.product_masks.specs.Masks.{masksAnswer, maskNumbersOf}
 use Rattle.store.specs.Sizes.{streetPosts}
-use Rattle.states.specs.declared.State.{State}
-use Rattle.states.specs.declared.Stepped.{Stepped}
-use Rattle.states.specs.States.{answering, telling}
-use Rattle.masklines.specs.Steps.{maskLine}
+use Rattle.states.specs.States.{rowsOf}
 
--- Where the masks are not refused, row and post of their line are in range.
-pub record Tellable (st : State) (a : Answer) (first : ℕ) : Type 0 where
-  pub in-range : a .refusal ≡ 0 → (first ≤ lastTriple) × (st .session .post ≤ streetPosts)
-
-abbrev pub answered : State → Answer → ℕ → List ℕ → Stepped
-answered st a first xs = outcome (a .refusal) (telling (answering st a) (length (maskLine st first xs))) (answering st a)
+-- The answer to an `X` and the lent list: where the masks are not refused they stand at its start, and row and post of their line are in range.
+pub record Masked (s : Session) (store : List ℕ) (a b first : ℕ) (ans : Answer) (ms : List ℕ) : Type 0 where
+  pub answer-is : ans ≡ masksAnswer s (rowsOf s store) a b first (replicate (masksLength (shapeOf s)) 0)
+  pub made : ans .refusal ≡ 0 → take (masksLength (shapeOf s)) ms ≡ maskNumbersOf s (rowsOf s store) a b first
+  pub first-in : ans .refusal ≡ 0 → first ≤ lastTriple
+  pub post-in : ans .refusal ≡ 0 → s .post ≤ streetPosts

@@ -18,8 +18,7 @@ use Rattle.multiply.specs.Multiply.{multiplyRefusal}
 use Rattle.store.specs.Sizes.{masksAAt, masksBAt}
 use Rattle.reading.specs.Numbers.{numberForm}
 use Rattle.states.specs.declared.State.{State}
-use Rattle.states.specs.declared.Stepped.{Stepped}
-use Rattle.states.specs.States.{After, answering, telling, refusing, leaving, sessionRows}
+use Rattle.states.specs.States.{Stepped, After, answering, telling, refusing, leaving, sessionRows}
 use Rattle.startlines.specs.Steps.{longestLine}
 use Rattle.loadlines.specs.Steps.{loading, loadStep, loadingTriple, loadTripleStep}
 use Rattle.rowlines.specs.Steps.{adding, linearStep, opening, openStep}

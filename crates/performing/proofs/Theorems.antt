@@ -29,8 +29,7 @@ use Rattle.product_masks.specs.Masks.{masksRefusal, masksAnswer, masksOut, mask
 use Rattle.linear.specs.Linear.{linearAnswer, linearRows}
 use Rattle.reading.specs.Numbers.{rowsBeyond}
 use Rattle.states.specs.declared.State.{State}
-use Rattle.states.specs.declared.Stepped.{Stepped}
-use Rattle.states.specs.States.{After, answering, telling, leaving, sessionRows, calling}
+use Rattle.states.specs.States.{Stepped, After, answering, telling, leaving, sessionRows, calling}
 use Rattle.startlines.specs.Steps.{longestLine}
 use Rattle.rowlines.specs.Steps.{adding, linearStep, openingsFor, opening, openStep}
 use Rattle.postlines.specs.Steps.{heardRefusal, dealing, hearStep}

@@ -4,6 +4,8 @@ use mathlib.Core.List.{List, [], _∷_}
 use lib.ListN.{getD}
 use lib.Dec.{eqb}
 use Rattle.shape.specs.Bounds.{lastRow}
+use Rattle.session.specs.declared.Session.{Session}
+use Rattle.session.specs.declared.Answer.{Answer}
 use Rattle.session.specs.Sessions.{shapeOf}
 use Rattle.linear.specs.Linear.{linearAnswer, linearRows}
 use Rattle.opening.specs.Opening.{openAnswer}
@@ -14,15 +16,14 @@ use Rattle.states.specs.declared.State.{State}
 use Rattle.states.specs.States.{After, answering, leaving, unless, sessionRows, calling}
 
 -- ---- "`L,dest,a,b,s,fee`"
+abbrev pub sumAnswer : Session → List ℕ → List ℕ → Answer
+sumAnswer s rows xs = linearAnswer s rows (getD xs 0 0) (getD xs 1 0) (getD xs 2 0) (getD xs 3 0) (getD xs 4 0)
+
+abbrev pub sumRows : Session → List ℕ → List ℕ → List ℕ
+sumRows s rows xs = linearRows s rows (getD xs 0 0) (getD xs 1 0) (getD xs 2 0) (getD xs 3 0) (getD xs 4 0)
+
 unfoldable pub adding : State → List ℕ → List ℕ → After
-adding st store xs =
-    let dest = getD xs 0 0 in
-    let a = getD xs 1 0 in
-    let b = getD xs 2 0 in
-    let scale = getD xs 3 0 in
-    let fee = getD xs 4 0 in
-    calling st store (linearAnswer (st .session) (sessionRows st store) dest a b scale fee)
-    (linearRows (st .session) (sessionRows st store) dest a b scale fee)
+adding st store xs = calling st store (sumAnswer (st .session) (sessionRows st store) xs) (sumRows (st .session) (sessionRows st store) xs)
 
 unfoldable pub linearStep : State → List ℕ → List ℕ → After
 linearStep st store line =

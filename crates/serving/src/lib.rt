@@ -47,7 +47,7 @@ fn serve_chunks(
 
 // The end of the input ends a line that was begun. Where reading failed nothing is known of the line's end, and where printing
 // failed nothing more is printed.
-fn finish(served: Served, store: &mut [u32], line: &[u8], out: &mut [u8]) -> Served
+fn finish(served: Served, store: &mut [u32], line: &mut [u8], out: &mut [u8]) -> Served
     requires { ⌜ Open (served .feed) (now store) (now line) (now out) 1 ⌝ }
     ensures { λ r. ⌜ Finished
         (running (served .feed) (now (store .entry)) (now (line .entry)) (now (out .entry)))

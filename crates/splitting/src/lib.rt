@@ -16,7 +16,7 @@ pub fn line_end(chunk: &[u8], from: usize) -> usize
 {
     let mut i = from;
     while i < chunk.len() {
-        if chunk[i] == 10 {
+        if chunk[i] == b'\n' {
             return i + 1;
         }
         i += 1;

@@ -11,7 +11,7 @@ use Rattle.reading.specs.declared.StartForm.{StartForm}
 use Rattle.reading.specs.declared.StartForm.the-variants.{Settings, Wrong}
 use Rattle.reading.specs.Starting.{isStart, startForm, startOf}
 use Rattle.states.specs.declared.State.{State}
-use Rattle.states.specs.declared.Stepped.{Stepped}
+use Rattle.states.specs.States.{Stepped}
 use Rattle.states.specs.States.{begunWith, refusing}
 
 -- Document 02, (iii): "Lines go up to 3,173 bytes."

@@ -1,13 +1,13 @@
-// `S` lines, and the lines before one is accepted.
+// `S` lines.
 use reading::StartForm;
+use session::Answer;
 use session::Session;
-use states::State;
-use states::Stepped;
 ghost use mathlib.Core.Path.{_≡_};
 ghost use mathlib.Core.Bool.{cond};
 ghost use lib.Dec.{ltb};
 ghost use Rattle.field.specs.Modulus.{p};
-ghost use Rattle.startlines.specs.Steps.{beginStep, startStep, earlyStep};
+ghost use Rattle.session.specs.Sessions.{sessionOf, holding};
+ghost use Rattle.startlines.specs.Between.{beginAnswer, startAnswer};
 
 // No line of the program is longer, with its line feed.
 pub const LONGEST_LINE: usize = 3173;
@@ -23,41 +23,35 @@ fn narrow(x: u64) -> u32
     }
 }
 
+// A refused `S` has no session.
+fn refused(refusal: u8) -> Answer
+    ensures { λ r. ⌜ r ≡ holding refusal 0 (sessionOf 0 0 0 0) ⌝ }
+{
+    let none = Session::new(0, 0, 0, 0);
+    let session = none.session;
+    session.refuse(refusal)
+}
+
 // 1 to 4 of an `S`, or its session.
-fn begin(state: State, n: u64, t: u64, post: u64, point: u64) -> Stepped
-    ensures { λ r. ⌜ r ≡ beginStep state n t post point ⌝ }
+fn begin(n: u64, t: u64, post: u64, point: u64) -> Answer
+    ensures { λ r. ⌜ r ≡ beginAnswer n t post point ⌝ }
 {
     if (store::STREET_POSTS as u64) < n {
-        return state.refuse(1);
+        return refused(1);
     }
-    let made = Session::new(n as usize, t as usize, post as usize, narrow(point));
-    if made.refusal != 0 {
-        return state.refuse(made.refusal);
-    }
-    let begun = state.begun(made.session);
-    begun.refuse(0)
+    Session::new(n as usize, t as usize, post as usize, narrow(point))
 }
 
 // An `S` before one is accepted.
-fn start(state: State, line: &[u8]) -> Stepped
-    ensures { λ r. ⌜ r ≡ startStep state (now (line .entry)) ⌝ }
+pub fn start(line: &[u8]) -> Answer
+    ensures { λ r. ⌜ r ≡ startAnswer (now (line .entry)) ⌝ }
 {
     if LONGEST_LINE < line.len() {
-        return state.refuse(10);
+        return refused(10);
     }
     let form = reading::start::scan_start(line);
     match form {
-        StartForm::Settings { n, t, post, point } => begin(state, n, t, post, point),
-        StartForm::Wrong => state.refuse(10),
+        StartForm::Settings { n, t, post, point } => begin(n, t, post, point),
+        StartForm::Wrong => refused(10),
     }
-}
-
-// Any line before an `S` is accepted.
-pub fn early(state: State, line: &[u8]) -> Stepped
-    ensures { λ r. ⌜ r ≡ earlyStep state (now (line .entry)) ⌝ }
-{
-    if reading::start::is_start(line) {
-        return start(state, line);
-    }
-    state.refuse(1)
 }

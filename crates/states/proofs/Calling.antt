@@ -1,20 +1,17 @@
 -- The ways in which a line ends, the calls on the session's rows in the store, and room for masks.
-use Prim.Native.Nat.{ℕ, _≤_, zero, suc}
-use mathlib.Core.Path.{_≡_, ap, ap₂, sym, _∙_, refl}
-use mathlib.Core.List.{List, _++_, _∷_}
+use Prim.Native.Nat.{ℕ, _≤_}
+use mathlib.Core.Path.{_≡_, ap, sym, _∙_}
+use mathlib.Core.List.{List}
 use native.Mathlib.Omega.{arith}
-use lib.ListN.{length, take, drop, replicate}
+use lib.ListN.{length, take}
 use lib.Seq.{length-take-le}
 use Rattle.shape.specs.declared.Shape.{Shape}
 use Rattle.shape.specs.Lengths.{Valid, rowsLength, masksLength}
 use Rattle.refusal.proofs.Endings.{refused, accepted}
-use Rattle.session.specs.declared.Answer.{Answer}
-use Rattle.session.specs.Sessions.{shapeOf}
 use Rattle.store.specs.Sizes.{InStreet, storeRoom, mostMasks}
 use Rattle.store.proofs.Keeping.{street-valid}
 use Rattle.states.specs.declared.State.{State}
-use Rattle.states.specs.declared.Stepped.{Stepped}
-use Rattle.states.specs.States.{After, refusing, answering, leaving, unless, calling}
+use Rattle.states.specs.States.{After, Stepped, refusing, leaving, unless}
 
 -- ---- the two ways in which a line ends
 pub line-refused : (st : State) (store : List ℕ) (r x : ℕ) (new : After) (v : Stepped) → r ≡ x → (r ≡ 0 → ⊥) → v ≡ refusing st r
@@ -42,12 +39,6 @@ module _ (g : Shape) (i : InStreet g) (store : List ℕ) (l : length store ≡ s
 pub street-shape : (g h : Shape) → InStreet h → g ≡ h → InStreet g
 street-shape g h i e = rw e i
 
-module _ (st : State) (store : List ℕ) (v : Stepped) (a : Answer) (end : ℕ) (e : end ≡ rowsLength (shapeOf (st .session))) (q : v ≡ answering st a) where
-  module _ (part : List ℕ) where
-    pub called : (b : Answer) (rows : List ℕ) → a ≡ b → part ≡ rows → leaving v (part ++ drop end store) ≡ calling st store b rows
-    called b rows f g =
-        ap₂ leaving (q ∙ ap (answering st) f) (ap₂ (λ (x y : List ℕ). x ++ y) g (ap (λ (k : ℕ). drop k store) e))
-
 -- ---- the list that the numbers go to
 module _ (g h : Shape) (i : InStreet h) (d : g ≡ h) (k : ℕ) (e : k ≡ masksLength g) (zeros : List ℕ) (l : length zeros ≡ mostMasks) where
   pub masks-in : k ≤ length zeros
@@ -58,8 +49,3 @@ module _ (g h : Shape) (i : InStreet h) (d : g ≡ h) (k : ℕ) (e : k ≡ masks
 
   pub masks-length : length (take k zeros) ≡ masksLength h
   masks-length = sym masks-prefix ∙ e ∙ ap masksLength d
-
-pub take-zeros : (k m : ℕ) → k ≤ m → take k (replicate {A = ℕ} m 0) ≡ replicate k 0
-take-zeros zero m h = refl
-take-zeros (suc k) zero h = absurd (omega arith)
-take-zeros (suc k) (suc m) h = ap (λ (l : List ℕ). 0 ∷ l) (take-zeros k m (omega arith))

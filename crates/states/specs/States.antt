@@ -1,6 +1,5 @@
 -- What the street program keeps between lines, and how a line's answer changes it.
 use Prim.Native.Nat.{ℕ}
-use mathlib.Core.Path.{_≡_}
 use mathlib.Core.List.{List, [], _++_}
 use mathlib.Core.Bool.{true, false}
 use lib.ListN.{take, drop}
@@ -8,9 +7,9 @@ use Rattle.shape.specs.Lengths.{rowsLength}
 use Rattle.refusal.specs.Refusal.{outcome}
 use Rattle.session.specs.declared.Session.{Session}
 use Rattle.session.specs.declared.Answer.{Answer}
-use Rattle.session.specs.Sessions.{shapeOf, sessionOf}
+use Rattle.session.specs.Sessions.{shapeOf, sessionOf, answer}
 use Rattle.states.specs.declared.State.{State}
-use Rattle.states.specs.declared.Stepped.{Stepped}
+use Rattle.states.specs.declared.Head.{Head}
 
 -- Before the first line: no `S` accepted, empty records. These definitions name every field of a state; nothing else does.
 abbrev pub firstState : State
@@ -27,6 +26,13 @@ keepingRow st row = record { session = st .session; started = st .started; kept 
 
 abbrev pub keepingTriple : State → ℕ → State
 keepingTriple st first = record { session = st .session; started = st .started; kept = st .kept; triple = first }
+
+-- The answer to a line, and the state after it: so many bytes of an `M` line are printed behind the answer.
+pub record Stepped : Type 0 where
+  pub state : State
+  pub refusal : ℕ
+  pub value : ℕ
+  pub told : ℕ
 
 -- What a refused line leaves: the state as it was.
 abbrev pub refusing : State → ℕ → Stepped
@@ -49,21 +55,29 @@ pub record After : Type 0 where
 abbrev pub leaving : Stepped → List ℕ → After
 leaving given store = record { given = given; store = store; told = [] }
 
--- What the code's values stand for: the printed line stands at the start of a lent text, and the rest of it is as it was.
-abbrev pub after : Stepped → List ℕ → List ℕ → After
-after given store text = record { given = given; store = store; told = take (given .told) text }
-
-abbrev pub Untouched : Stepped → List ℕ → List ℕ → Type 0
-Untouched v text text' = drop (v .told) text' ≡ drop (v .told) text
-
 -- A line with this refusal: what it leads to, or all as it was.
 abbrev pub unless : ℕ → State → List ℕ → After → After
 unless refusal st store new = outcome refusal new (leaving (refusing st refusal) store)
 
 -- The session's rows stand at the store's start.
+abbrev pub rowsOf : Session → List ℕ → List ℕ
+rowsOf s store = take (rowsLength (shapeOf s)) store
+
 abbrev pub sessionRows : State → List ℕ → List ℕ
-sessionRows st store = take (rowsLength (shapeOf (st .session))) store
+sessionRows st store = rowsOf (st .session) store
+
+-- The store with the rows that a call left.
+abbrev pub withRows : Session → List ℕ → List ℕ → List ℕ
+withRows s rows store = rows ++ drop (rowsLength (shapeOf s)) store
 
 -- A call on the session's rows: its answer, and the rows that it left.
 abbrev pub calling : State → List ℕ → Answer → List ℕ → After
-calling st store a rows = leaving (answering st a) (rows ++ drop (rowsLength (shapeOf (st .session))) store)
+calling st store a rows = leaving (answering st a) (withRows (st .session) rows store)
+
+-- What a change leaves of its answer: where it is refused, the session as it was. No change has a number for its answer.
+abbrev pub settled : Session → Answer → Answer
+settled s a = answer (a .refusal) 0 (a .session) s
+
+-- ---- what the code's values stand for
+abbrev pub stateOf : Session → Head → State
+stateOf s h = record { session = s; started = h .started; kept = h .kept; triple = h .triple }

@@ -1,14 +1,13 @@
-// What the street program keeps from line to line: its state, the answer to a line, and where the rows stand in the store.
+// What the street program keeps from line to line, and where the rows stand in the store.
 //
-// The state goes in by value and comes back; the rows and the records stand in one lent store.
-use session::Answer;
+// The session goes in by value and comes back in a call's answer; all else that is kept is small, and goes beside it. The rows and the
+// records stand in one lent store.
 use session::Session;
 ghost use mathlib.Core.Path.{_≡_};
-ghost use lib.ListN.{length, replicate};
 ghost use Rattle.shape.specs.Lengths.{rowsLength};
 ghost use Rattle.session.specs.Sessions.{shapeOf};
-ghost use Rattle.store.specs.Sizes.{InStreet, recordRoom};
-ghost use Rattle.states.specs.States.{firstState, begunWith, withSession, keepingRow, keepingTriple, refusing, answering, telling};
+ghost use Rattle.store.specs.Sizes.{InStreet};
+ghost use Rattle.states.specs.States.{firstState};
 
 // What the program keeps from line to line, beside the store.
 pub struct State {
@@ -21,13 +20,17 @@ pub struct State {
     pub triple: usize,
 }
 
-// The answer to a line, and the state after it.
-pub struct Stepped {
-    pub state: State,
-    pub refusal: u8,
-    pub value: u32,
-    // how many bytes of an `M` line are printed behind the answer
-    pub told: usize,
+// The same without the session, and what the program keeps of its input and output: small, so that it may be handed on as it likes.
+pub struct Head {
+    pub started: bool,
+    pub kept: usize,
+    pub triple: usize,
+    // how many lines were answered
+    pub number: u64,
+    // how many bytes of the line begun are kept
+    pub len: usize,
+    // how many bytes of answers there are
+    pub at: usize,
 }
 
 impl State {
@@ -42,93 +45,6 @@ impl State {
             started: false,
             kept: 0,
             triple: 0,
-        }
-    }
-
-    // An `S` was accepted.
-    pub fn begun(self, session: Session) -> State
-        ensures { λ r. ⌜ r ≡ begunWith self session ⌝ }
-    {
-        State {
-            session,
-            started: true,
-            kept: self.kept,
-            triple: self.triple,
-        }
-    }
-
-    pub fn with_session(self, session: Session) -> State
-        ensures { λ r. ⌜ r ≡ withSession self session ⌝ }
-    {
-        State {
-            session,
-            started: self.started,
-            kept: self.kept,
-            triple: self.triple,
-        }
-    }
-
-    pub fn keeping(self, row: usize) -> State
-        ensures { λ r. ⌜ r ≡ keepingRow self row ⌝ }
-    {
-        let session = self.session;
-        State {
-            session,
-            started: self.started,
-            kept: row,
-            triple: self.triple,
-        }
-    }
-
-    pub fn keeping_masks(self, first: usize) -> State
-        ensures { λ r. ⌜ r ≡ keepingTriple self first ⌝ }
-    {
-        let session = self.session;
-        State {
-            session,
-            started: self.started,
-            kept: self.kept,
-            triple: first,
-        }
-    }
-
-    // A refused line leaves the state as it was.
-    pub fn refuse(self, refusal: u8) -> Stepped
-        ensures { λ r. ⌜ r ≡ refusing self refusal ⌝ }
-    {
-        Stepped {
-            state: self,
-            refusal,
-            value: 0,
-            told: 0,
-        }
-    }
-
-    // What a call's answer makes of the state.
-    pub fn answer(self, answer: Answer) -> Stepped
-        ensures { λ r. ⌜ r ≡ answering self answer ⌝ }
-    {
-        let state = self.with_session(answer.session);
-        Stepped {
-            state,
-            refusal: answer.refusal,
-            value: answer.value,
-            told: 0,
-        }
-    }
-}
-
-impl Stepped {
-    // An `M` line of so many bytes is printed behind the answer.
-    pub fn tell(self, told: usize) -> Stepped
-        ensures { λ r. ⌜ r ≡ telling self told ⌝ }
-    {
-        let state = self.state;
-        Stepped {
-            state,
-            refusal: self.refusal,
-            value: self.value,
-            told,
         }
     }
 }
@@ -147,11 +63,4 @@ pub fn rows_end(session: Session) -> usize
 {
     let shape = session.shape();
     shape.rows_len()
-}
-
-// An empty record.
-pub fn empty_record() -> [u32; store::RECORD_ROOM]
-    ensures { λ r. ⌜ (r ≡ replicate recordRoom 0) × (length r ≡ recordRoom) ⌝ }
-{
-    [0; store::RECORD_ROOM]
 }

@@ -1,14 +1,14 @@
 -- A record of the store: emptied or kept, and its place inside the store.
-use Prim.Native.Nat.{ℕ, _+_, _-_, _≤_, _<_, _^_}
-use mathlib.Core.Path.{_≡_, ap, _∙_}
-use mathlib.Core.List.{List}
+use Prim.Native.Nat.{ℕ, zero, suc, _+_, _-_, _≤_, _<_, _^_}
+use mathlib.Core.Path.{_≡_, refl, ap, sym, _∙_}
+use mathlib.Core.List.{List, _∷_}
 use mathlib.Core.Bool.{Bool, true, false}
 use native.Mathlib.Nat.{add-sub-cancel-left, mul-le-mul}
 use native.Mathlib.Omega.{arith}
 use borrow.Rule.Slice.PartMut.{putMid}
 use mir.Syntax.{w64}
 use mir.Val.{Fits}
-use lib.ListN.{length, take, drop, replicate, length-drop}
+use lib.ListN.{length, take, drop, replicate, length-drop, length-replicate}
 use lib.Seq.{length-take-le}
 use Rattle.shape.specs.declared.Shape.{Shape}
 use Rattle.shape.specs.Lengths.{Valid, blockLength, recordLength}
@@ -59,21 +59,24 @@ module _ (g : Shape) (store : List ℕ) (at k : ℕ) (i : InStreet g) (h : at + 
       let w : ys ≡ withBlock g post (blockOf xs) (recordIf same (recordAt at g store)) = rw d at q in
       rw d (ap (λ (z : List ℕ). withRecord at g z store) w)
 
--- ---- a record, copied or empty
-module _ (store out : List ℕ) (at : ℕ) (same : Bool) (h : at + length out ≤ length store) where
-  pub copy-length : length (take (at + length out - at) (drop at store)) ≡ length out
-  copy-length =
-      let c : at + length out - at ≡ length out = add-sub-cancel-left at (length out) in
-      rw c (length-take-le (length out) (drop at store) (omega (arith, length-drop at store)))
+pub take-zeros : (k m : ℕ) → k ≤ m → take k (replicate {A = ℕ} m 0) ≡ replicate k 0
+take-zeros zero m h = refl
+take-zeros (suc k) zero h = absurd (omega arith)
+take-zeros (suc k) (suc m) h = ap (λ (l : List ℕ). 0 ∷ l) (take-zeros k m (omega arith))
 
-  pub copy-fits : length store < 2 ^ 64 → Fits w64 (at + length out)
-  copy-fits b = omega arith
+-- ---- a record where it stands, or an empty one
+module _ (g : Shape) (store empty : List ℕ) (at k : ℕ) (same : Bool) (i : InStreet g) (h : at + recordRoom ≤ length store)
+    (z : empty ≡ replicate recordRoom 0) (e : k ≡ recordLength g) where
+  pub record-within : k ≤ length empty
+  record-within = omega (arith, record-room g i, ap length z, length-replicate {A = ℕ} recordRoom 0)
 
-  pub copied : (new : List ℕ) → same ≡ true → new ≡ take (at + length out - at) (drop at store)
-      → new ≡ recordIf same (take (length out) (drop at store))
-  copied new e q = q ∙ rw (add-sub-cancel-left at (length out), e)
+  pub record-prefix : k ≡ length (take k empty)
+  record-prefix = sym (length-take-le k empty record-within)
 
-  pub cleared : (new : List ℕ) → same ≡ false → new ≡ replicate (length out) 0 → new ≡ recordIf same (take (length out) (drop at store))
-  cleared new e q =
-      let l : length (take (length out) (drop at store)) ≡ length out = length-take-le (length out) (drop at store) (omega (arith, length-drop at store)) in
-      q ∙ rw (e, l)
+  pub record-stands : same ≡ true → take (at + k - at) (drop at store) ≡ recordIf same (recordAt at g store)
+  record-stands q = rw (add-sub-cancel-left at k, e, q)
+
+  pub record-empty : same ≡ false → take k empty ≡ recordIf same (recordAt at g store)
+  record-empty q =
+      let l : length (recordAt at g store) ≡ recordLength g = length-take-le (recordLength g) (drop at store) (omega (arith, length-drop at store, record-room g i)) in
+      rw (z, e, q, l) (take-zeros (recordLength g) recordRoom (record-room g i))

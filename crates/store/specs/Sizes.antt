@@ -6,12 +6,15 @@ use Rattle.shape.specs.Bounds.{fewestPosts, rowCount}
 abbrev pub streetPosts : ℕ
 streetPosts = 32
 
--- The numbers of its longest row, with the largest t, and of a triple of such rows; and its most masks.
+-- The numbers of its longest row, with the largest t, and of a triple of such rows; the most numbers of a line; and its most masks.
 abbrev pub longestRow : ℕ
 longestRow = 3 * streetPosts
 
 abbrev pub longestTriple : ℕ
 longestTriple = 3 * longestRow
+
+abbrev pub numbersRoom : ℕ
+numbersRoom = 1 + longestTriple
 
 abbrev pub mostMasks : ℕ
 mostMasks = 2 * streetPosts

@@ -2,11 +2,11 @@
 use shape::Shape;
 ghost use mathlib.Core.Path.{_≡_};
 ghost use Prim.Native.Nat.{_+_, _≤_};
-ghost use lib.ListN.{length, take, drop};
+ghost use lib.ListN.{length, replicate};
 ghost use Rattle.shape.specs.Lengths.{vLength, recordLength};
 ghost use Rattle.records.specs.Records.{withBlock, blockOf};
 ghost use Rattle.store.specs.Sizes.{InStreet, recordRoom};
-ghost use Rattle.store.specs.Records.{recordIf, kept};
+ghost use Rattle.store.specs.Records.{recordAt, recordIf, kept};
 
 // The street program's own bound on n. The sizes below follow from it.
 pub const STREET_POSTS: usize = 32;
@@ -16,6 +16,9 @@ pub const LONGEST_ROW: usize = 3 * STREET_POSTS;
 
 // The numbers of a triple with the longest rows.
 pub const LONGEST_TRIPLE: usize = 3 * LONGEST_ROW;
+
+// Room for the numbers of a line: a triple's first row, and its pack.
+pub const NUMBERS_ROOM: usize = 1 + LONGEST_TRIPLE;
 
 // Its most masks: two messages.
 pub const MOST_MASKS: usize = 2 * STREET_POSTS;
@@ -71,15 +74,21 @@ pub fn keep(
     keep_block(&mut store[at..end], shape, same, post, coefficients);
 }
 
-// The record that stands at a place of the store, if it is kept for what a line names, else an empty one.
-pub fn copy_record(store: &[u32], at: usize, same: bool, out: &mut [u32])
-    requires { ⌜ at + length (now out) ≤ length (now store) ⌝ }
-    ensures { λ r. ⌜ now (out .exit) ≡ recordIf same (take (length (now (out .entry))) (drop at (now (store .entry)))) ⌝ }
+// The record that stands at a place of the store, uncopied, if it is kept for what a line names; else an empty one.
+pub fn record<'a>(
+    shape: Shape,
+    store: &'a [u32],
+    empty: &'a [u32],
+    at: usize,
+    same: bool,
+) -> &'a [u32]
+    requires { ⌜ InStreet shape × (at + recordRoom ≤ length (now store)) × (now empty ≡ replicate recordRoom 0) ⌝ }
+    ensures { λ r. ⌜ now r ≡ recordIf same (recordAt at shape (now (store .entry))) ⌝ }
 {
+    let count = shape.record_len();
     if same {
-        let end = at + out.len();
-        lists::copy(&store[at..end], out);
-        return;
+        let end = at + count;
+        return &store[at..end];
     }
-    lists::clear(out);
+    &empty[..count]
 }

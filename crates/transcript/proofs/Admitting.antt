@@ -1,7 +1,8 @@
 -- There is room for k bytes exactly where they are not refused; and what the calls hand back.
 use Prim.Native.Nat.{ℕ, _+_, _-_, _*_, _/_, _≤_, _<_, _^_}
 use mathlib.Core.Path.{_≡_, refl, ap₂, sym, _∙_}
-use mathlib.Core.List.{List}
+use mathlib.Core.List.{List, [], _∷_}
+use mathlib.Core.Bool.{true, false}
 use native.Mathlib.Omega.{arith}
 use borrow.Author.Tests.{lt-ltb, le-ltb, eq-eqb, ne-eqb, ltb-false}
 use lib.ListN.{length}
@@ -14,7 +15,7 @@ use Rattle.answers.specs.Text.{longestPrint}
 use Rattle.splitting.specs.Lines.{keptLength}
 use Rattle.feeds.specs.Program.{Running, running}
 use Rattle.feeds.specs.Between.{Open, Added, Fed}
-use Rattle.transcript.specs.Between.{Moved}
+use Rattle.transcript.specs.Between.{Moved, Closing}
 use Rattle.transcript.specs.Limits.{lastNumber, feedTests, feedRefusal}
 
 -- ---- the tests, one by one
@@ -102,3 +103,10 @@ module _ (f : Feed) (store line out : List ℕ) (k : ℕ) where
           left = λ _. d;
           added = λ _. a;
         }
+
+-- ---- a chunk, and the end of the input as one byte
+pub not-closing : (chunk : List ℕ) → Closing false chunk
+not-closing chunk = record { one = λ t. absurd (let z : _≡_ {A = ℕ} 0 1 = cc in omega arith) }
+
+pub is-closing : (b : ℕ) → Closing true (b ∷ [])
+is-closing b = record { one = λ t. refl }

@@ -1,15 +1,24 @@
 -- The loop over a chunk, part of a line by part of a line.
 use Prim.Native.Nat.{ℕ, _+_, _-_, _≤_, _<_}
 use mathlib.Core.Path.{_≡_, refl, ap, ap₂, sym, _∙_}
-use mathlib.Core.List.{List}
+use mathlib.Core.List.{List, []}
+use mathlib.Core.Bool.{Bool, true, false, cond}
 use native.Mathlib.Omega.{arith}
+use borrow.Author.Tests.{ne-eqb}
+use lib.Dec.{eqb}
 use lib.ListN.{length, take, drop, length-drop, drop-of-length-le}
 use lib.Seq.{drop-drop, length-take-le}
+use Rattle.shape.specs.declared.Shape.{Shape}
+use Rattle.session.specs.declared.Session.{Session}
+use Rattle.session.specs.Sessions.{shapeOf}
+use Rattle.store.specs.Sizes.{numbersRoom, mostMasks, storeRoom}
+use Rattle.states.specs.declared.Head.{Head}
+use Rattle.interpreter.specs.Orders.{Accepted}
 use Rattle.feeds.specs.declared.Feed.{Feed}
-use Rattle.splitting.specs.Lines.{segment, laid}
-use Rattle.feeds.specs.Program.{Running, fed, running}
-use Rattle.feeds.specs.Between.{segmented, Open, Added, Fed}
-use Rattle.transcript.specs.Between.{lineAfter}
+use Rattle.splitting.specs.Lines.{segment, keptLength, laid}
+use Rattle.feeds.specs.Program.{Running, fed, closed, running}
+use Rattle.feeds.specs.Between.{Open, Added, Fed, headOf, feedOf, turned}
+use Rattle.transcript.specs.Between.{lineAfter, Closing, ran, lineRan}
 use Rattle.transcript.proofs.Chunks.{segment-some, segment-within, fed-segment}
 use Rattle.transcript.proofs.Laying.{line-after}
 
@@ -32,59 +41,105 @@ module _ (chunk : List ℕ) (i end : ℕ) (h : i < length chunk) (e : end ≡ i 
       let w = chunk-within in
       omega (arith, length-take-le (end - i) (drop i chunk) (omega (arith, left)))
 
-pub record Midway (f₀ : Feed) (store₀ line₀ chunk out₀ : List ℕ) (f : Feed) (store line out : List ℕ) (i : ℕ) : Type 0 where
-  pub room : Open f store line out (length chunk - i)
-  pub so-far : Fed f₀ f store i
+-- The session and the rest, so far: what was taken, what is left to take, and rooms that stay.
+pub record Midway (closing : Bool) (f₀ : Feed) (store₀ line₀ chunk out₀ : List ℕ) (s : Session) (h : Head) (store line out xs ms : List ℕ) (i : ℕ) : Type 0 where
+  pub closes : Closing closing chunk
+  pub room : Open (feedOf s h) store line out (length chunk - i)
+  pub so-far : Fed f₀ (feedOf s h) store i
   pub within : i ≤ length chunk
   pub store-same : length store ≡ length store₀
   pub line-same : length line ≡ length line₀
   pub out-same : length out ≡ length out₀
-  pub added : Added f₀ f out₀ out
-  pub line-says : lineAfter (running f store line out) line (drop i chunk) ≡ lineAfter (running f₀ store₀ line₀ out₀) line₀ chunk
-  pub says : fed (running f store line out) (drop i chunk) ≡ fed (running f₀ store₀ line₀ out₀) chunk
+  pub numbers-room : length xs ≡ numbersRoom
+  pub masks-room : length ms ≡ mostMasks
+  pub added : Added f₀ (feedOf s h) out₀ out
+  pub line-says : lineRan closing (running (feedOf s h) store line out) line (drop i chunk) ≡ lineRan closing (running f₀ store₀ line₀ out₀) line₀ chunk
+  pub says : ran closing (running (feedOf s h) store line out) (drop i chunk) ≡ ran closing (running f₀ store₀ line₀ out₀) chunk
 
-pub midway-start : (f : Feed) (store line chunk out : List ℕ) → Open f store line out (length chunk)
-    → Midway f store line chunk out f store line out 0
-midway-start f store line chunk out o =
+pub midway-start : (closing : Bool) (s : Session) (h : Head) (f : Feed) (store line chunk out xs ms : List ℕ) → h ≡ headOf f → s ≡ f .state .session
+    → Closing closing chunk → Open f store line out (length chunk) → length xs ≡ numbersRoom → length ms ≡ mostMasks
+    → Midway closing (feedOf s h) store line chunk out s h store line out xs ms 0
+midway-start closing s h f store line chunk out xs ms q r cl o nx nm =
     let e : length chunk - 0 ≡ length chunk = omega arith in
-    record {
+    rw (q, r)
+    (record {
+      closes = cl;
       room = rw e o;
       so-far = record { ready = o .ready; len-in = o .len-in; numbers = omega arith; room = omega arith };
       within = omega arith;
       store-same = refl;
       line-same = refl;
       out-same = refl;
+      numbers-room = nx;
+      masks-room = nm;
       added = record { grows = omega arith; behind = refl };
       line-says = refl;
       says = refl;
-    }
+    })
 
-module _ (f₀ : Feed) (store₀ line₀ chunk out₀ : List ℕ) (f : Feed) (store line out : List ℕ) (i : ℕ)
-    (inv : Midway f₀ store₀ line₀ chunk out₀ f store line out i) where
-  pub midway-done : length chunk ≤ i → running f store line out ≡ fed (running f₀ store₀ line₀ out₀) chunk
+module _ (closing : Bool) (f₀ : Feed) (store₀ line₀ chunk out₀ : List ℕ) (s : Session) (h : Head) (store line out xs ms : List ℕ) (i : ℕ)
+    (inv : Midway closing f₀ store₀ line₀ chunk out₀ s h store line out xs ms i) where
+  abbrev f : Feed
+  f = feedOf s h
+
+  pub midway-store : length store ≡ storeRoom
+  midway-store = inv .room .ready .store-room
+
+  pub midway-masks : length ms ≡ mostMasks
+  midway-masks = inv .masks-room
+
+  none-left : length chunk ≤ i → drop i chunk ≡ []
+  none-left z = drop-of-length-le chunk z
+
+  done-ran : (b : Bool) (p q : Running) (l : List ℕ) → l ≡ [] → ran b p l ≡ q → p ≡ q
   unfolding fed
-  midway-done h = rw (drop-of-length-le chunk h) at (inv .says)
+  done-ran true p q l e w = rw e at w
+  done-ran false p q l e w = rw e at w
 
-  pub midway-fed : length chunk ≤ i → Fed f₀ f store (length chunk)
-  midway-fed h = let e : i ≡ length chunk = omega (arith, inv .within) in rw e at (inv .so-far)
-
-  pub midway-added : Added f₀ f out₀ out
-  midway-added = inv .added
-
-  pub midway-line : length chunk ≤ i → line ≡ lineAfter (running f₀ store₀ line₀ out₀) line₀ chunk
+  done-line : (b : Bool) (p : Running) (x y l : List ℕ) → l ≡ [] → lineRan b p x l ≡ y → x ≡ y
   unfolding lineAfter
-  midway-line h = rw (drop-of-length-le chunk h) at (inv .line-says)
+  done-line true p x y l e w = w
+  done-line false p x y l e w = rw e at w
 
-  module _ (h : i < length chunk) (end : ℕ) (e : end ≡ i + segment (drop i chunk)) where
+  module _ (r f₁ : Feed) (b : f₀ ≡ f₁) (d : r ≡ feedOf s h) (z : length chunk ≤ i) where
+    pub midway-done : running r store line out ≡ ran closing (running f₁ store₀ line₀ out₀) chunk
+    midway-done = rw (d, ← b) (done-ran closing _ _ (drop i chunk) (none-left z) (inv .says))
+
+    pub midway-fed : Fed f₁ r store (length chunk)
+    midway-fed = let e : i ≡ length chunk = omega (arith, inv .within) in rw (d, ← b) (rw e at (inv .so-far))
+
+    pub midway-added : Added f₁ r out₀ out
+    midway-added = rw (d, ← b) (inv .added)
+
+    pub midway-line : line ≡ lineRan closing (running f₁ store₀ line₀ out₀) line₀ chunk
+    midway-line = rw (← b) (done-line closing _ line _ (drop i chunk) (none-left z) (inv .line-says))
+
+  module _ (z : i < length chunk) (end : ℕ) (e : end ≡ i + segment (drop i chunk)) where
     pub chunk-room : Open f store line out 1
     chunk-room =
         let o = inv .room in
         record { ready = o .ready; line-room = o .line-room; len-in = o .len-in; numbers = omega (arith, o .numbers); room = omega (arith, o .room) }
 
-    module _ (r : Feed) (store' line' out' : List ℕ)
-        (q : running r store' line' out' ≡ segmented (running f store line out) (take (end - i) (drop i chunk)))
-        (d : Fed f r store' 1) (lr : length store' ≡ length store) (ll : length line' ≡ length line)
-        (lo : length out' ≡ length out) (w : Added f r out out') (x : line' ≡ laid (f .len) (take (end - i) (drop i chunk)) line) where
+    pub midway-len : h .len ≤ keptLength
+    midway-len = inv .room .len-in
+
+    pub midway-kept : length line ≡ keptLength
+    midway-kept = inv .room .line-room
+
+    pub midway-accepted : (g : Shape) → g ≡ shapeOf s → Accepted (h .started) g
+    midway-accepted g d = record { in-range = λ t. rw d (inv .room .ready .in-range t) }
+
+    pub midway-numbers : length xs ≡ numbersRoom
+    midway-numbers = inv .numbers-room
+
+    abbrev piece : List ℕ
+    piece = take (end - i) (drop i chunk)
+
+    module _ (s' : Session) (h' : Head) (store' line' out' xs' ms' : List ℕ)
+        (q : running (feedOf s' h') store' line' out' ≡ turned closing (running f store line out) piece)
+        (d : Fed f (feedOf s' h') store' 1) (lr : length store' ≡ length store) (ll : length line' ≡ length line)
+        (lo : length out' ≡ length out) (lx : length xs' ≡ length xs) (lm : length ms' ≡ length ms)
+        (w : Added f (feedOf s' h') out out') (x : line' ≡ cond closing line (laid (h .len) piece line)) where
       width : end - i ≡ segment (drop i chunk)
       width = omega arith
 
@@ -92,43 +147,54 @@ module _ (f₀ : Feed) (store₀ line₀ chunk out₀ : List ℕ) (f : Feed) (st
       rest = ap (λ (j : ℕ). drop j chunk) e ∙ sym (drop-drop (segment (drop i chunk)) i chunk)
 
       some : 1 ≤ length (drop i chunk)
-      some = omega (arith, left chunk i end h e)
+      some = omega (arith, left chunk i end z e)
 
-      turn : fed (running r store' line' out') (drop end chunk) ≡ fed (running f₀ store₀ line₀ out₀) chunk
-      turn =
-          ap (λ (z : Running). fed z (drop end chunk)) q
+      begun : h .len ≡ length (take (h .len) line)
+      begun = sym (length-take-le (h .len) line (omega (arith, inv .room .len-in, inv .room .line-room)))
+
+      abbrev p' : Running
+      p' = running (feedOf s' h') store' line' out'
+
+      -- at the end of the input there is one turn
+      last : closing ≡ true → drop end chunk ≡ []
+      last t = let u : length chunk ≤ end = omega (arith, inv .closes .one t, chunk-behind chunk i end z e) in drop-of-length-le chunk u
+
+      some-left : eqb (length (drop i chunk)) 0 ≡ false
+      some-left = ne-eqb (length (drop i chunk)) 0 (λ y. omega (arith, y, some))
+
+      turn : (b : Bool) → closing ≡ b → ran b p' (drop end chunk) ≡ ran b (running f store line out) (drop i chunk)
+      unfolding fed
+      turn true t = rw (last t, some-left) (rw t at q)
+      turn false t =
+          ap (λ (y : Running). fed y (drop end chunk)) (rw t at q)
           ∙ rw (rest, width) (sym (fed-segment (running f store line out) (drop i chunk) some))
-          ∙ inv .says
 
-      -- the lent line
-      begun : f .len ≡ length (take (f .len) line)
-      begun = sym (length-take-le (f .len) line (omega (arith, inv .room .len-in, inv .room .line-room)))
-
-      line-turn : lineAfter (running r store' line' out') line' (drop end chunk) ≡ lineAfter (running f₀ store₀ line₀ out₀) line₀ chunk
-      line-turn =
-          ap₂ (λ (z : Running) (y : List ℕ). lineAfter z y (drop end chunk)) q (x ∙ ap (λ (k : ℕ). laid k (take (end - i) (drop i chunk)) line) begun)
+      line-turn : (b : Bool) → closing ≡ b → lineRan b p' line' (drop end chunk) ≡ lineRan b (running f store line out) line (drop i chunk)
+      line-turn true t = rw t at x
+      line-turn false t =
+          ap₂ (λ (y : Running) (u : List ℕ). lineAfter y u (drop end chunk)) (rw t at q) ((rw t at x) ∙ ap (λ (k : ℕ). laid k piece line) begun)
           ∙ rw (rest, width) (sym (line-after (running f store line out) line (drop i chunk) (inv .room .line-room) some))
-          ∙ inv .line-says
 
       -- what stands behind the answers
-      both-added : Added f₀ r out₀ out'
+      both-added : Added f₀ (feedOf s' h') out₀ out'
       both-added =
           let a = inv .added in
-          let k : f .at + (r .at - f .at) ≡ r .at = omega (arith, w .grows) in
-          let back : (l : List ℕ) → drop (r .at) l ≡ drop (r .at - f .at) (drop (f .at) l) =
-          λ l. ap (λ (j : ℕ). drop j l) (sym k) ∙ sym (drop-drop (r .at - f .at) (f .at) l) in
+          let k : h .at + (h' .at - h .at) ≡ h' .at = omega (arith, w .grows) in
+          let back : (l : List ℕ) → drop (h' .at) l ≡ drop (h' .at - h .at) (drop (h .at) l) =
+          λ l. ap (λ (j : ℕ). drop j l) (sym k) ∙ sym (drop-drop (h' .at - h .at) (h .at) l) in
           record {
             grows = omega (arith, a .grows, w .grows);
-            behind = w .behind ∙ back out ∙ ap (drop (r .at - f .at)) (a .behind) ∙ sym (back out₀);
+            behind = w .behind ∙ back out ∙ ap (drop (h' .at - h .at)) (a .behind) ∙ sym (back out₀);
           }
 
-      pub midway-more : Midway f₀ store₀ line₀ chunk out₀ r store' line' out' end
+      pub midway-more : Midway closing f₀ store₀ line₀ chunk out₀ s' h' store' line' out' xs' ms' end
       midway-more =
-          let b = chunk-behind chunk i end h e in
-          let w = chunk-within chunk i end h e in
+          let b = chunk-behind chunk i end z e in
+          let w = chunk-within chunk i end z e in
           let o = inv .room in
           let g = inv .so-far in
           record {
+            closes = inv .closes;
             room =
                 record {
                   ready = d .ready;
@@ -148,7 +214,12 @@ module _ (f₀ : Feed) (store₀ line₀ chunk out₀ : List ℕ) (f : Feed) (st
             store-same = lr ∙ inv .store-same;
             line-same = ll ∙ inv .line-same;
             out-same = lo ∙ inv .out-same;
+            numbers-room = lx ∙ inv .numbers-room;
+            masks-room = lm ∙ inv .masks-room;
             added = both-added;
-            line-says = line-turn;
-            says = turn;
+            line-says = line-turn closing refl ∙ inv .line-says;
+            says = turn closing refl ∙ inv .says;
           }
+
+pub feed-whole : (f : Feed) (h : Head) → h ≡ headOf f → feedOf (f .state .session) h ≡ f
+feed-whole f h e = rw e

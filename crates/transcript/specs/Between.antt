@@ -2,11 +2,13 @@
 use Prim.Native.Nat.{ℕ}
 use mathlib.Core.Path.{_≡_}
 use mathlib.Core.List.{List, [], _∷_}
+use mathlib.Core.Bool.{Bool, true, cond}
 use lib.ListN.{length}
+use lib.Dec.{eqb}
 use Rattle.feeds.specs.declared.Feed.{Feed}
 use Rattle.transcript.specs.declared.Progress.{Progress}
 use Rattle.splitting.specs.Lines.{laid}
-use Rattle.feeds.specs.Program.{Running, taken, running}
+use Rattle.feeds.specs.Program.{Running, taken, fed, closed, running}
 use Rattle.feeds.specs.Between.{Added, Fed}
 
 -- The lent line after bytes were taken one by one: a line feed ends a line, and the next is kept from the list's start on.
@@ -22,3 +24,14 @@ pub record Moved (x k : ℕ) (f : Feed) (store line out : List ℕ) (new : Runni
   pub line-is : x ≡ 0 → line' ≡ newLine
   pub left : x ≡ 0 → Fed f (r .feed) store' k
   pub added : x ≡ 0 → Added f (r .feed) out out'
+
+-- ---- a chunk, or the end of the input
+-- The end of the input comes as one byte, which is not kept.
+pub record Closing (closing : Bool) (chunk : List ℕ) : Type 0 where
+  pub one : closing ≡ true → length chunk ≡ 1
+
+abbrev pub ran : Bool → Running → List ℕ → Running
+ran closing p s = cond closing (cond (eqb (length s) 0) p (closed p)) (fed p s)
+
+abbrev pub lineRan : Bool → Running → List ℕ → List ℕ → List ℕ
+lineRan closing p line s = cond closing line (lineAfter p line s)

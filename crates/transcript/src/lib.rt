@@ -5,7 +5,7 @@ use feeds::Feed;
 ghost use mathlib.Core.Path.{_≡_};
 ghost use lib.ListN.{length};
 ghost use Rattle.transcript.specs.Limits.{feedRefusal};
-ghost use Rattle.transcript.specs.Between.{Moved, lineAfter};
+ghost use Rattle.transcript.specs.Between.{Moved, lineAfter, Closing, ran, lineRan};
 ghost use Rattle.feeds.specs.Between.{Open, Added, Fed};
 ghost use Rattle.feeds.specs.Program.{running, fed, closed};
 
@@ -15,23 +15,62 @@ pub struct Progress {
     pub feed: Feed,
 }
 
-// A chunk of the input, where there is room.
-fn take_chunk(feed: Feed, store: &mut [u32], line: &mut [u8], chunk: &[u8], out: &mut [u8]) -> Feed
-    requires { ⌜ Open feed (now store) (now line) (now out) (length (now chunk)) ⌝ }
+// A chunk of the input, or its end, where there is room: the session and the rest of what is kept are two variables, so that a line that does
+// not change the session does not copy it. At the end the chunk is one byte, which is not kept.
+fn take_lines(
+    feed: Feed,
+    store: &mut [u32],
+    line: &mut [u8],
+    chunk: &[u8],
+    closing: bool,
+    out: &mut [u8],
+) -> Feed
+    requires { ⌜ Open feed (now store) (now line) (now out) (length (now chunk)) × Closing closing (now chunk) ⌝ }
     ensures { λ r. ⌜ running r (now (store .exit)) (now (line .exit)) (now (out .exit))
-        ≡ fed (running feed (now (store .entry)) (now (line .entry)) (now (out .entry))) (now (chunk .entry)) ⌝ }
+        ≡ ran closing (running feed (now (store .entry)) (now (line .entry)) (now (out .entry))) (now (chunk .entry)) ⌝ }
     ensures { λ r. ⌜ Fed feed r (now (store .exit)) (length (now (chunk .entry))) × Added feed r (now (out .entry)) (now (out .exit)) ⌝ }
     ensures { λ r. ⌜ now (line .exit)
-        ≡ lineAfter (running feed (now (store .entry)) (now (line .entry)) (now (out .entry))) (now (line .entry)) (now (chunk .entry)) ⌝ }
+        ≡ lineRan closing (running feed (now (store .entry)) (now (line .entry)) (now (out .entry))) (now (line .entry)) (now (chunk .entry)) ⌝ }
 {
-    let mut present = feed;
+    let mut numbers = [0u32; store::NUMBERS_ROOM];
+    let mut masks = [0u32; store::MOST_MASKS];
+    let empty = [0u32; store::RECORD_ROOM];
+    let state = feed.state;
+    let mut session = state.session;
+    let mut head = feeds::head(feed);
     let mut i = 0;
     while i < chunk.len() {
         let end = splitting::line_end(chunk, i);
-        present = feeds::take_part(present, store, line, &chunk[i..end], out);
+        let shape = session.shape();
+        let part = feeds::read_part(head, shape, line, &chunk[i..end], closing, &mut numbers);
+        head = part.head;
         i = end;
+        if part.ended {
+            let order = part.order;
+            let letter = order.letter;
+            if interpreter::changes(letter) {
+                let len = head.len;
+                let answer = interpreter::change(
+                    session,
+                    head.triple,
+                    store,
+                    &line[..len],
+                    order,
+                    &numbers,
+                    &empty,
+                    &mut masks,
+                );
+                let refusal = answer.refusal;
+                head = feeds::change_line(head, letter, session.post, shape, refusal, &numbers, &masks, out);
+                if refusal == 0 {
+                    session = answer.session;
+                }
+            } else {
+                head = feeds::look_line(session, head, order, store, &numbers, &empty, out);
+            }
+        }
     }
-    present
+    feeds::whole(session, head)
 }
 
 // A chunk of the input.
@@ -52,7 +91,7 @@ pub fn feed_chunk(
     if refusal != 0 {
         return Progress { refusal, feed };
     }
-    let after = take_chunk(feed, store, line, chunk, out);
+    let after = take_lines(feed, store, line, chunk, false, out);
     Progress {
         refusal: 0,
         feed: after,
@@ -60,16 +99,17 @@ pub fn feed_chunk(
 }
 
 // The end of the input ends a line that was begun.
-pub fn end_input(feed: Feed, store: &mut [u32], line: &[u8], out: &mut [u8]) -> Progress
+pub fn end_input(feed: Feed, store: &mut [u32], line: &mut [u8], out: &mut [u8]) -> Progress
     ensures { λ r. ⌜ Moved (feedRefusal feed (now (store .entry)) (now (line .entry)) (now (out .entry)) 1) 1 feed (now (store .entry))
         (now (line .entry)) (now (out .entry)) (closed (running feed (now (store .entry)) (now (line .entry)) (now (out .entry))))
-        (now (line .entry)) r (now (store .exit)) (now (line .entry)) (now (out .exit)) ⌝ }
+        (now (line .entry)) r (now (store .exit)) (now (line .exit)) (now (out .exit)) ⌝ }
 {
     let refusal = limits::open_refusal(feed, store, line, out, 1);
     if refusal != 0 {
         return Progress { refusal, feed };
     }
-    let after = feeds::take_end(feed, store, line, out);
+    let end = [b'\n'];
+    let after = take_lines(feed, store, line, &end, true, out);
     Progress {
         refusal: 0,
         feed: after,

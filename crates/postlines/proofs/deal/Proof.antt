@@ -1,14 +1,14 @@
 -- `deal` meets its contract.
 use borrow.Author.Needs.{needs}
 use Rattle.states.proofs.Calling.{rows-in, rows-prefix}
-use Rattle.postlines.proofs.Hearing.{deal-called}
+use Rattle.postlines.proofs.Hearing.{deal-answer, deal-rows}
 use Rattle.postlines.proofs.deal.Statement.{statement}
 use Rattle.postlines.proofs.deal.Tie as tie
 
-ruleset ends = (needs, rows-in, rows-prefix, deal-called)
+ruleset ends = (needs, rows-in, rows-prefix, deal-answer, deal-rows)
 
 pub deal-spec : {M : Type 1} → statement M
 deal-spec =
     tie.close
-    (tie.spec (λ c κs. search ends) (λ c. search ends) (λ c. search ends) (λ c κs. search ends) (λ c κs. search ends)
+    (tie.spec (λ c κs. search ends) (λ c. search ends) (λ c. search ends) (λ c κs. search ends)
     (λ c. search ends) (λ c. search ends))

@@ -9,5 +9,5 @@ ruleset ends = (needs, start-long, start-wrong, start-settings)
 pub start-spec : {M : Type 1} → statement M
 start-spec =
     tie.close
-    (tie.spec (λ c κs. search ends) (λ c. search ends) (λ c κs. search ends) (λ c. search ends) (λ c κs. search ends)
-    (λ c. search ends) (λ c κs. search ends) (λ c. search ends) (λ c. search ends))
+    (tie.spec (λ c κs. search ends) (λ c. search ends) (λ c κs. search ends) (λ c. search ends)
+    (λ c κs. search ends) (λ c. search ends) (λ c κs. search ends) (λ c. search ends) (λ c. search ends))

@@ -1,27 +1,27 @@
 -- `end_input` meets its contract.
-use mathlib.Core.Path.{refl}
 use borrow.Author.Needs.{needs}
-use Rattle.transcript.proofs.Admitting.{none-open, moved-nothing, moved}
+use Rattle.transcript.proofs.Admitting.{none-open, moved-nothing, moved, is-closing}
 use Rattle.transcript.proofs.end_input.Statement.{statement}
 use Rattle.transcript.proofs.end_input.Tie as tie
 
 ruleset ends = (needs, moved-nothing)
 
 -- what the calls ensured and the test lie too deep for `search` to find
-take-end-requires : tie.Need-take-end-requires
-take-end-requires c κs =
-    let fine = c .before .before in
-    none-open _ _ _ _ _ _ (fine .before .open-refusal .ensures) (fine .if1 .left)
+take-lines-requires : tie.Need-take-lines-requires
+take-lines-requires c κs =
+    let fine = c .before .before .before .before in
+    (none-open _ _ _ _ _ _ (fine .before .open-refusal .ensures) (fine .if1 .left), is-closing _)
 
 returns-2 : tie.Need-returns-2
 returns-2 c =
-    let done = c .before .before .before .before in
-    let fine = done .before .before .before in
-    let e = done .take-end .ensures in
-    moved _ _ _ _ _ _ _ _ (fine .before .open-refusal .ensures) _ _ _ _ (fine .if1 .left) (e .0) refl (e .1 .0) (e .1 .1)
+    let done = c .before .before .before .before .before .before in
+    let fine = done .before .before .before .before .before in
+    let e = done .take-lines .ensures in
+    moved _ _ _ _ _ _ _ _ (fine .before .open-refusal .ensures) _ _ _ _ (fine .if1 .left) (e .0) (e .1 .1) (e .1 .0 .0) (e .1 .0 .1)
 
 pub end-input-spec : {M : Type 1} → statement M
 end-input-spec =
     tie.close
-    (tie.spec (λ c κs. search ends) (λ c. search ends) (λ c. search ends) (λ c. search ends)
-    take-end-requires (λ c. search ends) (λ c. search ends) returns-2)
+    (tie.spec (λ c κs. search ends) (λ c. search ends) (λ c. search ends) (λ c. search ends) (λ c. search ends)
+    (λ c. search ends) take-lines-requires (λ c. search ends) (λ c. search ends)
+    (λ c. search ends) returns-2)
