@@ -8,8 +8,7 @@ use Rattle.shape.specs.Lengths.{shape, recordLength}
 use Rattle.answers.proofs.Texts.{answer-texts}
 use Rattle.store.specs.Sizes.{openingsAt, masksAAt, masksBAt, storeRoom, recordRoom, InStreet}
 use Rattle.store.specs.Records.{recordAt}
-use Rattle.store.proofs.Keeping.{record-room}
-use Rattle.states.proofs.Calling.{take-zeros}
+use Rattle.store.proofs.Keeping.{record-room, take-zeros}
 use Rattle.interpreter.specs.Stepping.{step}
 use Rattle.feeds.specs.Program.{begun, answers, printed}
 use Rattle.performing.specs.Program.{ProgramPrints}
