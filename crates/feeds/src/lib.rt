@@ -155,7 +155,15 @@ pub fn look_line(
         × (now empty ≡ replicate recordRoom 0) × (head .number + 1 < 2 ^ 64) × (head .at + longestPrint ≤ length (now out)) ⌝ }
     ensures { λ r. ⌜ Seen session head order (now (numbers .entry)) (now (store .entry)) (now (out .entry)) r (now (store .exit)) (now (out .exit)) ⌝ }
 {
-    let seen = interpreter::look(session, head.kept, head.triple, store, order, numbers, empty);
+    let seen = interpreter::look(
+        session,
+        head.kept,
+        head.triple,
+        store,
+        order,
+        numbers,
+        empty,
+    );
     let number = head.number + 1;
     let at = answers::print(out, head.at, number, seen.refusal, seen.value);
     Head {

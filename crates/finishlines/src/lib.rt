@@ -14,7 +14,13 @@ ghost use Rattle.finishlines.specs.Steps.{pairAnswer, pairRows};
 ghost use Rattle.finishlines.specs.Between.{afterAnswer, afterRows};
 
 // y and y' are worked out with the two records of the `M` lines where they stand, if they are kept for the triple, else with empty ones.
-fn collect_kept<'a>(session: Session, store: &'a [u32], empty: &'a [u32], same: bool, first: usize) -> Answer
+fn collect_kept<'a>(
+    session: Session,
+    store: &'a [u32],
+    empty: &'a [u32],
+    same: bool,
+    first: usize,
+) -> Answer
     requires { ⌜ InStreet (shapeOf session) × (length (now store) ≡ storeRoom) × (now empty ≡ replicate recordRoom 0) ⌝ }
     ensures { λ r. ⌜ r ≡ collectAnswer session (rowsOf session (now (store .entry))) first
         (recordIf same (recordAt masksAAt (shapeOf session) (now (store .entry))))
@@ -42,7 +48,13 @@ fn multiply_after(collected: Answer, store: &mut [u32], first: usize) -> Answer
 }
 
 // A triple is finished, by the pair of calls, with the records that are kept for it, or with empty ones. The session of a refused answer is of no use.
-pub fn finish(session: Session, store: &mut [u32], empty: &[u32], triple: usize, first: usize) -> Answer
+pub fn finish(
+    session: Session,
+    store: &mut [u32],
+    empty: &[u32],
+    triple: usize,
+    first: usize,
+) -> Answer
     requires { ⌜ InStreet (shapeOf session) × (length (now store) ≡ storeRoom) × (now empty ≡ replicate recordRoom 0) ⌝ }
     ensures { λ r. ⌜ settled session r ≡ pairAnswer session (rowsOf session (now (store .entry))) first
         (recordIf (eqb triple first) (recordAt masksAAt (shapeOf session) (now (store .entry))))

@@ -173,9 +173,9 @@ refusal-of (suc k) new old = refl
 
 masks-end : (s : Session) (b : Bool) (k triple : ℕ) (store : List ℕ) (x : ℕ) (new : Session) (t t' : List ℕ) → (x ≡ 0 → t ≡ t')
     → (let a = answer x 0 new s in
-      _≡_ {A = After}
-      (record { given = record { state = held (settled s a .session) b k triple; refusal = settled s a .refusal; value = 0; told = length (outcome {A = List ℕ} (a .refusal) t []) }; store = store; told = outcome (a .refusal) t [] })
-      (outcome x (record { given = telling (answering (held s b k triple) a) (length t'); store = store; told = t' }) (leaving (answering (held s b k triple) a) store)))
+    _≡_ {A = After}
+    (record { given = record { state = held (settled s a .session) b k triple; refusal = settled s a .refusal; value = 0; told = length (outcome {A = List ℕ} (a .refusal) t []) }; store = store; told = outcome (a .refusal) t [] })
+    (outcome x (record { given = telling (answering (held s b k triple) a) (length t'); store = store; told = t' }) (leaving (answering (held s b k triple) a) store)))
 unfolding outcome
 masks-end s b k triple store zero new t t' f =
     ap (λ (l : List ℕ). record { given = record { state = held new b k triple; refusal = 0; value = 0; told = length l }; store = store; told = l }) (f refl)

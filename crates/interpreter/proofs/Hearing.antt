@@ -58,7 +58,6 @@ skip false x e q = q
 
 module _ (s : Session) (line out : List ℕ) (i : InStreet (shapeOf s)) (l : length out ≡ masksLength (shapeOf s)) (said : Line)
     (e : said ≡ lineAs (readRefusal (s .n) (s .t) line out) (heard s line)) where
-
   same : readRefusal (s .n) (s .t) line out ≡ heardRefusal s line
   same = no-posts s line out i l
 
@@ -129,4 +128,3 @@ module _ (s : Session) (line out : List ℕ) (i : InStreet (shapeOf s)) (l : len
         let n : length theirs ≡ masksLength (shapeOf s) = numbers-length (masksLength (shapeOf s)) (rw o) (rw o) in
         let z : masksLength (shapeOf s) - length theirs ≡ 0 = omega arith in
         list-is ∙ rw z (append-nil theirs)
-

@@ -162,9 +162,9 @@ module _ (g : Shape) (i : InStreet g) (s xs : List ℕ) (o : Order) (h : Heard g
       rw (h .order-is)
       (leads-by 79 e (λ z. omega (arith, z)) (λ st store. rw e)
       (λ z st store d.
-          act-keep st store xs s (getD s 0 0) (m₀ .row) (m₀ .post) e
-          ∙ ap (keepStep st store (m₀ .row) (m₀ .post)) (ap (λ (q : Shape). take (vLength q) xs) d ∙ opening-numbers z e)
-          ∙ sym (say-keep st store m₀ e)) x₀ refl)
+      act-keep st store xs s (getD s 0 0) (m₀ .row) (m₀ .post) e
+      ∙ ap (keepStep st store (m₀ .row) (m₀ .post)) (ap (λ (q : Shape). take (vLength q) xs) d ∙ opening-numbers z e)
+      ∙ sym (say-keep st store m₀ e)) x₀ refl)
 
   pub leads-product : getD s 0 0 ≡ 77 → Leads g s o xs (lettered s)
   unfolding lettersStep
@@ -172,6 +172,6 @@ module _ (g : Shape) (i : InStreet g) (s xs : List ℕ) (o : Order) (h : Heard g
       rw (h .order-is)
       (leads-by 77 e (λ z. omega (arith, z)) (λ st store. rw e)
       (λ z st store d.
-          act-masks st store xs s (getD s 0 0) (m₀ .row) (m₀ .post) e
-          ∙ ap (keepHalvesStep st store (m₀ .row) (m₀ .post)) (ap (λ (q : Shape). take (masksLength q) xs) d ∙ masks-numbers z e)
-          ∙ sym (say-masks st store m₀ e)) x₀ refl)
+      act-masks st store xs s (getD s 0 0) (m₀ .row) (m₀ .post) e
+      ∙ ap (keepHalvesStep st store (m₀ .row) (m₀ .post)) (ap (λ (q : Shape). take (masksLength q) xs) d ∙ masks-numbers z e)
+      ∙ sym (say-masks st store m₀ e)) x₀ refl)

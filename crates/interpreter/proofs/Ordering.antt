@@ -110,9 +110,9 @@ module _ (g : Shape) (s xs : List ℕ) (o : Order) where
       rw (n .order-is)
       (number-leads g s xs 82 (lettered s) (λ st store. loading st store (numbers (1 + k) s)) refl (λ z. omega (arith, z)) (readRefusal (lastRow ∷ []) (1 + k) s)
       (λ st store d. let w : rowLength (shapeOf (st .session)) ≡ k = ap rowLength d ∙ sym e in
-          rw l (ap (λ (j : ℕ). unless (readRefusal (lastRow ∷ []) (1 + j) s) st store (loading st store (numbers (1 + j) s))) w))
+      rw l (ap (λ (j : ℕ). unless (readRefusal (lastRow ∷ []) (1 + j) s) st store (loading st store (numbers (1 + j) s))) w))
       (λ z st store d. let w : rowLength (shapeOf (st .session)) ≡ k = ap rowLength d ∙ sym e in
-          ap (λ (j : ℕ). loading st store (take (1 + j) xs)) w ∙ ap (loading st store) (n .numbers-are z)))
+      ap (λ (j : ℕ). loading st store (take (1 + j) xs)) w ∙ ap (loading st store) (n .numbers-are z)))
 
   pub leads-triple : (k : ℕ) → k ≡ tripleLength g → getD s 0 0 ≡ 84 → Numbered 84 (lastTriple ∷ []) (1 + k) s o xs → Leads g s o xs (lettered s)
   unfolding changing lettersStep loadTripleStep
@@ -120,9 +120,9 @@ module _ (g : Shape) (s xs : List ℕ) (o : Order) where
       rw (n .order-is)
       (number-leads g s xs 84 (lettered s) (λ st store. loadingTriple st store (numbers (1 + k) s)) refl (λ z. omega (arith, z)) (readRefusal (lastTriple ∷ []) (1 + k) s)
       (λ st store d. let w : tripleLength (shapeOf (st .session)) ≡ k = ap tripleLength d ∙ sym e in
-          rw l (ap (λ (j : ℕ). unless (readRefusal (lastTriple ∷ []) (1 + j) s) st store (loadingTriple st store (numbers (1 + j) s))) w))
+      rw l (ap (λ (j : ℕ). unless (readRefusal (lastTriple ∷ []) (1 + j) s) st store (loadingTriple st store (numbers (1 + j) s))) w))
       (λ z st store d. let w : tripleLength (shapeOf (st .session)) ≡ k = ap tripleLength d ∙ sym e in
-          ap (λ (j : ℕ). loadingTriple st store (take (1 + j) xs)) w ∙ ap (loadingTriple st store) (n .numbers-are z)))
+      ap (λ (j : ℕ). loadingTriple st store (take (1 + j) xs)) w ∙ ap (loadingTriple st store) (n .numbers-are z)))
 
   pub leads-open : getD s 0 0 ≡ 71 → Numbered 71 (lastRow ∷ []) 1 s o xs → Leads g s o xs (lettered s)
   unfolding looking lettersStep openStep
@@ -145,7 +145,7 @@ module _ (g : Shape) (s xs : List ℕ) (o : Order) where
       (number-leads g s xs 76 (lettered s) (λ st store. adding st store (numbers 5 s)) refl (λ z. omega (arith, z)) (readRefusal (lastRow ∷ lastRow ∷ lastRow ∷ []) 5 s)
       (λ st store d. rw l)
       (λ z st store d.
-          rw (← n .numbers-are z, getD-take 5 xs 0 0 (omega arith), getD-take 5 xs 1 0 (omega arith), getD-take 5 xs 2 0 (omega arith), getD-take 5 xs 3 0 (omega arith), getD-take 5 xs 4 0 (omega arith))))
+      rw (← n .numbers-are z, getD-take 5 xs 0 0 (omega arith), getD-take 5 xs 1 0 (omega arith), getD-take 5 xs 2 0 (omega arith), getD-take 5 xs 3 0 (omega arith), getD-take 5 xs 4 0 (omega arith))))
 
   pub leads-masks : getD s 0 0 ≡ 88 → Numbered 88 (lastRow ∷ lastRow ∷ lastTriple ∷ []) 3 s o xs → Leads g s o xs (lettered s)
   unfolding changing maskStep maskingOf
@@ -162,7 +162,7 @@ module _ (g : Shape) (s xs : List ℕ) (o : Order) where
       rw q
       (refused-leads g s xs 10 (lettered s)
       (λ st store.
-          rw (ne-eqb (getD s 0 0) 88 i, ne-eqb (getD s 0 0) 82 a, ne-eqb (getD s 0 0) 84 b, ne-eqb (getD s 0 0) 71 c, ne-eqb (getD s 0 0) 76 d, ne-eqb (getD s 0 0) 70 e, ne-eqb (getD s 0 0) 68 f, ne-eqb (getD s 0 0) 79 h, ne-eqb (getD s 0 0) 77 j)))
+      rw (ne-eqb (getD s 0 0) 88 i, ne-eqb (getD s 0 0) 82 a, ne-eqb (getD s 0 0) 84 b, ne-eqb (getD s 0 0) 71 c, ne-eqb (getD s 0 0) 76 d, ne-eqb (getD s 0 0) 70 e, ne-eqb (getD s 0 0) 68 f, ne-eqb (getD s 0 0) 79 h, ne-eqb (getD s 0 0) 77 j)))
 
   -- ---- the line's length
   pub leads-long : longestLine < length s → o ≡ refusedOrder 10 → Leads g s o xs (lated s)

@@ -111,10 +111,23 @@ pub fn look(
     let shape = session.shape();
     let letter = order.letter;
     match letter {
-        b'G' => open(session, kept, triple, store, empty, states::place(numbers[0])),
+        b'G' => open(
+            session,
+            kept,
+            triple,
+            store,
+            empty,
+            states::place(numbers[0]),
+        ),
         b'O' => {
             let count = shape.v_len();
-            postlines::keep(shape, store, kept == order.row, order.post, &numbers[..count]);
+            postlines::keep(
+                shape,
+                store,
+                kept == order.row,
+                order.post,
+                &numbers[..count],
+            );
             Outcome {
                 refusal: 0,
                 value: 0,
@@ -124,7 +137,13 @@ pub fn look(
         }
         b'M' => {
             let count = shape.masks_len();
-            postlines::keep_masks(shape, store, triple == order.row, order.post, &numbers[..count]);
+            postlines::keep_masks(
+                shape,
+                store,
+                triple == order.row,
+                order.post,
+                &numbers[..count],
+            );
             Outcome {
                 refusal: 0,
                 value: 0,

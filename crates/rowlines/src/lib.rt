@@ -24,11 +24,25 @@ pub fn add(session: Session, store: &mut [u32], numbers: &[u32]) -> Answer
     let dest = states::place(numbers[0]);
     let a = states::place(numbers[1]);
     let b = states::place(numbers[2]);
-    linear::linear(session, &mut store[..end], dest, a, b, numbers[3], numbers[4])
+    linear::linear(
+        session,
+        &mut store[..end],
+        dest,
+        a,
+        b,
+        numbers[3],
+        numbers[4],
+    )
 }
 
 // A row is opened with the record that is kept for it, or with an empty one.
-pub fn open<'a>(session: Session, store: &'a [u32], empty: &'a [u32], kept: usize, row: usize) -> Opened
+pub fn open<'a>(
+    session: Session,
+    store: &'a [u32],
+    empty: &'a [u32],
+    kept: usize,
+    row: usize,
+) -> Opened
     requires { ⌜ InStreet (shapeOf session) × (length (now store) ≡ storeRoom) × (now empty ≡ replicate recordRoom 0) ⌝ }
     ensures { λ r. ⌜ holding (r .refusal) (r .value) session ≡ openAnswer session (rowsOf session (now (store .entry))) row
         (recordIf (eqb kept row) (recordAt openingsAt (shapeOf session) (now (store .entry)))) ⌝ }

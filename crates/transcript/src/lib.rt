@@ -61,7 +61,16 @@ fn take_lines(
                     &mut masks,
                 );
                 let refusal = answer.refusal;
-                head = feeds::change_line(head, letter, session.post, shape, refusal, &numbers, &masks, out);
+                head = feeds::change_line(
+                    head,
+                    letter,
+                    session.post,
+                    shape,
+                    refusal,
+                    &numbers,
+                    &masks,
+                    out,
+                );
                 if refusal == 0 {
                     session = answer.session;
                 }
