@@ -33,9 +33,9 @@ module _ (s : Served) (b : Bool) (f : b ≡ brokenOff s) where
   pub unbroken-whole : b ≡ false → s .printed .whole ≡ true
   unbroken-whole e = neither (s .got .failed) (s .printed .whole) (sym f ∙ e) .1
 
-module _ (s : Served) (store line out newLine : List ℕ) (g : Progress) (store' out' : List ℕ)
+module _ (s : Served) (store line out newLine : List ℕ) (g : Progress) (store' line' out' : List ℕ)
     (m : Moved (feedRefusal (s .feed) store line out 1) 1 (s .feed) store line out
-    (closed (running (s .feed) store line out)) newLine g store' line out')
+    (closed (running (s .feed) store line out)) newLine g store' line' out')
     (o : Open (s .feed) store line out 1) where
   none : feedRefusal (s .feed) store line out 1 ≡ 0
   none = open-none (s .feed) store line out 1 o
@@ -45,10 +45,10 @@ module _ (s : Served) (store line out newLine : List ℕ) (g : Progress) (store'
 
   pub finished-closed : (q : Printed) → length out' ≡ length out → (b : Bool) → b ≡ brokenOff s → b ≡ false
       → q .total ≡ wrapped (s .printed .total + length (take (g .feed .at) out'))
-      → Finished (running (s .feed) store line out) (running (g .feed) store' line out') out' s
+      → Finished (running (s .feed) store line out) (running (g .feed) store' line' out') out' s
       (record { feed = g .feed; got = s .got; printed = q })
   finished-closed q l b f e t =
-      let c : running (g .feed) store' line out' ≡ closed (running (s .feed) store line out) = m .says none in
+      let c : running (g .feed) store' line' out' ≡ closed (running (s .feed) store line out) = m .says none in
       record {
         same = refl;
         broken = λ y. absurd (true≢false (sym y ∙ sym f ∙ e));

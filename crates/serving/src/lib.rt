@@ -51,7 +51,7 @@ fn finish(served: Served, store: &mut [u32], line: &mut [u8], out: &mut [u8]) ->
     requires { ⌜ Open (served .feed) (now store) (now line) (now out) 1 ⌝ }
     ensures { λ r. ⌜ Finished
         (running (served .feed) (now (store .entry)) (now (line .entry)) (now (out .entry)))
-        (running (r .feed) (now (store .exit)) (now (line .entry)) (now (out .exit)))
+        (running (r .feed) (now (store .exit)) (now (line .exit)) (now (out .exit)))
         (now (out .exit)) served r ⌝ }
 {
     if chunks::broken_off(served) {

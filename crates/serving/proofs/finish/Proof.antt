@@ -11,5 +11,5 @@ pub finish-spec : {M : Type 1} → statement M
 finish-spec =
     tie.close
     (tie.spec (λ c κs. search needs) (λ c. search ends) (λ c κs. search needs)
-    (λ c. search ends) (λ c. search ends) (λ c κs. search ends) (λ c. search needs) (λ c. search needs)
+    (λ c. search ends) (λ c. search ends) (λ c κs. search ends) (λ c. search needs) (λ c. search needs) (λ c. search needs)
     (λ c. search ends))

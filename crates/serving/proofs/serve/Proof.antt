@@ -6,7 +6,7 @@ use Rattle.serving.proofs.serve.Tie as tie
 
 returns : tie.Need-returns
 returns c =
-    let last = c .before .before .before .before in
+    let last = c .before .before .before .before .before .before in
     let printed = last .before .before .before .before in
     let first = printed .before .before .before .before .before .before .before .before .before .before in
     all-served _ _ _ _ _ _ (first .serve-chunks .ensures .0) (printed .whole .ensures) (last .finish .ensures)
