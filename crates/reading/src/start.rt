@@ -12,16 +12,16 @@ pub fn is_start(line: &[u8]) -> bool
     if line.len() < 1 {
         return false;
     }
-    if line[0] != 83 {
+    if line[0] != b'S' {
         return false;
     }
     if line.len() < 2 {
         return true;
     }
-    if line[1] == 44 {
+    if line[1] == b',' {
         return true;
     }
-    line[1] == 10
+    line[1] == b'\n'
 }
 
 // A comma and a `-` stand at a position.
@@ -31,13 +31,13 @@ fn dash_at(line: &[u8], at: usize) -> bool
     if line.len() <= at {
         return false;
     }
-    if line[at] != 44 {
+    if line[at] != b',' {
         return false;
     }
     if line.len() <= at + 1 {
         return false;
     }
-    line[at + 1] == 45
+    line[at + 1] == b'-'
 }
 
 // The post and the check point, the last two fields, behind n and t.
