@@ -11,13 +11,13 @@ use Rattle.shape.specs.Lengths.{shape, recordLength}
 use Rattle.poly.specs.Counting.{All}
 use Rattle.decimal.specs.Numeral.{tens, lastDigits, sizeWithin}
 use Rattle.decimal.proofs.Sizes.{size-one}
-use Rattle.answers.specs.Text.{longSize}
-use Rattle.answers.proofs.Texts.{answer-texts}
-use Rattle.store.specs.Sizes.{openingsAt, masksAAt, masksBAt, storeRoom, recordRoom, InStreet}
-use Rattle.store.specs.Records.{recordAt}
-use Rattle.store.proofs.Keeping.{record-room, take-zeros}
-use Rattle.interpreter.specs.Stepping.{step}
-use Rattle.feeds.specs.Program.{begun, answers, linesFrom, printed}
+use Rattle.street_answers.specs.Text.{longSize}
+use Rattle.street_answers.proofs.Texts.{answer-texts}
+use Rattle.street_store.specs.Sizes.{openingsAt, masksAAt, masksBAt, storeRoom, recordRoom, InStreet}
+use Rattle.street_store.specs.Records.{recordAt}
+use Rattle.street_store.proofs.Keeping.{record-room, take-zeros}
+use Rattle.street_interpreter.specs.Stepping.{step}
+use Rattle.street_feeds.specs.Program.{begun, answers, linesFrom, printed}
 use Rattle.performing.specs.Program.{NoFeed, ProgramPrints}
 
 drop-zeros : (a m k : ℕ) → k + a ≡ m → drop a (replicate {A = ℕ} m 0) ≡ replicate k 0

@@ -9,13 +9,13 @@ use lib.ListN.{replicate}
 use Rattle.shape.specs.Lengths.{shape}
 use Rattle.poly.specs.Counting.{All}
 use Rattle.decimal.specs.Numeral.{numeral}
-use Rattle.answers.specs.Text.{longNumeral}
-use Rattle.answers.specs.Claims.{threeDigits}
-use Rattle.store.specs.Sizes.{openingsAt, masksAAt, masksBAt, InStreet}
-use Rattle.store.specs.Records.{recordAt}
-use Rattle.states.specs.declared.State.{State}
-use Rattle.interpreter.specs.Stepping.{step}
-use Rattle.feeds.specs.Program.{begun, answers, linesFrom, printed}
+use Rattle.street_answers.specs.Text.{longNumeral}
+use Rattle.street_answers.specs.Claims.{threeDigits}
+use Rattle.street_store.specs.Sizes.{openingsAt, masksAAt, masksBAt, InStreet}
+use Rattle.street_store.specs.Records.{recordAt}
+use Rattle.street_states.specs.declared.State.{State}
+use Rattle.street_interpreter.specs.Stepping.{step}
+use Rattle.street_feeds.specs.Program.{begun, answers, linesFrom, printed}
 
 -- `line,refusal,value` and a line feed
 abbrev pub headerBytes : List ℕ

@@ -11,9 +11,9 @@ use Rattle.refusal.specs.Refusal.{Test, _when_, first}
 use Rattle.decimal.specs.Numeral.{numeral}
 use Rattle.csv.specs.Fields.{written}
 use Rattle.session.specs.Claims.{freshSession}
-use Rattle.states.specs.declared.State.{State}
-use Rattle.states.specs.States.{After}
-use Rattle.interpreter.specs.Stepping.{step}
+use Rattle.street_states.specs.declared.State.{State}
+use Rattle.street_states.specs.States.{After}
+use Rattle.street_interpreter.specs.Stepping.{step}
 use Rattle.performing.specs.Claims.{Quiet}
 use Rattle.performing.specs.Lines.{TenDigits, refusalOf}
 
