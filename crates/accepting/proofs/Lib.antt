@@ -2,3 +2,4 @@ pub mod Parts
 pub mod Weights
 pub mod Accepted
 pub mod Same
+pub mod Told

@@ -48,16 +48,16 @@ pub at-node : (test : ℕ → ℕ → Bool) (z w y : ℕ) (r b : Bool) → w ≡
 at-node test z w y r b q e f = ap (λ (k : ℕ). test k y) (sym q) ∙ sym e ∙ f
 
 -- a part of the table is of elements, as `weigh_elements` needs it
-elements-of : (l : List ℕ) → ((i : ℕ) → i < length l → getD l i 0 < p) → Elements l
-elements-of [] h = tt
-elements-of (x ∷ l) h = (h 0 (omega arith), elements-of l (λ i k. h (suc i) (omega arith)))
+elements-by-places : (l : List ℕ) → ((i : ℕ) → i < length l → getD l i 0 < p) → Elements l
+elements-by-places [] h = tt
+elements-by-places (x ∷ l) h = (h 0 (omega arith), elements-by-places l (λ i k. h (suc i) (omega arith)))
 
 module _ (t : List ℕ) (from z : ℕ) (within : z ≤ length t) where
   pub taken-length : length (take (z - from) (drop from t)) ≡ z - from
   taken-length = length-take-le (z - from) (drop from t) (omega (arith, length-drop from t))
 
   pub part-elements : Inverts t → Elements (take (z - from) (drop from t))
-  part-elements table = elements-of (take (z - from) (drop from t)) each
+  part-elements table = elements-by-places (take (z - from) (drop from t)) each
     where
       each : (i : ℕ) → i < length (take (z - from) (drop from t)) → getD (take (z - from) (drop from t)) i 0 < p
       each i h =

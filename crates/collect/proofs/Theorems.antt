@@ -7,11 +7,12 @@ use lib.Dec.{T, leb, leb→le, ltb, ltb→lt}
 use Rattle.refusal.specs.Refusal.{Test, _when_, Ordered}
 use Rattle.session.specs.Sessions.{collectedTriple}
 use Rattle.session.specs.Law.{Lawful}
-use Rattle.session.proofs.Lawful.{lawful}
+use Rattle.session.proofs.Lawful.{lawful-by}
 use Rattle.opening.proofs.Theorems.{kept}
 use Rattle.collect.specs.Collect.{numberA, numberB, collectRefusal, collectAnswer}
 use Rattle.collect.specs.Table.{collectTable}
 use Rattle.collect.specs.Claims.{CollectLawful}
+use Rattle.collect.proofs.Tables.{collect-table}
 
 -- the order of a table's numbers, as a test that antt computes: a first call has too many tests for one `omega`
 abbrev rises : ℕ → List Test → Bool
@@ -36,5 +37,5 @@ collect-lawful s rows r blocksA blocksB =
     (Lawful (collectTable s rows r blocksA blocksB) 0 (collectedTriple s r (numberA s rows r blocksA) (numberB s rows r blocksB)) s rows rows
     (collectAnswer s rows r blocksA blocksB))
     (kept (collectRefusal s rows r blocksA blocksB) rows)
-    (lawful (collectTable s rows r blocksA blocksB) (ordered 1 (collectTable s rows r blocksA blocksB) tt) 0
+    (lawful-by (collect-table s rows r blocksA blocksB) (ordered 1 (collectTable s rows r blocksA blocksB) tt) 0
     (collectedTriple s r (numberA s rows r blocksA) (numberB s rows r blocksB)) s rows rows)

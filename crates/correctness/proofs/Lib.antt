@@ -5,6 +5,7 @@ pub mod Fitting
 pub mod Walking
 pub mod Accepting
 pub mod Permitted
+pub mod Halves
 pub mod Openings
 pub mod Theorems
 pub mod Caught

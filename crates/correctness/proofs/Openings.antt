@@ -2,7 +2,7 @@
 -- let pass.
 use Prim.Native.Nat.{ℕ, _-_, _≤_, _<_}
 use mathlib.Core.Path.{_≡_, refl, sym, _∙_, ap, subst}
-use mathlib.Core.Bool.{Bool, true, false}
+use mathlib.Core.Bool.{Bool, true, false, cond, true≢false}
 use mathlib.Core.Logic.{_≢_, _⊎_, inl, inr}
 use mathlib.Core.List.{List}
 use native.Mathlib.Decide.{ℕ-discrete}
@@ -20,9 +20,8 @@ use Rattle.opening.specs.Opening.{openChecks, openAnswer}
 use Rattle.opening.proofs.Theorems.{open-nine, open-thirteen, open-number}
 use Rattle.collect.specs.Collect as Collect
 use Rattle.vectors.specs.Vector.{Vector, number, numbers}
-use Rattle.vectors.specs.Claims.{heldRow, Truly, EnoughTruly}
+use Rattle.vectors.specs.Claims.{heldRow, Truly}
 use Rattle.vectors.proofs.HeldRows.{true-accepted}
-use Rattle.vectors.proofs.Shares.{true-agree, all-enough, truly-enough}
 use Rattle.vectors.proofs.Theorems.{opening-exact}
 use Rattle.runs.specs.Draws.{Plan, Draw, planShape}
 use Rattle.runs.specs.Calls.{Proper, Post}
@@ -32,14 +31,15 @@ use Rattle.runs.proofs.Records.{own-true}
 use Rattle.runs.proofs.Start.{sizes}
 use Rattle.correctness.specs.History.{World}
 use Rattle.correctness.specs.Ledger.{Ledger, Plain, MaskNumbers}
-use Rattle.correctness.specs.Truth.{TrueMask, TrueOf, EnoughTrue}
+use Rattle.correctness.specs.Truth.{TrueMask, EnoughTrue}
 use Rattle.correctness.specs.Claim.{howMany, Opens, Done, Remembers, Collects, Right}
 use Rattle.correctness.proofs.Meanings.{Is, plain, mask-numbers}
-use Rattle.correctness.proofs.Accepting.{Formed, too-few, not-few, enough-of, formed}
+use Rattle.correctness.proofs.Accepting.{Formed, too-few, not-few, formed}
 use Rattle.correctness.proofs.Fitting.{all-true-of, enough-true-of, AllSaid, told-a, told-b}
 use Rattle.correctness.proofs.Permitted as Permitted
 use Rattle.correctness.proofs.Permitted.{Stander, holder, below, is-row, open-passes, waiting, multiply-done}
 use Rattle.correctness.proofs.Permitted.{collect-few, collect-done, collect-recalls, collect-thirteen, collect-otherwise}
+use Rattle.correctness.proofs.Halves.{all-agree, all-trusted, trusted, many}
 
 -- what a truth of polynomials must give, to be used in an opening
 abbrev pub Reliable : Plan → Draw → Ledger → (ℕ → ℕ → List ℕ → Type 0) → Type 0
@@ -110,7 +110,8 @@ module _ (G : Stander) where
         | inl o ↦ inl (number-given o)
         | inr o ↦ inr (ap (λ (o : Answer). o .refusal) o)
       ];
-      otherwise = λ e. go e (disagree s (row r) blocks) refl;
+      otherwise = λ e. either (disagree s (row r) blocks) _ (answers e (disagree s (row r) blocks) refl);
+      thirteen = λ e. exactly (disagree s (row r) blocks) _ (answers e (disagree s (row r) blocks) refl);
     }
       where
         clear : first (openChecks s l r blocks) ≡ 0
@@ -131,10 +132,19 @@ module _ (G : Stander) where
           subst (Plain L r) (sym (ap (λ (o : Answer). o .value) e)) (plain plan draw L is (f r (below G r two) .held two)),
         )
 
-        go : needed (shapeOf s) ≤ howMany s (row r) blocks → (off : Bool) → disagree s (row r) blocks ≡ off
-            → (openAnswer s l r blocks .refusal ≡ 0) ⊎ (openAnswer s l r blocks .refusal ≡ 13)
-        go e true z = inr (ap (λ (o : Answer). o .refusal) (open-thirteen s l r blocks clear (not-few s (row r) blocks e) z))
-        go e false z = inl (ap (λ (o : Answer). o .refusal) (open-number s l r blocks clear (not-few s (row r) blocks e) z))
+        -- with enough accepted, the refusal goes by whether a share is off
+        answers : needed (shapeOf s) ≤ howMany s (row r) blocks → (off : Bool) → disagree s (row r) blocks ≡ off
+            → openAnswer s l r blocks .refusal ≡ cond off 13 0
+        answers e true z = ap (λ (o : Answer). o .refusal) (open-thirteen s l r blocks clear (not-few s (row r) blocks e) z)
+        answers e false z = ap (λ (o : Answer). o .refusal) (open-number s l r blocks clear (not-few s (row r) blocks e) z)
+
+        either : (off : Bool) (k : ℕ) → k ≡ cond off 13 0 → (k ≡ 0) ⊎ (k ≡ 13)
+        either true k e = inr e
+        either false k e = inl e
+
+        exactly : (off : Bool) (k : ℕ) → k ≡ cond off 13 0 → (off ≡ true → k ≡ 13) × (k ≡ 13 → off ≡ true)
+        exactly true k e = ((λ y. e), (λ y. refl))
+        exactly false k e = ((λ y. absurd (true≢false (sym y))), (λ y. absurd (omega (arith, e, y))))
 
     accepts-true : (r : ℕ) (blocks : List ℕ) (j : ℕ) → markOf M r ≡ held → Proper s blocks → 1 ≤ j → j ≤ plan .n
         → (j ≢ i → P r j (sent s (row r) blocks j)) → accepts s (row r) blocks j ≡ true
@@ -154,15 +164,6 @@ module _ (G : Stander) where
         said-b : (j : ℕ) → 1 ≤ j → j ≤ plan .n → (xs : List ℕ) → Half (drop (vLength (planShape plan))) j xs → xs ≡ numbers (vLength (planShape plan)) (maskVectorB M vec r .v j)
         said-b = told-b plan draw L (G .sound) is S w all M vec f r (waiting G r five)
 
-        -- where each accepted polynomial of a record is true, no share is off
-        agrees : (x : List ℕ) (X : Vector) → x ≡ heldRow s X → (half : List ℕ → List ℕ)
-            → ((j : ℕ) → 1 ≤ j → j ≤ plan .n → (xs : List ℕ) → Half half j xs → xs ≡ numbers (vLength (planShape plan)) (X .v j))
-            → (blocks : List ℕ) → needed (shapeOf s) ≤ howMany s x blocks → TrueOf (Half half) s x blocks → disagree s x blocks ≡ false
-        agrees x X e half theirs blocks many t =
-            ap (λ (y : List ℕ). disagree s y blocks) e
-            ∙ true-agree s X blocks (sizes plan (G .sound) .n-element) (sym (ap (λ (y : List ℕ). tooFew s y blocks) e) ∙ not-few s x blocks many)
-            (all-true-of s X blocks (Half half) x e (λ j lj hj ne o. theirs j lj hj _ o) t)
-
         -- where t+1 of them are true and no share is off, it is done, and y and y' are remembered
         both-opened : (blocksA blocksB : List ℕ) → Proper s blocksA → Proper s blocksB → needed (shapeOf s) ≤ howMany s (Collect.maskA s l r) blocksA
             → needed (shapeOf s) ≤ howMany s (Collect.maskB s l r) blocksB → disagree s (Collect.maskA s l r) blocksA ≡ false
@@ -177,18 +178,6 @@ module _ (G : Stander) where
               remembered r (below G r five) (inl five) (Collect.collectAnswer s l r blocksA blocksB .session) (back .0 ∙ y) (back .1 ∙ y'),
             )
 
-        -- t+1 true polynomials of a record: of the vector, and so enough
-        module _ (x : List ℕ) (X : Vector) (e : x ≡ heldRow s X) (half : List ℕ → List ℕ)
-            (theirs : (j : ℕ) → 1 ≤ j → j ≤ plan .n → (xs : List ℕ) → Half half j xs → xs ≡ numbers (vLength (planShape plan)) (X .v j)) (blocks : List ℕ) where
-          trusted : EnoughTrue (Half half) s x blocks → EnoughTruly s X blocks
-          trusted t = enough-true-of s X blocks (Half half) x e (λ j lj hj ne o. theirs j lj hj _ o) t
-
-          many : EnoughTrue (Half half) s x blocks → needed (shapeOf s) ≤ howMany s x blocks
-          many t = enough-of s x blocks (ap (λ (y : List ℕ). tooFew s y blocks) e ∙ truly-enough s X blocks (trusted t))
-
-          all-trusted : TrueOf (Half half) s x blocks → Trusted s X blocks
-          all-trusted t few enough = all-enough s X blocks few enough (all-true-of s X blocks (Half half) x e (λ j lj hj ne o. theirs j lj hj _ o) t)
-
         abbrev half : List ℕ → List ℕ
         half = take (vLength (planShape plan))
 
@@ -199,11 +188,11 @@ module _ (G : Stander) where
         collects blocksA blocksB pr pr' = record {
           few = collect-few G r blocksA blocksB five pr pr';
           exact = λ e e' t t'.
-              both-opened blocksA blocksB pr pr' e e' (agrees xa XA (mask-a r five) half said-a blocksA e t)
-              (agrees xb XB (mask-b r five) half' said-b blocksB e' t')
-              (all-trusted xa XA (mask-a r five) half said-a blocksA t) (all-trusted xb XB (mask-b r five) half' said-b blocksB t');
+              both-opened blocksA blocksB pr pr' e e' (all-agree G S w half r xa XA (mask-a r five) said-a blocksA e t)
+              (all-agree G S w half' r xb XB (mask-b r five) said-b blocksB e' t')
+              (all-trusted G S w half r xa XA (mask-a r five) said-a blocksA t) (all-trusted G S w half' r xb XB (mask-b r five) said-b blocksB t');
           agreed = λ t t'.
-              go t t' (many xa XA (mask-a r five) half said-a blocksA t) (many xb XB (mask-b r five) half' said-b blocksB t') (disagree s xa blocksA)
+              go t t' (many G S w half r xa XA (mask-a r five) said-a blocksA t) (many G S w half' r xb XB (mask-b r five) said-b blocksB t') (disagree s xa blocksA)
               (disagree s xb blocksB) refl refl;
           otherwise = collect-otherwise G r blocksA blocksB five pr pr';
           thirteen = collect-thirteen G r blocksA blocksB five pr pr';
@@ -228,8 +217,8 @@ module _ (G : Stander) where
             go t t' e e' true y ex ey = inr (collect-thirteen G r blocksA blocksB five pr pr' e e' .0 (inl ex))
             go t t' e e' false true ex ey = inr (collect-thirteen G r blocksA blocksB five pr pr' e e' .0 (inr ey))
             go t t' e e' false false ex ey =
-                inl (both-opened blocksA blocksB pr pr' e e' ex ey (λ few enough. trusted xa XA (mask-a r five) half said-a blocksA t)
-                (λ few enough. trusted xb XB (mask-b r five) half' said-b blocksB t'))
+                inl (both-opened blocksA blocksB pr pr' e e' ex ey (λ few enough. trusted G S w half r xa XA (mask-a r five) said-a blocksA t)
+                (λ few enough. trusted G S w half' r xb XB (mask-b r five) said-b blocksB t'))
 
       pub right : Right plan draw L P (TrueMask S w (planShape plan)) q
       right = record {

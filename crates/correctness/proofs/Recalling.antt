@@ -1,7 +1,6 @@
 -- A relation's finish with t+1 true polynomials of each record: done, and y and y' of each product term are remembered; or 13.
-use Prim.Native.Nat.{ℕ, suc, _+_, _≤_, _<_}
+use Prim.Native.Nat.{ℕ, suc, _+_, _<_}
 use mathlib.Core.Path.{_≡_, refl, sym, _∙_, ap, subst}
-use mathlib.Core.Bool.{false}
 use mathlib.Core.Logic.{_≢_, _⊎_, inl, inr}
 use mathlib.Core.List.{List, [], _∷_}
 use native.Mathlib.Omega.{arith}
@@ -13,11 +12,8 @@ use Rattle.shape.specs.Bounds.{rowCount}
 use Rattle.shape.specs.Lengths.{vLength}
 use Rattle.session.specs.declared.Session.{Session}
 use Rattle.session.specs.Sessions.{shapeOf, openedA, openedB}
-use Rattle.opening.specs.Walking.{tooFew, disagree, opened}
 use Rattle.product_masks.specs.Masks.{maskRow}
-use Rattle.vectors.specs.Vector.{Vector, number, numbers}
-use Rattle.vectors.specs.Claims.{heldRow, EnoughTruly}
-use Rattle.vectors.proofs.Shares.{truly-enough}
+use Rattle.vectors.specs.Claims.{heldRow}
 use Rattle.terms.specs.declared.Term.{Term}
 use Rattle.terms.specs.Listed.{productsOf, collected}
 use Rattle.terms.proofs.Placing.{factors-again}
@@ -28,17 +24,15 @@ use Rattle.runs.specs.Draws.{planShape}
 use Rattle.runs.specs.Calls.{Post}
 use Rattle.runs.proofs.Marks.{maskVectorA, maskVectorB}
 use Rattle.runs.proofs.Outcomes.{answer-refusal, settled}
-use Rattle.runs.proofs.Finishing.{opened-is}
 use Rattle.runs.proofs.Relations.{Apart, apart}
-use Rattle.runs.proofs.Start.{sizes}
 use Rattle.correctness.specs.History.{World}
-use Rattle.correctness.specs.Truth.{TrueMask, EnoughTrue}
+use Rattle.correctness.specs.Truth.{TrueMask}
 use Rattle.correctness.specs.Claim.{Remembers}
 use Rattle.correctness.specs.Relation.{EachAt, Waits, Ready, Enough, SomeTrue}
-use Rattle.correctness.proofs.Accepting.{enough-of}
-use Rattle.correctness.proofs.Fitting.{enough-true-of, AllSaid, told-a, told-b}
+use Rattle.correctness.proofs.Fitting.{AllSaid, told-a, told-b}
 use Rattle.correctness.proofs.Permitted as Permitted
-use Rattle.correctness.proofs.Permitted.{Stander, holder, below, waiting}
+use Rattle.correctness.proofs.Permitted.{Stander, below, waiting}
+use Rattle.correctness.proofs.Halves.{many, opens-to}
 use Rattle.correctness.proofs.Openings.{mask-a, mask-b, remembered}
 use Rattle.correctness.proofs.Relating.{relation-otherwise}
 
@@ -86,20 +80,6 @@ module _ (G : Stander) (S : ℕ → Type 0) (w : World) (said : AllSaid (G .plan
   abbrev H : (List ℕ → List ℕ) → ℕ → ℕ → List ℕ → Type 0
   H = TrueMask S w (planShape plan)
 
-  -- ---- a record of which t+1 are true: enough, and where no share is off it opens to the vector's number
-
-  module _ (x : List ℕ) (X : Vector) (e : x ≡ heldRow s X) (half : List ℕ → List ℕ) (r : ℕ)
-      (theirs : (j : ℕ) → 1 ≤ j → j ≤ plan .n → (xs : List ℕ) → H half r j xs → xs ≡ numbers (vLength (planShape plan)) (X .v j)) (bl : List ℕ)
-      (t : EnoughTrue (H half r) s x bl) where
-    trusted : EnoughTruly s X bl
-    trusted = enough-true-of s X bl (H half r) x e (λ j lj hj ne o. theirs j lj hj _ o) t
-
-    some : tooFew s x bl ≡ false
-    some = ap (λ (y : List ℕ). tooFew s y bl) e ∙ truly-enough s X bl trusted
-
-    opens-to : disagree s x bl ≡ false → opened s x bl ≡ number X .0
-    opens-to on = opened-is (holder G) (sizes plan sound .n-element) x X bl e (λ few enough. trusted) some on
-
   -- ---- both records of a product term
 
   module _ (k : ℕ) (t : Term) (h : Waits s t) (o : SomeTrue H q blocks k t) where
@@ -118,10 +98,8 @@ module _ (G : Stander) (S : ℕ → Type 0) (w : World) (said : AllSaid (G .plan
     both-enough : Enough q blocks k t
     both-enough =
         let ok = waiting G r (h .0) in (
-          enough-of s (termMaskA s l t) (recordA s blocks k)
-              (some (termMaskA s l t) (maskVectorA M vec r) is-a (take v) r (told-a plan draw L sound is S w said M vec f r ok) (recordA s blocks k) (o .0)),
-          enough-of s (termMaskB s l t) (recordB s blocks k)
-              (some (termMaskB s l t) (maskVectorB M vec r) is-b (drop v) r (told-b plan draw L sound is S w said M vec f r ok) (recordB s blocks k) (o .1)),
+          many G S w (take v) r (termMaskA s l t) (maskVectorA M vec r) is-a (told-a plan draw L sound is S w said M vec f r ok) (recordA s blocks k) (o .0),
+          many G S w (drop v) r (termMaskB s l t) (maskVectorB M vec r) is-b (told-b plan draw L sound is S w said M vec f r ok) (recordB s blocks k) (o .1),
         )
 
     both-remembered : Agreed s l blocks k t → (s' : Session) → openedA s' (t .first) ≡ termNumberA s l blocks k t
@@ -130,10 +108,10 @@ module _ (G : Stander) (S : ℕ → Type 0) (w : World) (said : AllSaid (G .plan
         let ok = waiting G r (h .0) in
         remembered G r (below G r (h .0)) (inl (h .0)) s'
         (ea
-        ∙ opens-to (termMaskA s l t) (maskVectorA M vec r) is-a (take v) r (told-a plan draw L sound is S w said M vec f r ok)
+        ∙ opens-to G S w (take v) r (termMaskA s l t) (maskVectorA M vec r) is-a (told-a plan draw L sound is S w said M vec f r ok)
         (recordA s blocks k) (o .0) (on .0))
         (eb
-        ∙ opens-to (termMaskB s l t) (maskVectorB M vec r) is-b (drop v) r (told-b plan draw L sound is S w said M vec f r ok)
+        ∙ opens-to G S w (drop v) r (termMaskB s l t) (maskVectorB M vec r) is-b (told-b plan draw L sound is S w said M vec f r ok)
         (recordB s blocks k) (o .1) (on .1))
 
   -- ---- all of them

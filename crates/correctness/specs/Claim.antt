@@ -55,13 +55,15 @@ AllIsEnough =
 
 -- Post q opens the held row r with a record, and o is the answer. P j xs says that xs is truly j's polynomial of that row. Fewer
 -- than t+1 accepted: 9. Each accepted polynomial true: the number, and never 13. At least t+1 of them true, whichever they are: the
--- number, or 13 (document 02, (iv)). Otherwise a number, or 13.
+-- number, or 13 (document 02, (iv)). Otherwise a number, or 13; and 13 exactly where an accepted share is off.
 pub record Answered (L : Ledger) (P : ℕ → List ℕ → Type 0) (q : Post) (r : ℕ) (blocks : List ℕ) (o : Answer) : Type 0 where
   pub few : TooFew (q .session) (rowIn q r) blocks → o .refusal ≡ 9
   pub exact : Enough (q .session) (rowIn q r) blocks → TrueOf P (q .session) (rowIn q r) blocks
       → (o .refusal ≡ 0) × Plain L r (o .value)
   pub agreed : EnoughTrue P (q .session) (rowIn q r) blocks → ((o .refusal ≡ 0) × Plain L r (o .value)) ⊎ (o .refusal ≡ 13)
   pub otherwise : Enough (q .session) (rowIn q r) blocks → (o .refusal ≡ 0) ⊎ (o .refusal ≡ 13)
+  pub thirteen : Enough (q .session) (rowIn q r) blocks
+      → (disagree (q .session) (rowIn q r) blocks ≡ true → o .refusal ≡ 13) × (o .refusal ≡ 13 → disagree (q .session) (rowIn q r) blocks ≡ true)
 
 abbrev pub Opens : Ledger → (ℕ → List ℕ → Type 0) → Post → ℕ → List ℕ → Type 0
 Opens L P q r blocks = Answered L P q r blocks (openAnswer (q .session) (q .rows) r blocks)

@@ -42,7 +42,7 @@ use Rattle.runs.specs.Draws.{Draw, IsRaw, Sound, IsDraw, rawLength, tripleLengt
 use Rattle.runs.specs.Outline.{Taking, nothingTaken, aRowPack, aTriplePack, aNumber, aRecord, twoRecords, takes, Given, Move, moves}
 use Rattle.runs.specs.Calls.{Post, Actual, perform, newPost, at}
 use Rattle.runs.proofs.Outlines.{all-every}
-use Rattle.factory.proofs.Laws.{elements-of}
+use Rattle.factory.proofs.Laws.{passes-elements}
 use Rattle.correctness.specs.History.{Event, World, turn, history, Each}
 use Rattle.correctness.specs.Ledger.{sum, product, Written, Plain, of-deal, of-row, of-times, of-fee, of-more, of-product}
 use Rattle.correctness.specs.Truth.{OwnPart, EnoughTrue, TrueWith, TrueFinish}
@@ -79,8 +79,8 @@ is-draw x many low = record {
 }
   where
     raws : (r : ℕ) → r < rowCount → (length (getD (drawWith x .raws) r []) ≡ rawLength plan r) × Elements (getD (drawWith x .raws) r [])
-    raws zero h = (refl, elements-of (getD (drawWith x .raws) 0 []) refl)
-    raws (suc zero) h = (refl, elements-of (getD (drawWith x .raws) 1 []) refl)
+    raws zero h = (refl, passes-elements (getD (drawWith x .raws) 0 []) refl)
+    raws (suc zero) h = (refl, passes-elements (getD (drawWith x .raws) 1 []) refl)
     raws (suc (suc r)) h = rw (none-there (rowCount - 2) r) (refl, tt)
 
     triples : (r : ℕ) → r < rowCount → (length (getD (drawWith x .triples) r []) ≡ tripleLength plan r) × Elements (getD (drawWith x .triples) r [])

@@ -1,5 +1,5 @@
 -- A lie that a later post contradicts is refused with 13, by computing and by the theorem: of the three polynomials accepted two are
--- true, so that the answer is the plain number or 13.
+-- true, so that the answer is the plain number or 13. And so in either record of a collect and of a relation's finish, by computing.
 use mathlib.Core.Path.{_≡_, refl}
 use mathlib.Core.Logic.{_⊎_, inl}
 use native.Mathlib.Omega.{arith}
@@ -9,8 +9,9 @@ use Rattle.correctness.specs.Ledger.{Plain}
 use Rattle.correctness.specs.Claim.{Premises}
 use Rattle.correctness.proofs.Theorems.{correct}
 use Rattle.correctness_examples.specs.Station.{plan, drawWith, ledger, Everyone, zeros}
-use Rattle.correctness_examples.specs.Orders.{drawn, draw, new}
-use Rattle.correctness_examples.specs.Contradicted.{dealing, opener, false-low, sent-both, refusalWith, Contradicted}
+use Rattle.correctness_examples.specs.Orders.{drawn, draw, loads, deals, sums, new}
+use Rattle.correctness_examples.specs.Fees.{starts, sends}
+use Rattle.correctness_examples.specs.Contradicted.{dealing, opener, false-low, sent-both, refusalWith, Contradicted, ContradictedCollect, ContradictedFinish}
 use Rattle.correctness_examples.proofs.Computing.{Computes, sound, two-true, each-quiet}
 use Rattle.correctness_examples.proofs.Example.{draw-is}
 
@@ -24,6 +25,14 @@ contradicted = record {
   not-refused = refl;
   opens = refl;
 }
+
+pub contradicted-collect : ContradictedCollect
+unfolding Computes plan drawWith drawn draw loads deals sums
+contradicted-collect = record { accepted-a = refl; accepted-b = refl; refused-a = refl; refused-b = refl; not-refused = refl }
+
+pub contradicted-finish : ContradictedFinish
+unfolding Computes plan drawWith drawn draw starts sends
+contradicted-finish = record { refused-a = refl; refused-b = refl; not-refused = refl }
 
 premises : Premises plan draw ledger Everyone dealing zeros
 unfolding plan dealing ledger
@@ -56,7 +65,14 @@ by-theorem =
     (record { long = refl; low = refl }) .agreed
     (two-true 1 3 refl (omega arith) (lit≤ tt, lit≤ tt, refl, λ ne. absurd (ne refl)) (lit≤ tt, lit≤ tt, refl, λ ne. (tt, inl (inl refl))))
 
--- and where all are, it is the plain number
+-- it is 13, since a share is off
+off-by-theorem : refusalWith false-low ≡ 13
+unfolding Computes plan drawWith drawn draw dealing
+off-by-theorem =
+    correct plan draw ledger Everyone zeros dealing premises 1 (lit≤ tt) (lit≤ tt) tt .opens 0 false-low refl
+    (record { long = refl; low = refl }) .thirteen (lit≤ tt) .0 refl
+
+-- and where all are true, it is the plain number
 sent-by-theorem : (refusalWith sent-both ≡ 0) × Plain ledger 0 (openAnswer (opener .session) (opener .rows) 0 sent-both .value)
 unfolding Computes plan drawWith drawn draw dealing
 sent-by-theorem =

@@ -14,7 +14,7 @@ use Rattle.opening.specs.Walking.{acceptedPosts}
 use Rattle.opening.specs.Opening.{openAnswer}
 use Rattle.collect.specs.Collect.{maskA}
 use Rattle.runs.specs.Draws.{IsDraw, rawDraw}
-use Rattle.factory.proofs.Laws.{elements-of}
+use Rattle.factory.proofs.Laws.{passes-elements}
 use Rattle.correctness.specs.History.{Event, history, Each}
 use Rattle.correctness.specs.Ledger.{dealt, Written, Plain}
 use Rattle.correctness.specs.Truth.{OwnPart, TrueFinish}
@@ -27,7 +27,7 @@ use Rattle.correctness_examples.proofs.Computing.{Computes, sound, is-d
 
 pub draw-is : IsDraw plan draw
 unfolding Computes drawn draw
-draw-is = is-draw drawn refl (elements-of drawn refl)
+draw-is = is-draw drawn refl (passes-elements drawn refl)
 
 answered : refusals events new
     ≡ 0 ∷ 0 ∷ 0 ∷ 0 ∷ 0 ∷ 0 ∷ 0 ∷ 0 ∷ 0 ∷ 0 ∷ 7 ∷ 0 ∷ 0 ∷ 0 ∷ 0 ∷ 0 ∷ 0 ∷ 0 ∷ 0 ∷ 0 ∷ 0 ∷ 0 ∷ 9 ∷ 0 ∷ 0 ∷ 0 ∷ 0 ∷ 0 ∷ []
@@ -77,13 +77,13 @@ true-ends = (
   (λ m z. let y : _≡_ {A = ℕ} 9 0 = z in absurd (omega arith)),
   (
     (λ m z. (
-      two-true 1 3 refl (omega arith) (lit≤ tt, lit≤ tt, refl, λ ne. absurd (ne refl)) (lit≤ tt, lit≤ tt, refl, λ ne. (tt, (m3, refl, elements-of m3 refl, inr (inl refl), refl))),
-      two-true 1 3 refl (omega arith) (lit≤ tt, lit≤ tt, refl, λ ne. absurd (ne refl)) (lit≤ tt, lit≤ tt, refl, λ ne. (tt, (m3, refl, elements-of m3 refl, inr (inl refl), refl))),
+      two-true 1 3 refl (omega arith) (lit≤ tt, lit≤ tt, refl, λ ne. absurd (ne refl)) (lit≤ tt, lit≤ tt, refl, λ ne. (tt, (m3, refl, passes-elements m3 refl, inr (inl refl), refl))),
+      two-true 1 3 refl (omega arith) (lit≤ tt, lit≤ tt, refl, λ ne. absurd (ne refl)) (lit≤ tt, lit≤ tt, refl, λ ne. (tt, (m3, refl, passes-elements m3 refl, inr (inl refl), refl))),
     )),
     (
       (λ m z. (
-        two-true 1 2 refl (omega arith) (lit≤ tt, lit≤ tt, refl, λ ne. (tt, (m1, refl, elements-of m1 refl, inl refl, refl))) (lit≤ tt, lit≤ tt, refl, λ ne. absurd (ne refl)),
-        two-true 1 2 refl (omega arith) (lit≤ tt, lit≤ tt, refl, λ ne. (tt, (m1, refl, elements-of m1 refl, inl refl, refl))) (lit≤ tt, lit≤ tt, refl, λ ne. absurd (ne refl)),
+        two-true 1 2 refl (omega arith) (lit≤ tt, lit≤ tt, refl, λ ne. (tt, (m1, refl, passes-elements m1 refl, inl refl, refl))) (lit≤ tt, lit≤ tt, refl, λ ne. absurd (ne refl)),
+        two-true 1 2 refl (omega arith) (lit≤ tt, lit≤ tt, refl, λ ne. (tt, (m1, refl, passes-elements m1 refl, inl refl, refl))) (lit≤ tt, lit≤ tt, refl, λ ne. absurd (ne refl)),
       )),
       ((λ m z. tt), ((λ m z. tt), ((λ m z. tt), tt))),
     ),

@@ -12,7 +12,7 @@ use Rattle.opening.specs.Opening.{openAnswer}
 use Rattle.collect.specs.Collect.{maskA}
 use Rattle.runs.specs.Draws.{Draw}
 use Rattle.runs.specs.Calls.{message, masks, collect, multiply}
-use Rattle.factory.proofs.Laws.{elements-of}
+use Rattle.factory.proofs.Laws.{passes-elements}
 use Rattle.correctness.specs.History.{Event, World, history, begin, Each}
 use Rattle.correctness.specs.Ledger.{Written, Plain}
 use Rattle.correctness.specs.Truth.{OwnPart, TruePolynomial, TrueFinish}
@@ -92,7 +92,7 @@ asked : (k : ℕ) (ends : List Event) → All Own ends → All Wrote ends
     → Asked draw Everyone Everyone (AllBut k) (before ++ ends) new
 unfolding Computes plan drawn draw loads deals
 asked k ends a b c = record {
-  is-draw = is-draw drawn refl (elements-of drawn refl);
+  is-draw = is-draw drawn refl (passes-elements drawn refl);
   parts = each-of Everyone Own (before ++ ends) new (own-parts ends a);
   ledger = each-of Everyone Wrote (before ++ ends) new (all-written ends b);
   finishes =
@@ -131,8 +131,8 @@ all-but-one = asked 1 ends (tt, (tt, (tt, (tt, (tt, tt))))) (tt, (tt, (tt, (tt, 
   (λ ne z. absurd (ne refl)),
   (
     (λ ne z. (
-      two-true 1 2 refl (omega arith) (lit≤ tt, lit≤ tt, refl, λ ne. (tt, (m1, refl, elements-of m1 refl, inl refl, refl))) (lit≤ tt, lit≤ tt, refl, λ ne. absurd (ne refl)),
-      two-true 1 2 refl (omega arith) (lit≤ tt, lit≤ tt, refl, λ ne. (tt, (m1, refl, elements-of m1 refl, inl refl, refl))) (lit≤ tt, lit≤ tt, refl, λ ne. absurd (ne refl)),
+      two-true 1 2 refl (omega arith) (lit≤ tt, lit≤ tt, refl, λ ne. (tt, (m1, refl, passes-elements m1 refl, inl refl, refl))) (lit≤ tt, lit≤ tt, refl, λ ne. absurd (ne refl)),
+      two-true 1 2 refl (omega arith) (lit≤ tt, lit≤ tt, refl, λ ne. (tt, (m1, refl, passes-elements m1 refl, inl refl, refl))) (lit≤ tt, lit≤ tt, refl, λ ne. absurd (ne refl)),
     )),
     ((λ ne z. tt), ((λ ne z. tt), ((λ ne z. tt), tt))),
   ),
@@ -190,8 +190,8 @@ all-but-two : Asked draw Everyone Everyone (AllBut 2) events' new
 unfolding Computes plan drawWith drawn draw loads deals ends' m2
 all-but-two = asked 2 ends' (tt, (tt, (tt, (tt, (tt, tt))))) (tt, (tt, (tt, (tt, (tt, tt))))) (
   (λ ne z. (
-    two-true 1 2 refl (omega arith) (lit≤ tt, lit≤ tt, refl, λ ne. absurd (ne refl)) (lit≤ tt, lit≤ tt, refl, λ ne. (tt, (m2, refl, elements-of m2 refl, inl refl, refl))),
-    two-true 1 2 refl (omega arith) (lit≤ tt, lit≤ tt, refl, λ ne. absurd (ne refl)) (lit≤ tt, lit≤ tt, refl, λ ne. (tt, (m2, refl, elements-of m2 refl, inl refl, refl))),
+    two-true 1 2 refl (omega arith) (lit≤ tt, lit≤ tt, refl, λ ne. absurd (ne refl)) (lit≤ tt, lit≤ tt, refl, λ ne. (tt, (m2, refl, passes-elements m2 refl, inl refl, refl))),
+    two-true 1 2 refl (omega arith) (lit≤ tt, lit≤ tt, refl, λ ne. absurd (ne refl)) (lit≤ tt, lit≤ tt, refl, λ ne. (tt, (m2, refl, passes-elements m2 refl, inl refl, refl))),
   )),
   ((λ ne z. absurd (ne refl)), ((λ ne z. tt), ((λ ne z. tt), ((λ ne z. tt), tt)))),
 )

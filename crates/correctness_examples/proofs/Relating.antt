@@ -12,7 +12,7 @@ use Rattle.poly.specs.Counting.{All}
 use Rattle.factory.specs.Calls.{dealerNumber}
 use Rattle.opening.specs.Opening.{openAnswer}
 use Rattle.runs.specs.Draws.{rawDraw}
-use Rattle.factory.proofs.Laws.{elements-of}
+use Rattle.factory.proofs.Laws.{passes-elements}
 use Rattle.correctness.specs.History.{Event, World, history, Each}
 use Rattle.correctness.specs.Ledger.{dealt, Written, Plain, of-deal, of-row, of-times, of-fee, of-more, of-product}
 use Rattle.correctness.specs.Truth.{OwnPart, TrueFinish}
@@ -93,16 +93,16 @@ true-ends = (
   (
     (λ m z. (
       (
-        two-true 1 3 refl (omega arith) (lit≤ tt, lit≤ tt, refl, λ ne. absurd (ne refl)) (lit≤ tt, lit≤ tt, refl, λ ne. (tt, (m3, refl, elements-of m3 refl, inl refl, refl))),
-        two-true 1 3 refl (omega arith) (lit≤ tt, lit≤ tt, refl, λ ne. absurd (ne refl)) (lit≤ tt, lit≤ tt, refl, λ ne. (tt, (m3, refl, elements-of m3 refl, inl refl, refl))),
+        two-true 1 3 refl (omega arith) (lit≤ tt, lit≤ tt, refl, λ ne. absurd (ne refl)) (lit≤ tt, lit≤ tt, refl, λ ne. (tt, (m3, refl, passes-elements m3 refl, inl refl, refl))),
+        two-true 1 3 refl (omega arith) (lit≤ tt, lit≤ tt, refl, λ ne. absurd (ne refl)) (lit≤ tt, lit≤ tt, refl, λ ne. (tt, (m3, refl, passes-elements m3 refl, inl refl, refl))),
       ),
       (tt, tt),
     )),
     (
       (λ m z. (
         (
-          two-true 1 3 refl (omega arith) (lit≤ tt, lit≤ tt, refl, λ ne. (tt, (m1, refl, elements-of m1 refl, inl refl, refl))) (lit≤ tt, lit≤ tt, refl, λ ne. absurd (ne refl)),
-          two-true 1 3 refl (omega arith) (lit≤ tt, lit≤ tt, refl, λ ne. (tt, (m1, refl, elements-of m1 refl, inl refl, refl))) (lit≤ tt, lit≤ tt, refl, λ ne. absurd (ne refl)),
+          two-true 1 3 refl (omega arith) (lit≤ tt, lit≤ tt, refl, λ ne. (tt, (m1, refl, passes-elements m1 refl, inl refl, refl))) (lit≤ tt, lit≤ tt, refl, λ ne. absurd (ne refl)),
+          two-true 1 3 refl (omega arith) (lit≤ tt, lit≤ tt, refl, λ ne. (tt, (m1, refl, passes-elements m1 refl, inl refl, refl))) (lit≤ tt, lit≤ tt, refl, λ ne. absurd (ne refl)),
         ),
         (tt, tt),
       )),

@@ -7,19 +7,19 @@ use Rattle.shape.specs.Bounds.{rowCount}
 use Rattle.shape.specs.Marks.{held}
 use Rattle.session.specs.Sessions.{marked}
 use Rattle.session.specs.Rows.{width, sumsAt, rowAt, withRow, plusSums}
-use Rattle.session.proofs.Lawful.{lawful}
+use Rattle.session.proofs.Lawful.{lawful-by}
 use Rattle.session.proofs.RowLaws.{length-row}
 use Rattle.session.proofs.Kept.{others-kept, outcome-keeps}
 use Rattle.sums.proofs.Summed.{length-plus-sums}
 use Rattle.deal.specs.Deal.{dealRefusal}
-use Rattle.deal.specs.Table.{dealTable}
 use Rattle.deal.specs.Claims.{DealLawful, DealKeepsOthers}
+use Rattle.deal.proofs.Tables.{deal-table}
 use Rattle.deal.proofs.Passed.{Dealt, dealt}
 
 pub deal-lawful : DealLawful
 unfolding dealRefusal
 deal-lawful s rows r c =
-    lawful (dealTable s rows r c) (omega arith) 0 (marked s r held) s
+    lawful-by (deal-table s rows r c) (omega arith) 0 (marked s r held) s
     (withRow (width s) r (plusSums (sumsAt s) c (rowAt (width s) rows r)) rows) rows
 
 pub deal-keeps-others : DealKeepsOthers

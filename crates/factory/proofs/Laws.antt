@@ -13,7 +13,7 @@ unfolding anyBeyond
 elements-pass [] e = refl
 elements-pass (x ∷ xs) e = ap₂ _||_ (element-test x (e .0)) (elements-pass xs (e .1))
 
-pub elements-of : (xs : List ℕ) → anyBeyond xs ≡ false → Elements xs
+pub passes-elements : (xs : List ℕ) → anyBeyond xs ≡ false → Elements xs
 unfolding anyBeyond
-elements-of [] e = tt
-elements-of (x ∷ xs) e = let h = or-false (beyond x) (anyBeyond xs) e in (below-p x (h .0), elements-of xs (h .1))
+passes-elements [] e = tt
+passes-elements (x ∷ xs) e = let h = or-false (beyond x) (anyBeyond xs) e in (below-p x (h .0), passes-elements xs (h .1))

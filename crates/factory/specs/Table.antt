@@ -3,9 +3,10 @@
 use Prim.Native.Nat.{ℕ, _*_, _-_}
 use mathlib.Core.Path.{_≡_}
 use mathlib.Core.List.{List, [], _∷_}
+use lib.Dec.{ltb}
 use Rattle.shape.specs.Lengths.{shape, drawLength, tripleDrawLength, packsLength}
 use Rattle.refusal.specs.Refusal.{Test, _when_}
-use Rattle.refusal.specs.Conditions.{outside, wrongLength, beyond, anyBeyond}
+use Rattle.refusal.specs.Conditions.{outside, wrongLength, anyBeyond}
 use Rattle.factory.specs.Calls.{anyBadPoint, factoryRowTests, factoryTripleTests, dealerTests}
 
 abbrev pub rowTable : ℕ → ℕ → List ℕ → List ℕ → List ℕ → List Test
@@ -32,8 +33,8 @@ tripleTable n t points draw out =
 
 abbrev pub dealerTable : ℕ → ℕ → List Test
 dealerTable u constant =
-    8 when beyond u
-    ∷ 8 when beyond constant
+    8 when ltb 2147483646 u
+    ∷ 8 when ltb 2147483646 constant
     ∷ []
 
 -- The calls' own tests are these.

@@ -7,20 +7,20 @@ use Rattle.shape.specs.Bounds.{rowCount}
 use Rattle.shape.specs.Marks.{held}
 use Rattle.session.specs.Sessions.{shapeOf, marked}
 use Rattle.session.specs.Rows.{width, sumsAt, rowAt, withRow, summed}
-use Rattle.session.proofs.Lawful.{lawful}
+use Rattle.session.proofs.Lawful.{lawful-by}
 use Rattle.session.proofs.Passed.{row-below}
 use Rattle.session.proofs.Kept.{others-kept, outcome-keeps}
-use Rattle.sums.proofs.Summed.{length-summed}
+use Rattle.sums.proofs.Summed.{length-row-summed}
 use Rattle.linear.specs.Linear.{linearRefusal}
-use Rattle.linear.specs.Table.{linearTable}
 use Rattle.linear.specs.Claims.{LinearLawful, LinearKeepsOthers}
+use Rattle.linear.proofs.Tables.{linear-table}
 use Rattle.linear.proofs.Passed as Passed
 use Rattle.linear.proofs.Passed.{Summed}
 
 pub linear-lawful : LinearLawful
 unfolding linearRefusal
 linear-lawful s rows r a b scale fee =
-    lawful (linearTable s rows r a b scale fee) (omega arith) 0 (marked s r held) s
+    lawful-by (linear-table s rows r a b scale fee) (omega arith) 0 (marked s r held) s
     (withRow (width s) r (summed (sumsAt s) scale fee (rowAt (width s) rows a) (rowAt (width s) rows b)) rows) rows
 
 pub linear-keeps-others : LinearKeepsOthers
@@ -38,5 +38,5 @@ linear-keeps-others s rows r a b scale fee q ne =
         let into = row-below (shapeOf s) r (d .placed .row-in) in
         let from-a = row-below (shapeOf s) a (d .placed .a-in) in
         let from-b = row-below (shapeOf s) b (d .placed .b-in) in
-        let long = length-summed (shapeOf s) rows z r a b scale into from-a from-b fee in
+        let long = length-row-summed (shapeOf s) rows z r a b scale into from-a from-b fee in
         others-kept (width s) rowCount rows r made (z .length-is) low long q ne

@@ -1,7 +1,7 @@
 -- Demand 1 for lines: refusal 0 exactly when no condition of document 01's table applies, otherwise the smallest number that
 -- does; nothing is then written or filled. And where a written line stands.
 use Prim.Native.Nat.{ℕ, _+_}
-use mathlib.Core.Path.{_≡_, refl, _∙_, ap}
+use mathlib.Core.Path.{_≡_, refl, sym, _∙_, ap, subst}
 use mathlib.Core.List.{List}
 use native.Mathlib.Nat.{zero-add}
 use native.Mathlib.Omega.{arith}
@@ -18,8 +18,9 @@ use Rattle.lines.specs.declared.Line.{Line}
 use Rattle.lines.specs.Order.{lineRefusal}
 use Rattle.lines.specs.Writing.{notWritten, writtenAs, partAs}
 use Rattle.lines.specs.Reading.{noLine}
-use Rattle.lines.specs.Table.{writeDealTable, writeOpeningTable, writeMasksTable, readTable}
+use Rattle.lines.specs.Table.{writeOpeningTable, writeMasksTable, readTable}
 use Rattle.lines.specs.Claims.{WriteLawful, LinesLawful}
+use Rattle.lines.proofs.Tables.{line-tables}
 
 -- a line that is not refused: it stands at the start, with the rest of the part behind it
 module _ (refusal : ℕ) (line part : List ℕ) (e : refusal ≡ 0) where
@@ -45,11 +46,18 @@ write-lawful tests o line part =
       rest-kept = rest-kept (first tests) line part;
     }
 
+-- the same, of a writer whose own tests are those of a table
+write-lawful-by : {tests table : List Test} → tests ≡ table → Ordered 1 table → (line part : List ℕ)
+    → WriteLawful table line part (writtenAs (first tests) line) (partAs (first tests) line part)
+write-lawful-by {tests} {table} e o line part =
+    subst (λ (own : List Test). WriteLawful table line part (writtenAs (first own) line) (partAs (first own) line part)) (sym e)
+    (write-lawful table o line part)
+
 pub lines-lawful : LinesLawful
 unfolding lineRefusal
 lines-lawful = record {
   write-deal = λ n t row c part.
-      write-lawful (writeDealTable n t row c (length part)) (omega arith) (text (deal row c)) part;
+      write-lawful-by (line-tables .write-deal n t row c (length part)) (omega arith) (text (deal row c)) part;
   write-opening = λ n t row post xs part.
       write-lawful (writeOpeningTable n t row post xs (length part)) (omega arith) (text (opening row post xs)) part;
   write-masks = λ n t row post xs part.

@@ -7,7 +7,7 @@ use lib.ListN.{length}
 use lib.Dec.{ltb}
 use Rattle.shape.specs.Lengths.{shape, vLength, masksLength}
 use Rattle.refusal.specs.Refusal.{Test, _when_}
-use Rattle.refusal.specs.Conditions.{outside, wrongLength, beyond, anyBeyond, postsTests}
+use Rattle.refusal.specs.Conditions.{outside, wrongLength, anyBeyond, postsTests}
 use Rattle.forms.specs.Lines.{deal, opening, masks, text}
 use Rattle.forms.specs.Forms.{formOf, message, isMalformed, beyondRange, lineTests}
 use Rattle.lines.specs.Writing.{dealtTests, postedTests}
@@ -18,7 +18,7 @@ writeDealTable n t row c room =
     1 when outside 2 255 n
     ∷ 2 when outside 1 (n - 1) t
     ∷ 6 when ltb 95 row
-    ∷ 8 when beyond c
+    ∷ 8 when ltb 2147483646 c
     ∷ 12 when ltb room (length (text (deal row c)))
     ∷ []
 

@@ -147,7 +147,7 @@ fn write_dealt(row: usize, c: u32, out: &mut [u8]) -> Written
     }
     let head = [row as u32];
     let number = [c];
-    let len = csv::put_line(68, &head, &number, out);
+    let len = csv::put_line(b'D', &head, &number, out);
     Written { refusal: 0, len }
 }
 
@@ -184,7 +184,7 @@ pub fn write_opening(
         return not_written(posts);
     }
     let shape = Shape { n, t };
-    write_posted(n, 79, shape.v_len(), row, post, coefficients, out)
+    write_posted(n, b'O', shape.v_len(), row, post, coefficients, out)
 }
 
 // `M,row,post,` and the coefficients of the two masks.
@@ -208,7 +208,7 @@ pub fn write_masks(
         return not_written(posts);
     }
     let shape = Shape { n, t };
-    write_posted(n, 77, shape.masks_len(), row, post, coefficients, out)
+    write_posted(n, b'M', shape.masks_len(), row, post, coefficients, out)
 }
 
 fn no_line(refusal: u8) -> Line

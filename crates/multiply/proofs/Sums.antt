@@ -13,7 +13,7 @@ use Rattle.session.specs.Rows.{rowAt, withRow, summed}
 use Rattle.session.specs.Between.{Sized, RowIn, TripleIn}
 use Rattle.session.proofs.Passed.{row-below}
 use Rattle.session.proofs.RowLaws.{row-same, row-again, row-other}
-use Rattle.sums.proofs.Summed.{length-summed}
+use Rattle.sums.proofs.Summed.{length-row-summed}
 
 module _ (g : Shape) (rows : List ℕ) (r : ℕ) (z : Sized g rows) (i : TripleIn g r) where
   abbrev w : ℕ
@@ -49,7 +49,7 @@ module _ (g : Shape) (rows : List ℕ) (r : ℕ) (z : Sized g rows) (i : TripleI
 
       made-long : length made ≡ w
       made-long =
-          length-summed g rows z (r + 2) (r + 2) (r + 1) yA (in-triple 2 (omega arith)) (in-triple 2 (omega arith)) (in-triple 1 (omega arith)) 0
+          length-row-summed g rows z (r + 2) (r + 2) (r + 1) yA (in-triple 2 (omega arith)) (in-triple 2 (omega arith)) (in-triple 1 (omega arith)) 0
 
       other : r ≢ r + 2
       other e = omega arith

@@ -1,6 +1,6 @@
 -- The rows behind a product that was written: the triple's third row is the product, every other row is as it was, and the list as long.
 use Prim.Native.Nat.{ℕ, _+_, _≤_, _<_}
-use mathlib.Core.Path.{_≡_, _∙_, sym}
+use mathlib.Core.Path.{_≡_}
 use mathlib.Core.Logic.{_≢_}
 use mathlib.Core.List.{List}
 use native.Mathlib.Omega.{arith}
@@ -9,11 +9,10 @@ use Rattle.field.specs.Arithmetic.{product}
 use Rattle.shape.specs.Bounds.{rowCount, lastTriple}
 use Rattle.session.specs.declared.Session.{Session}
 use Rattle.session.specs.Sessions.{shapeOf}
-use Rattle.session.specs.Rows.{width, sumsAt, rowAt, combined, summed}
+use Rattle.session.specs.Rows.{width, sumsAt, rowAt}
 use Rattle.session.specs.Between.{Sized}
 use Rattle.session.proofs.RowLaws.{length-row, length-with-row, row-same, row-other}
-use Rattle.sums.proofs.Writers.{length-combined}
-use Rattle.sums.proofs.Summed.{length-plus-sums}
+use Rattle.sums.proofs.Summed.{length-summed}
 use Rattle.multiply.specs.Multiply.{productRow, withProduct}
 
 module _ (s : Session) (rows : List ℕ) (r yA yB : ℕ) (z : Sized (shapeOf s) rows) (i : r ≤ lastTriple) where
@@ -26,16 +25,14 @@ module _ (s : Session) (rows : List ℕ) (r yA yB : ℕ) (z : Sized (shapeOf s) 
   long : (k : ℕ) → k < rowCount → length (rowAt w rows k) ≡ w
   long k h = length-row w rowCount rows k (z .length-is) h
 
-  sum-long : (scale fee : ℕ) (x y : List ℕ) → length x ≡ w → length y ≡ w → length (summed (sumsAt s) scale fee x y) ≡ w
-  sum-long scale fee x y a b = length-plus-sums (sumsAt s) fee (combined scale x y) ∙ length-combined scale x y (a ∙ sym b) ∙ a
-
   abbrev row : List ℕ
   row = productRow s yA yB (rowAt w rows r) (rowAt w rows (r + 1)) (rowAt w rows (r + 2))
 
   row-long : length row ≡ w
   unfolding productRow
   row-long =
-      sum-long yB (product yA yB) _ _ (sum-long yA 0 _ _ (long (r + 2) low) (long (r + 1) (omega (arith, low)))) (long r (omega (arith, low)))
+      length-summed (sumsAt s) yB (product yA yB) w _ _
+      (length-summed (sumsAt s) yA 0 w _ _ (long (r + 2) low) (long (r + 1) (omega (arith, low)))) (long r (omega (arith, low)))
 
   pub third-read : rowAt (width s) (withProduct s yA yB r rows) (r + 2)
       ≡ productRow s yA yB (rowAt (width s) rows r) (rowAt (width s) rows (r + 1)) (rowAt (width s) rows (r + 2))

@@ -1,6 +1,6 @@
 -- The tests of an opening are document 01's table.
-use mathlib.Core.Path.{refl}
+use Rattle.refusal.proofs.Figures.{point-figures}
 use Rattle.opening.specs.Table.{OpeningTable}
 
 pub opening-table : OpeningTable
-opening-table s rows r blocks = refl
+opening-table s rows r blocks = rw (point-figures (s .point))

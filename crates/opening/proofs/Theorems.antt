@@ -12,13 +12,14 @@ use Rattle.session.specs.declared.Session.{Session}
 use Rattle.session.specs.Sessions.{holding}
 use Rattle.session.specs.Rows.{width, rowAt}
 use Rattle.session.specs.Law.{Lawful}
-use Rattle.session.proofs.Lawful.{lawful}
+use Rattle.session.proofs.Lawful.{lawful-by}
 use Rattle.session.proofs.Endings.{refused-answer, accepted-answer}
 use Rattle.accepting.specs.Accepting as Accepting
 use Rattle.opening.specs.Walking.{tooFew, disagree, opened}
 use Rattle.opening.specs.Opening.{openChecks, openRefusal, openAnswer}
 use Rattle.opening.specs.Table.{openTable}
 use Rattle.opening.specs.Claims.{OpeningLawful}
+use Rattle.opening.proofs.Tables.{opening-table}
 
 -- a call that writes no list
 pub kept : (k : ℕ) (l : List ℕ) → outcome k l l ≡ l
@@ -31,7 +32,7 @@ unfolding openRefusal
 opening-lawful s rows r blocks =
     let number = opened s (rowAt (width s) rows r) blocks in
     subst (λ (l : List ℕ). Lawful (openTable s rows r blocks) number s s rows rows (openAnswer s rows r blocks) l)
-    (kept (first (openTable s rows r blocks)) rows) (lawful (openTable s rows r blocks) (omega arith) number s s rows rows)
+    (kept (openRefusal s rows r blocks) rows) (lawful-by (opening-table s rows r blocks) (omega arith) number s s rows rows)
 
 -- the tests of the walks
 abbrev late : Session → List ℕ → List ℕ → List Test

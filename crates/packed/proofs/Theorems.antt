@@ -17,13 +17,13 @@ use Rattle.refusal.proofs.Laws.{all-fail, not-refused, or-false, equal}
 use Rattle.refusal.proofs.Groups.{fail-parts}
 use Rattle.refusal.proofs.Elements.{below-p}
 use Rattle.factory.specs.Calls.{anyBadPoint}
-use Rattle.factory.proofs.Laws.{elements-of}
+use Rattle.factory.proofs.Laws.{passes-elements}
 use Rattle.session.specs.declared.Party.{Party}
-use Rattle.store.specs.Sizes.{streetPosts, storeRoom}
-use Rattle.states.specs.States.{firstState, begunWith}
-use Rattle.answers.specs.Text.{header, answerText}
-use Rattle.feeds.specs.Program.{Running, leftBy, begun, fed, closed, output}
-use Rattle.transcript.proofs.Chunks.{fed-append}
+use Rattle.street_store.specs.Sizes.{streetPosts, storeRoom}
+use Rattle.street_states.specs.States.{firstState, begunWith}
+use Rattle.street_answers.specs.Text.{header, answerText}
+use Rattle.street_feeds.specs.Program.{Running, leftBy, begun, fed, closed, output}
+use Rattle.street_transcript.proofs.Chunks.{fed-append}
 use Rattle.packlines.specs.File.{startLine, rowLines, file}
 use Rattle.packrow.specs.Between.{PostIn}
 use Rattle.packfile.specs.Between.{Given}
@@ -102,7 +102,7 @@ module _ (n t post : ℕ) (points kinds draws : List ℕ) (street : n ≤ street
   end =
       reached n t post points tail many is passed street kinds draws 0 0 marks rows 1 first-out
       (ahead-first (shape n t) rows kinds draws (length-replicate (rowsLength (shape n t)) 0) (given .drawn)
-      (elements-of draws (tests .1 .1 .1 .1 .1 .1 .1 .1 .1 .1 .0)) (given .rows) (tests .1 .1 .1 .1 .1 .1 .1 .0)
+      (passes-elements draws (tests .1 .1 .1 .1 .1 .1 .1 .1 .1 .1 .0)) (given .rows) (tests .1 .1 .1 .1 .1 .1 .1 .0)
       (tests .1 .1 .1 .1 .1 .1 .1 .1 .0))
 
   reaches : straight n t post points kinds draws ≡ at Q (end .marks') (end .rows')

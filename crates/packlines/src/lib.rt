@@ -12,7 +12,7 @@ ghost use Rattle.packlines.specs.Between.{FileRoom};
 fn letter_of(kind: u8) -> u8
     ensures { λ r. ⌜ r ≡ letterOf kind ⌝ }
 {
-    if kind == shape::RAW { 82 } else { 84 }
+    if kind == shape::RAW { b'R' } else { b'T' }
 }
 
 // How many bytes a row's line has; an empty row has none.
@@ -103,6 +103,6 @@ pub fn put_file(party: Party, kinds: &[u8], draws: &[u32], room: &mut [u32], out
     let shape = party.shape;
     let station = [shape.n as u32, shape.t as u32];
     let own = [party.post as u32, party.point];
-    let behind = csv::put_line(83, &station, &own, out);
+    let behind = csv::put_line(b'S', &station, &own, out);
     put_lines(party, kinds, draws, room, &mut out[behind..]);
 }

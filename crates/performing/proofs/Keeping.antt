@@ -24,14 +24,14 @@ use Rattle.session.specs.Sessions.{shapeOf}
 use Rattle.session.proofs.RowLaws.{length-with-row}
 use Rattle.records.specs.Records.{putTests, putRefusal, putRecord, withBlock, blockOf}
 use Rattle.factory.proofs.Laws.{elements-pass}
-use Rattle.store.specs.Sizes.{openingsAt, masksAAt, masksBAt, storeRoom, recordRoom, InStreet}
-use Rattle.store.specs.Records.{recordAt, recordIf, kept}
-use Rattle.store.proofs.Keeping.{record-room}
-use Rattle.states.specs.declared.State.{State}
-use Rattle.states.specs.States.{After, keepingRow, keepingTriple, refusing}
-use Rattle.startlines.specs.Steps.{longestLine}
-use Rattle.postlines.specs.Steps.{heardRefusal, keepStep, keepMasksStep, keepHalvesStep, saying, hearStep}
-use Rattle.interpreter.specs.Stepping.{lettersStep, lateStep, step}
+use Rattle.street_store.specs.Sizes.{openingsAt, masksAAt, masksBAt, storeRoom, recordRoom, InStreet}
+use Rattle.street_store.specs.Records.{recordAt, recordIf, kept}
+use Rattle.street_store.proofs.Keeping.{record-room}
+use Rattle.street_states.specs.declared.State.{State}
+use Rattle.street_states.specs.States.{After, keepingRow, keepingTriple, refusing}
+use Rattle.street_startlines.specs.Steps.{longestLine}
+use Rattle.street_postlines.specs.Steps.{heardRefusal, keepStep, keepMasksStep, keepHalvesStep, saying, hearStep}
+use Rattle.street_interpreter.specs.Stepping.{lettersStep, lateStep, step}
 use Rattle.performing.specs.Claims.{recordFor}
 use Rattle.performing.specs.Records.{Stored, StreetKeeps}
 use Rattle.performing.proofs.Heard.{line-short}
@@ -164,8 +164,11 @@ module _ (st : State) (i : InStreet (shapeOf (st .session))) where
             },
           )
 
+      pub opening-is : step st store (written 79 (row ∷ post ∷ xs)) ≡ keepStep st store row post xs
+      opening-is = opening-letter ∙ hears (opening row post xs) sent-opening
+
       pub opening-done : OpeningDone (step st store (written 79 (row ∷ post ∷ xs)))
-      opening-done = subst OpeningDone (sym (opening-letter ∙ hears (opening row post xs) sent-opening)) opening-kept
+      opening-done = subst OpeningDone (sym opening-is) opening-kept
 
     -- each half to its own record
     module _ (first : ℕ) (xs ys : List ℕ) (named : first ≤ lastTriple) (long : length xs ≡ vLength (shapeOf (st .session)))
@@ -235,9 +238,15 @@ module _ (st : State) (i : InStreet (shapeOf (st .session))) where
             },
           )
 
+      pub masks-is : step st store (written 77 (first ∷ post ∷ (xs ++ ys))) ≡ keepMasksStep st store first post xs ys
+      masks-is = masks-letter ∙ hears (masks first post (xs ++ ys)) sent-masks ∙ masks-halves
+
+      -- the store keeps its length
+      pub masks-room : length (kept masksBAt (shapeOf (st .session)) same post ys half) ≡ storeRoom
+      masks-room = kept-length half half-room masksBAt (omega arith) same post low high ys long' elements'
+
       pub masks-done : MasksDone (step st store (written 77 (first ∷ post ∷ (xs ++ ys))))
-      masks-done =
-          subst MasksDone (sym (masks-letter ∙ hears (masks first post (xs ++ ys)) sent-masks ∙ masks-halves)) masks-kept
+      masks-done = subst MasksDone (sym masks-is) masks-kept
 
 pub street-keeps : StreetKeeps
 street-keeps st store started ready =

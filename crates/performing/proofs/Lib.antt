@@ -2,3 +2,10 @@ pub mod Heard
 pub mod Theorems
 pub mod Loading
 pub mod Keeping
+pub mod Spelling
+pub mod Lines
+pub mod Table
+pub mod StartText
+pub mod Starting
+pub mod TwoLines
+pub mod Program

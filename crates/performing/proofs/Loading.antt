@@ -1,6 +1,6 @@
 -- An `R` and a `T` line do what the library's loads do.
 use Prim.Native.Nat.{ℕ, _+_, _≤_}
-use mathlib.Core.Path.{_≡_, refl, sym, subst, _∙_}
+use mathlib.Core.Path.{_≡_, sym, subst, _∙_}
 use mathlib.Core.Bool.{true, false}
 use mathlib.Core.List.{List, [], _∷_}
 use native.Mathlib.Omega.{arith}
@@ -18,15 +18,16 @@ use Rattle.csv.proofs.Laying.{length-written}
 use Rattle.session.specs.Sessions.{shapeOf}
 use Rattle.session.specs.Rows.{width}
 use Rattle.load.specs.Load.{loadRowAnswer, loadRowRows, loadTripleAnswer, loadTripleRows}
-use Rattle.store.specs.Sizes.{longestTriple, InStreet}
-use Rattle.reading.specs.Numbers.{numbers, rowsBeyond, readRefusal}
-use Rattle.states.specs.declared.State.{State}
-use Rattle.states.specs.States.{After, sessionRows}
-use Rattle.startlines.specs.Steps.{longestLine}
-use Rattle.loadlines.specs.Steps.{loading, loadStep, loadingTriple, loadTripleStep}
-use Rattle.interpreter.specs.Stepping.{lettersStep, lateStep, step}
+use Rattle.street_store.specs.Sizes.{longestTriple, InStreet}
+use Rattle.street_reading.specs.Numbers.{numbers, rowsBeyond, readRefusal}
+use Rattle.street_states.specs.declared.State.{State}
+use Rattle.street_states.specs.States.{After, sessionRows}
+use Rattle.street_startlines.specs.Steps.{longestLine}
+use Rattle.street_loadlines.specs.Steps.{loading, loadStep, loadingTriple, loadTripleStep}
+use Rattle.street_interpreter.specs.Stepping.{lettersStep, lateStep, step}
 use Rattle.performing.specs.Claims.{Does, StreetLoads}
 use Rattle.performing.proofs.Heard.{says, passes}
+use Rattle.performing.proofs.Theorems.{does-call}
 
 -- the longest `T` of the street is the longest line
 load-short : (letter row : ℕ) (pack : List ℕ) → row ≤ lastRow → length pack ≤ longestTriple → length (written letter (row ∷ pack)) ≤ longestLine
@@ -76,7 +77,7 @@ module _ (st : State) (store : List ℕ) (started : st .started ≡ true) (i : I
 
     load-called : LoadDone (loading st store (row ∷ pack))
     unfolding loading
-    load-called = record { session = refl; rows-left = refl; refusal = refl; value = refl }
+    load-called = does-call st store started _ _
 
     load-done : LoadDone (step st store (written 82 (row ∷ pack)))
     load-done = subst LoadDone (sym (load-letter ∙ load-numbers)) load-called
@@ -107,7 +108,7 @@ module _ (st : State) (store : List ℕ) (started : st .started ≡ true) (i : I
 
     triple-called : TripleDone (loadingTriple st store (row ∷ pack))
     unfolding loadingTriple
-    triple-called = record { session = refl; rows-left = refl; refusal = refl; value = refl }
+    triple-called = does-call st store started _ _
 
     triple-done : TripleDone (step st store (written 84 (row ∷ pack)))
     triple-done = subst TripleDone (sym (triple-letter ∙ triple-numbers)) triple-called

@@ -25,18 +25,31 @@ use Rattle.opening.specs.Opening.{openAnswer}
 use Rattle.product_masks.specs.Masks.{masksAnswer, masksOut}
 use Rattle.collect.specs.Collect.{collectAnswer}
 use Rattle.multiply.specs.Multiply.{multiplyAnswer, multiplyRows}
-use Rattle.store.specs.Sizes.{openingsAt, masksAAt, masksBAt, InStreet}
-use Rattle.store.specs.Records.{recordAt, recordIf}
-use Rattle.states.specs.declared.State.{State}
-use Rattle.states.specs.States.{After, withSession, sessionRows}
-use Rattle.interpreter.specs.Stepping.{step}
+use Rattle.street_store.specs.Sizes.{openingsAt, masksAAt, masksBAt, InStreet}
+use Rattle.street_store.specs.Records.{recordAt, recordIf}
+use Rattle.street_states.specs.declared.State.{State}
+use Rattle.street_states.specs.States.{After, sessionRows}
+use Rattle.street_interpreter.specs.Stepping.{step}
 
--- The line left the answer's session and these rows, and nothing else has changed; it has the answer's refusal and value.
-pub record Does (st : State) (store : List ℕ) (given : Answer) (rows : List ℕ) (a : After) : Type 0 where
-  pub session : a .given .state ≡ withSession st (given .session)
+-- The line left the answer's session and these rows, and nothing else has changed: the rows and triples that records are kept for stay.
+-- It has the answer's refusal and value.
+pub record Acts (st : State) (store : List ℕ) (given : Answer) (rows : List ℕ) (a : After) : Type 0 where
+  pub session : a .given .state .session ≡ given .session
+  pub started : a .given .state .started ≡ st .started
+  pub kept : a .given .state .kept ≡ st .kept
+  pub triple : a .given .state .triple ≡ st .triple
   pub rows-left : a .store ≡ rows ++ drop (rowsLength (shapeOf (st .session))) store
   pub refusal : a .given .refusal ≡ given .refusal
   pub value : a .given .value ≡ given .value
+
+-- Nothing is printed but the answer.
+pub record Quiet (a : After) : Type 0 where
+  pub told : a .told ≡ []
+  pub told-none : a .given .told ≡ 0
+
+pub record Does (st : State) (store : List ℕ) (given : Answer) (rows : List ℕ) (a : After) : Type 0 where
+  pub acts : Acts st store given rows a
+  pub quiet : Quiet a
 
 -- The record at a place of the store, if it is kept for what the line names, else an empty one.
 abbrev pub recordFor : State → List ℕ → ℕ → ℕ → ℕ → List ℕ
@@ -63,8 +76,9 @@ module _ (st : State) (store : List ℕ) where
       → (let lent : List ℕ = replicate (masksLength (shapeOf own)) 0 in
       let given = masksAnswer own rows a b first lent in
       let line = step st store (written 88 (a ∷ b ∷ first ∷ [])) in
-      Does st store given rows line
-      × (line .told ≡ outcome (given .refusal) (written 77 (first ∷ own .post ∷ masksOut own rows a b first lent)) []))
+      Acts st store given rows line
+      × (line .told ≡ outcome (given .refusal) (written 77 (first ∷ own .post ∷ masksOut own rows a b first lent)) [])
+      × (line .given .told ≡ length (line .told)))
 
   -- "`D,row,c`"
   abbrev pub DealLine : Type 0
@@ -83,7 +97,7 @@ module _ (st : State) (store : List ℕ) where
   pub record Finishes (collected multiplied : Answer) (product : List ℕ) (a : After) : Type 0 where
     pub not-collected : (collected .refusal ≡ 0 → ⊥) → Does st store collected rows a
     pub not-multiplied : collected .refusal ≡ 0 → (multiplied .refusal ≡ 0 → ⊥)
-        → (a .given .refusal ≡ multiplied .refusal) × (a .given .state ≡ st) × (a .store ≡ store)
+        → (a .given .refusal ≡ multiplied .refusal) × (a .given .state ≡ st) × (a .store ≡ store) × Quiet a
     pub done : collected .refusal ≡ 0 → multiplied .refusal ≡ 0 → Does st store multiplied product a
 
   abbrev pub FinishLine : Type 0

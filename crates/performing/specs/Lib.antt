@@ -1,2 +1,6 @@
 pub mod Claims
 pub mod Records
+pub mod Lines
+pub mod Starting
+pub mod TwoLines
+pub mod Program

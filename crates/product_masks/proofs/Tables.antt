@@ -1,6 +1,6 @@
 -- The tests of masks are document 01's table.
-use mathlib.Core.Path.{refl}
+use Rattle.refusal.proofs.Figures.{point-figures}
 use Rattle.product_masks.specs.Table.{MasksTable}
 
 pub masks-table : MasksTable
-masks-table s rows a b r out = refl
+masks-table s rows a b r out = rw (point-figures (s .point))

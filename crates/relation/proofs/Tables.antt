@@ -1,22 +1,29 @@
 -- The refusals of a relation's two calls are those of the tables: behind 14 the terms that the walk handed on are those of the list.
-use Prim.Native.Nat.{ℕ, zero, suc, _*_, _≤_}
+use Prim.Native.Nat.{ℕ, zero, suc, _+_, _*_, _≤_}
 use mathlib.Core.Path.{_≡_, refl, sym, _∙_, ap, ap₂}
 use mathlib.Core.Bool.{Bool, _||_}
 use mathlib.Core.List.{List, [], _∷_, _++_, map}
 use native.Mathlib.Omega.{arith}
-use lib.Dec.{eqb}
+use lib.Dec.{eqb, ltb}
 use lib.ListN.{length}
 use Rattle.shape.specs.Marks.{empty, unused, masked}
+use Rattle.shape.specs.Lengths.{rowsLength}
 use Rattle.refusal.specs.Refusal.{Test, _when_, first}
+use Rattle.refusal.specs.Conditions.{wrongLength, beyond, anyBeyond}
 use Rattle.refusal.proofs.Laws.{Numbered, inside, all-fail}
 use Rattle.refusal.proofs.Groups.{stopped}
+use Rattle.refusal.proofs.Figures.{beyond-figures}
 use Rattle.session.specs.declared.Session.{Session}
-use Rattle.session.specs.Rows.{width}
+use Rattle.session.specs.Sessions.{shapeOf}
+use Rattle.session.specs.Rows.{width, rowAt}
 use Rattle.session.specs.Checks.{frameTests, noRow, wrongMark}
+use Rattle.session.specs.Table.{newTable}
+use Rattle.session.proofs.Tables.{session-table}
+use Rattle.product_masks.specs.Masks.{factorNumbers}
 use Rattle.terms.specs.declared.Term.{Term}
-use Rattle.terms.specs.Listed.{mostTerms, productsOf, collected, termsOf, factorsOf}
+use Rattle.terms.specs.Listed.{mostTerms, plain, productsOf, collected, termsOf, factorsOf}
 use Rattle.terms.proofs.Placing.{terms-again, factors-again}
-use Rattle.relation.specs.Tests.{eachAt, each, placeTests, markTests, namedIn, namedTwice}
+use Rattle.relation.specs.Tests.{eachAt, each, byKind, placeTests, markTests, namedIn, namedTwice}
 use Rattle.relation.specs.Masks.{masksSizes, maskNumberTests, relationMasksRefusal}
 use Rattle.relation.specs.Finish.{finishSizes, rememberTests, termNumberTests, recordPair, recordTests, openTests, relationFinishRefusal}
 use Rattle.relation.specs.Table.{isAmong, repeats, triplesOf, RelationTables}
@@ -52,37 +59,54 @@ unfolding recordTests eachAt
 records-each s blocks k [] = refl
 records-each s blocks k (t ∷ us) = ap (λ (l : List Test). recordPair s blocks k ++ l) (records-each s blocks (suc k) us)
 
+-- a term's 8, with the test of its coefficient in figures
+figured : (rest : Term → List Test)
+    → _≡_ {A = Term → List Test} (λ t. 8 when beyond (t .coefficient) ∷ rest t) (λ t. 8 when ltb 2147483646 (t .coefficient) ∷ rest t)
+figured rest = λ j t. 8 when beyond-figures (t .coefficient) j ∷ rest t
+
 module _ (s : Session) (rows : List ℕ) (ts : List Term) where
+  -- 1 to 5 on the session and its rows, with the check point in figures
+  abbrev frame : List Test
+  frame = newTable (s .n) (s .t) (s .post) (s .point) ++ (5 when wrongLength rows (rowsLength (shapeOf s)) ∷ [])
+
+  framed : frameTests s rows ≡ frame
+  framed = ap (λ (l : List Test). l ++ (5 when wrongLength rows (rowsLength (shapeOf s)) ∷ [])) (session-table (s .n) (s .t) (s .post) (s .point))
+
   module _ (out : List ℕ) where
-    abbrev early : List Test
-    early = frameTests s rows ++ masksSizes s (collected ts) out
+    abbrev early : List Test → List Test
+    early fr = fr ++ masksSizes s (collected ts) out
 
-    abbrev late : List Term → Bool → List Test
-    late l twice =
-        each placeTests l ++ ((each (markTests s unused) l ++ (7 when twice ∷ [])) ++ each (maskNumberTests (width s) rows) l)
+    abbrev late : (Term → List Test) → List Term → Bool → List Test
+    late eights l twice = each placeTests l ++ ((each (markTests s unused) l ++ (7 when twice ∷ [])) ++ each eights l)
 
-    at-hand : first (frameTests s rows ++ masksSizes s (collected ts) out) ≡ 0 → length ts ≤ mostTerms
-    at-hand e = inside 1 mostTerms (length ts) (all-fail early tt e .1 .1 .1 .1 .1 .1 .0) .1
+    at-hand : first (early (frameTests s rows)) ≡ 0 → length ts ≤ mostTerms
+    at-hand e = inside 1 mostTerms (length ts) (all-fail (early (frameTests s rows)) tt e .1 .1 .1 .1 .1 .1 .0) .1
 
-    pub masks-table : first (early ++ late (termsOf (collected ts)) (namedTwice (factorsOf (collected ts)))) ≡ first (early ++ late ts (repeats (triplesOf ts)))
+    abbrev products : Term → List Test
+    products t = byKind (plain t) [] (factorNumbers (width s) rows (t .row) (t .second) (t .first))
+
+    pub masks-table : first (early (frameTests s rows) ++ late (maskNumberTests (width s) rows) (termsOf (collected ts)) (namedTwice (factorsOf (collected ts))))
+        ≡ first (early frame ++ late (λ t. 8 when ltb 2147483646 (t .coefficient) ∷ products t) ts (repeats (triplesOf ts)))
     masks-table =
-        late-same early (late (termsOf (collected ts)) (namedTwice (factorsOf (collected ts)))) (late ts (repeats (triplesOf ts))) tt
-        (λ e. ap₂ late (terms-again ts (at-hand e)) (ap namedTwice (factors-again ts (at-hand e)) ∙ named-repeats (productsOf ts)))
+        let own = late (maskNumberTests (width s) rows) in
+        late-same (early (frameTests s rows)) (own (termsOf (collected ts)) (namedTwice (factorsOf (collected ts)))) (own ts (repeats (triplesOf ts))) tt
+        (λ e. ap₂ own (terms-again ts (at-hand e)) (ap namedTwice (factors-again ts (at-hand e)) ∙ named-repeats (productsOf ts)))
+        ∙ ap₂ (λ (fr : List Test) (eights : Term → List Test). first (early fr ++ late eights ts (repeats (triplesOf ts)))) framed (figured products)
 
   module _ (d : ℕ) (blocks : List ℕ) where
-    abbrev before : List Test
-    before = frameTests s rows ++ finishSizes s (collected ts) blocks
+    abbrev before : List Test → List Test
+    before fr = fr ++ finishSizes s (collected ts) blocks
 
-    abbrev behind : List Term → List Term → Bool → List Test → List Test
-    behind l f twice records =
+    abbrev behind : (Term → List Test) → List Term → List Term → Bool → List Test → List Test
+    behind eights l f twice records =
         ((each placeTests l ++ (6 when noRow d ∷ []))
         ++ ((each (markTests s masked) l
         ++ (7 when twice ∷ (each (rememberTests s) f ++ (7 when wrongMark s d empty ∷ []))))
-        ++ (each (termNumberTests (width s) rows) l ++ records)))
+        ++ (each eights l ++ records)))
         ++ openTests s rows blocks 0 f
 
-    at-hand′ : first (frameTests s rows ++ finishSizes s (collected ts) blocks) ≡ 0 → length ts ≤ mostTerms
-    at-hand′ e = inside 1 mostTerms (length ts) (all-fail before tt e .1 .1 .1 .1 .1 .1 .0) .1
+    at-hand′ : first (before (frameTests s rows)) ≡ 0 → length ts ≤ mostTerms
+    at-hand′ e = inside 1 mostTerms (length ts) (all-fail (before (frameTests s rows)) tt e .1 .1 .1 .1 .1 .1 .0) .1
 
     -- the records' tests, counted as the call does and by product terms
     abbrev counted : List Test
@@ -94,13 +118,21 @@ module _ (s : Session) (rows : List ℕ) (ts : List Term) where
     abbrev again : List Term
     again = factorsOf (collected ts)
 
-    pub finish-table : first (before ++ behind (termsOf (collected ts)) again (namedTwice again) counted)
-        ≡ first (before ++ behind ts (productsOf ts) (repeats (triplesOf ts)) pairs)
+    abbrev numbers : Term → List Test
+    numbers t =
+        byKind (plain t) (8 when anyBeyond (rowAt (width s) rows (t .row)) ∷ [])
+        (factorNumbers (width s) rows (t .row) (t .second) (t .first) ++ (8 when anyBeyond (rowAt (width s) rows (t .first + 2)) ∷ []))
+
+    pub finish-table : first (before (frameTests s rows) ++ behind (termNumberTests (width s) rows) (termsOf (collected ts)) again (namedTwice again) counted)
+        ≡ first (before frame ++ behind (λ t. 8 when ltb 2147483646 (t .coefficient) ∷ numbers t) ts (productsOf ts) (repeats (triplesOf ts)) pairs)
     finish-table =
-        late-same before (behind (termsOf (collected ts)) again (namedTwice again) counted)
-        (behind ts (productsOf ts) (repeats (triplesOf ts)) pairs) tt
-        (λ e. ap₂ (λ (l f : List Term). behind l f (namedTwice f) counted) (terms-again ts (at-hand′ e)) (factors-again ts (at-hand′ e))
-        ∙ ap₂ (behind ts (productsOf ts)) (named-repeats (productsOf ts)) (records-each s blocks 0 (productsOf ts)))
+        let own = behind (termNumberTests (width s) rows) in
+        late-same (before (frameTests s rows)) (own (termsOf (collected ts)) again (namedTwice again) counted)
+        (own ts (productsOf ts) (repeats (triplesOf ts)) pairs) tt
+        (λ e. ap₂ (λ (l f : List Term). own l f (namedTwice f) counted) (terms-again ts (at-hand′ e)) (factors-again ts (at-hand′ e))
+        ∙ ap₂ (own ts (productsOf ts)) (named-repeats (productsOf ts)) (records-each s blocks 0 (productsOf ts)))
+        ∙ ap₂ (λ (fr : List Test) (eights : Term → List Test). first (before fr ++ behind eights ts (productsOf ts) (repeats (triplesOf ts)) pairs)) framed
+        (figured numbers)
 
 pub relation-tables : RelationTables
 unfolding relationMasksRefusal relationFinishRefusal

@@ -4,10 +4,10 @@ use mathlib.Core.Path.{_≡_, refl, sym, ap, ap₂}
 use mathlib.Core.Bool.{Bool, true, false, not}
 use mathlib.Core.List.{List, [], _∷_, _++_, append-assoc}
 use borrow.Author.Needs.{needs}
-use lib.Dec.{eqb}
+use lib.Dec.{eqb, ltb}
 use lib.ListN.{length}
 use Rattle.refusal.specs.Refusal.{Test, _when_, first, outcome}
-use Rattle.refusal.specs.Conditions.{beyond, anyBeyond}
+use Rattle.refusal.specs.Conditions.{anyBeyond}
 use Rattle.refusal.proofs.Laws.{inside}
 use Rattle.refusal.proofs.Endings.{refused, accepted}
 use Rattle.session.specs.declared.Session.{Session}
@@ -61,7 +61,7 @@ seven-only s m k t = go (plain t)
 
 -- 8, of a term's coefficient and of these rows of it
 abbrev eights : List Test → List Test → Term → List Test
-eights one other t = 8 when beyond (t .coefficient) ∷ byKind (plain t) one other
+eights one other t = 8 when ltb 2147483646 (t .coefficient) ∷ byKind (plain t) one other
 
 eight-only : (one other : Term → List Test) → ((t : Term) → Only 8 (one t)) → ((t : Term) → Only 8 (other t)) → (k : ℕ) (t : Term)
     → Only 8 (eights (one t) (other t) t)

@@ -8,7 +8,7 @@ use mathlib.Core.List.{List, [], _∷_, _++_, map}
 use lib.Dec.{eqb, ltb}
 use lib.ListN.{length}
 use Rattle.refusal.specs.Refusal.{Test, _when_, first}
-use Rattle.refusal.specs.Conditions.{outside, wrongLength, beyond, anyBeyond, badPoint}
+use Rattle.refusal.specs.Conditions.{outside, wrongLength, anyBeyond}
 use Rattle.session.specs.declared.Session.{Session}
 use Rattle.session.specs.Sessions.{factorA, factorB}
 use Rattle.session.specs.Rows.{width, rowAt}
@@ -57,14 +57,14 @@ relationMasksTable s rows ts out =
     1 when outside 2 255 (s .n)
     ∷ 2 when outside 1 (s .n - 1) (s .t)
     ∷ 3 when outside 1 (s .n) (s .post)
-    ∷ 4 when badPoint (s .point)
+    ∷ 4 when (eqb (s .point) 0 || ltb 2147483646 (s .point))
     ∷ 5 when wrongLength rows (96 * width s)
     ∷ 5 when wrongLength out (length (productsOf ts) * (2 * (s .t + 1)))
     ∷ 14 when outside 1 32 (length ts)
     ∷ (each sixes ts
     ++ ((each (sevens s 3) ts ++ (7 when repeats (triplesOf ts) ∷ []))
     ++ each
-    (λ t. 8 when beyond (t .coefficient)
+    (λ t. 8 when ltb 2147483646 (t .coefficient)
     ∷ byKind (single t) []
     (8 when anyBeyond (rowAt (width s) rows (t .row))
     ∷ 8 when anyBeyond (rowAt (width s) rows (t .second))
@@ -78,7 +78,7 @@ relationFinishTable s rows ts d blocks =
     1 when outside 2 255 (s .n)
     ∷ 2 when outside 1 (s .n - 1) (s .t)
     ∷ 3 when outside 1 (s .n) (s .post)
-    ∷ 4 when badPoint (s .point)
+    ∷ 4 when (eqb (s .point) 0 || ltb 2147483646 (s .point))
     ∷ 5 when wrongLength rows (96 * width s)
     ∷ 5 when wrongLength blocks (length (productsOf ts) * (2 * recordLength s))
     ∷ 14 when outside 1 32 (length ts)
@@ -88,7 +88,7 @@ relationFinishTable s rows ts d blocks =
     ∷ (each (λ t. 7 when not (eqb (factorA s (t .first)) (t .row)) ∷ 7 when not (eqb (factorB s (t .first)) (t .second)) ∷ []) (productsOf ts)
     ++ (7 when wrongMark s d 0 ∷ []))))
     ++ (each
-    (λ t. 8 when beyond (t .coefficient)
+    (λ t. 8 when ltb 2147483646 (t .coefficient)
     ∷ byKind (single t) (8 when anyBeyond (rowAt (width s) rows (t .row)) ∷ [])
     (8 when anyBeyond (rowAt (width s) rows (t .row))
     ∷ 8 when anyBeyond (rowAt (width s) rows (t .second))

@@ -17,7 +17,7 @@ use Rattle.session.specs.Between.{Sized}
 use Rattle.session.proofs.Passed.{row-below}
 use Rattle.session.proofs.RowLaws.{length-with-row}
 use Rattle.session.proofs.Kept.{others-kept, outcome-keeps}
-use Rattle.sums.proofs.Summed.{length-summed}
+use Rattle.sums.proofs.Summed.{length-row-summed}
 use Rattle.product_masks.proofs.Passed.{Factored}
 use Rattle.multiply.specs.Multiply.{withProduct}
 use Rattle.multiply.proofs.Written.{others-read, length-written}
@@ -70,7 +70,7 @@ module _ (s : Session) (q : ℕ) where
     terms-kept (t ∷ ts) now z (h, hs) =
         let g = shapeOf s in
         let to = row-below g d (omega (arith, i)) in
-        let long = length-summed g now z d d (numberRow t) (t .coefficient) to to (row-below g (numberRow t) h) 0 in
+        let long = length-row-summed g now z d d (numberRow t) (t .coefficient) to to (row-below g (numberRow t) h) 0 in
         let one = written now (summed (sumsAt s) (t .coefficient) 0 (rowAt (width s) now d) (rowAt (width s) now (numberRow t))) z long in
         behind now _ _ one (terms-kept ts (plusTerm s d t now) (sized-again now _ one z) hs)
 

@@ -28,7 +28,7 @@ use Rattle.vectors.proofs.Passing.{all-passing}
 use Rattle.vectors.proofs.Shares.{all-enough}
 use Rattle.runs.specs.Calls.{Proper}
 use Rattle.runs.proofs.Finishing.{Trusted}
-use Rattle.factory.proofs.Laws.{elements-of}
+use Rattle.factory.proofs.Laws.{passes-elements}
 use Rattle.runs.proofs.Steps.{own-numbers}
 
 module _ (s : Session) (blocks : List ℕ) where
@@ -78,7 +78,7 @@ module _ (s : Session) (blocks : List ℕ) where
       unfolding Blocks.badBlock
       block-low =
           let good = good-block 1 (s .n) (proper .low) j lo (omega arith) in
-          elements-of (block j) (rw (ne-eqb j (s .post) other, there) at good)
+          passes-elements (block j) (rw (ne-eqb j (s .post) other, there) at good)
 
   -- ---- the own polynomial, and all of them
 

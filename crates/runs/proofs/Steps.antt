@@ -174,6 +174,15 @@ module _ (U : Stand) where
       subst (λ (x : Post). refusalOf c x ≡ 0 → Fits plan draw i M vec c → After c (after (perform c x))) is-p0
       (λ z fit. subst (After c) (sym (done c p0' z)) (moved H (h .recalls) (U .is-draw) c z fit))
 
+  -- what its session is then
+  pub session-after : (c : Call) → refusalOf c q ≡ 0 → Fits plan draw i M vec c
+      → after (perform c q) .session ≡ sessionAt plan draw i (marksAfter plan draw c M) (openedAfter plan draw c M vec (h .opened))
+  session-after c =
+      subst
+      (λ (x : Post). refusalOf c x ≡ 0 → Fits plan draw i M vec c
+      → after (perform c x) .session ≡ sessionAt plan draw i (marksAfter plan draw c M) (openedAfter plan draw c M vec (h .opened))) is-p0
+      (λ z fit. ap (λ (x : Post). x .session) (done c p0' z) ∙ made H (h .recalls) (U .is-draw) c z fit .0)
+
   -- what it sends
   pub says : (c : Call) → refusalOf c q ≡ 0 → SaysAll plan draw i vec (sends c) (perform c q .lent)
   says c =

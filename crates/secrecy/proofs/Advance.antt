@@ -9,6 +9,8 @@ use Rattle.shape.specs.Bounds.{rowCount}
 use Rattle.shape.specs.Marks.{held}
 use Rattle.shape.specs.Lengths.{vLength}
 use Rattle.vectors.specs.Vector.{Vector, numbers}
+use Rattle.forms.specs.Lines as Line
+use Rattle.forms.specs.Lines.{text}
 use Rattle.runs.specs.Outline.{Act, moves, acts, sends}
 use Rattle.runs.specs.Calls.{Call, perform, after, broadcast, openingLine, masksLine, Among}
 use Rattle.runs.specs.Draws.{planShape}
@@ -24,6 +26,7 @@ use Rattle.secrecy.proofs.Moves.{numberAt, vectorsThen, acts-at, vector
 use Rattle.secrecy.proofs.Entered.{Past}
 use Rattle.secrecy.proofs.State.{Run, Moment, Held, Waits, AnOpening, AMask, maskNumbers, State, standAt, fits, facts-on}
 use Rattle.runs.proofs.Start.{sizes}
+use Rattle.secrecy.proofs.Dealings.{deal-unsent}
 use Rattle.secrecy.proofs.Broadcasts as Broadcasts
 use Rattle.secrecy.proofs.Broadcasts.{among-append, among-posts, among-heard}
 
@@ -107,6 +110,11 @@ module _ (C : Run) (m : Moment) (S : State C m) where
           sized = sized-after (acts c) M (S .sized);
           posts = stand;
           facts = facts';
+          dealings = λ r x lr lx a. elim (among-append (text (Line.deal r x)) lines (linesOf plan draw u lines c q) a) [
+            | inl l ↦ S .dealings r x lr lx l
+            | inr l ↦ (let w = among-posts (text (Line.deal r x)) (λ i. cond (heardFrom c i) (broadcast i (call i c) (perform (call i c) (q i))) []) (plan .n) l in
+                absurd (deal-unsent r x (w .0) _ (sends (call (w .0) c)) _ (among-heard _ (heardFrom c (w .0)) _ (w .3))))
+          ];
           openings = λ r j xs o a. elim (among-append (openingLine r j xs) lines (linesOf plan draw u lines c q) a) [
             | inl l ↦ old-opening r j xs o l
             | inr l ↦ (let w = among-posts (openingLine r j xs) (λ i. cond (heardFrom c i) (broadcast i (call i c) (perform (call i c) (q i))) []) (plan .n) l in

@@ -1,11 +1,17 @@
 -- One post in the two runs: the same refusal, the same number opened.
-use Prim.Native.Nat.{ℕ, zero, suc, _≤_}
-use mathlib.Core.Path.{_≡_, refl, sym, _∙_, ap, subst}
-use mathlib.Core.Bool.{true, false}
+use Prim.Native.Nat.{ℕ, zero, suc, _%_, _≤_}
+use mathlib.Core.Path.{_≡_, refl, sym, _∙_, ap, ap₂, subst}
+use mathlib.Core.Bool.{true, false, _||_}
 use mathlib.Core.Logic.{inl, inr}
-use mathlib.Core.List.{List}
+use mathlib.Core.List.{List, [], _∷_, map}
 use native.Mathlib.Omega.{arith}
+use native.Mathlib.Nat.{mod-lt}
+use lib.Dec.{lit<}
+use lib.ListN.{length, length-map}
+use Rattle.field.specs.Modulus.{p}
 use Rattle.refusal.specs.Refusal.{first, outcome}
+use Rattle.refusal.specs.Conditions.{beyond, anyBeyond}
+use Rattle.refusal.proofs.Elements.{element-test}
 use Rattle.session.specs.declared.Session.{Session}
 use Rattle.session.specs.Sessions.{answer}
 use Rattle.session.specs.Rows.{rowAt}
@@ -14,14 +20,14 @@ use Rattle.opening.specs.Walking.{opened}
 use Rattle.opening.specs.Opening.{openRefusal}
 use Rattle.opening.proofs.Passed.{walkTests, walk-few, OpenChecked, row-opened}
 use Rattle.vectors.specs.Vector.{number}
-use Rattle.runs.specs.Draws.{rawPack, triplePack}
+use Rattle.runs.specs.Draws.{Draw, rawPack, triplePack}
 use Rattle.runs.specs.Outline.{loadRow, loadTriple, deal, message, opening, linear, masks, collect, multiply, relationMasks, relationFinish, aRecord}
 use Rattle.runs.specs.Calls.{Post, Call, Performed, perform}
 use Rattle.runs.proofs.Marks.{sessionAt}
 use Rattle.runs.proofs.Outcomes.{Doing, does, refusalOf, refusal-is, value-is}
 use Rattle.runs.proofs.Holds.{wide}
 use Rattle.runs.proofs.Steps.{postAt, named}
-use Rattle.secrecy.specs.Steps.{Step, Pack, Number, Record, own, sent, packed, dealtWith, callAt, dealtNumber}
+use Rattle.secrecy.specs.Steps.{Secrets, Step, PackNumber, PackAt, its, other, Number, sent, Record, Lent, packNumber, packed, dealtWith, filling, callAt, dealtNumber}
 use Rattle.secrecy.specs.Rules.{RuleWith, Rule}
 use Rattle.secrecy.proofs.Link.{Alike}
 use Rattle.secrecy.proofs.Twins as Twins
@@ -37,10 +43,27 @@ value-one zero (suc j) v w new old new' old' e h = absurd (omega arith)
 value-one (suc k) zero v w new old new' old' e h = absurd (omega arith)
 value-one (suc k) (suc j) v w new old new' old' e h = refl
 
+-- a pack of other numbers than the own part: those that follow the draw are elements in both runs
+element-low : (x : ℕ) → beyond (x % p) ≡ false
+element-low x = element-test (x % p) (mod-lt x (lit< tt))
+
+module _ (d d' : Draw) (u u' : Secrets) where
+  beyond-same : (x : PackNumber) → beyond (packNumber d u x) ≡ beyond (packNumber d' u' x)
+  beyond-same (PackNumber.fixed x) = refl
+  beyond-same (PackNumber.element x) = element-low (x d u) ∙ sym (element-low (x d' u'))
+
+  low-same : (xs : List PackNumber) → anyBeyond (map (packNumber d u) xs) ≡ anyBeyond (map (packNumber d' u') xs)
+  unfolding anyBeyond
+  low-same [] = refl
+  low-same (x ∷ xs) = ap₂ _||_ (beyond-same x) (low-same xs)
+
+  pack-alike : (xs : List PackNumber) → Alike (map (packNumber d u) xs) (map (packNumber d' u') xs)
+  pack-alike xs = record { long = length-map xs _ ∙ sym (length-map xs _); low = low-same xs }
+
 -- a deal's number is the same in both runs
-pub number-same : (T : Two) (r : ℕ) (x : Number) → dealtWith x (dealtNumber (T .plan) (T .d) (T .u) r) ≡ dealtWith x (dealtNumber (T .plan) (T .d') (T .u') r)
-number-same T r sent = T .link .deals r
-number-same T r (Number.fixed x) = refl
+pub number-same : (T : Two) (x : Number) → dealtWith x (dealtNumber (T .plan) (T .d) (T .u)) ≡ dealtWith x (dealtNumber (T .plan) (T .d') (T .u'))
+number-same T (sent k) = T .link .deals k
+number-same T (Number.fixed x) = refl
 
 module _ (T : Two) (m : Moments) (R : Pair T m)
     (i : ℕ) (lo : 1 ≤ i) (hi : i ≤ T .plan .n) where
@@ -48,10 +71,6 @@ module _ (T : Two) (m : Moments) (R : Pair T m)
 
   abbrev s : Session
   s = sessionAt (T .plan) (T .d) i M (R .one .posts i lo hi .opened)
-
-  -- of the second run
-  abbrev s' : Session
-  s' = sessionAt (T .plan) (T .d) i M (R .two .posts i lo hi .opened)
 
   abbrev W : ℕ
   W = wide (T .plan)
@@ -72,34 +91,13 @@ module _ (T : Two) (m : Moments) (R : Pair T m)
   p1 = postAt (T .plan) (T .d) i M (R .one .posts i lo hi .opened) l
 
   abbrev p2 : Post
-  p2 = postAt (T .plan) (T .d) i M (R .two .posts i lo hi .opened) l'
+  p2 = postAt (T .plan) (T .d) i M (R .one .posts i lo hi .opened) l'
 
   pub is-p1 : q i ≡ p1
   is-p1 = named (T .plan) (T .d) (T .len i) i M vec (q i) (R .one .posts i lo hi)
 
   is-p2 : q' i ≡ p2
-  is-p2 =
-      named (T .plan) (T .d') (T .len i) i M vec' (q' i) (R .two .posts i lo hi)
-      ∙ ap
-      (λ (f : ℕ → ℕ). record {
-        session =
-            record {
-              n = T .plan .n;
-              t = T .plan .t;
-              post = i;
-              point = f i;
-              marks = M .marks;
-              «factor_a» = M .factor-a;
-              «factor_b» = M .factor-b;
-              «y_a» = R .two .posts i lo hi .opened .y-a;
-              «y_b» = R .two .posts i lo hi .opened .y-b;
-            };
-        rows = q' i .rows;
-      })
-      (T .link .points)
-
-  same-pack : (xs : List ℕ) → Alike xs xs
-  same-pack xs = record { long = refl; low = refl }
+  is-p2 = λ j. record { session = (sym (R .sessions i lo hi) ∙ R .one .posts i lo hi .session) j; rows = q' i .rows }
 
   -- ---- the refusal
 
@@ -121,9 +119,6 @@ module _ (T : Two) (m : Moments) (R : Pair T m)
     holds = Pairs.h T m R i lo hi;
     holds' = Pairs.h' T m R i lo hi;
     opened = R .one .posts i lo hi .opened;
-    opened' = R .two .posts i lo hi .opened;
-    recalls = R .one .posts i lo hi .recalls;
-    recalls' = R .two .posts i lo hi .recalls;
   }
 
   module _ (r : ℕ) (blocks : Record) (rule : RuleWith (T .plan) (openRefusal s l r (blocks i lines)) lines (aRecord r) blocks) where
@@ -150,26 +145,31 @@ module _ (T : Two) (m : Moments) (R : Pair T m)
   abbrev Answering : Doing → Doing → Type 0
   Answering d d' = (d .refusal ≡ d' .refusal) × (d .refusal ≡ 0 → d .value ≡ d' .value)
 
-  raw-same : (x : Pack) → Alike (packed x (rawPack (T .plan) (T .d)) i) (packed x (rawPack (T .plan) (T .d')) i)
-  raw-same (own k) = T .link .raw-alike i k hi
-  raw-same (Pack.fixed xs) = same-pack (xs i)
+  raw-same : (x : PackAt) → Alike (packed x (T .d) (T .u) (rawPack (T .plan) (T .d) i)) (packed x (T .d') (T .u') (rawPack (T .plan) (T .d') i))
+  raw-same (its k) = T .link .raw-alike i k hi
+  raw-same (other xs) = pack-alike (T .d) (T .d') (T .u) (T .u') xs
 
-  triple-same : (x : Pack) → Alike (packed x (triplePack (T .plan) (T .d)) i) (packed x (triplePack (T .plan) (T .d')) i)
-  triple-same (own k) = T .link .triple-alike i k hi
-  triple-same (Pack.fixed xs) = same-pack (xs i)
+  triple-same : (x : PackAt) → Alike (packed x (T .d) (T .u) (triplePack (T .plan) (T .d) i)) (packed x (T .d') (T .u') (triplePack (T .plan) (T .d') i))
+  triple-same (its k) = T .link .triple-alike i k hi
+  triple-same (other xs) = pack-alike (T .d) (T .d') (T .u) (T .u') xs
+
+  -- a list to write into is as long in both runs
+  as-long : (lent : Lent)
+      → length (filling (T .plan) (T .d) (T .u) lines i .lent lent) ≡ length (filling (T .plan) (T .d') (T .u') lines i .lent lent)
+  as-long lent = length-map (lent i) _ ∙ sym (length-map (lent i) _)
 
   alike : (c : Step) → Rule (T .plan) c (refusalOf (c1 c) p1) lines → Answering (does (c1 c) p1) (does (c2 c) p2)
   alike (loadRow x) rule =
-      (Twins.load-same twin (x .r) _ _ (raw-same (x .pack)), λ z. refl)
+      (Twins.load-same twin (x .r) _ _ (raw-same (x .pack i)), λ z. refl)
   alike (loadTriple x) rule =
-      (Twins.triple-same twin (x .r) _ _ (triple-same (x .pack)), λ z. refl)
+      (Twins.triple-same twin (x .r) _ _ (triple-same (x .pack i)), λ z. refl)
   alike (deal x) rule = (
-    Twins.deal-same twin (x .r) (dealtWith (x .c) (dealtNumber (T .plan) (T .d) (T .u) (x .r)))
-        ∙ ap (dealRefusal s' l' (x .r)) (number-same T (x .r) (x .c)),
+    Twins.deal-same twin (x .r) (dealtWith (x .c) (dealtNumber (T .plan) (T .d) (T .u)))
+        ∙ ap (dealRefusal s l' (x .r)) (number-same T (x .c)),
     λ z. refl,
   )
   alike (message x) rule =
-      (Twins.message-same twin (x .r) (x .lent i), λ z. refl)
+      (Twins.message-same twin (x .r) _ _ (as-long (x .lent)), λ z. refl)
   alike (opening x) rule = (
     Twins.open-same twin (x .r) (x .blocks i lines) (walk-same (x .r) (x .blocks) rule),
     opened-same (x .r) (x .blocks) rule,
@@ -177,7 +177,7 @@ module _ (T : Two) (m : Moments) (R : Pair T m)
   alike (linear x) rule =
       (Twins.linear-same twin (x .r) (x .a) (x .b) (x .scale) (x .fee), λ z. refl)
   alike (masks x) rule =
-      (Twins.masks-same twin (x .a) (x .b) (x .r) (x .lent i), λ z. refl)
+      (Twins.masks-same twin (x .a) (x .b) (x .r) _ _ (as-long (x .lent)), λ z. refl)
   alike (collect x) rule = (
     Twins.collect-same twin (x .r) (x .blocksA i lines) (x .blocksB i lines)
         (λ five. wait-numbers T m R (x .r) (inl five)),
@@ -185,7 +185,7 @@ module _ (T : Two) (m : Moments) (R : Pair T m)
   )
   alike (multiply x) rule = (Twins.multiply-same twin (x .r), λ z. refl)
   alike (relationMasks x) rule =
-      (Relations.relation-masks-same twin (x .terms) (x .lent i), λ z. refl)
+      (Relations.relation-masks-same twin (x .terms) _ _ (as-long (x .lent)), λ z. refl)
   alike (relationFinish x) rule =
       (Relations.relation-finish-same twin (x .terms) (x .r) (x .blocks i lines) (λ r five. wait-numbers T m R r (inl five)), λ z. refl)
 

@@ -1,31 +1,44 @@
+-- Demand 3, from the bottom up.
+-- The kernel: what a group does not see; vectors that differ by it, and the draws behind them.
 pub mod Kernel
 pub mod Near
 pub mod Shift
 pub mod Link
+-- One post with two lists of rows that are near: the same refusals.
 pub mod Twins
 pub mod Relations
+-- One run: acts, the book, what marks, vectors and lines have to do with each other, from the start on and after each call.
 pub mod Moves
 pub mod Entered
 pub mod State
+pub mod Dealings
 pub mod Broadcasts
 pub mod Advance
+pub mod GoesOn
+-- Two runs side by side: answers, lines, the group's posts, marks and vectors, sessions, through one call and through the list.
 pub mod Pair
 pub mod Answers
 pub mod Alike
+pub mod OneCall
 pub mod Together
+pub mod Sessions
 pub mod Onward
 pub mod Reckoned
 pub mod Runs
+-- The matched draw, what it leaves as it was, and the way back.
 pub mod Triples
 pub mod Moved
 pub mod Linked
 pub mod Unchanged
 pub mod Back
+-- The list of all draws, and the test that is counted.
 pub mod Counting
 pub mod Tests
 pub mod Selections
 pub mod Listed
 pub mod Counts
+-- The theorems; and that nobody gets 13.
+pub mod Matched
 pub mod Theorems
 pub mod Thirteen
 pub mod Thirteens

@@ -4,7 +4,6 @@ use mathlib.Core.Path.{_≡_, refl, sym, _∙_, ap, subst}
 use mathlib.Core.Logic.{_≢_, inr}
 use mathlib.Core.List.{List, [], _∷_, _++_}
 use native.Mathlib.Omega.{arith}
-use lib.ListN.{length}
 use Rattle.poly.specs.Counting.{All}
 use Rattle.refusal.specs.Refusal.{Test, first}
 use Rattle.session.specs.declared.Session.{Session}
@@ -17,17 +16,18 @@ use Rattle.multiply.specs.Multiply.{multiplyTests, multiplyRefusal}
 use Rattle.vectors.specs.Vector.{Vector}
 use Rattle.runs.specs.Outline.{loadRow, loadTriple, deal, message, opening, linear, masks, collect, multiply, relationMasks, relationFinish, moves}
 use Rattle.runs.specs.Calls.{Post, newPost, after}
-use Rattle.runs.proofs.Marks.{Marks, rawVector, sessionAt}
+use Rattle.runs.proofs.Marks.{Marks, sessionAt}
 use Rattle.runs.proofs.Outcomes as Outcomes
 use Rattle.runs.proofs.Outcomes.{refusal-is}
 use Rattle.runs.proofs.Steps.{postAt, named}
-use Rattle.runs.proofs.Start.{sizes, start, start-sized, start-stands, start-facts}
+use Rattle.runs.proofs.Start.{sizes}
 use Rattle.secrecy.specs.Steps.{Step, callAt}
-use Rattle.secrecy.specs.Seen.{Entry, Seen, doneAt, linesOf, entryOf, run, seen}
+use Rattle.secrecy.specs.Seen.{Entry, Seen, doneAt, linesOf, entryOf, run, dealLines, seen}
 use Rattle.secrecy.specs.Rules.{SameAnswers, Rule, Rules, refusalOf}
-use Rattle.secrecy.specs.Book.{Book, blank}
+use Rattle.secrecy.specs.Book.{Book}
 use Rattle.secrecy.specs.Claim.{NeverThirteen}
 use Rattle.secrecy.proofs.State.{Run, Moment, State}
+use Rattle.secrecy.proofs.Dealings.{fresh, begun}
 use Rattle.secrecy.proofs.Advance.{advance}
 use Rattle.secrecy.proofs.Onward.{idle-state}
 use Rattle.secrecy.proofs.Runs.{same-refusal}
@@ -94,7 +94,7 @@ module _ (C : Run) (m : Moment) (S : State C m) (i : ℕ) (lo : 1 ≤ i) (hi : i
       collect-never C m S i lo hi (x .r) (x .blocksA i lines) (x .blocksB i lines) e (λ j lj hj ne there. rule (inr (inr refl)) .0 i j lo hi lj hj ne there)
       (λ j lj hj ne there. rule (inr (inr refl)) .1 i j lo hi lj hj ne there)
   never-here (multiply x) rule e = multiply-never (x .r) e
-  never-here (relationMasks x) rule e = relation-masks-never C m S i lo hi (x .terms) (x .lent i) e
+  never-here (relationMasks x) rule e = relation-masks-never C m S i lo hi (x .terms) _ e
   never-here (relationFinish x) rule e =
       relation-finish-never C m S i lo hi (x .terms) (x .r) (x .blocks) e (every-all _ (moves (relationFinish x)) rule)
 
@@ -152,16 +152,10 @@ module _ (C : Run) (group : List ℕ) where
 pub never-thirteen : NeverThirteen
 unfolding seen
 never-thirteen plan group rows cs u R sound low same rules d shows =
-    let shown : run plan group d u cs [] (λ i. newPost plan d (rows i) i) ≡ R .entries = ap (λ (x : Seen). x .entries) (shows .same) in
+    let lines = dealLines plan group d u in
+    let deals : lines ≡ R .deals = ap (λ (x : Seen). x .deals) (shows .same) in
+    let shown : run plan group d u cs lines (λ i. newPost plan d (rows i) i) ≡ R .entries = ap (λ (x : Seen). x .entries) (shows .same) in
     subst (All (λ e. refusalOf e ≢ 13)) shown
-    (never
-    (record { plan = plan; draw = d; u = u; len = λ i. length (rows i); sound = sound; is-draw = shows .is-draw; low = low }) group cs
-    (record { marks = start; vec = rawVector plan d; book = blank; lines = []; posts = λ i. newPost plan d (rows i) i })
-    (record {
-      sized = start-sized;
-      posts = λ i lo hi. start-stands plan d sound (shows .is-draw) (rawVector plan d) (rows i) i lo hi;
-      facts = start-facts plan d sound (shows .is-draw) _ _ (rawVector plan d);
-      openings = λ r j xs o a. absurd a;
-      maskings = λ r j xs o a. absurd a;
-    })
-    (subst SameAnswers (sym shown) same) (subst (λ (x : List Entry). Rules plan cs x []) (sym shown) rules))
+    (never (fresh plan d u rows sound (shows .is-draw) low group) group cs _ (begun plan d u rows sound (shows .is-draw) low group)
+    (subst SameAnswers (sym shown) same)
+    (subst (λ (x : List Entry). Rules plan cs x lines) (sym shown) (subst (Rules plan cs (R .entries)) (sym deals) rules)))

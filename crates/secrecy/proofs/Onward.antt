@@ -6,9 +6,10 @@ use mathlib.Core.Logic.{_⊎_, inl, inr}
 use mathlib.Core.List.{List, [], _∷_, _++_, map, append-nil}
 use native.Mathlib.Omega.{arith}
 use Rattle.poly.specs.Counting.{All}
-use Rattle.poly.proofs.Lists.{all-map}
 use Rattle.shape.specs.Marks.{held}
 use Rattle.vectors.specs.Vector.{Vector}
+use Rattle.forms.specs.Lines as Line
+use Rattle.forms.specs.Lines.{text}
 use Rattle.runs.specs.Outline.{Sending, itsOpening, itsMasks, acts, sends}
 use Rattle.runs.specs.Calls.{Post, Call, perform, after, broadcast, openingLine, masksLine, Among}
 use Rattle.runs.proofs.Outlines.{every-all}
@@ -26,7 +27,9 @@ use Rattle.runs.proofs.Start.{sizes}
 use Rattle.secrecy.proofs.Broadcasts.{among-append, among-posts, among-heard, allowed-at, MessageIn, new-opening}
 use Rattle.secrecy.proofs.Advance.{advance}
 use Rattle.secrecy.proofs.Pair.{Two, runOne, runTwo, Moments, momentOne, momentTwo, Pair, Fit}
-use Rattle.secrecy.proofs.Together.{posts-same, refused-two, lines-two, group-two, core-after}
+use Rattle.secrecy.proofs.OneCall.{posts-same, refused-two, lines-two, group-two}
+use Rattle.secrecy.proofs.Together.{core-after}
+use Rattle.secrecy.proofs.Sessions.{session-idle, session-live}
 
 -- ---- refused: nothing is broadcast, and the posts are as they were
 
@@ -77,6 +80,7 @@ module _ (C : Run) (m : Moment) (c : Step) (k : ℕ)
         posts = λ i lo hi.
             stands-refused (standAt C m S i lo hi) (callAt plan draw u lines i c) k (z i lo hi);
         facts = S .facts;
+        dealings = λ r x lr lx a. S .dealings r x lr lx (subst (Among (text (Line.deal r x))) as-before a);
         openings = λ r j xs o a. S .openings r j xs o (subst (Among (openingLine r j xs)) as-before a);
         maskings = λ r j xs o a. S .maskings r j xs o (subst (Among (masksLine r j xs)) as-before a);
       }
@@ -132,7 +136,8 @@ module _ (T : Two) (m : Moments) (R : Pair T m) where
         two = shared M vec' b' _ _ _ (lines-two T m R c (suc k) z rule agree none)
             (idle-state (runTwo T) (momentTwo m) c k (refused-two T m R c (suc k) z rule agree none) (R .two));
         near = R .near;
-        group-same = all-map (λ i e. ap after e) (T .group) (group-two T m R c (suc k) z rule agree none);
+        sessions = λ i lo hi. session-idle T m R c i lo hi k (z i lo hi) (refused-two T m R c (suc k) z rule agree none i lo hi);
+        group-same = group-two T m R c (suc k) z rule agree none;
         agreed = λ r j xs o a. R .agreed r j xs o (subst (Among (openingLine r j xs)) (as-before (runOne T) (momentOne m) c k z) a);
         waiting = R .waiting;
       }
@@ -175,7 +180,8 @@ module _ (T : Two) (m : Moments) (R : Pair T m) where
         two = shared _ _ _ _ _ _ (lines-two T m R c 0 z rule agree (λ e. fit))
             (advance (runTwo T) (momentTwo m) (R .two) c rule (z' c z rule agree fit));
         near = core-after T m R c (al c z rule agree fit) rule fit .near;
-        group-same = all-map (λ i e. ap after e) (T .group) (group-two T m R c 0 z rule agree (λ e. fit));
+        sessions = λ i lo hi. session-live T m R c i lo hi (z i lo hi) (z' c z rule agree fit i lo hi) (al c z rule agree fit) rule fit;
+        group-same = group-two T m R c 0 z rule agree (λ e. fit);
         agreed = λ r j xs o a. by-line r j xs o (among-append (openingLine r j xs) lines (linesOf (T .plan) (T .d) (T .u) lines c q) a);
         waiting = core-after T m R c (al c z rule agree fit) rule fit .waiting;
       }

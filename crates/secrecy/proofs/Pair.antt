@@ -46,6 +46,7 @@ apart x x' = element x' ⊕ neg (element x)
 pub record Two : Type 0 where
   pub plan : Plan
   pub group : List ℕ
+  pub members : All (λ i. (1 ≤ i) × (i ≤ plan .n)) group
   pub sound : Sound plan
   pub len : ℕ → ℕ
   pub d : Draw
@@ -89,6 +90,7 @@ module _ (T : Two) where
     pub two : State (runTwo T) (momentTwo m)
     pub near : (r : ℕ) → r < rowCount → markOf (m .marks) r ≢ empty
         → Near (planShape (T .plan)) (pointOf (T .d)) (T .K) (m .vec r) (m .vec' r)
+    pub sessions : (i : ℕ) → 1 ≤ i → i ≤ T .plan .n → m .posts i .session ≡ m .posts' i .session
     pub group-same : All (λ i. m .posts i ≡ m .posts' i) (T .group)
     pub agreed : (r j : ℕ) (xs : List ℕ) → AnOpening (runOne T) r j xs → Among (openingLine r j xs) (m .lines)
         → m .book .place r ≡ m .book' .place r

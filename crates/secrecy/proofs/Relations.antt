@@ -1,9 +1,10 @@
 -- One post in two runs, whose rows differ by multiples of the kernel: a relation's two calls get the same refusals.
-use Prim.Native.Nat.{ℕ, zero, suc, _+_, _<_}
+use Prim.Native.Nat.{ℕ, suc, _+_, _<_}
 use mathlib.Core.Path.{_≡_, refl, sym, _∙_, ap, ap₂, subst}
 use mathlib.Core.Bool.{Bool, true, false}
 use mathlib.Core.List.{List, [], _∷_, _++_, append-assoc}
 use native.Mathlib.Omega.{arith}
+use lib.ListN.{length}
 use Rattle.poly.specs.Counting.{All}
 use Rattle.poly.proofs.Lists.{all-map, all-zip}
 use Rattle.shape.specs.Bounds.{rowCount}
@@ -21,7 +22,7 @@ use Rattle.terms.specs.Listed.{plain, productsOf, collected, termsOf, factorsOf
 use Rattle.terms.proofs.Placing.{terms-again, factors-again}
 use Rattle.relation.specs.Tests.{eachAt, each, byKind, placeTests}
 use Rattle.relation.specs.Masks.{masksSizes, masksMarks, maskNumberTests, relationMasksRefusal}
-use Rattle.relation.specs.Finish.{recordA, recordB, termMaskA, termMaskB, finishSizes, finishPlaces, finishMarks, termNumberTests, recordPair, recordTests, finishNumbers, fewTests, offTests, openTests, relationFinishRefusal}
+use Rattle.relation.specs.Finish.{recordA, recordB, termMaskA, termMaskB, finishSizes, finishPlaces, finishMarks, termNumberTests, recordTests, finishNumbers, fewTests, offTests, openTests, relationFinishRefusal}
 use Rattle.relation.proofs.Passed.{products-back, relation-masks-placed, RelationFinishPlaced, relation-finish-placed}
 use Rattle.vectors.specs.Vector.{number}
 use Rattle.runs.proofs.Marks.{markOf, rememberedA, rememberedB, sessionAt, less, maskVectorA, maskVectorB}
@@ -35,22 +36,13 @@ each-same f g k [] a = refl
 each-same f g k (t ∷ ts) a = ap₂ _++_ (a .0 k) (each-same f g (suc k) ts (a .1))
 
 module _ (T : Twin) where
-  open Twin T using (plan, draw as d, K, marks as M, vec, vec', post as i, rows as l, rows' as l', opened as Y, opened' as Y')
+  open Twin T using (plan, draw as d, K, marks as M, vec, vec', post as i, rows as l, rows' as l', opened as Y)
 
   abbrev s : Session
   s = sessionAt plan d i M Y
 
-  abbrev s' : Session
-  s' = sessionAt plan d i M Y'
-
   abbrev W : ℕ
   W = wide plan
-
-  -- no test of a record looks at the numbers that a session remembers
-  records-any : (blocks : List ℕ) (k m : ℕ) → recordTests s blocks k m ≡ recordTests s' blocks k m
-  unfolding recordTests
-  records-any blocks k zero = refl
-  records-any blocks k (suc m) = ap (λ (ts : List Test). recordPair s blocks k ++ ts) (records-any blocks (suc k) m)
 
   -- ---- masks
 
@@ -62,9 +54,10 @@ module _ (T : Twin) where
       let e = numbers-same T (t .row) (t .second) (t .first) (f is) in
       λ j. 8 when beyond (t .coefficient) ∷ factorTests (e .a-same j) (e .b-same j) (e .first-same j) (e .second-same j)
 
-  pub relation-masks-same : (ts : List Term) (lent : List ℕ) → relationMasksRefusal s l (collected ts) lent ≡ relationMasksRefusal s' l' (collected ts) lent
+  pub relation-masks-same : (ts : List Term) (lent lent' : List ℕ) → length lent ≡ length lent'
+      → relationMasksRefusal s l (collected ts) lent ≡ relationMasksRefusal s l' (collected ts) lent'
   unfolding relationMasksRefusal
-  relation-masks-same ts lent =
+  relation-masks-same ts lent lent' e =
       let all = collected ts in
       behind T (masksSizes s all lent) (each placeTests (termsOf all) ++ (masksMarks s all ++ late l)) (each placeTests (termsOf all) ++ (masksMarks s all ++ late l')) (λ fr sizes.
       same-after (each placeTests (termsOf all)) (masksMarks s all ++ late l) (masksMarks s all ++ late l') (λ place.
@@ -74,6 +67,7 @@ module _ (T : Twin) where
       (each-same (λ k. maskNumberTests W l) (λ k. maskNumberTests W l') 0 (termsOf all)
       (subst (All (λ t. (k : ℕ) → maskNumberTests W l t ≡ maskNumberTests W l' t)) (sym (terms-again ts (k .few)))
       (all-map (λ t f k. mask-tests t (plain t) refl f) ts (products-back _ ts (k .factors))))))))
+      ∙ rw e
     where
       late : List ℕ → List Test
       late rows = each (maskNumberTests W rows) (termsOf (collected ts))
@@ -107,16 +101,16 @@ module _ (T : Twin) where
       )
 
   pub relation-finish-same : (ts : List Term) (d : ℕ) (blocks : List ℕ) → OneNumber
-      → relationFinishRefusal s l (collected ts) d blocks ≡ relationFinishRefusal s' l' (collected ts) d blocks
+      → relationFinishRefusal s l (collected ts) d blocks ≡ relationFinishRefusal s l' (collected ts) d blocks
   unfolding relationFinishRefusal
   relation-finish-same ts d blocks eq =
       behind T (finishSizes s all blocks) ((finishPlaces all d ++ (finishMarks s all d ++ finishNumbers s l all blocks)) ++ walks l)
-      ((finishPlaces all d ++ (finishMarks s all d ++ finishNumbers s' l' all blocks)) ++ walks l') (λ fr sizes.
-      ap first (joined s l)
-      ∙ same-after (finishPlaces all d) (finishMarks s all d ++ (finishNumbers s l all blocks ++ walks l)) (finishMarks s all d ++ (finishNumbers s' l' all blocks ++ walks l')) (λ places.
-      same-after (finishMarks s all d) (finishNumbers s l all blocks ++ walks l) (finishNumbers s' l' all blocks ++ walks l') (λ marks.
+      ((finishPlaces all d ++ (finishMarks s all d ++ finishNumbers s l' all blocks)) ++ walks l') (λ fr sizes.
+      ap first (joined l)
+      ∙ same-after (finishPlaces all d) (finishMarks s all d ++ (finishNumbers s l all blocks ++ walks l)) (finishMarks s all d ++ (finishNumbers s l' all blocks ++ walks l')) (λ places.
+      same-after (finishMarks s all d) (finishNumbers s l all blocks ++ walks l) (finishNumbers s l' all blocks ++ walks l') (λ marks.
       ap first (late (relation-finish-placed s ts d blocks sizes places marks))))
-      ∙ sym (ap first (joined s' l')))
+      ∙ sym (ap first (joined l')))
     where
       all : Terms
       all = collected ts
@@ -124,25 +118,24 @@ module _ (T : Twin) where
       walks : List ℕ → List Test
       walks rows = openTests s rows blocks 0 (factorsOf (collected ts))
 
-      joined : (x : Session) (rows : List ℕ)
-          → (finishPlaces (collected ts) d ++ (finishMarks s (collected ts) d ++ finishNumbers x rows (collected ts) blocks)) ++ openTests s rows blocks 0 (factorsOf (collected ts))
-          ≡ finishPlaces (collected ts) d ++ (finishMarks s (collected ts) d ++ (finishNumbers x rows (collected ts) blocks ++ openTests s rows blocks 0 (factorsOf (collected ts))))
-      joined x rows =
-          append-assoc (finishPlaces (collected ts) d) (finishMarks s (collected ts) d ++ finishNumbers x rows (collected ts) blocks) _
-          ∙ ap (λ (x : List Test). finishPlaces (collected ts) d ++ x) (append-assoc (finishMarks s (collected ts) d) (finishNumbers x rows (collected ts) blocks) _)
+      joined : (rows : List ℕ)
+          → (finishPlaces (collected ts) d ++ (finishMarks s (collected ts) d ++ finishNumbers s rows (collected ts) blocks)) ++ openTests s rows blocks 0 (factorsOf (collected ts))
+          ≡ finishPlaces (collected ts) d ++ (finishMarks s (collected ts) d ++ (finishNumbers s rows (collected ts) blocks ++ openTests s rows blocks 0 (factorsOf (collected ts))))
+      joined rows =
+          append-assoc (finishPlaces (collected ts) d) (finishMarks s (collected ts) d ++ finishNumbers s rows (collected ts) blocks) _
+          ∙ ap (λ (x : List Test). finishPlaces (collected ts) d ++ x) (append-assoc (finishMarks s (collected ts) d) (finishNumbers s rows (collected ts) blocks) _)
 
       late : RelationFinishPlaced s ts d blocks
           → finishNumbers s l (collected ts) blocks ++ openTests s l blocks 0 (factorsOf (collected ts))
-          ≡ finishNumbers s' l' (collected ts) blocks ++ openTests s l' blocks 0 (factorsOf (collected ts))
+          ≡ finishNumbers s l' (collected ts) blocks ++ openTests s l' blocks 0 (factorsOf (collected ts))
       late k =
           let same = all-zip (λ t f e. masks-one eq t f e) (productsOf ts) (k .factors) (k .remembered) in
           let is = sym (factors-again ts (k .few)) in
           ap₂ _++_
-          (ap₂ _++_
+          (ap (λ (x : List Test). x ++ recordTests s blocks 0 (collected ts .products))
           (each-same (λ k. termNumberTests W l) (λ k. termNumberTests W l') 0 (termsOf (collected ts))
           (subst (All (λ t. (k : ℕ) → termNumberTests W l t ≡ termNumberTests W l' t)) (sym (terms-again ts (k .few)))
-          (all-zip (λ t h f k. term-tests t (plain t) refl (elements-same T (t .row) (h .0) (h .1)) f) ts (k .terms-held) (products-back _ ts (k .factors)))))
-          (records-any blocks 0 (collected ts .products)))
+          (all-zip (λ t h f k. term-tests t (plain t) refl (elements-same T (t .row) (h .0) (h .1)) f) ts (k .terms-held) (products-back _ ts (k .factors))))))
           (ap₂ _++_
           (each-same (fewTests s l blocks) (fewTests s l' blocks) 0 (factorsOf (collected ts))
           (subst (All (λ t. (k : ℕ) → fewTests s l blocks k t ≡ fewTests s l' blocks k t)) is

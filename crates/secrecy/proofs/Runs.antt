@@ -32,7 +32,7 @@ use Rattle.runs.proofs.Start.{sizes}
 use Rattle.secrecy.proofs.Broadcasts.{allowed-at}
 use Rattle.secrecy.proofs.Pair.{Two, runOne, Moments, momentOne, Pair, FitBy, FitAll, Fit}
 use Rattle.secrecy.proofs.Reckoned.{factorsApart, reckonedBy, reckonedAll, reckonedHere, reckoned}
-use Rattle.secrecy.proofs.Together.{posts-same, same-at, lines-two, group-two}
+use Rattle.secrecy.proofs.OneCall.{posts-same, same-at, lines-two, group-two}
 use Rattle.secrecy.proofs.Onward.{idle, live}
 
 -- ---- "the same answers": each post's refusal is the first post's
@@ -55,9 +55,9 @@ same-refusal f (suc n) a i lo hi = go (ℕ-discrete i 1)
     go (yes e) = ap f e
     go (no ne) = each-is f (f 1) 2 n a i (omega arith) (omega arith)
 
-rows-all : (f g : ℕ → Performed) (l : List ℕ) → All (λ i. f i ≡ g i) l → map (λ i. f i .rows) l ≡ map (λ i. g i .rows) l
+rows-all : (f g : ℕ → Performed) (l : List ℕ) → All (λ i. after (f i) ≡ after (g i)) l → map (λ i. f i .rows) l ≡ map (λ i. g i .rows) l
 rows-all f g [] a = refl
-rows-all f g (i ∷ l) a = ap₂ _∷_ (ap (λ (o : Performed). o .rows) (a .0)) (rows-all f g l (a .1))
+rows-all f g (i ∷ l) a = ap₂ _∷_ (ap (λ (o : Post). o .rows) (a .0)) (rows-all f g l (a .1))
 
 module _ (T : Two) where
   abbrev c1 : List (List ℕ) → ℕ → Step → Call

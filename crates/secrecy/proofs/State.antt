@@ -20,6 +20,8 @@ use Rattle.refusal.specs.Refusal.{first}
 use Rattle.factory.specs.Calls.{dealerNumber}
 use Rattle.vectors.specs.Vector.{Vector, raised, number, numbers, vectorOf}
 use Rattle.vectors.proofs.Linear.{length-numbers}
+use Rattle.forms.specs.Lines as Line
+use Rattle.forms.specs.Lines.{text}
 use Rattle.runs.specs.Draws.{Plan, planShape, Draw, IsDraw, Sound, IsRaw, Raw, by, whenRaw, rawDraw, rawPack, triplePack}
 use Rattle.runs.specs.Outline.{Act, loads, loadsTriple, deals, opens, Summand, once, times, fee, sums, factors, collects, multiplies, Taking, nothingTaken, aRowPack, aTriplePack, aNumber, aRecord, twoRecords, takes, Given, Move, moves, actsIn, acts, sends}
 use Rattle.runs.specs.Calls.{Post, Actual, openingLine, masksLine, Among}
@@ -35,8 +37,8 @@ use Rattle.runs.proofs.Facts as Facts
 use Rattle.runs.proofs.Facts.{HeldIn, AllowedBy, AllowedAll, ReadyFor, Allowed, Facts, Meant}
 use Rattle.runs.proofs.Rows.{sized-by}
 use Rattle.runs.proofs.Kept.{facts-by}
-use Rattle.secrecy.specs.Steps.{Secrets, Fixed, Step, Pack, Number, own, sent, filling, callAt, dealtNumber}
-use Rattle.secrecy.specs.Rules.{RuleWith, Rule}
+use Rattle.secrecy.specs.Steps.{Secrets, Fixed, Step, PackAt, Number, sent, packed, dealtWith, filling, callAt, dealtNumber}
+use Rattle.secrecy.specs.Rules.{FromDealer, RuleWith, Rule}
 use Rattle.secrecy.specs.Book.{Book, enteredBy, enteredAll, entered}
 use Rattle.secrecy.proofs.Moves.{numberAt, vectorsThen}
 use Rattle.secrecy.proofs.Entered.{Numbered, total-number, Past, place-by, notes-by, place-all}
@@ -83,10 +85,15 @@ module _ (C : Run) where
   abbrev pub maskNumbers : Marks → (ℕ → Vector) → ℕ → ℕ → List ℕ
   maskNumbers M vec r j = numbers (vLength (planShape (C .plan))) (maskVectorA M vec r .v j) ++ numbers (vLength (planShape (C .plan))) (maskVectorB M vec r .v j)
 
+  -- a D line among the lines shows the dealer's number
+  abbrev pub Dealt : List (List ℕ) → Type 0
+  Dealt lines = (r x : ℕ) → r < rowCount → x < p → Among (text (Line.deal r x)) lines → x ≡ dealtNumber (C .plan) (C .draw) (C .u) r
+
   pub record State (m : Moment) : Type 0 where
     pub sized : Sized (m .marks)
     pub posts : (i : ℕ) → 1 ≤ i → i ≤ C .plan .n → Stands (C .plan) (C .draw) (C .len i) i (m .marks) (m .vec) (m .posts i)
     pub facts : Facts (C .plan) (C .draw) (Held (m .book)) (Waits (m .book)) (m .marks) (m .vec)
+    pub dealings : Dealt (m .lines)
     pub openings : (r j : ℕ) (xs : List ℕ) → AnOpening r j xs → Among (openingLine r j xs) (m .lines)
         → (markOf (m .marks) r ≡ held) × (xs ≡ numbers (vLength (planShape (C .plan))) (m .vec r .v j))
     pub maskings : (r j : ℕ) (xs : List ℕ) → AMask r j xs → Among (masksLine r j xs) (m .lines)
@@ -109,7 +116,12 @@ module _ (C : Run) where
 
   -- ---- one act after the other: what the marks say of vectors and book
 
-  module _ (lines : List (List ℕ)) where
+  module _ (lines : List (List ℕ)) (ds : Dealt lines) where
+    -- a deal by the rules is with the dealer's number
+    from-dealer : (r : ℕ) → r < rowCount → (c : Number) → FromDealer lines r c → dealtWith c (dealtNumber plan draw u) ≡ dealtNumber plan draw u r
+    from-dealer r lr (sent k) e = ap (dealtNumber plan draw u) e
+    from-dealer r lr (Number.fixed x) o = ds r x lr (o .0) (o .1)
+
     module _ (M : Marks) (vec : ℕ → Vector) (b : Book) (f : Facts plan draw (Held b) (Waits b) M vec) where
       dealt-is : (r : ℕ) → r < rowCount → markOf M r ≡ raw → number (raised (element (dealtNumber plan draw u r)) (vec r)) ≡ element (u r)
       unfolding dealtNumber
@@ -145,12 +157,11 @@ module _ (C : Run) where
 
       meant : (a : Act) (x : Given Fixed (takes a)) → AllowedBy a M → RuleWith plan 0 lines (takes a) x
           → Meant plan draw (Held (enteredBy u a b)) (Waits (enteredBy u a b)) a (numberAt plan draw u (takes a) x) M vec
-      meant (loads r) (own x) al rule = rule refl .1
-      meant (loads r) (Pack.fixed x) al rule = absurd (rule refl)
-      meant (loadsTriple r) (own x) al rule = rule refl .1
-      meant (loadsTriple r) (Pack.fixed x) al rule = absurd (rule refl)
-      meant (deals r) sent al rule = dealt-is r (al .0 .0) (al .0 .1) ∙ ap element (sym (at-same (b .place) r (u r)))
-      meant (deals r) (Number.fixed x) al rule = absurd (rule refl)
+      meant (loads r) x al rule = rule refl .0
+      meant (loadsTriple r) x al rule = rule refl .0
+      meant (deals r) c al rule =
+          ap (λ (x : ℕ). number (raised (element x) (vec r))) (from-dealer r (al .0 .0) c (rule refl))
+          ∙ dealt-is r (al .0 .0) (al .0 .1) ∙ ap element (sym (at-same (b .place) r (u r)))
       meant (opens r) blocks al rule = tt
       meant (sums r t ts) x al rule =
           total-number vec (b .place) t ts (number-of t (al .0 .held .0)) (all-map number-of ts (al .0 .held .1))
@@ -197,10 +208,8 @@ module _ (C : Run) where
 
       fits-with : (t : Taking) (x : Given Fixed t) → ReadyFor M t → RuleWith plan 0 lines t x → FitsWith plan draw i M vec t (put t x)
       fits-with nothingTaken x al rule = tt
-      fits-with (aRowPack r) (own x) al rule = let o = rule refl in (o .1, ap (rawPack plan draw i) (o .0))
-      fits-with (aRowPack r) (Pack.fixed x) al rule = absurd (rule refl)
-      fits-with (aTriplePack r) (own x) al rule = let o = rule refl in (o .1, ap (triplePack plan draw i) (o .0))
-      fits-with (aTriplePack r) (Pack.fixed x) al rule = absurd (rule refl)
+      fits-with (aRowPack r) x al rule = let o = rule refl in (o .0, ap (λ (y : PackAt). packed y draw u (rawPack plan draw i)) (o .1 i lo hi))
+      fits-with (aTriplePack r) x al rule = let o = rule refl in (o .0, ap (λ (y : PackAt). packed y draw u (triplePack plan draw i)) (o .1 i lo hi))
       fits-with (aNumber r) x al rule = tt
       fits-with (aRecord r) x al rule = tt
       fits-with (twoRecords r) x al rule = (
@@ -234,7 +243,7 @@ module _ (C : Run) where
 
     pub facts-on : (c : Step) → Allowed (acts c) (sends c) M → Rule plan c 0 lines
         → Facts plan draw (Held (entered u c b)) (Waits (entered u c b)) (marksAll (acts c) M) (vectorsThen plan draw u c M vec)
-    facts-on c al rule = facts-all lines (moves c) M vec b (S .sized) (al .moving) (every-all _ (moves c) rule) (S .facts)
+    facts-on c al rule = facts-all lines (S .dealings) (moves c) M vec b (S .sized) (al .moving) (every-all _ (moves c) rule) (S .facts)
 
     -- a held row's place stays
     pub place-stays : (c : Step) → Allowed (acts c) (sends c) M → (x : ℕ) → markOf M x ≡ held → entered u c b .place x ≡ b .place x

@@ -1,11 +1,11 @@
--- One call of the list in both runs, not refused at any post: the two runs stay side by side.
-use Prim.Native.Nat.{ℕ, zero, suc, _+_, _≤_, _<_}
+-- Marks, vectors and books in the two runs: they stay side by side, one act after the other.
+use Prim.Native.Nat.{ℕ, _+_, _≤_, _<_}
 use mathlib.Core.Path.{_≡_, refl, sym, _∙_, ap, ap₂, subst}
-use mathlib.Core.Bool.{cond}
 use mathlib.Core.Logic.{_≢_, inl, inr}
-use mathlib.Core.List.{List, [], _∷_, map}
+use mathlib.Core.List.{List, [], _∷_}
 use native.Mathlib.Decide.{ℕ-discrete}
 use native.Mathlib.Omega.{arith}
+use lib.ListN.{set}
 use lib.Seq.{getD-set-other}
 use Rattle.field.specs.Arithmetic.{product}
 use Rattle.field.specs.Element.{Element, element}
@@ -13,90 +13,25 @@ use Rattle.poly.specs.Counting.{All}
 use Rattle.poly.proofs.Lists.{all-map}
 use Rattle.shape.specs.Bounds.{rowCount, lastTriple}
 use Rattle.shape.specs.Marks.{empty, raw, held, unused, further, masked, spent, collected}
-use Rattle.parts.specs.Draw.{eachFrom}
 use Rattle.vectors.specs.Vector.{Vector, raised, number}
-use Rattle.runs.specs.Draws.{pointOf, rawPack, triplePack, planShape}
-use Rattle.runs.specs.Outline.{Act, loads, loadsTriple, deals, opens, Summand, once, times, fee, sums, factors, collects, multiplies, takes, Given, Move, moves, actsIn, acts, sends, filled}
-use Rattle.runs.specs.Calls.{Call, perform, at}
+use Rattle.runs.specs.Draws.{pointOf, planShape}
+use Rattle.runs.specs.Outline.{Act, loads, loadsTriple, deals, opens, Summand, once, times, fee, sums, factors, collects, multiplies, takes, Given, Move, moves, actsIn, acts, sends}
+use Rattle.runs.specs.Calls.{at}
 use Rattle.runs.proofs.Outlines.{every-all}
-use Rattle.runs.proofs.Marks.{Marks, markOf, remarked, finished, maskVectorA, maskVectorB, zeroVector, worthVector, totalVector, productSum, written, Masking, none, of, masking, marksBy, vectorsBy, marksAll, vectorsAll, at-same, at-other}
-use Rattle.runs.proofs.Outcomes.{refusalOf, refusal-is}
+use Rattle.runs.proofs.Marks.{Marks, Opened, openedBy, openedAll, markOf, remarked, finished, maskVectorA, maskVectorB, zeroVector, worthVector, totalVector, productSum, written, Masking, none, of, masking, marksBy, vectorsBy, marksAll, vectorsAll, at-same, at-other}
 use Rattle.runs.proofs.Facts.{HeldIn, AllowedBy, AllowedAll, Allowed, MasksBy, Tripled}
 use Rattle.runs.proofs.Rows.{sized-by, five-by, nonzero}
-use Rattle.secrecy.specs.Steps.{Fixed, Step, Pack, Number, own, sent, packed, callAt, heardFrom, dealtNumber}
-use Rattle.secrecy.specs.Seen.{posts, joined, linesOf}
+use Rattle.secrecy.specs.Steps.{Fixed, Step, dealtWith, dealtNumber}
 use Rattle.secrecy.specs.Rules.{RuleWith, Rule}
-use Rattle.secrecy.specs.Book.{Book, Agrees, enteredBy, enteredAll, entered}
-use Rattle.secrecy.proofs.Moves.{numberAt, vectorsThen}
+use Rattle.secrecy.specs.Book.{Book, enteredBy, enteredAll, entered}
+use Rattle.secrecy.proofs.Moves.{numberAt, vectorsThen, openedThen}
 use Rattle.secrecy.proofs.Entered.{notedA, notedB, noted-is, notes-by}
-use Rattle.secrecy.proofs.State.{facts-step}
+use Rattle.secrecy.proofs.State.{Dealt, facts-step}
 use Rattle.secrecy.proofs.Near.{Near, near-self, near-plusTimes, near-raised}
 use Rattle.secrecy.proofs.Pair.{Two, runOne, runTwo, Moments, Pair, apart, Core, core, core-wait, FitBy, FitAll, Fit}
 use Rattle.secrecy.proofs.Answers.{number-same}
-use Rattle.secrecy.proofs.Alike.{Same, same-answers}
 
--- a map over the posts 1 to n
-each-same : {A : Type 0} (f g : ℕ → A) (j m : ℕ) → ((i : ℕ) → j ≤ i → i < j + m → f i ≡ g i) → map f (eachFrom j m (λ i. i)) ≡ map g (eachFrom j m (λ i. i))
-unfolding eachFrom
-each-same f g j zero h = refl
-each-same f g j (suc m) h = ap₂ _∷_ (h j (omega arith) (omega arith)) (each-same f g (suc j) m (λ i a c. h i (omega arith) (omega arith)))
-
-pub posts-same : {A : Type 0} (f g : ℕ → A) (n : ℕ) → ((i : ℕ) → 1 ≤ i → i ≤ n → f i ≡ g i) → map f (posts n) ≡ map g (posts n)
-unfolding posts
-posts-same f g n h = each-same f g 1 n (λ i a c. h i a (omega arith))
-
-module _ (T : Two) (m : Moments) (R : Pair T m) where
-  open Moments m using (marks as M, vec, vec', book as b, book' as b', lines, posts as q, posts' as q')
-
-  abbrev c1 : ℕ → Step → Call
-  c1 i c = callAt (T .plan) (T .d) (T .u) lines i c
-
-  abbrev c2 : ℕ → Step → Call
-  c2 i c = callAt (T .plan) (T .d') (T .u') lines i c
-
-  -- what every post answers to the call, with the refusal k
-  module _ (c : Step) (k : ℕ) (z : (i : ℕ) → 1 ≤ i → i ≤ T .plan .n → refusalOf (c1 i c) (q i) ≡ k)
-      (rule : Rule (T .plan) c k lines) (agree : Agrees c k b b') (fit : k ≡ 0 → Fit T m R c) where
-    pub same-at : (i : ℕ) (lo : 1 ≤ i) (hi : i ≤ T .plan .n) → Same T m R i lo hi (perform (c1 i c) (q i)) (perform (c2 i c) (q' i)) (c1 i c) (c2 i c)
-    same-at i lo hi =
-        same-answers T m R i lo hi c (subst (λ (m : ℕ). Rule (T .plan) c m lines) (sym (z i lo hi)) rule)
-        (subst (λ (m : ℕ). Agrees c m b b') (sym (z i lo hi)) agree) (λ e. fit (sym (z i lo hi) ∙ e))
-
-    pub refused-two : (i : ℕ) → 1 ≤ i → i ≤ T .plan .n → refusalOf (c2 i c) (q' i) ≡ k
-    refused-two i lo hi = sym (refusal-is (c2 i c) (q' i)) ∙ sym (same-at i lo hi .refusal) ∙ refusal-is (c1 i c) (q i) ∙ z i lo hi
-
-    pub lines-two : linesOf (T .plan) (T .d) (T .u) lines c q ≡ linesOf (T .plan) (T .d') (T .u') lines c q'
-    lines-two = ap joined (posts-same _ _ (T .plan .n) (λ i lo hi. ap (λ (l : List (List ℕ)). cond (heardFrom c i) l []) (same-at i lo hi .lines-same)))
-
-    -- a post of the group puts in the same, so it makes the same call
-    pack-same : (x : Pack) (packs packs' : ℕ → ℕ → List ℕ) (i : ℕ) → ((m : ℕ) → packs i m ≡ packs' i m) → packed x packs i ≡ packed x packs' i
-    pack-same (own m) packs packs' i e = e m
-    pack-same (Pack.fixed xs) packs packs' i e = refl
-
-    calls-same : (i : ℕ) (x : Step) → ((m : ℕ) → rawPack (T .plan) (T .d) i m ≡ rawPack (T .plan) (T .d') i m)
-        → ((m : ℕ) → triplePack (T .plan) (T .d) i m ≡ triplePack (T .plan) (T .d') i m) → c1 i x ≡ c2 i x
-    calls-same i x e f = λ j. filled (record {
-      row = λ pack. pack-same pack (rawPack (T .plan) (T .d)) (rawPack (T .plan) (T .d')) i e j;
-      triple = λ pack. pack-same pack (triplePack (T .plan) (T .d)) (triplePack (T .plan) (T .d')) i f j;
-      number = λ r c. number-same T r c j;
-      blocks = λ blocks. blocks i lines;
-      lent = λ lent. lent i;
-      heard = λ heard. tt;
-      parts = λ m k blocks. refl;
-    }) x
-
-    pub group-two : All (λ i. perform (c1 i c) (q i) ≡ perform (c2 i c) (q' i)) (T .group)
-    group-two = go (T .group) (T .link .raw-group) (T .link .triple-group) (R .group-same)
-      where
-        go : (g : List ℕ) → All (λ i. (m : ℕ) → rawPack (T .plan) (T .d) i m ≡ rawPack (T .plan) (T .d') i m) g
-            → All (λ i. (m : ℕ) → triplePack (T .plan) (T .d) i m ≡ triplePack (T .plan) (T .d') i m) g → All (λ i. q i ≡ q' i) g
-            → All (λ i. perform (c1 i c) (q i) ≡ perform (c2 i c) (q' i)) g
-        go [] e f h = tt
-        go (i ∷ g) e f h = (ap₂ perform (calls-same i c (e .0) (f .0)) (h .0), go g (e .1) (f .1) (h .1))
-
--- ---- marks, vectors and books: one act after the other
-
-module _ (T : Two) (lines : List (List ℕ)) where
+module _ (T : Two) (lines : List (List ℕ)) (ds : Dealt (runOne T) lines) (ds' : Dealt (runTwo T) lines) where
   abbrev Nearly : Vector → Vector → Type 0
   Nearly = Near (planShape (T .plan)) (pointOf (T .d)) (T .K)
 
@@ -196,26 +131,35 @@ module _ (T : Two) (lines : List (List ℕ)) where
     v2 a x = vectorsBy (T .plan) (T .d') a (numberAt (T .plan) (T .d') (T .u') (takes a) x) M vec'
 
     near-by : (a : Act) (x : Given Fixed (takes a)) → AllowedBy a M → RuleWith (T .plan) 0 lines (takes a) x → AllNear (marksBy a M) (v1 a x) (v2 a x)
-    near-by (loads r) (own m) al rule = near-put M vec vec' (K .near) r raw _ _ (T .link .near-raw r (al .0 .0) (rule refl .1))
-    near-by (loads r) (Pack.fixed xs) al rule = absurd (rule refl)
-    near-by (loadsTriple r) (own m) al rule =
-        let t = rule refl .1 in
+    near-by (loads r) x al rule = near-put M vec vec' (K .near) r raw _ _ (T .link .near-raw r (al .0 .0) (rule refl .0))
+    near-by (loadsTriple r) x al rule =
+        let t = rule refl .0 in
         let lr : r < rowCount = omega (arith, al .0 .0) in
         near-put (remarked (remarked M r unused) (r + 1) further) _ _
         (near-put (remarked M r unused) _ _ (near-put M vec vec' (K .near) r unused _ _ (T .link .near-a r lr t)) (r + 1) further _ _ (T .link .near-b r lr t))
         (r + 2) further _ _ (T .link .near-ab r lr t)
-    near-by (loadsTriple r) (Pack.fixed xs) al rule = absurd (rule refl)
-    near-by (deals r) sent al rule =
+    near-by (deals r) c al rule =
         near-put M vec vec' (K .near) r held _ _
-        (subst (λ (c : ℕ). Near (planShape (T .plan)) (pointOf (T .d)) (T .K) (raised (element (dealtNumber (T .plan) (T .d) (T .u) r)) (vec r)) (raised (element c) (vec' r))) (T .link .deals r)
-        (near-raised (planShape (T .plan)) (pointOf (T .d)) (T .K) (dealtNumber (T .plan) (T .d) (T .u) r) (vec r) (vec' r) (K .near r (al .0 .0) (nonzero M r (al .0 .1)))))
-    near-by (deals r) (Number.fixed x) al rule = absurd (rule refl)
+        (subst (λ (x : ℕ). Near (planShape (T .plan)) (pointOf (T .d)) (T .K) (raised (element (dealtWith c (dealtNumber (T .plan) (T .d) (T .u)))) (vec r)) (raised (element x) (vec' r))) (number-same T c)
+        (near-raised (planShape (T .plan)) (pointOf (T .d)) (T .K) (dealtWith c (dealtNumber (T .plan) (T .d) (T .u))) (vec r) (vec' r) (K .near r (al .0 .0) (nonzero M r (al .0 .1)))))
     near-by (opens r) blocks al rule = K .near
     near-by (sums r t ts) x al rule =
         near-put M vec vec' (K .near) r held _ _ (near-total vec vec' t ts (near-of t (al .0 .held .0)) (all-map near-of ts (al .0 .held .1)))
     near-by (factors x y r) t al rule = near-mark M vec vec' (K .near) r masked (nonzero M r (al .1 .first))
     near-by (collects r) blocks al rule = near-mark M vec vec' (K .near) r collected (nonzero M r (al .0 .first))
     near-by (multiplies r) x al rule = near-finish r (al .0)
+
+    opened-by : (a : Act) → AllowedBy a M → (Y : Opened) → openedBy a M vec Y ≡ openedBy a M vec' Y
+    opened-by (loads r) al Y = refl
+    opened-by (loadsTriple r) al Y = refl
+    opened-by (deals r) al Y = refl
+    opened-by (opens r) al Y = refl
+    opened-by (sums r t ts) al Y = refl
+    opened-by (factors x y r) al Y = refl
+    opened-by (collects r) al Y =
+        let w = core-wait T M vec vec' b b' K r (inl (al .0 .first)) (omega (arith, al .0 .r-low)) in
+        ap₂ (λ (x y : Element). record { y-a = set (Y .y-a) r (x .0); y-b = set (Y .y-b) r (y .0) }) (w .0) (w .1)
+    opened-by (multiplies r) al Y = refl
 
     -- a triple whose masks the act makes: they are those that were reckoned with
     masked-now : (m : Masking) → FitBy T m b b' → (r : ℕ) → MasksBy m r
@@ -245,8 +189,8 @@ module _ (T : Two) (lines : List (List ℕ)) where
         → Core T (marksBy a M) (v1 a x) (v2 a x) (enteredBy (T .u) a b) (enteredBy (T .u') a b')
     core-by a x al rule fit = record {
       sized = sized-by a M (K .sized);
-      one = facts-step (runOne T) lines M vec b a x (K .sized) al rule (K .one);
-      two = facts-step (runTwo T) lines M vec' b' a x (K .sized) al rule (K .two);
+      one = facts-step (runOne T) lines ds M vec b a x (K .sized) al rule (K .one);
+      two = facts-step (runTwo T) lines ds' M vec' b' a x (K .sized) al rule (K .two);
       near = near-by a x al rule;
       waiting = λ r lr five. elim (five-by (T .plan) (T .d) a M (K .sized) al r lr five) [
         | inl k ↦ (
@@ -268,9 +212,27 @@ module _ (T : Two) (lines : List (List ℕ)) where
       core-all ms (marksBy (m .0) M) _ _ (enteredBy (T .u) (m .0) b) (enteredBy (T .u') (m .0) b')
       (core-by M vec vec' b b' K (m .0) (m .1) (al .0) (rule .0) (fit .0)) (al .1) (rule .1) (fit .1)
 
+  -- masks are opened to the same numbers
+  opened-all : (ms : List (Move Fixed)) (M : Marks) (vec vec' : ℕ → Vector) (b b' : Book) → Core T M vec vec' b b'
+      → AllowedAll (actsIn ms) M → All (λ m. RuleWith (T .plan) 0 lines (takes (m .0)) (m .1)) ms → FitAll T (actsIn ms) b b' → (Y : Opened)
+      → openedAll (T .plan) (T .d) (numberAt (T .plan) (T .d) (T .u)) ms M vec Y
+      ≡ openedAll (T .plan) (T .d') (numberAt (T .plan) (T .d') (T .u')) ms M vec' Y
+  opened-all [] M vec vec' b b' K al rule fit Y = refl
+  opened-all (m ∷ ms) M vec vec' b b' K al rule fit Y =
+      opened-all ms (marksBy (m .0) M) _ _ (enteredBy (T .u) (m .0) b) (enteredBy (T .u') (m .0) b')
+      (core-by M vec vec' b b' K (m .0) (m .1) (al .0) (rule .0) (fit .0)) (al .1) (rule .1) (fit .1) (openedBy (m .0) M vec Y)
+      ∙ ap (openedAll (T .plan) (T .d') (numberAt (T .plan) (T .d') (T .u')) ms (marksBy (m .0) M) (v2 M vec vec' b b' K (m .0) (m .1)))
+      (opened-by M vec vec' b b' K (m .0) (al .0) Y)
+
 pub core-after : (T : Two) (m : Moments) (R : Pair T m) (c : Step) → Allowed (acts c) (sends c) (m .marks) → Rule (T .plan) c 0 (m .lines)
     → Fit T m R c
     → Core T (marksAll (acts c) (m .marks)) (vectorsThen (T .plan) (T .d) (T .u) c (m .marks) (m .vec))
     (vectorsThen (T .plan) (T .d') (T .u') c (m .marks) (m .vec')) (entered (T .u) c (m .book)) (entered (T .u') c (m .book'))
 core-after T m R c al rule fit =
-    core-all T (m .lines) (moves c) (m .marks) (m .vec) (m .vec') (m .book) (m .book') (core T m R) (al .moving) (every-all _ (moves c) rule) fit
+    core-all T (m .lines) (R .one .dealings) (R .two .dealings) (moves c) (m .marks) (m .vec) (m .vec') (m .book) (m .book') (core T m R) (al .moving) (every-all _ (moves c) rule) fit
+
+pub opened-after : (T : Two) (m : Moments) (R : Pair T m) (c : Step) → Allowed (acts c) (sends c) (m .marks) → Rule (T .plan) c 0 (m .lines)
+    → Fit T m R c → (Y : Opened)
+    → openedThen (T .plan) (T .d) (T .u) c (m .marks) (m .vec) Y ≡ openedThen (T .plan) (T .d') (T .u') c (m .marks) (m .vec') Y
+opened-after T m R c al rule fit =
+    opened-all T (m .lines) (R .one .dealings) (R .two .dealings) (moves c) (m .marks) (m .vec) (m .vec') (m .book) (m .book') (core T m R) (al .moving) (every-all _ (moves c) rule) fit

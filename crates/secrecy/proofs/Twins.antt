@@ -8,13 +8,11 @@ use native.Mathlib.Omega.{arith}
 use lib.Dec.{eqb}
 use lib.ListN.{length, getD}
 use Rattle.field.specs.Modulus.{p}
-use Rattle.field.specs.Element.{Element}
 use Rattle.shape.specs.Bounds.{rowCount, lastRow}
 use Rattle.shape.specs.Marks.{empty, held, masked}
 use Rattle.refusal.specs.Refusal.{Test, _when_, first, AllFail}
 use Rattle.refusal.specs.Conditions.{beyond, anyBeyond}
 use Rattle.refusal.proofs.Laws.{not-refused}
-use Rattle.refusal.proofs.Elements.{element-test}
 use Rattle.session.specs.declared.Session.{Session}
 use Rattle.session.specs.Sessions.{sessionTests}
 use Rattle.session.specs.Rows.{rowAt, combined}
@@ -39,7 +37,6 @@ use Rattle.vectors.specs.Vector.{Vector, number}
 use Rattle.runs.specs.Draws.{Plan, Draw, pointOf, planShape}
 use Rattle.runs.proofs.Marks.{Marks, markOf, rememberedA, rememberedB, Opened, sessionAt, less, maskVectorA, maskVectorB}
 use Rattle.runs.proofs.Holds.{Holds, Holder, wide, row-low, held-row, combined-row}
-use Rattle.runs.proofs.Recalled.{Recalls}
 use Rattle.secrecy.proofs.Near.{Near, near-plusTimes, near-same}
 use Rattle.secrecy.proofs.Link.{Alike}
 
@@ -51,7 +48,7 @@ same-after [] ys zs h = h tt
 same-after (k when true ∷ xs) ys zs h = refl
 same-after (k when false ∷ xs) ys zs h = same-after xs ys zs (λ f. h (refl, f))
 
--- ---- one post in both runs, with the same marks
+-- ---- one post in both runs, with the same session
 
 pub record Twin : Type 0 where
   pub plan : Plan
@@ -70,9 +67,6 @@ pub record Twin : Type 0 where
   pub holds : Holds plan draw len post marks vec rows
   pub holds' : Holds plan draw len post marks vec' rows'
   pub opened : Opened
-  pub opened' : Opened
-  pub recalls : Recalls marks vec opened
-  pub recalls' : Recalls marks vec' opened'
 
 -- the 8 of a triple's rows and of its factors' is the same in both
 pub record LowSame (w : ℕ) (l l' : List ℕ) (a b r : ℕ) : Type 0 where
@@ -82,14 +76,10 @@ pub record LowSame (w : ℕ) (l l' : List ℕ) (a b r : ℕ) : Type 0 where
   pub second-same : anyBeyond (rowAt w l (r + 1)) ≡ anyBeyond (rowAt w l' (r + 1))
 
 module _ (T : Twin) where
-  open Twin T using (plan, draw as d, K, marks as M, vec, vec', near, post as i, low as lo, high as hi, len, rows as l, rows' as l', holds as h, holds' as h', opened as Y, opened' as Y', recalls, recalls')
+  open Twin T using (plan, draw as d, K, marks as M, vec, vec', near, post as i, low as lo, high as hi, len, rows as l, rows' as l', holds as h, holds' as h', opened as Y)
 
   abbrev s : Session
   s = sessionAt plan d i M Y
-
-  -- of the second run: no test but multiply's looks at the numbers that it remembers
-  abbrev s' : Session
-  s' = sessionAt plan d i M Y'
 
   abbrev W : ℕ
   W = wide plan
@@ -98,7 +88,7 @@ module _ (T : Twin) where
   one = record { plan = plan; draw = d; len = len; post = i; marks = M; opened = Y; vec = vec; rows = l; holds = h }
 
   abbrev two : Holder
-  two = record { plan = plan; draw = d; len = len; post = i; marks = M; opened = Y'; vec = vec'; rows = l'; holds = h' }
+  two = record { plan = plan; draw = d; len = len; post = i; marks = M; opened = Y; vec = vec'; rows = l'; holds = h' }
 
   frame-same : frameTests s l ≡ frameTests s l'
   frame-same = ap (λ (m : ℕ). sessionTests (plan .n) (plan .t) i (pointOf d i) ++ (5 when not (eqb m (rowCount * W)) ∷ [])) (h .long ∙ sym (h' .long))
@@ -135,7 +125,7 @@ module _ (T : Twin) where
       ap (λ (f : List Test). first (f ++ (P ++ Q))) frame-same
       ∙ same-after (frameTests s l') (P ++ Q) (P ++ Q') (λ fr. same-after P Q Q' (e fr))
 
-  pub load-same : (r : ℕ) (pack pack' : List ℕ) → Alike pack pack' → loadRowRefusal s l r pack ≡ loadRowRefusal s' l' r pack'
+  pub load-same : (r : ℕ) (pack pack' : List ℕ) → Alike pack pack' → loadRowRefusal s l r pack ≡ loadRowRefusal s l' r pack'
   unfolding loadRowRefusal
   load-same r pack pack' a =
       behind [] (own (length pack) (anyBeyond pack)) (own (length pack') (anyBeyond pack')) (λ fr f. ap₂ (λ (m : ℕ) (b : Bool). first (own m b)) (a .long) (a .low))
@@ -143,7 +133,7 @@ module _ (T : Twin) where
       own : ℕ → Bool → List Test
       own m b = 5 when not (eqb m W) ∷ 6 when noRow r ∷ 7 when wrongMark s r 0 ∷ 8 when b ∷ []
 
-  pub triple-same : (r : ℕ) (pack pack' : List ℕ) → Alike pack pack' → loadTripleRefusal s l r pack ≡ loadTripleRefusal s' l' r pack'
+  pub triple-same : (r : ℕ) (pack pack' : List ℕ) → Alike pack pack' → loadTripleRefusal s l r pack ≡ loadTripleRefusal s l' r pack'
   unfolding loadTripleRefusal
   triple-same r pack pack' a =
       behind [] (own (length pack) (anyBeyond pack)) (own (length pack') (anyBeyond pack')) (λ fr f. ap₂ (λ (m : ℕ) (b : Bool). first (own m b)) (a .long) (a .low))
@@ -152,19 +142,21 @@ module _ (T : Twin) where
       own m b =
           5 when not (eqb m (3 * W)) ∷ 6 when noTriple r ∷ 7 when wrongMark s r 0 ∷ 7 when wrongMark s (r + 1) 0 ∷ 7 when wrongMark s (r + 2) 0 ∷ 8 when b ∷ []
 
-  pub deal-same : (r c : ℕ) → dealRefusal s l r c ≡ dealRefusal s' l' r c
+  pub deal-same : (r c : ℕ) → dealRefusal s l r c ≡ dealRefusal s l' r c
   unfolding dealRefusal
   deal-same r c =
       behind (dealPlace s r c) (dealLate (anyBeyond (rowAt W l r))) (dealLate (anyBeyond (rowAt W l' r))) (λ fr f.
       let k = deal-placed s r c f in ap (λ (b : Bool). first (dealLate b)) (elements-same r (k .row-in) (k .is-raw)))
 
-  pub message-same : (r : ℕ) (lent : List ℕ) → messageRefusal s l r lent ≡ messageRefusal s' l' r lent
+  -- of a list to write into only the length is looked at
+  pub message-same : (r : ℕ) (lent lent' : List ℕ) → length lent ≡ length lent' → messageRefusal s l r lent ≡ messageRefusal s l' r lent'
   unfolding messageRefusal
-  message-same r lent =
+  message-same r lent lent' e =
       behind (messagePlace s r lent) (messageLate (anyBeyond (rowAt W l r))) (messageLate (anyBeyond (rowAt W l' r))) (λ fr f.
       let k = message-placed s r lent f in ap (λ (b : Bool). first (messageLate b)) (elements-same r (k .row-in) (k .is-held)))
+      ∙ rw e
 
-  pub linear-same : (r a b scale fee : ℕ) → linearRefusal s l r a b scale fee ≡ linearRefusal s' l' r a b scale fee
+  pub linear-same : (r a b scale fee : ℕ) → linearRefusal s l r a b scale fee ≡ linearRefusal s l' r a b scale fee
   unfolding linearRefusal
   linear-same r a b scale fee =
       behind (linearPlace s r a b scale fee) (linearLate (anyBeyond (rowAt W l a)) (anyBeyond (rowAt W l b)))
@@ -180,17 +172,18 @@ module _ (T : Twin) where
     second-same = elements-same (r + 1) (omega (arith, f .triple-in)) (f .second-mark);
   }
 
-  pub masks-same : (a b r : ℕ) (lent : List ℕ) → masksRefusal s l a b r lent ≡ masksRefusal s' l' a b r lent
+  pub masks-same : (a b r : ℕ) (lent lent' : List ℕ) → length lent ≡ length lent' → masksRefusal s l a b r lent ≡ masksRefusal s l' a b r lent'
   unfolding masksRefusal
-  masks-same a b r lent =
+  masks-same a b r lent lent' long =
       behind (masksEarly s a b r lent) (maskNumbers s l a b r) (maskNumbers s l' a b r) (λ fr f.
       let e = numbers-same a b r (masks-placed s a b r lent f .factors) in
       λ j. first (factorTests (e .a-same j) (e .b-same j) (e .first-same j) (e .second-same j)))
+      ∙ rw long
 
   -- the first call of a finish, whose masks have one number in both runs
   pub collect-same : (r : ℕ) (blocksA blocksB : List ℕ)
       → (markOf M r ≡ masked → r < rowCount → (number (maskVectorA M vec r) ≡ number (maskVectorA M vec' r)) × (number (maskVectorB M vec r) ≡ number (maskVectorB M vec' r)))
-      → collectRefusal s l r blocksA blocksB ≡ collectRefusal s' l' r blocksA blocksB
+      → collectRefusal s l r blocksA blocksB ≡ collectRefusal s l' r blocksA blocksB
   unfolding collectRefusal
   collect-same r blocksA blocksB eq =
       behind (collectEarly s r blocksA blocksB) (late l) (late l') (λ fr f.
@@ -207,31 +200,24 @@ module _ (T : Twin) where
       late : List ℕ → List Test
       late rows = collectNumbers s rows (rememberedA M r) (rememberedB M r) r blocksA blocksB ++ unopened s (Collect.maskA s rows r) (Collect.maskB s rows r) blocksA blocksB
 
-  -- the second: the numbers remembered are elements in both
-  pub multiply-same : (r : ℕ) → multiplyRefusal s l r ≡ multiplyRefusal s' l' r
+  -- the second
+  pub multiply-same : (r : ℕ) → multiplyRefusal s l r ≡ multiplyRefusal s l' r
   unfolding multiplyRefusal
   multiply-same r =
-      behind (multiplyEarly s r) (late Y l) (late Y' l') (λ fr f.
+      behind (multiplyEarly s r) (late l) (late l') (λ fr f.
       let k = multiply-placed s r f in
-      let w = recalls .each r (k .first-mark) in
-      let w' = recalls' .each r (k .first-mark) in
-      let a = low-same _ _ (number (maskVectorA M vec r)) (number (maskVectorA M vec' r)) (w .is-a) (w' .is-a) in
-      let b = low-same _ _ (number (maskVectorB M vec r)) (number (maskVectorB M vec' r)) (w .is-b) (w' .is-b) in
       let one = elements-same r (omega (arith, k .triple-in)) (k .first-mark) in
       let two = elements-same (r + 1) (omega (arith, k .triple-in)) (k .second-mark) in
       let three = elements-same (r + 2) (omega (arith, k .triple-in)) (k .third-mark) in
-      λ j. first (multiplyTests (a j) (b j) (one j) (two j) (three j)))
+      λ j. first (multiplyTests (beyond (getD (Y .y-a) r 0)) (beyond (getD (Y .y-b) r 0)) (one j) (two j) (three j)))
     where
-      late : Opened → List ℕ → List Test
-      late y rows = rememberedNumbers W rows r (getD (y .y-a) r 0) (getD (y .y-b) r 0)
-
-      low-same : (x x' : ℕ) (e e' : Element) → x ≡ e .0 → x' ≡ e' .0 → beyond x ≡ beyond x'
-      low-same x x' e e' h h' = element-test x (rw h (e .1)) ∙ sym (element-test x' (rw h' (e' .1)))
+      late : List ℕ → List Test
+      late rows = rememberedNumbers W rows r (getD (Y .y-a) r 0) (getD (Y .y-b) r 0)
 
   -- an opening, whose walk ends alike in both runs where it comes to it
   pub open-same : (r : ℕ) (blocks : List ℕ)
       → (OpenChecked s l r blocks → first (walkTests s (rowAt W l r) blocks) ≡ first (walkTests s (rowAt W l' r) blocks))
-      → openRefusal s l r blocks ≡ openRefusal s' l' r blocks
+      → openRefusal s l r blocks ≡ openRefusal s l' r blocks
   unfolding openRefusal
   open-same r blocks walk =
       behind (openPlace s r blocks) (late l) (late l') (λ fr f.

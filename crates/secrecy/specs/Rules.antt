@@ -1,19 +1,22 @@
 -- Document 01, "What a group of posts sees": "To keep the rules", and that all posts get the same answers. Both are properties
 -- of a record, whatever the draw.
-use Prim.Native.Nat.{ℕ, _+_, _≤_}
+use Prim.Native.Nat.{ℕ, _+_, _≤_, _<_}
 use mathlib.Core.Path.{_≡_}
 use mathlib.Core.Bool.{true}
 use mathlib.Core.Logic.{_≢_, _⊎_}
 use mathlib.Core.List.{List, [], _∷_, _++_}
 use lib.ListN.{take, drop, getD}
+use Rattle.field.specs.Modulus.{p}
 use Rattle.poly.specs.Counting.{All}
 use Rattle.shape.specs.Marks.{present}
 use Rattle.shape.specs.Lengths.{vLength}
 use Rattle.opening.specs.Walking.{blockMark, blockCoefficients}
+use Rattle.forms.specs.Lines as Line
+use Rattle.forms.specs.Lines.{text}
 use Rattle.runs.specs.Draws.{Plan, IsRaw, planShape}
 use Rattle.runs.specs.Outline.{Taking, nothingTaken, aRowPack, aTriplePack, aNumber, aRecord, twoRecords, takes, Given, moves, Every}
-use Rattle.runs.specs.Calls.{Told, ToldHalf}
-use Rattle.secrecy.specs.Steps.{Pack, Number, Fixed, Step, own, sent}
+use Rattle.runs.specs.Calls.{Among, Told, ToldHalf}
+use Rattle.secrecy.specs.Steps.{Pack, its, Number, sent, fixed, Fixed, Step}
 use Rattle.secrecy.specs.Seen.{Entry}
 
 -- The refusal of a call, at post 1; and "the same answers" at every post: of them only the refusals are asked for, since the
@@ -28,17 +31,17 @@ AllSame (x ∷ xs) = All (λ y. y ≡ x) xs
 abbrev pub SameAnswers : List Entry → Type 0
 SameAnswers es = All (λ e. AllSame (e .refusals)) es
 
--- "to load ... nothing but its own part of drawn rows and triples, each at most once, as drawn and into the rows it was drawn
--- for". Once, since a row that was loaded is never empty again.
-abbrev pub OwnPack : Pack → ℕ → Type 0 → Type 0
-OwnPack (own k) r Drawn = (k ≡ r) × Drawn
-OwnPack (Pack.fixed xs) r Drawn = ⊥
+-- "to load, where a load isn't refused, nothing but its own part of drawn rows and triples, each at most once, as drawn and into the
+-- rows it was drawn for", asked at every post. Once, since a row that was loaded is never empty again.
+abbrev pub OwnPack : Plan → Pack → ℕ → Type 0 → Type 0
+OwnPack plan pack r Drawn = Drawn × ((i : ℕ) → 1 ≤ i → i ≤ plan .n → pack i ≡ its r)
 
--- "to deal a row with the c its dealer broadcast": asked of deals that are not refused. "a row never drawn raw takes any fixed c":
--- by the rule for loads such a row never becomes raw, so its deal is refused, and nothing is asked of its c.
-abbrev pub FromDealer : Number → Type 0
-FromDealer sent = Unit {0}
-FromDealer (Number.fixed x) = ⊥
+-- "to deal a row with the c its dealer broadcast", asked of deals that are not refused: of row r the one that follows the draw, or an
+-- element c whose line `D,r,c` is among those broadcast. "a row never drawn raw takes any fixed c": by the rule for loads such a row
+-- never becomes raw, so its deal is refused, and nothing is asked of its c.
+abbrev pub FromDealer : List (List ℕ) → ℕ → Number → Type 0
+FromDealer lines r (sent k) = k ≡ r
+FromDealer lines r (fixed c) = (c < p) × Among (text (Line.deal r c)) lines
 
 -- "to put in records only what its sender broadcast for that row": each present block, but the post's own. `Shown j xs` says
 -- that post j broadcast xs.
@@ -54,9 +57,9 @@ Walks k = (k ≡ 0) ⊎ ((k ≡ 9) ⊎ (k ≡ 13))
 -- The rules for one call with the refusal k, after the lines broadcast before it: what it may be given.
 abbrev pub RuleWith : Plan → ℕ → List (List ℕ) → (t : Taking) → Given Fixed t → Type 0
 RuleWith plan k lines nothingTaken x = Unit {0}
-RuleWith plan k lines (aRowPack r) pack = k ≡ 0 → OwnPack pack r (IsRaw (plan .raw r))
-RuleWith plan k lines (aTriplePack r) pack = k ≡ 0 → OwnPack pack r (plan .triple r ≡ true)
-RuleWith plan k lines (aNumber r) c = k ≡ 0 → FromDealer c
+RuleWith plan k lines (aRowPack r) pack = k ≡ 0 → OwnPack plan pack r (IsRaw (plan .raw r))
+RuleWith plan k lines (aTriplePack r) pack = k ≡ 0 → OwnPack plan pack r (plan .triple r ≡ true)
+RuleWith plan k lines (aNumber r) c = k ≡ 0 → FromDealer lines r c
 RuleWith plan k lines (aRecord r) blocks = Walks k → OnlySent plan (Told lines r) (λ i. blocks i lines)
 RuleWith plan k lines (twoRecords r) blocks =
     Walks k

@@ -81,9 +81,12 @@ module _ (plan : Plan) (group : List ℕ) (draw : Draw) (u : Secrets) where
   polynomialSeen r =
       elim (plan .raw r) [ none ↦ [] | by dealer ↦ cond (member dealer group) (drawnF (planShape plan) (rawDraw draw r)) [] ]
 
-  -- the D line of row r's dealer
+  -- "the D line of a row's dealer": row r's, and all of them
   unfoldable pub dealSeen : ℕ → List ℕ
   dealSeen r = whenRaw (plan .raw r) (text (Line.deal r (dealtNumber plan draw u r))) []
+
+  abbrev pub dealLines : List (List ℕ)
+  dealLines = map dealSeen allRows
 
   unfoldable pub rawSeen : ℕ → List (List ℕ)
   rawSeen i = map (λ r. whenRaw (plan .raw r) (rawPack plan draw i r) []) allRows
@@ -91,7 +94,8 @@ module _ (plan : Plan) (group : List ℕ) (draw : Draw) (u : Secrets) where
   unfoldable pub tripleSeen : ℕ → List (List ℕ)
   tripleSeen i = map (λ r. cond (plan .triple r) (triplePack plan draw i r) []) allRows
 
-  -- everything that the group sees of the calls cs, from new sessions with the numbers `rows` in the posts' lists of rows
+  -- everything that the group sees of the calls cs, from new sessions with the numbers `rows` in the posts' lists of rows; the D lines
+  -- are broadcast before the first call
   unfoldable pub seen : (ℕ → List ℕ) → List Step → Seen
   seen rows cs =
       record {
@@ -99,6 +103,6 @@ module _ (plan : Plan) (group : List ℕ) (draw : Draw) (u : Secrets) where
         raws = map rawSeen group;
         triples = map tripleSeen group;
         polynomials = map polynomialSeen allRows;
-        deals = map dealSeen allRows;
-        entries = run cs [] (λ i. newPost plan draw (rows i) i);
+        deals = dealLines;
+        entries = run cs dealLines (λ i. newPost plan draw (rows i) i);
       }

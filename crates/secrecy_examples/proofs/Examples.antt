@@ -1,12 +1,13 @@
 -- The examples are at work: the run by computing, the premises by a search, the counts by demand 3.
 use mathlib.Core.Path.{_≡_, refl}
 use mathlib.Core.List.{_++_}
+use Rattle.secrecy.specs.Seen.{postsAfter}
 use Rattle.secrecy.specs.Book.{bookAfter}
 use Rattle.secrecy_examples.specs.Example.{AtWork}
 use Rattle.secrecy_examples.specs.ThreePosts as Three
-use Rattle.secrecy_examples.specs.ThreePostsSeen.{three, ThreeOpened}
+use Rattle.secrecy_examples.specs.ThreePostsSeen.{three, ThreeLent, ThreeEnds, ThreeOpened}
 use Rattle.secrecy_examples.specs.FourPosts as Four
-use Rattle.secrecy_examples.specs.FourPostsSeen.{four, FourOpened, FourBooks, FourForeign}
+use Rattle.secrecy_examples.specs.FourPostsSeen.{four, FourOpened, FourBooks, FourMixed}
 use Rattle.secrecy_examples.specs.Charge.{charge, ChargeOpened, ChargeBooks}
 use Rattle.secrecy_examples.specs.Relation as Relation
 use Rattle.secrecy_examples.specs.Relation.{relation, RelationOpened, RelationBooks}
@@ -25,6 +26,14 @@ pub three-opened : ThreeOpened
 unfolding sees three
 three-opened = (refl, refl)
 
+pub three-lent : ThreeLent
+unfolding sees three
+three-lent = refl
+
+pub three-ends : ThreeEnds
+unfolding sees three postsAfter
+three-ends = refl
+
 four-seen : sees four ≡ four .shown
 unfolding sees four
 four-seen = refl
@@ -41,9 +50,9 @@ pub four-books : FourBooks
 unfolding sees four premises bookAfter
 four-books = (refl, refl, refl, refl)
 
-pub four-foreign : FourForeign
+pub four-mixed : FourMixed
 unfolding sees four
-four-foreign = (refl, refl)
+four-mixed = refl
 
 charge-seen : sees charge ≡ charge .shown
 unfolding sees charge

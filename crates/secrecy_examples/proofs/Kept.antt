@@ -1,6 +1,6 @@
 -- Searches for the proof that a record keeps the rules, that its answers are the same, and that the numbers opened agree.
 use Prim.Native.Nat.{ℕ, _+_, _≤_}
-use mathlib.Core.Path.{_≡_}
+use mathlib.Core.Path.{_≡_, ap}
 use mathlib.Core.Logic.{_≢_, ⊎-elim}
 use mathlib.Core.List.{List, [], _∷_, _++_}
 use mathlib.Core.Option.{Option, none, some}
@@ -13,12 +13,14 @@ use Rattle.shape.specs.declared.Shape.{Shape}
 use Rattle.shape.specs.Marks.{present}
 use Rattle.shape.specs.Lengths.{vLength, masksLength}
 use Rattle.opening.specs.Walking.{blockMark, blockCoefficients}
+use Rattle.forms.specs.Lines as Line
+use Rattle.forms.specs.Lines.{text}
 use Rattle.runs.specs.Draws as Draws
 use Rattle.runs.specs.Draws.{Plan, Raw, IsRaw, planShape}
 use Rattle.runs.specs.Outline.{Taking, nothingTaken, aRowPack, aTriplePack, aNumber, aRecord, twoRecords, takes, Given, moves, Sending, itsOpening, itsMasks, sends, EveryFrom, Every}
 use Rattle.runs.specs.Calls.{Told, ToldHalf, masksLine, openingLine}
 use Rattle.secrecy.specs.Steps as Steps
-use Rattle.secrecy.specs.Steps.{Secrets, Fixed, Step, Pack, Number}
+use Rattle.secrecy.specs.Steps.{Secrets, Fixed, Step, Pack, PackAt, its, other, Number}
 use Rattle.secrecy.specs.Seen.{Entry}
 use Rattle.secrecy.specs.Rules.{AllSame, SameAnswers, refusalOf, OwnPack, FromDealer, OnlySent, Walks, RuleWith, Rule, Rules}
 use Rattle.secrecy.specs.Book.{Book, booked, AgreesBy, Agrees, Agree}
@@ -45,14 +47,19 @@ unfoldable pub drawn-raw : (raw : Raw) → Option (IsRaw raw)
 drawn-raw Draws.none = none
 drawn-raw (Draws.by dealer) = some tt
 
-unfoldable pub own-pack : {D : Type 0} (pack : Pack) (r : ℕ) → Option D → Option (OwnPack pack r D)
-unfolding both equal
-own-pack (Steps.own k) r drawn = both (equal k r) drawn
-own-pack (Steps.fixed xs) r drawn = none
+unfoldable pub own-at : (x : PackAt) (r : ℕ) → Option (x ≡ its r)
+unfolding _also_ equal
+own-at (its k) r = some (λ (e : k ≡ r). ap its e) also equal k r
+own-at (other xs) r = none
 
-unfoldable pub from-dealer : (c : Number) → Option (FromDealer c)
-from-dealer Steps.sent = some tt
-from-dealer (Steps.fixed x) = none
+unfoldable pub own-pack : {D : Type 0} (plan : Plan) (pack : Pack) (r : ℕ) → Option D → Option (OwnPack plan pack r D)
+unfolding both each-post own-at
+own-pack plan pack r drawn = both drawn (each-post (λ i. pack i ≡ its r) (plan .n) (λ i. own-at (pack i) r))
+
+unfoldable pub from-dealer : (lines : List (List ℕ)) (r : ℕ) (c : Number) → Option (FromDealer lines r c)
+unfolding both equal below among
+from-dealer lines r (Steps.sent k) = equal k r
+from-dealer lines r (Number.fixed c) = both (below c p) (among (text (Line.deal r c)) lines)
 
 -- the messages that post j broadcast; of masks it is searched among the lists of `sent`
 unfoldable pub told : (lines : List (List ℕ)) (r j : ℕ) (xs : List ℕ) → Option (Told lines r j xs)
@@ -110,9 +117,9 @@ module _ (plan : Plan) (sent : List (List ℕ)) where
   unfoldable pub rule-with : (k : ℕ) (lines : List (List ℕ)) (t : Taking) (x : Given Fixed t) → Option (RuleWith plan k lines t x)
   unfolding both tested where-equal where-walks drawn-raw own-pack from-dealer told told-half only-sent
   rule-with k lines nothingTaken x = some tt
-  rule-with k lines (aRowPack r) pack = where-equal k 0 (own-pack pack r (drawn-raw (plan .raw r)))
-  rule-with k lines (aTriplePack r) pack = where-equal k 0 (own-pack pack r (tested (plan .triple r) (λ e. e)))
-  rule-with k lines (aNumber r) c = where-equal k 0 (from-dealer c)
+  rule-with k lines (aRowPack r) pack = where-equal k 0 (own-pack plan pack r (drawn-raw (plan .raw r)))
+  rule-with k lines (aTriplePack r) pack = where-equal k 0 (own-pack plan pack r (tested (plan .triple r) (λ e. e)))
+  rule-with k lines (aNumber r) c = where-equal k 0 (from-dealer lines r c)
   rule-with k lines (aRecord r) blocks = where-walks k (only-sent plan (Told lines r) (told lines r) (λ i. blocks i lines))
   rule-with k lines (twoRecords r) blocks =
       where-walks k

@@ -133,7 +133,7 @@ module _ (x : Example) where
       also elements (x .secrets')
       also dealers (x .raws) (x .group) (x .secrets) (x .secrets')
       also same-answers (x .shown .entries)
-      also rules (planOf x) sent (x .steps) (x .shown .entries) []
+      also rules (planOf x) sent (x .steps) (x .shown .entries) (x .shown .deals)
       also agree (secretsOf (x .secrets)) (secretsOf (x .secrets')) (x .steps) (x .shown .entries) blank blank
 
 -- ---- the claim

@@ -11,7 +11,7 @@ use Rattle.forms.specs.Lines as Line
 use Rattle.runs.specs.Calls.{openingLine}
 use Rattle.secrecy.specs.Steps.{Record, Step, own, sent, loadRow, loadTriple, deal, message, opening, linear, masks, collect, multiply}
 use Rattle.secrecy.specs.Seen.{Entry, Seen, posts}
-use Rattle.secrecy_examples.specs.Example.{Example, openedBy, bookedAt, padded, of, blocks, present}
+use Rattle.secrecy_examples.specs.Example.{Example, openedBy, bookedAt, padded, of, blocks, present, still}
 use Rattle.secrecy_examples.specs.ThreePosts.{raws, triples, group, draw, zeros, masksA, masksB}
 use Rattle.secrecy_examples.specs.ThreePostsSeen.{raw0, raw1, raw2, loaded, masksLines, call}
 
@@ -27,15 +27,15 @@ unfoldable pub stepsWith : ℕ → List Step
 stepsWith fee =
     loadRow 0 (own 0)
     ∷ loadRow 1 (own 1)
-    ∷ deal 0 sent
-    ∷ deal 1 sent
+    ∷ deal 0 (sent 0)
+    ∷ deal 1 (sent 1)
     ∷ linear 2 0 1 0 p
     ∷ linear 2 0 1 0 fee
     ∷ loadTriple 3 (own 3)
-    ∷ masks 2 1 3 (λ i. replicate 4 0)
+    ∷ masks 2 1 3 (λ i. still (replicate 4 0))
     ∷ collect 3 masksA masksB
     ∷ multiply 3
-    ∷ message 5 (λ i. replicate 2 0) (λ i. true)
+    ∷ message 5 (λ i. still (replicate 2 0)) (λ i. true)
     ∷ opening 5 charges
     ∷ []
 

@@ -8,7 +8,7 @@ use lib.ListN.{length, drop, getD, replicate}
 use Rattle.shape.specs.Bounds.{rowCount}
 use Rattle.shape.specs.Marks.{present as presentMark}
 use Rattle.runs.specs.Draws.{Raw, none, Plan, Draw, IsRaw}
-use Rattle.secrecy.specs.Steps.{Secrets, Step}
+use Rattle.secrecy.specs.Steps.{Secrets, Following, PackNumber, PackAt, other, Step}
 use Rattle.secrecy.specs.Seen.{Entry, Seen, member, posts, joined, seen}
 use Rattle.secrecy.specs.Book.{blank, bookAfter}
 use Rattle.secrecy.specs.Claim.{Premises, Shows}
@@ -78,6 +78,13 @@ blocks n block = joined (map block (posts n))
 
 abbrev pub present : List ℕ → List ℕ
 present xs = presentMark ∷ xs
+
+-- a list to write into, and a pack, of fixed numbers
+abbrev pub still : List ℕ → List Following
+still xs = map (λ x draw u. x) xs
+
+abbrev pub given : List ℕ → PackAt
+given xs = other (map PackNumber.fixed xs)
 
 -- the rows of post i with other numbers from the start on
 abbrev pub filled : (ℕ → List ℕ) → ℕ → List ℕ → List ℕ

@@ -2,18 +2,17 @@
 -- the first with half the second, 8, are opened, each after messages of three posts; their sum is made and not opened.
 use Prim.Native.Nat.{ℕ, _+_}
 use mathlib.Core.Bool.{cond}
-use mathlib.Core.List.{List, [], _∷_, _++_}
+use mathlib.Core.List.{List, [], _∷_, _++_, map}
 use lib.Dec.{eqb}
-use lib.ListN.{take, drop, replicate}
+use lib.ListN.{take, drop, getD, replicate}
 use Rattle.field.specs.Modulus.{p}
 use Rattle.shape.specs.Bounds.{lastTriple}
 use Rattle.shape.specs.Lengths.{shape, rowsLength}
-use Rattle.parts.specs.Draw.{eachFrom}
-use Rattle.runs.specs.Draws.{Raw, Draw, by}
-use Rattle.secrecy.specs.Steps as Steps
-use Rattle.secrecy.specs.Steps.{Pack, Record, Step, own, sent, loadRow, loadTriple, deal, message, opening, linear, masks, collect, multiply}
+use Rattle.parts.specs.Draw.{eachFrom, part}
+use Rattle.runs.specs.Draws.{Raw, Draw, by, pointOf, rawDraw}
+use Rattle.secrecy.specs.Steps.{PackNumber, element, Pack, its, other, Record, Step, own, sent, loadRow, loadTriple, deal, message, opening, linear, masks, collect, multiply}
 use Rattle.secrecy.specs.Seen.{member}
-use Rattle.secrecy_examples.specs.Example.{padded, of, blocks, present}
+use Rattle.secrecy_examples.specs.Example.{padded, of, blocks, present, still, given}
 
 -- Row 0 is dealt by post 1, row 1 by someone who is no post, row 2 by post 4, which is in the group, row 3, which is never loaded,
 -- by post 3; one triple, at row 4.
@@ -54,15 +53,17 @@ draw =
 unfoldable pub start : ℕ → List ℕ
 start i = eachFrom i (rowsLength (shape 4 2)) (λ x. x)
 
--- Each post is lent another's pack of row 0.
-abbrev pub raw0at1 : List ℕ
-raw0at1 = 1 ∷ 2 ∷ 3 ∷ 86 ∷ 58 ∷ 60 ∷ 102 ∷ 13 ∷ 22 ∷ 33 ∷ 41 ∷ []
+-- Numbers of post i's pack of row 0, whatever is drawn: those at the places listed.
+abbrev pub numbersOf : ℕ → List ℕ → List PackNumber
+numbersOf i places = map (λ k. element (λ draw u. getD (part (shape 4 2) i (pointOf draw i) (rawDraw draw 0)) k 0)) places
 
-abbrev pub raw0at2 : List ℕ
-raw0at2 = 3 ∷ 1 ∷ 2 ∷ 34 ∷ 24 ∷ 32 ∷ 38 ∷ 13 ∷ 22 ∷ 33 ∷ 41 ∷ []
-
-unfoldable pub foreign : Pack
-foreign = Steps.fixed (λ i. cond (eqb i 1) raw0at2 raw0at1)
+-- Packs for row 0 that differ in kind: at post 1 its own, at post 2 post 1's, at post 3 fixed numbers, at post 4 its own with p in the
+-- last place.
+unfoldable pub mixed : Pack
+mixed i =
+    cond (eqb i 1) (its 0)
+    (cond (eqb i 2) (other (numbersOf 1 (eachFrom 0 11 (λ k. k))))
+    (cond (eqb i 3) (given (replicate 11 8)) (other (numbersOf 4 (eachFrom 0 10 (λ k. k)) ++ (PackNumber.fixed p ∷ [])))))
 
 -- The posts' masks, and their messages of the product and of the sum with a half.
 abbrev pub masksSent : List (List ℕ)
@@ -121,28 +122,28 @@ half = 1073741824
 
 -- a message of the posts in a list
 abbrev pub messageOf : ℕ → List ℕ → Step
-messageOf r senders = message r (λ i. replicate 3 0) (λ i. member i senders)
+messageOf r senders = message r (λ i. still (replicate 3 0)) (λ i. member i senders)
 
--- Refused: another post's pack (7), packs of wrong lengths (5), a deal of a row that is empty (7), a load into row 3, which holds
--- a sum by then (7), a triple behind the last row for one (6), a product before its masks are opened (7), a collect and an opening
--- with too few polynomials (9), an opening with a record of a wrong length (5).
+-- Refused: packs that differ in kind (7), packs of wrong lengths (5), a deal of a row that is empty, with row 0's c (7), a load into
+-- row 3, which holds a sum by then (7), a triple behind the last row for one (6), a product before its masks are opened (7), a collect
+-- and an opening with too few polynomials (9), an opening with a record of a wrong length (5).
 unfoldable pub steps : List Step
 steps =
     loadRow 0 (own 0)
-    ∷ loadRow 0 foreign
-    ∷ loadRow 1 (Steps.fixed (λ i. replicate i 1))
+    ∷ loadRow 0 mixed
+    ∷ loadRow 1 (λ i. given (replicate i 1))
     ∷ loadRow 1 (own 1)
     ∷ loadRow 2 (own 2)
-    ∷ deal 0 sent
-    ∷ deal 1 sent
-    ∷ deal 2 sent
-    ∷ deal 3 (Steps.fixed 5)
+    ∷ deal 0 (sent 0)
+    ∷ deal 1 (sent 1)
+    ∷ deal 2 (sent 2)
+    ∷ deal 3 (sent 0)
     ∷ linear 3 0 1 half 0
     ∷ loadRow 3 (own 3)
     ∷ loadTriple (lastTriple + 1) (own 4)
     ∷ loadTriple 4 (own 4)
     ∷ linear 7 0 1 1 0
-    ∷ masks 0 1 4 (λ i. replicate 6 i)
+    ∷ masks 0 1 4 (λ i. still (replicate 6 i))
     ∷ multiply 4
     ∷ collect 4 (masksA one) (masksB one)
     ∷ collect 4 (masksA forA) (masksB forB)

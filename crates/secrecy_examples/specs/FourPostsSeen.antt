@@ -5,16 +5,16 @@ use mathlib.Core.List.{List, [], _∷_, _++_, map}
 use lib.ListN.{getD, replicate}
 use Rattle.forms.specs.Lines.{text}
 use Rattle.forms.specs.Lines as Line
-use Rattle.runs.specs.Draws.{rawPack}
-use Rattle.runs.specs.Calls.{openingLine, masksLine}
+use Rattle.runs.specs.Calls.{loadRow, openingLine, masksLine}
+use Rattle.secrecy.specs.Steps.{callAt}
 use Rattle.secrecy.specs.Seen.{Entry, Seen, posts, joined}
-use Rattle.secrecy_examples.specs.Example.{Example, planOf, openedBy, bookedAt, padded, of, filled, entry}
-use Rattle.secrecy_examples.specs.FourPosts.{raws, triples, group, draw, start, raw0at1, raw0at2}
-use Rattle.secrecy_examples.specs.FourPosts.{foreign, masksSent, productSent, sumSent, heardBy, masksA, masksB, steps}
+use Rattle.secrecy_examples.specs.Example.{Example, planOf, secretsOf, openedBy, bookedAt, padded, of, filled, entry}
+use Rattle.secrecy_examples.specs.FourPosts.{raws, triples, group, draw, start}
+use Rattle.secrecy_examples.specs.FourPosts.{mixed, masksSent, productSent, sumSent, heardBy, masksA, masksB, steps}
 
 -- Row 0 as it comes from the factory, at post 2 and at post 4; rows 1, 2 and 3; the triple's three rows.
 abbrev pub raw0 : List (List ℕ)
-raw0 = raw0at2 ∷ (2 ∷ 0 ∷ 4 ∷ 162 ∷ 108 ∷ 96 ∷ 198 ∷ 13 ∷ 22 ∷ 33 ∷ 41 ∷ []) ∷ []
+raw0 = (3 ∷ 1 ∷ 2 ∷ 34 ∷ 24 ∷ 32 ∷ 38 ∷ 13 ∷ 22 ∷ 33 ∷ 41 ∷ []) ∷ (2 ∷ 0 ∷ 4 ∷ 162 ∷ 108 ∷ 96 ∷ 198 ∷ 13 ∷ 22 ∷ 33 ∷ 41 ∷ []) ∷ []
 
 abbrev pub raw1 : List (List ℕ)
 raw1 = (1 ∷ 1 ∷ 3 ∷ 14 ∷ 31 ∷ 10 ∷ 27 ∷ 12 ∷ 22 ∷ 40 ∷ 61 ∷ []) ∷ (6 ∷ 1 ∷ 2 ∷ 58 ∷ 155 ∷ 18 ∷ 111 ∷ 12 ∷ 22 ∷ 40 ∷ 61 ∷ []) ∷ []
@@ -134,7 +134,7 @@ shown =
 
 -- 3, 10, 9 and 1 are the secrets, or 5, 6, 9 and 2.
 unfoldable pub four : Example
-unfolding shown told raws triples group draw start foreign heardBy masksA masksB steps
+unfolding shown told raws triples group draw start mixed heardBy masksA masksB steps
 four =
     record {
       n = 4;
@@ -162,6 +162,13 @@ FourBooks =
     × (bookedAt four (four .secrets) 7 ≡ 13)
     × (bookedAt four (four .secrets') 7 ≡ 11)
 
--- What each post is lent in the second call is another's pack.
-abbrev pub FourForeign : Type 0
-FourForeign = (raw0at1 ≡ rawPack (planOf four) draw 1 0) × (raw0at2 ≡ rawPack (planOf four) draw 2 0)
+-- The second call as each post makes it: with post 1's pack twice, fixed numbers, and post 4's pack but for its last number.
+abbrev pub FourMixed : Type 0
+FourMixed =
+    map (λ i. callAt (planOf four) draw (secretsOf (four .secrets)) [] i (loadRow 0 mixed)) (posts 4)
+    ≡ map (loadRow 0)
+    ((1 ∷ 2 ∷ 3 ∷ 86 ∷ 58 ∷ 60 ∷ 102 ∷ 13 ∷ 22 ∷ 33 ∷ 41 ∷ [])
+    ∷ (1 ∷ 2 ∷ 3 ∷ 86 ∷ 58 ∷ 60 ∷ 102 ∷ 13 ∷ 22 ∷ 33 ∷ 41 ∷ [])
+    ∷ replicate 11 8
+    ∷ (2 ∷ 0 ∷ 4 ∷ 162 ∷ 108 ∷ 96 ∷ 198 ∷ 13 ∷ 22 ∷ 33 ∷ 2147483647 ∷ [])
+    ∷ [])

@@ -13,7 +13,7 @@ use Rattle.runs.specs.Draws.{Raw, Draw, by}
 use Rattle.runs.specs.Calls.{openingLine, masksLine}
 use Rattle.secrecy.specs.Steps.{Record, Step, own, sent, loadRow, loadTriple, deal, message, opening, relationMasks, relationFinish}
 use Rattle.secrecy.specs.Seen.{Entry, Seen, posts, joined}
-use Rattle.secrecy_examples.specs.Example.{Example, openedBy, bookedAt, padded, of, blocks, present}
+use Rattle.secrecy_examples.specs.Example.{Example, openedBy, bookedAt, padded, of, blocks, present, still}
 use Rattle.secrecy_examples.specs.ThreePosts as Three
 use Rattle.secrecy_examples.specs.ThreePosts.{group, zeros, masksSent, masksA, masksB}
 use Rattle.secrecy_examples.specs.ThreePostsSeen.{raw0, raw1, raw2, loaded, dealt0, dealt1, spent, call}
@@ -78,14 +78,14 @@ steps =
     ∷ loadRow 2 (own 2)
     ∷ loadTriple 3 (own 3)
     ∷ loadTriple 6 (own 6)
-    ∷ deal 0 sent
-    ∷ deal 1 sent
-    ∷ deal 2 sent
-    ∷ relationMasks terms (λ i. replicate 8 0)
+    ∷ deal 0 (sent 0)
+    ∷ deal 1 (sent 1)
+    ∷ deal 2 (sent 2)
+    ∷ relationMasks terms (λ i. still (replicate 8 0))
     ∷ relationFinish terms 9 (λ i lines. replicate 36 0)
-    ∷ relationMasks terms (λ i. replicate 8 0)
+    ∷ relationMasks terms (λ i. still (replicate 8 0))
     ∷ relationFinish terms 9 records
-    ∷ message 9 (λ i. replicate 2 0) (λ i. true)
+    ∷ message 9 (λ i. still (replicate 2 0)) (λ i. true)
     ∷ opening 9 messages
     ∷ []
 

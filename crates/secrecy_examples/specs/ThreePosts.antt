@@ -1,14 +1,15 @@
 -- An example for demand 3, with numbers of document 01, "Reckoned by hand": n = 3, t = 1, check points 2, 3, 5; post 3 is the
 -- group. 6 and 7 are dealt, or 7 and 6; their sum and their product are made and opened.
-use Prim.Native.Nat.{ℕ}
+use Prim.Native.Nat.{ℕ, _+_, _*_}
 use mathlib.Core.Bool.{true}
-use mathlib.Core.List.{List, [], _∷_}
-use lib.ListN.{take, drop, replicate}
+use mathlib.Core.List.{List, [], _∷_, map}
+use lib.ListN.{take, drop, getD, replicate}
+use Rattle.field.specs.Arithmetic.{sum}
 use Rattle.shape.specs.Bounds.{rowCount}
 use Rattle.shape.specs.Lengths.{shape, rowsLength}
-use Rattle.runs.specs.Draws.{Raw, Draw, by}
-use Rattle.secrecy.specs.Steps.{Record, Step, own, sent, loadRow, loadTriple, deal, message, opening, linear, masks, collect, multiply}
-use Rattle.secrecy_examples.specs.Example.{padded, of, blocks, present}
+use Rattle.runs.specs.Draws.{Raw, Draw, by, rawDraw}
+use Rattle.secrecy.specs.Steps.{Record, Following, Step, own, sent, fixed, loadRow, loadTriple, deal, message, opening, linear, masks, collect, multiply}
+use Rattle.secrecy_examples.specs.Example.{padded, of, blocks, present, still}
 
 -- Row 0 is dealt by post 1, row 1 by someone who is no post, row 2 by post 3, which is in the group; one triple, at row 3.
 unfoldable pub raws : List Raw
@@ -74,27 +75,33 @@ products i lines = blocks 3 (λ j. present (of productSent j))
 unfoldable pub sums : Record
 sums i lines = blocks 3 (λ j. present (of sumSent j))
 
--- A second deal of row 0 is refused (7), a sum into a row behind the last too (6), masks collected once more (7), and an opening of the product before
--- any message (9). The messages of row 6 are made between the two calls of the finish.
+-- The list that is lent for a post's message of row 5 is the one lent for that of row 6, whose coefficients are still in it: those
+-- of v in rows 0 and 1, added.
+abbrev pub used : ℕ → List Following
+used i = map (λ k draw u. sum (getD (rawDraw draw 0) (2 * i + k) 0) (getD (rawDraw draw 1) (2 * i + k) 0)) (0 ∷ 1 ∷ [])
+
+-- Row 1 is dealt with the fixed number 4, which is the one that its dealer broadcast. A second deal of row 0 is refused (7), a sum
+-- into a row behind the last too (6), masks collected once more (7), and an opening of the product before any message (9). The
+-- messages of row 6 are made between the two calls of the finish.
 unfoldable pub steps : List Step
 steps =
     loadRow 0 (own 0)
     ∷ loadRow 1 (own 1)
     ∷ loadRow 2 (own 2)
     ∷ loadTriple 3 (own 3)
-    ∷ deal 0 sent
-    ∷ deal 1 sent
-    ∷ deal 2 sent
-    ∷ deal 0 sent
+    ∷ deal 0 (sent 0)
+    ∷ deal 1 (fixed 4)
+    ∷ deal 2 (sent 2)
+    ∷ deal 0 (sent 0)
     ∷ linear 6 0 1 1 0
     ∷ linear rowCount 0 1 1 0
-    ∷ masks 0 1 3 (λ i. replicate 4 0)
+    ∷ masks 0 1 3 (λ i. still (replicate 4 0))
     ∷ collect 3 masksA masksB
     ∷ collect 3 masksA masksB
-    ∷ message 6 (λ i. replicate 2 0) (λ i. true)
+    ∷ message 6 (λ i. still (replicate 2 0)) (λ i. true)
     ∷ multiply 3
     ∷ opening 5 nothing
-    ∷ message 5 (λ i. replicate 2 0) (λ i. true)
+    ∷ message 5 used (λ i. true)
     ∷ opening 5 products
     ∷ opening 6 sums
     ∷ []

@@ -1,15 +1,19 @@
 -- What post 3 sees of the example, number by number.
 use Prim.Native.Nat.{ℕ}
 use mathlib.Core.Path.{_≡_}
+use mathlib.Core.Bool.{true}
 use mathlib.Core.List.{List, [], _∷_, _++_, map}
-use lib.ListN.{replicate}
+use lib.ListN.{take, getD, replicate}
 use Rattle.forms.specs.Lines.{text}
 use Rattle.forms.specs.Lines as Line
-use Rattle.runs.specs.Calls.{openingLine, masksLine}
+use Rattle.runs.specs.Calls.{message, openingLine, masksLine}
+use Rattle.secrecy.specs.Steps as Steps
+use Rattle.secrecy.specs.Steps.{callAt}
 use Rattle.secrecy.specs.Seen.{Entry, Seen, posts}
-use Rattle.secrecy_examples.specs.Example.{Example, openedBy, padded, of, filled, entry}
+use Rattle.secrecy.specs.Claim.{postsOf}
+use Rattle.secrecy_examples.specs.Example.{Example, planOf, secretsOf, openedBy, padded, of, filled, entry}
 use Rattle.secrecy_examples.specs.ThreePosts.{raws, triples, group, zeros}
-use Rattle.secrecy_examples.specs.ThreePosts.{masksSent, productSent, sumSent, nothing, masksA, masksB, products, sums, steps, draw}
+use Rattle.secrecy_examples.specs.ThreePosts.{masksSent, productSent, sumSent, nothing, masksA, masksB, products, sums, used, steps, draw}
 
 -- Post 3's rows as they come from the factory; the first is P4 of document 01.
 abbrev pub raw0 : List ℕ
@@ -122,6 +126,23 @@ three =
       secrets' = 7 ∷ 6 ∷ 9 ∷ [];
       shown = shown;
     }
+
+-- The message of row 5 as each post makes it: the list that it is lent holds what was sent of row 6.
+abbrev pub ThreeLent : Type 0
+ThreeLent =
+    map (λ i. callAt (planOf three) draw (secretsOf (three .secrets)) [] i (Steps.message 5 used (λ i. true))) (posts 3)
+    ≡ map (λ i. message 5 (of sumSent i)) (posts 3)
+
+-- Every post's session at the end: the marks of rows 0 to 7; and of the triple at row 3 the factor rows, 0 and 1, and the numbers that
+-- its masks were opened to, 4 and 2 (P9).
+abbrev pub ThreeEnds : Type 0
+ThreeEnds =
+    map
+    (λ i.
+    let s = postsOf (planOf three) zeros steps shown (secretsOf (three .secrets)) draw i .session in
+    take 8 (s .marks) ++ (getD (s .«factor_a») 3 0 ∷ getD (s .«factor_b») 3 0 ∷ getD (s .«y_a») 3 0 ∷ getD (s .«y_b») 3 0 ∷ []))
+    (posts 3)
+    ≡ replicate 3 (2 ∷ 2 ∷ 2 ∷ 6 ∷ 6 ∷ 2 ∷ 2 ∷ 0 ∷ 0 ∷ 1 ∷ 4 ∷ 2 ∷ [])
 
 -- The product's opening is the call at place 17 of the list, counted from 0, the sum's the one at 18.
 abbrev pub ThreeOpened : Type 0

@@ -4,10 +4,11 @@ use Prim.Native.Nat.{ℕ, _*_, _<_}
 use mathlib.Core.Path.{_≡_}
 use mathlib.Core.Logic.{_≢_}
 use mathlib.Core.List.{List}
-use lib.ListN.{length}
+use lib.ListN.{length, replicate}
 use Rattle.refusal.specs.Refusal.{Test, first, outcome, Ordered, Keeps}
 use Rattle.session.specs.declared.Session.{Session}
-use Rattle.session.specs.Sessions.{holding, answer, sessionOf, created}
+use Rattle.session.specs.declared.Answer.{Answer}
+use Rattle.session.specs.Sessions.{answer, created}
 use Rattle.session.specs.Rows.{rowAt, withRow}
 use Rattle.session.specs.Law.{Lawful}
 use Rattle.session.specs.Table.{newTable}
@@ -18,12 +19,27 @@ CallsLawful =
     (tests : List Test) → Ordered 1 tests → (value : ℕ) (new old : Session) (written before : List ℕ)
     → Lawful tests value new old written before (answer (first tests) value new old) (outcome (first tests) written before)
 
+-- A session without rows, in figures: 96 times mark 0, and 96 zeros for the remembered rows and numbers, "0 when new".
+abbrev pub freshSession : ℕ → ℕ → ℕ → ℕ → Session
+freshSession n t post point =
+    record {
+      n = n;
+      t = t;
+      post = post;
+      point = point;
+      marks = replicate 96 0;
+      «factor_a» = replicate 96 0;
+      «factor_b» = replicate 96 0;
+      «y_a» = replicate 96 0;
+      «y_b» = replicate 96 0;
+    }
+
 -- "A new session has 96 rows, all with mark 0. A refused new session has 0 in every field."
 abbrev pub NewLawful : Type 0
 NewLawful =
     (n t post point : ℕ)
-    → Keeps (newTable n t post point) (holding 0 0 (sessionOf n t post point))
-    (holding (first (newTable n t post point)) 0 (sessionOf 0 0 0 0)) (created n t post point)
+    → Keeps {A = Answer} (newTable n t post point) (record { refusal = 0; value = 0; session = freshSession n t post point })
+    (record { refusal = first (newTable n t post point); value = 0; session = freshSession 0 0 0 0 }) (created n t post point)
 
 -- "rows that a call doesn't name keep every number": of k rows of w numbers, x takes the place of row r and of no other. Each call
 -- that writes rows has an instance, in its crate's specs/Claims.antt.

@@ -7,11 +7,10 @@ use mathlib.Core.List.{List}
 use Rattle.refusal.specs.Refusal.{Test, first, Decides}
 use Rattle.session.specs.declared.Session.{Session}
 use Rattle.session.specs.declared.Answer.{Answer}
-use Rattle.session.specs.Sessions.{holding}
 
 -- A call with these tests, which came with the session `old` and the list `before`, gave `given` and left `after`.
 pub record Lawful (tests : List Test) (value : ℕ) (new old : Session) (written before : List ℕ) (given : Answer) (after : List ℕ) : Type 0 where
   pub refusal : Decides tests
   -- refused: the number, 0 for a value, session and list as they came
-  pub untouched : (first tests ≡ 0 → ⊥) → (given ≡ holding (first tests) 0 old) × (after ≡ before)
-  pub done : first tests ≡ 0 → (given ≡ holding 0 value new) × (after ≡ written)
+  pub untouched : (first tests ≡ 0 → ⊥) → (given ≡ record { refusal = first tests; value = 0; session = old }) × (after ≡ before)
+  pub done : first tests ≡ 0 → (given ≡ record { refusal = 0; value = value; session = new }) × (after ≡ written)

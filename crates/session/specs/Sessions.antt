@@ -39,7 +39,7 @@ openedA s r = getD (s .«y_a») r 0
 abbrev pub openedB : Session → ℕ → ℕ
 openedB s r = getD (s .«y_b») r 0
 
--- The session with one part of it anew. These and `sessionOf` name every field; nothing else does.
+-- The session with one part of it anew. These and `sessionOf` name every field; of the statements, `freshSession` does.
 abbrev pub withPoint : Session → ℕ → Session
 withPoint s w =
     record {

@@ -20,6 +20,10 @@ length-plus-sums k c row =
     length-append (take k row) (map (λ m. sum m c) (drop k row)) ∙ ap (λ (n : ℕ). length (take k row) + n) (length-map (drop k row) (λ m. sum m c))
     ∙ sym (length-append (take k row) (drop k row)) ∙ ap length (take-append-drop k row)
 
+-- a sum of two lists of one length is as long
+pub length-summed : (k s fee w : ℕ) (x y : List ℕ) → length x ≡ w → length y ≡ w → length (summed k s fee x y) ≡ w
+length-summed k s fee w x y a b = length-plus-sums k fee (combined s x y) ∙ length-combined s x y (a ∙ sym b) ∙ a
+
 -- nothing added to a sum of rows leaves it as it is
 sum-nothing : (a b : ℕ) → sum (sum a b) 0 ≡ sum a b
 sum-nothing a b = sum-comm (sum a b) 0 ∙ sum-zero (sum a b) (sum-below a b)
@@ -47,8 +51,8 @@ module _ (g : Shape) (rows : List ℕ) (z : Sized g rows) (d a b s : ℕ) (hd : 
   length-made : length made ≡ w
   length-made = length-combined s (rowAt w rows a) (rowAt w rows b) (row-long a ha ∙ sym (row-long b hb)) ∙ row-long a ha
 
-  pub length-summed : (fee : ℕ) → length (summed (sumsAt g) s fee (rowAt w rows a) (rowAt w rows b)) ≡ w
-  length-summed fee = length-plus-sums (sumsAt g) fee made ∙ length-made
+  pub length-row-summed : (fee : ℕ) → length (summed (sumsAt g) s fee (rowAt w rows a) (rowAt w rows b)) ≡ w
+  length-row-summed fee = length-summed (sumsAt g) s fee w (rowAt w rows a) (rowAt w rows b) (row-long a ha) (row-long b hb)
 
   low : d < rowCount
   low = omega (arith, hd .row-in)

@@ -57,9 +57,6 @@ module _ (q : Party) (row blocks : List ℕ) where
     many : length lowest ≡ need
     many = let h : Counted (Enough last) (length lowest) need = rw ended at (counted q row blocks) in h
 
-    enough : tooFew q row blocks ≡ false
-    enough = le-ltb (length lowest) need (omega (arith, many))
-
     stopped : (need + 1 ≤ suc last) × (suc last ≤ 1 + n) × (drop need (passing (accepts q row blocks) 1 n) ≡ passing (accepts q row blocks) (suc last) (1 + n - suc last))
     stopped =
         let h : Behind (Enough last) (accepts q row blocks) 1 n need (passing (accepts q row blocks) 1 n) = rw ended at behind in h
@@ -118,12 +115,12 @@ module _ (q : Party) (row blocks : List ℕ) where
 
       pub opens-agreed : (r : Opened)
           → r ≡ agreedOn (take k (take count p)) (take k (take count q₁)) (drop k (take count p)) (drop k (take count q₁))
-          → r ≡ openedRow q row blocks
+          → r ≡ answerOf end (disagree q row blocks) (opened q row blocks)
       unfolding opened disagree
       opens-agreed r e =
           e
           ∙ (rw (low, low-shares, high, high-shares))
-          ∙ ap (λ (few : Bool). orNine few (disagree q row blocks) (opened q row blocks)) (sym enough)
+          ∙ ap (λ (w : Walk). answerOf w (disagree q row blocks) (opened q row blocks)) (sym ee)
         where
           low : take k (take count p) ≡ lowest
           low = ap (take k) posts-are ∙ take-at lowest rest k some
@@ -137,12 +134,8 @@ module _ (q : Party) (row blocks : List ℕ) where
           high-shares : drop k (take count q₁) ≡ shares rest
           high-shares = ap (drop k) shares-are ∙ drop-at (shares lowest) (shares rest) k paired
 
-  pub opens-few : (end : Walk) → end ≡ TooFew → (p₀ q₀ : List ℕ) → WalkedAs q row blocks end p₀ q₀
-      → record { refusal = 9; value = 0 } ≡ openedRow q row blocks
-  opens-few end e p₀ q₀ w =
-      let short : Counted TooFew (length lowest) need = rw (sym (w .ended) ∙ e) at (counted q row blocks) in
-      let few : tooFew q row blocks ≡ true = lt-ltb (length lowest) need short in
-      rw few
+  pub opens-few : (end : Walk) → end ≡ TooFew → record { refusal = 9; value = 0 } ≡ answerOf end (disagree q row blocks) (opened q row blocks)
+  opens-few end e = ap (λ (w : Walk). answerOf w (disagree q row blocks) (opened q row blocks)) (sym e)
 
 -- the opening of a row, by the tests of 9 and 13
 abbrev pub openingOf : ℕ → ℕ → Opened
@@ -177,3 +170,9 @@ outcome-answers q row blocks = go (outcomeOf q row blocks) (counted q row blocks
     go (Enough last) h =
         let same : length (acceptedPosts q row blocks) ≡ needed (q .shape) = h in
         rw (le-ltb (length (acceptedPosts q row blocks)) (needed (q .shape)) (omega arith))
+
+-- what the walk's outcome answers is what the row opens to
+pub row-settled : (q : Party) (row blocks : List ℕ) (end : Walk) (posts shares : List ℕ) → WalkedAs q row blocks end posts shares
+    → (r : Opened) → r ≡ answerOf end (disagree q row blocks) (opened q row blocks) → r ≡ openedRow q row blocks
+row-settled q row blocks end posts shares w r e =
+    e ∙ ap (λ (o : Walk). answerOf o (disagree q row blocks) (opened q row blocks)) (w .ended) ∙ sym (outcome-answers q row blocks)

@@ -8,7 +8,8 @@ ghost use Rattle.agreement.specs.Sums.{Reached, Rooms};
 ghost use Rattle.shape.specs.Lengths.{needed};
 ghost use Rattle.blocks.specs.Between.{Openable};
 ghost use Rattle.accepting.specs.Between.{PowersWhereLong};
-ghost use Rattle.walk.specs.Number.{openedRow};
+ghost use Rattle.accepting.specs.Accepting.{disagree, opened};
+ghost use Rattle.walk.specs.Number.{answerOf};
 ghost use Rattle.walk.specs.Between.{WalkedAs, BehindIn, FurtherAs, agreedOn, Roomy};
 
 // How the walk over the posts ends.
@@ -125,7 +126,7 @@ fn agreed(
     }
 }
 
-// What the walk's outcome means: the number or 13, with the posts behind it, or 9.
+// What the walk's outcome answers: the number or 13, with the posts behind it, or 9.
 pub fn settle<'a>(
     party: Party,
     row: &'a [u32],
@@ -143,7 +144,8 @@ pub fn settle<'a>(
     requires { ⌜ Openable party (now row) (now blocks) × PowersWhereLong party (now weights)
         × WalkedAs party (now row) (now blocks) outcome (now posts) (now shares)
         × Roomy (party .shape) (now inverses) (now posts) (now shares) (now gaps) (now list) (now above) (now below) ⌝ }
-    ensures { λ r. ⌜ r ≡ openedRow party (now (row .entry)) (now (blocks .entry)) ⌝ }
+    ensures { λ r. ⌜ r
+        ≡ answerOf outcome (disagree party (now (row .entry)) (now (blocks .entry))) (opened party (now (row .entry)) (now (blocks .entry))) ⌝ }
 {
     match outcome {
         Walk::Enough(last) => {

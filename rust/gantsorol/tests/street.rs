@@ -62,7 +62,7 @@ fn the_stored_inputs() {
         assert!(REFERENCE.street(&input) == expected, "{name}, by the second implementation");
         inputs += 1;
     }
-    assert_eq!(inputs, 15, "stored inputs");
+    assert_eq!(inputs, 16, "stored inputs");
 }
 
 /// Rides × rate + fee by three runs of the program: the `M` lines that each reads of another post are those which

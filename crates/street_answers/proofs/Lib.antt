@@ -1,0 +1,4 @@
+pub mod Counting
+pub mod Answering
+pub mod Printing
+pub mod Texts
