@@ -4,3 +4,4 @@ pub mod Elements
 pub mod Groups
 pub mod Decided
 pub mod Ranges
+pub mod PointFigures
