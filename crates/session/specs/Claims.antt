@@ -5,9 +5,10 @@ use mathlib.Core.Path.{_≡_}
 use mathlib.Core.Logic.{_≢_}
 use mathlib.Core.List.{List}
 use lib.ListN.{length}
+use Rattle.shape.specs.declared.Points.{Points}
 use Rattle.refusal.specs.Refusal.{Test, first, outcome, Ordered, Keeps}
 use Rattle.session.specs.declared.Session.{Session}
-use Rattle.session.specs.Sessions.{holding, answer, sessionOf, created}
+use Rattle.session.specs.Sessions.{holding, answer, asMany, noPoints, sessionOf, created}
 use Rattle.session.specs.Rows.{rowAt, withRow}
 use Rattle.session.specs.Law.{Lawful}
 use Rattle.session.specs.Table.{newTable}
@@ -21,9 +22,9 @@ CallsLawful =
 -- "A new session has 96 rows, all with mark 0. A refused new session has 0 in every field."
 abbrev pub NewLawful : Type 0
 NewLawful =
-    (n t post point : ℕ)
-    → Keeps (newTable n t post point) (holding 0 0 (sessionOf n t post point))
-    (holding (first (newTable n t post point)) 0 (sessionOf 0 0 0 0)) (created n t post point)
+    (n t post points : ℕ) (w : Points)
+    → Keeps (newTable n t post points w) (holding 0 0 (sessionOf n t post points (asMany points w)))
+    (holding (first (newTable n t post points w)) 0 (sessionOf 0 0 0 0 noPoints)) (created n t post points w)
 
 -- "rows that a call doesn't name keep every number": of k rows of w numbers, x takes the place of row r and of no other. Each call
 -- that writes rows has an instance, in its crate's specs/Claims.antt.
