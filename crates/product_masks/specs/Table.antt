@@ -5,8 +5,9 @@ use mathlib.Core.Path.{_≡_}
 use mathlib.Core.List.{List, [], _∷_}
 use lib.Dec.{ltb}
 use Rattle.refusal.specs.Refusal.{Test, _when_}
-use Rattle.refusal.specs.Conditions.{outside, wrongLength, anyBeyond, badPoint}
+use Rattle.refusal.specs.Conditions.{outside, wrongLength, anyBeyond, badPoints}
 use Rattle.session.specs.declared.Session.{Session}
+use Rattle.session.specs.Sessions.{pointsOf}
 use Rattle.session.specs.Rows.{width, rowAt}
 use Rattle.session.specs.Checks.{wrongMark}
 use Rattle.product_masks.specs.Masks.{masksTests}
@@ -16,9 +17,9 @@ masksTable s rows a b r out =
     1 when outside 2 255 (s .n)
     ∷ 2 when outside 1 (s .n - 1) (s .t)
     ∷ 3 when outside 1 (s .n) (s .post)
-    ∷ 4 when badPoint (s .point)
+    ∷ 4 when badPoints (s .points) (pointsOf s)
     ∷ 5 when wrongLength rows (96 * width s)
-    ∷ 5 when wrongLength out (2 * (s .t + 1))
+    ∷ 5 when wrongLength out (2 * (s .points * s .t + 1))
     ∷ 6 when ltb 95 a
     ∷ 6 when ltb 95 b
     ∷ 6 when ltb 93 r

@@ -8,9 +8,9 @@ use mathlib.Core.List.{List, [], _∷_, _++_, map}
 use lib.Dec.{eqb, ltb}
 use lib.ListN.{length}
 use Rattle.refusal.specs.Refusal.{Test, _when_, first}
-use Rattle.refusal.specs.Conditions.{outside, wrongLength, beyond, anyBeyond, badPoint}
+use Rattle.refusal.specs.Conditions.{outside, wrongLength, beyond, anyBeyond, badPoints}
 use Rattle.session.specs.declared.Session.{Session}
-use Rattle.session.specs.Sessions.{factorA, factorB}
+use Rattle.session.specs.Sessions.{pointsOf, factorA, factorB}
 use Rattle.session.specs.Rows.{width, rowAt}
 use Rattle.session.specs.Checks.{wrongMark}
 use Rattle.opening.specs.Walking.{recordLength, badRecord, tooFew, disagree}
@@ -57,9 +57,9 @@ relationMasksTable s rows ts out =
     1 when outside 2 255 (s .n)
     ∷ 2 when outside 1 (s .n - 1) (s .t)
     ∷ 3 when outside 1 (s .n) (s .post)
-    ∷ 4 when badPoint (s .point)
+    ∷ 4 when badPoints (s .points) (pointsOf s)
     ∷ 5 when wrongLength rows (96 * width s)
-    ∷ 5 when wrongLength out (length (productsOf ts) * (2 * (s .t + 1)))
+    ∷ 5 when wrongLength out (length (productsOf ts) * (2 * (s .points * s .t + 1)))
     ∷ 14 when outside 1 32 (length ts)
     ∷ (each sixes ts
     ++ ((each (sevens s 3) ts ++ (7 when repeats (triplesOf ts) ∷ []))
@@ -78,7 +78,7 @@ relationFinishTable s rows ts d blocks =
     1 when outside 2 255 (s .n)
     ∷ 2 when outside 1 (s .n - 1) (s .t)
     ∷ 3 when outside 1 (s .n) (s .post)
-    ∷ 4 when badPoint (s .point)
+    ∷ 4 when badPoints (s .points) (pointsOf s)
     ∷ 5 when wrongLength rows (96 * width s)
     ∷ 5 when wrongLength blocks (length (productsOf ts) * (2 * recordLength s))
     ∷ 14 when outside 1 32 (length ts)
