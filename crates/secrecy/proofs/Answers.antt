@@ -5,6 +5,7 @@ use mathlib.Core.Bool.{true, false}
 use mathlib.Core.Logic.{inl, inr}
 use mathlib.Core.List.{List}
 use native.Mathlib.Omega.{arith}
+use Rattle.shape.specs.declared.Points.{Points}
 use Rattle.refusal.specs.Refusal.{first, outcome}
 use Rattle.session.specs.declared.Session.{Session}
 use Rattle.session.specs.Sessions.{answer}
@@ -81,13 +82,15 @@ module _ (T : Two) (m : Moments) (R : Pair T m)
   is-p2 =
       named (T .plan) (T .d') (T .len i) i M vec' (q' i) (R .two .posts i lo hi)
       ∙ ap
-      (λ (f : ℕ → ℕ). record {
+      (λ (f : ℕ → Points). record {
         session =
             record {
               n = T .plan .n;
               t = T .plan .t;
               post = i;
-              point = f i;
+              points = T .plan .points;
+              first = f i .first;
+              second = f i .second;
               marks = M .marks;
               «factor_a» = M .factor-a;
               «factor_b» = M .factor-b;

@@ -6,6 +6,7 @@ use mathlib.Core.Logic.{inl, inr}
 use mathlib.Core.List.{List, [], _∷_}
 use native.Mathlib.Omega.{arith}
 use lib.ListN.{length}
+use Rattle.shape.specs.declared.Points.{Points}
 use Rattle.session.specs.declared.Session.{Session}
 use Rattle.session.specs.Sessions.{mark, created}
 use Rattle.session.specs.Rows.{width, rowAt}
@@ -99,7 +100,7 @@ module _ (plan : Plan) (group : List ℕ) (rows : ℕ → List ℕ) (cs : List S
           is-draw' = is';
           low = λ r raw. h .secrets r raw .0;
           low' = λ r raw. h .secrets r raw .1;
-          K = groupKernel (pointOf d) group;
+          K = groupKernel (plan .points) (pointOf plan d) group;
           Δ = Δ;
           link = link plan group u u' Δ d (h .sound) (h .group-few) (h .secrets) (s .is-draw);
         }
@@ -145,7 +146,7 @@ module _ (plan : Plan) (group : List ℕ) (rows : ℕ → List ℕ) (cs : List S
           one = begins d u (s .is-draw) (λ r raw. h .secrets r raw .0);
           two = begins (moved plan group u u' Δ d) u' is' (λ r raw. h .secrets r raw .1);
           near = λ r lr ne. absurd (ne (start-mark r));
-          group-same = all-of (λ i. ap (λ (f : ℕ → ℕ). record { session = created (plan .n) (plan .t) i (f i) .session; rows = rows i }) (sym (moved-points plan group u u' Δ d))) group;
+          group-same = all-of (λ i. ap (λ (f : ℕ → Points). record { session = created (plan .n) (plan .t) i (plan .points) (f i) .session; rows = rows i }) (sym (moved-points plan group u u' Δ d))) group;
           agreed = λ r j xs o a. absurd a;
           waiting = λ r lr masked. elim masked [ inl five ↦ absurd (omega (arith, start-mark r)) | inr seven ↦ absurd (omega (arith, start-mark r)) ];
         }
