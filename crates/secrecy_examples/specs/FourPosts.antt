@@ -52,7 +52,7 @@ draw =
 
 -- rows of numbers from i upward at post i
 unfoldable pub start : ℕ → List ℕ
-start i = eachFrom i (rowsLength (shape 4 2)) (λ x. x)
+start i = eachFrom i (rowsLength (shape 4 2 1)) (λ x. x)
 
 -- Each post is lent another's pack of row 0.
 abbrev pub raw0at1 : List ℕ
