@@ -64,7 +64,7 @@ sound = record { posts = refl; counted = refl; raws = raws; triples = λ r e. le
     raws (suc zero) h = lit≤ tt
     raws (suc (suc r)) h = absurd h
 
-none-there : (k r : ℕ) → _≡_ {A = List ℕ} (getD (replicate k []) r []) []
+pub none-there : (k r : ℕ) → _≡_ {A = List ℕ} (getD (replicate k []) r []) []
 none-there zero r = refl
 none-there (suc k) zero = refl
 none-there (suc k) (suc r) = none-there k r

@@ -2,3 +2,4 @@ pub mod Station
 pub mod Orders
 pub mod Contradicted
 pub mod Fees
+pub mod TwoPoints
