@@ -136,7 +136,7 @@ module _ (plan : Plan) (draw : Draw) (sound : Sound plan) (is : IsDraw plan draw
       twice true = refl
       twice false = refl
 
-  made : (i : ℕ) → 1 ≤ i → i ≤ plan .n → created (plan .n) (plan .t) i (plan .points) (pointOf plan draw i) .session ≡ sessionAt plan draw i start blanks
+  pub made : (i : ℕ) → 1 ≤ i → i ≤ plan .n → created (plan .n) (plan .t) i (plan .points) (pointOf plan draw i) .session ≡ sessionAt plan draw i start blanks
   unfolding created start blanks outcome
   made i lo hi = go (first (sessionTests (plan .n) (plan .t) i (plan .points) (pointOf plan draw i))) (session-passes i lo hi)
     where

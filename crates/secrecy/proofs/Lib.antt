@@ -30,3 +30,4 @@ pub mod Theorems
 pub mod Thirteen
 pub mod Thirteens
 pub mod Never
+pub mod PointsShown
