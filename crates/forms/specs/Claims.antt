@@ -4,7 +4,7 @@ use Prim.Native.Nat.{ℕ, _+_, _*_, _≤_, _<_}
 use mathlib.Core.Path.{_≡_}
 use mathlib.Core.List.{List}
 use lib.ListN.{length, replicate}
-use Rattle.shape.specs.Bounds.{mostPosts, lastTriple}
+use Rattle.shape.specs.Bounds.{mostPoints, mostPosts, lastTriple}
 use Rattle.shape.specs.Lengths.{shape, vLength}
 use Rattle.refusal.specs.Refusal.{first}
 use Rattle.decimal.specs.Numeral.{tens, size}
@@ -50,5 +50,5 @@ OneAsLong = (n k : ℕ) → 1 ≤ n → Sent n k (longestMasks n k) × (length (
 abbrev pub LongestLines : Type 0
 LongestLines = (longest 32 32 ≡ 712) × (longest 255 255 ≡ 5619) × (longest 255 509 ≡ 11207)
 
-abbrev pub AtMost5619 : Type 0
-AtMost5619 = (n t : ℕ) (m : Message) → n ≤ mostPosts → t < n → Sent n (vLength (shape n t)) m → length (text m) ≤ 5619
+abbrev pub AtMost11207 : Type 0
+AtMost11207 = (n t k : ℕ) (m : Message) → n ≤ mostPosts → t < n → k ≤ mostPoints → Sent n (vLength (shape n t k)) m → length (text m) ≤ 11207

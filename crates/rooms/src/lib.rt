@@ -7,7 +7,7 @@ ghost use mathlib.Core.Path.{_≡_};
 ghost use Prim.Native.Nat.{_≤_};
 ghost use lib.ListN.{length};
 ghost use Rattle.shape.specs.Bounds.{veryFewPosts, fewPosts};
-ghost use Rattle.shape.specs.Lengths.{vLength};
+ghost use Rattle.shape.specs.Lengths.{weightsLength};
 ghost use Rattle.blocks.specs.Between.{Openable};
 ghost use Rattle.walk.specs.Number.{openedRow};
 ghost use Rattle.walk.specs.Between.{Roomy};
@@ -27,7 +27,7 @@ fn open_in<'a>(
     above: &mut [u32],
     below: &mut [u32],
 ) -> Opened
-    requires { ⌜ Openable party (now row) (now blocks) × (length (now weights) ≡ vLength (party .shape))
+    requires { ⌜ Openable party (now row) (now blocks) × (length (now weights) ≡ weightsLength (party .shape))
         × Roomy (party .shape) (now inverses) (now posts) (now shares) (now gaps) (now list) (now above) (now below) ⌝ }
     ensures { λ r. ⌜ r ≡ openedRow party (now (row .entry)) (now (blocks .entry)) ⌝ }
 {
@@ -55,9 +55,9 @@ pub fn open_least<'a>(party: Party, row: &'a [u32], blocks: &'a [u32]) -> Opened
     ensures { λ r. ⌜ r ≡ openedRow party (now (row .entry)) (now (blocks .entry)) ⌝ }
 {
     let shape = party.shape;
-    let count = shape.v_len();
+    let count = accepting::weights_len(shape);
     let inverses = inverses::very_few::to_8();
-    let mut weights = [0u32; shape::VERY_SHORT_V];
+    let mut weights = [0u32; shape::VERY_SHORT_WEIGHTS];
     let mut posts = [0u32; shape::VERY_FEW_POSTS];
     let mut shares = [0u32; shape::VERY_FEW_POSTS];
     let mut gaps = [0u32; inverses::very_few::VERY_FEW];
@@ -85,9 +85,9 @@ pub fn open_small<'a>(party: Party, row: &'a [u32], blocks: &'a [u32]) -> Opened
     ensures { λ r. ⌜ r ≡ openedRow party (now (row .entry)) (now (blocks .entry)) ⌝ }
 {
     let shape = party.shape;
-    let count = shape.v_len();
+    let count = accepting::weights_len(shape);
     let inverses = inverses::few::to_32();
-    let mut weights = [0u32; shape::SHORT_V];
+    let mut weights = [0u32; shape::SHORT_WEIGHTS];
     let mut posts = [0u32; shape::FEW_POSTS];
     let mut shares = [0u32; shape::FEW_POSTS];
     let mut gaps = [0u32; inverses::few::FEW];
@@ -115,9 +115,9 @@ pub fn open_large<'a>(party: Party, row: &'a [u32], blocks: &'a [u32]) -> Opened
     ensures { λ r. ⌜ r ≡ openedRow party (now (row .entry)) (now (blocks .entry)) ⌝ }
 {
     let shape = party.shape;
-    let count = shape.v_len();
+    let count = accepting::weights_len(shape);
     let inverses = inverses::to_255();
-    let mut weights = [0u32; shape::LONGEST_V];
+    let mut weights = [0u32; shape::MOST_WEIGHTS];
     let mut posts = [0u32; shape::MOST_POSTS];
     let mut shares = [0u32; shape::MOST_POSTS];
     let mut gaps = [0u32; inverses::MOST];

@@ -42,3 +42,4 @@ pub mod Theorems
 pub mod Thirteen
 pub mod Thirteens
 pub mod Never
+pub mod PointsShown

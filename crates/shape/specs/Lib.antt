@@ -2,3 +2,4 @@ pub mod Bounds
 pub mod Marks
 pub mod Lengths
 pub mod Row
+pub mod Claims

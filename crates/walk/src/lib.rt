@@ -85,7 +85,7 @@ fn walk_further<'a>(
     let mut count = need;
     let mut j = next;
     while j <= n {
-        if accepting::accepts(party, row, blocks, j, weights) {
+        if accepting::accepts_further(party, row, blocks, j, weights) {
             let share = accepting::share(party, row, blocks, j);
             posts[count] = j as u32;
             shares[count] = share;

@@ -21,7 +21,7 @@ loop-again : tie.Need-loop-again Inv-loop μ-loop
 loop-again c =
     let l = c .before .before .before .loop in
     ⊎-elim
-    (λ w. seeking-take _ _ _ _ _ _ _ (l .posts) _ (l .shares) _ (l .count) _ (l .j) _ _ (l .inv) (search needs) (c .before .accepts .ensures) (w .0 .taken) (w .1 .ensures) (w .2) (w .3) (w .4))
+    (λ w. seeking-take _ _ _ _ _ _ _ (l .posts) _ (l .shares) _ (l .count) _ (l .j) _ _ (l .inv) (search needs) (c .before .accepts-further .ensures) (w .0 .taken) (w .1 .ensures) (w .2) (w .3) (w .4))
     (λ w. search (needs, seeking-skip)) (c .if1 .came)
 
 returns : tie.Need-returns Inv-loop μ-loop
