@@ -1,4 +1,5 @@
 pub mod Parts
 pub mod Weights
+pub mod Marks
 pub mod Accepted
 pub mod Same

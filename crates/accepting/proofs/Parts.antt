@@ -1,84 +1,59 @@
--- A post's part, as the code looks at it: none, or its value at the check point; and its constant.
-use Prim.Native.Nat.{ℕ, zero, suc, _+_, _*_, _-_, _≤_, _<_}
+-- A post's part, as the code looks at it: none, or its value at a check point; and its constant.
+use Prim.Native.Nat.{ℕ, _+_, _*_, _-_, _≤_}
 use mathlib.Core.Path.{_≡_, refl, sym, _∙_, ap, ap₂}
-use mathlib.Core.Bool.{Bool, true, false, _&&_}
+use mathlib.Core.Bool.{Bool, true, false, not, _&&_}
 use mathlib.Core.List.{List, [], _∷_}
 use native.Mathlib.Omega.{arith}
 use borrow.Author.Tests.{eq-eqb, ne-eqb}
 use lib.Dec.{eqb}
 use lib.ListN.{length, getD}
 use Rattle.poly.specs.Polynomial.{value}
-use Rattle.shape.specs.Lengths.{Valid, vLength, checksAt}
+use Rattle.shape.specs.Lengths.{vLength, checksAt}
+use Rattle.shape.specs.Row.{pointAt, checkValue}
 use Rattle.session.specs.declared.Party.{Party}
 use Rattle.blocks.specs.Blocks.{sent}
 use Rattle.blocks.proofs.Blocks.{length-sent}
-use Rattle.accepting.specs.Accepting.{everyBelow, matches, accepts}
+use Rattle.accepting.specs.Accepting.{matches}
+use Rattle.accepting.specs.Between.{passesAt}
 
--- of one test, or of two
-every-none : (k : ℕ) (test : ℕ → Bool) → 1 ≤ k → test 0 ≡ false → everyBelow k test ≡ false
-every-none zero test h e = absurd (omega arith)
-every-none (suc k) test h e = ap (λ (b : Bool). b && everyBelow k (λ i. test (suc i))) e
+module _ (q : Party) (row blocks : List ℕ) (j h mark : ℕ) where
+  abbrev passed : Bool
+  passed = eqb mark 0 && passesAt q row blocks j h
 
-every-one : (k : ℕ) (test : ℕ → Bool) → 1 ≤ k → k < 2 → everyBelow k test ≡ test 0
-every-one zero test h g = absurd (omega arith)
-every-one (suc zero) test h g = and-all (test 0)
-  where
-    and-all : (b : Bool) → (b && true) ≡ b
-    and-all true = refl
-    and-all false = refl
-every-one (suc (suc k)) test h g = absurd (omega arith)
+  pub mark-kept : (mark ≡ 0 → ⊥) → eqb mark 0 ≡ passed
+  mark-kept ne = ne-eqb mark 0 ne ∙ sym (ap (λ (b : Bool). b && passesAt q row blocks j h) (ne-eqb mark 0 ne))
 
-every-two : (k : ℕ) (test : ℕ → Bool) → 2 ≤ k → k ≤ 2 → test 0 ≡ true → everyBelow k test ≡ test 1
-every-two zero test h g e = absurd (omega arith)
-every-two (suc zero) test h g e = absurd (omega arith)
-every-two (suc (suc zero)) test h g e = ap (λ (b : Bool). b && (test 1 && true)) e ∙ and-all (test 1)
-  where
-    and-all : (b : Bool) → (b && true) ≡ b
-    and-all true = refl
-    and-all false = refl
-every-two (suc (suc (suc k))) test h g e = absurd (omega arith)
+  module _ (z : mark ≡ 0) (part : List ℕ) (e : part ≡ sent q row blocks j) where
+    by-point : passesAt q row blocks j h ≡ passed
+    by-point = sym (ap (λ (b : Bool). b && passesAt q row blocks j h) (eq-eqb mark 0 z))
 
-module _ (q : Party) (row blocks : List ℕ) (j : ℕ) where
-  abbrev k : ℕ
-  k = vLength (q .shape)
+    pub mark-absent : length part ≡ 0 → eqb 1 0 ≡ passed
+    unfolding passesAt
+    mark-absent none =
+        sym (ap (λ (b : Bool). not b && matches q row (sent q row blocks j) j h) (eq-eqb (length (sent q row blocks j)) 0 (sym (ap length e) ∙ none)))
+        ∙ by-point
 
-  pub accepted-none : (part : List ℕ) → part ≡ sent q row blocks j → length part ≡ 0 → false ≡ accepts q row blocks j
-  unfolding accepts
-  accepted-none part e z = rw (eq-eqb (length (sent q row blocks j)) 0 (sym (ap length e) ∙ z))
+    module _ (some : length part ≡ 0 → ⊥) (w v checks : ℕ) (ew : w ≡ pointAt (q .points) h) (ev : v ≡ value part w) (ec : checks ≡ checksAt (q .shape)) where
+      abbrev at : ℕ
+      at = checks + (j - 1) * q .shape .points + h
 
-  module _ (part : List ℕ) (v checks : ℕ) (e : part ≡ sent q row blocks j) (n : length part ≡ 0 → ⊥) (h : v ≡ value part (q .points .first))
-      (ec : checks ≡ checksAt (q .shape)) where
-    abbrev at : ℕ
-    at = checks + (j - 1) * q .shape .points
+      matched : eqb v (getD row at 0) ≡ passesAt q row blocks j h
+      unfolding passesAt
+      matched =
+          ap₂ eqb (ev ∙ ap₂ value e ew) (ap (λ (i : ℕ). getD row i 0) place)
+          ∙ sym (ap (λ (b : Bool). not b && matches q row (sent q row blocks j) j h) (ne-eqb (length (sent q row blocks j)) 0 (λ z. some (ap length e ∙ z))))
+        where
+          place : at ≡ checksAt (q .shape) + ((j - 1) * q .shape .points + h)
+          place = omega (arith, ec)
 
-    by-values : everyBelow (q .shape .points) (matches q row part j) ≡ accepts q row blocks j
-    unfolding accepts
-    by-values = rw (← e, ne-eqb (length part) 0 n)
+      pub mark-right : v ≡ getD row at 0 → eqb 0 0 ≡ passed
+      mark-right is = sym (eq-eqb v (getD row at 0) is) ∙ matched ∙ by-point
 
-    at-first : matches q row part j 0 ≡ eqb v (getD row at 0)
-    at-first = ap₂ (λ (x i : ℕ). eqb x (getD row i 0)) (sym h) (ap (λ (i : ℕ). i + ((j - 1) * q .shape .points + 0)) (sym ec) ∙ omega arith)
+      pub mark-wrong : (v ≡ getD row at 0 → ⊥) → eqb 1 0 ≡ passed
+      mark-wrong ne = sym (ne-eqb v (getD row at 0) ne) ∙ matched ∙ by-point
 
-    pub rejected-first : Valid (q .shape) → (v ≡ getD row at 0 → ⊥) → false ≡ accepts q row blocks j
-    rejected-first w ne = sym (every-none (q .shape .points) (matches q row part j) (w .points-in .0) (at-first ∙ ne-eqb v (getD row at 0) ne)) ∙ by-values
-
-    pub accepted-one : Valid (q .shape) → v ≡ getD row at 0 → q .shape .points < 2 → true ≡ accepts q row blocks j
-    accepted-one w is one =
-        sym (every-one (q .shape .points) (matches q row part j) (w .points-in .0) one ∙ at-first ∙ eq-eqb v (getD row at 0) is) ∙ by-values
-
-    pub accepted-two : Valid (q .shape) → v ≡ getD row at 0 → 2 ≤ q .shape .points → (u : ℕ) → u ≡ value part (q .points .second)
-        → eqb u (getD row (at + 1) 0) ≡ accepts q row blocks j
-    accepted-two w is two u g =
-        sym
-        (every-two (q .shape .points) (matches q row part j) two (w .points-in .1) (at-first ∙ eq-eqb v (getD row at 0) is)
-        ∙ ap₂ (λ (x i : ℕ). eqb x (getD row i 0)) (sym g) (ap (λ (i : ℕ). i + ((j - 1) * q .shape .points + 1)) (sym ec) ∙ omega arith))
-        ∙ by-values
-
-    pub accepted-second : Valid (q .shape) → v ≡ getD row at 0 → 2 ≤ q .shape .points → (r : Bool)
-        → r ≡ eqb (value part (q .points .second)) (getD row (at + 1) 0) → r ≡ accepts q row blocks j
-    accepted-second w is two r e = e ∙ accepted-two w is two (value part (q .points .second)) refl
-
-  pub part-short : (part : List ℕ) → part ≡ sent q row blocks j → length part ≤ k
-  part-short part e = rw e (length-sent q row blocks j)
+pub part-short : (q : Party) (row blocks : List ℕ) (j : ℕ) (part : List ℕ) → part ≡ sent q row blocks j → length part ≤ vLength (q .shape)
+part-short q row blocks j part e = rw e (length-sent q row blocks j)
 
 pub no-constant : (part : List ℕ) → length part ≡ 0 → 0 ≡ getD part 0 0
 no-constant [] e = refl

@@ -2,49 +2,28 @@
 use session::Party;
 use shape::Shape;
 ghost use mathlib.Core.Path.{_≡_};
+ghost use mathlib.Core.Bool.{_&&_};
 ghost use lib.ListN.{length, getD};
-ghost use Prim.Native.Nat.{_+_, _*_, _≤_, _<_};
+ghost use Prim.Native.Nat.{_+_, _≤_, _<_};
 ghost use lib.Dec.{eqb};
 ghost use Rattle.poly.specs.Polynomial.{value};
-ghost use Rattle.shape.specs.Lengths.{Valid, vLength, weightsLength};
+ghost use Rattle.shape.specs.Lengths.{Valid, vLength};
+ghost use Rattle.shape.specs.Row.{pointAt};
 ghost use Rattle.blocks.specs.Between.{PostIn, Openable};
 ghost use Rattle.accepting.specs.Accepting.{accepts, share};
-ghost use Rattle.accepting.specs.Between.{PowersAt, PowersWhereLong};
+ghost use Rattle.accepting.specs.Between.{PowersAt, passesAt, MarkedTo, Judged, Unmarked};
 
 // A polynomial of so few coefficients is valued by Horner's rule: the powers of the check point would take longer than they save.
 const FEW_COEFFICIENTS: usize = 4;
 
-// How many weights `accepts` takes, and a bound of them that has no product of two lengths.
-pub fn weights_len(shape: Shape) -> usize
-    requires { ⌜ Valid shape ⌝ }
-    ensures { λ r. ⌜ r ≡ weightsLength shape ⌝ }
-    ensures { λ r. ⌜ r ≤ 2 * vLength shape ⌝ }
-{
-    shape.weights_len()
-}
-
 // The powers of a check point where polynomials are longer, else what the list has.
-fn fill_weights_at(shape: Shape, w: u32, list: &mut [u32])
+fn fill_weights(shape: Shape, w: u32, list: &mut [u32])
     requires { ⌜ length (now list) ≡ vLength shape ⌝ }
     ensures { λ r. ⌜ PowersAt shape w (now (list .exit)) ⌝ }
 {
     if FEW_COEFFICIENTS < list.len() {
         poly::powers(w, list);
     }
-}
-
-// The weights that `accepts` takes, at the first point and behind them at the second, where there are two.
-pub fn fill_weights(party: Party, list: &mut [u32])
-    requires { ⌜ Valid (party .shape) × (length (now list) ≡ weightsLength (party .shape)) ⌝ }
-    ensures { λ r. ⌜ PowersWhereLong party (now (list .exit)) ⌝ }
-{
-    let shape = party.shape;
-    let count = shape.v_len();
-    fill_weights_at(shape, party.points.first, &mut list[..count]);
-    if shape.points < 2 {
-        return;
-    }
-    fill_weights_at(shape, party.points.second, &mut list[count..]);
 }
 
 // A polynomial's value at a check point.
@@ -59,70 +38,107 @@ fn checked_value(shape: Shape, w: u32, part: &[u32], weights: &[u32]) -> u32
     }
 }
 
-// A polynomial has the right value at the second check point, behind the one that stands at `at`. It has two callers, so that the compiler leaves it
-// by itself and each of them goes into its walk.
-fn second_matches(party: Party, part: &[u32], weights: &[u32], row: &[u32], at: usize) -> bool
-    requires { ⌜ Valid (party .shape) × (length (now part) ≤ vLength (party .shape)) × PowersWhereLong party (now weights)
-        × (2 ≤ party .shape .points) × (at + 1 < length (now row)) ⌝ }
-    ensures { λ r. ⌜ r ≡ eqb (value (now (part .entry)) (party .points .second)) (getD (now (row .entry)) (at + 1) 0) ⌝ }
-{
-    let shape = party.shape;
-    let count = shape.v_len();
-    checked_value(shape, party.points.second, part, &weights[count..]) == row[at + 1]
-}
-
-// Post j's polynomial has the right value at each of the own check points. The second is looked at where there are two.
-pub fn accepts<'a>(
+// Post j's mark: 0 while its polynomial has the right value at the h-th check point w too, and at those before it.
+fn mark_of<'a>(
     party: Party,
+    h: usize,
+    w: u32,
     row: &'a [u32],
     blocks: &'a [u32],
     j: usize,
     weights: &[u32],
-) -> bool
-    requires { ⌜ Openable party (now row) (now blocks) × PostIn (party .shape) j × PowersWhereLong party (now weights) ⌝ }
-    ensures { λ r. ⌜ r ≡ accepts party (now (row .entry)) (now (blocks .entry)) j ⌝ }
+    mark: u32,
+) -> u32
+    requires { ⌜ Openable party (now row) (now blocks) × PostIn (party .shape) j × (h < party .shape .points) × (w ≡ pointAt (party .points) h)
+        × PowersAt (party .shape) w (now weights) ⌝ }
+    ensures { λ r. ⌜ eqb r 0 ≡ (eqb mark 0 && passesAt party (now (row .entry)) (now (blocks .entry)) j h) ⌝ }
 {
+    if mark != 0 {
+        return mark;
+    }
     let part = blocks::sent(party, row, blocks, j);
     if part.len() == 0 {
-        return false;
+        return 1;
     }
     let shape = party.shape;
-    let count = shape.v_len();
-    let at = shape.checks_at() + (j - 1) * shape.points;
-    if checked_value(shape, party.points.first, part, &weights[..count]) != row[at] {
-        return false;
+    let at = shape.checks_at() + (j - 1) * shape.points + h;
+    if checked_value(shape, w, part, weights) == row[at] {
+        return 0;
     }
-    if shape.points < 2 {
-        return true;
-    }
-    second_matches(party, part, weights, row, at)
+    1
 }
 
-// The same, for the walk over the further posts.
-pub fn accepts_further<'a>(
+// All posts' marks, by the h-th check point w.
+fn mark_all<'a>(
+    party: Party,
+    h: usize,
+    w: u32,
+    row: &'a [u32],
+    blocks: &'a [u32],
+    weights: &[u32],
+    marks: &mut [u32],
+)
+    requires { ⌜ Openable party (now row) (now blocks) × (h < party .shape .points) × (w ≡ pointAt (party .points) h)
+        × PowersAt (party .shape) w (now weights) × MarkedTo party (now row) (now blocks) h (now marks) ⌝ }
+    ensures { λ r. ⌜ MarkedTo party (now (row .entry)) (now (blocks .entry)) (h + 1) (now (marks .exit)) ⌝ }
+{
+    let shape = party.shape;
+    let n = shape.n;
+    for i in 0..n {
+        let mark = mark_of(party, h, w, row, blocks, i + 1, weights, marks[i]);
+        marks[i] = mark;
+    }
+}
+
+fn judge_at<'a>(
+    party: Party,
+    h: usize,
+    w: u32,
+    row: &'a [u32],
+    blocks: &'a [u32],
+    weights: &mut [u32],
+    marks: &mut [u32],
+)
+    requires { ⌜ Openable party (now row) (now blocks) × (h < party .shape .points) × (w ≡ pointAt (party .points) h)
+        × (vLength (party .shape) ≤ length (now weights)) × MarkedTo party (now row) (now blocks) h (now marks) ⌝ }
+    ensures { λ r. ⌜ MarkedTo party (now (row .entry)) (now (blocks .entry)) (h + 1) (now (marks .exit)) ⌝ }
+{
+    let shape = party.shape;
+    let count = shape.v_len();
+    fill_weights(shape, w, &mut weights[..count]);
+    mark_all(party, h, w, row, blocks, &weights[..count], marks);
+}
+
+// Marks the posts that the party does not accept. They are judged before both walks, a point after the other, so that one loop with a small body
+// does it: the compiler splits it by the polynomials' length.
+pub fn judge<'a>(
     party: Party,
     row: &'a [u32],
     blocks: &'a [u32],
-    j: usize,
-    weights: &[u32],
-) -> bool
-    requires { ⌜ Openable party (now row) (now blocks) × PostIn (party .shape) j × PowersWhereLong party (now weights) ⌝ }
+    weights: &mut [u32],
+    marks: &mut [u32],
+)
+    requires { ⌜ Openable party (now row) (now blocks) × (vLength (party .shape) ≤ length (now weights)) × Unmarked (party .shape) (now marks) ⌝ }
+    ensures { λ r. ⌜ Judged party (now (row .entry)) (now (blocks .entry)) (now (marks .exit)) ⌝ }
+{
+    let shape = party.shape;
+    let points = party.points;
+    let mut w = points.first;
+    let mut h = 0;
+    while h < shape.points {
+        judge_at(party, h, w, row, blocks, weights, marks);
+        w = points.second;
+        h += 1;
+    }
+}
+
+// Post j is accepted, by the marks that `judge` left.
+pub fn accepts<'a>(party: Party, row: &'a [u32], blocks: &'a [u32], j: usize, marks: &[u32]) -> bool
+    requires { ⌜ PostIn (party .shape) j × Judged party (now row) (now blocks) (now marks) ⌝ }
     ensures { λ r. ⌜ r ≡ accepts party (now (row .entry)) (now (blocks .entry)) j ⌝ }
 {
-    let part = blocks::sent(party, row, blocks, j);
-    if part.len() == 0 {
-        return false;
-    }
-    let shape = party.shape;
-    let count = shape.v_len();
-    let at = shape.checks_at() + (j - 1) * shape.points;
-    if checked_value(shape, party.points.first, part, &weights[..count]) != row[at] {
-        return false;
-    }
-    if shape.points < 2 {
-        return true;
-    }
-    second_matches(party, part, weights, row, at)
+    let i = j - 1;
+    marks[i] == 0
 }
 
 // The constant of a polynomial.

@@ -7,7 +7,7 @@ use mir.Syntax.{w64}
 use mir.Val.{Fits}
 use Rattle.shape.specs.declared.Shape.{Shape}
 use Rattle.shape.specs.Bounds.{fewestPosts, mostPosts, mostPoints, longestRow}
-use Rattle.shape.specs.Lengths.{shape, Valid, fLength, vLength, weightsLength, rowLength, blockLength, drawLength}
+use Rattle.shape.specs.Lengths.{shape, Valid, fLength, vLength, rowLength, blockLength, drawLength}
 
 -- products with the number of points
 between : (k x : ℕ) → 1 ≤ k → k ≤ mostPoints → (x ≤ k * x) × (k * x ≤ mostPoints * x)
@@ -22,15 +22,6 @@ valid-shape n t k hn ht hk =
       reach-in = between k t (hk .0) (hk .1);
       checks-in = between k n (hk .0) (hk .1);
     }
-
-pub weights-in : (s : Shape) (k : ℕ) → Valid s → k ≡ vLength s → s .points * k ≤ mostPoints * k
-weights-in s k v e = mul-le-mul {n₁ = s .points} {m₁ = k} {n₂ = mostPoints} {m₂ = k} (v .points-in .1) (le-refl k)
-
-pub weights-fit : (s : Shape) (k : ℕ) → Valid s → k ≡ vLength s → Fits w64 (s .points * k)
-weights-fit s k v e = record { fits = omega (arith, weights-in s k v e, e, v .n-in, v .t-in, v .reach-in) }
-
-pub weights-are : (s : Shape) (k : ℕ) → k ≡ vLength s → s .points * k ≡ weightsLength s
-weights-are s k e = ap (λ (i : ℕ). s .points * i) e
 
 -- k numbers for each post, no more than a row's
 pub each-small : (s : Shape) (k : ℕ) → Valid s → k ≤ longestRow → s .n * k ≤ mostPosts * longestRow

@@ -26,10 +26,6 @@ fLength s = s .t + 1
 abbrev pub vLength : Shape → ℕ
 vLength s = s .points * s .t + 1
 
--- ours: a weight for each of them, at each point of a post
-abbrev pub weightsLength : Shape → ℕ
-weightsLength s = s .points * vLength s
-
 -- "both check values of each sender follow one another"
 abbrev pub checksLength : Shape → ℕ
 checksLength s = s .points * s .n

@@ -1,7 +1,7 @@
 // The shape of a station: the numbers that bound it, and the lengths that follow from n and t. The calls on a session take them
 // from here alone.
 ghost use mathlib.Core.Path.{_≡_};
-ghost use Rattle.shape.specs.Lengths.{needed, fLength, vLength, weightsLength, checksLength, checksAt, sumsAt, rowLength, tripleLength};
+ghost use Rattle.shape.specs.Lengths.{needed, fLength, vLength, checksLength, checksAt, sumsAt, rowLength, tripleLength};
 ghost use Rattle.shape.specs.Lengths.{rowsLength, blockLength, recordLength, drawLength, tripleDrawLength, packsLength, masksLength, Valid};
 
 // How many posts a station may have.
@@ -20,24 +20,18 @@ pub const MOST_POINTS: usize = 2;
 pub const LONGEST_V: usize = 2 * MOST_POSTS - 1;
 
 pub const LONGEST_ROW: usize = 5 * MOST_POSTS - 1;
-// The weights of a v at each of two points.
-pub const MOST_WEIGHTS: usize = 2 * LONGEST_V;
 // Stations of so few posts get smaller rooms, for their rows and their v's.
 pub const FEW_POSTS: usize = 32;
 
 pub const SHORT_ROW: usize = 5 * FEW_POSTS - 1;
 
 pub const SHORT_V: usize = 2 * FEW_POSTS - 1;
-
-pub const SHORT_WEIGHTS: usize = 2 * SHORT_V;
 // And of so very few, rooms that are smaller still.
 pub const VERY_FEW_POSTS: usize = 8;
 
 pub const VERY_SHORT_ROW: usize = 5 * VERY_FEW_POSTS - 1;
 
 pub const VERY_SHORT_V: usize = 2 * VERY_FEW_POSTS - 1;
-
-pub const VERY_SHORT_WEIGHTS: usize = 2 * VERY_SHORT_V;
 
 // The marks of rows.
 pub const EMPTY: u8 = 0;
@@ -97,15 +91,6 @@ impl Shape {
         ensures { λ r. ⌜ r ≡ vLength self ⌝ }
     {
         self.points * self.t + 1
-    }
-
-    // The weights of a post's polynomials, at each of its points.
-    pub fn weights_len(self) -> usize
-        requires { ⌜ Valid self ⌝ }
-        ensures { λ r. ⌜ r ≡ weightsLength self ⌝ }
-    {
-        let points = self.points;
-        points * self.v_len()
     }
 
     // How many check values a row has.

@@ -9,11 +9,11 @@ use Rattle.walk.proofs.walk_further.Statement.{statement}
 use Rattle.walk.proofs.walk_further.Tie as tie
 
 abbrev Inv-loop : tie.InvT-loop
-Inv-loop party row blocks weights last need posts₀ shares₀ n next count₀ j₀ posts shares count j =
+Inv-loop party row blocks marks last need posts₀ shares₀ n next count₀ j₀ posts shares count j =
     Seeking (accepts party row blocks) (share party row blocks) (party .shape .n) need last posts₀ shares₀ posts shares count j
 
 abbrev μ-loop : tie.MeasureT-loop
-μ-loop party row blocks weights last need posts₀ shares₀ n next count₀ j₀ posts shares count j = party .shape .n + 1 - j
+μ-loop party row blocks marks last need posts₀ shares₀ n next count₀ j₀ posts shares count j = party .shape .n + 1 - j
 
 ruleset steps = (needs, post-in, seeking-start)
 
@@ -21,7 +21,7 @@ loop-again : tie.Need-loop-again Inv-loop μ-loop
 loop-again c =
     let l = c .before .before .before .loop in
     ⊎-elim
-    (λ w. seeking-take _ _ _ _ _ _ _ (l .posts) _ (l .shares) _ (l .count) _ (l .j) _ _ (l .inv) (search needs) (c .before .accepts-further .ensures) (w .0 .taken) (w .1 .ensures) (w .2) (w .3) (w .4))
+    (λ w. seeking-take _ _ _ _ _ _ _ (l .posts) _ (l .shares) _ (l .count) _ (l .j) _ _ (l .inv) (search needs) (c .before .accepts .ensures) (w .0 .taken) (w .1 .ensures) (w .2) (w .3) (w .4))
     (λ w. search (needs, seeking-skip)) (c .if1 .came)
 
 returns : tie.Need-returns Inv-loop μ-loop
