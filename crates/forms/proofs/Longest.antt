@@ -1,11 +1,12 @@
 -- The longest line: a formula in n and the number of coefficients, and the line that has it.
 use Prim.Native.Nat.{ℕ, zero, suc, _+_, _*_, _≤_}
-use mathlib.Core.Path.{_≡_, refl}
+use mathlib.Core.Path.{_≡_, refl, ap}
 use mathlib.Core.List.{[], _∷_, _++_}
 use mathlib.Core.Bool.{Bool, true, false, cond}
+use native.Mathlib.Decide.{ℕ-discrete}
 use native.Mathlib.Nat.{mul-le-mul, le-refl}
 use native.Mathlib.Omega.{arith}
-use borrow.Author.Tests.{le-ltb}
+use borrow.Author.Tests.{le-ltb, eq-eqb, ne-eqb}
 use lib.ListN.{length, replicate, length-append, length-replicate}
 use lib.Dec.{eqb}
 use Rattle.shape.specs.Bounds.{mostPoints, mostPosts, lastRow, lastTriple}
@@ -17,7 +18,8 @@ use Rattle.decimal.proofs.Sizes.{size-pos, size-grows}
 use Rattle.csv.specs.Fields.{field, fields, written}
 use Rattle.csv.proofs.Overwriting.{length-field, length-fields-le}
 use Rattle.csv.proofs.Laying.{length-written}
-use Rattle.forms.specs.Claims.{longest, NoneLonger, OneAsLong, LongestLines, AtMost11207}
+use Rattle.forms.specs.Lines.{text}
+use Rattle.forms.specs.Claims.{longest, NoneLonger, OneAsLong, LongestLines, AtMostBytes}
 use Rattle.forms.proofs.Ranges.{last-row-le}
 use Rattle.forms.proofs.RoundTrip.{WithinBounds, in-range}
 
@@ -87,8 +89,18 @@ longest-lines = (refl, refl, refl)
 longest-grows : (n m k j : ℕ) → n ≤ m → k ≤ j → longest n k ≤ longest m j
 longest-grows n m k j h g = omega (arith, size-grows 9 n m h)
 
-pub at-most-11207 : AtMost11207
-at-most-11207 n t points m h g few s =
-    let k = vLength (shape n t points) in
-    let reach = mul-le-mul {n₁ = points} {m₁ = t} {n₂ = mostPoints} {m₂ = t} few (le-refl t) in
-    omega (arith, none-longer n k m (omega arith) s, longest-grows n mostPosts k 509 h (omega (arith, reach)), longest-lines .2)
+pub at-most-bytes : AtMostBytes
+at-most-bytes n t points m h g few s = by-points (ℕ-discrete points 1)
+  where
+    k : ℕ
+    k = vLength (shape n t points)
+
+    reach : points * t ≤ mostPoints * t
+    reach = mul-le-mul {n₁ = points} {m₁ = t} {n₂ = mostPoints} {m₂ = t} few (le-refl t)
+
+    by-points : Dec (points ≡ 1) → length (text m) ≤ cond (eqb points 1) 5619 11207
+    by-points (yes e) =
+        rw (eq-eqb points 1 e)
+        (omega (arith, none-longer n k m (omega arith) s, longest-grows n mostPosts k 255 h (omega (arith, ap (λ (i : ℕ). i * t) e)), longest-lines .1))
+    by-points (no ne) =
+        rw (ne-eqb points 1 ne) (omega (arith, none-longer n k m (omega arith) s, longest-grows n mostPosts k 509 h (omega (arith, reach)), longest-lines .2))

@@ -2,7 +2,9 @@
 -- a message's coefficients.
 use Prim.Native.Nat.{ℕ, _+_, _*_, _≤_, _<_}
 use mathlib.Core.Path.{_≡_}
+use mathlib.Core.Bool.{cond}
 use mathlib.Core.List.{List}
+use lib.Dec.{eqb}
 use lib.ListN.{length, replicate}
 use Rattle.shape.specs.Bounds.{mostPoints, mostPosts, lastTriple}
 use Rattle.shape.specs.Lengths.{shape, vLength}
@@ -50,5 +52,8 @@ OneAsLong = (n k : ℕ) → 1 ≤ n → Sent n k (longestMasks n k) × (length (
 abbrev pub LongestLines : Type 0
 LongestLines = (longest 32 32 ≡ 712) × (longest 255 255 ≡ 5619) × (longest 255 509 ≡ 11207)
 
-abbrev pub AtMost11207 : Type 0
-AtMost11207 = (n t k : ℕ) (m : Message) → n ≤ mostPosts → t < n → k ≤ mostPoints → Sent n (vLength (shape n t k)) m → length (text m) ≤ 11207
+-- In bytes, by the number k of check points a post.
+abbrev pub AtMostBytes : Type 0
+AtMostBytes =
+    (n t k : ℕ) (m : Message) → n ≤ mostPosts → t < n → k ≤ mostPoints → Sent n (vLength (shape n t k)) m
+    → length (text m) ≤ cond (eqb k 1) 5619 11207
