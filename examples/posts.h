@@ -31,7 +31,7 @@ static void expect_made(uint8_t refusal) {
 
 /* The factory draws a row, and its dealer shares `number` with it. */
 static void share(size_t row, uint32_t number, const uint32_t *draw) {
-    uint32_t packs[N * ROW], c = gantsorol_dealer_number(number, draw[0]).value;
+    uint32_t packs[GANTSOROL_PACKS_LEN(N, T)], c = gantsorol_dealer_number(number, draw[0]).value;
     expect_made(gantsorol_factory_row(N, T, points, N, draw, GANTSOROL_ROW_DRAW_LEN(N, T), packs, N * ROW));
     for (int i = 0; i < N; i++) {
         keep(i, gantsorol_load_row(posts[i], rows[i], ALL, row, packs + i * ROW, ROW));
@@ -41,7 +41,7 @@ static void share(size_t row, uint32_t number, const uint32_t *draw) {
 
 /* The factory draws a triple; each post gets its part of l, of l' and of l''. */
 static void load_triple(size_t first, const uint32_t *draw) {
-    uint32_t packs[3 * N * ROW], pack[3 * ROW];
+    uint32_t packs[GANTSOROL_TRIPLE_PACKS_LEN(N, T)], pack[GANTSOROL_TRIPLE_PACK_LEN(N, T)];
     expect_made(
         gantsorol_factory_triple(N, T, points, N, draw, GANTSOROL_TRIPLE_DRAW_LEN(N, T), packs, 3 * N * ROW));
     for (int i = 0; i < N; i++) {

@@ -2,11 +2,14 @@
  *
  * The input is decimal numbers parted by spaces or line feeds: n and t; the n check points; the kinds of the 96 rows (0 empty,
  * 1 raw, 3 a triple's first row, with 0 for its other two); the numbers drawn, by rising row. What stands between a # and the
- * end of its line is not read. A refusal is said on standard error, and then nothing is written. */
+ * end of its line is not read. A refusal is said on standard error, and then nothing is written. The file is secret: `umask 077`
+ * before, so that only its owner may read it. */
+#define _POSIX_C_SOURCE 200809L
 #include <stdio.h>
 #include <stdlib.h>
 
 #include "gantsorol.h"
+#include "given.h"
 
 /* The first byte of the next number, or EOF. */
 static int behind_spaces(void) {
@@ -41,10 +44,9 @@ static int fail(const char *what) {
 }
 
 int main(int count, char **arguments) {
-    if (count != 2)
+    uint32_t post, n, t, number;
+    if (count != 2 || !given_number(arguments[1], GANTSOROL_MAX_POSTS + 1, &post))
         return fail("which post?");
-    size_t post = strtoul(arguments[1], NULL, 10);
-    uint32_t n, t, number;
     if (next(&n) != 1 || next(&t) != 1 || n > GANTSOROL_MAX_POSTS || t >= GANTSOROL_MAX_POSTS)
         return fail("the input does not begin with n and t");
 
@@ -60,8 +62,8 @@ int main(int count, char **arguments) {
     }
 
     /* No station has a larger draw than one of raw rows alone, nor a longer file. */
-    size_t room = GANTSOROL_ROWS * GANTSOROL_ROW_DRAW_LEN((size_t)n, (size_t)t), drawn = 0;
-    size_t length = 32 + GANTSOROL_ROWS * (5 + 11 * GANTSOROL_ROW_LEN((size_t)n, (size_t)t));
+    size_t room = GANTSOROL_DRAWS_LEN((size_t)n, (size_t)t, GANTSOROL_ROWS, 0), drawn = 0;
+    size_t length = GANTSOROL_PACK_FILE_LEN((size_t)n, (size_t)t, GANTSOROL_ROWS, 0);
     uint32_t *draws = (uint32_t *)malloc(room * sizeof *draws);
     uint8_t *file = (uint8_t *)malloc(length);
     if (draws == NULL || file == NULL)
@@ -77,9 +79,7 @@ int main(int count, char **arguments) {
 
     gantsorol_written written =
         gantsorol_write_pack(n, t, post, points, n, kinds, GANTSOROL_ROWS, draws, drawn, file, length);
-    if (written.refusal != 0) {
-        fprintf(stderr, "works: refusal %d\n", written.refusal);
-        return 1;
-    }
+    if (written.refusal != GANTSOROL_OK)
+        return fail(gantsorol_refusal_text(written.refusal));
     return fwrite(file, 1, written.len, stdout) == written.len && fflush(stdout) == 0 ? 0 : fail("the file is not written");
 }

@@ -1,41 +1,64 @@
 /*
  * Gantsorol: verifiable secret sharing for dock posts.
  *
- * The library is libgantsorol.a (`rt staticlib gantsorol`). It needs no initialisation, allocates nothing, keeps nothing
- * between calls and may be called from several threads.
+ * For x86-64 only, by the rules of System V. The library is libgantsorol.a (`rt staticlib gantsorol`, or `./install`).
+ * It needs no initialisation, allocates nothing, keeps nothing between calls and takes nothing but memcpy and memset.
+ * docs/INTEGRATING.md goes from an empty folder to a post.
  *
  * Any values are allowed. Every call, whatever it is given, does its one job or answers with a refusal, the number of
- * the first condition below that applies; 0 means none. A refused call changes no list and no session, and its value
- * is 0.
- *
- *    1  the number of posts n is outside 2 to 255
- *    2  t is outside 1 to n - 1
- *    3  the session's post, or the post of a line to be written, of a block or of a pack file, is outside 1 to n
- *    4  a check point is 0 or at least p
- *    5  a list's length is not exactly the one stated
- *    6  a row is above 95, or a triple's first row above 93
- *    7  a row's mark, or a remembered row, is not what the call needs; a relation names a triple twice; a kind other
- *       than 0 stands inside a triple of a pack file
- *    8  a number that the call is given or reads, or a remembered one that it uses, is at least p, a record's mark is
- *       above 1, or a kind of a pack file is unknown
- *    9  fewer than t+1 posts were accepted, in any record
- *   10  a line read has the wrong form
- *   11  a line read has a number out of range
- *   12  the list lent for a line or a file is shorter than that
- *   13  an accepted share is not on the polynomial of the t+1 lowest, in any record; looked at after 9 of all
- *   14  a relation has no terms, or more than 32; looked at after 5
+ * the first condition of gantsorol_refusal_text that applies; 0 means none. A refused call changes no list and no
+ * session, and its value is 0.
  *
  * What a caller has to see to, because no call can: a list is passed as a pointer to its first number, aligned for its
  * type, and its length in numbers (bytes for a line or a file, kinds, or terms), which the memory really has. The lists
  * of one call must not overlap. Where the length is 0 the pointer is not used and may be NULL.
  *
  * A number is an element, 0 to p - 1. A post keeps a session, which each call takes by value and hands back, and a list
- * of GANTSOROL_ROWS_LEN(n, t) numbers, its 96 rows, which it lends to each call. Use the session that the last call
- * handed back, never an older one: a row would be opened or dealt that no longer is what the old marks say.
+ * of GANTSOROL_ROWS_LEN(n, t) numbers, its 96 rows, which it lends to each call; they need not be cleared before. Use
+ * the session that the last call handed back, never an older one: a row would be opened or dealt that no longer is what
+ * the old marks say. So a session belongs to one thread at a time; different sessions may be used by different threads.
  *
  * A row is a post's part of one shared number: the t+1 coefficients of the post's own polynomial, constant first; n
- * check values; n public sums. A record holds what the posts sent of one row, a block for each; all zeros is a record
- * in which every post is absent.
+ * check values; n public sums. A record holds what the posts sent of one row, a block for each; all zeros is a record in
+ * which every post is absent.
+ *
+ * Power loss. Store the session that a call hands back, and the rows with it where they were written, before the line
+ * that the call made is sent. With an older session a triple would be used twice, and two masks of one triple tell the
+ * difference of two factors to whoever hears them.
+ *
+ * Senders. A line names its post, and nobody checks that it comes from there: the carrier has to. A later
+ * gantsorol_record_put of a post writes over the one before.
+ *
+ * On 9 (GANTSOROL_TOO_FEW_ACCEPTED) wait for more messages, put them into the record and call again. A message that is
+ * there and not accepted is not the polynomial that this post has a check value of; the call does not say whose it is.
+ *
+ * On 13 (GANTSOROL_INCONSISTENT_SHARES) an accepted share is off, perhaps the own one, which no record takes out. Take
+ * one post out of the record, call again, and put it back: where t+3 or more were accepted and one of the others is off,
+ * the call is done only without that one. Any t+1 shares agree: with posts removed down to t+1 a number has passed no
+ * such check, and is not to be taken on its word.
+ *
+ * Erase, with gantsorol_erase, what is no longer needed: draws and packs once the pack files are written, and those once
+ * they are loaded; the dealer's f once c is sent; messages, records, rows and the session with its last opening. Copies
+ * of the session that calls had on the stack stay there until they are written over.
+ *
+ * Bytes, for (n, t); GANTSOROL_..._LEN below give numbers of 4 bytes, and bytes for lines and files:
+ *
+ *                         (3, 1)    (32, 15)   (255, 127)
+ *    session               1,088       1,088        1,088
+ *    answer                1,096       1,096        1,096
+ *    rows                  3,072      30,720      244,992
+ *    record                   36       2,176      131,580
+ *    draw of a row            32       2,112      131,072
+ *    draw of a triple         92       6,332      393,212
+ *    longest line             51         360        2,825
+ *
+ * No call takes more than GANTSOROL_MOST_STACK bytes of stack, beside its arguments and its answer; docs/INTEGRATING.md
+ * has the figures of each call.
+ *
+ * What the calls read. A refusal 8 looks at every number of each row that the call reads from: an opening message gets
+ * it for a bad check value or public sum too. Masks and collect leave the triple's third row unread; multiply reads
+ * neither factor row, only the triple's rows and the two numbers remembered. Check points are looked at before lengths:
+ * a bad one behind the n-th gets 4, not 5.
  */
 #ifndef GANTSOROL_H
 #define GANTSOROL_H
@@ -43,9 +66,75 @@
 #include <stddef.h>
 #include <stdint.h>
 
-#ifdef __cplusplus
-extern "C" {
+#if !defined(__x86_64__) || defined(__ILP32__) || defined(_WIN32)
+#error "libgantsorol.a is for x86-64, by the rules of System V"
 #endif
+
+/* The version: the minor number counts the requests that are in (CHANGES.md). */
+#define GANTSOROL_VERSION_MAJOR 0
+#define GANTSOROL_VERSION_MINOR 8
+#define GANTSOROL_VERSION_PATCH 0
+
+/*
+ * Refusals. Conditions are looked at in the order of their numbers, but for 14, which comes right after 5; each over all
+ * lists and terms before the next. 15 to 19 are kept for what is to come.
+ */
+enum gantsorol_refusal {
+    GANTSOROL_OK = 0,
+    GANTSOROL_BAD_POST_COUNT = 1,
+    GANTSOROL_BAD_THRESHOLD = 2,
+    GANTSOROL_BAD_POST = 3,
+    GANTSOROL_BAD_CHECK_POINT = 4,
+    GANTSOROL_BAD_LENGTH = 5,
+    GANTSOROL_NO_SUCH_ROW = 6,
+    GANTSOROL_WRONG_MARK = 7,
+    GANTSOROL_NOT_AN_ELEMENT = 8,
+    GANTSOROL_TOO_FEW_ACCEPTED = 9,
+    GANTSOROL_MALFORMED_LINE = 10,
+    GANTSOROL_LINE_OUT_OF_RANGE = 11,
+    GANTSOROL_NO_ROOM = 12,
+    GANTSOROL_INCONSISTENT_SHARES = 13,
+    GANTSOROL_BAD_TERM_COUNT = 14
+};
+
+/* A refusal in words: the condition that applies. */
+static inline const char *gantsorol_refusal_text(uint8_t refusal) {
+    switch (refusal) {
+    case GANTSOROL_OK:
+        return "no refusal";
+    case GANTSOROL_BAD_POST_COUNT:
+        return "the number of posts n is outside 2 to 255";
+    case GANTSOROL_BAD_THRESHOLD:
+        return "t is outside 1 to n - 1";
+    case GANTSOROL_BAD_POST:
+        return "the session's post, or the post of a line to be written, of a block or of a pack file, is outside 1 to n";
+    case GANTSOROL_BAD_CHECK_POINT:
+        return "a check point is 0 or at least p";
+    case GANTSOROL_BAD_LENGTH:
+        return "a list's length is not exactly the one stated";
+    case GANTSOROL_NO_SUCH_ROW:
+        return "a row is above 95, or a triple's first row above 93";
+    case GANTSOROL_WRONG_MARK:
+        return "a row's mark, or a remembered row, is not what the call needs; a relation names a triple twice; "
+               "a kind other than 0 stands inside a triple of a pack file";
+    case GANTSOROL_NOT_AN_ELEMENT:
+        return "a number is at least p, a record's mark is above 1, or a kind of a pack file is unknown";
+    case GANTSOROL_TOO_FEW_ACCEPTED:
+        return "fewer than t+1 posts were accepted, in any record";
+    case GANTSOROL_MALFORMED_LINE:
+        return "a line read has the wrong form";
+    case GANTSOROL_LINE_OUT_OF_RANGE:
+        return "a line read has a number out of range";
+    case GANTSOROL_NO_ROOM:
+        return "the list lent for a line or a file is shorter than that";
+    case GANTSOROL_INCONSISTENT_SHARES:
+        return "an accepted share is not on the polynomial of the t+1 lowest, in any record";
+    case GANTSOROL_BAD_TERM_COUNT:
+        return "a relation has no terms, or more than 32";
+    default:
+        return "unknown to this header";
+    }
+}
 
 /* p, the number of elements. */
 #define GANTSOROL_MODULUS 2147483647u
@@ -57,31 +146,94 @@ extern "C" {
 #define GANTSOROL_MAX_TERMS 32
 /* The second row of a term that is no product. */
 #define GANTSOROL_NO_ROW 255
-/* The bytes of the longest broadcast line, its line feed included. A pack file has longer ones. */
+/* More stack than any call takes, beside its arguments and its answer. */
+#define GANTSOROL_MOST_STACK 20000
+/* The bytes of the longest broadcast line of any station, its line feed included. A pack file has longer ones. */
 #define GANTSOROL_LONGEST_LINE 5619
 
 /* Lengths of lists, for n posts and threshold t. */
 
-/* A row. */
-#define GANTSOROL_ROW_LEN(n, t) ((t) + 1 + 2 * (n))
+/* A row: the t+1 coefficients of the post's own polynomial, constant first, n check values, n public sums. */
+#define GANTSOROL_ROW_LEN(n, t) (GANTSOROL_MESSAGE_LEN(t) + 2 * (n))
 /* A session's rows. */
 #define GANTSOROL_ROWS_LEN(n, t) (GANTSOROL_ROWS * GANTSOROL_ROW_LEN(n, t))
-/* A record's block: a mark, 0 absent or 1 present, then t+1 coefficients. */
-#define GANTSOROL_BLOCK_LEN(t) ((t) + 2)
+/* An opening message: t+1 coefficients. */
+#define GANTSOROL_MESSAGE_LEN(t) ((t) + 1)
+/* A record's block: a mark, 0 absent or 1 present, then a message. */
+#define GANTSOROL_BLOCK_LEN(t) (1 + GANTSOROL_MESSAGE_LEN(t))
 /* A record: a block for each post, post 1 first. */
 #define GANTSOROL_RECORD_LEN(n, t) ((n) * GANTSOROL_BLOCK_LEN(t))
-/* The draw of a row: the t+1 coefficients of f, then those of v1 to vn. */
-#define GANTSOROL_ROW_DRAW_LEN(n, t) (((t) + 1) * ((n) + 1))
-/* The draw of a triple: three draws of a row, the third without f's constant. */
-#define GANTSOROL_TRIPLE_DRAW_LEN(n, t) (3 * GANTSOROL_ROW_DRAW_LEN(n, t) - 1)
-/* The masks of a product: t+1 coefficients for each factor. */
-#define GANTSOROL_MASKS_LEN(t) (2 * ((t) + 1))
+/* The masks of a product: a message for each factor. */
+#define GANTSOROL_MASKS_LEN(t) (2 * GANTSOROL_MESSAGE_LEN(t))
 /* The masks of a relation's product terms, k of them. */
 #define GANTSOROL_RELATION_MASKS_LEN(t, k) ((k) * GANTSOROL_MASKS_LEN(t))
 /* The records of a relation's product terms, k of them: two records each. */
 #define GANTSOROL_RELATION_RECORDS_LEN(n, t, k) ((k) * 2 * GANTSOROL_RECORD_LEN(n, t))
 /* The list that a line read fills. */
-#define GANTSOROL_LINE_LIST_LEN(t) (2 * ((t) + 1))
+#define GANTSOROL_LINE_LIST_LEN(t) (2 * GANTSOROL_MESSAGE_LEN(t))
+
+/* The draw of a row: the t+1 coefficients of f, then those of v1 to vn. */
+#define GANTSOROL_ROW_DRAW_LEN(n, t) (((t) + 1) * ((n) + 1))
+/* The draw of a triple: three draws of a row, the third without f's constant. */
+#define GANTSOROL_TRIPLE_DRAW_LEN(n, t) (3 * GANTSOROL_ROW_DRAW_LEN(n, t) - 1)
+/* All draws of a station with so many raw rows and triples. */
+#define GANTSOROL_DRAWS_LEN(n, t, raw, triples)                                                                             \
+    ((raw) * GANTSOROL_ROW_DRAW_LEN(n, t) + (triples) * GANTSOROL_TRIPLE_DRAW_LEN(n, t))
+/* All posts' packs of a row. */
+#define GANTSOROL_PACKS_LEN(n, t) ((n) * GANTSOROL_ROW_LEN(n, t))
+/* One post's pack of a triple: its rows of l, l' and l''. */
+#define GANTSOROL_TRIPLE_PACK_LEN(n, t) (3 * GANTSOROL_ROW_LEN(n, t))
+/* All posts' packs of a triple. */
+#define GANTSOROL_TRIPLE_PACKS_LEN(n, t) ((n) * GANTSOROL_TRIPLE_PACK_LEN(n, t))
+
+/* Bytes of the longest lines and files, line feeds included. A comma and an element are 11 bytes. */
+
+/* The digits of a number of posts, of a post or of t. */
+#define GANTSOROL_DIGITS(n) ((n) < 10 ? 1 : (n) < 100 ? 2 : 3)
+/* A "D" line. */
+#define GANTSOROL_DEAL_LINE_LEN 16
+/* An "O" line. */
+#define GANTSOROL_OPENING_LINE_LEN(n, t) (6 + GANTSOROL_DIGITS(n) + 11 * GANTSOROL_MESSAGE_LEN(t))
+/* An "M" line, which is the longest of a station. */
+#define GANTSOROL_MASKS_LINE_LEN(n, t) (6 + GANTSOROL_DIGITS(n) + 11 * GANTSOROL_MASKS_LEN(t))
+/* A pack file's "R" line and its "T" line. */
+#define GANTSOROL_ROW_LINE_LEN(n, t) (5 + 11 * GANTSOROL_ROW_LEN(n, t))
+#define GANTSOROL_TRIPLE_LINE_LEN(n, t) (5 + 11 * GANTSOROL_TRIPLE_PACK_LEN(n, t))
+/* A pack file with so many raw rows and triples. */
+#define GANTSOROL_PACK_FILE_LEN(n, t, raw, triples)                                                                         \
+    (16 + 2 * GANTSOROL_DIGITS(n) + GANTSOROL_DIGITS(t) + (raw) * GANTSOROL_ROW_LINE_LEN(n, t) +                            \
+     (triples) * GANTSOROL_TRIPLE_LINE_LEN(n, t))
+
+/* The kind of a row in a station's plan. */
+enum gantsorol_kind {
+    /* an empty row, or the second or third of a triple */
+    GANTSOROL_KIND_EMPTY = 0,
+    GANTSOROL_KIND_RAW = 1,
+    /* the first row of a triple */
+    GANTSOROL_KIND_TRIPLE = 3
+};
+
+/* Where the draw of a row stands in the list of draws of gantsorol_write_pack; with GANTSOROL_ROWS for row, that list's
+   length. kinds: GANTSOROL_ROWS of them, row: at most that. */
+static inline size_t gantsorol_draw_place(size_t n, size_t t, const uint8_t *kinds, size_t row) {
+    size_t raw = 0, triples = 0;
+    for (size_t i = 0; i < row; i++) {
+        raw += kinds[i] == GANTSOROL_KIND_RAW;
+        triples += kinds[i] == GANTSOROL_KIND_TRIPLE;
+    }
+    return GANTSOROL_DRAWS_LEN(n, t, raw, triples);
+}
+
+/* Zeros over a list, a session or a line that is no longer needed: the compiler leaves no write out. */
+static inline void gantsorol_erase(void *memory, size_t bytes) {
+    volatile uint8_t *byte = (volatile uint8_t *)memory;
+    for (size_t i = 0; i < bytes; i++)
+        byte[i] = 0;
+}
+
+#ifdef __cplusplus
+extern "C" {
+#endif
 
 /* What a post remembers beside its rows. Each call checks the fields anew. */
 typedef struct gantsorol_session {
@@ -185,10 +337,10 @@ gantsorol_answer gantsorol_opening_message(gantsorol_session session, const uint
  * coefficients of an absent one. A block whose polynomial does not have the row's check value at the post's check point
  * is not accepted. The number comes from the t+1 accepted posts with the lowest numbers; the shares of all further ones
  * must agree with them, or the refusal is 13.
- * rows: GANTSOROL_ROWS_LEN, read. blocks: GANTSOROL_RECORD_LEN, read. Refusals 1 to 9, 13.
+ * rows: GANTSOROL_ROWS_LEN, read. record: GANTSOROL_RECORD_LEN, read. Refusals 1 to 9, 13.
  */
 gantsorol_answer gantsorol_open(gantsorol_session session, const uint32_t *rows, size_t rows_len, size_t row,
-                                const uint32_t *blocks, size_t blocks_len);
+                                const uint32_t *record, size_t record_len);
 
 /*
  * Writes row a plus scale times row b, both held and perhaps the same, into the empty row dest, which becomes held. The
@@ -267,17 +419,17 @@ gantsorol_answer gantsorol_relation_finish(gantsorol_session session, uint32_t *
 /*
  * Puts what a post sent, the t+1 coefficients of its message or of one of its masks, into the post's block of a record,
  * which becomes present; the refusal. What stood in the block is written over, the other blocks stay as they are.
- * blocks: GANTSOROL_RECORD_LEN, written. message: t+1, read. Refusals 1, 2, 3, 5 and 8.
+ * record: GANTSOROL_RECORD_LEN, written. message: t+1, read. Refusals 1, 2, 3, 5 and 8.
  */
-uint8_t gantsorol_record_put(size_t n, size_t t, uint32_t *blocks, size_t blocks_len, size_t post,
+uint8_t gantsorol_record_put(size_t n, size_t t, uint32_t *record, size_t record_len, size_t post,
                              const uint32_t *message, size_t message_len);
 
 /*
  * Takes a post's message out of a record again: its block becomes absent, all zeros, and the other blocks stay as they
  * are; the refusal.
- * blocks: GANTSOROL_RECORD_LEN, written. Refusals 1, 2, 3 and 5.
+ * record: GANTSOROL_RECORD_LEN, written. Refusals 1, 2, 3 and 5.
  */
-uint8_t gantsorol_record_remove(size_t n, size_t t, uint32_t *blocks, size_t blocks_len, size_t post);
+uint8_t gantsorol_record_remove(size_t n, size_t t, uint32_t *record, size_t record_len, size_t post);
 
 /* ---- The factory and the dealer ---- */
 

@@ -8,7 +8,6 @@ use lib.Dec.{eqb}
 use Rattle.refusal.specs.Refusal.{Test, _when_, first, Applies, AllFail}
 use Rattle.session.specs.declared.Session.{Session}
 use Rattle.session.specs.declared.Answer.{Answer}
-use Rattle.session.specs.Sessions.{holding}
 
 -- where a number stands: 5 at 10, 14 at 11, 6 at 12
 abbrev pub rank : ℕ → ℕ
@@ -29,5 +28,5 @@ Ranked k (j when b ∷ ts) = (k ≤ rank j) × (0 < j) × Ranked (rank j) ts
 -- A call with these tests, which came with the session `old` and the list `before`, gave `given` and left `after`.
 pub record LawfulAfterFive (tests : List Test) (new old : Session) (written before : List ℕ) (given : Answer) (after : List ℕ) : Type 0 where
   pub refusal : Settles tests
-  pub untouched : (first tests ≡ 0 → ⊥) → (given ≡ holding (first tests) 0 old) × (after ≡ before)
-  pub done : first tests ≡ 0 → (given ≡ holding 0 0 new) × (after ≡ written)
+  pub untouched : (first tests ≡ 0 → ⊥) → (given ≡ record { refusal = first tests; value = 0; session = old }) × (after ≡ before)
+  pub done : first tests ≡ 0 → (given ≡ record { refusal = 0; value = 0; session = new }) × (after ≡ written)

@@ -5,15 +5,16 @@ use crate::{sys, Refusal};
 /// A writer's answer.
 #[repr(C)]
 #[derive(Clone, Copy, Debug, PartialEq, Eq)]
+#[must_use = "the answer says how long the line is, and whether the call was refused"]
 pub struct Written {
     /// The refusal's number, 0 for none.
     pub refusal: u8,
-    /// The line's length, its line feed included; 0 when refused.
+    /// The length of the line, its line feed included, or of the file; 0 when refused.
     pub len: usize,
 }
 
 impl Written {
-    /// The line's length, or the refusal.
+    /// The length of the line or of the file, or the refusal.
     #[inline]
     pub fn accepted(self) -> Result<usize, Refusal> {
         Refusal::check(self.refusal)?;
@@ -24,6 +25,7 @@ impl Written {
 /// The reader's answer; all 0 but the refusal when refused.
 #[repr(C)]
 #[derive(Clone, Copy, Debug, PartialEq, Eq)]
+#[must_use = "the answer says what the line is, and whether the call was refused"]
 pub struct Line {
     /// The refusal's number, 0 for none.
     pub refusal: u8,

@@ -1,4 +1,4 @@
-//! Bounds, and the lengths of lists that follow from n and t.
+//! Bounds, and the lengths of lists, lines and files that follow from n and t: those of the C header.
 
 /// p, the number of elements: an element is 0 to p − 1.
 pub const MODULUS: u32 = 2_147_483_647;
@@ -9,12 +9,33 @@ pub const MAX_POSTS: usize = 255;
 /// The rows of a session.
 pub const ROWS: usize = 96;
 
-/// The bytes of the longest line, its line feed included.
+/// The most terms of a relation.
+pub const MAX_TERMS: usize = 32;
+
+/// The second row of a term that is no product.
+pub const NO_ROW: u8 = 255;
+
+/// The kind of an empty row, and of the second and the third row of a triple.
+pub const KIND_EMPTY: u8 = 0;
+
+/// The kind of a raw row.
+pub const KIND_RAW: u8 = 1;
+
+/// The kind of a triple's first row.
+pub const KIND_TRIPLE: u8 = 3;
+
+/// More bytes of stack than any call takes, beside its arguments and its answer.
+pub const MOST_STACK: usize = 20_000;
+
+/// The bytes of the longest broadcast line of any station, its line feed included.
 pub const LONGEST_LINE: usize = 5619;
+
+/// The bytes of the longest `D` line, its line feed included.
+pub const DEAL_LINE_LEN: usize = 16;
 
 /// The numbers of a row: t+1 coefficients, n check values, n public sums.
 pub const fn row_len(n: usize, t: usize) -> usize {
-    t + 1 + 2 * n
+    message_len(t) + 2 * n
 }
 
 /// The numbers of a session's rows.
@@ -22,14 +43,39 @@ pub const fn rows_len(n: usize, t: usize) -> usize {
     ROWS * row_len(n, t)
 }
 
-/// The numbers of a record's block: a mark and t+1 coefficients.
+/// The numbers of an opening message: t+1 coefficients.
+pub const fn message_len(t: usize) -> usize {
+    t + 1
+}
+
+/// The numbers of a record's block: a mark and a message.
 pub const fn block_len(t: usize) -> usize {
-    t + 2
+    1 + message_len(t)
 }
 
 /// The numbers of a record: a block for each post.
 pub const fn record_len(n: usize, t: usize) -> usize {
     n * block_len(t)
+}
+
+/// The numbers of a product's masks: a message for each factor.
+pub const fn masks_len(t: usize) -> usize {
+    2 * message_len(t)
+}
+
+/// The numbers of the masks of a relation with k product terms.
+pub const fn relation_masks_len(t: usize, k: usize) -> usize {
+    k * masks_len(t)
+}
+
+/// The numbers of the records of a relation with k product terms: two records each.
+pub const fn relation_records_len(n: usize, t: usize, k: usize) -> usize {
+    k * 2 * record_len(n, t)
+}
+
+/// The numbers of the list that a line read fills.
+pub const fn line_list_len(t: usize) -> usize {
+    2 * message_len(t)
 }
 
 /// The drawn numbers of a row: f, then v1 to vn, t+1 coefficients each.
@@ -42,12 +88,72 @@ pub const fn triple_draw_len(n: usize, t: usize) -> usize {
     3 * row_draw_len(n, t) - 1
 }
 
-/// The numbers of a product's masks: t+1 coefficients for each factor.
-pub const fn masks_len(t: usize) -> usize {
-    2 * (t + 1)
+/// The drawn numbers of a station with so many raw rows and triples.
+pub const fn draws_len(n: usize, t: usize, raw: usize, triples: usize) -> usize {
+    raw * row_draw_len(n, t) + triples * triple_draw_len(n, t)
 }
 
-/// The numbers of the list that a line read fills.
-pub const fn line_list_len(t: usize) -> usize {
-    2 * (t + 1)
+/// The numbers of all posts' packs of a row.
+pub const fn packs_len(n: usize, t: usize) -> usize {
+    n * row_len(n, t)
+}
+
+/// The numbers of one post's pack of a triple: its rows of l, l' and l''.
+pub const fn triple_pack_len(n: usize, t: usize) -> usize {
+    3 * row_len(n, t)
+}
+
+/// The numbers of all posts' packs of a triple.
+pub const fn triple_packs_len(n: usize, t: usize) -> usize {
+    n * triple_pack_len(n, t)
+}
+
+/// The digits of a number of posts, of a post or of t.
+pub const fn digits(n: usize) -> usize {
+    match n {
+        0..=9 => 1,
+        10..=99 => 2,
+        _ => 3,
+    }
+}
+
+/// The bytes of the longest `O` line of a station, its line feed included.
+pub const fn opening_line_len(n: usize, t: usize) -> usize {
+    6 + digits(n) + 11 * message_len(t)
+}
+
+/// The bytes of the longest `M` line, which is the longest of a station, its line feed included.
+pub const fn masks_line_len(n: usize, t: usize) -> usize {
+    6 + digits(n) + 11 * masks_len(t)
+}
+
+/// The bytes of the longest `R` line of a pack file, its line feed included.
+pub const fn row_line_len(n: usize, t: usize) -> usize {
+    5 + 11 * row_len(n, t)
+}
+
+/// The bytes of the longest `T` line of a pack file, its line feed included.
+pub const fn triple_line_len(n: usize, t: usize) -> usize {
+    5 + 11 * triple_pack_len(n, t)
+}
+
+/// The bytes of the longest pack file with so many raw rows and triples.
+pub const fn pack_file_len(n: usize, t: usize, raw: usize, triples: usize) -> usize {
+    let lines = raw * row_line_len(n, t) + triples * triple_line_len(n, t);
+    16 + 2 * digits(n) + digits(t) + lines
+}
+
+/// Where the draw of a row stands in the list of draws of [`write_pack`](crate::write_pack); with
+/// [`ROWS`] for `row`, that list's length.
+pub const fn draw_place(n: usize, t: usize, kinds: &[u8; ROWS], row: usize) -> usize {
+    let (mut raw, mut triples, mut at) = (0, 0, 0);
+    while at < row && at < ROWS {
+        match kinds[at] {
+            KIND_RAW => raw += 1,
+            KIND_TRIPLE => triples += 1,
+            _ => (),
+        }
+        at += 1;
+    }
+    draws_len(n, t, raw, triples)
 }

@@ -5,9 +5,13 @@
 //! applies (see [`Refusal`]). A refused call changes nothing. The library's one condition, that
 //! the lists of a call don't overlap, is kept by Rust's borrows.
 //!
+//! For x86-64 only. `no_std`: the library needs nothing but `memcpy` and `memset`.
+//!
 //! A post keeps a [`Session`], which every call takes and hands back, and a list of
 //! [`rows_len`]`(n, t)` numbers, its rows, which it lends to each call. Numbers are elements 0 to
-//! [`MODULUS`] − 1.
+//! [`MODULUS`] − 1. Store the session that a call hands back, and the rows with it, before the line
+//! that the call made is sent: after a power loss an old session would use a triple twice. The
+//! header's opening says what else a post needs to know, `docs/INTEGRATING.md` how one is built.
 //!
 //! ```
 //! // The factory's draw for three posts, two of which open: f = 7 + 4z, and v1, v2, v3.
@@ -19,8 +23,13 @@
 //! ```
 
 #![deny(missing_docs)]
+#![no_std]
+
+#[cfg(any(not(target_arch = "x86_64"), not(target_pointer_width = "64"), windows))]
+compile_error!("libgantsorol.a is for x86-64, by the rules of System V");
 
 mod broadcast;
+mod erase;
 mod lengths;
 mod record;
 mod refusal;
@@ -30,10 +39,10 @@ mod sys;
 mod works;
 
 pub use broadcast::{read, write_deal, write_masks, write_opening, Line, Written};
-pub use lengths::{block_len, line_list_len, masks_len, record_len, row_draw_len, row_len};
-pub use lengths::{rows_len, triple_draw_len, LONGEST_LINE, MAX_POSTS, MODULUS, ROWS};
+pub use erase::erase;
+pub use lengths::*;
 pub use record::{record_put, record_remove};
 pub use refusal::Refusal;
-pub use relation::{Term, MAX_TERMS, NO_ROW};
+pub use relation::Term;
 pub use session::{Answer, Session};
 pub use works::{dealer_number, factory_row, factory_triple, write_pack, Number};

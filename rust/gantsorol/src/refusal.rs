@@ -1,43 +1,84 @@
 //! Why a call was refused.
 
-use std::error::Error;
-use std::fmt;
+use core::error::Error;
+use core::fmt;
 
-/// The number of a refusal, from 1 on: the first that applies, in the order of numbers but for 14,
-/// which comes right after 5.
-#[derive(Clone, Copy, Debug, PartialEq, Eq)]
-pub struct Refusal(pub u8);
+/// The refusals, a line for each: its number, its name, the header's words for it.
+macro_rules! refusals {
+    ($($number:literal $name:ident $text:literal;)+) => {
+        /// Why a call was refused: the first that applies, in the order of numbers but for 14, which
+        /// comes right after 5. The names and the words are those of `enum gantsorol_refusal` in the
+        /// C header.
+        #[derive(Clone, Copy, Debug, PartialEq, Eq, Hash)]
+        #[non_exhaustive]
+        pub enum Refusal {
+            $(
+                #[doc = concat!(stringify!($number), ": ", $text, ".")]
+                $name,
+            )+
+            /// A number that this binding has no name for: the library is newer.
+            Unknown(u8),
+        }
+
+        impl Refusal {
+            /// The refusal with this number, as the library gives it; 0 is none.
+            pub const fn from_number(number: u8) -> Option<Self> {
+                match number {
+                    0 => None,
+                    $($number => Some(Self::$name),)+
+                    number => Some(Self::Unknown(number)),
+                }
+            }
+
+            /// The number, as in the papers, the header and the street program's answers.
+            pub const fn number(self) -> u8 {
+                match self {
+                    $(Self::$name => $number,)+
+                    Self::Unknown(number) => number,
+                }
+            }
+
+            const fn text(self) -> &'static str {
+                match self {
+                    $(Self::$name => $text,)+
+                    Self::Unknown(_) => "unknown to this binding",
+                }
+            }
+        }
+    };
+}
+
+refusals! {
+    1 BadPostCount "the number of posts n is outside 2 to 255";
+    2 BadThreshold "t is outside 1 to n - 1";
+    3 BadPost "the session's post, or the post of a line to be written, of a block or of a pack file, is outside 1 to n";
+    4 BadCheckPoint "a check point is 0 or at least p";
+    5 BadLength "a list's length is not exactly the one stated";
+    6 NoSuchRow "a row is above 95, or a triple's first row above 93";
+    7 WrongMark "a row's mark, or a remembered row, is not what the call needs; a relation names a triple twice; \
+        a kind other than 0 stands inside a triple of a pack file";
+    8 NotAnElement "a number is at least p, a record's mark is above 1, or a kind of a pack file is unknown";
+    9 TooFewAccepted "fewer than t+1 posts were accepted, in any record";
+    10 MalformedLine "a line read has the wrong form";
+    11 LineOutOfRange "a line read has a number out of range";
+    12 NoRoom "the list lent for a line or a file is shorter than that";
+    13 InconsistentShares "an accepted share is not on the polynomial of the t+1 lowest, in any record";
+    14 BadTermCount "a relation has no terms, or more than 32";
+}
 
 impl Refusal {
-    /// A refusal's number as the library gives it: 0 is none.
-    pub(crate) fn check(number: u8) -> Result<(), Self> {
-        match number {
-            0 => Ok(()),
-            number => Err(Self(number)),
+    /// What a call answered: done, or refused.
+    pub(crate) const fn check(number: u8) -> Result<(), Self> {
+        match Self::from_number(number) {
+            None => Ok(()),
+            Some(refusal) => Err(refusal),
         }
     }
 }
 
 impl fmt::Display for Refusal {
     fn fmt(&self, f: &mut fmt::Formatter) -> fmt::Result {
-        let why = match self.0 {
-            1 => "the number of posts is outside 2 to 255",
-            2 => "t is outside 1 to n - 1",
-            3 => "the post is outside 1 to n",
-            4 => "a check point is 0 or at least p",
-            5 => "a list has the wrong length",
-            6 => "a row is above 95, or a triple's first row above 93",
-            7 => "a row's mark, or a remembered row, is not what the call needs",
-            8 => "a number is at least p, or a record's mark above 1",
-            9 => "fewer than t+1 posts were accepted",
-            10 => "the line has the wrong form",
-            11 => "a number of the line is out of range",
-            12 => "the line does not fit",
-            13 => "an accepted share lies off the polynomial of the others",
-            14 => "a relation has no terms, or more than 32",
-            _ => "unknown",
-        };
-        write!(f, "refusal {}: {why}", self.0)
+        write!(f, "refusal {}: {}", self.number(), self.text())
     }
 }
 

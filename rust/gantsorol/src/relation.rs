@@ -1,12 +1,6 @@
 //! Relations: a sum of terms that is 0, shown without its numbers.
 
-use crate::{sys, Answer, Session};
-
-/// The most terms of a relation.
-pub const MAX_TERMS: usize = 32;
-
-/// The second row of a term that is no product.
-pub const NO_ROW: u8 = 255;
+use crate::{sys, Answer, Session, NO_ROW};
 
 /// A term of a relation: a coefficient times a row's number, or times the product of two rows'
 /// numbers.
@@ -25,15 +19,25 @@ pub struct Term {
     pub first: u8,
 }
 
+/// A row as a term has it. Above 95 there is none: those that are no byte, and the byte that stands
+/// for no second row, are told as another that gets [`Refusal::NoSuchRow`](crate::Refusal::NoSuchRow).
+const fn told(row: usize) -> u8 {
+    if row < NO_ROW as usize {
+        row as u8
+    } else {
+        NO_ROW - 1
+    }
+}
+
 impl Term {
     /// A coefficient times a row's number.
-    pub const fn plain(coefficient: u32, row: u8) -> Self {
-        Self { coefficient, row, second: NO_ROW, first: 0 }
+    pub const fn plain(coefficient: u32, row: usize) -> Self {
+        Self { coefficient, row: told(row), second: NO_ROW, first: 0 }
     }
 
     /// A coefficient times the product of two rows' numbers, with the triple at `first`.
-    pub const fn product(coefficient: u32, row: u8, second: u8, first: u8) -> Self {
-        Self { coefficient, row, second, first }
+    pub const fn product(coefficient: u32, row: usize, second: usize, first: usize) -> Self {
+        Self { coefficient, row: told(row), second: told(second), first: told(first) }
     }
 }
 
@@ -57,10 +61,11 @@ impl Session {
         }
     }
 
-    /// Finishes all product terms of a relation, each as [`finish`](Self::finish) does, with two
-    /// records for each of them in the order of the terms, that of a − l first; and writes the sum
-    /// of all terms into the empty row `row`, which becomes held. Opened, it is 0 exactly when the
-    /// relation holds. A refused finish changes no triple and may be called again.
+    /// Finishes all product terms of a relation, each as [`collect`](Self::collect) and then
+    /// [`multiply`](Self::multiply) do, with two records for each of them in the order of the
+    /// terms, that of a − l first; and writes the sum of all terms into the empty row `row`, which
+    /// becomes held. Opened, it is 0 exactly when the relation holds. A refused finish changes no
+    /// triple and may be called again.
     /// Refusals 1 to 5, 14, 6 to 9, 13.
     #[inline]
     pub fn relation_finish(

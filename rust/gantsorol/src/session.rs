@@ -1,13 +1,26 @@
 //! A post's session, and the calls on it.
 
-use crate::{sys, Refusal, ROWS};
+use core::{fmt, mem};
+
+use crate::{erase, sys, Refusal, ROWS};
 
 /// What a post remembers beside its rows.
 ///
 /// The fields may hold anything: each call checks what it needs. A call takes the session and hands
-/// it back, so that none is used twice; a copy has to be asked for.
+/// it back, so that none is used twice; a copy has to be asked for. Where a session stands in a
+/// place of its own, [`take`](Self::take) and [`Answer::keep`] move it out and in again:
+///
+/// ```
+/// # use gantsorol::{rows_len, Refusal, Session};
+/// # let (mut session, mut rows) = (Session::new(3, 1, 1, 2).accepted()?.0, [0; rows_len(3, 1)]);
+/// session.take().load_row(&mut rows, 0, &[1, 2, 5, 5, 17, 12, 18, 24]).keep(&mut session)?;
+/// let again = session.take().load_row(&mut rows, 0, &[0; 8]).keep(&mut session);
+/// assert_eq!(again, Err(Refusal::WrongMark));
+/// session.take().deal(&mut rows, 0, 93).keep(&mut session)?;
+/// # Ok::<(), Refusal>(())
+/// ```
 #[repr(C)]
-#[derive(Clone, Debug, PartialEq, Eq)]
+#[derive(Clone, PartialEq, Eq)]
 pub struct Session {
     /// The number of posts.
     pub n: usize,
@@ -28,6 +41,34 @@ pub struct Session {
     pub y_a: [u32; ROWS],
     /// At the first row of a triple whose masks were opened: y' = b − l'. It stays after the product.
     pub y_b: [u32; ROWS],
+}
+
+/// Without the check point, which is secret.
+impl fmt::Debug for Session {
+    fn fmt(&self, f: &mut fmt::Formatter) -> fmt::Result {
+        let Self { n, t, post, point: _, marks, factor_a, factor_b, y_a, y_b } = self;
+        let mut shown = f.debug_struct("Session");
+        shown.field("n", n).field("t", t).field("post", post).field("marks", marks);
+        shown.field("factor_a", factor_a).field("factor_b", factor_b);
+        shown.field("y_a", y_a).field("y_b", y_b).finish_non_exhaustive()
+    }
+}
+
+/// A session with 0 in every field: every call refuses it with [`Refusal::BadPostCount`].
+impl Default for Session {
+    fn default() -> Self {
+        Self {
+            n: 0,
+            t: 0,
+            post: 0,
+            point: 0,
+            marks: [0; ROWS],
+            factor_a: [0; ROWS],
+            factor_b: [0; ROWS],
+            y_a: [0; ROWS],
+            y_b: [0; ROWS],
+        }
+    }
 }
 
 /// What a call on a session hands back.
@@ -52,6 +93,14 @@ impl Answer {
         Refusal::check(self.refusal)?;
         Ok((self.session, self.value))
     }
+
+    /// Puts the session into its place, refused or not; the number opened, or the refusal.
+    #[inline]
+    pub fn keep(self, session: &mut Session) -> Result<u32, Refusal> {
+        *session = self.session;
+        Refusal::check(self.refusal)?;
+        Ok(self.value)
+    }
 }
 
 impl Session {
@@ -61,6 +110,23 @@ impl Session {
     pub fn new(n: usize, t: usize, post: usize, point: u32) -> Answer {
         // SAFETY: the function takes any values.
         unsafe { sys::gantsorol_new(n, t, post, point) }
+    }
+
+    /// The session, for the next call; its place has the default until [`Answer::keep`] fills it.
+    #[inline]
+    #[must_use = "the session is no longer in its place"]
+    pub fn take(&mut self) -> Self {
+        mem::take(self)
+    }
+
+    /// Zeros over every field, once the session is no longer needed. Copies that calls had on the
+    /// stack stay there until they are written over.
+    pub fn erase(&mut self) {
+        let Self { n, t, post, point, marks, factor_a, factor_b, y_a, y_b } = self;
+        [n, t, post].into_iter().for_each(|field| erase(core::slice::from_mut(field)));
+        erase(core::slice::from_mut(point));
+        [marks, factor_a, factor_b].into_iter().for_each(|list| erase(list));
+        [y_a, y_b].into_iter().for_each(|list| erase(list));
     }
 
     /// Loads the post's part of a drawn row, [`row_len`](crate::row_len) numbers, into an empty

@@ -45,8 +45,8 @@ extern "C" {
         rows: *const u32,
         rows_len: usize,
         row: usize,
-        blocks: *const u32,
-        blocks_len: usize,
+        record: *const u32,
+        record_len: usize,
     ) -> Answer;
 
     pub fn gantsorol_linear(
@@ -113,8 +113,8 @@ extern "C" {
     pub fn gantsorol_record_put(
         n: usize,
         t: usize,
-        blocks: *mut u32,
-        blocks_len: usize,
+        record: *mut u32,
+        record_len: usize,
         post: usize,
         message: *const u32,
         message_len: usize,
@@ -123,8 +123,8 @@ extern "C" {
     pub fn gantsorol_record_remove(
         n: usize,
         t: usize,
-        blocks: *mut u32,
-        blocks_len: usize,
+        record: *mut u32,
+        record_len: usize,
         post: usize,
     ) -> u8;
 

@@ -5,6 +5,7 @@ use crate::{sys, Refusal, Written};
 /// The dealer's number.
 #[repr(C)]
 #[derive(Clone, Copy, Debug, PartialEq, Eq)]
+#[must_use = "the answer is the number, or says that the call was refused"]
 pub struct Number {
     /// The refusal's number, 0 for none.
     pub refusal: u8,

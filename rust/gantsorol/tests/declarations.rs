@@ -8,7 +8,9 @@ use std::fs;
 use std::path::Path;
 
 use common::programs::{exports, repository};
-use gantsorol::{LONGEST_LINE, MAX_POSTS, MAX_TERMS, MODULUS, NO_ROW, ROWS};
+use gantsorol::{
+    DEAL_LINE_LEN, LONGEST_LINE, MAX_POSTS, MAX_TERMS, MODULUS, MOST_STACK, NO_ROW, ROWS,
+};
 
 /// A file's text without line comments, block comments, attributes and preprocessor lines.
 fn code(path: &str) -> String {
@@ -41,6 +43,14 @@ fn squeezed(code: &str) -> String {
 /// A name with its type as the Rattle source has it.
 type Typed = (String, String);
 
+/// What the exports call otherwise than the header and the binding: there a record has one name in every call.
+const CALLED: [(&str, &str); 1] = [("blocks", "record")];
+
+fn called(name: &str) -> String {
+    let found = CALLED.iter().find(|(exported, _)| *exported == name);
+    found.map_or(name, |(_, called)| called).to_string()
+}
+
 /// `name: type` parted by commas, without `pub`.
 fn typed(list: &str) -> Vec<Typed> {
     let entries = list.split(',').map(str::trim).filter(|entry| !entry.is_empty());
@@ -72,7 +82,10 @@ fn exported() -> Vec<Function> {
         let result = rest.trim_start().strip_prefix("->").expect("a function has a result");
         Function {
             name: head.split('<').next().unwrap_or_default().to_string(),
-            parameters: typed(parameters),
+            parameters: typed(parameters)
+                .into_iter()
+                .map(|(name, of)| (called(&name), of))
+                .collect(),
             result: result.split_whitespace().next().unwrap_or_default().to_string(),
         }
     };
@@ -233,14 +246,17 @@ fn the_archive_has_the_declared_functions_and_no_other() {
 fn the_header_has_the_constants_of_the_binding() {
     let header = fs::read_to_string(repository().join("include/gantsorol.h")).expect("the header");
     let constant = |line: &str| {
+        let line = Some(line).filter(|line| !line.contains("_VERSION_"))?;
         let (name, value) = line.strip_prefix("#define GANTSOROL_")?.split_once(' ')?;
         Some((name.to_string(), value.trim_end_matches('u').parse::<usize>().ok()?))
     };
     let expected = [
+        ("DEAL_LINE_LEN", DEAL_LINE_LEN),
         ("LONGEST_LINE", LONGEST_LINE),
         ("MAX_POSTS", MAX_POSTS),
         ("MAX_TERMS", MAX_TERMS),
         ("MODULUS", MODULUS as usize),
+        ("MOST_STACK", MOST_STACK),
         ("NO_ROW", NO_ROW.into()),
         ("ROWS", ROWS),
     ]

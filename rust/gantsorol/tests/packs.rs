@@ -10,7 +10,7 @@ use std::process::Command;
 
 use common::programs::{compiled, printed, repository, C};
 use common::street_program;
-use gantsorol::{row_draw_len, row_len, triple_draw_len, MODULUS, ROWS};
+use gantsorol::{draw_place, pack_file_len, row_len, MODULUS, ROWS};
 
 /// Numbers that look random, from a seed.
 struct Numbers(u64);
@@ -31,15 +31,6 @@ struct Station {
     draws: Vec<u32>,
 }
 
-/// How many numbers are drawn for a row of this kind.
-fn drawn(n: usize, t: usize, kind: &u8) -> usize {
-    match kind {
-        1 => row_draw_len(n, t),
-        3 => triple_draw_len(n, t),
-        _ => 0,
-    }
-}
-
 /// A station of n posts; of its rows about a third are raw, and some begin a triple.
 fn station(n: usize) -> Station {
     let mut numbers = Numbers(n as u64 + 1);
@@ -57,14 +48,14 @@ fn station(n: usize) -> Station {
         }
         row += 1;
     }
-    let all: usize = kinds.iter().map(|kind| drawn(n, t, kind)).sum();
+    let all = draw_place(n, t, &kinds, ROWS);
     let draws = (0..all).map(|_| numbers.below(MODULUS)).collect();
     Station { n, t, points, kinds, draws }
 }
 
 impl Station {
     fn file(&self, post: usize) -> Vec<u8> {
-        let mut out = vec![0; 32 + ROWS * (5 + 11 * row_len(self.n, self.t))];
+        let mut out = vec![0; pack_file_len(self.n, self.t, ROWS, 0)];
         let written = gantsorol::write_pack(
             self.n,
             self.t,
@@ -81,7 +72,6 @@ impl Station {
     /// Each row's kind, and all posts' packs of it, from the factory's calls.
     fn packs(&self) -> Vec<(usize, u8, Vec<u32>)> {
         let (n, t) = (self.n, self.t);
-        let mut draws = &self.draws[..];
         let mut packs = Vec::new();
         for (row, &kind) in self.kinds.iter().enumerate() {
             let rows = usize::from(kind) * n;
@@ -89,8 +79,8 @@ impl Station {
             if kind == 0 {
                 continue;
             }
-            let (draw, rest) = draws.split_at(drawn(n, t, &kind));
-            draws = rest;
+            let place = |row| draw_place(n, t, &self.kinds, row);
+            let draw = &self.draws[place(row)..place(row + 1)];
             let make = if kind == 1 { gantsorol::factory_row } else { gantsorol::factory_triple };
             make(n, t, &self.points, draw, &mut out).expect("the draw is right");
             packs.push((row, kind, out));
@@ -140,7 +130,7 @@ fn a_refused_file_leaves_the_list() {
     let refused = |kinds: &[(usize, u8)], number: u32, room: usize| {
         let mut set = [0; ROWS];
         kinds.iter().for_each(|&(row, kind)| set[row] = kind);
-        let draws = vec![number; set.iter().map(|kind| drawn(3, right.t, kind)).sum()];
+        let draws = vec![number; draw_place(3, right.t, &set, ROWS)];
         let mut out = vec![7; room];
         let written = gantsorol::write_pack(3, right.t, 1, &right.points, &set, &draws, &mut out);
         assert!(out.iter().all(|&byte| byte == 7) && written.len == 0);
@@ -181,7 +171,7 @@ fn the_program_takes_the_files_and_opens() {
         let station = station(n);
         let raw = |(_, kind, _): &(usize, u8, Vec<u32>)| *kind == 1;
         let (row, _, packs) = station.packs().into_iter().rfind(raw).expect("a row is raw");
-        let before: usize = station.kinds[..row].iter().map(|kind| drawn(n, station.t, kind)).sum();
+        let before = draw_place(n, station.t, &station.kinds, row);
         let word = 1_000_000 + n as u32;
         let c = gantsorol::dealer_number(word, station.draws[before]);
         let c = c.accepted().expect("both are elements");
@@ -228,7 +218,7 @@ fn three_posts_open_the_word() {
     let read = |name: &str| fs::read(directory.join(name)).expect("it was written");
     for post in 1..=3 {
         let input = [read(&format!("post-{post}.txt")), read("lines.txt")].concat();
-        let printed = fed(&street_program(), &[], &input);
+        let printed = fed(street_program(), &[], &input);
         assert_eq!(printed.lines().last(), Some("7,0,20261116"));
     }
 }

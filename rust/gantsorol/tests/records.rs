@@ -15,7 +15,7 @@ fn full(n: usize, t: usize) -> Vec<u32> {
 /// Both calls answer so, and a refused one leaves the record as it was.
 #[track_caller]
 fn check(n: usize, t: usize, len: usize, post: usize, message: &[u32], put: u8, removed: u8) {
-    let answer = |number| if number == 0 { Ok(()) } else { Err(Refusal(number)) };
+    let answer = |number| Refusal::from_number(number).map_or(Ok(()), Err);
     let before: Vec<u32> = (0..len as u32).collect();
     let mut record = before.clone();
     assert_eq!(record_put(n, t, &mut record, post, message), answer(put));

@@ -48,17 +48,20 @@ fn answered(answer: gantsorol::Answer) -> Answer {
     Answer { refusal, value, session }
 }
 
-/// A term's rows are bytes here: a row above 255 is told as another that gets 6.
+/// A term's rows are bytes here, as C has them: a row above 255 is told as another that gets 6.
 fn told(terms: &[reference::Term]) -> Vec<Term> {
-    let row = |row: usize| u8::try_from(row).unwrap_or(254);
-    let term = |&reference::Term { coefficient, row: a, second, first }: &reference::Term| {
-        Term::product(coefficient, row(a), row(second), row(first))
+    let byte = |row: usize| u8::try_from(row).unwrap_or(254);
+    let term = |&reference::Term { coefficient, row, second, first }: &reference::Term| Term {
+        coefficient,
+        row: byte(row),
+        second: byte(second),
+        first: byte(first),
     };
     terms.iter().map(term).collect()
 }
 
 fn number_of(refused: Result<(), Refusal>) -> u8 {
-    refused.err().map_or(0, |Refusal(number)| number)
+    refused.err().map_or(0, Refusal::number)
 }
 
 fn written(gantsorol::Written { refusal, len }: gantsorol::Written) -> Written {

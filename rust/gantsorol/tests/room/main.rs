@@ -11,12 +11,10 @@ use std::fs;
 use std::path::{Path, PathBuf};
 use std::process::Command;
 
-use common::programs::{compiled, ended, exports};
+use common::programs::{compiled, ended, exports, repository};
+use gantsorol::MOST_STACK;
 
 const SIZES: [[usize; 2]; 3] = [[3, 1], [32, 31], [255, 254]];
-
-/// No call goes deeper, at any size.
-const DEEPEST: usize = 20_000;
 
 /// The calls that open, and by how much a small station's stack stays below that of the most posts: their rooms are not on it.
 const OPENING: [&str; 3] = ["gantsorol_open", "gantsorol_collect", "gantsorol_relation_finish"];
@@ -73,8 +71,22 @@ fn linked(calls: &[String]) -> usize {
     counted.map(|line| line[1].parse::<usize>().expect("a size")).sum()
 }
 
+/// The figures that docs/INTEGRATING.md has for a call: stack at each size, and what it links.
+fn told(page: &str, call: &str) -> Vec<usize> {
+    let row = page.lines().find_map(|line| line.strip_prefix(&format!("| `{call}` | ")));
+    let row = row.unwrap_or_else(|| panic!("docs/INTEGRATING.md has no row for {call}"));
+    let cells = row.trim_end_matches(" |").split(" | ");
+    cells.map(|cell| cell.replace(',', "").parse().expect("a figure")).collect()
+}
+
+/// A figure of the page is right to a tenth, or to 64 bytes.
+fn near(told: usize, measured: usize) -> bool {
+    told.abs_diff(measured) <= 64.max(measured / 10)
+}
+
 #[test]
 fn the_room_of_each_call() {
+    let page = fs::read_to_string(repository().join("docs/INTEGRATING.md")).expect("the page");
     let program = measuring();
     let stacks = SIZES.map(|size| stack(&program, size));
     let empty = linked(&[]);
@@ -85,7 +97,7 @@ fn the_room_of_each_call() {
         let alone = linked(std::slice::from_ref(&call)) - empty;
         println!("| {call} | {small} | {middle} | {large} | {alone} |");
         assert!(small > 0 && middle > 0 && large > 0, "{call} was made at each size");
-        assert!(small.max(middle).max(large) <= DEEPEST, "{call} goes deeper than {DEEPEST}");
+        assert!(small.max(middle).max(large) < MOST_STACK, "{call} goes deeper than {MOST_STACK}");
         let spared = !OPENING.contains(&call.as_str()) || small.max(middle) + SPARED <= large;
         assert!(
             spared,
@@ -93,6 +105,11 @@ fn the_room_of_each_call() {
         );
         let little = MORE.contains(&call.as_str()) || small <= SMALL;
         assert!(little, "{call} takes more than {SMALL} bytes of a small station's stack");
+        let (told, measured) = (told(&page, &call), [small, middle, large, alone]);
+        assert!(
+            told.len() == 4 && told.iter().zip(measured).all(|(told, of)| near(*told, of)),
+            "docs/INTEGRATING.md has {told:?} for {call}, measured are {measured:?}"
+        );
     }
     println!("\nThe whole library: {} bytes linked", linked(&calls()) - empty);
 }

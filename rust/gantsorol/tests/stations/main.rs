@@ -97,7 +97,9 @@ fn products_for_every_n_and_t() {
 fn check_few(rng: &mut Rng, mut station: Station, seed: u64) {
     let (secret, own, lines) = shared_secret(rng, &mut station);
     // The post itself is one of them.
-    for (others, expected) in [(station.t - 1, Err(Refusal(9))), (station.t, Ok(secret))] {
+    for (others, expected) in
+        [(station.t - 1, Err(Refusal::TooFewAccepted)), (station.t, Ok(secret))]
+    {
         let record = station.record(rng, &lines[..others]);
         assert_eq!(station.posts[own].try_open(7, &record), expected, "seed {seed}");
     }
@@ -113,7 +115,7 @@ fn check_forged(rng: &mut Rng, mut station: Station, seed: u64) {
     let (secret, own, lines) = shared_secret(rng, &mut station);
     let (n, t) = (station.n, station.t);
     // With n − 1 − t liars among the others t are left, with one more t − 1.
-    for (liars, expected) in [(n - 1 - t, Ok(secret)), (n - t, Err(Refusal(9)))] {
+    for (liars, expected) in [(n - 1 - t, Ok(secret)), (n - t, Err(Refusal::TooFewAccepted))] {
         let mut record = station.record(rng, &lines);
         with_liars(rng, &station, own, liars, &mut record);
         assert_eq!(station.posts[own].try_open(7, &record), expected, "seed {seed}");

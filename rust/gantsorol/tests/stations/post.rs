@@ -39,7 +39,7 @@ impl Post {
             return answer.accepted().map(|_| ());
         }
         let again = answer.session.clone().collect(&self.rows, first, left, right);
-        assert_eq!(again.accepted(), Err(Refusal(7)));
+        assert_eq!(again.accepted(), Err(Refusal::WrongMark));
         self.session = Some(answer.session);
         assert_eq!(self.call(|session, rows| session.multiply(rows, first)), 0);
         Ok(())

@@ -53,7 +53,10 @@ impl Masked {
     #[track_caller]
     pub fn check(mut self, rng: &mut Rng, short: &[[Vec<u32>; 2]], enough: &[Vec<u32>; 2]) {
         for records in short {
-            assert_eq!(self.station.posts[self.own].finish(2, records), Err(Refusal(9)));
+            assert_eq!(
+                self.station.posts[self.own].finish(2, records),
+                Err(Refusal::TooFewAccepted)
+            );
         }
         for (index, post) in self.station.shuffled(rng) {
             let records = if index == self.own { enough } else { &self.all };

@@ -95,7 +95,7 @@ fn sums_and_products(i: &Inputs) -> Vec<Contest<'_>> {
 }
 
 /// A relation of two terms, a product with the triple at `first` and a plain one.
-fn relation(i: &Inputs, first: u8) -> ([gantsorol::Term; 2], [Term; 2]) {
+fn relation(i: &Inputs, first: usize) -> ([gantsorol::Term; 2], [Term; 2]) {
     let (one, other) = (i.numbers[0], i.numbers[1]);
     let ours = [gantsorol::Term::product(one, 1, 2, first), gantsorol::Term::plain(other, 1)];
     let second = ours.map(|gantsorol::Term { coefficient, row, second, first }| Term {

@@ -9,7 +9,7 @@ use crate::fastest;
 use crate::inputs::Inputs;
 
 fn refused(answer: &Result<(), gantsorol::Refusal>) -> u8 {
-    answer.as_ref().err().map_or(0, |refusal| refusal.0)
+    answer.err().map_or(0, gantsorol::Refusal::number)
 }
 
 /// The second implementation's dealer's number, over C's interface as ours is: to hand the answer

@@ -1,0 +1,244 @@
+//! Lengths: the header's macros and the binding's functions are the same, and those that the library takes.
+
+mod common;
+
+use std::collections::BTreeMap;
+use std::fmt::Write;
+use std::fs;
+use std::path::Path;
+use std::process::Command;
+
+use common::programs::{compiled, ended, repository, C, CPP};
+use gantsorol::*;
+
+const SIZES: [[usize; 2]; 8] =
+    [[2, 1], [3, 1], [9, 8], [10, 9], [32, 15], [99, 98], [100, 10], [255, 254]];
+
+/// Counts of product terms, of raw rows and of triples.
+const COUNTS: [[usize; 2]; 4] = [[0, 0], [1, 0], [0, 1], [7, 5]];
+
+/// The binding's function beside each macro: its arguments by their names, and its value for n, t and two counts.
+type Length = (&'static str, &'static str, fn(usize, usize, usize, usize) -> usize);
+
+const LENGTHS: [Length; 22] = [
+    ("ROW_LEN", "n, t", |n, t, _, _| row_len(n, t)),
+    ("ROWS_LEN", "n, t", |n, t, _, _| rows_len(n, t)),
+    ("MESSAGE_LEN", "t", |_, t, _, _| message_len(t)),
+    ("BLOCK_LEN", "t", |_, t, _, _| block_len(t)),
+    ("RECORD_LEN", "n, t", |n, t, _, _| record_len(n, t)),
+    ("MASKS_LEN", "t", |_, t, _, _| masks_len(t)),
+    ("RELATION_MASKS_LEN", "t, k", |_, t, k, _| relation_masks_len(t, k)),
+    ("RELATION_RECORDS_LEN", "n, t, k", |n, t, k, _| relation_records_len(n, t, k)),
+    ("LINE_LIST_LEN", "t", |_, t, _, _| line_list_len(t)),
+    ("ROW_DRAW_LEN", "n, t", |n, t, _, _| row_draw_len(n, t)),
+    ("TRIPLE_DRAW_LEN", "n, t", |n, t, _, _| triple_draw_len(n, t)),
+    ("DRAWS_LEN", "n, t, raw, triples", draws_len),
+    ("PACKS_LEN", "n, t", |n, t, _, _| packs_len(n, t)),
+    ("TRIPLE_PACK_LEN", "n, t", |n, t, _, _| triple_pack_len(n, t)),
+    ("TRIPLE_PACKS_LEN", "n, t", |n, t, _, _| triple_packs_len(n, t)),
+    ("DIGITS", "n", |n, _, _, _| digits(n)),
+    ("DEAL_LINE_LEN", "", |_, _, _, _| DEAL_LINE_LEN),
+    ("OPENING_LINE_LEN", "n, t", |n, t, _, _| opening_line_len(n, t)),
+    ("MASKS_LINE_LEN", "n, t", |n, t, _, _| masks_line_len(n, t)),
+    ("ROW_LINE_LEN", "n, t", |n, t, _, _| row_line_len(n, t)),
+    ("TRIPLE_LINE_LEN", "n, t", |n, t, _, _| triple_line_len(n, t)),
+    ("PACK_FILE_LEN", "n, t, raw, triples", pack_file_len),
+];
+
+/// A macro with its arguments.
+fn used((name, arguments, _): &Length) -> String {
+    match *arguments {
+        "" => format!("GANTSOROL_{name}"),
+        arguments => format!("GANTSOROL_{name}({arguments})"),
+    }
+}
+
+/// Every macro with arguments of the header is above, with these arguments, and no other.
+#[test]
+fn every_length_of_the_header_is_compared() {
+    let header = fs::read_to_string(repository().join("include/gantsorol.h")).expect("the header");
+    let defined =
+        header.lines().filter_map(|line| line.strip_prefix("#define ")).filter_map(|line| {
+            let (name, rest) = line.split_once('(').filter(|(name, _)| !name.contains(' '))?;
+            Some(format!("{name}({})", rest.split_once(')')?.0))
+        });
+    let mut defined: Vec<String> = defined.collect();
+    let mut compared: Vec<String> =
+        LENGTHS.iter().filter(|of| !of.1.is_empty()).map(used).collect();
+    defined.sort();
+    compared.sort();
+    assert_eq!(defined, compared);
+}
+
+/// What each macro gives in C or C++, for each size and counts, in that order.
+fn in_c(program: &str, options: &[&str]) -> String {
+    let mut code = String::from("#include <stdio.h>\n#include \"gantsorol.h\"\n");
+    code += "static void all(size_t n, size_t t, size_t raw, size_t triples) {\nsize_t k = raw;\n(void)n;\n";
+    for length in &LENGTHS {
+        writeln!(code, "printf(\"%zu \", (size_t){});", used(length)).expect("text");
+    }
+    code += "puts(\"\");\n}\nint main(void) {\n";
+    for ([n, t], [raw, triples]) in cases() {
+        writeln!(code, "all({n}, {t}, {raw}, {triples});").expect("text");
+    }
+    code += "return 0;\n}\n";
+    let source = Path::new(env!("CARGO_TARGET_TMPDIR")).join(format!("{program}.c"));
+    fs::write(&source, code).expect("a file can be written");
+    let printed = ended(&mut Command::new(compiled(program, &source, options))).stdout;
+    String::from_utf8(printed).expect("numbers")
+}
+
+fn cases() -> impl Iterator<Item = ([usize; 2], [usize; 2])> {
+    SIZES.into_iter().flat_map(|size| COUNTS.into_iter().map(move |counts| (size, counts)))
+}
+
+#[test]
+fn the_headers_lengths_are_the_bindings() {
+    let line = |([n, t], [raw, triples]): ([usize; 2], [usize; 2])| {
+        let numbers =
+            LENGTHS.iter().map(|(_, _, length)| format!("{} ", length(n, t, raw, triples)));
+        numbers.chain(["\n".to_string()]).collect::<String>()
+    };
+    let expected: String = cases().map(line).collect();
+    assert_eq!(in_c("lengths_c", &C), expected);
+    assert_eq!(in_c("lengths_cpp", &CPP), expected);
+}
+
+/// The library takes this length, and with 5 refuses one less and one more.
+#[track_caller]
+fn check_exact(length: usize, refusal: impl Fn(usize) -> u8) {
+    assert_eq!(
+        [length - 1, length, length + 1].map(refusal).map(|number| number == 5),
+        [true, false, true]
+    );
+}
+
+fn number_of(done: Result<(), Refusal>) -> u8 {
+    done.err().map_or(0, Refusal::number)
+}
+
+fn session(n: usize, t: usize) -> Session {
+    Session::new(n, t, 1, 5).accepted().expect("the session is right").0
+}
+
+#[test]
+fn the_library_takes_these_lengths() {
+    for [n, t] in SIZES {
+        let list = |len: usize| vec![0; len];
+        let post = || session(n, t);
+        let points = vec![1; n];
+        check_exact(rows_len(n, t), |len| post().deal(&mut list(len), 0, 0).refusal);
+        let rows = list(rows_len(n, t));
+        let pack = |len| post().load_row(&mut rows.clone(), 0, &list(len)).refusal;
+        check_exact(row_len(n, t), pack);
+        let pack = |len| post().load_triple(&mut rows.clone(), 0, &list(len)).refusal;
+        check_exact(triple_pack_len(n, t), pack);
+        check_exact(message_len(t), |len| post().opening_message(&rows, 0, &mut list(len)).refusal);
+        check_exact(record_len(n, t), |len| post().open(&rows, 0, &list(len)).refusal);
+        check_exact(masks_len(t), |len| post().masks(&rows, 0, 0, 0, &mut list(len)).refusal);
+        let terms = [Term::product(1, 0, 0, 1), Term::plain(1, 0), Term::product(1, 0, 0, 4)];
+        let masks = |len| post().relation_masks(&rows, &terms, &mut list(len)).refusal;
+        check_exact(relation_masks_len(t, 2), masks);
+        let records =
+            |len| post().relation_finish(&mut rows.clone(), &terms, 7, &list(len)).refusal;
+        check_exact(relation_records_len(n, t, 2), records);
+        check_exact(line_list_len(t), |len| read(n, t, b"", &mut list(len)).refusal);
+        let (draw, packs) = (list(row_draw_len(n, t)), list(packs_len(n, t)));
+        let row =
+            |draw: &[u32], out: usize| number_of(factory_row(n, t, &points, draw, &mut list(out)));
+        check_exact(draw.len(), |len| row(&list(len), packs.len()));
+        check_exact(packs.len(), |len| row(&draw, len));
+        let (draw, packs) = (list(triple_draw_len(n, t)), list(triple_packs_len(n, t)));
+        let triple = |draw: &[u32], out: usize| {
+            number_of(factory_triple(n, t, &points, draw, &mut list(out)))
+        };
+        check_exact(draw.len(), |len| triple(&list(len), packs.len()));
+        check_exact(packs.len(), |len| triple(&draw, len));
+    }
+}
+
+/// The longest line of each kind takes exactly its length: one byte less is too little.
+#[test]
+fn the_longest_lines_have_these_lengths() {
+    let most = MODULUS - 1;
+    let check = |length: usize, write: &dyn Fn(&mut [u8]) -> Written| {
+        assert_eq!(write(&mut vec![0; length]).accepted(), Ok(length));
+        assert_eq!(write(&mut vec![0; length - 1]).accepted(), Err(Refusal::NoRoom));
+    };
+    for [n, t] in SIZES {
+        let list = |len: usize| vec![most; len];
+        check(DEAL_LINE_LEN, &|out| write_deal(n, t, ROWS - 1, most, out));
+        let opening = |out: &mut [u8]| write_opening(n, t, ROWS - 1, n, &list(message_len(t)), out);
+        check(opening_line_len(n, t), &opening);
+        check(masks_line_len(n, t), &|out| {
+            write_masks(n, t, ROWS - 3, n, &list(masks_len(t)), out)
+        });
+        assert!(
+            masks_line_len(n, t) <= LONGEST_LINE && opening_line_len(n, t) < masks_line_len(n, t)
+        );
+    }
+    assert_eq!(masks_line_len(MAX_POSTS, MAX_POSTS - 1), LONGEST_LINE);
+}
+
+/// A file's text with the longest numbers in the places of elements.
+fn longest(file: &str) -> String {
+    let line = |line: &str| {
+        let heads = if line.starts_with('S') { 4 } else { 2 };
+        let element = |(at, field): (usize, &str)| {
+            if at < heads {
+                field.to_string()
+            } else {
+                (MODULUS - 1).to_string()
+            }
+        };
+        line.split(',').enumerate().map(element).collect::<Vec<_>>().join(",") + "\n"
+    };
+    file.lines().map(line).collect()
+}
+
+/// With raw rows and triples from row 10 on, where a row has two digits, the longest file has exactly its length; below, a
+/// row's line may have one byte less. And each draw is where it is said to be.
+#[test]
+fn the_longest_pack_file_has_this_length() {
+    for [n, t] in SIZES {
+        let mut kinds = [KIND_EMPTY; ROWS];
+        for (row, kind) in [(10, KIND_TRIPLE), (13, KIND_RAW), (20, KIND_RAW), (93, KIND_TRIPLE)] {
+            kinds[row] = kind;
+        }
+        let all = draw_place(n, t, &kinds, ROWS);
+        assert_eq!(all, draws_len(n, t, 2, 2));
+        assert_eq!(draw_place(n, t, &kinds, 20), triple_draw_len(n, t) + row_draw_len(n, t));
+        let mut draws = vec![0; all];
+        // f of row 20 is 1, and so is every sum of its row, where v1 to vn are 0.
+        draws[draw_place(n, t, &kinds, 20)] = 1;
+        let mut out = vec![0; pack_file_len(n, t, 2, 2)];
+        let written = write_pack(n, t, n, &vec![1; n], &kinds, &draws, &mut out);
+        let length = written.accepted().expect("it fits");
+        let file = std::str::from_utf8(&out[..length]).expect("text");
+        assert_eq!(longest(file).len(), out.len());
+        let lines: BTreeMap<&str, &str> = file.lines().map(|line| line.split_at(5)).collect();
+        let row = format!("{}{}", "0,".repeat(t + 1 + n), vec!["1"; n].join(","));
+        assert_eq!(lines["R,20,"], row);
+    }
+}
+
+/// The header's walk over kinds is the binding's.
+#[test]
+fn the_header_finds_each_draw() {
+    let mut kinds = [KIND_EMPTY; ROWS];
+    for row in (0..ROWS).step_by(5) {
+        kinds[row] = if row % 2 == 0 { KIND_TRIPLE } else { KIND_RAW };
+    }
+    let list = kinds.map(|kind| kind.to_string()).join(", ");
+    let code = format!(
+        "#include <stdio.h>\n#include \"gantsorol.h\"\nint main(void) {{\nconst uint8_t kinds[] = {{{list}}};\n\
+         for (size_t row = 0; row <= GANTSOROL_ROWS; row++) printf(\"%zu\\n\", gantsorol_draw_place(32, 15, kinds, row));\n\
+         return 0;\n}}\n"
+    );
+    let source = Path::new(env!("CARGO_TARGET_TMPDIR")).join("draw_places.c");
+    fs::write(&source, code).expect("a file can be written");
+    let printed = ended(&mut Command::new(compiled("draw_places", &source, &C))).stdout;
+    let expected: String =
+        (0..=ROWS).map(|row| format!("{}\n", draw_place(32, 15, &kinds, row))).collect();
+    assert_eq!(String::from_utf8(printed).expect("numbers"), expected);
+}

@@ -1,0 +1,266 @@
+//! Posts that are programs of their own, in C and in Rust, and talk in lines over pipes: each loads its pack file, they open a
+//! charge and prove a relation. One may be silent, one may lie, one may lose its power.
+
+mod common;
+
+use std::fs;
+use std::io::{self, BufRead, BufReader, PipeReader, Write};
+use std::path::{Path, PathBuf};
+use std::process::{Command, Stdio};
+use std::sync::mpsc::{channel, Sender};
+use std::sync::OnceLock;
+use std::thread;
+use std::time::Duration;
+
+use common::programs::{compiled, ended, repository, C, CPP};
+
+#[allow(dead_code)]
+mod in_rust {
+    include!("../examples/post.rs");
+
+    /// The post, with its errors as text.
+    pub fn told(
+        pack: &Path,
+        state: &Path,
+        input: impl BufRead,
+        output: impl Write,
+    ) -> Result<String, String> {
+        run(pack, state, input, output).map_err(|error| error.to_string())
+    }
+}
+
+/// In which language a post is written.
+#[derive(Clone, Copy, PartialEq)]
+enum Kind {
+    C,
+    Rust,
+}
+
+/// The works' program and the post's, compiled once.
+fn programs() -> &'static [PathBuf; 2] {
+    static COMPILED: OnceLock<[PathBuf; 2]> = OnceLock::new();
+    let example = |name: &str| {
+        compiled(&format!("posts_{name}"), &repository().join(format!("examples/{name}.c")), &C)
+    };
+    COMPILED.get_or_init(|| ["station", "post"].map(example))
+}
+
+/// A folder with the files of a station.
+struct Station {
+    folder: PathBuf,
+}
+
+/// A post's line, or at its end what it opened.
+enum Event {
+    Line(usize, String),
+    Ended(usize, String),
+}
+
+impl Station {
+    /// Its dealers deal these rides, this rate and this fee.
+    fn new(name: &str, numbers: [u32; 3]) -> Self {
+        let folder = Path::new(env!("CARGO_TARGET_TMPDIR")).join(name);
+        let _ = fs::remove_dir_all(&folder);
+        fs::create_dir_all(&folder).expect("a folder can be made");
+        let numbers = numbers.map(|number| number.to_string());
+        ended(Command::new(&programs()[0]).arg(&folder).args(numbers));
+        Self { folder }
+    }
+
+    fn pack(&self, post: usize) -> PathBuf {
+        self.folder.join(format!("post-{post}.txt"))
+    }
+
+    fn state(&self, post: usize) -> PathBuf {
+        self.folder.join(format!("state-{post}"))
+    }
+
+    fn deals(&self) -> String {
+        fs::read_to_string(self.folder.join("deals.txt")).expect("the deals were written")
+    }
+
+    /// Starts a post: what it is fed with. Its lines and its end are told to `events`.
+    fn start(&self, post: usize, kind: Kind, events: &Sender<Event>) -> Box<dyn Write + Send> {
+        let (input, feeding) = io::pipe().expect("a pipe");
+        let (output, sending) = io::pipe().expect("a pipe");
+        let (pack, state, kept) = (self.pack(post), self.state(post), self.state(post));
+        let run = move || match kind {
+            Kind::Rust => in_rust::told(&pack, &state, BufReader::new(input), sending),
+            Kind::C => {
+                let mut command = Command::new(&programs()[1]);
+                command.arg(pack).arg(state).stdin(input).stdout(sending).stderr(Stdio::piped());
+                let child = command.spawn().expect("it starts");
+                drop(command);
+                let output = child.wait_with_output().expect("it ends");
+                let said = String::from_utf8(output.stderr).expect("text").trim().to_string();
+                if output.status.success() {
+                    Ok(said)
+                } else {
+                    Err(said)
+                }
+            }
+        };
+        let events = events.clone();
+        thread::spawn(move || {
+            let running = thread::spawn(run);
+            forward(post, output, &kept, &events);
+            let opened = running.join().expect("it ends").unwrap_or_else(|why| why);
+            let _ = events.send(Event::Ended(post, opened));
+        });
+        Box::new(feeding)
+    }
+
+    /// Runs these posts; each gets the deals, then every line of another post as `carried` hands it on. What each opened.
+    fn run(&self, posts: &[(usize, Kind)], carried: impl Fn(usize, &str) -> String) -> Vec<String> {
+        let (events, told) = channel();
+        let start = |&(post, kind): &(usize, Kind)| (post, self.start(post, kind, &events));
+        let mut inputs: Vec<_> = posts.iter().map(start).collect();
+        drop(events);
+        for (_, input) in &mut inputs {
+            input.write_all(self.deals().as_bytes()).expect("it takes the deals");
+        }
+        let mut opened = vec![];
+        while opened.len() < posts.len() {
+            match told.recv_timeout(Duration::from_secs(60)).expect("no post waits for ever") {
+                // A post that has ended takes no more lines.
+                Event::Line(from, line) => {
+                    let line = carried(from, &line);
+                    let others = inputs.iter_mut().filter(|(post, _)| *post != from);
+                    others.for_each(|(_, input)| drop(input.write_all(line.as_bytes())));
+                }
+                Event::Ended(post, text) => {
+                    inputs.retain(|(running, _)| *running != post);
+                    opened.push(text);
+                }
+            }
+        }
+        opened.sort();
+        opened
+    }
+}
+
+/// Hands a post's lines on. Each was stored before it was sent: a state without it would be the one from before.
+fn forward(post: usize, output: PipeReader, state: &Path, events: &Sender<Event>) {
+    for line in BufReader::new(output).lines() {
+        let line = line.expect("text") + "\n";
+        let lacks =
+            |stored: Vec<u8>| !stored.windows(line.len()).any(|part| part == line.as_bytes());
+        let event = match fs::read(state).is_ok_and(lacks) {
+            true => Event::Ended(post, format!("{line} is sent and not stored")),
+            false => Event::Line(post, line),
+        };
+        let _ = events.send(event);
+    }
+}
+
+fn as_it_is(_: usize, line: &str) -> String {
+    line.to_string()
+}
+
+/// What these posts say.
+fn said(posts: &[usize], what: &str) -> Vec<String> {
+    posts.iter().map(|post| format!("post {post}: {what}")).collect()
+}
+
+#[test]
+fn three_posts_in_c_open_the_charge_and_prove_the_relation() {
+    let station = Station::new("posts_in_c", [12, 35, 420]);
+    let posts = [1, 2, 3].map(|post| (post, Kind::C));
+    let expected = said(&[1, 2, 3], "the charge is 500, the fee is right");
+    assert_eq!(station.run(&posts, as_it_is), expected);
+    // Nothing is left of what they kept.
+    assert!([1, 2, 3].iter().all(|&post| !station.state(post).exists()));
+}
+
+#[test]
+fn three_posts_in_rust_see_a_wrong_fee() {
+    let station = Station::new("posts_in_rust", [12, 35, 421]);
+    let posts = [1, 2, 3].map(|post| (post, Kind::Rust));
+    let expected = said(&[1, 2, 3], "the charge is 500, the fee is not right");
+    assert_eq!(station.run(&posts, as_it_is), expected);
+    assert!([1, 2, 3].iter().all(|&post| !station.state(post).exists()));
+}
+
+/// Post 2 is silent.
+#[test]
+fn two_posts_of_either_language_are_enough() {
+    let station = Station::new("posts_of_both", [7, 9, 63]);
+    let expected = said(&[1, 3], "the charge is 143, the fee is right");
+    assert_eq!(station.run(&[(1, Kind::C), (3, Kind::Rust)], as_it_is), expected);
+}
+
+/// The last number of every line of post 3 is another: posts 1 and 2 reject it and have each other.
+#[test]
+fn a_post_that_lies_is_not_accepted() {
+    let station = Station::new("posts_and_a_liar", [12, 35, 420]);
+    let lie = |from: usize, line: &str| match from {
+        3 => {
+            let (before, last) = line.trim().rsplit_once(',').expect("a line has numbers");
+            let last: u32 = last.parse().expect("a number");
+            format!("{before},{}\n", (last + 1) % gantsorol::MODULUS)
+        }
+        _ => line.to_string(),
+    };
+    let opened = station.run(&[(1, Kind::C), (2, Kind::Rust), (3, Kind::C)], lie);
+    assert_eq!(opened, said(&[1, 2, 3], "the charge is 500, the fee is right"));
+}
+
+/// The lines of a post that hears the deals alone, up to its masks; then it is gone.
+fn cut_off(station: &Station, kind: Kind) -> Vec<String> {
+    let (events, told) = channel();
+    let mut input = station.start(1, kind, &events);
+    drop(events);
+    input.write_all(station.deals().as_bytes()).expect("it takes the deals");
+    drop(input);
+    let lines = told.into_iter().filter_map(|event| match event {
+        Event::Line(_, line) => Some(line),
+        Event::Ended(_, why) => {
+            assert!(why.contains("the lines ended before"), "{why}");
+            None
+        }
+    });
+    lines.collect()
+}
+
+/// A post that comes back sends the masks that it had sent, and no others: a triple serves once.
+#[test]
+fn after_a_power_loss_a_post_sends_the_same_lines() {
+    for (kind, name) in [(Kind::C, "posts_power_c"), (Kind::Rust, "posts_power_rust")] {
+        let station = Station::new(name, [12, 35, 420]);
+        let lines = cut_off(&station, kind);
+        assert_eq!(lines.len(), 2, "{lines:?}");
+        assert!(lines.iter().all(|line| line.starts_with("M,")));
+        fs::remove_file(station.pack(1)).expect("a pack file is needed once");
+        assert_eq!(cut_off(&station, kind), lines);
+        let posts = [(1, kind), (2, Kind::C), (3, Kind::Rust)];
+        let expected = said(&[1, 2, 3], "the charge is 500, the fee is right");
+        assert_eq!(station.run(&posts, as_it_is), expected);
+    }
+}
+
+#[test]
+fn wrong_packs_and_plans_are_refused() {
+    let station = Station::new("posts_wrong", [1, 2, 2]);
+    let (pack, state) = (station.folder.join("wrong.txt"), station.folder.join("state"));
+    let right = fs::read_to_string(station.pack(1)).expect("a file");
+    let other = "S,4,1,1,5\n".to_string();
+    let twice = format!("{right}{}\n", right.lines().nth(1).expect("a row"));
+    let letter = right.replacen('R', "Q", 1);
+    let number = right.replacen("R,", "R,x", 1);
+    for text in [String::new(), other, twice, letter, number] {
+        fs::write(&pack, text).expect("a file can be written");
+        let mut command = Command::new(&programs()[1]);
+        let ran = command.arg(&pack).arg(&state).stdin(Stdio::null()).output().expect("it runs");
+        assert!(!ran.status.success() && !ran.stderr.is_empty());
+        assert!(in_rust::told(&pack, &state, io::empty(), io::sink()).is_err());
+        assert!(!state.exists());
+    }
+}
+
+/// The programs are C++ too.
+#[test]
+fn the_programs_compile_as_cpp() {
+    for name in ["station", "post", "word", "works"] {
+        compiled(&format!("{name}_as_cpp"), &repository().join(format!("examples/{name}.c")), &CPP);
+    }
+}
