@@ -153,13 +153,12 @@ fn the_last_line_without_its_line_feed_gets_10() {
 }
 
 #[test]
-fn lines_of_3173_bytes_are_taken_and_longer_ones_refused() {
-    let elements = ["2147483646"; 96];
+fn lines_of_5252_bytes_are_taken_and_longer_ones_refused() {
+    let elements = ["2147483646"; 159];
     let row = format!("R,95,{}\n", elements.join(","));
     let longest = format!("T,93,{}\n", [elements; 3].concat().join(","));
-    assert_eq!((row.len(), longest.len()), (1061, 3173));
-    assert_eq!(LONGEST_LINE, 3173);
-    let start = "S,32,31,32,1\n";
+    assert_eq!((longest.len(), LONGEST_LINE), (5252, 5252));
+    let start = "W,32,31,32,1,2147483646\n";
     assert_eq!(refusals(format!("{start}{longest}{row}").as_bytes()), [0, 0, 7]);
     assert_eq!(refusals(format!("{start}{row}{longest}").as_bytes()), [0, 0, 7]);
     let wider = longest.replace("T,93,", "T,093,");
