@@ -7,7 +7,7 @@ use crate::session::{mark, Answer, Session};
 use crate::shape::{expect_length, expect_row, Shape};
 
 /// What a post has heard for one opening: "n blocks, each a mark (0 absent, 1 present) and t+1
-/// coefficients".
+/// coefficients", or 2t+1.
 #[derive(Clone, Copy)]
 pub(crate) struct Record<'a> {
     shape: Shape,
