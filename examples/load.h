@@ -2,7 +2,10 @@
 #include "gantsorol.h"
 #include "given.h"
 
-enum { PACK_LINE = GANTSOROL_TRIPLE_LINE_LEN(N, T, POINTS) + 2, PACK_NUMBERS = 1 + GANTSOROL_TRIPLE_PACK_LEN(N, T, POINTS) };
+enum {
+    PACK_LINE = GANTSOROL_TRIPLE_LINE_LEN(N, T, POINTS) + 2,
+    PACK_NUMBERS = 1 + GANTSOROL_TRIPLE_PACK_LEN(N, T, POINTS)
+};
 
 /* The numbers behind a line's letter, up to `most`; how many, or 0 where something else stands. */
 static inline size_t numbers_of(char *line, uint32_t *numbers, size_t most) {

@@ -12,8 +12,16 @@
 
 #include "load.h"
 
-enum { ROWS = GANTSOROL_ROWS_LEN(N, T, POINTS), RECORD = GANTSOROL_RECORD_LEN(N, T, POINTS), MESSAGE = GANTSOROL_MESSAGE_LEN(T, POINTS) };
-enum { MASKS = GANTSOROL_MASKS_LEN(T, POINTS), M_LINE = GANTSOROL_MASKS_LINE_LEN(N, T, POINTS), O_LINE = GANTSOROL_OPENING_LINE_LEN(N, T, POINTS) };
+enum {
+    ROWS = GANTSOROL_ROWS_LEN(N, T, POINTS),
+    RECORD = GANTSOROL_RECORD_LEN(N, T, POINTS),
+    MESSAGE = GANTSOROL_MESSAGE_LEN(T, POINTS)
+};
+enum {
+    MASKS = GANTSOROL_MASKS_LEN(T, POINTS),
+    M_LINE = GANTSOROL_MASKS_LINE_LEN(N, T, POINTS),
+    O_LINE = GANTSOROL_OPENING_LINE_LEN(N, T, POINTS)
+};
 
 /* Session and rows, and the post's own lines, to be sent again after a power loss. */
 static struct {
@@ -88,8 +96,8 @@ static void send_masks(size_t first, const uint32_t *masks) {
 static void send_opening(size_t row) {
     uint32_t message[MESSAGE];
     if (done(gantsorol_opening_message(state.session, state.rows, ROWS, row, message, MESSAGE)))
-        send_line(gantsorol_write_opening(N, T, POINTS, row, state.session.post, message, MESSAGE, state.sent + state.sent_len,
-                                          sizeof state.sent - state.sent_len));
+        send_line(gantsorol_write_opening(N, T, POINTS, row, state.session.post, message, MESSAGE,
+                                          state.sent + state.sent_len, sizeof state.sent - state.sent_len));
 }
 
 /* The charge: masks once both factors are dealt, the product once t+1 posts' masks are accepted, then the fixed fee. */

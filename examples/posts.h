@@ -32,7 +32,8 @@ static void expect_made(uint8_t refusal) {
 /* The factory draws a row, and its dealer shares `number` with it. */
 static void share(size_t row, uint32_t number, const uint32_t *draw) {
     uint32_t packs[GANTSOROL_PACKS_LEN(N, T, POINTS)], c = gantsorol_dealer_number(number, draw[0]).value;
-    expect_made(gantsorol_factory_row(N, T, POINTS, check_points, POINTS * N, draw, GANTSOROL_ROW_DRAW_LEN(N, T, POINTS), packs, N * ROW));
+    expect_made(gantsorol_factory_row(N, T, POINTS, check_points, POINTS * N, draw, GANTSOROL_ROW_DRAW_LEN(N, T, POINTS),
+                                      packs, N * ROW));
     for (int i = 0; i < N; i++) {
         keep(i, gantsorol_load_row(posts[i], rows[i], ALL, row, packs + i * ROW, ROW));
         keep(i, gantsorol_deal(posts[i], rows[i], ALL, row, c));
@@ -42,8 +43,8 @@ static void share(size_t row, uint32_t number, const uint32_t *draw) {
 /* The factory draws a triple; each post gets its part of l, of l' and of l''. */
 static void load_triple(size_t first, const uint32_t *draw) {
     uint32_t packs[GANTSOROL_TRIPLE_PACKS_LEN(N, T, POINTS)], pack[GANTSOROL_TRIPLE_PACK_LEN(N, T, POINTS)];
-    expect_made(
-        gantsorol_factory_triple(N, T, POINTS, check_points, POINTS * N, draw, GANTSOROL_TRIPLE_DRAW_LEN(N, T, POINTS), packs, 3 * N * ROW));
+    expect_made(gantsorol_factory_triple(N, T, POINTS, check_points, POINTS * N, draw,
+                                         GANTSOROL_TRIPLE_DRAW_LEN(N, T, POINTS), packs, 3 * N * ROW));
     for (int i = 0; i < N; i++) {
         for (int part = 0; part < 3; part++)
             memcpy(pack + part * ROW, packs + (part * N + i) * ROW, ROW * sizeof *pack);
@@ -53,7 +54,8 @@ static void load_triple(size_t first, const uint32_t *draw) {
 
 /* What a post sent, into its block of a record. */
 static void hear(uint32_t *record, int post, const uint32_t *coefficients) {
-    uint8_t refusal = gantsorol_record_put(N, T, POINTS, record, RECORD, post + 1, coefficients, GANTSOROL_MESSAGE_LEN(T, POINTS));
+    uint8_t refusal =
+        gantsorol_record_put(N, T, POINTS, record, RECORD, post + 1, coefficients, GANTSOROL_MESSAGE_LEN(T, POINTS));
     if (refusal != 0)
         printf("the record: refusal %d\n", refusal);
 }

@@ -21,7 +21,8 @@ int main(void) {
     /* The factory: f = 7 + 4z, v1 = 1 + 2z, v2 = 3 + z, v3 = 5 + 6z. Real ones are drawn at random. */
     const uint32_t check_points[N] = {2, 3, 5}, draw[GANTSOROL_ROW_DRAW_LEN(N, T, POINTS)] = {7, 4, 1, 2, 3, 1, 5, 6};
     uint32_t packs[N * ROW];
-    if (gantsorol_factory_row(N, T, POINTS, check_points, N, draw, GANTSOROL_ROW_DRAW_LEN(N, T, POINTS), packs, N * ROW) != 0)
+    if (gantsorol_factory_row(N, T, POINTS, check_points, N, draw, GANTSOROL_ROW_DRAW_LEN(N, T, POINTS), packs, N * ROW) !=
+        0)
         return 1;
 
     /* Each post loads its part into row 0; the dealer broadcasts c, and each post deals it. */
@@ -37,8 +38,7 @@ int main(void) {
     keep(1, gantsorol_opening_message(posts[1], rows[1], ROWS, 0, message, MESSAGE));
     if (gantsorol_record_put(N, T, POINTS, record, RECORD, 2, message, MESSAGE) != 0)
         return 1;
-    printf("c = %u, opened %u\n", c,
-           keep(0, gantsorol_open(posts[0], rows[0], ROWS, 0, record, RECORD)));
+    printf("c = %u, opened %u\n", c, keep(0, gantsorol_open(posts[0], rows[0], ROWS, 0, record, RECORD)));
 
     /* Without it post 1 is alone, and too few is refusal 9. */
     if (gantsorol_record_remove(N, T, POINTS, record, RECORD, 2) != 0)

@@ -22,7 +22,9 @@ int main(int count, char **arguments) {
     /* Each post's file. */
     for (int i = 1; i <= N; i++) {
         FILE *file = created_for_post(directory, i);
-        put(file, text, gantsorol_write_pack(N, T, i, POINTS, check_points, POINTS * N, kinds, GANTSOROL_ROWS, drawn, DRAW, text, sizeof text));
+        put(file, text,
+            gantsorol_write_pack(N, T, i, POINTS, check_points, POINTS * N, kinds, GANTSOROL_ROWS, drawn, DRAW, text,
+                                 sizeof text));
         must(fclose(file) == 0, "word: a post's file");
     }
 
@@ -33,9 +35,12 @@ int main(int count, char **arguments) {
     put(lines, text, gantsorol_write_deal(N, T, 0, c.value, text, sizeof text));
 
     /* The posts broadcast their polynomials of row 0, and open it. */
-    must(gantsorol_factory_row(N, T, POINTS, check_points, POINTS * N, drawn, DRAW, packs, N * ROW) == GANTSOROL_OK, "word: the packs");
+    must(gantsorol_factory_row(N, T, POINTS, check_points, POINTS * N, drawn, DRAW, packs, N * ROW) == GANTSOROL_OK,
+         "word: the packs");
     for (int i = 0; i < N; i++)
-        put(lines, text, gantsorol_write_opening(N, T, POINTS, 0, i + 1, packs + i * ROW, GANTSOROL_MESSAGE_LEN(T, POINTS), text, sizeof text));
+        put(lines, text,
+            gantsorol_write_opening(N, T, POINTS, 0, i + 1, packs + i * ROW, GANTSOROL_MESSAGE_LEN(T, POINTS), text,
+                                    sizeof text));
     must(fputs("G,0\n", lines) >= 0 && fclose(lines) == 0, "word: the lines");
     return 0;
 }

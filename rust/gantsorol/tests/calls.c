@@ -200,17 +200,49 @@ static void write_lines(void) {
 
 /* A post's file, of a raw row and a triple, and a list one byte too short for it. */
 static void pack_file(const uint32_t *check_points, const uint32_t *row, const uint32_t *triple) {
-    enum { DRAW = GANTSOROL_ROW_DRAW_LEN(N, T, POINTS), TRIPLE = GANTSOROL_TRIPLE_DRAW_LEN(N, T, POINTS), DRAWS = DRAW + TRIPLE };
+    enum { DRAW = GANTSOROL_ROW_DRAW_LEN(N, T, POINTS), TRIPLE = GANTSOROL_TRIPLE_DRAW_LEN(N, T, POINTS) };
+    enum { DRAWS = DRAW + TRIPLE };
     const uint8_t kinds[GANTSOROL_ROWS] = {1, 0, 0, 3};
     uint32_t draws[DRAWS];
     memcpy(draws, row, DRAW * sizeof *row);
     memcpy(draws + DRAW, triple, TRIPLE * sizeof *triple);
     uint8_t file[256];
-    gantsorol_written written =
-        gantsorol_write_pack(N, T, 2, POINTS, check_points, POINTS * N, kinds, GANTSOROL_ROWS, draws, DRAWS, file, sizeof file);
+    gantsorol_written written = gantsorol_write_pack(N, T, 2, POINTS, check_points, POINTS * N, kinds, GANTSOROL_ROWS,
+                                                     draws, DRAWS, file, sizeof file);
     printf("file %d %zu\n%.*s", written.refusal, written.len, (int)written.len, (const char *)file);
-    written = gantsorol_write_pack(N, T, 2, POINTS, check_points, POINTS * N, kinds, GANTSOROL_ROWS, draws, DRAWS, file, written.len - 1);
+    written = gantsorol_write_pack(N, T, 2, POINTS, check_points, POINTS * N, kinds, GANTSOROL_ROWS, draws, DRAWS, file,
+                                   written.len - 1);
     printf("file %d %zu\n", written.refusal, written.len);
+}
+
+/* Two check points a post: f = 7 + 4z, v1 = 1 + 2z + z^2, v2 = 3 + z + 2z^2, v3 = 5 + 6z + 3z^2. Post 1 opens what it was
+   loaded with, with post 2's polynomial, with one that passes only at 2, and with one that passes at 2 and 4. */
+static void two_points(void) {
+    enum { TWO = 2, WIDE = GANTSOROL_ROW_LEN(N, T, TWO), DRAW = GANTSOROL_ROW_DRAW_LEN(N, T, TWO) };
+    enum { SENT = GANTSOROL_MESSAGE_LEN(T, TWO), HEARD = GANTSOROL_RECORD_LEN(N, T, TWO), ROWS = 96 * WIDE };
+    const uint32_t ws[TWO * N] = {2, 4, 3, 5, 5, 7}, draw[DRAW] = {7, 4, 1, 2, 1, 3, 1, 2, 5, 6, 3};
+    const uint32_t sent[3][SENT] = {{3, 1, 2}, {9, 2, 0}, {11, GANTSOROL_MODULUS - 5, 3}};
+    const uint8_t kinds[GANTSOROL_ROWS] = {1};
+    static uint32_t all[ROWS];
+    uint32_t packs[N * WIDE], record[HEARD] = {0};
+    uint8_t file[GANTSOROL_PACK_FILE_LEN(N, T, TWO, 1, 0)];
+    printf("row %d\n", gantsorol_factory_row(N, T, TWO, ws, TWO * N, draw, DRAW, packs, N * WIDE));
+    print("packs", packs, N * WIDE);
+    gantsorol_written written =
+        gantsorol_write_pack(N, T, 1, TWO, ws, TWO * N, kinds, GANTSOROL_ROWS, draw, DRAW, file, sizeof file);
+    printf("file %d %zu\n%.*s", written.refusal, written.len, (int)written.len, (const char *)file);
+    keep(0, gantsorol_new(N, T, 1, TWO, ws[0], ws[1]));
+    keep(0, gantsorol_load_row(posts[0], all, ROWS, 0, packs, WIDE));
+    keep(0, gantsorol_deal(posts[0], all, ROWS, 0, 93));
+    for (int i = 0; i < 3; i++) {
+        gantsorol_record_put(N, T, TWO, record, HEARD, 2, sent[i], SENT);
+        printf("post 1 opens %u\n", keep(0, gantsorol_open(posts[0], all, ROWS, 0, record, HEARD)));
+    }
+    /* Refused: no point, three, a second of 0 and of p. With one point the second is not looked at, and is 0 in the session. */
+    printf("new %d %d %d %d\n", gantsorol_new(N, T, 1, 0, 2, 4).refusal, gantsorol_new(N, T, 1, 3, 2, 4).refusal,
+           gantsorol_new(N, T, 1, TWO, 2, 0).refusal, gantsorol_new(N, T, 1, TWO, 2, GANTSOROL_MODULUS).refusal);
+    gantsorol_answer one = gantsorol_new(N, T, 1, 1, 2, GANTSOROL_MODULUS);
+    printf("one %d %zu %u %u\n", one.refusal, one.session.points, one.session.first, one.session.second);
 }
 
 int main(void) {
@@ -222,7 +254,7 @@ int main(void) {
     print("packs", packs, N * ROW);
     for (int i = 0; i < 23; i++)
         triple[i] = (uint32_t)i + 2;
-    printf("triple %d\n", gantsorol_factory_triple(N, T, POINTS, check_points, POINTS * N, triple, 23, triples, 3 * N * ROW));
+    printf("triple %d\n", gantsorol_factory_triple(N, T, 1, check_points, N, triple, 23, triples, 3 * N * ROW));
     print("triples", triples, 3 * N * ROW);
     gantsorol_number c = gantsorol_dealer_number(100, draw[0]), bad = gantsorol_dealer_number(GANTSOROL_MODULUS, 0);
     printf("c %d %u, %d %u\n", c.refusal, c.value, bad.refusal, bad.value);
@@ -263,5 +295,6 @@ int main(void) {
     gantsorol_session zero = {0};
     printf("none %d %u %d\n", none.refusal, none.value, memcmp(none.session.marks, zero.marks, sizeof zero.marks));
     write_lines();
+    two_points();
     return 0;
 }

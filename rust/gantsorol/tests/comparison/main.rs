@@ -94,7 +94,7 @@ const SQUARES: Met = &[
 #[test]
 fn squares() {
     let mut seen = Seen::default();
-    for seed in seeds(240) {
+    for seed in seeds(330) {
         let mut rng = Rng::new(seed);
         let n = if rng.one_in(4) { MAX_POSTS } else { rng.between(33, MAX_POSTS) };
         let t = match seed % 3 {

@@ -103,7 +103,8 @@ static void hear(size_t row, size_t from, size_t to, uint32_t *record) {
 static uint32_t packs[DRAWN][MOST * GANTSOROL_ROW_LEN(MOST, MOST, GANTSOROL_MAX_POINTS)];
 
 static void draw_all(void) {
-    static uint32_t draw[GANTSOROL_TRIPLE_DRAW_LEN(MOST, MOST, GANTSOROL_MAX_POINTS)], out[3 * MOST * GANTSOROL_ROW_LEN(MOST, MOST, GANTSOROL_MAX_POINTS)];
+    static uint32_t draw[GANTSOROL_TRIPLE_DRAW_LEN(MOST, MOST, GANTSOROL_MAX_POINTS)],
+        out[3 * MOST * GANTSOROL_ROW_LEN(MOST, MOST, GANTSOROL_MAX_POINTS)];
     for (size_t i = 0; i < points * n; i++)
         check_points[i] = drawn(1);
     draw_own_points(any_point);
@@ -297,11 +298,10 @@ static void write_pack(void) {
         do
             for (size_t i = 0; i < k; i++)
                 v[i] = shown();
-        while (!fits(value(v, k, own[0])) || !fits(value(v, k, own[points - 1])) ||
-               !fits(plus(v[0], 1, value(draw, t + 1, (uint32_t)j))));
+        while (!fits(value(v, k, own[0])) || !fits(value(v, k, own[points - 1])) || !fits(plus(v[0], 1, value(draw, t + 1, (uint32_t)j))));
     }
-    gantsorol_written written = gantsorol_write_pack(n, t, POST, points, check_points, points * n, kinds, GANTSOROL_ROWS, draw, draw_len,
-                                                     file, sizeof file);
+    gantsorol_written written =
+        gantsorol_write_pack(n, t, POST, points, check_points, points * n, kinds, GANTSOROL_ROWS, draw, draw_len, file, sizeof file);
     must(written.refusal == 0, "write pack");
 }
 

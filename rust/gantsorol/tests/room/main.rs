@@ -14,7 +14,7 @@ use std::process::Command;
 use common::programs::{compiled, ended, exports, repository};
 use gantsorol::MOST_STACK;
 
-/// n and t; each with one check point a post, and with two.
+/// n and t; each with one check point a post and with two, and a call's room is the larger of them.
 const SIZES: [[usize; 2]; 3] = [[3, 1], [32, 31], [255, 254]];
 
 /// The calls that open, and by how much a small station's stack stays below that of the most posts: their rooms are not on it.
@@ -91,25 +91,28 @@ fn the_room_of_each_call() {
     let program = measuring();
     let stacks = [1, 2].map(|points| SIZES.map(|size| stack(&program, size, points)));
     let empty = linked(&[]);
-    let heads = SIZES.map(|[n, t]| format!("({n}, {t})")).join(" | ");
-    println!("| Call | one point: {heads} | two points: {heads} | linked alone |");
-    println!("|---|---|---|---|---|---|---|---|");
+    println!("| Call | stack at (3, 1) | (32, 31) | (255, 254) | linked alone |");
+    println!("|---|---|---|---|---|");
+    let mut measured = BTreeMap::new();
     for call in calls() {
+        let [one, two] = stacks.each_ref().map(|stacks| stacks.each_ref().map(|of| of[&call]));
+        let [small, middle, large] = std::array::from_fn(|size| one[size].max(two[size]));
         let alone = linked(std::slice::from_ref(&call)) - empty;
-        let taken = stacks.each_ref().map(|stacks| stacks.each_ref().map(|stack| stack[&call]));
-        let measured = [taken.as_flattened(), &[alone]].concat();
-        let cells: Vec<String> = measured.iter().map(usize::to_string).collect();
-        println!("| `{call}` | {} |", cells.join(" | "));
-        for [small, middle, large] in taken {
-            check_stack(&call, small, middle, large);
+        println!("| `{call}` | {small} | {middle} | {large} | {alone} |");
+        if one != two {
+            println!("with one point {one:?}, with two {two:?}");
         }
-        let told = told(&page, &call);
+        measured.insert(call, [small, middle, large, alone]);
+    }
+    println!("\nThe whole library: {} bytes linked", linked(&calls()) - empty);
+    for (call, [small, middle, large, alone]) in measured {
+        check_stack(&call, small, middle, large);
+        let (told, measured) = (told(&page, &call), [small, middle, large, alone]);
         assert!(
-            told.len() == measured.len() && told.iter().zip(&measured).all(|(a, b)| near(*a, *b)),
+            told.len() == 4 && told.iter().zip(measured).all(|(told, of)| near(*told, of)),
             "docs/INTEGRATING.md has {told:?} for {call}, measured are {measured:?}"
         );
     }
-    println!("\nThe whole library: {} bytes linked", linked(&calls()) - empty);
 }
 
 /// No call goes deeper than is said, and a small station's does not have the rooms of a large one.
