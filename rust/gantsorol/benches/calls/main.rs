@@ -30,13 +30,12 @@ fn rounds(n: usize) -> usize {
 }
 
 /// n, t and the number of check points a post.
-const SIZES: [(usize, usize, usize); 10] = [
+const SIZES: [(usize, usize, usize); 9] = [
     (3, 1, 1),
     (3, 1, 2),
-    (8, 4, 1),
-    (8, 4, 2),
     (32, 15, 1),
     (32, 15, 2),
+    (32, 31, 1),
     (255, 127, 1),
     (255, 127, 2),
     (255, 254, 1),
