@@ -17,10 +17,14 @@ const P: u64 = MODULUS as u64;
 /// So many posts are few: lists of this length are enough for them.
 const FEW: usize = 32;
 
+/// And of so few the opening's lists are shorter still.
+const VERY_FEW: usize = 8;
+
 /// The most numbers of a line.
 const MOST_NUMBERS: usize = masks_len(MAX_POSTS - 1, MAX_POINTS);
 
 /// The most coefficients of a polynomial that is sent, with few posts and with the most.
+const VERY_FEW_SENT: usize = message_len(VERY_FEW - 1, MAX_POINTS);
 const FEW_SENT: usize = message_len(FEW - 1, MAX_POINTS);
 const MOST_SENT: usize = message_len(MAX_POSTS - 1, MAX_POINTS);
 

@@ -1,10 +1,10 @@
-//! The opening. Lists are of the size of the station: up to 32 posts, or up to the most.
+//! The opening. Lists are of the size of the station: up to 8 posts, up to 32, or up to the most.
 
 use gantsorol::{block_len, message_len, record_len, row_len, rows_len};
 use gantsorol::{Answer, Session, MAX_POSTS, ROWS};
 
 use super::{any_beyond, checked_points, checked_shape, is_point, powers, product, reduced, value};
-use super::{FEW, FEW_SENT, MOST_SENT, P};
+use super::{FEW, FEW_SENT, MOST_SENT, P, VERY_FEW, VERY_FEW_SENT};
 
 const fn inverse(x: u64) -> u64 {
     let (mut power, mut base, mut exponent) = (1, x, P - 2);
@@ -44,8 +44,11 @@ static TABLE: Table = {
 
 /// The opening.
 pub fn open(session: Session, rows: &[u32], row: usize, record: &[u32]) -> Answer {
-    let number =
-        if session.n <= FEW { number::<FEW, FEW_SENT> } else { number::<MAX_POSTS, MOST_SENT> };
+    let number = match session.n {
+        ..=VERY_FEW => number::<VERY_FEW, VERY_FEW_SENT>,
+        ..=FEW => number::<FEW, FEW_SENT>,
+        _ => number::<MAX_POSTS, MOST_SENT>,
+    };
     let (refusal, value) = match number(&session, rows, row, record) {
         Ok(value) => (0, value),
         Err(refusal) => (refusal, 0),
@@ -183,7 +186,7 @@ fn weighed<const N: usize>(nodes: &[usize]) -> ([u64; N], u64) {
     let all = product(TABLE.factorial[last + 1], TABLE.inverse_factorial[first]);
     let all = gaps.iter().fold(all, |all, &gap| product(all, TABLE.inverse[gap as usize + 1]));
     // Distances are at most 31 or 254; twelve of the first and seven of the others are below 2^62.
-    let together = if N == FEW { 12 } else { 7 };
+    let together = if N <= FEW { 12 } else { 7 };
     let mut weights = [0; N];
     for (weight, &index) in weights.iter_mut().zip(nodes) {
         let below = TABLE.inverse_factorial[index - first];
