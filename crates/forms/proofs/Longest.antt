@@ -1,5 +1,5 @@
 -- The longest line: a formula in n and the number of coefficients, and the line that has it.
-use Prim.Native.Nat.{ℕ, zero, suc, _+_, _*_, _≤_}
+use Prim.Native.Nat.{ℕ, zero, suc, _+_, _*_, _-_, _≤_}
 use mathlib.Core.Path.{_≡_, refl}
 use mathlib.Core.List.{[], _∷_, _++_}
 use mathlib.Core.Bool.{Bool, true, false, cond}
@@ -8,7 +8,7 @@ use native.Mathlib.Omega.{arith}
 use borrow.Author.Tests.{le-ltb}
 use lib.ListN.{length, replicate, length-append, length-replicate}
 use lib.Dec.{eqb}
-use Rattle.shape.specs.Bounds.{mostPoints, mostPosts, lastRow, lastTriple}
+use Rattle.shape.specs.Bounds.{mostPosts, lastRow, lastTriple}
 use Rattle.shape.specs.Lengths.{shape, vLength}
 use Rattle.refusal.specs.Conditions.{outside, anyBeyond}
 use Rattle.refusal.proofs.Laws.{inside}
@@ -17,7 +17,7 @@ use Rattle.decimal.proofs.Sizes.{size-pos, size-grows}
 use Rattle.csv.specs.Fields.{field, fields, written}
 use Rattle.csv.proofs.Overwriting.{length-field, length-fields-le}
 use Rattle.csv.proofs.Laying.{length-written}
-use Rattle.forms.specs.Claims.{longest, NoneLonger, OneAsLong, LongestLines, AtMost11207}
+use Rattle.forms.specs.Claims.{longest, NoneLonger, OneAsLong, LongestLines, AtMostLongest}
 use Rattle.forms.proofs.Ranges.{last-row-le}
 use Rattle.forms.proofs.RoundTrip.{WithinBounds, in-range}
 
@@ -87,8 +87,8 @@ longest-lines = (refl, refl, refl)
 longest-grows : (n m k j : ℕ) → n ≤ m → k ≤ j → longest n k ≤ longest m j
 longest-grows n m k j h g = omega (arith, size-grows 9 n m h)
 
-pub at-most-11207 : AtMost11207
-at-most-11207 n t points m h g few s =
+pub at-most-longest : AtMostLongest
+at-most-longest n t points m h g s =
     let k = vLength (shape n t points) in
-    let reach = mul-le-mul {n₁ = points} {m₁ = t} {n₂ = mostPoints} {m₂ = t} few (le-refl t) in
-    omega (arith, none-longer n k m (omega arith) s, longest-grows n mostPosts k 509 h (omega (arith, reach)), longest-lines .2)
+    let reach = mul-le-mul {n₁ = points} {m₁ = t} {n₂ = points} {m₂ = mostPosts - 1} (le-refl points) (omega arith) in
+    omega (arith, none-longer n k m (omega arith) s, longest-grows n mostPosts k (points * (mostPosts - 1) + 1) h (omega (arith, reach)))
