@@ -1,15 +1,14 @@
 -- The longest line: a formula in n and the number of coefficients, and the line that has it.
-use Prim.Native.Nat.{ℕ, zero, suc, _+_, _*_, _≤_}
-use mathlib.Core.Path.{_≡_, refl, ap}
+use Prim.Native.Nat.{ℕ, zero, suc, _+_, _*_, _-_, _≤_}
+use mathlib.Core.Path.{_≡_, refl}
 use mathlib.Core.List.{[], _∷_, _++_}
 use mathlib.Core.Bool.{Bool, true, false, cond}
-use native.Mathlib.Decide.{ℕ-discrete}
 use native.Mathlib.Nat.{mul-le-mul, le-refl}
 use native.Mathlib.Omega.{arith}
-use borrow.Author.Tests.{le-ltb, eq-eqb, ne-eqb}
+use borrow.Author.Tests.{le-ltb}
 use lib.ListN.{length, replicate, length-append, length-replicate}
 use lib.Dec.{eqb}
-use Rattle.shape.specs.Bounds.{mostPoints, mostPosts, lastRow, lastTriple}
+use Rattle.shape.specs.Bounds.{mostPosts, lastRow, lastTriple}
 use Rattle.shape.specs.Lengths.{shape, vLength}
 use Rattle.refusal.specs.Conditions.{outside, anyBeyond}
 use Rattle.refusal.proofs.Laws.{inside}
@@ -18,8 +17,7 @@ use Rattle.decimal.proofs.Sizes.{size-pos, size-grows}
 use Rattle.csv.specs.Fields.{field, fields, written}
 use Rattle.csv.proofs.Overwriting.{length-field, length-fields-le}
 use Rattle.csv.proofs.Laying.{length-written}
-use Rattle.forms.specs.Lines.{text}
-use Rattle.forms.specs.Claims.{longest, NoneLonger, OneAsLong, LongestLines, AtMostBytes}
+use Rattle.forms.specs.Claims.{longest, NoneLonger, OneAsLong, LongestLines, AtMostLongest}
 use Rattle.forms.proofs.Ranges.{last-row-le}
 use Rattle.forms.proofs.RoundTrip.{WithinBounds, in-range}
 
@@ -89,18 +87,8 @@ longest-lines = (refl, refl, refl)
 longest-grows : (n m k j : ℕ) → n ≤ m → k ≤ j → longest n k ≤ longest m j
 longest-grows n m k j h g = omega (arith, size-grows 9 n m h)
 
-pub at-most-bytes : AtMostBytes
-at-most-bytes n t points m h g few s = by-points (ℕ-discrete points 1)
-  where
-    k : ℕ
-    k = vLength (shape n t points)
-
-    reach : points * t ≤ mostPoints * t
-    reach = mul-le-mul {n₁ = points} {m₁ = t} {n₂ = mostPoints} {m₂ = t} few (le-refl t)
-
-    by-points : Dec (points ≡ 1) → length (text m) ≤ cond (eqb points 1) 5619 11207
-    by-points (yes e) =
-        rw (eq-eqb points 1 e)
-        (omega (arith, none-longer n k m (omega arith) s, longest-grows n mostPosts k 255 h (omega (arith, ap (λ (i : ℕ). i * t) e)), longest-lines .1))
-    by-points (no ne) =
-        rw (ne-eqb points 1 ne) (omega (arith, none-longer n k m (omega arith) s, longest-grows n mostPosts k 509 h (omega (arith, reach)), longest-lines .2))
+pub at-most-longest : AtMostLongest
+at-most-longest n t points m h g s =
+    let k = vLength (shape n t points) in
+    let reach = mul-le-mul {n₁ = points} {m₁ = t} {n₂ = points} {m₂ = mostPosts - 1} (le-refl points) (omega arith) in
+    omega (arith, none-longer n k m (omega arith) s, longest-grows n mostPosts k (points * (mostPosts - 1) + 1) h (omega (arith, reach)))

@@ -39,7 +39,7 @@ listsOf low many k = choices (replicate k (eachFrom low many (λ x. x)))
 unfoldable pub allLists : (ℕ → ℕ) → List (List (List ℕ))
 allLists many = choices (map (λ r. listsOf 0 p (many r)) allRows)
 
--- All draws of a plan: n check points from 1 to p − 1, what is drawn raw, and what is drawn for triples.
+-- All draws of a plan: one check point of each post, or two, from 1 to p − 1, what is drawn raw, and what is drawn for triples.
 unfoldable pub draws : Plan → List Draw
 draws plan =
     forEach (listsOf 1 (p - 1) (checksLength (planShape plan))) (λ points.

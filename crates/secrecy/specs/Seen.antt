@@ -1,9 +1,9 @@
 -- Document 01, "What a group of posts sees": the run of a list of calls, and the record of a group.
 use Prim.Native.Nat.{ℕ, _+_, _*_, _-_}
-use lib.ListN.{take, drop}
 use mathlib.Core.Bool.{Bool, false, cond, _||_}
 use mathlib.Core.List.{List, [], _∷_, _++_, map}
 use lib.Dec.{eqb}
+use lib.ListN.{take, drop}
 use Rattle.shape.specs.Bounds.{rowCount}
 use Rattle.parts.specs.Draw.{drawnF, eachFrom}
 use Rattle.forms.specs.Lines as Line
