@@ -3,3 +3,4 @@ pub mod Weights
 pub mod Marks
 pub mod Accepted
 pub mod Same
+pub mod Told

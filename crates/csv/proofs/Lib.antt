@@ -11,3 +11,4 @@ pub mod Rooming
 pub mod Lodging
 pub mod Single
 pub mod Reading
+pub mod Lined

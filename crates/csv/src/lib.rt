@@ -23,7 +23,7 @@ fn put_short(out: &mut [u8], at: usize, x: u32) -> usize
     requires { ⌜ at + length (field x) ≤ length (now out) ⌝ }
     ensures { λ r. ⌜ (r ≡ at + length (field x)) × (now (out .exit) ≡ overwrite at (field x) (now (out .entry))) ⌝ }
 {
-    out[at] = 44;
+    out[at] = b',';
     let from = at + 1;
     let end = from + decimal::size_of(x);
     decimal::put_digits(&mut out[from..end], x as u64);
@@ -38,7 +38,7 @@ fn put_long(out: &mut [u8], at: usize, x: u32) -> usize
     let end = at + 1 + lanes::long_size(x);
     let from = end - 10;
     lanes::put_ten(&mut out[from..end], x);
-    out[at] = 44;
+    out[at] = b',';
     end
 }
 
@@ -94,7 +94,7 @@ pub fn put_line(letter: u8, head: &[u32], rest: &[u32], out: &mut [u8]) -> usize
     out[0] = letter;
     let behind = put_fields(out, 1, head);
     let end = put_fields(out, behind, rest);
-    out[end] = 10;
+    out[end] = b'\n';
     end + 1
 }
 
@@ -111,7 +111,7 @@ fn comma_field(line: &[u8], at: usize) -> Field
     if line.len() <= at {
         return Field::Wrong; // the line has ended
     }
-    if line[at] != 44 {
+    if line[at] != b',' {
         return Field::Wrong; // no comma
     }
     decimal::field_at(line, at + 1)
@@ -224,7 +224,7 @@ pub fn line_end(line: &[u8], at: usize, largest: u64) -> Run
     if line.len() <= at {
         return Run::Broken; // nothing behind the fields
     }
-    if line[at] != 10 {
+    if line[at] != b'\n' {
         return Run::Broken; // no line feed
     }
     if line.len() != at + 1 {

@@ -11,7 +11,7 @@ pub fn one_field(line: &[u8], at: usize) -> Run
     if line.len() <= at {
         return Run::Broken; // the line has ended
     }
-    if line[at] != 44 {
+    if line[at] != b',' {
         return Run::Broken; // no comma
     }
     let field = decimal::short_field_at(line, at + 1);

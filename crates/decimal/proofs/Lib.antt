@@ -9,3 +9,4 @@ pub mod Scanning
 pub mod Spelling
 pub mod SideBySide
 pub mod Joining
+pub mod Written

@@ -1,3 +1,4 @@
 pub mod Numeral
 pub mod Between
 pub mod Lanes
+pub mod Claims

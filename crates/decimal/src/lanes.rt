@@ -44,8 +44,8 @@ pub fn put_ten(part: &mut [u8], x: u32)
     let high = x / 100000000;
     let tens = high * 13 / 128;
     let low = eight(x % 100000000);
-    part[0] = 48 + tens as u8;
-    part[1] = 48 + (high - 10 * tens) as u8;
+    part[0] = b'0' + tens as u8;
+    part[1] = b'0' + (high - 10 * tens) as u8;
     part[2] = (low % 256) as u8;
     part[3] = (low / 256 % 256) as u8;
     part[4] = (low / 65536 % 256) as u8;

@@ -44,7 +44,7 @@ pub fn put_digits(part: &mut [u8], x: u64)
     let mut y = x;
     while 0 < i {
         i -= 1;
-        part[i] = 48 + (y % 10) as u8;
+        part[i] = b'0' + (y % 10) as u8;
         y = y / 10;
     }
 }
@@ -82,13 +82,13 @@ fn walk_digits(line: &[u8], at: usize) -> Span
     let mut sum: u64 = 0;
     let mut i = at;
     while i < end {
-        if line[i] < 48 {
+        if line[i] < b'0' {
             return Span { value: sum, end: i };
         }
-        if 57 < line[i] {
+        if b'9' < line[i] {
             return Span { value: sum, end: i };
         }
-        sum = sum * 10 + wide(line[i] - 48);
+        sum = sum * 10 + wide(line[i] - b'0');
         i += 1;
     }
     Span { value: sum, end: i }
@@ -138,27 +138,27 @@ fn behind_nine(line: &[u8], at: usize, v: u64) -> Span
     ensures { λ r. ⌜ DigitsAt (now (line .entry)) at (r .value) (r .end) ⌝ }
 {
     let tenth = line[at + 9];
-    if tenth < 48 {
+    if tenth < b'0' {
         return Span {
             value: v,
             end: at + 9,
         };
     }
-    if 57 < tenth {
+    if b'9' < tenth {
         return Span {
             value: v,
             end: at + 9,
         };
     }
-    let ten = v * 10 + wide(tenth - 48);
+    let ten = v * 10 + wide(tenth - b'0');
     let end = at + 10;
     if line.len() <= end {
         return Span { value: ten, end };
     }
-    if line[end] < 48 {
+    if line[end] < b'0' {
         return Span { value: ten, end };
     }
-    if 57 < line[end] {
+    if b'9' < line[end] {
         return Span { value: ten, end };
     }
     Span {
@@ -173,19 +173,19 @@ fn behind_eight(line: &[u8], at: usize, v: u64) -> Span
     ensures { λ r. ⌜ DigitsAt (now (line .entry)) at (r .value) (r .end) ⌝ }
 {
     let ninth = line[at + 8];
-    if ninth < 48 {
+    if ninth < b'0' {
         return Span {
             value: v,
             end: at + 8,
         };
     }
-    if 57 < ninth {
+    if b'9' < ninth {
         return Span {
             value: v,
             end: at + 8,
         };
     }
-    behind_nine(line, at, v * 10 + wide(ninth - 48))
+    behind_nine(line, at, v * 10 + wide(ninth - b'0'))
 }
 
 // The digits from a position: eight at once where there are as many, else in one walk. Nine and a line feed are enough bytes for that.
@@ -222,7 +222,7 @@ fn field_of(line: &[u8], at: usize, digits: Span) -> Field
     if k == 1 {
         return Field::Number { value, next: end };
     }
-    if line[at] == 48 {
+    if line[at] == b'0' {
         return Field::Wrong; // a leading zero
     }
     Field::Number { value, next: end }

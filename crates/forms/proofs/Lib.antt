@@ -6,3 +6,4 @@ pub mod Longest
 pub mod Cases
 pub mod Joining
 pub mod Fronts
+pub mod Told

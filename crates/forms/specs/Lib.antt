@@ -2,3 +2,4 @@ pub mod Lines
 pub mod Forms
 pub mod Between
 pub mod Claims
+pub mod Ten

@@ -41,7 +41,7 @@ fn right(letter: u8, row: u64, post: u64, at: usize, count: usize) -> Head
 pub fn last_row(letter: u8) -> usize
     ensures { λ r. ⌜ r ≡ lastRowOf letter ⌝ }
 {
-    if letter == 77 {
+    if letter == b'M' {
         shape::LAST_TRIPLE
     } else {
         shape::LAST_ROW
@@ -53,13 +53,13 @@ fn number_count(letter: u8, k: usize) -> usize
     requires { ⌜ k ≤ 4294967296 ⌝ }
     ensures { λ r. ⌜ r ≡ cond (isLetter letter) (numberCount k letter) 0 ⌝ }
 {
-    if letter == 68 {
+    if letter == b'D' {
         return 1;
     }
-    if letter == 79 {
+    if letter == b'O' {
         return k;
     }
-    if letter == 77 {
+    if letter == b'M' {
         return 2 * k;
     }
     0
@@ -82,7 +82,7 @@ pub fn head_of(line: &[u8], k: usize) -> Head
     match run {
         Run::Fields { largest, next } => {
             let row = largest;
-            if letter == 68 {
+            if letter == b'D' {
                 return right(letter, row, 0, next, count);
             }
             let second = short::one_field(line, next);
@@ -105,7 +105,7 @@ pub fn out_of_range(n: usize, letter: u8, row: u64, post: u64, largest: u64) -> 
     if (last_row(letter) as u64) < row {
         return true;
     }
-    if letter == 68 {
+    if letter == b'D' {
         return false;
     }
     if post < 1 {

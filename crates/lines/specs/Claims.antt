@@ -1,26 +1,25 @@
 -- What is claimed of the calls on lines; proved in proofs/Theorems.antt and proofs/Sending.antt.
-use Prim.Native.Nat.{ℕ}
+use Prim.Native.Nat.{ℕ, _-_}
 use mathlib.Core.Path.{_≡_}
 use mathlib.Core.Bool.{false}
-use mathlib.Core.List.{List}
-use lib.ListN.{length, take, drop}
+use mathlib.Core.List.{List, _++_}
+use lib.ListN.{length, take, drop, replicate}
 use Rattle.shape.specs.Lengths.{shape, vLength, masksLength}
 use Rattle.refusal.specs.Refusal.{Test, first, Decides, Keeps}
 use Rattle.refusal.specs.Conditions.{outside}
-use Rattle.csv.specs.Fields.{padded}
 use Rattle.forms.specs.Lines.{Message, deal, opening, masks, text}
 use Rattle.forms.specs.Forms.{message}
 use Rattle.lines.specs.declared.Written.{Written}
 use Rattle.lines.specs.declared.Line.{Line}
-use Rattle.lines.specs.Writing.{writeDealRefusal, writeOpeningRefusal, writeMasksRefusal, writeRefusal, notWritten, writtenAs, partAs}
-use Rattle.lines.specs.Reading.{readRefusal, noLine, lineAs, listAs}
+use Rattle.lines.specs.Writing.{writeDealRefusal, writeOpeningRefusal, writeMasksRefusal, writeRefusal, writtenAs, partAs}
+use Rattle.lines.specs.Reading.{readRefusal, lineAs, listAs}
 use Rattle.lines.specs.Table.{writeDealTable, writeOpeningTable, writeMasksTable, readTable}
 
 -- ---- demand 1
 -- A writer with these tests, which was lent `part` for a line, gave `given` and left `after`.
 pub record WriteLawful (tests : List Test) (line part : List ℕ) (given : Written) (after : List ℕ) : Type 0 where
   pub refusal : Decides tests
-  pub untouched : (first tests ≡ 0 → ⊥) → (given ≡ notWritten (first tests)) × (after ≡ part)
+  pub untouched : (first tests ≡ 0 → ⊥) → (given ≡ record { refusal = first tests; len = 0 }) × (after ≡ part)
   pub answer : first tests ≡ 0 → given ≡ record { refusal = 0; len = length line }
   -- the first `len` bytes are the line, and "A written line leaves the rest of its part untouched."
   pub line-laid : first tests ≡ 0 → take (given .len) after ≡ line
@@ -43,11 +42,12 @@ pub record LinesLawful : Type 0 where
   pub read-answer : (n t points : ℕ) (s out : List ℕ)
       → Keeps {A = Line} (readTable n t points s out)
       (record { refusal = 0; letter = message (vLength (shape n t points)) s .letter; row = message (vLength (shape n t points)) s .row; post = message (vLength (shape n t points)) s .post })
-      (noLine (first (readTable n t points s out))) (lineAs (readRefusal n t points s out) (message (vLength (shape n t points)) s))
+      (record { refusal = first (readTable n t points s out); letter = 0; row = 0; post = 0 }) (lineAs (readRefusal n t points s out) (message (vLength (shape n t points)) s))
   -- "from its start; the places behind are set to 0", or the list as it came
   pub read-list : (n t points : ℕ) (s out : List ℕ)
-      → Keeps (readTable n t points s out) (padded (length out) (message (vLength (shape n t points)) s .numbers)) out
-      (listAs (readRefusal n t points s out) (message (vLength (shape n t points)) s) out)
+      → (let numbers = message (vLength (shape n t points)) s .numbers in
+      Keeps (readTable n t points s out) (numbers ++ replicate (length out - length numbers) 0) out
+      (listAs (readRefusal n t points s out) (message (vLength (shape n t points)) s) out))
 
 -- ---- demand 2
 -- The bytes that a writer with this refusal laid for m, read into a list as long as masks: the reader says m again.

@@ -139,7 +139,7 @@ fn write_dealt(row: usize, c: u32, out: &mut [u8]) -> Written
     }
     let head = [row as u32];
     let number = [c];
-    let len = csv::put_line(68, &head, &number, out);
+    let len = csv::put_line(b'D', &head, &number, out);
     Written { refusal: 0, len }
 }
 
@@ -177,7 +177,7 @@ pub fn write_opening(
         return not_written(party);
     }
     let shape = Shape { n, t, points };
-    write_posted(79, shape.v_len(), row, post, coefficients, out)
+    write_posted(b'O', shape.v_len(), row, post, coefficients, out)
 }
 
 // `M,row,post,` and the coefficients of the two masks.
@@ -202,7 +202,7 @@ pub fn write_masks(
         return not_written(party);
     }
     let shape = Shape { n, t, points };
-    write_posted(77, shape.masks_len(), row, post, coefficients, out)
+    write_posted(b'M', shape.masks_len(), row, post, coefficients, out)
 }
 
 fn no_line(refusal: u8) -> Line

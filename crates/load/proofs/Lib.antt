@@ -4,3 +4,4 @@ pub mod Triples
 pub mod Theorems
 pub mod Tables
 pub mod Kept
+pub mod Placed

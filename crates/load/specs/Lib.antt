@@ -1,3 +1,4 @@
 pub mod Load
 pub mod Table
 pub mod Claims
+pub mod Places

@@ -4,3 +4,4 @@ pub mod Multiplying
 pub mod Written
 pub mod Theorems
 pub mod Tables
+pub mod Placed

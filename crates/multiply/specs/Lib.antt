@@ -1,3 +1,4 @@
 pub mod Multiply
 pub mod Table
 pub mod Claims
+pub mod Places

@@ -59,14 +59,22 @@ fn opened<'a>(session: Session, rows: &'a [u32], row: usize, blocks: &'a [u32], 
     rooms::open_row(session.party(), own, blocks)
 }
 
-// Opens a held row with a record of what the posts sent. Session and rows stay as they are: there is one end, refused or not, so that the
-// session is copied once. 7 is looked up in a copy of the marks, since a list that is lent stays in memory with all that it is a part of.
-pub fn open<'a>(session: Session, rows: &'a [u32], row: usize, blocks: &'a [u32]) -> Answer
-    ensures { λ r. ⌜ r ≡ openAnswer session (now (rows .entry)) row (now (blocks .entry)) ⌝ }
+// The number that a row opens to, or the refusal: `open` without the session in its answer, so that no session is copied. 7 is looked up
+// in a copy of the marks, since a list that is lent stays in memory with all that it is a part of.
+pub fn open_number<'a>(session: Session, rows: &'a [u32], row: usize, blocks: &'a [u32]) -> Opened
+    ensures { λ r. ⌜ holding (r .refusal) (r .value) session ≡ openAnswer session (now (rows .entry)) row (now (blocks .entry)) ⌝ }
 {
     let marks = session.marks;
     let mark = session::checks::wrong_mark(&marks, row, shape::HELD);
-    let found = opened(session, rows, row, blocks, mark);
+    opened(session, rows, row, blocks, mark)
+}
+
+// Opens a held row with a record of what the posts sent. Session and rows stay as they are: there is one end, refused or not, so that the
+// session is copied once.
+pub fn open<'a>(session: Session, rows: &'a [u32], row: usize, blocks: &'a [u32]) -> Answer
+    ensures { λ r. ⌜ r ≡ openAnswer session (now (rows .entry)) row (now (blocks .entry)) ⌝ }
+{
+    let found = open_number(session, rows, row, blocks);
     Answer {
         refusal: found.refusal,
         value: found.value,

@@ -10,11 +10,11 @@ use lib.Seq.{take-all}
 use Rattle.decimal.specs.Numeral.{size, numeral}
 use Rattle.decimal.proofs.Digits.{Digits, digits-are-digits}
 use Rattle.csv.specs.Fields.{fields, written}
-use Rattle.states.specs.declared.State.{State}
-use Rattle.startlines.specs.Steps.{longestLine}
-use Rattle.interpreter.specs.Stepping.{step}
-use Rattle.splitting.specs.Lines.{keptLength}
-use Rattle.feeds.specs.Program.{Running, leftBy, answered, grown, fed}
+use Rattle.street_states.specs.declared.State.{State}
+use Rattle.street_startlines.specs.Steps.{longestLine}
+use Rattle.street_interpreter.specs.Stepping.{step}
+use Rattle.street_splitting.specs.Lines.{keptLength}
+use Rattle.street_feeds.specs.Program.{Running, leftBy, answered, grown, fed}
 
 -- ---- bytes above a line feed
 abbrev Feedless : List ℕ → Type 0

@@ -16,13 +16,13 @@ use Rattle.csv.specs.Fields.{written}
 use Rattle.session.specs.declared.Party.{Party}
 use Rattle.session.specs.Rows.{withRow}
 use Rattle.load.specs.Load.{withTriple}
-use Rattle.store.specs.Sizes.{streetPosts}
-use Rattle.states.specs.States.{firstState, begunWith, refusing, leaving}
-use Rattle.startlines.specs.Steps.{longestLine}
-use Rattle.interpreter.specs.Stepping.{step}
-use Rattle.answers.specs.Text.{answerText}
-use Rattle.feeds.specs.Program.{Running, leftBy, fed}
-use Rattle.transcript.proofs.Chunks.{fed-append}
+use Rattle.street_store.specs.Sizes.{streetPosts}
+use Rattle.street_states.specs.States.{firstState, begunWith, refusing, leaving}
+use Rattle.street_startlines.specs.Steps.{longestLine}
+use Rattle.street_interpreter.specs.Stepping.{step}
+use Rattle.street_answers.specs.Text.{answerText}
+use Rattle.street_feeds.specs.Program.{Running, leftBy, fed}
+use Rattle.street_transcript.proofs.Chunks.{fed-append}
 use Rattle.kinds.specs.Kinds.{drawnFor}
 use Rattle.packrow.specs.Numbers.{postPart, tripleParts, numbersOf}
 use Rattle.packlines.specs.File.{lineWith, rowLine, rowLines}

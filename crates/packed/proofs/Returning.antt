@@ -18,7 +18,7 @@ use Rattle.decimal.proofs.Positions.{head-at, drop-past}
 use Rattle.csv.specs.Fields.{fields, written, parsed, fieldsAt, ended, Small}
 use Rattle.csv.proofs.Overwriting.{fields-append}
 use Rattle.csv.proofs.Reading.{fields-read}
-use Rattle.reading.specs.Starting.{dashAt, startForm, behindPosts}
+use Rattle.street_reading.specs.Starting.{dashAt, startForm, behindPosts}
 use Rattle.packlines.specs.File.{startLine}
 use Rattle.packrow.specs.Between.{PostIn}
 

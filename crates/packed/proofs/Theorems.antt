@@ -19,11 +19,11 @@ use Rattle.refusal.proofs.Elements.{below-p}
 use Rattle.factory.specs.Calls.{anyBadPoint}
 use Rattle.factory.proofs.Laws.{passes-elements}
 use Rattle.session.specs.declared.Party.{Party}
-use Rattle.store.specs.Sizes.{streetPosts, storeRoom}
-use Rattle.states.specs.States.{firstState, begunWith}
-use Rattle.answers.specs.Text.{header, answerText}
-use Rattle.feeds.specs.Program.{Running, leftBy, begun, fed, closed, output}
-use Rattle.transcript.proofs.Chunks.{fed-append}
+use Rattle.street_store.specs.Sizes.{streetPosts, storeRoom}
+use Rattle.street_states.specs.States.{firstState, begunWith}
+use Rattle.street_answers.specs.Text.{header, answerText}
+use Rattle.street_feeds.specs.Program.{Running, leftBy, begun, fed, closed, output}
+use Rattle.street_transcript.proofs.Chunks.{fed-append}
 use Rattle.packlines.specs.File.{startLine, rowLines, file}
 use Rattle.packrow.specs.Between.{PostIn}
 use Rattle.packfile.specs.Between.{Given}

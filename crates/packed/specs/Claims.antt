@@ -9,10 +9,10 @@ use lib.Dec.{eqb}
 use lib.ListN.{length, take, drop, replicate}
 use Rattle.shape.specs.Lengths.{shape, rowsLength}
 use Rattle.shape.specs.Marks.{raw, unused}
-use Rattle.store.specs.Sizes.{storeRoom}
-use Rattle.states.specs.States.{firstState, begunWith}
-use Rattle.answers.specs.Text.{header, answerText}
-use Rattle.feeds.specs.Program.{Running, begun, fed, output}
+use Rattle.street_store.specs.Sizes.{storeRoom}
+use Rattle.street_states.specs.States.{firstState, begunWith}
+use Rattle.street_answers.specs.Text.{header, answerText}
+use Rattle.street_feeds.specs.Program.{Running, begun, fed, output}
 use Rattle.lines.specs.Writing.{writtenAs, partAs}
 use Rattle.packlines.specs.File.{file}
 use Rattle.packfile.specs.Writing.{postAt, givenRefusal, packRefusal}

@@ -6,7 +6,7 @@ use lib.ListN.{length}
 use Rattle.refusal.specs.Refusal.{first, Keeps}
 use Rattle.csv.specs.Fields.{overwrite}
 use Rattle.lines.specs.declared.Written.{Written}
-use Rattle.lines.specs.Writing.{notWritten, writtenAs, partAs}
+use Rattle.lines.specs.Writing.{writtenAs, partAs}
 use Rattle.packlines.specs.File.{file}
 use Rattle.packfile.specs.Writing.{postAt, packRefusal}
 use Rattle.packfile.specs.Table.{packTable}
@@ -18,7 +18,7 @@ pub record PackLawful : Type 0 where
   pub answer : (n t post points : ℕ) (ws kinds draws out : List ℕ)
       → Keeps {A = Written} (packTable n t post points ws kinds draws (length out))
       (record { refusal = 0; len = length (file (postAt n t post points ws) kinds draws) })
-      (notWritten (first (packTable n t post points ws kinds draws (length out))))
+      (record { refusal = first (packTable n t post points ws kinds draws (length out)); len = 0 })
       (writtenAs (packRefusal n t post points ws kinds draws (length out)) (file (postAt n t post points ws) kinds draws))
   pub list : (n t post points : ℕ) (ws kinds draws out : List ℕ)
       → Keeps (packTable n t post points ws kinds draws (length out)) (overwrite 0 (file (postAt n t post points ws) kinds draws) out) out

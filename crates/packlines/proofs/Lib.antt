@@ -1,3 +1,4 @@
 pub mod Spelt
 pub mod Rising
 pub mod Entire
+pub mod Filed

@@ -12,7 +12,7 @@ ghost use Rattle.packlines.specs.Between.{FileRoom};
 fn letter_of(kind: u8) -> u8
     ensures { λ r. ⌜ r ≡ letterOf kind ⌝ }
 {
-    if kind == shape::RAW { 82 } else { 84 }
+    if kind == shape::RAW { b'R' } else { b'T' }
 }
 
 // How many bytes a row's line has; an empty row has none.
@@ -87,7 +87,7 @@ fn put_lines(party: Party, kinds: &[u8], draws: &[u32], room: &mut [u32], out: &
 fn start_letter(points: usize) -> u8
     ensures { λ r. ⌜ r ≡ startLetter points ⌝ }
 {
-    if points == shape::MOST_POINTS { 87 } else { 83 }
+    if points == shape::MOST_POINTS { b'W' } else { b'S' }
 }
 
 // How many bytes the start line has: `S` with one check point, `W` with two.

@@ -10,9 +10,9 @@ use Rattle.csv.specs.Fields.{fields, written}
 use Rattle.csv.proofs.Overwriting.{length-fields-le}
 use Rattle.csv.proofs.Laying.{length-written}
 use Rattle.factory.proofs.Laws.{elements-pass}
-use Rattle.reading.specs.Numbers.{numbers, rowsBeyond, readRefusal}
-use Rattle.reading.proofs.Written as Written
-use Rattle.startlines.specs.Steps.{longestLine}
+use Rattle.street_reading.specs.Numbers.{numbers, rowsBeyond, readRefusal}
+use Rattle.street_reading.proofs.Written as Written
+use Rattle.street_startlines.specs.Steps.{longestLine}
 
 module _ (letter : ℕ) (xs : List ℕ) (elements : Elements xs) where
   pub says : numbers (length xs) (written letter xs) ≡ xs

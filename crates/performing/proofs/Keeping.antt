@@ -24,14 +24,14 @@ use Rattle.session.specs.Sessions.{shapeOf}
 use Rattle.session.proofs.RowLaws.{length-with-row}
 use Rattle.records.specs.Records.{putTests, putRefusal, putRecord, withBlock, blockOf}
 use Rattle.factory.proofs.Laws.{elements-pass}
-use Rattle.store.specs.Sizes.{openingsAt, masksAAt, masksBAt, storeRoom, recordRoom, InStreet}
-use Rattle.store.specs.Records.{recordAt, recordIf, kept}
-use Rattle.store.proofs.Keeping.{record-room}
-use Rattle.states.specs.declared.State.{State}
-use Rattle.states.specs.States.{After, keepingRow, keepingTriple, refusing}
-use Rattle.startlines.specs.Steps.{longestLine}
-use Rattle.postlines.specs.Steps.{heardRefusal, keepStep, keepMasksStep, keepHalvesStep, saying, hearStep}
-use Rattle.interpreter.specs.Stepping.{lettersStep, lateStep, step}
+use Rattle.street_store.specs.Sizes.{openingsAt, masksAAt, masksBAt, storeRoom, recordRoom, InStreet}
+use Rattle.street_store.specs.Records.{recordAt, recordIf, kept}
+use Rattle.street_store.proofs.Keeping.{record-room}
+use Rattle.street_states.specs.declared.State.{State}
+use Rattle.street_states.specs.States.{After, keepingRow, keepingTriple, refusing}
+use Rattle.street_startlines.specs.Steps.{longestLine}
+use Rattle.street_postlines.specs.Steps.{heardRefusal, keepStep, keepMasksStep, keepHalvesStep, saying, hearStep}
+use Rattle.street_interpreter.specs.Stepping.{lettersStep, lateStep, step}
 use Rattle.performing.specs.Claims.{recordFor}
 use Rattle.performing.specs.Records.{Stored, StreetKeeps}
 use Rattle.performing.proofs.Heard.{line-short}

@@ -8,3 +8,4 @@ pub mod Table
 pub mod StartText
 pub mod Starting
 pub mod TwoLines
+pub mod Program

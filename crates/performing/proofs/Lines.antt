@@ -14,10 +14,10 @@ use Rattle.refusal.proofs.Elements.{element-test}
 use Rattle.csv.specs.Fields.{written, Parsed, parsed, malformed}
 use Rattle.session.specs.declared.Session.{Session}
 use Rattle.session.specs.Sessions.{answer}
-use Rattle.reading.specs.Numbers.{numberForm, numbers, rowsBeyond, readRefusal}
-use Rattle.states.specs.declared.State.{State}
-use Rattle.states.specs.States.{After, refusing, leaving, unless}
-use Rattle.interpreter.specs.Stepping.{lateStep, step}
+use Rattle.street_reading.specs.Numbers.{numberForm, numbers, rowsBeyond, readRefusal}
+use Rattle.street_states.specs.declared.State.{State}
+use Rattle.street_states.specs.States.{After, refusing, leaving, unless}
+use Rattle.street_interpreter.specs.Stepping.{lateStep, step}
 use Rattle.performing.specs.Lines.{TenDigits, Spelled, Range, _to_, anyOutside, lineTable, refusalOf, Letter}
 use Rattle.performing.proofs.Spelling.{small, short, form-spells, form-reads, form-other}
 

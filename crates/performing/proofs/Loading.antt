@@ -18,13 +18,13 @@ use Rattle.csv.proofs.Laying.{length-written}
 use Rattle.session.specs.Sessions.{shapeOf}
 use Rattle.session.specs.Rows.{width}
 use Rattle.load.specs.Load.{loadRowAnswer, loadRowRows, loadTripleAnswer, loadTripleRows}
-use Rattle.store.specs.Sizes.{longestTriple, InStreet}
-use Rattle.reading.specs.Numbers.{numbers, rowsBeyond, readRefusal}
-use Rattle.states.specs.declared.State.{State}
-use Rattle.states.specs.States.{After, sessionRows}
-use Rattle.startlines.specs.Steps.{longestLine}
-use Rattle.loadlines.specs.Steps.{loading, loadStep, loadingTriple, loadTripleStep}
-use Rattle.interpreter.specs.Stepping.{lettersStep, lateStep, step}
+use Rattle.street_store.specs.Sizes.{longestTriple, InStreet}
+use Rattle.street_reading.specs.Numbers.{numbers, rowsBeyond, readRefusal}
+use Rattle.street_states.specs.declared.State.{State}
+use Rattle.street_states.specs.States.{After, sessionRows}
+use Rattle.street_startlines.specs.Steps.{longestLine}
+use Rattle.street_loadlines.specs.Steps.{loading, loadStep, loadingTriple, loadTripleStep}
+use Rattle.street_interpreter.specs.Stepping.{lettersStep, lateStep, step}
 use Rattle.performing.specs.Claims.{Does, StreetLoads}
 use Rattle.performing.proofs.Heard.{says, passes}
 use Rattle.performing.proofs.Theorems.{does-call}

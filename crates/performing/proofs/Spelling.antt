@@ -10,7 +10,7 @@ use Rattle.decimal.specs.Numeral.{size, numeral, leading, fieldOf}
 use Rattle.decimal.proofs.Numerals.{length-numeral, numeral-reads}
 use Rattle.csv.specs.Fields.{fields, written, Parsed, parsed, malformed, Small}
 use Rattle.csv.proofs.Reading.{SpellsLine, line-read, line-spelled}
-use Rattle.reading.specs.Numbers.{numberForm}
+use Rattle.street_reading.specs.Numbers.{numberForm}
 use Rattle.performing.specs.Lines.{TenDigits}
 
 pub small : (xs : List ℕ) → TenDigits xs → Small xs

@@ -12,7 +12,7 @@ use Rattle.decimal.proofs.Digits.{and-true}
 use Rattle.decimal.proofs.Positions.{drop-head}
 use Rattle.csv.specs.Fields.{fields, written, Parsed, parsed, malformed, push, fieldsAt, ended, Small}
 use Rattle.csv.proofs.Reading.{fields-spelled}
-use Rattle.reading.specs.Starting.{dash, dashAt, behindPosts, afterFirst, startForm}
+use Rattle.street_reading.specs.Starting.{dash, dashAt, behindPosts, afterFirst, startForm}
 use Rattle.performing.specs.Starting.{dashed, StartText, figures, with-dash}
 use Rattle.performing.proofs.Spelling.{short}
 

@@ -19,12 +19,12 @@ use Rattle.csv.proofs.Reading.{fields-read}
 use Rattle.csv.proofs.Overwriting.{length-fields-le}
 use Rattle.session.specs.declared.Session.{Session}
 use Rattle.session.specs.Sessions.{sessionOf}
-use Rattle.reading.specs.declared.StartForm.the-variants.{Settings}
-use Rattle.reading.specs.Starting.{dashAt, behindPosts, startForm, startOf}
-use Rattle.states.specs.declared.State.{State}
-use Rattle.states.specs.States.{After, begunWith, refusing, leaving}
-use Rattle.startlines.specs.Steps.{longestLine, startTests, beginStep, settingsStep, startStep, earlyStep}
-use Rattle.interpreter.specs.Stepping.{lettersStep, lateStep, step}
+use Rattle.street_reading.specs.declared.StartForm.the-variants.{Settings}
+use Rattle.street_reading.specs.Starting.{dashAt, behindPosts, startForm, startOf}
+use Rattle.street_states.specs.declared.State.{State}
+use Rattle.street_states.specs.States.{After, begunWith, refusing, leaving}
+use Rattle.street_startlines.specs.Steps.{longestLine, startTests, beginStep, settingsStep, startStep, earlyStep}
+use Rattle.street_interpreter.specs.Stepping.{lettersStep, lateStep, step}
 use Rattle.performing.specs.Lines.{TenDigits, refusalOf}
 use Rattle.performing.specs.Starting.{dashed, DashIsOne, settingsTable, Begins, StartText, StreetStarts}
 use Rattle.performing.proofs.Heard.{line-short}

@@ -23,20 +23,19 @@ use Rattle.session.specs.Sessions.{shapeOf, openedA, openedB, maskedTriple, col
 use Rattle.deal.specs.Deal.{dealAnswer, dealRows}
 use Rattle.collect.specs.Collect.{numberA, numberB, collectRefusal, collectAnswer}
 use Rattle.multiply.specs.Multiply.{multiplyRefusal, withProduct, multiplyAnswer, multiplyRows}
-use Rattle.store.specs.Sizes.{masksAAt, masksBAt}
+use Rattle.street_store.specs.Sizes.{masksAAt, masksBAt}
 use Rattle.opening.specs.Opening.{openAnswer}
 use Rattle.product_masks.specs.Masks.{masksRefusal, masksAnswer, masksOut, maskNumbersOf}
 use Rattle.linear.specs.Linear.{linearAnswer, linearRows}
-use Rattle.reading.specs.Numbers.{rowsBeyond}
-use Rattle.states.specs.declared.State.{State}
-use Rattle.states.specs.declared.Stepped.{Stepped}
-use Rattle.states.specs.States.{After, answering, telling, leaving, sessionRows, calling}
-use Rattle.startlines.specs.Steps.{longestLine}
-use Rattle.rowlines.specs.Steps.{adding, linearStep, openingsFor, opening, openStep}
-use Rattle.postlines.specs.Steps.{heardRefusal, dealing, hearStep}
-use Rattle.finishlines.specs.Steps.{masksFor, finishing, finishStep}
-use Rattle.masklines.specs.Steps.{maskLine, noMasks, masking, maskingOf, maskStep}
-use Rattle.interpreter.specs.Stepping.{lettersStep, lateStep, step}
+use Rattle.street_reading.specs.Numbers.{rowsBeyond}
+use Rattle.street_states.specs.declared.State.{State}
+use Rattle.street_states.specs.States.{Stepped, After, answering, telling, leaving, sessionRows, calling}
+use Rattle.street_startlines.specs.Steps.{longestLine}
+use Rattle.street_rowlines.specs.Steps.{adding, linearStep, openingsFor, opening, openStep}
+use Rattle.street_postlines.specs.Steps.{heardRefusal, dealing, hearStep}
+use Rattle.street_finishlines.specs.Steps.{masksFor, finishing, finishStep}
+use Rattle.street_masklines.specs.Steps.{maskLine, noMasks, masking, maskingOf, maskStep}
+use Rattle.street_interpreter.specs.Stepping.{lettersStep, lateStep, step}
 use Rattle.performing.specs.Claims.{Acts, Quiet, Does, LinearLine, MasksLine, DealLine, OpenLine, Finishes, FinishLine, StreetPerforms}
 use Rattle.performing.proofs.Heard.{says, passes, line-short}
 

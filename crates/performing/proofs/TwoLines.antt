@@ -12,13 +12,13 @@ use Rattle.shape.specs.Lengths.{recordLength, rowsLength}
 use Rattle.refusal.specs.Refusal.{outcome}
 use Rattle.session.specs.declared.Session.{Session}
 use Rattle.session.specs.Sessions.{shapeOf, answer}
-use Rattle.store.specs.Sizes.{openingsAt, masksAAt, masksBAt, storeRoom, recordRoom, InStreet}
-use Rattle.store.specs.Records.{recordIf, kept}
-use Rattle.store.proofs.Keeping.{record-room}
-use Rattle.states.specs.declared.State.{State}
-use Rattle.states.specs.States.{After, keepingRow, keepingTriple, refusing, leaving, sessionRows}
-use Rattle.postlines.specs.Steps.{keepStep, keepMasksStep}
-use Rattle.interpreter.specs.Stepping.{Ready}
+use Rattle.street_store.specs.Sizes.{openingsAt, masksAAt, masksBAt, storeRoom, recordRoom, InStreet}
+use Rattle.street_store.specs.Records.{recordIf, kept}
+use Rattle.street_store.proofs.Keeping.{record-room}
+use Rattle.street_states.specs.declared.State.{State}
+use Rattle.street_states.specs.States.{After, keepingRow, keepingTriple, refusing, leaving, sessionRows}
+use Rattle.street_postlines.specs.Steps.{keepStep, keepMasksStep}
+use Rattle.street_interpreter.specs.Stepping.{Ready}
 use Rattle.performing.specs.Claims.{recordFor}
 use Rattle.performing.specs.Records.{Stored}
 use Rattle.performing.specs.TwoLines.{recordOf, noBlocks, putInto, KeptFor, FromPost, Finds, Opens, FinishesWith, openingLine, masksLine, openLine, finishLine, OneLine, BehindOpening, BehindMasks, StreetRecords}

@@ -25,11 +25,11 @@ use Rattle.opening.specs.Opening.{openAnswer}
 use Rattle.product_masks.specs.Masks.{masksAnswer, masksOut}
 use Rattle.collect.specs.Collect.{collectAnswer}
 use Rattle.multiply.specs.Multiply.{multiplyAnswer, multiplyRows}
-use Rattle.store.specs.Sizes.{openingsAt, masksAAt, masksBAt, InStreet}
-use Rattle.store.specs.Records.{recordAt, recordIf}
-use Rattle.states.specs.declared.State.{State}
-use Rattle.states.specs.States.{After, sessionRows}
-use Rattle.interpreter.specs.Stepping.{step}
+use Rattle.street_store.specs.Sizes.{openingsAt, masksAAt, masksBAt, InStreet}
+use Rattle.street_store.specs.Records.{recordAt, recordIf}
+use Rattle.street_states.specs.declared.State.{State}
+use Rattle.street_states.specs.States.{After, sessionRows}
+use Rattle.street_interpreter.specs.Stepping.{step}
 
 -- The line left the answer's session and these rows, and nothing else has changed: the rows and triples that records are kept for stay.
 -- It has the answer's refusal and value.

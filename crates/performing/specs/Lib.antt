@@ -3,3 +3,4 @@ pub mod Records
 pub mod Lines
 pub mod Starting
 pub mod TwoLines
+pub mod Program

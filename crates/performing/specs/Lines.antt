@@ -1,6 +1,6 @@
 -- The refusals of the street program once an `S` was accepted, one table for every letter. Document 01: "a second `S` then gets 10, as does
 -- any other letter and any line over 1,061 bytes with its line feed" (document 02, (iii): 3,173). "A line's form is looked at first: .. other
--- lines get 10, then 11, then what the call answers." Bounds and counts are figures, not the names of `shape`, `store` and `startlines`.
+-- lines get 10, then 11, then what the call answers." Bounds and counts are figures, not the names of `shape`, `street_store` and `street_startlines`.
 -- Proved in proofs/Lines.antt.
 use Prim.Native.Nat.{ℕ, _+_, _*_, _<_}
 use mathlib.Core.Path.{_≡_}
@@ -18,10 +18,10 @@ use Rattle.opening.specs.Opening.{openAnswer}
 use Rattle.product_masks.specs.Masks.{masksAnswer}
 use Rattle.collect.specs.Collect.{collectAnswer}
 use Rattle.multiply.specs.Multiply.{multiplyAnswer}
-use Rattle.store.specs.Sizes.{openingsAt, masksAAt, masksBAt}
-use Rattle.states.specs.declared.State.{State}
-use Rattle.states.specs.States.{sessionRows}
-use Rattle.interpreter.specs.Stepping.{step}
+use Rattle.street_store.specs.Sizes.{openingsAt, masksAAt, masksBAt}
+use Rattle.street_states.specs.declared.State.{State}
+use Rattle.street_states.specs.States.{sessionRows}
+use Rattle.street_interpreter.specs.Stepping.{step}
 use Rattle.performing.specs.Claims.{recordFor}
 
 -- "A number has 1 to 10 digits".

@@ -13,11 +13,11 @@ use Rattle.csv.specs.Fields.{written}
 use Rattle.session.specs.declared.Session.{Session}
 use Rattle.session.specs.Sessions.{shapeOf}
 use Rattle.records.specs.Records.{putRecord}
-use Rattle.store.specs.Sizes.{openingsAt, masksAAt, masksBAt}
-use Rattle.store.specs.Records.{recordAt}
-use Rattle.states.specs.declared.State.{State}
-use Rattle.states.specs.States.{After, keepingRow, keepingTriple, refusing, sessionRows}
-use Rattle.interpreter.specs.Stepping.{step, Ready}
+use Rattle.street_store.specs.Sizes.{openingsAt, masksAAt, masksBAt}
+use Rattle.street_store.specs.Records.{recordAt}
+use Rattle.street_states.specs.declared.State.{State}
+use Rattle.street_states.specs.States.{After, keepingRow, keepingTriple, refusing, sessionRows}
+use Rattle.street_interpreter.specs.Stepping.{step, Ready}
 use Rattle.performing.specs.Claims.{recordFor}
 
 module _ (st : State) (store : List ℕ) where

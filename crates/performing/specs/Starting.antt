@@ -10,10 +10,10 @@ use lib.ListN.{length}
 use Rattle.refusal.specs.Refusal.{Test, _when_, first}
 use Rattle.decimal.specs.Numeral.{numeral}
 use Rattle.csv.specs.Fields.{written}
-use Rattle.session.specs.Sessions.{sessionOf}
-use Rattle.states.specs.declared.State.{State}
-use Rattle.states.specs.States.{After}
-use Rattle.interpreter.specs.Stepping.{step}
+use Rattle.session.specs.Claims.{freshSession}
+use Rattle.street_states.specs.declared.State.{State}
+use Rattle.street_states.specs.States.{After}
+use Rattle.street_interpreter.specs.Stepping.{step}
 use Rattle.performing.specs.Claims.{Quiet}
 use Rattle.performing.specs.Lines.{TenDigits, refusalOf}
 
@@ -38,9 +38,9 @@ settingsTable n t post point =
     ∷ 4 when (eqb point 0 || ltb 2147483646 point)
     ∷ []
 
--- What an accepted `S` leaves: a new session; the store as it was, and the rows that records are kept for.
+-- What an accepted `S` leaves: a new session, field by field with 96 zeros in each list; the store as it was, and the rows that records are kept for.
 pub record Begins (st : State) (store : List ℕ) (n t post point : ℕ) (a : After) : Type 0 where
-  pub session : a .given .state .session ≡ sessionOf n t post point
+  pub session : a .given .state .session ≡ freshSession n t post point
   pub started : a .given .state .started ≡ true
   pub kept : a .given .state .kept ≡ st .kept
   pub triple : a .given .state .triple ≡ st .triple

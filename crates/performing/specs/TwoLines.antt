@@ -14,11 +14,11 @@ use Rattle.records.specs.Records.{putRecord}
 use Rattle.opening.specs.Opening.{openAnswer}
 use Rattle.collect.specs.Collect.{collectAnswer}
 use Rattle.multiply.specs.Multiply.{multiplyAnswer, multiplyRows}
-use Rattle.store.specs.Sizes.{openingsAt, masksAAt, masksBAt}
-use Rattle.store.specs.Records.{recordAt}
-use Rattle.states.specs.declared.State.{State}
-use Rattle.states.specs.States.{After, sessionRows}
-use Rattle.interpreter.specs.Stepping.{step, Ready}
+use Rattle.street_store.specs.Sizes.{openingsAt, masksAAt, masksBAt}
+use Rattle.street_store.specs.Records.{recordAt}
+use Rattle.street_states.specs.declared.State.{State}
+use Rattle.street_states.specs.States.{After, sessionRows}
+use Rattle.street_interpreter.specs.Stepping.{step, Ready}
 use Rattle.performing.specs.Claims.{Quiet, Finishes}
 use Rattle.performing.specs.Records.{Stored}
 

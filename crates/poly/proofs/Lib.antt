@@ -7,3 +7,4 @@ pub mod Roots
 pub mod Lagrange
 pub mod Numbers
 pub mod Theorems
+pub mod Counts

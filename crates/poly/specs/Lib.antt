@@ -3,3 +3,4 @@ pub mod Interpolation
 pub mod Counting
 pub mod Claims
 pub mod Between
+pub mod Counted

@@ -4,3 +4,4 @@ pub mod Masking
 pub mod Differences
 pub mod Theorems
 pub mod Tables
+pub mod Placed

@@ -1,3 +1,4 @@
 pub mod Masks
 pub mod Table
 pub mod Claims
+pub mod Places

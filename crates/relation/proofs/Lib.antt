@@ -8,3 +8,4 @@ pub mod Ranks
 pub mod Tables
 pub mod Theorems
 pub mod Passed
+pub mod Meant

@@ -4,3 +4,4 @@ pub mod Finish
 pub mod Order
 pub mod Table
 pub mod Claims
+pub mod Meaning

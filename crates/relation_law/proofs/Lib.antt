@@ -2,3 +2,4 @@ pub mod Lows
 pub mod Step
 pub mod Walk
 pub mod Masking
+pub mod Words

@@ -1,3 +1,4 @@
 pub mod Pairs
 pub mod Singles
 pub mod Claims
+pub mod Words

@@ -1,6 +1,6 @@
 -- One-to-one matchings and counts: of a list without repetitions as many pass one test as another, where those that pass the
 -- one are matched with those that pass the other. No test of equality is asked for.
-use Prim.Native.Nat.{suc, _≤_}
+use Prim.Native.Nat.{ℕ, suc, _+_, _≤_}
 use mathlib.Core.Path.{_≡_, refl, sym, _∙_, ap, subst}
 use mathlib.Core.Bool.{Bool, true, false, cond}
 use mathlib.Core.Logic.{_≢_, inl, inr}
@@ -11,7 +11,7 @@ use Rattle.poly.specs.Counting.{Distinct}
 use Rattle.runs.specs.Calls.{Among}
 use Rattle.runs.proofs.Inside.{all-among, among-all, inside-length}
 use Rattle.secrecy.specs.Claim.{Matching}
-use Rattle.secrecy.specs.Count.{count}
+use Rattle.secrecy.specs.Count.{count, CountsPassing}
 
 module _ {A : Type 0} where
   -- those that pass a test
@@ -115,3 +115,13 @@ module _ {A : Type 0} where
       let there = not-fewer all f g (m .to) (m .from) d (m .to-ok) (m .from-to) in
       let back = not-fewer all g f (m .from) (m .to) d (m .from-ok) (m .to-from) in
       omega arith
+
+-- what a count counts
+pub counts-passing : CountsPassing
+unfolding count
+counts-passing A test =
+    record {
+      none = refl;
+      passing = λ x xs e. ap (λ (b : Bool). cond b (suc (count test xs)) (count test xs)) e ∙ omega arith;
+      failing = λ x xs e. ap (λ (b : Bool). cond b (suc (count test xs)) (count test xs)) e;
+    }

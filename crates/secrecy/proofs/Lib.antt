@@ -14,6 +14,7 @@ pub mod State
 pub mod Dealings
 pub mod Broadcasts
 pub mod Advance
+pub mod GoesOn
 -- Two runs side by side: answers, lines, the group's posts, marks and vectors, sessions, through one call and through the list.
 pub mod Pair
 pub mod Answers

@@ -4,7 +4,7 @@ use Prim.Native.Nat.{ℕ, _≤_, _<_}
 use mathlib.Core.Path.{_≡_}
 use mathlib.Core.Bool.{true}
 use mathlib.Core.Logic.{_≢_}
-use mathlib.Core.List.{List}
+use mathlib.Core.List.{List, _++_, map}
 use lib.ListN.{length}
 use Rattle.field.specs.Modulus.{p}
 use Rattle.poly.specs.Counting.{All}
@@ -15,7 +15,7 @@ use Rattle.session.specs.Rows.{width, rowAt}
 use Rattle.runs.specs.Draws.{Plan, Draw, IsDraw, IsRaw, Sound, by}
 use Rattle.runs.specs.Calls.{Post, newPost}
 use Rattle.secrecy.specs.Steps.{Secrets, Step}
-use Rattle.secrecy.specs.Seen.{Seen, member, postsAfter, seen}
+use Rattle.secrecy.specs.Seen.{Entry, Seen, member, joined, postsAfter, run, seen}
 use Rattle.secrecy.specs.Rules.{SameAnswers, Rules, refusalOf}
 use Rattle.secrecy.specs.Book.{Book, blank, bookAfter, Agree}
 
@@ -66,6 +66,14 @@ pub record Abreast (q q' : Post) (b b' : Book) : Type 0 where
 -- The posts after the calls, of a draw that shows R.
 abbrev pub postsOf : Plan → (ℕ → List ℕ) → List Step → Seen → Secrets → Draw → ℕ → Post
 postsOf plan rows cs R u draw = postsAfter plan draw u cs (R .deals) (λ i. newPost plan draw (rows i) i)
+
+-- They are the posts that the run goes on with: where more calls follow, it makes those from them, with the lines that were broadcast so far.
+abbrev pub RunGoesOn : Type 0
+RunGoesOn =
+    (plan : Plan) (group : List ℕ) (draw : Draw) (u : Secrets) (cs more : List Step) (lines : List (List ℕ)) (q : ℕ → Post)
+    → (let told = run plan group draw u cs lines q in
+    run plan group draw u (cs ++ more) lines q
+    ≡ told ++ run plan group draw u more (lines ++ joined (map (λ (e : Entry). e .lines) told)) (postsAfter plan draw u cs lines q))
 
 -- A draw and the one matched with it: every check point is the same, and every post, not only those of the group, stands abreast.
 pub record Beside (plan : Plan) (rows : ℕ → List ℕ) (cs : List Step) (u u' : Secrets) (R : Seen) (d d' : Draw) : Type 0 where

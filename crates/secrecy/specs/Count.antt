@@ -1,6 +1,6 @@
 -- Demand 3: "exactly as many factory draws show the group's record under one list of secrets as under another", as the equality
 -- of two counts over the finite list of all draws.
-use Prim.Native.Nat.{ℕ, suc, _-_}
+use Prim.Native.Nat.{ℕ, suc, _+_, _-_}
 use mathlib.Core.Path.{_≡_}
 use mathlib.Core.Bool.{Bool, true, false, cond, _&&_}
 use mathlib.Core.List.{List, [], _∷_, _++_, map}
@@ -20,6 +20,15 @@ use Rattle.secrecy.specs.Claim.{Premises}
 unfoldable pub count : {A : Type 0} → (A → Bool) → List A → ℕ
 count test [] = 0
 count test (x ∷ xs) = cond (test x) (suc (count test xs)) (count test xs)
+
+-- Each that passes counts as one: without this a count that is always 0 would meet `EqualCounts`.
+pub record CountsEach {A : Type 0} (test : A → Bool) : Type 0 where
+  pub none : count test [] ≡ 0
+  pub passing : (x : A) (xs : List A) → test x ≡ true → count test (x ∷ xs) ≡ count test xs + 1
+  pub failing : (x : A) (xs : List A) → test x ≡ false → count test (x ∷ xs) ≡ count test xs
+
+abbrev pub CountsPassing : Type 1
+CountsPassing = (A : Type 0) (test : A → Bool) → CountsEach test
 
 -- one list of what f lists for each of a list
 unfoldable pub forEach : {A B : Type 0} → List A → (A → List B) → List B

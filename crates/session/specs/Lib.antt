@@ -5,3 +5,4 @@ pub mod Between
 pub mod Law
 pub mod Table
 pub mod Claims
+pub mod Places

@@ -3,3 +3,4 @@ pub mod Marks
 pub mod Lengths
 pub mod Row
 pub mod Claims
+pub mod Figures

@@ -1,4 +1,4 @@
 // The street program: reads lines from standard input, and prints an answer to each.
 fn main() {
-    console::run();
+    street_console::run();
 }

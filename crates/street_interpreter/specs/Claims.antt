@@ -1,0 +1,24 @@
+-- Demand 1, of the street program: a refused line changes nothing. Proved in proofs/Keeping.antt.
+use Prim.Native.Nat.{ℕ}
+use mathlib.Core.Path.{_≡_}
+use mathlib.Core.List.{List, []}
+use Rattle.street_states.specs.declared.State.{State}
+use Rattle.street_states.specs.States.{After}
+use Rattle.street_interpreter.specs.Stepping.{step, checkedStep}
+
+-- The state with its session and the store with its rows and records are as they were; the number is 0; nothing is printed behind the answer.
+pub record Unchanged (st : State) (store : List ℕ) (a : After) : Type 0 where
+  pub state : a .given .state ≡ st
+  pub store-kept : a .store ≡ store
+  pub value : a .given .value ≡ 0
+  pub told : a .told ≡ []
+  pub told-none : a .given .told ≡ 0
+
+abbrev pub Refused : After → Type 0
+Refused a = a .given .refusal ≡ 0 → ⊥
+
+-- Whatever the state, the store and the line.
+pub record StepKeeps : Type 0 where
+  pub stepped : (st : State) (store line : List ℕ) → Refused (step st store line) → Unchanged st store (step st store line)
+  pub checked : (st : State) (store line : List ℕ) (room : ℕ) → Refused (checkedStep st store line room)
+      → Unchanged st store (checkedStep st store line room)

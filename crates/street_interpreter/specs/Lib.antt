@@ -1,0 +1,4 @@
+pub mod Stepping
+pub mod Orders
+pub mod Changes
+pub mod Claims

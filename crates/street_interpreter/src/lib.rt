@@ -1,0 +1,191 @@
+// The station: what each line of the street program does. A line is read into its order (`orders`); then it is either a change of the
+// session, one function with one call site for each of the library's calls, or a look.
+pub mod orders;
+
+use orders::Order;
+use session::Answer;
+use session::Session;
+use street_states::State;
+ghost use mathlib.Core.Path.{_≡_};
+ghost use mathlib.Core.Bool.{true, false};
+ghost use lib.ListN.{length, replicate};
+ghost use Rattle.session.specs.Sessions.{shapeOf};
+ghost use Rattle.street_store.specs.Sizes.{InStreet, storeRoom, numbersRoom, recordRoom, mostMasks};
+ghost use Rattle.street_interpreter.specs.Stepping.{postsRefusal, roomRefusal};
+ghost use Rattle.street_interpreter.specs.Orders.{isChange};
+ghost use Rattle.street_interpreter.specs.Changes.{Able, Changed, Looked, Opened};
+
+// What a look hands back: the answer, and what the records are kept for.
+pub struct Outcome {
+    pub refusal: u8,
+    pub value: u32,
+    pub kept: usize,
+    pub triple: usize,
+}
+
+// Whether the line of a letter may change the session.
+pub fn changes(letter: u8) -> bool
+    ensures { λ r. ⌜ r ≡ isChange letter ⌝ }
+{
+    match letter {
+        b'R' => true,
+        b'T' => true,
+        b'F' => true,
+        b'L' => true,
+        b'X' => true,
+        b'D' => true,
+        b'S' => true,
+        _ => false,
+    }
+}
+
+// A line that may change the session. The masks of an `X` are made in a lent list.
+pub fn change(
+    session: Session,
+    triple: usize,
+    store: &mut [u32],
+    line: &[u8],
+    order: Order,
+    numbers: &[u32],
+    empty: &[u32],
+    masks: &mut [u32],
+) -> Answer
+    requires { ⌜ Able session order × (isChange (order .letter) ≡ true) × (length (now store) ≡ storeRoom) × (length (now numbers) ≡ numbersRoom)
+        × (now empty ≡ replicate recordRoom 0) × (length (now masks) ≡ mostMasks) ⌝ }
+    ensures { λ r. ⌜ Changed session triple order (now (numbers .entry)) (now (line .entry)) (now (store .entry)) r (now (store .exit)) (now (masks .exit)) ⌝ }
+{
+    let shape = session.shape();
+    let letter = order.letter;
+    match letter {
+        b'D' => street_postlines::deal(session, store, order.row, numbers[0]),
+        b'R' => {
+            let count = 1 + shape.row_len();
+            street_loadlines::load_row(session, store, &numbers[..count])
+        }
+        b'T' => {
+            let count = 1 + shape.triple_len();
+            street_loadlines::load_triple(session, store, &numbers[..count])
+        }
+        b'L' => street_rowlines::add(session, store, numbers),
+        b'X' => street_masklines::mask(session, store, numbers, masks),
+        b'F' => street_finishlines::finish(
+            session,
+            store,
+            empty,
+            triple,
+            street_states::place(numbers[0]),
+        ),
+        _ => street_startlines::start(line),
+    }
+}
+
+// A `G`.
+fn open<'a>(
+    session: Session,
+    kept: usize,
+    triple: usize,
+    store: &'a [u32],
+    empty: &'a [u32],
+    row: usize,
+) -> Outcome
+    requires { ⌜ InStreet (shapeOf session) × (length (now store) ≡ storeRoom) × (now empty ≡ replicate recordRoom 0) ⌝ }
+    ensures { λ r. ⌜ Opened session kept triple (now (store .entry)) row r ⌝ }
+{
+    let found = street_rowlines::open(session, store, empty, kept, row);
+    Outcome {
+        refusal: found.refusal,
+        value: found.value,
+        kept,
+        triple,
+    }
+}
+
+// A line that leaves the session as it is.
+pub fn look(
+    session: Session,
+    kept: usize,
+    triple: usize,
+    store: &mut [u32],
+    order: Order,
+    numbers: &[u32],
+    empty: &[u32],
+) -> Outcome
+    requires { ⌜ Able session order × (isChange (order .letter) ≡ false) × (length (now store) ≡ storeRoom) × (length (now numbers) ≡ numbersRoom)
+        × (now empty ≡ replicate recordRoom 0) ⌝ }
+    ensures { λ r. ⌜ Looked session kept triple order (now (numbers .entry)) (now (store .entry)) r (now (store .exit)) ⌝ }
+{
+    let shape = session.shape();
+    let letter = order.letter;
+    match letter {
+        b'G' => open(
+            session,
+            kept,
+            triple,
+            store,
+            empty,
+            street_states::place(numbers[0]),
+        ),
+        b'O' => {
+            let count = shape.v_len();
+            street_postlines::keep(
+                shape,
+                store,
+                kept == order.row,
+                order.post,
+                &numbers[..count],
+            );
+            Outcome {
+                refusal: 0,
+                value: 0,
+                kept: order.row,
+                triple,
+            }
+        }
+        b'M' => {
+            let count = shape.masks_len();
+            street_postlines::keep_masks(
+                shape,
+                store,
+                triple == order.row,
+                order.post,
+                &numbers[..count],
+            );
+            Outcome {
+                refusal: 0,
+                value: 0,
+                kept,
+                triple: order.row,
+            }
+        }
+        _ => Outcome {
+            refusal: order.refusal,
+            value: 0,
+            kept,
+            triple,
+        },
+    }
+}
+
+// 1 and 2 of a session that no `S` can have made.
+fn posts_refusal(state: State) -> u8
+    ensures { λ r. ⌜ r ≡ postsRefusal state ⌝ }
+{
+    if state.started {
+        let session = state.session;
+        if street_store::STREET_POSTS < session.n {
+            return 1;
+        }
+        return refusal::posts(session.n, session.t);
+    }
+    0
+}
+
+// 1, 2 and 5 of a step, before its line is looked at.
+pub fn room_refusal(state: State, store: &[u32]) -> u8
+    ensures { λ r. ⌜ r ≡ roomRefusal state (now (store .entry)) ⌝ }
+{
+    refusal::or_else(
+        posts_refusal(state),
+        refusal::size(store, street_store::STORE_ROOM),
+    )
+}
