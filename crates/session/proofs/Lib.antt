@@ -5,3 +5,4 @@ pub mod Calls
 pub mod Lawful
 pub mod Tables
 pub mod Kept
+pub mod Sharing
