@@ -7,7 +7,7 @@ use mathlib.Core.List.{List, [], _∷_, _++_}
 use native.Mathlib.Omega.{arith}
 use lib.ListN.{length}
 use Rattle.session.specs.declared.Session.{Session}
-use Rattle.session.specs.Sessions.{mark, sessionTests}
+use Rattle.session.specs.Sessions.{mark, pointsOf, sessionTests}
 use Rattle.refusal.proofs.Laws.{equal, all-fail}
 use Rattle.refusal.proofs.Groups.{fail-parts}
 use Rattle.access.specs.Access.{accessFields, accessRow, accessPosts, badAccess, anyOutside, accessRefusal}
@@ -40,7 +40,7 @@ use Rattle.runs.proofs.Relations.{apart, Waits, finishedAll, allowed-ma
 access-raw : (s : Session) (line : List ℕ) → accessRefusal s line ≡ 0 → mark s (accessRow (accessFields line)) ≡ raw
 unfolding accessRefusal
 access-raw s line z =
-    let head = sessionTests (s .n) (s .t) (s .post) (s .point) in
+    let head = sessionTests (s .n) (s .t) (s .post) (s .points) (pointsOf s) in
     let x = accessFields line in
     let own : List Test = 10 when badAccess x ∷ 11 when (noRow (accessRow x) || anyOutside (s .n) (accessPosts x)) ∷ 7 when wrongMark s (accessRow x) raw ∷ [] in
     equal _ _ (fail-parts head own (all-fail (head ++ own) tt z) .1 .1 .1 .0)
