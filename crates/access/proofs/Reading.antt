@@ -16,8 +16,8 @@ use Rattle.csv.specs.Walk.{endOf}
 use Rattle.csv.proofs.Single.{first-found, first-broken}
 use Rattle.access.specs.declared.Posts.{Posts}
 use Rattle.access.specs.declared.Read.{Read}
-use Rattle.access.specs.Access.{commas, alone, postsAt, behindRow, accessFields, risingFrom, rising, anyOutside, everyPost, admitted, admittedAll}
-use Rattle.access.specs.Between.{further, walked, start, unread, beyond, told, readOf}
+use Rattle.access.specs.Access.{commas, alone, severalAt, postsAt, behindRow, accessFields, risingFrom, rising, anyOutside, everyPost, admitted, admittedAll}
+use Rattle.access.specs.Between.{further, walked, start, unread, beyond, told, endedOf, readOf}
 
 -- ---- the empty set
 module _ (s : List ℕ) (at : ℕ) where
@@ -137,58 +137,70 @@ module _ (n : ℕ) (s : List ℕ) where
           subst (λ (o : Parsed). Follows n p o (walked k n s (further n p Broken))) (sym (first-broken k s (p .at) Broken e refl))
           (stays-all k (further n p Broken) refl)
 
+-- ---- the line's end
+module _ (s : List ℕ) (row : ℕ) (p : Posts) (x : Read) (e : Run) (ee : e ≡ endOf s (p .at) 0) where
+  pub end-broken : e ≡ Broken → x ≡ unread → x ≡ endedOf s row p
+  unfolding endedOf
+  end-broken w q = q ∙ go (eqb (getD s (p .at) 0) 10 && eqb (length s) (p .at + 1)) (sym ee ∙ w)
+    where
+      go : (t : Bool) → cond t (Fields 0 (p .at)) Broken ≡ Broken → unread ≡ cond t (told (p .rising) (p .out) row (p .words)) unread
+      go true z = let z' : _≡_ {A = ℕ} 0 1 = cc in absurd (omega arith)
+      go false z = refl
+
+  pub end-right : (largest next : ℕ) → e ≡ Fields largest next → x ≡ told (p .rising) (p .out) row (p .words) → x ≡ endedOf s row p
+  unfolding endedOf
+  end-right largest next w q = q ∙ go (eqb (getD s (p .at) 0) 10 && eqb (length s) (p .at + 1)) (sym ee ∙ w)
+    where
+      go : (t : Bool) → cond t (Fields 0 (p .at)) Broken ≡ Fields largest next
+          → told (p .rising) (p .out) row (p .words) ≡ cond t (told (p .rising) (p .out) row (p .words)) unread
+      go true z = refl
+      go false z = let z' : _≡_ {A = ℕ} 0 1 = cc in absurd (omega arith)
+
 -- ---- the posts behind a row
 module _ (s : List ℕ) (n row at : ℕ) (x : Read) where
-  abbrev here : Parsed
-  here = postsAt s at
-
   pub posts-alone : (b : Bool) → b ≡ alone s at → b ≡ true → x ≡ told true false row everyPost → x ≡ readOf n (push row (postsAt s at))
   posts-alone b e t q = let k : alone s at ≡ true = sym e ∙ t in q ∙ rw k
 
-  module _ (b : Bool) (eb : b ≡ alone s at) (f : b ≡ false) (found : ℕ) (ec : found ≡ commas s) where
-    abbrev isnt : alone s at ≡ false
-    isnt = sym eb ∙ f
+  pub posts-listed : (b : Bool) → b ≡ alone s at → b ≡ false → x ≡ readOf n (push row (severalAt s at)) → x ≡ readOf n (push row (postsAt s at))
+  posts-listed b e t q = let k : alone s at ≡ false = sym e ∙ t in q ∙ rw k
 
-    pub posts-few : found < 2 → x ≡ unread → x ≡ readOf n (push row (postsAt s at))
+  module _ (found : ℕ) (ec : found ≡ commas s) where
+    pub posts-few : found < 2 → x ≡ unread → x ≡ readOf n (push row (severalAt s at))
     posts-few h q =
         let k : ltb (commas s) 2 ≡ true = ap (λ (c : ℕ). ltb c 2) (sym ec) ∙ lt-ltb found 2 h in
-        q ∙ rw (isnt, k)
+        q ∙ rw k
 
-    module _ (many : 2 ≤ found) (p : Posts) (ep : p ≡ walked (found - 1) n s (start at)) (e : Run) (ee : e ≡ endOf s (p .at) 0) where
-      abbrev rest : Parsed
-      rest = fieldsAt (commas s - 1) s at
+    pub posts-walked : (p : Posts) → 2 ≤ found → p ≡ walked (found - 1) n s (start at) → x ≡ endedOf s row p → x ≡ readOf n (push row (severalAt s at))
+    unfolding endedOf told outcome
+    posts-walked p many ep q = q ∙ go rest walk-follows ∙ ap (λ (o : Parsed). readOf n (push row o)) (sym listed)
+      where
+        rest : Parsed
+        rest = fieldsAt (commas s - 1) s at
 
-      listed : postsAt s at ≡ ended s rest
-      listed = let k : ltb (commas s) 2 ≡ false = ap (λ (c : ℕ). ltb c 2) (sym ec) ∙ le-ltb found 2 many in rw (isnt, k) refl
+        listed : severalAt s at ≡ ended s (fieldsAt (commas s - 1) s at)
+        listed = let k : ltb (commas s) 2 ≡ false = ap (λ (c : ℕ). ltb c 2) (sym ec) ∙ le-ltb found 2 many in rw k refl
 
-      walk-follows : Follows n (start at) rest p
-      walk-follows = subst (λ (q : Posts). Follows n (start at) rest q) (sym (ep ∙ ap (λ (c : ℕ). walked (c - 1) n s (start at)) ec)) (follows n s (commas s - 1) (start at))
+        walk-follows : Follows n (start at) (fieldsAt (commas s - 1) s at) p
+        walk-follows =
+            subst (λ (q : Posts). Follows n (start at) (fieldsAt (commas s - 1) s at) q) (sym (ep ∙ ap (λ (c : ℕ). walked (c - 1) n s (start at)) ec))
+            (follows n s (commas s - 1) (start at))
 
-      pub posts-broken : e ≡ Broken → x ≡ unread → x ≡ readOf n (push row (postsAt s at))
-      posts-broken w q = q ∙ go rest walk-follows ∙ ap (λ (o : Parsed). readOf n (push row o)) (sym listed)
-        where
-          by-end : (cs : List ℕ) (next : ℕ) (t : Bool) → cond t (Fields 0 next) Broken ≡ Broken → unread ≡ readOf n (push row (cond t (parsed cs next) malformed))
-          by-end cs next true z = let z' : _≡_ {A = ℕ} 0 1 = cc in absurd (omega arith)
-          by-end cs next false z = refl
+        same : (t : Bool) (a b : Bool) (ws cs : List ℕ) (next : ℕ) → a ≡ rising cs → b ≡ anyOutside n cs → ws ≡ admittedAll everyPost cs
+            → cond t (told a b row ws) unread ≡ readOf n (push row (cond t (parsed cs next) malformed))
+        same true a b ws cs next ea eb ew = rw (ea, eb, ew)
+        same false a b ws cs next ea eb ew = refl
 
-          go : (o : Parsed) → Follows n (start at) o p → unread ≡ readOf n (push row (ended s o))
-          go malformed z = refl
-          go (parsed cs next) z = by-end cs next (eqb (getD s next 0) 10 && eqb (length s) (next + 1)) (ap (λ (j : ℕ). endOf s j 0) (sym (z .0)) ∙ sym ee ∙ w)
+        none : (t : Bool) (b : Bool) (ws : List ℕ) → cond t (told false b row ws) unread ≡ unread
+        none true b ws = refl
+        none false b ws = refl
 
-      pub posts-right : (largest next : ℕ) → e ≡ Fields largest next → x ≡ told (p .rising) (p .out) row (p .words) → x ≡ readOf n (push row (postsAt s at))
-      unfolding told outcome
-      posts-right largest end w q = q ∙ go rest walk-follows ∙ ap (λ (o : Parsed). readOf n (push row o)) (sym listed)
-        where
-          by-end : (cs : List ℕ) (next : ℕ) (t : Bool) → cond t (Fields 0 next) Broken ≡ Fields largest end
-              → told (rising cs) (anyOutside n cs) row (admittedAll everyPost cs) ≡ readOf n (push row (cond t (parsed cs next) malformed))
-          by-end cs next true z = refl
-          by-end cs next false z = let z' : _≡_ {A = ℕ} 0 1 = cc in absurd (omega arith)
-
-          go : (o : Parsed) → Follows n (start at) o p → told (p .rising) (p .out) row (p .words) ≡ readOf n (push row (ended s o))
-          go malformed z = rw z
-          go (parsed cs next) z =
-              rw (z .1, risen-first cs, z .2, z .3)
-              (by-end cs next (eqb (getD s next 0) 10 && eqb (length s) (next + 1)) (ap (λ (j : ℕ). endOf s j 0) (sym (z .0)) ∙ sym ee ∙ w))
+        go : (o : Parsed) → Follows n (start at) o p → endedOf s row p ≡ readOf n (push row (ended s o))
+        go malformed z =
+            ap (λ (a : Bool). cond (eqb (getD s (p .at) 0) 10 && eqb (length s) (p .at + 1)) (told a (p .out) row (p .words)) unread) z
+            ∙ none (eqb (getD s (p .at) 0) 10 && eqb (length s) (p .at + 1)) (p .out) (p .words)
+        go (parsed cs next) z =
+            ap (λ (j : ℕ). cond (eqb (getD s j 0) 10 && eqb (length s) (j + 1)) (told (p .rising) (p .out) row (p .words)) unread) (z .0)
+            ∙ same (eqb (getD s next 0) 10 && eqb (length s) (next + 1)) (p .rising) (p .out) (p .words) cs next (z .1 ∙ risen-first cs) (z .2) (z .3)
 
 -- ---- the line
 module _ (s : List ℕ) (n : ℕ) (x : Read) where

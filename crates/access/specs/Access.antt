@@ -27,8 +27,11 @@ abbrev pub alone : List ℕ → ℕ → Bool
 alone s at = eqb (getD s at 0) 44 && (eqb (getD s (at + 1) 0) 10 && eqb (length s) (at + 2))
 
 -- The posts behind the row, to the line's end: one for each comma but the row's, and one at least.
+abbrev pub severalAt : List ℕ → ℕ → Parsed
+severalAt s at = cond (ltb (commas s) 2) malformed (ended s (fieldsAt (commas s - 1) s at))
+
 abbrev pub postsAt : List ℕ → ℕ → Parsed
-postsAt s at = cond (alone s at) (parsed [] (at + 1)) (cond (ltb (commas s) 2) malformed (ended s (fieldsAt (commas s - 1) s at)))
+postsAt s at = cond (alone s at) (parsed [] (at + 1)) (severalAt s at)
 
 abbrev pub behindRow : List ℕ → Parsed → Parsed
 behindRow s (parsed [] next) = malformed

@@ -1,10 +1,10 @@
 -- What the functions of the A line hand to one another.
-use Prim.Native.Nat.{ℕ, zero, suc, _<_}
+use Prim.Native.Nat.{ℕ, zero, suc, _+_}
 use mathlib.Core.Path.{_≡_}
 use mathlib.Core.Bool.{Bool, true, false, not, _||_, _&&_, cond}
 use mathlib.Core.List.{List, [], _∷_}
-use lib.Dec.{ltb}
-use lib.ListN.{length}
+use lib.Dec.{eqb, ltb}
+use lib.ListN.{length, getD}
 use Rattle.refusal.specs.Refusal.{Test, _when_, first, outcome}
 use Rattle.refusal.specs.Conditions.{outside}
 use Rattle.session.specs.Checks.{noRow}
@@ -60,3 +60,7 @@ abbrev pub readOf : ℕ → Parsed → Read
 readOf n (parsed [] next) = unread
 readOf n (parsed (r ∷ cs) next) = told (rising cs) (anyOutside n cs) r (admittedAll everyPost cs)
 readOf n malformed = unread
+
+-- What a walk says that has come to a position, where the line must end.
+unfoldable pub endedOf : List ℕ → ℕ → Posts → Read
+endedOf s row p = cond (eqb (getD s (p .at) 0) 10 && eqb (length s) (p .at + 1)) (told (p .rising) (p .out) row (p .words)) unread

@@ -6,8 +6,9 @@ ghost use mathlib.Core.Bool.{not, _||_, cond};
 ghost use Prim.Native.Nat.{_<_};
 ghost use lib.Dec.{eqb, ltb};
 ghost use Rattle.refusal.specs.Conditions.{outside};
-ghost use Rattle.access.specs.Access.{commas, alone, admitted, placed};
-ghost use Rattle.access.specs.Between.{further, walked, start, unread, beyond, told};
+ghost use Rattle.access.specs.Access.{commas, alone, severalAt, postsAt, accessFields, admitted, placed};
+ghost use Rattle.access.specs.Between.{further, walked, start, unread, beyond, told, endedOf, readOf};
+ghost use Rattle.csv.specs.Fields.{push};
 
 // A walk over the posts of a line: how far it has read, the post before, whether all were fields that rise, whether one is outside 1..n,
 // and the eight numbers of the set.
@@ -190,5 +191,57 @@ fn beyond() -> Read
         refusal: 11,
         row: 0,
         words: [4294967295; 8],
+    }
+}
+
+// What a walk says, if the line ends where it has come to.
+fn end_posts(line: &[u8], row: u64, posts: Posts) -> Read
+    ensures { λ r. ⌜ r ≡ endedOf (now (line .entry)) row posts ⌝ }
+{
+    let end = csv::line_end(line, posts.at, 0);
+    match end {
+        Run::Fields { largest: _, next: _ } => {
+            let words = posts.words;
+            told(posts.rising, posts.out, row, words)
+        }
+        Run::Broken => unread(),
+    }
+}
+
+// The posts behind a row that is not alone, to the line's end.
+fn read_several(line: &[u8], n: usize, row: u64, at: usize) -> Read
+    ensures { λ r. ⌜ r ≡ readOf n (push row (severalAt (now (line .entry)) at)) ⌝ }
+{
+    let found = commas(line);
+    if found < 2 {
+        return unread();
+    }
+    end_posts(line, row, walk(line, n, at, found - 1))
+}
+
+// The posts behind a row.
+fn read_posts(line: &[u8], n: usize, row: u64, at: usize) -> Read
+    ensures { λ r. ⌜ r ≡ readOf n (push row (postsAt (now (line .entry)) at)) ⌝ }
+{
+    if is_alone(line, at) {
+        return told(true, false, row, [4294967295; 8]);
+    }
+    read_several(line, n, row, at)
+}
+
+// A line's row and posts.
+fn read_line(line: &[u8], n: usize) -> Read
+    ensures { λ r. ⌜ r ≡ readOf n (accessFields (now (line .entry))) ⌝ }
+{
+    if line.len() < 1 {
+        return unread();
+    }
+    if line[0] != 65 {
+        return unread();
+    }
+    let run = short::one_field(line, 1);
+    match run {
+        Run::Fields { largest, next } => read_posts(line, n, largest, next),
+        Run::Broken => unread(),
     }
 }
