@@ -7,6 +7,8 @@ use lib.Dec.{eqb, ltb}
 use lib.ListN.{length, getD}
 use Rattle.refusal.specs.Refusal.{Test, _when_, first, outcome}
 use Rattle.refusal.specs.Conditions.{outside}
+use Rattle.session.specs.declared.Session.{Session}
+use Rattle.session.specs.Sessions.{pointsOf, sessionTests}
 use Rattle.session.specs.Checks.{noRow}
 use Rattle.csv.specs.declared.Run.{Run}
 use Rattle.csv.specs.declared.Run.the-variants.{Fields, Broken}
@@ -64,3 +66,7 @@ readOf n malformed = unread
 -- What a walk says that has come to a position, where the line must end.
 unfoldable pub endedOf : List ℕ → ℕ → Posts → Read
 endedOf s row p = cond (eqb (getD s (p .at) 0) 10 && eqb (length s) (p .at + 1)) (told (p .rising) (p .out) row (p .words)) unread
+
+-- 1 to 4, of a session.
+abbrev pub settingsOf : Session → List Test
+settingsOf s = sessionTests (s .n) (s .t) (s .post) (s .points) (pointsOf s)

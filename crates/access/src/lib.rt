@@ -1,13 +1,17 @@
 // Who may have a number opened: the A line, which sets the posts that may call for a raw row's opening.
 use csv::Run;
 use csv::short;
+use session::Answer;
+use session::Session;
+use shape::Points;
+ghost use Rattle.refusal.specs.Refusal.{first};
 ghost use mathlib.Core.Path.{_≡_};
 ghost use mathlib.Core.Bool.{not, _||_, cond};
 ghost use Prim.Native.Nat.{_<_};
 ghost use lib.Dec.{eqb, ltb};
 ghost use Rattle.refusal.specs.Conditions.{outside};
-ghost use Rattle.access.specs.Access.{commas, alone, severalAt, postsAt, accessFields, admitted, placed};
-ghost use Rattle.access.specs.Between.{further, walked, start, unread, beyond, told, endedOf, readOf};
+ghost use Rattle.access.specs.Access.{commas, alone, severalAt, postsAt, accessFields, admitted, placed, accessAnswer};
+ghost use Rattle.access.specs.Between.{further, walked, start, unread, beyond, told, endedOf, readOf, settingsOf};
 ghost use Rattle.csv.specs.Fields.{push};
 
 // A walk over the posts of a line: how far it has read, the post before, whether all were fields that rise, whether one is outside 1..n,
@@ -244,4 +248,39 @@ fn read_line(line: &[u8], n: usize) -> Read
         Run::Fields { largest, next } => read_posts(line, n, largest, next),
         Run::Broken => unread(),
     }
+}
+
+// 1 to 4, of the session.
+fn settings(session: Session) -> u8
+    ensures { λ r. ⌜ r ≡ first (settingsOf session) ⌝ }
+{
+    let points = Points {
+        first: session.first,
+        second: session.second,
+    };
+    session::checks::settings(session.n, session.t, session.post, session.points, points)
+}
+
+// An A line sets the posts that may call for its row's opening.
+pub fn access(session: Session, line: &[u8]) -> Answer
+    ensures { λ r. ⌜ r ≡ accessAnswer session (now (line .entry)) ⌝ }
+{
+    let own = settings(session);
+    if own != 0 {
+        return session.refuse(own);
+    }
+    let read = read_line(line, session.n);
+    if read.refusal != 0 {
+        return session.refuse(read.refusal);
+    }
+    let held = session.marks;
+    let mark = session::checks::wrong_mark(&held, read.row, shape::RAW);
+    if mark != 0 {
+        return session.refuse(mark);
+    }
+    let sets = session.barred;
+    let words = read.words;
+    let barred = place(sets, read.row, words);
+    let admitting = Session { barred, ..session };
+    admitting.done(0)
 }
