@@ -204,7 +204,10 @@ fn end_posts(line: &[u8], row: u64, posts: Posts) -> Read
 {
     let end = csv::line_end(line, posts.at, 0);
     match end {
-        Run::Fields { largest: _, next: _ } => {
+        Run::Fields {
+            largest: _,
+            next: _,
+        } => {
             let words = posts.words;
             told(posts.rising, posts.out, row, words)
         }

@@ -43,7 +43,11 @@ fn not_called(session: Session, row: usize, caller: usize) -> u8
         return 15;
     }
     let sets = session.barred;
-    if callers::bars(sets, row, caller) { 15 } else { 0 }
+    if callers::bars(sets, row, caller) {
+        15
+    } else {
+        0
+    }
 }
 
 fn message_refusal(session: Session, rows: &[u32], row: usize, caller: usize, out: &[u32]) -> u8
@@ -68,7 +72,14 @@ fn message_accepted(shape: Shape, rows: &[u32], row: usize, out: &mut [u32])
 }
 
 // The lent list, after a call with this refusal.
-fn message_out(session: Session, rows: &[u32], row: usize, caller: usize, out: &mut [u32], refusal: u8)
+fn message_out(
+    session: Session,
+    rows: &[u32],
+    row: usize,
+    caller: usize,
+    out: &mut [u32],
+    refusal: u8,
+)
     requires { ⌜ refusal ≡ messageRefusal session (now rows) row caller (now out) ⌝ }
     ensures { λ r. ⌜ now (out .exit) ≡ messageOut session (now (rows .entry)) row caller (now (out .entry)) ⌝ }
 {

@@ -167,7 +167,6 @@ module _ (plan : Plan) (draw : Draw) (i : ℕ) (M : Marks) (Y : Opened) (l : Lis
         },
         inl (f .framed .sized .length-is),
       )
-
   passes (access x) z =
       (record { moving = ((tt, tt), tt); ready = (tt, tt); sending = tt }, inr (accessRow (accessFields (x .line)), access-raw s (x .line) z))
 

@@ -7,5 +7,5 @@ use Rattle.message.proofs.message_refusal.Tie as tie
 ruleset steps = (needs, message-refused, message-called, checked-row, checked-posts)
 
 pub message-refusal-spec : {M : Type 1} → statement M
-message-refusal-spec = tie.close 
+message-refusal-spec = tie.close
     (tie.spec (λ c. search steps) (λ c κs. search steps) (λ c κs. search steps) (λ c. search steps) (λ c κs. search steps) (λ c. search steps))
