@@ -1,0 +1,7 @@
+pub mod State
+pub mod Calls
+pub mod Between
+pub mod Fairness
+pub mod Example
+pub mod Table
+pub mod Claims
