@@ -25,7 +25,7 @@ use Rattle.dealers.proofs.Kept.{placed-last, placed-other, placed-line,
 -- ---- going round
 
 -- k dealers on
-abbrev ahead : ℕ → ℕ → ℕ
+abbrev pub ahead : ℕ → ℕ → ℕ
 ahead zero d = d
 ahead (suc k) d = ahead k (next d)
 
@@ -33,7 +33,7 @@ ahead-add : (j k d : ℕ) → ahead (j + k) d ≡ ahead k (ahead j d)
 ahead-add zero k d = ap (λ (n : ℕ). ahead n d) (zero-add k)
 ahead-add (suc j) k d = ap (λ (n : ℕ). ahead n d) (suc-add j k) ∙ ahead-add j k (next d)
 
-upward : (k d : ℕ) → d + k ≤ dealerCount → ahead k d ≡ d + k
+pub upward : (k d : ℕ) → d + k ≤ dealerCount → ahead k d ≡ d + k
 upward zero d h = omega arith
 upward (suc k) d h =
     ap (ahead k) (rw (lt-ltb d dealerCount (omega arith)) refl) ∙ upward k (d + 1) (omega arith) ∙ omega arith
@@ -48,7 +48,7 @@ pub record Ahead (a d : ℕ) : Type 0 where
   pub few : steps ≤ dealerCount
   pub there : ahead steps a ≡ d
 
-reach : (a d : ℕ) → Dealer a → Dealer d → Ahead a d
+pub reach : (a d : ℕ) → Dealer a → Dealer d → Ahead a d
 reach a d ha hd = go (decLe d a)
   where
     go : Dec (d ≤ a) → Ahead a d

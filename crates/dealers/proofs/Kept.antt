@@ -65,6 +65,11 @@ module _ (at : ℕ) (w l : List ℕ) (room : at + length w ≤ length l) where
   pub over-before : (i : ℕ) → i < at → getD (overwrite at w l) i 0 ≡ getD l i 0
   over-before i h = List·getD-append (take at l) (w ++ drop (at + length w) l) 0 i (omega (arith, front)) ∙ getD-take at l i 0 h
 
+  pub over-at : (i : ℕ) → i < length w → getD (overwrite at w l) (at + i) 0 ≡ getD w i 0
+  over-at i h =
+      ap (λ (x : ℕ). getD (overwrite at w l) (x + i) 0) (sym front)
+      ∙ getD-append-add (take at l) (w ++ drop (at + length w) l) i 0 ∙ List·getD-append w (drop (at + length w) l) 0 i h
+
   pub over-behind : (i : ℕ) → at + length w ≤ i → getD (overwrite at w l) i 0 ≡ getD l i 0
   over-behind i h =
       let k = i - (at + length w) in
@@ -138,6 +143,9 @@ module _ (state : List ℕ) (e : ℕ) (g : Good state) (he : Dealer e) where
   served-last =
       getD-set-other (set state 0 e) (placeAt e) 0 0 0 (λ q. omega (arith, he .low)) ∙ getD-set-same state 0 e 0 (omega (arith, g .long))
 
+  pub served-own : lengthIn (served state e) e ≡ 0
+  served-own = getD-set-same (set state 0 e) (placeAt e) 0 0 (omega (arith, length-set state 0 e, g .long, he .high))
+
   apart : (d : ℕ) → d ≢ e → Dealer d → (i : ℕ) → placeAt d ≤ i → i < placeAt d + 17 → i ≢ placeAt e
   apart d ne hd i lo hi q = ne (omega (arith, hd .low, he .low))
 
@@ -175,6 +183,3 @@ module _ (state line : List ℕ) (e : ℕ) (g : Good state) (he : Dealer e) (k :
       ∙ ap (take (length line)) (drop-at (take (placeAt e + 1) state) (line ++ drop (placeAt e + 1 + length line) state) (placeAt e + 1)
       (length-take-le (placeAt e + 1) state (omega (arith, room state line e g he k))))
       ∙ take-append-seam line (drop (placeAt e + 1 + length line) state)
-
-  pub served-own : lengthIn (served state e) e ≡ 0
-  served-own = getD-set-same (set state 0 e) (placeAt e) 0 0 (omega (arith, length-set state 0 e, g .long, he .high))

@@ -35,7 +35,7 @@ or-none : (b : Bool) → b || false ≡ b
 or-none true = refl
 or-none false = refl
 
-bad-figures : (state : List ℕ) → badState state ≡ wrongState state
+pub bad-figures : (state : List ℕ) → badState state ≡ wrongState state
 unfolding badState overlong
 bad-figures state = rw (or-none (ltb 16 (byte state 120)))
 

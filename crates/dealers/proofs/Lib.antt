@@ -6,3 +6,5 @@ pub mod Kept
 pub mod Fair
 pub mod Example
 pub mod Laws
+pub mod Serving
+pub mod Figures

@@ -83,6 +83,9 @@ module _ (state : List ℕ) (d len r : ℕ) (e : r ≡ placeRefusal state d len)
   pub place-state : length state ≡ stateLength
   place-state = equal (length state) stateLength (passed .0)
 
+  pub place-good : Good state
+  place-good = record { long = place-state; fine = passed .1 .0 }
+
   pub place-dealer : Dealer d
   place-dealer = let h = inside 1 dealerCount d (passed .1 .1 .0) in record { low = h .0; high = h .1 }
 

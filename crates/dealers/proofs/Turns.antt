@@ -160,6 +160,12 @@ pub by-some : {A : Type 0} (x : ℕ) → (x ≡ 0 → ⊥) → (none : A) (by : 
 by-some zero n none by = absurd (n refl)
 by-some (suc x) n none by = refl
 
+pub count-good : (s : Session) (rows state : List ℕ) → countRefusal s rows state ≡ 0 → Good state
+unfolding countRefusal
+count-good s rows state z =
+    let h = fail-parts (frameTests s rows) (stateTests state) (all-fail (frameTests s rows ++ stateTests state) tt z) .1 in
+    state-good state 0 (sym (not-refused (stateTests state) h)) refl
+
 module _ (s : Session) (rows state : List ℕ) (a b f : ℕ) (ea : a ≡ first (frameTests s rows)) (eb : b ≡ first (stateTests state)) (q : f ≡ orElse a b) where
   count-is : f ≡ countRefusal s rows state
   unfolding countRefusal
@@ -177,10 +183,7 @@ module _ (s : Session) (rows state : List ℕ) (a b f : ℕ) (ea : a ≡ first (
 
   module _ (z : f ≡ 0) where
     pub turn-good : Good state
-    unfolding countRefusal
-    turn-good =
-        let h = fail-parts (frameTests s rows) (stateTests state) (all-fail (frameTests s rows ++ stateTests state) tt (sym count-is ∙ z)) .1 in
-        state-good state 0 (sym (not-refused (stateTests state) h)) refl
+    turn-good = count-good s rows state (sym count-is ∙ z)
 
     go-on : {A : Type 0} (x y old : A) → x ≡ y → x ≡ outcome (countRefusal s rows state) y old
     go-on x y old p = accepted f (countRefusal s rows state) x y old count-is z p

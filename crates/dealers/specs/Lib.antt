@@ -5,3 +5,4 @@ pub mod Fairness
 pub mod Example
 pub mod Table
 pub mod Claims
+pub mod Figures
