@@ -13,7 +13,8 @@ use lib.ListN.{length}
 use Rattle.refusal.specs.Refusal.{outcome}
 use Rattle.refusal.proofs.Endings.{refused, accepted}
 use Rattle.session.specs.declared.Session.{Session}
-use Rattle.dealers.specs.State.{dealerCount, lengthIn, lineIn, lastServed, waits, next, placed, served, firstAfter, firstWaiting, chosen, badState, overlong}
+use Rattle.dealers.specs.State.{dealerCount, lengthIn, lineIn, lastServed, waits, next}
+use Rattle.dealers.specs.State.{placed, served, firstAfter, firstWaiting, chosen, badState, overlong}
 use Rattle.dealers.specs.Calls.{placeRefusal, placeAfter, countRefusal, whose, turnState, countedState}
 use Rattle.dealers.specs.Between.{Good, Dealer}
 use Rattle.dealers.specs.Fairness.{Operation, places, turns, done, doneAll, Counted, counts, countedIn, Taken, Fair, Goodness}
@@ -204,7 +205,8 @@ module _ (d : ℕ) (hd : Dealer d) where
     where
       by : Dec (countRefusal s rows state ≡ 0) → Within os → Taken (turns s rows ∷ os) state d (suc j)
       by (yes z) more =
-          counted-turn s rows os more state j g w few there z (sym (accepted 0 (countRefusal s rows state) (countedState state) (countedState state) state (sym z) refl refl))
+          counted-turn s rows os more state j g w few there z
+          (sym (accepted 0 (countRefusal s rows state) (countedState state) (countedState state) state (sym z) refl refl))
           (rw (eq-eqb (countRefusal s rows state) 0 z) at many)
       by (no n) more =
           idle-turn s rows os more state j g w few there n (refused (countRefusal s rows state) (countRefusal s rows state) (countedState state) state refl n)

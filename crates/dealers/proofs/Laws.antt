@@ -60,7 +60,9 @@ place-lawful =
     record {
       table = λ state d len. rw (bad-figures state);
       untouched = λ state d line n. sym (refused (placeRefusal state d (length line)) (placeRefusal state d (length line)) (placed state d line) state refl n);
-      done = λ state d line z. sym (accepted (placeRefusal state d (length line)) (placeRefusal state d (length line)) (placed state d line) (placed state d line) state refl z refl);
+      done = λ state d line z.
+          sym (accepted (placeRefusal state d (length line)) (placeRefusal state d (length line))
+          (placed state d line) (placed state d line) state refl z refl);
     }
 
 -- ---- the refusal of an outcome
@@ -109,7 +111,8 @@ module _ (s : Session) (rows : List ℕ) where
         either (takenRefusal line) (dealAnswer s rows row number) s ∙ ap (orElse (takenRefusal line)) (deal-own row number z)
         ∙ by (ℕ-discrete (getD line 0 0) 68)
       where
-        here : getD line 0 0 ≡ 68 → first (lineTests 2 2 line ++ own row number) ≡ first (lineTests (s .n) k line ++ own (readHere s line .row) (getD (readHere s line .numbers) 0 0))
+        here : getD line 0 0 ≡ 68 → first (lineTests 2 2 line ++ own row number)
+            ≡ first (lineTests (s .n) k line ++ own (readHere s line .row) (getD (readHere s line .numbers) 0 0))
         here d =
             first-join (lineTests 2 2 line) (own row number) tt
             ∙ ap (λ (x : ℕ). orElse x (first (own row number))) (tests-same line d 2 2 (s .n) k)
@@ -119,15 +122,18 @@ module _ (s : Session) (rows : List ℕ) where
         tail : (b : Bool) (m : Message) → List Test
         tail b m = 6 when ltb 95 (m .row) ∷ 7 when wrongMark s (m .row) 1 ∷ 8 when b ∷ 8 when anyBeyond (rowAt (width s) rows (m .row)) ∷ []
 
+        whole : List Test
+        whole = lineTests (s .n) k line ++ tail (ltb 2147483646 (getD (readHere s line .numbers) 0 0)) (readHere s line)
+
         by : Dec (getD line 0 0 ≡ 68) → orElse (takenRefusal line) (first (own row number)) ≡ first (lineTable s rows line)
         by (yes d) =
             ap (λ (b : Bool). orElse (first (10 when not b ∷ lineTests 2 2 line)) (first (own row number))) (eq-eqb (getD line 0 0) 68 d)
             ∙ sym (first-join (lineTests 2 2 line) (own row number) tt) ∙ here d
             ∙ ap (λ (b : Bool). first (lineTests (s .n) k line ++ tail b (readHere s line))) (beyond-figures (getD (readHere s line .numbers) 0 0))
-            ∙ sym (ap (λ (b : Bool). first (10 when not b ∷ (lineTests (s .n) k line ++ tail (ltb 2147483646 (getD (readHere s line .numbers) 0 0)) (readHere s line)))) (eq-eqb (getD line 0 0) 68 d))
+            ∙ sym (ap (λ (b : Bool). first (10 when not b ∷ whole)) (eq-eqb (getD line 0 0) 68 d))
         by (no n) =
             ap (λ (b : Bool). orElse (first (10 when not b ∷ lineTests 2 2 line)) (first (own row number))) (ne-eqb (getD line 0 0) 68 n)
-            ∙ sym (ap (λ (b : Bool). first (10 when not b ∷ (lineTests (s .n) k line ++ tail (ltb 2147483646 (getD (readHere s line .numbers) 0 0)) (readHere s line)))) (ne-eqb (getD line 0 0) 68 n))
+            ∙ sym (ap (λ (b : Bool). first (10 when not b ∷ whole)) (ne-eqb (getD line 0 0) 68 n))
 
     dealt-here : takenRefusal line ≡ 0 → message 2 line ≡ readHere s line
     unfolding takenRefusal
@@ -152,12 +158,14 @@ module _ (s : Session) (rows : List ℕ) where
     abbrev there : Message → (Answer × List ℕ)
     there m = (dealAnswer s rows (m .row) (getD (m .numbers) 0 0), dealRows s rows (m .row) (getD (m .numbers) 0 0))
 
-    line-dealt : takenAnswer s rows line .refusal ≡ 0 → (takenAnswer s rows line ≡ there (readHere s line) .0) × (takenRows s rows line ≡ there (readHere s line) .1)
+    line-dealt : takenAnswer s rows line .refusal ≡ 0
+        → (takenAnswer s rows line ≡ there (readHere s line) .0) × (takenRows s rows line ≡ there (readHere s line) .1)
     unfolding outcome
     line-dealt e = go (takenRefusal line) refl e
       where
         go : (t : ℕ) → takenRefusal line ≡ t → outcome t (dealAnswer s rows row number) (holding t 0 s) .refusal ≡ 0
-            → (outcome t (dealAnswer s rows row number) (holding t 0 s) ≡ there (readHere s line) .0) × (outcome t (dealRows s rows row number) rows ≡ there (readHere s line) .1)
+            → (outcome t (dealAnswer s rows row number) (holding t 0 s) ≡ there (readHere s line) .0)
+            × (outcome t (dealRows s rows row number) rows ≡ there (readHere s line) .1)
         go zero q e = (ap (λ (m : Message). there m .0) (dealt-here q), ap (λ (m : Message). there m .1) (dealt-here q))
         go (suc t) q e = absurd (omega arith)
 
@@ -176,13 +184,16 @@ module _ (s : Session) (rows : List ℕ) where
         ∙ sym (first-join (countTests s rows state) (takenTable s rows state (chosen state)) tt)
         ∙ rw (points-figures (s .points) (pointsOf s), bad-figures state)
       where
-        go : (r : ℕ) → countRefusal s rows state ≡ r → orElse r (countedAnswer s rows state .refusal) ≡ orElse r (first (takenTable s rows state (chosen state)))
+        go : (r : ℕ) → countRefusal s rows state ≡ r
+            → orElse r (countedAnswer s rows state .refusal) ≡ orElse r (first (takenTable s rows state (chosen state)))
         go zero e =
-            counted-refusal (orElse-zero (first (frameTests s rows)) (first (stateTests state)) (sym (first-join (frameTests s rows) (stateTests state) tt) ∙ e) .0)
+            counted-refusal (orElse-zero (first (frameTests s rows)) (first (stateTests state))
+            (sym (first-join (frameTests s rows) (stateTests state) tt) ∙ e) .0)
         go (suc k) e = refl
 
     module _ (z : countRefusal s rows state ≡ 0) where
-      counted-is : (turnAnswer s rows state ≡ countedAnswer s rows state) × (turnRows s rows state ≡ countedRows s rows state) × (turnState s rows state ≡ countedState state)
+      counted-is : (turnAnswer s rows state ≡ countedAnswer s rows state) × (turnRows s rows state ≡ countedRows s rows state)
+          × (turnState s rows state ≡ countedState state)
       unfolding outcome
       counted-is = (
         ap (λ (k : ℕ). outcome k (countedAnswer s rows state) (holding k 0 s)) z,

@@ -10,4 +10,5 @@ ruleset steps = (needs, state-long, place-stopped, place-low, place-high, place-
 pub place-refusal-spec : {M : Type 1} → statement M
 place-refusal-spec =
     tie.close
-    (tie.spec (λ c κs. search steps) (λ c. search steps) (λ c. search steps) (λ c. search steps) (λ c κs. search steps) (λ c. search steps) (λ c. search steps) (λ c. search steps) (λ c. search steps))
+    (tie.spec (λ c κs. search steps) (λ c. search steps) (λ c. search steps) (λ c. search steps) (λ c κs. search steps) (λ c. search steps)
+    (λ c. search steps) (λ c. search steps) (λ c. search steps))

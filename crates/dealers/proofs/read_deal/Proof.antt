@@ -9,4 +9,5 @@ ruleset steps = (needs, not-deal, no-line, deal-refused, deal-said)
 pub read-deal-spec : {M : Type 1} → statement M
 read-deal-spec =
     tie.close
-    (tie.spec (λ c κs. search steps) (λ c. search steps) (λ c. search steps) (λ c κs. search steps) (λ c. search steps) (λ c. search steps) (λ c κs. search steps) (λ c κs. search steps) (λ c. search steps) (λ c. search steps) (λ c. search steps))
+    (tie.spec (λ c κs. search steps) (λ c. search steps) (λ c. search steps) (λ c κs. search steps) (λ c. search steps) (λ c. search steps)
+    (λ c κs. search steps) (λ c κs. search steps) (λ c. search steps) (λ c. search steps) (λ c. search steps))

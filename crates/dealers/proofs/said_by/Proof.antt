@@ -9,4 +9,5 @@ ruleset steps = (needs, part-in, part-fits, part-is)
 pub said-by-spec : {M : Type 1} → statement M
 said-by-spec =
     tie.close
-    (tie.spec (λ c κs. search steps) (λ c. search steps) (λ c κs. search steps) (λ c. search steps) (λ c. search steps) (λ c. search steps) (λ c. search steps) (λ c κs. search steps) (λ c. search steps))
+    (tie.spec (λ c κs. search steps) (λ c. search steps) (λ c κs. search steps) (λ c. search steps) (λ c. search steps) (λ c. search steps)
+    (λ c. search steps) (λ c κs. search steps) (λ c. search steps))

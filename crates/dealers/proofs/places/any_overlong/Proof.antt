@@ -16,4 +16,5 @@ ruleset steps = (needs, over-start, over-found, over-passed, over-end)
 pub any-overlong-spec : {M : Type 1} → statement M
 any-overlong-spec =
     tie.close
-    (tie.spec Inv-loop μ-loop (λ c. search steps) (λ c κs. search steps) (λ c. search steps) (λ c. search steps) (λ c. search steps) (λ c. search steps) (λ c. search steps))
+    (tie.spec Inv-loop μ-loop (λ c. search steps) (λ c κs. search steps) (λ c. search steps) (λ c. search steps) (λ c. search steps)
+    (λ c. search steps) (λ c. search steps))

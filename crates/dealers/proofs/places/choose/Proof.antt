@@ -15,4 +15,8 @@ ruleset steps = (needs, seek-start, seek-dealer, seek-found, seek-on, seek-end)
 pub choose-spec : {M : Type 1} → statement M
 choose-spec =
     tie.close
-    (tie.spec Inv-loop μ-loop (λ c. search steps) (λ c κs. search steps) (λ c. search steps) (λ c κs. search steps) (λ c κs. search steps) (λ c. search steps) (λ c. search steps) (λ c. search steps) (λ c. seek-on _ _ _ (c .before .before .before .before .loop .inv) _ (c .before .before .next-dealer .ensures) (search needs) _ (c .before .length-in .ensures) (search needs)) (λ c. search steps))
+    (tie.spec Inv-loop μ-loop (λ c. search steps) (λ c κs. search steps) (λ c. search steps) (λ c κs. search steps) (λ c κs. search steps)
+    (λ c. search steps) (λ c. search steps) (λ c. search steps)
+    (λ c. seek-on _ _ _ (c .before .before .before .before .loop .inv) _ (c .before .before .next-dealer .ensures) (search needs)
+    _ (c .before .length-in .ensures) (search needs))
+    (λ c. search steps))

@@ -17,4 +17,5 @@ ruleset steps = (needs, filled-more, filled-end)
 pub copy-spec : {M : Type 1} → statement M
 copy-spec =
     tie.close
-    (tie.spec Inv-loop μ-loop (λ c. search steps) (λ c. search steps) (λ c. search steps) (λ c. search steps) (λ c. search steps) (λ c. search steps) (λ c. search steps) (λ c. search steps))
+    (tie.spec Inv-loop μ-loop (λ c. search steps) (λ c. search steps) (λ c. search steps) (λ c. search steps) (λ c. search steps)
+    (λ c. search steps) (λ c. search steps) (λ c. search steps))

@@ -10,4 +10,5 @@ ruleset steps = (needs, place-below, lay-fits, lay-room, lay-is)
 pub lay-spec : {M : Type 1} → statement M
 lay-spec =
     tie.close
-    (tie.spec (λ c κs. search steps) (λ c. search steps) (λ c κs. search steps) (λ c. search steps) (λ c. search steps) (λ c. search steps) (λ c. search steps))
+    (tie.spec (λ c κs. search steps) (λ c. search steps) (λ c κs. search steps) (λ c. search steps) (λ c. search steps) (λ c. search steps)
+    (λ c. search steps))

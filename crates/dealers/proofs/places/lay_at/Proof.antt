@@ -9,4 +9,5 @@ ruleset steps = (needs, laid-end, laid-part, laid-is)
 pub lay-at-spec : {M : Type 1} → statement M
 lay-at-spec =
     tie.close
-    (tie.spec (λ c. search steps) (λ c. search steps) (λ c. search steps) (λ c. search steps) (λ c κs. search steps) (λ c. search steps) (λ c. search steps))
+    (tie.spec (λ c. search steps) (λ c. search steps) (λ c. search steps) (λ c. search steps) (λ c κs. search steps) (λ c. search steps)
+    (λ c. search steps))
