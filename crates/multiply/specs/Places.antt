@@ -1,6 +1,6 @@
 -- "writes l'' + y l' + y' l + y y' into the third row (y y' is added to m1..mn only)", number by number: the public sums stand behind the
 -- coefficients and the check values. Proved in proofs/Placed.antt.
-use Prim.Native.Nat.{ℕ, _+_, _≤_, _<_}
+use Prim.Native.Nat.{ℕ, _+_, _*_, _≤_, _<_}
 use mathlib.Core.Path.{_≡_}
 use mathlib.Core.List.{List}
 use lib.ListN.{length, getD}

@@ -87,7 +87,11 @@ fn put_lines(party: Party, kinds: &[u8], draws: &[u32], room: &mut [u32], out: &
 fn start_letter(points: usize) -> u8
     ensures { λ r. ⌜ r ≡ startLetter points ⌝ }
 {
-    if points == shape::MOST_POINTS { b'W' } else { b'S' }
+    if points == shape::MOST_POINTS {
+        b'W'
+    } else {
+        b'S'
+    }
 }
 
 // How many bytes the start line has: `S` with one check point, `W` with two.

@@ -1,7 +1,7 @@
 -- What stands in a post's row: a polynomial passes at the check point exactly where it agrees there with its sender's.
 use Prim.Native.Nat.{ℕ, zero, suc, _+_, _*_, _-_, _/_, _%_, _<_}
 use mathlib.Core.Path.{_≡_, refl, sym, _∙_, ap, ap₂}
-use mathlib.Core.Bool.{Bool, true, false, cond, _&&_}
+use mathlib.Core.Bool.{Bool, true, false, cond}
 use mathlib.Core.List.{List, _++_}
 use native.Mathlib.Nat.{mul-le-mul-right, suc-mul, mul-comm, mul-add-div-right, div-eq-of-lt, mul-add-mod-self-right, mod-eq-of-lt}
 use native.Mathlib.Omega.{arith}
@@ -19,25 +19,12 @@ use Rattle.session.specs.declared.Session.{Session}
 use Rattle.session.specs.Sessions.{pointsOf, shapeOf}
 use Rattle.accepting.specs.Accepting as Accepting
 use Rattle.accepting.specs.Accepting.{everyBelow}
+use Rattle.accepting.proofs.Every.{every-at, every-is}
 use Rattle.opening.specs.Walking.{sent, accepts}
 use Rattle.vectors.specs.Vector.{Vector, numbers, valueAt, checkOf, sumAt, rowOf}
 use Rattle.vectors.specs.Claims.{heldRow, Truly, AcceptedAgrees, TrueAccepted}
 use Rattle.vectors.proofs.Linear.{length-numbers}
 use Rattle.vectors.proofs.Draws.{value-numbers}
-
-and-true : (a b : Bool) → (a && b) ≡ true → (a ≡ true) × (b ≡ true)
-and-true true b e = (refl, e)
-and-true false b e = (e, cc)
-
--- a test of every number below k
-pub every-at : (k : ℕ) (test : ℕ → Bool) (x : ℕ) → x < k → everyBelow k test ≡ true → test x ≡ true
-every-at zero test x l e = absurd (omega arith)
-every-at (suc k) test zero l e = and-true (test 0) _ e .0
-every-at (suc k) test (suc x) l e = every-at k (λ h. test (suc h)) x (omega arith) (and-true (test 0) _ e .1)
-
-pub every-is : (k : ℕ) (test : ℕ → Bool) → ((x : ℕ) → x < k → test x ≡ true) → everyBelow k test ≡ true
-every-is zero test h = refl
-every-is (suc k) test h = ap₂ _&&_ (h 0 (omega arith)) (every-is k (λ x. test (suc x)) (λ x l. h (suc x) (omega arith)))
 
 -- the j-th of some numbers
 pub number-at : (k : ℕ) (a : ℕ → Element) (j : ℕ) → j < k → getD (numbers k a) j 0 ≡ a j .0
