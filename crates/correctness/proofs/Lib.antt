@@ -1,4 +1,5 @@
 pub mod Meanings
+pub mod Alone
 pub mod Standing
 pub mod Said
 pub mod Fitting
