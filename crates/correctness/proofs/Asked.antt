@@ -14,7 +14,7 @@ use Rattle.correctness.specs.History.{World}
 use Rattle.correctness.specs.Ledger.{Ledger, product, WrittenBy, Written}
 use Rattle.correctness.specs.Truth.{OwnWith, OwnPart, TrueWith, TrueFinish}
 use Rattle.correctness.specs.Relation.{SumIn, EachAt}
-use Rattle.correctness.specs.Asked.{PartAsked, LedgerAsked, BothTrue, TruthAsked, NothingElseAsked}
+use Rattle.correctness.specs.Asked.{PartAsked, LedgerAsked, BothTrue, TruthAsked, PremisesAsk}
 
 -- P of every act of a relation's calls
 module _ (P : Move Actual → Type 0) where
@@ -127,5 +127,5 @@ module _ (S : ℕ → Type 0) (w : World) (q : Post) where
       finish-every True m (x .blocks) (x .r) (productsOf (x .terms)) (x .terms) (true-finishes m (x .blocks) 0 (productsOf (x .terms)) h)
       (true-sum (x .r) (x .terms))
 
-pub nothing-else-asked : NothingElseAsked
-nothing-else-asked plan draw L S w i q c = record { part = part-asked plan draw i c; ledger = ledger-asked draw L c; truth = truth-asked S w q c }
+pub premises-ask : PremisesAsk
+premises-ask plan draw L S w i q c = record { part = part-asked plan draw i c; ledger = ledger-asked draw L c; truth = truth-asked S w q c }

@@ -77,6 +77,6 @@ pub record AsksOnly (plan : Plan) (draw : Draw) (L : Ledger) (S : ℕ → Type 0
   pub ledger : LedgerAsked draw L c → Written draw L c
   pub truth : TruthAsked S w q c → TrueFinish S w q c
 
-abbrev pub NothingElseAsked : Type 1
-NothingElseAsked =
+abbrev pub PremisesAsk : Type 1
+PremisesAsk =
     (plan : Plan) (draw : Draw) (L : Ledger) (S : ℕ → Type 0) (w : World) (i : ℕ) (q : Post) (c : Call) → AsksOnly plan draw L S w i q c
