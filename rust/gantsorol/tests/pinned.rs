@@ -10,8 +10,10 @@ use std::path::Path;
 use common::programs::repository;
 
 /// Files of `specs/` that state what holds: those that begin so, and all of these crates.
-const STATING: [&str; 10] =
-    ["Claims", "Counted.", "Figures.", "Law", "Meaning.", "Order.", "Places.", "Table", "Ten.", "Words."];
+const STATING: [&str; 10] = [
+    "Claims", "Counted.", "Figures.", "Law", "Meaning.", "Order.", "Places.", "Table", "Ten.",
+    "Words.",
+];
 const THEOREMS: [&str; 6] = ["correctness", "packed", "performing", "runs", "secrecy", "table"];
 
 /// The page's common line: each has its table, which says the same list in figures.
