@@ -2,6 +2,7 @@
 use Prim.Native.Nat.{ℕ, zero, suc, _+_, _*_, _-_, _≤_, _<_}
 use mathlib.Core.Path.{_≡_, refl, sym, _∙_, ap, ap₂}
 use mathlib.Core.Bool.{Bool, true, false, _||_, cond}
+use mathlib.Core.Logic.{inl, inr}
 use mathlib.Core.List.{List, [], _∷_}
 use native.Mathlib.Decide.{ℕ-discrete}
 use native.Mathlib.Omega.{arith}
@@ -16,7 +17,7 @@ use Rattle.refusal.proofs.Laws.{or-false}
 use Rattle.refusal.proofs.Elements.{below-p, element-test}
 use Rattle.session.specs.declared.Party.{Party}
 use Rattle.blocks.specs.Blocks.{blockMark, blockCoefficients, badBlock, badBlocks, sent}
-use Rattle.blocks.specs.Claims.{Other, Sound, RecordRead, Alike, PartsUnread}
+use Rattle.blocks.specs.Claims.{Other, Sound, RecordRead, Alike, AlikeIs, PartsUnread}
 use Rattle.blocks.proofs.Blocks.{post-in, good-own}
 
 -- ---- elements, by their places
@@ -177,3 +178,9 @@ module _ (q : Party) (row a b : List ℕ) (la : length a ≡ recordLength (q .sh
 pub parts-unread : PartsUnread
 parts-unread q row a b la lb like =
     (same-blocks q row a b la lb like 1 (q .shape .n) (omega arith) (omega arith), same-sent q row a b la lb like)
+
+pub alike-is : AlikeIs
+alike-is q a b h = record {
+  marks = λ j o. h ((j - 1) * (q .shape .t + 1 + 1)) (j, o, inl refl);
+  coefficients = λ j o m i l. h ((j - 1) * (q .shape .t + 1 + 1) + 1 + i) (j, o, inr (m, omega arith, omega arith));
+}

@@ -2,7 +2,7 @@
 -- document 01's numbers.
 use Prim.Native.Nat.{ℕ, _+_, _*_, _-_, _≤_, _<_}
 use mathlib.Core.Path.{_≡_}
-use mathlib.Core.Logic.{_≢_}
+use mathlib.Core.Logic.{_≢_, _⊎_}
 use mathlib.Core.Bool.{false}
 use mathlib.Core.List.{List}
 use lib.ListN.{length, getD}
@@ -41,6 +41,17 @@ pub record Alike (q : Party) (a b : List ℕ) : Type 0 where
   pub marks : (j : ℕ) → Other q j → markOf q a j ≡ markOf q b j
   pub coefficients : (j : ℕ) → Other q j → markOf q a j ≡ 1 → (i : ℕ) → i ≤ q .shape .t
       → coefficientOf q a j i ≡ coefficientOf q b j i
+
+-- Nothing else is asked: two records are alike where they have the same number at the place of every other post's mark, and at the t+1 places
+-- behind a mark of 1.
+abbrev pub LookedAt : Party → List ℕ → ℕ → Type 0
+LookedAt q blocks place =
+    let w = q .shape .t + 1 + 1 in
+    (j : ℕ) × ((1 ≤ j) × (j ≤ q .shape .n) × (j ≢ q .post))
+    × ((place ≡ (j - 1) * w) ⊎ ((getD blocks ((j - 1) * w) 0 ≡ 1) × ((j - 1) * w < place) × (place < (j - 1) * w + w)))
+
+abbrev pub AlikeIs : Type 0
+AlikeIs = (q : Party) (a b : List ℕ) → ((place : ℕ) → LookedAt q a place → getD a place 0 ≡ getD b place 0) → Alike q a b
 
 -- Check 8 and every post's part are the same for both.
 abbrev pub PartsUnread : Type 0

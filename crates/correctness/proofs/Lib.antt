@@ -1,4 +1,6 @@
 pub mod Meanings
+pub mod Alone
+pub mod Asked
 pub mod Standing
 pub mod Said
 pub mod Fitting

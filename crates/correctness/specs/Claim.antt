@@ -44,6 +44,10 @@ TooFew s row blocks = howMany s row blocks < needed (shapeOf s)
 abbrev pub Enough : Session → List ℕ → List ℕ → Type 0
 Enough s row blocks = needed (shapeOf s) ≤ howMany s row blocks
 
+-- A record has too few or enough: by `few` and `otherwise` below, too few exactly where an opening is refused with 9.
+abbrev pub FewOrEnough : Type 0
+FewOrEnough = (s : Session) (row blocks : List ℕ) → TooFew s row blocks ⊎ Enough s row blocks
+
 -- A post's row r.
 abbrev pub rowIn : Post → ℕ → List ℕ
 rowIn q r = rowAt (width (q .session)) (q .rows) r
@@ -77,6 +81,12 @@ Done q r blocksA blocksB =
 -- What a session remembers of the triple at r is y and y': "The first call opens y and y' and remembers them".
 abbrev pub Remembers : Plan → Draw → Ledger → Session → ℕ → Type 0
 Remembers plan draw L s r = MaskNumbers plan draw L r (openedA s r) (openedB s r)
+
+-- As a row has one plain number, a triple has one y and one y'.
+abbrev pub OneRemembered : Type 0
+OneRemembered =
+    (plan : Plan) (draw : Draw) (L : Ledger) (s s' : Session) (r : ℕ) → Remembers plan draw L s r → Remembers plan draw L s' r
+    → (openedA s r ≡ openedA s' r) × (openedB s r ≡ openedB s' r)
 
 -- "an accepted share lies off that polynomial, in either record of a finish": of a − l with the first, or of b − l' with the second.
 abbrev pub EitherOff : Post → ℕ → List ℕ → List ℕ → Type 0

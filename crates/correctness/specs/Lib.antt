@@ -4,3 +4,4 @@ pub mod Truth
 pub mod Claim
 pub mod Parts
 pub mod Relation
+pub mod Asked

@@ -23,6 +23,7 @@ size-more x l h = rw (le-ltb x 10 l) (ap suc (sym (size-room 8 (x / 10) (omega a
 pub numeral-digits : NumeralDigits
 unfolding lastDigits
 numeral-digits = record {
+  ten-digits = refl;
   one = λ x h.
       let e : x % 10 ≡ x = omega arith in
       rw (size-one 9 x h) (ap (λ (d : ℕ). (48 + d) ∷ []) e);

@@ -26,10 +26,13 @@ use Rattle.product_masks.specs.Masks.{maskNumbers}
 use Rattle.collect.specs.Collect.{maskA, maskB, finishPlace, finishMarks, unopened, numberA, numberB, collectTests, collectRefusal}
 use Rattle.multiply.specs.Multiply.{productRow, withProduct, multiplyRefusal, multiplyAnswer, multiplyRows}
 use Rattle.product.specs.Finish.{finishTests, finishRefusal, finishAnswer, finishRows}
-use Rattle.product.specs.Claims.{Whole, withMarksOf, collectedSession, PairFinishes, Untouched, PairFinishesLater}
+use Rattle.product.specs.Claims.{Whole, WholeIs, withMarksOf, collectedSession, PairFinishes, Untouched, PairFinishesLater}
 use Rattle.collect.proofs.Passed.{Collected, collected, collect-framed}
 use Rattle.multiply.proofs.Passed.{multiplied, multiply-clear}
 use Rattle.multiply.proofs.Written.{third-read}
+
+pub whole-is : WholeIs
+whole-is s marks y-a y-b = record { marks = marks; y-a = y-a; y-b = y-b }
 
 -- one more test among those that fail
 with-one : (xs ys : List Test) (k : ℕ) (b : Bool) → AllFail (xs ++ ys) → b ≡ false → AllFail (xs ++ (k when b ∷ ys))

@@ -18,6 +18,10 @@ pub record Whole (s : Session) : Type 0 where
   pub y-a : length (s .«y_a») ≡ rowCount
   pub y-b : length (s .«y_b») ≡ rowCount
 
+-- Nothing else is asked: every session of the code, whose arrays have 96 numbers, is one.
+abbrev pub WholeIs : Type 0
+WholeIs = (s : Session) → length (s .marks) ≡ 96 → length (s .«y_a») ≡ 96 → length (s .«y_b») ≡ 96 → Whole s
+
 -- A session with the three marks that another one has on the triple at r.
 abbrev pub withMarksOf : Session → ℕ → Session → Session
 withMarksOf s r other = marked (marked (marked s r (mark other r)) (r + 1) (mark other (r + 1))) (r + 2) (mark other (r + 2))

@@ -5,6 +5,7 @@ pub mod Marks
 pub mod Sums
 pub mod Numbers
 pub mod Outcomes
+pub mod Acts
 pub mod Packs
 pub mod Holds
 pub mod Finishing

@@ -37,6 +37,8 @@ pub mod Tests
 pub mod Selections
 pub mod Listed
 pub mod Counts
+-- What the rules ask, call by call.
+pub mod Asked
 -- The theorems; and that nobody gets 13.
 pub mod Matched
 pub mod Theorems

@@ -1,0 +1,46 @@
+-- Document 01, "To keep the rules", call by call: said beside the outline, in the document's words. A call that is so keeps them: nothing else
+-- is asked.
+use Prim.Native.Nat.{ℕ, suc, _+_, _*_, _≤_}
+use mathlib.Core.Path.{_≡_}
+use mathlib.Core.Bool.{true}
+use mathlib.Core.List.{List, [], _∷_}
+use lib.ListN.{length, take, drop}
+use Rattle.shape.specs.Lengths.{vLength}
+use Rattle.terms.specs.declared.Term.{Term}
+use Rattle.terms.specs.Listed.{productsOf}
+use Rattle.runs.specs.Draws.{Plan, IsRaw, planShape}
+use Rattle.runs.specs.Outline.{loadRow, loadTriple, deal, message, opening, linear, masks, collect, multiply, relationMasks, relationFinish, cut}
+use Rattle.runs.specs.Calls.{Told, ToldHalf}
+use Rattle.secrecy.specs.Steps.{its, Record, Step}
+use Rattle.secrecy.specs.Rules.{FromDealer, OnlySent, Walks, Rule}
+
+-- Records of the two masks of the triple at r show what their senders broadcast for that factor of that triple.
+abbrev pub BothSent : Plan → List (List ℕ) → ℕ → (ℕ → List ℕ) → (ℕ → List ℕ) → Type 0
+BothSent plan lines r blocksA blocksB =
+    OnlySent plan (ToldHalf (planShape plan) (take (vLength (planShape plan))) r lines) blocksA
+    × OnlySent plan (ToldHalf (planShape plan) (drop (vLength (planShape plan))) r lines) blocksB
+
+-- Of each product term, from place k on, its two of m records; asked where the call comes to the walk.
+abbrev pub TermsSent : Plan → ℕ → List (List ℕ) → (m : ℕ) → Record → (k : ℕ) → List Term → Type 0
+TermsSent plan refusal lines m blocks k [] = Unit {0}
+TermsSent plan refusal lines m blocks k (t ∷ ts) =
+    (Walks refusal → BothSent plan lines (t .first) (λ i. cut m (2 * k) (blocks i lines)) (λ i. cut m (2 * k + 1) (blocks i lines)))
+    × TermsSent plan refusal lines m blocks (suc k) ts
+
+-- Of a call with the refusal k, after these lines.
+abbrev pub RuleAsked : Plan → ℕ → List (List ℕ) → Step → Type 0
+RuleAsked plan k lines (loadRow x) = k ≡ 0 → IsRaw (plan .raw (x .r)) × ((i : ℕ) → 1 ≤ i → i ≤ plan .n → x .pack i ≡ its (x .r))
+RuleAsked plan k lines (loadTriple x) = k ≡ 0 → (plan .triple (x .r) ≡ true) × ((i : ℕ) → 1 ≤ i → i ≤ plan .n → x .pack i ≡ its (x .r))
+RuleAsked plan k lines (deal x) = k ≡ 0 → FromDealer lines (x .r) (x .c)
+RuleAsked plan k lines (message x) = Unit {0}
+RuleAsked plan k lines (opening x) = Walks k → OnlySent plan (Told lines (x .r)) (λ i. x .blocks i lines)
+RuleAsked plan k lines (linear x) = Unit {0}
+RuleAsked plan k lines (masks x) = Unit {0}
+RuleAsked plan k lines (collect x) = Walks k → BothSent plan lines (x .r) (λ i. x .blocksA i lines) (λ i. x .blocksB i lines)
+RuleAsked plan k lines (multiply x) = Unit {0}
+RuleAsked plan k lines (relationMasks x) = Unit {0}
+RuleAsked plan k lines (relationFinish x) =
+    TermsSent plan k lines (2 * length (productsOf (x .terms))) (x .blocks) 0 (productsOf (x .terms))
+
+abbrev pub RulesAsk : Type 0
+RulesAsk = (plan : Plan) (k : ℕ) (lines : List (List ℕ)) (c : Step) → RuleAsked plan k lines c → Rule plan c k lines
