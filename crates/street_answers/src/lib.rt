@@ -3,14 +3,14 @@ ghost use mathlib.Core.Path.{_≡_};
 ghost use mathlib.Core.List.{[]};
 ghost use Prim.Native.Nat.{_+_, _≤_};
 ghost use lib.ListN.{length, take};
-ghost use Rattle.street_masklines.specs.Steps.{toldRoom};
 ghost use Rattle.forms.specs.Lines as Lines;
-ghost use Rattle.street_store.specs.Sizes.{streetPosts, mostMasks};
+ghost use Rattle.street_store.specs.Sizes.{streetPosts, mostMasks, toldRoom};
 ghost use Rattle.csv.specs.Fields.{overwrite};
+ghost use Rattle.street_answers.specs.Between.{endText, longestEnd};
 ghost use Rattle.street_answers.specs.Text.{header, longSize, longNumeral, answerText, longestAnswer, printText, longestPrint};
 
 // No more is printed for a line: its answer, and what an `X` prints behind it.
-pub const LONGEST_PRINT: usize = 43 + street_masklines::TOLD_ROOM;
+pub const LONGEST_PRINT: usize = 43 + street_store::TOLD_ROOM;
 
 // `line,refusal,value`
 pub fn header() -> [u8; 19]
@@ -42,6 +42,42 @@ fn put_number(out: &mut [u8], at: usize, x: u64) -> usize
     end
 }
 
+// Behind a line's number: the refusal, the number opened and the line feed, whatever they are.
+fn put_fields(out: &mut [u8], at: usize, refusal: u8, value: u32) -> usize
+    requires { ⌜ at + longestEnd ≤ length (now out) ⌝ }
+    ensures { λ r. ⌜ (r ≡ at + length (endText refusal value)) × (now (out .exit) ≡ overwrite at (endText refusal value) (now (out .entry))) ⌝ }
+{
+    let list = [refusal as u32, value];
+    let end = csv::put_fields(out, at, &list);
+    out[end] = b'\n';
+    end + 1
+}
+
+// The same for most lines: the refusal has one digit, and no number is opened.
+fn put_digit(out: &mut [u8], at: usize, refusal: u8) -> usize
+    requires { ⌜ (at + longestEnd ≤ length (now out)) × (refusal ≤ 9) ⌝ }
+    ensures { λ r. ⌜ (r ≡ at + length (endText refusal 0)) × (now (out .exit) ≡ overwrite at (endText refusal 0) (now (out .entry))) ⌝ }
+{
+    let text = [b',', b'0' + refusal, b',', b'0', b'\n'];
+    let end = at + 5;
+    street_store::copy_bytes(&text, &mut out[at..end]);
+    end
+}
+
+// The same for any line.
+fn put_end(out: &mut [u8], at: usize, refusal: u8, value: u32) -> usize
+    requires { ⌜ at + longestEnd ≤ length (now out) ⌝ }
+    ensures { λ r. ⌜ (r ≡ at + length (endText refusal value)) × (now (out .exit) ≡ overwrite at (endText refusal value) (now (out .entry))) ⌝ }
+{
+    if value != 0 {
+        return put_fields(out, at, refusal, value);
+    }
+    if 9 < refusal {
+        return put_fields(out, at, refusal, value);
+    }
+    put_digit(out, at, refusal)
+}
+
 // An answer from a position on; the position behind.
 fn put_answer(out: &mut [u8], at: usize, number: u64, refusal: u8, value: u32) -> usize
     requires { ⌜ at + longestAnswer ≤ length (now out) ⌝ }
@@ -49,20 +85,7 @@ fn put_answer(out: &mut [u8], at: usize, number: u64, refusal: u8, value: u32) -
         × (now (out .exit) ≡ overwrite at (answerText number refusal value) (now (out .entry))) ⌝ }
 {
     let behind = put_number(out, at, number);
-    let list = [refusal as u32, value];
-    let end = csv::put_fields(out, behind, &list);
-    out[end] = b'\n';
-    end + 1
-}
-
-// The bytes of `from`, into `to`.
-pub fn copy(from: &[u8], to: &mut [u8])
-    requires { ⌜ length (now from) ≡ length (now to) ⌝ }
-    ensures { λ r. ⌜ now (to .exit) ≡ now (from .entry) ⌝ }
-{
-    for i in 0..from.len() {
-        to[i] = from[i];
-    }
+    put_end(out, behind, refusal, value)
 }
 
 // An answer, and what is printed behind it, from a position on; the position behind.
@@ -73,7 +96,7 @@ fn put_print(out: &mut [u8], at: usize, number: u64, refusal: u8, value: u32, to
 {
     let behind = put_answer(out, at, number, refusal, value);
     let end = behind + told.len();
-    copy(told, &mut out[behind..end]);
+    street_store::copy_bytes(told, &mut out[behind..end]);
     end
 }
 
@@ -108,7 +131,7 @@ pub fn print_masks(
     ensures { λ r. ⌜ (r ≡ at + length (printText number 0 0 (Lines.text (Lines.masks first post (now (masks .entry))))))
         × (now (out .exit) ≡ overwrite at (printText number 0 0 (Lines.text (Lines.masks first post (now (masks .entry))))) (now (out .entry))) ⌝ }
 {
-    let mut text = [0u8; street_masklines::TOLD_ROOM];
+    let mut text = [0u8; street_store::TOLD_ROOM];
     let len = tell_masks(first, post, masks, &mut text);
     put_print(out, at, number, 0, 0, &text[..len])
 }

@@ -1,4 +1,5 @@
--- Between the functions of the code: the order of a line, what it leads to, and that this is what the line does.
+-- Between the functions of the code: the order of a line, what it leads to, and that this is what the line does. No theorem is stated with
+-- these.
 use Prim.Native.Nat.{ℕ, _+_, _≤_}
 use mathlib.Core.Path.{_≡_}
 use mathlib.Core.List.{List, [], _∷_}
@@ -19,9 +20,9 @@ use Rattle.street_store.specs.Sizes.{InStreet}
 use Rattle.street_states.specs.declared.State.{State}
 use Rattle.street_states.specs.States.{After, refusing, leaving}
 use Rattle.street_startlines.specs.Steps.{startStep}
-use Rattle.street_loadlines.specs.Steps.{loading, loadingTriple}
+use Rattle.street_rowlines.specs.Loads.{loading, loadingTriple}
 use Rattle.street_rowlines.specs.Steps.{adding, opening}
-use Rattle.street_masklines.specs.Steps.{maskingOf, maskStep}
+use Rattle.street_finishlines.specs.Masks.{maskingOf, maskStep}
 use Rattle.street_finishlines.specs.Steps.{finishing}
 use Rattle.street_postlines.specs.Steps.{dealing, keepStep, keepHalvesStep}
 use Rattle.street_interpreter.specs.declared.orders.Order.{Order}

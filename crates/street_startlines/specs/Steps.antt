@@ -6,17 +6,12 @@ use lib.ListN.{length}
 use lib.Dec.{ltb}
 use Rattle.refusal.specs.Refusal.{Test, _when_, first, outcome}
 use Rattle.session.specs.Sessions.{sessionTests, sessionOf}
-use Rattle.street_store.specs.Sizes.{streetPosts}
+use Rattle.street_store.specs.Sizes.{streetPosts, longestLine}
 use Rattle.street_reading.specs.declared.StartForm.{StartForm}
 use Rattle.street_reading.specs.declared.StartForm.the-variants.{Settings, Wrong}
 use Rattle.street_reading.specs.Starting.{isStart, startForm, startOf}
 use Rattle.street_states.specs.declared.State.{State}
-use Rattle.street_states.specs.States.{Stepped}
-use Rattle.street_states.specs.States.{begunWith, refusing}
-
--- Document 02, (iii): "Lines go up to 3,173 bytes."
-abbrev pub longestLine : ℕ
-longestLine = 3173
+use Rattle.street_states.specs.States.{Stepped, begunWith, refusing}
 
 -- "an `S` gets 10, then 1 to 4", and document 02, (ii): "The street program stays at 32 and gives 1 above that."
 abbrev pub startTests : ℕ → ℕ → ℕ → ℕ → List Test

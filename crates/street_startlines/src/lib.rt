@@ -9,9 +9,6 @@ ghost use Rattle.field.specs.Modulus.{p};
 ghost use Rattle.session.specs.Sessions.{sessionOf, holding};
 ghost use Rattle.street_startlines.specs.Between.{beginAnswer, startAnswer};
 
-// No line of the program is longer, with its line feed.
-pub const LONGEST_LINE: usize = 3173;
-
 // A number as an element, or p, which is none.
 fn narrow(x: u64) -> u32
     ensures { λ r. ⌜ r ≡ cond (ltb x p) x p ⌝ }
@@ -46,7 +43,7 @@ fn begin(n: u64, t: u64, post: u64, point: u64) -> Answer
 pub fn start(line: &[u8]) -> Answer
     ensures { λ r. ⌜ r ≡ startAnswer (now (line .entry)) ⌝ }
 {
-    if LONGEST_LINE < line.len() {
+    if street_store::LONGEST_LINE < line.len() {
         return refused(10);
     }
     let form = street_reading::start::scan_start(line);

@@ -19,6 +19,14 @@ numbersRoom = 1 + longestTriple
 abbrev pub mostMasks : ℕ
 mostMasks = 2 * streetPosts
 
+-- Room for the longest line that is printed: a letter, row and post, the masks, a line feed.
+abbrev pub toldRoom : ℕ
+toldRoom = 2 + 11 * (2 + mostMasks)
+
+-- Document 02, (iii): "Lines go up to 3,173 bytes."
+abbrev pub longestLine : ℕ
+longestLine = 3173
+
 -- The store: the rows of a session, then the record of the `O` lines and the two of the `M` lines, of a − l and of b − l'.
 abbrev pub rowsRoom : ℕ
 rowsRoom = rowCount * longestRow
