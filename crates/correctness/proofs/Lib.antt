@@ -1,3 +1,4 @@
+pub mod Tuples
 pub mod Meanings
 pub mod Standing
 pub mod Said

@@ -4,3 +4,4 @@ pub mod Rules
 pub mod Book
 pub mod Claim
 pub mod Count
+pub mod Points
