@@ -9,7 +9,7 @@ use Rattle.shape.specs.declared.Shape.{Shape}
 use Rattle.shape.specs.Lengths.{Valid, rowsLength, masksLength}
 use Rattle.refusal.proofs.Endings.{refused, accepted}
 use Rattle.street_store.specs.Sizes.{InStreet, storeRoom, mostMasks}
-use Rattle.street_store.proofs.Keeping.{street-valid}
+use Rattle.street_store.proofs.Keeping.{street-valid, v-room, row-room}
 use Rattle.street_states.specs.declared.State.{State}
 use Rattle.street_states.specs.States.{After, Stepped, refusing, leaving, unless}
 
@@ -31,7 +31,7 @@ rows-end g h r d e = e ∙ ap rowsLength d
 
 module _ (g : Shape) (i : InStreet g) (store : List ℕ) (l : length store ≡ storeRoom) (end : ℕ) (e : end ≡ rowsLength g) where
   pub rows-in : end ≤ length store
-  rows-in = omega (arith, i .n-in .1, i .t-in .1)
+  rows-in = omega (arith, e, l, row-room g i)
 
   pub rows-prefix : end ≡ length (take end store)
   rows-prefix = sym (length-take-le end store rows-in)
@@ -42,7 +42,7 @@ street-shape g h i e = rw e i
 -- ---- the list that the numbers go to
 module _ (g h : Shape) (i : InStreet h) (d : g ≡ h) (k : ℕ) (e : k ≡ masksLength g) (zeros : List ℕ) (l : length zeros ≡ mostMasks) where
   pub masks-in : k ≤ length zeros
-  masks-in = let r : k ≡ masksLength h = e ∙ ap masksLength d in omega (arith, i .n-in .1, i .t-in .1)
+  masks-in = let r : k ≡ masksLength h = e ∙ ap masksLength d in omega (arith, r, l, v-room h i)
 
   pub masks-prefix : k ≡ length (take k zeros)
   masks-prefix = sym (length-take-le k zeros masks-in)
