@@ -24,16 +24,16 @@ pub fn is_start(line: &[u8]) -> bool
     if line.len() < 1 {
         return false;
     }
-    if !starts_with(line[0]) {
-        return false;
+    if starts_with(line[0]) {
+        if line.len() < 2 {
+            return true;
+        }
+        if line[1] == b',' {
+            return true;
+        }
+        return line[1] == b'\n';
     }
-    if line.len() < 2 {
-        return true;
-    }
-    if line[1] == b',' {
-        return true;
-    }
-    line[1] == b'\n'
+    false
 }
 
 // How many check points a start line has.

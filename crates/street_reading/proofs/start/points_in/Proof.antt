@@ -9,4 +9,4 @@ ruleset ends = (needs, points-empty, points-two, points-one)
 pub points-in-spec : {M : Type 1} → statement M
 points-in-spec =
     tie.close
-    (tie.spec (λ c. search ends) (λ c. search ends) (λ c. search ends) (λ c. search ends) (λ c. search ends))
+    (tie.spec (λ c. search ends) (λ c. search ends) (λ c. search ends) (λ c. search ends))

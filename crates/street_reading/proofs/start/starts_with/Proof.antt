@@ -9,4 +9,4 @@ ruleset ends = (needs, letter-s, letter-w, letter-none)
 pub starts-with-spec : {M : Type 1} → statement M
 starts-with-spec =
     tie.close
-    (tie.spec (λ c. search ends) (λ c. search ends) (λ c. search ends) (λ c. search ends))
+    (tie.spec (λ c. search ends) (λ c. search ends) (λ c. search ends))
