@@ -16,9 +16,8 @@ use Rattle.csv.specs.Fields.{written}
 use Rattle.session.specs.declared.Party.{Party}
 use Rattle.session.specs.Rows.{withRow}
 use Rattle.load.specs.Load.{withTriple}
-use Rattle.street_store.specs.Sizes.{streetPosts}
+use Rattle.street_store.specs.Sizes.{streetPosts, longestLine}
 use Rattle.street_states.specs.States.{firstState, begunWith, refusing, leaving}
-use Rattle.street_startlines.specs.Steps.{longestLine}
 use Rattle.street_interpreter.specs.Stepping.{step}
 use Rattle.street_answers.specs.Text.{answerText}
 use Rattle.street_feeds.specs.Program.{Running, leftBy, fed}

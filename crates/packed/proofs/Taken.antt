@@ -24,14 +24,14 @@ use Rattle.session.specs.declared.Party.{Party}
 use Rattle.session.specs.Sessions.{sessionOf}
 use Rattle.session.specs.Rows.{withRow}
 use Rattle.load.specs.Load.{loadRowRefusal, loadTripleRefusal, withTriple}
-use Rattle.street_store.specs.Sizes.{streetPosts, longestTriple}
+use Rattle.street_store.specs.Sizes.{streetPosts, longestTriple, longestLine}
 use Rattle.street_reading.specs.Numbers.{numbers, readRefusal, rowsBeyond}
 use Rattle.street_reading.specs.Starting.{isStart}
 use Rattle.street_reading.proofs.Written.{says, passes}
 use Rattle.street_states.specs.declared.State.{State}
 use Rattle.street_states.specs.States.{firstState, begunWith, refusing, leaving, sessionRows}
-use Rattle.street_startlines.specs.Steps.{longestLine, startTests, startStep, earlyStep}
-use Rattle.street_loadlines.specs.Steps.{loading, loadStep, loadingTriple, loadTripleStep}
+use Rattle.street_startlines.specs.Steps.{startTests, startStep, earlyStep}
+use Rattle.street_rowlines.specs.Loads.{loading, loadStep, loadingTriple, loadTripleStep}
 use Rattle.street_interpreter.specs.Stepping.{lettersStep, lateStep, step}
 use Rattle.factory.proofs.Laws.{elements-pass}
 use Rattle.packlines.specs.File.{startLine}

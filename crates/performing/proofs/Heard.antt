@@ -12,7 +12,7 @@ use Rattle.csv.proofs.Laying.{length-written}
 use Rattle.factory.proofs.Laws.{elements-pass}
 use Rattle.street_reading.specs.Numbers.{numbers, rowsBeyond, readRefusal}
 use Rattle.street_reading.proofs.Written as Written
-use Rattle.street_startlines.specs.Steps.{longestLine}
+use Rattle.street_store.specs.Sizes.{longestLine}
 
 module _ (letter : ℕ) (xs : List ℕ) (elements : Elements xs) where
   pub says : numbers (length xs) (written letter xs) ≡ xs

@@ -24,15 +24,13 @@ use Rattle.session.specs.Sessions.{shapeOf}
 use Rattle.session.proofs.RowLaws.{length-with-row}
 use Rattle.records.specs.Records.{putTests, putRefusal, putRecord, withBlock, blockOf}
 use Rattle.factory.proofs.Laws.{elements-pass}
-use Rattle.street_store.specs.Sizes.{openingsAt, masksAAt, masksBAt, storeRoom, recordRoom, InStreet}
-use Rattle.street_store.specs.Records.{recordAt, recordIf, kept}
+use Rattle.street_store.specs.Sizes.{openingsAt, masksAAt, masksBAt, storeRoom, recordRoom, InStreet, longestLine}
+use Rattle.street_store.specs.Records.{recordAt, recordIf, kept, recordFor}
 use Rattle.street_store.proofs.Keeping.{record-room}
 use Rattle.street_states.specs.declared.State.{State}
 use Rattle.street_states.specs.States.{After, keepingRow, keepingTriple, refusing}
-use Rattle.street_startlines.specs.Steps.{longestLine}
 use Rattle.street_postlines.specs.Steps.{heardRefusal, keepStep, keepMasksStep, keepHalvesStep, saying, hearStep}
 use Rattle.street_interpreter.specs.Stepping.{lettersStep, lateStep, step}
-use Rattle.performing.specs.Claims.{recordFor}
 use Rattle.performing.specs.Records.{Stored, StreetKeeps}
 use Rattle.performing.proofs.Heard.{line-short}
 
@@ -148,7 +146,7 @@ module _ (st : State) (i : InStreet (shapeOf (st .session))) where
       abbrev OpeningDone : After → Type 0
       OpeningDone a =
           (a .given ≡ refusing (keepingRow st row) 0)
-          × Stored st store (putRecord n (st .session .t) (recordFor st store openingsAt (st .kept) row) post xs)
+          × Stored st store (putRecord n (st .session .t) (recordFor openingsAt (shapeOf (st .session)) (st .kept) row store) post xs)
           (recordAt masksAAt (shapeOf (st .session)) store) (recordAt masksBAt (shapeOf (st .session)) store) a
 
       opening-kept : OpeningDone (keepStep st store row post xs)
@@ -203,8 +201,8 @@ module _ (st : State) (i : InStreet (shapeOf (st .session))) where
       MasksDone a =
           (a .given ≡ refusing (keepingTriple st first) 0)
           × Stored st store (recordAt openingsAt (shapeOf (st .session)) store)
-          (putRecord n (st .session .t) (recordFor st store masksAAt (st .triple) first) post xs)
-          (putRecord n (st .session .t) (recordFor st store masksBAt (st .triple) first) post ys) a
+          (putRecord n (st .session .t) (recordFor masksAAt (shapeOf (st .session)) (st .triple) first store) post xs)
+          (putRecord n (st .session .t) (recordFor masksBAt (shapeOf (st .session)) (st .triple) first store) post ys) a
 
       abbrev same : Bool
       same = eqb (st .triple) first

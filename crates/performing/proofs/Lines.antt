@@ -108,11 +108,6 @@ unfolding outcome
 unless-refusal st store zero new = refl
 unless-refusal st store (suc x) new = refl
 
-pub answer-refusal : (x v : ℕ) (new old : Session) → answer x v new old .refusal ≡ x
-unfolding outcome
-answer-refusal zero v new old = refl
-answer-refusal (suc x) v new old = refl
-
 -- a line of numbers
 module _ (lasts : List ℕ) (low : Low lasts) (k : ℕ) (s : List ℕ) where
   read-wrong : numberForm k s ≡ malformed → readRefusal lasts k s ≡ 10

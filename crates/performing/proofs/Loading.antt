@@ -18,12 +18,11 @@ use Rattle.csv.proofs.Laying.{length-written}
 use Rattle.session.specs.Sessions.{shapeOf}
 use Rattle.session.specs.Rows.{width}
 use Rattle.load.specs.Load.{loadRowAnswer, loadRowRows, loadTripleAnswer, loadTripleRows}
-use Rattle.street_store.specs.Sizes.{longestTriple, InStreet}
+use Rattle.street_store.specs.Sizes.{longestTriple, InStreet, longestLine}
 use Rattle.street_reading.specs.Numbers.{numbers, rowsBeyond, readRefusal}
 use Rattle.street_states.specs.declared.State.{State}
 use Rattle.street_states.specs.States.{After, sessionRows}
-use Rattle.street_startlines.specs.Steps.{longestLine}
-use Rattle.street_loadlines.specs.Steps.{loading, loadStep, loadingTriple, loadTripleStep}
+use Rattle.street_rowlines.specs.Loads.{loading, loadStep, loadingTriple, loadTripleStep}
 use Rattle.street_interpreter.specs.Stepping.{lettersStep, lateStep, step}
 use Rattle.performing.specs.Claims.{Does, StreetLoads}
 use Rattle.performing.proofs.Heard.{says, passes}

@@ -23,7 +23,8 @@ use Rattle.street_reading.specs.declared.StartForm.the-variants.{Settings}
 use Rattle.street_reading.specs.Starting.{dashAt, behindPosts, startForm, startOf}
 use Rattle.street_states.specs.declared.State.{State}
 use Rattle.street_states.specs.States.{After, begunWith, refusing, leaving}
-use Rattle.street_startlines.specs.Steps.{longestLine, startTests, beginStep, settingsStep, startStep, earlyStep}
+use Rattle.street_store.specs.Sizes.{longestLine}
+use Rattle.street_startlines.specs.Steps.{startTests, beginStep, settingsStep, startStep, earlyStep}
 use Rattle.street_interpreter.specs.Stepping.{lettersStep, lateStep, step}
 use Rattle.performing.specs.Lines.{TenDigits, refusalOf}
 use Rattle.performing.specs.Starting.{dashed, DashIsOne, settingsTable, Begins, StartText, StreetStarts}
@@ -208,7 +209,7 @@ module _ (st : State) (store : List ℕ) (e : st .started ≡ false) (n t post p
         triple = refl;
         store-kept = refl;
         value = refl;
-        quiet = record { told = refl; told-none = refl };
+        quiet = record { told = refl };
       })
 
 -- no other bytes

@@ -15,22 +15,21 @@ use Rattle.forms.specs.Forms.{formOf, messageOf, beyondRange}
 use Rattle.product_masks.specs.Masks.{masksRefusal, masksAnswer, maskNumbersOf}
 use Rattle.collect.specs.Collect.{collectRefusal}
 use Rattle.multiply.specs.Multiply.{multiplyRefusal}
-use Rattle.street_store.specs.Sizes.{masksAAt, masksBAt}
+use Rattle.street_store.specs.Sizes.{masksAAt, masksBAt, longestLine}
 use Rattle.street_reading.specs.Numbers.{numberForm}
 use Rattle.street_states.specs.declared.State.{State}
-use Rattle.street_states.specs.States.{Stepped, After, answering, telling, refusing, leaving, sessionRows}
-use Rattle.street_startlines.specs.Steps.{longestLine}
-use Rattle.street_loadlines.specs.Steps.{loading, loadStep, loadingTriple, loadTripleStep}
+use Rattle.street_states.specs.States.{Stepped, After, answering, refusing, leaving, sessionRows}
+use Rattle.street_rowlines.specs.Loads.{loading, loadStep, loadingTriple, loadTripleStep}
 use Rattle.street_rowlines.specs.Steps.{adding, linearStep, opening, openStep}
 use Rattle.street_postlines.specs.Steps.{heardRefusal, heard, keepStep, keepMasksStep, keepHalvesStep, saying, hearStep}
-use Rattle.street_masklines.specs.Steps.{maskLine, noMasks, masking, maskingOf, maskStep}
+use Rattle.street_finishlines.specs.Masks.{maskLine, noMasks, masking, maskingOf, maskStep}
 use Rattle.street_finishlines.specs.Steps.{masksFor, between, pairRefusal, finishing, finishStep}
 use Rattle.street_interpreter.specs.Stepping.{lettersStep, lateStep, step}
 use Rattle.performing.specs.Lines.{letters, isOneOf, Range, _to_, anyOutside, refusalOf, Letter, dealCall, loadCall, tripleCall, openCall, linearCall, masksCall, finishCall, noCall, StreetTable}
-use Rattle.performing.proofs.Lines.{elements-outside, letter-of, unless-refusal, answer-refusal, over, numbers-letter}
+use Rattle.performing.proofs.Lines.{elements-outside, letter-of, unless-refusal, over, numbers-letter}
 
 told-refusal : (x : ℕ) (v : Stepped) (store line : List ℕ)
-    → outcome x (record { given = telling v (length line); store = store; told = line }) (leaving v store) .given .refusal ≡ v .refusal
+    → outcome x (record { given = v; store = store; told = line }) (leaving v store) .given .refusal ≡ v .refusal
 unfolding outcome
 told-refusal zero v store line = refl
 told-refusal (suc x) v store line = refl

@@ -13,13 +13,12 @@ use Rattle.refusal.specs.Refusal.{outcome}
 use Rattle.session.specs.declared.Session.{Session}
 use Rattle.session.specs.Sessions.{shapeOf, answer}
 use Rattle.street_store.specs.Sizes.{openingsAt, masksAAt, masksBAt, storeRoom, recordRoom, InStreet}
-use Rattle.street_store.specs.Records.{recordIf, kept}
+use Rattle.street_store.specs.Records.{recordIf, kept, recordFor}
 use Rattle.street_store.proofs.Keeping.{record-room}
 use Rattle.street_states.specs.declared.State.{State}
 use Rattle.street_states.specs.States.{After, keepingRow, keepingTriple, refusing, leaving, sessionRows}
 use Rattle.street_postlines.specs.Steps.{keepStep, keepMasksStep}
 use Rattle.street_interpreter.specs.Stepping.{Ready}
-use Rattle.performing.specs.Claims.{recordFor}
 use Rattle.performing.specs.Records.{Stored}
 use Rattle.performing.specs.TwoLines.{recordOf, noBlocks, putInto, KeptFor, FromPost, Finds, Opens, FinishesWith, openingLine, masksLine, openLine, finishLine, OneLine, BehindOpening, BehindMasks, StreetRecords}
 use Rattle.performing.proofs.Theorems.{street-performs}
@@ -48,7 +47,7 @@ module _ (st : State) (store : List ℕ) (started : st .started ≡ true) (ready
 
   -- the record that a line finds
   found : (at last named : ℕ) (blocks : List ℕ) → at + recordRoom ≤ storeRoom → Finds st store at last named blocks
-      → blocks ≡ recordFor st store at last named
+      → blocks ≡ recordFor at (shapeOf (st .session)) last named store
   found at last named blocks place f = go (eqb last named) refl
     where
       long : length (recordOf st at store) ≡ own .n * (own .t + 2)
@@ -102,7 +101,7 @@ module _ (st : State) (store : List ℕ) (started : st .started ≡ true) (ready
           triple-is = refl;
           refusal = refl;
           value = refl;
-          quiet = record { told = refl; told-none = refl };
+          quiet = record { told = refl };
         })
 
     abbrev OpeningStored : After → Type 0
@@ -145,7 +144,7 @@ module _ (st : State) (store : List ℕ) (started : st .started ≡ true) (ready
           triple-is = refl;
           refusal = refl;
           value = refl;
-          quiet = record { told = refl; told-none = refl };
+          quiet = record { told = refl };
         })
 
     abbrev MasksStored : After → Type 0

@@ -17,12 +17,11 @@ use Rattle.csv.proofs.Overwriting.{length-fields-le}
 use Rattle.csv.proofs.Laying.{length-written}
 use Rattle.forms.specs.Lines as Lines
 use Rattle.session.specs.declared.Session.{Session}
-use Rattle.street_store.specs.Sizes.{mostMasks, streetPosts}
+use Rattle.street_store.specs.Sizes.{mostMasks, streetPosts, toldRoom}
 use Rattle.street_store.proofs.Keeping.{street-valid, v-room}
 use Rattle.street_states.specs.declared.State.{State}
 use Rattle.street_states.specs.declared.Head.{Head}
 use Rattle.street_states.specs.States.{After, Stepped, firstState, stateOf}
-use Rattle.street_masklines.specs.Steps.{toldRoom}
 use Rattle.street_interpreter.specs.declared.orders.Order.{Order}
 use Rattle.street_interpreter.specs.declared.Outcome.{Outcome}
 use Rattle.street_interpreter.specs.Orders.{Accepted, Reads, looking}
@@ -94,9 +93,6 @@ module _ (g : Shape) (h grown-head : Head) (line part line' : List ℕ) (closing
 
   pub line-prefix : length line' ≡ length line → grown-head .len ≡ length (take (grown-head .len) line')
   line-prefix m = sym (length-take-le (grown-head .len) line' (line-within m))
-
-  pub head-started : Accepted (h .started) g → Accepted (h .started) g
-  head-started x = x
 
   module _ (s : Session) (store out : List ℕ) where
     abbrev before : Running

@@ -14,16 +14,16 @@ use Rattle.shape.specs.Lengths.{rowLength, tripleLength}
 use Rattle.refusal.specs.Refusal.{outcome}
 use Rattle.refusal.proofs.Endings.{refused, accepted}
 use Rattle.session.specs.Sessions.{shapeOf}
-use Rattle.street_store.specs.Sizes.{InStreet, numbersRoom}
+use Rattle.street_store.specs.Sizes.{InStreet, numbersRoom, longestLine}
 use Rattle.street_store.proofs.Keeping.{row-room}
 use Rattle.street_reading.specs.Numbers.{numbers, elementsRefusal, readRefusal}
 use Rattle.street_reading.proofs.Scanned.{read-numbers}
 use Rattle.street_states.specs.declared.State.{State}
 use Rattle.street_states.specs.States.{After, refusing, leaving, unless}
-use Rattle.street_startlines.specs.Steps.{longestLine, earlyStep}
-use Rattle.street_loadlines.specs.Steps.{loading, loadStep, loadingTriple, loadTripleStep}
+use Rattle.street_startlines.specs.Steps.{earlyStep}
+use Rattle.street_rowlines.specs.Loads.{loading, loadStep, loadingTriple, loadTripleStep}
 use Rattle.street_rowlines.specs.Steps.{adding, linearStep, opening, openStep}
-use Rattle.street_masklines.specs.Steps.{maskingOf, maskStep}
+use Rattle.street_finishlines.specs.Masks.{maskingOf, maskStep}
 use Rattle.street_finishlines.specs.Steps.{finishing, finishStep}
 use Rattle.street_reading.specs.Starting.{isStart}
 use Rattle.street_interpreter.specs.declared.orders.Order.{Order}

@@ -19,9 +19,9 @@ use Rattle.street_store.specs.Sizes.{InStreet}
 use Rattle.street_states.specs.declared.State.{State}
 use Rattle.street_states.specs.States.{After, refusing, leaving}
 use Rattle.street_startlines.specs.Steps.{startStep}
-use Rattle.street_loadlines.specs.Steps.{loading, loadingTriple}
+use Rattle.street_rowlines.specs.Loads.{loading, loadingTriple}
 use Rattle.street_rowlines.specs.Steps.{adding, opening}
-use Rattle.street_masklines.specs.Steps.{maskingOf, maskStep}
+use Rattle.street_finishlines.specs.Masks.{maskingOf, maskStep}
 use Rattle.street_finishlines.specs.Steps.{finishing}
 use Rattle.street_postlines.specs.Steps.{dealing, keepStep, keepHalvesStep}
 use Rattle.street_interpreter.specs.declared.orders.Order.{Order}

@@ -2,20 +2,20 @@
 use Prim.Native.Nat.{ℕ}
 use mathlib.Core.Path.{_≡_}
 use mathlib.Core.List.{List, [], _∷_}
-use mathlib.Core.Bool.{true, not, cond}
+use mathlib.Core.Bool.{true, cond}
 use lib.ListN.{length, getD}
 use lib.Dec.{eqb, ltb}
 use Rattle.refusal.specs.Refusal.{_when_, first, orElse}
 use Rattle.refusal.specs.Conditions.{wrongLength, stationTests}
 use Rattle.forms.specs.Forms.{isLetter}
 use Rattle.session.specs.Sessions.{shapeOf}
-use Rattle.street_store.specs.Sizes.{streetPosts, storeRoom, InStreet}
+use Rattle.street_store.specs.Sizes.{streetPosts, storeRoom, InStreet, longestLine}
 use Rattle.street_states.specs.declared.State.{State}
-use Rattle.street_states.specs.States.{After, refusing, leaving, unless}
-use Rattle.street_startlines.specs.Steps.{longestLine, earlyStep}
-use Rattle.street_loadlines.specs.Steps.{loadStep, loadTripleStep}
+use Rattle.street_states.specs.States.{After, refusing, leaving}
+use Rattle.street_startlines.specs.Steps.{earlyStep}
+use Rattle.street_rowlines.specs.Loads.{loadStep, loadTripleStep}
 use Rattle.street_rowlines.specs.Steps.{linearStep, openStep}
-use Rattle.street_masklines.specs.Steps.{toldRoom, maskStep}
+use Rattle.street_finishlines.specs.Masks.{maskStep}
 use Rattle.street_finishlines.specs.Steps.{finishStep}
 use Rattle.street_postlines.specs.Steps.{hearStep}
 
@@ -55,10 +55,3 @@ stationRefusal st =
 
 unfoldable pub roomRefusal : State → List ℕ → ℕ
 roomRefusal st store = orElse (stationRefusal st) (first (5 when wrongLength store storeRoom ∷ []))
-
--- 5 too of the room for what an `X` prints.
-unfoldable pub stepRefusal : State → List ℕ → ℕ → ℕ
-stepRefusal st store room = orElse (roomRefusal st store) (first (5 when not (eqb room toldRoom) ∷ []))
-
-unfoldable pub checkedStep : State → List ℕ → List ℕ → ℕ → After
-checkedStep st store s room = unless (stepRefusal st store room) st store (step st store s)

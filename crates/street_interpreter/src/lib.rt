@@ -60,14 +60,14 @@ pub fn change(
         b'D' => street_postlines::deal(session, store, order.row, numbers[0]),
         b'R' => {
             let count = 1 + shape.row_len();
-            street_loadlines::load_row(session, store, &numbers[..count])
+            street_rowlines::loads::load_row(session, store, &numbers[..count])
         }
         b'T' => {
             let count = 1 + shape.triple_len();
-            street_loadlines::load_triple(session, store, &numbers[..count])
+            street_rowlines::loads::load_triple(session, store, &numbers[..count])
         }
         b'L' => street_rowlines::add(session, store, numbers),
-        b'X' => street_masklines::mask(session, store, numbers, masks),
+        b'X' => street_finishlines::masks::mask(session, store, numbers, masks),
         b'F' => street_finishlines::finish(
             session,
             store,

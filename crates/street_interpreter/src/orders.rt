@@ -130,7 +130,7 @@ fn late(shape: Shape, line: &[u8], numbers: &mut [u32]) -> Order
     requires { ⌜ InStreet shape × (length (now numbers) ≡ numbersRoom) ⌝ }
     ensures { λ r. ⌜ Leads shape (now (line .entry)) r (now (numbers .exit)) (lated (now (line .entry))) ⌝ }
 {
-    if street_startlines::LONGEST_LINE < line.len() {
+    if street_store::LONGEST_LINE < line.len() {
         return refused(10);
     }
     if line.len() < 1 {

@@ -14,7 +14,7 @@ use Rattle.session.specs.declared.Session.{Session}
 use Rattle.session.specs.declared.Answer.{Answer}
 use Rattle.session.specs.Sessions.{shapeOf}
 use Rattle.deal.specs.Deal.{dealAnswer, dealRows}
-use Rattle.street_store.specs.Sizes.{InStreet, recordRoom, openingsAt, masksAAt, masksBAt, storeRoom}
+use Rattle.street_store.specs.Sizes.{InStreet, recordRoom, masksAAt, masksBAt, storeRoom}
 use Rattle.street_store.specs.Records.{kept}
 use Rattle.street_store.proofs.Keeping.{v-room}
 use Rattle.street_states.specs.States.{rowsOf, withRows}
@@ -28,9 +28,6 @@ module _ (s : Session) (store : List ℕ) (end : ℕ) (e : end ≡ rowsLength (s
   deal-rows part q = rw (q, e)
 
 -- ---- where the records stand
-pub store-within : (store : List ℕ) → length store ≡ storeRoom → openingsAt + recordRoom ≤ length store
-store-within store e = omega arith
-
 pub store-within-a : (store : List ℕ) → length store ≡ storeRoom → masksAAt + recordRoom ≤ length store
 store-within-a store e = omega arith
 

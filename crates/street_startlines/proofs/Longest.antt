@@ -10,9 +10,8 @@ use Rattle.decimal.proofs.Sizes.{size-grows}
 use Rattle.csv.specs.Fields.{field, fields, written}
 use Rattle.csv.proofs.Overwriting.{length-field, length-fields-le}
 use Rattle.csv.proofs.Laying.{length-written}
-use Rattle.street_store.specs.Sizes.{longestTriple}
+use Rattle.street_store.specs.Sizes.{longestTriple, longestLoad, longestLine}
 use Rattle.street_store.proofs.Keeping.{row-room}
-use Rattle.street_startlines.specs.Steps.{longestLoad, longestLine}
 use Rattle.street_startlines.specs.Table.{LongestLine}
 
 one-field : (x : ℕ) → length (fields (x ∷ [])) ≡ suc (size x)

@@ -18,14 +18,13 @@ use Rattle.refusal.proofs.Ranges.{points-good}
 use Rattle.session.specs.Sessions.{answer, holding, asMany, noPoints, sessionTests, sessionOf, created}
 use Rattle.session.specs.declared.Session.{Session}
 use Rattle.session.specs.declared.Answer.{Answer}
-use Rattle.street_store.specs.Sizes.{streetPosts}
+use Rattle.street_store.specs.Sizes.{streetPosts, longestLine}
 use Rattle.street_reading.specs.declared.StartForm.{StartForm}
 use Rattle.street_reading.specs.declared.StartForm.the-variants.{Settings, Wrong}
 use Rattle.street_reading.specs.Starting.{startSaid}
 use Rattle.street_states.specs.declared.State.{State}
-use Rattle.street_states.specs.States.{Stepped}
-use Rattle.street_states.specs.States.{begunWith, refusing, settled}
-use Rattle.street_startlines.specs.Steps.{startTests, settingsStep, startStep, longestLine}
+use Rattle.street_states.specs.States.{Stepped, begunWith, refusing, settled}
+use Rattle.street_startlines.specs.Steps.{startTests, settingsStep, startStep}
 use Rattle.street_startlines.specs.Between.{beginAnswer, settingsAnswer, startAnswer}
 use Rattle.street_states.proofs.Building.{refused-session}
 
@@ -135,7 +134,6 @@ module _ (st : State) (n : st .started ≡ false) where
         state = record { session = settled (st .session) a .session; started = eqb (settled (st .session) a .refusal) 0; kept = st .kept; triple = st .triple };
         refusal = settled (st .session) a .refusal;
         value = 0;
-        told = 0;
       }
 
   kept-out : (x : ℕ) → (x ≡ 0 → ⊥) → begunBy (holding x 0 unmade) ≡ refusing st x

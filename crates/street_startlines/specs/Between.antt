@@ -8,10 +8,11 @@ use Rattle.shape.specs.declared.Points.{Points}
 use Rattle.refusal.specs.Refusal.{first}
 use Rattle.session.specs.declared.Answer.{Answer}
 use Rattle.session.specs.Sessions.{asMany, noPoints, sessionOf, holding, answer}
+use Rattle.street_store.specs.Sizes.{longestLine}
 use Rattle.street_reading.specs.declared.StartForm.{StartForm}
 use Rattle.street_reading.specs.declared.StartForm.the-variants.{Settings, Wrong}
 use Rattle.street_reading.specs.Starting.{startSaid}
-use Rattle.street_startlines.specs.Steps.{longestLine, startTests}
+use Rattle.street_startlines.specs.Steps.{startTests}
 
 abbrev pub beginAnswer : ℕ → ℕ → ℕ → ℕ → Points → Answer
 beginAnswer n t post points w =

@@ -1,5 +1,5 @@
 -- Document 01, "The street program": `S` lines, and the lines before one is accepted. Document 02, (ix): `W` lines, "by all the rules of an `S`".
-use Prim.Native.Nat.{ℕ, _+_, _*_}
+use Prim.Native.Nat.{ℕ}
 use mathlib.Core.List.{List, _∷_}
 use mathlib.Core.Bool.{cond}
 use lib.ListN.{length}
@@ -7,21 +7,12 @@ use lib.Dec.{ltb}
 use Rattle.shape.specs.declared.Points.{Points}
 use Rattle.refusal.specs.Refusal.{Test, _when_, first, outcome}
 use Rattle.session.specs.Sessions.{asMany, sessionTests, sessionOf}
-use Rattle.street_store.specs.Sizes.{streetPosts, longestTriple}
+use Rattle.street_store.specs.Sizes.{streetPosts, longestLine}
 use Rattle.street_reading.specs.declared.StartForm.{StartForm}
 use Rattle.street_reading.specs.declared.StartForm.the-variants.{Settings, Wrong}
 use Rattle.street_reading.specs.Starting.{isStart, startSaid}
 use Rattle.street_states.specs.declared.State.{State}
-use Rattle.street_states.specs.States.{Stepped}
-use Rattle.street_states.specs.States.{begunWith, refusing}
-
--- Document 02, (ix): "the program's lines go up to 5,252 bytes". A `T` with k numbers behind its first row: letter, comma and two digits, a comma and
--- ten digits for each number, line feed; and the longest of the largest station.
-abbrev pub longestLoad : ℕ → ℕ
-longestLoad k = 5 + 11 * k
-
-abbrev pub longestLine : ℕ
-longestLine = longestLoad longestTriple
+use Rattle.street_states.specs.States.{Stepped, begunWith, refusing}
 
 -- "an `S` gets 10, then 1 to 4", and document 02, (ii): "The street program stays at 32 and gives 1 above that."
 abbrev pub startTests : ℕ → ℕ → ℕ → ℕ → Points → List Test

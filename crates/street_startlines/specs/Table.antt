@@ -14,8 +14,8 @@ use Rattle.shape.specs.Lengths.{tripleLength}
 use Rattle.refusal.specs.Refusal.{Test, _when_, first}
 use Rattle.refusal.specs.Conditions.{outside}
 use Rattle.csv.specs.Fields.{written}
-use Rattle.street_store.specs.Sizes.{longestTriple, InStreet}
-use Rattle.street_startlines.specs.Steps.{longestLine, startTests}
+use Rattle.street_store.specs.Sizes.{longestTriple, longestLine, InStreet}
+use Rattle.street_startlines.specs.Steps.{startTests}
 
 abbrev pub startTable : ℕ → ℕ → ℕ → ℕ → Points → List Test
 startTable n t post points w =

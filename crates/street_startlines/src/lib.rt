@@ -10,9 +10,6 @@ ghost use Rattle.field.specs.Modulus.{p};
 ghost use Rattle.session.specs.Sessions.{noPoints, sessionOf, holding};
 ghost use Rattle.street_startlines.specs.Between.{beginAnswer, startAnswer};
 
-// No line of the program is longer, with its line feed: a `T` of the largest station, with a first row of two digits and numbers of ten.
-pub const LONGEST_LINE: usize = 5 + 11 * street_store::LONGEST_TRIPLE;
-
 // A number as an element, or p, which is none.
 fn narrow(x: u64) -> u32
     ensures { λ r. ⌜ r ≡ cond (ltb x p) x p ⌝ }
@@ -55,7 +52,7 @@ fn begin(n: u64, t: u64, post: u64, points: usize, first: u64, second: u64) -> A
 pub fn start(line: &[u8]) -> Answer
     ensures { λ r. ⌜ r ≡ startAnswer (now (line .entry)) ⌝ }
 {
-    if LONGEST_LINE < line.len() {
+    if street_store::LONGEST_LINE < line.len() {
         return refused(10);
     }
     let form = street_reading::start::scan_start(line);

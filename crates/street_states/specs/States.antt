@@ -27,24 +27,19 @@ keepingRow st row = record { session = st .session; started = st .started; kept 
 abbrev pub keepingTriple : State → ℕ → State
 keepingTriple st first = record { session = st .session; started = st .started; kept = st .kept; triple = first }
 
--- The answer to a line, and the state after it: so many bytes of an `M` line are printed behind the answer.
+-- The answer to a line, and the state after it.
 pub record Stepped : Type 0 where
   pub state : State
   pub refusal : ℕ
   pub value : ℕ
-  pub told : ℕ
 
 -- What a refused line leaves: the state as it was.
 abbrev pub refusing : State → ℕ → Stepped
-refusing st refusal = record { state = st; refusal = refusal; value = 0; told = 0 }
+refusing st refusal = record { state = st; refusal = refusal; value = 0 }
 
 -- What a call's answer makes of the state.
 abbrev pub answering : State → Answer → Stepped
-answering st a = record { state = withSession st (a .session); refusal = a .refusal; value = a .value; told = 0 }
-
--- The same, with a line of so many bytes that is printed behind the answer.
-abbrev pub telling : Stepped → ℕ → Stepped
-telling v told = record { state = v .state; refusal = v .refusal; value = v .value; told = told }
+answering st a = record { state = withSession st (a .session); refusal = a .refusal; value = a .value }
 
 -- The answer, with the store afterwards and the line that is printed behind the answer, [] for none.
 pub record After : Type 0 where

@@ -26,6 +26,12 @@ pub const NUMBERS_ROOM: usize = 1 + LONGEST_TRIPLE;
 // Its most masks: two messages.
 pub const MOST_MASKS: usize = 2 * LONGEST_V;
 
+// Room for what an `X` prints: a letter, row and post, the masks, a line feed.
+pub const TOLD_ROOM: usize = 2 + 11 * (2 + MOST_MASKS);
+
+// No line of the program is longer, with its line feed: a `T` of the largest station, with a first row of two digits and numbers of ten.
+pub const LONGEST_LINE: usize = 5 + 11 * LONGEST_TRIPLE;
+
 // Room for the rows of the largest session, and for a record.
 pub const ROWS_ROOM: usize = shape::ROWS * LONGEST_ROW;
 
@@ -39,6 +45,16 @@ pub const MASKS_A_AT: usize = OPENINGS_AT + RECORD_ROOM;
 pub const MASKS_B_AT: usize = MASKS_A_AT + RECORD_ROOM;
 
 pub const STORE_ROOM: usize = MASKS_B_AT + RECORD_ROOM;
+
+// The bytes of `from`, into `to`: of a line, or of an answer.
+pub fn copy_bytes(from: &[u8], to: &mut [u8])
+    requires { ⌜ length (now from) ≡ length (now to) ⌝ }
+    ensures { λ r. ⌜ now (to .exit) ≡ now (from .entry) ⌝ }
+{
+    for i in 0..from.len() {
+        to[i] = from[i];
+    }
+}
 
 // The record is emptied, unless it is kept for what a line names.
 fn empty_unless(blocks: &mut [u32], same: bool)

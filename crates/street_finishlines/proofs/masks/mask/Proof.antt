@@ -1,9 +1,9 @@
 -- `mask` meets its contract.
 use borrow.Author.Needs.{needs}
 use Rattle.street_states.proofs.Calling.{shape-valid, rows-in, rows-prefix, masks-in, masks-prefix, masks-length}
-use Rattle.street_masklines.proofs.Masking.{rows-stop, masked}
-use Rattle.street_masklines.proofs.mask.Statement.{statement}
-use Rattle.street_masklines.proofs.mask.Tie as tie
+use Rattle.street_finishlines.proofs.Masking.{rows-stop, masked}
+use Rattle.street_finishlines.proofs.masks.mask.Statement.{statement}
+use Rattle.street_finishlines.proofs.masks.mask.Tie as tie
 
 ruleset ends = (needs, shape-valid, rows-in, rows-prefix, masks-in, masks-prefix, masks-length, rows-stop, masked)
 

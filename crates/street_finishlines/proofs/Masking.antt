@@ -3,11 +3,9 @@ use Prim.Native.Nat.{ℕ, zero, suc, _≤_}
 use mathlib.Core.Path.{_≡_, refl, ap, sym, _∙_}
 use mathlib.Core.List.{List, _++_}
 use native.Mathlib.Omega.{arith}
-use borrow.Author.Tests.{ltb-false}
 use lib.ListN.{length, getD, take, drop, replicate, length-replicate}
 use lib.Seq.{take-at, length-take-le}
 use Rattle.shape.specs.declared.Shape.{Shape}
-use Rattle.shape.specs.Bounds.{lastTriple}
 use Rattle.shape.specs.Lengths.{rowsLength, masksLength}
 use Rattle.refusal.specs.Refusal.{outcome}
 use Rattle.refusal.proofs.Laws.{all-fail, inside}
@@ -18,15 +16,11 @@ use Rattle.product_masks.specs.Masks.{masksTests, masksRefusal, masksAnswer, ma
 use Rattle.street_store.specs.Sizes.{InStreet, streetPosts, mostMasks}
 use Rattle.street_store.proofs.Keeping.{v-room}
 use Rattle.street_states.specs.States.{rowsOf}
-use Rattle.street_masklines.specs.Between.{Masked}
+use Rattle.street_states.proofs.Calling.{answer-refusal}
+use Rattle.street_finishlines.specs.Between.{Masked}
 
 pub rows-stop : (g h : Shape) (r : ℕ) → g ≡ h → r ≡ rowsLength g → r ≡ rowsLength h
 rows-stop g h r d e = e ∙ ap rowsLength d
-
-answer-refusal : (x : ℕ) (new old : Session) → answer x 0 new old .refusal ≡ x
-unfolding outcome
-answer-refusal zero new old = refl
-answer-refusal (suc k) new old = refl
 
 -- of the lent list the tests ask the length alone
 same-room : (s : Session) (rows out out' : List ℕ) (a b r : ℕ) → length out ≡ length out' → masksRefusal s rows a b r out ≡ masksRefusal s rows a b r out'
@@ -53,7 +47,7 @@ module _ (s : Session) (i : InStreet (shapeOf s)) (store masks xs : List ℕ) (g
     rows = rowsOf s store
 
     refusal-is : ans .refusal ≡ masksRefusal s rows a b first (take count masks)
-    refusal-is = ap (λ (x : Answer). x .refusal) u ∙ answer-refusal _ _ s ∙ rw end-is
+    refusal-is = ap (λ (x : Answer). x .refusal) u ∙ answer-refusal _ 0 _ s ∙ rw end-is
 
     few : count ≤ length masks
     few = omega (arith, count-is, l, v-room (shapeOf s) i)
@@ -63,10 +57,6 @@ module _ (s : Session) (i : InStreet (shapeOf s)) (store masks xs : List ℕ) (g
 
     none : ans .refusal ≡ 0 → masksRefusal s rows a b first (take count masks) ≡ 0
     none z = sym refusal-is ∙ z
-
-    first-low : ans .refusal ≡ 0 → first ≤ lastTriple
-    unfolding masksRefusal
-    first-low z = let t = all-fail (masksTests s rows a b first (take count masks)) tt (none z) in ltb-false lastTriple first (t .1 .1 .1 .1 .1 .1 .1 .1 .0)
 
     post-low : ans .refusal ≡ 0 → s .post ≤ streetPosts
     unfolding masksRefusal
@@ -85,6 +75,5 @@ module _ (s : Session) (i : InStreet (shapeOf s)) (store masks xs : List ℕ) (g
         (record {
           answer-is = u ∙ rw (end-is, same-room s rows (take count masks) (replicate (masksLength (shapeOf s)) 0) a b first room);
           made = front m;
-          first-in = first-low;
           post-in = post-low;
         })

@@ -1,9 +1,9 @@
 -- `load_row` meets its contract.
 use borrow.Author.Needs.{needs}
 use Rattle.street_states.proofs.Calling.{rows-in, rows-prefix}
-use Rattle.street_loadlines.proofs.Packing.{row-answer, row-rows}
-use Rattle.street_loadlines.proofs.load_row.Statement.{statement}
-use Rattle.street_loadlines.proofs.load_row.Tie as tie
+use Rattle.street_rowlines.proofs.Packing.{row-answer, row-rows}
+use Rattle.street_rowlines.proofs.loads.load_row.Statement.{statement}
+use Rattle.street_rowlines.proofs.loads.load_row.Tie as tie
 
 ruleset ends = (needs, rows-in, rows-prefix, row-answer, row-rows)
 

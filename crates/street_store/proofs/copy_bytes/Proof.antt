@@ -1,10 +1,10 @@
--- `copy` meets its contract: the first i bytes are written (`Filled`).
+-- `copy_bytes` meets its contract: the first i bytes are written (`Filled`).
 use Prim.Native.Nat.{_-_}
 use lib.ListN.{length}
 use borrow.Author.Needs.{needs}
 use Rattle.lists.proofs.Filled.{Filled, filled-more, filled-end}
-use Rattle.street_answers.proofs.copy.Statement.{statement}
-use Rattle.street_answers.proofs.copy.Tie as tie
+use Rattle.street_store.proofs.copy_bytes.Statement.{statement}
+use Rattle.street_store.proofs.copy_bytes.Tie as tie
 
 abbrev Inv-loop : tie.InvT-loop
 Inv-loop from to₀ i₀ i-end to i = Filled from to₀ i to
@@ -14,8 +14,8 @@ abbrev μ-loop : tie.MeasureT-loop
 
 ruleset turns = (needs, filled-more, filled-end)
 
-pub copy-spec : {M : Type 1} → statement M
-copy-spec =
+pub copy-bytes-spec : {M : Type 1} → statement M
+copy-bytes-spec =
     tie.close
     (tie.spec Inv-loop μ-loop (λ c. search needs) (λ c. search needs) (λ c. search needs)
     (λ c. search needs) (λ c. search needs) (λ c. search turns) (λ c. search needs) (λ c. search turns))

@@ -1,21 +1,16 @@
 -- Document 02, (iii): "`X,a,b,first`, which makes the masks". "X, when not refused, also prints its M line, after its answer."
-use Prim.Native.Nat.{ℕ, _+_, _*_}
+use Prim.Native.Nat.{ℕ}
 use mathlib.Core.List.{List, [], _∷_}
-use lib.ListN.{length, getD, replicate}
+use lib.ListN.{getD, replicate}
 use Rattle.shape.specs.Bounds.{lastRow, lastTriple}
 use Rattle.shape.specs.Lengths.{masksLength}
 use Rattle.refusal.specs.Refusal.{outcome}
 use Rattle.forms.specs.Lines as Lines
 use Rattle.session.specs.Sessions.{shapeOf, answer}
 use Rattle.product_masks.specs.Masks.{masksRefusal, masksAnswer, maskNumbersOf}
-use Rattle.street_store.specs.Sizes.{mostMasks}
 use Rattle.street_reading.specs.Numbers.{numbers, readRefusal}
 use Rattle.street_states.specs.declared.State.{State}
-use Rattle.street_states.specs.States.{After, answering, telling, leaving, unless, sessionRows}
-
--- Room for the longest line that is printed: a letter, row and post, the masks, a line feed.
-abbrev pub toldRoom : ℕ
-toldRoom = 2 + 11 * (2 + mostMasks)
+use Rattle.street_states.specs.States.{After, answering, leaving, unless, sessionRows}
 
 -- ---- "`X,a,b,first`"
 -- the M line, as the writer of broadcast lines has it
@@ -31,7 +26,7 @@ masking st store a b first =
     let answer = answering st (masksAnswer (st .session) (sessionRows st store) a b first (noMasks st)) in
     let line = maskLine st first (maskNumbersOf (st .session) (sessionRows st store) a b first) in
     outcome (masksRefusal (st .session) (sessionRows st store) a b first (noMasks st))
-    (record { given = telling answer (length line); store = store; told = line })
+    (record { given = answer; store = store; told = line })
     (leaving answer store)
 
 unfoldable pub maskingOf : State → List ℕ → List ℕ → After

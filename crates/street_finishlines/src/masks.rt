@@ -6,10 +6,7 @@ ghost use Prim.Native.Nat.{_≤_};
 ghost use lib.ListN.{length, getD};
 ghost use Rattle.session.specs.Sessions.{shapeOf};
 ghost use Rattle.street_store.specs.Sizes.{InStreet, storeRoom, mostMasks};
-ghost use Rattle.street_masklines.specs.Between.{Masked};
-
-// Room for what an `X` prints: a letter, row and post, the masks, a line feed.
-pub const TOLD_ROOM: usize = 2 + 11 * (2 + street_store::MOST_MASKS);
+ghost use Rattle.street_finishlines.specs.Between.{Masked};
 
 // The masks of the triple and for the rows that three numbers name, made at the start of a lent list.
 pub fn mask(session: Session, store: &[u32], numbers: &[u32], masks: &mut [u32]) -> Answer

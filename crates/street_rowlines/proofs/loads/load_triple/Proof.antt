@@ -1,9 +1,9 @@
 -- `load_triple` meets its contract.
 use borrow.Author.Needs.{needs}
 use Rattle.street_states.proofs.Calling.{rows-in, rows-prefix}
-use Rattle.street_loadlines.proofs.Packing.{triple-answer, triple-rows}
-use Rattle.street_loadlines.proofs.load_triple.Statement.{statement}
-use Rattle.street_loadlines.proofs.load_triple.Tie as tie
+use Rattle.street_rowlines.proofs.Packing.{triple-answer, triple-rows}
+use Rattle.street_rowlines.proofs.loads.load_triple.Statement.{statement}
+use Rattle.street_rowlines.proofs.loads.load_triple.Tie as tie
 
 ruleset ends = (needs, rows-in, rows-prefix, triple-answer, triple-rows)
 
