@@ -6,6 +6,7 @@ ghost use lib.ListN.{length, take};
 ghost use Rattle.forms.specs.Lines as Lines;
 ghost use Rattle.street_store.specs.Sizes.{streetPosts, mostMasks, toldRoom};
 ghost use Rattle.csv.specs.Fields.{overwrite};
+ghost use Rattle.street_answers.specs.Between.{endText, longestEnd};
 ghost use Rattle.street_answers.specs.Text.{header, longSize, longNumeral, answerText, longestAnswer, printText, longestPrint};
 
 // No more is printed for a line: its answer, and what an `X` prints behind it.
@@ -41,6 +42,42 @@ fn put_number(out: &mut [u8], at: usize, x: u64) -> usize
     end
 }
 
+// Behind a line's number: the refusal, the number opened and the line feed, whatever they are.
+fn put_fields(out: &mut [u8], at: usize, refusal: u8, value: u32) -> usize
+    requires { ⌜ at + longestEnd ≤ length (now out) ⌝ }
+    ensures { λ r. ⌜ (r ≡ at + length (endText refusal value)) × (now (out .exit) ≡ overwrite at (endText refusal value) (now (out .entry))) ⌝ }
+{
+    let list = [refusal as u32, value];
+    let end = csv::put_fields(out, at, &list);
+    out[end] = b'\n';
+    end + 1
+}
+
+// The same for most lines: the refusal has one digit, and no number is opened.
+fn put_digit(out: &mut [u8], at: usize, refusal: u8) -> usize
+    requires { ⌜ (at + longestEnd ≤ length (now out)) × (refusal ≤ 9) ⌝ }
+    ensures { λ r. ⌜ (r ≡ at + length (endText refusal 0)) × (now (out .exit) ≡ overwrite at (endText refusal 0) (now (out .entry))) ⌝ }
+{
+    let text = [b',', b'0' + refusal, b',', b'0', b'\n'];
+    let end = at + 5;
+    street_store::copy_bytes(&text, &mut out[at..end]);
+    end
+}
+
+// The same for any line.
+fn put_end(out: &mut [u8], at: usize, refusal: u8, value: u32) -> usize
+    requires { ⌜ at + longestEnd ≤ length (now out) ⌝ }
+    ensures { λ r. ⌜ (r ≡ at + length (endText refusal value)) × (now (out .exit) ≡ overwrite at (endText refusal value) (now (out .entry))) ⌝ }
+{
+    if value != 0 {
+        return put_fields(out, at, refusal, value);
+    }
+    if 9 < refusal {
+        return put_fields(out, at, refusal, value);
+    }
+    put_digit(out, at, refusal)
+}
+
 // An answer from a position on; the position behind.
 fn put_answer(out: &mut [u8], at: usize, number: u64, refusal: u8, value: u32) -> usize
     requires { ⌜ at + longestAnswer ≤ length (now out) ⌝ }
@@ -48,10 +85,7 @@ fn put_answer(out: &mut [u8], at: usize, number: u64, refusal: u8, value: u32) -
         × (now (out .exit) ≡ overwrite at (answerText number refusal value) (now (out .entry))) ⌝ }
 {
     let behind = put_number(out, at, number);
-    let list = [refusal as u32, value];
-    let end = csv::put_fields(out, behind, &list);
-    out[end] = b'\n';
-    end + 1
+    put_end(out, behind, refusal, value)
 }
 
 // The answer to a line that prints nothing else, from a position on; the position behind.
