@@ -20,13 +20,17 @@ module _ (p : Party) (kinds draws : List ℕ) (given : Given p kinds draws) (end
     lent-room = record { post = given .post; rows = given .rows; drawn = given .drawn; place = lent-length ∙ e }
 
   pub few-length : p .shape .n ≤ fewPosts → length room ≡ 3 * shortRow → end ≡ length (take end room)
-  few-length h s = sym (lent-length (3 * shortRow) s (omega (arith, given .post .valid .t-in)))
+  few-length h s = sym (lent-length (3 * shortRow) s (omega (arith, given .post .valid .t-in, given .post .valid .reach-in, given .post .valid .checks-in)))
 
   pub few-room : p .shape .n ≤ fewPosts → length room ≡ 3 * shortRow → FileRoom p kinds draws (take end room)
-  few-room h s = lent-room (3 * shortRow) s (omega (arith, given .post .valid .t-in))
+  few-room h s = lent-room (3 * shortRow) s (omega (arith, given .post .valid .t-in, given .post .valid .reach-in, given .post .valid .checks-in))
 
   pub most-length : length room ≡ 3 * longestRow → end ≡ length (take end room)
-  most-length s = sym (lent-length (3 * longestRow) s (omega (arith, given .post .valid .n-in, given .post .valid .t-in)))
+  most-length s = sym (lent-length (3 * longestRow) s (omega (arith, given .post .valid .n-in, given .post .valid .t-in, given .post .valid .reach-in, given .post .valid .checks-in)))
 
   pub most-room : length room ≡ 3 * longestRow → FileRoom p kinds draws (take end room)
-  most-room s = lent-room (3 * longestRow) s (omega (arith, given .post .valid .n-in, given .post .valid .t-in))
+  most-room s = lent-room (3 * longestRow) s (omega (arith, given .post .valid .n-in, given .post .valid .t-in, given .post .valid .reach-in, given .post .valid .checks-in))
+
+-- a room that was written to is as long as before
+pub room-again : (p : Party) (kinds draws room new : List ℕ) → FileRoom p kinds draws room → length new ≡ length room → FileRoom p kinds draws new
+room-again p kinds draws room new h e = record { post = h .post; rows = h .rows; drawn = h .drawn; place = e ∙ h .place }

@@ -13,13 +13,13 @@ use Rattle.packfile.specs.Table.{packTable}
 
 -- The answer: the file's length, or the refusal and 0. The list: the file at its start and the rest untouched, or as it came.
 pub record PackLawful : Type 0 where
-  pub refusal : (n t post : ℕ) (points kinds draws : List ℕ) (room : ℕ)
-      → packRefusal n t post points kinds draws room ≡ first (packTable n t post points kinds draws room)
-  pub answer : (n t post : ℕ) (points kinds draws out : List ℕ)
-      → Keeps {A = Written} (packTable n t post points kinds draws (length out))
-      (record { refusal = 0; len = length (file (postAt n t post points) kinds draws) })
-      (record { refusal = first (packTable n t post points kinds draws (length out)); len = 0 })
-      (writtenAs (packRefusal n t post points kinds draws (length out)) (file (postAt n t post points) kinds draws))
-  pub list : (n t post : ℕ) (points kinds draws out : List ℕ)
-      → Keeps (packTable n t post points kinds draws (length out)) (overwrite 0 (file (postAt n t post points) kinds draws) out) out
-      (partAs (packRefusal n t post points kinds draws (length out)) (file (postAt n t post points) kinds draws) out)
+  pub refusal : (n t post points : ℕ) (ws kinds draws : List ℕ) (room : ℕ)
+      → packRefusal n t post points ws kinds draws room ≡ first (packTable n t post points ws kinds draws room)
+  pub answer : (n t post points : ℕ) (ws kinds draws out : List ℕ)
+      → Keeps {A = Written} (packTable n t post points ws kinds draws (length out))
+      (record { refusal = 0; len = length (file (postAt n t post points ws) kinds draws) })
+      (record { refusal = first (packTable n t post points ws kinds draws (length out)); len = 0 })
+      (writtenAs (packRefusal n t post points ws kinds draws (length out)) (file (postAt n t post points ws) kinds draws))
+  pub list : (n t post points : ℕ) (ws kinds draws out : List ℕ)
+      → Keeps (packTable n t post points ws kinds draws (length out)) (overwrite 0 (file (postAt n t post points ws) kinds draws) out) out
+      (partAs (packRefusal n t post points ws kinds draws (length out)) (file (postAt n t post points ws) kinds draws) out)

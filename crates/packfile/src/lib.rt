@@ -79,29 +79,34 @@ fn write_given(party: Party, kinds: &[u8], draws: &[u32], out: &mut [u8]) -> Wri
     write_most(party, kinds, draws, out)
 }
 
-// A post's file: its `S` line, then `R` and `T` lines by rising row. The value is the file's length.
+// A post's file: its `S` or `W` line, then `R` and `T` lines by rising row. The value is the file's length.
 pub fn write(
     n: usize,
     t: usize,
     post: usize,
-    points: &[u32],
+    points: usize,
+    ws: &[u32],
     kinds: &[u8],
     draws: &[u32],
     out: &mut [u8],
 ) -> Written
     ensures { λ r. ⌜ r ≡ writtenAs
-        (packRefusal n t post (now (points .entry)) (now (kinds .entry)) (now (draws .entry)) (length (now (out .entry))))
-        (file (postAt n t post (now (points .entry))) (now (kinds .entry)) (now (draws .entry))) ⌝ }
+        (packRefusal n t post points (now (ws .entry)) (now (kinds .entry)) (now (draws .entry)) (length (now (out .entry))))
+        (file (postAt n t post points (now (ws .entry))) (now (kinds .entry)) (now (draws .entry))) ⌝ }
     ensures { λ r. ⌜ now (out .exit) ≡ partAs
-        (packRefusal n t post (now (points .entry)) (now (kinds .entry)) (now (draws .entry)) (length (now (out .entry))))
-        (file (postAt n t post (now (points .entry))) (now (kinds .entry)) (now (draws .entry))) (now (out .entry)) ⌝ }
+        (packRefusal n t post points (now (ws .entry)) (now (kinds .entry)) (now (draws .entry)) (length (now (out .entry))))
+        (file (postAt n t post points (now (ws .entry))) (now (kinds .entry)) (now (draws .entry))) (now (out .entry)) ⌝ }
 {
-    let refusal = checks::refusal(n, t, post, points, kinds, draws);
+    let refusal = checks::refusal(n, t, post, points, ws, kinds, draws);
     if refusal != 0 {
         return not_written(refusal);
     }
-    let shape = Shape { n, t };
-    let point = points[post - 1];
-    let party = Party { shape, post, point };
+    let shape = Shape { n, t, points };
+    let w = packs::points_at(shape, ws, post - 1, n);
+    let party = Party {
+        shape,
+        post,
+        points: w,
+    };
     write_given(party, kinds, draws, out)
 }

@@ -12,11 +12,11 @@ use Rattle.walk.proofs.walk_posts.Statement.{statement}
 use Rattle.walk.proofs.walk_posts.Tie as tie
 
 abbrev Inv-loop : tie.InvT-loop
-Inv-loop party row blocks weights posts₀ shares₀ n need count₀ j₀ posts shares count j =
+Inv-loop party row blocks marks posts₀ shares₀ n need count₀ j₀ posts shares count j =
     Walking (accepts party row blocks) (share party row blocks) (party .shape .n) (needed (party .shape)) (length posts₀) (length shares₀) posts shares count j
 
 abbrev μ-loop : tie.MeasureT-loop
-μ-loop party row blocks weights posts₀ shares₀ n need count₀ j₀ posts shares count j = party .shape .n + 1 - j
+μ-loop party row blocks marks posts₀ shares₀ n need count₀ j₀ posts shares count j = party .shape .n + 1 - j
 
 ruleset steps = (needs, post-in, walking-start)
 
