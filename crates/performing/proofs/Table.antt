@@ -18,6 +18,7 @@ use Rattle.multiply.specs.Multiply.{multiplyRefusal}
 use Rattle.street_store.specs.Sizes.{masksAAt, masksBAt, longestLine}
 use Rattle.street_reading.specs.Numbers.{numberForm}
 use Rattle.street_states.specs.declared.State.{State}
+use Rattle.street_states.proofs.Calling.{answer-refusal}
 use Rattle.street_states.specs.States.{Stepped, After, answering, refusing, leaving, sessionRows}
 use Rattle.street_rowlines.specs.Loads.{loading, loadStep, loadingTriple, loadTripleStep}
 use Rattle.street_rowlines.specs.Steps.{adding, linearStep, opening, openStep}

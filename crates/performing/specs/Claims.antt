@@ -6,7 +6,6 @@ use Prim.Native.Nat.{ℕ, _≤_, _<_}
 use mathlib.Core.Path.{_≡_}
 use mathlib.Core.Bool.{true}
 use mathlib.Core.List.{List, [], _∷_, _++_}
-use lib.Dec.{eqb}
 use lib.ListN.{length, drop, replicate}
 use Rattle.field.specs.Modulus.{p}
 use Rattle.poly.specs.Counting.{Elements}
@@ -84,7 +83,7 @@ module _ (st : State) (store : List ℕ) where
   abbrev pub OpenLine : Type 0
   OpenLine =
       (row : ℕ) → row ≤ lastRow
-      → Does st store (openAnswer own rows row (recordFor openingsAt (shapeOf (st .session)) (st .kept) row store)) rows (step st store (written 71 (row ∷ [])))
+      → Does st store (openAnswer own rows row (recordFor openingsAt (shapeOf own) (st .kept) row store)) rows (step st store (written 71 (row ∷ [])))
 
   -- "`F,first`, which finishes", with the two records that are kept for the triple, or empty ones: collect, and where it was not refused
   -- multiply, with the session that collect hands back. Where either is refused nothing changes.
@@ -97,8 +96,8 @@ module _ (st : State) (store : List ℕ) where
   abbrev pub FinishLine : Type 0
   FinishLine =
       (first : ℕ) → first ≤ lastTriple
-      → (let masksA = recordFor masksAAt (shapeOf (st .session)) (st .triple) first store in
-      let masksB = recordFor masksBAt (shapeOf (st .session)) (st .triple) first store in
+      → (let masksA = recordFor masksAAt (shapeOf own) (st .triple) first store in
+      let masksB = recordFor masksBAt (shapeOf own) (st .triple) first store in
       let collected = collectAnswer own rows first masksA masksB in
       let between = collected .session in
       Finishes collected (multiplyAnswer between rows first) (multiplyRows between rows first) (step st store (written 70 (first ∷ []))))

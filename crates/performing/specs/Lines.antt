@@ -19,6 +19,7 @@ use Rattle.product_masks.specs.Masks.{masksAnswer}
 use Rattle.collect.specs.Collect.{collectAnswer}
 use Rattle.multiply.specs.Multiply.{multiplyAnswer}
 use Rattle.street_store.specs.Sizes.{openingsAt, masksAAt, masksBAt}
+use Rattle.session.specs.Sessions.{shapeOf}
 use Rattle.street_store.specs.Records.{recordFor}
 use Rattle.street_states.specs.declared.State.{State}
 use Rattle.street_states.specs.States.{sessionRows}
@@ -95,7 +96,7 @@ module _ (st : State) (store : List ℕ) where
   dealCall xs = dealAnswer own rows (getD xs 0 0) (getD xs 1 0) .refusal
 
   abbrev pub openCall : List ℕ → ℕ
-  openCall xs = openAnswer own rows (getD xs 0 0) (recordFor openingsAt (shapeOf (st .session)) (st .kept) (getD xs 0 0) store) .refusal
+  openCall xs = openAnswer own rows (getD xs 0 0) (recordFor openingsAt (shapeOf own) (st .kept) (getD xs 0 0) store) .refusal
 
   abbrev pub linearCall : List ℕ → ℕ
   linearCall xs = linearAnswer own rows (getD xs 0 0) (getD xs 1 0) (getD xs 2 0) (getD xs 3 0) (getD xs 4 0) .refusal
@@ -106,7 +107,9 @@ module _ (st : State) (store : List ℕ) where
   abbrev pub finishCall : List ℕ → ℕ
   finishCall xs =
       let first = getD xs 0 0 in
-      let collected = collectAnswer own rows first (recordFor masksAAt (shapeOf (st .session)) (st .triple) first store) (recordFor masksBAt (shapeOf (st .session)) (st .triple) first store) in
+      let masksA = recordFor masksAAt (shapeOf own) (st .triple) first store in
+      let masksB = recordFor masksBAt (shapeOf own) (st .triple) first store in
+      let collected = collectAnswer own rows first masksA masksB in
       orElse (collected .refusal) (multiplyAnswer (collected .session) rows first .refusal)
 
   -- an `O` and an `M` are put into a record, and that is not refused

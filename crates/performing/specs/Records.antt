@@ -38,7 +38,7 @@ module _ (st : State) (store : List ℕ) where
 
   -- the library's call, on the record at a place
   abbrev put : ℕ → ℕ → ℕ → ℕ → List ℕ → List ℕ
-  put at kept named post xs = putRecord (own .n) (own .t) (recordFor at (shapeOf (st .session)) kept named store) post xs
+  put at kept named post xs = putRecord (own .n) (own .t) (recordFor at (shapeOf own) kept named store) post xs
 
   -- "`O,row,post,` t+1 coefficients"
   abbrev pub OpeningLine : Type 0
