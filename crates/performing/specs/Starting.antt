@@ -49,7 +49,7 @@ DashIsOne =
 -- A check point "0 or at least p"; in a `W` "the second point too".
 abbrev pub anyNoPoint : List ℕ → Bool
 anyNoPoint [] = false
-anyNoPoint (w ∷ ws) = (eqb w 0 || ltb 2147483646 w) || anyNoPoint ws
+anyNoPoint (w ∷ ws) = (ltb w 1 || ltb 2147483646 w) || anyNoPoint ws
 
 -- Of a start line that is written from numbers: 1 to 4; document 02, (ii): "The street program stays at 32".
 abbrev pub settingsTable : ℕ → ℕ → ℕ → List ℕ → List Test
