@@ -5,6 +5,7 @@ pub mod Keeping
 pub mod Spelling
 pub mod Lines
 pub mod StartText
+pub mod StartRead
 pub mod Table
 pub mod Starting
 pub mod TwoLines

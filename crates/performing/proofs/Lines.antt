@@ -12,8 +12,7 @@ use Rattle.refusal.specs.Refusal.{_when_, first, orElse, outcome}
 use Rattle.refusal.specs.Conditions.{beyond, anyBeyond}
 use Rattle.refusal.proofs.Elements.{element-test}
 use Rattle.csv.specs.Fields.{written, Parsed, parsed, malformed}
-use Rattle.session.specs.declared.Session.{Session}
-use Rattle.session.specs.Sessions.{answer}
+use Rattle.street_store.specs.Sizes.{longestLine}
 use Rattle.street_reading.specs.Numbers.{numberForm, numbers, rowsBeyond, readRefusal}
 use Rattle.street_states.specs.declared.State.{State}
 use Rattle.street_states.specs.States.{After, refusing, leaving, unless}

@@ -15,7 +15,7 @@ use Rattle.csv.proofs.Reading.{fields-spelled}
 use Rattle.shape.specs.Bounds.{mostPoints}
 use Rattle.street_reading.specs.Starting.{startsWith, dash, dashAt, behindPosts, afterFirst, startForm}
 use Rattle.performing.specs.Lines.{letters, startLetters, isOneOf}
-use Rattle.performing.specs.Starting.{OneOrTwo, startLetter, figured, dashed, StartText, in-figures, with-dash}
+use Rattle.performing.specs.Starting.{OneOrTwo, startLetter, StartText, in-figures, with-dash}
 use Rattle.performing.proofs.Spelling.{short}
 
 not-parsed : {A : Type 0} (xs : List ℕ) (n : ℕ) → malformed ≡ parsed xs n → A

@@ -50,9 +50,9 @@ module _ (st : State) (store : List ℕ) (started : st .started ≡ true) (ready
       → blocks ≡ recordFor at (shapeOf (st .session)) last named store
   found at last named blocks place f = go (eqb last named) refl
     where
-      long : length (recordOf st at store) ≡ own .n * (own .t + 2)
+      long : length (recordOf st at store) ≡ own .n * (own .points * own .t + 2)
       long =
-          let k : own .t + 1 + 1 ≡ own .t + 2 = omega arith in
+          let k : own .points * own .t + 1 + 1 ≡ own .points * own .t + 2 = omega arith in
           length-take-le (recordLength (shapeOf own)) (drop at store) (omega (arith, record-room (shapeOf own) street, length-drop at store, ready .store-room))
           ∙ ap (λ (j : ℕ). own .n * j) k
 
