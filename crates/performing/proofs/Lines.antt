@@ -11,6 +11,7 @@ use Rattle.field.specs.Modulus.{p}
 use Rattle.refusal.specs.Refusal.{_when_, first, orElse, outcome}
 use Rattle.refusal.specs.Conditions.{beyond, anyBeyond}
 use Rattle.refusal.proofs.Elements.{element-test}
+use Rattle.refusal.proofs.Figures.{beyond-figures}
 use Rattle.csv.specs.Fields.{written, Parsed, parsed, malformed}
 use Rattle.street_store.specs.Sizes.{longestLine}
 use Rattle.street_reading.specs.Numbers.{numberForm, numbers, rowsBeyond, readRefusal}
@@ -29,17 +30,10 @@ pub or-none : (b : Bool) → b || false ≡ b
 or-none true = refl
 or-none false = refl
 
-above : (x : ℕ) → ltb 2147483646 x ≡ beyond x
-above x = go (ltb x p) refl
-  where
-    go : (b : Bool) → ltb x p ≡ b → ltb 2147483646 x ≡ not b
-    go true e = let h : x < p = ltb-true x p e in le-ltb 2147483646 x (omega arith)
-    go false e = let h : p ≤ x = ltb-false x p e in lt-ltb 2147483646 x (omega arith)
-
 pub elements-outside : (xs : List ℕ) → anyOutside [] xs ≡ anyBeyond xs
 unfolding anyBeyond
 elements-outside [] = refl
-elements-outside (x ∷ xs) = ap₂ _||_ (above x) (elements-outside xs)
+elements-outside (x ∷ xs) = ap₂ _||_ (sym (beyond-figures x)) (elements-outside xs)
 
 -- rows with their last ones
 abbrev rangesOf : List ℕ → List Range

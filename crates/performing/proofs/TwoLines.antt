@@ -31,7 +31,7 @@ unfolding outcome
 unchanged zero v s = refl
 unchanged (suc x) v s = refl
 
-same-state : (a b : State) → a .session ≡ b .session → a .started ≡ b .started → a .kept ≡ b .kept → a .triple ≡ b .triple → a ≡ b
+pub same-state : (a b : State) → a .session ≡ b .session → a .started ≡ b .started → a .kept ≡ b .kept → a .triple ≡ b .triple → a ≡ b
 same-state a b e f g h =
     ap (λ (x : Session). record { session = x; started = a .started; kept = a .kept; triple = a .triple }) e
     ∙ ap (λ (x : Bool). record { session = b .session; started = x; kept = a .kept; triple = a .triple }) f
