@@ -26,7 +26,7 @@ use Rattle.street_postlines.specs.Steps.{heardRefusal, heard, keepStep, keepMas
 use Rattle.street_finishlines.specs.Masks.{maskLine, noMasks, masking, maskingOf, maskStep}
 use Rattle.street_finishlines.specs.Steps.{masksFor, between, pairRefusal, finishing, finishStep}
 use Rattle.street_interpreter.specs.Stepping.{lettersStep, lateStep, step}
-use Rattle.performing.specs.Lines.{letters, isOneOf, Range, _to_, anyOutside, refusalOf, Letter, dealCall, loadCall, tripleCall, openCall, linearCall, masksCall, finishCall, noCall, StreetTable}
+use Rattle.performing.specs.Lines.{letters, isOneOf, vNumbers, rowNumbers, Range, _to_, anyOutside, refusalOf, Letter, dealCall, loadCall, tripleCall, openCall, linearCall, masksCall, finishCall, noCall, StreetTable}
 use Rattle.performing.proofs.Lines.{elements-outside, letter-of, unless-refusal, over-step, over, numbers-letter}
 use Rattle.performing.proofs.StartText.{start-letter}
 
@@ -101,24 +101,15 @@ module _ (st : State) (store : List ℕ) (started : st .started ≡ true) where
   abbrev n : ℕ
   n = st .session .n
 
-  abbrev t : ℕ
-  t = st .session .t
-
-  abbrev vNumbers : ℕ
-  vNumbers = st .session .points * t + 1
-
-  abbrev rowNumbers : ℕ
-  rowNumbers = vNumbers + st .session .points * n + n
-
-  load-letter : Letter st store 82 (1 + rowNumbers) (0 to 95 ∷ []) (loadCall st store)
+  load-letter : Letter st store 82 (1 + rowNumbers st store) (0 to 95 ∷ []) (loadCall st store)
   unfolding loadStep
   load-letter =
-      numbers-letter st store started 81 (lastRow ∷ []) (omega arith, tt) (1 + rowNumbers) (loading st store) load-is (loadCall st store) loading-refusal
+      numbers-letter st store started 81 (lastRow ∷ []) (omega arith, tt) (1 + rowNumbers st store) (loading st store) load-is (loadCall st store) loading-refusal
 
-  triple-letter : Letter st store 84 (1 + 3 * rowNumbers) (0 to 93 ∷ []) (tripleCall st store)
+  triple-letter : Letter st store 84 (1 + 3 * rowNumbers st store) (0 to 93 ∷ []) (tripleCall st store)
   unfolding loadTripleStep
   triple-letter =
-      numbers-letter st store started 83 (lastTriple ∷ []) (omega arith, tt) (1 + 3 * rowNumbers) (loadingTriple st store) triple-is (tripleCall st store)
+      numbers-letter st store started 83 (lastTriple ∷ []) (omega arith, tt) (1 + 3 * rowNumbers st store) (loadingTriple st store) triple-is (tripleCall st store)
       tripling-refusal
 
   open-letter : Letter st store 71 1 (0 to 95 ∷ []) (openCall st store)
@@ -145,18 +136,18 @@ module _ (st : State) (store : List ℕ) (started : st .started ≡ true) where
       finishing-refusal
 
   -- ---- lines of posts
-  hear-wrong : (s : List ℕ) → formOf vNumbers s ≡ malformed → heardRefusal (st .session) s ≡ 10
+  hear-wrong : (s : List ℕ) → formOf (vNumbers st store) s ≡ malformed → heardRefusal (st .session) s ≡ 10
   unfolding heardRefusal
   hear-wrong s e = rw e
 
-  hear-right : (s xs : List ℕ) (next : ℕ) → formOf vNumbers s ≡ parsed xs next
+  hear-right : (s xs : List ℕ) (next : ℕ) → formOf (vNumbers st store) s ≡ parsed xs next
       → heardRefusal (st .session) s ≡ first (11 when beyondRange n (messageOf (getD s 0 0) xs) ∷ [])
   unfolding heardRefusal
   hear-right s xs next e = rw e
 
   module _ (b count : ℕ) (ranges : List Range) (call : List ℕ → ℕ)
       (is : (rest : List ℕ) → length (suc b ∷ rest) ≤ 5252 → step st store (suc b ∷ rest) ≡ hearStep st store (suc b ∷ rest))
-      (form : (rest : List ℕ) → formOf vNumbers (suc b ∷ rest) ≡ numberForm count (suc b ∷ rest))
+      (form : (rest : List ℕ) → formOf (vNumbers st store) (suc b ∷ rest) ≡ numberForm count (suc b ∷ rest))
       (range : (xs : List ℕ) → length xs ≡ count → beyondRange n (messageOf (suc b) xs) ≡ anyOutside ranges xs)
       (says : (xs : List ℕ) → saying st store (messageOf (suc b) xs) .given .refusal ≡ call xs) where
     hear-refusal : (rest : List ℕ) → length (suc b ∷ rest) ≤ 5252
@@ -171,7 +162,7 @@ module _ (st : State) (store : List ℕ) (started : st .started ≡ true) where
         letter-of st store (over st store started) b count ranges call
         (λ rest l e. hear-refusal rest l ∙ rw (hear-wrong (suc b ∷ rest) (form rest ∙ e)))
         (λ rest xs next l q e.
-        let f : formOf vNumbers (suc b ∷ rest) ≡ parsed xs next = form rest ∙ e in
+        let f : formOf (vNumbers st store) (suc b ∷ rest) ≡ parsed xs next = form rest ∙ e in
         hear-refusal rest l ∙ rw (hear-right (suc b ∷ rest) xs next f, f, range xs q, says xs))
 
   module _ (rest : List ℕ) where
@@ -187,15 +178,15 @@ module _ (st : State) (store : List ℕ) (started : st .started ≡ true) where
     unfolding step lateStep lettersStep
     masks-is h = rw (started, le-ltb longestLine (length (77 ∷ rest)) h)
 
-    deal-form : formOf vNumbers (68 ∷ rest) ≡ numberForm 2 (68 ∷ rest)
+    deal-form : formOf (vNumbers st store) (68 ∷ rest) ≡ numberForm 2 (68 ∷ rest)
     unfolding formOf numberForm
     deal-form = refl
 
-    opening-form : formOf vNumbers (79 ∷ rest) ≡ numberForm (2 + vNumbers) (79 ∷ rest)
+    opening-form : formOf (vNumbers st store) (79 ∷ rest) ≡ numberForm (2 + vNumbers st store) (79 ∷ rest)
     unfolding formOf numberForm
     opening-form = refl
 
-    masks-form : formOf vNumbers (77 ∷ rest) ≡ numberForm (2 + 2 * vNumbers) (77 ∷ rest)
+    masks-form : formOf (vNumbers st store) (77 ∷ rest) ≡ numberForm (2 + 2 * vNumbers st store) (77 ∷ rest)
     unfolding formOf numberForm
     masks-form = refl
 
@@ -220,20 +211,20 @@ module _ (st : State) (store : List ℕ) (started : st .started ≡ true) where
       says [] = refl
       says (x ∷ xs) = refl
 
-  opening-letter : Letter st store 79 (2 + vNumbers) (0 to 95 ∷ 1 to n ∷ []) (noCall st store)
+  opening-letter : Letter st store 79 (2 + vNumbers st store) (0 to 95 ∷ 1 to n ∷ []) (noCall st store)
   unfolding keepStep
-  opening-letter = hear-letter 78 (2 + vNumbers) (0 to 95 ∷ 1 to n ∷ []) (noCall st store) opening-is opening-form range (λ xs. refl)
+  opening-letter = hear-letter 78 (2 + vNumbers st store) (0 to 95 ∷ 1 to n ∷ []) (noCall st store) opening-is opening-form range (λ xs. refl)
     where
-      range : (xs : List ℕ) → length xs ≡ 2 + vNumbers → beyondRange n (messageOf 79 xs) ≡ anyOutside (0 to 95 ∷ 1 to n ∷ []) xs
+      range : (xs : List ℕ) → length xs ≡ 2 + vNumbers st store → beyondRange n (messageOf 79 xs) ≡ anyOutside (0 to 95 ∷ 1 to n ∷ []) xs
       range [] e = absurd (omega arith)
       range (x ∷ []) e = absurd (omega arith)
       range (x ∷ y ∷ ys) e = opening-range x y ys
 
-  masks-letter : Letter st store 77 (2 + 2 * vNumbers) (0 to 93 ∷ 1 to n ∷ []) (noCall st store)
+  masks-letter : Letter st store 77 (2 + 2 * vNumbers st store) (0 to 93 ∷ 1 to n ∷ []) (noCall st store)
   unfolding keepHalvesStep keepMasksStep
-  masks-letter = hear-letter 76 (2 + 2 * vNumbers) (0 to 93 ∷ 1 to n ∷ []) (noCall st store) masks-is masks-form range (λ xs. refl)
+  masks-letter = hear-letter 76 (2 + 2 * vNumbers st store) (0 to 93 ∷ 1 to n ∷ []) (noCall st store) masks-is masks-form range (λ xs. refl)
     where
-      range : (xs : List ℕ) → length xs ≡ 2 + 2 * vNumbers → beyondRange n (messageOf 77 xs) ≡ anyOutside (0 to 93 ∷ 1 to n ∷ []) xs
+      range : (xs : List ℕ) → length xs ≡ 2 + 2 * vNumbers st store → beyondRange n (messageOf 77 xs) ≡ anyOutside (0 to 93 ∷ 1 to n ∷ []) xs
       range [] e = absurd (omega arith)
       range (x ∷ []) e = absurd (omega arith)
       range (x ∷ y ∷ ys) e = masks-range x y ys

@@ -87,11 +87,11 @@ module _ (st : State) (store : List ℕ) where
   t = own .t
 
   -- of a polynomial v: "t+1 coefficients", with two points "2t+1"
-  abbrev vNumbers : ℕ
+  abbrev pub vNumbers : ℕ
   vNumbers = own .points * t + 1
 
   -- "t+1+2n elements", with two points "2t+1+3n numbers"
-  abbrev rowNumbers : ℕ
+  abbrev pub rowNumbers : ℕ
   rowNumbers = vNumbers + own .points * n + n
 
   abbrev rows : List ℕ
