@@ -62,7 +62,10 @@ pub new-loaded : (q : Party) → PostIn q → Passed q → newPost q ≡ at q (r
 unfolding created outcome
 new-loaded q is h =
     rw (not-refused (sessionTests (q .shape .n) (q .shape .t) (q .post) (q .shape .points) (q .points)) h)
-    (ap (λ (w : Points). at (record { shape = q .shape; post = q .post; points = w }) (replicate rowCount empty) (replicate (rowsLength (q .shape)) 0)) (as-many q is))
+    (ap (λ (w : Points). at (with-points w) (replicate rowCount empty) (replicate (rowsLength (q .shape)) 0)) (as-many q is))
+  where
+    with-points : Points → Party
+    with-points w = record { shape = q .shape; post = q .post; points = w }
 
 module _ (q : Party) (h : Passed q) (marks rows : List ℕ) (room : length rows ≡ rowsLength (q .shape)) (row : ℕ) (pack : List ℕ)
     (elements : Elements pack) where

@@ -148,7 +148,10 @@ module _ (q : Party) (is : PostIn q) (good : Pointed q) (street : q .shape .n â‰
       let v = is .valid in
       not-refused (settingsTable n t (q .post) own) (
         none (le-ltb n 2 (v .n-in .0)) (le-ltb 32 n street),
-        (none (le-ltb t 1 (v .t-in .0)) (le-ltb (n - 1) t (v .t-in .1)), (none (le-ltb (q .post) 1 (is .first)) (le-ltb n (q .post) (is .last)), (holds .passes, tt))),
+        (
+          none (le-ltb t 1 (v .t-in .0)) (le-ltb (n - 1) t (v .t-in .1)),
+          (none (le-ltb (q .post) 1 (is .first)) (le-ltb n (q .post) (is .last)), (holds .passes, tt)),
+        ),
       )
 
   abbrev begun : State
