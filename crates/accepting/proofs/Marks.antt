@@ -138,7 +138,7 @@ module _ (q : Party) (row blocks marks : List ℕ) where
   marked-all h v m hi lo =
       let all : h ≡ q .shape .points = omega arith in
       let each : (j : ℕ) → 1 ≤ j → j ≤ q .shape .n → unmarked (getD marks (j - 1) 0) ≡ accepts q row blocks j
-            = λ j a b. m .each j a b ∙ ap (λ (k : ℕ). everyBelow k (passesAt q row blocks j)) all ∙ all-accepted q row blocks j v in
+      = λ j a b. m .each j a b ∙ ap (λ (k : ℕ). everyBelow k (passesAt q row blocks j)) all ∙ all-accepted q row blocks j v in
       record {
         long = m .long;
         each = each;
