@@ -2,16 +2,16 @@
 use session::Party;
 use shape::Shape;
 ghost use mathlib.Core.Path.{_≡_};
-ghost use mathlib.Core.Bool.{_&&_};
+ghost use mathlib.Core.Bool.{true};
 ghost use lib.ListN.{length, getD};
 ghost use Prim.Native.Nat.{_+_, _≤_, _<_};
-ghost use lib.Dec.{eqb};
+ghost use Rattle.field.specs.Arithmetic.{difference};
 ghost use Rattle.poly.specs.Polynomial.{value};
-ghost use Rattle.shape.specs.Lengths.{Valid, vLength};
-ghost use Rattle.shape.specs.Row.{pointAt};
+ghost use Rattle.shape.specs.Lengths.{Valid, vLength, rowLength};
+ghost use Rattle.shape.specs.Row.{pointAt, publicSum};
 ghost use Rattle.blocks.specs.Between.{PostIn, Openable};
 ghost use Rattle.accepting.specs.Accepting.{accepts, share};
-ghost use Rattle.accepting.specs.Between.{PowersAt, passesAt, MarkedTo, Judged, Unmarked};
+ghost use Rattle.accepting.specs.Between.{PowersAt, MarkedAs, MarkedTo, Judged, Unmarked};
 
 // A polynomial of so few coefficients is valued by Horner's rule: the powers of the check point would take longer than they save.
 const FEW_COEFFICIENTS: usize = 4;
@@ -38,7 +38,16 @@ fn checked_value(shape: Shape, w: u32, part: &[u32], weights: &[u32]) -> u32
     }
 }
 
-// Post j's mark: 0 while its polynomial has the right value at the h-th check point w too, and at those before it.
+// A post's share, of the part that it sent.
+fn share_of(shape: Shape, row: &[u32], part: &[u32], j: usize) -> u32
+    requires { ⌜ Valid shape × PostIn shape j × (length (now row) ≡ rowLength shape) × (0 < length (now part)) ⌝ }
+    ensures { λ r. ⌜ r ≡ difference (publicSum shape (now (row .entry)) j) (getD (now (part .entry)) 0 0) ⌝ }
+{
+    let at = shape.sums_at() + (j - 1);
+    field::sub(row[at], part[0])
+}
+
+// Post j's mark: its share while its polynomial has the right value at the h-th check point w too, and at those before it; else p, which no share is.
 fn mark_of<'a>(
     party: Party,
     h: usize,
@@ -51,21 +60,21 @@ fn mark_of<'a>(
 ) -> u32
     requires { ⌜ Openable party (now row) (now blocks) × PostIn (party .shape) j × (h < party .shape .points) × (w ≡ pointAt (party .points) h)
         × PowersAt (party .shape) w (now weights) ⌝ }
-    ensures { λ r. ⌜ eqb r 0 ≡ (eqb mark 0 && passesAt party (now (row .entry)) (now (blocks .entry)) j h) ⌝ }
+    ensures { λ r. ⌜ MarkedAs party (now (row .entry)) (now (blocks .entry)) j h mark r ⌝ }
 {
-    if mark != 0 {
+    if mark == field::P {
         return mark;
     }
     let part = blocks::sent(party, row, blocks, j);
     if part.len() == 0 {
-        return 1;
+        return field::P;
     }
     let shape = party.shape;
     let at = shape.checks_at() + (j - 1) * shape.points + h;
     if checked_value(shape, w, part, weights) == row[at] {
-        return 0;
+        return share_of(shape, row, part, j);
     }
-    1
+    field::P
 }
 
 // All posts' marks, by the h-th check point w.
@@ -109,7 +118,7 @@ fn judge_at<'a>(
     mark_all(party, h, w, row, blocks, &weights[..count], marks);
 }
 
-// Marks the posts that the party does not accept. They are judged before both walks, a point after the other, so that one loop with a small body
+// Marks the posts: those that the party accepts with their shares. They are judged before both walks, a point after the other, so that one loop with a small body
 // does it: the compiler splits it by the polynomials' length.
 pub fn judge<'a>(
     party: Party,
@@ -138,21 +147,14 @@ pub fn accepts<'a>(party: Party, row: &'a [u32], blocks: &'a [u32], j: usize, ma
     ensures { λ r. ⌜ r ≡ accepts party (now (row .entry)) (now (blocks .entry)) j ⌝ }
 {
     let i = j - 1;
-    marks[i] == 0
+    marks[i] != field::P
 }
 
-// The constant of a polynomial.
-fn constant(part: &[u32]) -> u32
-    ensures { λ r. ⌜ r ≡ getD (now (part .entry)) 0 0 ⌝ }
-{
-    if part.len() == 0 { 0 } else { part[0] }
-}
-
-pub fn share<'a>(party: Party, row: &'a [u32], blocks: &'a [u32], j: usize) -> u32
-    requires { ⌜ Openable party (now row) (now blocks) × PostIn (party .shape) j ⌝ }
+// And its share is its mark.
+pub fn share<'a>(party: Party, row: &'a [u32], blocks: &'a [u32], j: usize, marks: &[u32]) -> u32
+    requires { ⌜ PostIn (party .shape) j × Judged party (now row) (now blocks) (now marks) × (accepts party (now row) (now blocks) j ≡ true) ⌝ }
     ensures { λ r. ⌜ r ≡ share party (now (row .entry)) (now (blocks .entry)) j ⌝ }
 {
-    let shape = party.shape;
-    let at = shape.sums_at() + (j - 1);
-    field::sub(row[at], constant(blocks::sent(party, row, blocks, j)))
+    let i = j - 1;
+    marks[i]
 }

@@ -52,7 +52,7 @@ pub fn walk_posts<'a>(
             break Walk::TooFew;
         }
         if accepting::accepts(party, row, blocks, j, marks) {
-            let share = accepting::share(party, row, blocks, j);
+            let share = accepting::share(party, row, blocks, j, marks);
             posts[count] = j as u32;
             shares[count] = share;
             count += 1;
@@ -86,7 +86,7 @@ fn walk_further<'a>(
     let mut j = next;
     while j <= n {
         if accepting::accepts(party, row, blocks, j, marks) {
-            let share = accepting::share(party, row, blocks, j);
+            let share = accepting::share(party, row, blocks, j, marks);
             posts[count] = j as u32;
             shares[count] = share;
             count += 1;

@@ -5,8 +5,7 @@
 #include "gantsorol.h"
 
 enum { N = 3, T = 1, POINTS = 1, ROW = GANTSOROL_ROW_LEN(N, T, POINTS), BLOCK = GANTSOROL_BLOCK_LEN(T, POINTS) };
-enum { ALL = GANTSOROL_ROWS_LEN(N, T, POINTS) };
-enum { MASKS = GANTSOROL_MASKS_LEN(T, POINTS), RECORD = GANTSOROL_RECORD_LEN(N, T, POINTS) };
+enum { ALL = GANTSOROL_ROWS_LEN(N, T, POINTS), MASKS = GANTSOROL_MASKS_LEN(T, POINTS), RECORD = GANTSOROL_RECORD_LEN(N, T, POINTS) };
 
 #define FIELD(type, field) printf("%s.%s at %zu\n", #type, #field, offsetof(type, field))
 #define SIZE(type) printf("%s has %zu\n", #type, sizeof(type))

@@ -4,6 +4,7 @@ use mathlib.Core.Logic.{⊎-elim}
 use borrow.Author.Needs.{needs}
 use Rattle.blocks.proofs.Blocks.{post-in}
 use Rattle.accepting.specs.Accepting.{accepts, share}
+use Rattle.walk.proofs.Walks.{accepted-so}
 use Rattle.walk.proofs.Behind.{Seeking, seeking-start, seeking-take, seeking-skip, party-sought}
 use Rattle.walk.proofs.walk_further.Statement.{statement}
 use Rattle.walk.proofs.walk_further.Tie as tie
@@ -15,7 +16,7 @@ Inv-loop party row blocks marks last need posts₀ shares₀ n next count₀ j�
 abbrev μ-loop : tie.MeasureT-loop
 μ-loop party row blocks marks last need posts₀ shares₀ n next count₀ j₀ posts shares count j = party .shape .n + 1 - j
 
-ruleset steps = (needs, post-in, seeking-start)
+ruleset steps = (needs, post-in, seeking-start, accepted-so)
 
 loop-again : tie.Need-loop-again Inv-loop μ-loop
 loop-again c =

@@ -7,7 +7,7 @@ use borrow.Author.Needs.{needs}
 use Rattle.shape.specs.Lengths.{needed}
 use Rattle.blocks.proofs.Blocks.{post-in}
 use Rattle.accepting.specs.Accepting.{accepts, share}
-use Rattle.walk.proofs.Walks.{Walking, walking-start, party-take, party-skip, party-enough, party-few}
+use Rattle.walk.proofs.Walks.{Walking, accepted-so, walking-start, party-take, party-skip, party-enough, party-few}
 use Rattle.walk.proofs.walk_posts.Statement.{statement}
 use Rattle.walk.proofs.walk_posts.Tie as tie
 
@@ -37,6 +37,6 @@ pub walk-posts-spec : {M : Type 1} → statement M
 walk-posts-spec =
     tie.close
     (tie.spec Inv-loop μ-loop (λ c κs. search needs) (λ c. search steps) (λ c. search steps) (λ c κs. search steps)
-    (λ c κs. search steps) (λ c. search steps) (λ c. search steps) (λ c. search steps) (λ c. search steps) (λ c. search steps)
+    (λ c κs. (search steps, search needs, accepted-so _ _ _ _ _ (c .before .accepts .ensures) (c .if3 .taken))) (λ c. search steps) (λ c. search steps) (λ c. search steps) (λ c. search steps) (λ c. search steps)
     (λ c. search steps) (λ c. search steps) (λ c. search needs) loop-again (λ c. search needs) (λ c. search needs) returns
     (λ c. search needs) (λ c. search needs) returns-2)
