@@ -80,7 +80,8 @@ fn grow(head: Head, line: &mut [u8], part: &[u8], closing: bool) -> Head
     ensures { λ r. ⌜ r .len ≡ cond closing (head .len) (r .len) ⌝ }
 {
     if closing {
-        return head;
+        let len = head.len;
+        return Head { len, ..head }; // field by field: a copy of the whole takes the bytes between them too, for which the next copy waits
     }
     let len = street_splitting::append(line, head.len, part);
     Head { len, ..head }
@@ -188,7 +189,8 @@ fn print_change(
     masks: &[u32],
 ) -> usize
     requires { ⌜ TellRoom letter refusal post shape (now numbers) (now masks) × (head .number + 1 < 2 ^ 64) × (head .at + longestPrint ≤ length (now out)) ⌝ }
-    ensures { λ r. ⌜ Answered head letter refusal (toldText letter refusal post shape (now (numbers .entry)) (now (masks .entry))) (now (out .entry)) r (now (out .exit)) ⌝ }
+    ensures { λ r. ⌜ Answered head letter refusal (toldText letter refusal post shape (now (numbers .entry)) (now (masks .entry)))
+        (now (out .entry)) r (now (out .exit)) ⌝ }
 {
     let number = head.number + 1;
     if letter != b'X' {
@@ -213,8 +215,8 @@ pub fn change_line(
     out: &mut [u8],
 ) -> Head
     requires { ⌜ TellRoom letter refusal post shape (now numbers) (now masks) × (head .number + 1 < 2 ^ 64) × (head .at + longestPrint ≤ length (now out)) ⌝ }
-    ensures { λ r. ⌜ Answered head letter refusal (toldText letter refusal post shape (now (numbers .entry)) (now (masks .entry))) (now (out .entry)) (r .at) (now (out .exit))
-        × (r ≡ answeredHead head letter refusal (r .at)) ⌝ }
+    ensures { λ r. ⌜ Answered head letter refusal (toldText letter refusal post shape (now (numbers .entry)) (now (masks .entry)))
+        (now (out .entry)) (r .at) (now (out .exit)) × (r ≡ answeredHead head letter refusal (r .at)) ⌝ }
 {
     let at = print_change(out, head, letter, post, shape, refusal, numbers, masks);
     let started = starts(head.started, letter, refusal);

@@ -16,8 +16,8 @@ use Rattle.refusal.proofs.Endings.{refused, accepted}
 use Rattle.session.specs.Sessions.{shapeOf}
 use Rattle.street_store.specs.Sizes.{InStreet, numbersRoom, longestLine}
 use Rattle.street_store.proofs.Keeping.{row-room}
-use Rattle.street_reading.specs.Numbers.{numbers, elementsRefusal, readRefusal}
-use Rattle.street_reading.proofs.Scanned.{read-numbers}
+use Rattle.street_reading.specs.Numbers.{numbers, readRefusal}
+use Rattle.street_reading.specs.Between.{Taken}
 use Rattle.street_states.specs.declared.State.{State}
 use Rattle.street_states.specs.States.{After, refusing, leaving, unless}
 use Rattle.street_startlines.specs.Steps.{earlyStep}
@@ -51,14 +51,14 @@ pub lasts-in : (lasts xs : List ℕ) (k : ℕ) → length lasts ≤ k → k ≤ 
 lasts-in lasts xs k h l = omega (arith, length-take-le k xs l)
 
 pub numbered-is : (letter : ℕ) (lasts s xs part : List ℕ) (k r : ℕ) (o : Order) → k ≤ length xs → r ≡ readRefusal lasts (length (take k xs)) s
-    → part ≡ outcome (elementsRefusal (length (take k xs)) s) (numbers (length (take k xs)) s) (take k xs) → length part ≡ length (take k xs)
+    → Taken r (length (take k xs)) s part → length part ≡ length (take k xs)
     → o ≡ orderOf letter r → Numbered letter lasts k s o (part ++ drop k xs)
 numbered-is letter lasts s xs part k r o h e f m q =
     let l : length (take k xs) ≡ k = length-take-le k xs h in
     let e' : r ≡ readRefusal lasts k s = rw l at e in
     record {
       order-is = q ∙ ap (orderOf letter) e';
-      numbers-are = λ z. take-at part (drop k xs) k (m ∙ l) ∙ read-numbers lasts s (take k xs) part r e (e' ∙ z) f ∙ ap (λ (j : ℕ). numbers j s) l;
+      numbers-are = λ z. take-at part (drop k xs) k (m ∙ l) ∙ f .numbers-are (e' ∙ z) ∙ ap (λ (j : ℕ). numbers j s) l;
     }
 
 -- ---- room for them

@@ -1,4 +1,4 @@
--- Between the functions of the code: what a change and a look hand back, and what they are of the step.
+-- Between the functions of the code: what a change and a look hand back, and what they are of the step. No theorem is stated with these.
 use Prim.Native.Nat.{ℕ, _≤_}
 use mathlib.Core.Path.{_≡_}
 use mathlib.Core.List.{List, []}

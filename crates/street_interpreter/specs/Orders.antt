@@ -1,4 +1,5 @@
--- Between the functions of the code: the order of a line, what it leads to, and that this is what the line does.
+-- Between the functions of the code: the order of a line, what it leads to, and that this is what the line does. No theorem is stated with
+-- these.
 use Prim.Native.Nat.{ℕ, _+_, _≤_}
 use mathlib.Core.Path.{_≡_}
 use mathlib.Core.List.{List, [], _∷_}

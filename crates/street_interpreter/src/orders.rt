@@ -1,4 +1,4 @@
-// A line read into its order, without the session: the one place where a letter is added.
+// A line read into its order, without the session. What else a new letter needs is in CONTRIBUTING.md, step 13.
 use shape::Shape;
 ghost use mathlib.Core.Path.{_≡_};
 ghost use mathlib.Core.List.{[], _∷_};

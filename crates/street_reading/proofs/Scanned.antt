@@ -10,15 +10,18 @@ use lib.ListN.{length, getD, drop, drop-of-length-le}
 use lib.Seq.{drop-cons, drop-drop, getD-drop}
 use lib.Dec.{ltb}
 use Rattle.field.specs.Modulus.{p}
-use Rattle.refusal.specs.Refusal.{_when_, first, outcome}
+use Rattle.refusal.specs.Refusal.{_when_, first}
 use Rattle.refusal.specs.Conditions.{beyond, anyBeyond}
 use Rattle.csv.specs.declared.Run.{Run}
 use Rattle.csv.specs.declared.Run.the-variants.{Fields, Broken}
 use Rattle.csv.specs.Fields.{Parsed, parsed, malformed, fieldsAt, ended, numbersOf, largestFrom, runOf, Fillable}
+use Rattle.csv.specs.Walk.{Roomed}
 use Rattle.csv.proofs.Single.{largest-narrow}
+use Rattle.csv.proofs.Rooming.{roomed-fill}
 use Rattle.forms.specs.Forms.{isMalformed}
 use Rattle.forms.proofs.Ranges.{largest-any}
 use Rattle.street_reading.specs.Numbers.{numberForm, numbers, rowsBeyond, elementsRefusal, readRefusal}
+use Rattle.street_reading.specs.Between.{Taken}
 use Rattle.street_reading.proofs.Settings.{ended-broken, same-run}
 
 record Found (o : Parsed) (largest : ℕ) : Type 0 where
@@ -43,10 +46,6 @@ module _ (s out : List ℕ) (r : Run) (e : r ≡ runOf (ended s (fieldsAt (lengt
   unfolding elementsRefusal numberForm
   elements-broken w = rw (ended-broken rest (sym e ∙ w))
 
-  pub elements-unread : r ≡ Broken → out ≡ outcome (elementsRefusal k s) (numbers k s) out
-  unfolding outcome
-  elements-unread w = rw (sym (elements-broken w))
-
   module _ (largest next : ℕ) (w : r ≡ Fields largest next) where
     there : Found rest largest
     there = found rest largest next (sym e ∙ w)
@@ -58,10 +57,6 @@ module _ (s out : List ℕ) (r : Run) (e : r ≡ runOf (ended s (fieldsAt (lengt
     pub element-beyond : p ≤ largest → 11 ≡ elementsRefusal k s
     element-beyond g = sym (refusal-is ∙ rw (le-ltb largest p g))
 
-    pub element-unread : p ≤ largest → out ≡ outcome (elementsRefusal k s) (numbers k s) out
-    unfolding outcome
-    element-unread g = rw (sym (element-beyond g))
-
     module _ (g : largest < p) where
       pub elements-fine : 0 ≡ elementsRefusal k s
       elements-fine = sym (refusal-is ∙ rw (lt-ltb largest p g))
@@ -69,13 +64,23 @@ module _ (s out : List ℕ) (r : Run) (e : r ≡ runOf (ended s (fieldsAt (lengt
       same : rest ≡ fieldsAt k s 1
       same = same-run s (fieldsAt k s 1) largest next (sym e ∙ w)
 
-      pub elements-fillable : Fillable (fieldsAt k s 1)
+      elements-fillable : Fillable (fieldsAt k s 1)
       elements-fillable =
           rw (← same, there .all) (largest-narrow 0 (there .numbers) (omega (arith, there .largest-is)))
 
-      pub elements-taken : (l : List ℕ) → l ≡ numbersOf (fieldsAt k s 1) → l ≡ outcome (elementsRefusal k s) (numbers k s) out
-      unfolding outcome numberForm
-      elements-taken l q = q ∙ rw (sym elements-fine) (ap numbersOf (sym same))
+      numbers-same : numbersOf (fieldsAt k s 1) ≡ numbers k s
+      unfolding numberForm
+      numbers-same = ap numbersOf (sym same)
+
+      pub elements-taken : (l : List ℕ) → Roomed (fieldsAt k s 1) l → Taken 0 k s l
+      elements-taken l q = record { numbers-are = λ z. roomed-fill (fieldsAt k s 1) l q elements-fillable ∙ numbers-same }
+
+-- of a refused line nothing is said
+pub taken-ten : (k : ℕ) (s l : List ℕ) → Taken 10 k s l
+taken-ten k s l = record { numbers-are = λ z. absurd (omega (arith, z)) }
+
+pub taken-eleven : (k : ℕ) (s l : List ℕ) → Taken 11 k s l
+taken-eleven k s l = record { numbers-are = λ z. absurd (omega (arith, z)) }
 
 -- ---- the rows
 -- the first i rows are within their bounds
@@ -132,22 +137,9 @@ module _ (lasts s out : List ℕ) (r : ℕ) (e : r ≡ elementsRefusal (length o
   read-clear v z f =
       clear-of (isMalformed (numberForm (length out) s)) (anyBeyond (numbers (length out) s)) (rowsBeyond lasts (numbers (length out) s)) r v e z f
 
-  pub read-bounded : (out' : List ℕ) (v : ℕ) → r ≡ 0 → out' ≡ outcome (elementsRefusal (length out) s) (numbers (length out) s) out
-      → v ≡ first (11 when rowsBeyond lasts out' ∷ []) → v ≡ readRefusal lasts (length out) s
-  unfolding outcome
-  read-bounded out' v z q f =
-      let w : out' ≡ numbers (length out) s = rw (sym e ∙ z) at q in
-      read-clear v z (rw w at f)
+  module _ (out' : List ℕ) (v : ℕ) (z : r ≡ 0) (q : Taken r (length out) s out') where
+    pub read-bounded : v ≡ first (11 when rowsBeyond lasts out' ∷ []) → v ≡ readRefusal lasts (length out) s
+    read-bounded f = read-clear v z (rw (q .numbers-are z) at f)
 
--- what a reader that refuses nothing has filled in
-pub read-numbers : (lasts s out out' : List ℕ) (r : ℕ) → r ≡ readRefusal lasts (length out) s → r ≡ 0
-    → out' ≡ outcome (elementsRefusal (length out) s) (numbers (length out) s) out → out' ≡ numbers (length out) s
-unfolding outcome elementsRefusal readRefusal
-read-numbers lasts s out out' r e z q =
-    q ∙ go (isMalformed (numberForm (length out) s)) (anyBeyond (numbers (length out) s)) (rowsBeyond lasts (numbers (length out) s)) (sym e ∙ z)
-  where
-    go : (a b c : Bool) → first (10 when a ∷ 11 when b ∷ 11 when c ∷ []) ≡ 0
-        → outcome (first (10 when a ∷ 11 when b ∷ [])) (numbers (length out) s) out ≡ numbers (length out) s
-    go true b c f = absurd (omega arith)
-    go false true c f = absurd (omega arith)
-    go false false c f = refl
+    pub read-taken : Taken v (length out) s out'
+    read-taken = record { numbers-are = λ _. q .numbers-are z }

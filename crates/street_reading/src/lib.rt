@@ -6,8 +6,11 @@ ghost use mathlib.Core.Path.{_≡_};
 ghost use mathlib.Core.List.{[], _∷_};
 ghost use Prim.Native.Nat.{_≤_};
 ghost use lib.ListN.{length};
-ghost use Rattle.refusal.specs.Refusal.{first, _when_, outcome};
-ghost use Rattle.street_reading.specs.Numbers.{numbers, elementsRefusal, rowsBeyond, readRefusal};
+ghost use Rattle.refusal.specs.Refusal.{first, _when_};
+ghost use Rattle.csv.specs.Fields.{fieldsAt, ended, runOf};
+ghost use Rattle.csv.specs.Walk.{Roomed};
+ghost use Rattle.street_reading.specs.Numbers.{elementsRefusal, rowsBeyond, readRefusal};
+ghost use Rattle.street_reading.specs.Between.{Taken};
 
 // The settings of a session, or a line of the wrong form.
 pub enum StartForm {
@@ -23,19 +26,30 @@ pub enum StartForm {
     Wrong,
 }
 
+// The fields behind the letter, as many as the list has places, to the line's end: what they are like, and their numbers. Each is read
+// once, so that a list for a line that is refused has the numbers read before its fault.
+fn last_fields(line: &[u8], out: &mut [u32]) -> Run
+    ensures { λ r. ⌜ (r ≡ runOf (ended (now (line .entry)) (fieldsAt (length (now (out .entry))) (now (line .entry)) 1)))
+        × Roomed (fieldsAt (length (now (out .entry))) (now (line .entry)) 1) (now (out .exit)) ⌝ }
+{
+    let run = csv::read_part(line, 1, 0, out);
+    match run {
+        Run::Fields { largest, next } => csv::line_end(line, next, largest),
+        Run::Broken => Run::Broken,
+    }
+}
+
 // 10, and 11 of a number that is no element; else the numbers, as many as the list has places.
 fn elements(line: &[u8], out: &mut [u32]) -> u8
-    ensures { λ r. ⌜ r ≡ elementsRefusal (length (now (out .entry))) (now (line .entry)) ⌝ }
-    ensures { λ r. ⌜ now (out .exit) ≡ outcome (elementsRefusal (length (now (out .entry))) (now (line .entry)))
-        (numbers (length (now (out .entry))) (now (line .entry))) (now (out .entry)) ⌝ }
+    ensures { λ r. ⌜ (r ≡ elementsRefusal (length (now (out .entry))) (now (line .entry)))
+        × Taken r (length (now (out .entry))) (now (line .entry)) (now (out .exit)) ⌝ }
 {
-    let run = csv::last_fields_at(line, 1, out.len());
+    let run = last_fields(line, out);
     match run {
         Run::Fields { largest, next: _ } => {
             if (field::P as u64) <= largest {
                 return 11;
             }
-            csv::fill(line, 1, out);
             0
         }
         Run::Broken => 10,
@@ -60,9 +74,8 @@ fn bounds(lasts: &[u32], rows: &[u32]) -> u8
 // The numbers of a line, of which the first are rows: 10 and 11, or all of them.
 pub fn read(line: &[u8], lasts: &[u32], out: &mut [u32]) -> u8
     requires { ⌜ length (now lasts) ≤ length (now out) ⌝ }
-    ensures { λ r. ⌜ r ≡ readRefusal (now (lasts .entry)) (length (now (out .entry))) (now (line .entry)) ⌝ }
-    ensures { λ r. ⌜ now (out .exit) ≡ outcome (elementsRefusal (length (now (out .entry))) (now (line .entry)))
-        (numbers (length (now (out .entry))) (now (line .entry))) (now (out .entry)) ⌝ }
+    ensures { λ r. ⌜ (r ≡ readRefusal (now (lasts .entry)) (length (now (out .entry))) (now (line .entry)))
+        × Taken r (length (now (out .entry))) (now (line .entry)) (now (out .exit)) ⌝ }
 {
     let refusal = elements(line, out);
     if refusal != 0 {

@@ -19,7 +19,8 @@ ghost use Rattle.street_rowlines.specs.Steps.{sumAnswer, sumRows};
 pub fn add(session: Session, store: &mut [u32], numbers: &[u32]) -> Answer
     requires { ⌜ InStreet (shapeOf session) × (length (now store) ≡ storeRoom) × (5 ≤ length (now numbers)) ⌝ }
     ensures { λ r. ⌜ r ≡ sumAnswer session (rowsOf session (now (store .entry))) (now (numbers .entry)) ⌝ }
-    ensures { λ r. ⌜ now (store .exit) ≡ withRows session (sumRows session (rowsOf session (now (store .entry))) (now (numbers .entry))) (now (store .entry)) ⌝ }
+    ensures { λ r. ⌜ now (store .exit)
+        ≡ withRows session (sumRows session (rowsOf session (now (store .entry))) (now (numbers .entry))) (now (store .entry)) ⌝ }
 {
     let end = street_states::rows_end(session);
     let dest = street_states::place(numbers[0]);

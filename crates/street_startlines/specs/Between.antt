@@ -1,4 +1,5 @@
--- Between the functions of the code: the answer to a start line, which has no session where it is refused.
+-- Between the functions of the code: the answer to a start line, which has no session where it is refused. No theorem is stated
+-- with these.
 use Prim.Native.Nat.{ℕ}
 use mathlib.Core.List.{List}
 use mathlib.Core.Bool.{cond}

@@ -2,6 +2,7 @@
 mod limits;
 
 use street_feeds::Feed;
+use street_states::Head;
 ghost use mathlib.Core.Path.{_≡_};
 ghost use lib.ListN.{length};
 ghost use Rattle.street_transcript.specs.Limits.{feedRefusal};
@@ -50,7 +51,11 @@ fn take_lines(
             closing,
             &mut numbers,
         );
-        head = part.head;
+        let grown = part.head;
+        head = Head {
+            len: grown.len,
+            ..grown
+        };
         i = end;
         if part.ended {
             let order = part.order;
