@@ -2,7 +2,10 @@
 #include "gantsorol.h"
 #include "given.h"
 
-enum { PACK_LINE = GANTSOROL_TRIPLE_LINE_LEN(N, T) + 2, PACK_NUMBERS = 1 + GANTSOROL_TRIPLE_PACK_LEN(N, T) };
+enum {
+    PACK_LINE = GANTSOROL_TRIPLE_LINE_LEN(N, T, POINTS) + 2,
+    PACK_NUMBERS = 1 + GANTSOROL_TRIPLE_PACK_LEN(N, T, POINTS)
+};
 
 /* The numbers behind a line's letter, up to `most`; how many, or 0 where something else stands. */
 static inline size_t numbers_of(char *line, uint32_t *numbers, size_t most) {
@@ -17,11 +20,13 @@ static inline size_t numbers_of(char *line, uint32_t *numbers, size_t most) {
 static inline gantsorol_answer load_line(gantsorol_session session, uint32_t *rows, char letter, const uint32_t *numbers,
                                          size_t count) {
     if (letter == 'S' && count == 4 && session.n == 0)
-        return gantsorol_new(numbers[0], numbers[1], numbers[2], numbers[3]);
+        return gantsorol_new(numbers[0], numbers[1], numbers[2], 1, numbers[3], 0);
+    if (letter == 'W' && count == 5 && session.n == 0)
+        return gantsorol_new(numbers[0], numbers[1], numbers[2], 2, numbers[3], numbers[4]);
     if (letter == 'R' && count > 0)
-        return gantsorol_load_row(session, rows, GANTSOROL_ROWS_LEN(N, T), numbers[0], numbers + 1, count - 1);
+        return gantsorol_load_row(session, rows, GANTSOROL_ROWS_LEN(N, T, POINTS), numbers[0], numbers + 1, count - 1);
     if (letter == 'T' && count > 0)
-        return gantsorol_load_triple(session, rows, GANTSOROL_ROWS_LEN(N, T), numbers[0], numbers + 1, count - 1);
+        return gantsorol_load_triple(session, rows, GANTSOROL_ROWS_LEN(N, T, POINTS), numbers[0], numbers + 1, count - 1);
     gantsorol_answer wrong = {GANTSOROL_MALFORMED_LINE, 0, session};
     return wrong;
 }
@@ -37,8 +42,8 @@ static inline uint8_t load_pack(FILE *file, gantsorol_session *session, uint32_t
         refusal = answer.refusal;
         *session = answer.session;
     }
-    /* A file of another station has another n or t. */
-    if (refusal == GANTSOROL_OK && (ferror(file) || session->n != N || session->t != T))
+    /* A file of another station has another n or t, or another number of check points. */
+    if (refusal == GANTSOROL_OK && (ferror(file) || session->n != N || session->t != T || session->points != POINTS))
         refusal = GANTSOROL_MALFORMED_LINE;
     gantsorol_erase(line, sizeof line);
     gantsorol_erase(numbers, sizeof numbers);

@@ -1,5 +1,6 @@
-/* The station that station.c draws and whose posts post.c and post.rs are: three posts, and what each row is for. */
-enum { N = 3, T = 1 };
+/* The station that station.c draws and whose posts post.c and post.rs are: three posts with two check points
+   each, and what each row is for. */
+enum { N = 3, T = 1, POINTS = 2 };
 
 /* Dealt numbers, two triples of three rows each, and what is opened: rides x rate + 80, and rides x rate - fee, which is
    0 exactly when the fee is right. The product stands in the third row of its triple. */

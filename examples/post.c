@@ -12,8 +12,16 @@
 
 #include "load.h"
 
-enum { ROWS = GANTSOROL_ROWS_LEN(N, T), RECORD = GANTSOROL_RECORD_LEN(N, T), MESSAGE = GANTSOROL_MESSAGE_LEN(T) };
-enum { MASKS = GANTSOROL_MASKS_LEN(T), M_LINE = GANTSOROL_MASKS_LINE_LEN(N, T), O_LINE = GANTSOROL_OPENING_LINE_LEN(N, T) };
+enum {
+    ROWS = GANTSOROL_ROWS_LEN(N, T, POINTS),
+    RECORD = GANTSOROL_RECORD_LEN(N, T, POINTS),
+    MESSAGE = GANTSOROL_MESSAGE_LEN(T, POINTS)
+};
+enum {
+    MASKS = GANTSOROL_MASKS_LEN(T, POINTS),
+    M_LINE = GANTSOROL_MASKS_LINE_LEN(N, T, POINTS),
+    O_LINE = GANTSOROL_OPENING_LINE_LEN(N, T, POINTS)
+};
 
 /* Session and rows, and the post's own lines, to be sent again after a power loss. */
 static struct {
@@ -80,7 +88,7 @@ static int done(gantsorol_answer answer) {
 }
 
 static void send_masks(size_t first, const uint32_t *masks) {
-    send_line(gantsorol_write_masks(N, T, first, state.session.post, masks, MASKS, state.sent + state.sent_len,
+    send_line(gantsorol_write_masks(N, T, POINTS, first, state.session.post, masks, MASKS, state.sent + state.sent_len,
                                     sizeof state.sent - state.sent_len));
 }
 
@@ -88,8 +96,8 @@ static void send_masks(size_t first, const uint32_t *masks) {
 static void send_opening(size_t row) {
     uint32_t message[MESSAGE];
     if (done(gantsorol_opening_message(state.session, state.rows, ROWS, row, message, MESSAGE)))
-        send_line(gantsorol_write_opening(N, T, row, state.session.post, message, MESSAGE, state.sent + state.sent_len,
-                                          sizeof state.sent - state.sent_len));
+        send_line(gantsorol_write_opening(N, T, POINTS, row, state.session.post, message, MESSAGE,
+                                          state.sent + state.sent_len, sizeof state.sent - state.sent_len));
 }
 
 /* The charge: masks once both factors are dealt, the product once t+1 posts' masks are accepted, then the fixed fee. */
@@ -122,14 +130,14 @@ static int opened(size_t row, const uint32_t *record, uint32_t *number) {
 
 /* What a post sent, into its block of a record. A later message of the same post takes the place of an earlier one. */
 static void hear(uint32_t *record, size_t post, const uint32_t *message) {
-    uint8_t refusal = gantsorol_record_put(N, T, record, RECORD, post, message, MESSAGE);
+    uint8_t refusal = gantsorol_record_put(N, T, POINTS, record, RECORD, post, message, MESSAGE);
     must(refusal == GANTSOROL_OK, gantsorol_refusal_text(refusal));
 }
 
 static void take_line(const char *text) {
-    uint32_t numbers[GANTSOROL_LINE_LIST_LEN(T)];
+    uint32_t numbers[GANTSOROL_LINE_LIST_LEN(T, POINTS)];
     gantsorol_line line =
-        gantsorol_read(N, T, (const uint8_t *)text, strlen(text), numbers, GANTSOROL_LINE_LIST_LEN(T));
+        gantsorol_read(N, T, POINTS, (const uint8_t *)text, strlen(text), numbers, GANTSOROL_LINE_LIST_LEN(T, POINTS));
     if (line.refusal != GANTSOROL_OK) {
         fprintf(stderr, "post %zu: %s\n", state.session.post, gantsorol_refusal_text(line.refusal));
     } else if (line.letter == 'D') {

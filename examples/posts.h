@@ -4,10 +4,10 @@
 
 #include "gantsorol.h"
 
-enum { N = 3, T = 1, ROW = GANTSOROL_ROW_LEN(N, T), ALL = GANTSOROL_ROWS_LEN(N, T) };
-enum { RECORD = GANTSOROL_RECORD_LEN(N, T) };
+enum { N = 3, T = 1, POINTS = 1, ROW = GANTSOROL_ROW_LEN(N, T, POINTS), ALL = GANTSOROL_ROWS_LEN(N, T, POINTS) };
+enum { RECORD = GANTSOROL_RECORD_LEN(N, T, POINTS) };
 
-static const uint32_t points[N] = {2, 3, 5};
+static const uint32_t check_points[POINTS * N] = {2, 3, 5};
 static uint32_t rows[N][ALL];
 static gantsorol_session posts[N];
 
@@ -21,7 +21,7 @@ static uint32_t keep(int post, gantsorol_answer answer) {
 
 static void start(void) {
     for (int i = 0; i < N; i++)
-        keep(i, gantsorol_new(N, T, i + 1, points[i]));
+        keep(i, gantsorol_new(N, T, i + 1, POINTS, check_points[i], 0));
 }
 
 static void expect_made(uint8_t refusal) {
@@ -31,8 +31,9 @@ static void expect_made(uint8_t refusal) {
 
 /* The factory draws a row, and its dealer shares `number` with it. */
 static void share(size_t row, uint32_t number, const uint32_t *draw) {
-    uint32_t packs[GANTSOROL_PACKS_LEN(N, T)], c = gantsorol_dealer_number(number, draw[0]).value;
-    expect_made(gantsorol_factory_row(N, T, points, N, draw, GANTSOROL_ROW_DRAW_LEN(N, T), packs, N * ROW));
+    uint32_t packs[GANTSOROL_PACKS_LEN(N, T, POINTS)], c = gantsorol_dealer_number(number, draw[0]).value;
+    expect_made(gantsorol_factory_row(N, T, POINTS, check_points, POINTS * N, draw, GANTSOROL_ROW_DRAW_LEN(N, T, POINTS),
+                                      packs, N * ROW));
     for (int i = 0; i < N; i++) {
         keep(i, gantsorol_load_row(posts[i], rows[i], ALL, row, packs + i * ROW, ROW));
         keep(i, gantsorol_deal(posts[i], rows[i], ALL, row, c));
@@ -41,9 +42,9 @@ static void share(size_t row, uint32_t number, const uint32_t *draw) {
 
 /* The factory draws a triple; each post gets its part of l, of l' and of l''. */
 static void load_triple(size_t first, const uint32_t *draw) {
-    uint32_t packs[GANTSOROL_TRIPLE_PACKS_LEN(N, T)], pack[GANTSOROL_TRIPLE_PACK_LEN(N, T)];
-    expect_made(
-        gantsorol_factory_triple(N, T, points, N, draw, GANTSOROL_TRIPLE_DRAW_LEN(N, T), packs, 3 * N * ROW));
+    uint32_t packs[GANTSOROL_TRIPLE_PACKS_LEN(N, T, POINTS)], pack[GANTSOROL_TRIPLE_PACK_LEN(N, T, POINTS)];
+    expect_made(gantsorol_factory_triple(N, T, POINTS, check_points, POINTS * N, draw,
+                                         GANTSOROL_TRIPLE_DRAW_LEN(N, T, POINTS), packs, 3 * N * ROW));
     for (int i = 0; i < N; i++) {
         for (int part = 0; part < 3; part++)
             memcpy(pack + part * ROW, packs + (part * N + i) * ROW, ROW * sizeof *pack);
@@ -53,7 +54,8 @@ static void load_triple(size_t first, const uint32_t *draw) {
 
 /* What a post sent, into its block of a record. */
 static void hear(uint32_t *record, int post, const uint32_t *coefficients) {
-    uint8_t refusal = gantsorol_record_put(N, T, record, RECORD, post + 1, coefficients, T + 1);
+    uint8_t refusal =
+        gantsorol_record_put(N, T, POINTS, record, RECORD, post + 1, coefficients, GANTSOROL_MESSAGE_LEN(T, POINTS));
     if (refusal != 0)
         printf("the record: refusal %d\n", refusal);
 }

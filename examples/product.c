@@ -1,7 +1,7 @@
 /* Three posts hold 6 and 7; they bring out the product and show neither factor. */
 #include "posts.h"
 
-enum { MASKS = GANTSOROL_MASKS_LEN(T) };
+enum { MASKS = GANTSOROL_MASKS_LEN(T, POINTS) };
 
 /* Where the posts keep the factors and the triple; the product takes the triple's third row. */
 enum { A = 0, B = 1, TRIPLE = 2, PRODUCT = TRIPLE + 2 };

@@ -2,7 +2,7 @@
    rides x rate - fee, which is 0. Another fee, of one more, is told apart. */
 #include "posts.h"
 
-enum { RECORDS = GANTSOROL_RELATION_RECORDS_LEN(N, T, 1), MASKS = GANTSOROL_RELATION_MASKS_LEN(T, 1) };
+enum { RECORDS = GANTSOROL_RELATION_RECORDS_LEN(N, T, POINTS, 1), MASKS = GANTSOROL_RELATION_MASKS_LEN(T, POINTS, 1) };
 enum { MINUS_ONE = GANTSOROL_MODULUS - 1 };
 
 /* Where the posts keep the numbers and two triples, and where the sums go. */

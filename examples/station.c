@@ -5,24 +5,26 @@
 #include "plan.h"
 #include "works.h"
 
-enum { DRAWS = GANTSOROL_DRAWS_LEN(N, T, RAW_ROWS, TRIPLES), FILE_LEN = GANTSOROL_PACK_FILE_LEN(N, T, RAW_ROWS, TRIPLES) };
+enum { DRAWS = GANTSOROL_DRAWS_LEN(N, T, POINTS, RAW_ROWS, TRIPLES) };
+enum { FILE_LEN = GANTSOROL_PACK_FILE_LEN(N, T, POINTS, RAW_ROWS, TRIPLES) };
 
-static uint32_t points[N], draws[DRAWS];
+static uint32_t check_points[POINTS * N], draws[DRAWS];
 static uint8_t kinds[GANTSOROL_ROWS], text[FILE_LEN];
 
-/* Each post's pack file: its check point, and its parts of the rows and triples. */
+/* Each post's pack file: its check points, and its parts of the rows and triples. */
 static void write_packs(const char *directory) {
     for (int post = 1; post <= N; post++) {
         FILE *file = created_for_post(directory, post);
         put(file, text,
-            gantsorol_write_pack(N, T, post, points, N, kinds, GANTSOROL_ROWS, draws, DRAWS, text, sizeof text));
+            gantsorol_write_pack(N, T, post, POINTS, check_points, POINTS * N, kinds, GANTSOROL_ROWS, draws, DRAWS, text,
+                                 sizeof text));
         must(fclose(file) == 0, "station: a post's file is not written");
     }
 }
 
 /* A row's dealer got f, the start of the row's draw, and broadcasts c, which hides the number. */
 static void write_deal(FILE *lines, size_t row, uint32_t number) {
-    gantsorol_number c = gantsorol_dealer_number(number, draws[gantsorol_draw_place(N, T, kinds, row)]);
+    gantsorol_number c = gantsorol_dealer_number(number, draws[gantsorol_draw_place(N, T, POINTS, kinds, row)]);
     must(c.refusal == GANTSOROL_OK, gantsorol_refusal_text(c.refusal));
     put(lines, text, gantsorol_write_deal(N, T, row, c.value, text, sizeof text));
 }
@@ -35,7 +37,7 @@ int main(int count, char **arguments) {
 
     kinds[RIDES] = kinds[RATE] = kinds[FEE] = GANTSOROL_KIND_RAW;
     kinds[TRIPLE] = kinds[OTHER_TRIPLE] = GANTSOROL_KIND_TRIPLE;
-    draw(points, N, draws, DRAWS);
+    draw(check_points, POINTS * N, draws, DRAWS);
     write_packs(arguments[1]);
     FILE *lines = created(arguments[1], "deals");
     write_deal(lines, RIDES, numbers[0]);
@@ -43,7 +45,7 @@ int main(int count, char **arguments) {
     write_deal(lines, FEE, numbers[2]);
     must(fclose(lines) == 0, "station: the deals are not written");
 
-    gantsorol_erase(points, sizeof points);
+    gantsorol_erase(check_points, sizeof check_points);
     gantsorol_erase(draws, sizeof draws);
     gantsorol_erase(text, sizeof text);
     gantsorol_erase(numbers, sizeof numbers);

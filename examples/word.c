@@ -4,9 +4,9 @@
 #define _POSIX_C_SOURCE 200809L
 #include "works.h"
 
-enum { N = 3, T = 1, DRAW = GANTSOROL_ROW_DRAW_LEN(N, T), ROW = GANTSOROL_ROW_LEN(N, T) };
+enum { N = 3, T = 1, POINTS = 1, DRAW = GANTSOROL_ROW_DRAW_LEN(N, T, POINTS), ROW = GANTSOROL_ROW_LEN(N, T, POINTS) };
 /* The pack file, of one raw row, is longer than any line. */
-enum { TEXT = GANTSOROL_PACK_FILE_LEN(N, T, 1, 0) };
+enum { TEXT = GANTSOROL_PACK_FILE_LEN(N, T, POINTS, 1, 0) };
 
 int main(int count, char **arguments) {
     must(count == 3, "word: which directory, and which word?");
@@ -15,14 +15,16 @@ int main(int count, char **arguments) {
     must(given_number(arguments[2], GANTSOROL_MODULUS, &word), "word: the word is no number below 2147483647");
 
     /* The works: check points, and one raw row, row 0. Its draw is f, then v1 to vn. */
-    uint32_t points[N], drawn[DRAW], packs[GANTSOROL_PACKS_LEN(N, T)];
+    uint32_t check_points[POINTS * N], drawn[DRAW], packs[GANTSOROL_PACKS_LEN(N, T, POINTS)];
     uint8_t kinds[GANTSOROL_ROWS] = {GANTSOROL_KIND_RAW}, text[TEXT];
-    draw(points, N, drawn, DRAW);
+    draw(check_points, POINTS * N, drawn, DRAW);
 
     /* Each post's file. */
     for (int i = 1; i <= N; i++) {
         FILE *file = created_for_post(directory, i);
-        put(file, text, gantsorol_write_pack(N, T, i, points, N, kinds, GANTSOROL_ROWS, drawn, DRAW, text, sizeof text));
+        put(file, text,
+            gantsorol_write_pack(N, T, i, POINTS, check_points, POINTS * N, kinds, GANTSOROL_ROWS, drawn, DRAW, text,
+                                 sizeof text));
         must(fclose(file) == 0, "word: a post's file");
     }
 
@@ -33,9 +35,12 @@ int main(int count, char **arguments) {
     put(lines, text, gantsorol_write_deal(N, T, 0, c.value, text, sizeof text));
 
     /* The posts broadcast their polynomials of row 0, and open it. */
-    must(gantsorol_factory_row(N, T, points, N, drawn, DRAW, packs, N * ROW) == GANTSOROL_OK, "word: the packs");
+    must(gantsorol_factory_row(N, T, POINTS, check_points, POINTS * N, drawn, DRAW, packs, N * ROW) == GANTSOROL_OK,
+         "word: the packs");
     for (int i = 0; i < N; i++)
-        put(lines, text, gantsorol_write_opening(N, T, 0, i + 1, packs + i * ROW, T + 1, text, sizeof text));
+        put(lines, text,
+            gantsorol_write_opening(N, T, POINTS, 0, i + 1, packs + i * ROW, GANTSOROL_MESSAGE_LEN(T, POINTS), text,
+                                    sizeof text));
     must(fputs("G,0\n", lines) >= 0 && fclose(lines) == 0, "word: the lines");
     return 0;
 }

@@ -11,6 +11,9 @@
 #include "gantsorol.h"
 #include "given.h"
 
+/* Of each post. */
+enum { POINTS = 1 };
+
 /* The first byte of the next number, or EOF. */
 static int behind_spaces(void) {
     int c = getchar();
@@ -50,10 +53,10 @@ int main(int count, char **arguments) {
     if (next(&n) != 1 || next(&t) != 1 || n > GANTSOROL_MAX_POSTS || t >= GANTSOROL_MAX_POSTS)
         return fail("the input does not begin with n and t");
 
-    uint32_t points[GANTSOROL_MAX_POSTS];
+    uint32_t check_points[GANTSOROL_MAX_POSTS];
     uint8_t kinds[GANTSOROL_ROWS];
     for (size_t i = 0; i < n; i++)
-        if (next(&points[i]) != 1)
+        if (next(&check_points[i]) != 1)
             return fail("a check point is missing");
     for (size_t i = 0; i < GANTSOROL_ROWS; i++) {
         if (next(&number) != 1 || number > UINT8_MAX)
@@ -62,8 +65,8 @@ int main(int count, char **arguments) {
     }
 
     /* No station has a larger draw than one of raw rows alone, nor a longer file. */
-    size_t room = GANTSOROL_DRAWS_LEN((size_t)n, (size_t)t, GANTSOROL_ROWS, 0), drawn = 0;
-    size_t length = GANTSOROL_PACK_FILE_LEN((size_t)n, (size_t)t, GANTSOROL_ROWS, 0);
+    size_t room = GANTSOROL_DRAWS_LEN((size_t)n, (size_t)t, POINTS, GANTSOROL_ROWS, 0), drawn = 0;
+    size_t length = GANTSOROL_PACK_FILE_LEN((size_t)n, (size_t)t, POINTS, GANTSOROL_ROWS, 0);
     uint32_t *draws = (uint32_t *)malloc(room * sizeof *draws);
     uint8_t *file = (uint8_t *)malloc(length);
     if (draws == NULL || file == NULL)
@@ -78,7 +81,7 @@ int main(int count, char **arguments) {
         return fail("what was drawn is no number");
 
     gantsorol_written written =
-        gantsorol_write_pack(n, t, post, points, n, kinds, GANTSOROL_ROWS, draws, drawn, file, length);
+        gantsorol_write_pack(n, t, post, POINTS, check_points, n, kinds, GANTSOROL_ROWS, draws, drawn, file, length);
     if (written.refusal != GANTSOROL_OK)
         return fail(gantsorol_refusal_text(written.refusal));
     return fwrite(file, 1, written.len, stdout) == written.len && fflush(stdout) == 0 ? 0 : fail("the file is not written");

@@ -22,11 +22,11 @@ static inline uint32_t draw_from(uint32_t low, FILE *random_numbers) {
 }
 
 /* Check points, none of them 0, and a draw, from the operating system. */
-static inline void draw(uint32_t *points, size_t points_len, uint32_t *draws, size_t draws_len) {
+static inline void draw(uint32_t *check_points, size_t check_points_len, uint32_t *draws, size_t draws_len) {
     FILE *random_numbers = fopen("/dev/urandom", "rb");
     must(random_numbers != NULL, "no random numbers");
-    for (size_t i = 0; i < points_len; i++)
-        points[i] = draw_from(1, random_numbers);
+    for (size_t i = 0; i < check_points_len; i++)
+        check_points[i] = draw_from(1, random_numbers);
     for (size_t i = 0; i < draws_len; i++)
         draws[i] = draw_from(0, random_numbers);
     fclose(random_numbers);

@@ -14,13 +14,19 @@
  * of one call must not overlap. Where the length is 0 the pointer is not used and may be NULL.
  *
  * A number is an element, 0 to p - 1. A post keeps a session, which each call takes by value and hands back, and a list
- * of GANTSOROL_ROWS_LEN(n, t) numbers, its 96 rows, which it lends to each call; they need not be cleared before. Use
- * the session that the last call handed back, never an older one: a row would be opened or dealt that no longer is what
- * the old marks say. So a session belongs to one thread at a time; different sessions may be used by different threads.
+ * of GANTSOROL_ROWS_LEN numbers, its 96 rows, which it lends to each call; they need not be cleared before. Use the
+ * session that the last call handed back, never an older one: a row would be opened or dealt that no longer is what the
+ * old marks say. So a session belongs to one thread at a time; different sessions may be used by different threads.
  *
- * A row is a post's part of one shared number: the t+1 coefficients of the post's own polynomial, constant first; n
- * check values; n public sums. A record holds what the posts sent of one row, a block for each; all zeros is a record in
- * which every post is absent.
+ * Check points. Each post of a station has one secret check point or two, which nobody else knows but the works: `points`
+ * is 1 or 2, the same for all posts, and new packs have 2. A sender is accepted by a post where its polynomial has the
+ * row's check value at each of that post's points. A false polynomial passes at no more than t of all points where there
+ * is one, at no more than 4 * t * t of all pairs of points where there are two; for that a polynomial sent has
+ * points * t + 1 coefficients. In a list both points of a post, and both check values of a sender, follow one another.
+ *
+ * A row is a post's part of one shared number: the points * t + 1 coefficients of the post's own polynomial, constant
+ * first; points * n check values, by sender; n public sums. A record holds what the posts sent of one row, a block for
+ * each; all zeros is a record in which every post is absent.
  *
  * Power loss. Store the session that a call hands back, and the rows with it where they were written, before the line
  * that the call made is sent. With an older session a triple would be used twice, and two masks of one triple tell the
@@ -41,24 +47,34 @@
  * they are loaded; the dealer's f once c is sent; messages, records, rows and the session with its last opening. Copies
  * of the session that calls had on the stack stay there until they are written over.
  *
- * Bytes, for (n, t); GANTSOROL_..._LEN below give numbers of 4 bytes, and bytes for lines and files:
+ * Bytes, for (n, t) with one check point a post, and with two; GANTSOROL_..._LEN below give numbers of 4 bytes, and bytes
+ * for lines and files:
  *
- *                         (3, 1)    (32, 15)   (255, 127)
- *    session               1,088       1,088        1,088
- *    answer                1,096       1,096        1,096
- *    rows                  3,072      30,720      244,992
- *    record                   36       2,176      131,580
- *    draw of a row            32       2,112      131,072
- *    draw of a triple         92       6,332      393,212
- *    longest line             51         360        2,825
+ *    one point              (3, 1)    (32, 15)   (255, 127)
+ *    session                 1,096       1,096        1,096
+ *    answer                  1,104       1,104        1,104
+ *    rows                    3,072      30,720      244,992
+ *    record                     36       2,176      131,580
+ *    draw of a row              32       2,112      131,072
+ *    draw of a triple           92       6,332      393,212
+ *    longest line               51         360        2,825
+ *
+ *    two points             (3, 1)    (32, 15)   (255, 127)
+ *    session                 1,096       1,096        1,096
+ *    answer                  1,104       1,104        1,104
+ *    rows                    4,608      48,768      391,680
+ *    record                     48       4,096      261,120
+ *    draw of a row              44       4,032      260,612
+ *    draw of a triple          128      12,092      781,832
+ *    longest line               73         690        5,619
  *
  * No call takes more than GANTSOROL_MOST_STACK bytes of stack, beside its arguments and its answer; docs/INTEGRATING.md
  * has the figures of each call.
  *
  * What the calls read. A refusal 8 looks at every number of each row that the call reads from: an opening message gets
  * it for a bad check value or public sum too. Masks and collect leave the triple's third row unread; multiply reads
- * neither factor row, only the triple's rows and the two numbers remembered. Check points are looked at before lengths:
- * a bad one behind the n-th gets 4, not 5.
+ * neither factor row, only the triple's rows and the two numbers remembered. The number of points and the check points are
+ * looked at before lengths: a bad one behind the last gets 4, not 5.
  */
 #ifndef GANTSOROL_H
 #define GANTSOROL_H
@@ -72,7 +88,7 @@
 
 /* The version: the minor number counts the requests that are in (CHANGES.md). */
 #define GANTSOROL_VERSION_MAJOR 0
-#define GANTSOROL_VERSION_MINOR 8
+#define GANTSOROL_VERSION_MINOR 9
 #define GANTSOROL_VERSION_PATCH 0
 
 /*
@@ -109,7 +125,7 @@ static inline const char *gantsorol_refusal_text(uint8_t refusal) {
     case GANTSOROL_BAD_POST:
         return "the session's post, or the post of a line to be written, of a block or of a pack file, is outside 1 to n";
     case GANTSOROL_BAD_CHECK_POINT:
-        return "a check point is 0 or at least p";
+        return "the number of check points a post is not 1 or 2, or a check point is 0 or at least p";
     case GANTSOROL_BAD_LENGTH:
         return "a list's length is not exactly the one stated";
     case GANTSOROL_NO_SUCH_ROW:
@@ -147,44 +163,48 @@ static inline const char *gantsorol_refusal_text(uint8_t refusal) {
 /* The second row of a term that is no product. */
 #define GANTSOROL_NO_ROW 255
 /* More stack than any call takes, beside its arguments and its answer. */
-#define GANTSOROL_MOST_STACK 20000
+#define GANTSOROL_MOST_STACK 22000
+/* The most check points of a post. */
+#define GANTSOROL_MAX_POINTS 2
 /* The bytes of the longest broadcast line of any station, its line feed included. A pack file has longer ones. */
-#define GANTSOROL_LONGEST_LINE 5619
+#define GANTSOROL_LONGEST_LINE 11207
 
-/* Lengths of lists, for n posts and threshold t. */
+/* Lengths of lists, for n posts with so many check points each, 1 or 2, and threshold t. */
 
-/* A row: the t+1 coefficients of the post's own polynomial, constant first, n check values, n public sums. */
-#define GANTSOROL_ROW_LEN(n, t) (GANTSOROL_MESSAGE_LEN(t) + 2 * (n))
+/* All posts' check points. */
+#define GANTSOROL_CHECK_POINTS_LEN(n, points) ((points) * (n))
+/* A row: the coefficients of the post's own polynomial, constant first, the check values of each sender, n public sums. */
+#define GANTSOROL_ROW_LEN(n, t, points) (GANTSOROL_MESSAGE_LEN(t, points) + GANTSOROL_CHECK_POINTS_LEN(n, points) + (n))
 /* A session's rows. */
-#define GANTSOROL_ROWS_LEN(n, t) (GANTSOROL_ROWS * GANTSOROL_ROW_LEN(n, t))
-/* An opening message: t+1 coefficients. */
-#define GANTSOROL_MESSAGE_LEN(t) ((t) + 1)
+#define GANTSOROL_ROWS_LEN(n, t, points) (GANTSOROL_ROWS * GANTSOROL_ROW_LEN(n, t, points))
+/* An opening message: the coefficients of a polynomial that is sent. */
+#define GANTSOROL_MESSAGE_LEN(t, points) ((points) * (t) + 1)
 /* A record's block: a mark, 0 absent or 1 present, then a message. */
-#define GANTSOROL_BLOCK_LEN(t) (1 + GANTSOROL_MESSAGE_LEN(t))
+#define GANTSOROL_BLOCK_LEN(t, points) (1 + GANTSOROL_MESSAGE_LEN(t, points))
 /* A record: a block for each post, post 1 first. */
-#define GANTSOROL_RECORD_LEN(n, t) ((n) * GANTSOROL_BLOCK_LEN(t))
+#define GANTSOROL_RECORD_LEN(n, t, points) ((n) * GANTSOROL_BLOCK_LEN(t, points))
 /* The masks of a product: a message for each factor. */
-#define GANTSOROL_MASKS_LEN(t) (2 * GANTSOROL_MESSAGE_LEN(t))
+#define GANTSOROL_MASKS_LEN(t, points) (2 * GANTSOROL_MESSAGE_LEN(t, points))
 /* The masks of a relation's product terms, k of them. */
-#define GANTSOROL_RELATION_MASKS_LEN(t, k) ((k) * GANTSOROL_MASKS_LEN(t))
+#define GANTSOROL_RELATION_MASKS_LEN(t, points, k) ((k) * GANTSOROL_MASKS_LEN(t, points))
 /* The records of a relation's product terms, k of them: two records each. */
-#define GANTSOROL_RELATION_RECORDS_LEN(n, t, k) ((k) * 2 * GANTSOROL_RECORD_LEN(n, t))
+#define GANTSOROL_RELATION_RECORDS_LEN(n, t, points, k) ((k) * 2 * GANTSOROL_RECORD_LEN(n, t, points))
 /* The list that a line read fills. */
-#define GANTSOROL_LINE_LIST_LEN(t) (2 * GANTSOROL_MESSAGE_LEN(t))
+#define GANTSOROL_LINE_LIST_LEN(t, points) (2 * GANTSOROL_MESSAGE_LEN(t, points))
 
-/* The draw of a row: the t+1 coefficients of f, then those of v1 to vn. */
-#define GANTSOROL_ROW_DRAW_LEN(n, t) (((t) + 1) * ((n) + 1))
+/* The draw of a row: the t+1 coefficients of f, then those of v1 to vn, a message's each. */
+#define GANTSOROL_ROW_DRAW_LEN(n, t, points) ((t) + 1 + (n) * GANTSOROL_MESSAGE_LEN(t, points))
 /* The draw of a triple: three draws of a row, the third without f's constant. */
-#define GANTSOROL_TRIPLE_DRAW_LEN(n, t) (3 * GANTSOROL_ROW_DRAW_LEN(n, t) - 1)
+#define GANTSOROL_TRIPLE_DRAW_LEN(n, t, points) (3 * GANTSOROL_ROW_DRAW_LEN(n, t, points) - 1)
 /* All draws of a station with so many raw rows and triples. */
-#define GANTSOROL_DRAWS_LEN(n, t, raw, triples)                                                                             \
-    ((raw) * GANTSOROL_ROW_DRAW_LEN(n, t) + (triples) * GANTSOROL_TRIPLE_DRAW_LEN(n, t))
+#define GANTSOROL_DRAWS_LEN(n, t, points, raw, triples)                                                                     \
+    ((raw) * GANTSOROL_ROW_DRAW_LEN(n, t, points) + (triples) * GANTSOROL_TRIPLE_DRAW_LEN(n, t, points))
 /* All posts' packs of a row. */
-#define GANTSOROL_PACKS_LEN(n, t) ((n) * GANTSOROL_ROW_LEN(n, t))
+#define GANTSOROL_PACKS_LEN(n, t, points) ((n) * GANTSOROL_ROW_LEN(n, t, points))
 /* One post's pack of a triple: its rows of l, l' and l''. */
-#define GANTSOROL_TRIPLE_PACK_LEN(n, t) (3 * GANTSOROL_ROW_LEN(n, t))
+#define GANTSOROL_TRIPLE_PACK_LEN(n, t, points) (3 * GANTSOROL_ROW_LEN(n, t, points))
 /* All posts' packs of a triple. */
-#define GANTSOROL_TRIPLE_PACKS_LEN(n, t) ((n) * GANTSOROL_TRIPLE_PACK_LEN(n, t))
+#define GANTSOROL_TRIPLE_PACKS_LEN(n, t, points) ((n) * GANTSOROL_TRIPLE_PACK_LEN(n, t, points))
 
 /* Bytes of the longest lines and files, line feeds included. A comma and an element are 11 bytes. */
 
@@ -193,16 +213,17 @@ static inline const char *gantsorol_refusal_text(uint8_t refusal) {
 /* A "D" line. */
 #define GANTSOROL_DEAL_LINE_LEN 16
 /* An "O" line. */
-#define GANTSOROL_OPENING_LINE_LEN(n, t) (6 + GANTSOROL_DIGITS(n) + 11 * GANTSOROL_MESSAGE_LEN(t))
+#define GANTSOROL_OPENING_LINE_LEN(n, t, points) (6 + GANTSOROL_DIGITS(n) + 11 * GANTSOROL_MESSAGE_LEN(t, points))
 /* An "M" line, which is the longest of a station. */
-#define GANTSOROL_MASKS_LINE_LEN(n, t) (6 + GANTSOROL_DIGITS(n) + 11 * GANTSOROL_MASKS_LEN(t))
-/* A pack file's "R" line and its "T" line. */
-#define GANTSOROL_ROW_LINE_LEN(n, t) (5 + 11 * GANTSOROL_ROW_LEN(n, t))
-#define GANTSOROL_TRIPLE_LINE_LEN(n, t) (5 + 11 * GANTSOROL_TRIPLE_PACK_LEN(n, t))
+#define GANTSOROL_MASKS_LINE_LEN(n, t, points) (6 + GANTSOROL_DIGITS(n) + 11 * GANTSOROL_MASKS_LEN(t, points))
+/* A pack file's first line, its "R" line and its "T" line. */
+#define GANTSOROL_START_LINE_LEN(n, t, points) (5 + 2 * GANTSOROL_DIGITS(n) + GANTSOROL_DIGITS(t) + 11 * (points))
+#define GANTSOROL_ROW_LINE_LEN(n, t, points) (5 + 11 * GANTSOROL_ROW_LEN(n, t, points))
+#define GANTSOROL_TRIPLE_LINE_LEN(n, t, points) (5 + 11 * GANTSOROL_TRIPLE_PACK_LEN(n, t, points))
 /* A pack file with so many raw rows and triples. */
-#define GANTSOROL_PACK_FILE_LEN(n, t, raw, triples)                                                                         \
-    (16 + 2 * GANTSOROL_DIGITS(n) + GANTSOROL_DIGITS(t) + (raw) * GANTSOROL_ROW_LINE_LEN(n, t) +                            \
-     (triples) * GANTSOROL_TRIPLE_LINE_LEN(n, t))
+#define GANTSOROL_PACK_FILE_LEN(n, t, points, raw, triples)                                                                 \
+    (GANTSOROL_START_LINE_LEN(n, t, points) + (raw) * GANTSOROL_ROW_LINE_LEN(n, t, points) +                                \
+     (triples) * GANTSOROL_TRIPLE_LINE_LEN(n, t, points))
 
 /* The kind of a row in a station's plan. */
 enum gantsorol_kind {
@@ -215,13 +236,13 @@ enum gantsorol_kind {
 
 /* Where the draw of a row stands in the list of draws of gantsorol_write_pack; with GANTSOROL_ROWS for row, that list's
    length. kinds: GANTSOROL_ROWS of them, row: at most that. */
-static inline size_t gantsorol_draw_place(size_t n, size_t t, const uint8_t *kinds, size_t row) {
+static inline size_t gantsorol_draw_place(size_t n, size_t t, size_t points, const uint8_t *kinds, size_t row) {
     size_t raw = 0, triples = 0;
     for (size_t i = 0; i < row; i++) {
         raw += kinds[i] == GANTSOROL_KIND_RAW;
         triples += kinds[i] == GANTSOROL_KIND_TRIPLE;
     }
-    return GANTSOROL_DRAWS_LEN(n, t, raw, triples);
+    return GANTSOROL_DRAWS_LEN(n, t, points, raw, triples);
 }
 
 /* Zeros over a list, a session or a line that is no longer needed: the compiler leaves no write out. */
@@ -241,8 +262,11 @@ typedef struct gantsorol_session {
     size_t t;
     /* the post's own number, from 1 */
     size_t post;
-    /* the post's check point, 1 to p - 1 */
-    uint32_t point;
+    /* how many check points it has, 1 or 2 */
+    size_t points;
+    /* its check points, 1 to p - 1; where it has one, the second is 0 and not looked at */
+    uint32_t first;
+    uint32_t second;
     /* of each row: 0 empty, 1 raw (random, not dealt), 2 held; 3 first row of an unused triple, 4 its second or third,
        5 first row of a triple whose masks were sent, 6 spent, 7 first row of a triple whose masks were opened */
     uint8_t marks[GANTSOROL_ROWS];
@@ -301,8 +325,11 @@ typedef struct gantsorol_line {
 
 /* ---- Sessions ---- */
 
-/* A new session, all rows empty; a refused one has 0 in every field. Refusals 1 to 4. */
-gantsorol_answer gantsorol_new(size_t n, size_t t, size_t post, uint32_t point);
+/*
+ * A new session of a post with one or two check points, all rows empty; a refused one has 0 in every field. Where points
+ * is 1, second is not looked at, and is 0 in the session. Refusals 1 to 4.
+ */
+gantsorol_answer gantsorol_new(size_t n, size_t t, size_t post, size_t points, uint32_t first, uint32_t second);
 
 /*
  * Loads the post's part of a drawn row into an empty row, which becomes raw.
@@ -326,17 +353,17 @@ gantsorol_answer gantsorol_load_triple(gantsorol_session session, uint32_t *rows
 gantsorol_answer gantsorol_deal(gantsorol_session session, uint32_t *rows, size_t rows_len, size_t row, uint32_t c);
 
 /*
- * Writes the t+1 coefficients of a held row, which the post sends to open it, to out.
- * rows: GANTSOROL_ROWS_LEN, read. out: t+1, written. Refusals 1 to 8.
+ * Writes the coefficients of a held row, which the post sends to open it, to out.
+ * rows: GANTSOROL_ROWS_LEN, read. out: GANTSOROL_MESSAGE_LEN, written. Refusals 1 to 8.
  */
 gantsorol_answer gantsorol_opening_message(gantsorol_session session, const uint32_t *rows, size_t rows_len, size_t row,
                                            uint32_t *out, size_t out_len);
 
 /*
  * Opens a held row with a record: the number is the answer's value. The post's own block is not looked at, nor are the
- * coefficients of an absent one. A block whose polynomial does not have the row's check value at the post's check point
- * is not accepted. The number comes from the t+1 accepted posts with the lowest numbers; the shares of all further ones
- * must agree with them, or the refusal is 13.
+ * coefficients of an absent one. A block whose polynomial does not have the row's check value at each of the post's check
+ * points is not accepted. The number comes from the t+1 accepted posts with the lowest numbers; the shares of all further
+ * ones must agree with them, or the refusal is 13.
  * rows: GANTSOROL_ROWS_LEN, read. record: GANTSOROL_RECORD_LEN, read. Refusals 1 to 9, 13.
  */
 gantsorol_answer gantsorol_open(gantsorol_session session, const uint32_t *rows, size_t rows_len, size_t row,
@@ -352,8 +379,8 @@ gantsorol_answer gantsorol_linear(gantsorol_session session, uint32_t *rows, siz
 
 /*
  * The first step of a product: for the held rows a and b, perhaps the same, and the unused triple l, l', l'' (marks 3, 4
- * and 4) that begins at the row first, writes the masks that the post sends to out: the t+1 coefficients of a - l, then
- * the t+1 of b - l'. The row first gets mark 5, so that a triple serves one product only, and a and b are remembered.
+ * and 4) that begins at the row first, writes the masks that the post sends to out: the coefficients of a - l, then those
+ * of b - l'. The row first gets mark 5, so that a triple serves one product only, and a and b are remembered.
  * rows: GANTSOROL_ROWS_LEN, read. out: GANTSOROL_MASKS_LEN, written. Refusals 1 to 8.
  */
 gantsorol_answer gantsorol_masks(gantsorol_session session, const uint32_t *rows, size_t rows_len, size_t a, size_t b,
@@ -361,9 +388,9 @@ gantsorol_answer gantsorol_masks(gantsorol_session session, const uint32_t *rows
 
 /*
  * The second step: opens a - l with the record record_a and b - l' with record_b, each as gantsorol_open does, and
- * remembers the two numbers. The marks 5, 4 and 4 of the triple become 7, 4 and 4. A sender's block has the first t+1
- * numbers of its masks in record_a, the last t+1 in record_b. The rows remembered must still be held. A refused collect
- * may be called again, with other records; after one that was done, another gets 7.
+ * remembers the two numbers. The marks 5, 4 and 4 of the triple become 7, 4 and 4. A sender's block has the first half of
+ * its masks in record_a, the other half in record_b. The rows remembered must still be held. A refused collect may be
+ * called again, with other records; after one that was done, another gets 7.
  * rows: GANTSOROL_ROWS_LEN, read. record_a, record_b: GANTSOROL_RECORD_LEN each, read. Refusals 1 to 9, 13.
  */
 gantsorol_answer gantsorol_collect(gantsorol_session session, const uint32_t *rows, size_t rows_len, size_t first,
@@ -417,56 +444,57 @@ gantsorol_answer gantsorol_relation_finish(gantsorol_session session, uint32_t *
 /* ---- Records ---- */
 
 /*
- * Puts what a post sent, the t+1 coefficients of its message or of one of its masks, into the post's block of a record,
- * which becomes present; the refusal. What stood in the block is written over, the other blocks stay as they are.
- * record: GANTSOROL_RECORD_LEN, written. message: t+1, read. Refusals 1, 2, 3, 5 and 8.
+ * Puts what a post sent, the coefficients of its message or of one of its masks, into the post's block of a record, which
+ * becomes present; the refusal. What stood in the block is written over, the other blocks stay as they are.
+ * record: GANTSOROL_RECORD_LEN, written. message: GANTSOROL_MESSAGE_LEN, read. Refusals 1 to 5 and 8.
  */
-uint8_t gantsorol_record_put(size_t n, size_t t, uint32_t *record, size_t record_len, size_t post,
+uint8_t gantsorol_record_put(size_t n, size_t t, size_t points, uint32_t *record, size_t record_len, size_t post,
                              const uint32_t *message, size_t message_len);
 
 /*
  * Takes a post's message out of a record again: its block becomes absent, all zeros, and the other blocks stay as they
  * are; the refusal.
- * record: GANTSOROL_RECORD_LEN, written. Refusals 1, 2, 3 and 5.
+ * record: GANTSOROL_RECORD_LEN, written. Refusals 1 to 5.
  */
-uint8_t gantsorol_record_remove(size_t n, size_t t, uint32_t *record, size_t record_len, size_t post);
+uint8_t gantsorol_record_remove(size_t n, size_t t, size_t points, uint32_t *record, size_t record_len, size_t post);
 
 /* ---- The factory and the dealer ---- */
 
 /*
  * Writes all posts' parts of a drawn row to out, post 1 first; the refusal. The numbers drawn are the caller's to
  * make: each uniform, independent and used once. The dealer gets f, the start of the draw.
- * points: the n check points, read. draw: GANTSOROL_ROW_DRAW_LEN, read. out: n * GANTSOROL_ROW_LEN, written.
+ * check_points: GANTSOROL_CHECK_POINTS_LEN, read. draw: GANTSOROL_ROW_DRAW_LEN, read. out: GANTSOROL_PACKS_LEN, written.
  * Refusals 1, 2, 4, 5 and 8.
  */
-uint8_t gantsorol_factory_row(size_t n, size_t t, const uint32_t *points, size_t points_len, const uint32_t *draw,
-                              size_t draw_len, uint32_t *out, size_t out_len);
+uint8_t gantsorol_factory_row(size_t n, size_t t, size_t points, const uint32_t *check_points, size_t check_points_len,
+                              const uint32_t *draw, size_t draw_len, uint32_t *out, size_t out_len);
 
 /*
  * Writes all posts' parts of a drawn triple to out: the n rows of l, then those of l', then those of l'', whose number
  * is the product of the other two; the refusal. Nobody gets the draw.
- * points: the n check points, read. draw: GANTSOROL_TRIPLE_DRAW_LEN, read. out: 3 * n * GANTSOROL_ROW_LEN, written.
- * Refusals 1, 2, 4, 5 and 8.
+ * check_points: GANTSOROL_CHECK_POINTS_LEN, read. draw: GANTSOROL_TRIPLE_DRAW_LEN, read. out: GANTSOROL_TRIPLE_PACKS_LEN,
+ * written. Refusals 1, 2, 4, 5 and 8.
  */
-uint8_t gantsorol_factory_triple(size_t n, size_t t, const uint32_t *points, size_t points_len, const uint32_t *draw,
-                                 size_t draw_len, uint32_t *out, size_t out_len);
+uint8_t gantsorol_factory_triple(size_t n, size_t t, size_t points, const uint32_t *check_points, size_t check_points_len,
+                                 const uint32_t *draw, size_t draw_len, uint32_t *out, size_t out_len);
 
 /* The number c = u - f(0) that the dealer of u broadcasts, where constant is f(0). Refusal 8. */
 gantsorol_number gantsorol_dealer_number(uint32_t u, uint32_t constant);
 
 /*
- * Writes a post's pack file at the start of out: the line "S,n,t,post,checkpoint", then by rising row "R,row," and the
- * post's part of a drawn row, or "T,row," and its three rows of a drawn triple, each line with a line feed; the rest of
- * out stays as it is. The value is the file's length. The street program takes the file of a station of at most 32 posts.
- * points: the n check points, read. kinds: GANTSOROL_ROWS, read: 0 for an empty row, 1 for a raw one, 3 for a triple's
- * first, whose other two rows have 0. draws: by rising row, GANTSOROL_ROW_DRAW_LEN for each 1 and
+ * Writes a post's pack file at the start of out: the line "S,n,t,post,point", or "W,n,t,post,first,second" where a post has
+ * two check points, then by rising row "R,row," and the post's part of a drawn row, or "T,row," and its three rows of a
+ * drawn triple, each line with a line feed; the rest of out stays as it is. The value is the file's length. The street
+ * program takes the file of a station of at most 32 posts.
+ * check_points: GANTSOROL_CHECK_POINTS_LEN, read. kinds: GANTSOROL_ROWS, read: 0 for an empty row, 1 for a raw one, 3 for a
+ * triple's first, whose other two rows have 0. draws: by rising row, GANTSOROL_ROW_DRAW_LEN for each 1 and
  * GANTSOROL_TRIPLE_DRAW_LEN for each 3, wherever it stands, read. out: at least the file's length.
  * Refusals 1, 2, 3, 4, 5, 6 (a 3 above row 93), 7 (a kind other than 0 inside a triple), 8 (another kind, or a number
  * drawn that is at least p) and 12.
  */
-gantsorol_written gantsorol_write_pack(size_t n, size_t t, size_t post, const uint32_t *points, size_t points_len,
-                                       const uint8_t *kinds, size_t kinds_len, const uint32_t *draws, size_t draws_len,
-                                       uint8_t *out, size_t out_len);
+gantsorol_written gantsorol_write_pack(size_t n, size_t t, size_t post, size_t points, const uint32_t *check_points,
+                                       size_t check_points_len, const uint8_t *kinds, size_t kinds_len,
+                                       const uint32_t *draws, size_t draws_len, uint8_t *out, size_t out_len);
 
 /* ---- Broadcast lines ---- */
 
@@ -478,24 +506,27 @@ gantsorol_written gantsorol_write_deal(size_t n, size_t t, size_t row, uint32_t 
 
 /*
  * Writes "O,row,post," the coefficients and a line feed at the start of out; the rest of out stays as it is.
- * coefficients: t+1, read. out: at least the line's length. Refusals 1, 2, 3, 5, 6, 8 and 12.
+ * coefficients: GANTSOROL_MESSAGE_LEN, read. out: at least the line's length. Refusals 1 to 6, 8 and 12.
  */
-gantsorol_written gantsorol_write_opening(size_t n, size_t t, size_t row, size_t post, const uint32_t *coefficients,
-                                          size_t coefficients_len, uint8_t *out, size_t out_len);
+gantsorol_written gantsorol_write_opening(size_t n, size_t t, size_t points, size_t row, size_t post,
+                                          const uint32_t *coefficients, size_t coefficients_len, uint8_t *out,
+                                          size_t out_len);
 
 /*
  * Writes "M,row,post," the coefficients of both masks and a line feed at the start of out, where row is a triple's
  * first; the rest of out stays as it is.
- * coefficients: GANTSOROL_MASKS_LEN, read. out: at least the line's length. Refusals 1, 2, 3, 5, 6, 8 and 12.
+ * coefficients: GANTSOROL_MASKS_LEN, read. out: at least the line's length. Refusals 1 to 6, 8 and 12.
  */
-gantsorol_written gantsorol_write_masks(size_t n, size_t t, size_t row, size_t post, const uint32_t *coefficients,
-                                        size_t coefficients_len, uint8_t *out, size_t out_len);
+gantsorol_written gantsorol_write_masks(size_t n, size_t t, size_t points, size_t row, size_t post,
+                                        const uint32_t *coefficients, size_t coefficients_len, uint8_t *out,
+                                        size_t out_len);
 
 /*
  * Reads a line, its line feed included, and fills out with its numbers (c, or the coefficients) and then with zeros.
- * line: of any length, read. out: GANTSOROL_LINE_LIST_LEN, written. Refusals 1, 2, 5, 10 and 11.
+ * line: of any length, read. out: GANTSOROL_LINE_LIST_LEN, written. Refusals 1, 2, 4, 5, 10 and 11.
  */
-gantsorol_line gantsorol_read(size_t n, size_t t, const uint8_t *line, size_t line_len, uint32_t *out, size_t out_len);
+gantsorol_line gantsorol_read(size_t n, size_t t, size_t points, const uint8_t *line, size_t line_len, uint32_t *out,
+                              size_t out_len);
 
 #ifdef __cplusplus
 }

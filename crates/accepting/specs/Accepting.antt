@@ -1,7 +1,7 @@
 -- Document 01, "Calls on a session", Open: which posts a party accepts for a row, and the number that they bring out.
 use Prim.Native.Nat.{ℕ, zero, suc}
 use mathlib.Core.Path.{_≡_}
-use mathlib.Core.Bool.{Bool, true, false, not, cond}
+use mathlib.Core.Bool.{Bool, true, false, not, cond, _&&_}
 use mathlib.Core.List.{List, [], _∷_, map}
 use lib.Dec.{ltb, eqb}
 use lib.ListN.{length, take, drop, getD}
@@ -10,15 +10,24 @@ use Rattle.poly.specs.Polynomial.{value}
 use Rattle.poly.specs.Interpolation.{interpolated}
 use Rattle.agreement.specs.Agreement.{allAgree}
 use Rattle.shape.specs.Lengths.{needed}
-use Rattle.shape.specs.Row.{checkValue, publicSum}
+use Rattle.shape.specs.Row.{pointAt, checkValue, publicSum}
 use Rattle.session.specs.declared.Party.{Party}
 use Rattle.blocks.specs.Blocks.{sent}
 
--- "Post j is accepted when its polynomial at wi equals the check value for j"; an empty part is not.
+-- test 0 to test (k - 1)
+abbrev pub everyBelow : ℕ → (ℕ → Bool) → Bool
+everyBelow zero test = true
+everyBelow (suc k) test = test 0 && everyBelow k (λ h. test (suc h))
+
+-- a polynomial's value at the own h-th point is the check value for j
+abbrev pub matches : Party → List ℕ → List ℕ → ℕ → ℕ → Bool
+matches q row part j h = eqb (value part (pointAt (q .points) h)) (checkValue (q .shape) row j h)
+
+-- "Post j is accepted when its polynomial at wi equals the check value for j"; with two points "when both values match"
+-- (document 02, (ix)). An empty part is not.
 unfoldable pub accepts : Party → List ℕ → List ℕ → ℕ → Bool
 accepts q row blocks j =
-    cond (eqb (length (sent q row blocks j)) 0) false
-    (eqb (value (sent q row blocks j) (q .point)) (checkValue (q .shape) row j))
+    cond (eqb (length (sent q row blocks j)) 0) false (everyBelow (q .shape .points) (matches q row (sent q row blocks j) j))
 
 -- All accepted posts: of the k posts from j on, those that pass the test.
 unfoldable pub passing : (ℕ → Bool) → ℕ → ℕ → List ℕ

@@ -3,7 +3,7 @@ use Prim.Native.Nat.{ℕ, zero, suc, _+_, _*_, _-_, _≤_, _<_}
 use mathlib.Core.Path.{_≡_, refl, sym, _∙_, ap}
 use mathlib.Core.Bool.{Bool, true, false, not, cond}
 use mathlib.Core.List.{List, [], _∷_}
-use native.Mathlib.Nat.{add-sub-cancel-left, mul-le-mul-right, suc-mul}
+use native.Mathlib.Nat.{add-sub-cancel-left, mul-le-mul-right, suc-mul, mul-comm}
 use native.Mathlib.Numerals.{add-one}
 use native.Mathlib.Omega.{arith}
 use borrow.Author.Tests.{eq-eqb, ne-eqb, lt-ltb, le-ltb}
@@ -27,7 +27,12 @@ pub post-in : (s : Shape) (j : ℕ) → 1 ≤ j → j ≤ s .n → PostIn s j
 post-in s zero h k = absurd (omega arith)
 post-in s (suc i) h k =
     let below : suc i * blockLength s ≤ recordLength s = mul-le-mul-right (blockLength s) k in
-    record { post-in = (h, k); room = rw (suc-sub, ← suc-mul i (blockLength s)) below }
+    let checks : suc i * s .points ≤ s .n * s .points = mul-le-mul-right (s .points) k in
+    record {
+      post-in = (h, k);
+      room = rw (suc-sub, ← suc-mul i (blockLength s)) below;
+      checks-room = rw (suc-sub, ← suc-mul i (s .points), mul-comm (s .points) (s .n)) checks;
+    }
   where
     suc-sub : suc i - 1 ≡ i
     suc-sub = omega arith

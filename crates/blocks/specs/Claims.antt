@@ -12,10 +12,10 @@ use Rattle.blocks.specs.Blocks.{badRecord, sent}
 
 -- "n blocks, each a mark (0 absent, 1 present) and t+1 coefficients": post j's mark, and its i-th coefficient, i from 0 to t.
 abbrev pub markOf : Party → List ℕ → ℕ → ℕ
-markOf q blocks j = getD blocks ((j - 1) * (q .shape .t + 1 + 1)) 0
+markOf q blocks j = getD blocks ((j - 1) * (q .shape .points * q .shape .t + 1 + 1)) 0
 
 abbrev pub coefficientOf : Party → List ℕ → ℕ → ℕ → ℕ
-coefficientOf q blocks j i = getD blocks ((j - 1) * (q .shape .t + 1 + 1) + 1 + i) 0
+coefficientOf q blocks j i = getD blocks ((j - 1) * (q .shape .points * q .shape .t + 1 + 1) + 1 + i) 0
 
 -- A post of 1 to n, but not the own one.
 abbrev pub Other : Party → ℕ → Type 0
@@ -24,7 +24,7 @@ Other q j = (1 ≤ j) × (j ≤ q .shape .n) × (j ≢ q .post)
 -- A block that 8 lets pass: absent, or present with t+1 elements.
 pub record Sound (q : Party) (blocks : List ℕ) (j : ℕ) : Type 0 where
   pub mark-in : markOf q blocks j ≤ 1
-  pub elements : markOf q blocks j ≡ 1 → (i : ℕ) → i ≤ q .shape .t → coefficientOf q blocks j i < 2147483647
+  pub elements : markOf q blocks j ≡ 1 → (i : ℕ) → i ≤ q .shape .points * q .shape .t → coefficientOf q blocks j i < 2147483647
 
 -- "Check 8 covers … each block's mark and each present block's coefficients except in the post's own block, also those behind
 -- the place where the walk stops": a record passes exactly where the blocks of all other posts are sound.
@@ -39,14 +39,14 @@ RecordRead = (q : Party) (blocks : List ℕ) → ReadsOthers q blocks
 -- coefficients aren't looked at."
 pub record Alike (q : Party) (a b : List ℕ) : Type 0 where
   pub marks : (j : ℕ) → Other q j → markOf q a j ≡ markOf q b j
-  pub coefficients : (j : ℕ) → Other q j → markOf q a j ≡ 1 → (i : ℕ) → i ≤ q .shape .t
+  pub coefficients : (j : ℕ) → Other q j → markOf q a j ≡ 1 → (i : ℕ) → i ≤ q .shape .points * q .shape .t
       → coefficientOf q a j i ≡ coefficientOf q b j i
 
--- Nothing else is asked: two records are alike where they have the same number at the place of every other post's mark, and at the t+1 places
--- behind a mark of 1.
+-- Nothing else is asked: two records are alike where they have the same number at the place of every other post's mark, and at the
+-- points · t + 1 places behind a mark of 1.
 abbrev pub LookedAt : Party → List ℕ → ℕ → Type 0
 LookedAt q blocks place =
-    let w = q .shape .t + 1 + 1 in
+    let w = q .shape .points * q .shape .t + 1 + 1 in
     (j : ℕ) × ((1 ≤ j) × (j ≤ q .shape .n) × (j ≢ q .post))
     × ((place ≡ (j - 1) * w) ⊎ ((getD blocks ((j - 1) * w) 0 ≡ 1) × ((j - 1) * w < place) × (place < (j - 1) * w + w)))
 

@@ -4,7 +4,9 @@ ghost use mathlib.Core.Path.{_≡_};
 ghost use Prim.Native.Nat.{_≤_};
 ghost use lib.ListN.{length};
 use libc::STDOUT_FILENO;
+use session::Answer;
 use session::Session;
+use shape::Points;
 
 // A comma and the refusal, a comma and the value, a line feed; how many bytes they take.
 fn lay(out: &mut [u8], refusal: u8, value: u32) -> usize
@@ -27,27 +29,41 @@ fn show(case: &[u8], refusal: u8, value: u32) {
 // A line read for three posts, t = 1: its first number.
 fn read_line(case: &[u8], line: &[u8]) {
     let mut numbers = [0u32; 4];
-    let read = lines::read(3, 1, line, &mut numbers);
+    let read = lines::read(3, 1, 1, line, &mut numbers);
     show(case, read.refusal, numbers[0]);
+}
+
+// A new session with one check point.
+fn one_point(n: usize, t: usize, post: usize, point: u32) -> Answer {
+    Session::new(
+        n,
+        t,
+        post,
+        1,
+        Points {
+            first: point,
+            second: 0,
+        },
+    )
 }
 
 // A new session for n posts and this t.
 fn begin(case: &[u8], n: usize, t: usize) {
-    let answer = Session::new(n, t, 1, 2);
+    let answer = one_point(n, t, 1, 2);
     show(case, answer.refusal, answer.value);
 }
 
 // Post 1's row loaded into this row of a new session.
 fn load_into(case: &[u8], row: usize) {
     let mut rows = [0u32; 768];
-    let session = Session::new(3, 1, 1, 2).session;
+    let session = one_point(3, 1, 1, 2).session;
     let answer = load::load_row(session, &mut rows, row, &[1, 2, 5, 5, 17, 12, 18, 24]);
     show(case, answer.refusal, answer.value);
 }
 
 // A post of three that holds a = 100 in row 0 and a + (p − 1) a in row 1.
 fn prepared(post: usize, point: u32, rows: &mut [u32], pack: &[u32]) -> Session {
-    let session = Session::new(3, 1, post, point).session;
+    let session = one_point(3, 1, post, point).session;
     let loaded = load::load_row(session, rows, 0, pack).session;
     let dealt = deal::deal(loaded, rows, 0, 93).session;
     linear::linear(dealt, rows, 1, 0, 0, 2147483646, 0).session
@@ -63,6 +79,28 @@ fn open_with_two(case: &[u8], row: usize) {
     message::opening_message(second, &other, row, &mut sent);
     let blocks = [0, 0, 0, 1, sent[0], sent[1], 0, 0, 0];
     let answer = opening::open(first, &rows, row, &blocks);
+    show(case, answer.refusal, answer.value);
+}
+
+// A new session of document 02, (ix), with so many points, 2 and this one.
+fn begin_with(case: &[u8], points: usize, second: u32) {
+    let answer = Session::new(3, 1, 1, points, Points { first: 2, second });
+    show(case, answer.refusal, answer.value);
+}
+
+// Post 1 of three, with the check points 2 and 4, opens 100 with what is said to be post 2's polynomial.
+fn open_with_points(case: &[u8], a: u32, b: u32, c: u32) {
+    let mut rows = [0u32; 1152];
+    let pair = Points {
+        first: 2,
+        second: 4,
+    };
+    let new = Session::new(3, 1, 1, 2, pair).session;
+    let pack = [1, 2, 1, 9, 25, 13, 39, 29, 77, 12, 18, 24];
+    let loaded = load::load_row(new, &mut rows, 0, &pack).session;
+    let dealt = deal::deal(loaded, &mut rows, 0, 93).session;
+    let blocks = [0, 0, 0, 0, 1, a, b, c, 0, 0, 0, 0];
+    let answer = opening::open(dealt, &rows, 0, &blocks);
     show(case, answer.refusal, answer.value);
 }
 
@@ -83,7 +121,7 @@ fn loaded(
     b: &[u32],
     triple: &[u32],
 ) -> Session {
-    let new = Session::new(3, 1, post, point).session;
+    let new = one_point(3, 1, post, point).session;
     let first = load::load_row(new, rows, 0, a).session;
     let second = load::load_row(first, rows, 1, b).session;
     load::load_triple(second, rows, 2, triple).session
@@ -188,4 +226,12 @@ fn main() {
     load_into(b"row 96", 96);
     open_alone(b"record empty with t = 1");
     open_charge(b"6 x 7 + 8");
+    begin_with(b"no points", 0, 4);
+    begin_with(b"three points", 3, 4);
+    begin_with(b"second point 2147483646", 2, 2147483646);
+    begin_with(b"second point 2147483647", 2, 2147483647);
+    begin_with(b"second point not looked at", 1, 2147483647);
+    open_with_points(b"a with two points", 3, 1, 2);
+    open_with_points(b"passes the first point only", 13, 0, 0);
+    open_with_points(b"passes the second point only", 39, 0, 0);
 }

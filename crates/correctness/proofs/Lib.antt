@@ -1,3 +1,4 @@
+pub mod Tuples
 pub mod Meanings
 pub mod Alone
 pub mod Asked

@@ -6,8 +6,10 @@ use mathlib.Core.List.{List}
 use native.Mathlib.Omega.{arith}
 use lib.ListN.{length, take, drop}
 use Rattle.poly.specs.Counting.{Elements}
+use Rattle.shape.specs.Bounds.{mostPoints}
 use Rattle.shape.specs.Marks.{held, masked}
 use Rattle.shape.specs.Lengths.{vLength}
+use Rattle.refusal.proofs.Laws.{inside}
 use Rattle.session.specs.declared.Session.{Session}
 use Rattle.session.specs.Sessions.{mark, shapeOf}
 use Rattle.session.specs.Rows.{width, rowAt}
@@ -35,14 +37,14 @@ use Rattle.correctness.proofs.Openings as Openings
 use Rattle.correctness.proofs.Theorems.{lens, end, stands, reliable}
 use Rattle.correctness.proofs.Caught.{false-caught}
 
-part-from : (P : ℕ → List ℕ → Type 0) (s : Session) (row : List ℕ) (X : Vector) → row ≡ heldRow s X
+part-from : (P : ℕ → List ℕ → Type 0) (s : Session) (row : List ℕ) (X : Vector) → s .points ≤ mostPoints → row ≡ heldRow s X
     → ((j : ℕ) (xs : List ℕ) → 1 ≤ j → j ≤ s .n → length xs ≡ vLength (shapeOf s) → Elements xs → P j xs → xs ≡ numbers (vLength (shapeOf s)) (X .v j))
     → PartOf P s row X
-part-from P s row X e theirs = record {
+part-from P s row X few e theirs = record {
   part = e;
   polynomial = theirs;
   caught = λ blocks j xs lj hj other proper many elements m untrue.
-      false-caught s X blocks j lj hj other proper
+      false-caught s X blocks j few lj hj other proper
       (λ a. untrue (ap (λ (y : List ℕ). sent s y blocks j) e ∙ a ∙ sym (theirs j xs lj hj many elements m)));
 }
 
@@ -101,6 +103,10 @@ module _ (plan : Plan) (draw : Draw) (L : Ledger) (S : ℕ → Type 0) (rows : �
   abbrev l : List ℕ
   l = w .posts i .rows
 
+  -- the number of points is 1 or 2 by the plan
+  few : s .points ≤ mostPoints
+  few = inside 1 mostPoints (plan .points) (h .sound .counted) .1
+
   at-post : (Q : Post → Type 0) → Q (postAt plan draw i M (g .stands .opened) l) → Q (w .posts i)
   at-post Q = subst Q (sym (named plan draw _ i M vec (w .posts i) (g .stands)))
 
@@ -122,7 +128,7 @@ module _ (plan : Plan) (draw : Draw) (L : Ledger) (S : ℕ → Type 0) (rows : �
       at-post (λ (q : Post). mark (q .session) r ≡ held → PartOf (TruePolynomial S w r) (q .session) (rowAt (width (q .session)) (q .rows) r) X)
       (λ two.
       let low = marked-low M (g .sized) r two in
-      part-from (TruePolynomial S w r) s (rowAt (width s) l r) X
+      part-from (TruePolynomial S w r) s (rowAt (width s) l r) X few
       (g .stands .holds .rows r low (omega (arith, two)) ∙ ap (heldRow s) (one plan draw L (g .facts r low .held two) is))
       (λ j xs lj hj many elements m. reliable plan draw L S rows es h r j xs (omega (arith, low)) lj hj (inr (many, elements)) m X is))
 
@@ -166,10 +172,10 @@ module _ (plan : Plan) (draw : Draw) (L : Ledger) (S : ℕ → Type 0) (rows : �
       let t = g .facts r (marked-low M (g .sized) r five) .triple (inr (inl five)) in let same = one-pair plan draw L r (factors-of five) k in
       let ea : maskVectorA M vec r ≡ less (k .X) (vectorA plan draw r) = ap₂ less (same .0) (t .is-a) in
       let eb : maskVectorB M vec r ≡ less (k .Y) (vectorB plan draw r) = ap₂ less (same .1) (t .is-b) in (
-        part-from HalfA s (Collect.maskA s l r) _
+        part-from HalfA s (Collect.maskA s l r) _ few
             (Openings.mask-a G r five ∙ ap (heldRow s) ea)
             (λ j xs lj hj many elements m. told-a plan draw L (h .sound) (h .is-draw) S w said M vec (g .facts) r (waiting five) j lj hj xs m ∙ ap (λ (Z : Vector). numbers (vLength (planShape plan)) (Z .v j)) ea),
-        part-from HalfB s (Collect.maskB s l r) _
+        part-from HalfB s (Collect.maskB s l r) _ few
             (Openings.mask-b G r five ∙ ap (heldRow s) eb)
             (λ j xs lj hj many elements m. told-b plan draw L (h .sound) (h .is-draw) S w said M vec (g .facts) r (waiting five) j lj hj xs m ∙ ap (λ (Z : Vector). numbers (vLength (planShape plan)) (Z .v j)) eb),
       ))

@@ -128,7 +128,7 @@ module _ (G : Stander) where
 
   pub frame-clear : (r : ℕ) {m : ℕ} → markOf M r ≡ suc m → first (frameTests s l) ≡ 0
   frame-clear r e =
-      clear-join (sessionTests (plan .n) (plan .t) i (pointOf draw i)) (5 when wrongLength l (rowsLength (shapeOf s)) ∷ []) tt
+      clear-join (sessionTests (plan .n) (plan .t) i (plan .points) (pointOf plan draw i)) (5 when wrongLength l (rowsLength (shapeOf s)) ∷ []) tt
       (session-passes plan draw sound is i lo hi)
       (not-refused (5 when wrongLength l (rowsLength (shapeOf s)) ∷ []) (ap not (eq-eqb (length l) (rowsLength (shapeOf s)) (h .long ∙ full r (omega (arith, e)))), tt))
 

@@ -68,7 +68,7 @@ module _ (plan : Plan) (draw : Draw) (L : Ledger) (S : ℕ → Type 0) (rows : �
       (λ o X is.
       let low = marked-low (g .marks) (g .sized) r (o .0) in
       o .1 ∙ ap (take (vLength (planShape plan))) (g .stands .holds .rows r low (omega (arith, o .0)))
-      ∙ own-numbers (planShape plan) j (element (pointOf draw j)) (g .vec r)
+      ∙ own-numbers (planShape plan) j (pointOf plan draw j) (g .vec r)
       ∙ ap (λ (Y : Vector). numbers (vLength (planShape plan)) (Y .v j)) (one plan draw L (g .facts r low .held (o .0)) is))
 
   pub reliable : Reliable plan draw L (TruePolynomial S end)

@@ -1,3 +1,4 @@
+pub mod Tuples
 pub mod History
 pub mod Ledger
 pub mod Truth

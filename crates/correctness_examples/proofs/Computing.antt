@@ -14,7 +14,7 @@ use Rattle.poly.specs.Polynomial.{value}
 use Rattle.poly.specs.Interpolation.{nodal, weight, terms, interpolated}
 use Rattle.shape.specs.Bounds.{rowCount, lastRow}
 use Rattle.refusal.specs.Refusal.{outcome}
-use Rattle.refusal.specs.Conditions.{anyBeyond}
+use Rattle.refusal.specs.Conditions.{anyBeyond, badPoints}
 use Rattle.parts.specs.Draw.{eachFrom, part}
 use Rattle.factory.specs.Calls.{dealerRefusal}
 use Rattle.session.specs.Rows.{combined, plusSums}
@@ -50,21 +50,21 @@ use Rattle.correctness_examples.specs.Station.{plan, drawWith, ledger, E
 
 -- `refl` proves it where `unfolding Computes` opens the calls' definitions
 unfoldable pub Computes : {A : Type 0} → A → A → Type 0
-unfolding Arithmetic.sum Arithmetic.product Arithmetic.difference Arithmetic.euclid Arithmetic.inverse value countFrom nodal weight terms interpolated outcome anyBeyond eachFrom part dealerRefusal combined plusSums created loadRowRefusal loadTripleRefusal withTriple dealRefusal linearRefusal messageRefusal Blocks.badBlock Blocks.badBlocks Blocks.sent Accepting.accepts Accepting.share Accepting.passing Accepting.walk Accepting.opened Accepting.disagree allPairs openRefusal masksRefusal maskNumbersOf collectRefusal multiplyRefusal productRow withProduct productsOf padded eachAt namedIn namedTwice relationMasksRefusal maskedTerms termMasks recordTests relationFinishRefusal withProducts plusTerms finishedTerms fields lastDigits sizeWithin pointOf rawDraw tripleDraw rawPack triplePack perform newPost at
+unfolding Arithmetic.sum Arithmetic.product Arithmetic.difference Arithmetic.euclid Arithmetic.inverse value countFrom nodal weight terms interpolated outcome anyBeyond eachFrom part dealerRefusal combined plusSums created badPoints loadRowRefusal loadTripleRefusal withTriple dealRefusal linearRefusal messageRefusal Blocks.badBlock Blocks.badBlocks Blocks.sent Accepting.accepts Accepting.share Accepting.passing Accepting.walk Accepting.opened Accepting.disagree allPairs openRefusal masksRefusal maskNumbersOf collectRefusal multiplyRefusal productRow withProduct productsOf padded eachAt namedIn namedTwice relationMasksRefusal maskedTerms termMasks recordTests relationFinishRefusal withProducts plusTerms finishedTerms fields lastDigits sizeWithin pointOf rawDraw tripleDraw rawPack triplePack perform newPost at
 Computes x y = x ≡ y
 
 -- ---- plan, draws and ledger
 
 pub sound : Sound plan
 unfolding plan
-sound = record { posts = refl; raws = raws; triples = λ r e. let g = eqb-true r 2 e in omega arith }
+sound = record { posts = refl; counted = refl; raws = raws; triples = λ r e. let g = eqb-true r 2 e in omega arith }
   where
     raws : (r : ℕ) → IsRaw (plan .raw r) → r ≤ lastRow
     raws zero h = lit≤ tt
     raws (suc zero) h = lit≤ tt
     raws (suc (suc r)) h = absurd h
 
-none-there : (k r : ℕ) → _≡_ {A = List ℕ} (getD (replicate k []) r []) []
+pub none-there : (k r : ℕ) → _≡_ {A = List ℕ} (getD (replicate k []) r []) []
 none-there zero r = refl
 none-there (suc k) zero = refl
 none-there (suc k) (suc r) = none-there k r

@@ -6,3 +6,4 @@ pub mod Needed
 pub mod Unheard
 pub mod Contradicting
 pub mod Relating
+pub mod TwoPointed

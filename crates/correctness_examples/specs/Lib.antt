@@ -2,3 +2,4 @@ pub mod Station
 pub mod Orders
 pub mod Fees
 pub mod Contradicted
+pub mod TwoPoints

@@ -17,6 +17,7 @@ unfoldable pub plan : Plan
 plan = record {
   n = 3;
   t = 1;
+  points = 1;
   raw = λ r. elim r [ zero ↦ by 0 | suc r ↦ elim r [ zero ↦ by 0 | suc r ↦ none ] ];
   triple = λ r. eqb r 2;
 }
@@ -50,7 +51,7 @@ dealOf draw i r u = call i (deal r (dealerNumber u (getD (rawDraw draw r) 0 0) .
 
 -- the rows that each post begins with
 abbrev pub zeros : ℕ → List ℕ
-zeros i = replicate (rowsLength (shape 3 1)) 0
+zeros i = replicate (rowsLength (shape 3 1 1)) 0
 
 -- room for an opening message and for masks, and a record without blocks
 abbrev pub room : List ℕ

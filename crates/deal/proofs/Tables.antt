@@ -1,6 +1,7 @@
 -- The call's tests are document 01's table.
-use Rattle.refusal.proofs.Figures.{beyond-figures, point-figures}
+use Rattle.refusal.proofs.Figures.{beyond-figures, points-figures}
+use Rattle.session.specs.Sessions.{pointsOf}
 use Rattle.deal.specs.Table.{DealTable}
 
 pub deal-table : DealTable
-deal-table s rows r c = rw (point-figures (s .point), beyond-figures c)
+deal-table s rows r c = rw (points-figures (s .points) (pointsOf s), beyond-figures c)

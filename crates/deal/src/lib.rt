@@ -37,6 +37,8 @@ pub fn deal(session: Session, rows: &mut [u32], row: usize, c: u32) -> Answer
     ensures { λ r. ⌜ now (rows .exit) ≡ dealRows session (now (rows .entry)) row c ⌝ }
 {
     let refusal = deal_refusal(session, rows, row, c);
+    // The answer first: what it has of the session is then out of the way of the loop over the sums.
+    let answer = session.answer_marking(refusal, row, shape::HELD);
     deal_rows(session, rows, row, c, refusal);
-    session.answer_marking(refusal, row, shape::HELD)
+    answer
 }

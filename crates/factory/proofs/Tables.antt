@@ -5,7 +5,7 @@ use Rattle.factory.specs.Table.{FactoryTables}
 
 pub factory-tables : FactoryTables
 factory-tables = record {
-  row = λ n t points draw out. refl;
-  triple = λ n t points draw out. refl;
+  row = λ n t points ws draw out. refl;
+  triple = λ n t points ws draw out. refl;
   dealer = λ u constant. rw (beyond-figures u, beyond-figures constant);
 }

@@ -24,23 +24,23 @@ use Rattle.factory.proofs.Tables.{factory-tables}
 pub factory-lawful : FactoryLawful
 unfolding factoryRowRefusal factoryTripleRefusal dealerRefusal
 factory-lawful = record {
-  row-refusal = λ n t points draw out. refl;
-  row = λ n t points draw out. keeps (List ℕ) 1 (rowTable n t points draw out) (omega arith) (packs (shape n t) points draw) out;
-  triple-refusal = λ n t points draw out. refl;
-  triple = λ n t points draw out.
-      keeps (List ℕ) 1 (tripleTable n t points draw out) (omega arith) (triplePacks (shape n t) points draw) out;
+  row-refusal = λ n t points ws draw out. refl;
+  row = λ n t points ws draw out. keeps (List ℕ) 1 (rowTable n t points ws draw out) (omega arith) (packs (shape n t points) ws draw) out;
+  triple-refusal = λ n t points ws draw out. refl;
+  triple = λ n t points ws draw out.
+      keeps (List ℕ) 1 (tripleTable n t points ws draw out) (omega arith) (triplePacks (shape n t points) ws draw) out;
   dealer = λ u constant.
       keeps-by {A = Number} (factory-tables .dealer u constant) (omega arith) (record { refusal = 0; value = difference u constant })
       (λ k. record { refusal = k; value = 0 });
 }
 
 -- the packs, by the refusals that the contracts cite
-module _ (n t : ℕ) (points draw out : List ℕ) where
-  pub row-done : factoryRowRefusal n t points draw out ≡ 0 → factoryRowOut n t points draw out ≡ packs (shape n t) points draw
-  row-done z = factory-lawful .row n t points draw out .done (sym (factory-lawful .row-refusal n t points draw out) ∙ z)
+module _ (n t points : ℕ) (ws draw out : List ℕ) where
+  pub row-done : factoryRowRefusal n t points ws draw out ≡ 0 → factoryRowOut n t points ws draw out ≡ packs (shape n t points) ws draw
+  row-done z = factory-lawful .row n t points ws draw out .done (sym (factory-lawful .row-refusal n t points ws draw out) ∙ z)
 
-  pub triple-done : factoryTripleRefusal n t points draw out ≡ 0 → factoryTripleOut n t points draw out ≡ triplePacks (shape n t) points draw
-  triple-done z = factory-lawful .triple n t points draw out .done (sym (factory-lawful .triple-refusal n t points draw out) ∙ z)
+  pub triple-done : factoryTripleRefusal n t points ws draw out ≡ 0 → factoryTripleOut n t points ws draw out ≡ triplePacks (shape n t points) ws draw
+  triple-done z = factory-lawful .triple n t points ws draw out .done (sym (factory-lawful .triple-refusal n t points ws draw out) ∙ z)
 
 -- one check point
 in-range : (w : ℕ) → badPoint w ≡ false → (1 ≤ w) × (w ≤ 2147483646)

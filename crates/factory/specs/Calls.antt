@@ -3,9 +3,9 @@ use Prim.Native.Nat.{ℕ, _*_}
 use mathlib.Core.Bool.{Bool, false, _||_}
 use mathlib.Core.List.{List, [], _∷_, _++_}
 use Rattle.field.specs.Arithmetic.{difference}
-use Rattle.shape.specs.Lengths.{shape, drawLength, tripleDrawLength, packsLength}
+use Rattle.shape.specs.Lengths.{shape, checksLength, drawLength, tripleDrawLength, packsLength}
 use Rattle.refusal.specs.Refusal.{Test, _when_, first, outcome}
-use Rattle.refusal.specs.Conditions.{wrongLength, beyond, anyBeyond, badPoint, postsTests}
+use Rattle.refusal.specs.Conditions.{wrongLength, beyond, anyBeyond, badPoint, stationTests}
 use Rattle.packs.specs.Packs.{packs, triplePacks}
 use Rattle.factory.specs.declared.Number.{Number}
 
@@ -16,35 +16,35 @@ anyBadPoint (w ∷ ws) = badPoint w || anyBadPoint ws
 
 -- 4, then 5 for the check points, the draw and the list that is written, then 8
 abbrev pub listsTests : ℕ → List ℕ → List ℕ → ℕ → List ℕ → ℕ → List Test
-listsTests n points draw drawn out written =
-    4 when anyBadPoint points
-    ∷ 5 when wrongLength points n
+listsTests n ws draw drawn out written =
+    4 when anyBadPoint ws
+    ∷ 5 when wrongLength ws n
     ∷ 5 when wrongLength draw drawn
     ∷ 5 when wrongLength out written
     ∷ 8 when anyBeyond draw
     ∷ []
 
-abbrev pub factoryTests : ℕ → ℕ → List ℕ → List ℕ → ℕ → List ℕ → ℕ → List Test
-factoryTests n t points draw drawn out written = postsTests n t ++ listsTests n points draw drawn out written
+abbrev pub factoryTests : ℕ → ℕ → ℕ → List ℕ → List ℕ → ℕ → List ℕ → ℕ → List Test
+factoryTests n t points ws draw drawn out written = stationTests n t points ++ listsTests (checksLength (shape n t points)) ws draw drawn out written
 
-abbrev pub factoryRowTests : ℕ → ℕ → List ℕ → List ℕ → List ℕ → List Test
-factoryRowTests n t points draw out = factoryTests n t points draw (drawLength (shape n t)) out (packsLength (shape n t))
+abbrev pub factoryRowTests : ℕ → ℕ → ℕ → List ℕ → List ℕ → List ℕ → List Test
+factoryRowTests n t points ws draw out = factoryTests n t points ws draw (drawLength (shape n t points)) out (packsLength (shape n t points))
 
-unfoldable pub factoryRowRefusal : ℕ → ℕ → List ℕ → List ℕ → List ℕ → ℕ
-factoryRowRefusal n t points draw out = first (factoryRowTests n t points draw out)
+unfoldable pub factoryRowRefusal : ℕ → ℕ → ℕ → List ℕ → List ℕ → List ℕ → ℕ
+factoryRowRefusal n t points ws draw out = first (factoryRowTests n t points ws draw out)
 
-abbrev pub factoryRowOut : ℕ → ℕ → List ℕ → List ℕ → List ℕ → List ℕ
-factoryRowOut n t points draw out = outcome (factoryRowRefusal n t points draw out) (packs (shape n t) points draw) out
+abbrev pub factoryRowOut : ℕ → ℕ → ℕ → List ℕ → List ℕ → List ℕ → List ℕ
+factoryRowOut n t points ws draw out = outcome (factoryRowRefusal n t points ws draw out) (packs (shape n t points) ws draw) out
 
-abbrev pub factoryTripleTests : ℕ → ℕ → List ℕ → List ℕ → List ℕ → List Test
-factoryTripleTests n t points draw out =
-    factoryTests n t points draw (tripleDrawLength (shape n t)) out (3 * packsLength (shape n t))
+abbrev pub factoryTripleTests : ℕ → ℕ → ℕ → List ℕ → List ℕ → List ℕ → List Test
+factoryTripleTests n t points ws draw out =
+    factoryTests n t points ws draw (tripleDrawLength (shape n t points)) out (3 * packsLength (shape n t points))
 
-unfoldable pub factoryTripleRefusal : ℕ → ℕ → List ℕ → List ℕ → List ℕ → ℕ
-factoryTripleRefusal n t points draw out = first (factoryTripleTests n t points draw out)
+unfoldable pub factoryTripleRefusal : ℕ → ℕ → ℕ → List ℕ → List ℕ → List ℕ → ℕ
+factoryTripleRefusal n t points ws draw out = first (factoryTripleTests n t points ws draw out)
 
-abbrev pub factoryTripleOut : ℕ → ℕ → List ℕ → List ℕ → List ℕ → List ℕ
-factoryTripleOut n t points draw out = outcome (factoryTripleRefusal n t points draw out) (triplePacks (shape n t) points draw) out
+abbrev pub factoryTripleOut : ℕ → ℕ → ℕ → List ℕ → List ℕ → List ℕ → List ℕ
+factoryTripleOut n t points ws draw out = outcome (factoryTripleRefusal n t points ws draw out) (triplePacks (shape n t points) ws draw) out
 
 -- Deal: "The dealer's number is c = u − f(0)."
 abbrev pub dealerTests : ℕ → ℕ → List Test

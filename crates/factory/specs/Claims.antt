@@ -15,13 +15,13 @@ use Rattle.factory.specs.Table.{rowTable, tripleTable, dealerTable}
 
 -- The answers' refusals, and the lent list: the packs, or as it came.
 pub record FactoryLawful : Type 0 where
-  pub row-refusal : (n t : ℕ) (points draw out : List ℕ) → factoryRowRefusal n t points draw out ≡ first (rowTable n t points draw out)
-  pub row : (n t : ℕ) (points draw out : List ℕ)
-      → Keeps (rowTable n t points draw out) (packs (shape n t) points draw) out (factoryRowOut n t points draw out)
-  pub triple-refusal : (n t : ℕ) (points draw out : List ℕ)
-      → factoryTripleRefusal n t points draw out ≡ first (tripleTable n t points draw out)
-  pub triple : (n t : ℕ) (points draw out : List ℕ)
-      → Keeps (tripleTable n t points draw out) (triplePacks (shape n t) points draw) out (factoryTripleOut n t points draw out)
+  pub row-refusal : (n t points : ℕ) (ws draw out : List ℕ) → factoryRowRefusal n t points ws draw out ≡ first (rowTable n t points ws draw out)
+  pub row : (n t points : ℕ) (ws draw out : List ℕ)
+      → Keeps (rowTable n t points ws draw out) (packs (shape n t points) ws draw) out (factoryRowOut n t points ws draw out)
+  pub triple-refusal : (n t points : ℕ) (ws draw out : List ℕ)
+      → factoryTripleRefusal n t points ws draw out ≡ first (tripleTable n t points ws draw out)
+  pub triple : (n t points : ℕ) (ws draw out : List ℕ)
+      → Keeps (tripleTable n t points ws draw out) (triplePacks (shape n t points) ws draw) out (factoryTripleOut n t points ws draw out)
   pub dealer : (u constant : ℕ)
       → Keeps {A = Number} (dealerTable u constant) (record { refusal = 0; value = difference u constant })
       (record { refusal = first (dealerTable u constant); value = 0 }) (dealerNumber u constant)

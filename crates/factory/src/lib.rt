@@ -13,30 +13,30 @@ pub struct Number {
 }
 
 // All posts' parts of one drawn row.
-pub fn row(n: usize, t: usize, points: &[u32], draw: &[u32], out: &mut [u32]) -> u8
-    ensures { λ r. ⌜ r ≡ factoryRowRefusal n t (now (points .entry)) (now (draw .entry)) (now (out .entry)) ⌝ }
-    ensures { λ r. ⌜ now (out .exit) ≡ factoryRowOut n t (now (points .entry)) (now (draw .entry)) (now (out .entry)) ⌝ }
+pub fn row(n: usize, t: usize, points: usize, ws: &[u32], draw: &[u32], out: &mut [u32]) -> u8
+    ensures { λ r. ⌜ r ≡ factoryRowRefusal n t points (now (ws .entry)) (now (draw .entry)) (now (out .entry)) ⌝ }
+    ensures { λ r. ⌜ now (out .exit) ≡ factoryRowOut n t points (now (ws .entry)) (now (draw .entry)) (now (out .entry)) ⌝ }
 {
-    let refusal = checks::row_refusal(n, t, points, draw, out);
+    let refusal = checks::row_refusal(n, t, points, ws, draw, out);
     if refusal != 0 {
         return refusal;
     }
-    let shape = Shape { n, t };
-    packs::write_row(shape, points, draw, out);
+    let shape = Shape { n, t, points };
+    packs::write_row(shape, ws, draw, out);
     0
 }
 
 // All posts' parts of a drawn triple: of l, then of l', then of l''.
-pub fn triple(n: usize, t: usize, points: &[u32], draw: &[u32], out: &mut [u32]) -> u8
-    ensures { λ r. ⌜ r ≡ factoryTripleRefusal n t (now (points .entry)) (now (draw .entry)) (now (out .entry)) ⌝ }
-    ensures { λ r. ⌜ now (out .exit) ≡ factoryTripleOut n t (now (points .entry)) (now (draw .entry)) (now (out .entry)) ⌝ }
+pub fn triple(n: usize, t: usize, points: usize, ws: &[u32], draw: &[u32], out: &mut [u32]) -> u8
+    ensures { λ r. ⌜ r ≡ factoryTripleRefusal n t points (now (ws .entry)) (now (draw .entry)) (now (out .entry)) ⌝ }
+    ensures { λ r. ⌜ now (out .exit) ≡ factoryTripleOut n t points (now (ws .entry)) (now (draw .entry)) (now (out .entry)) ⌝ }
 {
-    let refusal = checks::triple_refusal(n, t, points, draw, out);
+    let refusal = checks::triple_refusal(n, t, points, ws, draw, out);
     if refusal != 0 {
         return refusal;
     }
-    let shape = Shape { n, t };
-    packs::write_triple(shape, points, draw, out);
+    let shape = Shape { n, t, points };
+    packs::write_triple(shape, ws, draw, out);
     0
 }
 

@@ -1,8 +1,9 @@
 -- The longest line: a formula in n and the number of coefficients, and the line that has it.
-use Prim.Native.Nat.{ℕ, zero, suc, _+_, _*_, _≤_}
+use Prim.Native.Nat.{ℕ, zero, suc, _+_, _*_, _-_, _≤_}
 use mathlib.Core.Path.{_≡_, refl}
 use mathlib.Core.List.{[], _∷_, _++_}
 use mathlib.Core.Bool.{Bool, true, false, cond}
+use native.Mathlib.Nat.{mul-le-mul, le-refl}
 use native.Mathlib.Omega.{arith}
 use borrow.Author.Tests.{le-ltb}
 use lib.ListN.{length, replicate, length-append, length-replicate}
@@ -16,7 +17,7 @@ use Rattle.decimal.proofs.Sizes.{size-pos, size-grows}
 use Rattle.csv.specs.Fields.{field, fields, written}
 use Rattle.csv.proofs.Overwriting.{length-field, length-fields-le}
 use Rattle.csv.proofs.Laying.{length-written}
-use Rattle.forms.specs.Claims.{longest, NoneLonger, OneAsLong, LongestLines, AtMost5619}
+use Rattle.forms.specs.Claims.{longest, NoneLonger, OneAsLong, LongestLines, AtMostLongest}
 use Rattle.forms.proofs.Ranges.{last-row-le}
 use Rattle.forms.proofs.RoundTrip.{WithinBounds, in-range}
 
@@ -83,10 +84,11 @@ unfolding sizeWithin
 longest-lines = (refl, refl, refl)
 
 -- fewer posts, or fewer coefficients, make no line longer
-longest-grows : (n m k : ℕ) → n ≤ m → k ≤ m → longest n k ≤ longest m m
-longest-grows n m k h g = omega (arith, size-grows 9 n m h)
+longest-grows : (n m k j : ℕ) → n ≤ m → k ≤ j → longest n k ≤ longest m j
+longest-grows n m k j h g = omega (arith, size-grows 9 n m h)
 
-pub at-most-5619 : AtMost5619
-at-most-5619 n t m h g s =
-    let k = vLength (shape n t) in
-    omega (arith, none-longer n k m (omega arith) s, longest-grows n mostPosts k h (omega arith), longest-lines .1)
+pub at-most-longest : AtMostLongest
+at-most-longest n t points m h g s =
+    let k = vLength (shape n t points) in
+    let reach = mul-le-mul {n₁ = points} {m₁ = t} {n₂ = points} {m₂ = mostPosts - 1} (le-refl points) (omega arith) in
+    omega (arith, none-longer n k m (omega arith) s, longest-grows n mostPosts k (points * (mostPosts - 1) + 1) h (omega (arith, reach)))

@@ -1,6 +1,6 @@
 -- What is claimed of whole lines; proved in proofs/RoundTrip.antt and proofs/Longest.antt. n is the number of posts, and k that of
 -- a message's coefficients.
-use Prim.Native.Nat.{ℕ, _+_, _*_, _≤_, _<_}
+use Prim.Native.Nat.{ℕ, _+_, _*_, _-_, _≤_, _<_}
 use mathlib.Core.Path.{_≡_}
 use mathlib.Core.List.{List}
 use lib.ListN.{length, replicate}
@@ -46,9 +46,14 @@ longestMasks n k = masks lastTriple n (replicate (2 * k) 2147483646)
 abbrev pub OneAsLong : Type 0
 OneAsLong = (n k : ℕ) → 1 ≤ n → Sent n k (longestMasks n k) × (length (text (longestMasks n k)) ≡ longest n k)
 
--- Document 01's 712, at 32 posts, is a case of it, and so are document 02's 5,619 at 255, and 11,207 with two check points a post.
-abbrev pub LongestLines : Type 0
-LongestLines = (longest 32 32 ≡ 712) × (longest 255 255 ≡ 5619) × (longest 255 509 ≡ 11207)
+-- No line of a station is longer than the longest of 255 posts with the largest t and as many check points a post.
+abbrev pub longestWith : ℕ → ℕ
+longestWith points = longest mostPosts (vLength (shape mostPosts (mostPosts - 1) points))
 
-abbrev pub AtMost5619 : Type 0
-AtMost5619 = (n t : ℕ) (m : Message) → n ≤ mostPosts → t < n → Sent n (vLength (shape n t)) m → length (text m) ≤ 5619
+abbrev pub AtMostLongest : Type 0
+AtMostLongest =
+    (n t points : ℕ) (m : Message) → n ≤ mostPosts → t < n → Sent n (vLength (shape n t points)) m → length (text m) ≤ longestWith points
+
+-- Document 01's 712, at 32 posts, is a case of the formula, and so are document 02's 5,619 at 255, and 11,207 with two check points a post.
+abbrev pub LongestLines : Type 0
+LongestLines = (longest 32 (vLength (shape 32 31 1)) ≡ 712) × (longestWith 1 ≡ 5619) × (longestWith 2 ≡ 11207)

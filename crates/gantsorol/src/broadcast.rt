@@ -27,45 +27,53 @@ pub extern "C" fn gantsorol_write_deal(
 pub extern "C" fn gantsorol_write_opening(
     n: usize,
     t: usize,
+    points: usize,
     row: usize,
     post: usize,
     coefficients: &[u32],
     out: &mut [u8],
 ) -> Written
     ensures { λ r. ⌜ r
-        ≡ writtenAs (writeOpeningRefusal n t row post (now (coefficients .entry)) (length (now (out .entry))))
+        ≡ writtenAs (writeOpeningRefusal n t points row post (now (coefficients .entry)) (length (now (out .entry))))
         (text (opening row post (now (coefficients .entry)))) ⌝ }
     ensures { λ r. ⌜ now (out .exit)
-        ≡ partAs (writeOpeningRefusal n t row post (now (coefficients .entry)) (length (now (out .entry))))
+        ≡ partAs (writeOpeningRefusal n t points row post (now (coefficients .entry)) (length (now (out .entry))))
         (text (opening row post (now (coefficients .entry)))) (now (out .entry)) ⌝ }
 {
-    lines::write_opening(n, t, row, post, coefficients, out)
+    lines::write_opening(n, t, points, row, post, coefficients, out)
 }
 
 #[no_mangle]
 pub extern "C" fn gantsorol_write_masks(
     n: usize,
     t: usize,
+    points: usize,
     row: usize,
     post: usize,
     coefficients: &[u32],
     out: &mut [u8],
 ) -> Written
     ensures { λ r. ⌜ r
-        ≡ writtenAs (writeMasksRefusal n t row post (now (coefficients .entry)) (length (now (out .entry))))
+        ≡ writtenAs (writeMasksRefusal n t points row post (now (coefficients .entry)) (length (now (out .entry))))
         (text (masks row post (now (coefficients .entry)))) ⌝ }
     ensures { λ r. ⌜ now (out .exit)
-        ≡ partAs (writeMasksRefusal n t row post (now (coefficients .entry)) (length (now (out .entry))))
+        ≡ partAs (writeMasksRefusal n t points row post (now (coefficients .entry)) (length (now (out .entry))))
         (text (masks row post (now (coefficients .entry)))) (now (out .entry)) ⌝ }
 {
-    lines::write_masks(n, t, row, post, coefficients, out)
+    lines::write_masks(n, t, points, row, post, coefficients, out)
 }
 
 #[no_mangle]
-pub extern "C" fn gantsorol_read(n: usize, t: usize, line: &[u8], out: &mut [u32]) -> Line
-    ensures { λ r. ⌜ r ≡ lineAs (readRefusal n t (now (line .entry)) (now (out .entry))) (message (vLength (shape n t)) (now (line .entry))) ⌝ }
+pub extern "C" fn gantsorol_read(
+    n: usize,
+    t: usize,
+    points: usize,
+    line: &[u8],
+    out: &mut [u32],
+) -> Line
+    ensures { λ r. ⌜ r ≡ lineAs (readRefusal n t points (now (line .entry)) (now (out .entry))) (message (vLength (shape n t points)) (now (line .entry))) ⌝ }
     ensures { λ r. ⌜ now (out .exit)
-        ≡ listAs (readRefusal n t (now (line .entry)) (now (out .entry))) (message (vLength (shape n t)) (now (line .entry))) (now (out .entry)) ⌝ }
+        ≡ listAs (readRefusal n t points (now (line .entry)) (now (out .entry))) (message (vLength (shape n t points)) (now (line .entry))) (now (out .entry)) ⌝ }
 {
-    lines::read(n, t, line, out)
+    lines::read(n, t, points, line, out)
 }

@@ -1,6 +1,7 @@
 // The calls on a session.
 use session::Answer;
 use session::Session;
+use shape::Points;
 ghost use mathlib.Core.Path.{_≡_};
 ghost use Rattle.session.specs.Sessions.{created};
 ghost use Rattle.load.specs.Load.{loadRowAnswer, loadRowRows, loadTripleAnswer, loadTripleRows};
@@ -13,10 +14,17 @@ ghost use Rattle.collect.specs.Collect.{collectAnswer};
 ghost use Rattle.multiply.specs.Multiply.{multiplyAnswer, multiplyRows};
 
 #[no_mangle]
-pub extern "C" fn gantsorol_new(n: usize, t: usize, post: usize, point: u32) -> Answer
-    ensures { λ r. ⌜ r ≡ created n t post point ⌝ }
+pub extern "C" fn gantsorol_new(
+    n: usize,
+    t: usize,
+    post: usize,
+    points: usize,
+    first: u32,
+    second: u32,
+) -> Answer
+    ensures { λ r. ⌜ r ≡ created n t post points (record { first = first; second = second }) ⌝ }
 {
-    Session::new(n, t, post, point)
+    Session::new(n, t, post, points, Points { first, second })
 }
 
 #[no_mangle]

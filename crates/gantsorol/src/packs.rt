@@ -12,28 +12,30 @@ ghost use Rattle.packfile.specs.Writing.{postAt, packRefusal};
 pub extern "C" fn gantsorol_factory_row(
     n: usize,
     t: usize,
-    points: &[u32],
+    points: usize,
+    ws: &[u32],
     draw: &[u32],
     out: &mut [u32],
 ) -> u8
-    ensures { λ r. ⌜ r ≡ factoryRowRefusal n t (now (points .entry)) (now (draw .entry)) (now (out .entry)) ⌝ }
-    ensures { λ r. ⌜ now (out .exit) ≡ factoryRowOut n t (now (points .entry)) (now (draw .entry)) (now (out .entry)) ⌝ }
+    ensures { λ r. ⌜ r ≡ factoryRowRefusal n t points (now (ws .entry)) (now (draw .entry)) (now (out .entry)) ⌝ }
+    ensures { λ r. ⌜ now (out .exit) ≡ factoryRowOut n t points (now (ws .entry)) (now (draw .entry)) (now (out .entry)) ⌝ }
 {
-    factory::row(n, t, points, draw, out)
+    factory::row(n, t, points, ws, draw, out)
 }
 
 #[no_mangle]
 pub extern "C" fn gantsorol_factory_triple(
     n: usize,
     t: usize,
-    points: &[u32],
+    points: usize,
+    ws: &[u32],
     draw: &[u32],
     out: &mut [u32],
 ) -> u8
-    ensures { λ r. ⌜ r ≡ factoryTripleRefusal n t (now (points .entry)) (now (draw .entry)) (now (out .entry)) ⌝ }
-    ensures { λ r. ⌜ now (out .exit) ≡ factoryTripleOut n t (now (points .entry)) (now (draw .entry)) (now (out .entry)) ⌝ }
+    ensures { λ r. ⌜ r ≡ factoryTripleRefusal n t points (now (ws .entry)) (now (draw .entry)) (now (out .entry)) ⌝ }
+    ensures { λ r. ⌜ now (out .exit) ≡ factoryTripleOut n t points (now (ws .entry)) (now (draw .entry)) (now (out .entry)) ⌝ }
 {
-    factory::triple(n, t, points, draw, out)
+    factory::triple(n, t, points, ws, draw, out)
 }
 
 #[no_mangle]
@@ -48,17 +50,18 @@ pub extern "C" fn gantsorol_write_pack(
     n: usize,
     t: usize,
     post: usize,
-    points: &[u32],
+    points: usize,
+    ws: &[u32],
     kinds: &[u8],
     draws: &[u32],
     out: &mut [u8],
 ) -> Written
     ensures { λ r. ⌜ r ≡ writtenAs
-        (packRefusal n t post (now (points .entry)) (now (kinds .entry)) (now (draws .entry)) (length (now (out .entry))))
-        (file (postAt n t post (now (points .entry))) (now (kinds .entry)) (now (draws .entry))) ⌝ }
+        (packRefusal n t post points (now (ws .entry)) (now (kinds .entry)) (now (draws .entry)) (length (now (out .entry))))
+        (file (postAt n t post points (now (ws .entry))) (now (kinds .entry)) (now (draws .entry))) ⌝ }
     ensures { λ r. ⌜ now (out .exit) ≡ partAs
-        (packRefusal n t post (now (points .entry)) (now (kinds .entry)) (now (draws .entry)) (length (now (out .entry))))
-        (file (postAt n t post (now (points .entry))) (now (kinds .entry)) (now (draws .entry))) (now (out .entry)) ⌝ }
+        (packRefusal n t post points (now (ws .entry)) (now (kinds .entry)) (now (draws .entry)) (length (now (out .entry))))
+        (file (postAt n t post points (now (ws .entry))) (now (kinds .entry)) (now (draws .entry))) (now (out .entry)) ⌝ }
 {
-    packfile::write(n, t, post, points, kinds, draws, out)
+    packfile::write(n, t, post, points, ws, kinds, draws, out)
 }

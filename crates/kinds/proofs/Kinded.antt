@@ -102,7 +102,7 @@ unfolding drawnFor
 drawn-small s k v = go (eqb k raw) (eqb k unused)
   where
     one : drawLength s ≤ mostPosts + mostPosts * longestRow
-    one = omega (arith, each-small s (vLength s) v (omega (arith, v .n-in, v .t-in)), v .n-in, v .t-in)
+    one = omega (arith, each-small s (vLength s) v (omega (arith, v .n-in, v .t-in, v .reach-in)), v .n-in, v .t-in)
 
     go : (a b : Bool) → cond a (drawLength s) (cond b (tripleDrawLength s) 0) ≤ mostDrawn
     go true b = omega (arith, one)

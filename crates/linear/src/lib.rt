@@ -36,6 +36,7 @@ fn linear_refusal(
     }
     let shape = session.shape();
     let marks = session.marks;
+    let seven = linear_marks(&marks, dest, a, b);
     let numbers = refusal::or_else(
         refusal::number(scale),
         refusal::or_else(
@@ -46,7 +47,7 @@ fn linear_refusal(
             ),
         ),
     );
-    let marked = refusal::or_else(linear_marks(&marks, dest, a, b), numbers);
+    let marked = refusal::or_else(seven, numbers);
     refusal::or_else(
         session::checks::row(dest),
         refusal::or_else(

@@ -10,7 +10,7 @@ use lib.Dec.{ltb, eqb}
 use Rattle.field.specs.Modulus.{p}
 use Rattle.shape.specs.Lengths.{shape, vLength, masksLength}
 use Rattle.refusal.specs.Refusal.{Test, _when_, first, outcome}
-use Rattle.refusal.specs.Conditions.{outside, wrongLength, beyond, postsTests}
+use Rattle.refusal.specs.Conditions.{outside, wrongLength, beyond, stationTests}
 use Rattle.refusal.proofs.Endings.{refused}
 use Rattle.csv.specs.declared.Run.{Run}
 use Rattle.csv.specs.declared.Run.the-variants.{Fields, Broken}
@@ -24,7 +24,7 @@ use Rattle.lines.specs.Order.{lineRefusal}
 use Rattle.forms.specs.Forms.{formOf, messageOf, message, outOfRange, beyondRange, lineTests}
 use Rattle.forms.specs.Between.{headOf, before, Headed, HeadOf, belowLimit}
 use Rattle.lines.specs.Reading.{readRefusal, noLine, limitOf, lineAs, listAs}
-use Rattle.lines.proofs.Refusing.{posts-refuse, posts-pass}
+use Rattle.lines.proofs.Refusing.{station-refuse, station-pass}
 
 -- ---- a number below the limit: row, post and numbers are in range
 limit-out : (a b : Bool) (largest : ℕ) → limitOf (a || (b || beyond 0)) ≤ largest → a || (b || beyond largest) ≡ true
@@ -168,39 +168,41 @@ module _ (n k : ℕ) (s out : List ℕ) (f : Head) (form : HeadOf k s f) where
                 ∙ rw (read-is, u, lt-ltb largest limit h)
                 (ap (padded (length out)) (ap numbersOf (scanned .rest) ∙ ap (λ (m : Message). m .numbers) (sym message-is)))
 
--- ---- 1, 2 and 5 first, then the tests ys of a line
-module _ (n t f : ℕ) (e : f ≡ first (postsTests n t)) (ys : List Test) (m : Message) where
-  pub posts-line : (v : Line) → (f ≡ 0 → ⊥) → v ≡ noLine f → v ≡ lineAs (lineRefusal n t ys) m
-  posts-line v h q =
-      q ∙ ap noLine (posts-refuse n t f e ys h)
-      ∙ refused f (lineRefusal n t ys) (record { refusal = 0; letter = m .letter; row = m .row; post = m .post }) (noLine (lineRefusal n t ys)) (posts-refuse n t f e ys h) h
+-- ---- 1, 2, 4 and 5 first, then the tests ys of a line
+module _ (n t points f : ℕ) (e : f ≡ first (stationTests n t points)) (ys : List Test) (m : Message) where
+  pub station-line : (v : Line) → (f ≡ 0 → ⊥) → v ≡ noLine f → v ≡ lineAs (lineRefusal (stationTests n t points) ys) m
+  station-line v h q =
+      let r = station-refuse n t points f e ys h in
+      q ∙ ap noLine r
+      ∙ refused f (lineRefusal (stationTests n t points) ys) (record { refusal = 0; letter = m .letter; row = m .row; post = m .post })
+      (noLine (lineRefusal (stationTests n t points) ys)) r h
 
 -- `room` is the length that the list must have, as the code counts it
-module _ (n t f : ℕ) (e : f ≡ first (postsTests n t)) (z : f ≡ 0) (s out : List ℕ) (room : ℕ) (c : room ≡ masksLength (shape n t)) where
+module _ (n t points f : ℕ) (e : f ≡ first (stationTests n t points)) (z : f ≡ 0) (s out : List ℕ) (room : ℕ) (c : room ≡ masksLength (shape n t points)) where
   abbrev k : ℕ
-  k = vLength (shape n t)
+  k = vLength (shape n t points)
 
   abbrev tests : List Test
-  tests = 5 when wrongLength out (masksLength (shape n t)) ∷ lineTests n k s
+  tests = 5 when wrongLength out (masksLength (shape n t points)) ∷ lineTests n k s
 
-  pub missized-line : (v : Line) → (length out ≡ room → ⊥) → v ≡ noLine 5 → v ≡ lineAs (readRefusal n t s out) (message k s)
+  pub missized-line : (v : Line) → (length out ≡ room → ⊥) → v ≡ noLine 5 → v ≡ lineAs (readRefusal n t points s out) (message k s)
   unfolding outcome
-  missized-line v h q = rw (← posts-pass n t f e z tests, ne-eqb (length out) (masksLength (shape n t)) (rw c at h)) q
+  missized-line v h q = rw (← station-pass n t points f e z tests, ne-eqb (length out) (masksLength (shape n t points)) (rw c at h)) q
 
-  pub missized-list : (length out ≡ room → ⊥) → out ≡ listAs (readRefusal n t s out) (message k s) out
+  pub missized-list : (length out ≡ room → ⊥) → out ≡ listAs (readRefusal n t points s out) (message k s) out
   unfolding outcome
-  missized-list h = rw (← posts-pass n t f e z tests, ne-eqb (length out) (masksLength (shape n t)) (rw c at h))
+  missized-list h = rw (← station-pass n t points f e z tests, ne-eqb (length out) (masksLength (shape n t points)) (rw c at h))
 
   module _ (h : length out ≡ room) where
-    sized : first (lineTests n k s) ≡ readRefusal n t s out
-    sized = rw (← posts-pass n t f e z tests, eq-eqb (length out) (masksLength (shape n t)) (h ∙ c))
+    sized : first (lineTests n k s) ≡ readRefusal n t points s out
+    sized = rw (← station-pass n t points f e z tests, eq-eqb (length out) (masksLength (shape n t points)) (h ∙ c))
 
     module _ (j : ℕ) (d : j ≡ k) where
       pub twice-long : length out ≡ 2 * j
       twice-long = omega arith
 
-      pub sized-line : (v : Line) → v ≡ lineAs (first (lineTests n j s)) (message j s) → v ≡ lineAs (readRefusal n t s out) (message k s)
+      pub sized-line : (v : Line) → v ≡ lineAs (first (lineTests n j s)) (message j s) → v ≡ lineAs (readRefusal n t points s out) (message k s)
       sized-line v q = (rw d at q) ∙ ap (λ (r : ℕ). lineAs r (message k s)) sized
 
-      pub sized-list : (v : List ℕ) → v ≡ listAs (first (lineTests n j s)) (message j s) out → v ≡ listAs (readRefusal n t s out) (message k s) out
+      pub sized-list : (v : List ℕ) → v ≡ listAs (first (lineTests n j s)) (message j s) out → v ≡ listAs (readRefusal n t points s out) (message k s) out
       sized-list v q = (rw d at q) ∙ ap (λ (r : ℕ). listAs r (message k s) out) sized

@@ -11,11 +11,11 @@ use lib.ListN.{length}
 use lib.Dec.{ltb}
 use Rattle.shape.specs.Bounds.{mostPosts, lastRow}
 use Rattle.shape.specs.Lengths.{shape, vLength, masksLength}
-use Rattle.refusal.specs.Refusal.{Test, _when_, first, outcome, AllFail}
-use Rattle.refusal.specs.Conditions.{beyond, anyBeyond, postsTests}
+use Rattle.refusal.specs.Refusal.{Test, _when_, first, outcome, AllFail, Numbered}
+use Rattle.refusal.specs.Conditions.{beyond, anyBeyond, postsTests, stationTests, partyTests}
 use Rattle.refusal.proofs.Groups.{stopped, went-on}
-use Rattle.refusal.proofs.Laws.{all-fail, inside}
-use Rattle.refusal.proofs.Ranges.{posts-passed}
+use Rattle.refusal.proofs.Laws.{all-fail}
+use Rattle.refusal.proofs.Ranges.{station-passed, party-passed, party-there}
 use Rattle.refusal.proofs.Endings.{refused, accepted}
 use Rattle.csv.specs.Fields.{written}
 use Rattle.forms.specs.Lines.{deal, text, lastRowOf}
@@ -24,59 +24,48 @@ use Rattle.lines.specs.declared.Written.{Written}
 use Rattle.lines.specs.Order.{lineRefusal}
 use Rattle.lines.specs.Writing.{postedTests, dealtTests, notWritten, writtenAs}
 
--- ---- 3, 5, 6, 8 and 12 of a line with a post
-module _ (n letter count row post : ℕ) (xs : List ℕ) (room : ℕ) where
+-- ---- 5, 6, 8 and 12 of a line with a post
+module _ (letter count row post : ℕ) (xs : List ℕ) (room : ℕ) where
   abbrev refusal : ℕ
-  refusal = first (postedTests n letter count row post xs room)
+  refusal = first (postedTests letter count row post xs room)
 
-  pub post-low : post < 1 → 3 ≡ refusal
-  post-low a = rw (lt-ltb post 1 a)
+  pub numbers-missized : (length xs ≡ count → ⊥) → 5 ≡ refusal
+  numbers-missized c = rw (ne-eqb (length xs) count c)
 
-  module _ (a : 1 ≤ post) where
-    pub post-high : n < post → 3 ≡ refusal
-    post-high b = rw (le-ltb post 1 a, lt-ltb n post b)
+  module _ (c : length xs ≡ count) (last : ℕ) (l : last ≡ lastRowOf letter) where
+    pub row-above : last < row → 6 ≡ refusal
+    row-above d = rw (eq-eqb (length xs) count c, ← l, lt-ltb last row d)
 
-    module _ (b : post ≤ n) where
-      pub numbers-missized : (length xs ≡ count → ⊥) → 5 ≡ refusal
-      numbers-missized c = rw (le-ltb post 1 a, le-ltb n post b, ne-eqb (length xs) count c)
+    module _ (d : row ≤ last) (g : ℕ) (e : g ≡ first (8 when anyBeyond xs ∷ [])) where
+      abbrev room-test : List Test
+      room-test = 12 when ltb room (length (written letter (row ∷ post ∷ xs))) ∷ []
 
-      module _ (c : length xs ≡ count) (last : ℕ) (l : last ≡ lastRowOf letter) where
-        pub row-above : last < row → 6 ≡ refusal
-        row-above d = rw (le-ltb post 1 a, le-ltb n post b, eq-eqb (length xs) count c, ← l, lt-ltb last row d)
+      behind : first (8 when anyBeyond xs ∷ room-test) ≡ refusal
+      behind = rw (eq-eqb (length xs) count c, ← l, le-ltb last row d)
 
-        module _ (d : row ≤ last) (g : ℕ) (e : g ≡ first (8 when anyBeyond xs ∷ [])) where
-          abbrev room-test : List Test
-          room-test = 12 when ltb room (length (written letter (row ∷ post ∷ xs))) ∷ []
+      pub number-beyond : (g ≡ 0 → ⊥) → g ≡ refusal
+      number-beyond h = stopped (8 when anyBeyond xs ∷ []) room-test tt g e h ∙ behind
 
-          behind : first (8 when anyBeyond xs ∷ room-test) ≡ refusal
-          behind = rw (le-ltb post 1 a, le-ltb n post b, eq-eqb (length xs) count c, ← l, le-ltb last row d)
+      module _ (z : g ≡ 0) (lacks : Bool) (w : lacks ≡ ltb room (length (written 0 (row ∷ post ∷ xs)))) where
+        ends : (r : ℕ) → r ≡ first room-test → r ≡ refusal
+        ends r q = went-on (8 when anyBeyond xs ∷ []) room-test tt g e r z q ∙ behind
 
-          pub number-beyond : (g ≡ 0 → ⊥) → g ≡ refusal
-          number-beyond h = stopped (8 when anyBeyond xs ∷ []) room-test tt g e h ∙ behind
+        pub part-short : lacks ≡ true → 12 ≡ refusal
+        part-short h = ends 12 (rw (← w, h))
 
-          module _ (z : g ≡ 0) (lacks : Bool) (w : lacks ≡ ltb room (length (written 0 (row ∷ post ∷ xs)))) where
-            ends : (r : ℕ) → r ≡ first room-test → r ≡ refusal
-            ends r q = went-on (8 when anyBeyond xs ∷ []) room-test tt g e r z q ∙ behind
-
-            pub part-short : lacks ≡ true → 12 ≡ refusal
-            part-short h = ends 12 (rw (← w, h))
-
-            pub part-fits : lacks ≡ false → 0 ≡ refusal
-            part-fits h = ends 0 (rw (← w, h))
+        pub part-fits : lacks ≡ false → 0 ≡ refusal
+        part-fits h = ends 0 (rw (← w, h))
 
   -- a line that is not refused
   module _ (r : ℕ) (e : r ≡ refusal) (z : r ≡ 0) where
-    none-holds : AllFail (postedTests n letter count row post xs room)
-    none-holds = all-fail (postedTests n letter count row post xs room) tt (sym e ∙ z)
+    none-holds : AllFail (postedTests letter count row post xs room)
+    none-holds = all-fail (postedTests letter count row post xs room) tt (sym e ∙ z)
 
     pub posted-row : Fits w32 row
-    posted-row = omega (arith, ltb-false (lastRowOf letter) row (none-holds .1 .1 .0), last-row-le letter)
-
-    pub posted-post : n ≤ mostPosts → Fits w32 post
-    posted-post h = let b = inside 1 n post (none-holds .0) in omega arith
+    posted-row = omega (arith, ltb-false (lastRowOf letter) row (none-holds .1 .0), last-row-le letter)
 
     pub posted-room : length (written letter ((row ∷ post ∷ []) ++ xs)) ≤ room
-    posted-room = ltb-false room _ (none-holds .1 .1 .1 .1 .0)
+    posted-room = ltb-false room _ (none-holds .1 .1 .1 .0)
 
 pub row-low : (letter row last : ℕ) → last ≡ lastRowOf letter → row ≤ last → row ≤ lastRow
 row-low letter row last l h = omega (arith, last-row-le letter)
@@ -117,28 +106,82 @@ module _ (row c room : ℕ) where
     pub deal-line : length (written 68 ((row ∷ []) ++ (c ∷ []))) ≤ room
     deal-line = ltb-false room _ (none-of-deal .1 .1 .0)
 
--- ---- 1 and 2 first, then the tests ys
-module _ (n t f : ℕ) (e : f ≡ first (postsTests n t)) where
-  pub posts-refuse : (ys : List Test) → (f ≡ 0 → ⊥) → f ≡ lineRefusal n t ys
+-- ---- the early tests first, then the tests ys
+module _ (early : List Test) (numbered : Numbered early) (f : ℕ) (e : f ≡ first early) (ys : List Test) where
+  refuse : (f ≡ 0 → ⊥) → f ≡ lineRefusal early ys
   unfolding lineRefusal
-  posts-refuse ys h = stopped (postsTests n t) ys tt f e h
+  refuse h = stopped early ys numbered f e h
 
-  pub posts-keep : (ys : List Test) (new old : List ℕ) → (f ≡ 0 → ⊥) → old ≡ outcome (lineRefusal n t ys) new old
-  posts-keep ys new old h = refused f (lineRefusal n t ys) new old (posts-refuse ys h) h
+  keep : (new old : List ℕ) → (f ≡ 0 → ⊥) → old ≡ outcome (lineRefusal early ys) new old
+  keep new old h = refused f (lineRefusal early ys) new old (refuse h) h
+
+  pass : f ≡ 0 → first ys ≡ lineRefusal early ys
+  unfolding lineRefusal
+  pass z = went-on early ys numbered f e (first ys) z refl
+
+  pub answer-passed : f ≡ 0 → (v : Written) (line : List ℕ) → v ≡ writtenAs (first ys) line → v ≡ writtenAs (lineRefusal early ys) line
+  answer-passed z v line h = h ∙ ap (λ (r : ℕ). writtenAs r line) (pass z)
+
+  pub list-passed : f ≡ 0 → (v new old : List ℕ) → v ≡ outcome (first ys) new old → v ≡ outcome (lineRefusal early ys) new old
+  list-passed z v new old h = h ∙ ap (λ (r : ℕ). outcome r new old) (pass z)
+
+-- of a `D`: 1 and 2
+module _ (n t f : ℕ) (e : f ≡ first (postsTests n t)) (ys : List Test) where
+  pub posts-refuse : (f ≡ 0 → ⊥) → f ≡ lineRefusal (postsTests n t) ys
+  posts-refuse = refuse (postsTests n t) tt f e ys
+
+  pub posts-keep : (new old : List ℕ) → (f ≡ 0 → ⊥) → old ≡ outcome (lineRefusal (postsTests n t) ys) new old
+  posts-keep = keep (postsTests n t) tt f e ys
+
+  pub answer-then : f ≡ 0 → (v : Written) (line : List ℕ) → v ≡ writtenAs (first ys) line → v ≡ writtenAs (lineRefusal (postsTests n t) ys) line
+  answer-then = answer-passed (postsTests n t) tt f e ys
+
+  pub list-then : f ≡ 0 → (v new old : List ℕ) → v ≡ outcome (first ys) new old → v ≡ outcome (lineRefusal (postsTests n t) ys) new old
+  list-then = list-passed (postsTests n t) tt f e ys
+
+-- of a line with a post, whose numbers were counted by the shape: 1 to 4
+module _ (n t post points f : ℕ) (e : f ≡ first (partyTests n t post points)) where
+  pub party-refuse : (ys : List Test) → (f ≡ 0 → ⊥) → f ≡ lineRefusal (partyTests n t post points) ys
+  party-refuse = refuse (partyTests n t post points) tt f e
+
+  pub party-keep : (ys : List Test) (new old : List ℕ) → (f ≡ 0 → ⊥) → old ≡ outcome (lineRefusal (partyTests n t post points) ys) new old
+  party-keep = keep (partyTests n t post points) tt f e
 
   module _ (z : f ≡ 0) where
-    pub posts-n : n ≤ mostPosts
-    posts-n = let v = posts-passed n t f e z in omega (arith, v .n-in)
+    pub party-post : post ≤ mostPosts
+    party-post = let v = party-passed n t post points f e z in omega (arith, v .n-in, party-there n t post points f e z)
 
-    pub posts-one : (k : ℕ) → k ≡ vLength (shape n t) → k ≤ 4294967296
-    posts-one k q = let v = posts-passed n t f e z in omega (arith, v .n-in, v .t-in)
+    pub party-one : (k : ℕ) → k ≡ vLength (shape n t points) → k ≤ 4294967296
+    party-one k q = let v = party-passed n t post points f e z in omega (arith, v .n-in, v .t-in, v .reach-in)
 
-    pub posts-two : (k : ℕ) → k ≡ masksLength (shape n t) → k ≤ 4294967296
-    posts-two k q = let v = posts-passed n t f e z in omega (arith, v .n-in, v .t-in)
+    pub party-two : (k : ℕ) → k ≡ masksLength (shape n t points) → k ≤ 4294967296
+    party-two k q = let v = party-passed n t post points f e z in omega (arith, v .n-in, v .t-in, v .reach-in)
 
-    pub posts-pass : (ys : List Test) → first ys ≡ lineRefusal n t ys
-    unfolding lineRefusal
-    posts-pass ys = went-on (postsTests n t) ys tt f e (first ys) z refl
+    module _ (letter k count row : ℕ) (q : k ≡ count) (xs : List ℕ) (room : ℕ) where
+      abbrev counted : ℕ → List Test
+      counted c = postedTests letter c row post xs room
+
+      pub posted-answer : (v : Written) (line : List ℕ) → v ≡ writtenAs (first (counted k)) line
+          → v ≡ writtenAs (lineRefusal (partyTests n t post points) (counted count)) line
+      posted-answer v line h = answer-passed (partyTests n t post points) tt f e (counted count) z v line (rw q at h)
+
+      pub posted-list : (v new old : List ℕ) → v ≡ outcome (first (counted k)) new old
+          → v ≡ outcome (lineRefusal (partyTests n t post points) (counted count)) new old
+      posted-list v new old h = list-passed (partyTests n t post points) tt f e (counted count) z v new old (rw q at h)
+
+-- of a line read: 1, 2 and 4
+module _ (n t points f : ℕ) (e : f ≡ first (stationTests n t points)) where
+  pub station-refuse : (ys : List Test) → (f ≡ 0 → ⊥) → f ≡ lineRefusal (stationTests n t points) ys
+  station-refuse = refuse (stationTests n t points) tt f e
+
+  pub station-keep : (ys : List Test) (new old : List ℕ) → (f ≡ 0 → ⊥) → old ≡ outcome (lineRefusal (stationTests n t points) ys) new old
+  station-keep = keep (stationTests n t points) tt f e
+
+  pub station-pass : f ≡ 0 → (ys : List Test) → first ys ≡ lineRefusal (stationTests n t points) ys
+  station-pass z ys = pass (stationTests n t points) tt f e ys z
+
+  pub station-one : f ≡ 0 → (k : ℕ) → k ≡ vLength (shape n t points) → k ≤ 4294967296
+  station-one z k q = let v = station-passed n t points f e z in omega (arith, v .n-in, v .t-in, v .reach-in)
 
 -- ---- the two ways in which writing ends
 pub refused-answer : (v : Written) (r x : ℕ) (line : List ℕ) → v ≡ notWritten r → r ≡ x → (r ≡ 0 → ⊥) → v ≡ writtenAs x line
@@ -148,21 +191,3 @@ pub written-answer : (r x k : ℕ) (line : List ℕ) → r ≡ x → r ≡ 0 →
 written-answer r x k line e z q =
     accepted r x (record { refusal = 0; len = k }) (record { refusal = 0; len = length line }) (notWritten x) e z
     (ap (λ (m : ℕ). record { refusal = 0; len = m }) q)
-
-module _ (n t f : ℕ) (e : f ≡ first (postsTests n t)) (z : f ≡ 0) (ys : List Test) where
-  pub answer-then : (v : Written) (line : List ℕ) → v ≡ writtenAs (first ys) line → v ≡ writtenAs (lineRefusal n t ys) line
-  answer-then v line h = h ∙ ap (λ (r : ℕ). writtenAs r line) (posts-pass n t f e z ys)
-
-  pub list-then : (v new old : List ℕ) → v ≡ outcome (first ys) new old → v ≡ outcome (lineRefusal n t ys) new old
-  list-then v new old h = h ∙ ap (λ (r : ℕ). outcome r new old) (posts-pass n t f e z ys)
-
--- of a line with a post, whose numbers were counted by the shape
-module _ (n t f : ℕ) (e : f ≡ first (postsTests n t)) (z : f ≡ 0) (letter k count row post : ℕ) (q : k ≡ count) (xs : List ℕ) (room : ℕ) where
-  abbrev counted : ℕ → List Test
-  counted c = postedTests n letter c row post xs room
-
-  pub posted-answer : (v : Written) (line : List ℕ) → v ≡ writtenAs (first (counted k)) line → v ≡ writtenAs (lineRefusal n t (counted count)) line
-  posted-answer v line h = answer-then n t f e z (counted count) v line (rw q at h)
-
-  pub posted-list : (v new old : List ℕ) → v ≡ outcome (first (counted k)) new old → v ≡ outcome (lineRefusal n t (counted count)) new old
-  posted-list v new old h = list-then n t f e z (counted count) v new old (rw q at h)

@@ -58,14 +58,14 @@ unfolding lineRefusal
 lines-lawful = record {
   write-deal = λ n t row c part.
       write-lawful-by (line-tables .write-deal n t row c (length part)) (omega arith) (text (deal row c)) part;
-  write-opening = λ n t row post xs part.
-      write-lawful (writeOpeningTable n t row post xs (length part)) (omega arith) (text (opening row post xs)) part;
-  write-masks = λ n t row post xs part.
-      write-lawful (writeMasksTable n t row post xs (length part)) (omega arith) (text (masks row post xs)) part;
-  read-answer = λ n t s out.
-      let m = message (vLength (shape n t)) s in
-      keeps Line 1 (readTable n t s out) (omega arith) (record { refusal = 0; letter = m .letter; row = m .row; post = m .post })
-      (noLine (first (readTable n t s out)));
-  read-list = λ n t s out.
-      keeps (List ℕ) 1 (readTable n t s out) (omega arith) (padded (length out) (message (vLength (shape n t)) s .numbers)) out;
+  write-opening = λ n t points row post xs part.
+      write-lawful (writeOpeningTable n t points row post xs (length part)) (omega arith) (text (opening row post xs)) part;
+  write-masks = λ n t points row post xs part.
+      write-lawful (writeMasksTable n t points row post xs (length part)) (omega arith) (text (masks row post xs)) part;
+  read-answer = λ n t points s out.
+      let m = message (vLength (shape n t points)) s in
+      keeps Line 1 (readTable n t points s out) (omega arith) (record { refusal = 0; letter = m .letter; row = m .row; post = m .post })
+      (noLine (first (readTable n t points s out)));
+  read-list = λ n t points s out.
+      keeps (List ℕ) 1 (readTable n t points s out) (omega arith) (padded (length out) (message (vLength (shape n t points)) s .numbers)) out;
 }

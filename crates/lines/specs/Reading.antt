@@ -6,15 +6,16 @@ use lib.ListN.{length}
 use Rattle.field.specs.Modulus.{p}
 use Rattle.shape.specs.Lengths.{shape, vLength, masksLength}
 use Rattle.refusal.specs.Refusal.{_when_, outcome}
-use Rattle.refusal.specs.Conditions.{wrongLength}
+use Rattle.refusal.specs.Conditions.{wrongLength, stationTests}
 use Rattle.csv.specs.Fields.{padded}
 use Rattle.forms.specs.Lines.{Message}
 use Rattle.forms.specs.Forms.{lineTests}
 use Rattle.lines.specs.declared.Line.{Line}
 use Rattle.lines.specs.Order.{lineRefusal}
 
-abbrev pub readRefusal : ℕ → ℕ → List ℕ → List ℕ → ℕ
-readRefusal n t s out = lineRefusal n t (5 when wrongLength out (masksLength (shape n t)) ∷ lineTests n (vLength (shape n t)) s)
+abbrev pub readRefusal : ℕ → ℕ → ℕ → List ℕ → List ℕ → ℕ
+readRefusal n t points s out =
+    lineRefusal (stationTests n t points) (5 when wrongLength out (masksLength (shape n t points)) ∷ lineTests n (vLength (shape n t points)) s)
 
 abbrev pub noLine : ℕ → Line
 noLine refusal = record { refusal = refusal; letter = 0; row = 0; post = 0 }

@@ -7,7 +7,7 @@ use lib.ListN.{length}
 use lib.Dec.{ltb}
 use Rattle.shape.specs.Lengths.{shape, vLength, masksLength}
 use Rattle.refusal.specs.Refusal.{Test, _when_}
-use Rattle.refusal.specs.Conditions.{outside, wrongLength, anyBeyond, postsTests}
+use Rattle.refusal.specs.Conditions.{outside, wrongLength, anyBeyond, postsTests, stationTests, partyTests}
 use Rattle.forms.specs.Lines.{deal, opening, masks, text}
 use Rattle.forms.specs.Forms.{formOf, message, isMalformed, beyondRange, lineTests}
 use Rattle.lines.specs.Writing.{dealtTests, postedTests}
@@ -22,43 +22,46 @@ writeDealTable n t row c room =
     ∷ 12 when ltb room (length (text (deal row c)))
     ∷ []
 
-abbrev pub writeOpeningTable : ℕ → ℕ → ℕ → ℕ → List ℕ → ℕ → List Test
-writeOpeningTable n t row post xs room =
+abbrev pub writeOpeningTable : ℕ → ℕ → ℕ → ℕ → ℕ → List ℕ → ℕ → List Test
+writeOpeningTable n t points row post xs room =
     1 when outside 2 255 n
     ∷ 2 when outside 1 (n - 1) t
     ∷ 3 when outside 1 n post
-    ∷ 5 when wrongLength xs (t + 1)
+    ∷ 4 when outside 1 2 points
+    ∷ 5 when wrongLength xs (points * t + 1)
     ∷ 6 when ltb 95 row
     ∷ 8 when anyBeyond xs
     ∷ 12 when ltb room (length (text (opening row post xs)))
     ∷ []
 
-abbrev pub writeMasksTable : ℕ → ℕ → ℕ → ℕ → List ℕ → ℕ → List Test
-writeMasksTable n t row post xs room =
+abbrev pub writeMasksTable : ℕ → ℕ → ℕ → ℕ → ℕ → List ℕ → ℕ → List Test
+writeMasksTable n t points row post xs room =
     1 when outside 2 255 n
     ∷ 2 when outside 1 (n - 1) t
     ∷ 3 when outside 1 n post
-    ∷ 5 when wrongLength xs (2 * (t + 1))
+    ∷ 4 when outside 1 2 points
+    ∷ 5 when wrongLength xs (2 * (points * t + 1))
     ∷ 6 when ltb 93 row
     ∷ 8 when anyBeyond xs
     ∷ 12 when ltb room (length (text (masks row post xs)))
     ∷ []
 
-abbrev pub readTable : ℕ → ℕ → List ℕ → List ℕ → List Test
-readTable n t s out =
+abbrev pub readTable : ℕ → ℕ → ℕ → List ℕ → List ℕ → List Test
+readTable n t points s out =
     1 when outside 2 255 n
     ∷ 2 when outside 1 (n - 1) t
-    ∷ 5 when wrongLength out (2 * (t + 1))
-    ∷ 10 when isMalformed (formOf (t + 1) s)
-    ∷ 11 when beyondRange n (message (t + 1) s)
+    ∷ 4 when outside 1 2 points
+    ∷ 5 when wrongLength out (2 * (points * t + 1))
+    ∷ 10 when isMalformed (formOf (points * t + 1) s)
+    ∷ 11 when beyondRange n (message (points * t + 1) s)
     ∷ []
 
 -- The calls' own tests are these.
 pub record LineTables : Type 0 where
   pub write-deal : (n t row c room : ℕ) → postsTests n t ++ dealtTests row c room ≡ writeDealTable n t row c room
-  pub write-opening : (n t row post : ℕ) (xs : List ℕ) (room : ℕ)
-      → postsTests n t ++ postedTests n 79 (vLength (shape n t)) row post xs room ≡ writeOpeningTable n t row post xs room
-  pub write-masks : (n t row post : ℕ) (xs : List ℕ) (room : ℕ)
-      → postsTests n t ++ postedTests n 77 (masksLength (shape n t)) row post xs room ≡ writeMasksTable n t row post xs room
-  pub read : (n t : ℕ) (s out : List ℕ)
-      → postsTests n t ++ (5 when wrongLength out (masksLength (shape n t)) ∷ lineTests n (vLength (shape n t)) s) ≡ readTable n t s out
+  pub write-opening : (n t points row post : ℕ) (xs : List ℕ) (room : ℕ)
+      → partyTests n t post points ++ postedTests 79 (vLength (shape n t points)) row post xs room ≡ writeOpeningTable n t points row post xs room
+  pub write-masks : (n t points row post : ℕ) (xs : List ℕ) (room : ℕ)
+      → partyTests n t post points ++ postedTests 77 (masksLength (shape n t points)) row post xs room ≡ writeMasksTable n t points row post xs room
+  pub read : (n t points : ℕ) (s out : List ℕ)
+      → stationTests n t points ++ (5 when wrongLength out (masksLength (shape n t points)) ∷ lineTests n (vLength (shape n t points)) s) ≡ readTable n t points s out

@@ -55,9 +55,8 @@ fn lacks_room(room: usize, row: usize, post: usize, numbers: &[u32]) -> bool
     room < csv::line_len(&head, numbers)
 }
 
-// 3, 5, 6, 8 and 12 of a line with a post.
+// 5, 6, 8 and 12 of a line with a post.
 fn posted_refusal(
-    n: usize,
     letter: u8,
     count: usize,
     row: usize,
@@ -65,15 +64,9 @@ fn posted_refusal(
     numbers: &[u32],
     room: usize,
 ) -> u8
-    requires { ⌜ (n ≤ mostPosts) × (count ≤ 4294967296) ⌝ }
-    ensures { λ r. ⌜ r ≡ first (postedTests n letter count row post (now (numbers .entry)) room) ⌝ }
+    requires { ⌜ (post ≤ mostPosts) × (count ≤ 4294967296) ⌝ }
+    ensures { λ r. ⌜ r ≡ first (postedTests letter count row post (now (numbers .entry)) room) ⌝ }
 {
-    if post < 1 {
-        return 3;
-    }
-    if n < post {
-        return 3;
-    }
     if numbers.len() != count {
         return 5;
     }
@@ -90,9 +83,8 @@ fn posted_refusal(
     0
 }
 
-// A line with a post, once 1 and 2 are checked.
+// A line with a post, once 1 to 4 are checked.
 fn write_posted(
-    n: usize,
     letter: u8,
     count: usize,
     row: usize,
@@ -100,15 +92,15 @@ fn write_posted(
     numbers: &[u32],
     out: &mut [u8],
 ) -> Written
-    requires { ⌜ (n ≤ mostPosts) × (count ≤ 4294967296) ⌝ }
+    requires { ⌜ (post ≤ mostPosts) × (count ≤ 4294967296) ⌝ }
     ensures { λ r. ⌜ r
-        ≡ writtenAs (first (postedTests n letter count row post (now (numbers .entry)) (length (now (out .entry)))))
+        ≡ writtenAs (first (postedTests letter count row post (now (numbers .entry)) (length (now (out .entry)))))
         (written letter (row ∷ post ∷ now (numbers .entry))) ⌝ }
     ensures { λ r. ⌜ now (out .exit)
-        ≡ partAs (first (postedTests n letter count row post (now (numbers .entry)) (length (now (out .entry)))))
+        ≡ partAs (first (postedTests letter count row post (now (numbers .entry)) (length (now (out .entry)))))
         (written letter (row ∷ post ∷ now (numbers .entry))) (now (out .entry)) ⌝ }
 {
-    let posted = posted_refusal(n, letter, count, row, post, numbers, out.len());
+    let posted = posted_refusal(letter, count, row, post, numbers, out.len());
     if posted != 0 {
         return not_written(posted);
     }
@@ -167,48 +159,50 @@ pub fn write_deal(n: usize, t: usize, row: usize, c: u32, out: &mut [u8]) -> Wri
 pub fn write_opening(
     n: usize,
     t: usize,
+    points: usize,
     row: usize,
     post: usize,
     coefficients: &[u32],
     out: &mut [u8],
 ) -> Written
     ensures { λ r. ⌜ r
-        ≡ writtenAs (writeOpeningRefusal n t row post (now (coefficients .entry)) (length (now (out .entry))))
+        ≡ writtenAs (writeOpeningRefusal n t points row post (now (coefficients .entry)) (length (now (out .entry))))
         (text (opening row post (now (coefficients .entry)))) ⌝ }
     ensures { λ r. ⌜ now (out .exit)
-        ≡ partAs (writeOpeningRefusal n t row post (now (coefficients .entry)) (length (now (out .entry))))
+        ≡ partAs (writeOpeningRefusal n t points row post (now (coefficients .entry)) (length (now (out .entry))))
         (text (opening row post (now (coefficients .entry)))) (now (out .entry)) ⌝ }
 {
-    let posts = refusal::posts(n, t);
-    if posts != 0 {
-        return not_written(posts);
+    let party = refusal::party(n, t, post, points);
+    if party != 0 {
+        return not_written(party);
     }
-    let shape = Shape { n, t };
-    write_posted(n, b'O', shape.v_len(), row, post, coefficients, out)
+    let shape = Shape { n, t, points };
+    write_posted(b'O', shape.v_len(), row, post, coefficients, out)
 }
 
 // `M,row,post,` and the coefficients of the two masks.
 pub fn write_masks(
     n: usize,
     t: usize,
+    points: usize,
     row: usize,
     post: usize,
     coefficients: &[u32],
     out: &mut [u8],
 ) -> Written
     ensures { λ r. ⌜ r
-        ≡ writtenAs (writeMasksRefusal n t row post (now (coefficients .entry)) (length (now (out .entry))))
+        ≡ writtenAs (writeMasksRefusal n t points row post (now (coefficients .entry)) (length (now (out .entry))))
         (text (masks row post (now (coefficients .entry)))) ⌝ }
     ensures { λ r. ⌜ now (out .exit)
-        ≡ partAs (writeMasksRefusal n t row post (now (coefficients .entry)) (length (now (out .entry))))
+        ≡ partAs (writeMasksRefusal n t points row post (now (coefficients .entry)) (length (now (out .entry))))
         (text (masks row post (now (coefficients .entry)))) (now (out .entry)) ⌝ }
 {
-    let posts = refusal::posts(n, t);
-    if posts != 0 {
-        return not_written(posts);
+    let party = refusal::party(n, t, post, points);
+    if party != 0 {
+        return not_written(party);
     }
-    let shape = Shape { n, t };
-    write_posted(n, b'M', shape.masks_len(), row, post, coefficients, out)
+    let shape = Shape { n, t, points };
+    write_posted(b'M', shape.masks_len(), row, post, coefficients, out)
 }
 
 fn no_line(refusal: u8) -> Line
@@ -266,16 +260,17 @@ fn read_line(n: usize, k: usize, line: &[u8], out: &mut [u32]) -> Line
 }
 
 // Any of the three lines, into a list as long as masks.
-pub fn read(n: usize, t: usize, line: &[u8], out: &mut [u32]) -> Line
-    ensures { λ r. ⌜ r ≡ lineAs (readRefusal n t (now (line .entry)) (now (out .entry))) (message (vLength (shape n t)) (now (line .entry))) ⌝ }
+pub fn read(n: usize, t: usize, points: usize, line: &[u8], out: &mut [u32]) -> Line
+    ensures { λ r. ⌜ r
+        ≡ lineAs (readRefusal n t points (now (line .entry)) (now (out .entry))) (message (vLength (shape n t points)) (now (line .entry))) ⌝ }
     ensures { λ r. ⌜ now (out .exit)
-        ≡ listAs (readRefusal n t (now (line .entry)) (now (out .entry))) (message (vLength (shape n t)) (now (line .entry))) (now (out .entry)) ⌝ }
+        ≡ listAs (readRefusal n t points (now (line .entry)) (now (out .entry))) (message (vLength (shape n t points)) (now (line .entry))) (now (out .entry)) ⌝ }
 {
-    let posts = refusal::posts(n, t);
-    if posts != 0 {
-        return no_line(posts);
+    let station = refusal::station(n, t, points);
+    if station != 0 {
+        return no_line(station);
     }
-    let shape = Shape { n, t };
+    let shape = Shape { n, t, points };
     if out.len() != shape.masks_len() {
         return no_line(5);
     }

@@ -1,7 +1,7 @@
 -- The refusal of an opening message from the checks that its code joins, and what holds where there is none.
 use Prim.Native.Nat.{ℕ}
 use mathlib.Core.Path.{_≡_, sym, _∙_, ap₂}
-use mathlib.Core.List.{List, [], _∷_}
+use mathlib.Core.List.{List, [], _∷_, _++_}
 use native.Mathlib.Omega.{arith}
 use lib.ListN.{length, take}
 use lib.Seq.{length-take-le}
@@ -11,7 +11,7 @@ use Rattle.shape.specs.Lengths.{vLength, rowLength, messageLength}
 use Rattle.shape.specs.Row.{coefficients}
 use Rattle.refusal.specs.Refusal.{Test, _when_, first, orElse}
 use Rattle.refusal.specs.Conditions.{wrongLength, anyBeyond}
-use Rattle.refusal.proofs.Groups.{chained}
+use Rattle.refusal.proofs.Groups.{chained, stopped, went-on}
 use Rattle.refusal.proofs.Endings.{refused, accepted}
 use Rattle.session.specs.declared.Session.{Session}
 use Rattle.session.specs.Sessions.{shapeOf}
@@ -36,15 +36,38 @@ module _ (s : Session) (rows : List ℕ) (r : ℕ) (out : List ℕ) where
   unfolding messageRefusal
   message-stopped f e n = stopped-at-frame s rows own f e n
 
-  pub message-checked : (g : Shape) (f w q5 q6 q7 q8 x y z : ℕ) → g ≡ shapeOf s → f ≡ first (frameTests s rows) → f ≡ 0
-      → w ≡ vLength g → q5 ≡ first (5 when wrongLength out w ∷ []) → q6 ≡ first (6 when noRow r ∷ [])
-      → q7 ≡ first (7 when wrongMark s r held ∷ []) → q8 ≡ first (8 when anyBeyond (rowAt (rowLength g) rows r) ∷ [])
-      → x ≡ orElse q7 q8 → y ≡ orElse q6 x → z ≡ orElse q5 y → z ≡ messageRefusal s rows r out
-  unfolding messageRefusal
-  message-checked g f w q5 q6 q7 q8 x y z eg e n ew e5 e6 e7 e8 ex ey ez =
-      let h5 : q5 ≡ first (5 when wrongLength out (messageLength (shapeOf s)) ∷ []) = rw (ew, eg) at e5 in
-      let h8 : q8 ≡ first (8 when anyBeyond (rowAt (width s) rows r) ∷ []) = rw eg at e8 in
-      past-frame s rows own f z e n (chained own tt z (cc))
+  abbrev size : List Test
+  size = 5 when wrongLength out (messageLength (shapeOf s)) ∷ []
+
+  abbrev place : List Test
+  place = 6 when noRow r ∷ 7 when wrongMark s r held ∷ []
+
+  abbrev numbers : List Test
+  numbers = 8 when anyBeyond (rowAt (width s) rows r) ∷ []
+
+  -- the length stops the call, or row and mark do, or it goes on
+  module _ (f : ℕ) (e : f ≡ first (frameTests s rows)) (z : f ≡ 0) (g : Shape) (eg : g ≡ shapeOf s) (w q5 : ℕ) (ew : w ≡ vLength g)
+      (e5 : q5 ≡ first (5 when wrongLength out w ∷ [])) where
+    sized : q5 ≡ first size
+    sized = rw (ew, eg) at e5
+
+    pub size-stopped : (q5 ≡ 0 → ⊥) → q5 ≡ messageRefusal s rows r out
+    unfolding messageRefusal
+    size-stopped n = past-frame s rows own f q5 e z (stopped size (place ++ numbers) tt q5 sized n)
+
+    module _ (z5 : q5 ≡ 0) (q6 q7 m : ℕ) (e6 : q6 ≡ first (6 when noRow r ∷ [])) (e7 : q7 ≡ first (7 when wrongMark s r held ∷ [])) (em : m ≡ orElse q6 q7) where
+      placed : m ≡ first place
+      placed = chained place tt m (cc)
+
+      pub place-stopped : (m ≡ 0 → ⊥) → m ≡ messageRefusal s rows r out
+      unfolding messageRefusal
+      place-stopped n = past-frame s rows own f m e z (went-on size (place ++ numbers) tt q5 sized m z5 (stopped place numbers tt m placed n))
+
+      pub message-checked : (q8 : ℕ) → m ≡ 0 → q8 ≡ first (8 when anyBeyond (rowAt (rowLength g) rows r) ∷ []) → q8 ≡ messageRefusal s rows r out
+      unfolding messageRefusal
+      message-checked q8 zm e8 =
+          past-frame s rows own f q8 e z
+          (went-on size (place ++ numbers) tt q5 sized q8 z5 (went-on place numbers tt m placed q8 zm (rw eg at e8)))
 
   pub message-untouched : (f : ℕ) → f ≡ messageRefusal s rows r out → (f ≡ 0 → ⊥) → out ≡ messageOut s rows r out
   message-untouched f e n = refused f (messageRefusal s rows r out) (coefficients (shapeOf s) (rowAt (width s) rows r)) out e n

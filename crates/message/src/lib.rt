@@ -1,4 +1,4 @@
-// Opening message: the t+1 coefficients of a held row, into a lent list.
+// Opening message: the coefficients of a held row's polynomial, into a lent list.
 use session::Answer;
 use session::Session;
 use shape::Shape;
@@ -25,8 +25,14 @@ fn message_refusal(session: Session, rows: &[u32], row: usize, out: &[u32], mark
     }
     let shape = session.shape();
     let size = refusal::size(out, shape.v_len());
-    let held = refusal::or_else(marks, session::checks::numbers(shape, rows, row));
-    refusal::or_else(size, refusal::or_else(session::checks::row(row), held))
+    if size != 0 {
+        return size;
+    }
+    let place = refusal::or_else(session::checks::row(row), marks);
+    if place != 0 {
+        return place;
+    }
+    session::checks::numbers(shape, rows, row)
 }
 
 fn message_accepted(shape: Shape, rows: &[u32], row: usize, out: &mut [u32])

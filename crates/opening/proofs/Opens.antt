@@ -49,13 +49,33 @@ module _ (s : Session) (rows : List ℕ) (r : ℕ) (blocks : List ℕ) where
   abbrev own : List Test
   own = rowChecks s rows r blocks
 
-  pub own-checked : (g : Shape) (q : Party) (a b c d u v w : ℕ) → g ≡ shapeOf s → q ≡ partyOf s → a ≡ first (6 when noRow r ∷ [])
-      → b ≡ first (7 when wrongMark s r held ∷ []) → c ≡ first (8 when anyBeyond (rowAt (Lengths.rowLength g) rows r) ∷ [])
-      → d ≡ first (8 when Blocks.badRecord q blocks ∷ []) → u ≡ orElse c d → v ≡ orElse b u → w ≡ orElse a v → w ≡ first own
-  own-checked g q a b c d u v w eg eq ea eb ec ed eu ev ew =
-      let hc : c ≡ first (8 when anyBeyond (rowAt (width s) rows r) ∷ []) = rw eg at ec in
-      let hd : d ≡ first (8 when badRecord s blocks ∷ []) = rw eq at ed in
-      cc (first-chain own tt)
+  -- 6 and 7 stop the checks, or 8 of the row does, or 8 of the record is asked last
+  abbrev place : List Test
+  place = 6 when noRow r ∷ 7 when wrongMark s r held ∷ []
+
+  abbrev row-numbers : List Test
+  row-numbers = 8 when anyBeyond (rowAt (width s) rows r) ∷ []
+
+  abbrev record-numbers : List Test
+  record-numbers = 8 when badRecord s blocks ∷ []
+
+  module _ (a b m : ℕ) (ea : a ≡ first (6 when noRow r ∷ [])) (eb : b ≡ first (7 when wrongMark s r held ∷ [])) (em : m ≡ orElse a b) where
+    placed : m ≡ first place
+    placed = cc (first-chain place tt)
+
+    pub place-stopped : (m ≡ 0 → ⊥) → m ≡ first own
+    place-stopped h = stopped place (row-numbers ++ record-numbers) tt m placed h
+
+    module _ (z : m ≡ 0) (g : Shape) (eg : g ≡ shapeOf s) (c : ℕ) (ec : c ≡ first (8 when anyBeyond (rowAt (Lengths.rowLength g) rows r) ∷ [])) where
+      numbered : c ≡ first row-numbers
+      numbered = rw eg at ec
+
+      pub numbers-stopped : (c ≡ 0 → ⊥) → c ≡ first own
+      numbers-stopped h = went-on place (row-numbers ++ record-numbers) tt m placed c z (stopped row-numbers record-numbers tt c numbered h)
+
+      pub record-checked : (q : Party) (d : ℕ) → c ≡ 0 → q ≡ partyOf s → d ≡ first (8 when Blocks.badRecord q blocks ∷ []) → d ≡ first own
+      record-checked q d zc eq ed =
+          went-on place (row-numbers ++ record-numbers) tt m placed d z (went-on row-numbers record-numbers tt c numbered d zc (rw eq at ed))
 
   -- the frame stops the call, or the length of the record does, or it goes on
   module _ (f : ℕ) (e : f ≡ first (frameTests s rows)) where

@@ -18,11 +18,15 @@ fn row_checks(session: Session, rows: &[u32], row: usize, blocks: &[u32], mark: 
     requires { ⌜ Framed session (now rows) × (length (now blocks) ≡ recordLength session) × (mark ≡ first (7 when wrongMark session row held ∷ [])) ⌝ }
     ensures { λ r. ⌜ r ≡ first (rowChecks session (now (rows .entry)) row (now (blocks .entry))) ⌝ }
 {
-    let numbers = refusal::or_else(
-        session::checks::numbers(session.shape(), rows, row),
-        blocks::refusal(session.party(), blocks),
-    );
-    refusal::or_else(session::checks::row(row), refusal::or_else(mark, numbers))
+    let place = refusal::or_else(session::checks::row(row), mark);
+    if place != 0 {
+        return place;
+    }
+    let numbers = session::checks::numbers(session.shape(), rows, row);
+    if numbers != 0 {
+        return numbers;
+    }
+    blocks::refusal(session.party(), blocks)
 }
 
 // 1 to 8 of an opening; 9 and 13 are the walk's.

@@ -15,29 +15,32 @@ use Rattle.kinds.specs.Kinds.{drawnFor, drawsLength, late, crowded, unknown}
 use Rattle.packlines.specs.File.{file}
 use Rattle.packfile.specs.Writing.{postAt, packRefusal}
 use Rattle.packfile.specs.Table.{statedLength, packTable}
-use Rattle.packfile.specs.Claims.{PackLawful}
+use Rattle.packfile.specs.Claims.{PackLawful, PostPlaced}
 
 -- The draws' length that the call reckons is the stated one.
-stated : (n t : ℕ) (kinds : List ℕ) → drawsLength (shape n t) kinds ≡ statedLength n t kinds
+stated : (n t points : ℕ) (kinds : List ℕ) → drawsLength (shape n t points) kinds ≡ statedLength n t points kinds
 unfolding drawsLength drawnFor statedLength
-stated n t [] = refl
-stated n t (k ∷ ks) = ap (λ (m : ℕ). drawnFor (shape n t) k + m) (stated n t ks)
+stated n t points [] = refl
+stated n t points (k ∷ ks) = ap (λ (m : ℕ). drawnFor (shape n t points) k + m) (stated n t points ks)
 
-by-table : (n t post : ℕ) (points kinds draws : List ℕ) (room : ℕ)
-    → packRefusal n t post points kinds draws room ≡ first (packTable n t post points kinds draws room)
+by-table : (n t post points : ℕ) (ws kinds draws : List ℕ) (room : ℕ)
+    → packRefusal n t post points ws kinds draws room ≡ first (packTable n t post points ws kinds draws room)
 unfolding packRefusal late crowded unknown
-by-table n t post points kinds draws room = rw (stated n t kinds)
+by-table n t post points ws kinds draws room = rw (stated n t points kinds)
 
 pub pack-lawful : PackLawful
 pack-lawful = record {
   refusal = by-table;
-  answer = λ n t post points kinds draws out.
-      rw (by-table n t post points kinds draws (length out))
-      (keeps Written 1 (packTable n t post points kinds draws (length out)) (omega arith)
-      (record { refusal = 0; len = length (file (postAt n t post points) kinds draws) })
-      (notWritten (first (packTable n t post points kinds draws (length out)))));
-  list = λ n t post points kinds draws out.
-      rw (by-table n t post points kinds draws (length out))
-      (keeps (List ℕ) 1 (packTable n t post points kinds draws (length out)) (omega arith)
-      (overwrite 0 (file (postAt n t post points) kinds draws) out) out);
+  answer = λ n t post points ws kinds draws out.
+      rw (by-table n t post points ws kinds draws (length out))
+      (keeps Written 1 (packTable n t post points ws kinds draws (length out)) (omega arith)
+      (record { refusal = 0; len = length (file (postAt n t post points ws) kinds draws) })
+      (notWritten (first (packTable n t post points ws kinds draws (length out)))));
+  list = λ n t post points ws kinds draws out.
+      rw (by-table n t post points ws kinds draws (length out))
+      (keeps (List ℕ) 1 (packTable n t post points ws kinds draws (length out)) (omega arith)
+      (overwrite 0 (file (postAt n t post points ws) kinds draws) out) out);
 }
+
+pub post-placed : PostPlaced
+post-placed n t post points ws = refl

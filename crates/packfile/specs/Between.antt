@@ -8,6 +8,10 @@ use Rattle.session.specs.declared.Party.{Party}
 use Rattle.kinds.specs.Kinds.{drawsLength}
 use Rattle.packrow.specs.Between.{PostIn}
 
+-- Ours: a line of so few numbers gets a short room. No answer depends on it.
+abbrev pub shortLine : ℕ
+shortLine = 288
+
 -- the kinds and draws of all rows
 pub record Given (p : Party) (kinds draws : List ℕ) : Type 0 where
   pub post : PostIn p

@@ -17,15 +17,16 @@ fn kinds_size(kinds: &[u8]) -> u8
 }
 
 // 1 to 4, and 5 of the check points and the kinds.
-fn frame(n: usize, t: usize, post: usize, points: &[u32], kinds: &[u8]) -> u8
-    ensures { λ r. ⌜ r ≡ frameRefusal n t post (now (points .entry)) (now (kinds .entry)) ⌝ }
+fn frame(n: usize, t: usize, post: usize, points: usize, ws: &[u32], kinds: &[u8]) -> u8
+    ensures { λ r. ⌜ r ≡ frameRefusal n t post points (now (ws .entry)) (now (kinds .entry)) ⌝ }
 {
-    let sizes = refusal::or_else(refusal::size(points, n), kinds_size(kinds));
-    let lists = refusal::or_else(factory::checks::check_points(points), sizes);
-    refusal::or_else(
-        refusal::posts(n, t),
-        refusal::or_else(refusal::post(n, post), lists),
-    )
+    let party = refusal::party(n, t, post, points);
+    if party != 0 {
+        return party;
+    }
+    let shape = Shape { n, t, points };
+    let sizes = refusal::or_else(refusal::size(ws, shape.checks_len()), kinds_size(kinds));
+    refusal::or_else(factory::checks::check_points(ws), sizes)
 }
 
 // 5 of the draws, then 6 to 8.
@@ -41,14 +42,22 @@ fn drawn(shape: Shape, kinds: &[u8], draws: &[u32]) -> u8
     refusal::or_else(refusal::size(draws, kinds::draws_len(shape, kinds)), placed)
 }
 
-// Lengths are computed only where n, t and the kinds have passed, so that nothing overflows.
-pub fn refusal(n: usize, t: usize, post: usize, points: &[u32], kinds: &[u8], draws: &[u32]) -> u8
-    ensures { λ r. ⌜ r ≡ givenRefusal n t post (now (points .entry)) (now (kinds .entry)) (now (draws .entry)) ⌝ }
+// Lengths are computed only where n, t, the number of points and the kinds have passed, so that nothing overflows.
+pub fn refusal(
+    n: usize,
+    t: usize,
+    post: usize,
+    points: usize,
+    ws: &[u32],
+    kinds: &[u8],
+    draws: &[u32],
+) -> u8
+    ensures { λ r. ⌜ r ≡ givenRefusal n t post points (now (ws .entry)) (now (kinds .entry)) (now (draws .entry)) ⌝ }
 {
-    let frame = frame(n, t, post, points, kinds);
+    let frame = frame(n, t, post, points, ws, kinds);
     if frame != 0 {
         return frame;
     }
-    let shape = Shape { n, t };
+    let shape = Shape { n, t, points };
     drawn(shape, kinds, draws)
 }

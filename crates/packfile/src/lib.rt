@@ -7,11 +7,11 @@ use shape::Shape;
 ghost use mathlib.Core.Path.{_≡_};
 ghost use Prim.Native.Nat.{_≤_};
 ghost use lib.ListN.{length};
-ghost use Rattle.shape.specs.Bounds.{fewPosts};
+ghost use Rattle.shape.specs.Lengths.{tripleLength};
 ghost use Rattle.lines.specs.Writing.{notWritten, writtenAs, partAs};
 ghost use Rattle.packlines.specs.File.{file};
 ghost use Rattle.packfile.specs.Writing.{postAt, roomRefusal, packRefusal};
-ghost use Rattle.packfile.specs.Between.{Given};
+ghost use Rattle.packfile.specs.Between.{Given, shortLine};
 ghost use Rattle.packlines.specs.Between.{FileRoom};
 
 fn not_written(refusal: u8) -> Written
@@ -36,9 +36,12 @@ fn write_in(party: Party, kinds: &[u8], draws: &[u32], room: &mut [u32], out: &m
     Written { refusal: 0, len }
 }
 
-// The same, with room for a line of a few posts.
+// The longest line of a few posts with one check point; two have it at fewer posts.
+const SHORT_LINE: usize = 9 * shape::FEW_POSTS;
+
+// The same, with room for a short line.
 fn write_few(party: Party, kinds: &[u8], draws: &[u32], out: &mut [u8]) -> Written
-    requires { ⌜ Given party (now kinds) (now draws) × (party .shape .n ≤ fewPosts) ⌝ }
+    requires { ⌜ Given party (now kinds) (now draws) × (tripleLength (party .shape) ≤ shortLine) ⌝ }
     ensures { λ r. ⌜ r ≡ writtenAs (roomRefusal party (now (kinds .entry)) (now (draws .entry)) (length (now (out .entry))))
         (file party (now (kinds .entry)) (now (draws .entry))) ⌝ }
     ensures { λ r. ⌜ now (out .exit) ≡ partAs (roomRefusal party (now (kinds .entry)) (now (draws .entry)) (length (now (out .entry))))
@@ -46,7 +49,7 @@ fn write_few(party: Party, kinds: &[u8], draws: &[u32], out: &mut [u8]) -> Writt
 {
     let shape = party.shape;
     let end = shape.triple_len();
-    let mut room = [0u32; 3 * shape::SHORT_ROW];
+    let mut room = [0u32; SHORT_LINE];
     write_in(party, kinds, draws, &mut room[..end], out)
 }
 
@@ -64,7 +67,7 @@ fn write_most(party: Party, kinds: &[u8], draws: &[u32], out: &mut [u8]) -> Writ
     write_in(party, kinds, draws, &mut room[..end], out)
 }
 
-// A few posts' room is not cleared for the most.
+// A room for the most posts is not cleared for a short line.
 fn write_given(party: Party, kinds: &[u8], draws: &[u32], out: &mut [u8]) -> Written
     requires { ⌜ Given party (now kinds) (now draws) ⌝ }
     ensures { λ r. ⌜ r ≡ writtenAs (roomRefusal party (now (kinds .entry)) (now (draws .entry)) (length (now (out .entry))))
@@ -73,35 +76,40 @@ fn write_given(party: Party, kinds: &[u8], draws: &[u32], out: &mut [u8]) -> Wri
         (file party (now (kinds .entry)) (now (draws .entry))) (now (out .entry)) ⌝ }
 {
     let shape = party.shape;
-    if shape.n <= shape::FEW_POSTS {
+    if shape.triple_len() <= SHORT_LINE {
         return write_few(party, kinds, draws, out);
     }
     write_most(party, kinds, draws, out)
 }
 
-// A post's file: its `S` line, then `R` and `T` lines by rising row. The value is the file's length.
+// A post's file: its `S` or `W` line, then `R` and `T` lines by rising row. The value is the file's length.
 pub fn write(
     n: usize,
     t: usize,
     post: usize,
-    points: &[u32],
+    points: usize,
+    ws: &[u32],
     kinds: &[u8],
     draws: &[u32],
     out: &mut [u8],
 ) -> Written
     ensures { λ r. ⌜ r ≡ writtenAs
-        (packRefusal n t post (now (points .entry)) (now (kinds .entry)) (now (draws .entry)) (length (now (out .entry))))
-        (file (postAt n t post (now (points .entry))) (now (kinds .entry)) (now (draws .entry))) ⌝ }
+        (packRefusal n t post points (now (ws .entry)) (now (kinds .entry)) (now (draws .entry)) (length (now (out .entry))))
+        (file (postAt n t post points (now (ws .entry))) (now (kinds .entry)) (now (draws .entry))) ⌝ }
     ensures { λ r. ⌜ now (out .exit) ≡ partAs
-        (packRefusal n t post (now (points .entry)) (now (kinds .entry)) (now (draws .entry)) (length (now (out .entry))))
-        (file (postAt n t post (now (points .entry))) (now (kinds .entry)) (now (draws .entry))) (now (out .entry)) ⌝ }
+        (packRefusal n t post points (now (ws .entry)) (now (kinds .entry)) (now (draws .entry)) (length (now (out .entry))))
+        (file (postAt n t post points (now (ws .entry))) (now (kinds .entry)) (now (draws .entry))) (now (out .entry)) ⌝ }
 {
-    let refusal = checks::refusal(n, t, post, points, kinds, draws);
+    let refusal = checks::refusal(n, t, post, points, ws, kinds, draws);
     if refusal != 0 {
         return not_written(refusal);
     }
-    let shape = Shape { n, t };
-    let point = points[post - 1];
-    let party = Party { shape, post, point };
+    let shape = Shape { n, t, points };
+    let w = packs::points_at(shape, ws, post - 1, n);
+    let party = Party {
+        shape,
+        post,
+        points: w,
+    };
     write_given(party, kinds, draws, out)
 }

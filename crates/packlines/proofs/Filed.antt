@@ -16,7 +16,8 @@ some-line letter row (x ∷ xs) h = refl
 pub files-lined : FilesLined
 unfolding postPart tripleParts numbersOf startLine rowLine rowLines file
 files-lined p = record {
-  start = refl;
+  start-one = λ e. rw e;
+  start-two = λ e. rw e;
   raw-row = λ row draw h. some-line 82 row (rowOf p draw) h;
   triple-row = λ row draw h. some-line 84 row (tripleOf p draw) h;
   empty-row = λ row draw. refl;

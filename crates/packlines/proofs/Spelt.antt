@@ -9,14 +9,13 @@ use lib.Dec.{eqb}
 use lib.ListN.{length, take, drop, length-append, length-take}
 use lib.Seq.{length-take-le}
 use Rattle.shape.specs.Bounds.{rowCount, longestRow}
-use Rattle.shape.specs.Lengths.{Valid, fLength, vLength, rowLength, tripleLength, drawLength}
+use Rattle.shape.specs.Lengths.{Valid, fLength, vLength, checksLength, rowLength, tripleLength, drawLength}
 use Rattle.shape.specs.Marks.{raw, unused}
 use Rattle.session.specs.declared.Party.{Party}
 use Rattle.csv.specs.Fields.{written, overwrite}
 use Rattle.csv.proofs.Overwriting.{overwrite-nothing, length-fields-le}
 use Rattle.csv.proofs.Laying.{length-written}
-use Rattle.poly.specs.Polynomial.{value}
-use Rattle.parts.specs.Draw.{drawnV, sumOf, part, eachFrom, firstDraw, secondDraw, thirdDraw}
+use Rattle.parts.specs.Draw.{drawnV, checkOf, sumOf, part, eachFrom, firstDraw, secondDraw, thirdDraw}
 use Rattle.parts.proofs.Laws.{length-each}
 use Rattle.kinds.specs.Kinds.{drawnFor}
 use Rattle.packrow.specs.Numbers.{postPart, tripleParts, numbersOf}
@@ -26,7 +25,7 @@ use Rattle.packlines.specs.Between.{FileRoom}
 
 -- ---- one line
 few-numbers : (p : Party) → Valid (p .shape) → tripleLength (p .shape) ≤ 3 * longestRow
-few-numbers p v = omega (arith, v .n-in, v .t-in)
+few-numbers p v = omega (arith, v .n-in, v .t-in, v .reach-in, v .checks-in)
 
 module _ (p : Party) (row k : ℕ) (draw room : List ℕ) (r : ℕ) (f : Front r room (numbersOf p k draw)) where
   pub line-none : r ≡ 0 → [] ≡ rowLine p row k draw
@@ -87,13 +86,13 @@ unfolding postPart part
 part-le p draw =
     let n : ℕ = p .shape .n in
     let v : List ℕ = drawnV (p .shape) draw (p .post) in
-    let c : List ℕ = eachFrom 1 n (λ j. value (drawnV (p .shape) draw j) (p .point)) in
+    let c : List ℕ = eachFrom 0 (checksLength (p .shape)) (checkOf (p .shape) (p .points) draw) in
     let m : List ℕ = eachFrom 1 n (sumOf (p .shape) draw) in
     omega (
       arith,
       length-append v (c ++ m),
       length-append c m,
-      length-each (λ j. value (drawnV (p .shape) draw j) (p .point)) 1 n,
+      length-each (checkOf (p .shape) (p .points) draw) 0 (checksLength (p .shape)),
       length-each (sumOf (p .shape) draw) 1 n,
       length-take (vLength (p .shape)) (drop (fLength (p .shape) + (p .post - 1) * vLength (p .shape)) draw),
     )

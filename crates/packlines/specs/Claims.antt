@@ -13,15 +13,17 @@ use Rattle.packlines.specs.File.{startLine, rowLine, rowLines, file}
 
 -- This post's row of a draw, and its three rows of a triple's draw.
 abbrev pub rowOf : Party → List ℕ → List ℕ
-rowOf p draw = part (p .shape) (p .post) (p .point) draw
+rowOf p draw = part (p .shape) (p .post) (p .points) draw
 
 abbrev pub tripleOf : Party → List ℕ → List ℕ
 tripleOf p draw =
     let d = drawLength (p .shape) in rowOf p (firstDraw d draw) ++ (rowOf p (secondDraw d draw) ++ rowOf p (thirdDraw d draw))
 
 pub record FileLines (p : Party) : Type 0 where
-  -- "`S,n,t,post,checkpoint`"
-  pub start : startLine p ≡ written 83 (p .shape .n ∷ p .shape .t ∷ p .post ∷ p .point ∷ [])
+  -- "`S,n,t,post,checkpoint`"; "Such a session, and its pack file, starts with `W,n,t,post,first,second`" (02, (ix))
+  pub start-one : p .shape .points ≡ 1 → startLine p ≡ written 83 (p .shape .n ∷ p .shape .t ∷ p .post ∷ p .points .first ∷ [])
+  pub start-two : p .shape .points ≡ 2
+      → startLine p ≡ written 87 (p .shape .n ∷ p .shape .t ∷ p .post ∷ p .points .first ∷ p .points .second ∷ [])
   -- "`R,row,` and a raw row's numbers"; "`T,first,` and a triple's three rows of numbers"; of an empty row nothing
   pub raw-row : (row : ℕ) (draw : List ℕ) → 0 < length (rowOf p draw) → rowLine p row 1 draw ≡ written 82 (row ∷ rowOf p draw)
   pub triple-row : (row : ℕ) (draw : List ℕ) → 0 < length (tripleOf p draw) → rowLine p row 3 draw ≡ written 84 (row ∷ tripleOf p draw)

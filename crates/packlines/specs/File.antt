@@ -1,9 +1,11 @@
--- Document 02, (vii): "write that post's file: its `S` line, then `R` and `T` lines by rising row."
+-- Document 02, (vii): "write that post's file: its `S` line, then `R` and `T` lines by rising row"; (ix): with two check points
+-- its `W` line.
 use Prim.Native.Nat.{ℕ, suc}
 use mathlib.Core.Bool.{cond}
 use mathlib.Core.List.{List, [], _∷_, _++_}
 use lib.Dec.{eqb}
 use lib.ListN.{take, drop}
+use Rattle.shape.specs.Bounds.{mostPoints}
 use Rattle.shape.specs.Marks.{raw}
 use Rattle.csv.specs.Fields.{written}
 use Rattle.session.specs.declared.Party.{Party}
@@ -28,9 +30,15 @@ rowLines p row [] draws = []
 rowLines p row (k ∷ ks) draws =
     rowLine p row k (take (drawnFor (p .shape) k) draws) ++ rowLines p (suc row) ks (drop (drawnFor (p .shape) k) draws)
 
--- "`S,n,t,post,checkpoint`"; the file prints t as a figure.
+-- "`S,n,t,post,checkpoint`"; with two check points it "starts with `W,n,t,post,first,second`". The file prints t as a figure.
+abbrev pub startLetter : ℕ → ℕ
+startLetter points = cond (eqb points mostPoints) 87 83
+
 unfoldable pub startLine : Party → List ℕ
-startLine p = written 83 (p .shape .n ∷ p .shape .t ∷ p .post ∷ p .point ∷ [])
+startLine p =
+    cond (eqb (p .shape .points) mostPoints)
+    (written 87 (p .shape .n ∷ p .shape .t ∷ p .post ∷ p .points .first ∷ p .points .second ∷ []))
+    (written 83 (p .shape .n ∷ p .shape .t ∷ p .post ∷ p .points .first ∷ []))
 
 unfoldable pub file : Party → List ℕ → List ℕ → List ℕ
 file p kinds draws = startLine p ++ rowLines p 0 kinds draws

@@ -5,8 +5,8 @@ ghost use Prim.Native.Nat.{_≤_, _<_};
 ghost use lib.ListN.{length};
 ghost use Rattle.shape.specs.Bounds.{rowCount};
 ghost use Rattle.csv.specs.Fields.{overwrite};
-ghost use Rattle.packlines.specs.File.{letterOf, rowLine, rowLines, file};
-ghost use Rattle.packrow.specs.Between.{KindRoom};
+ghost use Rattle.packlines.specs.File.{letterOf, rowLine, rowLines, startLetter, startLine, file};
+ghost use Rattle.packrow.specs.Between.{PostIn, KindRoom};
 ghost use Rattle.packlines.specs.Between.{FileRoom};
 
 fn letter_of(kind: u8) -> u8
@@ -84,15 +84,49 @@ fn put_lines(party: Party, kinds: &[u8], draws: &[u32], room: &mut [u32], out: &
     at
 }
 
+fn start_letter(points: usize) -> u8
+    ensures { λ r. ⌜ r ≡ startLetter points ⌝ }
+{
+    if points == shape::MOST_POINTS {
+        b'W'
+    } else {
+        b'S'
+    }
+}
+
+// How many bytes the start line has: `S` with one check point, `W` with two.
+fn start_len(party: Party) -> usize
+    requires { ⌜ PostIn party ⌝ }
+    ensures { λ r. ⌜ r ≡ length (startLine party) ⌝ }
+{
+    let shape = party.shape;
+    let w = party.points;
+    let station = [shape.n as u32, shape.t as u32];
+    let own = [party.post as u32, w.first, w.second];
+    let count = shape.points + 1;
+    csv::line_len(&station, &own[..count])
+}
+
+// The start line at the start of a part; its length.
+fn put_start(party: Party, out: &mut [u8]) -> usize
+    requires { ⌜ PostIn party × (length (startLine party) ≤ length (now out)) ⌝ }
+    ensures { λ r. ⌜ r ≡ length (startLine party) ⌝ }
+    ensures { λ r. ⌜ now (out .exit) ≡ overwrite 0 (startLine party) (now (out .entry)) ⌝ }
+{
+    let shape = party.shape;
+    let w = party.points;
+    let station = [shape.n as u32, shape.t as u32];
+    let own = [party.post as u32, w.first, w.second];
+    let count = shape.points + 1;
+    csv::put_line(start_letter(shape.points), &station, &own[..count], out)
+}
+
 // How many bytes the file has.
 pub fn file_len(party: Party, kinds: &[u8], draws: &[u32], room: &mut [u32]) -> usize
     requires { ⌜ FileRoom party (now kinds) (now draws) (now room) ⌝ }
     ensures { λ r. ⌜ r ≡ length (file party (now (kinds .entry)) (now (draws .entry))) ⌝ }
 {
-    let shape = party.shape;
-    let station = [shape.n as u32, shape.t as u32];
-    let own = [party.post as u32, party.point];
-    csv::line_len(&station, &own) + lines_len(party, kinds, draws, room)
+    start_len(party) + lines_len(party, kinds, draws, room)
 }
 
 // The file at the start of the list.
@@ -100,9 +134,6 @@ pub fn put_file(party: Party, kinds: &[u8], draws: &[u32], room: &mut [u32], out
     requires { ⌜ FileRoom party (now kinds) (now draws) (now room) × (length (file party (now kinds) (now draws)) ≤ length (now out)) ⌝ }
     ensures { λ r. ⌜ now (out .exit) ≡ overwrite 0 (file party (now (kinds .entry)) (now (draws .entry))) (now (out .entry)) ⌝ }
 {
-    let shape = party.shape;
-    let station = [shape.n as u32, shape.t as u32];
-    let own = [party.post as u32, party.point];
-    let behind = csv::put_line(b'S', &station, &own, out);
+    let behind = put_start(party, out);
     put_lines(party, kinds, draws, room, &mut out[behind..]);
 }

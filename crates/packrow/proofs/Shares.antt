@@ -4,17 +4,19 @@ use mathlib.Core.Path.{_≡_, refl, sym, _∙_, ap}
 use mathlib.Core.List.{List, [], _∷_, _++_, append-assoc, append-nil}
 use native.Mathlib.Nat.{add-sub-cancel-left}
 use native.Mathlib.Numerals.{add-one}
+use native.Mathlib.Decide.{decLe}
 use native.Mathlib.Omega.{arith}
 use borrow.Author.Tests.{eq-eqb, ne-eqb}
 use borrow.Rule.Slice.PartMut.{putMid}
 use lib.ListN.{length, take, drop, getD, length-append, length-drop}
 use lib.Seq.{length-take-le, take-all, take-at}
 use Rattle.field.specs.Arithmetic.{product}
+use Rattle.shape.specs.declared.Points.{Points}
 use Rattle.shape.specs.Lengths.{rowLength, tripleLength, drawLength}
 use Rattle.shape.specs.Marks.{raw, unused}
 use Rattle.session.specs.declared.Party.{Party}
 use Rattle.parts.specs.Draw.{part, firstDraw, secondDraw, thirdDraw}
-use Rattle.packs.specs.Packs.{partsFrom}
+use Rattle.packs.specs.Packs.{pointsAt, pointsFrom, partsFrom}
 use Rattle.packs.specs.Between.{PostsRoom}
 use Rattle.packs.proofs.Rest.{rest-of}
 use Rattle.parts.proofs.Halves.{fronted, back, front-length, back-length, joined}
@@ -22,21 +24,48 @@ use Rattle.kinds.specs.Kinds.{drawnFor}
 use Rattle.packrow.specs.Numbers.{postPart, tripleParts, numbersOf}
 use Rattle.packrow.specs.Between.{RestRoom, RowRoom, FactorsRoom, TripleRoom, KindRoom, Front}
 
--- ---- the factory's writer, for one post
+-- ---- the factory's writer, for one post, whose check points are a list of its own
 module _ (p : Party) (c : ℕ) (rest out : List ℕ) (room : RestRoom p rest out) where
-  pub posts-room : PostsRoom (p .shape) (p .post - 1) (p .point ∷ []) rest out
+  abbrev k : ℕ
+  k = p .shape .points
+
+  abbrev own : List ℕ
+  own = p .points .first ∷ p .points .second ∷ []
+
+  pub own-within : k ≤ length own
+  own-within = omega (arith, room .post .valid .points-in)
+
+  pub own-lent : k ≡ length (take k own)
+  own-lent = sym (length-take-le k own own-within)
+
+  pub posts-room : PostsRoom (p .shape) (p .post - 1) 1 (take k own) rest out
   posts-room = record {
     valid = room .post .valid;
     posts = omega (arith, room .post .first, room .post .last);
+    pointed = sym own-lent ∙ omega arith;
     drawn = room .drawn;
     room = omega (arith, room .room);
   }
 
-  pub part-written : (l : List ℕ) → l ≡ partsFrom (p .shape) (c ∷ rest) (p .post - 1 + 1) (p .point ∷ []) → l ≡ postPart p (c ∷ rest)
+  own-points : (j : ℕ) → j ≡ 0 → pointsAt k (take k own) j ≡ p .points
+  own-points j z = rw z (by-number (decLe k 1))
+    where
+      by-number : Dec (k ≤ 1) → pointsAt k (take k own) 0 ≡ p .points
+      by-number (yes h) =
+          let e : k ≡ 1 = omega (arith, room .post .valid .points-in) in
+          rw e (ap (λ (s : ℕ). record { first = p .points .first; second = s }) (sym (room .post .lone (omega (arith, h)))))
+      by-number (no g) =
+          let e : k ≡ 2 = omega (arith, room .post .valid .points-in) in
+          rw e
+
+  pub part-written : (l : List ℕ) → l ≡ partsFrom (p .shape) (c ∷ rest) (pointsFrom (p .shape) (take k own) (p .post - 1)) (p .post - 1 + 1) 1
+      → l ≡ postPart p (c ∷ rest)
   unfolding postPart partsFrom
   part-written l e =
       let i : p .post - 1 + 1 ≡ p .post = omega (arith, room .post .first) in
-      e ∙ append-nil _ ∙ ap (λ (j : ℕ). part (p .shape) j (p .point) (c ∷ rest)) i
+      e ∙ append-nil _
+      ∙ ap (λ (w : Points). part (p .shape) (p .post - 1 + 1) w (c ∷ rest)) (own-points (p .post - 1 + 1 - (p .post - 1 + 1)) (omega arith))
+      ∙ ap (λ (j : ℕ). part (p .shape) j (p .points) (c ∷ rest)) i
 
 -- ---- the draw of a row, whose first number stands in it
 module _ (p : Party) (draw out : List ℕ) (room : RowRoom p draw out) where

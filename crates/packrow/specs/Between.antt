@@ -1,9 +1,10 @@
 -- Between the functions of the code: what the writers of a row's numbers need of what they are lent, and what they leave. No theorem
 -- is stated with these. What they write is in `Numbers.antt`.
-use Prim.Native.Nat.{ℕ, _+_, _≤_}
+use Prim.Native.Nat.{ℕ, _+_, _≤_, _<_}
 use mathlib.Core.Path.{_≡_}
 use mathlib.Core.List.{List}
 use lib.ListN.{length, take}
+use Rattle.shape.specs.Bounds.{mostPoints}
 use Rattle.shape.specs.Lengths.{Valid, rowLength, tripleLength, drawLength, tripleDrawLength}
 use Rattle.session.specs.declared.Party.{Party}
 use Rattle.kinds.specs.Kinds.{drawnFor}
@@ -13,6 +14,8 @@ pub record PostIn (p : Party) : Type 0 where
   pub valid : Valid (p .shape)
   pub first : 1 ≤ p .post
   pub last : p .post ≤ p .shape .n
+  -- where it has one check point, the second is 0
+  pub lone : p .shape .points < mostPoints → p .points .second ≡ 0
 
 -- a row's draw but for its first number, and the post's part of it
 pub record RestRoom (p : Party) (rest out : List ℕ) : Type 0 where

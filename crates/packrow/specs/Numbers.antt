@@ -10,7 +10,7 @@ use Rattle.session.specs.declared.Party.{Party}
 
 -- What the factory makes for this post of a row's draw.
 unfoldable pub postPart : Party → List ℕ → List ℕ
-postPart p draw = part (p .shape) (p .post) (p .point) draw
+postPart p draw = part (p .shape) (p .post) (p .points) draw
 
 -- Its rows of a triple: of l, of l' and of l''.
 unfoldable pub tripleParts : Party → List ℕ → List ℕ

@@ -13,8 +13,18 @@ fn write_part(party: Party, constant: u32, rest: &[u32], out: &mut [u32])
     ensures { λ r. ⌜ now (out .exit) ≡ postPart party (constant ∷ now (rest .entry)) ⌝ }
 {
     let shape = party.shape;
-    let own = [party.point];
-    packs::write_posts(shape, party.post - 1, &own, constant, rest, out);
+    let points = shape.points;
+    let w = party.points;
+    let own = [w.first, w.second];
+    packs::write_posts(
+        shape,
+        party.post - 1,
+        1,
+        &own[..points],
+        constant,
+        rest,
+        out,
+    );
 }
 
 // The part of a draw that has all its numbers.

@@ -11,7 +11,7 @@ use Rattle.field.specs.Arithmetic.{product}
 use Rattle.shape.specs.declared.Shape.{Shape}
 use Rattle.shape.specs.Lengths.{drawLength, tripleDrawLength, packsLength}
 use Rattle.parts.specs.Draw.{firstDraw, secondDraw, thirdDraw}
-use Rattle.packs.specs.Packs.{partsFrom, packs, triplePacks}
+use Rattle.packs.specs.Packs.{pointsFrom, partsFrom, packs, triplePacks}
 use Rattle.packs.specs.Between.{PostsRoom, Fine, FactorsRoom}
 use Rattle.parts.proofs.Halves.{fronted, back, front-length, back-length, joined}
 
@@ -88,18 +88,19 @@ module _ (s : Shape) (d w : ℕ) (points draw out : List ℕ)
   third-packs c f = rw (third-is, f)
 
   module _ (ys : List ℕ) (kept : length ys ≡ length (take (w + w) out)) where
-    pub third-room : PostsRoom s 0 points (take (length draw - (d + d)) (drop (d + d) draw)) (back (w + w) out ys)
+    pub third-room : PostsRoom s 0 (s .n) points (take (length draw - (d + d)) (drop (d + d) draw)) (back (w + w) out ys)
     third-room = rw third-is (record {
       valid = fine .valid;
-      posts = omega (arith, fine .points-length);
+      posts = omega arith;
+      pointed = fine .points-length;
       drawn = omega (arith, length-drop (d + d) draw, draw-length, ed);
-      room = rw (fine .points-length) (back-length (w + w) w out out-length ys kept ∙ ew);
+      room = back-length (w + w) w out out-length ys kept ∙ ew;
     })
 
     pub triple-written : (zs : List ℕ) (c : ℕ)
         → ys ≡ packs s points (firstDraw (drawLength s) draw) ++ packs s points (secondDraw (drawLength s) draw)
         → c ≡ product (getD draw 0 0) (getD draw d 0)
-        → zs ≡ partsFrom s (c ∷ take (length draw - (d + d)) (drop (d + d) draw)) (0 + 1) points
+        → zs ≡ partsFrom s (c ∷ take (length draw - (d + d)) (drop (d + d) draw)) (pointsFrom s points 0) (0 + 1) (s .n)
         → putMid (w + w) (length (fronted (w + w) out ys) - (w + w)) (fronted (w + w) out ys) zs
         ≡ triplePacks s points draw
     unfolding triplePacks

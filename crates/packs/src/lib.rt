@@ -1,12 +1,15 @@
 // All posts' parts of one drawn row, and of a drawn triple.
+use shape::Points;
 use shape::Shape;
 ghost use mathlib.Core.Path.{_≡_};
 ghost use mathlib.Core.List.{_∷_, _++_};
-ghost use Prim.Native.Nat.{_+_, _*_};
+ghost use Prim.Native.Nat.{_+_, _*_, _≤_, _<_};
+ghost use lib.ListN.{length};
+ghost use Rattle.shape.specs.Lengths.{Valid};
 ghost use Rattle.shape.specs.Lengths.{drawLength, tripleDrawLength, packsLength};
 ghost use Rattle.parts.specs.Draw.{firstDraw, secondDraw};
-ghost use Rattle.packs.specs.Packs.{partsFrom, packs, triplePacks};
-ghost use Rattle.packs.specs.Between.{passedOn, firstSums, partsWith, RowAt, PartsRoom, PostsRoom, Fine, FactorsRoom};
+ghost use Rattle.packs.specs.Packs.{pointsAt, pointsFrom, partsFrom, packs, triplePacks};
+ghost use Rattle.packs.specs.Between.{passedOn, firstSums, partsWith, pointsOn, RowAt, PartsRoom, PostsRoom, Fine, FactorsRoom};
 ghost use Rattle.parts.specs.Between.{Drawn};
 
 // The public sums of the first row, to their place in the row from `at` on.
@@ -24,36 +27,57 @@ fn pass_sums_on(shape: Shape, at: usize, out: &mut [u32])
     }
 }
 
+// The check points of the j-th post of a list of `count` posts' points.
+pub fn points_at(shape: Shape, points: &[u32], j: usize, count: usize) -> Points
+    requires { ⌜ Valid shape × (length (now points) ≡ shape .points * count) × (count ≤ shape .n) × (j < count) ⌝ }
+    ensures { λ r. ⌜ r ≡ pointsAt (shape .points) (now (points .entry)) j ⌝ }
+{
+    let at = j * shape.points;
+    let first = points[at];
+    if shape.points < 2 {
+        return Points { first, second: 0 };
+    }
+    let next = at + 1;
+    Points {
+        first,
+        second: points[next],
+    }
+}
+
 // The middle part of `out` is lent for one post after the other; `i` posts stand before the first. The public sums stand in the first
 // row.
-fn write_parts(shape: Shape, i: usize, points: &[u32], vs: &[u32], out: &mut [u32])
-    requires { ⌜ Drawn shape (now vs) × PartsRoom shape i (now points) (now out) ⌝ }
-    ensures { λ r. ⌜ now (out .exit) ≡ partsWith shape (now (vs .entry)) (firstSums shape (now (out .entry))) i (now (points .entry)) ⌝ }
+fn write_parts(shape: Shape, i: usize, count: usize, points: &[u32], vs: &[u32], out: &mut [u32])
+    requires { ⌜ Drawn shape (now vs) × PartsRoom shape i count (now points) (now out) ⌝ }
+    ensures { λ r. ⌜ now (out .exit)
+        ≡ partsWith shape (now (vs .entry)) (firstSums shape (now (out .entry))) (pointsOn shape (now (points .entry)) i) i count ⌝ }
 {
     let width = shape.row_len();
     let mut at = 0;
-    for j in 0..points.len() {
+    for j in 0..count {
         let end = at + width;
         pass_sums_on(shape, at, out);
-        parts::write_part(shape, i + j, points[j], vs, &mut out[at..end]);
+        let w = points_at(shape, points, j, count);
+        parts::write_part(shape, i + j, w, vs, &mut out[at..end]);
         at = end;
     }
 }
 
-// The parts of the posts that have these check points; `i` posts stand before the first. A draw is its first number and the rest, so
+// The parts of `count` posts that have these check points; `i` posts stand before the first. A draw is its first number and the rest, so
 // that f's constant need not stand in it.
 pub fn write_posts(
     shape: Shape,
     i: usize,
+    count: usize,
     points: &[u32],
     constant: u32,
     rest: &[u32],
     out: &mut [u32],
 )
-    requires { ⌜ PostsRoom shape i (now points) (now rest) (now out) ⌝ }
-    ensures { λ r. ⌜ now (out .exit) ≡ partsFrom shape (constant ∷ now (rest .entry)) (i + 1) (now (points .entry)) ⌝ }
+    requires { ⌜ PostsRoom shape i count (now points) (now rest) (now out) ⌝ }
+    ensures { λ r. ⌜ now (out .exit)
+        ≡ partsFrom shape (constant ∷ now (rest .entry)) (pointsFrom shape (now (points .entry)) i) (i + 1) count ⌝ }
 {
-    if points.len() < 1 {
+    if count < 1 {
         return;
     }
     let higher = shape.f_len() - 1;
@@ -65,7 +89,7 @@ pub fn write_posts(
         &rest[higher..],
         &mut out[..width],
     );
-    write_parts(shape, i, points, &rest[higher..], out);
+    write_parts(shape, i, count, points, &rest[higher..], out);
 }
 
 // The packs of a row whose draw has all its numbers.
@@ -73,7 +97,8 @@ pub fn write_row(shape: Shape, points: &[u32], draw: &[u32], out: &mut [u32])
     requires { ⌜ Fine shape (now points) (now draw) (drawLength shape) (now out) (packsLength shape) ⌝ }
     ensures { λ r. ⌜ now (out .exit) ≡ packs shape (now (points .entry)) (now (draw .entry)) ⌝ }
 {
-    write_posts(shape, 0, points, draw[0], &draw[1..], out);
+    let n = shape.n;
+    write_posts(shape, 0, n, points, draw[0], &draw[1..], out);
 }
 
 // The packs of l, then of l'.
@@ -100,6 +125,15 @@ pub fn write_triple(shape: Shape, points: &[u32], draw: &[u32], out: &mut [u32])
     let constant = field::mul(draw[0], draw[d]);
     let third = d + d;
     let at = s + s;
+    let n = shape.n;
     write_factors(shape, points, draw, &mut out[..at]);
-    write_posts(shape, 0, points, constant, &draw[third..], &mut out[at..]);
+    write_posts(
+        shape,
+        0,
+        n,
+        points,
+        constant,
+        &draw[third..],
+        &mut out[at..],
+    );
 }

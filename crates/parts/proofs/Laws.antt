@@ -5,11 +5,11 @@ use mathlib.Core.List.{List, [], _∷_, _++_}
 use native.Mathlib.Omega.{arith}
 use lib.ListN.{length, take, drop, length-append, length-drop}
 use lib.Seq.{length-take-le}
-use Rattle.poly.specs.Polynomial.{value}
 use Rattle.poly.specs.Counting.{Elements}
 use Rattle.shape.specs.declared.Shape.{Shape}
-use Rattle.shape.specs.Lengths.{fLength, vLength, rowLength, drawLength}
-use Rattle.parts.specs.Draw.{drawnV, eachFrom, sumOf, part}
+use Rattle.shape.specs.declared.Points.{Points}
+use Rattle.shape.specs.Lengths.{fLength, vLength, checksLength, rowLength, drawLength}
+use Rattle.parts.specs.Draw.{drawnV, eachFrom, checkOf, sumOf, part}
 use Rattle.parts.proofs.Turns.{block-room}
 
 pub length-each : (f : ℕ → ℕ) (j m : ℕ) → length (eachFrom j m f) ≡ m
@@ -27,11 +27,11 @@ module _ (s : Shape) (draw : List ℕ) (drawn : length draw ≡ drawLength s) wh
       let at = fLength s + (j - 1) * vLength s in
       length-take-le (vLength s) (drop at draw) (omega (arith, drawn-room j (omega arith), length-drop at draw))
 
-  pub length-part : (i w : ℕ) → 1 ≤ i → i ≤ s .n → length (part s i w draw) ≡ rowLength s
+  pub length-part : (i : ℕ) (w : Points) → 1 ≤ i → i ≤ s .n → length (part s i w draw) ≡ rowLength s
   unfolding part
   length-part i w lo hi =
       simp length-append
-      (omega (arith, length-drawn i lo hi, length-each (λ j. value (drawnV s draw j) w) 1 (s .n), length-each (sumOf s draw) 1 (s .n)))
+      (omega (arith, length-drawn i lo hi, length-each (checkOf s w draw) 0 (checksLength s), length-each (sumOf s draw) 1 (s .n)))
 
 -- elements, of parts of a list and of two lists joined
 pub elements-take : (m : ℕ) (l : List ℕ) → Elements l → Elements (take m l)

@@ -1,4 +1,5 @@
 pub mod Turns
+pub mod Weaving
 pub mod Halves
 pub mod Row
 pub mod Parts

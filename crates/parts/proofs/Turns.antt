@@ -1,12 +1,14 @@
 -- The turns of the loops in src/lib.rt, each as a fact about plain lists and numbers.
-use Prim.Native.Nat.{ℕ, zero, suc, _+_, _*_, _-_, _≤_, _<_}
+use Prim.Native.Nat.{ℕ, zero, suc, _+_, _*_, _-_, _/_, _%_, _≤_, _<_}
 use mathlib.Core.Path.{_≡_, refl, sym, _∙_, ap, ap₂}
+use mathlib.Core.Bool.{cond}
 use mathlib.Core.List.{List, [], _∷_, _++_, append-assoc, append-nil}
 use native.Mathlib.Numerals.{add-one}
 use native.Mathlib.Nat.{mul-le-mul-right, suc-mul, add-sub-cancel-left}
 use native.Mathlib.Omega.{arith}
 use mir.Syntax.{w64}
 use mir.Val.{Fits}
+use lib.Dec.{eqb}
 use lib.ListN.{length, take, drop, getD, set, length-drop}
 use lib.Seq.{take-suc-set, take-all, length-take-le}
 use Rattle.field.specs.Arithmetic.{sum, product}
@@ -19,7 +21,7 @@ use Rattle.shape.specs.Bounds.{mostPosts, longestRow, longestV}
 use Rattle.shape.specs.Lengths.{Valid, vLength}
 use Rattle.shape.proofs.Small.{each-small}
 use Rattle.parts.specs.Draw.{eachFrom}
-use Rattle.parts.specs.Between.{vOf, weighedAt, checkAt, checkValues, sumAt, Higher}
+use Rattle.parts.specs.Between.{vOf, valueOf, weighedAt, woven, sumAt, Higher}
 
 -- block i of n blocks of k numbers lies in their list
 pub block-room : (i n k m : ℕ) → i < n → m ≡ n * k → i * k + k ≤ m
@@ -31,7 +33,7 @@ module _ (s : Shape) (vs : List ℕ) (i k : ℕ) (ek : k ≡ vLength s) (many : 
   v-room = block-room i (s .n) k (length vs) h (many ∙ ap (λ (j : ℕ). s .n * j) (sym ek))
 
   small : Valid s → i * k + k ≤ mostPosts * longestRow
-  small v = omega (arith, v-room, many, ap (λ (j : ℕ). s .n * j) ek, each-small s k v (omega (arith, ek, v .n-in, v .t-in)))
+  small v = omega (arith, v-room, many, ap (λ (j : ℕ). s .n * j) ek, each-small s k v (omega (arith, ek, v .n-in, v .t-in, v .reach-in)))
 
   pub v-fits : Valid s → Fits w64 (i * k)
   v-fits v = record { fits = omega (arith, small v) }
@@ -74,7 +76,7 @@ weighed cs old new x r h e g = g ∙ ap (weighted cs) e ∙ weighted-powers cs x
 
 -- what `weigh_elements` needs: few powers, and each an element
 pub powers-short : (s : Shape) (old : List ℕ) → Valid s → length old ≡ vLength s → length old ≤ longestV
-powers-short s old v e = omega (arith, e, v .n-in, v .t-in)
+powers-short s old v e = omega (arith, e, v .n-in, v .t-in, v .reach-in)
 
 pub elements-filled : (old new : List ℕ) (x : ℕ) → new ≡ powers x (length old) → Elements new
 elements-filled old new x e = rw e (powers-below x (length old))
@@ -89,22 +91,24 @@ take-few zero l = omega arith
 take-few (suc k) [] = omega arith
 take-few (suc k) (x ∷ l) = let h = take-few k l in omega arith
 
-pub check-is : (s : Shape) (vs q : List ℕ) (w i r : ℕ) → q ≡ vOf s vs i → r ≡ value q w → r ≡ checkAt s w vs i
-unfolding checkAt
+pub check-is : (s : Shape) (vs q : List ℕ) (w i r : ℕ) → q ≡ vOf s vs i → r ≡ value q w → r ≡ valueOf s w vs i
+unfolding valueOf
 check-is s vs q w i r e f = rw (← e) f
 
-each-agree : (f g : ℕ → ℕ) → ((i : ℕ) → f i ≡ g i) → (j m : ℕ) → eachFrom j m f ≡ eachFrom j m g
+pub each-agree : (f g : ℕ → ℕ) → ((i : ℕ) → f i ≡ g i) → (j m : ℕ) → eachFrom j m f ≡ eachFrom j m g
 unfolding eachFrom
 each-agree f g h j zero = refl
 each-agree f g h j (suc m) = ap₂ _∷_ (h j) (each-agree f g h (suc j) m)
 
-pub checks-weighed : (s : Shape) (vs ps : List ℕ) (w : ℕ) → ps ≡ powers w (vLength s)
-    → eachFrom 0 (s .n) (weighedAt s ps vs) ≡ checkValues s w vs
-unfolding checkAt weighedAt
-checks-weighed s vs ps w e =
-    each-agree (weighedAt s ps vs) (checkAt s w vs)
-    (λ i. ap (weighted (vOf s vs i)) e ∙ weighted-powers (vOf s vs i) w (vLength s) (take-few (vLength s) (drop (i * vLength s) vs))) 0
-    (s .n)
+pub checks-weighed : (s : Shape) (vs ps : List ℕ) (w : ℕ) → ps ≡ powers w (vLength s) → (h : ℕ) (old : List ℕ) (n : ℕ)
+    → eachFrom 0 n (woven (s .points) h (weighedAt s ps vs) old) ≡ eachFrom 0 n (woven (s .points) h (valueOf s w vs) old)
+unfolding valueOf weighedAt woven
+checks-weighed s vs ps w e h old n =
+    each-agree (woven (s .points) h (weighedAt s ps vs) old) (woven (s .points) h (valueOf s w vs) old)
+    (λ m. ap (λ (z : ℕ). cond (eqb (m % s .points) h) z (getD old m 0)) (one (m / s .points))) 0 n
+  where
+    one : (i : ℕ) → weighedAt s ps vs i ≡ valueOf s w vs i
+    one i = ap (weighted (vOf s vs i)) e ∙ weighted-powers (vOf s vs i) w (vLength s) (take-few (vLength s) (drop (i * vLength s) vs))
 
 -- a value of f
 pub f-value : (c x r u : ℕ) (higher old new : List ℕ) → length higher ≤ length old → new ≡ powers x (length old)
@@ -116,8 +120,8 @@ pub f-horner : (c x r u : ℕ) (higher : List ℕ) → u ≡ value higher x → 
 unfolding value
 f-horner c x r u higher e g = g ∙ ap (λ (y : ℕ). sum c (product x y)) e
 
-pub higher-room : (s : Shape) (higher powers : List ℕ) → length powers ≡ vLength s → Higher s higher → length higher ≤ length powers
-higher-room s higher powers e h = omega (arith, e, h)
+pub higher-room : (s : Shape) (higher powers : List ℕ) → Valid s → length powers ≡ vLength s → Higher s higher → length higher ≤ length powers
+higher-room s higher powers v e h = omega (arith, e, h, v .reach-in)
 
 -- a sum
 pub some-coefficient : (s : Shape) (q : List ℕ) → length q ≡ vLength s → 0 < length q

@@ -1,11 +1,13 @@
 -- Document 01, "From the factory": the draw of a row, and what post i gets of it.
-use Prim.Native.Nat.{ℕ, zero, suc, _+_, _*_, _-_}
+use Prim.Native.Nat.{ℕ, zero, suc, _+_, _*_, _-_, _/_, _%_}
 use mathlib.Core.List.{List, [], _∷_, _++_}
 use lib.ListN.{take, drop, getD}
 use Rattle.field.specs.Arithmetic.{sum, product}
 use Rattle.poly.specs.Polynomial.{value}
 use Rattle.shape.specs.declared.Shape.{Shape}
-use Rattle.shape.specs.Lengths.{fLength, vLength}
+use Rattle.shape.specs.declared.Points.{Points}
+use Rattle.shape.specs.Lengths.{fLength, vLength, checksLength}
+use Rattle.shape.specs.Row.{pointAt}
 
 -- "t+1 coefficients of f, then t+1 for each of v1 to vn"
 abbrev pub drawnF : Shape → List ℕ → List ℕ
@@ -27,11 +29,14 @@ eachPost n f = eachFrom 1 n f
 abbrev pub sumOf : Shape → List ℕ → ℕ → ℕ
 sumOf s draw j = sum (getD (drawnV s draw j) 0 0) (value (drawnF s draw) j)
 
--- Post i's row, with its check point w: "the coefficients of its own polynomial vi, constant first; the check values v1(wi) to
+-- The m-th check value: "both check values of each sender follow one another".
+abbrev pub checkOf : Shape → Points → List ℕ → ℕ → ℕ
+checkOf s w draw m = value (drawnV s draw (suc (m / s .points))) (pointAt w (m % s .points))
+
+-- Post i's row, with its check points w: "the coefficients of its own polynomial vi, constant first; the check values v1(wi) to
 -- vn(wi), its own included; the public sums m1 to mn".
-unfoldable pub part : Shape → ℕ → ℕ → List ℕ → List ℕ
-part s i w draw =
-    drawnV s draw i ++ (eachPost (s .n) (λ j. value (drawnV s draw j) w) ++ eachPost (s .n) (sumOf s draw))
+unfoldable pub part : Shape → ℕ → Points → List ℕ → List ℕ
+part s i w draw = drawnV s draw i ++ (eachFrom 0 (checksLength s) (checkOf s w draw) ++ eachPost (s .n) (sumOf s draw))
 
 -- "Three such draws for l, l' and l'', but the third lacks f's constant, which is f(0) of l × f(0) of l'." It is a Beaver triple. The
 -- source (docs/PROTOCOL.md), section 3.2: "three random numbers l, l' and l'', such that l'' = ll'".

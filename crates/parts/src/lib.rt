@@ -1,6 +1,7 @@
 // One post's part of a drawn row. f is its constant and the `higher` coefficients behind it, and `vs` are v1 to vn, one
 // after the other: a triple's third draw, whose f has no drawn constant, is then written like any other. Values are sums of
 // products with the powers of the point. These stand where the post's own coefficients come last, so that no room is needed.
+use shape::Points;
 use shape::Shape;
 ghost use mathlib.Core.Path.{_≡_};
 ghost use mathlib.Core.List.{_∷_};
@@ -9,9 +10,9 @@ ghost use lib.ListN.{length, take, drop};
 ghost use Rattle.poly.specs.Polynomial.{value};
 ghost use Rattle.poly.specs.Counting.{Elements};
 ghost use Rattle.shape.specs.Bounds.{longestV};
-ghost use Rattle.shape.specs.Lengths.{Valid, vLength, sumsAt, rowLength};
+ghost use Rattle.shape.specs.Lengths.{Valid, vLength, checksLength, sumsAt, rowLength};
 ghost use Rattle.parts.specs.Draw.{eachFrom};
-ghost use Rattle.parts.specs.Between.{vOf, weighedAt, checkValues, sumAt, sums, partWith, Drawn, ChecksRoom, Higher};
+ghost use Rattle.parts.specs.Between.{vOf, valueOf, weighedAt, checkValues, woven, sumAt, sums, partWith, Drawn, ChecksRoom, Higher};
 
 // So few coefficients go by Horner's rule: their powers would take longer.
 const FEW: usize = 2;
@@ -28,17 +29,21 @@ fn v<'a>(shape: Shape, vs: &'a [u32], i: usize) -> &'a [u32]
     &vs[at..end]
 }
 
-// The sum of the products of each polynomial's coefficients with the powers in front, behind them.
-fn weigh_each(shape: Shape, vs: &[u32], out: &mut [u32])
-    requires { ⌜ Drawn shape (now vs) × ChecksRoom shape (now out) × Elements (take (vLength shape) (now out)) ⌝ }
+// The sum of the products of each polynomial's coefficients with the powers in front, behind them: each polynomial's h-th check value.
+fn weigh_each(shape: Shape, h: usize, vs: &[u32], out: &mut [u32])
+    requires { ⌜ Drawn shape (now vs) × ChecksRoom shape (now out) × Elements (take (vLength shape) (now out)) × (h < shape .points) ⌝ }
     ensures { λ r. ⌜ drop (vLength shape) (now (out .exit))
-        ≡ eachFrom 0 (shape .n) (weighedAt shape (take (vLength shape) (now (out .entry))) (now (vs .entry))) ⌝ }
+        ≡ eachFrom 0 (checksLength shape)
+        (woven (shape .points) h (weighedAt shape (take (vLength shape) (now (out .entry))) (now (vs .entry)))
+        (drop (vLength shape) (now (out .entry)))) ⌝ }
 {
     let n = shape.n;
+    let points = shape.points;
     let k = shape.v_len();
     for i in 0..n {
         let sum = poly::weigh_elements(v(shape, vs, i), &out[..k]);
-        let at = k + i;
+        let place = i * points + h;
+        let at = k + place;
         out[at] = sum;
     }
 }
@@ -46,7 +51,7 @@ fn weigh_each(shape: Shape, vs: &[u32], out: &mut [u32])
 // The value of each polynomial at w.
 fn evaluate_each(shape: Shape, w: u32, vs: &[u32], out: &mut [u32])
     requires { ⌜ Valid shape × (length (now vs) ≡ shape .n * vLength shape) × (length (now out) ≡ shape .n) ⌝ }
-    ensures { λ r. ⌜ now (out .exit) ≡ checkValues shape w (now (vs .entry)) ⌝ }
+    ensures { λ r. ⌜ now (out .exit) ≡ eachFrom 0 (shape .n) (valueOf shape w (now (vs .entry))) ⌝ }
 {
     let n = shape.n;
     for i in 0..n {
@@ -54,18 +59,32 @@ fn evaluate_each(shape: Shape, w: u32, vs: &[u32], out: &mut [u32])
     }
 }
 
-// vj(w) for each post j, behind room for the powers of w.
-fn write_check_values(shape: Shape, w: u32, vs: &[u32], out: &mut [u32])
+// The h-th check value of each post, behind room for the powers of w; the other check values are as they were.
+fn weigh_at(shape: Shape, h: usize, w: u32, vs: &[u32], out: &mut [u32])
+    requires { ⌜ Drawn shape (now vs) × ChecksRoom shape (now out) × (h < shape .points) ⌝ }
+    ensures { λ r. ⌜ drop (vLength shape) (now (out .exit))
+        ≡ eachFrom 0 (checksLength shape) (woven (shape .points) h (valueOf shape w (now (vs .entry))) (drop (vLength shape) (now (out .entry)))) ⌝ }
+{
+    let k = shape.v_len();
+    poly::powers(w, &mut out[..k]);
+    weigh_each(shape, h, vs, out);
+}
+
+// vj(w) for each post j and each point w, behind room for the powers of a point. So few coefficients are with one point only.
+fn write_check_values(shape: Shape, w: Points, vs: &[u32], out: &mut [u32])
     requires { ⌜ Drawn shape (now vs) × ChecksRoom shape (now out) ⌝ }
     ensures { λ r. ⌜ drop (vLength shape) (now (out .exit)) ≡ checkValues shape w (now (vs .entry)) ⌝ }
 {
     let k = shape.v_len();
-    if k <= FEW {
-        evaluate_each(shape, w, vs, &mut out[k..]);
+    if k == FEW {
+        evaluate_each(shape, w.first, vs, &mut out[k..]);
         return;
     }
-    poly::powers(w, &mut out[..k]);
-    weigh_each(shape, vs, out);
+    weigh_at(shape, 0, w.first, vs, out);
+    if shape.points < 2 {
+        return;
+    }
+    weigh_at(shape, 1, w.second, vs, out);
 }
 
 // f(x).
@@ -112,8 +131,8 @@ pub fn write_sums(shape: Shape, constant: u32, higher: &[u32], vs: &[u32], out: 
     }
 }
 
-// The part of post i + 1, whose check point is w, before the public sums, which stand at their place.
-pub fn write_part(shape: Shape, i: usize, w: u32, vs: &[u32], out: &mut [u32])
+// The part of post i + 1, whose check points are w, before the public sums, which stand at their place.
+pub fn write_part(shape: Shape, i: usize, w: Points, vs: &[u32], out: &mut [u32])
     requires { ⌜ Drawn shape (now vs) × (i < shape .n) × (length (now out) ≡ rowLength shape) ⌝ }
     ensures { λ r. ⌜ now (out .exit) ≡ partWith shape (now (vs .entry)) (drop (sumsAt shape) (now (out .entry))) i w ⌝ }
 {

@@ -31,7 +31,7 @@ unfolding outcome
 unchanged zero v s = refl
 unchanged (suc x) v s = refl
 
-same-state : (a b : State) → a .session ≡ b .session → a .started ≡ b .started → a .kept ≡ b .kept → a .triple ≡ b .triple → a ≡ b
+pub same-state : (a b : State) → a .session ≡ b .session → a .started ≡ b .started → a .kept ≡ b .kept → a .triple ≡ b .triple → a ≡ b
 same-state a b e f g h =
     ap (λ (x : Session). record { session = x; started = a .started; kept = a .kept; triple = a .triple }) e
     ∙ ap (λ (x : Bool). record { session = b .session; started = x; kept = a .kept; triple = a .triple }) f
@@ -50,9 +50,9 @@ module _ (st : State) (store : List ℕ) (started : st .started ≡ true) (ready
       → blocks ≡ recordFor at (shapeOf (st .session)) last named store
   found at last named blocks place f = go (eqb last named) refl
     where
-      long : length (recordOf st at store) ≡ own .n * (own .t + 2)
+      long : length (recordOf st at store) ≡ own .n * (own .points * own .t + 2)
       long =
-          let k : own .t + 1 + 1 ≡ own .t + 2 = omega arith in
+          let k : own .points * own .t + 1 + 1 ≡ own .points * own .t + 2 = omega arith in
           length-take-le (recordLength (shapeOf own)) (drop at store) (omega (arith, record-room (shapeOf own) street, length-drop at store, ready .store-room))
           ∙ ap (λ (j : ℕ). own .n * j) k
 

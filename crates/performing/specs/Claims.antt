@@ -114,7 +114,7 @@ module _ (st : State) (store : List ℕ) where
       (first : ℕ) (pack : List ℕ) → first ≤ lastTriple → length pack ≡ tripleLength (shapeOf own) → Elements pack
       → Does st store (loadTripleAnswer own rows first pack) (loadTripleRows own rows first pack) (step st store (written 84 (first ∷ pack)))
 
--- Once an `S` was accepted.
+-- Once a start line was accepted.
 pub record LinesPerform (st : State) (store : List ℕ) : Type 0 where
   pub linear : LinearLine st store
   pub masks : MasksLine st store

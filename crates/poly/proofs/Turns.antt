@@ -1,8 +1,8 @@
 -- The turns of the loops in src/lib.rt, each as a fact about plain lists and numbers.
-use Prim.Native.Nat.{ℕ, suc, _+_, _-_, _≤_, _<_}
+use Prim.Native.Nat.{ℕ, suc, _+_, _*_, _-_, _%_, _≤_, _<_}
 use mathlib.Core.Path.{_≡_, refl, sym, _∙_, ap}
 use mathlib.Core.List.{List, [], _∷_, _++_, append-assoc, append-nil}
-use native.Mathlib.Nat.{sub-zero, le-of-suc-le-suc, not-suc-le-zero}
+use native.Mathlib.Nat.{sub-zero, le-of-suc-le-suc, not-suc-le-zero, mul-zero, add-zero}
 use native.Mathlib.Numerals.{add-one}
 use native.Mathlib.Decide.{decLe, decLt}
 use native.Mathlib.Omega.{arith}
@@ -11,15 +11,51 @@ use lib.Seq.{drop-cons, drop-drop, drop-length, take-suc-set, take-all}
 use Rattle.field.specs.Modulus.{p}
 use Rattle.field.specs.Arithmetic.{sum, difference, product}
 use Rattle.field.proofs.Modular.{sum-assoc, sum-comm, sum-zero, product-assoc, product-comm, product-one}
+use Rattle.field.proofs.Residues.{mul-mod-mod}
 use Rattle.poly.specs.Polynomial.{value, powersFrom, weighted}
 use Rattle.poly.specs.Interpolation.{nodal}
 use Rattle.poly.proofs.Bounds.{weighted-below, nodal-below}
 
 -- Horner's rule, from the last coefficient down
 module _ (cs : List ℕ) (x : ℕ) where
-  pub horner-start : 0 ≡ value (drop (length cs) cs) x
+  pub horner-none : length cs ≡ 0 → 0 ≡ value cs x
   unfolding value
-  horner-start = rw (drop-length cs)
+  horner-none e = none cs e
+    where
+      none : (l : List ℕ) → length l ≡ 0 → 0 ≡ value l x
+      none [] e = refl
+      none (c ∷ l) e = absurd (omega (arith, e))
+
+  pub horner-one : (v : ℕ) → length cs < 2 → (length cs ≡ 0 → ⊥) → v ≡ sum (getD cs 0 0) (product x 0) → v ≡ value cs x
+  unfolding value
+  horner-one v few some e = one cs few some e
+    where
+      one : (l : List ℕ) → length l < 2 → (length l ≡ 0 → ⊥) → v ≡ sum (getD l 0 0) (product x 0) → v ≡ value l x
+      one [] few some e = absurd (some refl)
+      one (c ∷ []) few some e = e
+      one (c ∷ d ∷ l) few some e = absurd (omega (arith, few))
+
+  -- what is multiplied needs no remainder
+  whole : (b : ℕ) → product x (sum b (product x 0)) ≡ product x b
+  unfolding sum product
+  whole b = mul-mod-mod x (b + (x * 0) % p) p ∙ ap (λ (z : ℕ). (x * (b + z % p)) % p) (mul-zero x) ∙ ap (λ (z : ℕ). (x * z) % p) (add-zero b)
+
+  -- the last two coefficients
+  pub horner-start : (r : ℕ) → 2 ≤ length cs → r ≡ sum (getD cs (length cs - 2) 0) (product x (getD cs (length cs - 2 + 1) 0))
+      → r ≡ value (drop (length cs - 2) cs) x
+  unfolding value
+  horner-start r many e =
+      e ∙ ap (λ (y : ℕ). sum (getD cs (length cs - 2) 0) y) (sym (ap (product x) last ∙ whole (getD cs (length cs - 2 + 1) 0)))
+      ∙ sym (ap (λ (l : List ℕ). value l x) (drop-cons cs (length cs - 2) 0 (omega arith)))
+    where
+      last : value (drop (suc (length cs - 2)) cs) x ≡ sum (getD cs (length cs - 2 + 1) 0) (product x 0)
+      last =
+          ap (λ (k : ℕ). value (drop k cs) x) (sym (add-one (length cs - 2)))
+          ∙ ap (λ (l : List ℕ). value l x)
+          (drop-cons cs (length cs - 2 + 1) 0 (omega arith) ∙ ap (λ (l : List ℕ). getD cs (length cs - 2 + 1) 0 ∷ l) none)
+        where
+          none : drop (suc (length cs - 2 + 1)) cs ≡ []
+          none = ap (λ (k : ℕ). drop k cs) (let end : suc (length cs - 2 + 1) ≡ length cs = omega arith in end) ∙ drop-length cs
 
   pub horner-turn : (i r v : ℕ) → 0 < i → i ≤ length cs → r ≡ value (drop i cs) x → v ≡ sum (getD cs (i - 1) 0) (product x r)
       → v ≡ value (drop (i - 1) cs) x

@@ -10,12 +10,27 @@ ghost use Rattle.poly.specs.Polynomial.{value, powers, weighted};
 ghost use Rattle.poly.specs.Counting.{Elements};
 ghost use Rattle.poly.specs.Between.{twoProducts};
 
-// The value at x, by Horner's rule.
+// The value of at most one coefficient.
+fn evaluate_few(coefficients: &[u32], x: u32) -> u32
+    requires { ⌜ length (now coefficients) < 2 ⌝ }
+    ensures { λ r. ⌜ r ≡ value (now (coefficients .entry)) x ⌝ }
+{
+    if coefficients.len() == 0 {
+        return 0;
+    }
+    field::add_product(coefficients[0], x, 0)
+}
+
+// The value at x, by Horner's rule, which begins with the last two coefficients: one product and one remainder less than from 0.
 pub fn evaluate(coefficients: &[u32], x: u32) -> u32
     ensures { λ r. ⌜ r ≡ value (now (coefficients .entry)) x ⌝ }
 {
-    let mut r: u32 = 0;
-    let mut i = coefficients.len();
+    let count = coefficients.len();
+    if count < 2 {
+        return evaluate_few(coefficients, x);
+    }
+    let mut i = count - 2;
+    let mut r = field::add_product(coefficients[i], x, coefficients[i + 1]);
     while 0 < i {
         i -= 1;
         r = field::add_product(coefficients[i], x, r);

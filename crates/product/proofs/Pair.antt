@@ -58,10 +58,10 @@ left k new old e = sym (accepted k k new new old refl e refl)
 -- what the second call reads of a later session and rows
 module _ (s : Session) (rows : List ℕ) (s' : Session) (rows' : List ℕ) {r : ℕ} (u : Untouched s rows r s' rows') where
   wide-same : width s' ≡ width s
-  wide-same = ap₂ (λ (n t : ℕ). rowLength (shape n t)) (u .n-same) (u .t-same)
+  wide-same = λ i. rowLength (shape (u .n-same i) (u .t-same i) (u .points-same i))
 
   frame-same : first (frameTests s rows) ≡ 0 → first (frameTests s' rows') ≡ 0
-  frame-same h = rw (u .n-same, u .t-same, u .post-same, u .point-same, u .length-same) h
+  frame-same h = rw (u .n-same, u .t-same, u .post-same, u .points-same, u .first-same, u .second-same, u .length-same) h
 
   read-same : (k : ℕ) → rowAt (width s) rows' k ≡ rowAt (width s) rows k → rowAt (width s') rows' k ≡ rowAt (width s) rows k
   read-same k e = ap (λ (v : ℕ). rowAt v rows' k) wide-same ∙ e
@@ -78,7 +78,7 @@ module _ (s : Session) (rows : List ℕ) (s' : Session) (rows' : List ℕ) {r : 
       ≡ withRow (width s) (r + 2)
       (productRow s (openedA s r) (openedB s r) (rowAt (width s) rows r) (rowAt (width s) rows (r + 1)) (rowAt (width s) rows (r + 2))) rows'
   unfolding withProduct productRow
-  product-same = rw (u .n-same, u .t-same, u .y-a, u .y-b, u .first-row, u .second-row, u .third-row) refl
+  product-same = rw (u .n-same, u .t-same, u .points-same, u .y-a, u .y-b, u .first-row, u .second-row, u .third-row) refl
 
 module _ (s : Session) (rows : List ℕ) (r : ℕ) (l l' : List ℕ) (w : Whole s) where
   abbrev y : ℕ
@@ -231,7 +231,9 @@ untouched s rows r = record {
   n-same = refl;
   t-same = refl;
   post-same = refl;
-  point-same = refl;
+  points-same = refl;
+  first-same = refl;
+  second-same = refl;
   length-same = refl;
   first-row = refl;
   second-row = refl;

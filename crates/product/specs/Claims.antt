@@ -63,7 +63,9 @@ pub record Untouched (s : Session) (rows : List ℕ) (r : ℕ) (s' : Session) (r
   pub n-same : s' .n ≡ s .n
   pub t-same : s' .t ≡ s .t
   pub post-same : s' .post ≡ s .post
-  pub point-same : s' .point ≡ s .point
+  pub points-same : s' .points ≡ s .points
+  pub first-same : s' .first ≡ s .first
+  pub second-same : s' .second ≡ s .second
   pub length-same : length rows' ≡ length rows
   pub first-row : rowAt (width s) rows' r ≡ rowAt (width s) rows r
   pub second-row : rowAt (width s) rows' (r + 1) ≡ rowAt (width s) rows (r + 1)

@@ -18,9 +18,9 @@ module _ (s : Session) (rows : List ℕ) (size : length rows ≡ 96 * width s) w
   abbrev w : ℕ
   w = width s
 
-  -- the first t+1 numbers of row x less row y
+  -- the coefficients of row x less row y
   abbrev half : ℕ → ℕ → List ℕ
-  half x y = take (s .t + 1) (less (rowAt w rows x) (rowAt w rows y))
+  half x y = take (s .points * s .t + 1) (less (rowAt w rows x) (rowAt w rows y))
 
   row-long : (x : ℕ) → x ≤ 95 → length (rowAt w rows x) ≡ w
   row-long x h = length-row w 96 rows x size (omega arith)
@@ -29,14 +29,14 @@ module _ (s : Session) (rows : List ℕ) (size : length rows ≡ 96 * width s) w
   less-long x y h g =
       places .combined-rows (p - 1) (rowAt w rows x) (rowAt w rows y) (row-long x h ∙ sym (row-long y g)) .as-long ∙ row-long x h
 
-  half-long : (x y : ℕ) → x ≤ 95 → y ≤ 95 → length (half x y) ≡ s .t + 1
-  half-long x y h g = length-take-le (s .t + 1) (less (rowAt w rows x) (rowAt w rows y)) (omega (arith, less-long x y h g))
+  half-long : (x y : ℕ) → x ≤ 95 → y ≤ 95 → length (half x y) ≡ s .points * s .t + 1
+  half-long x y h g = length-take-le (s .points * s .t + 1) (less (rowAt w rows x) (rowAt w rows y)) (omega (arith, less-long x y h g))
 
-  half-at : (x y : ℕ) → x ≤ 95 → y ≤ 95 → (i : ℕ) → i < s .t + 1
+  half-at : (x y : ℕ) → x ≤ 95 → y ≤ 95 → (i : ℕ) → i < s .points * s .t + 1
       → getD (half x y) i 0 ≡ sum (getD rows (x * w + i) 0) (product 2147483646 (getD rows (y * w + i) 0))
   half-at x y h g i l =
       let low : i < w = omega arith in
-      getD-take (s .t + 1) (less (rowAt w rows x) (rowAt w rows y)) i 0 l
+      getD-take (s .points * s .t + 1) (less (rowAt w rows x) (rowAt w rows y)) i 0 l
       ∙ places .combined-rows (p - 1) (rowAt w rows x) (rowAt w rows y) (row-long x h ∙ sym (row-long y g)) .each i (omega (arith, row-long x h))
       ∙ ap₂ (λ (m n : ℕ). sum m (product 2147483646 n)) (places .rows w rows x .read i low) (places .rows w rows y .read i low)
 

@@ -10,12 +10,12 @@ use Rattle.session.specs.Rows.{width}
 use Rattle.product_masks.specs.Masks.{maskNumbersOf}
 
 pub record MasksPlaced (s : Session) (rows : List ℕ) (a b r : ℕ) : Type 0 where
-  pub of-a : (i : ℕ) → i < s .t + 1
+  pub of-a : (i : ℕ) → i < s .points * s .t + 1
       → getD (maskNumbersOf s rows a b r) i 0 ≡ sum (getD rows (a * width s + i) 0) (product 2147483646 (getD rows (r * width s + i) 0))
-  pub of-b : (i : ℕ) → i < s .t + 1
-      → getD (maskNumbersOf s rows a b r) (s .t + 1 + i) 0
+  pub of-b : (i : ℕ) → i < s .points * s .t + 1
+      → getD (maskNumbersOf s rows a b r) (s .points * s .t + 1 + i) 0
       ≡ sum (getD rows (b * width s + i) 0) (product 2147483646 (getD rows ((r + 1) * width s + i) 0))
-  pub long : length (maskNumbersOf s rows a b r) ≡ 2 * (s .t + 1)
+  pub long : length (maskNumbersOf s rows a b r) ≡ 2 * (s .points * s .t + 1)
 
 -- of rows 0 to 95 and a triple's first up to 93
 abbrev pub MaskPlaces : Type 0

@@ -4,6 +4,6 @@ use Rattle.records.specs.Table.{RecordTables}
 
 pub record-tables : RecordTables
 record-tables = record {
-  put = λ n t blocks post message. refl;
-  remove = λ n t blocks post. refl;
+  put = λ n t points blocks post message. refl;
+  remove = λ n t points blocks post. refl;
 }

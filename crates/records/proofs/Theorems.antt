@@ -24,12 +24,12 @@ use Rattle.records.proofs.Sent.{content, sent-written, sent-other}
 pub records-lawful : RecordsLawful
 unfolding placeRefusal putRefusal
 records-lawful = record {
-  put-refusal = λ n t blocks post message. refl;
-  put = λ n t blocks post message.
-      keeps (List ℕ) 1 (putTable n t blocks post message) (omega arith) (withBlock (shape n t) post (blockOf message) blocks) blocks;
-  remove-refusal = λ n t blocks post. refl;
-  remove = λ n t blocks post.
-      keeps (List ℕ) 1 (removeTable n t blocks post) (omega arith) (withBlock (shape n t) post (noBlock (shape n t)) blocks) blocks;
+  put-refusal = λ n t points blocks post message. refl;
+  put = λ n t points blocks post message.
+      keeps (List ℕ) 1 (putTable n t points blocks post message) (omega arith) (withBlock (shape n t points) post (blockOf message) blocks) blocks;
+  remove-refusal = λ n t points blocks post. refl;
+  remove = λ n t points blocks post.
+      keeps (List ℕ) 1 (removeTable n t points blocks post) (omega arith) (withBlock (shape n t points) post (noBlock (shape n t points)) blocks) blocks;
 }
 
 -- a call with this refusal left the record with the block b for post j, or as it was
@@ -64,14 +64,17 @@ module _ (q : Party) (row blocks : List ℕ) (j : ℕ) (message : List ℕ) wher
   abbrev t : ℕ
   t = q .shape .t
 
+  abbrev points : ℕ
+  points = q .shape .points
+
   abbrev put : ℕ
-  put = putRefusal n t blocks j message
+  put = putRefusal n t points blocks j message
 
   abbrev place : ℕ
-  place = placeRefusal n t blocks j
+  place = placeRefusal n t points blocks j
 
   put-wide : put ≡ 0 → length (blockOf message) ≡ blockLength (q .shape)
-  put-wide z = let l = message-long n t blocks j message put refl z in omega arith
+  put-wide z = let l = message-long n t points blocks j message put refl z in omega arith
 
   no-wide : place ≡ 0 → length (noBlock (q .shape)) ≡ blockLength (q .shape)
   no-wide z = length-replicate (blockLength (q .shape)) 0
@@ -81,10 +84,10 @@ module _ (q : Party) (row blocks : List ℕ) (j : ℕ) (message : List ℕ) wher
 
   after-calls : SentAfter q row blocks j message
   after-calls =
-      let put-there = put-in n t blocks j message put refl in
-      let put-sized = put-long n t blocks j message put refl in
-      let no-there = place-in n t blocks j place refl in
-      let no-sized = place-long n t blocks j place refl in
+      let put-there = put-in n t points blocks j message put refl in
+      let put-sized = put-long n t points blocks j message put refl in
+      let no-there = place-in n t points blocks j place refl in
+      let no-sized = place-long n t points blocks j place refl in
       record {
         there = written q row blocks (blockOf message) j put put-there put-sized put-wide;
         gone = λ own z. written q row blocks (noBlock (q .shape)) j place no-there no-sized no-wide own z ∙ no-content;

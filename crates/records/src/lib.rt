@@ -7,30 +7,34 @@ ghost use Rattle.shape.specs.Lengths.{Valid, recordLength, messageLength};
 ghost use Rattle.blocks.specs.Between.{PostIn};
 ghost use Rattle.records.specs.Records.{placeRefusal, putRefusal, withBlock, blockOf, noBlock, putRecord, removedRecord};
 
-// 1, 2, 3, and 5 of the record.
-fn place_refusal(n: usize, t: usize, blocks: &[u32], post: usize) -> u8
-    ensures { λ r. ⌜ r ≡ placeRefusal n t (now (blocks .entry)) post ⌝ }
+// 1 to 4, and 5 of the record.
+fn place_refusal(n: usize, t: usize, points: usize, blocks: &[u32], post: usize) -> u8
+    ensures { λ r. ⌜ r ≡ placeRefusal n t points (now (blocks .entry)) post ⌝ }
 {
-    let posts = refusal::posts(n, t);
-    if posts != 0 {
-        return posts;
+    let party = refusal::party(n, t, post, points);
+    if party != 0 {
+        return party;
     }
-    let shape = Shape { n, t };
-    refusal::or_else(
-        refusal::post(n, post),
-        refusal::size(blocks, shape.record_len()),
-    )
+    let shape = Shape { n, t, points };
+    refusal::size(blocks, shape.record_len())
 }
 
 // And 5 and 8 of the message.
-fn put_refusal(n: usize, t: usize, blocks: &[u32], post: usize, message: &[u32]) -> u8
-    ensures { λ r. ⌜ r ≡ putRefusal n t (now (blocks .entry)) post (now (message .entry)) ⌝ }
+fn put_refusal(
+    n: usize,
+    t: usize,
+    points: usize,
+    blocks: &[u32],
+    post: usize,
+    message: &[u32],
+) -> u8
+    ensures { λ r. ⌜ r ≡ putRefusal n t points (now (blocks .entry)) post (now (message .entry)) ⌝ }
 {
-    let place = place_refusal(n, t, blocks, post);
+    let place = place_refusal(n, t, points, blocks, post);
     if place != 0 {
         return place;
     }
-    let shape = Shape { n, t };
+    let shape = Shape { n, t, points };
     refusal::or_else(
         refusal::size(message, shape.v_len()),
         refusal::numbers(message),
@@ -66,27 +70,34 @@ fn remove_block(shape: Shape, blocks: &mut [u32], post: usize)
 }
 
 // A post's message, into its block of the record.
-pub fn put(n: usize, t: usize, blocks: &mut [u32], post: usize, message: &[u32]) -> u8
-    ensures { λ r. ⌜ r ≡ putRefusal n t (now (blocks .entry)) post (now (message .entry)) ⌝ }
-    ensures { λ r. ⌜ now (blocks .exit) ≡ putRecord n t (now (blocks .entry)) post (now (message .entry)) ⌝ }
+pub fn put(
+    n: usize,
+    t: usize,
+    points: usize,
+    blocks: &mut [u32],
+    post: usize,
+    message: &[u32],
+) -> u8
+    ensures { λ r. ⌜ r ≡ putRefusal n t points (now (blocks .entry)) post (now (message .entry)) ⌝ }
+    ensures { λ r. ⌜ now (blocks .exit) ≡ putRecord n t points (now (blocks .entry)) post (now (message .entry)) ⌝ }
 {
-    let refusal = put_refusal(n, t, blocks, post, message);
+    let refusal = put_refusal(n, t, points, blocks, post, message);
     if refusal != 0 {
         return refusal;
     }
-    put_block(Shape { n, t }, blocks, post, message);
+    put_block(Shape { n, t, points }, blocks, post, message);
     0
 }
 
 // A post's block is absent, with zeros for its coefficients.
-pub fn remove(n: usize, t: usize, blocks: &mut [u32], post: usize) -> u8
-    ensures { λ r. ⌜ r ≡ placeRefusal n t (now (blocks .entry)) post ⌝ }
-    ensures { λ r. ⌜ now (blocks .exit) ≡ removedRecord n t (now (blocks .entry)) post ⌝ }
+pub fn remove(n: usize, t: usize, points: usize, blocks: &mut [u32], post: usize) -> u8
+    ensures { λ r. ⌜ r ≡ placeRefusal n t points (now (blocks .entry)) post ⌝ }
+    ensures { λ r. ⌜ now (blocks .exit) ≡ removedRecord n t points (now (blocks .entry)) post ⌝ }
 {
-    let refusal = place_refusal(n, t, blocks, post);
+    let refusal = place_refusal(n, t, points, blocks, post);
     if refusal != 0 {
         return refusal;
     }
-    remove_block(Shape { n, t }, blocks, post);
+    remove_block(Shape { n, t, points }, blocks, post);
     0
 }

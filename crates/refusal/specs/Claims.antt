@@ -2,12 +2,13 @@
 -- cite by name; proved in proofs/Figures.antt.
 use Prim.Native.Nat.{ℕ, _≤_, _<_}
 use mathlib.Core.Path.{_≡_}
-use mathlib.Core.Bool.{false, _||_}
+use mathlib.Core.Bool.{false, _||_, _&&_}
 use mathlib.Core.List.{List, _++_}
 use lib.Dec.{eqb, ltb}
 use lib.ListN.{length, getD}
+use Rattle.shape.specs.declared.Points.{Points}
 use Rattle.refusal.specs.Refusal.{Test, first, orElse, outcome, Ordered, Numbered, Decides, Keeps}
-use Rattle.refusal.specs.Conditions.{outside, wrongLength, beyond, anyBeyond, badPoint}
+use Rattle.refusal.specs.Conditions.{outside, wrongLength, beyond, anyBeyond, badPoint, badPoints}
 
 -- Tests in the order of their numbers: 0 exactly when every test fails; otherwise the smallest number whose test applies.
 abbrev pub OrderDecides : Type 0
@@ -27,6 +28,11 @@ pub record ConditionsMean : Type 0 where
   pub beyond-is : (x : ℕ) → beyond x ≡ ltb 2147483646 x
   -- "4: a check point is 0 or at least p"
   pub point-is : (w : ℕ) → badPoint w ≡ (eqb w 0 || ltb 2147483646 w)
+  -- 4 of a post's check points: "a number of points other than 1 or 2"; a first point of 0 or at least p, and "the second point too", where
+  -- there are two
+  pub points-are :
+      (points : ℕ) (w : Points)
+      → badPoints points w ≡ (outside 1 2 points || (outside 1 2147483646 (w .first) || (eqb points 2 && outside 1 2147483646 (w .second))))
   pub inside-passes : (low high x : ℕ) → low ≤ x → x ≤ high → outside low high x ≡ false
   pub passes-inside : (low high x : ℕ) → outside low high x ≡ false → (low ≤ x) × (x ≤ high)
   pub length-passes : (l : List ℕ) (k : ℕ) → length l ≡ k → wrongLength l k ≡ false

@@ -1,8 +1,9 @@
 // Refusals: the first of several in order, and the conditions that several calls share.
+use shape::Points;
 ghost use mathlib.Core.Path.{_≡_};
 ghost use mathlib.Core.List.{[], _∷_};
 ghost use Rattle.refusal.specs.Refusal.{first, orElse, _when_};
-ghost use Rattle.refusal.specs.Conditions.{postsTests, outside, wrongLength, beyond, anyBeyond, badPoint};
+ghost use Rattle.refusal.specs.Conditions.{postsTests, outside, wrongLength, beyond, anyBeyond, badPoint, badPointCount, badPoints, stationTests, partyTests};
 
 // The refusal of one group of checks, or else of the next.
 pub fn or_else(a: u8, b: u8) -> u8
@@ -47,7 +48,59 @@ pub fn point(w: u32) -> u8
     if w == 0 {
         return 4;
     }
-    if w < field::P { 0 } else { 4 }
+    if field::P <= w {
+        return 4;
+    }
+    0
+}
+
+// 4, of the number of check points that a post has.
+pub fn count(points: usize) -> u8
+    ensures { λ r. ⌜ r ≡ first (4 when badPointCount points ∷ []) ⌝ }
+{
+    if points < 1 {
+        return 4;
+    }
+    if shape::MOST_POINTS < points { 4 } else { 0 }
+}
+
+// 1, 2, and 4 of the number of points: of a station, where a call has no session.
+pub fn station(n: usize, t: usize, points: usize) -> u8
+    ensures { λ r. ⌜ r ≡ first (stationTests n t points) ⌝ }
+{
+    let posts = posts(n, t);
+    if posts != 0 {
+        return posts;
+    }
+    count(points)
+}
+
+// And 3 between them, of one of its posts.
+pub fn party(n: usize, t: usize, own: usize, points: usize) -> u8
+    ensures { λ r. ⌜ r ≡ first (partyTests n t own points) ⌝ }
+{
+    let posts = posts(n, t);
+    if posts != 0 {
+        return posts;
+    }
+    let outside = post(n, own);
+    if outside != 0 {
+        return outside;
+    }
+    count(points)
+}
+
+// 4, of a post's check points.
+pub fn points(points: usize, w: Points) -> u8
+    ensures { λ r. ⌜ r ≡ first (4 when badPoints points w ∷ []) ⌝ }
+{
+    if points == 1 {
+        return point(w.first);
+    }
+    if points != 2 {
+        return 4;
+    }
+    or_else(point(w.first), point(w.second))
 }
 
 // 5, of one list: its length isn't exactly the one stated.

@@ -14,7 +14,7 @@ use Rattle.refusal.proofs.Laws.{Numbered, inside, all-fail}
 use Rattle.refusal.proofs.Groups.{stopped}
 use Rattle.refusal.proofs.Figures.{beyond-figures}
 use Rattle.session.specs.declared.Session.{Session}
-use Rattle.session.specs.Sessions.{shapeOf}
+use Rattle.session.specs.Sessions.{shapeOf, pointsOf}
 use Rattle.session.specs.Rows.{width, rowAt}
 use Rattle.session.specs.Checks.{frameTests, noRow, wrongMark}
 use Rattle.session.specs.Table.{newTable}
@@ -65,12 +65,12 @@ figured : (rest : Term → List Test)
 figured rest = λ j t. 8 when beyond-figures (t .coefficient) j ∷ rest t
 
 module _ (s : Session) (rows : List ℕ) (ts : List Term) where
-  -- 1 to 5 on the session and its rows, with the check point in figures
+  -- 1 to 5 on the session and its rows, with the check points in figures
   abbrev frame : List Test
-  frame = newTable (s .n) (s .t) (s .post) (s .point) ++ (5 when wrongLength rows (rowsLength (shapeOf s)) ∷ [])
+  frame = newTable (s .n) (s .t) (s .post) (s .points) (pointsOf s) ++ (5 when wrongLength rows (rowsLength (shapeOf s)) ∷ [])
 
   framed : frameTests s rows ≡ frame
-  framed = ap (λ (l : List Test). l ++ (5 when wrongLength rows (rowsLength (shapeOf s)) ∷ [])) (session-table (s .n) (s .t) (s .post) (s .point))
+  framed = ap (λ (l : List Test). l ++ (5 when wrongLength rows (rowsLength (shapeOf s)) ∷ [])) (session-table (s .n) (s .t) (s .post) (s .points) (pointsOf s))
 
   module _ (out : List ℕ) where
     abbrev early : List Test → List Test

@@ -3,7 +3,7 @@
 -- walk over the list hands on, give the same refusal. Bounds and marks are the documents' numbers.
 use Prim.Native.Nat.{ℕ, _+_, _*_, _-_}
 use mathlib.Core.Path.{_≡_}
-use mathlib.Core.Bool.{Bool, false, not, _||_}
+use mathlib.Core.Bool.{Bool, false, not, _||_, _&&_}
 use mathlib.Core.List.{List, [], _∷_, _++_, map}
 use lib.Dec.{eqb, ltb}
 use lib.ListN.{length}
@@ -57,9 +57,9 @@ relationMasksTable s rows ts out =
     1 when outside 2 255 (s .n)
     ∷ 2 when outside 1 (s .n - 1) (s .t)
     ∷ 3 when outside 1 (s .n) (s .post)
-    ∷ 4 when (eqb (s .point) 0 || ltb 2147483646 (s .point))
+    ∷ 4 when (outside 1 2 (s .points) || (outside 1 2147483646 (s .first) || (eqb (s .points) 2 && outside 1 2147483646 (s .second))))
     ∷ 5 when wrongLength rows (96 * width s)
-    ∷ 5 when wrongLength out (length (productsOf ts) * (2 * (s .t + 1)))
+    ∷ 5 when wrongLength out (length (productsOf ts) * (2 * (s .points * s .t + 1)))
     ∷ 14 when outside 1 32 (length ts)
     ∷ (each sixes ts
     ++ ((each (sevens s 3) ts ++ (7 when repeats (triplesOf ts) ∷ []))
@@ -78,7 +78,7 @@ relationFinishTable s rows ts d blocks =
     1 when outside 2 255 (s .n)
     ∷ 2 when outside 1 (s .n - 1) (s .t)
     ∷ 3 when outside 1 (s .n) (s .post)
-    ∷ 4 when (eqb (s .point) 0 || ltb 2147483646 (s .point))
+    ∷ 4 when (outside 1 2 (s .points) || (outside 1 2147483646 (s .first) || (eqb (s .points) 2 && outside 1 2147483646 (s .second))))
     ∷ 5 when wrongLength rows (96 * width s)
     ∷ 5 when wrongLength blocks (length (productsOf ts) * (2 * recordLength s))
     ∷ 14 when outside 1 32 (length ts)

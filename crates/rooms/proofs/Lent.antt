@@ -3,9 +3,10 @@ use Prim.Native.Nat.{ℕ, _+_, _≤_}
 use mathlib.Core.Path.{_≡_}
 use mathlib.Core.List.{List}
 use native.Mathlib.Omega.{arith}
-use lib.ListN.{length}
+use lib.ListN.{length, replicate, length-replicate, getD-replicate}
 use Rattle.inverses.specs.InverseTable.{Inverts}
 use Rattle.shape.specs.declared.Shape.{Shape}
+use Rattle.accepting.specs.Between.{Unmarked}
 use Rattle.walk.specs.Between.{Roomy}
 
 -- a table that reaches so many posts, with rooms for them and for as many numbers as it has
@@ -19,8 +20,18 @@ rooms s size most h inverses posts shares gaps list above below reach k i ep es 
   lent = record { table = i; gap-room = omega arith; room = omega arith; above-room = omega arith; below-room = omega arith };
 }
 
-pub roomy-kept : (s : Shape) (inverses posts posts′ shares shares′ gaps list above below : List ℕ)
-    → Roomy s inverses posts shares gaps list above below → length posts′ ≡ length posts → length shares′ ≡ length shares
-    → Roomy s inverses posts′ shares′ gaps list above below
-roomy-kept s inverses posts posts′ shares shares′ gaps list above below r ep es =
-    record { posts-room = rw ep (r .posts-room); shares-room = rw es (r .shares-room); reach = r .reach; lent = r .lent }
+pub roomy-kept : (s : Shape) (inverses posts posts′ shares shares′ gaps list list′ above below : List ℕ)
+    → Roomy s inverses posts shares gaps list above below → length posts′ ≡ length posts → length shares′ ≡ length shares → length list′ ≡ length list
+    → Roomy s inverses posts′ shares′ gaps list′ above below
+roomy-kept s inverses posts posts′ shares shares′ gaps list list′ above below r ep es el =
+    let lent = r .lent in
+    record {
+      posts-room = rw ep (r .posts-room);
+      shares-room = rw es (r .shares-room);
+      reach = r .reach;
+      lent = record { table = lent .table; gap-room = lent .gap-room; room = rw el (lent .room); above-room = lent .above-room; below-room = lent .below-room };
+    }
+
+-- a cleared list marks no post
+pub unmarked : (s : Shape) (size : ℕ) → s .n ≤ size → Unmarked s (replicate size 0)
+unmarked s size h = record { long = omega (arith, length-replicate {A = ℕ} size 0); each = λ i low. getD-replicate size i 0 0 (omega (arith, low)) }

@@ -9,11 +9,12 @@ ghost use lib.ListN.{length};
 ghost use Rattle.shape.specs.Bounds.{veryFewPosts, fewPosts};
 ghost use Rattle.shape.specs.Lengths.{vLength};
 ghost use Rattle.blocks.specs.Between.{Openable};
+ghost use Rattle.accepting.specs.Between.{Unmarked};
 ghost use Rattle.walk.specs.Number.{openedRow};
 ghost use Rattle.walk.specs.Between.{Roomy};
 
 // The number that a row opens to with a record, or 9, or 13, with the table of inverses and lent room for the polynomials' weights, the posts,
-// the shares and the agreement's lists.
+// the shares and the agreement's lists, of which the first holds the posts' marks before it is needed.
 fn open_in<'a>(
     party: Party,
     row: &'a [u32],
@@ -27,17 +28,16 @@ fn open_in<'a>(
     above: &mut [u32],
     below: &mut [u32],
 ) -> Opened
-    requires { ⌜ Openable party (now row) (now blocks) × (length (now weights) ≡ vLength (party .shape))
+    requires { ⌜ Openable party (now row) (now blocks) × (vLength (party .shape) ≤ length (now weights)) × Unmarked (party .shape) (now list)
         × Roomy (party .shape) (now inverses) (now posts) (now shares) (now gaps) (now list) (now above) (now below) ⌝ }
     ensures { λ r. ⌜ r ≡ openedRow party (now (row .entry)) (now (blocks .entry)) ⌝ }
 {
-    accepting::fill_weights(party, weights);
-    let outcome = walk::walk_posts(party, row, blocks, weights, posts, shares);
+    accepting::judge(party, row, blocks, weights, list);
+    let outcome = walk::walk_posts(party, row, blocks, list, posts, shares);
     walk::settle(
         party,
         row,
         blocks,
-        weights,
         outcome,
         posts,
         shares,
@@ -54,8 +54,6 @@ pub fn open_least<'a>(party: Party, row: &'a [u32], blocks: &'a [u32]) -> Opened
     requires { ⌜ Openable party (now row) (now blocks) × (party .shape .n ≤ veryFewPosts) ⌝ }
     ensures { λ r. ⌜ r ≡ openedRow party (now (row .entry)) (now (blocks .entry)) ⌝ }
 {
-    let shape = party.shape;
-    let count = shape.v_len();
     let inverses = inverses::very_few::to_8();
     let mut weights = [0u32; shape::VERY_SHORT_V];
     let mut posts = [0u32; shape::VERY_FEW_POSTS];
@@ -69,7 +67,7 @@ pub fn open_least<'a>(party: Party, row: &'a [u32], blocks: &'a [u32]) -> Opened
         row,
         blocks,
         &inverses,
-        &mut weights[..count],
+        &mut weights,
         &mut posts,
         &mut shares,
         &mut gaps,
@@ -84,8 +82,6 @@ pub fn open_small<'a>(party: Party, row: &'a [u32], blocks: &'a [u32]) -> Opened
     requires { ⌜ Openable party (now row) (now blocks) × (party .shape .n ≤ fewPosts) ⌝ }
     ensures { λ r. ⌜ r ≡ openedRow party (now (row .entry)) (now (blocks .entry)) ⌝ }
 {
-    let shape = party.shape;
-    let count = shape.v_len();
     let inverses = inverses::few::to_32();
     let mut weights = [0u32; shape::SHORT_V];
     let mut posts = [0u32; shape::FEW_POSTS];
@@ -99,7 +95,7 @@ pub fn open_small<'a>(party: Party, row: &'a [u32], blocks: &'a [u32]) -> Opened
         row,
         blocks,
         &inverses,
-        &mut weights[..count],
+        &mut weights,
         &mut posts,
         &mut shares,
         &mut gaps,
@@ -114,8 +110,6 @@ pub fn open_large<'a>(party: Party, row: &'a [u32], blocks: &'a [u32]) -> Opened
     requires { ⌜ Openable party (now row) (now blocks) ⌝ }
     ensures { λ r. ⌜ r ≡ openedRow party (now (row .entry)) (now (blocks .entry)) ⌝ }
 {
-    let shape = party.shape;
-    let count = shape.v_len();
     let inverses = inverses::to_255();
     let mut weights = [0u32; shape::LONGEST_V];
     let mut posts = [0u32; shape::MOST_POSTS];
@@ -129,7 +123,7 @@ pub fn open_large<'a>(party: Party, row: &'a [u32], blocks: &'a [u32]) -> Opened
         row,
         blocks,
         &inverses,
-        &mut weights[..count],
+        &mut weights,
         &mut posts,
         &mut shares,
         &mut gaps,

@@ -9,7 +9,7 @@ use lib.ListN.{length}
 use Rattle.field.specs.Modulus.{p}
 use Rattle.shape.specs.declared.Shape.{Shape}
 use Rattle.shape.specs.Bounds.{rowCount}
-use Rattle.shape.specs.Lengths.{tripleDrawLength, packsLength, rowLength}
+use Rattle.shape.specs.Lengths.{checksLength, tripleDrawLength, packsLength, rowLength}
 use Rattle.poly.specs.Counting.{All}
 use Rattle.refusal.specs.Refusal.{first}
 use Rattle.refusal.specs.Conditions.{wrongLength, postsTests}
@@ -40,11 +40,11 @@ module _ (plan : Plan) (draw : Draw) (sound : Sound plan) (is : IsDraw plan draw
 
   -- 1 to 8 of a factory's call
   clear : (xs : List ℕ) (many : ℕ) → Drawn many xs → (out : List ℕ) (room : ℕ) → length out ≡ room
-      → first (factoryTests (plan .n) (plan .t) (draw .points) xs many out room) ≡ 0
+      → first (factoryTests (plan .n) (plan .t) (plan .points) (draw .points) xs many out room) ≡ 0
   clear xs many d out room e =
       let posts = all-fail (postsTests (plan .n) (plan .t)) tt (sound .posts) in
-      not-refused (factoryTests (plan .n) (plan .t) (draw .points) xs many out room)
-      (posts .0, (posts .1 .0, (points-pass (draw .points) (is .points), (sized (draw .points) (plan .n) (is .posts), (sized xs many (d .many), (sized out room e, (elements-pass xs (d .low), tt)))))))
+      not-refused (factoryTests (plan .n) (plan .t) (plan .points) (draw .points) xs many out room)
+      (posts .0, (posts .1 .0, (sound .counted, (points-pass (draw .points) (is .points), (sized (draw .points) (checksLength (planShape plan)) (is .posts), (sized xs many (d .many), (sized out room e, (elements-pass xs (d .low), tt))))))))
     where
       sized : (l : List ℕ) (m : ℕ) → length l ≡ m → wrongLength l m ≡ false
       sized l m h = ap not (eq-eqb (length l) m h)
@@ -52,24 +52,24 @@ module _ (plan : Plan) (draw : Draw) (sound : Sound plan) (is : IsDraw plan draw
   module _ (xs : List ℕ) (d : Drawn (drawnLength plan) xs) where
     pack-of : (i : ℕ) → 1 ≤ i → i ≤ plan .n → rowAt W (packs S (draw .points) xs) (i - 1) ≡ partOf plan draw i xs
     unfolding pointOf
-    pack-of i lo hi = packs-part S xs (d .many) (draw .points) (is .posts) i lo hi
+    pack-of i lo hi = packs-part S xs (d .many) (draw .points) i lo hi
 
     packs-many : length (packs S (draw .points) xs) ≡ plan .n * W
-    packs-many = length-packs S xs (d .many) (draw .points) (is .posts)
+    packs-many = length-packs S xs (d .many) (draw .points)
 
   row-given : (r : ℕ) (out : List ℕ) → IsRaw (plan .raw r) → length out ≡ packsLength S → RowGiven plan draw r out
   unfolding factoryRowRefusal rawPack
   row-given r out raw e = record {
     done = done;
     parts = λ i lo hi.
-        ap (λ (l : List ℕ). rowAt W l (i - 1)) (row-done (plan .n) (plan .t) (draw .points) (rawDraw draw r) out done)
+        ap (λ (l : List ℕ). rowAt W l (i - 1)) (row-done (plan .n) (plan .t) (plan .points) (draw .points) (rawDraw draw r) out done)
         ∙ pack-of (rawDraw draw r) d i lo hi;
   }
     where
       d : Drawn (drawnLength plan) (rawDraw draw r)
       d = raw-drawn plan draw is r (omega (arith, sound .raws r raw)) raw
 
-      done : factoryRowRefusal (plan .n) (plan .t) (draw .points) (rawDraw draw r) out ≡ 0
+      done : factoryRowRefusal (plan .n) (plan .t) (plan .points) (draw .points) (rawDraw draw r) out ≡ 0
       done = clear (rawDraw draw r) (drawnLength plan) d out (packsLength S) e
 
   triple-given : (r : ℕ) (out : List ℕ) → plan .triple r ≡ true → length out ≡ 3 * packsLength S → TripleGiven plan draw r out
@@ -78,14 +78,14 @@ module _ (plan : Plan) (draw : Draw) (sound : Sound plan) (is : IsDraw plan draw
     done = done;
     parts = λ i lo hi.
         ap (λ (l : List ℕ). rowAt W l (i - 1) ++ (rowAt W l (plan .n + i - 1) ++ rowAt W l (2 * plan .n + i - 1)))
-        (triple-done (plan .n) (plan .t) (draw .points) (tripleDraw draw r) out done)
+        (triple-done (plan .n) (plan .t) (plan .points) (draw .points) (tripleDraw draw r) out done)
         ∙ ap₂ _++_ (first-is i lo hi) (ap₂ _++_ (second-is i lo hi) (third-is i lo hi));
   }
     where
       low : r < rowCount
       low = omega (arith, sound .triples r three)
 
-      done : factoryTripleRefusal (plan .n) (plan .t) (draw .points) (tripleDraw draw r) out ≡ 0
+      done : factoryTripleRefusal (plan .n) (plan .t) (plan .points) (draw .points) (tripleDraw draw r) out ≡ 0
       done = clear (tripleDraw draw r) (tripleDrawLength S) (triple-drawn plan draw is r low three) out (3 * packsLength S) e
 
       da : Drawn (drawnLength plan) (drawA plan draw r)

@@ -62,7 +62,7 @@ module _ (H : Holder) where
       ≡ rowFor plan draw i (productVector y y' a b c)
   unfolding productRow
   row-of-product y y' a b c =
-      let w = element (pointOf draw i) in
+      let w = pointOf plan draw i in
       ap (λ (x : List ℕ). summed (sumsAt s) y' (product y y') x (rowFor plan draw i a))
       (plus-nothing (sumsAt s) y (rowFor plan draw i c) (rowFor plan draw i b) ∙ sym (row-plusTimes (planShape plan) i y w c b))
       ∙ sym (row-summed (planShape plan) i y' (product y y') w (plusTimes (element y) c b) a)

@@ -15,7 +15,7 @@ use Rattle.refusal.specs.Conditions.{anyBeyond}
 use Rattle.parts.proofs.Laws.{elements-append}
 use Rattle.shape.specs.Bounds.{rowCount, lastRow, lastTriple}
 use Rattle.shape.specs.Marks.{empty, raw, held, unused, further, masked, collected}
-use Rattle.shape.specs.Lengths.{vLength, rowLength}
+use Rattle.shape.specs.Lengths.{vLength, checksLength, rowLength}
 use Rattle.session.specs.declared.Session.{Session}
 use Rattle.session.specs.Rows.{sumsAt, rowAt, withRow, combined, plusSums, summed}
 use Rattle.session.proofs.RowLaws.{length-with-row, row-same, row-other}
@@ -51,7 +51,7 @@ module _ (plan : Plan) (draw : Draw) where
   unfolding rowOf
   row-elements i X =
       elements-append (numbers (vLength (planShape plan)) _) _ (numbers-elements (vLength (planShape plan)) _)
-      (elements-append (numbers (plan .n) _) _ (numbers-elements (plan .n) _) (numbers-elements (plan .n) _))
+      (elements-append (numbers (checksLength (planShape plan)) _) _ (numbers-elements (checksLength (planShape plan)) _) (numbers-elements (plan .n) _))
 
   pub row-low : (i : ℕ) (X : Vector) → anyBeyond (rowFor plan draw i X) ≡ false
   row-low i X = elements-pass (rowFor plan draw i X) (row-elements i X)
@@ -124,13 +124,13 @@ module _ (H : Holder) where
   deal-holds r c f =
       put-holds plan draw len i M vec l h (f .framed .sized .length-is) r held (omega (arith, f .placed .row-in)) _ _
       (ap (plusSums (sumsAt s) c) (held-row r (f .placed .row-in) (f .placed .is-raw))
-      ∙ sym (row-raised (planShape plan) i c (element (pointOf draw i)) (vec r)))
+      ∙ sym (row-raised (planShape plan) i c (pointOf plan draw i) (vec r)))
 
   -- x plus scale times y of two rows is the row of that sum
   pub combined-row : (k a b : ℕ) → rowAt N l a ≡ rowFor plan draw i (vec a) → rowAt N l b ≡ rowFor plan draw i (vec b)
       → combined k (rowAt N l a) (rowAt N l b) ≡ rowFor plan draw i (plusTimes (element k) (vec a) (vec b))
   combined-row k a b ea eb =
-      ap₂ (combined k) ea eb ∙ sym (row-plusTimes (planShape plan) i k (element (pointOf draw i)) (vec a) (vec b))
+      ap₂ (combined k) ea eb ∙ sym (row-plusTimes (planShape plan) i k (pointOf plan draw i) (vec a) (vec b))
 
   pub linear-holds : (r a b scale c : ℕ) → Summed s l r a b scale c
       → Holds plan draw len i (remarked M r held) (at vec r (totalVector vec (once a) (times scale b ∷ fee c ∷ [])))
@@ -139,7 +139,7 @@ module _ (H : Holder) where
       let k = f .placed in
       put-holds plan draw len i M vec l h (f .framed .sized .length-is) r held (omega (arith, k .row-in)) _ _
       (ap₂ (summed (sumsAt s) scale c) (held-row a (k .a-in) (k .a-held)) (held-row b (k .b-in) (k .b-held))
-      ∙ sym (row-summed (planShape plan) i scale c (element (pointOf draw i)) (vec a) (vec b))
+      ∙ sym (row-summed (planShape plan) i scale c (pointOf plan draw i) (vec a) (vec b))
       ∙ ap (rowFor plan draw i) (sym (linear-sum vec a b scale c)))
 
   pub masks-holds : (a b r : ℕ) → markOf M r ≡ unused → Holds plan draw len i (marksBy (factors a b r) M) vec l

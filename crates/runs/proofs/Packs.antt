@@ -19,7 +19,7 @@ use Rattle.runs.proofs.Marks.{rawVector, vectorA, vectorB, vectorAB}
 
 -- post i's row of a vector
 abbrev pub rowFor : Plan → Draw → ℕ → Vector → List ℕ
-rowFor plan draw i X = rowOf (planShape plan) i (element (pointOf draw i)) X
+rowFor plan draw i X = rowOf (planShape plan) i (pointOf plan draw i) X
 
 -- as many elements
 pub record Drawn (k : ℕ) (xs : List ℕ) : Type 0 where
@@ -32,7 +32,7 @@ module _ (plan : Plan) (draw : Draw) (is : IsDraw plan draw) where
 
   part-row : (xs : List ℕ) → Drawn (drawnLength plan) xs → (i : ℕ) → i - 1 < plan .n
       → partOf plan draw i xs ≡ rowFor plan draw i (vectorOf (planShape plan) xs)
-  part-row xs e i h = part-is-row (planShape plan) xs (e .low) (e .many) i (pointOf draw i) h
+  part-row xs e i h = part-is-row (planShape plan) xs (e .low) (e .many) i (pointOf plan draw i) h
 
   pub raw-drawn : (r : ℕ) → r < rowCount → IsRaw (plan .raw r) → Drawn (drawnLength plan) (rawDraw draw r)
   unfolding rawDraw

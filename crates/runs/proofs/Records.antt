@@ -16,7 +16,7 @@ use Rattle.shape.specs.Marks.{present}
 use Rattle.shape.specs.Lengths.{needed, vLength, blockLength}
 use Rattle.refusal.proofs.Laws.{or-false}
 use Rattle.session.specs.declared.Session.{Session}
-use Rattle.session.specs.Sessions.{shapeOf}
+use Rattle.session.specs.Sessions.{pointsOf, shapeOf}
 use Rattle.blocks.specs.Blocks as Blocks
 use Rattle.blocks.proofs.Blocks.{post-in}
 use Rattle.accepting.specs.Accepting as Accepting
@@ -84,7 +84,7 @@ module _ (s : Session) (blocks : List ℕ) where
 
   pub own-true : (S : Vector) → Truly s S blocks (s .post)
   unfolding Blocks.sent
-  own-true S = rw (eq-eqb (s .post) (s .post) refl) (own-numbers (shapeOf s) (s .post) (element (s .point)) S)
+  own-true S = rw (eq-eqb (s .post) (s .post) refl) (own-numbers (shapeOf s) (s .post) (pointsOf s) S)
 
   -- the walk takes posts of 1..n that pass
   pub walked : (row : List ℕ) (P : ℕ → Type 0)

@@ -15,7 +15,7 @@ use Rattle.poly.specs.Counting.{All}
 use Rattle.poly.proofs.Lists.{all-join}
 use Rattle.shape.specs.Bounds.{rowCount}
 use Rattle.shape.specs.Marks.{empty, held as heldMark, masked}
-use Rattle.shape.specs.Lengths.{fLength, vLength}
+use Rattle.shape.specs.Lengths.{fLength, vLength, checksLength}
 use Rattle.session.specs.declared.Session.{Session}
 use Rattle.session.specs.Rows.{sumsAt, rowAt, withRow, combined}
 use Rattle.sums.proofs.Summed.{plus-nothing}
@@ -101,7 +101,7 @@ module _ (plan : Plan) (draw : Draw) (i : ℕ) where
       ap (λ (k : ℕ). replicate k 0) (sym (row-wide plan draw i zeroVector))
       ∙ all-zero (rowFor plan draw i zeroVector)
       (all-join _ (numbers (vLength (planShape plan)) _) _ (zero-numbers (vLength (planShape plan)) _ (λ k. refl))
-      (all-join _ (numbers (plan .n) _) _ (zero-numbers (plan .n) _ (λ j. zero-value (vLength (planShape plan)) _))
+      (all-join _ (numbers (checksLength (planShape plan)) _) _ (zero-numbers (checksLength (planShape plan)) _ (λ j. zero-value (vLength (planShape plan)) _))
       (zero-numbers (plan .n) _ (λ j.
       ap (λ (z : Element). 0ᴱ ⊕ z ⊕ 0ᴱ) (zero-value (fLength (planShape plan)) (element (suc j))) ∙ solve 𝓡 [] (𝟘 :+ 𝟘 :+ 𝟘) 𝟘 refl))))
 
@@ -131,7 +131,7 @@ module _ (H : Holder) where
         (plus-nothing (sumsAt s₀) (t .coefficient) (rowAt W (withRow W d (row X) l) d) (rowAt W (withRow W d (row X) l) (numberRow t))
         ∙ ap₂ (combined (t .coefficient)) (row-same W rowCount l d size low (row X) (row-wide plan draw i X))
         (row-other W rowCount l d size low (row X) (row-wide plan draw i X) (numberRow t) (a .0) ∙ a .1)
-        ∙ sym (row-plusTimes (planShape plan) i (t .coefficient) (element (pointOf draw i)) X (vec (numberRow t))))
+        ∙ sym (row-plusTimes (planShape plan) i (t .coefficient) (pointOf plan draw i) X (vec (numberRow t))))
         ∙ row-again W rowCount l d size low (row X) (row-wide plan draw i X) (row (plusTimes (element (t .coefficient)) X (vec (numberRow t))))
 
     all-added : (X : Vector) (ts : List Term) → All Adds ts

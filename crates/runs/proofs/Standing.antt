@@ -8,6 +8,7 @@ use lib.Seq.{take-at}
 use Rattle.field.specs.Element.{Element}
 use Rattle.poly.specs.Counting.{All}
 use Rattle.shape.specs.declared.Shape.{Shape}
+use Rattle.shape.specs.declared.Points.{Points}
 use Rattle.shape.specs.Lengths.{vLength}
 use Rattle.vectors.specs.Vector.{Vector, numbers, rowOf}
 use Rattle.vectors.proofs.Linear.{length-numbers}
@@ -21,7 +22,7 @@ use Rattle.runs.proofs.Finishing.{Trusted}
 use Rattle.runs.proofs.Recalled.{Recalls}
 
 -- a row's own coefficients
-pub own-numbers : (g : Shape) (i : ℕ) (w : Element) (X : Vector) → take (vLength g) (rowOf g i w X) ≡ numbers (vLength g) (X .v i)
+pub own-numbers : (g : Shape) (i : ℕ) (w : Points) (X : Vector) → take (vLength g) (rowOf g i w X) ≡ numbers (vLength g) (X .v i)
 unfolding rowOf
 own-numbers g i w X = take-at (numbers (vLength g) (X .v i)) _ (vLength g) (length-numbers (vLength g) (X .v i))
 

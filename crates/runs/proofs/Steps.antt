@@ -115,7 +115,7 @@ module _ (H : Holder) where
   message-at : (r : ℕ) (lent : List ℕ) → MessageMade s l r lent → coefficients s (rowAt (width s) l r) ≡ numbers (vLength (planShape plan)) (vec r .v i)
   message-at r lent f =
       ap (take (vLength (planShape plan))) (held-row H r (f .placed .row-in) (f .placed .is-held))
-      ∙ own-numbers (planShape plan) i (element (pointOf draw i)) (vec r)
+      ∙ own-numbers (planShape plan) i (pointOf plan draw i) (vec r)
 
   says-at : (c : Call) → refusalOf c p0 ≡ 0 → SaysAll plan draw i vec (sends c) (does c p0 .written)
   says-at (loadRow x) z = tt

@@ -56,7 +56,7 @@ module _ (H : Holder) where
           → take (vLength (planShape plan)) (combined (p - 1) (rowAt (wide plan) l x) (rowAt (wide plan) l y)) ≡ numbers (vLength (planShape plan)) (less (vec x) (vec y) .v i)
       half x y ex ey =
           ap (take (vLength (planShape plan))) (combined-row H (p - 1) x y ex ey)
-          ∙ own-numbers (planShape plan) i (element (pointOf draw i)) (less (vec x) (vec y))
+          ∙ own-numbers (planShape plan) i (pointOf plan draw i) (less (vec x) (vec y))
 
   masks-long : (a b r : ℕ) → Factored s a b r unused → length (maskNumbersOf s l a b r) ≡ masksLength (shapeOf s)
   masks-long a b r f =

@@ -126,7 +126,7 @@ abbrev pub after : Performed → Post
 after o = record { session = o .answer .session; rows = o .rows }
 
 unfoldable pub newPost : Plan → Draw → List ℕ → ℕ → Post
-newPost plan draw rows i = record { session = created (plan .n) (plan .t) i (pointOf draw i) .session; rows = rows }
+newPost plan draw rows i = record { session = created (plan .n) (plan .t) i (plan .points) (pointOf plan draw i) .session; rows = rows }
 
 abbrev pub openingLine : ℕ → ℕ → List ℕ → List ℕ
 openingLine r i xs = text (Line.opening r i xs)

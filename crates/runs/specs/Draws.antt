@@ -2,16 +2,18 @@
 -- and triples." What each post gets of it is the factory's own definition.
 use Prim.Native.Nat.{ℕ, _-_, _≤_, _<_}
 use mathlib.Core.Path.{_≡_}
-use mathlib.Core.Bool.{Bool, true, cond}
+use mathlib.Core.Bool.{Bool, true, false, cond}
 use mathlib.Core.List.{List, [], _++_}
 use lib.ListN.{length, getD}
 use Rattle.field.specs.Modulus.{p}
 use Rattle.shape.specs.declared.Shape.{Shape}
 use Rattle.shape.specs.Bounds.{rowCount, lastRow, lastTriple}
-use Rattle.shape.specs.Lengths.{shape, drawLength, tripleDrawLength}
+use Rattle.shape.specs.declared.Points.{Points}
+use Rattle.packs.specs.Packs.{pointsAt}
+use Rattle.shape.specs.Lengths.{shape, checksLength, drawLength, tripleDrawLength}
 use Rattle.poly.specs.Counting.{All, Elements}
 use Rattle.refusal.specs.Refusal.{first}
-use Rattle.refusal.specs.Conditions.{postsTests}
+use Rattle.refusal.specs.Conditions.{postsTests, badPointCount}
 use Rattle.parts.specs.Draw.{part, firstDraw, secondDraw, thirdDraw}
 
 -- Whether a row is drawn raw, and who deals it: a post, or a number outside 1..n for someone who is no post.
@@ -31,15 +33,18 @@ whenRaw (by dealer) x y = x
 pub record Plan : Type 0 where
   pub n : ℕ
   pub t : ℕ
+  -- check points of a post
+  pub points : ℕ
   pub raw : ℕ → Raw
   pub triple : ℕ → Bool
 
 abbrev pub planShape : Plan → Shape
-planShape plan = shape (plan .n) (plan .t)
+planShape plan = shape (plan .n) (plan .t) (plan .points)
 
--- n and t are such that 1 and 2 refuse nothing, and what is drawn is drawn for rows of the session.
+-- n, t and the number of points are such that 1, 2 and 4 refuse nothing, and what is drawn is drawn for rows of the session.
 pub record Sound (plan : Plan) : Type 0 where
   pub posts : first (postsTests (plan .n) (plan .t)) ≡ 0
+  pub counted : badPointCount (plan .points) ≡ false
   pub raws : (r : ℕ) → IsRaw (plan .raw r) → r ≤ lastRow
   pub triples : (r : ℕ) → plan .triple r ≡ true → r ≤ lastTriple
 
@@ -66,16 +71,16 @@ pub record Lists (many : ℕ → ℕ) (ls : List (List ℕ)) : Type 0 where
   pub count : length ls ≡ rowCount
   pub each : (r : ℕ) → r < rowCount → (length (getD ls r []) ≡ many r) × Elements (getD ls r [])
 
--- A draw for the plan: n check points from 1 to p − 1, and elements.
+-- A draw for the plan: n check points, or two for each post, from 1 to p − 1, and elements.
 pub record IsDraw (plan : Plan) (draw : Draw) : Type 0 where
-  pub posts : length (draw .points) ≡ plan .n
+  pub posts : length (draw .points) ≡ checksLength (planShape plan)
   pub points : All (λ w. (1 ≤ w) × (w < p)) (draw .points)
   pub raws : Lists (rawLength plan) (draw .raws)
   pub triples : Lists (tripleLength plan) (draw .triples)
 
--- Post i's check point.
-unfoldable pub pointOf : Draw → ℕ → ℕ
-pointOf draw i = getD (draw .points) (i - 1) 0
+-- Post i's check points.
+unfoldable pub pointOf : Plan → Draw → ℕ → Points
+pointOf plan draw i = pointsAt (plan .points) (draw .points) (i - 1)
 
 -- What was drawn for row r raw: f's coefficients first.
 unfoldable pub rawDraw : Draw → ℕ → List ℕ
@@ -96,7 +101,7 @@ drawAB plan draw r = thirdDraw (drawnLength plan) (tripleDraw draw r)
 
 -- Post i's part of a drawn row, and its packs: "its own part of drawn rows and triples".
 abbrev pub partOf : Plan → Draw → ℕ → List ℕ → List ℕ
-partOf plan draw i drawn = part (planShape plan) i (pointOf draw i) drawn
+partOf plan draw i drawn = part (planShape plan) i (pointOf plan draw i) drawn
 
 unfoldable pub rawPack : Plan → Draw → ℕ → ℕ → List ℕ
 rawPack plan draw i r = partOf plan draw i (rawDraw draw r)

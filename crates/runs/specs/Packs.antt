@@ -12,19 +12,19 @@ use Rattle.runs.specs.Draws.{Plan, planShape, Draw, IsRaw, Sound, IsDraw
 
 -- The call for row r, drawn raw.
 abbrev pub rowWritten : Plan → Draw → ℕ → List ℕ → List ℕ
-rowWritten plan draw r out = factoryRowOut (plan .n) (plan .t) (draw .points) (rawDraw draw r) out
+rowWritten plan draw r out = factoryRowOut (plan .n) (plan .t) (plan .points) (draw .points) (rawDraw draw r) out
 
 pub record RowGiven (plan : Plan) (draw : Draw) (r : ℕ) (out : List ℕ) : Type 0 where
-  pub done : factoryRowRefusal (plan .n) (plan .t) (draw .points) (rawDraw draw r) out ≡ 0
+  pub done : factoryRowRefusal (plan .n) (plan .t) (plan .points) (draw .points) (rawDraw draw r) out ≡ 0
   pub parts : (i : ℕ) → 1 ≤ i → i ≤ plan .n
       → rowAt (rowLength (planShape plan)) (rowWritten plan draw r out) (i - 1) ≡ rawPack plan draw i r
 
 -- The call for the triple at r: "all posts' rows of l, then of l', then of l''".
 abbrev pub tripleWritten : Plan → Draw → ℕ → List ℕ → List ℕ
-tripleWritten plan draw r out = factoryTripleOut (plan .n) (plan .t) (draw .points) (tripleDraw draw r) out
+tripleWritten plan draw r out = factoryTripleOut (plan .n) (plan .t) (plan .points) (draw .points) (tripleDraw draw r) out
 
 pub record TripleGiven (plan : Plan) (draw : Draw) (r : ℕ) (out : List ℕ) : Type 0 where
-  pub done : factoryTripleRefusal (plan .n) (plan .t) (draw .points) (tripleDraw draw r) out ≡ 0
+  pub done : factoryTripleRefusal (plan .n) (plan .t) (plan .points) (draw .points) (tripleDraw draw r) out ≡ 0
   pub parts : (i : ℕ) → 1 ≤ i → i ≤ plan .n
       → rowAt (rowLength (planShape plan)) (tripleWritten plan draw r out) (i - 1)
       ++ (rowAt (rowLength (planShape plan)) (tripleWritten plan draw r out) (plan .n + i - 1)

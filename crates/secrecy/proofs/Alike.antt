@@ -56,25 +56,25 @@ module _ (T : Two) (m : Moments) (R : Pair T m) (i : ℕ) (lo : 1 ≤ i) (hi : i
   abbrev c2 : Step → Call
   c2 c = callAt (T .plan) (T .d') (T .u') lines i c
 
-  abbrev near : (r : ℕ) → r < rowCount → markOf M r ≢ empty → Near (planShape (T .plan)) (pointOf (T .d)) (T .K) (vec r) (vec' r)
+  abbrev near : (r : ℕ) → r < rowCount → markOf M r ≢ empty → Near (planShape (T .plan)) (pointOf (T .plan) (T .d)) (T .K) (vec r) (vec' r)
   near = R .near
 
   abbrev k : ℕ
   k = vLength (planShape (T .plan))
 
   -- post i's numbers of two near vectors with one number
-  numbers-same : (S S' : Vector) → Near (planShape (T .plan)) (pointOf (T .d)) (T .K) S S' → number S ≡ number S'
+  numbers-same : (S S' : Vector) → Near (planShape (T .plan)) (pointOf (T .plan) (T .d)) (T .K) S S' → number S ≡ number S'
       → numbers k (S .v i) ≡ numbers k (S' .v i)
   numbers-same S S' h e =
-      sym (own-numbers (planShape (T .plan)) i (element (pointOf (T .d) i)) S)
-      ∙ ap (take k) (near-same (planShape (T .plan)) (pointOf (T .d)) (T .K) S S' h e i lo hi)
-      ∙ own-numbers (planShape (T .plan)) i (element (pointOf (T .d) i)) S'
+      sym (own-numbers (planShape (T .plan)) i (pointOf (T .plan) (T .d) i) S)
+      ∙ ap (take k) (near-same (planShape (T .plan)) (pointOf (T .plan) (T .d)) (T .K) S S' h e i lo hi)
+      ∙ own-numbers (planShape (T .plan)) i (pointOf (T .plan) (T .d) i) S'
 
   mask-numbers : (x y : ℕ) → x < rowCount → markOf M x ≢ empty → y < rowCount → markOf M y ≢ empty → number (less (vec x) (vec y)) ≡ number (less (vec' x) (vec' y))
       → numbers k (less (vec x) (vec y) .v i) ≡ numbers k (less (vec' x) (vec' y) .v i)
   mask-numbers x y lx hx ly hy e =
       numbers-same (less (vec x) (vec y)) (less (vec' x) (vec' y))
-      (near-plusTimes (planShape (T .plan)) (pointOf (T .d)) (T .K) (p - 1) (vec x) (vec' x) (vec y) (vec' y) (near x lx hx) (near y ly hy)) e
+      (near-plusTimes (planShape (T .plan)) (pointOf (T .plan) (T .d)) (T .K) (p - 1) (vec x) (vec' x) (vec y) (vec' y) (near x lx hx) (near y ly hy)) e
 
   -- what is sent of a call with these acts
   module _ (todo : List Act) (al : AllowedAll todo M) (fit : FitAll T todo b b') where

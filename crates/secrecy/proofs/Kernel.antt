@@ -20,7 +20,7 @@ use Rattle.poly.proofs.Coefficients.{ev, timesNodes, nodalAt, ev-timesNodes, ev
 use Rattle.poly.proofs.Lagrange.{nodalAt-nonzero}
 use Rattle.shape.specs.declared.Shape.{Shape}
 use Rattle.shape.specs.Lengths.{fLength, vLength}
-use Rattle.vectors.specs.Vector.{Vector, firsts, valueAt, checkOf, sumAt}
+use Rattle.vectors.specs.Vector.{Vector, firsts, valueAt, sumAt}
 open CommutativeRing 𝓡 using (add as _⊕_, mul as _⊗_, neg, zero as 0ᴱ, one as 1ᴱ)
 
 infixl 65 _⊕_
@@ -114,14 +114,14 @@ module _ (gs ws : List Element) where
       (valueAt-coefficient (fLength s) (hiding gs) (element (suc j)) (omega (arith, length-hiding gs)))
       ∙ solve 𝓡 (L (element (suc j)) ∷ []) (:- A :* 𝟙 :+ A :+ 𝟘) 𝟘 refl
 
-  -- the check values at the group's check points are nothing: a v has a coefficient more than the group has points
-  pub kernel-checks : (s : Shape) → length ws < vLength s → All (λ w. (j : ℕ) → checkOf s w kernel j ≡ 0ᴱ) ws
+  -- the values at the group's check points are nothing: a v has a coefficient more than the group has points
+  pub kernel-checks : (s : Shape) → length ws < vLength s → All (λ w. (j : ℕ) → valueAt (vLength s) (kernel .v j) w ≡ 0ᴱ) ws
   unfolding kernel
   kernel-checks s few = all-map none ws (hiding-at-nodes ws)
     where
-      none : (w : Element) → ev 𝓡 (hiding ws) w ≡ 0ᴱ → (j : ℕ) → checkOf s w kernel j ≡ 0ᴱ
+      none : (w : Element) → ev 𝓡 (hiding ws) w ≡ 0ᴱ → (j : ℕ) → valueAt (vLength s) (kernel .v j) w ≡ 0ᴱ
       none w e j =
-          valueAt-times (vLength s) (neg (L (element (suc j)))) (coefficient (hiding ws)) w
-          ∙ ap (λ (z : Element). neg (L (element (suc j))) ⊗ z)
+          valueAt-times (vLength s) (neg (L (element j))) (coefficient (hiding ws)) w
+          ∙ ap (λ (z : Element). neg (L (element j)) ⊗ z)
           (valueAt-coefficient (vLength s) (hiding ws) w (omega (arith, length-hiding ws)) ∙ e)
           ∙ mul-zero 𝓡 _

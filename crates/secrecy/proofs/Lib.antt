@@ -39,9 +39,10 @@ pub mod Listed
 pub mod Counts
 -- What the rules ask, call by call.
 pub mod Asked
--- The theorems; and that nobody gets 13.
+-- The theorems; that nobody gets 13; and that the record shows all check points of a group.
 pub mod Matched
 pub mod Theorems
 pub mod Thirteen
 pub mod Thirteens
 pub mod Never
+pub mod PointsShown

@@ -27,10 +27,10 @@ pub record Alike (xs ys : List ℕ) : Type 0 where
 
 module _ (plan : Plan) (group : List ℕ) (d d' : Draw) (u u' : Secrets) (K : Vector) (Δ : ℕ → Gaps) where
   abbrev Nearly : Vector → Vector → Type 0
-  Nearly = Near (planShape plan) (pointOf d) K
+  Nearly = Near (planShape plan) (pointOf plan d) K
 
   pub record Link : Type 0 where
-    pub points : pointOf d' ≡ pointOf d
+    pub points : pointOf plan d' ≡ pointOf plan d
     pub near-raw : (r : ℕ) → r < rowCount → IsRaw (plan .raw r) → Nearly (rawVector plan d r) (rawVector plan d' r)
     pub near-a : (r : ℕ) → r < rowCount → plan .triple r ≡ true → Nearly (vectorA plan d r) (vectorA plan d' r)
     pub near-b : (r : ℕ) → r < rowCount → plan .triple r ≡ true → Nearly (vectorB plan d r) (vectorB plan d' r)
@@ -42,4 +42,4 @@ module _ (plan : Plan) (group : List ℕ) (d d' : Draw) (u u' : Secrets) (K : Ve
     pub triple-alike : (i k : ℕ) → i ≤ plan .n → Alike (triplePack plan d i k) (triplePack plan d' i k)
     pub raw-group : All (λ i. (k : ℕ) → rawPack plan d i k ≡ rawPack plan d' i k) group
     pub triple-group : All (λ i. (k : ℕ) → triplePack plan d i k ≡ triplePack plan d' i k) group
-    pub unseen : All (λ i. Unseen (planShape plan) i (element (pointOf d i)) K) group
+    pub unseen : All (λ i. Unseen (planShape plan) i (pointOf plan d i) K) group

@@ -7,6 +7,7 @@ use mathlib.Core.Logic.{_⊎_, inl, inr}
 use mathlib.Core.List.{List, [], _∷_, _++_}
 use native.Mathlib.Omega.{arith}
 use lib.ListN.{length, getD, length-append}
+use Rattle.shape.specs.declared.Points.{Points}
 use Rattle.field.specs.Modulus.{p}
 use Rattle.field.specs.Algebra.{CommutativeRing}
 use Rattle.field.specs.Element.{Element, element}
@@ -18,13 +19,12 @@ use Rattle.poly.specs.Counting.{Elements}
 use Rattle.poly.proofs.Lists.{all-zip}
 use Rattle.refusal.specs.Conditions.{anyBeyond}
 use Rattle.shape.specs.Bounds.{rowCount}
-use Rattle.refusal.proofs.Ranges.{posts-passed}
 use Rattle.parts.specs.Draw.{part, firstDraw, secondDraw, thirdDraw}
 use Rattle.factory.specs.Calls.{dealerNumber}
 use Rattle.parts.proofs.Laws.{elements-append}
 use Rattle.vectors.specs.Vector.{Vector, rowOf, vectorOf}
 use Rattle.runs.specs.Draws.{Plan, planShape, Raw, none, by, IsRaw, whenRaw, Sound, Draw, IsDraw, drawnLength, rawLength, tripleLength, pointOf, rawDraw, tripleDraw, rawPack, triplePack}
-use Rattle.runs.proofs.Start.{all-at}
+use Rattle.runs.proofs.Start.{sizes, all-at}
 use Rattle.runs.proofs.Marks.{rawVector, vectorA, vectorB, vectorAB}
 use Rattle.factory.proofs.Laws.{elements-pass}
 use Rattle.runs.proofs.Packs.{rowFor, Drawn, raw-drawn, a-drawn, b-drawn, ab-drawn, raw-pack, triple-pack}
@@ -79,7 +79,7 @@ module _ (plan : Plan) (group : List ℕ) (u u' : Secrets) (Δ : ℕ → Gaps) (
   d' = moved plan group u u' Δ d
 
   abbrev K : Vector
-  K = groupKernel (pointOf d) group
+  K = groupKernel (plan .points) (pointOf plan d) group
 
   is' : IsDraw plan d'
   is' = moved-is plan group u u' Δ d is
@@ -90,14 +90,14 @@ module _ (plan : Plan) (group : List ℕ) (u u' : Secrets) (Δ : ℕ → Gaps) (
   -- ---- near
 
   abbrev Nearly : Vector → Vector → Type 0
-  Nearly = Near (planShape plan) (pointOf d) K
+  Nearly = Near (planShape plan) (pointOf plan d) K
 
   nearly : (δ : Element) (xs ys : List ℕ) → ys ≡ shift (layout plan group d) δ xs → Drawn (drawnLength plan) xs
       → Nearly (vector xs) (vector ys)
   nearly δ xs ys e h =
       subst (λ (l : List ℕ). Nearly (vector xs) (vector l)) (sym e)
-      (near-shift (planShape plan) K δ (pointOf d) xs
-      (kernel-c (groupPosts (pointOf d) group) (groupPoints (pointOf d) group)) (kernel-unit plan group d sound few is) (h .many))
+      (near-shift (planShape plan) K δ (pointOf plan d) xs
+      (kernel-c (groupPosts (plan .points) (pointOf plan d) group) (groupPoints (plan .points) (pointOf plan d) group)) (kernel-unit plan group d sound few is) (h .many))
 
   some-drawn : (xs : List ℕ) → Drawn (drawnLength plan) xs → 1 ≤ length xs
   some-drawn xs h = omega (arith, h .many, row-some plan)
@@ -155,14 +155,14 @@ module _ (plan : Plan) (group : List ℕ) (u u' : Secrets) (Δ : ℕ → Gaps) (
 
   -- ---- packs
 
-  point-same : (i : ℕ) → pointOf d i ≡ pointOf d' i
-  point-same i = sym (ap (λ (f : ℕ → ℕ). f i) (moved-points plan group u u' Δ d))
+  point-same : (i : ℕ) → pointOf plan d i ≡ pointOf plan d' i
+  point-same i = sym (ap (λ (f : ℕ → Points). f i) (moved-points plan group u u' Δ d))
 
   -- nothing drawn
   raw-same : (i r : ℕ) → plan .raw r ≡ none → rawPack plan d i r ≡ rawPack plan d' i r
   unfolding rawPack rawDraw
   raw-same i r e =
-      ap₂ (λ (w : ℕ) (l : List ℕ). part (planShape plan) i w l) (point-same i)
+      ap₂ (λ (w : Points) (l : List ℕ). part (planShape plan) i w l) (point-same i)
       (empty
       ∙ sym (moved-raw plan group u u' Δ d r ∙ ap (shift (layout plan group d) (secretGap u u' r)) empty ∙ shift-empty _ _))
     where
@@ -173,7 +173,7 @@ module _ (plan : Plan) (group : List ℕ) (u u' : Secrets) (Δ : ℕ → Gaps) (
   unfolding triplePack tripleDraw
   triple-same i r e =
       ap₂
-      (λ (w : ℕ) (l : List ℕ).
+      (λ (w : Points) (l : List ℕ).
       part (planShape plan) i w (firstDraw (drawnLength plan) l)
       ++ (part (planShape plan) i w (secondDraw (drawnLength plan) l)
       ++ part (planShape plan) i w (thirdDraw (drawnLength plan) l)))
@@ -194,7 +194,7 @@ module _ (plan : Plan) (group : List ℕ) (u u' : Secrets) (Δ : ℕ → Gaps) (
   )
 
   there : (i : ℕ) → i ≤ plan .n → i - 1 < plan .n
-  there i hi = omega (arith, hi, posts-passed (plan .n) (plan .t) 0 (sym (sound .posts)) refl .n-in .0)
+  there i hi = omega (arith, hi, sizes plan sound .n-low)
 
   raw-alike : (i k : ℕ) → i ≤ plan .n → Alike (rawPack plan d i k) (rawPack plan d' i k)
   raw-alike i k hi =
@@ -220,11 +220,11 @@ module _ (plan : Plan) (group : List ℕ) (u u' : Secrets) (Δ : ℕ → Gaps) (
       ]
 
   -- the group: the same packs
-  module _ (i : ℕ) (post : (1 ≤ i) × (i ≤ plan .n)) (un : Unseen (planShape plan) i (element (pointOf d i)) K) where
+  module _ (i : ℕ) (post : (1 ≤ i) × (i ≤ plan .n)) (un : Unseen (planShape plan) i (pointOf plan d i) K) where
     same-row : (X Y : Vector) → Nearly X Y → rowFor plan d i X ≡ rowFor plan d' i Y
     same-row X Y h =
-        near-blind (planShape plan) (pointOf d) K X Y h i (post .0) (post .1) un
-        ∙ ap (λ (w : ℕ). rowOf (planShape plan) i (element w) Y) (point-same i)
+        near-blind (planShape plan) (pointOf plan d) K X Y h i (post .0) (post .1) un
+        ∙ ap (λ (w : Points). rowOf (planShape plan) i w Y) (point-same i)
 
     raw-blind : (k : ℕ) → rawPack plan d i k ≡ rawPack plan d' i k
     raw-blind k =
@@ -248,7 +248,7 @@ module _ (plan : Plan) (group : List ℕ) (u u' : Secrets) (Δ : ℕ → Gaps) (
               ∙ sym (triple-pack plan d' is' k row h i (there i (post .1)))
         ]
 
-  pub link : Link plan group d (moved plan group u u' Δ d) u u' (groupKernel (pointOf d) group) Δ
+  pub link : Link plan group d (moved plan group u u' Δ d) u u' (groupKernel (plan .points) (pointOf plan d) group) Δ
   link =
       record {
         points = moved-points plan group u u' Δ d;

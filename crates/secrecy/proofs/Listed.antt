@@ -9,7 +9,8 @@ use Rattle.poly.specs.Counting.{All, Distinct}
 use Rattle.poly.proofs.Lists.{all-map}
 use Rattle.shape.specs.Bounds.{rowCount}
 use Rattle.parts.specs.Draw.{eachFrom}
-use Rattle.runs.specs.Draws.{Plan, Draw, IsDraw, Lists, rawLength, tripleLength}
+use Rattle.shape.specs.Lengths.{checksLength}
+use Rattle.runs.specs.Draws.{Plan, planShape, Draw, IsDraw, Lists, rawLength, tripleLength}
 use Rattle.secrecy.specs.Seen.{allRows}
 use Rattle.runs.specs.Calls.{Among}
 use Rattle.secrecy.specs.Count.{forEach, listsOf, allLists, draws, AllDraws}
@@ -111,8 +112,8 @@ module _ (plan : Plan) where
   each-listed : (d : Draw) → IsDraw plan d → Among d (draws plan)
   unfolding draws withPoints withRaws
   each-listed d h =
-      among-each withPoints (listsOf 1 (p - 1) (plan .n)) (d .points) d
-      (lists-has 1 (p - 1) (plan .n) (d .points) (h .posts) (h .points))
+      among-each withPoints (listsOf 1 (p - 1) (checksLength (planShape plan))) (d .points) d
+      (lists-has 1 (p - 1) (checksLength (planShape plan)) (d .points) (h .posts) (h .points))
       (among-each (withRaws (d .points)) (allLists (rawLength plan)) (d .raws) d
       (rows-have (rawLength plan) (d .raws) (h .raws))
       (among-map (λ l. record { points = d .points; raws = d .raws; triples = l }) (allLists (tripleLength plan)) (d .triples)
@@ -121,9 +122,9 @@ module _ (plan : Plan) where
   listed-draw : (d : Draw) → Among d (draws plan) → IsDraw plan d
   unfolding draws withPoints withRaws
   listed-draw d m =
-      let (points, k, l) = each-among withPoints (listsOf 1 (p - 1) (plan .n)) d m in
+      let (points, k, l) = each-among withPoints (listsOf 1 (p - 1) (checksLength (planShape plan))) d m in
       let (e, raws, triples) = in-points points d l in
-      let (many, ranges) = lists-are 1 (p - 1) (plan .n) points k in
+      let (many, ranges) = lists-are 1 (p - 1) (checksLength (planShape plan)) points k in
       record {
         posts = ap length e ∙ many;
         points = subst (All (λ w. (1 ≤ w) × (w < p))) (sym e) ranges;
@@ -146,7 +147,7 @@ module _ (plan : Plan) where
   listed-once : Distinct (draws plan)
   unfolding draws withPoints withRaws
   listed-once =
-      each-distinct withPoints (listsOf 1 (p - 1) (plan .n)) (lists-distinct 1 (p - 1) (plan .n)) points-distinct
+      each-distinct withPoints (listsOf 1 (p - 1) (checksLength (planShape plan))) (lists-distinct 1 (p - 1) (checksLength (planShape plan))) points-distinct
       (λ a c d k l. sym (in-points a d k .0) ∙ in-points c d l .0)
 
 pub all-draws : AllDraws

@@ -7,6 +7,7 @@ use native.Mathlib.Omega.{arith}
 use lib.ListN.{length}
 use Rattle.field.specs.Modulus.{p}
 use Rattle.poly.proofs.Lists.{all-of}
+use Rattle.shape.specs.declared.Points.{Points}
 use Rattle.shape.specs.Bounds.{lastRow}
 use Rattle.shape.specs.Marks.{held as heldMark}
 use Rattle.shape.specs.Lengths.{rowLength}
@@ -60,7 +61,7 @@ module _ (plan : Plan) (group : List ℕ) (rows : ℕ → List ℕ) (cs : List S
           is-draw' = is';
           low = λ r raw. h .secrets r raw .0;
           low' = λ r raw. h .secrets r raw .1;
-          K = groupKernel (pointOf d) group;
+          K = groupKernel (plan .points) (pointOf plan d) group;
           Δ = Δ;
           link = link plan group u u' Δ d (h .sound) (h .group-few) (h .secrets) (s .is-draw);
         }
@@ -104,7 +105,7 @@ module _ (plan : Plan) (group : List ℕ) (rows : ℕ → List ℕ) (cs : List S
     new-same : (i : ℕ) → new d i ≡ new (moved plan group u u' Δ d) i
     unfolding new newPost
     new-same i =
-        ap (λ (f : ℕ → ℕ). record { session = created (plan .n) (plan .t) i (f i) .session; rows = rows i }) (sym (moved-points plan group u u' Δ d))
+        ap (λ (f : ℕ → Points). record { session = created (plan .n) (plan .t) i (plan .points) (f i) .session; rows = rows i }) (sym (moved-points plan group u u' Δ d))
 
     pair : Pair two beginning
     unfolding beginning new newPost

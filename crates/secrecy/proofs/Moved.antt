@@ -21,12 +21,12 @@ use Rattle.shape.specs.Bounds.{fewestPosts, mostPosts, rowCount}
 use Rattle.refusal.specs.Conditions.{postsTests}
 use Rattle.refusal.proofs.Laws.{all-fail, inside}
 use Rattle.parts.specs.Draw.{thirdDraw}
-use Rattle.runs.proofs.Start.{all-at}
+use Rattle.runs.proofs.Start.{point-in}
 use Rattle.runs.specs.Draws.{Plan, planShape, Sound, Draw, Lists, IsDraw, drawnLength, rawLength, tripleLength, pointOf, rawDraw, tripleDraw, drawA, drawB, drawAB}
 use Rattle.secrecy.specs.Steps.{Secrets}
 use Rattle.secrecy.specs.Claim.{Group}
 use Rattle.secrecy.proofs.Kernel.{kernel-constant}
-use Rattle.secrecy.proofs.Near.{Unseen, groupPosts, groupPoints, groupKernel, nonzero-nodes, kernel-unseen}
+use Rattle.secrecy.proofs.Near.{Unseen, groupPosts, groupPoints, groupKernel, nonzero-nodes, nonzero-points, kernel-unseen}
 use Rattle.secrecy.proofs.Shift.{shift, flat, flat-f, length-shift, elements-shift, shift-cons}
 use Rattle.secrecy.proofs.Link.{Gaps}
 use Rattle.secrecy.proofs.Triples.{nothing, shift-empty, cross, movedTriple, length-triple, elements-triple, triple-none, triple-first, triple-second, triple-rest, triple-a, triple-b}
@@ -91,7 +91,7 @@ module _ (many : ℕ → ℕ) (ls : List (List ℕ)) (h : Lists many ls) (r : �
 
 -- the kernel of the group, laid out as a draw is
 abbrev pub layout : Plan → List ℕ → Draw → ℕ → Element
-layout plan group d = flat (planShape plan) (groupKernel (pointOf d) group)
+layout plan group d = flat (planShape plan) (groupKernel (plan .points) (pointOf plan d) group)
 
 -- by how much the secret of row r differs
 abbrev pub secretGap : Secrets → Secrets → ℕ → Element
@@ -117,7 +117,7 @@ module _ (plan : Plan) (group : List ℕ) (u u' : Secrets) (Δ : ℕ → Gaps) (
         triples = each (λ r. movedTriple (drawnLength plan) (layout plan group d) (Δ r .factor-a) (Δ r .factor-b)) (d .triples);
       }
 
-  pub moved-points : pointOf moved ≡ pointOf d
+  pub moved-points : pointOf plan moved ≡ pointOf plan d
   unfolding moved pointOf
   moved-points = refl
 
@@ -151,23 +151,19 @@ module _ (plan : Plan) (group : List ℕ) (d : Draw) (sound : Sound plan) (few :
   few-posts : plan .n ≤ mostPosts
   few-posts = inside fewestPosts mostPosts (plan .n) (all-fail (postsTests (plan .n) (plan .t)) tt (sound .posts) .0) .1
 
-  point-in : (i : ℕ) → (1 ≤ i) × (i ≤ plan .n) → (1 ≤ pointOf d i) × (pointOf d i < p)
-  unfolding pointOf
-  point-in i h = all-at (λ w. (1 ≤ w) × (w < p)) (d .points) (is .points) (i - 1) (omega (arith, is .posts, h .0, h .1))
-
   -- one at the number, and nothing that the group sees
-  pub kernel-unit : groupKernel (pointOf d) group .f 0 ≡ 1ᴱ
+  pub kernel-unit : groupKernel (plan .points) (pointOf plan d) group .f 0 ≡ 1ᴱ
   kernel-unit =
-      kernel-constant (groupPosts (pointOf d) group) (groupPoints (pointOf d) group)
+      kernel-constant (groupPosts (plan .points) (pointOf plan d) group) (groupPoints (plan .points) (pointOf plan d) group)
       (nonzero-nodes (λ i. i) group (all-map (λ i h. (h .0, omega (arith, h .1, few-posts))) group (few .members)))
 
   pub layout-unit : layout plan group d 0 ≡ 1ᴱ
-  layout-unit = flat-f (planShape plan) (groupKernel (pointOf d) group) 0 (omega arith) ∙ kernel-unit
+  layout-unit = flat-f (planShape plan) (groupKernel (plan .points) (pointOf plan d) group) 0 (omega arith) ∙ kernel-unit
 
-  pub group-unseen : All (λ i. Unseen (planShape plan) i (element (pointOf d i)) (groupKernel (pointOf d) group)) group
+  pub group-unseen : All (λ i. Unseen (planShape plan) i (pointOf plan d i) (groupKernel (plan .points) (pointOf plan d) group)) group
   group-unseen =
-      kernel-unseen (pointOf d) group (planShape plan) (omega (arith, few .few)) (omega (arith, few .few))
-      (nonzero-nodes (pointOf d) group (all-map point-in group (few .members)))
+      kernel-unseen (plan .points) (pointOf plan d) group (planShape plan) refl (omega (arith, few .few))
+      (nonzero-points (plan .points) (pointOf plan d) group (all-map (λ i h. point-in plan d sound is i (h .0) (h .1)) group (few .members)))
 
 -- ---- a triple's three draws
 
@@ -200,7 +196,7 @@ module _ (plan : Plan) (group : List ℕ) (u u' : Secrets) (Δ : ℕ → Gaps) (
   moved-ab =
       ap (thirdDraw (drawnLength plan)) (moved-triple plan group u u' Δ d r)
       ∙ ap (λ (l : List ℕ). product m0 m1 ∷ l) (triple-rest (drawnLength plan) fl a b (tripleDraw d r) long)
-      ∙ shift-cons (planShape plan) (groupKernel (pointOf d) group) (productGap plan Δ d r) (product l0 l1)
+      ∙ shift-cons (planShape plan) (groupKernel (plan .points) (pointOf plan d) group) (productGap plan Δ d r) (product l0 l1)
       (product m0 m1) (drop (drawnLength plan + drawnLength plan) (tripleDraw d r)) (kernel-unit plan group d sound few is)
       (product-below m0 m1)
       (element-product m0 m1

@@ -1,12 +1,14 @@
 -- Two vectors that differ, as far as any post can see, by a multiple of the kernel: the same shared number in two runs. The
 -- calls keep them near; where the two numbers agree so do the rows of all posts, and in the group the rows always agree.
-use Prim.Native.Nat.{ℕ, suc, _+_, _-_, _≤_, _<_}
+use Prim.Native.Nat.{ℕ, zero, suc, _+_, _*_, _-_, _/_, _%_, _≤_, _<_}
 use mathlib.Core.Path.{_≡_, refl, sym, _∙_, ap, ap₂, fun-ext}
 use mathlib.Core.Logic.{_≢_}
 use mathlib.Core.List.{List, [], _∷_, _++_, map}
+use native.Mathlib.Nat.{zero-mul, suc-mul, mul-comm, mul-le-mul-right, mod-lt}
+use native.Mathlib.Decide.{decLe}
 use native.Mathlib.Omega.{arith}
 use lib.Dec.{lit<}
-use lib.ListN.{length, length-map}
+use lib.ListN.{length, length-map, length-append}
 use Rattle.field.specs.Modulus.{p}
 use Rattle.field.specs.Algebra.{CommutativeRing}
 use Rattle.field.specs.Element.{Element, element}
@@ -17,10 +19,13 @@ use Rattle.field.proofs.Elements.{𝓡, element-injective, element-zero}
 use Rattle.poly.specs.Counting.{All}
 use Rattle.poly.proofs.Lists.{all-zip}
 use Rattle.shape.specs.declared.Shape.{Shape}
-use Rattle.shape.specs.Lengths.{fLength, vLength, sumsAt}
+use Rattle.shape.specs.declared.Points.{Points}
+use Rattle.shape.specs.Lengths.{fLength, vLength, checksLength, sumsAt}
+use Rattle.shape.specs.Row.{pointAt}
 use Rattle.session.specs.Rows.{combined, plusSums}
-use Rattle.vectors.specs.Vector.{Vector, plusTimes, raised, number, numbers, checkOf, sumAt, rowOf}
-use Rattle.vectors.proofs.Linear.{valueAt-plusTimes, sumAt-plusTimes, row-plusTimes, number-plusTimes, row-raised}
+use Rattle.vectors.specs.Vector.{Vector, plusTimes, raised, number, firsts, numbers, valueAt, checkOf, sumAt, rowOf}
+use Rattle.vectors.proofs.Linear.{checkOf-plusTimes, sumAt-plusTimes, row-plusTimes, number-plusTimes, row-raised}
+use Rattle.vectors.proofs.Passing.{all-parts}
 use Rattle.secrecy.proofs.Kernel.{kernel, L-at, kernel-own, kernel-sums, kernel-checks}
 use Rattle.runs.proofs.Numbers.{less-number}
 open CommutativeRing 𝓡 using (add as _⊕_, mul as _⊗_, neg, zero as 0ᴱ, one as 1ᴱ, add-zero, add-neg)
@@ -56,13 +61,13 @@ mask-number a a' l l' e =
 -- ---- near
 
 -- posts with the check points pts, and the kernel K
-module _ (g : Shape) (pts : ℕ → ℕ) (K : Vector) where
+module _ (g : Shape) (pts : ℕ → Points) (K : Vector) where
   row : ℕ → Vector → List ℕ
-  row i S = rowOf g i (element (pts i)) S
+  row i S = rowOf g i (pts i) S
 
   abbrev pub Near : Vector → Vector → Type 0
   Near S S' =
-      (i : ℕ) → 1 ≤ i → i ≤ g .n → rowOf g i (element (pts i)) S' ≡ rowOf g i (element (pts i)) (plusTimes (gap S S') S K)
+      (i : ℕ) → 1 ≤ i → i ≤ g .n → rowOf g i (pts i) S' ≡ rowOf g i (pts i) (plusTimes (gap S S') S K)
 
   -- a vector that is the same in both runs
   pub near-self : (S : Vector) → Near S S
@@ -73,8 +78,8 @@ module _ (g : Shape) (pts : ℕ → ℕ) (K : Vector) where
       → Near (plusTimes (element s) S Z) (plusTimes (element s) S' Z')
   unfolding row Same
   near-plusTimes s S S' Z Z' h h' i lo hi =
-      row-plusTimes g i s (element (pts i)) S' Z' ∙ ap₂ (combined s) (h i lo hi) (h' i lo hi)
-      ∙ sym (row-plusTimes g i s (element (pts i)) (plusTimes (gap S S') S K) (plusTimes (gap Z Z') Z K))
+      row-plusTimes g i s (pts i) S' Z' ∙ ap₂ (combined s) (h i lo hi) (h' i lo hi)
+      ∙ sym (row-plusTimes g i s (pts i) (plusTimes (gap S S') S K) (plusTimes (gap Z Z') Z K))
       ∙ ap (row i)
       (λ t. record {
         c = mix (S .c) (Z .c) (K .c) t;
@@ -100,8 +105,8 @@ module _ (g : Shape) (pts : ℕ → ℕ) (K : Vector) where
   pub near-raised : (c : ℕ) (S S' : Vector) → Near S S' → Near (raised (element c) S) (raised (element c) S')
   unfolding row Same
   near-raised c S S' h i lo hi =
-      row-raised g i c (element (pts i)) S' ∙ ap (plusSums (sumsAt g) c) (h i lo hi)
-      ∙ sym (row-raised g i c (element (pts i)) (plusTimes (gap S S') S K))
+      row-raised g i c (pts i) S' ∙ ap (plusSums (sumsAt g) c) (h i lo hi)
+      ∙ sym (row-raised g i c (pts i) (plusTimes (gap S S') S K))
       ∙ ap (row i) (λ t. record { c = mix t; f = λ m. S .f m ⊕ gaps t ⊗ K .f m; v = λ j m. S .v j m ⊕ gaps t ⊗ K .v j m })
     where
       whole : Element
@@ -118,7 +123,7 @@ module _ (g : Shape) (pts : ℕ → ℕ) (K : Vector) where
 
   -- with one number, every post has one row
   pub near-same : (S S' : Vector) → Near S S' → number S ≡ number S' → (i : ℕ) → 1 ≤ i → i ≤ g .n
-      → rowOf g i (element (pts i)) S ≡ rowOf g i (element (pts i)) S'
+      → rowOf g i (pts i) S ≡ rowOf g i (pts i) S'
   unfolding row
   near-same S S' h e i lo hi =
       sym
@@ -127,28 +132,33 @@ module _ (g : Shape) (pts : ℕ → ℕ) (K : Vector) where
 
 -- ---- the group
 
--- Nothing of K is in the row of post i, whose check point is w.
-pub record Unseen (g : Shape) (i : ℕ) (w : Element) (K : Vector) : Type 0 where
+-- Nothing of K is in the row of post i, whose check points are w.
+pub record Unseen (g : Shape) (i : ℕ) (w : Points) (K : Vector) : Type 0 where
   pub own : (m : ℕ) → K .v i m ≡ 0ᴱ
-  pub checks : (j : ℕ) → checkOf g w K j ≡ 0ᴱ
+  pub checks : (m : ℕ) → m < checksLength g → checkOf g w K m ≡ 0ᴱ
   pub sums : (j : ℕ) → sumAt g K j ≡ 0ᴱ
 
+numbers-agree : (k : ℕ) (a b : ℕ → Element) → ((m : ℕ) → m < k → a m ≡ b m) → numbers k a ≡ numbers k b
+unfolding numbers
+numbers-agree zero a b h = refl
+numbers-agree (suc k) a b h = ap₂ (λ (x : Element) (l : List ℕ). x .0 ∷ l) (h 0 (omega arith)) (numbers-agree k (λ i. a (suc i)) (λ i. b (suc i)) (λ m low. h (suc m) (omega arith)))
+
 -- What is not in a row cannot change it.
-pub blind : (g : Shape) (i : ℕ) (w δ : Element) (S K : Vector) → Unseen g i w K → rowOf g i w (plusTimes δ S K) ≡ rowOf g i w S
+pub blind : (g : Shape) (i : ℕ) (w : Points) (δ : Element) (S K : Vector) → Unseen g i w K → rowOf g i w (plusTimes δ S K) ≡ rowOf g i w S
 unfolding rowOf
 blind g i w δ S K u =
     ap₂ _++_ (ap (numbers (vLength g)) (fun-ext (λ m. gone (S .v i m) (K .v i m) (u .own m))))
     (ap₂ _++_
-    (ap (numbers (g .n)) (fun-ext (λ j. valueAt-plusTimes (vLength g) (S .v (suc j)) (K .v (suc j)) δ w ∙ gone _ _ (u .checks j))))
+    (numbers-agree (checksLength g) _ _ (λ m low. checkOf-plusTimes g δ w S K m ∙ gone _ _ (u .checks m low)))
     (ap (numbers (g .n)) (fun-ext (λ j. sumAt-plusTimes g δ S K j ∙ gone _ _ (u .sums j)))))
   where
     gone : (a e : Element) → e ≡ 0ᴱ → a ⊕ δ ⊗ e ≡ a
     gone a e z = ap (λ (x : Element). a ⊕ δ ⊗ x) z ∙ ap (λ (x : Element). a ⊕ x) (mul-zero 𝓡 δ) ∙ add-zero a
 
 -- near vectors have one row at a post that sees nothing of the kernel
-pub near-blind : (g : Shape) (pts : ℕ → ℕ) (K S S' : Vector) → Near g pts K S S' → (i : ℕ) → 1 ≤ i → i ≤ g .n
-    → Unseen g i (element (pts i)) K → rowOf g i (element (pts i)) S ≡ rowOf g i (element (pts i)) S'
-near-blind g pts K S S' h i lo hi u = sym (h i lo hi ∙ blind g i (element (pts i)) (gap S S') S K u)
+pub near-blind : (g : Shape) (pts : ℕ → Points) (K S S' : Vector) → Near g pts K S S' → (i : ℕ) → 1 ≤ i → i ≤ g .n
+    → Unseen g i (pts i) K → rowOf g i (pts i) S ≡ rowOf g i (pts i) S'
+near-blind g pts K S S' h i lo hi u = sym (h i lo hi ∙ blind g i (pts i) (gap S S') S K u)
 
 all-mapped : (P : Element → Type 0) (e : ℕ → Element) (l : List ℕ) → All P (map e l) → All (λ i. P (e i)) l
 all-mapped P e [] a = tt
@@ -162,23 +172,97 @@ nonzero-nodes e (i ∷ l) a = (
   nonzero-nodes e l (a .1),
 )
 
+none : (k : ℕ) → (1 ≤ k → ⊥) → k ≡ 0
+none k n = omega arith
+
+-- ---- the points of a group: k of each post, one post after the other
+
+module _ (k : ℕ) (pts : ℕ → Points) where
+  -- a post's h-th point
+  abbrev pub at : ℕ → ℕ → Element
+  at i h = element (pointAt (pts i) h)
+
+  unfoldable pub pointsOfAll : List ℕ → List Element
+  pointsOfAll [] = []
+  pointsOfAll (i ∷ l) = firsts k (at i) ++ pointsOfAll l
+
+  length-firsts : (m : ℕ) (a : ℕ → Element) → length (firsts m a) ≡ m
+  unfolding firsts
+  length-firsts zero a = refl
+  length-firsts (suc m) a = ap suc (length-firsts m (λ i. a (suc i)))
+
+  pub length-points : (l : List ℕ) → length (pointsOfAll l) ≡ length l * k
+  unfolding pointsOfAll
+  length-points [] = sym (zero-mul k)
+  length-points (i ∷ l) =
+      length-append (firsts k (at i)) (pointsOfAll l) ∙ ap₂ _+_ (length-firsts k (at i)) (length-points l) ∙ omega (arith, suc-mul (length l) k)
+
+  firsts-at : (P : Element → Type 0) (m : ℕ) (a : ℕ → Element) → All P (firsts m a) → (h : ℕ) → h < m → P (a h)
+  unfolding firsts
+  firsts-at P zero a al h low = absurd (omega arith)
+  firsts-at P (suc m) a al zero low = al .0
+  firsts-at P (suc m) a al (suc h) low = firsts-at P m (λ i. a (suc i)) (al .1) h (omega arith)
+
+  firsts-all : (P : Element → Type 0) (m : ℕ) (a : ℕ → Element) → ((h : ℕ) → h < m → P (a h)) → All P (firsts m a)
+  unfolding firsts
+  firsts-all P zero a f = tt
+  firsts-all P (suc m) a f = (f 0 (omega arith), firsts-all P m (λ i. a (suc i)) (λ h low. f (suc h) (omega arith)))
+
+  -- what holds at all of them holds at each point of each post
+  pub points-each : (P : Element → Type 0) (l : List ℕ) → All P (pointsOfAll l) → All (λ i. (h : ℕ) → h < k → P (at i h)) l
+  unfolding pointsOfAll
+  points-each P [] a = tt
+  points-each P (i ∷ l) a = let (here, rest) = all-parts P (firsts k (at i)) (pointsOfAll l) a in (firsts-at P k (at i) here, points-each P l rest)
+
+  all-join : (P : Element → Type 0) (xs ys : List Element) → All P xs → All P ys → All P (xs ++ ys)
+  all-join P [] ys a b = b
+  all-join P (x ∷ xs) ys a b = (a .0, all-join P xs ys (a .1) b)
+
+  -- points from 1 to p - 1 are nodes that are not zero
+  pub nonzero-points : (l : List ℕ) → All (λ i. (h : ℕ) → h < k → (1 ≤ pointAt (pts i) h) × (pointAt (pts i) h < p)) l
+      → All (λ r. r ≢ 0ᴱ) (pointsOfAll l)
+  unfolding pointsOfAll
+  nonzero-points [] a = tt
+  nonzero-points (i ∷ l) a =
+      all-join _ (firsts k (at i)) (pointsOfAll l)
+      (firsts-all _ k (at i)
+      (λ h low z. let w = a .0 h low in omega (arith, w .0, element-injective (pointAt (pts i) h) 0 (w .1) (lit< tt) (z ∙ sym element-zero))))
+      (nonzero-points l (a .1))
+
 -- The kernel of a group of posts with the check points pts, and that each of them sees nothing of it.
-module _ (pts : ℕ → ℕ) (group : List ℕ) where
+module _ (k : ℕ) (pts : ℕ → Points) (group : List ℕ) where
   abbrev pub groupPosts : List Element
   groupPosts = map element group
 
   abbrev pub groupPoints : List Element
-  groupPoints = map (λ i. element (pts i)) group
+  groupPoints = pointsOfAll k pts group
 
   abbrev pub groupKernel : Vector
   groupKernel = kernel groupPosts groupPoints
 
-  pub kernel-unseen : (g : Shape) → length group < fLength g → length group < vLength g → All (λ w. w ≢ 0ᴱ) groupPoints
-      → All (λ i. Unseen g i (element (pts i)) groupKernel) group
-  kernel-unseen g few few' nonzero =
-      all-zip (λ i e c. record { own = kernel-own groupPosts groupPoints i e; checks = c; sums = sums }) group
+  pub kernel-unseen : (g : Shape) → g .points ≡ k → length group < fLength g → All (λ w. w ≢ 0ᴱ) groupPoints
+      → All (λ i. Unseen g i (pts i) groupKernel) group
+  kernel-unseen g ek few nonzero =
+      all-zip (λ i e c. record { own = kernel-own groupPosts groupPoints i e; checks = checks i c; sums = sums }) group
       (all-mapped _ element group (L-at groupPosts groupPoints))
-      (all-mapped _ (λ i. element (pts i)) group (kernel-checks groupPosts groupPoints g (omega (arith, length-map group (λ i. element (pts i))))))
+      (points-each k pts _ group (kernel-checks groupPosts groupPoints g long))
     where
+      -- k points of each of at most t posts
+      long : length groupPoints < vLength g
+      long =
+          omega
+          (arith, length-points k pts group, mul-le-mul-right {m = length group} {n = g .t} k (omega arith), mul-comm k (g .t), ap (λ (i : ℕ). i * g .t) ek)
+
+      checks : (i : ℕ) → ((h : ℕ) → h < k → (j : ℕ) → valueAt (vLength g) (groupKernel .v j) (at k pts i h) ≡ 0ᴱ) → (m : ℕ) → m < checksLength g
+          → checkOf g (pts i) groupKernel m ≡ 0ᴱ
+      checks i c m low = c (m % g .points) (rw ek (mod-lt m {m = k} some)) (suc (m / g .points))
+        where
+          some : 0 < k
+          some = go (decLe 1 k)
+            where
+              go : Dec (1 ≤ k) → 0 < k
+              go (yes y) = y
+              go (no n) = absurd (omega (arith, low, ap (λ (z : ℕ). z * g .n) (ek ∙ none k n) ∙ zero-mul (g .n)))
+
       sums : (j : ℕ) → sumAt g groupKernel j ≡ 0ᴱ
       sums = kernel-sums groupPosts groupPoints g (omega (arith, length-map group element)) nonzero

@@ -6,6 +6,7 @@ use mathlib.Core.Logic.{_≢_, _⊎_, inl, inr}
 use mathlib.Core.List.{List, [], _∷_}
 use native.Mathlib.Decide.{ℕ-discrete}
 use native.Mathlib.Omega.{arith}
+use Rattle.shape.specs.declared.Points.{Points}
 use Rattle.field.specs.Modulus.{p}
 use Rattle.field.specs.Algebra.{CommutativeRing}
 use Rattle.field.specs.Element.{Element, element}
@@ -89,7 +90,7 @@ module _ (T : Two) where
     pub one : State (runOne T) (momentOne m)
     pub two : State (runTwo T) (momentTwo m)
     pub near : (r : ℕ) → r < rowCount → markOf (m .marks) r ≢ empty
-        → Near (planShape (T .plan)) (pointOf (T .d)) (T .K) (m .vec r) (m .vec' r)
+        → Near (planShape (T .plan)) (pointOf (T .plan) (T .d)) (T .K) (m .vec r) (m .vec' r)
     pub sessions : (i : ℕ) → 1 ≤ i → i ≤ T .plan .n → m .posts i .session ≡ m .posts' i .session
     pub group-same : All (λ i. m .posts i ≡ m .posts' i) (T .group)
     pub agreed : (r j : ℕ) (xs : List ℕ) → AnOpening (runOne T) r j xs → Among (openingLine r j xs) (m .lines)
@@ -103,7 +104,7 @@ module _ (T : Two) where
     pub sized : Sized M
     pub one : Facts (T .plan) (T .d) (Held b) (Waits b) M vec
     pub two : Facts (T .plan) (T .d') (Held b') (Waits b') M vec'
-    pub near : (r : ℕ) → r < rowCount → markOf M r ≢ empty → Near (planShape (T .plan)) (pointOf (T .d)) (T .K) (vec r) (vec' r)
+    pub near : (r : ℕ) → r < rowCount → markOf M r ≢ empty → Near (planShape (T .plan)) (pointOf (T .plan) (T .d)) (T .K) (vec r) (vec' r)
     pub waiting : (r : ℕ) → r < rowCount → Masked (markOf M r)
         → (apart (b .factorA r) (b' .factorA r) ≡ T .Δ r .factor-a) × (apart (b .factorB r) (b' .factorB r) ≡ T .Δ r .factor-b)
 
@@ -202,7 +203,7 @@ module _ (T : Two) where
           let g = R .two .posts i lo hi .holds in
           record {
             long = g .long;
-            rows = λ r lr ne. g .rows r lr ne ∙ ap (λ (f : ℕ → ℕ). rowOf (planShape (T .plan)) i (element (f i)) (vec' r)) (T .link .points);
+            rows = λ r lr ne. g .rows r lr ne ∙ ap (λ (f : ℕ → Points). rowOf (planShape (T .plan)) i (f i) (vec' r)) (T .link .points);
           }
 
       -- an opening that comes to the walk finds one number in both runs, or nobody's polynomial but the own

@@ -2,6 +2,7 @@
 use Prim.Native.Nat.{ℕ, suc, _≤_}
 use mathlib.Core.Path.{_≡_, sym, _∙_, ap, ap₂}
 use mathlib.Core.List.{List}
+use Rattle.shape.specs.declared.Points.{Points}
 use Rattle.session.specs.declared.Session.{Session}
 use Rattle.runs.specs.Outline.{Act, acts, sends}
 use Rattle.runs.specs.Calls.{Call, perform, after}
@@ -50,19 +51,21 @@ module _ (T : Two) (m : Moments) (R : Pair T m) (c : Step) (i : ℕ) (lo : 1 ≤
       (acts-at (T .plan) (T .d) (T .u) lines i c)
       (opened-at (T .plan) (T .d) (T .u) lines i c M vec Y ∙ opened-after T m R c al rule fit Y ∙ ap (openedThen (T .plan) (T .d') (T .u') c M vec') opened-same
       ∙ sym (opened-at (T .plan) (T .d') (T .u') lines i c M vec' Y'))
-      ∙ ap (λ (f : ℕ → ℕ). with-point (f i)) (sym (T .link .points))
+      ∙ ap (λ (f : ℕ → Points). with-points (f i)) (sym (T .link .points))
       ∙ ap (λ (todo : List Act). sessionAt (T .plan) (T .d') i (marksAll todo M) O') (sym (acts-at (T .plan) (T .d') (T .u') lines i c))
       ∙ sym (session-after (standAt (runTwo T) (momentTwo m) (R .two) i lo hi) c2 z' (fits (runTwo T) (momentTwo m) (R .two) i lo hi c al rule))
     where
       O' : Opened
       O' = openedAfter (T .plan) (T .d') c2 M vec' Y'
 
-      with-point : ℕ → Session
-      with-point w = record {
+      with-points : Points → Session
+      with-points w = record {
         n = T .plan .n;
         t = T .plan .t;
         post = i;
-        point = w;
+        points = T .plan .points;
+        first = w .first;
+        second = w .second;
         marks = marksAll (acts c) M .marks;
         «factor_a» = marksAll (acts c) M .factor-a;
         «factor_b» = marksAll (acts c) M .factor-b;

@@ -4,11 +4,14 @@ use Prim.Native.Nat.{ℕ, zero, suc, _+_, _*_, _/_, _%_, _-_, _≤_, _<_}
 use mathlib.Core.Path.{_≡_, refl, sym, _∙_, ap, ap₂}
 use mathlib.Core.Bool.{Bool, cond}
 use mathlib.Core.List.{List, [], _∷_, _++_}
-use native.Mathlib.Nat.{add-zero, mod-eq-of-lt, div-eq-of-lt, mul-add-mod-self-right, mul-add-div-right}
+use native.Mathlib.Nat.{mul-comm, zero-mul, div-lt-iff-lt-mul, add-zero, mod-eq-of-lt, div-eq-of-lt, mul-add-mod-self-right, mul-add-div-right}
+use native.Mathlib.Decide.{decLe}
 use native.Mathlib.Omega.{arith}
 use borrow.Author.Tests.{lt-ltb, le-ltb}
 use lib.Dec.{ltb}
 use lib.ListN.{length, getD}
+use Rattle.shape.specs.Row.{pointAt}
+use Rattle.shape.specs.declared.Points.{Points}
 use Rattle.field.specs.Modulus.{p}
 use Rattle.field.specs.Algebra.{CommutativeRing}
 use Rattle.field.specs.Element.{Element, element}
@@ -18,7 +21,7 @@ use Rattle.field.proofs.Elements.{𝓡, element-of-number, number-below}
 use Rattle.poly.specs.Counting.{Elements}
 use Rattle.poly.proofs.Coefficients.{ev}
 use Rattle.shape.specs.declared.Shape.{Shape}
-use Rattle.shape.specs.Lengths.{fLength, vLength, drawLength}
+use Rattle.shape.specs.Lengths.{checksLength, fLength, vLength, drawLength}
 use Rattle.parts.proofs.Laws.{drawn-room}
 use Rattle.vectors.specs.Vector.{Vector, plusTimes, number, firsts, numbers, valueAt, rowOf, vectorOf}
 use Rattle.secrecy.proofs.Near.{gap, Near}
@@ -87,15 +90,26 @@ value-agree zero a b x h = refl
 value-agree (suc k) a b x h =
     ap₂ (λ (c y : Element). c ⊕ x ⊗ y) (h 0 (omega arith)) (value-agree k _ _ x (λ i l. h (suc i) (omega arith)))
 
+-- the sender of the x-th check value is a post
+post : (s : Shape) (x : ℕ) → x < checksLength s → x / s .points < s .n
+post s x l = go (decLe 1 (s .points))
+  where
+    none : (1 ≤ s .points → ⊥) → s .points ≡ 0
+    none n = omega arith
+
+    go : Dec (1 ≤ s .points) → x / s .points < s .n
+    go (yes y) = div-lt-iff-lt-mul y .1 (rw (mul-comm (s .points) (s .n)) at l)
+    go (no n) = absurd (omega (arith, l, ap (λ (k : ℕ). k * s .n) (none n) ∙ zero-mul (s .n)))
+
 -- A row looks at so many coefficients and at n posts only.
-pub row-agree : (s : Shape) (i : ℕ) (w : Element) (S Z : Vector) → 1 ≤ i → i ≤ s .n → S .c ≡ Z .c
+pub row-agree : (s : Shape) (i : ℕ) (w : Points) (S Z : Vector) → 1 ≤ i → i ≤ s .n → S .c ≡ Z .c
     → ((m : ℕ) → m < fLength s → S .f m ≡ Z .f m) → ((j m : ℕ) → j < s .n → m < vLength s → S .v (suc j) m ≡ Z .v (suc j) m)
     → rowOf s i w S ≡ rowOf s i w Z
 unfolding rowOf
 row-agree s zero w S Z lo hi c f v = absurd (omega arith)
 row-agree s (suc i) w S Z lo hi c f v =
     ap₂ _++_ (numbers-agree (vLength s) _ _ (λ m h. v i m (omega arith) h))
-    (ap₂ _++_ (numbers-agree (s .n) _ _ (λ j h. value-agree (vLength s) _ _ w (λ m g. v j m h g)))
+    (ap₂ _++_ (numbers-agree (checksLength s) _ _ (λ x h. value-agree (vLength s) _ _ (element (pointAt w (x % s .points))) (λ m g. v (x / s .points) m (post s x h) g)))
     (numbers-agree (s .n) _ _ (λ j h. ap₂ _⊕_ (ap₂ _⊕_ (v j 0 h (omega arith)) (value-agree (fLength s) _ _ (element (suc j)) f)) c)))
 
 -- ---- draws
@@ -132,7 +146,7 @@ module _ (s : Shape) (K : Vector) where
 
   module _ (δ : Element) where
     -- The vector of a draw moved is the draw's vector plus δ K: every post's row ..
-    pub shift-row : (i : ℕ) (w : Element) (d : List ℕ) → K .c ≡ 0ᴱ → length d ≡ drawLength s → 1 ≤ i → i ≤ s .n
+    pub shift-row : (i : ℕ) (w : Points) (d : List ℕ) → K .c ≡ 0ᴱ → length d ≡ drawLength s → 1 ≤ i → i ≤ s .n
         → rowOf s i w (vectorOf s (shift flat δ d)) ≡ rowOf s i w (plusTimes δ (vectorOf s d) K)
     unfolding vectorOf Same
     shift-row i w d kc size lo hi =
@@ -161,11 +175,11 @@ module _ (s : Shape) (K : Vector) where
         ap (λ (z : Element). z ⊕ neg (number (vectorOf s d))) (shift-number d one some)
         ∙ solve 𝓡 (number (vectorOf s d) ∷ δ ∷ []) (A :+ B :- A) B refl
 
-    pub near-shift : (pts : ℕ → ℕ) (d : List ℕ) → K .c ≡ 0ᴱ → K .f 0 ≡ 1ᴱ → length d ≡ drawLength s
+    pub near-shift : (pts : ℕ → Points) (d : List ℕ) → K .c ≡ 0ᴱ → K .f 0 ≡ 1ᴱ → length d ≡ drawLength s
         → Near s pts K (vectorOf s d) (vectorOf s (shift flat δ d))
     near-shift pts d kc one size i lo hi =
-        shift-row i (element (pts i)) d kc size lo hi
-        ∙ ap (λ (z : Element). rowOf s i (element (pts i)) (plusTimes z (vectorOf s d) K)) (sym (gap-shift d one some))
+        shift-row i (pts i) d kc size lo hi
+        ∙ ap (λ (z : Element). rowOf s i (pts i) (plusTimes z (vectorOf s d) K)) (sym (gap-shift d one some))
       where
         some : 1 ≤ length d
         some = omega (arith, size)

@@ -79,7 +79,7 @@ entries-right = list-right sameEntry (record { equal = entry-equal; self = entry
 seen-equal : (x y : Seen) → sameSeen x y ≡ true → x ≡ y
 unfolding sameSeen
 seen-equal x y e =
-    let (points, e₁) = split numbers-lists-right (x .points) (y .points) _ (simp and-assoc at e) in
+    let (points, e₁) = split lines-right (x .points) (y .points) _ (simp and-assoc at e) in
     let (raws, e₂) = split lines-lists-right (x .raws) (y .raws) _ e₁ in
     let (triples, e₃) = split lines-lists-right (x .triples) (y .triples) _ e₂ in
     let (polynomials, e₄) = split lines-right (x .polynomials) (y .polynomials) _ e₃ in
@@ -98,7 +98,7 @@ seen-self : (x : Seen) → sameSeen x x ≡ true
 unfolding sameSeen
 seen-self x =
     simp and-assoc
-    (both-true (numbers-lists-right .self (x .points))
+    (both-true (lines-right .self (x .points))
     (both-true (lines-lists-right .self (x .raws))
     (both-true (lines-lists-right .self (x .triples))
     (both-true (lines-right .self (x .polynomials))

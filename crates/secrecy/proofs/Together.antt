@@ -33,11 +33,11 @@ use Rattle.secrecy.proofs.Answers.{number-same}
 
 module _ (T : Two) (lines : List (List ℕ)) (ds : Dealt (runOne T) lines) (ds' : Dealt (runTwo T) lines) where
   abbrev Nearly : Vector → Vector → Type 0
-  Nearly = Near (planShape (T .plan)) (pointOf (T .d)) (T .K)
+  Nearly = Near (planShape (T .plan)) (pointOf (T .plan) (T .d)) (T .K)
 
   -- every row with a mark
   abbrev AllNear : Marks → (ℕ → Vector) → (ℕ → Vector) → Type 0
-  AllNear N v v' = (r : ℕ) → r < rowCount → markOf N r ≢ empty → Near (planShape (T .plan)) (pointOf (T .d)) (T .K) (v r) (v' r)
+  AllNear N v v' = (r : ℕ) → r < rowCount → markOf N r ≢ empty → Near (planShape (T .plan)) (pointOf (T .plan) (T .d)) (T .K) (v r) (v' r)
 
   -- one row written
   near-put : (N : Marks) (v v' : ℕ → Vector) → AllNear N v v' → (x m : ℕ) (X X' : Vector) → Nearly X X' → AllNear (remarked N x m) (at v x X) (at v' x X')
@@ -45,12 +45,12 @@ module _ (T : Two) (lines : List (List ℕ)) (ds : Dealt (runOne T) lines) (ds' 
     where
       go : Dec (r ≡ x) → Nearly (at v x X r) (at v' x X' r)
       go (yes e) =
-          subst (λ (y : ℕ). Near (planShape (T .plan)) (pointOf (T .d)) (T .K) (at v x X y) (at v' x X' y)) (sym e)
-          (subst (λ (Y : Vector). Near (planShape (T .plan)) (pointOf (T .d)) (T .K) Y (at v' x X' x)) (sym (at-same v x X))
-          (subst (λ (Y : Vector). Near (planShape (T .plan)) (pointOf (T .d)) (T .K) X Y) (sym (at-same v' x X')) new))
+          subst (λ (y : ℕ). Near (planShape (T .plan)) (pointOf (T .plan) (T .d)) (T .K) (at v x X y) (at v' x X' y)) (sym e)
+          (subst (λ (Y : Vector). Near (planShape (T .plan)) (pointOf (T .plan) (T .d)) (T .K) Y (at v' x X' x)) (sym (at-same v x X))
+          (subst (λ (Y : Vector). Near (planShape (T .plan)) (pointOf (T .plan) (T .d)) (T .K) X Y) (sym (at-same v' x X')) new))
       go (no e) =
-          subst (λ (Y : Vector). Near (planShape (T .plan)) (pointOf (T .d)) (T .K) Y (at v' x X' r)) (sym (at-other v x X r e))
-          (subst (λ (Y : Vector). Near (planShape (T .plan)) (pointOf (T .d)) (T .K) (v r) Y) (sym (at-other v' x X' r e))
+          subst (λ (Y : Vector). Near (planShape (T .plan)) (pointOf (T .plan) (T .d)) (T .K) Y (at v' x X' r)) (sym (at-other v x X r e))
+          (subst (λ (Y : Vector). Near (planShape (T .plan)) (pointOf (T .plan) (T .d)) (T .K) (v r) Y) (sym (at-other v' x X' r e))
           (h r lr (subst (λ (y : ℕ). y ≢ 0) (getD-set-other (N .marks) x r m 0 e) ne)))
 
   -- a mark changed that was not 0
@@ -64,21 +64,21 @@ module _ (T : Two) (lines : List (List ℕ)) (ds : Dealt (runOne T) lines) (ds' 
   -- a sum of rows that are near
   module _ (vec vec' : ℕ → Vector) where
     abbrev NearIn : Summand → Type 0
-    NearIn (once a) = Near (planShape (T .plan)) (pointOf (T .d)) (T .K) (vec a) (vec' a)
-    NearIn (times s b) = Near (planShape (T .plan)) (pointOf (T .d)) (T .K) (vec b) (vec' b)
+    NearIn (once a) = Near (planShape (T .plan)) (pointOf (T .plan) (T .d)) (T .K) (vec a) (vec' a)
+    NearIn (times s b) = Near (planShape (T .plan)) (pointOf (T .plan) (T .d)) (T .K) (vec b) (vec' b)
     NearIn (fee k) = Unit {0}
 
     near-worth : (t : Summand) → NearIn t → Nearly (worthVector vec t) (worthVector vec' t)
     near-worth (once a) h = h
     near-worth (times s b) h =
-        near-plusTimes (planShape (T .plan)) (pointOf (T .d)) (T .K) s zeroVector zeroVector (vec b) (vec' b)
-        (near-self (planShape (T .plan)) (pointOf (T .d)) (T .K) zeroVector) h
-    near-worth (fee k) h = near-self (planShape (T .plan)) (pointOf (T .d)) (T .K) (raised (element k) zeroVector)
+        near-plusTimes (planShape (T .plan)) (pointOf (T .plan) (T .d)) (T .K) s zeroVector zeroVector (vec b) (vec' b)
+        (near-self (planShape (T .plan)) (pointOf (T .plan) (T .d)) (T .K) zeroVector) h
+    near-worth (fee k) h = near-self (planShape (T .plan)) (pointOf (T .plan) (T .d)) (T .K) (raised (element k) zeroVector)
 
     near-total : (t : Summand) (ts : List Summand) → NearIn t → All NearIn ts → Nearly (totalVector vec t ts) (totalVector vec' t ts)
     near-total t [] h hs = near-worth t h
     near-total t (t' ∷ ts) h hs =
-        near-plusTimes (planShape (T .plan)) (pointOf (T .d)) (T .K) 1 (worthVector vec t) (worthVector vec' t)
+        near-plusTimes (planShape (T .plan)) (pointOf (T .plan) (T .d)) (T .K) 1 (worthVector vec t) (worthVector vec' t)
         (totalVector vec t' ts) (totalVector vec' t' ts) (near-worth t h) (near-total t' ts (hs .0) (hs .1))
 
   module _ (M : Marks) (vec vec' : ℕ → Vector) (b b' : Book) (K : Core T M vec vec' b b') where
@@ -120,7 +120,7 @@ module _ (T : Two) (lines : List (List ℕ)) (ds : Dealt (runOne T) lines) (ds' 
 
         new : Nearly (written M vec x) (written M vec' x)
         new =
-            subst (Near (planShape (T .plan)) (pointOf (T .d)) (T .K) (written M vec x))
+            subst (Near (planShape (T .plan)) (pointOf (T .plan) (T .d)) (T .K) (written M vec x))
             (ap₂ (λ (a c : Element). productSum vec' x (a .0) (c .0)) (w .0) (w .1))
             (near-total vec vec' (once (x + 2)) (times y (x + 1) ∷ times y' x ∷ fee (product y y') ∷ []) n2 (n1, (n0, (tt, tt))))
 
@@ -140,8 +140,8 @@ module _ (T : Two) (lines : List (List ℕ)) (ds : Dealt (runOne T) lines) (ds' 
         (r + 2) further _ _ (T .link .near-ab r lr t)
     near-by (deals r) c al rule =
         near-put M vec vec' (K .near) r held _ _
-        (subst (λ (x : ℕ). Near (planShape (T .plan)) (pointOf (T .d)) (T .K) (raised (element (dealtWith c (dealtNumber (T .plan) (T .d) (T .u)))) (vec r)) (raised (element x) (vec' r))) (number-same T c)
-        (near-raised (planShape (T .plan)) (pointOf (T .d)) (T .K) (dealtWith c (dealtNumber (T .plan) (T .d) (T .u))) (vec r) (vec' r) (K .near r (al .0 .0) (nonzero M r (al .0 .1)))))
+        (subst (λ (x : ℕ). Near (planShape (T .plan)) (pointOf (T .plan) (T .d)) (T .K) (raised (element (dealtWith c (dealtNumber (T .plan) (T .d) (T .u)))) (vec r)) (raised (element x) (vec' r))) (number-same T c)
+        (near-raised (planShape (T .plan)) (pointOf (T .plan) (T .d)) (T .K) (dealtWith c (dealtNumber (T .plan) (T .d) (T .u))) (vec r) (vec' r) (K .near r (al .0 .0) (nonzero M r (al .0 .1)))))
     near-by (opens r) blocks al rule = K .near
     near-by (sums r t ts) x al rule =
         near-put M vec vec' (K .near) r held _ _ (near-total vec vec' t ts (near-of t (al .0 .held .0)) (all-map near-of ts (al .0 .held .1)))

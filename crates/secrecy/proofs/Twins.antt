@@ -57,7 +57,7 @@ pub record Twin : Type 0 where
   pub marks : Marks
   pub vec : ℕ → Vector
   pub vec' : ℕ → Vector
-  pub near : (r : ℕ) → r < rowCount → markOf marks r ≢ empty → Near (planShape plan) (pointOf draw) K (vec r) (vec' r)
+  pub near : (r : ℕ) → r < rowCount → markOf marks r ≢ empty → Near (planShape plan) (pointOf plan draw) K (vec r) (vec' r)
   pub post : ℕ
   pub low : 1 ≤ post
   pub high : post ≤ plan .n
@@ -91,20 +91,20 @@ module _ (T : Twin) where
   two = record { plan = plan; draw = d; len = len; post = i; marks = M; opened = Y; vec = vec'; rows = l'; holds = h' }
 
   frame-same : frameTests s l ≡ frameTests s l'
-  frame-same = ap (λ (m : ℕ). sessionTests (plan .n) (plan .t) i (pointOf d i) ++ (5 when not (eqb m (rowCount * W)) ∷ [])) (h .long ∙ sym (h' .long))
+  frame-same = ap (λ (m : ℕ). sessionTests (plan .n) (plan .t) i (plan .points) (pointOf plan d i) ++ (5 when not (eqb m (rowCount * W)) ∷ [])) (h .long ∙ sym (h' .long))
 
   -- a row with the mark that is needed: elements in both runs
   pub elements-same : (x : ℕ) {m : ℕ} → x ≤ lastRow → markOf M x ≡ suc m → anyBeyond (rowAt W l x) ≡ anyBeyond (rowAt W l' x)
   elements-same x r is =
       ap anyBeyond (held-row one x r is) ∙ row-low plan d i (vec x) ∙ sym (ap anyBeyond (held-row two x r is) ∙ row-low plan d i (vec' x))
 
-  there : (x : ℕ) {m : ℕ} → x ≤ lastRow → markOf M x ≡ suc m → Near (planShape plan) (pointOf d) K (vec x) (vec' x)
+  there : (x : ℕ) {m : ℕ} → x ≤ lastRow → markOf M x ≡ suc m → Near (planShape plan) (pointOf plan d) K (vec x) (vec' x)
   there x r is = near x (omega arith) (λ e. omega arith)
 
   -- a row of one number in both runs; a difference of one number
   pub row-same : (x : ℕ) {m : ℕ} → x ≤ lastRow → markOf M x ≡ suc m → number (vec x) ≡ number (vec' x) → rowAt W l x ≡ rowAt W l' x
   row-same x r is e =
-      held-row one x r is ∙ near-same (planShape plan) (pointOf d) K (vec x) (vec' x) (there x r is) e i lo hi
+      held-row one x r is ∙ near-same (planShape plan) (pointOf plan d) K (vec x) (vec' x) (there x r is) e i lo hi
       ∙ sym (held-row two x r is)
 
   pub mask-same : (a x : ℕ) {m : ℕ} → a ≤ lastRow → markOf M a ≡ held → x ≤ lastRow → markOf M x ≡ suc m
@@ -112,8 +112,8 @@ module _ (T : Twin) where
       → combined (p - 1) (rowAt W l a) (rowAt W l x) ≡ combined (p - 1) (rowAt W l' a) (rowAt W l' x)
   mask-same a x ra ia rx ix e =
       combined-row one (p - 1) a x (held-row one a ra ia) (held-row one x rx ix)
-      ∙ near-same (planShape plan) (pointOf d) K (less (vec a) (vec x)) (less (vec' a) (vec' x))
-      (near-plusTimes (planShape plan) (pointOf d) K (p - 1) (vec a) (vec' a) (vec x) (vec' x) (there a ra ia) (there x rx ix)) e i lo hi
+      ∙ near-same (planShape plan) (pointOf plan d) K (less (vec a) (vec x)) (less (vec' a) (vec' x))
+      (near-plusTimes (planShape plan) (pointOf plan d) K (p - 1) (vec a) (vec' a) (vec x) (vec' x) (there a ra ia) (there x rx ix)) e i lo hi
       ∙ sym (combined-row two (p - 1) a x (held-row two a ra ia) (held-row two x rx ix))
 
   -- ---- the calls

@@ -15,7 +15,7 @@ use Rattle.forms.specs.Lines.{text}
 use Rattle.parts.specs.Draw.{drawnF}
 use Rattle.runs.specs.Draws.{Plan, Raw, none, by, IsRaw, whenRaw, Sound, Draw, IsDraw, rawLength, pointOf, rawDraw, planShape}
 use Rattle.secrecy.specs.Steps.{Secrets}
-use Rattle.secrecy.specs.Seen.{allRows, member, polynomialSeen, dealSeen, rawSeen, tripleSeen}
+use Rattle.secrecy.specs.Seen.{pointsSeen, allRows, member, polynomialSeen, dealSeen, rawSeen, tripleSeen}
 use Rattle.secrecy.specs.Claim.{Group}
 use Rattle.secrecy.proofs.Shift.{shift-none}
 use Rattle.secrecy.proofs.Link.{Gaps}
@@ -33,8 +33,9 @@ module _ (plan : Plan) (group : List ℕ) (u u' : Secrets) (Δ : ℕ → Gaps) (
   abbrev d' : Draw
   d' = moved plan group u u' Δ d
 
-  pub same-points : map (pointOf d) group ≡ map (pointOf d') group
-  same-points = ap (λ (f : ℕ → ℕ). map f group) (sym (moved-points plan group u u' Δ d))
+  pub same-points : map (pointsSeen plan group d u) group ≡ map (pointsSeen plan group d' u') group
+  unfolding pointsSeen moved
+  same-points = refl
 
   pub same-raws : map (rawSeen plan group d u) group ≡ map (rawSeen plan group d' u') group
   unfolding rawSeen

@@ -9,7 +9,8 @@ use lib.ListN.{replicate}
 use Rattle.field.specs.Modulus.{p}
 use Rattle.poly.specs.Counting.{Distinct}
 use Rattle.parts.specs.Draw.{eachFrom}
-use Rattle.runs.specs.Draws.{Plan, Draw, IsDraw, rawLength, tripleLength}
+use Rattle.shape.specs.Lengths.{checksLength}
+use Rattle.runs.specs.Draws.{Plan, planShape, Draw, IsDraw, rawLength, tripleLength}
 use Rattle.runs.specs.Calls.{Among}
 use Rattle.secrecy.specs.Steps.{Secrets, Step}
 use Rattle.secrecy.specs.Seen.{Entry, Seen, allRows, seen}
@@ -47,10 +48,10 @@ listsOf low many k = choices (replicate k (eachFrom low many (λ x. x)))
 unfoldable pub allLists : (ℕ → ℕ) → List (List (List ℕ))
 allLists many = choices (map (λ r. listsOf 0 p (many r)) allRows)
 
--- All draws of a plan: n check points from 1 to p − 1, what is drawn raw, and what is drawn for triples.
+-- All draws of a plan: one check point of each post, or two, from 1 to p − 1, what is drawn raw, and what is drawn for triples.
 unfoldable pub draws : Plan → List Draw
 draws plan =
-    forEach (listsOf 1 (p - 1) (plan .n)) (λ points.
+    forEach (listsOf 1 (p - 1) (checksLength (planShape plan))) (λ points.
     forEach (allLists (rawLength plan)) (λ raws.
     map (λ triples. record { points = points; raws = raws; triples = triples }) (allLists (tripleLength plan))))
 
@@ -85,7 +86,7 @@ sameEntry e e' =
 
 unfoldable pub sameSeen : Seen → Seen → Bool
 sameSeen R R' =
-    sameNumbers (R .points) (R' .points)
+    sameLines (R .points) (R' .points)
     && sameList sameLines (R .raws) (R' .raws)
     && sameList sameLines (R .triples) (R' .triples)
     && sameLines (R .polynomials) (R' .polynomials)

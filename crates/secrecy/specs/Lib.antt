@@ -5,3 +5,4 @@ pub mod Asked
 pub mod Book
 pub mod Claim
 pub mod Count
+pub mod Points

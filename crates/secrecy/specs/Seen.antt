@@ -1,13 +1,14 @@
 -- Document 01, "What a group of posts sees": the run of a list of calls, and the record of a group.
-use Prim.Native.Nat.{ℕ, _+_}
+use Prim.Native.Nat.{ℕ, _+_, _*_, _-_}
 use mathlib.Core.Bool.{Bool, false, cond, _||_}
 use mathlib.Core.List.{List, [], _∷_, _++_, map}
 use lib.Dec.{eqb}
+use lib.ListN.{take, drop}
 use Rattle.shape.specs.Bounds.{rowCount}
 use Rattle.parts.specs.Draw.{drawnF, eachFrom}
 use Rattle.forms.specs.Lines as Line
 use Rattle.forms.specs.Lines.{text}
-use Rattle.runs.specs.Draws.{Plan, Draw, none, by, whenRaw, pointOf, rawDraw, rawPack, triplePack, planShape}
+use Rattle.runs.specs.Draws.{Plan, Draw, none, by, whenRaw, rawDraw, rawPack, triplePack, planShape}
 use Rattle.runs.specs.Calls.{Post, Performed, perform, after, broadcast, newPost}
 use Rattle.secrecy.specs.Steps.{Secrets, Step, callAt, heardFrom, dealtNumber}
 
@@ -34,7 +35,7 @@ pub record Entry : Type 0 where
 -- is a post of the group; every broadcast line; and the answers". Packs are seen loaded or not, the D line dealt or not; where
 -- nothing was drawn there is an empty list.
 pub record Seen : Type 0 where
-  pub points : List ℕ
+  pub points : List (List ℕ)
   pub raws : List (List (List ℕ))
   pub triples : List (List (List ℕ))
   pub polynomials : List (List ℕ)
@@ -88,6 +89,10 @@ module _ (plan : Plan) (group : List ℕ) (draw : Draw) (u : Secrets) where
   abbrev pub dealLines : List (List ℕ)
   dealLines = map dealSeen allRows
 
+  -- "both points of each post" follow one another in the list
+  unfoldable pub pointsSeen : ℕ → List ℕ
+  pointsSeen i = take (plan .points) (drop ((i - 1) * plan .points) (draw .points))
+
   unfoldable pub rawSeen : ℕ → List (List ℕ)
   rawSeen i = map (λ r. whenRaw (plan .raw r) (rawPack plan draw i r) []) allRows
 
@@ -99,7 +104,7 @@ module _ (plan : Plan) (group : List ℕ) (draw : Draw) (u : Secrets) where
   unfoldable pub seen : (ℕ → List ℕ) → List Step → Seen
   seen rows cs =
       record {
-        points = map (pointOf draw) group;
+        points = map pointsSeen group;
         raws = map rawSeen group;
         triples = map tripleSeen group;
         polynomials = map polynomialSeen allRows;

@@ -3,7 +3,7 @@ use Rattle.field.specs.Arithmetic.{sum, product, difference, euclid, inverse}
 use Rattle.poly.specs.Polynomial.{value}
 use Rattle.poly.specs.Interpolation.{nodal, weight, terms, interpolated}
 use Rattle.refusal.specs.Refusal.{outcome}
-use Rattle.refusal.specs.Conditions.{anyBeyond}
+use Rattle.refusal.specs.Conditions.{anyBeyond, badPoints}
 use Rattle.parts.specs.Draw.{eachFrom, part}
 use Rattle.factory.specs.Calls.{dealerRefusal}
 use Rattle.session.specs.Rows.{combined, plusSums}
@@ -28,9 +28,9 @@ use Rattle.csv.specs.Fields.{fields}
 use Rattle.runs.specs.Draws.{pointOf, rawDraw, tripleDraw, rawPack, triplePack}
 use Rattle.runs.specs.Calls.{perform, newPost, at}
 use Rattle.secrecy.specs.Steps.{dealtNumber}
-use Rattle.secrecy.specs.Seen.{Seen, posts, allRows, joined, entryOf, run, polynomialSeen, dealSeen, rawSeen, tripleSeen, seen}
+use Rattle.secrecy.specs.Seen.{Seen, posts, allRows, joined, entryOf, run, polynomialSeen, dealSeen, pointsSeen, rawSeen, tripleSeen, seen}
 use Rattle.secrecy_examples.specs.Example.{Example, seenOf}
 
 unfoldable pub sees : Example → Seen
-unfolding sum product difference euclid inverse value nodal weight terms interpolated outcome anyBeyond eachFrom part dealerRefusal combined plusSums created loadRowRefusal loadTripleRefusal withTriple dealRefusal messageRefusal linearRefusal Blocks.badBlock Blocks.badBlocks Blocks.sent Accepting.accepts Accepting.share Accepting.passing Accepting.walk Accepting.opened Accepting.disagree allPairs openRefusal masksRefusal maskNumbersOf collectRefusal multiplyRefusal productRow withProduct productsOf padded eachAt namedIn namedTwice relationMasksRefusal maskedTerms termMasks recordTests relationFinishRefusal withProducts plusTerms finishedTerms lastDigits sizeWithin fields pointOf rawDraw tripleDraw rawPack triplePack perform newPost at dealtNumber posts allRows joined entryOf run polynomialSeen dealSeen rawSeen tripleSeen seen
+unfolding sum product difference euclid inverse value nodal weight terms interpolated outcome anyBeyond eachFrom part dealerRefusal combined plusSums created badPoints loadRowRefusal loadTripleRefusal withTriple dealRefusal messageRefusal linearRefusal Blocks.badBlock Blocks.badBlocks Blocks.sent Accepting.accepts Accepting.share Accepting.passing Accepting.walk Accepting.opened Accepting.disagree allPairs openRefusal masksRefusal maskNumbersOf collectRefusal multiplyRefusal productRow withProduct productsOf padded eachAt namedIn namedTwice relationMasksRefusal maskedTerms termMasks recordTests relationFinishRefusal withProducts plusTerms finishedTerms lastDigits sizeWithin fields pointOf rawDraw tripleDraw rawPack triplePack perform newPost at dealtNumber posts allRows joined entryOf run polynomialSeen dealSeen pointsSeen rawSeen tripleSeen seen
 sees x = seenOf x

@@ -11,6 +11,8 @@ use Rattle.secrecy_examples.specs.FourPostsSeen.{four, FourOpened, FourB
 use Rattle.secrecy_examples.specs.Charge.{charge, ChargeOpened, ChargeBooks}
 use Rattle.secrecy_examples.specs.Relation as Relation
 use Rattle.secrecy_examples.specs.Relation.{relation, RelationOpened, RelationBooks}
+use Rattle.secrecy_examples.specs.TwoPoints as Two
+use Rattle.secrecy_examples.specs.TwoPoints.{twoPoints, TwoPointsOpened}
 use Rattle.secrecy_examples.proofs.Computing.{sees}
 use Rattle.secrecy_examples.proofs.Premised.{is-draw, premises, at-work}
 
@@ -85,3 +87,15 @@ relation-opened = refl
 pub relation-books : RelationBooks
 unfolding sees relation premises bookAfter
 relation-books = (refl, refl, refl, refl, refl, refl)
+
+two-points-seen : sees twoPoints ≡ twoPoints .shown
+unfolding sees twoPoints
+two-points-seen = refl
+
+pub two-points-at-work : AtWork twoPoints
+unfolding sees twoPoints is-draw premises
+two-points-at-work = at-work twoPoints Two.masksSent 0 two-points-seen tt tt tt refl
+
+pub two-points-opened : TwoPointsOpened
+unfolding sees twoPoints
+two-points-opened = (refl, refl)

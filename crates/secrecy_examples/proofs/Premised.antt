@@ -12,8 +12,9 @@ use lib.ListN.{length, getD}
 use Rattle.field.specs.Modulus.{p}
 use Rattle.poly.specs.Counting.{All, Elements}
 use Rattle.shape.specs.Bounds.{rowCount, lastRow, lastTriple}
+use Rattle.shape.specs.Lengths.{checksLength}
 use Rattle.refusal.specs.Refusal.{first}
-use Rattle.refusal.specs.Conditions.{postsTests}
+use Rattle.refusal.specs.Conditions.{postsTests, badPointCount}
 use Rattle.vectors.proofs.Draws.{element-at}
 use Rattle.runs.specs.Draws as Draws
 use Rattle.runs.specs.Draws.{Raw, Plan, Draw, IsRaw, Sound, Lists, IsDraw, rawLength, tripleLength}
@@ -47,7 +48,7 @@ unfoldable pub is-draw : (plan : Plan) (draw : Draw) → Option (IsDraw plan dra
 unfolding _also_ both equal at-most below each lists
 is-draw plan draw =
     some (λ e h raws triples. record { posts = e; points = h; raws = raws; triples = triples })
-    also equal (length (draw .points)) (plan .n)
+    also equal (length (draw .points)) (checksLength (Draws.planShape plan))
     also each (λ w. both (at-most 1 w) (below w p)) (draw .points)
     also lists (rawLength plan) (draw .raws)
     also lists (tripleLength plan) (draw .triples)
@@ -99,10 +100,11 @@ module _ (x : Example) where
   raws-in l r h = let m = raw-listed (x .raws) r h in omega arith
 
   unfoldable pub sound : Option (Sound (planOf x))
-  unfolding _also_ equal at-most each
+  unfolding _also_ equal tested at-most each
   sound =
-      some (λ e l a. record { posts = e; raws = raws-in l; triples = of-member (λ r. r ≤ lastTriple) (x .triples) a })
+      some (λ e c l a. record { posts = e; counted = c; raws = raws-in l; triples = of-member (λ r. r ≤ lastTriple) (x .triples) a })
       also equal (first (postsTests (x .n) (x .t))) 0
+      also tested (not (badPointCount (x .points))) (λ e. not-true (badPointCount (x .points)) e)
       also at-most (length (x .raws)) rowCount
       also each (λ r. at-most r lastTriple) (x .triples)
 

@@ -17,6 +17,8 @@ use Rattle.secrecy.specs.Count.{count, draws, shows}
 pub record Example : Type 0 where
   pub n : ℕ
   pub t : ℕ
+  -- check points of a post
+  pub points : ℕ
   -- who deals row 0, row 1 and so on; the first rows of the triples
   pub raws : List Raw
   pub triples : List ℕ
@@ -32,7 +34,8 @@ pub record Example : Type 0 where
   pub shown : Seen
 
 abbrev pub planOf : Example → Plan
-planOf x = record { n = x .n; t = x .t; raw = λ r. getD (x .raws) r none; triple = λ r. member r (x .triples) }
+planOf x =
+    record { n = x .n; t = x .t; points = x .points; raw = λ r. getD (x .raws) r none; triple = λ r. member r (x .triples) }
 
 abbrev pub secretsOf : List ℕ → Secrets
 secretsOf us r = getD us r 0

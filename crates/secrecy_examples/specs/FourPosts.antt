@@ -1,6 +1,6 @@
 -- A second example for demand 3: n = 4, t = 2, posts 2 and 4 are the group. 3 and 10 are dealt, or 5 and 6; their product, 30, and
 -- the first with half the second, 8, are opened, each after messages of three posts; their sum is made and not opened.
-use Prim.Native.Nat.{ℕ, _+_}
+use Prim.Native.Nat.{ℕ, _+_, _-_}
 use mathlib.Core.Bool.{cond}
 use mathlib.Core.List.{List, [], _∷_, _++_, map}
 use lib.Dec.{eqb}
@@ -9,7 +9,7 @@ use Rattle.field.specs.Modulus.{p}
 use Rattle.shape.specs.Bounds.{lastTriple}
 use Rattle.shape.specs.Lengths.{shape, rowsLength}
 use Rattle.parts.specs.Draw.{eachFrom, part}
-use Rattle.runs.specs.Draws.{Raw, Draw, by, pointOf, rawDraw}
+use Rattle.runs.specs.Draws.{Raw, Draw, by, rawDraw}
 use Rattle.secrecy.specs.Steps.{PackNumber, element, Pack, its, other, Record, Step, own, sent, loadRow, loadTriple, deal, message, opening, linear, masks, collect, multiply}
 use Rattle.secrecy.specs.Seen.{member}
 use Rattle.secrecy_examples.specs.Example.{padded, of, blocks, present, still, given}
@@ -51,11 +51,12 @@ draw =
 
 -- rows of numbers from i upward at post i
 unfoldable pub start : ℕ → List ℕ
-start i = eachFrom i (rowsLength (shape 4 2)) (λ x. x)
+start i = eachFrom i (rowsLength (shape 4 2 1)) (λ x. x)
 
 -- Numbers of post i's pack of row 0, whatever is drawn: those at the places listed.
 abbrev pub numbersOf : ℕ → List ℕ → List PackNumber
-numbersOf i places = map (λ k. element (λ draw u. getD (part (shape 4 2) i (pointOf draw i) (rawDraw draw 0)) k 0)) places
+numbersOf i places =
+    map (λ k. element (λ draw u. getD (part (shape 4 2 1) i (record { first = getD (draw .points) (i - 1) 0; second = 0 }) (rawDraw draw 0)) k 0)) places
 
 -- Packs for row 0 that differ in kind: at post 1 its own, at post 2 post 1's, at post 3 fixed numbers, at post 4 its own with p in the
 -- last place.

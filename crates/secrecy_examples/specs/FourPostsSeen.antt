@@ -119,7 +119,7 @@ triple = rowL ∷ rowL' ∷ rowL'' ∷ []
 unfoldable pub shown : Seen
 shown =
     record {
-      points = 3 ∷ 7 ∷ [];
+      points = (3 ∷ []) ∷ (7 ∷ []) ∷ [];
       raws = padded (rowsAt 0 drawnRaw) ∷ padded (rowsAt 1 drawnRaw) ∷ [];
       triples =
           padded ([] ∷ [] ∷ [] ∷ [] ∷ joined (rowsAt 0 triple) ∷ [])
@@ -139,6 +139,7 @@ four =
     record {
       n = 4;
       t = 2;
+      points = 1;
       raws = raws;
       triples = triples;
       group = group;

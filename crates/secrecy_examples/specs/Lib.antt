@@ -5,3 +5,4 @@ pub mod FourPosts
 pub mod FourPostsSeen
 pub mod Charge
 pub mod Relation
+pub mod TwoPoints

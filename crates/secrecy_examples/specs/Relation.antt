@@ -145,7 +145,7 @@ told =
 unfoldable pub shown : Seen
 shown =
     record {
-      points = 5 ∷ [];
+      points = (5 ∷ []) ∷ [];
       raws = padded (raw0 ∷ raw1 ∷ raw2 ∷ []) ∷ [];
       triples = padded ([] ∷ [] ∷ [] ∷ loaded ∷ [] ∷ [] ∷ loaded6 ∷ []) ∷ [];
       polynomials = padded [];
@@ -159,6 +159,7 @@ relation =
     record {
       n = 3;
       t = 1;
+      points = 1;
       raws = dealers;
       triples = triples;
       group = group;

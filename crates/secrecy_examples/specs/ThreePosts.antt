@@ -43,7 +43,7 @@ draw =
 
 -- rows all 0
 unfoldable pub zeros : ℕ → List ℕ
-zeros i = replicate (rowsLength (shape 3 1)) 0
+zeros i = replicate (rowsLength (shape 3 1 1)) 0
 
 -- The posts' masks, and their messages of the product and of the sum.
 abbrev pub masksSent : List (List ℕ)

@@ -101,7 +101,7 @@ told =
 unfoldable pub shown : Seen
 shown =
     record {
-      points = 5 ∷ [];
+      points = (5 ∷ []) ∷ [];
       raws = padded (raw0 ∷ raw1 ∷ raw2 ∷ []) ∷ [];
       triples = padded ([] ∷ [] ∷ [] ∷ loaded ∷ []) ∷ [];
       polynomials = padded ([] ∷ [] ∷ (8 ∷ 1 ∷ []) ∷ []);
@@ -116,6 +116,7 @@ three =
     record {
       n = 3;
       t = 1;
+      points = 1;
       raws = raws;
       triples = triples;
       group = group;

@@ -1,8 +1,10 @@
 -- What every call on a session keeps to: one theorem, of which each call is an instance; and a new session.
 use Prim.Native.Nat.{ℕ}
 use mathlib.Core.Path.{_≡_, refl, sym, subst}
+use mathlib.Core.Bool.{cond}
 use mathlib.Core.List.{List}
 use native.Mathlib.Omega.{arith}
+use lib.Dec.{eqb}
 use Rattle.refusal.specs.Refusal.{Test, first, outcome, Ordered}
 use Rattle.refusal.proofs.Endings.{refused, accepted}
 use Rattle.refusal.proofs.Decided.{decides, keeps-by}
@@ -31,5 +33,6 @@ lawful-by {tests} {table} e o value new old written before =
 
 pub new-lawful : NewLawful
 unfolding created
-new-lawful n t post point =
-    keeps-by (session-table n t post point) (omega arith) (holding 0 0 (freshSession n t post point)) (λ k. holding k 0 (freshSession 0 0 0 0))
+new-lawful n t post points w =
+    keeps-by (session-table n t post points w) (omega arith)
+    (holding 0 0 (freshSession n t post points (w .first) (cond (eqb points 2) (w .second) 0))) (λ k. holding k 0 (freshSession 0 0 0 0 0 0))

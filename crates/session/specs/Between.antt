@@ -19,7 +19,7 @@ pub record Sized (s : Shape) (rows : List ℕ) : Type 0 where
 pub record Framed (s : Session) (rows : List ℕ) : Type 0 where
   pub sized : Sized (shapeOf s) rows
   pub post-in : (1 ≤ s .post) × (s .post ≤ s .n)
-  pub point-in : (0 < s .point) × (s .point < p)
+  pub point-in : (0 < s .first) × (s .first < p)
 
 -- A row number that 6 leaves, with room for the row in the list.
 pub record RowIn (s : Shape) (r : ℕ) : Type 0 where

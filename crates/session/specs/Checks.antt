@@ -8,11 +8,11 @@ use Rattle.shape.specs.Lengths.{rowsLength}
 use Rattle.refusal.specs.Refusal.{Test, _when_}
 use Rattle.refusal.specs.Conditions.{wrongLength}
 use Rattle.session.specs.declared.Session.{Session}
-use Rattle.session.specs.Sessions.{shapeOf, sessionTests, markIn}
+use Rattle.session.specs.Sessions.{pointsOf, shapeOf, sessionTests, markIn}
 
 -- 1 to 4 on the session handed in, whose fields may hold anything, and 5 for its list of rows.
 abbrev pub frameTests : Session → List ℕ → List Test
-frameTests s rows = sessionTests (s .n) (s .t) (s .post) (s .point) ++ (5 when wrongLength rows (rowsLength (shapeOf s)) ∷ [])
+frameTests s rows = sessionTests (s .n) (s .t) (s .post) (s .points) (pointsOf s) ++ (5 when wrongLength rows (rowsLength (shapeOf s)) ∷ [])
 
 -- 6: row above 95, or a triple's first above 93.
 abbrev pub noRow : ℕ → Bool

@@ -24,7 +24,9 @@ pub record Fields (s : Session) (r : ℕ) : Type 0 where
     n = s .n;
     t = s .t;
     post = s .post;
-    point = s .point;
+    points = s .points;
+    first = s .first;
+    second = s .second;
     marks = set (s .marks) r m;
     «factor_a» = s .«factor_a»;
     «factor_b» = s .«factor_b»;
@@ -35,7 +37,9 @@ pub record Fields (s : Session) (r : ℕ) : Type 0 where
     n = s .n;
     t = s .t;
     post = s .post;
-    point = s .point;
+    points = s .points;
+    first = s .first;
+    second = s .second;
     marks = s .marks;
     «factor_a» = set (s .«factor_a») r a;
     «factor_b» = set (s .«factor_b») r b;
@@ -46,7 +50,9 @@ pub record Fields (s : Session) (r : ℕ) : Type 0 where
     n = s .n;
     t = s .t;
     post = s .post;
-    point = s .point;
+    points = s .points;
+    first = s .first;
+    second = s .second;
     marks = s .marks;
     «factor_a» = s .«factor_a»;
     «factor_b» = s .«factor_b»;

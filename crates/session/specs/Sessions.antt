@@ -1,22 +1,28 @@
 -- Document 01, "Field, posts, rows": what a session remembers, and a new one.
 use Prim.Native.Nat.{ℕ, _+_}
+use mathlib.Core.Bool.{true, false, cond}
 use mathlib.Core.List.{List, [], _∷_, _++_}
+use lib.Dec.{eqb}
 use lib.ListN.{getD, set, replicate}
 use Rattle.shape.specs.declared.Shape.{Shape}
-use Rattle.shape.specs.Bounds.{rowCount}
+use Rattle.shape.specs.declared.Points.{Points}
+use Rattle.shape.specs.Bounds.{rowCount, mostPoints}
 use Rattle.shape.specs.Marks.{empty, held, unused, further, masked, spent, collected}
 use Rattle.shape.specs.Lengths.{shape}
 use Rattle.refusal.specs.Refusal.{Test, _when_, first, outcome}
-use Rattle.refusal.specs.Conditions.{outside, badPoint, postsTests}
+use Rattle.refusal.specs.Conditions.{outside, badPoints, postsTests}
 use Rattle.session.specs.declared.Party.{Party}
 use Rattle.session.specs.declared.Session.{Session}
 use Rattle.session.specs.declared.Answer.{Answer}
 
 abbrev pub shapeOf : Session → Shape
-shapeOf s = shape (s .n) (s .t)
+shapeOf s = shape (s .n) (s .t) (s .points)
+
+abbrev pub pointsOf : Session → Points
+pointsOf s = record { first = s .first; second = s .second }
 
 abbrev pub partyOf : Session → Party
-partyOf s = record { shape = shapeOf s; post = s .post; point = s .point }
+partyOf s = record { shape = shapeOf s; post = s .post; points = pointsOf s }
 
 -- "Each row has a mark".
 abbrev pub markIn : List ℕ → ℕ → ℕ
@@ -40,13 +46,15 @@ abbrev pub openedB : Session → ℕ → ℕ
 openedB s r = getD (s .«y_b») r 0
 
 -- The session with one part of it anew. These and `sessionOf` name every field; of the statements, `freshSession` does.
-abbrev pub withPoint : Session → ℕ → Session
-withPoint s w =
+abbrev pub withPoints : Session → Points → Session
+withPoints s w =
     record {
       n = s .n;
       t = s .t;
       post = s .post;
-      point = w;
+      points = s .points;
+      first = w .first;
+      second = w .second;
       marks = s .marks;
       «factor_a» = s .«factor_a»;
       «factor_b» = s .«factor_b»;
@@ -60,7 +68,9 @@ withMarks s marks =
       n = s .n;
       t = s .t;
       post = s .post;
-      point = s .point;
+      points = s .points;
+      first = s .first;
+      second = s .second;
       marks = marks;
       «factor_a» = s .«factor_a»;
       «factor_b» = s .«factor_b»;
@@ -74,7 +84,9 @@ withFactors s «factor_a» «factor_b» =
       n = s .n;
       t = s .t;
       post = s .post;
-      point = s .point;
+      points = s .points;
+      first = s .first;
+      second = s .second;
       marks = s .marks;
       «factor_a» = «factor_a»;
       «factor_b» = «factor_b»;
@@ -88,7 +100,9 @@ withOpened s «y_a» «y_b» =
       n = s .n;
       t = s .t;
       post = s .post;
-      point = s .point;
+      points = s .points;
+      first = s .first;
+      second = s .second;
       marks = s .marks;
       «factor_a» = s .«factor_a»;
       «factor_b» = s .«factor_b»;
@@ -96,14 +110,23 @@ withOpened s «y_a» «y_b» =
       «y_b» = «y_b»;
     }
 
+-- Where a post has one check point, the second is 0.
+abbrev pub asMany : ℕ → Points → Points
+asMany points w = record { first = w .first; second = cond (eqb points mostPoints) (w .second) 0 }
+
+abbrev pub noPoints : Points
+noPoints = record { first = 0; second = 0 }
+
 -- A new session remembers no rows and no numbers: "0 when new".
-abbrev pub sessionOf : ℕ → ℕ → ℕ → ℕ → Session
-sessionOf n t post point =
+abbrev pub sessionOf : ℕ → ℕ → ℕ → ℕ → Points → Session
+sessionOf n t post points w =
     record {
       n = n;
       t = t;
       post = post;
-      point = point;
+      points = points;
+      first = w .first;
+      second = w .second;
       marks = replicate rowCount empty;
       «factor_a» = replicate rowCount 0;
       «factor_b» = replicate rowCount 0;
@@ -151,10 +174,11 @@ holding refusal value session = record { refusal = refusal; value = value; sessi
 abbrev pub answer : ℕ → ℕ → Session → Session → Answer
 answer refusal value new old = outcome refusal (holding 0 value new) (holding refusal 0 old)
 
--- 1 to 4, of a session's n, t, own post and check point.
-abbrev pub sessionTests : ℕ → ℕ → ℕ → ℕ → List Test
-sessionTests n t post point = postsTests n t ++ (3 when outside 1 n post ∷ 4 when badPoint point ∷ [])
+-- 1 to 4, of a session's n, t, own post and check points.
+abbrev pub sessionTests : ℕ → ℕ → ℕ → ℕ → Points → List Test
+sessionTests n t post points w = postsTests n t ++ (3 when outside 1 n post ∷ 4 when badPoints points w ∷ [])
 
 -- "A new session has 96 rows, all with mark 0. A refused new session has 0 in every field."
-unfoldable pub created : ℕ → ℕ → ℕ → ℕ → Answer
-created n t post point = answer (first (sessionTests n t post point)) 0 (sessionOf n t post point) (sessionOf 0 0 0 0)
+unfoldable pub created : ℕ → ℕ → ℕ → ℕ → Points → Answer
+created n t post points w =
+    answer (first (sessionTests n t post points w)) 0 (sessionOf n t post points (asMany points w)) (sessionOf 0 0 0 0 noPoints)

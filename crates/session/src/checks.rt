@@ -1,6 +1,7 @@
 // The checks that calls on a session share. Each gives its refusal, or 0; a call joins them in the order of their numbers.
 use crate::Session;
 use crate::rows;
+use shape::Points;
 use shape::Shape;
 ghost use mathlib.Core.Path.{_≡_};
 ghost use Prim.Native.Nat.{_≤_};
@@ -15,13 +16,18 @@ ghost use Rattle.session.specs.Checks.{frameTests, noRow, noTriple, wron
 ghost use Rattle.session.specs.Between.{Sized};
 
 // 1 to 4, of a session's settings.
-pub fn settings(n: usize, t: usize, post: usize, point: u32) -> u8
-    ensures { λ r. ⌜ r ≡ first (sessionTests n t post point) ⌝ }
+pub fn settings(n: usize, t: usize, post: usize, points: usize, w: Points) -> u8
+    ensures { λ r. ⌜ r ≡ first (sessionTests n t post points w) ⌝ }
 {
-    refusal::or_else(
-        refusal::posts(n, t),
-        refusal::or_else(refusal::post(n, post), refusal::point(point)),
-    )
+    let posts = refusal::posts(n, t);
+    if posts != 0 {
+        return posts;
+    }
+    let own = refusal::post(n, post);
+    if own != 0 {
+        return own;
+    }
+    refusal::points(points, w)
 }
 
 // 6, of a row.
@@ -83,7 +89,11 @@ impl Session {
     pub fn frame(self, rows: &[u32]) -> u8
         ensures { λ r. ⌜ r ≡ first (frameTests self (now (rows .entry))) ⌝ }
     {
-        let refusal = settings(self.n, self.t, self.post, self.point);
+        let w = Points {
+            first: self.first,
+            second: self.second,
+        };
+        let refusal = settings(self.n, self.t, self.post, self.points, w);
         if refusal != 0 {
             return refusal;
         }

@@ -4,18 +4,19 @@
 pub mod checks;
 pub mod rows;
 
+use shape::Points;
 use shape::Shape;
 ghost use mathlib.Core.Path.{_≡_};
 ghost use Prim.Native.Nat.{_≤_};
 ghost use Rattle.shape.specs.Bounds.{lastRow, lastTriple};
-ghost use Rattle.session.specs.Sessions.{shapeOf, partyOf, marked, markedTriple, maskedTriple, collectedTriple, sessionOf, holding, answer, created};
+ghost use Rattle.session.specs.Sessions.{asMany, shapeOf, partyOf, marked, markedTriple, maskedTriple, collectedTriple, sessionOf, holding, answer, created};
 ghost use Rattle.session.specs.Between.{Allows};
 
-// Who opens a number: the station's shape, the post's own number and its check point.
+// Who opens a number: the station's shape, the post's own number and its check points.
 pub struct Party {
     pub shape: Shape,
     pub post: usize,
-    pub point: u32,
+    pub points: Points,
 }
 
 #[repr(C)]
@@ -24,7 +25,10 @@ pub struct Session {
     pub t: usize,
     // the post's own number
     pub post: usize,
-    pub point: u32,
+    // how many check points it has; where it is one, the second is 0
+    pub points: usize,
+    pub first: u32,
+    pub second: u32,
     pub marks: [u8; shape::ROWS],
     // the factor rows that the masks of a triple remember, at its first row
     pub factor_a: [u8; shape::ROWS],
@@ -42,16 +46,31 @@ pub struct Answer {
     pub session: Session,
 }
 
+// The check points of a post that has so many: where it is one, the second is 0.
+pub fn as_many(points: usize, w: Points) -> Points
+    ensures { λ r. ⌜ r ≡ asMany points w ⌝ }
+{
+    if points == shape::MOST_POINTS {
+        return w;
+    }
+    Points {
+        first: w.first,
+        second: 0,
+    }
+}
+
 impl Session {
     // All rows are empty, and no factor rows and no numbers are remembered.
-    fn empty(n: usize, t: usize, post: usize, point: u32) -> Session
-        ensures { λ r. ⌜ r ≡ sessionOf n t post point ⌝ }
+    fn empty(n: usize, t: usize, post: usize, points: usize, w: Points) -> Session
+        ensures { λ r. ⌜ r ≡ sessionOf n t post points w ⌝ }
     {
         Session {
             n,
             t,
             post,
-            point,
+            points,
+            first: w.first,
+            second: w.second,
             marks: [shape::EMPTY; shape::ROWS],
             factor_a: [0; shape::ROWS],
             factor_b: [0; shape::ROWS],
@@ -61,14 +80,18 @@ impl Session {
     }
 
     // A new session; a refused one has 0 in every field.
-    pub fn new(n: usize, t: usize, post: usize, point: u32) -> Answer
-        ensures { λ r. ⌜ r ≡ created n t post point ⌝ }
+    pub fn new(n: usize, t: usize, post: usize, points: usize, w: Points) -> Answer
+        ensures { λ r. ⌜ r ≡ created n t post points w ⌝ }
     {
-        let refusal = checks::settings(n, t, post, point);
+        let refusal = checks::settings(n, t, post, points, w);
         if refusal != 0 {
-            return Session::empty(0, 0, 0, 0).refuse(refusal);
+            let none = Points {
+                first: 0,
+                second: 0,
+            };
+            return Session::empty(0, 0, 0, 0, none).refuse(refusal);
         }
-        Session::empty(n, t, post, point).done(0)
+        Session::empty(n, t, post, points, as_many(points, w)).done(0)
     }
 
     pub fn shape(self) -> Shape
@@ -77,6 +100,7 @@ impl Session {
         Shape {
             n: self.n,
             t: self.t,
+            points: self.points,
         }
     }
 
@@ -84,10 +108,14 @@ impl Session {
         ensures { λ r. ⌜ r ≡ partyOf self ⌝ }
     {
         let shape = self.shape();
+        let points = Points {
+            first: self.first,
+            second: self.second,
+        };
         Party {
             shape,
             post: self.post,
-            point: self.point,
+            points,
         }
     }
 

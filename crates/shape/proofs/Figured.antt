@@ -21,7 +21,7 @@ figured = record {
     of-message = refl;
     of-masks = refl;
   };
-  rows = λ s row. record { first-part = refl; second-part = λ j. refl; third-part = λ j. refl };
+  rows = λ s row. record { first-part = refl; second-part = λ j h. refl; third-part = λ j. refl };
   marks = record {
     bounds = (refl, refl, refl, refl, refl);
     of-rows = (refl, refl, refl);

@@ -19,30 +19,33 @@ lastRow = rowCount - 1
 abbrev pub lastTriple : ℕ
 lastTriple = rowCount - 3
 
--- the longest row: of the most posts, with the largest t
-abbrev pub longestRow : ℕ
-longestRow = 3 * mostPosts
+-- "the number of points, 1 or 2" (document 02, (ix))
+abbrev pub mostPoints : ℕ
+mostPoints = 2
 
--- and the most coefficients of a v
+-- the most coefficients of a v, and the longest row: of the most posts, with the largest t and two points
 abbrev pub longestV : ℕ
-longestV = mostPosts
+longestV = 2 * mostPosts - 1
+
+abbrev pub longestRow : ℕ
+longestRow = 5 * mostPosts - 1
 
 -- Ours: stations of so few posts get smaller rooms, for their rows and their v's. No answer depends on it.
 abbrev pub fewPosts : ℕ
 fewPosts = 32
 
 abbrev pub shortRow : ℕ
-shortRow = 3 * fewPosts
+shortRow = 5 * fewPosts - 1
 
 abbrev pub shortV : ℕ
-shortV = fewPosts
+shortV = 2 * fewPosts - 1
 
 -- and of so very few, rooms that are smaller still
 abbrev pub veryFewPosts : ℕ
 veryFewPosts = 8
 
 abbrev pub veryShortRow : ℕ
-veryShortRow = 3 * veryFewPosts
+veryShortRow = 5 * veryFewPosts - 1
 
 abbrev pub veryShortV : ℕ
-veryShortV = veryFewPosts
+veryShortV = 2 * veryFewPosts - 1

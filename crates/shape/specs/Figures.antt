@@ -11,31 +11,31 @@ use Rattle.shape.specs.Lengths.{blockLength, recordLength, drawLength, t
 use Rattle.shape.specs.Marks.{empty, raw, held, unused, further, masked, spent, collected, absent, present}
 use Rattle.shape.specs.Row.{coefficients, checkValue, publicSum}
 
--- "t+1 coefficients", "t+1+2n elements", "96 × (t+1+2n) numbers", "n blocks, each a mark … and t+1 coefficients", "t+1 coefficients of f, then
--- t+1 for each of v1 to vn", "but the third lacks f's constant", "2(t+1) numbers"
+-- "t+1 coefficients", "n blocks, each a mark … and t+1 coefficients", "t+1 coefficients of f, then t+1 for each of v1 to vn", "but the third lacks
+-- f's constant", "2(t+1) numbers", with (ix)'s number of points for a parameter; `Claims` has the documents' figures for one and for two.
 pub record FiguredLengths (s : Shape) : Type 0 where
   pub needed-is : needed s ≡ s .t + 1
   pub of-f : fLength s ≡ s .t + 1
-  pub of-v : vLength s ≡ s .t + 1
-  pub checks-at : checksAt s ≡ s .t + 1
-  pub sums-at : sumsAt s ≡ s .t + 1 + s .n
-  pub of-row : rowLength s ≡ s .t + 1 + 2 * s .n
-  pub of-triple : tripleLength s ≡ 3 * (s .t + 1 + 2 * s .n)
-  pub of-rows : rowsLength s ≡ 96 * (s .t + 1 + 2 * s .n)
-  pub of-block : blockLength s ≡ s .t + 1 + 1
-  pub of-record : recordLength s ≡ s .n * (s .t + 1 + 1)
-  pub of-draw : drawLength s ≡ s .t + 1 + s .n * (s .t + 1)
-  pub of-triple-draw : tripleDrawLength s ≡ 3 * (s .t + 1 + s .n * (s .t + 1)) - 1
-  pub of-packs : packsLength s ≡ s .n * (s .t + 1 + 2 * s .n)
-  pub of-message : messageLength s ≡ s .t + 1
-  pub of-masks : masksLength s ≡ 2 * (s .t + 1)
+  pub of-v : vLength s ≡ s .points * s .t + 1
+  pub checks-at : checksAt s ≡ s .points * s .t + 1
+  pub sums-at : sumsAt s ≡ s .points * s .t + 1 + s .points * s .n
+  pub of-row : rowLength s ≡ s .points * s .t + 1 + s .points * s .n + s .n
+  pub of-triple : tripleLength s ≡ 3 * (s .points * s .t + 1 + s .points * s .n + s .n)
+  pub of-rows : rowsLength s ≡ 96 * (s .points * s .t + 1 + s .points * s .n + s .n)
+  pub of-block : blockLength s ≡ s .points * s .t + 1 + 1
+  pub of-record : recordLength s ≡ s .n * (s .points * s .t + 1 + 1)
+  pub of-draw : drawLength s ≡ s .t + 1 + s .n * (s .points * s .t + 1)
+  pub of-triple-draw : tripleDrawLength s ≡ 3 * (s .t + 1 + s .n * (s .points * s .t + 1)) - 1
+  pub of-packs : packsLength s ≡ s .n * (s .points * s .t + 1 + s .points * s .n + s .n)
+  pub of-message : messageLength s ≡ s .points * s .t + 1
+  pub of-masks : masksLength s ≡ 2 * (s .points * s .t + 1)
 
 -- "the coefficients of its own polynomial vi, constant first; the check values v1(wi) to vn(wi), its own included; the public sums m1 to mn": of
--- post j, j from 1 on
+-- post j, j from 1 on, and of its h-th point, h from 0 on: "both check values of each sender follow one another" (02, (ix))
 pub record FiguredRow (s : Shape) (row : List ℕ) : Type 0 where
-  pub first-part : coefficients s row ≡ take (s .t + 1) row
-  pub second-part : (j : ℕ) → checkValue s row j ≡ getD row (s .t + 1 + (j - 1)) 0
-  pub third-part : (j : ℕ) → publicSum s row j ≡ getD row (s .t + 1 + s .n + (j - 1)) 0
+  pub first-part : coefficients s row ≡ take (s .points * s .t + 1) row
+  pub second-part : (j h : ℕ) → checkValue s row j h ≡ getD row (s .points * s .t + 1 + ((j - 1) * s .points + h)) 0
+  pub third-part : (j : ℕ) → publicSum s row j ≡ getD row (s .points * s .t + 1 + s .points * s .n + (j - 1)) 0
 
 -- "2 to 255" (02, (ii)), "96 rows, 0 to 95", "r at most 93"; "0 empty; 1 raw …; 2 held", 3 to 6, and 7 of 02, (viii); "a mark (0 absent, 1 present)"
 pub record FiguredMarks : Type 0 where

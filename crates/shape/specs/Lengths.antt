@@ -1,37 +1,45 @@
--- The lengths that follow from n and t, in document 01's order.
+-- The lengths that follow from n, t and the number of check points of a post, in document 01's order.
 use Prim.Native.Nat.{ℕ, _+_, _*_, _-_, _≤_}
 use Rattle.shape.specs.declared.Shape.{Shape}
-use Rattle.shape.specs.Bounds.{fewestPosts, mostPosts, rowCount}
+use Rattle.shape.specs.Bounds.{fewestPosts, mostPosts, mostPoints, rowCount}
 
-abbrev pub shape : ℕ → ℕ → Shape
-shape n t = record { n = n; t = t }
+abbrev pub shape : ℕ → ℕ → ℕ → Shape
+shape n t points = record { n = n; t = t; points = points }
 
--- What refusals 1 and 2 leave: n posts, 2 to 255, "t is 1 to n − 1".
+-- What refusals 1, 2 and 4 leave: n posts, 2 to 255, "t is 1 to n − 1", "the number of points, 1 or 2".
 pub record Valid (s : Shape) : Type 0 where
   pub n-in : (fewestPosts ≤ s .n) × (s .n ≤ mostPosts)
   pub t-in : (1 ≤ s .t) × (s .t ≤ s .n - 1)
+  pub points-in : (1 ≤ s .points) × (s .points ≤ mostPoints)
+  -- which bounds the products that lengths are made of
+  pub reach-in : (s .t ≤ s .points * s .t) × (s .points * s .t ≤ mostPoints * s .t)
+  pub checks-in : (s .n ≤ s .points * s .n) × (s .points * s .n ≤ mostPoints * s .n)
 
 -- "stops at the post that completes t+1 accepted ones"
 abbrev pub needed : Shape → ℕ
 needed s = s .t + 1
 
--- "t+1 coefficients of f, then t+1 for each of v1 to vn"
+-- "t+1 coefficients of f, then t+1 for each of v1 to vn"; with two points "v1..vn have 2t+1 coefficients while f keeps t+1"
 abbrev pub fLength : Shape → ℕ
 fLength s = s .t + 1
 
 abbrev pub vLength : Shape → ℕ
-vLength s = s .t + 1
+vLength s = s .points * s .t + 1
+
+-- "both check values of each sender follow one another"
+abbrev pub checksLength : Shape → ℕ
+checksLength s = s .points * s .n
 
 -- In a row the check values stand behind the coefficients of the own polynomial, and the public sums behind those.
 abbrev pub checksAt : Shape → ℕ
 checksAt s = vLength s
 
 abbrev pub sumsAt : Shape → ℕ
-sumsAt s = vLength s + s .n
+sumsAt s = vLength s + checksLength s
 
--- "one post's part of one shared number, t+1+2n elements"
+-- "one post's part of one shared number, t+1+2n elements"; "A row has 2t+1+3n numbers" with two points
 abbrev pub rowLength : Shape → ℕ
-rowLength s = vLength s + 2 * s .n
+rowLength s = sumsAt s + s .n
 
 -- a post's three rows of a triple
 abbrev pub tripleLength : Shape → ℕ

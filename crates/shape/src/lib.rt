@@ -1,7 +1,7 @@
 // The shape of a station: the numbers that bound it, and the lengths that follow from n and t. The calls on a session take them
 // from here alone.
 ghost use mathlib.Core.Path.{_≡_};
-ghost use Rattle.shape.specs.Lengths.{needed, fLength, vLength, checksAt, sumsAt, rowLength, tripleLength};
+ghost use Rattle.shape.specs.Lengths.{needed, fLength, vLength, checksLength, checksAt, sumsAt, rowLength, tripleLength};
 ghost use Rattle.shape.specs.Lengths.{rowsLength, blockLength, recordLength, drawLength, tripleDrawLength, packsLength, masksLength, Valid};
 
 // How many posts a station may have.
@@ -14,22 +14,24 @@ pub const ROWS: usize = 96;
 pub const LAST_ROW: usize = ROWS - 1;
 
 pub const LAST_TRIPLE: usize = ROWS - 3;
-// The length of the longest row, that of the most posts with the largest t.
-pub const LONGEST_ROW: usize = 3 * MOST_POSTS;
-// The most coefficients of a v.
-pub const LONGEST_V: usize = MOST_POSTS;
+// How many check points a post may have.
+pub const MOST_POINTS: usize = 2;
+// The most coefficients of a v, and the length of the longest row: of the most posts with the largest t, and two points.
+pub const LONGEST_V: usize = 2 * MOST_POSTS - 1;
+
+pub const LONGEST_ROW: usize = 5 * MOST_POSTS - 1;
 // Stations of so few posts get smaller rooms, for their rows and their v's.
 pub const FEW_POSTS: usize = 32;
 
-pub const SHORT_ROW: usize = 3 * FEW_POSTS;
+pub const SHORT_ROW: usize = 5 * FEW_POSTS - 1;
 
-pub const SHORT_V: usize = FEW_POSTS;
+pub const SHORT_V: usize = 2 * FEW_POSTS - 1;
 // And of so very few, rooms that are smaller still.
 pub const VERY_FEW_POSTS: usize = 8;
 
-pub const VERY_SHORT_ROW: usize = 3 * VERY_FEW_POSTS;
+pub const VERY_SHORT_ROW: usize = 5 * VERY_FEW_POSTS - 1;
 
-pub const VERY_SHORT_V: usize = VERY_FEW_POSTS;
+pub const VERY_SHORT_V: usize = 2 * VERY_FEW_POSTS - 1;
 
 // The marks of rows.
 pub const EMPTY: u8 = 0;
@@ -53,10 +55,17 @@ pub const ABSENT: u32 = 0;
 
 pub const PRESENT: u32 = 1;
 
-// n posts, of which any t+1 bring a number out and t that keep the rules learn nothing.
+// n posts, of which any t+1 bring a number out and t that keep the rules learn nothing, each with so many check points.
 pub struct Shape {
     pub n: usize,
     pub t: usize,
+    pub points: usize,
+}
+
+// A post's check points. Where it has one, the second is 0 and not looked at.
+pub struct Points {
+    pub first: u32,
+    pub second: u32,
 }
 
 impl Shape {
@@ -81,7 +90,15 @@ impl Shape {
         requires { ⌜ Valid self ⌝ }
         ensures { λ r. ⌜ r ≡ vLength self ⌝ }
     {
-        self.t + 1
+        self.points * self.t + 1
+    }
+
+    // How many check values a row has.
+    pub fn checks_len(self) -> usize
+        requires { ⌜ Valid self ⌝ }
+        ensures { λ r. ⌜ r ≡ checksLength self ⌝ }
+    {
+        self.points * self.n
     }
 
     // Where the check values begin in a row, and the public sums behind them.
@@ -96,14 +113,16 @@ impl Shape {
         requires { ⌜ Valid self ⌝ }
         ensures { λ r. ⌜ r ≡ sumsAt self ⌝ }
     {
-        self.v_len() + self.n
+        let checks = self.checks_len();
+        self.v_len() + checks
     }
 
     pub fn row_len(self) -> usize
         requires { ⌜ Valid self ⌝ }
         ensures { λ r. ⌜ r ≡ rowLength self ⌝ }
     {
-        self.v_len() + 2 * self.n
+        let n = self.n;
+        self.sums_at() + n
     }
 
     // A post's three rows of a triple.

@@ -88,18 +88,6 @@ fn put_answer(out: &mut [u8], at: usize, number: u64, refusal: u8, value: u32) -
     put_end(out, behind, refusal, value)
 }
 
-// An answer, and what is printed behind it, from a position on; the position behind.
-fn put_print(out: &mut [u8], at: usize, number: u64, refusal: u8, value: u32, told: &[u8]) -> usize
-    requires { ⌜ (at + longestPrint ≤ length (now out)) × (length (now told) ≤ toldRoom) ⌝ }
-    ensures { λ r. ⌜ (r ≡ at + length (printText number refusal value (now (told .entry))))
-        × (now (out .exit) ≡ overwrite at (printText number refusal value (now (told .entry))) (now (out .entry))) ⌝ }
-{
-    let behind = put_answer(out, at, number, refusal, value);
-    let end = behind + told.len();
-    street_store::copy_bytes(told, &mut out[behind..end]);
-    end
-}
-
 // The answer to a line that prints nothing else, from a position on; the position behind.
 pub fn print(out: &mut [u8], at: usize, number: u64, refusal: u8, value: u32) -> usize
     requires { ⌜ at + longestPrint ≤ length (now out) ⌝ }
@@ -109,13 +97,17 @@ pub fn print(out: &mut [u8], at: usize, number: u64, refusal: u8, value: u32) ->
     put_answer(out, at, number, refusal, value)
 }
 
-// The M line of an `X`, at the start of a lent text; how many bytes it has.
-fn tell_masks(first: u32, post: usize, masks: &[u32], text: &mut [u8]) -> usize
-    requires { ⌜ (post ≤ streetPosts) × (length (now masks) ≤ mostMasks) × (length (now text) ≡ toldRoom) ⌝ }
-    ensures { λ r. ⌜ (r ≤ toldRoom) × (take r (now (text .exit)) ≡ Lines.text (Lines.masks first post (now (masks .entry)))) ⌝ }
+// The M line of an `X`, from a position on; the position behind. It is written where it is printed: no room is cleared for it, which would be
+// larger for larger stations.
+fn put_masks(out: &mut [u8], at: usize, first: u32, post: usize, masks: &[u32]) -> usize
+    requires { ⌜ (at + toldRoom ≤ length (now out)) × (post ≤ streetPosts) × (length (now masks) ≤ mostMasks) ⌝ }
+    ensures { λ r. ⌜ (r ≡ at + length (Lines.text (Lines.masks first post (now (masks .entry)))))
+        × (now (out .exit) ≡ overwrite at (Lines.text (Lines.masks first post (now (masks .entry)))) (now (out .entry))) ⌝ }
 {
     let head = [first, post as u32];
-    csv::put_line(b'M', &head, masks, text)
+    let end = at + street_store::TOLD_ROOM;
+    let size = csv::put_line(b'M', &head, masks, &mut out[at..end]);
+    at + size
 }
 
 // The answer to an `X` that is not refused, and its M line, from a position on; the position behind.
@@ -131,7 +123,6 @@ pub fn print_masks(
     ensures { λ r. ⌜ (r ≡ at + length (printText number 0 0 (Lines.text (Lines.masks first post (now (masks .entry))))))
         × (now (out .exit) ≡ overwrite at (printText number 0 0 (Lines.text (Lines.masks first post (now (masks .entry))))) (now (out .entry))) ⌝ }
 {
-    let mut text = [0u8; street_store::TOLD_ROOM];
-    let len = tell_masks(first, post, masks, &mut text);
-    put_print(out, at, number, 0, 0, &text[..len])
+    let behind = put_answer(out, at, number, 0, 0);
+    put_masks(out, behind, first, post, masks)
 }

@@ -18,7 +18,7 @@ use Rattle.csv.proofs.Laying.{length-written}
 use Rattle.forms.specs.Lines as Lines
 use Rattle.session.specs.declared.Session.{Session}
 use Rattle.street_store.specs.Sizes.{mostMasks, streetPosts, toldRoom}
-use Rattle.street_store.proofs.Keeping.{street-valid}
+use Rattle.street_store.proofs.Keeping.{street-valid, v-room}
 use Rattle.street_states.specs.declared.State.{State}
 use Rattle.street_states.specs.declared.Head.{Head}
 use Rattle.street_states.specs.States.{After, Stepped, firstState, stateOf}
@@ -69,7 +69,7 @@ module _ (part : List ℕ) (closing : Bool) (len : ℕ) where
   pub ends-feed : closing ≡ false → (b : Bool) → b ≡ eqb (getD part (length part - 1) 0) 10 → b ≡ Ends
   ends-feed e b q = q ∙ rw e
 
--- ---- an `S` is accepted
+-- ---- a start line is accepted
 module _ (letter refusal : ℕ) (started : Bool) where
   pub starts-by : letter ≡ 83 → (b : Bool) → b ≡ eqb refusal 0 → b ≡ cond (eqb letter 83) (eqb refusal 0) started
   starts-by e b q = q ∙ rw e
@@ -218,13 +218,13 @@ module _ (h : Head) (letter refusal post : ℕ) (g : Shape) (xs ms out : List �
 
       module _ (count : ℕ) (k : count ≡ masksLength g) where
         pub tell-count : count ≤ length ms
-        tell-count = let i = t .street e z in omega (arith, t .masks-room, i .n-in .1, i .t-in .1)
+        tell-count = omega (arith, t .masks-room, v-room g (t .street e z))
 
         pub tell-prefix : count ≡ length (take count ms)
         tell-prefix = sym (length-take-le count ms tell-count)
 
         pub tell-few : length (take count ms) ≤ mostMasks
-        tell-few = let i = t .street e z in omega (arith, t .masks-room, tell-prefix, i .n-in .1, i .t-in .1)
+        tell-few = omega (arith, t .masks-room, tell-prefix, v-room g (t .street e z))
 
         abbrev line : List ℕ
         line = Lines.text (Lines.masks (getD xs 2 0) post (take count ms))

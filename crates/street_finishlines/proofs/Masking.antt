@@ -14,6 +14,7 @@ use Rattle.session.specs.declared.Answer.{Answer}
 use Rattle.session.specs.Sessions.{shapeOf, answer, maskedTriple}
 use Rattle.product_masks.specs.Masks.{masksTests, masksRefusal, masksAnswer, maskNumbersOf, masksOut}
 use Rattle.street_store.specs.Sizes.{InStreet, streetPosts, mostMasks}
+use Rattle.street_store.proofs.Keeping.{v-room}
 use Rattle.street_states.specs.States.{rowsOf}
 use Rattle.street_states.proofs.Calling.{answer-refusal}
 use Rattle.street_finishlines.specs.Between.{Masked}
@@ -49,7 +50,7 @@ module _ (s : Session) (i : InStreet (shapeOf s)) (store masks xs : List ℕ) (g
     refusal-is = ap (λ (x : Answer). x .refusal) u ∙ answer-refusal _ 0 _ s ∙ rw end-is
 
     few : count ≤ length masks
-    few = omega (arith, count-is, i .n-in .1, i .t-in .1)
+    few = omega (arith, count-is, l, v-room (shapeOf s) i)
 
     room : length (take count masks) ≡ length (replicate {A = ℕ} (masksLength (shapeOf s)) 0)
     room = length-take-le count masks few ∙ count-is ∙ sym (length-replicate {A = ℕ} (masksLength (shapeOf s)) 0)
@@ -61,7 +62,7 @@ module _ (s : Session) (i : InStreet (shapeOf s)) (store masks xs : List ℕ) (g
     unfolding masksRefusal
     post-low z =
         let t = all-fail (masksTests s rows a b first (take count masks)) tt (none z) in
-        omega (arith, inside 1 (s .n) (s .post) (t .1 .1 .0) .1, i .n-in .1)
+        omega (arith, inside 1 (s .n) (s .post) (t .1 .1 .0) .1, i .few)
 
     front : length ms ≡ length (take count masks) → ans .refusal ≡ 0 → take (masksLength (shapeOf s)) (ms ++ drop count masks) ≡ maskNumbersOf s rows a b first
     front m z =

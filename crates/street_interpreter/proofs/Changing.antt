@@ -23,6 +23,7 @@ use Rattle.product_masks.specs.Masks.{masksRefusal, maskNumbersOf}
 use Rattle.opening.specs.Opening.{openAnswer}
 use Rattle.street_store.specs.Sizes.{InStreet, numbersRoom, openingsAt, masksAAt, masksBAt}
 use Rattle.street_store.specs.Records.{recordFor, kept}
+use Rattle.street_store.proofs.Keeping.{v-room, row-room}
 use Rattle.street_states.specs.declared.State.{State}
 use Rattle.street_states.specs.States.{After, answering, leaving, rowsOf, withRows, settled}
 use Rattle.street_states.proofs.Calling.{answer-refusal}
@@ -118,25 +119,25 @@ module _ (s : Session) (o : Order) (y : Able s o) where
 -- ---- the numbers
 module _ (g h : Shape) (i : InStreet h) (d : g ≡ h) (xs : List ℕ) (l : length xs ≡ numbersRoom) (k : ℕ) where
   pub row-in : k ≡ rowLength g → 1 + k ≤ length xs
-  row-in e = let r : k ≡ rowLength h = e ∙ ap rowLength d in omega (arith, i .n-in .1, i .t-in .1)
+  row-in e = let r : k ≡ rowLength h = e ∙ ap rowLength d in omega (arith, r, l, v-room h i, row-room h i)
 
   pub row-fits : k ≡ rowLength g → Fits w64 (1 + k)
-  row-fits e = let r : k ≡ rowLength h = e ∙ ap rowLength d in omega (arith, i .n-in .1, i .t-in .1)
+  row-fits e = let r : k ≡ rowLength h = e ∙ ap rowLength d in omega (arith, r, l, v-room h i, row-room h i)
 
   pub row-prefix : k ≡ rowLength g → 1 + k ≡ length (take (1 + k) xs)
   row-prefix e = sym (length-take-le (1 + k) xs (row-in e))
 
   pub triple-in : k ≡ tripleLength g → 1 + k ≤ length xs
-  triple-in e = let r : k ≡ tripleLength h = e ∙ ap tripleLength d in omega (arith, i .n-in .1, i .t-in .1)
+  triple-in e = let r : k ≡ tripleLength h = e ∙ ap tripleLength d in omega (arith, r, l, v-room h i, row-room h i)
 
   pub triple-fits : k ≡ tripleLength g → Fits w64 (1 + k)
-  triple-fits e = let r : k ≡ tripleLength h = e ∙ ap tripleLength d in omega (arith, i .n-in .1, i .t-in .1)
+  triple-fits e = let r : k ≡ tripleLength h = e ∙ ap tripleLength d in omega (arith, r, l, v-room h i, row-room h i)
 
   pub triple-prefix : k ≡ tripleLength g → 1 + k ≡ length (take (1 + k) xs)
   triple-prefix e = sym (length-take-le (1 + k) xs (triple-in e))
 
   pub message-in : k ≡ vLength g → k ≤ length xs
-  message-in e = let r : k ≡ vLength h = e ∙ ap vLength d in omega (arith, i .n-in .1, i .t-in .1)
+  message-in e = let r : k ≡ vLength h = e ∙ ap vLength d in omega (arith, r, l, v-room h i, row-room h i)
 
   pub message-prefix : k ≡ vLength g → k ≡ length (take k xs)
   message-prefix e = sym (length-take-le k xs (message-in e))
@@ -145,7 +146,7 @@ module _ (g h : Shape) (i : InStreet h) (d : g ≡ h) (xs : List ℕ) (l : lengt
   message-length e = sym (message-prefix e) ∙ e
 
   pub both-in : k ≡ masksLength g → k ≤ length xs
-  both-in e = let r : k ≡ masksLength h = e ∙ ap masksLength d in omega (arith, i .n-in .1, i .t-in .1)
+  both-in e = let r : k ≡ masksLength h = e ∙ ap masksLength d in omega (arith, r, l, v-room h i, row-room h i)
 
   pub both-prefix : k ≡ masksLength g → k ≡ length (take k xs)
   both-prefix e = sym (length-take-le k xs (both-in e))

@@ -5,16 +5,17 @@ use mathlib.Core.List.{List}
 use mathlib.Core.Bool.{Bool, true, false, cond}
 use lib.ListN.{length, getD, take-append-drop}
 use lib.Dec.{eqb, ltb}
+use Rattle.shape.specs.declared.Points.{Points}
 use Rattle.shape.specs.Lengths.{rowsLength}
 use Rattle.refusal.specs.Refusal.{first, outcome}
 use Rattle.forms.specs.Forms.{isLetter}
 use Rattle.session.specs.declared.Session.{Session}
-use Rattle.session.specs.Sessions.{shapeOf, answer, sessionOf, maskedTriple}
+use Rattle.session.specs.Sessions.{shapeOf, answer, asMany, sessionOf, maskedTriple}
 use Rattle.product_masks.specs.Masks.{masksRefusal, maskNumbersOf}
 use Rattle.street_reading.specs.Numbers.{numbers}
 use Rattle.street_reading.specs.declared.StartForm.{StartForm}
 use Rattle.street_reading.specs.declared.StartForm.the-variants.{Settings, Wrong}
-use Rattle.street_reading.specs.Starting.{isStart, startForm, startOf}
+use Rattle.street_reading.specs.Starting.{isStart, startSaid}
 use Rattle.street_states.specs.declared.State.{State}
 use Rattle.street_states.specs.States.{Stepped, After, begunWith, refusing, answering, leaving, unless, sessionRows, calling}
 use Rattle.street_store.specs.Sizes.{longestLine}
@@ -117,7 +118,7 @@ module _ (st : State) (store : List ℕ) where
     unfolding lateStep
     kept-late = kept-if (ltb longestLine (length s)) _ _ (λ n. same 10) (kept-if (eqb (getD s 0 0) 88) _ _ kept-mask kept-letters)
 
-    -- ---- before an `S` is accepted
+    -- ---- before a start line is accepted
     abbrev KeptEarly : Stepped → Type 0
     KeptEarly v = Kept (leaving v store)
 
@@ -131,12 +132,14 @@ module _ (st : State) (store : List ℕ) where
     kept-begin (suc x) new n = same (suc x)
 
     kept-settings : (v : StartForm) → KeptEarly (settingsStep st v)
-    kept-settings (Settings n t post point) = kept-begin (first (startTests n t post point)) (sessionOf n t post point)
+    kept-settings (Settings n t post points first₀ second) =
+        let w : Points = record { first = first₀; second = second } in
+        kept-begin (first (startTests n t post points w)) (sessionOf n t post points (asMany points w))
     kept-settings Wrong = λ n. same 10
 
     kept-early : KeptEarly (earlyStep st s)
     unfolding earlyStep startStep
-    kept-early = early-if (isStart s) _ _ (early-if (ltb longestLine (length s)) _ _ (λ n. same 10) (kept-settings (startOf (startForm s)))) (λ n. same 1)
+    kept-early = early-if (isStart s) _ _ (early-if (ltb longestLine (length s)) _ _ (λ n. same 10) (kept-settings (startSaid s))) (λ n. same 1)
 
     kept-step : Kept (step st store s)
     unfolding step

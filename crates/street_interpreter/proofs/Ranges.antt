@@ -1,23 +1,26 @@
 -- A session that was accepted stays one of the street's, whatever the line.
-use Prim.Native.Nat.{ℕ, zero, suc, _-_}
+use Prim.Native.Nat.{ℕ, zero, suc}
 use mathlib.Core.Path.{_≡_, refl, ap, sym, _∙_}
 use mathlib.Core.List.{List, [], _∷_}
 use mathlib.Core.Bool.{Bool, true, false, cond}
 use lib.ListN.{length, getD}
 use lib.Dec.{eqb, ltb}
-use Rattle.refusal.specs.Refusal.{_when_, first, outcome}
-use Rattle.refusal.specs.Conditions.{outside, badPoint}
-use Rattle.shape.specs.Bounds.{fewestPosts, mostPosts}
+use borrow.Author.Tests.{ltb-false}
+use Rattle.shape.specs.declared.Points.{Points}
+use Rattle.shape.specs.Lengths.{shape}
+use Rattle.refusal.specs.Refusal.{first, outcome}
+use Rattle.refusal.proofs.Laws.{all-fail}
+use Rattle.refusal.proofs.Ranges.{posts-valid, points-good}
 use Rattle.forms.specs.Forms.{isLetter}
 use Rattle.session.specs.declared.Session.{Session}
-use Rattle.session.specs.Sessions.{shapeOf, answer, sessionOf, collectedTriple, finishedTriple}
+use Rattle.session.specs.Sessions.{shapeOf, answer, collectedTriple, finishedTriple}
 use Rattle.collect.specs.Collect.{numberA, numberB, collectRefusal}
 use Rattle.multiply.specs.Multiply.{multiplyRefusal, multiplyAnswer}
 use Rattle.street_store.specs.Sizes.{streetPosts, masksAAt, masksBAt, InStreet, longestLine}
 use Rattle.street_reading.specs.Numbers.{numbers}
 use Rattle.street_reading.specs.declared.StartForm.{StartForm}
 use Rattle.street_reading.specs.declared.StartForm.the-variants.{Settings, Wrong}
-use Rattle.street_reading.specs.Starting.{isStart, startForm, startOf}
+use Rattle.street_reading.specs.Starting.{isStart, startSaid}
 use Rattle.street_states.specs.declared.State.{State}
 use Rattle.street_states.specs.States.{Stepped, After, leaving, sessionRows}
 use Rattle.street_startlines.specs.Steps.{startTests, settingsStep, startStep, earlyStep}
@@ -27,7 +30,6 @@ use Rattle.street_postlines.specs.Steps.{heard, keepStep, keepMasksStep, keepHa
 use Rattle.street_finishlines.specs.Masks.{masking, maskingOf, maskStep}
 use Rattle.street_finishlines.specs.Steps.{between, pairRefusal, masksFor, finishing, finishStep}
 use Rattle.street_interpreter.specs.Stepping.{lettersStep, lateStep, step, Ready}
-use Rattle.street_interpreter.proofs.Room.{tests-street}
 
 -- the state after a line, if it has a session, has one of the street's
 abbrev Fine : Stepped → Type 0
@@ -42,26 +44,21 @@ unfolding outcome
 fine-outcome zero v w f g = f refl
 fine-outcome (suc k) v w f g = g
 
--- ---- before an `S` is accepted
-accepted-range : (n t post point : ℕ) → first (startTests n t post point) ≡ 0 → InStreet (shapeOf (sessionOf n t post point))
-accepted-range n t post point e =
-    let a = tests-street n t (fewer (ltb streetPosts n) (outside fewestPosts mostPosts n) (outside 1 (n - 1) t) (outside 1 n post) (badPoint point) e) in
-    record { n-in = (a .0, a .1); t-in = (a .2, a .3) }
-  where
-    fewer : (b c d x y : Bool) → first (1 when b ∷ 1 when c ∷ 2 when d ∷ 3 when x ∷ 4 when y ∷ []) ≡ 0 → first (1 when b ∷ 1 when c ∷ 2 when d ∷ []) ≡ 0
-    fewer true c d x y e = e
-    fewer false true d x y e = e
-    fewer false false true x y e = e
-    fewer false false false x y e = refl
+-- ---- before a start line is accepted
+accepted-range : (n t post points : ℕ) (w : Points) → first (startTests n t post points w) ≡ 0 → InStreet (shape n t points)
+accepted-range n t post points w e =
+    let a = all-fail (startTests n t post points w) tt e in
+    record { valid = posts-valid n t points (a .1 .0, (a .1 .1 .0, tt)) (points-good points w (a .1 .1 .1 .1 .0) .0); few = ltb-false streetPosts n (a .0) }
 
 module _ (st : State) (f : st .started ≡ true → InStreet (shapeOf (st .session))) where
   fine-settings : (v : StartForm) → Fine (settingsStep st v)
-  fine-settings (Settings n t post point) = fine-outcome _ _ _ (λ z e. accepted-range n t post point z) f
+  fine-settings (Settings n t post points first₀ second) =
+      fine-outcome _ _ _ (λ z e. accepted-range n t post points (record { first = first₀; second = second }) z) f
   fine-settings Wrong = f
 
   fine-start : (s : List ℕ) → Fine (startStep st s)
   unfolding startStep
-  fine-start s = fine-if (ltb longestLine (length s)) _ _ f (fine-settings (startOf (startForm s)))
+  fine-start s = fine-if (ltb longestLine (length s)) _ _ f (fine-settings (startSaid s))
 
   fine-early : (s : List ℕ) → Fine (earlyStep st s)
   unfolding earlyStep

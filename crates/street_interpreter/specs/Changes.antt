@@ -28,7 +28,7 @@ abbrev pub toldBy : ℕ → ℕ → Session → List ℕ → List ℕ → List �
 toldBy letter refusal s xs ms =
     cond (eqb letter 88) (outcome refusal (Lines.text (Lines.masks (getD xs 2 0) (s .post) (take (masksLength (shapeOf s)) ms))) []) []
 
--- What a change leaves: where it is refused the session stays; an `S` that is not starts the program.
+-- What a change leaves: where it is refused the session stays; a start line that is not starts the program.
 unfoldable pub changed : State → ℕ → List ℕ → Answer → List ℕ → List ℕ → After
 changed st letter xs a store ms =
     let b = settled (st .session) a in
@@ -53,7 +53,7 @@ looked st v store =
       told = [];
     }
 
--- An order that may be carried out: the session is one of the street's, but for an `S`; the post of an `O` or an `M` is one of the station's.
+-- An order that may be carried out: the session is one of the street's, but for a start line; the post of an `O` or an `M` is one of the station's.
 pub record Able (s : Session) (o : Order) : Type 0 where
   pub street : (o .letter ≡ 83 → ⊥) → (o .letter ≡ 0 → ⊥) → InStreet (shapeOf s)
   pub post-in : isKept (o .letter) ≡ true → (1 ≤ o .post) × (o .post ≤ s .n)

@@ -6,7 +6,7 @@ use mathlib.Core.Bool.{true, cond}
 use lib.ListN.{length, getD}
 use lib.Dec.{eqb, ltb}
 use Rattle.refusal.specs.Refusal.{_when_, first, orElse}
-use Rattle.refusal.specs.Conditions.{wrongLength, postsTests}
+use Rattle.refusal.specs.Conditions.{wrongLength, stationTests}
 use Rattle.forms.specs.Forms.{isLetter}
 use Rattle.session.specs.Sessions.{shapeOf}
 use Rattle.street_store.specs.Sizes.{streetPosts, storeRoom, InStreet, longestLine}
@@ -19,7 +19,8 @@ use Rattle.street_finishlines.specs.Masks.{maskStep}
 use Rattle.street_finishlines.specs.Steps.{finishStep}
 use Rattle.street_postlines.specs.Steps.{hearStep}
 
--- By the letter, where a line prints nothing but its answer: "a second `S` then gets 10, as does any other letter".
+-- By the letter, where a line prints nothing but its answer: "a second `S` then gets 10, as does any other letter"; document 02, (ix): "a second start
+-- line of either letter gets 10".
 unfoldable pub lettersStep : State → List ℕ → List ℕ → After
 lettersStep st store s =
     let letter = getD s 0 0 in
@@ -46,9 +47,11 @@ pub record Ready (st : State) (store : List ℕ) : Type 0 where
   pub store-room : length store ≡ storeRoom
   pub in-range : st .started ≡ true → InStreet (shapeOf (st .session))
 
--- Before the line is looked at: 1 and 2 of a session that no `S` can have made, 5 of the store, which has room for the largest.
-abbrev pub postsRefusal : State → ℕ
-postsRefusal st = cond (st .started) (first (1 when ltb streetPosts (st .session .n) ∷ postsTests (st .session .n) (st .session .t))) 0
+-- Before the line is looked at: 1, 2 and 4 of a session that no start line can have made, 5 of the store, which has room for the largest.
+abbrev pub stationRefusal : State → ℕ
+stationRefusal st =
+    let s = st .session in
+    cond (st .started) (first (1 when ltb streetPosts (s .n) ∷ stationTests (s .n) (s .t) (s .points))) 0
 
 unfoldable pub roomRefusal : State → List ℕ → ℕ
-roomRefusal st store = orElse (postsRefusal st) (first (5 when wrongLength store storeRoom ∷ []))
+roomRefusal st store = orElse (stationRefusal st) (first (5 when wrongLength store storeRoom ∷ []))

@@ -11,7 +11,7 @@ use Rattle.refusal.specs.Refusal.{outcome}
 use Rattle.session.specs.declared.Session.{Session}
 use Rattle.session.specs.Sessions.{answer}
 use Rattle.street_store.specs.Sizes.{InStreet, storeRoom, mostMasks}
-use Rattle.street_store.proofs.Keeping.{street-valid}
+use Rattle.street_store.proofs.Keeping.{street-valid, v-room, row-room}
 
 pub answer-refusal : (x v : ℕ) (new old : Session) → answer x v new old .refusal ≡ x
 unfolding outcome
@@ -27,7 +27,7 @@ rows-end g h r d e = e ∙ ap rowsLength d
 
 module _ (g : Shape) (i : InStreet g) (store : List ℕ) (l : length store ≡ storeRoom) (end : ℕ) (e : end ≡ rowsLength g) where
   pub rows-in : end ≤ length store
-  rows-in = omega (arith, i .n-in .1, i .t-in .1)
+  rows-in = omega (arith, e, l, row-room g i)
 
   pub rows-prefix : end ≡ length (take end store)
   rows-prefix = sym (length-take-le end store rows-in)
@@ -38,7 +38,7 @@ street-shape g h i e = rw e i
 -- ---- the list that the numbers go to
 module _ (g h : Shape) (i : InStreet h) (d : g ≡ h) (k : ℕ) (e : k ≡ masksLength g) (zeros : List ℕ) (l : length zeros ≡ mostMasks) where
   pub masks-in : k ≤ length zeros
-  masks-in = let r : k ≡ masksLength h = e ∙ ap masksLength d in omega (arith, i .n-in .1, i .t-in .1)
+  masks-in = let r : k ≡ masksLength h = e ∙ ap masksLength d in omega (arith, r, l, v-room h i)
 
   pub masks-prefix : k ≡ length (take k zeros)
   masks-prefix = sym (length-take-le k zeros masks-in)

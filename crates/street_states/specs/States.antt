@@ -7,13 +7,13 @@ use Rattle.shape.specs.Lengths.{rowsLength}
 use Rattle.refusal.specs.Refusal.{outcome}
 use Rattle.session.specs.declared.Session.{Session}
 use Rattle.session.specs.declared.Answer.{Answer}
-use Rattle.session.specs.Sessions.{shapeOf, sessionOf, answer}
+use Rattle.session.specs.Sessions.{shapeOf, noPoints, sessionOf, answer}
 use Rattle.street_states.specs.declared.State.{State}
 use Rattle.street_states.specs.declared.Head.{Head}
 
--- Before the first line: no `S` accepted, empty records. These definitions name every field of a state; nothing else does.
+-- Before the first line: no start line accepted, empty records. These definitions name every field of a state; nothing else does.
 abbrev pub firstState : State
-firstState = record { session = sessionOf 0 0 0 0; started = false; kept = 0; triple = 0 }
+firstState = record { session = sessionOf 0 0 0 0 noPoints; started = false; kept = 0; triple = 0 }
 
 abbrev pub begunWith : State → Session → State
 begunWith st s = record { session = s; started = true; kept = st .kept; triple = st .triple }

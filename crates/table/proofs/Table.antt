@@ -4,7 +4,7 @@ use Rattle.field.specs.Arithmetic.{sum, product, difference, euclid, inverse}
 use Rattle.poly.specs.Polynomial.{value}
 use Rattle.poly.specs.Interpolation.{nodal, weight, terms, interpolated}
 use Rattle.refusal.specs.Refusal.{outcome}
-use Rattle.refusal.specs.Conditions.{anyBeyond}
+use Rattle.refusal.specs.Conditions.{anyBeyond, badPoints}
 use Rattle.parts.specs.Draw.{eachFrom, part}
 use Rattle.factory.specs.Calls.{dealerRefusal}
 use Rattle.session.specs.Rows.{combined, plusSums}
@@ -28,7 +28,7 @@ unfolding outcome lastDigits sizeWithin fields lineRefusal
 writes = record { answer = refl; bytes = refl }
 
 pub table : Table
-unfolding sum product difference euclid inverse value nodal weight terms interpolated anyBeyond outcome eachFrom part dealerRefusal combined plusSums created Blocks.sent Accepting.accepts Accepting.share Accepting.passing Accepting.walk Accepting.disagree Accepting.opened allPairs productRow leading valueAfter fieldOf fieldsAt formOf lineRefusal pointAt drawn drawnA drawnB drawnTriple
+unfolding sum product difference euclid inverse value nodal weight terms interpolated anyBeyond outcome eachFrom part dealerRefusal combined plusSums created Blocks.sent badPoints Accepting.accepts Accepting.share Accepting.passing Accepting.walk Accepting.disagree Accepting.opened allPairs productRow leading valueAfter fieldOf fieldsAt formOf lineRefusal pointAt drawn drawnA drawnB drawnTriple
 table =
     record {
       p1 = refl;

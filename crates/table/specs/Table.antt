@@ -5,6 +5,7 @@ use mathlib.Core.Path.{_≡_}
 use mathlib.Core.Bool.{true, false}
 use mathlib.Core.List.{List, [], _∷_, _++_, map}
 use lib.ListN.{getD}
+use Rattle.shape.specs.declared.Points.{Points}
 use Rattle.shape.specs.Lengths.{shape}
 use Rattle.parts.specs.Draw.{part, eachPost, firstDraw, secondDraw, thirdDraw}
 use Rattle.factory.specs.Calls.{dealerNumber}
@@ -28,12 +29,16 @@ pointAt i = getD (2 ∷ 3 ∷ 5 ∷ []) (i - 1) 0
 unfoldable pub drawn : List ℕ
 drawn = 7 ∷ 4 ∷ 1 ∷ 2 ∷ 3 ∷ 1 ∷ 5 ∷ 6 ∷ []
 
+-- one check point a post
+abbrev pub pointsOf : ℕ → Points
+pointsOf i = record { first = pointAt i; second = 0 }
+
 -- post i's new session, and its part of a draw
 abbrev pub sessionAt : ℕ → Session
-sessionAt i = created 3 1 i (pointAt i) .session
+sessionAt i = created 3 1 i 1 (pointsOf i) .session
 
 abbrev pub postRow : List ℕ → ℕ → List ℕ
-postRow draw i = part (shape 3 1) i (pointAt i) draw
+postRow draw i = part (shape 3 1 1) i (pointsOf i) draw
 
 -- a record with post 2's block alone
 abbrev pub fromPost2 : ℕ → ℕ → List ℕ
@@ -101,8 +106,8 @@ lentBytes = 1 ∷ 1 ∷ 1 ∷ 1 ∷ 1 ∷ 1 ∷ 1 ∷ []
 
 -- P10: the line reads, as D of row 0 with 93
 pub record Reads : Type 0 where
-  pub line : lineAs (readRefusal 3 1 dealt93 lent) (message 2 dealt93) ≡ record { refusal = 0; letter = 68; row = 0; post = 0 }
-  pub numbers : listAs (readRefusal 3 1 dealt93 lent) (message 2 dealt93) lent ≡ 93 ∷ 0 ∷ 0 ∷ 0 ∷ []
+  pub line : lineAs (readRefusal 3 1 1 dealt93 lent) (message 2 dealt93) ≡ record { refusal = 0; letter = 68; row = 0; post = 0 }
+  pub numbers : listAs (readRefusal 3 1 1 dealt93 lent) (message 2 dealt93) lent ≡ 93 ∷ 0 ∷ 0 ∷ 0 ∷ []
 
 -- and writes back
 pub record Writes : Type 0 where
@@ -142,4 +147,4 @@ pub record Table : Type 0 where
   -- P10 "`D,0,93` reads and writes back; `D,0,093` gets 10."
   pub p10-reads : Reads
   pub p10-writes : Writes
-  pub p10-refused : readRefusal 3 1 dealt093 lent ≡ 10
+  pub p10-refused : readRefusal 3 1 1 dealt093 lent ≡ 10

@@ -25,12 +25,12 @@ tenDigits = 68 ∷ 44 ∷ 48 ∷ 44 ∷ 52 ∷ 50 ∷ 57 ∷ 52 ∷ 57 ∷ 54 �
 
 pub record Texts : Type 0 where
   pub opening-text : text (opening 0 2 (3 ∷ 1 ∷ [])) ≡ opening0
-  pub opening-read : lineAs (readRefusal 3 1 opening0 lent) (message 2 opening0) ≡ record { refusal = 0; letter = 79; row = 0; post = 2 }
-  pub opening-numbers : listAs (readRefusal 3 1 opening0 lent) (message 2 opening0) lent ≡ 3 ∷ 1 ∷ 0 ∷ 0 ∷ []
+  pub opening-read : lineAs (readRefusal 3 1 1 opening0 lent) (message 2 opening0) ≡ record { refusal = 0; letter = 79; row = 0; post = 2 }
+  pub opening-numbers : listAs (readRefusal 3 1 1 opening0 lent) (message 2 opening0) lent ≡ 3 ∷ 1 ∷ 0 ∷ 0 ∷ []
   pub masks-text : text (masks 2 1 (3 ∷ 1 ∷ 3 ∷ 1 ∷ [])) ≡ masks2
-  pub masks-read : lineAs (readRefusal 3 1 masks2 lent) (message 2 masks2) ≡ record { refusal = 0; letter = 77; row = 2; post = 1 }
-  pub masks-numbers : listAs (readRefusal 3 1 masks2 lent) (message 2 masks2) lent ≡ 3 ∷ 1 ∷ 3 ∷ 1 ∷ []
+  pub masks-read : lineAs (readRefusal 3 1 1 masks2 lent) (message 2 masks2) ≡ record { refusal = 0; letter = 77; row = 2; post = 1 }
+  pub masks-numbers : listAs (readRefusal 3 1 1 masks2 lent) (message 2 masks2) lent ≡ 3 ∷ 1 ∷ 3 ∷ 1 ∷ []
   -- "A number has 1 to 10 digits": 10 for an eleventh
-  pub eleven : readRefusal 3 1 elevenDigits lent ≡ 10
+  pub eleven : readRefusal 3 1 1 elevenDigits lent ≡ 10
   -- one of ten digits has the right form, whatever it is: 11 above the elements
-  pub ten : readRefusal 3 1 tenDigits lent ≡ 11
+  pub ten : readRefusal 3 1 1 tenDigits lent ≡ 11

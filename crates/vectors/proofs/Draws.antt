@@ -1,8 +1,9 @@
 -- What the factory writes for a post is its row of the draw's vector.
-use Prim.Native.Nat.{ℕ, zero, suc, _+_, _*_, _-_, _≤_, _<_}
+use Prim.Native.Nat.{ℕ, zero, suc, _+_, _*_, _-_, _/_, _%_, _≤_, _<_}
 use mathlib.Core.Path.{_≡_, refl, sym, _∙_, ap, ap₂, fun-ext}
 use mathlib.Core.List.{List, [], _∷_, _++_}
-use native.Mathlib.Nat.{add-zero}
+use native.Mathlib.Nat.{add-zero, zero-mul, mul-comm, div-lt-iff-lt-mul}
+use native.Mathlib.Decide.{decLe}
 use native.Mathlib.Omega.{arith}
 use lib.Dec.{lit<}
 use lib.ListN.{length, take, drop, getD}
@@ -19,7 +20,10 @@ use Rattle.poly.specs.Counting.{Elements}
 use Rattle.poly.proofs.Bounds.{value-below}
 use Rattle.poly.proofs.Numbers.{toElements, elements-value}
 use Rattle.shape.specs.declared.Shape.{Shape}
-use Rattle.shape.specs.Lengths.{fLength, vLength, drawLength}
+use Rattle.shape.specs.declared.Points.{Points}
+use Rattle.shape.specs.Lengths.{fLength, vLength, checksLength, drawLength}
+use Rattle.shape.specs.Row.{pointAt}
+use Rattle.parts.specs.Draw as Draw
 use Rattle.parts.specs.Draw.{drawnF, drawnV, eachFrom, sumOf, part}
 use Rattle.parts.proofs.Laws.{drawn-room}
 use Rattle.vectors.specs.Vector.{Vector, firsts, numbers, valueAt, checkOf, sumAt, rowOf, vectorOf}
@@ -68,6 +72,9 @@ slice-numbers (suc k) a xs e h =
     next : (i : ℕ) → suc a + i ≡ a + suc i
     next i = omega arith
 
+none : (k : ℕ) → (1 ≤ k → ⊥) → k ≡ 0
+none k n = omega arith
+
 module _ (s : Shape) (draw : List ℕ) (low : Elements draw) (size : length draw ≡ drawLength s) where
   abbrev S : Vector
   S = vectorOf s draw
@@ -90,19 +97,33 @@ module _ (s : Shape) (draw : List ℕ) (low : Elements draw) (size : length draw
   first-of zero a h = absurd (omega arith)
   first-of (suc k) a h = refl
 
-  pub part-is-row : (i w : ℕ) → i - 1 < s .n → part s i w draw ≡ rowOf s i (element w) S
+  pub part-is-row : (i : ℕ) (w : Points) → i - 1 < s .n → part s i w draw ≡ rowOf s i w S
   unfolding part rowOf vectorOf Same
   part-is-row i w h =
       ap₂ _++_ (v-numbers i h)
-      (ap₂ _++_ (each-numbers 1 (s .n) (λ j. value (drawnV s draw j) w) _ checks) (each-numbers 1 (s .n) (sumOf s draw) _ sums))
+      (ap₂ _++_ (each-numbers 0 (checksLength s) (Draw.checkOf s w draw) _ checks) (each-numbers 1 (s .n) (sumOf s draw) _ sums))
     where
       one-more : (j : ℕ) → 1 + j ≡ suc j
       one-more j = omega arith
 
-      checks : (j : ℕ) → j < s .n → value (drawnV s draw (1 + j)) w ≡ checkOf s (element w) S j .0
-      checks j l =
-          ap (λ (q : List ℕ). value q w) (v-numbers (1 + j) (omega arith)) ∙ value-numbers (vLength s) _ w
-          ∙ ap (λ (m : ℕ). valueAt (vLength s) (S .v m) (element w) .0) (one-more j)
+      checks : (m : ℕ) → m < checksLength s → Draw.checkOf s w draw (0 + m) ≡ checkOf s w S m .0
+      checks m l =
+          ap (Draw.checkOf s w draw) zero-more
+          ∙ ap (λ (q : List ℕ). value q (pointAt w (m % s .points))) (v-numbers (suc (m / s .points)) (omega (arith, post)))
+          ∙ value-numbers (vLength s) _ (pointAt w (m % s .points))
+        where
+          zero-more : 0 + m ≡ m
+          zero-more = omega arith
+
+          some : 0 < s .points
+          some = go (decLe 1 (s .points))
+            where
+              go : Dec (1 ≤ s .points) → 0 < s .points
+              go (yes y) = y
+              go (no n) = absurd (omega (arith, l, ap (λ (k : ℕ). k * s .n) (none (s .points) n) ∙ zero-mul (s .n)))
+
+          post : m / s .points < s .n
+          post = div-lt-iff-lt-mul some .1 (rw (mul-comm (s .points) (s .n)) at l)
 
       join : (x y : Element) → sum (x .0) (y .0) ≡ (x ⊕ y ⊕ 0ᴱ) .0
       join x y =

@@ -1,5 +1,5 @@
 -- A post's row, and the shared number, are linear in the vector.
-use Prim.Native.Nat.{ℕ, zero, suc, _+_}
+use Prim.Native.Nat.{ℕ, zero, suc, _+_, _/_, _%_}
 use mathlib.Core.Path.{_≡_, refl, sym, _∙_, ap, ap₂, fun-ext}
 use mathlib.Core.List.{List, [], _∷_, _++_, map, append-assoc}
 use lib.ListN.{length, take, drop, length-append}
@@ -12,7 +12,9 @@ use Rattle.field.proofs.Solver.{solve}
 use Rattle.field.proofs.Elements.{𝓡, element-sum, element-product, element-of-number, number-below}
 use Rattle.field.proofs.Modular.{sum-below}
 use Rattle.shape.specs.declared.Shape.{Shape}
-use Rattle.shape.specs.Lengths.{fLength, vLength, sumsAt}
+use Rattle.shape.specs.declared.Points.{Points}
+use Rattle.shape.specs.Lengths.{fLength, vLength, checksLength, sumsAt}
+use Rattle.shape.specs.Row.{pointAt}
 use Rattle.session.specs.Rows.{combined, plusSums, summed}
 use Rattle.vectors.specs.Vector.{Vector, plusTimes, raised, number, firsts, numbers, valueAt, checkOf, sumAt, rowOf}
 open CommutativeRing 𝓡 using (add as _⊕_, mul as _⊗_)
@@ -68,23 +70,28 @@ sumAt-plusTimes g s S S' j =
     (s ∷ S .v (suc j) 0 ∷ S' .v (suc j) 0 ∷ valueAt (fLength g) (S .f) (element (suc j)) ∷ valueAt (fLength g) (S' .f) (element (suc j)) ∷ S .c ∷ S' .c ∷ [])
     (B :+ A :* C :+ (D :+ A :* E) :+ (F :+ A :* G)) (B :+ D :+ F :+ A :* (C :+ E :+ G)) refl
 
+pub checkOf-plusTimes : (g : Shape) (s : Element) (w : Points) (S S' : Vector) (m : ℕ)
+    → checkOf g w (plusTimes s S S') m ≡ checkOf g w S m ⊕ s ⊗ checkOf g w S' m
+checkOf-plusTimes g s w S S' m =
+    valueAt-plusTimes (vLength g) (S .v (suc (m / g .points))) (S' .v (suc (m / g .points))) s (element (pointAt w (m % g .points)))
+
 -- the row of S + s S' is the row of S plus s times that of S'
-pub row-plusTimes : (g : Shape) (i s : ℕ) (w : Element) (S S' : Vector)
+pub row-plusTimes : (g : Shape) (i s : ℕ) (w : Points) (S S' : Vector)
     → rowOf g i w (plusTimes (element s) S S') ≡ combined s (rowOf g i w S) (rowOf g i w S')
 unfolding rowOf
 row-plusTimes g i s w S S' =
     sym (combined-numbers s (vLength g) (S .v i) (S' .v i) _ _ ∙ ap (λ (l : List ℕ). numbers (vLength g) (plusTimes (element s) S S' .v i) ++ l) rest)
   where
-    checks : numbers (g .n) (λ j. checkOf g w S j ⊕ element s ⊗ checkOf g w S' j) ≡ numbers (g .n) (checkOf g w (plusTimes (element s) S S'))
-    checks = ap (numbers (g .n)) (fun-ext (λ j. sym (valueAt-plusTimes (vLength g) (S .v (suc j)) (S' .v (suc j)) (element s) w)))
+    checks : numbers (checksLength g) (λ j. checkOf g w S j ⊕ element s ⊗ checkOf g w S' j) ≡ numbers (checksLength g) (checkOf g w (plusTimes (element s) S S'))
+    checks = ap (numbers (checksLength g)) (fun-ext (λ m. sym (checkOf-plusTimes g (element s) w S S' m)))
 
     sums : numbers (g .n) (λ j. sumAt g S j ⊕ element s ⊗ sumAt g S' j) ≡ numbers (g .n) (sumAt g (plusTimes (element s) S S'))
     sums = ap (numbers (g .n)) (fun-ext (λ j. sym (sumAt-plusTimes g (element s) S S' j)))
 
-    rest : combined s (numbers (g .n) (checkOf g w S) ++ numbers (g .n) (sumAt g S)) (numbers (g .n) (checkOf g w S') ++ numbers (g .n) (sumAt g S'))
-        ≡ numbers (g .n) (checkOf g w (plusTimes (element s) S S')) ++ numbers (g .n) (sumAt g (plusTimes (element s) S S'))
+    rest : combined s (numbers (checksLength g) (checkOf g w S) ++ numbers (g .n) (sumAt g S)) (numbers (checksLength g) (checkOf g w S') ++ numbers (g .n) (sumAt g S'))
+        ≡ numbers (checksLength g) (checkOf g w (plusTimes (element s) S S')) ++ numbers (g .n) (sumAt g (plusTimes (element s) S S'))
     rest =
-        combined-numbers s (g .n) (checkOf g w S) (checkOf g w S') _ _
+        combined-numbers s (checksLength g) (checkOf g w S) (checkOf g w S') _ _
         ∙ ap₂ _++_ checks (combined-last s (g .n) (sumAt g S) (sumAt g S') ∙ sums)
 
 pub number-plusTimes : (s : Element) (S S' : Vector) → number (plusTimes s S S') ≡ number S ⊕ s ⊗ number S'
@@ -98,7 +105,7 @@ raised-numbers zero c a = refl
 raised-numbers (suc n) c a = ap₂ _∷_ (sum-number (a 0) c) (raised-numbers n c (λ i. a (suc i)))
 
 -- the row of S with c added is the row of S with c added to its sums
-pub row-raised : (g : Shape) (i c : ℕ) (w : Element) (S : Vector)
+pub row-raised : (g : Shape) (i c : ℕ) (w : Points) (S : Vector)
     → rowOf g i w (raised (element c) S) ≡ plusSums (sumsAt g) c (rowOf g i w S)
 unfolding rowOf plusSums Same
 row-raised g i c w S =
@@ -112,13 +119,13 @@ row-raised g i c w S =
     a = numbers (vLength g) (S .v i)
 
     b : List ℕ
-    b = numbers (g .n) (checkOf g w S)
+    b = numbers (checksLength g) (checkOf g w S)
 
     m : List ℕ
     m = numbers (g .n) (sumAt g S)
 
     size : length (a ++ b) ≡ sumsAt g
-    size = length-append a b ∙ ap₂ _+_ (length-numbers (vLength g) (S .v i)) (length-numbers (g .n) (checkOf g w S))
+    size = length-append a b ∙ ap₂ _+_ (length-numbers (vLength g) (S .v i)) (length-numbers (checksLength g) (checkOf g w S))
 
     more : (j : ℕ) → sumAt g S j ⊕ element c ≡ sumAt g (raised (element c) S) j
     more j =
@@ -126,7 +133,7 @@ row-raised g i c w S =
         (A :+ B :+ C :+ D) (A :+ B :+ (C :+ D)) refl
 
 -- the row of S + s S' with a fee added is the sum of the rows with that fee
-pub row-summed : (g : Shape) (i s fee : ℕ) (w : Element) (S S' : Vector)
+pub row-summed : (g : Shape) (i s fee : ℕ) (w : Points) (S S' : Vector)
     → rowOf g i w (raised (element fee) (plusTimes (element s) S S')) ≡ summed (sumsAt g) s fee (rowOf g i w S) (rowOf g i w S')
 row-summed g i s fee w S S' =
     row-raised g i fee w (plusTimes (element s) S S') ∙ ap (plusSums (sumsAt g) fee) (row-plusTimes g i s w S S')

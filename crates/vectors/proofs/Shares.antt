@@ -22,7 +22,7 @@ use Rattle.agreement.proofs.Agreeing.{agreement-exact, true-values-agree}
 use Rattle.shape.specs.declared.Shape.{Shape}
 use Rattle.shape.specs.Lengths.{needed, fLength, vLength}
 use Rattle.session.specs.declared.Session.{Session}
-use Rattle.session.specs.Sessions.{shapeOf}
+use Rattle.session.specs.Sessions.{pointsOf, shapeOf}
 use Rattle.accepting.specs.Accepting as Accepting
 use Rattle.accepting.proofs.Accepted.{Accepted, all-accepted, distinct-accepted, accepted-enough, walk-first}
 use Rattle.opening.specs.Walking.{accepts, share, accepted, acceptedPosts, further, tooFew, disagree, opened}
@@ -77,7 +77,7 @@ module _ (s : Session) (S : Vector) (blocks : List ℕ) where
   share-true : (j : ℕ) → j < s .n → Truly s S blocks (suc j) → share s row blocks (suc j) ≡ value line (suc j)
   unfolding Accepting.share line Same
   share-true j h e =
-      ap₂ difference (sum-of-row g (s .post) (element (s .point)) S j h)
+      ap₂ difference (sum-of-row g (s .post) (pointsOf s) S j h)
       (ap (λ (q : List ℕ). getD q 0 0) e ∙ number-at (vLength g) (S .v (suc j)) 0 (omega arith))
       ∙ sym (number-below (difference (m .0) (v .0)) (difference-below (m .0) (v .0)))
       ∙ ap (λ (z : Element). z .0)

@@ -66,8 +66,8 @@ pub part-linear : PartLinear
 part-linear g i w s draw draw' lo hi e e' l l' =
     let h : i - 1 < g .n = omega arith in
     part-is-row g (combined s draw draw') (elements-combined s draw draw') (length-combined s draw draw' same ∙ l) i w h
-    ∙ ap (rowOf g i (element w)) (vector-combined g s draw draw' same)
-    ∙ row-plusTimes g i s (element w) (vectorOf g draw) (vectorOf g draw')
+    ∙ ap (rowOf g i w) (vector-combined g s draw draw' same)
+    ∙ row-plusTimes g i s w (vectorOf g draw) (vectorOf g draw')
     ∙ sym (ap₂ (combined s) (part-is-row g draw e l i w h) (part-is-row g draw' e' l' i w h))
   where
     same : length draw ≡ length draw'

@@ -1,18 +1,19 @@
 -- What is claimed of one row and of one opening; proved in proofs/Theorems.antt.
-use Prim.Native.Nat.{ℕ, _+_, _≤_}
+use Prim.Native.Nat.{ℕ, _+_, _≤_, _<_}
 use mathlib.Core.Path.{_≡_}
 use mathlib.Core.Bool.{true, false}
 use mathlib.Core.Logic.{_⊎_}
 use mathlib.Core.List.{List}
 use lib.ListN.{length}
-use Rattle.field.specs.Element.{element}
 use Rattle.poly.specs.Polynomial.{value}
 use Rattle.refusal.specs.Refusal.{first}
 use Rattle.poly.specs.Counting.{All, Distinct, Elements}
 use Rattle.shape.specs.declared.Shape.{Shape}
+use Rattle.shape.specs.declared.Points.{Points}
+use Rattle.shape.specs.Row.{pointAt}
 use Rattle.shape.specs.Lengths.{needed, vLength, drawLength}
 use Rattle.session.specs.declared.Session.{Session}
-use Rattle.session.specs.Sessions.{shapeOf, holding}
+use Rattle.session.specs.Sessions.{pointsOf, shapeOf, holding}
 use Rattle.session.specs.Rows.{width, rowAt, combined}
 use Rattle.parts.specs.Draw.{part}
 use Rattle.opening.specs.Walking.{sent, accepts, accepted, tooFew}
@@ -22,23 +23,23 @@ use Rattle.vectors.specs.Vector.{Vector, number, numbers, rowOf}
 -- What the factory writes for a post is linear in the draw.
 abbrev pub PartLinear : Type 0
 PartLinear =
-    (s : Shape) (i w a : ℕ) (draw draw' : List ℕ) → 1 ≤ i → i ≤ s .n → Elements draw → Elements draw' → length draw ≡ drawLength s
+    (s : Shape) (i : ℕ) (w : Points) (a : ℕ) (draw draw' : List ℕ) → 1 ≤ i → i ≤ s .n → Elements draw → Elements draw' → length draw ≡ drawLength s
     → length draw' ≡ drawLength s → part s i w (combined a draw draw') ≡ combined a (part s i w draw) (part s i w draw')
 
 -- The row of a session's post.
 abbrev pub heldRow : Session → Vector → List ℕ
-heldRow s S = rowOf (shapeOf s) (s .post) (element (s .point)) S
+heldRow s S = rowOf (shapeOf s) (s .post) (pointsOf s) S
 
 -- A record shows of post j the polynomial that j really has.
 abbrev pub Truly : Session → Vector → List ℕ → ℕ → Type 0
 Truly s S blocks j = sent s (heldRow s S) blocks j ≡ numbers (vLength (shapeOf s)) (S .v j)
 
 -- "Post j is accepted when its polynomial at wi equals the check value for j": a post's acceptance is agreement with j's own
--- polynomial at the check point, at which two different ones agree at no more than t of the p − 1 points (FalsePolynomialsPass).
+-- polynomial at each check point.
 abbrev pub AcceptedAgrees : Type 0
 AcceptedAgrees =
-    (s : Session) (S : Vector) (blocks : List ℕ) (j : ℕ) → 1 ≤ j → j ≤ s .n → accepts s (heldRow s S) blocks j ≡ true
-    → value (sent s (heldRow s S) blocks j) (s .point) ≡ value (numbers (vLength (shapeOf s)) (S .v j)) (s .point)
+    (s : Session) (S : Vector) (blocks : List ℕ) (j : ℕ) → 1 ≤ j → j ≤ s .n → accepts s (heldRow s S) blocks j ≡ true → (h : ℕ) → h < s .points
+    → value (sent s (heldRow s S) blocks j) (pointAt (pointsOf s) h) ≡ value (numbers (vLength (shapeOf s)) (S .v j)) (pointAt (pointsOf s) h)
 
 -- A true polynomial is accepted.
 abbrev pub TrueAccepted : Type 0

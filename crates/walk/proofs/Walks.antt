@@ -33,6 +33,10 @@ module _ (test : ℕ → Bool) (j k need : ℕ) where
   unfolding walkEnd
   end-rejected e = rw (e, walkEnd)
 
+-- the branch of an accepted post
+pub accepted-so : (q : Party) (row blocks : List ℕ) (j : ℕ) (ok : Bool) → ok ≡ accepts q row blocks j → ok ≡ true → accepts q row blocks j ≡ true
+accepted-so q row blocks j ok is e = sym is ∙ e
+
 -- with room for a posts and b shares
 pub record Walking (test : ℕ → Bool) (f : ℕ → ℕ) (n need a b : ℕ) (posts shares : List ℕ) (count j : ℕ) : Type 0 where
   pub j-from : 1 ≤ j

@@ -7,7 +7,7 @@ ghost use Prim.Native.Nat.{_≤_};
 ghost use Rattle.agreement.specs.Sums.{Reached, Rooms};
 ghost use Rattle.shape.specs.Lengths.{needed};
 ghost use Rattle.blocks.specs.Between.{Openable};
-ghost use Rattle.accepting.specs.Between.{PowersWhereLong};
+ghost use Rattle.accepting.specs.Between.{Judged};
 ghost use Rattle.accepting.specs.Accepting.{disagree, opened};
 ghost use Rattle.walk.specs.Number.{answerOf};
 ghost use Rattle.walk.specs.Between.{WalkedAs, BehindIn, FurtherAs, agreedOn, Roomy};
@@ -25,17 +25,17 @@ pub struct Opened {
     pub value: u32,
 }
 
-// The walk from post 1 upward, which leaves the accepted posts and their shares at the start of two lists. It stops at the post
+// The walk from post 1 upward by the posts' marks, which leaves the accepted posts and their shares at the start of two lists. It stops at the post
 // that completes as many as are needed.
 pub fn walk_posts<'a>(
     party: Party,
     row: &'a [u32],
     blocks: &'a [u32],
-    weights: &[u32],
+    marks: &[u32],
     posts: &mut [u32],
     shares: &mut [u32],
 ) -> Walk
-    requires { ⌜ Openable party (now row) (now blocks) × PowersWhereLong party (now weights)
+    requires { ⌜ Openable party (now row) (now blocks) × Judged party (now row) (now blocks) (now marks)
         × (needed (party .shape) ≤ length (now posts)) × (needed (party .shape) ≤ length (now shares)) ⌝ }
     ensures { λ r. ⌜ WalkedAs party (now (row .entry)) (now (blocks .entry)) r (now (posts .exit)) (now (shares .exit)) ⌝ }
 {
@@ -51,8 +51,8 @@ pub fn walk_posts<'a>(
         if n < j {
             break Walk::TooFew;
         }
-        if accepting::accepts(party, row, blocks, j, weights) {
-            let share = accepting::share(party, row, blocks, j);
+        if accepting::accepts(party, row, blocks, j, marks) {
+            let share = accepting::share(party, row, blocks, j, marks);
             posts[count] = j as u32;
             shares[count] = share;
             count += 1;
@@ -68,13 +68,13 @@ fn walk_further<'a>(
     party: Party,
     row: &'a [u32],
     blocks: &'a [u32],
-    weights: &[u32],
+    marks: &[u32],
     last: usize,
     need: usize,
     posts: &mut [u32],
     shares: &mut [u32],
 ) -> usize
-    requires { ⌜ Openable party (now row) (now blocks) × PowersWhereLong party (now weights)
+    requires { ⌜ Openable party (now row) (now blocks) × Judged party (now row) (now blocks) (now marks)
         × BehindIn (party .shape .n) need last (now posts) (now shares) ⌝ }
     ensures { λ r. ⌜ FurtherAs party (now (row .entry)) (now (blocks .entry)) need last (now (posts .entry)) (now (shares .entry)) r
         (now (posts .exit)) (now (shares .exit)) ⌝ }
@@ -85,8 +85,8 @@ fn walk_further<'a>(
     let mut count = need;
     let mut j = next;
     while j <= n {
-        if accepting::accepts(party, row, blocks, j, weights) {
-            let share = accepting::share(party, row, blocks, j);
+        if accepting::accepts(party, row, blocks, j, marks) {
+            let share = accepting::share(party, row, blocks, j, marks);
             posts[count] = j as u32;
             shares[count] = share;
             count += 1;
@@ -126,12 +126,11 @@ fn agreed(
     }
 }
 
-// What the walk's outcome answers: the number or 13, with the posts behind it, or 9.
+// What the walk's outcome answers: the number or 13, with the posts behind it, or 9. The list has the posts' marks, until the agreement needs it.
 pub fn settle<'a>(
     party: Party,
     row: &'a [u32],
     blocks: &'a [u32],
-    weights: &[u32],
     outcome: Walk,
     posts: &mut [u32],
     shares: &mut [u32],
@@ -141,7 +140,7 @@ pub fn settle<'a>(
     above: &mut [u32],
     below: &mut [u32],
 ) -> Opened
-    requires { ⌜ Openable party (now row) (now blocks) × PowersWhereLong party (now weights)
+    requires { ⌜ Openable party (now row) (now blocks) × Judged party (now row) (now blocks) (now list)
         × WalkedAs party (now row) (now blocks) outcome (now posts) (now shares)
         × Roomy (party .shape) (now inverses) (now posts) (now shares) (now gaps) (now list) (now above) (now below) ⌝ }
     ensures { λ r. ⌜ r
@@ -151,7 +150,7 @@ pub fn settle<'a>(
         Walk::Enough(last) => {
             let shape = party.shape;
             let first = shape.needed();
-            let count = walk_further(party, row, blocks, weights, last, first, posts, shares);
+            let count = walk_further(party, row, blocks, list, last, first, posts, shares);
             agreed(
                 &posts[..count],
                 &shares[..count],

@@ -13,6 +13,7 @@ use gantsorol::*;
 // The station of examples/plan.h.
 const N: usize = 3;
 const T: usize = 1;
+const POINTS: usize = 2;
 const RIDES: usize = 0;
 const RATE: usize = 1;
 const FEE: usize = 2;
@@ -25,12 +26,15 @@ const FIXED: u32 = 80;
 const TERMS: [Term; 2] =
     [Term::product(1, RIDES, RATE, OTHER_TRIPLE), Term::plain(MODULUS - 1, FEE)];
 
+// The numbers of a stored session before its lists.
+const HEADS: usize = 6;
+
 type Failed = Box<dyn Error>;
-type Record = [u32; record_len(N, T)];
+type Record = [u32; record_len(N, T, POINTS)];
 
 struct Post<W> {
     session: Session,
-    rows: [u32; rows_len(N, T)],
+    rows: [u32; rows_len(N, T, POINTS)],
     // The post's own lines, to be sent again after a power loss.
     sent: Vec<u8>,
     state: PathBuf,
@@ -53,10 +57,10 @@ fn done(answer: Result<u32, Refusal>) -> bool {
 
 impl<W: Write> Post<W> {
     fn new(state: &Path, output: W) -> Self {
-        let record: Record = [0; record_len(N, T)];
+        let record: Record = [0; record_len(N, T, POINTS)];
         Self {
             session: Session::default(),
-            rows: [0; rows_len(N, T)],
+            rows: [0; rows_len(N, T, POINTS)],
             sent: vec![],
             state: state.into(),
             output,
@@ -75,8 +79,11 @@ impl<W: Write> Post<W> {
             let fields = fields.split(',').map(str::parse).collect::<Result<Vec<u32>, _>>()?;
             let (session, rows) = (self.session.take(), &mut self.rows);
             let answer = match (letter, &fields[..]) {
-                ("S", &[n, t, post, point]) => {
-                    Session::new(n as usize, t as usize, post as usize, point)
+                // One check point, or two.
+                ("S" | "W", [n, t, post, own @ ..])
+                    if own.len() == 1 + usize::from(letter == "W") =>
+                {
+                    Session::new(*n as usize, *t as usize, *post as usize, own)
                 }
                 ("R", [row, pack @ ..]) => session.load_row(rows, *row as usize, pack),
                 ("T", [row, pack @ ..]) => session.load_triple(rows, *row as usize, pack),
@@ -84,14 +91,15 @@ impl<W: Write> Post<W> {
             };
             answer.keep(&mut self.session)?;
         }
-        let right = (self.session.n, self.session.t) == (N, T);
+        let right = (self.session.n, self.session.t, self.session.points) == (N, T, POINTS);
         right.then_some(()).ok_or_else(|| "the pack file is of another station".into())
     }
 
     // A new file, written through to the disk, takes the old one's place.
     fn store(&self) -> io::Result<()> {
-        let Session { n, t, post, point, marks, factor_a, factor_b, y_a, y_b } = &self.session;
-        let numbers = [*n as u32, *t as u32, *post as u32, *point];
+        let Session { n, t, post, points, first, second, .. } = self.session;
+        let Session { marks, factor_a, factor_b, y_a, y_b, .. } = &self.session;
+        let numbers = [n as u32, t as u32, post as u32, points as u32, first, second];
         let numbers = [&numbers[..], y_a, y_b, &self.rows].concat();
         let mut bytes: Vec<u8> = numbers.into_iter().flat_map(u32::to_le_bytes).collect();
         bytes.extend([marks, factor_a, factor_b].into_iter().flatten().chain(&self.sent));
@@ -113,13 +121,13 @@ impl<W: Write> Post<W> {
         io::Read::read_to_end(&mut file, &mut bytes)?;
         let mut rest = &bytes[..];
         let mut part = |len: usize| rest.split_off(..len).ok_or("the state cannot be read");
-        let numbers = part(4 * (4 + 2 * ROWS + rows_len(N, T)))?.chunks(4);
+        let numbers = part(4 * (HEADS + 2 * ROWS + rows_len(N, T, POINTS)))?.chunks(4);
         let numbers = numbers.map(|four| Ok(u32::from_le_bytes(four.try_into()?)));
         let numbers: Vec<u32> = numbers.collect::<Result<_, Failed>>()?;
-        let (heads, lists) = numbers.split_at(4);
+        let (heads, lists) = numbers.split_at(HEADS);
         let s = &mut self.session;
         (s.n, s.t, s.post) = (heads[0] as usize, heads[1] as usize, heads[2] as usize);
-        s.point = heads[3];
+        (s.points, s.first, s.second) = (heads[3] as usize, heads[4], heads[5]);
         s.y_a.copy_from_slice(&lists[..ROWS]);
         s.y_b.copy_from_slice(&lists[ROWS..2 * ROWS]);
         self.rows.copy_from_slice(&lists[2 * ROWS..]);
@@ -140,22 +148,24 @@ impl<W: Write> Post<W> {
     }
 
     fn send_masks(&mut self, first: usize, masks: &[u32]) -> Result<(), Failed> {
-        let mut line = [0; masks_line_len(N, T)];
-        let len = write_masks(N, T, first, self.session.post, masks, &mut line).accepted()?;
+        let mut line = [0; masks_line_len(N, T, POINTS)];
+        let len =
+            write_masks(N, T, POINTS, first, self.session.post, masks, &mut line).accepted()?;
         Ok(self.send(&line[..len])?)
     }
 
     fn send_opening(&mut self, row: usize) -> Result<(), Failed> {
-        let (mut message, mut line) = ([0; message_len(T)], [0; opening_line_len(N, T)]);
+        let (mut message, mut line) =
+            ([0; message_len(T, POINTS)], [0; opening_line_len(N, T, POINTS)]);
         let session = &mut self.session;
         session.take().opening_message(&self.rows, row, &mut message).keep(session)?;
-        let len = write_opening(N, T, row, session.post, &message, &mut line).accepted()?;
+        let len = write_opening(N, T, POINTS, row, session.post, &message, &mut line).accepted()?;
         Ok(self.send(&line[..len])?)
     }
 
     // Masks once both factors are dealt, the product once t+1 posts' masks are accepted, then the fixed fee.
     fn go_on_with_the_charge(&mut self) -> Result<(), Failed> {
-        let mut masks = [0; masks_len(T)];
+        let mut masks = [0; masks_len(T, POINTS)];
         let (session, rows) = (&mut self.session, &mut self.rows);
         if done(session.take().masks(rows, RIDES, RATE, TRIPLE, &mut masks).keep(session)) {
             self.send_masks(TRIPLE, &masks)?;
@@ -172,7 +182,7 @@ impl<W: Write> Post<W> {
 
     // The same in two calls, which leave the sum of the terms in a row.
     fn go_on_with_the_relation(&mut self) -> Result<(), Failed> {
-        let mut masks = [0; relation_masks_len(T, 1)];
+        let mut masks = [0; relation_masks_len(T, POINTS, 1)];
         let (session, rows) = (&mut self.session, &mut self.rows);
         if done(session.take().relation_masks(rows, &TERMS, &mut masks).keep(session)) {
             self.send_masks(OTHER_TRIPLE, &masks)?;
@@ -186,13 +196,14 @@ impl<W: Write> Post<W> {
     }
 
     fn take_line(&mut self, text: &[u8]) -> Result<(), Failed> {
-        let mut numbers = [0; line_list_len(T)];
-        let Ok(line) =
-            read(N, T, text, &mut numbers).accepted().inspect_err(|why| eprintln!("post: {why}"))
+        let mut numbers = [0; line_list_len(T, POINTS)];
+        let Ok(line) = read(N, T, POINTS, text, &mut numbers)
+            .accepted()
+            .inspect_err(|why| eprintln!("post: {why}"))
         else {
             return Ok(());
         };
-        let (a, b) = numbers.split_at(message_len(T));
+        let (a, b) = numbers.split_at(message_len(T, POINTS));
         match (line.letter, line.row) {
             (b'D', row) => {
                 let session = &mut self.session;
@@ -202,8 +213,8 @@ impl<W: Write> Post<W> {
             }
             (b'M', TRIPLE) => hear(&mut self.product_records, line.post, [a, b])?,
             (b'M', OTHER_TRIPLE) => hear(&mut self.relation_records, line.post, [a, b])?,
-            (b'O', CHARGE) => record_put(N, T, &mut self.charge_record, line.post, a)?,
-            (b'O', SUM) => record_put(N, T, &mut self.sum_record, line.post, a)?,
+            (b'O', CHARGE) => record_put(N, T, POINTS, &mut self.charge_record, line.post, a)?,
+            (b'O', SUM) => record_put(N, T, POINTS, &mut self.sum_record, line.post, a)?,
             _ => (),
         }
         Ok(())
@@ -233,7 +244,7 @@ fn hear(records: &mut [Record; 2], post: usize, masks: [&[u32]; 2]) -> Result<()
     records
         .iter_mut()
         .zip(masks)
-        .try_for_each(|(record, mask)| record_put(N, T, record, post, mask))
+        .try_for_each(|(record, mask)| record_put(N, T, POINTS, record, post, mask))
 }
 
 // What a post opens: its number, the charge, and whether the fee is right.

@@ -53,12 +53,13 @@ pub fn write_deal(n: usize, t: usize, row: usize, c: u32, out: &mut [u8]) -> Wri
     unsafe { sys::gantsorol_write_deal(n, t, row, c, out.as_mut_ptr(), out.len()) }
 }
 
-/// Writes `O,row,post,` and t+1 coefficients at the start of `out`; the rest stays as it is.
-/// Refusals 1, 2, 3, 5, 6, 8 and 12.
+/// Writes `O,row,post,` and a message's coefficients at the start of `out`; the rest stays as it is.
+/// Refusals 1 to 6, 8 and 12.
 #[inline]
 pub fn write_opening(
     n: usize,
     t: usize,
+    points: usize,
     row: usize,
     post: usize,
     coefficients: &[u32],
@@ -69,6 +70,7 @@ pub fn write_opening(
         sys::gantsorol_write_opening(
             n,
             t,
+            points,
             row,
             post,
             coefficients.as_ptr(),
@@ -79,12 +81,13 @@ pub fn write_opening(
     }
 }
 
-/// Writes `M,row,post,` and 2(t+1) coefficients at the start of `out`, where `row` is a triple's
-/// first; the rest stays as it is. Refusals 1, 2, 3, 5, 6, 8 and 12.
+/// Writes `M,row,post,` and the coefficients of both masks at the start of `out`, where `row` is a
+/// triple's first; the rest stays as it is. Refusals 1 to 6, 8 and 12.
 #[inline]
 pub fn write_masks(
     n: usize,
     t: usize,
+    points: usize,
     row: usize,
     post: usize,
     coefficients: &[u32],
@@ -95,6 +98,7 @@ pub fn write_masks(
         sys::gantsorol_write_masks(
             n,
             t,
+            points,
             row,
             post,
             coefficients.as_ptr(),
@@ -105,10 +109,12 @@ pub fn write_masks(
     }
 }
 
-/// Reads a line, its line feed included, and fills `out`, 2(t+1) numbers, with its elements and
-/// then with zeros. Refusals 1, 2, 5, 10 and 11.
+/// Reads a line, its line feed included, and fills `out`, [`line_list_len`](crate::line_list_len)
+/// numbers, with its elements and then with zeros. Refusals 1, 2, 4, 5, 10 and 11.
 #[inline]
-pub fn read(n: usize, t: usize, line: &[u8], out: &mut [u32]) -> Line {
+pub fn read(n: usize, t: usize, points: usize, line: &[u8], out: &mut [u32]) -> Line {
     // SAFETY: each list is a borrowed slice's pointer and length, and `out` overlaps no other.
-    unsafe { sys::gantsorol_read(n, t, line.as_ptr(), line.len(), out.as_mut_ptr(), out.len()) }
+    unsafe {
+        sys::gantsorol_read(n, t, points, line.as_ptr(), line.len(), out.as_mut_ptr(), out.len())
+    }
 }

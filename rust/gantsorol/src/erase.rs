@@ -8,9 +8,9 @@ use core::sync::atomic::{compiler_fence, Ordering};
 /// out.
 ///
 /// ```
-/// let mut rows = [5; gantsorol::rows_len(3, 1)];
+/// let mut rows = [5; gantsorol::rows_len(3, 1, 1)];
 /// gantsorol::erase(&mut rows);
-/// assert_eq!(rows, [0; gantsorol::rows_len(3, 1)]);
+/// assert_eq!(rows, [0; gantsorol::rows_len(3, 1, 1)]);
 /// ```
 pub fn erase<T: Copy + Default>(list: &mut [T]) {
     for item in list {

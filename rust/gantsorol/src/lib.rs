@@ -8,17 +8,28 @@
 //! For x86-64 only. `no_std`: the library needs nothing but `memcpy` and `memset`.
 //!
 //! A post keeps a [`Session`], which every call takes and hands back, and a list of
-//! [`rows_len`]`(n, t)` numbers, its rows, which it lends to each call. Numbers are elements 0 to
+//! [`rows_len`]`(n, t, points)` numbers, its rows, which it lends to each call. Numbers are elements 0 to
 //! [`MODULUS`] − 1. Store the session that a call hands back, and the rows with it, before the line
 //! that the call made is sent: after a power loss an old session would use a triple twice. The
 //! header's opening says what else a post needs to know, `docs/INTEGRATING.md` how one is built.
 //!
+//! Each post of a station has one or two secret check points, at which it checks what others send.
+//! Their number is `points` in each call that takes n and t, 1 or 2: any other is answered with
+//! [`Refusal::BadCheckPoint`]. A session is made with the list of its own, `&[w]` or `&[w, x]`, whose
+//! length says how many they are.
+//!
 //! ```
 //! // The factory's draw for three posts, two of which open: f = 7 + 4z, and v1, v2, v3.
 //! let draw = [7, 4, 1, 2, 3, 1, 5, 6];
-//! let mut packs = [0; 3 * gantsorol::row_len(3, 1)];
-//! gantsorol::factory_row(3, 1, &[2, 3, 5], &draw, &mut packs)?;
+//! let mut packs = [0; gantsorol::packs_len(3, 1, 1)];
+//! gantsorol::factory_row(3, 1, 1, &[2, 3, 5], &draw, &mut packs)?;
 //! assert_eq!(packs[..8], [1, 2, 5, 5, 17, 12, 18, 24]);
+//!
+//! // With two points a post, v1, v2 and v3 have a coefficient more.
+//! let draw = [7, 4, 1, 2, 1, 3, 1, 2, 5, 6, 3];
+//! let mut packs = [0; gantsorol::packs_len(3, 1, 2)];
+//! gantsorol::factory_row(3, 1, 2, &[2, 4, 3, 5, 5, 7], &draw, &mut packs)?;
+//! assert_eq!(packs[..12], [1, 2, 1, 9, 25, 13, 39, 29, 77, 12, 18, 24]);
 //! # Ok::<(), gantsorol::Refusal>(())
 //! ```
 

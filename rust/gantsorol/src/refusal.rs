@@ -52,7 +52,7 @@ refusals! {
     1 BadPostCount "the number of posts n is outside 2 to 255";
     2 BadThreshold "t is outside 1 to n - 1";
     3 BadPost "the session's post, or the post of a line to be written, of a block or of a pack file, is outside 1 to n";
-    4 BadCheckPoint "a check point is 0 or at least p";
+    4 BadCheckPoint "the number of check points a post is not 1 or 2, or a check point is 0 or at least p";
     5 BadLength "a list's length is not exactly the one stated";
     6 NoSuchRow "a row is above 95, or a triple's first row above 93";
     7 WrongMark "a row's mark, or a remembered row, is not what the call needs; a relation names a triple twice; \

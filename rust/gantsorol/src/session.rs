@@ -12,7 +12,7 @@ use crate::{erase, sys, Refusal, ROWS};
 ///
 /// ```
 /// # use gantsorol::{rows_len, Refusal, Session};
-/// # let (mut session, mut rows) = (Session::new(3, 1, 1, 2).accepted()?.0, [0; rows_len(3, 1)]);
+/// # let (mut session, mut rows) = (Session::new(3, 1, 1, &[2]).accepted()?.0, [0; rows_len(3, 1, 1)]);
 /// session.take().load_row(&mut rows, 0, &[1, 2, 5, 5, 17, 12, 18, 24]).keep(&mut session)?;
 /// let again = session.take().load_row(&mut rows, 0, &[0; 8]).keep(&mut session);
 /// assert_eq!(again, Err(Refusal::WrongMark));
@@ -28,8 +28,12 @@ pub struct Session {
     pub t: usize,
     /// The post's own number, from 1.
     pub post: usize,
-    /// The post's check point.
-    pub point: u32,
+    /// How many check points the post has, 1 or 2.
+    pub points: usize,
+    /// The post's first check point.
+    pub first: u32,
+    /// The second, where there are two; else 0 and not looked at.
+    pub second: u32,
     /// The mark of each row: 0 empty, 1 raw, 2 held; 3, 4, 5 and 7 belong to triples, 6 is
     /// spent.
     pub marks: [u8; ROWS],
@@ -43,13 +47,14 @@ pub struct Session {
     pub y_b: [u32; ROWS],
 }
 
-/// Without the check point, which is secret.
+/// Without the check points, which are secret.
 impl fmt::Debug for Session {
     fn fmt(&self, f: &mut fmt::Formatter) -> fmt::Result {
-        let Self { n, t, post, point: _, marks, factor_a, factor_b, y_a, y_b } = self;
+        let Self { n, t, post, points, first: _, second: _, .. } = self;
+        let Self { marks, factor_a, factor_b, y_a, y_b, .. } = self;
         let mut shown = f.debug_struct("Session");
-        shown.field("n", n).field("t", t).field("post", post).field("marks", marks);
-        shown.field("factor_a", factor_a).field("factor_b", factor_b);
+        shown.field("n", n).field("t", t).field("post", post).field("points", points);
+        shown.field("marks", marks).field("factor_a", factor_a).field("factor_b", factor_b);
         shown.field("y_a", y_a).field("y_b", y_b).finish_non_exhaustive()
     }
 }
@@ -61,7 +66,9 @@ impl Default for Session {
             n: 0,
             t: 0,
             post: 0,
-            point: 0,
+            points: 0,
+            first: 0,
+            second: 0,
             marks: [0; ROWS],
             factor_a: [0; ROWS],
             factor_b: [0; ROWS],
@@ -105,11 +112,15 @@ impl Answer {
 
 impl Session {
     /// A new session, all rows empty; a refused one has 0 in every field. Refusals 1 to 4.
+    ///
+    /// `check_points` are the post's own, one or two: its part of the works' list. Any other number of
+    /// them gets 4.
     #[allow(clippy::new_ret_no_self)]
     #[inline]
-    pub fn new(n: usize, t: usize, post: usize, point: u32) -> Answer {
+    pub fn new(n: usize, t: usize, post: usize, check_points: &[u32]) -> Answer {
+        let point = |place: usize| check_points.get(place).copied().unwrap_or(0);
         // SAFETY: the function takes any values.
-        unsafe { sys::gantsorol_new(n, t, post, point) }
+        unsafe { sys::gantsorol_new(n, t, post, check_points.len(), point(0), point(1)) }
     }
 
     /// The session, for the next call; its place has the default until [`Answer::keep`] fills it.
@@ -122,9 +133,9 @@ impl Session {
     /// Zeros over every field, once the session is no longer needed. Copies that calls had on the
     /// stack stay there until they are written over.
     pub fn erase(&mut self) {
-        let Self { n, t, post, point, marks, factor_a, factor_b, y_a, y_b } = self;
-        [n, t, post].into_iter().for_each(|field| erase(core::slice::from_mut(field)));
-        erase(core::slice::from_mut(point));
+        let Self { n, t, post, points, first, second, marks, factor_a, factor_b, y_a, y_b } = self;
+        [n, t, post, points].into_iter().for_each(|field| erase(core::slice::from_mut(field)));
+        [first, second].into_iter().for_each(|point| erase(core::slice::from_mut(point)));
         [marks, factor_a, factor_b].into_iter().for_each(|list| erase(list));
         [y_a, y_b].into_iter().for_each(|list| erase(list));
     }
@@ -171,7 +182,8 @@ impl Session {
         unsafe { sys::gantsorol_deal(self, rows.as_mut_ptr(), rows.len(), row, c) }
     }
 
-    /// Writes the t+1 coefficients of a held row into `out`. Refusals 1 to 8.
+    /// Writes the coefficients of a held row, [`message_len`](crate::message_len) numbers, into `out`.
+    /// Refusals 1 to 8.
     #[inline]
     pub fn opening_message(self, rows: &[u32], row: usize, out: &mut [u32]) -> Answer {
         // SAFETY: each list is a borrowed slice's pointer and length, and `out` overlaps no other.
@@ -187,8 +199,9 @@ impl Session {
         }
     }
 
-    /// Opens a held row with a record: for each post a mark, 0 absent or 1 present, and t+1
-    /// coefficients. The number opened is the answer's value. Refusals 1 to 9, 13.
+    /// Opens a held row with a record: for each post a mark, 0 absent or 1 present, and its message.
+    /// A message is accepted where it has the row's check value at each of the post's check points.
+    /// The number opened is the answer's value. Refusals 1 to 9, 13.
     #[inline]
     pub fn open(self, rows: &[u32], row: usize, record: &[u32]) -> Answer {
         // SAFETY: each list is a borrowed slice's pointer and length; neither is written.

@@ -3,7 +3,14 @@
 use crate::{Answer, Line, Number, Session, Term, Written};
 
 extern "C" {
-    pub fn gantsorol_new(n: usize, t: usize, post: usize, point: u32) -> Answer;
+    pub fn gantsorol_new(
+        n: usize,
+        t: usize,
+        post: usize,
+        points: usize,
+        first: u32,
+        second: u32,
+    ) -> Answer;
 
     pub fn gantsorol_load_row(
         session: Session,
@@ -113,6 +120,7 @@ extern "C" {
     pub fn gantsorol_record_put(
         n: usize,
         t: usize,
+        points: usize,
         record: *mut u32,
         record_len: usize,
         post: usize,
@@ -123,6 +131,7 @@ extern "C" {
     pub fn gantsorol_record_remove(
         n: usize,
         t: usize,
+        points: usize,
         record: *mut u32,
         record_len: usize,
         post: usize,
@@ -131,8 +140,9 @@ extern "C" {
     pub fn gantsorol_factory_row(
         n: usize,
         t: usize,
-        points: *const u32,
-        points_len: usize,
+        points: usize,
+        check_points: *const u32,
+        check_points_len: usize,
         draw: *const u32,
         draw_len: usize,
         out: *mut u32,
@@ -142,8 +152,9 @@ extern "C" {
     pub fn gantsorol_factory_triple(
         n: usize,
         t: usize,
-        points: *const u32,
-        points_len: usize,
+        points: usize,
+        check_points: *const u32,
+        check_points_len: usize,
         draw: *const u32,
         draw_len: usize,
         out: *mut u32,
@@ -156,8 +167,9 @@ extern "C" {
         n: usize,
         t: usize,
         post: usize,
-        points: *const u32,
-        points_len: usize,
+        points: usize,
+        check_points: *const u32,
+        check_points_len: usize,
         kinds: *const u8,
         kinds_len: usize,
         draws: *const u32,
@@ -178,6 +190,7 @@ extern "C" {
     pub fn gantsorol_write_opening(
         n: usize,
         t: usize,
+        points: usize,
         row: usize,
         post: usize,
         coefficients: *const u32,
@@ -189,6 +202,7 @@ extern "C" {
     pub fn gantsorol_write_masks(
         n: usize,
         t: usize,
+        points: usize,
         row: usize,
         post: usize,
         coefficients: *const u32,
@@ -200,6 +214,7 @@ extern "C" {
     pub fn gantsorol_read(
         n: usize,
         t: usize,
+        points: usize,
         line: *const u8,
         line_len: usize,
         out: *mut u32,

@@ -24,13 +24,15 @@ impl Number {
 
 /// Writes all posts' parts of a drawn row into `out`, post 1 first.
 ///
-/// `points` are the n check points, `draw` has [`row_draw_len`](crate::row_draw_len) numbers, `out`
-/// n rows. Refusals 1, 2, 4, 5 and 8.
+/// `points` is the number of check points a post has, 1 or 2, and `check_points` are those of all
+/// posts, both of a post following one another; `draw` has [`row_draw_len`](crate::row_draw_len)
+/// numbers, `out` n rows. Refusals 1, 2, 4, 5 and 8.
 #[inline]
 pub fn factory_row(
     n: usize,
     t: usize,
-    points: &[u32],
+    points: usize,
+    check_points: &[u32],
     draw: &[u32],
     out: &mut [u32],
 ) -> Result<(), Refusal> {
@@ -39,8 +41,9 @@ pub fn factory_row(
         sys::gantsorol_factory_row(
             n,
             t,
-            points.as_ptr(),
-            points.len(),
+            points,
+            check_points.as_ptr(),
+            check_points.len(),
             draw.as_ptr(),
             draw.len(),
             out.as_mut_ptr(),
@@ -51,13 +54,14 @@ pub fn factory_row(
 
 /// Writes all posts' parts of a drawn triple into `out`: of l, then of l', then of l''.
 ///
-/// `points` are the n check points, `draw` has [`triple_draw_len`](crate::triple_draw_len) numbers,
-/// `out` 3n rows. Refusals 1, 2, 4, 5 and 8.
+/// `points` and `check_points` are as in [`factory_row`], `draw` has
+/// [`triple_draw_len`](crate::triple_draw_len) numbers, `out` 3n rows. Refusals 1, 2, 4, 5 and 8.
 #[inline]
 pub fn factory_triple(
     n: usize,
     t: usize,
-    points: &[u32],
+    points: usize,
+    check_points: &[u32],
     draw: &[u32],
     out: &mut [u32],
 ) -> Result<(), Refusal> {
@@ -66,8 +70,9 @@ pub fn factory_triple(
         sys::gantsorol_factory_triple(
             n,
             t,
-            points.as_ptr(),
-            points.len(),
+            points,
+            check_points.as_ptr(),
+            check_points.len(),
             draw.as_ptr(),
             draw.len(),
             out.as_mut_ptr(),
@@ -83,10 +88,11 @@ pub fn dealer_number(u: u32, constant: u32) -> Number {
     unsafe { sys::gantsorol_dealer_number(u, constant) }
 }
 
-/// Writes a post's pack file at the start of `out`: its `S` line, then `R` and `T` lines by rising
-/// row; the rest stays as it is. The length is the file's.
+/// Writes a post's pack file at the start of `out`: its `S` line, or `W` line where a post has two
+/// check points, then `R` and `T` lines by rising row; the rest stays as it is. The length is the
+/// file's.
 ///
-/// `points` are the n check points. `kinds` has [`ROWS`](crate::ROWS) bytes: 0 for an empty row, 1
+/// `points` and `check_points` are as in [`factory_row`]. `kinds` has [`ROWS`](crate::ROWS) bytes: 0 for an empty row, 1
 /// for a raw one, 3 for a triple's first, whose other two rows have 0. `draws` has by rising row
 /// [`row_draw_len`](crate::row_draw_len) numbers for each 1 and
 /// [`triple_draw_len`](crate::triple_draw_len) for each 3, wherever it stands. Refusals 1 to 8
@@ -96,7 +102,8 @@ pub fn write_pack(
     n: usize,
     t: usize,
     post: usize,
-    points: &[u32],
+    points: usize,
+    check_points: &[u32],
     kinds: &[u8],
     draws: &[u32],
     out: &mut [u8],
@@ -107,8 +114,9 @@ pub fn write_pack(
             n,
             t,
             post,
-            points.as_ptr(),
-            points.len(),
+            points,
+            check_points.as_ptr(),
+            check_points.len(),
             kinds.as_ptr(),
             kinds.len(),
             draws.as_ptr(),

@@ -4,8 +4,8 @@
 
 #include "gantsorol.h"
 
-enum { N = 3, T = 1, ROW = GANTSOROL_ROW_LEN(N, T), BLOCK = GANTSOROL_BLOCK_LEN(T), ALL = GANTSOROL_ROWS_LEN(N, T) };
-enum { MASKS = GANTSOROL_MASKS_LEN(T), RECORD = GANTSOROL_RECORD_LEN(N, T) };
+enum { N = 3, T = 1, POINTS = 1, ROW = GANTSOROL_ROW_LEN(N, T, POINTS), BLOCK = GANTSOROL_BLOCK_LEN(T, POINTS) };
+enum { ALL = GANTSOROL_ROWS_LEN(N, T, POINTS), MASKS = GANTSOROL_MASKS_LEN(T, POINTS), RECORD = GANTSOROL_RECORD_LEN(N, T, POINTS) };
 
 #define FIELD(type, field) printf("%s.%s at %zu\n", #type, #field, offsetof(type, field))
 #define SIZE(type) printf("%s has %zu\n", #type, sizeof(type))
@@ -15,7 +15,9 @@ static void layout(void) {
     FIELD(gantsorol_session, n);
     FIELD(gantsorol_session, t);
     FIELD(gantsorol_session, post);
-    FIELD(gantsorol_session, point);
+    FIELD(gantsorol_session, points);
+    FIELD(gantsorol_session, first);
+    FIELD(gantsorol_session, second);
     FIELD(gantsorol_session, marks);
     FIELD(gantsorol_session, factor_a);
     FIELD(gantsorol_session, factor_b);
@@ -62,7 +64,7 @@ static uint32_t keep(int i, gantsorol_answer answer) {
 
 /* What a post sent, into its block of a record. */
 static void put(uint32_t *record, int i, const uint32_t *message) {
-    uint8_t refusal = gantsorol_record_put(N, T, record, RECORD, i + 1, message, T + 1);
+    uint8_t refusal = gantsorol_record_put(N, T, POINTS, record, RECORD, i + 1, message, T + 1);
     if (refusal != 0)
         printf("no block for post %d: %d\n", i + 1, refusal);
 }
@@ -128,7 +130,7 @@ static void multiply(void) {
 static void relate(void) {
     const uint32_t minus = GANTSOROL_MODULUS - 1;
     gantsorol_term terms[] = {{2, 0, 1, 90}, {minus, 95, GANTSOROL_NO_ROW, 0}, {3, 0, GANTSOROL_NO_ROW, 255}};
-    enum { TERMS = sizeof terms / sizeof *terms, RECORDS = GANTSOROL_RELATION_RECORDS_LEN(N, T, 1), MANY = 33 };
+    enum { TERMS = sizeof terms / sizeof *terms, RECORDS = GANTSOROL_RELATION_RECORDS_LEN(N, T, POINTS, 1), MANY = 33 };
     uint32_t masks[MASKS], records[RECORDS] = {0}, record[RECORD], message[T + 1];
     gantsorol_term many[MANY];
     for (int i = 0; i < N; i++) {
@@ -157,7 +159,7 @@ static void relate(void) {
     keep(0, gantsorol_relation_finish(posts[0], rows[0], ALL, terms, TERMS, 2, records, RECORDS));
     terms[2].coefficient = 3;
     for (int i = 1; i < N; i++)
-        gantsorol_record_remove(N, T, records + RECORD, RECORD, i + 1);
+        gantsorol_record_remove(N, T, POINTS, records + RECORD, RECORD, i + 1);
     keep(0, gantsorol_relation_finish(posts[0], rows[0], ALL, terms, TERMS, 2, records, RECORDS));
     put(records + RECORD, N - 1, masks + T + 1);
 
@@ -175,62 +177,94 @@ static void relate(void) {
 static void write_lines(void) {
     uint8_t text[GANTSOROL_LONGEST_LINE];
     const uint32_t two[] = {3, 1}, four[] = {1, 0, 2147483646, 4};
-    uint32_t out[GANTSOROL_LINE_LIST_LEN(T)];
+    uint32_t out[GANTSOROL_LINE_LIST_LEN(T, POINTS)];
     gantsorol_written written = gantsorol_write_deal(N, T, 0, 93, text, sizeof text);
     printf("%d %zu %.*s", written.refusal, written.len, (int)written.len, (const char *)text);
-    gantsorol_line line = gantsorol_read(N, T, text, written.len, out, 4);
+    gantsorol_line line = gantsorol_read(N, T, POINTS, text, written.len, out, 4);
     printf("%d %c %zu %zu\n", line.refusal, line.letter, line.row, line.post);
     print("numbers", out, 4);
-    written = gantsorol_write_opening(N, T, 95, 2, two, 2, text, sizeof text);
+    written = gantsorol_write_opening(N, T, POINTS, 95, 2, two, 2, text, sizeof text);
     printf("%d %zu %.*s", written.refusal, written.len, (int)written.len, (const char *)text);
-    line = gantsorol_read(N, T, text, written.len, out, 4);
+    line = gantsorol_read(N, T, POINTS, text, written.len, out, 4);
     printf("%d %c %zu %zu\n", line.refusal, line.letter, line.row, line.post);
     print("numbers", out, 4);
-    written = gantsorol_write_masks(N, T, 93, 3, four, 4, text, sizeof text);
+    written = gantsorol_write_masks(N, T, POINTS, 93, 3, four, 4, text, sizeof text);
     printf("%d %zu %.*s", written.refusal, written.len, (int)written.len, (const char *)text);
-    line = gantsorol_read(N, T, text, written.len, out, 4);
+    line = gantsorol_read(N, T, POINTS, text, written.len, out, 4);
     printf("%d %c %zu %zu\n", line.refusal, line.letter, line.row, line.post);
     print("numbers", out, 4);
-    line = gantsorol_read(N, T, (const uint8_t *)"D,0,093\n", 8, out, 4);
+    line = gantsorol_read(N, T, POINTS, (const uint8_t *)"D,0,093\n", 8, out, 4);
     printf("%d %d %zu %zu\n", line.refusal, line.letter, line.row, line.post);
 }
 
 /* A post's file, of a raw row and a triple, and a list one byte too short for it. */
-static void pack_file(const uint32_t *points, const uint32_t *row, const uint32_t *triple) {
-    enum { DRAW = GANTSOROL_ROW_DRAW_LEN(N, T), TRIPLE = GANTSOROL_TRIPLE_DRAW_LEN(N, T), DRAWS = DRAW + TRIPLE };
+static void pack_file(const uint32_t *check_points, const uint32_t *row, const uint32_t *triple) {
+    enum { DRAW = GANTSOROL_ROW_DRAW_LEN(N, T, POINTS), TRIPLE = GANTSOROL_TRIPLE_DRAW_LEN(N, T, POINTS) };
+    enum { DRAWS = DRAW + TRIPLE };
     const uint8_t kinds[GANTSOROL_ROWS] = {1, 0, 0, 3};
     uint32_t draws[DRAWS];
     memcpy(draws, row, DRAW * sizeof *row);
     memcpy(draws + DRAW, triple, TRIPLE * sizeof *triple);
     uint8_t file[256];
-    gantsorol_written written =
-        gantsorol_write_pack(N, T, 2, points, N, kinds, GANTSOROL_ROWS, draws, DRAWS, file, sizeof file);
+    gantsorol_written written = gantsorol_write_pack(N, T, 2, POINTS, check_points, POINTS * N, kinds, GANTSOROL_ROWS,
+                                                     draws, DRAWS, file, sizeof file);
     printf("file %d %zu\n%.*s", written.refusal, written.len, (int)written.len, (const char *)file);
-    written = gantsorol_write_pack(N, T, 2, points, N, kinds, GANTSOROL_ROWS, draws, DRAWS, file, written.len - 1);
+    written = gantsorol_write_pack(N, T, 2, POINTS, check_points, POINTS * N, kinds, GANTSOROL_ROWS, draws, DRAWS, file,
+                                   written.len - 1);
     printf("file %d %zu\n", written.refusal, written.len);
+}
+
+/* Two check points a post: f = 7 + 4z, v1 = 1 + 2z + z^2, v2 = 3 + z + 2z^2, v3 = 5 + 6z + 3z^2. Post 1 opens what it was
+   loaded with, with post 2's polynomial, with one that passes only at 2, and with one that passes at 2 and 4. */
+static void two_points(void) {
+    enum { TWO = 2, WIDE = GANTSOROL_ROW_LEN(N, T, TWO), DRAW = GANTSOROL_ROW_DRAW_LEN(N, T, TWO) };
+    enum { SENT = GANTSOROL_MESSAGE_LEN(T, TWO), HEARD = GANTSOROL_RECORD_LEN(N, T, TWO), ROWS = 96 * WIDE };
+    const uint32_t ws[TWO * N] = {2, 4, 3, 5, 5, 7}, draw[DRAW] = {7, 4, 1, 2, 1, 3, 1, 2, 5, 6, 3};
+    const uint32_t sent[3][SENT] = {{3, 1, 2}, {9, 2, 0}, {11, GANTSOROL_MODULUS - 5, 3}};
+    const uint8_t kinds[GANTSOROL_ROWS] = {1};
+    static uint32_t all[ROWS];
+    uint32_t packs[N * WIDE], record[HEARD] = {0};
+    uint8_t file[GANTSOROL_PACK_FILE_LEN(N, T, TWO, 1, 0)];
+    printf("row %d\n", gantsorol_factory_row(N, T, TWO, ws, TWO * N, draw, DRAW, packs, N * WIDE));
+    print("packs", packs, N * WIDE);
+    gantsorol_written written =
+        gantsorol_write_pack(N, T, 1, TWO, ws, TWO * N, kinds, GANTSOROL_ROWS, draw, DRAW, file, sizeof file);
+    printf("file %d %zu\n%.*s", written.refusal, written.len, (int)written.len, (const char *)file);
+    keep(0, gantsorol_new(N, T, 1, TWO, ws[0], ws[1]));
+    keep(0, gantsorol_load_row(posts[0], all, ROWS, 0, packs, WIDE));
+    keep(0, gantsorol_deal(posts[0], all, ROWS, 0, 93));
+    for (int i = 0; i < 3; i++) {
+        gantsorol_record_put(N, T, TWO, record, HEARD, 2, sent[i], SENT);
+        printf("post 1 opens %u\n", keep(0, gantsorol_open(posts[0], all, ROWS, 0, record, HEARD)));
+    }
+    /* Refused: no point, three, a second of 0 and of p. With one point the second is not looked at, and is 0 in the session. */
+    printf("new %d %d %d %d\n", gantsorol_new(N, T, 1, 0, 2, 4).refusal, gantsorol_new(N, T, 1, 3, 2, 4).refusal,
+           gantsorol_new(N, T, 1, TWO, 2, 0).refusal, gantsorol_new(N, T, 1, TWO, 2, GANTSOROL_MODULUS).refusal);
+    gantsorol_answer one = gantsorol_new(N, T, 1, 1, 2, GANTSOROL_MODULUS);
+    printf("one %d %zu %u %u\n", one.refusal, one.session.points, one.session.first, one.session.second);
 }
 
 int main(void) {
     layout();
 
-    const uint32_t points[N] = {2, 3, 5}, draw[GANTSOROL_ROW_DRAW_LEN(N, T)] = {7, 4, 1, 2, 3, 1, 5, 6};
-    uint32_t packs[N * ROW], triple[GANTSOROL_TRIPLE_DRAW_LEN(N, T)], triples[3 * N * ROW];
-    printf("row %d\n", gantsorol_factory_row(N, T, points, N, draw, 8, packs, N * ROW));
+    const uint32_t check_points[N] = {2, 3, 5}, draw[GANTSOROL_ROW_DRAW_LEN(N, T, POINTS)] = {7, 4, 1, 2, 3, 1, 5, 6};
+    uint32_t packs[N * ROW], triple[GANTSOROL_TRIPLE_DRAW_LEN(N, T, POINTS)], triples[3 * N * ROW];
+    printf("row %d\n", gantsorol_factory_row(N, T, POINTS, check_points, POINTS * N, draw, 8, packs, N * ROW));
     print("packs", packs, N * ROW);
     for (int i = 0; i < 23; i++)
         triple[i] = (uint32_t)i + 2;
-    printf("triple %d\n", gantsorol_factory_triple(N, T, points, N, triple, 23, triples, 3 * N * ROW));
+    printf("triple %d\n", gantsorol_factory_triple(N, T, 1, check_points, N, triple, 23, triples, 3 * N * ROW));
     print("triples", triples, 3 * N * ROW);
     gantsorol_number c = gantsorol_dealer_number(100, draw[0]), bad = gantsorol_dealer_number(GANTSOROL_MODULUS, 0);
     printf("c %d %u, %d %u\n", c.refusal, c.value, bad.refusal, bad.value);
-    pack_file(points, draw, triple);
+    pack_file(check_points, draw, triple);
 
     uint32_t record[RECORD], message[T + 1];
     for (int i = 0; i < N; i++) {
         uint32_t three[3 * ROW];
         for (int of = 0; of < 3; of++)
             memcpy(three + of * ROW, triples + (of * N + i) * ROW, ROW * sizeof *three);
-        keep(i, gantsorol_new(N, T, i + 1, points[i]));
+        keep(i, gantsorol_new(N, T, i + 1, POINTS, check_points[i], 0));
         keep(i, gantsorol_load_row(posts[i], rows[i], ALL, 0, packs + i * ROW, ROW));
         keep(i, gantsorol_load_triple(posts[i], rows[i], ALL, 93, three, 3 * ROW));
         keep(i, gantsorol_load_triple(posts[i], rows[i], ALL, 90, three, 3 * ROW));
@@ -249,16 +283,17 @@ int main(void) {
 
     /* Refused: t posts alone, empty lists, and a new session that has 0 in every field. */
     for (int i = 1; i < N; i++)
-        printf("removed %d\n", gantsorol_record_remove(N, T, record, RECORD, i + 1));
+        printf("removed %d\n", gantsorol_record_remove(N, T, POINTS, record, RECORD, i + 1));
     print("record", record, RECORD);
-    printf("no block: %d %d\n", gantsorol_record_put(N, T, record, RECORD, 2, NULL, 0),
-           gantsorol_record_remove(N, T, NULL, 0, 2));
+    printf("no block: %d %d\n", gantsorol_record_put(N, T, POINTS, record, RECORD, 2, NULL, 0),
+           gantsorol_record_remove(N, T, POINTS, NULL, 0, 2));
     keep(0, gantsorol_open(posts[0], rows[0], ALL, 1, record, RECORD));
     keep(0, gantsorol_open(posts[0], NULL, 0, 1, NULL, 0));
     keep(0, gantsorol_deal(posts[0], NULL, 0, 1, 0));
-    gantsorol_answer none = gantsorol_new(GANTSOROL_MAX_POSTS + 1, T, 1, 2);
+    gantsorol_answer none = gantsorol_new(GANTSOROL_MAX_POSTS + 1, T, 1, POINTS, 2, 0);
     gantsorol_session zero = {0};
     printf("none %d %u %d\n", none.refusal, none.value, memcmp(none.session.marks, zero.marks, sizeof zero.marks));
     write_lines();
+    two_points();
     return 0;
 }

@@ -9,7 +9,8 @@ use std::path::Path;
 
 use common::programs::{exports, repository};
 use gantsorol::{
-    DEAL_LINE_LEN, LONGEST_LINE, MAX_POSTS, MAX_TERMS, MODULUS, MOST_STACK, NO_ROW, ROWS,
+    DEAL_LINE_LEN, LONGEST_LINE, MAX_POINTS, MAX_POSTS, MAX_TERMS, MODULUS, MOST_STACK, NO_ROW,
+    ROWS,
 };
 
 /// A file's text without line comments, block comments, attributes and preprocessor lines.
@@ -43,8 +44,9 @@ fn squeezed(code: &str) -> String {
 /// A name with its type as the Rattle source has it.
 type Typed = (String, String);
 
-/// What the exports call otherwise than the header and the binding: there a record has one name in every call.
-const CALLED: [(&str, &str); 1] = [("blocks", "record")];
+/// What the exports call otherwise than the header and the binding: there a record has one name in every call, and so has a list of
+/// check points, beside their number.
+const CALLED: [(&str, &str); 2] = [("blocks", "record"), ("ws", "check_points")];
 
 fn called(name: &str) -> String {
     let found = CALLED.iter().find(|(exported, _)| *exported == name);
@@ -253,6 +255,7 @@ fn the_header_has_the_constants_of_the_binding() {
     let expected = [
         ("DEAL_LINE_LEN", DEAL_LINE_LEN),
         ("LONGEST_LINE", LONGEST_LINE),
+        ("MAX_POINTS", MAX_POINTS),
         ("MAX_POSTS", MAX_POSTS),
         ("MAX_TERMS", MAX_TERMS),
         ("MODULUS", MODULUS as usize),

@@ -11,39 +11,80 @@ use std::process::Command;
 use common::programs::{compiled, ended, repository, C, CPP};
 use gantsorol::*;
 
-const SIZES: [[usize; 2]; 8] =
-    [[2, 1], [3, 1], [9, 8], [10, 9], [32, 15], [99, 98], [100, 10], [255, 254]];
+/// n, t and the number of check points a post.
+const SIZES: [[usize; 3]; 11] = [
+    [2, 1, 1],
+    [2, 1, 2],
+    [3, 1, 1],
+    [3, 1, 2],
+    [9, 8, 2],
+    [10, 9, 1],
+    [32, 15, 2],
+    [99, 98, 1],
+    [100, 10, 2],
+    [255, 254, 1],
+    [255, 254, 2],
+];
 
 /// Counts of product terms, of raw rows and of triples.
 const COUNTS: [[usize; 2]; 4] = [[0, 0], [1, 0], [0, 1], [7, 5]];
 
-/// The binding's function beside each macro: its arguments by their names, and its value for n, t and two counts.
-type Length = (&'static str, &'static str, fn(usize, usize, usize, usize) -> usize);
+/// The binding's function beside each macro: its arguments by their names, and its value for a size and two counts.
+type Length = (&'static str, &'static str, fn([usize; 3], [usize; 2]) -> usize);
 
-const LENGTHS: [Length; 22] = [
-    ("ROW_LEN", "n, t", |n, t, _, _| row_len(n, t)),
-    ("ROWS_LEN", "n, t", |n, t, _, _| rows_len(n, t)),
-    ("MESSAGE_LEN", "t", |_, t, _, _| message_len(t)),
-    ("BLOCK_LEN", "t", |_, t, _, _| block_len(t)),
-    ("RECORD_LEN", "n, t", |n, t, _, _| record_len(n, t)),
-    ("MASKS_LEN", "t", |_, t, _, _| masks_len(t)),
-    ("RELATION_MASKS_LEN", "t, k", |_, t, k, _| relation_masks_len(t, k)),
-    ("RELATION_RECORDS_LEN", "n, t, k", |n, t, k, _| relation_records_len(n, t, k)),
-    ("LINE_LIST_LEN", "t", |_, t, _, _| line_list_len(t)),
-    ("ROW_DRAW_LEN", "n, t", |n, t, _, _| row_draw_len(n, t)),
-    ("TRIPLE_DRAW_LEN", "n, t", |n, t, _, _| triple_draw_len(n, t)),
-    ("DRAWS_LEN", "n, t, raw, triples", draws_len),
-    ("PACKS_LEN", "n, t", |n, t, _, _| packs_len(n, t)),
-    ("TRIPLE_PACK_LEN", "n, t", |n, t, _, _| triple_pack_len(n, t)),
-    ("TRIPLE_PACKS_LEN", "n, t", |n, t, _, _| triple_packs_len(n, t)),
-    ("DIGITS", "n", |n, _, _, _| digits(n)),
-    ("DEAL_LINE_LEN", "", |_, _, _, _| DEAL_LINE_LEN),
-    ("OPENING_LINE_LEN", "n, t", |n, t, _, _| opening_line_len(n, t)),
-    ("MASKS_LINE_LEN", "n, t", |n, t, _, _| masks_line_len(n, t)),
-    ("ROW_LINE_LEN", "n, t", |n, t, _, _| row_line_len(n, t)),
-    ("TRIPLE_LINE_LEN", "n, t", |n, t, _, _| triple_line_len(n, t)),
-    ("PACK_FILE_LEN", "n, t, raw, triples", pack_file_len),
+const LENGTHS: [Length; 24] = [
+    ("CHECK_POINTS_LEN", "n, points", |[n, _, points], _| check_points_len(n, points)),
+    ("ROW_LEN", "n, t, points", |[n, t, points], _| row_len(n, t, points)),
+    ("ROWS_LEN", "n, t, points", |[n, t, points], _| rows_len(n, t, points)),
+    ("MESSAGE_LEN", "t, points", |[_, t, points], _| message_len(t, points)),
+    ("BLOCK_LEN", "t, points", |[_, t, points], _| block_len(t, points)),
+    ("RECORD_LEN", "n, t, points", |[n, t, points], _| record_len(n, t, points)),
+    ("MASKS_LEN", "t, points", |[_, t, points], _| masks_len(t, points)),
+    ("RELATION_MASKS_LEN", "t, points, k", |[_, t, points], [k, _]| {
+        relation_masks_len(t, points, k)
+    }),
+    ("RELATION_RECORDS_LEN", "n, t, points, k", |[n, t, points], [k, _]| {
+        relation_records_len(n, t, points, k)
+    }),
+    ("LINE_LIST_LEN", "t, points", |[_, t, points], _| line_list_len(t, points)),
+    ("ROW_DRAW_LEN", "n, t, points", |[n, t, points], _| row_draw_len(n, t, points)),
+    ("TRIPLE_DRAW_LEN", "n, t, points", |[n, t, points], _| triple_draw_len(n, t, points)),
+    ("DRAWS_LEN", "n, t, points, raw, triples", |[n, t, points], [raw, triples]| {
+        draws_len(n, t, points, raw, triples)
+    }),
+    ("PACKS_LEN", "n, t, points", |[n, t, points], _| packs_len(n, t, points)),
+    ("TRIPLE_PACK_LEN", "n, t, points", |[n, t, points], _| triple_pack_len(n, t, points)),
+    ("TRIPLE_PACKS_LEN", "n, t, points", |[n, t, points], _| triple_packs_len(n, t, points)),
+    ("DIGITS", "n", |[n, _, _], _| digits(n)),
+    ("DEAL_LINE_LEN", "", |_, _| DEAL_LINE_LEN),
+    ("OPENING_LINE_LEN", "n, t, points", |[n, t, points], _| opening_line_len(n, t, points)),
+    ("MASKS_LINE_LEN", "n, t, points", |[n, t, points], _| masks_line_len(n, t, points)),
+    ("START_LINE_LEN", "n, t, points", |[n, t, points], _| start_line_len(n, t, points)),
+    ("ROW_LINE_LEN", "n, t, points", |[n, t, points], _| row_line_len(n, t, points)),
+    ("TRIPLE_LINE_LEN", "n, t, points", |[n, t, points], _| triple_line_len(n, t, points)),
+    ("PACK_FILE_LEN", "n, t, points, raw, triples", |[n, t, points], [raw, triples]| {
+        pack_file_len(n, t, points, raw, triples)
+    }),
 ];
+
+/// The lengths in figures: a row has t+1+2n numbers, or 2t+1+3n; a message t+1 or 2t+1; f t+1 either way.
+#[test]
+fn the_lengths_in_figures() {
+    let figures = |points: usize| {
+        let lists = [row_len(3, 1, points), message_len(1, points), masks_len(1, points)];
+        let more = [record_len(3, 1, points), row_draw_len(3, 1, points), rows_len(3, 1, points)];
+        [lists, more].concat()
+    };
+    assert_eq!(figures(1), [8, 2, 4, 9, 8, 768]);
+    assert_eq!(figures(2), [12, 3, 6, 12, 11, 1_152]);
+    let square = |points: usize| {
+        [row_len(255, 254, points), message_len(254, points), row_draw_len(255, 254, points)]
+    };
+    assert_eq!(square(1), [765, 255, 65_280]);
+    assert_eq!(square(2), [1_274, 509, 130_050]);
+    assert_eq!([1, 2].map(|points| masks_line_len(255, 254, points)), [5_619, 11_207]);
+    assert_eq!([1, 2].map(|points| triple_line_len(32, 31, points)), [3_173, 5_252]);
+}
 
 /// A macro with its arguments.
 fn used((name, arguments, _): &Length) -> String {
@@ -73,13 +114,13 @@ fn every_length_of_the_header_is_compared() {
 /// What each macro gives in C or C++, for each size and counts, in that order.
 fn in_c(program: &str, options: &[&str]) -> String {
     let mut code = String::from("#include <stdio.h>\n#include \"gantsorol.h\"\n");
-    code += "static void all(size_t n, size_t t, size_t raw, size_t triples) {\nsize_t k = raw;\n(void)n;\n";
+    code += "static void all(size_t n, size_t t, size_t points, size_t raw, size_t triples) {\nsize_t k = raw;\n(void)n;\n";
     for length in &LENGTHS {
         writeln!(code, "printf(\"%zu \", (size_t){});", used(length)).expect("text");
     }
     code += "puts(\"\");\n}\nint main(void) {\n";
-    for ([n, t], [raw, triples]) in cases() {
-        writeln!(code, "all({n}, {t}, {raw}, {triples});").expect("text");
+    for ([n, t, points], [raw, triples]) in cases() {
+        writeln!(code, "all({n}, {t}, {points}, {raw}, {triples});").expect("text");
     }
     code += "return 0;\n}\n";
     let source = Path::new(env!("CARGO_TARGET_TMPDIR")).join(format!("{program}.c"));
@@ -88,15 +129,14 @@ fn in_c(program: &str, options: &[&str]) -> String {
     String::from_utf8(printed).expect("numbers")
 }
 
-fn cases() -> impl Iterator<Item = ([usize; 2], [usize; 2])> {
+fn cases() -> impl Iterator<Item = ([usize; 3], [usize; 2])> {
     SIZES.into_iter().flat_map(|size| COUNTS.into_iter().map(move |counts| (size, counts)))
 }
 
 #[test]
 fn the_headers_lengths_are_the_bindings() {
-    let line = |([n, t], [raw, triples]): ([usize; 2], [usize; 2])| {
-        let numbers =
-            LENGTHS.iter().map(|(_, _, length)| format!("{} ", length(n, t, raw, triples)));
+    let line = |(size, counts): ([usize; 3], [usize; 2])| {
+        let numbers = LENGTHS.iter().map(|(_, _, length)| format!("{} ", length(size, counts)));
         numbers.chain(["\n".to_string()]).collect::<String>()
     };
     let expected: String = cases().map(line).collect();
@@ -117,43 +157,58 @@ fn number_of(done: Result<(), Refusal>) -> u8 {
     done.err().map_or(0, Refusal::number)
 }
 
-fn session(n: usize, t: usize) -> Session {
-    Session::new(n, t, 1, 5).accepted().expect("the session is right").0
+fn session([n, t, points]: [usize; 3]) -> Session {
+    Session::new(n, t, 1, &[5, 6][..points]).accepted().expect("the session is right").0
 }
 
 #[test]
 fn the_library_takes_these_lengths() {
-    for [n, t] in SIZES {
+    for size in SIZES {
+        let [n, t, points] = size;
         let list = |len: usize| vec![0; len];
-        let post = || session(n, t);
-        let points = vec![1; n];
-        check_exact(rows_len(n, t), |len| post().deal(&mut list(len), 0, 0).refusal);
-        let rows = list(rows_len(n, t));
+        let post = || session(size);
+        let rows = list(rows_len(n, t, points));
+        check_exact(rows.len(), |len| post().deal(&mut list(len), 0, 0).refusal);
         let pack = |len| post().load_row(&mut rows.clone(), 0, &list(len)).refusal;
-        check_exact(row_len(n, t), pack);
+        check_exact(row_len(n, t, points), pack);
         let pack = |len| post().load_triple(&mut rows.clone(), 0, &list(len)).refusal;
-        check_exact(triple_pack_len(n, t), pack);
-        check_exact(message_len(t), |len| post().opening_message(&rows, 0, &mut list(len)).refusal);
-        check_exact(record_len(n, t), |len| post().open(&rows, 0, &list(len)).refusal);
-        check_exact(masks_len(t), |len| post().masks(&rows, 0, 0, 0, &mut list(len)).refusal);
+        check_exact(triple_pack_len(n, t, points), pack);
+        let message = |len| post().opening_message(&rows, 0, &mut list(len)).refusal;
+        check_exact(message_len(t, points), message);
+        check_exact(record_len(n, t, points), |len| post().open(&rows, 0, &list(len)).refusal);
+        let masks = |len| post().masks(&rows, 0, 0, 0, &mut list(len)).refusal;
+        check_exact(masks_len(t, points), masks);
         let terms = [Term::product(1, 0, 0, 1), Term::plain(1, 0), Term::product(1, 0, 0, 4)];
         let masks = |len| post().relation_masks(&rows, &terms, &mut list(len)).refusal;
-        check_exact(relation_masks_len(t, 2), masks);
+        check_exact(relation_masks_len(t, points, 2), masks);
         let records =
             |len| post().relation_finish(&mut rows.clone(), &terms, 7, &list(len)).refusal;
-        check_exact(relation_records_len(n, t, 2), records);
-        check_exact(line_list_len(t), |len| read(n, t, b"", &mut list(len)).refusal);
-        let (draw, packs) = (list(row_draw_len(n, t)), list(packs_len(n, t)));
-        let row =
-            |draw: &[u32], out: usize| number_of(factory_row(n, t, &points, draw, &mut list(out)));
-        check_exact(draw.len(), |len| row(&list(len), packs.len()));
-        check_exact(packs.len(), |len| row(&draw, len));
-        let (draw, packs) = (list(triple_draw_len(n, t)), list(triple_packs_len(n, t)));
-        let triple = |draw: &[u32], out: usize| {
-            number_of(factory_triple(n, t, &points, draw, &mut list(out)))
+        check_exact(relation_records_len(n, t, points, 2), records);
+        let line = |len| read(n, t, points, b"", &mut list(len)).refusal;
+        check_exact(line_list_len(t, points), line);
+    }
+}
+
+#[test]
+fn the_factory_takes_these_lengths() {
+    for [n, t, points] in SIZES {
+        let list = |len: usize| vec![0; len];
+        let own = vec![1; check_points_len(n, points)];
+        let (draw, packs) = (list(row_draw_len(n, t, points)), list(packs_len(n, t, points)));
+        let row = |own: &[u32], draw: &[u32], out: usize| {
+            number_of(factory_row(n, t, points, own, draw, &mut list(out)))
         };
-        check_exact(draw.len(), |len| triple(&list(len), packs.len()));
-        check_exact(packs.len(), |len| triple(&draw, len));
+        check_exact(own.len(), |len| row(&vec![1; len], &draw, packs.len()));
+        check_exact(draw.len(), |len| row(&own, &list(len), packs.len()));
+        check_exact(packs.len(), |len| row(&own, &draw, len));
+        let (draw, packs) =
+            (list(triple_draw_len(n, t, points)), list(triple_packs_len(n, t, points)));
+        let triple = |own: &[u32], draw: &[u32], out: usize| {
+            number_of(factory_triple(n, t, points, own, draw, &mut list(out)))
+        };
+        check_exact(own.len(), |len| triple(&vec![1; len], &draw, packs.len()));
+        check_exact(draw.len(), |len| triple(&own, &list(len), packs.len()));
+        check_exact(packs.len(), |len| triple(&own, &draw, len));
     }
 }
 
@@ -165,25 +220,22 @@ fn the_longest_lines_have_these_lengths() {
         assert_eq!(write(&mut vec![0; length]).accepted(), Ok(length));
         assert_eq!(write(&mut vec![0; length - 1]).accepted(), Err(Refusal::NoRoom));
     };
-    for [n, t] in SIZES {
+    for [n, t, points] in SIZES {
         let list = |len: usize| vec![most; len];
         check(DEAL_LINE_LEN, &|out| write_deal(n, t, ROWS - 1, most, out));
-        let opening = |out: &mut [u8]| write_opening(n, t, ROWS - 1, n, &list(message_len(t)), out);
-        check(opening_line_len(n, t), &opening);
-        check(masks_line_len(n, t), &|out| {
-            write_masks(n, t, ROWS - 3, n, &list(masks_len(t)), out)
-        });
-        assert!(
-            masks_line_len(n, t) <= LONGEST_LINE && opening_line_len(n, t) < masks_line_len(n, t)
-        );
+        let (message, masks) = (list(message_len(t, points)), list(masks_len(t, points)));
+        let [opening, both] = [opening_line_len(n, t, points), masks_line_len(n, t, points)];
+        check(opening, &|out| write_opening(n, t, points, ROWS - 1, n, &message, out));
+        check(both, &|out| write_masks(n, t, points, ROWS - 3, n, &masks, out));
+        assert!(opening < both && both <= LONGEST_LINE);
     }
-    assert_eq!(masks_line_len(MAX_POSTS, MAX_POSTS - 1), LONGEST_LINE);
+    assert_eq!(masks_line_len(MAX_POSTS, MAX_POSTS - 1, MAX_POINTS), LONGEST_LINE);
 }
 
 /// A file's text with the longest numbers in the places of elements.
 fn longest(file: &str) -> String {
     let line = |line: &str| {
-        let heads = if line.starts_with('S') { 4 } else { 2 };
+        let heads = if line.starts_with(['S', 'W']) { 4 } else { 2 };
         let element = |(at, field): (usize, &str)| {
             if at < heads {
                 field.to_string()
@@ -200,25 +252,26 @@ fn longest(file: &str) -> String {
 /// row's line may have one byte less. And each draw is where it is said to be.
 #[test]
 fn the_longest_pack_file_has_this_length() {
-    for [n, t] in SIZES {
+    for [n, t, points] in SIZES {
         let mut kinds = [KIND_EMPTY; ROWS];
         for (row, kind) in [(10, KIND_TRIPLE), (13, KIND_RAW), (20, KIND_RAW), (93, KIND_TRIPLE)] {
             kinds[row] = kind;
         }
-        let all = draw_place(n, t, &kinds, ROWS);
-        assert_eq!(all, draws_len(n, t, 2, 2));
-        assert_eq!(draw_place(n, t, &kinds, 20), triple_draw_len(n, t) + row_draw_len(n, t));
-        let mut draws = vec![0; all];
+        let place = |row| draw_place(n, t, points, &kinds, row);
+        assert_eq!(place(ROWS), draws_len(n, t, points, 2, 2));
+        assert_eq!(place(20), triple_draw_len(n, t, points) + row_draw_len(n, t, points));
+        let mut draws = vec![0; place(ROWS)];
         // f of row 20 is 1, and so is every sum of its row, where v1 to vn are 0.
-        draws[draw_place(n, t, &kinds, 20)] = 1;
-        let mut out = vec![0; pack_file_len(n, t, 2, 2)];
-        let written = write_pack(n, t, n, &vec![1; n], &kinds, &draws, &mut out);
+        draws[place(20)] = 1;
+        let own = vec![1; check_points_len(n, points)];
+        let mut out = vec![0; pack_file_len(n, t, points, 2, 2)];
+        let written = write_pack(n, t, n, points, &own, &kinds, &draws, &mut out);
         let length = written.accepted().expect("it fits");
         let file = std::str::from_utf8(&out[..length]).expect("text");
         assert_eq!(longest(file).len(), out.len());
         let lines: BTreeMap<&str, &str> = file.lines().map(|line| line.split_at(5)).collect();
-        let row = format!("{}{}", "0,".repeat(t + 1 + n), vec!["1"; n].join(","));
-        assert_eq!(lines["R,20,"], row);
+        let zeros = "0,".repeat(row_len(n, t, points) - n);
+        assert_eq!(lines["R,20,"], format!("{zeros}{}", vec!["1"; n].join(",")));
     }
 }
 
@@ -232,13 +285,13 @@ fn the_header_finds_each_draw() {
     let list = kinds.map(|kind| kind.to_string()).join(", ");
     let code = format!(
         "#include <stdio.h>\n#include \"gantsorol.h\"\nint main(void) {{\nconst uint8_t kinds[] = {{{list}}};\n\
-         for (size_t row = 0; row <= GANTSOROL_ROWS; row++) printf(\"%zu\\n\", gantsorol_draw_place(32, 15, kinds, row));\n\
+         for (size_t row = 0; row <= GANTSOROL_ROWS; row++) printf(\"%zu\\n\", gantsorol_draw_place(32, 15, 2, kinds, row));\n\
          return 0;\n}}\n"
     );
     let source = Path::new(env!("CARGO_TARGET_TMPDIR")).join("draw_places.c");
     fs::write(&source, code).expect("a file can be written");
     let printed = ended(&mut Command::new(compiled("draw_places", &source, &C))).stdout;
     let expected: String =
-        (0..=ROWS).map(|row| format!("{}\n", draw_place(32, 15, &kinds, row))).collect();
+        (0..=ROWS).map(|row| format!("{}\n", draw_place(32, 15, 2, &kinds, row))).collect();
     assert_eq!(String::from_utf8(printed).expect("numbers"), expected);
 }

@@ -7,7 +7,7 @@ use std::path::Path;
 use std::process::Command;
 
 use common::programs::{compiled, ended, repository, C, CPP};
-use gantsorol::{draw_place, write_pack, Refusal, MAX_POSTS, MAX_TERMS, ROWS};
+use gantsorol::{draw_place, write_pack, Refusal, MAX_POINTS, MAX_POSTS, MAX_TERMS, ROWS};
 
 /// The names of the header's enum, by number, without their prefix.
 fn names() -> Vec<String> {
@@ -85,6 +85,7 @@ fn the_words_have_the_librarys_bounds() {
         );
     };
     say(Refusal::BadPostCount, MAX_POSTS);
+    say(Refusal::BadCheckPoint, MAX_POINTS);
     say(Refusal::NoSuchRow, ROWS - 1);
     say(Refusal::NoSuchRow, ROWS - 3);
     say(Refusal::BadTermCount, MAX_TERMS);
@@ -96,8 +97,8 @@ fn a_refused_pack_file_is_told_what_is_wrong() {
     let refused = |kinds: &[(usize, u8)], room: usize| {
         let mut set = [0; ROWS];
         kinds.iter().for_each(|&(row, kind)| set[row] = kind);
-        let draws = vec![0; draw_place(3, 1, &set, ROWS)];
-        let written = write_pack(3, 1, 1, &[2, 3, 5], &set, &draws, &mut vec![0; room]);
+        let draws = vec![0; draw_place(3, 1, 1, &set, ROWS)];
+        let written = write_pack(3, 1, 1, 1, &[2, 3, 5], &set, &draws, &mut vec![0; room]);
         written.accepted().expect_err("it is refused").to_string()
     };
     assert!(refused(&[(0, 2)], 999).contains("a kind of a pack file is unknown"));

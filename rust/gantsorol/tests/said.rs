@@ -11,7 +11,8 @@ use gantsorol::*;
 
 const N: usize = 5;
 const T: usize = 1;
-const POINTS: [u32; N] = [2, 3, 5, 7, 11];
+const POINTS: usize = 1;
+const CHECK_POINTS: [u32; N] = [2, 3, 5, 7, 11];
 const SECRET: u32 = 100;
 
 /// A session and its rows.
@@ -28,22 +29,31 @@ fn draw(len: usize, from: u32) -> Vec<u32> {
 impl Post {
     /// Post `post` of five with rows that hold anything: rows 0 and 1 dealt, a triple from row 2 on.
     fn new(post: usize) -> Self {
-        let (session, _) =
-            Session::new(N, T, post, POINTS[post - 1]).accepted().expect("a session");
-        let mut this = Self { session, rows: vec![u32::MAX; rows_len(N, T)] };
+        let (session, _) = Session::new(N, T, post, &CHECK_POINTS[post - 1..][..POINTS])
+            .accepted()
+            .expect("a session");
+        let mut this = Self { session, rows: vec![u32::MAX; rows_len(N, T, POINTS)] };
         for row in [0, 1] {
-            let drawn = draw(row_draw_len(N, T), 3 + row as u32);
-            let mut packs = vec![0; packs_len(N, T)];
-            factory_row(N, T, &POINTS, &drawn, &mut packs).expect("a row");
+            let drawn = draw(row_draw_len(N, T, POINTS), 3 + row as u32);
+            let mut packs = vec![0; packs_len(N, T, POINTS)];
+            factory_row(N, T, POINTS, &CHECK_POINTS, &drawn, &mut packs).expect("a row");
             let c = dealer_number(SECRET, drawn[0]).accepted().expect("a number");
-            let pack: Vec<u32> = packs[(post - 1) * row_len(N, T)..][..row_len(N, T)].to_vec();
+            let pack: Vec<u32> =
+                packs[(post - 1) * row_len(N, T, POINTS)..][..row_len(N, T, POINTS)].to_vec();
             this.done(|session, rows| session.load_row(rows, row, &pack));
             this.done(|session, rows| session.deal(rows, row, c));
         }
-        let mut packs = vec![0; triple_packs_len(N, T)];
-        factory_triple(N, T, &POINTS, &draw(triple_draw_len(N, T), 9), &mut packs)
-            .expect("a triple");
-        let parts = packs.chunks(row_len(N, T)).skip(post - 1).step_by(N);
+        let mut packs = vec![0; triple_packs_len(N, T, POINTS)];
+        factory_triple(
+            N,
+            T,
+            POINTS,
+            &CHECK_POINTS,
+            &draw(triple_draw_len(N, T, POINTS), 9),
+            &mut packs,
+        )
+        .expect("a triple");
+        let parts = packs.chunks(row_len(N, T, POINTS)).skip(post - 1).step_by(N);
         let pack: Vec<u32> = parts.flatten().copied().collect();
         this.done(|session, rows| session.load_triple(rows, 2, &pack));
         this
@@ -68,7 +78,7 @@ impl Post {
         place: usize,
         call: impl Fn(Session, &mut Vec<u32>) -> Answer,
     ) -> u8 {
-        let at = row * row_len(N, T) + place;
+        let at = row * row_len(N, T, POINTS) + place;
         let number = std::mem::replace(&mut self.rows[at], MODULUS);
         let refusal = call(self.session.clone(), &mut self.rows).refusal;
         self.rows[at] = number;
@@ -82,8 +92,8 @@ fn message(post: usize) -> [u32; T + 1] {
     out
 }
 
-fn masks(post: usize) -> [u32; masks_len(T)] {
-    let mut out = [0; masks_len(T)];
+fn masks(post: usize) -> [u32; masks_len(T, POINTS)] {
+    let mut out = [0; masks_len(T, POINTS)];
     Post::new(post).done(|session, rows| session.masks(rows, 0, 1, 2, &mut out));
     out
 }
@@ -94,7 +104,7 @@ fn eight_looks_at_the_rows_that_a_call_reads() {
     let mut post = Post::new(1);
     let all = |post: &mut Post, row: usize, call: &dyn Fn(Session, &mut Vec<u32>) -> Answer| {
         let refusals: Vec<u8> =
-            (0..row_len(N, T)).map(|place| post.spoilt(row, place, call)).collect();
+            (0..row_len(N, T, POINTS)).map(|place| post.spoilt(row, place, call)).collect();
         assert!(refusals.iter().all(|refusal| *refusal == refusals[0]), "{refusals:?}");
         refusals[0]
     };
@@ -102,13 +112,14 @@ fn eight_looks_at_the_rows_that_a_call_reads() {
         |session: Session, rows: &mut Vec<u32>| session.opening_message(rows, 0, &mut [0; T + 1]);
     assert_eq!([0, 1].map(|row| all(&mut post, row, &send)), [8, 0]);
     let mask = |session: Session, rows: &mut Vec<u32>| {
-        session.masks(rows, 0, 1, 2, &mut [0; masks_len(T)])
+        session.masks(rows, 0, 1, 2, &mut [0; masks_len(T, POINTS)])
     };
     assert_eq!([0, 1, 2, 3, 4].map(|row| all(&mut post, row, &mask)), [8, 8, 8, 8, 0]);
     post.done(mask);
-    let (mut record_a, mut record_b) = ([0; record_len(N, T)], [0; record_len(N, T)]);
-    record_put(N, T, &mut record_a, 2, &masks(2)[..T + 1]).expect("a message");
-    record_put(N, T, &mut record_b, 2, &masks(2)[T + 1..]).expect("a message");
+    let (mut record_a, mut record_b) =
+        ([0; record_len(N, T, POINTS)], [0; record_len(N, T, POINTS)]);
+    record_put(N, T, POINTS, &mut record_a, 2, &masks(2)[..T + 1]).expect("a message");
+    record_put(N, T, POINTS, &mut record_b, 2, &masks(2)[T + 1..]).expect("a message");
     let collect =
         |session: Session, rows: &mut Vec<u32>| session.collect(rows, 2, &record_a, &record_b);
     assert_eq!([0, 1, 2, 3, 4].map(|row| all(&mut post, row, &collect)), [8, 8, 8, 8, 0]);
@@ -121,24 +132,24 @@ fn eight_looks_at_the_rows_that_a_call_reads() {
 
 #[test]
 fn a_bad_check_point_behind_the_last_gets_4() {
-    let (mut points, mut out) = (POINTS.to_vec(), vec![0; packs_len(N, T)]);
-    points.push(0);
-    let made = factory_row(N, T, &points, &draw(row_draw_len(N, T), 3), &mut out);
+    let (mut own, mut out) = (CHECK_POINTS.to_vec(), vec![0; packs_len(N, T, POINTS)]);
+    own.push(0);
+    let made = factory_row(N, T, POINTS, &own, &draw(row_draw_len(N, T, POINTS), 3), &mut out);
     assert_eq!(made, Err(Refusal::BadCheckPoint));
-    points[N] = 13;
-    let made = factory_row(N, T, &points, &draw(row_draw_len(N, T), 3), &mut out);
+    own[N] = 13;
+    let made = factory_row(N, T, POINTS, &own, &draw(row_draw_len(N, T, POINTS), 3), &mut out);
     assert_eq!(made, Err(Refusal::BadLength));
 }
 
 /// Post 1 opens row 0; post 3 lies so that it passes at post 1's check point.
 fn lied(posts: &[usize]) -> Vec<u32> {
-    let mut record = vec![0; record_len(N, T)];
+    let mut record = vec![0; record_len(N, T, POINTS)];
     for &post in posts {
         let mut sent = message(post);
         if post == 3 {
-            sent = [(sent[0] + MODULUS - POINTS[0]) % MODULUS, (sent[1] + 1) % MODULUS];
+            sent = [(sent[0] + MODULUS - CHECK_POINTS[0]) % MODULUS, (sent[1] + 1) % MODULUS];
         }
-        record_put(N, T, &mut record, post, &sent).expect("a message");
+        record_put(N, T, POINTS, &mut record, post, &sent).expect("a message");
     }
     record
 }
@@ -147,7 +158,7 @@ fn lied(posts: &[usize]) -> Vec<u32> {
 fn without_one(posts: &[usize]) -> Vec<Result<u32, Refusal>> {
     let one = |&post: &usize| {
         let mut record = lied(posts);
-        record_remove(N, T, &mut record, post).expect("a post");
+        record_remove(N, T, POINTS, &mut record, post).expect("a post");
         Post::new(1).call(|session, rows| session.open(rows, 0, &record))
     };
     posts.iter().map(one).collect()
@@ -172,12 +183,12 @@ fn on_13_the_liar_is_found_among_t_and_3_and_not_among_fewer() {
 /// A 9 changes nothing: the call is made again with one message more, in which a later put has written over the first.
 #[test]
 fn after_9_the_call_is_made_again() {
-    let (mut post, mut record) = (Post::new(1), vec![0; record_len(N, T)]);
+    let (mut post, mut record) = (Post::new(1), vec![0; record_len(N, T, POINTS)]);
     let open =
         |post: &mut Post, record: &[u32]| post.call(|session, rows| session.open(rows, 0, record));
-    record_put(N, T, &mut record, 4, &[1, 2]).expect("a message");
+    record_put(N, T, POINTS, &mut record, 4, &[1, 2]).expect("a message");
     assert_eq!(open(&mut post, &record), Err(Refusal::TooFewAccepted));
-    record_put(N, T, &mut record, 4, &message(4)).expect("a message");
+    record_put(N, T, POINTS, &mut record, 4, &message(4)).expect("a message");
     assert_eq!(open(&mut post, &record), Ok(SECRET));
 }
 
@@ -187,7 +198,7 @@ fn an_old_session_would_use_a_triple_twice() {
     let mut post = Post::new(1);
     let old = post.session.clone();
     let mask = |session: Session, rows: &mut Vec<u32>| {
-        session.masks(rows, 0, 1, 2, &mut [0; masks_len(T)])
+        session.masks(rows, 0, 1, 2, &mut [0; masks_len(T, POINTS)])
     };
     post.done(mask);
     assert_eq!(post.call(mask), Err(Refusal::WrongMark));
@@ -199,7 +210,7 @@ fn an_old_session_would_use_a_triple_twice() {
 fn erasing_leaves_zeros_in_c() {
     let source = Path::new(env!("CARGO_TARGET_TMPDIR")).join("erasing.c");
     let code = "#include \"gantsorol.h\"\nint main(void) {\n\
-                gantsorol_session session = gantsorol_new(3, 1, 1, 2).session;\n\
+                gantsorol_session session = gantsorol_new(3, 1, 1, 2, 3, 5).session;\n\
                 gantsorol_erase(&session, sizeof session);\n\
                 const uint8_t *byte = (const uint8_t *)&session;\nint left = 0;\n\
                 for (size_t i = 0; i < sizeof session; i++) left |= byte[i];\nreturn left;\n}\n";

@@ -11,15 +11,15 @@ use gantsorol::*;
 const SIZES: [[usize; 2]; 3] = [[3, 1], [32, 15], [255, 127]];
 
 /// What each line of the table says, in bytes.
-type Bytes = (&'static str, fn(usize, usize) -> usize);
+type Bytes = (&'static str, fn(usize, usize, usize) -> usize);
 
 const BYTES: [Bytes; 7] = [
-    ("session", |_, _| size_of::<Session>()),
-    ("answer", |_, _| size_of::<Answer>()),
-    ("rows", |n, t| 4 * rows_len(n, t)),
-    ("record", |n, t| 4 * record_len(n, t)),
-    ("draw of a row", |n, t| 4 * row_draw_len(n, t)),
-    ("draw of a triple", |n, t| 4 * triple_draw_len(n, t)),
+    ("session", |_, _, _| size_of::<Session>()),
+    ("answer", |_, _, _| size_of::<Answer>()),
+    ("rows", |n, t, points| 4 * rows_len(n, t, points)),
+    ("record", |n, t, points| 4 * record_len(n, t, points)),
+    ("draw of a row", |n, t, points| 4 * row_draw_len(n, t, points)),
+    ("draw of a triple", |n, t, points| 4 * triple_draw_len(n, t, points)),
     ("longest line", masks_line_len),
 ];
 
@@ -44,11 +44,18 @@ fn lines(path: &str) -> Vec<String> {
 fn the_tables_have_the_bytes_of_structs_and_lists() {
     for path in ["include/gantsorol.h", "docs/INTEGRATING.md"] {
         let lines = lines(path);
-        for (name, bytes) in BYTES {
-            let expected = format!("{name} {}", SIZES.map(|[n, t]| grouped(bytes(n, t))).join(" "));
-            assert!(lines.contains(&expected), "{path} does not have: {expected}");
-        }
         let head = SIZES.map(|[n, t]| format!("({n}, {t})")).join(" ");
-        assert!(lines.iter().any(|line| line.ends_with(&head)), "{path}: {head}");
+        for (points, title) in [(1, "one point"), (2, "two points")] {
+            // The table with this title: as many lines as there are names, and the line below a head.
+            let title = format!("{title} {head}");
+            let at = lines.iter().position(|line| *line == title);
+            let at = at.unwrap_or_else(|| panic!("{path} does not have: {title}"));
+            let table = &lines[at + 1..][..BYTES.len() + 1];
+            for (name, bytes) in BYTES {
+                let cells = SIZES.map(|[n, t]| grouped(bytes(n, t, points)));
+                let expected = format!("{name} {}", cells.join(" "));
+                assert!(table.contains(&expected), "{path} does not have: {expected}");
+            }
+        }
     }
 }

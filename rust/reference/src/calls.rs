@@ -6,7 +6,7 @@ use crate::row::{add_public, weighted_sum};
 use crate::session::{mark, Answer, Session};
 use crate::shape::{expect_length, expect_row, expect_triple};
 
-/// "A raw row goes to an empty row." `pack` has t+1+2n numbers.
+/// "A raw row goes to an empty row." `pack` has the numbers of a row.
 pub fn load_row<const P: u32>(s: Session, rows: &mut [u32], row: usize, pack: &[u32]) -> Answer {
     s.answer(try_load_row::<P>(s, rows, row, pack))
 }
@@ -27,7 +27,7 @@ pub(crate) fn try_load_row<const P: u32>(
     Ok((0, s.with_mark(row, mark::RAW)))
 }
 
-/// "A triple goes to three empty rows r, r+1, r+2." `pack` has 3(t+1+2n) numbers.
+/// "A triple goes to three empty rows r, r+1, r+2." `pack` has those of three rows.
 pub fn load_triple<const P: u32>(
     s: Session,
     rows: &mut [u32],

@@ -15,7 +15,7 @@ struct Draw<'a> {
 }
 
 impl<'a> Draw<'a> {
-    /// "t+1 coefficients of f, then t+1 for each of v1 to vn."
+    /// "t+1 coefficients of f, then t+1 for each of v1 to vn", or 2t+1.
     fn split(shape: Shape, numbers: &'a [u32]) -> Self {
         let (dealer, verification) = numbers.split_at(shape.dealer_coefficients());
         Self { dealer, verification }
@@ -25,16 +25,23 @@ impl<'a> Draw<'a> {
     fn write<const P: u32>(&self, shape: Shape, points: &[u32], out: &mut [u32]) {
         let sums = self.sums::<P>(shape);
         let parts = out.chunks_exact_mut(shape.row());
-        for ((part, &point), own) in parts.zip(points).zip(self.polynomials(shape)) {
-            part.copy_from_slice(&self.row::<P>(shape, own, point, &sums));
+        let points = points.chunks_exact(shape.points());
+        for ((part, points), own) in parts.zip(points).zip(self.polynomials(shape)) {
+            part.copy_from_slice(&self.row::<P>(shape, own, points, &sums));
         }
     }
 
     /// One post's row: its own polynomial, "the check values v1(wi) to vn(wi), its own included; the
     /// public sums m1 to mn".
-    fn row<const P: u32>(&self, shape: Shape, own: &[u32], point: u32, sums: &[u32]) -> Vec<u32> {
-        let check_values = |v| evaluate::<P>(v, point.into()).value();
-        let check_values: Vec<u32> = self.polynomials(shape).map(check_values).collect();
+    fn row<const P: u32>(
+        &self,
+        shape: Shape,
+        own: &[u32],
+        points: &[u32],
+        sums: &[u32],
+    ) -> Vec<u32> {
+        let at_points = |v| points.iter().map(move |&w| evaluate::<P>(v, w.into()).value());
+        let check_values: Vec<u32> = self.polynomials(shape).flat_map(at_points).collect();
         [own, &check_values, sums].concat()
     }
 
@@ -56,11 +63,11 @@ pub(crate) fn row_of_post<const P: u32>(
     shape: Shape,
     draw: &[u32],
     post: usize,
-    point: u32,
+    points: &[u32],
 ) -> Vec<u32> {
     let draw = Draw::split(shape, draw);
     let own = &draw.verification[(post - 1) * shape.coefficients()..][..shape.coefficients()];
-    draw.row::<P>(shape, own, point, &draw.sums::<P>(shape))
+    draw.row::<P>(shape, own, points, &draw.sums::<P>(shape))
 }
 
 /// Check 4 over every number of the list as it was lent; then 5 for it.
@@ -68,30 +75,31 @@ pub(crate) fn expect_points<const P: u32>(shape: Shape, points: &[u32]) -> Resul
     for &point in points {
         expect_check_point::<P>(point)?;
     }
-    expect_length(points, shape.posts())
+    expect_length(points, shape.all_points())
 }
 
 /// One row for all posts; the refusal, 0 for none.
 ///
-/// `points` are the n check points, `draw` has (t+1)(n+1) numbers, `out` n × (t+1+2n).
+/// `points` are the check points, k for each post; `draw` has t+1 numbers and n × (k t + 1), `out` n
+/// rows.
 pub fn factory_row<const P: u32>(
     n: usize,
     t: usize,
+    k: usize,
     points: &[u32],
     draw: &[u32],
     out: &mut [u32],
 ) -> u8 {
-    number_of(try_factory_row::<P>(n, t, points, draw, out))
+    number_of(try_factory_row::<P>((n, t, k), points, draw, out))
 }
 
 fn try_factory_row<const P: u32>(
-    n: usize,
-    t: usize,
+    (n, t, k): (usize, usize, usize),
     points: &[u32],
     draw: &[u32],
     out: &mut [u32],
 ) -> Result<(), Refusal> {
-    let shape = Shape::checked(n, t)?;
+    let shape = Shape::checked(n, t, k)?;
     expect_points::<P>(shape, points)?;
     expect_length(draw, shape.row_draw())?;
     expect_length(out, shape.row_packs())?;
@@ -102,26 +110,26 @@ fn try_factory_row<const P: u32>(
 
 /// One triple for all posts; the refusal, 0 for none.
 ///
-/// `draw` has 3(t+1)(n+1) − 1 numbers. "The lent list holds all posts' rows of l, then of l',
+/// `draw` has three draws less one number. "The lent list holds all posts' rows of l, then of l',
 /// then of l''."
 pub fn factory_triple<const P: u32>(
     n: usize,
     t: usize,
+    k: usize,
     points: &[u32],
     draw: &[u32],
     out: &mut [u32],
 ) -> u8 {
-    number_of(try_factory_triple::<P>(n, t, points, draw, out))
+    number_of(try_factory_triple::<P>((n, t, k), points, draw, out))
 }
 
 fn try_factory_triple<const P: u32>(
-    n: usize,
-    t: usize,
+    (n, t, k): (usize, usize, usize),
     points: &[u32],
     draw: &[u32],
     out: &mut [u32],
 ) -> Result<(), Refusal> {
-    let shape = Shape::checked(n, t)?;
+    let shape = Shape::checked(n, t, k)?;
     expect_points::<P>(shape, points)?;
     expect_length(draw, shape.triple_draw())?;
     expect_length(out, TRIPLE * shape.row_packs())?;

@@ -41,5 +41,5 @@ pub use product::{masks, multiply, open_masks};
 pub use refusal::Refusal;
 pub use relation::{relation_finish, relation_masks, Term, MAX_TERMS, NO_ROW};
 pub use session::{mark, new_session, Answer, Session};
-pub use shape::{Shape, MAX_POSTS, ROWS, TRIPLE};
+pub use shape::{Shape, MAX_POINTS, MAX_POSTS, ROWS, TRIPLE};
 pub use street::{street, Reply, Street, LONGEST_LINE, STREET_POSTS};

@@ -7,7 +7,7 @@ use crate::session::{mark, Answer, Session};
 use crate::shape::{expect_length, expect_row, Shape};
 
 /// What a post has heard for one opening: "n blocks, each a mark (0 absent, 1 present) and t+1
-/// coefficients".
+/// coefficients", or 2t+1.
 #[derive(Clone, Copy)]
 pub(crate) struct Record<'a> {
     shape: Shape,
@@ -104,7 +104,8 @@ fn polynomial_of<'a>(
     }
 }
 
-/// The share of post j, "accepted when its polynomial at wi equals the check value for j".
+/// The share of post j, "accepted when its polynomial at wi equals the check value for j"; with two
+/// points, "when both values match".
 fn accepted_share<const P: u32>(
     shape: Shape,
     session: &Session,
@@ -112,10 +113,14 @@ fn accepted_share<const P: u32>(
     post: usize,
     polynomial: &[u32],
 ) -> Option<Share<P>> {
-    let check: Element<P> = row[shape.check_values()][post - 1].into();
+    let k = shape.points();
+    let checks = &row[shape.check_values()][(post - 1) * k..][..k];
     let sum: Element<P> = row[shape.sums()][post - 1].into();
-    (evaluate(polynomial, session.point.into()) == check)
-        .then(|| (Element::new(post as u64), sum - polynomial[0].into()))
+    let matches = |(point, &check): (u32, &u32)| {
+        evaluate::<P>(polynomial, point.into()) == Element::from(check)
+    };
+    let accepted = session.points(shape).into_iter().zip(checks).all(matches);
+    accepted.then(|| (Element::new(post as u64), sum - polynomial[0].into()))
 }
 
 /// "Takes a held row and a record"; the answer's value is the number. "Session and rows don't

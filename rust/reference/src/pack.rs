@@ -16,32 +16,33 @@ mod kind {
     pub(super) const TRIPLE: u8 = mark::UNUSED;
 }
 
-/// "Write that post's file: its `S` line, then `R` and `T` lines by rising row."
+/// "Write that post's file: its `S` line, then `R` and `T` lines by rising row." With two check points
+/// it starts with a `W` line.
 ///
-/// `points` are the n check points, `kinds` the 96 kinds of rows. "The draws follow by rising row;
-/// their stated length counts each 1 and 3, rightly placed or not."
+/// `points` are the check points, k for each post, `kinds` the 96 kinds of rows. "The draws follow by
+/// rising row; their stated length counts each 1 and 3, rightly placed or not."
 pub fn write_pack<const P: u32>(
     n: usize,
     t: usize,
+    k: usize,
     post: usize,
     points: &[u32],
     kinds: &[u8],
     draws: &[u32],
     out: &mut [u8],
 ) -> Written {
-    try_write_pack::<P>((n, t), post, points, kinds, draws, out).into()
+    try_write_pack::<P>((n, t, k), post, points, kinds, draws, out).into()
 }
 
 fn try_write_pack<const P: u32>(
-    (n, t): (usize, usize),
+    (n, t, k): (usize, usize, usize),
     post: usize,
     points: &[u32],
     kinds: &[u8],
     draws: &[u32],
     out: &mut [u8],
 ) -> Result<usize, Refusal> {
-    let shape = Shape::checked(n, t)?;
-    shape.expect_post(post)?;
+    let shape = Shape::checked_at(n, t, post, k)?;
     expect_points::<P>(shape, points)?;
     expect_length(kinds, ROWS)?;
     expect_length(draws, kinds.iter().map(|&kind| draw_length(shape, kind)).sum())?;
@@ -49,9 +50,9 @@ fn try_write_pack<const P: u32>(
     expect_covered_empty(kinds)?;
     require(kinds.iter().all(|&kind| is_known(kind)), Refusal::Number)?;
     expect_elements::<P>(draws)?;
-    let point = points[post - 1];
-    let start = line('S', &[n, t, post], &[point]);
-    put(&(start + &row_lines::<P>(shape, post, point, kinds, draws)), out)
+    let points = shape.points_of(points, post);
+    let start = line(if k == 1 { 'S' } else { 'W' }, &[n, t, post], points);
+    put(&(start + &row_lines::<P>(shape, post, points, kinds, draws)), out)
 }
 
 fn is_known(kind: u8) -> bool {
@@ -84,11 +85,11 @@ fn expect_covered_empty(kinds: &[u8]) -> Result<(), Refusal> {
 fn row_lines<const P: u32>(
     shape: Shape,
     post: usize,
-    point: u32,
+    points: &[u32],
     kinds: &[u8],
     mut draws: &[u32],
 ) -> String {
-    let row_of = |draw: &[u32]| row_of_post::<P>(shape, draw, post, point);
+    let row_of = |draw: &[u32]| row_of_post::<P>(shape, draw, post, points);
     let mut lines = String::new();
     for (row, &kind) in kinds.iter().enumerate() {
         let (draw, rest) = draws.split_at(draw_length(shape, kind));

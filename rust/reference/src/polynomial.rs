@@ -36,7 +36,7 @@ pub fn interpolate<const P: u32>(points: &[(Element<P>, Element<P>)]) -> Vec<Ele
 }
 
 /// The polynomial times z − x.
-fn times_difference<const P: u32>(polynomial: &[Element<P>], x: Element<P>) -> Vec<Element<P>> {
+pub fn times_difference<const P: u32>(polynomial: &[Element<P>], x: Element<P>) -> Vec<Element<P>> {
     let times_z = [&[Element::ZERO], polynomial].concat();
     let times_x = polynomial.iter().map(|&coefficient| x * coefficient).chain([Element::ZERO]);
     times_z.into_iter().zip(times_x).map(|(up, down)| up - down).collect()

@@ -41,7 +41,7 @@ impl Product {
         (usize::from(s.left[self.first]), usize::from(s.right[self.first])) == (self.a, self.b)
     }
 
-    /// "The polynomials of a − l and of b − l'", into 2(t+1) numbers.
+    /// "The polynomials of a − l and of b − l'", into twice the numbers of a message.
     pub(crate) fn write_masks<const P: u32>(self, shape: Shape, rows: &[u32], out: &mut [u32]) {
         let parts = out.chunks_exact_mut(shape.coefficients());
         for (part, difference) in parts.zip(self.differences::<P>(shape, rows)) {
@@ -90,7 +90,7 @@ impl Product {
 }
 
 /// "For held a and b (perhaps the same) and an unused triple (marks 3, 4, 4): the polynomials of
-/// a − l and of b − l'", into a lent list of 2(t+1).
+/// a − l and of b − l'", into a lent list.
 pub fn masks<const P: u32>(
     s: Session,
     rows: &[u32],

@@ -11,7 +11,7 @@ pub enum Refusal {
     Threshold = 2,
     /// own post, or the post of a line to be written, outside 1..n
     Post = 3,
-    /// a check point is 0 or at least p
+    /// a check point is 0 or at least p; a number of points other than 1 or 2
     CheckPoint = 4,
     /// a length isn't exactly the one stated
     Length = 5,

@@ -85,7 +85,7 @@ fn expect_coefficients<const P: u32>(terms: &[Term]) -> Result<(), Refusal> {
     require(terms.iter().all(|term| term.coefficient < P), Refusal::Number)
 }
 
-/// "One call makes the masks of all product terms", into a lent list of 2(t+1) numbers for each.
+/// "One call makes the masks of all product terms", into a lent list, as a single product for each.
 /// "Masks and records follow one another by product term, those of a − l first."
 pub fn relation_masks<const P: u32>(
     s: Session,

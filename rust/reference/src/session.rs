@@ -35,8 +35,12 @@ pub struct Session {
     pub t: usize,
     /// This post's number, from 1.
     pub post: usize,
-    /// This post's check point.
+    /// The number of its check points, 1 or 2.
+    pub k: usize,
+    /// This post's first check point.
     pub point: u32,
+    /// Its second one; with one point 0, and not looked at.
+    pub second: u32,
     /// The mark of each row.
     pub marks: [u8; ROWS],
     /// At a triple's first row: the first factor row, "0 before the masks, kept after the finish".
@@ -55,7 +59,9 @@ impl Session {
         n: 0,
         t: 0,
         post: 0,
+        k: 0,
         point: 0,
+        second: 0,
         marks: [mark::EMPTY; ROWS],
         left: [0; ROWS],
         right: [0; ROWS],
@@ -65,10 +71,14 @@ impl Session {
 
     /// Checks 1 to 4.
     pub(crate) fn checked<const P: u32>(&self) -> Result<Shape, Refusal> {
-        let shape = Shape::checked(self.n, self.t)?;
-        shape.expect_post(self.post)?;
-        expect_check_point::<P>(self.point)?;
+        let shape = Shape::checked_at(self.n, self.t, self.post, self.k)?;
+        self.points(shape).into_iter().try_for_each(expect_check_point::<P>)?;
         Ok(shape)
+    }
+
+    /// The post's one or two check points.
+    pub(crate) fn points(&self, shape: Shape) -> Vec<u32> {
+        [self.point, self.second][..shape.points()].to_vec()
     }
 
     /// Check 7: row `row`, at most 95, has the mark `mark`.
@@ -120,7 +130,18 @@ pub(crate) fn expect_check_point<const P: u32>(point: u32) -> Result<(), Refusal
 }
 
 /// "A new session has 96 rows, all with mark 0. A refused new session has 0 in every field."
-pub fn new_session<const P: u32>(n: usize, t: usize, post: usize, point: u32) -> Answer {
-    let session = Session { n, t, post, point, ..Session::BLANK };
+///
+/// `k` is the number of check points; with one of them, `second` is not looked at, and is 0 in the
+/// session.
+pub fn new_session<const P: u32>(
+    n: usize,
+    t: usize,
+    post: usize,
+    k: usize,
+    point: u32,
+    second: u32,
+) -> Answer {
+    let second = if k == 1 { 0 } else { second };
+    let session = Session { n, t, post, k, point, second, ..Session::BLANK };
     Session::BLANK.answer(session.checked::<P>().map(|_| (0, session)))
 }

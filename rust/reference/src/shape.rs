@@ -1,4 +1,4 @@
-//! The numbers n and t, and every length that follows from them.
+//! The numbers n, t and k, and every length that follows from them.
 
 use std::ops::Range;
 
@@ -13,19 +13,31 @@ pub const ROWS: usize = 96;
 /// The rows of a triple: l, l' and l''.
 pub const TRIPLE: usize = 3;
 
-/// Checked numbers n and t: n is 2 to 255, t is 1 to n − 1.
+/// "Two check points a post, beside one."
+pub const MAX_POINTS: usize = 2;
+
+/// Checked numbers n, t and k: n is 2 to 255, t is 1 to n − 1, and k, "the number of points, 1 or 2",
+/// is how many check points each post has.
 #[derive(Clone, Copy, Debug, PartialEq, Eq)]
 pub struct Shape {
     n: usize,
     t: usize,
+    k: usize,
 }
 
 impl Shape {
-    /// Checks 1 and 2.
-    pub fn checked(n: usize, t: usize) -> Result<Self, Refusal> {
-        require((2..=MAX_POSTS).contains(&n), Refusal::Posts)?;
-        require((1..n).contains(&t), Refusal::Threshold)?;
-        Ok(Self { n, t })
+    /// Checks 1 and 2, and 4 for "a number of points other than 1 or 2".
+    pub fn checked(n: usize, t: usize, k: usize) -> Result<Self, Refusal> {
+        expect_posts(n, t)?;
+        require((1..=MAX_POINTS).contains(&k), Refusal::CheckPoint)?;
+        Ok(Self { n, t, k })
+    }
+
+    /// The same with check 3 in its place: a post is "numbered 1 to n".
+    pub fn checked_at(n: usize, t: usize, post: usize, k: usize) -> Result<Self, Refusal> {
+        expect_posts(n, t)?;
+        require((1..=n).contains(&post), Refusal::Post)?;
+        Self::checked(n, t, k)
     }
 
     /// n, the number of posts.
@@ -33,9 +45,24 @@ impl Shape {
         self.n
     }
 
-    /// Check 3: a post is "numbered 1 to n".
-    pub fn expect_post(self, post: usize) -> Result<(), Refusal> {
-        require((1..=self.n).contains(&post), Refusal::Post)
+    /// t, the posts that learn nothing.
+    pub const fn threshold(self) -> usize {
+        self.t
+    }
+
+    /// k, the number of check points of each post.
+    pub const fn points(self) -> usize {
+        self.k
+    }
+
+    /// All posts' check points: "both points of each post" follow one another.
+    pub const fn all_points(self) -> usize {
+        self.k * self.n
+    }
+
+    /// The check points of `post`, 1 to n, among all posts'.
+    pub fn points_of(self, points: &[u32], post: usize) -> &[u32] {
+        &points[(post - 1) * self.k..][..self.k]
     }
 
     /// t+1, the shares that an opening needs.
@@ -48,14 +75,15 @@ impl Shape {
         self.t + 1
     }
 
-    /// t+1, the coefficients of each of v1 to vn, and so of a message.
+    /// k t + 1, the coefficients of each of v1 to vn, and so of a message: "a group of t posts then
+    /// sees 2t points of a polynomial, so v1..vn have 2t+1 coefficients while f keeps t+1".
     pub const fn coefficients(self) -> usize {
-        self.t + 1
+        self.k * self.t + 1
     }
 
-    /// t+1+2n, the numbers of a row.
+    /// t+1+2n, or "2t+1+3n numbers": the numbers of a row.
     pub const fn row(self) -> usize {
-        self.coefficients() + 2 * self.n
+        self.coefficients() + self.k * self.n + self.n
     }
 
     /// Where in a row the coefficients of its own polynomial stand.
@@ -63,17 +91,18 @@ impl Shape {
         0..self.coefficients()
     }
 
-    /// Where in a row the check values v1(wi) to vn(wi) stand.
+    /// Where in a row the check values v1(wi) to vn(wi) stand: "both check values of each sender
+    /// follow one another".
     pub const fn check_values(self) -> Range<usize> {
-        self.coefficients()..self.coefficients() + self.n
+        self.coefficients()..self.coefficients() + self.k * self.n
     }
 
     /// Where in a row the public sums m1 to mn stand.
     pub const fn sums(self) -> Range<usize> {
-        self.coefficients() + self.n..self.row()
+        self.row() - self.n..self.row()
     }
 
-    /// 96 × (t+1+2n), the numbers of a session's rows.
+    /// 96 rows, the numbers of a session's rows.
     pub const fn all_rows(self) -> usize {
         ROWS * self.row()
     }
@@ -113,10 +142,16 @@ impl Shape {
         self.n * self.block()
     }
 
-    /// 2(t+1), the numbers of the masks, and of the list that a line read fills.
+    /// Twice a message, the numbers of the masks, and of the list that a line read fills.
     pub const fn masks(self) -> usize {
         2 * self.coefficients()
     }
+}
+
+/// Checks 1 and 2.
+pub(crate) fn expect_posts(n: usize, t: usize) -> Result<(), Refusal> {
+    require((2..=MAX_POSTS).contains(&n), Refusal::Posts)?;
+    require((1..n).contains(&t), Refusal::Threshold)
 }
 
 /// Check 5 for one lent list.

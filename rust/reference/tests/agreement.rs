@@ -4,7 +4,7 @@ mod common;
 
 use common::program::answers;
 use common::*;
-use reference::random::{check_points, street_shape, unnoticed, Call, Rng, SharedRow, State};
+use reference::random::{street_shape, unnoticed, Call, Rng, SharedRow, State};
 use reference::{MODULUS, REFERENCE};
 
 fn opened(state: &State, row: usize, record: Vec<u32>) -> (u8, u32) {
@@ -61,7 +61,7 @@ fn a_false_polynomial_with_a_true_share() {
     station.share(0, &SharedRow { f: vec![7, 4, 1], v }, 100);
     let mut messages = station.messages(0);
     for (place, expected) in [(1, (0, 100)), (0, (13, 0))] {
-        messages[3] = Some(unnoticed(&[4, 8, 3], place, 9, 2));
+        messages[3] = Some(unnoticed(&[4, 8, 3], place, 9, &[2]));
         let record = record(station.shape, &messages);
         assert_eq!(opened(&station.posts[0], 0, record), expected);
     }
@@ -74,7 +74,7 @@ fn all_posts_needed() {
     let v = (1..4).map(|i| vec![i, 2 * i, 3]).collect();
     station.share(0, &SharedRow { f: vec![7, 4, 1], v }, 100);
     let mut messages = station.messages(0);
-    messages[2] = Some(unnoticed(&[3, 6, 3], 0, 1, 2));
+    messages[2] = Some(unnoticed(&[3, 6, 3], 0, 1, &[2]));
     let (refusal, value) = opened(&station.posts[0], 0, record(station.shape, &messages));
     assert_eq!(refusal, 0);
     assert_ne!(value, 100);
@@ -86,7 +86,7 @@ fn finish_cases() -> (State, [[Vec<u32>; 4]; 2]) {
     let (station, masks) = furnished();
     let cases = masks.map(|messages| {
         let mut lie = messages.clone();
-        lie[2] = Some(unnoticed(lie[2].as_ref().unwrap(), 0, 1, HAND_POINTS[0]));
+        lie[2] = Some(unnoticed(lie[2].as_ref().unwrap(), 0, 1, &HAND_POINTS[..1]));
         let mut no_element = messages.clone();
         no_element[2] = Some(vec![0, MODULUS]);
         let short = vec![messages[0].clone(), None, None];
@@ -128,8 +128,9 @@ fn with_enough_true_shares_an_opening_is_exact_or_refused_with_13() {
     let mut met = [0; 2];
     for seed in 0..300 {
         let mut rng = Rng::new(seed);
-        let (n, t) = street_shape(&mut rng);
-        let mut station = Station::new(n, t, &check_points(&mut rng, n));
+        let shape = street_shape(&mut rng);
+        let (n, t) = (shape.posts(), shape.threshold());
+        let mut station = Station::random(&mut rng, shape);
         let shared = SharedRow::random(&mut rng, station.shape);
         let secret = rng.element();
         station.share(3, &shared, secret);
@@ -139,9 +140,11 @@ fn with_enough_true_shares_an_opening_is_exact_or_refused_with_13() {
         for post in (1..=n).filter(|&post| post != own) {
             if liars > 0 && rng.one_in(3) {
                 liars -= 1;
-                let (place, k) = (rng.below(t), rng.pick(&[0, 1, 7, MODULUS - 1]));
-                let point = station.points[own - 1];
-                messages[post - 1] = Some(unnoticed(&shared.v[post - 1], place, k, point));
+                let place = rng.below(shape.points() * (t - 1) + 1);
+                let multiple = rng.pick(&[0, 1, 7, MODULUS - 1]);
+                let points = shape.points_of(&station.points, own);
+                let forged = unnoticed(&shared.v[post - 1], place, multiple, points);
+                messages[post - 1] = Some(forged);
             }
         }
         let record = record(station.shape, &messages);

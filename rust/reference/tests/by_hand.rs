@@ -8,7 +8,7 @@ use reference::{Library, Shape, MODULUS, REFERENCE};
 
 fn hand_packs() -> Vec<u32> {
     let mut out = vec![0; 24];
-    assert_eq!(REFERENCE.factory_row(3, 1, &HAND_POINTS, &HAND_DRAW, &mut out), 0);
+    assert_eq!(REFERENCE.factory_row(3, 1, 1, &HAND_POINTS, &HAND_DRAW, &mut out), 0);
     out
 }
 
@@ -105,22 +105,22 @@ fn p10_and_its_neighbours_lines() {
     let mut out = [77; 4];
     let mut part = [0; 16];
     let line = b"D,0,93\n";
-    let read = REFERENCE.read(3, 1, line, &mut out);
+    let read = REFERENCE.read(3, 1, 1, line, &mut out);
     assert_eq!((read.refusal, read.letter, read.row, read.post), (0, b'D', 0, 0));
     assert_eq!(out, [93, 0, 0, 0]);
     let written = REFERENCE.write_deal(3, 1, read.row, out[0], &mut part);
     assert_eq!((written.refusal, written.length), (0, 7));
     assert_eq!(&part[..7], line);
-    assert_eq!(REFERENCE.read(3, 1, b"D,0,093\n", &mut out).refusal, 10);
-    assert_eq!(REFERENCE.read(3, 1, b"D,0,2147483646\n", &mut out).refusal, 0);
+    assert_eq!(REFERENCE.read(3, 1, 1, b"D,0,093\n", &mut out).refusal, 10);
+    assert_eq!(REFERENCE.read(3, 1, 1, b"D,0,2147483646\n", &mut out).refusal, 0);
     assert_eq!(out[0], MODULUS - 1);
-    assert_eq!(REFERENCE.read(3, 1, b"D,0,2147483647\n", &mut out).refusal, 11);
+    assert_eq!(REFERENCE.read(3, 1, 1, b"D,0,2147483647\n", &mut out).refusal, 11);
     assert_eq!(out[0], MODULUS - 1);
 }
 
 #[test]
 fn sizes_of_a_station() {
-    let refusal = |n, t| REFERENCE.new_session(n, t, 1, 1).refusal;
+    let refusal = |n, t| REFERENCE.new_session(n, t, 1, 1, 1, 0).refusal;
     assert_eq!((refusal(255, 5), refusal(256, 5)), (0, 1));
     assert_eq!((refusal(32, 5), refusal(33, 5)), (0, 0));
     assert_eq!((refusal(2, 1), refusal(1, 1)), (0, 1));
@@ -157,7 +157,7 @@ fn zeros_at_the_top_are_sent_too() {
     station.share(0, &shared, 5);
     assert_eq!(station.messages(0)[0], Some(vec![4, 0, 0]));
     let mut part = [b'x'; 16];
-    let written = REFERENCE.write_opening(3, 2, 0, 1, &[4, 0, 0], &mut part);
+    let written = REFERENCE.write_opening(3, 2, 1, 0, 1, &[4, 0, 0], &mut part);
     assert_eq!(written.length, 12);
     assert_eq!(&part, b"O,0,1,4,0,0\nxxxx");
 }
@@ -186,12 +186,12 @@ fn the_longest_broadcast_line() {
     for (n, length) in [(32, 712), (255, 5619)] {
         let (t, mut part) = (n - 1, vec![0; length + 1]);
         let numbers = vec![MODULUS - 1; 2 * n];
-        let written = REFERENCE.write_masks(n, t, 93, n, &numbers, &mut part);
+        let written = REFERENCE.write_masks(n, t, 1, 93, n, &numbers, &mut part);
         assert_eq!((written.refusal, written.length), (0, length));
         let mut out = vec![0; 2 * n];
-        assert_eq!(REFERENCE.read(n, t, &part[..length], &mut out).refusal, 0);
+        assert_eq!(REFERENCE.read(n, t, 1, &part[..length], &mut out).refusal, 0);
         assert_eq!(out, numbers);
-        let short = REFERENCE.write_masks(n, t, 93, n, &numbers, &mut part[..length - 1]);
+        let short = REFERENCE.write_masks(n, t, 1, 93, n, &numbers, &mut part[..length - 1]);
         assert_eq!((short.refusal, short.length), (12, 0));
     }
 }

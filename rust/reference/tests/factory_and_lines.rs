@@ -10,14 +10,14 @@ const UNTOUCHED: u32 = 0xDEAD_BEEF;
 #[track_caller]
 fn assert_factory(n: usize, t: usize, points: &[u32], draw: &[u32], out: usize, number: u8) {
     let mut list = vec![UNTOUCHED; out];
-    assert_eq!(REFERENCE.factory_row(n, t, points, draw, &mut list), number);
+    assert_eq!(REFERENCE.factory_row(n, t, 1, points, draw, &mut list), number);
     assert_eq!(list.iter().all(|&x| x == UNTOUCHED), number != 0);
 }
 
 #[track_caller]
 fn assert_triple(n: usize, t: usize, points: &[u32], draw: &[u32], out: usize, number: u8) {
     let mut list = vec![UNTOUCHED; out];
-    assert_eq!(REFERENCE.factory_triple(n, t, points, draw, &mut list), number);
+    assert_eq!(REFERENCE.factory_triple(n, t, 1, points, draw, &mut list), number);
     assert_eq!(list.iter().all(|&x| x == UNTOUCHED), number != 0);
 }
 
@@ -82,7 +82,7 @@ fn the_dealers_number_takes_elements_only() {
 #[track_caller]
 fn assert_unread(n: usize, t: usize, line: &[u8], out: usize, number: u8) {
     let mut list = vec![UNTOUCHED; out];
-    let read = REFERENCE.read(n, t, line, &mut list);
+    let read = REFERENCE.read(n, t, 1, line, &mut list);
     let shown = String::from_utf8_lossy(line);
     assert_eq!(read.refusal, number, "{shown:?}");
     assert_eq!((read.letter, read.row, read.post), (0, 0, 0), "{shown:?}");
@@ -92,7 +92,7 @@ fn assert_unread(n: usize, t: usize, line: &[u8], out: usize, number: u8) {
 #[track_caller]
 fn assert_read(line: &[u8], heading: (u8, usize, usize), numbers: [u32; 4]) {
     let mut list = [UNTOUCHED; 4];
-    let read = REFERENCE.read(3, 1, line, &mut list);
+    let read = REFERENCE.read(3, 1, 1, line, &mut list);
     assert_eq!(
         (read.refusal, read.letter, read.row, read.post),
         (0, heading.0, heading.1, heading.2)
@@ -206,7 +206,7 @@ fn writing_checks_1_2_3_5_6_8_12_in_this_order() {
     assert_unwritten(&|out| REFERENCE.write_deal(255, 1, 95, bad - 1, out), 15, 12);
 
     let opening = |n, t, row, post, numbers: &'static [u32]| {
-        move |out: &mut [u8]| REFERENCE.write_opening(n, t, row, post, numbers, out)
+        move |out: &mut [u8]| REFERENCE.write_opening(n, t, 1, row, post, numbers, out)
     };
     assert_unwritten(&opening(1, 1, 96, 0, &[MODULUS]), 0, 1);
     assert_unwritten(&opening(3, 3, 96, 0, &[MODULUS]), 0, 2);
@@ -219,7 +219,7 @@ fn writing_checks_1_2_3_5_6_8_12_in_this_order() {
     assert_unwritten(&opening(3, 1, 95, 3, &[0, 0]), 10, 12);
 
     let masks = |n, t, first, post, numbers: &'static [u32]| {
-        move |out: &mut [u8]| REFERENCE.write_masks(n, t, first, post, numbers, out)
+        move |out: &mut [u8]| REFERENCE.write_masks(n, t, 1, first, post, numbers, out)
     };
     assert_unwritten(&masks(0, 1, 96, 0, &[MODULUS]), 0, 1);
     assert_unwritten(&masks(3, 9, 96, 0, &[MODULUS]), 0, 2);
@@ -239,11 +239,11 @@ fn a_written_line_leaves_the_rest_of_its_part_untouched() {
     assert_eq!((written.refusal, written.length), (0, 16));
     assert_eq!(&part, b"D,95,2147483646\n##");
     let mut part = *b"####################";
-    let written = REFERENCE.write_masks(3, 1, 93, 3, &[0, 1, 2, 3], &mut part);
+    let written = REFERENCE.write_masks(3, 1, 1, 93, 3, &[0, 1, 2, 3], &mut part);
     assert_eq!((written.refusal, written.length), (0, 15));
     assert_eq!(&part, b"M,93,3,0,1,2,3\n#####");
     let mut exact = [0; 11];
-    let written = REFERENCE.write_opening(3, 1, 95, 3, &[0, 7], &mut exact);
+    let written = REFERENCE.write_opening(3, 1, 1, 95, 3, &[0, 7], &mut exact);
     assert_eq!((written.refusal, written.length), (0, 11));
     assert_eq!(&exact, b"O,95,3,0,7\n");
 }

@@ -14,7 +14,7 @@ fn furnished_post(post: usize) -> (State, Vec<Message>, [Vec<Message>; 2]) {
 }
 
 fn to_record(messages: &[Message]) -> Vec<u32> {
-    let shape = reference::Shape::checked(3, 1).unwrap();
+    let shape = reference::Shape::checked(3, 1, 1).unwrap();
     record(shape, messages)
 }
 

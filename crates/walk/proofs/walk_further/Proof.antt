@@ -4,18 +4,19 @@ use mathlib.Core.Logic.{⊎-elim}
 use borrow.Author.Needs.{needs}
 use Rattle.blocks.proofs.Blocks.{post-in}
 use Rattle.accepting.specs.Accepting.{accepts, share}
+use Rattle.walk.proofs.Walks.{accepted-so}
 use Rattle.walk.proofs.Behind.{Seeking, seeking-start, seeking-take, seeking-skip, party-sought}
 use Rattle.walk.proofs.walk_further.Statement.{statement}
 use Rattle.walk.proofs.walk_further.Tie as tie
 
 abbrev Inv-loop : tie.InvT-loop
-Inv-loop party row blocks weights last need posts₀ shares₀ n next count₀ j₀ posts shares count j =
+Inv-loop party row blocks marks last need posts₀ shares₀ n next count₀ j₀ posts shares count j =
     Seeking (accepts party row blocks) (share party row blocks) (party .shape .n) need last posts₀ shares₀ posts shares count j
 
 abbrev μ-loop : tie.MeasureT-loop
-μ-loop party row blocks weights last need posts₀ shares₀ n next count₀ j₀ posts shares count j = party .shape .n + 1 - j
+μ-loop party row blocks marks last need posts₀ shares₀ n next count₀ j₀ posts shares count j = party .shape .n + 1 - j
 
-ruleset steps = (needs, post-in, seeking-start)
+ruleset steps = (needs, post-in, seeking-start, accepted-so)
 
 loop-again : tie.Need-loop-again Inv-loop μ-loop
 loop-again c =

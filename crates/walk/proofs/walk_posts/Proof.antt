@@ -7,16 +7,16 @@ use borrow.Author.Needs.{needs}
 use Rattle.shape.specs.Lengths.{needed}
 use Rattle.blocks.proofs.Blocks.{post-in}
 use Rattle.accepting.specs.Accepting.{accepts, share}
-use Rattle.walk.proofs.Walks.{Walking, walking-start, party-take, party-skip, party-enough, party-few}
+use Rattle.walk.proofs.Walks.{Walking, accepted-so, walking-start, party-take, party-skip, party-enough, party-few}
 use Rattle.walk.proofs.walk_posts.Statement.{statement}
 use Rattle.walk.proofs.walk_posts.Tie as tie
 
 abbrev Inv-loop : tie.InvT-loop
-Inv-loop party row blocks weights posts₀ shares₀ n need count₀ j₀ posts shares count j =
+Inv-loop party row blocks marks posts₀ shares₀ n need count₀ j₀ posts shares count j =
     Walking (accepts party row blocks) (share party row blocks) (party .shape .n) (needed (party .shape)) (length posts₀) (length shares₀) posts shares count j
 
 abbrev μ-loop : tie.MeasureT-loop
-μ-loop party row blocks weights posts₀ shares₀ n need count₀ j₀ posts shares count j = party .shape .n + 1 - j
+μ-loop party row blocks marks posts₀ shares₀ n need count₀ j₀ posts shares count j = party .shape .n + 1 - j
 
 ruleset steps = (needs, post-in, walking-start)
 
@@ -37,6 +37,6 @@ pub walk-posts-spec : {M : Type 1} → statement M
 walk-posts-spec =
     tie.close
     (tie.spec Inv-loop μ-loop (λ c κs. search needs) (λ c. search steps) (λ c. search steps) (λ c κs. search steps)
-    (λ c κs. search steps) (λ c. search steps) (λ c. search steps) (λ c. search steps) (λ c. search steps) (λ c. search steps)
+    (λ c κs. (search steps, search needs, accepted-so _ _ _ _ _ (c .before .accepts .ensures) (c .if3 .taken))) (λ c. search steps) (λ c. search steps) (λ c. search steps) (λ c. search steps) (λ c. search steps)
     (λ c. search steps) (λ c. search steps) (λ c. search needs) loop-again (λ c. search needs) (λ c. search needs) returns
     (λ c. search needs) (λ c. search needs) returns-2)

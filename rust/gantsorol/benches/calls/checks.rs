@@ -1,8 +1,8 @@
 //! The fastest Rust answers as the second implementation does.
 
 use reference::random::{check_points, paperwork, script, unwritten, written, Call, Rng, State};
-use reference::random::{Paperwork, PaperworkOutcome};
-use reference::{Library, Session, REFERENCE};
+use reference::random::{Paperwork, PaperworkOutcome, WriteMessage};
+use reference::{Library, Session, Shape, REFERENCE};
 
 use crate::fastest;
 
@@ -40,13 +40,15 @@ fn openings() {
 /// And the fastest factory's row writes what the second implementation writes, at every kind of size.
 fn factory() {
     let mut rng = Rng::new(1);
-    for (n, t) in [(2, 1), (3, 1), (32, 31), (33, 1), (100, 50), (255, 254)] {
-        let points = check_points(&mut rng, n);
-        let draw = rng.elements(gantsorol::row_draw_len(n, t));
-        let [mut ours, mut second] = [(); 2].map(|()| vec![0; n * gantsorol::row_len(n, t)]);
-        assert_eq!(fastest::factory_row(n, t, &points, &draw, &mut ours), 0);
-        assert_eq!(REFERENCE.factory_row(n, t, &points, &draw, &mut second), 0);
-        assert_eq!(ours, second, "{n}, {t}");
+    let sizes = [(2, 1), (3, 1), (32, 31), (33, 1), (100, 50), (255, 254)];
+    for (n, t, k) in sizes.into_iter().flat_map(|(n, t)| [1, 2].map(|k| (n, t, k))) {
+        let shape = Shape::checked(n, t, k).expect("the shape is right");
+        let own = check_points(&mut rng, shape);
+        let draw = rng.elements(gantsorol::row_draw_len(n, t, k));
+        let [mut ours, mut second] = [(); 2].map(|()| vec![0; gantsorol::packs_len(n, t, k)]);
+        assert_eq!(fastest::factory_row(n, t, k, &own, &draw, &mut ours), 0);
+        assert_eq!(REFERENCE.factory_row(n, t, k, &own, &draw, &mut second), 0);
+        assert_eq!(ours, second, "{n}, {t}, {k}");
     }
 }
 
@@ -58,16 +60,16 @@ fn told(gantsorol::Written { refusal, len: length }: gantsorol::Written) -> refe
 /// What the fastest reader and writers make of a call, if it is theirs.
 fn performed(work: &Paperwork) -> Option<PaperworkOutcome> {
     match *work {
-        Paperwork::WriteOpening { n, t, row, post, ref numbers, out } => {
-            Some(written(out, |out| told(fastest::write_opening(n, t, row, post, numbers, out))))
+        Paperwork::WriteOpening(WriteMessage { n, t, k, row, post, ref numbers, out }) => {
+            Some(written(out, |out| told(fastest::write_opening(n, t, k, row, post, numbers, out))))
         }
-        Paperwork::WriteMasks { n, t, first, post, ref numbers, out } => {
-            Some(written(out, |out| told(fastest::write_masks(n, t, first, post, numbers, out))))
+        Paperwork::WriteMasks(WriteMessage { n, t, k, row, post, ref numbers, out }) => {
+            Some(written(out, |out| told(fastest::write_masks(n, t, k, row, post, numbers, out))))
         }
-        Paperwork::Read { n, t, ref line, out } => {
+        Paperwork::Read { n, t, k, ref line, out } => {
             let mut out = unwritten(out);
             let gantsorol::Line { refusal, letter, row, post } =
-                fastest::read(n, t, line, &mut out);
+                fastest::read(n, t, k, line, &mut out);
             let read = reference::ReadLine { refusal, letter, row, post };
             Some(PaperworkOutcome::Read { read, out })
         }
@@ -91,19 +93,22 @@ fn lines() {
 /// Lines of large stations, with numbers of each length, read and written back.
 fn long_lines() {
     let mut rng = Rng::new(2);
-    for (n, t) in [(32, 31), (33, 1), (255, 127), (255, 254)] {
-        let mut numbers = rng.elements(gantsorol::masks_len(t));
+    for (n, t, k) in
+        [(32, 31, 1), (32, 31, 2), (33, 1, 2), (255, 127, 1), (255, 254, 1), (255, 254, 2)]
+    {
+        let mut numbers = rng.elements(gantsorol::masks_len(t, k));
         for (number, place) in numbers.iter_mut().zip(0..) {
             *number >>= place % 31;
         }
         for length in [gantsorol::LONGEST_LINE, 4 * numbers.len()] {
-            let (first, post, out) = (93, n, length);
-            let work = Paperwork::WriteMasks { n, t, first, post, numbers: numbers.clone(), out };
+            let (row, post, out) = (93, n, length);
+            let message = WriteMessage { n, t, k, row, post, numbers: numbers.clone(), out };
+            let work = Paperwork::WriteMasks(message);
             let outcome = work.perform(&REFERENCE);
             assert_eq!(performed(&work).as_ref(), Some(&outcome), "{n}, {t}");
             let PaperworkOutcome::Written { written, mut out } = outcome else { continue };
             out.truncate(written.length);
-            let work = Paperwork::Read { n, t, line: out, out: numbers.len() };
+            let work = Paperwork::Read { n, t, k, line: out, out: numbers.len() };
             assert_eq!(performed(&work), Some(work.perform(&REFERENCE)), "{n}, {t}");
         }
     }

@@ -20,8 +20,8 @@ pub fn counted_once(run: &mut Run) {
 
 /// Makes each call once.
 pub fn once() {
-    for (n, t) in SIZES {
-        let inputs = Inputs::new(n, t);
+    for (n, t, points) in SIZES {
+        let inputs = Inputs::new(n, t, points);
         for mut contest in contests::all(&inputs) {
             contest.runs.iter_mut().for_each(counted_once);
         }
@@ -46,9 +46,9 @@ fn counts() -> Vec<u64> {
 /// Prints the instructions of each call, and ratios.
 pub fn print() {
     let mut counts = counts().into_iter();
-    for (n, t) in SIZES {
-        println!("n = {n}, t = {t}: instructions\n{:<18} {:>10} {:>10} {:>10}   ours/second ours/fastest", "call", "ours", "second", "fastest");
-        let inputs = Inputs::new(n, t);
+    for (n, t, points) in SIZES {
+        println!("n = {n}, t = {t}, points = {points}: instructions\n{:<18} {:>10} {:>10} {:>10}   ours/second ours/fastest", "call", "ours", "second", "fastest");
+        let inputs = Inputs::new(n, t, points);
         for contest in contests::all(&inputs) {
             let of: Vec<u64> = counts.by_ref().take(contest.runs.len()).collect();
             let ratio = |other: u64| of[0] as f64 / other as f64;

@@ -8,7 +8,9 @@ use reference::Shape;
 pub struct Inputs {
     pub n: usize,
     pub t: usize,
-    pub points: Vec<u32>,
+    /// How many check points a post has, and those of all posts.
+    pub points: usize,
+    pub check_points: Vec<u32>,
     pub ours: gantsorol::Session,
     pub second: reference::Session,
     pub rows: Vec<u32>,
@@ -27,17 +29,25 @@ pub struct Inputs {
 }
 
 impl Inputs {
-    pub fn new(n: usize, t: usize) -> Self {
-        let shape = Shape::checked(n, t).expect("n and t are in range");
+    pub fn new(n: usize, t: usize, points: usize) -> Self {
+        let shape = Shape::checked(n, t, points).expect("n, t and points are in range");
         let mut rng = Rng::new((n * 256 + t) as u64);
-        let points = check_points(&mut rng, n);
+        let check_points = check_points(&mut rng, shape);
         let [raw, a, b] = [(); 3].map(|()| SharedRow::random(&mut rng, shape));
         let triples = [(); 2].map(|()| SharedRow::random_triple(&mut rng, shape));
-        let pack = |shared: &SharedRow| shared.row_of(1, points[0]);
+        let own = &check_points[..points];
+        let pack = |shared: &SharedRow| shared.row_of(1, own);
         let shared = [&[raw.clone(), a.clone(), b.clone()], &triples.concat()[..]].concat();
         let mut rows: Vec<u32> = shared.iter().flat_map(pack).collect();
         rows.resize(shape.all_rows(), 0);
-        let mut second = reference::new_session::<{ reference::MODULUS }>(n, t, 1, points[0]);
+        let mut second = reference::new_session::<{ reference::MODULUS }>(
+            n,
+            t,
+            1,
+            points,
+            own[0],
+            own[points - 1],
+        );
         second.session.marks[..9].copy_from_slice(&[1, 2, 2, 3, 4, 4, 5, 4, 4]);
         (second.session.left[6], second.session.right[6]) = (1, 2);
         let [l, l2, _] = &triples[1];
@@ -61,6 +71,7 @@ impl Inputs {
             masked,
             numbers: rng.elements(shape.masks()),
             points,
+            check_points,
         }
     }
 }
@@ -73,12 +84,14 @@ fn record(shared: &SharedRow, present: impl Fn(usize) -> bool) -> Vec<u32> {
 
 /// The binding's session for the second implementation's.
 pub fn given(session: &reference::Session) -> gantsorol::Session {
-    let reference::Session { n, t, post, point, marks, left, right, y, y2 } = *session;
+    let reference::Session { n, t, post, k, point, second, marks, left, right, y, y2 } = *session;
     gantsorol::Session {
         n,
         t,
         post,
-        point,
+        points: k,
+        first: point,
+        second,
         marks,
         factor_a: left,
         factor_b: right,

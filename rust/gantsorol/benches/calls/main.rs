@@ -29,7 +29,18 @@ fn rounds(n: usize) -> usize {
     }
 }
 
-const SIZES: [(usize, usize); 5] = [(3, 1), (32, 15), (32, 31), (255, 127), (255, 254)];
+/// n, t and the number of check points a post.
+const SIZES: [(usize, usize, usize); 9] = [
+    (3, 1, 1),
+    (3, 1, 2),
+    (32, 15, 1),
+    (32, 15, 2),
+    (32, 31, 1),
+    (255, 127, 1),
+    (255, 127, 2),
+    (255, 254, 1),
+    (255, 254, 2),
+];
 
 fn main() {
     let asked = |word: &str| std::env::args().any(|argument| argument == word);
@@ -41,9 +52,9 @@ fn main() {
         return counting::print();
     }
     let mut rng = Rng::new(0);
-    for (n, t) in SIZES {
-        let inputs = Inputs::new(n, t);
-        println!("n = {n}, t = {t}: {} rounds", rounds(n));
+    for (n, t, points) in SIZES {
+        let inputs = Inputs::new(n, t, points);
+        println!("n = {n}, t = {t}, points = {points}: {} rounds", rounds(n));
         println!(
             "{:<18} {:>10} {:>10}   {:<18} {:<18} ours/fastest",
             "call", "ours, ns", "second, ns", "ours/second", "ours/ours again"

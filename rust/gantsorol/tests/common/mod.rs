@@ -35,16 +35,42 @@ fn from_environment<T: FromStr>(name: &str) -> Option<T> {
     }
 }
 
+extern "C" {
+    /// The binding takes a session's check points as a list; here their number and the second are any.
+    fn gantsorol_new(
+        n: usize,
+        t: usize,
+        post: usize,
+        points: usize,
+        first: u32,
+        second: u32,
+    ) -> gantsorol::Answer;
+}
+
+/// A new session as the library's call makes it, whatever it is given.
+pub fn new_session(
+    n: usize,
+    t: usize,
+    post: usize,
+    points: usize,
+    first: u32,
+    second: u32,
+) -> gantsorol::Answer {
+    // SAFETY: the function takes any values.
+    unsafe { gantsorol_new(n, t, post, points, first, second) }
+}
+
 fn given(s: reference::Session) -> Session {
-    let reference::Session { n, t, post, point, marks, left, right, y, y2 } = s;
-    Session { n, t, post, point, marks, factor_a: left, factor_b: right, y_a: y, y_b: y2 }
+    let reference::Session { n, t, post, k, point, second, marks, left, right, y, y2 } = s;
+    let session = Session { n, t, post, points: k, first: point, second, ..Session::default() };
+    Session { marks, factor_a: left, factor_b: right, y_a: y, y_b: y2, ..session }
 }
 
 fn answered(answer: gantsorol::Answer) -> Answer {
     let gantsorol::Answer { refusal, value, session } = answer;
-    let Session { n, t, post, point, marks, factor_a: left, factor_b: right, y_a: y, y_b: y2 } =
-        session;
-    let session = reference::Session { n, t, post, point, marks, left, right, y, y2 };
+    let Session { n, t, post, points: k, first: point, second, marks, .. } = session;
+    let Session { factor_a: left, factor_b: right, y_a: y, y_b: y2, .. } = session;
+    let session = reference::Session { n, t, post, k, point, second, marks, left, right, y, y2 };
     Answer { refusal, value, session }
 }
 
@@ -69,8 +95,16 @@ fn written(gantsorol::Written { refusal, len }: gantsorol::Written) -> Written {
 }
 
 impl Library for Verified {
-    fn new_session(&self, n: usize, t: usize, post: usize, point: u32) -> Answer {
-        answered(Session::new(n, t, post, point))
+    fn new_session(
+        &self,
+        n: usize,
+        t: usize,
+        post: usize,
+        k: usize,
+        point: u32,
+        second: u32,
+    ) -> Answer {
+        answered(new_session(n, t, post, k, point, second))
     }
 
     fn load_row(
@@ -172,19 +206,28 @@ impl Library for Verified {
         answered(given(s).relation_finish(rows, &told(terms), dest, records))
     }
 
-    fn factory_row(&self, n: usize, t: usize, points: &[u32], draw: &[u32], out: &mut [u32]) -> u8 {
-        number_of(gantsorol::factory_row(n, t, points, draw, out))
+    fn factory_row(
+        &self,
+        n: usize,
+        t: usize,
+        k: usize,
+        points: &[u32],
+        draw: &[u32],
+        out: &mut [u32],
+    ) -> u8 {
+        number_of(gantsorol::factory_row(n, t, k, points, draw, out))
     }
 
     fn factory_triple(
         &self,
         n: usize,
         t: usize,
+        k: usize,
         points: &[u32],
         draw: &[u32],
         out: &mut [u32],
     ) -> u8 {
-        number_of(gantsorol::factory_triple(n, t, points, draw, out))
+        number_of(gantsorol::factory_triple(n, t, k, points, draw, out))
     }
 
     fn dealer_number(&self, u: u32, f0: u32) -> (u8, u32) {
@@ -200,28 +243,30 @@ impl Library for Verified {
         &self,
         n: usize,
         t: usize,
+        k: usize,
         row: usize,
         post: usize,
         coefficients: &[u32],
         out: &mut [u8],
     ) -> Written {
-        written(gantsorol::write_opening(n, t, row, post, coefficients, out))
+        written(gantsorol::write_opening(n, t, k, row, post, coefficients, out))
     }
 
     fn write_masks(
         &self,
         n: usize,
         t: usize,
+        k: usize,
         first: usize,
         post: usize,
         numbers: &[u32],
         out: &mut [u8],
     ) -> Written {
-        written(gantsorol::write_masks(n, t, first, post, numbers, out))
+        written(gantsorol::write_masks(n, t, k, first, post, numbers, out))
     }
 
-    fn read(&self, n: usize, t: usize, line: &[u8], out: &mut [u32]) -> ReadLine {
-        let gantsorol::Line { refusal, letter, row, post } = gantsorol::read(n, t, line, out);
+    fn read(&self, n: usize, t: usize, k: usize, line: &[u8], out: &mut [u32]) -> ReadLine {
+        let gantsorol::Line { refusal, letter, row, post } = gantsorol::read(n, t, k, line, out);
         ReadLine { refusal, letter, row, post }
     }
 
@@ -229,13 +274,14 @@ impl Library for Verified {
         &self,
         n: usize,
         t: usize,
+        k: usize,
         post: usize,
         points: &[u32],
         kinds: &[u8],
         draws: &[u32],
         out: &mut [u8],
     ) -> Written {
-        written(gantsorol::write_pack(n, t, post, points, kinds, draws, out))
+        written(gantsorol::write_pack(n, t, post, k, points, kinds, draws, out))
     }
 
     fn street(&self, _: &[u8]) -> Vec<u8> {

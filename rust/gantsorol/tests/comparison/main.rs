@@ -14,7 +14,7 @@ use reference::random::{
     compare_paperwork, compare_script, script, script_for, wild_calls, wild_state, Call, Met, Rng,
     Script, Seen, State, CALL_REFUSALS,
 };
-use reference::{random, Reference, REFERENCE};
+use reference::{random, Reference, Shape, REFERENCE};
 
 /// Whether the seeds are the gate's, so that what they reach is known.
 fn fixed_seeds() -> bool {
@@ -48,14 +48,20 @@ fn random_sessions() {
     }
 }
 
-/// The n and t of each script go through all pairs, one after the other.
+/// So many posts, this t, and so many check points a post.
+fn shape(n: usize, t: usize, points: usize) -> Shape {
+    Shape::checked(n, t, points).expect("the shape is right")
+}
+
+/// The n, t and number of check points of each script go through all of them, one after the other.
 #[test]
-fn every_n_and_t() {
-    let pairs: Vec<(usize, usize)> = (2..=32).flat_map(|n| (1..n).map(move |t| (n, t))).collect();
+fn every_n_and_t_with_one_point_and_with_two() {
+    let pairs = (2..=32).flat_map(|n| (1..n).map(move |t| (n, t)));
+    let shapes: Vec<Shape> = pairs.flat_map(|(n, t)| [1, 2].map(|k| shape(n, t, k))).collect();
     let mut seen = Seen::default();
-    for seed in seeds(4 * pairs.len() as u64) {
-        let (n, t) = pairs[(seed % pairs.len() as u64) as usize];
-        compare(seed, &script_for(&mut Rng::new(seed), n, t, 30), &mut seen);
+    for seed in seeds(4 * shapes.len() as u64) {
+        let shape = shapes[(seed % shapes.len() as u64) as usize];
+        compare(seed, &script_for(&mut Rng::new(seed), shape, 30), &mut seen);
     }
     if fixed_seeds() {
         seen.assert_met(&[
@@ -83,12 +89,12 @@ const SQUARES: Met = &[
     ("RelationFinish", &[0, 5, 6, 7, 8, 9, 13, 14]),
 ];
 
-/// Stations of a square, 33 to 255 posts: t small, in the middle and n − 1. Valid, refused and
-/// damaged calls, as in every script.
+/// Stations of a square, 33 to 255 posts: t small, in the middle and n − 1, each with one check point
+/// a post and with two. Valid, refused and damaged calls, as in every script.
 #[test]
 fn squares() {
     let mut seen = Seen::default();
-    for seed in seeds(240) {
+    for seed in seeds(330) {
         let mut rng = Rng::new(seed);
         let n = if rng.one_in(4) { MAX_POSTS } else { rng.between(33, MAX_POSTS) };
         let t = match seed % 3 {
@@ -96,7 +102,8 @@ fn squares() {
             1 => rng.between(n / 2 - 2, n / 2 + 2),
             _ => n - 1,
         };
-        compare(seed, &script_for(&mut rng, n, t, 25), &mut seen);
+        let points = 1 + usize::from(seed % 2 == 1);
+        compare(seed, &script_for(&mut rng, shape(n, t, points), 25), &mut seen);
     }
     if fixed_seeds() {
         seen.assert_met(SQUARES);

@@ -14,30 +14,37 @@ use crate::fixed_seeds;
 fn the_last_number_of_posts() {
     for (n, refusal) in [(2, 0), (33, 0), (254, 0), (255, 0), (256, 1), (257, 1)] {
         for t in [1, n / 2, n - 1] {
-            assert_eq!(Verified.new_session(n, t, n, 1).refusal, refusal, "{n}, {t}");
             assert_eq!(Verified.write_deal(n, t, 0, 0, &mut [0; 6]).refusal, refusal, "{n}, {t}");
-            assert_eq!(Verified.read(n, t, b"D,0,0\n", &mut vec![0; 2 * (t + 1)]).refusal, refusal);
+            for k in [1, 2] {
+                let new = Verified.new_session(n, t, n, k, 1, 1);
+                assert_eq!(new.refusal, refusal, "{n}, {t}, {k}");
+                let read = Verified.read(n, t, k, b"D,0,0\n", &mut vec![0; 2 * (k * t + 1)]);
+                assert_eq!(read.refusal, refusal, "{n}, {t}, {k}");
+            }
         }
         for t in [0, n] {
             let expected = if refusal == 0 { 2 } else { 1 };
-            assert_eq!(Verified.new_session(n, t, n, 1).refusal, expected, "{n}, {t}");
+            assert_eq!(Verified.new_session(n, t, n, 1, 1, 0).refusal, expected, "{n}, {t}");
         }
     }
 }
 
-/// The longest line, an `M` of the last triple from post 255 with t = 254: the formula's 5,619.
+/// The longest line, an `M` of the last triple from post 255 with t = 254: 5,619 bytes with one check
+/// point a post, 11,207 with two.
 #[test]
 fn the_longest_line() {
     let (n, t) = (MAX_POSTS, MAX_POSTS - 1);
-    let numbers = vec![gantsorol::MODULUS - 1; gantsorol::masks_len(t)];
-    let mut line = vec![0; gantsorol::LONGEST_LINE];
-    let written = Verified.write_masks(n, t, 93, n, &numbers, &mut line);
-    assert_eq!((written.refusal, written.length), (0, 5_619));
-    let mut list = vec![0; gantsorol::line_list_len(t)];
-    assert_eq!(Verified.read(n, t, &line, &mut list).refusal, 0);
-    assert_eq!(list, numbers);
-    let short = &mut line[..gantsorol::LONGEST_LINE - 1];
-    assert_eq!(Verified.write_masks(n, t, 93, n, &numbers, short).refusal, 12);
+    for (points, length) in [(1, 5_619), (2, 11_207)] {
+        let numbers = vec![gantsorol::MODULUS - 1; gantsorol::masks_len(t, points)];
+        let mut line = vec![0; gantsorol::LONGEST_LINE];
+        let written = Verified.write_masks(n, t, points, 93, n, &numbers, &mut line);
+        assert_eq!((written.refusal, written.length), (0, length));
+        let mut list = vec![0; gantsorol::line_list_len(t, points)];
+        assert_eq!(Verified.read(n, t, points, &line[..length], &mut list).refusal, 0);
+        assert_eq!(list, numbers);
+        let short = &mut line[..length - 1];
+        assert_eq!(Verified.write_masks(n, t, points, 93, n, &numbers, short).refusal, 12);
+    }
 }
 
 fn refusal(outcome: &PaperworkOutcome) -> u8 {
@@ -54,9 +61,9 @@ const SQUARES: Met = &[
     ("FactoryRow", &[0, 2, 4, 5, 8]),
     ("FactoryTriple", &[0, 2, 4, 5, 8]),
     ("WriteDeal", &[0, 2, 6, 8, 12]),
-    ("WriteOpening", &[0, 2, 3, 5, 6, 8, 12]),
-    ("WriteMasks", &[0, 2, 3, 5, 6, 8, 12]),
-    ("Read", &[0, 2, 5, 10, 11]),
+    ("WriteOpening", &[0, 2, 3, 4, 5, 6, 8, 12]),
+    ("WriteMasks", &[0, 2, 3, 4, 5, 6, 8, 12]),
+    ("Read", &[0, 2, 4, 5, 10, 11]),
     ("WritePack", &[0, 2, 3, 4, 5, 6, 7, 8, 12]),
 ];
 
@@ -66,9 +73,8 @@ fn posts(work: &Paperwork) -> usize {
         Paperwork::FactoryRow { n, .. }
         | Paperwork::FactoryTriple { n, .. }
         | Paperwork::WriteDeal { n, .. }
-        | Paperwork::WriteOpening { n, .. }
-        | Paperwork::WriteMasks { n, .. }
         | Paperwork::Read { n, .. } => n,
+        Paperwork::WriteOpening(ref message) | Paperwork::WriteMasks(ref message) => message.n,
         Paperwork::WritePack(ref pack) => pack.n,
         Paperwork::DealerNumber { .. } => 0,
     }

@@ -1,117 +1,19 @@
-/* A fixed list of calls at one post, on secrets drawn from a seed: `calls N T FIRST COUNT` makes it for COUNT seeds from FIRST on.
+/* A fixed list of calls at one post, on secrets drawn from a seed: `calls N T POINTS FIRST COUNT` makes it for COUNT seeds from
+ * FIRST on.
  *
- * Fixed are n and t, the post, the rows, who is heard and accepted, and every refusal; check points, draws and dealt numbers come from
+ * Fixed are n, t and the number of check points, the post, the rows, who is heard and accepted, and every refusal; check points, draws and dealt numbers come from
  * the seed. What the other posts send is reckoned here, so that each call of the library is one of the list. Numbers that become text
  * have ten digits, so that the text's length is fixed too; with -DANY_DIGITS they are any. With -DBRANCHING the masks are made once
  * more, by a function that branches on coefficients. */
-#include <stdint.h>
-#include <stdio.h>
-#include <stdlib.h>
-#include <string.h>
-
-#include "gantsorol.h"
-
-#ifndef MOST
-#define MOST 40
-#endif
-
-enum { P = GANTSOROL_MODULUS, POST = 2, TEN_DIGITS = 1000000000, FEE = 80, SCALE = 35, TWO = 2 };
-/* Rows: two numbers, two triples, a sum, a relation's sum, one that stays empty. */
-enum { A = 0, B = 1, FIRST = 2, SECOND = 5, SUM = 8, RELATION = 9, EMPTY = 10, DRAWN = 8 };
-
-static size_t n, t, k, row_len, rows_len, block, record_len, draw_len;
-static uint32_t points[MOST], rows[GANTSOROL_ROWS_LEN(MOST, MOST)];
-/* Each row's polynomials, f first, and its number. */
-static uint32_t polynomials[GANTSOROL_ROWS][GANTSOROL_ROW_DRAW_LEN(MOST, MOST)], numbers[GANTSOROL_ROWS];
-static gantsorol_session session;
-static uint64_t state;
-static int extreme;
-
-static void must(int done, const char *what) {
-    if (!done) {
-        fprintf(stderr, "calls: %s\n", what);
-        exit(1);
-    }
-}
-
-/* Splitmix64. */
-static uint64_t random_bits(void) {
-    uint64_t z = state += 0x9e3779b97f4a7c15;
-    z = (z ^ (z >> 30)) * 0xbf58476d1ce4e5b9;
-    z = (z ^ (z >> 27)) * 0x94d049bb133111eb;
-    return z ^ (z >> 31);
-}
-
-/* An element from low on. In the second half of the seeds every other one is the least, the next or the last. */
-static uint32_t drawn(uint32_t low) {
-    uint64_t bits = random_bits();
-    const uint32_t extremes[4] = {low, low + 1, P - 1, P - 1};
-    return extreme && bits >> 63 ? extremes[bits & 3] : low + (uint32_t)(bits % (P - low));
-}
-
-static uint32_t plus(uint32_t c, uint32_t a, uint32_t b) { return (uint32_t)(((uint64_t)a * b + c) % P); }
-
-static uint32_t value(const uint32_t *coefficients, uint32_t x) {
-    uint32_t sum = 0;
-    for (size_t i = k; i > 0; i--)
-        sum = plus(coefficients[i - 1], x, sum);
-    return sum;
-}
-
-/* Keeps the session that a call hands back. */
-static void keep(gantsorol_answer answer, uint8_t refusal, uint32_t opened, const char *call) {
-    session = answer.session;
-    must(answer.refusal == refusal && answer.value == opened, call);
-}
-
-static uint32_t *polynomial(size_t row, size_t post) { return polynomials[row] + post * k; }
-
-/* Row to is row a plus scale times row b, in the hands of all posts. */
-static void combine(size_t to, size_t a, uint32_t scale, size_t b) {
-    for (size_t i = 0; i < draw_len; i++)
-        polynomials[to][i] = plus(polynomials[a][i], scale, polynomials[b][i]);
-}
-
-/* A record in which these posts are heard. */
-static void hear(size_t row, size_t from, size_t to, uint32_t *record) {
-    memset(record, 0, record_len * sizeof *record);
-    for (size_t j = from; j <= to; j++) {
-        record[(j - 1) * block] = 1;
-        memcpy(record + (j - 1) * block + 1, polynomial(row, j), k * sizeof *record);
-    }
-}
-
-/* The factory's rows and triples. */
-static uint32_t packs[DRAWN][MOST * GANTSOROL_ROW_LEN(MOST, MOST)];
-
-static void draw_all(void) {
-    static uint32_t draw[GANTSOROL_TRIPLE_DRAW_LEN(MOST, MOST)], out[3 * MOST * GANTSOROL_ROW_LEN(MOST, MOST)];
-    for (size_t i = 0; i < n; i++)
-        points[i] = drawn(1);
-    for (size_t row = 0; row < DRAWN; row++)
-        for (size_t i = 0; i < draw_len; i++)
-            polynomials[row][i] = drawn(0);
-    for (size_t row = A; row <= B; row++)
-        must(gantsorol_factory_row(n, t, points, n, polynomials[row], draw_len, packs[row], n * row_len) == 0, "factory row");
-    for (size_t first = FIRST; first <= SECOND; first += 3) {
-        uint32_t *third = polynomials[first + 2];
-        third[0] = plus(0, polynomials[first][0], polynomials[first + 1][0]);
-        memcpy(draw, polynomials[first], draw_len * sizeof *draw);
-        memcpy(draw + draw_len, polynomials[first + 1], draw_len * sizeof *draw);
-        memcpy(draw + 2 * draw_len, third + 1, (draw_len - 1) * sizeof *draw);
-        must(gantsorol_factory_triple(n, t, points, n, draw, 3 * draw_len - 1, out, 3 * n * row_len) == 0, "factory triple");
-        for (size_t part = 0; part < 3; part++)
-            memcpy(packs[first + part], out + part * n * row_len, n * row_len * sizeof *out);
-    }
-}
+#include "drawn.h"
 
 /* The post's part of a row that was drawn. */
 static uint32_t *part(size_t row) { return packs[row] + (POST - 1) * row_len; }
 
 static void load_and_deal(void) {
-    uint32_t pack[3 * GANTSOROL_ROW_LEN(MOST, MOST)];
+    uint32_t pack[3 * GANTSOROL_ROW_LEN(MOST, MOST, GANTSOROL_MAX_POINTS)];
     memset(rows, 0, sizeof rows);
-    keep(gantsorol_new(n, t, POST, points[POST - 1]), 0, 0, "new");
+    keep(gantsorol_new(n, t, POST, points, own_points()[0], own_points()[points - 1]), 0, 0, "new");
     for (size_t row = A; row <= B; row++) {
         keep(gantsorol_load_row(session, rows, rows_len, row, part(row), row_len), 0, 0, "load row");
         /* Masks are opened, so whether one opens to 0 is fixed too. */
@@ -136,7 +38,7 @@ static void load_and_deal(void) {
 }
 
 static void open_row(size_t row, uint32_t opened) {
-    uint32_t message[MOST], record[GANTSOROL_RECORD_LEN(MOST, MOST)];
+    uint32_t message[MESSAGE], record[GANTSOROL_RECORD_LEN(MOST, MOST, GANTSOROL_MAX_POINTS)];
     keep(gantsorol_opening_message(session, rows, rows_len, row, message, k), 0, 0, "opening message");
     must(memcmp(message, polynomial(row, POST), k * sizeof *message) == 0, "the message is the post's polynomial");
     hear(row, 1, n, record);
@@ -145,29 +47,41 @@ static void open_row(size_t row, uint32_t opened) {
 
 /* The last post's polynomial is not its own, and enough others are there. */
 static void open_forged(uint32_t *record) {
-    uint32_t *last = record + (n - 1) * block + 1, w = points[POST - 1], s = drawn(1);
+    uint32_t *last = record + (n - 1) * block + 1, *own = own_points(), s = drawn(1);
+    const uint32_t *sent = polynomial(A, n);
     hear(A, 1, n, record);
     last[0] = plus(last[0], 1, 1);
     keep(gantsorol_open(session, rows, rows_len, A, record, record_len), 0, numbers[A], "open, one false");
-    /* It passes, with a multiple of z - w, and disagrees. */
-    last[0] = plus(polynomial(A, n)[0], P - s, w);
-    last[1] = plus(last[1], 1, s);
+    /* With a multiple of z - w it passes at w: where that is the one point there is, it disagrees; where there is another, that
+       refuses it. */
+    for (size_t i = 0; i < points; i++) {
+        last[0] = plus(sent[0], P - s, own[i]);
+        last[1] = plus(sent[1], 1, s);
+        keep(gantsorol_open(session, rows, rows_len, A, record, record_len), points == 1 ? 13 : 0, points == 1 ? 0 : numbers[A],
+             "open, one value false");
+    }
+    if (points == 1)
+        return;
+    /* It passes at both, with a multiple of (z - w)(z - x), and disagrees. */
+    last[0] = plus(sent[0], s, plus(0, own[0], own[1]));
+    last[1] = plus(sent[1], P - s, plus(own[0], 1, own[1]));
+    last[2] = plus(sent[2], 1, s);
     keep(gantsorol_open(session, rows, rows_len, A, record, record_len), 13, 0, "open, 13");
 }
 
 /* Openings of A in which not all is well. */
 static void open_otherwise(void) {
-    static uint32_t record[GANTSOROL_RECORD_LEN(MOST, MOST)];
+    static uint32_t record[GANTSOROL_RECORD_LEN(MOST, MOST, GANTSOROL_MAX_POINTS)];
     /* The last t+1, beside the post itself. */
     hear(A, n - t, n, record);
     keep(gantsorol_open(session, rows, rows_len, A, record, record_len), 0, numbers[A], "open, few there");
-    if (k < n)
+    if (t + 1 < n)
         open_forged(record);
     /* Too few: the post itself, and where t is more than 1 some others. */
     hear(A, 1, t - 1, record);
     keep(gantsorol_open(session, rows, rows_len, A, record, record_len), 9, 0, "open, 9");
-    must(gantsorol_record_put(n, t, record, record_len, n, polynomial(A, n), k) == 0, "record put");
-    must(gantsorol_record_remove(n, t, record, record_len, n) == 0, "record remove");
+    must(gantsorol_record_put(n, t, points, record, record_len, n, polynomial(A, n), k) == 0, "record put");
+    must(gantsorol_record_remove(n, t, points, record, record_len, n) == 0, "record remove");
 }
 
 #ifdef BRANCHING
@@ -197,12 +111,12 @@ static void product_of_all(size_t first, size_t to) {
     numbers[to] = plus(0, numbers[A], numbers[B]);
 }
 
-static uint32_t records[TWO * GANTSOROL_RECORD_LEN(MOST, MOST)], masks[TWO * MOST];
+static uint32_t records[TWO * GANTSOROL_RECORD_LEN(MOST, MOST, GANTSOROL_MAX_POINTS)], masks[TWO * MESSAGE];
 
 static void multiply(void) {
     keep(gantsorol_masks(session, rows, rows_len, A, B, FIRST, masks, 2 * k), 0, 0, "masks");
 #ifdef BRANCHING
-    uint32_t again[MOST];
+    uint32_t again[MESSAGE];
     gantsorol_branching_masks(polynomial(A, POST), polynomial(FIRST, POST), again);
     must(memcmp(again, masks, k * sizeof *again) == 0, "both masks are the same");
 #endif
@@ -240,43 +154,45 @@ static int fits(uint32_t x) { return TEN_DIGITS <= x; }
 
 static void write_and_read(void) {
     static uint8_t line[GANTSOROL_LONGEST_LINE];
-    uint32_t list[2 * MOST], out[2 * MOST];
+    uint32_t list[2 * MESSAGE], out[2 * MESSAGE];
     for (size_t i = 0; i < 2 * k; i++)
         list[i] = shown();
     must(gantsorol_write_deal(n, t, A, list[0], line, sizeof line).refusal == 0, "write D");
-    gantsorol_written written = gantsorol_write_opening(n, t, A, POST, list, k, line, sizeof line);
-    must(written.refusal == 0 && gantsorol_read(n, t, line, written.len, out, 2 * k).refusal == 0, "an O line");
-    written = gantsorol_write_masks(n, t, A, POST, list, 2 * k, line, sizeof line);
-    must(written.refusal == 0 && gantsorol_read(n, t, line, written.len, out, 2 * k).refusal == 0, "an M line");
+    gantsorol_written written = gantsorol_write_opening(n, t, points, A, POST, list, k, line, sizeof line);
+    must(written.refusal == 0 && gantsorol_read(n, t, points, line, written.len, out, 2 * k).refusal == 0, "an O line");
+    written = gantsorol_write_masks(n, t, points, A, POST, list, 2 * k, line, sizeof line);
+    must(written.refusal == 0 && gantsorol_read(n, t, points, line, written.len, out, 2 * k).refusal == 0, "an M line");
     must(memcmp(list, out, 2 * k * sizeof *list) == 0, "the numbers read are those written");
 }
 
 /* A pack file of one raw row, whose numbers in the post's part are shown. */
 static void write_pack(void) {
-    static uint8_t file[64 + 11 * GANTSOROL_ROW_LEN(MOST, MOST)];
+    static uint8_t file[64 + 11 * GANTSOROL_ROW_LEN(MOST, MOST, GANTSOROL_MAX_POINTS)];
     const uint8_t kinds[GANTSOROL_ROWS] = {1};
-    uint32_t *draw = polynomials[EMPTY], w = points[POST - 1] = shown();
-    for (size_t i = 0; i < k; i++)
+    uint32_t *draw = polynomials[EMPTY], *own = own_points();
+    draw_own_points(shown);
+    for (size_t i = 0; i <= t; i++)
         draw[i] = drawn(0);
     for (size_t j = 1; j <= n; j++) {
         uint32_t *v = polynomial(EMPTY, j);
         do
             for (size_t i = 0; i < k; i++)
                 v[i] = shown();
-        while (!fits(value(v, w)) || !fits(plus(v[0], 1, value(draw, (uint32_t)j))));
+        while (!fits(value(v, k, own[0])) || !fits(value(v, k, own[points - 1])) || !fits(plus(v[0], 1, value(draw, t + 1, (uint32_t)j))));
     }
     gantsorol_written written =
-        gantsorol_write_pack(n, t, POST, points, n, kinds, GANTSOROL_ROWS, draw, draw_len, file, sizeof file);
+        gantsorol_write_pack(n, t, POST, points, check_points, points * n, kinds, GANTSOROL_ROWS, draw, draw_len, file, sizeof file);
     must(written.refusal == 0, "write pack");
 }
 
 int main(int count, char **arguments) {
-    must(count == 5, "n, t, the first seed, and how many?");
-    n = strtoul(arguments[1], NULL, 10), t = strtoul(arguments[2], NULL, 10), k = t + 1;
-    must(POST < n && n <= MOST && t > 0 && t < n, "n or t");
-    row_len = GANTSOROL_ROW_LEN(n, t), rows_len = GANTSOROL_ROWS_LEN(n, t), draw_len = GANTSOROL_ROW_DRAW_LEN(n, t);
-    block = GANTSOROL_BLOCK_LEN(t), record_len = GANTSOROL_RECORD_LEN(n, t);
-    uint64_t first = strtoull(arguments[3], NULL, 10), seeds = strtoull(arguments[4], NULL, 10);
+    must(count == 6, "n, t, how many check points, the first seed, and how many?");
+    n = strtoul(arguments[1], NULL, 10), t = strtoul(arguments[2], NULL, 10), points = strtoul(arguments[3], NULL, 10);
+    must(POST < n && n <= MOST && t > 0 && t < n && points > 0 && points <= GANTSOROL_MAX_POINTS, "n, t or points");
+    k = GANTSOROL_MESSAGE_LEN(t, points), block = GANTSOROL_BLOCK_LEN(t, points), record_len = GANTSOROL_RECORD_LEN(n, t, points);
+    row_len = GANTSOROL_ROW_LEN(n, t, points), rows_len = GANTSOROL_ROWS_LEN(n, t, points);
+    draw_len = GANTSOROL_ROW_DRAW_LEN(n, t, points);
+    uint64_t first = strtoull(arguments[4], NULL, 10), seeds = strtoull(arguments[5], NULL, 10);
     for (uint64_t seed = first; seed < first + seeds; seed++) {
         state = seed << 32, extreme = 2 * (seed - first) >= seeds;
         draw_all();

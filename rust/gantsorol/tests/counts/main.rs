@@ -1,5 +1,5 @@
 //! What a call's time can tell: valgrind's callgrind counts how often each instruction of each call of `calls.c` is carried
-//! out. Where n and t, the posts, the rows, who is accepted and the refusals are fixed, no count follows a secret.
+//! out. Where n, t and the number of check points, the posts, the rows, who is accepted and the refusals are fixed, no count follows a secret.
 
 #[path = "../common/mod.rs"]
 mod common;
@@ -44,8 +44,8 @@ fn counted(part: &str) -> Option<Counted> {
 }
 
 /// The list of calls for each seed.
-fn lists(name: &str, options: &[&str], [n, t]: [usize; 2]) -> Vec<Vec<Counted>> {
-    let name = format!("{name}_{n}_{t}");
+fn lists(name: &str, options: &[&str], [n, t, points]: [usize; 3]) -> Vec<Vec<Counted>> {
+    let name = format!("{name}_{n}_{t}_{points}");
     let source = Path::new(env!("CARGO_MANIFEST_DIR")).join("tests/counts/calls.c");
     // No function is looked up at its first call: that would be counted.
     let program = compiled(&name, &source, &[&C, options, &["-Wl,-z,now"]].concat());
@@ -62,7 +62,7 @@ fn lists(name: &str, options: &[&str], [n, t]: [usize; 2]) -> Vec<Vec<Counted>> 
         valgrind.arg(format!("--dump-after={function}"));
     }
     valgrind.arg(format!("--callgrind-out-file={}", counts.display())).arg(program);
-    ended(valgrind.args([n, t, 0, SEEDS].map(|number| number.to_string())));
+    ended(valgrind.args([n, t, points, 0, SEEDS].map(|number| number.to_string())));
     let text = fs::read_to_string(&counts).expect("callgrind has written");
     let mut calls: Vec<Counted> = text.split("\npart: ").filter_map(counted).collect();
     assert!(!calls.is_empty() && calls.len().is_multiple_of(SEEDS), "{} calls", calls.len());
@@ -85,10 +85,10 @@ fn differing(lists: &[Vec<Counted>]) -> BTreeSet<&str> {
     found
 }
 
-/// At each kind of size, with every call of the library.
+/// At each kind of size, with one check point a post and with two, with every call of the library.
 #[test]
 fn no_count_follows_a_secret() {
-    for size in [[3, 1], [12, 5], [40, 20]] {
+    for size in [[3, 1, 1], [3, 1, 2], [12, 5, 1], [12, 5, 2], [40, 20, 1], [40, 20, 2]] {
         let lists = lists("calls", &[], size);
         assert_eq!(differing(&lists), BTreeSet::new(), "{size:?}");
         let called: BTreeSet<String> = lists[0].iter().map(|call| call.call.clone()).collect();
@@ -103,16 +103,20 @@ fn no_count_follows_a_secret() {
 /// The counts can differ: masks that add p only where a coefficient needs it are told apart.
 #[test]
 fn a_branch_on_a_coefficient_is_seen() {
-    let lists = lists("branching", &["-DBRANCHING"], [3, 1]);
-    assert_eq!(differing(&lists), BTreeSet::from(["gantsorol_branching_masks"]));
+    let lists = [1, 2].map(|points| lists("branching", &["-DBRANCHING"], [3, 1, points]));
+    for lists in lists {
+        assert_eq!(differing(&lists), BTreeSet::from(["gantsorol_branching_masks"]));
+    }
 }
 
 /// Text has as many digits as its numbers need, so a count follows them where text is written or read, and nowhere else.
 /// Lines are sent to all; a pack file is not.
 #[test]
 fn text_tells_how_many_digits_it_has() {
-    let lists = lists("any_digits", &["-DANY_DIGITS"], [3, 1]);
     let text = ["read", "write_deal", "write_opening", "write_masks", "write_pack"];
     let text = text.map(|call| format!("gantsorol_{call}"));
-    assert_eq!(differing(&lists), text.iter().map(String::as_str).collect());
+    for points in [1, 2] {
+        let lists = lists("any_digits", &["-DANY_DIGITS"], [3, 1, points]);
+        assert_eq!(differing(&lists), text.iter().map(String::as_str).collect());
+    }
 }

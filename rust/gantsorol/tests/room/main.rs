@@ -14,15 +14,17 @@ use std::process::Command;
 use common::programs::{compiled, ended, exports, repository};
 use gantsorol::MOST_STACK;
 
+/// n and t; each with one check point a post and with two, and a call's room is the larger of them.
 const SIZES: [[usize; 2]; 3] = [[3, 1], [32, 31], [255, 254]];
 
 /// The calls that open, and by how much a small station's stack stays below that of the most posts: their rooms are not on it.
 const OPENING: [&str; 3] = ["gantsorol_open", "gantsorol_collect", "gantsorol_relation_finish"];
 const SPARED: usize = 8_000;
 
-/// No other call has so much on a small station's stack: less than one row of the most posts, 3,060 bytes. Those that may have
-/// two sessions, their terms or the numbers of a pack file's line there.
-const SMALL: usize = 2_000;
+/// No other call has so much on a small station's stack: less than one row of the most posts, 3,060 bytes. It was 2,000 before posts
+/// had two check points: an opening takes 2,072 where it took 1,848, since rooms go by the number of posts and not of points. Those
+/// that may have two sessions, their terms or the numbers of a pack file's line there.
+const SMALL: usize = 2_100;
 const MORE: [&str; 4] = [
     "gantsorol_collect",
     "gantsorol_relation_finish",
@@ -49,8 +51,8 @@ fn measuring() -> PathBuf {
 }
 
 /// The most stack of each call, in bytes.
-fn stack(program: &Path, [n, t]: [usize; 2]) -> BTreeMap<String, usize> {
-    let arguments = [n, t, 0, 2].map(|number| number.to_string());
+fn stack(program: &Path, [n, t]: [usize; 2], points: usize) -> BTreeMap<String, usize> {
+    let arguments = [n, t, points, 0, 2].map(|number| number.to_string());
     let printed = ended(Command::new(program).args(arguments)).stdout;
     let printed = String::from_utf8(printed).expect("the program prints text");
     let lines = printed.lines().filter_map(|line| line.split_once(' '));
@@ -88,28 +90,38 @@ fn near(told: usize, measured: usize) -> bool {
 fn the_room_of_each_call() {
     let page = fs::read_to_string(repository().join("docs/INTEGRATING.md")).expect("the page");
     let program = measuring();
-    let stacks = SIZES.map(|size| stack(&program, size));
+    let stacks = [1, 2].map(|points| SIZES.map(|size| stack(&program, size, points)));
     let empty = linked(&[]);
     println!("| Call | stack at (3, 1) | (32, 31) | (255, 254) | linked alone |");
     println!("|---|---|---|---|---|");
+    let mut measured = BTreeMap::new();
     for call in calls() {
-        let [small, middle, large] = stacks.each_ref().map(|stack| stack[&call]);
+        let [one, two] = stacks.each_ref().map(|stacks| stacks.each_ref().map(|of| of[&call]));
+        let [small, middle, large] = std::array::from_fn(|size| one[size].max(two[size]));
         let alone = linked(std::slice::from_ref(&call)) - empty;
-        println!("| {call} | {small} | {middle} | {large} | {alone} |");
-        assert!(small > 0 && middle > 0 && large > 0, "{call} was made at each size");
-        assert!(small.max(middle).max(large) < MOST_STACK, "{call} goes deeper than {MOST_STACK}");
-        let spared = !OPENING.contains(&call.as_str()) || small.max(middle) + SPARED <= large;
-        assert!(
-            spared,
-            "{call} at (3, 1) or (32, 31) has the rooms of the most posts on its stack"
-        );
-        let little = MORE.contains(&call.as_str()) || small <= SMALL;
-        assert!(little, "{call} takes more than {SMALL} bytes of a small station's stack");
+        println!("| `{call}` | {small} | {middle} | {large} | {alone} |");
+        if one != two {
+            println!("with one point {one:?}, with two {two:?}");
+        }
+        measured.insert(call, [small, middle, large, alone]);
+    }
+    println!("\nThe whole library: {} bytes linked", linked(&calls()) - empty);
+    for (call, [small, middle, large, alone]) in measured {
+        check_stack(&call, small, middle, large);
         let (told, measured) = (told(&page, &call), [small, middle, large, alone]);
         assert!(
             told.len() == 4 && told.iter().zip(measured).all(|(told, of)| near(*told, of)),
             "docs/INTEGRATING.md has {told:?} for {call}, measured are {measured:?}"
         );
     }
-    println!("\nThe whole library: {} bytes linked", linked(&calls()) - empty);
+}
+
+/// No call goes deeper than is said, and a small station's does not have the rooms of a large one.
+fn check_stack(call: &str, small: usize, middle: usize, large: usize) {
+    assert!(small > 0 && middle > 0 && large > 0, "{call} was made at each size");
+    assert!(small.max(middle).max(large) < MOST_STACK, "{call} goes deeper than {MOST_STACK}");
+    let spared = !OPENING.contains(&call) || small.max(middle) + SPARED <= large;
+    assert!(spared, "{call} at (3, 1) or (32, 31) has the rooms of the most posts on its stack");
+    let little = MORE.contains(&call) || small <= SMALL;
+    assert!(little, "{call} takes more than {SMALL} bytes of a small station's stack");
 }

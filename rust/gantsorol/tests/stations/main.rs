@@ -13,7 +13,7 @@ mod station;
 use arithmetic::{check_products, check_relations, check_sums};
 use common::seeds;
 use gantsorol::Refusal;
-use liars::with_liars;
+use liars::{block, pass_at, with_liars};
 use reference::random::Rng;
 use reference::{Element, MODULUS};
 use secrets::{mixed, shared_secret, Masked};
@@ -34,21 +34,33 @@ fn random_stations(count: u64, check: Check) {
 
 fn stations_of_every_n_and_t(check: Check) {
     for (n, t) in (2..=32).flat_map(|n| (1..n).map(move |t| (n, t))) {
-        let seed = (n * 32 + t) as u64;
-        let mut rng = Rng::new(seed);
-        let station = Station::new(&mut rng, n, t);
-        check(&mut rng, station, seed);
+        for points in [1, 2] {
+            let seed = (n * 32 + t) as u64;
+            let mut rng = Rng::new(seed);
+            let station = Station::new(&mut rng, n, t, points);
+            check(&mut rng, station, seed);
+        }
     }
 }
 
-/// Squares: t small, in the middle and n − 1.
-const SQUARES: [(usize, usize); 7] =
-    [(33, 16), (64, 63), (100, 3), (200, 150), (255, 1), (255, 127), (255, 254)];
+/// Squares: t small, in the middle and n − 1; n, t and the number of check points a post.
+const SQUARES: [(usize, usize, usize); 10] = [
+    (33, 16, 1),
+    (33, 32, 2),
+    (64, 63, 1),
+    (100, 3, 2),
+    (200, 150, 1),
+    (255, 1, 1),
+    (255, 1, 2),
+    (255, 127, 1),
+    (255, 127, 2),
+    (255, 254, 1),
+];
 
 fn squares(check: Check) {
-    for (n, t) in SQUARES {
+    for (n, t, points) in SQUARES {
         let mut rng = Rng::new((n * 256 + t) as u64);
-        let station = Station::new(&mut rng, n, t);
+        let station = Station::new(&mut rng, n, t, points);
         check(&mut rng, station, 0);
     }
 }
@@ -167,11 +179,11 @@ fn forged_masks_are_rejected() {
 #[test]
 fn a_forged_polynomial_passes_only_where_it_meets_the_true_one() {
     let mut rng = Rng::new(1);
-    let mut station = Station::new(&mut rng, 2, 1);
+    let mut station = Station::new(&mut rng, 2, 1, 1);
     station.share(&mut rng, 7, 5);
     let lines = station.lines(&mut rng, 7);
     let honest = station.record(&mut rng, &lines);
-    let w = Field::from(station.points[0]);
+    let w = Field::from(station.check_points[0]);
     for (shift, passes) in [(0, true), (1, false), (MODULUS - 1, false)] {
         let mut record = honest.clone();
         record[4] = (Field::from(record[4]) - Field::from(3) * w + shift.into()).value();
@@ -180,4 +192,40 @@ fn a_forged_polynomial_passes_only_where_it_meets_the_true_one() {
         assert_eq!(opened.is_ok(), passes);
         assert_ne!(opened, Ok(5));
     }
+}
+
+/// A liar who knows one of a post's two check points passes there and is refused by the other; who knows both
+/// passes, with a multiple of (z − w)(z − x), and shifts the number, and further posts show it.
+#[test]
+fn a_lie_that_passes_one_value_is_refused_by_the_other() {
+    let mut rng = Rng::new(2);
+    let mut station = Station::new(&mut rng, 3, 1, 2);
+    station.share(&mut rng, 7, 5);
+    let lines = station.lines(&mut rng, 7);
+    let honest = station.record(&mut rng, &lines);
+    let [w, x] = *station.check_points_of(0) else { panic!("two points a post") };
+    assert_ne!(w, x);
+    let few: Vec<_> = lines[..2].to_vec();
+    let few = station.record(&mut rng, &few);
+    for point in [w, x] {
+        let lied = |record: &[u32]| {
+            let mut record = record.to_vec();
+            pass_at(point, 3, block(&station, 1, &mut record));
+            station.posts[0].try_open(7, &record)
+        };
+        assert_eq!(lied(&few), Err(Refusal::TooFewAccepted));
+        assert_eq!(lied(&honest), Ok(5));
+    }
+    let both = |record: &[u32]| {
+        let mut record = record.to_vec();
+        let polynomial = block(&station, 1, &mut record);
+        let [w, x] = [w, x].map(Field::from);
+        let change = [w * x, Field::from(0) - w - x, 1.into()];
+        for (number, change) in polynomial.iter_mut().zip(change) {
+            *number = (Field::from(*number) + change).value();
+        }
+        station.posts[0].try_open(7, &record)
+    };
+    assert!(both(&few).is_ok_and(|opened| opened != 5));
+    assert_eq!(both(&honest), Err(Refusal::InconsistentShares));
 }

@@ -1,6 +1,6 @@
 //! A station: posts in random order, whose messages are lines.
 
-use gantsorol::{block_len, line_list_len, masks_len, row_len, rows_len};
+use gantsorol::{block_len, line_list_len, masks_len, message_len, row_len, rows_len};
 use gantsorol::{Session, Term, Written, LONGEST_LINE, NO_ROW};
 use reference::random::{check_points, street_shape, Rng, SharedRow};
 use reference::Shape;
@@ -10,29 +10,37 @@ use crate::post::Post;
 pub struct Station {
     pub n: usize,
     pub t: usize,
-    pub points: Vec<u32>,
+    /// How many check points a post has, and those of all posts.
+    pub points: usize,
+    pub check_points: Vec<u32>,
     pub posts: Vec<Post>,
 }
 
 impl Station {
     pub fn random(rng: &mut Rng) -> Self {
-        let (n, t) = street_shape(rng);
-        Self::new(rng, n, t)
+        let shape = street_shape(rng);
+        Self::new(rng, shape.posts(), shape.threshold(), shape.points())
     }
 
-    pub fn new(rng: &mut Rng, n: usize, t: usize) -> Self {
-        let points = check_points(rng, n);
-        let post = |(post, &point): (usize, &u32)| {
-            let (session, _) = Session::new(n, t, post, point).accepted().expect("right settings");
-            let rows = (0..rows_len(n, t)).map(|_| rng.number()).collect();
+    pub fn new(rng: &mut Rng, n: usize, t: usize, points: usize) -> Self {
+        let shape = Shape::checked(n, t, points).expect("right settings");
+        let check_points = check_points(rng, shape);
+        let post = |(post, own): (usize, &[u32])| {
+            let (session, _) = Session::new(n, t, post, own).accepted().expect("right settings");
+            let rows = (0..rows_len(n, t, points)).map(|_| rng.number()).collect();
             Post::new(session, rows)
         };
-        let posts = (1..).zip(&points).map(post).collect();
-        Self { n, t, points, posts }
+        let posts = (1..).zip(check_points.chunks(points)).map(post).collect();
+        Self { n, t, points, check_points, posts }
     }
 
-    fn random_row(&self, rng: &mut Rng) -> SharedRow {
-        SharedRow::random(rng, Shape::checked(self.n, self.t).expect("right settings"))
+    fn shape(&self) -> Shape {
+        Shape::checked(self.n, self.t, self.points).expect("right settings")
+    }
+
+    /// A post's own check points; the first post is 0.
+    pub fn check_points_of(&self, post: usize) -> &[u32] {
+        &self.check_points[post * self.points..][..self.points]
     }
 
     /// The posts in another order, with their numbers from 0.
@@ -46,18 +54,19 @@ impl Station {
 
     /// Shares `secret`: the factory's packs, the dealer's line, and a deal at every post.
     pub fn share(&mut self, rng: &mut Rng, row: usize, secret: u32) {
-        let (n, t) = (self.n, self.t);
-        let draw = self.random_row(rng).draw();
-        let mut packs = vec![0; n * row_len(n, t)];
-        gantsorol::factory_row(n, t, &self.points, &draw, &mut packs).expect("a right draw");
+        let (n, t, points) = (self.n, self.t, self.points);
+        let draw = SharedRow::random(rng, self.shape()).draw();
+        let mut packs = vec![0; n * row_len(n, t, points)];
+        gantsorol::factory_row(n, t, points, &self.check_points, &draw, &mut packs)
+            .expect("a right draw");
         let c = gantsorol::dealer_number(secret, draw[0]).accepted().expect("elements");
         let mut line = [0; LONGEST_LINE];
         let length = gantsorol::write_deal(n, t, row, c, &mut line).accepted().expect("room");
         for (index, post) in self.shuffled(rng) {
-            let pack = &packs[index * row_len(n, t)..][..row_len(n, t)];
+            let pack = &packs[index * row_len(n, t, points)..][..row_len(n, t, points)];
             post.call(|session, rows| session.load_row(rows, row, pack));
-            let mut numbers = vec![7; line_list_len(t)];
-            let dealt = gantsorol::read(n, t, &line[..length], &mut numbers);
+            let mut numbers = vec![7; line_list_len(t, points)];
+            let dealt = gantsorol::read(n, t, points, &line[..length], &mut numbers);
             let dealt = dealt.accepted().expect("a line as written");
             assert_eq!((dealt.letter, dealt.row, dealt.post), (b'D', row, 0));
             post.call(|session, rows| session.deal(rows, dealt.row, numbers[0]));
@@ -66,13 +75,13 @@ impl Station {
 
     /// Loads a random triple at every post.
     pub fn load_triple(&mut self, rng: &mut Rng, first: usize) {
-        let (n, t) = (self.n, self.t);
-        let shape = Shape::checked(n, t).expect("right settings");
-        let draw = SharedRow::triple_draw(&SharedRow::random_triple(rng, shape));
-        let mut packs = vec![0; 3 * n * row_len(n, t)];
-        gantsorol::factory_triple(n, t, &self.points, &draw, &mut packs).expect("a right draw");
+        let (n, t, points) = (self.n, self.t, self.points);
+        let draw = SharedRow::triple_draw(&SharedRow::random_triple(rng, self.shape()));
+        let mut packs = vec![0; 3 * n * row_len(n, t, points)];
+        gantsorol::factory_triple(n, t, points, &self.check_points, &draw, &mut packs)
+            .expect("a right draw");
         for (index, post) in self.shuffled(rng) {
-            let rows = packs.chunks(row_len(n, t)).skip(index).step_by(n);
+            let rows = packs.chunks(row_len(n, t, points)).skip(index).step_by(n);
             let pack = rows.collect::<Vec<_>>().concat();
             post.call(|session, rows| session.load_triple(rows, first, &pack));
         }
@@ -96,21 +105,21 @@ impl Station {
 
     /// Every post's message for a row, as an `O` line.
     pub fn lines(&mut self, rng: &mut Rng, row: usize) -> Vec<Vec<u8>> {
-        let (n, t) = (self.n, self.t);
+        let (n, t, points) = (self.n, self.t, self.points);
         self.sent(rng, |post, number, line| {
-            let mut message = vec![0; t + 1];
+            let mut message = vec![0; message_len(t, points)];
             post.call(|session, rows| session.opening_message(rows, row, &mut message));
-            gantsorol::write_opening(n, t, row, number, &message, line)
+            gantsorol::write_opening(n, t, points, row, number, &message, line)
         })
     }
 
     /// Every post's masks for a product, as an `M` line.
     pub fn masks(&mut self, rng: &mut Rng, a: usize, b: usize, first: usize) -> Vec<Vec<u8>> {
-        let (n, t) = (self.n, self.t);
+        let (n, t, points) = (self.n, self.t, self.points);
         self.sent(rng, |post, number, line| {
-            let mut masks = vec![0; masks_len(t)];
+            let mut masks = vec![0; masks_len(t, points)];
             post.call(|session, rows| session.masks(rows, a, b, first, &mut masks));
-            gantsorol::write_masks(n, t, first, number, &masks, line)
+            gantsorol::write_masks(n, t, points, first, number, &masks, line)
         })
     }
 
@@ -121,16 +130,17 @@ impl Station {
         rng: &mut Rng,
         lines: impl IntoIterator<Item = &'a Vec<u8>>,
     ) -> [Vec<u32>; 2] {
-        let (count, block) = (self.t + 1, block_len(self.t));
+        let (n, t, points) = (self.n, self.t, self.points);
+        let (count, block) = (message_len(t, points), block_len(t, points));
         let mut nonsense = |place| if place % block == 0 { 0 } else { rng.number() };
         let mut records: [Vec<u32>; 2] =
-            [(); 2].map(|()| (0..self.n * block).map(&mut nonsense).collect());
+            [(); 2].map(|()| (0..n * block).map(&mut nonsense).collect());
         for line in lines {
-            let mut numbers = vec![0; line_list_len(self.t)];
-            let read = gantsorol::read(self.n, self.t, line, &mut numbers);
+            let mut numbers = vec![0; line_list_len(t, points)];
+            let read = gantsorol::read(n, t, points, line, &mut numbers);
             let post = read.accepted().expect("a line as written").post;
             for (record, half) in records.iter_mut().zip(numbers.chunks(count)) {
-                let put = gantsorol::record_put(self.n, self.t, record, post, half);
+                let put = gantsorol::record_put(n, t, points, record, post, half);
                 put.expect("a line's numbers are elements");
             }
         }
@@ -166,17 +176,18 @@ impl Station {
     /// A relation over these terms, its sum in `dest`, at every post. Each product term has an `M`
     /// line of its own, as a single product has.
     pub fn relate(&mut self, rng: &mut Rng, terms: &[Term], dest: usize) {
-        let (n, t) = (self.n, self.t);
+        let (n, t, points) = (self.n, self.t, self.points);
         let products = terms.iter().filter(|term| term.second != NO_ROW);
         let firsts: Vec<usize> = products.map(|term| term.first.into()).collect();
         let mut lines = vec![vec![]; firsts.len()];
         for (index, post) in self.shuffled(rng) {
-            let mut masks = vec![0; firsts.len() * masks_len(t)];
+            let mut masks = vec![0; firsts.len() * masks_len(t, points)];
             post.call(|session, rows| session.relation_masks(rows, terms, &mut masks));
-            let masks = masks.chunks(masks_len(t)).zip(&firsts);
+            let masks = masks.chunks(masks_len(t, points)).zip(&firsts);
             for ((masks, &first), lines) in masks.zip(&mut lines) {
                 let mut line = vec![0; LONGEST_LINE];
-                let written = gantsorol::write_masks(n, t, first, index + 1, masks, &mut line);
+                let written =
+                    gantsorol::write_masks(n, t, points, first, index + 1, masks, &mut line);
                 line.truncate(written.accepted().expect("room"));
                 lines.push(line);
             }

@@ -11,8 +11,17 @@ pub use reference::{Reference, REFERENCE};
 ///
 /// Lists are lent; a refused call leaves every one of them as it was.
 pub trait Library {
-    /// A new session; refused, one with 0 in every field.
-    fn new_session(&self, n: usize, t: usize, post: usize, point: u32) -> Answer;
+    /// A new session with k check points, of which `second` is the second one where k is 2; refused,
+    /// one with 0 in every field.
+    fn new_session(
+        &self,
+        n: usize,
+        t: usize,
+        post: usize,
+        k: usize,
+        point: u32,
+        second: u32,
+    ) -> Answer;
 
     /// Loads a post's part of a drawn row into an empty row.
     fn load_row(&self, s: Session, rows: &mut [u32], row: usize, pack: &[u32]) -> Answer;
@@ -23,7 +32,7 @@ pub trait Library {
     /// Adds the dealer's number to a raw row, which becomes held.
     fn deal(&self, s: Session, rows: &mut [u32], row: usize, c: u32) -> Answer;
 
-    /// The t+1 coefficients of a held row.
+    /// The k t + 1 coefficients of a held row.
     fn opening_message(&self, s: Session, rows: &[u32], row: usize, out: &mut [u32]) -> Answer;
 
     /// Opens a held row with a record of n blocks.
@@ -41,7 +50,7 @@ pub trait Library {
         fee: u32,
     ) -> Answer;
 
-    /// The 2(t+1) mask coefficients for the product of a and b.
+    /// The 2(k t + 1) mask coefficients for the product of a and b.
     fn masks(
         &self,
         s: Session,
@@ -65,7 +74,7 @@ pub trait Library {
     /// The second call of a finish: writes the product into the triple's third row.
     fn multiply(&self, s: Session, rows: &mut [u32], first: usize) -> Answer;
 
-    /// The masks of all product terms of a relation, 2(t+1) numbers for each.
+    /// The masks of all product terms of a relation, 2(k t + 1) numbers for each.
     fn relation_masks(&self, s: Session, rows: &[u32], terms: &[Term], out: &mut [u32]) -> Answer;
 
     /// Finishes all product terms of a relation with two records for each, and stores the sum of
@@ -79,14 +88,23 @@ pub trait Library {
         dest: usize,
     ) -> Answer;
 
-    /// One row for all posts from (t+1)(n+1) drawn numbers; the refusal.
-    fn factory_row(&self, n: usize, t: usize, points: &[u32], draw: &[u32], out: &mut [u32]) -> u8;
+    /// One row for all posts from its draw and k check points for each post; the refusal.
+    fn factory_row(
+        &self,
+        n: usize,
+        t: usize,
+        k: usize,
+        points: &[u32],
+        draw: &[u32],
+        out: &mut [u32],
+    ) -> u8;
 
-    /// One triple for all posts from 3(t+1)(n+1) − 1 drawn numbers; the refusal.
+    /// One triple for all posts from its draw; the refusal.
     fn factory_triple(
         &self,
         n: usize,
         t: usize,
+        k: usize,
         points: &[u32],
         draw: &[u32],
         out: &mut [u32],
@@ -103,6 +121,7 @@ pub trait Library {
         &self,
         n: usize,
         t: usize,
+        k: usize,
         row: usize,
         post: usize,
         coefficients: &[u32],
@@ -114,20 +133,22 @@ pub trait Library {
         &self,
         n: usize,
         t: usize,
+        k: usize,
         first: usize,
         post: usize,
         numbers: &[u32],
         out: &mut [u8],
     ) -> Written;
 
-    /// Reads a line into a list of 2(t+1) numbers.
-    fn read(&self, n: usize, t: usize, line: &[u8], out: &mut [u32]) -> ReadLine;
+    /// Reads a line into a list of 2(k t + 1) numbers.
+    fn read(&self, n: usize, t: usize, k: usize, line: &[u8], out: &mut [u32]) -> ReadLine;
 
     /// Writes a post's pack file.
     fn write_pack(
         &self,
         n: usize,
         t: usize,
+        k: usize,
         post: usize,
         points: &[u32],
         kinds: &[u8],

@@ -14,8 +14,16 @@ pub struct Reference<const P: u32 = MODULUS>;
 pub const REFERENCE: Reference = Reference;
 
 impl<const P: u32> Library for Reference<P> {
-    fn new_session(&self, n: usize, t: usize, post: usize, point: u32) -> Answer {
-        session::new_session::<P>(n, t, post, point)
+    fn new_session(
+        &self,
+        n: usize,
+        t: usize,
+        post: usize,
+        k: usize,
+        point: u32,
+        second: u32,
+    ) -> Answer {
+        session::new_session::<P>(n, t, post, k, point, second)
     }
 
     fn load_row(&self, s: Session, rows: &mut [u32], row: usize, pack: &[u32]) -> Answer {
@@ -93,19 +101,28 @@ impl<const P: u32> Library for Reference<P> {
         relation::relation_finish::<P>(s, rows, terms, records, dest)
     }
 
-    fn factory_row(&self, n: usize, t: usize, points: &[u32], draw: &[u32], out: &mut [u32]) -> u8 {
-        factory::factory_row::<P>(n, t, points, draw, out)
+    fn factory_row(
+        &self,
+        n: usize,
+        t: usize,
+        k: usize,
+        points: &[u32],
+        draw: &[u32],
+        out: &mut [u32],
+    ) -> u8 {
+        factory::factory_row::<P>(n, t, k, points, draw, out)
     }
 
     fn factory_triple(
         &self,
         n: usize,
         t: usize,
+        k: usize,
         points: &[u32],
         draw: &[u32],
         out: &mut [u32],
     ) -> u8 {
-        factory::factory_triple::<P>(n, t, points, draw, out)
+        factory::factory_triple::<P>(n, t, k, points, draw, out)
     }
 
     fn dealer_number(&self, u: u32, f0: u32) -> (u8, u32) {
@@ -120,41 +137,44 @@ impl<const P: u32> Library for Reference<P> {
         &self,
         n: usize,
         t: usize,
+        k: usize,
         row: usize,
         post: usize,
         coefficients: &[u32],
         out: &mut [u8],
     ) -> Written {
-        lines::write_opening::<P>(n, t, row, post, coefficients, out)
+        lines::write_opening::<P>(n, t, k, row, post, coefficients, out)
     }
 
     fn write_masks(
         &self,
         n: usize,
         t: usize,
+        k: usize,
         first: usize,
         post: usize,
         numbers: &[u32],
         out: &mut [u8],
     ) -> Written {
-        lines::write_masks::<P>(n, t, first, post, numbers, out)
+        lines::write_masks::<P>(n, t, k, first, post, numbers, out)
     }
 
-    fn read(&self, n: usize, t: usize, line: &[u8], out: &mut [u32]) -> ReadLine {
-        lines::read::<P>(n, t, line, out)
+    fn read(&self, n: usize, t: usize, k: usize, line: &[u8], out: &mut [u32]) -> ReadLine {
+        lines::read::<P>(n, t, k, line, out)
     }
 
     fn write_pack(
         &self,
         n: usize,
         t: usize,
+        k: usize,
         post: usize,
         points: &[u32],
         kinds: &[u8],
         draws: &[u32],
         out: &mut [u8],
     ) -> Written {
-        pack::write_pack::<P>(n, t, post, points, kinds, draws, out)
+        pack::write_pack::<P>(n, t, k, post, points, kinds, draws, out)
     }
 
     fn street(&self, input: &[u8]) -> Vec<u8> {

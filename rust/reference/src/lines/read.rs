@@ -61,22 +61,21 @@ impl Parsed {
     }
 }
 
-/// Reads a line for n posts and threshold t.
+/// Reads a line for n posts with k check points each, and threshold t.
 ///
-/// "An accepted line fills a lent list of 2(t+1) numbers from its start; the places behind are set
-/// to 0." A refused one leaves the list as it is.
-pub fn read<const P: u32>(n: usize, t: usize, line: &[u8], out: &mut [u32]) -> ReadLine {
-    try_read::<P>(n, t, line, out)
+/// "An accepted line fills a lent list of 2(t+1) numbers", or 2(2t+1), "from its start; the places
+/// behind are set to 0." A refused one leaves the list as it is.
+pub fn read<const P: u32>(n: usize, t: usize, k: usize, line: &[u8], out: &mut [u32]) -> ReadLine {
+    try_read::<P>((n, t, k), line, out)
         .unwrap_or_else(|refusal| ReadLine { refusal: refusal.number(), ..ReadLine::default() })
 }
 
 pub(crate) fn try_read<const P: u32>(
-    n: usize,
-    t: usize,
+    (n, t, k): (usize, usize, usize),
     line: &[u8],
     out: &mut [u32],
 ) -> Result<ReadLine, Refusal> {
-    let shape = Shape::checked(n, t)?;
+    let shape = Shape::checked(n, t, k)?;
     expect_length(out, shape.masks())?;
     let parsed = Parsed::parse(shape, line).ok_or(Refusal::Form)?;
     parsed.expect_range::<P>(shape)?;

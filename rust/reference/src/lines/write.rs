@@ -2,7 +2,7 @@
 
 use crate::field::expect_elements;
 use crate::refusal::{require, Refusal};
-use crate::shape::{expect_length, expect_row, expect_triple, Shape};
+use crate::shape::{expect_length, expect_posts, expect_row, expect_triple, Shape};
 
 /// What a writer answers.
 #[derive(Clone, Copy, Debug, Default, PartialEq, Eq)]
@@ -42,7 +42,7 @@ pub(crate) fn put(line: &str, out: &mut [u8]) -> Result<usize, Refusal> {
     Ok(line.len())
 }
 
-/// `D,row,c`
+/// `D,row,c`, which does not depend on the number of check points
 pub fn write_deal<const P: u32>(n: usize, t: usize, row: usize, c: u32, out: &mut [u8]) -> Written {
     try_write_deal::<P>(n, t, row, c, out).into()
 }
@@ -54,60 +54,60 @@ fn try_write_deal<const P: u32>(
     c: u32,
     out: &mut [u8],
 ) -> Result<usize, Refusal> {
-    Shape::checked(n, t)?;
+    expect_posts(n, t)?;
     expect_row(row)?;
     require(c < P, Refusal::Number)?;
     put(&line('D', &[row], &[c]), out)
 }
 
-/// `O,row,post,` t+1 coefficients
+/// `O,row,post,` t+1 coefficients, or 2t+1
 pub fn write_opening<const P: u32>(
     n: usize,
     t: usize,
+    k: usize,
     row: usize,
     post: usize,
     coefficients: &[u32],
     out: &mut [u8],
 ) -> Written {
-    try_write_opening::<P>((n, t), row, post, coefficients, out).into()
+    try_write_opening::<P>((n, t, k), row, post, coefficients, out).into()
 }
 
 fn try_write_opening<const P: u32>(
-    (n, t): (usize, usize),
+    (n, t, k): (usize, usize, usize),
     row: usize,
     post: usize,
     coefficients: &[u32],
     out: &mut [u8],
 ) -> Result<usize, Refusal> {
-    let shape = Shape::checked(n, t)?;
-    shape.expect_post(post)?;
+    let shape = Shape::checked_at(n, t, post, k)?;
     expect_length(coefficients, shape.coefficients())?;
     expect_row(row)?;
     expect_elements::<P>(coefficients)?;
     put(&line('O', &[row, post], coefficients), out)
 }
 
-/// `M,first row of triple,post,` t+1 coefficients of a − l, then t+1 of b − l'
+/// `M,first row of triple,post,` t+1 coefficients of a − l, or 2t+1, then as many of b − l'
 pub fn write_masks<const P: u32>(
     n: usize,
     t: usize,
+    k: usize,
     first: usize,
     post: usize,
     numbers: &[u32],
     out: &mut [u8],
 ) -> Written {
-    try_write_masks::<P>((n, t), first, post, numbers, out).into()
+    try_write_masks::<P>((n, t, k), first, post, numbers, out).into()
 }
 
 pub(crate) fn try_write_masks<const P: u32>(
-    (n, t): (usize, usize),
+    (n, t, k): (usize, usize, usize),
     first: usize,
     post: usize,
     numbers: &[u32],
     out: &mut [u8],
 ) -> Result<usize, Refusal> {
-    let shape = Shape::checked(n, t)?;
-    shape.expect_post(post)?;
+    let shape = Shape::checked_at(n, t, post, k)?;
     expect_length(numbers, shape.masks())?;
     expect_triple(first)?;
     expect_elements::<P>(numbers)?;

@@ -16,7 +16,7 @@ pub struct State {
 #[derive(Clone, Debug, PartialEq, Eq)]
 #[allow(missing_docs)]
 pub enum Call {
-    NewSession { n: usize, t: usize, post: usize, point: u32 },
+    NewSession { n: usize, t: usize, post: usize, k: usize, point: u32, second: u32 },
     LoadRow { row: usize, pack: Vec<u32> },
     LoadTriple { first: usize, pack: Vec<u32> },
     Deal { row: usize, c: u32 },
@@ -50,7 +50,9 @@ impl Call {
         let mut rows = state.rows.clone();
         let mut out = unwritten(self.out_length());
         let answer: Answer = match *self {
-            Self::NewSession { n, t, post, point } => library.new_session(n, t, post, point),
+            Self::NewSession { n, t, post, k, point, second } => {
+                library.new_session(n, t, post, k, point, second)
+            }
             Self::LoadRow { row, ref pack } => library.load_row(s, &mut rows, row, pack),
             Self::LoadTriple { first, ref pack } => library.load_triple(s, &mut rows, first, pack),
             Self::Deal { row, c } => library.deal(s, &mut rows, row, c),
@@ -133,7 +135,7 @@ impl Call {
     /// Row numbers, post numbers and lengths.
     pub(super) fn sizes(&mut self) -> Vec<&mut usize> {
         match self {
-            Self::NewSession { n, t, post, .. } => vec![n, t, post],
+            Self::NewSession { n, t, post, k, .. } => vec![n, t, post, k],
             Self::LoadRow { row, .. } | Self::Deal { row, .. } | Self::Open { row, .. } => {
                 vec![row]
             }
@@ -152,7 +154,7 @@ impl Call {
     /// Elements given by themselves.
     pub(super) fn scalars(&mut self) -> Vec<&mut u32> {
         match self {
-            Self::NewSession { point, .. } => vec![point],
+            Self::NewSession { point, second, .. } => vec![point, second],
             Self::Deal { c, .. } => vec![c],
             Self::Linear { scale, fee, .. } => vec![scale, fee],
             _ => vec![],
@@ -188,8 +190,8 @@ fn rows_of(terms: &[Term]) -> Vec<usize> {
     terms.iter().flat_map(rows).collect()
 }
 
-/// The most numbers of a list to be filled: a triple for 255 posts, 3 × 255 × 765, has fewer.
-const LONGEST: usize = 600_000;
+/// The most numbers of a list to be filled: a triple for 255 posts, 3 × 255 × 1,274, has fewer.
+const LONGEST: usize = 1_000_000;
 
 /// A list of `length` numbers, no two alike, none an element, so that every write is seen.
 pub fn unwritten(length: usize) -> Vec<u32> {

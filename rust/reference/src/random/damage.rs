@@ -1,7 +1,7 @@
 //! Damage to calls and to what a post keeps.
 
 use super::{Call, Rng, State};
-use crate::{Shape, Term, MAX_TERMS, NO_ROW, ROWS};
+use crate::{Shape, Term, MAX_TERMS, MODULUS, NO_ROW, ROWS};
 
 /// Something wrong with session or rows.
 #[derive(Clone, Copy, Debug, PartialEq, Eq)]
@@ -16,7 +16,9 @@ pub enum Damage {
     Posts(usize),
     Threshold(usize),
     Post(usize),
+    Points(usize),
     Point(u32),
+    Second(u32),
     Length(usize),
 }
 
@@ -38,7 +40,9 @@ impl Damage {
             Self::Posts(n) => session.n = n,
             Self::Threshold(t) => session.t = t,
             Self::Post(post) => session.post = post,
+            Self::Points(k) => session.k = k,
             Self::Point(point) => session.point = point,
+            Self::Second(point) => session.second = point,
             Self::Length(length) => state.rows.resize(length, u32::MAX),
         }
     }
@@ -65,13 +69,16 @@ impl Damage {
         }
     }
 
-    /// Damage to n, t, post or check point.
+    /// Damage to n, t, post or check points.
     fn random_heading(rng: &mut Rng) -> Self {
-        match rng.below(4) {
+        let points = [0, MODULUS, u32::MAX, 1, 7];
+        match rng.below(6) {
             0 => Self::Posts(rng.size()),
             1 => Self::Threshold(rng.size()),
             2 => Self::Post(rng.size()),
-            _ => Self::Point(rng.pick(&[0, crate::MODULUS, u32::MAX, 1, 7])),
+            3 => Self::Points(rng.pick(&[0, 1, 2, 3, 256, 257, usize::MAX])),
+            4 => Self::Second(rng.pick(&points)),
+            _ => Self::Point(rng.pick(&points)),
         }
     }
 }

@@ -25,7 +25,7 @@ fn odd_byte(rng: &mut Rng) -> u8 {
     match rng.below(4) {
         0 => rng.below(256) as u8,
         1 => b'0' + rng.below(10) as u8,
-        _ => rng.pick(b",,-+ \r\n\0DOMSRGTXFL\""),
+        _ => rng.pick(b",,-+ \r\n\0DOMSRGTXFLW\""),
     }
 }
 

@@ -25,7 +25,7 @@ pub use call::{unwritten, Call, Outcome, State};
 pub use compare::{compare_paperwork, compare_script, compare_street, Difference};
 pub use damage::Damage;
 pub use lines::{join, mutate};
-pub use paperwork::{paperwork, written, Paperwork, PaperworkOutcome, WritePack};
+pub use paperwork::{paperwork, written, Paperwork, PaperworkOutcome, WriteMessage, WritePack};
 pub use rng::Rng;
 pub use script::{script, script_for, Script, Step};
 pub use seen::{Met, Seen, CALL_REFUSALS, PAPERWORK_REFUSALS, STREET_REFUSALS};

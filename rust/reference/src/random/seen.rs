@@ -31,15 +31,16 @@ pub const PAPERWORK_REFUSALS: Met = &[
     ("FactoryTriple", &[0, 1, 2, 4, 5, 8]),
     ("DealerNumber", &[0, 8]),
     ("WriteDeal", &[0, 1, 2, 6, 8, 12]),
-    ("WriteOpening", &[0, 1, 2, 3, 5, 6, 8, 12]),
-    ("WriteMasks", &[0, 1, 2, 3, 5, 6, 8, 12]),
-    ("Read", &[0, 1, 2, 5, 10, 11]),
+    ("WriteOpening", &[0, 1, 2, 3, 4, 5, 6, 8, 12]),
+    ("WriteMasks", &[0, 1, 2, 3, 4, 5, 6, 8, 12]),
+    ("Read", &[0, 1, 2, 4, 5, 10, 11]),
     ("WritePack", &[0, 1, 2, 3, 4, 5, 6, 7, 8, 12]),
 ];
 
 /// Every refusal that a line of the street program can get, by its letter; 1 for any before a start.
 pub const STREET_REFUSALS: Met = &[
     ("S", &[0, 1, 2, 3, 4, 10]),
+    ("W", &[0, 1, 2, 3, 4, 10]),
     ("R", &[0, 1, 7, 10, 11]),
     ("T", &[0, 1, 7, 10, 11]),
     ("D", &[0, 1, 7, 10, 11]),

@@ -1,26 +1,31 @@
 //! What the works knows of a shared number: the polynomials behind every post's row.
 
 use super::Rng;
-use crate::polynomial::evaluate;
-use crate::{Element, Shape, MAX_POSTS, MODULUS, STREET_POSTS};
+use crate::polynomial::{evaluate, times_difference};
+use crate::{Element, Shape, MAX_POINTS, MAX_POSTS, MODULUS, STREET_POSTS};
 
 type Field = Element<MODULUS>;
 
-/// Random n and t, now and then at the edges: one in twenty with more posts than the street program
-/// takes, as these take long.
-pub fn shape(rng: &mut Rng) -> (usize, usize) {
+/// Random n, t and k, now and then at the edges: one in twenty with more posts than the street
+/// program takes, as these take long.
+pub fn shape(rng: &mut Rng) -> Shape {
     let n = match rng.below(60) {
         0 => MAX_POSTS,
         1 | 2 => rng.between(STREET_POSTS + 1, MAX_POSTS),
         _ => street_posts(rng),
     };
-    (n, threshold(rng, n))
+    shape_of(rng, n)
 }
 
-/// Random n and t that the street program takes.
-pub fn street_shape(rng: &mut Rng) -> (usize, usize) {
+/// Random n, t and k that the street program takes.
+pub fn street_shape(rng: &mut Rng) -> Shape {
     let n = street_posts(rng);
-    (n, threshold(rng, n))
+    shape_of(rng, n)
+}
+
+fn shape_of(rng: &mut Rng, n: usize) -> Shape {
+    let (t, k) = (threshold(rng, n), rng.pick(&[1, 1, MAX_POINTS]));
+    Shape::checked(n, t, k).expect("a random shape is in range")
 }
 
 fn street_posts(rng: &mut Rng) -> usize {
@@ -40,21 +45,27 @@ fn threshold(rng: &mut Rng, n: usize) -> usize {
     }
 }
 
-/// A check point for each post, now and then an equal pair.
-pub fn check_points(rng: &mut Rng, n: usize) -> Vec<u32> {
-    let mut points: Vec<u32> = (0..n).map(|_| rng.element().max(1)).collect();
+/// All posts' check points, now and then an equal pair, of one post or of two.
+pub fn check_points(rng: &mut Rng, shape: Shape) -> Vec<u32> {
+    let mut points: Vec<u32> = (0..shape.all_points()).map(|_| rng.element().max(1)).collect();
     if rng.one_in(3) {
-        points[0] = points[n - 1];
+        let (one, other) = (rng.below(points.len()), rng.below(points.len()));
+        points[one] = points[other];
     }
     points
 }
 
-/// The polynomial plus k z^place (z − point): another one with the same value at the check point.
-pub fn unnoticed(polynomial: &[u32], place: usize, k: u32, point: u32) -> Vec<u32> {
-    let k = Field::from(k);
+/// The polynomial plus a multiple of z^place Π (z − w) over a post's check points: another one with
+/// the same values there.
+pub fn unnoticed(polynomial: &[u32], place: usize, multiple: u32, points: &[u32]) -> Vec<u32> {
+    let mut added = vec![Field::from(multiple)];
+    for &point in points {
+        added = times_difference(&added, point.into());
+    }
     let mut forged = polynomial.to_vec();
-    forged[place] = (Field::from(forged[place]) - k * point.into()).value();
-    forged[place + 1] = (Field::from(forged[place + 1]) + k).value();
+    for (coefficient, term) in forged[place..].iter_mut().zip(added) {
+        *coefficient = (Field::from(*coefficient) + term).value();
+    }
     forged
 }
 
@@ -107,9 +118,10 @@ impl SharedRow {
         [l.draw(), l2.draw(), l3.draw()[1..].to_vec()].concat()
     }
 
-    /// What post `post` with check point `point` holds.
-    pub fn row_of(&self, post: usize, point: u32) -> Vec<u32> {
-        let checks = self.v.iter().map(|v| evaluate::<MODULUS>(v, point.into()));
+    /// What post `post` with these check points holds.
+    pub fn row_of(&self, post: usize, points: &[u32]) -> Vec<u32> {
+        let at = |v| move |&point: &u32| evaluate::<MODULUS>(v, point.into());
+        let checks = self.v.iter().flat_map(|v| points.iter().map(at(v)));
         let sums = self
             .v
             .iter()
@@ -121,8 +133,8 @@ impl SharedRow {
 
     /// All posts' rows, post 1 first.
     pub fn packs(&self, points: &[u32]) -> Vec<u32> {
-        let posts = points.iter().zip(1..);
-        posts.flat_map(|(&point, post)| self.row_of(post, point)).collect()
+        let posts = points.chunks(points.len() / self.v.len()).zip(1..);
+        posts.flat_map(|(points, post)| self.row_of(post, points)).collect()
     }
 
     /// This row plus `scale` times `other`.

@@ -13,7 +13,9 @@ pub fn wild_state(rng: &mut Rng, sane: bool) -> State {
         n: if sane { 2 } else { rng.size() },
         t: if sane { 1 } else { rng.size() },
         post: if sane { rng.between(1, 2) } else { rng.size() },
+        k: if sane { 1 } else { rng.pick(&[0, 1, 2, 3]) },
         point: if sane { 3 } else { rng.number() },
+        second: rng.number(),
         marks: bytes(rng, 9),
         left: bytes(rng, 100),
         right: bytes(rng, 256),
@@ -36,7 +38,7 @@ pub fn wild_calls(rng: &mut Rng) -> [Call; 12] {
     };
     let (a, b, c) = (rng.size(), rng.size(), rng.size());
     [
-        Call::NewSession { n: a, t: b, post: c, point: rng.number() },
+        wild_start(rng, a, b, c),
         Call::LoadRow { row: a, pack: list(rng) },
         Call::LoadTriple { first: a, pack: list(rng) },
         Call::Deal { row: a, c: rng.number() },
@@ -49,6 +51,12 @@ pub fn wild_calls(rng: &mut Rng) -> [Call; 12] {
         Call::RelationMasks { terms: wild_terms(rng), out: rng.pick(&[0, 0, 4, 4, 8, 5]) },
         Call::RelationFinish { terms: wild_terms(rng), records: wild_records(rng), dest: a },
     ]
+}
+
+/// A new session, mostly of one or two points.
+fn wild_start(rng: &mut Rng, n: usize, t: usize, post: usize) -> Call {
+    let k = if rng.one_in(4) { rng.size() } else { rng.between(1, 2) };
+    Call::NewSession { n, t, post, k, point: rng.number(), second: rng.number() }
 }
 
 /// Up to three terms, rarely more than 32.

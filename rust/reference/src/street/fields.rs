@@ -4,7 +4,7 @@ use crate::lines::{body, number, numbers};
 use crate::refusal::{require, Refusal};
 use crate::shape::{ROWS, TRIPLE};
 
-/// "In `S` the field t may be `-`, meaning t = 1."
+/// "In `S` the field t may be `-`, meaning t = 1"; in `W` too.
 const DASH_THRESHOLD: u64 = 1;
 
 /// The bytes up to the first comma, line feed or end of input.
@@ -13,17 +13,30 @@ pub(super) fn first_field(line: &[u8]) -> &[u8] {
     &line[..end.unwrap_or(line.len())]
 }
 
-/// n, t, post and check point of an `S` line of right form.
-pub(super) fn start_numbers(line: &[u8]) -> Option<[u64; 4]> {
-    let fields: Vec<&[u8]> = body(line)?.split(|&byte| byte == b',').collect();
-    let &[b"S", n, t, post, point] = fields.as_slice() else {
-        return None;
-    };
-    let t = match t {
-        b"-" => DASH_THRESHOLD,
-        t => number(t)?,
-    };
-    Some([number(n)?, t, number(post)?, number(point)?])
+/// n, t and post of a start line, and one or two check points.
+pub(super) struct Start {
+    pub(super) n: u64,
+    pub(super) t: u64,
+    pub(super) post: u64,
+    pub(super) points: Vec<u64>,
+}
+
+impl Start {
+    /// `S,n,t,post,checkpoint` or `W,n,t,post,first,second`; `None` for another form.
+    pub(super) fn parse(line: &[u8]) -> Option<Self> {
+        let fields: Vec<&[u8]> = body(line)?.split(|&byte| byte == b',').collect();
+        let ([n, t, post], points) = match *fields.as_slice() {
+            [b"S", n, t, post, point] => ([n, t, post], vec![point]),
+            [b"W", n, t, post, first, second] => ([n, t, post], vec![first, second]),
+            _ => return None,
+        };
+        let t = match t {
+            b"-" => DASH_THRESHOLD,
+            t => number(t)?,
+        };
+        let points = points.into_iter().map(number).collect::<Option<_>>()?;
+        Some(Self { n: number(n)?, t, post: number(post)?, points })
+    }
 }
 
 /// The `count` numbers behind the letter of a line, 10 when it has another form.

@@ -13,7 +13,7 @@ use station::Station;
 pub const STREET_POSTS: usize = 32;
 
 /// The longest line that the program takes, with its line feed.
-pub const LONGEST_LINE: usize = 3173;
+pub const LONGEST_LINE: usize = 5252;
 
 /// The whole program, from its standard input to its standard output.
 pub fn street<const P: u32>(input: &[u8]) -> Vec<u8> {
@@ -53,7 +53,7 @@ impl<const P: u32> Street<P> {
 
     /// Takes one line, with its line feed unless the input ended first.
     pub fn line(&mut self, line: &[u8]) -> Result<Reply, Refusal> {
-        let start_line = first_field(line) == b"S";
+        let start_line = matches!(first_field(line), b"S" | b"W");
         match &mut self.station {
             None if start_line => {
                 self.station = Some(Station::start(line)?);
@@ -61,7 +61,7 @@ impl<const P: u32> Street<P> {
             }
             // "Until one is accepted any other line gets 1, an overlong one too."
             None => Err(Refusal::Posts),
-            // "A second `S` then gets 10, as does ... any line over" the longest.
+            // "A second start line of either letter gets 10", as does "any line over" the longest.
             Some(_) if start_line || line.len() > LONGEST_LINE => Err(Refusal::Form),
             Some(station) => station.line(line),
         }

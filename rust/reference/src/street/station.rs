@@ -1,8 +1,7 @@
 //! A started session of the street program.
 
 use super::fields::{
-    elements_in_range, first_field, plain_numbers, row_in_range, saturated, start_numbers,
-    triple_in_range,
+    elements_in_range, first_field, plain_numbers, row_in_range, saturated, triple_in_range, Start,
 };
 use super::kept::Kept;
 use super::{Reply, LONGEST_LINE, STREET_POSTS};
@@ -24,16 +23,19 @@ pub(super) struct Station<const P: u32> {
 }
 
 impl<const P: u32> Station<P> {
-    /// `S,n,t,post,checkpoint`: "an `S` gets 10, then 1 to 4".
+    /// "An `S` gets 10, then 1 to 4", and a `W` "by all the rules of an `S`".
     pub(super) fn start(line: &[u8]) -> Result<Self, Refusal> {
-        let [n, t, post, point] = start_numbers(line).ok_or(Refusal::Form)?;
+        let Start { n, t, post, points } = Start::parse(line).ok_or(Refusal::Form)?;
         require(n <= STREET_POSTS as u64, Refusal::Posts)?;
+        // What doesn't fit is no check point, as 0 isn't.
+        let narrowed = |point: &u64| u32::try_from(*point).unwrap_or(0);
         let session = Session {
             n: saturated(n),
             t: saturated(t),
             post: saturated(post),
-            // What doesn't fit is no check point, as 0 isn't.
-            point: u32::try_from(point).unwrap_or(0),
+            k: points.len(),
+            point: points.first().map_or(0, narrowed),
+            second: points.get(1).map_or(0, narrowed),
             ..Session::BLANK
         };
         let shape = session.checked::<P>()?;
@@ -131,9 +133,9 @@ impl<const P: u32> Station<P> {
 
     /// The post's own `M` line.
     fn mask_line_of(&self, first: usize, numbers: &[u32]) -> Result<Vec<u8>, Refusal> {
-        let Session { n, t, post, .. } = self.session;
+        let Session { n, t, k, post, .. } = self.session;
         let mut part = vec![0; LONGEST_LINE];
-        let length = try_write_masks::<P>((n, t), first, post, numbers, &mut part)?;
+        let length = try_write_masks::<P>((n, t, k), first, post, numbers, &mut part)?;
         part.truncate(length);
         Ok(part)
     }
@@ -159,7 +161,8 @@ impl<const P: u32> Station<P> {
     /// A `D`, `O` or `M` line, with a list of its elements.
     fn broadcast_line(&self, line: &[u8]) -> Result<(ReadLine, Vec<u32>), Refusal> {
         let mut elements = vec![0; self.shape.masks()];
-        let read = try_read::<P>(self.session.n, self.session.t, line, &mut elements)?;
+        let Session { n, t, k, .. } = self.session;
+        let read = try_read::<P>((n, t, k), line, &mut elements)?;
         Ok((read, elements))
     }
 

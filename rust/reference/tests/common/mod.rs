@@ -3,7 +3,7 @@
 
 pub mod program;
 
-use reference::random::{unwritten, Call, Outcome, SharedRow, State};
+use reference::random::{check_points, unwritten, Call, Outcome, Rng, SharedRow, State};
 use reference::{Library, Session, Shape, REFERENCE};
 
 /// "n = 3, t = 1, check points 2, 3, 5; f = 7 + 4z; v1 = 1 + 2z, v2 = 3 + z, v3 = 5 + 6z."
@@ -57,14 +57,23 @@ pub struct Station {
 }
 
 impl Station {
+    /// All posts, with as many check points each as there are for them.
     pub fn new(n: usize, t: usize, points: &[u32]) -> Self {
-        let shape = Shape::checked(n, t).unwrap();
-        let start = |(post, &point): (usize, &u32)| {
+        let k = points.len() / n;
+        let shape = Shape::checked(n, t, k).unwrap();
+        let start = |(post, points): (usize, &[u32])| {
             let blank = State { session: Session::BLANK, rows: vec![0; shape.all_rows()] };
-            let call = Call::NewSession { n, t, post, point };
-            assert_taken(&blank, call).state
+            let (point, second) = (points[0], points.get(1).copied().unwrap_or(0));
+            assert_taken(&blank, Call::NewSession { n, t, post, k, point, second }).state
         };
-        Self { shape, points: points.to_vec(), posts: (1..).zip(points).map(start).collect() }
+        let posts = (1..).zip(points.chunks(k)).map(start).collect();
+        Self { shape, points: points.to_vec(), posts }
+    }
+
+    /// All posts, with random check points.
+    pub fn random(rng: &mut Rng, shape: Shape) -> Self {
+        let points = check_points(rng, shape);
+        Self::new(shape.posts(), shape.threshold(), &points)
     }
 
     pub fn hand() -> Self {
@@ -76,7 +85,7 @@ impl Station {
     }
 
     pub fn t(&self) -> usize {
-        self.shape.shares_needed() - 1
+        self.shape.threshold()
     }
 
     /// Makes a call at every post, which must take it.
@@ -94,8 +103,8 @@ impl Station {
     /// Loads a row from the factory at every post.
     pub fn load(&mut self, row: usize, shared: &SharedRow) {
         let mut packs = vec![0; self.shape.row_packs()];
-        let (n, t) = (self.n(), self.t());
-        let refusal = REFERENCE.factory_row(n, t, &self.points, &shared.draw(), &mut packs);
+        let (n, t, k) = (self.n(), self.t(), self.shape.points());
+        let refusal = REFERENCE.factory_row(n, t, k, &self.points, &shared.draw(), &mut packs);
         assert_eq!(refusal, 0);
         let parts: Vec<_> = packs.chunks(self.shape.row()).map(<[u32]>::to_vec).collect();
         self.each(|post| Call::LoadRow { row, pack: parts[post - 1].clone() });
@@ -105,10 +114,10 @@ impl Station {
     pub fn load_triple(&mut self, first: usize, triple: &[SharedRow; 3]) {
         let mut packs = vec![0; 3 * self.shape.row_packs()];
         let draw = SharedRow::triple_draw(triple);
-        let refusal = REFERENCE.factory_triple(self.n(), self.t(), &self.points, &draw, &mut packs);
+        let (n, t, k) = (self.n(), self.t(), self.shape.points());
+        let refusal = REFERENCE.factory_triple(n, t, k, &self.points, &draw, &mut packs);
         assert_eq!(refusal, 0);
         let parts: Vec<_> = packs.chunks(self.shape.row()).map(<[u32]>::to_vec).collect();
-        let n = self.n();
         self.each(|post| Call::LoadTriple {
             first,
             pack: [0, n, 2 * n].map(|of| parts[of + post - 1].clone()).concat(),

@@ -25,30 +25,41 @@ pub struct Condition<'a> {
     pub checks: bool,
     /// The public sums m of these posts are 1.
     pub sums: &'a [usize],
+    /// Breaks a rule: the polynomials v have t+1 coefficients whatever the number of points, all
+    /// others are 0.
+    pub short: bool,
 }
 
 /// No condition: all draws.
-pub const ALL: Condition = Condition { own: &[], checks: false, sums: &[] };
+pub const ALL: Condition = Condition { own: &[], checks: false, sums: &[], short: false };
 
 impl Condition<'_> {
     /// Whether the places of a row's draw that aren't set from the start hold what they must.
     fn holds<const P: u32>(&self, shape: Shape, points: &[u32], draw: &[u32]) -> bool {
         let (f, v) = draw.split_at(shape.dealer_coefficients());
         let v = |post: usize| &v[(post - 1) * shape.coefficients()..][..shape.coefficients()];
-        let check = |post: usize, of: usize| evaluate::<P>(v(of), points[post - 1].into());
+        let points = |post: usize| shape.points_of(points, post).iter();
+        let check = |post: usize, of: usize| {
+            points(post).all(|&point| evaluate::<P>(v(of), point.into()) == Element::ONE)
+        };
         let sum = |of: usize| Element::<P>::from(v(of)[0]) + evaluate(f, Element::new(of as u64));
         let others = || (1..=shape.posts()).filter(|of| !self.own.contains(of));
         let mut posts = self.own.iter();
-        let checked = posts.all(|&post| others().all(|of| check(post, of) == Element::ONE));
+        let checked = posts.all(|&post| others().all(|of| check(post, of)));
         (!self.checks || checked) && self.sums.iter().all(|&of| sum(of) == Element::ONE)
     }
 
-    /// The places of a row's draw that are 1 from the start.
-    fn fixed(&self, shape: Shape) -> Vec<bool> {
-        let mut fixed = vec![false; shape.row_draw()];
-        for &post in self.own {
-            let start = shape.dealer_coefficients() + (post - 1) * shape.coefficients();
-            fixed[start..][..shape.coefficients()].fill(true);
+    /// What stands in each place of a row's draw from the start.
+    fn fixed(&self, shape: Shape) -> Vec<Option<u32>> {
+        let mut fixed = vec![None; shape.row_draw()];
+        let (f, v) = (shape.dealer_coefficients(), shape.coefficients());
+        for (post, polynomial) in (1..).zip(fixed[f..].chunks_mut(v)) {
+            if self.own.contains(&post) {
+                polynomial.fill(Some(1));
+            }
+            if self.short {
+                polynomial[f..].fill(Some(0));
+            }
         }
         fixed
     }
@@ -57,7 +68,7 @@ impl Condition<'_> {
     pub fn row_draws<const P: u32>(&self, shape: Shape, points: &[u32]) -> Vec<Vec<u32>> {
         let mut draws = vec![vec![]];
         for fixed in self.fixed(shape) {
-            let choices = if fixed { 1..2 } else { 0..P };
+            let choices = fixed.map_or(0..P, |number| number..number + 1);
             let longer = |draw: Vec<u32>| {
                 let choices = choices.clone();
                 choices.map(move |number| [draw.as_slice(), &[number]].concat())

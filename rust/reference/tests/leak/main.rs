@@ -11,6 +11,7 @@ mod products;
 mod record;
 mod relations;
 mod two_calls;
+mod two_points;
 mod two_rows;
 
 use std::collections::HashMap;
@@ -32,7 +33,7 @@ fn equal_counts<const P: u32>(
     group: &[usize],
     secrets: [&[u32]; 2],
 ) -> bool {
-    let shape = Shape::checked(plan.n, plan.t).unwrap();
+    let shape = Shape::checked(plan.n, plan.t, plan.k).unwrap();
     let row_draws = raw.row_draws::<P>(shape, points);
     let triple_draws = match plan.triples.len() {
         0 => vec![],
@@ -63,16 +64,16 @@ fn raw(row: usize) -> Raw {
 }
 
 fn plan(n: usize, t: usize, raw: &[Raw], triples: &[usize], steps: &[Step]) -> Plan {
-    Plan { n, t, raw: raw.to_vec(), triples: triples.to_vec(), steps: steps.to_vec() }
+    Plan { n, t, k: 1, raw: raw.to_vec(), triples: triples.to_vec(), steps: steps.to_vec() }
 }
 
 /// What post 1 of two sees of its own polynomial and of the other's check value is fixed.
-const SEEN_BY_1: Condition = Condition { own: &[1], checks: true, sums: &[] };
+const SEEN_BY_1: Condition = Condition { own: &[1], checks: true, ..ALL };
 
 /// The same, and m1: of a raw row, f(0) and v2 are left to chance.
-const SEEN_BY_1_WITH_SUM: Condition = Condition { own: &[1], checks: true, sums: &[1] };
+const SEEN_BY_1_WITH_SUM: Condition = Condition { own: &[1], checks: true, sums: &[1], ..ALL };
 
 /// All that post 1 of two sees of a pack: f(0) alone is left to chance.
-const ALL_SEEN_BY_1: Condition = Condition { own: &[1], checks: true, sums: &[1, 2] };
+const ALL_SEEN_BY_1: Condition = Condition { own: &[1], checks: true, sums: &[1, 2], ..ALL };
 
 const POINTS_5: [[u32; 2]; 3] = [[2, 2], [1, 3], [4, 1]];

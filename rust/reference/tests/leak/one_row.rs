@@ -75,12 +75,12 @@ fn a_dealer_knows_the_secret() {
 fn three_posts() {
     let deal = plan(3, 1, &[raw(7)], &[], &[LoadRow(7), Deal(7)]);
     assert!(equal_counts::<5>(&deal, &[3, 1, 3], (ALL, ALL), &[2], [&[1], &[4]]));
-    let own = Condition { own: &[1, 3], checks: false, sums: &[] };
+    let own = Condition { own: &[1, 3], checks: false, sums: &[], short: false };
     assert!(!equal_counts::<5>(&deal, &[3, 1, 3], (own, ALL), &[1, 3], [&[1], &[4]]));
     let steps = [LoadRow(7), Deal(7)];
     let higher = plan(3, 2, &[raw(7)], &[], &steps);
     assert!(equal_counts::<5>(&higher, &[3, 1, 4], (own, ALL), &[1, 3], [&[1], &[4]]));
-    let most = Condition { own: &[1, 2], checks: false, sums: &[3] };
+    let most = Condition { own: &[1, 2], checks: false, sums: &[3], short: false };
     assert!(!equal_counts::<5>(&higher, &[3, 1, 4], (most, ALL), &[1, 2, 3], [&[1], &[4]]));
 }
 
@@ -96,7 +96,7 @@ fn a_field_with_no_more_elements_than_posts_leaks() {
 /// it, follows the secret though no post sends a message.
 #[test]
 fn forged_blocks_in_a_record() {
-    let seen = Condition { own: &[1], checks: true, sums: &[1, 2, 3] };
+    let seen = Condition { own: &[1], checks: true, sums: &[1, 2, 3], short: false };
     let counts = |forged, secrets| {
         let steps = [LoadRow(0), Deal(0), OpenForged { row: 0, forged }];
         let plan = plan(3, 1, &[raw(0)], &[], &steps);

@@ -28,7 +28,7 @@ fn masks_and_finish_show_nothing() {
 
 #[test]
 fn nor_to_the_other_post_or_to_nobody() {
-    let seen_by_2 = Condition { own: &[2], checks: true, sums: &[2] };
+    let seen_by_2 = Condition { own: &[2], checks: true, sums: &[2], short: false };
     let counts = |condition, group: &[usize]| {
         let plan = square(&[]);
         equal_counts::<3>(&plan, &[2, 1], (condition, condition), group, [&[1], &[0]])
@@ -132,7 +132,7 @@ fn products_of_three_posts() {
     let opened = [&MULTIPLY[..], &[Message(4), Open(4)]].concat();
     let counts = |t: usize, group: &[usize], steps: &[Step], secrets: [&[u32]; 2]| {
         let plan = Plan { n: 3, t, ..two_factors(steps) };
-        let seen = Condition { own: group, checks: true, sums: &[1, 2, 3] };
+        let seen = Condition { own: group, checks: true, sums: &[1, 2, 3], short: false };
         equal_counts::<5>(&plan, &[3, 1, 4], (seen, seen), group, secrets)
     };
     let few: [(usize, &[usize]); 4] = [(1, &[1]), (1, &[3]), (2, &[1, 3]), (2, &[2, 3])];

@@ -9,10 +9,10 @@ use Rattle.factory.proofs.checks.check_points.Statement.{statement}
 use Rattle.factory.proofs.checks.check_points.Tie as tie
 
 abbrev Inv-loop : tie.InvT-loop
-Inv-loop points i₀ i-end i = anyBadPoint (drop i points) ≡ anyBadPoint points
+Inv-loop ws i₀ i-end i = anyBadPoint (drop i ws) ≡ anyBadPoint ws
 
 abbrev μ-loop : tie.MeasureT-loop
-μ-loop points i₀ i-end i = length points - i
+μ-loop ws i₀ i-end i = length ws - i
 
 ruleset turns = (needs, bad-found, good-passed, points-ended)
 

@@ -4,4 +4,4 @@ use Rattle.shape.proofs.Shape.row_len.Statement.{statement}
 use Rattle.shape.proofs.Shape.row_len.Tie as tie
 
 pub row-len-spec : {M : Type 1} → statement M
-row-len-spec = tie.close (tie.spec (λ c κs. search needs) (λ c. search needs) (λ c. search needs) (λ c. search needs))
+row-len-spec = tie.close (tie.spec (λ c κs. search needs) (λ c. search needs) (λ c. search needs))

@@ -16,12 +16,15 @@ fn opening<'a>(name: &'static str, i: &'a Inputs, record: &'a [u32]) -> Contest<
 }
 
 fn loading_and_dealing(i: &Inputs) -> Vec<Contest<'_>> {
-    let (n, t, point) = (i.n, i.t, i.points[0]);
+    let (n, t, k, own) = (i.n, i.t, i.points, &i.check_points[..i.points]);
     vec![
         contest(
             "new",
-            repeated(move || gantsorol::Session::new(n, t, 1, black_box(point)), |a| a.refusal),
-            repeated(move || REFERENCE.new_session(n, t, 1, black_box(point)), |a| a.refusal),
+            repeated(move || gantsorol::Session::new(n, t, 1, black_box(own)), |a| a.refusal),
+            repeated(
+                move || REFERENCE.new_session(n, t, 1, k, black_box(own)[0], own[k - 1]),
+                |a| a.refusal,
+            ),
         ),
         contest(
             "load row",
@@ -42,7 +45,7 @@ fn loading_and_dealing(i: &Inputs) -> Vec<Contest<'_>> {
 }
 
 fn openings(i: &Inputs) -> Vec<Contest<'_>> {
-    let message = || vec![0; i.t + 1];
+    let message = || vec![0; gantsorol::message_len(i.t, i.points)];
     vec![
         contest(
             "opening message",
@@ -62,7 +65,7 @@ fn openings(i: &Inputs) -> Vec<Contest<'_>> {
 }
 
 fn sums_and_products(i: &Inputs) -> Vec<Contest<'_>> {
-    let masks = || vec![0; gantsorol::masks_len(i.t)];
+    let masks = || vec![0; gantsorol::masks_len(i.t, i.points)];
     let [left, right] = &i.masked;
     vec![
         contest(
@@ -108,7 +111,7 @@ fn relation(i: &Inputs, first: usize) -> ([gantsorol::Term; 2], [Term; 2]) {
 }
 
 fn relations(i: &Inputs) -> Vec<Contest<'_>> {
-    let masks = || vec![0; gantsorol::masks_len(i.t)];
+    let masks = || vec![0; gantsorol::masks_len(i.t, i.points)];
     let records = || i.masked.concat();
     let ((unused, unused2), (masked, masked2)) = (relation(i, 3), relation(i, 6));
     vec![

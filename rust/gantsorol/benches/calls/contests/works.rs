@@ -20,17 +20,17 @@ extern "C" fn second_number(u: u32, constant: u32) -> gantsorol::Number {
 }
 
 fn factory_row(i: &Inputs) -> Contest<'_> {
-    let (n, t, points, draw) = (i.n, i.t, &i.points[..], &i.row_draw[..]);
-    let packs = n * gantsorol::row_len(n, t);
-    let ours = filling(packs, move |out| gantsorol::factory_row(n, t, points, draw, out), refused);
-    let second = filling(packs, move |out| REFERENCE.factory_row(n, t, points, draw, out), |&a| a);
-    let fastest = filling(packs, move |out| fastest::factory_row(n, t, points, draw, out), |&a| a);
+    let (n, t, k, own, draw) = (i.n, i.t, i.points, &i.check_points[..], &i.row_draw[..]);
+    let packs = gantsorol::packs_len(n, t, k);
+    let ours = filling(packs, move |out| gantsorol::factory_row(n, t, k, own, draw, out), refused);
+    let second = filling(packs, move |out| REFERENCE.factory_row(n, t, k, own, draw, out), |&a| a);
+    let fastest = filling(packs, move |out| fastest::factory_row(n, t, k, own, draw, out), |&a| a);
     Contest { name: "factory row", runs: vec![ours, second, fastest] }
 }
 
 pub fn all(i: &Inputs) -> Vec<Contest<'_>> {
-    let (n, t) = (i.n, i.t);
-    let packs = n * gantsorol::row_len(n, t);
+    let (n, t, k) = (i.n, i.t, i.points);
+    let packs = gantsorol::packs_len(n, t, k);
     let second: extern "C" fn(u32, u32) -> gantsorol::Number = second_number;
     let second = black_box(second);
     vec![
@@ -39,12 +39,12 @@ pub fn all(i: &Inputs) -> Vec<Contest<'_>> {
             "factory triple",
             filling(
                 3 * packs,
-                move |out| gantsorol::factory_triple(n, t, &i.points, &i.triple_draw, out),
+                move |out| gantsorol::factory_triple(n, t, k, &i.check_points, &i.triple_draw, out),
                 refused,
             ),
             filling(
                 3 * packs,
-                move |out| REFERENCE.factory_triple(n, t, &i.points, &i.triple_draw, out),
+                move |out| REFERENCE.factory_triple(n, t, k, &i.check_points, &i.triple_draw, out),
                 |&a| a,
             ),
         ),
@@ -62,21 +62,21 @@ pub fn all(i: &Inputs) -> Vec<Contest<'_>> {
 
 /// A post's file of a raw row and a triple.
 fn pack_file(i: &Inputs) -> Contest<'_> {
-    let (n, t, points) = (i.n, i.t, &i.points[..]);
+    let (n, t, k, own) = (i.n, i.t, i.points, &i.check_points[..]);
     let draws = [&i.row_draw[..], &i.triple_draw].concat();
     let (mut kinds, same) = ([0; gantsorol::ROWS], draws.clone());
     (kinds[0], kinds[1]) = (1, 3);
-    let room = 64 + 4 * 11 * gantsorol::row_len(n, t);
+    let room = gantsorol::pack_file_len(n, t, k, 1, 1);
     contest(
         "write pack file",
         filling(
             room,
-            move |out| gantsorol::write_pack(n, t, 1, points, &kinds, &draws, out),
+            move |out| gantsorol::write_pack(n, t, 1, k, own, &kinds, &draws, out),
             |a| a.refusal,
         ),
         filling(
             room,
-            move |out| REFERENCE.write_pack(n, t, 1, points, &kinds, &same, out),
+            move |out| REFERENCE.write_pack(n, t, k, 1, own, &kinds, &same, out),
             |a| a.refusal,
         ),
     )

@@ -5,7 +5,7 @@ mod opening;
 mod reading;
 mod writing;
 
-use gantsorol::{MAX_POSTS, MODULUS};
+use gantsorol::{masks_len, message_len, MAX_POINTS, MAX_POSTS, MODULUS};
 
 pub use factory::factory_row;
 pub use opening::open;
@@ -17,8 +17,16 @@ const P: u64 = MODULUS as u64;
 /// So many posts are few: lists of this length are enough for them.
 const FEW: usize = 32;
 
+/// And of so few the opening's lists are shorter still.
+const VERY_FEW: usize = 8;
+
 /// The most numbers of a line.
-const MOST_NUMBERS: usize = 2 * MAX_POSTS;
+const MOST_NUMBERS: usize = masks_len(MAX_POSTS - 1, MAX_POINTS);
+
+/// The most coefficients of a polynomial that is sent, with few posts and with the most.
+const VERY_FEW_SENT: usize = message_len(VERY_FEW - 1, MAX_POINTS);
+const FEW_SENT: usize = message_len(FEW - 1, MAX_POINTS);
+const MOST_SENT: usize = message_len(MAX_POSTS - 1, MAX_POINTS);
 
 /// x modulo p, for x below 2^62: p is 2^31 − 1.
 const fn reduced(x: u64) -> u64 {
@@ -48,6 +56,14 @@ fn checked_shape(n: usize, t: usize) -> Result<(), u8> {
         () if !(2..=MAX_POSTS).contains(&n) => Err(1),
         () if t < 1 || t >= n => Err(2),
         () => Ok(()),
+    }
+}
+
+/// Refusal 4 of a number of check points.
+fn checked_points(points: usize) -> Result<(), u8> {
+    match points {
+        1 | 2 => Ok(()),
+        _ => Err(4),
     }
 }
 

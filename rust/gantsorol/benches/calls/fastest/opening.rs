@@ -1,8 +1,10 @@
-//! The opening. Lists are of the size of the station: up to 32 posts, or up to the most.
+//! The opening. Lists are of the size of the station: up to 8 posts, up to 32, or up to the most.
 
-use gantsorol::{block_len, row_len, rows_len, Answer, Session, MAX_POSTS, ROWS};
+use gantsorol::{block_len, message_len, record_len, row_len, rows_len};
+use gantsorol::{Answer, Session, MAX_POSTS, ROWS};
 
-use super::{any_beyond, checked_shape, is_point, powers, product, reduced, value, FEW, P};
+use super::{any_beyond, checked_points, checked_shape, is_point, powers, product, reduced, value};
+use super::{FEW, FEW_SENT, MOST_SENT, P, VERY_FEW, VERY_FEW_SENT};
 
 const fn inverse(x: u64) -> u64 {
     let (mut power, mut base, mut exponent) = (1, x, P - 2);
@@ -42,7 +44,11 @@ static TABLE: Table = {
 
 /// The opening.
 pub fn open(session: Session, rows: &[u32], row: usize, record: &[u32]) -> Answer {
-    let number = if session.n <= FEW { number::<FEW> } else { number::<MAX_POSTS> };
+    let number = match session.n {
+        ..=VERY_FEW => number::<VERY_FEW, VERY_FEW_SENT>,
+        ..=FEW => number::<FEW, FEW_SENT>,
+        _ => number::<MAX_POSTS, MOST_SENT>,
+    };
     let (refusal, value) = match number(&session, rows, row, record) {
         Ok(value) => (0, value),
         Err(refusal) => (refusal, 0),
@@ -52,34 +58,52 @@ pub fn open(session: Session, rows: &[u32], row: usize, record: &[u32]) -> Answe
 
 /// Refusals 1 to 7.
 fn checked(session: &Session, rows: &[u32], row: usize, record: &[u32]) -> Result<(), u8> {
-    let Session { n, t, post, point, .. } = *session;
+    let Session { n, t, post, points, first, second, .. } = *session;
     checked_shape(n, t)?;
+    if post < 1 || post > n {
+        return Err(3);
+    }
+    checked_points(points)?;
     match () {
-        () if post < 1 || post > n => Err(3),
-        () if !is_point(point) => Err(4),
-        () if rows.len() != rows_len(n, t) || record.len() != n * block_len(t) => Err(5),
+        () if !is_point(first) || points == 2 && !is_point(second) => Err(4),
+        () if rows.len() != rows_len(n, t, points) => Err(5),
+        () if record.len() != record_len(n, t, points) => Err(5),
         () if row >= ROWS => Err(6),
         () if session.marks[row] != 2 => Err(7),
         () => Ok(()),
     }
 }
 
-fn number<const N: usize>(
+fn number<const N: usize, const SENT: usize>(
     session: &Session,
     rows: &[u32],
     row: usize,
     record: &[u32],
 ) -> Result<u32, u8> {
     checked(session, rows, row, record)?;
-    let Session { n, t, post, point, .. } = *session;
-    let numbers = &rows[row * row_len(n, t)..][..row_len(n, t)];
-    let (own, seen) = numbers.split_at(t + 1);
-    let (checks, sums) = seen.split_at(n);
+    let open = if session.points == 1 { opened::<N, N, 1> } else { opened::<N, SENT, 2> };
+    open(session, rows, row, record)
+}
 
-    let powers = powers::<N>(point, t + 1);
+/// A number opened by a post with so many check points.
+fn opened<const N: usize, const SENT: usize, const POINTS: usize>(
+    session: &Session,
+    rows: &[u32],
+    row: usize,
+    record: &[u32],
+) -> Result<u32, u8> {
+    let Session { n, t, post, first, second, .. } = *session;
+    let (width, count) = (row_len(n, t, POINTS), message_len(t, POINTS));
+    let numbers = &rows[row * width..][..width];
+    let (own, seen) = numbers.split_at(count);
+    let (checks, sums) = seen.split_at(POINTS * n);
+
+    let own_points = [first, second];
+    let powers: [[u32; SENT]; POINTS] =
+        std::array::from_fn(|which| powers::<SENT>(own_points[which], count));
     let mut beyond = any_beyond(numbers);
-    let (mut nodes, mut shares, mut count) = ([0; N], [0; N], 0);
-    for (index, block) in record.chunks_exact(t + 2).enumerate() {
+    let (mut nodes, mut shares, mut accepted) = ([0; N], [0; N], 0);
+    for (index, block) in record.chunks_exact(block_len(t, POINTS)).enumerate() {
         let sent = match block {
             _ if index + 1 == post => own,
             [1, sent @ ..] => sent,
@@ -90,15 +114,17 @@ fn number<const N: usize>(
             [] => continue,
         };
         beyond |= any_beyond(sent);
-        if value(sent, &powers) == u64::from(checks[index]) {
-            nodes[count] = index;
-            shares[count] = reduced(u64::from(sums[index]) + 4 * P - u64::from(sent[0]));
-            count += 1;
+        let checks = &checks[index * POINTS..][..POINTS];
+        if powers.iter().zip(checks).all(|(powers, &check)| value(sent, powers) == u64::from(check))
+        {
+            nodes[accepted] = index;
+            shares[accepted] = reduced(u64::from(sums[index]) + 4 * P - u64::from(sent[0]));
+            accepted += 1;
         }
     }
-    match (beyond, count > t) {
+    match (beyond, accepted > t) {
         (true, _) => Err(8),
-        (false, true) => agreed::<N>(&nodes[..count], &shares[..count], t + 1),
+        (false, true) => agreed::<N>(&nodes[..accepted], &shares[..accepted], t + 1),
         _ => Err(9),
     }
 }
@@ -160,7 +186,7 @@ fn weighed<const N: usize>(nodes: &[usize]) -> ([u64; N], u64) {
     let all = product(TABLE.factorial[last + 1], TABLE.inverse_factorial[first]);
     let all = gaps.iter().fold(all, |all, &gap| product(all, TABLE.inverse[gap as usize + 1]));
     // Distances are at most 31 or 254; twelve of the first and seven of the others are below 2^62.
-    let together = if N == FEW { 12 } else { 7 };
+    let together = if N <= FEW { 12 } else { 7 };
     let mut weights = [0; N];
     for (weight, &index) in weights.iter_mut().zip(nodes) {
         let below = TABLE.inverse_factorial[index - first];

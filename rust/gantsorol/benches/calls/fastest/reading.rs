@@ -1,28 +1,39 @@
 //! Reading a line: one pass over the text, the first eight digits of a number at once, into a list of its own, which is
 //! copied when the whole line is right.
 
-use gantsorol::{line_list_len, Line, MODULUS, ROWS};
+use gantsorol::{line_list_len, masks_len, message_len, Line, MAX_POSTS, MODULUS, ROWS};
 
-use super::{checked_shape, FEW, MOST_NUMBERS};
+use super::{checked_points, checked_shape, FEW, FEW_SENT, MOST_NUMBERS};
 
 const MOST_DIGITS: usize = 10;
 
 /// Reads a line.
-pub fn read(n: usize, t: usize, line: &[u8], out: &mut [u32]) -> Line {
-    let read = if n <= FEW { read_into::<{ 2 * FEW }> } else { read_into::<MOST_NUMBERS> };
-    read(n, t, line, out).unwrap_or_else(|refusal| Line { refusal, letter: 0, row: 0, post: 0 })
+pub fn read(n: usize, t: usize, points: usize, line: &[u8], out: &mut [u32]) -> Line {
+    let read = match (n <= FEW, points) {
+        (true, 1) => read_into::<{ 2 * FEW }>,
+        (true, _) => read_into::<{ 2 * FEW_SENT }>,
+        (false, 1) => read_into::<{ 2 * MAX_POSTS }>,
+        (false, _) => read_into::<MOST_NUMBERS>,
+    };
+    let none = |refusal| Line { refusal, letter: 0, row: 0, post: 0 };
+    read([n, t, points], line, out).unwrap_or_else(none)
 }
 
-fn read_into<const N: usize>(n: usize, t: usize, line: &[u8], out: &mut [u32]) -> Result<Line, u8> {
+fn read_into<const N: usize>(
+    [n, t, points]: [usize; 3],
+    line: &[u8],
+    out: &mut [u32],
+) -> Result<Line, u8> {
     checked_shape(n, t)?;
-    if out.len() != line_list_len(t) {
+    checked_points(points)?;
+    if out.len() != line_list_len(t, points) {
         return Err(5);
     }
     let &[letter, ..] = line else { return Err(10) };
     let (last_row, count) = match letter {
         b'D' => (ROWS - 1, 1),
-        b'O' => (ROWS - 1, t + 1),
-        b'M' => (ROWS - 3, 2 * (t + 1)),
+        b'O' => (ROWS - 1, message_len(t, points)),
+        b'M' => (ROWS - 3, masks_len(t, points)),
         _ => return Err(10),
     };
     let mut rest = &line[1..];

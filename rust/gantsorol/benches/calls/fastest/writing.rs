@@ -1,8 +1,8 @@
 //! Writing a line: eight digits of a number at a time. The line is measured only where the room might be too short.
 
-use gantsorol::{masks_len, Written, ROWS};
+use gantsorol::{message_len, Written, ROWS};
 
-use super::{any_beyond, checked_shape};
+use super::{any_beyond, checked_points, checked_shape};
 
 /// The most bytes of a number and the comma before it.
 const MOST_BYTES: usize = 11;
@@ -11,13 +11,14 @@ const MOST_BYTES: usize = 11;
 pub fn write_opening(
     n: usize,
     t: usize,
+    points: usize,
     row: usize,
     post: usize,
     numbers: &[u32],
     out: &mut [u8],
 ) -> Written {
     written(checked_shape(n, t).and_then(|()| {
-        checked(n, post, row, ROWS - 1, numbers, t + 1)?;
+        checked([n, t, points], post, row, ROWS - 1, numbers, 1)?;
         write(b'O', row, post, numbers, out)
     }))
 }
@@ -26,13 +27,14 @@ pub fn write_opening(
 pub fn write_masks(
     n: usize,
     t: usize,
+    points: usize,
     row: usize,
     post: usize,
     numbers: &[u32],
     out: &mut [u8],
 ) -> Written {
     written(checked_shape(n, t).and_then(|()| {
-        checked(n, post, row, ROWS - 3, numbers, masks_len(t))?;
+        checked([n, t, points], post, row, ROWS - 3, numbers, 2)?;
         write(b'M', row, post, numbers, out)
     }))
 }
@@ -44,18 +46,21 @@ fn written(outcome: Result<usize, u8>) -> Written {
     }
 }
 
-/// Refusals 3 to 8.
+/// Refusals 3 to 8, of a line with so many messages.
 fn checked(
-    n: usize,
+    [n, t, points]: [usize; 3],
     post: usize,
     row: usize,
     last_row: usize,
     numbers: &[u32],
-    count: usize,
+    messages: usize,
 ) -> Result<(), u8> {
+    if post < 1 || post > n {
+        return Err(3);
+    }
+    checked_points(points)?;
     match () {
-        () if post < 1 || post > n => Err(3),
-        () if numbers.len() != count => Err(5),
+        () if numbers.len() != messages * message_len(t, points) => Err(5),
         () if row > last_row => Err(6),
         () if any_beyond(numbers) => Err(8),
         () => Ok(()),

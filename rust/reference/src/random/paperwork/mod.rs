@@ -11,14 +11,27 @@ use crate::{Library, ReadLine, Shape, Written, ROWS, TRIPLE};
 #[derive(Clone, Debug, PartialEq, Eq)]
 #[allow(missing_docs)]
 pub enum Paperwork {
-    FactoryRow { n: usize, t: usize, points: Vec<u32>, draw: Vec<u32>, out: usize },
-    FactoryTriple { n: usize, t: usize, points: Vec<u32>, draw: Vec<u32>, out: usize },
+    FactoryRow { n: usize, t: usize, k: usize, points: Vec<u32>, draw: Vec<u32>, out: usize },
+    FactoryTriple { n: usize, t: usize, k: usize, points: Vec<u32>, draw: Vec<u32>, out: usize },
     DealerNumber { u: u32, f0: u32 },
     WriteDeal { n: usize, t: usize, row: usize, c: u32, out: usize },
-    WriteOpening { n: usize, t: usize, row: usize, post: usize, numbers: Vec<u32>, out: usize },
-    WriteMasks { n: usize, t: usize, first: usize, post: usize, numbers: Vec<u32>, out: usize },
-    Read { n: usize, t: usize, line: Vec<u8>, out: usize },
+    WriteOpening(WriteMessage),
+    WriteMasks(WriteMessage),
+    Read { n: usize, t: usize, k: usize, line: Vec<u8>, out: usize },
     WritePack(WritePack),
+}
+
+/// The arguments of a message's writer.
+#[derive(Clone, Debug, PartialEq, Eq)]
+#[allow(missing_docs)]
+pub struct WriteMessage {
+    pub n: usize,
+    pub t: usize,
+    pub k: usize,
+    pub row: usize,
+    pub post: usize,
+    pub numbers: Vec<u32>,
+    pub out: usize,
 }
 
 /// The arguments of a pack file's writer.
@@ -27,6 +40,7 @@ pub enum Paperwork {
 pub struct WritePack {
     pub n: usize,
     pub t: usize,
+    pub k: usize,
     pub post: usize,
     pub points: Vec<u32>,
     pub kinds: Vec<u8>,
@@ -48,14 +62,14 @@ impl Paperwork {
     /// Makes the call.
     pub fn perform(&self, library: &impl Library) -> PaperworkOutcome {
         match *self {
-            Self::FactoryRow { n, t, ref points, ref draw, out } => {
+            Self::FactoryRow { n, t, k, ref points, ref draw, out } => {
                 let mut out = unwritten(out);
-                let refusal = library.factory_row(n, t, points, draw, &mut out);
+                let refusal = library.factory_row(n, t, k, points, draw, &mut out);
                 PaperworkOutcome::Factory { refusal, out }
             }
-            Self::FactoryTriple { n, t, ref points, ref draw, out } => {
+            Self::FactoryTriple { n, t, k, ref points, ref draw, out } => {
                 let mut out = unwritten(out);
-                let refusal = library.factory_triple(n, t, points, draw, &mut out);
+                let refusal = library.factory_triple(n, t, k, points, draw, &mut out);
                 PaperworkOutcome::Factory { refusal, out }
             }
             Self::DealerNumber { u, f0 } => {
@@ -65,20 +79,20 @@ impl Paperwork {
             Self::WriteDeal { n, t, row, c, out } => {
                 written(out, |out| library.write_deal(n, t, row, c, out))
             }
-            Self::WriteOpening { n, t, row, post, ref numbers, out } => {
-                written(out, |out| library.write_opening(n, t, row, post, numbers, out))
+            Self::WriteOpening(WriteMessage { n, t, k, row, post, ref numbers, out }) => {
+                written(out, |out| library.write_opening(n, t, k, row, post, numbers, out))
             }
-            Self::WriteMasks { n, t, first, post, ref numbers, out } => {
-                written(out, |out| library.write_masks(n, t, first, post, numbers, out))
+            Self::WriteMasks(WriteMessage { n, t, k, row, post, ref numbers, out }) => {
+                written(out, |out| library.write_masks(n, t, k, row, post, numbers, out))
             }
-            Self::Read { n, t, ref line, out } => {
+            Self::Read { n, t, k, ref line, out } => {
                 let mut out = unwritten(out);
-                let read = library.read(n, t, line, &mut out);
+                let read = library.read(n, t, k, line, &mut out);
                 PaperworkOutcome::Read { read, out }
             }
             Self::WritePack(ref pack) => {
-                let WritePack { n, t, post, points, kinds, draws, out } = pack;
-                written(*out, |out| library.write_pack(*n, *t, *post, points, kinds, draws, out))
+                let WritePack { n, t, k, post, out, ref points, ref kinds, ref draws } = *pack;
+                written(out, |out| library.write_pack(n, t, k, post, points, kinds, draws, out))
             }
         }
     }
@@ -88,7 +102,7 @@ impl Paperwork {
             Self::FactoryRow { points, draw, .. } | Self::FactoryTriple { points, draw, .. } => {
                 vec![points, draw]
             }
-            Self::WriteOpening { numbers, .. } | Self::WriteMasks { numbers, .. } => vec![numbers],
+            Self::WriteOpening(message) | Self::WriteMasks(message) => vec![&mut message.numbers],
             Self::WritePack(WritePack { points, draws, .. }) => vec![points, draws],
             _ => vec![],
         }
@@ -97,13 +111,15 @@ impl Paperwork {
     fn sizes(&mut self) -> Vec<&mut usize> {
         match self {
             Self::DealerNumber { .. } => vec![],
-            Self::FactoryRow { n, t, out, .. }
-            | Self::FactoryTriple { n, t, out, .. }
-            | Self::Read { n, t, out, .. } => vec![n, t, out],
+            Self::FactoryRow { n, t, k, out, .. }
+            | Self::FactoryTriple { n, t, k, out, .. }
+            | Self::Read { n, t, k, out, .. } => vec![n, t, k, out],
             Self::WriteDeal { n, t, row, out, .. } => vec![n, t, row, out],
-            Self::WritePack(WritePack { n, t, post, out, .. }) => vec![n, t, post, out],
-            Self::WriteOpening { n, t, row: first, post, out, .. }
-            | Self::WriteMasks { n, t, first, post, out, .. } => vec![n, t, first, post, out],
+            Self::WritePack(WritePack { n, t, k, post, out, .. }) => vec![n, t, k, post, out],
+            Self::WriteOpening(message) | Self::WriteMasks(message) => {
+                let WriteMessage { n, t, k, row, post, out, .. } = message;
+                vec![n, t, k, row, post, out]
+            }
         }
     }
 
@@ -167,44 +183,45 @@ pub fn paperwork(seed: u64) -> Paperwork {
 fn valid(rng: &mut Rng) -> Paperwork {
     let kind = rng.below(12);
     // The factory takes long for large stations.
-    let (n, t) = if kind < 4 && !rng.one_in(5) { street_shape(rng) } else { super::shape(rng) };
-    let shape = Shape::checked(n, t).expect("a random shape is in range");
+    let small = kind < 4 && !rng.one_in(5);
+    let shape = if small { street_shape(rng) } else { super::shape(rng) };
+    let (n, t, k) = (shape.posts(), shape.threshold(), shape.points());
     match kind {
-        0 => factory_row(rng, shape, n, t),
-        1 => factory_triple(rng, shape, n, t),
-        2 | 3 => Paperwork::WritePack(WritePack::valid(rng, shape, n, t)),
+        0 | 1 => factory(rng, shape, kind == 0),
+        2 | 3 => Paperwork::WritePack(WritePack::valid(rng, shape)),
         4 => Paperwork::DealerNumber { u: rng.element(), f0: rng.element() },
         5 => {
             let (row, c) = (rng.below(ROWS), rng.element());
             let out = room(rng, &join("D", [row as u64, c.into()]));
             Paperwork::WriteDeal { n, t, row, c, out }
         }
-        6 => {
-            let (row, post) = (rng.below(ROWS), rng.between(1, n));
-            let numbers = rng.elements(shape.coefficients());
-            let out = room(rng, &post_line("O", row, post, &numbers));
-            Paperwork::WriteOpening { n, t, row, post, numbers, out }
-        }
-        7 => {
-            let (first, post) = (rng.below(ROWS - TRIPLE + 1), rng.between(1, n));
-            let numbers = rng.elements(shape.masks());
-            let out = room(rng, &post_line("M", first, post, &numbers));
-            Paperwork::WriteMasks { n, t, first, post, numbers, out }
-        }
-        _ => Paperwork::Read { n, t, line: valid_line(rng, shape), out: shape.masks() },
+        6 => Paperwork::WriteOpening(write_message(rng, shape, "O")),
+        7 => Paperwork::WriteMasks(write_message(rng, shape, "M")),
+        _ => Paperwork::Read { n, t, k, line: valid_line(rng, shape), out: shape.masks() },
     }
 }
 
-fn factory_row(rng: &mut Rng, shape: Shape, n: usize, t: usize) -> Paperwork {
-    let points = check_points(rng, n);
-    let draw = SharedRow::random(rng, shape).draw();
-    Paperwork::FactoryRow { n, t, points, draw, out: shape.row_packs() }
+fn write_message(rng: &mut Rng, shape: Shape, letter: &str) -> WriteMessage {
+    let (n, t, k) = (shape.posts(), shape.threshold(), shape.points());
+    let post = rng.between(1, n);
+    let (rows, count) = match letter {
+        "O" => (ROWS, shape.coefficients()),
+        _ => (ROWS - TRIPLE + 1, shape.masks()),
+    };
+    let (row, numbers) = (rng.below(rows), rng.elements(count));
+    let out = room(rng, &post_line(letter, row, post, &numbers));
+    WriteMessage { n, t, k, row, post, numbers, out }
 }
 
-fn factory_triple(rng: &mut Rng, shape: Shape, n: usize, t: usize) -> Paperwork {
-    let points = check_points(rng, n);
+fn factory(rng: &mut Rng, shape: Shape, one_row: bool) -> Paperwork {
+    let (n, t, k) = (shape.posts(), shape.threshold(), shape.points());
+    let points = check_points(rng, shape);
+    if one_row {
+        let draw = SharedRow::random(rng, shape).draw();
+        return Paperwork::FactoryRow { n, t, k, points, draw, out: shape.row_packs() };
+    }
     let draw = SharedRow::triple_draw(&SharedRow::random_triple(rng, shape));
-    Paperwork::FactoryTriple { n, t, points, draw, out: TRIPLE * shape.row_packs() }
+    Paperwork::FactoryTriple { n, t, k, points, draw, out: TRIPLE * shape.row_packs() }
 }
 
 /// A part that the line fits in, or just doesn't.

@@ -7,22 +7,25 @@ use crate::{Shape, ROWS, STREET_POSTS, TRIPLE};
 
 impl WritePack {
     /// A valid call, whose part is at times too short.
-    pub(super) fn valid(rng: &mut Rng, shape: Shape, n: usize, t: usize) -> Self {
-        let points = check_points(rng, n);
+    pub(super) fn valid(rng: &mut Rng, shape: Shape) -> Self {
+        let (n, t, k) = (shape.posts(), shape.threshold(), shape.points());
+        let points = check_points(rng, shape);
         let post = rng.between(1, n);
         let kinds = random_kinds(rng, n);
-        let point = points[post - 1];
-        let mut file = join("S", [n as u64, t as u64, post as u64, point.into()]);
+        let own = shape.points_of(&points, post);
+        let heading = [n, t, post].map(|number| number as u64).into_iter();
+        let letter = if k == 1 { "S" } else { "W" };
+        let mut file = join(letter, heading.chain(own.iter().map(|&point| point.into())));
         let mut draws = vec![];
         for (row, &kind) in kinds.iter().enumerate() {
             let (letter, pack, draw) = match kind {
                 1 => {
                     let shared = SharedRow::random(rng, shape);
-                    ("R", shared.row_of(post, point), shared.draw())
+                    ("R", shared.row_of(post, own), shared.draw())
                 }
                 3 => {
                     let triple = SharedRow::random_triple(rng, shape);
-                    let rows = triple.each_ref().map(|row| row.row_of(post, point));
+                    let rows = triple.each_ref().map(|row| row.row_of(post, own));
                     ("T", rows.concat(), SharedRow::triple_draw(&triple))
                 }
                 _ => continue,
@@ -33,7 +36,7 @@ impl WritePack {
             ));
             draws.extend(draw);
         }
-        Self { n, t, post, points, kinds, draws, out: room(rng, &file) }
+        Self { n, t, k, post, points, kinds, draws, out: room(rng, &file) }
     }
 
     /// Makes one kind, or how many there are, different; mostly the draws then have their length.
@@ -51,7 +54,7 @@ impl WritePack {
             3 => self.set(rng, &(0..ROWS).collect::<Vec<_>>(), &[2, 4, 5, 128, 255]),
             _ => self.set(rng, &(0..ROWS).collect::<Vec<_>>(), &[0, 1, 3]),
         }
-        if let (false, Ok(shape)) = (rng.one_in(4), Shape::checked(self.n, self.t)) {
+        if let (false, Ok(shape)) = (rng.one_in(4), Shape::checked(self.n, self.t, self.k)) {
             let length = |&kind: &u8| match kind {
                 1 => shape.row_draw(),
                 3 => shape.triple_draw(),

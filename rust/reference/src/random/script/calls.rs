@@ -26,7 +26,7 @@ impl Author<'_> {
     fn load_row(&mut self) -> Option<()> {
         let row = self.pick(mark::EMPTY)?;
         let shared = SharedRow::random(self.rng, self.shape);
-        let pack = shared.row_of(self.post, self.point());
+        let pack = self.own_part(&shared);
         self.keep(row, mark::RAW, shared);
         self.step(Call::LoadRow { row, pack }, None);
         Some(())
@@ -37,7 +37,7 @@ impl Author<'_> {
         let firsts: Vec<usize> = (0..=ROWS - TRIPLE).filter(empty).collect();
         let first = self.rng.pick_any(&firsts)?;
         let triple = SharedRow::random_triple(self.rng, self.shape);
-        let rows = triple.iter().map(|row| row.row_of(self.post, self.point()));
+        let rows = triple.iter().map(|row| self.own_part(row));
         let pack = rows.collect::<Vec<_>>().concat();
         let marks = [mark::UNUSED, mark::FOLLOWING, mark::FOLLOWING];
         for ((shared, mark), row) in triple.into_iter().zip(marks).zip(first..) {

@@ -66,16 +66,15 @@ impl Script {
 /// The script of `seed`: about `length` valid calls, and as many trials.
 pub fn script(seed: u64, length: usize) -> Script {
     let mut rng = Rng::new(seed);
-    let (n, t) = super::shape(&mut rng);
-    script_for(&mut rng, n, t, length)
+    let shape = super::shape(&mut rng);
+    script_for(&mut rng, shape, length)
 }
 
-/// A script for n posts, 2 to 255, and threshold t, 1 to n − 1.
-pub fn script_for(rng: &mut Rng, n: usize, t: usize, length: usize) -> Script {
-    let shape = Shape::checked(n, t).expect("n and t of a script are in range");
-    let points = check_points(rng, n);
+/// A script for these numbers of posts and check points.
+pub fn script_for(rng: &mut Rng, shape: Shape, length: usize) -> Script {
+    let points = check_points(rng, shape);
     let author = Author {
-        post: rng.between(1, n),
+        post: rng.between(1, shape.posts()),
         points,
         shape,
         marks: [mark::EMPTY; ROWS],
@@ -110,24 +109,31 @@ impl Author<'_> {
         self.finished()
     }
 
-    fn point(&self) -> u32 {
-        self.points[self.post - 1]
+    /// The own check points.
+    fn points(&self) -> &[u32] {
+        self.shape.points_of(&self.points, self.post)
     }
 
     fn start(&mut self) {
-        let (n, t) = (self.shape.posts(), self.shape.shares_needed() - 1);
-        let call = Call::NewSession { n, t, post: self.post, point: self.point() };
-        self.step(call, None);
+        let (n, t, k) = (self.shape.posts(), self.shape.threshold(), self.shape.points());
+        let (point, other) = (self.points()[0], self.rng.number());
+        // With one point the second isn't looked at.
+        let second = self.points().get(1).copied().unwrap_or(other);
+        self.step(Call::NewSession { n, t, post: self.post, k, point, second }, None);
     }
 
     fn finished(self) -> Script {
-        let point = self.point();
         let rows = (0..self.shape.all_rows()).map(|_| self.rng.number()).collect();
         let written = self.shared.iter().enumerate();
         let written = written
-            .filter_map(|(row, shared)| Some((row, shared.as_ref()?.row_of(self.post, point))))
+            .filter_map(|(row, shared)| Some((row, self.own_part(shared.as_ref()?))))
             .collect();
         Script { rows, steps: self.steps, written, marks: self.marks, opened: self.opened }
+    }
+
+    /// The own part of a shared number.
+    fn own_part(&self, shared: &SharedRow) -> Vec<u32> {
+        shared.row_of(self.post, self.points())
     }
 
     /// A valid call, with trials of it before and after.

@@ -57,26 +57,27 @@ impl Author<'_> {
         [vec![1], message].concat()
     }
 
-    /// Another polynomial that differs at the check point.
+    /// Another polynomial that differs at every check point.
     fn noticed(&mut self, polynomial: &[u32]) -> Vec<u32> {
         let mut forged = polynomial.to_vec();
         forged[0] = (forged[0] + 1 + self.rng.below(1000) as u32) % MODULUS;
         forged
     }
 
-    /// Another polynomial that agrees at the check point, with another constant: a false share.
+    /// Another polynomial that agrees at the check points, with another constant: a false share.
     fn accepted_lie(&mut self, polynomial: &[u32]) -> Vec<u32> {
-        let k = self.rng.element();
-        unnoticed(polynomial, 0, k, self.point())
+        let multiple = self.rng.element();
+        unnoticed(polynomial, 0, multiple, self.points())
     }
 
-    /// Another polynomial that agrees at the check point and at 0, so that its share is true. With
-    /// two coefficients there is none.
+    /// Another polynomial that agrees at the check points and at 0, so that its share is true. With
+    /// t = 1 there is none.
     fn harmless_lie(&mut self, polynomial: &[u32]) -> Vec<u32> {
-        if polynomial.len() < 3 {
+        let most = polynomial.len() - 1 - self.shape.points();
+        if most == 0 {
             return polynomial.to_vec();
         }
-        let (place, k) = (self.rng.between(1, polynomial.len() - 2), self.rng.element());
-        unnoticed(polynomial, place, k, self.point())
+        let (place, multiple) = (self.rng.between(1, most), self.rng.element());
+        unnoticed(polynomial, place, multiple, self.points())
     }
 }

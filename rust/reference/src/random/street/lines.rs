@@ -11,13 +11,22 @@ fn line(letter: &str, heading: &[usize], elements: &[u32]) -> Vec<u8> {
     join(letter, heading.chain(elements.iter().map(|&element| element.into())))
 }
 
+/// A start line with a dash in the place of t.
+fn with_dash(start: &[u8]) -> Vec<u8> {
+    let mut fields: Vec<&[u8]> = start.split(|&byte| byte == b',').collect();
+    fields[2] = b"-";
+    fields.join(&b',')
+}
+
 impl Clerk {
     pub(super) fn start(&mut self) -> Vec<u8> {
-        let (n, t, post, point) = (self.shape.posts(), self.threshold, self.post, self.point());
+        let (n, t, post) = (self.shape.posts(), self.shape.threshold(), self.post);
+        let letter = ["S", "W"][self.shape.points() - 1];
+        let start = line(letter, &[n, t, post], self.points());
         if t == 1 && self.rng.one_in(2) {
-            return format!("S,{n},-,{post},{point}\n").into_bytes();
+            return with_dash(&start);
         }
-        line("S", &[n, t, post], &[point])
+        start
     }
 
     /// A start that is wrong in something, for more posts than the program takes among them.
@@ -26,12 +35,16 @@ impl Clerk {
         let n = self.rng.pick(&[right, right, right, 1, STREET_POSTS + 1, 64, 255, 256, 257]);
         let t = self.rng.pick(&[0, 1, n - 1, n]);
         let post = self.rng.pick(&[0, 1, n, n + 1]);
-        line("S", &[n, t, post], &[self.rng.pick(&[0, 1, MODULUS - 1, MODULUS])])
+        let mut point = || self.rng.pick(&[0, 1, 1, MODULUS - 1, MODULUS]);
+        let points = [point(), point()];
+        let (letter, count) = self.rng.pick(&[("S", 1), ("W", 2), ("W", 1), ("S", 2)]);
+        line(letter, &[n, t, post], &points[..count])
     }
 
     /// A line about as long as the longest taken, or longer.
     pub(super) fn overlong(&mut self) -> Vec<u8> {
-        let letters: &[&[u8]] = &[b"S,", b"S", b"R,0,", b"O,", b"", b"SS,", b"T,0,", b"M,", b"X,"];
+        let letters: &[&[u8]] =
+            &[b"S,", b"S", b"W,", b"W", b"R,0,", b"O,", b"", b"SS,", b"T,0,", b"M,", b"X,"];
         let length = self.rng.between(LONGEST_LINE - 3, LONGEST_LINE + 60);
         let mut line = self.rng.pick(letters).to_vec();
         line.resize(length, b'1');
@@ -40,7 +53,7 @@ impl Clerk {
     }
 
     pub(super) fn other_letter(&mut self) -> Vec<u8> {
-        let letter = self.rng.pick(&["W", "A", "d", "x", "SS", "XX", ""]);
+        let letter = self.rng.pick(&["A", "d", "w", "x", "SS", "XX", ""]);
         let heading = [self.rng.below(ROWS - 2), self.post];
         line(letter, &heading, &self.rng.elements(self.shape.masks()))
     }
@@ -52,7 +65,7 @@ impl Clerk {
 
     pub(super) fn raw_row_of(&mut self, row: usize) -> Vec<u8> {
         let shared = SharedRow::random(&mut self.rng, self.shape);
-        let pack = shared.row_of(self.post, self.point());
+        let pack = self.own_part(&shared);
         self.book.load(row, shared);
         line("R", &[row], &pack)
     }
@@ -64,13 +77,13 @@ impl Clerk {
 
     pub(super) fn triple_of(&mut self, first: usize) -> Vec<u8> {
         let triple = SharedRow::random_triple(&mut self.rng, self.shape);
-        let rows = triple.each_ref().map(|row| row.row_of(self.post, self.point()));
+        let rows = triple.each_ref().map(|row| self.own_part(row));
         self.book.load_triple(first, triple);
         line("T", &[first], &rows.concat())
     }
 
-    /// The longest lines for these posts: a `T` has 3,173 bytes for 32 posts and t = 31. What they
-    /// load, nobody can open.
+    /// The longest lines for these posts: a `T` has 5,252 bytes for 32 posts, t = 31 and two check
+    /// points. What they load, nobody can open.
     pub(super) fn longest_line(&mut self) -> Vec<u8> {
         let row = self.rng.between(10, ROWS - TRIPLE);
         let (row_line, triple_line) = (("R", self.shape.row()), ("T", self.shape.triple()));
@@ -160,7 +173,8 @@ impl Clerk {
     /// Another polynomial, every second time one that this post accepts.
     fn forged(&mut self, polynomial: &[u32]) -> (Vec<u32>, Heard) {
         if self.rng.one_in(2) {
-            return (unnoticed(polynomial, 0, self.rng.element(), self.point()), Heard::Lie);
+            let multiple = self.rng.element();
+            return (unnoticed(polynomial, 0, multiple, self.points()), Heard::Lie);
         }
         let mut forged = polynomial.to_vec();
         let place = self.rng.below(forged.len());
@@ -175,7 +189,7 @@ impl Clerk {
 
     pub(super) fn finish_of(&mut self, first: usize) -> Vec<u8> {
         if first <= ROWS - TRIPLE {
-            self.book.finish(first, self.threshold);
+            self.book.finish(first, self.shape.threshold());
         }
         line("F", &[first], &[])
     }

@@ -4,20 +4,18 @@ mod book;
 mod bursts;
 mod lines;
 
-use super::{check_points, mutate, Rng};
+use super::{check_points, mutate, Rng, SharedRow};
 use crate::{mark, Shape, ROWS, TRIPLE};
 use book::Book;
 
 /// The input of `seed`: about `length` lines, some of them harmed.
 pub fn street_input(seed: u64, length: usize) -> Vec<u8> {
     let mut rng = Rng::new(seed);
-    let (n, t) = super::street_shape(&mut rng);
-    let shape = Shape::checked(n, t).expect("a random shape is in range");
-    let points = check_points(&mut rng, n);
+    let shape = super::street_shape(&mut rng);
+    let points = check_points(&mut rng, shape);
     let mut clerk = Clerk {
         shape,
-        threshold: t,
-        post: rng.between(1, n),
+        post: rng.between(1, shape.posts()),
         points,
         rows: (0..rng.between(2, 4)).map(|_| rng.below(ROWS)).collect(),
         firsts: (0..rng.between(1, 2)).map(|_| rng.below(ROWS - TRIPLE + 1)).collect(),
@@ -31,7 +29,6 @@ pub fn street_input(seed: u64, length: usize) -> Vec<u8> {
 struct Clerk {
     rng: Rng,
     shape: Shape,
-    threshold: usize,
     post: usize,
     points: Vec<u32>,
     /// Rows for `R` and `L`.
@@ -98,8 +95,14 @@ impl Clerk {
         }
     }
 
-    fn point(&self) -> u32 {
-        self.points[self.post - 1]
+    /// The own check points.
+    fn points(&self) -> &[u32] {
+        self.shape.points_of(&self.points, self.post)
+    }
+
+    /// The own part of a shared number.
+    fn own_part(&self, shared: &SharedRow) -> Vec<u32> {
+        shared.row_of(self.post, self.points())
     }
 
     /// A row of the session, its triples included; now and then any row.

@@ -113,12 +113,12 @@ impl<const P: u32> Station<'_, P> {
 
     /// The line of a message, or of masks when there are twice as many numbers.
     fn line(&self, post: usize, row: usize, numbers: &[u32]) -> Vec<u8> {
-        let (n, t) = (self.plan.n, self.plan.t);
+        let (n, t, k) = (self.plan.n, self.plan.t, self.plan.k);
         let mut part = [0; 64];
         let written = if numbers.len() == self.shape.coefficients() {
-            write_opening::<P>(n, t, row, post, numbers, &mut part)
+            write_opening::<P>(n, t, k, row, post, numbers, &mut part)
         } else {
-            write_masks::<P>(n, t, row, post, numbers, &mut part)
+            write_masks::<P>(n, t, k, row, post, numbers, &mut part)
         };
         assert_eq!(written.refusal, 0, "a message is written");
         part[..written.length].to_vec()

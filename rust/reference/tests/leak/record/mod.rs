@@ -46,7 +46,7 @@ pub struct Station<'a, const P: u32> {
 impl<'a, const P: u32> Station<'a, P> {
     /// The station of a plan, whose record is that of `group`.
     pub fn new(plan: &'a Plan, group: &'a [usize]) -> Self {
-        let shape = Shape::checked(plan.n, plan.t).unwrap();
+        let shape = Shape::checked(plan.n, plan.t, plan.k).unwrap();
         let post = || Post {
             session: Session::BLANK,
             rows: vec![0; shape.all_rows()],
@@ -88,9 +88,9 @@ impl<'a, const P: u32> Station<'a, P> {
     }
 
     fn start_posts(&mut self, points: &[u32]) {
-        let Plan { n, t, .. } = *self.plan;
-        for ((post, number), &point) in self.posts.iter_mut().zip(1..).zip(points) {
-            post.session = new_session::<P>(n, t, number, point).session;
+        let Plan { n, t, k, .. } = *self.plan;
+        for ((post, number), points) in self.posts.iter_mut().zip(1..).zip(points.chunks(k)) {
+            post.session = new_session::<P>(n, t, number, k, points[0], points[k - 1]).session;
             post.rows.copy_from_slice(&self.fixed);
             if self.group.contains(&number) {
                 post.seen.copy_from_slice(&self.fixed);
@@ -99,13 +99,13 @@ impl<'a, const P: u32> Station<'a, P> {
     }
 
     fn make_packs(&mut self, draw: &Draw) {
-        let Plan { n, t, .. } = *self.plan;
+        let Plan { n, t, k, .. } = *self.plan;
         for (out, numbers) in self.row_packs.iter_mut().zip(&draw.rows) {
-            let refusal = factory_row::<P>(n, t, draw.points, numbers, out);
+            let refusal = factory_row::<P>(n, t, k, draw.points, numbers, out);
             assert_eq!(refusal, 0, "the draw is complete");
         }
         for (out, numbers) in self.triple_packs.iter_mut().zip(&draw.triples) {
-            let refusal = factory_triple::<P>(n, t, draw.points, numbers, out);
+            let refusal = factory_triple::<P>(n, t, k, draw.points, numbers, out);
             assert_eq!(refusal, 0, "the draw is complete");
         }
     }
@@ -151,7 +151,7 @@ impl<'a, const P: u32> Station<'a, P> {
     fn broadcast(&mut self, line: &[u8]) {
         self.record.extend(line);
         let mut numbers = vec![0; self.shape.masks()];
-        let read = read::<P>(self.plan.n, self.plan.t, line, &mut numbers);
+        let read = read::<P>(self.plan.n, self.plan.t, self.plan.k, line, &mut numbers);
         assert_eq!(read.refusal, 0, "what a post broadcasts is read");
         let (letter, row, post) = (read.letter, read.row, read.post);
         self.sent.push(Sent { letter, row, post, numbers });

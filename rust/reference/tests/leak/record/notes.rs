@@ -12,7 +12,7 @@ impl<const P: u32> Station<'_, P> {
     /// "The group's check points, its packs".
     pub(super) fn note_packs(&mut self, points: &[u32]) {
         for &post in self.group {
-            self.note_numbers(&[points[post - 1]]);
+            self.note_numbers(self.shape.points_of(points, post));
             for raw in 0..self.plan.raw.len() {
                 self.note_numbers(&self.row_pack(raw, post));
             }

@@ -89,6 +89,8 @@ pub struct Raw {
 pub struct Plan {
     pub n: usize,
     pub t: usize,
+    /// The number of check points of each post.
+    pub k: usize,
     pub raw: Vec<Raw>,
     /// The first rows of the triples drawn.
     pub triples: Vec<usize>,
