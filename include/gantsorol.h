@@ -88,7 +88,7 @@
 
 /* The version: the minor number counts the requests that are in (CHANGES.md). */
 #define GANTSOROL_VERSION_MAJOR 0
-#define GANTSOROL_VERSION_MINOR 9
+#define GANTSOROL_VERSION_MINOR 10
 #define GANTSOROL_VERSION_PATCH 0
 
 /*
