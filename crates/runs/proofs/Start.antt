@@ -50,11 +50,15 @@ all-at P (x ∷ xs) a (suc i) h = all-at P xs (a .1) i (omega arith)
 
 -- the marks of a new session
 pub start : Marks
-start = record { marks = replicate rowCount 0; factor-a = replicate rowCount 0; factor-b = replicate rowCount 0 }
+start = record { marks = replicate rowCount 0; factor-a = replicate rowCount 0; factor-b = replicate rowCount 0; sets = replicate 768 0 }
 
 pub start-sized : Sized start
 unfolding start
 start-sized = record { marks = length-replicate {A = ℕ} rowCount 0; factor-a = length-replicate {A = ℕ} rowCount 0; factor-b = length-replicate {A = ℕ} rowCount 0 }
+
+pub start-kept : (start .sets ≡ replicate 768 0) × (start .factor-a ≡ replicate rowCount 0) × (start .factor-b ≡ replicate rowCount 0)
+unfolding start
+start-kept = (refl, refl, refl)
 
 pub start-mark : (r : ℕ) → markOf start r ≡ empty
 unfolding start

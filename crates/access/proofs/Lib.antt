@@ -1,0 +1,5 @@
+pub mod Walking
+pub mod Reading
+pub mod Calling
+pub mod Figures
+pub mod Tables

@@ -1,0 +1,4 @@
+pub mod Access
+pub mod Between
+pub mod Figures
+pub mod Table

@@ -1,0 +1,190 @@
+-- A row that bars its caller: the message is refused, so that nothing is asked of its number.
+use Prim.Native.Nat.{ℕ, zero, suc, _+_, _≤_}
+use mathlib.Core.Path.{_≡_, refl, sym, _∙_, ap, subst}
+use mathlib.Core.Bool.{Bool, true, false, not}
+use mathlib.Core.List.{List, [], _∷_, _++_}
+use native.Mathlib.Omega.{arith}
+use lib.ListN.{length}
+use Rattle.refusal.specs.Refusal.{outcome}
+use Rattle.session.specs.Sessions.{barredFrom}
+use Rattle.message.proofs.Passed.{message-split}
+use Rattle.vectors.specs.Vector.{Vector}
+use Rattle.runs.specs.Outline.{loadRow, loadTriple, deal, message, opening, linear, masks, collect, multiply, relationMasks, relationFinish, access, Act, loads, loadsTriple, deals, opens, sums, factors, collects, multiplies, admits, acts}
+use Rattle.runs.specs.Calls.{Post, newPost, after}
+use Rattle.runs.proofs.Marks.{Marks, rawVector, sessionAt, marksBy, marksAll}
+use Rattle.runs.proofs.Outcomes as Outcomes
+use Rattle.runs.proofs.Outcomes.{refusal-is, done-is}
+use Rattle.runs.proofs.Steps.{postAt, named}
+use Rattle.runs.proofs.Start.{sizes, start, start-sized, start-stands, start-facts, start-kept}
+use Rattle.secrecy.specs.Steps.{Secrets, Step, callAt}
+use Rattle.secrecy.specs.Seen.{Entry, Seen, doneAt, linesOf, entryOf, run, seen}
+use Rattle.secrecy.specs.Rules.{SameAnswers, Rule, Rules, refusalOf}
+use Rattle.secrecy.specs.Book.{Book, blank, booked, Agrees, Agree}
+use Rattle.secrecy.specs.Callers.{Sets, allPosts, setBy, setAll, setAfter, barredBy, called, AgreeCalled, BarredAddNothing}
+use Rattle.secrecy.proofs.State.{Run, Moment, State}
+use Rattle.secrecy.proofs.Advance.{advance}
+use Rattle.secrecy.proofs.Onward.{idle-state}
+use Rattle.secrecy.proofs.Runs.{same-refusal}
+
+-- ---- the sets that all posts have are those of the calls
+
+abbrev setsOf : Marks → Sets
+setsOf M = record { barred = M .sets; factor-a = M .factor-a; factor-b = M .factor-b }
+
+sets-by : (a : Act) (M : Marks) → setsOf (marksBy a M) ≡ setBy a (setsOf M)
+sets-by (loads r) M = refl
+sets-by (loadsTriple r) M = refl
+sets-by (deals r) M = refl
+sets-by (opens r) M = refl
+sets-by (sums r t ts) M = refl
+sets-by (factors a b r) M = refl
+sets-by (collects r) M = refl
+sets-by (multiplies r) M = refl
+sets-by (admits line) M = refl
+
+sets-all : (todo : List Act) (M : Marks) → setsOf (marksAll todo M) ≡ setAll todo (setsOf M)
+sets-all [] M = refl
+sets-all (a ∷ todo) M = sets-all todo (marksBy a M) ∙ ap (setAll todo) (sets-by a M)
+
+idle-is : {A : Type 0} (k j : ℕ) (new old : A) → k ≡ suc j → outcome k new old ≡ old
+unfolding outcome
+idle-is zero j new old e = absurd (omega arith)
+idle-is (suc k) j new old e = refl
+
+-- ---- one call
+
+-- the message is refused
+abbrev Barred : Run → Sets → Step → ℕ → Type 0
+Barred C X (message x) k = barredBy (C .plan) X (x .r) (x .caller) ≡ true → k ≡ 0 → ⊥
+Barred C X (loadRow x) k = Unit {0}
+Barred C X (loadTriple x) k = Unit {0}
+Barred C X (deal x) k = Unit {0}
+Barred C X (opening x) k = Unit {0}
+Barred C X (linear x) k = Unit {0}
+Barred C X (masks x) k = Unit {0}
+Barred C X (collect x) k = Unit {0}
+Barred C X (multiply x) k = Unit {0}
+Barred C X (relationMasks x) k = Unit {0}
+Barred C X (relationFinish x) k = Unit {0}
+Barred C X (access x) k = Unit {0}
+
+agrees-of : (C : Run) (X : Sets) (c : Step) (k : ℕ) (b b' : Book) → Barred C X c k → (called (C .plan) X c ≡ true → Agrees c k b b') → Agrees c k b b'
+agrees-of C X (message x) k b b' n h = λ z. go z (barredBy (C .plan) X (x .r) (x .caller)) refl
+  where
+    go : k ≡ 0 → (t : Bool) → barredBy (C .plan) X (x .r) (x .caller) ≡ t → b .place (x .r) ≡ b' .place (x .r)
+    go z true e = absurd (n e z)
+    go z false e = h (ap not e) z
+agrees-of C X (loadRow x) k b b' n h = h refl
+agrees-of C X (loadTriple x) k b b' n h = h refl
+agrees-of C X (deal x) k b b' n h = h refl
+agrees-of C X (opening x) k b b' n h = h refl
+agrees-of C X (linear x) k b b' n h = h refl
+agrees-of C X (masks x) k b b' n h = h refl
+agrees-of C X (collect x) k b b' n h = h refl
+agrees-of C X (multiply x) k b b' n h = h refl
+agrees-of C X (relationMasks x) k b b' n h = h refl
+agrees-of C X (relationFinish x) k b b' n h = h refl
+agrees-of C X (access x) k b b' n h = h refl
+
+clash : (t : Bool) → t ≡ true → t ≡ false → ⊥
+clash t e g = let w : true ≡ false = sym e ∙ g in let v : _≡_ {A = ℕ} 0 1 = cc in omega arith
+
+module _ (C : Run) (m : Moment) (S : State C m) (i : ℕ) (lo : 1 ≤ i) (hi : i ≤ C .plan .n) where
+  open Run C using (plan, draw, u, len)
+  open Moment m using (marks as M, vec, lines, posts as q)
+
+  abbrev at-post : Post
+  at-post = postAt plan draw i M (S .posts i lo hi .opened) (q i .rows)
+
+  barred-here : (c : Step) → Barred C (setsOf M) c (Outcomes.refusalOf (callAt plan draw u lines i c) at-post)
+  barred-here (message x) = λ e z.
+      clash (barredBy plan (setsOf M) (x .r) (x .caller)) e
+      (message-split (at-post .session) (q i .rows) (x .r) (x .caller) (x .lent i) z .1)
+  barred-here (loadRow x) = tt
+  barred-here (loadTriple x) = tt
+  barred-here (deal x) = tt
+  barred-here (opening x) = tt
+  barred-here (linear x) = tt
+  barred-here (masks x) = tt
+  barred-here (collect x) = tt
+  barred-here (multiply x) = tt
+  barred-here (relationMasks x) = tt
+  barred-here (relationFinish x) = tt
+  barred-here (access x) = tt
+
+  barred-at : (c : Step) → Barred C (setsOf M) c (Outcomes.refusalOf (callAt plan draw u lines i c) (q i))
+  barred-at c =
+      subst (λ (x : Post). Barred C (setsOf M) c (Outcomes.refusalOf (callAt plan draw u lines i c) x))
+      (sym (named plan draw (len i) i M vec (q i) (S .posts i lo hi))) (barred-here c)
+
+-- ---- the whole list
+
+module _ (C : Run) (group : List ℕ) (u' : Secrets) where
+  open Run C using (plan, draw, u)
+
+  abbrev shown : List Step → Moment → List Entry
+  shown cs m = run plan group draw u cs (m .lines) (m .posts)
+
+  agree-all : (cs : List Step) (m : Moment) → State C m → (X : Sets) → setsOf (m .marks) ≡ X → (b b' : Book) → SameAnswers (shown cs m)
+      → Rules plan cs (shown cs m) (m .lines) → AgreeCalled plan u u' cs (shown cs m) X b b' → Agree u u' cs (shown cs m) b b'
+  unfolding run entryOf
+  agree-all [] m S X ex b b' same rules agree = tt
+  agree-all (c ∷ cs) m S X ex b b' same rules agree = (
+    agrees-of C X c (refusalOf e) b b' barred (agree .0),
+    go (refusalOf e) refl (λ N v x Q eq. agree-all cs (next N v x) Q (setAfter c (refusalOf e) X) eq (booked u c (refusalOf e) b) (booked u' c (refusalOf e) b') (same .1) (rules .1) (agree .1)),
+  )
+    where
+      e : Entry
+      e = entryOf plan group draw u (m .lines) c (m .posts)
+
+      answers : (i : ℕ) → 1 ≤ i → i ≤ plan .n → Outcomes.refusalOf (callAt plan draw u (m .lines) i c) (m .posts i) ≡ refusalOf e
+      answers i lo hi =
+          sym (refusal-is (callAt plan draw u (m .lines) i c) (m .posts i))
+          ∙ same-refusal (λ i. doneAt plan draw u (m .lines) c (m .posts) i .answer .refusal) (plan .n) (same .0) i lo hi
+
+      one : 1 ≤ plan .n
+      one = omega (arith, sizes plan (C .sound) .n-low)
+
+      barred : Barred C X c (refusalOf e)
+      barred =
+          subst (λ (Y : Sets). Barred C Y c (refusalOf e)) ex
+          (subst (Barred C (setsOf (m .marks)) c) (answers 1 (omega arith) one) (barred-at C m S 1 (omega arith) one c))
+
+      next : Marks → (ℕ → Vector) → Book → Moment
+      next N v x =
+          record {
+            marks = N;
+            vec = v;
+            book = x;
+            lines = m .lines ++ linesOf plan draw u (m .lines) c (m .posts);
+            posts = λ i. after (doneAt plan draw u (m .lines) c (m .posts) i);
+          }
+
+      rest : List Entry
+      rest = run plan group draw u cs (m .lines ++ linesOf plan draw u (m .lines) c (m .posts)) (λ i. after (doneAt plan draw u (m .lines) c (m .posts) i))
+
+      go : (k : ℕ) → refusalOf e ≡ k → ((N : Marks) (v : ℕ → Vector) (x : Book) → State C (next N v x) → setsOf N ≡ setAfter c (refusalOf e) X → Agree u u' cs rest (booked u c (refusalOf e) b) (booked u' c (refusalOf e) b'))
+          → Agree u u' cs rest (booked u c (refusalOf e) b) (booked u' c (refusalOf e) b')
+      go zero z ih =
+          ih _ _ _ (advance C m S c (subst (λ (k : ℕ). Rule plan c k (m .lines)) z (rules .0)) (λ i lo hi. answers i lo hi ∙ z))
+          (sets-all (acts c) (m .marks) ∙ ap (setAll (acts c)) ex ∙ sym (done-is (refusalOf e) (setAll (acts c) X) X z))
+      go (suc k) z ih = ih _ _ _ (idle-state C m c k (λ i lo hi. answers i lo hi ∙ z) S) (ex ∙ sym (idle-is (refusalOf e) k (setAll (acts c) X) X z))
+
+pub barred-add-nothing : BarredAddNothing
+unfolding seen allPosts
+barred-add-nothing plan group rows cs u u' R sound low same rules d shows agree =
+    let shown : run plan group d u cs [] (λ i. newPost plan d (rows i) i) ≡ R .entries = ap (λ (x : Seen). x .entries) (shows .same) in
+    subst (λ (es : List Entry). Agree u u' cs es blank blank) shown
+    (agree-all
+    (record { plan = plan; draw = d; u = u; len = λ i. length (rows i); sound = sound; is-draw = shows .is-draw; low = low }) group u' cs
+    (record { marks = start; vec = rawVector plan d; book = blank; lines = []; posts = λ i. newPost plan d (rows i) i })
+    (record {
+      sized = start-sized;
+      posts = λ i lo hi. start-stands plan d sound (shows .is-draw) (rawVector plan d) (rows i) i lo hi;
+      facts = start-facts plan d sound (shows .is-draw) _ _ (rawVector plan d);
+      openings = λ r j xs o a. absurd a;
+      maskings = λ r j xs o a. absurd a;
+    })
+    allPosts (λ j. record { barred = start-kept .0 j; factor-a = start-kept .1 j; factor-b = start-kept .2 j }) blank blank
+    (subst SameAnswers (sym shown) same) (subst (λ (x : List Entry). Rules plan cs x []) (sym shown) rules)
+    (subst (λ (x : List Entry). AgreeCalled plan u u' cs x allPosts blank blank) (sym shown) agree))
