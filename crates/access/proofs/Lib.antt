@@ -3,3 +3,5 @@ pub mod Reading
 pub mod Calling
 pub mod Figures
 pub mod Tables
+pub mod Listed
+pub mod Theorems

@@ -2,3 +2,4 @@ pub mod Access
 pub mod Between
 pub mod Figures
 pub mod Table
+pub mod Claims

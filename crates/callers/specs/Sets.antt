@@ -3,7 +3,7 @@
 use Prim.Native.Nat.{ℕ, zero, suc, _+_, _*_, _-_, _/_, _%_, _^_, _≤_, _<_}
 use mathlib.Core.Path.{_≡_}
 use mathlib.Core.Logic.{_≢_}
-use mathlib.Core.Bool.{Bool, _||_}
+use mathlib.Core.Bool.{Bool, false, _||_}
 use mathlib.Core.List.{List, [], _∷_}
 use lib.Dec.{eqb}
 use lib.Bits.{bitOr}
@@ -27,7 +27,7 @@ shared (suc k) sets d a b =
 
 abbrev pub SharesBoth : Type 0
 SharesBoth =
-    (sets : List ℕ) (d a b c : ℕ) → length sets ≡ setsLength → d < 96 → d ≢ a → d ≢ b → 1 ≤ c → c ≤ 255
+    (sets : List ℕ) (d a b c : ℕ) → length sets ≡ setsLength → d < 96 → 1 ≤ c → c ≤ 255
     → (bars (shared 8 sets d a b) d c ≡ bars sets a c || bars sets b c)
     × ((r : ℕ) → r ≢ d → bars (shared 8 sets d a b) r c ≡ bars sets r c)
 
@@ -41,3 +41,18 @@ joining d (a ∷ rest) sets = joining d rest (shared 8 sets d d a)
 
 abbrev pub sharedAll : List ℕ → ℕ → List ℕ → List ℕ
 sharedAll sets d rows = joining d rows (unbarred sets d)
+
+-- Row d bars just whom one of these rows bars, which are others; every other row bars whom it barred.
+abbrev pub anyBars : List ℕ → ℕ → List ℕ → Bool
+anyBars sets c [] = false
+anyBars sets c (a ∷ rows) = bars sets a c || anyBars sets c rows
+
+abbrev pub Others : ℕ → List ℕ → Type 0
+Others d [] = Unit {0}
+Others d (a ∷ rows) = (a ≢ d) × Others d rows
+
+abbrev pub SharesAll : Type 0
+SharesAll =
+    (sets : List ℕ) (d : ℕ) (rows : List ℕ) (c : ℕ) → length sets ≡ setsLength → d < 96 → Others d rows → 1 ≤ c → c ≤ 255
+    → (bars (sharedAll sets d rows) d c ≡ anyBars sets c rows)
+    × ((r : ℕ) → r ≢ d → bars (sharedAll sets d rows) r c ≡ bars sets r c)

@@ -8,7 +8,7 @@ use lib.Dec.{eqb, ltb}
 use Rattle.refusal.specs.Refusal.{Test, _when_}
 use Rattle.refusal.specs.Conditions.{outside, wrongLength, anyBeyond}
 use Rattle.session.specs.declared.Session.{Session}
-use Rattle.session.specs.Sessions.{barredFrom}
+use Rattle.callers.specs.Sets.{bars}
 use Rattle.session.specs.Rows.{width, rowAt}
 use Rattle.session.specs.Checks.{wrongMark}
 use Rattle.message.specs.Message.{messageTests}
@@ -24,7 +24,7 @@ messageTable s rows r caller out =
     ∷ 6 when ltb 95 r
     ∷ 7 when wrongMark s r 2
     ∷ 8 when anyBeyond (rowAt (width s) rows r)
-    ∷ 15 when barredFrom s r caller
+    ∷ 15 when (outside 1 (s .n) caller || bars (s .barred) r caller)
     ∷ []
 
 abbrev pub MessageTable : Type 0

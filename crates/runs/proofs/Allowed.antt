@@ -145,7 +145,8 @@ module _ (plan : Plan) (draw : Draw) (i : ℕ) (M : Marks) (Y : Opened) (l : Lis
   passes (multiply x) z =
       let f = multiplied s l (x .r) z in
       let k = f .placed in
-      let m : Tripled collectedMark M (x .r) = record { r-low = omega (arith, k .triple-in); first = k .first-mark; second = k .second-mark; third = k .third-mark } in
+      let m : Tripled collectedMark M (x .r) =
+      record { r-low = omega (arith, k .triple-in); first = k .first-mark; second = k .second-mark; third = k .third-mark; a-held = k .a-held; b-held = k .b-held } in
       (record { moving = ((m, tt), tt); ready = (tt, tt); sending = tt }, inl (f .framed .sized .length-is))
   passes (relationMasks x) z =
       let f = relation-masks-made s l (x .terms) (x .lent) z in

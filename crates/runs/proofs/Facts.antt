@@ -39,12 +39,14 @@ pub record Multiplying (mark : ℕ) (M : Marks) (a b r : ℕ) : Type 0 where
   pub second : markOf M (r + 1) ≡ further
   pub third : markOf M (r + 2) ≡ further
 
--- a triple from r on, whose first row has this mark
+-- a triple from r on, whose first row has this mark, and whose remembered factor rows are held
 pub record Tripled (mark : ℕ) (M : Marks) (r : ℕ) : Type 0 where
   pub r-low : r ≤ lastTriple
   pub first : markOf M r ≡ mark
   pub second : markOf M (r + 1) ≡ further
   pub third : markOf M (r + 2) ≡ further
+  pub a-held : markOf M (rememberedA M r) ≡ heldMark
+  pub b-held : markOf M (rememberedB M r) ≡ heldMark
 
 abbrev pub Needed : Act → Marks → Type 0
 Needed (loads r) M = (r < rowCount) × (markOf M r ≡ empty)

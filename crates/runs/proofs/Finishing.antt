@@ -150,6 +150,8 @@ module _ (H : Holder) where
       first = f .placed .first-mark;
       second = f .placed .second-mark;
       third = f .placed .third-mark;
+      a-held = f .placed .a-held;
+      b-held = f .placed .b-held;
     }
 
     pub multiply-holds : Holds plan draw len i (finished M r) (at vec (r + 2) (written M vec r)) (withProduct s (openedA s r) (openedB s r) r l)

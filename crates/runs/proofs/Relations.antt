@@ -140,6 +140,8 @@ collected-triple M r ok = record {
   first = now-set M r collected (ok .first);
   second = past M r collected (r + 1) (omega arith) ∙ ok .second;
   third = past M r collected (r + 2) (omega arith) ∙ ok .third;
+  a-held = past M r collected (rememberedA M r) (λ e. omega (arith, ap (markOf M) e, ok .first, ok .a-held)) ∙ ok .a-held;
+  b-held = past M r collected (rememberedB M r) (λ e. omega (arith, ap (markOf M) e, ok .first, ok .b-held)) ∙ ok .b-held;
 }
 
 -- the products are held

@@ -11,17 +11,18 @@ use Rattle.message.proofs.Passed.{message-split}
 use Rattle.vectors.specs.Vector.{Vector}
 use Rattle.runs.specs.Outline.{loadRow, loadTriple, deal, message, opening, linear, masks, collect, multiply, relationMasks, relationFinish, access, Act, loads, loadsTriple, deals, opens, sums, factors, collects, multiplies, admits, acts}
 use Rattle.runs.specs.Calls.{Post, newPost, after}
-use Rattle.runs.proofs.Marks.{Marks, rawVector, sessionAt, marksBy, marksAll}
+use Rattle.runs.proofs.Marks.{Marks, sessionAt, marksBy, marksAll}
 use Rattle.runs.proofs.Outcomes as Outcomes
 use Rattle.runs.proofs.Outcomes.{refusal-is, done-is}
 use Rattle.runs.proofs.Steps.{postAt, named}
-use Rattle.runs.proofs.Start.{sizes, start, start-sized, start-stands, start-facts, start-kept}
+use Rattle.runs.proofs.Start.{sizes, start-kept}
 use Rattle.secrecy.specs.Steps.{Secrets, Step, callAt}
-use Rattle.secrecy.specs.Seen.{Entry, Seen, doneAt, linesOf, entryOf, run, seen}
+use Rattle.secrecy.specs.Seen.{Entry, Seen, doneAt, linesOf, entryOf, run, dealLines, seen}
 use Rattle.secrecy.specs.Rules.{SameAnswers, Rule, Rules, refusalOf}
 use Rattle.secrecy.specs.Book.{Book, blank, booked, Agrees, Agree}
 use Rattle.secrecy.specs.Callers.{Sets, allPosts, setBy, setAll, setAfter, barredBy, called, AgreeCalled, BarredAddNothing}
 use Rattle.secrecy.proofs.State.{Run, Moment, State}
+use Rattle.secrecy.proofs.Dealings.{fresh, begun}
 use Rattle.secrecy.proofs.Advance.{advance}
 use Rattle.secrecy.proofs.Onward.{idle-state}
 use Rattle.secrecy.proofs.Runs.{same-refusal}
@@ -99,7 +100,7 @@ module _ (C : Run) (m : Moment) (S : State C m) (i : ℕ) (lo : 1 ≤ i) (hi : i
   barred-here : (c : Step) → Barred C (setsOf M) c (Outcomes.refusalOf (callAt plan draw u lines i c) at-post)
   barred-here (message x) = λ e z.
       clash (barredBy plan (setsOf M) (x .r) (x .caller)) e
-      (message-split (at-post .session) (q i .rows) (x .r) (x .caller) (x .lent i) z .1)
+      (message-split (at-post .session) (q i .rows) (x .r) (x .caller) _ z .1)
   barred-here (loadRow x) = tt
   barred-here (loadTriple x) = tt
   barred-here (deal x) = tt
@@ -173,18 +174,12 @@ module _ (C : Run) (group : List ℕ) (u' : Secrets) where
 pub barred-add-nothing : BarredAddNothing
 unfolding seen allPosts
 barred-add-nothing plan group rows cs u u' R sound low same rules d shows agree =
-    let shown : run plan group d u cs [] (λ i. newPost plan d (rows i) i) ≡ R .entries = ap (λ (x : Seen). x .entries) (shows .same) in
+    let lines = dealLines plan group d u in
+    let deals : lines ≡ R .deals = ap (λ (x : Seen). x .deals) (shows .same) in
+    let shown : run plan group d u cs lines (λ i. newPost plan d (rows i) i) ≡ R .entries = ap (λ (x : Seen). x .entries) (shows .same) in
     subst (λ (es : List Entry). Agree u u' cs es blank blank) shown
-    (agree-all
-    (record { plan = plan; draw = d; u = u; len = λ i. length (rows i); sound = sound; is-draw = shows .is-draw; low = low }) group u' cs
-    (record { marks = start; vec = rawVector plan d; book = blank; lines = []; posts = λ i. newPost plan d (rows i) i })
-    (record {
-      sized = start-sized;
-      posts = λ i lo hi. start-stands plan d sound (shows .is-draw) (rawVector plan d) (rows i) i lo hi;
-      facts = start-facts plan d sound (shows .is-draw) _ _ (rawVector plan d);
-      openings = λ r j xs o a. absurd a;
-      maskings = λ r j xs o a. absurd a;
-    })
+    (agree-all (fresh plan d u rows sound (shows .is-draw) low group) group u' cs _ (begun plan d u rows sound (shows .is-draw) low group)
     allPosts (λ j. record { barred = start-kept .0 j; factor-a = start-kept .1 j; factor-b = start-kept .2 j }) blank blank
-    (subst SameAnswers (sym shown) same) (subst (λ (x : List Entry). Rules plan cs x []) (sym shown) rules)
+    (subst SameAnswers (sym shown) same)
+    (subst (λ (x : List Entry). Rules plan cs x lines) (sym shown) (subst (Rules plan cs (R .entries)) (sym deals) rules))
     (subst (λ (x : List Entry). AgreeCalled plan u u' cs x allPosts blank blank) (sym shown) agree))

@@ -81,7 +81,7 @@ AgreeCalled plan u u' (c ∷ cs) (e ∷ es) X b b' =
 abbrev pub BarredAddNothing : Type 0
 BarredAddNothing =
     (plan : Plan) (group : List ℕ) (rows : ℕ → List ℕ) (cs : List Step) (u u' : Secrets) (R : Seen) → Sound plan
-    → ((r : ℕ) → IsRaw (plan .raw r) → u r < p) → SameAnswers (R .entries) → Rules plan cs (R .entries) []
+    → ((r : ℕ) → IsRaw (plan .raw r) → u r < p) → SameAnswers (R .entries) → Rules plan cs (R .entries) (R .deals)
     → (d : Draw) → Shows plan group rows cs u R d
     → AgreeCalled plan u u' cs (R .entries) allPosts blank blank → Agree u u' cs (R .entries) blank blank
 
@@ -92,7 +92,7 @@ pub record PremisesCalled (plan : Plan) (group : List ℕ) (u u' : Secrets) (cs 
   pub secrets : (r : ℕ) → IsRaw (plan .raw r) → (u r < p) × (u' r < p)
   pub dealers : (r dealer : ℕ) → plan .raw r ≡ by dealer → member dealer group ≡ true → u r ≡ u' r
   pub same-answers : SameAnswers (R .entries)
-  pub rules : Rules plan cs (R .entries) []
+  pub rules : Rules plan cs (R .entries) (R .deals)
   pub agree : AgreeCalled plan u u' cs (R .entries) allPosts blank blank
 
 -- Demand 3 so.
