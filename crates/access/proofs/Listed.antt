@@ -200,7 +200,7 @@ pub length-access : (line sets : List ℕ) → length (accessSets line sets) ≡
 length-access line sets = length-placed sets (accessRow (accessFields line)) _ 8
 
 pub set-listed : SetListed
-set-listed line sets c l lr lo hi =
+set-listed line sets c l lo hi =
     let r = accessRow (accessFields line) in
     let posts = accessPosts (accessFields line) in
     let words = admittedAll everyPost posts in
@@ -208,7 +208,7 @@ set-listed line sets c l lr lo hi =
     let k = (c - 1) % 32 in
     let lj : j < 8 = omega arith in
     let lk : k < 32 = omega arith in (
-      ap (λ (x : ℕ). bitAt x k) (own sets r words 8 (omega arith) l lr j lj)
+      λ lr. ap (λ (x : ℕ). bitAt x k) (own sets r words 8 (omega arith) l lr j lj)
           ∙ admits-all everyPost posts c (length-replicate {A = ℕ} 8 4294967295) lo hi
           ∙ and-true (not (listed c posts)) (barsIn everyPost c)
           (ap (λ (x : ℕ). bitAt x k) (getD-replicate 8 j 4294967295 0 lj) ∙ below-at 32 (bitAt 4294967295) all-ones k lk),

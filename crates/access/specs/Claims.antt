@@ -40,6 +40,7 @@ listed c (x ∷ xs) = eqb c x || listed c xs
 
 abbrev pub SetListed : Type 0
 SetListed =
-    (line sets : List ℕ) (c : ℕ) → length sets ≡ 768 → accessRow (accessFields line) < 96 → 1 ≤ c → c ≤ 255
-    → (bars (accessSets line sets) (accessRow (accessFields line)) c ≡ not (listed c (accessPosts (accessFields line))))
+    (line sets : List ℕ) (c : ℕ) → length sets ≡ 768 → 1 ≤ c → c ≤ 255
+    → (accessRow (accessFields line) < 96
+    → bars (accessSets line sets) (accessRow (accessFields line)) c ≡ not (listed c (accessPosts (accessFields line))))
     × ((r : ℕ) → r ≢ accessRow (accessFields line) → bars (accessSets line sets) r c ≡ bars sets r c)

@@ -38,7 +38,7 @@ use Rattle.runs.proofs.Allowed.{waiting, sum-allowed}
 use Rattle.runs.proofs.Standing.{own-numbers, FitsWith, SaysAll}
 
 -- the rows of a relation's sum
-rows-in : (ts : List Term) → rowsIn (map summand ts) ≡ numberRows ts
+pub rows-in : (ts : List Term) → rowsIn (map summand ts) ≡ numberRows ts
 rows-in [] = refl
 rows-in (t ∷ ts) = ap (λ (rs : List ℕ). numberRow t ∷ rs) (rows-in ts)
 

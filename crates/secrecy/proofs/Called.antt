@@ -1,51 +1,37 @@
 -- A row that bars its caller: the message is refused, so that nothing is asked of its number.
-use Prim.Native.Nat.{ℕ, zero, suc, _+_, _≤_}
+use Prim.Native.Nat.{ℕ, zero, suc, _≤_}
 use mathlib.Core.Path.{_≡_, refl, sym, _∙_, ap, subst}
-use mathlib.Core.Bool.{Bool, true, false, not}
+use mathlib.Core.Bool.{Bool, true, false, not, _||_}
 use mathlib.Core.List.{List, [], _∷_, _++_}
 use native.Mathlib.Omega.{arith}
-use lib.ListN.{length}
+use Rattle.shape.specs.Bounds.{lastRow}
 use Rattle.refusal.specs.Refusal.{outcome}
-use Rattle.session.specs.Sessions.{barredFrom}
-use Rattle.message.proofs.Passed.{message-split}
+use Rattle.refusal.specs.Conditions.{outside}
+use Rattle.refusal.proofs.Laws.{inside}
+use Rattle.callers.specs.Sets.{bars}
+use Rattle.message.proofs.Passed.{message-split, message-made}
 use Rattle.vectors.specs.Vector.{Vector}
-use Rattle.runs.specs.Outline.{loadRow, loadTriple, deal, message, opening, linear, masks, collect, multiply, relationMasks, relationFinish, access, Act, loads, loadsTriple, deals, opens, sums, factors, collects, multiplies, admits, acts}
+use Rattle.runs.specs.Outline.{loadRow, loadTriple, deal, message, opening, linear, masks, collect, multiply, relationMasks, relationFinish, access, acts}
+use Rattle.runs.specs.Draws.{Plan, Sound}
 use Rattle.runs.specs.Calls.{Post, newPost, after}
-use Rattle.runs.proofs.Marks.{Marks, sessionAt, marksBy, marksAll}
+use Rattle.runs.specs.Callers.{Sets, allPosts, setAll, setAfter}
+use Rattle.runs.proofs.Marks.{Marks, sessionAt, marksAll}
 use Rattle.runs.proofs.Outcomes as Outcomes
 use Rattle.runs.proofs.Outcomes.{refusal-is, done-is}
 use Rattle.runs.proofs.Steps.{postAt, named}
-use Rattle.runs.proofs.Start.{sizes, start-kept}
+use Rattle.runs.proofs.Start.{sizes}
+use Rattle.runs.proofs.Callers.{Tells, tells-start, tells-all}
 use Rattle.secrecy.specs.Steps.{Secrets, Step, callAt}
 use Rattle.secrecy.specs.Seen.{Entry, Seen, doneAt, linesOf, entryOf, run, dealLines, seen}
 use Rattle.secrecy.specs.Rules.{SameAnswers, Rule, Rules, refusalOf}
 use Rattle.secrecy.specs.Book.{Book, blank, booked, Agrees, Agree}
-use Rattle.secrecy.specs.Callers.{Sets, allPosts, setBy, setAll, setAfter, barredBy, called, AgreeCalled, BarredAddNothing}
+use Rattle.secrecy.specs.Callers.{barredBy, called, AgreeCalled, BarredAddNothing}
+use Rattle.secrecy.proofs.Broadcasts.{allowed-at}
 use Rattle.secrecy.proofs.State.{Run, Moment, State}
 use Rattle.secrecy.proofs.Dealings.{fresh, begun}
 use Rattle.secrecy.proofs.Advance.{advance}
 use Rattle.secrecy.proofs.Onward.{idle-state}
 use Rattle.secrecy.proofs.Runs.{same-refusal}
-
--- ---- the sets that all posts have are those of the calls
-
-abbrev setsOf : Marks → Sets
-setsOf M = record { barred = M .sets; factor-a = M .factor-a; factor-b = M .factor-b }
-
-sets-by : (a : Act) (M : Marks) → setsOf (marksBy a M) ≡ setBy a (setsOf M)
-sets-by (loads r) M = refl
-sets-by (loadsTriple r) M = refl
-sets-by (deals r) M = refl
-sets-by (opens r) M = refl
-sets-by (sums r t ts) M = refl
-sets-by (factors a b r) M = refl
-sets-by (collects r) M = refl
-sets-by (multiplies r) M = refl
-sets-by (admits line) M = refl
-
-sets-all : (todo : List Act) (M : Marks) → setsOf (marksAll todo M) ≡ setAll todo (setsOf M)
-sets-all [] M = refl
-sets-all (a ∷ todo) M = sets-all todo (marksBy a M) ∙ ap (setAll todo) (sets-by a M)
 
 idle-is : {A : Type 0} (k j : ℕ) (new old : A) → k ≡ suc j → outcome k new old ≡ old
 unfolding outcome
@@ -90,17 +76,29 @@ agrees-of C X (access x) k b b' n h = h refl
 clash : (t : Bool) → t ≡ true → t ≡ false → ⊥
 clash t e g = let w : true ≡ false = sym e ∙ g in let v : _≡_ {A = ℕ} 0 1 = cc in omega arith
 
-module _ (C : Run) (m : Moment) (S : State C m) (i : ℕ) (lo : 1 ≤ i) (hi : i ≤ C .plan .n) where
+or-left : (a b : Bool) → (a || b) ≡ false → a ≡ false
+or-left true b e = e
+or-left false b e = refl
+
+-- a caller who is not barred is in the row's set
+not-barred : (plan : Plan) → Sound plan → (M : Marks) (X : Sets) → Tells M X → (r c : ℕ) → r ≤ lastRow → (outside 1 (plan .n) c || bars (M .sets) r c) ≡ false
+    → barredBy plan X r c ≡ false
+not-barred plan sound M X h r c lr e =
+    let o = inside 1 (plan .n) c (or-left _ _ e) in
+    ap (λ (b : Bool). outside 1 (plan .n) c || b) (sym (h .bars-are r c (omega (arith, lr)) (o .0) (omega (arith, o .1, sizes plan sound .n-most)))) ∙ e
+
+module _ (C : Run) (m : Moment) (S : State C m) (X : Sets) (h : Tells (m .marks) X) (i : ℕ) (lo : 1 ≤ i) (hi : i ≤ C .plan .n) where
   open Run C using (plan, draw, u, len)
   open Moment m using (marks as M, vec, lines, posts as q)
 
   abbrev at-post : Post
   at-post = postAt plan draw i M (S .posts i lo hi .opened) (q i .rows)
 
-  barred-here : (c : Step) → Barred C (setsOf M) c (Outcomes.refusalOf (callAt plan draw u lines i c) at-post)
+  barred-here : (c : Step) → Barred C X c (Outcomes.refusalOf (callAt plan draw u lines i c) at-post)
   barred-here (message x) = λ e z.
-      clash (barredBy plan (setsOf M) (x .r) (x .caller)) e
-      (message-split (at-post .session) (q i .rows) (x .r) (x .caller) _ z .1)
+      clash (barredBy plan X (x .r) (x .caller)) e
+      (not-barred plan (C .sound) M X h (x .r) (x .caller) (message-made (at-post .session) (q i .rows) (x .r) (x .caller) _ z .placed .row-in)
+      (message-split (at-post .session) (q i .rows) (x .r) (x .caller) _ z .1))
   barred-here (loadRow x) = tt
   barred-here (loadTriple x) = tt
   barred-here (deal x) = tt
@@ -113,9 +111,9 @@ module _ (C : Run) (m : Moment) (S : State C m) (i : ℕ) (lo : 1 ≤ i) (hi : i
   barred-here (relationFinish x) = tt
   barred-here (access x) = tt
 
-  barred-at : (c : Step) → Barred C (setsOf M) c (Outcomes.refusalOf (callAt plan draw u lines i c) (q i))
+  barred-at : (c : Step) → Barred C X c (Outcomes.refusalOf (callAt plan draw u lines i c) (q i))
   barred-at c =
-      subst (λ (x : Post). Barred C (setsOf M) c (Outcomes.refusalOf (callAt plan draw u lines i c) x))
+      subst (λ (x : Post). Barred C X c (Outcomes.refusalOf (callAt plan draw u lines i c) x))
       (sym (named plan draw (len i) i M vec (q i) (S .posts i lo hi))) (barred-here c)
 
 -- ---- the whole list
@@ -126,7 +124,7 @@ module _ (C : Run) (group : List ℕ) (u' : Secrets) where
   abbrev shown : List Step → Moment → List Entry
   shown cs m = run plan group draw u cs (m .lines) (m .posts)
 
-  agree-all : (cs : List Step) (m : Moment) → State C m → (X : Sets) → setsOf (m .marks) ≡ X → (b b' : Book) → SameAnswers (shown cs m)
+  agree-all : (cs : List Step) (m : Moment) → State C m → (X : Sets) → Tells (m .marks) X → (b b' : Book) → SameAnswers (shown cs m)
       → Rules plan cs (shown cs m) (m .lines) → AgreeCalled plan u u' cs (shown cs m) X b b' → Agree u u' cs (shown cs m) b b'
   unfolding run entryOf
   agree-all [] m S X ex b b' same rules agree = tt
@@ -148,8 +146,7 @@ module _ (C : Run) (group : List ℕ) (u' : Secrets) where
 
       barred : Barred C X c (refusalOf e)
       barred =
-          subst (λ (Y : Sets). Barred C Y c (refusalOf e)) ex
-          (subst (Barred C (setsOf (m .marks)) c) (answers 1 (omega arith) one) (barred-at C m S 1 (omega arith) one c))
+          subst (Barred C X c) (answers 1 (omega arith) one) (barred-at C m S X ex 1 (omega arith) one c)
 
       next : Marks → (ℕ → Vector) → Book → Moment
       next N v x =
@@ -164,22 +161,24 @@ module _ (C : Run) (group : List ℕ) (u' : Secrets) where
       rest : List Entry
       rest = run plan group draw u cs (m .lines ++ linesOf plan draw u (m .lines) c (m .posts)) (λ i. after (doneAt plan draw u (m .lines) c (m .posts) i))
 
-      go : (k : ℕ) → refusalOf e ≡ k → ((N : Marks) (v : ℕ → Vector) (x : Book) → State C (next N v x) → setsOf N ≡ setAfter c (refusalOf e) X → Agree u u' cs rest (booked u c (refusalOf e) b) (booked u' c (refusalOf e) b'))
+      go : (k : ℕ) → refusalOf e ≡ k → ((N : Marks) (v : ℕ → Vector) (x : Book) → State C (next N v x) → Tells N (setAfter c (refusalOf e) X) → Agree u u' cs rest (booked u c (refusalOf e) b) (booked u' c (refusalOf e) b'))
           → Agree u u' cs rest (booked u c (refusalOf e) b) (booked u' c (refusalOf e) b')
       go zero z ih =
           ih _ _ _ (advance C m S c (subst (λ (k : ℕ). Rule plan c k (m .lines)) z (rules .0)) (λ i lo hi. answers i lo hi ∙ z))
-          (sets-all (acts c) (m .marks) ∙ ap (setAll (acts c)) ex ∙ sym (done-is (refusalOf e) (setAll (acts c) X) X z))
-      go (suc k) z ih = ih _ _ _ (idle-state C m c k (λ i lo hi. answers i lo hi ∙ z) S) (ex ∙ sym (idle-is (refusalOf e) k (setAll (acts c) X) X z))
+          (subst (Tells (marksAll (acts c) (m .marks))) (sym (done-is (refusalOf e) (setAll (acts c) X) X z))
+          (tells-all (acts c) (m .marks) X (S .sized) (allowed-at C m S c (λ i lo hi. answers i lo hi ∙ z) 1 (omega arith) one .moving) ex))
+      go (suc k) z ih =
+          ih _ _ _ (idle-state C m c k (λ i lo hi. answers i lo hi ∙ z) S) (subst (Tells (m .marks)) (sym (idle-is (refusalOf e) k (setAll (acts c) X) X z)) ex)
 
 pub barred-add-nothing : BarredAddNothing
-unfolding seen allPosts
+unfolding seen
 barred-add-nothing plan group rows cs u u' R sound low same rules d shows agree =
     let lines = dealLines plan group d u in
     let deals : lines ≡ R .deals = ap (λ (x : Seen). x .deals) (shows .same) in
     let shown : run plan group d u cs lines (λ i. newPost plan d (rows i) i) ≡ R .entries = ap (λ (x : Seen). x .entries) (shows .same) in
     subst (λ (es : List Entry). Agree u u' cs es blank blank) shown
     (agree-all (fresh plan d u rows sound (shows .is-draw) low group) group u' cs _ (begun plan d u rows sound (shows .is-draw) low group)
-    allPosts (λ j. record { barred = start-kept .0 j; factor-a = start-kept .1 j; factor-b = start-kept .2 j }) blank blank
+    allPosts tells-start blank blank
     (subst SameAnswers (sym shown) same)
     (subst (λ (x : List Entry). Rules plan cs x lines) (sym shown) (subst (Rules plan cs (R .entries)) (sym deals) rules))
     (subst (λ (x : List Entry). AgreeCalled plan u u' cs x allPosts blank blank) (sym shown) agree))

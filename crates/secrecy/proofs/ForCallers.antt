@@ -12,7 +12,8 @@ use Rattle.secrecy.specs.Rules.{refusalOf}
 use Rattle.secrecy.specs.Book.{Book, blank, booked}
 use Rattle.secrecy.specs.Claim.{Premises, Shows}
 use Rattle.secrecy.specs.Count.{count, shows, draws}
-use Rattle.secrecy.specs.Callers.{Sets, allPosts, setAfter, AgreeCalled, PremisesCalled, EqualCountsCalled}
+use Rattle.runs.specs.Callers.{Sets, allPosts, setAfter}
+use Rattle.secrecy.specs.Callers.{AgreeCalled, PremisesCalled, EqualCountsCalled}
 use Rattle.secrecy.proofs.Listed.{all-draws}
 use Rattle.secrecy.proofs.Tests.{same-of-shows}
 use Rattle.secrecy.proofs.Theorems.{agrees-back, equal-counts}
