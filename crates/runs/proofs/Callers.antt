@@ -12,9 +12,9 @@ use lib.ListN.{length, getD, set, length-replicate, getD-replicate}
 use lib.Seq.{getD-set-same, getD-set-other}
 use Rattle.poly.specs.Counting.{All}
 use Rattle.shape.specs.Bounds.{rowCount}
-use Rattle.callers.specs.Sets.{setsLength, bitAt, bars, anyBars, Others, sharedAll}
+use Rattle.callers.specs.Sets.{setsLength, bitAt, bars, shared, anyBars, Others, sharedAll}
 use Rattle.callers.proofs.Shared.{length-shared, length-all, shares-both, shares-all}
-use Rattle.access.specs.Access.{accessFields, accessRow, accessPosts}
+use Rattle.access.specs.Access.{accessFields, accessRow, accessPosts, accessSets}
 use Rattle.access.specs.Claims.{listed}
 use Rattle.access.proofs.Listed.{length-access, set-listed}
 use Rattle.runs.specs.Outline.{Act, loads, loadsTriple, deals, opens, Summand, once, times, fee, rowsIn, sums, factors, collects, multiplies, admits}
@@ -132,7 +132,7 @@ tells-by (multiplies r) M X z al h =
     = λ c lo hi. h .bars-are (rememberedB M r) c (marked-low M z (rememberedB M r) (k .b-held)) lo hi ∙ ap (λ (x : ℕ). not (X .has x c)) (h .b-is r low) in
     record {
       long = length-shared (M .sets) (r + 2) (rememberedA M r) (rememberedB M r) 8 ∙ h .long;
-      bars-are = set-anew M X h _ (r + 2) (λ c. X .has (X .factor-a r) c && X .has (X .factor-b r) c)
+      bars-are = set-anew M X h (shared 8 (M .sets) (r + 2) (rememberedA M r) (rememberedB M r)) (r + 2) (λ c. X .has (X .factor-a r) c && X .has (X .factor-b r) c)
           (λ c lo hi lr.
           shares-both (M .sets) (r + 2) (rememberedA M r) (rememberedB M r) c (h .long) third lo hi .0 ∙ ap₂ _||_ (one c lo hi) (two c lo hi)
           ∙ de-morgan (X .has (X .factor-a r) c) (X .has (X .factor-b r) c))
@@ -142,7 +142,7 @@ tells-by (multiplies r) M X z al h =
     }
 tells-by (admits line) M X z al h = record {
   long = length-access line (M .sets) ∙ h .long;
-  bars-are = set-anew M X h _ (accessRow (accessFields line)) (λ c. listed c (accessPosts (accessFields line)))
+  bars-are = set-anew M X h (accessSets line (M .sets)) (accessRow (accessFields line)) (λ c. listed c (accessPosts (accessFields line)))
       (λ c lo hi lr. set-listed line (M .sets) c (h .long) lo hi .0 lr)
       (λ q c lo hi n. set-listed line (M .sets) c (h .long) lo hi .1 q n);
   a-is = h .a-is;

@@ -50,7 +50,7 @@ all-at P (x ∷ xs) a zero h = a .0
 all-at P (x ∷ xs) a (suc i) h = all-at P xs (a .1) i (omega arith)
 
 -- the marks of a new session
-pub start : Marks
+unfoldable pub start : Marks
 start = record { marks = replicate rowCount 0; factor-a = replicate rowCount 0; factor-b = replicate rowCount 0; sets = replicate 768 0 }
 
 pub start-sized : Sized start
