@@ -130,5 +130,5 @@ only-called plan draw rows es sound is i r c lo hi lent z =
     let k : _≡_ {A = ℕ} _ 0 = sym (answer-refusal _ 0 (q .session) (q .session)) ∙ z in
     let m = message-made (q .session) (q .rows) r c lent k in
     let b = sym (follow plan draw rows es sound is i lo hi r c (m .placed .row-in)) ∙ message-split (q .session) (q .rows) r c lent k .1 in
-    let o = inside 1 (plan .n) c (or-left _ _ b) in
-    (o .0, o .1, not-false _ (or-right _ _ b))
+    let o = inside 1 (plan .n) c (or-left (outside 1 (plan .n) c) _ b) in
+    (o .0, o .1, not-false (inSet plan draw rows es i r c) (or-right (outside 1 (plan .n) c) (not (inSet plan draw rows es i r c)) b))
