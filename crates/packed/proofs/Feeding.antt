@@ -16,9 +16,10 @@ use Rattle.csv.specs.Fields.{written}
 use Rattle.session.specs.declared.Party.{Party}
 use Rattle.session.specs.Rows.{withRow}
 use Rattle.load.specs.Load.{withTriple}
-use Rattle.street_store.specs.Sizes.{streetPosts}
+use Rattle.street_store.specs.Sizes.{streetPosts, longestLine, InStreet}
+use Rattle.street_store.proofs.Keeping as Street
+use Rattle.street_startlines.proofs.Longest.{load-short}
 use Rattle.street_states.specs.States.{firstState, begunWith, refusing, leaving}
-use Rattle.street_startlines.specs.Steps.{longestLine}
 use Rattle.street_interpreter.specs.Stepping.{step}
 use Rattle.street_answers.specs.Text.{answerText}
 use Rattle.street_feeds.specs.Program.{Running, leftBy, fed}
@@ -34,7 +35,7 @@ use Rattle.packed.proofs.Parts.{part-elements, triple-elements, part-le
 use Rattle.packed.proofs.Loading.{sessionAt, at, Passed, row-passes, row-is-loaded, row-room, triple-passes, triple-is-loaded, triple-room}
 use Rattle.packed.proofs.Ahead.{Ahead, row-low, own-drawn, own-elements, ahead-none, raw-free, ahead-raw, triple-low, triple-free, ahead-triple}
 use Rattle.packed.proofs.Bytes.{between, fed-line}
-use Rattle.packed.proofs.Taken.{line-short, row-taken, triple-taken}
+use Rattle.packed.proofs.Taken.{row-taken, triple-taken}
 
 -- ---- a row's line, by the row's kind
 module _ (q : Party) (row k : ℕ) (draw : List ℕ) where
@@ -63,13 +64,16 @@ more-answers number m out =
     append-assoc out (answerText (number + 1) 0 0 ++ []) (noRefusals (number + 1 + 1) m)
     ∙ ap (λ (l : List ℕ). out ++ (l ++ noRefusals (number + 1 + 1) m)) (append-nil (answerText (number + 1) 0 0))
 
-module _ (n t post : ℕ) (points tail : List ℕ) (many : length points ≡ n) (is : PostIn (postAt n t post points))
-    (passed : Passed (postAt n t post points)) (street : n ≤ streetPosts) where
+module _ (n t post points : ℕ) (ws tail : List ℕ) (is : PostIn (postAt n t post points ws)) (passed : Passed (postAt n t post points ws))
+    (street : n ≤ streetPosts) where
   abbrev Q : Party
-  Q = postAt n t post points
+  Q = postAt n t post points ws
 
   abbrev S : Shape
-  S = shape n t
+  S = shape n t points
+
+  in-street : InStreet S
+  in-street = record { valid = is .valid; few = street }
 
   abbrev W : ℕ
   W = rowLength S
@@ -81,7 +85,7 @@ module _ (n t post : ℕ) (points tail : List ℕ) (many : length points ≡ n) 
   pub record Reached (row : ℕ) (ks draws marks rows : List ℕ) (number : ℕ) (out : List ℕ) : Type 0 where
     pub marks' : List ℕ
     pub rows' : List ℕ
-    pub straight-to : rowsLoaded Q points row ks draws (at Q marks rows) ≡ at Q marks' rows'
+    pub straight-to : rowsLoaded Q ws row ks draws (at Q marks rows) ≡ at Q marks' rows'
     pub fed-to : fed (running marks rows number out) (rowLines Q row ks draws)
         ≡ running marks' rows' (number + loads ks) (out ++ noRefusals (number + 1) (loads ks))
 
@@ -93,14 +97,14 @@ module _ (n t post : ℕ) (points tail : List ℕ) (many : length points ≡ n) 
     abbrev rest : List ℕ
     rest = drop (drawnFor S k) draws
 
-    none-joined : kindLoaded Q points row k own (at Q marks rows) ≡ at Q marks rows → rowLine Q row k own ≡ []
+    none-joined : kindLoaded Q ws row k own (at Q marks rows) ≡ at Q marks rows → rowLine Q row k own ≡ []
         → lineFor k ≡ 0
         → Reached (suc row) ks rest marks rows number out → Reached row (k ∷ ks) draws marks rows number out
     unfolding rowsLoaded rowLines loads
     none-joined e l z r = record {
       marks' = r .marks';
       rows' = r .rows';
-      straight-to = ap (rowsLoaded Q points (suc row) ks rest) e ∙ r .straight-to;
+      straight-to = ap (rowsLoaded Q ws (suc row) ks rest) e ∙ r .straight-to;
       fed-to =
           ap (λ (s : List ℕ). fed (running marks rows number out) (s ++ rowLines Q (suc row) ks rest)) l
           ∙ r .fed-to ∙ ap (λ (m : ℕ). running (r .marks') (r .rows') (number + m) (out ++ noRefusals (number + 1) m)) (same z);
@@ -111,7 +115,7 @@ module _ (n t post : ℕ) (points tail : List ℕ) (many : length points ≡ n) 
 
     joined : (marks₁ rows₁ : List ℕ) (letter : ℕ) (xs : List ℕ) → 11 ≤ letter
         → length (written letter xs) ≤ longestLine
-        → kindLoaded Q points row k own (at Q marks rows) ≡ at Q marks₁ rows₁
+        → kindLoaded Q ws row k own (at Q marks rows) ≡ at Q marks₁ rows₁
         → rowLine Q row k own ≡ written letter xs
         → step (begunWith firstState (sessionAt Q marks)) (rows ++ tail) (written letter xs)
         ≡ leaving (refusing (begunWith firstState (sessionAt Q marks₁)) 0) (rows₁ ++ tail)
@@ -122,7 +126,7 @@ module _ (n t post : ℕ) (points tail : List ℕ) (many : length points ≡ n) 
     joined marks₁ rows₁ letter xs h short e l taken one r = record {
       marks' = r .marks';
       rows' = r .rows';
-      straight-to = ap (rowsLoaded Q points (suc row) ks rest) e ∙ r .straight-to;
+      straight-to = ap (rowsLoaded Q ws (suc row) ks rest) e ∙ r .straight-to;
       fed-to =
           ap (λ (s : List ℕ). fed start (s ++ rowLines Q (suc row) ks rest)) l
           ∙ fed-append start (written letter xs) (rowLines Q (suc row) ks rest)
@@ -168,7 +172,7 @@ module _ (n t post : ℕ) (points tail : List ℕ) (many : length points ≡ n) 
         elements = part-elements Q own (own-elements S c row marks rows k ks draws a)
 
         short : length (written 82 (row ∷ mine)) ≤ longestLine
-        short = line-short 82 row mine low (omega (arith, long, is .valid .t-in))
+        short = load-short 82 row mine low (omega (arith, long, Street.row-room S in-street))
 
         free : getD marks row empty ≡ empty
         free = raw-free S c row marks rows k ks draws a (eqb-true k raw e)
@@ -176,10 +180,10 @@ module _ (n t post : ℕ) (points tail : List ℕ) (many : length points ≡ n) 
         after-raw : Reached row (k ∷ ks) draws marks rows number out
         after-raw =
             joined (set marks row raw) (withRow W row mine rows) 82 (row ∷ mine) (omega arith) short
-            (rw (e, row-pack n t post points many (is .first) (is .last) own raw-drawn)
+            (rw (e, row-pack n t post points ws (is .first) (is .last) own raw-drawn)
             (row-is-loaded Q passed marks rows (a .room) row mine elements long low free))
             (raw-line Q row k own e (omega (arith, long)))
-            (row-taken Q marks rows tail (a .room) row mine elements low long short
+            (row-taken Q in-street marks rows tail (a .room) row mine elements low long
             (row-passes Q passed marks rows (a .room) row mine elements long low free))
             (rw e)
             (behind 0 (suc row) (set marks row raw) (withRow W row mine rows) (number + 1) (out ++ (answerText (number + 1) 0 0 ++ []))
@@ -201,7 +205,7 @@ module _ (n t post : ℕ) (points tail : List ℕ) (many : length points ≡ n) 
         elements-3 = triple-elements Q own (own-elements S c row marks rows k ks draws a)
 
         short-3 : length (written 84 (row ∷ mine-3)) ≤ longestLine
-        short-3 = line-short 84 row mine-3 low (omega (arith, long-3, is .valid .t-in))
+        short-3 = load-short 84 row mine-3 low (omega (arith, long-3, Street.row-room S in-street))
 
         low-3 : row ≤ lastTriple
         low-3 = triple-low S c row marks rows k ks draws a f
@@ -218,10 +222,10 @@ module _ (n t post : ℕ) (points tail : List ℕ) (many : length points ≡ n) 
         after-triple : Reached row (k ∷ ks) draws marks rows number out
         after-triple =
             joined marked-3 (withTriple W row mine-3 rows) 84 (row ∷ mine-3) (omega arith) short-3
-            (rw (e, f, triple-pack n t post points many (is .first) (is .last) own triple-drawn)
+            (rw (e, f, triple-pack n t post points ws (is .first) (is .last) own triple-drawn)
             (triple-is-loaded Q passed marks rows (a .room) row mine-3 elements-3 long-3 low-3 free-0 (free-at 1) (free-at 2)))
             (triple-line Q row k own e f (omega (arith, long-3)))
-            (triple-taken Q marks rows tail (a .room) row mine-3 elements-3 low-3 long-3 short-3
+            (triple-taken Q in-street marks rows tail (a .room) row mine-3 elements-3 low-3 long-3
             (triple-passes Q passed marks rows (a .room) row mine-3 elements-3 long-3 low-3 free-0 (free-at 1) (free-at 2)))
             (rw (e, f))
             (behind 2 (suc row) marked-3 (withTriple W row mine-3 rows) (number + 1) (out ++ (answerText (number + 1) 0 0 ++ []))

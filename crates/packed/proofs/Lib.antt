@@ -1,5 +1,4 @@
 pub mod Parts
-pub mod Returning
 pub mod Loading
 pub mod Ahead
 pub mod Bytes

@@ -1,15 +1,16 @@
 -- A session that the works loads straight: no load is refused, and what each leaves.
-use Prim.Native.Nat.{ℕ, _+_, _*_, _≤_}
-use mathlib.Core.Path.{_≡_, _∙_, ap}
-use mathlib.Core.Bool.{false, not}
+use Prim.Native.Nat.{ℕ, _+_, _*_, _≤_, _<_}
+use mathlib.Core.Path.{_≡_, refl, sym, _∙_, ap}
+use mathlib.Core.Bool.{Bool, true, false, not, cond}
 use mathlib.Core.List.{List}
 use native.Mathlib.Nat.{mul-le-mul-right, add-mul}
 use native.Mathlib.Omega.{arith}
-use borrow.Author.Tests.{eq-eqb, le-ltb}
+use borrow.Author.Tests.{eq-eqb, eqb-false, le-ltb}
 use lib.Dec.{eqb}
 use lib.ListN.{length, getD, set, replicate}
 use Rattle.poly.specs.Counting.{Elements}
-use Rattle.shape.specs.Bounds.{rowCount, lastRow, lastTriple}
+use Rattle.shape.specs.declared.Points.{Points}
+use Rattle.shape.specs.Bounds.{rowCount, lastRow, lastTriple, mostPoints}
 use Rattle.shape.specs.Lengths.{rowLength, rowsLength, tripleLength}
 use Rattle.shape.specs.Marks.{empty, raw, unused, further}
 use Rattle.refusal.specs.Refusal.{outcome, AllFail}
@@ -19,11 +20,12 @@ use Rattle.factory.proofs.Laws.{elements-pass}
 use Rattle.lists.proofs.Parts.{length-put}
 use Rattle.session.specs.declared.Party.{Party}
 use Rattle.session.specs.declared.Session.{Session}
-use Rattle.session.specs.Sessions.{withMarks, sessionOf, sessionTests, created}
+use Rattle.session.specs.Sessions.{withMarks, asMany, sessionOf, sessionTests, created}
 use Rattle.session.specs.Rows.{withRow}
 use Rattle.session.proofs.RowLaws.{length-with-row}
 use Rattle.load.specs.Load.{loadRowTests, loadRowRefusal, loadTripleTests, loadTripleRefusal, withTriple}
 use Rattle.load.proofs.Triples.{triple-put}
+use Rattle.packrow.specs.Between.{PostIn}
 use Rattle.packed.specs.Straight.{Loaded, newPost, rowLoaded, tripleLoaded}
 
 -- ---- tests that fail
@@ -35,17 +37,32 @@ right-mark marks r m e = ap not (eq-eqb (getD marks r empty) m e)
 
 -- ---- the post's session with other marks
 abbrev pub sessionAt : Party → List ℕ → Session
-sessionAt q marks = withMarks (sessionOf (q .shape .n) (q .shape .t) (q .post) (q .point)) marks
+sessionAt q marks = withMarks (sessionOf (q .shape .n) (q .shape .t) (q .post) (q .shape .points) (q .points)) marks
 
 abbrev pub at : Party → List ℕ → List ℕ → Loaded
 at q marks rows = record { session = sessionAt q marks; rows = rows; refusal = 0 }
 
 abbrev pub Passed : Party → Type 0
-Passed q = AllFail (sessionTests (q .shape .n) (q .shape .t) (q .post) (q .point))
+Passed q = AllFail (sessionTests (q .shape .n) (q .shape .t) (q .post) (q .shape .points) (q .points))
 
-pub new-loaded : (q : Party) → Passed q → newPost q ≡ at q (replicate rowCount empty) (replicate (rowsLength (q .shape)) 0)
+-- the post has as many check points as the session remembers
+as-many : (q : Party) → PostIn q → asMany (q .shape .points) (q .points) ≡ q .points
+as-many q is = go (eqb (q .shape .points) mostPoints) refl
+  where
+    two : (b : Bool) → Points
+    two b = record { first = q .points .first; second = cond b (q .points .second) 0 }
+
+    go : (b : Bool) → eqb (q .shape .points) mostPoints ≡ b → two b ≡ q .points
+    go true e = refl
+    go false e =
+        let few : q .shape .points < mostPoints = omega (arith, is .valid .points-in .1, eqb-false (q .shape .points) mostPoints e) in
+        ap (λ (x : ℕ). record { first = q .points .first; second = x }) (sym (is .lone few))
+
+pub new-loaded : (q : Party) → PostIn q → Passed q → newPost q ≡ at q (replicate rowCount empty) (replicate (rowsLength (q .shape)) 0)
 unfolding created outcome
-new-loaded q h = rw (not-refused (sessionTests (q .shape .n) (q .shape .t) (q .post) (q .point)) h)
+new-loaded q is h =
+    rw (not-refused (sessionTests (q .shape .n) (q .shape .t) (q .post) (q .shape .points) (q .points)) h)
+    (ap (λ (w : Points). at (record { shape = q .shape; post = q .post; points = w }) (replicate rowCount empty) (replicate (rowsLength (q .shape)) 0)) (as-many q is))
 
 module _ (q : Party) (h : Passed q) (marks rows : List ℕ) (room : length rows ≡ rowsLength (q .shape)) (row : ℕ) (pack : List ℕ)
     (elements : Elements pack) where

@@ -1,5 +1,5 @@
 -- A post's part of what the factory's calls write is its part of the draw: as many numbers as a load takes, all of them elements.
-use Prim.Native.Nat.{ℕ, zero, suc, _+_, _*_, _-_, _≤_, _<_}
+use Prim.Native.Nat.{ℕ, zero, suc, _+_, _*_, _-_, _/_, _%_, _≤_, _<_}
 use mathlib.Core.Path.{_≡_, _∙_, ap, ap₂}
 use mathlib.Core.List.{List, [], _∷_, _++_}
 use native.Mathlib.Omega.{arith}
@@ -11,11 +11,12 @@ use Rattle.field.proofs.Modular.{sum-below, product-below}
 use Rattle.poly.specs.Polynomial.{value}
 use Rattle.poly.specs.Counting.{Elements}
 use Rattle.shape.specs.declared.Shape.{Shape}
-use Rattle.shape.specs.Lengths.{shape, fLength, vLength, rowLength, tripleLength, drawLength, tripleDrawLength}
+use Rattle.shape.specs.Lengths.{shape, fLength, vLength, checksLength, rowLength, tripleLength, drawLength, tripleDrawLength}
+use Rattle.shape.specs.Row.{pointAt}
 use Rattle.session.specs.declared.Party.{Party}
 use Rattle.session.specs.Rows.{rowAt}
-use Rattle.parts.specs.Draw.{drawnF, drawnV, sumOf, eachFrom, part, firstDraw, secondDraw, thirdDraw}
-use Rattle.packs.specs.Packs.{packs, triplePacks}
+use Rattle.parts.specs.Draw.{drawnF, drawnV, checkOf, sumOf, eachFrom, part, firstDraw, secondDraw, thirdDraw}
+use Rattle.packs.specs.Packs.{pointsAt, packs, triplePacks}
 use Rattle.parts.proofs.Laws.{length-part, elements-take, elements-drop, elements-append}
 use Rattle.packs.proofs.Laws.{length-packs, packs-part, row-among, row-behind}
 use Rattle.packrow.specs.Numbers.{postPart, tripleParts}
@@ -39,12 +40,12 @@ unfolding postPart part
 part-elements q draw h =
     let s = q .shape in
     let at : ℕ = fLength s + (q .post - 1) * vLength s in
-    let f : ℕ → ℕ = λ j. value (drawnV s draw j) (q .point) in
-    let cs : List ℕ = eachFrom 1 (s .n) f in
+    let f : ℕ → ℕ = checkOf s (q .points) draw in
+    let cs : List ℕ = eachFrom 0 (checksLength s) f in
     let ms : List ℕ = eachFrom 1 (s .n) (sumOf s draw) in
     elements-append (drawnV s draw (q .post)) (cs ++ ms) (elements-take (vLength s) (drop at draw) (elements-drop at draw h))
     (elements-append cs ms
-    (each-elements f (λ j. value-element (drawnV s draw j) (q .point)) 1 (s .n))
+    (each-elements f (λ m. value-element (drawnV s draw (suc (m / s .points))) (pointAt (q .points) (m % s .points))) 0 (checksLength s))
     (each-elements (sumOf s draw) (λ j. sum-below (getD (drawnV s draw j) 0 0) (value (drawnF s draw) j)) 1 (s .n)))
 
 pub triple-elements : (q : Party) (draw : List ℕ) → Elements draw → Elements (tripleParts q draw)
@@ -63,7 +64,7 @@ triple-elements q draw h =
 pub part-length : (q : Party) (draw : List ℕ) → PostIn q → length draw ≡ drawLength (q .shape)
     → length (postPart q draw) ≡ rowLength (q .shape)
 unfolding postPart
-part-length q draw post e = length-part (q .shape) draw e (q .post) (q .point) (post .first) (post .last)
+part-length q draw post e = length-part (q .shape) draw e (q .post) (q .points) (post .first) (post .last)
 
 module _ (s : Shape) (draw : List ℕ) (e : length draw ≡ tripleDrawLength s) where
   first-drawn : length (firstDraw (drawLength s) draw) ≡ drawLength s
@@ -86,27 +87,27 @@ triple-length q draw post e =
     simp length-append (omega (arith, a, b, c))
 
 -- ---- the factory's calls
-module _ (n t post : ℕ) (points : List ℕ) (many : length points ≡ n) (lo : 1 ≤ post) (hi : post ≤ n) where
+module _ (n t post points : ℕ) (ws : List ℕ) (lo : 1 ≤ post) (hi : post ≤ n) where
   abbrev S : Shape
-  S = shape n t
+  S = shape n t points
 
   abbrev W : ℕ
   W = rowLength S
 
   own-part : (draw : List ℕ) → length draw ≡ drawLength S
-      → rowAt W (packs S points draw) (post - 1) ≡ part S post (getD points (post - 1) 0) draw
-  own-part draw e = packs-part S draw e points many post lo hi
+      → rowAt W (packs S ws draw) (post - 1) ≡ part S post (pointsAt points ws (post - 1)) draw
+  own-part draw e = packs-part S draw e ws post lo hi
 
-  all-parts : (draw : List ℕ) → length draw ≡ drawLength S → length (packs S points draw) ≡ n * W
-  all-parts draw e = length-packs S draw e points many
+  all-parts : (draw : List ℕ) → length draw ≡ drawLength S → length (packs S ws draw) ≡ n * W
+  all-parts draw e = length-packs S draw e ws
 
   pub row-pack : (draw : List ℕ) → length draw ≡ drawLength S
-      → rowPack (postAt n t post points) points draw ≡ postPart (postAt n t post points) draw
+      → rowPack (postAt n t post points ws) ws draw ≡ postPart (postAt n t post points ws) draw
   unfolding rowPack postPart
   row-pack draw e = own-part draw e
 
   pub triple-pack : (draw : List ℕ) → length draw ≡ tripleDrawLength S
-      → triplePack (postAt n t post points) points draw ≡ tripleParts (postAt n t post points) draw
+      → triplePack (postAt n t post points ws) ws draw ≡ tripleParts (postAt n t post points ws) draw
   unfolding triplePack tripleParts triplePacks postPart
   triple-pack draw e = ap₂ _++_ first-is (ap₂ _++_ second-is third-is)
     where
@@ -114,19 +115,19 @@ module _ (n t post : ℕ) (points : List ℕ) (many : length points ≡ n) (lo :
       d = drawLength S
 
       A : List ℕ
-      A = packs S points (firstDraw (drawLength S) draw)
+      A = packs S ws (firstDraw (drawLength S) draw)
 
       B : List ℕ
-      B = packs S points (secondDraw (drawLength S) draw)
+      B = packs S ws (secondDraw (drawLength S) draw)
 
       C : List ℕ
-      C = packs S points (thirdDraw (drawLength S) draw)
+      C = packs S ws (thirdDraw (drawLength S) draw)
 
-      first-is : rowAt W (A ++ (B ++ C)) (post - 1) ≡ part S post (getD points (post - 1) 0) (firstDraw (drawLength S) draw)
+      first-is : rowAt W (A ++ (B ++ C)) (post - 1) ≡ part S post (pointsAt points ws (post - 1)) (firstDraw (drawLength S) draw)
       first-is =
           row-among W n A (B ++ C) (all-parts _ (first-drawn S draw e)) (post - 1) (omega arith) ∙ own-part _ (first-drawn S draw e)
 
-      second-is : rowAt W (A ++ (B ++ C)) (n + post - 1) ≡ part S post (getD points (post - 1) 0) (secondDraw (drawLength S) draw)
+      second-is : rowAt W (A ++ (B ++ C)) (n + post - 1) ≡ part S post (pointsAt points ws (post - 1)) (secondDraw (drawLength S) draw)
       second-is =
           let g : n + post - 1 ≡ n + (post - 1) = omega arith in
           ap (rowAt W (A ++ (B ++ C))) g
@@ -134,7 +135,7 @@ module _ (n t post : ℕ) (points : List ℕ) (many : length points ≡ n) (lo :
           ∙ row-among W n B C (all-parts _ (second-drawn S draw e)) (post - 1) (omega arith)
           ∙ own-part _ (second-drawn S draw e)
 
-      third-is : rowAt W (A ++ (B ++ C)) (2 * n + post - 1) ≡ part S post (getD points (post - 1) 0) (thirdDraw (drawLength S) draw)
+      third-is : rowAt W (A ++ (B ++ C)) (2 * n + post - 1) ≡ part S post (pointsAt points ws (post - 1)) (thirdDraw (drawLength S) draw)
       third-is =
           let g : 2 * n + post - 1 ≡ n + (n + (post - 1)) = omega arith in
           ap (rowAt W (A ++ (B ++ C))) g

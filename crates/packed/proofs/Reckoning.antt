@@ -1,4 +1,4 @@
--- The file reckoned by hand is the one that the definitions give.
+-- The files reckoned by hand are those that the definitions give.
 use mathlib.Core.Path.{refl}
 use Rattle.field.specs.Arithmetic.{sum, product}
 use Rattle.decimal.specs.Numeral.{lastDigits, sizeWithin}
@@ -11,8 +11,8 @@ use Rattle.kinds.specs.Kinds.{drawnFor, drawsLength, anyRow, late, crowded, unk
 use Rattle.packrow.specs.Numbers.{postPart, tripleParts, numbersOf}
 use Rattle.packlines.specs.File.{rowLine, rowLines, startLine, file}
 use Rattle.packfile.specs.Writing.{givenRefusal}
-use Rattle.packed.specs.Example.{Reckoned}
+use Rattle.packed.specs.Example.{BothReckoned}
 
-pub reckoned : Reckoned
+pub reckoned : BothReckoned
 unfolding givenRefusal anyBadPoint anyBeyond drawsLength drawnFor anyRow late crowded unknown file startLine rowLines rowLine numbersOf tripleParts postPart part eachFrom value sum product fields lastDigits sizeWithin
-reckoned = record { given = refl; text = refl }
+reckoned = (record { given = refl; text = refl }, record { given = refl; text = refl })

@@ -1,105 +1,173 @@
--- What the program does with a line of a file: the start line begins the post's session, a row's line loads its numbers.
-use Prim.Native.Nat.{ℕ, _+_, _≤_, _<_}
-use mathlib.Core.Path.{_≡_, _∙_}
-use mathlib.Core.Bool.{true, false}
+-- What the program does with a line of a file: the start line begins the post's session, a row's line loads its numbers. `performing` says what such lines do.
+use Prim.Native.Nat.{ℕ, _+_, _-_, _≤_, _<_}
+use mathlib.Core.Path.{_≡_, refl, sym, _∙_, ap, ap₂}
+use mathlib.Core.Bool.{Bool, true, false, _||_, cond}
 use mathlib.Core.List.{List, [], _∷_, _++_}
 use native.Mathlib.Omega.{arith}
-use borrow.Author.Tests.{le-ltb}
-use lib.ListN.{length, drop, set, length-append}
+use borrow.Author.Tests.{le-ltb, eqb-true, eqb-false}
+use lib.Dec.{eqb, ltb}
+use lib.ListN.{length, drop, getD, set}
 use lib.Seq.{take-at, drop-at}
-use Rattle.field.specs.Modulus.{p}
 use Rattle.poly.specs.Counting.{Elements}
-use Rattle.shape.specs.Bounds.{lastRow, lastTriple}
+use Rattle.shape.specs.Bounds.{lastRow, lastTriple, mostPoints}
 use Rattle.shape.specs.Lengths.{rowLength, rowsLength, tripleLength}
 use Rattle.shape.specs.Marks.{raw, unused, further}
 use Rattle.refusal.specs.Refusal.{first, outcome}
-use Rattle.refusal.specs.Conditions.{anyBeyond}
 use Rattle.refusal.proofs.Laws.{not-refused}
-use Rattle.decimal.specs.Numeral.{size, sizeWithin}
-use Rattle.decimal.proofs.Sizes.{size-grows}
-use Rattle.csv.specs.Fields.{field, fields, written}
-use Rattle.csv.proofs.Overwriting.{length-field, length-fields-le}
-use Rattle.csv.proofs.Laying.{length-written}
+use Rattle.csv.specs.Fields.{written}
 use Rattle.session.specs.declared.Party.{Party}
+use Rattle.session.specs.declared.Answer.{Answer}
+use Rattle.session.specs.Claims.{freshSession}
 use Rattle.session.specs.Sessions.{sessionOf}
 use Rattle.session.specs.Rows.{withRow}
 use Rattle.load.specs.Load.{loadRowRefusal, loadTripleRefusal, withTriple}
-use Rattle.street_store.specs.Sizes.{streetPosts, longestTriple}
-use Rattle.street_reading.specs.Numbers.{numbers, readRefusal, rowsBeyond}
-use Rattle.street_reading.specs.Starting.{isStart}
-use Rattle.street_reading.proofs.Written.{says, passes}
+use Rattle.street_store.specs.Sizes.{streetPosts, longestLine, InStreet}
 use Rattle.street_states.specs.declared.State.{State}
-use Rattle.street_states.specs.States.{firstState, begunWith, refusing, leaving, sessionRows}
-use Rattle.street_startlines.specs.Steps.{longestLine, startTests, startStep, earlyStep}
-use Rattle.street_loadlines.specs.Steps.{loading, loadStep, loadingTriple, loadTripleStep}
-use Rattle.street_interpreter.specs.Stepping.{lettersStep, lateStep, step}
-use Rattle.factory.proofs.Laws.{elements-pass}
+use Rattle.street_states.specs.States.{After, firstState, begunWith, refusing, leaving, sessionRows, calling}
+use Rattle.street_interpreter.specs.Stepping.{step}
+use Rattle.performing.specs.Lines.{TenDigits}
+use Rattle.performing.specs.Claims.{Does}
+use Rattle.performing.specs.Starting.{OneOrTwo, startLetter, figured, anyNoPoint, settingsTable}
+use Rattle.performing.proofs.Heard.{line-short}
+use Rattle.performing.proofs.Loading.{street-loads}
+use Rattle.performing.proofs.Starting.{street-starts}
+use Rattle.performing.proofs.TwoLines.{same-state}
 use Rattle.packlines.specs.File.{startLine}
 use Rattle.packrow.specs.Between.{PostIn}
-use Rattle.packed.proofs.Returning.{start-reads-back}
-use Rattle.packed.proofs.Loading.{sessionAt, Passed}
+use Rattle.packed.proofs.Loading.{sessionAt}
+
+-- ---- a step, from its parts
+same-after : (a b : After) → a .given .state ≡ b .given .state → a .given .refusal ≡ b .given .refusal → a .given .value ≡ b .given .value
+    → a .store ≡ b .store → a .told ≡ b .told → a ≡ b
+same-after a b e f g h i =
+    ap (λ (x : State). record { given = record { state = x; refusal = a .given .refusal; value = a .given .value }; store = a .store; told = a .told }) e
+    ∙ ap (λ (x : ℕ). record { given = record { state = b .given .state; refusal = x; value = a .given .value }; store = a .store; told = a .told }) f
+    ∙ ap (λ (x : ℕ). record { given = record { state = b .given .state; refusal = b .given .refusal; value = x }; store = a .store; told = a .told }) g
+    ∙ ap (λ (x : List ℕ). record { given = b .given; store = x; told = a .told }) h
+    ∙ ap (λ (x : List ℕ). record { given = b .given; store = b .store; told = x }) i
+
+done : (st : State) (store : List ℕ) (a : Answer) (rows : List ℕ) (v : After) → Does st store a rows v → v ≡ calling st store a rows
+done st store a rows v d =
+    let e = d .acts in
+    same-after v (calling st store a rows)
+    (same-state (v .given .state) (calling st store a rows .given .state) (e .session) (e .started) (e .kept) (e .triple)) (e .refusal) (e .value)
+    (e .rows-left) (d .quiet .told)
 
 -- ---- the start line
-module _ (q : Party) (post : PostIn q) (passed : Passed q) (street : q .shape .n ≤ streetPosts) (b : q .point < p) where
-  abbrev four : List ℕ
-  four = q .shape .n ∷ q .shape .t ∷ q .post ∷ q .point ∷ []
+-- a post's check points are 1 to p − 1
+pub record Pointed (q : Party) : Type 0 where
+  pub first-in : (1 ≤ q .points .first) × (q .points .first ≤ 2147483646)
+  pub second-in : q .shape .points ≡ mostPoints → (1 ≤ q .points .second) × (q .points .second ≤ 2147483646)
 
-  pub start-short : length (written 83 four) ≤ longestLine
-  start-short =
-      let own : List ℕ = q .shape .t ∷ q .post ∷ q .point ∷ [] in
-      omega (arith, length-written 83 (q .shape .n ∷ []) own, length-fields-le (q .shape .n ∷ []), length-fields-le own)
+pub none : {a b : Bool} → a ≡ false → b ≡ false → (a || b) ≡ false
+none e f = ap₂ _||_ e f
 
-  starts : isStart (startLine q) ≡ true
-  unfolding startLine fields
-  starts = rw (le-ltb (length (startLine q)) 2 (omega arith))
+pub in-range : (x : ℕ) → (1 ≤ x) × (x ≤ 2147483646) → (ltb x 1 || ltb 2147483646 x) ≡ false
+in-range x h = none (le-ltb x 1 (h .0)) (le-ltb 2147483646 x (h .1))
 
-  settings : first (startTests (q .shape .n) (q .shape .t) (q .post) (q .point)) ≡ 0
-  settings = not-refused (startTests (q .shape .n) (q .shape .t) (q .post) (q .point)) (le-ltb streetPosts (q .shape .n) street, passed)
+module _ (q : Party) (is : PostIn q) (good : Pointed q) (street : q .shape .n ≤ streetPosts) where
+  abbrev n : ℕ
+  n = q .shape .n
 
-  pub start-taken : (store : List ℕ) → step firstState store (startLine q)
-      ≡ leaving (refusing (begunWith firstState (sessionOf (q .shape .n) (q .shape .t) (q .post) (q .point))) 0) store
-  unfolding step earlyStep startStep startLine outcome
-  start-taken store = rw (starts, le-ltb longestLine (length (startLine q)) start-short, start-reads-back q post b, settings)
+  abbrev t : ℕ
+  t = q .shape .t
 
--- ---- a line of a row and its numbers, read
-module _ (letter row last : ℕ) (pack : List ℕ) (elements : Elements pack) (low : row ≤ last) (small : last < p) (k : ℕ)
-    (many : length pack + 1 ≡ k) where
-  fine : anyBeyond (row ∷ pack) ≡ false
-  fine = elements-pass (row ∷ pack) (omega arith, elements)
+  abbrev points : ℕ
+  points = q .shape .points
 
-  all : k ≡ length (row ∷ pack)
-  all = omega arith
+  abbrev one : ℕ
+  one = q .points .first
 
-  within : rowsBeyond (last ∷ []) (row ∷ pack) ≡ false
-  unfolding rowsBeyond
-  within = rw (le-ltb last row low)
+  abbrev two : ℕ
+  two = q .points .second
 
-  pub line-numbers : numbers k (written letter (row ∷ pack)) ≡ row ∷ pack
-  line-numbers = rw all (says letter (row ∷ pack) fine)
+  abbrev line : Bool → List ℕ
+  line b = cond b (one ∷ two ∷ []) (one ∷ [])
 
-  pub line-passes : readRefusal (last ∷ []) k (written letter (row ∷ pack)) ≡ 0
-  line-passes = rw all (passes letter (row ∷ pack) fine (last ∷ []) within)
+  abbrev own : List ℕ
+  own = line (eqb points mostPoints)
 
--- ---- no line is too long
-two-digits : (row : ℕ) → row ≤ lastRow → size row ≤ 2
-unfolding sizeWithin
-two-digits row h = size-grows 9 row lastRow h
+  -- the line's check points: as many as the post has
+  record Holds (ws : List ℕ) : Type 0 where
+    few : OneOrTwo ws
+    digits : TenDigits ws
+    passes : anyNoPoint ws ≡ false
+    count : length ws ≡ points
+    first-is : getD ws 0 0 ≡ one
+    second-is : getD ws 1 0 ≡ two
 
-pub line-short : (letter row : ℕ) (pack : List ℕ) → row ≤ lastRow → length pack ≤ longestTriple
-    → length (written letter (row ∷ pack)) ≤ longestLine
-unfolding fields
-line-short letter row pack h l =
-    omega (
-      arith,
-      length-written letter (row ∷ []) pack,
-      length-append (field row) [],
-      length-field row,
-      two-digits row h,
-      length-fields-le pack,
-    )
+  holds : Holds own
+  holds = go (eqb points mostPoints) refl
+    where
+      go : (b : Bool) → eqb points mostPoints ≡ b → Holds (line b)
+      go true e =
+          let k = eqb-true points mostPoints e in
+          let h = good .second-in k in
+          record {
+            few = (omega arith, omega arith);
+            digits = (omega (arith, good .first-in .1), (omega (arith, h .1), tt));
+            passes = none (in-range one (good .first-in)) (none (in-range two h) refl);
+            count = sym k;
+            first-is = refl;
+            second-is = refl;
+          }
+      go false e =
+          let k : points < mostPoints = omega (arith, is .valid .points-in .1, eqb-false points mostPoints e) in
+          record {
+            few = (omega arith, omega arith);
+            digits = (omega (arith, good .first-in .1), tt);
+            passes = none (in-range one (good .first-in)) refl;
+            count = omega (arith, is .valid .points-in .0);
+            first-is = refl;
+            second-is = sym (is .lone k);
+          }
+
+  pub start-text : startLine q ≡ figured n t (q .post) own
+  unfolding startLine
+  start-text = go (eqb points mostPoints)
+    where
+      go : (b : Bool) → cond b (written 87 (n ∷ t ∷ q .post ∷ one ∷ two ∷ [])) (written 83 (n ∷ t ∷ q .post ∷ one ∷ [])) ≡ figured n t (q .post) (line b)
+      go true = refl
+      go false = refl
+
+  pub start-short : length (figured n t (q .post) own) ≤ longestLine
+  start-short = line-short (startLetter own) (n ∷ t ∷ q .post ∷ own) (omega (arith, holds .few .1))
+
+  pub start-byte : 11 ≤ startLetter own
+  start-byte = go (eqb (length own) 2)
+    where
+      go : (b : Bool) → 11 ≤ cond b 87 83
+      go true = omega arith
+      go false = omega arith
+
+  digits : TenDigits (n ∷ t ∷ q .post ∷ own)
+  digits = (omega (arith, street), (omega (arith, street, is .valid .t-in .1), (omega (arith, street, is .last), holds .digits)))
+
+  settings : first (settingsTable n t (q .post) own) ≡ 0
+  settings =
+      let v = is .valid in
+      not-refused (settingsTable n t (q .post) own) (
+        none (le-ltb n 2 (v .n-in .0)) (le-ltb 32 n street),
+        (none (le-ltb t 1 (v .t-in .0)) (le-ltb (n - 1) t (v .t-in .1)), (none (le-ltb (q .post) 1 (is .first)) (le-ltb n (q .post) (is .last)), (holds .passes, tt))),
+      )
+
+  abbrev begun : State
+  begun = begunWith firstState (sessionOf n t (q .post) points (q .points))
+
+  new-session : freshSession n t (q .post) (length own) (getD own 0 0) (getD own 1 0) ≡ begun .session
+  new-session = rw (holds .count, holds .first-is, holds .second-is)
+
+  pub start-taken : (store : List ℕ) → step firstState store (figured n t (q .post) own) ≡ leaving (refusing begun 0) store
+  start-taken store =
+      let starts = street-starts firstState store refl in
+      let b = starts .begins n t (q .post) own (holds .few) digits settings in
+      same-after (step firstState store (figured n t (q .post) own)) (leaving (refusing begun 0) store)
+      (same-state _ begun (b .session ∙ new-session) (b .started) (b .kept) (b .triple)) (starts .settings n t (q .post) own (holds .few) digits ∙ settings)
+      (b .value) (b .store-kept) (b .quiet .told)
 
 -- ---- a load, on the session's rows in the store
-module _ (q : Party) (marks rows tail : List ℕ) (room : length rows ≡ rowsLength (q .shape)) (row : ℕ) (pack : List ℕ) (elements : Elements pack) where
+module _ (q : Party) (street : InStreet (q .shape)) (marks rows tail : List ℕ) (room : length rows ≡ rowsLength (q .shape)) (row : ℕ) (pack : List ℕ)
+    (elements : Elements pack) where
   abbrev st : State
   st = begunWith firstState (sessionAt q marks)
 
@@ -109,42 +177,16 @@ module _ (q : Party) (marks rows tail : List ℕ) (room : length rows ≡ rowsLe
   own-rest : drop (rowsLength (q .shape)) (rows ++ tail) ≡ tail
   own-rest = drop-at rows tail (rowsLength (q .shape)) room
 
-  module _ (low : row ≤ lastRow) (long : length pack ≡ rowLength (q .shape)) (short : length (written 82 (row ∷ pack)) ≤ longestLine)
-      (clear : loadRowRefusal (sessionAt q marks) rows row pack ≡ 0) where
-    by-letter : step st (rows ++ tail) (written 82 (row ∷ pack)) ≡ loadStep st (rows ++ tail) (written 82 (row ∷ pack))
-    unfolding step lateStep lettersStep
-    by-letter = rw (le-ltb longestLine (length (written 82 (row ∷ pack))) short)
-
-    by-numbers : loadStep st (rows ++ tail) (written 82 (row ∷ pack)) ≡ loading st (rows ++ tail) (row ∷ pack)
-    unfolding loadStep outcome
-    by-numbers =
-        let k : ℕ = 1 + rowLength (q .shape) in
-        rw (
-          line-passes 82 row lastRow pack elements low (omega arith) k (omega arith),
-          line-numbers 82 row lastRow pack elements low (omega arith) k (omega arith),
-        )
-
+  module _ (low : row ≤ lastRow) (long : length pack ≡ rowLength (q .shape)) (clear : loadRowRefusal (sessionAt q marks) rows row pack ≡ 0) where
     pub row-taken : step st (rows ++ tail) (written 82 (row ∷ pack))
         ≡ leaving (refusing (begunWith firstState (sessionAt q (set marks row raw))) 0) (withRow (rowLength (q .shape)) row pack rows ++ tail)
-    unfolding loading outcome
-    row-taken = by-letter ∙ by-numbers ∙ rw (own-rows, clear, own-rest)
+    unfolding outcome
+    row-taken =
+        done st (rows ++ tail) _ _ _ (street-loads st (rows ++ tail) refl street .load row pack low long elements) ∙ rw (own-rows, clear, own-rest)
 
-  module _ (low : row ≤ lastTriple) (long : length pack ≡ tripleLength (q .shape)) (short : length (written 84 (row ∷ pack)) ≤ longestLine)
-      (clear : loadTripleRefusal (sessionAt q marks) rows row pack ≡ 0) where
-    by-letter-3 : step st (rows ++ tail) (written 84 (row ∷ pack)) ≡ loadTripleStep st (rows ++ tail) (written 84 (row ∷ pack))
-    unfolding step lateStep lettersStep
-    by-letter-3 = rw (le-ltb longestLine (length (written 84 (row ∷ pack))) short)
-
-    by-numbers-3 : loadTripleStep st (rows ++ tail) (written 84 (row ∷ pack)) ≡ loadingTriple st (rows ++ tail) (row ∷ pack)
-    unfolding loadTripleStep outcome
-    by-numbers-3 =
-        let k : ℕ = 1 + tripleLength (q .shape) in
-        rw (
-          line-passes 84 row lastTriple pack elements low (omega arith) k (omega arith),
-          line-numbers 84 row lastTriple pack elements low (omega arith) k (omega arith),
-        )
-
+  module _ (low : row ≤ lastTriple) (long : length pack ≡ tripleLength (q .shape)) (clear : loadTripleRefusal (sessionAt q marks) rows row pack ≡ 0) where
     pub triple-taken : step st (rows ++ tail) (written 84 (row ∷ pack))
         ≡ leaving (refusing (begunWith firstState (sessionAt q (set (set (set marks row unused) (row + 1) further) (row + 2) further))) 0) (withTriple (rowLength (q .shape)) row pack rows ++ tail)
-    unfolding loadingTriple outcome
-    triple-taken = by-letter-3 ∙ by-numbers-3 ∙ rw (own-rows, clear, own-rest)
+    unfolding outcome
+    triple-taken =
+        done st (rows ++ tail) _ _ _ (street-loads st (rows ++ tail) refl street .triple row pack low long elements) ∙ rw (own-rows, clear, own-rest)

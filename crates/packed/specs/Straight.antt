@@ -20,14 +20,14 @@ use Rattle.packfile.specs.Writing.{postAt}
 
 -- "each post's row is written into its own part of the lent list, post 1 first"
 unfoldable pub rowPack : Party → List ℕ → List ℕ → List ℕ
-rowPack q points draw = rowAt (rowLength (q .shape)) (packs (q .shape) points draw) (q .post - 1)
+rowPack q ws draw = rowAt (rowLength (q .shape)) (packs (q .shape) ws draw) (q .post - 1)
 
 -- "The lent list holds all posts' rows of l, then of l', then of l''."
 unfoldable pub triplePack : Party → List ℕ → List ℕ → List ℕ
-triplePack q points draw =
+triplePack q ws draw =
     let w = rowLength (q .shape) in
     let n = q .shape .n in
-    let all = triplePacks (q .shape) points draw in
+    let all = triplePacks (q .shape) ws draw in
     rowAt w all (q .post - 1) ++ (rowAt w all (n + q .post - 1) ++ rowAt w all (2 * n + q .post - 1))
 
 -- A session with its rows, and the first refusal of the calls that led there, 0 where none was refused.
@@ -42,7 +42,7 @@ loadedBy l a rows = record { session = a .session; rows = rows; refusal = orElse
 -- A new session over a list of zeros.
 abbrev pub newPost : Party → Loaded
 newPost q =
-    let a = created (q .shape .n) (q .shape .t) (q .post) (q .point) in
+    let a = created (q .shape .n) (q .shape .t) (q .post) (q .shape .points) (q .points) in
     record { session = a .session; rows = replicate (rowsLength (q .shape)) 0; refusal = a .refusal }
 
 abbrev pub rowLoaded : Loaded → ℕ → List ℕ → Loaded
@@ -55,17 +55,17 @@ tripleLoaded l row pack =
 
 -- "A kind is 0 for empty, 1 for raw, 3 for a triple's first row"
 abbrev pub kindLoaded : Party → List ℕ → ℕ → ℕ → List ℕ → Loaded → Loaded
-kindLoaded q points row k draw l =
-    cond (eqb k raw) (rowLoaded l row (rowPack q points draw))
-    (cond (eqb k unused) (tripleLoaded l row (triplePack q points draw)) l)
+kindLoaded q ws row k draw l =
+    cond (eqb k raw) (rowLoaded l row (rowPack q ws draw))
+    (cond (eqb k unused) (tripleLoaded l row (triplePack q ws draw)) l)
 
 -- "The draws follow by rising row": the rows from `row` on, which have these kinds.
 unfoldable pub rowsLoaded : Party → List ℕ → ℕ → List ℕ → List ℕ → Loaded → Loaded
-rowsLoaded q points row [] draws l = l
-rowsLoaded q points row (k ∷ ks) draws l =
+rowsLoaded q ws row [] draws l = l
+rowsLoaded q ws row (k ∷ ks) draws l =
     let d = drawnFor (q .shape) k in
-    rowsLoaded q points (suc row) ks (drop d draws) (kindLoaded q points row k (take d draws) l)
+    rowsLoaded q ws (suc row) ks (drop d draws) (kindLoaded q ws row k (take d draws) l)
 
-unfoldable pub straight : ℕ → ℕ → ℕ → List ℕ → List ℕ → List ℕ → Loaded
-straight n t post points kinds draws =
-    rowsLoaded (postAt n t post points) points 0 kinds draws (newPost (postAt n t post points))
+unfoldable pub straight : ℕ → ℕ → ℕ → ℕ → List ℕ → List ℕ → List ℕ → Loaded
+straight n t post points ws kinds draws =
+    rowsLoaded (postAt n t post points ws) ws 0 kinds draws (newPost (postAt n t post points ws))

@@ -12,7 +12,7 @@ use Rattle.csv.proofs.Laying.{length-written}
 use Rattle.factory.proofs.Laws.{elements-pass}
 use Rattle.street_reading.specs.Numbers.{numbers, rowsBeyond, readRefusal}
 use Rattle.street_reading.proofs.Written as Written
-use Rattle.street_startlines.specs.Steps.{longestLine}
+use Rattle.street_store.specs.Sizes.{longestLine}
 
 module _ (letter : ℕ) (xs : List ℕ) (elements : Elements xs) where
   pub says : numbers (length xs) (written letter xs) ≡ xs
@@ -21,7 +21,7 @@ module _ (letter : ℕ) (xs : List ℕ) (elements : Elements xs) where
   pub passes : (lasts : List ℕ) → rowsBeyond lasts xs ≡ false → readRefusal lasts (length xs) (written letter xs) ≡ 0
   passes = Written.passes letter xs (elements-pass xs elements)
 
--- a whole `M` has 66 numbers at most
-pub line-short : (letter : ℕ) (xs : List ℕ) → length xs ≤ 66 → length (written letter xs) ≤ longestLine
+-- a whole `M` has 128 numbers at most
+pub line-short : (letter : ℕ) (xs : List ℕ) → length xs ≤ 128 → length (written letter xs) ≤ longestLine
 unfolding fields
 line-short letter xs few = omega (arith, length-written letter [] xs, length-fields-le xs)

@@ -11,7 +11,7 @@ use lib.Seq.{length-take-le, take-at, drop-at}
 use Rattle.lists.proofs.Parts.{length-put, part-same, part-before, part-after}
 use Rattle.poly.specs.Counting.{Elements}
 use Rattle.parts.proofs.Laws.{elements-append}
-use Rattle.shape.specs.Bounds.{fewestPosts, mostPosts, lastRow, lastTriple}
+use Rattle.shape.specs.Bounds.{fewestPosts, mostPosts, mostPoints, lastRow, lastTriple}
 use Rattle.shape.specs.Lengths.{vLength, blockLength, recordLength, rowsLength}
 use Rattle.refusal.specs.Refusal.{outcome}
 use Rattle.refusal.proofs.Laws.{not-refused}
@@ -24,15 +24,13 @@ use Rattle.session.specs.Sessions.{shapeOf}
 use Rattle.session.proofs.RowLaws.{length-with-row}
 use Rattle.records.specs.Records.{putTests, putRefusal, putRecord, withBlock, blockOf}
 use Rattle.factory.proofs.Laws.{elements-pass}
-use Rattle.street_store.specs.Sizes.{openingsAt, masksAAt, masksBAt, storeRoom, recordRoom, InStreet}
-use Rattle.street_store.specs.Records.{recordAt, recordIf, kept}
-use Rattle.street_store.proofs.Keeping.{record-room}
+use Rattle.street_store.specs.Sizes.{openingsAt, masksAAt, masksBAt, storeRoom, recordRoom, InStreet, longestLine}
+use Rattle.street_store.specs.Records.{recordAt, recordIf, kept, recordFor}
+use Rattle.street_store.proofs.Keeping.{v-room, row-room, record-room}
 use Rattle.street_states.specs.declared.State.{State}
 use Rattle.street_states.specs.States.{After, keepingRow, keepingTriple, refusing}
-use Rattle.street_startlines.specs.Steps.{longestLine}
 use Rattle.street_postlines.specs.Steps.{heardRefusal, keepStep, keepMasksStep, keepHalvesStep, saying, hearStep}
 use Rattle.street_interpreter.specs.Stepping.{lettersStep, lateStep, step}
-use Rattle.performing.specs.Claims.{recordFor}
 use Rattle.performing.specs.Records.{Stored, StreetKeeps}
 use Rattle.performing.proofs.Heard.{line-short}
 
@@ -63,22 +61,26 @@ module _ (st : State) (i : InStreet (shapeOf (st .session))) where
     length-found = found-long same _ ∙ length-take-le size (drop at l) (omega (arith, fits, length-drop at l))
 
     -- the library's call does not refuse it
-    put-passes : putRefusal n (st .session .t) found post xs ≡ 0
+    put-passes : putRefusal n (st .session .t) (st .session .points) found post xs ≡ 0
     unfolding putRefusal
     put-passes =
         let g = shapeOf (st .session) in
-        not-refused (putTests n (st .session .t) found post xs) (
-          none (le-ltb n fewestPosts (i .n-in .0)) (le-ltb mostPosts n (omega (arith, i .n-in .1))),
+        let v = i .valid in
+        not-refused (putTests n (st .session .t) (st .session .points) found post xs) (
+          none (le-ltb n fewestPosts (v .n-in .0)) (le-ltb mostPosts n (v .n-in .1)),
           (
-            none (le-ltb (g .t) 1 (i .t-in .0)) (le-ltb (n - 1) (g .t) (i .t-in .1)),
+            none (le-ltb (g .t) 1 (v .t-in .0)) (le-ltb (n - 1) (g .t) (v .t-in .1)),
             (
               none (le-ltb post 1 low) (le-ltb n post high),
-              (ap not (eq-eqb (length found) size length-found), (ap not (eq-eqb (length xs) (vLength g) long), (elements-pass xs elements, tt))),
+              (
+                none (le-ltb (g .points) 1 (v .points-in .0)) (le-ltb mostPoints (g .points) (v .points-in .1)),
+                (ap not (eq-eqb (length found) size length-found), (ap not (eq-eqb (length xs) (vLength g) long), (elements-pass xs elements, tt))),
+              ),
             ),
           ),
         )
 
-    put-is : putRecord n (st .session .t) found post xs ≡ withBlock (shapeOf (st .session)) post (blockOf xs) found
+    put-is : putRecord n (st .session .t) (st .session .points) found post xs ≡ withBlock (shapeOf (st .session)) post (blockOf xs) found
     unfolding outcome
     put-is = rw put-passes
 
@@ -99,7 +101,7 @@ module _ (st : State) (i : InStreet (shapeOf (st .session))) where
     unfolding kept
     kept-length = length-put at size l new within length-new ∙ room
 
-    pub kept-here : recordAt at (shapeOf (st .session)) after ≡ putRecord n (st .session .t) found post xs
+    pub kept-here : recordAt at (shapeOf (st .session)) after ≡ putRecord n (st .session .t) (st .session .points) found post xs
     unfolding kept
     kept-here = part-same at size l new within length-new ∙ sym put-is
 
@@ -113,11 +115,11 @@ module _ (st : State) (i : InStreet (shapeOf (st .session))) where
 
   -- ---- the lines
   few : n < tens 10
-  few = omega (arith, i .n-in .1)
+  few = omega (arith, i .few)
 
   module _ (store : List ℕ) (started : st .started ≡ true) (room : length store ≡ storeRoom) (post : ℕ) (low : 1 ≤ post) (high : post ≤ n) where
     rows-in : 0 + rowsLength (shapeOf (st .session)) ≤ openingsAt
-    rows-in = omega (arith, i .n-in .1, i .t-in .1)
+    rows-in = omega (arith, row-room (shapeOf (st .session)) i)
 
     -- what is read of a line that posts send
     hears : (m : Message) → Sent n (vLength (shapeOf (st .session))) m → hearStep st store (text m) ≡ saying st store m
@@ -142,13 +144,13 @@ module _ (st : State) (i : InStreet (shapeOf (st .session))) where
           rw (
             started,
             le-ltb longestLine (length (written 79 (row ∷ post ∷ xs)))
-                (line-short 79 (row ∷ post ∷ xs) (omega (arith, i .n-in .1, i .t-in .1))),
+                (line-short 79 (row ∷ post ∷ xs) (omega (arith, v-room (shapeOf (st .session)) i))),
           )
 
       abbrev OpeningDone : After → Type 0
       OpeningDone a =
           (a .given ≡ refusing (keepingRow st row) 0)
-          × Stored st store (putRecord n (st .session .t) (recordFor st store openingsAt (st .kept) row) post xs)
+          × Stored st store (putRecord n (st .session .t) (st .session .points) (recordFor openingsAt (shapeOf (st .session)) (st .kept) row store) post xs)
           (recordAt masksAAt (shapeOf (st .session)) store) (recordAt masksBAt (shapeOf (st .session)) store) a
 
       opening-kept : OpeningDone (keepStep st store row post xs)
@@ -190,7 +192,7 @@ module _ (st : State) (i : InStreet (shapeOf (st .session))) where
           rw (
             started,
             le-ltb longestLine (length (written 77 (first ∷ post ∷ (xs ++ ys))))
-                (line-short 77 (first ∷ post ∷ (xs ++ ys)) (omega (arith, length-append xs ys, i .n-in .1, i .t-in .1))),
+                (line-short 77 (first ∷ post ∷ (xs ++ ys)) (omega (arith, length-append xs ys, v-room (shapeOf (st .session)) i))),
           )
 
       masks-halves : keepHalvesStep st store first post (xs ++ ys) ≡ keepMasksStep st store first post xs ys
@@ -203,8 +205,8 @@ module _ (st : State) (i : InStreet (shapeOf (st .session))) where
       MasksDone a =
           (a .given ≡ refusing (keepingTriple st first) 0)
           × Stored st store (recordAt openingsAt (shapeOf (st .session)) store)
-          (putRecord n (st .session .t) (recordFor st store masksAAt (st .triple) first) post xs)
-          (putRecord n (st .session .t) (recordFor st store masksBAt (st .triple) first) post ys) a
+          (putRecord n (st .session .t) (st .session .points) (recordFor masksAAt (shapeOf (st .session)) (st .triple) first store) post xs)
+          (putRecord n (st .session .t) (st .session .points) (recordFor masksBAt (shapeOf (st .session)) (st .triple) first store) post ys) a
 
       abbrev same : Bool
       same = eqb (st .triple) first
@@ -233,7 +235,7 @@ module _ (st : State) (i : InStreet (shapeOf (st .session))) where
                   ∙ kept-here store room masksAAt (omega arith) same post low high xs long elements;
               masks-b-are =
                   kept-here half half-room masksBAt (omega arith) same post low high ys long' elements'
-                  ∙ ap (λ (l : List ℕ). putRecord n (st .session .t) (recordIf same l) post ys)
+                  ∙ ap (λ (l : List ℕ). putRecord n (st .session .t) (st .session .points) (recordIf same l) post ys)
                   (kept-after store room masksAAt (omega arith) same post low high xs long elements masksBAt size (omega arith));
             },
           )

@@ -4,8 +4,9 @@ pub mod Loading
 pub mod Keeping
 pub mod Spelling
 pub mod Lines
-pub mod Table
 pub mod StartText
+pub mod StartRead
+pub mod Table
 pub mod Starting
 pub mod TwoLines
 pub mod Program

@@ -11,9 +11,9 @@ use Rattle.field.specs.Modulus.{p}
 use Rattle.refusal.specs.Refusal.{_when_, first, orElse, outcome}
 use Rattle.refusal.specs.Conditions.{beyond, anyBeyond}
 use Rattle.refusal.proofs.Elements.{element-test}
+use Rattle.refusal.proofs.Figures.{beyond-figures}
 use Rattle.csv.specs.Fields.{written, Parsed, parsed, malformed}
-use Rattle.session.specs.declared.Session.{Session}
-use Rattle.session.specs.Sessions.{answer}
+use Rattle.street_store.specs.Sizes.{longestLine}
 use Rattle.street_reading.specs.Numbers.{numberForm, numbers, rowsBeyond, readRefusal}
 use Rattle.street_states.specs.declared.State.{State}
 use Rattle.street_states.specs.States.{After, refusing, leaving, unless}
@@ -26,21 +26,14 @@ or-true : (b : Bool) → b || true ≡ true
 or-true true = refl
 or-true false = refl
 
-or-none : (b : Bool) → b || false ≡ b
+pub or-none : (b : Bool) → b || false ≡ b
 or-none true = refl
 or-none false = refl
-
-pub above : (x : ℕ) → ltb 2147483646 x ≡ beyond x
-above x = go (ltb x p) refl
-  where
-    go : (b : Bool) → ltb x p ≡ b → ltb 2147483646 x ≡ not b
-    go true e = let h : x < p = ltb-true x p e in le-ltb 2147483646 x (omega arith)
-    go false e = let h : p ≤ x = ltb-false x p e in lt-ltb 2147483646 x (omega arith)
 
 pub elements-outside : (xs : List ℕ) → anyOutside [] xs ≡ anyBeyond xs
 unfolding anyBeyond
 elements-outside [] = refl
-elements-outside (x ∷ xs) = ap₂ _||_ (above x) (elements-outside xs)
+elements-outside (x ∷ xs) = ap₂ _||_ (sym (beyond-figures x)) (elements-outside xs)
 
 -- rows with their last ones
 abbrev rangesOf : List ℕ → List Range
@@ -67,37 +60,37 @@ rows-outside (last ∷ lasts) (x ∷ xs) h = rw (le-ltb x 0 (omega arith), rows-
     go false e = let g : x ≤ last = ltb-false last x e in rw (element-test x (omega (arith, h .0)))
 
 -- ---- a letter, from what a line of its form and any other line get
-module _ (st : State) (store : List ℕ) (over : (s : List ℕ) → 3173 < length s → refusalOf st store s ≡ 10) (b count : ℕ) (ranges : List Range) (call : List ℕ → ℕ)
-    (wrong : (rest : List ℕ) → length (suc b ∷ rest) ≤ 3173 → numberForm count (suc b ∷ rest) ≡ malformed → refusalOf st store (suc b ∷ rest) ≡ 10)
-    (right : (rest xs : List ℕ) (next : ℕ) → length (suc b ∷ rest) ≤ 3173 → length xs ≡ count → numberForm count (suc b ∷ rest) ≡ parsed xs next
+module _ (st : State) (store : List ℕ) (over : (s : List ℕ) → 5252 < length s → refusalOf st store s ≡ 10) (b count : ℕ) (ranges : List Range) (call : List ℕ → ℕ)
+    (wrong : (rest : List ℕ) → length (suc b ∷ rest) ≤ 5252 → numberForm count (suc b ∷ rest) ≡ malformed → refusalOf st store (suc b ∷ rest) ≡ 10)
+    (right : (rest xs : List ℕ) (next : ℕ) → length (suc b ∷ rest) ≤ 5252 → length xs ≡ count → numberForm count (suc b ∷ rest) ≡ parsed xs next
     → refusalOf st store (suc b ∷ rest) ≡ orElse (first (11 when anyOutside ranges xs ∷ [])) (call xs)) where
   letter-spelled : (rest : List ℕ) → (refusalOf st store (suc b ∷ rest) ≡ 10 → ⊥) → Spelled (suc b) (suc b ∷ rest)
-  letter-spelled rest n = long (ltb 3173 (length (suc b ∷ rest))) refl
+  letter-spelled rest n = long (ltb 5252 (length (suc b ∷ rest))) refl
     where
-      form : (o : Parsed) → length (suc b ∷ rest) ≤ 3173 → numberForm count (suc b ∷ rest) ≡ o → Spelled (suc b) (suc b ∷ rest)
+      form : (o : Parsed) → length (suc b ∷ rest) ≤ 5252 → numberForm count (suc b ∷ rest) ≡ o → Spelled (suc b) (suc b ∷ rest)
       form malformed l e = absurd (n (wrong rest l e))
       form (parsed xs next) l e =
           let w = form-spells b count rest xs next e in record { numbers = xs; short = short xs (w .small); text = w .text }
 
-      long : (x : Bool) → ltb 3173 (length (suc b ∷ rest)) ≡ x → Spelled (suc b) (suc b ∷ rest)
-      long true e = absurd (n (over (suc b ∷ rest) (ltb-true 3173 (length (suc b ∷ rest)) e)))
-      long false e = form (numberForm count (suc b ∷ rest)) (ltb-false 3173 (length (suc b ∷ rest)) e) refl
+      long : (x : Bool) → ltb 5252 (length (suc b ∷ rest)) ≡ x → Spelled (suc b) (suc b ∷ rest)
+      long true e = absurd (n (over (suc b ∷ rest) (ltb-true 5252 (length (suc b ∷ rest)) e)))
+      long false e = form (numberForm count (suc b ∷ rest)) (ltb-false 5252 (length (suc b ∷ rest)) e) refl
 
   letter-refusal : (xs : List ℕ) → TenDigits xs
       → refusalOf st store (written (suc b) xs) ≡ orElse (first (lineTable (suc b) count ranges xs)) (call xs)
-  letter-refusal xs h = long (ltb 3173 (length (written (suc b) xs))) refl
+  letter-refusal xs h = long (ltb 5252 (length (written (suc b) xs))) refl
     where
-      counted : (x : Bool) → length (written (suc b) xs) ≤ 3173 → eqb (length xs) count ≡ x
+      counted : (x : Bool) → length (written (suc b) xs) ≤ 5252 → eqb (length xs) count ≡ x
           → refusalOf st store (written (suc b) xs) ≡ orElse (first (10 when not x ∷ 11 when anyOutside ranges xs ∷ [])) (call xs)
       counted true l e =
           let q = eqb-true (length xs) count e in right _ xs _ l q (form-reads b count xs (small xs h) q)
       counted false l e = wrong _ l (form-other b count xs (small xs h) (eqb-false (length xs) count e))
 
-      long : (x : Bool) → ltb 3173 (length (written (suc b) xs)) ≡ x
+      long : (x : Bool) → ltb 5252 (length (written (suc b) xs)) ≡ x
           → refusalOf st store (written (suc b) xs)
           ≡ orElse (first (10 when x ∷ 10 when not (eqb (length xs) count) ∷ 11 when anyOutside ranges xs ∷ [])) (call xs)
-      long true e = over (written (suc b) xs) (ltb-true 3173 (length (written (suc b) xs)) e)
-      long false e = counted (eqb (length xs) count) (ltb-false 3173 (length (written (suc b) xs)) e) refl
+      long true e = over (written (suc b) xs) (ltb-true 5252 (length (written (suc b) xs)) e)
+      long false e = counted (eqb (length xs) count) (ltb-false 5252 (length (written (suc b) xs)) e) refl
 
   pub letter-of : Letter st store (suc b) count ranges call
   letter-of = record { spelled = letter-spelled; refusal = letter-refusal }
@@ -107,11 +100,6 @@ pub unless-refusal : (st : State) (store : List ℕ) (x : ℕ) (new : After) →
 unfolding outcome
 unless-refusal st store zero new = refl
 unless-refusal st store (suc x) new = refl
-
-pub answer-refusal : (x v : ℕ) (new old : Session) → answer x v new old .refusal ≡ x
-unfolding outcome
-answer-refusal zero v new old = refl
-answer-refusal (suc x) v new old = refl
 
 -- a line of numbers
 module _ (lasts : List ℕ) (low : Low lasts) (k : ℕ) (s : List ℕ) where
@@ -128,18 +116,18 @@ module _ (lasts : List ℕ) (low : Low lasts) (k : ℕ) (s : List ℕ) where
   read-right xs next e = rw (e, rows-outside lasts xs low) (join (anyBeyond xs) (rowsBeyond lasts xs))
 
 module _ (st : State) (store : List ℕ) (started : st .started ≡ true) where
-  over-step : (s : List ℕ) → 3173 < length s → step st store s ≡ leaving (refusing st 10) store
+  pub over-step : (s : List ℕ) → 5252 < length s → step st store s ≡ leaving (refusing st 10) store
   unfolding step lateStep
-  over-step s h = rw (started, lt-ltb 3173 (length s) h)
+  over-step s h = rw (started, lt-ltb longestLine (length s) h)
 
-  pub over : (s : List ℕ) → 3173 < length s → refusalOf st store s ≡ 10
+  pub over : (s : List ℕ) → 5252 < length s → refusalOf st store s ≡ 10
   over s h = ap (λ (a : After). a .given .refusal) (over-step s h)
 
   module _ (b : ℕ) (lasts : List ℕ) (low : Low lasts) (count : ℕ) (make : List ℕ → After)
-      (is : (rest : List ℕ) → length (suc b ∷ rest) ≤ 3173
+      (is : (rest : List ℕ) → length (suc b ∷ rest) ≤ 5252
       → step st store (suc b ∷ rest) ≡ unless (readRefusal lasts count (suc b ∷ rest)) st store (make (numbers count (suc b ∷ rest))))
       (call : List ℕ → ℕ) (calls : (xs : List ℕ) → make xs .given .refusal ≡ call xs) where
-    is-refusal : (rest : List ℕ) → length (suc b ∷ rest) ≤ 3173
+    is-refusal : (rest : List ℕ) → length (suc b ∷ rest) ≤ 5252
         → refusalOf st store (suc b ∷ rest) ≡ orElse (readRefusal lasts count (suc b ∷ rest)) (call (numbers count (suc b ∷ rest)))
     is-refusal rest l =
         ap (λ (a : After). a .given .refusal) (is rest l)

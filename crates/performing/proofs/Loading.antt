@@ -5,36 +5,26 @@ use mathlib.Core.Bool.{true, false}
 use mathlib.Core.List.{List, [], _∷_}
 use native.Mathlib.Omega.{arith}
 use borrow.Author.Tests.{le-ltb}
-use lib.ListN.{length, length-append}
+use lib.ListN.{length}
 use Rattle.poly.specs.Counting.{Elements}
 use Rattle.shape.specs.Bounds.{lastRow, lastTriple}
 use Rattle.shape.specs.Lengths.{tripleLength}
 use Rattle.refusal.specs.Refusal.{outcome}
-use Rattle.decimal.specs.Numeral.{size, sizeWithin}
-use Rattle.decimal.proofs.Sizes.{size-grows}
-use Rattle.csv.specs.Fields.{field, fields, written}
-use Rattle.csv.proofs.Overwriting.{length-field, length-fields-le}
-use Rattle.csv.proofs.Laying.{length-written}
+use Rattle.csv.specs.Fields.{written}
 use Rattle.session.specs.Sessions.{shapeOf}
 use Rattle.session.specs.Rows.{width}
 use Rattle.load.specs.Load.{loadRowAnswer, loadRowRows, loadTripleAnswer, loadTripleRows}
-use Rattle.street_store.specs.Sizes.{longestTriple, InStreet}
+use Rattle.street_store.specs.Sizes.{InStreet, longestLine}
+use Rattle.street_store.proofs.Keeping.{row-room}
 use Rattle.street_reading.specs.Numbers.{numbers, rowsBeyond, readRefusal}
 use Rattle.street_states.specs.declared.State.{State}
 use Rattle.street_states.specs.States.{After, sessionRows}
-use Rattle.street_startlines.specs.Steps.{longestLine}
-use Rattle.street_loadlines.specs.Steps.{loading, loadStep, loadingTriple, loadTripleStep}
+use Rattle.street_rowlines.specs.Loads.{loading, loadStep, loadingTriple, loadTripleStep}
+use Rattle.street_startlines.proofs.Longest.{load-short}
 use Rattle.street_interpreter.specs.Stepping.{lettersStep, lateStep, step}
 use Rattle.performing.specs.Claims.{Does, StreetLoads}
 use Rattle.performing.proofs.Heard.{says, passes}
 use Rattle.performing.proofs.Theorems.{does-call}
-
--- the longest `T` of the street is the longest line
-load-short : (letter row : ℕ) (pack : List ℕ) → row ≤ lastRow → length pack ≤ longestTriple → length (written letter (row ∷ pack)) ≤ longestLine
-unfolding fields sizeWithin
-load-short letter row pack h l =
-    let digits : size row ≤ 2 = size-grows 9 row lastRow h in
-    omega (arith, length-written letter (row ∷ []) pack, length-append (field row) [], length-field row, digits, length-fields-le pack)
 
 module _ (letter row last : ℕ) (pack : List ℕ) (elements : Elements (row ∷ pack)) (low : row ≤ last) (k : ℕ) (many : length pack + 1 ≡ k) where
   whole-line : length (row ∷ pack) ≡ k
@@ -59,7 +49,7 @@ module _ (st : State) (store : List ℕ) (started : st .started ≡ true) (i : I
     load-letter =
         rw (
           started,
-          le-ltb longestLine (length (written 82 (row ∷ pack))) (load-short 82 row pack low (omega (arith, i .n-in .1, i .t-in .1))),
+          le-ltb longestLine (length (written 82 (row ∷ pack))) (load-short 82 row pack low (omega (arith, row-room (shapeOf (st .session)) i))),
         )
 
     load-numbers : loadStep st store (written 82 (row ∷ pack)) ≡ loading st store (row ∷ pack)
@@ -89,7 +79,7 @@ module _ (st : State) (store : List ℕ) (started : st .started ≡ true) (i : I
         rw (
           started,
           le-ltb longestLine (length (written 84 (row ∷ pack)))
-              (load-short 84 row pack (omega arith) (omega (arith, i .n-in .1, i .t-in .1))),
+              (load-short 84 row pack (omega arith) (omega (arith, row-room (shapeOf (st .session)) i))),
         )
 
     triple-numbers : loadTripleStep st store (written 84 (row ∷ pack)) ≡ loadingTriple st store (row ∷ pack)

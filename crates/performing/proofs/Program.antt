@@ -25,11 +25,13 @@ drop-zeros zero m k e = let q : m ≡ k = omega arith in ap (λ (j : ℕ). repli
 drop-zeros (suc a) zero k e = absurd (omega arith)
 drop-zeros (suc a) (suc m) k e = drop-zeros a m k (omega arith)
 
-empty : (at n t : ℕ) → at + recordRoom ≤ storeRoom → InStreet (shape n t) → recordAt at (shape n t) (begun .store) ≡ replicate (n * (t + 2)) 0
-empty at n t h i =
-    let k : t + 1 + 1 ≡ t + 2 = omega arith in
-    ap (take (recordLength (shape n t))) (drop-zeros at storeRoom (storeRoom - at) (omega arith))
-    ∙ take-zeros (recordLength (shape n t)) (storeRoom - at) (omega (arith, record-room (shape n t) i))
+empty : (at n t points : ℕ) → at + recordRoom ≤ storeRoom → InStreet (shape n t points)
+    → recordAt at (shape n t points) (begun .store) ≡ replicate (n * (points * t + 2)) 0
+empty at n t points h i =
+    let g = shape n t points in
+    let k : points * t + 1 + 1 ≡ points * t + 2 = omega arith in
+    ap (take (recordLength g)) (drop-zeros at storeRoom (storeRoom - at) (omega arith))
+    ∙ take-zeros (recordLength g) (storeRoom - at) (omega (arith, record-room g i))
     ∙ ap (λ (j : ℕ). replicate (n * j) 0) k
 
 -- ---- the lines of an input, of whose first line these bytes were read before
@@ -61,9 +63,9 @@ unfolding answers printed linesFrom lastDigits
 program-prints =
     record {
       not-started = refl;
-      no-openings = λ n t i. empty openingsAt n t (omega arith) i;
-      no-masks-a = λ n t i. empty masksAAt n t (omega arith) i;
-      no-masks-b = λ n t i. empty masksBAt n t (omega arith) i;
+      no-openings = λ n t points i. empty openingsAt n t points (omega arith) i;
+      no-masks-a = λ n t points i. empty masksAAt n t points (omega arith) i;
+      no-masks-b = λ n t points i. empty masksBAt n t points (omega arith) i;
       by-lines = λ input. refl;
       answer =
           λ st store number line lines.

@@ -15,22 +15,23 @@ use Rattle.forms.specs.Forms.{formOf, messageOf, beyondRange}
 use Rattle.product_masks.specs.Masks.{masksRefusal, masksAnswer, maskNumbersOf}
 use Rattle.collect.specs.Collect.{collectRefusal}
 use Rattle.multiply.specs.Multiply.{multiplyRefusal}
-use Rattle.street_store.specs.Sizes.{masksAAt, masksBAt}
+use Rattle.street_store.specs.Sizes.{masksAAt, masksBAt, longestLine}
 use Rattle.street_reading.specs.Numbers.{numberForm}
 use Rattle.street_states.specs.declared.State.{State}
-use Rattle.street_states.specs.States.{Stepped, After, answering, telling, refusing, leaving, sessionRows}
-use Rattle.street_startlines.specs.Steps.{longestLine}
-use Rattle.street_loadlines.specs.Steps.{loading, loadStep, loadingTriple, loadTripleStep}
+use Rattle.street_states.proofs.Calling.{answer-refusal}
+use Rattle.street_states.specs.States.{Stepped, After, answering, refusing, leaving, sessionRows}
+use Rattle.street_rowlines.specs.Loads.{loading, loadStep, loadingTriple, loadTripleStep}
 use Rattle.street_rowlines.specs.Steps.{adding, linearStep, opening, openStep}
 use Rattle.street_postlines.specs.Steps.{heardRefusal, heard, keepStep, keepMasksStep, keepHalvesStep, saying, hearStep}
-use Rattle.street_masklines.specs.Steps.{maskLine, noMasks, masking, maskingOf, maskStep}
+use Rattle.street_finishlines.specs.Masks.{maskLine, noMasks, masking, maskingOf, maskStep}
 use Rattle.street_finishlines.specs.Steps.{masksFor, between, pairRefusal, finishing, finishStep}
 use Rattle.street_interpreter.specs.Stepping.{lettersStep, lateStep, step}
-use Rattle.performing.specs.Lines.{letters, isOneOf, Range, _to_, anyOutside, refusalOf, Letter, dealCall, loadCall, tripleCall, openCall, linearCall, masksCall, finishCall, noCall, StreetTable}
-use Rattle.performing.proofs.Lines.{elements-outside, letter-of, unless-refusal, answer-refusal, over, numbers-letter}
+use Rattle.performing.specs.Lines.{letters, isOneOf, vNumbers, rowNumbers, Range, _to_, anyOutside, refusalOf, Letter, dealCall, loadCall, tripleCall, openCall, linearCall, masksCall, finishCall, noCall, StreetTable}
+use Rattle.performing.proofs.Lines.{elements-outside, letter-of, unless-refusal, over-step, over, numbers-letter}
+use Rattle.performing.proofs.StartText.{start-letter}
 
 told-refusal : (x : ℕ) (v : Stepped) (store line : List ℕ)
-    → outcome x (record { given = telling v (length line); store = store; told = line }) (leaving v store) .given .refusal ≡ v .refusal
+    → outcome x (record { given = v; store = store; told = line }) (leaving v store) .given .refusal ≡ v .refusal
 unfolding outcome
 told-refusal zero v store line = refl
 told-refusal (suc x) v store line = refl
@@ -38,27 +39,27 @@ told-refusal (suc x) v store line = refl
 module _ (st : State) (store : List ℕ) (started : st .started ≡ true) where
   -- ---- lines of numbers
   module _ (rest : List ℕ) where
-    load-is : length (82 ∷ rest) ≤ 3173 → step st store (82 ∷ rest) ≡ loadStep st store (82 ∷ rest)
+    load-is : length (82 ∷ rest) ≤ 5252 → step st store (82 ∷ rest) ≡ loadStep st store (82 ∷ rest)
     unfolding step lateStep lettersStep
     load-is h = rw (started, le-ltb longestLine (length (82 ∷ rest)) h)
 
-    triple-is : length (84 ∷ rest) ≤ 3173 → step st store (84 ∷ rest) ≡ loadTripleStep st store (84 ∷ rest)
+    triple-is : length (84 ∷ rest) ≤ 5252 → step st store (84 ∷ rest) ≡ loadTripleStep st store (84 ∷ rest)
     unfolding step lateStep lettersStep
     triple-is h = rw (started, le-ltb longestLine (length (84 ∷ rest)) h)
 
-    open-is : length (71 ∷ rest) ≤ 3173 → step st store (71 ∷ rest) ≡ openStep st store (71 ∷ rest)
+    open-is : length (71 ∷ rest) ≤ 5252 → step st store (71 ∷ rest) ≡ openStep st store (71 ∷ rest)
     unfolding step lateStep lettersStep
     open-is h = rw (started, le-ltb longestLine (length (71 ∷ rest)) h)
 
-    linear-is : length (76 ∷ rest) ≤ 3173 → step st store (76 ∷ rest) ≡ linearStep st store (76 ∷ rest)
+    linear-is : length (76 ∷ rest) ≤ 5252 → step st store (76 ∷ rest) ≡ linearStep st store (76 ∷ rest)
     unfolding step lateStep lettersStep
     linear-is h = rw (started, le-ltb longestLine (length (76 ∷ rest)) h)
 
-    mask-is : length (88 ∷ rest) ≤ 3173 → step st store (88 ∷ rest) ≡ maskStep st store (88 ∷ rest)
+    mask-is : length (88 ∷ rest) ≤ 5252 → step st store (88 ∷ rest) ≡ maskStep st store (88 ∷ rest)
     unfolding step lateStep lettersStep
     mask-is h = rw (started, le-ltb longestLine (length (88 ∷ rest)) h)
 
-    finish-is : length (70 ∷ rest) ≤ 3173 → step st store (70 ∷ rest) ≡ finishStep st store (70 ∷ rest)
+    finish-is : length (70 ∷ rest) ≤ 5252 → step st store (70 ∷ rest) ≡ finishStep st store (70 ∷ rest)
     unfolding step lateStep lettersStep
     finish-is h = rw (started, le-ltb longestLine (length (70 ∷ rest)) h)
 
@@ -100,18 +101,15 @@ module _ (st : State) (store : List ℕ) (started : st .started ≡ true) where
   abbrev n : ℕ
   n = st .session .n
 
-  abbrev t : ℕ
-  t = st .session .t
-
-  load-letter : Letter st store 82 (1 + (t + 1 + 2 * n)) (0 to 95 ∷ []) (loadCall st store)
+  load-letter : Letter st store 82 (1 + rowNumbers st store) (0 to 95 ∷ []) (loadCall st store)
   unfolding loadStep
   load-letter =
-      numbers-letter st store started 81 (lastRow ∷ []) (omega arith, tt) (1 + (t + 1 + 2 * n)) (loading st store) load-is (loadCall st store) loading-refusal
+      numbers-letter st store started 81 (lastRow ∷ []) (omega arith, tt) (1 + rowNumbers st store) (loading st store) load-is (loadCall st store) loading-refusal
 
-  triple-letter : Letter st store 84 (1 + 3 * (t + 1 + 2 * n)) (0 to 93 ∷ []) (tripleCall st store)
+  triple-letter : Letter st store 84 (1 + 3 * rowNumbers st store) (0 to 93 ∷ []) (tripleCall st store)
   unfolding loadTripleStep
   triple-letter =
-      numbers-letter st store started 83 (lastTriple ∷ []) (omega arith, tt) (1 + 3 * (t + 1 + 2 * n)) (loadingTriple st store) triple-is (tripleCall st store)
+      numbers-letter st store started 83 (lastTriple ∷ []) (omega arith, tt) (1 + 3 * rowNumbers st store) (loadingTriple st store) triple-is (tripleCall st store)
       tripling-refusal
 
   open-letter : Letter st store 71 1 (0 to 95 ∷ []) (openCall st store)
@@ -138,21 +136,21 @@ module _ (st : State) (store : List ℕ) (started : st .started ≡ true) where
       finishing-refusal
 
   -- ---- lines of posts
-  hear-wrong : (s : List ℕ) → formOf (t + 1) s ≡ malformed → heardRefusal (st .session) s ≡ 10
+  hear-wrong : (s : List ℕ) → formOf (vNumbers st store) s ≡ malformed → heardRefusal (st .session) s ≡ 10
   unfolding heardRefusal
   hear-wrong s e = rw e
 
-  hear-right : (s xs : List ℕ) (next : ℕ) → formOf (t + 1) s ≡ parsed xs next
+  hear-right : (s xs : List ℕ) (next : ℕ) → formOf (vNumbers st store) s ≡ parsed xs next
       → heardRefusal (st .session) s ≡ first (11 when beyondRange n (messageOf (getD s 0 0) xs) ∷ [])
   unfolding heardRefusal
   hear-right s xs next e = rw e
 
   module _ (b count : ℕ) (ranges : List Range) (call : List ℕ → ℕ)
-      (is : (rest : List ℕ) → length (suc b ∷ rest) ≤ 3173 → step st store (suc b ∷ rest) ≡ hearStep st store (suc b ∷ rest))
-      (form : (rest : List ℕ) → formOf (t + 1) (suc b ∷ rest) ≡ numberForm count (suc b ∷ rest))
+      (is : (rest : List ℕ) → length (suc b ∷ rest) ≤ 5252 → step st store (suc b ∷ rest) ≡ hearStep st store (suc b ∷ rest))
+      (form : (rest : List ℕ) → formOf (vNumbers st store) (suc b ∷ rest) ≡ numberForm count (suc b ∷ rest))
       (range : (xs : List ℕ) → length xs ≡ count → beyondRange n (messageOf (suc b) xs) ≡ anyOutside ranges xs)
       (says : (xs : List ℕ) → saying st store (messageOf (suc b) xs) .given .refusal ≡ call xs) where
-    hear-refusal : (rest : List ℕ) → length (suc b ∷ rest) ≤ 3173
+    hear-refusal : (rest : List ℕ) → length (suc b ∷ rest) ≤ 5252
         → refusalOf st store (suc b ∷ rest)
         ≡ orElse (heardRefusal (st .session) (suc b ∷ rest)) (saying st store (heard (st .session) (suc b ∷ rest)) .given .refusal)
     unfolding hearStep
@@ -164,31 +162,31 @@ module _ (st : State) (store : List ℕ) (started : st .started ≡ true) where
         letter-of st store (over st store started) b count ranges call
         (λ rest l e. hear-refusal rest l ∙ rw (hear-wrong (suc b ∷ rest) (form rest ∙ e)))
         (λ rest xs next l q e.
-        let f : formOf (t + 1) (suc b ∷ rest) ≡ parsed xs next = form rest ∙ e in
+        let f : formOf (vNumbers st store) (suc b ∷ rest) ≡ parsed xs next = form rest ∙ e in
         hear-refusal rest l ∙ rw (hear-right (suc b ∷ rest) xs next f, f, range xs q, says xs))
 
   module _ (rest : List ℕ) where
-    deal-is : length (68 ∷ rest) ≤ 3173 → step st store (68 ∷ rest) ≡ hearStep st store (68 ∷ rest)
+    deal-is : length (68 ∷ rest) ≤ 5252 → step st store (68 ∷ rest) ≡ hearStep st store (68 ∷ rest)
     unfolding step lateStep lettersStep
     deal-is h = rw (started, le-ltb longestLine (length (68 ∷ rest)) h)
 
-    opening-is : length (79 ∷ rest) ≤ 3173 → step st store (79 ∷ rest) ≡ hearStep st store (79 ∷ rest)
+    opening-is : length (79 ∷ rest) ≤ 5252 → step st store (79 ∷ rest) ≡ hearStep st store (79 ∷ rest)
     unfolding step lateStep lettersStep
     opening-is h = rw (started, le-ltb longestLine (length (79 ∷ rest)) h)
 
-    masks-is : length (77 ∷ rest) ≤ 3173 → step st store (77 ∷ rest) ≡ hearStep st store (77 ∷ rest)
+    masks-is : length (77 ∷ rest) ≤ 5252 → step st store (77 ∷ rest) ≡ hearStep st store (77 ∷ rest)
     unfolding step lateStep lettersStep
     masks-is h = rw (started, le-ltb longestLine (length (77 ∷ rest)) h)
 
-    deal-form : formOf (t + 1) (68 ∷ rest) ≡ numberForm 2 (68 ∷ rest)
+    deal-form : formOf (vNumbers st store) (68 ∷ rest) ≡ numberForm 2 (68 ∷ rest)
     unfolding formOf numberForm
     deal-form = refl
 
-    opening-form : formOf (t + 1) (79 ∷ rest) ≡ numberForm (2 + (t + 1)) (79 ∷ rest)
+    opening-form : formOf (vNumbers st store) (79 ∷ rest) ≡ numberForm (2 + vNumbers st store) (79 ∷ rest)
     unfolding formOf numberForm
     opening-form = refl
 
-    masks-form : formOf (t + 1) (77 ∷ rest) ≡ numberForm (2 + 2 * (t + 1)) (77 ∷ rest)
+    masks-form : formOf (vNumbers st store) (77 ∷ rest) ≡ numberForm (2 + 2 * vNumbers st store) (77 ∷ rest)
     unfolding formOf numberForm
     masks-form = refl
 
@@ -213,28 +211,28 @@ module _ (st : State) (store : List ℕ) (started : st .started ≡ true) where
       says [] = refl
       says (x ∷ xs) = refl
 
-  opening-letter : Letter st store 79 (2 + (t + 1)) (0 to 95 ∷ 1 to n ∷ []) (noCall st store)
+  opening-letter : Letter st store 79 (2 + vNumbers st store) (0 to 95 ∷ 1 to n ∷ []) (noCall st store)
   unfolding keepStep
-  opening-letter = hear-letter 78 (2 + (t + 1)) (0 to 95 ∷ 1 to n ∷ []) (noCall st store) opening-is opening-form range (λ xs. refl)
+  opening-letter = hear-letter 78 (2 + vNumbers st store) (0 to 95 ∷ 1 to n ∷ []) (noCall st store) opening-is opening-form range (λ xs. refl)
     where
-      range : (xs : List ℕ) → length xs ≡ 2 + (t + 1) → beyondRange n (messageOf 79 xs) ≡ anyOutside (0 to 95 ∷ 1 to n ∷ []) xs
+      range : (xs : List ℕ) → length xs ≡ 2 + vNumbers st store → beyondRange n (messageOf 79 xs) ≡ anyOutside (0 to 95 ∷ 1 to n ∷ []) xs
       range [] e = absurd (omega arith)
       range (x ∷ []) e = absurd (omega arith)
       range (x ∷ y ∷ ys) e = opening-range x y ys
 
-  masks-letter : Letter st store 77 (2 + 2 * (t + 1)) (0 to 93 ∷ 1 to n ∷ []) (noCall st store)
+  masks-letter : Letter st store 77 (2 + 2 * vNumbers st store) (0 to 93 ∷ 1 to n ∷ []) (noCall st store)
   unfolding keepHalvesStep keepMasksStep
-  masks-letter = hear-letter 76 (2 + 2 * (t + 1)) (0 to 93 ∷ 1 to n ∷ []) (noCall st store) masks-is masks-form range (λ xs. refl)
+  masks-letter = hear-letter 76 (2 + 2 * vNumbers st store) (0 to 93 ∷ 1 to n ∷ []) (noCall st store) masks-is masks-form range (λ xs. refl)
     where
-      range : (xs : List ℕ) → length xs ≡ 2 + 2 * (t + 1) → beyondRange n (messageOf 77 xs) ≡ anyOutside (0 to 93 ∷ 1 to n ∷ []) xs
+      range : (xs : List ℕ) → length xs ≡ 2 + 2 * vNumbers st store → beyondRange n (messageOf 77 xs) ≡ anyOutside (0 to 93 ∷ 1 to n ∷ []) xs
       range [] e = absurd (omega arith)
       range (x ∷ []) e = absurd (omega arith)
       range (x ∷ y ∷ ys) e = masks-range x y ys
 
   -- ---- no other letter
-  other-step : (s : List ℕ) → isOneOf letters (getD s 0 0) ≡ false → length s ≤ 3173 → step st store s ≡ leaving (refusing st 10) store
+  short-step : (s : List ℕ) → isOneOf letters (getD s 0 0) ≡ false → length s ≤ 5252 → step st store s ≡ leaving (refusing st 10) store
   unfolding step lateStep lettersStep
-  other-step s n l =
+  short-step s n l =
       let x = getD s 0 0 in
       let r = or-false (eqb x 82) _ n in
       let t = or-false (eqb x 84) _ (r .1) in
@@ -247,18 +245,21 @@ module _ (st : State) (store : List ℕ) (started : st .started ≡ true) where
       let i = or-false (eqb x 70) false (e .1) in
       rw (started, le-ltb longestLine (length s) l, e .0, r .0, t .0, g .0, f .0, i .0, d .0, o .0, m .0)
 
-  other : (s : List ℕ) → isOneOf letters (getD s 0 0) ≡ false → refusalOf st store s ≡ 10
-  other s n = go (ltb 3173 (length s)) refl
+  pub other-step : (s : List ℕ) → isOneOf letters (getD s 0 0) ≡ false → step st store s ≡ leaving (refusing st 10) store
+  other-step s n = go (ltb 5252 (length s)) refl
     where
-      go : (x : Bool) → ltb 3173 (length s) ≡ x → refusalOf st store s ≡ 10
-      go true q = over st store started s (ltb-true 3173 (length s) q)
-      go false q = ap (λ (v : After). v .given .refusal) (other-step s n (ltb-false 3173 (length s) q))
+      go : (x : Bool) → ltb 5252 (length s) ≡ x → step st store s ≡ leaving (refusing st 10) store
+      go true q = over-step st store started s (ltb-true 5252 (length s) q)
+      go false q = short-step s n (ltb-false 5252 (length s) q)
+
+  other : (s : List ℕ) → isOneOf letters (getD s 0 0) ≡ false → refusalOf st store s ≡ 10
+  other s n = ap (λ (v : After). v .given .refusal) (other-step s n)
 
 pub street-table : StreetTable
 street-table st store started =
     record {
       overlong = over st store started;
-      second-start = λ rest. other st store started (83 ∷ rest) refl;
+      second-start = λ b rest h. other st store started (b ∷ rest) (start-letter b h .no-other);
       no-letter = other st store started [] refl;
       other-letter = λ b rest. other st store started (b ∷ rest);
       load = load-letter st store started;

@@ -23,18 +23,17 @@ use Rattle.session.specs.Sessions.{shapeOf, openedA, openedB, maskedTriple, col
 use Rattle.deal.specs.Deal.{dealAnswer, dealRows}
 use Rattle.collect.specs.Collect.{numberA, numberB, collectRefusal, collectAnswer}
 use Rattle.multiply.specs.Multiply.{multiplyRefusal, withProduct, multiplyAnswer, multiplyRows}
-use Rattle.street_store.specs.Sizes.{masksAAt, masksBAt}
+use Rattle.street_store.specs.Sizes.{masksAAt, masksBAt, longestLine}
 use Rattle.opening.specs.Opening.{openAnswer}
 use Rattle.product_masks.specs.Masks.{masksRefusal, masksAnswer, masksOut, maskNumbersOf}
 use Rattle.linear.specs.Linear.{linearAnswer, linearRows}
 use Rattle.street_reading.specs.Numbers.{rowsBeyond}
 use Rattle.street_states.specs.declared.State.{State}
-use Rattle.street_states.specs.States.{Stepped, After, answering, telling, leaving, sessionRows, calling}
-use Rattle.street_startlines.specs.Steps.{longestLine}
+use Rattle.street_states.specs.States.{Stepped, After, answering, leaving, sessionRows, calling}
 use Rattle.street_rowlines.specs.Steps.{adding, linearStep, openingsFor, opening, openStep}
 use Rattle.street_postlines.specs.Steps.{heardRefusal, dealing, hearStep}
 use Rattle.street_finishlines.specs.Steps.{masksFor, finishing, finishStep}
-use Rattle.street_masklines.specs.Steps.{maskLine, noMasks, masking, maskingOf, maskStep}
+use Rattle.street_finishlines.specs.Masks.{maskLine, noMasks, masking, maskingOf, maskStep}
 use Rattle.street_interpreter.specs.Stepping.{lettersStep, lateStep, step}
 use Rattle.performing.specs.Claims.{Acts, Quiet, Does, LinearLine, MasksLine, DealLine, OpenLine, Finishes, FinishLine, StreetPerforms}
 use Rattle.performing.proofs.Heard.{says, passes, line-short}
@@ -43,16 +42,16 @@ succ : (k : ℕ) → suc k ≡ 0 → ⊥
 succ k e = omega arith
 
 module _ (st : State) (store : List ℕ) (started : st .started ≡ true) where
-  acted : (told : ℕ) (text : List ℕ) (a : Answer) (rows l : List ℕ) → l ≡ rows ++ drop (rowsLength (shapeOf (st .session))) store
-      → Acts st store a rows (record { given = telling (answering st a) told; store = l; told = text })
-  acted told text a rows l e =
+  acted : (text : List ℕ) (a : Answer) (rows l : List ℕ) → l ≡ rows ++ drop (rowsLength (shapeOf (st .session))) store
+      → Acts st store a rows (record { given = answering st a; store = l; told = text })
+  acted text a rows l e =
       record { session = refl; started = refl; kept = refl; triple = refl; rows-left = e; refusal = refl; value = refl }
 
-  quiet : (v : Stepped) (l : List ℕ) → v .told ≡ 0 → Quiet (leaving v l)
-  quiet v l e = record { told = refl; told-none = e }
+  quiet : (v : Stepped) (l : List ℕ) → Quiet (leaving v l)
+  quiet v l = record { told = refl }
 
   pub does-call : (a : Answer) (rows : List ℕ) → Does st store a rows (calling st store a rows)
-  does-call a rows = record { acts = acted 0 [] a rows _ refl; quiet = quiet (answering st a) _ refl }
+  does-call a rows = record { acts = acted [] a rows _ refl; quiet = quiet (answering st a) _ }
 
   whole : sessionRows st store ++ drop (rowsLength (shapeOf (st .session))) store ≡ store
   whole = take-append-drop (rowsLength (shapeOf (st .session))) store
@@ -93,13 +92,12 @@ module _ (st : State) (store : List ℕ) (started : st .started ≡ true) where
   masked : (x : ℕ) (new : Session) (first : ℕ) (xs out : List ℕ)
       → (let given = answer x 0 new (st .session) in
       let line = maskLine st first xs in
-      let a = outcome x (record { given = telling (answering st given) (length line); store = store; told = line }) (leaving (answering st given) store) in
+      let a = outcome x (record { given = answering st given; store = store; told = line }) (leaving (answering st given) store) in
       Acts st store given (sessionRows st store) a
-      × (a .told ≡ outcome (given .refusal) (Lines.text (Lines.masks first (st .session .post) (outcome x xs out))) [])
-      × (a .given .told ≡ length (a .told)))
+      × (a .told ≡ outcome (given .refusal) (Lines.text (Lines.masks first (st .session .post) (outcome x xs out))) []))
   unfolding outcome
-  masked zero new first xs out = (acted _ _ _ _ store (sym whole), refl, refl)
-  masked (suc x) new first xs out = (acted _ _ _ _ store (sym whole), refl, refl)
+  masked zero new first xs out = (acted _ _ _ store (sym whole), refl)
+  masked (suc x) new first xs out = (acted _ _ _ store (sym whole), refl)
 
   module _ (a b first : ℕ) (x : a ≤ lastRow) (y : b ≤ lastRow) (z : first ≤ lastTriple) where
     abbrev three : List ℕ
@@ -128,7 +126,6 @@ module _ (st : State) (store : List ℕ) (started : st .started ≡ true) where
         let given = masksAnswer own rows a b first (noMasks st) in
         Acts st store given rows line
         × (line .told ≡ outcome (given .refusal) (Lines.text (Lines.masks first (own .post) (masksOut own rows a b first (noMasks st)))) [])
-        × (line .given .told ≡ length (line .told))
 
     masks-called : MasksDone (masking st store a b first)
     unfolding masking
@@ -167,7 +164,7 @@ module _ (st : State) (store : List ℕ) (started : st .started ≡ true) where
     OpenDone a = Does st store (openAnswer (st .session) (sessionRows st store) row (openingsFor st store row)) (sessionRows st store) a
 
     open-called : OpenDone (opening st store one)
-    open-called = record { acts = acted 0 [] _ _ store (sym whole); quiet = quiet (opening st store one .given) store refl }
+    open-called = record { acts = acted [] _ _ store (sym whole); quiet = quiet (opening st store one .given) store }
 
     open-does : OpenDone (step st store (written 71 one))
     open-does = subst OpenDone (sym (open-letter ∙ open-numbers)) open-called
@@ -225,7 +222,7 @@ module _ (st : State) (store : List ℕ) (started : st .started ≡ true) where
   finished zero (suc y) opened between new product =
       record {
         not-collected = λ n. absurd (n refl);
-        not-multiplied = λ e n. (refl, refl, whole, quiet _ _ refl);
+        not-multiplied = λ e n. (refl, refl, whole, quiet _ _);
         done = λ e f. absurd (succ y f);
       }
   finished (suc x) y opened between new product =

@@ -13,13 +13,12 @@ use Rattle.refusal.specs.Refusal.{outcome}
 use Rattle.session.specs.declared.Session.{Session}
 use Rattle.session.specs.Sessions.{shapeOf, answer}
 use Rattle.street_store.specs.Sizes.{openingsAt, masksAAt, masksBAt, storeRoom, recordRoom, InStreet}
-use Rattle.street_store.specs.Records.{recordIf, kept}
+use Rattle.street_store.specs.Records.{recordIf, kept, recordFor}
 use Rattle.street_store.proofs.Keeping.{record-room}
 use Rattle.street_states.specs.declared.State.{State}
 use Rattle.street_states.specs.States.{After, keepingRow, keepingTriple, refusing, leaving, sessionRows}
 use Rattle.street_postlines.specs.Steps.{keepStep, keepMasksStep}
 use Rattle.street_interpreter.specs.Stepping.{Ready}
-use Rattle.performing.specs.Claims.{recordFor}
 use Rattle.performing.specs.Records.{Stored}
 use Rattle.performing.specs.TwoLines.{recordOf, noBlocks, putInto, KeptFor, FromPost, Finds, Opens, FinishesWith, openingLine, masksLine, openLine, finishLine, OneLine, BehindOpening, BehindMasks, StreetRecords}
 use Rattle.performing.proofs.Theorems.{street-performs}
@@ -32,7 +31,7 @@ unfolding outcome
 unchanged zero v s = refl
 unchanged (suc x) v s = refl
 
-same-state : (a b : State) → a .session ≡ b .session → a .started ≡ b .started → a .kept ≡ b .kept → a .triple ≡ b .triple → a ≡ b
+pub same-state : (a b : State) → a .session ≡ b .session → a .started ≡ b .started → a .kept ≡ b .kept → a .triple ≡ b .triple → a ≡ b
 same-state a b e f g h =
     ap (λ (x : Session). record { session = x; started = a .started; kept = a .kept; triple = a .triple }) e
     ∙ ap (λ (x : Bool). record { session = b .session; started = x; kept = a .kept; triple = a .triple }) f
@@ -48,12 +47,12 @@ module _ (st : State) (store : List ℕ) (started : st .started ≡ true) (ready
 
   -- the record that a line finds
   found : (at last named : ℕ) (blocks : List ℕ) → at + recordRoom ≤ storeRoom → Finds st store at last named blocks
-      → blocks ≡ recordFor st store at last named
+      → blocks ≡ recordFor at (shapeOf (st .session)) last named store
   found at last named blocks place f = go (eqb last named) refl
     where
-      long : length (recordOf st at store) ≡ own .n * (own .t + 2)
+      long : length (recordOf st at store) ≡ own .n * (own .points * own .t + 2)
       long =
-          let k : own .t + 1 + 1 ≡ own .t + 2 = omega arith in
+          let k : own .points * own .t + 1 + 1 ≡ own .points * own .t + 2 = omega arith in
           length-take-le (recordLength (shapeOf own)) (drop at store) (omega (arith, record-room (shapeOf own) street, length-drop at store, ready .store-room))
           ∙ ap (λ (j : ℕ). own .n * j) k
 
@@ -102,7 +101,7 @@ module _ (st : State) (store : List ℕ) (started : st .started ≡ true) (ready
           triple-is = refl;
           refusal = refl;
           value = refl;
-          quiet = record { told = refl; told-none = refl };
+          quiet = record { told = refl };
         })
 
     abbrev OpeningStored : After → Type 0
@@ -145,7 +144,7 @@ module _ (st : State) (store : List ℕ) (started : st .started ≡ true) (ready
           triple-is = refl;
           refusal = refl;
           value = refl;
-          quiet = record { told = refl; told-none = refl };
+          quiet = record { told = refl };
         })
 
     abbrev MasksStored : After → Type 0

@@ -6,7 +6,6 @@ use Prim.Native.Nat.{ℕ, _≤_, _<_}
 use mathlib.Core.Path.{_≡_}
 use mathlib.Core.Bool.{true}
 use mathlib.Core.List.{List, [], _∷_, _++_}
-use lib.Dec.{eqb}
 use lib.ListN.{length, drop, replicate}
 use Rattle.field.specs.Modulus.{p}
 use Rattle.poly.specs.Counting.{Elements}
@@ -26,7 +25,7 @@ use Rattle.product_masks.specs.Masks.{masksAnswer, masksOut}
 use Rattle.collect.specs.Collect.{collectAnswer}
 use Rattle.multiply.specs.Multiply.{multiplyAnswer, multiplyRows}
 use Rattle.street_store.specs.Sizes.{openingsAt, masksAAt, masksBAt, InStreet}
-use Rattle.street_store.specs.Records.{recordAt, recordIf}
+use Rattle.street_store.specs.Records.{recordFor}
 use Rattle.street_states.specs.declared.State.{State}
 use Rattle.street_states.specs.States.{After, sessionRows}
 use Rattle.street_interpreter.specs.Stepping.{step}
@@ -45,15 +44,10 @@ pub record Acts (st : State) (store : List ℕ) (given : Answer) (rows : List �
 -- Nothing is printed but the answer.
 pub record Quiet (a : After) : Type 0 where
   pub told : a .told ≡ []
-  pub told-none : a .given .told ≡ 0
 
 pub record Does (st : State) (store : List ℕ) (given : Answer) (rows : List ℕ) (a : After) : Type 0 where
   pub acts : Acts st store given rows a
   pub quiet : Quiet a
-
--- The record at a place of the store, if it is kept for what the line names, else an empty one.
-abbrev pub recordFor : State → List ℕ → ℕ → ℕ → ℕ → List ℕ
-recordFor st store at kept named = recordIf (eqb kept named) (recordAt at (shapeOf (st .session)) store)
 
 module _ (st : State) (store : List ℕ) where
   abbrev own : Session
@@ -77,8 +71,7 @@ module _ (st : State) (store : List ℕ) where
       let given = masksAnswer own rows a b first lent in
       let line = step st store (written 88 (a ∷ b ∷ first ∷ [])) in
       Acts st store given rows line
-      × (line .told ≡ outcome (given .refusal) (written 77 (first ∷ own .post ∷ masksOut own rows a b first lent)) [])
-      × (line .given .told ≡ length (line .told)))
+      × (line .told ≡ outcome (given .refusal) (written 77 (first ∷ own .post ∷ masksOut own rows a b first lent)) []))
 
   -- "`D,row,c`"
   abbrev pub DealLine : Type 0
@@ -90,7 +83,7 @@ module _ (st : State) (store : List ℕ) where
   abbrev pub OpenLine : Type 0
   OpenLine =
       (row : ℕ) → row ≤ lastRow
-      → Does st store (openAnswer own rows row (recordFor st store openingsAt (st .kept) row)) rows (step st store (written 71 (row ∷ [])))
+      → Does st store (openAnswer own rows row (recordFor openingsAt (shapeOf own) (st .kept) row store)) rows (step st store (written 71 (row ∷ [])))
 
   -- "`F,first`, which finishes", with the two records that are kept for the triple, or empty ones: collect, and where it was not refused
   -- multiply, with the session that collect hands back. Where either is refused nothing changes.
@@ -103,8 +96,8 @@ module _ (st : State) (store : List ℕ) where
   abbrev pub FinishLine : Type 0
   FinishLine =
       (first : ℕ) → first ≤ lastTriple
-      → (let masksA = recordFor st store masksAAt (st .triple) first in
-      let masksB = recordFor st store masksBAt (st .triple) first in
+      → (let masksA = recordFor masksAAt (shapeOf own) (st .triple) first store in
+      let masksB = recordFor masksBAt (shapeOf own) (st .triple) first store in
       let collected = collectAnswer own rows first masksA masksB in
       let between = collected .session in
       Finishes collected (multiplyAnswer between rows first) (multiplyRows between rows first) (step st store (written 70 (first ∷ []))))
@@ -121,7 +114,7 @@ module _ (st : State) (store : List ℕ) where
       (first : ℕ) (pack : List ℕ) → first ≤ lastTriple → length pack ≡ tripleLength (shapeOf own) → Elements pack
       → Does st store (loadTripleAnswer own rows first pack) (loadTripleRows own rows first pack) (step st store (written 84 (first ∷ pack)))
 
--- Once an `S` was accepted.
+-- Once a start line was accepted.
 pub record LinesPerform (st : State) (store : List ℕ) : Type 0 where
   pub linear : LinearLine st store
   pub masks : MasksLine st store

@@ -1,7 +1,7 @@
--- The refusals of the street program once an `S` was accepted, one table for every letter. Document 01: "a second `S` then gets 10, as does
--- any other letter and any line over 1,061 bytes with its line feed" (document 02, (iii): 3,173). "A line's form is looked at first: .. other
--- lines get 10, then 11, then what the call answers." Bounds and counts are figures, not the names of `shape`, `street_store` and `street_startlines`.
--- Proved in proofs/Lines.antt.
+-- The refusals of the street program once a start line was accepted, one table for every letter. Document 01: "a second `S` then gets 10, as does
+-- any other letter and any line over 1,061 bytes with its line feed" (document 02, (ix): 5,252, and "a second start line of either letter gets 10"). "A line's
+-- form is looked at first: .. other lines get 10, then 11, then what the call answers." Bounds and counts are figures, not the names of `shape` and
+-- `street_store`; the number of a post's check points is the session's. Proved in proofs/Lines.antt.
 use Prim.Native.Nat.{ℕ, _+_, _*_, _<_}
 use mathlib.Core.Path.{_≡_}
 use mathlib.Core.Bool.{Bool, true, false, not, _||_}
@@ -19,10 +19,11 @@ use Rattle.product_masks.specs.Masks.{masksAnswer}
 use Rattle.collect.specs.Collect.{collectAnswer}
 use Rattle.multiply.specs.Multiply.{multiplyAnswer}
 use Rattle.street_store.specs.Sizes.{openingsAt, masksAAt, masksBAt}
+use Rattle.session.specs.Sessions.{shapeOf}
+use Rattle.street_store.specs.Records.{recordFor}
 use Rattle.street_states.specs.declared.State.{State}
 use Rattle.street_states.specs.States.{sessionRows}
 use Rattle.street_interpreter.specs.Stepping.{step}
-use Rattle.performing.specs.Claims.{recordFor}
 
 -- "A number has 1 to 10 digits".
 abbrev pub TenDigits : List ℕ → Type 0
@@ -48,14 +49,18 @@ anyOutside (low to high ∷ ranges) (x ∷ xs) = (ltb x low || ltb high x) || an
 -- 10 and 11 of a line that is written from numbers.
 abbrev pub lineTable : ℕ → ℕ → List Range → List ℕ → List Test
 lineTable letter count ranges xs =
-    10 when ltb 3173 (length (written letter xs))
+    10 when ltb 5252 (length (written letter xs))
     ∷ 10 when not (eqb (length xs) count)
     ∷ 11 when anyOutside ranges xs
     ∷ []
 
--- `R`, `T`, `D`, `O`, `M`, `G`, `L`, `X` and `F`; 83 is `S`.
+-- `R`, `T`, `D`, `O`, `M`, `G`, `L`, `X` and `F`
 abbrev pub letters : List ℕ
 letters = 82 ∷ 84 ∷ 68 ∷ 79 ∷ 77 ∷ 71 ∷ 76 ∷ 88 ∷ 70 ∷ []
+
+-- `S` and `W`
+abbrev pub startLetters : List ℕ
+startLetters = 83 ∷ 87 ∷ []
 
 abbrev pub isOneOf : List ℕ → ℕ → Bool
 isOneOf [] b = false
@@ -81,6 +86,14 @@ module _ (st : State) (store : List ℕ) where
   abbrev t : ℕ
   t = own .t
 
+  -- of a polynomial v: "t+1 coefficients", with two points "2t+1"
+  abbrev pub vNumbers : ℕ
+  vNumbers = own .points * t + 1
+
+  -- "t+1+2n elements", with two points "2t+1+3n numbers"
+  abbrev pub rowNumbers : ℕ
+  rowNumbers = vNumbers + own .points * n + n
+
   abbrev rows : List ℕ
   rows = sessionRows st store
 
@@ -95,18 +108,20 @@ module _ (st : State) (store : List ℕ) where
   dealCall xs = dealAnswer own rows (getD xs 0 0) (getD xs 1 0) .refusal
 
   abbrev pub openCall : List ℕ → ℕ
-  openCall xs = openAnswer own rows (getD xs 0 0) (recordFor st store openingsAt (st .kept) (getD xs 0 0)) .refusal
+  openCall xs = openAnswer own rows (getD xs 0 0) (recordFor openingsAt (shapeOf own) (st .kept) (getD xs 0 0) store) .refusal
 
   abbrev pub linearCall : List ℕ → ℕ
   linearCall xs = linearAnswer own rows (getD xs 0 0) (getD xs 1 0) (getD xs 2 0) (getD xs 3 0) (getD xs 4 0) .refusal
 
   abbrev pub masksCall : List ℕ → ℕ
-  masksCall xs = masksAnswer own rows (getD xs 0 0) (getD xs 1 0) (getD xs 2 0) (replicate (2 * (t + 1)) 0) .refusal
+  masksCall xs = masksAnswer own rows (getD xs 0 0) (getD xs 1 0) (getD xs 2 0) (replicate (2 * vNumbers) 0) .refusal
 
   abbrev pub finishCall : List ℕ → ℕ
   finishCall xs =
       let first = getD xs 0 0 in
-      let collected = collectAnswer own rows first (recordFor st store masksAAt (st .triple) first) (recordFor st store masksBAt (st .triple) first) in
+      let masksA = recordFor masksAAt (shapeOf own) (st .triple) first store in
+      let masksB = recordFor masksBAt (shapeOf own) (st .triple) first store in
+      let collected = collectAnswer own rows first masksA masksB in
       orElse (collected .refusal) (multiplyAnswer (collected .session) rows first .refusal)
 
   -- an `O` and an `M` are put into a record, and that is not refused
@@ -115,20 +130,20 @@ module _ (st : State) (store : List ℕ) where
 
   -- ---- the table
   pub record LineTable : Type 0 where
-    pub overlong : (s : List ℕ) → 3173 < length s → refusalOf s ≡ 10
-    pub second-start : (rest : List ℕ) → refusalOf (83 ∷ rest) ≡ 10
+    pub overlong : (s : List ℕ) → 5252 < length s → refusalOf s ≡ 10
+    pub second-start : (b : ℕ) (rest : List ℕ) → isOneOf startLetters b ≡ true → refusalOf (b ∷ rest) ≡ 10
     pub no-letter : refusalOf [] ≡ 10
     pub other-letter : (b : ℕ) (rest : List ℕ) → isOneOf letters b ≡ false → refusalOf (b ∷ rest) ≡ 10
-    -- "`R,row,` and a raw row's numbers", "t+1+2n elements"
-    pub load : Letter 82 (1 + (t + 1 + 2 * n)) (0 to 95 ∷ []) loadCall
+    -- "`R,row,` and a raw row's numbers"
+    pub load : Letter 82 (1 + rowNumbers) (0 to 95 ∷ []) loadCall
     -- "`T,first,` and a triple's three rows of numbers"
-    pub triple : Letter 84 (1 + 3 * (t + 1 + 2 * n)) (0 to 93 ∷ []) tripleCall
+    pub triple : Letter 84 (1 + 3 * rowNumbers) (0 to 93 ∷ []) tripleCall
     -- "`D,row,c`"
     pub deal : Letter 68 2 (0 to 95 ∷ []) dealCall
     -- "`O,row,post,` t+1 coefficients"
-    pub opening : Letter 79 (2 + (t + 1)) (0 to 95 ∷ 1 to n ∷ []) noCall
+    pub opening : Letter 79 (2 + vNumbers) (0 to 95 ∷ 1 to n ∷ []) noCall
     -- "`M,first row of triple,post,` t+1 coefficients of a − l, then t+1 of b − l'"
-    pub masks : Letter 77 (2 + 2 * (t + 1)) (0 to 93 ∷ 1 to n ∷ []) noCall
+    pub masks : Letter 77 (2 + 2 * vNumbers) (0 to 93 ∷ 1 to n ∷ []) noCall
     -- "`G,row`"
     pub opened : Letter 71 1 (0 to 95 ∷ []) openCall
     -- "`L,dest,a,b,s,fee`"
@@ -138,6 +153,6 @@ module _ (st : State) (store : List ℕ) where
     -- "`F,first`"
     pub finish : Letter 70 1 (0 to 93 ∷ []) finishCall
 
--- Once an `S` was accepted, whatever the store.
+-- Once a start line was accepted, whatever the store.
 abbrev pub StreetTable : Type 0
 StreetTable = (st : State) (store : List ℕ) → st .started ≡ true → LineTable st store

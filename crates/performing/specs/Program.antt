@@ -1,5 +1,5 @@
 -- The whole street program, where its definition is not one step. Document 01: "It prints a header, then per input line its number from 1, the
--- refusal (0 for none) and the number opened (0 if none)." Before the first line no `S` is accepted, and the records are empty. Proved in
+-- refusal (0 for none) and the number opened (0 if none)." Before the first line no start line is accepted, and the records are empty. Proved in
 -- proofs/Program.antt.
 use Prim.Native.Nat.{ℕ, _+_, _*_, _/_, _%_, _≤_, _<_}
 use mathlib.Core.Path.{_≡_}
@@ -27,9 +27,12 @@ NoFeed b = b ≡ 10 → ⊥
 
 pub record ProgramPrints : Type 0 where
   pub not-started : begun .state .started ≡ false
-  pub no-openings : (n t : ℕ) → InStreet (shape n t) → recordAt openingsAt (shape n t) (begun .store) ≡ replicate (n * (t + 2)) 0
-  pub no-masks-a : (n t : ℕ) → InStreet (shape n t) → recordAt masksAAt (shape n t) (begun .store) ≡ replicate (n * (t + 2)) 0
-  pub no-masks-b : (n t : ℕ) → InStreet (shape n t) → recordAt masksBAt (shape n t) (begun .store) ≡ replicate (n * (t + 2)) 0
+  pub no-openings : (n t points : ℕ) → InStreet (shape n t points)
+      → recordAt openingsAt (shape n t points) (begun .store) ≡ replicate (n * (points * t + 2)) 0
+  pub no-masks-a : (n t points : ℕ) → InStreet (shape n t points)
+      → recordAt masksAAt (shape n t points) (begun .store) ≡ replicate (n * (points * t + 2)) 0
+  pub no-masks-b : (n t points : ℕ) → InStreet (shape n t points)
+      → recordAt masksBAt (shape n t points) (begun .store) ≡ replicate (n * (points * t + 2)) 0
   -- `printed` is the program's output (`PrintsAnswers`)
   pub by-lines : (input : List ℕ) → printed input ≡ headerBytes ++ answers (begun .state) (begun .store) 1 (linesFrom [] input)
   -- the line's number, the refusal, the value; behind them what an `X` prints; then the next line, on what this one left

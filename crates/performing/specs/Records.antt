@@ -14,11 +14,10 @@ use Rattle.session.specs.declared.Session.{Session}
 use Rattle.session.specs.Sessions.{shapeOf}
 use Rattle.records.specs.Records.{putRecord}
 use Rattle.street_store.specs.Sizes.{openingsAt, masksAAt, masksBAt}
-use Rattle.street_store.specs.Records.{recordAt}
+use Rattle.street_store.specs.Records.{recordAt, recordFor}
 use Rattle.street_states.specs.declared.State.{State}
 use Rattle.street_states.specs.States.{After, keepingRow, keepingTriple, refusing, sessionRows}
 use Rattle.street_interpreter.specs.Stepping.{step, Ready}
-use Rattle.performing.specs.Claims.{recordFor}
 
 module _ (st : State) (store : List ℕ) where
   abbrev own : Session
@@ -39,7 +38,7 @@ module _ (st : State) (store : List ℕ) where
 
   -- the library's call, on the record at a place
   abbrev put : ℕ → ℕ → ℕ → ℕ → List ℕ → List ℕ
-  put at kept named post xs = putRecord (own .n) (own .t) (recordFor st store at kept named) post xs
+  put at kept named post xs = putRecord (own .n) (own .t) (own .points) (recordFor at (shapeOf own) kept named store) post xs
 
   -- "`O,row,post,` t+1 coefficients"
   abbrev pub OpeningLine : Type 0
@@ -58,7 +57,7 @@ module _ (st : State) (store : List ℕ) where
       (a .given ≡ refusing (keepingTriple st first) 0)
       × Stored (was openingsAt) (put masksAAt (st .triple) first post xs) (put masksBAt (st .triple) first post ys) a)
 
--- Once an `S` was accepted, between lines.
+-- Once a start line was accepted, between lines.
 pub record RecordsKept (st : State) (store : List ℕ) : Type 0 where
   pub opening : OpeningLine st store
   pub masks : MasksKeptLine st store

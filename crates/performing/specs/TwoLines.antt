@@ -1,6 +1,7 @@
 -- Document 01: "`O` lines are kept for one row: one for another row empties the record first, a second from one post replaces the first, and G
 -- leaves the record as it is (a G for another row opens with an empty one)"; document 02, (iii): "`M` lines, kept for one triple as `O` lines are
--- for a row". Laws over one line and over two, with an empty record written out: n · (t + 2) zeros. Proved in proofs/TwoLines.antt.
+-- for a row". Laws over one line and over two, with an empty record written out:
+-- n · (points · t + 2) zeros. Proved in proofs/TwoLines.antt.
 use Prim.Native.Nat.{ℕ, _+_, _*_, _≤_}
 use mathlib.Core.Path.{_≡_}
 use mathlib.Core.Bool.{true}
@@ -28,11 +29,11 @@ recordOf st at store = recordAt at (shapeOf (st .session)) store
 
 -- An empty record.
 abbrev pub noBlocks : State → List ℕ
-noBlocks st = replicate (st .session .n * (st .session .t + 2)) 0
+noBlocks st = replicate (st .session .n * (st .session .points * st .session .t + 2)) 0
 
 -- A post's message, put into a record by the library's call.
 abbrev pub putInto : State → List ℕ → ℕ → List ℕ → List ℕ
-putInto st blocks post xs = putRecord (st .session .n) (st .session .t) blocks post xs
+putInto st blocks post xs = putRecord (st .session .n) (st .session .t) (st .session .points) blocks post xs
 
 -- An accepted line of a post: records are kept for this row and this triple now, and the rest of the state is as it was.
 pub record KeptFor (st : State) (row triple : ℕ) (a : After) : Type 0 where
@@ -48,7 +49,7 @@ pub record KeptFor (st : State) (row triple : ℕ) (a : After) : Type 0 where
 pub record FromPost (own : Session) (post : ℕ) (xs : List ℕ) : Type 0 where
   pub low : 1 ≤ post
   pub high : post ≤ own .n
-  pub long : length xs ≡ own .t + 1
+  pub long : length xs ≡ own .points * own .t + 1
   pub elements : Elements xs
 
 -- The record that a line finds at a place: as it was, where it is kept for what the line names, else empty.
@@ -141,6 +142,6 @@ module _ (st : State) (store : List ℕ) where
         → Finds st store masksAAt (st .triple) first blocksA → Finds st store masksBAt (st .triple) first blocksB
         → BehindMasks first post xs ys blocksA blocksB (masksLine st store first post xs ys)
 
--- Once an `S` was accepted, between lines.
+-- Once a start line was accepted, between lines.
 abbrev pub StreetRecords : Type 0
 StreetRecords = (st : State) (store : List ℕ) → st .started ≡ true → Ready st store → OneLine st store × TwoLines st store

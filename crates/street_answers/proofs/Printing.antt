@@ -13,9 +13,8 @@ use Rattle.decimal.proofs.Digits.{length-digits}
 use Rattle.decimal.proofs.Sizes.{size-le}
 use Rattle.csv.specs.Fields.{fields, written, overwrite}
 use Rattle.csv.proofs.Laying.{length-written}
-use Rattle.street_store.specs.Sizes.{mostMasks}
+use Rattle.street_store.specs.Sizes.{mostMasks, toldRoom}
 use Rattle.csv.proofs.Overwriting.{overwrite-part, overwrite-twice, length-fields-le}
-use Rattle.street_masklines.specs.Steps.{toldRoom}
 use Rattle.street_answers.specs.Text.{longSize, longNumeral, answerText, longestAnswer, printText, longestPrint}
 
 -- ---- an answer behind those before it

@@ -4,7 +4,7 @@ use Prim.Native.Nat.{ℕ, _+_}
 use mathlib.Core.List.{List, [], _∷_, _++_}
 use Rattle.decimal.specs.Numeral.{lastDigits, sizeWithin}
 use Rattle.csv.specs.Fields.{fields}
-use Rattle.street_masklines.specs.Steps.{toldRoom}
+use Rattle.street_store.specs.Sizes.{toldRoom}
 
 -- `line,refusal,value`
 abbrev pub header : List ℕ

@@ -3,14 +3,13 @@ ghost use mathlib.Core.Path.{_≡_};
 ghost use mathlib.Core.List.{[]};
 ghost use Prim.Native.Nat.{_+_, _≤_};
 ghost use lib.ListN.{length, take};
-ghost use Rattle.street_masklines.specs.Steps.{toldRoom};
 ghost use Rattle.forms.specs.Lines as Lines;
-ghost use Rattle.street_store.specs.Sizes.{streetPosts, mostMasks};
+ghost use Rattle.street_store.specs.Sizes.{streetPosts, mostMasks, toldRoom};
 ghost use Rattle.csv.specs.Fields.{overwrite};
 ghost use Rattle.street_answers.specs.Text.{header, longSize, longNumeral, answerText, longestAnswer, printText, longestPrint};
 
 // No more is printed for a line: its answer, and what an `X` prints behind it.
-pub const LONGEST_PRINT: usize = 43 + street_masklines::TOLD_ROOM;
+pub const LONGEST_PRINT: usize = 43 + street_store::TOLD_ROOM;
 
 // `line,refusal,value`
 pub fn header() -> [u8; 19]
@@ -55,16 +54,6 @@ fn put_answer(out: &mut [u8], at: usize, number: u64, refusal: u8, value: u32) -
     end + 1
 }
 
-// The bytes of `from`, into `to`.
-pub fn copy(from: &[u8], to: &mut [u8])
-    requires { ⌜ length (now from) ≡ length (now to) ⌝ }
-    ensures { λ r. ⌜ now (to .exit) ≡ now (from .entry) ⌝ }
-{
-    for i in 0..from.len() {
-        to[i] = from[i];
-    }
-}
-
 // An answer, and what is printed behind it, from a position on; the position behind.
 fn put_print(out: &mut [u8], at: usize, number: u64, refusal: u8, value: u32, told: &[u8]) -> usize
     requires { ⌜ (at + longestPrint ≤ length (now out)) × (length (now told) ≤ toldRoom) ⌝ }
@@ -73,7 +62,7 @@ fn put_print(out: &mut [u8], at: usize, number: u64, refusal: u8, value: u32, to
 {
     let behind = put_answer(out, at, number, refusal, value);
     let end = behind + told.len();
-    copy(told, &mut out[behind..end]);
+    street_store::copy_bytes(told, &mut out[behind..end]);
     end
 }
 
@@ -108,7 +97,7 @@ pub fn print_masks(
     ensures { λ r. ⌜ (r ≡ at + length (printText number 0 0 (Lines.text (Lines.masks first post (now (masks .entry))))))
         × (now (out .exit) ≡ overwrite at (printText number 0 0 (Lines.text (Lines.masks first post (now (masks .entry))))) (now (out .entry))) ⌝ }
 {
-    let mut text = [0u8; street_masklines::TOLD_ROOM];
+    let mut text = [0u8; street_store::TOLD_ROOM];
     let len = tell_masks(first, post, masks, &mut text);
     put_print(out, at, number, 0, 0, &text[..len])
 }

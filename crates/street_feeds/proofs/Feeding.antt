@@ -17,12 +17,11 @@ use Rattle.csv.proofs.Overwriting.{length-fields-le}
 use Rattle.csv.proofs.Laying.{length-written}
 use Rattle.forms.specs.Lines as Lines
 use Rattle.session.specs.declared.Session.{Session}
-use Rattle.street_store.specs.Sizes.{mostMasks, streetPosts}
-use Rattle.street_store.proofs.Keeping.{street-valid}
+use Rattle.street_store.specs.Sizes.{mostMasks, streetPosts, toldRoom}
+use Rattle.street_store.proofs.Keeping.{street-valid, v-room}
 use Rattle.street_states.specs.declared.State.{State}
 use Rattle.street_states.specs.declared.Head.{Head}
 use Rattle.street_states.specs.States.{After, Stepped, firstState, stateOf}
-use Rattle.street_masklines.specs.Steps.{toldRoom}
 use Rattle.street_interpreter.specs.declared.orders.Order.{Order}
 use Rattle.street_interpreter.specs.declared.Outcome.{Outcome}
 use Rattle.street_interpreter.specs.Orders.{Accepted, Reads, looking}
@@ -94,9 +93,6 @@ module _ (g : Shape) (h grown-head : Head) (line part line' : List ℕ) (closing
 
   pub line-prefix : length line' ≡ length line → grown-head .len ≡ length (take (grown-head .len) line')
   line-prefix m = sym (length-take-le (grown-head .len) line' (line-within m))
-
-  pub head-started : Accepted (h .started) g → Accepted (h .started) g
-  head-started x = x
 
   module _ (s : Session) (store out : List ℕ) where
     abbrev before : Running
@@ -222,13 +218,13 @@ module _ (h : Head) (letter refusal post : ℕ) (g : Shape) (xs ms out : List �
 
       module _ (count : ℕ) (k : count ≡ masksLength g) where
         pub tell-count : count ≤ length ms
-        tell-count = let i = t .street e z in omega (arith, t .masks-room, i .n-in .1, i .t-in .1)
+        tell-count = omega (arith, t .masks-room, v-room g (t .street e z))
 
         pub tell-prefix : count ≡ length (take count ms)
         tell-prefix = sym (length-take-le count ms tell-count)
 
         pub tell-few : length (take count ms) ≤ mostMasks
-        tell-few = let i = t .street e z in omega (arith, t .masks-room, tell-prefix, i .n-in .1, i .t-in .1)
+        tell-few = omega (arith, t .masks-room, tell-prefix, v-room g (t .street e z))
 
         abbrev line : List ℕ
         line = Lines.text (Lines.masks (getD xs 2 0) post (take count ms))

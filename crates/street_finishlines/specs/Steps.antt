@@ -2,7 +2,6 @@
 use Prim.Native.Nat.{ℕ}
 use mathlib.Core.List.{List, [], _∷_}
 use lib.ListN.{getD}
-use lib.Dec.{eqb}
 use Rattle.shape.specs.Bounds.{lastTriple}
 use Rattle.refusal.specs.Refusal.{orElse, outcome}
 use Rattle.session.specs.declared.Session.{Session}
@@ -11,7 +10,7 @@ use Rattle.session.specs.Sessions.{shapeOf, answer}
 use Rattle.collect.specs.Collect.{collectRefusal, collectAnswer}
 use Rattle.multiply.specs.Multiply.{multiplyRefusal, multiplyAnswer, multiplyRows}
 use Rattle.street_store.specs.Sizes.{masksAAt, masksBAt}
-use Rattle.street_store.specs.Records.{recordAt, recordIf}
+use Rattle.street_store.specs.Records.{recordFor}
 use Rattle.street_reading.specs.Numbers.{numbers, readRefusal}
 use Rattle.street_states.specs.declared.State.{State}
 use Rattle.street_states.specs.States.{After, unless, sessionRows, calling}
@@ -33,7 +32,7 @@ module _ (s : Session) (rows : List ℕ) (first : ℕ) (blocksA blocksB : List �
 
 -- with the records that are kept for the triple, or empty ones
 abbrev pub masksFor : ℕ → State → List ℕ → ℕ → List ℕ
-masksFor at st store first = recordIf (eqb (st .triple) first) (recordAt at (shapeOf (st .session)) store)
+masksFor at st store first = recordFor at (shapeOf (st .session)) (st .triple) first store
 
 unfoldable pub finishing : State → List ℕ → ℕ → After
 finishing st store first =

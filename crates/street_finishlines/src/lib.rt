@@ -1,14 +1,15 @@
-// The calls of the line that finishes a product: `F`.
+// The calls of a product's lines: `F`, which finishes it, here, and `X`, which makes its masks, in `masks`.
+pub mod masks;
+
 use session::Answer;
 use session::Session;
 ghost use mathlib.Core.Path.{_≡_};
 ghost use lib.ListN.{length, replicate};
-ghost use lib.Dec.{eqb};
 ghost use Rattle.session.specs.Sessions.{shapeOf};
 ghost use Rattle.collect.specs.Collect.{collectAnswer};
 ghost use Rattle.multiply.specs.Multiply.{multiplyAnswer, multiplyRows};
 ghost use Rattle.street_store.specs.Sizes.{InStreet, recordRoom, storeRoom, masksAAt, masksBAt};
-ghost use Rattle.street_store.specs.Records.{recordAt, recordIf};
+ghost use Rattle.street_store.specs.Records.{recordAt, recordIf, recordFor};
 ghost use Rattle.street_states.specs.States.{rowsOf, withRows, settled};
 ghost use Rattle.street_finishlines.specs.Steps.{pairAnswer, pairRows};
 ghost use Rattle.street_finishlines.specs.Between.{afterAnswer, afterRows};
@@ -57,11 +58,11 @@ pub fn finish(
 ) -> Answer
     requires { ⌜ InStreet (shapeOf session) × (length (now store) ≡ storeRoom) × (now empty ≡ replicate recordRoom 0) ⌝ }
     ensures { λ r. ⌜ settled session r ≡ pairAnswer session (rowsOf session (now (store .entry))) first
-        (recordIf (eqb triple first) (recordAt masksAAt (shapeOf session) (now (store .entry))))
-        (recordIf (eqb triple first) (recordAt masksBAt (shapeOf session) (now (store .entry)))) ⌝ }
+        (recordFor masksAAt (shapeOf session) triple first (now (store .entry)))
+        (recordFor masksBAt (shapeOf session) triple first (now (store .entry))) ⌝ }
     ensures { λ r. ⌜ now (store .exit) ≡ withRows session (pairRows session (rowsOf session (now (store .entry))) first
-        (recordIf (eqb triple first) (recordAt masksAAt (shapeOf session) (now (store .entry))))
-        (recordIf (eqb triple first) (recordAt masksBAt (shapeOf session) (now (store .entry))))) (now (store .entry)) ⌝ }
+        (recordFor masksAAt (shapeOf session) triple first (now (store .entry)))
+        (recordFor masksBAt (shapeOf session) triple first (now (store .entry)))) (now (store .entry)) ⌝ }
 {
     let same = triple == first;
     let collected = collect_kept(session, store, empty, same, first);

@@ -22,16 +22,18 @@ use Rattle.deal.specs.Deal.{dealAnswer, dealRows}
 use Rattle.product_masks.specs.Masks.{masksRefusal, maskNumbersOf}
 use Rattle.opening.specs.Opening.{openAnswer}
 use Rattle.street_store.specs.Sizes.{InStreet, numbersRoom, openingsAt, masksAAt, masksBAt}
-use Rattle.street_store.specs.Records.{recordAt, recordIf, kept}
+use Rattle.street_store.specs.Records.{recordFor, kept}
+use Rattle.street_store.proofs.Keeping.{v-room, row-room}
 use Rattle.street_states.specs.declared.State.{State}
-use Rattle.street_states.specs.States.{After, answering, telling, leaving, rowsOf, withRows, settled}
+use Rattle.street_states.specs.States.{After, answering, leaving, rowsOf, withRows, settled}
+use Rattle.street_states.proofs.Calling.{answer-refusal}
 use Rattle.street_startlines.specs.Steps.{startStep}
 use Rattle.street_startlines.specs.Between.{startAnswer}
 use Rattle.street_startlines.proofs.Settings.{start-begun}
-use Rattle.street_loadlines.specs.Steps.{loading, loadingTriple}
+use Rattle.street_rowlines.specs.Loads.{loading, loadingTriple}
 use Rattle.street_rowlines.specs.Steps.{sumAnswer, sumRows, adding, opening}
-use Rattle.street_masklines.specs.Steps.{maskLine, masking, maskingOf}
-use Rattle.street_masklines.specs.Between.{Masked}
+use Rattle.street_finishlines.specs.Masks.{maskLine, masking, maskingOf}
+use Rattle.street_finishlines.specs.Between.{Masked}
 use Rattle.street_finishlines.specs.Steps.{pairAnswer, pairRows, finishing}
 use Rattle.street_postlines.specs.Steps.{dealing, keepStep, keepMasksStep, keepHalvesStep}
 use Rattle.street_interpreter.specs.declared.orders.Order.{Order}
@@ -117,25 +119,25 @@ module _ (s : Session) (o : Order) (y : Able s o) where
 -- ---- the numbers
 module _ (g h : Shape) (i : InStreet h) (d : g ≡ h) (xs : List ℕ) (l : length xs ≡ numbersRoom) (k : ℕ) where
   pub row-in : k ≡ rowLength g → 1 + k ≤ length xs
-  row-in e = let r : k ≡ rowLength h = e ∙ ap rowLength d in omega (arith, i .n-in .1, i .t-in .1)
+  row-in e = let r : k ≡ rowLength h = e ∙ ap rowLength d in omega (arith, r, l, v-room h i, row-room h i)
 
   pub row-fits : k ≡ rowLength g → Fits w64 (1 + k)
-  row-fits e = let r : k ≡ rowLength h = e ∙ ap rowLength d in omega (arith, i .n-in .1, i .t-in .1)
+  row-fits e = let r : k ≡ rowLength h = e ∙ ap rowLength d in omega (arith, r, l, v-room h i, row-room h i)
 
   pub row-prefix : k ≡ rowLength g → 1 + k ≡ length (take (1 + k) xs)
   row-prefix e = sym (length-take-le (1 + k) xs (row-in e))
 
   pub triple-in : k ≡ tripleLength g → 1 + k ≤ length xs
-  triple-in e = let r : k ≡ tripleLength h = e ∙ ap tripleLength d in omega (arith, i .n-in .1, i .t-in .1)
+  triple-in e = let r : k ≡ tripleLength h = e ∙ ap tripleLength d in omega (arith, r, l, v-room h i, row-room h i)
 
   pub triple-fits : k ≡ tripleLength g → Fits w64 (1 + k)
-  triple-fits e = let r : k ≡ tripleLength h = e ∙ ap tripleLength d in omega (arith, i .n-in .1, i .t-in .1)
+  triple-fits e = let r : k ≡ tripleLength h = e ∙ ap tripleLength d in omega (arith, r, l, v-room h i, row-room h i)
 
   pub triple-prefix : k ≡ tripleLength g → 1 + k ≡ length (take (1 + k) xs)
   triple-prefix e = sym (length-take-le (1 + k) xs (triple-in e))
 
   pub message-in : k ≡ vLength g → k ≤ length xs
-  message-in e = let r : k ≡ vLength h = e ∙ ap vLength d in omega (arith, i .n-in .1, i .t-in .1)
+  message-in e = let r : k ≡ vLength h = e ∙ ap vLength d in omega (arith, r, l, v-room h i, row-room h i)
 
   pub message-prefix : k ≡ vLength g → k ≡ length (take k xs)
   message-prefix e = sym (length-take-le k xs (message-in e))
@@ -144,7 +146,7 @@ module _ (g h : Shape) (i : InStreet h) (d : g ≡ h) (xs : List ℕ) (l : lengt
   message-length e = sym (message-prefix e) ∙ e
 
   pub both-in : k ≡ masksLength g → k ≤ length xs
-  both-in e = let r : k ≡ masksLength h = e ∙ ap masksLength d in omega (arith, i .n-in .1, i .t-in .1)
+  both-in e = let r : k ≡ masksLength h = e ∙ ap masksLength d in omega (arith, r, l, v-room h i, row-room h i)
 
   pub both-prefix : k ≡ masksLength g → k ≡ length (take k xs)
   both-prefix e = sym (length-take-le k xs (both-in e))
@@ -166,19 +168,14 @@ unfolding outcome
 settled-same zero new old = refl
 settled-same (suc k) new old = refl
 
-refusal-of : (x : ℕ) (new old : Session) → answer x 0 new old .refusal ≡ x
-unfolding outcome
-refusal-of zero new old = refl
-refusal-of (suc k) new old = refl
-
 masks-end : (s : Session) (b : Bool) (k triple : ℕ) (store : List ℕ) (x : ℕ) (new : Session) (t t' : List ℕ) → (x ≡ 0 → t ≡ t')
     → (let a = answer x 0 new s in
     _≡_ {A = After}
-    (record { given = record { state = held (settled s a .session) b k triple; refusal = settled s a .refusal; value = 0; told = length (outcome {A = List ℕ} (a .refusal) t []) }; store = store; told = outcome (a .refusal) t [] })
-    (outcome x (record { given = telling (answering (held s b k triple) a) (length t'); store = store; told = t' }) (leaving (answering (held s b k triple) a) store)))
+    (record { given = record { state = held (settled s a .session) b k triple; refusal = settled s a .refusal; value = 0 }; store = store; told = outcome (a .refusal) t [] })
+    (outcome x (record { given = answering (held s b k triple) a; store = store; told = t' }) (leaving (answering (held s b k triple) a) store)))
 unfolding outcome
 masks-end s b k triple store zero new t t' f =
-    ap (λ (l : List ℕ). record { given = record { state = held new b k triple; refusal = 0; value = 0; told = length l }; store = store; told = l }) (f refl)
+    ap (λ (l : List ℕ). record { given = record { state = held new b k triple; refusal = 0; value = 0 }; store = store; told = l }) (f refl)
 masks-end s b k triple store (suc j) new t t' f = refl
 
 module _ (s : Session) (started : Bool) (keptRow triple : ℕ) (letter : ℕ) (xs l ms : List ℕ) (a : Answer) where
@@ -197,7 +194,6 @@ module _ (s : Session) (triple : ℕ) (o : Order) (xs line store : List ℕ) (a 
       record {
         says = λ b k n.
             call-changed s b k triple (o .letter) xs store' ms a x new (rw e p) (rw e q) (ap (settled s) r ∙ settled-same x new s) ∙ f b k;
-        first-in = λ z. absurd (no88 (rw (sym e ∙ z) at p));
         post-in = λ z. absurd (no88 (rw (sym e ∙ z) at p));
       }
     where
@@ -228,15 +224,14 @@ module _ (s : Session) (triple : ℕ) (o : Order) (xs line store : List ℕ) (a 
   change-sum e q r = plain 76 _ _ e refl refl q (λ b k. rw (e, r))
 
   pub change-finish : (first : ℕ) → first ≡ getD xs 0 0 → o .letter ≡ 70
-      → settled s a ≡ pairAnswer s (rowsOf s store) first (recordIf (eqb triple first) (recordAt masksAAt (shapeOf s) store)) (recordIf (eqb triple first) (recordAt masksBAt (shapeOf s) store))
-      → store' ≡ withRows s (pairRows s (rowsOf s store) first (recordIf (eqb triple first) (recordAt masksAAt (shapeOf s) store)) (recordIf (eqb triple first) (recordAt masksBAt (shapeOf s) store))) store
+      → settled s a ≡ pairAnswer s (rowsOf s store) first (recordFor masksAAt (shapeOf s) triple first store) (recordFor masksBAt (shapeOf s) triple first store)
+      → store' ≡ withRows s (pairRows s (rowsOf s store) first (recordFor masksAAt (shapeOf s) triple first store) (recordFor masksBAt (shapeOf s) triple first store)) store
       → Done
   unfolding changing finishing
   change-finish first w e q r =
       record {
         says = λ b k n.
             call-changed s b k triple (o .letter) xs store' ms a _ _ (rw e) (rw e) q ∙ rw (e, r, ← w);
-        first-in = λ z. absurd (let y : 70 ≡ 88 = sym e ∙ z in omega arith);
         post-in = λ z. absurd (let y : 70 ≡ 88 = sym e ∙ z in omega arith);
       }
 
@@ -247,7 +242,6 @@ module _ (s : Session) (triple : ℕ) (o : Order) (xs line store : List ℕ) (a 
       let e : o .letter ≡ 83 = only-start (o .letter) h a₁ b₁ c₁ d₁ e₁ f₁ in
       record {
         says = λ b k n. rw (e, q, r) (ap (λ (v : _). leaving v store) (start-begun (held s b k triple) (n e) line));
-        first-in = λ z. absurd (e₁ z);
         post-in = λ z. absurd (e₁ z);
       }
 
@@ -262,8 +256,7 @@ module _ (s : Session) (triple : ℕ) (o : Order) (xs line store : List ℕ) (a 
             rw (e, r)
             (ap (λ (z : Answer). changed (held s b k triple) 88 xs z store ms) (m .answer-is)
             ∙ masks-end s b k triple store x new _ _
-            (λ z. ap (λ (l : List ℕ). Lines.text (Lines.masks (getD xs 2 0) (s .post) l)) (m .made (ap (λ (y : Answer). y .refusal) (m .answer-is) ∙ refusal-of x new s ∙ z))));
-        first-in = λ z. m .first-in;
+            (λ z. ap (λ (l : List ℕ). Lines.text (Lines.masks (getD xs 2 0) (s .post) l)) (m .made (ap (λ (y : Answer). y .refusal) (m .answer-is) ∙ answer-refusal x 0 new s ∙ z))));
         post-in = λ z. m .post-in;
       }
 

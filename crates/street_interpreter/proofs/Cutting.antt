@@ -12,7 +12,8 @@ use Rattle.street_reading.specs.Starting.{isStart}
 use Rattle.street_states.specs.declared.State.{State}
 use Rattle.street_states.specs.States.{Stepped}
 use Rattle.street_states.specs.States.{refusing, leaving}
-use Rattle.street_startlines.specs.Steps.{longestLine, startStep, earlyStep}
+use Rattle.street_store.specs.Sizes.{longestLine}
+use Rattle.street_startlines.specs.Steps.{startStep, earlyStep}
 use Rattle.street_interpreter.specs.Stepping.{lateStep, step}
 
 module _ (st : State) (store s : List ℕ) where

@@ -9,7 +9,7 @@ use borrow.Author.Tests.{le-ltb, eq-eqb, ne-eqb}
 use lib.ListN.{length, getD, take, length-drop}
 use lib.Seq.{take-at}
 use lib.Dec.{eqb, ltb}
-use Rattle.shape.specs.Bounds.{fewestPosts, mostPosts}
+use Rattle.shape.specs.Bounds.{fewestPosts, mostPosts, mostPoints}
 use Rattle.shape.specs.Lengths.{vLength, masksLength}
 use Rattle.refusal.specs.Refusal.{outcome}
 use Rattle.refusal.specs.Conditions.{outside, anyBeyond}
@@ -26,13 +26,21 @@ use Rattle.session.specs.Sessions.{shapeOf}
 use Rattle.street_store.specs.Sizes.{InStreet}
 use Rattle.street_postlines.specs.Steps.{heardRefusal, heard}
 
--- ---- 1, 2 and 5 hold nothing against the line's session and list
+-- ---- 1, 2, 4 and 5 hold nothing against the line's session and list
 pub no-posts : (s : Session) (line out : List ℕ) → InStreet (shapeOf s) → length out ≡ masksLength (shapeOf s)
-    → readRefusal (s .n) (s .t) line out ≡ heardRefusal s line
+    → readRefusal (s .n) (s .t) (s .points) line out ≡ heardRefusal s line
 unfolding lineRefusal heardRefusal
 no-posts s line out i e =
-    let m : s .n ≤ mostPosts = omega (arith, i .n-in .1) in
-    rw (le-ltb (s .n) fewestPosts (i .n-in .0), le-ltb mostPosts (s .n) m, le-ltb (s .t) 1 (i .t-in .0), le-ltb (s .n - 1) (s .t) (i .t-in .1), eq-eqb (length out) (masksLength (shapeOf s)) e)
+    let v = i .valid in
+    rw (
+      le-ltb (s .n) fewestPosts (v .n-in .0),
+      le-ltb mostPosts (s .n) (v .n-in .1),
+      le-ltb (s .t) 1 (v .t-in .0),
+      le-ltb (s .n - 1) (s .t) (v .t-in .1),
+      le-ltb (s .points) 1 (v .points-in .0),
+      le-ltb mostPoints (s .points) (v .points-in .1),
+      eq-eqb (length out) (masksLength (shapeOf s)) e,
+    )
 
 -- ---- what the reader says
 pub line-refusal : (x : ℕ) (m : Message) → lineAs x m .refusal ≡ x
@@ -57,15 +65,15 @@ skip true x e q = cc
 skip false x e q = q
 
 module _ (s : Session) (line out : List ℕ) (i : InStreet (shapeOf s)) (l : length out ≡ masksLength (shapeOf s)) (said : Line)
-    (e : said ≡ lineAs (readRefusal (s .n) (s .t) line out) (heard s line)) where
-  same : readRefusal (s .n) (s .t) line out ≡ heardRefusal s line
+    (e : said ≡ lineAs (readRefusal (s .n) (s .t) (s .points) line out) (heard s line)) where
+  same : readRefusal (s .n) (s .t) (s .points) line out ≡ heardRefusal s line
   same = no-posts s line out i l
 
   pub refusal-is : said .refusal ≡ heardRefusal s line
   refusal-is = ap (λ (v : Line). v .refusal) e ∙ line-refusal _ (heard s line) ∙ same
 
-  module _ (out' : List ℕ) (z : said .refusal ≡ 0) (f : out' ≡ listAs (readRefusal (s .n) (s .t) line out) (heard s line) out) where
-    none : readRefusal (s .n) (s .t) line out ≡ 0
+  module _ (out' : List ℕ) (z : said .refusal ≡ 0) (f : out' ≡ listAs (readRefusal (s .n) (s .t) (s .points) line out) (heard s line) out) where
+    none : readRefusal (s .n) (s .t) (s .points) line out ≡ 0
     none = same ∙ sym refusal-is ∙ z
 
     line-is : said ≡ lineAs 0 (heard s line)

@@ -14,8 +14,9 @@ use Rattle.forms.specs.Forms.{message, lineTests}
 use Rattle.lines.specs.declared.Line.{Line}
 use Rattle.lines.specs.Reading.{readRefusal, lineAs, listAs}
 use Rattle.session.specs.declared.Session.{Session}
-use Rattle.session.specs.Sessions.{shapeOf, sessionOf}
+use Rattle.session.specs.Sessions.{shapeOf, noPoints, sessionOf}
 use Rattle.street_store.specs.Sizes.{InStreet, numbersRoom}
+use Rattle.street_store.proofs.Keeping.{v-room}
 use Rattle.street_states.specs.declared.State.{State}
 use Rattle.street_states.specs.States.{After, refusing, leaving, unless}
 use Rattle.street_postlines.specs.Steps.{heardRefusal, heard, dealing, keepStep, keepHalvesStep, saying, hearStep}
@@ -25,14 +26,14 @@ use Rattle.street_interpreter.specs.Orders.{changing, looking, acting, s
 use Rattle.street_interpreter.proofs.Hearing as hearing
 
 pub masks-count : (g : Shape) (xs : List ℕ) (k : ℕ) → InStreet g → length xs ≡ numbersRoom → k ≡ masksLength g → k ≤ length xs
-masks-count g xs k i l e = omega (arith, i .n-in .1, i .t-in .1)
+masks-count g xs k i l e = omega (arith, l, e, v-room g i)
 
 pub masks-front : (g : Shape) (xs : List ℕ) (k : ℕ) → InStreet g → length xs ≡ numbersRoom → k ≡ masksLength g → k ≡ length (take k xs)
 masks-front g xs k i l e = sym (length-take-le k xs (masks-count g xs k i l e))
 
 pub heard-is : (g : Shape) (s xs part : List ℕ) (k : ℕ) (said : Line) → InStreet g → length xs ≡ numbersRoom → k ≡ masksLength g
-    → said ≡ lineAs (readRefusal (g .n) (g .t) s (take k xs)) (message (vLength g) s)
-    → part ≡ listAs (readRefusal (g .n) (g .t) s (take k xs)) (message (vLength g) s) (take k xs) → length part ≡ length (take k xs)
+    → said ≡ lineAs (readRefusal (g .n) (g .t) (g .points) s (take k xs)) (message (vLength g) s)
+    → part ≡ listAs (readRefusal (g .n) (g .t) (g .points) s (take k xs)) (message (vLength g) s) (take k xs) → length part ≡ length (take k xs)
     → Heard g s (saidOrder said) (part ++ drop k xs)
 heard-is g s xs part k said i l e p q m =
     let n : length (take k xs) ≡ masksLength g = sym (masks-front g xs k i l e) ∙ e in
@@ -72,10 +73,10 @@ refused-acts st store xs s x = refl
 -- ---- whatever the state
 module _ (g : Shape) (i : InStreet g) (s xs : List ℕ) (o : Order) (h : Heard g s o xs) where
   abbrev own : Session
-  own = sessionOf (g .n) (g .t) 0 0
+  own = sessionOf (g .n) (g .t) 0 (g .points) noPoints
 
   abbrev x₀ : ℕ
-  x₀ = readRefusal (g .n) (g .t) s (h .before)
+  x₀ = readRefusal (g .n) (g .t) (g .points) s (h .before)
 
   abbrev m₀ : Message
   m₀ = message (vLength g) s

@@ -5,26 +5,27 @@ use mathlib.Core.List.{List}
 use mathlib.Core.Bool.{Bool, true, false, cond}
 use lib.ListN.{length, getD, take-append-drop}
 use lib.Dec.{eqb, ltb}
+use Rattle.shape.specs.declared.Points.{Points}
 use Rattle.shape.specs.Lengths.{rowsLength}
 use Rattle.refusal.specs.Refusal.{first, outcome}
 use Rattle.forms.specs.Forms.{isLetter}
 use Rattle.session.specs.declared.Session.{Session}
-use Rattle.session.specs.Sessions.{shapeOf, answer, sessionOf, maskedTriple}
+use Rattle.session.specs.Sessions.{shapeOf, answer, asMany, sessionOf, maskedTriple}
 use Rattle.product_masks.specs.Masks.{masksRefusal, maskNumbersOf}
 use Rattle.street_reading.specs.Numbers.{numbers}
 use Rattle.street_reading.specs.declared.StartForm.{StartForm}
 use Rattle.street_reading.specs.declared.StartForm.the-variants.{Settings, Wrong}
-use Rattle.street_reading.specs.Starting.{isStart, startForm, startOf}
+use Rattle.street_reading.specs.Starting.{isStart, startSaid}
 use Rattle.street_states.specs.declared.State.{State}
-use Rattle.street_states.specs.States.{Stepped}
-use Rattle.street_states.specs.States.{After, begunWith, refusing, answering, telling, leaving, unless, sessionRows, calling}
-use Rattle.street_startlines.specs.Steps.{longestLine, startTests, settingsStep, startStep, earlyStep}
-use Rattle.street_loadlines.specs.Steps.{loading, loadStep, loadingTriple, loadTripleStep}
+use Rattle.street_states.specs.States.{Stepped, After, begunWith, refusing, answering, leaving, unless, sessionRows, calling}
+use Rattle.street_store.specs.Sizes.{longestLine}
+use Rattle.street_startlines.specs.Steps.{startTests, settingsStep, startStep, earlyStep}
+use Rattle.street_rowlines.specs.Loads.{loading, loadStep, loadingTriple, loadTripleStep}
 use Rattle.street_rowlines.specs.Steps.{adding, linearStep, openStep}
 use Rattle.street_postlines.specs.Steps.{heard, keepStep, keepMasksStep, keepHalvesStep, hearStep}
-use Rattle.street_masklines.specs.Steps.{maskLine, noMasks, masking, maskingOf, maskStep}
+use Rattle.street_finishlines.specs.Masks.{maskLine, noMasks, masking, maskingOf, maskStep}
 use Rattle.street_finishlines.specs.Steps.{finishing, finishStep}
-use Rattle.street_interpreter.specs.Stepping.{lettersStep, lateStep, step, stepRefusal, checkedStep}
+use Rattle.street_interpreter.specs.Stepping.{lettersStep, lateStep, step}
 use Rattle.street_interpreter.specs.Claims.{Unchanged, Refused, StepKeeps}
 
 module _ (st : State) (store : List ℕ) where
@@ -32,7 +33,7 @@ module _ (st : State) (store : List ℕ) where
   Kept a = Refused a → Unchanged st store a
 
   same : (x : ℕ) → Unchanged st store (leaving (refusing st x) store)
-  same x = record { state = refl; store-kept = refl; value = refl; told = refl; told-none = refl }
+  same x = record { state = refl; store-kept = refl; value = refl; told = refl }
 
   kept-unless : (x : ℕ) (new : After) → Kept new → Kept (unless x st store new)
   unfolding outcome
@@ -49,7 +50,7 @@ module _ (st : State) (store : List ℕ) where
   unfolding outcome
   kept-call zero value new rows n = absurd (n refl)
   kept-call (suc x) value new rows n =
-      record { state = refl; store-kept = take-append-drop (rowsLength (shapeOf (st .session))) store; value = refl; told = refl; told-none = refl }
+      record { state = refl; store-kept = take-append-drop (rowsLength (shapeOf (st .session))) store; value = refl; told = refl }
 
   kept-answer : (x value : ℕ) (new : Session) → Kept (leaving (answering st (answer x value new (st .session))) store)
   unfolding outcome
@@ -57,7 +58,7 @@ module _ (st : State) (store : List ℕ) where
   kept-answer (suc x) value new n = same (suc x)
 
   kept-told : (x value : ℕ) (new : Session) (line : List ℕ)
-      → (let v = answering st (answer x value new (st .session)) in Kept (outcome x (record { given = telling v (length line); store = store; told = line }) (leaving v store)))
+      → (let v = answering st (answer x value new (st .session)) in Kept (outcome x (record { given = v; store = store; told = line }) (leaving v store)))
   unfolding outcome
   kept-told zero value new line n = absurd (n refl)
   kept-told (suc x) value new line n = same (suc x)
@@ -117,7 +118,7 @@ module _ (st : State) (store : List ℕ) where
     unfolding lateStep
     kept-late = kept-if (ltb longestLine (length s)) _ _ (λ n. same 10) (kept-if (eqb (getD s 0 0) 88) _ _ kept-mask kept-letters)
 
-    -- ---- before an `S` is accepted
+    -- ---- before a start line is accepted
     abbrev KeptEarly : Stepped → Type 0
     KeptEarly v = Kept (leaving v store)
 
@@ -131,20 +132,18 @@ module _ (st : State) (store : List ℕ) where
     kept-begin (suc x) new n = same (suc x)
 
     kept-settings : (v : StartForm) → KeptEarly (settingsStep st v)
-    kept-settings (Settings n t post point) = kept-begin (first (startTests n t post point)) (sessionOf n t post point)
+    kept-settings (Settings n t post points first₀ second) =
+        let w : Points = record { first = first₀; second = second } in
+        kept-begin (first (startTests n t post points w)) (sessionOf n t post points (asMany points w))
     kept-settings Wrong = λ n. same 10
 
     kept-early : KeptEarly (earlyStep st s)
     unfolding earlyStep startStep
-    kept-early = early-if (isStart s) _ _ (early-if (ltb longestLine (length s)) _ _ (λ n. same 10) (kept-settings (startOf (startForm s)))) (λ n. same 1)
+    kept-early = early-if (isStart s) _ _ (early-if (ltb longestLine (length s)) _ _ (λ n. same 10) (kept-settings (startSaid s))) (λ n. same 1)
 
     kept-step : Kept (step st store s)
     unfolding step
     kept-step = kept-if (st .started) _ _ kept-late kept-early
 
-    kept-checked : (room : ℕ) → Kept (checkedStep st store s room)
-    unfolding checkedStep
-    kept-checked room = kept-unless (stepRefusal st store room) _ kept-step
-
 pub step-keeps : StepKeeps
-step-keeps = record { stepped = λ st store line. kept-step st store line; checked = λ st store line room. kept-checked st store line room }
+step-keeps st store line = kept-step st store line

@@ -14,22 +14,23 @@ use Rattle.shape.specs.Lengths.{rowLength, tripleLength}
 use Rattle.refusal.specs.Refusal.{outcome}
 use Rattle.refusal.proofs.Endings.{refused, accepted}
 use Rattle.session.specs.Sessions.{shapeOf}
-use Rattle.street_store.specs.Sizes.{InStreet, numbersRoom}
+use Rattle.street_store.specs.Sizes.{InStreet, numbersRoom, longestLine}
+use Rattle.street_store.proofs.Keeping.{row-room}
 use Rattle.street_reading.specs.Numbers.{numbers, elementsRefusal, readRefusal}
 use Rattle.street_reading.proofs.Scanned.{read-numbers}
 use Rattle.street_states.specs.declared.State.{State}
 use Rattle.street_states.specs.States.{After, refusing, leaving, unless}
-use Rattle.street_startlines.specs.Steps.{longestLine, earlyStep}
-use Rattle.street_loadlines.specs.Steps.{loading, loadStep, loadingTriple, loadTripleStep}
+use Rattle.street_startlines.specs.Steps.{earlyStep}
+use Rattle.street_rowlines.specs.Loads.{loading, loadStep, loadingTriple, loadTripleStep}
 use Rattle.street_rowlines.specs.Steps.{adding, linearStep, opening, openStep}
-use Rattle.street_masklines.specs.Steps.{maskingOf, maskStep}
+use Rattle.street_finishlines.specs.Masks.{maskingOf, maskStep}
 use Rattle.street_finishlines.specs.Steps.{finishing, finishStep}
 use Rattle.street_reading.specs.Starting.{isStart}
 use Rattle.street_interpreter.specs.declared.orders.Order.{Order}
 use Rattle.street_interpreter.specs.Stepping.{lettersStep, lateStep, step}
 use Rattle.street_interpreter.specs.Orders.{refusedOrder, orderOf, earlyOrder, isChange, changing, looking, acting, Numbered, isKept, Leads, lettered, lated, Accepted, Reads}
 
--- ---- before an `S`
+-- ---- before a start line
 pub early-start : (s : List ℕ) (b : Bool) (o : Order) → b ≡ isStart s → b ≡ true → o ≡ orderOf 83 0 → o ≡ earlyOrder s
 early-start s b o e t q = q ∙ rw (← e, t)
 
@@ -62,10 +63,10 @@ numbered-is letter lasts s xs part k r o h e f m q =
 
 -- ---- room for them
 pub row-count : (g : Shape) (xs : List ℕ) (k : ℕ) → InStreet g → length xs ≡ numbersRoom → k ≡ rowLength g → 1 + k ≤ length xs
-row-count g xs k i l e = omega (arith, i .n-in .1, i .t-in .1)
+row-count g xs k i l e = omega (arith, l, e, row-room g i)
 
 pub triple-count : (g : Shape) (xs : List ℕ) (k : ℕ) → InStreet g → length xs ≡ numbersRoom → k ≡ tripleLength g → 1 + k ≤ length xs
-triple-count g xs k i l e = omega (arith, i .n-in .1, i .t-in .1)
+triple-count g xs k i l e = omega (arith, l, e, row-room g i)
 
 -- ---- a line that is refused when it is read
 refused-acts : (st : State) (store xs s : List ℕ) (x : ℕ) → acting st store (refusedOrder x) xs s ≡ leaving (refusing st x) store
@@ -180,7 +181,7 @@ module _ (g : Shape) (s xs : List ℕ) (o : Order) where
     unfolding lateStep
     leads-late d = record { says = λ st store e. d .says st store e ∙ rw (le-ltb longestLine (length s) h); post-in = d .post-in; no-start = d .no-start }
 
-  -- ---- before and after an `S`
+  -- ---- before and after a start line
   pub accepted-street : (started : Bool) → Accepted started g → started ≡ true → InStreet g
   accepted-street started a t = a .in-range t
 

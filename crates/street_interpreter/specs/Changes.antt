@@ -5,7 +5,6 @@ use mathlib.Core.List.{List, []}
 use mathlib.Core.Bool.{Bool, true, false, cond}
 use lib.ListN.{length, getD, take}
 use lib.Dec.{eqb}
-use Rattle.shape.specs.Bounds.{lastTriple}
 use Rattle.shape.specs.Lengths.{masksLength}
 use Rattle.refusal.specs.Refusal.{outcome}
 use Rattle.forms.specs.Lines as Lines
@@ -14,7 +13,7 @@ use Rattle.session.specs.declared.Answer.{Answer}
 use Rattle.session.specs.Sessions.{shapeOf, holding}
 use Rattle.opening.specs.Opening.{openAnswer}
 use Rattle.street_store.specs.Sizes.{InStreet, streetPosts, openingsAt}
-use Rattle.street_store.specs.Records.{recordAt, recordIf}
+use Rattle.street_store.specs.Records.{recordFor}
 use Rattle.street_states.specs.declared.State.{State}
 use Rattle.street_states.specs.States.{After, rowsOf, settled}
 use Rattle.street_interpreter.specs.declared.orders.Order.{Order}
@@ -29,7 +28,7 @@ abbrev pub toldBy : ℕ → ℕ → Session → List ℕ → List ℕ → List �
 toldBy letter refusal s xs ms =
     cond (eqb letter 88) (outcome refusal (Lines.text (Lines.masks (getD xs 2 0) (s .post) (take (masksLength (shapeOf s)) ms))) []) []
 
--- What a change leaves: where it is refused the session stays; an `S` that is not starts the program.
+-- What a change leaves: where it is refused the session stays; a start line that is not starts the program.
 unfoldable pub changed : State → ℕ → List ℕ → Answer → List ℕ → List ℕ → After
 changed st letter xs a store ms =
     let b = settled (st .session) a in
@@ -40,7 +39,6 @@ changed st letter xs a store ms =
             state = held (b .session) (cond (eqb letter 83) (eqb (b .refusal) 0) (st .started)) (st .kept) (st .triple);
             refusal = b .refusal;
             value = 0;
-            told = length told;
           };
       store = store;
       told = told;
@@ -50,12 +48,12 @@ changed st letter xs a store ms =
 abbrev pub looked : State → Outcome → List ℕ → After
 looked st v store =
     record {
-      given = record { state = held (st .session) (st .started) (v .kept) (v .triple); refusal = v .refusal; value = v .value; told = 0 };
+      given = record { state = held (st .session) (st .started) (v .kept) (v .triple); refusal = v .refusal; value = v .value };
       store = store;
       told = [];
     }
 
--- An order that may be carried out: the session is one of the street's, but for an `S`; the post of an `O` or an `M` is one of the station's.
+-- An order that may be carried out: the session is one of the street's, but for a start line; the post of an `O` or an `M` is one of the station's.
 pub record Able (s : Session) (o : Order) : Type 0 where
   pub street : (o .letter ≡ 83 → ⊥) → (o .letter ≡ 0 → ⊥) → InStreet (shapeOf s)
   pub post-in : isKept (o .letter) ≡ true → (1 ≤ o .post) × (o .post ≤ s .n)
@@ -63,7 +61,6 @@ pub record Able (s : Session) (o : Order) : Type 0 where
 pub record Changed (s : Session) (triple : ℕ) (o : Order) (xs line store : List ℕ) (a : Answer) (store' ms : List ℕ) : Type 0 where
   pub says : (started : Bool) (kept : ℕ) → (o .letter ≡ 83 → started ≡ false)
       → changed (held s started kept triple) (o .letter) xs a store' ms ≡ changing (held s started kept triple) store o xs line
-  pub first-in : o .letter ≡ 88 → a .refusal ≡ 0 → getD xs 2 0 ≤ lastTriple
   pub post-in : o .letter ≡ 88 → a .refusal ≡ 0 → s .post ≤ streetPosts
 
 pub record Looked (s : Session) (kept triple : ℕ) (o : Order) (xs store : List ℕ) (v : Outcome) (store' : List ℕ) : Type 0 where
@@ -72,6 +69,6 @@ pub record Looked (s : Session) (kept triple : ℕ) (o : Order) (xs store : List
 -- A `G`: the row's number, and nothing else.
 pub record Opened (s : Session) (kept triple : ℕ) (store : List ℕ) (row : ℕ) (v : Outcome) : Type 0 where
   pub says : holding (v .refusal) (v .value) s
-      ≡ openAnswer s (rowsOf s store) row (recordIf (eqb kept row) (recordAt openingsAt (shapeOf s) store))
+      ≡ openAnswer s (rowsOf s store) row (recordFor openingsAt (shapeOf s) kept row store)
   pub kept-same : v .kept ≡ kept
   pub triple-same : v .triple ≡ triple

@@ -4,7 +4,7 @@ use mathlib.Core.Path.{_≡_}
 use mathlib.Core.List.{List, []}
 use Rattle.street_states.specs.declared.State.{State}
 use Rattle.street_states.specs.States.{After}
-use Rattle.street_interpreter.specs.Stepping.{step, checkedStep}
+use Rattle.street_interpreter.specs.Stepping.{step}
 
 -- The state with its session and the store with its rows and records are as they were; the number is 0; nothing is printed behind the answer.
 pub record Unchanged (st : State) (store : List ℕ) (a : After) : Type 0 where
@@ -12,13 +12,10 @@ pub record Unchanged (st : State) (store : List ℕ) (a : After) : Type 0 where
   pub store-kept : a .store ≡ store
   pub value : a .given .value ≡ 0
   pub told : a .told ≡ []
-  pub told-none : a .given .told ≡ 0
 
 abbrev pub Refused : After → Type 0
 Refused a = a .given .refusal ≡ 0 → ⊥
 
 -- Whatever the state, the store and the line.
-pub record StepKeeps : Type 0 where
-  pub stepped : (st : State) (store line : List ℕ) → Refused (step st store line) → Unchanged st store (step st store line)
-  pub checked : (st : State) (store line : List ℕ) (room : ℕ) → Refused (checkedStep st store line room)
-      → Unchanged st store (checkedStep st store line room)
+abbrev pub StepKeeps : Type 0
+StepKeeps = (st : State) (store line : List ℕ) → Refused (step st store line) → Unchanged st store (step st store line)

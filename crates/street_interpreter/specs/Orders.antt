@@ -19,9 +19,9 @@ use Rattle.street_store.specs.Sizes.{InStreet}
 use Rattle.street_states.specs.declared.State.{State}
 use Rattle.street_states.specs.States.{After, refusing, leaving}
 use Rattle.street_startlines.specs.Steps.{startStep}
-use Rattle.street_loadlines.specs.Steps.{loading, loadingTriple}
+use Rattle.street_rowlines.specs.Loads.{loading, loadingTriple}
 use Rattle.street_rowlines.specs.Steps.{adding, opening}
-use Rattle.street_masklines.specs.Steps.{maskingOf, maskStep}
+use Rattle.street_finishlines.specs.Masks.{maskingOf, maskStep}
 use Rattle.street_finishlines.specs.Steps.{finishing}
 use Rattle.street_postlines.specs.Steps.{dealing, keepStep, keepHalvesStep}
 use Rattle.street_interpreter.specs.declared.orders.Order.{Order}
@@ -33,6 +33,7 @@ refusedOrder x = record { letter = 0; refusal = x; row = 0; post = 0 }
 abbrev pub orderOf : ℕ → ℕ → Order
 orderOf letter x = outcome x (record { letter = letter; refusal = 0; row = 0; post = 0 }) (refusedOrder x)
 
+-- 83 stands for a start line of either letter.
 abbrev pub earlyOrder : List ℕ → Order
 earlyOrder s = cond (isStart s) (orderOf 83 0) (refusedOrder 1)
 
@@ -77,8 +78,8 @@ pub record Numbered (letter : ℕ) (lasts : List ℕ) (k : ℕ) (s : List ℕ) (
 pub record Heard (g : Shape) (s : List ℕ) (o : Order) (xs : List ℕ) : Type 0 where
   pub before : List ℕ
   pub room : length before ≡ masksLength g
-  pub order-is : o ≡ saidOrder (lineAs (readRefusal (g .n) (g .t) s before) (message (vLength g) s))
-  pub numbers-are : take (masksLength g) xs ≡ listAs (readRefusal (g .n) (g .t) s before) (message (vLength g) s) before
+  pub order-is : o ≡ saidOrder (lineAs (readRefusal (g .n) (g .t) (g .points) s before) (message (vLength g) s))
+  pub numbers-are : take (masksLength g) xs ≡ listAs (readRefusal (g .n) (g .t) (g .points) s before) (message (vLength g) s) before
 
 -- The post of an `O` or an `M` is one of the station's.
 abbrev pub isKept : ℕ → Bool

@@ -2,24 +2,25 @@
 use Prim.Native.Nat.{ℕ}
 use mathlib.Core.Path.{_≡_}
 use mathlib.Core.List.{List, [], _∷_}
-use mathlib.Core.Bool.{true, not, cond}
+use mathlib.Core.Bool.{true, cond}
 use lib.ListN.{length, getD}
 use lib.Dec.{eqb, ltb}
 use Rattle.refusal.specs.Refusal.{_when_, first, orElse}
-use Rattle.refusal.specs.Conditions.{wrongLength, postsTests}
+use Rattle.refusal.specs.Conditions.{wrongLength, stationTests}
 use Rattle.forms.specs.Forms.{isLetter}
 use Rattle.session.specs.Sessions.{shapeOf}
-use Rattle.street_store.specs.Sizes.{streetPosts, storeRoom, InStreet}
+use Rattle.street_store.specs.Sizes.{streetPosts, storeRoom, InStreet, longestLine}
 use Rattle.street_states.specs.declared.State.{State}
-use Rattle.street_states.specs.States.{After, refusing, leaving, unless}
-use Rattle.street_startlines.specs.Steps.{longestLine, earlyStep}
-use Rattle.street_loadlines.specs.Steps.{loadStep, loadTripleStep}
+use Rattle.street_states.specs.States.{After, refusing, leaving}
+use Rattle.street_startlines.specs.Steps.{earlyStep}
+use Rattle.street_rowlines.specs.Loads.{loadStep, loadTripleStep}
 use Rattle.street_rowlines.specs.Steps.{linearStep, openStep}
-use Rattle.street_masklines.specs.Steps.{toldRoom, maskStep}
+use Rattle.street_finishlines.specs.Masks.{maskStep}
 use Rattle.street_finishlines.specs.Steps.{finishStep}
 use Rattle.street_postlines.specs.Steps.{hearStep}
 
--- By the letter, where a line prints nothing but its answer: "a second `S` then gets 10, as does any other letter".
+-- By the letter, where a line prints nothing but its answer: "a second `S` then gets 10, as does any other letter"; document 02, (ix): "a second start
+-- line of either letter gets 10".
 unfoldable pub lettersStep : State → List ℕ → List ℕ → After
 lettersStep st store s =
     let letter = getD s 0 0 in
@@ -46,16 +47,11 @@ pub record Ready (st : State) (store : List ℕ) : Type 0 where
   pub store-room : length store ≡ storeRoom
   pub in-range : st .started ≡ true → InStreet (shapeOf (st .session))
 
--- Before the line is looked at: 1 and 2 of a session that no `S` can have made, 5 of the store, which has room for the largest.
-abbrev pub postsRefusal : State → ℕ
-postsRefusal st = cond (st .started) (first (1 when ltb streetPosts (st .session .n) ∷ postsTests (st .session .n) (st .session .t))) 0
+-- Before the line is looked at: 1, 2 and 4 of a session that no start line can have made, 5 of the store, which has room for the largest.
+abbrev pub stationRefusal : State → ℕ
+stationRefusal st =
+    let s = st .session in
+    cond (st .started) (first (1 when ltb streetPosts (s .n) ∷ stationTests (s .n) (s .t) (s .points))) 0
 
 unfoldable pub roomRefusal : State → List ℕ → ℕ
-roomRefusal st store = orElse (postsRefusal st) (first (5 when wrongLength store storeRoom ∷ []))
-
--- 5 too of the room for what an `X` prints.
-unfoldable pub stepRefusal : State → List ℕ → ℕ → ℕ
-stepRefusal st store room = orElse (roomRefusal st store) (first (5 when not (eqb room toldRoom) ∷ []))
-
-unfoldable pub checkedStep : State → List ℕ → List ℕ → ℕ → After
-checkedStep st store s room = unless (stepRefusal st store room) st store (step st store s)
+roomRefusal st store = orElse (stationRefusal st) (first (5 when wrongLength store storeRoom ∷ []))

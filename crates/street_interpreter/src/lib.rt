@@ -11,7 +11,7 @@ ghost use mathlib.Core.Bool.{true, false};
 ghost use lib.ListN.{length, replicate};
 ghost use Rattle.session.specs.Sessions.{shapeOf};
 ghost use Rattle.street_store.specs.Sizes.{InStreet, storeRoom, numbersRoom, recordRoom, mostMasks};
-ghost use Rattle.street_interpreter.specs.Stepping.{postsRefusal, roomRefusal};
+ghost use Rattle.street_interpreter.specs.Stepping.{stationRefusal, roomRefusal};
 ghost use Rattle.street_interpreter.specs.Orders.{isChange};
 ghost use Rattle.street_interpreter.specs.Changes.{Able, Changed, Looked, Opened};
 
@@ -60,14 +60,14 @@ pub fn change(
         b'D' => street_postlines::deal(session, store, order.row, numbers[0]),
         b'R' => {
             let count = 1 + shape.row_len();
-            street_loadlines::load_row(session, store, &numbers[..count])
+            street_rowlines::loads::load_row(session, store, &numbers[..count])
         }
         b'T' => {
             let count = 1 + shape.triple_len();
-            street_loadlines::load_triple(session, store, &numbers[..count])
+            street_rowlines::loads::load_triple(session, store, &numbers[..count])
         }
         b'L' => street_rowlines::add(session, store, numbers),
-        b'X' => street_masklines::mask(session, store, numbers, masks),
+        b'X' => street_finishlines::masks::mask(session, store, numbers, masks),
         b'F' => street_finishlines::finish(
             session,
             store,
@@ -166,26 +166,26 @@ pub fn look(
     }
 }
 
-// 1 and 2 of a session that no `S` can have made.
-fn posts_refusal(state: State) -> u8
-    ensures { λ r. ⌜ r ≡ postsRefusal state ⌝ }
+// 1, 2 and 4 of a session that no start line can have made.
+fn station_refusal(state: State) -> u8
+    ensures { λ r. ⌜ r ≡ stationRefusal state ⌝ }
 {
     if state.started {
         let session = state.session;
         if street_store::STREET_POSTS < session.n {
             return 1;
         }
-        return refusal::posts(session.n, session.t);
+        return refusal::station(session.n, session.t, session.points);
     }
     0
 }
 
-// 1, 2 and 5 of a step, before its line is looked at.
+// 1, 2, 4 and 5 of a step, before its line is looked at.
 pub fn room_refusal(state: State, store: &[u32]) -> u8
     ensures { λ r. ⌜ r ≡ roomRefusal state (now (store .entry)) ⌝ }
 {
     refusal::or_else(
-        posts_refusal(state),
+        station_refusal(state),
         refusal::size(store, street_store::STORE_ROOM),
     )
 }

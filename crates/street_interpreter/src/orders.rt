@@ -97,7 +97,7 @@ fn heard(shape: Shape, line: &[u8], numbers: &mut [u32]) -> Order
     ensures { λ r. ⌜ Heard shape (now (line .entry)) r (now (numbers .exit)) ⌝ }
 {
     let count = shape.masks_len();
-    let said = lines::read(shape.n, shape.t, line, &mut numbers[..count]);
+    let said = lines::read(shape.n, shape.t, shape.points, line, &mut numbers[..count]);
     Order {
         letter: said.letter,
         refusal: said.refusal,
@@ -125,12 +125,12 @@ fn by_letter(shape: Shape, line: &[u8], numbers: &mut [u32]) -> Order
     }
 }
 
-// A line once an `S` was accepted.
+// A line once a start line was accepted.
 fn late(shape: Shape, line: &[u8], numbers: &mut [u32]) -> Order
     requires { ⌜ InStreet shape × (length (now numbers) ≡ numbersRoom) ⌝ }
     ensures { λ r. ⌜ Leads shape (now (line .entry)) r (now (numbers .exit)) (lated (now (line .entry))) ⌝ }
 {
-    if street_startlines::LONGEST_LINE < line.len() {
+    if street_store::LONGEST_LINE < line.len() {
         return refused(10);
     }
     if line.len() < 1 {
@@ -139,7 +139,7 @@ fn late(shape: Shape, line: &[u8], numbers: &mut [u32]) -> Order
     by_letter(shape, line, numbers)
 }
 
-// A line before it.
+// A line before it: `S` stands for a start line of either letter.
 fn early(line: &[u8]) -> Order
     ensures { λ r. ⌜ r ≡ earlyOrder (now (line .entry)) ⌝ }
 {

@@ -14,8 +14,9 @@ use Rattle.session.specs.declared.Session.{Session}
 use Rattle.session.specs.declared.Answer.{Answer}
 use Rattle.session.specs.Sessions.{shapeOf}
 use Rattle.deal.specs.Deal.{dealAnswer, dealRows}
-use Rattle.street_store.specs.Sizes.{InStreet, recordRoom, openingsAt, masksAAt, masksBAt, storeRoom}
+use Rattle.street_store.specs.Sizes.{InStreet, recordRoom, masksAAt, masksBAt, storeRoom}
 use Rattle.street_store.specs.Records.{kept}
+use Rattle.street_store.proofs.Keeping.{v-room}
 use Rattle.street_states.specs.States.{rowsOf, withRows}
 
 module _ (s : Session) (store : List ℕ) (end : ℕ) (e : end ≡ rowsLength (shapeOf s)) (row c : ℕ) where
@@ -27,9 +28,6 @@ module _ (s : Session) (store : List ℕ) (end : ℕ) (e : end ≡ rowsLength (s
   deal-rows part q = rw (q, e)
 
 -- ---- where the records stand
-pub store-within : (store : List ℕ) → length store ≡ storeRoom → openingsAt + recordRoom ≤ length store
-store-within store e = omega arith
-
 pub store-within-a : (store : List ℕ) → length store ≡ storeRoom → masksAAt + recordRoom ≤ length store
 store-within-a store e = omega arith
 
@@ -42,7 +40,7 @@ module _ (g : Shape) (xs : List ℕ) (l : length xs ≡ masksLength g) (k : ℕ)
   half-in = omega arith
 
   pub half-fits : InStreet g → Fits w64 (k * 4)
-  half-fits i = omega (arith, i .n-in .1, i .t-in .1)
+  half-fits i = omega (arith, w, v-room g i)
 
   pub half-prefix : k ≡ length (take k xs)
   half-prefix = sym (length-take-le k xs half-in)

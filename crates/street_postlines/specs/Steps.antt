@@ -2,15 +2,14 @@
 -- row: one for another row empties the record first, a second from one post replaces the first"; document 02, (iii): "`M` lines, kept
 -- for one triple as `O` lines are for a row".
 use Prim.Native.Nat.{ℕ}
-use mathlib.Core.Path.{_≡_}
 use mathlib.Core.List.{List}
-use mathlib.Core.Bool.{true, cond}
+use mathlib.Core.Bool.{cond}
 use lib.ListN.{getD, take, drop}
 use lib.Dec.{eqb}
 use Rattle.shape.specs.Lengths.{vLength}
 use Rattle.refusal.specs.Refusal.{first}
 use Rattle.forms.specs.Lines.{Message}
-use Rattle.forms.specs.Forms.{isLetter, message, lineTests}
+use Rattle.forms.specs.Forms.{message, lineTests}
 use Rattle.session.specs.declared.Session.{Session}
 use Rattle.session.specs.Sessions.{shapeOf}
 use Rattle.deal.specs.Deal.{dealAnswer, dealRows}
@@ -18,10 +17,6 @@ use Rattle.street_store.specs.Sizes.{openingsAt, masksAAt, masksBAt}
 use Rattle.street_store.specs.Records.{kept}
 use Rattle.street_states.specs.declared.State.{State}
 use Rattle.street_states.specs.States.{After, keepingRow, keepingTriple, refusing, leaving, unless, sessionRows, calling}
-
--- The letters of broadcast lines.
-abbrev pub Broadcast : List ℕ → Type 0
-Broadcast line = isLetter (getD line 0 0) ≡ true
 
 -- 10 and 11, as the reader of broadcast lines has them, and what the line says.
 unfoldable pub heardRefusal : Session → List ℕ → ℕ

@@ -1,5 +1,5 @@
--- `S` lines: each way in which their scan ends.
-use Prim.Native.Nat.{ℕ, _+_, _≤_, _<_, _^_}
+-- Start lines: each way in which their scan ends.
+use Prim.Native.Nat.{ℕ, zero, suc, _+_, _-_, _≤_, _<_, _^_}
 use mathlib.Core.Path.{_≡_, refl, ap, sym, _∙_}
 use mathlib.Core.List.{List, [], _∷_}
 use mathlib.Core.Bool.{Bool, true, false, _&&_, cond}
@@ -9,6 +9,7 @@ use mir.Syntax.{w64}
 use mir.Val.{Fits}
 use lib.ListN.{length, getD, List·getD-eq-default}
 use lib.Dec.{eqb}
+use Rattle.shape.specs.Bounds.{mostPoints}
 use Rattle.decimal.proofs.Positions.{inside}
 use Rattle.decimal.proofs.Digits.{and-true}
 use Rattle.csv.specs.declared.Run.{Run}
@@ -17,26 +18,47 @@ use Rattle.csv.specs.Fields.{Parsed, parsed, malformed, push, fieldsAt, ended, 
 use Rattle.csv.proofs.Single.{first-found, first-broken}
 use Rattle.street_reading.specs.declared.StartForm.{StartForm}
 use Rattle.street_reading.specs.declared.StartForm.the-variants.{Settings, Wrong}
-use Rattle.street_reading.specs.Starting.{isStart, dashAt, behindPosts, startForm, startOf}
+use Rattle.street_reading.specs.Starting.{startsWith, isStart, pointsIn, dashAt, behindPosts, startForm, startOf, startSaid}
 
 -- ---- the first field
+pub letter-s : (l : ℕ) → l ≡ 83 → true ≡ startsWith l
+letter-s l e = rw e
+
+pub letter-w : (l : ℕ) → l ≡ 87 → true ≡ startsWith l
+letter-w l e = rw e
+
+pub letter-none : (l : ℕ) → (l ≡ 83 → ⊥) → (l ≡ 87 → ⊥) → false ≡ startsWith l
+letter-none l a b = rw (ne-eqb l 83 a, ne-eqb l 87 b)
+
 module _ (s : List ℕ) where
   pub start-empty : length s < 1 → false ≡ isStart s
   start-empty h = let l : length s ≤ 0 = omega arith in rw (List·getD-eq-default s 0 l)
 
-  pub start-other : (getD s 0 0 ≡ 83 → ⊥) → false ≡ isStart s
-  start-other h = rw (ne-eqb (getD s 0 0) 83 h)
+  module _ (b : Bool) (w : b ≡ startsWith (getD s 0 0)) where
+    pub start-other : b ≡ false → false ≡ isStart s
+    start-other e = rw (← w, e)
 
-  module _ (e : getD s 0 0 ≡ 83) where
-    pub start-bare : length s < 2 → true ≡ isStart s
-    start-bare h = rw (e, lt-ltb (length s) 2 h)
+    module _ (e : b ≡ true) where
+      pub start-bare : length s < 2 → true ≡ isStart s
+      start-bare h = rw (← w, e, lt-ltb (length s) 2 h)
 
-    module _ (h : 2 ≤ length s) where
-      pub start-comma : getD s 1 0 ≡ 44 → true ≡ isStart s
-      start-comma c = rw (e, le-ltb (length s) 2 h, c)
+      module _ (h : 2 ≤ length s) where
+        pub start-comma : getD s 1 0 ≡ 44 → true ≡ isStart s
+        start-comma c = rw (← w, e, le-ltb (length s) 2 h, c)
 
-      pub start-feed : (getD s 1 0 ≡ 44 → ⊥) → eqb (getD s 1 0) 10 ≡ isStart s
-      start-feed c = rw (e, le-ltb (length s) 2 h, ne-eqb (getD s 1 0) 44 c)
+        pub start-feed : (getD s 1 0 ≡ 44 → ⊥) → eqb (getD s 1 0) 10 ≡ isStart s
+        start-feed c = rw (← w, e, le-ltb (length s) 2 h, ne-eqb (getD s 1 0) 44 c)
+
+-- ---- how many check points
+module _ (s : List ℕ) where
+  pub points-empty : length s < 1 → 1 ≡ pointsIn s
+  points-empty h = let l : length s ≤ 0 = omega arith in rw (List·getD-eq-default s 0 l)
+
+  pub points-two : getD s 0 0 ≡ 87 → mostPoints ≡ pointsIn s
+  points-two e = rw e
+
+  pub points-one : (getD s 0 0 ≡ 87 → ⊥) → 1 ≡ pointsIn s
+  points-one n = rw (ne-eqb (getD s 0 0) 87 n)
 
 -- ---- the dash
 module _ (s : List ℕ) (at : ℕ) where
@@ -88,47 +110,81 @@ last-one s at x n e =
     let q = same-run s (fieldsAt 1 s at) x n e in
     q ∙ first-found 0 s at (runOf (fieldsAt 1 s at)) refl x n (ap runOf (sym q) ∙ e)
 
--- ---- the post and the check point
-module _ (s : List ℕ) (n t at : ℕ) (r : Run) (e : r ≡ runOf (fieldsAt 1 s at)) where
+last-none : (s : List ℕ) (at x n : ℕ) → runOf (ended s (fieldsAt 0 s at)) ≡ Fields x n → (ended s (fieldsAt 0 s at) ≡ parsed [] at) × (x ≡ 0)
+unfolding fieldsAt
+last-none s at x n e =
+    let q = same-run s (fieldsAt 0 s at) x n e in
+    let z : Fields 0 at ≡ Fields x n = ap runOf (sym q) ∙ e in
+    (q, cc)
+
+-- ---- the check points
+-- of at most one number the largest is the number, and of none it is 0
+second-is : (k : ℕ) → k ≤ 1 → (s : List ℕ) (at points n t post first second end : ℕ) → runOf (ended s (fieldsAt k s at)) ≡ Fields second end
+    → Settings n t post points first second ≡ startOf points (push n (push t (push post (push first (ended s (fieldsAt k s at))))))
+second-is zero h s at points n t post first second end e = let q = last-none s at second end e in rw (q .0, q .1)
+second-is (suc zero) h s at points n t post first second end e = rw (last-one s at second end e)
+second-is (suc (suc k)) h s at points n t post first second end e = absurd (omega arith)
+
+module _ (s : List ℕ) (points n t post at : ℕ) (lo : 1 ≤ points) (hi : points ≤ mostPoints) (r : Run) (e : r ≡ runOf (fieldsAt 1 s at)) where
+  abbrev theirs : StartForm
+  theirs = startOf points (push n (push t (push post (ended s (fieldsAt points s at)))))
+
+  one-more : fieldsAt points s at ≡ fieldsAt (suc (points - 1)) s at
+  one-more = let q : points ≡ suc (points - 1) = omega (arith, lo) in ap (λ (k : ℕ). fieldsAt k s at) q
+
+  pub points-none : r ≡ Broken → Wrong ≡ theirs
+  points-none w = rw (one-more ∙ first-broken (points - 1) s at r e w)
+
+  module _ (first next : ℕ) (w : r ≡ Fields first next) (l : Run) (f : l ≡ runOf (ended s (fieldsAt (points - 1) s next))) where
+    behind-first : ended s (fieldsAt points s at) ≡ push first (ended s (fieldsAt (points - 1) s next))
+    behind-first =
+        ap (ended s) (one-more ∙ first-found (points - 1) s at r e first next w) ∙ ended-push s first (fieldsAt (points - 1) s next)
+
+    pub points-wrong : l ≡ Broken → Wrong ≡ theirs
+    points-wrong v = rw (behind-first, ended-broken (ended s (fieldsAt (points - 1) s next)) (sym f ∙ v))
+
+    pub points-settings : (second end : ℕ) → l ≡ Fields second end → Settings n t post points first second ≡ theirs
+    points-settings second end v =
+        second-is (points - 1) (omega (arith, hi)) s next points n t post first second end (sym f ∙ v)
+        ∙ ap (λ (o : Parsed). startOf points (push n (push t (push post o)))) (sym behind-first)
+
+-- ---- the post
+module _ (s : List ℕ) (points n t at : ℕ) (r : Run) (e : r ≡ runOf (fieldsAt 1 s at)) where
   abbrev own : StartForm
-  own = startOf (push n (push t (ended s (fieldsAt 2 s at))))
+  own = startOf points (push n (push t (ended s (fieldsAt (suc points) s at))))
 
-  pub own-no-post : r ≡ Broken → Wrong ≡ own
-  own-no-post w = rw (first-broken 1 s at r e w)
+  pub own-none : r ≡ Broken → Wrong ≡ own
+  own-none w = rw (first-broken points s at r e w)
 
-  module _ (post next : ℕ) (w : r ≡ Fields post next) (l : Run) (f : l ≡ runOf (ended s (fieldsAt 1 s next))) where
-    behind-post : ended s (fieldsAt 2 s at) ≡ push post (ended s (fieldsAt 1 s next))
-    behind-post = ap (ended s) (first-found 1 s at r e post next w) ∙ ended-push s post (fieldsAt 1 s next)
-
-    pub own-no-point : l ≡ Broken → Wrong ≡ own
-    own-no-point v = rw (behind-post, ended-broken (ended s (fieldsAt 1 s next)) (sym f ∙ v))
-
-    pub own-settings : (point end : ℕ) → l ≡ Fields point end → Settings n t post point ≡ own
-    own-settings point end v = rw (behind-post, last-one s next point end (sym f ∙ v))
+  pub own-post : (v : StartForm) (post next : ℕ) → r ≡ Fields post next
+      → v ≡ startOf points (push n (push t (push post (ended s (fieldsAt points s next))))) → v ≡ own
+  own-post v post next w q = q ∙ rw (first-found points s at r e post next w, ended-push s post (fieldsAt points s next))
 
 -- ---- t
-module _ (s : List ℕ) (n at : ℕ) (b : Bool) (d : b ≡ dashAt s at) where
-  pub settings-dash : (v : StartForm) → b ≡ true → v ≡ startOf (push n (push 1 (ended s (fieldsAt 2 s (at + 2)))))
-      → v ≡ startOf (push n (behindPosts s n at))
+module _ (s : List ℕ) (points n at : ℕ) (b : Bool) (d : b ≡ dashAt s at) where
+  pub settings-dash : (v : StartForm) → b ≡ true → v ≡ startOf points (push n (push 1 (ended s (fieldsAt (suc points) s (at + 2)))))
+      → v ≡ startOf points (push n (behindPosts s points n at))
   unfolding behindPosts
   settings-dash v h q = q ∙ rw (← d, h)
 
   module _ (h : b ≡ false) (r : Run) (e : r ≡ runOf (fieldsAt 1 s at)) where
-    pub settings-none : r ≡ Broken → Wrong ≡ startOf (push n (behindPosts s n at))
+    pub settings-none : r ≡ Broken → Wrong ≡ startOf points (push n (behindPosts s points n at))
     unfolding behindPosts
-    settings-none w = rw (← d, h, first-broken 2 s at r e w)
+    settings-none w = rw (← d, h, first-broken (suc points) s at r e w)
 
-    pub settings-number : (v : StartForm) (t next : ℕ) → r ≡ Fields t next → v ≡ startOf (push n (push t (ended s (fieldsAt 2 s next))))
-        → v ≡ startOf (push n (behindPosts s n at))
+    pub settings-number : (v : StartForm) (t next : ℕ) → r ≡ Fields t next
+        → v ≡ startOf points (push n (push t (ended s (fieldsAt (suc points) s next)))) → v ≡ startOf points (push n (behindPosts s points n at))
     unfolding behindPosts
-    settings-number v t next w q = q ∙ rw (← d, h, first-found 2 s at r e t next w, ended-push s t (fieldsAt 2 s next))
+    settings-number v t next w q =
+        q ∙ rw (← d, h, first-found (suc points) s at r e t next w, ended-push s t (fieldsAt (suc points) s next))
 
 -- ---- n
 module _ (s : List ℕ) (r : Run) (e : r ≡ runOf (fieldsAt 1 s 1)) where
-  pub form-none : r ≡ Broken → Wrong ≡ startOf (startForm s)
-  unfolding startForm
+  pub form-none : r ≡ Broken → Wrong ≡ startSaid s
+  unfolding startSaid startForm
   form-none w = rw (first-broken 0 s 1 r e w)
 
-  pub form-number : (v : StartForm) (n next : ℕ) → r ≡ Fields n next → v ≡ startOf (push n (behindPosts s n next)) → v ≡ startOf (startForm s)
-  unfolding startForm fieldsAt
-  form-number v n next w q = q ∙ rw (first-found 0 s 1 r e n next w)
+  pub form-number : (points : ℕ) (v : StartForm) (n next : ℕ) → points ≡ pointsIn s → r ≡ Fields n next
+      → v ≡ startOf points (push n (behindPosts s points n next)) → v ≡ startSaid s
+  unfolding startSaid startForm fieldsAt
+  form-number points v n next p w q = q ∙ rw (p, first-found 0 s 1 r e n next w)

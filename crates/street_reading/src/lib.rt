@@ -15,7 +15,10 @@ pub enum StartForm {
         n: u64,
         t: u64,
         post: u64,
-        point: u64,
+        // how many check points; where it is one, the second is 0
+        points: usize,
+        first: u64,
+        second: u64,
     },
     Wrong,
 }

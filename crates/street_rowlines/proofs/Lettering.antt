@@ -4,7 +4,6 @@ use mathlib.Core.Path.{_≡_, _∙_}
 use mathlib.Core.List.{List, _++_}
 use native.Mathlib.Omega.{arith}
 use lib.ListN.{length, getD, take, drop}
-use lib.Dec.{eqb}
 use Rattle.shape.specs.declared.Shape.{Shape}
 use Rattle.shape.specs.Lengths.{rowsLength}
 use Rattle.session.specs.declared.Session.{Session}
@@ -13,7 +12,7 @@ use Rattle.session.specs.Sessions.{shapeOf}
 use Rattle.linear.specs.Linear.{linearAnswer, linearRows}
 use Rattle.opening.specs.Opening.{openAnswer}
 use Rattle.street_store.specs.Sizes.{recordRoom, openingsAt, storeRoom}
-use Rattle.street_store.specs.Records.{recordAt, recordIf}
+use Rattle.street_store.specs.Records.{recordFor}
 use Rattle.street_states.specs.States.{rowsOf, withRows}
 use Rattle.street_rowlines.specs.Steps.{sumAnswer, sumRows}
 
@@ -30,6 +29,6 @@ pub openings-within : (store : List ℕ) → length store ≡ storeRoom → open
 openings-within store l = omega arith
 
 pub open-kept : (s : Session) (store blocks : List ℕ) (g : Shape) (end kept row : ℕ) (a : Answer) → g ≡ shapeOf s → end ≡ rowsLength (shapeOf s)
-    → blocks ≡ recordIf (eqb kept row) (recordAt openingsAt g store) → a ≡ openAnswer s (take end store) row blocks
-    → a ≡ openAnswer s (rowsOf s store) row (recordIf (eqb kept row) (recordAt openingsAt (shapeOf s) store))
+    → blocks ≡ recordFor openingsAt g kept row store → a ≡ openAnswer s (take end store) row blocks
+    → a ≡ openAnswer s (rowsOf s store) row (recordFor openingsAt (shapeOf s) kept row store)
 open-kept s store blocks g end kept row a d e b q = q ∙ rw (e, b, d)

@@ -2,7 +2,6 @@
 use Prim.Native.Nat.{ℕ}
 use mathlib.Core.List.{List, [], _∷_}
 use lib.ListN.{getD}
-use lib.Dec.{eqb}
 use Rattle.shape.specs.Bounds.{lastRow}
 use Rattle.session.specs.declared.Session.{Session}
 use Rattle.session.specs.declared.Answer.{Answer}
@@ -10,7 +9,7 @@ use Rattle.session.specs.Sessions.{shapeOf}
 use Rattle.linear.specs.Linear.{linearAnswer, linearRows}
 use Rattle.opening.specs.Opening.{openAnswer}
 use Rattle.street_store.specs.Sizes.{openingsAt}
-use Rattle.street_store.specs.Records.{recordAt, recordIf}
+use Rattle.street_store.specs.Records.{recordFor}
 use Rattle.street_reading.specs.Numbers.{numbers, readRefusal}
 use Rattle.street_states.specs.declared.State.{State}
 use Rattle.street_states.specs.States.{After, answering, leaving, unless, sessionRows, calling}
@@ -31,7 +30,7 @@ linearStep st store line =
 
 -- ---- "and `G,row`, which opens the row": "G leaves the record as it is (a G for another row opens with an empty one)"
 abbrev pub openingsFor : State → List ℕ → ℕ → List ℕ
-openingsFor st store row = recordIf (eqb (st .kept) row) (recordAt openingsAt (shapeOf (st .session)) store)
+openingsFor st store row = recordFor openingsAt (shapeOf (st .session)) (st .kept) row store
 
 abbrev pub opening : State → List ℕ → List ℕ → After
 opening st store xs =

@@ -1,16 +1,17 @@
-// The calls of the lines that name rows: `L` and `G`.
+// The calls of the lines that name rows: `L` and `G` here, `R` and `T` in `loads`.
+pub mod loads;
+
 use session::Answer;
 use session::Session;
 ghost use mathlib.Core.Path.{_≡_};
 use walk::Opened;
 ghost use Prim.Native.Nat.{_≤_};
 ghost use lib.ListN.{length, getD, replicate};
-ghost use lib.Dec.{eqb};
 ghost use Rattle.session.specs.Sessions.{shapeOf, holding};
 ghost use Rattle.linear.specs.Linear.{linearAnswer, linearRows};
 ghost use Rattle.opening.specs.Opening.{openAnswer};
 ghost use Rattle.street_store.specs.Sizes.{InStreet, openingsAt, recordRoom, storeRoom};
-ghost use Rattle.street_store.specs.Records.{recordAt, recordIf};
+ghost use Rattle.street_store.specs.Records.{recordFor};
 ghost use Rattle.street_states.specs.States.{rowsOf, withRows};
 ghost use Rattle.street_rowlines.specs.Steps.{sumAnswer, sumRows};
 
@@ -45,7 +46,7 @@ pub fn open<'a>(
 ) -> Opened
     requires { ⌜ InStreet (shapeOf session) × (length (now store) ≡ storeRoom) × (now empty ≡ replicate recordRoom 0) ⌝ }
     ensures { λ r. ⌜ holding (r .refusal) (r .value) session ≡ openAnswer session (rowsOf session (now (store .entry))) row
-        (recordIf (eqb kept row) (recordAt openingsAt (shapeOf session) (now (store .entry)))) ⌝ }
+        (recordFor openingsAt (shapeOf session) kept row (now (store .entry))) ⌝ }
 {
     let end = street_states::rows_end(session);
     let same = kept == row;

@@ -5,7 +5,7 @@ use mathlib.Core.Bool.{cond}
 use lib.ListN.{take}
 use lib.Dec.{eqb}
 use Rattle.csv.specs.Fields.{overwrite}
-use Rattle.street_startlines.specs.Steps.{longestLine}
+use Rattle.street_store.specs.Sizes.{longestLine}
 
 -- How many bytes reach up to the first line feed, itself included, or to the end.
 unfoldable pub segment : List ℕ → ℕ

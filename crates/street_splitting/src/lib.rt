@@ -8,7 +8,7 @@ ghost use lib.Dec.{ltb};
 ghost use Rattle.street_splitting.specs.Lines.{segment, keptLength, cut, laid};
 
 // Of a line that is too long, one byte more than the longest line has is kept: enough to tell.
-pub const KEPT: usize = street_startlines::LONGEST_LINE + 1;
+pub const KEPT: usize = street_store::LONGEST_LINE + 1;
 
 // The position behind the next line feed, or the chunk's end.
 pub fn line_end(chunk: &[u8], from: usize) -> usize
@@ -38,6 +38,6 @@ pub fn append(line: &mut [u8], len: usize, part: &[u8]) -> usize
 {
     let count = least(KEPT - len, part.len());
     let end = len + count;
-    street_answers::copy(&part[..count], &mut line[len..end]);
+    street_store::copy_bytes(&part[..count], &mut line[len..end]);
     end
 }

@@ -1,2 +1,3 @@
 pub mod Settings
 pub mod Tables
+pub mod Longest

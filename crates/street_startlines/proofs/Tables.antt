@@ -1,4 +1,4 @@
--- The tests of an `S` line give the refusal of the documents' table.
+-- The tests of a start line give the refusal of the documents' table.
 use Prim.Native.Nat.{ℕ, _-_}
 use mathlib.Core.Path.{_≡_, refl}
 use mathlib.Core.Bool.{Bool, true, false, _||_, true≢false}
@@ -8,8 +8,8 @@ use borrow.Author.Tests.{le-ltb, ltb-false}
 use lib.Dec.{ltb}
 use Rattle.shape.specs.Bounds.{fewestPosts, mostPosts}
 use Rattle.refusal.specs.Refusal.{Test, _when_, first}
-use Rattle.refusal.specs.Conditions.{outside, badPoint}
-use Rattle.refusal.proofs.Figures.{point-figures}
+use Rattle.refusal.specs.Conditions.{outside, badPoints}
+use Rattle.refusal.proofs.Figures.{points-figures}
 use Rattle.street_store.specs.Sizes.{streetPosts}
 use Rattle.street_startlines.specs.Table.{StartTable}
 
@@ -23,7 +23,8 @@ merged false false true ts h = absurd (true≢false (h refl))
 merged false false false ts h = refl
 
 pub start-table : StartTable
-start-table n t post point =
-    rw (← point-figures point)
-    (merged (ltb n fewestPosts) (ltb streetPosts n) (ltb mostPosts n) (2 when outside 1 (n - 1) t ∷ 3 when outside 1 n post ∷ 4 when badPoint point ∷ [])
+start-table n t post points w =
+    rw (← points-figures points w)
+    (merged (ltb n fewestPosts) (ltb streetPosts n) (ltb mostPosts n)
+    (2 when outside 1 (n - 1) t ∷ 3 when outside 1 n post ∷ 4 when badPoints points w ∷ [])
     (λ e. le-ltb mostPosts n (omega (arith, ltb-false streetPosts n e))))

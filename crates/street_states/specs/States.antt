@@ -7,13 +7,13 @@ use Rattle.shape.specs.Lengths.{rowsLength}
 use Rattle.refusal.specs.Refusal.{outcome}
 use Rattle.session.specs.declared.Session.{Session}
 use Rattle.session.specs.declared.Answer.{Answer}
-use Rattle.session.specs.Sessions.{shapeOf, sessionOf, answer}
+use Rattle.session.specs.Sessions.{shapeOf, noPoints, sessionOf, answer}
 use Rattle.street_states.specs.declared.State.{State}
 use Rattle.street_states.specs.declared.Head.{Head}
 
--- Before the first line: no `S` accepted, empty records. These definitions name every field of a state; nothing else does.
+-- Before the first line: no start line accepted, empty records. These definitions name every field of a state; nothing else does.
 abbrev pub firstState : State
-firstState = record { session = sessionOf 0 0 0 0; started = false; kept = 0; triple = 0 }
+firstState = record { session = sessionOf 0 0 0 0 noPoints; started = false; kept = 0; triple = 0 }
 
 abbrev pub begunWith : State → Session → State
 begunWith st s = record { session = s; started = true; kept = st .kept; triple = st .triple }
@@ -27,24 +27,19 @@ keepingRow st row = record { session = st .session; started = st .started; kept 
 abbrev pub keepingTriple : State → ℕ → State
 keepingTriple st first = record { session = st .session; started = st .started; kept = st .kept; triple = first }
 
--- The answer to a line, and the state after it: so many bytes of an `M` line are printed behind the answer.
+-- The answer to a line, and the state after it.
 pub record Stepped : Type 0 where
   pub state : State
   pub refusal : ℕ
   pub value : ℕ
-  pub told : ℕ
 
 -- What a refused line leaves: the state as it was.
 abbrev pub refusing : State → ℕ → Stepped
-refusing st refusal = record { state = st; refusal = refusal; value = 0; told = 0 }
+refusing st refusal = record { state = st; refusal = refusal; value = 0 }
 
 -- What a call's answer makes of the state.
 abbrev pub answering : State → Answer → Stepped
-answering st a = record { state = withSession st (a .session); refusal = a .refusal; value = a .value; told = 0 }
-
--- The same, with a line of so many bytes that is printed behind the answer.
-abbrev pub telling : Stepped → ℕ → Stepped
-telling v told = record { state = v .state; refusal = v .refusal; value = v .value; told = told }
+answering st a = record { state = withSession st (a .session); refusal = a .refusal; value = a .value }
 
 -- The answer, with the store afterwards and the line that is printed behind the answer, [] for none.
 pub record After : Type 0 where

@@ -3,6 +3,7 @@
 // The session goes in by value and comes back in a call's answer; all else that is kept is small, and goes beside it. The rows and the
 // records stand in one lent store.
 use session::Session;
+use shape::Points;
 ghost use mathlib.Core.Path.{_≡_};
 ghost use Rattle.shape.specs.Lengths.{rowsLength};
 ghost use Rattle.session.specs.Sessions.{shapeOf};
@@ -12,7 +13,7 @@ ghost use Rattle.street_states.specs.States.{firstState};
 // What the program keeps from line to line, beside the store.
 pub struct State {
     pub session: Session,
-    // an `S` was accepted
+    // a start line was accepted
     pub started: bool,
     // the row that the record of the `O` lines is kept for; an empty one may be for any
     pub kept: usize,
@@ -38,8 +39,12 @@ impl State {
     pub fn first() -> State
         ensures { λ r. ⌜ r ≡ firstState ⌝ }
     {
-        let none = Session::new(0, 0, 0, 0);
-        let session = none.session;
+        let none = Points {
+            first: 0,
+            second: 0,
+        };
+        let refused = Session::new(0, 0, 0, 0, none);
+        let session = refused.session;
         State {
             session,
             started: false,

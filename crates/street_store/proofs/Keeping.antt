@@ -11,9 +11,9 @@ use mir.Val.{Fits}
 use lib.ListN.{length, take, drop, replicate, length-drop, length-replicate}
 use lib.Seq.{length-take-le}
 use Rattle.shape.specs.declared.Shape.{Shape}
-use Rattle.shape.specs.Lengths.{Valid, blockLength, recordLength}
+use Rattle.shape.specs.Lengths.{Valid, vLength, rowLength, blockLength, recordLength}
 use Rattle.records.specs.Records.{withBlock, blockOf}
-use Rattle.street_store.specs.Sizes.{streetPosts, recordRoom, InStreet}
+use Rattle.street_store.specs.Sizes.{streetPosts, longestV, longestRow, recordRoom, InStreet}
 use Rattle.street_store.specs.Records.{recordAt, recordIf, withRecord, kept}
 
 -- ---- the record, emptied or not
@@ -25,12 +25,18 @@ kept-empty same l new n q = q ∙ rw n
 
 -- ---- lengths
 pub street-valid : (g : Shape) → InStreet g → Valid g
-street-valid g i = record { n-in = (i .n-in .0, omega (arith, i .n-in .1)); t-in = i .t-in }
+street-valid g i = i .valid
 
-pub record-room : (g : Shape) → InStreet g → recordLength g ≤ recordRoom
-record-room g i =
-    let h : blockLength g ≤ streetPosts + 1 = omega (arith, i .n-in .1, i .t-in .1) in
-    mul-le-mul {n₁ = g .n} {m₁ = blockLength g} {n₂ = streetPosts} {m₂ = streetPosts + 1} (i .n-in .1) h
+-- no station's are greater than the largest's
+module _ (g : Shape) (i : InStreet g) where
+  pub v-room : vLength g ≤ longestV
+  v-room = omega (arith, i .few, i .valid .t-in .1, i .valid .reach-in .1)
+
+  pub row-room : rowLength g ≤ longestRow
+  row-room = omega (arith, i .few, i .valid .t-in .1, i .valid .reach-in .1, i .valid .checks-in .1)
+
+  pub record-room : recordLength g ≤ recordRoom
+  record-room = mul-le-mul {n₁ = g .n} {m₁ = blockLength g} {n₂ = streetPosts} {m₂ = longestV + 1} (i .few) (omega (arith, v-room))
 
 pub block-kept : (g : Shape) (post : ℕ) (l l' xs m : List ℕ) (same : Bool) → l' ≡ recordIf same l → m ≡ withBlock g post (blockOf xs) l'
     → m ≡ withBlock g post (blockOf xs) (recordIf same l)

@@ -3,6 +3,7 @@
 use Prim.Native.Nat.{ℕ}
 use mathlib.Core.Bool.{Bool, cond}
 use mathlib.Core.List.{List, _++_}
+use lib.Dec.{eqb}
 use lib.ListN.{length, take, drop, replicate}
 use Rattle.shape.specs.declared.Shape.{Shape}
 use Rattle.shape.specs.Lengths.{recordLength}
@@ -15,6 +16,10 @@ recordAt at g store = take (recordLength g) (drop at store)
 -- The record, if it is kept for what a line names, else an empty one.
 abbrev pub recordIf : Bool → List ℕ → List ℕ
 recordIf same blocks = cond same blocks (replicate (length blocks) 0)
+
+-- The record at a place of the store, for a line that names a row or a triple: the record is kept for one.
+abbrev pub recordFor : ℕ → Shape → ℕ → ℕ → List ℕ → List ℕ
+recordFor at g kept named store = recordIf (eqb kept named) (recordAt at g store)
 
 -- The store with another record at a place.
 abbrev pub withRecord : ℕ → Shape → List ℕ → List ℕ → List ℕ

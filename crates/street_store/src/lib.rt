@@ -8,11 +8,14 @@ ghost use Rattle.records.specs.Records.{withBlock, blockOf};
 ghost use Rattle.street_store.specs.Sizes.{InStreet, recordRoom};
 ghost use Rattle.street_store.specs.Records.{recordAt, recordIf, kept};
 
-// The street program's own bound on n. The sizes below follow from it.
+// The street program's own bound on n. The sizes below follow from it: those of its largest station, with the largest t and two check points a post.
 pub const STREET_POSTS: usize = 32;
 
+// The most coefficients of a v.
+pub const LONGEST_V: usize = shape::MOST_POINTS * (STREET_POSTS - 1) + 1;
+
 // The numbers of its longest row.
-pub const LONGEST_ROW: usize = 3 * STREET_POSTS;
+pub const LONGEST_ROW: usize = LONGEST_V + shape::MOST_POINTS * STREET_POSTS + STREET_POSTS;
 
 // The numbers of a triple with the longest rows.
 pub const LONGEST_TRIPLE: usize = 3 * LONGEST_ROW;
@@ -21,12 +24,18 @@ pub const LONGEST_TRIPLE: usize = 3 * LONGEST_ROW;
 pub const NUMBERS_ROOM: usize = 1 + LONGEST_TRIPLE;
 
 // Its most masks: two messages.
-pub const MOST_MASKS: usize = 2 * STREET_POSTS;
+pub const MOST_MASKS: usize = 2 * LONGEST_V;
+
+// Room for what an `X` prints: a letter, row and post, the masks, a line feed.
+pub const TOLD_ROOM: usize = 2 + 11 * (2 + MOST_MASKS);
+
+// No line of the program is longer, with its line feed: a `T` of the largest station, with a first row of two digits and numbers of ten.
+pub const LONGEST_LINE: usize = 5 + 11 * LONGEST_TRIPLE;
 
 // Room for the rows of the largest session, and for a record.
 pub const ROWS_ROOM: usize = shape::ROWS * LONGEST_ROW;
 
-pub const RECORD_ROOM: usize = STREET_POSTS * (STREET_POSTS + 1);
+pub const RECORD_ROOM: usize = STREET_POSTS * (LONGEST_V + 1);
 
 // Where the record of the `O` lines stands, behind the rows, and the two records of the `M` lines behind it.
 pub const OPENINGS_AT: usize = ROWS_ROOM;
@@ -36,6 +45,16 @@ pub const MASKS_A_AT: usize = OPENINGS_AT + RECORD_ROOM;
 pub const MASKS_B_AT: usize = MASKS_A_AT + RECORD_ROOM;
 
 pub const STORE_ROOM: usize = MASKS_B_AT + RECORD_ROOM;
+
+// The bytes of `from`, into `to`: of a line, or of an answer.
+pub fn copy_bytes(from: &[u8], to: &mut [u8])
+    requires { ⌜ length (now from) ≡ length (now to) ⌝ }
+    ensures { λ r. ⌜ now (to .exit) ≡ now (from .entry) ⌝ }
+{
+    for i in 0..from.len() {
+        to[i] = from[i];
+    }
+}
 
 // The record is emptied, unless it is kept for what a line names.
 fn empty_unless(blocks: &mut [u32], same: bool)

@@ -15,6 +15,7 @@ use Rattle.session.specs.Sessions.{shapeOf, answer}
 use Rattle.street_store.specs.Sizes.{InStreet, numbersRoom, mostMasks, storeRoom}
 use Rattle.street_states.specs.declared.Head.{Head}
 use Rattle.street_states.specs.States.{After, settled, stateOf}
+use Rattle.street_states.proofs.Calling.{answer-refusal}
 use Rattle.street_interpreter.specs.declared.orders.Order.{Order}
 use Rattle.street_interpreter.specs.Stepping.{step, Ready}
 use Rattle.street_interpreter.specs.Orders.{Reads, isChange, isKept, acting, changing, looking}
@@ -27,11 +28,6 @@ use Rattle.street_feeds.specs.declared.Part.{Part}
 use Rattle.street_feeds.specs.Program.{Running, leftBy, answered, running}
 use Rattle.street_feeds.specs.Between.{Open, Added, Fed, feedOf, grownHead, answeredHead, turned, PartRead, toldText, TellRoom, Answered, Seen}
 use Rattle.street_feeds.proofs.Feeding.{answered-by, answered-added}
-
-refusal-of : (x : ℕ) (new old : Session) → answer x 0 new old .refusal ≡ x
-unfolding outcome
-refusal-of zero new old = refl
-refusal-of (suc k) new old = refl
 
 pub settled-new : (x : ℕ) (new old : Session) → x ≡ 0 → new ≡ answer x 0 new old .session
 unfolding outcome
@@ -170,7 +166,7 @@ module _ (s : Session) (h : Head) (g : Shape) (d : g ≡ shapeOf s) (store line 
         y = settled s ans .refusal
 
         same : ans .refusal ≡ y
-        same = sym (refusal-of (ans .refusal) (ans .session) s)
+        same = sym (answer-refusal (ans .refusal) 0 (ans .session) s)
 
         abbrev told : List ℕ
         told = toldBy letter (ans .refusal) s xs ms

@@ -62,13 +62,19 @@ fn the_stored_inputs() {
         assert!(REFERENCE.street(&input) == expected, "{name}, by the second implementation");
         inputs += 1;
     }
-    assert_eq!(inputs, 16, "stored inputs");
+    assert_eq!(inputs, 24, "stored inputs");
 }
 
-/// Rides × rate + fee by three runs of the program: the `M` lines that each reads of another post are those which
-/// that post's run prints.
+/// Rides × rate + fee by three runs of the program, with one check point a post and with two: the `M` lines that each
+/// reads of another post are those which that post's run prints.
 #[test]
 fn the_charge_at_three_posts() {
+    for charge in ["charge", "two_points"] {
+        each_reads_the_others(charge);
+    }
+}
+
+fn each_reads_the_others(charge: &str) {
     let lines = |name: &str| -> Vec<String> {
         let path = Path::new(env!("CARGO_MANIFEST_DIR")).join("tests/street_inputs").join(name);
         let text = fs::read_to_string(path).expect("a stored text can be read");
@@ -76,8 +82,8 @@ fn the_charge_at_three_posts() {
     };
     let (mut told, mut heard) = (Vec::new(), Vec::new());
     for post in 1..=3 {
-        told.push(lines(&format!("charge{post}.out")));
-        heard.push(lines(&format!("charge{post}.txt")));
+        told.push(lines(&format!("{charge}{post}.out")));
+        heard.push(lines(&format!("{charge}{post}.txt")));
     }
     for (post, lines) in heard.iter().enumerate() {
         let others: Vec<_> = told.iter().enumerate().filter(|(i, _)| *i != post).collect();

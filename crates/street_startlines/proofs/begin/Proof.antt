@@ -9,5 +9,4 @@ ruleset ends = (needs, begin-many, begin-made)
 pub begin-spec : {M : Type 1} → statement M
 begin-spec =
     tie.close
-    (tie.spec (λ c κs. search ends) (λ c. search ends) (λ c κs. search ends) (λ c κs. search ends)
-    (λ c. search ends))
+    (tie.spec (λ c κs. search ends) (λ c. search ends) (λ c κs. search ends) (λ c κs. search ends) (λ c κs. search ends) (λ c. search ends))

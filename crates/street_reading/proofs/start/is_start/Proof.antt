@@ -9,5 +9,4 @@ ruleset ends = (needs, start-empty, start-other, start-bare, start-comma, start-
 pub is-start-spec : {M : Type 1} → statement M
 is-start-spec =
     tie.close
-    (tie.spec (λ c. search ends) (λ c. search ends) (λ c. search ends) (λ c. search ends) (λ c. search ends)
-    (λ c. search ends) (λ c. search ends) (λ c. search ends))
+    (tie.spec (λ c. search ends) (λ c. search ends) (λ c κs. search ends) (λ c. search ends) (λ c. search ends) (λ c. search ends) (λ c. search ends) (λ c. search ends) (λ c. search ends))

@@ -9,5 +9,4 @@ ruleset ends = (needs, dash-fits, settings-dash, settings-none, settings-number)
 pub scan-settings-spec : {M : Type 1} → statement M
 scan-settings-spec =
     tie.close
-    (tie.spec (λ c κs. search ends) (λ c. search ends) (λ c κs. search ends) (λ c. search ends) (λ c κs. search ends)
-    (λ c. search ends) (λ c κs. search ends) (λ c. search ends) (λ c. search ends) (λ c. search ends))
+    (tie.spec (λ c κs. search ends) (λ c. search ends) (λ c κs. search ends) (λ c. search ends) (λ c κs. search ends) (λ c. search ends) (λ c κs. search ends) (λ c. search ends) (λ c. search ends) (λ c. search ends))

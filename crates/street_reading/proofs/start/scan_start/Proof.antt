@@ -9,5 +9,4 @@ ruleset ends = (needs, form-none, form-number)
 pub scan-start-spec : {M : Type 1} → statement M
 scan-start-spec =
     tie.close
-    (tie.spec (λ c κs. search ends) (λ c. search ends) (λ c κs. search ends) (λ c. search ends) (λ c. search ends)
-    (λ c. search ends))
+    (tie.spec (λ c κs. search ends) (λ c κs. search ends) (λ c. search ends) (λ c κs. search ends) (λ c. search ends) (λ c. search ends) (λ c. search ends))
