@@ -18,7 +18,7 @@ use Rattle.csv.proofs.Reading.{fields-read}
 use Rattle.csv.proofs.Overwriting.{length-fields-le}
 use Rattle.street_reading.specs.declared.StartForm.{StartForm}
 use Rattle.street_reading.specs.declared.StartForm.the-variants.{Settings}
-use Rattle.street_reading.specs.Starting.{dashAt, behindPosts, startForm, startOf, startSaid}
+use Rattle.street_reading.specs.Starting.{dash, dashAt, behindPosts, startForm, startOf, startSaid}
 use Rattle.performing.specs.Lines.{TenDigits}
 use Rattle.performing.specs.Starting.{OneOrTwo, startLetter}
 use Rattle.performing.proofs.Spelling.{small}
@@ -105,18 +105,19 @@ module _ (n post : ℕ) (ws : List ℕ) (o : OneOrTwo ws) (h : TenDigits (n ∷ 
       (posts-read (startLetter ws) n (feed (t ∷ own)) (length ws) (h .0) (no-digit (t ∷ own))
       ∙ rw (figure t own s at e, last-fields (t ∷ own) s at (l, small own (h .1)) e))
 
-  pub dash-read : startSaid (with-tail (44 ∷ 45 ∷ feed own)) ≡ Said 1
+  pub dash-read : (t : ℕ) → dash n ≡ t → startSaid (with-tail (44 ∷ 45 ∷ feed own)) ≡ Said t
   unfolding behindPosts leading
-  dash-read =
+  dash-read t q =
       let s : List ℕ = with-tail (44 ∷ 45 ∷ feed own) in
       let e : drop at s ≡ 44 ∷ 45 ∷ feed own = at-tail (startLetter ws) n (44 ∷ 45 ∷ feed own) in
       let comma : getD s at 0 ≡ 44 = head-at s at ∙ ap (λ (l : List ℕ). getD l 0 0) e in
       let e₁ : drop (at + 1) s ≡ 45 ∷ feed own = drop-past s at 1 (44 ∷ []) (45 ∷ feed own) e refl in
-      let dash : getD s (at + 1) 0 ≡ 45 = head-at s (at + 1) ∙ ap (λ (l : List ℕ). getD l 0 0) e₁ in
+      let minus : getD s (at + 1) 0 ≡ 45 = head-at s (at + 1) ∙ ap (λ (l : List ℕ). getD l 0 0) e₁ in
       let e₂ : drop (at + 2) s ≡ feed own = drop-past s at 2 (44 ∷ 45 ∷ []) (feed own) e refl in
-      said (44 ∷ 45 ∷ feed own) 1 (at + 2 + length (fields own))
+      said (44 ∷ 45 ∷ feed own) (dash n) (at + 2 + length (fields own))
       (posts-read (startLetter ws) n (44 ∷ 45 ∷ feed own) (length ws) (h .0) refl
-      ∙ rw (comma, dash, last-fields own s (at + 2) (small own (h .1)) e₂))
+      ∙ rw (comma, minus, last-fields own s (at + 2) (small own (h .1)) e₂))
+      ∙ ap Said q
 
   pub dash-short : length (with-tail (44 ∷ 45 ∷ feed own)) ≤ 5252
   dash-short =

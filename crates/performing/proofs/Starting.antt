@@ -1,11 +1,12 @@
 -- The table of start lines and of the lines before one is accepted, and the dash.
-use Prim.Native.Nat.{ℕ, zero, suc, _≤_, _<_}
+use Prim.Native.Nat.{ℕ, zero, suc, _+_, _*_, _/_, _%_, _≤_, _<_}
 use mathlib.Core.Path.{_≡_, refl, ap, sym, subst, _∙_}
 use mathlib.Core.Bool.{Bool, true, false, _||_, cond}
 use mathlib.Core.List.{List, [], _∷_}
 use native.Mathlib.Omega.{arith}
+use native.Mathlib.Nat.{div-add-mod', mod-lt}
 use borrow.Author.Tests.{lt-ltb, le-ltb, ne-eqb, ltb-true, ltb-false}
-use lib.Dec.{eqb, ltb}
+use lib.Dec.{eqb, ltb, lit<}
 use lib.ListN.{length, getD}
 use Rattle.shape.specs.declared.Points.{Points}
 use Rattle.refusal.specs.Refusal.{first, outcome}
@@ -14,7 +15,7 @@ use Rattle.session.specs.declared.Session.{Session}
 use Rattle.session.specs.Sessions.{asMany, sessionOf}
 use Rattle.street_store.specs.Sizes.{longestLine}
 use Rattle.street_reading.specs.declared.StartForm.the-variants.{Wrong}
-use Rattle.street_reading.specs.Starting.{startsWith, startForm, startOf, startSaid}
+use Rattle.street_reading.specs.Starting.{startsWith, dash, startForm, startOf, startSaid}
 use Rattle.street_states.specs.declared.State.{State}
 use Rattle.street_states.specs.States.{After, begunWith, refusing, leaving}
 use Rattle.street_startlines.specs.Steps.{startTests, beginStep, settingsStep, startStep, earlyStep}
@@ -22,7 +23,7 @@ use Rattle.street_startlines.specs.Table.{startTable}
 use Rattle.street_startlines.proofs.Tables.{start-table}
 use Rattle.street_interpreter.specs.Stepping.{step}
 use Rattle.performing.specs.Lines.{TenDigits, startLetters, isOneOf, refusalOf}
-use Rattle.performing.specs.Starting.{OneOrTwo, startLetter, figured, dashed, DashIsOne, settingsTable, Begins, StartText, LetterTable, StreetStarts}
+use Rattle.performing.specs.Starting.{OneOrTwo, startLetter, figured, dashed, DashMeans, DashIsHalf, settingsTable, Begins, StartText, LetterTable, StreetStarts}
 use Rattle.performing.proofs.Heard.{line-short}
 use Rattle.performing.proofs.StartText.{Starts, start-letter, feed, line, figure-line, start-spells}
 use Rattle.performing.proofs.StartRead.{figure-read, dash-read, dash-short}
@@ -184,22 +185,39 @@ street-starts st store e =
     no-start b n = sym (ap (λ (x : Bool). eqb b 83 || x) (or-none (eqb b 87))) ∙ n
 
 -- ---- "S,n,-,post,w"
-pub dash-is-one : DashIsOne
-dash-is-one st store n post ws o h = go (st .started) refl
+half-of : (n t : ℕ) → 2 * t ≤ n → n ≤ 2 * t + 1 → dash n ≡ t
+half-of n t l h =
+    let d : n / 2 * 2 + n % 2 ≡ n = div-add-mod' n 2 in
+    let r : n % 2 < 2 = mod-lt n (lit< tt) in
+    omega (arith, d, r, l, h)
+
+dash-means : (n t : ℕ) → dash n ≡ t → t ≤ n → DashMeans n t
+dash-means n t q l st store post ws o h = go (st .started) refl
   where
     letter : ℕ
     letter = startLetter ws
 
-    figure-short : length (line letter n (feed (1 ∷ post ∷ ws))) ≤ 5252
+    figure-short : length (line letter n (feed (t ∷ post ∷ ws))) ≤ 5252
     figure-short =
-        subst (λ (l : List ℕ). length l ≤ 5252) (figure-line letter n (1 ∷ post ∷ ws)) (line-short letter (n ∷ 1 ∷ post ∷ ws) (omega (arith, o .1)))
+        subst (λ (l : List ℕ). length l ≤ 5252) (figure-line letter n (t ∷ post ∷ ws)) (line-short letter (n ∷ t ∷ post ∷ ws) (omega (arith, o .1)))
 
-    go : (b : Bool) → st .started ≡ b → step st store (dashed n post ws) ≡ step st store (figured n 1 post ws)
+    go : (b : Bool) → st .started ≡ b → step st store (dashed n post ws) ≡ step st store (figured n t post ws)
     go true e =
         let late : (rest : List ℕ) → step st store (letter ∷ rest) ≡ leaving (refusing st 10) store =
         λ rest. other-step st store e (letter ∷ rest) (letter-of ws o .no-other) in
         late _ ∙ sym (late _)
     go false e =
         early st store e letter (letter-of ws o) _ (dash-short n post ws o h)
-        ∙ ap (λ v. leaving (settingsStep st v) store) (dash-read n post ws o h ∙ sym (figure-read n post ws o h 1 (omega arith)))
-        ∙ sym (early st store e letter (letter-of ws o) _ figure-short) ∙ ap (step st store) (sym (figure-line letter n (1 ∷ post ∷ ws)))
+        ∙ ap (λ v. leaving (settingsStep st v) store) (dash-read n post ws o h t q ∙ sym (figure-read n post ws o h t (omega (arith, l, h .0))))
+        ∙ sym (early st store e letter (letter-of ws o) _ figure-short) ∙ ap (step st store) (sym (figure-line letter n (t ∷ post ∷ ws)))
+
+pub dash-is-half : DashIsHalf
+dash-is-half =
+    record {
+      of-two = dash-means 2 1 refl (omega arith);
+      of-three = dash-means 3 1 refl (omega arith);
+      of-four = dash-means 4 2 refl (omega arith);
+      of-thirty-one = dash-means 31 15 refl (omega arith);
+      of-thirty-two = dash-means 32 16 refl (omega arith);
+      half = λ n t l h. dash-means n t (half-of n t l h) (omega (arith, l))
+    }

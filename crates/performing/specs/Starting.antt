@@ -1,8 +1,8 @@
 -- The street program until a start line is accepted. Document 01: "A line whose first field is `S` is an `S`, however long. Until one is accepted
--- any other line gets 1, an overlong one too"; "an `S` gets 10, then 1 to 4"; "In `S` the field t may be `-`, meaning t = 1." Document 02, (ix): "starts with
+-- any other line gets 1, an overlong one too"; "an `S` gets 10, then 1 to 4"; "In `S` the field t may be `-`", which document 02, (x), has mean half of n; (ix): "starts with
 -- `W,n,t,post,first,second`, by all the rules of an `S`". A post's check points are a list here: of one in an `S`, of two in a `W`. Bounds are figures,
 -- bytes are bytes: 83 is `S`, 87 `W`, 44 a comma, 45 a dash, 10 a line feed. Proved in proofs/Starting.antt.
-use Prim.Native.Nat.{ℕ, _-_, _≤_, _<_}
+use Prim.Native.Nat.{ℕ, _+_, _*_, _-_, _≤_, _<_}
 use mathlib.Core.Path.{_≡_}
 use mathlib.Core.Bool.{Bool, true, false, _||_, cond}
 use mathlib.Core.List.{List, [], _∷_, _++_}
@@ -39,11 +39,21 @@ pub data StartText (s : List ℕ) : Type 0 where
   in-figures : (n t post : ℕ) (ws : List ℕ) → OneOrTwo ws → TenDigits (n ∷ t ∷ post ∷ ws) → s ≡ figured n t post ws → StartText s
   with-dash : (n post : ℕ) (ws : List ℕ) → OneOrTwo ws → TenDigits (n ∷ post ∷ ws) → s ≡ dashed n post ws → StartText s
 
--- ---- the dash: it steps as a 1 does, whatever the state
-abbrev pub DashIsOne : Type 0
-DashIsOne =
-    (st : State) (store : List ℕ) (n post : ℕ) (ws : List ℕ) → OneOrTwo ws → TenDigits (n ∷ post ∷ ws)
-    → step st store (dashed n post ws) ≡ step st store (figured n 1 post ws)
+-- ---- the dash
+-- With n posts it steps as the figure t does, in either start line, whatever the state.
+abbrev pub DashMeans : ℕ → ℕ → Type 0
+DashMeans n t =
+    (st : State) (store : List ℕ) (post : ℕ) (ws : List ℕ) → OneOrTwo ws → TenDigits (n ∷ post ∷ ws)
+    → step st store (dashed n post ws) ≡ step st store (figured n t post ws)
+
+-- Document 02, (x): "n divided by 2, rounded down", in figures, and for every n, above 32 too: twice t is n or one less.
+pub record DashIsHalf : Type 0 where
+  pub of-two : DashMeans 2 1
+  pub of-three : DashMeans 3 1
+  pub of-four : DashMeans 4 2
+  pub of-thirty-one : DashMeans 31 15
+  pub of-thirty-two : DashMeans 32 16
+  pub half : (n t : ℕ) → 2 * t ≤ n → n ≤ 2 * t + 1 → DashMeans n t
 
 -- ---- the refusals
 -- A check point "0 or at least p"; in a `W` "the second point too".

@@ -18,7 +18,7 @@ use Rattle.csv.specs.Fields.{Parsed, parsed, malformed, push, fieldsAt, ended, 
 use Rattle.csv.proofs.Single.{first-found, first-broken}
 use Rattle.street_reading.specs.declared.StartForm.{StartForm}
 use Rattle.street_reading.specs.declared.StartForm.the-variants.{Settings, Wrong}
-use Rattle.street_reading.specs.Starting.{startsWith, isStart, pointsIn, dashAt, behindPosts, startForm, startOf, startSaid}
+use Rattle.street_reading.specs.Starting.{startsWith, isStart, pointsIn, dash, dashAt, behindPosts, startForm, startOf, startSaid}
 
 -- ---- the first field
 pub letter-s : (l : ℕ) → l ≡ 83 → true ≡ startsWith l
@@ -162,7 +162,7 @@ module _ (s : List ℕ) (points n t at : ℕ) (r : Run) (e : r ≡ runOf (fields
 
 -- ---- t
 module _ (s : List ℕ) (points n at : ℕ) (b : Bool) (d : b ≡ dashAt s at) where
-  pub settings-dash : (v : StartForm) → b ≡ true → v ≡ startOf points (push n (push 1 (ended s (fieldsAt (suc points) s (at + 2)))))
+  pub settings-dash : (v : StartForm) → b ≡ true → v ≡ startOf points (push n (push (dash n) (ended s (fieldsAt (suc points) s (at + 2)))))
       → v ≡ startOf points (push n (behindPosts s points n at))
   unfolding behindPosts
   settings-dash v h q = q ∙ rw (← d, h)

@@ -1,5 +1,5 @@
 -- Document 01, "The street program": the form of `S,n,t,post,checkpoint`; document 02, (ix): `W,n,t,post,first,second`, "by all the rules of an `S`".
-use Prim.Native.Nat.{ℕ, suc, _+_}
+use Prim.Native.Nat.{ℕ, suc, _+_, _/_}
 use mathlib.Core.List.{List}
 use mathlib.Core.Bool.{Bool, _&&_, _||_, cond}
 use lib.ListN.{length, getD}
@@ -21,9 +21,9 @@ isStart s = startsWith (getD s 0 0) && (ltb (length s) 2 || (eqb (getD s 1 0) 44
 abbrev pub pointsIn : List ℕ → ℕ
 pointsIn s = cond (eqb (getD s 0 0) 87) mostPoints 1
 
--- "In `S` the field t may be `-`, meaning t = 1."
+-- "In `S` the field t may be `-`"; document 02, (x): "It now means n divided by 2, rounded down. It holds for `S` and `W`."
 abbrev pub dash : ℕ → ℕ
-dash n = 1
+dash n = n / 2
 
 -- A comma and a `-` stand at a position.
 abbrev pub dashAt : List ℕ → ℕ → Bool

@@ -103,13 +103,13 @@ fn scan_own(line: &[u8], points: usize, n: u64, t: u64, at: usize) -> StartForm
     }
 }
 
-// t, which may be a dash, and what stands behind it.
+// t, which may be a dash for half of n, and what stands behind it.
 fn scan_settings(line: &[u8], points: usize, n: u64, at: usize) -> StartForm
     requires { ⌜ (1 ≤ points) × (points ≤ mostPoints) ⌝ }
     ensures { λ r. ⌜ r ≡ startOf points (push n (behindPosts (now (line .entry)) points n at)) ⌝ }
 {
     if dash_at(line, at) {
-        return scan_own(line, points, n, 1, at + 2);
+        return scan_own(line, points, n, n / 2, at + 2);
     }
     let run = csv::fields_at(line, at, 1);
     match run {

@@ -88,10 +88,39 @@ fn a_refused_start_may_be_repeated_and_a_second_gets_10() {
     assert_eq!(refusals(input), [1, 1, 2, 10, 0, 10, 10, 10, 7]);
 }
 
+/// "It now means n divided by 2, rounded down": with n = 2 and 3 that is 1, as before.
 #[test]
-fn the_dash_means_1() {
+fn the_dash_means_half() {
     let input = "S,3,-,1,2\n".to_string() + RAW + "D,0,93\nO,0,2,3,1\nG,0\n";
     assert_eq!(answers(input.as_bytes())[4], (0, 100));
+    for n in 2..=32 {
+        let figure = |t: &str| format!("{n},{t},1,2");
+        // A message of t+1, or 2t+1, coefficients is taken, and no other.
+        for (letter, second, k) in [("S", "", 1), ("W", ",3", 2)] {
+            let start = format!("{letter},{}{second}\n", figure("-"));
+            let message = |count: usize| format!("O,0,1{}\n", ",1".repeat(count));
+            let half = k * (n / 2) + 1;
+            let lines = [half - 1, half, half + 1].map(message).concat();
+            assert_eq!(refusals((start + &lines).as_bytes()), [0, 10, 0, 10], "{letter}, n = {n}");
+        }
+    }
+}
+
+/// The form, then 1, come before t is asked.
+#[test]
+fn a_dash_for_odd_numbers_of_posts() {
+    for (start, refusal) in [
+        ("S,0,-,0,0\n", 1),
+        ("S,1,-,1,1\n", 1),
+        ("S,33,-,1,1\n", 1),
+        ("S,9999999999,-,1,1\n", 1),
+        ("S,02,-,1,1\n", 10),
+        ("S,-,-,1,1\n", 10),
+        ("W,4,-,5,1,1\n", 3),
+        ("W,4,-,4,1,0\n", 4),
+    ] {
+        assert_eq!(refusals(start.as_bytes()), [refusal], "{start:?}");
+    }
 }
 
 /// After a start, lines of no right form.

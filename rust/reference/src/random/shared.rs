@@ -40,7 +40,7 @@ fn street_posts(rng: &mut Rng) -> usize {
 fn threshold(rng: &mut Rng, n: usize) -> usize {
     match rng.below(4) {
         0 => n - 1,
-        1 => 1,
+        1 => rng.pick(&[1, n / 2]),
         _ => rng.between(1, n - 1),
     }
 }

@@ -4,9 +4,6 @@ use crate::lines::{body, number, numbers};
 use crate::refusal::{require, Refusal};
 use crate::shape::{ROWS, TRIPLE};
 
-/// "In `S` the field t may be `-`, meaning t = 1"; in `W` too.
-const DASH_THRESHOLD: u64 = 1;
-
 /// The bytes up to the first comma, line feed or end of input.
 pub(super) fn first_field(line: &[u8]) -> &[u8] {
     let end = line.iter().position(|byte| b",\n".contains(byte));
@@ -30,12 +27,14 @@ impl Start {
             [b"W", n, t, post, first, second] => ([n, t, post], vec![first, second]),
             _ => return None,
         };
+        let n = number(n)?;
         let t = match t {
-            b"-" => DASH_THRESHOLD,
+            // "It now means n divided by 2, rounded down. It holds for `S` and `W`."
+            b"-" => n / 2,
             t => number(t)?,
         };
         let points = points.into_iter().map(number).collect::<Option<_>>()?;
-        Some(Self { n: number(n)?, t, post: number(post)?, points })
+        Some(Self { n, t, post: number(post)?, points })
     }
 }
 

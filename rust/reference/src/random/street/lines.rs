@@ -23,7 +23,7 @@ impl Clerk {
         let (n, t, post) = (self.shape.posts(), self.shape.threshold(), self.post);
         let letter = ["S", "W"][self.shape.points() - 1];
         let start = line(letter, &[n, t, post], self.points());
-        if t == 1 && self.rng.one_in(2) {
+        if t == n / 2 && self.rng.one_in(2) {
             return with_dash(&start);
         }
         start
