@@ -11,7 +11,7 @@ use Rattle.terms.proofs.Placing.{factors-again}
 use Rattle.relation.specs.Masks.{maskedTerms}
 use Rattle.relation.specs.Finish.{finishedTerms, relationDone, pairDone, termNumberA, termNumberB}
 use Rattle.relation.proofs.Passed.{relation-masks-made, relation-finished}
-use Rattle.runs.specs.Outline.{loadRow, loadTriple, deal, message, opening, linear, masks, collect, multiply, relationMasks, relationFinish, factoring, finishing, summing, Move, Act, actsIn, acts}
+use Rattle.runs.specs.Outline.{loadRow, loadTriple, deal, message, opening, linear, masks, collect, multiply, relationMasks, relationFinish, access, factoring, finishing, summing, Move, Act, actsIn, acts}
 use Rattle.runs.specs.Calls.{Actual, Post, Call, perform, after}
 use Rattle.runs.specs.Acts.{marksAfter, many, ActsDo}
 use Rattle.runs.proofs.Outcomes.{refusalOf, refusal-is, does, done}
@@ -63,6 +63,7 @@ marks-left (linear x) q z = refl
 marks-left (masks x) q z = refl
 marks-left (collect x) q z = refl
 marks-left (multiply x) q z = refl
+marks-left (access x) q z = refl
 marks-left (relationMasks x) q z =
     let f = relation-masks-made (q .session) (q .rows) (x .terms) (x .lent) z .placed in
     ap (λ (fs : List Term). maskedTerms (q .session) fs .marks) (factors-again (x .terms) (f .few)) ∙ masked-marks (productsOf (x .terms)) (q .session)
@@ -81,6 +82,7 @@ many-acts (linear x) q z = refl
 many-acts (masks x) q z = refl
 many-acts (collect x) q z = refl
 many-acts (multiply x) q z = refl
+many-acts (access x) q z = refl
 many-acts (relationMasks x) q z = factoring-many (productsOf (x .terms))
 many-acts (relationFinish x) q z =
     let f = relation-finished (q .session) (x .terms) (x .r) (x .blocks) (q .rows) z .checked .placed in
