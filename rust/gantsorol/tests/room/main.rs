@@ -22,7 +22,7 @@ const OPENING: [&str; 3] = ["gantsorol_open", "gantsorol_collect", "gantsorol_re
 const SPARED: usize = 8_000;
 
 /// No other call has so much on a small station's stack: less than one row of the most posts, 3,060 bytes. It was 2,000 before posts
-/// had two check points: an opening takes 2,056 where it took 1,848, since rooms go by the number of posts and not of points. Those
+/// had two check points: an opening takes 2,072 where it took 1,848, since rooms go by the number of posts and not of points. Those
 /// that may have two sessions, their terms or the numbers of a pack file's line there.
 const SMALL: usize = 2_100;
 const MORE: [&str; 4] = [
