@@ -31,14 +31,12 @@ pub fn wild_state(rng: &mut Rng, sane: bool) -> State {
     State { session, rows }
 }
 
-/// Any bits, of posts that no station has too; mostly few or nearly all.
-fn wild_bars(rng: &mut Rng) -> Barred {
-    let rare = rng.pick(&[2, 3, 30]);
-    let bars = Barred::posts((1..=Barred::BITS).filter(|_| rng.one_in(rare)));
-    if rng.one_in(3) {
-        Barred(bars.0.map(|word| !word))
-    } else {
-        bars
+/// Any bits, of posts that no station has too.
+pub fn wild_bars(rng: &mut Rng) -> Barred {
+    match rng.below(6) {
+        0 => Barred::NOBODY,
+        1 => Barred(Barred::NOBODY.0.map(|_| u32::MAX)),
+        _ => Barred(Barred::NOBODY.0.map(|_| rng.bits() as u32)),
     }
 }
 
