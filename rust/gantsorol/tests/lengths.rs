@@ -32,7 +32,7 @@ const COUNTS: [[usize; 2]; 4] = [[0, 0], [1, 0], [0, 1], [7, 5]];
 /// The binding's function beside each macro: its arguments by their names, and its value for a size and two counts.
 type Length = (&'static str, &'static str, fn([usize; 3], [usize; 2]) -> usize);
 
-const LENGTHS: [Length; 24] = [
+const LENGTHS: [Length; 26] = [
     ("CHECK_POINTS_LEN", "n, points", |[n, _, points], _| check_points_len(n, points)),
     ("ROW_LEN", "n, t, points", |[n, t, points], _| row_len(n, t, points)),
     ("ROWS_LEN", "n, t, points", |[n, t, points], _| rows_len(n, t, points)),
@@ -59,6 +59,8 @@ const LENGTHS: [Length; 24] = [
     ("DEAL_LINE_LEN", "", |_, _| DEAL_LINE_LEN),
     ("OPENING_LINE_LEN", "n, t, points", |[n, t, points], _| opening_line_len(n, t, points)),
     ("MASKS_LINE_LEN", "n, t, points", |[n, t, points], _| masks_line_len(n, t, points)),
+    ("SETS_LEN", "", |_, _| SETS_LEN),
+    ("ACCESS_LINE_LEN", "n", |[n, _, _], _| access_line_len(n)),
     ("START_LINE_LEN", "n, t, points", |[n, t, points], _| start_line_len(n, t, points)),
     ("ROW_LINE_LEN", "n, t, points", |[n, t, points], _| row_line_len(n, t, points)),
     ("TRIPLE_LINE_LEN", "n, t, points", |[n, t, points], _| triple_line_len(n, t, points)),
@@ -173,7 +175,7 @@ fn the_library_takes_these_lengths() {
         check_exact(row_len(n, t, points), pack);
         let pack = |len| post().load_triple(&mut rows.clone(), 0, &list(len)).refusal;
         check_exact(triple_pack_len(n, t, points), pack);
-        let message = |len| post().opening_message(&rows, 0, &mut list(len)).refusal;
+        let message = |len| post().opening_message(&rows, 0, 1, &mut list(len)).refusal;
         check_exact(message_len(t, points), message);
         check_exact(record_len(n, t, points), |len| post().open(&rows, 0, &list(len)).refusal);
         let masks = |len| post().masks(&rows, 0, 0, 0, &mut list(len)).refusal;
@@ -228,6 +230,12 @@ fn the_longest_lines_have_these_lengths() {
         check(opening, &|out| write_opening(n, t, points, ROWS - 1, n, &message, out));
         check(both, &|out| write_masks(n, t, points, ROWS - 3, n, &masks, out));
         assert!(opening < both && both <= LONGEST_LINE);
+        // The `A` line with the last row and every post.
+        let line = (1..=n).fold("A,95".to_string(), |line, post| format!("{line},{post}")) + "\n";
+        assert!(line.len() == access_line_len(n) && line.len() <= LONGEST_LINE);
+        let mut raw = session([n, t, points]);
+        raw.marks[95] = 1;
+        assert_eq!(raw.access(line.as_bytes()).refusal, 0);
     }
     assert_eq!(masks_line_len(MAX_POSTS, MAX_POSTS - 1, MAX_POINTS), LONGEST_LINE);
 }

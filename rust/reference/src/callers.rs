@@ -5,30 +5,34 @@ use crate::refusal::{require, Refusal};
 use crate::session::{mark, Answer, Session};
 use crate::shape::{Shape, MAX_POSTS, ROWS};
 
-/// The words of 64 bits that hold a bit for each post, bit j for post j.
-const WORDS: usize = MAX_POSTS / 64 + 1;
+/// The words of 32 bits that hold a bit for each post.
+const WORDS: usize = MAX_POSTS / 32 + 1;
 
 /// A set of posts: the ones that may not call for a row's opening. "Without that line it is all
-/// posts" that may, so that a new session has empty sets.
+/// posts" that may, so that a new session has empty sets. The bits are those of the C header: bit
+/// (j − 1) % 32 of word (j − 1) / 32 for post j, so that forged ones can be compared too.
 #[derive(Clone, Copy, Debug, PartialEq, Eq)]
-pub struct Barred([u64; WORDS]);
+pub struct Barred(pub [u32; WORDS]);
 
 impl Barred {
     /// Nobody is barred.
     pub const NOBODY: Self = Self([0; WORDS]);
 
-    /// These posts, 0 to 255, are barred.
+    /// As many as there are bits: no station has the last of them.
+    pub const BITS: usize = 32 * WORDS;
+
+    /// These posts, 1 to 256, are barred.
     pub fn posts(posts: impl IntoIterator<Item = usize>) -> Self {
         let mut barred = Self::NOBODY;
         for post in posts {
-            barred.0[post / 64] |= 1 << (post % 64);
+            barred.0[(post - 1) / 32] |= 1 << ((post - 1) % 32);
         }
         barred
     }
 
-    /// Whether a post, 0 to 255, is barred.
+    /// Whether a post, 1 to 256, is barred.
     pub fn has(self, post: usize) -> bool {
-        self.0[post / 64] & 1 << (post % 64) != 0
+        self.0[(post - 1) / 32] & 1 << ((post - 1) % 32) != 0
     }
 
     /// "A row made from others has the posts that all of them share": barred is who is barred by one.
@@ -66,7 +70,8 @@ pub(crate) fn try_set_callers<const P: u32>(
     require(callers.iter().all(|caller| posts.contains(caller)), Refusal::Range)?;
     let row = row as usize;
     s.expect_mark(row, mark::RAW)?;
-    let barred = posts.filter(|post| !callers.contains(post)).map(|post| post as usize);
+    // Whoever isn't listed is barred, also above n.
+    let barred = (1..=Barred::BITS).filter(|&post| !callers.contains(&(post as u64)));
     Ok((0, s.with_barred(row, Barred::posts(barred))))
 }
 

@@ -251,7 +251,7 @@ fn sets_of_255_posts() {
         let answer = REFERENCE.set_callers(session, &callers_line(95, &posts));
         assert_eq!((answer.refusal, answer.value), (0, 0));
         assert_eq!(callers(&answer.session, 95), posts);
-        assert_eq!(answer.session.barred[95], Barred::posts([missing]));
+        assert_eq!(answer.session.barred[95], Barred::posts([missing, 256]));
     }
 }
 

@@ -4,6 +4,7 @@
 #[path = "../common/mod.rs"]
 mod common;
 
+mod callers;
 mod odd;
 mod one_list;
 mod paperwork;
@@ -79,7 +80,8 @@ const SQUARES: Met = &[
     ("LoadRow", &[0, 1, 2, 3, 4, 5, 6, 7, 8]),
     ("LoadTriple", &[0, 1, 2, 3, 4, 5, 6, 7, 8]),
     ("Deal", &[0, 1, 2, 3, 4, 5, 6, 7, 8]),
-    ("OpeningMessage", &[0, 5, 6, 7, 8]),
+    ("OpeningMessage", &[0, 5, 6, 7, 8, 15]),
+    ("SetCallers", &[0, 7, 10, 11]),
     ("Open", &[0, 5, 6, 7, 8, 9, 13]),
     ("Linear", &[0, 5, 6, 7, 8]),
     ("Masks", &[0, 5, 6, 7, 8]),
@@ -94,7 +96,7 @@ const SQUARES: Met = &[
 #[test]
 fn squares() {
     let mut seen = Seen::default();
-    for seed in seeds(330) {
+    for seed in seeds(390) {
         let mut rng = Rng::new(seed);
         let n = if rng.one_in(4) { MAX_POSTS } else { rng.between(33, MAX_POSTS) };
         let t = match seed % 3 {

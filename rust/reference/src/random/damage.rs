@@ -12,7 +12,7 @@ pub enum Damage {
     Right { first: usize, row: u8 },
     Y { first: usize, number: u32 },
     Y2 { first: usize, number: u32 },
-    Bar { row: usize, post: usize },
+    Bars { row: usize, word: usize, bits: u32 },
     Number { place: usize, number: u32 },
     Posts(usize),
     Threshold(usize),
@@ -33,9 +33,7 @@ impl Damage {
             Self::Right { first, row } => session.right[first] = row,
             Self::Y { first, number } => session.y[first] = number,
             Self::Y2 { first, number } => session.y2[first] = number,
-            Self::Bar { row, post } => {
-                session.barred[row] = session.barred[row].or(Barred::posts([post]));
-            }
+            Self::Bars { row, word, bits } => session.barred[row].0[word] = bits,
             Self::Number { place, number } => {
                 if let Some(place) = state.rows.get_mut(place) {
                     *place = number;
@@ -69,7 +67,7 @@ impl Damage {
             8 => Self::Length(random_length(rng, shape.all_rows())),
             9 => Self::Y { first: row, number: rng.number() },
             10 => Self::Y2 { first: row, number: rng.number() },
-            11 => Self::Bar { row, post: rng.between(1, shape.posts()) },
+            11 => random_bars(rng, shape, row),
             _ => Self::random_heading(rng),
         }
     }
@@ -87,6 +85,18 @@ impl Damage {
             _ => Self::Point(rng.pick(&points)),
         }
     }
+}
+
+/// Other bits in one of a row's words: often the word of the last posts, or of those above n.
+fn random_bars(rng: &mut Rng, shape: Shape, row: usize) -> Damage {
+    let words = Barred::BITS / 32;
+    let word = match rng.below(3) {
+        0 => (shape.posts() - 1) / 32,
+        1 => shape.posts() / 32,
+        _ => rng.below(words),
+    };
+    let one = 1 << rng.below(32);
+    Damage::Bars { row, word: word.min(words - 1), bits: rng.pick(&[0, u32::MAX, one, !one]) }
 }
 
 fn random_mark(rng: &mut Rng) -> u8 {

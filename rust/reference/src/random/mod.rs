@@ -31,4 +31,4 @@ pub use script::{script, script_for, Script, Step};
 pub use seen::{Met, Seen, CALL_REFUSALS, PAPERWORK_REFUSALS, STREET_REFUSALS};
 pub use shared::{check_points, shape, street_shape, unnoticed, SharedRow};
 pub use street::street_input;
-pub use wild::{odd_triple, wild_calls, wild_state};
+pub use wild::{odd_triple, wild_bars, wild_calls, wild_state};

@@ -1,7 +1,7 @@
 //! States and calls with every number at random, which never were part of a session.
 
 use super::{mutate, Call, Rng, State};
-use crate::{Barred, Session, Term, MAX_POSTS, NO_ROW, ROWS};
+use crate::{Barred, Session, Term, NO_ROW, ROWS};
 
 /// Numbers of a row, of two posts of which either opens with the other.
 const ROW: usize = 6;
@@ -21,7 +21,7 @@ pub fn wild_state(rng: &mut Rng, sane: bool) -> State {
         right: bytes(rng, 256),
         y: std::array::from_fn(|_| rng.number()),
         y2: std::array::from_fn(|_| rng.number()),
-        barred: std::array::from_fn(|_| Barred::posts((1..=MAX_POSTS).filter(|_| rng.one_in(3)))),
+        barred: std::array::from_fn(|_| wild_bars(rng)),
     };
     let length = if sane { ROWS * ROW } else { rng.below(600) };
     let rows = match rng.below(2) {
@@ -29,6 +29,15 @@ pub fn wild_state(rng: &mut Rng, sane: bool) -> State {
         _ => (0..length).map(|_| rng.number()).collect(),
     };
     State { session, rows }
+}
+
+/// Any bits, of posts that no station has too.
+pub fn wild_bars(rng: &mut Rng) -> Barred {
+    match rng.below(6) {
+        0 => Barred::NOBODY,
+        1 => Barred(Barred::NOBODY.0.map(|_| u32::MAX)),
+        _ => Barred(Barred::NOBODY.0.map(|_| rng.bits() as u32)),
+    }
 }
 
 /// Each call once, most of them wild.
@@ -43,7 +52,11 @@ pub fn wild_calls(rng: &mut Rng) -> [Call; 13] {
         Call::LoadRow { row: a, pack: list(rng) },
         Call::LoadTriple { first: a, pack: list(rng) },
         Call::Deal { row: a, c: rng.number() },
-        Call::OpeningMessage { row: a, caller: rng.below(4), out: rng.pick(&[2, 2, 2, 0, 1, 3]) },
+        Call::OpeningMessage {
+            row: a,
+            caller: if rng.one_in(4) { rng.size() } else { rng.below(4) },
+            out: rng.pick(&[2, 2, 2, 0, 1, 3]),
+        },
         Call::SetCallers { line: wild_line(rng, a) },
         Call::Open { row: a, record: list(rng) },
         Call::Linear { dest: a, a: b, b: c, scale: rng.number(), fee: rng.number() },
