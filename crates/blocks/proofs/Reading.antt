@@ -181,6 +181,6 @@ parts-unread q row a b la lb like =
 
 pub alike-is : AlikeIs
 alike-is q a b h = record {
-  marks = λ j o. h ((j - 1) * (q .shape .t + 1 + 1)) (j, o, inl refl);
-  coefficients = λ j o m i l. h ((j - 1) * (q .shape .t + 1 + 1) + 1 + i) (j, o, inr (m, omega arith, omega arith));
+  marks = λ j o. h ((j - 1) * (q .shape .points * q .shape .t + 1 + 1)) (j, o, inl refl);
+  coefficients = λ j o m i l. h ((j - 1) * (q .shape .points * q .shape .t + 1 + 1) + 1 + i) (j, o, inr (m, omega arith, omega arith));
 }

@@ -42,11 +42,11 @@ pub record Alike (q : Party) (a b : List ℕ) : Type 0 where
   pub coefficients : (j : ℕ) → Other q j → markOf q a j ≡ 1 → (i : ℕ) → i ≤ q .shape .points * q .shape .t
       → coefficientOf q a j i ≡ coefficientOf q b j i
 
--- Nothing else is asked: two records are alike where they have the same number at the place of every other post's mark, and at the t+1 places
--- behind a mark of 1.
+-- Nothing else is asked: two records are alike where they have the same number at the place of every other post's mark, and at the
+-- points · t + 1 places behind a mark of 1.
 abbrev pub LookedAt : Party → List ℕ → ℕ → Type 0
 LookedAt q blocks place =
-    let w = q .shape .t + 1 + 1 in
+    let w = q .shape .points * q .shape .t + 1 + 1 in
     (j : ℕ) × ((1 ≤ j) × (j ≤ q .shape .n) × (j ≢ q .post))
     × ((place ≡ (j - 1) * w) ⊎ ((getD blocks ((j - 1) * w) 0 ≡ 1) × ((j - 1) * w < place) × (place < (j - 1) * w + w)))
 
