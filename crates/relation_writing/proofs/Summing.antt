@@ -146,8 +146,11 @@ shares-walk d k (t ∷ ts) sets = shares-walk d (suc k) ts (shareIn d k t sets)
 pub shared-is : (sets one two : List ℕ) (d : ℕ) (rows : List ℕ) → one ≡ shared 8 sets d 96 96 → two ≡ joining d rows one → two ≡ sharedAll sets d rows
 shared-is sets one two d rows e e' = e' ∙ ap (joining d rows) e
 
-pub settled-is : (f g : Session) (d : ℕ) (rows x : List ℕ) → f ≡ g → x ≡ sharedAll (f .barred) d rows → withBarred f x ≡ sharingAll g d rows
-settled-is f g d rows x e ex = ap (withBarred f) ex ∙ ap (λ (s : Session). sharingAll s d rows) e
+pub set-is : (s : Session) (d : ℕ) (rows x : List ℕ) → x ≡ sharedAll (s .barred) d rows → withBarred s x ≡ sharingAll s d rows
+set-is s d rows x e = ap (withBarred s) e
+
+pub settled-is : (f g o : Session) (d : ℕ) (rows : List ℕ) → f ≡ g → o ≡ sharingAll f d rows → o ≡ sharingAll g d rows
+settled-is f g o d rows e eo = eo ∙ ap (λ (s : Session). sharingAll s d rows) e
 
 abbrev pub finishIn : List ℕ → List ℕ → ℕ → Term → Session → Session
 finishIn yA yB k t s = pairDone s (t .first) (getD yA k 0) (getD yB k 0)

@@ -144,12 +144,21 @@ fn join_terms(sets: &mut [u32], all: Terms, dest: usize)
 }
 
 // The sum's row bars just these.
-pub fn share_terms(sets: &mut [u32], all: Terms, dest: usize)
+fn share_terms(sets: &mut [u32], all: Terms, dest: usize)
     requires { ⌜ (length (now sets) ≡ setsLength) × Few all × (dest < 96) ⌝ }
     ensures { λ r. ⌜ now (sets .exit) ≡ sharedAll (now (sets .entry)) dest (numberRows (termsOf all)) ⌝ }
 {
     callers::share(sets, dest, shape::ROWS, shape::ROWS);
     join_terms(sets, all, dest);
+}
+
+fn with_set(session: Session, all: Terms, dest: usize) -> Session
+    requires { ⌜ Few all × (dest < 96) ⌝ }
+    ensures { λ r. ⌜ r ≡ sharingAll session dest (numberRows (termsOf all)) ⌝ }
+{
+    let mut barred = session.barred;
+    share_terms(&mut barred, all, dest);
+    Session { barred, ..session }
 }
 
 // The same on every product term's triple.
@@ -170,7 +179,5 @@ pub fn settle(session: Session, all: Terms, dest: usize, opened: OpenedTerms) ->
     ensures { λ r. ⌜ r ≡ sharingAll (triplesFinished (opened .«y_a») (opened .«y_b») 0 (factorsOf all) session) dest (numberRows (termsOf all)) ⌝ }
 {
     let finished = finish_triples(session, all, opened);
-    let mut barred = finished.barred;
-    share_terms(&mut barred, all, dest);
-    Session { barred, ..finished }
+    with_set(finished, all, dest)
 }

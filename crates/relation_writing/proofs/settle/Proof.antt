@@ -5,4 +5,4 @@ use Rattle.relation_writing.proofs.settle.Statement.{statement}
 use Rattle.relation_writing.proofs.settle.Tie as tie
 
 pub settle-spec : {M : Type 1} → statement M
-settle-spec = tie.close (tie.spec (λ c κs. search needs) (λ c. search needs) (λ c κs. search needs) (λ c. search (needs, settled-is)))
+settle-spec = tie.close (tie.spec (λ c κs. search needs) (λ c κs. search needs) (λ c. search (needs, settled-is)))
