@@ -4,7 +4,8 @@ use csv::short;
 use session::Answer;
 use session::Session;
 use shape::Points;
-ghost use Rattle.refusal.specs.Refusal.{first};
+ghost use Rattle.refusal.specs.Refusal.{first, outcome};
+ghost use Rattle.session.specs.Between.{Allows};
 ghost use mathlib.Core.Path.{_≡_};
 ghost use mathlib.Core.Bool.{not, _||_, cond};
 ghost use Prim.Native.Nat.{_<_};
@@ -265,26 +266,32 @@ fn settings(session: Session) -> u8
     session::checks::settings(session.n, session.t, session.post, session.points, points)
 }
 
-// An A line sets the posts that may call for its row's opening.
+// The same, where the line is not refused.
+fn place_unless(refusal: u8, sets: &mut [u32], row: usize, words: [u32; 8])
+    requires { ⌜ (length (now sets) ≡ setsLength) × Allows refusal (row < 96) ⌝ }
+    ensures { λ r. ⌜ now (sets .exit) ≡ outcome refusal (placed 8 (now (sets .entry)) row words) (now (sets .entry)) ⌝ }
+{
+    if refusal != 0 {
+        return;
+    }
+    place(sets, row, words);
+}
+
+// An A line sets the posts that may call for its row's opening. One end, refused or not, so that the session is copied once, into the answer.
 pub fn access(session: Session, line: &[u8]) -> Answer
     ensures { λ r. ⌜ r ≡ accessAnswer session (now (line .entry)) ⌝ }
 {
     let own = settings(session);
-    if own != 0 {
-        return session.refuse(own);
-    }
     let read = read_line(line, session.n);
-    if read.refusal != 0 {
-        return session.refuse(read.refusal);
-    }
     let held = session.marks;
     let mark = session::checks::wrong_mark(&held, read.row, shape::RAW);
-    if mark != 0 {
-        return session.refuse(mark);
-    }
+    let refusal = refusal::or_else(own, refusal::or_else(read.refusal, mark));
     let mut barred = session.barred;
     let words = read.words;
-    place(&mut barred, read.row, words);
-    let admitting = Session { barred, ..session };
-    admitting.done(0)
+    place_unless(refusal, &mut barred, read.row, words);
+    Answer {
+        refusal,
+        value: 0,
+        session: Session { barred, ..session },
+    }
 }
