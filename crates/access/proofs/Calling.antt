@@ -5,19 +5,21 @@ use mathlib.Core.Bool.{Bool, true, false, not, _||_}
 use mathlib.Core.List.{List, [], _∷_, _++_}
 use native.Mathlib.Omega.{arith}
 use lib.Dec.{ltb}
+use lib.ListN.{length}
 use borrow.Author.Tests.{ltb-true, ltb-false}
 use Rattle.shape.specs.Marks.{raw}
-use Rattle.refusal.specs.Refusal.{Test, _when_, first, outcome}
+use Rattle.refusal.specs.Refusal.{Test, _when_, first, orElse, outcome}
 use Rattle.refusal.proofs.Groups.{stopped, went-on}
-use Rattle.refusal.proofs.Endings.{accepted}
+use Rattle.refusal.proofs.Endings.{refused, accepted}
 use Rattle.session.specs.declared.Session.{Session}
-use Rattle.session.specs.declared.Answer.{Answer}
 use Rattle.session.specs.Sessions.{pointsOf, sessionTests, withBarred, holding, answer}
 use Rattle.session.specs.Checks.{noRow, wrongMark}
+use Rattle.session.specs.Between.{Allows}
 use Rattle.csv.specs.Fields.{Parsed, parsed, malformed}
 use Rattle.access.specs.declared.Read.{Read}
 use Rattle.access.specs.Access.{accessFields, accessRow, accessPosts, badAccess, rising, anyOutside, everyPost, admittedAll, placed, accessTests, accessRefusal, accessAnswer}
 use Rattle.access.specs.Between.{told, readOf, settingsOf}
+use Rattle.access.proofs.Listed.{length-placed}
 
 -- ---- what is read is what the tests say
 module _ (n : ℕ) (last : Bool) where
@@ -55,18 +57,23 @@ module _ (n : ℕ) (last : Bool) where
   goes (parsed (r ∷ cs) next) z = told-goes r (admittedAll everyPost cs) (rising cs) (ltb 95 r) (anyOutside n cs) refl z
   goes malformed z = let k : _≡_ {A = ℕ} 10 0 = z in absurd (omega arith)
 
+-- ---- the set of a line that is not refused
+pub place-room : (f row : ℕ) → Allows f (row < 96) → f ≡ 0 → row < 96
+place-room f row h z = h .allowed z
+
+pub place-refused : (f : ℕ) (sets new : List ℕ) → (f ≡ 0 → ⊥) → sets ≡ outcome f new sets
+place-refused f sets new h = refused f f new sets refl h
+
+pub place-done : (f : ℕ) (sets x new : List ℕ) → f ≡ 0 → x ≡ new → x ≡ outcome f new sets
+place-done f sets x new z e = accepted f f x new sets refl z e
+
+pub place-length : (sets x words : List ℕ) (row : ℕ) → x ≡ placed 8 sets row words → length x ≡ length sets
+place-length sets x words row e = ap length e ∙ length-placed sets row words 8
+
 -- ---- the answer
 module _ (s : Session) (line : List ℕ) where
   abbrev own : List Test
   own = lineAnd (s .n) (wrongMark s (accessRow (accessFields line)) raw) (accessFields line)
-
-  refuses : (f : ℕ) (x : Answer) → f ≡ accessRefusal s line → (f ≡ 0 → ⊥) → x ≡ holding f 0 s → x ≡ accessAnswer s line
-  unfolding outcome
-  refuses f x e h q = q ∙ go f e h
-    where
-      go : (f : ℕ) → f ≡ accessRefusal s line → (f ≡ 0 → ⊥) → holding f 0 s ≡ accessAnswer s line
-      go zero e h = absurd (h refl)
-      go (suc k) e h = rw (← e)
 
   own-is : (f : ℕ) → f ≡ first (settingsOf s) → (f ≡ 0 → ⊥) → f ≡ accessRefusal s line
   unfolding accessRefusal
@@ -76,41 +83,57 @@ module _ (s : Session) (line : List ℕ) where
   unfolding accessRefusal
   late-is f g e z q = went-on (settingsOf s) own tt f e g z q
 
-  module _ (f : ℕ) (ef : f ≡ first (settingsOf s)) where
-    pub access-own : (x : Answer) → (f ≡ 0 → ⊥) → x ≡ holding f 0 s → x ≡ accessAnswer s line
-    access-own x h q = refuses f x (own-is f ef h) h q
+  module _ (f : ℕ) (ef : f ≡ first (settingsOf s)) (d : Read) (ed : d ≡ readOf (s .n) (accessFields line)) where
+    module _ (y : d .refusal ≡ 0) where
+      read-zero : readOf (s .n) (accessFields line) .refusal ≡ 0
+      read-zero = ap (λ (r : Read). r .refusal) (sym ed) ∙ y
 
-    module _ (z : f ≡ 0) (d : Read) (ed : d ≡ readOf (s .n) (accessFields line)) where
-      pub access-line : (x : Answer) → (d .refusal ≡ 0 → ⊥) → x ≡ holding (d .refusal) 0 s → x ≡ accessAnswer s line
-      access-line x h q =
-          let e : d .refusal ≡ readOf (s .n) (accessFields line) .refusal = ap (λ (r : Read). r .refusal) ed in
-          refuses (d .refusal) x
-          (late-is f (d .refusal) ef z (e ∙ stops (s .n) (wrongMark s (accessRow (accessFields line)) raw) (accessFields line) (λ k. h (e ∙ k)))) h q
+      row-is : d .row ≡ accessRow (accessFields line)
+      row-is = ap (λ (r : Read). r .row) ed ∙ goes (s .n) (wrongMark s (accessRow (accessFields line)) raw) (accessFields line) read-zero .1
 
-      module _ (y : d .refusal ≡ 0) where
-        read-zero : readOf (s .n) (accessFields line) .refusal ≡ 0
-        read-zero = ap (λ (r : Read). r .refusal) (sym ed) ∙ y
+      words-are : d .words ≡ admittedAll everyPost (accessPosts (accessFields line))
+      words-are = ap (λ (r : Read). r .words) ed ∙ goes (s .n) (wrongMark s (accessRow (accessFields line)) raw) (accessFields line) read-zero .2
 
-        row-is : d .row ≡ accessRow (accessFields line)
-        row-is = ap (λ (r : Read). r .row) ed ∙ goes (s .n) (wrongMark s (accessRow (accessFields line)) raw) (accessFields line) read-zero .1
+      row-96 : d .row < 96
+      row-96 = omega (arith, row-is, goes (s .n) (wrongMark s (accessRow (accessFields line)) raw) (accessFields line) read-zero .3)
 
-        words-are : d .words ≡ admittedAll everyPost (accessPosts (accessFields line))
-        words-are = ap (λ (r : Read). r .words) ed ∙ goes (s .n) (wrongMark s (accessRow (accessFields line)) raw) (accessFields line) read-zero .2
+    module _ (m : ℕ) (em : m ≡ first (7 when wrongMark s (d .row) raw ∷ [])) where
+      -- the three groups of tests, one after the other
+      asked : orElse f (orElse (d .refusal) m) ≡ accessRefusal s line
+      asked = go f refl (d .refusal) refl
+        where
+          go : (k : ℕ) → f ≡ k → (j : ℕ) → d .refusal ≡ j → orElse k (orElse j m) ≡ accessRefusal s line
+          go (suc k) e j q = sym e ∙ own-is f ef (λ z. let y : suc k ≡ 0 = sym e ∙ z in omega arith)
+          go zero e (suc j) q =
+              let w : d .refusal ≡ readOf (s .n) (accessFields line) .refusal = ap (λ (r : Read). r .refusal) ed in
+              sym q
+              ∙ late-is f (d .refusal) ef e
+              (w ∙ stops (s .n) (wrongMark s (accessRow (accessFields line)) raw) (accessFields line) (λ z. let y : suc j ≡ 0 = sym q ∙ w ∙ z in omega arith))
+          go zero e zero q =
+              late-is f m ef e
+              (em ∙ ap (λ (r : ℕ). first (7 when wrongMark s r raw ∷ [])) (row-is q)
+              ∙ goes (s .n) (wrongMark s (accessRow (accessFields line)) raw) (accessFields line) (read-zero q) .0)
 
-        pub access-room : d .row < 96
-        access-room = omega (arith, row-is, goes (s .n) (wrongMark s (accessRow (accessFields line)) raw) (accessFields line) read-zero .3)
+      module _ (g : ℕ) (eg : g ≡ orElse (d .refusal) m) (r : ℕ) (er : r ≡ orElse f g) where
+        line-zero : r ≡ 0 → d .refusal ≡ 0
+        line-zero z = go f (d .refusal) refl (sym (er ∙ ap (orElse f) eg) ∙ z)
+          where
+            go : (k j : ℕ) → d .refusal ≡ j → orElse k (orElse j m) ≡ 0 → d .refusal ≡ 0
+            go (suc k) j q e = absurd (omega arith)
+            go zero zero q e = q
+            go zero (suc j) q e = absurd (omega arith)
 
-        module _ (m : ℕ) (em : m ≡ first (7 when wrongMark s (d .row) raw ∷ [])) (x : Answer) where
-          mark-is : m ≡ accessRefusal s line
-          mark-is =
-              late-is f m ef z (em ∙ ap (λ (r : ℕ). first (7 when wrongMark s r raw ∷ [])) row-is
-              ∙ goes (s .n) (wrongMark s (accessRow (accessFields line)) raw) (accessFields line) read-zero .0)
+        pub access-room : Allows r (d .row < 96)
+        access-room = record { allowed = λ z. row-96 (line-zero z) }
 
-          pub access-mark : (m ≡ 0 → ⊥) → x ≡ holding m 0 s → x ≡ accessAnswer s line
-          access-mark h q = refuses m x mark-is h q
-
-          pub access-done : (b : List ℕ) → m ≡ 0 → b ≡ placed 8 (s .barred) (d .row) (d .words) → x ≡ holding 0 0 (withBarred s b) → x ≡ accessAnswer s line
-          access-done b h e q =
-              accepted m (accessRefusal s line) x (holding 0 0 (withBarred s (placed 8 (s .barred) (accessRow (accessFields line)) (admittedAll everyPost (accessPosts (accessFields line))))))
-              (holding (accessRefusal s line) 0 s) mark-is h
-              (q ∙ ap (λ (l : List ℕ). holding 0 0 (withBarred s l)) (e ∙ ap₂ (λ (r : ℕ) (w : List ℕ). placed 8 (s .barred) r w) row-is words-are))
+        pub access-done : (b : List ℕ) → b ≡ outcome r (placed 8 (s .barred) (d .row) (d .words)) (s .barred)
+            → holding r 0 (withBarred s b) ≡ accessAnswer s line
+        unfolding outcome
+        access-done b e = rw (← asked, ← eg, ← er) (go r refl e)
+          where
+            go : (k : ℕ) → r ≡ k → b ≡ outcome k (placed 8 (s .barred) (d .row) (d .words)) (s .barred)
+                → holding r 0 (withBarred s b)
+                ≡ answer r 0 (withBarred s (placed 8 (s .barred) (accessRow (accessFields line)) (admittedAll everyPost (accessPosts (accessFields line))))) s
+            go zero z q =
+                rw (z, q, row-is (line-zero z), words-are (line-zero z))
+            go (suc k) z q = rw (z, q)

@@ -1,8 +1,8 @@
 pub mod Walking
 pub mod Reading
+pub mod Listed
 pub mod Calling
 pub mod Figures
 pub mod Tables
-pub mod Listed
 pub mod Theorems
 pub mod Bytes

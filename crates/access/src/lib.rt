@@ -4,10 +4,13 @@ use csv::short;
 use session::Answer;
 use session::Session;
 use shape::Points;
-ghost use Rattle.refusal.specs.Refusal.{first};
+ghost use Rattle.refusal.specs.Refusal.{first, outcome};
+ghost use Rattle.session.specs.Between.{Allows};
 ghost use mathlib.Core.Path.{_≡_};
 ghost use mathlib.Core.Bool.{not, _||_, cond};
 ghost use Prim.Native.Nat.{_<_};
+ghost use lib.ListN.{length};
+ghost use Rattle.callers.specs.Sets.{setsLength};
 ghost use lib.Dec.{eqb, ltb};
 ghost use Rattle.refusal.specs.Conditions.{outside};
 ghost use Rattle.access.specs.Access.{commas, alone, severalAt, postsAt, accessFields, admitted, placed, accessAnswer};
@@ -130,14 +133,13 @@ fn walk(line: &[u8], n: usize, at: usize, count: usize) -> Posts
 }
 
 // The eight numbers become a row's.
-fn place(mut sets: [u32; 768], row: usize, words: [u32; 8]) -> [u32; 768]
-    requires { ⌜ row < 96 ⌝ }
-    ensures { λ r. ⌜ r ≡ placed 8 sets row words ⌝ }
+fn place(sets: &mut [u32], row: usize, words: [u32; 8])
+    requires { ⌜ (length (now sets) ≡ setsLength) × (row < 96) ⌝ }
+    ensures { λ r. ⌜ now (sets .exit) ≡ placed 8 (now (sets .entry)) row words ⌝ }
 {
     for k in 0..8 {
         sets[8 * row + k] = words[k];
     }
-    sets
 }
 
 // "`A,row,` alone": behind the row a comma and the line feed, and nothing more.
@@ -264,26 +266,32 @@ fn settings(session: Session) -> u8
     session::checks::settings(session.n, session.t, session.post, session.points, points)
 }
 
-// An A line sets the posts that may call for its row's opening.
+// The same, where the line is not refused.
+fn place_unless(refusal: u8, sets: &mut [u32], row: usize, words: [u32; 8])
+    requires { ⌜ (length (now sets) ≡ setsLength) × Allows refusal (row < 96) ⌝ }
+    ensures { λ r. ⌜ now (sets .exit) ≡ outcome refusal (placed 8 (now (sets .entry)) row words) (now (sets .entry)) ⌝ }
+{
+    if refusal != 0 {
+        return;
+    }
+    place(sets, row, words);
+}
+
+// An A line sets the posts that may call for its row's opening. One end, refused or not, so that the session is copied once, into the answer.
 pub fn access(session: Session, line: &[u8]) -> Answer
     ensures { λ r. ⌜ r ≡ accessAnswer session (now (line .entry)) ⌝ }
 {
     let own = settings(session);
-    if own != 0 {
-        return session.refuse(own);
-    }
     let read = read_line(line, session.n);
-    if read.refusal != 0 {
-        return session.refuse(read.refusal);
-    }
     let held = session.marks;
     let mark = session::checks::wrong_mark(&held, read.row, shape::RAW);
-    if mark != 0 {
-        return session.refuse(mark);
-    }
-    let sets = session.barred;
+    let refusal = refusal::or_else(own, refusal::or_else(read.refusal, mark));
+    let mut barred = session.barred;
     let words = read.words;
-    let barred = place(sets, read.row, words);
-    let admitting = Session { barred, ..session };
-    admitting.done(0)
+    place_unless(refusal, &mut barred, read.row, words);
+    Answer {
+        refusal,
+        value: 0,
+        session: Session { barred, ..session },
+    }
 }
