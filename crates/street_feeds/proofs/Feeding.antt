@@ -69,7 +69,7 @@ module _ (part : List ℕ) (closing : Bool) (len : ℕ) where
   pub ends-feed : closing ≡ false → (b : Bool) → b ≡ eqb (getD part (length part - 1) 0) 10 → b ≡ Ends
   ends-feed e b q = q ∙ rw e
 
--- ---- an `S` is accepted
+-- ---- a start line is accepted
 module _ (letter refusal : ℕ) (started : Bool) where
   pub starts-by : letter ≡ 83 → (b : Bool) → b ≡ eqb refusal 0 → b ≡ cond (eqb letter 83) (eqb refusal 0) started
   starts-by e b q = q ∙ rw e

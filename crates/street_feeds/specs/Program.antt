@@ -58,7 +58,7 @@ fed p (b ∷ s) = fed (taken p b) s
 unfoldable pub closed : Running → Running
 closed p = cond (eqb (length (p .line)) 0) p (answered p)
 
--- Before the first byte: no `S` accepted, an empty store, the header printed.
+-- Before the first byte: no start line accepted, an empty store, the header printed.
 abbrev pub begun : Running
 begun =
     record {

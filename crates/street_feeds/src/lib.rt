@@ -230,7 +230,7 @@ pub fn change_line(
     }
 }
 
-// Whether an `S` was accepted, after a change.
+// Whether a start line was accepted, after a change.
 fn starts(started: bool, letter: u8, refusal: u8) -> bool
     ensures { λ r. ⌜ r ≡ cond (eqb letter 83) (eqb refusal 0) started ⌝ }
 {
@@ -254,7 +254,7 @@ pub fn drain(feed: Feed) -> Feed
     }
 }
 
-// Before the first byte: no `S` was accepted, and nothing is kept.
+// Before the first byte: no start line was accepted, and nothing is kept.
 pub fn begin() -> Feed
     ensures { λ r. ⌜ r ≡ firstFeed ⌝ }
 {

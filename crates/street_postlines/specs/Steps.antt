@@ -1,4 +1,4 @@
--- Document 01, "The street program": what a broadcast line, `D`, `O` or `M`, does once an `S` was accepted. "`O` lines are kept for one
+-- Document 01, "The street program": what a broadcast line, `D`, `O` or `M`, does once a start line was accepted. "`O` lines are kept for one
 -- row: one for another row empties the record first, a second from one post replaces the first"; document 02, (iii): "`M` lines, kept
 -- for one triple as `O` lines are for a row".
 use Prim.Native.Nat.{ℕ}

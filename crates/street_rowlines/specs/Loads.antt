@@ -1,4 +1,4 @@
--- Document 01, "The street program": what `R` does once an `S` was accepted; document 02, (iii): `T`.
+-- Document 01, "The street program": what `R` does once a start line was accepted; document 02, (iii): `T`.
 use Prim.Native.Nat.{ℕ, _+_}
 use mathlib.Core.List.{List, [], _∷_}
 use lib.ListN.{getD, drop}

@@ -1,4 +1,4 @@
--- Document 01, "The street program": what `G` does once an `S` was accepted; document 02, (iii): `L`.
+-- Document 01, "The street program": what `G` does once a start line was accepted; document 02, (iii): `L`.
 use Prim.Native.Nat.{ℕ}
 use mathlib.Core.List.{List, [], _∷_}
 use lib.ListN.{getD}
