@@ -1,13 +1,13 @@
 -- A call that is not refused leaves the marks that its acts make.
 use Prim.Native.Nat.{ℕ, suc, _+_, _*_, _≤_}
-use mathlib.Core.Path.{_≡_, refl, sym, _∙_, ap}
+use mathlib.Core.Path.{_≡_, refl, sym, _∙_, ap, ap₂}
 use mathlib.Core.List.{List, [], _∷_, _++_}
 use native.Mathlib.Omega.{arith}
 use lib.ListN.{length}
 use Rattle.session.specs.declared.Session.{Session}
 use Rattle.terms.specs.declared.Term.{Term}
 use Rattle.terms.specs.Listed.{productsOf}
-use Rattle.terms.proofs.Placing.{factors-again}
+use Rattle.terms.proofs.Placing.{factors-again, terms-again}
 use Rattle.relation.specs.Masks.{maskedTerms}
 use Rattle.relation.specs.Finish.{finishedTerms, relationDone, pairDone, termNumberA, termNumberB}
 use Rattle.relation.proofs.Passed.{relation-masks-made, relation-finished}
@@ -41,7 +41,7 @@ factoring-many (t ∷ ts) = ap suc (factoring-many ts)
 
 -- and then the sum, of one term or more
 with-sum : (ts : List Term) (r : ℕ) (blocks : List ℕ) (q : Post) → 1 ≤ length ts
-    → relationDone (q .session) (q .rows) blocks (productsOf ts) r .marks ≡ marksAfter (acts {K = Actual} (relationFinish (record { terms = ts; r = r; blocks = blocks }))) (q .session .marks)
+    → relationDone (q .session) (q .rows) blocks (productsOf ts) ts r .marks ≡ marksAfter (acts {K = Actual} (relationFinish (record { terms = ts; r = r; blocks = blocks }))) (q .session .marks)
 with-sum [] r blocks q h = absurd (omega arith)
 with-sum (t ∷ ts) r blocks q h =
     finished-marks (2 * length (productsOf (t ∷ ts))) blocks (summing r (t ∷ ts)) (q .session) (q .rows) 0 (productsOf (t ∷ ts)) (q .session)
@@ -69,7 +69,8 @@ marks-left (relationMasks x) q z =
     ap (λ (fs : List Term). maskedTerms (q .session) fs .marks) (factors-again (x .terms) (f .few)) ∙ masked-marks (productsOf (x .terms)) (q .session)
 marks-left (relationFinish x) q z =
     let f = relation-finished (q .session) (x .terms) (x .r) (x .blocks) (q .rows) z .checked .placed in
-    ap (λ (fs : List Term). relationDone (q .session) (q .rows) (x .blocks) fs (x .r) .marks) (factors-again (x .terms) (f .few))
+    ap₂ (λ (fs ts : List Term). relationDone (q .session) (q .rows) (x .blocks) fs ts (x .r) .marks) (factors-again (x .terms) (f .few))
+    (terms-again (x .terms) (f .few))
     ∙ with-sum (x .terms) (x .r) (x .blocks) q (f .some)
 
 many-acts : (c : Call) (q : Post) → refusalOf c q ≡ 0 → length (acts c) ≡ many c
