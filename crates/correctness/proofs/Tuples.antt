@@ -93,7 +93,18 @@ unfolding countLists
 one-counted test = sum-ones (λ w. test (w ∷ [])) 1 (p - 1)
 
 pub lists-counted : ListsCounted
-lists-counted = record { all = all-counted; one = one-counted }
+unfolding countLists sumFrom power
+lists-counted =
+    record {
+      all = all-counted;
+      one = one-counted;
+      of-none = λ test. refl;
+      of-more = λ k test. refl;
+      no-summand = λ f from. refl;
+      summand = λ f from m. refl;
+      to-none = λ d. refl;
+      to-more = λ d k. refl
+    }
 
 pub power-one : (t : ℕ) → power (1 * t) 1 ≡ t
 unfolding power

@@ -15,7 +15,7 @@ use Rattle.kinds.specs.Kinds.{drawnFor, drawsLength, late, crowded, unknown}
 use Rattle.packlines.specs.File.{file}
 use Rattle.packfile.specs.Writing.{postAt, packRefusal}
 use Rattle.packfile.specs.Table.{statedLength, packTable}
-use Rattle.packfile.specs.Claims.{PackLawful}
+use Rattle.packfile.specs.Claims.{PackLawful, PostPlaced}
 
 -- The draws' length that the call reckons is the stated one.
 stated : (n t points : ℕ) (kinds : List ℕ) → drawsLength (shape n t points) kinds ≡ statedLength n t points kinds
@@ -41,3 +41,6 @@ pack-lawful = record {
       (keeps (List ℕ) 1 (packTable n t post points ws kinds draws (length out)) (omega arith)
       (overwrite 0 (file (postAt n t post points ws) kinds draws) out) out);
 }
+
+pub post-placed : PostPlaced
+post-placed n t post points ws = refl
