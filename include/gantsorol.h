@@ -92,8 +92,8 @@
 #define GANTSOROL_VERSION_PATCH 0
 
 /*
- * Refusals. Conditions are looked at in the order of their numbers, but for 14, which comes right after 5; each over all
- * lists and terms before the next. 15 to 19 are kept for what is to come.
+ * Refusals. Conditions are looked at in the order of their numbers, but for 14, which comes right after 5, and for an A
+ * line, where 7 comes last; each over all lists and terms before the next. 16 to 19 are kept for what is to come.
  */
 enum gantsorol_refusal {
     GANTSOROL_OK = 0,
@@ -110,7 +110,8 @@ enum gantsorol_refusal {
     GANTSOROL_LINE_OUT_OF_RANGE = 11,
     GANTSOROL_NO_ROOM = 12,
     GANTSOROL_INCONSISTENT_SHARES = 13,
-    GANTSOROL_BAD_TERM_COUNT = 14
+    GANTSOROL_BAD_TERM_COUNT = 14,
+    GANTSOROL_CALLER_BARRED = 15
 };
 
 /* A refusal in words: the condition that applies. */
@@ -147,6 +148,8 @@ static inline const char *gantsorol_refusal_text(uint8_t refusal) {
         return "an accepted share is not on the polynomial of the t+1 lowest, in any record";
     case GANTSOROL_BAD_TERM_COUNT:
         return "a relation has no terms, or more than 32";
+    case GANTSOROL_CALLER_BARRED:
+        return "the post that calls for an opening is not in the row's set, or is outside 1 to n";
     default:
         return "unknown to this header";
     }

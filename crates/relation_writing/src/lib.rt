@@ -138,8 +138,8 @@ fn join_terms(sets: &mut [u32], all: Terms, dest: usize)
     requires { ⌜ (length (now sets) ≡ setsLength) × Few all × (dest < 96) ⌝ }
     ensures { λ r. ⌜ now (sets .exit) ≡ joining dest (numberRows (termsOf all)) (now (sets .entry)) ⌝ }
 {
-    for i in 0..all.count {
-        share_term(sets, dest, all.list[i]);
+    for j in 0..all.count {
+        share_term(sets, dest, all.list[j]);
     }
 }
 

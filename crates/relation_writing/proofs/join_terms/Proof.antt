@@ -11,13 +11,13 @@ use Rattle.relation_writing.proofs.join_terms.Statement.{statement}
 use Rattle.relation_writing.proofs.join_terms.Tie as tie
 
 abbrev Inv-loop : tie.InvT-loop
-Inv-loop sets₀ dest all i₀ i-end sets i =
-    (i ≤ all .count)
+Inv-loop sets₀ dest all j₀ j-end sets j =
+    (j ≤ all .count)
     × (length sets ≡ length sets₀)
-    × Leads (shareIn dest) (all .list) (all .count) sets i (walked (shareIn dest) 0 (termsOf all) sets₀)
+    × Leads (shareIn dest) (all .list) (all .count) sets j (walked (shareIn dest) 0 (termsOf all) sets₀)
 
 abbrev μ-loop : tie.MeasureT-loop
-μ-loop sets₀ dest all i₀ i-end sets i = all .count - i
+μ-loop sets₀ dest all j₀ j-end sets j = all .count - j
 
 loop-again : tie.Need-loop-again Inv-loop μ-loop
 loop-again c =
@@ -27,13 +27,13 @@ loop-again c =
     let m : a .args .t2 .count ≤ length (a .args .t2 .list) = omega (arith, a .pre .1 .terms-in) in (
       omega arith,
       search needs,
-      goes (shareIn (a .args .dest)) (a .args .t2 .list) (a .args .t2 .count) _ _ (q .i) _ (search needs) m (search needs) (q .inv .2),
+      goes (shareIn (a .args .dest)) (a .args .t2 .list) (a .args .t2 .count) _ _ (q .j) _ (search needs) m (search needs) (q .inv .2),
     )
 
 returns : tie.Need-returns Inv-loop μ-loop
 returns c =
     let a = c .before .before .before in
-    gone (shareIn (a .args .dest)) (a .args .t2 .list) (a .args .t2 .count) _ (c .before .loop .i) _ (search needs) (c .before .loop .inv .2)
+    gone (shareIn (a .args .dest)) (a .args .t2 .list) (a .args .t2 .count) _ (c .before .loop .j) _ (search needs) (c .before .loop .inv .2)
     ∙ shares-walk (a .args .dest) 0 (termsOf (a .args .t2)) (a .args .sets .now)
 
 pub join-terms-spec : {M : Type 1} → statement M
