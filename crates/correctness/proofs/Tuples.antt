@@ -103,7 +103,7 @@ lists-counted =
       no-summand = λ f from. refl;
       summand = λ f from m. refl;
       to-none = λ d. refl;
-      to-more = λ d k. refl
+      to-more = λ d k. refl;
     }
 
 pub power-one : (t : ℕ) → power (1 * t) 1 ≡ t

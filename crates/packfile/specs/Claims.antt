@@ -36,5 +36,5 @@ PostPlaced =
       shape = record { n = n; t = t; points = points };
       post = post;
       points =
-        record { first = getD ws ((post - 1) * points) 0; second = cond (eqb points 2) (getD ws ((post - 1) * points + 1) 0) 0 }
+          record { first = getD ws ((post - 1) * points) 0; second = cond (eqb points 2) (getD ws ((post - 1) * points + 1) 0) 0 };
     }

@@ -10,5 +10,5 @@ draw-placed =
       row = λ n t points i w draw. refl;
       no-more = λ j f. refl;
       one-more = λ j m f. refl;
-      points-in-order = λ w. (refl, refl)
+      points-in-order = λ w. (refl, refl);
     }
