@@ -6,3 +6,4 @@ pub mod Figures
 pub mod Tables
 pub mod Theorems
 pub mod Bytes
+pub mod Rising

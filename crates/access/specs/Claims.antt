@@ -6,13 +6,13 @@ use mathlib.Core.Logic.{_≢_}
 use mathlib.Core.Bool.{Bool, true, false, not, _||_}
 use mathlib.Core.List.{List, [], _∷_, _++_}
 use lib.Dec.{eqb}
-use lib.ListN.{length}
+use lib.ListN.{length, getD}
 use Rattle.refusal.specs.Refusal.{Test, _when_, first, AllFail}
 use Rattle.csv.specs.Fields.{fields, Small, Parsed, parsed, numbersOf}
 use Rattle.callers.specs.Sets.{bars}
 use Rattle.session.specs.declared.Session.{Session}
 use Rattle.session.specs.Sessions.{withBarred}
-use Rattle.access.specs.Access.{accessFields, accessRow, accessPosts, accessSets, accessAnswer}
+use Rattle.access.specs.Access.{accessFields, rising, anyOutside, accessRow, accessPosts, accessSets, accessAnswer}
 use Rattle.access.specs.Table.{accessTable}
 
 -- A test with this number applies, and none that stands before it. (10 and 11 stand before 7 here, so the numbers' own order does not tell.)
@@ -61,7 +61,14 @@ pub record AccessBytes : Type 0 where
   pub only : (line xs : List ℕ) (next : ℕ) → accessFields line ≡ parsed xs next
       → (row : ℕ) × (posts : List ℕ) × (xs ≡ row ∷ posts) × (line ≡ accessText row posts) × Small xs
 
--- The longest line that is taken names the last row and all posts: 92 bytes at 32 posts, 917 at 255.
+-- "rising post numbers", each above the one before it, and "a post outside 1..n", any of them: both ways, place by place.
+pub record PostsMean : Type 0 where
+  pub rises : (cs : List ℕ) → rising cs ≡ true → (i : ℕ) → suc i < length cs → getD cs i 0 < getD cs (suc i) 0
+  pub risen : (cs : List ℕ) → ((i : ℕ) → suc i < length cs → getD cs i 0 < getD cs (suc i) 0) → rising cs ≡ true
+  pub all-inside : (n : ℕ) (cs : List ℕ) → anyOutside n cs ≡ false → (i : ℕ) → i < length cs → (1 ≤ getD cs i 0) × (getD cs i 0 ≤ n)
+  pub none-outside : (n : ℕ) (cs : List ℕ) → ((i : ℕ) → i < length cs → (1 ≤ getD cs i 0) × (getD cs i 0 ≤ n)) → anyOutside n cs ≡ false
+
+-- The line that names the last row and all posts: 92 bytes at 32 posts, 917 at 255. (That none that is taken is longer is not stated.)
 abbrev pub allFrom : ℕ → ℕ → List ℕ
 allFrom c zero = []
 allFrom c (suc k) = c ∷ allFrom (suc c) k

@@ -48,3 +48,4 @@ pub mod Never
 pub mod PointsShown
 pub mod Called
 pub mod ForCallers
+pub mod Calling

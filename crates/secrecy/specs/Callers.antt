@@ -1,15 +1,15 @@
 -- Document 02, (xi): "A row whose set bars each caller adds nothing to the opened numbers by which lists of secrets must agree." Which posts
 -- a row's set has follows from the calls and from which of them are refused, as the plain book's numbers do (runs, Callers.antt).
-use Prim.Native.Nat.{ℕ, _<_}
+use Prim.Native.Nat.{ℕ, _≤_, _<_}
 use mathlib.Core.Path.{_≡_}
 use mathlib.Core.Bool.{Bool, true, not, _||_}
 use mathlib.Core.List.{List, [], _∷_}
 use Rattle.field.specs.Modulus.{p}
 use Rattle.refusal.specs.Conditions.{outside}
 use Rattle.runs.specs.Draws.{Plan, Draw, IsRaw, Sound, by}
-use Rattle.runs.specs.Outline.{loadRow, loadTriple, deal, message, opening, linear, masks, collect, multiply, relationMasks, relationFinish, access}
+use Rattle.runs.specs.Outline.{ForMessage, loadRow, loadTriple, deal, message, opening, linear, masks, collect, multiply, relationMasks, relationFinish, access}
 use Rattle.runs.specs.Callers.{Sets, allPosts, setAfter}
-use Rattle.secrecy.specs.Steps.{Secrets, Step}
+use Rattle.secrecy.specs.Steps.{Secrets, Fixed, Step}
 use Rattle.secrecy.specs.Seen.{Entry, Seen, member}
 use Rattle.secrecy.specs.Rules.{SameAnswers, Rules, refusalOf}
 use Rattle.secrecy.specs.Book.{Book, blank, booked, Agrees, Agree}
@@ -33,6 +33,15 @@ called plan X (multiply x) = true
 called plan X (relationMasks x) = true
 called plan X (relationFinish x) = true
 called plan X (access x) = true
+
+-- A message is called for exactly where its caller is a post of the station that the row's set has. (With every message called for, the claims below
+-- would ask of a barred row what they ask of others.)
+pub record CalledMeans (plan : Plan) (X : Sets) (x : ForMessage Fixed) : Type 0 where
+  pub by-post : called plan X (message x) ≡ true → (1 ≤ x .caller) × (x .caller ≤ plan .n) × (X .has (x .r) (x .caller) ≡ true)
+  pub post-calls : (1 ≤ x .caller) × (x .caller ≤ plan .n) × (X .has (x .r) (x .caller) ≡ true) → called plan X (message x) ≡ true
+
+abbrev pub WhoCalls : Type 0
+WhoCalls = (plan : Plan) (X : Sets) (x : ForMessage Fixed) → CalledMeans plan X x
 
 -- The numbers agree at opening messages that a post in the row's set called for; of others nothing is asked.
 abbrev pub AgreeCalled : Plan → Secrets → Secrets → List Step → List Entry → Sets → Book → Book → Type 0
