@@ -176,7 +176,7 @@ static inline const char *gantsorol_refusal_text(uint8_t refusal) {
 /* The second row of a term that is no product. */
 #define GANTSOROL_NO_ROW 255
 /* More stack than any call takes, beside its arguments and its answer. */
-#define GANTSOROL_MOST_STACK 22000
+#define GANTSOROL_MOST_STACK 35000
 /* The most check points of a post. */
 #define GANTSOROL_MAX_POINTS 2
 /* The bytes of the longest broadcast line of any station, its line feed included. A pack file has longer ones. */

@@ -35,7 +35,7 @@ pub const KIND_RAW: u8 = 1;
 pub const KIND_TRIPLE: u8 = 3;
 
 /// More bytes of stack than any call takes, beside its arguments and its answer.
-pub const MOST_STACK: usize = 22_000;
+pub const MOST_STACK: usize = 35_000;
 
 /// The bytes of the longest broadcast line of any station, its line feed included.
 pub const LONGEST_LINE: usize = 11_207;
