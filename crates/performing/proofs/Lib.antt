@@ -11,4 +11,3 @@ pub mod Table
 pub mod Starting
 pub mod TwoLines
 pub mod Program
-pub mod Passing

@@ -5,4 +5,3 @@ pub mod Starting
 pub mod TwoLines
 pub mod Program
 pub mod Sets
-pub mod Passing
