@@ -86,7 +86,8 @@ const SQUARES: Met = &[
     ("Linear", &[0, 5, 6, 7, 8]),
     ("Masks", &[0, 5, 6, 7, 8]),
     ("OpenMasks", &[0, 5, 6, 7, 8, 9, 13]),
-    ("Multiply", &[0, 5, 6, 7]),
+    // 5 of a multiply: callers.rs, at every number of posts
+    ("Multiply", &[0, 6, 7]),
     ("RelationMasks", &[0, 5, 6, 7, 8, 14]),
     ("RelationFinish", &[0, 5, 6, 7, 8, 9, 13, 14]),
 ];
@@ -96,7 +97,7 @@ const SQUARES: Met = &[
 #[test]
 fn squares() {
     let mut seen = Seen::default();
-    for seed in seeds(390) {
+    for seed in seeds(330) {
         let mut rng = Rng::new(seed);
         let n = if rng.one_in(4) { MAX_POSTS } else { rng.between(33, MAX_POSTS) };
         let t = match seed % 3 {
