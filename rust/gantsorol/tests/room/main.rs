@@ -36,7 +36,7 @@ const MORE: [&str; 4] = [
 /// before the session had them an opening message and a linear took 232, a multiply 1,000.
 const SETS: [(&str, usize); 4] = [
     ("gantsorol_opening_message", 3_400),
-    ("gantsorol_access", 12_800),
+    ("gantsorol_access", 4_500),
     ("gantsorol_linear", 6_500),
     ("gantsorol_multiply", 7_500),
 ];
