@@ -11,3 +11,4 @@ pub mod Table
 pub mod Starting
 pub mod TwoLines
 pub mod Program
+pub mod Passing

@@ -5,3 +5,4 @@ pub mod Starting
 pub mod TwoLines
 pub mod Program
 pub mod Sets
+pub mod Passing
