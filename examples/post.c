@@ -92,10 +92,12 @@ static void send_masks(size_t first, const uint32_t *masks) {
                                     sizeof state.sent - state.sent_len));
 }
 
-/* Sends the post's polynomial of a held row. */
+/* Sends the post's polynomial of a held row, for the post that calls for it: here always post 1, as the plan has it. Where calls
+   are heard, the caller is the post that the carrier knows the call to come from; one that the row bars gets 15, and nothing is
+   sent. */
 static void send_opening(size_t row) {
     uint32_t message[MESSAGE];
-    if (done(gantsorol_opening_message(state.session, state.rows, ROWS, row, message, MESSAGE)))
+    if (done(gantsorol_opening_message(state.session, state.rows, ROWS, row, CALLER, message, MESSAGE)))
         send_line(gantsorol_write_opening(N, T, POINTS, row, state.session.post, message, MESSAGE,
                                           state.sent + state.sent_len, sizeof state.sent - state.sent_len));
 }
@@ -132,6 +134,12 @@ static int opened(size_t row, const uint32_t *record, uint32_t *number) {
 static void hear(uint32_t *record, size_t post, const uint32_t *message) {
     uint8_t refusal = gantsorol_record_put(N, T, POINTS, record, RECORD, post, message, MESSAGE);
     must(refusal == GANTSOROL_OK, gantsorol_refusal_text(refusal));
+}
+
+/* An A line says who may call for a row's opening. */
+static void take_access(const char *text) {
+    if (done(gantsorol_access(state.session, (const uint8_t *)text, strlen(text))))
+        store();
 }
 
 static void take_line(const char *text) {
@@ -176,7 +184,10 @@ int main(int count, char **arguments) {
     char line[M_LINE + 1];
     uint32_t charge, sum;
     while (fgets(line, sizeof line, stdin) != NULL) {
-        take_line(line);
+        if (line[0] == 'A')
+            take_access(line);
+        else
+            take_line(line);
         go_on_with_the_charge();
         go_on_with_the_relation();
         if (opened(CHARGE, charge_record, &charge) && opened(SUM, sum_record, &sum)) {

@@ -3,6 +3,9 @@
 
 enum { MASKS = GANTSOROL_MASKS_LEN(T, POINTS) };
 
+/* The post that calls for the product. */
+enum { CALLER = 1 };
+
 /* Where the posts keep the factors and the triple; the product takes the triple's third row. */
 enum { A = 0, B = 1, TRIPLE = 2, PRODUCT = TRIPLE + 2 };
 
@@ -29,7 +32,7 @@ int main(void) {
     for (int i = 0; i < N; i++) {
         keep(i, gantsorol_collect(posts[i], rows[i], ALL, TRIPLE, record_a, RECORD, record_b, RECORD));
         keep(i, gantsorol_multiply(posts[i], rows[i], ALL, TRIPLE));
-        keep(i, gantsorol_opening_message(posts[i], rows[i], ALL, PRODUCT, message, T + 1));
+        keep(i, gantsorol_opening_message(posts[i], rows[i], ALL, PRODUCT, CALLER, message, T + 1));
         hear(opening, i, message);
     }
     for (int i = 0; i < N; i++)

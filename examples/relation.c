@@ -4,6 +4,8 @@
 
 enum { RECORDS = GANTSOROL_RELATION_RECORDS_LEN(N, T, POINTS, 1), MASKS = GANTSOROL_RELATION_MASKS_LEN(T, POINTS, 1) };
 enum { MINUS_ONE = GANTSOROL_MODULUS - 1 };
+/* The post that calls for the sums. */
+enum { CALLER = 1 };
 
 /* Where the posts keep the numbers and two triples, and where the sums go. */
 enum { RIDES = 0, RATE = 1, FEE = 2, OTHER_FEE = 3, TRIPLE = 4, OTHER_TRIPLE = 7, SUM = 10, OTHER_SUM = 11 };
@@ -18,7 +20,7 @@ static uint32_t relate(const gantsorol_term terms[2], size_t sum) {
     }
     for (int i = 0; i < N; i++) {
         keep(i, gantsorol_relation_finish(posts[i], rows[i], ALL, terms, 2, sum, records, RECORDS));
-        keep(i, gantsorol_opening_message(posts[i], rows[i], ALL, sum, message, T + 1));
+        keep(i, gantsorol_opening_message(posts[i], rows[i], ALL, sum, CALLER, message, T + 1));
         hear(opening, i, message);
     }
     for (int i = 0; i < N; i++)

@@ -1,6 +1,6 @@
 /* A works and the dealers of three numbers: `station DIRECTORY RIDES RATE FEE`. Draws a station of three posts from the
  * operating system's random numbers and writes each post's pack file, post-1.txt to post-3.txt, and the dealers' lines,
- * deals.txt. Then nothing of the draw is left here. */
+ * deals.txt, with who may call for what they deal. Then nothing of the draw is left here. */
 #define _POSIX_C_SOURCE 200809L
 #include "plan.h"
 #include "works.h"
@@ -22,6 +22,11 @@ static void write_packs(const char *directory) {
     }
 }
 
+/* Who may call for a row's opening, said before its number is dealt: a row made from such rows has the posts that all share. */
+static void write_access(FILE *lines, int row) {
+    must(fprintf(lines, "A,%d,%d\n", row, CALLER) > 0, "station: the deals are not written");
+}
+
 /* A row's dealer got f, the start of the row's draw, and broadcasts c, which hides the number. */
 static void write_deal(FILE *lines, size_t row, uint32_t number) {
     gantsorol_number c = gantsorol_dealer_number(number, draws[gantsorol_draw_place(N, T, POINTS, kinds, row)]);
@@ -40,6 +45,9 @@ int main(int count, char **arguments) {
     draw(check_points, POINTS * N, draws, DRAWS);
     write_packs(arguments[1]);
     FILE *lines = created(arguments[1], "deals");
+    write_access(lines, RIDES);
+    write_access(lines, RATE);
+    write_access(lines, FEE);
     write_deal(lines, RIDES, numbers[0]);
     write_deal(lines, RATE, numbers[1]);
     write_deal(lines, FEE, numbers[2]);

@@ -28,6 +28,13 @@
  * first; points * n check values, by sender; n public sums. A record holds what the posts sent of one row, a block for
  * each; all zeros is a record in which every post is absent.
  *
+ * Who may have a number opened. Each row has a set of posts that may call for its opening, kept in the session: all posts,
+ * until an "A" line says otherwise while the row is raw (gantsorol_access), before its number is dealt. A row made from
+ * others has the posts that all of them share, whatever they are multiplied with. An opening message is made for the post
+ * that calls for it: another than the row's set has gets 15 (GANTSOROL_CALLER_BARRED), the own post no exception. Masks
+ * and openings ask nobody. Every post must be given the same "A" lines, and who calls is the carrier's to see to, as who
+ * sends: a false caller's number is taken at its word.
+ *
  * Power loss. Store the session that a call hands back, and the rows with it where they were written, before the line
  * that the call made is sent. With an older session a triple would be used twice, and two masks of one triple tell the
  * difference of two factors to whoever hears them.
@@ -51,8 +58,8 @@
  * for lines and files:
  *
  *    one point              (3, 1)    (32, 15)   (255, 127)
- *    session                 1,096       1,096        1,096
- *    answer                  1,104       1,104        1,104
+ *    session                 4,168       4,168        4,168
+ *    answer                  4,176       4,176        4,176
  *    rows                    3,072      30,720      244,992
  *    record                     36       2,176      131,580
  *    draw of a row              32       2,112      131,072
@@ -60,8 +67,8 @@
  *    longest line               51         360        2,825
  *
  *    two points             (3, 1)    (32, 15)   (255, 127)
- *    session                 1,096       1,096        1,096
- *    answer                  1,104       1,104        1,104
+ *    session                 4,168       4,168        4,168
+ *    answer                  4,176       4,176        4,176
  *    rows                    4,608      48,768      391,680
  *    record                     48       4,096      261,120
  *    draw of a row              44       4,032      260,612
@@ -73,7 +80,7 @@
  *
  * What the calls read. A refusal 8 looks at every number of each row that the call reads from: an opening message gets
  * it for a bad check value or public sum too. Masks and collect leave the triple's third row unread; multiply reads
- * neither factor row, only the triple's rows and the two numbers remembered. The number of points and the check points are
+ * no number of a factor row, only its mark, the triple's rows and the two numbers remembered. The number of points and the check points are
  * looked at before lengths: a bad one behind the last gets 4, not 5.
  */
 #ifndef GANTSOROL_H
@@ -88,12 +95,12 @@
 
 /* The version: the minor number counts the requests that are in (CHANGES.md). */
 #define GANTSOROL_VERSION_MAJOR 0
-#define GANTSOROL_VERSION_MINOR 10
+#define GANTSOROL_VERSION_MINOR 11
 #define GANTSOROL_VERSION_PATCH 0
 
 /*
  * Refusals. Conditions are looked at in the order of their numbers, but for 14, which comes right after 5; each over all
- * lists and terms before the next. 15 to 19 are kept for what is to come.
+ * lists and terms before the next; gantsorol_access looks at 10 and 11 before 7. 16 to 19 are kept for what is to come.
  */
 enum gantsorol_refusal {
     GANTSOROL_OK = 0,
@@ -110,7 +117,8 @@ enum gantsorol_refusal {
     GANTSOROL_LINE_OUT_OF_RANGE = 11,
     GANTSOROL_NO_ROOM = 12,
     GANTSOROL_INCONSISTENT_SHARES = 13,
-    GANTSOROL_BAD_TERM_COUNT = 14
+    GANTSOROL_BAD_TERM_COUNT = 14,
+    GANTSOROL_CALLER_BARRED = 15
 };
 
 /* A refusal in words: the condition that applies. */
@@ -147,6 +155,8 @@ static inline const char *gantsorol_refusal_text(uint8_t refusal) {
         return "an accepted share is not on the polynomial of the t+1 lowest, in any record";
     case GANTSOROL_BAD_TERM_COUNT:
         return "a relation has no terms, or more than 32";
+    case GANTSOROL_CALLER_BARRED:
+        return "the post that calls for an opening is not one of the row's set, or outside 1 to n";
     default:
         return "unknown to this header";
     }
@@ -158,12 +168,15 @@ static inline const char *gantsorol_refusal_text(uint8_t refusal) {
 #define GANTSOROL_MAX_POSTS 255
 /* The rows of a session. */
 #define GANTSOROL_ROWS 96
+/* The numbers of a row's set of posts, 32 posts each, and of all rows' sets. */
+#define GANTSOROL_SET_LEN 8
+#define GANTSOROL_SETS_LEN (GANTSOROL_ROWS * GANTSOROL_SET_LEN)
 /* The most terms of a relation. */
 #define GANTSOROL_MAX_TERMS 32
 /* The second row of a term that is no product. */
 #define GANTSOROL_NO_ROW 255
 /* More stack than any call takes, beside its arguments and its answer. */
-#define GANTSOROL_MOST_STACK 22000
+#define GANTSOROL_MOST_STACK 35000
 /* The most check points of a post. */
 #define GANTSOROL_MAX_POINTS 2
 /* The bytes of the longest broadcast line of any station, its line feed included. A pack file has longer ones. */
@@ -214,8 +227,10 @@ static inline const char *gantsorol_refusal_text(uint8_t refusal) {
 #define GANTSOROL_DEAL_LINE_LEN 16
 /* An "O" line. */
 #define GANTSOROL_OPENING_LINE_LEN(n, t, points) (6 + GANTSOROL_DIGITS(n) + 11 * GANTSOROL_MESSAGE_LEN(t, points))
-/* An "M" line, which is the longest of a station. */
+/* An "M" line, longer than an "O" line. */
 #define GANTSOROL_MASKS_LINE_LEN(n, t, points) (6 + GANTSOROL_DIGITS(n) + 11 * GANTSOROL_MASKS_LEN(t, points))
+/* An "A" line. Where t is small beside n it is the longest of a station. */
+#define GANTSOROL_ACCESS_LINE_LEN(n) (5 + 2 * (n) + ((n) > 9 ? (n) - 9 : 0) + ((n) > 99 ? (n) - 99 : 0))
 /* A pack file's first line, its "R" line and its "T" line. */
 #define GANTSOROL_START_LINE_LEN(n, t, points) (5 + 2 * GANTSOROL_DIGITS(n) + GANTSOROL_DIGITS(t) + 11 * (points))
 #define GANTSOROL_ROW_LINE_LEN(n, t, points) (5 + 11 * GANTSOROL_ROW_LEN(n, t, points))
@@ -243,6 +258,13 @@ static inline size_t gantsorol_draw_place(size_t n, size_t t, size_t points, con
         triples += kinds[i] == GANTSOROL_KIND_TRIPLE;
     }
     return GANTSOROL_DRAWS_LEN(n, t, points, raw, triples);
+}
+
+/* Whether a post may call for a row's opening, by a session's n and its list barred: 1 or 0. */
+static inline int gantsorol_may_call(size_t n, const uint32_t *barred, size_t row, size_t post) {
+    if (row >= GANTSOROL_ROWS || post < 1 || post > n || n > GANTSOROL_MAX_POSTS)
+        return 0;
+    return (barred[GANTSOROL_SET_LEN * row + (post - 1) / 32] >> (post - 1) % 32 & 1) == 0;
 }
 
 /* Zeros over a list, a session or a line that is no longer needed: the compiler leaves no write out. */
@@ -276,6 +298,9 @@ typedef struct gantsorol_session {
     /* the two numbers that a triple's masks were opened to, at its first row; they stay after the product */
     uint32_t y_a[GANTSOROL_ROWS];
     uint32_t y_b[GANTSOROL_ROWS];
+    /* the posts that may not call for a row's opening, GANTSOROL_SET_LEN numbers of 32 bits a row: post j is barred from
+       row r where bit (j - 1) % 32 of barred[GANTSOROL_SET_LEN * r + (j - 1) / 32] is 1; gantsorol_may_call asks it */
+    uint32_t barred[GANTSOROL_SETS_LEN];
 } gantsorol_session;
 
 /* What a call on a session hands back. */
@@ -353,11 +378,20 @@ gantsorol_answer gantsorol_load_triple(gantsorol_session session, uint32_t *rows
 gantsorol_answer gantsorol_deal(gantsorol_session session, uint32_t *rows, size_t rows_len, size_t row, uint32_t c);
 
 /*
- * Writes the coefficients of a held row, which the post sends to open it, to out.
- * rows: GANTSOROL_ROWS_LEN, read. out: GANTSOROL_MESSAGE_LEN, written. Refusals 1 to 8.
+ * Reads "A,row," and rising post numbers, its line feed included, or "A,row," alone: the posts that may call for the opening
+ * of a raw row, whoever might before. Its bits in barred are then 0 for these and 1 for all others, also above n.
+ * line: of any length, read; at most GANTSOROL_ACCESS_LINE_LEN bytes where it is taken. Refusals 1 to 4, 10 (also where the
+ * numbers do not rise strictly), 11 (also a post outside 1 to n), 7.
+ */
+gantsorol_answer gantsorol_access(gantsorol_session session, const uint8_t *line, size_t line_len);
+
+/*
+ * Writes the coefficients of a held row, which the post sends to open it, to out. The caller is the number of the post that
+ * calls for the opening; one that the row's set does not have, 0, and any above n, gets 15.
+ * rows: GANTSOROL_ROWS_LEN, read. out: GANTSOROL_MESSAGE_LEN, written. Refusals 1 to 8, 15.
  */
 gantsorol_answer gantsorol_opening_message(gantsorol_session session, const uint32_t *rows, size_t rows_len, size_t row,
-                                           uint32_t *out, size_t out_len);
+                                           size_t caller, uint32_t *out, size_t out_len);
 
 /*
  * Opens a held row with a record: the number is the answer's value. The post's own block is not looked at, nor are the
@@ -399,7 +433,8 @@ gantsorol_answer gantsorol_collect(gantsorol_session session, const uint32_t *ro
 
 /*
  * The third step: writes the product of a and b, from the two numbers remembered, into the row first + 2. The marks 7, 4
- * and 4 of the triple become 6, 6 and 2: the product is held like a dealt number.
+ * and 4 of the triple become 6, 6 and 2: the product is held like a dealt number. The rows a and b must still be held (7):
+ * the posts that may call for the product are those that may for both.
  * rows: GANTSOROL_ROWS_LEN, written. Refusals 1 to 8.
  */
 gantsorol_answer gantsorol_multiply(gantsorol_session session, uint32_t *rows, size_t rows_len, size_t first);

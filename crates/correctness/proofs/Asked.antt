@@ -7,7 +7,7 @@ use Rattle.poly.specs.Counting.{All}
 use Rattle.terms.specs.declared.Term.{Term}
 use Rattle.terms.specs.Listed.{productsOf}
 use Rattle.runs.specs.Draws.{Plan, Draw}
-use Rattle.runs.specs.Outline.{Move, loadRow, loadTriple, deal, message, opening, linear, masks, collect, multiply, relationMasks, relationFinish, cut, factoring, finishing, summing, takes, Every}
+use Rattle.runs.specs.Outline.{Move, loadRow, loadTriple, deal, message, opening, linear, masks, collect, multiply, relationMasks, relationFinish, access, cut, factoring, finishing, summing, takes, Every}
 use Rattle.runs.specs.Calls.{Actual, Post, Call}
 use Rattle.runs.proofs.Outlines.{all-every}
 use Rattle.correctness.specs.History.{World}
@@ -56,6 +56,7 @@ module _ (plan : Plan) (draw : Draw) (i : ℕ) where
   part-asked (masks x) h = tt
   part-asked (collect x) h = tt
   part-asked (multiply x) h = tt
+  part-asked (access x) h = tt
   part-asked (relationMasks x) h = masks-every Own (productsOf (x .terms)) (own-factors (productsOf (x .terms)))
   part-asked (relationFinish x) h =
       let m = 2 * length (productsOf (x .terms)) in
@@ -88,6 +89,7 @@ module _ (draw : Draw) (L : Ledger) where
   ledger-asked (masks x) h = h
   ledger-asked (collect x) h = tt
   ledger-asked (multiply x) h = tt
+  ledger-asked (access x) h = tt
   ledger-asked (relationMasks x) h = masks-every By (productsOf (x .terms)) (by-factors (productsOf (x .terms)) h)
   ledger-asked (relationFinish x) h =
       let m = 2 * length (productsOf (x .terms)) in
@@ -121,6 +123,7 @@ module _ (S : ℕ → Type 0) (w : World) (q : Post) where
   truth-asked (masks x) h = tt
   truth-asked (collect x) h = h
   truth-asked (multiply x) h = tt
+  truth-asked (access x) h = tt
   truth-asked (relationMasks x) h = masks-every True (productsOf (x .terms)) (true-factors (productsOf (x .terms)))
   truth-asked (relationFinish x) h =
       let m = 2 * length (productsOf (x .terms)) in

@@ -17,3 +17,4 @@ pub mod Relating
 pub mod Recalling
 pub mod Keeping
 pub mod Relation
+pub mod Callers

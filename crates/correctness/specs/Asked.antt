@@ -14,7 +14,7 @@ use Rattle.factory.specs.Calls.{dealerNumber}
 use Rattle.collect.specs.Collect.{maskA, maskB}
 use Rattle.terms.specs.Listed.{productsOf}
 use Rattle.runs.specs.Draws.{Plan, Draw, IsRaw, rawDraw, rawPack, triplePack}
-use Rattle.runs.specs.Outline.{loadRow, loadTriple, deal, message, opening, linear, masks, collect, multiply, relationMasks, relationFinish, cut}
+use Rattle.runs.specs.Outline.{loadRow, loadTriple, deal, message, opening, linear, masks, collect, multiply, relationMasks, relationFinish, access, cut}
 use Rattle.runs.specs.Calls.{Post, Call}
 use Rattle.correctness.specs.History.{World}
 use Rattle.correctness.specs.Ledger.{Ledger, dealt, sum, product, Written}
@@ -32,6 +32,7 @@ PartAsked plan draw i (linear x) = Unit {0}
 PartAsked plan draw i (masks x) = Unit {0}
 PartAsked plan draw i (collect x) = Unit {0}
 PartAsked plan draw i (multiply x) = Unit {0}
+PartAsked plan draw i (access x) = Unit {0}
 PartAsked plan draw i (relationMasks x) = Unit {0}
 PartAsked plan draw i (relationFinish x) = Unit {0}
 
@@ -46,6 +47,7 @@ LedgerAsked draw L (linear x) = L (x .r) ≡ sum (x .a) (x .b) (x .scale) (x .fe
 LedgerAsked draw L (masks x) = L (x .r + 2) ≡ product (x .r) (x .a) (x .b)
 LedgerAsked draw L (collect x) = Unit {0}
 LedgerAsked draw L (multiply x) = Unit {0}
+LedgerAsked draw L (access x) = Unit {0}
 LedgerAsked draw L (relationMasks x) = All (λ t. L (t .first + 2) ≡ product (t .first) (t .row) (t .second)) (productsOf (x .terms))
 LedgerAsked draw L (relationFinish x) = SumIn L (x .r) (x .terms)
 
@@ -67,6 +69,7 @@ TruthAsked S w q (linear x) = Unit {0}
 TruthAsked S w q (masks x) = Unit {0}
 TruthAsked S w q (collect x) = BothTrue S w q (x .r) (x .blocksA) (x .blocksB)
 TruthAsked S w q (multiply x) = Unit {0}
+TruthAsked S w q (access x) = Unit {0}
 TruthAsked S w q (relationMasks x) = Unit {0}
 TruthAsked S w q (relationFinish x) =
     let m = 2 * length (productsOf (x .terms)) in

@@ -6,3 +6,4 @@ pub mod Claim
 pub mod Parts
 pub mod Relation
 pub mod Asked
+pub mod Callers

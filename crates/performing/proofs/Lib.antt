@@ -1,12 +1,14 @@
 pub mod Heard
-pub mod Theorems
 pub mod Loading
 pub mod Keeping
 pub mod Spelling
 pub mod Lines
+pub mod Access
+pub mod Theorems
 pub mod StartText
 pub mod StartRead
 pub mod Table
 pub mod Starting
 pub mod TwoLines
 pub mod Program
+pub mod Passing

@@ -22,15 +22,15 @@ short [] h = tt
 short (x ∷ xs) h = (h .0, short xs (h .1))
 
 -- ---- other numbers, other bytes
-abbrev feed : List ℕ → List ℕ
+abbrev pub feed : List ℕ → List ℕ
 feed xs = fields xs ++ (10 ∷ [])
 
-no-digit : (xs : List ℕ) → leading (feed xs) ≡ 0
+pub no-digit : (xs : List ℕ) → leading (feed xs) ≡ 0
 unfolding leading fields
 no-digit [] = refl
 no-digit (x ∷ xs) = refl
 
-one-text : (xs ys : List ℕ) → Small xs → Small ys → feed xs ≡ feed ys → xs ≡ ys
+pub one-text : (xs ys : List ℕ) → Small xs → Small ys → feed xs ≡ feed ys → xs ≡ ys
 unfolding fields
 one-text [] [] h g e = refl
 one-text [] (y ∷ ys) h g e = let z : _≡_ {A = ℕ} 10 44 = ap (λ (l : List ℕ). getD l 0 0) e in absurd (omega arith)

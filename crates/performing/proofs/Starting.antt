@@ -219,5 +219,5 @@ dash-is-half =
       of-four = dash-means 4 2 refl (omega arith);
       of-thirty-one = dash-means 31 15 refl (omega arith);
       of-thirty-two = dash-means 32 16 refl (omega arith);
-      half = λ n t l h. dash-means n t (half-of n t l h) (omega (arith, l))
+      half = λ n t l h. dash-means n t (half-of n t l h) (omega (arith, l));
     }

@@ -28,6 +28,7 @@ use Rattle.street_finishlines.specs.Steps.{masksFor, between, pairRefusal, fini
 use Rattle.street_interpreter.specs.Stepping.{lettersStep, lateStep, step}
 use Rattle.performing.specs.Lines.{letters, isOneOf, vNumbers, rowNumbers, Range, _to_, anyOutside, refusalOf, Letter, dealCall, loadCall, tripleCall, openCall, linearCall, masksCall, finishCall, noCall, StreetTable}
 use Rattle.performing.proofs.Lines.{elements-outside, letter-of, unless-refusal, over-step, over, numbers-letter}
+use Rattle.performing.proofs.Access.{access-letter}
 use Rattle.performing.proofs.StartText.{start-letter}
 
 told-refusal : (x : ℕ) (v : Stepped) (store line : List ℕ)
@@ -242,8 +243,9 @@ module _ (st : State) (store : List ℕ) (started : st .started ≡ true) where
       let g = or-false (eqb x 71) _ (m .1) in
       let f = or-false (eqb x 76) _ (g .1) in
       let e = or-false (eqb x 88) _ (f .1) in
-      let i = or-false (eqb x 70) false (e .1) in
-      rw (started, le-ltb longestLine (length s) l, e .0, r .0, t .0, g .0, f .0, i .0, d .0, o .0, m .0)
+      let i = or-false (eqb x 70) _ (e .1) in
+      let a = or-false (eqb x 65) false (i .1) in
+      rw (started, le-ltb longestLine (length s) l, e .0, r .0, t .0, g .0, f .0, i .0, a .0, d .0, o .0, m .0)
 
   pub other-step : (s : List ℕ) → isOneOf letters (getD s 0 0) ≡ false → step st store s ≡ leaving (refusing st 10) store
   other-step s n = go (ltb 5252 (length s)) refl
@@ -271,4 +273,5 @@ street-table st store started =
       linear = linear-letter st store started;
       mask = mask-letter st store started;
       finish = finish-letter st store started;
+      access = access-letter st store started;
     }

@@ -37,6 +37,7 @@ use Rattle.street_finishlines.specs.Masks.{maskLine, noMasks, masking, maskingO
 use Rattle.street_interpreter.specs.Stepping.{lettersStep, lateStep, step}
 use Rattle.performing.specs.Claims.{Acts, Quiet, Does, LinearLine, MasksLine, DealLine, OpenLine, Finishes, FinishLine, StreetPerforms}
 use Rattle.performing.proofs.Heard.{says, passes, line-short}
+use Rattle.performing.proofs.Access.{access-line}
 
 succ : (k : ℕ) → suc k ≡ 0 → ⊥
 succ k e = omega arith
@@ -285,4 +286,5 @@ street-performs st store started =
       deal = deal-line st store started;
       opened = open-line st store started;
       finish = finish-line st store started;
+      access = access-line st store started;
     }

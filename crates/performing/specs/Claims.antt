@@ -17,6 +17,7 @@ use Rattle.session.specs.declared.Session.{Session}
 use Rattle.session.specs.declared.Answer.{Answer}
 use Rattle.session.specs.Sessions.{shapeOf}
 use Rattle.session.specs.Rows.{width}
+use Rattle.access.specs.Access.{accessAnswer}
 use Rattle.load.specs.Load.{loadRowAnswer, loadRowRows, loadTripleAnswer, loadTripleRows}
 use Rattle.linear.specs.Linear.{linearAnswer, linearRows}
 use Rattle.deal.specs.Deal.{dealAnswer, dealRows}
@@ -114,6 +115,13 @@ module _ (st : State) (store : List ℕ) where
       (first : ℕ) (pack : List ℕ) → first ≤ lastTriple → length pack ≡ tripleLength (shapeOf own) → Elements pack
       → Does st store (loadTripleAnswer own rows first pack) (loadTripleRows own rows first pack) (step st store (written 84 (first ∷ pack)))
 
+  -- Document 02, (xi): "A line `A,row,` and rising post numbers .., read by a new call on the session that the street program uses too": whatever stands
+  -- behind the letter. No row is written, and no record.
+  abbrev pub AccessLine : Type 0
+  AccessLine =
+      (rest : List ℕ) → length (65 ∷ rest) ≤ 5252
+      → (let a = step st store (65 ∷ rest) in Does st store (accessAnswer own (65 ∷ rest)) rows a × (a .store ≡ store))
+
 -- Once a start line was accepted.
 pub record LinesPerform (st : State) (store : List ℕ) : Type 0 where
   pub linear : LinearLine st store
@@ -121,6 +129,7 @@ pub record LinesPerform (st : State) (store : List ℕ) : Type 0 where
   pub deal : DealLine st store
   pub opened : OpenLine st store
   pub finish : FinishLine st store
+  pub access : AccessLine st store
 
 abbrev pub StreetPerforms : Type 0
 StreetPerforms = (st : State) (store : List ℕ) → st .started ≡ true → LinesPerform st store

@@ -4,3 +4,5 @@ pub mod Lines
 pub mod Starting
 pub mod TwoLines
 pub mod Program
+pub mod Sets
+pub mod Passing

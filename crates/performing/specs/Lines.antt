@@ -2,15 +2,18 @@
 -- any other letter and any line over 1,061 bytes with its line feed" (document 02, (ix): 5,252, and "a second start line of either letter gets 10"). "A line's
 -- form is looked at first: .. other lines get 10, then 11, then what the call answers." Bounds and counts are figures, not the names of `shape` and
 -- `street_store`; the number of a post's check points is the session's. Proved in proofs/Lines.antt.
-use Prim.Native.Nat.{ℕ, _+_, _*_, _<_}
+use Prim.Native.Nat.{ℕ, _+_, _*_, _-_, _<_}
 use mathlib.Core.Path.{_≡_}
-use mathlib.Core.Bool.{Bool, true, false, not, _||_}
-use mathlib.Core.List.{List, [], _∷_}
+use mathlib.Core.Bool.{Bool, true, false, not, _||_, _&&_}
+use mathlib.Core.List.{List, [], _∷_, _++_}
 use lib.Dec.{eqb, ltb}
 use lib.ListN.{length, getD, drop, replicate}
 use Rattle.refusal.specs.Refusal.{Test, _when_, first, orElse}
+use Rattle.refusal.specs.Conditions.{outside}
 use Rattle.csv.specs.Fields.{written}
 use Rattle.session.specs.declared.Session.{Session}
+use Rattle.access.specs.Access as Access
+use Rattle.access.specs.Claims.{accessText}
 use Rattle.load.specs.Load.{loadRowAnswer, loadTripleAnswer}
 use Rattle.linear.specs.Linear.{linearAnswer}
 use Rattle.deal.specs.Deal.{dealAnswer}
@@ -54,9 +57,9 @@ lineTable letter count ranges xs =
     ∷ 11 when anyOutside ranges xs
     ∷ []
 
--- `R`, `T`, `D`, `O`, `M`, `G`, `L`, `X` and `F`
+-- `R`, `T`, `D`, `O`, `M`, `G`, `L`, `X`, `F` and `A`
 abbrev pub letters : List ℕ
-letters = 82 ∷ 84 ∷ 68 ∷ 79 ∷ 77 ∷ 71 ∷ 76 ∷ 88 ∷ 70 ∷ []
+letters = 82 ∷ 84 ∷ 68 ∷ 79 ∷ 77 ∷ 71 ∷ 76 ∷ 88 ∷ 70 ∷ 65 ∷ []
 
 -- `S` and `W`
 abbrev pub startLetters : List ℕ
@@ -128,6 +131,34 @@ module _ (st : State) (store : List ℕ) where
   abbrev pub noCall : List ℕ → ℕ
   noCall xs = 0
 
+  -- ---- "`A,row,` and rising post numbers (`A,row,` alone for none)": the library's call reads the line
+  -- It looks first at 1 to 4 of the session, which no session of a start line has.
+  abbrev pub ownTable : List Test
+  ownTable =
+      1 when outside 2 255 n
+      ∷ 2 when outside 1 (n - 1) t
+      ∷ 3 when outside 1 n (own .post)
+      ∷ 4 when (outside 1 2 (own .points) || (outside 1 2147483646 (own .first) || (eqb (own .points) 2 && outside 1 2147483646 (own .second))))
+      ∷ []
+
+  -- "Numbers that don't rise get 10, then a post outside 1..n gets 11, then a row not raw gets 7."
+  abbrev pub accessTable : ℕ → List ℕ → List Test
+  accessTable row posts =
+      10 when ltb 5252 (length (accessText row posts))
+      ∷ (ownTable
+      ++ (10 when not (Access.rising posts)
+      ∷ 11 when (ltb 95 row || Access.anyOutside n posts)
+      ∷ 7 when not (eqb (getD (own .marks) row 0) 1)
+      ∷ []))
+
+  pub record AccessLetter : Type 0 where
+    pub refusal : (row : ℕ) (posts : List ℕ) → TenDigits (row ∷ posts) → refusalOf (accessText row posts) ≡ first (accessTable row posts)
+    -- bytes of any other form get 10
+    pub spelled : first ownTable ≡ 0 → (rest : List ℕ) → (refusalOf (65 ∷ rest) ≡ 10 → ⊥)
+        → (row : ℕ) × (posts : List ℕ) × TenDigits (row ∷ posts) × (65 ∷ rest ≡ accessText row posts)
+    -- `A,row` without the second comma
+    pub one-comma : first ownTable ≡ 0 → (row : ℕ) → TenDigits (row ∷ []) → refusalOf (written 65 (row ∷ [])) ≡ 10
+
   -- ---- the table
   pub record LineTable : Type 0 where
     pub overlong : (s : List ℕ) → 5252 < length s → refusalOf s ≡ 10
@@ -152,6 +183,8 @@ module _ (st : State) (store : List ℕ) where
     pub mask : Letter 88 3 (0 to 95 ∷ 0 to 95 ∷ 0 to 93 ∷ []) masksCall
     -- "`F,first`"
     pub finish : Letter 70 1 (0 to 93 ∷ []) finishCall
+    -- "`A,row,`" and posts
+    pub access : AccessLetter
 
 -- Once a start line was accepted, whatever the store.
 abbrev pub StreetTable : Type 0

@@ -1,17 +1,17 @@
 -- A call that is not refused leaves the marks that its acts make.
 use Prim.Native.Nat.{ℕ, suc, _+_, _*_, _≤_}
-use mathlib.Core.Path.{_≡_, refl, sym, _∙_, ap}
+use mathlib.Core.Path.{_≡_, refl, sym, _∙_, ap, ap₂}
 use mathlib.Core.List.{List, [], _∷_, _++_}
 use native.Mathlib.Omega.{arith}
 use lib.ListN.{length}
 use Rattle.session.specs.declared.Session.{Session}
 use Rattle.terms.specs.declared.Term.{Term}
 use Rattle.terms.specs.Listed.{productsOf}
-use Rattle.terms.proofs.Placing.{factors-again}
+use Rattle.terms.proofs.Placing.{factors-again, terms-again}
 use Rattle.relation.specs.Masks.{maskedTerms}
 use Rattle.relation.specs.Finish.{finishedTerms, relationDone, pairDone, termNumberA, termNumberB}
 use Rattle.relation.proofs.Passed.{relation-masks-made, relation-finished}
-use Rattle.runs.specs.Outline.{loadRow, loadTriple, deal, message, opening, linear, masks, collect, multiply, relationMasks, relationFinish, factoring, finishing, summing, Move, Act, actsIn, acts}
+use Rattle.runs.specs.Outline.{loadRow, loadTriple, deal, message, opening, linear, masks, collect, multiply, relationMasks, relationFinish, access, factoring, finishing, summing, Move, Act, actsIn, acts}
 use Rattle.runs.specs.Calls.{Actual, Post, Call, perform, after}
 use Rattle.runs.specs.Acts.{marksAfter, many, ActsDo}
 use Rattle.runs.proofs.Outcomes.{refusalOf, refusal-is, does, done}
@@ -41,7 +41,7 @@ factoring-many (t ∷ ts) = ap suc (factoring-many ts)
 
 -- and then the sum, of one term or more
 with-sum : (ts : List Term) (r : ℕ) (blocks : List ℕ) (q : Post) → 1 ≤ length ts
-    → relationDone (q .session) (q .rows) blocks (productsOf ts) r .marks ≡ marksAfter (acts {K = Actual} (relationFinish (record { terms = ts; r = r; blocks = blocks }))) (q .session .marks)
+    → relationDone (q .session) (q .rows) blocks (productsOf ts) ts r .marks ≡ marksAfter (acts {K = Actual} (relationFinish (record { terms = ts; r = r; blocks = blocks }))) (q .session .marks)
 with-sum [] r blocks q h = absurd (omega arith)
 with-sum (t ∷ ts) r blocks q h =
     finished-marks (2 * length (productsOf (t ∷ ts))) blocks (summing r (t ∷ ts)) (q .session) (q .rows) 0 (productsOf (t ∷ ts)) (q .session)
@@ -63,12 +63,14 @@ marks-left (linear x) q z = refl
 marks-left (masks x) q z = refl
 marks-left (collect x) q z = refl
 marks-left (multiply x) q z = refl
+marks-left (access x) q z = refl
 marks-left (relationMasks x) q z =
     let f = relation-masks-made (q .session) (q .rows) (x .terms) (x .lent) z .placed in
     ap (λ (fs : List Term). maskedTerms (q .session) fs .marks) (factors-again (x .terms) (f .few)) ∙ masked-marks (productsOf (x .terms)) (q .session)
 marks-left (relationFinish x) q z =
     let f = relation-finished (q .session) (x .terms) (x .r) (x .blocks) (q .rows) z .checked .placed in
-    ap (λ (fs : List Term). relationDone (q .session) (q .rows) (x .blocks) fs (x .r) .marks) (factors-again (x .terms) (f .few))
+    ap₂ (λ (fs ts : List Term). relationDone (q .session) (q .rows) (x .blocks) fs ts (x .r) .marks) (factors-again (x .terms) (f .few))
+    (terms-again (x .terms) (f .few))
     ∙ with-sum (x .terms) (x .r) (x .blocks) q (f .some)
 
 many-acts : (c : Call) (q : Post) → refusalOf c q ≡ 0 → length (acts c) ≡ many c
@@ -81,6 +83,7 @@ many-acts (linear x) q z = refl
 many-acts (masks x) q z = refl
 many-acts (collect x) q z = refl
 many-acts (multiply x) q z = refl
+many-acts (access x) q z = refl
 many-acts (relationMasks x) q z = factoring-many (productsOf (x .terms))
 many-acts (relationFinish x) q z =
     let f = relation-finished (q .session) (x .terms) (x .r) (x .blocks) (q .rows) z .checked .placed in

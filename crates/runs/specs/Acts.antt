@@ -5,7 +5,7 @@ use mathlib.Core.Path.{_≡_}
 use mathlib.Core.List.{List, [], _∷_}
 use lib.ListN.{length, set}
 use Rattle.terms.specs.Listed.{productsOf}
-use Rattle.runs.specs.Outline.{loadRow, loadTriple, deal, message, opening, linear, masks, collect, multiply, relationMasks, relationFinish, Act, loads, loadsTriple, deals, opens, sums, factors, collects, multiplies, acts}
+use Rattle.runs.specs.Outline.{loadRow, loadTriple, deal, message, opening, linear, masks, collect, multiply, relationMasks, relationFinish, access, Act, loads, loadsTriple, deals, opens, sums, factors, collects, multiplies, admits, acts}
 use Rattle.runs.specs.Calls.{Call, Post, perform}
 
 abbrev pub marksBy : Act → List ℕ → List ℕ
@@ -17,6 +17,7 @@ marksBy (sums r t ts) l = set l r 2
 marksBy (factors a b r) l = set l r 5
 marksBy (collects r) l = set l r 7
 marksBy (multiplies r) l = set (set (set l r 6) (r + 1) 6) (r + 2) 2
+marksBy (admits line) l = l
 
 abbrev pub marksAfter : List Act → List ℕ → List ℕ
 marksAfter [] l = l
@@ -34,6 +35,7 @@ many (linear x) = 1
 many (masks x) = 1
 many (collect x) = 1
 many (multiply x) = 1
+many (access x) = 1
 many (relationMasks x) = length (productsOf (x .terms))
 many (relationFinish x) = 2 * length (productsOf (x .terms)) + 1
 

@@ -6,7 +6,7 @@ use Rattle.poly.specs.Counting.{All}
 use Rattle.terms.specs.declared.Term.{Term}
 use Rattle.terms.specs.Listed.{productsOf}
 use Rattle.runs.specs.Draws.{Plan}
-use Rattle.runs.specs.Outline.{Move, loadRow, loadTriple, deal, message, opening, linear, masks, collect, multiply, relationMasks, relationFinish, factoring, finishing, summing, takes}
+use Rattle.runs.specs.Outline.{Move, loadRow, loadTriple, deal, message, opening, linear, masks, collect, multiply, relationMasks, relationFinish, access, factoring, finishing, summing, takes}
 use Rattle.runs.proofs.Outlines.{all-every}
 use Rattle.secrecy.specs.Steps.{Fixed, Record, Step}
 use Rattle.secrecy.specs.Rules.{RuleWith, Rule}
@@ -42,6 +42,7 @@ module _ (plan : Plan) (k : ℕ) (lines : List (List ℕ)) where
   rule-asked (masks x) h = tt
   rule-asked (collect x) h = h
   rule-asked (multiply x) h = tt
+  rule-asked (access x) h = tt
   rule-asked (relationMasks x) h = all-every Kept (factoring (productsOf (x .terms))) (kept-factors (productsOf (x .terms)))
   rule-asked (relationFinish x) h =
       let m = 2 * length (productsOf (x .terms)) in

@@ -46,3 +46,6 @@ pub mod Thirteen
 pub mod Thirteens
 pub mod Never
 pub mod PointsShown
+pub mod Called
+pub mod ForCallers
+pub mod Calling

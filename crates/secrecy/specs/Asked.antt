@@ -9,7 +9,7 @@ use Rattle.shape.specs.Lengths.{vLength}
 use Rattle.terms.specs.declared.Term.{Term}
 use Rattle.terms.specs.Listed.{productsOf}
 use Rattle.runs.specs.Draws.{Plan, IsRaw, planShape}
-use Rattle.runs.specs.Outline.{loadRow, loadTriple, deal, message, opening, linear, masks, collect, multiply, relationMasks, relationFinish, cut}
+use Rattle.runs.specs.Outline.{loadRow, loadTriple, deal, message, opening, linear, masks, collect, multiply, relationMasks, relationFinish, access, cut}
 use Rattle.runs.specs.Calls.{Told, ToldHalf}
 use Rattle.secrecy.specs.Steps.{its, Record, Step}
 use Rattle.secrecy.specs.Rules.{FromDealer, OnlySent, Walks, Rule}
@@ -38,6 +38,7 @@ RuleAsked plan k lines (linear x) = Unit {0}
 RuleAsked plan k lines (masks x) = Unit {0}
 RuleAsked plan k lines (collect x) = Walks k → BothSent plan lines (x .r) (λ i. x .blocksA i lines) (λ i. x .blocksB i lines)
 RuleAsked plan k lines (multiply x) = Unit {0}
+RuleAsked plan k lines (access x) = Unit {0}
 RuleAsked plan k lines (relationMasks x) = Unit {0}
 RuleAsked plan k lines (relationFinish x) =
     TermsSent plan k lines (2 * length (productsOf (x .terms))) (x .blocks) 0 (productsOf (x .terms))

@@ -6,3 +6,4 @@ pub mod Book
 pub mod Claim
 pub mod Count
 pub mod Points
+pub mod Callers

@@ -1,6 +1,7 @@
 -- The examples are at work: the run by computing, the premises by a search, the counts by demand 3.
 use mathlib.Core.Path.{_≡_, refl}
 use mathlib.Core.List.{_++_}
+use Rattle.runs.specs.Callers.{allPosts}
 use Rattle.secrecy.specs.Seen.{postsAfter}
 use Rattle.secrecy.specs.Book.{bookAfter}
 use Rattle.secrecy_examples.specs.Example.{AtWork}
@@ -13,8 +14,9 @@ use Rattle.secrecy_examples.specs.Relation as Relation
 use Rattle.secrecy_examples.specs.Relation.{relation, RelationOpened, RelationBooks}
 use Rattle.secrecy_examples.specs.TwoPoints as Two
 use Rattle.secrecy_examples.specs.TwoPoints.{twoPoints, TwoPointsOpened}
+use Rattle.secrecy_examples.specs.Barred.{barred, setsOver, BarredPremises, BarredBooks, BarredSets, BarredKept}
 use Rattle.secrecy_examples.proofs.Computing.{sees}
-use Rattle.secrecy_examples.proofs.Premised.{is-draw, premises, at-work}
+use Rattle.secrecy_examples.proofs.Premised.{is-draw, premises, at-work, called-premises}
 
 three-seen : sees three ≡ three .shown
 unfolding sees three
@@ -99,3 +101,27 @@ two-points-at-work = at-work twoPoints Two.masksSent 0 two-points-seen tt tt tt 
 pub two-points-opened : TwoPointsOpened
 unfolding sees twoPoints
 two-points-opened = (refl, refl)
+
+barred-seen : sees barred ≡ barred .shown
+unfolding sees barred
+barred-seen = refl
+
+pub barred-at-work : AtWork barred
+unfolding sees barred is-draw premises
+barred-at-work = at-work barred Three.masksSent 0 barred-seen tt tt tt refl
+
+pub barred-premises : BarredPremises
+unfolding barred
+barred-premises = called-premises barred (barred-at-work .premises)
+
+pub barred-books : BarredBooks
+unfolding sees barred premises bookAfter
+barred-books = (refl, refl, refl, refl, refl)
+
+pub barred-sets : BarredSets
+unfolding sees barred setsOver allPosts
+barred-sets = refl
+
+pub barred-kept : BarredKept
+unfolding sees barred postsAfter
+barred-kept = refl

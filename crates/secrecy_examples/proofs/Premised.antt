@@ -19,9 +19,12 @@ use Rattle.vectors.proofs.Draws.{element-at}
 use Rattle.runs.specs.Draws as Draws
 use Rattle.runs.specs.Draws.{Raw, Plan, Draw, IsRaw, Sound, Lists, IsDraw, rawLength, tripleLength}
 use Rattle.runs.specs.Calls.{Among}
-use Rattle.secrecy.specs.Steps.{Secrets}
-use Rattle.secrecy.specs.Seen.{member}
-use Rattle.secrecy.specs.Book.{blank}
+use Rattle.runs.specs.Callers.{Sets, allPosts, setAfter}
+use Rattle.secrecy.specs.Steps.{Secrets, Step}
+use Rattle.secrecy.specs.Seen.{Entry, member}
+use Rattle.secrecy.specs.Rules.{refusalOf}
+use Rattle.secrecy.specs.Book.{Book, blank, booked, Agree}
+use Rattle.secrecy.specs.Callers.{AgreeCalled, PremisesCalled}
 use Rattle.secrecy.specs.Claim.{Group, Premises}
 use Rattle.secrecy.specs.Count.{count, draws, shows}
 use Rattle.secrecy.proofs.Tests.{shows-of-same}
@@ -171,3 +174,23 @@ module _ (x : Example) where
             (shows-of-same (planOf x) (x .group) (x .rows) (x .steps) u (x .shown) (x .draw) seen-is);
         as-many = equal-counts (planOf x) (x .group) (x .rows) (x .steps) u (secretsOf (x .secrets')) (x .shown) met;
       }
+
+-- what is asked with the sets is no more
+agrees-called : (plan : Plan) (u u' : Secrets) (cs : List Step) (es : List Entry) (X : Sets) (b b' : Book) → Agree u u' cs es b b'
+    → AgreeCalled plan u u' cs es X b b'
+agrees-called plan u u' [] es X b b' a = tt
+agrees-called plan u u' (c ∷ cs) [] X b b' a = tt
+agrees-called plan u u' (c ∷ cs) (e ∷ es) X b b' a =
+    ((λ t. a .0), agrees-called plan u u' cs es (setAfter c (refusalOf e) X) (booked u c (refusalOf e) b) (booked u' c (refusalOf e) b') (a .1))
+
+pub called-premises : (x : Example) → Premises (planOf x) (x .group) (secretsOf (x .secrets)) (secretsOf (x .secrets')) (x .steps) (x .shown)
+    → PremisesCalled (planOf x) (x .group) (secretsOf (x .secrets)) (secretsOf (x .secrets')) (x .steps) (x .shown)
+called-premises x h = record {
+  sound = h .sound;
+  group-few = h .group-few;
+  secrets = h .secrets;
+  dealers = h .dealers;
+  same-answers = h .same-answers;
+  rules = h .rules;
+  agree = agrees-called (planOf x) _ _ (x .steps) (x .shown .entries) allPosts blank blank (h .agree);
+}

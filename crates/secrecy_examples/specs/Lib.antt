@@ -6,3 +6,4 @@ pub mod FourPostsSeen
 pub mod Charge
 pub mod Relation
 pub mod TwoPoints
+pub mod Barred

@@ -7,9 +7,10 @@ pub mod rows;
 use shape::Points;
 use shape::Shape;
 ghost use mathlib.Core.Path.{_≡_};
-ghost use Prim.Native.Nat.{_≤_};
+ghost use Prim.Native.Nat.{_≤_, _<_};
+ghost use mathlib.Core.List.{[], _∷_};
 ghost use Rattle.shape.specs.Bounds.{lastRow, lastTriple};
-ghost use Rattle.session.specs.Sessions.{asMany, shapeOf, partyOf, marked, markedTriple, maskedTriple, collectedTriple, sessionOf, holding, answer, created};
+ghost use Rattle.session.specs.Sessions.{asMany, shapeOf, partyOf, marked, markedTriple, maskedTriple, collectedTriple, sessionOf, holding, answer, created, sharing, summedRow, finishedTriple};
 ghost use Rattle.session.specs.Between.{Allows};
 
 // Who opens a number: the station's shape, the post's own number and its check points.
@@ -18,6 +19,8 @@ pub struct Party {
     pub post: usize,
     pub points: Points,
 }
+
+pub const BARRED: usize = 768;
 
 #[repr(C)]
 pub struct Session {
@@ -36,6 +39,8 @@ pub struct Session {
     // the numbers that the masks of a triple were opened to, at its first row
     pub y_a: [u32; shape::ROWS],
     pub y_b: [u32; shape::ROWS],
+    // the posts that may not call for a row's opening, 32 to a number: eight numbers a row
+    pub barred: [u32; BARRED],
 }
 
 // What a call hands back.
@@ -76,6 +81,7 @@ impl Session {
             factor_b: [0; shape::ROWS],
             y_a: [0; shape::ROWS],
             y_b: [0; shape::ROWS],
+            barred: [0; BARRED],
         }
     }
 
@@ -229,6 +235,56 @@ impl Session {
                 marks,
                 y_a: opened_a,
                 y_b: opened_b,
+                ..self
+            },
+        }
+    }
+
+    // How linear ends: row d holds the sum of two rows, and bars whom one of them bars.
+    pub fn answer_summing(self, refusal: u8, d: usize, a: usize, b: usize) -> Answer
+        requires { ⌜ Allows refusal (d ≤ lastRow) ⌝ }
+        ensures { λ r. ⌜ r ≡ answer refusal 0 (summedRow self d (a ∷ b ∷ [])) self ⌝ }
+    {
+        let mut marks = self.marks;
+        let mut barred = self.barred;
+        if refusal == 0 {
+            callers::share_both(&mut barred, d, a, b);
+            marks[d] = shape::HELD;
+        }
+        Answer {
+            refusal,
+            value: 0,
+            session: Session {
+                marks,
+                barred,
+                ..self
+            },
+        }
+    }
+
+    // How a finish's second call ends: the third row bars whom a factor row bars.
+    pub fn answer_multiplying(self, refusal: u8, first: usize) -> Answer
+        requires { ⌜ Allows refusal (first ≤ lastTriple) ⌝ }
+        ensures { λ r. ⌜ r ≡ answer refusal 0 (finishedTriple self first) self ⌝ }
+    {
+        let mut marks = self.marks;
+        let mut barred = self.barred;
+        let factors_a = self.factor_a;
+        let factors_b = self.factor_b;
+        if refusal == 0 {
+            let a = factors_a[first] as usize;
+            let b = factors_b[first] as usize;
+            callers::share(&mut barred, first + 2, a, b);
+            marks[first] = shape::SPENT;
+            marks[first + 1] = shape::SPENT;
+            marks[first + 2] = shape::HELD;
+        }
+        Answer {
+            refusal,
+            value: 0,
+            session: Session {
+                marks,
+                barred,
                 ..self
             },
         }

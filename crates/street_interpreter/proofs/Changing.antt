@@ -4,7 +4,7 @@ use mathlib.Core.Path.{_≡_, refl, ap, ap₂, sym, _∙_}
 use mathlib.Core.List.{List, [], _∷_}
 use mathlib.Core.Bool.{Bool, true, false, cond, _||_}
 use native.Mathlib.Omega.{arith}
-use borrow.Author.Tests.{ne-eqb, eqb-true}
+use borrow.Author.Tests.{ne-eqb}
 use mir.Syntax.{w64}
 use mir.Val.{Fits}
 use lib.ListN.{length, getD, take, drop, replicate}
@@ -21,6 +21,7 @@ use Rattle.load.specs.Load.{loadRowAnswer, loadRowRows, loadTripleAnswer, loadT
 use Rattle.deal.specs.Deal.{dealAnswer, dealRows}
 use Rattle.product_masks.specs.Masks.{masksRefusal, maskNumbersOf}
 use Rattle.opening.specs.Opening.{openAnswer}
+use Rattle.access.specs.Access.{accessAnswer}
 use Rattle.street_store.specs.Sizes.{InStreet, numbersRoom, openingsAt, masksAAt, masksBAt}
 use Rattle.street_store.specs.Records.{recordFor, kept}
 use Rattle.street_store.proofs.Keeping.{v-room, row-room}
@@ -38,38 +39,10 @@ use Rattle.street_finishlines.specs.Steps.{pairAnswer, pairRows, finishing}
 use Rattle.street_postlines.specs.Steps.{dealing, keepStep, keepMasksStep, keepHalvesStep}
 use Rattle.street_interpreter.specs.declared.orders.Order.{Order}
 use Rattle.street_interpreter.specs.declared.Outcome.{Outcome}
+use Rattle.street_interpreter.specs.Stepping.{accessStep}
 use Rattle.street_interpreter.specs.Orders.{isChange, isKept, changing, looking}
 use Rattle.street_interpreter.specs.Changes.{held, toldBy, changed, looked, Able, Changed, Looked, Opened}
-
--- ---- which letters
-pub change-r : (l : ℕ) → l ≡ 82 → true ≡ isChange l
-change-r l e = rw e
-
-pub change-t : (l : ℕ) → l ≡ 84 → true ≡ isChange l
-change-t l e = rw e
-
-pub change-f : (l : ℕ) → l ≡ 70 → true ≡ isChange l
-change-f l e = rw e
-
-pub change-l : (l : ℕ) → l ≡ 76 → true ≡ isChange l
-change-l l e = rw e
-
-pub change-x : (l : ℕ) → l ≡ 88 → true ≡ isChange l
-change-x l e = rw e
-
-pub change-d : (l : ℕ) → l ≡ 68 → true ≡ isChange l
-change-d l e = rw e
-
-pub change-s : (l : ℕ) → l ≡ 83 → true ≡ isChange l
-change-s l e = rw e
-
-pub change-none : (l : ℕ) → (l ≡ 82 → ⊥) → (l ≡ 84 → ⊥) → (l ≡ 70 → ⊥) → (l ≡ 76 → ⊥) → (l ≡ 88 → ⊥) → (l ≡ 68 → ⊥) → (l ≡ 83 → ⊥)
-    → false ≡ isChange l
-change-none l a b c d e f g = rw (ne-eqb l 82 a, ne-eqb l 84 b, ne-eqb l 70 c, ne-eqb l 76 d, ne-eqb l 88 e, ne-eqb l 68 f, ne-eqb l 83 g)
-
-only-start : (l : ℕ) → isChange l ≡ true → (l ≡ 68 → ⊥) → (l ≡ 82 → ⊥) → (l ≡ 84 → ⊥) → (l ≡ 76 → ⊥) → (l ≡ 88 → ⊥) → (l ≡ 70 → ⊥) → l ≡ 83
-only-start l h a b c d e f =
-    eqb-true l 83 (rw (ne-eqb l 82 b, ne-eqb l 84 c, ne-eqb l 70 f, ne-eqb l 76 d, ne-eqb l 88 e, ne-eqb l 68 a) at h)
+use Rattle.street_interpreter.proofs.Letters.{only-start}
 
 -- ---- the session is one of the street's
 module _ (s : Session) (o : Order) (y : Able s o) where
@@ -235,11 +208,15 @@ module _ (s : Session) (triple : ℕ) (o : Order) (xs line store : List ℕ) (a 
         post-in = λ z. absurd (let y : 70 ≡ 88 = sym e ∙ z in omega arith);
       }
 
+  pub change-access : o .letter ≡ 65 → a ≡ accessAnswer s line → store' ≡ store → Done
+  unfolding changing accessStep
+  change-access e q r = plain 65 _ _ e refl refl q (λ b k. rw (e, r))
+
   pub change-start : isChange (o .letter) ≡ true → (o .letter ≡ 68 → ⊥) → (o .letter ≡ 82 → ⊥) → (o .letter ≡ 84 → ⊥) → (o .letter ≡ 76 → ⊥)
-      → (o .letter ≡ 88 → ⊥) → (o .letter ≡ 70 → ⊥) → a ≡ startAnswer line → store' ≡ store → Done
+      → (o .letter ≡ 88 → ⊥) → (o .letter ≡ 70 → ⊥) → (o .letter ≡ 65 → ⊥) → a ≡ startAnswer line → store' ≡ store → Done
   unfolding changing changed
-  change-start h a₁ b₁ c₁ d₁ e₁ f₁ q r =
-      let e : o .letter ≡ 83 = only-start (o .letter) h a₁ b₁ c₁ d₁ e₁ f₁ in
+  change-start h a₁ b₁ c₁ d₁ e₁ f₁ g₁ q r =
+      let e : o .letter ≡ 83 = only-start (o .letter) h a₁ b₁ c₁ d₁ e₁ f₁ g₁ in
       record {
         says = λ b k n. rw (e, q, r) (ap (λ (v : _). leaving v store) (start-begun (held s b k triple) (n e) line));
         post-in = λ z. absurd (e₁ z);

@@ -25,7 +25,7 @@ use Rattle.street_rowlines.specs.Steps.{adding, linearStep, openStep}
 use Rattle.street_postlines.specs.Steps.{heard, keepStep, keepMasksStep, keepHalvesStep, hearStep}
 use Rattle.street_finishlines.specs.Masks.{maskLine, noMasks, masking, maskingOf, maskStep}
 use Rattle.street_finishlines.specs.Steps.{finishing, finishStep}
-use Rattle.street_interpreter.specs.Stepping.{lettersStep, lateStep, step}
+use Rattle.street_interpreter.specs.Stepping.{accessStep, lettersStep, lateStep, step}
 use Rattle.street_interpreter.specs.Claims.{Unchanged, Refused, StepKeeps}
 
 module _ (st : State) (store : List ℕ) where
@@ -95,6 +95,10 @@ module _ (st : State) (store : List ℕ) where
     unfolding maskStep maskingOf
     kept-mask = let xs = numbers 3 s in kept-unless _ _ (kept-masking (getD xs 0 0) (getD xs 1 0) (getD xs 2 0))
 
+    kept-access : Kept (accessStep st store s)
+    unfolding accessStep
+    kept-access = kept-answer _ _ _
+
     -- an `O` or an `M` that is read is not refused
     kept-hear : Kept (hearStep st store s)
     unfolding hearStep keepStep keepMasksStep keepHalvesStep
@@ -112,7 +116,7 @@ module _ (st : State) (store : List ℕ) where
         (kept-if (eqb letter 71) _ _ kept-open
         (kept-if (eqb letter 76) _ _ kept-linear
         (kept-if (eqb letter 70) _ _ kept-finish
-        (kept-if (isLetter letter) _ _ kept-hear (λ n. same 10))))))
+        (kept-if (eqb letter 65) _ _ kept-access (kept-if (isLetter letter) _ _ kept-hear (λ n. same 10)))))))
 
     kept-late : Kept (lateStep st store s)
     unfolding lateStep

@@ -1,3 +1,4 @@
+pub mod Letters
 pub mod Hearing
 pub mod Heeding
 pub mod Ordering

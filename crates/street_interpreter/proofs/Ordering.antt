@@ -27,7 +27,7 @@ use Rattle.street_finishlines.specs.Masks.{maskingOf, maskStep}
 use Rattle.street_finishlines.specs.Steps.{finishing, finishStep}
 use Rattle.street_reading.specs.Starting.{isStart}
 use Rattle.street_interpreter.specs.declared.orders.Order.{Order}
-use Rattle.street_interpreter.specs.Stepping.{lettersStep, lateStep, step}
+use Rattle.street_interpreter.specs.Stepping.{accessStep, lettersStep, lateStep, step}
 use Rattle.street_interpreter.specs.Orders.{refusedOrder, orderOf, earlyOrder, isChange, changing, looking, acting, Numbered, isKept, Leads, lettered, lated, Accepted, Reads}
 
 -- ---- before a start line
@@ -156,14 +156,20 @@ module _ (g : Shape) (s xs : List ℕ) (o : Order) where
       (λ st store d. rw l)
       (λ z st store d. rw (← n .numbers-are z, getD-take 3 xs 0 0 (omega arith), getD-take 3 xs 1 0 (omega arith), getD-take 3 xs 2 0 (omega arith))))
 
+  pub leads-access : getD s 0 0 ≡ 65 → o ≡ orderOf 65 0 → Leads g s o xs (lettered s)
+  unfolding changing lettersStep outcome
+  leads-access l q =
+      rw q
+      (number-leads g s xs 65 (lettered s) (λ st store. accessStep st store s) refl (λ z. omega (arith, z)) 0 (λ st store d. rw l) (λ z st store d. refl))
+
   pub leads-other : (getD s 0 0 ≡ 82 → ⊥) → (getD s 0 0 ≡ 84 → ⊥) → (getD s 0 0 ≡ 71 → ⊥) → (getD s 0 0 ≡ 76 → ⊥) → (getD s 0 0 ≡ 70 → ⊥)
-      → (getD s 0 0 ≡ 88 → ⊥) → (getD s 0 0 ≡ 68 → ⊥) → (getD s 0 0 ≡ 79 → ⊥) → (getD s 0 0 ≡ 77 → ⊥) → o ≡ refusedOrder 10 → Leads g s o xs (lettered s)
+      → (getD s 0 0 ≡ 88 → ⊥) → (getD s 0 0 ≡ 65 → ⊥) → (getD s 0 0 ≡ 68 → ⊥) → (getD s 0 0 ≡ 79 → ⊥) → (getD s 0 0 ≡ 77 → ⊥) → o ≡ refusedOrder 10 → Leads g s o xs (lettered s)
   unfolding lettersStep
-  leads-other a b c d e i f h j q =
+  leads-other a b c d e i k f h j q =
       rw q
       (refused-leads g s xs 10 (lettered s)
       (λ st store.
-      rw (ne-eqb (getD s 0 0) 88 i, ne-eqb (getD s 0 0) 82 a, ne-eqb (getD s 0 0) 84 b, ne-eqb (getD s 0 0) 71 c, ne-eqb (getD s 0 0) 76 d, ne-eqb (getD s 0 0) 70 e, ne-eqb (getD s 0 0) 68 f, ne-eqb (getD s 0 0) 79 h, ne-eqb (getD s 0 0) 77 j)))
+      rw (ne-eqb (getD s 0 0) 88 i, ne-eqb (getD s 0 0) 82 a, ne-eqb (getD s 0 0) 84 b, ne-eqb (getD s 0 0) 71 c, ne-eqb (getD s 0 0) 76 d, ne-eqb (getD s 0 0) 70 e, ne-eqb (getD s 0 0) 65 k, ne-eqb (getD s 0 0) 68 f, ne-eqb (getD s 0 0) 79 h, ne-eqb (getD s 0 0) 77 j)))
 
   -- ---- the line's length
   pub leads-long : longestLine < length s → o ≡ refusedOrder 10 → Leads g s o xs (lated s)

@@ -29,7 +29,7 @@ use Rattle.street_rowlines.specs.Steps.{adding, linearStep, openStep}
 use Rattle.street_postlines.specs.Steps.{heard, keepStep, keepMasksStep, keepHalvesStep, hearStep}
 use Rattle.street_finishlines.specs.Masks.{masking, maskingOf, maskStep}
 use Rattle.street_finishlines.specs.Steps.{between, pairRefusal, masksFor, finishing, finishStep}
-use Rattle.street_interpreter.specs.Stepping.{lettersStep, lateStep, step, Ready}
+use Rattle.street_interpreter.specs.Stepping.{accessStep, lettersStep, lateStep, step, Ready}
 
 -- the state after a line, if it has a session, has one of the street's
 abbrev Fine : Stepped → Type 0
@@ -115,6 +115,10 @@ module _ (st : State) (i : InStreet (shapeOf (st .session))) (store s : List ℕ
       (answer-in (pairRefusal own rows first a b) 0 (multiplyAnswer half rows first .session) own
       (answer-in (multiplyRefusal half rows first) 0 (finishedTriple half first) half h h) i) i
 
+  in-access : InAfter (accessStep st store s)
+  unfolding accessStep
+  in-access = answer-in _ 0 _ _ i i
+
   in-hear : InAfter (hearStep st store s)
   unfolding hearStep keepStep keepMasksStep keepHalvesStep
   in-hear =
@@ -128,7 +132,8 @@ module _ (st : State) (i : InStreet (shapeOf (st .session))) (store s : List ℕ
       in-if (eqb letter 82) _ _ in-load
       (in-if (eqb letter 84) _ _ in-triple
       (in-if (eqb letter 71) _ _ in-open
-      (in-if (eqb letter 76) _ _ in-linear (in-if (eqb letter 70) _ _ in-finish (in-if (isLetter letter) _ _ in-hear i)))))
+      (in-if (eqb letter 76) _ _ in-linear
+      (in-if (eqb letter 70) _ _ in-finish (in-if (eqb letter 65) _ _ in-access (in-if (isLetter letter) _ _ in-hear i))))))
 
   in-mask : InAfter (maskStep st store s)
   unfolding maskStep maskingOf masking

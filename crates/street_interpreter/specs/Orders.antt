@@ -26,7 +26,7 @@ use Rattle.street_finishlines.specs.Masks.{maskingOf, maskStep}
 use Rattle.street_finishlines.specs.Steps.{finishing}
 use Rattle.street_postlines.specs.Steps.{dealing, keepStep, keepHalvesStep}
 use Rattle.street_interpreter.specs.declared.orders.Order.{Order}
-use Rattle.street_interpreter.specs.Stepping.{step, lettersStep, lateStep}
+use Rattle.street_interpreter.specs.Stepping.{accessStep, step, lettersStep, lateStep}
 
 abbrev pub refusedOrder : ℕ → Order
 refusedOrder x = record { letter = 0; refusal = x; row = 0; post = 0 }
@@ -43,7 +43,7 @@ saidOrder l = record { letter = l .letter; refusal = l .refusal; row = l .row; p
 
 -- The letters whose lines may change the session.
 abbrev pub isChange : ℕ → Bool
-isChange l = eqb l 82 || (eqb l 84 || (eqb l 70 || (eqb l 76 || (eqb l 88 || (eqb l 68 || eqb l 83)))))
+isChange l = eqb l 82 || (eqb l 84 || (eqb l 70 || (eqb l 76 || (eqb l 88 || (eqb l 68 || (eqb l 65 || eqb l 83))))))
 
 -- What an order leads to: a change of the session,
 unfoldable pub changing : State → List ℕ → Order → List ℕ → List ℕ → After
@@ -55,7 +55,8 @@ changing st store o xs s =
     (cond (eqb letter 76) (adding st store xs)
     (cond (eqb letter 88) (maskingOf st store xs)
     (cond (eqb letter 70) (finishing st store (getD xs 0 0))
-    (leaving (startStep st s) store))))))
+    (cond (eqb letter 65) (accessStep st store s)
+    (leaving (startStep st s) store)))))))
 
 -- or a look, which leaves it as it is.
 unfoldable pub looking : State → List ℕ → Order → List ℕ → After

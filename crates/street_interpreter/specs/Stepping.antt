@@ -8,16 +8,22 @@ use lib.Dec.{eqb, ltb}
 use Rattle.refusal.specs.Refusal.{_when_, first, orElse}
 use Rattle.refusal.specs.Conditions.{wrongLength, stationTests}
 use Rattle.forms.specs.Forms.{isLetter}
+use Rattle.access.specs.Access.{accessAnswer}
 use Rattle.session.specs.Sessions.{shapeOf}
 use Rattle.street_store.specs.Sizes.{streetPosts, storeRoom, InStreet, longestLine}
 use Rattle.street_states.specs.declared.State.{State}
-use Rattle.street_states.specs.States.{After, refusing, leaving}
+use Rattle.street_states.specs.States.{After, refusing, answering, leaving}
 use Rattle.street_startlines.specs.Steps.{earlyStep}
 use Rattle.street_rowlines.specs.Loads.{loadStep, loadTripleStep}
 use Rattle.street_rowlines.specs.Steps.{linearStep, openStep}
 use Rattle.street_finishlines.specs.Masks.{maskStep}
 use Rattle.street_finishlines.specs.Steps.{finishStep}
 use Rattle.street_postlines.specs.Steps.{hearStep}
+
+-- Document 02, (xi): "A line `A,row,` and rising post numbers .., read by a new call on the session that the street program uses too": its form is the
+-- call's to look at, and it changes the session alone.
+unfoldable pub accessStep : State → List ℕ → List ℕ → After
+accessStep st store s = leaving (answering st (accessAnswer (st .session) s)) store
 
 -- By the letter, where a line prints nothing but its answer: "a second `S` then gets 10, as does any other letter"; document 02, (ix): "a second start
 -- line of either letter gets 10".
@@ -29,8 +35,9 @@ lettersStep st store s =
     (cond (eqb letter 71) (openStep st store s)
     (cond (eqb letter 76) (linearStep st store s)
     (cond (eqb letter 70) (finishStep st store s)
+    (cond (eqb letter 65) (accessStep st store s)
     (cond (isLetter letter) (hearStep st store s)
-    (leaving (refusing st 10) store))))))
+    (leaving (refusing st 10) store)))))))
 
 -- 10, "any line over" the longest; an `X` prints its M line.
 unfoldable pub lateStep : State → List ℕ → List ℕ → After

@@ -34,6 +34,7 @@ pub fn changes(letter: u8) -> bool
         b'L' => true,
         b'X' => true,
         b'D' => true,
+        b'A' => true,
         b'S' => true,
         _ => false,
     }
@@ -68,6 +69,7 @@ pub fn change(
         }
         b'L' => street_rowlines::add(session, store, numbers),
         b'X' => street_finishlines::masks::mask(session, store, numbers, masks),
+        b'A' => access::access(session, line),
         b'F' => street_finishlines::finish(
             session,
             store,

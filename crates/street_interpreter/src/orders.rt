@@ -9,7 +9,7 @@ ghost use Rattle.street_store.specs.Sizes.{InStreet, numbersRoom};
 ghost use Rattle.street_interpreter.specs.Orders.{orderOf, refusedOrder, Numbered, Heard, Leads, Accepted, Reads, lettered, lated, earlyOrder};
 
 // What a line asks for: its letter, or 0 where it is refused when it is read; the row and the post of a `D`, `O` or `M`. Its numbers stand in
-// a lent list.
+// a lent list. The form of an `A` is looked at by the library's call.
 pub struct Order {
     pub letter: u8,
     pub refusal: u8,
@@ -118,6 +118,7 @@ fn by_letter(shape: Shape, line: &[u8], numbers: &mut [u32]) -> Order
         b'L' => of_sum(line, numbers),
         b'F' => of_triple(b'F', line, 1, numbers),
         b'X' => of_masks(line, numbers),
+        b'A' => ordered(b'A', 0),
         b'D' => heard(shape, line, numbers),
         b'O' => heard(shape, line, numbers),
         b'M' => heard(shape, line, numbers),

@@ -23,6 +23,7 @@ const OTHER_TRIPLE: usize = 6;
 const CHARGE: usize = 9;
 const SUM: usize = 10;
 const FIXED: u32 = 80;
+const CALLER: usize = 1;
 const TERMS: [Term; 2] =
     [Term::product(1, RIDES, RATE, OTHER_TRIPLE), Term::plain(MODULUS - 1, FEE)];
 
@@ -98,9 +99,9 @@ impl<W: Write> Post<W> {
     // A new file, written through to the disk, takes the old one's place.
     fn store(&self) -> io::Result<()> {
         let Session { n, t, post, points, first, second, .. } = self.session;
-        let Session { marks, factor_a, factor_b, y_a, y_b, .. } = &self.session;
+        let Session { marks, factor_a, factor_b, y_a, y_b, barred, .. } = &self.session;
         let numbers = [n as u32, t as u32, post as u32, points as u32, first, second];
-        let numbers = [&numbers[..], y_a, y_b, &self.rows].concat();
+        let numbers = [&numbers[..], y_a, y_b, barred, &self.rows].concat();
         let mut bytes: Vec<u8> = numbers.into_iter().flat_map(u32::to_le_bytes).collect();
         bytes.extend([marks, factor_a, factor_b].into_iter().flatten().chain(&self.sent));
         let new = self.state.with_extension("new");
@@ -121,7 +122,7 @@ impl<W: Write> Post<W> {
         io::Read::read_to_end(&mut file, &mut bytes)?;
         let mut rest = &bytes[..];
         let mut part = |len: usize| rest.split_off(..len).ok_or("the state cannot be read");
-        let numbers = part(4 * (HEADS + 2 * ROWS + rows_len(N, T, POINTS)))?.chunks(4);
+        let numbers = part(4 * (HEADS + 2 * ROWS + SETS_LEN + rows_len(N, T, POINTS)))?.chunks(4);
         let numbers = numbers.map(|four| Ok(u32::from_le_bytes(four.try_into()?)));
         let numbers: Vec<u32> = numbers.collect::<Result<_, Failed>>()?;
         let (heads, lists) = numbers.split_at(HEADS);
@@ -130,7 +131,9 @@ impl<W: Write> Post<W> {
         (s.points, s.first, s.second) = (heads[3] as usize, heads[4], heads[5]);
         s.y_a.copy_from_slice(&lists[..ROWS]);
         s.y_b.copy_from_slice(&lists[ROWS..2 * ROWS]);
-        self.rows.copy_from_slice(&lists[2 * ROWS..]);
+        let (barred, rows) = lists[2 * ROWS..].split_at(SETS_LEN);
+        s.barred.copy_from_slice(barred);
+        self.rows.copy_from_slice(rows);
         for list in [&mut s.marks, &mut s.factor_a, &mut s.factor_b] {
             list.copy_from_slice(part(ROWS)?);
         }
@@ -154,11 +157,16 @@ impl<W: Write> Post<W> {
         Ok(self.send(&line[..len])?)
     }
 
+    // For the post that calls for the row: here always post 1, as the plan has it. Where calls are heard, the caller is the post
+    // that the carrier knows the call to come from; one that the row bars gets 15, and nothing is sent.
     fn send_opening(&mut self, row: usize) -> Result<(), Failed> {
         let (mut message, mut line) =
             ([0; message_len(T, POINTS)], [0; opening_line_len(N, T, POINTS)]);
         let session = &mut self.session;
-        session.take().opening_message(&self.rows, row, &mut message).keep(session)?;
+        let sent = session.take().opening_message(&self.rows, row, CALLER, &mut message);
+        if !done(sent.keep(session)) {
+            return Ok(());
+        }
         let len = write_opening(N, T, POINTS, row, session.post, &message, &mut line).accepted()?;
         Ok(self.send(&line[..len])?)
     }
@@ -196,6 +204,14 @@ impl<W: Write> Post<W> {
     }
 
     fn take_line(&mut self, text: &[u8]) -> Result<(), Failed> {
+        // An A line says who may call for a row's opening.
+        if text.first() == Some(&b'A') {
+            let session = &mut self.session;
+            if done(session.take().access(text).keep(session)) {
+                self.store()?;
+            }
+            return Ok(());
+        }
         let mut numbers = [0; line_list_len(T, POINTS)];
         let Ok(line) = read(N, T, POINTS, text, &mut numbers)
             .accepted()

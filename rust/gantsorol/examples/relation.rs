@@ -18,6 +18,9 @@ const FEE: usize = 2;
 const TRIPLE: usize = 3;
 const SUM: usize = 6;
 
+// The post that calls for the sum.
+const CALLER: usize = 1;
+
 type Posts = [(Session, [u32; rows_len(N, T, POINTS)]); N];
 
 // The factory draws a row, and its dealer shares a number with it. Real draws are random: any numbers do here.
@@ -62,7 +65,7 @@ fn prove(posts: &mut Posts) -> Result<(), Refusal> {
     for (index, (session, rows)) in posts.iter_mut().enumerate() {
         let mut message = [0; message_len(T, POINTS)];
         session.take().relation_finish(rows, &terms, SUM, &records).keep(session)?;
-        session.take().opening_message(rows, SUM, &mut message).keep(session)?;
+        session.take().opening_message(rows, SUM, CALLER, &mut message).keep(session)?;
         record_put(N, T, POINTS, &mut record, index + 1, &message)?;
     }
     for (session, rows) in posts {

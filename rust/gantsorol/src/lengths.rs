@@ -13,6 +13,12 @@ pub const MAX_POINTS: usize = 2;
 /// The rows of a session.
 pub const ROWS: usize = 96;
 
+/// The numbers of a row's set of posts: 32 posts each.
+pub const SET_LEN: usize = 8;
+
+/// The numbers of all rows' sets.
+pub const SETS_LEN: usize = ROWS * SET_LEN;
+
 /// The most terms of a relation.
 pub const MAX_TERMS: usize = 32;
 
@@ -29,7 +35,7 @@ pub const KIND_RAW: u8 = 1;
 pub const KIND_TRIPLE: u8 = 3;
 
 /// More bytes of stack than any call takes, beside its arguments and its answer.
-pub const MOST_STACK: usize = 22_000;
+pub const MOST_STACK: usize = 35_000;
 
 /// The bytes of the longest broadcast line of any station, its line feed included.
 pub const LONGEST_LINE: usize = 11_207;
@@ -131,9 +137,14 @@ pub const fn opening_line_len(n: usize, t: usize, points: usize) -> usize {
     6 + digits(n) + 11 * message_len(t, points)
 }
 
-/// The bytes of the longest `M` line, which is the longest of a station, its line feed included.
+/// The bytes of the longest `M` line, longer than an `O` line, its line feed included.
 pub const fn masks_line_len(n: usize, t: usize, points: usize) -> usize {
     6 + digits(n) + 11 * masks_len(t, points)
+}
+
+/// The bytes of the longest `A` line, its line feed included. Where t is small beside n it is the longest of a station.
+pub const fn access_line_len(n: usize) -> usize {
+    5 + 2 * n + n.saturating_sub(9) + n.saturating_sub(99)
 }
 
 /// The bytes of the longest first line of a pack file, an `S` or a `W`, its line feed included.

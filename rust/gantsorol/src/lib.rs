@@ -18,6 +18,11 @@
 //! [`Refusal::BadCheckPoint`]. A session is made with the list of its own, `&[w]` or `&[w, x]`, whose
 //! length says how many they are.
 //!
+//! Each row has a set of posts that may call for its opening: all of them, unless an `A` line says
+//! otherwise while the row is raw ([`Session::access`]). [`Session::opening_message`] takes the number
+//! of the post that calls, and is refused with [`Refusal::CallerBarred`] where the row's set,
+//! [`Session::callers`], does not have it.
+//!
 //! ```
 //! // The factory's draw for three posts, two of which open: f = 7 + 4z, and v1, v2, v3.
 //! let draw = [7, 4, 1, 2, 3, 1, 5, 6];
@@ -42,6 +47,7 @@ compile_error!("libgantsorol.a is for x86-64, by the rules of System V");
 mod broadcast;
 mod erase;
 mod lengths;
+mod posts;
 mod record;
 mod refusal;
 mod relation;
@@ -52,6 +58,7 @@ mod works;
 pub use broadcast::{read, write_deal, write_masks, write_opening, Line, Written};
 pub use erase::erase;
 pub use lengths::*;
+pub use posts::Posts;
 pub use record::{record_put, record_remove};
 pub use refusal::Refusal;
 pub use relation::Term;

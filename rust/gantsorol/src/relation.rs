@@ -64,8 +64,9 @@ impl Session {
     /// Finishes all product terms of a relation, each as [`collect`](Self::collect) and then
     /// [`multiply`](Self::multiply) do, with two records for each of them in the order of the
     /// terms, that of a − l first; and writes the sum of all terms into the empty row `row`, which
-    /// becomes held. Opened, it is 0 exactly when the relation holds. A refused finish changes no
-    /// triple and may be called again.
+    /// becomes held. Opened, it is 0 exactly when the relation holds; the posts that may call for that
+    /// are those that may for every row of the terms. A refused finish changes no triple and may be
+    /// called again.
     /// Refusals 1 to 5, 14, 6 to 9, 13.
     #[inline]
     pub fn relation_finish(

@@ -2,7 +2,8 @@
 
 use core::{fmt, mem};
 
-use crate::{erase, sys, Refusal, ROWS};
+use crate::posts::Limited;
+use crate::{erase, sys, Refusal, ROWS, SETS_LEN};
 
 /// What a post remembers beside its rows.
 ///
@@ -45,9 +46,13 @@ pub struct Session {
     pub y_a: [u32; ROWS],
     /// At the first row of a triple whose masks were opened: y' = b − l'. It stays after the product.
     pub y_b: [u32; ROWS],
+    /// The posts that may not call for a row's opening, eight numbers a row: post j is barred from row
+    /// r where bit (j − 1) % 32 of number 8r + (j − 1) / 32 is 1. [`callers`](Self::callers) has the
+    /// posts that may.
+    pub barred: [u32; SETS_LEN],
 }
 
-/// Without the check points, which are secret.
+/// Without the check points, which are secret. `callers` has the rows that not every post may call for.
 impl fmt::Debug for Session {
     fn fmt(&self, f: &mut fmt::Formatter) -> fmt::Result {
         let Self { n, t, post, points, first: _, second: _, .. } = self;
@@ -55,7 +60,8 @@ impl fmt::Debug for Session {
         let mut shown = f.debug_struct("Session");
         shown.field("n", n).field("t", t).field("post", post).field("points", points);
         shown.field("marks", marks).field("factor_a", factor_a).field("factor_b", factor_b);
-        shown.field("y_a", y_a).field("y_b", y_b).finish_non_exhaustive()
+        shown.field("y_a", y_a).field("y_b", y_b).field("callers", &Limited(self));
+        shown.finish_non_exhaustive()
     }
 }
 
@@ -74,6 +80,7 @@ impl Default for Session {
             factor_b: [0; ROWS],
             y_a: [0; ROWS],
             y_b: [0; ROWS],
+            barred: [0; SETS_LEN],
         }
     }
 }
@@ -133,11 +140,13 @@ impl Session {
     /// Zeros over every field, once the session is no longer needed. Copies that calls had on the
     /// stack stay there until they are written over.
     pub fn erase(&mut self) {
-        let Self { n, t, post, points, first, second, marks, factor_a, factor_b, y_a, y_b } = self;
+        let Self { n, t, post, points, first, second, .. } = self;
         [n, t, post, points].into_iter().for_each(|field| erase(core::slice::from_mut(field)));
         [first, second].into_iter().for_each(|point| erase(core::slice::from_mut(point)));
+        let Self { marks, factor_a, factor_b, y_a, y_b, barred, .. } = self;
         [marks, factor_a, factor_b].into_iter().for_each(|list| erase(list));
         [y_a, y_b].into_iter().for_each(|list| erase(list));
+        erase(barred);
     }
 
     /// Loads the post's part of a drawn row, [`row_len`](crate::row_len) numbers, into an empty
@@ -182,10 +191,43 @@ impl Session {
         unsafe { sys::gantsorol_deal(self, rows.as_mut_ptr(), rows.len(), row, c) }
     }
 
-    /// Writes the coefficients of a held row, [`message_len`](crate::message_len) numbers, into `out`.
-    /// Refusals 1 to 8.
+    /// Reads an `A` line, `A,row,` and rising post numbers, or `A,row,` alone, its line feed included: the
+    /// posts that may call for the opening of a raw row, whoever might before. Refusals 1 to 4, 10 (also
+    /// where the numbers don't rise), 11, 7.
+    ///
+    /// ```
+    /// # use gantsorol::{rows_len, Posts, Refusal, Session};
+    /// # let (mut session, mut rows) = (Session::new(3, 1, 1, &[2]).accepted()?.0, [0; rows_len(3, 1, 1)]);
+    /// session.take().load_row(&mut rows, 0, &[1, 2, 5, 5, 17, 12, 18, 24]).keep(&mut session)?;
+    /// assert_eq!(session.callers(0), Posts::all(3));
+    /// session.take().access(b"A,0,1,3\n").keep(&mut session)?;
+    /// assert_eq!(session.callers(0), Posts::of(&[1, 3]));
+    ///
+    /// session.take().deal(&mut rows, 0, 93).keep(&mut session)?;
+    /// let mut message = [0; 2];
+    /// let barred = session.take().opening_message(&rows, 0, 2, &mut message).keep(&mut session);
+    /// assert_eq!(barred, Err(Refusal::CallerBarred));
+    /// session.take().opening_message(&rows, 0, 3, &mut message).keep(&mut session)?;
+    /// assert_eq!(message, [1, 2]);
+    /// # Ok::<(), Refusal>(())
+    /// ```
     #[inline]
-    pub fn opening_message(self, rows: &[u32], row: usize, out: &mut [u32]) -> Answer {
+    pub fn access(self, line: &[u8]) -> Answer {
+        // SAFETY: the list is a borrowed slice's pointer and length; it is not written.
+        unsafe { sys::gantsorol_access(self, line.as_ptr(), line.len()) }
+    }
+
+    /// Writes the coefficients of a held row, [`message_len`](crate::message_len) numbers, into `out`, for
+    /// the post that calls for the opening. Refusals 1 to 8; 15 for a caller that the row's set does not
+    /// have, 0 and any above n too.
+    #[inline]
+    pub fn opening_message(
+        self,
+        rows: &[u32],
+        row: usize,
+        caller: usize,
+        out: &mut [u32],
+    ) -> Answer {
         // SAFETY: each list is a borrowed slice's pointer and length, and `out` overlaps no other.
         unsafe {
             sys::gantsorol_opening_message(
@@ -193,6 +235,7 @@ impl Session {
                 rows.as_ptr(),
                 rows.len(),
                 row,
+                caller,
                 out.as_mut_ptr(),
                 out.len(),
             )
@@ -212,7 +255,8 @@ impl Session {
 
     /// Writes row a plus `scale` times row b, both held, into the empty row `dest`, which becomes
     /// held. The `fee`, a public element, is added to its public sums alone: its number is a's plus
-    /// `scale` times b's plus the fee. Refusals 1 to 8.
+    /// `scale` times b's plus the fee. The posts that may call for it are those that may for both.
+    /// Refusals 1 to 8.
     #[inline]
     pub fn linear(
         self,
@@ -271,7 +315,8 @@ impl Session {
     }
 
     /// The third step: writes the product, from the two numbers remembered, into row `first` + 2,
-    /// which becomes held. Refusals 1 to 8.
+    /// which becomes held. The posts that may call for it are those that may for both factors, whose
+    /// rows must still be held. Refusals 1 to 8.
     #[inline]
     pub fn multiply(self, rows: &mut [u32], first: usize) -> Answer {
         // SAFETY: the list is a borrowed slice's pointer and length.

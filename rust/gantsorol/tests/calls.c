@@ -23,6 +23,7 @@ static void layout(void) {
     FIELD(gantsorol_session, factor_b);
     FIELD(gantsorol_session, y_a);
     FIELD(gantsorol_session, y_b);
+    FIELD(gantsorol_session, barred);
     SIZE(gantsorol_answer);
     FIELD(gantsorol_answer, refusal);
     FIELD(gantsorol_answer, value);
@@ -115,7 +116,7 @@ static void multiply(void) {
     for (int i = 0; i < N; i++) {
         keep(i, gantsorol_multiply(posts[i], rows[i], ALL, 93));
         print("product", rows[i] + 95 * ROW, ROW);
-        keep(i, gantsorol_opening_message(posts[i], rows[i], ALL, 95, message, T + 1));
+        keep(i, gantsorol_opening_message(posts[i], rows[i], ALL, 95, 3, message, T + 1));
         put(record, i, message);
     }
     for (int i = 0; i < N; i++)
@@ -166,12 +167,33 @@ static void relate(void) {
     for (int i = 0; i < N; i++) {
         keep(i, gantsorol_relation_finish(posts[i], rows[i], ALL, terms, TERMS, 2, records, RECORDS));
         print("sum", rows[i] + 2 * ROW, ROW);
-        keep(i, gantsorol_opening_message(posts[i], rows[i], ALL, 2, message, T + 1));
+        keep(i, gantsorol_opening_message(posts[i], rows[i], ALL, 2, 1, message, T + 1));
         put(record, i, message);
     }
     for (int i = 0; i < N; i++)
         printf("post %d opens %u\n", i + 1, keep(i, gantsorol_open(posts[i], rows[i], ALL, 2, record, RECORD)));
     printf("marks %d %d %d %d\n", posts[2].marks[2], posts[2].marks[90], posts[2].marks[91], posts[2].marks[92]);
+}
+
+/* Who may call: the sets of rows that were dealt, summed, multiplied, related and loaded; and callers outside them. */
+static void callers(void) {
+    const size_t of[] = {0, 1, 95, 2, 92, 90, 50};
+    uint32_t message[T + 1];
+    for (size_t i = 0; i < sizeof of / sizeof *of; i++) {
+        printf("row %zu is barred to %u, may be called for by", of[i], posts[1].barred[GANTSOROL_SET_LEN * of[i]]);
+        for (size_t post = 0; post <= N + 1; post++)
+            printf(" %d", gantsorol_may_call(N, posts[1].barred, of[i], post));
+        printf("\n");
+    }
+    /* Refused: posts outside the set of row 95, the own post among them; a held row, a line without its second comma, numbers
+       that do not rise, a post outside 1 to n, no line. */
+    const size_t outside[] = {0, 2, 4, 257};
+    for (size_t i = 0; i < sizeof outside / sizeof *outside; i++)
+        keep(1, gantsorol_opening_message(posts[1], rows[1], ALL, 95, outside[i], message, T + 1));
+    const char *const lines[] = {"A,0,1\n", "A,0\n", "A,50,3,1\n", "A,50,4\n", ""};
+    for (size_t i = 0; i < sizeof lines / sizeof *lines; i++)
+        keep(1, gantsorol_access(posts[1], (const uint8_t *)lines[i], strlen(lines[i])));
+    printf("%d %d\n", gantsorol_may_call(N, posts[1].barred, GANTSOROL_ROWS, 1), gantsorol_may_call(999, posts[1].barred, 0, 256));
 }
 
 static void write_lines(void) {
@@ -268,9 +290,11 @@ int main(void) {
         keep(i, gantsorol_load_row(posts[i], rows[i], ALL, 0, packs + i * ROW, ROW));
         keep(i, gantsorol_load_triple(posts[i], rows[i], ALL, 93, three, 3 * ROW));
         keep(i, gantsorol_load_triple(posts[i], rows[i], ALL, 90, three, 3 * ROW));
+        /* Posts 1 and 3 may call for row 0, and for what is made from it alone. */
+        keep(i, gantsorol_access(posts[i], (const uint8_t *)"A,0,1,3\n", 8));
         keep(i, gantsorol_deal(posts[i], rows[i], ALL, 0, c.value));
         keep(i, gantsorol_linear(posts[i], rows[i], ALL, 1, 0, 0, 2, 8));
-        keep(i, gantsorol_opening_message(posts[i], rows[i], ALL, 1, message, T + 1));
+        keep(i, gantsorol_opening_message(posts[i], rows[i], ALL, 1, 1, message, T + 1));
         put(record, i, message);
     }
     print("record", record, RECORD);
@@ -280,6 +304,7 @@ int main(void) {
            posts[2].marks[95]);
     multiply();
     relate();
+    callers();
 
     /* Refused: t posts alone, empty lists, and a new session that has 0 in every field. */
     for (int i = 1; i < N; i++)

@@ -119,7 +119,7 @@ macro_rules! layout {
 fn every_call_from_c() {
     let mut expected = String::new();
     layout!(expected,
-        Session, "session": n t post points first second marks factor_a factor_b y_a y_b;
+        Session, "session": n t post points first second marks factor_a factor_b y_a y_b barred;
         Answer, "answer": refusal value session;
         Term, "term": coefficient row second first;
         Number, "number": refusal value;

@@ -32,7 +32,7 @@ const COUNTS: [[usize; 2]; 4] = [[0, 0], [1, 0], [0, 1], [7, 5]];
 /// The binding's function beside each macro: its arguments by their names, and its value for a size and two counts.
 type Length = (&'static str, &'static str, fn([usize; 3], [usize; 2]) -> usize);
 
-const LENGTHS: [Length; 24] = [
+const LENGTHS: [Length; 26] = [
     ("CHECK_POINTS_LEN", "n, points", |[n, _, points], _| check_points_len(n, points)),
     ("ROW_LEN", "n, t, points", |[n, t, points], _| row_len(n, t, points)),
     ("ROWS_LEN", "n, t, points", |[n, t, points], _| rows_len(n, t, points)),
@@ -59,6 +59,8 @@ const LENGTHS: [Length; 24] = [
     ("DEAL_LINE_LEN", "", |_, _| DEAL_LINE_LEN),
     ("OPENING_LINE_LEN", "n, t, points", |[n, t, points], _| opening_line_len(n, t, points)),
     ("MASKS_LINE_LEN", "n, t, points", |[n, t, points], _| masks_line_len(n, t, points)),
+    ("SETS_LEN", "", |_, _| SETS_LEN),
+    ("ACCESS_LINE_LEN", "n", |[n, _, _], _| access_line_len(n)),
     ("START_LINE_LEN", "n, t, points", |[n, t, points], _| start_line_len(n, t, points)),
     ("ROW_LINE_LEN", "n, t, points", |[n, t, points], _| row_line_len(n, t, points)),
     ("TRIPLE_LINE_LEN", "n, t, points", |[n, t, points], _| triple_line_len(n, t, points)),
@@ -173,7 +175,7 @@ fn the_library_takes_these_lengths() {
         check_exact(row_len(n, t, points), pack);
         let pack = |len| post().load_triple(&mut rows.clone(), 0, &list(len)).refusal;
         check_exact(triple_pack_len(n, t, points), pack);
-        let message = |len| post().opening_message(&rows, 0, &mut list(len)).refusal;
+        let message = |len| post().opening_message(&rows, 0, 1, &mut list(len)).refusal;
         check_exact(message_len(t, points), message);
         check_exact(record_len(n, t, points), |len| post().open(&rows, 0, &list(len)).refusal);
         let masks = |len| post().masks(&rows, 0, 0, 0, &mut list(len)).refusal;
@@ -228,6 +230,12 @@ fn the_longest_lines_have_these_lengths() {
         check(opening, &|out| write_opening(n, t, points, ROWS - 1, n, &message, out));
         check(both, &|out| write_masks(n, t, points, ROWS - 3, n, &masks, out));
         assert!(opening < both && both <= LONGEST_LINE);
+        // The `A` line with the last row and every post.
+        let line = (1..=n).fold("A,95".to_string(), |line, post| format!("{line},{post}")) + "\n";
+        assert!(line.len() == access_line_len(n) && line.len() <= LONGEST_LINE);
+        let mut raw = session([n, t, points]);
+        raw.marks[95] = 1;
+        assert_eq!(raw.access(line.as_bytes()).refusal, 0);
     }
     assert_eq!(masks_line_len(MAX_POSTS, MAX_POSTS - 1, MAX_POINTS), LONGEST_LINE);
 }
@@ -273,6 +281,30 @@ fn the_longest_pack_file_has_this_length() {
         let zeros = "0,".repeat(row_len(n, t, points) - n);
         assert_eq!(lines["R,20,"], format!("{zeros}{}", vec!["1"; n].join(",")));
     }
+}
+
+/// The header's look at a set is the binding's, whatever bits stand there.
+#[test]
+fn the_header_reads_the_sets() {
+    let code = "#include <stdio.h>\n#include \"gantsorol.h\"\nint main(void) {\nstatic uint32_t barred[GANTSOROL_SETS_LEN];\n\
+                for (uint32_t i = 0; i < GANTSOROL_SETS_LEN; i++) barred[i] = (i + 1) * 0x9E3779B9u;\n\
+                for (size_t n = 2; n <= 257; n += 15) for (size_t row = 0; row <= GANTSOROL_ROWS; row++)\n\
+                for (size_t post = 0; post <= 257; post++) putchar('0' + gantsorol_may_call(n, barred, row, post));\n\
+                return 0;\n}\n";
+    let source = Path::new(env!("CARGO_TARGET_TMPDIR")).join("sets.c");
+    fs::write(&source, code).expect("a file can be written");
+    let printed = ended(&mut Command::new(compiled("sets", &source, &C))).stdout;
+    let mut session = session([3, 1, 1]);
+    session.barred = std::array::from_fn(|place| (place as u32 + 1).wrapping_mul(0x9E37_79B9));
+    let mut expected = vec![];
+    for n in (2..=257).step_by(15) {
+        session.n = n;
+        for row in 0..=ROWS {
+            let callers = session.callers(row);
+            expected.extend((0..=257).map(|post| b'0' + u8::from(callers.has(post))));
+        }
+    }
+    assert!(printed == expected && printed.contains(&b'0') && printed.contains(&b'1'));
 }
 
 /// The header's walk over kinds is the binding's.

@@ -62,7 +62,7 @@ fn the_stored_inputs() {
         assert!(REFERENCE.street(&input) == expected, "{name}, by the second implementation");
         inputs += 1;
     }
-    assert_eq!(inputs, 34, "stored inputs");
+    assert_eq!(inputs, 38, "stored inputs");
 }
 
 /// Rides × rate + fee by three runs of the program, with one check point a post and with two: the `M` lines that each

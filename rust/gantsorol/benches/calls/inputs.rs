@@ -1,6 +1,7 @@
 //! What the calls are timed on: post 1 of a station with honest posts.
 
-use reference::random::{check_points, Rng, SharedRow};
+use gantsorol::SET_LEN;
+use reference::random::{callers_line, check_points, Rng, SharedRow};
 use reference::Shape;
 
 /// Rows: 0 raw, 1 and 2 held, 3 to 5 an unused triple, 6 to 8 one whose masks of rows 1 and 2 were
@@ -24,6 +25,8 @@ pub struct Inputs {
     pub one_missing: Vec<u32>,
     /// Of a − l and b − l' of the second triple.
     pub masked: [Vec<u32>; 2],
+    /// The `A` line with row 0 and every post.
+    pub access: Vec<u8>,
     /// Elements to be written into lines.
     pub numbers: Vec<u32>,
 }
@@ -69,6 +72,7 @@ impl Inputs {
             scattered: record(&a, heard),
             one_missing: record(&a, |post| post != 2 || t + 1 == n),
             masked,
+            access: callers_line(0, &(1..=n).collect::<Vec<_>>()),
             numbers: rng.elements(shape.masks()),
             points,
             check_points,
@@ -84,7 +88,8 @@ fn record(shared: &SharedRow, present: impl Fn(usize) -> bool) -> Vec<u32> {
 
 /// The binding's session for the second implementation's.
 pub fn given(session: &reference::Session) -> gantsorol::Session {
-    let reference::Session { n, t, post, k, point, second, marks, left, right, y, y2 } = *session;
+    let reference::Session { n, t, post, k, point, second, marks, left, right, y, y2, barred } =
+        *session;
     gantsorol::Session {
         n,
         t,
@@ -97,5 +102,6 @@ pub fn given(session: &reference::Session) -> gantsorol::Session {
         factor_b: right,
         y_a: y,
         y_b: y2,
+        barred: std::array::from_fn(|place| barred[place / SET_LEN].0[place % SET_LEN]),
     }
 }

@@ -7,8 +7,8 @@ use std::env;
 use std::ops::Range;
 use std::str::FromStr;
 
-use gantsorol::{Refusal, Session, Term};
-use reference::{Answer, Library, ReadLine, Written};
+use gantsorol::{Refusal, Session, Term, SET_LEN};
+use reference::{Answer, Barred, Library, ReadLine, Written};
 
 /// The verified library.
 pub struct Verified;
@@ -61,16 +61,20 @@ pub fn new_session(
 }
 
 fn given(s: reference::Session) -> Session {
-    let reference::Session { n, t, post, k, point, second, marks, left, right, y, y2 } = s;
+    let reference::Session { n, t, post, k, point, second, marks, left, right, y, y2, barred } = s;
     let session = Session { n, t, post, points: k, first: point, second, ..Session::default() };
-    Session { marks, factor_a: left, factor_b: right, y_a: y, y_b: y2, ..session }
+    let barred = std::array::from_fn(|place| barred[place / SET_LEN].0[place % SET_LEN]);
+    Session { marks, factor_a: left, factor_b: right, y_a: y, y_b: y2, barred, ..session }
 }
 
 fn answered(answer: gantsorol::Answer) -> Answer {
     let gantsorol::Answer { refusal, value, session } = answer;
     let Session { n, t, post, points: k, first: point, second, marks, .. } = session;
     let Session { factor_a: left, factor_b: right, y_a: y, y_b: y2, .. } = session;
-    let session = reference::Session { n, t, post, k, point, second, marks, left, right, y, y2 };
+    let barred = |row| Barred(std::array::from_fn(|word| session.barred[SET_LEN * row + word]));
+    let barred = std::array::from_fn(barred);
+    let session =
+        reference::Session { n, t, post, k, point, second, marks, left, right, y, y2, barred };
     Answer { refusal, value, session }
 }
 
@@ -136,9 +140,14 @@ impl Library for Verified {
         s: reference::Session,
         rows: &[u32],
         row: usize,
+        caller: usize,
         out: &mut [u32],
     ) -> Answer {
-        answered(given(s).opening_message(rows, row, out))
+        answered(given(s).opening_message(rows, row, caller, out))
+    }
+
+    fn set_callers(&self, s: reference::Session, line: &[u8]) -> Answer {
+        answered(given(s).access(line))
     }
 
     fn open(&self, s: reference::Session, rows: &[u32], row: usize, record: &[u32]) -> Answer {

@@ -4,6 +4,7 @@
 #[path = "../common/mod.rs"]
 mod common;
 
+mod callers;
 mod odd;
 mod one_list;
 mod paperwork;
@@ -79,12 +80,14 @@ const SQUARES: Met = &[
     ("LoadRow", &[0, 1, 2, 3, 4, 5, 6, 7, 8]),
     ("LoadTriple", &[0, 1, 2, 3, 4, 5, 6, 7, 8]),
     ("Deal", &[0, 1, 2, 3, 4, 5, 6, 7, 8]),
-    ("OpeningMessage", &[0, 5, 6, 7, 8]),
+    ("OpeningMessage", &[0, 5, 6, 7, 8, 15]),
+    ("SetCallers", &[0, 7, 10, 11]),
     ("Open", &[0, 5, 6, 7, 8, 9, 13]),
     ("Linear", &[0, 5, 6, 7, 8]),
     ("Masks", &[0, 5, 6, 7, 8]),
     ("OpenMasks", &[0, 5, 6, 7, 8, 9, 13]),
-    ("Multiply", &[0, 5, 6, 7]),
+    // 5 of a multiply: callers.rs, at every number of posts
+    ("Multiply", &[0, 6, 7]),
     ("RelationMasks", &[0, 5, 6, 7, 8, 14]),
     ("RelationFinish", &[0, 5, 6, 7, 8, 9, 13, 14]),
 ];

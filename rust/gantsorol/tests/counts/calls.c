@@ -16,6 +16,9 @@ static void load_and_deal(void) {
     keep(gantsorol_new(n, t, POST, points, own_points()[0], own_points()[points - 1]), 0, 0, "new");
     for (size_t row = A; row <= B; row++) {
         keep(gantsorol_load_row(session, rows, rows_len, row, part(row), row_len), 0, 0, "load row");
+        /* Who may call for a row is no secret. */
+        char access[] = {'A', ',', (char)('0' + row), ',', '1', ',', '0' + POST, ',', '3', '\n'};
+        keep(gantsorol_access(session, (const uint8_t *)access, sizeof access), 0, 0, "access");
         /* Masks are opened, so whether one opens to 0 is fixed too. */
         do
             numbers[row] = drawn(0);
@@ -32,6 +35,7 @@ static void load_and_deal(void) {
     /* Refused, each behind the others: a length, a mark, a number of p or more in the last place. */
     keep(gantsorol_deal(session, rows, rows_len - 1, A, 1), 5, 0, "deal, 5");
     keep(gantsorol_load_row(session, rows, rows_len, A, part(B), row_len), 7, 0, "load row, 7");
+    keep(gantsorol_access(session, (const uint8_t *)"A,0,1\n", 6), 7, 0, "access, 7");
     memcpy(pack, part(B), row_len * sizeof *pack);
     pack[row_len - 1] = P;
     keep(gantsorol_load_row(session, rows, rows_len, EMPTY, pack, row_len), 8, 0, "load row, 8");
@@ -39,7 +43,8 @@ static void load_and_deal(void) {
 
 static void open_row(size_t row, uint32_t opened) {
     uint32_t message[MESSAGE], record[GANTSOROL_RECORD_LEN(MOST, MOST, GANTSOROL_MAX_POINTS)];
-    keep(gantsorol_opening_message(session, rows, rows_len, row, message, k), 0, 0, "opening message");
+    keep(gantsorol_opening_message(session, rows, rows_len, row, POST, message, k), 0, 0, "opening message");
+    keep(gantsorol_opening_message(session, rows, rows_len, row, n + 1, message, k), 15, 0, "opening message, 15");
     must(memcmp(message, polynomial(row, POST), k * sizeof *message) == 0, "the message is the post's polynomial");
     hear(row, 1, n, record);
     keep(gantsorol_open(session, rows, rows_len, row, record, record_len), 0, opened, "open");

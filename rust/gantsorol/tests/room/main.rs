@@ -32,6 +32,15 @@ const MORE: [&str; 4] = [
     "gantsorol_write_pack",
 ];
 
+/// The calls that look at the sets of posts, or write them, may have the 3,072 bytes of all sets there, as often as this allows;
+/// before the session had them an opening message and a linear took 232, a multiply 1,000.
+const SETS: [(&str, usize); 4] = [
+    ("gantsorol_opening_message", 3_400),
+    ("gantsorol_access", 4_500),
+    ("gantsorol_linear", 6_500),
+    ("gantsorol_multiply", 7_500),
+];
+
 /// The library's calls.
 fn calls() -> Vec<String> {
     exports(Path::new(env!("GANTSOROL_ARCHIVE"))).into_keys().collect()
@@ -122,6 +131,8 @@ fn check_stack(call: &str, small: usize, middle: usize, large: usize) {
     assert!(small.max(middle).max(large) < MOST_STACK, "{call} goes deeper than {MOST_STACK}");
     let spared = !OPENING.contains(&call) || small.max(middle) + SPARED <= large;
     assert!(spared, "{call} at (3, 1) or (32, 31) has the rooms of the most posts on its stack");
-    let little = MORE.contains(&call) || small <= SMALL;
-    assert!(little, "{call} takes more than {SMALL} bytes of a small station's stack");
+    let with_sets = SETS.iter().find(|(name, _)| *name == call);
+    let most = with_sets.map_or(SMALL, |(_, most)| *most);
+    let little = MORE.contains(&call) || small <= most;
+    assert!(little, "{call} takes more than {most} bytes of a small station's stack");
 }

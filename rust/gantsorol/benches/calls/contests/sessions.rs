@@ -41,6 +41,11 @@ fn loading_and_dealing(i: &Inputs) -> Vec<Contest<'_>> {
             on_ours(i, move |s, rows| s.deal(rows, 0, i.numbers[0])),
             on_second(i, move |s, rows| REFERENCE.deal(s, rows, 0, i.numbers[0])),
         ),
+        contest(
+            "access",
+            on_ours(i, move |s, _| s.access(&i.access)),
+            on_second(i, move |s, _| REFERENCE.set_callers(s, &i.access)),
+        ),
     ]
 }
 
@@ -51,11 +56,11 @@ fn openings(i: &Inputs) -> Vec<Contest<'_>> {
             "opening message",
             {
                 let mut out = message();
-                on_ours(i, move |s, rows| s.opening_message(rows, 1, &mut out))
+                on_ours(i, move |s, rows| s.opening_message(rows, 1, 1, &mut out))
             },
             {
                 let mut out = message();
-                on_second(i, move |s, rows| REFERENCE.opening_message(s, rows, 1, &mut out))
+                on_second(i, move |s, rows| REFERENCE.opening_message(s, rows, 1, 1, &mut out))
             },
         ),
         opening("open", i, &i.record),
@@ -68,6 +73,17 @@ fn sums_and_products(i: &Inputs) -> Vec<Contest<'_>> {
     let masks = || vec![0; gantsorol::masks_len(i.t, i.points)];
     let [left, right] = &i.masked;
     vec![
+        contest(
+            "multiply",
+            on_ours(i, move |mut s, rows| {
+                s.marks[6] = 7;
+                s.multiply(rows, 6)
+            }),
+            on_second(i, move |mut s, rows| {
+                s.marks[6] = 7;
+                REFERENCE.multiply(s, rows, 6)
+            }),
+        ),
         contest(
             "linear",
             on_ours(i, move |s, rows| s.linear(rows, 95, 1, 2, i.numbers[0], i.numbers[1])),
