@@ -15,3 +15,4 @@ pub mod Relating
 pub mod Recalling
 pub mod Keeping
 pub mod Relation
+pub mod Callers

@@ -279,7 +279,7 @@ module _ (G : Stander) where
       z : multiplyRefusal s l r ≡ 0
       z =
           multiply-clear s l r (frame-clear r seven)
-          (record { triple-in = omega (arith, low); first-mark = seven; second-mark = t .second; third-mark = t .third })
+          (record { triple-in = omega (arith, low); first-mark = seven; second-mark = t .second; third-mark = t .third; a-held = f r (below r seven) .waiting (inr seven) .a-held; b-held = f r (below r seven) .waiting (inr seven) .b-held })
           (record {
             a-element = element-is _ (number (maskVectorA M vec r)) (recalls .each r seven .is-a);
             b-element = element-is _ (number (maskVectorB M vec r)) (recalls .each r seven .is-b);

@@ -1,6 +1,7 @@
 -- A relation's finish with t+1 true polynomials of each record: done, and y and y' of each product term are remembered; or 13.
 use Prim.Native.Nat.{ℕ, suc, _+_, _<_}
-use mathlib.Core.Path.{_≡_, refl, sym, _∙_, ap, subst}
+use mathlib.Core.Path.{_≡_, refl, sym, _∙_, ap, ap₂, subst}
+use mathlib.Core.Bool.{false}
 use mathlib.Core.Logic.{_≢_, _⊎_, inl, inr}
 use mathlib.Core.List.{List, [], _∷_}
 use native.Mathlib.Omega.{arith}
@@ -16,7 +17,7 @@ use Rattle.product_masks.specs.Masks.{maskRow}
 use Rattle.vectors.specs.Claims.{heldRow}
 use Rattle.terms.specs.declared.Term.{Term}
 use Rattle.terms.specs.Listed.{productsOf, collected}
-use Rattle.terms.proofs.Placing.{factors-again}
+use Rattle.terms.proofs.Placing.{terms-again, factors-again}
 use Rattle.relation.specs.Finish.{recordA, recordB, termMaskA, termMaskB, termNumberA, termNumberB, pairDone, finishedTerms, relationDone}
 use Rattle.relation.specs.Finish.{relationFinishRefusal, relationFinishAnswer}
 use Rattle.relation.proofs.Passed.{AllAt, Agreed, relation-finished}
@@ -135,17 +136,17 @@ module _ (G : Stander) (S : ℕ → Type 0) (w : World) (said : AllSaid (G .plan
 
     -- the session that is handed back, where it is done
     after : relationFinishRefusal s l (collected ts) r blocks ≡ 0
-        → relationFinishAnswer s l (collected ts) r blocks .session ≡ relationDone s l blocks (productsOf ts) r
+        → relationFinishAnswer s l (collected ts) r blocks .session ≡ relationDone s l blocks (productsOf ts) ts r
     after z =
         ap (λ (x : Post). x .session) (settled (relationFinishRefusal s l (collected ts) r blocks) 0 _ s l l z)
-        ∙ ap (λ (us : List Term). relationDone s l blocks us r) (factors-again ts (ready .count .1))
+        ∙ ap₂ (λ (us vs : List Term). relationDone s l blocks us vs r) (factors-again ts (ready .count .1)) (terms-again ts (ready .count .1))
 
     done-right : EachAt (SomeTrue (TrueMask S w (planShape plan)) (Permitted.q G) blocks) 0 (productsOf ts)
         → relationFinishRefusal s l (collected ts) r blocks ≡ 0
         → All (λ t. Remembers plan draw L (relationFinishAnswer s l (collected ts) r blocks .session) (t .first)) (productsOf ts)
     done-right t z =
         subst (λ (s' : Session). All (λ t. Remembers plan draw L s' (t .first)) fs) (sym (after z))
-        (all-remembered (relationDone s l blocks fs r) 0 fs (ready .products) t (relation-finished s ts r blocks l z .agreed)
+        (all-remembered (relationDone s l blocks fs ts r) 0 fs (ready .products) t (relation-finished s ts r blocks l z .agreed)
         (recalled s l blocks 0 fs s (all-map (λ t h. below G (t .first) (h .0)) fs (ready .products)) (apart fs (ready .once))
         (recalls .a-long) (recalls .b-long)))
 

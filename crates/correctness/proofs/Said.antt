@@ -19,7 +19,7 @@ use Rattle.parts.proofs.Laws.{elements-append}
 use Rattle.vectors.specs.Vector.{Vector, numbers}
 use Rattle.vectors.proofs.Linear.{length-numbers}
 use Rattle.runs.specs.Draws.{Plan, Draw, IsDraw, planShape}
-use Rattle.runs.specs.Outline.{Act, loads, loadsTriple, deals, opens, sums, factors, collects, multiplies, takes, Given, Move, moves, actsIn, Sending, itsOpening, itsMasks, sends}
+use Rattle.runs.specs.Outline.{Act, loads, loadsTriple, deals, opens, sums, factors, collects, multiplies, admits, takes, Given, Move, moves, actsIn, Sending, itsOpening, itsMasks, sends}
 use Rattle.runs.specs.Calls.{Post, Actual, Call, perform, sentIf, openingLine, masksLine, lineOf, sentBy, broadcast, Among}
 use Rattle.runs.proofs.Outlines.{every-all}
 use Rattle.runs.proofs.Marks.{markOf, less, vectorA, vectorB, Masking, none, of, masking}
@@ -241,6 +241,7 @@ module _ (plan : Plan) (draw : Draw) (L : Ledger) (small : plan .n < tens 10) wh
     noted (factors a b r) x w = w
     noted (collects r) x w = tt
     noted (multiplies r) x w = tt
+    noted (admits line) x w = tt
 
     all-noted : (ms : List (Move Actual)) → All Wrote ms → All Noted (map masking (actsIn ms))
     all-noted [] w = tt

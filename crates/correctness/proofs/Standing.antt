@@ -1,18 +1,18 @@
 -- One post by the ledger: each row it holds is its part of the ledger's vector, and each call that is not refused keeps that.
 use Prim.Native.Nat.{ℕ, suc, _+_, _≤_, _<_}
 use mathlib.Core.Path.{_≡_, refl, sym, _∙_, ap₂, subst}
-use mathlib.Core.Logic.{_≢_, inr}
+use mathlib.Core.Logic.{_≢_, _⊎_, inl, inr}
 use mathlib.Core.List.{List, [], _∷_}
 use native.Mathlib.Omega.{arith}
 use lib.ListN.{length}
 use Rattle.field.specs.Element.{element}
 use Rattle.poly.specs.Counting.{All}
 use Rattle.shape.specs.Bounds.{rowCount}
-use Rattle.shape.specs.Marks.{empty, collected}
+use Rattle.shape.specs.Marks.{empty, raw, collected}
 use Rattle.shape.specs.Lengths.{rowsLength}
 use Rattle.vectors.specs.Vector.{Vector, raised, number}
 use Rattle.runs.specs.Draws.{Plan, Draw, IsDraw, planShape}
-use Rattle.runs.specs.Outline.{Act, loads, loadsTriple, deals, opens, Summand, once, times, fee, sums, factors, collects, multiplies, takes, Given, Move, moves, actsIn, acts, sends}
+use Rattle.runs.specs.Outline.{Act, loads, loadsTriple, deals, opens, Summand, once, times, fee, sums, factors, collects, multiplies, admits, takes, Given, Move, moves, actsIn, acts, sends}
 use Rattle.runs.specs.Calls.{Post, Actual, Call, perform, after}
 use Rattle.runs.proofs.Marks.{Marks, markOf, rememberedA, rememberedB, Sized, less, worthVector, totalVector, written, marksBy, vectorsBy, marksAll, numberIn, vectorsAll}
 use Rattle.runs.proofs.Sums.{productVector, product-sum}
@@ -67,9 +67,12 @@ module _ (plan : Plan) (draw : Draw) (L : Ledger) where
 
     room-at : (c : Call) → refusalOf c q ≡ 0 → len ≡ rowsLength (planShape plan)
     room-at c z =
-        sym (g .stands .holds .long)
-        ∙ subst (λ (x : Post). refusalOf c x ≡ 0 → length (q .rows) ≡ rowsLength (planShape plan))
-        (sym (named plan draw len i (g .marks) (g .vec) q (g .stands))) (room plan draw i (g .marks) (g .stands .opened) (q .rows) c) z
+        elim
+        (subst (λ (x : Post). refusalOf c x ≡ 0 → (length (q .rows) ≡ rowsLength (planShape plan)) ⊎ ((r : ℕ) × (markOf (g .marks) r ≡ raw)))
+        (sym (named plan draw len i (g .marks) (g .vec) q (g .stands))) (room plan draw i (g .marks) (g .stands .opened) (q .rows) c) z) [
+          | inl e ↦ sym (g .stands .holds .long) ∙ e
+          | inr k ↦ g .full (k .0) (λ e. omega (arith, k .1))
+        ]
 
   -- what a call that does what the ledger says brings
   module _ (M : Marks) (vec : ℕ → Vector) (f : Known M vec) where
@@ -112,6 +115,7 @@ module _ (plan : Plan) (draw : Draw) (L : Ledger) where
     meant i (factors a b r) x ok own w = w
     meant i (collects r) x ok own w = tt
     meant i (multiplies r) x ok own w = finished-is r (ok .0)
+    meant i (admits line) x ok own w = tt
 
   abbrev Wrote : Move Actual → Type 0
   Wrote m = WrittenBy draw L (m .0) (m .1)

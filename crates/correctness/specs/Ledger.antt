@@ -7,7 +7,7 @@ use Rattle.field.specs.Modulus.{p}
 use Rattle.field.specs.Arithmetic as Arithmetic
 use Rattle.factory.specs.Calls.{dealerNumber}
 use Rattle.runs.specs.Draws.{Plan, Draw, rawDraw, drawA, drawB}
-use Rattle.runs.specs.Outline.{Act, loads, loadsTriple, deals, opens, Summand, once, times, fee, sums, factors, collects, multiplies, takes, Given, moves, Every}
+use Rattle.runs.specs.Outline.{Act, loads, loadsTriple, deals, opens, Summand, once, times, fee, sums, factors, collects, multiplies, admits, takes, Given, moves, Every}
 use Rattle.runs.specs.Calls.{Actual, Call}
 
 -- What a row holds: nothing of its own; u, dealt; a sum, of one summand or more; a times b, by the triple at r.
@@ -34,6 +34,7 @@ WrittenBy draw L (sums r t ts) x = L r ≡ summed t ts
 WrittenBy draw L (factors a b r) x = L (r + 2) ≡ product r a b
 WrittenBy draw L (collects r) blocks = Unit {0}
 WrittenBy draw L (multiplies r) x = Unit {0}
+WrittenBy draw L (admits line) x = Unit {0}
 
 abbrev pub Written : Draw → Ledger → Call → Type 0
 Written draw L c = Every (λ m. WrittenBy draw L (m .0) (m .1)) (moves c)

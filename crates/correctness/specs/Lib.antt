@@ -5,3 +5,4 @@ pub mod Truth
 pub mod Claim
 pub mod Parts
 pub mod Relation
+pub mod Callers

@@ -115,7 +115,7 @@ ends =
     call 1 (collect 2 (0 ∷ 0 ∷ 0 ∷ 1 ∷ 2147483645 ∷ 0 ∷ 0 ∷ 0 ∷ 0 ∷ []) (0 ∷ 0 ∷ 0 ∷ 1 ∷ 3 ∷ 0 ∷ 0 ∷ 0 ∷ 0 ∷ []))
     ∷ call 2 (collect 2 (1 ∷ 2147483643 ∷ 1 ∷ 0 ∷ 0 ∷ 0 ∷ 0 ∷ 0 ∷ 0 ∷ []) (1 ∷ 1 ∷ 0 ∷ 0 ∷ 0 ∷ 0 ∷ 0 ∷ 0 ∷ 0 ∷ []))
     ∷ call 1 (multiply 2) ∷ call 2 (multiply 2)
-    ∷ call 2 (message 4 room) ∷ []
+    ∷ call 2 (message 4 1 room) ∷ []
 
 abbrev events : List Event
 events = before ++ ends
@@ -167,7 +167,7 @@ ends' =
     call 1 (collect 2 (0 ∷ 0 ∷ 0 ∷ 1 ∷ 0 ∷ 2147483646 ∷ 0 ∷ 0 ∷ 0 ∷ []) (0 ∷ 0 ∷ 0 ∷ 1 ∷ 3 ∷ 0 ∷ 0 ∷ 0 ∷ 0 ∷ []))
     ∷ call 2 (collect 2 (1 ∷ 2147483646 ∷ 0 ∷ 0 ∷ 0 ∷ 0 ∷ 0 ∷ 0 ∷ 0 ∷ []) (1 ∷ 1 ∷ 0 ∷ 0 ∷ 0 ∷ 0 ∷ 0 ∷ 0 ∷ 0 ∷ []))
     ∷ call 1 (multiply 2) ∷ call 2 (multiply 2)
-    ∷ call 2 (message 4 room) ∷ []
+    ∷ call 2 (message 4 1 room) ∷ []
 
 abbrev events' : List Event
 events' = before ++ ends'

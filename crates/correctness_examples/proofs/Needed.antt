@@ -31,7 +31,7 @@ not-it r x y z e ne k h = ne (sym e ∙ one-number ledger r x z h k)
 unfoldable foreign : List Event
 foreign =
     load draw 1 0 ∷ call 2 (loadRow 0 (5 ∷ 0 ∷ 7 ∷ 6 ∷ 23 ∷ 12 ∷ 18 ∷ 24 ∷ [])) ∷ dealOf draw 1 0 6 ∷ dealOf draw 2 0 6
-    ∷ call 2 (message 0 room) ∷ []
+    ∷ call 2 (message 0 1 room) ∷ []
 
 all-but-a-part : Asked draw (AllBut 2) Everyone Everyone foreign new
 unfolding plan foreign ledger
@@ -54,7 +54,7 @@ part-fails h = not-it 0 _ 8 6 opens-8 (omega arith) plain-6 (h .exact (lit≤ tt
 
 -- post 1 deals 9 where post 2 deals 6
 unfoldable apart : List Event
-apart = load draw 1 0 ∷ load draw 2 0 ∷ dealOf draw 1 0 9 ∷ dealOf draw 2 0 6 ∷ call 2 (message 0 room) ∷ []
+apart = load draw 1 0 ∷ load draw 2 0 ∷ dealOf draw 1 0 9 ∷ dealOf draw 2 0 6 ∷ call 2 (message 0 1 room) ∷ []
 
 all-but-a-deal : Asked draw Everyone (AllBut 1) Everyone apart new
 unfolding plan apart ledger
@@ -80,7 +80,7 @@ deal-fails h = not-it 0 _ 9 6 opens-9 (omega arith) plain-6 (h .exact (lit≤ tt
 unfoldable sums : List Event
 sums =
     load draw 1 0 ∷ load draw 2 1 ∷ dealOf draw 1 0 6 ∷ dealOf draw 2 1 7
-    ∷ call 1 (linear 7 0 0 2 0) ∷ call 2 (linear 7 1 1 4 0) ∷ call 2 (message 7 room) ∷ []
+    ∷ call 1 (linear 7 0 0 2 0) ∷ call 2 (linear 7 1 1 4 0) ∷ call 2 (message 7 1 room) ∷ []
 
 all-but-a-sum : Asked draw Everyone (AllBut 2) Everyone sums new
 unfolding plan sums ledger

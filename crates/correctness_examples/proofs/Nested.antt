@@ -21,8 +21,8 @@ use Rattle.correctness_examples.proofs.Example.{premises}
 -- row 6 is row 0 plus twice row 4; row 8 is the charge, row 4 with a fee of 8
 unfoldable more : List Event
 more =
-    call 2 (linear 6 0 4 2 0) ∷ call 1 (linear 6 0 4 2 0) ∷ call 2 (message 6 room)
-    ∷ call 1 (linear 8 4 4 0 8) ∷ call 2 (linear 8 4 4 0 8) ∷ call 2 (message 8 room) ∷ []
+    call 2 (linear 6 0 4 2 0) ∷ call 1 (linear 6 0 4 2 0) ∷ call 2 (message 6 1 room)
+    ∷ call 1 (linear 8 4 4 0 8) ∷ call 2 (linear 8 4 4 0 8) ∷ call 2 (message 8 1 room) ∷ []
 
 longer : Premises plan draw ledger Everyone (events ++ more) zeros
 unfolding plan more ledger

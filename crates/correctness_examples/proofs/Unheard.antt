@@ -24,7 +24,7 @@ use Rattle.correctness_examples.proofs.Example.{draw-is}
 unfoldable before : List Event
 before =
     load draw 1 0 ∷ load draw 2 0 ∷ load draw 3 0 ∷ dealOf draw 1 0 6 ∷ dealOf draw 2 0 6 ∷ dealOf draw 3 0 8
-    ∷ call 2 (message 0 room) ∷ []
+    ∷ call 2 (message 0 1 room) ∷ []
 
 -- post 1 opens with post 2's block alone; then it deals row 1, where the ledger has 7, as 9
 abbrev blocks : List ℕ

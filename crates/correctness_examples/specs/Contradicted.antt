@@ -20,7 +20,7 @@ use Rattle.correctness_examples.specs.Fees.{fair, starts, sends}
 unfoldable pub dealing : List Event
 dealing =
     load draw 1 0 ∷ load draw 2 0 ∷ load draw 3 0 ∷ dealOf draw 1 0 6 ∷ dealOf draw 2 0 6 ∷ dealOf draw 3 0 6
-    ∷ call 2 (message 0 room) ∷ call 3 (message 0 room) ∷ []
+    ∷ call 2 (message 0 1 room) ∷ call 3 (message 0 1 room) ∷ []
 
 abbrev pub opener : Post
 opener = history dealing new .posts 1

@@ -58,10 +58,10 @@ abbrev pub wrong : Event
 wrong = call 1 (relationFinish unfair 8 [])
 
 unfoldable pub late : List Event
-late = call 3 (relationFinish fair 7 fromOne) ∷ call 3 (message 7 room) ∷ []
+late = call 3 (relationFinish fair 7 fromOne) ∷ call 3 (message 7 1 room) ∷ []
 
 unfoldable pub later : List Event
-later = call 3 (relationFinish unfair 8 []) ∷ call 3 (message 8 room) ∷ []
+later = call 3 (relationFinish unfair 8 []) ∷ call 3 (message 8 1 room) ∷ []
 
 abbrev pub before : List Event
 before = starts ++ (sends ++ early)

@@ -28,7 +28,7 @@ deals =
 -- post 2 makes no sum
 unfoldable pub sums : List Event
 sums =
-    call 3 (linear 5 0 1 2 0) ∷ call 3 (message 5 room) ∷ call 3 (masks 0 1 2 rooms)
+    call 3 (linear 5 0 1 2 0) ∷ call 3 (message 5 1 room) ∷ call 3 (masks 0 1 2 rooms)
     ∷ call 1 (linear 5 0 1 2 0) ∷ call 1 (masks 0 1 2 rooms) ∷ call 2 (masks 0 1 2 rooms) ∷ []
 
 -- of post 2 the false 6 + 0z, of post 3 what it sent
@@ -43,7 +43,7 @@ ends =
     ∷ call 1 (collect 2 lie (0 ∷ 0 ∷ 0 ∷ 0 ∷ 0 ∷ 0 ∷ 1 ∷ 2 ∷ 0 ∷ []))
     ∷ call 2 (collect 2 (1 ∷ 2147483643 ∷ 1 ∷ 0 ∷ 0 ∷ 0 ∷ 0 ∷ 0 ∷ 0 ∷ []) (1 ∷ 1 ∷ 0 ∷ 0 ∷ 0 ∷ 0 ∷ 0 ∷ 0 ∷ 0 ∷ []))
     ∷ call 1 (multiply 2) ∷ call 2 (multiply 2)
-    ∷ call 2 (message 4 room) ∷ []
+    ∷ call 2 (message 4 1 room) ∷ []
 
 abbrev pub before : List Event
 before = loads ++ (deals ++ sums)

@@ -1,11 +1,10 @@
 -- A linear call keeps to the law of every call, and changes no row but the one that it writes.
 use Prim.Native.Nat.{ℕ, _<_}
 use mathlib.Core.Path.{_≡_}
-use mathlib.Core.List.{List}
+use mathlib.Core.List.{List, [], _∷_}
 use native.Mathlib.Omega.{arith}
 use Rattle.shape.specs.Bounds.{rowCount}
-use Rattle.shape.specs.Marks.{held}
-use Rattle.session.specs.Sessions.{shapeOf, marked}
+use Rattle.session.specs.Sessions.{shapeOf, summedRow}
 use Rattle.session.specs.Rows.{width, sumsAt, rowAt, withRow, summed}
 use Rattle.session.proofs.Lawful.{lawful-by}
 use Rattle.session.proofs.Passed.{row-below}
@@ -20,7 +19,7 @@ use Rattle.linear.proofs.Passed.{Summed}
 pub linear-lawful : LinearLawful
 unfolding linearRefusal
 linear-lawful s rows r a b scale fee =
-    lawful-by (linear-table s rows r a b scale fee) (omega arith) 0 (marked s r held) s
+    lawful-by (linear-table s rows r a b scale fee) (omega arith) 0 (summedRow s r (a ∷ b ∷ [])) s
     (withRow (width s) r (summed (sumsAt s) scale fee (rowAt (width s) rows a) (rowAt (width s) rows b)) rows) rows
 
 pub linear-keeps-others : LinearKeepsOthers

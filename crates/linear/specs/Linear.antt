@@ -8,7 +8,7 @@ use Rattle.refusal.specs.Conditions.{beyond, anyBeyond}
 use Rattle.shape.specs.Marks.{empty, held}
 use Rattle.session.specs.declared.Session.{Session}
 use Rattle.session.specs.declared.Answer.{Answer}
-use Rattle.session.specs.Sessions.{marked, answer}
+use Rattle.session.specs.Sessions.{summedRow, answer}
 use Rattle.session.specs.Rows.{width, sumsAt, rowAt, withRow, summed}
 use Rattle.session.specs.Checks.{frameTests, noRow, wrongMarkIn}
 
@@ -34,7 +34,7 @@ unfoldable pub linearRefusal : Session → List ℕ → ℕ → ℕ → ℕ → 
 linearRefusal s rows r a b scale fee = first (linearTests s rows r a b scale fee)
 
 abbrev pub linearAnswer : Session → List ℕ → ℕ → ℕ → ℕ → ℕ → ℕ → Answer
-linearAnswer s rows r a b scale fee = answer (linearRefusal s rows r a b scale fee) 0 (marked s r held) s
+linearAnswer s rows r a b scale fee = answer (linearRefusal s rows r a b scale fee) 0 (summedRow s r (a ∷ b ∷ [])) s
 
 abbrev pub linearRows : Session → List ℕ → ℕ → ℕ → ℕ → ℕ → ℕ → List ℕ
 linearRows s rows r a b scale fee =

@@ -91,5 +91,5 @@ pub fn linear(
 {
     let refusal = linear_refusal(session, rows, dest, a, b, scale, fee);
     linear_rows(session, rows, dest, a, b, scale, fee, refusal);
-    session.answer_marking(refusal, dest, shape::HELD)
+    session.answer_summing(refusal, dest, a, b)
 }

@@ -8,17 +8,17 @@ use lib.ListN.{length}
 use Rattle.shape.specs.Bounds.{lastRow}
 use Rattle.shape.specs.Marks.{held}
 use Rattle.shape.specs.Lengths.{messageLength}
-use Rattle.refusal.specs.Refusal.{Test, _when_, AllFail}
+use Rattle.refusal.specs.Refusal.{Test, _when_, first, AllFail}
 use Rattle.refusal.specs.Conditions.{wrongLength, anyBeyond}
-use Rattle.refusal.proofs.Laws.{equal}
+use Rattle.refusal.proofs.Laws.{equal, all-fail, not-refused}
 use Rattle.refusal.proofs.Groups.{fail-parts}
 use Rattle.session.specs.declared.Session.{Session}
-use Rattle.session.specs.Sessions.{shapeOf, mark}
+use Rattle.session.specs.Sessions.{shapeOf, mark, barredFrom}
 use Rattle.session.specs.Rows.{width, rowAt}
 use Rattle.session.specs.Checks.{noRow, wrongMark}
 use Rattle.session.specs.Between.{Framed}
 use Rattle.session.proofs.Calls.{allowed}
-use Rattle.message.specs.Message.{messageRefusal}
+use Rattle.message.specs.Message.{messageChecks, messageTests, messageRefusal}
 
 -- 5 to 7
 abbrev pub messagePlace : Session → ℕ → List ℕ → List Test
@@ -43,10 +43,20 @@ pub record MessageMade (s : Session) (rows : List ℕ) (r : ℕ) (out : List ℕ
   pub placed : MessagePlaced s r out
   pub row-low : anyBeyond (rowAt (width s) rows r) ≡ false
 
-pub message-made : (s : Session) (rows : List ℕ) (r : ℕ) (out : List ℕ) → messageRefusal s rows r out ≡ 0 → MessageMade s rows r out
-unfolding messageRefusal
-message-made s rows r out z =
+pub checks-passed : (s : Session) (rows : List ℕ) (r : ℕ) (out : List ℕ) → first (messageChecks s rows r out) ≡ 0 → MessageMade s rows r out
+checks-passed s rows r out z =
     let late = messageLate (anyBeyond (rowAt (width s) rows r)) in
     let (frame, own) = allowed s rows (messagePlace s r out ++ late) tt 0 (sym z) refl in
     let (place, (high, _)) = fail-parts (messagePlace s r out) late own in
     record { framed = frame; placed = message-placed s r out place; row-low = high }
+
+-- 1 to 8, and 15
+pub message-split : (s : Session) (rows : List ℕ) (r caller : ℕ) (out : List ℕ) → messageRefusal s rows r caller out ≡ 0
+    → (first (messageChecks s rows r out) ≡ 0) × (barredFrom s r caller ≡ false)
+unfolding messageRefusal
+message-split s rows r caller out z =
+    let q = fail-parts (messageChecks s rows r out) (15 when barredFrom s r caller ∷ []) (all-fail (messageTests s rows r caller out) tt z) in
+    (not-refused (messageChecks s rows r out) (q .0), q .1 .0)
+
+pub message-made : (s : Session) (rows : List ℕ) (r caller : ℕ) (out : List ℕ) → messageRefusal s rows r caller out ≡ 0 → MessageMade s rows r out
+message-made s rows r caller out z = checks-passed s rows r out (message-split s rows r caller out z .0)

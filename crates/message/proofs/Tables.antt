@@ -4,4 +4,4 @@ use Rattle.session.specs.Sessions.{pointsOf}
 use Rattle.message.specs.Table.{MessageTable}
 
 pub message-table : MessageTable
-message-table s rows r out = rw (points-figures (s .points) (pointsOf s))
+message-table s rows r caller out = rw (points-figures (s .points) (pointsOf s))

@@ -8,5 +8,5 @@ use Rattle.message.proofs.Tables.{message-table}
 
 pub message-lawful : MessageLawful
 unfolding messageRefusal
-message-lawful s rows r out =
-    lawful-by (message-table s rows r out) (omega arith) 0 s s (coefficients s (rowAt (width s) rows r)) out
+message-lawful s rows r caller out =
+    lawful-by (message-table s rows r caller out) (omega arith) 0 s s (coefficients s (rowAt (width s) rows r)) out

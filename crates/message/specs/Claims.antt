@@ -9,6 +9,6 @@ use Rattle.message.specs.Table.{messageTable}
 
 abbrev pub MessageLawful : Type 0
 MessageLawful =
-    (s : Session) (rows : List ℕ) (r : ℕ) (out : List ℕ)
-    → Lawful (messageTable s rows r out) 0 s s (coefficients s (rowAt (width s) rows r)) out
-    (messageAnswer s rows r out) (messageOut s rows r out)
+    (s : Session) (rows : List ℕ) (r caller : ℕ) (out : List ℕ)
+    → Lawful (messageTable s rows r caller out) 0 s s (coefficients s (rowAt (width s) rows r)) out
+    (messageAnswer s rows r caller out) (messageOut s rows r caller out)

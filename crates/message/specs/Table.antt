@@ -8,12 +8,13 @@ use lib.Dec.{eqb, ltb}
 use Rattle.refusal.specs.Refusal.{Test, _when_}
 use Rattle.refusal.specs.Conditions.{outside, wrongLength, anyBeyond}
 use Rattle.session.specs.declared.Session.{Session}
+use Rattle.callers.specs.Sets.{bars}
 use Rattle.session.specs.Rows.{width, rowAt}
 use Rattle.session.specs.Checks.{wrongMark}
 use Rattle.message.specs.Message.{messageTests}
 
-abbrev pub messageTable : Session → List ℕ → ℕ → List ℕ → List Test
-messageTable s rows r out =
+abbrev pub messageTable : Session → List ℕ → ℕ → ℕ → List ℕ → List Test
+messageTable s rows r caller out =
     1 when outside 2 255 (s .n)
     ∷ 2 when outside 1 (s .n - 1) (s .t)
     ∷ 3 when outside 1 (s .n) (s .post)
@@ -23,7 +24,8 @@ messageTable s rows r out =
     ∷ 6 when ltb 95 r
     ∷ 7 when wrongMark s r 2
     ∷ 8 when anyBeyond (rowAt (width s) rows r)
+    ∷ 15 when (outside 1 (s .n) caller || bars (s .barred) r caller)
     ∷ []
 
 abbrev pub MessageTable : Type 0
-MessageTable = (s : Session) (rows : List ℕ) (r : ℕ) (out : List ℕ) → messageTests s rows r out ≡ messageTable s rows r out
+MessageTable = (s : Session) (rows : List ℕ) (r caller : ℕ) (out : List ℕ) → messageTests s rows r caller out ≡ messageTable s rows r caller out

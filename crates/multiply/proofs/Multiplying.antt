@@ -1,12 +1,13 @@
 -- The refusal of a finish's second call from the groups of checks that its code joins, what holds where there is none, and how it ends.
-use Prim.Native.Nat.{ℕ, _+_, _≤_}
+use Prim.Native.Nat.{ℕ, _+_, _≤_, _<_}
 use mathlib.Core.Path.{_≡_, sym, _∙_}
 use mathlib.Core.List.{List, [], _∷_, _++_}
+use native.Mathlib.Omega.{arith}
 use borrow.Author.Tests.{ltb-false}
 use Rattle.field.specs.Arithmetic.{product}
 use Rattle.shape.specs.declared.Shape.{Shape}
 use Rattle.shape.specs.Bounds.{lastTriple}
-use Rattle.shape.specs.Marks.{further, collected}
+use Rattle.shape.specs.Marks.{held, further, collected}
 use Rattle.shape.specs.Lengths.{rowLength, sumsAt}
 use Rattle.refusal.specs.Refusal.{Test, _when_, first, orElse}
 use Rattle.refusal.specs.Conditions.{beyond, anyBeyond}
@@ -14,12 +15,12 @@ use Rattle.refusal.proofs.Laws.{all-fail}
 use Rattle.refusal.proofs.Groups.{chained, stopped, went-on}
 use Rattle.refusal.proofs.Endings.{refused, accepted}
 use Rattle.session.specs.declared.Session.{Session}
-use Rattle.session.specs.Sessions.{shapeOf, openedA, openedB}
+use Rattle.session.specs.Sessions.{shapeOf, factorA, factorB, openedA, openedB}
 use Rattle.session.specs.Rows.{width, rowAt, withRow, summed}
-use Rattle.session.specs.Checks.{frameTests, noTriple, wrongMarks}
+use Rattle.session.specs.Checks.{frameTests, noTriple, wrongMarkIn, wrongMarks}
 use Rattle.session.specs.Between.{Framed, Sized, TripleIn, Allows}
 use Rattle.session.proofs.Calls.{frame-passed, stopped-at-frame, past-frame}
-use Rattle.multiply.specs.Multiply.{productRow, withProduct, rememberedNumbers, multiplyOwn, multiplyRefusal, multiplyRows}
+use Rattle.multiply.specs.Multiply.{productRow, withProduct, factorMarks, multiplyMarks, rememberedNumbers, multiplyOwn, multiplyRefusal, multiplyRows}
 use Rattle.product_masks.proofs.Passed.{triple-below}
 use Rattle.product_masks.proofs.Joining.{joined}
 use Rattle.multiply.proofs.Passed.{multiplied}
@@ -30,11 +31,21 @@ pub numbers-joined : (n : ℕ) (rows : List ℕ) (r yA yB u v w x y d e f g : �
     → d ≡ orElse x y → e ≡ orElse w d → f ≡ orElse v e → g ≡ orElse u f → g ≡ first (rememberedNumbers n rows r yA yB)
 numbers-joined n rows r yA yB u v w x y d e f g eu ev ew ex ey ed ee ef eg = chained (rememberedNumbers n rows r yA yB) tt g (cc)
 
+pub factors-joined : (s : Session) (r a b u v w x y : ℕ) → a ≡ factorA s r → b ≡ factorB s r → u ≡ first (wrongMarks (s .marks) r collected further further)
+    → v ≡ first (7 when wrongMarkIn (s .marks) a held ∷ []) → w ≡ first (7 when wrongMarkIn (s .marks) b held ∷ []) → x ≡ orElse v w → y ≡ orElse u x
+    → y ≡ first (multiplyMarks s r)
+factors-joined s r a b u v w x y ea eb eu ev ew ex ey =
+    joined (wrongMarks (s .marks) r collected further further) (factorMarks (s .marks) (factorA s r) (factorB s r)) tt u x y eu
+    (chained (factorMarks (s .marks) (factorA s r) (factorB s r)) tt x (rw (ev, ew, ea, eb) at ex)) ey
+
+pub triple-96 : (r : ℕ) → r ≤ lastTriple → r < 96
+triple-96 r h = omega arith
+
 pub own-joined : (s : Session) (g : Shape) (rows : List ℕ) (r yA yB u v w : ℕ) → yA ≡ openedA s r → yB ≡ openedB s r → g ≡ shapeOf s
-    → u ≡ first (wrongMarks (s .marks) r collected further further)
+    → u ≡ first (multiplyMarks s r)
     → v ≡ first (rememberedNumbers (rowLength g) rows r yA yB) → w ≡ orElse u v → w ≡ first (multiplyOwn s rows r)
 own-joined s g rows r yA yB u v w eA eB eg eu ev ew =
-    joined (wrongMarks (s .marks) r collected further further) (rememberedNumbers (width s) rows r (openedA s r) (openedB s r)) tt u v w eu
+    joined (multiplyMarks s r) (rememberedNumbers (width s) rows r (openedA s r) (openedB s r)) tt u v w eu
     (rw (eg, eA, eB) at ev) ew
 
 module _ (s : Session) (rows : List ℕ) (r : ℕ) where

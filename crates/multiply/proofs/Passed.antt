@@ -7,20 +7,20 @@ use borrow.Author.Tests.{ltb-false, le-ltb, eq-eqb}
 use lib.Dec.{eqb}
 use Rattle.field.specs.Modulus.{p}
 use Rattle.shape.specs.Bounds.{lastTriple}
-use Rattle.shape.specs.Marks.{further, collected as collectedMark}
+use Rattle.shape.specs.Marks.{held, further, collected as collectedMark}
 use Rattle.refusal.specs.Refusal.{Test, _when_, first, AllFail}
 use Rattle.refusal.specs.Conditions.{anyBeyond}
 use Rattle.refusal.proofs.Laws.{equal, not-refused}
 use Rattle.refusal.proofs.Groups.{fail-parts}
 use Rattle.refusal.proofs.Elements.{below-p, element-test}
 use Rattle.session.specs.declared.Session.{Session}
-use Rattle.session.specs.Sessions.{mark, openedA, openedB}
+use Rattle.session.specs.Sessions.{mark, factorA, factorB, openedA, openedB}
 use Rattle.session.specs.Rows.{width, rowAt}
-use Rattle.session.specs.Checks.{frameTests, noTriple, wrongMarks}
+use Rattle.session.specs.Checks.{frameTests, noTriple}
 use Rattle.session.specs.Between.{Framed}
 use Rattle.session.proofs.Calls.{allowed}
 use Rattle.opening.proofs.Passed.{clear-join}
-use Rattle.multiply.specs.Multiply.{rememberedNumbers, multiplyRefusal}
+use Rattle.multiply.specs.Multiply.{multiplyMarks, rememberedNumbers, multiplyRefusal}
 
 -- 6 and 7
 pub record MultiplyPlaced (s : Session) (r : ℕ) : Type 0 where
@@ -28,6 +28,8 @@ pub record MultiplyPlaced (s : Session) (r : ℕ) : Type 0 where
   pub first-mark : mark s r ≡ collectedMark
   pub second-mark : mark s (r + 1) ≡ further
   pub third-mark : mark s (r + 2) ≡ further
+  pub a-held : mark s (factorA s r) ≡ held
+  pub b-held : mark s (factorB s r) ≡ held
 
 -- 8
 pub record MultiplyLow (s : Session) (rows : List ℕ) (r : ℕ) : Type 0 where
@@ -44,16 +46,18 @@ pub record Multiplied (s : Session) (rows : List ℕ) (r : ℕ) : Type 0 where
 
 -- 6 and 7
 abbrev pub multiplyEarly : Session → ℕ → List Test
-multiplyEarly s r = 6 when noTriple r ∷ wrongMarks (s .marks) r collectedMark further further
+multiplyEarly s r = 6 when noTriple r ∷ multiplyMarks s r
 
 pub multiply-placed : (s : Session) (r : ℕ) → AllFail (multiplyEarly s r) → MultiplyPlaced s r
 multiply-placed s r h =
-    let (low, (one, (two, (three, _)))) = h in
+    let (low, (one, (two, (three, (fa, (fb, _)))))) = h in
     record {
       triple-in = ltb-false lastTriple r low;
       first-mark = equal _ _ one;
       second-mark = equal _ _ two;
       third-mark = equal _ _ three;
+      a-held = equal _ _ fa;
+      b-held = equal _ _ fb;
     }
 
 -- 8 of the two numbers and of the triple's rows, whether each is high
@@ -83,7 +87,7 @@ multiply-clear s rows r frame k w =
     (clear-join (multiplyEarly s r) numbers tt
     (not-refused (multiplyEarly s r) (
       le-ltb lastTriple r (k .triple-in),
-      (is r collectedMark (k .first-mark), (is (r + 1) further (k .second-mark), (is (r + 2) further (k .third-mark), tt))),
+      (is r collectedMark (k .first-mark), (is (r + 1) further (k .second-mark), (is (r + 2) further (k .third-mark), (is (factorA s r) held (k .a-held), (is (factorB s r) held (k .b-held), tt))))),
     ))
     (not-refused numbers (
       element-test _ (w .a-element),

@@ -8,7 +8,7 @@ use lib.Dec.{eqb, ltb}
 use Rattle.refusal.specs.Refusal.{Test, _when_}
 use Rattle.refusal.specs.Conditions.{outside, wrongLength, anyBeyond}
 use Rattle.session.specs.declared.Session.{Session}
-use Rattle.session.specs.Sessions.{openedA, openedB}
+use Rattle.session.specs.Sessions.{factorA, factorB, openedA, openedB}
 use Rattle.session.specs.Rows.{width, rowAt}
 use Rattle.session.specs.Checks.{wrongMark}
 use Rattle.multiply.specs.Multiply.{multiplyTests}
@@ -25,6 +25,8 @@ multiplyTable s rows r =
     ∷ 7 when wrongMark s r 7
     ∷ 7 when wrongMark s (r + 1) 4
     ∷ 7 when wrongMark s (r + 2) 4
+    ∷ 7 when wrongMark s (factorA s r) 2
+    ∷ 7 when wrongMark s (factorB s r) 2
     ∷ 8 when ltb 2147483646 (openedA s r)
     ∷ 8 when ltb 2147483646 (openedB s r)
     ∷ 8 when anyBeyond (rowAt (width s) rows r)

@@ -12,7 +12,7 @@ ghost use Rattle.refusal.specs.Refusal.{first};
 ghost use Rattle.session.specs.Sessions.{openedA, openedB};
 ghost use Rattle.session.specs.Rows.{rowAt, withRow, summed};
 ghost use Rattle.session.specs.Between.{Framed, Sized, TripleIn};
-ghost use Rattle.multiply.specs.Multiply.{rememberedNumbers, multiplyOwn, multiplyRefusal, multiplyAnswer, multiplyRows};
+ghost use Rattle.multiply.specs.Multiply.{rememberedNumbers, multiplyMarks, multiplyOwn, multiplyRefusal, multiplyAnswer, multiplyRows};
 
 // 8, of the two numbers and of the triple's three rows.
 fn remembered_numbers(shape: Shape, rows: &[u32], row: usize, y_a: u32, y_b: u32) -> u8
@@ -37,21 +37,37 @@ fn number(numbers: &[u32], row: usize) -> u32
     if row < numbers.len() { numbers[row] } else { 0 }
 }
 
-// 7 and 8, once 1 to 6 have passed.
-fn multiply_own(session: Session, rows: &[u32], row: usize, y_a: u32, y_b: u32) -> u8
-    requires { ⌜ Framed session (now rows) × (row ≤ lastTriple) × («y_a» ≡ openedA session row) × («y_b» ≡ openedB session row) ⌝ }
-    ensures { λ r. ⌜ r ≡ first (multiplyOwn session (now (rows .entry)) row) ⌝ }
+// 7, of the triple's rows and of the factor rows that it remembers.
+fn multiply_marks(session: Session, row: usize) -> u8
+    requires { ⌜ row ≤ lastTriple ⌝ }
+    ensures { λ r. ⌜ r ≡ first (multiplyMarks session row) ⌝ }
 {
     let held = session.marks;
-    let marks = session::checks::wrong_marks(
+    let factors_a = session.factor_a;
+    let factors_b = session.factor_b;
+    let a = factors_a[row] as usize;
+    let b = factors_b[row] as usize;
+    let triple = session::checks::wrong_marks(
         &held,
         row,
         shape::COLLECTED,
         shape::FURTHER,
         shape::FURTHER,
     );
+    let factors = refusal::or_else(
+        session::checks::wrong_mark(&held, a, shape::HELD),
+        session::checks::wrong_mark(&held, b, shape::HELD),
+    );
+    refusal::or_else(triple, factors)
+}
+
+// 7 and 8, once 1 to 6 have passed.
+fn multiply_own(session: Session, rows: &[u32], row: usize, y_a: u32, y_b: u32) -> u8
+    requires { ⌜ Framed session (now rows) × (row ≤ lastTriple) × («y_a» ≡ openedA session row) × («y_b» ≡ openedB session row) ⌝ }
+    ensures { λ r. ⌜ r ≡ first (multiplyOwn session (now (rows .entry)) row) ⌝ }
+{
     refusal::or_else(
-        marks,
+        multiply_marks(session, row),
         remembered_numbers(session.shape(), rows, row, y_a, y_b),
     )
 }
@@ -107,5 +123,5 @@ pub fn multiply(session: Session, rows: &mut [u32], first: usize) -> Answer
     let y_b = number(&held_b, first);
     let refusal = multiply_refusal(session, rows, first, y_a, y_b);
     multiply_rows(session, rows, first, y_a, y_b, refusal);
-    session.answer_marking_triple(refusal, first, shape::SPENT, shape::SPENT, shape::HELD)
+    session.answer_multiplying(refusal, first)
 }

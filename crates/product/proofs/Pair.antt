@@ -16,7 +16,7 @@ use Rattle.refusal.proofs.Laws.{all-fail, not-refused}
 use Rattle.refusal.proofs.Endings.{accepted}
 use Rattle.session.specs.declared.Session.{Session}
 use Rattle.session.specs.declared.Answer.{Answer}
-use Rattle.session.specs.Sessions.{mark, factorA, factorB, openedA, openedB, marked, withMarks, recalling, collectedTriple, finishedTriple, holding, answer}
+use Rattle.session.specs.Sessions.{mark, factorA, factorB, openedA, openedB, marked, withMarks, recalling, collectedTriple, finishedTriple, holding, answer, sharing}
 use Rattle.session.specs.Rows.{width, rowAt, withRow}
 use Rattle.session.specs.Checks.{frameTests}
 use Rattle.session.proofs.Endings.{accepted-answer}
@@ -152,14 +152,14 @@ module _ (s : Session) (rows : List ℕ) (r : ℕ) (l l' : List ℕ) (w : Whole 
     with-old-marks q =
         let (e, f, g) = old-marks in
         sym (ap (withMarksOf q r) old-session
-        ∙ ap₂ (λ (a b : ℕ). marked (marked (marked q r a) (r + 1) b) (r + 2) (mark (finishedTriple s r) (r + 2))) e f
-        ∙ ap (λ (a : ℕ). marked (marked (marked q r 6) (r + 1) 6) (r + 2) a) g)
+        ∙ ap₂ (λ (a b : ℕ). marked (marked (marked (sharing q (r + 2) (factorA q r) (factorB q r)) r a) (r + 1) b) (r + 2) (mark (finishedTriple s r) (r + 2))) e f
+        ∙ ap (λ (a : ℕ). marked (marked (marked (sharing q (r + 2) (factorA q r) (factorB q r)) r 6) (r + 1) 6) (r + 2) a) g)
 
     -- right behind the first call: the old session, but for the two numbers that stay
     both-marks : finishedTriple (collectedSession s rows r l l') r ≡ recalling (finishAnswer s rows r l l' .session) r y y'
     both-marks =
         ap (λ (q : Session). finishedTriple q r) (is-between (parts .0))
-        ∙ ap (λ (m : List ℕ). withMarks between (set (set m (r + 1) 6) (r + 2) 2)) (set-again (s .marks) r 7 6)
+        ∙ ap (λ (m : List ℕ). withMarks (sharing between (r + 2) (factorA s r) (factorB s r)) (set (set m (r + 1) 6) (r + 2) 2)) (set-again (s .marks) r 7 6)
         ∙ sym (ap (λ (q : Session). recalling q r y y') old-session)
 
     -- the row that it wrote
@@ -189,6 +189,8 @@ module _ (s : Session) (rows : List ℕ) (r : ℕ) (l l' : List ℕ) (w : Whole 
             first-mark = u .first-mark ∙ getD-set-same (s .marks) r collectedMark 0 (omega (arith, low, w .marks));
             second-mark = u .second-mark ∙ other (r + 1) (λ e. omega arith) ∙ k .second-mark;
             third-mark = u .third-mark ∙ other (r + 2) (λ e. omega arith) ∙ k .third-mark;
+            a-held = ap (mark s') (u .factor-a) ∙ u .a-mark ∙ other (factorA s r) (λ e. omega (arith, ap (mark s) e, k .a-held, k .first-mark)) ∙ k .a-held;
+            b-held = ap (mark s') (u .factor-b) ∙ u .b-mark ∙ other (factorB s r) (λ e. omega (arith, ap (mark s) e, k .b-held, k .first-mark)) ∙ k .b-held;
           })
           (record {
             a-element = rw (u .y-a, a-is) (opened-below s (maskA s rows r) l);
@@ -240,6 +242,10 @@ untouched s rows r = record {
   third-mark = refl;
   y-a = refl;
   y-b = refl;
+  factor-a = refl;
+  factor-b = refl;
+  a-mark = refl;
+  b-mark = refl;
 }
 
 pub pair-finishes : PairFinishes

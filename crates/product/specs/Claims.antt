@@ -6,7 +6,7 @@ use mathlib.Core.List.{List}
 use lib.ListN.{length}
 use Rattle.shape.specs.Bounds.{rowCount}
 use Rattle.session.specs.declared.Session.{Session}
-use Rattle.session.specs.Sessions.{mark, openedA, openedB, holding, marked, recalling}
+use Rattle.session.specs.Sessions.{sharing, factorA, factorB, mark, openedA, openedB, holding, marked, recalling}
 use Rattle.session.specs.Rows.{width, rowAt, withRow}
 use Rattle.collect.specs.Collect.{numberA, numberB, collectRefusal, collectAnswer}
 use Rattle.multiply.specs.Multiply.{multiplyRefusal, multiplyAnswer, multiplyRows}
@@ -20,7 +20,8 @@ pub record Whole (s : Session) : Type 0 where
 
 -- A session with the three marks that another one has on the triple at r.
 abbrev pub withMarksOf : Session → ℕ → Session → Session
-withMarksOf s r other = marked (marked (marked s r (mark other r)) (r + 1) (mark other (r + 1))) (r + 2) (mark other (r + 2))
+withMarksOf s r other =
+    marked (marked (marked (sharing s (r + 2) (factorA s r) (factorB s r)) r (mark other r)) (r + 1) (mark other (r + 1))) (r + 2) (mark other (r + 2))
 
 -- "After both calls the triple's rows are those the old finish left, and its marks 6, 6, 2." The second call gets the session that the
 -- first handed back, and the same rows.
@@ -71,6 +72,10 @@ pub record Untouched (s : Session) (rows : List ℕ) (r : ℕ) (s' : Session) (r
   pub third-mark : mark s' (r + 2) ≡ mark s (r + 2)
   pub y-a : openedA s' r ≡ openedA s r
   pub y-b : openedB s' r ≡ openedB s r
+  pub factor-a : factorA s' r ≡ factorA s r
+  pub factor-b : factorB s' r ≡ factorB s r
+  pub a-mark : mark s' (factorA s r) ≡ mark s (factorA s r)
+  pub b-mark : mark s' (factorB s r) ≡ mark s (factorB s r)
 
 -- `PairFinishes` is the case of the first call's own session and rows.
 abbrev pub PairFinishesLater : Type 0

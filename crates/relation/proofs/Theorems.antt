@@ -186,8 +186,9 @@ relation-lawful = record {
   finish = λ s rows ts d blocks.
       lawful (relationFinishTable s rows ts d blocks) (finish-ranked s rows ts d blocks) (relationFinishRefusal s rows (collected ts) d blocks)
       (relation-tables .finish s rows ts d blocks)
-      (relationDone s rows blocks (productsOf ts) d) (relationDone s rows blocks (factorsOf (collected ts)) d) s
-      (λ z. ap (λ (l : List Term). relationDone s rows blocks l d) (sym (factors-again ts (finish-few s rows ts d blocks z))))
+      (relationDone s rows blocks (productsOf ts) ts d) (relationDone s rows blocks (factorsOf (collected ts)) (termsOf (collected ts)) d) s
+      (λ z. ap₂ (λ (f l : List Term). relationDone s rows blocks f l d) (sym (factors-again ts (finish-few s rows ts d blocks z)))
+      (sym (terms-again ts (finish-few s rows ts d blocks z))))
       (withSum s d ts (withProducts s rows blocks 0 (productsOf ts) rows))
       (withSum s d (termsOf (collected ts)) (withProducts s rows blocks 0 (factorsOf (collected ts)) rows)) rows
       (λ z. ap₂ (λ (l f : List Term). withSum s d l (withProducts s rows blocks 0 f rows)) (sym (terms-again ts (finish-few s rows ts d blocks z)))

@@ -15,6 +15,6 @@ pub record RelationLawful : Type 0 where
       → LawfulAfterFive (relationMasksTable s rows ts out) (maskedTerms s (productsOf ts)) s (termMasks (shapeOf s) rows (productsOf ts)) out
       (relationMasksAnswer s rows (collected ts) out) (relationMasksOut s rows (collected ts) out)
   pub finish : (s : Session) (rows : List ℕ) (ts : List Term) (d : ℕ) (blocks : List ℕ)
-      → LawfulAfterFive (relationFinishTable s rows ts d blocks) (relationDone s rows blocks (productsOf ts) d) s
+      → LawfulAfterFive (relationFinishTable s rows ts d blocks) (relationDone s rows blocks (productsOf ts) ts d) s
       (withSum s d ts (withProducts s rows blocks 0 (productsOf ts) rows)) rows
       (relationFinishAnswer s rows (collected ts) d blocks) (relationFinishRows s rows (collected ts) d blocks)

@@ -6,12 +6,12 @@ use mathlib.Core.Bool.{not}
 use mathlib.Core.List.{List, [], _∷_, _++_}
 use lib.Dec.{eqb}
 use lib.ListN.{replicate}
-use Rattle.shape.specs.Marks.{empty, held, masked}
+use Rattle.shape.specs.Marks.{empty, masked}
 use Rattle.refusal.specs.Refusal.{Test, _when_, first, outcome}
 use Rattle.refusal.specs.Conditions.{wrongLength, beyond, anyBeyond}
 use Rattle.session.specs.declared.Session.{Session}
 use Rattle.session.specs.declared.Answer.{Answer}
-use Rattle.session.specs.Sessions.{shapeOf, factorA, factorB, marked, collectedTriple, finishedTriple, answer}
+use Rattle.session.specs.Sessions.{shapeOf, factorA, factorB, summedRow, collectedTriple, finishedTriple, answer}
 use Rattle.session.specs.Rows.{width, sumsAt, rowAt, withRow, summed}
 use Rattle.session.specs.Checks.{frameTests, noRow, wrongMark}
 use Rattle.opening.specs.Walking.{recordLength, badRecord, tooFew, disagree, opened}
@@ -153,13 +153,18 @@ finishedTerms s rows blocks k [] now = now
 finishedTerms s rows blocks k (t ∷ ts) now =
     finishedTerms s rows blocks (suc k) ts (pairDone now (t .first) (termNumberA s rows blocks k t) (termNumberB s rows blocks k t))
 
--- The sum's row is held.
-abbrev pub relationDone : Session → List ℕ → List ℕ → List Term → ℕ → Session
-relationDone s rows blocks ts d = marked (finishedTerms s rows blocks 0 ts s) d held
+-- The rows of a sum's terms.
+abbrev pub numberRows : List Term → List ℕ
+numberRows [] = []
+numberRows (t ∷ ts) = numberRow t ∷ numberRows ts
+
+-- The sum's row is held. Document 02, (xi): it has the posts that all rows of the terms share, a product those of its factor rows.
+abbrev pub relationDone : Session → List ℕ → List ℕ → List Term → List Term → ℕ → Session
+relationDone s rows blocks fs ts d = summedRow (finishedTerms s rows blocks 0 fs s) d (numberRows ts)
 
 abbrev pub relationFinishAnswer : Session → List ℕ → Terms → ℕ → List ℕ → Answer
 relationFinishAnswer s rows all d blocks =
-    answer (relationFinishRefusal s rows all d blocks) 0 (relationDone s rows blocks (factorsOf all) d) s
+    answer (relationFinishRefusal s rows all d blocks) 0 (relationDone s rows blocks (factorsOf all) (termsOf all) d) s
 
 abbrev pub relationFinishRows : Session → List ℕ → Terms → ℕ → List ℕ → List ℕ
 relationFinishRows s rows all d blocks =

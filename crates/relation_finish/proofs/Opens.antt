@@ -13,7 +13,7 @@ use Rattle.refusal.proofs.Groups.{fail-parts}
 use Rattle.refusal.proofs.Endings.{refused, accepted}
 use Rattle.session.specs.declared.Session.{Session}
 use Rattle.session.specs.declared.Answer.{Answer}
-use Rattle.session.specs.Sessions.{shapeOf, partyOf, holding, marked}
+use Rattle.session.specs.Sessions.{shapeOf, partyOf, holding, marked, sharingAll}
 use Rattle.session.specs.Between.{Framed, RowIn}
 use Rattle.shape.specs.Bounds.{lastRow}
 use Rattle.shape.specs.Marks.{held}
@@ -29,7 +29,7 @@ use Rattle.terms.specs.Listed.{mostTerms, termsOf, factorsOf}
 use Rattle.relation_writing.specs.declared.OpenedTerms.{OpenedTerms}
 use Rattle.relation.specs.Tests.{eachAt, Counted, Few, Every, Factors, Placed}
 use Rattle.relation.specs.Finish.{recordA, recordB, termMaskA, termMaskB, termNumberA, termNumberB, fewTests, offTests, openTests}
-use Rattle.relation.specs.Finish.{withProducts, withSum, pairDone, finishedTerms, relationDone}
+use Rattle.relation.specs.Finish.{withProducts, withSum, pairDone, finishedTerms, relationDone, numberRows}
 use Rattle.relation.specs.Finish.{relationFinishChecks, relationFinishRefusal, relationFinishAnswer, relationFinishRows}
 use Rattle.relation_writing.specs.Steps.{productsWritten, triplesFinished}
 use Rattle.relation_finish.specs.Steps.{withOpened, openedTerms, unopened, openedAll, unopenedBy, openedFinish}
@@ -214,7 +214,7 @@ module _ (s : Session) (rows : List ℕ) (all : Terms) (d : ℕ) (blocks : List 
   -- the call's two ends
   module _ (c : Counted all) (o : OpenedTerms) (e : o ≡ openedFinish s rows all d blocks) where
     abbrev done : Session
-    done = relationDone s rows blocks (factorsOf all) d
+    done = relationDone s rows blocks (factorsOf all) (termsOf all) d
 
     abbrev whole : List ℕ
     whole = withSum s d (termsOf all) (withProducts s rows blocks 0 (factorsOf all) rows)
@@ -258,6 +258,9 @@ module _ (s : Session) (rows : List ℕ) (all : Terms) (d : ℕ) (blocks : List 
       pub finish-dest : RowIn (shapeOf s) d
       finish-dest = checks-allowed s rows all d blocks c (first checks) refl checked .4
 
+      pub finish-96 : d < 96
+      finish-96 = omega (arith, finish-dest .row-in)
+
       pub finish-row : d ≤ lastRow
       finish-row = finish-dest .row-in
 
@@ -274,14 +277,14 @@ module _ (s : Session) (rows : List ℕ) (all : Terms) (d : ℕ) (blocks : List 
           ap (λ (x : OpenedTerms). walked (λ i t y. f (getD (x .«y_a») i 0) (getD (x .«y_b») i 0) t y) 0 (factorsOf all) now) numbers-are
           ∙ with-own s rows blocks f 0 (factorsOf all) unopened now (length-replicate {A = ℕ} mostTerms 0) (length-replicate {A = ℕ} mostTerms 0) l (split .0) (split .1)
 
-      pub finish-done : (f : Session) (a : Answer) → f ≡ triplesFinished (o .«y_a») (o .«y_b») 0 (factorsOf all) s → a ≡ holding 0 0 (marked f d held)
-          → a ≡ relationFinishAnswer s rows all d blocks
-      finish-done f a ef h =
-          let w : f ≡ finishedTerms s rows blocks 0 (factorsOf all) s =
-          ef ∙ sym (finished-walk (o .«y_a») (o .«y_b») 0 (factorsOf all) s) ∙ owned (λ y y' t x. pairDone x (t .first) y y') s
+      pub finish-done : (g : Session) (a : Answer) → g ≡ sharingAll (triplesFinished (o .«y_a») (o .«y_b») 0 (factorsOf all) s) d (numberRows (termsOf all))
+          → a ≡ holding 0 0 (marked g d held) → a ≡ relationFinishAnswer s rows all d blocks
+      finish-done g a eg h =
+          let w : triplesFinished (o .«y_a») (o .«y_b») 0 (factorsOf all) s ≡ finishedTerms s rows blocks 0 (factorsOf all) s =
+          sym (finished-walk (o .«y_a») (o .«y_b») 0 (factorsOf all) s) ∙ owned (λ y y' t x. pairDone x (t .first) y y') s
           ∙ finished-of s rows blocks 0 (factorsOf all) s in
-          h ∙ accepted-answer (o .refusal) (relationFinishRefusal s rows all d blocks) 0 0 (marked f d held) done s refusal-is z refl
-          (ap (λ (x : Session). marked x d held) w)
+          h ∙ accepted-answer (o .refusal) (relationFinishRefusal s rows all d blocks) 0 0 (marked g d held) done s refusal-is z refl
+          (ap (λ (x : Session). marked x d held) (eg ∙ ap (λ (x : Session). sharingAll x d (numberRows (termsOf all))) w))
 
       pub finish-written : (out : List ℕ) → out ≡ withSum s d (termsOf all) (productsWritten s (o .«y_a») (o .«y_b») 0 (factorsOf all) rows)
           → out ≡ relationFinishRows s rows all d blocks

@@ -8,7 +8,7 @@ use lib.ListN.{length, length-take}
 use Rattle.shape.specs.Marks.{held}
 use Rattle.refusal.specs.Refusal.{Test, outcome}
 use Rattle.session.specs.declared.Session.{Session}
-use Rattle.session.specs.Sessions.{partyOf, marked, answer}
+use Rattle.session.specs.Sessions.{partyOf, summedRow, answer}
 use Rattle.session.proofs.RowLaws.{length-row}
 use Rattle.blocks.specs.Claims.{Alike}
 use Rattle.opening.specs.Walking.{recordLength, badRecord, tooFew, disagree, opened}
@@ -17,7 +17,7 @@ use Rattle.terms.specs.declared.Term.{Term}
 use Rattle.terms.specs.Listed.{productsOf, collected, termsOf, factorsOf}
 use Rattle.relation.specs.Tests.{eachAt}
 use Rattle.relation.specs.Finish.{recordAt, termMaskA, termMaskB, recordTests, fewTests, offTests, openTests, relationFinishRefusal}
-use Rattle.relation.specs.Finish.{withProducts, withSum, finishedTerms}
+use Rattle.relation.specs.Finish.{withProducts, withSum, finishedTerms, numberRows}
 use Rattle.relation_finish.specs.Claims.{RelationUnread}
 
 -- the same tests of each of m terms
@@ -88,6 +88,6 @@ relation-unread s rows ts d a b la lb like =
     let fs = factorsOf (collected ts) in
     let same = refused s m a b la lb like rows ts d refl in
     let few = in-all s m a b la lb like rows ts d refl in (
-      ap₂ (λ (r : ℕ) (q : Session). answer r 0 (marked q d held) s) same (finished-same s m a b la lb like rows 0 fs s few),
+      ap₂ (λ (r : ℕ) (q : Session). answer r 0 (summedRow q d (numberRows (termsOf (collected ts)))) s) same (finished-same s m a b la lb like rows 0 fs s few),
       ap₂ (λ (r : ℕ) (l : List ℕ). outcome r (withSum s d (termsOf (collected ts)) l) rows) same (products-same s m a b la lb like rows 0 fs rows few),
     )

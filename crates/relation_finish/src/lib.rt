@@ -34,5 +34,5 @@ pub fn finish(session: Session, rows: &mut [u32], all: Terms, dest: usize, block
         return session.refuse(opened.refusal);
     }
     relation_writing::write(session, rows, all, dest, opened);
-    relation_writing::finish_triples(session, all, opened).answer_marking(0, dest, shape::HELD)
+    relation_writing::settle(session, all, dest, opened).answer_marking(0, dest, shape::HELD)
 }

@@ -15,7 +15,7 @@ use Rattle.refusal.proofs.Laws.{not-refused}
 use Rattle.refusal.proofs.Endings.{accepted}
 use Rattle.session.specs.declared.Session.{Session}
 use Rattle.session.specs.declared.Answer.{Answer}
-use Rattle.session.specs.Sessions.{shapeOf, markIn, factorA, factorB, openedA, openedB, withMarks, withOpened, collectedTriple, finishedTriple, holding, answer}
+use Rattle.session.specs.Sessions.{shapeOf, markIn, factorA, factorB, openedA, openedB, withMarks, withOpened, collectedTriple, finishedTriple, holding, answer, withBarred, mark}
 use Rattle.session.specs.Rows.{width, rowAt}
 use Rattle.session.specs.Checks.{frameTests}
 use Rattle.session.specs.Between.{Sized}
@@ -36,8 +36,8 @@ use Rattle.relation_law.specs.Pairs.{firstCall, secondCall, secondRows}
 use Rattle.relation_law.proofs.Lows.{TermLow}
 
 -- a session in the walk: marks and remembered numbers are new
-abbrev pub stateOf : Session → List ℕ → List ℕ → List ℕ → Session
-stateOf s m a b = withOpened (withMarks s m) a b
+abbrev pub stateOf : Session → List ℕ → List ℕ → List ℕ → List ℕ → Session
+stateOf s m a b sets = withBarred (withOpened (withMarks s m) a b) sets
 
 -- the marks behind a pair
 abbrev pub pairMarks : List ℕ → ℕ → List ℕ
@@ -81,15 +81,15 @@ module _ (s : Session) (rows blocks : List ℕ) where
     pub third-row : rowAt w l (t .first + 2) ≡ rowAt w rows (t .first + 2)
 
   -- the lists are as long as they were
-  pub record Long (m a b l : List ℕ) : Type 0 where
+  pub record Long (m a b sets l : List ℕ) : Type 0 where
     pub marks : length m ≡ rowCount
     pub y-a : length a ≡ rowCount
     pub y-b : length b ≡ rowCount
     pub as-long : length l ≡ length rows
 
-  module _ (frame : first (frameTests s rows) ≡ 0) (m a b l : List ℕ) (long : Long m a b l) (k : ℕ) (t : Term) (f : Stays k t) (h : Waits m l t) where
+  module _ (frame : first (frameTests s rows) ≡ 0) (m a b sets l : List ℕ) (long : Long m a b sets l) (k : ℕ) (t : Term) (f : Stays k t) (h : Waits m l t) where
     abbrev now : Session
-    now = stateOf s m a b
+    now = stateOf s m a b sets
 
     abbrev r : ℕ
     r = t .first
@@ -186,6 +186,8 @@ module _ (s : Session) (rows blocks : List ℕ) where
           first-mark = getD-set-same m r collectedMark 0 (omega (arith, low, long .marks));
           second-mark = getD-set-other m r (r + 1) collectedMark 0 (λ e. omega arith) ∙ h .second-mark;
           third-mark = getD-set-other m r (r + 2) collectedMark 0 (λ e. omega arith) ∙ h .third-mark;
+          a-held = ap (λ (q : ℕ). mark between q) (f .remembered .0) ∙ getD-set-other m r (t .row) collectedMark 0 (λ e. omega (arith, ap (markIn m) e, h .a-held, h .first-mark)) ∙ h .a-held;
+          b-held = ap (λ (q : ℕ). mark between q) (f .remembered .1) ∙ getD-set-other m r (t .second) collectedMark 0 (λ e. omega (arith, ap (markIn m) e, h .b-held, h .first-mark)) ∙ h .b-held;
         })
         (record {
           a-element = subst (λ (x : ℕ). x < p) (sym a-is) (opened-below s (termMaskA s rows t) la);

@@ -10,9 +10,10 @@ use Rattle.shape.specs.Marks.{held, masked, spent, collected as collectedMark}
 use Rattle.poly.specs.Counting.{All}
 use Rattle.poly.proofs.Lists.{all-map, all-zip}
 use Rattle.refusal.specs.Refusal.{first, outcome}
+use Rattle.callers.specs.Sets.{shared}
 use Rattle.session.specs.declared.Session.{Session}
 use Rattle.session.specs.declared.Answer.{Answer}
-use Rattle.session.specs.Sessions.{factorA, factorB, marked, holding, answer}
+use Rattle.session.specs.Sessions.{factorA, factorB, marked, holding, answer, summedRow}
 use Rattle.session.specs.Checks.{frameTests}
 use Rattle.session.proofs.RowLaws.{length-row}
 use Rattle.opening.specs.Walking.{recordLength}
@@ -23,7 +24,7 @@ use Rattle.terms.specs.declared.Term.{Term}
 use Rattle.terms.specs.Listed.{productsOf, collected, termsOf, factorsOf}
 use Rattle.terms.proofs.Placing.{terms-again, factors-again}
 use Rattle.relation.specs.Tests.{namedTwice}
-use Rattle.relation.specs.Finish.{termNumberA, termNumberB, withProducts, withSum, pairDone, finishedTerms, relationDone, relationFinishRefusal, relationFinishAnswer, relationFinishRows}
+use Rattle.relation.specs.Finish.{termNumberA, termNumberB, withProducts, withSum, pairDone, finishedTerms, relationDone, relationFinishRefusal, relationFinishAnswer, relationFinishRows, numberRows}
 use Rattle.relation.proofs.Naming.{twice-parts}
 use Rattle.relation.proofs.Passed.{AllAt, Enough, Agreed, RecordsLow, RelationFinished, relation-finished}
 use Rattle.relation_law.specs.Pairs.{firstCall, secondCall, secondRows, PairsAccepted, sessionAfter, rowsAfter}
@@ -71,26 +72,26 @@ module _ (s : Session) (rows blocks : List ℕ) where
   none k now l = (tt, refl, refl)
 
   module _ (frame : first (frameTests s rows) ≡ 0) where
-    walked : (k : ℕ) (ts : List Term) (m a b l : List ℕ) → Long s rows blocks m a b l → AllAt (Stays s rows blocks) k ts → All (Waits s rows blocks m l) ts
-        → namedTwice ts ≡ false → Left k ts (stateOf s m a b) l
-    walked k [] m a b l long f h once = none k (stateOf s m a b) l
-    walked k (t ∷ ts) m a b l long (f, fs) (h, hs) once =
+    walked : (k : ℕ) (ts : List Term) (m a b sets l : List ℕ) → Long s rows blocks m a b sets l → AllAt (Stays s rows blocks) k ts → All (Waits s rows blocks m l) ts
+        → namedTwice ts ≡ false → Left k ts (stateOf s m a b sets) l
+    walked k [] m a b sets l long f h once = none k (stateOf s m a b sets) l
+    walked k (t ∷ ts) m a b sets l long (f, fs) (h, hs) once =
         let r = t .first in
-        let now = stateOf s m a b in
+        let now = stateOf s m a b sets in
         let y = termNumberA s rows blocks k t in
         let y' = termNumberB s rows blocks k t in
         let (apart, rest) = twice-parts t ts once in
         in-front k t ts now l
-        (ap (λ (x : Answer). x .refusal) (first-is s rows blocks frame m a b l long k t f h))
-        (second-is s rows blocks frame m a b l long k t f h) (rows-are s rows blocks frame m a b l long k t f h)
-        (walked (suc k) ts (pairMarks m r) (set a r y) (set b r y') (withProduct s y y' r l)
+        (ap (λ (x : Answer). x .refusal) (first-is s rows blocks frame m a b sets l long k t f h))
+        (second-is s rows blocks frame m a b sets l long k t f h) (rows-are s rows blocks frame m a b sets l long k t f h)
+        (walked (suc k) ts (pairMarks m r) (set a r y) (set b r y') (shared 8 sets (r + 2) (factorA s r) (factorB s r)) (withProduct s y y' r l)
         (record {
           marks = length-marks m r ∙ long .marks;
           y-a = length-set a r y ∙ long .y-a;
           y-b = length-set b r y' ∙ long .y-b;
-          as-long = written-long s rows blocks frame m a b l long k t f h ∙ long .as-long;
+          as-long = written-long s rows blocks frame m a b sets l long k t f h ∙ long .as-long;
         })
-        fs (all-zip (λ u ne v. still-waits s rows blocks frame m a b l long k t f h u ne v) ts apart hs) rest)
+        fs (all-zip (λ u ne v. still-waits s rows blocks frame m a b sets l long k t f h u ne v) ts apart hs) rest)
 
   -- ---- the start of the walk
 
@@ -136,18 +137,18 @@ module _ (s : Session) (rows blocks : List ℕ) where
     whole-walk =
         let f = passed .checked in
         let all = length (productsOf ts) in
-        walked (frame-clear s rows ts d blocks z) 0 (productsOf ts) (s .marks) (s .«y_a») (s .«y_b») rows
+        walked (frame-clear s rows ts d blocks z) 0 (productsOf ts) (s .marks) (s .«y_a») (s .«y_b») (s .barred) rows
         (record { marks = whole .marks; y-a = whole .y-a; y-b = whole .y-b; as-long = refl })
         (staying all (f .placed .blocks-long ∙ sym (mul-assoc all 2 (recordLength s)) ∙ ap (λ (x : ℕ). x * recordLength s) (mul-comm all 2)) 0 (productsOf ts)
         (omega arith) (f .placed .remembered) (terms-low s rows ts d blocks z (f .placed .few)) (f .records-low) (passed .enough) (passed .agreed))
         (all-map waiting (productsOf ts) (f .placed .factors)) (f .placed .once)
 
-    session-left : relationFinishAnswer s rows (collected ts) d blocks .session ≡ relationDone s rows blocks (productsOf ts) d
+    session-left : relationFinishAnswer s rows (collected ts) d blocks .session ≡ relationDone s rows blocks (productsOf ts) ts d
     session-left =
         let x = relationFinishRefusal s rows (collected ts) d blocks in
-        let new = relationDone s rows blocks (factorsOf (collected ts)) d in
+        let new = relationDone s rows blocks (factorsOf (collected ts)) (termsOf (collected ts)) d in
         ap (λ (q : Answer). q .session) (answered x new s z)
-        ∙ ap (λ (l : List Term). relationDone s rows blocks l d) (factors-again ts (passed .checked .placed .few))
+        ∙ ap₂ (λ (f l : List Term). relationDone s rows blocks f l d) (factors-again ts (passed .checked .placed .few)) (terms-again ts (passed .checked .placed .few))
 
     rows-left : relationFinishRows s rows (collected ts) d blocks ≡ withSum s d ts (withProducts s rows blocks 0 (productsOf ts) rows)
     rows-left =
@@ -164,10 +165,10 @@ refusal-is (suc x) new old e = e
 
 pub finish-is-pairs : FinishIsPairs
 finish-is-pairs s rows ts d blocks whole e =
-    let z = refusal-is (relationFinishRefusal s rows (collected ts) d blocks) (relationDone s rows blocks (factorsOf (collected ts)) d) s e in
+    let z = refusal-is (relationFinishRefusal s rows (collected ts) d blocks) (relationDone s rows blocks (factorsOf (collected ts)) (termsOf (collected ts)) d) s e in
     let (ok, session, written) = whole-walk s rows blocks ts d whole z in
     record {
       accepted = ok;
-      session-is = session-left s rows blocks ts d whole z ∙ ap (λ (q : Session). marked q d held) session;
+      session-is = session-left s rows blocks ts d whole z ∙ ap (λ (q : Session). summedRow q d (numberRows ts)) session;
       rows-are = rows-left s rows blocks ts d whole z ∙ ap (withSum s d ts) written;
     }

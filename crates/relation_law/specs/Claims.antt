@@ -3,14 +3,13 @@
 use Prim.Native.Nat.{ℕ}
 use mathlib.Core.Path.{_≡_}
 use mathlib.Core.List.{List}
-use Rattle.shape.specs.Marks.{held}
 use Rattle.session.specs.declared.Session.{Session}
-use Rattle.session.specs.Sessions.{marked}
+use Rattle.session.specs.Sessions.{summedRow}
 use Rattle.product.specs.Claims.{Whole}
 use Rattle.terms.specs.declared.Term.{Term}
 use Rattle.terms.specs.Listed.{productsOf, collected}
 use Rattle.relation.specs.Masks.{relationMasksAnswer, relationMasksOut}
-use Rattle.relation.specs.Finish.{withSum, relationFinishAnswer, relationFinishRows}
+use Rattle.relation.specs.Finish.{withSum, numberRows, relationFinishAnswer, relationFinishRows}
 use Rattle.relation_law.specs.Pairs.{PairsAccepted, sessionAfter, rowsAfter}
 use Rattle.relation_law.specs.Singles.{SinglesAccepted, singlesSession, singlesLists}
 
@@ -18,8 +17,8 @@ module _ (s : Session) (rows : List ℕ) (ts : List Term) (d : ℕ) (blocks : Li
   pub record AsPairs : Type 0 where
     -- both calls are accepted at each product term, one term after the other
     pub accepted : PairsAccepted blocks 0 (productsOf ts) s rows
-    -- and then leave the session that the relation's finish leaves, but for the mark of the sum's row, which is held
-    pub session-is : relationFinishAnswer s rows (collected ts) d blocks .session ≡ marked (sessionAfter blocks 0 (productsOf ts) s rows) d held
+    -- and then leave the session that the relation's finish leaves, but for the mark of the sum's row, which is held, and its set
+    pub session-is : relationFinishAnswer s rows (collected ts) d blocks .session ≡ summedRow (sessionAfter blocks 0 (productsOf ts) s rows) d (numberRows ts)
     -- and its rows, but for the sum of the terms in that row
     pub rows-are : relationFinishRows s rows (collected ts) d blocks ≡ withSum s d ts (rowsAfter blocks 0 (productsOf ts) s rows)
 

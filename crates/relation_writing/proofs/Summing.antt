@@ -10,9 +10,10 @@ use Rattle.field.specs.Arithmetic.{product}
 use Rattle.shape.specs.declared.Shape.{Shape}
 use Rattle.shape.specs.Lengths as Lengths
 use Rattle.shape.specs.Lengths.{rowLength}
+use Rattle.callers.specs.Sets.{joining}
 use Rattle.session.specs.declared.Session.{Session}
 use Rattle.session.specs.declared.Answer.{Answer}
-use Rattle.session.specs.Sessions.{shapeOf, holding, collectedTriple, finishedTriple}
+use Rattle.session.specs.Sessions.{shapeOf, withBarred, sharing, sharingAll, holding, collectedTriple, finishedTriple}
 use Rattle.session.specs.Rows.{rowAt, withRow, summed}
 use Rattle.session.specs.Between.{Framed, Sized, RowIn, TripleIn}
 use Rattle.session.proofs.Passed.{row-below}
@@ -22,7 +23,7 @@ use Rattle.terms.specs.declared.Term.{Term}
 use Rattle.terms.specs.declared.Terms.{Terms}
 use Rattle.terms.specs.Listed.{mostTerms, blank, plain}
 use Rattle.relation.specs.Tests.{byKind, Factors, Placed, Few}
-use Rattle.relation.specs.Finish.{termNumberA, termNumberB, withProducts, numberRow, plusTerm, plusTerms, withSum, pairDone, finishedTerms}
+use Rattle.relation.specs.Finish.{termNumberA, termNumberB, withProducts, numberRow, numberRows, plusTerm, plusTerms, withSum, pairDone, finishedTerms}
 use Rattle.relation_writing.specs.Steps.{coefficientAt, plusTimes, productsWritten, triplesFinished}
 use Rattle.relation.proofs.Loops.{walked}
 
@@ -129,6 +130,20 @@ module _ (s : Session) (g : Shape) (eg : g ≡ shapeOf s) where
 pub pair-of : (s : Session) (r y y' : ℕ) (a b : Answer) → a ≡ holding 0 0 (collectedTriple s r y y') → b ≡ holding 0 0 (finishedTriple (a .session) r)
     → b .session ≡ pairDone s r y y'
 pair-of s r y y' a b ea eb = ap (λ (x : Answer). x .session) eb ∙ ap (λ (x : Answer). finishedTriple (x .session) r) ea
+
+-- the sum's set
+pub share-is : (s o : Session) (d r : ℕ) (t : Term) → r ≡ numberRow t → o ≡ sharing s d d r → o ≡ sharing s d d (numberRow t)
+share-is s o d r t e eo = rw e at eo
+
+pub settled-is : (f g o : Session) (d : ℕ) (rows : List ℕ) → f ≡ g → o ≡ sharingAll f d rows → o ≡ sharingAll g d rows
+settled-is f g o d rows e eo = eo ∙ ap (λ (x : Session). sharingAll x d rows) e
+
+abbrev pub shareIn : ℕ → ℕ → Term → Session → Session
+shareIn d k t s = sharing s d d (numberRow t)
+
+pub shares-walk : (d k : ℕ) (ts : List Term) (s : Session) → walked (shareIn d) k ts s ≡ withBarred s (joining d (numberRows ts) (s .barred))
+shares-walk d k [] s = refl
+shares-walk d k (t ∷ ts) s = shares-walk d (suc k) ts (shareIn d k t s)
 
 abbrev pub finishIn : List ℕ → List ℕ → ℕ → Term → Session → Session
 finishIn yA yB k t s = pairDone s (t .first) (getD yA k 0) (getD yB k 0)

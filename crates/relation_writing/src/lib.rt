@@ -10,13 +10,13 @@ ghost use Prim.Native.Nat.{_≤_, _<_};
 ghost use lib.ListN.{replicate};
 ghost use Rattle.shape.specs.Bounds.{lastTriple};
 ghost use Rattle.shape.specs.Lengths.{rowLength};
-ghost use Rattle.session.specs.Sessions.{shapeOf};
+ghost use Rattle.session.specs.Sessions.{shapeOf, sharing, sharingAll};
 ghost use Rattle.session.specs.Rows.{withRow};
 ghost use Rattle.session.specs.Between.{Sized, Framed, RowIn};
 ghost use Rattle.multiply.specs.Multiply.{withProduct};
 ghost use Rattle.terms.specs.Listed.{mostTerms, termsOf, factorsOf};
 ghost use Rattle.relation.specs.Tests.{Few, Every, Placed, Factors};
-ghost use Rattle.relation.specs.Finish.{numberRow, plusTerms, withSum, pairDone};
+ghost use Rattle.relation.specs.Finish.{numberRow, numberRows, plusTerms, withSum, pairDone};
 ghost use Rattle.relation_writing.specs.Steps.{coefficientAt, plusTimes, productsWritten, triplesFinished};
 
 // The two numbers that each product term opens to, y and y', at its place; or the refusal.
@@ -119,10 +119,29 @@ fn finish_triple(session: Session, term: Term, y_a: u32, y_b: u32) -> Session
 {
     let first = term.first as usize;
     let collected = session.answer_collecting(0, first, y_a, y_b);
-    let finished = collected
-        .session
-        .answer_marking_triple(0, first, shape::SPENT, shape::SPENT, shape::HELD);
+    let finished = collected.session.answer_multiplying(0, first);
     finished.session
+}
+
+// A row bars whom a term's row bars too.
+fn share_term(session: Session, dest: usize, term: Term) -> Session
+    requires { ⌜ dest < 96 ⌝ }
+    ensures { λ r. ⌜ r ≡ sharing session dest dest (numberRow term) ⌝ }
+{
+    let row = number_row(term);
+    session.shared(dest, dest, row)
+}
+
+// The sum's row bars whom any term's row bars.
+pub fn share_terms(session: Session, all: Terms, dest: usize) -> Session
+    requires { ⌜ Few all × (dest < 96) ⌝ }
+    ensures { λ r. ⌜ r ≡ sharingAll session dest (numberRows (termsOf all)) ⌝ }
+{
+    let mut now = session.shared(dest, shape::ROWS, shape::ROWS);
+    for i in 0..all.count {
+        now = share_term(now, dest, all.list[i]);
+    }
+    now
 }
 
 // The same on every product term's triple.
@@ -135,4 +154,13 @@ pub fn finish_triples(session: Session, all: Terms, opened: OpenedTerms) -> Sess
         now = finish_triple(now, all.factors[k], opened.y_a[k], opened.y_b[k]);
     }
     now
+}
+
+// The triples, and who may call for the sum.
+pub fn settle(session: Session, all: Terms, dest: usize, opened: OpenedTerms) -> Session
+    requires { ⌜ Few all × Every (Factors (shapeOf session)) (factorsOf all) × (dest < 96) ⌝ }
+    ensures { λ r. ⌜ r ≡ sharingAll (triplesFinished (opened .«y_a») (opened .«y_b») 0 (factorsOf all) session) dest (numberRows (termsOf all)) ⌝ }
+{
+    let finished = finish_triples(session, all, opened);
+    share_terms(finished, all, dest)
 }

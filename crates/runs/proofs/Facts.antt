@@ -11,7 +11,7 @@ use Rattle.shape.specs.Bounds.{rowCount, lastTriple}
 use Rattle.shape.specs.Marks.{empty, raw as rawMark, held as heldMark, unused, further, masked, collected}
 use Rattle.vectors.specs.Vector.{Vector, raised}
 use Rattle.runs.specs.Draws.{Plan, Draw, IsRaw}
-use Rattle.runs.specs.Outline.{Act, loads, loadsTriple, deals, opens, Summand, once, times, fee, sums, factors, collects, multiplies, Taking, nothingTaken, aRowPack, aTriplePack, aNumber, aRecord, twoRecords, takes, Sending, itsOpening, itsMasks}
+use Rattle.runs.specs.Outline.{Act, loads, loadsTriple, deals, opens, Summand, once, times, fee, sums, factors, collects, multiplies, admits, Taking, nothingTaken, aRowPack, aTriplePack, aNumber, aRecord, twoRecords, takes, Sending, itsOpening, itsMasks}
 use Rattle.runs.specs.Calls.{Among}
 use Rattle.runs.proofs.Marks.{Marks, markOf, rememberedA, rememberedB, rawVector, vectorA, vectorB, vectorAB, totalVector, written, Masking, none, of, masking, Masked, marksBy}
 
@@ -39,12 +39,14 @@ pub record Multiplying (mark : ℕ) (M : Marks) (a b r : ℕ) : Type 0 where
   pub second : markOf M (r + 1) ≡ further
   pub third : markOf M (r + 2) ≡ further
 
--- a triple from r on, whose first row has this mark
+-- a triple from r on, whose first row has this mark, and whose remembered factor rows are held
 pub record Tripled (mark : ℕ) (M : Marks) (r : ℕ) : Type 0 where
   pub r-low : r ≤ lastTriple
   pub first : markOf M r ≡ mark
   pub second : markOf M (r + 1) ≡ further
   pub third : markOf M (r + 2) ≡ further
+  pub a-held : markOf M (rememberedA M r) ≡ heldMark
+  pub b-held : markOf M (rememberedB M r) ≡ heldMark
 
 abbrev pub Needed : Act → Marks → Type 0
 Needed (loads r) M = (r < rowCount) × (markOf M r ≡ empty)
@@ -55,6 +57,7 @@ Needed (sums r t ts) M = Summing M r t ts
 Needed (factors a b r) M = Unit {0}
 Needed (collects r) M = Multiplying masked M (rememberedA M r) (rememberedB M r) r
 Needed (multiplies r) M = Tripled collected M r
+Needed (admits line) M = Unit {0}
 
 abbrev pub Maskable : Masking → Marks → Type 0
 Maskable none M = Unit {0}
@@ -137,3 +140,4 @@ module _ (plan : Plan) (draw : Draw) where
     Meant (factors a b r) c M vec = Waits r a b
     Meant (collects r) c M vec = Unit {0}
     Meant (multiplies r) c M vec = Held (r + 2) (written M vec r)
+    Meant (admits line) c M vec = Unit {0}

@@ -33,7 +33,7 @@ use Rattle.runs.specs.Calls.{at}
 use Rattle.runs.proofs.Marks.{Marks, markOf, rememberedA, rememberedB, remarked, finished, Opened, sessionAt, maskVectorA, maskVectorB, written}
 use Rattle.runs.proofs.Sums.{productVector, product-sum}
 use Rattle.runs.proofs.Packs.{rowFor}
-use Rattle.runs.proofs.Holds.{Holds, wide, put-holds, keep-holds, Holder, sessionOf, combined-row}
+use Rattle.runs.proofs.Holds.{Holds, holds-sets, wide, put-holds, keep-holds, Holder, sessionOf, combined-row}
 use Rattle.runs.proofs.Facts.{Multiplying, Tripled}
 use Rattle.runs.proofs.Recalled.{Recalled}
 
@@ -124,10 +124,10 @@ module _ (H : Holder) where
         → Holds plan draw len i (finished M r) (at vec (r + 2) (written M vec r)) (withProduct (sessionAt plan draw i M₀ Y₀) y y' r l)
     unfolding withProduct productRow
     product-holds M₀ Y₀ y y' ya yb =
-        put-holds plan draw len i (remarked (remarked M r spent) (r + 1) spent) vec l
+        holds-sets plan draw len i _ _ _ _ (put-holds plan draw len i (remarked (remarked M r spent) (r + 1) spent) vec l
         (keep-holds plan draw len i M (remarked (remarked M r spent) (r + 1) spent) vec l h before) size (r + 2) held
         (omega (arith, ok .r-low)) _ _ (ap₂ (λ (y y' : ℕ). productRow s y y' (rowAt W l r) (rowAt W l (r + 1)) (rowAt W l (r + 2))) ya yb ∙ rows-are ∙ row-of-product _ _ _ _ _
-        ∙ ap (rowFor plan draw i) (sym (product-sum vec r _ _)))
+        ∙ ap (rowFor plan draw i) (sym (product-sum vec r _ _))))
       where
         row-a' : rowAt W l r ≡ rowFor plan draw i (vec r)
         row-a' = row-is r (omega (arith, ok .r-low)) (ok .first)
@@ -150,6 +150,8 @@ module _ (H : Holder) where
       first = f .placed .first-mark;
       second = f .placed .second-mark;
       third = f .placed .third-mark;
+      a-held = f .placed .a-held;
+      b-held = f .placed .b-held;
     }
 
     pub multiply-holds : Holds plan draw len i (finished M r) (at vec (r + 2) (written M vec r)) (withProduct s (openedA s r) (openedB s r) r l)

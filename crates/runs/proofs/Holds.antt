@@ -28,7 +28,7 @@ use Rattle.vectors.proofs.Linear.{length-numbers, row-plusTimes, row-raised, ro
 use Rattle.runs.specs.Draws.{Plan, Draw, pointOf, planShape}
 use Rattle.runs.specs.Outline.{once, times, fee, loadsTriple, factors}
 use Rattle.runs.specs.Calls.{at}
-use Rattle.runs.proofs.Marks.{Marks, markOf, remarked, marksBy, Opened, sessionAt, totalVector, at-same, at-other}
+use Rattle.runs.proofs.Marks.{Marks, markOf, remarked, withSets, marksBy, Opened, sessionAt, totalVector, at-same, at-other}
 use Rattle.runs.proofs.Sums.{linear-sum}
 use Rattle.runs.proofs.Packs.{rowFor}
 use Rattle.factory.proofs.Laws.{elements-pass}
@@ -85,6 +85,10 @@ module _ (plan : Plan) (draw : Draw) where
   pub keep-holds : (len i : ℕ) (M N : Marks) (vec : ℕ → Vector) (l : List ℕ) → Holds len i M vec l
       → ((r : ℕ) → r < rowCount → markOf N r ≢ empty → markOf M r ≢ empty) → Holds len i N vec l
   keep-holds len i M N vec l h g = record { long = h .long; rows = λ r lr ne. h .rows r lr (g r lr ne) }
+
+  -- with other sets
+  pub holds-sets : (len i : ℕ) (M : Marks) (sets : List ℕ) (vec : ℕ → Vector) (l : List ℕ) → Holds len i M vec l → Holds len i (withSets M sets) vec l
+  holds-sets len i M sets vec l h = record { long = h .long; rows = h .rows }
 
 -- ---- a post that holds its rows, and the calls, from their definitions to the vectors
 

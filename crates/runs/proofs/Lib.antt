@@ -22,3 +22,5 @@ pub mod Relations
 pub mod Recalled
 pub mod Allowed
 pub mod Delivered
+pub mod Callers
+pub mod Remains

@@ -13,10 +13,12 @@ use Rattle.field.specs.Element.{element}
 use Rattle.field.proofs.Elements.{𝓡}
 use Rattle.shape.specs.Bounds.{rowCount}
 use Rattle.shape.specs.Marks.{raw, held, unused, further, masked, spent, collected}
+use Rattle.callers.specs.Sets.{shared, sharedAll}
+use Rattle.access.specs.Access.{accessSets}
 use Rattle.session.specs.declared.Session.{Session}
 use Rattle.vectors.specs.Vector.{Vector, plusTimes, raised, number, vectorOf}
 use Rattle.runs.specs.Draws.{Plan, planShape, Draw, pointOf, rawDraw, drawA, drawB, drawAB}
-use Rattle.runs.specs.Outline.{Kinds, Act, loads, loadsTriple, deals, opens, Summand, once, times, fee, sums, factors, collects, multiplies, Taking, nothingTaken, aRowPack, aTriplePack, aNumber, aRecord, twoRecords, takes, Given, Move}
+use Rattle.runs.specs.Outline.{Kinds, Act, loads, loadsTriple, deals, opens, Summand, once, times, fee, rowsIn, sums, factors, collects, multiplies, admits, Taking, nothingTaken, aRowPack, aTriplePack, aNumber, aRecord, twoRecords, takes, Given, Move}
 use Rattle.runs.specs.Calls.{Actual, at}
 open CommutativeRing 𝓡 using (zero as 0ᴱ)
 
@@ -37,6 +39,7 @@ pub record Marks : Type 0 where
   pub marks : List ℕ
   pub factor-a : List ℕ
   pub factor-b : List ℕ
+  pub sets : List ℕ
 
 abbrev pub markOf : Marks → ℕ → ℕ
 markOf M r = getD (M .marks) r 0
@@ -53,10 +56,18 @@ pub record Sized (M : Marks) : Type 0 where
   pub factor-b : length (M .factor-b) ≡ rowCount
 
 abbrev pub remarked : Marks → ℕ → ℕ → Marks
-remarked M r m = record { marks = set (M .marks) r m; factor-a = M .factor-a; factor-b = M .factor-b }
+remarked M r m = record { marks = set (M .marks) r m; factor-a = M .factor-a; factor-b = M .factor-b; sets = M .sets }
+
+-- with other sets of barred posts
+abbrev pub withSets : Marks → List ℕ → Marks
+withSets M sets = record { marks = M .marks; factor-a = M .factor-a; factor-b = M .factor-b; sets = sets }
+
+-- a product has those of its factor rows
+abbrev pub productSets : Marks → ℕ → List ℕ
+productSets M r = shared 8 (M .sets) (r + 2) (rememberedA M r) (rememberedB M r)
 
 abbrev pub finished : Marks → ℕ → Marks
-finished M r = remarked (remarked (remarked M r spent) (r + 1) spent) (r + 2) held
+finished M r = withSets (remarked (remarked (remarked M r spent) (r + 1) spent) (r + 2) held) (productSets M r)
 
 -- the numbers that a session remembers: they follow the draw
 pub record Opened : Type 0 where
@@ -82,6 +93,7 @@ sessionAt plan draw i M Y =
       «factor_b» = M .factor-b;
       «y_a» = Y .y-a;
       «y_b» = Y .y-b;
+      barred = M .sets;
     }
 
 -- the vectors of what was drawn
@@ -146,6 +158,7 @@ marksOf (sums r t ts) = mark r held ∷ []
 marksOf (factors a b r) = []
 marksOf (collects r) = mark r collected ∷ []
 marksOf (multiplies r) = mark r spent ∷ mark (r + 1) spent ∷ mark (r + 2) held ∷ []
+marksOf (admits line) = []
 
 -- the masks that an act makes: none, or of the rows a and b by the triple at r, which then has mark 5 and remembers a and b
 pub data Masking : Type 0 where
@@ -161,6 +174,7 @@ masking (sums r t ts) = none
 masking (factors a b r) = of a b r
 masking (collects r) = none
 masking (multiplies r) = none
+masking (admits line) = none
 
 abbrev pub markAll : List Mark → Marks → Marks
 markAll [] M = M
@@ -168,10 +182,22 @@ markAll (m ∷ ms) M = markAll ms (remarked M (m .row) (m .is))
 
 abbrev pub remembered : Masking → Marks → Marks
 remembered none M = M
-remembered (of a b r) M = record { marks = set (M .marks) r masked; factor-a = set (M .factor-a) r a; factor-b = set (M .factor-b) r b }
+remembered (of a b r) M = record { marks = set (M .marks) r masked; factor-a = set (M .factor-a) r a; factor-b = set (M .factor-b) r b; sets = M .sets }
+
+-- the sets of barred posts
+abbrev pub setsBy : Act → Marks → List ℕ
+setsBy (loads r) M = M .sets
+setsBy (loadsTriple r) M = M .sets
+setsBy (deals r) M = M .sets
+setsBy (opens r) M = M .sets
+setsBy (sums r t ts) M = sharedAll (M .sets) r (rowsIn (t ∷ ts))
+setsBy (factors a b r) M = M .sets
+setsBy (collects r) M = M .sets
+setsBy (multiplies r) M = productSets M r
+setsBy (admits line) M = accessSets line (M .sets)
 
 abbrev pub marksBy : Act → Marks → Marks
-marksBy act M = remembered (masking act) (markAll (marksOf act) M)
+marksBy act M = withSets (remembered (masking act) (markAll (marksOf act) M)) (setsBy act M)
 
 -- a triple whose masks were made, and opened or not: the mark of its first row
 abbrev pub Masked : ℕ → Type 0
@@ -188,6 +214,7 @@ openedBy (factors a b r) M vec Y = Y
 openedBy (collects r) M vec Y =
     record { y-a = set (Y .y-a) r (number (maskVectorA M vec r) .0); y-b = set (Y .y-b) r (number (maskVectorB M vec r) .0) }
 openedBy (multiplies r) M vec Y = Y
+openedBy (admits line) M vec Y = Y
 
 -- with the number c that it takes
 abbrev pub vectorsBy : Plan → Draw → Act → ℕ → Marks → (ℕ → Vector) → ℕ → Vector
@@ -200,6 +227,7 @@ vectorsBy plan draw (sums r t ts) c M vec = at vec r (totalVector vec t ts)
 vectorsBy plan draw (factors a b r) c M vec = vec
 vectorsBy plan draw (collects r) c M vec = vec
 vectorsBy plan draw (multiplies r) c M vec = at vec (r + 2) (written M vec r)
+vectorsBy plan draw (admits line) c M vec = vec
 
 -- ---- One act after the other.
 

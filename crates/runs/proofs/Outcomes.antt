@@ -5,10 +5,10 @@ use mathlib.Core.List.{List, [], _∷_}
 use native.Mathlib.Omega.{arith}
 use lib.ListN.{length}
 use Rattle.shape.specs.Lengths.{masksLength}
-use Rattle.shape.specs.Marks.{raw, held, unused, further, masked, spent, collected as collectedMark}
+use Rattle.shape.specs.Marks.{raw, held, unused, further, masked, collected as collectedMark}
 use Rattle.refusal.specs.Refusal.{outcome}
 use Rattle.session.specs.declared.Session.{Session}
-use Rattle.session.specs.Sessions.{shapeOf, answer, openedA, openedB, marked, remembering, recalling}
+use Rattle.session.specs.Sessions.{shapeOf, answer, openedA, openedB, marked, withBarred, summedRow, finishedTriple, remembering, recalling}
 use Rattle.session.specs.Rows.{width, coefficients, sumsAt, rowAt, withRow, plusSums, summed}
 use Rattle.load.specs.Load.{loadRowRefusal, loadTripleRefusal, withTriple}
 use Rattle.deal.specs.Deal.{dealRefusal}
@@ -22,7 +22,8 @@ use Rattle.multiply.specs.Multiply.{withProduct, multiplyRefusal}
 use Rattle.terms.specs.Listed.{productsOf, collected, termsOf, factorsOf}
 use Rattle.relation.specs.Masks.{relationMasksRefusal, maskedTerms, termMasks}
 use Rattle.relation.specs.Finish.{relationFinishRefusal, withProducts, withSum, relationDone}
-use Rattle.runs.specs.Outline.{loadRow, loadTriple, deal, message, opening, linear, masks, collect, multiply, relationMasks, relationFinish, Sending}
+use Rattle.access.specs.Access.{accessRefusal, accessSets}
+use Rattle.runs.specs.Outline.{loadRow, loadTriple, deal, message, opening, linear, masks, collect, multiply, relationMasks, relationFinish, access, Sending}
 use Rattle.runs.specs.Calls.{Post, Call, Performed, performed, pieces, perform, after, lineOf, sentIf, sentBy}
 
 -- ---- one answer
@@ -82,7 +83,7 @@ does (deal x) q =
     (withRow (width s) (x .r) (plusSums (sumsAt s) (x .c) (rowAt (width s) (q .rows) (x .r))) (q .rows))
 does (message x) q =
     let s = q .session in
-    writes (messageRefusal s (q .rows) (x .r) (x .lent)) s (q .rows) (x .lent ∷ []) (coefficients s (rowAt (width s) (q .rows) (x .r)) ∷ [])
+    writes (messageRefusal s (q .rows) (x .r) (x .caller) (x .lent)) s (q .rows) (x .lent ∷ []) (coefficients s (rowAt (width s) (q .rows) (x .r)) ∷ [])
 does (opening x) q =
     let s = q .session in
     record {
@@ -95,7 +96,7 @@ does (opening x) q =
     }
 does (linear x) q =
     let s = q .session in
-    changes (linearRefusal s (q .rows) (x .r) (x .a) (x .b) (x .scale) (x .fee)) (marked s (x .r) held)
+    changes (linearRefusal s (q .rows) (x .r) (x .a) (x .b) (x .scale) (x .fee)) (summedRow s (x .r) (x .a ∷ x .b ∷ []))
     (withRow (width s) (x .r) (summed (sumsAt s) (x .scale) (x .fee) (rowAt (width s) (q .rows) (x .a)) (rowAt (width s) (q .rows) (x .b))) (q .rows))
 does (masks x) q =
     let s = q .session in
@@ -107,7 +108,7 @@ does (collect x) q =
     (recalling (marked s (x .r) collectedMark) (x .r) (numberA s (q .rows) (x .r) (x .blocksA)) (numberB s (q .rows) (x .r) (x .blocksB))) (q .rows)
 does (multiply x) q =
     let s = q .session in
-    changes (multiplyRefusal s (q .rows) (x .r)) (marked (marked (marked s (x .r) spent) (x .r + 1) spent) (x .r + 2) held)
+    changes (multiplyRefusal s (q .rows) (x .r)) (finishedTriple s (x .r))
     (withProduct s (openedA s (x .r)) (openedB s (x .r)) (x .r) (q .rows))
 does (relationMasks x) q =
     let s = q .session in
@@ -118,8 +119,10 @@ does (relationMasks x) q =
 does (relationFinish x) q =
     let s = q .session in
     let all = collected (x .terms) in
-    changes (relationFinishRefusal s (q .rows) all (x .r) (x .blocks)) (relationDone s (q .rows) (x .blocks) (factorsOf all) (x .r))
+    changes (relationFinishRefusal s (q .rows) all (x .r) (x .blocks)) (relationDone s (q .rows) (x .blocks) (factorsOf all) (termsOf all) (x .r))
     (withSum s (x .r) (termsOf all) (withProducts s (q .rows) (x .blocks) 0 (factorsOf all) (q .rows)))
+does (access x) q =
+    let s = q .session in changes (accessRefusal s (x .line)) (withBarred s (accessSets (x .line) (s .barred))) (q .rows)
 
 -- "Refused ... every lent list as it came": the answer, the rows and the lent list of every contract are of this form
 abbrev performed-by : Doing → Post → Performed
@@ -154,6 +157,7 @@ performs (multiply x) q = ap (performed _ _) (still _ [])
 performs (relationMasks x) q =
     ap₂ (performed _) (still _ (q .rows)) (through (pieces (masksLength (shapeOf (q .session))) (length (productsOf (x .terms)))) _ _ _)
 performs (relationFinish x) q = ap (performed _ _) (still _ [])
+performs (access x) q = ap₂ (performed _) (still _ (q .rows)) (still _ [])
 
 abbrev pub refusalOf : Call → Post → ℕ
 refusalOf c q = does c q .refusal

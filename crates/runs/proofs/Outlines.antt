@@ -6,7 +6,7 @@ use lib.ListN.{length}
 use Rattle.poly.specs.Counting.{All}
 use Rattle.terms.specs.declared.Term.{Term}
 use Rattle.terms.specs.Listed.{productsOf}
-use Rattle.runs.specs.Outline.{Kinds, CallOf, loadRow, loadTriple, deal, message, opening, linear, masks, collect, multiply, relationMasks, relationFinish, factoring, maskings, finishing, summing, factors, collects, multiplies, Act, Taking, nothingTaken, aRowPack, aTriplePack, aNumber, aRecord, twoRecords, takes, Given, Move, Outline, outline, moves, sends, actsIn, acts, EveryFrom, Every, Filling, filled}
+use Rattle.runs.specs.Outline.{Kinds, CallOf, loadRow, loadTriple, deal, message, opening, linear, masks, collect, multiply, relationMasks, relationFinish, access, factoring, maskings, finishing, summing, factors, collects, multiplies, Act, Taking, nothingTaken, aRowPack, aTriplePack, aNumber, aRecord, twoRecords, takes, Given, Move, Outline, outline, moves, sends, actsIn, acts, EveryFrom, Every, Filling, filled}
 
 -- ---- P of each of a list
 
@@ -73,6 +73,7 @@ module _ {K K' : Kinds} (f : Filling K K') where
   outline-filled (relationFinish x) =
       ap (λ (ms : List (Move K')). record { moves = ms; sends = []; heard = [] })
       (finishing-filled (2 * length (productsOf (x .terms))) (x .blocks) 0 (productsOf (x .terms)) (x .r) (x .terms))
+  outline-filled (access x) = refl
 
   pub moves-filled : (c : CallOf K) → moves (filled f c) ≡ map filledMove (moves c)
   moves-filled c = ap (λ (o : Outline K'). o .moves) (outline-filled c)

@@ -10,7 +10,7 @@ use Rattle.shape.specs.Bounds.{rowCount}
 use Rattle.shape.specs.Marks.{held, further, collected as collectedMark}
 use Rattle.vectors.specs.Vector.{Vector, number}
 use Rattle.runs.specs.Draws.{Plan, Draw}
-use Rattle.runs.specs.Outline.{Kinds, Act, loads, loadsTriple, deals, opens, sums, factors, collects, multiplies, Taking, takes, Given, Move, actsIn}
+use Rattle.runs.specs.Outline.{Kinds, Act, loads, loadsTriple, deals, opens, sums, factors, collects, multiplies, admits, Taking, takes, Given, Move, actsIn}
 use Rattle.runs.proofs.Marks.{Marks, markOf, rememberedA, rememberedB, Sized, less, maskVectorA, maskVectorB, Opened, marksBy, vectorsBy, openedBy, marksAll, vectorsAll, openedAll}
 use Rattle.runs.proofs.Facts.{AllowedBy, AllowedAll}
 use Rattle.runs.proofs.Rows.{Turn, collected, Same, turned, same, course, held-by, sized-by}
@@ -41,6 +41,7 @@ module _ (M : Marks) (vec : ℕ → Vector) (Y : Opened) where
   long-by (factors a b r) = (refl, refl)
   long-by (collects r) = (length-set (Y .y-a) r _, length-set (Y .y-b) r _)
   long-by (multiplies r) = (refl, refl)
+  long-by (admits line) = (refl, refl)
 
   stay-by : (a : Act) → AllowedBy a M → (q : ℕ) → markOf M q ≡ collectedMark
       → (getD (openedBy a M vec Y .y-a) q 0 ≡ getD (Y .y-a) q 0) × (getD (openedBy a M vec Y .y-b) q 0 ≡ getD (Y .y-b) q 0)
@@ -54,6 +55,7 @@ module _ (M : Marks) (vec : ℕ → Vector) (Y : Opened) where
       let ne : q ≢ r = λ h. omega (arith, e, ok .0 .first, ap (markOf M) h) in
       (getD-set-other (Y .y-a) r q _ 0 ne, getD-set-other (Y .y-b) r q _ 0 ne)
   stay-by (multiplies r) ok q e = (refl, refl)
+  stay-by (admits line) ok q e = (refl, refl)
 
 module _ (plan : Plan) (draw : Draw) where
   -- a triple that is opened now

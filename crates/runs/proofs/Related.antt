@@ -157,7 +157,7 @@ module _ (H : Holder) where
 -- ---- the products, one after the other
 
 waiting-triple : (M : Marks) (r : ℕ) → Multiplying masked M (rememberedA M r) (rememberedB M r) r → Tripled masked M r
-waiting-triple M r ok = record { r-low = ok .r-low; first = ok .first; second = ok .second; third = ok .third }
+waiting-triple M r ok = record { r-low = ok .r-low; first = ok .first; second = ok .second; third = ok .third; a-held = ok .a-held; b-held = ok .b-held }
 
 module _ (plan : Plan) (draw : Draw) (len i : ℕ) (M₀ : Marks) (Y₀ : Opened) (rows blocks : List ℕ) where
   abbrev s : Session

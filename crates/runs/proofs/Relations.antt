@@ -19,7 +19,7 @@ use Rattle.relation.proofs.Naming.{twice-parts}
 use Rattle.relation.proofs.Passed.{products-back}
 use Rattle.runs.specs.Outline.{Act, takes, Move, factors, actsIn, factoring, maskings, finishing, summand, summing}
 use Rattle.runs.specs.Calls.{Actual, Among}
-use Rattle.runs.proofs.Marks.{Marks, markOf, rememberedA, rememberedB, remarked, finished, Masking, of, masking, marksBy}
+use Rattle.runs.proofs.Marks.{Marks, markOf, rememberedA, rememberedB, remarked, productSets, finished, Masking, of, masking, marksBy}
 use Rattle.runs.proofs.Facts.{HeldIn, Multiplying, Tripled, AllowedAll, ReadyFor, Sendable}
 use Rattle.runs.proofs.Rows.{past, past-three}
 
@@ -77,7 +77,7 @@ Waits M t = Multiplying masked M (rememberedA M (t .first)) (rememberedB M (t .f
 -- by both calls: 7, then 6, 6, 2, as 6, 6, 2 at once
 pub done-is : (M : Marks) (r : ℕ) → finished (remarked M r collected) r ≡ finished M r
 done-is M r =
-    ap (λ (l : List ℕ). record { marks = set (set l (r + 1) spent) (r + 2) heldMark; factor-a = M .factor-a; factor-b = M .factor-b }) (set-set (M .marks) r collected spent)
+    ap (λ (l : List ℕ). record { marks = set (set l (r + 1) spent) (r + 2) heldMark; factor-a = M .factor-a; factor-b = M .factor-b; sets = productSets M r }) (set-set (M .marks) r collected spent)
 
 -- the marks once these product terms are finished
 abbrev pub finishedAll : List Term → Marks → Marks
@@ -140,6 +140,8 @@ collected-triple M r ok = record {
   first = now-set M r collected (ok .first);
   second = past M r collected (r + 1) (omega arith) ∙ ok .second;
   third = past M r collected (r + 2) (omega arith) ∙ ok .third;
+  a-held = past M r collected (rememberedA M r) (λ e. omega (arith, ap (markOf M) e, ok .first, ok .a-held)) ∙ ok .a-held;
+  b-held = past M r collected (rememberedB M r) (λ e. omega (arith, ap (markOf M) e, ok .first, ok .b-held)) ∙ ok .b-held;
 }
 
 -- the products are held

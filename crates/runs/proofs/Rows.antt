@@ -11,9 +11,9 @@ use Rattle.shape.specs.Bounds.{rowCount, lastTriple}
 use Rattle.shape.specs.Marks.{empty, raw as rawMark, held, unused, further, masked, spent as spentMark, collected as collectedMark}
 use Rattle.vectors.specs.Vector.{Vector}
 use Rattle.runs.specs.Draws.{Plan, Draw}
-use Rattle.runs.specs.Outline.{Kinds, Act, loads, loadsTriple, deals, opens, Summand, sums, factors, collects, multiplies, Taking, takes, Given, Move, actsIn}
+use Rattle.runs.specs.Outline.{Kinds, Act, loads, loadsTriple, deals, opens, Summand, sums, factors, collects, multiplies, admits, Taking, takes, Given, Move, actsIn}
 use Rattle.runs.specs.Calls.{Among, at}
-use Rattle.runs.proofs.Marks.{at-other, Marks, markOf, rememberedA, rememberedB, Sized, remarked, rawVector, Mark, Masking, none, of, masking, marksOf, markAll, remembered, Masked, marksBy, vectorsBy, marksAll, vectorsAll}
+use Rattle.runs.proofs.Marks.{at-other, Marks, markOf, rememberedA, rememberedB, Sized, remarked, withSets, rawVector, Mark, Masking, none, of, masking, marksOf, markAll, remembered, Masked, marksBy, vectorsBy, marksAll, vectorsAll}
 use Rattle.runs.proofs.Facts.{Maskable, AllowedBy, AllowedAll, MasksBy, MasksIn}
 
 -- ---- The rows that a call writes: which, the mark before, the mark after.
@@ -73,6 +73,10 @@ other M r m vec vec' q ne e = record { mark = past M r m q ne; factor-a = refl; 
 
 off-one : (M : Marks) (r m : ℕ) (vec : ℕ → Vector) (X : Vector) (q : ℕ) → q ≢ r → Same M (remarked M r m) vec (at vec r X) q
 off-one M r m vec X q ne = other M r m vec (at vec r X) q ne (at-other vec r X q ne)
+
+-- with other sets
+same-sets : {M N : Marks} {vec vec' : ℕ → Vector} {q : ℕ} (sets : List ℕ) → Same M N vec vec' q → Same M (withSets N sets) vec vec' q
+same-sets sets s = record { mark = s .mark; factor-a = s .factor-a; factor-b = s .factor-b; vector = s .vector }
 
 pub off-masks : (M : Marks) (r a b : ℕ) (vec : ℕ → Vector) (q : ℕ) → q ≢ r → Same M (marksBy (factors a b r) M) vec vec q
 off-masks M r a b vec q ne = record {
@@ -143,7 +147,7 @@ module _ (plan : Plan) (draw : Draw) where
   course (deals r) c M vec z ok q = at-row r q (turns (ok .0 .1) (now M r held z (ok .0 .0)) dealt) (λ n. same (off-one M r held vec _ q n))
   course (opens r) c M vec z ok q = same (record { mark = refl; factor-a = refl; factor-b = refl; vector = refl })
   course (sums r t ts) c M vec z ok q =
-      at-row r q (turns (ok .0 .r-empty) (now M r held z (ok .0 .r-low)) summed) (λ n. same (off-one M r held vec _ q n))
+      at-row r q (turns (ok .0 .r-empty) (now M r held z (ok .0 .r-low)) summed) (λ n. same (same-sets _ (off-one M r held vec _ q n)))
   course (factors x y r) c M vec z ok q =
       at-row r q (turns (ok .1 .first) (now M r masked z (omega arith)) waiting) (λ n. same (off-masks M r x y vec q n))
   course (collects r) c M vec z ok q =
@@ -153,7 +157,8 @@ module _ (plan : Plan) (draw : Draw) where
       at-row r q (turns (ok .0 .first) (k .0) spent) (λ n.
       at-row (r + 1) q (turns (ok .0 .second) (k .1) spent') (λ n'.
       at-row (r + 2) q (turns (ok .0 .third) (k .2) multiplied) (λ n''.
-      same (off-three M r spentMark spentMark held vec _ q n n' n'' (at-other vec (r + 2) _ q n'')))))
+      same (same-sets _ (off-three M r spentMark spentMark held vec _ q n n' n'' (at-other vec (r + 2) _ q n''))))))
+  course (admits line) c M vec z ok q = same (record { mark = refl; factor-a = refl; factor-b = refl; vector = refl })
 
   -- ---- What stays.
 
@@ -206,7 +211,9 @@ sized-notes (of a b r) M z =
     record { marks = length-set (M .marks) r masked ∙ z .marks; factor-a = length-set (M .factor-a) r a ∙ z .factor-a; factor-b = length-set (M .factor-b) r b ∙ z .factor-b }
 
 pub sized-by : (a : Act) (M : Marks) → Sized M → Sized (marksBy a M)
-sized-by a M z = sized-notes (masking a) (markAll (marksOf a) M) (sized-marks (marksOf a) M z)
+sized-by a M z =
+    let k = sized-notes (masking a) (markAll (marksOf a) M) (sized-marks (marksOf a) M z) in
+    record { marks = k .marks; factor-a = k .factor-a; factor-b = k .factor-b }
 
 -- ---- One act after the other.
 

@@ -6,7 +6,7 @@ use native.Mathlib.Omega.{arith}
 use lib.ListN.{length, take, drop, length-drop, take-append-drop}
 use Rattle.terms.specs.declared.Term.{Term}
 use Rattle.terms.specs.Listed.{productsOf}
-use Rattle.runs.specs.Outline.{Kinds, CallOf, loadRow, loadTriple, deal, message, opening, linear, masks, collect, multiply, relationMasks, relationFinish, Sending, itsMasks, maskings, sends}
+use Rattle.runs.specs.Outline.{Kinds, CallOf, loadRow, loadTriple, deal, message, opening, linear, masks, collect, multiply, relationMasks, relationFinish, access, Sending, itsMasks, maskings, sends}
 use Rattle.runs.specs.Calls.{Call, Post, perform, pieces}
 use Rattle.runs.specs.Sent.{linesOf, joined, Sent}
 
@@ -26,6 +26,7 @@ by-call (collect x) = refl
 by-call (multiply x) = refl
 by-call (relationMasks x) = maskings-are (productsOf (x .terms))
 by-call (relationFinish x) = refl
+by-call (access x) = refl
 
 pieces-many : (w m : ℕ) (xs : List ℕ) → length (pieces w m xs) ≡ m
 pieces-many w zero xs = refl
@@ -48,6 +49,7 @@ all-sent (collect x) q = refl
 all-sent (multiply x) q = refl
 all-sent (relationMasks x) q = pieces-many _ (length (productsOf (x .terms))) _ ∙ maskings-many (productsOf (x .terms))
 all-sent (relationFinish x) q = refl
+all-sent (access x) q = refl
 
 pieces-whole : (w m : ℕ) (xs : List ℕ) → length xs ≡ m * w → joined (pieces w m xs) ≡ xs
 pieces-whole w zero [] e = refl

@@ -31,6 +31,7 @@ use Rattle.runs.proofs.Facts.{Facts}
 
 pub record Sizes (plan : Plan) : Type 0 where
   pub n-low : fewestPosts ≤ plan .n
+  pub n-most : plan .n ≤ mostPosts
   pub n-high : plan .n < tens 10
   pub n-element : plan .n < p
   pub t-low : 1 ≤ plan .t
@@ -41,7 +42,7 @@ sizes plan s =
     let h = all-fail (postsTests (plan .n) (plan .t)) tt (s .posts) in
     let n-in = inside fewestPosts mostPosts (plan .n) (h .0) in
     let t-in = inside 1 (plan .n - 1) (plan .t) (h .1 .0) in
-    record { n-low = n-in .0; n-high = omega arith; n-element = omega arith; t-low = t-in .0; t-high = omega arith }
+    record { n-low = n-in .0; n-most = n-in .1; n-high = omega arith; n-element = omega arith; t-low = t-in .0; t-high = omega arith }
 
 pub all-at : (P : ℕ → Type 0) (xs : List ℕ) → All P xs → (i : ℕ) → i < length xs → P (getD xs i 0)
 all-at P [] a i h = absurd (omega arith)
@@ -49,8 +50,8 @@ all-at P (x ∷ xs) a zero h = a .0
 all-at P (x ∷ xs) a (suc i) h = all-at P xs (a .1) i (omega arith)
 
 -- the marks of a new session
-pub start : Marks
-start = record { marks = replicate rowCount 0; factor-a = replicate rowCount 0; factor-b = replicate rowCount 0 }
+unfoldable pub start : Marks
+start = record { marks = replicate rowCount 0; factor-a = replicate rowCount 0; factor-b = replicate rowCount 0; sets = replicate 768 0 }
 
 pub start-sized : Sized start
 unfolding start

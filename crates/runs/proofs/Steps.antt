@@ -25,12 +25,12 @@ use Rattle.relation.specs.Finish.{withProducts, withSum, relationDone}
 use Rattle.relation.proofs.Passed.{relation-masks-made, relation-finished}
 use Rattle.vectors.specs.Vector.{Vector, numbers}
 use Rattle.runs.specs.Draws.{Plan, Draw, IsDraw, pointOf, planShape}
-use Rattle.runs.specs.Outline.{loadRow, loadTriple, deal, message, opening, linear, masks, collect, multiply, relationMasks, relationFinish, maskings, moves, sends}
+use Rattle.runs.specs.Outline.{loadRow, loadTriple, deal, message, opening, linear, masks, collect, multiply, relationMasks, relationFinish, access, maskings, moves, sends}
 use Rattle.runs.specs.Calls.{Post, Call, pieces, perform, after}
 use Rattle.runs.proofs.Marks.{Marks, noNumbers, sessionAt, maskVectorA, maskVectorB, numberIn}
 use Rattle.runs.proofs.Outcomes.{refusalOf, does, own, done, written-is, refused}
 use Rattle.runs.proofs.Packs.{raw-pack, triple-pack}
-use Rattle.runs.proofs.Holds.{Holds, Holder, sessionOf, held-row, load-holds, triple-holds, deal-holds, linear-holds, masks-holds, collect-holds}
+use Rattle.runs.proofs.Holds.{Holds, holds-sets, Holder, sessionOf, held-row, load-holds, triple-holds, deal-holds, linear-holds, masks-holds, collect-holds}
 use Rattle.runs.proofs.Finishing.{trusted-any, collect-a, collect-b, multiply-holds}
 use Rattle.runs.proofs.Recalled.{Recalls, recalls-all}
 use Rattle.runs.proofs.Related.{masked-session, masks-hold}
@@ -72,7 +72,7 @@ module _ (H : Holder) where
   made k is (message x) z fit = (refl, h)
   made k is (opening x) z fit = (refl, h)
   made k is (linear x) z fit =
-      (refl, linear-holds H (x .r) (x .a) (x .b) (x .scale) (x .fee) (summed s l (x .r) (x .a) (x .b) (x .scale) (x .fee) z))
+      (refl, holds-sets plan draw len i _ _ _ _ (linear-holds H (x .r) (x .a) (x .b) (x .scale) (x .fee) (summed s l (x .r) (x .a) (x .b) (x .scale) (x .fee) z)))
   made k is (masks x) z fit = (refl, masks-holds H (x .a) (x .b) (x .r) (masks-made s l (x .a) (x .b) (x .r) (x .lent) z .placed .factors .first-mark))
   made k is (collect x) z fit =
       let ok = allowed plan draw i M Y l (collect x) z .ready .0 in
@@ -97,10 +97,11 @@ module _ (H : Holder) where
       let ef = factors-again (x .terms) (f .checked .placed .few) in
       let et = terms-again (x .terms) (f .checked .placed .few) in
       let o = summed-up H (x .terms) (x .r) (x .blocks) f fit in (
-        ap (λ (fs : List Term). relationDone s l (x .blocks) fs (x .r)) ef ∙ o .0,
+        ap₂ (λ (fs ts : List Term). relationDone s l (x .blocks) fs ts (x .r)) ef et ∙ o .0,
         subst (Holds plan draw len i (marksAfter plan draw (relationFinish x) M) (vectorsAfter plan draw (relationFinish x) M vec))
             (ap₂ (λ (ts fs : List Term). withSum s (x .r) ts (withProducts s l (x .blocks) 0 fs l)) (sym et) (sym ef)) (o .1),
       )
+  made k is (access x) z fit = (refl, holds-sets plan draw len i M _ vec l h)
 
   moved : Recalls M vec Y → IsDraw plan draw → (c : Call) → refusalOf c p0 ≡ 0 → Fits plan draw i M vec c
       → Stands plan draw len i (marksAfter plan draw c M) (vectorsAfter plan draw c M vec) (own (does c p0))
@@ -121,7 +122,7 @@ module _ (H : Holder) where
   says-at (loadRow x) z = tt
   says-at (loadTriple x) z = tt
   says-at (deal x) z = tt
-  says-at (message x) z = (message-at (x .r) (x .lent) (message-made s l (x .r) (x .lent) z), tt)
+  says-at (message x) z = (message-at (x .r) (x .lent) (message-made s l (x .r) (x .caller) (x .lent) z), tt)
   says-at (opening x) z = tt
   says-at (linear x) z = tt
   says-at (masks x) z = (masks-at H (x .a) (x .b) (x .r) (masks-made s l (x .a) (x .b) (x .r) (x .lent) z .placed .factors), tt)
@@ -132,6 +133,7 @@ module _ (H : Holder) where
       subst (λ (fs : List Term). SaysAll plan draw i vec (maskings (productsOf (x .terms))) (pieces (masksLength (shapeOf s)) (length (productsOf (x .terms))) (termMasks (shapeOf s) l fs)))
       (sym (factors-again (x .terms) (f .few))) (all-masks H (productsOf (x .terms)) (f .factors))
   says-at (relationFinish x) z = tt
+  says-at (access x) z = tt
 
 -- ---- a post that stands, and a call of it
 

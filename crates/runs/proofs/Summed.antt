@@ -1,7 +1,7 @@
 -- A relation's two calls at one post that holds its rows: the masks of each product term; the products, and then the sum.
 use Prim.Native.Nat.{ℕ, suc, _+_, _*_, _-_, _≤_, _<_}
-use mathlib.Core.Path.{_≡_, sym, _∙_, ap, ap₂, subst}
-use mathlib.Core.List.{List, [], _∷_, _++_}
+use mathlib.Core.Path.{_≡_, refl, sym, _∙_, ap, ap₂, subst}
+use mathlib.Core.List.{List, [], _∷_, _++_, map}
 use native.Mathlib.Omega.{arith}
 use lib.ListN.{length, take, length-append}
 use lib.Seq.{take-at, drop-at}
@@ -11,8 +11,9 @@ use Rattle.shape.specs.Lengths.{masksLength, vLength}
 use Rattle.shape.specs.Bounds.{rowCount}
 use Rattle.shape.specs.Marks.{held, unused}
 use Rattle.poly.specs.Counting.{All}
+use Rattle.callers.specs.Sets.{sharedAll}
 use Rattle.session.specs.declared.Session.{Session}
-use Rattle.session.specs.Sessions.{shapeOf, marked}
+use Rattle.session.specs.Sessions.{shapeOf, summedRow}
 use Rattle.session.specs.Rows.{rowAt, combined}
 use Rattle.opening.specs.Walking.{recordLength}
 use Rattle.product_masks.specs.Masks.{maskRow, maskNumbersOf}
@@ -20,21 +21,26 @@ use Rattle.product_masks.proofs.Passed.{Factored}
 use Rattle.terms.specs.declared.Term.{Term}
 use Rattle.terms.specs.Listed.{productsOf}
 use Rattle.relation.specs.Masks.{termMasks}
-use Rattle.relation.specs.Finish.{recordA, recordB, termMaskA, termMaskB, withProducts, withSum, finishedTerms, relationDone}
+use Rattle.relation.specs.Finish.{recordA, recordB, termMaskA, termMaskB, withProducts, withSum, finishedTerms, relationDone, numberRow, numberRows}
 use Rattle.relation.proofs.Passed.{AllAt, Enough, Agreed, RelationFinishPlaced, RelationFinished}
 use Rattle.vectors.specs.Vector.{Vector, numbers}
 use Rattle.vectors.proofs.Linear.{length-numbers}
 use Rattle.runs.specs.Draws.{pointOf, planShape}
-use Rattle.runs.specs.Outline.{takes, Move, actsIn, maskings, finishing, summing}
+use Rattle.runs.specs.Outline.{takes, Move, actsIn, maskings, finishing, summing, summand, rowsIn}
 use Rattle.runs.specs.Calls.{Actual, pieces}
-use Rattle.runs.proofs.Marks.{Marks, rememberedA, rememberedB, remarked, noNumbers, sessionAt, less, maskVectorA, maskVectorB, marksAll, numberIn, vectorsAll, openedAll}
+use Rattle.runs.proofs.Marks.{Marks, rememberedA, rememberedB, remarked, withSets, noNumbers, sessionAt, less, maskVectorA, maskVectorB, marksAll, numberIn, vectorsAll, openedAll}
 use Rattle.runs.proofs.Packs.{rowFor}
-use Rattle.runs.proofs.Holds.{Holds, wide, Holder, sessionOf, held-row, combined-row}
+use Rattle.runs.proofs.Holds.{Holds, holds-sets, wide, Holder, sessionOf, held-row, combined-row}
 use Rattle.runs.proofs.Finishing.{Trusted, trusted-any, opens-a, opens-b, opened-is}
 use Rattle.runs.proofs.Relations.{apart, Waits, finishedAll}
 use Rattle.runs.proofs.Related.{multipliedAll, openedTerms, marks-products, vectors-products, opened-products, sum-holds, OpensTo, products-hold, finished-session, cut-is}
 use Rattle.runs.proofs.Allowed.{waiting, sum-allowed}
 use Rattle.runs.proofs.Standing.{own-numbers, FitsWith, SaysAll}
+
+-- the rows of a relation's sum
+pub rows-in : (ts : List Term) → rowsIn (map summand ts) ≡ numberRows ts
+rows-in [] = refl
+rows-in (t ∷ ts) = ap (λ (rs : List ℕ). numberRow t ∷ rs) (rows-in ts)
 
 module _ (H : Holder) where
   open Holder H using (plan, draw, len, post as i, marks as M, opened as Y, vec, rows as l, holds as h)
@@ -137,7 +143,7 @@ module _ (H : Holder) where
   -- then the sum
   pub summed-up : (ts : List Term) (d : ℕ) (blocks : List ℕ) (f : RelationFinished s l ts d blocks)
       → All (λ m. FitsWith plan draw i M vec (takes (m .0)) (m .1)) (finishing {K = Actual} (2 * length (productsOf ts)) blocks 0 (productsOf ts) ++ summing d ts)
-      → (relationDone s l blocks (productsOf ts) d
+      → (relationDone s l blocks (productsOf ts) ts d
       ≡ sessionAt plan draw i (marksAll (actsIn (finishing {K = Actual} (2 * length (productsOf ts)) blocks 0 (productsOf ts) ++ summing d ts)) M)
       (openedAll plan draw numberIn (finishing {K = Actual} (2 * length (productsOf ts)) blocks 0 (productsOf ts) ++ summing d ts) M vec Y))
       × Holds plan draw len i (marksAll (actsIn (finishing {K = Actual} (2 * length (productsOf ts)) blocks 0 (productsOf ts) ++ summing d ts)) M)
@@ -153,10 +159,10 @@ module _ (H : Holder) where
       let H' : Holder = record { plan = plan; draw = draw; len = len; post = i; marks = N; opened = Y; vec = multipliedAll fs M vec; rows = rows; holds = hp } in
       let last = summing d (t ∷ ts) in
       let marks-are = marks-products plan draw (2 * length fs) blocks last 0 fs M in (
-        ap (λ (x : Session). marked x d held) (session-now (t ∷ ts) d blocks f fit)
+        ap₂ (λ (x : Session) (rs : List ℕ). summedRow x d rs) (session-now (t ∷ ts) d blocks f fit) (sym (rows-in (t ∷ ts)))
             ∙ sym (ap₂ (sessionAt plan draw i) marks-are (opened-products plan draw (2 * length fs) blocks last 0 fs M vec Y)),
         subst (λ (Q : Marks). Holds plan draw len i Q (vectorsAll plan draw numberIn (finishing {K = Actual} (2 * length fs) blocks 0 fs ++ last) M vec) (withSum s d (t ∷ ts) rows))
             (sym marks-are)
-            (subst (λ (v : ℕ → Vector). Holds plan draw len i (remarked N d held) v (withSum s d (t ∷ ts) rows)) (sym (vectors-products plan draw (2 * length fs) blocks last 0 fs M vec))
-            (sum-holds H' M Y d (sum .r-low) (hp .long ∙ sym (h .long) ∙ f .checked .framed .sized .length-is) (sum .r-empty) t ts (sum .held))),
+            (subst (λ (v : ℕ → Vector). Holds plan draw len i (withSets (remarked N d held) (sharedAll (N .sets) d (rowsIn (map summand (t ∷ ts))))) v (withSum s d (t ∷ ts) rows)) (sym (vectors-products plan draw (2 * length fs) blocks last 0 fs M vec))
+            (holds-sets plan draw len i (remarked N d held) _ _ _ (sum-holds H' M Y d (sum .r-low) (hp .long ∙ sym (h .long) ∙ f .checked .framed .sized .length-is) (sum .r-empty) t ts (sum .held)))),
       )

@@ -26,6 +26,7 @@ use Rattle.terms.specs.declared.Term.{Term}
 use Rattle.terms.specs.Listed.{productsOf, collected}
 use Rattle.relation.specs.Masks.{relationMasksAnswer, relationMasksOut}
 use Rattle.relation.specs.Finish.{relationFinishAnswer, relationFinishRows}
+use Rattle.access.specs.Access.{accessAnswer}
 use Rattle.forms.specs.Lines as Line
 use Rattle.forms.specs.Lines.{text}
 use Rattle.runs.specs.Draws.{Plan, Draw, pointOf}
@@ -75,8 +76,11 @@ module _ {K : Kinds} where
   abbrev pub relationFinish : (terms : List Term) (r : ℕ) (blocks : K .Record) → CallOf K
   relationFinish terms r blocks = CallOf.relationFinish (record { terms = terms; r = r; blocks = blocks })
 
-abbrev pub message : (r : ℕ) (lent : List ℕ) → Call
-message r lent = CallOf.message (record { r = r; lent = lent; heard = tt })
+  abbrev pub access : (line : List ℕ) → CallOf K
+  access line = CallOf.access (record { line = line })
+
+abbrev pub message : (r caller : ℕ) (lent : List ℕ) → Call
+message r caller lent = CallOf.message (record { r = r; caller = caller; lent = lent; heard = tt })
 
 -- What a call leaves: its answer, the rows, and what stands in the list it was lent to write into, a part for each line that it
 -- sends (none where it was lent no list).
@@ -102,7 +106,8 @@ perform (CallOf.loadTriple x) q =
 perform (CallOf.deal x) q =
     performed (dealAnswer (q .session) (q .rows) (x .r) (x .c)) (dealRows (q .session) (q .rows) (x .r) (x .c)) []
 perform (CallOf.message x) q =
-    performed (messageAnswer (q .session) (q .rows) (x .r) (x .lent)) (q .rows) (messageOut (q .session) (q .rows) (x .r) (x .lent) ∷ [])
+    performed (messageAnswer (q .session) (q .rows) (x .r) (x .caller) (x .lent)) (q .rows)
+    (messageOut (q .session) (q .rows) (x .r) (x .caller) (x .lent) ∷ [])
 perform (CallOf.opening x) q = performed (openAnswer (q .session) (q .rows) (x .r) (x .blocks)) (q .rows) []
 perform (CallOf.linear x) q =
     performed (linearAnswer (q .session) (q .rows) (x .r) (x .a) (x .b) (x .scale) (x .fee))
@@ -119,6 +124,7 @@ perform (CallOf.relationMasks x) q =
 perform (CallOf.relationFinish x) q =
     performed (relationFinishAnswer (q .session) (q .rows) (collected (x .terms)) (x .r) (x .blocks))
     (relationFinishRows (q .session) (q .rows) (collected (x .terms)) (x .r) (x .blocks)) []
+perform (CallOf.access x) q = performed (accessAnswer (q .session) (x .line)) (q .rows) []
 
 -- The post after a call; and a new one, "made with the draw's n and t, its own number and the check point the draw gives it,
 -- and with any fixed numbers in the row list".

@@ -3,3 +3,4 @@ pub mod Outline
 pub mod Calls
 pub mod Packs
 pub mod Sent
+pub mod Callers

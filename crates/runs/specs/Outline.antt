@@ -35,8 +35,14 @@ pub record ForDeal (K : Kinds) : Type 0 where
 
 pub record ForMessage (K : Kinds) : Type 0 where
   pub r : ℕ
+  -- the post that calls for the opening: one number at all posts
+  pub caller : ℕ
   pub lent : K .Lent
   pub heard : K .Heard
+
+-- Document 02, (xi): a line, the same at all posts.
+pub record ForAccess : Type 0 where
+  pub line : List ℕ
 
 pub record ForOpening (K : Kinds) : Type 0 where
   pub r : ℕ
@@ -86,6 +92,7 @@ pub data CallOf (K : Kinds) : Type 0 where
   multiply : ForMultiply → CallOf K
   relationMasks : ForRelationMasks K → CallOf K
   relationFinish : ForRelationFinish K → CallOf K
+  access : ForAccess → CallOf K
 
 -- ---- What it does and sends, where it is not refused.
 
@@ -95,8 +102,16 @@ pub data Summand : Type 0 where
   times : (s b : ℕ) → Summand
   fee : (k : ℕ) → Summand
 
+-- The rows of a sum.
+abbrev pub rowsIn : List Summand → List ℕ
+rowsIn [] = []
+rowsIn (once a ∷ ts) = a ∷ rowsIn ts
+rowsIn (times s b ∷ ts) = b ∷ rowsIn ts
+rowsIn (fee k ∷ ts) = rowsIn ts
+
 -- An act: row r is loaded; the triple at r is; row r is dealt; row r is opened; row r becomes a sum, of one summand or more; the
--- triple at r waits with the factors a and b; its masks are opened, and the numbers remembered; its third row becomes the product.
+-- triple at r waits with the factors a and b; its masks are opened, and the numbers remembered; its third row becomes the product; a line
+-- says who may call for a row's opening.
 pub data Act : Type 0 where
   loads : (r : ℕ) → Act
   loadsTriple : (r : ℕ) → Act
@@ -106,6 +121,7 @@ pub data Act : Type 0 where
   factors : (a b r : ℕ) → Act
   collects : (r : ℕ) → Act
   multiplies : (r : ℕ) → Act
+  admits : (line : List ℕ) → Act
 
 -- What an act takes from outside: the pack of row r; of the triple at r; the number of row r's dealer; a record of row r; records
 -- of the two masks of the triple at r.
@@ -126,6 +142,7 @@ takes (sums r t ts) = nothingTaken
 takes (factors a b r) = nothingTaken
 takes (collects r) = twoRecords r
 takes (multiplies r) = nothingTaken
+takes (admits line) = nothingTaken
 
 abbrev pub Given : Kinds → Taking → Type 0
 Given K nothingTaken = Unit {0}
@@ -194,6 +211,7 @@ outline (relationMasks x) =
     record { moves = factoring (productsOf (x .terms)); sends = maskings (productsOf (x .terms)); heard = [] }
 outline (relationFinish x) =
     acting (finishing (2 * length (productsOf (x .terms))) (x .blocks) 0 (productsOf (x .terms)) ++ summing (x .r) (x .terms))
+outline (access x) = acting ((admits (x .line), tt) ∷ [])
 
 abbrev pub moves : {K : Kinds} → CallOf K → List (Move K)
 moves c = outline c .moves
@@ -232,7 +250,7 @@ abbrev pub filled : {K K' : Kinds} → Filling K K' → CallOf K → CallOf K'
 filled f (loadRow x) = loadRow (record { r = x .r; pack = f .row (x .pack) })
 filled f (loadTriple x) = loadTriple (record { r = x .r; pack = f .triple (x .pack) })
 filled f (deal x) = deal (record { r = x .r; c = f .number (x .r) (x .c) })
-filled f (message x) = message (record { r = x .r; lent = f .lent (x .lent); heard = f .heard (x .heard) })
+filled f (message x) = message (record { r = x .r; caller = x .caller; lent = f .lent (x .lent); heard = f .heard (x .heard) })
 filled f (opening x) = opening (record { r = x .r; blocks = f .blocks (x .blocks) })
 filled f (linear x) = linear x
 filled f (masks x) = masks (record { a = x .a; b = x .b; r = x .r; lent = f .lent (x .lent) })
@@ -240,3 +258,4 @@ filled f (collect x) = collect (record { r = x .r; blocksA = f .blocks (x .block
 filled f (multiply x) = multiply x
 filled f (relationMasks x) = relationMasks (record { terms = x .terms; lent = f .lent (x .lent) })
 filled f (relationFinish x) = relationFinish (record { terms = x .terms; r = x .r; blocks = f .blocks (x .blocks) })
+filled f (access x) = access x

@@ -7,7 +7,7 @@ use mathlib.Core.List.{List, [], _∷_, _++_, map}
 use lib.ListN.{length}
 use Rattle.terms.specs.declared.Term.{Term}
 use Rattle.terms.specs.Listed.{productsOf}
-use Rattle.runs.specs.Outline.{Kinds, CallOf, loadRow, loadTriple, deal, message, opening, linear, masks, collect, multiply, relationMasks, relationFinish, Sending, itsOpening, itsMasks, sends}
+use Rattle.runs.specs.Outline.{Kinds, CallOf, loadRow, loadTriple, deal, message, opening, linear, masks, collect, multiply, relationMasks, relationFinish, access, Sending, itsOpening, itsMasks, sends}
 use Rattle.runs.specs.Calls.{Call, Post, perform, pieces}
 
 abbrev pub linesOf : {K : Kinds} → CallOf K → List Sending
@@ -22,6 +22,7 @@ linesOf (collect x) = []
 linesOf (multiply x) = []
 linesOf (relationMasks x) = map (λ t. itsMasks (t .row) (t .second) (t .first)) (productsOf (x .terms))
 linesOf (relationFinish x) = []
+linesOf (access x) = []
 
 -- What the lists of a relation's masks make together.
 abbrev pub joined : List (List ℕ) → List ℕ

@@ -21,7 +21,7 @@ use Rattle.opening.specs.Opening.{openRefusal}
 use Rattle.opening.proofs.Passed.{walkTests, walk-few, OpenChecked, row-opened}
 use Rattle.vectors.specs.Vector.{number}
 use Rattle.runs.specs.Draws.{Draw, rawPack, triplePack}
-use Rattle.runs.specs.Outline.{loadRow, loadTriple, deal, message, opening, linear, masks, collect, multiply, relationMasks, relationFinish, aRecord}
+use Rattle.runs.specs.Outline.{loadRow, loadTriple, deal, message, opening, linear, masks, collect, multiply, relationMasks, relationFinish, access, aRecord}
 use Rattle.runs.specs.Calls.{Post, Call, Performed, perform}
 use Rattle.runs.proofs.Marks.{sessionAt}
 use Rattle.runs.proofs.Outcomes.{Doing, does, refusalOf, refusal-is, value-is}
@@ -169,7 +169,7 @@ module _ (T : Two) (m : Moments) (R : Pair T m)
     λ z. refl,
   )
   alike (message x) rule =
-      (Twins.message-same twin (x .r) _ _ (as-long (x .lent)), λ z. refl)
+      (Twins.message-same twin (x .r) (x .caller) _ _ (as-long (x .lent)), λ z. refl)
   alike (opening x) rule = (
     Twins.open-same twin (x .r) (x .blocks i lines) (walk-same (x .r) (x .blocks) rule),
     opened-same (x .r) (x .blocks) rule,
@@ -188,6 +188,7 @@ module _ (T : Two) (m : Moments) (R : Pair T m)
       (Relations.relation-masks-same twin (x .terms) _ _ (as-long (x .lent)), λ z. refl)
   alike (relationFinish x) rule =
       (Relations.relation-finish-same twin (x .terms) (x .r) (x .blocks i lines) (λ r five. wait-numbers T m R r (inl five)), λ z. refl)
+  alike (access x) rule = (Twins.access-same twin (x .line), λ z. refl)
 
   refusals : (c : Step) → Rule (T .plan) c (refusalOf (c1 c) p1) lines → refusalOf (c1 c) p1 ≡ refusalOf (c2 c) p2
   refusals c rule = alike c rule .0

@@ -14,7 +14,7 @@ use Rattle.shape.specs.Marks.{held, spent}
 use Rattle.vectors.specs.Vector.{Vector, number}
 use Rattle.vectors.proofs.Linear.{number-plusTimes}
 use Rattle.runs.specs.Draws.{Plan, Draw}
-use Rattle.runs.specs.Outline.{Act, loads, loadsTriple, deals, opens, Summand, once, times, fee, sums, factors, collects, multiplies}
+use Rattle.runs.specs.Outline.{Act, loads, loadsTriple, deals, opens, Summand, once, times, fee, sums, factors, collects, multiplies, admits}
 use Rattle.runs.specs.Calls.{at}
 use Rattle.runs.proofs.Marks.{Marks, Sized, markOf, zeroVector, worthVector, totalVector, rawVector, Masking, none, of, masking, Masked, marksBy, at-other}
 use Rattle.runs.proofs.Facts.{Maskable, AllowedBy, AllowedAll}
@@ -77,6 +77,7 @@ module _ (u : Secrets) where
   noted-is (factors x y r) b = (refl, refl)
   noted-is (collects r) b = (refl, refl)
   noted-is (multiplies r) b = (refl, refl)
+  noted-is (admits line) b = (refl, refl)
 
   -- a held row's place stays; so do the numbers noted for a triple whose masks were made
   pub place-by : (M : Marks) (b : Book) (a : Act) → AllowedBy a M → (x : ℕ) → markOf M x ≡ held → enteredBy u a b .place x ≡ b .place x
@@ -88,6 +89,7 @@ module _ (u : Secrets) where
   place-by M b (factors y z r) al x two = refl
   place-by M b (collects r) al x two = refl
   place-by M b (multiplies r) al x two = at-other (b .place) (r + 2) _ x (λ e. omega (arith, ap (markOf M) e, al .0 .third))
+  place-by M b (admits line) al x two = refl
 
   notes-stay : (M : Marks) (b : Book) (m : Masking) → Maskable m M → (x : ℕ) → Past M x
       → (notedA m b x ≡ b .factorA x) × (notedB m b x ≡ b .factorB x)

@@ -44,3 +44,5 @@ pub mod Thirteen
 pub mod Thirteens
 pub mod Never
 pub mod PointsShown
+pub mod Called
+pub mod ForCallers

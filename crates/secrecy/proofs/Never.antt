@@ -14,7 +14,7 @@ use Rattle.linear.specs.Linear.{linearTests, linearRefusal}
 use Rattle.product_masks.specs.Masks.{masksTests, masksRefusal}
 use Rattle.multiply.specs.Multiply.{multiplyTests, multiplyRefusal}
 use Rattle.vectors.specs.Vector.{Vector}
-use Rattle.runs.specs.Outline.{loadRow, loadTriple, deal, message, opening, linear, masks, collect, multiply, relationMasks, relationFinish, moves}
+use Rattle.runs.specs.Outline.{loadRow, loadTriple, deal, message, opening, linear, masks, collect, multiply, relationMasks, relationFinish, access, moves}
 use Rattle.runs.specs.Calls.{Post, newPost, after}
 use Rattle.runs.proofs.Marks.{Marks, sessionAt}
 use Rattle.runs.proofs.Outcomes as Outcomes
@@ -24,6 +24,7 @@ use Rattle.runs.proofs.Start.{sizes}
 use Rattle.secrecy.specs.Steps.{Step, callAt}
 use Rattle.secrecy.specs.Seen.{Entry, Seen, doneAt, linesOf, entryOf, run, dealLines, seen}
 use Rattle.secrecy.specs.Rules.{SameAnswers, Rule, Rules, refusalOf}
+use Rattle.access.specs.Access.{accessTests, accessRefusal}
 use Rattle.secrecy.specs.Book.{Book}
 use Rattle.secrecy.specs.Claim.{NeverThirteen}
 use Rattle.secrecy.proofs.State.{Run, Moment, State}
@@ -65,9 +66,9 @@ module _ (C : Run) (m : Moment) (S : State C m) (i : ℕ) (lo : 1 ≤ i) (hi : i
   unfolding dealRefusal
   deal-never r c e = low (dealTests s l r c) (omega arith) e
 
-  message-never : (r : ℕ) (out : List ℕ) → messageRefusal s l r out ≡ 13 → ⊥
+  message-never : (r caller : ℕ) (out : List ℕ) → messageRefusal s l r caller out ≡ 13 → ⊥
   unfolding messageRefusal
-  message-never r out e = low (messageTests s l r out) (omega arith) e
+  message-never r caller out e = low (messageTests s l r caller out) (omega arith) e
 
   linear-never : (r a b scale fee : ℕ) → linearRefusal s l r a b scale fee ≡ 13 → ⊥
   unfolding linearRefusal
@@ -81,11 +82,15 @@ module _ (C : Run) (m : Moment) (S : State C m) (i : ℕ) (lo : 1 ≤ i) (hi : i
   unfolding multiplyRefusal
   multiply-never r e = low (multiplyTests s l r) (omega arith) e
 
+  access-never : (line : List ℕ) → accessRefusal s line ≡ 13 → ⊥
+  unfolding accessRefusal
+  access-never line e = low (accessTests s line) (omega arith) e
+
   never-here : (c : Step) → Rule plan c 13 lines → Outcomes.refusalOf (callAt plan draw u lines i c) at-post ≡ 13 → ⊥
   never-here (loadRow x) rule e = load-never (x .r) _ e
   never-here (loadTriple x) rule e = triple-never (x .r) _ e
   never-here (deal x) rule e = deal-never (x .r) _ e
-  never-here (message x) rule e = message-never (x .r) _ e
+  never-here (message x) rule e = message-never (x .r) (x .caller) _ e
   never-here (opening x) rule e =
       opening-never C m S i lo hi (x .r) (x .blocks i lines) (λ j lj hj ne there. rule (inr (inr refl)) i j lo hi lj hj ne there) e
   never-here (linear x) rule e = linear-never (x .r) (x .a) (x .b) (x .scale) (x .fee) e
@@ -97,6 +102,7 @@ module _ (C : Run) (m : Moment) (S : State C m) (i : ℕ) (lo : 1 ≤ i) (hi : i
   never-here (relationMasks x) rule e = relation-masks-never C m S i lo hi (x .terms) _ e
   never-here (relationFinish x) rule e =
       relation-finish-never C m S i lo hi (x .terms) (x .r) (x .blocks) e (every-all _ (moves (relationFinish x)) rule)
+  never-here (access x) rule e = access-never (x .line) e
 
   never-at : (c : Step) → Rule plan c 13 lines → Outcomes.refusalOf (callAt plan draw u lines i c) (q i) ≡ 13 → ⊥
   never-at c rule e =

@@ -7,7 +7,7 @@ use native.Mathlib.Omega.{arith}
 use Rattle.poly.specs.Counting.{All}
 use Rattle.parts.specs.Draw.{eachFrom}
 use Rattle.runs.specs.Draws.{rawPack, triplePack}
-use Rattle.runs.specs.Outline.{CallOf, loadRow, loadTriple, deal, message, opening, linear, masks, collect, multiply, relationMasks, relationFinish}
+use Rattle.runs.specs.Outline.{CallOf, loadRow, loadTriple, deal, message, opening, linear, masks, collect, multiply, relationMasks, relationFinish, access}
 use Rattle.runs.specs.Calls.{Post, Call, perform, after}
 use Rattle.runs.proofs.Outcomes.{refusalOf, refusal-is, does, own, done, refused}
 use Rattle.secrecy.specs.Steps.{Step, PackAt, packed, callAt, heardFrom}
@@ -78,6 +78,7 @@ module _ (T : Two) (m : Moments) (R : Pair T m) where
     kept-same i lo hi (multiply x) y e f rule = refl
     kept-same i lo hi (relationMasks x) y e f rule = refl
     kept-same i lo hi (relationFinish x) y e f rule = refl
+    kept-same i lo hi (access x) y e f rule = refl
 
     stays-same : (j i : ℕ) (lo : 1 ≤ i) (hi : i ≤ T .plan .n) → k ≡ j → RawSame i → TripleSame i → q i ≡ q' i
         → after (perform (c1 i c) (q i)) ≡ after (perform (c2 i c) (q' i))

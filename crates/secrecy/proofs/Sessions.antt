@@ -71,4 +71,5 @@ module _ (T : Two) (m : Moments) (R : Pair T m) (c : Step) (i : ℕ) (lo : 1 ≤
         «factor_b» = marksAll (acts c) M .factor-b;
         «y_a» = O' .y-a;
         «y_b» = O' .y-b;
+        barred = marksAll (acts c) M .sets;
       }

@@ -23,7 +23,7 @@ use Rattle.vectors.proofs.Linear.{length-numbers}
 use Rattle.forms.specs.Lines as Line
 use Rattle.forms.specs.Lines.{text}
 use Rattle.runs.specs.Draws.{Plan, planShape, Draw, IsDraw, Sound, IsRaw, Raw, by, whenRaw, rawDraw, rawPack, triplePack}
-use Rattle.runs.specs.Outline.{Act, loads, loadsTriple, deals, opens, Summand, once, times, fee, sums, factors, collects, multiplies, Taking, nothingTaken, aRowPack, aTriplePack, aNumber, aRecord, twoRecords, takes, Given, Move, moves, actsIn, acts, sends}
+use Rattle.runs.specs.Outline.{Act, loads, loadsTriple, deals, opens, Summand, once, times, fee, sums, factors, collects, multiplies, admits, Taking, nothingTaken, aRowPack, aTriplePack, aNumber, aRecord, twoRecords, takes, Given, Move, moves, actsIn, acts, sends}
 use Rattle.runs.specs.Calls.{Post, Actual, openingLine, masksLine, Among}
 use Rattle.runs.proofs.Outlines.{every-all, givenBy, filledMove, moves-filled}
 use Rattle.runs.proofs.Marks.{Marks, Sized, markOf, rememberedA, rememberedB, maskVectorA, maskVectorB, written, noNumbers, sessionAt, none, marksBy, vectorsBy, marksAll, vectorsAll, at-same, Masked}
@@ -169,6 +169,7 @@ module _ (C : Run) where
       meant (factors x y r) t al rule = (at-same (b .factorA) r (b .place x), at-same (b .factorB) r (b .place y))
       meant (collects r) blocks al rule = tt
       meant (multiplies r) x al rule = product-is r (al .0) ∙ ap element (sym (at-same (b .place) (r + 2) _))
+      meant (admits line) x al rule = tt
 
     pub facts-step : (M : Marks) (vec : ℕ → Vector) (b : Book) (a : Act) (x : Given Fixed (takes a)) → Sized M → AllowedBy a M
         → RuleWith plan 0 lines (takes a) x → Facts plan draw (Held b) (Waits b) M vec

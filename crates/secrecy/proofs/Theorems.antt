@@ -27,7 +27,7 @@ agrees-one : (k : ℕ) (b b' : Book) (s : Sending) → AgreesBy k b b' s → Agr
 agrees-one k b b' (itsOpening r) e = λ z. sym (e z)
 agrees-one k b b' (itsMasks x y r) e = tt
 
-agrees-back : (c : Step) (k : ℕ) (b b' : Book) → Agrees c k b b' → Agrees c k b' b
+pub agrees-back : (c : Step) (k : ℕ) (b b' : Book) → Agrees c k b b' → Agrees c k b' b
 agrees-back c k b b' e =
     all-every (AgreesBy k b' b) (sends c) (all-map (agrees-one k b b') (sends c) (every-all (AgreesBy k b b') (sends c) e))
 

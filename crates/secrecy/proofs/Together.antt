@@ -15,7 +15,7 @@ use Rattle.shape.specs.Bounds.{rowCount, lastTriple}
 use Rattle.shape.specs.Marks.{empty, raw, held, unused, further, masked, spent, collected}
 use Rattle.vectors.specs.Vector.{Vector, raised, number}
 use Rattle.runs.specs.Draws.{pointOf, planShape}
-use Rattle.runs.specs.Outline.{Act, loads, loadsTriple, deals, opens, Summand, once, times, fee, sums, factors, collects, multiplies, takes, Given, Move, moves, actsIn, acts, sends}
+use Rattle.runs.specs.Outline.{Act, loads, loadsTriple, deals, opens, Summand, once, times, fee, sums, factors, collects, multiplies, admits, takes, Given, Move, moves, actsIn, acts, sends}
 use Rattle.runs.specs.Calls.{at}
 use Rattle.runs.proofs.Outlines.{every-all}
 use Rattle.runs.proofs.Marks.{Marks, Opened, openedBy, openedAll, markOf, remarked, finished, maskVectorA, maskVectorB, zeroVector, worthVector, totalVector, productSum, written, Masking, none, of, masking, marksBy, vectorsBy, marksAll, vectorsAll, at-same, at-other}
@@ -148,6 +148,7 @@ module _ (T : Two) (lines : List (List ℕ)) (ds : Dealt (runOne T) lines) (ds' 
     near-by (factors x y r) t al rule = near-mark M vec vec' (K .near) r masked (nonzero M r (al .1 .first))
     near-by (collects r) blocks al rule = near-mark M vec vec' (K .near) r collected (nonzero M r (al .0 .first))
     near-by (multiplies r) x al rule = near-finish r (al .0)
+    near-by (admits line) x al rule = K .near
 
     opened-by : (a : Act) → AllowedBy a M → (Y : Opened) → openedBy a M vec Y ≡ openedBy a M vec' Y
     opened-by (loads r) al Y = refl
@@ -160,6 +161,7 @@ module _ (T : Two) (lines : List (List ℕ)) (ds : Dealt (runOne T) lines) (ds' 
         let w = core-wait T M vec vec' b b' K r (inl (al .0 .first)) (omega (arith, al .0 .r-low)) in
         ap₂ (λ (x y : Element). record { y-a = set (Y .y-a) r (x .0); y-b = set (Y .y-b) r (y .0) }) (w .0) (w .1)
     opened-by (multiplies r) al Y = refl
+    opened-by (admits line) al Y = refl
 
     -- a triple whose masks the act makes: they are those that were reckoned with
     masked-now : (m : Masking) → FitBy T m b b' → (r : ℕ) → MasksBy m r

@@ -14,7 +14,8 @@ use Rattle.refusal.specs.Refusal.{Test, _when_, first, AllFail}
 use Rattle.refusal.specs.Conditions.{beyond, anyBeyond}
 use Rattle.refusal.proofs.Laws.{not-refused}
 use Rattle.session.specs.declared.Session.{Session}
-use Rattle.session.specs.Sessions.{sessionTests}
+use Rattle.access.specs.Access.{accessRefusal}
+use Rattle.session.specs.Sessions.{sessionTests, barredFrom}
 use Rattle.session.specs.Rows.{rowAt, combined}
 use Rattle.session.specs.Checks.{frameTests, noRow, noTriple, wrongMark}
 use Rattle.load.specs.Load.{loadRowRefusal, loadTripleRefusal}
@@ -148,13 +149,17 @@ module _ (T : Twin) where
       behind (dealPlace s r c) (dealLate (anyBeyond (rowAt W l r))) (dealLate (anyBeyond (rowAt W l' r))) (λ fr f.
       let k = deal-placed s r c f in ap (λ (b : Bool). first (dealLate b)) (elements-same r (k .row-in) (k .is-raw)))
 
-  -- of a list to write into only the length is looked at
-  pub message-same : (r : ℕ) (lent lent' : List ℕ) → length lent ≡ length lent' → messageRefusal s l r lent ≡ messageRefusal s l' r lent'
+  -- of a list to write into only the length is looked at; the sets are the same in both, so 15 is
+  pub message-same : (r caller : ℕ) (lent lent' : List ℕ) → length lent ≡ length lent' → messageRefusal s l r caller lent ≡ messageRefusal s l' r caller lent'
   unfolding messageRefusal
-  message-same r lent lent' e =
-      behind (messagePlace s r lent) (messageLate (anyBeyond (rowAt W l r))) (messageLate (anyBeyond (rowAt W l' r))) (λ fr f.
-      let k = message-placed s r lent f in ap (λ (b : Bool). first (messageLate b)) (elements-same r (k .row-in) (k .is-held)))
+  message-same r caller lent lent' e =
+      behind (messagePlace s r lent) (messageLate (anyBeyond (rowAt W l r)) ++ (15 when barredFrom s r caller ∷ []))
+      (messageLate (anyBeyond (rowAt W l' r)) ++ (15 when barredFrom s r caller ∷ [])) (λ fr f.
+      let k = message-placed s r lent f in ap (λ (b : Bool). first (messageLate b ++ (15 when barredFrom s r caller ∷ []))) (elements-same r (k .row-in) (k .is-held)))
       ∙ rw e
+
+  pub access-same : (line : List ℕ) → accessRefusal s line ≡ accessRefusal s line
+  access-same line = refl
 
   pub linear-same : (r a b scale fee : ℕ) → linearRefusal s l r a b scale fee ≡ linearRefusal s l' r a b scale fee
   unfolding linearRefusal

@@ -5,7 +5,7 @@ use mathlib.Core.Path.{_≡_}
 use mathlib.Core.List.{List, [], _∷_}
 use Rattle.field.specs.Arithmetic.{sum, product}
 use Rattle.refusal.specs.Refusal.{outcome}
-use Rattle.runs.specs.Outline.{Act, loads, loadsTriple, deals, opens, Summand, once, times, fee, sums, factors, collects, multiplies, acts, Sending, itsOpening, itsMasks, sends, Every}
+use Rattle.runs.specs.Outline.{Act, loads, loadsTriple, deals, opens, Summand, once, times, fee, sums, factors, collects, multiplies, admits, acts, Sending, itsOpening, itsMasks, sends, Every}
 use Rattle.runs.specs.Calls.{at}
 use Rattle.secrecy.specs.Steps.{Secrets, Step}
 use Rattle.secrecy.specs.Seen.{Entry}
@@ -48,6 +48,7 @@ enteredBy u (sums r t ts) b = placed b r (total (b .place) t ts)
 enteredBy u (factors x y r) b = noted b r (b .place x) (b .place y)
 enteredBy u (collects r) b = b
 enteredBy u (multiplies r) b = placed b (r + 2) (product (b .factorA r) (b .factorB r))
+enteredBy u (admits line) b = b
 
 abbrev pub enteredAll : Secrets → List Act → Book → Book
 enteredAll u [] b = b

@@ -5,3 +5,4 @@ pub mod Book
 pub mod Claim
 pub mod Count
 pub mod Points
+pub mod Callers

@@ -10,7 +10,7 @@ use Rattle.factory.specs.Calls.{dealerNumber}
 use Rattle.runs.specs.Draws.{Plan, Draw, whenRaw, rawDraw, rawPack, triplePack}
 use Rattle.runs.specs.Outline.{cut, Kinds, CallOf, outline, Filling, filled}
 use Rattle.runs.specs.Calls.{Actual, Call}
-pub use Rattle.runs.specs.Calls.{loadRow, loadTriple, deal, opening, linear, masks, collect, multiply, relationMasks, relationFinish}
+pub use Rattle.runs.specs.Calls.{loadRow, loadTriple, deal, opening, linear, masks, collect, multiply, relationMasks, relationFinish, access}
 
 -- "A list of secrets gives one u for each row with a dealer."
 abbrev pub Secrets : Type 0
@@ -72,8 +72,8 @@ Fixed =
 abbrev pub Step : Type 0
 Step = CallOf Fixed
 
-abbrev pub message : (r : ℕ) (lent : Lent) (heard : ℕ → Bool) → Step
-message r lent heard = CallOf.message (record { r = r; lent = lent; heard = heard })
+abbrev pub message : (r caller : ℕ) (lent : Lent) (heard : ℕ → Bool) → Step
+message r caller lent heard = CallOf.message (record { r = r; caller = caller; lent = lent; heard = heard })
 
 abbrev pub packNumber : Draw → Secrets → PackNumber → ℕ
 packNumber draw u (fixed x) = x

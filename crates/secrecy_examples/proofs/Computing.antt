@@ -1,4 +1,5 @@
 -- What an example's group sees, by computing: `unfolding sees` opens the definitions of the calls.
+use Rattle.callers.specs.Sets.{shared}
 use Rattle.field.specs.Arithmetic.{sum, product, difference, euclid, inverse}
 use Rattle.poly.specs.Polynomial.{value}
 use Rattle.poly.specs.Interpolation.{nodal, weight, terms, interpolated}
@@ -32,5 +33,5 @@ use Rattle.secrecy.specs.Seen.{Seen, posts, allRows, joined, entryOf, run, poly
 use Rattle.secrecy_examples.specs.Example.{Example, seenOf}
 
 unfoldable pub sees : Example → Seen
-unfolding sum product difference euclid inverse value nodal weight terms interpolated outcome anyBeyond eachFrom part dealerRefusal combined plusSums created badPoints loadRowRefusal loadTripleRefusal withTriple dealRefusal messageRefusal linearRefusal Blocks.badBlock Blocks.badBlocks Blocks.sent Accepting.accepts Accepting.share Accepting.passing Accepting.walk Accepting.opened Accepting.disagree allPairs openRefusal masksRefusal maskNumbersOf collectRefusal multiplyRefusal productRow withProduct productsOf padded eachAt namedIn namedTwice relationMasksRefusal maskedTerms termMasks recordTests relationFinishRefusal withProducts plusTerms finishedTerms lastDigits sizeWithin fields pointOf rawDraw tripleDraw rawPack triplePack perform newPost at dealtNumber posts allRows joined entryOf run polynomialSeen dealSeen pointsSeen rawSeen tripleSeen seen
+unfolding sum product difference euclid inverse value nodal weight terms interpolated outcome anyBeyond eachFrom part dealerRefusal combined plusSums created badPoints loadRowRefusal loadTripleRefusal withTriple dealRefusal messageRefusal linearRefusal Blocks.badBlock Blocks.badBlocks Blocks.sent Accepting.accepts Accepting.share Accepting.passing Accepting.walk Accepting.opened Accepting.disagree allPairs openRefusal masksRefusal maskNumbersOf collectRefusal multiplyRefusal productRow withProduct productsOf padded eachAt namedIn namedTwice relationMasksRefusal maskedTerms termMasks recordTests relationFinishRefusal withProducts plusTerms finishedTerms lastDigits sizeWithin fields pointOf rawDraw tripleDraw rawPack triplePack perform newPost at dealtNumber posts allRows joined entryOf run polynomialSeen dealSeen pointsSeen rawSeen tripleSeen seen shared
 sees x = seenOf x

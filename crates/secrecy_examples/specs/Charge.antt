@@ -35,7 +35,7 @@ stepsWith fee =
     ∷ masks 2 1 3 (λ i. still (replicate 4 0))
     ∷ collect 3 masksA masksB
     ∷ multiply 3
-    ∷ message 5 (λ i. still (replicate 2 0)) (λ i. true)
+    ∷ message 5 1 (λ i. still (replicate 2 0)) (λ i. true)
     ∷ opening 5 charges
     ∷ []
 

@@ -123,7 +123,7 @@ half = 1073741824
 
 -- a message of the posts in a list
 abbrev pub messageOf : ℕ → List ℕ → Step
-messageOf r senders = message r (λ i. still (replicate 3 0)) (λ i. member i senders)
+messageOf r senders = message r 1 (λ i. still (replicate 3 0)) (λ i. member i senders)
 
 -- Refused: packs that differ in kind (7), packs of wrong lengths (5), a deal of a row that is empty, with row 0's c (7), a load into
 -- row 3, which holds a sum by then (7), a triple behind the last row for one (6), a product before its masks are opened (7), a collect

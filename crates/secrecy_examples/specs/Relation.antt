@@ -85,7 +85,7 @@ steps =
     ∷ relationFinish terms 9 (λ i lines. replicate 36 0)
     ∷ relationMasks terms (λ i. still (replicate 8 0))
     ∷ relationFinish terms 9 records
-    ∷ message 9 (λ i. still (replicate 2 0)) (λ i. true)
+    ∷ message 9 1 (λ i. still (replicate 2 0)) (λ i. true)
     ∷ opening 9 messages
     ∷ []
 

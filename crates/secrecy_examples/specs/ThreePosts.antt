@@ -98,10 +98,10 @@ steps =
     ∷ masks 0 1 3 (λ i. still (replicate 4 0))
     ∷ collect 3 masksA masksB
     ∷ collect 3 masksA masksB
-    ∷ message 6 (λ i. still (replicate 2 0)) (λ i. true)
+    ∷ message 6 1 (λ i. still (replicate 2 0)) (λ i. true)
     ∷ multiply 3
     ∷ opening 5 nothing
-    ∷ message 5 used (λ i. true)
+    ∷ message 5 1 used (λ i. true)
     ∷ opening 5 products
     ∷ opening 6 sums
     ∷ []

@@ -131,8 +131,8 @@ three =
 -- The message of row 5 as each post makes it: the list that it is lent holds what was sent of row 6.
 abbrev pub ThreeLent : Type 0
 ThreeLent =
-    map (λ i. callAt (planOf three) draw (secretsOf (three .secrets)) [] i (Steps.message 5 used (λ i. true))) (posts 3)
-    ≡ map (λ i. message 5 (of sumSent i)) (posts 3)
+    map (λ i. callAt (planOf three) draw (secretsOf (three .secrets)) [] i (Steps.message 5 1 used (λ i. true))) (posts 3)
+    ≡ map (λ i. message 5 1 (of sumSent i)) (posts 3)
 
 -- Every post's session at the end: the marks of rows 0 to 7; and of the triple at row 3 the factor rows, 0 and 1, and the numbers that
 -- its masks were opened to, 4 and 2 (P9).

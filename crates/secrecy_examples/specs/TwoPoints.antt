@@ -78,8 +78,8 @@ steps =
     ∷ masks 0 1 2 (λ i. still (replicate 6 0))
     ∷ collect 2 masksA masksB
     ∷ multiply 2
-    ∷ message 4 (λ i. still (replicate 3 0)) (λ i. true)
-    ∷ message 5 (λ i. still (replicate 3 0)) (λ i. true)
+    ∷ message 4 1 (λ i. still (replicate 3 0)) (λ i. true)
+    ∷ message 5 1 (λ i. still (replicate 3 0)) (λ i. true)
     ∷ opening 4 products
     ∷ opening 5 sums
     ∷ []

@@ -6,3 +6,4 @@ pub mod Lawful
 pub mod Tables
 pub mod Kept
 pub mod Placed
+pub mod Sharing

@@ -24,6 +24,9 @@ fields-placed s r = record {
   marked-is = λ m. refl;
   remembering-is = λ a b. refl;
   recalling-is = λ y y'. refl;
+  barred-is = λ c. refl;
+  barring-is = λ sets. refl;
+  sharing-is = λ a b. refl;
 }
 
 rows-placed : (w : ℕ) (rows : List ℕ) (r : ℕ) → RowPlaces w rows r

@@ -22,7 +22,8 @@ CallsLawful =
     (tests : List Test) → Ordered 1 tests → (value : ℕ) (new old : Session) (written before : List ℕ)
     → Lawful tests value new old written before (answer (first tests) value new old) (outcome (first tests) written before)
 
--- A session without rows, in figures: 96 times mark 0, and 96 zeros for the remembered rows and numbers, "0 when new".
+-- A session without rows, in figures: 96 times mark 0, and 96 zeros for the remembered rows and numbers, "0 when new"; 768
+-- zeros where posts would be barred, eight numbers a row: "without that line it is all posts".
 abbrev pub freshSession : ℕ → ℕ → ℕ → ℕ → ℕ → ℕ → Session
 freshSession n t post points first second =
     record {
@@ -37,6 +38,7 @@ freshSession n t post points first second =
       «factor_b» = replicate 96 0;
       «y_a» = replicate 96 0;
       «y_b» = replicate 96 0;
+      barred = replicate 768 0;
     }
 
 -- "A new session has 96 rows, all with mark 0. A refused new session has 0 in every field." The second point stands in it where a post has

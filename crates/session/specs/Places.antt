@@ -1,14 +1,17 @@
 -- Where a session's marks, rows and numbers stand, where the numbers of a row stand, and what a sum of rows is, place by place: what the
 -- definitions say that tables, contracts and claims cite by name. Proved in proofs/Placed.antt.
-use Prim.Native.Nat.{ℕ, _+_, _*_, _≤_, _<_}
+use Prim.Native.Nat.{ℕ, _+_, _*_, _-_, _/_, _%_, _^_, _≤_, _<_}
 use mathlib.Core.Path.{_≡_}
-use mathlib.Core.Bool.{false}
+use mathlib.Core.Bool.{false, _||_}
 use mathlib.Core.List.{List}
+use lib.Dec.{eqb}
 use lib.ListN.{length, getD, set}
 use Rattle.field.specs.Arithmetic.{sum, product}
+use Rattle.refusal.specs.Conditions.{outside}
+use Rattle.callers.specs.Sets.{shared}
 use Rattle.session.specs.declared.Session.{Session}
 use Rattle.session.specs.declared.Answer.{Answer}
-use Rattle.session.specs.Sessions.{mark, factorA, factorB, openedA, openedB, marked, remembering, recalling, holding}
+use Rattle.session.specs.Sessions.{mark, factorA, factorB, openedA, openedB, barredFrom, withBarred, marked, remembering, recalling, sharing, holding}
 use Rattle.session.specs.Checks.{wrongMark}
 use Rattle.session.specs.Rows.{rowAt, withRow, combined, plusSums}
 
@@ -32,6 +35,7 @@ pub record Fields (s : Session) (r : ℕ) : Type 0 where
     «factor_b» = s .«factor_b»;
     «y_a» = s .«y_a»;
     «y_b» = s .«y_b»;
+    barred = s .barred;
   }
   pub remembering-is : (a b : ℕ) → remembering s r a b ≡ record {
     n = s .n;
@@ -45,6 +49,7 @@ pub record Fields (s : Session) (r : ℕ) : Type 0 where
     «factor_b» = set (s .«factor_b») r b;
     «y_a» = s .«y_a»;
     «y_b» = s .«y_b»;
+    barred = s .barred;
   }
   pub recalling-is : (y y' : ℕ) → recalling s r y y' ≡ record {
     n = s .n;
@@ -58,7 +63,27 @@ pub record Fields (s : Session) (r : ℕ) : Type 0 where
     «factor_b» = s .«factor_b»;
     «y_a» = set (s .«y_a») r y;
     «y_b» = set (s .«y_b») r y';
+    barred = s .barred;
   }
+  -- and "a set of posts that may call for its opening" (document 02, (xi)), kept as the posts that may not: of row r eight numbers of 32 bits
+  -- from 8 r on, and post c's bit is c − 1 of these 256
+  pub barred-is : (c : ℕ)
+      → barredFrom s r c ≡ (outside 1 (s .n) c || eqb (getD (s .barred) (8 * r + (c - 1) / 32) 0 / 2 ^ ((c - 1) % 32) % 2) 1)
+  pub barring-is : (sets : List ℕ) → withBarred s sets ≡ record {
+    n = s .n;
+    t = s .t;
+    post = s .post;
+    points = s .points;
+    first = s .first;
+    second = s .second;
+    marks = s .marks;
+    «factor_a» = s .«factor_a»;
+    «factor_b» = s .«factor_b»;
+    «y_a» = s .«y_a»;
+    «y_b» = s .«y_b»;
+    barred = sets;
+  }
+  pub sharing-is : (a b : ℕ) → sharing s r a b ≡ withBarred s (shared 8 (s .barred) r a b)
 
 -- the three parts of an answer
 pub record Parts (refusal value : ℕ) (s : Session) : Type 0 where

@@ -1,6 +1,6 @@
 -- Document 01, "Field, posts, rows": what a session remembers, and a new one.
 use Prim.Native.Nat.{ℕ, _+_}
-use mathlib.Core.Bool.{true, false, cond}
+use mathlib.Core.Bool.{Bool, true, false, cond, _||_}
 use mathlib.Core.List.{List, [], _∷_, _++_}
 use lib.Dec.{eqb}
 use lib.ListN.{getD, set, replicate}
@@ -11,6 +11,7 @@ use Rattle.shape.specs.Marks.{empty, held, unused, further, masked, spent, coll
 use Rattle.shape.specs.Lengths.{shape}
 use Rattle.refusal.specs.Refusal.{Test, _when_, first, outcome}
 use Rattle.refusal.specs.Conditions.{outside, badPoints, postsTests}
+use Rattle.callers.specs.Sets.{setsLength, bars, shared, sharedAll}
 use Rattle.session.specs.declared.Party.{Party}
 use Rattle.session.specs.declared.Session.{Session}
 use Rattle.session.specs.declared.Answer.{Answer}
@@ -45,6 +46,10 @@ openedA s r = getD (s .«y_a») r 0
 abbrev pub openedB : Session → ℕ → ℕ
 openedB s r = getD (s .«y_b») r 0
 
+-- Document 02, (xi): whether a post may not call for row r's opening: "a post outside the set, 0 and any above n too".
+abbrev pub barredFrom : Session → ℕ → ℕ → Bool
+barredFrom s r caller = outside 1 (s .n) caller || bars (s .barred) r caller
+
 -- The session with one part of it anew. These and `sessionOf` name every field; of the statements, `freshSession` does.
 abbrev pub withPoints : Session → Points → Session
 withPoints s w =
@@ -60,6 +65,7 @@ withPoints s w =
       «factor_b» = s .«factor_b»;
       «y_a» = s .«y_a»;
       «y_b» = s .«y_b»;
+      barred = s .barred;
     }
 
 abbrev pub withMarks : Session → List ℕ → Session
@@ -76,6 +82,7 @@ withMarks s marks =
       «factor_b» = s .«factor_b»;
       «y_a» = s .«y_a»;
       «y_b» = s .«y_b»;
+      barred = s .barred;
     }
 
 abbrev pub withFactors : Session → List ℕ → List ℕ → Session
@@ -92,6 +99,7 @@ withFactors s «factor_a» «factor_b» =
       «factor_b» = «factor_b»;
       «y_a» = s .«y_a»;
       «y_b» = s .«y_b»;
+      barred = s .barred;
     }
 
 abbrev pub withOpened : Session → List ℕ → List ℕ → Session
@@ -108,6 +116,25 @@ withOpened s «y_a» «y_b» =
       «factor_b» = s .«factor_b»;
       «y_a» = «y_a»;
       «y_b» = «y_b»;
+      barred = s .barred;
+    }
+
+-- The session with other sets of barred posts.
+abbrev pub withBarred : Session → List ℕ → Session
+withBarred s sets =
+    record {
+      n = s .n;
+      t = s .t;
+      post = s .post;
+      points = s .points;
+      first = s .first;
+      second = s .second;
+      marks = s .marks;
+      «factor_a» = s .«factor_a»;
+      «factor_b» = s .«factor_b»;
+      «y_a» = s .«y_a»;
+      «y_b» = s .«y_b»;
+      barred = sets;
     }
 
 -- Where a post has one check point, the second is 0.
@@ -117,7 +144,7 @@ asMany points w = record { first = w .first; second = cond (eqb points mostPoint
 abbrev pub noPoints : Points
 noPoints = record { first = 0; second = 0 }
 
--- A new session remembers no rows and no numbers: "0 when new".
+-- A new session remembers no rows and no numbers: "0 when new". No post is barred: "without that line it is all posts".
 abbrev pub sessionOf : ℕ → ℕ → ℕ → ℕ → Points → Session
 sessionOf n t post points w =
     record {
@@ -132,6 +159,7 @@ sessionOf n t post points w =
       «factor_b» = replicate rowCount 0;
       «y_a» = replicate rowCount 0;
       «y_b» = replicate rowCount 0;
+      barred = replicate setsLength 0;
     }
 
 -- The session with another mark on row r.
@@ -162,9 +190,21 @@ recalling s r y y' = withOpened s (set (s .«y_a») r y) (set (s .«y_b») r y')
 abbrev pub collectedTriple : Session → ℕ → ℕ → ℕ → Session
 collectedTriple s r y y' = recalling (marked s r collected) r y y'
 
--- "Marks become 6, 6, 2."
+-- Document 02, (xi): "A row made from others has the posts that all of them share": row d bars whom row a or row b bars.
+abbrev pub sharing : Session → ℕ → ℕ → ℕ → Session
+sharing s d a b = withBarred s (shared 8 (s .barred) d a b)
+
+-- So of any rows.
+abbrev pub sharingAll : Session → ℕ → List ℕ → Session
+sharingAll s d rows = withBarred s (sharedAll (s .barred) d rows)
+
+-- A sum of these rows is stored in row d, which becomes held.
+abbrev pub summedRow : Session → ℕ → List ℕ → Session
+summedRow s d rows = marked (sharingAll s d rows) d held
+
+-- "Marks become 6, 6, 2." And "for a product these are its factor rows".
 abbrev pub finishedTriple : Session → ℕ → Session
-finishedTriple s r = markedTriple s r spent spent held
+finishedTriple s r = markedTriple (sharing s (r + 2) (factorA s r) (factorB s r)) r spent spent held
 
 -- An answer that holds these three.
 abbrev pub holding : ℕ → ℕ → Session → Answer

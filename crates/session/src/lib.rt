@@ -7,9 +7,10 @@ pub mod rows;
 use shape::Points;
 use shape::Shape;
 ghost use mathlib.Core.Path.{_≡_};
-ghost use Prim.Native.Nat.{_≤_};
+ghost use Prim.Native.Nat.{_≤_, _<_};
+ghost use mathlib.Core.List.{[], _∷_};
 ghost use Rattle.shape.specs.Bounds.{lastRow, lastTriple};
-ghost use Rattle.session.specs.Sessions.{asMany, shapeOf, partyOf, marked, markedTriple, maskedTriple, collectedTriple, sessionOf, holding, answer, created};
+ghost use Rattle.session.specs.Sessions.{asMany, shapeOf, partyOf, marked, markedTriple, maskedTriple, collectedTriple, sessionOf, holding, answer, created, sharing, summedRow, finishedTriple};
 ghost use Rattle.session.specs.Between.{Allows};
 
 // Who opens a number: the station's shape, the post's own number and its check points.
@@ -18,6 +19,8 @@ pub struct Party {
     pub post: usize,
     pub points: Points,
 }
+
+pub const BARRED: usize = 768;
 
 #[repr(C)]
 pub struct Session {
@@ -36,6 +39,8 @@ pub struct Session {
     // the numbers that the masks of a triple were opened to, at its first row
     pub y_a: [u32; shape::ROWS],
     pub y_b: [u32; shape::ROWS],
+    // the posts that may not call for a row's opening, 32 to a number: eight numbers a row
+    pub barred: [u32; BARRED],
 }
 
 // What a call hands back.
@@ -76,6 +81,7 @@ impl Session {
             factor_b: [0; shape::ROWS],
             y_a: [0; shape::ROWS],
             y_b: [0; shape::ROWS],
+            barred: [0; BARRED],
         }
     }
 
@@ -232,5 +238,45 @@ impl Session {
                 ..self
             },
         }
+    }
+
+    // Row d bars whom row a or row b bars.
+    pub fn shared(self, d: usize, a: usize, b: usize) -> Session
+        requires { ⌜ d < 96 ⌝ }
+        ensures { λ r. ⌜ r ≡ sharing self d a b ⌝ }
+    {
+        let sets = self.barred;
+        let barred = callers::share(sets, d, a, b);
+        Session { barred, ..self }
+    }
+
+    // How linear ends: row d holds the sum of two rows.
+    pub fn answer_summing(self, refusal: u8, d: usize, a: usize, b: usize) -> Answer
+        requires { ⌜ Allows refusal (d ≤ lastRow) × Allows refusal (a ≤ lastRow) × Allows refusal (b ≤ lastRow) ⌝ }
+        ensures { λ r. ⌜ r ≡ answer refusal 0 (summedRow self d (a ∷ b ∷ [])) self ⌝ }
+    {
+        if refusal != 0 {
+            return self.refuse(refusal);
+        }
+        let none = self.shared(d, shape::ROWS, shape::ROWS);
+        let one = none.shared(d, d, a);
+        let two = one.shared(d, d, b);
+        two.answer_marking(0, d, shape::HELD)
+    }
+
+    // How a finish's second call ends: the third row bars whom a factor row bars.
+    pub fn answer_multiplying(self, refusal: u8, first: usize) -> Answer
+        requires { ⌜ Allows refusal (first ≤ lastTriple) ⌝ }
+        ensures { λ r. ⌜ r ≡ answer refusal 0 (finishedTriple self first) self ⌝ }
+    {
+        if refusal != 0 {
+            return self.refuse(refusal);
+        }
+        let factors_a = self.factor_a;
+        let factors_b = self.factor_b;
+        let a = factors_a[first] as usize;
+        let b = factors_b[first] as usize;
+        let shared = self.shared(first + 2, a, b);
+        shared.answer_marking_triple(0, first, shape::SPENT, shape::SPENT, shape::HELD)
     }
 }

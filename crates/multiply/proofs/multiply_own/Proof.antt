@@ -10,4 +10,4 @@ ruleset steps = (needs, same-sized, own-joined)
 pub multiply-own-spec : {M : Type 1} → statement M
 multiply-own-spec =
     tie.close
-    (tie.spec (λ c. search needs) (λ c κs. search needs) (λ c κs. search needs) (λ c κs. search steps) (λ c κs. search needs) (λ c. search steps))
+    (tie.spec (λ c κs. search needs) (λ c κs. search needs) (λ c κs. search steps) (λ c κs. search needs) (λ c. search steps))

@@ -11,4 +11,4 @@ pub answer-marking-spec : {M : Type 1} → statement M
 answer-marking-spec =
     tie.close
     (tie.spec (λ c. search steps)
-    (λ c. ⊎-elim (λ w. rw (w .1) (search steps)) (λ w. rw (w .1) (search steps)) (c .before .before .before .before .if1 .came)))
+    (λ c. ⊎-elim (λ w. rw (w .1) (search steps)) (λ w. rw (w .1) (search steps)) (c .before .before .before .before .before .if1 .came)))

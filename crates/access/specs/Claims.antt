@@ -1,0 +1,46 @@
+-- Demand 1 of the A line, with the flat table for its tests; proved in proofs/Theorems.antt. And what set it leaves, post by post; proved in
+-- proofs/Listed.antt.
+use Prim.Native.Nat.{ℕ, _≤_, _<_}
+use mathlib.Core.Path.{_≡_}
+use mathlib.Core.Logic.{_≢_}
+use mathlib.Core.Bool.{Bool, true, false, not, _||_}
+use mathlib.Core.List.{List, [], _∷_}
+use lib.Dec.{eqb}
+use lib.ListN.{length}
+use Rattle.refusal.specs.Refusal.{Test, _when_, first, AllFail}
+use Rattle.callers.specs.Sets.{bars}
+use Rattle.session.specs.declared.Session.{Session}
+use Rattle.session.specs.Sessions.{withBarred}
+use Rattle.access.specs.Access.{accessFields, accessRow, accessPosts, accessSets, accessAnswer}
+use Rattle.access.specs.Table.{accessTable}
+
+-- A test with this number applies, and none that stands before it. (10 and 11 stand before 7 here, so the numbers' own order does not tell.)
+pub data FirstOf (k : ℕ) : List Test → Type 0 where
+  here : {ts : List Test} → FirstOf k (k when true ∷ ts)
+  later : {j : ℕ} {ts : List Test} → FirstOf k ts → FirstOf k (j when false ∷ ts)
+
+-- It does its one job, or returns the first refusal, with 0 for a value and the session as it came. It is lent no list but the line.
+pub record AccessDone (s : Session) (line : List ℕ) : Type 0 where
+  pub accepts : first (accessTable s line) ≡ 0 → AllFail (accessTable s line)
+  pub only : AllFail (accessTable s line) → first (accessTable s line) ≡ 0
+  pub applies : (first (accessTable s line) ≡ 0 → ⊥) → FirstOf (first (accessTable s line)) (accessTable s line)
+  pub untouched : (first (accessTable s line) ≡ 0 → ⊥)
+      → accessAnswer s line ≡ record { refusal = first (accessTable s line); value = 0; session = s }
+  pub done : first (accessTable s line) ≡ 0
+      → accessAnswer s line ≡ record { refusal = 0; value = 0; session = withBarred s (accessSets line (s .barred)) }
+
+abbrev pub AccessLawful : Type 0
+AccessLawful = (s : Session) (line : List ℕ) → AccessDone s line
+
+-- "`A,row,` and rising post numbers ..., sets it": the row bars just the posts that are not listed, whoever it barred before, and every other
+-- row bars whom it barred.
+abbrev pub listed : ℕ → List ℕ → Bool
+listed c [] = false
+listed c (x ∷ xs) = eqb c x || listed c xs
+
+abbrev pub SetListed : Type 0
+SetListed =
+    (line sets : List ℕ) (c : ℕ) → length sets ≡ 768 → 1 ≤ c → c ≤ 255
+    → (accessRow (accessFields line) < 96
+    → bars (accessSets line sets) (accessRow (accessFields line)) c ≡ not (listed c (accessPosts (accessFields line))))
+    × ((r : ℕ) → r ≢ accessRow (accessFields line) → bars (accessSets line sets) r c ≡ bars sets r c)

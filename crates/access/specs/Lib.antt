@@ -1,0 +1,5 @@
+pub mod Access
+pub mod Between
+pub mod Figures
+pub mod Table
+pub mod Claims
