@@ -4,3 +4,4 @@ pub mod Calls
 pub mod Packs
 pub mod Sent
 pub mod Callers
+pub mod Orders
