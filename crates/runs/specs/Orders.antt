@@ -10,6 +10,7 @@ use Rattle.session.specs.Sessions.{holding}
 use Rattle.dealers.specs.State.{chosen, lineIn}
 use Rattle.dealers.specs.Calls.{placeRefusal, placeAfter, countRefusal, takenRefusal, saidRow, saidNumber, whose, turnAnswer, turnRows, turnState}
 use Rattle.runs.specs.Outline.{Kinds, CallOf}
+use Rattle.runs.specs.Callers.{Sets, setAfter}
 use Rattle.runs.specs.Calls.{Actual, Call, Post, deal, Performed, performed, perform, after, broadcast}
 
 pub data OrderOf (K : Kinds) : Type 0 where
@@ -77,6 +78,11 @@ comesTo turn q = turnCall (q .post .session) (q .post .rows) (q .state)
 abbrev pub Asked : {K : Kinds} → (CallOf K → Type 0) → Comes K → Type 0
 Asked P noCall = Unit {0}
 Asked P (aCall c) = P c
+
+-- The rows' sets of callers after it, with this refusal.
+abbrev pub setsAfter : {K : Kinds} → Comes K → ℕ → Sets → Sets
+setsAfter noCall k X = X
+setsAfter (aCall c) k X = setAfter c k X
 
 -- An order answers, and leaves session, rows and lines, as that call does; where it comes to none, session and rows stay as they are, and
 -- nothing is broadcast. Proved in proofs/Orders.antt.
