@@ -1,4 +1,7 @@
 -- Demand 3, from the bottom up.
+-- An inner step: lists of calls on a session alone.
+pub mod CallRuns
+pub mod CallClaims
 -- The kernel: what a group does not see; vectors that differ by it, and the draws behind them.
 pub mod Kernel
 pub mod Near
@@ -39,7 +42,7 @@ pub mod Listed
 pub mod Counts
 -- The theorems; that nobody gets 13; and that the record shows all check points of a group.
 pub mod Matched
-pub mod Theorems
+pub mod CallTheorems
 pub mod Thirteen
 pub mod Thirteens
 pub mod Never

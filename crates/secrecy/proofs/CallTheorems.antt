@@ -1,5 +1,4 @@
--- Demand 3: the draws that show a record under one list of secrets are matched one to one with those that show it under the
--- other; and so there are as many.
+-- Of calls alone: the draws that show a record under one list of secrets are matched one to one with those that show it under the other.
 use Prim.Native.Nat.{ℕ}
 use mathlib.Core.Path.{sym}
 use mathlib.Core.List.{List, [], _∷_}
@@ -10,16 +9,14 @@ use Rattle.runs.proofs.Outlines.{every-all, all-every}
 use Rattle.secrecy.specs.Steps.{Secrets, Step}
 use Rattle.secrecy.specs.Seen.{Entry, Seen}
 use Rattle.secrecy.specs.Rules.{refusalOf}
-use Rattle.secrecy.specs.Book.{Book, blank, booked, AgreesBy, Agrees, Agree}
-use Rattle.secrecy.specs.Claim.{Premises, SecrecyEverywhere, Secrecy}
-use Rattle.secrecy.specs.Count.{EqualCounts, ShowsRight}
+use Rattle.secrecy.specs.Book.{Book, blank, booked, AgreesBy, Agrees}
+use Rattle.secrecy.proofs.CallRuns.{Agree}
+use Rattle.secrecy.proofs.CallClaims.{Premises, SecrecyEverywhere}
 use Rattle.secrecy.proofs.Moved.{moved}
 use Rattle.secrecy.proofs.Back.{back}
 use Rattle.secrecy.proofs.Reckoned as Reckoned
 use Rattle.secrecy.proofs.Reckoned.{reckoned, reckoned-back}
 use Rattle.secrecy.proofs.Matched.{Δ, transfer, beside}
-use Rattle.secrecy.proofs.Tests.{same-of-shows, shows-of-same}
-use Rattle.secrecy.proofs.Counts as Counts
 
 -- ---- the premises with the two lists of secrets exchanged
 
@@ -37,7 +34,7 @@ agree-back u u' (c ∷ cs) [] b b' a = tt
 agree-back u u' (c ∷ cs) (e ∷ es) b b' a =
     (agrees-back c (refusalOf e) b b' (a .0), agree-back u u' cs es (booked u c (refusalOf e) b) (booked u' c (refusalOf e) b') (a .1))
 
-exchanged : (plan : Plan) (group : List ℕ) (u u' : Secrets) (cs : List Step) (R : Seen) → Premises plan group u u' cs R → Premises plan group u' u cs R
+pub exchanged : (plan : Plan) (group : List ℕ) (u u' : Secrets) (cs : List Step) (R : Seen) → Premises plan group u u' cs R → Premises plan group u' u cs R
 exchanged plan group u u' cs R h =
     record {
       sound = h .sound;
@@ -49,9 +46,7 @@ exchanged plan group u u' cs R h =
       agree = agree-back u u' cs (R .entries) blank blank (h .agree);
     }
 
--- ---- the theorems
-
--- the matching, and what is the same at every post
+-- ---- the matching, and what is the same at every post
 pub secrecy-everywhere : SecrecyEverywhere
 unfolding Δ
 secrecy-everywhere plan group rows cs u u' R h = (
@@ -74,13 +69,3 @@ secrecy-everywhere plan group rows cs u u' R h = (
 
     opposite' : (r : ℕ) → Reckoned.Opposite (reckoned u' u cs (R .entries) blank blank r) (reckoned u u' cs (R .entries) blank blank r)
     opposite' r = reckoned-back u' u cs (R .entries) blank blank r
-
-pub secrecy : Secrecy
-secrecy plan group rows cs u u' R h = secrecy-everywhere plan group rows cs u u' R h .0
-
-pub equal-counts : EqualCounts
-equal-counts = Counts.equal-counts secrecy
-
--- what is counted: the list has every draw once, and the test is right
-pub shows-right : ShowsRight
-shows-right plan group rows cs u R d = (same-of-shows plan group rows cs u R d, shows-of-same plan group rows cs u R d)
