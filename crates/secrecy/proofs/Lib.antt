@@ -49,3 +49,8 @@ pub mod Never
 pub mod PointsShown
 pub mod Called
 pub mod ForCallers
+-- Orders: the places that the book keeps, one turn, a list of orders as a list of calls, one run and two.
+pub mod Frames
+pub mod Places
+pub mod Turning
+pub mod AsCalls
