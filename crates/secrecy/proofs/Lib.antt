@@ -54,3 +54,4 @@ pub mod Frames
 pub mod Places
 pub mod Turning
 pub mod AsCalls
+pub mod Along

@@ -14,6 +14,7 @@ use Rattle.refusal.specs.Refusal.{_when_, first, orElse, outcome}
 use Rattle.refusal.specs.Conditions.{outside, beyond, anyBeyond}
 use Rattle.refusal.proofs.Laws.{first-join}
 use Rattle.session.specs.declared.Session.{Session}
+use Rattle.session.specs.declared.Answer.{Answer}
 use Rattle.session.specs.Sessions.{marked, holding, answer}
 use Rattle.session.specs.Rows.{width, rowAt, withRow, plusSums, sumsAt}
 use Rattle.session.specs.Checks.{frameTests, noRow, wrongMark}
@@ -29,6 +30,7 @@ use Rattle.dealers.proofs.Turns.{chosen-dealer}
 use Rattle.runs.specs.Draws.{Plan, Draw, Sound, IsRaw, Raw, none, by, whenRaw}
 use Rattle.runs.specs.Calls.{Post}
 use Rattle.runs.specs.Orders.{Comes, noCall, aCall, turn}
+use Rattle.runs.proofs.Outcomes.{answer-refusal}
 use Rattle.secrecy.specs.Steps.{Secrets, Fixed, Number, sent, theirs, bytes, Placed, deal, dealtWith, dealtNumber}
 use Rattle.secrecy.specs.Seen.{dealSeen, lineAt}
 use Rattle.secrecy.specs.Waiting.{Slot, free, filled, isFilled, Waiting, nextOf, freed, slotCall, comesOf}
@@ -86,6 +88,26 @@ ten-eleven true b c = refl
 ten-eleven false true c = refl
 ten-eleven false false true = refl
 ten-eleven false false false = refl
+
+own-goes : (a b c d : Bool) → stops (first (6 when a ∷ 7 when b ∷ 8 when c ∷ 8 when d ∷ [])) ≡ false
+own-goes true b c d = refl
+own-goes false true c d = refl
+own-goes false false true d = refl
+own-goes false false false true = refl
+own-goes false false false false = refl
+
+-- of two such refusals that are the same, 1 to 5 are
+pub frames-of : (f f' x x' : ℕ) → f ≤ 5 → f' ≤ 5 → stops x ≡ false → stops x' ≡ false → orElse f x ≡ orElse f' x' → f ≡ f'
+frames-of zero zero x x' l l' g g' e = refl
+frames-of zero (suc k) x x' l l' g g' e = absurd (clash (sym (ap stops e) ∙ g) (small-stops (suc k) (omega arith) l'))
+  where
+    clash : stops (suc k) ≡ false → stops (suc k) ≡ true → ⊥
+    clash a b = let z : _≡_ {A = Bool} true false = sym b ∙ a in let y : _≡_ {A = ℕ} 0 1 = cc in omega arith
+frames-of (suc k) zero x x' l l' g g' e = absurd (clash (ap stops e ∙ g') (small-stops (suc k) (omega arith) l))
+  where
+    clash : stops (suc k) ≡ false → stops (suc k) ≡ true → ⊥
+    clash a b = let z : _≡_ {A = Bool} true false = sym b ∙ a in let y : _≡_ {A = ℕ} 0 1 = cc in omega arith
+frames-of (suc k) (suc j) x x' l l' g g' e = e
 
 taken-goes : (line : List ℕ) → stops (takenRefusal line) ≡ false
 unfolding takenRefusal
@@ -316,6 +338,18 @@ module _ (plan : Plan) (draw : Draw) (u : Secrets) (sound : Sound plan) (low : (
         go (suc k) z (deals r c) o =
             let l = halts q state k z in
             (l .answer-is ∙ sym (stop-answer q state k z r (numberOf c)), l .rows-are ∙ sym (stop-rows q state k z r (numberOf c)))
+
+    -- its refusal: 1 to 5, or one that comes behind them
+    pub turn-refusal : (x : ℕ) × (turnAnswer (q .session) (q .rows) state .refusal ≡ orElse (frame q) x) × (stops x ≡ false)
+    turn-refusal = go (turnDoing w) turn-done (turn-goes w)
+      where
+        go : (m : Doing) → Done q state m → Goes m → (x : ℕ) × (turnAnswer (q .session) (q .rows) state .refusal ≡ orElse (frame q) x) × (stops x ≡ false)
+        go (idle t) o g = (t, ap (λ (a : Answer). a .refusal) (o .0), g)
+        go (deals r c) o g = (
+          dealOwn q state r (numberOf c),
+          ap (λ (a : Answer). a .refusal) (o .0) ∙ answer-refusal (dealRefusal (q .session) (q .rows) r (numberOf c)) 0 _ _ ∙ deal-is q state r (numberOf c),
+          own-goes (noRow r) (wrongMark (q .session) r raw) (beyond (numberOf c)) (anyBeyond (rowAt (width (q .session)) (q .rows) r)),
+        )
 
     pub kept-turn : frame q ≡ 0 → Kept plan draw u (whose (nextOf w) w (freed w)) (turnState (q .session) (q .rows) state)
     kept-turn z = subst (Kept plan draw u (whose (nextOf w) w (freed w))) (sym (counts q state z (h z .good) .state-is)) (kept-counted plan draw u w state (h z))
