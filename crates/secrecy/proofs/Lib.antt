@@ -55,3 +55,4 @@ pub mod Places
 pub mod Turning
 pub mod AsCalls
 pub mod Along
+pub mod Again
