@@ -56,3 +56,4 @@ pub mod Turning
 pub mod AsCalls
 pub mod Along
 pub mod Again
+pub mod Theorems
