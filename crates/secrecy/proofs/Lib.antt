@@ -57,3 +57,4 @@ pub mod AsCalls
 pub mod Along
 pub mod Again
 pub mod Theorems
+pub mod NeverOrders

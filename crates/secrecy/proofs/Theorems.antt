@@ -90,10 +90,10 @@ module _ (plan : Plan) (sound : Sound plan) (d d' : Draw) (v v' : Secrets) (e : 
 -- ---- a record of orders, and that of their calls
 
 module _ (plan : Plan) (group : List ℕ) (rows : ℕ → List ℕ) (os : List Item) (R : Seen) where
-  abbrev steps : List Step
+  abbrev pub steps : List Step
   steps = plainSteps os (R .entries) noneWaiting
 
-  abbrev below : Seen
+  abbrev pub below : Seen
   below =
       record {
         points = R .points;
@@ -104,7 +104,7 @@ module _ (plan : Plan) (group : List ℕ) (rows : ℕ → List ℕ) (os : List I
         entries = plainEntries os (R .entries) noneWaiting;
       }
 
-  abbrev desks : Draw → ℕ → Desk
+  abbrev pub desks : Draw → ℕ → Desk
   desks draw i = newDesk plan draw (rows i) i
 
   abbrev starts : Draw → ℕ → Post
