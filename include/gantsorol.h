@@ -276,6 +276,9 @@ typedef struct gantsorol_session {
     /* the two numbers that a triple's masks were opened to, at its first row; they stay after the product */
     uint32_t y_a[GANTSOROL_ROWS];
     uint32_t y_b[GANTSOROL_ROWS];
+    /* the posts that may not call for a row's opening, eight numbers of 32 bits a row: post j is barred from row r where
+       bit (j - 1) % 32 of barred[8 * r + (j - 1) / 32] is 1 */
+    uint32_t barred[8 * GANTSOROL_ROWS];
 } gantsorol_session;
 
 /* What a call on a session hands back. */
@@ -353,11 +356,19 @@ gantsorol_answer gantsorol_load_triple(gantsorol_session session, uint32_t *rows
 gantsorol_answer gantsorol_deal(gantsorol_session session, uint32_t *rows, size_t rows_len, size_t row, uint32_t c);
 
 /*
- * Writes the coefficients of a held row, which the post sends to open it, to out.
- * rows: GANTSOROL_ROWS_LEN, read. out: GANTSOROL_MESSAGE_LEN, written. Refusals 1 to 8.
+ * Reads an A line, "A,row," and rising post numbers, or "A,row," alone, with its line feed: the posts that may call for the
+ * opening of a raw row. Without one, all posts may. A row made from others has the posts that all of them share; a product
+ * those that its factor rows share. Refusals 1 to 4, 10 (also where the numbers do not rise), 11, 7.
+ */
+gantsorol_answer gantsorol_access(gantsorol_session session, const uint8_t *line, size_t line_len);
+
+/*
+ * Writes the coefficients of a held row, which the post sends to open it, to out. The caller is the number of the post that
+ * calls for the opening; one that the row's set does not have, 0, and any above n, gets 15.
+ * rows: GANTSOROL_ROWS_LEN, read. out: GANTSOROL_MESSAGE_LEN, written. Refusals 1 to 8, 15.
  */
 gantsorol_answer gantsorol_opening_message(gantsorol_session session, const uint32_t *rows, size_t rows_len, size_t row,
-                                           uint32_t *out, size_t out_len);
+                                           size_t caller, uint32_t *out, size_t out_len);
 
 /*
  * Opens a held row with a record: the number is the answer's value. The post's own block is not looked at, nor are the

@@ -5,3 +5,4 @@ pub mod Figures
 pub mod Tables
 pub mod Listed
 pub mod Theorems
+pub mod Bytes

@@ -1,13 +1,14 @@
 -- Demand 1 of the A line, with the flat table for its tests; proved in proofs/Theorems.antt. And what set it leaves, post by post; proved in
--- proofs/Listed.antt.
-use Prim.Native.Nat.{ℕ, _≤_, _<_}
+-- proofs/Listed.antt; and its bytes, in proofs/Bytes.antt.
+use Prim.Native.Nat.{ℕ, zero, suc, _≤_, _<_}
 use mathlib.Core.Path.{_≡_}
 use mathlib.Core.Logic.{_≢_}
 use mathlib.Core.Bool.{Bool, true, false, not, _||_}
-use mathlib.Core.List.{List, [], _∷_}
+use mathlib.Core.List.{List, [], _∷_, _++_}
 use lib.Dec.{eqb}
 use lib.ListN.{length}
 use Rattle.refusal.specs.Refusal.{Test, _when_, first, AllFail}
+use Rattle.csv.specs.Fields.{fields, Small, Parsed, parsed, numbersOf}
 use Rattle.callers.specs.Sets.{bars}
 use Rattle.session.specs.declared.Session.{Session}
 use Rattle.session.specs.Sessions.{withBarred}
@@ -44,3 +45,26 @@ SetListed =
     → (accessRow (accessFields line) < 96
     → bars (accessSets line sets) (accessRow (accessFields line)) c ≡ not (listed c (accessPosts (accessFields line))))
     × ((r : ℕ) → r ≢ accessRow (accessFields line) → bars (accessSets line sets) r c ≡ bars sets r c)
+
+-- ---- the line in bytes: "`A,row,` and rising post numbers (`A,row,` alone for none)", in ASCII, by csv's fields
+
+abbrev pub lineEnd : List ℕ → List ℕ
+lineEnd [] = 44 ∷ 10 ∷ []
+lineEnd (c ∷ cs) = 10 ∷ []
+
+abbrev pub accessText : ℕ → List ℕ → List ℕ
+accessText row posts = 65 ∷ (fields (row ∷ posts) ++ lineEnd posts)
+
+-- Each of these is read, whatever its numbers of at most 10 digits, and a line that is read (10 meets any other) is one of them.
+pub record AccessBytes : Type 0 where
+  pub read : (row : ℕ) (posts : List ℕ) → Small (row ∷ posts) → numbersOf (accessFields (accessText row posts)) ≡ row ∷ posts
+  pub only : (line xs : List ℕ) (next : ℕ) → accessFields line ≡ parsed xs next
+      → (row : ℕ) × (posts : List ℕ) × (xs ≡ row ∷ posts) × (line ≡ accessText row posts) × Small xs
+
+-- The longest line that is taken names the last row and all posts: 92 bytes at 32 posts, 917 at 255.
+abbrev pub allFrom : ℕ → ℕ → List ℕ
+allFrom c zero = []
+allFrom c (suc k) = c ∷ allFrom (suc c) k
+
+abbrev pub LongestAccess : Type 0
+LongestAccess = (length (accessText 95 (allFrom 1 32)) ≡ 92) × (length (accessText 95 (allFrom 1 255)) ≡ 917)

@@ -41,7 +41,7 @@ room = 0 ∷ 0 ∷ 0 ∷ []
 
 -- 6 is dealt, and posts 2 and 3 send their messages
 unfoldable pub dealing : List Event
-dealing = load 1 ∷ load 2 ∷ load 3 ∷ dealOf draw 1 0 6 ∷ dealOf draw 2 0 6 ∷ dealOf draw 3 0 6 ∷ call 2 (message 0 room) ∷ call 3 (message 0 room) ∷ []
+dealing = load 1 ∷ load 2 ∷ load 3 ∷ dealOf draw 1 0 6 ∷ dealOf draw 2 0 6 ∷ dealOf draw 3 0 6 ∷ call 2 (message 0 1 room) ∷ call 3 (message 0 1 room) ∷ []
 
 abbrev pub zeros : ℕ → List ℕ
 zeros i = replicate (rowsLength (shape 3 1 2)) 0

@@ -104,7 +104,7 @@ line-read b xs h =
     let g : getD s (1 + length (fields xs)) 0 ≡ 10 = rw c (getD-at (b ∷ fields xs) 10 [] 0 (length (b ∷ fields xs)) refl) in
     rw (f, g, eq-eqb (length s) (1 + length (fields xs) + 1) m)
 
-ended-is : (s xs : List ℕ) (next : ℕ) (o : Parsed) → ended s o ≡ parsed xs next → (o ≡ parsed xs next) × (length s ≡ next + 1) × (getD s next 0 ≡ 10)
+pub ended-is : (s xs : List ℕ) (next : ℕ) (o : Parsed) → ended s o ≡ parsed xs next → (o ≡ parsed xs next) × (length s ≡ next + 1) × (getD s next 0 ≡ 10)
 ended-is s xs next malformed e = not-parsed xs next e
 ended-is s xs next (parsed ys then) e = go (eqb (getD s then 0) 10 && eqb (length s) (then + 1)) refl e
   where

@@ -7,6 +7,7 @@ ghost use Rattle.session.specs.Sessions.{created};
 ghost use Rattle.load.specs.Load.{loadRowAnswer, loadRowRows, loadTripleAnswer, loadTripleRows};
 ghost use Rattle.deal.specs.Deal.{dealAnswer, dealRows};
 ghost use Rattle.message.specs.Message.{messageAnswer, messageOut};
+ghost use Rattle.access.specs.Access.{accessAnswer};
 ghost use Rattle.linear.specs.Linear.{linearAnswer, linearRows};
 ghost use Rattle.opening.specs.Opening.{openAnswer};
 ghost use Rattle.product_masks.specs.Masks.{masksAnswer, masksOut};
@@ -66,12 +67,20 @@ pub extern "C" fn gantsorol_opening_message(
     session: Session,
     rows: &[u32],
     row: usize,
+    caller: usize,
     out: &mut [u32],
 ) -> Answer
-    ensures { λ r. ⌜ r ≡ messageAnswer session (now (rows .entry)) row (now (out .entry)) ⌝ }
-    ensures { λ r. ⌜ now (out .exit) ≡ messageOut session (now (rows .entry)) row (now (out .entry)) ⌝ }
+    ensures { λ r. ⌜ r ≡ messageAnswer session (now (rows .entry)) row caller (now (out .entry)) ⌝ }
+    ensures { λ r. ⌜ now (out .exit) ≡ messageOut session (now (rows .entry)) row caller (now (out .entry)) ⌝ }
 {
-    message::opening_message(session, rows, row, out)
+    message::opening_message(session, rows, row, caller, out)
+}
+
+#[no_mangle]
+pub extern "C" fn gantsorol_access(session: Session, line: &[u8]) -> Answer
+    ensures { λ r. ⌜ r ≡ accessAnswer session (now (line .entry)) ⌝ }
+{
+    access::access(session, line)
 }
 
 #[no_mangle]

@@ -19,8 +19,10 @@ use Rattle.vectors.proofs.Draws.{element-at}
 use Rattle.runs.specs.Draws as Draws
 use Rattle.runs.specs.Draws.{Raw, Plan, Draw, IsRaw, Sound, Lists, IsDraw, rawLength, tripleLength}
 use Rattle.runs.specs.Calls.{Among}
+use Rattle.runs.specs.Callers.{allPosts}
 use Rattle.secrecy.specs.Steps.{Secrets}
 use Rattle.secrecy.specs.Seen.{member}
+use Rattle.secrecy.specs.Waiting.{noneWaiting}
 use Rattle.secrecy.specs.Book.{blank}
 use Rattle.secrecy.specs.Claim.{Group, Premises}
 use Rattle.secrecy.specs.Count.{count, draws, shows}
@@ -117,8 +119,8 @@ module _ (x : Example) where
 
   -- `sent` are the masks that posts broadcast
   unfoldable pub premises : (sent : List (List ℕ))
-      → Option (Premises (planOf x) (x .group) (secretsOf (x .secrets)) (secretsOf (x .secrets')) (x .steps) (x .shown))
-  unfolding _also_ sound group-few elements dealers same-answers rules agree blank
+      → Option (Premises (planOf x) (x .group) (secretsOf (x .secrets)) (secretsOf (x .secrets')) (x .orders) (x .shown))
+  unfolding _also_ sound group-few elements dealers same-answers rules agree allPosts blank
   premises sent =
       some (λ s g e e' d a k q. record {
         sound = s;
@@ -135,8 +137,8 @@ module _ (x : Example) where
       also elements (x .secrets')
       also dealers (x .raws) (x .group) (x .secrets) (x .secrets')
       also same-answers (x .shown .entries)
-      also rules (planOf x) sent (x .steps) (x .shown .entries) (x .shown .deals)
-      also agree (secretsOf (x .secrets)) (secretsOf (x .secrets')) (x .steps) (x .shown .entries) blank blank
+      also rules (planOf x) sent (x .orders) (x .shown .entries) (x .shown .deals) noneWaiting
+      also agree (planOf x) (secretsOf (x .secrets)) (secretsOf (x .secrets')) (x .orders) (x .shown .entries) noneWaiting allPosts blank blank
 
 -- ---- the claim
 
@@ -166,8 +168,8 @@ module _ (x : Example) where
         differ = (r, raw, eqb-false (u r) (secretsOf (x .secrets') r) ne);
         shows = record { is-draw = drawn; same = seen-is };
         some =
-            some-pass (shows (planOf x) (x .group) (x .rows) (x .steps) u (x .shown)) (draws (planOf x)) (x .draw)
+            some-pass (shows (planOf x) (x .group) (x .rows) (x .orders) u (x .shown)) (draws (planOf x)) (x .draw)
             (all-draws (planOf x) .0 (x .draw) drawn)
-            (shows-of-same (planOf x) (x .group) (x .rows) (x .steps) u (x .shown) (x .draw) seen-is);
-        as-many = equal-counts (planOf x) (x .group) (x .rows) (x .steps) u (secretsOf (x .secrets')) (x .shown) met;
+            (shows-of-same (planOf x) (x .group) (x .rows) (x .orders) u (x .shown) (x .draw) seen-is);
+        as-many = equal-counts (planOf x) (x .group) (x .rows) (x .orders) u (secretsOf (x .secrets')) (x .shown) met;
       }

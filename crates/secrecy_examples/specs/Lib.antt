@@ -6,3 +6,5 @@ pub mod FourPostsSeen
 pub mod Charge
 pub mod Relation
 pub mod TwoPoints
+pub mod Barred
+pub mod Turns
