@@ -58,3 +58,4 @@ pub mod Along
 pub mod Again
 pub mod Theorems
 pub mod NeverOrders
+pub mod Known

@@ -110,7 +110,7 @@ module _ (plan : Plan) (group : List ℕ) (rows : ℕ → List ℕ) (os : List I
   abbrev starts : Draw → ℕ → Post
   starts draw i = newPost plan draw (rows i) i
 
-  start-kept : (v : Secrets) (draw : Draw) (i : ℕ) → (frame (desks draw i .post) ≡ 0 → Kept plan draw v noneWaiting (desks draw i .state)) × (starts draw i ≡ desks draw i .post)
+  pub start-kept : (v : Secrets) (draw : Draw) (i : ℕ) → (frame (desks draw i .post) ≡ 0 → Kept plan draw v noneWaiting (desks draw i .state)) × (starts draw i ≡ desks draw i .post)
   unfolding newDesk
   start-kept v draw i = ((λ z. kept-new plan draw v), refl)
 

@@ -171,10 +171,13 @@ module _ (q : Post) (state : List ℕ) where
         state-is = ap (λ (f : ℕ). outcome f (countedState state) state) z;
       }
 
+  pub counts-zero : frame q ≡ 0 → Good state → countRefusal s rows state ≡ 0
+  counts-zero e g = count-is ∙ ap (λ (f : ℕ). orElse f (first (stateTests state))) e ∙ rw (eq-eqb (length state) stateLength (g .long), g .fine)
+
   pub counts : frame q ≡ 0 → Good state → Counts q state
   unfolding outcome
   counts e g =
-      let z : countRefusal s rows state ≡ 0 = count-is ∙ ap (λ (f : ℕ). orElse f (first (stateTests state))) e ∙ rw (eq-eqb (length state) stateLength (g .long), g .fine) in
+      let z = counts-zero e g in
       record {
         answer-is = ap (λ (f : ℕ). outcome f (countedAnswer s rows state) (holding f 0 s)) z;
         rows-are = ap (λ (f : ℕ). outcome f (countedRows s rows state) rows) z;
@@ -222,7 +225,7 @@ module _ (q : Post) (state : List ℕ) where
 
 -- ---- the D line of a row's dealer
 
-dealer-line : (plan : Plan) (draw : Draw) (u : Secrets) (r : ℕ) → 1 ≤ length (dealSeen plan draw u r)
+pub dealer-line : (plan : Plan) (draw : Draw) (u : Secrets) (r : ℕ) → 1 ≤ length (dealSeen plan draw u r)
     → IsRaw (plan .raw r) × (dealSeen plan draw u r ≡ text (Line.deal r (dealtNumber plan draw u r)))
 unfolding dealSeen
 dealer-line plan draw u r = go (plan .raw r)
@@ -234,13 +237,24 @@ dealer-line plan draw u r = go (plan .raw r)
     go none h = absurd (omega arith)
     go (by dealer) h = (tt, refl)
 
-read-back : (r c : ℕ) → r ≤ lastRow → c < p
+pub read-back : (r c : ℕ) → r ≤ lastRow → c < p
     → (takenRefusal (text (Line.deal r c)) ≡ 0) × (saidRow (text (Line.deal r c)) ≡ r) × (saidNumber (text (Line.deal r c)) ≡ c)
 unfolding takenRefusal anyBeyond
 read-back r c lr lc =
     let is-sent : Sent 2 2 (Line.deal r c) = record { letter-is = refl; count = refl; no-post = λ e. refl; in-range = rw (le-ltb lastRow r lr, lt-ltb c p lc) } in
     let back = written-reads-back 2 2 (Line.deal r c) (omega arith) is-sent in
     (back .0, ap (λ (m : Message). m .row) (back .1), ap (λ (m : Message). getD (m .numbers) 0 0) (back .1))
+
+-- the first that passes does pass
+pub first-passes : (k : ℕ) (test : ℕ → Bool) (a d : ℕ) → firstAfter k test a ≡ suc d → test (suc d) ≡ true
+unfolding firstAfter
+first-passes zero test a d e = absurd (omega arith)
+first-passes (suc k) test a d e = go (test (next a)) refl e (λ h. first-passes k test (next a) d h)
+  where
+    go : (b : Bool) → test (next a) ≡ b → cond b (next a) (firstAfter k test (next a)) ≡ suc d → (firstAfter k test (next a) ≡ suc d → test (suc d) ≡ true)
+        → test (suc d) ≡ true
+    go true h x more = sym (ap test x) ∙ h
+    go false h x more = more x
 
 -- ---- at a post whose state is what the book keeps
 
@@ -290,16 +304,6 @@ module _ (plan : Plan) (draw : Draw) (u : Secrets) (sound : Sound plan) (low : (
         by-dealer (text (Line.deal r (dealtNumber plan draw u r))) (h .1 ∙ o .1) r (dealtNumber plan draw u r)
         (read-back r (dealtNumber plan draw u r) (sound .raws r (o .0)) (low r))
     by-slot (filled (bytes xs)) h f = by-line xs (h .1) (takenRefusal xs) refl
-
-  first-passes : (k : ℕ) (test : ℕ → Bool) (a d : ℕ) → firstAfter k test a ≡ suc d → test (suc d) ≡ true
-  unfolding firstAfter
-  first-passes zero test a d e = absurd (omega arith)
-  first-passes (suc k) test a d e = go (test (next a)) refl e (λ h. first-passes k test (next a) d h)
-    where
-      go : (b : Bool) → test (next a) ≡ b → cond b (next a) (firstAfter k test (next a)) ≡ suc d → (firstAfter k test (next a) ≡ suc d → test (suc d) ≡ true)
-          → test (suc d) ≡ true
-      go true h x more = sym (ap test x) ∙ h
-      go false h x more = more x
 
   counted-done : (w : Waiting) (s : Session) (rows state : List ℕ) → Kept plan draw u w state → CountedDone s rows state (turnDoing w)
   counted-done w s rows state h = go (nextOf w) refl

@@ -7,3 +7,4 @@ pub mod Book
 pub mod Claim
 pub mod Count
 pub mod Points
+pub mod Known
