@@ -161,6 +161,8 @@ static inline const char *gantsorol_refusal_text(uint8_t refusal) {
 #define GANTSOROL_MAX_POSTS 255
 /* The rows of a session. */
 #define GANTSOROL_ROWS 96
+/* The numbers of all rows' sets of posts, eight a row. */
+#define GANTSOROL_SETS_LEN 768
 /* The most terms of a relation. */
 #define GANTSOROL_MAX_TERMS 32
 /* The second row of a term that is no product. */
@@ -281,7 +283,7 @@ typedef struct gantsorol_session {
     uint32_t y_b[GANTSOROL_ROWS];
     /* the posts that may not call for a row's opening, eight numbers of 32 bits a row: post j is barred from row r where
        bit (j - 1) % 32 of barred[8 * r + (j - 1) / 32] is 1 */
-    uint32_t barred[8 * GANTSOROL_ROWS];
+    uint32_t barred[GANTSOROL_SETS_LEN];
 } gantsorol_session;
 
 /* What a call on a session hands back. */

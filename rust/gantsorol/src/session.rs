@@ -2,7 +2,7 @@
 
 use core::{fmt, mem};
 
-use crate::{erase, sys, Refusal, ROWS};
+use crate::{erase, sys, Refusal, ROWS, SETS_LEN};
 
 /// What a post remembers beside its rows.
 ///
@@ -47,7 +47,7 @@ pub struct Session {
     pub y_b: [u32; ROWS],
     /// The posts that may not call for a row's opening, eight numbers a row: post j is barred from
     /// row r where bit (j − 1) % 32 of number 8 r + (j − 1) / 32 is 1. [`may_call`](Self::may_call) reads them.
-    pub barred: [u32; 8 * ROWS],
+    pub barred: [u32; SETS_LEN],
 }
 
 /// Without the check points, which are secret.
@@ -77,7 +77,7 @@ impl Default for Session {
             factor_b: [0; ROWS],
             y_a: [0; ROWS],
             y_b: [0; ROWS],
-            barred: [0; 8 * ROWS],
+            barred: [0; SETS_LEN],
         }
     }
 }

@@ -98,6 +98,6 @@ pub fn given(session: &reference::Session) -> gantsorol::Session {
         y_a: y,
         y_b: y2,
         // nobody is barred in the benchmark's stations
-        barred: [0; 8 * gantsorol::ROWS],
+        barred: [0; gantsorol::SETS_LEN],
     }
 }
