@@ -95,7 +95,7 @@ static void send_masks(size_t first, const uint32_t *masks) {
 /* Sends the post's polynomial of a held row. */
 static void send_opening(size_t row) {
     uint32_t message[MESSAGE];
-    if (done(gantsorol_opening_message(state.session, state.rows, ROWS, row, message, MESSAGE)))
+    if (done(gantsorol_opening_message(state.session, state.rows, ROWS, row, 1, message, MESSAGE)))
         send_line(gantsorol_write_opening(N, T, POINTS, row, state.session.post, message, MESSAGE,
                                           state.sent + state.sent_len, sizeof state.sent - state.sent_len));
 }

@@ -29,7 +29,7 @@ int main(void) {
     for (int i = 0; i < N; i++) {
         keep(i, gantsorol_collect(posts[i], rows[i], ALL, TRIPLE, record_a, RECORD, record_b, RECORD));
         keep(i, gantsorol_multiply(posts[i], rows[i], ALL, TRIPLE));
-        keep(i, gantsorol_opening_message(posts[i], rows[i], ALL, PRODUCT, message, T + 1));
+        keep(i, gantsorol_opening_message(posts[i], rows[i], ALL, PRODUCT, 1, message, T + 1));
         hear(opening, i, message);
     }
     for (int i = 0; i < N; i++)

@@ -18,7 +18,7 @@ static uint32_t relate(const gantsorol_term terms[2], size_t sum) {
     }
     for (int i = 0; i < N; i++) {
         keep(i, gantsorol_relation_finish(posts[i], rows[i], ALL, terms, 2, sum, records, RECORDS));
-        keep(i, gantsorol_opening_message(posts[i], rows[i], ALL, sum, message, T + 1));
+        keep(i, gantsorol_opening_message(posts[i], rows[i], ALL, sum, 1, message, T + 1));
         hear(opening, i, message);
     }
     for (int i = 0; i < N; i++)

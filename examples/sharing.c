@@ -35,7 +35,7 @@ int main(void) {
 
     /* Post 2 sends its message; post 1 opens the number with it, and post 3 is absent. */
     uint32_t message[MESSAGE], record[RECORD] = {0};
-    keep(1, gantsorol_opening_message(posts[1], rows[1], ROWS, 0, message, MESSAGE));
+    keep(1, gantsorol_opening_message(posts[1], rows[1], ROWS, 0, 1, message, MESSAGE));
     if (gantsorol_record_put(N, T, POINTS, record, RECORD, 2, message, MESSAGE) != 0)
         return 1;
     printf("c = %u, opened %u\n", c, keep(0, gantsorol_open(posts[0], rows[0], ROWS, 0, record, RECORD)));

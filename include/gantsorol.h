@@ -51,8 +51,8 @@
  * for lines and files:
  *
  *    one point              (3, 1)    (32, 15)   (255, 127)
- *    session                 1,096       1,096        1,096
- *    answer                  1,104       1,104        1,104
+ *    session                 4,168       4,168        4,168
+ *    answer                  4,176       4,176        4,176
  *    rows                    3,072      30,720      244,992
  *    record                     36       2,176      131,580
  *    draw of a row              32       2,112      131,072
@@ -60,8 +60,8 @@
  *    longest line               51         360        2,825
  *
  *    two points             (3, 1)    (32, 15)   (255, 127)
- *    session                 1,096       1,096        1,096
- *    answer                  1,104       1,104        1,104
+ *    session                 4,168       4,168        4,168
+ *    answer                  4,176       4,176        4,176
  *    rows                    4,608      48,768      391,680
  *    record                     48       4,096      261,120
  *    draw of a row              44       4,032      260,612
@@ -92,8 +92,8 @@
 #define GANTSOROL_VERSION_PATCH 0
 
 /*
- * Refusals. Conditions are looked at in the order of their numbers, but for 14, which comes right after 5; each over all
- * lists and terms before the next. 15 to 19 are kept for what is to come.
+ * Refusals. Conditions are looked at in the order of their numbers, but for 14, which comes right after 5, and for an A
+ * line, where 7 comes last; each over all lists and terms before the next. 16 to 19 are kept for what is to come.
  */
 enum gantsorol_refusal {
     GANTSOROL_OK = 0,
@@ -110,7 +110,8 @@ enum gantsorol_refusal {
     GANTSOROL_LINE_OUT_OF_RANGE = 11,
     GANTSOROL_NO_ROOM = 12,
     GANTSOROL_INCONSISTENT_SHARES = 13,
-    GANTSOROL_BAD_TERM_COUNT = 14
+    GANTSOROL_BAD_TERM_COUNT = 14,
+    GANTSOROL_CALLER_BARRED = 15
 };
 
 /* A refusal in words: the condition that applies. */
@@ -147,6 +148,8 @@ static inline const char *gantsorol_refusal_text(uint8_t refusal) {
         return "an accepted share is not on the polynomial of the t+1 lowest, in any record";
     case GANTSOROL_BAD_TERM_COUNT:
         return "a relation has no terms, or more than 32";
+    case GANTSOROL_CALLER_BARRED:
+        return "the post that calls for an opening is not in the row's set, or is outside 1 to n";
     default:
         return "unknown to this header";
     }
@@ -158,6 +161,8 @@ static inline const char *gantsorol_refusal_text(uint8_t refusal) {
 #define GANTSOROL_MAX_POSTS 255
 /* The rows of a session. */
 #define GANTSOROL_ROWS 96
+/* The numbers of all rows' sets of posts, eight a row. */
+#define GANTSOROL_SETS_LEN 768
 /* The most terms of a relation. */
 #define GANTSOROL_MAX_TERMS 32
 /* The second row of a term that is no product. */
@@ -278,7 +283,7 @@ typedef struct gantsorol_session {
     uint32_t y_b[GANTSOROL_ROWS];
     /* the posts that may not call for a row's opening, eight numbers of 32 bits a row: post j is barred from row r where
        bit (j - 1) % 32 of barred[8 * r + (j - 1) / 32] is 1 */
-    uint32_t barred[8 * GANTSOROL_ROWS];
+    uint32_t barred[GANTSOROL_SETS_LEN];
 } gantsorol_session;
 
 /* What a call on a session hands back. */

@@ -8,6 +8,8 @@ ghost use Rattle.refusal.specs.Refusal.{first};
 ghost use mathlib.Core.Path.{_≡_};
 ghost use mathlib.Core.Bool.{not, _||_, cond};
 ghost use Prim.Native.Nat.{_<_};
+ghost use lib.ListN.{length};
+ghost use Rattle.callers.specs.Sets.{setsLength};
 ghost use lib.Dec.{eqb, ltb};
 ghost use Rattle.refusal.specs.Conditions.{outside};
 ghost use Rattle.access.specs.Access.{commas, alone, severalAt, postsAt, accessFields, admitted, placed, accessAnswer};
@@ -130,14 +132,13 @@ fn walk(line: &[u8], n: usize, at: usize, count: usize) -> Posts
 }
 
 // The eight numbers become a row's.
-fn place(mut sets: [u32; 768], row: usize, words: [u32; 8]) -> [u32; 768]
-    requires { ⌜ row < 96 ⌝ }
-    ensures { λ r. ⌜ r ≡ placed 8 sets row words ⌝ }
+fn place(sets: &mut [u32], row: usize, words: [u32; 8])
+    requires { ⌜ (length (now sets) ≡ setsLength) × (row < 96) ⌝ }
+    ensures { λ r. ⌜ now (sets .exit) ≡ placed 8 (now (sets .entry)) row words ⌝ }
 {
     for k in 0..8 {
         sets[8 * row + k] = words[k];
     }
-    sets
 }
 
 // "`A,row,` alone": behind the row a comma and the line feed, and nothing more.
@@ -281,9 +282,9 @@ pub fn access(session: Session, line: &[u8]) -> Answer
     if mark != 0 {
         return session.refuse(mark);
     }
-    let sets = session.barred;
+    let mut barred = session.barred;
     let words = read.words;
-    let barred = place(sets, read.row, words);
+    place(&mut barred, read.row, words);
     let admitting = Session { barred, ..session };
     admitting.done(0)
 }

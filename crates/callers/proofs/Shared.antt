@@ -149,3 +149,17 @@ shared-more sets now d a b k x y e ex ey =
 
 pub shared-end : (sets now : List ℕ) (d a b k : ℕ) → k ≤ 8 → 8 ≤ k → now ≡ shared k sets d a b → now ≡ shared 8 sets d a b
 shared-end sets now d a b k lo hi e = let z : k ≡ 8 = omega arith in e ∙ ap (λ (n : ℕ). shared n sets d a b) z
+
+-- ---- one share after the other
+
+pub length-kept : (sets now : List ℕ) (d a b : ℕ) → now ≡ shared 8 sets d a b → length sets ≡ setsLength → length now ≡ setsLength
+length-kept sets now d a b e l = ap length e ∙ length-shared sets d a b 8 ∙ l
+
+pub all-kept : (sets now : List ℕ) (d : ℕ) (rows : List ℕ) → now ≡ sharedAll sets d rows → length sets ≡ setsLength → length now ≡ setsLength
+all-kept sets now d rows e l = ap length e ∙ length-all sets d rows ∙ l
+
+pub one-end : (sets one two : List ℕ) (d a : ℕ) → one ≡ shared 8 sets d 96 96 → two ≡ shared 8 one d d a → two ≡ sharedAll sets d (a ∷ [])
+one-end sets one two d a e e' = e' ∙ ap (λ (l : List ℕ). shared 8 l d d a) e
+
+pub both-end : (sets one two : List ℕ) (d a b : ℕ) → one ≡ sharedAll sets d (a ∷ []) → two ≡ shared 8 one d d b → two ≡ sharedAll sets d (a ∷ b ∷ [])
+both-end sets one two d a b e e' = e' ∙ ap (λ (l : List ℕ). shared 8 l d d b) e

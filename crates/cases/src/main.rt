@@ -76,7 +76,7 @@ fn open_with_two(case: &[u8], row: usize) {
     let mut sent = [0u32; 2];
     let first = prepared(1, 2, &mut rows, &[1, 2, 5, 5, 17, 12, 18, 24]);
     let second = prepared(2, 3, &mut other, &[3, 1, 7, 6, 23, 12, 18, 24]);
-    message::opening_message(second, &other, row, &mut sent);
+    message::opening_message(second, &other, row, 1, &mut sent);
     let blocks = [0, 0, 0, 1, sent[0], sent[1], 0, 0, 0];
     let answer = opening::open(first, &rows, row, &blocks);
     show(case, answer.refusal, answer.value);
@@ -205,9 +205,21 @@ fn open_charge(case: &[u8]) {
         &[1, mine[0], mine[1], 0, 0, 0, 0, 0, 0],
         &[1, mine[2], mine[3], 0, 0, 0, 0, 0, 0],
     );
-    message::opening_message(second, &other, 5, &mut sent);
+    message::opening_message(second, &other, 5, 1, &mut sent);
     let blocks = [0, 0, 0, 1, sent[0], sent[1], 0, 0, 0];
     let answer = opening::open(first, &rows, 5, &blocks);
+    show(case, answer.refusal, answer.value);
+}
+
+// Post 1 of three, whose row 0 an A line leaves to posts 1 and 3, makes its message for a post that calls for it.
+fn called_by(case: &[u8], caller: usize) {
+    let mut rows = [0u32; 768];
+    let mut sent = [0u32; 2];
+    let new = one_point(3, 1, 1, 2).session;
+    let loaded = load::load_row(new, &mut rows, 0, &[1, 2, 5, 5, 17, 12, 18, 24]).session;
+    let admitted = access::access(loaded, b"A,0,1,3\n").session;
+    let dealt = deal::deal(admitted, &mut rows, 0, 93).session;
+    let answer = message::opening_message(dealt, &rows, 0, caller, &mut sent);
     show(case, answer.refusal, answer.value);
 }
 
@@ -234,4 +246,8 @@ fn main() {
     open_with_points(b"a with two points", 3, 1, 2);
     open_with_points(b"passes the first point only", 13, 0, 0);
     open_with_points(b"passes the second point only", 39, 0, 0);
+    called_by(b"called for by post 3", 3);
+    called_by(b"called for by post 2", 2);
+    called_by(b"called for by nobody", 0);
+    called_by(b"called for by post 4", 4);
 }

@@ -59,12 +59,6 @@ module _ (s : Session) (rows : List ℕ) (r a b scale fee : ℕ) where
   pub linear-allows : (f : ℕ) → f ≡ linearRefusal s rows r a b scale fee → Allows f (r ≤ lastRow)
   linear-allows f e = record { allowed = λ n. Passed.summed s rows r a b scale fee (sym e ∙ n) .placed .row-in }
 
-  pub linear-allows-a : (f : ℕ) → f ≡ linearRefusal s rows r a b scale fee → Allows f (a ≤ lastRow)
-  linear-allows-a f e = record { allowed = λ n. Passed.summed s rows r a b scale fee (sym e ∙ n) .placed .a-in }
-
-  pub linear-allows-b : (f : ℕ) → f ≡ linearRefusal s rows r a b scale fee → Allows f (b ≤ lastRow)
-  linear-allows-b f e = record { allowed = λ n. Passed.summed s rows r a b scale fee (sym e ∙ n) .placed .b-in }
-
   pub linear-untouched : (f : ℕ) → f ≡ linearRefusal s rows r a b scale fee → (f ≡ 0 → ⊥) → rows ≡ linearRows s rows r a b scale fee
   linear-untouched f e n =
       refused f (linearRefusal s rows r a b scale fee)

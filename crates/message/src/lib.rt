@@ -43,7 +43,7 @@ fn not_called(session: Session, row: usize, caller: usize) -> u8
         return 15;
     }
     let sets = session.barred;
-    if callers::bars(sets, row, caller) {
+    if callers::bars(&sets, row, caller) {
         15
     } else {
         0

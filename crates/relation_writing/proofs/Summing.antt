@@ -10,10 +10,10 @@ use Rattle.field.specs.Arithmetic.{product}
 use Rattle.shape.specs.declared.Shape.{Shape}
 use Rattle.shape.specs.Lengths as Lengths
 use Rattle.shape.specs.Lengths.{rowLength}
-use Rattle.callers.specs.Sets.{joining}
+use Rattle.callers.specs.Sets.{shared, joining, sharedAll}
 use Rattle.session.specs.declared.Session.{Session}
 use Rattle.session.specs.declared.Answer.{Answer}
-use Rattle.session.specs.Sessions.{shapeOf, withBarred, sharing, sharingAll, holding, collectedTriple, finishedTriple}
+use Rattle.session.specs.Sessions.{shapeOf, withBarred, sharingAll, holding, collectedTriple, finishedTriple}
 use Rattle.session.specs.Rows.{rowAt, withRow, summed}
 use Rattle.session.specs.Between.{Framed, Sized, RowIn, TripleIn}
 use Rattle.session.proofs.Passed.{row-below}
@@ -132,18 +132,25 @@ pub pair-of : (s : Session) (r y y' : ℕ) (a b : Answer) → a ≡ holding 0 0 
 pair-of s r y y' a b ea eb = ap (λ (x : Answer). x .session) eb ∙ ap (λ (x : Answer). finishedTriple (x .session) r) ea
 
 -- the sum's set
-pub share-is : (s o : Session) (d r : ℕ) (t : Term) → r ≡ numberRow t → o ≡ sharing s d d r → o ≡ sharing s d d (numberRow t)
-share-is s o d r t e eo = rw e at eo
+-- the sets
+pub share-is : (sets now : List ℕ) (d r : ℕ) (t : Term) → r ≡ numberRow t → now ≡ shared 8 sets d d r → now ≡ shared 8 sets d d (numberRow t)
+share-is sets now d r t e eo = rw e at eo
+
+abbrev pub shareIn : ℕ → ℕ → Term → List ℕ → List ℕ
+shareIn d k t sets = shared 8 sets d d (numberRow t)
+
+pub shares-walk : (d k : ℕ) (ts : List Term) (sets : List ℕ) → walked (shareIn d) k ts sets ≡ joining d (numberRows ts) sets
+shares-walk d k [] sets = refl
+shares-walk d k (t ∷ ts) sets = shares-walk d (suc k) ts (shareIn d k t sets)
+
+pub shared-is : (sets one two : List ℕ) (d : ℕ) (rows : List ℕ) → one ≡ shared 8 sets d 96 96 → two ≡ joining d rows one → two ≡ sharedAll sets d rows
+shared-is sets one two d rows e e' = e' ∙ ap (joining d rows) e
+
+pub set-is : (s : Session) (d : ℕ) (rows x : List ℕ) → x ≡ sharedAll (s .barred) d rows → withBarred s x ≡ sharingAll s d rows
+set-is s d rows x e = ap (withBarred s) e
 
 pub settled-is : (f g o : Session) (d : ℕ) (rows : List ℕ) → f ≡ g → o ≡ sharingAll f d rows → o ≡ sharingAll g d rows
-settled-is f g o d rows e eo = eo ∙ ap (λ (x : Session). sharingAll x d rows) e
-
-abbrev pub shareIn : ℕ → ℕ → Term → Session → Session
-shareIn d k t s = sharing s d d (numberRow t)
-
-pub shares-walk : (d k : ℕ) (ts : List Term) (s : Session) → walked (shareIn d) k ts s ≡ withBarred s (joining d (numberRows ts) (s .barred))
-shares-walk d k [] s = refl
-shares-walk d k (t ∷ ts) s = shares-walk d (suc k) ts (shareIn d k t s)
+settled-is f g o d rows e eo = eo ∙ ap (λ (s : Session). sharingAll s d rows) e
 
 abbrev pub finishIn : List ℕ → List ℕ → ℕ → Term → Session → Session
 finishIn yA yB k t s = pairDone s (t .first) (getD yA k 0) (getD yB k 0)

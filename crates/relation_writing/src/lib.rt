@@ -7,10 +7,11 @@ use terms::Terms;
 ghost use mathlib.Core.Path.{_≡_};
 ghost use mathlib.Core.List.{map};
 ghost use Prim.Native.Nat.{_≤_, _<_};
-ghost use lib.ListN.{replicate};
+ghost use lib.ListN.{length, replicate};
+ghost use Rattle.callers.specs.Sets.{setsLength, shared, joining, sharedAll};
 ghost use Rattle.shape.specs.Bounds.{lastTriple};
 ghost use Rattle.shape.specs.Lengths.{rowLength};
-ghost use Rattle.session.specs.Sessions.{shapeOf, sharing, sharingAll};
+ghost use Rattle.session.specs.Sessions.{shapeOf, sharingAll};
 ghost use Rattle.session.specs.Rows.{withRow};
 ghost use Rattle.session.specs.Between.{Sized, Framed, RowIn};
 ghost use Rattle.multiply.specs.Multiply.{withProduct};
@@ -124,24 +125,40 @@ fn finish_triple(session: Session, term: Term, y_a: u32, y_b: u32) -> Session
 }
 
 // A row bars whom a term's row bars too.
-fn share_term(session: Session, dest: usize, term: Term) -> Session
-    requires { ⌜ dest < 96 ⌝ }
-    ensures { λ r. ⌜ r ≡ sharing session dest dest (numberRow term) ⌝ }
+fn share_term(sets: &mut [u32], dest: usize, term: Term)
+    requires { ⌜ (length (now sets) ≡ setsLength) × (dest < 96) ⌝ }
+    ensures { λ r. ⌜ now (sets .exit) ≡ shared 8 (now (sets .entry)) dest dest (numberRow term) ⌝ }
 {
     let row = number_row(term);
-    session.shared(dest, dest, row)
+    callers::share(sets, dest, dest, row);
 }
 
-// The sum's row bars whom any term's row bars.
-pub fn share_terms(session: Session, all: Terms, dest: usize) -> Session
+// And whom any term's row bars.
+fn join_terms(sets: &mut [u32], all: Terms, dest: usize)
+    requires { ⌜ (length (now sets) ≡ setsLength) × Few all × (dest < 96) ⌝ }
+    ensures { λ r. ⌜ now (sets .exit) ≡ joining dest (numberRows (termsOf all)) (now (sets .entry)) ⌝ }
+{
+    for j in 0..all.count {
+        share_term(sets, dest, all.list[j]);
+    }
+}
+
+// The sum's row bars just these.
+fn share_terms(sets: &mut [u32], all: Terms, dest: usize)
+    requires { ⌜ (length (now sets) ≡ setsLength) × Few all × (dest < 96) ⌝ }
+    ensures { λ r. ⌜ now (sets .exit) ≡ sharedAll (now (sets .entry)) dest (numberRows (termsOf all)) ⌝ }
+{
+    callers::share(sets, dest, shape::ROWS, shape::ROWS);
+    join_terms(sets, all, dest);
+}
+
+fn with_set(session: Session, all: Terms, dest: usize) -> Session
     requires { ⌜ Few all × (dest < 96) ⌝ }
     ensures { λ r. ⌜ r ≡ sharingAll session dest (numberRows (termsOf all)) ⌝ }
 {
-    let mut now = session.shared(dest, shape::ROWS, shape::ROWS);
-    for i in 0..all.count {
-        now = share_term(now, dest, all.list[i]);
-    }
-    now
+    let mut barred = session.barred;
+    share_terms(&mut barred, all, dest);
+    Session { barred, ..session }
 }
 
 // The same on every product term's triple.
@@ -162,5 +179,5 @@ pub fn settle(session: Session, all: Terms, dest: usize, opened: OpenedTerms) ->
     ensures { λ r. ⌜ r ≡ sharingAll (triplesFinished (opened .«y_a») (opened .«y_b») 0 (factorsOf all) session) dest (numberRows (termsOf all)) ⌝ }
 {
     let finished = finish_triples(session, all, opened);
-    share_terms(finished, all, dest)
+    with_set(finished, all, dest)
 }

@@ -240,28 +240,26 @@ impl Session {
         }
     }
 
-    // Row d bars whom row a or row b bars.
-    pub fn shared(self, d: usize, a: usize, b: usize) -> Session
-        requires { ⌜ d < 96 ⌝ }
-        ensures { λ r. ⌜ r ≡ sharing self d a b ⌝ }
-    {
-        let sets = self.barred;
-        let barred = callers::share(sets, d, a, b);
-        Session { barred, ..self }
-    }
-
-    // How linear ends: row d holds the sum of two rows.
+    // How linear ends: row d holds the sum of two rows, and bars whom one of them bars.
     pub fn answer_summing(self, refusal: u8, d: usize, a: usize, b: usize) -> Answer
-        requires { ⌜ Allows refusal (d ≤ lastRow) × Allows refusal (a ≤ lastRow) × Allows refusal (b ≤ lastRow) ⌝ }
+        requires { ⌜ Allows refusal (d ≤ lastRow) ⌝ }
         ensures { λ r. ⌜ r ≡ answer refusal 0 (summedRow self d (a ∷ b ∷ [])) self ⌝ }
     {
-        if refusal != 0 {
-            return self.refuse(refusal);
+        let mut marks = self.marks;
+        let mut barred = self.barred;
+        if refusal == 0 {
+            callers::share_both(&mut barred, d, a, b);
+            marks[d] = shape::HELD;
         }
-        let none = self.shared(d, shape::ROWS, shape::ROWS);
-        let one = none.shared(d, d, a);
-        let two = one.shared(d, d, b);
-        two.answer_marking(0, d, shape::HELD)
+        Answer {
+            refusal,
+            value: 0,
+            session: Session {
+                marks,
+                barred,
+                ..self
+            },
+        }
     }
 
     // How a finish's second call ends: the third row bars whom a factor row bars.
@@ -269,14 +267,26 @@ impl Session {
         requires { ⌜ Allows refusal (first ≤ lastTriple) ⌝ }
         ensures { λ r. ⌜ r ≡ answer refusal 0 (finishedTriple self first) self ⌝ }
     {
-        if refusal != 0 {
-            return self.refuse(refusal);
-        }
+        let mut marks = self.marks;
+        let mut barred = self.barred;
         let factors_a = self.factor_a;
         let factors_b = self.factor_b;
-        let a = factors_a[first] as usize;
-        let b = factors_b[first] as usize;
-        let shared = self.shared(first + 2, a, b);
-        shared.answer_marking_triple(0, first, shape::SPENT, shape::SPENT, shape::HELD)
+        if refusal == 0 {
+            let a = factors_a[first] as usize;
+            let b = factors_b[first] as usize;
+            callers::share(&mut barred, first + 2, a, b);
+            marks[first] = shape::SPENT;
+            marks[first + 1] = shape::SPENT;
+            marks[first + 2] = shape::HELD;
+        }
+        Answer {
+            refusal,
+            value: 0,
+            session: Session {
+                marks,
+                barred,
+                ..self
+            },
+        }
     }
 }

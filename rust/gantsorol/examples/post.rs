@@ -158,7 +158,7 @@ impl<W: Write> Post<W> {
         let (mut message, mut line) =
             ([0; message_len(T, POINTS)], [0; opening_line_len(N, T, POINTS)]);
         let session = &mut self.session;
-        session.take().opening_message(&self.rows, row, &mut message).keep(session)?;
+        session.take().opening_message(&self.rows, row, 1, &mut message).keep(session)?;
         let len = write_opening(N, T, POINTS, row, session.post, &message, &mut line).accepted()?;
         Ok(self.send(&line[..len])?)
     }

@@ -62,7 +62,7 @@ fn prove(posts: &mut Posts) -> Result<(), Refusal> {
     for (index, (session, rows)) in posts.iter_mut().enumerate() {
         let mut message = [0; message_len(T, POINTS)];
         session.take().relation_finish(rows, &terms, SUM, &records).keep(session)?;
-        session.take().opening_message(rows, SUM, &mut message).keep(session)?;
+        session.take().opening_message(rows, SUM, 1, &mut message).keep(session)?;
         record_put(N, T, POINTS, &mut record, index + 1, &message)?;
     }
     for (session, rows) in posts {

@@ -28,7 +28,7 @@ fn main() -> Result<(), Refusal> {
 
     // Post 2 sends its message; post 1 opens the number with it, and post 3 is absent.
     let (mut message, mut record) = ([0; message_len(T, POINTS)], [0; record_len(N, T, POINTS)]);
-    second.take().opening_message(second_rows, 0, &mut message).keep(second)?;
+    second.take().opening_message(second_rows, 0, 1, &mut message).keep(second)?;
     record_put(N, T, POINTS, &mut record, 2, &message)?;
     let opened = first.take().open(first_rows, 0, &record).keep(first)?;
     assert_eq!((c, opened), (93, 100));

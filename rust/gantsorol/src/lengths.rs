@@ -13,6 +13,9 @@ pub const MAX_POINTS: usize = 2;
 /// The rows of a session.
 pub const ROWS: usize = 96;
 
+/// The numbers of all rows' sets of posts, eight a row.
+pub const SETS_LEN: usize = 768;
+
 /// The most terms of a relation.
 pub const MAX_TERMS: usize = 32;
 

@@ -64,6 +64,7 @@ refusals! {
     12 NoRoom "the list lent for a line or a file is shorter than that";
     13 InconsistentShares "an accepted share is not on the polynomial of the t+1 lowest, in any record";
     14 BadTermCount "a relation has no terms, or more than 32";
+    15 CallerBarred "the post that calls for an opening is not in the row's set, or is outside 1 to n";
 }
 
 impl Refusal {

@@ -2,7 +2,7 @@
 
 use core::{fmt, mem};
 
-use crate::{erase, sys, Refusal, ROWS};
+use crate::{erase, sys, Refusal, ROWS, SETS_LEN};
 
 /// What a post remembers beside its rows.
 ///
@@ -45,6 +45,9 @@ pub struct Session {
     pub y_a: [u32; ROWS],
     /// At the first row of a triple whose masks were opened: y' = b − l'. It stays after the product.
     pub y_b: [u32; ROWS],
+    /// The posts that may not call for a row's opening, eight numbers a row: post j is barred from
+    /// row r where bit (j − 1) % 32 of number 8 r + (j − 1) / 32 is 1. [`may_call`](Self::may_call) reads them.
+    pub barred: [u32; SETS_LEN],
 }
 
 /// Without the check points, which are secret.
@@ -74,6 +77,7 @@ impl Default for Session {
             factor_b: [0; ROWS],
             y_a: [0; ROWS],
             y_b: [0; ROWS],
+            barred: [0; SETS_LEN],
         }
     }
 }
@@ -133,11 +137,12 @@ impl Session {
     /// Zeros over every field, once the session is no longer needed. Copies that calls had on the
     /// stack stay there until they are written over.
     pub fn erase(&mut self) {
-        let Self { n, t, post, points, first, second, marks, factor_a, factor_b, y_a, y_b } = self;
+        let Self { n, t, post, points, first, second, marks, factor_a, factor_b, y_a, y_b, barred } = self;
         [n, t, post, points].into_iter().for_each(|field| erase(core::slice::from_mut(field)));
         [first, second].into_iter().for_each(|point| erase(core::slice::from_mut(point)));
         [marks, factor_a, factor_b].into_iter().for_each(|list| erase(list));
         [y_a, y_b].into_iter().for_each(|list| erase(list));
+        erase(barred);
     }
 
     /// Loads the post's part of a drawn row, [`row_len`](crate::row_len) numbers, into an empty
@@ -182,10 +187,26 @@ impl Session {
         unsafe { sys::gantsorol_deal(self, rows.as_mut_ptr(), rows.len(), row, c) }
     }
 
-    /// Writes the coefficients of a held row, [`message_len`](crate::message_len) numbers, into `out`.
-    /// Refusals 1 to 8.
+    /// Whether the row's set has the post: whether it may call for the row's opening. A new session's
+    /// sets have all posts.
+    pub fn may_call(&self, row: usize, post: usize) -> bool {
+        let barred = |place: usize| self.barred.get(8 * row + place / 32).map(|bits| bits >> (place % 32) & 1);
+        (1..=self.n).contains(&post) && barred(post - 1) == Some(0)
+    }
+
+    /// Reads an `A` line with its line feed: the posts that may call for the opening of a raw row.
+    /// A row made from others has the posts that all of them share, a product those that its factor
+    /// rows share. Refusals 1 to 4, 10, 11, 7.
     #[inline]
-    pub fn opening_message(self, rows: &[u32], row: usize, out: &mut [u32]) -> Answer {
+    pub fn access(self, line: &[u8]) -> Answer {
+        // SAFETY: the line is a borrowed slice's pointer and length, and is not written.
+        unsafe { sys::gantsorol_access(self, line.as_ptr(), line.len()) }
+    }
+
+    /// Writes the coefficients of a held row, [`message_len`](crate::message_len) numbers, into `out`.
+    /// `caller` is the post that calls for the opening. Refusals 1 to 8, 15.
+    #[inline]
+    pub fn opening_message(self, rows: &[u32], row: usize, caller: usize, out: &mut [u32]) -> Answer {
         // SAFETY: each list is a borrowed slice's pointer and length, and `out` overlaps no other.
         unsafe {
             sys::gantsorol_opening_message(
@@ -193,6 +214,7 @@ impl Session {
                 rows.as_ptr(),
                 rows.len(),
                 row,
+                caller,
                 out.as_mut_ptr(),
                 out.len(),
             )

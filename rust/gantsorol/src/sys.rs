@@ -43,9 +43,12 @@ extern "C" {
         rows: *const u32,
         rows_len: usize,
         row: usize,
+        caller: usize,
         out: *mut u32,
         out_len: usize,
     ) -> Answer;
+
+    pub fn gantsorol_access(session: Session, line: *const u8, line_len: usize) -> Answer;
 
     pub fn gantsorol_open(
         session: Session,

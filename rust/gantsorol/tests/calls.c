@@ -116,7 +116,7 @@ static void multiply(void) {
     for (int i = 0; i < N; i++) {
         keep(i, gantsorol_multiply(posts[i], rows[i], ALL, 93));
         print("product", rows[i] + 95 * ROW, ROW);
-        keep(i, gantsorol_opening_message(posts[i], rows[i], ALL, 95, message, T + 1));
+        keep(i, gantsorol_opening_message(posts[i], rows[i], ALL, 95, 1, message, T + 1));
         put(record, i, message);
     }
     for (int i = 0; i < N; i++)
@@ -167,7 +167,7 @@ static void relate(void) {
     for (int i = 0; i < N; i++) {
         keep(i, gantsorol_relation_finish(posts[i], rows[i], ALL, terms, TERMS, 2, records, RECORDS));
         print("sum", rows[i] + 2 * ROW, ROW);
-        keep(i, gantsorol_opening_message(posts[i], rows[i], ALL, 2, message, T + 1));
+        keep(i, gantsorol_opening_message(posts[i], rows[i], ALL, 2, 1, message, T + 1));
         put(record, i, message);
     }
     for (int i = 0; i < N; i++)
@@ -271,7 +271,7 @@ int main(void) {
         keep(i, gantsorol_load_triple(posts[i], rows[i], ALL, 90, three, 3 * ROW));
         keep(i, gantsorol_deal(posts[i], rows[i], ALL, 0, c.value));
         keep(i, gantsorol_linear(posts[i], rows[i], ALL, 1, 0, 0, 2, 8));
-        keep(i, gantsorol_opening_message(posts[i], rows[i], ALL, 1, message, T + 1));
+        keep(i, gantsorol_opening_message(posts[i], rows[i], ALL, 1, 1, message, T + 1));
         put(record, i, message);
     }
     print("record", record, RECORD);

@@ -10,7 +10,7 @@ use std::path::Path;
 use common::programs::{exports, repository};
 use gantsorol::{
     DEAL_LINE_LEN, LONGEST_LINE, MAX_POINTS, MAX_POSTS, MAX_TERMS, MODULUS, MOST_STACK, NO_ROW,
-    ROWS,
+    ROWS, SETS_LEN,
 };
 
 /// A file's text without line comments, block comments, attributes and preprocessor lines.
@@ -154,7 +154,7 @@ fn header() -> (BTreeSet<String>, BTreeSet<String>) {
     while let Some((before, after)) = rest.split_once("typedef") {
         let (fields, after) = after.split_once('}').expect("a struct has an end");
         let (name, after) = after.split_once(';').expect("a typedef has an end");
-        structs.insert(squeezed(&format!("{fields}}}{name}").replace("GANTSOROL_ROWS", "96")));
+        structs.insert(squeezed(&format!("{fields}}}{name}").replace("GANTSOROL_ROWS", "96").replace("GANTSOROL_SETS_LEN", "768")));
         assert!(before.trim().is_empty(), "the structs come first");
         rest = after;
     }
@@ -191,6 +191,8 @@ fn structs(paths: &[String]) -> BTreeMap<String, Vec<Typed>> {
                 let (fields, _) = rest.split_once('}').expect("a struct has an end");
                 let fields = fields
                     .trim_start_matches('{')
+                    .replace("BARRED", "768")
+                    .replace("SETS_LEN", "768")
                     .replace("shape::ROWS", "96")
                     .replace("ROWS", "96");
                 found.insert(name.to_string(), typed(&fields));
@@ -262,6 +264,7 @@ fn the_header_has_the_constants_of_the_binding() {
         ("MOST_STACK", MOST_STACK),
         ("NO_ROW", NO_ROW.into()),
         ("ROWS", ROWS),
+        ("SETS_LEN", SETS_LEN),
     ]
     .map(|(name, value)| (name.to_string(), value));
     assert_eq!(header.lines().filter_map(constant).collect::<BTreeMap<_, _>>(), expected.into());

@@ -173,7 +173,7 @@ fn the_library_takes_these_lengths() {
         check_exact(row_len(n, t, points), pack);
         let pack = |len| post().load_triple(&mut rows.clone(), 0, &list(len)).refusal;
         check_exact(triple_pack_len(n, t, points), pack);
-        let message = |len| post().opening_message(&rows, 0, &mut list(len)).refusal;
+        let message = |len| post().opening_message(&rows, 0, 1, &mut list(len)).refusal;
         check_exact(message_len(t, points), message);
         check_exact(record_len(n, t, points), |len| post().open(&rows, 0, &list(len)).refusal);
         let masks = |len| post().masks(&rows, 0, 0, 0, &mut list(len)).refusal;

@@ -88,7 +88,7 @@ impl Post {
 
 fn message(post: usize) -> [u32; T + 1] {
     let mut out = [0; T + 1];
-    Post::new(post).done(|session, rows| session.opening_message(rows, 0, &mut out));
+    Post::new(post).done(|session, rows| session.opening_message(rows, 0, 1, &mut out));
     out
 }
 
@@ -109,7 +109,7 @@ fn eight_looks_at_the_rows_that_a_call_reads() {
         refusals[0]
     };
     let send =
-        |session: Session, rows: &mut Vec<u32>| session.opening_message(rows, 0, &mut [0; T + 1]);
+        |session: Session, rows: &mut Vec<u32>| session.opening_message(rows, 0, 1, &mut [0; T + 1]);
     assert_eq!([0, 1].map(|row| all(&mut post, row, &send)), [8, 0]);
     let mask = |session: Session, rows: &mut Vec<u32>| {
         session.masks(rows, 0, 1, 2, &mut [0; masks_len(T, POINTS)])

@@ -201,7 +201,8 @@ fn factor_rows_that_are_not_held() {
             post.check_collect(7);
             let mut post = ready().collected();
             change(&mut post.session);
-            post.check_multiply(0);
+            // "a finish's second call gives 7 unless they are held"
+            post.check_multiply(7);
         }
     });
 }

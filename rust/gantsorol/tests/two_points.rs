@@ -66,7 +66,7 @@ fn dealt_and_sent() {
         assert_eq!(this.rows[..9], ROWS_BY_HAND[post - 1][..9]);
         assert_eq!(this.rows[9..12], [105, 111, 117]);
         let mut out = [9; 3];
-        this.done(|session, rows| session.opening_message(rows, 0, &mut out));
+        this.done(|session, rows| session.opening_message(rows, 0, 1, &mut out));
         assert_eq!(out, ROWS_BY_HAND[post - 1][..3]);
     }
 }
@@ -146,7 +146,7 @@ fn a_product() {
     let mut record = [0; 12];
     for (post, this) in posts.iter_mut().enumerate() {
         let mut message = [0; 3];
-        this.done(|session, rows| session.opening_message(rows, 4, &mut message));
+        this.done(|session, rows| session.opening_message(rows, 4, 1, &mut message));
         record_put(N, T, POINTS, &mut record, post + 1, &message).expect("a message");
     }
     assert!(posts.iter().all(|this| this.open(4, &record) == Ok(30_800)));
@@ -215,13 +215,13 @@ fn the_second_point() {
 
         let mut lent = Post::new(1);
         lent.session.second = second;
-        let answer = lent.session.clone().opening_message(&lent.rows, 0, &mut [0; 3]);
+        let answer = lent.session.clone().opening_message(&lent.rows, 0, 1, &mut [0; 3]);
         assert_eq!((answer.refusal, answer.session), (expected, lent.session.clone()));
         let answer = lent.session.clone().deal(&mut [], 0, 0);
         assert_eq!(answer.refusal, if expected == 4 { 4 } else { 5 });
         // one point
         (lent.session.points, lent.rows) = (1, vec![0; 768]);
-        let answer = lent.session.clone().opening_message(&lent.rows, 0, &mut [0; 2]);
+        let answer = lent.session.clone().opening_message(&lent.rows, 0, 1, &mut [0; 2]);
         assert_eq!((answer.refusal, answer.session), (0, lent.session));
     }
 }

@@ -1,5 +1,6 @@
 //! Loading, dealing, the opening message and weighted sums.
 
+use crate::callers::expect_caller;
 use crate::field::expect_elements;
 use crate::refusal::{require, Refusal};
 use crate::row::{add_public, weighted_sum};
@@ -75,20 +76,23 @@ pub(crate) fn try_deal<const P: u32>(
     Ok((0, s.with_mark(row, mark::HELD)))
 }
 
-/// "The t+1 coefficients of a held row", into a lent list of t+1.
+/// "The t+1 coefficients of a held row", or 2t+1, into a lent list of as many. "The opening message
+/// call takes the number of the post that calls for it."
 pub fn opening_message<const P: u32>(
     s: Session,
     rows: &[u32],
     row: usize,
+    caller: usize,
     out: &mut [u32],
 ) -> Answer {
-    s.answer(try_opening_message::<P>(s, rows, row, out))
+    s.answer(try_opening_message::<P>(s, rows, row, caller, out))
 }
 
 fn try_opening_message<const P: u32>(
     s: Session,
     rows: &[u32],
     row: usize,
+    caller: usize,
     out: &mut [u32],
 ) -> Result<(u32, Session), Refusal> {
     let shape = s.checked::<P>()?;
@@ -98,6 +102,7 @@ fn try_opening_message<const P: u32>(
     s.expect_mark(row, mark::HELD)?;
     let numbers = &rows[shape.at(row)];
     expect_elements::<P>(numbers)?;
+    expect_caller(shape, &s, row, caller)?;
     out.copy_from_slice(&numbers[shape.polynomial()]);
     Ok((0, s))
 }
@@ -134,8 +139,8 @@ pub(crate) fn try_linear<const P: u32>(
     expect_elements::<P>(&[scale, fee])?;
     expect_elements::<P>(&rows[shape.at(a)])?;
     expect_elements::<P>(&rows[shape.at(b)])?;
-    let (a, b) = (&rows[shape.at(a)], &rows[shape.at(b)]);
-    let sum = weighted_sum::<P>(shape, a, scale.into(), b, fee.into());
+    let (left, right) = (&rows[shape.at(a)], &rows[shape.at(b)]);
+    let sum = weighted_sum::<P>(shape, left, scale.into(), right, fee.into());
     rows[shape.at(dest)].copy_from_slice(&sum);
-    Ok((0, s.with_mark(dest, mark::HELD)))
+    Ok((0, s.with_mark(dest, mark::HELD).made_from(dest, [a, b])))
 }

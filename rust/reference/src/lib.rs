@@ -13,6 +13,7 @@
 //! assert_eq!((refusal, c), (0, 93));
 //! ```
 
+mod callers;
 mod calls;
 mod factory;
 mod field;
@@ -30,6 +31,7 @@ mod session;
 mod shape;
 mod street;
 
+pub use callers::{set_callers, Barred};
 pub use calls::{deal, linear, load_row, load_triple, opening_message};
 pub use factory::{dealer_number, factory_row, factory_triple};
 pub use field::{Element, MODULUS};

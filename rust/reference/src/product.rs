@@ -87,6 +87,20 @@ impl Product {
         opened.y2[self.first] = y2.value();
         opened
     }
+
+    /// "l'' + y l' + y' l + y y' (y y' is added to m1..mn only)" into the third row, with the numbers
+    /// remembered: the sum of rows twice, with y y' as the second one's fee. The third row has the
+    /// posts that its factor rows share.
+    pub(crate) fn write<const P: u32>(self, shape: Shape, s: Session, rows: &mut [u32]) -> Session {
+        let Self { a, b, first } = self;
+        let (y, y2) = (Element::<P>::from(s.y[first]), Element::from(s.y2[first]));
+        let [l, l2, l3] = [first, first + 1, first + 2].map(|row| &rows[shape.at(row)]);
+        let sum = weighted_sum(shape, l3, y, l2, Element::ZERO);
+        let product = weighted_sum(shape, &sum, y2, l, y * y2);
+        rows[shape.at(first + 2)].copy_from_slice(&product);
+        let done = [mark::SPENT, mark::SPENT, mark::HELD];
+        s.with_marks(first, done).made_from(first + 2, [a, b])
+    }
 }
 
 /// "For held a and b (perhaps the same) and an unused triple (marks 3, 4, 4): the polynomials of
@@ -176,26 +190,12 @@ pub(crate) fn try_multiply<const P: u32>(
     expect_length(rows, shape.all_rows())?;
     expect_triple(first)?;
     s.expect_marks(first, OPENED)?;
+    // "A finish's second call gives 7 unless they are held": its factor rows.
+    let product = Product::remembered(&s, first)?;
     // "One at least p gets 8."
     expect_elements::<P>(&[s.y[first], s.y2[first]])?;
     for row in [first, first + 1, first + 2] {
         expect_elements::<P>(&rows[shape.at(row)])?;
     }
-    Ok((0, write_product::<P>(shape, s, rows, first)))
-}
-
-/// "l'' + y l' + y' l + y y' (y y' is added to m1..mn only)" into the third row, with the numbers
-/// remembered: the sum of rows twice, with y y' as the second one's fee.
-pub(crate) fn write_product<const P: u32>(
-    shape: Shape,
-    s: Session,
-    rows: &mut [u32],
-    first: usize,
-) -> Session {
-    let (y, y2) = (Element::<P>::from(s.y[first]), Element::from(s.y2[first]));
-    let [l, l2, l3] = [first, first + 1, first + 2].map(|row| &rows[shape.at(row)]);
-    let sum = weighted_sum(shape, l3, y, l2, Element::ZERO);
-    let product = weighted_sum(shape, &sum, y2, l, y * y2);
-    rows[shape.at(first + 2)].copy_from_slice(&product);
-    s.with_marks(first, [mark::SPENT, mark::SPENT, mark::HELD])
+    Ok((0, product.write::<P>(shape, s, rows)))
 }

@@ -33,6 +33,8 @@ pub enum Refusal {
     Disagreement = 13,
     /// a relation of no terms or of more than 32; after 5
     Terms = 14,
+    /// an opening message for a post that may not call for it; after 8
+    Caller = 15,
 }
 
 impl Refusal {

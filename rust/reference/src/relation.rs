@@ -3,7 +3,7 @@
 
 use crate::field::{expect_elements, Element};
 use crate::opening::{Accepted, Record};
-use crate::product::{write_product, Product, MASKED, UNUSED};
+use crate::product::{Product, MASKED, UNUSED};
 use crate::refusal::{require, Refusal};
 use crate::row::weighted_sum;
 use crate::session::{mark, Answer, Session};
@@ -34,6 +34,11 @@ impl Term {
     fn product(self) -> Option<Product> {
         let Self { row: a, second: b, first, .. } = self;
         (b != NO_ROW).then_some(Product { a, b, first })
+    }
+
+    /// The row, and the second row where there is one.
+    fn rows(self) -> Vec<usize> {
+        self.product().map_or(vec![self.row], |Product { a, b, .. }| vec![a, b])
     }
 
     /// Check 6.
@@ -159,11 +164,10 @@ fn try_relation_finish<const P: u32>(
     let numbers = opened_masks::<P>(shape, &s, rows, &products, &records)?;
     let mut finished = s.with_mark(dest, mark::HELD);
     for (product, numbers) in products.iter().zip(numbers) {
-        let opened = product.opened(finished, numbers);
-        finished = write_product::<P>(shape, opened, rows, product.first);
+        finished = product.write::<P>(shape, product.opened(finished, numbers), rows);
     }
     write_sum::<P>(shape, rows, terms, dest);
-    Ok((0, finished))
+    Ok((0, finished.made_from(dest, terms.iter().flat_map(|term| term.rows()))))
 }
 
 /// Check 8 for "every row of every term" and "the triples' three rows".

@@ -1,5 +1,6 @@
 //! The session that a post keeps, and the checks that every call makes on it.
 
+use crate::callers::Barred;
 use crate::refusal::{require, Refusal};
 use crate::shape::{Shape, ROWS};
 
@@ -24,7 +25,8 @@ pub mod mark {
 }
 
 /// "The session remembers n, t, post, check point, the marks, and for mark 5 the two factor rows";
-/// for mark 7 "the two numbers" of the masks.
+/// for mark 7 "the two numbers" of the masks; for each row "a set of posts that may call for its
+/// opening", kept as those that may not.
 ///
 /// The fields may hold anything; each call checks them anew.
 #[derive(Clone, Copy, Debug, PartialEq, Eq)]
@@ -51,6 +53,8 @@ pub struct Session {
     pub y: [u32; ROWS],
     /// At a triple's first row: y' = b − l'.
     pub y2: [u32; ROWS],
+    /// For each row, who may not call for its opening.
+    pub barred: [Barred; ROWS],
 }
 
 impl Session {
@@ -67,6 +71,7 @@ impl Session {
         right: [0; ROWS],
         y: [0; ROWS],
         y2: [0; ROWS],
+        barred: [Barred::NOBODY; ROWS],
     };
 
     /// Checks 1 to 4.
@@ -101,6 +106,18 @@ impl Session {
     pub(crate) fn with_marks(mut self, first: usize, marks: [u8; 3]) -> Self {
         self.marks[first..first + marks.len()].copy_from_slice(&marks);
         self
+    }
+
+    /// The session with another set of barred posts for row `row`.
+    pub(crate) fn with_barred(mut self, row: usize, barred: Barred) -> Self {
+        self.barred[row] = barred;
+        self
+    }
+
+    /// "A row made from others has the posts that all of them share": row `row` is made from these.
+    pub(crate) fn made_from(self, row: usize, others: impl IntoIterator<Item = usize>) -> Self {
+        let barred = others.into_iter().map(|other| self.barred[other]);
+        self.with_barred(row, barred.fold(Barred::NOBODY, Barred::or))
     }
 
     /// What a call hands back: the new value and session or, refused, 0 and the old session.

@@ -26,7 +26,7 @@ fn calls_and_rows_read() -> (State, Vec<(Call, Vec<usize>)>) {
         (Call::LoadRow { row: 50, pack: vec![0; 8] }, vec![]),
         (Call::LoadTriple { first: 50, pack: vec![0; 24] }, vec![]),
         (Call::Deal { row: 0, c: 1 }, vec![0]),
-        (Call::OpeningMessage { row: 9, out: 2 }, vec![9]),
+        (Call::OpeningMessage { row: 9, caller: 1, out: 2 }, vec![9]),
         (Call::Open { row: 9, record: to_record(&messages) }, vec![9]),
         (Call::Linear { dest: 50, a: 1, b: 2, scale: 3, fee: 4 }, vec![1, 2]),
         (Call::Masks { a: 1, b: 2, first: 3, out: 4 }, vec![1, 2, 3, 4]),

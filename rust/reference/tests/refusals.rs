@@ -22,7 +22,7 @@ fn valid_calls() -> (State, Vec<Call>) {
         Call::LoadRow { row: 95, pack: vec![1; 8] },
         Call::LoadTriple { first: 93, pack: vec![1; 24] },
         Call::Deal { row: 0, c: MODULUS - 1 },
-        Call::OpeningMessage { row: 9, out: 2 },
+        Call::OpeningMessage { row: 9, caller: 1, out: 2 },
         Call::Open { row: 9, record: opening },
         Call::Linear { dest: 95, a: 1, b: 2, scale: MODULUS - 1, fee: MODULUS - 1 },
         Call::Masks { a: 1, b: 1, first: 3, out: 4 },
@@ -124,7 +124,7 @@ fn lists_one_short_and_one_long_get_5_before_anything_behind() {
         assert_refused(&state, Call::LoadTriple { first: 94, pack: vec![MODULUS; length] }, 5);
     }
     for out in [0, 1, 3] {
-        assert_refused(&state, Call::OpeningMessage { row: 96, out }, 5);
+        assert_refused(&state, Call::OpeningMessage { row: 96, caller: 1, out }, 5);
     }
     for out in [0, 2, 3, 5] {
         assert_refused(&state, Call::Masks { a: 96, b: 96, first: 94, out }, 5);
@@ -145,7 +145,7 @@ fn rows_above_the_last_get_6_before_marks_and_numbers() {
         let bad = MODULUS;
         assert_refused(&state, Call::LoadRow { row, pack: vec![bad; 8] }, 6);
         assert_refused(&state, Call::Deal { row, c: bad }, 6);
-        assert_refused(&state, Call::OpeningMessage { row, out: 2 }, 6);
+        assert_refused(&state, Call::OpeningMessage { row, caller: 0, out: 2 }, 6);
         assert_refused(&state, Call::Open { row, record: vec![bad; 9] }, 6);
         // Row 0 is raw: the other two rows would get 7.
         assert_refused(&state, Call::Linear { dest: row, a: 0, b: 0, scale: bad, fee: bad }, 6);
@@ -180,11 +180,11 @@ fn needed_marks(call: &Call) -> Vec<(usize, u8)> {
         Call::OpenMasks { first, .. } => {
             vec![(first, 5), (first + 1, 4), (first + 2, 4), (1, 2), (2, 2)]
         }
-        Call::Multiply { first } => vec![(first, 7), (first + 1, 4), (first + 2, 4)],
-        // Relations have a file of their own.
-        Call::NewSession { .. } | Call::RelationMasks { .. } | Call::RelationFinish { .. } => {
-            vec![]
+        Call::Multiply { first } => {
+            vec![(first, 7), (first + 1, 4), (first + 2, 4), (1, 2), (2, 2)]
         }
+        // The others have files of their own.
+        _ => vec![],
     }
 }
 

@@ -26,6 +26,8 @@ fn check(script: &Script, seen: &mut Seen) {
     let remembered = state.session.y.into_iter().zip(state.session.y2);
     assert!(remembered.eq(script.opened.map(|[y, y2]| (y, y2))));
     for row in 0..96 {
+        let callers = (1..=shape.posts()).filter(|&post| !state.session.barred[row].has(post));
+        assert_eq!(callers.collect::<Vec<_>>(), script.callers[row], "row {row}");
         let written = script.written.iter().find(|(written, _)| *written == row);
         let expected = written.map_or(&script.rows[shape.at(row)], |(_, numbers)| numbers);
         assert_eq!(&state.rows[shape.at(row)], expected, "row {row}");
@@ -144,5 +146,5 @@ fn wild_arguments_never_panic() {
             seen[usize::from(outcome.refusal)] += 1;
         }
     }
-    assert!((0..10).chain([14]).all(|refusal| seen[refusal] > 0), "{seen:?}");
+    assert!((0..12).chain([14, 15]).all(|refusal| seen[refusal] > 0), "{seen:?}");
 }

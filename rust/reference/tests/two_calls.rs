@@ -126,16 +126,11 @@ fn remembered_numbers_that_are_no_elements() {
     assert_taken(&with(&state, &edges), multiply);
 }
 
-/// The second call "takes only the triple": factors may have changed, and aren't looked at.
+/// The second call "takes only the triple": the numbers of its factors aren't read.
 #[test]
-fn the_second_call_does_not_look_at_the_factors() {
+fn the_second_call_does_not_read_the_factors() {
     let (state, _) = post_1();
-    let damage = [
-        Damage::Left { first: 80, row: 255 },
-        Damage::Right { first: 80, row: 0 },
-        Damage::Mark { row: 1, mark: 0 },
-        Damage::Number { place: 8, number: MODULUS },
-    ];
+    let damage = [8, 23].map(|place| Damage::Number { place, number: MODULUS });
     let right = assert_taken(&state, Call::Multiply { first: 80 }).state;
     let other = assert_taken(&with(&state, &damage), Call::Multiply { first: 80 }).state;
     assert_eq!(right.rows[82 * 8..83 * 8], other.rows[82 * 8..83 * 8]);

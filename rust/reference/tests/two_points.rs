@@ -118,7 +118,7 @@ fn lengths() {
         [
             Call::LoadRow { row: 50, pack: vec![1; 11 + by] },
             Call::LoadTriple { first: 50, pack: vec![1; 35 + by] },
-            Call::OpeningMessage { row: 0, out: 2 + by },
+            Call::OpeningMessage { row: 0, caller: 3, out: 2 + by },
             Call::Masks { a: 0, b: 0, first: 10, out: 5 + by },
         ]
     };

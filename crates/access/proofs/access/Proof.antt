@@ -9,4 +9,4 @@ ruleset steps = (needs, access-own, access-line, access-room, access-mark, acces
 pub access-spec : {M : Type 1} → statement M
 access-spec =
     tie.close
-    (tie.spec (λ c κs. search steps) (λ c κs. search steps) (λ c. search steps) (λ c κs. search steps) (λ c κs. search steps) (λ c. search steps) (λ c. search steps) (λ c κs. search steps) (λ c κs. search steps) (λ c. search steps) (λ c κs. search steps) (λ c κs. search steps) (λ c. search steps))
+    (tie.spec (λ c κs. search steps) (λ c κs. search steps) (λ c. search steps) (λ c κs. search steps) (λ c κs. search steps) (λ c. search steps) (λ c. search steps) (λ c κs. search steps) (λ c κs. search steps) (λ c. search steps) (λ c. search steps) (λ c κs. search steps) (λ c κs. search steps) (λ c. search steps))

@@ -9,14 +9,14 @@ use Rattle.access.proofs.place.Statement.{statement}
 use Rattle.access.proofs.place.Tie as tie
 
 abbrev Inv-loop : tie.InvT-loop
-Inv-loop row sets₀ words k₀ sets k = (k ≤ 8) × (length sets ≡ length sets₀) × (sets ≡ placed k sets₀ row words)
+Inv-loop sets₀ row words k₀ sets k = (k ≤ 8) × (length sets ≡ length sets₀) × (sets ≡ placed k sets₀ row words)
 
 abbrev μ-loop : tie.MeasureT-loop
-μ-loop row sets₀ words k₀ sets k = 8 - k
+μ-loop sets₀ row words k₀ sets k = 8 - k
 
 ruleset steps = (needs, placed-start, placed-more, placed-end)
 
 pub place-spec : {M : Type 1} → statement M
 place-spec =
     tie.close
-    (tie.spec Inv-loop μ-loop (λ c. search steps) (λ c. search steps) (λ c. search steps) (λ c. search steps) (λ c. search steps) (λ c. search steps) (λ c. search steps) (λ c. search steps) (λ c. search steps) (λ c. search steps) (λ c. search steps))
+    (tie.spec Inv-loop μ-loop (λ c. search steps) (λ c. search steps) (λ c. search steps) (λ c. search steps) (λ c. search steps) (λ c. search steps) (λ c. search steps) (λ c. search steps) (λ c. search steps) (λ c. search steps) (λ c. search steps) (λ c. search steps))

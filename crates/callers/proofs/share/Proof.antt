@@ -9,14 +9,14 @@ use Rattle.callers.proofs.share.Statement.{statement}
 use Rattle.callers.proofs.share.Tie as tie
 
 abbrev Inv-loop : tie.InvT-loop
-Inv-loop d a b sets₀ k₀ sets k = (k ≤ 8) × (length sets ≡ length sets₀) × (sets ≡ shared k sets₀ d a b)
+Inv-loop sets₀ d a b k₀ sets k = (k ≤ 8) × (length sets ≡ length sets₀) × (sets ≡ shared k sets₀ d a b)
 
 abbrev μ-loop : tie.MeasureT-loop
-μ-loop d a b sets₀ k₀ sets k = 8 - k
+μ-loop sets₀ d a b k₀ sets k = 8 - k
 
 ruleset steps = (needs, shared-start, shared-more, shared-end)
 
 pub share-spec : {M : Type 1} → statement M
 share-spec =
     tie.close
-    (tie.spec Inv-loop μ-loop (λ c. search steps) (λ c κs. search steps) (λ c κs. search steps) (λ c. search steps) (λ c. search steps) (λ c. search steps) (λ c. search steps) (λ c. search steps) (λ c. search steps) (λ c. search steps) (λ c. search steps))
+    (tie.spec Inv-loop μ-loop (λ c. search steps) (λ c κs. search steps) (λ c κs. search steps) (λ c. search steps) (λ c. search steps) (λ c. search steps) (λ c. search steps) (λ c. search steps) (λ c. search steps) (λ c. search steps) (λ c. search steps) (λ c. search steps))

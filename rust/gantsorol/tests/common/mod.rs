@@ -7,8 +7,8 @@ use std::env;
 use std::ops::Range;
 use std::str::FromStr;
 
-use gantsorol::{Refusal, Session, Term};
-use reference::{Answer, Library, ReadLine, Written};
+use gantsorol::{Refusal, Session, Term, ROWS};
+use reference::{Answer, Barred, Library, ReadLine, Written};
 
 /// The verified library.
 pub struct Verified;
@@ -61,16 +61,36 @@ pub fn new_session(
 }
 
 fn given(s: reference::Session) -> Session {
-    let reference::Session { n, t, post, k, point, second, marks, left, right, y, y2 } = s;
+    let reference::Session { n, t, post, k, point, second, marks, left, right, y, y2, barred } = s;
     let session = Session { n, t, post, points: k, first: point, second, ..Session::default() };
-    Session { marks, factor_a: left, factor_b: right, y_a: y, y_b: y2, ..session }
+    let barred = std::array::from_fn(|word| bits(barred[word / 8], word % 8));
+    Session { marks, factor_a: left, factor_b: right, y_a: y, y_b: y2, barred, ..session }
+}
+
+/// The word of a set that has posts 32 `word` + 1 to 32 `word` + 32, a bit for each.
+fn bits(barred: Barred, word: usize) -> u32 {
+    if barred == Barred::NOBODY {
+        return 0;
+    }
+    let posts = 32 * word + 1..=255.min(32 * word + 32);
+    posts.filter(|&post| barred.has(post)).map(|post| 1 << ((post - 1) % 32)).sum()
+}
+
+/// The posts that a row's eight numbers bar.
+fn posts(words: &[u32]) -> Barred {
+    if words.iter().all(|&word| word == 0) {
+        return Barred::NOBODY;
+    }
+    Barred::posts((1..=255).filter(|post| words[(post - 1) / 32] >> ((post - 1) % 32) & 1 == 1))
 }
 
 fn answered(answer: gantsorol::Answer) -> Answer {
     let gantsorol::Answer { refusal, value, session } = answer;
     let Session { n, t, post, points: k, first: point, second, marks, .. } = session;
     let Session { factor_a: left, factor_b: right, y_a: y, y_b: y2, .. } = session;
-    let session = reference::Session { n, t, post, k, point, second, marks, left, right, y, y2 };
+    let barred = std::array::from_fn(|row| posts(&session.barred[8 * row..8 * row + 8]));
+    let session =
+        reference::Session { n, t, post, k, point, second, marks, left, right, y, y2, barred };
     Answer { refusal, value, session }
 }
 
@@ -136,9 +156,22 @@ impl Library for Verified {
         s: reference::Session,
         rows: &[u32],
         row: usize,
+        caller: usize,
         out: &mut [u32],
     ) -> Answer {
-        answered(given(s).opening_message(rows, row, out))
+        answered(given(s).opening_message(rows, row, caller, out))
+    }
+
+    /// An `A` line bars every number that it does not list; of those above n nothing is asked.
+    fn set_callers(&self, s: reference::Session, line: &[u8]) -> Answer {
+        let mut answer = answered(given(s).access(line));
+        for row in 0..ROWS {
+            let now = answer.session.barred[row];
+            if now != s.barred[row] {
+                answer.session.barred[row] = Barred::posts((1..=s.n).filter(|&post| now.has(post)));
+            }
+        }
+        answer
     }
 
     fn open(&self, s: reference::Session, rows: &[u32], row: usize, record: &[u32]) -> Answer {

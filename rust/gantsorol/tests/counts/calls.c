@@ -159,7 +159,7 @@ static void load_and_deal(void) {
 
 static void open_row(size_t row, uint32_t opened) {
     uint32_t message[MESSAGE], record[GANTSOROL_RECORD_LEN(MOST, MOST, GANTSOROL_MAX_POINTS)];
-    keep(gantsorol_opening_message(session, rows, rows_len, row, message, k), 0, 0, "opening message");
+    keep(gantsorol_opening_message(session, rows, rows_len, row, 1, message, k), 0, 0, "opening message");
     must(memcmp(message, polynomial(row, POST), k * sizeof *message) == 0, "the message is the post's polynomial");
     hear(row, 1, n, record);
     keep(gantsorol_open(session, rows, rows_len, row, record, record_len), 0, opened, "open");

@@ -108,7 +108,7 @@ impl Station {
         let (n, t, points) = (self.n, self.t, self.points);
         self.sent(rng, |post, number, line| {
             let mut message = vec![0; message_len(t, points)];
-            post.call(|session, rows| session.opening_message(rows, row, &mut message));
+            post.call(|session, rows| session.opening_message(rows, row, 1, &mut message));
             gantsorol::write_opening(n, t, points, row, number, &message, line)
         })
     }

@@ -32,8 +32,18 @@ pub trait Library {
     /// Adds the dealer's number to a raw row, which becomes held.
     fn deal(&self, s: Session, rows: &mut [u32], row: usize, c: u32) -> Answer;
 
-    /// The k t + 1 coefficients of a held row.
-    fn opening_message(&self, s: Session, rows: &[u32], row: usize, out: &mut [u32]) -> Answer;
+    /// The k t + 1 coefficients of a held row, for a post that calls for them.
+    fn opening_message(
+        &self,
+        s: Session,
+        rows: &[u32],
+        row: usize,
+        caller: usize,
+        out: &mut [u32],
+    ) -> Answer;
+
+    /// Reads an `A` line: who may call for the opening of a raw row.
+    fn set_callers(&self, s: Session, line: &[u8]) -> Answer;
 
     /// Opens a held row with a record of n blocks.
     fn open(&self, s: Session, rows: &[u32], row: usize, record: &[u32]) -> Answer;

@@ -4,7 +4,7 @@ use super::Library;
 use crate::lines::{ReadLine, Written};
 use crate::relation::{self, Term};
 use crate::session::{Answer, Session};
-use crate::{calls, factory, lines, opening, pack, product, session, street, MODULUS};
+use crate::{callers, calls, factory, lines, opening, pack, product, session, street, MODULUS};
 
 /// This implementation, over the field with `P` elements.
 #[derive(Clone, Copy, Debug, Default)]
@@ -38,8 +38,19 @@ impl<const P: u32> Library for Reference<P> {
         calls::deal::<P>(s, rows, row, c)
     }
 
-    fn opening_message(&self, s: Session, rows: &[u32], row: usize, out: &mut [u32]) -> Answer {
-        calls::opening_message::<P>(s, rows, row, out)
+    fn opening_message(
+        &self,
+        s: Session,
+        rows: &[u32],
+        row: usize,
+        caller: usize,
+        out: &mut [u32],
+    ) -> Answer {
+        calls::opening_message::<P>(s, rows, row, caller, out)
+    }
+
+    fn set_callers(&self, s: Session, line: &[u8]) -> Answer {
+        callers::set_callers::<P>(s, line)
     }
 
     fn open(&self, s: Session, rows: &[u32], row: usize, record: &[u32]) -> Answer {

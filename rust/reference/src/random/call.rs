@@ -20,7 +20,8 @@ pub enum Call {
     LoadRow { row: usize, pack: Vec<u32> },
     LoadTriple { first: usize, pack: Vec<u32> },
     Deal { row: usize, c: u32 },
-    OpeningMessage { row: usize, out: usize },
+    OpeningMessage { row: usize, caller: usize, out: usize },
+    SetCallers { line: Vec<u8> },
     Open { row: usize, record: Vec<u32> },
     Linear { dest: usize, a: usize, b: usize, scale: u32, fee: u32 },
     Masks { a: usize, b: usize, first: usize, out: usize },
@@ -56,7 +57,10 @@ impl Call {
             Self::LoadRow { row, ref pack } => library.load_row(s, &mut rows, row, pack),
             Self::LoadTriple { first, ref pack } => library.load_triple(s, &mut rows, first, pack),
             Self::Deal { row, c } => library.deal(s, &mut rows, row, c),
-            Self::OpeningMessage { row, .. } => library.opening_message(s, &rows, row, &mut out),
+            Self::OpeningMessage { row, caller, .. } => {
+                library.opening_message(s, &rows, row, caller, &mut out)
+            }
+            Self::SetCallers { ref line } => library.set_callers(s, line),
             Self::Open { row, ref record } => library.open(s, &rows, row, record),
             Self::Linear { dest, a, b, scale, fee } => {
                 library.linear(s, &mut rows, dest, a, b, scale, fee)
@@ -142,7 +146,8 @@ impl Call {
             Self::LoadTriple { first, .. }
             | Self::OpenMasks { first, .. }
             | Self::Multiply { first } => vec![first],
-            Self::OpeningMessage { row, out } => vec![row, out],
+            Self::OpeningMessage { row, caller, out } => vec![row, caller, out],
+            Self::SetCallers { .. } => vec![],
             Self::Linear { dest, a, b, .. } => vec![dest, a, b],
             Self::Masks { a, b, first, out } => vec![a, b, first, out],
             Self::RelationMasks { out: size, .. } | Self::RelationFinish { dest: size, .. } => {
@@ -166,6 +171,7 @@ impl Call {
         let triple = |first: usize| [first, first.saturating_add(1), first.saturating_add(2)];
         match *self {
             Self::NewSession { .. } => vec![],
+            Self::SetCallers { ref line } => row_of(line).into_iter().collect(),
             Self::LoadRow { row, .. }
             | Self::Deal { row, .. }
             | Self::OpeningMessage { row, .. }
@@ -179,6 +185,12 @@ impl Call {
             Self::RelationFinish { ref terms, dest, .. } => [&[dest], &rows_of(terms)[..]].concat(),
         }
     }
+}
+
+/// The row that an `A` line names.
+fn row_of(line: &[u8]) -> Option<usize> {
+    let field = line.split(|&byte| byte == b',').nth(1)?;
+    std::str::from_utf8(field).ok()?.parse().ok()
 }
 
 /// The rows that a relation's terms name; a triple that isn't looked at is named too.

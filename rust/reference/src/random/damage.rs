@@ -1,7 +1,7 @@
 //! Damage to calls and to what a post keeps.
 
-use super::{Call, Rng, State};
-use crate::{Shape, Term, MAX_TERMS, MODULUS, NO_ROW, ROWS};
+use super::{mutate, Call, Rng, State};
+use crate::{Barred, Shape, Term, MAX_POSTS, MAX_TERMS, MODULUS, NO_ROW, ROWS};
 
 /// Something wrong with session or rows.
 #[derive(Clone, Copy, Debug, PartialEq, Eq)]
@@ -12,6 +12,7 @@ pub enum Damage {
     Right { first: usize, row: u8 },
     Y { first: usize, number: u32 },
     Y2 { first: usize, number: u32 },
+    Bar { row: usize, post: usize },
     Number { place: usize, number: u32 },
     Posts(usize),
     Threshold(usize),
@@ -32,6 +33,9 @@ impl Damage {
             Self::Right { first, row } => session.right[first] = row,
             Self::Y { first, number } => session.y[first] = number,
             Self::Y2 { first, number } => session.y2[first] = number,
+            Self::Bar { row, post } => {
+                session.barred[row] = session.barred[row].or(Barred::posts([post]));
+            }
             Self::Number { place, number } => {
                 if let Some(place) = state.rows.get_mut(place) {
                     *place = number;
@@ -55,7 +59,7 @@ impl Damage {
             Some(row) if !rng.one_in(5) => row,
             _ => some_row,
         };
-        match rng.below(14) {
+        match rng.below(15) {
             0..=2 => Self::Mark { row, mark: random_mark(rng) },
             3 => Self::Left { first: row, row: random_factor(rng) },
             4 => Self::Right { first: row, row: random_factor(rng) },
@@ -65,6 +69,7 @@ impl Damage {
             8 => Self::Length(random_length(rng, shape.all_rows())),
             9 => Self::Y { first: row, number: rng.number() },
             10 => Self::Y2 { first: row, number: rng.number() },
+            11 => Self::Bar { row, post: rng.between(1, shape.posts()) },
             _ => Self::random_heading(rng),
         }
     }
@@ -72,12 +77,13 @@ impl Damage {
     /// Damage to n, t, post or check points.
     fn random_heading(rng: &mut Rng) -> Self {
         let points = [0, MODULUS, u32::MAX, 1, 7];
-        match rng.below(6) {
+        match rng.below(7) {
             0 => Self::Posts(rng.size()),
-            1 => Self::Threshold(rng.size()),
-            2 => Self::Post(rng.size()),
-            3 => Self::Points(rng.pick(&[0, 1, 2, 3, 256, 257, usize::MAX])),
-            4 => Self::Second(rng.pick(&points)),
+            1 => Self::Posts(rng.pick(&[0, 1, MAX_POSTS + 1, (1 << 32) + 3, usize::MAX])),
+            2 => Self::Threshold(rng.size()),
+            3 => Self::Post(rng.size()),
+            4 => Self::Points(rng.pick(&[0, 1, 2, 3, 256, 257, usize::MAX])),
+            5 => Self::Second(rng.pick(&points)),
             _ => Self::Point(rng.pick(&points)),
         }
     }
@@ -134,6 +140,10 @@ pub(super) fn damage_list(rng: &mut Rng, list: &mut Vec<u32>) {
 /// The call with one argument made wrong, or at least different.
 pub(super) fn damaged(rng: &mut Rng, call: &Call) -> Call {
     let mut call = call.clone();
+    if let Call::SetCallers { line } = &mut call {
+        *line = mutate(rng, line);
+        return call;
+    }
     if call.terms().is_some() && rng.one_in(2) {
         let before = call.product_terms();
         call.terms().into_iter().for_each(|terms| damage_terms(rng, terms));

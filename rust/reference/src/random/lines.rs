@@ -10,6 +10,14 @@ pub fn join(letter: &str, numbers: impl IntoIterator<Item = u64>) -> Vec<u8> {
     (fields.join(",") + "\n").into_bytes()
 }
 
+/// The `A` line of a row and the posts that may call for its opening.
+pub fn callers_line(row: usize, posts: &[usize]) -> Vec<u8> {
+    if posts.is_empty() {
+        return format!("A,{row},\n").into_bytes();
+    }
+    join("A", std::iter::once(row).chain(posts.iter().copied()).map(|number| number as u64))
+}
+
 /// The line with something changed: a byte, a field, or its end.
 pub fn mutate(rng: &mut Rng, line: &[u8]) -> Vec<u8> {
     match rng.below(8) {
@@ -25,7 +33,7 @@ fn odd_byte(rng: &mut Rng) -> u8 {
     match rng.below(4) {
         0 => rng.below(256) as u8,
         1 => b'0' + rng.below(10) as u8,
-        _ => rng.pick(b",,-+ \r\n\0DOMSRGTXFLW\""),
+        _ => rng.pick(b",,-+ \r\n\0DOMSRGTXFLWA\""),
     }
 }
 

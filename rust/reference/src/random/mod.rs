@@ -24,7 +24,7 @@ mod wild;
 pub use call::{unwritten, Call, Outcome, State};
 pub use compare::{compare_paperwork, compare_script, compare_street, Difference};
 pub use damage::Damage;
-pub use lines::{join, mutate};
+pub use lines::{callers_line, join, mutate};
 pub use paperwork::{paperwork, written, Paperwork, PaperworkOutcome, WriteMessage, WritePack};
 pub use rng::Rng;
 pub use script::{script, script_for, Script, Step};

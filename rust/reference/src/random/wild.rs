@@ -1,7 +1,7 @@
 //! States and calls with every number at random, which never were part of a session.
 
-use super::{Call, Rng, State};
-use crate::{Session, Term, NO_ROW, ROWS};
+use super::{mutate, Call, Rng, State};
+use crate::{Barred, Session, Term, MAX_POSTS, NO_ROW, ROWS};
 
 /// Numbers of a row, of two posts of which either opens with the other.
 const ROW: usize = 6;
@@ -21,6 +21,7 @@ pub fn wild_state(rng: &mut Rng, sane: bool) -> State {
         right: bytes(rng, 256),
         y: std::array::from_fn(|_| rng.number()),
         y2: std::array::from_fn(|_| rng.number()),
+        barred: std::array::from_fn(|_| Barred::posts((1..=MAX_POSTS).filter(|_| rng.one_in(3)))),
     };
     let length = if sane { ROWS * ROW } else { rng.below(600) };
     let rows = match rng.below(2) {
@@ -31,7 +32,7 @@ pub fn wild_state(rng: &mut Rng, sane: bool) -> State {
 }
 
 /// Each call once, most of them wild.
-pub fn wild_calls(rng: &mut Rng) -> [Call; 12] {
+pub fn wild_calls(rng: &mut Rng) -> [Call; 13] {
     let list = |rng: &mut Rng| {
         let length = rng.pick(&[6, 6, 6, 18, 18, 5, 7, 0]);
         (0..length).map(|_| rng.number()).collect::<Vec<_>>()
@@ -42,7 +43,8 @@ pub fn wild_calls(rng: &mut Rng) -> [Call; 12] {
         Call::LoadRow { row: a, pack: list(rng) },
         Call::LoadTriple { first: a, pack: list(rng) },
         Call::Deal { row: a, c: rng.number() },
-        Call::OpeningMessage { row: a, out: rng.pick(&[2, 2, 2, 0, 1, 3]) },
+        Call::OpeningMessage { row: a, caller: rng.below(4), out: rng.pick(&[2, 2, 2, 0, 1, 3]) },
+        Call::SetCallers { line: wild_line(rng, a) },
         Call::Open { row: a, record: list(rng) },
         Call::Linear { dest: a, a: b, b: c, scale: rng.number(), fee: rng.number() },
         Call::Masks { a, b, first: c, out: rng.pick(&[4, 4, 4, 0, 3, 5]) },
@@ -57,6 +59,18 @@ pub fn wild_calls(rng: &mut Rng) -> [Call; 12] {
 fn wild_start(rng: &mut Rng, n: usize, t: usize, post: usize) -> Call {
     let k = if rng.one_in(4) { rng.size() } else { rng.between(1, 2) };
     Call::NewSession { n, t, post, k, point: rng.number(), second: rng.number() }
+}
+
+/// An `A` line, mostly for one of few posts.
+fn wild_line(rng: &mut Rng, row: usize) -> Vec<u8> {
+    let posts = (0..4).filter(|_| rng.one_in(2)).map(|post| post.to_string());
+    let posts = posts.collect::<Vec<_>>().join(",");
+    let line = format!("A,{row},{posts}\n").into_bytes();
+    if rng.one_in(3) {
+        mutate(rng, &line)
+    } else {
+        line
+    }
 }
 
 /// Up to three terms, rarely more than 32.

@@ -5,6 +5,7 @@ use super::fields::{
 };
 use super::kept::Kept;
 use super::{Reply, LONGEST_LINE, STREET_POSTS};
+use crate::callers::try_set_callers;
 use crate::calls::{try_deal, try_linear, try_load_row, try_load_triple};
 use crate::lines::{try_read, try_write_masks, ReadLine};
 use crate::opening::try_open;
@@ -58,6 +59,7 @@ impl<const P: u32> Station<P> {
             b"R" => self.raw_row(line),
             b"T" => self.triple(line),
             b"D" => self.deal(line),
+            b"A" => self.set_callers(line),
             b"O" => self.opening(line),
             b"G" => self.open(line),
             b"L" => self.linear(line),
@@ -90,6 +92,12 @@ impl<const P: u32> Station<P> {
         let (read, elements) = self.broadcast_line(line)?;
         let dealt = try_deal::<P>(self.session, &mut self.rows, read.row, elements[0])?;
         self.take(dealt)
+    }
+
+    /// `A,row,` and rising post numbers.
+    fn set_callers(&mut self, line: &[u8]) -> Result<Reply, Refusal> {
+        let set = try_set_callers::<P>(self.session, line)?;
+        self.take(set)
     }
 
     /// An `O` line is kept, whatever its row's mark is.

@@ -135,7 +135,7 @@ impl Station {
     /// Every post's opening message for a row.
     pub fn messages(&mut self, row: usize) -> Vec<Message> {
         let out = self.shape.coefficients();
-        let outcomes = self.each(|_| Call::OpeningMessage { row, out });
+        let outcomes = self.each(|_| Call::OpeningMessage { row, caller: 1, out });
         outcomes.into_iter().map(|outcome| Some(outcome.out)).collect()
     }
 

@@ -4,6 +4,7 @@
 //! of the records of a group of posts are compared: equal where demand 3 says so, different where
 //! a rule is broken on purpose.
 
+mod callers;
 mod draws;
 mod fee;
 mod one_row;
@@ -19,11 +20,11 @@ use std::collections::HashMap;
 use draws::{for_each_draw, Condition, ALL};
 use record::{Plan, Raw, Station, Step};
 use reference::Shape;
-use Step::{Deal, FeeWithConstant, Finish, FinishWithConstant, LoadAgain, LoadRow, LoadTriple};
+use Step::{Callers, Deal, FeeWithConstant, Finish, FinishWithConstant, LoadAgain, LoadRow};
 use Step::{
-    LoadTripleAgain, Message, Multiply, Open, OpenForged, OpenMasks, Overwrite, RelationFinish,
-    RelationMasks, Remember,
+    LoadTriple, LoadTripleAgain, Message, Multiply, Open, OpenForged, OpenMasks, Overwrite,
 };
+use Step::{RelationFinish, RelationMasks, Remember, Unbar};
 
 /// Whether every record of the group occurs equally often under both lists of secrets.
 fn equal_counts<const P: u32>(

@@ -51,11 +51,11 @@ fn openings(i: &Inputs) -> Vec<Contest<'_>> {
             "opening message",
             {
                 let mut out = message();
-                on_ours(i, move |s, rows| s.opening_message(rows, 1, &mut out))
+                on_ours(i, move |s, rows| s.opening_message(rows, 1, 1, &mut out))
             },
             {
                 let mut out = message();
-                on_second(i, move |s, rows| REFERENCE.opening_message(s, rows, 1, &mut out))
+                on_second(i, move |s, rows| REFERENCE.opening_message(s, rows, 1, 1, &mut out))
             },
         ),
         opening("open", i, &i.record),

@@ -2,13 +2,13 @@
 
 use super::record::Heard;
 use super::{Author, Step};
-use crate::random::{Call, SharedRow};
+use crate::random::{callers_line, Call, SharedRow};
 use crate::{mark, ROWS, TRIPLE};
 
 impl Author<'_> {
     /// One valid call of a random kind; none when no row suits it.
     pub(super) fn act(&mut self) {
-        let _ = match self.rng.below(17) {
+        let _ = match self.rng.below(19) {
             0 | 1 => self.load_row(),
             2..=4 => self.load_triple(),
             5 | 6 => self.deal(),
@@ -19,6 +19,7 @@ impl Author<'_> {
             12 => self.relation_masks(),
             13 => self.relation_finish(),
             14 | 15 => self.open_masks(),
+            16 => self.set_callers(),
             _ => self.multiply(),
         };
     }
@@ -59,7 +60,25 @@ impl Author<'_> {
     fn opening_message(&mut self) -> Option<()> {
         let row = self.pick(mark::HELD)?;
         let out = self.shape.coefficients();
-        self.step(Call::OpeningMessage { row, out }, None);
+        let message = |caller| Call::OpeningMessage { row, caller, out };
+        let n = self.shape.posts();
+        let outside: Vec<usize> =
+            (0..=n + 1).filter(|post| !self.callers[row].contains(post)).collect();
+        let call = message(self.rng.pick(&outside));
+        self.steps.push(Step { trial: true, damage: vec![], call, opens_to: None });
+        let caller = self.rng.pick_any(&self.callers[row])?;
+        self.step(message(caller), None);
+        Some(())
+    }
+
+    fn set_callers(&mut self) -> Option<()> {
+        let row = self.pick(mark::RAW)?;
+        let often = self.rng.pick(&[1, 2, 3, 300]);
+        let posts = (1..=self.shape.posts()).filter(|_| !self.rng.one_in(often));
+        let posts: Vec<usize> = posts.collect();
+        let line = callers_line(row, &posts);
+        self.callers[row] = posts;
+        self.step(Call::SetCallers { line }, None);
         Some(())
     }
 
@@ -81,6 +100,7 @@ impl Author<'_> {
         let (scale, fee) = (self.rng.element(), self.rng.element());
         let sum = self.shared(a).plus_scaled(scale, &self.shared(b)).plus_public(fee);
         self.keep(dest, mark::HELD, sum);
+        self.made_from(dest, &[a, b]);
         self.step(Call::Linear { dest, a, b, scale, fee }, None);
         Some(())
     }

@@ -44,6 +44,8 @@ pub struct Script {
     pub marks: [u8; ROWS],
     /// The numbers that the session remembers for each row, after the last step.
     pub opened: [[u32; 2]; ROWS],
+    /// The posts that may call for the opening of each row, after the last step.
+    pub callers: Vec<Vec<usize>>,
 }
 
 impl Script {
@@ -81,6 +83,7 @@ pub fn script_for(rng: &mut Rng, shape: Shape, length: usize) -> Script {
         shared: vec![None; ROWS],
         factors: [(0, 0); ROWS],
         opened: [[0; 2]; ROWS],
+        callers: vec![(1..=shape.posts()).collect(); ROWS],
         steps: vec![],
         rng,
     };
@@ -97,6 +100,7 @@ struct Author<'r> {
     shared: Vec<Option<SharedRow>>,
     factors: [(usize, usize); ROWS],
     opened: [[u32; 2]; ROWS],
+    callers: Vec<Vec<usize>>,
     steps: Vec<Step>,
 }
 
@@ -128,7 +132,8 @@ impl Author<'_> {
         let written = written
             .filter_map(|(row, shared)| Some((row, self.own_part(shared.as_ref()?))))
             .collect();
-        Script { rows, steps: self.steps, written, marks: self.marks, opened: self.opened }
+        let Self { steps, marks, opened, callers, .. } = self;
+        Script { rows, steps, written, marks, opened, callers }
     }
 
     /// The own part of a shared number.
@@ -159,6 +164,12 @@ impl Author<'_> {
             }
         }
         self.steps.push(Step { trial: true, damage, call, opens_to: None });
+    }
+
+    /// "A row made from others has the posts that all of them share."
+    fn made_from(&mut self, row: usize, others: &[usize]) {
+        let shared = |post: &usize| others.iter().all(|&other| self.callers[other].contains(post));
+        self.callers[row] = (1..=self.shape.posts()).filter(shared).collect();
     }
 
     /// The rows with `mark`.

@@ -73,6 +73,7 @@ impl Author<'_> {
         let product = SharedRow::product(&self.shared(a), &self.shared(b), &triple);
         self.marks[first..first + 2].fill(mark::SPENT);
         self.keep(first + 2, mark::HELD, product);
+        self.made_from(first + 2, &[a, b]);
     }
 
     /// Masks of up to three product terms, among terms of one row.
@@ -156,6 +157,8 @@ impl Author<'_> {
         let sum =
             terms.iter().fold(zero, |sum, term| sum.plus_scaled(term.coefficient, &number(term)));
         self.keep(dest, mark::HELD, sum);
+        let rows = terms.iter().flat_map(|term| [term.row, term.second]);
+        self.made_from(dest, &rows.filter(|&row| row != NO_ROW).collect::<Vec<_>>());
     }
 }
 

@@ -2,7 +2,7 @@
 
 use super::book::Heard;
 use super::Clerk;
-use crate::random::{join, unnoticed, SharedRow};
+use crate::random::{callers_line, join, unnoticed, SharedRow};
 use crate::{mark, LONGEST_LINE, MODULUS, ROWS, STREET_POSTS, TRIPLE};
 
 /// The line of a letter, a heading and elements.
@@ -53,7 +53,7 @@ impl Clerk {
     }
 
     pub(super) fn other_letter(&mut self) -> Vec<u8> {
-        let letter = self.rng.pick(&["A", "d", "w", "x", "SS", "XX", ""]);
+        let letter = self.rng.pick(&["B", "a", "d", "w", "x", "SS", "XX", ""]);
         let heading = [self.rng.below(ROWS - 2), self.post];
         line(letter, &heading, &self.rng.elements(self.shape.masks()))
     }
@@ -100,6 +100,16 @@ impl Clerk {
         let c = self.rng.element();
         self.book.deal(row, c);
         line("D", &[row], &[c])
+    }
+
+    /// An `A` line, mostly for a raw row.
+    pub(super) fn set_callers(&mut self) -> Vec<u8> {
+        let row = self.some_row_with(mark::RAW);
+        let n = self.shape.posts();
+        let posts: Vec<usize> =
+            (1..=n + 1).filter(|&post| post <= n || self.rng.one_in(9)).collect();
+        let posts: Vec<usize> = posts.into_iter().filter(|_| self.rng.one_in(2)).collect();
+        callers_line(row, &posts)
     }
 
     pub(super) fn linear(&mut self) -> Vec<u8> {

@@ -1,6 +1,6 @@
 //! Steps that break a rule on purpose.
 
-use reference::{linear, mark, open, Answer, Element, Session, ROWS};
+use reference::{linear, mark, open, Answer, Barred, Element, Session, ROWS};
 
 use super::{Station, Step};
 
@@ -13,6 +13,12 @@ fn overwrite(mut session: Session, row: usize, mark: u8) -> Answer {
 /// The session with another number y of a triple.
 fn remember(mut session: Session, first: usize, y: u32) -> Answer {
     session.y[first] = y;
+    Answer { refusal: 0, value: 0, session }
+}
+
+/// The session in which nobody is barred from a row.
+fn unbar(mut session: Session, row: usize) -> Answer {
+    session.barred[row] = Barred::NOBODY;
     Answer { refusal: 0, value: 0, session }
 }
 
@@ -41,6 +47,7 @@ impl<const P: u32> Station<'_, P> {
         match step {
             Step::Overwrite { row, mark } => overwrite(s, row, mark),
             Step::Remember { first, y } => remember(s, first, y),
+            Step::Unbar(row) => unbar(s, row),
             Step::LoadAgain { of, into } => self.load_row(s, rows, of, into),
             Step::LoadTripleAgain { of, into } => self.load_triple(s, rows, of, into),
             Step::FinishWithConstant(first) => self.finish_with_constant(s, rows, first),

@@ -2,7 +2,8 @@
 
 use reference::{
     deal, linear, load_row, load_triple, masks, multiply, open, open_masks, opening_message,
-    relation_finish, relation_masks, write_masks, write_opening, Answer, Session, Term, NO_ROW,
+    relation_finish, relation_masks, set_callers, write_masks, write_opening, Answer, Session,
+    Term, NO_ROW,
 };
 
 use super::{Station, Step};
@@ -33,6 +34,7 @@ impl<const P: u32> Station<'_, P> {
             Step::LoadRow(into) => self.load_row(s, rows, into, into),
             Step::LoadTriple(into) => self.load_triple(s, rows, into, into),
             Step::Deal(row) => deal::<P>(s, rows, row, self.cs[self.index_of(row)]),
+            Step::Callers(line) => set_callers::<P>(s, line.as_bytes()),
             Step::Open(row) => open::<P>(s, rows, row, &self.heard(b'O', row, 0)),
             Step::Linear { dest, a, b, scale, fee } => linear::<P>(s, rows, dest, a, b, scale, fee),
             Step::Finish(first) => self.finish(s, rows, first),
@@ -49,7 +51,7 @@ impl<const P: u32> Station<'_, P> {
 
     fn message(&self, s: Session, rows: &[u32], row: usize) -> (Answer, Vec<Vec<u8>>) {
         let mut out = vec![0; self.shape.coefficients()];
-        let answer = opening_message::<P>(s, rows, row, &mut out);
+        let answer = opening_message::<P>(s, rows, row, 1, &mut out);
         (answer, vec![self.line(s.post, row, &out)])
     }
 

@@ -8,8 +8,10 @@ pub enum Step {
     LoadRow(usize),
     LoadTriple(usize),
     Deal(usize),
-    /// Makes the opening message and broadcasts it.
+    /// Makes the opening message, for which post 1 calls, and broadcasts it.
     Message(usize),
+    /// Reads an `A` line.
+    Callers(&'static str),
     /// Opens with all that was broadcast for the row before.
     Open(usize),
     Linear {
@@ -48,6 +50,8 @@ pub enum Step {
         first: usize,
         y: u32,
     },
+    /// Breaks a rule: the posts that are barred from a row are forgotten.
+    Unbar(usize),
     /// Breaks a rule: the pack drawn for row `of` is loaded into another one too.
     LoadAgain {
         of: usize,
