@@ -1,6 +1,6 @@
 -- One post, whatever it calls: the sets that its session keeps are those of its calls.
 use Prim.Native.Nat.{ℕ, zero, suc, _≤_, _<_}
-use mathlib.Core.Path.{_≡_, refl, sym, _∙_, ap, ap₂, subst}
+use mathlib.Core.Path.{_≡_, refl, sym, _∙_, ap, subst}
 use mathlib.Core.Bool.{Bool, true, false, not, cond, _||_}
 use mathlib.Core.List.{List, [], _∷_}
 use native.Mathlib.Decide.{ℕ-discrete}
@@ -23,7 +23,7 @@ use Rattle.runs.specs.Callers.{Sets, allPosts, setAll, setAfter}
 use Rattle.runs.proofs.Marks.{at-same, at-other, Marks, Opened, Sized, sessionAt, marksAll}
 use Rattle.runs.proofs.Start.{sizes, start, start-sized, blanks, made}
 use Rattle.runs.proofs.Rows.{sized-after}
-use Rattle.runs.proofs.Outcomes.{answer-refusal, refusalOf, refusal-is, does, own, done, done-is, refused}
+use Rattle.runs.proofs.Outcomes.{answer-refusal, refusalOf, refusal-is, done, done-is, refused}
 use Rattle.runs.proofs.Orders.{orders-come}
 use Rattle.runs.proofs.Allowed.{allowed}
 use Rattle.runs.proofs.Standing.{postAt}

@@ -9,7 +9,6 @@ use native.Mathlib.Omega.{arith}
 use borrow.Author.Tests.{eq-eqb, ne-eqb}
 use lib.Dec.{eqb}
 use lib.ListN.{length, getD, take}
-use Rattle.field.specs.Element.{element}
 use Rattle.shape.specs.Bounds.{lastRow}
 use Rattle.shape.specs.Marks.{held as heldMark}
 use Rattle.shape.specs.Lengths.{vLength}

@@ -7,7 +7,6 @@ use mathlib.Core.List.{List}
 use lib.ListN.{length, take, drop, getD}
 use Rattle.poly.specs.Counting.{Elements}
 use Rattle.shape.specs.Marks.{held, masked}
-use Rattle.shape.specs.declared.Points.{Points}
 use Rattle.shape.specs.Bounds.{mostPoints}
 use Rattle.shape.specs.Lengths.{vLength}
 use Rattle.session.specs.declared.Session.{Session}

@@ -1,5 +1,4 @@
 -- Rows dealt by turns, by computing and by the theorem.
-use Prim.Native.Nat.{ℕ}
 use mathlib.Core.Path.{_≡_, refl}
 use mathlib.Core.Logic.{inl}
 use lib.Dec.{lit<, lit≤}

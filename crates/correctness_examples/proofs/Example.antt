@@ -21,7 +21,7 @@ use Rattle.correctness.specs.Truth.{OwnPart, TrueFinish}
 use Rattle.correctness.specs.Claim.{Premises}
 use Rattle.correctness.proofs.Meanings.{one-number}
 use Rattle.correctness.proofs.Theorems.{correct}
-use Rattle.correctness_examples.specs.Station.{plan, drawWith, ledger, call, zeros, refusals, Everyone, states}
+use Rattle.correctness_examples.specs.Station.{plan, drawWith, ledger, zeros, refusals, Everyone, states}
 use Rattle.correctness_examples.specs.Run.{drawn, draw, loads, deals, sums, ends, before, events, new, lie, last, true-record}
 use Rattle.correctness_examples.proofs.Computing.{Computes, sound, is-draw, plain-42, two-true, all-join, each-join, each-of, each-quiet, Of}
 

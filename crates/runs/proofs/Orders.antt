@@ -11,7 +11,7 @@ use Rattle.dealers.specs.State.{chosen, lineIn}
 use Rattle.dealers.specs.Calls.{countRefusal, takenRefusal, saidRow, saidNumber, takenAnswer, takenRows, countedAnswer, countedRows, whose}
 use Rattle.runs.specs.Outline.{sends}
 use Rattle.runs.specs.Calls.{Actual, Call, Post, deal, Performed, performed, perform, after, broadcast}
-use Rattle.runs.specs.Orders.{Order, call, place, turn, Desk, carry, Comes, noCall, aCall, saidCall, turnCall, comesTo, sentOn, OrdersCome}
+use Rattle.runs.specs.Orders.{call, place, turn, carry, Comes, noCall, aCall, saidCall, turnCall, OrdersCome}
 
 -- what was done, the call that it comes to, and the post before
 record Is (o : Performed) (m : Comes Actual) (q : Post) : Type 0 where

@@ -23,8 +23,8 @@ use Rattle.secrecy.specs.Rules.{refusalOf, AllSame, SameAnswers}
 use Rattle.secrecy.proofs.CallRuns as Calls
 use Rattle.secrecy.proofs.OneCall.{posts-same}
 use Rattle.secrecy.proofs.Frames.{frame, frame-small}
-use Rattle.secrecy.proofs.Places.{Kept}
-use Rattle.secrecy.proofs.Turning.{Doing, idle, deals, turnDoing, Goes, turn-goes, frames-of, halts, counts, turn-refusal}
+use Rattle.secrecy.proofs.Doings.{Doing, idle, deals, turnDoing, Goes, turn-goes, frames-of}
+use Rattle.secrecy.proofs.Turning.{halts, counts, turn-refusal}
 use Rattle.secrecy.proofs.AsCalls.{turnStep, probed, turnEntry, probed-is, plainSteps, plainEntries}
 use Rattle.secrecy.proofs.Along as Along
 use Rattle.secrecy.proofs.Along.{probed-map}

@@ -12,7 +12,7 @@ use Rattle.poly.proofs.Lists.{all-map, map-same}
 use Rattle.parts.specs.Draw.{eachFrom}
 use Rattle.session.specs.declared.Session.{Session}
 use Rattle.session.specs.declared.Answer.{Answer}
-use Rattle.dealers.specs.Calls.{placeRefusal, placeAfter, turnAnswer, turnRows, turnState}
+use Rattle.dealers.specs.Calls.{placeRefusal, placeAfter, turnAnswer, turnRows}
 use Rattle.deal.specs.Deal.{dealAnswer, dealRows}
 use Rattle.runs.specs.Draws.{Plan, Draw, Sound}
 use Rattle.runs.specs.Calls.{Post, perform, after, broadcast}
@@ -27,7 +27,8 @@ use Rattle.secrecy.proofs.OneCall.{posts-same}
 use Rattle.secrecy.proofs.Runs.{same-refusal}
 use Rattle.secrecy.proofs.Frames.{frame, frame-small, frame-back}
 use Rattle.secrecy.proofs.Places.{Kept, kept-placed}
-use Rattle.secrecy.proofs.Turning.{probe-answer, probe-rows, Doing, idle, deals, turnDoing, Goes, turn-goes, Done, turn-done, kept-turn}
+use Rattle.secrecy.proofs.Doings.{Doing, idle, deals, turnDoing, Goes, turn-goes}
+use Rattle.secrecy.proofs.Turning.{probe-answer, probe-rows, Done, turn-done, kept-turn}
 use Rattle.secrecy.proofs.AsCalls.{turnStep, probed, probedAll, turnEntry, probed-is, plainSteps, plainEntries}
 
 joined-nil : (l : List ℕ) → joined {A = List ℕ} (map (λ i. []) l) ≡ []

@@ -15,11 +15,10 @@ use Rattle.secrecy.specs.Steps.{Secrets, Fixed, Step, Item, Number, deal
 use Rattle.secrecy.specs.Seen.{Entry}
 use Rattle.secrecy.specs.Waiting.{Waiting, waitingAfter, comesOf}
 use Rattle.secrecy.specs.Rules.{refusalOf, AllSame, SameAnswers, Rule, Rules}
-use Rattle.secrecy.specs.Callers.{called}
 use Rattle.secrecy.specs.Book.{Book, booked, Agrees, bookedBy, bookAfter, Agree}
 use Rattle.secrecy.proofs.CallRuns as Calls
 use Rattle.secrecy.proofs.CallRuns.{AgreeCalled}
-use Rattle.secrecy.proofs.Turning.{Doing, idle, deals, turnDoing, asComes, turn-comes, stops, small-stops}
+use Rattle.secrecy.proofs.Doings.{Doing, idle, deals, turnDoing, asComes, turn-comes, stops, small-stops}
 
 abbrev probe : Step
 probe = deal 96 (Number.fixed 0)

@@ -15,7 +15,7 @@ use Rattle.runs.specs.Outline.{loadRow, loadTriple, deal, message, opening, lin
 use Rattle.runs.specs.Draws.{Plan, Sound}
 use Rattle.runs.specs.Calls.{Post, newPost, after}
 use Rattle.runs.specs.Callers.{Sets, allPosts, setAll, setAfter}
-use Rattle.runs.proofs.Marks.{Marks, sessionAt, marksAll}
+use Rattle.runs.proofs.Marks.{Marks, marksAll}
 use Rattle.runs.proofs.Outcomes as Outcomes
 use Rattle.runs.proofs.Outcomes.{refusal-is, done-is}
 use Rattle.runs.proofs.Steps.{postAt, named}

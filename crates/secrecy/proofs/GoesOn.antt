@@ -1,10 +1,8 @@
 -- A run goes on from the posts that its orders left.
 use Prim.Native.Nat.{ℕ}
-use mathlib.Core.Path.{_≡_, refl, ap, sym, _∙_}
+use mathlib.Core.Path.{_≡_, ap, sym, _∙_}
 use mathlib.Core.List.{List, [], _∷_, _++_, map, append-assoc, append-nil}
-use Rattle.runs.specs.Draws.{Plan, Draw}
 use Rattle.runs.specs.Orders.{Desk, deskAfter}
-use Rattle.secrecy.specs.Steps.{Secrets}
 use Rattle.secrecy.specs.Seen.{Entry, joined, doneAt, linesOf, desksAfter, entryOf, run}
 use Rattle.secrecy.specs.Claim.{RunGoesOn}
 

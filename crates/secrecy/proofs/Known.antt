@@ -10,20 +10,21 @@ use Rattle.refusal.specs.Refusal.{outcome}
 use Rattle.forms.specs.Lines as Line
 use Rattle.forms.specs.Lines.{text}
 use Rattle.dealers.specs.State.{dealerCount, chosen, lineIn}
-use Rattle.dealers.specs.Calls.{countRefusal, takenRefusal, saidRow, saidNumber, whose}
+use Rattle.dealers.specs.Calls.{takenRefusal, saidRow, saidNumber, whose}
 use Rattle.dealers.proofs.Turns.{chosen-dealer}
 use Rattle.runs.specs.Draws.{Plan, Draw, Sound}
 use Rattle.runs.specs.Calls.{Post, deal, perform, after}
-use Rattle.runs.specs.Orders.{call, place, turn, Desk, deskAfter, Comes, noCall, aCall, saidCall, turnCall, comesTo}
+use Rattle.runs.specs.Orders.{call, place, turn, Desk, deskAfter, noCall, aCall, saidCall, turnCall, comesTo}
 use Rattle.secrecy.specs.Steps.{Secrets, Item, Number, theirs, bytes, callAt, dealtNumber}
-use Rattle.secrecy.specs.Seen.{Entry, Seen, dealLines, orderAt, newDesk, doneAt, linesOf, desksAfter, entryOf, run}
+use Rattle.secrecy.specs.Seen.{Entry, dealLines, orderAt, newDesk, doneAt, linesOf, desksAfter, entryOf, run}
 use Rattle.secrecy.specs.Waiting.{Slot, free, filled, isFilled, Waiting, noneWaiting, nextOf, waitingAfter, slotCall, comesOf}
 use Rattle.secrecy.specs.Rules.{SameAnswers, refusalOf}
 use Rattle.secrecy.specs.Claim.{desksOf}
-use Rattle.secrecy.specs.Known.{waitingAll, Has, madeAt, Knows, BookKnows}
+use Rattle.secrecy.specs.Known.{waitingAll, Has, madeAt, BookKnows}
 use Rattle.secrecy.proofs.Frames.{frame}
 use Rattle.secrecy.proofs.Places.{Kept, InPlace, chosen-is}
-use Rattle.secrecy.proofs.Turning.{turnDoing, first-passes, counts-zero, dealer-line, read-back}
+use Rattle.secrecy.proofs.Doings.{turnDoing}
+use Rattle.secrecy.proofs.Turning.{first-passes, counts-zero, dealer-line, read-back}
 use Rattle.secrecy.proofs.AsCalls.{turnStep}
 use Rattle.secrecy.proofs.Along.{At, at-call, at-place, at-turn}
 use Rattle.secrecy.proofs.Theorems.{number-low, start-kept, entries-are, deals-are, desks}

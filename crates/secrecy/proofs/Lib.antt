@@ -52,6 +52,7 @@ pub mod ForCallers
 -- Orders: the places that the book keeps, one turn, a list of orders as a list of calls, one run and two.
 pub mod Frames
 pub mod Places
+pub mod Doings
 pub mod Turning
 pub mod AsCalls
 pub mod Along

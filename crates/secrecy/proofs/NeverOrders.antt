@@ -6,7 +6,6 @@ use mathlib.Core.List.{List, [], _∷_, _++_, map}
 use native.Mathlib.Omega.{arith}
 use lib.ListN.{length, getD}
 use Rattle.poly.specs.Counting.{All}
-use Rattle.refusal.specs.Refusal.{first}
 use Rattle.parts.specs.Draw.{eachFrom}
 use Rattle.session.specs.declared.Session.{Session}
 use Rattle.dealers.specs.State.{chosen}

@@ -2,7 +2,7 @@
 -- there are as many. The matching is that of the calls that the orders come to.
 use Prim.Native.Nat.{ℕ, zero, suc, _+_, _≤_, _<_}
 use mathlib.Core.Path.{_≡_, refl, sym, _∙_, ap, subst}
-use mathlib.Core.List.{List, [], map}
+use mathlib.Core.List.{List, []}
 use mathlib.Core.Logic.{_≢_}
 use native.Mathlib.Omega.{arith}
 use native.Mathlib.Decide.{ℕ-discrete, decLe}
@@ -26,7 +26,7 @@ use Rattle.secrecy.specs.Seen.{Entry, Seen, allRows, dealSeen, dealLines
 use Rattle.secrecy.specs.Waiting.{noneWaiting}
 use Rattle.secrecy.specs.Rules.{SameAnswers}
 use Rattle.secrecy.specs.Book.{Book, blank}
-use Rattle.secrecy.specs.Claim.{Premises, Shows, Matching, Secrecy, Abreast, desksOf, bookOf, Beside, SecrecyEverywhere}
+use Rattle.secrecy.specs.Claim.{Shows, Matching, Secrecy, Abreast, desksOf, bookOf, Beside, SecrecyEverywhere}
 use Rattle.secrecy.specs.Count.{EqualCounts, ShowsRight}
 use Rattle.secrecy.proofs.CallRuns as Calls
 use Rattle.secrecy.proofs.CallClaims as Called

@@ -1,17 +1,16 @@
 -- One turn at one post: a deal of the row that the book knows, or nothing; and nothing where 1 to 5 refuse.
 use Prim.Native.Nat.{ℕ, zero, suc, _≤_, _<_}
 use mathlib.Core.Path.{_≡_, refl, sym, _∙_, ap, subst}
-use mathlib.Core.Bool.{Bool, true, false, not, cond}
-use mathlib.Core.List.{List, [], _∷_, _++_}
+use mathlib.Core.Bool.{Bool, true, false, cond}
+use mathlib.Core.List.{List, [], _∷_}
 use native.Mathlib.Omega.{arith}
 use borrow.Author.Tests.{lt-ltb, le-ltb, eq-eqb}
-use lib.Dec.{eqb}
 use lib.ListN.{length, getD}
 use Rattle.field.specs.Modulus.{p}
 use Rattle.shape.specs.Bounds.{lastRow}
 use Rattle.shape.specs.Marks.{raw, held}
 use Rattle.refusal.specs.Refusal.{_when_, first, orElse, outcome}
-use Rattle.refusal.specs.Conditions.{outside, beyond, anyBeyond}
+use Rattle.refusal.specs.Conditions.{beyond, anyBeyond}
 use Rattle.refusal.proofs.Laws.{first-join}
 use Rattle.session.specs.declared.Session.{Session}
 use Rattle.session.specs.declared.Answer.{Answer}
@@ -21,7 +20,7 @@ use Rattle.session.specs.Checks.{frameTests, noRow, wrongMark}
 use Rattle.deal.specs.Deal.{dealRefusal, dealAnswer, dealRows}
 use Rattle.forms.specs.Lines as Line
 use Rattle.forms.specs.Lines.{Message, text}
-use Rattle.forms.specs.Forms.{formOf, isMalformed, beyondRange, message, Sent}
+use Rattle.forms.specs.Forms.{Sent}
 use Rattle.forms.proofs.RoundTrip.{written-reads-back}
 use Rattle.dealers.specs.State.{dealerCount, next, firstAfter, chosen, lineIn, stateLength}
 use Rattle.dealers.specs.Calls.{stateTests, countRefusal, takenRefusal, saidRow, saidNumber, takenAnswer, takenRows, countedAnswer, countedRows, countedState, whose, turnAnswer, turnRows, turnState}
@@ -29,114 +28,13 @@ use Rattle.dealers.specs.Between.{Good}
 use Rattle.dealers.proofs.Turns.{chosen-dealer}
 use Rattle.runs.specs.Draws.{Plan, Draw, Sound, IsRaw, Raw, none, by, whenRaw}
 use Rattle.runs.specs.Calls.{Post}
-use Rattle.runs.specs.Orders.{Comes, noCall, aCall, turn}
 use Rattle.runs.proofs.Outcomes.{answer-refusal}
-use Rattle.secrecy.specs.Steps.{Secrets, Fixed, Number, sent, theirs, bytes, Placed, deal, dealtWith, dealtNumber}
-use Rattle.secrecy.specs.Seen.{dealSeen, lineAt}
-use Rattle.secrecy.specs.Waiting.{Slot, free, filled, isFilled, Waiting, nextOf, freed, slotCall, comesOf}
+use Rattle.secrecy.specs.Steps.{Secrets, Number, theirs, bytes, deal, dealtWith, dealtNumber}
+use Rattle.secrecy.specs.Seen.{dealSeen}
+use Rattle.secrecy.specs.Waiting.{Slot, free, filled, isFilled, Waiting, nextOf, freed}
 use Rattle.secrecy.proofs.Frames.{frame}
 use Rattle.secrecy.proofs.Places.{Kept, InPlace, chosen-is, kept-counted}
-
--- ---- what a turn does, by the book's places: nothing, with an answer of its own; or a deal
-
-pub data Doing : Type 0 where
-  idle : (t : ℕ) → Doing
-  deals : (r : ℕ) (c : Number) → Doing
-
-abbrev lineDoing : Placed → Doing
-lineDoing (theirs r) = deals r (sent r)
-lineDoing (bytes xs) = outcome (takenRefusal xs) (deals (saidRow xs) (Number.fixed (saidNumber xs))) (idle (takenRefusal xs))
-
-abbrev slotDoing : Slot → Doing
-slotDoing free = idle 0
-slotDoing (filled l) = lineDoing l
-
-abbrev pub turnDoing : Waiting → Doing
-turnDoing w = whose (nextOf w) (idle 0) (λ d. slotDoing (w .slot d))
-
-abbrev pub asComes : Doing → Comes Fixed
-asComes (idle t) = noCall
-asComes (deals r c) = aCall (deal r c)
-
-pub turn-comes : (w : Waiting) → comesOf w turn ≡ asComes (turnDoing w)
-unfolding outcome
-turn-comes w = go (nextOf w)
-  where
-    by-outcome : (t : ℕ) (r : ℕ) (c : Number) → outcome t (aCall (deal r c)) noCall ≡ asComes (outcome t (deals r c) (idle t))
-    by-outcome zero r c = refl
-    by-outcome (suc k) r c = refl
-
-    by-slot : (x : Slot) → slotCall x ≡ asComes (slotDoing x)
-    by-slot free = refl
-    by-slot (filled (theirs r)) = refl
-    by-slot (filled (bytes xs)) = by-outcome (takenRefusal xs) _ _
-
-    go : (n : ℕ) → whose n noCall (λ d. slotCall (w .slot d)) ≡ asComes (whose n (idle 0) (λ d. slotDoing (w .slot d)))
-    go zero = refl
-    go (suc d) = by-slot (w .slot (suc d))
-
--- ---- refusals by number: 1 to 5 come before all others
-
-abbrev pub stops : ℕ → Bool
-stops k = not (outside 1 5 k)
-
-pub small-stops : (f : ℕ) → 1 ≤ f → f ≤ 5 → stops f ≡ true
-small-stops f lo hi = rw (le-ltb f 1 lo, le-ltb 5 f hi)
-
-ten-eleven : (a b c : Bool) → stops (first (10 when a ∷ 10 when b ∷ 11 when c ∷ [])) ≡ false
-ten-eleven true b c = refl
-ten-eleven false true c = refl
-ten-eleven false false true = refl
-ten-eleven false false false = refl
-
-own-goes : (a b c d : Bool) → stops (first (6 when a ∷ 7 when b ∷ 8 when c ∷ 8 when d ∷ [])) ≡ false
-own-goes true b c d = refl
-own-goes false true c d = refl
-own-goes false false true d = refl
-own-goes false false false true = refl
-own-goes false false false false = refl
-
--- of two such refusals that are the same, 1 to 5 are
-pub frames-of : (f f' x x' : ℕ) → f ≤ 5 → f' ≤ 5 → stops x ≡ false → stops x' ≡ false → orElse f x ≡ orElse f' x' → f ≡ f'
-frames-of zero zero x x' l l' g g' e = refl
-frames-of zero (suc k) x x' l l' g g' e = absurd (clash (sym (ap stops e) ∙ g) (small-stops (suc k) (omega arith) l'))
-  where
-    clash : stops (suc k) ≡ false → stops (suc k) ≡ true → ⊥
-    clash a b = let z : _≡_ {A = Bool} true false = sym b ∙ a in let y : _≡_ {A = ℕ} 0 1 = cc in omega arith
-frames-of (suc k) zero x x' l l' g g' e = absurd (clash (ap stops e ∙ g') (small-stops (suc k) (omega arith) l))
-  where
-    clash : stops (suc k) ≡ false → stops (suc k) ≡ true → ⊥
-    clash a b = let z : _≡_ {A = Bool} true false = sym b ∙ a in let y : _≡_ {A = ℕ} 0 1 = cc in omega arith
-frames-of (suc k) (suc j) x x' l l' g g' e = e
-
-taken-goes : (line : List ℕ) → stops (takenRefusal line) ≡ false
-unfolding takenRefusal
-taken-goes line = ten-eleven (not (eqb (getD line 0 0) 68)) (isMalformed (formOf 2 line)) (beyondRange 2 (message 2 line))
-
-abbrev pub Goes : Doing → Type 0
-Goes (idle t) = stops t ≡ false
-Goes (deals r c) = Unit {0}
-
-pub turn-goes : (w : Waiting) → Goes (turnDoing w)
-unfolding outcome
-turn-goes w = go (nextOf w)
-  where
-    by-outcome : (t : ℕ) (r : ℕ) (c : Number) → stops t ≡ false → Goes (outcome t (deals r c) (idle t))
-    by-outcome zero r c e = tt
-    by-outcome (suc k) r c e = e
-
-    by-slot : (x : Slot) → Goes (slotDoing x)
-    by-slot free = refl
-    by-slot (filled (theirs r)) = tt
-    by-slot (filled (bytes xs)) = by-outcome (takenRefusal xs) _ _ (taken-goes xs)
-
-    go : (n : ℕ) → Goes (whose n (idle 0) (λ d. slotDoing (w .slot d)))
-    go zero = refl
-    go (suc d) = by-slot (w .slot (suc d))
-
-or-none : (a : ℕ) → orElse a 0 ≡ a
-or-none zero = refl
-or-none (suc k) = refl
+use Rattle.secrecy.proofs.Doings.{Doing, turnDoing, stops, Goes, turn-goes, idle, deals, slotDoing, own-goes}
 
 -- ---- at one post: where 1 to 5 refuse, and where they do not
 

@@ -2,7 +2,6 @@
 -- the book keeps the eight places itself, from the lines placed and, of the answers, only which orders are refused.
 use Prim.Native.Nat.{ℕ}
 use mathlib.Core.Bool.{Bool, true, false}
-use mathlib.Core.List.{List}
 use Rattle.refusal.specs.Refusal.{outcome}
 use Rattle.dealers.specs.State.{dealerCount, firstAfter}
 use Rattle.dealers.specs.Calls.{takenRefusal, saidRow, saidNumber, whose}

@@ -7,13 +7,12 @@ use mathlib.Core.List.{List, [], _∷_, _++_, map}
 use lib.ListN.{getD, replicate}
 use Rattle.forms.specs.Lines.{text}
 use Rattle.forms.specs.Lines as Line
-use Rattle.runs.specs.Calls.{openingLine}
 use Rattle.runs.specs.Orders.{call, place, turn}
 use Rattle.secrecy.specs.Steps.{Item, own, theirs, bytes, loadRow, message, opening, linear}
 use Rattle.secrecy.specs.Seen.{Entry, Seen, posts}
 use Rattle.secrecy.specs.Claim.{desksOf}
-use Rattle.secrecy_examples.specs.Example.{Example, planOf, secretsOf, openedBy, bookedAt, padded, of, still}
-use Rattle.secrecy_examples.specs.ThreePosts.{raws, triples, group, draw, zeros, sumSent, sums}
+use Rattle.secrecy_examples.specs.Example.{Example, planOf, secretsOf, openedBy, bookedAt, padded, still}
+use Rattle.secrecy_examples.specs.ThreePosts.{raws, triples, group, draw, zeros, sums}
 use Rattle.secrecy_examples.specs.ThreePostsSeen.{raw0, raw1, raw2, loaded, dealt0, dealt1, dealt2, sum6, sumLines}
 use Rattle.secrecy_examples.specs.ThreePostsSeen as Three
 
