@@ -163,7 +163,10 @@ impl<W: Write> Post<W> {
         let (mut message, mut line) =
             ([0; message_len(T, POINTS)], [0; opening_line_len(N, T, POINTS)]);
         let session = &mut self.session;
-        session.take().opening_message(&self.rows, row, CALLER, &mut message).keep(session)?;
+        let sent = session.take().opening_message(&self.rows, row, CALLER, &mut message);
+        if !done(sent.keep(session)) {
+            return Ok(());
+        }
         let len = write_opening(N, T, POINTS, row, session.post, &message, &mut line).accepted()?;
         Ok(self.send(&line[..len])?)
     }

@@ -83,9 +83,9 @@ impl fmt::Debug for Limited<'_> {
 
 impl Session {
     /// The posts that may call for a row's opening: those of 1 to n that the row does not bar. A row
-    /// above 95 has none.
+    /// above 95 has none, and none has any in a session of more posts than there may be.
     pub fn callers(&self, row: usize) -> Posts {
-        if row >= ROWS {
+        if row >= ROWS || self.n > MAX_POSTS {
             return Posts::NONE;
         }
         let free = core::array::from_fn(|word| !self.barred[SET_LEN * row + word]);

@@ -1,9 +1,10 @@
 //! What the binding adds to the calls: sessions kept, refused or not, shown without their check points and erased; terms by rows
-//! of any size; refusals as errors.
+//! of any size; sets of posts; refusals as errors.
 
 use std::error::Error;
 
-use gantsorol::{erase, rows_len, Answer, Refusal, Session, Term, MODULUS, NO_ROW, ROWS};
+use gantsorol::{erase, rows_len, Answer, Posts, Refusal, Session, Term};
+use gantsorol::{MAX_POSTS, MODULUS, NO_ROW, ROWS, SETS_LEN};
 
 fn session() -> Session {
     Session::new(3, 1, 2, &[987_654_321, 123_456_789]).accepted().expect("the session is right").0
@@ -66,12 +67,60 @@ fn a_session_takes_one_check_point_or_two() {
 fn erasing_leaves_zeros() {
     let mut full =
         Session { marks: [7; ROWS], factor_a: [7; ROWS], factor_b: [7; ROWS], ..session() };
-    (full.y_a, full.y_b) = ([7; ROWS], [7; ROWS]);
+    (full.y_a, full.y_b, full.barred) = ([7; ROWS], [7; ROWS], [7; SETS_LEN]);
     full.erase();
     assert_eq!(full, Session::default());
     let mut text = *b"R,0,1";
     erase(&mut text);
     assert_eq!(text, [0; 5]);
+}
+
+/// Any numbers make a set, and those of posts are in it.
+#[test]
+fn a_set_of_posts() {
+    let numbers = [255, 3, 1, 3, 0, 256, 1 << 32 | 1, usize::MAX, 64, 33, 32];
+    let posts = Posts::of(&numbers);
+    assert_eq!(posts.iter().collect::<Vec<_>>(), [1, 3, 32, 33, 64, 255]);
+    for post in (0..1000).chain([1 << 32 | 1, usize::MAX]) {
+        assert_eq!(posts.has(post), numbers.contains(&post) && (1..=MAX_POSTS).contains(&post));
+        assert_eq!(Posts::all(64).has(post), (1..=64).contains(&post));
+        assert_eq!(Posts::all(usize::MAX).has(post), (1..=MAX_POSTS).contains(&post));
+        let shared = posts.shared(Posts::all(33));
+        assert_eq!(shared.has(post), posts.has(post) && post <= 33);
+    }
+    assert_eq!((Posts::of(&[]), Posts::default()), (Posts::NONE, Posts::NONE));
+    assert_eq!(Posts::NONE.iter().count(), 0);
+}
+
+/// A row's callers are those that a message is made for, whatever bits stand in the session; no other row has any.
+#[test]
+fn the_callers_of_a_row() {
+    let bits = |place: usize| (place as u32 + 1).wrapping_mul(0x9E37_79B9);
+    for n in [2, 31, 32, 33, 254, 255] {
+        let mut session = Session::new(n, 1, 1, &[5]).accepted().expect("the session is right").0;
+        assert_eq!(session.callers(ROWS - 1), Posts::all(n));
+        (session.barred, session.marks) = (std::array::from_fn(bits), [2; ROWS]);
+        let rows = vec![0; rows_len(n, 1, 1)];
+        for row in [0, 1, 50, ROWS - 1] {
+            let called = |caller: &usize| {
+                session.clone().opening_message(&rows, row, *caller, &mut [0; 2]).refusal == 0
+            };
+            assert_eq!(session.callers(row), (0..300).filter(called).collect());
+        }
+        assert_eq!([ROWS, usize::MAX].map(|row| session.callers(row)), [Posts::NONE; 2]);
+    }
+    assert_eq!(Session { n: MAX_POSTS + 1, ..session() }.callers(0), Posts::NONE);
+}
+
+#[test]
+fn a_session_shows_the_rows_that_not_every_post_may_call_for() {
+    let (mut kept, mut rows) = (session(), vec![0; rows_len(3, 1, 2)]);
+    assert!(format!("{kept:?}").contains("callers: {}"));
+    for (row, line) in [(4, "A,4,1,3\n"), (9, "A,9,\n"), (95, "A,95,1,2,3\n")] {
+        kept.take().load_row(&mut rows, row, &[0; 12]).keep(&mut kept).expect("a row");
+        kept.take().access(line.as_bytes()).keep(&mut kept).expect("a line");
+    }
+    assert!(format!("{kept:?}").contains("callers: {4: {1, 3}, 9: {}}"), "{kept:?}");
 }
 
 /// A row that no session has is refused with 6, also where its number is no byte or stands for no second row.

@@ -285,6 +285,30 @@ fn the_longest_pack_file_has_this_length() {
     }
 }
 
+/// The header's look at a set is the binding's, whatever bits stand there.
+#[test]
+fn the_header_reads_the_sets() {
+    let code = "#include <stdio.h>\n#include \"gantsorol.h\"\nint main(void) {\nstatic uint32_t barred[GANTSOROL_SETS_LEN];\n\
+                for (uint32_t i = 0; i < GANTSOROL_SETS_LEN; i++) barred[i] = (i + 1) * 0x9E3779B9u;\n\
+                for (size_t n = 2; n <= 257; n += 15) for (size_t row = 0; row <= GANTSOROL_ROWS; row++)\n\
+                for (size_t post = 0; post <= 257; post++) putchar('0' + gantsorol_may_call(n, barred, row, post));\n\
+                return 0;\n}\n";
+    let source = Path::new(env!("CARGO_TARGET_TMPDIR")).join("sets.c");
+    fs::write(&source, code).expect("a file can be written");
+    let printed = ended(&mut Command::new(compiled("sets", &source, &C))).stdout;
+    let mut session = session([3, 1, 1]);
+    session.barred = std::array::from_fn(|place| (place as u32 + 1).wrapping_mul(0x9E37_79B9));
+    let mut expected = vec![];
+    for n in (2..=257).step_by(15) {
+        session.n = n;
+        for row in 0..=ROWS {
+            let callers = session.callers(row);
+            expected.extend((0..=257).map(|post| b'0' + u8::from(callers.has(post))));
+        }
+    }
+    assert!(printed == expected && printed.contains(&b'0') && printed.contains(&b'1'));
+}
+
 /// The header's walk over kinds is the binding's.
 #[test]
 fn the_header_finds_each_draw() {

@@ -238,6 +238,43 @@ fn after_a_power_loss_a_post_sends_the_same_lines() {
     }
 }
 
+/// Where the caller is barred from one factor, no post sends a polynomial of what is made from it: all that is sent are masks.
+#[test]
+fn for_a_caller_that_is_barred_nothing_is_sent() {
+    let station = Station::new("posts_barred", [12, 35, 420]);
+    let deals = station.deals().replace("A,1,1\n", "A,1,2,3\n");
+    assert_ne!(deals, station.deals());
+    let (events, told) = channel();
+    let posts = [(1, Kind::C), (2, Kind::Rust)];
+    let mut inputs =
+        Vec::from(posts.map(|(post, kind)| (post, station.start(post, kind, &events))));
+    drop(events);
+    for (_, input) in &mut inputs {
+        input.write_all(deals.as_bytes()).expect("it takes the deals");
+    }
+    let mut masks = 0;
+    for event in told {
+        match event {
+            Event::Line(from, line) => {
+                assert!(line.starts_with("M,"), "{line}");
+                let others = inputs.iter_mut().filter(|(post, _)| *post != from);
+                others.for_each(|(_, input)| input.write_all(line.as_bytes()).expect("it waits"));
+                masks += 1;
+                // Both have heard both masks of each other: nothing more is to come.
+                if masks == 4 {
+                    inputs.clear();
+                }
+            }
+            Event::Ended(post, why) => {
+                assert!(why.contains("the lines ended before"), "{why}");
+                let said = why.contains("the post that calls for an opening is not one of");
+                assert!(said || post == 2, "{why}");
+            }
+        }
+    }
+    assert_eq!(masks, 4);
+}
+
 #[test]
 fn wrong_packs_and_plans_are_refused() {
     let station = Station::new("posts_wrong", [1, 2, 2]);

@@ -170,7 +170,7 @@ fn one_after_the_other_and_each_once() {
     });
 }
 
-/// The third row is multiply's to look at, the factor rows are collect's.
+/// The third row's numbers are multiply's to look at, the factor rows' are collect's.
 #[test]
 fn what_each_of_them_reads() {
     with_both(|ready, points| {
@@ -201,7 +201,7 @@ fn factor_rows_that_are_not_held() {
             post.check_collect(7);
             let mut post = ready().collected();
             change(&mut post.session);
-            post.check_multiply(0);
+            post.check_multiply(7);
         }
     });
 }
