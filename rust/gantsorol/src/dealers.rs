@@ -53,13 +53,7 @@ impl Dealers {
         let state = &mut self.0;
         // SAFETY: each list is a borrowed pointer and length, and `state` overlaps no other.
         let refusal = unsafe {
-            sys::gantsorol_place(
-                state.as_mut_ptr(),
-                state.len(),
-                dealer,
-                line.as_ptr(),
-                line.len(),
-            )
+            sys::gantsorol_place(state.as_mut_ptr(), state.len(), dealer, line.as_ptr(), line.len())
         };
         Refusal::check(refusal)
     }
@@ -91,8 +85,11 @@ impl fmt::Debug for Dealers {
         struct Waiting<'a>(&'a Dealers);
         impl fmt::Debug for Waiting<'_> {
             fn fmt(&self, f: &mut fmt::Formatter) -> fmt::Result {
-                let lines = (1..=DEALERS).filter_map(|dealer| Some((dealer, self.0.waiting(dealer)?)));
-                f.debug_map().entries(lines.map(|(dealer, line)| (dealer, line.escape_ascii()))).finish()
+                let lines =
+                    (1..=DEALERS).filter_map(|dealer| Some((dealer, self.0.waiting(dealer)?)));
+                f.debug_map()
+                    .entries(lines.map(|(dealer, line)| (dealer, line.escape_ascii())))
+                    .finish()
             }
         }
         let mut shown = f.debug_struct("Dealers");

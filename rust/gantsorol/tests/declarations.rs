@@ -9,8 +9,8 @@ use std::path::Path;
 
 use common::programs::{exports, repository};
 use gantsorol::{
-    DEALERS, DEALERS_LEN, DEAL_LINE_LEN, LONGEST_LINE, MAX_POINTS, MAX_POSTS, MAX_TERMS, MODULUS, MOST_STACK, NO_ROW,
-    ROWS, SETS_LEN, SET_LEN,
+    DEALERS, DEALERS_LEN, DEAL_LINE_LEN, LONGEST_LINE, MAX_POINTS, MAX_POSTS, MAX_TERMS, MODULUS,
+    MOST_STACK, NO_ROW, ROWS, SETS_LEN, SET_LEN,
 };
 
 /// A file's text without line comments, block comments, attributes and preprocessor lines.

@@ -84,7 +84,8 @@ fn record(shared: &SharedRow, present: impl Fn(usize) -> bool) -> Vec<u32> {
 
 /// The binding's session for the second implementation's.
 pub fn given(session: &reference::Session) -> gantsorol::Session {
-    let reference::Session { n, t, post, k, point, second, marks, left, right, y, y2 } = *session;
+    let reference::Session { n, t, post, k, point, second, marks, left, right, y, y2, .. } =
+        *session;
     gantsorol::Session {
         n,
         t,
@@ -97,5 +98,7 @@ pub fn given(session: &reference::Session) -> gantsorol::Session {
         factor_b: right,
         y_a: y,
         y_b: y2,
+        // nobody is barred in the benchmark's stations
+        barred: [0; 8 * gantsorol::ROWS],
     }
 }

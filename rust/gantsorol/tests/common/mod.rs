@@ -175,13 +175,7 @@ impl Library for Verified {
     fn place_line(&self, dealers: &mut [u8], dealer: usize, line: &[u8]) -> u8 {
         // SAFETY: each list is a borrowed slice's pointer and length, and `dealers` overlaps no other.
         unsafe {
-            gantsorol_place(
-                dealers.as_mut_ptr(),
-                dealers.len(),
-                dealer,
-                line.as_ptr(),
-                line.len(),
-            )
+            gantsorol_place(dealers.as_mut_ptr(), dealers.len(), dealer, line.as_ptr(), line.len())
         }
     }
 

@@ -101,7 +101,7 @@ fn factors_that_are_not_held() {
 }
 
 /// Every line that differs from this one in a byte: another, one more or one less; and every beginning of it.
-fn nearly(line: &[u8]) -> Vec<Vec<u8>> {
+pub fn nearly(line: &[u8]) -> Vec<Vec<u8>> {
     let odd = b",0129-+ AaD\n\r\0/:\xff";
     let at = |place: usize| {
         let (before, after) = line.split_at(place);

@@ -5,6 +5,7 @@
 mod common;
 
 mod callers;
+mod dealers;
 mod odd;
 mod one_list;
 mod paperwork;
@@ -82,6 +83,8 @@ const SQUARES: Met = &[
     ("Deal", &[0, 1, 2, 3, 4, 5, 6, 7, 8]),
     ("OpeningMessage", &[0, 5, 6, 7, 8, 15]),
     ("SetCallers", &[0, 7, 10, 11]),
+    ("PlaceLine", &[0, 10, 16, 17]),
+    ("Turn", &[0, 5, 7, 10, 11, 16]),
     ("Open", &[0, 5, 6, 7, 8, 9, 13]),
     ("Linear", &[0, 5, 6, 7, 8]),
     ("Masks", &[0, 5, 6, 7, 8]),
