@@ -82,18 +82,20 @@ impl Default for Dealers {
 /// The last dealer, and the lines that wait.
 impl fmt::Debug for Dealers {
     fn fmt(&self, f: &mut fmt::Formatter) -> fmt::Result {
-        struct Waiting<'a>(&'a Dealers);
-        impl fmt::Debug for Waiting<'_> {
-            fn fmt(&self, f: &mut fmt::Formatter) -> fmt::Result {
-                let lines =
-                    (1..=DEALERS).filter_map(|dealer| Some((dealer, self.0.waiting(dealer)?)));
-                f.debug_map()
-                    .entries(lines.map(|(dealer, line)| (dealer, line.escape_ascii())))
-                    .finish()
-            }
-        }
         let mut shown = f.debug_struct("Dealers");
         shown.field("last", &self.last()).field("waiting", &Waiting(self)).finish()
+    }
+}
+
+struct Waiting<'a>(&'a Dealers);
+
+impl fmt::Debug for Waiting<'_> {
+    fn fmt(&self, f: &mut fmt::Formatter) -> fmt::Result {
+        let mut lines = f.debug_map();
+        for (dealer, line) in (1..=DEALERS).filter_map(|of| Some((of, self.0.waiting(of)?))) {
+            lines.entry(&dealer, &format_args!("{}", line.escape_ascii()));
+        }
+        lines.finish()
     }
 }
 

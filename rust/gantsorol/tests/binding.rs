@@ -158,8 +158,8 @@ fn a_dealers_state_is_shown_as_its_lines() {
     let mut dealers = Dealers::new();
     assert_eq!(format!("{dealers:?}"), "Dealers { last: 8, waiting: {} }");
     dealers.place(3, b"D,0,93\n").expect("a free place");
-    let shown = format!("{dealers:?}");
-    assert!(shown.contains("3: ") && shown.contains("D,0,93\\n"), "{shown}");
+    let expected = "Dealers { last: 8, waiting: {3: D,0,93\\n} }";
+    assert_eq!(format!("{dealers:?}"), expected);
 }
 
 /// A row that no session has is refused with 6, also where its number is no byte or stands for no second row.

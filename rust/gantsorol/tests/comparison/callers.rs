@@ -73,6 +73,7 @@ fn sets_at_every_number_of_posts() {
         ] {
             assert_eq!(compare_call(n as u64, &call, &state), 0, "{call:?}");
         }
+        assert_eq!(compare_call(n as u64, &Call::Multiply { first: 94 }, &state), 6);
     }
 }
 
