@@ -9,9 +9,9 @@ ghost use mathlib.Core.Path.{_≡_};
 ghost use mathlib.Core.Bool.{cond, not, false};
 ghost use mathlib.Core.List.{_++_};
 ghost use Prim.Native.Nat.{_+_, _-_, _≤_, _<_, _^_};
-ghost use lib.ListN.{length, getD, take, replicate};
+ghost use lib.ListN.{length, getD, take};
 ghost use lib.Dec.{eqb};
-ghost use Rattle.street_store.specs.Sizes.{storeRoom, numbersRoom, recordRoom};
+ghost use Rattle.street_store.specs.Sizes.{storeRoom, numbersRoom};
 ghost use Rattle.street_interpreter.specs.Orders.{Accepted, isChange};
 ghost use Rattle.street_interpreter.specs.Changes.{Able};
 ghost use Rattle.street_answers.specs.Text.{longestPrint};
@@ -149,11 +149,10 @@ pub fn look_line(
     order: Order,
     store: &mut [u32],
     numbers: &[u32],
-    empty: &[u32],
     out: &mut [u8],
 ) -> Head
     requires { ⌜ Able session order × (isChange (order .letter) ≡ false) × (length (now store) ≡ storeRoom) × (length (now numbers) ≡ numbersRoom)
-        × (now empty ≡ replicate recordRoom 0) × (head .number + 1 < 2 ^ 64) × (head .at + longestPrint ≤ length (now out)) ⌝ }
+        × (head .number + 1 < 2 ^ 64) × (head .at + longestPrint ≤ length (now out)) ⌝ }
     ensures { λ r. ⌜ Seen session head order (now (numbers .entry)) (now (store .entry)) (now (out .entry)) r (now (store .exit)) (now (out .exit)) ⌝ }
 {
     let seen = street_interpreter::look(
@@ -163,7 +162,6 @@ pub fn look_line(
         store,
         order,
         numbers,
-        empty,
     );
     let number = head.number + 1;
     let at = street_answers::print(out, head.at, number, seen.refusal, seen.value);

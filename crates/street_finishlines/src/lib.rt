@@ -4,12 +4,12 @@ pub mod masks;
 use session::Answer;
 use session::Session;
 ghost use mathlib.Core.Path.{_≡_};
-ghost use lib.ListN.{length, replicate};
+ghost use lib.ListN.{length};
 ghost use Rattle.session.specs.Sessions.{shapeOf};
 ghost use Rattle.collect.specs.Collect.{collectAnswer};
 ghost use Rattle.multiply.specs.Multiply.{multiplyAnswer, multiplyRows};
-ghost use Rattle.street_store.specs.Sizes.{InStreet, recordRoom, storeRoom, masksAAt, masksBAt};
-ghost use Rattle.street_store.specs.Records.{recordAt, recordIf, recordFor};
+ghost use Rattle.street_store.specs.Sizes.{InStreet, storeRoom, masksAAt, masksBAt};
+ghost use Rattle.street_store.specs.Records.{recordAt, recordIf, recordFor, Spare};
 ghost use Rattle.street_states.specs.States.{rowsOf, withRows, settled};
 ghost use Rattle.street_finishlines.specs.Steps.{pairAnswer, pairRows};
 ghost use Rattle.street_finishlines.specs.Between.{afterAnswer, afterRows};
@@ -22,7 +22,7 @@ fn collect_kept<'a>(
     same: bool,
     first: usize,
 ) -> Answer
-    requires { ⌜ InStreet (shapeOf session) × (length (now store) ≡ storeRoom) × (now empty ≡ replicate recordRoom 0) ⌝ }
+    requires { ⌜ InStreet (shapeOf session) × (length (now store) ≡ storeRoom) × Spare same (now empty) ⌝ }
     ensures { λ r. ⌜ r ≡ collectAnswer session (rowsOf session (now (store .entry))) first
         (recordIf same (recordAt masksAAt (shapeOf session) (now (store .entry))))
         (recordIf same (recordAt masksBAt (shapeOf session) (now (store .entry)))) ⌝ }
@@ -32,6 +32,20 @@ fn collect_kept<'a>(
     let record_a = street_store::record(shape, store, empty, street_store::MASKS_A_AT, same);
     let record_b = street_store::record(shape, store, empty, street_store::MASKS_B_AT, same);
     collect::collect(session, &store[..end], first, record_a, record_b)
+}
+
+// The same. Room for an empty record is cleared only where one is needed.
+fn collect_for(session: Session, store: &[u32], same: bool, first: usize) -> Answer
+    requires { ⌜ InStreet (shapeOf session) × (length (now store) ≡ storeRoom) ⌝ }
+    ensures { λ r. ⌜ r ≡ collectAnswer session (rowsOf session (now (store .entry))) first
+        (recordIf same (recordAt masksAAt (shapeOf session) (now (store .entry))))
+        (recordIf same (recordAt masksBAt (shapeOf session) (now (store .entry)))) ⌝ }
+{
+    if same {
+        return collect_kept(session, store, store, same, first);
+    }
+    let empty = [0u32; street_store::RECORD_ROOM];
+    collect_kept(session, store, &empty, same, first)
 }
 
 // The second call, where the first was not refused.
@@ -52,11 +66,10 @@ fn multiply_after(collected: Answer, store: &mut [u32], first: usize) -> Answer
 pub fn finish(
     session: Session,
     store: &mut [u32],
-    empty: &[u32],
     triple: usize,
     first: usize,
 ) -> Answer
-    requires { ⌜ InStreet (shapeOf session) × (length (now store) ≡ storeRoom) × (now empty ≡ replicate recordRoom 0) ⌝ }
+    requires { ⌜ InStreet (shapeOf session) × (length (now store) ≡ storeRoom) ⌝ }
     ensures { λ r. ⌜ settled session r ≡ pairAnswer session (rowsOf session (now (store .entry))) first
         (recordFor masksAAt (shapeOf session) triple first (now (store .entry)))
         (recordFor masksBAt (shapeOf session) triple first (now (store .entry))) ⌝ }
@@ -65,6 +78,6 @@ pub fn finish(
         (recordFor masksBAt (shapeOf session) triple first (now (store .entry)))) (now (store .entry)) ⌝ }
 {
     let same = triple == first;
-    let collected = collect_kept(session, store, empty, same, first);
+    let collected = collect_for(session, store, same, first);
     multiply_after(collected, store, first)
 }

@@ -8,9 +8,9 @@ use session::Session;
 use street_states::State;
 ghost use mathlib.Core.Path.{_≡_};
 ghost use mathlib.Core.Bool.{true, false};
-ghost use lib.ListN.{length, replicate};
+ghost use lib.ListN.{length};
 ghost use Rattle.session.specs.Sessions.{shapeOf};
-ghost use Rattle.street_store.specs.Sizes.{InStreet, storeRoom, numbersRoom, recordRoom, mostMasks};
+ghost use Rattle.street_store.specs.Sizes.{InStreet, storeRoom, numbersRoom, mostMasks};
 ghost use Rattle.street_interpreter.specs.Stepping.{stationRefusal, roomRefusal};
 ghost use Rattle.street_interpreter.specs.Orders.{isChange};
 ghost use Rattle.street_interpreter.specs.Changes.{Able, Changed, Looked, Opened};
@@ -47,11 +47,10 @@ pub fn change(
     line: &[u8],
     order: Order,
     numbers: &[u32],
-    empty: &[u32],
     masks: &mut [u32],
 ) -> Answer
     requires { ⌜ Able session order × (isChange (order .letter) ≡ true) × (length (now store) ≡ storeRoom) × (length (now numbers) ≡ numbersRoom)
-        × (now empty ≡ replicate recordRoom 0) × (length (now masks) ≡ mostMasks) ⌝ }
+        × (length (now masks) ≡ mostMasks) ⌝ }
     ensures { λ r. ⌜ Changed session triple order (now (numbers .entry)) (now (line .entry)) (now (store .entry)) r (now (store .exit)) (now (masks .exit)) ⌝ }
 {
     let shape = session.shape();
@@ -71,7 +70,6 @@ pub fn change(
         b'F' => street_finishlines::finish(
             session,
             store,
-            empty,
             triple,
             street_states::place(numbers[0]),
         ),
@@ -80,18 +78,11 @@ pub fn change(
 }
 
 // A `G`.
-fn open<'a>(
-    session: Session,
-    kept: usize,
-    triple: usize,
-    store: &'a [u32],
-    empty: &'a [u32],
-    row: usize,
-) -> Outcome
-    requires { ⌜ InStreet (shapeOf session) × (length (now store) ≡ storeRoom) × (now empty ≡ replicate recordRoom 0) ⌝ }
+fn open(session: Session, kept: usize, triple: usize, store: &[u32], row: usize) -> Outcome
+    requires { ⌜ InStreet (shapeOf session) × (length (now store) ≡ storeRoom) ⌝ }
     ensures { λ r. ⌜ Opened session kept triple (now (store .entry)) row r ⌝ }
 {
-    let found = street_rowlines::open(session, store, empty, kept, row);
+    let found = street_rowlines::open(session, store, kept, row);
     Outcome {
         refusal: found.refusal,
         value: found.value,
@@ -108,10 +99,8 @@ pub fn look(
     store: &mut [u32],
     order: Order,
     numbers: &[u32],
-    empty: &[u32],
 ) -> Outcome
-    requires { ⌜ Able session order × (isChange (order .letter) ≡ false) × (length (now store) ≡ storeRoom) × (length (now numbers) ≡ numbersRoom)
-        × (now empty ≡ replicate recordRoom 0) ⌝ }
+    requires { ⌜ Able session order × (isChange (order .letter) ≡ false) × (length (now store) ≡ storeRoom) × (length (now numbers) ≡ numbersRoom) ⌝ }
     ensures { λ r. ⌜ Looked session kept triple order (now (numbers .entry)) (now (store .entry)) r (now (store .exit)) ⌝ }
 {
     let shape = session.shape();
@@ -122,7 +111,6 @@ pub fn look(
             kept,
             triple,
             store,
-            empty,
             street_states::place(numbers[0]),
         ),
         b'O' => {

@@ -1,6 +1,7 @@
 -- The calls of `L` and `G`, on the session's rows in the store.
 use Prim.Native.Nat.{ℕ, _+_, _≤_}
 use mathlib.Core.Path.{_≡_, _∙_}
+use mathlib.Core.Bool.{Bool}
 use mathlib.Core.List.{List, _++_}
 use native.Mathlib.Omega.{arith}
 use lib.ListN.{length, getD, take, drop}
@@ -12,7 +13,7 @@ use Rattle.session.specs.Sessions.{shapeOf}
 use Rattle.linear.specs.Linear.{linearAnswer, linearRows}
 use Rattle.opening.specs.Opening.{openAnswer}
 use Rattle.street_store.specs.Sizes.{recordRoom, openingsAt, storeRoom}
-use Rattle.street_store.specs.Records.{recordFor}
+use Rattle.street_store.specs.Records.{recordAt, recordIf}
 use Rattle.street_states.specs.States.{rowsOf, withRows}
 use Rattle.street_rowlines.specs.Steps.{sumAnswer, sumRows}
 
@@ -28,7 +29,7 @@ module _ (s : Session) (store xs : List ℕ) (end dest x y : ℕ) (e : end ≡ r
 pub openings-within : (store : List ℕ) → length store ≡ storeRoom → openingsAt + recordRoom ≤ length store
 openings-within store l = omega arith
 
-pub open-kept : (s : Session) (store blocks : List ℕ) (g : Shape) (end kept row : ℕ) (a : Answer) → g ≡ shapeOf s → end ≡ rowsLength (shapeOf s)
-    → blocks ≡ recordFor openingsAt g kept row store → a ≡ openAnswer s (take end store) row blocks
-    → a ≡ openAnswer s (rowsOf s store) row (recordFor openingsAt (shapeOf s) kept row store)
-open-kept s store blocks g end kept row a d e b q = q ∙ rw (e, b, d)
+pub open-kept : (s : Session) (store blocks : List ℕ) (g : Shape) (end row : ℕ) (same : Bool) (a : Answer) → g ≡ shapeOf s → end ≡ rowsLength (shapeOf s)
+    → blocks ≡ recordIf same (recordAt openingsAt g store) → a ≡ openAnswer s (take end store) row blocks
+    → a ≡ openAnswer s (rowsOf s store) row (recordIf same (recordAt openingsAt (shapeOf s) store))
+open-kept s store blocks g end row same a d e b q = q ∙ rw (e, b, d)

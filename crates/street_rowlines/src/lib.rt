@@ -6,12 +6,12 @@ use session::Session;
 ghost use mathlib.Core.Path.{_≡_};
 use walk::Opened;
 ghost use Prim.Native.Nat.{_≤_};
-ghost use lib.ListN.{length, getD, replicate};
+ghost use lib.ListN.{length, getD};
 ghost use Rattle.session.specs.Sessions.{shapeOf, holding};
 ghost use Rattle.linear.specs.Linear.{linearAnswer, linearRows};
 ghost use Rattle.opening.specs.Opening.{openAnswer};
-ghost use Rattle.street_store.specs.Sizes.{InStreet, openingsAt, recordRoom, storeRoom};
-ghost use Rattle.street_store.specs.Records.{recordFor};
+ghost use Rattle.street_store.specs.Sizes.{InStreet, openingsAt, storeRoom};
+ghost use Rattle.street_store.specs.Records.{recordAt, recordIf, recordFor, Spare};
 ghost use Rattle.street_states.specs.States.{rowsOf, withRows};
 ghost use Rattle.street_rowlines.specs.Steps.{sumAnswer, sumRows};
 
@@ -37,20 +37,19 @@ pub fn add(session: Session, store: &mut [u32], numbers: &[u32]) -> Answer
     )
 }
 
-// A row is opened with the record that is kept for it, or with an empty one.
-pub fn open<'a>(
+// A row is opened with the record of the `O` lines, if it is kept for it, else with an empty one.
+fn open_with<'a>(
     session: Session,
     store: &'a [u32],
     empty: &'a [u32],
-    kept: usize,
+    same: bool,
     row: usize,
 ) -> Opened
-    requires { ⌜ InStreet (shapeOf session) × (length (now store) ≡ storeRoom) × (now empty ≡ replicate recordRoom 0) ⌝ }
+    requires { ⌜ InStreet (shapeOf session) × (length (now store) ≡ storeRoom) × Spare same (now empty) ⌝ }
     ensures { λ r. ⌜ holding (r .refusal) (r .value) session ≡ openAnswer session (rowsOf session (now (store .entry))) row
-        (recordFor openingsAt (shapeOf session) kept row (now (store .entry))) ⌝ }
+        (recordIf same (recordAt openingsAt (shapeOf session) (now (store .entry)))) ⌝ }
 {
     let end = street_states::rows_end(session);
-    let same = kept == row;
     let blocks = street_store::record(
         session.shape(),
         store,
@@ -59,4 +58,18 @@ pub fn open<'a>(
         same,
     );
     opening::open_number(session, &store[..end], row, blocks)
+}
+
+// The same for the row that the record is kept for. Room for an empty record is cleared only where one is needed.
+pub fn open(session: Session, store: &[u32], kept: usize, row: usize) -> Opened
+    requires { ⌜ InStreet (shapeOf session) × (length (now store) ≡ storeRoom) ⌝ }
+    ensures { λ r. ⌜ holding (r .refusal) (r .value) session ≡ openAnswer session (rowsOf session (now (store .entry))) row
+        (recordFor openingsAt (shapeOf session) kept row (now (store .entry))) ⌝ }
+{
+    let same = kept == row;
+    if same {
+        return open_with(session, store, store, same, row);
+    }
+    let empty = [0u32; street_store::RECORD_ROOM];
+    open_with(session, store, &empty, same, row)
 }

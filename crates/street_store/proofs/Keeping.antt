@@ -2,7 +2,7 @@
 use Prim.Native.Nat.{ℕ, zero, suc, _+_, _-_, _≤_, _<_, _^_}
 use mathlib.Core.Path.{_≡_, refl, ap, sym, _∙_}
 use mathlib.Core.List.{List, _∷_}
-use mathlib.Core.Bool.{Bool, true, false}
+use mathlib.Core.Bool.{Bool, true, false, true≢false}
 use native.Mathlib.Nat.{add-sub-cancel-left, mul-le-mul}
 use native.Mathlib.Omega.{arith}
 use borrow.Rule.Slice.PartMut.{putMid}
@@ -14,7 +14,7 @@ use Rattle.shape.specs.declared.Shape.{Shape}
 use Rattle.shape.specs.Lengths.{Valid, vLength, rowLength, blockLength, recordLength}
 use Rattle.records.specs.Records.{withBlock, blockOf}
 use Rattle.street_store.specs.Sizes.{streetPosts, longestV, longestRow, recordRoom, InStreet}
-use Rattle.street_store.specs.Records.{recordAt, recordIf, withRecord, kept}
+use Rattle.street_store.specs.Records.{recordAt, recordIf, withRecord, kept, Spare}
 
 -- ---- the record, emptied or not
 pub kept-same : (same : Bool) (l : List ℕ) → same ≡ true → l ≡ recordIf same l
@@ -72,12 +72,12 @@ take-zeros (suc k) (suc m) h = ap (λ (l : List ℕ). 0 ∷ l) (take-zeros k m (
 
 -- ---- a record where it stands, or an empty one
 module _ (g : Shape) (store empty : List ℕ) (at k : ℕ) (same : Bool) (i : InStreet g) (h : at + recordRoom ≤ length store)
-    (z : empty ≡ replicate recordRoom 0) (e : k ≡ recordLength g) where
-  pub record-within : k ≤ length empty
-  record-within = omega (arith, record-room g i, ap length z, length-replicate {A = ℕ} recordRoom 0)
+    (z : Spare same empty) (e : k ≡ recordLength g) where
+  pub record-within : same ≡ false → k ≤ length empty
+  record-within q = omega (arith, record-room g i, ap length (z .zeros q), length-replicate {A = ℕ} recordRoom 0)
 
-  pub record-prefix : k ≡ length (take k empty)
-  record-prefix = sym (length-take-le k empty record-within)
+  pub record-prefix : same ≡ false → k ≡ length (take k empty)
+  record-prefix q = sym (length-take-le k empty (record-within q))
 
   pub record-stands : same ≡ true → take (at + k - at) (drop at store) ≡ recordIf same (recordAt at g store)
   record-stands q = rw (add-sub-cancel-left at k, e, q)
@@ -85,4 +85,11 @@ module _ (g : Shape) (store empty : List ℕ) (at k : ℕ) (same : Bool) (i : In
   pub record-empty : same ≡ false → take k empty ≡ recordIf same (recordAt at g store)
   record-empty q =
       let l : length (recordAt at g store) ≡ recordLength g = length-take-le (recordLength g) (drop at store) (omega (arith, length-drop at store, record-room g i)) in
-      rw (z, e, q, l) (take-zeros (recordLength g) recordRoom (record-room g i))
+      rw (z .zeros q, e, q, l) (take-zeros (recordLength g) recordRoom (record-room g i))
+
+-- ---- what stands for an empty one
+pub spare-any : (same : Bool) (l : List ℕ) → same ≡ true → Spare same l
+spare-any same l e = record { zeros = λ q. absurd (true≢false (sym e ∙ q)) }
+
+pub spare-empty : (same : Bool) (l : List ℕ) → l ≡ replicate recordRoom 0 → Spare same l
+spare-empty same l e = record { zeros = λ q. e }

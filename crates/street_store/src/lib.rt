@@ -2,11 +2,11 @@
 use shape::Shape;
 ghost use mathlib.Core.Path.{_≡_};
 ghost use Prim.Native.Nat.{_+_, _≤_};
-ghost use lib.ListN.{length, replicate};
+ghost use lib.ListN.{length};
 ghost use Rattle.shape.specs.Lengths.{vLength, recordLength};
 ghost use Rattle.records.specs.Records.{withBlock, blockOf};
 ghost use Rattle.street_store.specs.Sizes.{InStreet, recordRoom};
-ghost use Rattle.street_store.specs.Records.{recordAt, recordIf, kept};
+ghost use Rattle.street_store.specs.Records.{recordAt, recordIf, kept, Spare};
 
 // The street program's own bound on n. The sizes below follow from it: those of its largest station, with the largest t and two check points a post.
 pub const STREET_POSTS: usize = 32;
@@ -101,7 +101,7 @@ pub fn record<'a>(
     at: usize,
     same: bool,
 ) -> &'a [u32]
-    requires { ⌜ InStreet shape × (at + recordRoom ≤ length (now store)) × (now empty ≡ replicate recordRoom 0) ⌝ }
+    requires { ⌜ InStreet shape × (at + recordRoom ≤ length (now store)) × Spare same (now empty) ⌝ }
     ensures { λ r. ⌜ now r ≡ recordIf same (recordAt at shape (now (store .entry))) ⌝ }
 {
     let count = shape.record_len();

@@ -35,7 +35,6 @@ fn take_lines(
 {
     let mut numbers = [0u32; street_store::NUMBERS_ROOM];
     let mut masks = [0u32; street_store::MOST_MASKS];
-    let empty = [0u32; street_store::RECORD_ROOM];
     let state = feed.state;
     let mut session = state.session;
     let mut head = street_feeds::head(feed);
@@ -69,7 +68,6 @@ fn take_lines(
                     &line[..len],
                     order,
                     &numbers,
-                    &empty,
                     &mut masks,
                 );
                 let refusal = answer.refusal;
@@ -87,7 +85,7 @@ fn take_lines(
                     session = answer.session;
                 }
             } else {
-                head = street_feeds::look_line(session, head, order, store, &numbers, &empty, out);
+                head = street_feeds::look_line(session, head, order, store, &numbers, out);
             }
         }
     }
