@@ -1,8 +1,8 @@
 -- A change and a look, letter by letter: what they hand back is what the order leads to.
 use Prim.Native.Nat.{ℕ, zero, suc, _+_, _≤_}
-use mathlib.Core.Path.{_≡_, refl, ap, ap₂, sym, _∙_}
-use mathlib.Core.List.{List, [], _∷_}
-use mathlib.Core.Bool.{Bool, true, false, cond, _||_}
+use mathlib.Core.Path.{_≡_, refl, ap, sym, _∙_}
+use mathlib.Core.List.{List, []}
+use mathlib.Core.Bool.{Bool, true, false}
 use native.Mathlib.Omega.{arith}
 use borrow.Author.Tests.{ne-eqb, eqb-true}
 use mir.Syntax.{w64}
@@ -16,29 +16,26 @@ use Rattle.refusal.specs.Refusal.{outcome}
 use Rattle.forms.specs.Lines as Lines
 use Rattle.session.specs.declared.Session.{Session}
 use Rattle.session.specs.declared.Answer.{Answer}
-use Rattle.session.specs.Sessions.{shapeOf, answer, holding, maskedTriple}
+use Rattle.session.specs.Sessions.{shapeOf, answer, maskedTriple}
 use Rattle.load.specs.Load.{loadRowAnswer, loadRowRows, loadTripleAnswer, loadTripleRows}
 use Rattle.deal.specs.Deal.{dealAnswer, dealRows}
-use Rattle.product_masks.specs.Masks.{masksRefusal, maskNumbersOf}
-use Rattle.opening.specs.Opening.{openAnswer}
+use Rattle.product_masks.specs.Masks.{masksRefusal}
 use Rattle.street_store.specs.Sizes.{InStreet, numbersRoom, openingsAt, masksAAt, masksBAt}
 use Rattle.street_store.specs.Records.{recordFor, kept}
-use Rattle.street_states.specs.declared.State.{State}
 use Rattle.street_states.specs.States.{After, answering, leaving, rowsOf, withRows, settled}
 use Rattle.street_states.proofs.Calling.{answer-refusal}
-use Rattle.street_startlines.specs.Steps.{startStep}
 use Rattle.street_startlines.specs.Between.{startAnswer}
 use Rattle.street_startlines.proofs.Settings.{start-begun}
 use Rattle.street_rowlines.specs.Loads.{loading, loadingTriple}
-use Rattle.street_rowlines.specs.Steps.{sumAnswer, sumRows, adding, opening}
-use Rattle.street_finishlines.specs.Masks.{maskLine, masking, maskingOf}
+use Rattle.street_rowlines.specs.Steps.{sumAnswer, sumRows, adding}
+use Rattle.street_finishlines.specs.Masks.{masking, maskingOf}
 use Rattle.street_finishlines.specs.Between.{Masked}
 use Rattle.street_finishlines.specs.Steps.{pairAnswer, pairRows, finishing}
-use Rattle.street_postlines.specs.Steps.{dealing, keepStep, keepMasksStep, keepHalvesStep}
+use Rattle.street_postlines.specs.Steps.{keepStep, keepMasksStep, keepHalvesStep}
 use Rattle.street_interpreter.specs.declared.orders.Order.{Order}
 use Rattle.street_interpreter.specs.declared.Outcome.{Outcome}
-use Rattle.street_interpreter.specs.Orders.{isChange, isKept, changing, looking}
-use Rattle.street_interpreter.specs.Changes.{held, toldBy, changed, looked, Able, Changed, Looked, Opened}
+use Rattle.street_interpreter.specs.Orders.{isChange, changing, looking}
+use Rattle.street_interpreter.specs.Changes.{held, changed, Able, Changed, Looked, Opened}
 
 -- ---- which letters
 pub change-r : (l : ℕ) → l ≡ 82 → true ≡ isChange l

@@ -1,7 +1,7 @@
 -- The order of a broadcast line leads to what the line does.
 use Prim.Native.Nat.{ℕ, zero, suc, _+_, _≤_}
 use mathlib.Core.Path.{_≡_, refl, ap, sym, _∙_}
-use mathlib.Core.List.{List, [], _∷_, _++_}
+use mathlib.Core.List.{List, _++_}
 use mathlib.Core.Bool.{Bool, true, false}
 use native.Mathlib.Omega.{arith}
 use lib.ListN.{length, getD, take, drop}
@@ -17,7 +17,7 @@ use Rattle.session.specs.declared.Session.{Session}
 use Rattle.session.specs.Sessions.{shapeOf, sessionOf}
 use Rattle.street_store.specs.Sizes.{InStreet, numbersRoom}
 use Rattle.street_states.specs.declared.State.{State}
-use Rattle.street_states.specs.States.{After, refusing, leaving, unless}
+use Rattle.street_states.specs.States.{refusing, leaving, unless}
 use Rattle.street_postlines.specs.Steps.{heardRefusal, heard, dealing, keepStep, keepHalvesStep, saying, hearStep}
 use Rattle.street_interpreter.specs.declared.orders.Order.{Order}
 use Rattle.street_interpreter.specs.Stepping.{lettersStep}

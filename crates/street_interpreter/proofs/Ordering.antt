@@ -2,12 +2,11 @@
 use Prim.Native.Nat.{ℕ, zero, suc, _+_, _≤_, _<_}
 use mathlib.Core.Path.{_≡_, refl, ap, sym, _∙_}
 use mathlib.Core.List.{List, [], _∷_, _++_}
-use mathlib.Core.Bool.{Bool, true, false, cond, _||_}
+use mathlib.Core.Bool.{Bool, true, false, cond}
 use native.Mathlib.Omega.{arith}
 use borrow.Author.Tests.{lt-ltb, le-ltb, ne-eqb}
 use lib.ListN.{length, getD, take, drop, List·getD-eq-default}
 use lib.Seq.{take-at, length-take-le, getD-take}
-use lib.Dec.{eqb}
 use Rattle.shape.specs.declared.Shape.{Shape}
 use Rattle.shape.specs.Bounds.{lastRow, lastTriple}
 use Rattle.shape.specs.Lengths.{rowLength, tripleLength}
@@ -27,7 +26,7 @@ use Rattle.street_finishlines.specs.Steps.{finishing, finishStep}
 use Rattle.street_reading.specs.Starting.{isStart}
 use Rattle.street_interpreter.specs.declared.orders.Order.{Order}
 use Rattle.street_interpreter.specs.Stepping.{lettersStep, lateStep, step}
-use Rattle.street_interpreter.specs.Orders.{refusedOrder, orderOf, earlyOrder, isChange, changing, looking, acting, Numbered, isKept, Leads, lettered, lated, Accepted, Reads}
+use Rattle.street_interpreter.specs.Orders.{refusedOrder, orderOf, earlyOrder, changing, looking, acting, Numbered, isKept, Leads, lettered, lated, Accepted, Reads}
 
 -- ---- before an `S`
 pub early-start : (s : List ℕ) (b : Bool) (o : Order) → b ≡ isStart s → b ≡ true → o ≡ orderOf 83 0 → o ≡ earlyOrder s

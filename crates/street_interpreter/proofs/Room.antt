@@ -1,20 +1,19 @@
 -- The store has room, and the session is one of the street's, exactly where a step refuses neither.
 use Prim.Native.Nat.{ℕ, _-_, _≤_, _<_}
-use mathlib.Core.Path.{_≡_, refl, ap, ap₂, sym, _∙_}
+use mathlib.Core.Path.{_≡_, refl, ap₂, sym, _∙_}
 use mathlib.Core.List.{List, [], _∷_}
-use mathlib.Core.Bool.{Bool, true, false, not, cond, _||_}
+use mathlib.Core.Bool.{Bool, true, false, cond, _||_}
 use native.Mathlib.Omega.{arith}
-use borrow.Author.Tests.{lt-ltb, le-ltb, eq-eqb, ne-eqb, ltb-false}
+use borrow.Author.Tests.{lt-ltb, le-ltb, eq-eqb, ltb-false}
 use lib.ListN.{length}
-use lib.Dec.{eqb, ltb}
+use lib.Dec.{ltb}
 use Rattle.shape.specs.Bounds.{fewestPosts, mostPosts}
-use Rattle.refusal.specs.Refusal.{_when_, first, orElse, outcome}
+use Rattle.refusal.specs.Refusal.{_when_, first, orElse}
 use Rattle.refusal.specs.Conditions.{wrongLength, postsTests}
 use Rattle.refusal.proofs.Laws.{orElse-zero, all-fail, inside, equal}
 use Rattle.session.specs.Sessions.{shapeOf}
 use Rattle.street_store.specs.Sizes.{streetPosts, storeRoom, InStreet}
 use Rattle.street_states.specs.declared.State.{State}
-use Rattle.street_states.specs.States.{After}
 use Rattle.street_interpreter.specs.Stepping.{postsRefusal, roomRefusal, Ready}
 
 -- ---- a session, once an `S` was accepted

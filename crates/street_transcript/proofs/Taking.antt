@@ -12,21 +12,19 @@ use Rattle.csv.specs.Fields.{overwrite}
 use Rattle.session.specs.declared.Session.{Session}
 use Rattle.session.specs.declared.Answer.{Answer}
 use Rattle.session.specs.Sessions.{shapeOf, answer}
-use Rattle.street_store.specs.Sizes.{InStreet, numbersRoom, mostMasks, storeRoom}
+use Rattle.street_store.specs.Sizes.{numbersRoom, mostMasks}
 use Rattle.street_states.specs.declared.Head.{Head}
 use Rattle.street_states.specs.States.{After, settled, stateOf}
 use Rattle.street_states.proofs.Calling.{answer-refusal}
 use Rattle.street_interpreter.specs.declared.orders.Order.{Order}
 use Rattle.street_interpreter.specs.Stepping.{step, Ready}
-use Rattle.street_interpreter.specs.Orders.{Reads, isChange, isKept, acting, changing, looking}
+use Rattle.street_interpreter.specs.Orders.{Reads, isChange, acting, changing, looking}
 use Rattle.street_interpreter.specs.Changes.{held, toldBy, Able, Changed, changed}
 use Rattle.street_interpreter.proofs.Ranges.{step-ready}
 use Rattle.street_answers.specs.Text.{printText, longestPrint}
-use Rattle.street_splitting.specs.Lines.{keptLength}
-use Rattle.street_feeds.specs.declared.Feed.{Feed}
 use Rattle.street_feeds.specs.declared.Part.{Part}
 use Rattle.street_feeds.specs.Program.{Running, leftBy, answered, running}
-use Rattle.street_feeds.specs.Between.{Open, Added, Fed, feedOf, grownHead, answeredHead, turned, PartRead, toldText, TellRoom, Answered, Seen}
+use Rattle.street_feeds.specs.Between.{Open, Added, Fed, feedOf, answeredHead, turned, PartRead, toldText, TellRoom, Answered, Seen}
 use Rattle.street_feeds.proofs.Feeding.{answered-by, answered-added}
 
 pub settled-new : (x : ℕ) (new old : Session) → x ≡ 0 → new ≡ answer x 0 new old .session

@@ -16,7 +16,7 @@ use Rattle.street_states.specs.States.{settled}
 use Rattle.street_interpreter.specs.Orders.{isChange}
 use Rattle.street_interpreter.specs.Changes.{Able, Changed}
 use Rattle.street_answers.specs.Text.{longestPrint}
-use Rattle.street_splitting.specs.Lines.{segment, keptLength}
+use Rattle.street_splitting.specs.Lines.{segment}
 use Rattle.street_feeds.specs.declared.Feed.{Feed}
 use Rattle.street_feeds.specs.declared.Part.{Part}
 use Rattle.street_feeds.specs.Between.{Open, feedOf, answeredHead, PartRead, toldText, TellRoom, Answered, Seen}
