@@ -10,7 +10,7 @@ use mir.Syntax.{w64}
 use mir.Val.{Fits}
 use lib.ListN.{length, getD, take, drop}
 use Rattle.refusal.specs.Refusal.{first, orElse, outcome}
-use Rattle.refusal.proofs.Laws.{first-join, all-fail, not-refused}
+use Rattle.refusal.proofs.Laws.{first-join, orElse-zero, all-fail, not-refused}
 use Rattle.refusal.proofs.Groups.{fail-parts}
 use Rattle.refusal.proofs.Endings.{refused, accepted}
 use Rattle.session.specs.declared.Session.{Session}
@@ -182,6 +182,9 @@ module _ (s : Session) (rows state : List ℕ) (a b f : ℕ) (ea : a ≡ first (
     turn-state-kept = refused f (countRefusal s rows state) _ state count-is n
 
   module _ (z : f ≡ 0) where
+    pub turn-framed : first (frameTests s rows) ≡ 0
+    turn-framed = orElse-zero (first (frameTests s rows)) b (sym (q ∙ ap (λ (k : ℕ). orElse k b) ea) ∙ z) .0
+
     pub turn-good : Good state
     turn-good = count-good s rows state (sym count-is ∙ z)
 

@@ -5,6 +5,9 @@ use session::Answer;
 use session::Session;
 ghost use mathlib.Core.Path.{_≡_};
 ghost use lib.ListN.{length};
+ghost use Rattle.refusal.specs.Refusal.{first};
+ghost use Rattle.session.specs.Checks.{frameTests};
+ghost use Rattle.deal.specs.Deal.{dealRefusal, dealAnswer, dealRows};
 ghost use Rattle.dealers.specs.State.{lineIn, served};
 ghost use Rattle.dealers.specs.Calls.{newStateRefusal, newStateAfter, placeRefusal, placeAfter, turnAnswer, turnRows, turnState};
 ghost use Rattle.dealers.specs.Between.{Good, Dealer, saidBy};
@@ -116,6 +119,44 @@ fn take_line(state: &mut [u8], dealer: usize) -> Said
     said
 }
 
+// A deal's refusal, where 1 to 5 have let the turn pass.
+fn line_refusal(session: Session, rows: &[u32], row: usize, c: u32) -> u8
+    requires { ⌜ first (frameTests session (now rows)) ≡ 0 ⌝ }
+    ensures { λ r. ⌜ r ≡ dealRefusal session (now (rows .entry)) row c ⌝ }
+{
+    let held = session.marks;
+    let marks = session::checks::wrong_mark(&held, row, shape::RAW);
+    let numbers = refusal::or_else(
+        refusal::number(c),
+        session::checks::numbers(session.shape(), rows, row),
+    );
+    let place = session::checks::row(row);
+    refusal::or_else(place, refusal::or_else(marks, numbers))
+}
+
+// The rows, after a line with this refusal.
+fn line_rows(session: Session, rows: &mut [u32], row: usize, c: u32, refusal: u8)
+    requires { ⌜ refusal ≡ dealRefusal session (now rows) row c ⌝ }
+    ensures { λ r. ⌜ now (rows .exit) ≡ dealRows session (now (rows .entry)) row c ⌝ }
+{
+    if refusal != 0 {
+        return;
+    }
+    sums::add_to_sums(session.shape(), rows, row, c);
+}
+
+// What a line says is dealt, as `deal::deal` does it. That has one caller: with two it is not inlined, and the session is copied for it.
+fn deal_line(session: Session, rows: &mut [u32], row: usize, c: u32) -> Answer
+    requires { ⌜ first (frameTests session (now rows)) ≡ 0 ⌝ }
+    ensures { λ r. ⌜ r ≡ dealAnswer session (now (rows .entry)) row c ⌝ }
+    ensures { λ r. ⌜ now (rows .exit) ≡ dealRows session (now (rows .entry)) row c ⌝ }
+{
+    let refusal = line_refusal(session, rows, row, c);
+    let answer = session.answer_marking(refusal, row, shape::HELD);
+    line_rows(session, rows, row, c, refusal);
+    answer
+}
+
 // A turn: one line is taken, read and dealt. The session is handed on for its tests and to the call that answers, and no further.
 pub fn turn(session: Session, rows: &mut [u32], state: &mut [u8]) -> Answer
     ensures { λ r. ⌜ r ≡ turnAnswer session (now (rows .entry)) (now (state .entry)) ⌝ }
@@ -134,5 +175,5 @@ pub fn turn(session: Session, rows: &mut [u32], state: &mut [u8]) -> Answer
     if said.refusal != 0 {
         return session.refuse(said.refusal);
     }
-    deal::deal(session, rows, said.row, said.c)
+    deal_line(session, rows, said.row, said.c)
 }

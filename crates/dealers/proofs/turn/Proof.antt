@@ -1,11 +1,11 @@
 -- `turn` meets its contract.
 use borrow.Author.Needs.{needs}
-use Rattle.dealers.proofs.Turns.{chosen-dealer, turn-good, turn-refused, turn-rows-kept, turn-state-kept, idle-answer, idle-rows, idle-state}
+use Rattle.dealers.proofs.Turns.{chosen-dealer, turn-framed, turn-good, turn-refused, turn-rows-kept, turn-state-kept, idle-answer, idle-rows, idle-state}
 use Rattle.dealers.proofs.Turns.{turn-state, line-refused, line-untouched, line-dealt, line-written}
 use Rattle.dealers.proofs.turn.Statement.{statement}
 use Rattle.dealers.proofs.turn.Tie as tie
 
-ruleset calls = (needs, turn-good, chosen-dealer)
+ruleset calls = (needs, turn-framed, turn-good, chosen-dealer)
 
 pub turn-spec : {M : Type 1} → statement M
 turn-spec =

@@ -1,0 +1,12 @@
+-- `line_rows` meets its contract.
+use borrow.Author.Needs.{needs}
+use Rattle.deal.proofs.Dealing.{deal-untouched, deal-sized, deal-in, deal-written}
+use Rattle.dealers.proofs.line_rows.Statement.{statement}
+use Rattle.dealers.proofs.line_rows.Tie as tie
+
+ruleset steps = (needs, deal-untouched, deal-sized, deal-in, deal-written)
+
+pub line-rows-spec : {M : Type 1} → statement M
+line-rows-spec =
+    tie.close
+    (tie.spec (λ c. search steps) (λ c κs. search needs) (λ c κs. search steps) (λ c. search needs) (λ c. search steps))
