@@ -2,6 +2,7 @@ pub mod Positions
 pub mod Placing
 pub mod Choosing
 pub mod Turns
+pub mod Turning
 pub mod Kept
 pub mod Fair
 pub mod Example

@@ -110,7 +110,7 @@ module _ (s : Session) (rows line : List ℕ) (m : Said) (e : m ≡ saidBy line)
   abbrev saidRows : Said → List ℕ
   saidRows m = outcome (m .refusal) (dealRows s rows (m .row) (m .c)) rows
 
-  as-answer : saidAnswer m ≡ takenAnswer s rows line
+  pub as-answer : saidAnswer m ≡ takenAnswer s rows line
   unfolding outcome
   as-answer = ap saidAnswer e ∙ go (takenRefusal line)
     where
@@ -119,7 +119,7 @@ module _ (s : Session) (rows line : List ℕ) (m : Said) (e : m ≡ saidBy line)
       go zero = refl
       go (suc k) = refl
 
-  as-rows : saidRows m ≡ takenRows s rows line
+  pub as-rows : saidRows m ≡ takenRows s rows line
   unfolding outcome
   as-rows = ap saidRows e ∙ go (takenRefusal line)
     where
@@ -127,18 +127,6 @@ module _ (s : Session) (rows line : List ℕ) (m : Said) (e : m ≡ saidBy line)
           ≡ outcome k (dealRows s rows (saidRow line) (saidNumber line)) rows
       go zero = refl
       go (suc k) = refl
-
-  said-refused : (a : Answer) → (m .refusal ≡ 0 → ⊥) → a ≡ holding (m .refusal) 0 s → a ≡ takenAnswer s rows line
-  said-refused a n q = q ∙ refused (m .refusal) (m .refusal) _ _ refl n ∙ as-answer
-
-  said-untouched : (m .refusal ≡ 0 → ⊥) → rows ≡ takenRows s rows line
-  said-untouched n = refused (m .refusal) (m .refusal) _ rows refl n ∙ as-rows
-
-  said-dealt : (a : Answer) → m .refusal ≡ 0 → a ≡ dealAnswer s rows (m .row) (m .c) → a ≡ takenAnswer s rows line
-  said-dealt a z q = accepted (m .refusal) (m .refusal) a _ _ refl z q ∙ as-answer
-
-  said-written : (out : List ℕ) → m .refusal ≡ 0 → out ≡ dealRows s rows (m .row) (m .c) → out ≡ takenRows s rows line
-  said-written out z q = accepted (m .refusal) (m .refusal) out _ rows refl z q ∙ as-rows
 
 -- ---- the turn
 
@@ -167,63 +155,6 @@ count-good s rows state z =
     state-good state 0 (sym (not-refused (stateTests state) h)) refl
 
 module _ (s : Session) (rows state : List ℕ) (a b f : ℕ) (ea : a ≡ first (frameTests s rows)) (eb : b ≡ first (stateTests state)) (q : f ≡ orElse a b) where
-  count-is : f ≡ countRefusal s rows state
+  pub count-is : f ≡ countRefusal s rows state
   unfolding countRefusal
   count-is = q ∙ ap (λ (k : ℕ). orElse k b) ea ∙ ap (orElse (first (frameTests s rows))) eb ∙ sym (first-join (frameTests s rows) (stateTests state) tt)
-
-  module _ (n : f ≡ 0 → ⊥) where
-    pub turn-refused : (r : Answer) → r ≡ holding f 0 s → r ≡ turnAnswer s rows state
-    turn-refused r q = q ∙ ap (λ (k : ℕ). holding k 0 s) count-is ∙ refused f (countRefusal s rows state) _ _ count-is n
-
-    pub turn-rows-kept : rows ≡ turnRows s rows state
-    turn-rows-kept = refused f (countRefusal s rows state) _ rows count-is n
-
-    pub turn-state-kept : state ≡ turnState s rows state
-    turn-state-kept = refused f (countRefusal s rows state) _ state count-is n
-
-  module _ (z : f ≡ 0) where
-    pub turn-good : Good state
-    turn-good = count-good s rows state (sym count-is ∙ z)
-
-    go-on : {A : Type 0} (x y old : A) → x ≡ y → x ≡ outcome (countRefusal s rows state) y old
-    go-on x y old p = accepted f (countRefusal s rows state) x y old count-is z p
-
-    module _ (d : ℕ) (c : d ≡ chosen state) where
-      module _ (w : d ≡ 0) where
-        idle : {A : Type 0} (none : A) (by : ℕ → A) → none ≡ whose (chosen state) none by
-        idle none by = sym (ap (λ (x : ℕ). whose x none by) (sym c ∙ w))
-
-        pub idle-answer : (r : Answer) → r ≡ holding 0 0 s → r ≡ turnAnswer s rows state
-        idle-answer r q = go-on r _ _ (q ∙ idle (holding 0 0 s) (λ x. takenAnswer s rows (lineIn state x)))
-
-        pub idle-rows : rows ≡ turnRows s rows state
-        idle-rows = go-on rows _ _ (idle rows (λ x. takenRows s rows (lineIn state x)))
-
-        pub idle-state : state ≡ turnState s rows state
-        idle-state = go-on state _ _ (idle state (served state))
-
-      module _ (n : d ≡ 0 → ⊥) where
-        by-dealer : {A : Type 0} (none : A) (by : ℕ → A) → by d ≡ whose (chosen state) none by
-        by-dealer none by = sym (sym (ap (λ (x : ℕ). whose x none by) c) ∙ by-some d n none by)
-
-        pub turn-state : (out : List ℕ) → out ≡ served state d → out ≡ turnState s rows state
-        turn-state out q = go-on out _ _ (q ∙ by-dealer state (served state))
-
-        turn-answer : (r : Answer) → r ≡ takenAnswer s rows (lineIn state d) → r ≡ turnAnswer s rows state
-        turn-answer r q = go-on r _ _ (q ∙ by-dealer (holding 0 0 s) (λ x. takenAnswer s rows (lineIn state x)))
-
-        turn-rows : (out : List ℕ) → out ≡ takenRows s rows (lineIn state d) → out ≡ turnRows s rows state
-        turn-rows out q = go-on out _ _ (q ∙ by-dealer rows (λ x. takenRows s rows (lineIn state x)))
-
-        module _ (m : Said) (e : m ≡ saidBy (lineIn state d)) where
-          pub line-refused : (r : Answer) → (m .refusal ≡ 0 → ⊥) → r ≡ holding (m .refusal) 0 s → r ≡ turnAnswer s rows state
-          line-refused r h q = turn-answer r (said-refused s rows (lineIn state d) m e r h q)
-
-          pub line-untouched : (m .refusal ≡ 0 → ⊥) → rows ≡ turnRows s rows state
-          line-untouched h = turn-rows rows (said-untouched s rows (lineIn state d) m e h)
-
-          pub line-dealt : (r : Answer) → m .refusal ≡ 0 → r ≡ dealAnswer s rows (m .row) (m .c) → r ≡ turnAnswer s rows state
-          line-dealt r h q = turn-answer r (said-dealt s rows (lineIn state d) m e r h q)
-
-          pub line-written : (out : List ℕ) → m .refusal ≡ 0 → out ≡ dealRows s rows (m .row) (m .c) → out ≡ turnRows s rows state
-          line-written out h q = turn-rows out (said-written s rows (lineIn state d) m e out h q)

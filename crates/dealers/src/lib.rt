@@ -3,17 +3,26 @@ pub mod places;
 
 use session::Answer;
 use session::Session;
+use shape::Shape;
 ghost use mathlib.Core.Path.{_≡_};
 ghost use lib.ListN.{length};
+ghost use Rattle.session.specs.Between.{Sized, Allows};
 ghost use Rattle.dealers.specs.State.{lineIn, served};
 ghost use Rattle.dealers.specs.Calls.{newStateRefusal, newStateAfter, placeRefusal, placeAfter, turnAnswer, turnRows, turnState};
 ghost use Rattle.dealers.specs.Between.{Good, Dealer, saidBy};
+ghost use Rattle.dealers.specs.Turning.{noneDealt, saidDealt, saidRows, turnDealt, turnDealtRows, turnDealtState, answerBy};
 
 // What a line taken says: the row and the number of a `D`, or its refusal.
 pub struct Said {
     pub refusal: u8,
     pub row: usize,
     pub c: u32,
+}
+
+// What a turn comes to: its refusal, and the row that is then held, 96 for none.
+pub struct Dealt {
+    pub refusal: u8,
+    pub row: usize,
 }
 
 // A new state: 8 as the last served, and no line waiting.
@@ -116,23 +125,78 @@ fn take_line(state: &mut [u8], dealer: usize) -> Said
     said
 }
 
-// A turn: one line is taken, read and dealt. The session is handed on for its tests and to the call that answers, and no further.
+fn none_dealt(refusal: u8) -> Dealt
+    ensures { λ r. ⌜ r ≡ noneDealt refusal ⌝ }
+{
+    Dealt {
+        refusal,
+        row: shape::ROWS,
+    }
+}
+
+// What a line says, dealt where nothing refuses it.
+fn deal_said(shape: Shape, marks: &[u8], rows: &mut [u32], said: Said) -> Dealt
+    requires { ⌜ Sized shape (now rows) ⌝ }
+    ensures { λ r. ⌜ r ≡ saidDealt shape (now (marks .entry)) (now (rows .entry)) said ⌝ }
+    ensures { λ r. ⌜ now (rows .exit) ≡ saidRows shape (now (marks .entry)) (now (rows .entry)) said ⌝ }
+{
+    if said.refusal != 0 {
+        return none_dealt(said.refusal);
+    }
+    let refusal = deal::row_refusal(shape, marks, rows, said.row, said.c);
+    if refusal != 0 {
+        return none_dealt(refusal);
+    }
+    sums::add_to_sums(shape, rows, said.row, said.c);
+    Dealt {
+        refusal: 0,
+        row: said.row,
+    }
+}
+
+// One line is taken, read and dealt, in a turn with this refusal of session, rows and state. The session is not handed over: a call that
+// writes would keep a copy of it.
+fn take_turn(shape: Shape, marks: &[u8], rows: &mut [u32], state: &mut [u8], refusal: u8) -> Dealt
+    requires { ⌜ Allows refusal (Sized shape (now rows)) × Allows refusal (Good (now state)) ⌝ }
+    ensures { λ r. ⌜ r ≡ turnDealt shape (now (marks .entry)) (now (rows .entry)) (now (state .entry)) refusal ⌝ }
+    ensures { λ r. ⌜ now (rows .exit) ≡ turnDealtRows shape (now (marks .entry)) (now (rows .entry)) (now (state .entry)) refusal ⌝ }
+    ensures { λ r. ⌜ now (state .exit) ≡ turnDealtState (now (state .entry)) refusal ⌝ }
+{
+    if refusal != 0 {
+        return none_dealt(refusal);
+    }
+    let dealer = places::choose(state);
+    if dealer == 0 {
+        return none_dealt(0);
+    }
+    let said = take_line(state, dealer);
+    deal_said(shape, marks, rows, said)
+}
+
+// The one end of a turn, for every outcome: where ends meet, the session would be copied.
+fn answer_turn(session: Session, dealt: Dealt) -> Answer
+    ensures { λ r. ⌜ r ≡ answerBy session dealt ⌝ }
+{
+    let mut marks = session.marks;
+    let row = dealt.row;
+    if row < shape::ROWS {
+        marks[row] = shape::HELD;
+    }
+    Answer {
+        refusal: dealt.refusal,
+        value: 0,
+        session: Session { marks, ..session },
+    }
+}
+
+// A turn: one line is taken, read and dealt.
 pub fn turn(session: Session, rows: &mut [u32], state: &mut [u8]) -> Answer
     ensures { λ r. ⌜ r ≡ turnAnswer session (now (rows .entry)) (now (state .entry)) ⌝ }
     ensures { λ r. ⌜ now (rows .exit) ≡ turnRows session (now (rows .entry)) (now (state .entry)) ⌝ }
     ensures { λ r. ⌜ now (state .exit) ≡ turnState session (now (rows .entry)) (now (state .entry)) ⌝ }
 {
     let refusal = refusal::or_else(session.frame(rows), places::refusal(state));
-    if refusal != 0 {
-        return session.refuse(refusal);
-    }
-    let dealer = places::choose(state);
-    if dealer == 0 {
-        return session.done(0);
-    }
-    let said = take_line(state, dealer);
-    if said.refusal != 0 {
-        return session.refuse(said.refusal);
-    }
-    deal::deal(session, rows, said.row, said.c)
+    let marks = session.marks;
+    let dealt = take_turn(session.shape(), &marks, rows, state, refusal);
+    answer_turn(session, dealt)
 }
