@@ -1,6 +1,7 @@
 pub mod Positions
 pub mod Placing
 pub mod Choosing
+pub mod Reading
 pub mod Turns
 pub mod Turning
 pub mod Kept

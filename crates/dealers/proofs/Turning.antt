@@ -1,17 +1,15 @@
 -- A turn by the station's shape and the marks, as its code has it.
 use Prim.Native.Nat.{ℕ, zero, suc, _≤_, _<_}
 use mathlib.Core.Path.{_≡_, refl, sym, _∙_, ap}
-use mathlib.Core.Bool.{cond}
-use mathlib.Core.List.{List, [], _∷_, _++_}
+use mathlib.Core.List.{List, _++_}
 use native.Mathlib.Omega.{arith}
 use borrow.Author.Tests.{lt-ltb, le-ltb}
-use lib.Dec.{ltb}
 use Rattle.shape.specs.declared.Shape.{Shape}
 use Rattle.shape.specs.Bounds.{rowCount, lastRow}
 use Rattle.shape.specs.Marks.{held}
 use Rattle.shape.specs.Lengths.{rowLength, sumsAt}
 use Rattle.refusal.specs.Refusal.{first, orElse, outcome}
-use Rattle.refusal.proofs.Laws.{first-join, all-fail, not-refused}
+use Rattle.refusal.proofs.Laws.{all-fail, not-refused}
 use Rattle.refusal.proofs.Groups.{fail-parts}
 use Rattle.refusal.proofs.Endings.{refused, accepted}
 use Rattle.session.specs.declared.Session.{Session}
@@ -29,9 +27,9 @@ use Rattle.deal.proofs.Dealing.{deal-checked, row-passed}
 use Rattle.dealers.specs.declared.Said.{Said}
 use Rattle.dealers.specs.declared.Dealt.{Dealt}
 use Rattle.dealers.specs.State.{lineIn, served, chosen}
-use Rattle.dealers.specs.Calls.{stateTests, countRefusal, takenRefusal, saidRow, saidNumber, takenAnswer, takenRows, whose}
-use Rattle.dealers.specs.Calls.{countedAnswer, countedRows, countedState, turnAnswer, turnRows, turnState}
-use Rattle.dealers.specs.Between.{Good, Dealer, saidBy}
+use Rattle.dealers.specs.Calls.{stateTests, countRefusal, takenAnswer, takenRows, whose}
+use Rattle.dealers.specs.Calls.{countedAnswer, countedRows, turnAnswer, turnRows, turnState}
+use Rattle.dealers.specs.Between.{Good, saidBy}
 use Rattle.dealers.specs.Turning.{noneDealt, rowDealt, saidDealt, saidRows, turnDealt, turnDealtRows, turnDealtState, answerBy}
 use Rattle.dealers.proofs.Turns.{by-some, count-good, count-is, as-answer, as-rows}
 

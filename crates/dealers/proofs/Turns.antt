@@ -1,91 +1,25 @@
 -- A turn: the line that it takes, read and dealt.
-use Prim.Native.Nat.{ℕ, zero, suc, _+_, _-_, _≤_, _<_}
+use Prim.Native.Nat.{ℕ, zero, suc, _+_, _-_, _≤_}
 use mathlib.Core.Path.{_≡_, refl, sym, _∙_, ap}
 use mathlib.Core.Bool.{Bool, true, false}
-use mathlib.Core.List.{List, [], _∷_, _++_}
-use native.Mathlib.Nat.{sub-zero}
+use mathlib.Core.List.{List, _++_}
 use native.Mathlib.Omega.{arith}
-use borrow.Author.Tests.{eq-eqb, ne-eqb}
 use mir.Syntax.{w64}
 use mir.Val.{Fits}
-use lib.ListN.{length, getD, take, drop}
+use lib.ListN.{length, take, drop}
 use Rattle.refusal.specs.Refusal.{first, orElse, outcome}
 use Rattle.refusal.proofs.Laws.{first-join, all-fail, not-refused}
 use Rattle.refusal.proofs.Groups.{fail-parts}
-use Rattle.refusal.proofs.Endings.{refused, accepted}
 use Rattle.session.specs.declared.Session.{Session}
 use Rattle.session.specs.declared.Answer.{Answer}
 use Rattle.session.specs.Sessions.{holding}
 use Rattle.session.specs.Checks.{frameTests}
 use Rattle.deal.specs.Deal.{dealAnswer, dealRows}
-use Rattle.csv.specs.Fields.{padded}
-use Rattle.forms.specs.Lines.{Message}
-use Rattle.forms.specs.Forms.{message, lineTests}
-use Rattle.lines.specs.declared.Line.{Line}
-use Rattle.lines.specs.Order.{lineRefusal}
-use Rattle.lines.specs.Reading.{readRefusal, lineAs, listAs}
 use Rattle.dealers.specs.declared.Said.{Said}
-use Rattle.dealers.specs.State.{stateLength, dealerCount, placeAt, lengthIn, lineIn, waits, next, lastServed, served, firstAfter, firstWaiting, chosen}
+use Rattle.dealers.specs.State.{dealerCount, placeAt, lengthIn, lineIn, waits, next, lastServed, firstAfter, firstWaiting, chosen}
 use Rattle.dealers.specs.Calls.{stateTests, countRefusal, takenRefusal, saidRow, saidNumber, takenAnswer, takenRows, whose}
-use Rattle.dealers.specs.Calls.{countedAnswer, countedRows, countedState, turnAnswer, turnRows, turnState}
 use Rattle.dealers.specs.Between.{Good, Dealer, saidBy}
 use Rattle.dealers.proofs.Positions.{line-small, last-in, next-dealer, state-good}
-
--- ---- the line, read
-
-module _ (line : List ℕ) where
-  pub not-deal : (m : Said) → m ≡ record { refusal = 10; row = 0; c = 0 } → (getD line 0 0 ≡ 68 → ⊥) → m ≡ saidBy line
-  unfolding takenRefusal outcome
-  not-deal m q n = q ∙ rw (ne-eqb (getD line 0 0) 68 n)
-
-  pub no-line : (m : Said) → m ≡ record { refusal = 10; row = 0; c = 0 } → length line < 1 → m ≡ saidBy line
-  unfolding takenRefusal outcome
-  no-line m q h = q ∙ none line h
-    where
-      none : (l : List ℕ) → length l < 1 → record { refusal = 10; row = 0; c = 0 } ≡ saidBy l
-      none [] h = refl
-      none (x ∷ l) h = absurd (omega arith)
-
-  module _ (d : getD line 0 0 ≡ 68) (out : List ℕ) (l : length out ≡ 4) (r : Line)
-      (e : r ≡ lineAs (readRefusal 2 1 1 line out) (message 2 line)) where
-    refusal-is : readRefusal 2 1 1 line out ≡ takenRefusal line
-    unfolding lineRefusal takenRefusal
-    refusal-is = rw (eq-eqb (length out) 4 l, eq-eqb (getD line 0 0) 68 d)
-
-    same-refusal : r .refusal ≡ takenRefusal line
-    unfolding outcome
-    same-refusal = ap (λ (x : Line). x .refusal) e ∙ go (readRefusal 2 1 1 line out) (message 2 line) ∙ refusal-is
-      where
-        go : (x : ℕ) (m : Message) → lineAs x m .refusal ≡ x
-        go zero m = refl
-        go (suc j) m = refl
-
-    pub deal-refused : (m : Said) → m ≡ record { refusal = r .refusal; row = 0; c = 0 } → (r .refusal ≡ 0 → ⊥) → m ≡ saidBy line
-    deal-refused m q n =
-        q ∙ ap (λ (k : ℕ). record { refusal = k; row = 0; c = 0 }) same-refusal ∙ refused (r .refusal) (takenRefusal line) _ _ same-refusal n
-
-    pub deal-said : (out' : List ℕ) → r .refusal ≡ 0 → out' ≡ listAs (readRefusal 2 1 1 line out) (message 2 line) out
-        → record { refusal = 0; row = r .row; c = getD out' 0 0 } ≡ saidBy line
-    unfolding outcome
-    deal-said out' z q =
-        accepted (r .refusal) (takenRefusal line) (record { refusal = 0; row = r .row; c = getD out' 0 0 })
-        (record { refusal = 0; row = saidRow line; c = saidNumber line }) _ same-refusal z (rw (row-is, number-is))
-      where
-        none : readRefusal 2 1 1 line out ≡ 0
-        none = refusal-is ∙ sym same-refusal ∙ z
-
-        row-is : r .row ≡ saidRow line
-        row-is = ap (λ (x : Line). x .row) (e ∙ ap (λ (k : ℕ). lineAs k (message 2 line)) none)
-
-        first-padded : (k : ℕ) (xs : List ℕ) → getD (padded k xs) 0 0 ≡ getD xs 0 0
-        first-padded zero [] = refl
-        first-padded (suc k) [] = rw (sub-zero (suc k))
-        first-padded k (x ∷ xs) = refl
-
-        number-is : getD out' 0 0 ≡ saidNumber line
-        number-is =
-            ap (λ (x : List ℕ). getD x 0 0) (q ∙ ap (λ (k : ℕ). listAs k (message 2 line) out) none)
-            ∙ first-padded (length out) (message 2 line .numbers)
 
 -- ---- the line in its place
 

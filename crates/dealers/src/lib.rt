@@ -1,12 +1,17 @@
 // Several dealers at one station: a lent state with a place for each dealer's waiting line, and turns that take one line.
 pub mod places;
 
+use csv::Run;
 use session::Answer;
 use session::Session;
 use shape::Shape;
 ghost use mathlib.Core.Path.{_≡_};
 ghost use lib.ListN.{length};
+ghost use Rattle.refusal.specs.Conditions.{beyond};
 ghost use Rattle.session.specs.Between.{Sized, Allows};
+ghost use Rattle.forms.specs.Forms.{outOfRange};
+ghost use Rattle.forms.specs.Between.{Headed};
+ghost use Rattle.lines.specs.Reading.{limitOf};
 ghost use Rattle.dealers.specs.State.{lineIn, served};
 ghost use Rattle.dealers.specs.Calls.{newStateRefusal, newStateAfter, placeRefusal, placeAfter, turnAnswer, turnRows, turnState};
 ghost use Rattle.dealers.specs.Between.{Good, Dealer, saidBy};
@@ -82,7 +87,41 @@ fn not_said(refusal: u8) -> Said
     }
 }
 
-// A `D` line is the same at every station: it is read as at one of two posts, with room for four numbers, and needs no session.
+// What a deal's number stays below, if its row is in range: p. No number is below 0.
+fn limit_for(row: u64) -> u64
+    ensures { λ r. ⌜ r ≡ limitOf (outOfRange 2 68 row 0 (beyond 0)) ⌝ }
+{
+    if (shape::LAST_ROW as u64) < row {
+        0
+    } else {
+        2147483647
+    }
+}
+
+// The number of a deal, and the line's end behind it.
+fn read_number(line: &[u8], at: usize, row: u64) -> Said
+    requires { ⌜ Headed 2 (now line) 68 row 0 at 1 ⌝ }
+    ensures { λ r. ⌜ r ≡ saidBy (now (line .entry)) ⌝ }
+{
+    let mut number = [0u32; 1];
+    let limit = limit_for(row);
+    let run = forms::read_fields(line, at, 0, limit, &mut number);
+    match run {
+        Run::Fields { largest, next: _ } => {
+            if limit <= largest {
+                return not_said(11);
+            }
+            Said {
+                refusal: 0,
+                row: row as usize,
+                c: number[0],
+            }
+        }
+        Run::Broken => not_said(10),
+    }
+}
+
+// A `D` line is the same at every station: its two fields are read, and `lines::read` keeps its one caller.
 fn read_deal(line: &[u8]) -> Said
     ensures { λ r. ⌜ r ≡ saidBy (now (line .entry)) ⌝ }
 {
@@ -92,15 +131,10 @@ fn read_deal(line: &[u8]) -> Said
     if line[0] != 68 {
         return not_said(10);
     }
-    let mut numbers = [0u32; 4];
-    let line = lines::read(2, 1, 1, line, &mut numbers);
-    if line.refusal != 0 {
-        return not_said(line.refusal);
-    }
-    Said {
-        refusal: 0,
-        row: line.row,
-        c: numbers[0],
+    let row = csv::short::one_field(line, 1);
+    match row {
+        Run::Fields { largest, next } => read_number(line, next, largest),
+        Run::Broken => not_said(10),
     }
 }
 
