@@ -1,8 +1,9 @@
 pub mod Positions
 pub mod Placing
 pub mod Choosing
+pub mod Reading
 pub mod Turns
-pub mod Dealing
+pub mod Turning
 pub mod Kept
 pub mod Fair
 pub mod Example

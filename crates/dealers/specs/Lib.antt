@@ -1,6 +1,7 @@
 pub mod State
 pub mod Calls
 pub mod Between
+pub mod Turning
 pub mod Fairness
 pub mod Example
 pub mod Table

@@ -1,22 +1,33 @@
 // Several dealers at one station: a lent state with a place for each dealer's waiting line, and turns that take one line.
 pub mod places;
 
+use csv::Run;
 use session::Answer;
 use session::Session;
+use shape::Shape;
 ghost use mathlib.Core.Path.{_≡_};
 ghost use lib.ListN.{length};
-ghost use Rattle.refusal.specs.Refusal.{first};
-ghost use Rattle.session.specs.Checks.{frameTests};
-ghost use Rattle.deal.specs.Deal.{dealRefusal, dealAnswer, dealRows};
+ghost use Rattle.refusal.specs.Conditions.{beyond};
+ghost use Rattle.session.specs.Between.{Sized, Allows};
+ghost use Rattle.forms.specs.Forms.{outOfRange};
+ghost use Rattle.forms.specs.Between.{Headed};
+ghost use Rattle.lines.specs.Reading.{limitOf};
 ghost use Rattle.dealers.specs.State.{lineIn, served};
 ghost use Rattle.dealers.specs.Calls.{newStateRefusal, newStateAfter, placeRefusal, placeAfter, turnAnswer, turnRows, turnState};
 ghost use Rattle.dealers.specs.Between.{Good, Dealer, saidBy};
+ghost use Rattle.dealers.specs.Turning.{noneDealt, saidDealt, saidRows, turnDealt, turnDealtRows, turnDealtState, answerBy};
 
 // What a line taken says: the row and the number of a `D`, or its refusal.
 pub struct Said {
     pub refusal: u8,
     pub row: usize,
     pub c: u32,
+}
+
+// What a turn comes to: its refusal, and the row that is then held, 96 for none.
+pub struct Dealt {
+    pub refusal: u8,
+    pub row: usize,
 }
 
 // A new state: 8 as the last served, and no line waiting.
@@ -76,7 +87,41 @@ fn not_said(refusal: u8) -> Said
     }
 }
 
-// A `D` line is the same at every station: it is read as at one of two posts, with room for four numbers, and needs no session.
+// What a deal's number stays below, if its row is in range: p. No number is below 0.
+fn limit_for(row: u64) -> u64
+    ensures { λ r. ⌜ r ≡ limitOf (outOfRange 2 68 row 0 (beyond 0)) ⌝ }
+{
+    if (shape::LAST_ROW as u64) < row {
+        0
+    } else {
+        2147483647
+    }
+}
+
+// The number of a deal, and the line's end behind it.
+fn read_number(line: &[u8], at: usize, row: u64) -> Said
+    requires { ⌜ Headed 2 (now line) 68 row 0 at 1 ⌝ }
+    ensures { λ r. ⌜ r ≡ saidBy (now (line .entry)) ⌝ }
+{
+    let mut number = [0u32; 1];
+    let limit = limit_for(row);
+    let run = forms::read_fields(line, at, 0, limit, &mut number);
+    match run {
+        Run::Fields { largest, next: _ } => {
+            if limit <= largest {
+                return not_said(11);
+            }
+            Said {
+                refusal: 0,
+                row: row as usize,
+                c: number[0],
+            }
+        }
+        Run::Broken => not_said(10),
+    }
+}
+
+// A `D` line is the same at every station: its two fields are read, and `lines::read` keeps its one caller.
 fn read_deal(line: &[u8]) -> Said
     ensures { λ r. ⌜ r ≡ saidBy (now (line .entry)) ⌝ }
 {
@@ -86,15 +131,10 @@ fn read_deal(line: &[u8]) -> Said
     if line[0] != 68 {
         return not_said(10);
     }
-    let mut numbers = [0u32; 4];
-    let line = lines::read(2, 1, 1, line, &mut numbers);
-    if line.refusal != 0 {
-        return not_said(line.refusal);
-    }
-    Said {
-        refusal: 0,
-        row: line.row,
-        c: numbers[0],
+    let row = csv::short::one_field(line, 1);
+    match row {
+        Run::Fields { largest, next } => read_number(line, next, largest),
+        Run::Broken => not_said(10),
     }
 }
 
@@ -119,61 +159,78 @@ fn take_line(state: &mut [u8], dealer: usize) -> Said
     said
 }
 
-// A deal's refusal, where 1 to 5 have let the turn pass.
-fn line_refusal(session: Session, rows: &[u32], row: usize, c: u32) -> u8
-    requires { ⌜ first (frameTests session (now rows)) ≡ 0 ⌝ }
-    ensures { λ r. ⌜ r ≡ dealRefusal session (now (rows .entry)) row c ⌝ }
+fn none_dealt(refusal: u8) -> Dealt
+    ensures { λ r. ⌜ r ≡ noneDealt refusal ⌝ }
 {
-    let held = session.marks;
-    let marks = session::checks::wrong_mark(&held, row, shape::RAW);
-    let numbers = refusal::or_else(
-        refusal::number(c),
-        session::checks::numbers(session.shape(), rows, row),
-    );
-    let place = session::checks::row(row);
-    refusal::or_else(place, refusal::or_else(marks, numbers))
+    Dealt {
+        refusal,
+        row: shape::ROWS,
+    }
 }
 
-// The rows, after a line with this refusal.
-fn line_rows(session: Session, rows: &mut [u32], row: usize, c: u32, refusal: u8)
-    requires { ⌜ refusal ≡ dealRefusal session (now rows) row c ⌝ }
-    ensures { λ r. ⌜ now (rows .exit) ≡ dealRows session (now (rows .entry)) row c ⌝ }
+// What a line says, dealt where nothing refuses it.
+fn deal_said(shape: Shape, marks: &[u8], rows: &mut [u32], said: Said) -> Dealt
+    requires { ⌜ Sized shape (now rows) ⌝ }
+    ensures { λ r. ⌜ r ≡ saidDealt shape (now (marks .entry)) (now (rows .entry)) said ⌝ }
+    ensures { λ r. ⌜ now (rows .exit) ≡ saidRows shape (now (marks .entry)) (now (rows .entry)) said ⌝ }
+{
+    if said.refusal != 0 {
+        return none_dealt(said.refusal);
+    }
+    let refusal = deal::row_refusal(shape, marks, rows, said.row, said.c);
+    if refusal != 0 {
+        return none_dealt(refusal);
+    }
+    sums::add_to_sums(shape, rows, said.row, said.c);
+    Dealt {
+        refusal: 0,
+        row: said.row,
+    }
+}
+
+// One line is taken, read and dealt, in a turn with this refusal of session, rows and state. The session is not handed over: a call that
+// writes would keep a copy of it.
+fn take_turn(shape: Shape, marks: &[u8], rows: &mut [u32], state: &mut [u8], refusal: u8) -> Dealt
+    requires { ⌜ Allows refusal (Sized shape (now rows)) × Allows refusal (Good (now state)) ⌝ }
+    ensures { λ r. ⌜ r ≡ turnDealt shape (now (marks .entry)) (now (rows .entry)) (now (state .entry)) refusal ⌝ }
+    ensures { λ r. ⌜ now (rows .exit) ≡ turnDealtRows shape (now (marks .entry)) (now (rows .entry)) (now (state .entry)) refusal ⌝ }
+    ensures { λ r. ⌜ now (state .exit) ≡ turnDealtState (now (state .entry)) refusal ⌝ }
 {
     if refusal != 0 {
-        return;
+        return none_dealt(refusal);
     }
-    sums::add_to_sums(session.shape(), rows, row, c);
+    let dealer = places::choose(state);
+    if dealer == 0 {
+        return none_dealt(0);
+    }
+    let said = take_line(state, dealer);
+    deal_said(shape, marks, rows, said)
 }
 
-// What a line says is dealt, as `deal::deal` does it. That has one caller: with two it is not inlined, and the session is copied for it.
-fn deal_line(session: Session, rows: &mut [u32], row: usize, c: u32) -> Answer
-    requires { ⌜ first (frameTests session (now rows)) ≡ 0 ⌝ }
-    ensures { λ r. ⌜ r ≡ dealAnswer session (now (rows .entry)) row c ⌝ }
-    ensures { λ r. ⌜ now (rows .exit) ≡ dealRows session (now (rows .entry)) row c ⌝ }
+// The one end of a turn, for every outcome: where ends meet, the session would be copied.
+fn answer_turn(session: Session, dealt: Dealt) -> Answer
+    ensures { λ r. ⌜ r ≡ answerBy session dealt ⌝ }
 {
-    let refusal = line_refusal(session, rows, row, c);
-    let answer = session.answer_marking(refusal, row, shape::HELD);
-    line_rows(session, rows, row, c, refusal);
-    answer
+    let mut marks = session.marks;
+    let row = dealt.row;
+    if row < shape::ROWS {
+        marks[row] = shape::HELD;
+    }
+    Answer {
+        refusal: dealt.refusal,
+        value: 0,
+        session: Session { marks, ..session },
+    }
 }
 
-// A turn: one line is taken, read and dealt. The session is handed on for its tests and to the call that answers, and no further.
+// A turn: one line is taken, read and dealt.
 pub fn turn(session: Session, rows: &mut [u32], state: &mut [u8]) -> Answer
     ensures { λ r. ⌜ r ≡ turnAnswer session (now (rows .entry)) (now (state .entry)) ⌝ }
     ensures { λ r. ⌜ now (rows .exit) ≡ turnRows session (now (rows .entry)) (now (state .entry)) ⌝ }
     ensures { λ r. ⌜ now (state .exit) ≡ turnState session (now (rows .entry)) (now (state .entry)) ⌝ }
 {
     let refusal = refusal::or_else(session.frame(rows), places::refusal(state));
-    if refusal != 0 {
-        return session.refuse(refusal);
-    }
-    let dealer = places::choose(state);
-    if dealer == 0 {
-        return session.done(0);
-    }
-    let said = take_line(state, dealer);
-    if said.refusal != 0 {
-        return session.refuse(said.refusal);
-    }
-    deal_line(session, rows, said.row, said.c)
+    let marks = session.marks;
+    let dealt = take_turn(session.shape(), &marks, rows, state, refusal);
+    answer_turn(session, dealt)
 }
