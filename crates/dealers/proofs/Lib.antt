@@ -1,8 +1,8 @@
 pub mod Positions
 pub mod Placing
 pub mod Choosing
-pub mod Turns
 pub mod Dealing
+pub mod Turns
 pub mod Kept
 pub mod Fair
 pub mod Example

@@ -15,7 +15,8 @@ use Rattle.refusal.proofs.Groups.{fail-parts}
 use Rattle.refusal.proofs.Endings.{refused, accepted}
 use Rattle.session.specs.declared.Session.{Session}
 use Rattle.session.specs.declared.Answer.{Answer}
-use Rattle.session.specs.Sessions.{holding}
+use Rattle.shape.specs.Marks.{held}
+use Rattle.session.specs.Sessions.{holding, marked, answer}
 use Rattle.session.specs.Checks.{frameTests}
 use Rattle.deal.specs.Deal.{dealAnswer, dealRows}
 use Rattle.csv.specs.Fields.{padded}
@@ -28,7 +29,8 @@ use Rattle.dealers.specs.declared.Said.{Said}
 use Rattle.dealers.specs.State.{stateLength, dealerCount, placeAt, lengthIn, lineIn, waits, next, lastServed, served, firstAfter, firstWaiting, chosen}
 use Rattle.dealers.specs.Calls.{stateTests, countRefusal, takenRefusal, saidRow, saidNumber, takenAnswer, takenRows, whose}
 use Rattle.dealers.specs.Calls.{countedAnswer, countedRows, countedState, turnAnswer, turnRows, turnState}
-use Rattle.dealers.specs.Between.{Good, Dealer, saidBy}
+use Rattle.dealers.specs.Between.{Good, Dealer, saidBy, dealtRefusal, dealtRows}
+use Rattle.dealers.proofs.Dealing.{line-answer}
 use Rattle.dealers.proofs.Positions.{line-small, last-in, next-dealer, state-good}
 
 -- ---- the line, read
@@ -128,17 +130,11 @@ module _ (s : Session) (rows line : List ℕ) (m : Said) (e : m ≡ saidBy line)
       go zero = refl
       go (suc k) = refl
 
-  said-refused : (a : Answer) → (m .refusal ≡ 0 → ⊥) → a ≡ holding (m .refusal) 0 s → a ≡ takenAnswer s rows line
-  said-refused a n q = q ∙ refused (m .refusal) (m .refusal) _ _ refl n ∙ as-answer
+  pub taken-answer : (k : ℕ) (r : Answer) → k ≡ dealtRefusal s rows m → r ≡ answer k 0 (marked s (m .row) held) s → r ≡ takenAnswer s rows line
+  taken-answer k r ek q = line-answer s rows m k ek r q ∙ as-answer
 
-  said-untouched : (m .refusal ≡ 0 → ⊥) → rows ≡ takenRows s rows line
-  said-untouched n = refused (m .refusal) (m .refusal) _ rows refl n ∙ as-rows
-
-  said-dealt : (a : Answer) → m .refusal ≡ 0 → a ≡ dealAnswer s rows (m .row) (m .c) → a ≡ takenAnswer s rows line
-  said-dealt a z q = accepted (m .refusal) (m .refusal) a _ _ refl z q ∙ as-answer
-
-  said-written : (out : List ℕ) → m .refusal ≡ 0 → out ≡ dealRows s rows (m .row) (m .c) → out ≡ takenRows s rows line
-  said-written out z q = accepted (m .refusal) (m .refusal) out _ rows refl z q ∙ as-rows
+  pub taken-rows : (out : List ℕ) → out ≡ dealtRows s rows m → out ≡ takenRows s rows line
+  taken-rows out q = q ∙ as-rows
 
 -- ---- the turn
 
@@ -212,21 +208,8 @@ module _ (s : Session) (rows state : List ℕ) (a b f : ℕ) (ea : a ≡ first (
         pub turn-state : (out : List ℕ) → out ≡ served state d → out ≡ turnState s rows state
         turn-state out q = go-on out _ _ (q ∙ by-dealer state (served state))
 
-        turn-answer : (r : Answer) → r ≡ takenAnswer s rows (lineIn state d) → r ≡ turnAnswer s rows state
+        pub turn-answer : (r : Answer) → r ≡ takenAnswer s rows (lineIn state d) → r ≡ turnAnswer s rows state
         turn-answer r q = go-on r _ _ (q ∙ by-dealer (holding 0 0 s) (λ x. takenAnswer s rows (lineIn state x)))
 
-        turn-rows : (out : List ℕ) → out ≡ takenRows s rows (lineIn state d) → out ≡ turnRows s rows state
+        pub turn-rows : (out : List ℕ) → out ≡ takenRows s rows (lineIn state d) → out ≡ turnRows s rows state
         turn-rows out q = go-on out _ _ (q ∙ by-dealer rows (λ x. takenRows s rows (lineIn state x)))
-
-        module _ (m : Said) (e : m ≡ saidBy (lineIn state d)) where
-          pub line-refused : (r : Answer) → (m .refusal ≡ 0 → ⊥) → r ≡ holding (m .refusal) 0 s → r ≡ turnAnswer s rows state
-          line-refused r h q = turn-answer r (said-refused s rows (lineIn state d) m e r h q)
-
-          pub line-untouched : (m .refusal ≡ 0 → ⊥) → rows ≡ turnRows s rows state
-          line-untouched h = turn-rows rows (said-untouched s rows (lineIn state d) m e h)
-
-          pub line-dealt : (r : Answer) → m .refusal ≡ 0 → r ≡ dealAnswer s rows (m .row) (m .c) → r ≡ turnAnswer s rows state
-          line-dealt r h q = turn-answer r (said-dealt s rows (lineIn state d) m e r h q)
-
-          pub line-written : (out : List ℕ) → m .refusal ≡ 0 → out ≡ dealRows s rows (m .row) (m .c) → out ≡ turnRows s rows state
-          line-written out h q = turn-rows out (said-written s rows (lineIn state d) m e out h q)

@@ -4,7 +4,9 @@ use mathlib.Core.Path.{_≡_}
 use mathlib.Core.Bool.{false}
 use mathlib.Core.List.{List}
 use lib.ListN.{length}
-use Rattle.refusal.specs.Refusal.{outcome}
+use Rattle.refusal.specs.Refusal.{orElse, outcome}
+use Rattle.session.specs.declared.Session.{Session}
+use Rattle.deal.specs.Deal.{dealRefusal, dealRows}
 use Rattle.dealers.specs.declared.Said.{Said}
 use Rattle.dealers.specs.State.{stateLength, dealerCount, badState}
 use Rattle.dealers.specs.Calls.{takenRefusal, saidRow, saidNumber}
@@ -24,3 +26,10 @@ abbrev pub saidBy : List ℕ → Said
 saidBy line =
     outcome (takenRefusal line) (record { refusal = 0; row = saidRow line; c = saidNumber line })
     (record { refusal = takenRefusal line; row = 0; c = 0 })
+
+-- The refusal of a line that says m, and the rows that it leaves.
+abbrev pub dealtRefusal : Session → List ℕ → Said → ℕ
+dealtRefusal s rows m = orElse (m .refusal) (dealRefusal s rows (m .row) (m .c))
+
+abbrev pub dealtRows : Session → List ℕ → Said → List ℕ
+dealtRows s rows m = outcome (m .refusal) (dealRows s rows (m .row) (m .c)) rows

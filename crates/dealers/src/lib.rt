@@ -7,10 +7,9 @@ ghost use mathlib.Core.Path.{_≡_};
 ghost use lib.ListN.{length};
 ghost use Rattle.refusal.specs.Refusal.{first};
 ghost use Rattle.session.specs.Checks.{frameTests};
-ghost use Rattle.deal.specs.Deal.{dealRefusal, dealAnswer, dealRows};
 ghost use Rattle.dealers.specs.State.{lineIn, served};
-ghost use Rattle.dealers.specs.Calls.{newStateRefusal, newStateAfter, placeRefusal, placeAfter, turnAnswer, turnRows, turnState};
-ghost use Rattle.dealers.specs.Between.{Good, Dealer, saidBy};
+ghost use Rattle.dealers.specs.Calls.{newStateRefusal, newStateAfter, placeRefusal, placeAfter, takenAnswer, takenRows, turnAnswer, turnRows, turnState};
+ghost use Rattle.dealers.specs.Between.{Good, Dealer, saidBy, dealtRefusal, dealtRows};
 
 // What a line taken says: the row and the number of a `D`, or its refusal.
 pub struct Said {
@@ -108,56 +107,53 @@ fn said_by(state: &[u8], dealer: usize) -> Said
     read_deal(&state[from..end])
 }
 
-// A dealer's line is taken, whatever it says.
-fn take_line(state: &mut [u8], dealer: usize) -> Said
-    requires { ⌜ Dealer dealer × Good (now state) ⌝ }
-    ensures { λ r. ⌜ r ≡ saidBy (lineIn (now (state .entry)) dealer) ⌝ }
-    ensures { λ r. ⌜ now (state .exit) ≡ served (now (state .entry)) dealer ⌝ }
-{
-    let said = said_by(state, dealer);
-    places::serve(state, dealer);
-    said
-}
-
-// A deal's refusal, where 1 to 5 have let the turn pass.
-fn line_refusal(session: Session, rows: &[u32], row: usize, c: u32) -> u8
+// The refusal of a line: its own, or that of a deal of what it says, where 1 to 5 have let the turn pass.
+fn line_refusal(session: Session, rows: &[u32], said: Said) -> u8
     requires { ⌜ first (frameTests session (now rows)) ≡ 0 ⌝ }
-    ensures { λ r. ⌜ r ≡ dealRefusal session (now (rows .entry)) row c ⌝ }
+    ensures { λ r. ⌜ r ≡ dealtRefusal session (now (rows .entry)) said ⌝ }
 {
+    if said.refusal != 0 {
+        return said.refusal;
+    }
     let held = session.marks;
-    let marks = session::checks::wrong_mark(&held, row, shape::RAW);
+    let marks = session::checks::wrong_mark(&held, said.row, shape::RAW);
     let numbers = refusal::or_else(
-        refusal::number(c),
-        session::checks::numbers(session.shape(), rows, row),
+        refusal::number(said.c),
+        session::checks::numbers(session.shape(), rows, said.row),
     );
-    let place = session::checks::row(row);
+    let place = session::checks::row(said.row);
     refusal::or_else(place, refusal::or_else(marks, numbers))
 }
 
 // The rows, after a line with this refusal.
-fn line_rows(session: Session, rows: &mut [u32], row: usize, c: u32, refusal: u8)
-    requires { ⌜ refusal ≡ dealRefusal session (now rows) row c ⌝ }
-    ensures { λ r. ⌜ now (rows .exit) ≡ dealRows session (now (rows .entry)) row c ⌝ }
+fn line_rows(session: Session, rows: &mut [u32], said: Said, refusal: u8)
+    requires { ⌜ refusal ≡ dealtRefusal session (now rows) said ⌝ }
+    ensures { λ r. ⌜ now (rows .exit) ≡ dealtRows session (now (rows .entry)) said ⌝ }
 {
     if refusal != 0 {
         return;
     }
-    sums::add_to_sums(session.shape(), rows, row, c);
+    sums::add_to_sums(session.shape(), rows, said.row, said.c);
 }
 
-// What a line says is dealt, as `deal::deal` does it. That has one caller: with two it is not inlined, and the session is copied for it.
-fn deal_line(session: Session, rows: &mut [u32], row: usize, c: u32) -> Answer
-    requires { ⌜ first (frameTests session (now rows)) ≡ 0 ⌝ }
-    ensures { λ r. ⌜ r ≡ dealAnswer session (now (rows .entry)) row c ⌝ }
-    ensures { λ r. ⌜ now (rows .exit) ≡ dealRows session (now (rows .entry)) row c ⌝ }
+// A dealer's line is taken, whatever it says, and dealt as `deal::deal` does it. That keeps its one caller: with two it is not inlined, and
+// the session is copied for it.
+fn take_line(session: Session, rows: &mut [u32], state: &mut [u8], dealer: usize) -> Answer
+    requires { ⌜ Dealer dealer × Good (now state) × (first (frameTests session (now rows)) ≡ 0) ⌝ }
+    ensures { λ r. ⌜ r ≡ takenAnswer session (now (rows .entry)) (lineIn (now (state .entry)) dealer) ⌝ }
+    ensures { λ r. ⌜ now (rows .exit) ≡ takenRows session (now (rows .entry)) (lineIn (now (state .entry)) dealer) ⌝ }
+    ensures { λ r. ⌜ now (state .exit) ≡ served (now (state .entry)) dealer ⌝ }
 {
-    let refusal = line_refusal(session, rows, row, c);
-    let answer = session.answer_marking(refusal, row, shape::HELD);
-    line_rows(session, rows, row, c, refusal);
+    let said = said_by(state, dealer);
+    let refusal = line_refusal(session, rows, said);
+    // The answer first, before the lists are written: then the session is copied once.
+    let answer = session.answer_marking(refusal, said.row, shape::HELD);
+    places::serve(state, dealer);
+    line_rows(session, rows, said, refusal);
     answer
 }
 
-// A turn: one line is taken, read and dealt. The session is handed on for its tests and to the call that answers, and no further.
+// A turn: one line is taken, read and dealt.
 pub fn turn(session: Session, rows: &mut [u32], state: &mut [u8]) -> Answer
     ensures { λ r. ⌜ r ≡ turnAnswer session (now (rows .entry)) (now (state .entry)) ⌝ }
     ensures { λ r. ⌜ now (rows .exit) ≡ turnRows session (now (rows .entry)) (now (state .entry)) ⌝ }
@@ -171,9 +167,5 @@ pub fn turn(session: Session, rows: &mut [u32], state: &mut [u8]) -> Answer
     if dealer == 0 {
         return session.done(0);
     }
-    let said = take_line(state, dealer);
-    if said.refusal != 0 {
-        return session.refuse(said.refusal);
-    }
-    deal_line(session, rows, said.row, said.c)
+    take_line(session, rows, state, dealer)
 }

@@ -119,7 +119,7 @@ pub fn lay(state: &mut [u8], dealer: usize, line: &[u8])
 
 // A dealer's place is freed, and the dealer is the last served.
 pub fn serve(state: &mut [u8], dealer: usize)
-    requires { ⌜ Dealer dealer × (length (now state) ≡ stateLength) ⌝ }
+    requires { ⌜ Dealer dealer × Good (now state) ⌝ }
     ensures { λ r. ⌜ now (state .exit) ≡ served (now (state .entry)) dealer ⌝ }
 {
     let at = place_at(dealer);

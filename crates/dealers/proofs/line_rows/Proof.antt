@@ -1,10 +1,10 @@
 -- `line_rows` meets its contract.
 use borrow.Author.Needs.{needs}
-use Rattle.deal.proofs.Dealing.{deal-untouched, deal-sized, deal-in, deal-written}
+use Rattle.dealers.proofs.Dealing.{line-untouched, line-in-size, line-in, line-written}
 use Rattle.dealers.proofs.line_rows.Statement.{statement}
 use Rattle.dealers.proofs.line_rows.Tie as tie
 
-ruleset steps = (needs, deal-untouched, deal-sized, deal-in, deal-written)
+ruleset steps = (needs, line-untouched, line-in-size, line-in, line-written)
 
 pub line-rows-spec : {M : Type 1} → statement M
 line-rows-spec =

@@ -1,7 +1,7 @@
 -- `turn` meets its contract.
 use borrow.Author.Needs.{needs}
 use Rattle.dealers.proofs.Turns.{chosen-dealer, turn-framed, turn-good, turn-refused, turn-rows-kept, turn-state-kept, idle-answer, idle-rows, idle-state}
-use Rattle.dealers.proofs.Turns.{turn-state, line-refused, line-untouched, line-dealt, line-written}
+use Rattle.dealers.proofs.Turns.{turn-state, turn-answer, turn-rows}
 use Rattle.dealers.proofs.turn.Statement.{statement}
 use Rattle.dealers.proofs.turn.Tie as tie
 
@@ -15,7 +15,6 @@ turn-spec =
     (λ c. (search (needs, turn-refused), (search (needs, turn-rows-kept), search (needs, turn-state-kept))))
     (λ c κs. search calls) (λ c κs. search calls) (λ c. search calls) (λ c. search calls)
     (λ c. (search (needs, idle-answer), (search (needs, idle-rows), search (needs, idle-state))))
-    (λ c κs. search calls) (λ c κs. search calls) (λ c. search calls) (λ c. search calls)
-    (λ c. (search (needs, line-refused), (search (needs, line-untouched), search (needs, turn-state))))
-    (λ c κs. search calls) (λ c. search calls) (λ c. search calls)
-    (λ c. (search (needs, line-dealt), (search (needs, line-written), search (needs, turn-state)))))
+    (λ c κs. (search (needs, chosen-dealer, turn-good), search (needs, turn-good), search (needs, turn-framed)))
+    (λ c. search calls) (λ c. search calls)
+    (λ c. (search (needs, turn-answer), (search (needs, turn-rows), search (needs, turn-state)))))
