@@ -136,6 +136,23 @@ fn line_rows(session: Session, rows: &mut [u32], said: Said, refusal: u8)
     sums::add_to_sums(session.shape(), rows, said.row, said.c);
 }
 
+// What a line leaves once it is taken, refused or not: its place free, and the rows.
+fn leave(
+    session: Session,
+    rows: &mut [u32],
+    state: &mut [u8],
+    dealer: usize,
+    said: Said,
+    refusal: u8,
+)
+    requires { ⌜ Dealer dealer × Good (now state) × (refusal ≡ dealtRefusal session (now rows) said) ⌝ }
+    ensures { λ r. ⌜ now (rows .exit) ≡ dealtRows session (now (rows .entry)) said ⌝ }
+    ensures { λ r. ⌜ now (state .exit) ≡ served (now (state .entry)) dealer ⌝ }
+{
+    places::serve(state, dealer);
+    line_rows(session, rows, said, refusal);
+}
+
 // A dealer's line is taken, whatever it says, and dealt as `deal::deal` does it. That keeps its one caller: with two it is not inlined, and
 // the session is copied for it.
 fn take_line(session: Session, rows: &mut [u32], state: &mut [u8], dealer: usize) -> Answer
@@ -148,8 +165,7 @@ fn take_line(session: Session, rows: &mut [u32], state: &mut [u8], dealer: usize
     let refusal = line_refusal(session, rows, said);
     // The answer first, before the lists are written: then the session is copied once.
     let answer = session.answer_marking(refusal, said.row, shape::HELD);
-    places::serve(state, dealer);
-    line_rows(session, rows, said, refusal);
+    leave(session, rows, state, dealer, said, refusal);
     answer
 }
 

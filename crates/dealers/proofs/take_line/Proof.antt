@@ -10,5 +10,5 @@ ruleset calls = (needs, line-allows)
 pub take-line-spec : {M : Type 1} → statement M
 take-line-spec =
     tie.close
-    (tie.spec (λ c κs. search calls) (λ c κs. search calls) (λ c κs. search calls) (λ c κs. search calls) (λ c κs. search calls)
+    (tie.spec (λ c κs. search calls) (λ c κs. search calls) (λ c κs. search calls) (λ c κs. search calls)
     (λ c. search calls) (λ c. search calls) (λ c. (search (needs, taken-answer), (search (needs, taken-rows), search needs))))

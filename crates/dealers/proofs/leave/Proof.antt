@@ -1,0 +1,9 @@
+-- `leave` meets its contract.
+use borrow.Author.Needs.{needs}
+use Rattle.dealers.proofs.leave.Statement.{statement}
+use Rattle.dealers.proofs.leave.Tie as tie
+
+pub leave-spec : {M : Type 1} → statement M
+leave-spec =
+    tie.close
+    (tie.spec (λ c κs. search needs) (λ c κs. search needs) (λ c. search needs) (λ c. search needs) (λ c. search needs))
