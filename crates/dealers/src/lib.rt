@@ -149,8 +149,8 @@ fn leave(
     ensures { λ r. ⌜ now (rows .exit) ≡ dealtRows session (now (rows .entry)) said ⌝ }
     ensures { λ r. ⌜ now (state .exit) ≡ served (now (state .entry)) dealer ⌝ }
 {
-    places::serve(state, dealer);
     line_rows(session, rows, said, refusal);
+    places::serve(state, dealer);
 }
 
 // A dealer's line is taken, whatever it says, and dealt as `deal::deal` does it. That keeps its one caller: with two it is not inlined, and
