@@ -34,11 +34,13 @@ const MORE: [&str; 4] = [
 
 /// The calls that look at the sets of posts, or write them, may have the 3,072 bytes of all sets there, as often as this allows;
 /// before the session had them an opening message and a linear took 232, a multiply 1,000.
-const SETS: [(&str, usize); 4] = [
+const SETS: [(&str, usize); 5] = [
     ("gantsorol_opening_message", 3_400),
     ("gantsorol_access", 4_500),
     ("gantsorol_linear", 6_500),
     ("gantsorol_multiply", 7_500),
+    // A turn has the answer of its refused ends there once.
+    ("gantsorol_turn", 4_900),
 ];
 
 /// The library's calls.
