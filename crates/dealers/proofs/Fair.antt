@@ -13,15 +13,17 @@ use lib.ListN.{length}
 use Rattle.refusal.specs.Refusal.{outcome}
 use Rattle.refusal.proofs.Endings.{refused, accepted}
 use Rattle.session.specs.declared.Session.{Session}
-use Rattle.dealers.specs.State.{dealerCount, lengthIn, lineIn, lastServed, waits, next}
+use Rattle.dealers.specs.State.{dealerCount, placeAt, lengthIn, lastServed, waits, next, newState}
 use Rattle.dealers.specs.State.{placed, served, firstAfter, firstWaiting, chosen, badState, overlong}
 use Rattle.dealers.specs.Calls.{placeRefusal, placeAfter, countRefusal, whose, turnState, countedState}
 use Rattle.dealers.specs.Between.{Good, Dealer}
-use Rattle.dealers.specs.Fairness.{Operation, places, turns, done, doneAll, Counted, counts, countedIn, Taken, Fair, Goodness}
+use Rattle.dealers.specs.Fairness.{Operation, places, turns, done, doneAll, counts, countedIn, SamePlace, Taken, Fair, Soundness}
+use Rattle.dealers.specs.Table.{byte}
 use Rattle.dealers.proofs.Positions.{next-dealer, last-in}
 use Rattle.dealers.proofs.Placing.{place-dealer, place-few, place-free}
 use Rattle.dealers.proofs.Turns.{chosen-dealer, by-some}
-use Rattle.dealers.proofs.Kept.{placed-last, placed-other, placed-line, placed-good, served-last, served-other, served-line, served-good}
+use Rattle.dealers.proofs.Kept.{placed-last, placed-place, placed-good, served-last, served-other, served-place, served-good}
+use Rattle.dealers.proofs.Laws.{good-is, sound-is}
 
 -- ---- going round
 
@@ -94,29 +96,38 @@ found (suc k) j state a h w = go j (waits state (next a)) refl h w (λ i g x. fo
 waits-same : (state state' : List ℕ) (d : ℕ) → lengthIn state' d ≡ lengthIn state d → waits state d ≡ true → waits state' d ≡ true
 waits-same state state' d e w = ap (λ (n : ℕ). not (eqb n 0)) e ∙ w
 
-in-front : (o : Operation) (os : List Operation) (state : List ℕ) (d m k : ℕ) → lineIn (done o state) d ≡ lineIn state d
+in-front : (o : Operation) (os : List Operation) (state : List ℕ) (d m k : ℕ) → SamePlace d state (done o state)
     → ((n : ℕ) → n < k → counts o state n < m) → Taken os (done o state) d k → Taken (o ∷ os) state d m
-in-front o os state d m k e fewer t =
+in-front o os state d m k same fewer t =
     record {
       before = o ∷ t .before;
       turn = t .turn;
       behind = t .behind;
       all = ap (λ (l : List Operation). o ∷ l) (t .all);
       soon = fewer (countedIn (t .before) (done o state)) (t .soon);
+      stays = stays;
       counted = t .counted;
       chooses = t .chooses;
-      line = t .line ∙ e;
     }
+  where
+    stays : (some more : List Operation) → o ∷ t .before ≡ some ++ more → SamePlace d state (doneAll some state)
+    stays [] more e i lo hi = refl
+    stays (o' ∷ some) more e i lo hi =
+        let same-first : o' ≡ o = cc in
+        let same-rest : t .before ≡ some ++ more = cc in
+        ap (λ (x : Operation). byte (doneAll some (done x state)) i) same-first ∙ t .stays some more same-rest i lo hi ∙ same i lo hi
 
 -- what an operation that does not take d's line leaves
 record Leaves (state state' : List ℕ) (d : ℕ) : Type 0 where
   good : Good state'
   last : lastServed state' ≡ lastServed state
-  long : lengthIn state' d ≡ lengthIn state d
-  line : lineIn state' d ≡ lineIn state d
+  place : SamePlace d state state'
+
+own-length : (state state' : List ℕ) (d : ℕ) → Dealer d → SamePlace d state state' → lengthIn state' d ≡ lengthIn state d
+own-length state state' d hd same = same (placeAt d) (omega arith) (omega (arith, hd .low))
 
 same-leaves : (state : List ℕ) (d : ℕ) → Good state → Leaves state state d
-same-leaves state d g = record { good = g; last = refl; long = refl; line = refl }
+same-leaves state d g = record { good = g; last = refl; place = λ i lo hi. refl }
 
 place-leaves : (state line : List ℕ) (d e : ℕ) → Good state → Dealer d → waits state d ≡ true → Leaves state (placeAfter state e line) d
 unfolding outcome
@@ -132,8 +143,7 @@ place-leaves state line d e g hd w = go (placeRefusal state e (length line)) ref
         record {
           good = placed-good state line e g he k;
           last = placed-last state line e g he k;
-          long = placed-other state line e g he k d ne hd;
-          line = placed-line state line e g he k d ne hd;
+          place = placed-place state line e g he k d ne hd;
         }
 
 -- ---- the theorem, by the distance
@@ -154,9 +164,13 @@ module _ (d : ℕ) (hd : Dealer d) where
       f : Found dealerCount (suc j) state (lastServed state)
       f = found dealerCount j state (lastServed state) few (rw there w)
 
+      at-once : (some more : List Operation) → [] ≡ some ++ more → SamePlace d state (doneAll some state)
+      at-once [] more e i lo hi = refl
+      at-once (o ∷ some) more e i lo hi = let y : _≡_ {A = ℕ} 0 1 = cc in absurd (omega arith)
+
       by : Dec (chosen state ≡ d) → Taken (turns s rows ∷ os) state d (suc j)
       by (yes e) =
-          record { before = []; turn = turns s rows; behind = os; all = refl; soon = omega arith; counted = z; chooses = e; line = refl }
+          record { before = []; turn = turns s rows; behind = os; all = refl; soon = omega arith; stays = at-once; counted = z; chooses = e }
       by (no ne) =
           let i = f .steps in
           let less : i < suc j = further (ℕ-discrete i (suc j)) in
@@ -165,7 +179,7 @@ module _ (d : ℕ) (hd : Dealer d) where
           let dist : suc (j - i) ≡ suc j - i = omega arith in
           let apart : d ≢ chosen state = (λ x. ne (sym x)) in
           in-front (turns s rows) os state d (suc j) (suc (j - i))
-          (rw st (served-line state (chosen state) g hc d apart hd))
+          (rw st (served-place state (chosen state) g hc d apart hd))
           (λ n h. rw (eq-eqb (countRefusal s rows state) 0 z) (omega (arith, f .some)))
           (more (turnState s rows state) (j - i) (rw st (served-good state (chosen state) g hc))
           (rw st (waits-same state (served state (chosen state)) d (served-other state (chosen state) g hc d apart hd) w))
@@ -190,7 +204,7 @@ module _ (d : ℕ) (hd : Dealer d) where
       → suc j ≤ dealerCount → ahead (suc j) (lastServed state) ≡ d → (countRefusal s rows state ≡ 0 → ⊥) → state ≡ turnState s rows state
       → suc j ≤ countedIn os (turnState s rows state) → Taken (turns s rows ∷ os) state d (suc j)
   idle-turn s rows os more state j g w few there n same many =
-      in-front (turns s rows) os state d (suc j) (suc j) (ap (λ (x : List ℕ). lineIn x d) (sym same))
+      in-front (turns s rows) os state d (suc j) (suc j) (λ i lo hi. ap (λ (x : List ℕ). byte x i) (sym same))
       (λ k h. rw (ne-eqb (countRefusal s rows state) 0 n) h)
       (subst (λ (x : List ℕ). suc j ≤ countedIn os x → Taken os x d (suc j)) same (more state j g w few there) many)
 
@@ -198,8 +212,9 @@ module _ (d : ℕ) (hd : Dealer d) where
   within [] state j g w few there many = absurd (omega arith)
   within (places e line ∷ os) state j g w few there many =
       let l = place-leaves state line d e g hd w in
-      in-front (places e line) os state d (suc j) (suc j) (l .line) (λ n h. h)
-      (within os (placeAfter state e line) j (l .good) (waits-same state (placeAfter state e line) d (l .long) w) few
+      in-front (places e line) os state d (suc j) (suc j) (l .place) (λ n h. h)
+      (within os (placeAfter state e line) j (l .good)
+      (waits-same state (placeAfter state e line) d (own-length state (placeAfter state e line) d hd (l .place)) w) few
       (ap (ahead (suc j)) (l .last) ∙ there) many)
   within (turns s rows ∷ os) state j g w few there many = by (ℕ-discrete (countRefusal s rows state) 0) (within os)
     where
@@ -220,19 +235,26 @@ sooner os state d k m h t =
       behind = t .behind;
       all = t .all;
       soon = omega (arith, t .soon);
+      stays = t .stays;
       counted = t .counted;
       chooses = t .chooses;
-      line = t .line;
     }
 
 pub fair : Fair
-fair os state d g hd w many =
+fair os state d s lo hi w many =
+    let g = good-is state s in
+    let hd : Dealer d = record { low = lo; high = hi } in
     let r = reach (lastServed state) d (last-in state g) hd in
     let e : suc (r .steps - 1) ≡ r .steps = omega (arith, r .some) in
-    sooner os state d (suc (r .steps - 1)) dealerCount (omega (arith, r .few))
-    (within d hd os state (r .steps - 1) g w (omega (arith, r .few)) (ap (λ (n : ℕ). ahead n (lastServed state)) e ∙ r .there) (omega (arith, r .few)))
+    sooner os state d (suc (r .steps - 1)) 8 (omega (arith, r .few))
+    (within d hd os state (r .steps - 1) g (ap not (ne-eqb (lengthIn state d) 0 w)) (omega (arith, r .few))
+    (ap (λ (n : ℕ). ahead n (lastServed state)) e ∙ r .there) (omega (arith, r .few)))
 
 -- ---- a good state stays good
+
+pub record Goodness : Type 0 where
+  pub new : Good newState
+  pub kept : (o : Operation) (state : List ℕ) → Good state → Good (done o state)
 
 pub goodness : Goodness
 unfolding outcome badState overlong
@@ -253,3 +275,10 @@ goodness = record { new = record { long = refl; fine = refl }; kept = kept }
     kept : (o : Operation) (state : List ℕ) → Good state → Good (done o state)
     kept (places e line) state g = placing state line e g (placeRefusal state e (length line)) refl
     kept (turns s rows) state g = turning state g (countRefusal s rows state)
+
+pub soundness : Soundness
+soundness =
+    record {
+      new = sound-is newState (goodness .new);
+      kept = λ o state h. sound-is (done o state) (goodness .kept o state (good-is state h));
+    }

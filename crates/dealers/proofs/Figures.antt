@@ -17,10 +17,11 @@ use Rattle.dealers.specs.State.{stateLength, placeBytes, placeAt, newSta
 use Rattle.dealers.specs.Calls.{placeRefusal, placeAfter, countRefusal, countedState, turnState}
 use Rattle.dealers.specs.Table.{byte}
 use Rattle.dealers.specs.Between.{Good, Dealer}
-use Rattle.dealers.specs.Figures.{NewBytes, PlacedBytes, PlacesBytes, ServedBytes, TurnsBytes, SixteenBytes}
+use Rattle.dealers.specs.Figures.{NewBytes, PlacedBytes, PlacesBytes, LinesBytes, ServedBytes, TurnsBytes, SixteenBytes}
 use Rattle.dealers.proofs.Placing.{place-dealer, place-few, place-good}
 use Rattle.dealers.proofs.Turns.{chosen-dealer, by-some, count-good}
-use Rattle.dealers.proofs.Kept.{length-over, over-before, over-at, over-behind, placed-length, served-long, served-last, served-own, untouched}
+use Rattle.dealers.proofs.Kept.{length-over, over-before, over-at, over-behind, placed-length, line-long, line-bytes, served-long, served-last, served-own, untouched}
+use Rattle.dealers.proofs.Laws.{good-is}
 
 -- ---- a new state
 
@@ -76,6 +77,14 @@ places-bytes state d line z =
     sym (accepted r r (placed state d line) (placed state d line) state refl z refl) in
     rw e (placed-bytes state line d (place-good state d (length line) r refl z) (place-dealer state d (length line) r refl z)
     (place-few state d (length line) r refl z))
+
+-- ---- a line that waits
+
+pub lines-bytes : LinesBytes
+lines-bytes state d s lo hi =
+    let g = good-is state s in
+    let h : Dealer d = record { low = lo; high = hi } in
+    record { long = line-long state d g h; bytes = line-bytes state d g h }
 
 -- ---- a dealer served
 

@@ -15,6 +15,7 @@ use Rattle.csv.specs.Fields.{overwrite}
 use Rattle.refusal.specs.Conditions.{outside}
 use Rattle.dealers.specs.State.{stateLength, dealerCount, placeBytes, placeAt, lengthIn, lineIn, lastServed, overlong, badState, placed, served}
 use Rattle.dealers.specs.Between.{Good, Dealer}
+use Rattle.dealers.specs.Fairness.{SamePlace}
 use Rattle.dealers.proofs.Positions.{line-small, last-in}
 
 -- ---- a good state, by its numbers
@@ -121,6 +122,9 @@ module _ (state line : List ℕ) (e : ℕ) (g : Good state) (he : Dealer e) (k :
       ∙ same-part (placed state e line) state (placeAt d + 1) (lengthIn state d) placed-long
       (λ i lo hi. other i (aside d ne hd i (omega arith) (omega (arith, line-small state g d hd))))
 
+  pub placed-place : (d : ℕ) → d ≢ e → Dealer d → SamePlace d state (placed state e line)
+  placed-place d ne hd i lo hi = other i (aside d ne hd i lo (omega (arith, hd .low)))
+
   pub placed-good : Good (placed state e line)
   unfolding over
   placed-good =
@@ -129,6 +133,20 @@ module _ (state line : List ℕ) (e : ℕ) (g : Good state) (he : Dealer e) (k :
       small : (d : ℕ) → Dealer d → Dec (d ≡ e) → lengthIn (placed state e line) d ≤ placeBytes
       small d hd (yes q) = rw (q, getD-set-same over (placeAt e) (length line) 0 (omega (arith, over-long, room))) k
       small d hd (no ne) = rw (placed-other d ne hd) (line-small state g d hd)
+
+-- ---- a waiting line, by its bytes
+
+module _ (state : List ℕ) (d : ℕ) (g : Good state) (h : Dealer d) where
+  pub line-long : length (lineIn state d) ≡ lengthIn state d
+  line-long =
+      length-take-le (lengthIn state d) (drop (placeAt d + 1) state)
+      (omega (arith, length-drop (placeAt d + 1) state, line-small state g d h, g .long, h .low, h .high))
+
+  pub line-bytes : (i : ℕ) → i < lengthIn state d → getD (lineIn state d) i 0 ≡ getD state (17 * d - 15 + i) 0
+  line-bytes i l =
+      let e : placeAt d + 1 + i ≡ 17 * d - 15 + i = omega (arith, h .low) in
+      getD-take (lengthIn state d) (drop (placeAt d + 1) state) i 0 l ∙ getD-drop (placeAt d + 1) state i 0
+      ∙ ap (λ (x : ℕ). getD state x 0) e
 
 -- ---- dealer e served
 
@@ -157,6 +175,9 @@ module _ (state : List ℕ) (e : ℕ) (g : Good state) (he : Dealer e) where
       ap (λ (n : ℕ). take n (drop (placeAt d + 1) (served state e))) (served-other d ne hd)
       ∙ same-part (served state e) state (placeAt d + 1) (lengthIn state d) served-long
       (λ i lo hi. untouched i (λ q. omega arith) (apart d ne hd i (omega arith) (omega (arith, line-small state g d hd))))
+
+  pub served-place : (d : ℕ) → d ≢ e → Dealer d → SamePlace d state (served state e)
+  served-place d ne hd i lo hi = untouched i (λ q. omega (arith, hd .low)) (apart d ne hd i lo (omega (arith, hd .low)))
 
   pub served-good : Good (served state e)
   served-good =

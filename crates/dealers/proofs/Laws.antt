@@ -23,11 +23,12 @@ use Rattle.shape.specs.Marks.{raw, held}
 use Rattle.forms.specs.Lines.{Message}
 use Rattle.forms.specs.Forms.{formOf, message, lineTests}
 use Rattle.deal.specs.Deal.{dealRefusal, dealAnswer, dealRows}
-use Rattle.dealers.specs.State.{overlong, badState, chosen, lineIn, served, placed}
-use Rattle.dealers.specs.Calls.{stateTests, placeRefusal, countRefusal, countTests, takenTests, takenRefusal, saidRow, saidNumber, takenAnswer, takenRows}
+use Rattle.dealers.specs.State.{overlong, badState, newState, chosen, lineIn, served, placed}
+use Rattle.dealers.specs.Calls.{newStateRefusal, stateTests, placeRefusal, countRefusal, countTests, takenTests, takenRefusal, saidRow, saidNumber, takenAnswer, takenRows}
 use Rattle.dealers.specs.Calls.{countedAnswer, countedRows, countedState, whose, turnAnswer, turnRows, turnState}
-use Rattle.dealers.specs.Table.{byte, wrongState, lineTable, takenTable, turnTable, readHere}
-use Rattle.dealers.specs.Claims.{PlaceLawful, TurnLawful, TurnsLawful, SameEverywhere}
+use Rattle.dealers.specs.Table.{byte, wrongState, SoundState, lineTable, countTable, takenTable, turnTable, readHere}
+use Rattle.dealers.specs.Between.{Good}
+use Rattle.dealers.specs.Claims.{NewStateLawful, NewStatesLawful, PlaceLawful, TurnLawful, TurnsLawful, SameEverywhere}
 
 -- ---- 16 in figures
 
@@ -38,6 +39,12 @@ or-none false = refl
 pub bad-figures : (state : List ℕ) → badState state ≡ wrongState state
 unfolding badState overlong
 bad-figures state = rw (or-none (ltb 16 (byte state 120)))
+
+pub good-is : (state : List ℕ) → SoundState state → Good state
+good-is state h = record { long = h .long; fine = bad-figures state ∙ h .fine }
+
+pub sound-is : (state : List ℕ) → Good state → SoundState state
+sound-is state g = record { long = g .long; fine = sym (bad-figures state) ∙ g .fine }
 
 -- ---- a `D` line is the same at every station
 
@@ -55,9 +62,20 @@ module _ (line : List ℕ) (d : getD line 0 0 ≡ 68) (n k n' k' : ℕ) where
 pub same-everywhere : SameEverywhere
 same-everywhere line d n k n' k' = (message-same line d n k n' k', tests-same line d n k n' k')
 
+pub new-states-lawful : NewStatesLawful
+new-states-lawful state =
+    let r = newStateRefusal state in
+    record {
+      order = refl;
+      untouched = λ n. sym (refused r r newState state refl n);
+      done = λ z. sym (accepted r r newState newState state refl z refl);
+    }
+
 pub place-lawful : PlaceLawful
+unfolding placeRefusal
 place-lawful =
     record {
+      order = λ state d len. rw (bad-figures state);
       table = λ state d len. rw (bad-figures state);
       untouched = λ state d line n. sym (refused (placeRefusal state d (length line)) (placeRefusal state d (length line)) (placed state d line) state refl n);
       done = λ state d line z.
@@ -177,6 +195,10 @@ module _ (s : Session) (rows : List ℕ) where
         go zero = refl
         go (suc d) = line-refusal (lineIn state (suc d)) z
 
+    turn-counting : countRefusal s rows state ≡ first (countTable s rows state)
+    unfolding countRefusal
+    turn-counting = rw (points-figures (s .points) (pointsOf s), bad-figures state)
+
     turn-order : turnAnswer s rows state .refusal ≡ first (turnTable s rows state)
     unfolding countRefusal
     turn-order =
@@ -222,6 +244,7 @@ unfolding outcome
 turns-lawful s rows state =
     record {
       order = turn-order s rows state;
+      counting = turn-counting s rows state;
       untouched = λ n. (
         sym (refused (countRefusal s rows state) (countRefusal s rows state) _ _ refl n),
         sym (refused (countRefusal s rows state) (countRefusal s rows state) _ rows refl n),

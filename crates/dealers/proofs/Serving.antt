@@ -11,12 +11,12 @@ use lib.Dec.{eqb, ltb}
 use lib.ListN.{length}
 use Rattle.refusal.proofs.Laws.{equal}
 use Rattle.dealers.specs.State.{dealerCount, lengthIn, lastServed, waits, next, firstAfter, firstWaiting, chosen}
-use Rattle.dealers.specs.Table.{byte, wrongState}
+use Rattle.dealers.specs.Table.{byte}
 use Rattle.dealers.specs.Between.{Good, Dealer}
 use Rattle.dealers.specs.Figures.{nthAfter, FirstWaiting, WhoIsServed, AlwaysServed}
 use Rattle.dealers.proofs.Positions.{next-dealer, last-in}
 use Rattle.dealers.proofs.Fair.{ahead, upward, Ahead, reach}
-use Rattle.dealers.proofs.Laws.{bad-figures}
+use Rattle.dealers.proofs.Laws.{good-is}
 
 -- ---- k dealers on, in figures
 
@@ -110,6 +110,6 @@ module _ (state : List ℕ) (g : Good state) where
       sym (ap (lengthIn state) (r .there)) ∙ equal _ 0 (unsought dealerCount state (lastServed state) (last-in state g) z (r .steps) (r .some) (r .few))
 
 pub always-served : AlwaysServed
-always-served state l w =
-    let g : Good state = record { long = l; fine = bad-figures state ∙ w } in
+always-served state h =
+    let g = good-is state h in
     record { one = one-served state g; none = none-served state g }

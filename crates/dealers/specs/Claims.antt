@@ -1,18 +1,28 @@
 -- Demand 1 of the three calls; proved in proofs/Laws.antt.
 use Prim.Native.Nat.{ℕ, suc}
 use mathlib.Core.Path.{_≡_}
-use mathlib.Core.List.{List}
-use lib.ListN.{length, getD}
+use mathlib.Core.List.{List, _∷_}
+use lib.ListN.{length, getD, replicate}
 use Rattle.refusal.specs.Refusal.{first}
 use Rattle.session.specs.declared.Session.{Session}
 use Rattle.session.specs.Sessions.{holding}
 use Rattle.deal.specs.Deal.{dealAnswer, dealRows}
 use Rattle.forms.specs.Forms.{message, lineTests}
 use Rattle.dealers.specs.State.{chosen, lineIn, served, placed}
-use Rattle.dealers.specs.Calls.{placeTests, placeRefusal, placeAfter, countRefusal, turnAnswer, turnRows, turnState}
-use Rattle.dealers.specs.Table.{placeTable, turnTable, readHere}
+use Rattle.dealers.specs.Calls.{newStateRefusal, newStateAfter, placeTests, placeRefusal, placeAfter, countRefusal, turnAnswer, turnRows, turnState}
+use Rattle.dealers.specs.Table.{newTable, placeTable, countTable, turnTable, readHere}
+
+-- "A new state holds 8 as last served, then zeros."
+pub record NewStateLawful (state : List ℕ) : Type 0 where
+  pub order : newStateRefusal state ≡ first (newTable state)
+  pub untouched : (newStateRefusal state ≡ 0 → ⊥) → newStateAfter state ≡ state
+  pub done : newStateRefusal state ≡ 0 → newStateAfter state ≡ 8 ∷ replicate 136 0
+
+abbrev pub NewStatesLawful : Type 0
+NewStatesLawful = (state : List ℕ) → NewStateLawful state
 
 pub record PlaceLawful : Type 0 where
+  pub order : (state : List ℕ) (d len : ℕ) → placeRefusal state d len ≡ first (placeTable state d len)
   pub table : (state : List ℕ) (d len : ℕ) → placeTests state d len ≡ placeTable state d len
   pub untouched : (state : List ℕ) (d : ℕ) (line : List ℕ) → (placeRefusal state d (length line) ≡ 0 → ⊥) → placeAfter state d line ≡ state
   pub done : (state : List ℕ) (d : ℕ) (line : List ℕ) → placeRefusal state d (length line) ≡ 0 → placeAfter state d line ≡ placed state d line
@@ -20,6 +30,7 @@ pub record PlaceLawful : Type 0 where
 -- A turn, as it came, gave and left.
 pub record TurnLawful (s : Session) (rows state : List ℕ) : Type 0 where
   pub order : turnAnswer s rows state .refusal ≡ first (turnTable s rows state)
+  pub counting : countRefusal s rows state ≡ first (countTable s rows state)
   -- "A turn refused with 1 to 5 or 16 takes no line"
   pub untouched : (countRefusal s rows state ≡ 0 → ⊥)
       → (turnAnswer s rows state ≡ holding (countRefusal s rows state) 0 s) × (turnRows s rows state ≡ rows) × (turnState s rows state ≡ state)

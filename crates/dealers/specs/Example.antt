@@ -1,12 +1,12 @@
 -- Where exactly eight turns are needed: the dealer just served sends again while the seven others wait.
 use Prim.Native.Nat.{ℕ}
 use mathlib.Core.Path.{_≡_}
-use mathlib.Core.Bool.{true}
 use mathlib.Core.List.{List, [], _∷_}
 use lib.ListN.{replicate}
 use Rattle.session.specs.declared.Session.{Session}
 use Rattle.session.specs.Sessions.{sessionOf}
-use Rattle.dealers.specs.State.{newState, waits, chosen}
+use Rattle.dealers.specs.State.{newState, chosen}
+use Rattle.dealers.specs.Table.{byte}
 use Rattle.dealers.specs.Fairness.{Operation, places, turns, done, doneAll, countedIn}
 
 -- Post 1 of two, with t = 1 and one check point, and its list of rows. The lines are one byte long and say nothing: each turn is refused with 10, and counts.
@@ -32,4 +32,4 @@ eightTurns = aTurn ∷ aTurn ∷ aTurn ∷ aTurn ∷ aTurn ∷ aTurn ∷ aTurn �
 
 abbrev pub EightNeeded : Type 0
 EightNeeded =
-    (waits busy 1 ≡ true) × (countedIn eightTurns busy ≡ 8) × (chosenIn eightTurns busy ≡ 2 ∷ 3 ∷ 4 ∷ 5 ∷ 6 ∷ 7 ∷ 8 ∷ 1 ∷ [])
+    (byte busy 1 ≡ 1) × (countedIn eightTurns busy ≡ 8) × (chosenIn eightTurns busy ≡ 2 ∷ 3 ∷ 4 ∷ 5 ∷ 6 ∷ 7 ∷ 8 ∷ 1 ∷ [])

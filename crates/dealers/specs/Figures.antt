@@ -3,15 +3,15 @@
 use Prim.Native.Nat.{ℕ, _+_, _*_, _-_, _≤_, _<_}
 use mathlib.Core.Path.{_≡_}
 use mathlib.Core.Logic.{_≢_, _⊎_}
-use mathlib.Core.Bool.{false, cond}
+use mathlib.Core.Bool.{cond}
 use mathlib.Core.List.{List}
 use lib.Dec.{ltb}
 use lib.ListN.{length, getD}
 use Rattle.session.specs.declared.Session.{Session}
 use Rattle.forms.specs.Lines.{deal, text}
-use Rattle.dealers.specs.State.{newState, chosen}
+use Rattle.dealers.specs.State.{newState, lineIn, chosen}
 use Rattle.dealers.specs.Calls.{placeRefusal, placeAfter, countRefusal, turnState}
-use Rattle.dealers.specs.Table.{byte, wrongState}
+use Rattle.dealers.specs.Table.{byte, SoundState}
 
 -- "A new state holds 8 as last served, then zeros."
 pub record NewBytes : Type 0 where
@@ -29,6 +29,14 @@ pub record PlacedBytes (state : List ℕ) (d : ℕ) (line after : List ℕ) : Ty
 abbrev pub PlacesBytes : Type 0
 PlacesBytes =
     (state : List ℕ) (d : ℕ) (line : List ℕ) → placeRefusal state d (length line) ≡ 0 → PlacedBytes state d line (placeAfter state d line)
+
+-- A waiting line: its length, then its bytes.
+pub record LineBytes (state : List ℕ) (d : ℕ) : Type 0 where
+  pub long : length (lineIn state d) ≡ byte state (17 * d - 16)
+  pub bytes : (i : ℕ) → i < byte state (17 * d - 16) → getD (lineIn state d) i 0 ≡ byte state (17 * d - 15 + i)
+
+abbrev pub LinesBytes : Type 0
+LinesBytes = (state : List ℕ) (d : ℕ) → SoundState state → 1 ≤ d → d ≤ 8 → LineBytes state d
 
 -- "the place and the last dealer are all that it changes"; "those of a freed place .. stay as they are"
 pub record ServedBytes (state : List ℕ) (d : ℕ) (after : List ℕ) : Type 0 where
@@ -60,7 +68,7 @@ pub record WhoIsServed (state : List ℕ) : Type 0 where
   pub none : chosen state ≡ 0 → (d : ℕ) → 1 ≤ d → d ≤ 8 → byte state (17 * d - 16) ≡ 0
 
 abbrev pub AlwaysServed : Type 0
-AlwaysServed = (state : List ℕ) → length state ≡ 137 → wrongState state ≡ false → WhoIsServed state
+AlwaysServed = (state : List ℕ) → SoundState state → WhoIsServed state
 
 -- "A place holds 16 bytes, the longest D line."
 pub record SixteenBytes : Type 0 where

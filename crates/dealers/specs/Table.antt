@@ -2,10 +2,10 @@
 -- read as the reader of broadcast lines reads it at this station. proofs/Laws.antt shows that the calls' refusals are the first of these.
 use Prim.Native.Nat.{ℕ, zero, suc, _*_, _-_}
 use mathlib.Core.Path.{_≡_}
-use mathlib.Core.Bool.{Bool, not, _||_, _&&_}
-use mathlib.Core.List.{List, [], _∷_}
+use mathlib.Core.Bool.{Bool, false, not, _||_, _&&_}
+use mathlib.Core.List.{List, [], _∷_, _++_}
 use lib.Dec.{eqb, ltb}
-use lib.ListN.{getD}
+use lib.ListN.{length, getD}
 use Rattle.refusal.specs.Refusal.{Test, _when_}
 use Rattle.refusal.specs.Conditions.{outside, wrongLength, anyBeyond}
 use Rattle.shape.specs.Lengths.{vLength}
@@ -26,6 +26,14 @@ wrongState state =
     outside 1 8 (byte state 0)
     || (ltb 16 (byte state 1) || (ltb 16 (byte state 18) || (ltb 16 (byte state 35) || (ltb 16 (byte state 52)
     || (ltb 16 (byte state 69) || (ltb 16 (byte state 86) || (ltb 16 (byte state 103) || ltb 16 (byte state 120))))))))
+
+-- A state that 5 and 16 leave.
+pub record SoundState (state : List ℕ) : Type 0 where
+  pub long : length state ≡ 137
+  pub fine : wrongState state ≡ false
+
+abbrev pub newTable : List ℕ → List Test
+newTable state = 5 when wrongLength state 137 ∷ []
 
 abbrev pub placeTable : List ℕ → ℕ → ℕ → List Test
 placeTable state d len =
@@ -52,13 +60,9 @@ lineTable s rows line =
     ∷ 8 when anyBeyond (rowAt (width s) rows (readHere s line .row))
     ∷ []
 
--- where no line waits there is nothing more to ask
-abbrev pub takenTable : Session → List ℕ → List ℕ → ℕ → List Test
-takenTable s rows state zero = []
-takenTable s rows state (suc d) = lineTable s rows (lineIn state (suc d))
-
-abbrev pub turnTable : Session → List ℕ → List ℕ → List Test
-turnTable s rows state =
+-- "A turn refused with 1 to 5 or 16 takes no line and isn't counted."
+abbrev pub countTable : Session → List ℕ → List ℕ → List Test
+countTable s rows state =
     1 when outside 2 255 (s .n)
     ∷ 2 when outside 1 (s .n - 1) (s .t)
     ∷ 3 when outside 1 (s .n) (s .post)
@@ -66,4 +70,12 @@ turnTable s rows state =
     ∷ 5 when wrongLength rows (96 * width s)
     ∷ 5 when wrongLength state 137
     ∷ 16 when wrongState state
-    ∷ takenTable s rows state (chosen state)
+    ∷ []
+
+-- once counted: where no line waits there is nothing more to ask
+abbrev pub takenTable : Session → List ℕ → List ℕ → ℕ → List Test
+takenTable s rows state zero = []
+takenTable s rows state (suc d) = lineTable s rows (lineIn state (suc d))
+
+abbrev pub turnTable : Session → List ℕ → List ℕ → List Test
+turnTable s rows state = countTable s rows state ++ takenTable s rows state (chosen state)

@@ -124,7 +124,7 @@ unfolding outcome
 not-booked u zero b n = absurd (n refl)
 not-booked u (suc k) b n = refl
 
-book-turn : (u : Secrets) (e : Entry) (b : Book) (w : Waiting)
+pub book-turn : (u : Secrets) (e : Entry) (b : Book) (w : Waiting)
     → booked u (turnStep (turnDoing w)) (refusalOf (turnEntry (turnDoing w) e)) b ≡ bookedBy u (comesOf w turn) (refusalOf e) b
 book-turn u e b w = go (turnDoing w) ∙ ap (λ (x : Comes Fixed). bookedBy u x (refusalOf e) b) (sym (turn-comes w))
   where

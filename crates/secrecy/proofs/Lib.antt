@@ -62,4 +62,5 @@ pub mod Along
 pub mod Again
 pub mod Theorems
 pub mod NeverOrders
+pub mod Barred
 pub mod Known

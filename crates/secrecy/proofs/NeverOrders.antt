@@ -73,10 +73,10 @@ module _ (plan : Plan) (group : List ℕ) (draw : Draw) (u : Secrets) (some : 1 
 
 -- ---- a group counts for nothing here: the record of none
 
-abbrev strip : Entry → Entry
+abbrev pub strip : Entry → Entry
 strip e = record { refusals = e .refusals; values = e .values; lines = e .lines; rows = [] }
 
-strip-run : (plan : Plan) (group : List ℕ) (draw : Draw) (u : Secrets) (os : List Item) (lines : List (List ℕ)) (q : ℕ → Desk)
+pub strip-run : (plan : Plan) (group : List ℕ) (draw : Draw) (u : Secrets) (os : List Item) (lines : List (List ℕ)) (q : ℕ → Desk)
     → map strip (run plan group draw u os lines q) ≡ run plan [] draw u os lines q
 unfolding run entryOf
 strip-run plan group draw u [] lines q = refl
@@ -84,11 +84,11 @@ strip-run plan group draw u (o ∷ os) lines q =
     ap (λ (es : List Entry). entryOf plan [] draw u lines o q ∷ es)
     (strip-run plan group draw u os (lines ++ linesOf plan draw u lines o q) (λ i. deskAfter (doneAt plan draw u lines o q i)))
 
-strip-same : (es : List Entry) → SameAnswers es → SameAnswers (map strip es)
+pub strip-same : (es : List Entry) → SameAnswers es → SameAnswers (map strip es)
 strip-same [] h = tt
 strip-same (e ∷ es) h = (h .0, strip-same es (h .1))
 
-strip-rules : (plan : Plan) (os : List Item) (es : List Entry) (lines : List (List ℕ)) (w : Waiting) → Rules plan os es lines w → Rules plan os (map strip es) lines w
+pub strip-rules : (plan : Plan) (os : List Item) (es : List Entry) (lines : List (List ℕ)) (w : Waiting) → Rules plan os es lines w → Rules plan os (map strip es) lines w
 strip-rules plan [] es lines w h = tt
 strip-rules plan (o ∷ os) [] lines w h = tt
 strip-rules plan (call c ∷ os) (e ∷ es) lines w h = (h .0, strip-rules plan os es (lines ++ e .lines) w (h .1))

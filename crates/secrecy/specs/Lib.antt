@@ -6,6 +6,7 @@ pub mod Asked
 pub mod Callers
 pub mod Book
 pub mod Claim
+pub mod Barred
 pub mod Count
 pub mod Points
 pub mod Known
