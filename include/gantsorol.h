@@ -7,7 +7,7 @@
  *
  * Any values are allowed. Every call, whatever it is given, does its one job or answers with a refusal, the number of
  * the first condition of gantsorol_refusal_text that applies; 0 means none. A refused call changes no list and no
- * session, and its value is 0.
+ * session, and its value is 0; the one exception is a turn that has taken a line (gantsorol_turn).
  *
  * What a caller has to see to, because no call can: a list is passed as a pointer to its first number, aligned for its
  * type, and its length in numbers (bytes for a line or a file, kinds, or terms), which the memory really has. The lists
@@ -35,8 +35,17 @@
  * and openings ask nobody. Every post must be given the same "A" lines, and who calls is the carrier's to see to, as who
  * sends: a false caller's number is taken at its word.
  *
- * Power loss. Store the session that a call hands back, and the rows with it where they were written, before the line
- * that the call made is sent. With an older session a triple would be used twice, and two masks of one triple tell the
+ * Dealers. Up to eight dealers may send lines to a station, and each has a place for one waiting line. The places stand in a
+ * state of GANTSOROL_DEALERS_LEN bytes, which the caller lends and hands on like the rows: gantsorol_new_state makes it once,
+ * gantsorol_place puts a dealer's line into its place, gantsorol_turn takes one line and deals it, from the dealer after the
+ * one last served, going round. While only these calls write the state, a waiting line is taken within eight turns that are
+ * counted, however often other dealers send. A line that is refused once it is taken has freed its place and counts as
+ * served: the turn returns that refusal, and has changed the place's length and the last dealer, and nothing else. A turn
+ * refused with 1 to 5 or 16 took no line, and is not counted. Every post must be given the same lines and the same turns in
+ * the same order.
+ *
+ * Power loss. Store the session that a call hands back, and the rows and the dealers' state with it where they were written,
+ * before the line that the call made is sent. With an older session a triple would be used twice, and two masks of one triple tell the
  * difference of two factors to whoever hears them.
  *
  * Senders. A line names its post, and nobody checks that it comes from there: the carrier has to. A later
@@ -95,12 +104,14 @@
 
 /* The version: the minor number counts the requests that are in (CHANGES.md). */
 #define GANTSOROL_VERSION_MAJOR 0
-#define GANTSOROL_VERSION_MINOR 11
+#define GANTSOROL_VERSION_MINOR 12
 #define GANTSOROL_VERSION_PATCH 0
 
 /*
  * Refusals. Conditions are looked at in the order of their numbers, but for 14, which comes right after 5; each over all
- * lists and terms before the next; gantsorol_access looks at 10 and 11 before 7. 16 to 19 are kept for what is to come.
+ * lists and terms before the next; gantsorol_access looks at 10 and 11 before 7. gantsorol_place looks at 10 last, behind 16
+ * and 17, and gantsorol_turn at 16 right after 5, then at 10, 11, 7 and 8 of the line that it has taken. 18 and 19 are kept for
+ * what is to come.
  */
 enum gantsorol_refusal {
     GANTSOROL_OK = 0,
@@ -118,7 +129,9 @@ enum gantsorol_refusal {
     GANTSOROL_NO_ROOM = 12,
     GANTSOROL_INCONSISTENT_SHARES = 13,
     GANTSOROL_BAD_TERM_COUNT = 14,
-    GANTSOROL_CALLER_BARRED = 15
+    GANTSOROL_CALLER_BARRED = 15,
+    GANTSOROL_BAD_DEALER = 16,
+    GANTSOROL_PLACE_FILLED = 17
 };
 
 /* A refusal in words: the condition that applies. */
@@ -146,7 +159,7 @@ static inline const char *gantsorol_refusal_text(uint8_t refusal) {
     case GANTSOROL_TOO_FEW_ACCEPTED:
         return "fewer than t+1 posts were accepted, in any record";
     case GANTSOROL_MALFORMED_LINE:
-        return "a line read has the wrong form";
+        return "a line read has the wrong form; a line to be placed is empty or longer than 16 bytes";
     case GANTSOROL_LINE_OUT_OF_RANGE:
         return "a line read has a number out of range";
     case GANTSOROL_NO_ROOM:
@@ -157,6 +170,10 @@ static inline const char *gantsorol_refusal_text(uint8_t refusal) {
         return "a relation has no terms, or more than 32";
     case GANTSOROL_CALLER_BARRED:
         return "the post that calls for an opening is not one of the row's set, or outside 1 to n";
+    case GANTSOROL_BAD_DEALER:
+        return "a dealer, or the dealers' state's last one, is outside 1 to 8, or a place of that state has more than 16 bytes";
+    case GANTSOROL_PLACE_FILLED:
+        return "a line still waits in the dealer's place";
     default:
         return "unknown to this header";
     }
@@ -175,6 +192,8 @@ static inline const char *gantsorol_refusal_text(uint8_t refusal) {
 #define GANTSOROL_MAX_TERMS 32
 /* The second row of a term that is no product. */
 #define GANTSOROL_NO_ROW 255
+/* The most dealers of a station. */
+#define GANTSOROL_DEALERS 8
 /* More stack than any call takes, beside its arguments and its answer. */
 #define GANTSOROL_MOST_STACK 35000
 /* The most check points of a post. */
@@ -223,8 +242,10 @@ static inline const char *gantsorol_refusal_text(uint8_t refusal) {
 
 /* The digits of a number of posts, of a post or of t. */
 #define GANTSOROL_DIGITS(n) ((n) < 10 ? 1 : (n) < 100 ? 2 : 3)
-/* A "D" line. */
+/* A "D" line; a dealer's place holds one. */
 #define GANTSOROL_DEAL_LINE_LEN 16
+/* The dealers' state: the last dealer served, then each dealer's place, a length, 0 when it is free, and the line's bytes. */
+#define GANTSOROL_DEALERS_LEN 137
 /* An "O" line. */
 #define GANTSOROL_OPENING_LINE_LEN(n, t, points) (6 + GANTSOROL_DIGITS(n) + 11 * GANTSOROL_MESSAGE_LEN(t, points))
 /* An "M" line, longer than an "O" line. */
@@ -438,6 +459,33 @@ gantsorol_answer gantsorol_collect(gantsorol_session session, const uint32_t *ro
  * rows: GANTSOROL_ROWS_LEN, written. Refusals 1 to 8.
  */
 gantsorol_answer gantsorol_multiply(gantsorol_session session, uint32_t *rows, size_t rows_len, size_t first);
+
+/* ---- Several dealers ---- */
+
+/*
+ * A new dealers' state: 8 as the last dealer served, then zeros, so that the first turn begins with dealer 1; the refusal.
+ * state: GANTSOROL_DEALERS_LEN, written. Refusal 5.
+ */
+uint8_t gantsorol_new_state(uint8_t *state, size_t state_len);
+
+/*
+ * Puts a dealer's line into its place, where it waits for a turn; the refusal. The line is not read: bytes that are no "D"
+ * line are refused by the turn that takes them. Byte 17 * dealer - 16 of the state gets the line's length and those from
+ * 17 * dealer - 15 on the line; every other byte stays as it is, those behind a shorter line too.
+ * state: GANTSOROL_DEALERS_LEN, written. dealer: 1 to 8. line: 1 to GANTSOROL_DEAL_LINE_LEN bytes, read.
+ * Refusals 5, 16, 17, 10, in this order; 16 looks at every place of the state.
+ */
+uint8_t gantsorol_place(uint8_t *state, size_t state_len, size_t dealer, const uint8_t *line, size_t line_len);
+
+/*
+ * Takes one line: from the dealer after the one last served, going round, the first with a line waiting. The line is read, 10
+ * for any but a "D" line, and dealt as gantsorol_deal does. Whatever the line gets, its place's length, byte 17 * dealer - 16,
+ * is then 0, and byte 0 is its dealer; the place's other bytes stay. With a refusal 10, 11, 7 or 8 these two are all that has
+ * changed: session and rows are as they were. If no line waits the turn is not refused, and changes nothing.
+ * rows: GANTSOROL_ROWS_LEN, written. state: GANTSOROL_DEALERS_LEN, written.
+ * Refusals 1 to 5 and 16, which take no line; then, of a line taken, 10, 11, 7 and 8.
+ */
+gantsorol_answer gantsorol_turn(gantsorol_session session, uint32_t *rows, size_t rows_len, uint8_t *state, size_t state_len);
 
 /* ---- Relations ---- */
 

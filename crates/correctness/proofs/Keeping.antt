@@ -15,19 +15,21 @@ use Rattle.terms.specs.Listed.{productsOf}
 use Rattle.relation.proofs.Passed.{relation-finished}
 use Rattle.runs.specs.Draws.{Plan, Draw, IsDraw, Sound}
 use Rattle.runs.specs.Outline.{multiplies, actsIn, summing, moves, acts}
-use Rattle.runs.specs.Calls.{Post, Actual, Call, relationFinish, perform, after, at}
+use Rattle.runs.specs.Calls.{Post, Actual, Call, Performed, relationFinish, perform, after, at}
+use Rattle.runs.specs.Orders.{Order, call, carry, Comes, noCall, aCall, comesTo, Asked, ComesToIt}
 use Rattle.runs.proofs.Marks.{Marks, markOf, Sized, finished, at-same, at-other, marksAll, numberIn}
 use Rattle.runs.proofs.Outcomes.{refusalOf, refusal-is, refused}
+use Rattle.runs.proofs.Orders.{orders-come}
 use Rattle.runs.proofs.Rows.{sized-by, held-stays}
 use Rattle.runs.proofs.Related.{marks-products}
 use Rattle.runs.proofs.Relations.{finishedAll}
 use Rattle.runs.proofs.Steps.{postAt, named, Fits, stands-after}
-use Rattle.correctness.specs.History.{Event, World, doneBy, turn, history, Each}
+use Rattle.correctness.specs.History.{Event, World, desk, doneBy, answerOf, step, history, Each}
 use Rattle.correctness.specs.Ledger.{Ledger, Written}
 use Rattle.correctness.specs.Truth.{OwnPart, TrueFinish}
 use Rattle.correctness.proofs.Standing.{Good, standOf, allowed-at}
 use Rattle.correctness.proofs.Fitting.{fits}
-use Rattle.correctness.proofs.Walking.{Inv, after-event}
+use Rattle.correctness.proofs.Walking.{Inv, AskedOf, after-event}
 
 abbrev pub heldIn : Post → ℕ → Type 0
 heldIn q r = mark (q .session) r ≡ held
@@ -68,39 +70,62 @@ module _ (plan : Plan) (draw : Draw) (L : Ledger) (is : IsDraw plan draw) (len i
 module _ (plan : Plan) (draw : Draw) (L : Ledger) (S : ℕ → Type 0) (sound : Sound plan) (is : IsDraw plan draw) (lens : ℕ → ℕ) (i : ℕ) (lo : 1 ≤ i) (hi : i ≤ plan .n) (among : S i) (r : ℕ) where
   -- what a call that is not refused is given, in a run with these premises
   module _ (w : World) (v : Inv plan draw L S sound is lens w) (c : Call)
-      (own : doneBy (record { post = i; call = c }) w .answer .refusal ≡ 0 → OwnPart plan draw i c) (truth : doneBy (record { post = i; call = c }) w .answer .refusal ≡ 0 → TrueFinish S w (w .posts i) c) where
+      (own : perform c (w .posts i) .answer .refusal ≡ 0 → OwnPart plan draw i c) (truth : perform c (w .posts i) .answer .refusal ≡ 0 → TrueFinish S w (w .posts i) c) where
     given : refusalOf c (w .posts i) ≡ 0 → Fits plan draw i (v .posts i lo hi among .marks) (v .posts i lo hi among .vec) c
     given z =
         let y = refusal-is c (w .posts i) ∙ z in
         fits plan draw L sound is S w (v .lines) (lens i) i (w .posts i) (v .posts i lo hi among) c z (own y) (truth y)
 
+    stays : heldIn (w .posts i) r → heldIn (after (perform c (w .posts i))) r
+    stays two = call-keeps plan draw L is (lens i) i hi (w .posts i) (v .posts i lo hi among) c _ refl given r two
+
+  -- an order of this post
+  module _ (w : World) (v : Inv plan draw L S sound is lens w) (o : Order)
+      (own : AskedOf plan draw L S sound is lens (λ j c x. OwnPart plan draw j c) (record { post = i; order = o }) w)
+      (truth : AskedOf plan draw L S sound is lens (λ j c x. TrueFinish S x (x .posts j) c) (record { post = i; order = o }) w)
+      (two : heldIn (w .posts i) r) where
+    abbrev come : ComesToIt o (desk w i)
+    come = orders-come o (desk w i)
+
+    done-zero : (c : Call) → comesTo o (desk w i) ≡ aCall c → perform c (w .posts i) .answer .refusal ≡ 0 → carry o (desk w i) .done .answer .refusal ≡ 0
+    done-zero c z k = ap (λ (x : Performed). x .answer .refusal) (come .one c z) ∙ k
+
+    ordered : (m : Comes Actual) → comesTo o (desk w i) ≡ m → heldIn (after (carry o (desk w i) .done)) r
+    ordered noCall z = ap (λ (x : Post). mark (x .session) r) (come .none z) ∙ two
+    ordered (aCall c) z =
+        ap (λ (x : Performed). mark (x .answer .session) r) (come .one c z)
+        ∙ stays w v c (λ k. subst (Asked (OwnPart plan draw i)) z (own among (done-zero c z k)))
+        (λ k. subst (Asked (TrueFinish S w (w .posts i))) z (truth among (done-zero c z k))) two
+
   keeps : (w : World) (v : Inv plan draw L S sound is lens w) (e : Event)
-      → (S (e .post) → doneBy e w .answer .refusal ≡ 0 → OwnPart plan draw (e .post) (e .call))
-      → (S (e .post) → doneBy e w .answer .refusal ≡ 0 → TrueFinish S w (w .posts (e .post)) (e .call))
-      → heldIn (w .posts i) r → heldIn (turn e w .posts i) r
+      → AskedOf plan draw L S sound is lens (λ j c x. OwnPart plan draw j c) e w
+      → AskedOf plan draw L S sound is lens (λ j c x. TrueFinish S x (x .posts j) c) e w
+      → heldIn (w .posts i) r → heldIn (step e w .posts i) r
   keeps w v e own truth two = go (ℕ-discrete i (e .post))
     where
-      go : Dec (i ≡ e .post) → heldIn (at (w .posts) (e .post) (after (doneBy e w)) i) r
-      go (no ne) = ap (λ (x : Post). mark (x .session) r) (at-other (w .posts) (e .post) (after (doneBy e w)) i ne) ∙ two
+      go : Dec (i ≡ e .post) → heldIn (at (w .posts) (e .post) (after (doneBy e w .done)) i) r
+      go (no ne) = ap (λ (x : Post). mark (x .session) r) (at-other (w .posts) (e .post) (after (doneBy e w .done)) i ne) ∙ two
       go (yes g) =
-          let here = subst (λ (j : ℕ). (S j → doneBy (record { post = j; call = e .call }) w .answer .refusal ≡ 0 → OwnPart plan draw j (e .call)) × (S j → doneBy (record { post = j; call = e .call }) w .answer .refusal ≡ 0 → TrueFinish S w (w .posts j) (e .call))) (sym g) (own, truth) in
-          subst (λ (j : ℕ). heldIn (at (w .posts) j (after (perform (e .call) (w .posts j))) i) r) g
-          (ap (λ (x : Post). mark (x .session) r) (at-same (w .posts) i (after (perform (e .call) (w .posts i))))
-          ∙ call-keeps plan draw L is (lens i) i hi (w .posts i) (v .posts i lo hi among) (e .call) _ refl
-          (λ z. given w v (e .call) (here .0 among) (here .1 among) z) r two)
+          let here = subst (λ (j : ℕ). AskedOf plan draw L S sound is lens (λ j c x. OwnPart plan draw j c) (record { post = j; order = e .order }) w
+          × AskedOf plan draw L S sound is lens (λ j c x. TrueFinish S x (x .posts j) c) (record { post = j; order = e .order }) w) (sym g) (own, truth) in
+          subst (λ (j : ℕ). heldIn (at (w .posts) j (after (carry (e .order) (desk w j) .done)) i) r) g
+          (ap (λ (x : Post). mark (x .session) r) (at-same (w .posts) i (after (carry (e .order) (desk w i) .done)))
+          ∙ ordered w v (e .order) (here .0) (here .1) two _ refl)
 
-  pub stays-held : (es : List Event) (w : World) → Inv plan draw L S sound is lens w → Each S (λ e x. OwnPart plan draw (e .post) (e .call)) es w
-      → Each S (λ e x. Written draw L (e .call)) es w → Each S (λ e x. TrueFinish S x (x .posts (e .post)) (e .call)) es w
+  pub stays-held : (es : List Event) (w : World) → Inv plan draw L S sound is lens w → Each S (λ j c x. OwnPart plan draw j c) es w
+      → Each S (λ j c x. Written draw L c) es w → Each S (λ j c x. TrueFinish S x (x .posts j) c) es w
       → heldIn (w .posts i) r → heldIn (history es w .posts i) r
   stays-held [] w v o y t two = two
   stays-held (e ∷ es) w v o y t two =
-      stays-held es (turn e w) (after-event plan draw L S sound is lens w v e (o .0) (y .0) (t .0)) (o .1) (y .1) (t .1)
+      stays-held es (step e w) (after-event plan draw L S sound is lens w v e (o .0) (y .0) (t .0)) (o .1) (y .1) (t .1)
       (keeps w v e (o .0) (t .0) two)
 
   -- the post i finishes the relation
   pub held-now : (w : World) (v : Inv plan draw L S sound is lens w) (ts : List Term) (records : List ℕ)
-      → (let e : Event = record { post = i; call = relationFinish ts r records } in
-      doneBy e w .answer .refusal ≡ 0 → OwnPart plan draw i (e .call) → TrueFinish S w (w .posts i) (e .call) → heldIn (turn e w .posts i) r)
+      → (let c : Call = relationFinish ts r records in
+      let e : Event = record { post = i; order = call c } in
+      answerOf e w .refusal ≡ 0 → OwnPart plan draw i c → TrueFinish S w (w .posts i) c → heldIn (step e w .posts i) r)
+  unfolding carry
   held-now w v ts records z own truth =
       let c = relationFinish ts r records in
       let y = sym (refusal-is c (w .posts i)) ∙ z in

@@ -80,13 +80,13 @@ one-pair plan draw L r k k' =
       one plan draw L (k .is-b) (subst (λ (x : ℕ). Is plan draw L x (k' .Y)) gb (k' .is-b)),
     )
 
-module _ (plan : Plan) (draw : Draw) (L : Ledger) (S : ℕ → Type 0) (rows : ℕ → List ℕ) (es : List Event) (h : Premises plan draw L S es rows) (i : ℕ) (lo : 1 ≤ i) (hi : i ≤ plan .n) (among : S i) (r : ℕ) where
+module _ (plan : Plan) (draw : Draw) (L : Ledger) (S : ℕ → Type 0) (rows states : ℕ → List ℕ) (es : List Event) (h : Premises plan draw L S es rows states) (i : ℕ) (lo : 1 ≤ i) (hi : i ≤ plan .n) (among : S i) (r : ℕ) where
   w : World
-  w = end plan draw L S rows es h
+  w = end plan draw L S rows states es h
 
-  g : Good plan draw L (lens plan draw L S rows es h i) i (w .posts i)
+  g : Good plan draw L (lens plan draw L S rows states es h i) i (w .posts i)
   unfolding w
-  g = stands plan draw L S rows es h .posts i lo hi among
+  g = stands plan draw L S rows states es h .posts i lo hi among
 
   abbrev G : Stander
   G = standerOf plan draw L (h .sound) (h .is-draw) _ i lo hi (w .posts i) g
@@ -112,7 +112,7 @@ module _ (plan : Plan) (draw : Draw) (L : Ledger) (S : ℕ → Type 0) (rows : �
 
   said : AllSaid plan draw L (h .sound) (h .is-draw) S w
   unfolding w
-  said = stands plan draw L S rows es h .lines
+  said = stands plan draw L S rows states es h .lines
 
   -- ---- a row that is held
 
@@ -130,7 +130,7 @@ module _ (plan : Plan) (draw : Draw) (L : Ledger) (S : ℕ → Type 0) (rows : �
       let low = marked-low M (g .sized) r two in
       part-from (TruePolynomial S w r) s (rowAt (width s) l r) X few
       (g .stands .holds .rows r low (omega (arith, two)) ∙ ap (heldRow s) (one plan draw L (g .facts r low .held two) is))
-      (λ j xs lj hj many elements m. reliable plan draw L S rows es h r j xs (omega (arith, low)) lj hj (inr (many, elements)) m X is))
+      (λ j xs lj hj many elements m. reliable plan draw L S rows states es h r j xs (omega (arith, low)) lj hj (inr (many, elements)) m X is))
 
   -- ---- masks that were made
 
@@ -182,35 +182,35 @@ module _ (plan : Plan) (draw : Draw) (L : Ledger) (S : ℕ → Type 0) (rows : �
 
 pub held-parts : HeldParts
 unfolding w end
-held-parts plan draw L S rows es h i r lo hi among two =
-    let is = held-is plan draw L S rows es h i lo hi among r two in (
+held-parts plan draw L S rows states es h i r lo hi among two =
+    let is = held-is plan draw L S rows states es h i lo hi among r two in (
       _,
       plain plan draw L (h .is-draw) is,
-      (λ points S' rows' es' h' i' lo' hi' among' two'.
-          held-part plan (withPoints points draw) L S' rows' es' h' i' lo' hi' among' r _ (any-points plan draw L points is) two'),
+      (λ points S' rows' states' es' h' i' lo' hi' among' two'.
+          held-part plan (withPoints points draw) L S' rows' states' es' h' i' lo' hi' among' r _ (any-points plan draw L points is) two'),
     )
 
 pub mask-parts : MaskParts
 unfolding w end tripleDraw
-mask-parts plan draw L S rows es h i r lo hi among five = (
+mask-parts plan draw L S rows states es h i r lo hi among five = (
   _,
   _,
   mask-numbers plan draw L (h .is-draw) (k .means) (k .is-a) (k .is-b),
-  (λ points S' rows' es' h' i' lo' hi' among' five'. both points S' rows' es' h' i' lo' hi' among' five' .0),
-  (λ points S' rows' es' h' i' lo' hi' among' five'. both points S' rows' es' h' i' lo' hi' among' five' .1),
+  (λ points S' rows' states' es' h' i' lo' hi' among' five'. both points S' rows' states' es' h' i' lo' hi' among' five' .0),
+  (λ points S' rows' states' es' h' i' lo' hi' among' five'. both points S' rows' states' es' h' i' lo' hi' among' five' .1),
 )
   where
     k : Factors plan draw L r
-    k = factors plan draw L S rows es h i lo hi among r five
+    k = factors plan draw L S rows states es h i lo hi among r five
 
-    both : (points : List ℕ) (S' : ℕ → Type 0) (rows' : ℕ → List ℕ) (es' : List Event) (h' : Premises plan (withPoints points draw) L S' es' rows')
+    both : (points : List ℕ) (S' : ℕ → Type 0) (rows' states' : ℕ → List ℕ) (es' : List Event) (h' : Premises plan (withPoints points draw) L S' es' rows' states')
         (i' : ℕ) (lo' : 1 ≤ i') (hi' : i' ≤ plan .n) (among' : S' i')
-        → (let v = history es' (begin plan (withPoints points draw) rows') in let q = v .posts i' in
+        → (let v = history es' (begin plan (withPoints points draw) rows' states') in let q = v .posts i' in
         mark (q .session) r ≡ masked
         → PartOf (TrueMask S' v (planShape plan) (take (vLength (planShape plan))) r) (q .session) (Collect.maskA (q .session) (q .rows) r) (less (k .X) (vectorA plan draw r))
         × PartOf (TrueMask S' v (planShape plan) (drop (vLength (planShape plan))) r) (q .session) (Collect.maskB (q .session) (q .rows) r) (less (k .Y) (vectorB plan draw r)))
-    both points S' rows' es' h' i' lo' hi' among' =
-        both-masks plan (withPoints points draw) L S' rows' es' h' i' lo' hi' among' r (record {
+    both points S' rows' states' es' h' i' lo' hi' among' =
+        both-masks plan (withPoints points draw) L S' rows' states' es' h' i' lo' hi' among' r (record {
           a = k .a;
           b = k .b;
           X = k .X;

@@ -29,13 +29,14 @@ use Rattle.relation.proofs.Passed.{products-back, relation-finished}
 use Rattle.runs.specs.Draws.{Plan, Draw, planShape}
 use Rattle.runs.specs.Outline.{Move, moves, finishing, summand, summing}
 use Rattle.runs.specs.Calls.{Post, Actual, Call, relationFinish}
+use Rattle.runs.specs.Orders.{call, carry, comesTo, Asked}
 use Rattle.runs.proofs.Outlines.{every-all}
 use Rattle.runs.proofs.Outcomes.{refusalOf, refusal-is}
 use Rattle.runs.proofs.Marks.{Marks, markOf, rememberedA, rememberedB, maskVectorA, maskVectorB}
 use Rattle.runs.proofs.Allowed.{waiting}
 use Rattle.runs.proofs.Start.{sizes}
 use Rattle.runs.proofs.Steps.{postAt, named}
-use Rattle.correctness.specs.History.{Event, World, doneBy, turn, history, begin, Each}
+use Rattle.correctness.specs.History.{Event, World, desk, answerOf, step, history, begin, Each}
 use Rattle.correctness.specs.Ledger.{Ledger, Meaning, summed, product, WrittenBy, Written, PlainOf, of-times, of-more, of-product, Plain}
 use Rattle.correctness.specs.Truth.{TrueMask, TrueOf}
 use Rattle.correctness.specs.Claim.{Premises, howMany}
@@ -97,23 +98,23 @@ relation-number L r (t ∷ ts) number h own =
 
 -- ---- in a run
 
-module _ (S : ℕ → Type 0) (P : Event → World → Type 0) where
+module _ (S : ℕ → Type 0) (P : ℕ → Call → World → Type 0) where
   each-before : (xs ys : List Event) (w : World) → Each S P (xs ++ ys) w → Each S P xs w
   each-before [] ys w h = tt
-  each-before (x ∷ xs) ys w h = (h .0, each-before xs ys (turn x w) (h .1))
+  each-before (x ∷ xs) ys w h = (h .0, each-before xs ys (step x w) (h .1))
 
   each-behind : (xs ys : List Event) (w : World) → Each S P (xs ++ ys) w → Each S P ys (history xs w)
   each-behind [] ys w h = h
-  each-behind (x ∷ xs) ys w h = each-behind xs ys (turn x w) (h .1)
+  each-behind (x ∷ xs) ys w h = each-behind xs ys (step x w) (h .1)
 
   each-at : (xs ys : List Event) (e : Event) (w : World) → Each S P (xs ++ (e ∷ ys)) w → S (e .post)
-      → doneBy e (history xs w) .answer .refusal ≡ 0 → P e (history xs w)
+      → answerOf e (history xs w) .refusal ≡ 0 → Asked (λ c. P (e .post) c (history xs w)) (comesTo (e .order) (desk (history xs w) (e .post)))
   each-at [] ys e w h = h .0
-  each-at (x ∷ xs) ys e w h = each-at xs ys e (turn x w) (h .1)
+  each-at (x ∷ xs) ys e w h = each-at xs ys e (step x w) (h .1)
 
 history-join : (xs ys : List Event) (w : World) → history (xs ++ ys) w ≡ history ys (history xs w)
 history-join [] ys w = refl
-history-join (x ∷ xs) ys w = history-join xs ys (turn x w)
+history-join (x ∷ xs) ys w = history-join xs ys (step x w)
 
 -- a post that stands by the ledger, and finishes the relation as the ledger has it
 module _ (plan : Plan) (draw : Draw) (L : Ledger) (len i : ℕ) (q : Post) (g : Good plan draw L len i q) (ts : List Term) (r : ℕ) (records : List ℕ) where
@@ -143,53 +144,53 @@ module _ (plan : Plan) (draw : Draw) (L : Ledger) (len i : ℕ) (q : Post) (g : 
       })
 
 pub relation-shown : RelationShown
-unfolding lens end
-relation-shown plan draw L S rows before behind i r ts records h lo hi among z = (
+unfolding lens end carry
+relation-shown plan draw L S rows states before behind i r ts records h lo hi among z = (
   is-in,
   held-there,
   λ number own j lj hj in-s blocks held proper enough true.
-      let o = correct plan draw L S rows (before ++ (e ∷ behind)) h j lj hj in-s .opens r blocks held proper .exact enough true in
+      let o = correct plan draw L S rows states (before ++ (e ∷ behind)) h j lj hj in-s .opens r blocks held proper .exact enough true in
       let v = one-number L r _ _ (o .1) (relation-number L r ts number is-in own) in
       record { done = o .0; value = v; zero-if = λ k. v ∙ k; only-if = λ k. sym v ∙ k },
 )
   where
     e : Event
-    e = record { post = i; call = relationFinish ts r records }
+    e = record { post = i; order = call (relationFinish ts r records) }
 
     w : World
-    w = begin plan draw rows
+    w = begin plan draw rows states
 
-    early : Premises plan draw L S before rows
+    early : Premises plan draw L S before rows states
     early = record {
       sound = h .sound;
       is-draw = h .is-draw;
-      parts = each-before S _ before _ (begin plan draw rows) (h .parts);
-      ledger = each-before S _ before _ (begin plan draw rows) (h .ledger);
-      finishes = each-before S _ before _ (begin plan draw rows) (h .finishes);
+      parts = each-before S _ before _ (begin plan draw rows states) (h .parts);
+      ledger = each-before S _ before _ (begin plan draw rows states) (h .ledger);
+      finishes = each-before S _ before _ (begin plan draw rows states) (h .finishes);
     }
 
     before-it : World
-    before-it = history before (begin plan draw rows)
+    before-it = history before (begin plan draw rows states)
 
-    there : Inv plan draw L S (h .sound) (h .is-draw) (λ k. length (rows k)) (history before (begin plan draw rows))
-    there = stands plan draw L S rows before early
+    there : Inv plan draw L S (h .sound) (h .is-draw) (λ k. length (rows k)) (history before (begin plan draw rows states))
+    there = stands plan draw L S rows states before early
 
-    held-there : heldIn (history (before ++ (record { post = i; call = relationFinish ts r records } ∷ behind)) (begin plan draw rows) .posts i) r
+    held-there : heldIn (history (before ++ (record { post = i; order = call (relationFinish ts r records) } ∷ behind)) (begin plan draw rows states) .posts i) r
     held-there =
-        let o = each-behind S _ before (e ∷ behind) (begin plan draw rows) (h .parts) in
-        let y = each-behind S _ before (e ∷ behind) (begin plan draw rows) (h .ledger) in
-        let t = each-behind S _ before (e ∷ behind) (begin plan draw rows) (h .finishes) in
-        subst (λ (x : World). heldIn (x .posts i) r) (sym (history-join before (e ∷ behind) (begin plan draw rows)))
-        (stays-held plan draw L S (h .sound) (h .is-draw) (λ k. length (rows k)) i lo hi among r behind (turn e before-it)
+        let o = each-behind S _ before (e ∷ behind) (begin plan draw rows states) (h .parts) in
+        let y = each-behind S _ before (e ∷ behind) (begin plan draw rows states) (h .ledger) in
+        let t = each-behind S _ before (e ∷ behind) (begin plan draw rows states) (h .finishes) in
+        subst (λ (x : World). heldIn (x .posts i) r) (sym (history-join before (e ∷ behind) (begin plan draw rows states)))
+        (stays-held plan draw L S (h .sound) (h .is-draw) (λ k. length (rows k)) i lo hi among r behind (step e before-it)
         (after-event plan draw L S (h .sound) (h .is-draw) (λ k. length (rows k)) before-it there e (o .0) (y .0) (t .0)) (o .1) (y .1) (t .1)
         (held-now plan draw L S (h .sound) (h .is-draw) (λ k. length (rows k)) i lo hi among r before-it there ts records z (o .0 among z) (t .0 among z)))
 
     is-in : RelationIn L r ts
     is-in =
-        writes plan draw L (length (rows i)) i (history before (begin plan draw rows) .posts i)
-        (stands plan draw L S rows before early .posts i lo hi among) ts r records
-        (each-at S _ before behind (record { post = i; call = relationFinish ts r records }) (begin plan draw rows) (h .ledger) among z)
-        (sym (refusal-is (relationFinish ts r records) (history before (begin plan draw rows) .posts i)) ∙ z)
+        writes plan draw L (length (rows i)) i (history before (begin plan draw rows states) .posts i)
+        (stands plan draw L S rows states before early .posts i lo hi among) ts r records
+        (each-at S _ before behind (record { post = i; order = call (relationFinish ts r records) }) (begin plan draw rows states) (h .ledger) among z)
+        (sym (refusal-is (relationFinish ts r records) (history before (begin plan draw rows states) .posts i)) ∙ z)
 
 -- ---- the answer of a finish
 
@@ -231,8 +232,8 @@ module _ (G : Stander) (S : ℕ → Type 0) (w : World) (said : AllSaid (G .plan
 
 pub relations-finish : RelationsFinish
 unfolding end
-relations-finish plan draw L S rows es h i lo hi among ts r blocks =
-    let v = stands plan draw L S rows es h in let g = v .posts i lo hi among in
+relations-finish plan draw L S rows states es h i lo hi among ts r blocks =
+    let v = stands plan draw L S rows states es h in let g = v .posts i lo hi among in
     let G = standerOf plan draw L (h .sound) (h .is-draw) _ i lo hi (w .posts i) g in
     subst
     (λ (q : Post).
@@ -248,4 +249,4 @@ relations-finish plan draw L S rows es h i lo hi among ts r blocks =
     })
   where
     w : World
-    w = history es (begin plan draw rows)
+    w = history es (begin plan draw rows states)

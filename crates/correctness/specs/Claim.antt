@@ -20,18 +20,19 @@ use Rattle.collect.specs.Collect.{maskA, maskB, collectAnswer}
 use Rattle.multiply.specs.Multiply.{multiplyAnswer}
 use Rattle.runs.specs.Draws.{Plan, Draw, IsDraw, Sound, planShape}
 use Rattle.runs.specs.Calls.{Post, opening, Proper}
+use Rattle.runs.specs.Orders.{call}
 use Rattle.correctness.specs.History.{Event, history, answers, begin, Each}
 use Rattle.correctness.specs.Ledger.{Ledger, Written, Plain, MaskNumbers}
 use Rattle.correctness.specs.Truth.{OwnPart, TruePolynomial, TrueMask, TrueOf, EnoughTrue, TrueFinish}
 
--- The premises, on the calls of the posts S alone: sessions of one draw; the same deals, sums and masks; true polynomials in all
+-- The premises, on the calls that the orders of the posts S come to, and on no other post's: sessions of one draw; the same deals, sums and masks; true polynomials in all
 -- their finishes. Any other post may load, deal, send and finish what it likes.
-pub record Premises (plan : Plan) (draw : Draw) (L : Ledger) (S : ℕ → Type 0) (es : List Event) (rows : ℕ → List ℕ) : Type 0 where
+pub record Premises (plan : Plan) (draw : Draw) (L : Ledger) (S : ℕ → Type 0) (es : List Event) (rows states : ℕ → List ℕ) : Type 0 where
   pub sound : Sound plan
   pub is-draw : IsDraw plan draw
-  pub parts : Each S (λ e v. OwnPart plan draw (e .post) (e .call)) es (begin plan draw rows)
-  pub ledger : Each S (λ e v. Written draw L (e .call)) es (begin plan draw rows)
-  pub finishes : Each S (λ e v. TrueFinish S v (v .posts (e .post)) (e .call)) es (begin plan draw rows)
+  pub parts : Each S (λ i c v. OwnPart plan draw i c) es (begin plan draw rows states)
+  pub ledger : Each S (λ i c v. Written draw L c) es (begin plan draw rows states)
+  pub finishes : Each S (λ i c v. TrueFinish S v (v .posts i) c) es (begin plan draw rows states)
 
 -- How many polynomials a post accepts for a row, of all n posts.
 abbrev pub howMany : Session → List ℕ → List ℕ → ℕ
@@ -150,18 +151,18 @@ pub record Right (plan : Plan) (draw : Draw) (L : Ledger) (P : ℕ → ℕ → L
 -- stands in the run, and nothing is asked of it.
 abbrev pub Correct : Type 1
 Correct =
-    (plan : Plan) (draw : Draw) (L : Ledger) (S : ℕ → Type 0) (rows : ℕ → List ℕ) (es : List Event)
-    → Premises plan draw L S es rows → (i : ℕ) → 1 ≤ i → i ≤ plan .n → S i
-    → Right plan draw L (TruePolynomial S (history es (begin plan draw rows)))
-    (TrueMask S (history es (begin plan draw rows)) (planShape plan)) (history es (begin plan draw rows) .posts i)
+    (plan : Plan) (draw : Draw) (L : Ledger) (S : ℕ → Type 0) (rows states : ℕ → List ℕ) (es : List Event)
+    → Premises plan draw L S es rows states → (i : ℕ) → 1 ≤ i → i ≤ plan .n → S i
+    → Right plan draw L (TruePolynomial S (history es (begin plan draw rows states)))
+    (TrueMask S (history es (begin plan draw rows states)) (planShape plan)) (history es (begin plan draw rows states) .posts i)
 
 -- "before it": the answer of an opening that stands in a run, with premises on the calls before it, whatever is done behind it.
 -- (The answer at its place in the list of answers; `none` would be that of a place beyond the list.)
 abbrev pub OpeningsAnswered : Type 1
 OpeningsAnswered =
-    (plan : Plan) (draw : Draw) (L : Ledger) (S : ℕ → Type 0) (rows : ℕ → List ℕ) (before behind : List Event) (i r : ℕ) (blocks : List ℕ)
-    (none : Answer) → Premises plan draw L S before rows → 1 ≤ i → i ≤ plan .n → S i
-    → mark (history before (begin plan draw rows) .posts i .session) r ≡ held
-    → Proper (history before (begin plan draw rows) .posts i .session) blocks
-    → Answered L (TruePolynomial S (history before (begin plan draw rows)) r) (history before (begin plan draw rows) .posts i) r blocks
-    (getD (answers (before ++ (record { post = i; call = opening r blocks } ∷ behind)) (begin plan draw rows)) (length before) none)
+    (plan : Plan) (draw : Draw) (L : Ledger) (S : ℕ → Type 0) (rows states : ℕ → List ℕ) (before behind : List Event) (i r : ℕ) (blocks : List ℕ)
+    (none : Answer) → Premises plan draw L S before rows states → 1 ≤ i → i ≤ plan .n → S i
+    → mark (history before (begin plan draw rows states) .posts i .session) r ≡ held
+    → Proper (history before (begin plan draw rows states) .posts i .session) blocks
+    → Answered L (TruePolynomial S (history before (begin plan draw rows states)) r) (history before (begin plan draw rows states) .posts i) r blocks
+    (getD (answers (before ++ (record { post = i; order = call (opening r blocks) } ∷ behind)) (begin plan draw rows states)) (length before) none)

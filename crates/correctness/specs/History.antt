@@ -1,4 +1,5 @@
--- Demand 2 over whole runs: posts that make their own calls, with any lists in them, refused or not, each in its own order.
+-- Demand 2 over whole runs: posts that carry out orders of their own (calls on a session, lines placed, turns), with any lists in them,
+-- refused or not, each in its own order of time.
 use Prim.Native.Nat.{ℕ}
 use mathlib.Core.Path.{_≡_}
 use mathlib.Core.Bool.{cond}
@@ -6,56 +7,66 @@ use mathlib.Core.List.{List, [], _∷_, _++_}
 use lib.Dec.{eqb}
 use Rattle.session.specs.declared.Answer.{Answer}
 use Rattle.runs.specs.Draws.{Plan, Draw}
-use Rattle.runs.specs.Calls.{Post, Call, Performed, perform, after, broadcast, newPost, at}
+use Rattle.runs.specs.Calls.{Post, Call, after, newPost, at}
+use Rattle.runs.specs.Orders.{Order, Desk, Carried, carry, deskAfter, comesTo, Asked, sentOn}
 
--- A post makes a call. What happens at a station is one list of such events, in the order of time.
+-- A post carries out an order. What happens at a station is one list of such events, in the order of time.
 pub record Event : Type 0 where
   pub post : ℕ
-  pub call : Call
+  pub order : Order
 
--- All posts, and the lines that each has broadcast so far.
+-- All posts, the state that each is lent, and the lines that each has broadcast so far.
 pub record World : Type 0 where
   pub posts : ℕ → Post
+  pub states : ℕ → List ℕ
   pub lines : ℕ → List (List ℕ)
 
-abbrev pub doneBy : Event → World → Performed
-doneBy e w = perform (e .call) (w .posts (e .post))
+abbrev pub desk : World → ℕ → Desk
+desk w i = record { post = w .posts i; state = w .states i }
 
-abbrev pub turn : Event → World → World
-turn e w =
+abbrev pub doneBy : Event → World → Carried
+doneBy e w = carry (e .order) (desk w (e .post))
+
+abbrev pub answerOf : Event → World → Answer
+answerOf e w = doneBy e w .done .answer
+
+abbrev pub step : Event → World → World
+step e w =
     record {
-      posts = at (w .posts) (e .post) (after (doneBy e w));
-      lines = at (w .lines) (e .post) (w .lines (e .post) ++ broadcast (e .post) (e .call) (doneBy e w));
+      posts = at (w .posts) (e .post) (after (doneBy e w .done));
+      states = at (w .states) (e .post) (doneBy e w .state);
+      lines = at (w .lines) (e .post) (w .lines (e .post) ++ sentOn (e .post) (e .order) (doneBy e w));
     }
 
 abbrev pub history : List Event → World → World
 history [] w = w
-history (e ∷ es) w = history es (turn e w)
+history (e ∷ es) w = history es (step e w)
 
--- What the calls answer, in the order of time.
+-- What the orders answer, in the order of time.
 abbrev pub answers : List Event → World → List Answer
 answers [] w = []
-answers (e ∷ es) w = doneBy e w .answer ∷ answers es (turn e w)
+answers (e ∷ es) w = answerOf e w ∷ answers es (step e w)
 
--- New sessions of one draw, with any numbers in the posts' lists of rows.
-abbrev pub begin : Plan → Draw → (ℕ → List ℕ) → World
-begin plan draw rows = record { posts = λ i. newPost plan draw (rows i) i; lines = λ i. [] }
+-- New sessions of one draw, with any numbers in the posts' lists of rows and any bytes in their lent states, in any number.
+abbrev pub begin : Plan → Draw → (rows states : ℕ → List ℕ) → World
+begin plan draw rows states = record { posts = λ i. newPost plan draw (rows i) i; states = states; lines = λ i. [] }
 
--- P holds of each call of the posts S that is not refused, when it is made.
-abbrev pub Each : (ℕ → Type 0) → (Event → World → Type 0) → List Event → World → Type 0
+-- P holds of each call that an order of the posts S comes to and that is not refused, when it is made: of the post, the call and the world.
+abbrev pub Each : (ℕ → Type 0) → (ℕ → Call → World → Type 0) → List Event → World → Type 0
 Each S P [] w = Unit {0}
-Each S P (e ∷ es) w = (S (e .post) → doneBy e w .answer .refusal ≡ 0 → P e w) × Each S P es (turn e w)
+Each S P (e ∷ es) w =
+    (S (e .post) → answerOf e w .refusal ≡ 0 → Asked (λ c. P (e .post) c w) (comesTo (e .order) (desk w (e .post)))) × Each S P es (step e w)
 
--- The calls of post i, in its own order; and a post after calls.
-abbrev pub callsOf : ℕ → List Event → List Call
-callsOf i [] = []
-callsOf i (e ∷ es) = cond (eqb i (e .post)) (e .call ∷ callsOf i es) (callsOf i es)
+-- The orders of post i, in its own order of time; and a post after orders.
+abbrev pub ordersOf : ℕ → List Event → List Order
+ordersOf i [] = []
+ordersOf i (e ∷ es) = cond (eqb i (e .post)) (e .order ∷ ordersOf i es) (ordersOf i es)
 
-abbrev pub afterCalls : List Call → Post → Post
-afterCalls [] q = q
-afterCalls (c ∷ cs) q = afterCalls cs (after (perform c q))
+abbrev pub afterOrders : List Order → Desk → Desk
+afterOrders [] q = q
+afterOrders (o ∷ os) q = afterOrders os (deskAfter (carry o q))
 
--- "each call gets the session and rows that the one before handed back": a post is where its own calls bring it, and the order
--- between posts counts only for what was sent by then.
+-- "each call gets the session and rows that the one before handed back", and the state: a post is where its own orders bring it, and the
+-- order between posts counts only for what was sent by then.
 abbrev pub OwnList : Type 0
-OwnList = (i : ℕ) (es : List Event) (w : World) → history es w .posts i ≡ afterCalls (callsOf i es) (w .posts i)
+OwnList = (i : ℕ) (es : List Event) (w : World) → desk (history es w) i ≡ afterOrders (ordersOf i es) (desk w i)

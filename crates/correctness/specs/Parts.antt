@@ -7,7 +7,6 @@ use mathlib.Core.List.{List}
 use lib.ListN.{length, take, drop, getD}
 use Rattle.poly.specs.Counting.{Elements}
 use Rattle.shape.specs.Marks.{held, masked}
-use Rattle.shape.specs.declared.Points.{Points}
 use Rattle.shape.specs.Bounds.{mostPoints}
 use Rattle.shape.specs.Lengths.{vLength}
 use Rattle.session.specs.declared.Session.{Session}
@@ -64,25 +63,25 @@ withPoints points draw = record { points = points; raws = draw .raws; triples = 
 -- is the post's part of X, and truth is P.
 abbrev pub OneVector : Plan → Draw → Ledger → (m r : ℕ) → (Session → List ℕ → List ℕ) → ((ℕ → Type 0) → World → ℕ → List ℕ → Type 0) → Vector → Type 1
 OneVector plan draw L m r row P X =
-    (points : List ℕ) (S : ℕ → Type 0) (rows : ℕ → List ℕ) (es : List Event)
-    → Premises plan (withPoints points draw) L S es rows → (i : ℕ) → 1 ≤ i → i ≤ plan .n → S i
-    → (let w = history es (begin plan (withPoints points draw) rows) in let q = w .posts i in
+    (points : List ℕ) (S : ℕ → Type 0) (rows states : ℕ → List ℕ) (es : List Event)
+    → Premises plan (withPoints points draw) L S es rows states → (i : ℕ) → 1 ≤ i → i ≤ plan .n → S i
+    → (let w = history es (begin plan (withPoints points draw) rows states) in let q = w .posts i in
     mark (q .session) r ≡ m → PartOf (P S w) (q .session) (row (q .session) (q .rows)) X)
 
 -- Of a row that is held in a run: one vector for all posts and for all points that they might have. Its number is the plain number.
 abbrev pub HeldParts : Type 1
 HeldParts =
-    (plan : Plan) (draw : Draw) (L : Ledger) (S : ℕ → Type 0) (rows : ℕ → List ℕ) (es : List Event)
-    → Premises plan draw L S es rows → (i r : ℕ) → 1 ≤ i → i ≤ plan .n → S i
-    → mark (history es (begin plan draw rows) .posts i .session) r ≡ held
+    (plan : Plan) (draw : Draw) (L : Ledger) (S : ℕ → Type 0) (rows states : ℕ → List ℕ) (es : List Event)
+    → Premises plan draw L S es rows states → (i r : ℕ) → 1 ≤ i → i ≤ plan .n → S i
+    → mark (history es (begin plan draw rows states) .posts i .session) r ≡ held
     → (X : Vector) × Plain L r (number X .0) × OneVector plan draw L held r (λ s rows. rowAt (width s) rows r) (λ S w. TruePolynomial S w r) X
 
 -- So of a − l and of b − l', for a triple whose masks were made: their numbers are y and y'.
 abbrev pub MaskParts : Type 1
 MaskParts =
-    (plan : Plan) (draw : Draw) (L : Ledger) (S : ℕ → Type 0) (rows : ℕ → List ℕ) (es : List Event)
-    → Premises plan draw L S es rows → (i r : ℕ) → 1 ≤ i → i ≤ plan .n → S i
-    → mark (history es (begin plan draw rows) .posts i .session) r ≡ masked
+    (plan : Plan) (draw : Draw) (L : Ledger) (S : ℕ → Type 0) (rows states : ℕ → List ℕ) (es : List Event)
+    → Premises plan draw L S es rows states → (i r : ℕ) → 1 ≤ i → i ≤ plan .n → S i
+    → mark (history es (begin plan draw rows states) .posts i .session) r ≡ masked
     → (X : Vector) × (Y : Vector) × MaskNumbers plan draw L r (number X .0) (number Y .0)
     × OneVector plan draw L masked r (λ s rows. maskA s rows r) (λ S w. TrueMask S w (planShape plan) (take (vLength (planShape plan))) r) X
     × OneVector plan draw L masked r (λ s rows. maskB s rows r) (λ S w. TrueMask S w (planShape plan) (drop (vLength (planShape plan))) r) Y

@@ -22,7 +22,8 @@ use Rattle.relation.specs.Finish.{recordA, recordB, termMaskA, termMaskB, relat
 use Rattle.runs.specs.Draws.{Plan, Draw, planShape}
 use Rattle.runs.specs.Outline.{summand}
 use Rattle.runs.specs.Calls.{Post, relationFinish, Proper}
-use Rattle.correctness.specs.History.{Event, World, doneBy, history, begin}
+use Rattle.runs.specs.Orders.{call}
+use Rattle.correctness.specs.History.{Event, World, answerOf, history, begin}
 use Rattle.correctness.specs.Ledger.{Ledger, summed, product, Plain}
 use Rattle.correctness.specs.Truth.{TruePolynomial, TrueMask, TrueOf, EnoughTrue}
 use Rattle.correctness.specs.Claim as Claim
@@ -75,11 +76,11 @@ ShownAt S w r number ts j =
 -- A finish of the relation, not refused at the post i of S, stands somewhere in a run: the row is held at that post from then on.
 abbrev pub RelationShown : Type 1
 RelationShown =
-    (plan : Plan) (draw : Draw) (L : Ledger) (S : ℕ → Type 0) (rows : ℕ → List ℕ) (before behind : List Event) (i r : ℕ) (ts : List Term)
+    (plan : Plan) (draw : Draw) (L : Ledger) (S : ℕ → Type 0) (rows states : ℕ → List ℕ) (before behind : List Event) (i r : ℕ) (ts : List Term)
     (records : List ℕ)
-    → (let e : Event = record { post = i; call = relationFinish ts r records } in
-    let w = begin plan draw rows in
-    Premises plan draw L S (before ++ (e ∷ behind)) rows → 1 ≤ i → i ≤ plan .n → S i → doneBy e (history before w) .answer .refusal ≡ 0
+    → (let e : Event = record { post = i; order = call (relationFinish ts r records) } in
+    let w = begin plan draw rows states in
+    Premises plan draw L S (before ++ (e ∷ behind)) rows states → 1 ≤ i → i ≤ plan .n → S i → answerOf e (history before w) .refusal ≡ 0
     → RelationIn L r ts
     × (mark (history (before ++ (e ∷ behind)) w .posts i .session) r ≡ held)
     × ((number : ℕ → ℕ) → Named L number ts → (j : ℕ) → 1 ≤ j → j ≤ plan .n → S j
@@ -160,8 +161,8 @@ pub record Related (plan : Plan) (draw : Draw) (L : Ledger) (H : (List ℕ → L
 
 abbrev pub RelationsFinish : Type 1
 RelationsFinish =
-    (plan : Plan) (draw : Draw) (L : Ledger) (S : ℕ → Type 0) (rows : ℕ → List ℕ) (es : List Event)
-    → Premises plan draw L S es rows → (i : ℕ) → 1 ≤ i → i ≤ plan .n → S i → (ts : List Term) (r : ℕ) (blocks : List ℕ)
-    → (let w = history es (begin plan draw rows) in let q = w .posts i in
+    (plan : Plan) (draw : Draw) (L : Ledger) (S : ℕ → Type 0) (rows states : ℕ → List ℕ) (es : List Event)
+    → Premises plan draw L S es rows states → (i : ℕ) → 1 ≤ i → i ≤ plan .n → S i → (ts : List Term) (r : ℕ) (blocks : List ℕ)
+    → (let w = history es (begin plan draw rows states) in let q = w .posts i in
     Ready q ts r blocks
     → Related plan draw L (TrueMask S w (planShape plan)) q ts blocks (relationFinishAnswer (q .session) (q .rows) (collected ts) r blocks))

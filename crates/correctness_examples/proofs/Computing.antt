@@ -37,21 +37,26 @@ use Rattle.terms.specs.Listed.{productsOf, padded}
 use Rattle.relation.specs.Tests.{eachAt, namedIn, namedTwice}
 use Rattle.relation.specs.Masks.{relationMasksRefusal, maskedTerms, termMasks}
 use Rattle.relation.specs.Finish.{recordTests, relationFinishRefusal, withProducts, plusTerms, finishedTerms}
-use Rattle.csv.specs.Fields.{fields}
-use Rattle.decimal.specs.Numeral.{lastDigits, sizeWithin}
+use Rattle.csv.specs.Fields.{fields, fieldsAt}
+use Rattle.decimal.specs.Numeral.{lastDigits, sizeWithin, leading, valueAfter, fieldOf}
+use Rattle.forms.specs.Forms.{formOf}
+use Rattle.dealers.specs.State.{overlong, badState, firstAfter, chosen, lineIn}
+use Rattle.dealers.specs.Calls.{placeRefusal, countRefusal, takenRefusal, saidRow, saidNumber, whose}
 use Rattle.runs.specs.Draws.{Draw, IsRaw, Sound, IsDraw, rawLength, tripleLength, pointOf, rawDraw, tripleDraw, rawPack, triplePack}
 use Rattle.runs.specs.Outline.{Taking, nothingTaken, aRowPack, aTriplePack, aNumber, aRecord, twoRecords, takes, Given, Move, moves}
-use Rattle.runs.specs.Calls.{Post, Actual, perform, newPost, at}
+use Rattle.runs.specs.Calls.{Post, Actual, Call, deal, perform, newPost, at}
+use Rattle.runs.specs.Orders as Orders
+use Rattle.runs.specs.Orders.{Order, place, turn, Desk, carry, noCall, aCall, saidCall, turnCall, comesTo}
 use Rattle.runs.proofs.Outlines.{all-every}
 use Rattle.factory.proofs.Laws.{passes-elements}
-use Rattle.correctness.specs.History.{Event, World, turn, history, Each}
+use Rattle.correctness.specs.History.{Event, World, desk, step, history, Each}
 use Rattle.correctness.specs.Ledger.{sum, product, Written, Plain, of-deal, of-row, of-times, of-fee, of-more, of-product}
 use Rattle.correctness.specs.Truth.{OwnPart, EnoughTrue, TrueWith, TrueFinish}
 use Rattle.correctness_examples.specs.Station.{plan, drawWith, ledger, Everyone}
 
 -- `refl` proves it where `unfolding Computes` opens the calls' definitions
 unfoldable pub Computes : {A : Type 0} → A → A → Type 0
-unfolding Arithmetic.sum Arithmetic.product Arithmetic.difference Arithmetic.euclid Arithmetic.inverse value countFrom nodal weight terms interpolated outcome anyBeyond eachFrom part dealerRefusal combined plusSums created badPoints loadRowRefusal loadTripleRefusal withTriple dealRefusal linearRefusal messageRefusal Blocks.badBlock Blocks.badBlocks Blocks.sent Accepting.accepts Accepting.share Accepting.passing Accepting.walk Accepting.opened Accepting.disagree allPairs openRefusal masksRefusal maskNumbersOf collectRefusal multiplyRefusal productRow withProduct productsOf padded eachAt namedIn namedTwice relationMasksRefusal maskedTerms termMasks recordTests relationFinishRefusal withProducts plusTerms finishedTerms fields lastDigits sizeWithin pointOf rawDraw tripleDraw rawPack triplePack perform newPost at shared
+unfolding Arithmetic.sum Arithmetic.product Arithmetic.difference Arithmetic.euclid Arithmetic.inverse value countFrom nodal weight terms interpolated outcome anyBeyond eachFrom part dealerRefusal combined plusSums created badPoints loadRowRefusal loadTripleRefusal withTriple dealRefusal linearRefusal messageRefusal Blocks.badBlock Blocks.badBlocks Blocks.sent Accepting.accepts Accepting.share Accepting.passing Accepting.walk Accepting.opened Accepting.disagree allPairs openRefusal masksRefusal maskNumbersOf collectRefusal multiplyRefusal productRow withProduct productsOf padded eachAt namedIn namedTwice relationMasksRefusal maskedTerms termMasks recordTests relationFinishRefusal withProducts plusTerms finishedTerms fields lastDigits sizeWithin pointOf rawDraw tripleDraw rawPack triplePack perform newPost at shared leading valueAfter fieldOf fieldsAt formOf carry turnCall overlong badState firstAfter chosen placeRefusal countRefusal takenRefusal
 Computes x y = x ≡ y
 
 -- ---- plan, draws and ledger
@@ -116,23 +121,53 @@ two-true j k t ne a b =
 -- the premises with truth by all posts, each asked of posts of its own: A load their own parts, B keep to the ledger, C finish truly
 pub record Asked (draw : Draw) (A B C : ℕ → Type 0) (es : List Event) (w : World) : Type 0 where
   pub is-draw : IsDraw plan draw
-  pub parts : Each A (λ e v. OwnPart plan draw (e .post) (e .call)) es w
-  pub ledger : Each B (λ e v. Written draw ledger (e .call)) es w
-  pub finishes : Each C (λ e v. TrueFinish Everyone v (v .posts (e .post)) (e .call)) es w
+  pub parts : Each A (λ i c v. OwnPart plan draw i c) es w
+  pub ledger : Each B (λ i c v. Written draw ledger c) es w
+  pub finishes : Each C (λ i c v. TrueFinish Everyone v (v .posts i) c) es w
 
 pub all-join : (P : Event → Type 0) (xs ys : List Event) → All P xs → All P ys → All P (xs ++ ys)
 all-join P [] ys a b = b
 all-join P (x ∷ xs) ys a b = (a .0, all-join P xs ys (a .1) b)
 
-module _ (S : ℕ → Type 0) where
-  pub each-join : (P : Event → World → Type 0) (xs ys : List Event) (w : World) → Each S P xs w → Each S P ys (history xs w) → Each S P (xs ++ ys) w
-  each-join P [] ys w a b = b
-  each-join P (x ∷ xs) ys w a b = (a .0, each-join P xs ys (turn x w) (a .1) b)
+-- what is asked of the call that a turn comes to, which is a deal if it is one
+turn-deals : (P : Call → Type 0) → ((r c : ℕ) → P (deal r c)) → (s : Session) (rows state : List ℕ) → Orders.Asked P (turnCall s rows state)
+unfolding turnCall outcome
+turn-deals P h s rows state = by-count (countRefusal s rows state)
+  where
+    by-line : (line : List ℕ) (t : ℕ) → Orders.Asked P (outcome t (aCall (deal (saidRow line) (saidNumber line))) noCall)
+    by-line line zero = h (saidRow line) (saidNumber line)
+    by-line line (suc k) = tt
 
-  -- what holds of all events, whatever the posts are then
-  pub each-of : (P : Event → Type 0) (es : List Event) (w : World) → All P es → Each S (λ e v. P e) es w
+    by-dealer : (d : ℕ) → Orders.Asked P (whose d noCall (λ x. saidCall (lineIn state x)))
+    by-dealer zero = tt
+    by-dealer (suc d) = by-line (lineIn state (suc d)) (takenRefusal (lineIn state (suc d)))
+
+    by-count : (k : ℕ) → Orders.Asked P (outcome k (whose (chosen state) noCall (λ x. saidCall (lineIn state x))) noCall)
+    by-count zero = by-dealer (chosen state)
+    by-count (suc k) = tt
+
+-- what holds of an event's call, whatever the posts are then; of a turn, of every deal
+abbrev ofOrder : (ℕ → Call → Type 0) → ℕ → Order → Type 0
+ofOrder P i (Orders.call c) = P i c
+ofOrder P i (place d line) = Unit {0}
+ofOrder P i turn = (r c : ℕ) → P i (deal r c)
+
+abbrev pub Of : (ℕ → Call → Type 0) → Event → Type 0
+Of P e = ofOrder P (e .post) (e .order)
+
+module _ (S : ℕ → Type 0) where
+  pub each-join : (P : ℕ → Call → World → Type 0) (xs ys : List Event) (w : World) → Each S P xs w → Each S P ys (history xs w) → Each S P (xs ++ ys) w
+  each-join P [] ys w a b = b
+  each-join P (x ∷ xs) ys w a b = (a .0, each-join P xs ys (step x w) (a .1) b)
+
+  asks : (P : ℕ → Call → Type 0) (i : ℕ) (o : Order) (q : Desk) → ofOrder P i o → Orders.Asked (P i) (comesTo o q)
+  asks P i (Orders.call c) q h = h
+  asks P i (place d line) q h = tt
+  asks P i turn q h = turn-deals (P i) h (q .post .session) (q .post .rows) (q .state)
+
+  pub each-of : (P : ℕ → Call → Type 0) (es : List Event) (w : World) → All (Of P) es → Each S (λ i c v. P i c) es w
   each-of P [] w a = tt
-  each-of P (e ∷ es) w a = ((λ m z. a .0), each-of P es (turn e w) (a .1))
+  each-of P (e ∷ es) w a = ((λ m z. asks P (e .post) (e .order) (desk w (e .post)) (a .0)), each-of P es (step e w) (a .1))
 
 -- no records of masks among what the events' calls are given
 abbrev QuietWith : Taking → Type 0 → Type 0
@@ -147,9 +182,14 @@ abbrev QuietThen : List (Move Actual) → Type 0 → Type 0
 QuietThen [] A = A
 QuietThen (m ∷ ms) A = QuietWith (takes (m .0)) (QuietThen ms A)
 
+abbrev quietOrder : Order → Type 0 → Type 0
+quietOrder (Orders.call c) A = QuietThen (moves c) A
+quietOrder (place d line) A = A
+quietOrder turn A = A
+
 abbrev pub Quiet : List Event → Type 0
 Quiet [] = Unit {0}
-Quiet (e ∷ es) = QuietThen (moves (e .call)) (Quiet es)
+Quiet (e ∷ es) = quietOrder (e .order) (Quiet es)
 
 module _ (S : ℕ → Type 0) (w : World) (q : Post) where
   quiet-with : (A : Type 0) (t : Taking) (x : Given Actual t) → QuietWith t A → TrueWith S w q t x × A
@@ -167,10 +207,15 @@ module _ (S : ℕ → Type 0) (w : World) (q : Post) where
       let k = quiet-call A ms (h .1) in
       ((h .0, k .0), k .1)
 
--- of calls of the posts S, with truth by the posts T
+  quiet-order : (A : Type 0) (o : Order) (state : List ℕ) → quietOrder o A → Orders.Asked (TrueFinish S w q) (comesTo o (record { post = q; state = state })) × A
+  quiet-order A (Orders.call c) state a = let k = quiet-call A (moves c) a in (all-every _ (moves c) (k .0), k .1)
+  quiet-order A (place d line) state a = (tt, a)
+  quiet-order A turn state a = (turn-deals (TrueFinish S w q) (λ r c. tt) (q .session) (q .rows) state, a)
+
+-- of orders of the posts S, with truth by the posts T
 pub each-quiet : (S T : ℕ → Type 0) (es : List Event) (w : World) → Quiet es
-    → Each S (λ e v. TrueFinish T v (v .posts (e .post)) (e .call)) es w
+    → Each S (λ i c v. TrueFinish T v (v .posts i) c) es w
 each-quiet S T [] w h = tt
 each-quiet S T (e ∷ es) w h =
-    let k = quiet-call T w (w .posts (e .post)) (Quiet es) (moves (e .call)) h in
-    ((λ m z. all-every _ (moves (e .call)) (k .0)), each-quiet S T es (turn e w) (k .1))
+    let k = quiet-order T w (w .posts (e .post)) (Quiet es) (e .order) (w .states (e .post)) h in
+    ((λ m z. k .0), each-quiet S T es (step e w) (k .1))

@@ -8,8 +8,8 @@ use Rattle.opening.specs.Opening.{openAnswer}
 use Rattle.correctness.specs.Ledger.{Plain}
 use Rattle.correctness.specs.Claim.{Premises}
 use Rattle.correctness.proofs.Theorems.{correct}
-use Rattle.correctness_examples.specs.Station.{plan, drawWith, ledger, Everyone, zeros}
-use Rattle.correctness_examples.specs.Orders.{drawn, draw, loads, deals, sums, new}
+use Rattle.correctness_examples.specs.Station.{plan, drawWith, ledger, Everyone, zeros, states}
+use Rattle.correctness_examples.specs.Run.{drawn, draw, loads, deals, sums, new}
 use Rattle.correctness_examples.specs.Fees.{starts, sends}
 use Rattle.correctness_examples.specs.Contradicted.{dealing, opener, false-low, sent-both, refusalWith, Contradicted, ContradictedCollect, ContradictedFinish}
 use Rattle.correctness_examples.proofs.Computing.{Computes, sound, two-true, each-quiet}
@@ -34,7 +34,7 @@ pub contradicted-finish : ContradictedFinish
 unfolding Computes plan drawWith drawn draw starts sends
 contradicted-finish = record { refused-a = refl; refused-b = refl; not-refused = refl }
 
-premises : Premises plan draw ledger Everyone dealing zeros
+premises : Premises plan draw ledger Everyone dealing zeros states
 unfolding plan dealing ledger
 premises = record {
   sound = sound;
@@ -61,7 +61,7 @@ by-theorem : ((refusalWith false-low ≡ 0) × Plain ledger 0 (openAnswer (opene
     ⊎ (refusalWith false-low ≡ 13)
 unfolding Computes plan drawWith drawn draw dealing
 by-theorem =
-    correct plan draw ledger Everyone zeros dealing premises 1 (lit≤ tt) (lit≤ tt) tt .opens 0 false-low refl
+    correct plan draw ledger Everyone zeros states dealing premises 1 (lit≤ tt) (lit≤ tt) tt .opens 0 false-low refl
     (record { long = refl; low = refl }) .agreed
     (two-true 1 3 refl (omega arith) (lit≤ tt, lit≤ tt, refl, λ ne. absurd (ne refl)) (lit≤ tt, lit≤ tt, refl, λ ne. (tt, inl (inl refl))))
 
@@ -69,13 +69,13 @@ by-theorem =
 off-by-theorem : refusalWith false-low ≡ 13
 unfolding Computes plan drawWith drawn draw dealing
 off-by-theorem =
-    correct plan draw ledger Everyone zeros dealing premises 1 (lit≤ tt) (lit≤ tt) tt .opens 0 false-low refl
+    correct plan draw ledger Everyone zeros states dealing premises 1 (lit≤ tt) (lit≤ tt) tt .opens 0 false-low refl
     (record { long = refl; low = refl }) .thirteen (lit≤ tt) .0 refl
 
 -- and where all are true, it is the plain number
 sent-by-theorem : (refusalWith sent-both ≡ 0) × Plain ledger 0 (openAnswer (opener .session) (opener .rows) 0 sent-both .value)
 unfolding Computes plan drawWith drawn draw dealing
 sent-by-theorem =
-    correct plan draw ledger Everyone zeros dealing premises 1 (lit≤ tt) (lit≤ tt) tt .opens 0 sent-both refl
+    correct plan draw ledger Everyone zeros states dealing premises 1 (lit≤ tt) (lit≤ tt) tt .opens 0 sent-both refl
     (record { long = refl; low = refl }) .exact (lit≤ tt)
     ((λ ne. absurd (ne refl)), ((λ ne. (tt, inl (inl refl))), ((λ ne. (tt, inl (inl refl))), tt)))

@@ -21,9 +21,9 @@ use Rattle.correctness.specs.Truth.{OwnPart, TrueFinish}
 use Rattle.correctness.specs.Claim.{Premises}
 use Rattle.correctness.proofs.Meanings.{one-number}
 use Rattle.correctness.proofs.Theorems.{correct}
-use Rattle.correctness_examples.specs.Station.{plan, drawWith, ledger, call, zeros, refusals, Everyone}
-use Rattle.correctness_examples.specs.Orders.{drawn, draw, loads, deals, sums, ends, before, events, new, lie, last, true-record}
-use Rattle.correctness_examples.proofs.Computing.{Computes, sound, is-draw, plain-42, two-true, all-join, each-join, each-of, each-quiet}
+use Rattle.correctness_examples.specs.Station.{plan, drawWith, ledger, zeros, refusals, Everyone, states}
+use Rattle.correctness_examples.specs.Run.{drawn, draw, loads, deals, sums, ends, before, events, new, lie, last, true-record}
+use Rattle.correctness_examples.proofs.Computing.{Computes, sound, is-draw, plain-42, two-true, all-join, each-join, each-of, each-quiet, Of}
 
 pub draw-is : IsDraw plan draw
 unfolding Computes drawn draw
@@ -40,19 +40,19 @@ module _ (P : Event → Type 0) where
   together : All P loads → All P deals → All P sums → All P ends → All P events
   together a b c d = all-join P before ends (all-join P loads (deals ++ sums) a (all-join P deals sums b c)) d
 
-own-parts : All (λ e. OwnPart plan draw (e .post) (e .call)) events
+own-parts : All (Of (OwnPart plan draw)) events
 unfolding plan loads deals sums ends
 own-parts =
-    together (λ e. OwnPart plan draw (e .post) (e .call))
+    together (Of (OwnPart plan draw))
     ((tt, refl), ((tt, refl), ((refl, refl), ((refl, refl), ((tt, refl), ((tt, refl), ((tt, refl), ((tt, refl), ((refl, refl), tt)))))))))
     (tt, (tt, (tt, (tt, (tt, (tt, (tt, tt)))))))
     (tt, (tt, (tt, (tt, (tt, (tt, tt))))))
     (tt, (tt, (tt, (tt, (tt, (tt, tt))))))
 
-all-written : All (λ e. Written draw ledger (e .call)) events
+all-written : All (Of (λ i. Written draw ledger)) events
 unfolding loads deals sums ends ledger
 all-written =
-    together (λ e. Written draw ledger (e .call))
+    together (Of (λ i. Written draw ledger))
     (tt, (tt, (tt, (tt, (tt, (tt, (tt, (tt, (tt, tt)))))))))
     (six, (six, (seven, (seven, (six, (six, (seven, tt)))))))
     (refl, (tt, (refl, (refl, (refl, (refl, tt))))))
@@ -71,7 +71,7 @@ m1 = 2147483643 ∷ 1 ∷ 1 ∷ 0 ∷ []
 m3 : List ℕ
 m3 = 4 ∷ 2147483646 ∷ 2 ∷ 0 ∷ []
 
-true-ends : Each Everyone (λ e v. TrueFinish Everyone v (v .posts (e .post)) (e .call)) ends (history before new)
+true-ends : Each Everyone (λ i c v. TrueFinish Everyone v (v .posts i) c) ends (history before new)
 unfolding Computes plan drawWith drawn draw loads deals sums ends m1 m3
 true-ends = (
   (λ m z. let y : _≡_ {A = ℕ} 9 0 = z in absurd (omega arith)),
@@ -90,15 +90,15 @@ true-ends = (
   ),
 )
 
-pub premises : Premises plan draw ledger Everyone events zeros
+pub premises : Premises plan draw ledger Everyone events zeros states
 unfolding Computes plan drawn draw loads deals sums ends
 premises = record {
   sound = sound;
   is-draw = draw-is;
-  parts = each-of Everyone (λ e. OwnPart plan draw (e .post) (e .call)) events new own-parts;
-  ledger = each-of Everyone (λ e. Written draw ledger (e .call)) events new all-written;
+  parts = each-of Everyone (OwnPart plan draw) events new own-parts;
+  ledger = each-of Everyone (λ i. Written draw ledger) events new all-written;
   finishes =
-      each-join Everyone (λ e v. TrueFinish Everyone v (v .posts (e .post)) (e .call)) before ends new (each-quiet Everyone Everyone before new tt) true-ends;
+      each-join Everyone (λ i c v. TrueFinish Everyone v (v .posts i) c) before ends new (each-quiet Everyone Everyone before new tt) true-ends;
 }
 
 -- ---- what it shows
@@ -116,7 +116,7 @@ opens-42 = refl
 by-theorem : Plain ledger 4 (openAnswer (last .session) (last .rows) 4 true-record .value)
 unfolding Computes plan drawWith drawn draw loads deals sums ends
 by-theorem =
-    correct plan draw ledger Everyone zeros events premises 1 (lit≤ tt) (lit≤ tt) tt .opens 4 true-record refl
+    correct plan draw ledger Everyone zeros states events premises 1 (lit≤ tt) (lit≤ tt) tt .opens 4 true-record refl
     (record { long = refl; low = refl }) .exact (lit≤ tt) ((λ ne. absurd (ne refl)), ((λ ne. (tt, inl (inr (inl refl)))), tt)) .1
 
 is-42 : openAnswer (last .session) (last .rows) 4 true-record .value ≡ 42

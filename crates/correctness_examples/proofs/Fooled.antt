@@ -18,10 +18,10 @@ use Rattle.correctness.specs.Ledger.{Written, Plain}
 use Rattle.correctness.specs.Truth.{OwnPart, TruePolynomial, TrueFinish}
 use Rattle.correctness.specs.Claim.{Opens, Right}
 use Rattle.correctness.proofs.Meanings.{one-number}
-use Rattle.correctness_examples.specs.Station.{plan, drawWith, ledger, call, load, loadThree, dealOf, zeros, room, rooms, refusals, Everyone, AllBut}
-use Rattle.correctness_examples.proofs.Computing.{Computes, is-draw, plain-42, two-true, Asked, all-join, each-join, each-of, each-quiet}
-use Rattle.correctness_examples.specs.Orders as Example
-use Rattle.correctness_examples.specs.Orders.{last}
+use Rattle.correctness_examples.specs.Station.{plan, drawWith, ledger, call, load, loadThree, dealOf, zeros, room, rooms, refusals, Everyone, AllBut, states}
+use Rattle.correctness_examples.proofs.Computing.{Computes, is-draw, plain-42, two-true, Asked, all-join, each-join, each-of, each-quiet, Of}
+use Rattle.correctness_examples.specs.Run as Example
+use Rattle.correctness_examples.specs.Run.{last}
 
 -- ---- without truth in the opening
 
@@ -63,13 +63,13 @@ abbrev before : List Event
 before = loads ++ deals
 
 abbrev new : World
-new = begin plan draw zeros
+new = begin plan draw zeros states
 
 abbrev Own : Event → Type 0
-Own e = OwnPart plan draw (e .post) (e .call)
+Own e = Of (OwnPart plan draw) e
 
 abbrev Wrote : Event → Type 0
-Wrote e = Written draw ledger (e .call)
+Wrote e = Of (λ i. Written draw ledger) e
 
 own-parts : (ends : List Event) → All Own ends → All Own (before ++ ends)
 unfolding plan loads deals
@@ -88,15 +88,15 @@ all-written ends a =
 
 -- every premise, with truth in all posts' finishes but one's
 asked : (k : ℕ) (ends : List Event) → All Own ends → All Wrote ends
-    → Each (AllBut k) (λ e v. TrueFinish Everyone v (v .posts (e .post)) (e .call)) ends (history before new)
+    → Each (AllBut k) (λ i c v. TrueFinish Everyone v (v .posts i) c) ends (history before new)
     → Asked draw Everyone Everyone (AllBut k) (before ++ ends) new
 unfolding Computes plan drawn draw loads deals
 asked k ends a b c = record {
   is-draw = is-draw drawn refl (passes-elements drawn refl);
-  parts = each-of Everyone Own (before ++ ends) new (own-parts ends a);
-  ledger = each-of Everyone Wrote (before ++ ends) new (all-written ends b);
+  parts = each-of Everyone (OwnPart plan draw) (before ++ ends) new (own-parts ends a);
+  ledger = each-of Everyone (λ i. Written draw ledger) (before ++ ends) new (all-written ends b);
   finishes =
-      each-join (AllBut k) (λ e v. TrueFinish Everyone v (v .posts (e .post)) (e .call)) before ends new
+      each-join (AllBut k) (λ i c v. TrueFinish Everyone v (v .posts i) c) before ends new
       (each-quiet (AllBut k) Everyone before new tt) c;
 }
 

@@ -7,3 +7,4 @@ pub mod Unheard
 pub mod Contradicting
 pub mod Relating
 pub mod TwoPointed
+pub mod ByTurns

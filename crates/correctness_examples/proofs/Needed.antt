@@ -13,13 +13,13 @@ use Rattle.correctness.specs.Ledger.{Plain}
 use Rattle.correctness.specs.Truth.{TruePolynomial}
 use Rattle.correctness.specs.Claim.{Opens}
 use Rattle.correctness.proofs.Meanings.{one-number}
-use Rattle.correctness_examples.specs.Station.{plan, drawWith, ledger, call, load, dealOf, zeros, room, Everyone, AllBut}
+use Rattle.correctness_examples.specs.Station.{plan, drawWith, ledger, call, load, dealOf, zeros, room, Everyone, AllBut, states}
 use Rattle.correctness_examples.proofs.Computing.{Computes, plain-6, plain-18, Asked, each-quiet}
-use Rattle.correctness_examples.specs.Orders.{drawn, draw}
+use Rattle.correctness_examples.specs.Run.{drawn, draw}
 use Rattle.correctness_examples.proofs.Example.{draw-is}
 
 abbrev new : World
-new = begin plan draw zeros
+new = begin plan draw zeros states
 
 -- another number than the plain one
 not-it : (r x y z : ℕ) → x ≡ y → y ≢ z → Plain ledger r z → Plain ledger r x → ⊥

@@ -13,9 +13,9 @@ use Rattle.correctness.specs.Truth.{OwnPart, TrueFinish}
 use Rattle.correctness.specs.Claim.{Premises}
 use Rattle.correctness.proofs.Meanings.{one-number}
 use Rattle.correctness.proofs.Theorems.{correct}
-use Rattle.correctness_examples.specs.Station.{plan, drawWith, ledger, call, zeros, room, Everyone}
+use Rattle.correctness_examples.specs.Station.{plan, drawWith, ledger, call, zeros, room, Everyone, states}
 use Rattle.correctness_examples.proofs.Computing.{Computes, plain-42, each-join, each-of, each-quiet}
-use Rattle.correctness_examples.specs.Orders.{drawn, draw, loads, deals, sums, ends, events, new}
+use Rattle.correctness_examples.specs.Run.{drawn, draw, loads, deals, sums, ends, events, new}
 use Rattle.correctness_examples.proofs.Example.{premises}
 
 -- row 6 is row 0 plus twice row 4; row 8 is the charge, row 4 with a fee of 8
@@ -24,19 +24,19 @@ more =
     call 2 (linear 6 0 4 2 0) ∷ call 1 (linear 6 0 4 2 0) ∷ call 2 (message 6 1 room)
     ∷ call 1 (linear 8 4 4 0 8) ∷ call 2 (linear 8 4 4 0 8) ∷ call 2 (message 8 1 room) ∷ []
 
-longer : Premises plan draw ledger Everyone (events ++ more) zeros
+longer : Premises plan draw ledger Everyone (events ++ more) zeros states
 unfolding plan more ledger
 longer = record {
   sound = premises .sound;
   is-draw = premises .is-draw;
   parts =
-      each-join Everyone (λ e v. OwnPart plan draw (e .post) (e .call)) events more new (premises .parts)
-      (each-of Everyone (λ e. OwnPart plan draw (e .post) (e .call)) more (history events new) (tt, (tt, (tt, (tt, (tt, (tt, tt)))))));
+      each-join Everyone (λ i c v. OwnPart plan draw i c) events more new (premises .parts)
+      (each-of Everyone (OwnPart plan draw) more (history events new) (tt, (tt, (tt, (tt, (tt, (tt, tt)))))));
   ledger =
-      each-join Everyone (λ e v. Written draw ledger (e .call)) events more new (premises .ledger)
-      (each-of Everyone (λ e. Written draw ledger (e .call)) more (history events new) (refl, (refl, (tt, (refl, (refl, (tt, tt)))))));
+      each-join Everyone (λ i c v. Written draw ledger c) events more new (premises .ledger)
+      (each-of Everyone (λ i. Written draw ledger) more (history events new) (refl, (refl, (tt, (refl, (refl, (tt, tt)))))));
   finishes =
-      each-join Everyone (λ e v. TrueFinish Everyone v (v .posts (e .post)) (e .call)) events more new (premises .finishes)
+      each-join Everyone (λ i c v. TrueFinish Everyone v (v .posts i) c) events more new (premises .finishes)
       (each-quiet Everyone Everyone more (history events new) tt);
 }
 
@@ -53,7 +53,7 @@ number r blocks = openAnswer (last .session) (last .rows) r blocks .value
 by-theorem : Plain ledger 6 (number 6 (heard 79 39))
 unfolding Computes plan drawWith drawn draw loads deals sums ends more
 by-theorem =
-    correct plan draw ledger Everyone zeros (events ++ more) longer 1 (lit≤ tt) (lit≤ tt) tt .opens 6 (heard 79 39) refl
+    correct plan draw ledger Everyone zeros states (events ++ more) longer 1 (lit≤ tt) (lit≤ tt) tt .opens 6 (heard 79 39) refl
     (record { long = refl; low = refl }) .exact (lit≤ tt) ((λ ne. absurd (ne refl)), ((λ ne. (tt, inl (inr (inr (inl refl))))), tt)) .1
 
 -- 6 + 2 · 42, by the ledger alone
@@ -68,7 +68,7 @@ is-90 = one-number ledger 6 _ 90 by-theorem plain-90
 charged : Plain ledger 8 (number 8 (heard 38 19))
 unfolding Computes plan drawWith drawn draw loads deals sums ends more
 charged =
-    correct plan draw ledger Everyone zeros (events ++ more) longer 1 (lit≤ tt) (lit≤ tt) tt .opens 8 (heard 38 19) refl
+    correct plan draw ledger Everyone zeros states (events ++ more) longer 1 (lit≤ tt) (lit≤ tt) tt .opens 8 (heard 38 19) refl
     (record { long = refl; low = refl }) .exact (lit≤ tt) ((λ ne. absurd (ne refl)), ((λ ne. (tt, inl (inr (inr (inr (inl refl)))))), tt)) .1
 
 plain-50 : Plain ledger 8 50

@@ -13,16 +13,17 @@ use Rattle.factory.specs.Calls.{dealerNumber}
 use Rattle.opening.specs.Opening.{openAnswer}
 use Rattle.runs.specs.Draws.{rawDraw}
 use Rattle.factory.proofs.Laws.{passes-elements}
+use Rattle.runs.specs.Calls.{Call}
 use Rattle.correctness.specs.History.{Event, World, history, Each}
 use Rattle.correctness.specs.Ledger.{dealt, Written, Plain, of-deal, of-row, of-times, of-fee, of-more, of-product}
 use Rattle.correctness.specs.Truth.{OwnPart, TrueFinish}
 use Rattle.correctness.specs.Claim.{Premises}
 use Rattle.correctness.specs.Relation.{Named, Shows}
 use Rattle.correctness.proofs.Relation.{relation-shown}
-use Rattle.correctness_examples.specs.Station.{plan, drawWith, refusals, Everyone, zeros}
-use Rattle.correctness_examples.specs.Orders.{drawn, draw}
+use Rattle.correctness_examples.specs.Station.{plan, drawWith, refusals, Everyone, zeros, states}
+use Rattle.correctness_examples.specs.Run.{drawn, draw}
 use Rattle.correctness_examples.specs.Fees.{fair, unfair, fees, starts, sends, early, closing, wrong, late, later, before, events, new, last, told, numbers}
-use Rattle.correctness_examples.proofs.Computing.{Computes, sound, two-true, all-join, each-join, each-of, each-quiet}
+use Rattle.correctness_examples.proofs.Computing.{Computes, sound, two-true, all-join, each-join, each-of, each-quiet, Of}
 use Rattle.correctness_examples.proofs.Example.{draw-is}
 
 answered : refusals events new ≡ 0 ∷ 0 ∷ 0 ∷ 0 ∷ 0 ∷ 0 ∷ 0 ∷ 0 ∷ 0 ∷ 0 ∷ 0 ∷ 0 ∷ 0 ∷ 0 ∷ 0 ∷ 0 ∷ 9 ∷ 0 ∷ 0 ∷ 0 ∷ 0 ∷ 0 ∷ 0 ∷ []
@@ -46,10 +47,10 @@ module _ (P : Event → Type 0) where
       all-join P before (closing ∷ (late ++ (wrong ∷ later))) (all-join P starts (sends ++ early) a (all-join P sends early b c))
       (d, all-join P late (wrong ∷ later) e (f, g))
 
-own-parts : All (λ e. OwnPart plan draw (e .post) (e .call)) events
+own-parts : All (Of (OwnPart plan draw)) events
 unfolding Computes plan starts sends early late later
 own-parts =
-    together (λ e. OwnPart plan draw (e .post) (e .call))
+    together (Of (OwnPart plan draw))
     ((tt, refl), ((tt, refl), ((refl, refl), ((tt, refl), ((tt, refl), ((refl, refl), (tt, (tt, (tt, (tt, tt))))))))))
     (tt, (tt, (tt, (tt, (tt, (tt, tt))))))
     ((tt, (tt, tt)), tt)
@@ -58,10 +59,10 @@ own-parts =
     tt
     (tt, (tt, tt))
 
-all-written : All (λ e. Written draw fees (e .call)) events
+all-written : All (Of (λ i. Written draw fees)) events
 unfolding Computes starts sends early late later fees
 all-written =
-    together (λ e. Written draw fees (e .call))
+    together (Of (λ i. Written draw fees))
     (tt, (tt, (tt, (tt, (tt, (tt, (six, (seven, (six, (seven, tt))))))))))
     (refl, (refl, (refl, (refl, (refl, (refl, tt))))))
     ((tt, (tt, refl)), tt)
@@ -83,8 +84,8 @@ m1 = 2147483643 ∷ 1 ∷ 1 ∷ 0 ∷ []
 m3 : List ℕ
 m3 = 4 ∷ 2147483646 ∷ 2 ∷ 0 ∷ []
 
-abbrev Truly : Event → World → Type 0
-Truly e v = TrueFinish Everyone v (v .posts (e .post)) (e .call)
+abbrev Truly : ℕ → Call → World → Type 0
+Truly i c v = TrueFinish Everyone v (v .posts i) c
 
 true-ends : Each Everyone Truly (early ++ (closing ∷ (late ++ (wrong ∷ later)))) (history (starts ++ sends) new)
 unfolding Computes plan drawWith drawn draw starts sends early late later m1 m3
@@ -111,13 +112,13 @@ true-ends = (
   ),
 )
 
-pub premises : Premises plan draw fees Everyone events zeros
+pub premises : Premises plan draw fees Everyone events zeros states
 unfolding Computes plan drawn draw starts sends early late later
 premises = record {
   sound = sound;
   is-draw = draw-is;
-  parts = each-of Everyone (λ e. OwnPart plan draw (e .post) (e .call)) events new own-parts;
-  ledger = each-of Everyone (λ e. Written draw fees (e .call)) events new all-written;
+  parts = each-of Everyone (OwnPart plan draw) events new own-parts;
+  ledger = each-of Everyone (λ i. Written draw fees) events new all-written;
   finishes =
       each-join Everyone Truly (starts ++ sends) (early ++ (closing ∷ (late ++ (wrong ∷ later)))) new (each-quiet Everyone Everyone (starts ++ sends) new tt) true-ends;
 }
@@ -143,7 +144,7 @@ named = ((of-deal, λ e. of-deal), ((plain-5, absent), tt))
 by-theorem : Shows numbers fair (openAnswer (last .session) (last .rows) 7 told)
 unfolding Computes plan drawWith drawn draw starts sends early late later
 by-theorem =
-    relation-shown plan draw fees Everyone zeros before (late ++ (wrong ∷ later)) 1 7 fair _ premises (lit≤ tt) (lit≤ tt) tt refl .2
+    relation-shown plan draw fees Everyone zeros states before (late ++ (wrong ∷ later)) 1 7 fair _ premises (lit≤ tt) (lit≤ tt) tt refl .2
     numbers named 1 (lit≤ tt) (lit≤ tt) tt told refl (record { long = refl; low = refl }) (lit≤ tt)
     ((λ ne. absurd (ne refl)), ((λ ne. (tt, inl (inr (inl refl)))), tt))
 
@@ -166,8 +167,8 @@ apart = append-assoc before (closing ∷ late) (wrong ∷ later)
 by-theorem' : (let q = history (first-part ++ (wrong ∷ later)) new .posts 1 in Shows numbers unfair (openAnswer (q .session) (q .rows) 8 told))
 unfolding Computes plan drawWith drawn draw starts sends early late later
 by-theorem' =
-    relation-shown plan draw fees Everyone zeros first-part later 1 8 unfair []
-    (subst (λ (es : List Event). Premises plan draw fees Everyone es zeros) (sym apart) premises) (lit≤ tt) (lit≤ tt) tt refl .2
+    relation-shown plan draw fees Everyone zeros states first-part later 1 8 unfair []
+    (subst (λ (es : List Event). Premises plan draw fees Everyone es zeros states) (sym apart) premises) (lit≤ tt) (lit≤ tt) tt refl .2
     numbers named' 1 (lit≤ tt) (lit≤ tt) tt told refl (record { long = refl; low = refl }) (lit≤ tt)
     ((λ ne. absurd (ne refl)), ((λ ne. (tt, inl (inr (inr (inl refl))))), tt))
 

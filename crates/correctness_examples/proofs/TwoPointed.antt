@@ -14,7 +14,7 @@ use Rattle.runs.specs.Draws.{IsRaw, Sound, IsDraw, rawLength, tripleLength}
 use Rattle.correctness.specs.Ledger.{Plain}
 use Rattle.correctness.specs.Claim.{Premises}
 use Rattle.correctness.proofs.Theorems.{correct}
-use Rattle.correctness_examples.specs.Station.{ledger, Everyone}
+use Rattle.correctness_examples.specs.Station.{ledger, Everyone, states}
 use Rattle.correctness_examples.specs.TwoPoints.{pairs, draw, dealing, zeros, new, sent-both, false-first, refusalWith, valueWith, Rejected}
 use Rattle.correctness_examples.proofs.Computing.{Computes, none-there, each-quiet}
 
@@ -54,7 +54,7 @@ is-draw = record {
     triples : (r : ℕ) → r < rowCount → (length (getD (draw .triples) r []) ≡ tripleLength pairs r) × Elements (getD (draw .triples) r [])
     triples r h = rw (none-there rowCount r) (refl, tt)
 
-premises : Premises pairs draw ledger Everyone dealing zeros
+premises : Premises pairs draw ledger Everyone dealing zeros states
 unfolding pairs dealing ledger
 premises = record {
   sound = sound;
@@ -80,7 +80,7 @@ premises = record {
 sent-by-theorem : (refusalWith sent-both ≡ 0) × Plain ledger 0 (valueWith sent-both)
 unfolding Computes pairs draw dealing
 sent-by-theorem =
-    correct pairs draw ledger Everyone zeros dealing premises 1 (lit≤ tt) (lit≤ tt) tt .opens 0 sent-both refl
+    correct pairs draw ledger Everyone zeros states dealing premises 1 (lit≤ tt) (lit≤ tt) tt .opens 0 sent-both refl
     (record { long = refl; low = refl }) .exact (lit≤ tt)
     ((λ ne. absurd (ne refl)), ((λ ne. (tt, inl (inl refl))), ((λ ne. (tt, inl (inl refl))), tt)))
 
@@ -88,6 +88,6 @@ sent-by-theorem =
 lie-by-theorem : (refusalWith false-first ≡ 0) × Plain ledger 0 (valueWith false-first)
 unfolding Computes pairs draw dealing
 lie-by-theorem =
-    correct pairs draw ledger Everyone zeros dealing premises 1 (lit≤ tt) (lit≤ tt) tt .opens 0 false-first refl
+    correct pairs draw ledger Everyone zeros states dealing premises 1 (lit≤ tt) (lit≤ tt) tt .opens 0 false-first refl
     (record { long = refl; low = refl }) .exact (lit≤ tt)
     ((λ ne. absurd (ne refl)), ((λ ne. (tt, inl (inl refl))), tt))

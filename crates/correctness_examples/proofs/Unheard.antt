@@ -15,9 +15,9 @@ use Rattle.correctness.specs.Ledger.{Ledger, Plain}
 use Rattle.correctness.specs.Claim.{Premises}
 use Rattle.correctness.proofs.Meanings.{one-number}
 use Rattle.correctness.proofs.Theorems.{openings-answered}
-use Rattle.correctness_examples.specs.Station.{plan, drawWith, ledger, call, load, dealOf, zeros, room, Everyone, AllBut}
+use Rattle.correctness_examples.specs.Station.{plan, drawWith, ledger, call, load, dealOf, zeros, room, Everyone, AllBut, states}
 use Rattle.correctness_examples.proofs.Computing.{Computes, sound, plain-6, each-quiet}
-use Rattle.correctness_examples.specs.Orders.{drawn, draw}
+use Rattle.correctness_examples.specs.Run.{drawn, draw}
 use Rattle.correctness_examples.proofs.Example.{draw-is}
 
 -- posts 1 and 2 deal 6, post 3 deals 8; post 2 sends its message
@@ -34,10 +34,10 @@ unfoldable behind : List Event
 behind = load draw 1 1 ∷ dealOf draw 1 1 9 ∷ []
 
 abbrev new : World
-new = begin plan draw zeros
+new = begin plan draw zeros states
 
 -- no ledger fits all posts: c is p − 1 of 6, and 1 of 8
-no-premises : (L : Ledger) → Premises plan draw L Everyone before zeros → ⊥
+no-premises : (L : Ledger) → Premises plan draw L Everyone before zeros states → ⊥
 unfolding Computes plan drawWith drawn draw before
 no-premises L h =
     let a = h .ledger .1 .1 .1 .0 tt refl in let b = h .ledger .1 .1 .1 .1 .1 .0 tt refl in let e : a .0 ≡ b .0 = cc in
@@ -45,7 +45,7 @@ no-premises L h =
     absurd (omega arith)
 
 -- but this one fits all but post 3
-premises : Premises plan draw ledger (AllBut 3) before zeros
+premises : Premises plan draw ledger (AllBut 3) before zeros states
 unfolding plan before ledger
 premises = record {
   sound = sound;
@@ -70,7 +70,7 @@ module _ (none : Answer) where
   by-theorem : Plain ledger 0 (answer .value)
   unfolding Computes plan drawWith drawn draw before answer
   by-theorem =
-      openings-answered plan draw ledger (AllBut 3) zeros before behind 1 0 blocks none premises (lit≤ tt) (lit≤ tt)
+      openings-answered plan draw ledger (AllBut 3) zeros states before behind 1 0 blocks none premises (lit≤ tt) (lit≤ tt)
       (omega arith) refl (record { long = refl; low = refl }) .exact (lit≤ tt)
       ((λ ne. absurd (ne refl)), ((λ ne. (omega arith, inl (inl refl))), tt)) .1
 

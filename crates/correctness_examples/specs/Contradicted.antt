@@ -14,7 +14,7 @@ use Rattle.relation.specs.Finish.{relationFinishAnswer}
 use Rattle.runs.specs.Calls.{Post, message}
 use Rattle.correctness.specs.History.{Event, history}
 use Rattle.correctness_examples.specs.Station.{call, load, dealOf, room}
-use Rattle.correctness_examples.specs.Orders.{draw, before, new}
+use Rattle.correctness_examples.specs.Run.{draw, before, new}
 use Rattle.correctness_examples.specs.Fees.{fair, starts, sends}
 
 unfoldable pub dealing : List Event

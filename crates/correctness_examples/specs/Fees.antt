@@ -9,8 +9,8 @@ use Rattle.runs.specs.Outline.{times}
 use Rattle.runs.specs.Calls.{Post, message, linear, relationMasks, relationFinish}
 use Rattle.correctness.specs.History.{Event, World, history, begin}
 use Rattle.correctness.specs.Ledger.{Ledger, nothing, dealt, sum, summed, product}
-use Rattle.correctness_examples.specs.Station.{plan, call, load, loadThree, dealOf, zeros, room, rooms, nobody}
-use Rattle.correctness_examples.specs.Orders.{draw}
+use Rattle.correctness_examples.specs.Station.{plan, call, load, loadThree, dealOf, zeros, room, rooms, nobody, states}
+use Rattle.correctness_examples.specs.Run.{draw}
 
 abbrev plainTerm : ℕ → ℕ → Term
 plainTerm c r = record { coefficient = c; row = r; second = noRow; first = 0 }
@@ -70,7 +70,7 @@ abbrev pub events : List Event
 events = before ++ (closing ∷ (late ++ (wrong ∷ later)))
 
 abbrev pub new : World
-new = begin plan draw zeros
+new = begin plan draw zeros states
 
 abbrev pub last : Post
 last = history events new .posts 1

@@ -1,5 +1,6 @@
 pub mod Station
-pub mod Orders
+pub mod Run
 pub mod Fees
 pub mod Contradicted
 pub mod TwoPoints
+pub mod Turns

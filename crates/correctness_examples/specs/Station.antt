@@ -7,9 +7,11 @@ use lib.ListN.{getD, replicate}
 use Rattle.shape.specs.Bounds.{rowCount}
 use Rattle.shape.specs.Lengths.{shape, rowsLength}
 use Rattle.factory.specs.Calls.{dealerNumber}
+use Rattle.dealers.specs.State.{newState}
 use Rattle.runs.specs.Draws.{Plan, Draw, none, by, rawDraw, rawPack, triplePack}
 use Rattle.runs.specs.Calls.{Call, loadRow, loadTriple, deal}
-use Rattle.correctness.specs.History.{Event, World, doneBy, turn}
+use Rattle.runs.specs.Orders as Orders
+use Rattle.correctness.specs.History.{Event, World, answerOf, step}
 use Rattle.correctness.specs.Ledger.{Ledger, nothing, dealt, sum, product}
 
 -- rows 0 and 1 raw, a triple at 2
@@ -38,7 +40,7 @@ ledger r = getD (dealt 6 ∷ dealt 7 ∷ nothing ∷ nothing ∷ product 2 0 1 �
 -- ---- events
 
 abbrev pub call : ℕ → Call → Event
-call i c = record { post = i; call = c }
+call i c = record { post = i; order = Orders.call c }
 
 abbrev pub load : Draw → ℕ → ℕ → Event
 load draw i r = call i (loadRow r (rawPack plan draw i r))
@@ -53,6 +55,10 @@ dealOf draw i r u = call i (deal r (dealerNumber u (getD (rawDraw draw r) 0 0) .
 abbrev pub zeros : ℕ → List ℕ
 zeros i = replicate (rowsLength (shape 3 1 1)) 0
 
+-- and the states: new ones
+abbrev pub states : ℕ → List ℕ
+states i = newState
+
 -- room for an opening message and for masks, and a record without blocks
 abbrev pub room : List ℕ
 room = 0 ∷ 0 ∷ []
@@ -65,7 +71,7 @@ nobody = 0 ∷ 0 ∷ 0 ∷ 0 ∷ 0 ∷ 0 ∷ 0 ∷ 0 ∷ 0 ∷ []
 
 unfoldable pub refusals : List Event → World → List ℕ
 refusals [] w = []
-refusals (e ∷ es) w = doneBy e w .answer .refusal ∷ refusals es (turn e w)
+refusals (e ∷ es) w = answerOf e w .refusal ∷ refusals es (step e w)
 
 -- all posts, and all but one
 abbrev pub Everyone : ℕ → Type 0

@@ -13,7 +13,7 @@ use Rattle.opening.specs.Opening.{openAnswer}
 use Rattle.runs.specs.Draws.{Plan, Draw, none, by, rawPack}
 use Rattle.runs.specs.Calls.{Post, loadRow, message}
 use Rattle.correctness.specs.History.{Event, World, history, begin}
-use Rattle.correctness_examples.specs.Station.{call, dealOf}
+use Rattle.correctness_examples.specs.Station.{call, dealOf, states}
 
 -- row 0 raw
 unfoldable pub pairs : Plan
@@ -47,7 +47,7 @@ abbrev pub zeros : ℕ → List ℕ
 zeros i = replicate (rowsLength (shape 3 1 2)) 0
 
 abbrev pub new : World
-new = begin pairs draw zeros
+new = begin pairs draw zeros states
 
 abbrev pub opener : Post
 opener = history dealing new .posts 1

@@ -1,3 +1,4 @@
 pub mod Deal
+pub mod Between
 pub mod Table
 pub mod Claims

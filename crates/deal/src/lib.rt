@@ -1,8 +1,26 @@
 // Deal: c is added to m1..mn of a raw row, which becomes held.
 use session::Answer;
 use session::Session;
+use shape::Shape;
 ghost use mathlib.Core.Path.{_≡_};
+ghost use Rattle.refusal.specs.Refusal.{first};
+ghost use Rattle.session.specs.Between.{Sized};
+ghost use Rattle.deal.specs.Between.{rowTests};
 ghost use Rattle.deal.specs.Deal.{dealRefusal, dealAnswer, dealRows};
+
+// 6 to 8, once 1 to 5 are checked. Marks are lent and the session is not handed over: a turn of `dealers` asks this too.
+pub fn row_refusal(shape: Shape, marks: &[u8], rows: &[u32], row: usize, c: u32) -> u8
+    requires { ⌜ Sized shape (now rows) ⌝ }
+    ensures { λ r. ⌜ r ≡ first (rowTests shape (now (marks .entry)) (now (rows .entry)) row c) ⌝ }
+{
+    let wrong = session::checks::wrong_mark(marks, row, shape::RAW);
+    let numbers = refusal::or_else(
+        refusal::number(c),
+        session::checks::numbers(shape, rows, row),
+    );
+    let place = session::checks::row(row);
+    refusal::or_else(place, refusal::or_else(wrong, numbers))
+}
 
 fn deal_refusal(session: Session, rows: &[u32], row: usize, c: u32) -> u8
     ensures { λ r. ⌜ r ≡ dealRefusal session (now (rows .entry)) row c ⌝ }
@@ -11,14 +29,8 @@ fn deal_refusal(session: Session, rows: &[u32], row: usize, c: u32) -> u8
     if frame != 0 {
         return frame;
     }
-    let held = session.marks;
-    let marks = session::checks::wrong_mark(&held, row, shape::RAW);
-    let numbers = refusal::or_else(
-        refusal::number(c),
-        session::checks::numbers(session.shape(), rows, row),
-    );
-    let place = session::checks::row(row);
-    refusal::or_else(place, refusal::or_else(marks, numbers))
+    let marks = session.marks;
+    row_refusal(session.shape(), &marks, rows, row, c)
 }
 
 // The rows, after a call with this refusal.

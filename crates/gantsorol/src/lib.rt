@@ -7,3 +7,4 @@ pub mod calls;
 pub mod packs;
 pub mod record;
 pub mod relations;
+pub mod turns;

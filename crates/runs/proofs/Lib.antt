@@ -25,3 +25,4 @@ pub mod Allowed
 pub mod Delivered
 pub mod Callers
 pub mod Remains
+pub mod Orders

@@ -39,7 +39,7 @@ pub record Post : Type 0 where
 
 -- A call that a post makes.
 abbrev pub Actual : Kinds
-Actual = record { Pack = List ℕ; Number = ℕ; Record = List ℕ; Lent = List ℕ; Heard = Unit {0}; part = cut }
+Actual = record { Pack = List ℕ; Number = ℕ; Record = List ℕ; Lent = List ℕ; Heard = Unit {0}; Line = List ℕ; part = cut }
 
 abbrev pub Call : Type 0
 Call = CallOf Actual

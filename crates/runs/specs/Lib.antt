@@ -5,3 +5,4 @@ pub mod Packs
 pub mod Sent
 pub mod Acts
 pub mod Callers
+pub mod Orders

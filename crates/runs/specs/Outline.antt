@@ -15,7 +15,7 @@ use Rattle.relation.specs.Finish.{numberRow}
 abbrev pub cut : (m j : ℕ) → List ℕ → List ℕ
 cut m j xs = rowAt (length xs / m) xs j
 
--- What comes from outside: packs, dealers' numbers, records, lists to write into, and who makes a message. In a list of calls for
+-- What comes from outside: packs, dealers' numbers, records, lists to write into, who makes a message, and dealers' lines. In a list of calls for
 -- all posts (demand 3) these are of other kinds than in one post's call. `part m j` is one of m records that are lent as one list.
 pub record Kinds : Type 1 where
   pub Pack : Type 0
@@ -23,6 +23,7 @@ pub record Kinds : Type 1 where
   pub Record : Type 0
   pub Lent : Type 0
   pub Heard : Type 0
+  pub Line : Type 0
   pub part : (m j : ℕ) → Record → Record
 
 pub record ForLoad (K : Kinds) : Type 0 where

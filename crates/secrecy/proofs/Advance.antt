@@ -19,9 +19,9 @@ use Rattle.runs.proofs.Steps.{Stands, vectorsAfter, stands-after}
 use Rattle.runs.proofs.Facts.{Allowed, Facts, MasksIn}
 use Rattle.runs.proofs.Rows.{sized-after, held-stays, past-stays, five-before, unmasked}
 use Rattle.secrecy.specs.Steps.{Step, callAt, heardFrom}
-use Rattle.secrecy.specs.Seen.{linesOf}
 use Rattle.secrecy.specs.Rules.{Rule}
 use Rattle.secrecy.specs.Book.{entered}
+use Rattle.secrecy.proofs.CallRuns.{linesOf}
 use Rattle.secrecy.proofs.Moves.{numberAt, vectorsThen, acts-at, vectors-at}
 use Rattle.secrecy.proofs.Entered.{Past}
 use Rattle.secrecy.proofs.State.{Run, Moment, Held, Waits, AnOpening, AMask, maskNumbers, State, standAt, fits, facts-on}

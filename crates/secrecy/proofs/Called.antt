@@ -15,17 +15,19 @@ use Rattle.runs.specs.Outline.{loadRow, loadTriple, deal, message, opening, lin
 use Rattle.runs.specs.Draws.{Plan, Sound}
 use Rattle.runs.specs.Calls.{Post, newPost, after}
 use Rattle.runs.specs.Callers.{Sets, allPosts, setAll, setAfter}
-use Rattle.runs.proofs.Marks.{Marks, sessionAt, marksAll}
+use Rattle.runs.proofs.Marks.{Marks, marksAll}
 use Rattle.runs.proofs.Outcomes as Outcomes
 use Rattle.runs.proofs.Outcomes.{refusal-is, done-is}
 use Rattle.runs.proofs.Steps.{postAt, named}
 use Rattle.runs.proofs.Start.{sizes}
 use Rattle.runs.proofs.Callers.{Tells, tells-start, tells-all}
 use Rattle.secrecy.specs.Steps.{Secrets, Step, callAt}
-use Rattle.secrecy.specs.Seen.{Entry, Seen, doneAt, linesOf, entryOf, run, dealLines, seen}
-use Rattle.secrecy.specs.Rules.{SameAnswers, Rule, Rules, refusalOf}
-use Rattle.secrecy.specs.Book.{Book, blank, booked, Agrees, Agree}
-use Rattle.secrecy.specs.Callers.{barredBy, called, AgreeCalled, BarredAddNothing}
+use Rattle.secrecy.specs.Seen.{Entry, Seen, dealLines}
+use Rattle.secrecy.specs.Rules.{SameAnswers, Rule, refusalOf}
+use Rattle.secrecy.specs.Book.{Book, blank, booked, Agrees}
+use Rattle.secrecy.specs.Callers.{barredBy, called}
+use Rattle.secrecy.proofs.CallRuns.{doneAt, linesOf, entryOf, run, seen, Rules, Agree, AgreeCalled}
+use Rattle.secrecy.proofs.CallClaims.{BarredAddNothing}
 use Rattle.secrecy.proofs.Broadcasts.{allowed-at}
 use Rattle.secrecy.proofs.State.{Run, Moment, State}
 use Rattle.secrecy.proofs.Dealings.{fresh, begun}
@@ -173,7 +175,7 @@ module _ (C : Run) (group : List ℕ) (u' : Secrets) where
 pub barred-add-nothing : BarredAddNothing
 unfolding seen
 barred-add-nothing plan group rows cs u u' R sound low same rules d shows agree =
-    let lines = dealLines plan group d u in
+    let lines = dealLines plan d u in
     let deals : lines ≡ R .deals = ap (λ (x : Seen). x .deals) (shows .same) in
     let shown : run plan group d u cs lines (λ i. newPost plan d (rows i) i) ≡ R .entries = ap (λ (x : Seen). x .entries) (shows .same) in
     subst (λ (es : List Entry). Agree u u' cs es blank blank) shown

@@ -4,7 +4,7 @@ use Prim.Native.Nat.{ℕ}
 use mathlib.Core.Logic.{_↔_}
 use mathlib.Core.List.{List}
 use Rattle.runs.specs.Draws.{Plan, Draw}
-use Rattle.secrecy.specs.Steps.{Secrets, Step}
+use Rattle.secrecy.specs.Steps.{Secrets, Item}
 use Rattle.secrecy.specs.Seen.{Seen}
 use Rattle.secrecy.specs.Claim.{Shows, Matching, Secrecy}
 use Rattle.secrecy.specs.Count.{draws, shows, EqualCounts}
@@ -26,7 +26,7 @@ rematched p q m =
     }
 
 -- the listed draws that pass the test are the draws that show the record
-passes-shows : (plan : Plan) (group : List ℕ) (rows : ℕ → List ℕ) (cs : List Step) (u : Secrets) (R : Seen) (d : Draw)
+passes-shows : (plan : Plan) (group : List ℕ) (rows : ℕ → List ℕ) (cs : List Item) (u : Secrets) (R : Seen) (d : Draw)
     → Passes (shows plan group rows cs u R) (draws plan) d ↔ Shows plan group rows cs u R d
 passes-shows plan group rows cs u R d = (
   (λ h. record { is-draw = all-draws plan .1 d (h .0); same = same-of-shows plan group rows cs u R d (h .1) }),

@@ -73,7 +73,7 @@ module _ (C : Run) (group : List ℕ) where
       go none = lit< tt
       go (by dealer) = dealer-low (dealerRefusal (u r) (getD (rawDraw draw r) 0 0)) (u r) (getD (rawDraw draw r) 0 0)
 
-  pub deals-right : Dealt C (dealLines (C .plan) group (C .draw) (C .u))
+  pub deals-right : Dealt C (dealLines (C .plan) (C .draw) (C .u))
   unfolding dealSeen
   deals-right r x lr lx a = let o = among-rows (text (Line.deal r x)) _ a in go (o .0) (o .1) (plan .raw (o .0)) (o .2)
     where
@@ -85,7 +85,7 @@ module _ (C : Run) (group : List ℕ) where
           ap (λ (y : Message). getD (y .numbers) 0 0) m ∙ ap (dealtNumber plan draw u) (sym (ap (λ (y : Message). y .row) m))
 
   -- no line of another letter is among them
-  other : (c : ℕ) (l : List ℕ) → c ≢ 68 → c ≢ 0 → Among (c ∷ l) (dealLines plan group draw u) → ⊥
+  other : (c : ℕ) (l : List ℕ) → c ≢ 68 → c ≢ 0 → Among (c ∷ l) (dealLines plan draw u) → ⊥
   unfolding dealSeen
   other c l ne nz a = let o = among-rows (c ∷ l) _ a in go (o .0) (plan .raw (o .0)) (o .2)
     where
@@ -93,10 +93,10 @@ module _ (C : Run) (group : List ℕ) where
       go r' none e = nz (ap (λ (x : List ℕ). getD x 0 0) e)
       go r' (by dealer) e = ne (ap (λ (x : List ℕ). getD x 0 0) e)
 
-  pub no-opening : (r j : ℕ) (xs : List ℕ) → Among (openingLine r j xs) (dealLines (C .plan) group (C .draw) (C .u)) → ⊥
+  pub no-opening : (r j : ℕ) (xs : List ℕ) → Among (openingLine r j xs) (dealLines (C .plan) (C .draw) (C .u)) → ⊥
   no-opening r j xs a = other 79 _ (omega arith) (omega arith) a
 
-  pub no-masks : (r j : ℕ) (xs : List ℕ) → Among (masksLine r j xs) (dealLines (C .plan) group (C .draw) (C .u)) → ⊥
+  pub no-masks : (r j : ℕ) (xs : List ℕ) → Among (masksLine r j xs) (dealLines (C .plan) (C .draw) (C .u)) → ⊥
   no-masks r j xs a = other 77 _ (omega arith) (omega arith) a
 
 -- what a call broadcasts is no D line
@@ -121,7 +121,7 @@ module _ (plan : Plan) (draw : Draw) (u : Secrets) (rows : ℕ → List ℕ) (so
   abbrev pub fresh : Run
   fresh = record { plan = plan; draw = draw; u = u; len = λ i. length (rows i); sound = sound; is-draw = is; low = low }
 
-  pub begun : State fresh (record { marks = start; vec = rawVector plan draw; book = blank; lines = dealLines plan group draw u; posts = λ i. newPost plan draw (rows i) i })
+  pub begun : State fresh (record { marks = start; vec = rawVector plan draw; book = blank; lines = dealLines plan draw u; posts = λ i. newPost plan draw (rows i) i })
   begun =
       record {
         sized = start-sized;

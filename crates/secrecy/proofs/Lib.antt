@@ -1,4 +1,7 @@
 -- Demand 3, from the bottom up.
+-- An inner step: lists of calls on a session alone.
+pub mod CallRuns
+pub mod CallClaims
 -- The kernel: what a group does not see; vectors that differ by it, and the draws behind them.
 pub mod Kernel
 pub mod Near
@@ -41,7 +44,7 @@ pub mod Counts
 pub mod Asked
 -- The theorems; that nobody gets 13; and that the record shows all check points of a group.
 pub mod Matched
-pub mod Theorems
+pub mod CallTheorems
 pub mod Thirteen
 pub mod Thirteens
 pub mod Never
@@ -49,3 +52,15 @@ pub mod PointsShown
 pub mod Called
 pub mod ForCallers
 pub mod Calling
+-- Orders: the places that the book keeps, one turn, a list of orders as a list of calls, one run and two.
+pub mod Frames
+pub mod Places
+pub mod Doings
+pub mod Turning
+pub mod AsCalls
+pub mod Along
+pub mod Again
+pub mod Theorems
+pub mod NeverOrders
+pub mod Barred
+pub mod Known

@@ -19,10 +19,11 @@ use Rattle.runs.specs.Calls.{Post, newPost, openingLine, Among}
 use Rattle.runs.proofs.Marks.{markOf, rawVector, sessionAt}
 use Rattle.runs.proofs.Start.{start, start-mark}
 use Rattle.secrecy.specs.Steps.{Secrets, Step}
-use Rattle.secrecy.specs.Seen.{Entry, Seen, run, dealLines, seen}
-use Rattle.secrecy.specs.Rules.{SameAnswers, Rules}
-use Rattle.secrecy.specs.Book.{Book, blank, bookAfter, Agree}
-use Rattle.secrecy.specs.Claim.{Premises, Shows, Abreast, postsOf, Beside}
+use Rattle.secrecy.specs.Seen.{Entry, Seen, dealLines}
+use Rattle.secrecy.specs.Rules.{SameAnswers}
+use Rattle.secrecy.specs.Book.{Book, blank}
+use Rattle.secrecy.proofs.CallRuns.{run, seen, Rules, bookAfter, Agree}
+use Rattle.secrecy.proofs.CallClaims.{Premises, Shows, Abreast, postsOf, Beside}
 use Rattle.secrecy.proofs.Near.{groupKernel}
 use Rattle.secrecy.proofs.Link.{Gaps}
 use Rattle.secrecy.proofs.Moved.{moved, moved-is, moved-points}
@@ -84,15 +85,15 @@ module _ (plan : Plan) (group : List ℕ) (rows : ℕ → List ℕ) (cs : List S
         }
 
     -- the D lines are the record's, of both draws
-    deals-one : dealLines plan group d u ≡ R .deals
+    deals-one : dealLines plan d u ≡ R .deals
     unfolding seen
     deals-one = ap (λ (x : Seen). x .deals) (s .same)
 
-    deals-two : dealLines plan group (moved plan group u u' Δ d) u' ≡ R .deals
+    deals-two : dealLines plan (moved plan group u u' Δ d) u' ≡ R .deals
     deals-two = sym (same-deals plan group u u' Δ d (h .sound) (h .group-few) (h .secrets) (s .is-draw)) ∙ deals-one
 
     -- the runs start side by side
-    begins : (e : Draw) (w : Secrets) (is : IsDraw plan e) (low : (r : ℕ) → IsRaw (plan .raw r) → w r < p) → dealLines plan group e w ≡ R .deals
+    begins : (e : Draw) (w : Secrets) (is : IsDraw plan e) (low : (r : ℕ) → IsRaw (plan .raw r) → w r < p) → dealLines plan e w ≡ R .deals
         → State (fresh plan e w rows (h .sound) is low group)
         (record { marks = start; vec = rawVector plan e; book = blank; lines = R .deals; posts = new e })
     unfolding new
@@ -132,8 +133,8 @@ module _ (plan : Plan) (group : List ℕ) (rows : ℕ → List ℕ) (cs : List S
         (subst (λ (x : List Entry). Agree u u' cs x blank blank) (sym shown) (h .agree))
         (λ r lr np. ap (λ (x : List Entry). reckoned u u' cs x blank blank r) shown)
 
-    entries-same : run plan group d u cs (dealLines plan group d u) (λ i. newPost plan d (rows i) i)
-        ≡ run plan group (moved plan group u u' Δ d) u' cs (dealLines plan group (moved plan group u u' Δ d) u') (λ i. newPost plan (moved plan group u u' Δ d) (rows i) i)
+    entries-same : run plan group d u cs (dealLines plan d u) (λ i. newPost plan d (rows i) i)
+        ≡ run plan group (moved plan group u u' Δ d) u' cs (dealLines plan (moved plan group u u' Δ d) u') (λ i. newPost plan (moved plan group u u' Δ d) (rows i) i)
     unfolding beginning new
     entries-same =
         ap (λ (l : List (List ℕ)). run plan group d u cs l (new d)) deals-one ∙ ended .entries

@@ -22,11 +22,12 @@ use Rattle.runs.proofs.Outcomes.{refusal-is}
 use Rattle.runs.proofs.Steps.{postAt, named}
 use Rattle.runs.proofs.Start.{sizes}
 use Rattle.secrecy.specs.Steps.{Step, callAt}
-use Rattle.secrecy.specs.Seen.{Entry, Seen, doneAt, linesOf, entryOf, run, dealLines, seen}
-use Rattle.secrecy.specs.Rules.{SameAnswers, Rule, Rules, refusalOf}
+use Rattle.secrecy.specs.Seen.{Entry, Seen, dealLines}
+use Rattle.secrecy.specs.Rules.{SameAnswers, Rule, refusalOf}
 use Rattle.access.specs.Access.{accessTests, accessRefusal}
 use Rattle.secrecy.specs.Book.{Book}
-use Rattle.secrecy.specs.Claim.{NeverThirteen}
+use Rattle.secrecy.proofs.CallRuns.{doneAt, linesOf, entryOf, run, seen, Rules}
+use Rattle.secrecy.proofs.CallClaims.{NeverThirteen}
 use Rattle.secrecy.proofs.State.{Run, Moment, State}
 use Rattle.secrecy.proofs.Dealings.{fresh, begun}
 use Rattle.secrecy.proofs.Advance.{advance}
@@ -158,7 +159,7 @@ module _ (C : Run) (group : List ℕ) where
 pub never-thirteen : NeverThirteen
 unfolding seen
 never-thirteen plan group rows cs u R sound low same rules d shows =
-    let lines = dealLines plan group d u in
+    let lines = dealLines plan d u in
     let deals : lines ≡ R .deals = ap (λ (x : Seen). x .deals) (shows .same) in
     let shown : run plan group d u cs lines (λ i. newPost plan d (rows i) i) ≡ R .entries = ap (λ (x : Seen). x .entries) (shows .same) in
     subst (All (λ e. refusalOf e ≢ 13)) shown

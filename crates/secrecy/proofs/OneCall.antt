@@ -11,9 +11,10 @@ use Rattle.runs.specs.Outline.{CallOf, loadRow, loadTriple, deal, message, open
 use Rattle.runs.specs.Calls.{Post, Call, perform, after}
 use Rattle.runs.proofs.Outcomes.{refusalOf, refusal-is, does, own, done, refused}
 use Rattle.secrecy.specs.Steps.{Step, PackAt, packed, callAt, heardFrom}
-use Rattle.secrecy.specs.Seen.{posts, joined, linesOf}
+use Rattle.secrecy.specs.Seen.{posts, joined}
 use Rattle.secrecy.specs.Rules.{Rule}
 use Rattle.secrecy.specs.Book.{Agrees}
+use Rattle.secrecy.proofs.CallRuns.{linesOf}
 use Rattle.secrecy.proofs.Pair.{Two, Moments, Pair, Fit}
 use Rattle.secrecy.proofs.Answers.{number-same}
 use Rattle.secrecy.proofs.Alike.{Same, same-answers}

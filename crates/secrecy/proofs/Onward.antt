@@ -18,9 +18,10 @@ use Rattle.runs.proofs.Outcomes.{refusalOf, refusal-is, silent}
 use Rattle.runs.proofs.Steps.{stands-refused}
 use Rattle.runs.proofs.Facts.{Allowed}
 use Rattle.secrecy.specs.Steps.{Step, callAt, heardFrom}
-use Rattle.secrecy.specs.Seen.{posts, joined, linesOf}
+use Rattle.secrecy.specs.Seen.{posts, joined}
 use Rattle.secrecy.specs.Rules.{Rule}
 use Rattle.secrecy.specs.Book.{Book, AgreesBy, Agrees, entered}
+use Rattle.secrecy.proofs.CallRuns.{linesOf}
 use Rattle.secrecy.proofs.Moves.{vectorsThen}
 use Rattle.secrecy.proofs.State.{Run, Moment, AnOpening, State, standAt, place-stays}
 use Rattle.runs.proofs.Start.{sizes}

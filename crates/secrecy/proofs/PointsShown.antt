@@ -13,7 +13,6 @@ use Rattle.poly.specs.Counting.{All}
 use Rattle.shape.specs.Bounds.{mostPoints}
 use Rattle.refusal.proofs.Laws.{inside}
 use Rattle.parts.proofs.Turns.{block-room}
-use Rattle.session.specs.declared.Session.{Session}
 use Rattle.runs.specs.Draws.{Plan, Draw, Sound, IsDraw, pointOf}
 use Rattle.runs.specs.Calls.{newPost}
 use Rattle.runs.proofs.Start.{made}

@@ -23,9 +23,10 @@ use Rattle.runs.proofs.Outcomes.{refusal-is}
 use Rattle.runs.proofs.Facts.{Maskable, AllowedAll, Allowed}
 use Rattle.runs.proofs.Rows.{sized-marks, sized-by, past-by, past-stays}
 use Rattle.secrecy.specs.Steps.{Step, callAt}
-use Rattle.secrecy.specs.Seen.{Entry, posts, doneAt, linesOf, postsAfter, entryOf, run}
-use Rattle.secrecy.specs.Rules.{AllSame, SameAnswers, Rule, Rules, refusalOf}
-use Rattle.secrecy.specs.Book.{Book, Agrees, Agree, enteredBy, entered, booked, bookAfter}
+use Rattle.secrecy.specs.Seen.{Entry, posts}
+use Rattle.secrecy.specs.Rules.{AllSame, SameAnswers, Rule, refusalOf}
+use Rattle.secrecy.specs.Book.{Book, Agrees, enteredBy, entered, booked}
+use Rattle.secrecy.proofs.CallRuns.{doneAt, linesOf, postsAfter, entryOf, run, Rules, Agree, bookAfter}
 use Rattle.secrecy.proofs.Link.{Gaps}
 use Rattle.secrecy.proofs.Entered.{Past}
 use Rattle.runs.proofs.Start.{sizes}

@@ -6,7 +6,7 @@ use mathlib.Core.List.{List, [], _∷_}
 use borrow.Author.Tests.{eq-eqb, eqb-true}
 use lib.Dec.{eqb}
 use Rattle.runs.specs.Draws.{Plan, Draw}
-use Rattle.secrecy.specs.Steps.{Secrets, Step}
+use Rattle.secrecy.specs.Steps.{Secrets, Item}
 use Rattle.secrecy.specs.Seen.{Entry, Seen, seen}
 use Rattle.secrecy.specs.Count.{sameList, sameNumbers, sameLines, sameEntry, sameSeen, shows}
 
@@ -107,7 +107,7 @@ seen-self x =
 pub seen-right : Right sameSeen
 seen-right = record { equal = seen-equal; self = seen-self }
 
-module _ (plan : Plan) (group : List ℕ) (rows : ℕ → List ℕ) (cs : List Step) (u : Secrets) (R : Seen) (d : Draw) where
+module _ (plan : Plan) (group : List ℕ) (rows : ℕ → List ℕ) (cs : List Item) (u : Secrets) (R : Seen) (d : Draw) where
   -- where the test passes, the draw's record is R; and back
   pub same-of-shows : shows plan group rows cs u R d ≡ true → seen plan group d u rows cs ≡ R
   unfolding shows

@@ -51,7 +51,7 @@ module _ (plan : Plan) (group : List ℕ) (u u' : Secrets) (Δ : ℕ → Gaps) (
       (all-map (λ i h. ap (λ (f : ℕ → List ℕ). map (λ r. cond (plan .triple r) (f r) []) allRows) (fun-ext h)) group
       (link plan group u u' Δ d sound few secrets is .triple-group))
 
-  pub same-deals : map (dealSeen plan group d u) allRows ≡ map (dealSeen plan group d' u') allRows
+  pub same-deals : map (dealSeen plan d u) allRows ≡ map (dealSeen plan d' u') allRows
   unfolding dealSeen
   same-deals =
       ap (λ (f : ℕ → ℕ). map (λ r. whenRaw (plan .raw r) (text (Line.deal r (f r))) []) allRows)

@@ -2,12 +2,18 @@
 -- answers, only which calls are refused."
 use Prim.Native.Nat.{ℕ, _+_}
 use mathlib.Core.Path.{_≡_}
+use mathlib.Core.Bool.{true}
 use mathlib.Core.List.{List, [], _∷_}
 use Rattle.field.specs.Arithmetic.{sum, product}
 use Rattle.refusal.specs.Refusal.{outcome}
 use Rattle.runs.specs.Outline.{Act, loads, loadsTriple, deals, opens, Summand, once, times, fee, sums, factors, collects, multiplies, admits, acts, Sending, itsOpening, itsMasks, sends, Every}
 use Rattle.runs.specs.Calls.{at}
-use Rattle.secrecy.specs.Steps.{Secrets, Step}
+use Rattle.runs.specs.Callers.{Sets}
+use Rattle.runs.specs.Draws.{Plan}
+use Rattle.runs.specs.Orders.{Comes, noCall, aCall, Asked, setsAfter}
+use Rattle.secrecy.specs.Steps.{Secrets, Fixed, Step, Item}
+use Rattle.secrecy.specs.Callers.{called}
+use Rattle.secrecy.specs.Waiting.{Waiting, waitingAfter, comesOf}
 use Rattle.secrecy.specs.Seen.{Entry}
 use Rattle.secrecy.specs.Rules.{refusalOf}
 
@@ -61,11 +67,16 @@ entered u c b = enteredAll u (acts c) b
 abbrev pub booked : Secrets → Step → ℕ → Book → Book
 booked u c refusal b = outcome refusal (entered u c b) b
 
--- The book after the calls with these answers.
-unfoldable pub bookAfter : Secrets → List Step → List Entry → Book → Book
-bookAfter u [] es b = b
-bookAfter u (c ∷ cs) [] b = b
-bookAfter u (c ∷ cs) (e ∷ es) b = bookAfter u cs es (booked u c (refusalOf e) b)
+-- An order is entered as the call that it comes to.
+abbrev pub bookedBy : Secrets → Comes Fixed → ℕ → Book → Book
+bookedBy u noCall refusal b = b
+bookedBy u (aCall c) refusal b = booked u c refusal b
+
+-- The book after the orders with these answers.
+unfoldable pub bookAfter : Secrets → List Item → List Entry → Waiting → Book → Book
+bookAfter u [] es w b = b
+bookAfter u (o ∷ os) [] w b = b
+bookAfter u (o ∷ os) (e ∷ es) w b = bookAfter u os es (waitingAfter o (refusalOf e) w) (bookedBy u (comesOf w o) (refusalOf e) b)
 
 -- "A number agrees when, at each opening message not refused, its row's place is the same under both lists of secrets."
 abbrev pub AgreesBy : ℕ → Book → Book → Sending → Type 0
@@ -75,8 +86,12 @@ AgreesBy k b b' (itsMasks x y r) = Unit {0}
 abbrev pub Agrees : Step → ℕ → Book → Book → Type 0
 Agrees c k b b' = Every (AgreesBy k b b') (sends c)
 
-abbrev pub Agree : Secrets → Secrets → List Step → List Entry → Book → Book → Type 0
-Agree u u' [] es b b' = Unit {0}
-Agree u u' (c ∷ cs) [] b b' = Unit {0}
-Agree u u' (c ∷ cs) (e ∷ es) b b' =
-    Agrees c (refusalOf e) b b' × Agree u u' cs es (booked u c (refusalOf e) b) (booked u' c (refusalOf e) b')
+-- Document 02, (xi): "A row whose set bars each caller adds nothing to the opened numbers by which lists of secrets must agree." X has the
+-- rows' sets.
+abbrev pub Agree : Plan → Secrets → Secrets → List Item → List Entry → Waiting → Sets → Book → Book → Type 0
+Agree plan u u' [] es w X b b' = Unit {0}
+Agree plan u u' (o ∷ os) [] w X b b' = Unit {0}
+Agree plan u u' (o ∷ os) (e ∷ es) w X b b' =
+    Asked (λ c. called plan X c ≡ true → Agrees c (refusalOf e) b b') (comesOf w o)
+    × Agree plan u u' os es (waitingAfter o (refusalOf e) w) (setsAfter (comesOf w o) (refusalOf e) X)
+    (bookedBy u (comesOf w o) (refusalOf e) b) (bookedBy u' (comesOf w o) (refusalOf e) b')

@@ -13,9 +13,11 @@ use Rattle.shape.specs.Marks.{held}
 use Rattle.session.specs.Sessions.{mark}
 use Rattle.session.specs.Rows.{width, rowAt}
 use Rattle.runs.specs.Draws.{Plan, Draw, IsDraw, IsRaw, Sound, by}
-use Rattle.runs.specs.Calls.{Post, newPost}
-use Rattle.secrecy.specs.Steps.{Secrets, Step}
-use Rattle.secrecy.specs.Seen.{Entry, Seen, member, joined, postsAfter, run, seen}
+use Rattle.runs.specs.Callers.{allPosts}
+use Rattle.runs.specs.Orders.{Desk}
+use Rattle.secrecy.specs.Steps.{Secrets, Item}
+use Rattle.secrecy.specs.Seen.{Entry, Seen, member, joined, desksAfter, newDesk, run, seen}
+use Rattle.secrecy.specs.Waiting.{noneWaiting}
 use Rattle.secrecy.specs.Rules.{SameAnswers, Rules, refusalOf}
 use Rattle.secrecy.specs.Book.{Book, blank, bookAfter, Agree}
 
@@ -25,20 +27,21 @@ pub record Group (plan : Plan) (group : List ℕ) : Type 0 where
   pub members : All (λ i. (1 ≤ i) × (i ≤ plan .n)) group
 
 -- What is asked of two lists of secrets and a record: the secrets are elements; a dealer in the group has the same secret in
--- both; every post got the same answers; the rules were kept; and each number opened agrees in the two books.
-pub record Premises (plan : Plan) (group : List ℕ) (u u' : Secrets) (cs : List Step) (R : Seen) : Type 0 where
+-- both; every post got the same answers; the rules were kept; and each number opened agrees in the two books, but where the row's set bars
+-- the caller.
+pub record Premises (plan : Plan) (group : List ℕ) (u u' : Secrets) (os : List Item) (R : Seen) : Type 0 where
   pub sound : Sound plan
   pub group-few : Group plan group
   pub secrets : (r : ℕ) → IsRaw (plan .raw r) → (u r < p) × (u' r < p)
   pub dealers : (r dealer : ℕ) → plan .raw r ≡ by dealer → member dealer group ≡ true → u r ≡ u' r
   pub same-answers : SameAnswers (R .entries)
-  pub rules : Rules plan cs (R .entries) (R .deals)
-  pub agree : Agree u u' cs (R .entries) blank blank
+  pub rules : Rules plan os (R .entries) (R .deals) noneWaiting
+  pub agree : Agree plan u u' os (R .entries) noneWaiting allPosts blank blank
 
 -- The draw shows the record R under the secrets u.
-pub record Shows (plan : Plan) (group : List ℕ) (rows : ℕ → List ℕ) (cs : List Step) (u : Secrets) (R : Seen) (draw : Draw) : Type 0 where
+pub record Shows (plan : Plan) (group : List ℕ) (rows : ℕ → List ℕ) (os : List Item) (u : Secrets) (R : Seen) (draw : Draw) : Type 0 where
   pub is-draw : IsDraw plan draw
-  pub same : seen plan group draw u rows cs ≡ R
+  pub same : seen plan group draw u rows os ≡ R
 
 -- A one-to-one matching of those with P with those with Q.
 pub record Matching {A : Type 0} (P Q : A → Type 0) : Type 0 where
@@ -52,46 +55,52 @@ pub record Matching {A : Type 0} (P Q : A → Type 0) : Type 0 where
 -- Demand 3, as a matching of the draws.
 abbrev pub Secrecy : Type 0
 Secrecy =
-    (plan : Plan) (group : List ℕ) (rows : ℕ → List ℕ) (cs : List Step) (u u' : Secrets) (R : Seen)
-    → Premises plan group u u' cs R → Matching (Shows plan group rows cs u R) (Shows plan group rows cs u' R)
+    (plan : Plan) (group : List ℕ) (rows : ℕ → List ℕ) (os : List Item) (u u' : Secrets) (R : Seen)
+    → Premises plan group u u' os R → Matching (Shows plan group rows os u R) (Shows plan group rows os u' R)
 
--- One post after the same calls in two runs, with the books of both: the session is the same, its marks and all that it remembers; the
--- list of rows is as long; and a held row is the same where its place is the same in both books.
-pub record Abreast (q q' : Post) (b b' : Book) : Type 0 where
-  pub session : q .session ≡ q' .session
-  pub long : length (q .rows) ≡ length (q' .rows)
-  pub rows : (r : ℕ) → r ≤ lastRow → mark (q .session) r ≡ held → b .place r ≡ b' .place r
-      → rowAt (width (q .session)) (q .rows) r ≡ rowAt (width (q .session)) (q' .rows) r
+-- One post after the same orders in two runs, with the books of both: the session is the same, its marks and all that it remembers; the
+-- list of rows is as long; the lent state is the same; and a held row is the same where its place is the same in both books.
+pub record Abreast (q q' : Desk) (b b' : Book) : Type 0 where
+  pub session : q .post .session ≡ q' .post .session
+  pub long : length (q .post .rows) ≡ length (q' .post .rows)
+  pub state : q .state ≡ q' .state
+  pub rows : (r : ℕ) → r ≤ lastRow → mark (q .post .session) r ≡ held → b .place r ≡ b' .place r
+      → rowAt (width (q .post .session)) (q .post .rows) r ≡ rowAt (width (q .post .session)) (q' .post .rows) r
 
--- The posts after the calls, of a draw that shows R.
-abbrev pub postsOf : Plan → (ℕ → List ℕ) → List Step → Seen → Secrets → Draw → ℕ → Post
-postsOf plan rows cs R u draw = postsAfter plan draw u cs (R .deals) (λ i. newPost plan draw (rows i) i)
+-- The posts after the orders, of a draw that shows R.
+abbrev pub desksOf : Plan → (ℕ → List ℕ) → List Item → Seen → Secrets → Draw → ℕ → Desk
+desksOf plan rows os R u draw = desksAfter plan draw u os (R .deals) (λ i. newDesk plan draw (rows i) i)
 
--- They are the posts that the run goes on with: where more calls follow, it makes those from them, with the lines that were broadcast so far.
+-- They are the posts that the run goes on with: where more orders follow, it has those carried out by them, with the lines that were
+-- broadcast so far.
 abbrev pub RunGoesOn : Type 0
 RunGoesOn =
-    (plan : Plan) (group : List ℕ) (draw : Draw) (u : Secrets) (cs more : List Step) (lines : List (List ℕ)) (q : ℕ → Post)
-    → (let told = run plan group draw u cs lines q in
-    run plan group draw u (cs ++ more) lines q
-    ≡ told ++ run plan group draw u more (lines ++ joined (map (λ (e : Entry). e .lines) told)) (postsAfter plan draw u cs lines q))
+    (plan : Plan) (group : List ℕ) (draw : Draw) (u : Secrets) (os more : List Item) (lines : List (List ℕ)) (q : ℕ → Desk)
+    → (let told = run plan group draw u os lines q in
+    run plan group draw u (os ++ more) lines q
+    ≡ told ++ run plan group draw u more (lines ++ joined (map (λ (e : Entry). e .lines) told)) (desksAfter plan draw u os lines q))
+
+-- The book after the list.
+abbrev pub bookOf : Secrets → List Item → Seen → Book
+bookOf u os R = bookAfter u os (R .entries) noneWaiting blank
 
 -- A draw and the one matched with it: every check point is the same, and every post, not only those of the group, stands abreast.
-pub record Beside (plan : Plan) (rows : ℕ → List ℕ) (cs : List Step) (u u' : Secrets) (R : Seen) (d d' : Draw) : Type 0 where
+pub record Beside (plan : Plan) (rows : ℕ → List ℕ) (os : List Item) (u u' : Secrets) (R : Seen) (d d' : Draw) : Type 0 where
   pub points : d .points ≡ d' .points
   pub posts : (i : ℕ) → 1 ≤ i → i ≤ plan .n
-      → Abreast (postsOf plan rows cs R u d i) (postsOf plan rows cs R u' d' i) (bookAfter u cs (R .entries) blank) (bookAfter u' cs (R .entries) blank)
+      → Abreast (desksOf plan rows os R u d i) (desksOf plan rows os R u' d' i) (bookOf u os R) (bookOf u' os R)
 
 -- The same matching, with that.
 abbrev pub SecrecyEverywhere : Type 0
 SecrecyEverywhere =
-    (plan : Plan) (group : List ℕ) (rows : ℕ → List ℕ) (cs : List Step) (u u' : Secrets) (R : Seen) → Premises plan group u u' cs R
-    → (m : Matching (Shows plan group rows cs u R) (Shows plan group rows cs u' R))
-    × ((d : Draw) → Shows plan group rows cs u R d → Beside plan rows cs u u' R d (m .to d))
+    (plan : Plan) (group : List ℕ) (rows : ℕ → List ℕ) (os : List Item) (u u' : Secrets) (R : Seen) → Premises plan group u u' os R
+    → (m : Matching (Shows plan group rows os u R) (Shows plan group rows os u' R))
+    × ((d : Draw) → Shows plan group rows os u R d → Beside plan rows os u u' R d (m .to d))
 
--- Document 02, (iv), under the rules: what a record shows was broadcast by its sender, so that accepted posts agree, and no call of the
+-- Document 02, (iv), under the rules: what a record shows was broadcast by its sender, so that accepted posts agree, and no order of the
 -- list is refused with 13.
 abbrev pub NeverThirteen : Type 0
 NeverThirteen =
-    (plan : Plan) (group : List ℕ) (rows : ℕ → List ℕ) (cs : List Step) (u : Secrets) (R : Seen) → Sound plan
-    → ((r : ℕ) → IsRaw (plan .raw r) → u r < p) → SameAnswers (R .entries) → Rules plan cs (R .entries) (R .deals)
-    → (d : Draw) → Shows plan group rows cs u R d → All (λ e. refusalOf e ≢ 13) (R .entries)
+    (plan : Plan) (group : List ℕ) (rows : ℕ → List ℕ) (os : List Item) (u : Secrets) (R : Seen) → Sound plan
+    → ((r : ℕ) → IsRaw (plan .raw r) → u r < p) → SameAnswers (R .entries) → Rules plan os (R .entries) (R .deals) noneWaiting
+    → (d : Draw) → Shows plan group rows os u R d → All (λ e. refusalOf e ≢ 13) (R .entries)

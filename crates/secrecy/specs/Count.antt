@@ -12,7 +12,7 @@ use Rattle.parts.specs.Draw.{eachFrom}
 use Rattle.shape.specs.Lengths.{checksLength}
 use Rattle.runs.specs.Draws.{Plan, planShape, Draw, IsDraw, rawLength, tripleLength}
 use Rattle.runs.specs.Calls.{Among}
-use Rattle.secrecy.specs.Steps.{Secrets, Step}
+use Rattle.secrecy.specs.Steps.{Secrets, Item}
 use Rattle.secrecy.specs.Seen.{Entry, Seen, allRows, seen}
 use Rattle.secrecy.specs.Claim.{Premises}
 
@@ -94,19 +94,19 @@ sameSeen R R' =
     && sameList sameEntry (R .entries) (R' .entries)
 
 -- whether the draw shows the record R under the secrets u
-unfoldable pub shows : Plan → List ℕ → (ℕ → List ℕ) → List Step → Secrets → Seen → Draw → Bool
-shows plan group rows cs u R draw = sameSeen (seen plan group draw u rows cs) R
+unfoldable pub shows : Plan → List ℕ → (ℕ → List ℕ) → List Item → Secrets → Seen → Draw → Bool
+shows plan group rows os u R draw = sameSeen (seen plan group draw u rows os) R
 
 -- The test says exactly that.
 abbrev pub ShowsRight : Type 0
 ShowsRight =
-    (plan : Plan) (group : List ℕ) (rows : ℕ → List ℕ) (cs : List Step) (u : Secrets) (R : Seen) (d : Draw)
-    → (shows plan group rows cs u R d ≡ true → seen plan group d u rows cs ≡ R)
-    × (seen plan group d u rows cs ≡ R → shows plan group rows cs u R d ≡ true)
+    (plan : Plan) (group : List ℕ) (rows : ℕ → List ℕ) (os : List Item) (u : Secrets) (R : Seen) (d : Draw)
+    → (shows plan group rows os u R d ≡ true → seen plan group d u rows os ≡ R)
+    × (seen plan group d u rows os ≡ R → shows plan group rows os u R d ≡ true)
 
 -- Of all draws, as many show R under u as under u'.
 abbrev pub EqualCounts : Type 0
 EqualCounts =
-    (plan : Plan) (group : List ℕ) (rows : ℕ → List ℕ) (cs : List Step) (u u' : Secrets) (R : Seen)
-    → Premises plan group u u' cs R
-    → count (shows plan group rows cs u R) (draws plan) ≡ count (shows plan group rows cs u' R) (draws plan)
+    (plan : Plan) (group : List ℕ) (rows : ℕ → List ℕ) (os : List Item) (u u' : Secrets) (R : Seen)
+    → Premises plan group u u' os R
+    → count (shows plan group rows os u R) (draws plan) ≡ count (shows plan group rows os u' R) (draws plan)

@@ -1,9 +1,12 @@
 pub mod Steps
+pub mod Waiting
 pub mod Seen
 pub mod Rules
 pub mod Asked
+pub mod Callers
 pub mod Book
 pub mod Claim
+pub mod Barred
 pub mod Count
 pub mod Points
-pub mod Callers
+pub mod Known

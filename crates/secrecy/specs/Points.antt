@@ -8,7 +8,7 @@ use lib.Dec.{eqb}
 use Rattle.session.specs.declared.Session.{Session}
 use Rattle.runs.specs.Draws.{Plan, Draw, Sound, IsDraw}
 use Rattle.runs.specs.Calls.{newPost}
-use Rattle.secrecy.specs.Steps.{Secrets, Step}
+use Rattle.secrecy.specs.Steps.{Secrets, Item}
 use Rattle.secrecy.specs.Seen.{seen}
 use Rattle.secrecy.specs.Claim.{Group}
 
@@ -18,6 +18,6 @@ sessionPoints s = cond (eqb (s .points) 2) (s .first ∷ s .second ∷ []) (s .f
 
 abbrev pub PointsShown : Type 0
 PointsShown =
-    (plan : Plan) (group : List ℕ) (draw : Draw) (u : Secrets) (rows : ℕ → List ℕ) (cs : List Step)
+    (plan : Plan) (group : List ℕ) (draw : Draw) (u : Secrets) (rows : ℕ → List ℕ) (os : List Item)
     → Sound plan → IsDraw plan draw → Group plan group
-    → seen plan group draw u rows cs .points ≡ map (λ i. sessionPoints (newPost plan draw (rows i) i .session)) group
+    → seen plan group draw u rows os .points ≡ map (λ i. sessionPoints (newPost plan draw (rows i) i .session)) group

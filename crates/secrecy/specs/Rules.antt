@@ -16,7 +16,9 @@ use Rattle.forms.specs.Lines.{text}
 use Rattle.runs.specs.Draws.{Plan, IsRaw, planShape}
 use Rattle.runs.specs.Outline.{Taking, nothingTaken, aRowPack, aTriplePack, aNumber, aRecord, twoRecords, takes, Given, moves, Every}
 use Rattle.runs.specs.Calls.{Among, Told, ToldHalf}
-use Rattle.secrecy.specs.Steps.{Pack, its, Number, sent, fixed, Fixed, Step}
+use Rattle.runs.specs.Orders.{call, place, turn, Asked}
+use Rattle.secrecy.specs.Steps.{Pack, its, Number, sent, fixed, Fixed, Step, Item}
+use Rattle.secrecy.specs.Waiting.{Waiting, waitingAfter, comesOf}
 use Rattle.secrecy.specs.Seen.{Entry}
 
 -- The refusal of a call, at post 1; and "the same answers" at every post: of them only the refusals are asked for, since the
@@ -69,7 +71,15 @@ RuleWith plan k lines (twoRecords r) blocks =
 abbrev pub Rule : Plan → Step → ℕ → List (List ℕ) → Type 0
 Rule plan c k lines = Every (λ m. RuleWith plan k lines (takes (m .0)) (m .1)) (moves c)
 
-abbrev pub Rules : Plan → List Step → List Entry → List (List ℕ) → Type 0
-Rules plan [] es lines = Unit {0}
-Rules plan (c ∷ cs) [] lines = Unit {0}
-Rules plan (c ∷ cs) (e ∷ es) lines = Rule plan c (refusalOf e) lines × Rules plan cs es (lines ++ e .lines)
+-- The lines that an order of the list broadcast, by the record: a call's.
+abbrev pub heardOf : Item → Entry → List (List ℕ)
+heardOf (call c) e = e .lines
+heardOf (place d l) e = []
+heardOf turn e = []
+
+-- Of each order the call that it comes to keeps the rules. What is placed is no broadcast line: a false line does not license itself.
+abbrev pub Rules : Plan → List Item → List Entry → List (List ℕ) → Waiting → Type 0
+Rules plan [] es lines w = Unit {0}
+Rules plan (o ∷ os) [] lines w = Unit {0}
+Rules plan (o ∷ os) (e ∷ es) lines w =
+    Asked (λ c. Rule plan c (refusalOf e) lines) (comesOf w o) × Rules plan os es (lines ++ heardOf o e) (waitingAfter o (refusalOf e) w)

@@ -1,4 +1,4 @@
--- Document 01, "What a group of posts sees": the run of a list of calls, and the record of a group.
+-- Document 01, "What a group of posts sees": the run of a list of orders, and the record of a group.
 use Prim.Native.Nat.{ℕ, _+_, _*_, _-_}
 use mathlib.Core.Bool.{Bool, false, cond, _||_}
 use mathlib.Core.List.{List, [], _∷_, _++_, map}
@@ -9,8 +9,10 @@ use Rattle.parts.specs.Draw.{drawnF, eachFrom}
 use Rattle.forms.specs.Lines as Line
 use Rattle.forms.specs.Lines.{text}
 use Rattle.runs.specs.Draws.{Plan, Draw, none, by, whenRaw, rawDraw, rawPack, triplePack, planShape}
-use Rattle.runs.specs.Calls.{Post, Performed, perform, after, broadcast, newPost}
-use Rattle.secrecy.specs.Steps.{Secrets, Step, callAt, heardFrom, dealtNumber}
+use Rattle.dealers.specs.State.{newState}
+use Rattle.runs.specs.Calls.{newPost}
+use Rattle.runs.specs.Orders.{Order, call, place, turn, Desk, Carried, carry, deskAfter, sentOn}
+use Rattle.secrecy.specs.Steps.{Secrets, Item, Placed, theirs, bytes, callAt, heardFrom, dealtNumber}
 
 -- the posts 1 to n; the rows from 0 on
 unfoldable pub posts : ℕ → List ℕ
@@ -23,8 +25,8 @@ unfoldable pub joined : {A : Type 0} → List (List A) → List A
 joined [] = []
 joined (x ∷ xs) = x ++ joined xs
 
--- What is seen of one call: "for each call at each post its refusal and the number opened", the lines that it broadcast, and
--- the group's rows after it.
+-- What is seen of one order: "for each call at each post its refusal and the number opened", the lines that it broadcast, and
+-- the group's rows after it. (What stands in the state follows from the lines placed and the refusals: `Abreast` in Claim.antt.)
 pub record Entry : Type 0 where
   pub refusals : List ℕ
   pub values : List ℕ
@@ -47,47 +49,63 @@ member i [] = false
 member i (g ∷ group) = eqb i g || member i group
 
 module _ (plan : Plan) (draw : Draw) (u : Secrets) where
-  -- what the call does at post i
-  abbrev pub doneAt : List (List ℕ) → Step → (ℕ → Post) → ℕ → Performed
-  doneAt lines c q i = perform (callAt plan draw u lines i c) (q i)
-
-  -- the lines that the call broadcasts, post 1's first; "however few posts send one"
-  abbrev pub linesOf : List (List ℕ) → Step → (ℕ → Post) → List (List ℕ)
-  linesOf lines c q =
-      joined (map (λ i. cond (heardFrom c i) (broadcast i (callAt plan draw u lines i c) (doneAt lines c q i)) []) (posts (plan .n)))
-
-  -- the posts after the calls, each of which gets what the one before handed back
-  unfoldable pub postsAfter : List Step → List (List ℕ) → (ℕ → Post) → ℕ → Post
-  postsAfter [] lines q = q
-  postsAfter (c ∷ cs) lines q = postsAfter cs (lines ++ linesOf lines c q) (λ i. after (doneAt lines c q i))
-
-module _ (plan : Plan) (group : List ℕ) (draw : Draw) (u : Secrets) where
-  unfoldable pub entryOf : List (List ℕ) → Step → (ℕ → Post) → Entry
-  entryOf lines c q =
-      record {
-        refusals = map (λ i. doneAt plan draw u lines c q i .answer .refusal) (posts (plan .n));
-        values = map (λ i. doneAt plan draw u lines c q i .answer .value) (posts (plan .n));
-        lines = linesOf plan draw u lines c q;
-        rows = map (λ i. doneAt plan draw u lines c q i .rows) group;
-      }
-
-  -- all posts make the calls in step, each from what the call before handed back
-  unfoldable pub run : List Step → List (List ℕ) → (ℕ → Post) → List Entry
-  run [] lines q = []
-  run (c ∷ cs) lines q =
-      entryOf lines c q ∷ run cs (lines ++ linesOf plan draw u lines c q) (λ i. after (doneAt plan draw u lines c q i))
-
-  -- f of row r, "whose dealer is a post of the group"
-  unfoldable pub polynomialSeen : ℕ → List ℕ
-  polynomialSeen r =
-      elim (plan .raw r) [ none ↦ [] | by dealer ↦ cond (member dealer group) (drawnF (planShape plan) (rawDraw draw r)) [] ]
-
   -- "the D line of a row's dealer": row r's, and all of them
   unfoldable pub dealSeen : ℕ → List ℕ
   dealSeen r = whenRaw (plan .raw r) (text (Line.deal r (dealtNumber plan draw u r))) []
 
   abbrev pub dealLines : List (List ℕ)
   dealLines = map dealSeen allRows
+
+  -- the order as post i carries it out, after the lines broadcast so far
+  abbrev pub lineAt : Placed → List ℕ
+  lineAt (theirs r) = dealSeen r
+  lineAt (bytes xs) = xs
+
+  abbrev pub orderAt : List (List ℕ) → ℕ → Item → Order
+  orderAt lines i (call c) = call (callAt plan draw u lines i c)
+  orderAt lines i (place d l) = place d (lineAt l)
+  orderAt lines i turn = turn
+
+  -- what it does at post i
+  abbrev pub doneAt : List (List ℕ) → Item → (ℕ → Desk) → ℕ → Carried
+  doneAt lines o q i = carry (orderAt lines i o) (q i)
+
+  -- the lines that it broadcasts, post 1's first; "however few posts send one"
+  abbrev pub linesOf : List (List ℕ) → Item → (ℕ → Desk) → List (List ℕ)
+  linesOf lines (call c) q =
+      joined (map (λ i. cond (heardFrom c i) (sentOn i (orderAt lines i (call c)) (doneAt lines (call c) q i)) []) (posts (plan .n)))
+  linesOf lines (place d l) q = []
+  linesOf lines turn q = []
+
+  -- the posts after the orders, each of which gets what the one before handed back
+  unfoldable pub desksAfter : List Item → List (List ℕ) → (ℕ → Desk) → ℕ → Desk
+  desksAfter [] lines q = q
+  desksAfter (o ∷ os) lines q = desksAfter os (lines ++ linesOf lines o q) (λ i. deskAfter (doneAt lines o q i))
+
+-- A new post: "For demand 3 [the state] starts new".
+unfoldable pub newDesk : Plan → Draw → List ℕ → ℕ → Desk
+newDesk plan draw rows i = record { post = newPost plan draw rows i; state = newState }
+
+module _ (plan : Plan) (group : List ℕ) (draw : Draw) (u : Secrets) where
+  unfoldable pub entryOf : List (List ℕ) → Item → (ℕ → Desk) → Entry
+  entryOf lines o q =
+      record {
+        refusals = map (λ i. doneAt plan draw u lines o q i .done .answer .refusal) (posts (plan .n));
+        values = map (λ i. doneAt plan draw u lines o q i .done .answer .value) (posts (plan .n));
+        lines = linesOf plan draw u lines o q;
+        rows = map (λ i. doneAt plan draw u lines o q i .done .rows) group;
+      }
+
+  -- all posts carry out the orders in step, each from what the order before handed back
+  unfoldable pub run : List Item → List (List ℕ) → (ℕ → Desk) → List Entry
+  run [] lines q = []
+  run (o ∷ os) lines q =
+      entryOf lines o q ∷ run os (lines ++ linesOf plan draw u lines o q) (λ i. deskAfter (doneAt plan draw u lines o q i))
+
+  -- f of row r, "whose dealer is a post of the group"
+  unfoldable pub polynomialSeen : ℕ → List ℕ
+  polynomialSeen r =
+      elim (plan .raw r) [ none ↦ [] | by dealer ↦ cond (member dealer group) (drawnF (planShape plan) (rawDraw draw r)) [] ]
 
   -- "both points of each post" follow one another in the list
   unfoldable pub pointsSeen : ℕ → List ℕ
@@ -99,15 +117,15 @@ module _ (plan : Plan) (group : List ℕ) (draw : Draw) (u : Secrets) where
   unfoldable pub tripleSeen : ℕ → List (List ℕ)
   tripleSeen i = map (λ r. cond (plan .triple r) (triplePack plan draw i r) []) allRows
 
-  -- everything that the group sees of the calls cs, from new sessions with the numbers `rows` in the posts' lists of rows; the D lines
-  -- are broadcast before the first call
-  unfoldable pub seen : (ℕ → List ℕ) → List Step → Seen
-  seen rows cs =
+  -- everything that the group sees of the orders os, from new sessions with the numbers `rows` in the posts' lists of rows; the D lines
+  -- are broadcast before the first order
+  unfoldable pub seen : (ℕ → List ℕ) → List Item → Seen
+  seen rows os =
       record {
         points = map pointsSeen group;
         raws = map rawSeen group;
         triples = map tripleSeen group;
         polynomials = map polynomialSeen allRows;
-        deals = dealLines;
-        entries = run cs dealLines (λ i. newPost plan draw (rows i) i);
+        deals = dealLines plan draw u;
+        entries = run os (dealLines plan draw u) (λ i. newDesk plan draw (rows i) i);
       }

@@ -1,5 +1,5 @@
--- Document 01, "What a group of posts sees": "Demand 3's list holds loads and calls on a session." One list for all posts, who
--- make its calls in step; of each call what is fixed, and what follows the draw.
+-- Document 01, "What a group of posts sees": "Demand 3's list holds loads and calls on a session", and by document 02, (xii), lines placed
+-- and turns. One list for all posts, who carry out its orders in step; of each what is fixed, and what follows the draw.
 use Prim.Native.Nat.{ℕ, _%_}
 use mathlib.Core.Path.{refl}
 use mathlib.Core.Bool.{Bool, true}
@@ -10,6 +10,7 @@ use Rattle.factory.specs.Calls.{dealerNumber}
 use Rattle.runs.specs.Draws.{Plan, Draw, whenRaw, rawDraw, rawPack, triplePack}
 use Rattle.runs.specs.Outline.{cut, Kinds, CallOf, outline, Filling, filled}
 use Rattle.runs.specs.Calls.{Actual, Call}
+use Rattle.runs.specs.Orders.{OrderOf}
 pub use Rattle.runs.specs.Calls.{loadRow, loadTriple, deal, opening, linear, masks, collect, multiply, relationMasks, relationFinish, access}
 
 -- "A list of secrets gives one u for each row with a dealer."
@@ -56,6 +57,11 @@ Record = ℕ → List (List ℕ) → List ℕ
 abbrev pub Lent : Type 0
 Lent = ℕ → List Following
 
+-- A line that is placed, the same at every post: the D line of row r's dealer, or fixed bytes. (A row without a dealer has no such line.)
+pub data Placed : Type 0 where
+  theirs : (r : ℕ) → Placed
+  bytes : List ℕ → Placed
+
 -- A call of the list, with the numbers fixed in it. An opening message may be made by few posts: `heard` says by which. It changes
 -- nothing at a post, so one that is not heard stands for none.
 abbrev pub Fixed : Kinds
@@ -66,11 +72,16 @@ Fixed =
       Record = Record;
       Lent = Lent;
       Heard = ℕ → Bool;
+      Line = Placed;
       part = λ m j blocks. λ i lines. cut m j (blocks i lines);
     }
 
 abbrev pub Step : Type 0
 Step = CallOf Fixed
+
+-- An order of the list: such a call, a line placed, a turn.
+abbrev pub Item : Type 0
+Item = OrderOf Fixed
 
 abbrev pub message : (r caller : ℕ) (lent : Lent) (heard : ℕ → Bool) → Step
 message r caller lent heard = CallOf.message (record { r = r; caller = caller; lent = lent; heard = heard })

@@ -27,12 +27,16 @@ use Rattle.relation.specs.Masks.{relationMasksRefusal, maskedTerms, termMasks}
 use Rattle.relation.specs.Finish.{recordTests, relationFinishRefusal, withProducts, plusTerms, finishedTerms}
 use Rattle.decimal.specs.Numeral.{lastDigits, sizeWithin, leading, valueAfter, fieldOf}
 use Rattle.csv.specs.Fields.{fields, fieldsAt}
+use Rattle.forms.specs.Forms.{formOf}
+use Rattle.dealers.specs.State.{overlong, badState, firstAfter, chosen}
+use Rattle.dealers.specs.Calls.{placeRefusal, countRefusal, takenRefusal}
+use Rattle.runs.specs.Orders.{carry}
 use Rattle.runs.specs.Draws.{pointOf, rawDraw, tripleDraw, rawPack, triplePack}
 use Rattle.runs.specs.Calls.{perform, newPost, at}
 use Rattle.secrecy.specs.Steps.{dealtNumber}
-use Rattle.secrecy.specs.Seen.{Seen, posts, allRows, joined, entryOf, run, polynomialSeen, dealSeen, pointsSeen, rawSeen, tripleSeen, seen}
+use Rattle.secrecy.specs.Seen.{Seen, posts, allRows, joined, entryOf, run, polynomialSeen, dealSeen, pointsSeen, rawSeen, tripleSeen, seen, newDesk}
 use Rattle.secrecy_examples.specs.Example.{Example, seenOf}
 
 unfoldable pub sees : Example → Seen
-unfolding sum product difference euclid inverse value nodal weight terms interpolated outcome anyBeyond eachFrom part dealerRefusal combined plusSums created badPoints loadRowRefusal loadTripleRefusal withTriple dealRefusal messageRefusal linearRefusal Blocks.badBlock Blocks.badBlocks Blocks.sent Accepting.accepts Accepting.share Accepting.passing Accepting.walk Accepting.opened Accepting.disagree allPairs openRefusal masksRefusal maskNumbersOf collectRefusal multiplyRefusal productRow withProduct productsOf padded eachAt namedIn namedTwice relationMasksRefusal maskedTerms termMasks recordTests relationFinishRefusal withProducts plusTerms finishedTerms lastDigits sizeWithin fields pointOf rawDraw tripleDraw rawPack triplePack perform newPost at dealtNumber posts allRows joined entryOf run polynomialSeen dealSeen pointsSeen rawSeen tripleSeen seen shared commas accessRefusal admitted placed leading valueAfter fieldOf fieldsAt
+unfolding sum product difference euclid inverse value nodal weight terms interpolated outcome anyBeyond eachFrom part dealerRefusal combined plusSums created badPoints loadRowRefusal loadTripleRefusal withTriple dealRefusal messageRefusal linearRefusal Blocks.badBlock Blocks.badBlocks Blocks.sent Accepting.accepts Accepting.share Accepting.passing Accepting.walk Accepting.opened Accepting.disagree allPairs openRefusal masksRefusal maskNumbersOf collectRefusal multiplyRefusal productRow withProduct productsOf padded eachAt namedIn namedTwice relationMasksRefusal maskedTerms termMasks recordTests relationFinishRefusal withProducts plusTerms finishedTerms lastDigits sizeWithin fields pointOf rawDraw tripleDraw rawPack triplePack perform newPost at dealtNumber posts allRows joined entryOf run polynomialSeen dealSeen pointsSeen rawSeen tripleSeen seen shared commas accessRefusal admitted placed leading valueAfter fieldOf fieldsAt formOf carry newDesk overlong badState firstAfter chosen placeRefusal countRefusal takenRefusal
 sees x = seenOf x

@@ -2,7 +2,7 @@
 use mathlib.Core.Path.{_≡_, refl}
 use mathlib.Core.List.{_++_}
 use Rattle.runs.specs.Callers.{allPosts}
-use Rattle.secrecy.specs.Seen.{postsAfter}
+use Rattle.secrecy.specs.Seen.{desksAfter}
 use Rattle.secrecy.specs.Book.{bookAfter}
 use Rattle.secrecy_examples.specs.Example.{AtWork}
 use Rattle.secrecy_examples.specs.ThreePosts as Three
@@ -14,9 +14,10 @@ use Rattle.secrecy_examples.specs.Relation as Relation
 use Rattle.secrecy_examples.specs.Relation.{relation, RelationOpened, RelationBooks}
 use Rattle.secrecy_examples.specs.TwoPoints as Two
 use Rattle.secrecy_examples.specs.TwoPoints.{twoPoints, TwoPointsOpened}
-use Rattle.secrecy_examples.specs.Barred.{barred, setsOver, BarredPremises, BarredBooks, BarredSets, BarredKept}
+use Rattle.secrecy_examples.specs.Barred.{barred, setsOver, BarredBooks, BarredSets, BarredKept}
+use Rattle.secrecy_examples.specs.Turns.{turns, TurnsBooks, TurnsKept}
 use Rattle.secrecy_examples.proofs.Computing.{sees}
-use Rattle.secrecy_examples.proofs.Premised.{is-draw, premises, at-work, called-premises}
+use Rattle.secrecy_examples.proofs.Premised.{is-draw, premises, at-work}
 
 three-seen : sees three ≡ three .shown
 unfolding sees three
@@ -35,7 +36,7 @@ unfolding sees three
 three-lent = refl
 
 pub three-ends : ThreeEnds
-unfolding sees three postsAfter
+unfolding sees three desksAfter
 three-ends = refl
 
 four-seen : sees four ≡ four .shown
@@ -110,10 +111,6 @@ pub barred-at-work : AtWork barred
 unfolding sees barred is-draw premises
 barred-at-work = at-work barred Three.masksSent 0 barred-seen tt tt tt refl
 
-pub barred-premises : BarredPremises
-unfolding barred
-barred-premises = called-premises barred (barred-at-work .premises)
-
 pub barred-books : BarredBooks
 unfolding sees barred premises bookAfter
 barred-books = (refl, refl, refl, refl, refl)
@@ -123,5 +120,21 @@ unfolding sees barred setsOver allPosts
 barred-sets = refl
 
 pub barred-kept : BarredKept
-unfolding sees barred postsAfter
+unfolding sees barred desksAfter
 barred-kept = refl
+
+turns-seen : sees turns ≡ turns .shown
+unfolding sees turns
+turns-seen = refl
+
+pub turns-at-work : AtWork turns
+unfolding sees turns is-draw premises
+turns-at-work = at-work turns Three.masksSent 0 turns-seen tt tt tt refl
+
+pub turns-books : TurnsBooks
+unfolding sees turns premises bookAfter
+turns-books = (refl, refl, refl)
+
+pub turns-kept : TurnsKept
+unfolding sees turns desksAfter
+turns-kept = refl

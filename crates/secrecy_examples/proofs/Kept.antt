@@ -1,6 +1,7 @@
 -- Searches for the proof that a record keeps the rules, that its answers are the same, and that the numbers opened agree.
 use Prim.Native.Nat.{ℕ, _+_, _≤_}
 use mathlib.Core.Path.{_≡_, ap}
+use mathlib.Core.Bool.{Bool, true, false, false≢true}
 use mathlib.Core.Logic.{_≢_, ⊎-elim}
 use mathlib.Core.List.{List, [], _∷_, _++_}
 use mathlib.Core.Option.{Option, none, some}
@@ -13,17 +14,29 @@ use Rattle.shape.specs.declared.Shape.{Shape}
 use Rattle.shape.specs.Marks.{present}
 use Rattle.shape.specs.Lengths.{vLength, masksLength}
 use Rattle.opening.specs.Walking.{blockMark, blockCoefficients}
+use Rattle.refusal.specs.Refusal.{outcome}
+use Rattle.refusal.specs.Conditions.{anyBeyond}
+use Rattle.decimal.specs.Numeral.{leading, valueAfter, fieldOf}
+use Rattle.csv.specs.Fields.{fieldsAt}
+use Rattle.forms.specs.Forms.{formOf}
+use Rattle.dealers.specs.State.{firstAfter}
+use Rattle.dealers.specs.Calls.{takenRefusal}
 use Rattle.forms.specs.Lines as Line
 use Rattle.forms.specs.Lines.{text}
 use Rattle.runs.specs.Draws as Draws
 use Rattle.runs.specs.Draws.{Plan, Raw, IsRaw, planShape}
 use Rattle.runs.specs.Outline.{Taking, nothingTaken, aRowPack, aTriplePack, aNumber, aRecord, twoRecords, takes, Given, moves, Sending, itsOpening, itsMasks, sends, EveryFrom, Every}
 use Rattle.runs.specs.Calls.{Told, ToldHalf, masksLine, openingLine}
+use Rattle.runs.specs.Calls.{at}
+use Rattle.runs.specs.Callers.{Sets}
+use Rattle.runs.specs.Orders.{Comes, noCall, aCall, Asked, setsAfter}
 use Rattle.secrecy.specs.Steps as Steps
-use Rattle.secrecy.specs.Steps.{Secrets, Fixed, Step, Pack, PackAt, its, other, Number}
+use Rattle.secrecy.specs.Steps.{Secrets, Fixed, Step, Item, Pack, PackAt, its, other, Number}
 use Rattle.secrecy.specs.Seen.{Entry}
-use Rattle.secrecy.specs.Rules.{AllSame, SameAnswers, refusalOf, OwnPack, FromDealer, OnlySent, Walks, RuleWith, Rule, Rules}
-use Rattle.secrecy.specs.Book.{Book, booked, AgreesBy, Agrees, Agree}
+use Rattle.secrecy.specs.Waiting.{Waiting, waitingAfter, comesOf}
+use Rattle.secrecy.specs.Callers.{called}
+use Rattle.secrecy.specs.Rules.{AllSame, SameAnswers, refusalOf, OwnPack, FromDealer, OnlySent, Walks, RuleWith, Rule, heardOf, Rules}
+use Rattle.secrecy.specs.Book.{Book, bookedBy, AgreesBy, Agrees, Agree}
 use Rattle.secrecy_examples.proofs.Found.{_also_, both, either, tested, same, equal, below, where-equal, each, each-post, among}
 
 -- ---- the same answers
@@ -113,6 +126,11 @@ module _ {A : Type 0} (P : A → Type 0) (found : (x : A) → Option (P x)) wher
   every [] = some tt
   every (x ∷ xs) = every-from x xs
 
+-- of the call that an order comes to
+unfoldable pub asked : (P : Step → Type 0) → ((c : Step) → Option (P c)) → (m : Comes Fixed) → Option (Asked P m)
+asked P f noCall = some tt
+asked P f (aCall c) = f c
+
 module _ (plan : Plan) (sent : List (List ℕ)) where
   unfoldable pub rule-with : (k : ℕ) (lines : List (List ℕ)) (t : Taking) (x : Given Fixed t) → Option (RuleWith plan k lines t x)
   unfolding both tested where-equal where-walks drawn-raw own-pack from-dealer told told-half only-sent
@@ -132,11 +150,13 @@ module _ (plan : Plan) (sent : List (List ℕ)) where
   rule c k lines =
       every (λ m. RuleWith plan k lines (takes (m .0)) (m .1)) (λ m. rule-with k lines (takes (m .0)) (m .1)) (moves c)
 
-  unfoldable pub rules : (cs : List Step) (es : List Entry) (lines : List (List ℕ)) → Option (Rules plan cs es lines)
-  unfolding both rule
-  rules [] es lines = some tt
-  rules (c ∷ cs) [] lines = some tt
-  rules (c ∷ cs) (e ∷ es) lines = both (rule c (refusalOf e) lines) (rules cs es (lines ++ e .lines))
+  unfoldable pub rules : (os : List Item) (es : List Entry) (lines : List (List ℕ)) (w : Waiting) → Option (Rules plan os es lines w)
+  unfolding both rule asked firstAfter at outcome takenRefusal formOf leading valueAfter fieldOf fieldsAt anyBeyond
+  rules [] es lines w = some tt
+  rules (o ∷ os) [] lines w = some tt
+  rules (o ∷ os) (e ∷ es) lines w =
+      both (asked (λ c. Rule plan c (refusalOf e) lines) (λ c. rule c (refusalOf e) lines) (comesOf w o))
+      (rules os es (lines ++ heardOf o e) (waitingAfter o (refusalOf e) w))
 
 -- ---- the numbers opened
 
@@ -149,9 +169,19 @@ unfoldable pub agrees : (c : Step) (k : ℕ) (b b' : Book) → Option (Agrees c 
 unfolding every agrees-by
 agrees c k b b' = every (AgreesBy k b b') (agrees-by k b b') (sends c)
 
-unfoldable pub agree : (u u' : Secrets) (cs : List Step) (es : List Entry) (b b' : Book) → Option (Agree u u' cs es b b')
-unfolding both agrees
-agree u u' [] es b b' = some tt
-agree u u' (c ∷ cs) [] b b' = some tt
-agree u u' (c ∷ cs) (e ∷ es) b b' =
-    both (agrees c (refusalOf e) b b') (agree u u' cs es (booked u c (refusalOf e) b) (booked u' c (refusalOf e) b'))
+-- asked where a test passes
+unfoldable pub where-true : {A : Type 0} (b : Bool) → Option A → Option (b ≡ true → A)
+unfolding _also_
+where-true true o = some (λ x e. x) also o
+where-true false o = some (λ e. absurd (false≢true e))
+
+unfoldable pub agree : (plan : Plan) (u u' : Secrets) (os : List Item) (es : List Entry) (w : Waiting) (X : Sets) (b b' : Book)
+    → Option (Agree plan u u' os es w X b b')
+unfolding both agrees asked where-true firstAfter at outcome takenRefusal formOf leading valueAfter fieldOf fieldsAt anyBeyond
+agree plan u u' [] es w X b b' = some tt
+agree plan u u' (o ∷ os) [] w X b b' = some tt
+agree plan u u' (o ∷ os) (e ∷ es) w X b b' =
+    both
+    (asked (λ c. called plan X c ≡ true → Agrees c (refusalOf e) b b') (λ c. where-true (called plan X c) (agrees c (refusalOf e) b b')) (comesOf w o))
+    (agree plan u u' os es (waitingAfter o (refusalOf e) w) (setsAfter (comesOf w o) (refusalOf e) X) (bookedBy u (comesOf w o) (refusalOf e) b)
+    (bookedBy u' (comesOf w o) (refusalOf e) b'))

@@ -19,12 +19,11 @@ use Rattle.vectors.proofs.Draws.{element-at}
 use Rattle.runs.specs.Draws as Draws
 use Rattle.runs.specs.Draws.{Raw, Plan, Draw, IsRaw, Sound, Lists, IsDraw, rawLength, tripleLength}
 use Rattle.runs.specs.Calls.{Among}
-use Rattle.runs.specs.Callers.{Sets, allPosts, setAfter}
-use Rattle.secrecy.specs.Steps.{Secrets, Step}
-use Rattle.secrecy.specs.Seen.{Entry, member}
-use Rattle.secrecy.specs.Rules.{refusalOf}
-use Rattle.secrecy.specs.Book.{Book, blank, booked, Agree}
-use Rattle.secrecy.specs.Callers.{AgreeCalled, PremisesCalled}
+use Rattle.runs.specs.Callers.{allPosts}
+use Rattle.secrecy.specs.Steps.{Secrets}
+use Rattle.secrecy.specs.Seen.{member}
+use Rattle.secrecy.specs.Waiting.{noneWaiting}
+use Rattle.secrecy.specs.Book.{blank}
 use Rattle.secrecy.specs.Claim.{Group, Premises}
 use Rattle.secrecy.specs.Count.{count, draws, shows}
 use Rattle.secrecy.proofs.Tests.{shows-of-same}
@@ -120,8 +119,8 @@ module _ (x : Example) where
 
   -- `sent` are the masks that posts broadcast
   unfoldable pub premises : (sent : List (List ℕ))
-      → Option (Premises (planOf x) (x .group) (secretsOf (x .secrets)) (secretsOf (x .secrets')) (x .steps) (x .shown))
-  unfolding _also_ sound group-few elements dealers same-answers rules agree blank
+      → Option (Premises (planOf x) (x .group) (secretsOf (x .secrets)) (secretsOf (x .secrets')) (x .orders) (x .shown))
+  unfolding _also_ sound group-few elements dealers same-answers rules agree allPosts blank
   premises sent =
       some (λ s g e e' d a k q. record {
         sound = s;
@@ -138,8 +137,8 @@ module _ (x : Example) where
       also elements (x .secrets')
       also dealers (x .raws) (x .group) (x .secrets) (x .secrets')
       also same-answers (x .shown .entries)
-      also rules (planOf x) sent (x .steps) (x .shown .entries) (x .shown .deals)
-      also agree (secretsOf (x .secrets)) (secretsOf (x .secrets')) (x .steps) (x .shown .entries) blank blank
+      also rules (planOf x) sent (x .orders) (x .shown .entries) (x .shown .deals) noneWaiting
+      also agree (planOf x) (secretsOf (x .secrets)) (secretsOf (x .secrets')) (x .orders) (x .shown .entries) noneWaiting allPosts blank blank
 
 -- ---- the claim
 
@@ -169,28 +168,8 @@ module _ (x : Example) where
         differ = (r, raw, eqb-false (u r) (secretsOf (x .secrets') r) ne);
         shows = record { is-draw = drawn; same = seen-is };
         some =
-            some-pass (shows (planOf x) (x .group) (x .rows) (x .steps) u (x .shown)) (draws (planOf x)) (x .draw)
+            some-pass (shows (planOf x) (x .group) (x .rows) (x .orders) u (x .shown)) (draws (planOf x)) (x .draw)
             (all-draws (planOf x) .0 (x .draw) drawn)
-            (shows-of-same (planOf x) (x .group) (x .rows) (x .steps) u (x .shown) (x .draw) seen-is);
-        as-many = equal-counts (planOf x) (x .group) (x .rows) (x .steps) u (secretsOf (x .secrets')) (x .shown) met;
+            (shows-of-same (planOf x) (x .group) (x .rows) (x .orders) u (x .shown) (x .draw) seen-is);
+        as-many = equal-counts (planOf x) (x .group) (x .rows) (x .orders) u (secretsOf (x .secrets')) (x .shown) met;
       }
-
--- what is asked with the sets is no more
-agrees-called : (plan : Plan) (u u' : Secrets) (cs : List Step) (es : List Entry) (X : Sets) (b b' : Book) → Agree u u' cs es b b'
-    → AgreeCalled plan u u' cs es X b b'
-agrees-called plan u u' [] es X b b' a = tt
-agrees-called plan u u' (c ∷ cs) [] X b b' a = tt
-agrees-called plan u u' (c ∷ cs) (e ∷ es) X b b' a =
-    ((λ t. a .0), agrees-called plan u u' cs es (setAfter c (refusalOf e) X) (booked u c (refusalOf e) b) (booked u' c (refusalOf e) b') (a .1))
-
-pub called-premises : (x : Example) → Premises (planOf x) (x .group) (secretsOf (x .secrets)) (secretsOf (x .secrets')) (x .steps) (x .shown)
-    → PremisesCalled (planOf x) (x .group) (secretsOf (x .secrets)) (secretsOf (x .secrets')) (x .steps) (x .shown)
-called-premises x h = record {
-  sound = h .sound;
-  group-few = h .group-few;
-  secrets = h .secrets;
-  dealers = h .dealers;
-  same-answers = h .same-answers;
-  rules = h .rules;
-  agree = agrees-called (planOf x) _ _ (x .steps) (x .shown .entries) allPosts blank blank (h .agree);
-}

@@ -13,9 +13,8 @@ use Rattle.runs.specs.Callers.{Sets, allPosts, setAfter}
 use Rattle.secrecy.specs.Steps.{Record, Step, own, sent, loadRow, loadTriple, deal, message, opening, linear, masks, collect, multiply, access}
 use Rattle.secrecy.specs.Seen.{Entry, Seen, posts}
 use Rattle.secrecy.specs.Rules.{refusalOf}
-use Rattle.secrecy.specs.Claim.{postsOf}
-use Rattle.secrecy.specs.Callers.{PremisesCalled}
-use Rattle.secrecy_examples.specs.Example.{Example, planOf, secretsOf, openedBy, bookedAt, padded, of, blocks, present, still}
+use Rattle.secrecy.specs.Claim.{desksOf}
+use Rattle.secrecy_examples.specs.Example.{Example, planOf, secretsOf, openedBy, bookedAt, padded, of, blocks, present, still, calls}
 use Rattle.secrecy_examples.specs.ThreePosts.{raws, triples, group, draw, zeros, masksA, masksB}
 use Rattle.secrecy_examples.specs.ThreePostsSeen.{raw0, raw1, raw2, loaded, dealt0, dealt1, dealt2, dealt, spent, masksLines, call}
 
@@ -122,16 +121,12 @@ barred =
       triples = triples;
       group = group;
       rows = zeros;
-      steps = steps;
+      orders = calls steps;
       draw = draw;
       secrets = 6 ∷ 7 ∷ 9 ∷ [];
       secrets' = 5 ∷ 8 ∷ 9 ∷ [];
       shown = shown;
     }
-
--- The premises hold as they are asked with the sets.
-abbrev pub BarredPremises : Type 0
-BarredPremises = PremisesCalled (planOf barred) group (secretsOf (barred .secrets)) (secretsOf (barred .secrets')) steps shown
 
 -- Row 2 is opened to 9; the product and the sum differ in the two books.
 abbrev pub BarredBooks : Type 0
@@ -163,7 +158,7 @@ abbrev pub BarredKept : Type 0
 BarredKept =
     map
     (λ i.
-    let s = postsOf (planOf barred) zeros steps shown (secretsOf (barred .secrets)) draw i .session in
+    let s = desksOf (planOf barred) zeros (calls steps) shown (secretsOf (barred .secrets)) draw i .post .session in
     map (λ r. getD (s .barred) r 0) (0 ∷ 8 ∷ 16 ∷ 40 ∷ 48 ∷ []))
     (posts 3)
     ≡ replicate 3 (4294967292 ∷ 4294967291 ∷ 0 ∷ 4294967295 ∷ 4294967292 ∷ [])

@@ -11,7 +11,7 @@ use Rattle.forms.specs.Lines as Line
 use Rattle.runs.specs.Calls.{openingLine}
 use Rattle.secrecy.specs.Steps.{Record, Step, own, sent, loadRow, loadTriple, deal, message, opening, linear, masks, collect, multiply}
 use Rattle.secrecy.specs.Seen.{Entry, Seen, posts}
-use Rattle.secrecy_examples.specs.Example.{Example, openedBy, bookedAt, padded, of, blocks, present, still}
+use Rattle.secrecy_examples.specs.Example.{Example, openedBy, bookedAt, padded, of, blocks, present, still, calls}
 use Rattle.secrecy_examples.specs.ThreePosts.{raws, triples, group, draw, zeros, masksA, masksB}
 use Rattle.secrecy_examples.specs.ThreePostsSeen.{raw0, raw1, raw2, loaded, masksLines, call}
 
@@ -104,7 +104,7 @@ chargeWith fee =
       triples = triples;
       group = group;
       rows = zeros;
-      steps = stepsWith fee;
+      orders = calls (stepsWith fee);
       draw = draw;
       secrets = 2 ∷ 4 ∷ 9 ∷ [];
       secrets' = 1 ∷ 6 ∷ 9 ∷ [];

@@ -8,7 +8,7 @@ use Rattle.forms.specs.Lines as Line
 use Rattle.runs.specs.Calls.{loadRow, openingLine, masksLine}
 use Rattle.secrecy.specs.Steps.{callAt}
 use Rattle.secrecy.specs.Seen.{Entry, Seen, posts, joined}
-use Rattle.secrecy_examples.specs.Example.{Example, planOf, secretsOf, openedBy, bookedAt, padded, of, filled, entry}
+use Rattle.secrecy_examples.specs.Example.{Example, planOf, secretsOf, openedBy, bookedAt, padded, of, filled, entry, calls}
 use Rattle.secrecy_examples.specs.FourPosts.{raws, triples, group, draw, start}
 use Rattle.secrecy_examples.specs.FourPosts.{mixed, masksSent, productSent, sumSent, heardBy, masksA, masksB, steps}
 
@@ -144,7 +144,7 @@ four =
       triples = triples;
       group = group;
       rows = start;
-      steps = steps;
+      orders = calls steps;
       draw = draw;
       secrets = 3 ∷ 10 ∷ 9 ∷ 1 ∷ [];
       secrets' = 5 ∷ 6 ∷ 9 ∷ 2 ∷ [];

@@ -7,3 +7,4 @@ pub mod Charge
 pub mod Relation
 pub mod TwoPoints
 pub mod Barred
+pub mod Turns

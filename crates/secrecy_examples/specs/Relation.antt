@@ -13,7 +13,7 @@ use Rattle.runs.specs.Draws.{Raw, Draw, by}
 use Rattle.runs.specs.Calls.{openingLine, masksLine}
 use Rattle.secrecy.specs.Steps.{Record, Step, own, sent, loadRow, loadTriple, deal, message, opening, relationMasks, relationFinish}
 use Rattle.secrecy.specs.Seen.{Entry, Seen, posts, joined}
-use Rattle.secrecy_examples.specs.Example.{Example, openedBy, bookedAt, padded, of, blocks, present, still}
+use Rattle.secrecy_examples.specs.Example.{Example, openedBy, bookedAt, padded, of, blocks, present, still, calls}
 use Rattle.secrecy_examples.specs.ThreePosts as Three
 use Rattle.secrecy_examples.specs.ThreePosts.{group, zeros, masksSent, masksA, masksB}
 use Rattle.secrecy_examples.specs.ThreePostsSeen.{raw0, raw1, raw2, loaded, dealt0, dealt1, spent, call}
@@ -164,7 +164,7 @@ relation =
       triples = triples;
       group = group;
       rows = zeros;
-      steps = steps;
+      orders = calls steps;
       draw = draw;
       secrets = 6 ∷ 7 ∷ 78 ∷ [];
       secrets' = 5 ∷ 8 ∷ 65 ∷ [];

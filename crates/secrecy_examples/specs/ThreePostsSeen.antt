@@ -10,8 +10,8 @@ use Rattle.runs.specs.Calls.{message, openingLine, masksLine}
 use Rattle.secrecy.specs.Steps as Steps
 use Rattle.secrecy.specs.Steps.{callAt}
 use Rattle.secrecy.specs.Seen.{Entry, Seen, posts}
-use Rattle.secrecy.specs.Claim.{postsOf}
-use Rattle.secrecy_examples.specs.Example.{Example, planOf, secretsOf, openedBy, padded, of, filled, entry}
+use Rattle.secrecy.specs.Claim.{desksOf}
+use Rattle.secrecy_examples.specs.Example.{Example, planOf, secretsOf, openedBy, padded, of, filled, entry, calls}
 use Rattle.secrecy_examples.specs.ThreePosts.{raws, triples, group, zeros}
 use Rattle.secrecy_examples.specs.ThreePosts.{masksSent, productSent, sumSent, nothing, masksA, masksB, products, sums, used, steps, draw}
 
@@ -121,7 +121,7 @@ three =
       triples = triples;
       group = group;
       rows = zeros;
-      steps = steps;
+      orders = calls steps;
       draw = draw;
       secrets = 6 ∷ 7 ∷ 9 ∷ [];
       secrets' = 7 ∷ 6 ∷ 9 ∷ [];
@@ -140,7 +140,7 @@ abbrev pub ThreeEnds : Type 0
 ThreeEnds =
     map
     (λ i.
-    let s = postsOf (planOf three) zeros steps shown (secretsOf (three .secrets)) draw i .session in
+    let s = desksOf (planOf three) zeros (calls steps) shown (secretsOf (three .secrets)) draw i .post .session in
     take 8 (s .marks) ++ (getD (s .«factor_a») 3 0 ∷ getD (s .«factor_b») 3 0 ∷ getD (s .«y_a») 3 0 ∷ getD (s .«y_b») 3 0 ∷ []))
     (posts 3)
     ≡ replicate 3 (2 ∷ 2 ∷ 2 ∷ 6 ∷ 6 ∷ 2 ∷ 2 ∷ 0 ∷ 0 ∷ 1 ∷ 4 ∷ 2 ∷ [])

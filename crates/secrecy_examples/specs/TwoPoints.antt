@@ -12,7 +12,7 @@ use Rattle.runs.specs.Draws.{Raw, Draw, by}
 use Rattle.runs.specs.Calls.{openingLine, masksLine}
 use Rattle.secrecy.specs.Steps.{Record, Step, own, sent, loadRow, loadTriple, deal, message, opening, linear, masks, collect, multiply}
 use Rattle.secrecy.specs.Seen.{Entry, Seen, posts}
-use Rattle.secrecy_examples.specs.Example.{Example, openedBy, padded, of, blocks, present, still, filled, entry}
+use Rattle.secrecy_examples.specs.Example.{Example, openedBy, padded, of, blocks, present, still, filled, entry, calls}
 
 -- Row 0 is dealt by post 1, row 1 by someone who is no post; one triple, at row 2.
 unfoldable pub raws : List Raw
@@ -161,7 +161,7 @@ twoPoints =
       triples = 2 ∷ [];
       group = 3 ∷ [];
       rows = zeros;
-      steps = steps;
+      orders = calls steps;
       draw = draw;
       secrets = 6 ∷ 7 ∷ [];
       secrets' = 7 ∷ 6 ∷ [];

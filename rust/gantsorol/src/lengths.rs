@@ -34,13 +34,19 @@ pub const KIND_RAW: u8 = 1;
 /// The kind of a triple's first row.
 pub const KIND_TRIPLE: u8 = 3;
 
+/// The most dealers of a station.
+pub const DEALERS: usize = 8;
+
+/// The bytes of the dealers' state: the last dealer served, then each dealer's place, a length and 16 bytes.
+pub const DEALERS_LEN: usize = 1 + DEALERS * (1 + DEAL_LINE_LEN);
+
 /// More bytes of stack than any call takes, beside its arguments and its answer.
 pub const MOST_STACK: usize = 35_000;
 
 /// The bytes of the longest broadcast line of any station, its line feed included.
 pub const LONGEST_LINE: usize = 11_207;
 
-/// The bytes of the longest `D` line, its line feed included.
+/// The bytes of the longest `D` line, its line feed included; a dealer's place holds one.
 pub const DEAL_LINE_LEN: usize = 16;
 
 /// The numbers of all posts' check points: both points of a post follow one another.

@@ -2,8 +2,9 @@
 //!
 //! The calls are those of `include/gantsorol.h`, on slices. Each is total: any values and any
 //! lengths get an answer, which is the call's one job done or the number of the first refusal that
-//! applies (see [`Refusal`]). A refused call changes nothing. The library's one condition, that
-//! the lists of a call don't overlap, is kept by Rust's borrows.
+//! applies (see [`Refusal`]). A refused call changes nothing, but for a turn that has taken a line
+//! ([`Session::turn`]). The library's one condition, that the lists of a call don't overlap, is kept by
+//! Rust's borrows.
 //!
 //! For x86-64 only. `no_std`: the library needs nothing but `memcpy` and `memset`.
 //!
@@ -22,6 +23,9 @@
 //! otherwise while the row is raw ([`Session::access`]). [`Session::opening_message`] takes the number
 //! of the post that calls, and is refused with [`Refusal::CallerBarred`] where the row's set,
 //! [`Session::callers`], does not have it.
+//!
+//! Up to eight dealers may send lines to a station: [`Dealers`] has a place for one waiting line of each,
+//! [`Dealers::place`] fills it, and [`Session::turn`] takes one line, going round, and deals it.
 //!
 //! ```
 //! // The factory's draw for three posts, two of which open: f = 7 + 4z, and v1, v2, v3.
@@ -45,6 +49,7 @@
 compile_error!("libgantsorol.a is for x86-64, by the rules of System V");
 
 mod broadcast;
+mod dealers;
 mod erase;
 mod lengths;
 mod posts;
@@ -56,6 +61,7 @@ mod sys;
 mod works;
 
 pub use broadcast::{read, write_deal, write_masks, write_opening, Line, Written};
+pub use dealers::Dealers;
 pub use erase::erase;
 pub use lengths::*;
 pub use posts::Posts;

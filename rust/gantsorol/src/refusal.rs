@@ -7,7 +7,8 @@ use core::fmt;
 macro_rules! refusals {
     ($($number:literal $name:ident $text:literal;)+) => {
         /// Why a call was refused: the first that applies, in the order of numbers but for 14, which
-        /// comes right after 5. The names and the words are those of `enum gantsorol_refusal` in the
+        /// comes right after 5, and for lines of dealers ([`Dealers::place`](crate::Dealers::place),
+        /// [`Session::turn`](crate::Session::turn)). The names and the words are those of `enum gantsorol_refusal` in the
         /// C header.
         #[derive(Clone, Copy, Debug, PartialEq, Eq, Hash)]
         #[non_exhaustive]
@@ -59,12 +60,14 @@ refusals! {
         a kind other than 0 stands inside a triple of a pack file";
     8 NotAnElement "a number is at least p, a record's mark is above 1, or a kind of a pack file is unknown";
     9 TooFewAccepted "fewer than t+1 posts were accepted, in any record";
-    10 MalformedLine "a line read has the wrong form";
+    10 MalformedLine "a line read has the wrong form; a line to be placed is empty or longer than 16 bytes";
     11 LineOutOfRange "a line read has a number out of range";
     12 NoRoom "the list lent for a line or a file is shorter than that";
     13 InconsistentShares "an accepted share is not on the polynomial of the t+1 lowest, in any record";
     14 BadTermCount "a relation has no terms, or more than 32";
     15 CallerBarred "the post that calls for an opening is not one of the row's set, or outside 1 to n";
+    16 BadDealer "a dealer, or the dealers' state's last one, is outside 1 to 8, or a place of that state has more than 16 bytes";
+    17 PlaceFilled "a line still waits in the dealer's place";
 }
 
 impl Refusal {

@@ -99,6 +99,24 @@ extern "C" {
         first: usize,
     ) -> Answer;
 
+    pub fn gantsorol_new_state(state: *mut u8, state_len: usize) -> u8;
+
+    pub fn gantsorol_place(
+        state: *mut u8,
+        state_len: usize,
+        dealer: usize,
+        line: *const u8,
+        line_len: usize,
+    ) -> u8;
+
+    pub fn gantsorol_turn(
+        session: Session,
+        rows: *mut u32,
+        rows_len: usize,
+        state: *mut u8,
+        state_len: usize,
+    ) -> Answer;
+
     pub fn gantsorol_relation_masks(
         session: Session,
         rows: *const u32,

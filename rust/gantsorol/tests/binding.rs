@@ -1,10 +1,10 @@
 //! What the binding adds to the calls: sessions kept, refused or not, shown without their check points and erased; terms by rows
-//! of any size; sets of posts; refusals as errors.
+//! of any size; sets of posts; the dealers' state; refusals as errors.
 
 use std::error::Error;
 
-use gantsorol::{erase, rows_len, Answer, Posts, Refusal, Session, Term};
-use gantsorol::{MAX_POSTS, MODULUS, NO_ROW, ROWS, SETS_LEN};
+use gantsorol::{erase, rows_len, Answer, Dealers, Posts, Refusal, Session, Term};
+use gantsorol::{DEALERS, DEALERS_LEN, MAX_POSTS, MODULUS, NO_ROW, ROWS, SETS_LEN};
 
 fn session() -> Session {
     Session::new(3, 1, 2, &[987_654_321, 123_456_789]).accepted().expect("the session is right").0
@@ -121,6 +121,45 @@ fn a_session_shows_the_rows_that_not_every_post_may_call_for() {
         kept.take().access(line.as_bytes()).keep(&mut kept).expect("a line");
     }
     assert!(format!("{kept:?}").contains("callers: {4: {1, 3}, 9: {}}"), "{kept:?}");
+}
+
+/// What waits is what was placed, until it is taken; nothing waits at a dealer that there is not, or behind a wrong length.
+#[test]
+fn the_lines_that_wait() {
+    let mut dealers = Dealers::default();
+    assert_eq!((dealers.last(), dealers.0[1..].to_vec()), (8, vec![0; DEALERS_LEN - 1]));
+    for dealer in 1..=DEALERS {
+        assert_eq!(dealers.waiting(dealer), None);
+        let line = format!("D,{dealer},{dealer}\n");
+        assert_eq!(dealers.place(dealer, line.as_bytes()), Ok(()));
+        assert_eq!(dealers.waiting(dealer), Some(line.as_bytes()));
+    }
+    assert_eq!([0, 9, usize::MAX].map(|dealer| dealers.waiting(dealer)), [None; 3]);
+    assert_eq!(dealers.place(9, b"D,0,0\n"), Err(Refusal::BadDealer));
+    let (mut kept, mut rows) = (session(), vec![0; rows_len(3, 1, 2)]);
+    kept.take().load_row(&mut rows, 1, &[0; 12]).keep(&mut kept).expect("a row");
+    assert_eq!(kept.take().turn(&mut rows, &mut dealers).keep(&mut kept), Ok(0));
+    assert_eq!((dealers.last(), dealers.waiting(1), kept.marks[1]), (1, None, 2));
+    for dealer in 2..=DEALERS {
+        let refused = kept.take().turn(&mut rows, &mut dealers).keep(&mut kept);
+        assert_eq!((refused, dealers.last()), (Err(Refusal::WrongMark), dealer));
+        assert_eq!(dealers.waiting(dealer), None);
+    }
+    let idle = dealers.clone();
+    assert_eq!(kept.take().turn(&mut rows, &mut dealers).keep(&mut kept), Ok(0));
+    assert_eq!(dealers, idle);
+    dealers.0[1] = 17;
+    assert_eq!(dealers.waiting(1), None);
+    assert_eq!(dealers.place(2, b"D,0,0\n"), Err(Refusal::BadDealer));
+}
+
+#[test]
+fn a_dealers_state_is_shown_as_its_lines() {
+    let mut dealers = Dealers::new();
+    assert_eq!(format!("{dealers:?}"), "Dealers { last: 8, waiting: {} }");
+    dealers.place(3, b"D,0,93\n").expect("a free place");
+    let expected = "Dealers { last: 8, waiting: {3: D,0,93\\n} }";
+    assert_eq!(format!("{dealers:?}"), expected);
 }
 
 /// A row that no session has is refused with 6, also where its number is no byte or stands for no second row.

@@ -196,6 +196,34 @@ static void callers(void) {
     printf("%d %d\n", gantsorol_may_call(N, posts[1].barred, GANTSOROL_ROWS, 1), gantsorol_may_call(999, posts[1].barred, 0, 256));
 }
 
+/* Dealers 8 and 3 send for a raw row, dealer 5 sends no deal; turns take the three, and then there is no line. */
+static void turns(void) {
+    uint8_t state[GANTSOROL_DEALERS_LEN];
+    const uint32_t pack[ROW] = {1, 2, 5, 5, 17, 12, 18, 24};
+    const char *const lines[] = {"D,60,2147483640\n", "D,60,93\n", "O,60,1,1,1\n", "D,95,2147483646\n\n", ""};
+    const size_t dealers[] = {8, 3, 5, 1, 1, 3, 0, 9};
+    printf("state %d %d\n", gantsorol_new_state(state, sizeof state), gantsorol_new_state(NULL, 0));
+    keep(0, gantsorol_load_row(posts[0], rows[0], ALL, 60, pack, ROW));
+    printf("place");
+    for (size_t i = 0; i < sizeof dealers / sizeof *dealers; i++) {
+        const char *line = lines[i < 5 ? i : 0];
+        printf(" %d", gantsorol_place(state, sizeof state, dealers[i], (const uint8_t *)line, strlen(line)));
+    }
+    printf(" %d\n", gantsorol_place(state, 136, 1, NULL, 0));
+    for (int i = 0; i < 4; i++) {
+        keep(0, gantsorol_turn(posts[0], rows[0], ALL, state, sizeof state));
+        printf("dealer %d was served, waiting %d %d %d, mark %d\n", state[0], state[35], state[69], state[120],
+               posts[0].marks[60]);
+    }
+    print("row", rows[0] + 60 * ROW, ROW);
+    /* Refused before a line is taken: no rows, a place of 17 bytes. */
+    gantsorol_place(state, sizeof state, 1, (const uint8_t *)"x", 1);
+    keep(0, gantsorol_turn(posts[0], NULL, 0, state, sizeof state));
+    state[18] = 17;
+    keep(0, gantsorol_turn(posts[0], rows[0], ALL, state, sizeof state));
+    printf("waiting %d\n", state[1]);
+}
+
 static void write_lines(void) {
     uint8_t text[GANTSOROL_LONGEST_LINE];
     const uint32_t two[] = {3, 1}, four[] = {1, 0, 2147483646, 4};
@@ -305,6 +333,7 @@ int main(void) {
     multiply();
     relate();
     callers();
+    turns();
 
     /* Refused: t posts alone, empty lists, and a new session that has 0 in every field. */
     for (int i = 1; i < N; i++)

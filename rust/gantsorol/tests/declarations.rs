@@ -9,8 +9,8 @@ use std::path::Path;
 
 use common::programs::{exports, repository};
 use gantsorol::{
-    DEAL_LINE_LEN, LONGEST_LINE, MAX_POINTS, MAX_POSTS, MAX_TERMS, MODULUS, MOST_STACK, NO_ROW,
-    ROWS, SETS_LEN, SET_LEN,
+    DEALERS, DEALERS_LEN, DEAL_LINE_LEN, LONGEST_LINE, MAX_POINTS, MAX_POSTS, MAX_TERMS, MODULUS,
+    MOST_STACK, NO_ROW, ROWS, SETS_LEN, SET_LEN,
 };
 
 /// A file's text without line comments, block comments, attributes and preprocessor lines.
@@ -256,6 +256,8 @@ fn the_header_has_the_constants_of_the_binding() {
         Some((name.to_string(), value.trim_end_matches('u').parse::<usize>().ok()?))
     };
     let expected = [
+        ("DEALERS", DEALERS),
+        ("DEALERS_LEN", DEALERS_LEN),
         ("DEAL_LINE_LEN", DEAL_LINE_LEN),
         ("LONGEST_LINE", LONGEST_LINE),
         ("MAX_POINTS", MAX_POINTS),

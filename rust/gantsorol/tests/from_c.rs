@@ -64,6 +64,12 @@ fn a_relation_in_c() {
     check_example("relation");
 }
 
+/// Eight busy dealers are served in turn; a line that is no deal is refused and its place free.
+#[test]
+fn dealers_in_c() {
+    check_example("dealers");
+}
+
 /// The README shows parts of the examples that the tests compile and run: lines of the file, one after the other.
 #[test]
 fn the_readme_shows_parts_of_the_examples() {

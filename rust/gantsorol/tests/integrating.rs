@@ -16,6 +16,7 @@ const EXAMPLES: [(&str, &[&str]); 2] = [
     (
         "c",
         &[
+            "examples/dealers.c",
             "examples/given.h",
             "examples/load.h",
             "examples/plan.h",

@@ -32,7 +32,7 @@ const COUNTS: [[usize; 2]; 4] = [[0, 0], [1, 0], [0, 1], [7, 5]];
 /// The binding's function beside each macro: its arguments by their names, and its value for a size and two counts.
 type Length = (&'static str, &'static str, fn([usize; 3], [usize; 2]) -> usize);
 
-const LENGTHS: [Length; 26] = [
+const LENGTHS: [Length; 27] = [
     ("CHECK_POINTS_LEN", "n, points", |[n, _, points], _| check_points_len(n, points)),
     ("ROW_LEN", "n, t, points", |[n, t, points], _| row_len(n, t, points)),
     ("ROWS_LEN", "n, t, points", |[n, t, points], _| rows_len(n, t, points)),
@@ -57,6 +57,7 @@ const LENGTHS: [Length; 26] = [
     ("TRIPLE_PACKS_LEN", "n, t, points", |[n, t, points], _| triple_packs_len(n, t, points)),
     ("DIGITS", "n", |[n, _, _], _| digits(n)),
     ("DEAL_LINE_LEN", "", |_, _| DEAL_LINE_LEN),
+    ("DEALERS_LEN", "", |_, _| DEALERS_LEN),
     ("OPENING_LINE_LEN", "n, t, points", |[n, t, points], _| opening_line_len(n, t, points)),
     ("MASKS_LINE_LEN", "n, t, points", |[n, t, points], _| masks_line_len(n, t, points)),
     ("SETS_LEN", "", |_, _| SETS_LEN),
@@ -186,6 +187,7 @@ fn the_library_takes_these_lengths() {
         let records =
             |len| post().relation_finish(&mut rows.clone(), &terms, 7, &list(len)).refusal;
         check_exact(relation_records_len(n, t, points, 2), records);
+        check_exact(rows.len(), |len| post().turn(&mut list(len), &mut Dealers::new()).refusal);
         let line = |len| read(n, t, points, b"", &mut list(len)).refusal;
         check_exact(line_list_len(t, points), line);
     }

@@ -7,7 +7,9 @@ use std::path::Path;
 use std::process::Command;
 
 use common::programs::{compiled, ended, repository, C, CPP};
-use gantsorol::{draw_place, write_pack, Refusal, MAX_POINTS, MAX_POSTS, MAX_TERMS, ROWS};
+use gantsorol::{
+    draw_place, write_pack, Refusal, DEALERS, DEAL_LINE_LEN, MAX_POINTS, MAX_POSTS, MAX_TERMS, ROWS,
+};
 
 /// The names of the header's enum, by number, without their prefix.
 fn names() -> Vec<String> {
@@ -89,6 +91,9 @@ fn the_words_have_the_librarys_bounds() {
     say(Refusal::NoSuchRow, ROWS - 1);
     say(Refusal::NoSuchRow, ROWS - 3);
     say(Refusal::BadTermCount, MAX_TERMS);
+    say(Refusal::MalformedLine, DEAL_LINE_LEN);
+    say(Refusal::BadDealer, DEALERS);
+    say(Refusal::BadDealer, DEAL_LINE_LEN);
 }
 
 /// What refuses a pack file is said in its words.

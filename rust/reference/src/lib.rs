@@ -15,6 +15,7 @@
 
 mod callers;
 mod calls;
+mod dealers;
 mod factory;
 mod field;
 mod library;
@@ -33,6 +34,7 @@ mod street;
 
 pub use callers::{set_callers, Barred};
 pub use calls::{deal, linear, load_row, load_triple, opening_message};
+pub use dealers::{new_dealers, place_line, turn, DEALERS, DEALERS_STATE, PLACE};
 pub use factory::{dealer_number, factory_row, factory_triple};
 pub use field::{Element, MODULUS};
 pub use library::{Library, Reference, REFERENCE};

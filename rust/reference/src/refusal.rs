@@ -35,6 +35,10 @@ pub enum Refusal {
     Terms = 14,
     /// an opening message for a post that may not call for it; after 8
     Caller = 15,
+    /// a dealer, or the last dealer, outside 1..8, or a place over 16 bytes; after 5
+    Dealer = 16,
+    /// a line for a place still filled; after 16
+    Filled = 17,
 }
 
 impl Refusal {

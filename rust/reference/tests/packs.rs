@@ -71,7 +71,7 @@ fn loaded(shape: Shape, points: &[u32], post: usize, rows: &[(usize, Vec<SharedR
     let (n, t, k) = (shape.posts(), shape.threshold(), shape.points());
     let own = shape.points_of(points, post);
     let (point, second) = (own[0], own[k - 1]);
-    let blank = State { session: Session::BLANK, rows: vec![0; shape.all_rows()] };
+    let blank = State::new(Session::BLANK, vec![0; shape.all_rows()]);
     let mut state = assert_taken(&blank, Call::NewSession { n, t, post, k, point, second }).state;
     for (row, shared) in rows {
         let (row, of_all): (_, Vec<u32>) = (*row, factory(shape, points, shared));

@@ -102,7 +102,7 @@ fn every_call_checks_the_session_anew_and_first() {
 
 #[test]
 fn a_refused_session_gets_1() {
-    let blank = State { session: REFERENCE.new_session(0, 0, 0, 0, 0, 0).session, rows: vec![] };
+    let blank = State::new(REFERENCE.new_session(0, 0, 0, 0, 0, 0).session, vec![]);
     for call in valid_calls().1 {
         assert_refused(&blank, call, 1);
     }

@@ -63,7 +63,7 @@ fn the_session_is_checked_first() {
             wrong.iter().for_each(|wrong| assert_refused(&state, wrong.clone(), number));
         }
     }
-    let blank = State { session: Session::BLANK, rows: vec![] };
+    let blank = State::new(Session::BLANK, vec![]);
     valid_calls(&records).into_iter().for_each(|call| assert_refused(&blank, call, 1));
 }
 

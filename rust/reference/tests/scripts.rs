@@ -10,13 +10,13 @@ use reference::{Library, Session, Shape, LONGEST_LINE, REFERENCE};
 
 /// Replays a script; every step is checked against what document 01 says of all calls.
 fn check(script: &Script, seen: &mut Seen) {
-    let mut state = State { session: Session::BLANK, rows: script.rows.clone() };
+    let mut state = script.state();
     for (step, outcome) in script.steps.iter().zip(script.replay(&REFERENCE)) {
         seen.note(&step.call, outcome.refusal);
         if step.trial {
             check_refused(&step.call, &step.damaged(&state), &outcome);
         } else {
-            assert_eq!(outcome.refusal, 0, "{step:?}");
+            assert_eq!(outcome.refusal, step.refusal, "{step:?}");
             assert_eq!(outcome.value, step.opens_to.unwrap_or(0), "{step:?}");
             state = outcome.state;
         }
@@ -25,6 +25,7 @@ fn check(script: &Script, seen: &mut Seen) {
     assert_eq!(state.session.marks, script.marks);
     let remembered = state.session.y.into_iter().zip(state.session.y2);
     assert!(remembered.eq(script.opened.map(|[y, y2]| (y, y2))));
+    assert_eq!(state.dealers, script.dealers_after);
     for row in 0..96 {
         let callers = (1..=shape.posts()).filter(|&post| !state.session.barred[row].has(post));
         assert_eq!(callers.collect::<Vec<_>>(), script.callers[row], "row {row}");
@@ -43,7 +44,21 @@ fn check_refused(call: &Call, before: &State, outcome: &Outcome) {
         let new = matches!(call, Call::NewSession { .. });
         let expected = if new { Session::BLANK } else { before.session };
         assert_eq!(outcome.state.session, expected);
+        let taken = *call == Call::Turn && [7, 8, 10, 11].contains(&outcome.refusal);
+        let dealers = if taken { after_turn(&before.dealers) } else { before.dealers.clone() };
+        assert_eq!(outcome.state.dealers, dealers);
     }
+}
+
+/// "The place and the last dealer are all that it changes."
+fn after_turn(dealers: &[u8]) -> Vec<u8> {
+    let mut after = dealers.to_vec();
+    let length_of = |dealer: &usize| dealers[17 * dealer - 16];
+    let round = (1..=8).map(|step| (usize::from(dealers[0]) + step - 1) % 8 + 1);
+    let dealer = { round }.find(|dealer| length_of(dealer) > 0).expect("a line waits");
+    after[0] = dealer as u8;
+    after[17 * dealer - 16] = 0;
+    after
 }
 
 #[test]
@@ -146,5 +161,5 @@ fn wild_arguments_never_panic() {
             seen[usize::from(outcome.refusal)] += 1;
         }
     }
-    assert!((0..12).chain([14, 15]).all(|refusal| seen[refusal] > 0), "{seen:?}");
+    assert!((0..12).chain(14..18).all(|refusal| seen[refusal] > 0), "{seen:?}");
 }

@@ -10,5 +10,4 @@ ruleset steps = (needs, shape-sized, deal-stopped, deal-checked)
 pub deal-refusal-spec : {M : Type 1} → statement M
 deal-refusal-spec =
     tie.close
-    (tie.spec (λ c κs. search needs) (λ c. search steps) (λ c. search needs) (λ c κs. search needs) (λ c κs. search needs) (λ c κs. search needs)
-    (λ c κs. search steps) (λ c κs. search needs) (λ c κs. search needs) (λ c κs. search needs) (λ c κs. search needs) (λ c. search steps))
+    (tie.spec (λ c κs. search needs) (λ c. search steps) (λ c κs. search needs) (λ c. search needs) (λ c κs. search steps) (λ c. search steps))

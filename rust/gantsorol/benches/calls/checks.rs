@@ -1,8 +1,8 @@
 //! The fastest Rust answers as the second implementation does.
 
-use reference::random::{check_points, paperwork, script, unwritten, written, Call, Rng, State};
+use reference::random::{check_points, paperwork, script, unwritten, written, Call, Rng};
 use reference::random::{Paperwork, PaperworkOutcome, WriteMessage};
-use reference::{Library, Session, Shape, REFERENCE};
+use reference::{Library, Shape, REFERENCE};
 
 use crate::fastest;
 
@@ -18,7 +18,7 @@ fn openings() {
     let mut openings = 0;
     for seed in 0..300 {
         let script = script(seed, 60);
-        let mut state = State { session: Session::BLANK, rows: script.rows.clone() };
+        let mut state = script.state();
         for (step, outcome) in script.steps.iter().zip(script.replay(&REFERENCE)) {
             if let Call::Open { row, record } = &step.call {
                 let copy = step.damaged(&state);

@@ -4,7 +4,8 @@
 //!
 //! A ratio is of times taken in the same round: the median of all rounds, and the quartiles, since
 //! the extremes are the machine's. The library's own time is taken twice in a round; how far that
-//! ratio spreads around 1 is the noise.
+//! ratio spreads around 1 is the noise. Beside a turn stands, as the fastest, reading and dealing the
+//! line by two calls of the library.
 //!
 //!     cargo bench --manifest-path rust/Cargo.toml --bench calls
 //!     cargo bench --manifest-path rust/Cargo.toml --bench calls -- count    # instructions, by valgrind

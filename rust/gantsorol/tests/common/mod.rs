@@ -45,6 +45,23 @@ extern "C" {
         first: u32,
         second: u32,
     ) -> gantsorol::Answer;
+
+    /// The binding's dealers' state has 137 bytes; here it has any number of them.
+    fn gantsorol_new_state(state: *mut u8, state_len: usize) -> u8;
+    fn gantsorol_place(
+        state: *mut u8,
+        state_len: usize,
+        dealer: usize,
+        line: *const u8,
+        line_len: usize,
+    ) -> u8;
+    fn gantsorol_turn(
+        session: Session,
+        rows: *mut u32,
+        rows_len: usize,
+        state: *mut u8,
+        state_len: usize,
+    ) -> gantsorol::Answer;
 }
 
 /// A new session as the library's call makes it, whatever it is given.
@@ -148,6 +165,24 @@ impl Library for Verified {
 
     fn set_callers(&self, s: reference::Session, line: &[u8]) -> Answer {
         answered(given(s).access(line))
+    }
+
+    fn new_dealers(&self, dealers: &mut [u8]) -> u8 {
+        // SAFETY: the list is a borrowed slice's pointer and length.
+        unsafe { gantsorol_new_state(dealers.as_mut_ptr(), dealers.len()) }
+    }
+
+    fn place_line(&self, dealers: &mut [u8], dealer: usize, line: &[u8]) -> u8 {
+        // SAFETY: each list is a borrowed slice's pointer and length, and `dealers` overlaps no other.
+        unsafe {
+            gantsorol_place(dealers.as_mut_ptr(), dealers.len(), dealer, line.as_ptr(), line.len())
+        }
+    }
+
+    fn turn(&self, s: reference::Session, rows: &mut [u32], dealers: &mut [u8]) -> Answer {
+        let (state, length) = (dealers.as_mut_ptr(), dealers.len());
+        // SAFETY: each list is a borrowed slice's pointer and length, and neither overlaps the other.
+        answered(unsafe { gantsorol_turn(given(s), rows.as_mut_ptr(), rows.len(), state, length) })
     }
 
     fn open(&self, s: reference::Session, rows: &[u32], row: usize, record: &[u32]) -> Answer {

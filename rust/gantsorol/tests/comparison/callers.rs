@@ -22,7 +22,7 @@ fn forged(rng: &mut Rng, n: usize) -> State {
     session.marks[FIRST..FIRST + 3].copy_from_slice(&[7, 4, 4]);
     (session.left[FIRST], session.right[FIRST]) = (HELD[0] as u8, HELD[1] as u8);
     session.barred = std::array::from_fn(|_| wild_bars(rng));
-    State { session, rows: vec![0; gantsorol::rows_len(n, 1, 1)] }
+    State::new(session, vec![0; gantsorol::rows_len(n, 1, 1)])
 }
 
 /// Some of the posts 1 to n.
@@ -48,7 +48,7 @@ fn check_callers(session: Session, rows: &[u32], row: usize) {
 fn sets_at_every_number_of_posts() {
     for n in 2..=MAX_POSTS {
         let mut rng = Rng::new(n as u64);
-        let State { mut session, rows } = forged(&mut rng, n);
+        let State { mut session, rows, .. } = forged(&mut rng, n);
         check_callers(session, &rows, HELD[0]);
         let listed = some(&mut rng, n);
         let set = Verified.set_callers(session, &callers_line(RAW, &listed));
@@ -60,7 +60,7 @@ fn sets_at_every_number_of_posts() {
         check_callers(session, &rows, RAW);
         let [a, b] = HELD;
         let plain = |row| Term { coefficient: 0, row, second: NO_ROW, first: 0 };
-        let state = State { session, rows };
+        let state = State::new(session, rows);
         for call in [
             Call::Linear { dest: EMPTY, a, b: RAW, scale: 0, fee: 0 },
             Call::Linear { dest: EMPTY, a, b: a, scale: 1, fee: 1 },
@@ -72,10 +72,11 @@ fn sets_at_every_number_of_posts() {
             },
         ] {
             assert_eq!(compare_call(n as u64, &call, &state), 0, "{call:?}");
-            let State { session, mut rows } = state.clone();
-            rows.pop();
-            assert_eq!(compare_call(n as u64, &call, &State { session, rows }), 5, "{call:?}");
+            let mut short = state.clone();
+            short.rows.pop();
+            assert_eq!(compare_call(n as u64, &call, &short), 5, "{call:?}");
         }
+        assert_eq!(compare_call(n as u64, &Call::Multiply { first: 94 }, &state), 6);
     }
 }
 
@@ -93,7 +94,7 @@ fn factors_that_are_not_held() {
                 .expect("a row")) = row;
             assert_eq!(multiply(session).refusal, if held { 0 } else { 7 }, "{row}");
             let call = Call::Multiply { first: FIRST };
-            compare_call(row.into(), &call, &State { session, rows: state.rows.clone() });
+            compare_call(row.into(), &call, &State::new(session, state.rows.clone()));
         }
     }
     for mark in 0..=255 {
@@ -104,7 +105,7 @@ fn factors_that_are_not_held() {
 }
 
 /// Every line that differs from this one in a byte: another, one more or one less; and every beginning of it.
-fn nearly(line: &[u8]) -> Vec<Vec<u8>> {
+pub fn nearly(line: &[u8]) -> Vec<Vec<u8>> {
     let odd = b",0129-+ AaD\n\r\0/:\xff";
     let at = |place: usize| {
         let (before, after) = line.split_at(place);

@@ -5,6 +5,7 @@
 mod common;
 
 mod callers;
+mod dealers;
 mod odd;
 mod one_list;
 mod paperwork;
@@ -33,7 +34,7 @@ fn compare(seed: u64, script: &Script, seen: &mut Seen) {
         seen.note(&step.call, outcome.refusal);
         if !step.trial {
             let answer = (outcome.refusal, outcome.value);
-            assert_eq!(answer, (0, step.opens_to.unwrap_or(0)), "seed {seed}: {step:?}");
+            assert_eq!(answer, (step.refusal, step.opens_to.unwrap_or(0)), "seed {seed}: {step:?}");
         }
     }
 }
@@ -82,12 +83,14 @@ const SQUARES: Met = &[
     ("Deal", &[0, 1, 2, 3, 4, 5, 6, 7, 8]),
     ("OpeningMessage", &[0, 5, 6, 7, 8, 15]),
     ("SetCallers", &[0, 7, 10, 11]),
+    ("PlaceLine", &[0, 10, 16, 17]),
+    ("Turn", &[0, 5, 7, 10, 11, 16]),
     ("Open", &[0, 5, 6, 7, 8, 9, 13]),
     ("Linear", &[0, 5, 6, 7, 8]),
     ("Masks", &[0, 5, 6, 7, 8]),
     ("OpenMasks", &[0, 5, 6, 7, 8, 9, 13]),
     // 5 of a multiply: callers.rs, at every number of posts
-    ("Multiply", &[0, 6, 7]),
+    ("Multiply", &[0, 7]),
     ("RelationMasks", &[0, 5, 6, 7, 8, 14]),
     ("RelationFinish", &[0, 5, 6, 7, 8, 9, 13, 14]),
 ];

@@ -51,7 +51,7 @@ fn odd_triples(rng: &mut Rng, mark: u8) -> State {
     for row in rows.chunks_mut(6) {
         row[4..].copy_from_slice(&rng.elements(2));
     }
-    State { session, rows }
+    State::new(session, rows)
 }
 
 /// Terms over that state, up to 32 of them: products with triples of their own, and plain terms.

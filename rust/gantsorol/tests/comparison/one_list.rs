@@ -12,7 +12,7 @@ fn two_records_that_are_parts_of_one_list() {
     let mut opened = 0;
     for seed in seeds(5_000) {
         let mut rng = Rng::new(seed);
-        let (State { session, rows }, first) = odd_triple(&mut rng, 5);
+        let (State { session, rows, .. }, first) = odd_triple(&mut rng, 5);
         let list: Vec<u32> =
             (0..9).map(|place| u32::from(place % 3 == 0 || rng.one_in(9))).collect();
         let [left, right] =

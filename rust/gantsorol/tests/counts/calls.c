@@ -157,6 +157,22 @@ static uint32_t shown(void) { return drawn(TEN_DIGITS); }
 static int fits(uint32_t x) { return TEN_DIGITS <= x; }
 #endif
 
+/* A dealer's line waits and is taken: its number is shown. Then one that is refused once it is taken, and no line. */
+static void deal_by_turn(void) {
+    uint8_t line[GANTSOROL_DEAL_LINE_LEN], dealers[GANTSOROL_DEALERS_LEN];
+    must(gantsorol_new_state(dealers, sizeof dealers) == 0, "new state");
+    keep(gantsorol_load_row(session, rows, rows_len, TURN, part(A), row_len), 0, 0, "load row");
+    gantsorol_written written = gantsorol_write_deal(n, t, TURN, shown(), line, sizeof line);
+    must(written.refusal == 0, "write D");
+    for (size_t dealer = 2; dealer <= GANTSOROL_DEALERS; dealer += 3)
+        must(gantsorol_place(dealers, sizeof dealers, dealer, line, written.len) == 0, "place");
+    must(gantsorol_place(dealers, sizeof dealers, 2, line, written.len) == 17, "place, 17");
+    for (size_t dealer = 2; dealer <= GANTSOROL_DEALERS; dealer += 3)
+        keep(gantsorol_turn(session, rows, rows_len, dealers, sizeof dealers), dealer == 2 ? 0 : 7, 0, "turn");
+    keep(gantsorol_turn(session, rows, rows_len, dealers, sizeof dealers), 0, 0, "turn, no line");
+    must(dealers[0] == GANTSOROL_DEALERS, "the last dealer was served");
+}
+
 static void write_and_read(void) {
     static uint8_t line[GANTSOROL_LONGEST_LINE];
     uint32_t list[2 * MESSAGE], out[2 * MESSAGE];
@@ -207,6 +223,7 @@ int main(int count, char **arguments) {
         sum();
         multiply();
         relate();
+        deal_by_turn();
         write_and_read();
         write_pack();
     }

@@ -15,8 +15,8 @@
 
 enum { MESSAGE = GANTSOROL_MESSAGE_LEN(MOST, GANTSOROL_MAX_POINTS) };
 enum { P = GANTSOROL_MODULUS, POST = 2, TEN_DIGITS = 1000000000, FEE = 80, SCALE = 35, TWO = 2 };
-/* Rows: two numbers, two triples, a sum, a relation's sum, one that stays empty. */
-enum { A = 0, B = 1, FIRST = 2, SECOND = 5, SUM = 8, RELATION = 9, EMPTY = 10, DRAWN = 8 };
+/* Rows: two numbers, two triples, a sum, a relation's sum, one that stays empty, one that is dealt by a turn. */
+enum { A = 0, B = 1, FIRST = 2, SECOND = 5, SUM = 8, RELATION = 9, EMPTY = 10, TURN = 11, DRAWN = 8 };
 
 /* k: the coefficients of a polynomial that is sent; f has t+1. */
 static size_t n, t, points, k, row_len, rows_len, block, record_len, draw_len;

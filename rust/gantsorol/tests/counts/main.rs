@@ -113,7 +113,8 @@ fn a_branch_on_a_coefficient_is_seen() {
 /// Lines are sent to all; a pack file is not.
 #[test]
 fn text_tells_how_many_digits_it_has() {
-    let text = ["read", "write_deal", "write_opening", "write_masks", "write_pack"];
+    let text =
+        ["place", "read", "turn", "write_deal", "write_opening", "write_masks", "write_pack"];
     let text = text.map(|call| format!("gantsorol_{call}"));
     for points in [1, 2] {
         let lists = lists("any_digits", &["-DANY_DIGITS"], [3, 1, points]);

@@ -9,7 +9,8 @@ pub use reference::{Reference, REFERENCE};
 
 /// Every call of both papers. All methods are total: no argument makes them panic.
 ///
-/// Lists are lent; a refused call leaves every one of them as it was.
+/// Lists are lent; a refused call leaves every one of them as it was, but for a turn whose line is
+/// taken.
 pub trait Library {
     /// A new session with k check points, of which `second` is the second one where k is 2; refused,
     /// one with 0 in every field.
@@ -44,6 +45,15 @@ pub trait Library {
 
     /// Reads an `A` line: who may call for the opening of a raw row.
     fn set_callers(&self, s: Session, line: &[u8]) -> Answer;
+
+    /// A new state of the dealers, in 137 bytes; the refusal.
+    fn new_dealers(&self, dealers: &mut [u8]) -> u8;
+
+    /// Puts a dealer's line into its place; the refusal.
+    fn place_line(&self, dealers: &mut [u8], dealer: usize, line: &[u8]) -> u8;
+
+    /// Takes the next dealer's line and deals it. Refused once it is taken, the line is gone.
+    fn turn(&self, s: Session, rows: &mut [u32], dealers: &mut [u8]) -> Answer;
 
     /// Opens a held row with a record of n blocks.
     fn open(&self, s: Session, rows: &[u32], row: usize, record: &[u32]) -> Answer;

@@ -4,7 +4,8 @@ use super::Library;
 use crate::lines::{ReadLine, Written};
 use crate::relation::{self, Term};
 use crate::session::{Answer, Session};
-use crate::{callers, calls, factory, lines, opening, pack, product, session, street, MODULUS};
+use crate::MODULUS;
+use crate::{callers, calls, dealers, factory, lines, opening, pack, product, session, street};
 
 /// This implementation, over the field with `P` elements.
 #[derive(Clone, Copy, Debug, Default)]
@@ -51,6 +52,18 @@ impl<const P: u32> Library for Reference<P> {
 
     fn set_callers(&self, s: Session, line: &[u8]) -> Answer {
         callers::set_callers::<P>(s, line)
+    }
+
+    fn new_dealers(&self, dealers: &mut [u8]) -> u8 {
+        dealers::new_dealers(dealers)
+    }
+
+    fn place_line(&self, dealers: &mut [u8], dealer: usize, line: &[u8]) -> u8 {
+        dealers::place_line(dealers, dealer, line)
+    }
+
+    fn turn(&self, s: Session, rows: &mut [u32], dealers: &mut [u8]) -> Answer {
+        dealers::turn::<P>(s, rows, dealers)
     }
 
     fn open(&self, s: Session, rows: &[u32], row: usize, record: &[u32]) -> Answer {

@@ -91,3 +91,14 @@ pub(crate) fn try_read<const P: u32>(
         post: parsed.post.unwrap_or(0) as usize,
     })
 }
+
+/// The row and the number of a `D` line, 10 for any other.
+pub(crate) fn try_read_deal<const P: u32>(
+    shape: Shape,
+    line: &[u8],
+) -> Result<(usize, u32), Refusal> {
+    let parsed = Parsed::parse(shape, line).filter(|parsed| parsed.letter == b'D');
+    let parsed = parsed.ok_or(Refusal::Form)?;
+    parsed.expect_range::<P>(shape)?;
+    Ok((parsed.row as usize, parsed.elements[0] as u32))
+}

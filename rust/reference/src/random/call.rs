@@ -1,6 +1,6 @@
 //! The calls on a session as data.
 
-use crate::{Answer, Library, Session, Term, NO_ROW};
+use crate::{Answer, Library, Session, Term, DEALERS, DEALERS_STATE, NO_ROW};
 
 /// What a post keeps between two calls.
 #[derive(Clone, Debug, PartialEq, Eq)]
@@ -9,6 +9,17 @@ pub struct State {
     pub session: Session,
     /// The lent list of rows.
     pub rows: Vec<u32>,
+    /// The lent state of the dealers.
+    pub dealers: Vec<u8>,
+}
+
+impl State {
+    /// These, and dealers of whom none has a line waiting.
+    pub fn new(session: Session, rows: Vec<u32>) -> Self {
+        let mut dealers = vec![0; DEALERS_STATE];
+        dealers[0] = DEALERS as u8;
+        Self { session, rows, dealers }
+    }
 }
 
 /// One call with its arguments, beside the session and the rows. Lists to be filled are given by
@@ -22,6 +33,9 @@ pub enum Call {
     Deal { row: usize, c: u32 },
     OpeningMessage { row: usize, caller: usize, out: usize },
     SetCallers { line: Vec<u8> },
+    NewDealers,
+    PlaceLine { dealer: usize, line: Vec<u8> },
+    Turn,
     Open { row: usize, record: Vec<u32> },
     Linear { dest: usize, a: usize, b: usize, scale: u32, fee: u32 },
     Masks { a: usize, b: usize, first: usize, out: usize },
@@ -38,7 +52,7 @@ pub struct Outcome {
     pub refusal: u8,
     /// The number opened.
     pub value: u32,
-    /// Session and rows after the call.
+    /// Session, rows and dealers after the call.
     pub state: State,
     /// The list that was lent to be filled.
     pub out: Vec<u32>,
@@ -47,41 +61,46 @@ pub struct Outcome {
 impl Call {
     /// Makes the call on a copy of `state`.
     pub fn perform(&self, library: &impl Library, state: &State) -> Outcome {
-        let s = state.session;
-        let mut rows = state.rows.clone();
+        let mut state = state.clone();
         let mut out = unwritten(self.out_length());
-        let answer: Answer = match *self {
+        let answer = self.answer(library, &mut state, &mut out);
+        state.session = answer.session;
+        Outcome { refusal: answer.refusal, value: answer.value, state, out }
+    }
+
+    /// What the library answers. The session that it hands back is still to be kept.
+    fn answer(&self, library: &impl Library, state: &mut State, out: &mut [u32]) -> Answer {
+        let State { session: s, ref mut rows, ref mut dealers } = *state;
+        let answered = |refusal| Answer { refusal, value: 0, session: s };
+        match *self {
             Self::NewSession { n, t, post, k, point, second } => {
                 library.new_session(n, t, post, k, point, second)
             }
-            Self::LoadRow { row, ref pack } => library.load_row(s, &mut rows, row, pack),
-            Self::LoadTriple { first, ref pack } => library.load_triple(s, &mut rows, first, pack),
-            Self::Deal { row, c } => library.deal(s, &mut rows, row, c),
+            Self::LoadRow { row, ref pack } => library.load_row(s, rows, row, pack),
+            Self::LoadTriple { first, ref pack } => library.load_triple(s, rows, first, pack),
+            Self::Deal { row, c } => library.deal(s, rows, row, c),
             Self::OpeningMessage { row, caller, .. } => {
-                library.opening_message(s, &rows, row, caller, &mut out)
+                library.opening_message(s, rows, row, caller, out)
             }
             Self::SetCallers { ref line } => library.set_callers(s, line),
-            Self::Open { row, ref record } => library.open(s, &rows, row, record),
+            Self::NewDealers => answered(library.new_dealers(dealers)),
+            Self::PlaceLine { dealer, ref line } => {
+                answered(library.place_line(dealers, dealer, line))
+            }
+            Self::Turn => library.turn(s, rows, dealers),
+            Self::Open { row, ref record } => library.open(s, rows, row, record),
             Self::Linear { dest, a, b, scale, fee } => {
-                library.linear(s, &mut rows, dest, a, b, scale, fee)
+                library.linear(s, rows, dest, a, b, scale, fee)
             }
-            Self::Masks { a, b, first, .. } => library.masks(s, &rows, a, b, first, &mut out),
+            Self::Masks { a, b, first, .. } => library.masks(s, rows, a, b, first, out),
             Self::OpenMasks { first, ref record, ref record2 } => {
-                library.open_masks(s, &rows, first, record, record2)
+                library.open_masks(s, rows, first, record, record2)
             }
-            Self::Multiply { first } => library.multiply(s, &mut rows, first),
-            Self::RelationMasks { ref terms, .. } => {
-                library.relation_masks(s, &rows, terms, &mut out)
-            }
+            Self::Multiply { first } => library.multiply(s, rows, first),
+            Self::RelationMasks { ref terms, .. } => library.relation_masks(s, rows, terms, out),
             Self::RelationFinish { ref terms, ref records, dest } => {
-                library.relation_finish(s, &mut rows, terms, records, dest)
+                library.relation_finish(s, rows, terms, records, dest)
             }
-        };
-        Outcome {
-            refusal: answer.refusal,
-            value: answer.value,
-            state: State { session: answer.session, rows },
-            out,
         }
     }
 
@@ -104,6 +123,19 @@ impl Call {
             Self::RelationFinish { records, .. } => vec![records],
             _ => vec![],
         }
+    }
+
+    /// The line that the call reads.
+    pub(super) fn line(&mut self) -> Option<&mut Vec<u8>> {
+        match self {
+            Self::SetCallers { line } | Self::PlaceLine { line, .. } => Some(line),
+            _ => None,
+        }
+    }
+
+    /// Whether the call is lent the state of the dealers.
+    pub(super) fn takes_dealers(&self) -> bool {
+        matches!(self, Self::NewDealers | Self::PlaceLine { .. } | Self::Turn)
     }
 
     /// The terms of a relation.
@@ -147,7 +179,8 @@ impl Call {
             | Self::OpenMasks { first, .. }
             | Self::Multiply { first } => vec![first],
             Self::OpeningMessage { row, caller, out } => vec![row, caller, out],
-            Self::SetCallers { .. } => vec![],
+            Self::PlaceLine { dealer, .. } => vec![dealer],
+            Self::SetCallers { .. } | Self::NewDealers | Self::Turn => vec![],
             Self::Linear { dest, a, b, .. } => vec![dest, a, b],
             Self::Masks { a, b, first, out } => vec![a, b, first, out],
             Self::RelationMasks { out: size, .. } | Self::RelationFinish { dest: size, .. } => {
@@ -170,8 +203,10 @@ impl Call {
     pub fn rows(&self) -> Vec<usize> {
         let triple = |first: usize| [first, first.saturating_add(1), first.saturating_add(2)];
         match *self {
-            Self::NewSession { .. } => vec![],
-            Self::SetCallers { ref line } => row_of(line).into_iter().collect(),
+            Self::NewSession { .. } | Self::NewDealers | Self::Turn => vec![],
+            Self::SetCallers { ref line } | Self::PlaceLine { ref line, .. } => {
+                row_of(line).into_iter().collect()
+            }
             Self::LoadRow { row, .. }
             | Self::Deal { row, .. }
             | Self::OpeningMessage { row, .. }
@@ -187,7 +222,7 @@ impl Call {
     }
 }
 
-/// The row that an `A` line names.
+/// The row that an `A` or a `D` line names.
 fn row_of(line: &[u8]) -> Option<usize> {
     let field = line.split(|&byte| byte == b',').nth(1)?;
     std::str::from_utf8(field).ok()?.parse().ok()

@@ -67,6 +67,7 @@ fn partings(a: &Outcome, b: &Outcome) -> Vec<String> {
     note("value", a.value.to_string(), b.value.to_string());
     note("out", format!("{:?}", a.out), format!("{:?}", b.out));
     note("session", format!("{:?}", a.state.session), format!("{:?}", b.state.session));
+    note("dealers", format!("{:?}", a.state.dealers), format!("{:?}", b.state.dealers));
     let rows = a.state.rows.iter().zip(&b.state.rows).enumerate();
     if let Some((place, (a, b))) = rows.clone().find(|(_, (a, b))| a != b) {
         note(&format!("rows at {place}"), a.to_string(), b.to_string());

@@ -1,9 +1,10 @@
 //! Damage to calls and to what a post keeps.
 
 use super::{mutate, Call, Rng, State};
-use crate::{Barred, Shape, Term, MAX_POSTS, MAX_TERMS, MODULUS, NO_ROW, ROWS};
+use crate::{Barred, Shape, Term, DEALERS, DEALERS_STATE, PLACE};
+use crate::{MAX_POSTS, MAX_TERMS, MODULUS, NO_ROW, ROWS};
 
-/// Something wrong with session or rows.
+/// Something wrong with session, rows or dealers.
 #[derive(Clone, Copy, Debug, PartialEq, Eq)]
 #[allow(missing_docs)]
 pub enum Damage {
@@ -21,6 +22,8 @@ pub enum Damage {
     Point(u32),
     Second(u32),
     Length(usize),
+    Dealers { place: usize, byte: u8 },
+    DealersLength(usize),
 }
 
 impl Damage {
@@ -46,11 +49,20 @@ impl Damage {
             Self::Point(point) => session.point = point,
             Self::Second(point) => session.second = point,
             Self::Length(length) => state.rows.resize(length, u32::MAX),
+            Self::Dealers { place, byte } => {
+                if let Some(place) = state.dealers.get_mut(place) {
+                    *place = byte;
+                }
+            }
+            Self::DealersLength(length) => state.dealers.resize(length, u8::MAX),
         }
     }
 
     /// Damage that concerns `call` more often than not.
     pub(super) fn random(rng: &mut Rng, shape: Shape, call: &Call) -> Self {
+        if call.takes_dealers() && rng.one_in(2) {
+            return Self::random_dealers(rng);
+        }
         let named: Vec<usize> = call.rows().into_iter().filter(|&row| row < ROWS).collect();
         let some_row = rng.below(ROWS);
         let row = match rng.pick_any(&named) {
@@ -69,6 +81,22 @@ impl Damage {
             10 => Self::Y2 { first: row, number: rng.number() },
             11 => random_bars(rng, shape, row),
             _ => Self::random_heading(rng),
+        }
+    }
+
+    /// Damage to the dealers' state: its length, the last dealer, a place's length, any byte.
+    fn random_dealers(rng: &mut Rng) -> Self {
+        match rng.below(4) {
+            0 => Self::DealersLength(random_length(rng, DEALERS_STATE)),
+            1 => Self::Dealers { place: 0, byte: rng.pick(&[0, 1, 7, 8, 9, 255]) },
+            2 => {
+                let place = 1 + (1 + PLACE) * rng.below(DEALERS);
+                Self::Dealers { place, byte: rng.pick(&[0, 1, 15, 16, 17, 255]) }
+            }
+            _ => {
+                let (place, byte) = (rng.below(DEALERS_STATE), rng.below(256) as u8);
+                Self::Dealers { place, byte }
+            }
         }
     }
 
@@ -150,8 +178,12 @@ pub(super) fn damage_list(rng: &mut Rng, list: &mut Vec<u32>) {
 /// The call with one argument made wrong, or at least different.
 pub(super) fn damaged(rng: &mut Rng, call: &Call) -> Call {
     let mut call = call.clone();
-    if let Call::SetCallers { line } = &mut call {
-        *line = mutate(rng, line);
+    let only_line = call.sizes().is_empty();
+    if let Some(line) = call.line().filter(|_| only_line || rng.one_in(2)) {
+        *line = other_line(rng, line);
+        return call;
+    }
+    if only_line {
         return call;
     }
     if call.terms().is_some() && rng.one_in(2) {
@@ -180,6 +212,16 @@ pub(super) fn damaged(rng: &mut Rng, call: &Call) -> Call {
         }
     }
     call
+}
+
+/// The line with something changed, or with as many bytes as a place holds, or more, or none.
+fn other_line(rng: &mut Rng, line: &[u8]) -> Vec<u8> {
+    if !rng.one_in(4) {
+        return mutate(rng, line);
+    }
+    let mut other = line.to_vec();
+    other.resize(rng.pick(&[0, 1, PLACE, PLACE + 1, 300]), b'1');
+    other
 }
 
 /// One thing about the terms of a relation made different: a term, or how many there are.

@@ -1,7 +1,7 @@
 //! States and calls with every number at random, which never were part of a session.
 
 use super::{mutate, Call, Rng, State};
-use crate::{Barred, Session, Term, NO_ROW, ROWS};
+use crate::{Barred, Session, Term, DEALERS, DEALERS_STATE, NO_ROW, PLACE, ROWS};
 
 /// Numbers of a row, of two posts of which either opens with the other.
 const ROW: usize = 6;
@@ -28,7 +28,25 @@ pub fn wild_state(rng: &mut Rng, sane: bool) -> State {
         0 => rng.elements(length),
         _ => (0..length).map(|_| rng.number()).collect(),
     };
-    State { session, rows }
+    State { session, rows, dealers: wild_dealers(rng, sane) }
+}
+
+/// A state of the dealers with right lengths, in most places a line, or with nothing right.
+fn wild_dealers(rng: &mut Rng, sane: bool) -> Vec<u8> {
+    if !sane && rng.one_in(3) {
+        return vec![rng.below(256) as u8; rng.pick(&[0, 136, 137, 138, 274])];
+    }
+    let mut state = vec![rng.between(1, DEALERS) as u8];
+    for _ in 0..DEALERS {
+        let line = format!("D,{},{}\n", rng.below(ROWS + 2), rng.number());
+        let line = if rng.one_in(3) { mutate(rng, line.as_bytes()) } else { line.into_bytes() };
+        let length = if rng.one_in(2) { line.len() } else { rng.below(PLACE + 1) };
+        state.push(length.min(PLACE + usize::from(rng.one_in(40))) as u8);
+        state.extend(line.into_iter().chain([255; PLACE]).take(PLACE));
+    }
+    let length = if rng.one_in(40) { rng.below(200) } else { DEALERS_STATE };
+    state.resize(length, 0);
+    state
 }
 
 /// Any bits, of posts that no station has too.
@@ -41,7 +59,7 @@ pub fn wild_bars(rng: &mut Rng) -> Barred {
 }
 
 /// Each call once, most of them wild.
-pub fn wild_calls(rng: &mut Rng) -> [Call; 13] {
+pub fn wild_calls(rng: &mut Rng) -> [Call; 16] {
     let list = |rng: &mut Rng| {
         let length = rng.pick(&[6, 6, 6, 18, 18, 5, 7, 0]);
         (0..length).map(|_| rng.number()).collect::<Vec<_>>()
@@ -58,6 +76,9 @@ pub fn wild_calls(rng: &mut Rng) -> [Call; 13] {
             out: rng.pick(&[2, 2, 2, 0, 1, 3]),
         },
         Call::SetCallers { line: wild_line(rng, a) },
+        Call::NewDealers,
+        Call::PlaceLine { dealer: rng.below(11), line: wild_line(rng, a) },
+        Call::Turn,
         Call::Open { row: a, record: list(rng) },
         Call::Linear { dest: a, a: b, b: c, scale: rng.number(), fee: rng.number() },
         Call::Masks { a, b, first: c, out: rng.pick(&[4, 4, 4, 0, 3, 5]) },
@@ -114,5 +135,5 @@ pub fn odd_triple(rng: &mut Rng, mark: u8) -> (State, usize) {
     (session.left[first], session.right[first]) = (rng.below(98) as u8, rng.below(98) as u8);
     let mut number = || if rng.one_in(400) { rng.number() } else { u32::from(rng.one_in(10)) };
     let rows = (0..ROWS * ROW).map(|_| number()).collect();
-    (State { session, rows }, first)
+    (State::new(session, rows), first)
 }

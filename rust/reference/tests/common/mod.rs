@@ -62,7 +62,7 @@ impl Station {
         let k = points.len() / n;
         let shape = Shape::checked(n, t, k).unwrap();
         let start = |(post, points): (usize, &[u32])| {
-            let blank = State { session: Session::BLANK, rows: vec![0; shape.all_rows()] };
+            let blank = State::new(Session::BLANK, vec![0; shape.all_rows()]);
             let (point, second) = (points[0], points.get(1).copied().unwrap_or(0));
             assert_taken(&blank, Call::NewSession { n, t, post, k, point, second }).state
         };

@@ -5,6 +5,7 @@
 //! a rule is broken on purpose.
 
 mod callers;
+mod dealers;
 mod draws;
 mod fee;
 mod one_row;

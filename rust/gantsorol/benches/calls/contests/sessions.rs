@@ -49,6 +49,45 @@ fn loading_and_dealing(i: &Inputs) -> Vec<Contest<'_>> {
     ]
 }
 
+/// A dealers' state in which this dealer's line of row 0 waits, and the line.
+fn waiting(i: &Inputs, dealer: usize) -> (gantsorol::Dealers, Vec<u8>) {
+    let (mut dealers, line) = (gantsorol::Dealers::new(), format!("D,0,{}\n", i.numbers[0]));
+    dealers.place(dealer, line.as_bytes()).expect("the place is free");
+    (dealers, line.into_bytes())
+}
+
+/// A turn; the third run is the same line read and dealt by two calls, of which it is to take 1.2 at most.
+fn turn<'a>(i: &'a Inputs, name: &'static str, dealer: usize) -> Contest<'a> {
+    let (n, t, points) = (i.n, i.t, i.points);
+    let ours = {
+        let (waits, _) = waiting(i, dealer);
+        let mut dealers = waits.clone();
+        on_ours(i, move |s, rows| {
+            let length = 17 * dealer - 16;
+            (dealers.0[0], dealers.0[length]) = (waits.0[0], waits.0[length]);
+            s.turn(rows, black_box(&mut dealers))
+        })
+    };
+    let second = {
+        let (waits, _) = waiting(i, dealer);
+        on_second(i, move |s, rows| REFERENCE.turn(s, rows, &mut waits.clone().0))
+    };
+    let two_calls = {
+        let (_, line) = waiting(i, dealer);
+        let mut list = vec![0; gantsorol::line_list_len(t, points)];
+        on_ours(i, move |s, rows| {
+            let read = gantsorol::read(n, t, points, black_box(&line), &mut list);
+            s.deal(rows, read.row, list[0])
+        })
+    };
+    Contest { name, runs: vec![ours, second, two_calls] }
+}
+
+/// The next dealer's line, and the last's, behind seven free places.
+fn turns(i: &Inputs) -> Vec<Contest<'_>> {
+    vec![turn(i, "turn, dealer 1", 1), turn(i, "turn, dealer 8", 8)]
+}
+
 fn openings(i: &Inputs) -> Vec<Contest<'_>> {
     let message = || vec![0; gantsorol::message_len(i.t, i.points)];
     vec![
@@ -159,7 +198,7 @@ fn relations(i: &Inputs) -> Vec<Contest<'_>> {
 }
 
 pub fn all(i: &Inputs) -> Vec<Contest<'_>> {
-    [loading_and_dealing, openings, sums_and_products, relations]
+    [loading_and_dealing, turns, openings, sums_and_products, relations]
         .into_iter()
         .flat_map(|calls| calls(i))
         .collect()

@@ -8,7 +8,7 @@ use crate::{mark, ROWS, TRIPLE};
 impl Author<'_> {
     /// One valid call of a random kind; none when no row suits it.
     pub(super) fn act(&mut self) {
-        let _ = match self.rng.below(19) {
+        let _ = match self.rng.below(24) {
             0 | 1 => self.load_row(),
             2..=4 => self.load_triple(),
             5 | 6 => self.deal(),
@@ -20,6 +20,9 @@ impl Author<'_> {
             13 => self.relation_finish(),
             14 | 15 => self.open_masks(),
             16 => self.set_callers(),
+            17..=19 => self.place_line(),
+            20 | 21 => self.turn(),
+            22 if self.rng.one_in(8) => self.new_dealers(),
             _ => self.multiply(),
         };
     }
@@ -65,7 +68,7 @@ impl Author<'_> {
         let outside: Vec<usize> =
             (0..=n + 1).filter(|post| !self.callers[row].contains(post)).collect();
         let call = message(self.rng.pick(&outside));
-        self.steps.push(Step { trial: true, damage: vec![], call, opens_to: None });
+        self.steps.push(Step::trial(call));
         let caller = self.rng.pick_any(&self.callers[row])?;
         self.step(message(caller), None);
         Some(())
@@ -87,7 +90,7 @@ impl Author<'_> {
         let shared = self.shared(row);
         for heard in [Heard::TooFew, Heard::Lies] {
             let call = Call::Open { row, record: self.record(&shared, heard) };
-            self.steps.push(Step { trial: true, damage: vec![], call, opens_to: None });
+            self.steps.push(Step::trial(call));
         }
         let record = self.record(&shared, Heard::Enough);
         self.step(Call::Open { row, record }, Some(shared.number()));

@@ -1,18 +1,20 @@
 //! A random session of one post, as a list of steps.
 
 mod calls;
+mod dealers;
 mod products;
 mod record;
 
 use super::damage::damaged;
 use super::{check_points, Call, Damage, Outcome, Rng, SharedRow, State};
-use crate::{mark, Library, Session, Shape, ROWS};
+use crate::{mark, Library, Session, Shape, DEALERS_STATE, ROWS};
+use dealers::Dealers;
 
 /// One call of a script.
 #[derive(Clone, Debug, PartialEq, Eq)]
 pub struct Step {
-    /// A trial is made on a copy of session and rows: whatever it does is seen and then forgotten.
-    /// Every other step is valid, and is not refused.
+    /// A trial is made on a copy of session, rows and dealers: whatever it does is seen and then
+    /// forgotten. Every other step is valid, and is not refused unless `refusal` says so.
     pub trial: bool,
     /// What is made wrong with the copy before a trial.
     pub damage: Vec<Damage>,
@@ -20,9 +22,16 @@ pub struct Step {
     pub call: Call,
     /// The number that an honest opening gives.
     pub opens_to: Option<u32>,
+    /// The refusal of a step that is no trial: not 0 only for a turn whose line is refused once taken.
+    pub refusal: u8,
 }
 
 impl Step {
+    /// A trial without damage.
+    fn trial(call: Call) -> Self {
+        Self { trial: true, damage: vec![], call, opens_to: None, refusal: 0 }
+    }
+
     /// The copy that a trial is made on.
     pub fn damaged(&self, state: &State) -> State {
         let mut copy = state.clone();
@@ -36,6 +45,8 @@ impl Step {
 pub struct Script {
     /// The numbers that stand in the row list at first.
     pub rows: Vec<u32>,
+    /// The bytes that stand in the dealers' state at first.
+    pub dealers: Vec<u8>,
     /// The calls, in order.
     pub steps: Vec<Step>,
     /// What stands in the rows that were written, after the last step.
@@ -46,12 +57,20 @@ pub struct Script {
     pub opened: [[u32; 2]; ROWS],
     /// The posts that may call for the opening of each row, after the last step.
     pub callers: Vec<Vec<usize>>,
+    /// The dealers' state after the last step.
+    pub dealers_after: Vec<u8>,
 }
 
 impl Script {
+    /// What the post keeps before the first step.
+    pub fn state(&self) -> State {
+        let (rows, dealers) = (self.rows.clone(), self.dealers.clone());
+        State { session: Session::BLANK, rows, dealers }
+    }
+
     /// What `library` answers, step by step.
     pub fn replay<'a, L: Library>(&'a self, library: &'a L) -> impl Iterator<Item = Outcome> + 'a {
-        let mut state = State { session: Session::BLANK, rows: self.rows.clone() };
+        let mut state = self.state();
         self.steps.iter().map(move |step| {
             let outcome = match step.damage.is_empty() {
                 true => step.call.perform(library, &state),
@@ -84,6 +103,7 @@ pub fn script_for(rng: &mut Rng, shape: Shape, length: usize) -> Script {
         factors: [(0, 0); ROWS],
         opened: [[0; 2]; ROWS],
         callers: vec![(1..=shape.posts()).collect(); ROWS],
+        dealers: Dealers::new(),
         steps: vec![],
         rng,
     };
@@ -101,6 +121,7 @@ struct Author<'r> {
     factors: [(usize, usize); ROWS],
     opened: [[u32; 2]; ROWS],
     callers: Vec<Vec<usize>>,
+    dealers: Dealers,
     steps: Vec<Step>,
 }
 
@@ -124,16 +145,19 @@ impl Author<'_> {
         // With one point the second isn't looked at.
         let second = self.points().get(1).copied().unwrap_or(other);
         self.step(Call::NewSession { n, t, post: self.post, k, point, second }, None);
+        self.step(Call::NewDealers, None);
     }
 
     fn finished(self) -> Script {
         let rows = (0..self.shape.all_rows()).map(|_| self.rng.number()).collect();
+        let dealers = (0..DEALERS_STATE).map(|_| self.rng.below(256) as u8).collect();
         let written = self.shared.iter().enumerate();
         let written = written
             .filter_map(|(row, shared)| Some((row, self.own_part(shared.as_ref()?))))
             .collect();
+        let dealers_after = self.dealers.state();
         let Self { steps, marks, opened, callers, .. } = self;
-        Script { rows, steps, written, marks, opened, callers }
+        Script { rows, dealers, steps, written, marks, opened, callers, dealers_after }
     }
 
     /// The own part of a shared number.
@@ -147,10 +171,8 @@ impl Author<'_> {
             self.trial(&call);
         }
         let repeat = self.rng.one_in(4).then(|| call.clone());
-        self.steps.push(Step { trial: false, damage: vec![], call, opens_to });
-        if let Some(call) = repeat {
-            self.steps.push(Step { trial: true, damage: vec![], call, opens_to: None });
-        }
+        self.steps.push(Step { trial: false, opens_to, ..Step::trial(call) });
+        self.steps.extend(repeat.map(Step::trial));
     }
 
     fn trial(&mut self, call: &Call) {
@@ -160,10 +182,15 @@ impl Author<'_> {
             if self.rng.one_in(2) {
                 call = damaged(self.rng, &call);
             } else {
-                damage.push(Damage::random(self.rng, self.shape, &call));
+                damage.push(self.damage_about(&call));
             }
         }
-        self.steps.push(Step { trial: true, damage, call, opens_to: None });
+        self.steps.push(Step { damage, ..Step::trial(call) });
+    }
+
+    /// Damage that concerns a call.
+    fn damage_about(&mut self, call: &Call) -> Damage {
+        Damage::random(self.rng, self.shape, call)
     }
 
     /// "A row made from others has the posts that all of them share."

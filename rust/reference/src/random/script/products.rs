@@ -24,7 +24,7 @@ impl Author<'_> {
         for _ in 0..2 {
             let [record, record2] = self.some_records(first);
             let call = Call::OpenMasks { first, record, record2 };
-            self.steps.push(Step { trial: true, damage: vec![], call, opens_to: None });
+            self.steps.push(Step::trial(call));
         }
         let [record, record2] = self.records(first, [Heard::Enough; 2]);
         self.opened(first);
@@ -107,7 +107,7 @@ impl Author<'_> {
             let records = firsts.iter().flat_map(|&first| self.some_records(first).concat());
             let call =
                 Call::RelationFinish { terms: terms.clone(), records: records.collect(), dest };
-            self.steps.push(Step { trial: true, damage: vec![], call, opens_to: None });
+            self.steps.push(Step::trial(call));
         }
         let records =
             firsts.iter().flat_map(|&first| self.records(first, [Heard::Enough; 2]).concat());

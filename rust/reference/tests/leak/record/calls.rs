@@ -2,8 +2,8 @@
 
 use reference::{
     deal, linear, load_row, load_triple, masks, multiply, open, open_masks, opening_message,
-    relation_finish, relation_masks, set_callers, write_masks, write_opening, Answer, Session,
-    Term, NO_ROW,
+    place_line, relation_finish, relation_masks, set_callers, turn, write_deal, write_masks,
+    write_opening, Answer, Session, Term, NO_ROW,
 };
 
 use super::{Station, Step};
@@ -22,6 +22,14 @@ impl<const P: u32> Station<'_, P> {
             Step::Message(row) => self.message(s, &rows, row),
             Step::Masks { a, b, first } => self.masks(s, &rows, (a, b), first),
             Step::RelationMasks(terms) => self.relation_masks(s, &rows, terms),
+            Step::Turn => (turn::<P>(s, &mut rows, &mut self.posts[post - 1].dealers), vec![]),
+            Step::Place { dealer, row } => {
+                let line = self.deal_line(row);
+                (self.place_line(s, dealer, &line), vec![])
+            }
+            Step::PlaceFixed { dealer, line } => {
+                (self.place_line(s, dealer, line.as_bytes()), vec![])
+            }
             silent => (self.silent_step(s, &mut rows, silent), vec![]),
         };
         self.posts[post - 1].rows = rows;
@@ -47,6 +55,19 @@ impl<const P: u32> Station<'_, P> {
             }
             broken => self.break_rule(s, rows, broken),
         }
+    }
+
+    /// The D line of a row's dealer.
+    fn deal_line(&self, row: usize) -> Vec<u8> {
+        let mut part = [0; 16];
+        let c = self.cs[self.index_of(row)];
+        let written = write_deal::<P>(self.plan.n, self.plan.t, row, c, &mut part);
+        part[..written.length].to_vec()
+    }
+
+    fn place_line(&mut self, s: Session, dealer: usize, line: &[u8]) -> Answer {
+        let refusal = place_line(&mut self.posts[s.post - 1].dealers, dealer, line);
+        Answer { refusal, value: 0, session: s }
     }
 
     fn message(&self, s: Session, rows: &[u32], row: usize) -> (Answer, Vec<Vec<u8>>) {

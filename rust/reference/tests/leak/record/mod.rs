@@ -5,7 +5,8 @@ mod calls;
 mod notes;
 mod plan;
 
-use reference::{factory_row, factory_triple, new_session, read, Session, Shape, TRIPLE};
+use reference::{factory_row, factory_triple, new_dealers, new_session, read, Session, Shape};
+use reference::{DEALERS_STATE, TRIPLE};
 
 use crate::draws::Draw;
 pub use plan::{Plan, Raw, Step};
@@ -23,6 +24,8 @@ struct Post {
     rows: Vec<u32>,
     /// The rows when the record was last written.
     seen: Vec<u32>,
+    /// "It starts new and is handed on like the rows."
+    dealers: [u8; DEALERS_STATE],
 }
 
 /// A station that runs a plan over and over, with other draws and secrets.
@@ -51,6 +54,7 @@ impl<'a, const P: u32> Station<'a, P> {
             session: Session::BLANK,
             rows: vec![0; shape.all_rows()],
             seen: vec![0; shape.all_rows()],
+            dealers: [0; DEALERS_STATE],
         };
         Self {
             plan,
@@ -92,6 +96,7 @@ impl<'a, const P: u32> Station<'a, P> {
         for ((post, number), points) in self.posts.iter_mut().zip(1..).zip(points.chunks(k)) {
             post.session = new_session::<P>(n, t, number, k, points[0], points[k - 1]).session;
             post.rows.copy_from_slice(&self.fixed);
+            assert_eq!(new_dealers(&mut post.dealers), 0);
             if self.group.contains(&number) {
                 post.seen.copy_from_slice(&self.fixed);
             }
@@ -135,6 +140,7 @@ impl<'a, const P: u32> Station<'a, P> {
             self.posts[post - 1].session = answer.session;
             self.record.push(answer.refusal);
             self.note_numbers(&[answer.value]);
+            self.note_dealers(step, post);
             if self.group.contains(&post) {
                 self.note_rows(post);
             }

@@ -2,7 +2,7 @@
 
 use reference::{dealer_number, write_deal};
 
-use super::{Post, Station};
+use super::{Post, Station, Step};
 use crate::draws::Draw;
 
 /// So many numbers are compared at once, to find those that a call changed.
@@ -40,6 +40,14 @@ impl<const P: u32> Station<'_, P> {
 
     pub(super) fn note_numbers(&mut self, numbers: &[u32]) {
         self.record.extend(numbers.iter().map(|&number| number as u8));
+    }
+
+    /// The dealers' state of a post of the group, after a step that is lent it.
+    pub(super) fn note_dealers(&mut self, step: Step, post: usize) {
+        let lent = matches!(step, Step::Place { .. } | Step::PlaceFixed { .. } | Step::Turn);
+        if lent && self.group.contains(&post) {
+            self.record.extend(self.posts[post - 1].dealers);
+        }
     }
 
     /// "After each call, its rows": the numbers that changed, and an end mark.

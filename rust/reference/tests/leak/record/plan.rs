@@ -10,6 +10,18 @@ pub enum Step {
     Deal(usize),
     /// Makes the opening message, for which post 1 calls, and broadcasts it.
     Message(usize),
+    /// A dealer places the D line of a row's dealer.
+    Place {
+        dealer: usize,
+        row: usize,
+    },
+    /// A dealer places a line of fixed bytes.
+    PlaceFixed {
+        dealer: usize,
+        line: &'static str,
+    },
+    /// A turn over the dealers' lines.
+    Turn,
     /// Reads an `A` line.
     Callers(&'static str),
     /// Opens with all that was broadcast for the row before.

@@ -5,7 +5,7 @@ use mathlib.Core.List.{List, [], _∷_, _++_}
 use Rattle.runs.specs.Draws.{Draw}
 use Rattle.runs.specs.Calls.{Post, message, linear, masks, collect, multiply}
 use Rattle.correctness.specs.History.{Event, World, history, begin}
-use Rattle.correctness_examples.specs.Station.{plan, drawWith, call, load, loadThree, dealOf, zeros, room, rooms, nobody}
+use Rattle.correctness_examples.specs.Station.{plan, drawWith, call, load, loadThree, dealOf, zeros, room, rooms, nobody, states}
 
 unfoldable pub drawn : List ℕ
 drawn = 2 ∷ 1 ∷ 5 ∷ 1 ∷ 3 ∷ 2 ∷ 1 ∷ 7 ∷ 5 ∷ 2 ∷ 1 ∷ 1 ∷ 6 ∷ 3 ∷ 2 ∷ 2 ∷ 9 ∷ 4 ∷ 1 ∷ 8 ∷ 3 ∷ 5 ∷ 2 ∷ []
@@ -52,7 +52,7 @@ abbrev pub events : List Event
 events = before ++ ends
 
 abbrev pub new : World
-new = begin plan draw zeros
+new = begin plan draw zeros states
 
 -- post 1 at the end, and a record with post 2's message; post 3's block is false, and is looked at and rejected
 abbrev pub last : Post

@@ -1,0 +1,12 @@
+pub mod Positions
+pub mod Placing
+pub mod Choosing
+pub mod Reading
+pub mod Turns
+pub mod Turning
+pub mod Kept
+pub mod Fair
+pub mod Example
+pub mod Laws
+pub mod Serving
+pub mod Figures

@@ -1,0 +1,9 @@
+pub mod State
+pub mod Calls
+pub mod Between
+pub mod Turning
+pub mod Fairness
+pub mod Example
+pub mod Table
+pub mod Claims
+pub mod Figures
