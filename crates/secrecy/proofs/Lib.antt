@@ -63,3 +63,6 @@ pub mod Again
 pub mod Theorems
 pub mod NeverOrders
 pub mod Known
+-- A last opening at which the group lies.
+pub mod Lying
+pub mod LyingLast

@@ -9,3 +9,4 @@ pub mod Claim
 pub mod Count
 pub mod Points
 pub mod Known
+pub mod Lies
