@@ -66,3 +66,4 @@ pub mod Known
 -- A last opening at which the group lies.
 pub mod Lying
 pub mod LyingLast
+pub mod LyingTheorems

@@ -51,8 +51,10 @@ module _ (plan : Plan) (group : List ℕ) (draw : Draw) (u : Secrets) (r : ℕ) 
         post = record {
           session = session-kept (openRefusal (q i .post .session) (q i .post .rows) r (records i))
               (opened (q i .post .session) (rowAt (width (q i .post .session)) (q i .post .rows) r) (records i)) (q i .post .session) j;
-          rows = q i .post .rows };
-        state = q i .state }))
+          rows = q i .post .rows;
+        };
+        state = q i .state;
+      }))
 
   pub all-kept : (x : Happening) (q : ℕ → Desk) → desksThen plan group draw u r x q ≡ q
   unfolding desksThen
