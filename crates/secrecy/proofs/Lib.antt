@@ -67,3 +67,5 @@ pub mod Known
 pub mod Lying
 pub mod LyingLast
 pub mod LyingTheorems
+pub mod LyingAccepted
+pub mod LyingRead

@@ -37,13 +37,13 @@ module _ (plan : Plan) (group : List ℕ) (draw : Draw) (u : Secrets) (r : ℕ) 
       go true = e i
       go false = refl
 
-  message-kept : (caller : ℕ) (lent : Lent) (by : ℕ → Bool) (q : ℕ → Desk) → deskBy plan group draw u by (call (message r caller lent by)) q ≡ q
+  pub message-kept : (caller : ℕ) (lent : Lent) (by : ℕ → Bool) (q : ℕ → Desk) → deskBy plan group draw u by (call (message r caller lent by)) q ≡ q
   unfolding deskBy carry perform
   message-kept caller lent by q =
       fun-ext (kept-by by q (λ i. deskAfter (doneAt plan draw u [] (call (message r caller lent by)) q i)) (λ i j.
       record { post = record { session = session-kept (messageRefusal (q i .post .session) (q i .post .rows) r caller (map (λ (x : Following). x draw u) (lent i))) 0 (q i .post .session) j; rows = q i .post .rows }; state = q i .state }))
 
-  open-kept : (records : ℕ → List ℕ) (by : ℕ → Bool) (q : ℕ → Desk) → deskBy plan group draw u by (call (opening r (λ i lines. records i))) q ≡ q
+  pub open-kept : (records : ℕ → List ℕ) (by : ℕ → Bool) (q : ℕ → Desk) → deskBy plan group draw u by (call (opening r (λ i lines. records i))) q ≡ q
   unfolding deskBy carry perform
   open-kept records by q =
       fun-ext (kept-by by q (λ i. deskAfter (doneAt plan draw u [] (call (opening r (λ i lines. records i))) q i)) (λ i j.

@@ -10,3 +10,4 @@ pub mod Count
 pub mod Points
 pub mod Known
 pub mod Lies
+pub mod LiesRead
