@@ -11,6 +11,7 @@ use borrow.Author.Tests.{eqb-true, eqb-false, eq-eqb}
 use lib.Dec.{eqb}
 use lib.ListN.{length, take, drop, getD, length-drop}
 use lib.Seq.{getD-take, getD-drop, take-take, length-take-le}
+use Rattle.poly.specs.Counting.{Distinct}
 use Rattle.poly.specs.Polynomial.{value}
 use Rattle.parts.proofs.Turns.{block-room}
 use Rattle.refusal.specs.Refusal.{Test, _when_, first, orElse, outcome}
@@ -26,6 +27,7 @@ use Rattle.opening.specs.Walking.{accepted, tooFew, disagree}
 use Rattle.opening.specs.Opening.{openChecks, openRefusal, openAnswer}
 use Rattle.opening.proofs.Passed.{OpenChecked, open-checked, open-clear, open-framed, open-walks, walkTests}
 use Rattle.runs.specs.Calls.{Post, Among}
+use Rattle.runs.proofs.Inside.{among-all}
 use Rattle.secrecy.specs.Rules.{Walks}
 use Rattle.secrecy.specs.Lies.{acceptedAt}
 use Rattle.secrecy.specs.LiesRead.{many, rowFrom, saidBy, IsAccepted, AcceptancesMean, AcceptancesRead}
@@ -59,6 +61,16 @@ passing-among test j (suc k) i lo hi t = go (ℕ-discrete i j) (test j) refl (λ
     go (no ne) true f h = inr (h ne)
     go (no ne) false f h = h ne
 
+passing-distinct : (test : ℕ → Bool) (j k : ℕ) → Distinct (passing test j k)
+unfolding passing
+passing-distinct test j zero = tt
+passing-distinct test j (suc k) = go (test j) (passing-distinct test (suc j) k)
+  where
+    go : (b : Bool) → Distinct (passing test (suc j) k)
+        → Distinct {R = ℕ} (elim b as (λ z. List ℕ) [ true ↦ j ∷ passing test (suc j) k | false ↦ passing test (suc j) k ])
+    go true d = (among-all (passing test (suc j) k) (λ i m e. let (a, _, _) = among-passing test (suc j) k i m in omega arith), d)
+    go false d = d
+
 -- ---- the checks before a walk
 
 refusal-of : (k v : ℕ) (s : Session) → answer k v s s .refusal ≡ k
@@ -75,6 +87,11 @@ outcome-among : (k j : ℕ) (xs : List ℕ) → k ≡ 0 → Among j xs → Among
 unfolding outcome
 outcome-among zero j xs e m = m
 outcome-among (suc k) j xs e m = absurd (omega arith)
+
+distinct-outcome : (k : ℕ) (xs : List ℕ) → Distinct xs → Distinct (outcome k xs [])
+unfolding outcome
+distinct-outcome zero xs d = d
+distinct-outcome (suc k) xs d = tt
 
 -- tests 1 to 8
 abbrev Small : List Test → Type 0
@@ -244,9 +261,13 @@ module _ (r : ℕ) (blocks : List ℕ) (q : Post) where
       go zero e = absurd (h (open-checked s l r blocks e))
       go (suc k) e = refl
 
+  once : Distinct (acceptedAt r blocks q)
+  unfolding acceptedAt
+  once = distinct-outcome (first (openChecks s l r blocks)) (accepted s row blocks) (passing-distinct (accepts (partyOf s) row blocks) 1 (s .n))
+
   pub acceptances-mean : AcceptancesMean r blocks q
   acceptances-mean =
-      record { only = only; all = all; refused = λ h. nobody (λ c. h (walks c)); unheld = λ h. nobody (λ c. h (c .placed .is-held)) }
+      record { only = only; all = all; refused = λ h. nobody (λ c. h (walks c)); unheld = λ h. nobody (λ c. h (c .placed .is-held)); once = once }
 
 pub acceptances-read : AcceptancesRead
 acceptances-read r blocks q = acceptances-mean r blocks q

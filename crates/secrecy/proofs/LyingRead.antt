@@ -6,11 +6,16 @@ use mathlib.Core.Logic.{_≢_, inl, inr}
 use mathlib.Core.List.{List, [], _∷_, _++_, map, append-nil, append-assoc}
 use native.Mathlib.Decide.{ℕ-discrete}
 use native.Mathlib.Omega.{arith}
+use Rattle.poly.proofs.Lists.{all-of, map-same}
 use Rattle.parts.specs.Draw.{eachFrom}
+use Rattle.refusal.specs.Refusal.{outcome}
+use Rattle.session.specs.declared.Session.{Session}
+use Rattle.session.specs.Sessions.{answer}
+use Rattle.message.specs.Message.{messageRefusal}
 use Rattle.runs.specs.Draws.{Plan, Draw}
 use Rattle.runs.specs.Calls.{Among, Performed, perform}
 use Rattle.runs.specs.Orders.{Desk, carry}
-use Rattle.secrecy.specs.Steps.{Secrets, Lent}
+use Rattle.secrecy.specs.Steps.{Secrets, Following, Lent}
 use Rattle.secrecy.specs.Seen.{Seen, posts, joined, doneAt, entryOf}
 use Rattle.secrecy.specs.Lies.{Happening, messages, opens, Glimpse, Choice, those, deskBy, entryBy, glimpse, desksThen, lastOpening}
 use Rattle.secrecy.specs.LiesRead.{MakersRead, AllMake, MessagesShow, OpensShow, GlimpsesRead, ChoiceMade, ChoicesRead}
@@ -104,6 +109,12 @@ unfolding joined
 joined-none [] = refl
 joined-none (i ∷ is) = joined-none is
 
+-- a message opens no number
+value-none : (k : ℕ) (s : Session) → answer k 0 s s .value ≡ 0
+unfolding outcome
+value-none zero s = refl
+value-none (suc k) s = refl
+
 module _ (plan : Plan) (group : List ℕ) (draw : Draw) (u : Secrets) (r : ℕ) (q : ℕ → Desk) where
   messages-show : (caller : ℕ) (lent : Lent) (by : ℕ → Bool)
       → MessagesShow plan group draw u r q caller lent by (glimpse plan group draw u r (messages caller lent by) q)
@@ -111,6 +122,7 @@ module _ (plan : Plan) (group : List ℕ) (draw : Draw) (u : Secrets) (r : ℕ) 
   messages-show caller lent by =
       record {
         refusals = refl;
+        values = map-same _ _ (those by (posts (plan .n))) (all-of (λ i. value-none (messageRefusal (q i .post .session) (q i .post .rows) r caller (map (λ (x : Following). x draw u) (lent i))) (q i .post .session)) (those by (posts (plan .n))));
         lines = joined-those _ by (posts (plan .n));
         rows = ap (λ (k : ℕ → Desk). map (λ i. k i .post .rows) group) (message-kept plan group draw u r caller lent by q);
       }

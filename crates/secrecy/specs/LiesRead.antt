@@ -7,6 +7,7 @@ use mathlib.Core.Logic.{_≢_}
 use mathlib.Core.List.{List, [], _∷_, _++_, map}
 use lib.Dec.{eqb}
 use lib.ListN.{take, drop, getD}
+use Rattle.poly.specs.Counting.{Distinct}
 use Rattle.poly.specs.Polynomial.{value}
 use Rattle.session.specs.Sessions.{mark}
 use Rattle.message.specs.Message.{messageAnswer, messageOut}
@@ -43,12 +44,13 @@ module _ (r : ℕ) (blocks : List ℕ) (q : Post) where
     pub at-second : q .session .points ≡ 2
         → value (saidBy j) (q .session .second) ≡ getD (q .rows) (rowFrom + (many + (j - 1) * q .session .points + 1)) 0
 
-  -- The list has exactly these, where the answer is a number opened, 9 or 13; else nobody, and so nobody of a row that is not held.
+  -- The list has exactly these, each once, where the answer is a number opened, 9 or 13; else nobody, and so nobody of a row that is not held.
   pub record AcceptancesMean : Type 0 where
     pub only : (j : ℕ) → Among j (acceptedAt r blocks q) → Walks (openAnswer (q .session) (q .rows) r blocks .refusal) × IsAccepted j
     pub all : (j : ℕ) → Walks (openAnswer (q .session) (q .rows) r blocks .refusal) → IsAccepted j → Among j (acceptedAt r blocks q)
     pub refused : (Walks (openAnswer (q .session) (q .rows) r blocks .refusal) → ⊥) → acceptedAt r blocks q ≡ []
     pub unheld : mark (q .session) r ≢ 2 → acceptedAt r blocks q ≡ []
+    pub once : Distinct (acceptedAt r blocks q)
 
 abbrev pub AcceptancesRead : Type 0
 AcceptancesRead = (r : ℕ) (blocks : List ℕ) (q : Post) → AcceptancesMean r blocks q
@@ -68,7 +70,7 @@ AllMake =
     → entryBy plan group draw u (λ i. true) o q ≡ entryOf plan group draw u [] o q
 
 module _ (plan : Plan) (group : List ℕ) (draw : Draw) (u : Secrets) (r : ℕ) (q : ℕ → Desk) where
-  -- Of messages: the refusals; and the line of each that is not refused, with the numbers that the call put into the list that it was lent. The
+  -- Of messages: the refusals, and no numbers; and the line of each that is not refused, with the numbers that the call put into the list that it was lent. The
   -- group's rows are as they were.
   module _ (caller : ℕ) (lent : Lent) (by : ℕ → Bool) where
     abbrev pub lentTo : ℕ → List ℕ
@@ -79,6 +81,7 @@ module _ (plan : Plan) (group : List ℕ) (draw : Draw) (u : Secrets) (r : ℕ) 
 
     pub record MessagesShow (g : Glimpse) : Type 0 where
       pub refusals : g .entry .refusals ≡ map refusedTo (those by (posts (plan .n)))
+      pub values : g .entry .values ≡ map (λ i. 0) (those by (posts (plan .n)))
       pub lines : g .entry .lines
           ≡ joined (map (λ i. sentIf (refusedTo i) (openingLine r i (messageOut (q i .post .session) (q i .post .rows) r caller (lentTo i))) []) (those by (posts (plan .n))))
       pub rows : g .entry .rows ≡ map (λ i. q i .post .rows) group
