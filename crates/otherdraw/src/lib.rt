@@ -1,0 +1,1 @@
+// The draw behind another secret.

@@ -1,0 +1,1 @@
+// Products of 1 - z/x.
