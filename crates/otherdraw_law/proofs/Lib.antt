@@ -1,0 +1,5 @@
+pub mod Vanish
+pub mod Distinct
+pub mod Passed
+pub mod Dealing
+pub mod Entries
