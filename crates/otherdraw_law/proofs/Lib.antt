@@ -1,5 +1,12 @@
 pub mod Vanish
 pub mod Distinct
+pub mod Points
 pub mod Passed
 pub mod Dealing
 pub mod Entries
+pub mod Told
+pub mod Sees
+pub mod Nineteen
+pub mod Shifted
+pub mod Determined
+pub mod Parts
