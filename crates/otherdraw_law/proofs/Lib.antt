@@ -10,3 +10,6 @@ pub mod Nineteen
 pub mod Shifted
 pub mod Determined
 pub mod Parts
+pub mod Drawn
+pub mod Hidden
+pub mod Shows
