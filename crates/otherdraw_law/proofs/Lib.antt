@@ -13,3 +13,5 @@ pub mod Parts
 pub mod Drawn
 pub mod Hidden
 pub mod Shows
+pub mod Returned
+pub mod Changes

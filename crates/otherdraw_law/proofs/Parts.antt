@@ -69,3 +69,6 @@ module _ (s : Shape) (posts points : List ℕ) (δ : ℕ) (draw : List ℕ) (lon
       v-rest j (moved s posts points δ draw) (drop (fLength s) draw)
       (rest-is ∙ ap (λ (b : Bool). cond b (drop (fLength s) draw) (otherVs s posts points δ draw 1 (s .n))) e)
       ∙ sym (v-rest j draw (drop (fLength s) draw) refl)
+
+  pub rest-stays : noPosts posts ≡ true → drop (fLength s) (moved s posts points δ draw) ≡ drop (fLength s) draw
+  rest-stays e = rest-is ∙ ap (λ (b : Bool). cond b (drop (fLength s) draw) (otherVs s posts points δ draw 1 (s .n))) e
