@@ -15,3 +15,4 @@ pub mod Hidden
 pub mod Shows
 pub mod Returned
 pub mod Changes
+pub mod Taken
