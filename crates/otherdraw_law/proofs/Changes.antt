@@ -113,13 +113,16 @@ module _ (S : Setting) (draw : List ℕ) (secret wanted : ℕ) (out : List ℕ) 
 
   -- ---- f
 
+  f-long : (xs : List ℕ) → AnF S draw secret wanted xs → length xs ≡ length (drawnF s draw)
+  f-long xs d = ap length (sym (d .2)) ∙ length-f s (d .0) (o-long (d .0) (d .1)) ∙ sym (length-f s draw (g .draw-length))
+
   f-least : (b : Bool) → eqb secret wanted ≡ b → (secret ≡ wanted) ⊎ (length (S .posts) ≤ S .t) → Least (AnF S draw secret wanted) (drawnF s draw) (drawnF s O)
   f-least true e how =
       let q = now-equal (eqb-true secret wanted e) in
-      least-by (AnF S draw secret wanted) (drawnF s draw) (drawnF s O) 0 (O, mine, refl) (ap (drawnF s) q) (λ xs d k. k ∙ sym (ap (drawnF s) q))
+      least-by (AnF S draw secret wanted) (drawnF s draw) (drawnF s O) 0 f-long (O, mine, refl) (ap (drawnF s) q) (λ xs d k. k ∙ sym (ap (drawnF s) q))
   f-least false e (inl q) = absurd (eqb-false secret wanted e q)
   f-least false e (inr few) =
-      least-by (AnF S draw secret wanted) (drawnF s draw) (drawnF s O) (suc (length (S .posts))) (O, mine, refl) ends
+      least-by (AnF S draw secret wanted) (drawnF s draw) (drawnF s O) (suc (length (S .posts))) f-long (O, mine, refl) ends
       (λ xs d k. sym (d .2) ∙ alone (d .0) (d .1) (ap (drop (suc (length (S .posts)))) (d .2) ∙ k))
     where
       ends : drop (suc (length (S .posts))) (drawnF s O) ≡ drop (suc (length (S .posts))) (drawnF s draw)
@@ -186,8 +189,11 @@ module _ (S : Setting) (draw : List ℕ) (secret wanted : ℕ) (out : List ℕ) 
     abbrev Does : List ℕ → Type 0
     Does = AV S draw secret wanted (drawnF s O) j
 
+    v-long : (xs : List ℕ) → Does xs → length xs ≡ length (drawnV s draw j)
+    v-long xs d = ap length (sym (d .3)) ∙ length-v s (d .0) (o-long (d .0) (d .1)) j lo hi ∙ sym (length-v s draw (g .draw-length) j lo hi)
+
     v-same : drawnV s O j ≡ drawnV s draw j → Least Does (drawnV s draw j) (drawnV s O j)
-    v-same q = least-by Does (drawnV s draw j) (drawnV s O j) 0 (O, mine, refl, refl) q (λ xs d k. k ∙ sym q)
+    v-same q = least-by Does (drawnV s draw j) (drawnV s O j) 0 v-long (O, mine, refl, refl) q (λ xs d k. k ∙ sym q)
 
     v-least : (b : Bool) → eqb secret wanted ≡ b → (c : Bool) → noPosts (S .posts) ≡ c → (secret ≡ wanted) ⊎ (length (S .posts) ≤ S .t)
         → Least Does (drawnV s draw j) (drawnV s O j)
@@ -198,7 +204,7 @@ module _ (S : Setting) (draw : List ℕ) (secret wanted : ℕ) (out : List ℕ) 
         ∙ v-stays s (S .posts) (pointsOf (S .points) (S .ws) (S .posts)) (difference wanted secret) draw (g .draw-length) n j)
     v-least false e false n (inl q) = absurd (eqb-false secret wanted e q)
     v-least false e false n (inr few) =
-        least-by Does (drawnV s draw j) (drawnV s O j) (suc (length known)) (O, mine, refl, refl) ends
+        least-by Does (drawnV s draw j) (drawnV s O j) (suc (length known)) v-long (O, mine, refl, refl) ends
         (λ xs d k. sym (d .3) ∙ alone (d .0) (d .1) (d .2) (ap (drop (suc (length known))) (d .3) ∙ k))
       where
         room : suc (length known) ≤ vLength s

@@ -7,7 +7,7 @@ use native.Mathlib.Nat.{zero-mul, mul-zero}
 use native.Mathlib.Omega.{arith}
 use native.Mathlib.Decide.{decLe}
 use lib.ListN.{length, take, drop, getD, take-append-drop}
-use lib.Seq.{drop-drop, length-take-le}
+use lib.Seq.{drop-drop, getD-drop, length-take-le}
 use Rattle.field.specs.Modulus.{p}
 use Rattle.field.specs.Algebra.{CommutativeRing}
 use Rattle.field.specs.Arithmetic.{sum, product}
@@ -26,7 +26,7 @@ use Rattle.poly.proofs.Theorems.{coefficients-determined}
 use Rattle.parts.proofs.Laws.{elements-take}
 use Rattle.session.specs.Rows.{combined}
 use Rattle.otherdraw_law.proofs.Vanish.{Ends}
-use Rattle.otherdraw_law.specs.Claims.{Least}
+use Rattle.otherdraw_law.specs.Claims.{Below, Least}
 open CommutativeRing 𝓡 using (add as _⊕_, mul as _⊗_, neg, zero as 0ᴱ)
 
 infixl 65 _⊕_
@@ -105,16 +105,34 @@ further k m a b h e =
     let q : k + (m - k) ≡ m = omega arith in
     ap (λ (n : ℕ). drop n a) (sym q) ∙ sym (drop-drop (m - k) k a) ∙ ap (drop (m - k)) e ∙ drop-drop (m - k) k b ∙ ap (λ (n : ℕ). drop n b) q
 
+-- no coefficient changes from the m-th on: by places, and as lists
+behind-places : (m : ℕ) (a b : List ℕ) → drop m a ≡ drop m b → Below m b a
+behind-places m a b e q h =
+    let at : m + (q - m) ≡ q = omega arith in
+    ap (λ (z : ℕ). getD a z 0) (sym at) ∙ sym (getD-drop m a (q - m) 0) ∙ ap (λ (l : List ℕ). getD l (q - m) 0) e ∙ getD-drop m b (q - m) 0
+    ∙ ap (λ (z : ℕ). getD b z 0) at
+
+behind-lists : (m : ℕ) (a b : List ℕ) → length a ≡ length b → Below m b a → drop m a ≡ drop m b
+behind-lists m [] [] e h = refl
+behind-lists m [] (y ∷ b) e h = absurd (omega arith)
+behind-lists m (x ∷ a) [] e h = absurd (omega arith)
+behind-lists zero (x ∷ a) (y ∷ b) e h =
+    ap₂ _∷_ (h 0 (omega arith)) (behind-lists zero a b (let q : suc (length a) ≡ suc (length b) = e in omega arith) (λ q l. h (suc q) (omega arith)))
+behind-lists (suc m) (x ∷ a) (y ∷ b) e h =
+    behind-lists m a b (let q : suc (length a) ≡ suc (length b) = e in omega arith) (λ q l. h (suc q) (omega arith))
+
 -- a change that ends before k, and the only one that does
-pub least-by : (Does : List ℕ → Type 0) (old new : List ℕ) (k : ℕ) → Does new → drop k new ≡ drop k old
-    → ((xs : List ℕ) → Does xs → drop k xs ≡ drop k old → xs ≡ new) → Least Does old new
-least-by Does old new k does ends alone =
+pub least-by : (Does : List ℕ → Type 0) (old new : List ℕ) (k : ℕ) → ((xs : List ℕ) → Does xs → length xs ≡ length old) → Does new
+    → drop k new ≡ drop k old → ((xs : List ℕ) → Does xs → drop k xs ≡ drop k old → xs ≡ new) → Least Does old new
+least-by Does old new k long does ends alone =
     record {
       does = does;
-      least = λ xs d m e. go xs d m e (decLe k m);
-      only = λ xs d h. alone xs d (h k ends);
+      least = λ xs d m b. go xs d m b (decLe k m);
+      only = λ xs d h. alone xs d (behind-lists k xs old (long xs d) (h k (behind-places k new old ends)));
     }
   where
-    go : (xs : List ℕ) → Does xs → (m : ℕ) → drop m xs ≡ drop m old → Dec (k ≤ m) → drop m new ≡ drop m old
-    go xs d m e (yes h) = further k m new old h ends
-    go xs d m e (no h) = ap (drop m) (sym (alone xs d (further m k xs old (omega arith) e))) ∙ e
+    go : (xs : List ℕ) → Does xs → (m : ℕ) → Below m old xs → Dec (k ≤ m) → Below m old new
+    go xs d m b (yes h) = behind-places m new old (further k m new old h ends)
+    go xs d m b (no h) =
+        let same : xs ≡ new = alone xs d (further m k xs old (omega arith) (behind-lists m xs old (long xs d) b)) in
+        λ q l. ap (λ (z : List ℕ). getD z q 0) (sym same) ∙ b q l

@@ -1,7 +1,7 @@
 -- With lists of rows of the right length the row is loaded and dealt at every post.
 use Prim.Native.Nat.{ℕ, zero, suc, _+_, _*_, _-_, _≤_, _<_}
 use mathlib.Core.Path.{_≡_, refl, sym, _∙_, ap, ap₂, subst}
-use mathlib.Core.Bool.{Bool, false, not}
+use mathlib.Core.Bool.{Bool, false, not, false≢true}
 use mathlib.Core.List.{List, [], _∷_, map}
 use native.Mathlib.Omega.{arith}
 use borrow.Author.Tests.{eq-eqb, le-ltb}
@@ -36,7 +36,10 @@ use Rattle.secrecy.specs.Steps.{dealtNumber}
 use Rattle.secrecy.specs.Seen.{Entry, posts, newDesk, entryOf, run, seen}
 use Rattle.secrecy.proofs.Theorems.{number-low}
 use Rattle.otherdraw_law.specs.OneRow.{orders, Setting, planIn, drawIn, recordOf}
-use Rattle.otherdraw_law.specs.Claims.{BothTaken}
+use Rattle.otherdraw_law.specs.Claims.{Dealt, returned, shapeIn, AllTaken, BothTaken}
+use Rattle.otherdraw_law.proofs.Passed.{not-refused}
+use Rattle.otherdraw_law.proofs.Drawn.{only-row, is-draw}
+use Rattle.otherdraw_law.proofs.Returned.{shows-the-same}
 use Rattle.otherdraw_law.proofs.Told.{raw-there}
 use Rattle.otherdraw_law.proofs.Entries.{posts-in, loadedAt, dealtAt}
 
@@ -104,38 +107,54 @@ all-zero n f h = map-same f (λ i. 0) (posts n) (all-map (λ i k. h i (k .0) (k 
     zeros j zero = refl
     zeros j (suc m) = ap (λ (l : List ℕ). 0 ∷ l) (zeros (suc j) m)
 
+-- every draw of the row, with every secret
+module _ (S : Setting) (draw : List ℕ) (u : ℕ) (row : S .r ≤ lastRow) (sound : Sound (planIn S)) (is : IsDraw (planIn S) (drawIn S draw))
+    (long : (i : ℕ) → 1 ≤ i → i ≤ S .n → length (S .rows i) ≡ rowsLength (shapeIn S)) where
+  abbrev P : Plan
+  P = planIn S
+
+  abbrev d : Draw
+  d = drawIn S draw
+
+  abbrev q : ℕ → Post
+  q i = newPost P d (S .rows i) i
+
+  abbrev x : ℕ → List ℕ
+  x i = rawPack P d i (S .r)
+
+  abbrev c : ℕ
+  c = dealtNumber P d (λ k. u) (S .r)
+
+  raw-is : IsRaw (P .raw (S .r))
+  raw-is = subst IsRaw (sym (raw-there S row)) tt
+
+  pack-is : (i : ℕ) → 1 ≤ i → i ≤ S .n → x i ≡ rowFor P d i (rawVector P d (S .r))
+  pack-is i lo hi = raw-pack P d is (S .r) (omega (arith, row)) raw-is i (omega (arith, lo, hi))
+
+  wide : (i : ℕ) → 1 ≤ i → i ≤ S .n → length (x i) ≡ rowLength (shapeIn S)
+  wide i lo hi = ap length (pack-is i lo hi) ∙ row-wide P d i _
+
+  low : (i : ℕ) → 1 ≤ i → i ≤ S .n → anyBeyond (x i) ≡ false
+  low i lo hi = ap anyBeyond (pack-is i lo hi) ∙ row-low P d i _
+
+  taken : AllTaken S draw u
+  unfolding seen run entryOf orders newDesk carry perform
+  taken =
+      ap₂ (λ (a b : List ℕ). a ∷ b ∷ [])
+      (all-zero (S .n) (λ i. loadedAt (S .r) (q i) (x i) c .refusal)
+      (λ i lo hi. load-taken P d sound is (S .r) row i lo hi (S .rows i) (long i lo hi) (x i) (wide i lo hi) (low i lo hi) c (number-low P d (λ k. u) (S .r))))
+      (all-zero (S .n) (λ i. dealtAt (S .r) (q i) (x i) c .refusal)
+      (λ i lo hi. deal-taken P d sound is (S .r) row i lo hi (S .rows i) (long i lo hi) (x i) (wide i lo hi) (low i lo hi) c (number-low P d (λ k. u) (S .r))))
+
 pub both-taken : BothTaken
-unfolding seen run entryOf orders newDesk carry perform
-both-taken S draw u row sound is long =
-    ap₂ (λ (a b : List ℕ). a ∷ b ∷ [])
-    (all-zero (S .n) (λ i. loadedAt (S .r) (q i) (x i) c .refusal)
-    (λ i lo hi. load-taken P d sound is (S .r) row i lo hi (S .rows i) (long i lo hi) (x i) (wide i lo hi) (low i lo hi) c (number-low P d (λ k. u) (S .r))))
-    (all-zero (S .n) (λ i. dealtAt (S .r) (q i) (x i) c .refusal)
-    (λ i lo hi. deal-taken P d sound is (S .r) row i lo hi (S .rows i) (long i lo hi) (x i) (wide i lo hi) (low i lo hi) c (number-low P d (λ k. u) (S .r))))
-  where
-    P : Plan
-    P = planIn S
-
-    d : Draw
-    d = drawIn S draw
-
-    q : ℕ → Post
-    q i = newPost (planIn S) (drawIn S draw) (S .rows i) i
-
-    x : ℕ → List ℕ
-    x i = rawPack (planIn S) (drawIn S draw) i (S .r)
-
-    c : ℕ
-    c = dealtNumber (planIn S) (drawIn S draw) (λ k. u) (S .r)
-
-    raw-is : IsRaw (P .raw (S .r))
-    raw-is = subst IsRaw (sym (raw-there S row)) tt
-
-    pack-is : (i : ℕ) → 1 ≤ i → i ≤ S .n → x i ≡ rowFor P d i (rawVector P d (S .r))
-    pack-is i lo hi = raw-pack P d is (S .r) (omega (arith, row)) raw-is i (omega (arith, lo, hi))
-
-    wide : (i : ℕ) → 1 ≤ i → i ≤ S .n → length (x i) ≡ rowLength (planShape P)
-    wide i lo hi = ap length (pack-is i lo hi) ∙ row-wide P d i _
-
-    low : (i : ℕ) → 1 ≤ i → i ≤ S .n → anyBeyond (x i) ≡ false
-    low i lo hi = ap anyBeyond (pack-is i lo hi) ∙ row-low P d i _
+both-taken S draw secret wanted out h z long =
+    let g = not-refused (S .n) (S .t) (S .points) (S .ws) draw secret wanted (S .posts) out z .0 in
+    let sound : Sound (planIn S) = record {
+      posts = g .posts-fine;
+      counted = g .counted;
+      raws = λ q raw. subst (λ (k : ℕ). k ≤ lastRow) (sym (only-row S q raw)) (h .row);
+      triples = λ q e. absurd (false≢true e);
+    } in (
+      taken S draw secret (h .row) sound (is-draw S draw (h .row) (g .points-length) (g .points-good) (g .draw-length) (g .draw-elements)) long,
+      taken S (returned S draw secret wanted out) wanted (h .row) sound (shows-the-same S draw secret wanted out h z .is-draw) long,
+    )

@@ -2,16 +2,14 @@
 use Prim.Native.Nat.{ℕ, _+_, _*_, _≤_}
 use mathlib.Core.Path.{_≡_}
 use mathlib.Core.Bool.{false}
-use mathlib.Core.Logic.{_≢_}
 use mathlib.Core.List.{List, [], _∷_, map}
-use lib.ListN.{length, drop, replicate}
+use lib.ListN.{length, drop, getD, replicate}
 use Rattle.shape.specs.declared.Shape.{Shape}
 use Rattle.shape.specs.Lengths.{shape}
 use Rattle.parts.specs.Draw.{drawnF, drawnV}
-use Rattle.runs.specs.Draws.{Sound, IsDraw}
 use Rattle.secrecy.specs.Seen.{Entry, member, posts}
 use Rattle.otherdraw.specs.Other.{otherOut, otherRefusal}
-use Rattle.otherdraw_law.specs.OneRow.{Setting, planIn, drawIn, recordOf, Behind}
+use Rattle.otherdraw_law.specs.OneRow.{Setting, recordOf, Behind}
 
 -- The call in a setting: its refusal, and what stands in the lent list after it.
 abbrev pub refusalIn : Setting → List ℕ → ℕ → ℕ → List ℕ → ℕ
@@ -32,19 +30,27 @@ ShowsTheSame =
     (S : Setting) (draw : List ℕ) (secret wanted : ℕ) (out : List ℕ) → Dealt S → refusalIn S draw secret wanted out ≡ 0
     → Behind S draw secret wanted (returned S draw secret wanted out)
 
--- The row is in fact loaded and dealt: with lists of rows of the right length both calls answer 0 at every post, for every draw and secret.
+-- Both calls answer 0 at every post.
+abbrev pub AllTaken : Setting → List ℕ → ℕ → Type 0
+AllTaken S draw u = map (λ (e : Entry). e .refusals) (recordOf S draw u .entries) ≡ replicate (S .n) 0 ∷ replicate (S .n) 0 ∷ []
+
+-- So they do where the posts' lists of rows have the right length: of the draw that is given with the secret, and of the one returned with
+-- the wanted secret.
 abbrev pub BothTaken : Type 0
 BothTaken =
-    (S : Setting) (draw : List ℕ) (u : ℕ) → S .r ≤ 95 → Sound (planIn S) → IsDraw (planIn S) (drawIn S draw)
+    (S : Setting) (draw : List ℕ) (secret wanted : ℕ) (out : List ℕ) → Dealt S → refusalIn S draw secret wanted out ≡ 0
     → ((i : ℕ) → 1 ≤ i → i ≤ S .n → length (S .rows i) ≡ 96 * (S .points * S .t + 1 + S .points * S .n + S .n))
-    → map (λ (e : Entry). e .refusals) (recordOf S draw u .entries) ≡ replicate (S .n) 0 ∷ replicate (S .n) 0 ∷ []
+    → AllTaken S draw secret × AllTaken S (returned S draw secret wanted out) wanted
 
--- A list of coefficients changes from m on or not: where it doesn't, the change has a degree below m. Of those changes that do something, one
--- of least degree, and the only one of its degree. (Laws.antt says it by coefficients.)
+-- The change from one list of coefficients to another has a degree below m: none changes from the m-th on.
+abbrev pub Below : ℕ → List ℕ → List ℕ → Type 0
+Below m old xs = (q : ℕ) → m ≤ q → getD xs q 0 ≡ getD old q 0
+
+-- Of the lists that do something, the one whose change has the least degree, and the only one whose change has no greater degree.
 pub record Least (Does : List ℕ → Type 0) (old new : List ℕ) : Type 0 where
   pub does : Does new
-  pub least : (xs : List ℕ) → Does xs → (m : ℕ) → drop m xs ≡ drop m old → drop m new ≡ drop m old
-  pub only : (xs : List ℕ) → Does xs → ((m : ℕ) → drop m new ≡ drop m old → drop m xs ≡ drop m old) → xs ≡ new
+  pub least : (xs : List ℕ) → Does xs → (m : ℕ) → Below m old xs → Below m old new
+  pub only : (xs : List ℕ) → Does xs → ((m : ℕ) → Below m old new → Below m old xs) → xs ≡ new
 
 abbrev pub shapeIn : Setting → Shape
 shapeIn S = shape (S .n) (S .t) (S .points)
