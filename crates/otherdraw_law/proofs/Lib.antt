@@ -16,3 +16,5 @@ pub mod Shows
 pub mod Returned
 pub mod Changes
 pub mod Taken
+pub mod Settled
+pub mod AtWork
