@@ -1,27 +1,27 @@
 -- f, then each v, changes by the polynomial of least degree: any other draw with the same record has the same values at as many points.
-use Prim.Native.Nat.{ℕ, zero, suc, _+_, _*_, _-_, _≤_, _<_}
-use mathlib.Core.Path.{_≡_, refl, sym, _∙_, ap, ap₂, subst}
-use mathlib.Core.Bool.{Bool, true, false, cond, false≢true}
+use Prim.Native.Nat.{ℕ, suc, _+_, _*_, _-_, _≤_, _<_}
+use mathlib.Core.Path.{_≡_, refl, sym, _∙_, ap}
+use mathlib.Core.Bool.{Bool, true, false, false≢true}
 use mathlib.Core.Logic.{_≢_, _⊎_, inl, inr}
-use mathlib.Core.List.{List, [], _∷_, map}
+use mathlib.Core.List.{List, [], _∷_}
 use native.Mathlib.Omega.{arith}
 use borrow.Author.Tests.{eqb-true, eqb-false}
 use lib.Dec.{eqb, lit<}
-use lib.ListN.{length, drop, getD, length-map}
+use lib.ListN.{length, drop, getD}
 use Rattle.field.specs.Modulus.{p}
 use Rattle.field.specs.Algebra.{CommutativeRing}
 use Rattle.field.specs.Arithmetic.{difference, sum}
 use Rattle.field.specs.Element.{Element, element}
 use Rattle.field.proofs.Modular.{sum-comm}
-use Rattle.field.proofs.Expression.{A, B, _:+_, _:-_, Same}
+use Rattle.field.proofs.Expression.{A, B, _:-_, Same}
 use Rattle.field.proofs.Solver.{solve}
 use Rattle.field.proofs.Elements.{𝓡, element-difference, element-injective}
 use Rattle.poly.specs.Counting.{All, Distinct, Elements}
 use Rattle.poly.specs.Polynomial.{value}
 use Rattle.poly.proofs.Lists.{all-map, all-zip}
 use Rattle.shape.specs.declared.Shape.{Shape}
-use Rattle.shape.specs.Lengths.{shape, fLength, vLength, drawLength}
-use Rattle.parts.specs.Draw.{drawnF, drawnV, sumOf}
+use Rattle.shape.specs.Lengths.{fLength, vLength, drawLength}
+use Rattle.parts.specs.Draw.{drawnF, drawnV}
 use Rattle.parts.proofs.Laws.{elements-take, elements-drop}
 use Rattle.vectors.proofs.Draws.{element-at}
 use Rattle.vanishing.specs.Vanishing.{vanishing, distinct}

@@ -1,29 +1,25 @@
 -- One row loaded and dealt, with two draws that no check tells apart and that show the group's posts one pack and one D line: the same answers at
 -- every post, and the same rows at the group's.
-use Prim.Native.Nat.{ℕ, zero, suc, _+_, _*_, _≤_, _<_}
+use Prim.Native.Nat.{ℕ, zero, suc, _+_, _*_}
 use mathlib.Core.Path.{_≡_, refl, sym, _∙_, ap, ap₂}
-use mathlib.Core.Bool.{Bool, not, cond}
-use mathlib.Core.List.{List, [], _∷_, _++_, map}
+use mathlib.Core.Bool.{Bool, not}
+use mathlib.Core.List.{List, [], _∷_, _++_}
 use native.Mathlib.Omega.{arith}
 use lib.Dec.{eqb}
 use lib.ListN.{length}
-use Rattle.poly.specs.Counting.{All}
-use Rattle.poly.proofs.Lists.{all-map, all-zip, map-same}
-use Rattle.shape.specs.Bounds.{rowCount, lastRow}
+use Rattle.shape.specs.Bounds.{rowCount}
 use Rattle.shape.specs.Marks.{empty, raw}
-use Rattle.refusal.specs.Refusal.{Test, _when_, first, outcome}
-use Rattle.refusal.specs.Conditions.{wrongLength, beyond, anyBeyond}
-use Rattle.parts.specs.Draw.{eachFrom}
+use Rattle.refusal.specs.Refusal.{_when_, first, outcome}
+use Rattle.refusal.specs.Conditions.{beyond, anyBeyond}
 use Rattle.session.specs.declared.Session.{Session}
 use Rattle.session.specs.declared.Answer.{Answer}
-use Rattle.session.specs.Sessions.{marked, answer, shapeOf, pointsOf, sessionTests}
+use Rattle.session.specs.Sessions.{marked, answer, pointsOf, sessionTests}
 use Rattle.session.specs.Rows.{width, rowAt, withRow}
 use Rattle.session.specs.Checks.{frameTests, noRow, wrongMark}
 use Rattle.session.proofs.RowLaws.{length-with-row, row-same}
 use Rattle.load.specs.Load.{loadRowRefusal, loadRowAnswer, loadRowRows}
 use Rattle.load.proofs.Passed.{RowLoaded, row-loaded}
-use Rattle.deal.specs.Deal.{dealRefusal, dealAnswer, dealRows}
-use Rattle.secrecy.specs.Seen.{posts}
+use Rattle.deal.specs.Deal.{dealRefusal}
 use Rattle.secrecy.proofs.Link.{Alike}
 
 -- ---- one post

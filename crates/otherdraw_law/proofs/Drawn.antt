@@ -2,12 +2,12 @@
 use Prim.Native.Nat.{ℕ, _≤_, _<_}
 use mathlib.Core.Path.{_≡_, refl, sym, _∙_, ap, subst}
 use mathlib.Core.Bool.{Bool, true, false, cond}
-use mathlib.Core.List.{List, [], _∷_, map}
+use mathlib.Core.List.{List, [], map}
 use native.Mathlib.Decide.{decLt}
 use native.Mathlib.Omega.{arith}
 use borrow.Author.Tests.{eqb-true}
 use lib.Dec.{eqb}
-use lib.ListN.{length, getD, length-map, getD-replicate, List·getD-eq-default}
+use lib.ListN.{length, length-map, getD-replicate, List·getD-eq-default}
 use Rattle.field.specs.Modulus.{p}
 use Rattle.poly.specs.Counting.{All, Elements}
 use Rattle.shape.specs.declared.Shape.{Shape}

@@ -1,17 +1,17 @@
 -- The whole record of one row that is loaded and dealt, of two such draws.
-use Prim.Native.Nat.{ℕ, zero, suc, _+_, _*_, _≤_, _<_}
-use mathlib.Core.Path.{_≡_, refl, sym, _∙_, ap, ap₂}
-use mathlib.Core.List.{List, [], _∷_, _++_, map}
+use Prim.Native.Nat.{ℕ, zero, suc, _+_, _≤_}
+use mathlib.Core.Path.{_≡_, _∙_, ap, ap₂}
+use mathlib.Core.List.{List, [], _∷_, map}
 use native.Mathlib.Omega.{arith}
 use Rattle.poly.specs.Counting.{All}
-use Rattle.poly.proofs.Lists.{all-map, all-zip, map-same}
+use Rattle.poly.proofs.Lists.{all-map, map-same}
 use Rattle.shape.specs.Marks.{held}
 use Rattle.parts.specs.Draw.{eachFrom}
 use Rattle.session.specs.declared.Session.{Session}
 use Rattle.session.specs.declared.Answer.{Answer}
-use Rattle.session.specs.Sessions.{created, marked, answer}
+use Rattle.session.specs.Sessions.{marked, answer}
 use Rattle.load.specs.Load.{loadRowAnswer, loadRowRows}
-use Rattle.deal.specs.Deal.{dealRefusal, dealAnswer, dealRows}
+use Rattle.deal.specs.Deal.{dealAnswer, dealRows}
 use Rattle.runs.specs.Draws.{Plan, Draw, pointOf, rawPack}
 use Rattle.runs.specs.Calls.{Post, newPost, perform}
 use Rattle.runs.specs.Orders.{carry}

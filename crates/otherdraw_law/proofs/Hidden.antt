@@ -1,9 +1,9 @@
 -- The kernel by which the other draw differs: the listed posts see nothing of it.
 use Prim.Native.Nat.{ℕ, zero, suc, _+_, _*_, _-_, _%_, _/_, _≤_, _<_}
-use mathlib.Core.Path.{_≡_, refl, sym, _∙_, ap, subst}
+use mathlib.Core.Path.{_≡_, refl, sym, ap, subst}
 use mathlib.Core.Bool.{Bool, true, false, false≢true}
 use mathlib.Core.Logic.{_≢_}
-use mathlib.Core.List.{List, [], _∷_, map}
+use mathlib.Core.List.{List, [], _∷_}
 use native.Mathlib.Nat.{mul-comm, mul-le-mul-right, mod-lt}
 use native.Mathlib.Omega.{arith}
 use lib.ListN.{length, length-map}
@@ -18,9 +18,9 @@ use Rattle.poly.proofs.Numbers.{toElements}
 use Rattle.parts.proofs.Turns.{block-room}
 use Rattle.shape.specs.declared.Shape.{Shape}
 use Rattle.shape.specs.Row.{pointAt}
-use Rattle.shape.specs.Lengths.{shape, checksLength, fLength, vLength}
+use Rattle.shape.specs.Lengths.{shape, fLength, vLength}
 use Rattle.packs.specs.Packs.{pointsAt}
-use Rattle.vectors.specs.Vector.{Vector, checkOf}
+use Rattle.vectors.specs.Vector.{Vector}
 use Rattle.secrecy.proofs.Kernel.{kernelOf, kernelOf-c, kernelOf-own, kernelOf-constant, kernelOf-sums, kernelOf-checks}
 use Rattle.secrecy.proofs.Near.{Unseen, nonzero-nodes}
 use Rattle.vanishing.specs.Vanishing.{vanishing, distinct}

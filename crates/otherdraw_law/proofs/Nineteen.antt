@@ -1,9 +1,9 @@
 -- Where the call gives 19 there is no draw behind the wanted secret: f is known at more than t posts.
-use Prim.Native.Nat.{ℕ, _+_, _≤_, _<_}
+use Prim.Native.Nat.{ℕ, _+_, _<_}
 use mathlib.Core.Path.{_≡_, refl, sym, _∙_, ap}
 use mathlib.Core.List.{List, [], _∷_}
 use native.Mathlib.Omega.{arith}
-use lib.ListN.{length, take, getD}
+use lib.ListN.{length, getD}
 use lib.Seq.{getD-take, length-take-le}
 use Rattle.field.specs.Modulus.{p}
 use Rattle.field.specs.Algebra.{CommutativeRing}
@@ -12,7 +12,6 @@ use Rattle.field.specs.Element.{Element, element}
 use Rattle.field.proofs.Expression.{A, B, _:+_, _:-_, Same}
 use Rattle.field.proofs.Solver.{solve}
 use Rattle.field.proofs.Elements.{𝓡, element-difference, element-injective}
-use Rattle.poly.specs.Counting.{All, Elements}
 use Rattle.poly.proofs.Lists.{all-map}
 use Rattle.poly.proofs.Theorems.{coefficients-determined}
 use Rattle.shape.specs.declared.Shape.{Shape}

@@ -1,16 +1,14 @@
 -- f and the v's of the other draw, taken out of it.
 use Prim.Native.Nat.{ℕ, zero, suc, _+_, _*_, _-_, _≤_, _<_}
-use mathlib.Core.Path.{_≡_, refl, sym, _∙_, ap, ap₂}
+use mathlib.Core.Path.{_≡_, refl, sym, _∙_, ap}
 use mathlib.Core.Bool.{Bool, true, false, cond}
-use mathlib.Core.List.{List, [], _∷_, _++_}
+use mathlib.Core.List.{List, _++_}
 use native.Mathlib.Nat.{suc-mul, zero-mul}
 use native.Mathlib.Omega.{arith}
 use lib.ListN.{length, take, drop}
 use lib.Seq.{take-at, drop-at, drop-drop, length-take-le}
-use Rattle.field.specs.Arithmetic.{difference}
 use Rattle.shape.specs.declared.Shape.{Shape}
 use Rattle.shape.specs.Lengths.{fLength, vLength, drawLength}
-use Rattle.session.specs.Rows.{combined}
 use Rattle.sums.proofs.Writers.{length-combined}
 use Rattle.parts.specs.Draw.{drawnF, drawnV}
 use Rattle.vanishing.specs.Vanishing.{vanishing, distinct}

@@ -1,6 +1,6 @@
 -- What the call's tests leave, by name: where it is not refused, and where it gives 19.
 use Prim.Native.Nat.{ℕ, zero, suc, _≤_, _<_}
-use mathlib.Core.Path.{_≡_, refl, sym, _∙_, subst}
+use mathlib.Core.Path.{_≡_, refl, sym}
 use mathlib.Core.Bool.{Bool, true, false, not, _||_, _&&_, false≢true}
 use mathlib.Core.Logic.{_≢_, _⊎_, inl, inr}
 use mathlib.Core.List.{List, [], _∷_, _++_}
@@ -13,14 +13,14 @@ use Rattle.poly.specs.Counting.{All, Distinct, Elements}
 use Rattle.poly.proofs.Lists.{all-map}
 use Rattle.shape.specs.Lengths.{shape, Valid, checksLength, drawLength}
 use Rattle.refusal.specs.Refusal.{Test, _when_, first, AllFail}
-use Rattle.refusal.specs.Conditions.{wrongLength, beyond, anyBeyond, badPoint, badPointCount, postsTests, stationTests}
+use Rattle.refusal.specs.Conditions.{beyond, badPoint, badPointCount, postsTests, stationTests}
 use Rattle.refusal.proofs.Laws.{all-fail, not-refused as passed, or-false, equal}
 use Rattle.refusal.proofs.Elements.{below-p}
 use Rattle.refusal.proofs.Groups.{fail-parts}
 use Rattle.refusal.proofs.Ranges.{posts-valid}
 use Rattle.factory.specs.Calls.{anyBadPoint, listsTests}
 use Rattle.factory.proofs.Laws.{passes-elements}
-use Rattle.otherdraw.specs.Other.{notRising, tooMany, ownTests, otherTests, otherRefusal}
+use Rattle.otherdraw.specs.Other.{notRising, tooMany, otherTests, otherRefusal}
 
 -- ---- the parts
 

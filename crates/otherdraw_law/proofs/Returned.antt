@@ -1,24 +1,22 @@
 -- What the call returns: the draw itself where the secrets are equal, else the other one; each shows the same record.
-use Prim.Native.Nat.{ℕ, zero, suc, _+_, _≤_, _<_}
+use Prim.Native.Nat.{ℕ, zero, suc, _+_, _≤_}
 use mathlib.Core.Path.{_≡_, refl, sym, _∙_, ap, subst}
-use mathlib.Core.Bool.{Bool, true, false, cond, not, _||_, _&&_}
+use mathlib.Core.Bool.{Bool, true, false, cond, not, _&&_}
 use mathlib.Core.Logic.{_⊎_, inl, inr}
-use mathlib.Core.List.{List, [], _∷_}
+use mathlib.Core.List.{List, []}
 use native.Mathlib.Omega.{arith}
 use borrow.Author.Tests.{eq-eqb, eqb-true, eqb-false, lt-ltb, le-ltb}
 use lib.Dec.{eqb, ltb}
-use lib.ListN.{length, drop}
+use lib.ListN.{length}
 use Rattle.field.specs.Arithmetic.{difference}
-use Rattle.refusal.specs.Refusal.{first, outcome, AllFail, _when_}
-use Rattle.refusal.specs.Conditions.{stationTests}
+use Rattle.refusal.specs.Refusal.{outcome, AllFail}
 use Rattle.refusal.proofs.Laws.{all-fail, not-refused as passes}
-use Rattle.shape.specs.Lengths.{shape, checksLength, drawLength}
-use Rattle.factory.specs.Calls.{listsTests}
+use Rattle.shape.specs.Lengths.{shape}
 use Rattle.parts.specs.Draw.{eachFrom}
 use Rattle.secrecy.specs.Seen.{posts}
 use Rattle.otherdraw.specs.Other.{moved, pointsOf, otherDraw, otherOut, notRising, tooMany, otherTests, otherRefusal}
-use Rattle.otherdraw_law.specs.OneRow.{Setting, recordOf, Behind}
-use Rattle.otherdraw_law.specs.Claims.{Dealt, refusalIn, returned, shapeIn, ShowsTheSame, EqualSecrets}
+use Rattle.otherdraw_law.specs.OneRow.{recordOf, Behind}
+use Rattle.otherdraw_law.specs.Claims.{ShowsTheSame, EqualSecrets}
 use Rattle.otherdraw_law.proofs.Passed.{Given, not-refused}
 use Rattle.otherdraw_law.proofs.Drawn.{is-draw}
 use Rattle.otherdraw_law.proofs.Shows.{few-shows}

@@ -6,33 +6,32 @@ use mathlib.Core.List.{List, [], _∷_, _++_}
 use native.Mathlib.Nat.{mul-comm, add-zero, mod-eq-of-lt, div-eq-of-lt, mul-add-mod-self-right, mul-add-div-right}
 use native.Mathlib.Omega.{arith}
 use lib.ListN.{length, take, drop, getD, length-drop}
-use lib.Seq.{take-at, drop-at, getD-take, getD-drop, length-take-le}
+use lib.Seq.{take-at, drop-at, length-take-le}
 use Rattle.field.specs.Modulus.{p}
 use Rattle.field.specs.Algebra.{CommutativeRing}
 use Rattle.field.specs.Arithmetic.{difference, sum}
 use Rattle.field.specs.Element.{Element, element}
 use Rattle.field.proofs.Expression.{A, B, _:+_, _:-_, Same}
 use Rattle.field.proofs.Solver.{solve}
-use Rattle.field.proofs.Elements.{𝓡, element-sum, element-difference, element-injective}
+use Rattle.field.proofs.Elements.{𝓡, element-sum, element-injective}
 use Rattle.poly.specs.Counting.{All, Elements}
 use Rattle.poly.specs.Polynomial.{value}
 use Rattle.poly.proofs.Bounds.{value-below}
-use Rattle.poly.proofs.Lists.{all-map, all-zip}
+use Rattle.poly.proofs.Lists.{all-zip}
 use Rattle.shape.specs.declared.Shape.{Shape}
 use Rattle.shape.specs.declared.Points.{Points}
 use Rattle.shape.specs.Row.{pointAt}
 use Rattle.packs.specs.Packs.{pointsAt}
 use Rattle.parts.proofs.Turns.{block-room}
-use Rattle.shape.specs.Bounds.{rowCount, lastRow}
+use Rattle.shape.specs.Bounds.{lastRow}
 use Rattle.shape.specs.Lengths.{shape, fLength, vLength, checksLength, drawLength}
-use Rattle.decimal.specs.Numeral.{tens}
 use Rattle.parts.specs.Draw.{drawnF, drawnV, eachFrom, part, checkOf, sumOf}
 use Rattle.parts.proofs.Laws.{drawn-room, length-each}
 use Rattle.vectors.proofs.Draws.{element-at}
 use Rattle.runs.specs.Draws.{Raw, whenRaw, drawnLength, rawDraw}
 use Rattle.otherdraw_law.proofs.Passed.{Given}
 use Rattle.otherdraw_law.specs.OneRow.{Setting, planIn, Behind, drawOf}
-use Rattle.otherdraw_law.proofs.Told.{row-of, drawn-row, raw-there, packs-same, numbers-same}
+use Rattle.otherdraw_law.proofs.Told.{drawn-row, raw-there, packs-same, numbers-same}
 open CommutativeRing 𝓡 using (add as _⊕_, neg)
 
 infixl 65 _⊕_

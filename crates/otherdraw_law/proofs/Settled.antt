@@ -1,14 +1,10 @@
 -- The setting by rows and figures.
-use Prim.Native.Nat.{ℕ, _≤_}
-use mathlib.Core.Path.{_≡_, refl, ap}
+use mathlib.Core.Path.{refl, ap}
 use mathlib.Core.Bool.{Bool, cond}
-use mathlib.Core.List.{List, []}
 use borrow.Author.Tests.{eq-eqb, ne-eqb}
-use lib.Dec.{eqb}
 use Rattle.runs.specs.Draws.{none, by}
-use Rattle.secrecy.specs.Steps.{own}
-use Rattle.otherdraw_law.specs.OneRow.{drawOf, orders, Setting}
-use Rattle.otherdraw_law.specs.Laws.{OneRowDrawn, OneRowIs, TwoCalls}
+use Rattle.otherdraw_law.specs.OneRow.{drawOf, orders}
+use Rattle.otherdraw_law.specs.Laws.{OneRowIs, TwoCalls}
 use Rattle.otherdraw_law.proofs.Told.{drawn-row, pack-is, number-is}
 use Rattle.otherdraw_law.proofs.Drawn.{no-draw}
 

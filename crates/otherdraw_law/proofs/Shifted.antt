@@ -2,17 +2,17 @@
 use Prim.Native.Nat.{ℕ, zero, suc, _+_, _*_, _-_, _/_, _%_, _≤_, _<_}
 use mathlib.Core.Path.{_≡_, refl, sym, _∙_, ap, ap₂, subst, fun-ext}
 use mathlib.Core.Bool.{Bool, true, false, cond}
-use mathlib.Core.List.{List, [], _∷_, _++_, map}
+use mathlib.Core.List.{List, [], _∷_, _++_}
 use native.Mathlib.Nat.{suc-mul}
 use native.Mathlib.Omega.{arith}
-use lib.ListN.{length, take, drop, getD, length-drop, length-map, take-append-drop, drop-of-length-le}
+use lib.ListN.{length, take, drop, getD, length-drop, take-append-drop, drop-of-length-le}
 use lib.Seq.{drop-drop, length-take-le}
 use Rattle.field.specs.Modulus.{p}
 use Rattle.field.specs.Algebra.{CommutativeRing}
 use Rattle.field.specs.Arithmetic.{difference, sum, product}
 use Rattle.field.specs.Element.{Element, element}
 use Rattle.field.proofs.Modular.{sum-below}
-use Rattle.field.proofs.Expression.{A, B, C, 𝟘, _:+_, _:*_, _:-_, :-_, Same}
+use Rattle.field.proofs.Expression.{A, B, C, 𝟘, _:*_, _:-_, :-_, Same}
 use Rattle.field.proofs.Solver.{solve}
 use Rattle.field.proofs.Elements.{𝓡, number-below, element-zero, element-sum, element-product, element-difference}
 use Rattle.poly.specs.Counting.{Elements}
@@ -22,12 +22,12 @@ use Rattle.poly.proofs.Numbers.{toElements, element-value}
 use Rattle.shape.specs.declared.Shape.{Shape}
 use Rattle.shape.specs.Lengths.{fLength, vLength, drawLength}
 use Rattle.session.specs.Rows.{combined}
-use Rattle.parts.specs.Draw.{drawnF, drawnV}
+use Rattle.parts.specs.Draw.{drawnF}
 use Rattle.parts.proofs.Laws.{drawn-room, elements-drop}
 use Rattle.vectors.specs.Vector.{Vector}
 use Rattle.secrecy.proofs.Kernel.{coefficient, kernelOf, kernelOf-f, kernelOf-v}
 use Rattle.secrecy.proofs.Shift.{shift, flat, flat-f, flat-rest, flat-v}
-use Rattle.secrecy.proofs.Triples.{nothing, shift-empty}
+use Rattle.secrecy.proofs.Triples.{shift-empty}
 use Rattle.vanishing.specs.Vanishing.{vanishing, distinct}
 use Rattle.otherdraw.specs.Other.{noPosts, otherF, otherV, otherVs, atZero, moved}
 use Rattle.otherdraw_law.proofs.Vanish.{length-vanishing}

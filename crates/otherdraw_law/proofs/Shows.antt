@@ -1,14 +1,13 @@
 -- The other draw shows the listed posts the same record: it differs from the draw by a kernel that they do not see, and the dealer broadcasts the
 -- same number.
-use Prim.Native.Nat.{ℕ, zero, suc, _+_, _*_, _-_, _≤_, _<_}
-use mathlib.Core.Path.{_≡_, refl, sym, _∙_, ap, ap₂, subst, fun-ext}
+use Prim.Native.Nat.{ℕ, _+_, _-_, _≤_, _<_}
+use mathlib.Core.Path.{_≡_, refl, sym, _∙_, ap, subst}
 use mathlib.Core.Bool.{Bool, true, false, cond}
 use mathlib.Core.List.{List, [], _∷_, map}
 use native.Mathlib.Omega.{arith}
 use borrow.Author.Tests.{eqb-true}
 use lib.Dec.{eqb}
 use lib.ListN.{length, getD}
-use Rattle.field.specs.Modulus.{p}
 use Rattle.field.specs.Algebra.{CommutativeRing}
 use Rattle.field.specs.Arithmetic.{difference}
 use Rattle.field.specs.Element.{Element, element}
@@ -19,13 +18,13 @@ use Rattle.field.proofs.Elements.{𝓡, element-difference, element-injective}
 use Rattle.poly.specs.Counting.{All, Elements}
 use Rattle.poly.proofs.Lists.{all-map, all-zip, all-of, map-same}
 use Rattle.shape.specs.declared.Shape.{Shape}
-use Rattle.shape.specs.Bounds.{rowCount, lastRow}
-use Rattle.shape.specs.Lengths.{shape, drawLength}
+use Rattle.shape.specs.Bounds.{lastRow}
+use Rattle.shape.specs.Lengths.{drawLength}
 use Rattle.packs.specs.Packs.{pointsAt}
 use Rattle.parts.specs.Draw.{drawnF}
 use Rattle.vectors.specs.Vector.{Vector, vectorOf}
 use Rattle.vectors.proofs.Draws.{element-at}
-use Rattle.runs.specs.Draws.{Raw, none, by, IsRaw, whenRaw, Plan, Draw, IsDraw, pointOf, rawDraw, rawPack, tripleDraw, triplePack}
+use Rattle.runs.specs.Draws.{Raw, none, by, IsRaw, whenRaw, Plan, Draw, IsDraw, pointOf, rawDraw, rawPack}
 use Rattle.runs.proofs.Marks.{rawVector}
 use Rattle.runs.proofs.Packs.{rowFor, raw-pack}
 use Rattle.runs.proofs.Holds.{row-wide, row-low}

@@ -1,7 +1,7 @@
 -- With lists of rows of the right length the row is loaded and dealt at every post.
-use Prim.Native.Nat.{ℕ, zero, suc, _+_, _*_, _-_, _≤_, _<_}
+use Prim.Native.Nat.{ℕ, zero, suc, _-_, _≤_, _<_}
 use mathlib.Core.Path.{_≡_, refl, sym, _∙_, ap, ap₂, subst}
-use mathlib.Core.Bool.{Bool, false, not, false≢true}
+use mathlib.Core.Bool.{false, not, false≢true}
 use mathlib.Core.List.{List, [], _∷_, map}
 use native.Mathlib.Omega.{arith}
 use borrow.Author.Tests.{eq-eqb, le-ltb}
@@ -9,34 +9,33 @@ use lib.Dec.{eqb}
 use lib.ListN.{length, replicate}
 use lib.Seq.{getD-set-same}
 use Rattle.field.specs.Modulus.{p}
-use Rattle.poly.specs.Counting.{All}
 use Rattle.poly.proofs.Lists.{all-map, map-same}
 use Rattle.shape.specs.Bounds.{rowCount, lastRow}
 use Rattle.shape.specs.Marks.{empty, raw, held}
 use Rattle.shape.specs.Lengths.{rowLength, rowsLength}
-use Rattle.refusal.specs.Refusal.{Test, first, outcome, AllFail}
-use Rattle.refusal.specs.Conditions.{beyond, anyBeyond}
+use Rattle.refusal.specs.Refusal.{outcome, AllFail}
+use Rattle.refusal.specs.Conditions.{anyBeyond}
 use Rattle.refusal.proofs.Laws.{all-fail, not-refused as passes}
 use Rattle.refusal.proofs.Elements.{element-test}
 use Rattle.parts.specs.Draw.{eachFrom}
 use Rattle.session.specs.declared.Session.{Session}
 use Rattle.session.specs.Sessions.{marked, answer, sessionTests}
-use Rattle.session.specs.Rows.{width, rowAt, withRow}
+use Rattle.session.specs.Rows.{width, withRow}
 use Rattle.session.proofs.RowLaws.{length-with-row, row-same}
 use Rattle.load.specs.Load.{loadRowTests, loadRowRefusal, loadRowAnswer, loadRowRows}
 use Rattle.deal.specs.Deal.{dealTests, dealRefusal, dealAnswer}
-use Rattle.runs.specs.Draws.{Raw, IsRaw, Plan, planShape, Draw, IsDraw, Sound, pointOf, rawPack}
+use Rattle.runs.specs.Draws.{IsRaw, Plan, planShape, Draw, IsDraw, Sound, pointOf, rawPack}
 use Rattle.runs.specs.Calls.{Post, newPost, perform}
 use Rattle.runs.specs.Orders.{carry}
-use Rattle.runs.proofs.Marks.{markOf, Marks, Opened, sessionAt, rawVector}
+use Rattle.runs.proofs.Marks.{sessionAt, rawVector}
 use Rattle.runs.proofs.Packs.{rowFor, raw-pack}
 use Rattle.runs.proofs.Holds.{row-wide, row-low}
 use Rattle.runs.proofs.Start.{start, start-sized, start-mark, blanks, session-passes, made}
 use Rattle.secrecy.specs.Steps.{dealtNumber}
-use Rattle.secrecy.specs.Seen.{Entry, posts, newDesk, entryOf, run, seen}
+use Rattle.secrecy.specs.Seen.{posts, newDesk, entryOf, run, seen}
 use Rattle.secrecy.proofs.Theorems.{number-low}
-use Rattle.otherdraw_law.specs.OneRow.{orders, Setting, planIn, drawIn, recordOf}
-use Rattle.otherdraw_law.specs.Claims.{Dealt, returned, shapeIn, AllTaken, BothTaken}
+use Rattle.otherdraw_law.specs.OneRow.{orders, Setting, planIn, drawIn}
+use Rattle.otherdraw_law.specs.Claims.{returned, shapeIn, AllTaken, BothTaken}
 use Rattle.otherdraw_law.proofs.Passed.{not-refused}
 use Rattle.otherdraw_law.proofs.Drawn.{only-row, is-draw}
 use Rattle.otherdraw_law.proofs.Returned.{shows-the-same}
@@ -75,13 +74,25 @@ module _ (plan : Plan) (draw : Draw) (sound : Sound plan) (is : IsDraw plan draw
       let below : r < rowCount = omega (arith, row) in
       passes (dealTests (marked s r raw) R' r c) (
         one,
-        (two, (three, (four, (
-          agrees _ _ (length-with-row (width s) rowCount R r long below pack wide ∙ long),
-          (le-ltb lastRow r row, (
-            agrees _ _ (getD-set-same (start .marks) r raw empty (omega (arith, start-sized .marks, row))),
-            (element-test c c-low, (ap anyBeyond (row-same (width s) rowCount R r long below pack wide) ∙ low, tt)),
-          )),
-        )))),
+        (
+          two,
+          (
+            three,
+            (
+              four,
+              (
+                agrees _ _ (length-with-row (width s) rowCount R r long below pack wide ∙ long),
+                (
+                  le-ltb lastRow r row,
+                  (
+                    agrees _ _ (getD-set-same (start .marks) r raw empty (omega (arith, start-sized .marks, row))),
+                    (element-test c c-low, (ap anyBeyond (row-same (width s) rowCount R r long below pack wide) ∙ low, tt)),
+                  ),
+                ),
+              ),
+            ),
+          ),
+        ),
       )
 
   pub load-taken : loadedAt r (newPost plan draw R i) pack c .refusal ≡ 0

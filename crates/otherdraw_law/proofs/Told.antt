@@ -1,23 +1,22 @@
 -- What the record of one row tells: the listed posts' packs of it, and the dealer's number.
 use Prim.Native.Nat.{ℕ, zero, suc, _+_, _-_, _≤_, _<_}
 use mathlib.Core.Path.{_≡_, refl, sym, _∙_, ap, ap₂, subst}
-use mathlib.Core.Bool.{Bool, true, false, cond, _||_}
-use mathlib.Core.List.{List, [], _∷_, _++_, map}
+use mathlib.Core.Bool.{Bool, false, cond, _||_}
+use mathlib.Core.List.{List, [], map}
 use native.Mathlib.Omega.{arith}
-use borrow.Author.Tests.{eq-eqb, ne-eqb, le-ltb}
+use borrow.Author.Tests.{eq-eqb, le-ltb}
 use lib.Dec.{eqb}
-use lib.ListN.{length, take, drop, getD}
+use lib.ListN.{getD}
 use Rattle.field.specs.Modulus.{p}
-use Rattle.field.specs.Arithmetic.{difference, sum}
+use Rattle.field.specs.Arithmetic.{difference}
 use Rattle.field.proofs.Modular.{difference-below}
-use Rattle.poly.specs.Counting.{All, Elements}
+use Rattle.poly.specs.Counting.{All}
 use Rattle.poly.specs.Polynomial.{value}
 use Rattle.poly.proofs.Lists.{all-map, map-equal}
-use Rattle.shape.specs.declared.Shape.{Shape}
 use Rattle.shape.specs.declared.Points.{Points}
 use Rattle.packs.specs.Packs.{pointsAt}
 use Rattle.shape.specs.Bounds.{rowCount, lastRow}
-use Rattle.shape.specs.Lengths.{shape, Valid, fLength, vLength, drawLength}
+use Rattle.shape.specs.Lengths.{shape}
 use Rattle.refusal.specs.Conditions.{anyBeyond}
 use Rattle.refusal.proofs.Elements.{element-test}
 use Rattle.factory.specs.Calls.{dealerNumber}
@@ -26,14 +25,12 @@ use Rattle.forms.specs.Lines as Line
 use Rattle.forms.specs.Lines.{text, Message}
 use Rattle.forms.specs.Forms.{Sent}
 use Rattle.forms.proofs.RoundTrip.{one-message}
-use Rattle.parts.specs.Draw.{drawnF, drawnV, eachFrom, part, sumOf}
-use Rattle.parts.proofs.Laws.{length-each}
-use Rattle.vectors.proofs.Draws.{element-at}
-use Rattle.runs.specs.Draws.{Raw, none, by, whenRaw, Plan, planShape, Draw, IsDraw, pointOf, rawDraw, rawPack}
+use Rattle.parts.specs.Draw.{eachFrom, part}
+use Rattle.runs.specs.Draws.{Raw, none, by, whenRaw, Draw, pointOf, rawDraw, rawPack}
 use Rattle.runs.proofs.Numbers.{dealer-number}
-use Rattle.secrecy.specs.Steps.{Secrets, dealtNumber}
+use Rattle.secrecy.specs.Steps.{dealtNumber}
 use Rattle.secrecy.specs.Seen.{Seen, allRows, rawSeen, dealSeen, seen}
-use Rattle.otherdraw_law.specs.OneRow.{drawOf, Setting, planIn, recordOf, Behind}
+use Rattle.otherdraw_law.specs.OneRow.{drawOf, Setting, planIn, Behind}
 
 -- ---- one row of a list of rows
 

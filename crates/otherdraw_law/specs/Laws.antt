@@ -9,9 +9,9 @@ use Rattle.field.specs.Modulus.{p}
 use Rattle.field.specs.Arithmetic.{difference}
 use Rattle.parts.specs.Draw.{part}
 use Rattle.packs.specs.Packs.{pointsAt}
-use Rattle.runs.specs.Draws.{none, by, rawDraw, rawPack, tripleDraw}
+use Rattle.runs.specs.Draws.{none, by, rawDraw, rawPack}
 use Rattle.runs.specs.Orders.{call}
-use Rattle.secrecy.specs.Steps.{Item, its, sent, loadRow, deal, dealtNumber}
+use Rattle.secrecy.specs.Steps.{its, sent, loadRow, deal, dealtNumber}
 use Rattle.otherdraw_law.specs.OneRow.{orders, Setting, planIn, drawIn}
 use Rattle.otherdraw_law.specs.Claims.{shapeIn}
 
