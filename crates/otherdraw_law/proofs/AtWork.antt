@@ -49,4 +49,7 @@ example-at-work =
       one-point = worked _ _ _ _ _ (record { row = omega arith; dealer = refl }) refl refl (λ i lo hi. refl) refl refl refl refl;
       two-points = worked _ _ _ _ _ (record { row = omega arith; dealer = refl }) refl refl (λ i lo hi. refl) refl refl refl refl;
       equal-points = worked _ _ _ _ _ (record { row = omega arith; dealer = refl }) refl refl (λ i lo hi. refl) refl refl refl refl;
+      nobody = (refl, refl);
+      nineteen = refl;
+      all-posts = (refl, refl);
     }

@@ -10,9 +10,9 @@ use Rattle.otherdraw_law.specs.OneRow.{Setting, planIn, drawIn, Behind}
 use Rattle.otherdraw_law.specs.Claims.{Dealt, refusalIn, returned, AllTaken}
 
 -- Row 0, dealer 0, zeros in the lists of rows at first: 96 rows of 8 numbers, or of 12.
-unfoldable pub onePoint : Setting
-onePoint =
-    record { n = 3; t = 1; points = 1; r = 0; dealer = 0; rows = λ i. replicate 768 0; ws = 2 ∷ 3 ∷ 5 ∷ []; posts = 3 ∷ [] }
+unfoldable pub onePoint : List ℕ → Setting
+onePoint posts =
+    record { n = 3; t = 1; points = 1; r = 0; dealer = 0; rows = λ i. replicate 768 0; ws = 2 ∷ 3 ∷ 5 ∷ []; posts = posts }
 
 unfoldable pub twoPoints : List ℕ → Setting
 twoPoints ws = record { n = 3; t = 1; points = 2; r = 0; dealer = 0; rows = λ i. replicate 1152 0; ws = ws; posts = 3 ∷ [] }
@@ -40,7 +40,7 @@ pub record Found (S : Setting) (draw out other pack : List ℕ) : Type 0 where
 pub record ExampleAtWork : Type 0 where
   -- P4: "post 3's: 5,6,11,8,35,12,18,24"
   pub one-point :
-      Found onePoint drawn (replicate 8 0)
+      Found (onePoint (3 ∷ [])) drawn (replicate 8 0)
       (2147483596 ∷ 1431655788 ∷ 715827922 ∷ 1145324606 ∷ 1431655787 ∷ 572662303 ∷ 5 ∷ 6 ∷ [])
       (5 ∷ 6 ∷ 11 ∷ 8 ∷ 35 ∷ 12 ∷ 18 ∷ 24 ∷ [])
   pub two-points :
@@ -52,3 +52,11 @@ pub record ExampleAtWork : Type 0 where
       Found (twoPoints (2 ∷ 4 ∷ 3 ∷ 5 ∷ 5 ∷ 5 ∷ [])) drawnTwo (replicate 11 0)
       (2147483596 ∷ 1431655788 ∷ 715827922 ∷ 1145324606 ∷ 1 ∷ 1431655787 ∷ 572662303 ∷ 2 ∷ 5 ∷ 6 ∷ 3 ∷ [])
       (5 ∷ 6 ∷ 3 ∷ 36 ∷ 36 ∷ 58 ∷ 58 ∷ 110 ∷ 110 ∷ 12 ∷ 18 ∷ 24 ∷ [])
+  -- nobody is listed: "only f changes"; posts 2 and 3 are: 19; all are, and the secrets are equal: the draw
+  pub nobody :
+      (refusalIn (onePoint []) drawn 100 42 (replicate 8 0) ≡ 0)
+      × (returned (onePoint []) drawn 100 42 (replicate 8 0) ≡ 2147483596 ∷ 4 ∷ 1 ∷ 2 ∷ 3 ∷ 1 ∷ 5 ∷ 6 ∷ [])
+  pub nineteen : refusalIn (onePoint (2 ∷ 3 ∷ [])) drawn 100 42 (replicate 8 0) ≡ 19
+  pub all-posts :
+      (refusalIn (onePoint (1 ∷ 2 ∷ 3 ∷ [])) drawn 100 100 (replicate 8 0) ≡ 0)
+      × (returned (onePoint (1 ∷ 2 ∷ 3 ∷ [])) drawn 100 100 (replicate 8 0) ≡ drawn)
