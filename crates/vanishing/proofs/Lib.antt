@@ -1,0 +1,3 @@
+pub mod Vanish
+pub mod Distinct
+pub mod Turns
