@@ -1,0 +1,3 @@
+pub mod Asking
+pub mod Writing
+pub mod Moving
