@@ -1,3 +1,5 @@
 pub mod Asking
+pub mod Passed
 pub mod Writing
 pub mod Moving
+pub mod Ends

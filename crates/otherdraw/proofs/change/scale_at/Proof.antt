@@ -1,8 +1,8 @@
 -- `scale_at` meets its contract.
 use borrow.Author.Needs.{needs}
 use Rattle.otherdraw.proofs.Writing.{scale-is}
-use Rattle.otherdraw.proofs.scale_at.Statement.{statement}
-use Rattle.otherdraw.proofs.scale_at.Tie as tie
+use Rattle.otherdraw.proofs.change.scale_at.Statement.{statement}
+use Rattle.otherdraw.proofs.change.scale_at.Tie as tie
 
 pub scale-at-spec : {M : Type 1} → statement M
 scale-at-spec =

@@ -1,8 +1,8 @@
 -- `hand` meets its contract.
 use borrow.Author.Needs.{needs}
 use Rattle.otherdraw.proofs.Writing.{part-handed}
-use Rattle.otherdraw.proofs.hand.Statement.{statement}
-use Rattle.otherdraw.proofs.hand.Tie as tie
+use Rattle.otherdraw.proofs.change.hand.Statement.{statement}
+use Rattle.otherdraw.proofs.change.hand.Tie as tie
 
 pub hand-spec : {M : Type 1} → statement M
 hand-spec =

@@ -4,8 +4,8 @@ use mathlib.Core.Path.{_≡_}
 use lib.ListN.{length}
 use borrow.Author.Needs.{needs}
 use Rattle.otherdraw.proofs.Writing.{post-low, post-room, post-fits, known-room, known-fits, known-next, Gathered, gather-turn, gather-kept, gather-all}
-use Rattle.otherdraw.proofs.gather.Statement.{statement}
-use Rattle.otherdraw.proofs.gather.Tie as tie
+use Rattle.otherdraw.proofs.change.gather.Statement.{statement}
+use Rattle.otherdraw.proofs.change.gather.Tie as tie
 
 abbrev Inv-loop : tie.InvT-loop
 Inv-loop ws posts known₀ k at₀ i₀ i-end known at i =

@@ -1,8 +1,8 @@
 -- `change_seen` meets its contract.
 use borrow.Author.Needs.{needs}
 use Rattle.otherdraw.proofs.Moving.{seen-changing, seen-changed}
-use Rattle.otherdraw.proofs.change_seen.Statement.{statement}
-use Rattle.otherdraw.proofs.change_seen.Tie as tie
+use Rattle.otherdraw.proofs.change.change_seen.Statement.{statement}
+use Rattle.otherdraw.proofs.change.change_seen.Tie as tie
 
 ruleset steps = (needs, seen-changing, seen-changed)
 

@@ -1,8 +1,8 @@
 -- `change_f` meets its contract.
 use borrow.Author.Needs.{needs}
 use Rattle.otherdraw.proofs.Writing.{f-changed}
-use Rattle.otherdraw.proofs.change_f.Statement.{statement}
-use Rattle.otherdraw.proofs.change_f.Tie as tie
+use Rattle.otherdraw.proofs.change.change_f.Statement.{statement}
+use Rattle.otherdraw.proofs.change.change_f.Tie as tie
 
 pub change-f-spec : {M : Type 1} → statement M
 change-f-spec =

@@ -2,8 +2,8 @@
 use borrow.Author.Needs.{needs}
 use Rattle.parts.proofs.Turns.{elements-filled}
 use Rattle.otherdraw.proofs.Writing.{value-weighed}
-use Rattle.otherdraw.proofs.value_at.Statement.{statement}
-use Rattle.otherdraw.proofs.value_at.Tie as tie
+use Rattle.otherdraw.proofs.change.value_at.Statement.{statement}
+use Rattle.otherdraw.proofs.change.value_at.Tie as tie
 
 pub value-at-spec : {M : Type 1} → statement M
 value-at-spec =

@@ -4,8 +4,8 @@ use mathlib.Core.Path.{_≡_}
 use lib.ListN.{length}
 use borrow.Author.Needs.{needs}
 use Rattle.otherdraw.proofs.Writing.{Standing, vs-start, vs-room, vs-fits, vs-next, vs-turn, vs-kept, vs-end}
-use Rattle.otherdraw.proofs.change_vs.Statement.{statement}
-use Rattle.otherdraw.proofs.change_vs.Tie as tie
+use Rattle.otherdraw.proofs.change.change_vs.Statement.{statement}
+use Rattle.otherdraw.proofs.change.change_vs.Tie as tie
 
 abbrev Inv-loop : tie.InvT-loop
 Inv-loop n first delta root factor draw powers₀ out₀ at₀ i₀ powers out at i =
