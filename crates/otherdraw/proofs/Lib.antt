@@ -3,3 +3,4 @@ pub mod Passed
 pub mod Writing
 pub mod Moving
 pub mod Ends
+pub mod Reckoning
