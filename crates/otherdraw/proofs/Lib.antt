@@ -4,3 +4,4 @@ pub mod Writing
 pub mod Moving
 pub mod Ends
 pub mod Reckoning
+pub mod Theorems
