@@ -7,11 +7,11 @@ use native.Mathlib.Numerals.{add-one}
 use native.Mathlib.Omega.{arith}
 use borrow.Author.Tests.{eq-eqb, ne-eqb}
 use lib.ListN.{length, getD, set, take, drop, replicate, drop-of-length-le}
-use lib.Seq.{drop-cons}
+use lib.Seq.{drop-cons, length-take-le}
 use Rattle.field.specs.Arithmetic.{sum, difference, product, inverse}
 use Rattle.lists.proofs.Filled.{Filled, filled-more, filled-read, filled-end}
 use Rattle.vanishing.specs.Vanishing.{lessBefore, timesRoot, timesRoots, one, occurs, distinct}
-use Rattle.vanishing.proofs.Vanish.{length-root, length-one, plus-negative}
+use Rattle.vanishing.proofs.Vanish.{Ends, length-root, length-one, plus-negative, root-short, ends-more, root-ends, one-ends}
 
 -- ---- a number is searched for
 
@@ -83,6 +83,18 @@ module _ (x : ℕ) (list₀ : List ℕ) where
     pub root-end : length list₀ ≤ i → list ≡ take i (timesRoot x list₀) ++ drop i list₀ → list ≡ timesRoot x list₀
     root-end h inv = filled-end (timesRoot x list₀) list₀ list i (omega (arith, root-long)) root-long inv
 
+-- a part of the list is enough
+pub short-root : (x m : ℕ) (list ys : List ℕ) → 1 ≤ m → Ends m list → ys ≡ timesRoot x (take (m + 1) list) → ys ++ drop (m + 1) list ≡ timesRoot x list
+short-root x zero list ys h e q = absurd (omega arith)
+short-root x (suc m) list ys h e q =
+    ap₂ (λ (k : ℕ) (l : List ℕ). l ++ drop k list) (add-one (suc m)) (q ∙ ap (λ (k : ℕ). timesRoot x (take k list)) (add-one (suc m))) ∙ root-short m x list e
+
+pub part-lent : (m : ℕ) (list : List ℕ) → m < length list → m + 1 ≡ length (take (m + 1) list)
+part-lent m list h = sym (length-take-le (m + 1) list (omega arith))
+
+pub part-some : (m : ℕ) (list : List ℕ) → m < length list → 1 ≤ length (take (m + 1) list)
+part-some m list h = omega (arith, part-lent m list h)
+
 -- ---- the constant 1
 
 pub one-start : (m : List ℕ) (k : ℕ) → 1 ≤ k → m ≡ replicate k 0 → set m 0 1 ≡ one k
@@ -121,6 +133,17 @@ module _ (numbers : List ℕ) (i : ℕ) (list b : List ℕ) where
   pub once-done : length numbers ≤ i → timesRoots (distinct (drop i numbers)) list ≡ b → list ≡ b
   unfolding timesRoots distinct
   once-done h inv = ap (λ (xs : List ℕ). timesRoots (distinct xs) list) (sym (drop-of-length-le numbers h)) ∙ inv
+
+-- a coefficient more with each factor
+pub turn-ends : (i x : ℕ) (list new : List ℕ) → Ends (i + 1) list → new ≡ timesRoot x list → Ends (i + 1 + 1) new
+turn-ends i x list new h e = rw (e, add-one (i + 1), add-one i) (root-ends i x list (rw (add-one i) at h))
+
+pub once-ends : (i x : ℕ) (c : Bool) (list new : List ℕ) → Ends (i + 1) list → new ≡ cond c list (timesRoot x list) → Ends (i + 1 + 1) new
+once-ends i x true list new h e = rw (e, add-one (i + 1)) (ends-more (i + 1) list h)
+once-ends i x false list new h e = turn-ends i x list new h e
+
+pub start-ends : (list : List ℕ) (k : ℕ) → list ≡ one k → Ends (0 + 1) list
+start-ends list k e = rw e (one-ends k)
 
 pub same-root : (x : ℕ) (list new : List ℕ) (k : ℕ) → length list ≡ k → new ≡ timesRoot x list → length new ≡ k
 same-root x list new k e h = ap length h ∙ length-root x list ∙ e

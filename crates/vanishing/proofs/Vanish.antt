@@ -2,10 +2,10 @@
 use Prim.Native.Nat.{ℕ, zero, suc, _+_, _-_, _%_, _≤_, _<_}
 use mathlib.Core.Path.{_≡_, refl, sym, _∙_, ap, ap₂, subst}
 use mathlib.Core.Logic.{_≢_}
-use mathlib.Core.List.{List, [], _∷_, map}
+use mathlib.Core.List.{List, [], _∷_, _++_, map}
 use native.Mathlib.Nat.{mul-zero as mul-zero-nat}
 use native.Mathlib.Omega.{arith}
-use lib.ListN.{length, replicate, length-replicate}
+use lib.ListN.{length, take, drop, replicate, length-replicate}
 use Rattle.field.specs.Modulus.{p}
 use Rattle.field.specs.Arithmetic.{sum, difference, product, inverse}
 use Rattle.field.specs.Algebra.{CommutativeRing}
@@ -19,6 +19,7 @@ use Rattle.poly.specs.Counting.{All}
 use Rattle.poly.proofs.Lists.{all-map}
 use Rattle.poly.proofs.Coefficients.{ev}
 use Rattle.poly.proofs.Numbers.{toElements}
+pub use Rattle.vanishing.specs.Between.{Ends}
 use Rattle.vanishing.specs.Vanishing.{lessBefore, timesRoot, timesRoots, one, vanishing}
 open CommutativeRing 𝓡 using (add as _⊕_, mul as _⊗_, neg, zero as 0ᴱ, one as 1ᴱ)
 
@@ -39,11 +40,6 @@ plus-negative c k b =
 
 -- ---- nothing behind the first k coefficients
 
-abbrev pub Ends : ℕ → List ℕ → Type 0
-Ends zero cs = All (λ c. c ≡ 0) cs
-Ends (suc k) [] = Unit {0}
-Ends (suc k) (c ∷ cs) = Ends k cs
-
 nothing-left : (c b k : ℕ) → c ≡ 0 → b ≡ 0 → difference c (product k b) ≡ 0
 unfolding difference product
 nothing-left c b k ec eb =
@@ -59,6 +55,29 @@ unfolding lessBefore
 less-ends m k b [] h = tt
 less-ends zero k b (c ∷ cs) h = zeros-stay k c cs (h .0) (h .1)
 less-ends (suc m) k b (c ∷ cs) h = less-ends m k c cs h
+
+-- zeros stay where they are
+same-zeros : (k b : ℕ) (cs : List ℕ) → b ≡ 0 → All (λ c. c ≡ 0) cs → lessBefore k b cs ≡ cs
+unfolding lessBefore
+same-zeros k b [] e a = refl
+same-zeros k b (c ∷ cs) e a = ap₂ _∷_ (nothing-left c b k (a .0) e ∙ sym (a .0)) (same-zeros k c cs (a .0) (a .1))
+
+less-short : (m k b : ℕ) (cs : List ℕ) → Ends m cs → lessBefore k b (take (suc m) cs) ++ drop (suc m) cs ≡ lessBefore k b cs
+unfolding lessBefore
+less-short m k b [] h = refl
+less-short zero k b (c ∷ cs) h = ap (λ (l : List ℕ). difference c (product k b) ∷ l) (sym (same-zeros k c cs (h .0) (h .1)))
+less-short (suc m) k b (c ∷ cs) h = ap (λ (l : List ℕ). difference c (product k b) ∷ l) (less-short m k c cs h)
+
+-- a coefficient more than there are is enough
+pub root-short : (m x : ℕ) (cs : List ℕ) → Ends (suc m) cs → timesRoot x (take (suc (suc m)) cs) ++ drop (suc (suc m)) cs ≡ timesRoot x cs
+unfolding timesRoot
+root-short m x [] h = refl
+root-short m x (c ∷ cs) h = ap (λ (l : List ℕ). c ∷ l) (less-short m (inverse x) c cs h)
+
+pub ends-more : (m : ℕ) (cs : List ℕ) → Ends m cs → Ends (suc m) cs
+ends-more m [] h = tt
+ends-more zero (c ∷ cs) h = h .1
+ends-more (suc m) (c ∷ cs) h = ends-more m cs h
 
 pub root-ends : (m x : ℕ) (cs : List ℕ) → Ends (suc m) cs → Ends (suc (suc m)) (timesRoot x cs)
 unfolding timesRoot
@@ -148,7 +167,7 @@ all-zeros : (m : ℕ) → All {R = ℕ} (λ c. c ≡ 0) (replicate m 0)
 all-zeros zero = tt
 all-zeros (suc m) = (refl, all-zeros m)
 
-one-ends : (m : ℕ) → Ends 1 (one m)
+pub one-ends : (m : ℕ) → Ends 1 (one m)
 unfolding one
 one-ends zero = tt
 one-ends (suc m) = all-zeros m

@@ -6,6 +6,7 @@ ghost use mathlib.Core.Bool.{cond};
 ghost use Prim.Native.Nat.{_≤_};
 ghost use lib.ListN.{length, drop};
 ghost use Rattle.vanishing.specs.Vanishing.{timesRoot, one, vanishing, occurs, distinct};
+ghost use Rattle.vanishing.specs.Between.{Ends};
 
 // Times 1 - z/x, in place.
 fn times_root(x: u32, list: &mut [u32])
@@ -19,6 +20,19 @@ fn times_root(x: u32, list: &mut [u32])
         list[i] = field::add_product(c, k, before);
         before = c;
     }
+}
+
+// The same of a list that has nothing behind its first m coefficients: the product has nothing behind m + 1.
+fn times_root_short(x: u32, m: usize, list: &mut [u32])
+    requires { ⌜ (1 ≤ length (now list)) × (1 ≤ m) × Ends m (now list) ⌝ }
+    ensures { λ r. ⌜ now (list .exit) ≡ timesRoot x (now (list .entry)) ⌝ }
+{
+    if list.len() <= m {
+        times_root(x, list);
+        return;
+    }
+    let end = m + 1;
+    times_root(x, &mut list[..end]);
 }
 
 // The constant 1.
@@ -37,7 +51,7 @@ pub fn vanish_at(numbers: &[u32], list: &mut [u32])
 {
     start(list);
     for i in 0..numbers.len() {
-        times_root(numbers[i], list);
+        times_root_short(numbers[i], i + 1, list);
     }
 }
 
@@ -53,16 +67,16 @@ fn occurs(x: u32, from: usize, list: &[u32]) -> bool
     false
 }
 
-// Times 1 - z/x, where x is not among the numbers from `from` on.
+// Times 1 - z/x, where x is not among the numbers from `from` on; the list has nothing behind so many coefficients.
 fn times_root_once(x: u32, from: usize, numbers: &[u32], list: &mut [u32])
-    requires { ⌜ 1 ≤ length (now list) ⌝ }
+    requires { ⌜ (1 ≤ length (now list)) × (1 ≤ from) × Ends from (now list) ⌝ }
     ensures { λ r. ⌜ now (list .exit)
         ≡ cond (occurs x (drop from (now (numbers .entry)))) (now (list .entry)) (timesRoot x (now (list .entry))) ⌝ }
 {
     if occurs(x, from, numbers) {
         return;
     }
-    times_root(x, list);
+    times_root_short(x, from, list);
 }
 
 // The product over each number once.
