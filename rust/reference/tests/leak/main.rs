@@ -8,7 +8,9 @@ mod callers;
 mod dealers;
 mod draws;
 mod fee;
+mod lies;
 mod one_row;
+mod other_draw;
 mod products;
 mod record;
 mod relations;
@@ -66,7 +68,8 @@ fn raw(row: usize) -> Raw {
 }
 
 fn plan(n: usize, t: usize, raw: &[Raw], triples: &[usize], steps: &[Step]) -> Plan {
-    Plan { n, t, k: 1, raw: raw.to_vec(), triples: triples.to_vec(), steps: steps.to_vec() }
+    let (raw, triples, steps) = (raw.to_vec(), triples.to_vec(), steps.to_vec());
+    Plan { n, t, k: 1, raw, triples, steps, last: None }
 }
 
 /// What post 1 of two sees of its own polynomial and of the other's check value is fixed.
