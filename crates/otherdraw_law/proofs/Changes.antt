@@ -26,11 +26,11 @@ use Rattle.parts.proofs.Laws.{elements-take, elements-drop}
 use Rattle.vectors.proofs.Draws.{element-at}
 use Rattle.vanishing.specs.Vanishing.{vanishing, distinct}
 use Rattle.otherdraw.specs.Other.{noPosts, otherV, moved, pointsOf, otherDraw}
-use Rattle.otherdraw_law.proofs.Vanish.{length-vanishing, vanishing-ends}
-use Rattle.otherdraw_law.proofs.Distinct.{to-distinct, apart}
+use Rattle.vanishing.proofs.Vanish.{length-vanishing, vanishing-ends}
+use Rattle.vanishing.proofs.Distinct.{to-distinct, apart}
 use Rattle.otherdraw_law.proofs.Points.{points-all}
 use Rattle.otherdraw_law.proofs.Hidden.{known-good, known-few}
-use Rattle.otherdraw_law.proofs.Passed.{Given, not-refused}
+use Rattle.otherdraw.proofs.Passed.{Given, not-refused}
 use Rattle.otherdraw_law.specs.OneRow.{Setting, Behind}
 use Rattle.otherdraw_law.specs.Claims.{Dealt, returned, refusalIn, shapeIn, Least, AnF, AV, ChangesLeast, OnlyF}
 use Rattle.otherdraw_law.proofs.Sees.{length-v, sum-cancel, long, low, checks-same, sums-same, f-same, constant-same}

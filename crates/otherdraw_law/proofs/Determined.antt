@@ -25,7 +25,7 @@ use Rattle.poly.proofs.Numbers.{toElements, element-value}
 use Rattle.poly.proofs.Theorems.{coefficients-determined}
 use Rattle.parts.proofs.Laws.{elements-take}
 use Rattle.session.specs.Rows.{combined}
-use Rattle.otherdraw_law.proofs.Vanish.{Ends}
+use Rattle.vanishing.proofs.Vanish.{Ends}
 use Rattle.otherdraw_law.specs.Claims.{Below, Least}
 open CommutativeRing 𝓡 using (add as _⊕_, mul as _⊗_, neg, zero as 0ᴱ)
 

@@ -25,10 +25,10 @@ use Rattle.secrecy.proofs.Kernel.{kernelOf, kernelOf-c, kernelOf-own, kernelOf-
 use Rattle.secrecy.proofs.Near.{Unseen, nonzero-nodes}
 use Rattle.vanishing.specs.Vanishing.{vanishing, distinct}
 use Rattle.otherdraw.specs.Other.{noPosts, pointsOf}
-use Rattle.otherdraw_law.proofs.Vanish.{length-vanishing, vanishing-at-zero, vanishing-at-nodes}
-use Rattle.otherdraw_law.proofs.Distinct.{of-distinct, to-distinct, length-distinct}
+use Rattle.vanishing.proofs.Vanish.{length-vanishing, vanishing-at-zero, vanishing-at-nodes}
+use Rattle.vanishing.proofs.Distinct.{of-distinct, to-distinct, length-distinct}
 use Rattle.otherdraw_law.proofs.Points.{point-is, points-all, points-each, length-points}
-use Rattle.otherdraw_law.proofs.Passed.{Given}
+use Rattle.otherdraw.proofs.Passed.{Given}
 use Rattle.otherdraw_law.proofs.Shifted.{unseenKernel, unseen-is}
 open CommutativeRing 𝓡 using (zero as 0ᴱ, one as 1ᴱ)
 

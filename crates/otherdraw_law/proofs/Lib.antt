@@ -1,7 +1,4 @@
-pub mod Vanish
-pub mod Distinct
 pub mod Points
-pub mod Passed
 pub mod Dealing
 pub mod Entries
 pub mod Told

@@ -18,7 +18,7 @@ use Rattle.shape.specs.declared.Shape.{Shape}
 use Rattle.shape.specs.Lengths.{shape, fLength, drawLength}
 use Rattle.parts.specs.Draw.{drawnF}
 use Rattle.parts.proofs.Laws.{elements-take}
-use Rattle.otherdraw_law.proofs.Passed.{nineteen}
+use Rattle.otherdraw.proofs.Passed.{nineteen}
 use Rattle.otherdraw_law.specs.Claims.{NoneWhereNineteen}
 use Rattle.otherdraw_law.proofs.Sees.{long, low, f-same, constant-same}
 open CommutativeRing 𝓡 using (add as _⊕_, neg)

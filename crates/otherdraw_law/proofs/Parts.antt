@@ -13,7 +13,7 @@ use Rattle.sums.proofs.Writers.{length-combined}
 use Rattle.parts.specs.Draw.{drawnF, drawnV}
 use Rattle.vanishing.specs.Vanishing.{vanishing, distinct}
 use Rattle.otherdraw.specs.Other.{noPosts, otherF, otherV, otherVs, moved}
-use Rattle.otherdraw_law.proofs.Vanish.{length-vanishing}
+use Rattle.vanishing.proofs.Vanish.{length-vanishing}
 use Rattle.otherdraw_law.proofs.Sees.{length-v}
 
 module _ (s : Shape) (posts points : List ℕ) (δ : ℕ) (draw : List ℕ) (long : length draw ≡ drawLength s) where

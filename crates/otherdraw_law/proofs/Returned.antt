@@ -17,7 +17,7 @@ use Rattle.secrecy.specs.Seen.{posts}
 use Rattle.otherdraw.specs.Other.{moved, pointsOf, otherDraw, otherOut, notRising, tooMany, otherTests, otherRefusal}
 use Rattle.otherdraw_law.specs.OneRow.{recordOf, Behind}
 use Rattle.otherdraw_law.specs.Claims.{ShowsTheSame, EqualSecrets}
-use Rattle.otherdraw_law.proofs.Passed.{Given, not-refused}
+use Rattle.otherdraw.proofs.Passed.{Given, not-refused}
 use Rattle.otherdraw_law.proofs.Drawn.{is-draw}
 use Rattle.otherdraw_law.proofs.Shows.{few-shows}
 

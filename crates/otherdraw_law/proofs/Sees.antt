@@ -29,7 +29,7 @@ use Rattle.parts.specs.Draw.{drawnF, drawnV, eachFrom, part, checkOf, sumOf}
 use Rattle.parts.proofs.Laws.{drawn-room, length-each}
 use Rattle.vectors.proofs.Draws.{element-at}
 use Rattle.runs.specs.Draws.{Raw, whenRaw, drawnLength, rawDraw}
-use Rattle.otherdraw_law.proofs.Passed.{Given}
+use Rattle.otherdraw.proofs.Passed.{Given}
 use Rattle.otherdraw_law.specs.OneRow.{Setting, planIn, Behind, drawOf}
 use Rattle.otherdraw_law.proofs.Told.{drawn-row, raw-there, packs-same, numbers-same}
 open CommutativeRing 𝓡 using (add as _⊕_, neg)

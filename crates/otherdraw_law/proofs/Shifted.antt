@@ -30,7 +30,7 @@ use Rattle.secrecy.proofs.Shift.{shift, flat, flat-f, flat-rest, flat-v}
 use Rattle.secrecy.proofs.Triples.{shift-empty}
 use Rattle.vanishing.specs.Vanishing.{vanishing, distinct}
 use Rattle.otherdraw.specs.Other.{noPosts, otherF, otherV, otherVs, atZero, moved}
-use Rattle.otherdraw_law.proofs.Vanish.{length-vanishing}
+use Rattle.vanishing.proofs.Vanish.{length-vanishing}
 open CommutativeRing 𝓡 using (add as _⊕_, mul as _⊗_, neg, zero as 0ᴱ)
 
 infixl 65 _⊕_

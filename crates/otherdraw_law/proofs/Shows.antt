@@ -40,7 +40,7 @@ use Rattle.secrecy.proofs.Link.{Alike}
 use Rattle.otherdraw.specs.Other.{moved, pointsOf}
 use Rattle.otherdraw_law.specs.OneRow.{drawOf, Setting, planIn, drawIn, recordOf, Behind}
 use Rattle.otherdraw_law.specs.Claims.{Dealt, shapeIn}
-use Rattle.otherdraw_law.proofs.Passed.{Given}
+use Rattle.otherdraw.proofs.Passed.{Given}
 use Rattle.otherdraw_law.proofs.Told.{drawn-row, raw-there, number-is}
 use Rattle.otherdraw_law.proofs.Drawn.{is-draw}
 use Rattle.otherdraw_law.proofs.Entries.{entries-same}

@@ -14,7 +14,7 @@ use Rattle.shape.specs.Bounds.{rowCount, lastRow}
 use Rattle.shape.specs.Marks.{empty, raw, held}
 use Rattle.shape.specs.Lengths.{rowLength, rowsLength}
 use Rattle.refusal.specs.Refusal.{outcome, AllFail}
-use Rattle.refusal.specs.Conditions.{anyBeyond}
+use Rattle.refusal.specs.Conditions.{anyBeyond, postsTests, stationTests}
 use Rattle.refusal.proofs.Laws.{all-fail, not-refused as passes}
 use Rattle.refusal.proofs.Elements.{element-test}
 use Rattle.parts.specs.Draw.{eachFrom}
@@ -36,7 +36,7 @@ use Rattle.secrecy.specs.Seen.{posts, newDesk, entryOf, run, seen}
 use Rattle.secrecy.proofs.Theorems.{number-low}
 use Rattle.otherdraw_law.specs.OneRow.{orders, Setting, planIn, drawIn}
 use Rattle.otherdraw_law.specs.Claims.{returned, shapeIn, AllTaken, BothTaken}
-use Rattle.otherdraw_law.proofs.Passed.{not-refused}
+use Rattle.otherdraw.proofs.Passed.{not-refused}
 use Rattle.otherdraw_law.proofs.Drawn.{only-row, is-draw}
 use Rattle.otherdraw_law.proofs.Returned.{shows-the-same}
 use Rattle.otherdraw_law.proofs.Told.{raw-there}
@@ -160,9 +160,10 @@ module _ (S : Setting) (draw : List ℕ) (u : ℕ) (row : S .r ≤ lastRow) (sou
 pub both-taken : BothTaken
 both-taken S draw secret wanted out h z long =
     let g = not-refused (S .n) (S .t) (S .points) (S .ws) draw secret wanted (S .posts) out z .0 in
+    let (one, (two, (count, _))) = all-fail (stationTests (S .n) (S .t) (S .points)) tt (g .station-fine) in
     let sound : Sound (planIn S) = record {
-      posts = g .posts-fine;
-      counted = g .counted;
+      posts = passes (postsTests (S .n) (S .t)) (one, (two, tt));
+      counted = count;
       raws = λ q raw. subst (λ (k : ℕ). k ≤ lastRow) (sym (only-row S q raw)) (h .row);
       triples = λ q e. absurd (false≢true e);
     } in (

@@ -1,4 +1,4 @@
--- Document 02, (xiv), what is claimed; proved in proofs/Theorems.antt.
+-- Document 02, (xiv), what is claimed; proved in proofs/Returned, Taken, Changes and Nineteen.
 use Prim.Native.Nat.{ℕ, _+_, _*_, _≤_}
 use mathlib.Core.Path.{_≡_}
 use mathlib.Core.Bool.{false}
