@@ -139,8 +139,7 @@ pub fn find_large(
     );
 }
 
-// In rooms that fit the station: a small one clears short lists only. Those of the most posts have two calls on purpose: the compiler puts a
-// function that has one into its caller, and its rooms on a small station's stack.
+// In rooms that fit the station: a small one clears short lists only.
 fn find_other(shape: Shape, delta: u32, ws: &[u32], posts: &[u32], draw: &[u32], out: &mut [u32])
     requires { ⌜ Finding shape (now ws) (now posts) (now draw) (now out) ⌝ }
     ensures { λ r. ⌜ now (out .exit)
@@ -152,10 +151,6 @@ fn find_other(shape: Shape, delta: u32, ws: &[u32], posts: &[u32], draw: &[u32],
     }
     if shape.n <= shape::FEW_POSTS {
         find_small(shape, delta, ws, posts, draw, out);
-        return;
-    }
-    if shape.points < 2 {
-        find_large(shape, delta, ws, posts, draw, out);
         return;
     }
     find_large(shape, delta, ws, posts, draw, out);
