@@ -13,7 +13,7 @@ use Rattle.secrecy.proofs.Tests.{same-of-shows, shows-of-same}
 use Rattle.secrecy.proofs.Listed.{all-draws}
 
 -- a matching of those with P' with those with Q', where P' is P and Q' is Q
-rematched : {A : Type 0} {P Q P′ Q′ : A → Type 0} → ((a : A) → P′ a ↔ P a) → ((a : A) → Q′ a ↔ Q a) → Matching P Q
+pub rematched : {A : Type 0} {P Q P′ Q′ : A → Type 0} → ((a : A) → P′ a ↔ P a) → ((a : A) → Q′ a ↔ Q a) → Matching P Q
     → Matching P′ Q′
 rematched p q m =
     record {

@@ -64,3 +64,9 @@ pub mod Theorems
 pub mod NeverOrders
 pub mod Barred
 pub mod Known
+-- A last opening at which the group lies.
+pub mod Lying
+pub mod LyingLast
+pub mod LyingTheorems
+pub mod LyingAccepted
+pub mod LyingRead

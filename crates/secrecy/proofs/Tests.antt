@@ -16,7 +16,7 @@ pub record Right {A : Type 0} (same : A → A → Bool) : Type 0 where
   pub self : (x : A) → same x x ≡ true
 
 -- the first of two tests, and what is left to pass
-split : {A : Type 0} {same : A → A → Bool} → Right same → (x y : A) (b : Bool) → (same x y && b) ≡ true
+pub split : {A : Type 0} {same : A → A → Bool} → Right same → (x y : A) (b : Bool) → (same x y && b) ≡ true
     → (x ≡ y) × (b ≡ true)
 split {A} {same} right x y b e = go (same x y) refl e
   where
@@ -24,7 +24,7 @@ split {A} {same} right x y b e = go (same x y) refl e
     go true q e′ = (right .equal x y q, e′)
     go false q e′ = absurd (false≢true e′)
 
-both-true : {a b : Bool} → a ≡ true → b ≡ true → (a && b) ≡ true
+pub both-true : {a b : Bool} → a ≡ true → b ≡ true → (a && b) ≡ true
 both-true e q = ap₂ _&&_ e q
 
 pub numbers-right : Right eqb
@@ -73,8 +73,11 @@ entry-self x =
     (both-true (numbers-lists-right .self (x .values))
     (both-true (lines-right .self (x .lines)) (lines-right .self (x .rows)))))
 
+pub entry-right : Right sameEntry
+entry-right = record { equal = entry-equal; self = entry-self }
+
 pub entries-right : Right (sameList sameEntry)
-entries-right = list-right sameEntry (record { equal = entry-equal; self = entry-self })
+entries-right = list-right sameEntry entry-right
 
 seen-equal : (x y : Seen) → sameSeen x y ≡ true → x ≡ y
 unfolding sameSeen

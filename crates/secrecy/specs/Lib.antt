@@ -10,3 +10,5 @@ pub mod Barred
 pub mod Count
 pub mod Points
 pub mod Known
+pub mod Lies
+pub mod LiesRead

@@ -3,3 +3,4 @@ pub mod Found
 pub mod Kept
 pub mod Premised
 pub mod Examples
+pub mod Lying

@@ -143,7 +143,7 @@ module _ (x : Example) where
 -- ---- the claim
 
 -- where one of a list passes a test, not none pass
-some-pass : {A : Type 0} (test : A → Bool) (xs : List A) (a : A) → Among a xs → test a ≡ true → 0 < count test xs
+pub some-pass : {A : Type 0} (test : A → Bool) (xs : List A) (a : A) → Among a xs → test a ≡ true → 0 < count test xs
 unfolding count
 some-pass test (x ∷ xs) a (inl e) q = rw (← e, q) (omega arith)
 some-pass test (x ∷ xs) a (inr m) q = go (test x) (some-pass test xs a m q)

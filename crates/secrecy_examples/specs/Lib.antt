@@ -8,3 +8,5 @@ pub mod Relation
 pub mod TwoPoints
 pub mod Barred
 pub mod Turns
+pub mod Lying
+pub mod LyingBarred

@@ -8,6 +8,7 @@ mod callers;
 mod dealers;
 mod draws;
 mod fee;
+mod lies;
 mod one_row;
 mod products;
 mod record;
@@ -66,7 +67,8 @@ fn raw(row: usize) -> Raw {
 }
 
 fn plan(n: usize, t: usize, raw: &[Raw], triples: &[usize], steps: &[Step]) -> Plan {
-    Plan { n, t, k: 1, raw: raw.to_vec(), triples: triples.to_vec(), steps: steps.to_vec() }
+    let (raw, triples, steps) = (raw.to_vec(), triples.to_vec(), steps.to_vec());
+    Plan { n, t, k: 1, raw, triples, steps, last: None }
 }
 
 /// What post 1 of two sees of its own polynomial and of the other's check value is fixed.

@@ -135,7 +135,7 @@ impl<const P: u32> Station<'_, P> {
     }
 
     /// The line of a message, or of masks when there are twice as many numbers.
-    fn line(&self, post: usize, row: usize, numbers: &[u32]) -> Vec<u8> {
+    pub(super) fn line(&self, post: usize, row: usize, numbers: &[u32]) -> Vec<u8> {
         let (n, t, k) = (self.plan.n, self.plan.t, self.plan.k);
         let mut part = [0; 64];
         let written = if numbers.len() == self.shape.coefficients() {

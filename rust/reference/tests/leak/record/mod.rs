@@ -3,12 +3,14 @@
 mod broken;
 mod calls;
 mod notes;
+mod phase;
 mod plan;
 
 use reference::{factory_row, factory_triple, new_dealers, new_session, read, Session, Shape};
 use reference::{DEALERS_STATE, TRIPLE};
 
 use crate::draws::Draw;
+pub use phase::{Event, Last, View};
 pub use plan::{Plan, Raw, Step};
 
 /// A message broadcast, as read from its line.
@@ -43,6 +45,14 @@ pub struct Station<'a, const P: u32> {
     /// Each raw row's number c.
     cs: Vec<u32>,
     sent: Vec<Sent>,
+    /// The senders and polynomials of the last phase.
+    said: Vec<(usize, Vec<u32>)>,
+    /// Which posts outside the group accept them.
+    accepted: Vec<u8>,
+    /// The refusals of the last phase's openings.
+    opened: Vec<u8>,
+    /// The refusals of the steps before, of each step at all posts.
+    refusals: Vec<u8>,
     record: Vec<u8>,
 }
 
@@ -66,18 +76,25 @@ impl<'a, const P: u32> Station<'a, P> {
             triple_packs: vec![vec![0; TRIPLE * shape.row_packs()]; plan.triples.len()],
             cs: vec![],
             sent: vec![],
+            said: vec![],
+            accepted: vec![],
+            opened: vec![],
+            refusals: vec![],
             record: vec![],
         }
     }
 
     /// The group's record when the plan is run with this draw and these secrets, one for each raw
-    /// row.
+    /// row; after a last phase, the acceptances at the other posts too.
     pub fn record(&mut self, draw: &Draw, secrets: &[u32]) -> &[u8] {
         self.start(draw);
         self.note_packs(draw.points);
         self.note_deals(draw, secrets);
         for &step in &self.plan.steps {
             self.step(step);
+        }
+        if let Some(last) = &self.plan.last {
+            self.last_phase(last);
         }
         &self.record
     }
@@ -86,6 +103,7 @@ impl<'a, const P: u32> Station<'a, P> {
     fn start(&mut self, draw: &Draw) {
         self.cs.clear();
         self.sent.clear();
+        self.refusals.clear();
         self.record.clear();
         self.start_posts(draw.points);
         self.make_packs(draw);
@@ -138,6 +156,7 @@ impl<'a, const P: u32> Station<'a, P> {
         for post in 1..=self.plan.n {
             let (answer, made) = self.step_at(step, post);
             self.posts[post - 1].session = answer.session;
+            self.refusals.push(answer.refusal);
             self.record.push(answer.refusal);
             self.note_numbers(&[answer.value]);
             self.note_dealers(step, post);

@@ -2,6 +2,8 @@
 
 use reference::Term;
 
+use super::Last;
+
 /// A load or a call that all posts make, or a rule broken on purpose.
 #[derive(Clone, Copy, Debug)]
 pub enum Step {
@@ -111,4 +113,6 @@ pub struct Plan {
     /// The first rows of the triples drawn.
     pub triples: Vec<usize>,
     pub steps: Vec<Step>,
+    /// The last opening, at which the group may lie.
+    pub last: Option<Last>,
 }
