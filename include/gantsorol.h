@@ -110,8 +110,7 @@
 /*
  * Refusals. Conditions are looked at in the order of their numbers, but for 14, which comes right after 5; each over all
  * lists and terms before the next; gantsorol_access looks at 10 and 11 before 7. gantsorol_place looks at 10 last, behind 16
- * and 17, and gantsorol_turn at 16 right after 5, then at 10, 11, 7 and 8 of the line that it has taken. 18 and 19 are kept for
- * what is to come.
+ * and 17, and gantsorol_turn at 16 right after 5, then at 10, 11, 7 and 8 of the line that it has taken.
  */
 enum gantsorol_refusal {
     GANTSOROL_OK = 0,
@@ -131,7 +130,9 @@ enum gantsorol_refusal {
     GANTSOROL_BAD_TERM_COUNT = 14,
     GANTSOROL_CALLER_BARRED = 15,
     GANTSOROL_BAD_DEALER = 16,
-    GANTSOROL_PLACE_FILLED = 17
+    GANTSOROL_PLACE_FILLED = 17,
+    GANTSOROL_BAD_POST_LIST = 18,
+    GANTSOROL_TOO_MANY_POSTS = 19
 };
 
 /* A refusal in words: the condition that applies. */
@@ -174,6 +175,10 @@ static inline const char *gantsorol_refusal_text(uint8_t refusal) {
         return "a dealer, or the dealers' state's last one, is outside 1 to 8, or a place of that state has more than 16 bytes";
     case GANTSOROL_PLACE_FILLED:
         return "a line still waits in the dealer's place";
+    case GANTSOROL_BAD_POST_LIST:
+        return "a list of posts does not rise strictly, or has a post outside 1 to n";
+    case GANTSOROL_TOO_MANY_POSTS:
+        return "more than t posts are listed and the secrets differ: no other draw shows them the same";
     default:
         return "unknown to this header";
     }
@@ -578,6 +583,23 @@ gantsorol_number gantsorol_dealer_number(uint32_t u, uint32_t constant);
 gantsorol_written gantsorol_write_pack(size_t n, size_t t, size_t post, size_t points, const uint32_t *check_points,
                                        size_t check_points_len, const uint8_t *kinds, size_t kinds_len,
                                        const uint32_t *draws, size_t draws_len, uint8_t *out, size_t out_len);
+
+/* ---- For the works' testers: what a stolen set of posts gives away ---- */
+
+/*
+ * Finds the draw behind another secret; the refusal. For one row that was only loaded and dealt, by none of the posts listed,
+ * writes to out the draw with the same check points that shows those posts the same record where the wanted secret is dealt in
+ * place of the secret: their packs, their rows, and c. So what up to t posts hold and hear fits every secret alike. f, then each
+ * v, changes by the polynomial of least degree that does this; with no posts listed only f changes. Equal secrets give the draw
+ * itself, even for all n posts. With more than t posts listed and secrets that differ there is no such draw (19).
+ * It is run at the works, which knows the draw and the check points: its time depends on the check points of the listed posts.
+ * check_points: GANTSOROL_CHECK_POINTS_LEN, read. draw: GANTSOROL_ROW_DRAW_LEN, read. posts: rising numbers from 1 to n, of any
+ * length, read; it may be empty. out: GANTSOROL_ROW_DRAW_LEN, written. Refusals 1, 2, 4, 5, 8, 18 (also where the secrets are
+ * equal) and 19.
+ */
+uint8_t gantsorol_other_draw(size_t n, size_t t, size_t points, const uint32_t *check_points, size_t check_points_len,
+                             const uint32_t *draw, size_t draw_len, uint32_t secret, uint32_t wanted, const uint32_t *posts,
+                             size_t posts_len, uint32_t *out, size_t out_len);
 
 /* ---- Broadcast lines ---- */
 

@@ -18,7 +18,7 @@ pub fn check_points(ws: &[u32]) -> u8
 }
 
 // 4, 5 and 8, of the three lists.
-fn lists(n: usize, ws: &[u32], draw: &[u32], drawn: usize, out: &[u32], written: usize) -> u8
+pub fn lists(n: usize, ws: &[u32], draw: &[u32], drawn: usize, out: &[u32], written: usize) -> u8
     ensures { λ r. ⌜ r ≡ first (listsTests n (now (ws .entry)) (now (draw .entry)) drawn (now (out .entry)) written) ⌝ }
 {
     let last = refusal::or_else(refusal::size(out, written), refusal::numbers(draw));

@@ -7,4 +7,5 @@ pub mod calls;
 pub mod packs;
 pub mod record;
 pub mod relations;
+pub mod testers;
 pub mod turns;

@@ -58,6 +58,7 @@ mod refusal;
 mod relation;
 mod session;
 mod sys;
+mod testers;
 mod works;
 
 pub use broadcast::{read, write_deal, write_masks, write_opening, Line, Written};
@@ -69,4 +70,5 @@ pub use record::{record_put, record_remove};
 pub use refusal::Refusal;
 pub use relation::Term;
 pub use session::{Answer, Session};
+pub use testers::other_draw;
 pub use works::{dealer_number, factory_row, factory_triple, write_pack, Number};

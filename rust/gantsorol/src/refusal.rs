@@ -68,6 +68,8 @@ refusals! {
     15 CallerBarred "the post that calls for an opening is not one of the row's set, or outside 1 to n";
     16 BadDealer "a dealer, or the dealers' state's last one, is outside 1 to 8, or a place of that state has more than 16 bytes";
     17 PlaceFilled "a line still waits in the dealer's place";
+    18 BadPostList "a list of posts does not rise strictly, or has a post outside 1 to n";
+    19 TooManyPosts "more than t posts are listed and the secrets differ: no other draw shows them the same";
 }
 
 impl Refusal {

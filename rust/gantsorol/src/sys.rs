@@ -199,6 +199,22 @@ extern "C" {
         out_len: usize,
     ) -> Written;
 
+    pub fn gantsorol_other_draw(
+        n: usize,
+        t: usize,
+        points: usize,
+        check_points: *const u32,
+        check_points_len: usize,
+        draw: *const u32,
+        draw_len: usize,
+        secret: u32,
+        wanted: u32,
+        posts: *const u32,
+        posts_len: usize,
+        out: *mut u32,
+        out_len: usize,
+    ) -> u8;
+
     pub fn gantsorol_write_deal(
         n: usize,
         t: usize,

@@ -294,6 +294,25 @@ static void two_points(void) {
     printf("one %d %zu %u %u\n", one.refusal, one.session.points, one.session.first, one.session.second);
 }
 
+/* The draw behind 42 in place of 100, with post 3 listed and with nobody; the draw itself for all posts; refused: a post twice, and
+   more than t. Then with two points a post. */
+static void other_draw(const uint32_t *check_points, const uint32_t *draw) {
+    enum { DRAW = GANTSOROL_ROW_DRAW_LEN(N, T, POINTS), TWO = 2, WIDE = GANTSOROL_ROW_DRAW_LEN(N, T, TWO) };
+    const uint32_t listed[N] = {1, 2, 3}, twice[TWO] = {2, 2};
+    const uint32_t ws[TWO * N] = {2, 3, 5, 7, 11, 13}, wide[WIDE] = {7, 10, 1, 2, 8, 3, 9, 4, 5, 11, 0};
+    uint32_t out[DRAW], other[WIDE];
+    printf("other %d\n", gantsorol_other_draw(N, T, 1, check_points, N, draw, DRAW, 100, 42, listed + 2, 1, out, DRAW));
+    print("draw", out, DRAW);
+    printf("other %d\n", gantsorol_other_draw(N, T, 1, check_points, N, draw, DRAW, 100, 42, NULL, 0, out, DRAW));
+    print("draw", out, DRAW);
+    printf("other %d\n", gantsorol_other_draw(N, T, 1, check_points, N, draw, DRAW, 100, 100, listed, N, out, DRAW));
+    print("draw", out, DRAW);
+    printf("other %d %d\n", gantsorol_other_draw(N, T, 1, check_points, N, draw, DRAW, 100, 42, twice, TWO, out, DRAW),
+           gantsorol_other_draw(N, T, 1, check_points, N, draw, DRAW, 100, 42, listed, TWO, out, DRAW));
+    printf("other %d\n", gantsorol_other_draw(N, T, TWO, ws, TWO * N, wide, WIDE, 100, 106, listed, 1, other, WIDE));
+    print("draw", other, WIDE);
+}
+
 int main(void) {
     layout();
 
@@ -349,5 +368,6 @@ int main(void) {
     printf("none %d %u %d\n", none.refusal, none.value, memcmp(none.session.marks, zero.marks, sizeof zero.marks));
     write_lines();
     two_points();
+    other_draw(check_points, draw);
     return 0;
 }

@@ -70,6 +70,12 @@ fn dealers_in_c() {
     check_example("dealers");
 }
 
+/// Two draws behind two secrets show the stolen posts one record.
+#[test]
+fn other_draws_in_c() {
+    check_example("other_draw");
+}
+
 /// The README shows parts of the examples that the tests compile and run: lines of the file, one after the other.
 #[test]
 fn the_readme_shows_parts_of_the_examples() {

@@ -205,6 +205,12 @@ fn the_factory_takes_these_lengths() {
         check_exact(own.len(), |len| row(&vec![1; len], &draw, packs.len()));
         check_exact(draw.len(), |len| row(&own, &list(len), packs.len()));
         check_exact(packs.len(), |len| row(&own, &draw, len));
+        let other = |own: &[u32], draw: &[u32], out: usize| {
+            number_of(other_draw(n, t, points, own, draw, 3, 4, &[n as u32], &mut list(out)))
+        };
+        check_exact(own.len(), |len| other(&vec![1; len], &draw, draw.len()));
+        check_exact(draw.len(), |len| other(&own, &list(len), draw.len()));
+        check_exact(draw.len(), |len| other(&own, &draw, len));
         let (draw, packs) =
             (list(triple_draw_len(n, t, points)), list(triple_packs_len(n, t, points)));
         let triple = |own: &[u32], draw: &[u32], out: usize| {

@@ -39,6 +39,10 @@ pub enum Refusal {
     Dealer = 16,
     /// a line for a place still filled; after 16
     Filled = 17,
+    /// a list of posts that isn't rising or leaves 1..n; after 8
+    PostList = 18,
+    /// more than t posts when the secrets differ; after 18
+    TooManyPosts = 19,
 }
 
 impl Refusal {

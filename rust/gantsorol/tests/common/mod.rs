@@ -328,6 +328,23 @@ impl Library for Verified {
         written(gantsorol::write_pack(n, t, post, k, points, kinds, draws, out))
     }
 
+    fn other_draw(
+        &self,
+        n: usize,
+        t: usize,
+        k: usize,
+        points: &[u32],
+        draw: &[u32],
+        secret: u32,
+        wanted: u32,
+        posts: &[usize],
+        out: &mut [u32],
+    ) -> u8 {
+        // The binding has posts of 32 bits; one beyond them is outside 1..n too.
+        let posts: Vec<u32> = posts.iter().map(|&j| u32::try_from(j).unwrap_or(u32::MAX)).collect();
+        number_of(gantsorol::other_draw(n, t, k, points, draw, secret, wanted, &posts, out))
+    }
+
     fn street(&self, _: &[u8]) -> Vec<u8> {
         unreachable!("the street program is no exported call")
     }

@@ -8,6 +8,7 @@ mod callers;
 mod dealers;
 mod odd;
 mod one_list;
+mod other_draw;
 mod paperwork;
 
 use common::{seeds, Verified};

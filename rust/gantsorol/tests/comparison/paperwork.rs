@@ -1,4 +1,4 @@
-//! Calls without a session: the factory, lines, pack files; and the bounds of what they take.
+//! Calls without a session: the factory, lines, pack files, the draw behind another secret; and the bounds of what they take.
 
 use gantsorol::MAX_POSTS;
 use reference::random::{
@@ -65,6 +65,7 @@ const SQUARES: Met = &[
     ("WriteMasks", &[0, 2, 3, 4, 5, 6, 8, 12]),
     ("Read", &[0, 2, 4, 5, 10, 11]),
     ("WritePack", &[0, 2, 3, 4, 5, 6, 7, 8, 12]),
+    ("OtherDraw", &[0, 2, 4, 5, 8, 18, 19]),
 ];
 
 /// The number of posts; of a dealer's number none.
@@ -76,6 +77,7 @@ fn posts(work: &Paperwork) -> usize {
         | Paperwork::Read { n, .. } => n,
         Paperwork::WriteOpening(ref message) | Paperwork::WriteMasks(ref message) => message.n,
         Paperwork::WritePack(ref pack) => pack.n,
+        Paperwork::OtherDraw(ref other) => other.n,
         Paperwork::DealerNumber { .. } => 0,
     }
 }

@@ -2,7 +2,7 @@
  * FIRST on.
  *
  * Fixed are n, t and the number of check points, the post, the rows, who is heard and accepted, and every refusal; check points, draws and dealt numbers come from
- * the seed. What the other posts send is reckoned here, so that each call of the library is one of the list. Numbers that become text
+ * the seed (of the draw behind another secret, which is run at the works, the check points are fixed). What the other posts send is reckoned here, so that each call of the library is one of the list. Numbers that become text
  * have ten digits, so that the text's length is fixed too; with -DANY_DIGITS they are any. With -DBRANCHING the masks are made once
  * more, by a function that branches on coefficients. */
 #include "drawn.h"
@@ -206,6 +206,22 @@ static void write_pack(void) {
     must(written.refusal == 0, "write pack");
 }
 
+/* The draw behind another secret, with the first t posts listed. Their check points are fixed: its time follows them. */
+static void find_other_draw(void) {
+    static uint32_t own[GANTSOROL_MAX_POINTS * MOST], listed[MOST], other[GANTSOROL_ROW_DRAW_LEN(MOST, MOST, GANTSOROL_MAX_POINTS)];
+    for (size_t i = 0; i < points * n; i++)
+        own[i] = P - 1 - (uint32_t)i / 2;
+    for (size_t i = 0; i < t; i++)
+        listed[i] = (uint32_t)i + 1;
+    uint32_t secret = drawn(0), wanted = plus(secret, 1, drawn(1));
+    must(gantsorol_other_draw(n, t, points, own, points * n, polynomials[A], draw_len, secret, wanted, listed, t, other, draw_len) == 0,
+         "other draw");
+    must(memcmp(other + t + 1, polynomial(A, 1), t * k * sizeof *other) == 0, "the listed posts' polynomials stay");
+    must(other[0] == plus(polynomials[A][0], 1, plus(wanted, P - 1, secret)), "f(0) changes as the secret does");
+    must(gantsorol_other_draw(n, t, points, own, points * n, polynomials[A], draw_len, secret, wanted, own, 1, other, draw_len) == 18,
+         "other draw, 18");
+}
+
 int main(int count, char **arguments) {
     must(count == 6, "n, t, how many check points, the first seed, and how many?");
     n = strtoul(arguments[1], NULL, 10), t = strtoul(arguments[2], NULL, 10), points = strtoul(arguments[3], NULL, 10);
@@ -226,6 +242,7 @@ int main(int count, char **arguments) {
         deal_by_turn();
         write_and_read();
         write_pack();
+        find_other_draw();
     }
     return 0;
 }

@@ -176,6 +176,20 @@ pub trait Library {
         out: &mut [u8],
     ) -> Written;
 
+    /// The draw behind another secret that shows the listed posts the same; the refusal.
+    fn other_draw(
+        &self,
+        n: usize,
+        t: usize,
+        k: usize,
+        points: &[u32],
+        draw: &[u32],
+        secret: u32,
+        wanted: u32,
+        posts: &[usize],
+        out: &mut [u32],
+    ) -> u8;
+
     /// The street program, from its input to its output.
     fn street(&self, input: &[u8]) -> Vec<u8>;
 }

@@ -4,8 +4,8 @@ use super::Library;
 use crate::lines::{ReadLine, Written};
 use crate::relation::{self, Term};
 use crate::session::{Answer, Session};
-use crate::MODULUS;
-use crate::{callers, calls, dealers, factory, lines, opening, pack, product, session, street};
+use crate::{callers, calls, dealers, factory, lines, opening, other_draw, pack, product};
+use crate::{session, street, MODULUS};
 
 /// This implementation, over the field with `P` elements.
 #[derive(Clone, Copy, Debug, Default)]
@@ -199,6 +199,21 @@ impl<const P: u32> Library for Reference<P> {
         out: &mut [u8],
     ) -> Written {
         pack::write_pack::<P>(n, t, k, post, points, kinds, draws, out)
+    }
+
+    fn other_draw(
+        &self,
+        n: usize,
+        t: usize,
+        k: usize,
+        points: &[u32],
+        draw: &[u32],
+        secret: u32,
+        wanted: u32,
+        posts: &[usize],
+        out: &mut [u32],
+    ) -> u8 {
+        other_draw::other_draw::<P>(n, t, k, points, draw, secret, wanted, posts, out)
     }
 
     fn street(&self, input: &[u8]) -> Vec<u8> {

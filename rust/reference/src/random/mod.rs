@@ -2,7 +2,8 @@
 //!
 //! - [`Script`]: a whole session of one post, with honest and forged records, every call, and
 //!   trials in which the call or the session is damaged.
-//! - [`Paperwork`]: calls without a session: the factory, the dealer's number, lines, pack files.
+//! - [`Paperwork`]: calls without a session: the factory, the dealer's number, lines, pack files, the
+//!   draw behind another secret.
 //! - [`street_input`]: an input of the street program.
 //! - [`wild_state`], [`wild_calls`], [`odd_triple`]: numbers that no session would come to.
 //!
@@ -25,7 +26,8 @@ pub use call::{unwritten, Call, Outcome, State};
 pub use compare::{compare_paperwork, compare_script, compare_street, Difference};
 pub use damage::Damage;
 pub use lines::{callers_line, join, mutate};
-pub use paperwork::{paperwork, written, Paperwork, PaperworkOutcome, WriteMessage, WritePack};
+pub use paperwork::{paperwork, written, Paperwork, PaperworkOutcome};
+pub use paperwork::{OtherDraw, WriteMessage, WritePack};
 pub use rng::Rng;
 pub use script::{script, script_for, Script, Step};
 pub use seen::{Met, Seen, CALL_REFUSALS, PAPERWORK_REFUSALS, STREET_REFUSALS};

@@ -39,6 +39,7 @@ pub const PAPERWORK_REFUSALS: Met = &[
     ("WriteMasks", &[0, 1, 2, 3, 4, 5, 6, 8, 12]),
     ("Read", &[0, 1, 2, 4, 5, 10, 11]),
     ("WritePack", &[0, 1, 2, 3, 4, 5, 6, 7, 8, 12]),
+    ("OtherDraw", &[0, 1, 2, 4, 5, 8, 18, 19]),
 ];
 
 /// Every refusal that a line of the street program can get, by its letter; 1 for any before a start.

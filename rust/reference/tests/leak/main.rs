@@ -10,6 +10,7 @@ mod draws;
 mod fee;
 mod lies;
 mod one_row;
+mod other_draw;
 mod products;
 mod record;
 mod relations;

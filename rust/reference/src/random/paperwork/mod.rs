@@ -1,5 +1,6 @@
 //! Calls without a session: the factory, the dealer's number, lines, and pack files.
 
+mod other_draw;
 mod packs;
 
 use super::call::unwritten;
@@ -19,6 +20,7 @@ pub enum Paperwork {
     WriteMasks(WriteMessage),
     Read { n: usize, t: usize, k: usize, line: Vec<u8>, out: usize },
     WritePack(WritePack),
+    OtherDraw(OtherDraw),
 }
 
 /// The arguments of a message's writer.
@@ -45,6 +47,21 @@ pub struct WritePack {
     pub points: Vec<u32>,
     pub kinds: Vec<u8>,
     pub draws: Vec<u32>,
+    pub out: usize,
+}
+
+/// The arguments of the call for the draw behind another secret.
+#[derive(Clone, Debug, PartialEq, Eq)]
+#[allow(missing_docs)]
+pub struct OtherDraw {
+    pub n: usize,
+    pub t: usize,
+    pub k: usize,
+    pub points: Vec<u32>,
+    pub draw: Vec<u32>,
+    pub secret: u32,
+    pub wanted: u32,
+    pub posts: Vec<usize>,
     pub out: usize,
 }
 
@@ -94,6 +111,7 @@ impl Paperwork {
                 let WritePack { n, t, k, post, out, ref points, ref kinds, ref draws } = *pack;
                 written(out, |out| library.write_pack(n, t, k, post, points, kinds, draws, out))
             }
+            Self::OtherDraw(ref other) => other.perform(library),
         }
     }
 
@@ -103,7 +121,8 @@ impl Paperwork {
                 vec![points, draw]
             }
             Self::WriteOpening(message) | Self::WriteMasks(message) => vec![&mut message.numbers],
-            Self::WritePack(WritePack { points, draws, .. }) => vec![points, draws],
+            Self::WritePack(WritePack { points, draws: draw, .. })
+            | Self::OtherDraw(OtherDraw { points, draw, .. }) => vec![points, draw],
             _ => vec![],
         }
     }
@@ -113,6 +132,7 @@ impl Paperwork {
             Self::DealerNumber { .. } => vec![],
             Self::FactoryRow { n, t, k, out, .. }
             | Self::FactoryTriple { n, t, k, out, .. }
+            | Self::OtherDraw(OtherDraw { n, t, k, out, .. })
             | Self::Read { n, t, k, out, .. } => vec![n, t, k, out],
             Self::WriteDeal { n, t, row, out, .. } => vec![n, t, row, out],
             Self::WritePack(WritePack { n, t, k, post, out, .. }) => vec![n, t, k, post, out],
@@ -127,6 +147,7 @@ impl Paperwork {
         match self {
             Self::DealerNumber { u, f0 } => vec![u, f0],
             Self::WriteDeal { c, .. } => vec![c],
+            Self::OtherDraw(OtherDraw { secret, wanted, .. }) => vec![secret, wanted],
             _ => vec![],
         }
     }
@@ -139,11 +160,10 @@ impl Paperwork {
                 return;
             }
         }
-        if let Self::WritePack(pack) = self {
-            if rng.one_in(2) {
-                pack.damage_kinds(rng);
-                return;
-            }
+        match self {
+            Self::WritePack(pack) if rng.one_in(2) => return pack.damage_kinds(rng),
+            Self::OtherDraw(other) if rng.one_in(2) => return other.damage_posts(rng),
+            _ => {}
         }
         let (lists, sizes, scalars) =
             (self.lists().len(), self.sizes().len(), self.scalars().len());
@@ -181,9 +201,9 @@ pub fn paperwork(seed: u64) -> Paperwork {
 }
 
 fn valid(rng: &mut Rng) -> Paperwork {
-    let kind = rng.below(12);
+    let kind = rng.below(14);
     // The factory takes long for large stations.
-    let small = kind < 4 && !rng.one_in(5);
+    let small = !(4..12).contains(&kind) && !rng.one_in(5);
     let shape = if small { street_shape(rng) } else { super::shape(rng) };
     let (n, t, k) = (shape.posts(), shape.threshold(), shape.points());
     match kind {
@@ -197,6 +217,7 @@ fn valid(rng: &mut Rng) -> Paperwork {
         }
         6 => Paperwork::WriteOpening(write_message(rng, shape, "O")),
         7 => Paperwork::WriteMasks(write_message(rng, shape, "M")),
+        12 | 13 => Paperwork::OtherDraw(OtherDraw::valid(rng, shape)),
         _ => Paperwork::Read { n, t, k, line: valid_line(rng, shape), out: shape.masks() },
     }
 }

@@ -1,0 +1,10 @@
+-- `change_v` meets its contract.
+use borrow.Author.Needs.{needs}
+use Rattle.otherdraw.proofs.Writing.{v-changed}
+use Rattle.otherdraw.proofs.change.change_v.Statement.{statement}
+use Rattle.otherdraw.proofs.change.change_v.Tie as tie
+
+pub change-v-spec : {M : Type 1} → statement M
+change-v-spec =
+    tie.close
+    (tie.spec (λ c κs. search needs) (λ c κs. search needs) (λ c. search needs) (λ c. search needs) (λ c. search (needs, v-changed)))

@@ -1,0 +1,5 @@
+pub mod Other
+pub mod Between
+pub mod Table
+pub mod Claims
+pub mod Examples

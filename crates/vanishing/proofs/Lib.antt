@@ -1,0 +1,4 @@
+pub mod Vanish
+pub mod Distinct
+pub mod Turns
+pub mod Theorems

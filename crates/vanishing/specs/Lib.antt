@@ -1,0 +1,3 @@
+pub mod Vanishing
+pub mod Between
+pub mod Claims
