@@ -77,6 +77,52 @@ constant-is-value (c ∷ cs) = solve 𝓡 (c ∷ ev 𝓡 cs 0ᴱ ∷ []) A (A :+
 
 -- ---- the kernel
 
+-- l: the coefficients of a polynomial that is one at zero, and zero at the posts of a group; w: of one that is so at their check points
+module _ (l w : List Element) where
+  -- f is l, and vj is -l(j) w
+  pub kernelOf : Vector
+  kernelOf = record { c = 0ᴱ; f = coefficient l; v = λ j m. neg (ev 𝓡 l (element j)) ⊗ coefficient w m }
+
+  pub kernelOf-c : kernelOf .c ≡ 0ᴱ
+  unfolding kernelOf
+  kernelOf-c = refl
+
+  pub kernelOf-f : (m : ℕ) → kernelOf .f m ≡ coefficient l m
+  unfolding kernelOf
+  kernelOf-f m = refl
+
+  pub kernelOf-v : (j m : ℕ) → kernelOf .v j m ≡ neg (ev 𝓡 l (element j)) ⊗ coefficient w m
+  unfolding kernelOf
+  kernelOf-v j m = refl
+
+  -- the polynomials of the group's posts are nothing
+  pub kernelOf-own : (i : ℕ) → ev 𝓡 l (element i) ≡ 0ᴱ → (m : ℕ) → kernelOf .v i m ≡ 0ᴱ
+  unfolding kernelOf Same
+  kernelOf-own i e m =
+      ap (λ (z : Element). neg z ⊗ coefficient w m) e
+      ∙ solve 𝓡 (coefficient w m ∷ []) (:- 𝟘 :* A) 𝟘 refl
+
+  pub kernelOf-constant : ev 𝓡 l 0ᴱ ≡ 1ᴱ → kernelOf .f 0 ≡ 1ᴱ
+  unfolding kernelOf
+  kernelOf-constant e = constant-is-value l ∙ e
+
+  -- the public sums of all posts are nothing, -l(j) w(0) + l(j)
+  pub kernelOf-sums : (s : Shape) → length l ≤ fLength s → ev 𝓡 w 0ᴱ ≡ 1ᴱ → (j : ℕ) → sumAt s kernelOf j ≡ 0ᴱ
+  unfolding kernelOf Same
+  kernelOf-sums s few e j =
+      ap₂ (λ (x y : Element). neg (ev 𝓡 l (element (suc j))) ⊗ x ⊕ y ⊕ 0ᴱ) (constant-is-value w ∙ e)
+      (valueAt-coefficient (fLength s) l (element (suc j)) few)
+      ∙ solve 𝓡 (ev 𝓡 l (element (suc j)) ∷ []) (:- A :* 𝟙 :+ A :+ 𝟘) 𝟘 refl
+
+  -- the values at the group's check points are nothing
+  pub kernelOf-checks : (s : Shape) → length w ≤ vLength s → (x : Element) → ev 𝓡 w x ≡ 0ᴱ → (j : ℕ)
+      → valueAt (vLength s) (kernelOf .v j) x ≡ 0ᴱ
+  unfolding kernelOf
+  kernelOf-checks s few x e j =
+      valueAt-times (vLength s) (neg (ev 𝓡 l (element j))) (coefficient w) x
+      ∙ ap (λ (z : Element). neg (ev 𝓡 l (element j)) ⊗ z) (valueAt-coefficient (vLength s) w x few ∙ e)
+      ∙ mul-zero 𝓡 _
+
 -- gs: the group's post numbers; ws: the check points that the group holds
 module _ (gs ws : List Element) where
   -- the value of L, which hides the number: one at zero, zero at every post of the group
@@ -84,44 +130,28 @@ module _ (gs ws : List Element) where
   L x = ev 𝓡 (hiding gs) x
 
   -- f is L, and vj is -L(j) W, where W is one at zero and zero at every check point of the group
-  pub kernel : Vector
-  kernel = record { c = 0ᴱ; f = coefficient (hiding gs); v = λ j m. neg (L (element j)) ⊗ coefficient (hiding ws) m }
+  abbrev pub kernel : Vector
+  kernel = kernelOf (hiding gs) (hiding ws)
 
   pub L-at : All (λ r. L r ≡ 0ᴱ) gs
   unfolding L
   L-at = hiding-at-nodes gs
 
   pub kernel-c : kernel .c ≡ 0ᴱ
-  unfolding kernel
-  kernel-c = refl
+  kernel-c = kernelOf-c (hiding gs) (hiding ws)
 
-  -- the polynomials of the group's posts are nothing
   pub kernel-own : (i : ℕ) → L (element i) ≡ 0ᴱ → (m : ℕ) → kernel .v i m ≡ 0ᴱ
-  unfolding kernel Same
-  kernel-own i e m =
-      ap (λ (z : Element). neg z ⊗ coefficient (hiding ws) m) e
-      ∙ solve 𝓡 (coefficient (hiding ws) m ∷ []) (:- 𝟘 :* A) 𝟘 refl
+  unfolding L
+  kernel-own = kernelOf-own (hiding gs) (hiding ws)
 
   pub kernel-constant : All (λ r. r ≢ 0ᴱ) gs → kernel .f 0 ≡ 1ᴱ
-  unfolding kernel
-  kernel-constant a = constant-is-value (hiding gs) ∙ hiding-at-zero gs a
+  kernel-constant a = kernelOf-constant (hiding gs) (hiding ws) (hiding-at-zero gs a)
 
-  -- the public sums of all posts are nothing, -L(j) W(0) + L(j): f has a coefficient more than the group has posts
+  -- f has a coefficient more than the group has posts
   pub kernel-sums : (s : Shape) → length gs < fLength s → All (λ r. r ≢ 0ᴱ) ws → (j : ℕ) → sumAt s kernel j ≡ 0ᴱ
-  unfolding kernel L Same
-  kernel-sums s few a j =
-      ap₂ (λ (x y : Element). neg (L (element (suc j))) ⊗ x ⊕ y ⊕ 0ᴱ) (constant-is-value (hiding ws) ∙ hiding-at-zero ws a)
-      (valueAt-coefficient (fLength s) (hiding gs) (element (suc j)) (omega (arith, length-hiding gs)))
-      ∙ solve 𝓡 (L (element (suc j)) ∷ []) (:- A :* 𝟙 :+ A :+ 𝟘) 𝟘 refl
+  kernel-sums s few a = kernelOf-sums (hiding gs) (hiding ws) s (omega (arith, length-hiding gs)) (hiding-at-zero ws a)
 
-  -- the values at the group's check points are nothing: a v has a coefficient more than the group has points
+  -- a v has a coefficient more than the group has points
   pub kernel-checks : (s : Shape) → length ws < vLength s → All (λ w. (j : ℕ) → valueAt (vLength s) (kernel .v j) w ≡ 0ᴱ) ws
-  unfolding kernel
-  kernel-checks s few = all-map none ws (hiding-at-nodes ws)
-    where
-      none : (w : Element) → ev 𝓡 (hiding ws) w ≡ 0ᴱ → (j : ℕ) → valueAt (vLength s) (kernel .v j) w ≡ 0ᴱ
-      none w e j =
-          valueAt-times (vLength s) (neg (L (element j))) (coefficient (hiding ws)) w
-          ∙ ap (λ (z : Element). neg (L (element j)) ⊗ z)
-          (valueAt-coefficient (vLength s) (hiding ws) w (omega (arith, length-hiding ws)) ∙ e)
-          ∙ mul-zero 𝓡 _
+  kernel-checks s few =
+      all-map (λ w e. kernelOf-checks (hiding gs) (hiding ws) s (omega (arith, length-hiding ws)) w e) ws (hiding-at-nodes ws)

@@ -32,7 +32,7 @@ infixl 70 _⊗_
 -- ---- lists of numbers
 
 -- δ fl added, number by number
-pub shift : (ℕ → Element) → Element → List ℕ → List ℕ
+unfoldable pub shift : (ℕ → Element) → Element → List ℕ → List ℕ
 shift fl δ [] = []
 shift fl δ (x ∷ d) = (element x ⊕ δ ⊗ fl 0) .0 ∷ shift (λ m. fl (suc m)) δ d
 
@@ -129,6 +129,12 @@ module _ (s : Shape) (K : Vector) where
   pub flat-f : (m : ℕ) → m < fLength s → flat m ≡ K .f m
   unfolding flat
   flat-f m h = ap (λ (b : Bool). cond b (K .f m) (behind (m - fLength s))) (lt-ltb m (fLength s) h)
+
+  pub flat-rest : (m : ℕ) → flat (fLength s + m) ≡ K .v (suc (m / k)) (m % k)
+  unfolding flat behind
+  flat-rest m =
+      ap (λ (b : Bool). cond b (K .f (fLength s + m)) (behind (fLength s + m - fLength s))) (le-ltb (fLength s + m) (fLength s) (omega arith))
+      ∙ ap behind (omega arith)
 
   pub flat-v : (j m : ℕ) → m < k → flat (fLength s + (suc j - 1) * k + m) ≡ K .v (suc j) m
   unfolding flat behind

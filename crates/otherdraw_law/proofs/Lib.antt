@@ -1,0 +1,17 @@
+pub mod Points
+pub mod Dealing
+pub mod Entries
+pub mod Told
+pub mod Sees
+pub mod Nineteen
+pub mod Shifted
+pub mod Determined
+pub mod Parts
+pub mod Drawn
+pub mod Hidden
+pub mod Shows
+pub mod Returned
+pub mod Changes
+pub mod Taken
+pub mod Settled
+pub mod AtWork

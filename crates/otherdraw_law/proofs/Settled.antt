@@ -1,0 +1,27 @@
+-- The setting by rows and figures.
+use mathlib.Core.Path.{refl, ap}
+use mathlib.Core.Bool.{Bool, cond}
+use borrow.Author.Tests.{eq-eqb, ne-eqb}
+use Rattle.runs.specs.Draws.{none, by}
+use Rattle.otherdraw_law.specs.OneRow.{drawOf, orders}
+use Rattle.otherdraw_law.specs.Laws.{OneRowIs, TwoCalls}
+use Rattle.otherdraw_law.proofs.Told.{drawn-row, pack-is, number-is}
+use Rattle.otherdraw_law.proofs.Drawn.{no-draw}
+
+pub one-row-is : OneRowIs
+unfolding drawOf
+one-row-is S draw =
+    record {
+      for-dealer = ap (λ (b : Bool). cond b (by (S .dealer)) none) (eq-eqb (S .r) (S .r) refl);
+      none-else = λ q ne. ap (λ (b : Bool). cond b (by (S .dealer)) none) (ne-eqb q (S .r) ne);
+      no-triple = λ q. refl;
+      points = refl;
+      drawn = λ row. drawn-row (S .r) (S .ws) draw row;
+      not-drawn = λ q ne. no-draw S draw q (ne-eqb q (S .r) ne);
+      part-is = λ row i. pack-is S row draw i;
+      number-is = λ row u low flow. number-is S row draw u low flow;
+    }
+
+pub two-calls : TwoCalls
+unfolding orders
+two-calls = refl

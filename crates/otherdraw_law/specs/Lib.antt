@@ -1,0 +1,4 @@
+pub mod OneRow
+pub mod Claims
+pub mod Laws
+pub mod Example
