@@ -1,6 +1,5 @@
 -- `Session::answer_masking` meets its contract. Where the two ways meet, the lists are what the way left.
 use mathlib.Core.Logic.{⊎-elim}
-use borrow.Author.Needs.{needs}
 use Rattle.session.specs.Sessions.{maskedTriple}
 use Rattle.session.proofs.Endings.{first-allowed, row-fits, ends-accepted, ends-refused}
 use Rattle.session.proofs.Session.answer_masking.Statement.{statement}
@@ -10,14 +9,14 @@ returns : tie.Need-returns
 returns c =
     let a = c .before .before .before .before .before .before .before .args in
     let new = maskedTriple (a .self) (a .first) (a .a) (a .b) in
-    ⊎-elim (λ w. rw (w .1, w .2, w .3) (ends-accepted (a .refusal) new (a .self) (search needs)))
-    (λ w. rw (w .1, w .2, w .3) (ends-refused (a .refusal) new (a .self) (search needs))) (c .before .before .before .if1 .came)
+    ⊎-elim (λ w. rw (w .1, w .2, w .3) (ends-accepted (a .refusal) new (a .self) (w .0 .taken)))
+    (λ w. rw (w .1, w .2, w .3) (ends-refused (a .refusal) new (a .self) (w .0 .left))) (c .before .before .before .if1 .came)
 
 pub answer-masking-spec : {M : Type 1} → statement M
 answer-masking-spec =
     tie.close
-    (tie.spec (λ c. first-allowed _ _ (c .before .before .before .before .pre .0) (search needs))
-    (λ c. row-fits _ _ (c .before .before .before .before .pre .1) (search needs))
-    (λ c. first-allowed _ _ (c .before .before .before .before .pre .0) (search needs))
-    (λ c. row-fits _ _ (c .before .before .before .before .pre .2) (search needs))
-    (λ c. first-allowed _ _ (c .before .before .before .before .pre .0) (search needs)) returns)
+    (tie.spec (λ c. first-allowed _ _ (c .before .before .before .before .pre .0) (c .if1 .taken))
+    (λ c. row-fits _ _ (c .before .before .before .before .pre .1) (c .if1 .taken))
+    (λ c. first-allowed _ _ (c .before .before .before .before .pre .0) (c .if1 .taken))
+    (λ c. row-fits _ _ (c .before .before .before .before .pre .2) (c .if1 .taken))
+    (λ c. first-allowed _ _ (c .before .before .before .before .pre .0) (c .if1 .taken)) returns)
