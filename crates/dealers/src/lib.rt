@@ -128,7 +128,7 @@ fn read_deal(line: &[u8]) -> Said
     if line.len() < 1 {
         return not_said(10);
     }
-    if line[0] != 68 {
+    if line[0] != b'D' {
         return not_said(10);
     }
     let row = csv::short::one_field(line, 1);

@@ -15,3 +15,4 @@ pub mod Changes
 pub mod Taken
 pub mod Settled
 pub mod AtWork
+pub mod ByTurn

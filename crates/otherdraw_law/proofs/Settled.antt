@@ -3,8 +3,8 @@ use mathlib.Core.Path.{refl, ap}
 use mathlib.Core.Bool.{Bool, cond}
 use borrow.Author.Tests.{eq-eqb, ne-eqb}
 use Rattle.runs.specs.Draws.{none, by}
-use Rattle.otherdraw_law.specs.OneRow.{drawOf, orders}
-use Rattle.otherdraw_law.specs.Laws.{OneRowIs, TwoCalls}
+use Rattle.otherdraw_law.specs.OneRow.{drawOf}
+use Rattle.otherdraw_law.specs.Laws.{OneRowIs, Orders}
 use Rattle.otherdraw_law.proofs.Told.{drawn-row, pack-is, number-is}
 use Rattle.otherdraw_law.proofs.Drawn.{no-draw}
 
@@ -22,6 +22,5 @@ one-row-is S draw =
       number-is = λ row u low flow. number-is S row draw u low flow;
     }
 
-pub two-calls : TwoCalls
-unfolding orders
-two-calls = refl
+pub orders : Orders
+orders = record { to-load = refl; to-deal = refl; to-place = refl; to-turn = refl }

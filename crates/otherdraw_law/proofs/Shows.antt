@@ -177,13 +177,14 @@ module _ (S : Setting) (draw : List ℕ) (secret wanted : ℕ) (h : Dealt S) (g 
       map-same (rawSeen P (S .posts) d (λ q. secret)) (rawSeen P (S .posts) d' (λ q. wanted)) (S .posts)
       (all-map (λ i e. map-same _ _ allRows (all-of (at-row (rawPack P d i) (rawPack P d' i) e) allRows)) (S .posts) packs)
 
-  deals : map (dealSeen P d (λ q. secret)) allRows ≡ map (dealSeen P d' (λ q. wanted)) allRows
+  line : (q : ℕ) → dealSeen P d (λ k. secret) q ≡ dealSeen P d' (λ k. wanted) q
   unfolding dealSeen
-  deals =
-      map-same (dealSeen P d (λ q. secret)) (dealSeen P d' (λ q. wanted)) allRows
-      (all-of
-      (at-row (λ q. text (Line.deal q (dealtNumber P d (λ q. secret) q))) (λ q. text (Line.deal q (dealtNumber P d' (λ q. wanted) q)))
-      (ap (λ (c : ℕ). text (Line.deal (S .r) c)) number)) allRows)
+  line =
+      at-row (λ q. text (Line.deal q (dealtNumber P d (λ k. secret) q))) (λ q. text (Line.deal q (dealtNumber P d' (λ k. wanted) q)))
+      (ap (λ (c : ℕ). text (Line.deal (S .r) c)) number)
+
+  deals : map (dealSeen P d (λ q. secret)) allRows ≡ map (dealSeen P d' (λ q. wanted)) allRows
+  deals = map-same (dealSeen P d (λ q. secret)) (dealSeen P d' (λ q. wanted)) allRows (all-of line allRows)
 
   -- no listed post is the dealer
   none-seen : (v : Secrets) (e : Draw) (q : ℕ) → polynomialSeen P (S .posts) e v q ≡ []
@@ -213,10 +214,13 @@ module _ (S : Setting) (draw : List ℕ) (secret wanted : ℕ) (h : Dealt S) (g 
   unfolding tripleSeen
   triples = refl
 
+  own-packs : All (λ i. (1 ≤ i) × (i ≤ S .n) × (rawPack P d i (S .r) ≡ rawPack P d' i (S .r))) (S .posts)
+  own-packs = all-zip (λ i b e. (b .0, b .1, e)) (S .posts) (g .posts-in) packs
+
   all-same : recordOf S other wanted ≡ recordOf S draw secret
   unfolding seen d d'
   all-same =
-      let entries = entries-same P (S .posts) d d' (λ q. secret) (λ q. wanted) (S .rows) (S .r) same-points alike packs number in
+      let entries = entries-same P (S .posts) d d' (λ q. secret) (λ q. wanted) (S .r) (line (S .r)) number alike own-packs same-points (S .todo) (S .rows) _ _ in
       sym
       (λ j. record {
         points = points j;

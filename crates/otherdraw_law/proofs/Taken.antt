@@ -19,6 +19,7 @@ use Rattle.refusal.proofs.Laws.{all-fail, not-refused as passes}
 use Rattle.refusal.proofs.Elements.{element-test}
 use Rattle.parts.specs.Draw.{eachFrom}
 use Rattle.session.specs.declared.Session.{Session}
+use Rattle.session.specs.declared.Answer.{Answer}
 use Rattle.session.specs.Sessions.{marked, answer, sessionTests}
 use Rattle.session.specs.Rows.{width, withRow}
 use Rattle.session.proofs.RowLaws.{length-with-row, row-same}
@@ -32,19 +33,27 @@ use Rattle.runs.proofs.Packs.{rowFor, raw-pack}
 use Rattle.runs.proofs.Holds.{row-wide, row-low}
 use Rattle.runs.proofs.Start.{start, start-sized, start-mark, blanks, session-passes, made}
 use Rattle.secrecy.specs.Steps.{dealtNumber}
-use Rattle.secrecy.specs.Seen.{posts, newDesk, entryOf, run, seen}
+use Rattle.secrecy.specs.Seen.{posts, newDesk, entryOf, run, seen, Entry, dealLines}
 use Rattle.secrecy.proofs.Theorems.{number-low}
-use Rattle.otherdraw_law.specs.OneRow.{orders, Setting, planIn, drawIn}
+use Rattle.otherdraw_law.specs.OneRow.{Doing, loads, deals, order, Setting, planIn, drawIn}
 use Rattle.otherdraw_law.specs.Claims.{returned, shapeIn, AllTaken, BothTaken}
 use Rattle.otherdraw.proofs.Passed.{not-refused}
 use Rattle.otherdraw_law.proofs.Drawn.{only-row, is-draw}
 use Rattle.otherdraw_law.proofs.Returned.{shows-the-same}
 use Rattle.otherdraw_law.proofs.Told.{raw-there}
-use Rattle.otherdraw_law.proofs.Entries.{posts-in, loadedAt, dealtAt}
+use Rattle.otherdraw_law.proofs.Entries.{posts-in}
 
 -- no test of an equality that holds applies
 agrees : (a b : ℕ) → a ≡ b → not (eqb a b) ≡ false
 agrees a b e = ap not (eq-eqb a b e)
+
+-- what a post answers to a load and to a deal behind it, from its session, rows, pack and number
+module _ (r : ℕ) (q : Post) (xs : List ℕ) (c : ℕ) where
+  abbrev loadedAt : Answer
+  loadedAt = loadRowAnswer (q .session) (q .rows) r xs
+
+  abbrev dealtAt : Answer
+  dealtAt = dealAnswer (loadRowAnswer (q .session) (q .rows) r xs .session) (loadRowRows (q .session) (q .rows) r xs) r c
 
 -- ---- one post
 
@@ -120,7 +129,7 @@ all-zero n f h = map-same f (λ i. 0) (posts n) (all-map (λ i k. h i (k .0) (k 
 
 -- every draw of the row, with every secret
 module _ (S : Setting) (draw : List ℕ) (u : ℕ) (row : S .r ≤ lastRow) (sound : Sound (planIn S)) (is : IsDraw (planIn S) (drawIn S draw))
-    (long : (i : ℕ) → 1 ≤ i → i ≤ S .n → length (S .rows i) ≡ rowsLength (shapeIn S)) where
+    (twice : S .todo ≡ loads ∷ deals ∷ []) (long : (i : ℕ) → 1 ≤ i → i ≤ S .n → length (S .rows i) ≡ rowsLength (shapeIn S)) where
   abbrev P : Plan
   P = planIn S
 
@@ -149,16 +158,19 @@ module _ (S : Setting) (draw : List ℕ) (u : ℕ) (row : S .r ≤ lastRow) (sou
   low i lo hi = ap anyBeyond (pack-is i lo hi) ∙ row-low P d i _
 
   taken : AllTaken S draw u
-  unfolding seen run entryOf orders newDesk carry perform
+  unfolding seen run entryOf newDesk carry perform
   taken =
-      ap₂ (λ (a b : List ℕ). a ∷ b ∷ [])
+      ap
+      (λ (todo : List Doing). map (λ (e : Entry). e .refusals)
+      (run P (S .posts) d (λ k. u) (map (order (S .r)) todo) (dealLines P d (λ k. u)) (λ i. newDesk P d (S .rows i) i))) twice
+      ∙ ap₂ (λ (a b : List ℕ). a ∷ b ∷ [])
       (all-zero (S .n) (λ i. loadedAt (S .r) (q i) (x i) c .refusal)
       (λ i lo hi. load-taken P d sound is (S .r) row i lo hi (S .rows i) (long i lo hi) (x i) (wide i lo hi) (low i lo hi) c (number-low P d (λ k. u) (S .r))))
       (all-zero (S .n) (λ i. dealtAt (S .r) (q i) (x i) c .refusal)
       (λ i lo hi. deal-taken P d sound is (S .r) row i lo hi (S .rows i) (long i lo hi) (x i) (wide i lo hi) (low i lo hi) c (number-low P d (λ k. u) (S .r))))
 
 pub both-taken : BothTaken
-both-taken S draw secret wanted out h z long =
+both-taken S draw secret wanted out h z twice long =
     let g = not-refused (S .n) (S .t) (S .points) (S .ws) draw secret wanted (S .posts) out z .0 in
     let (one, (two, (count, _))) = all-fail (stationTests (S .n) (S .t) (S .points)) tt (g .station-fine) in
     let sound : Sound (planIn S) = record {
@@ -167,6 +179,6 @@ both-taken S draw secret wanted out h z long =
       raws = λ q raw. subst (λ (k : ℕ). k ≤ lastRow) (sym (only-row S q raw)) (h .row);
       triples = λ q e. absurd (false≢true e);
     } in (
-      taken S draw secret (h .row) sound (is-draw S draw (h .row) (g .points-length) (g .points-good) (g .draw-length) (g .draw-elements)) long,
-      taken S (returned S draw secret wanted out) wanted (h .row) sound (shows-the-same S draw secret wanted out h z .is-draw) long,
+      taken S draw secret (h .row) sound (is-draw S draw (h .row) (g .points-length) (g .points-good) (g .draw-length) (g .draw-elements)) twice long,
+      taken S (returned S draw secret wanted out) wanted (h .row) sound (shows-the-same S draw secret wanted out h z .is-draw) twice long,
     )

@@ -9,7 +9,7 @@ use Rattle.shape.specs.Lengths.{shape}
 use Rattle.parts.specs.Draw.{drawnF, drawnV}
 use Rattle.secrecy.specs.Seen.{Entry, member, posts}
 use Rattle.otherdraw.specs.Other.{otherOut, otherRefusal}
-use Rattle.otherdraw_law.specs.OneRow.{Setting, recordOf, Behind}
+use Rattle.otherdraw_law.specs.OneRow.{loads, deals, Setting, recordOf, Behind}
 
 -- The call in a setting: its refusal, and what stands in the lent list after it.
 abbrev pub refusalIn : Setting → List ℕ → ℕ → ℕ → List ℕ → ℕ
@@ -30,15 +30,16 @@ ShowsTheSame =
     (S : Setting) (draw : List ℕ) (secret wanted : ℕ) (out : List ℕ) → Dealt S → refusalIn S draw secret wanted out ≡ 0
     → Behind S draw secret wanted (returned S draw secret wanted out)
 
--- Both calls answer 0 at every post.
+-- The two orders of a list answer 0 at every post.
 abbrev pub AllTaken : Setting → List ℕ → ℕ → Type 0
 AllTaken S draw u = map (λ (e : Entry). e .refusals) (recordOf S draw u .entries) ≡ replicate (S .n) 0 ∷ replicate (S .n) 0 ∷ []
 
--- So they do where the posts' lists of rows have the right length: of the draw that is given with the secret, and of the one returned with
--- the wanted secret.
+-- A load and a deal do so where the posts' lists of rows have the right length: of the draw that is given with the secret, and of the one
+-- returned with the wanted secret.
 abbrev pub BothTaken : Type 0
 BothTaken =
     (S : Setting) (draw : List ℕ) (secret wanted : ℕ) (out : List ℕ) → Dealt S → refusalIn S draw secret wanted out ≡ 0
+    → S .todo ≡ loads ∷ deals ∷ []
     → ((i : ℕ) → 1 ≤ i → i ≤ S .n → length (S .rows i) ≡ 96 * (S .points * S .t + 1 + S .points * S .n + S .n))
     → AllTaken S draw secret × AllTaken S (returned S draw secret wanted out) wanted
 

@@ -2,20 +2,21 @@
 -- a post, as in `table/specs/TwoPoints.antt`.
 use Prim.Native.Nat.{ℕ}
 use mathlib.Core.Path.{_≡_}
-use mathlib.Core.List.{List, [], _∷_}
-use lib.ListN.{replicate}
+use mathlib.Core.List.{List, [], _∷_, map}
+use lib.ListN.{take, replicate}
 use Rattle.runs.specs.Draws.{rawPack}
 use Rattle.secrecy.specs.Steps.{dealtNumber}
-use Rattle.otherdraw_law.specs.OneRow.{Setting, planIn, drawIn, Behind}
+use Rattle.secrecy.specs.Seen.{Entry}
+use Rattle.otherdraw_law.specs.OneRow.{loads, deals, places, turns, Setting, planIn, drawIn, recordOf, Behind}
 use Rattle.otherdraw_law.specs.Claims.{Dealt, refusalIn, returned, AllTaken}
 
 -- Row 0, dealer 0, zeros in the lists of rows at first: 96 rows of 8 numbers, or of 12.
 unfoldable pub onePoint : List ℕ → Setting
 onePoint posts =
-    record { n = 3; t = 1; points = 1; r = 0; dealer = 0; rows = λ i. replicate 768 0; ws = 2 ∷ 3 ∷ 5 ∷ []; posts = posts }
+    record { n = 3; t = 1; points = 1; r = 0; dealer = 0; todo = loads ∷ deals ∷ []; rows = λ i. replicate 768 0; ws = 2 ∷ 3 ∷ 5 ∷ []; posts = posts }
 
 unfoldable pub twoPoints : List ℕ → Setting
-twoPoints ws = record { n = 3; t = 1; points = 2; r = 0; dealer = 0; rows = λ i. replicate 1152 0; ws = ws; posts = 3 ∷ [] }
+twoPoints ws = record { n = 3; t = 1; points = 2; r = 0; dealer = 0; todo = loads ∷ deals ∷ []; rows = λ i. replicate 1152 0; ws = ws; posts = 3 ∷ [] }
 
 -- f = 7 + 4z, v1 = 1 + 2z, v2 = 3 + z, v3 = 5 + 6z; with two points v1 = 1 + 2z + zz, v2 = 3 + z + 2zz, v3 = 5 + 6z + 3zz.
 unfoldable pub drawn : List ℕ
@@ -60,3 +61,35 @@ pub record ExampleAtWork : Type 0 where
   pub all-posts :
       (refusalIn (onePoint (1 ∷ 2 ∷ 3 ∷ [])) drawn 100 100 (replicate 8 0) ≡ 0)
       × (returned (onePoint (1 ∷ 2 ∷ 3 ∷ [])) drawn 100 100 (replicate 8 0) ≡ drawn)
+
+-- By (xii): the line of dealer 8 is placed behind the load, and a turn deals the row. Every order is taken at every post, with both draws, and post 3's
+-- row 0 then has c in its sums. (That the whole record is the same is `ShowsTheSame`.)
+unfoldable pub byTurn : Setting
+byTurn =
+    record {
+      n = 3;
+      t = 1;
+      points = 1;
+      r = 0;
+      dealer = 0;
+      todo = loads ∷ places 8 ∷ turns ∷ [];
+      rows = λ i. replicate 768 0;
+      ws = 2 ∷ 3 ∷ 5 ∷ [];
+      posts = 3 ∷ [];
+    }
+
+abbrev pub zeros : List ℕ
+zeros = 0 ∷ 0 ∷ 0 ∷ []
+
+abbrev pub lastRows : List Entry → List (List ℕ)
+lastRows [] = []
+lastRows (e ∷ []) = map (take 8) (e .rows)
+lastRows (e ∷ f ∷ es) = lastRows (f ∷ es)
+
+pub record Turned (draw : List ℕ) (u : ℕ) : Type 0 where
+  pub answers : map (λ (e : Entry). e .refusals) (recordOf byTurn draw u .entries) ≡ zeros ∷ zeros ∷ zeros ∷ []
+  pub dealt : lastRows (recordOf byTurn draw u .entries) ≡ (5 ∷ 6 ∷ 11 ∷ 8 ∷ 35 ∷ 105 ∷ 111 ∷ 117 ∷ []) ∷ []
+
+pub record TurnAtWork : Type 0 where
+  pub given : Turned drawn 100
+  pub other : Turned (2147483596 ∷ 1431655788 ∷ 715827922 ∷ 1145324606 ∷ 1431655787 ∷ 572662303 ∷ 5 ∷ 6 ∷ []) 42

@@ -3,16 +3,16 @@ use Prim.Native.Nat.{ℕ, _-_, _≤_, _<_}
 use mathlib.Core.Path.{_≡_}
 use mathlib.Core.Bool.{false}
 use mathlib.Core.Logic.{_≢_}
-use mathlib.Core.List.{List, [], _∷_}
+use mathlib.Core.List.{List, []}
 use lib.ListN.{getD}
 use Rattle.field.specs.Modulus.{p}
 use Rattle.field.specs.Arithmetic.{difference}
 use Rattle.parts.specs.Draw.{part}
 use Rattle.packs.specs.Packs.{pointsAt}
 use Rattle.runs.specs.Draws.{none, by, rawDraw, rawPack}
-use Rattle.runs.specs.Orders.{call}
-use Rattle.secrecy.specs.Steps.{its, sent, loadRow, deal, dealtNumber}
-use Rattle.otherdraw_law.specs.OneRow.{orders, Setting, planIn, drawIn}
+use Rattle.runs.specs.Orders.{call, place, turn}
+use Rattle.secrecy.specs.Steps.{its, sent, theirs, loadRow, deal, dealtNumber}
+use Rattle.otherdraw_law.specs.OneRow.{loads, deals, places, turns, order, Setting, planIn, drawIn}
 use Rattle.otherdraw_law.specs.Claims.{shapeIn}
 
 -- Row r alone is drawn, for its dealer; every post gets its part of this draw and of no other, and the dealer's number is u − f(0).
@@ -30,6 +30,10 @@ pub record OneRowDrawn (S : Setting) (draw : List ℕ) : Type 0 where
 abbrev pub OneRowIs : Type 0
 OneRowIs = (S : Setting) (draw : List ℕ) → OneRowDrawn S draw
 
--- Two calls: each post loads its own part of the row, and deals the row with the c that its dealer broadcast.
-abbrev pub TwoCalls : Type 0
-TwoCalls = orders 5 ≡ call (loadRow 5 (λ i. its 5)) ∷ call (deal 5 (sent 5)) ∷ []
+-- What each post is told: to load its own part of the row, to deal the row with the c that its dealer broadcast, to place that dealer's `D` line,
+-- to take a turn.
+pub record Orders : Type 0 where
+  pub to-load : order 5 loads ≡ call (loadRow 5 (λ i. its 5))
+  pub to-deal : order 5 deals ≡ call (deal 5 (sent 5))
+  pub to-place : order 5 (places 8) ≡ place 8 (theirs 5)
+  pub to-turn : order 5 turns ≡ turn

@@ -16,9 +16,10 @@ use Rattle.runs.specs.Draws.{Plan, Draw}
 use Rattle.runs.specs.Calls.{Among, Performed, perform}
 use Rattle.runs.specs.Orders.{Desk, carry}
 use Rattle.secrecy.specs.Steps.{Secrets, Following, Lent}
-use Rattle.secrecy.specs.Seen.{Seen, posts, joined, doneAt, entryOf}
-use Rattle.secrecy.specs.Lies.{Happening, messages, opens, Glimpse, Choice, those, deskBy, entryBy, glimpse, desksThen, lastOpening}
-use Rattle.secrecy.specs.LiesRead.{MakersRead, AllMake, MessagesShow, OpensShow, GlimpsesRead, ChoiceMade, ChoicesRead}
+use Rattle.secrecy.specs.Seen.{Seen, posts, joined, doneAt, entryOf, seen}
+use Rattle.secrecy.specs.Lies.{Happening, messages, opens, Glimpse, Choice, those, deskBy, entryBy, glimpse, desksThen, lastOpening, seenToTheLast}
+use Rattle.secrecy.specs.Claim.{desksOf}
+use Rattle.secrecy.specs.LiesRead.{MakersRead, AllMake, MessagesShow, OpensShow, GlimpsesRead, ChoiceMade, ChoicesRead, LastRead, LastAsks}
 use Rattle.secrecy.proofs.LyingLast.{message-kept, open-kept, all-kept}
 
 -- ---- those of the posts that make a call
@@ -121,6 +122,7 @@ module _ (plan : Plan) (group : List ℕ) (draw : Draw) (u : Secrets) (r : ℕ) 
   unfolding glimpse entryBy carry perform
   messages-show caller lent by =
       record {
+        acceptances = refl;
         refusals = refl;
         values = map-same _ _ (those by (posts (plan .n))) (all-of (λ i. value-none (messageRefusal (q i .post .session) (q i .post .rows) r caller (map (λ (x : Following). x draw u) (lent i))) (q i .post .session)) (those by (posts (plan .n))));
         lines = joined-those _ by (posts (plan .n));
@@ -166,3 +168,15 @@ pub glimpses-read : GlimpsesRead
 unfolding glimpse
 glimpses-read plan group draw u r q =
     record { of-messages = messages-show plan group draw u r q; of-lie = λ j xs. refl; of-opens = opens-show plan group draw u r q }
+
+pub last-read : LastRead
+unfolding seenToTheLast lastOpening
+last-read plan group rows os r u draw =
+    record {
+      before = λ choices. refl;
+      none = refl;
+      next = λ choices choose. goes-on plan group draw u r (desksOf plan rows os (seen plan group draw u rows os) u draw) (seen plan group draw u rows os) choices [] choose [];
+    }
+
+pub last-asks : LastAsks
+last-asks plan group u u' os r R before row = record { before = before; row = row }

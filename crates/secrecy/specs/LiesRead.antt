@@ -16,9 +16,10 @@ use Rattle.runs.specs.Draws.{Plan, Draw}
 use Rattle.runs.specs.Calls.{Post, Among, openingLine, sentIf}
 use Rattle.runs.specs.Orders.{Desk}
 use Rattle.secrecy.specs.Steps.{Secrets, Following, Lent, Item}
-use Rattle.secrecy.specs.Seen.{Entry, Seen, posts, joined, entryOf}
+use Rattle.secrecy.specs.Seen.{Entry, Seen, posts, joined, entryOf, seen}
 use Rattle.secrecy.specs.Rules.{Walks}
-use Rattle.secrecy.specs.Lies.{Happening, messages, lie, opens, Glimpse, Choice, acceptedAt, those, entryBy, glimpse, lastOpening}
+use Rattle.secrecy.specs.Lies.{Happening, messages, lie, opens, Glimpse, Choice, acceptedAt, those, entryBy, glimpse, lastOpening, SeenToTheLast, seenToTheLast, PremisesToTheLast}
+use Rattle.secrecy.specs.Claim.{Premises, desksOf, bookOf}
 
 -- ---- Whom a post accepts
 
@@ -80,6 +81,7 @@ module _ (plan : Plan) (group : List ℕ) (draw : Draw) (u : Secrets) (r : ℕ) 
     refusedTo i = messageAnswer (q i .post .session) (q i .post .rows) r caller (lentTo i) .refusal
 
     pub record MessagesShow (g : Glimpse) : Type 0 where
+      pub acceptances : g .acceptances ≡ []
       pub refusals : g .entry .refusals ≡ map refusedTo (those by (posts (plan .n)))
       pub values : g .entry .values ≡ map (λ i. 0) (those by (posts (plan .n)))
       pub lines : g .entry .lines
@@ -100,7 +102,8 @@ module _ (plan : Plan) (group : List ℕ) (draw : Draw) (u : Secrets) (r : ℕ) 
   pub record GlimpsesShow : Type 0 where
     pub of-messages : (caller : ℕ) (lent : Lent) (by : ℕ → Bool)
         → MessagesShow caller lent by (glimpse plan group draw u r (messages caller lent by) q)
-    pub of-lie : (j : ℕ) (xs : List ℕ) → glimpse plan group draw u r (lie j xs) q .entry .lines ≡ openingLine r j xs ∷ []
+    pub of-lie : (j : ℕ) (xs : List ℕ) → glimpse plan group draw u r (lie j xs) q
+        ≡ record { entry = record { refusals = []; values = []; lines = openingLine r j xs ∷ []; rows = [] }; acceptances = [] }
     pub of-opens : (records : ℕ → List ℕ) (by : ℕ → Bool) → OpensShow records by (glimpse plan group draw u r (opens records by) q)
 
   -- A choice gets the record and exactly what was seen before it; and each meets the same posts, since nothing here changes one.
@@ -117,3 +120,24 @@ GlimpsesRead = (plan : Plan) (group : List ℕ) (draw : Draw) (u : Secrets) (r :
 
 abbrev pub ChoicesRead : Type 0
 ChoicesRead = (plan : Plan) (group : List ℕ) (draw : Draw) (u : Secrets) (r : ℕ) (q : ℕ → Desk) → ChoiceMade plan group draw u r q
+
+-- Everything that is seen, step by step: the record of the list; of no choice nothing; of one more choice what it makes happen at the posts after the
+-- list, where it gets that record and all that was seen before.
+module _ (plan : Plan) (group : List ℕ) (rows : ℕ → List ℕ) (os : List Item) (r : ℕ) (u : Secrets) (draw : Draw) where
+  pub record LastMeans : Type 0 where
+    pub before : (choices : List Choice) → seenToTheLast plan group rows os r choices u draw .before ≡ seen plan group draw u rows os
+    pub none : seenToTheLast plan group rows os r [] u draw .last ≡ []
+    pub next : (choices : List Choice) (choose : Choice)
+        → (let R = seen plan group draw u rows os in
+        let told = seenToTheLast plan group rows os r choices u draw .last in
+        seenToTheLast plan group rows os r (choices ++ (choose ∷ [])) u draw .last
+        ≡ told ++ (glimpse plan group draw u r (choose R told) (desksOf plan rows os R u draw) ∷ []))
+
+abbrev pub LastRead : Type 0
+LastRead = (plan : Plan) (group : List ℕ) (rows : ℕ → List ℕ) (os : List Item) (r : ℕ) (u : Secrets) (draw : Draw) → LastMeans plan group rows os r u draw
+
+-- Nothing else is asked.
+abbrev pub LastAsks : Type 0
+LastAsks =
+    (plan : Plan) (group : List ℕ) (u u' : Secrets) (os : List Item) (r : ℕ) (R : SeenToTheLast) → Premises plan group u u' os (R .before)
+    → bookOf u os (R .before) .place r ≡ bookOf u' os (R .before) .place r → PremisesToTheLast plan group u u' os r R

@@ -4,7 +4,7 @@ use native.Mathlib.Omega.{arith}
 use lib.ListN.{length, length-set}
 use mathlib.Core.Path.{_∙_}
 use denote.Ref.{now}
-use borrow.Author.Needs.{needs}
+use borrow.Author.Needs.{needs, zero≤}
 use Rattle.barycentric.proofs.Ascent.{rising-last}
 use Rattle.barycentric.proofs.Fours.{gap-small, few-nodes, Gaining, gaining-start, gaining-room, gaining-turn, gaining-end}
 use Rattle.barycentric.proofs.weigh_four.Statement.{statement}
@@ -16,11 +16,45 @@ Inv-loop nodes gaps k list₀ a b c d i₀ i-end list i = Gaining nodes gaps k (
 abbrev μ-loop : tie.MeasureT-loop
 μ-loop nodes gaps k list₀ a b c d i₀ i-end list i = length nodes - i
 
+mul-a : tie.Need-mul-a Inv-loop μ-loop
+mul-a c = let a = c .before .before .before in omega (arith, a .pre .1, a .good)
+
+shared-slice-read-a : tie.Need-shared-slice-read-a Inv-loop μ-loop
+shared-slice-read-a c = let a = c .before .before .before .before in omega (arith, a .pre .1, a .good)
+
+add-b : tie.Need-add-b Inv-loop μ-loop
+add-b c = let a = c .before .before .before .before in omega (arith, a .pre .1, a .good)
+
+mul-b : tie.Need-mul-b Inv-loop μ-loop
+mul-b c = let a = c .before .before .before .before in omega (arith, a .pre .1, a .good)
+
+shared-slice-read-b : tie.Need-shared-slice-read-b Inv-loop μ-loop
+shared-slice-read-b c = let a = c .before .before .before .before .before in omega (arith, a .pre .1, a .good)
+
+add-c : tie.Need-add-c Inv-loop μ-loop
+add-c c = let a = c .before .before .before .before .before in omega (arith, a .pre .1, a .good)
+
+mul-c : tie.Need-mul-c Inv-loop μ-loop
+mul-c c = let a = c .before .before .before .before .before in omega (arith, a .pre .1, a .good)
+
+shared-slice-read-c : tie.Need-shared-slice-read-c Inv-loop μ-loop
+shared-slice-read-c c = let a = c .before .before .before .before .before .before in omega (arith, a .pre .1, a .good)
+
+add-d : tie.Need-add-d Inv-loop μ-loop
+add-d c = let a = c .before .before .before .before .before .before in omega (arith, a .pre .1, a .good)
+
+mul-d : tie.Need-mul-d Inv-loop μ-loop
+mul-d c = let a = c .before .before .before .before .before .before in omega (arith, a .pre .1, a .good)
+
+shared-slice-read-d : tie.Need-shared-slice-read-d Inv-loop μ-loop
+shared-slice-read-d c = let a = c .before .before .before .before .before .before .before in omega (arith, a .pre .1, a .good)
+
 four-requires : tie.Need-four-requires Inv-loop μ-loop
 four-requires c κs =
     let a = c .before .before .before .before .before .before .before .before in
     let at = gap-small (now (a .args .nodes)) (now (a .args .gaps)) (a .args .k) (a .args .list .now) (a .pre .0) in
-    (omega arith, at _ (search needs), at _ (search needs), at _ (search needs), at _ (search needs))
+    let room = a .pre .1 in
+    (zero≤, at _ (omega arith), at _ (omega arith), at _ (omega arith), at _ (omega arith))
 
 loop-holds : tie.Need-loop-holds Inv-loop μ-loop
 loop-holds c =
@@ -37,13 +71,14 @@ four-requires-2 : tie.Need-four-requires-2 Inv-loop μ-loop
 four-requires-2 c κs =
     let a = c .before .before .before .before .before .before .before .before .before .before .before .before .before .before in
     let l = c .before .before .before .loop in
-    let place : l .i < length (now (a .args .nodes)) = search needs in
-    let at = gap-small (now (a .args .nodes)) (now (a .args .gaps)) (a .args .k) (a .args .list .now) (a .pre .0) in (
+    let place = c .before .before .loop-test .taken in
+    let at = gap-small (now (a .args .nodes)) (now (a .args .gaps)) (a .args .k) (a .args .list .now) (a .pre .0) in
+    let room = a .pre .1 in (
       omega (arith, rising-last 0 (now (a .args .nodes)) (l .i) (a .pre .0 .rising) place, a .pre .0 .within),
-      at _ (search needs),
-      at _ (search needs),
-      at _ (search needs),
-      at _ (search needs),
+      at _ (omega arith),
+      at _ (omega arith),
+      at _ (omega arith),
+      at _ (omega arith),
     )
 
 slice-write-list-2 : tie.Need-slice-write-list-2 Inv-loop μ-loop
@@ -56,21 +91,21 @@ mul-list : tie.Need-mul-list Inv-loop μ-loop
 mul-list c =
     let a = c .before .before .before .before .before .before .before .before .before .before .before .before .before .before .before .before in
     let l = c .before .before .before .before .before .loop in
-    let place : l .i < length (now (a .args .nodes)) = search needs in
+    let place = c .before .before .before .before .loop-test .taken in
     record { fits = omega (arith, few-nodes _ _ _ (a .args .list .now) (a .pre .0)) }
 
 add-i : tie.Need-add-i Inv-loop μ-loop
 add-i c =
     let a = c .before .before .before .before .before .before .before .before .before .before .before .before .before .before .before .before in
     let l = c .before .before .before .before .before .loop in
-    let place : l .i < length (now (a .args .nodes)) = search needs in
+    let place = c .before .before .before .before .loop-test .taken in
     record { fits = omega (arith, few-nodes _ _ _ (a .args .list .now) (a .pre .0)) }
 
 loop-less : tie.Need-loop-less Inv-loop μ-loop
 loop-less c =
     let a = c .before .before .before .before .before .before .before .before .before .before .before .before .before .before .before .before in
     let l = c .before .before .before .before .before .loop in
-    let place : l .i < length (now (a .args .nodes)) = search needs in
+    let place = c .before .before .before .before .loop-test .taken in
     omega arith
 
 loop-again : tie.Need-loop-again Inv-loop μ-loop
@@ -90,7 +125,6 @@ returns c =
 pub weigh-four-spec : {M : Type 1} → statement M
 weigh-four-spec =
     tie.close
-    (tie.spec Inv-loop μ-loop (λ c. search needs) (λ c. search needs) (λ c. search needs) (λ c. search needs) (λ c. search needs) (λ c. search needs)
-    (λ c. search needs) (λ c. search needs) (λ c. search needs) (λ c. search needs) (λ c. search needs) (λ c. search needs) four-requires (λ c κs. search needs)
+    (tie.spec Inv-loop μ-loop mul-a shared-slice-read-a add-b mul-b shared-slice-read-b add-c mul-c shared-slice-read-c add-d mul-d shared-slice-read-d (λ c. search needs) four-requires (λ c κs. search needs)
     (λ c. search needs) loop-holds (λ c. search needs) (λ c. search needs) slice-read-mul-2 (λ c. search needs) (λ c. search needs) four-requires-2
     (λ c κs. search needs) mul-list slice-write-list-2 add-i loop-less loop-again same-length returns)

@@ -37,7 +37,7 @@ fn openings() {
     println!("the fastest opening agrees on {openings} openings");
 }
 
-/// And the fastest factory's row writes what the second implementation writes, at every kind of size.
+/// And the fastest factory's row and other draw are what the second implementation writes, at every kind of size.
 fn factory() {
     let mut rng = Rng::new(1);
     let sizes = [(2, 1), (3, 1), (32, 31), (33, 1), (100, 50), (255, 254)];
@@ -48,6 +48,12 @@ fn factory() {
         let [mut ours, mut second] = [(); 2].map(|()| vec![0; gantsorol::packs_len(n, t, k)]);
         assert_eq!(fastest::factory_row(n, t, k, &own, &draw, &mut ours), 0);
         assert_eq!(REFERENCE.factory_row(n, t, k, &own, &draw, &mut second), 0);
+        assert_eq!(ours, second, "{n}, {t}, {k}");
+        let posts: Vec<u32> = (1..=n as u32).filter(|post| post % 3 > 0).take(t).collect();
+        let listed: Vec<usize> = posts.iter().map(|&post| post as usize).collect();
+        let [mut ours, mut second] = [(); 2].map(|()| vec![0; draw.len()]);
+        assert_eq!(fastest::other_draw([n, t, k], &own, &draw, [3, 4], &posts, &mut ours), 0);
+        assert_eq!(REFERENCE.other_draw(n, t, k, &own, &draw, 3, 4, &listed, &mut second), 0);
         assert_eq!(ours, second, "{n}, {t}, {k}");
     }
 }

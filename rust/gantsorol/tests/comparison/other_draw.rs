@@ -36,8 +36,10 @@ impl Asked {
         let Self { shape, points, draw, secret, wanted, posts } = self;
         let (n, t, k) = (shape.posts(), shape.threshold(), shape.points());
         let [mut ours, mut second] = [(); 2].map(|()| unwritten(draw.len()));
-        let refusal = Verified.other_draw(n, t, k, points, draw, *secret, *wanted, posts, &mut ours);
-        let again = REFERENCE.other_draw(n, t, k, points, draw, *secret, *wanted, posts, &mut second);
+        let refusal =
+            Verified.other_draw(n, t, k, points, draw, *secret, *wanted, posts, &mut ours);
+        let again =
+            REFERENCE.other_draw(n, t, k, points, draw, *secret, *wanted, posts, &mut second);
         assert_eq!((refusal, &ours), (again, &second), "{n}, {t}, {k}: {posts:?}");
         (refusal, ours)
     }
@@ -56,9 +58,16 @@ impl Asked {
         let row = gantsorol::row_len(n, t, k);
         for post in posts {
             let part = (post - 1) * row..post * row;
-            assert_eq!(packs[part.clone()], others[part], "{n}, {t}, {k}: post {post} of {posts:?}");
+            assert_eq!(
+                packs[part.clone()],
+                others[part],
+                "{n}, {t}, {k}: post {post} of {posts:?}"
+            );
         }
-        assert_eq!(Verified.dealer_number(*secret, draw[0]), Verified.dealer_number(*wanted, other[0]));
+        assert_eq!(
+            Verified.dealer_number(*secret, draw[0]),
+            Verified.dealer_number(*wanted, other[0])
+        );
     }
 }
 
@@ -120,8 +129,17 @@ fn random_stations_to_255_posts() {
 #[test]
 fn lists_of_posts_that_are_none() {
     let mut rng = Rng::new(18);
-    let lists: [&[usize]; 9] =
-        [&[0], &[6], &[1, 1], &[2, 1], &[1, 2, 2, 3], &[0, 1, 2, 3], &[3, 4, 5, 6], &[1, 2, 3, 4, 5, 6], &[1 << 32 | 1]];
+    let lists: [&[usize]; 9] = [
+        &[0],
+        &[6],
+        &[1, 1],
+        &[2, 1],
+        &[1, 2, 2, 3],
+        &[0, 1, 2, 3],
+        &[3, 4, 5, 6],
+        &[1, 2, 3, 4, 5, 6],
+        &[1 << 32 | 1],
+    ];
     for k in [1, 2] {
         for posts in lists {
             for equal in [false, true] {

@@ -1,4 +1,4 @@
-//! The factory's calls, the dealer's number and pack files.
+//! The factory's calls, the dealer's number, pack files and the draw behind another secret.
 
 use std::hint::black_box;
 
@@ -57,7 +57,31 @@ pub fn all(i: &Inputs) -> Vec<Contest<'_>> {
             repeated(move || second(black_box(i.numbers[0]), i.numbers[1]), |a| a.refusal),
         ),
         pack_file(i),
+        other_draw(i),
     ]
+}
+
+/// The draw behind another secret, with as many posts listed as may be.
+fn other_draw(i: &Inputs) -> Contest<'_> {
+    let (n, t, k, own, draw) = (i.n, i.t, i.points, &i.check_points[..], &i.row_draw[..]);
+    let listed: Vec<usize> = (1..=t).collect();
+    let [posts, same] = [(); 2].map(|()| (1..=t as u32).collect::<Vec<u32>>());
+    let ours = filling(
+        draw.len(),
+        move |out| gantsorol::other_draw(n, t, k, own, draw, 3, 4, &posts, out),
+        refused,
+    );
+    let second = filling(
+        draw.len(),
+        move |out| REFERENCE.other_draw(n, t, k, own, draw, 3, 4, &listed, out),
+        |&a| a,
+    );
+    let fastest = filling(
+        draw.len(),
+        move |out| fastest::other_draw([n, t, k], own, draw, [3, 4], &same, out),
+        |&a| a,
+    );
+    Contest { name: "other draw", runs: vec![ours, second, fastest] }
 }
 
 /// A post's file of a raw row and a triple.

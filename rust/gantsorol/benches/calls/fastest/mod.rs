@@ -2,6 +2,7 @@
 
 mod factory;
 mod opening;
+mod other_draw;
 mod reading;
 mod writing;
 
@@ -9,6 +10,7 @@ use gantsorol::{masks_len, message_len, MAX_POINTS, MAX_POSTS, MODULUS};
 
 pub use factory::factory_row;
 pub use opening::open;
+pub use other_draw::other_draw;
 pub use reading::read;
 pub use writing::{write_masks, write_opening};
 
