@@ -104,7 +104,7 @@
 
 /* The version: the minor number counts the requests that are in (CHANGES.md). */
 #define GANTSOROL_VERSION_MAJOR 0
-#define GANTSOROL_VERSION_MINOR 13
+#define GANTSOROL_VERSION_MINOR 14
 #define GANTSOROL_VERSION_PATCH 0
 
 /*
