@@ -31,8 +31,10 @@ refused =
       no-fourth = refl;
       longer = refl;
       beyond-first = refl;
+      secret-beyond = refl;
       three-points = refl;
       two-points = refl;
       short = refl;
+      short-draw = refl;
       left = refl;
     }

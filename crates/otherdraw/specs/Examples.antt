@@ -57,8 +57,10 @@ pub record Refused : Type 0 where
   pub no-fourth : otherRefusal 3 1 1 ws draw 100 42 (4 ∷ []) room ≡ 18
   pub longer : otherRefusal 3 1 1 ws draw 100 100 (1 ∷ 2 ∷ 3 ∷ 4 ∷ []) room ≡ 18
   pub beyond-first : otherRefusal 3 1 1 ws draw 100 2147483647 (2 ∷ 2 ∷ []) room ≡ 8
+  pub secret-beyond : otherRefusal 3 1 1 ws draw 2147483647 42 (3 ∷ []) room ≡ 8
   pub three-points : otherRefusal 3 1 3 ws draw 100 42 (3 ∷ []) room ≡ 4
   pub two-points : otherRefusal 3 1 2 ws draw 100 42 (3 ∷ []) room ≡ 5
   pub short : otherRefusal 3 1 1 ws draw 100 42 (3 ∷ []) (replicate 7 9) ≡ 5
+  pub short-draw : otherRefusal 3 1 1 ws (replicate 7 9) 100 42 (3 ∷ []) room ≡ 5
   -- what a refused call leaves
   pub left : otherOut 3 1 1 ws draw 100 42 (1 ∷ 3 ∷ []) room ≡ 9 ∷ 9 ∷ 9 ∷ 9 ∷ 9 ∷ 9 ∷ 9 ∷ 9 ∷ []

@@ -4,7 +4,7 @@ use mathlib.Core.Bool.{Bool, cond}
 use borrow.Author.Tests.{eq-eqb, ne-eqb}
 use Rattle.runs.specs.Draws.{none, by}
 use Rattle.otherdraw_law.specs.OneRow.{drawOf}
-use Rattle.otherdraw_law.specs.Laws.{OneRowIs, Orders}
+use Rattle.otherdraw_law.specs.Laws.{OneRowIs, Orders, RecordIs}
 use Rattle.otherdraw_law.proofs.Told.{drawn-row, pack-is, number-is}
 use Rattle.otherdraw_law.proofs.Drawn.{no-draw}
 
@@ -23,4 +23,7 @@ one-row-is S draw =
     }
 
 pub orders : Orders
-orders = record { to-load = refl; to-deal = refl; to-place = refl; to-turn = refl }
+orders = record { to-load = λ r. refl; to-deal = λ r. refl; to-place = λ r d. refl; to-turn = λ r. refl }
+
+pub record-is : RecordIs
+record-is S draw u = refl

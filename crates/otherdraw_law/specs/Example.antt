@@ -10,13 +10,13 @@ use Rattle.secrecy.specs.Seen.{Entry}
 use Rattle.otherdraw_law.specs.OneRow.{loads, deals, places, turns, Setting, planIn, drawIn, recordOf, Behind}
 use Rattle.otherdraw_law.specs.Claims.{Dealt, refusalIn, returned, AllTaken}
 
--- Row 0, dealer 0, zeros in the lists of rows at first: 96 rows of 8 numbers, or of 12.
+-- Row 0, zeros in the lists of rows at first: 96 rows of 8 numbers, or of 12. The dealer is no post, or post 1.
 unfoldable pub onePoint : List ℕ → Setting
 onePoint posts =
     record { n = 3; t = 1; points = 1; r = 0; dealer = 0; todo = loads ∷ deals ∷ []; rows = λ i. replicate 768 0; ws = 2 ∷ 3 ∷ 5 ∷ []; posts = posts }
 
 unfoldable pub twoPoints : List ℕ → Setting
-twoPoints ws = record { n = 3; t = 1; points = 2; r = 0; dealer = 0; todo = loads ∷ deals ∷ []; rows = λ i. replicate 1152 0; ws = ws; posts = 3 ∷ [] }
+twoPoints ws = record { n = 3; t = 1; points = 2; r = 0; dealer = 1; todo = loads ∷ deals ∷ []; rows = λ i. replicate 1152 0; ws = ws; posts = 3 ∷ [] }
 
 -- f = 7 + 4z, v1 = 1 + 2z, v2 = 3 + z, v3 = 5 + 6z; with two points v1 = 1 + 2z + zz, v2 = 3 + z + 2zz, v3 = 5 + 6z + 3zz.
 unfoldable pub drawn : List ℕ

@@ -3,7 +3,7 @@ use Prim.Native.Nat.{ℕ, _-_, _≤_, _<_}
 use mathlib.Core.Path.{_≡_}
 use mathlib.Core.Bool.{false}
 use mathlib.Core.Logic.{_≢_}
-use mathlib.Core.List.{List, []}
+use mathlib.Core.List.{List, [], map}
 use lib.ListN.{getD}
 use Rattle.field.specs.Modulus.{p}
 use Rattle.field.specs.Arithmetic.{difference}
@@ -12,7 +12,8 @@ use Rattle.packs.specs.Packs.{pointsAt}
 use Rattle.runs.specs.Draws.{none, by, rawDraw, rawPack}
 use Rattle.runs.specs.Orders.{call, place, turn}
 use Rattle.secrecy.specs.Steps.{its, sent, theirs, loadRow, deal, dealtNumber}
-use Rattle.otherdraw_law.specs.OneRow.{loads, deals, places, turns, order, Setting, planIn, drawIn}
+use Rattle.secrecy.specs.Seen.{seen}
+use Rattle.otherdraw_law.specs.OneRow.{loads, deals, places, turns, order, Setting, planIn, drawIn, recordOf}
 use Rattle.otherdraw_law.specs.Claims.{shapeIn}
 
 -- Row r alone is drawn, for its dealer; every post gets its part of this draw and of no other, and the dealer's number is u − f(0).
@@ -33,7 +34,13 @@ OneRowIs = (S : Setting) (draw : List ℕ) → OneRowDrawn S draw
 -- What each post is told: to load its own part of the row, to deal the row with the c that its dealer broadcast, to place that dealer's `D` line,
 -- to take a turn.
 pub record Orders : Type 0 where
-  pub to-load : order 5 loads ≡ call (loadRow 5 (λ i. its 5))
-  pub to-deal : order 5 deals ≡ call (deal 5 (sent 5))
-  pub to-place : order 5 (places 8) ≡ place 8 (theirs 5)
-  pub to-turn : order 5 turns ≡ turn
+  pub to-load : (r : ℕ) → order r loads ≡ call (loadRow r (λ i. its r))
+  pub to-deal : (r : ℕ) → order r deals ≡ call (deal r (sent r))
+  pub to-place : (r d : ℕ) → order r (places d) ≡ place d (theirs r)
+  pub to-turn : (r : ℕ) → order r turns ≡ turn
+
+-- The record is demand 3's of the whole list, with each post's own numbers in its rows at first.
+abbrev pub RecordIs : Type 0
+RecordIs =
+    (S : Setting) (draw : List ℕ) (u : ℕ)
+    → recordOf S draw u ≡ seen (planIn S) (S .posts) (drawIn S draw) (λ q. u) (S .rows) (map (order (S .r)) (S .todo))

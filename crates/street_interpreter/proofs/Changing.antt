@@ -41,8 +41,8 @@ use Rattle.street_interpreter.specs.declared.orders.Order.{Order}
 use Rattle.street_interpreter.specs.declared.Outcome.{Outcome}
 use Rattle.street_interpreter.specs.Stepping.{accessStep}
 use Rattle.street_interpreter.specs.Orders.{isChange, isKept, changing, looking}
-use Rattle.street_interpreter.specs.Changes.{held, toldBy, changed, looked, Able, Changed, Looked, Opened}
-use Rattle.street_interpreter.proofs.Letters.{only-start}
+use Rattle.street_interpreter.specs.Changes.{held, toldBy, changed, looked, Able, Brief, Changed, Finished, Alone, Looked, Opened}
+use Rattle.street_interpreter.proofs.Letters.{only-masks, some-letter}
 
 -- ---- the session is one of the street's
 module _ (s : Session) (o : Order) (y : Able s o) where
@@ -61,8 +61,8 @@ module _ (s : Session) (o : Order) (y : Able s o) where
   pub street-l : o .letter ≡ 76 → Street
   street-l e = y .street (λ z. omega arith) (λ z. omega arith)
 
-  pub street-x : o .letter ≡ 88 → Street
-  street-x e = y .street (λ z. omega arith) (λ z. omega arith)
+  pub street-x : Brief (o .letter) → Street
+  street-x w = y .street (w .no-s) (some-letter (o .letter) (w .changes))
 
   pub street-f : o .letter ≡ 70 → Street
   street-f e = y .street (λ z. omega arith) (λ z. omega arith)
@@ -141,6 +141,9 @@ unfolding outcome
 settled-same zero new old = refl
 settled-same (suc k) new old = refl
 
+stays-as : (x : ℕ) (new s : Session) (a : Answer) → a ≡ answer x 0 new s → a .session ≡ settled s a .session
+stays-as x new s a r = ap (λ (z : Answer). z .session) (r ∙ sym (settled-same x new s) ∙ sym (ap (settled s) r))
+
 masks-end : (s : Session) (b : Bool) (k triple : ℕ) (store : List ℕ) (x : ℕ) (new : Session) (t t' : List ℕ) → (x ≡ 0 → t ≡ t')
     → (let a = answer x 0 new s in
     _≡_ {A = After}
@@ -167,6 +170,7 @@ module _ (s : Session) (triple : ℕ) (o : Order) (xs line store : List ℕ) (a 
       record {
         says = λ b k n.
             call-changed s b k triple (o .letter) xs store' ms a x new (rw e p) (rw e q) (ap (settled s) r ∙ settled-same x new s) ∙ f b k;
+        stays = stays-as x new s a r;
         post-in = λ z. absurd (no88 (rw (sym e ∙ z) at p));
       }
     where
@@ -199,33 +203,35 @@ module _ (s : Session) (triple : ℕ) (o : Order) (xs line store : List ℕ) (a 
   pub change-finish : (first : ℕ) → first ≡ getD xs 0 0 → o .letter ≡ 70
       → settled s a ≡ pairAnswer s (rowsOf s store) first (recordFor masksAAt (shapeOf s) triple first store) (recordFor masksBAt (shapeOf s) triple first store)
       → store' ≡ withRows s (pairRows s (rowsOf s store) first (recordFor masksAAt (shapeOf s) triple first store) (recordFor masksBAt (shapeOf s) triple first store)) store
-      → Done
+      → a .session ≡ settled s a .session → Done
   unfolding changing finishing
-  change-finish first w e q r =
+  change-finish first w e q r z =
       record {
         says = λ b k n.
             call-changed s b k triple (o .letter) xs store' ms a _ _ (rw e) (rw e) q ∙ rw (e, r, ← w);
-        post-in = λ z. absurd (let y : 70 ≡ 88 = sym e ∙ z in omega arith);
+        stays = z;
+        post-in = λ u. absurd (let y : 70 ≡ 88 = sym e ∙ u in omega arith);
       }
 
   pub change-access : o .letter ≡ 65 → a ≡ accessAnswer s line → store' ≡ store → Done
   unfolding changing accessStep
   change-access e q r = plain 65 _ _ e refl refl q (λ b k. rw (e, r))
 
-  pub change-start : isChange (o .letter) ≡ true → (o .letter ≡ 68 → ⊥) → (o .letter ≡ 82 → ⊥) → (o .letter ≡ 84 → ⊥) → (o .letter ≡ 76 → ⊥)
-      → (o .letter ≡ 88 → ⊥) → (o .letter ≡ 70 → ⊥) → (o .letter ≡ 65 → ⊥) → a ≡ startAnswer line → store' ≡ store → Done
+  pub change-start : o .letter ≡ 83 → settled s a ≡ settled s (startAnswer line) → a .session ≡ settled s a .session → store' ≡ store → Done
   unfolding changing changed
-  change-start h a₁ b₁ c₁ d₁ e₁ f₁ g₁ q r =
-      let e : o .letter ≡ 83 = only-start (o .letter) h a₁ b₁ c₁ d₁ e₁ f₁ g₁ in
+  change-start e q z r =
       record {
         says = λ b k n. rw (e, q, r) (ap (λ (v : _). leaving v store) (start-begun (held s b k triple) (n e) line));
-        post-in = λ z. absurd (e₁ z);
+        stays = z;
+        post-in = λ u. absurd (let y : 83 ≡ 88 = sym e ∙ u in omega arith);
       }
 
   -- ---- an `X` prints its M line
-  pub change-masks : o .letter ≡ 88 → Masked s store (getD xs 0 0) (getD xs 1 0) (getD xs 2 0) a ms → store' ≡ store → Done
+  pub change-masks : Brief (o .letter) → (o .letter ≡ 68 → ⊥) → (o .letter ≡ 82 → ⊥) → (o .letter ≡ 84 → ⊥) → (o .letter ≡ 76 → ⊥)
+      → Masked s store (getD xs 0 0) (getD xs 1 0) (getD xs 2 0) a ms → store' ≡ store → Done
   unfolding changing maskingOf masking changed
-  change-masks e m r =
+  change-masks w a₁ b₁ c₁ d₁ m r =
+      let e : o .letter ≡ 88 = only-masks (o .letter) (w .changes) a₁ b₁ c₁ d₁ (w .no-a) (w .no-f) (w .no-s) in
       let x : ℕ = masksRefusal s (rowsOf s store) (getD xs 0 0) (getD xs 1 0) (getD xs 2 0) (replicate (masksLength (shapeOf s)) 0) in
       let new : Session = maskedTriple s (getD xs 2 0) (getD xs 0 0) (getD xs 1 0) in
       record {
@@ -234,8 +240,51 @@ module _ (s : Session) (triple : ℕ) (o : Order) (xs line store : List ℕ) (a 
             (ap (λ (z : Answer). changed (held s b k triple) 88 xs z store ms) (m .answer-is)
             ∙ masks-end s b k triple store x new _ _
             (λ z. ap (λ (l : List ℕ). Lines.text (Lines.masks (getD xs 2 0) (s .post) l)) (m .made (ap (λ (y : Answer). y .refusal) (m .answer-is) ∙ answer-refusal x 0 new s ∙ z))));
+        stays = stays-as x new s a (m .answer-is);
         post-in = λ z. m .post-in;
       }
+
+-- ---- what is left of an answer, and the changes that are functions of their own
+module _ (s : Session) (a : Answer) where
+  old-kept : (k : ℕ) (new : Session) → (k ≡ 0 → ⊥) → answer k 0 s s ≡ answer k 0 new s
+  unfolding outcome
+  old-kept zero new m = absurd (m refl)
+  old-kept (suc j) new m = refl
+
+  old-session : (k : ℕ) (new : Session) → (k ≡ 0 → ⊥) → s ≡ answer k 0 new s .session
+  unfolding outcome
+  old-session zero new m = absurd (m refl)
+  old-session (suc j) new m = refl
+
+  new-session : (k : ℕ) (new : Session) → k ≡ 0 → new ≡ answer k 0 new s .session
+  unfolding outcome
+  new-session zero new z = refl
+  new-session (suc j) new z = absurd (omega (arith, z))
+
+  pub settle-old : (r : Answer) → (a .refusal ≡ 0 → ⊥) → r ≡ holding (a .refusal) 0 s → (settled s r ≡ settled s a) × (r .session ≡ settled s a .session)
+  settle-old r n e =
+      (ap (settled s) e ∙ old-kept (a .refusal) (a .session) n, ap (λ (z : Answer). z .session) e ∙ old-session (a .refusal) (a .session) n)
+
+  pub settle-new : a .refusal ≡ 0 → (settled s a ≡ settled s a) × (a .session ≡ settled s a .session)
+  settle-new z = (refl, new-session (a .refusal) (a .session) z)
+
+module _ (s : Session) (o : Order) (a r : Answer) (u : settled s r ≡ settled s a) (z : r .session ≡ settled s a .session) where
+  stays-so : r .session ≡ settled s r .session
+  stays-so = z ∙ sym (ap (λ (x : Answer). x .session) u)
+
+  pub finish-ends : (triple : ℕ) (xs store store' : List ℕ) (first : ℕ) → first ≡ getD xs 0 0 → o .letter ≡ 70
+      → settled s a ≡ pairAnswer s (rowsOf s store) first (recordFor masksAAt (shapeOf s) triple first store) (recordFor masksBAt (shapeOf s) triple first store)
+      → store' ≡ withRows s (pairRows s (rowsOf s store) first (recordFor masksAAt (shapeOf s) triple first store) (recordFor masksBAt (shapeOf s) triple first store)) store
+      → Finished s triple o xs store r store'
+  finish-ends triple xs store store' first w e q v =
+      record { says = λ line ms. change-finish s triple o xs line store r store' ms first w e (u ∙ q) v stays-so }
+
+  pub start-ends : (line : List ℕ) → o .letter ≡ 83 → a ≡ startAnswer line → Alone s o line r
+  start-ends line e q =
+      record { says = λ triple xs store ms. change-start s triple o xs line store r store ms e (u ∙ ap (settled s) q) stays-so refl }
+
+pub admit-ends : (s : Session) (o : Order) (line : List ℕ) (r : Answer) → o .letter ≡ 65 → r ≡ accessAnswer s line → Alone s o line r
+admit-ends s o line r e q = record { says = λ triple xs store ms. change-access s triple o xs line store r store ms e q refl }
 
 -- ---- a look
 module _ (s : Session) (keptRow triple : ℕ) (o : Order) (xs store : List ℕ) where

@@ -58,10 +58,26 @@ pub record Able (s : Session) (o : Order) : Type 0 where
   pub street : (o .letter ≡ 83 → ⊥) → (o .letter ≡ 0 → ⊥) → InStreet (shapeOf s)
   pub post-in : isKept (o .letter) ≡ true → (1 ≤ o .post) × (o .post ≤ s .n)
 
+-- A letter of a change that is none of the long ones: no `A`, no `F`, no start line.
+pub record Brief (l : ℕ) : Type 0 where
+  pub changes : isChange l ≡ true
+  pub no-a : l ≡ 65 → ⊥
+  pub no-f : l ≡ 70 → ⊥
+  pub no-s : l ≡ 83 → ⊥
+
 pub record Changed (s : Session) (triple : ℕ) (o : Order) (xs line store : List ℕ) (a : Answer) (store' ms : List ℕ) : Type 0 where
   pub says : (started : Bool) (kept : ℕ) → (o .letter ≡ 83 → started ≡ false)
       → changed (held s started kept triple) (o .letter) xs a store' ms ≡ changing (held s started kept triple) store o xs line
+  pub stays : a .session ≡ settled s a .session
   pub post-in : o .letter ≡ 88 → a .refusal ≡ 0 → s .post ≤ streetPosts
+
+-- The same of an `F`, whatever the line and the masks,
+pub record Finished (s : Session) (triple : ℕ) (o : Order) (xs store : List ℕ) (a : Answer) (store' : List ℕ) : Type 0 where
+  pub says : (line ms : List ℕ) → Changed s triple o xs line store a store' ms
+
+-- and of an `A` or a start line, which need the line alone.
+pub record Alone (s : Session) (o : Order) (line : List ℕ) (a : Answer) : Type 0 where
+  pub says : (triple : ℕ) (xs store ms : List ℕ) → Changed s triple o xs line store a store ms
 
 pub record Looked (s : Session) (kept triple : ℕ) (o : Order) (xs store : List ℕ) (v : Outcome) (store' : List ℕ) : Type 0 where
   pub says : (started : Bool) → looked (held s started kept triple) v store' ≡ looking (held s started kept triple) store o xs

@@ -1,5 +1,5 @@
 // The station: what each line of the street program does. A line is read into its order (`orders`); then it is either a change of the
-// session, one function with one call site for each of the library's calls, or a look.
+// session, with one call site for each of the library's calls, or a look.
 pub mod orders;
 
 use orders::Order;
@@ -9,11 +9,12 @@ use street_states::State;
 ghost use mathlib.Core.Path.{_≡_};
 ghost use mathlib.Core.Bool.{true, false};
 ghost use lib.ListN.{length, replicate};
-ghost use Rattle.session.specs.Sessions.{shapeOf};
+ghost use Rattle.session.specs.Sessions.{shapeOf, holding};
 ghost use Rattle.street_store.specs.Sizes.{InStreet, storeRoom, numbersRoom, recordRoom, mostMasks};
+ghost use Rattle.street_states.specs.States.{settled};
 ghost use Rattle.street_interpreter.specs.Stepping.{stationRefusal, roomRefusal};
 ghost use Rattle.street_interpreter.specs.Orders.{isChange};
-ghost use Rattle.street_interpreter.specs.Changes.{Able, Changed, Looked, Opened};
+ghost use Rattle.street_interpreter.specs.Changes.{Able, Brief, Changed, Finished, Alone, Looked, Opened};
 
 // What a look hands back: the answer, and what the records are kept for.
 pub struct Outcome {
@@ -21,6 +22,13 @@ pub struct Outcome {
     pub value: u32,
     pub kept: usize,
     pub triple: usize,
+}
+
+// A session before its first change, as an answer: the program keeps the last one, so that a change is copied into its place, and not twice.
+pub fn unchanged(session: Session) -> Answer
+    ensures { λ r. ⌜ r ≡ holding 0 0 session ⌝ }
+{
+    session.done(0)
 }
 
 // Whether the line of a letter may change the session.
@@ -40,7 +48,9 @@ pub fn changes(letter: u8) -> bool
     }
 }
 
-// A line that may change the session. The masks of an `X` are made in a lent list.
+// A line that changes the session by a call with no long work before its end: `D`, `R`, `T`, `L` and `X`. The others are functions of their own:
+// the session that is handed over is read at their ends, so that this one would copy it for each letter. The masks of an `X` are made in a
+// lent list.
 pub fn change(
     session: Session,
     triple: usize,
@@ -48,11 +58,10 @@ pub fn change(
     line: &[u8],
     order: Order,
     numbers: &[u32],
-    empty: &[u32],
     masks: &mut [u32],
 ) -> Answer
-    requires { ⌜ Able session order × (isChange (order .letter) ≡ true) × (length (now store) ≡ storeRoom) × (length (now numbers) ≡ numbersRoom)
-        × (now empty ≡ replicate recordRoom 0) × (length (now masks) ≡ mostMasks) ⌝ }
+    requires { ⌜ Able session order × Brief (order .letter) × (length (now store) ≡ storeRoom) × (length (now numbers) ≡ numbersRoom)
+        × (length (now masks) ≡ mostMasks) ⌝ }
     ensures { λ r. ⌜ Changed session triple order (now (numbers .entry)) (now (line .entry)) (now (store .entry)) r (now (store .exit)) (now (masks .exit)) ⌝ }
 {
     let shape = session.shape();
@@ -68,17 +77,54 @@ pub fn change(
             street_rowlines::loads::load_triple(session, store, &numbers[..count])
         }
         b'L' => street_rowlines::add(session, store, numbers),
-        b'X' => street_finishlines::masks::mask(session, store, numbers, masks),
-        b'A' => access::access(session, line),
-        b'F' => street_finishlines::finish(
-            session,
-            store,
-            empty,
-            triple,
-            street_states::place(numbers[0]),
-        ),
-        _ => street_startlines::start(line),
+        _ => street_finishlines::masks::mask(session, store, numbers, masks),
     }
+}
+
+// What a change leaves of its answer: where it is refused, the session as it was.
+fn settle(session: Session, answer: Answer) -> Answer
+    ensures { λ r. ⌜ (settled session r ≡ settled session answer) × (r .session ≡ settled session answer .session) ⌝ }
+{
+    let refusal = answer.refusal;
+    if refusal != 0 {
+        return session.refuse(refusal);
+    }
+    answer
+}
+
+// An `F`.
+pub fn finish(
+    session: Session,
+    triple: usize,
+    store: &mut [u32],
+    order: Order,
+    numbers: &[u32],
+    empty: &[u32],
+) -> Answer
+    requires { ⌜ Able session order × (order .letter ≡ 70) × (length (now store) ≡ storeRoom) × (length (now numbers) ≡ numbersRoom)
+        × (now empty ≡ replicate recordRoom 0) ⌝ }
+    ensures { λ r. ⌜ Finished session triple order (now (numbers .entry)) (now (store .entry)) r (now (store .exit)) ⌝ }
+{
+    let first = street_states::place(numbers[0]);
+    let answer = street_finishlines::finish(session, store, empty, triple, first);
+    settle(session, answer)
+}
+
+// An `A`.
+pub fn admit(session: Session, line: &[u8], order: Order) -> Answer
+    requires { ⌜ order .letter ≡ 65 ⌝ }
+    ensures { λ r. ⌜ Alone session order (now (line .entry)) r ⌝ }
+{
+    access::access(session, line)
+}
+
+// A start line.
+pub fn start(session: Session, line: &[u8], order: Order) -> Answer
+    requires { ⌜ order .letter ≡ 83 ⌝ }
+    ensures { λ r. ⌜ Alone session order (now (line .entry)) r ⌝ }
+{
+    let answer = street_startlines::start(line);
+    settle(session, answer)
 }
 
 // A `G`.

@@ -29,16 +29,6 @@ use Rattle.street_feeds.specs.Program.{Running, leftBy, answered, running}
 use Rattle.street_feeds.specs.Between.{Open, Added, Fed, feedOf, grownHead, answeredHead, turned, PartRead, toldText, TellRoom, Answered, Seen}
 use Rattle.street_feeds.proofs.Feeding.{answered-by, answered-added}
 
-pub settled-new : (x : ℕ) (new old : Session) → x ≡ 0 → new ≡ answer x 0 new old .session
-unfolding outcome
-settled-new zero new old z = refl
-settled-new (suc k) new old z = absurd (omega arith)
-
-pub settled-old : (x : ℕ) (new old : Session) → (x ≡ 0 → ⊥) → old ≡ answer x 0 new old .session
-unfolding outcome
-settled-old zero new old n = absurd (n refl)
-settled-old (suc k) new old n = refl
-
 module _ (s : Session) (h : Head) (g : Shape) (d : g ≡ shapeOf s) (store line part line' out xs : List ℕ) (closing : Bool) (r : Part)
     (o : Open (feedOf s h) store line out 1) (pr : PartRead g h line part closing r line' xs) where
   abbrev h' : Head

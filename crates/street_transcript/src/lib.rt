@@ -37,11 +37,12 @@ fn take_lines(
     let mut masks = [0u32; street_store::MOST_MASKS];
     let empty = [0u32; street_store::RECORD_ROOM];
     let state = feed.state;
-    let mut session = state.session;
+    let mut last = street_interpreter::unchanged(state.session);
     let mut head = street_feeds::head(feed);
     let mut i = 0;
     while i < chunk.len() {
         let end = street_splitting::line_end(chunk, i);
+        let session = last.session;
         let shape = session.shape();
         let part = street_feeds::read_part(
             head,
@@ -62,36 +63,52 @@ fn take_lines(
             let letter = order.letter;
             if street_interpreter::changes(letter) {
                 let len = head.len;
-                let answer = street_interpreter::change(
-                    session,
-                    head.triple,
-                    store,
-                    &line[..len],
-                    order,
-                    &numbers,
-                    &empty,
-                    &mut masks,
-                );
-                let refusal = answer.refusal;
+                let post = session.post;
+                match letter {
+                    b'A' => {
+                        last = street_interpreter::admit(last.session, &line[..len], order);
+                    }
+                    b'F' => {
+                        last = street_interpreter::finish(
+                            last.session,
+                            head.triple,
+                            store,
+                            order,
+                            &numbers,
+                            &empty,
+                        );
+                    }
+                    b'S' => {
+                        last = street_interpreter::start(last.session, &line[..len], order);
+                    }
+                    _ => {
+                        last = street_interpreter::change(
+                            last.session,
+                            head.triple,
+                            store,
+                            &line[..len],
+                            order,
+                            &numbers,
+                            &mut masks,
+                        );
+                    }
+                }
                 head = street_feeds::change_line(
                     head,
                     letter,
-                    session.post,
+                    post,
                     shape,
-                    refusal,
+                    last.refusal,
                     &numbers,
                     &masks,
                     out,
                 );
-                if refusal == 0 {
-                    session = answer.session;
-                }
             } else {
                 head = street_feeds::look_line(session, head, order, store, &numbers, &empty, out);
             }
         }
     }
-    street_feeds::whole(session, head)
+    street_feeds::whole(last.session, head)
 }
 
 // A chunk of the input.

@@ -1,22 +1,14 @@
 -- `Session::answer_marking_triple` meets its contract. Where the two ways meet, the list is what the way left.
 use mathlib.Core.Logic.{⊎-elim}
-use Rattle.session.specs.Sessions.{markedTriple}
+use borrow.Author.Needs.{needs}
 use Rattle.session.proofs.Endings.{first-allowed, second-allowed, third-allowed, second-fits, third-fits, ends-accepted, ends-refused}
 use Rattle.session.proofs.Session.answer_marking_triple.Statement.{statement}
 use Rattle.session.proofs.Session.answer_marking_triple.Tie as tie
 
-returns : tie.Need-returns
-returns c =
-    let a = c .before .before .before .before .before .before .before .args in
-    let new = markedTriple (a .self) (a .first) (a .one) (a .two) (a .three) in
-    ⊎-elim (λ w. rw (w .1) (ends-accepted (a .refusal) new (a .self) (w .0 .taken)))
-    (λ w. rw (w .1) (ends-refused (a .refusal) new (a .self) (w .0 .left))) (c .before .before .before .before .before .if1 .came)
+ruleset steps = (needs, first-allowed, second-allowed, third-allowed, second-fits, third-fits, ends-accepted, ends-refused)
 
 pub answer-marking-triple-spec : {M : Type 1} → statement M
 answer-marking-triple-spec =
     tie.close
-    (tie.spec (λ c. first-allowed _ _ (c .before .before .pre) (c .if1 .taken))
-    (λ c. second-fits _ _ (c .before .before .pre) (c .if1 .taken))
-    (λ c. second-allowed _ _ (c .before .before .pre) (c .if1 .taken))
-    (λ c. third-fits _ _ (c .before .before .pre) (c .if1 .taken))
-    (λ c. third-allowed _ _ (c .before .before .pre) (c .if1 .taken)) returns)
+    (tie.spec (λ c. search steps) (λ c. search steps) (λ c. search steps) (λ c. search steps) (λ c. search steps)
+    (λ c. ⊎-elim (λ w. rw (w .1) (search steps)) (λ w. rw (w .1) (search steps)) (c .before .before .before .before .before .if1 .came)))
