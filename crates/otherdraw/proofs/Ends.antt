@@ -53,6 +53,7 @@ module _ (s : Shape) (ws posts draw out : List ℕ) (g : Finding s ws posts draw
           factor-length = sym (factor-lent v ev) ∙ ev;
           powers-length = sym (powers-lent f ef) ∙ ef;
           draw-length = g .draw-length;
+          draw-elements = g .draw-elements;
           out-length = g .out-length;
         }
 
@@ -85,6 +86,7 @@ module _ (n t points : ℕ) (ws draw : List ℕ) (secret wanted : ℕ) (posts ou
         few = elim (there .1) [ inl q ↦ absurd (ne q) | inr h ↦ h ];
         ws-length = there .0 .points-length;
         draw-length = there .0 .draw-length;
+        draw-elements = there .0 .draw-elements;
         out-length = out-fits n t points ws draw secret wanted posts out (sym e ∙ z);
       }
 

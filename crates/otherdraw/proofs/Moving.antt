@@ -6,32 +6,36 @@ use mathlib.Core.List.{List, [], _∷_, _++_}
 use native.Mathlib.Nat.{suc-mul, zero-mul}
 use native.Mathlib.Numerals.{add-one}
 use native.Mathlib.Omega.{arith}
-use lib.ListN.{length, take, drop, length-drop, length-append}
+use lib.ListN.{length, getD, take, drop, length-drop, length-append}
 use lib.Seq.{length-take-le, take-at}
 use Rattle.field.specs.Arithmetic.{difference, product}
 use Rattle.poly.specs.Polynomial.{value}
+use Rattle.poly.proofs.Lists.{all-at}
 use Rattle.shape.specs.declared.Shape.{Shape}
 use Rattle.shape.specs.Lengths.{fLength, vLength}
 use Rattle.session.specs.Rows.{combined}
 use Rattle.sums.proofs.Writers.{length-combined}
 use Rattle.vanishing.specs.Vanishing.{vanishing, distinct}
 use Rattle.vanishing.proofs.Vanish.{length-vanishing}
+use Rattle.vanishing.proofs.Theorems.{vanishes}
 use Rattle.otherdraw.specs.Other.{noPosts, otherF, otherVs, pointsOf, moved}
-use Rattle.otherdraw.specs.Between.{changed, vsWith, Changing, Seeing}
+use Rattle.otherdraw.specs.Between.{changed, vsWith, Rooted, Changing, Seeing}
 
 -- rooms written, and then read
 module _ (s : Shape) (δ : ℕ) (ws posts root draw known factor powers out k f new : List ℕ) (r : Seeing s ws posts root draw known factor powers out)
-    (ek : k ≡ pointsOf (s .points) ws posts) (ef : f ≡ vanishing (length factor) (distinct k)) where
+    (ρ : Rooted root posts) (ek : k ≡ pointsOf (s .points) ws posts) (ef : f ≡ vanishing (length factor) (distinct k)) where
   factor-long : length f ≡ length factor
   factor-long = ap length ef ∙ length-vanishing (length factor) (distinct k)
 
-  pub seen-changing : Changing (s .n) (length root) root f draw powers out
+  pub seen-changing : Changing (s .n) (length root) posts root f draw powers out
   seen-changing =
       record {
         most = r .gathering .valid .n-in .1;
         valued = (omega (arith, r .root-length, r .powers-length), omega (arith, r .root-length, r .gathering .valid .t-in, r .gathering .valid .n-in));
         long = r .draw-length ∙ ap₂ (λ (a b : ℕ). a + s .n * b) (sym (r .root-length)) (sym (factor-long ∙ r .factor-length));
         same = r .draw-length ∙ sym (r .out-length);
+        rooted = ρ;
+        elements = r .draw-elements;
       }
 
   pub seen-changed : new ≡ take (length root) out ++ vsWith (length f) root f δ draw (length root) 0 (s .n)
@@ -93,7 +97,7 @@ module _ (s : Shape) (δ : ℕ) (ws posts root draw known factor powers out o : 
   pub moved-room : length root ≤ length draw
   moved-room = room
 
-  pub moved-seeing : (r : List ℕ) → r ≡ vanishing (length root) posts → Seeing s ws posts r draw known factor powers o
+  moved-seeing : (r : List ℕ) → r ≡ vanishing (length root) posts → Seeing s ws posts r draw known factor powers o
   moved-seeing r er =
       record {
         gathering = g .gathering;
@@ -101,8 +105,19 @@ module _ (s : Shape) (δ : ℕ) (ws posts root draw known factor powers out o : 
         factor-length = g .factor-length;
         powers-length = g .powers-length;
         draw-length = g .draw-length;
+        draw-elements = g .draw-elements;
         out-length = sym o-long ∙ g .draw-length;
       }
+
+  moved-rooted : (r : List ℕ) → r ≡ vanishing (length root) posts → Rooted r posts
+  moved-rooted r er k h =
+      ap (λ (l : List ℕ). value l (getD posts k 0)) er
+      ∙ vanishes .at-each (length root) posts (omega (arith, g .gathering .few, g .root-length))
+      (λ i hi. let a = all-at (λ j. (1 ≤ j) × (j ≤ s .n)) posts i 0 hi (g .gathering .posts-in) in (a .0, omega (arith, a .1, g .gathering .valid .n-in)))
+      k h
+
+  pub moved-seen : (r : List ℕ) → r ≡ vanishing (length root) posts → Seeing s ws posts r draw known factor powers o × Rooted r posts
+  moved-seen r er = (moved-seeing r er, moved-rooted r er)
 
   pub moved-none : (new : List ℕ) → length posts < 1 → new ≡ take (length root) o ++ drop (length root) draw → new ≡ moved s posts (pointsOf (s .points) ws posts) δ draw
   unfolding moved

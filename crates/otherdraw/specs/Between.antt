@@ -1,11 +1,13 @@
 -- Between the functions of the code. No theorem is stated with these.
-use Prim.Native.Nat.{ℕ, zero, suc, _+_, _*_, _≤_}
+use Prim.Native.Nat.{ℕ, zero, suc, _+_, _*_, _≤_, _<_}
 use mathlib.Core.Path.{_≡_}
+use mathlib.Core.Bool.{Bool, _&&_}
 use mathlib.Core.List.{List, [], _++_}
-use lib.ListN.{length, take, drop}
+use lib.Dec.{eqb, ltb}
+use lib.ListN.{length, getD, take, drop}
 use Rattle.field.specs.Arithmetic.{difference, product}
 use Rattle.poly.specs.Polynomial.{value}
-use Rattle.poly.specs.Counting.{All}
+use Rattle.poly.specs.Counting.{All, Elements}
 use Rattle.shape.specs.declared.Shape.{Shape}
 use Rattle.shape.specs.Bounds.{mostPosts}
 use Rattle.shape.specs.Lengths.{Valid, fLength, vLength, checksLength, drawLength}
@@ -36,6 +38,14 @@ changed at scale factor draw out =
 abbrev pub scaleOf : ℕ → List ℕ → ℕ → ℕ
 scaleOf δ root i = difference 0 (product δ (value root (i + 1)))
 
+-- whether post i + 1 is the listed post at `next`
+unfoldable pub isNext : ℕ → ℕ → List ℕ → Bool
+isNext i next posts = ltb next (length posts) && eqb (getD posts next 0) (i + 1)
+
+-- `root` is 0 at each listed post
+abbrev pub Rooted : List ℕ → List ℕ → Type 0
+Rooted root posts = (k : ℕ) → k < length posts → value root (getD posts k 0) ≡ 0
+
 -- the v's of m posts from post i + 1 on, whose k coefficients stand in the draw from `at` on
 unfoldable pub vsWith : ℕ → List ℕ → List ℕ → ℕ → List ℕ → ℕ → ℕ → ℕ → List ℕ
 vsWith k root factor δ draw at i zero = []
@@ -47,11 +57,13 @@ abbrev pub Valued : List ℕ → List ℕ → Type 0
 Valued root powers = (length root ≤ length powers) × (length root ≤ mostPosts)
 
 -- what the v's are changed with
-pub record Changing (n first : ℕ) (root factor draw powers out : List ℕ) : Type 0 where
+pub record Changing (n first : ℕ) (posts root factor draw powers out : List ℕ) : Type 0 where
   pub most : n ≤ mostPosts
   pub valued : Valued root powers
   pub long : length draw ≡ first + n * length factor
   pub same : length draw ≡ length out
+  pub rooted : Rooted root posts
+  pub elements : Elements draw
 
 -- and where some posts are listed: the rooms have the right lengths
 pub record Seeing (s : Shape) (ws posts root draw known factor powers out : List ℕ) : Type 0 where
@@ -60,6 +72,7 @@ pub record Seeing (s : Shape) (ws posts root draw known factor powers out : List
   pub factor-length : length factor ≡ vLength s
   pub powers-length : length powers ≡ fLength s
   pub draw-length : length draw ≡ drawLength s
+  pub draw-elements : Elements draw
   pub out-length : length out ≡ drawLength s
 
 -- what the tests leave, where the secrets differ
@@ -69,6 +82,7 @@ pub record Finding (s : Shape) (ws posts draw out : List ℕ) : Type 0 where
   pub few : length posts ≤ s .t
   pub ws-length : length ws ≡ checksLength s
   pub draw-length : length draw ≡ drawLength s
+  pub draw-elements : Elements draw
   pub out-length : length out ≡ drawLength s
 
 -- rooms for so many posts, and for as many coefficients

@@ -10,7 +10,8 @@ ghost use Rattle.poly.specs.Polynomial.{value};
 ghost use Rattle.shape.specs.Bounds.{mostPosts};
 ghost use Rattle.vanishing.specs.Vanishing.{vanishing, distinct};
 ghost use Rattle.otherdraw.specs.Other.{pointsOf, moved};
-ghost use Rattle.otherdraw.specs.Between.{handed, changed, scaleOf, vsWith, Valued, Gathering, Changing, Seeing};
+ghost use Rattle.poly.specs.Counting.{Elements};
+ghost use Rattle.otherdraw.specs.Between.{handed, changed, scaleOf, isNext, vsWith, Valued, Rooted, Gathering, Changing, Seeing};
 
 // So few coefficients go by Horner's rule: their powers would take longer.
 const FEW: usize = 3;
@@ -69,24 +70,45 @@ fn scale_at(i: usize, delta: u32, root: &[u32], powers: &mut [u32]) -> u32
     field::sub(0, field::mul(delta, value_at(post, root, powers)))
 }
 
-// The v of post i + 1 changed, which stands from `at` on.
+// Whether post i + 1 is the next of the listed posts.
+fn is_next(i: usize, next: usize, posts: &[u32]) -> bool
+    requires { ⌜ i < mostPosts ⌝ }
+    ensures { λ r. ⌜ r ≡ isNext i next (now (posts .entry)) ⌝ }
+{
+    if posts.len() <= next {
+        return false;
+    }
+    if checks::wide(posts[next]) == i + 1 {
+        return true;
+    }
+    false
+}
+
+// The v of post i + 1, which stands from `at` on: a listed post's is kept, since f changes by 0 there. Gives the place of the next listed post.
 fn change_v(
     i: usize,
     at: usize,
+    next: usize,
     delta: u32,
+    posts: &[u32],
     root: &[u32],
     factor: &[u32],
     draw: &[u32],
     powers: &mut [u32],
     out: &mut [u32],
-)
+) -> usize
     requires { ⌜ Valued (now root) (now powers) × (i < mostPosts) × (at + length (now factor) ≤ length (now draw))
-        × (length (now draw) ≡ length (now out)) ⌝ }
+        × (length (now draw) ≡ length (now out)) × Rooted (now root) (now posts) × Elements (now draw) ⌝ }
     ensures { λ r. ⌜ now (out .exit)
         ≡ changed at (scaleOf delta (now (root .entry)) i) (now (factor .entry)) (now (draw .entry)) (now (out .entry)) ⌝ }
 {
+    if is_next(i, next, posts) {
+        hand(factor.len(), at, at, draw, out);
+        return next + 1;
+    }
     let scale = scale_at(i, delta, root, powers);
     change_part(at, scale, factor, draw, out);
+    next
 }
 
 // The v's of n posts changed, the first of which stands from `first` on.
@@ -94,20 +116,22 @@ fn change_vs(
     n: usize,
     first: usize,
     delta: u32,
+    posts: &[u32],
     root: &[u32],
     factor: &[u32],
     draw: &[u32],
     powers: &mut [u32],
     out: &mut [u32],
 )
-    requires { ⌜ Changing n first (now root) (now factor) (now draw) (now powers) (now out) ⌝ }
+    requires { ⌜ Changing n first (now posts) (now root) (now factor) (now draw) (now powers) (now out) ⌝ }
     ensures { λ r. ⌜ now (out .exit)
         ≡ take first (now (out .entry))
         ++ vsWith (length (now (factor .entry))) (now (root .entry)) (now (factor .entry)) delta (now (draw .entry)) first 0 n ⌝ }
 {
     let mut at = first;
+    let mut next = 0;
     for i in 0..n {
-        change_v(i, at, delta, root, factor, draw, powers, out);
+        next = change_v(i, at, next, delta, posts, root, factor, draw, powers, out);
         at += factor.len();
     }
 }
@@ -125,7 +149,8 @@ fn change_seen(
     powers: &mut [u32],
     out: &mut [u32],
 )
-    requires { ⌜ Seeing shape (now ws) (now posts) (now root) (now draw) (now known) (now factor) (now powers) (now out) ⌝ }
+    requires { ⌜ Seeing shape (now ws) (now posts) (now root) (now draw) (now known) (now factor) (now powers) (now out)
+        × Rooted (now root) (now posts) ⌝ }
     ensures { λ r. ⌜ now (out .exit)
         ≡ take (length (now (root .entry))) (now (out .entry))
         ++ vsWith (length (now (factor .entry))) (now (root .entry))
@@ -136,7 +161,7 @@ fn change_seen(
     let first = root.len();
     gather(shape, ws, posts, known);
     vanishing::vanish_at_each(known, factor);
-    change_vs(n, first, delta, root, factor, draw, powers, out);
+    change_vs(n, first, delta, posts, root, factor, draw, powers, out);
 }
 
 // f changed: by delta times the product of 1 - z/j over the listed posts, which `root` then holds.

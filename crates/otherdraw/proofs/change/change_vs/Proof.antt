@@ -8,12 +8,12 @@ use Rattle.otherdraw.proofs.change.change_vs.Statement.{statement}
 use Rattle.otherdraw.proofs.change.change_vs.Tie as tie
 
 abbrev Inv-loop : tie.InvT-loop
-Inv-loop n first delta root factor draw powers₀ out₀ at₀ i₀ powers out at i =
+Inv-loop n first delta posts root factor draw powers₀ out₀ at₀ next₀ i₀ powers out at next i =
     (i ≤ n) × (at ≡ first + i * length factor) × (length powers ≡ length powers₀) × (length draw ≡ length out)
     × Standing n (length factor) root factor delta draw first out₀ out at i
 
 abbrev μ-loop : tie.MeasureT-loop
-μ-loop n first delta root factor draw powers₀ out₀ at₀ i₀ powers out at i = n - i
+μ-loop n first delta posts root factor draw powers₀ out₀ at₀ next₀ i₀ powers out at next i = n - i
 
 ruleset turns = (needs, vs-start, vs-room, vs-fits)
 

@@ -1,6 +1,6 @@
 -- `change::move_draw` meets its contract.
 use borrow.Author.Needs.{needs}
-use Rattle.otherdraw.proofs.Moving.{o-long, moved-room, moved-seeing, moved-none, moved-some}
+use Rattle.otherdraw.proofs.Moving.{o-long, moved-room, moved-seen, moved-none, moved-some}
 use Rattle.otherdraw.proofs.change.move_draw.Statement.{statement}
 use Rattle.otherdraw.proofs.change.move_draw.Tie as tie
 
@@ -9,7 +9,7 @@ ruleset steps = (needs, o-long, moved-room, moved-none, moved-some)
 change-seen-requires : tie.Need-change-seen-requires
 change-seen-requires c κs =
     let f = c .before .before .before .before .before .before .before .before .before .before .change-f .ensures in
-    moved-seeing _ _ _ _ _ _ _ _ _ _ _ (c .before .before .before .before .before .before .before .before .before .before .before .before .before .before .before .before .before .before .before .before .before .pre) (f .1) _ (f .0)
+    moved-seen _ _ _ _ _ _ _ _ _ _ _ (c .before .before .before .before .before .before .before .before .before .before .before .before .before .before .before .before .before .before .before .before .before .pre) (f .1) _ (f .0)
 
 pub move-draw-spec : {M : Type 1} → statement M
 move-draw-spec =
