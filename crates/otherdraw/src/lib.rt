@@ -1,7 +1,7 @@
 // The draw behind another secret: the works' testers look at what a stolen set of posts gives away.
 //
-// Its time depends on the check points of the listed posts, whose inverses it takes, and on how many posts are listed; the works knows
-// them. It is no call of a post.
+// Its time depends on the listed posts and on their check points, whose inverses it takes; the works knows them. It is no call of a
+// post.
 use shape::Shape;
 ghost use mathlib.Core.Path.{_≡_};
 ghost use Prim.Native.Nat.{_≤_};
