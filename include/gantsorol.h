@@ -325,7 +325,8 @@ typedef struct gantsorol_session {
     uint32_t y_a[GANTSOROL_ROWS];
     uint32_t y_b[GANTSOROL_ROWS];
     /* the posts that may not call for a row's opening, GANTSOROL_SET_LEN numbers of 32 bits a row: post j is barred from
-       row r where bit (j - 1) % 32 of barred[GANTSOROL_SET_LEN * r + (j - 1) / 32] is 1; gantsorol_may_call asks it */
+       row r where bit (j - 1) % 32 of barred[GANTSOROL_SET_LEN * r + (j - 1) / 32] is 1; gantsorol_may_call asks it. A row
+       that is made from others has the or of all their 256 bits, those above n too */
     uint32_t barred[GANTSOROL_SETS_LEN];
 } gantsorol_session;
 

@@ -85,3 +85,38 @@ fn a_wrong_picture_is_seen() {
     wrong.push("nothing".into());
     assert_eq!(faults(&wrong, &listed), ["nothing is not in crates.txt"]);
 }
+
+/// Names and layers of `crates.txt` from its last line to its first: a layer's name as `# name`, behind its crates there.
+fn from_above() -> Vec<String> {
+    let list = text("crates.txt");
+    let mut layers: Vec<Vec<String>> = vec![];
+    for line in list.lines().skip(2) {
+        match line.split_once(':') {
+            None => layers.push(vec![line.to_string()]),
+            Some((name, _)) => {
+                layers.last_mut().expect("a layer's name comes first").insert(1, name.to_string())
+            }
+        }
+    }
+    layers.into_iter().rev().flatten().collect()
+}
+
+/// `crates.txt` is the same list from below, with the same layers.
+#[test]
+fn crates_txt_has_the_layers_of_the_readme() {
+    let readme = text("README.md");
+    let (_, section) = readme.split_once("\n## The crates\n").expect("README.md has the section");
+    let section = section.split("\n## ").next().unwrap_or_default();
+    let mut pictured = vec![];
+    for line in section.lines().filter_map(|line| line.strip_prefix("    ")) {
+        let cells = line.split("  ").map(str::trim).filter(|cell| !cell.is_empty());
+        let mut cells = cells.peekable();
+        if !line.starts_with(' ') {
+            pictured.extend(cells.next().map(|layer| format!("# {layer}")));
+        }
+        pictured.extend(
+            cells.next().into_iter().flat_map(|names| names.split(", ")).map(str::to_string),
+        );
+    }
+    assert_eq!(from_above(), pictured);
+}
