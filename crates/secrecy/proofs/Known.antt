@@ -9,7 +9,7 @@ use Rattle.poly.specs.Counting.{All}
 use Rattle.refusal.specs.Refusal.{outcome}
 use Rattle.forms.specs.Lines as Line
 use Rattle.forms.specs.Lines.{text}
-use Rattle.dealers.specs.State.{dealerCount, newState, chosen, lineIn}
+use Rattle.dealers.specs.State.{dealerCount, chosen, lineIn}
 use Rattle.dealers.specs.Calls.{takenRefusal, saidRow, saidNumber, whose}
 use Rattle.dealers.proofs.Turns.{chosen-dealer}
 use Rattle.runs.specs.Draws.{Plan, Draw, Sound}
@@ -122,5 +122,5 @@ book-knows plan group rows os u R sound g same d s i lo hi z =
         (subst SameAnswers (sym (entries-are plan group rows os R sound (g .members) same u d s)) same) i lo hi))
 
 pub starts-new : StartsNew
-unfolding newDesk newState
+unfolding newDesk
 starts-new = record { state = λ plan draw rows i. refl; last = refl; none-waits = λ d. refl }
