@@ -283,8 +283,8 @@ pub fn access(session: Session, line: &[u8]) -> Answer
 {
     let own = settings(session);
     let read = read_line(line, session.n);
-    let held = session.marks;
-    let mark = session::checks::wrong_mark(&held, read.row, shape::RAW);
+    let all_marks = session.marks;
+    let mark = session::checks::wrong_mark(&all_marks, read.row, shape::RAW);
     let refusal = refusal::or_else(own, refusal::or_else(read.refusal, mark));
     let mut barred = session.barred;
     let words = read.words;

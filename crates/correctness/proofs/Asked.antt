@@ -1,6 +1,6 @@
 -- What demand 2's premises ask of a call is what specs/Asked.antt says, and no more.
 use Prim.Native.Nat.{ℕ, suc, _+_, _*_}
-use mathlib.Core.Path.{_≡_}
+use mathlib.Core.Path.{_≡_, refl}
 use mathlib.Core.List.{List, [], _∷_, _++_}
 use lib.ListN.{length}
 use Rattle.poly.specs.Counting.{All}
@@ -9,12 +9,13 @@ use Rattle.terms.specs.Listed.{productsOf}
 use Rattle.runs.specs.Draws.{Plan, Draw}
 use Rattle.runs.specs.Outline.{Move, loadRow, loadTriple, deal, message, opening, linear, masks, collect, multiply, relationMasks, relationFinish, access, cut, factoring, finishing, summing, takes, Every}
 use Rattle.runs.specs.Calls.{Actual, Post, Call}
+use Rattle.runs.specs.Orders.{Comes, noCall, aCall, Asked, comesTo}
 use Rattle.runs.proofs.Outlines.{all-every}
-use Rattle.correctness.specs.History.{World}
+use Rattle.correctness.specs.History.{World, desk}
 use Rattle.correctness.specs.Ledger.{Ledger, product, WrittenBy, Written}
 use Rattle.correctness.specs.Truth.{OwnWith, OwnPart, TrueWith, TrueFinish}
 use Rattle.correctness.specs.Relation.{SumIn, EachAt}
-use Rattle.correctness.specs.Asked.{PartAsked, LedgerAsked, BothTrue, TruthAsked, PremisesAsk}
+use Rattle.correctness.specs.Asked.{PartAsked, LedgerAsked, BothTrue, TruthAsked, PremisesAsk, RunsAsk}
 
 -- P of every act of a relation's calls
 module _ (P : Move Actual → Type 0) where
@@ -132,3 +133,10 @@ module _ (S : ℕ → Type 0) (w : World) (q : Post) where
 
 pub premises-ask : PremisesAsk
 premises-ask plan draw L S w i q c = record { part = part-asked plan draw i c; ledger = ledger-asked draw L c; truth = truth-asked S w q c }
+
+asked-of : {P : Call → Type 0} (x : Comes Actual) → ((c : Call) → x ≡ aCall c → P c) → Asked P x
+asked-of noCall h = tt
+asked-of (aCall c) h = h c refl
+
+pub runs-ask : RunsAsk
+runs-ask S P = record { ends = λ w. tt; next = λ e es w h rest. (λ s z. asked-of (comesTo (e .order) (desk w (e .post))) (h s z), rest) }

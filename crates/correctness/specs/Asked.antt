@@ -4,7 +4,7 @@
 use Prim.Native.Nat.{ℕ, _+_, _*_, _<_}
 use mathlib.Core.Path.{_≡_}
 use mathlib.Core.Bool.{true}
-use mathlib.Core.List.{List}
+use mathlib.Core.List.{List, [], _∷_}
 use lib.ListN.{length, take, drop, getD}
 use Rattle.field.specs.Modulus.{p}
 use Rattle.poly.specs.Counting.{All}
@@ -16,7 +16,8 @@ use Rattle.terms.specs.Listed.{productsOf}
 use Rattle.runs.specs.Draws.{Plan, Draw, IsRaw, rawDraw, rawPack, triplePack}
 use Rattle.runs.specs.Outline.{loadRow, loadTriple, deal, message, opening, linear, masks, collect, multiply, relationMasks, relationFinish, access, cut}
 use Rattle.runs.specs.Calls.{Post, Call}
-use Rattle.correctness.specs.History.{World}
+use Rattle.runs.specs.Orders.{aCall, comesTo}
+use Rattle.correctness.specs.History.{World, Event, answerOf, step, desk, Each}
 use Rattle.correctness.specs.Ledger.{Ledger, dealt, sum, product, Written}
 use Rattle.correctness.specs.Truth.{OwnPart, TrueMask, EnoughTrue, TrueFinish}
 use Rattle.correctness.specs.Relation.{SumIn, EachAt}
@@ -83,3 +84,13 @@ pub record AsksOnly (plan : Plan) (draw : Draw) (L : Ledger) (S : ℕ → Type 0
 abbrev pub PremisesAsk : Type 1
 PremisesAsk =
     (plan : Plan) (draw : Draw) (L : Ledger) (S : ℕ → Type 0) (w : World) (i : ℕ) (q : Post) (c : Call) → AsksOnly plan draw L S w i q c
+
+-- Of a run: of each order of the posts S that is not refused what is asked of the call that it comes to, and of nothing else.
+pub record RunAsks (S : ℕ → Type 0) (P : ℕ → Call → World → Type 0) : Type 0 where
+  pub ends : (w : World) → Each S P [] w
+  pub next : (e : Event) (es : List Event) (w : World)
+      → (S (e .post) → answerOf e w .refusal ≡ 0 → (c : Call) → comesTo (e .order) (desk w (e .post)) ≡ aCall c → P (e .post) c w)
+      → Each S P es (step e w) → Each S P (e ∷ es) w
+
+abbrev pub RunsAsk : Type 1
+RunsAsk = (S : ℕ → Type 0) (P : ℕ → Call → World → Type 0) → RunAsks S P

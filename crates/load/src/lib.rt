@@ -44,8 +44,8 @@ pub fn load_row(session: Session, rows: &mut [u32], row: usize, pack: &[u32]) ->
     ensures { λ r. ⌜ r ≡ loadRowAnswer session (now (rows .entry)) row (now (pack .entry)) ⌝ }
     ensures { λ r. ⌜ now (rows .exit) ≡ loadRowRows session (now (rows .entry)) row (now (pack .entry)) ⌝ }
 {
-    let held = session.marks;
-    let marks = session::checks::wrong_mark(&held, row, shape::EMPTY);
+    let all_marks = session.marks;
+    let marks = session::checks::wrong_mark(&all_marks, row, shape::EMPTY);
     let refusal = load_row_refusal(session, rows, row, pack, marks);
     load_row_rows(session, rows, row, pack, refusal);
     session.answer_marking(refusal, row, shape::RAW)
@@ -104,8 +104,8 @@ pub fn load_triple(session: Session, rows: &mut [u32], first: usize, pack: &[u32
     ensures { λ r. ⌜ r ≡ loadTripleAnswer session (now (rows .entry)) first (now (pack .entry)) ⌝ }
     ensures { λ r. ⌜ now (rows .exit) ≡ loadTripleRows session (now (rows .entry)) first (now (pack .entry)) ⌝ }
 {
-    let held = session.marks;
-    let marks = full_triple(&held, first);
+    let all_marks = session.marks;
+    let marks = full_triple(&all_marks, first);
     let refusal = load_triple_refusal(session, rows, first, pack, marks);
     load_triple_rows(session, rows, first, pack, refusal);
     let further = shape::FURTHER;

@@ -59,8 +59,8 @@ fn not_called(session: Session, row: usize, caller: usize) -> u8
 fn message_refusal(session: Session, rows: &[u32], row: usize, caller: usize, out: &[u32]) -> u8
     ensures { λ r. ⌜ r ≡ messageRefusal session (now (rows .entry)) row caller (now (out .entry)) ⌝ }
 {
-    let held = session.marks;
-    let marks = session::checks::wrong_mark(&held, row, shape::HELD);
+    let all_marks = session.marks;
+    let marks = session::checks::wrong_mark(&all_marks, row, shape::HELD);
     let refusal = message_checks(session, rows, row, out, marks);
     if refusal != 0 {
         return refusal;

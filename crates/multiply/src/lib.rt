@@ -42,21 +42,21 @@ fn multiply_marks(session: Session, row: usize) -> u8
     requires { ⌜ row ≤ lastTriple ⌝ }
     ensures { λ r. ⌜ r ≡ first (multiplyMarks session row) ⌝ }
 {
-    let held = session.marks;
+    let all_marks = session.marks;
     let factors_a = session.factor_a;
     let factors_b = session.factor_b;
     let a = factors_a[row] as usize;
     let b = factors_b[row] as usize;
     let triple = session::checks::wrong_marks(
-        &held,
+        &all_marks,
         row,
         shape::COLLECTED,
         shape::FURTHER,
         shape::FURTHER,
     );
     let factors = refusal::or_else(
-        session::checks::wrong_mark(&held, a, shape::HELD),
-        session::checks::wrong_mark(&held, b, shape::HELD),
+        session::checks::wrong_mark(&all_marks, a, shape::HELD),
+        session::checks::wrong_mark(&all_marks, b, shape::HELD),
     );
     refusal::or_else(triple, factors)
 }
@@ -117,10 +117,10 @@ pub fn multiply(session: Session, rows: &mut [u32], first: usize) -> Answer
     ensures { λ r. ⌜ r ≡ multiplyAnswer session (now (rows .entry)) first ⌝ }
     ensures { λ r. ⌜ now (rows .exit) ≡ multiplyRows session (now (rows .entry)) first ⌝ }
 {
-    let held_a = session.y_a;
-    let held_b = session.y_b;
-    let y_a = number(&held_a, first);
-    let y_b = number(&held_b, first);
+    let opened_a = session.y_a;
+    let opened_b = session.y_b;
+    let y_a = number(&opened_a, first);
+    let y_b = number(&opened_b, first);
     let refusal = multiply_refusal(session, rows, first, y_a, y_b);
     multiply_rows(session, rows, first, y_a, y_b, refusal);
     session.answer_multiplying(refusal, first)

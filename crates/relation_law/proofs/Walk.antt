@@ -19,7 +19,7 @@ use Rattle.session.proofs.RowLaws.{length-row}
 use Rattle.opening.specs.Walking.{recordLength}
 use Rattle.product_masks.proofs.Passed.{Factored}
 use Rattle.multiply.specs.Multiply.{withProduct}
-use Rattle.product.specs.Claims.{Whole}
+use Rattle.product_law.specs.Claims.{Whole}
 use Rattle.terms.specs.declared.Term.{Term}
 use Rattle.terms.specs.Listed.{productsOf, collected, termsOf, factorsOf}
 use Rattle.terms.proofs.Placing.{terms-again, factors-again}

@@ -5,7 +5,7 @@ use mathlib.Core.Path.{_≡_}
 use mathlib.Core.List.{List}
 use Rattle.session.specs.declared.Session.{Session}
 use Rattle.session.specs.Sessions.{summedRow}
-use Rattle.product.specs.Claims.{Whole}
+use Rattle.product_law.specs.Claims.{Whole}
 use Rattle.terms.specs.declared.Term.{Term}
 use Rattle.terms.specs.Listed.{productsOf, collected}
 use Rattle.relation.specs.Masks.{relationMasksAnswer, relationMasksOut}

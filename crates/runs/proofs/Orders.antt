@@ -11,7 +11,7 @@ use Rattle.dealers.specs.State.{chosen, lineIn}
 use Rattle.dealers.specs.Calls.{countRefusal, takenRefusal, saidRow, saidNumber, takenAnswer, takenRows, countedAnswer, countedRows, whose}
 use Rattle.runs.specs.Outline.{sends}
 use Rattle.runs.specs.Calls.{Actual, Call, Post, deal, Performed, performed, perform, after, broadcast}
-use Rattle.runs.specs.Orders.{call, place, turn, carry, Comes, noCall, aCall, saidCall, turnCall, OrdersCome}
+use Rattle.runs.specs.Orders.{call, place, turn, carry, Comes, noCall, aCall, saidCall, turnCall, OrdersCome, StateLeft}
 
 -- what was done, the call that it comes to, and the post before
 record Is (o : Performed) (m : Comes Actual) (q : Post) : Type 0 where
@@ -78,3 +78,7 @@ orders-come (place d line) q =
 orders-come turn q =
     let h = is-turn (q .post .session) (q .post .rows) (q .state) (countRefusal (q .post .session) (q .post .rows) (q .state)) in
     record { none = h .none; one = h .one; quiet = λ i e. refl; told = λ i c e. no-parts i c (perform c (q .post)) (h .quiet c e) }
+
+pub state-left : StateLeft
+unfolding carry
+state-left = record { by-call = λ c q. refl; by-place = λ d line q. refl; by-turn = λ q. refl }

@@ -94,3 +94,9 @@ pub record ComesToIt (o : Order) (q : Desk) : Type 0 where
 
 abbrev pub OrdersCome : Type 0
 OrdersCome = (o : Order) (q : Desk) → ComesToIt o q
+
+-- The state that each order leaves, by the definitions that the contracts of placing and of a turn cite; a call leaves it as it is.
+pub record StateLeft : Type 0 where
+  pub by-call : (c : Call) (q : Desk) → carry (call c) q .state ≡ q .state
+  pub by-place : (d : ℕ) (line : List ℕ) (q : Desk) → carry (place d line) q .state ≡ placeAfter (q .state) d line
+  pub by-turn : (q : Desk) → carry turn q .state ≡ turnState (q .post .session) (q .post .rows) (q .state)

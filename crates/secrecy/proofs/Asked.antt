@@ -1,5 +1,6 @@
 -- What the rules ask of a call is what specs/Asked.antt says, and no more.
 use Prim.Native.Nat.{ℕ, suc, _+_, _*_}
+use mathlib.Core.Path.{_≡_, refl}
 use mathlib.Core.List.{List, [], _∷_, _++_}
 use lib.ListN.{length}
 use Rattle.poly.specs.Counting.{All}
@@ -7,10 +8,12 @@ use Rattle.terms.specs.declared.Term.{Term}
 use Rattle.terms.specs.Listed.{productsOf}
 use Rattle.runs.specs.Draws.{Plan}
 use Rattle.runs.specs.Outline.{Move, loadRow, loadTriple, deal, message, opening, linear, masks, collect, multiply, relationMasks, relationFinish, access, factoring, finishing, summing, takes}
+use Rattle.runs.specs.Orders.{Comes, noCall, aCall, Asked}
 use Rattle.runs.proofs.Outlines.{all-every}
 use Rattle.secrecy.specs.Steps.{Fixed, Record, Step}
-use Rattle.secrecy.specs.Rules.{RuleWith, Rule}
-use Rattle.secrecy.specs.Asked.{TermsSent, RuleAsked, RulesAsk}
+use Rattle.secrecy.specs.Waiting.{comesOf}
+use Rattle.secrecy.specs.Rules.{RuleWith, Rule, refusalOf}
+use Rattle.secrecy.specs.Asked.{TermsSent, RuleAsked, RulesAsk, RulesOfLists}
 
 module _ (plan : Plan) (k : ℕ) (lines : List (List ℕ)) where
   abbrev Kept : Move Fixed → Type 0
@@ -52,3 +55,15 @@ module _ (plan : Plan) (k : ℕ) (lines : List (List ℕ)) where
 
 pub rules-ask : RulesAsk
 rules-ask plan k lines c h = rule-asked plan k lines c h
+
+asked-of : {P : Step → Type 0} (x : Comes Fixed) → ((c : Step) → x ≡ aCall c → P c) → Asked P x
+asked-of noCall h = tt
+asked-of (aCall c) h = h c refl
+
+pub rules-of-lists : RulesOfLists
+rules-of-lists plan =
+    record {
+      ends = λ es lines w. tt;
+      unanswered = λ o os lines w. tt;
+      next = λ o os e es lines w h rest. (asked-of (comesOf w o) (λ c q. rules-ask plan (refusalOf e) lines c (h c q)), rest);
+    }

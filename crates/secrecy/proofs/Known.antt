@@ -20,7 +20,7 @@ use Rattle.secrecy.specs.Seen.{Entry, dealLines, orderAt, newDesk, doneA
 use Rattle.secrecy.specs.Waiting.{Slot, free, filled, isFilled, Waiting, noneWaiting, nextOf, waitingAfter, slotCall, comesOf}
 use Rattle.secrecy.specs.Rules.{SameAnswers, refusalOf}
 use Rattle.secrecy.specs.Claim.{desksOf}
-use Rattle.secrecy.specs.Known.{waitingAll, Has, madeAt, BookKnows}
+use Rattle.secrecy.specs.Known.{waitingAll, Has, madeAt, BookKnows, StartsNew}
 use Rattle.secrecy.proofs.Frames.{frame}
 use Rattle.secrecy.proofs.Places.{Kept, InPlace, chosen-is}
 use Rattle.secrecy.proofs.Doings.{turnDoing}
@@ -120,3 +120,7 @@ book-knows plan group rows os u R sound g same d s i lo hi z =
         (entries-are plan group rows os R sound (g .members) same u d s)
         (kept-all plan group d u sound (number-low plan d u) (g .members) os (dealLines plan d u) (desks plan group rows os R d) _ noneWaiting (λ j a b. start-kept plan group rows os R u d j)
         (subst SameAnswers (sym (entries-are plan group rows os R sound (g .members) same u d s)) same) i lo hi))
+
+pub starts-new : StartsNew
+unfolding newDesk
+starts-new = record { state = λ plan draw rows i. refl; last = refl; none-waits = λ d. refl }

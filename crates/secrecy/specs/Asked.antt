@@ -3,7 +3,7 @@
 use Prim.Native.Nat.{ℕ, suc, _+_, _*_, _≤_}
 use mathlib.Core.Path.{_≡_}
 use mathlib.Core.Bool.{true}
-use mathlib.Core.List.{List, [], _∷_}
+use mathlib.Core.List.{List, [], _∷_, _++_}
 use lib.ListN.{length, take, drop}
 use Rattle.shape.specs.Lengths.{vLength}
 use Rattle.terms.specs.declared.Term.{Term}
@@ -11,8 +11,11 @@ use Rattle.terms.specs.Listed.{productsOf}
 use Rattle.runs.specs.Draws.{Plan, IsRaw, planShape}
 use Rattle.runs.specs.Outline.{loadRow, loadTriple, deal, message, opening, linear, masks, collect, multiply, relationMasks, relationFinish, access, cut}
 use Rattle.runs.specs.Calls.{Told, ToldHalf}
-use Rattle.secrecy.specs.Steps.{its, Record, Step}
-use Rattle.secrecy.specs.Rules.{FromDealer, OnlySent, Walks, Rule}
+use Rattle.runs.specs.Orders.{aCall}
+use Rattle.secrecy.specs.Steps.{its, Record, Step, Item}
+use Rattle.secrecy.specs.Seen.{Entry}
+use Rattle.secrecy.specs.Waiting.{Waiting, waitingAfter, comesOf}
+use Rattle.secrecy.specs.Rules.{FromDealer, OnlySent, Walks, Rule, refusalOf, heardOf, Rules}
 
 -- Records of the two masks of the triple at r show what their senders broadcast for that factor of that triple.
 abbrev pub BothSent : Plan → List (List ℕ) → ℕ → (ℕ → List ℕ) → (ℕ → List ℕ) → Type 0
@@ -45,3 +48,15 @@ RuleAsked plan k lines (relationFinish x) =
 
 abbrev pub RulesAsk : Type 0
 RulesAsk = (plan : Plan) (k : ℕ) (lines : List (List ℕ)) (c : Step) → RuleAsked plan k lines c → Rule plan c k lines
+
+-- Of a list nothing where it ends, and then of each order what is asked of the call that it comes to: of lines placed and turns themselves
+-- nothing is asked, and of a call that none of the record's answers belongs to neither.
+pub record ListAsked (plan : Plan) : Type 0 where
+  pub ends : (es : List Entry) (lines : List (List ℕ)) (w : Waiting) → Rules plan [] es lines w
+  pub unanswered : (o : Item) (os : List Item) (lines : List (List ℕ)) (w : Waiting) → Rules plan (o ∷ os) [] lines w
+  pub next : (o : Item) (os : List Item) (e : Entry) (es : List Entry) (lines : List (List ℕ)) (w : Waiting)
+      → ((c : Step) → comesOf w o ≡ aCall c → RuleAsked plan (refusalOf e) lines c)
+      → Rules plan os es (lines ++ heardOf o e) (waitingAfter o (refusalOf e) w) → Rules plan (o ∷ os) (e ∷ es) lines w
+
+abbrev pub RulesOfLists : Type 0
+RulesOfLists = (plan : Plan) → ListAsked plan

@@ -3,7 +3,7 @@
 use Prim.Native.Nat.{ℕ, _*_, _-_, _≤_}
 use mathlib.Core.Path.{_≡_}
 use mathlib.Core.List.{List, [], _∷_}
-use lib.ListN.{length, getD}
+use lib.ListN.{length, getD, replicate}
 use Rattle.refusal.specs.Refusal.{first}
 use Rattle.session.specs.Checks.{frameTests}
 use Rattle.dealers.specs.State.{lineIn}
@@ -11,7 +11,7 @@ use Rattle.runs.specs.Draws.{Plan, Draw, Sound}
 use Rattle.runs.specs.Calls.{Actual}
 use Rattle.runs.specs.Orders.{Desk, Comes, noCall, aCall, comesTo}
 use Rattle.secrecy.specs.Steps.{Secrets, Fixed, Item, callAt}
-use Rattle.secrecy.specs.Seen.{Entry, Seen, lineAt, orderAt}
+use Rattle.secrecy.specs.Seen.{Entry, Seen, lineAt, orderAt, newDesk}
 use Rattle.secrecy.specs.Waiting.{Slot, free, filled, Waiting, noneWaiting, waitingAfter, comesOf}
 use Rattle.secrecy.specs.Rules.{SameAnswers, refusalOf}
 use Rattle.secrecy.specs.Claim.{Group, Shows, desksOf}
@@ -45,3 +45,9 @@ BookKnows =
     → SameAnswers (R .entries) → (d : Draw) → Shows plan group rows os u R d → (i : ℕ) → 1 ≤ i → i ≤ plan .n
     → (let q = desksOf plan rows os R u d i in
     first (frameTests (q .post .session) (q .post .rows)) ≡ 0 → Knows plan d u (waitingAll os (R .entries) noneWaiting) i q)
+
+-- "For demand 3 it starts new": 8 as last served, then zeros; and so does the book.
+pub record StartsNew : Type 0 where
+  pub state : (plan : Plan) (draw : Draw) (rows : List ℕ) (i : ℕ) → newDesk plan draw rows i .state ≡ 8 ∷ replicate 136 0
+  pub last : noneWaiting .last ≡ 8
+  pub none-waits : (d : ℕ) → noneWaiting .slot d ≡ free
