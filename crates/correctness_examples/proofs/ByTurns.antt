@@ -12,10 +12,6 @@ use Rattle.correctness_examples.specs.Turns.{states, events, new, opener
 use Rattle.correctness_examples.proofs.Computing.{Computes, sound, each-quiet}
 use Rattle.correctness_examples.proofs.Example.{draw-is}
 
-pub by-turns : ByTurns
-unfolding Computes plan drawWith drawn draw events refusals
-by-turns = record { long = refl; answers = refl; held = (refl, refl, refl); opens = refl }
-
 -- a turn that deals is asked for what a deal is; a turn that does not, and a line placed, for nothing
 premises : Premises plan draw ledger Everyone events zeros states
 unfolding Computes plan drawWith drawn draw events ledger
@@ -50,6 +46,10 @@ premises = record {
   );
   finishes = each-quiet Everyone Everyone events new tt;
 }
+
+pub by-turns : ByTurns
+unfolding Computes plan drawWith drawn draw events refusals
+by-turns = record { premises = premises; long = refl; answers = refl; held = (refl, refl, refl); opens = refl }
 
 by-theorem : (openAnswer (opener .session) (opener .rows) 0 blocks .refusal ≡ 0) × Plain ledger 0 (openAnswer (opener .session) (opener .rows) 0 blocks .value)
 unfolding Computes plan drawWith drawn draw events

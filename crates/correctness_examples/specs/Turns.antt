@@ -10,7 +10,8 @@ use Rattle.dealers.specs.State.{newState}
 use Rattle.runs.specs.Calls.{Post, message}
 use Rattle.runs.specs.Orders.{place, turn}
 use Rattle.correctness.specs.History.{Event, World, history, begin}
-use Rattle.correctness_examples.specs.Station.{plan, call, load, dealOf, zeros, room, refusals}
+use Rattle.correctness.specs.Claim.{Premises}
+use Rattle.correctness_examples.specs.Station.{plan, ledger, Everyone, call, load, dealOf, zeros, room, refusals}
 use Rattle.correctness_examples.specs.Run.{draw}
 
 -- `D,0,2147483646`: row 0's dealer has 6, and f(0) is 7
@@ -54,6 +55,8 @@ abbrev pub blocks : List ℕ
 blocks = 0 ∷ 0 ∷ 0 ∷ 1 ∷ 3 ∷ 1 ∷ 0 ∷ 0 ∷ 0 ∷ []
 
 pub record ByTurns : Type 0 where
+  -- all that the theorem asks holds of the run
+  pub premises : Premises plan draw ledger Everyone events zeros states
   pub long : length waiting ≡ 137
   pub answers : refusals events new ≡ 0 ∷ 0 ∷ 0 ∷ 0 ∷ 0 ∷ 0 ∷ 10 ∷ 0 ∷ 0 ∷ 16 ∷ 16 ∷ 0 ∷ 0 ∷ []
   -- each post holds row 0

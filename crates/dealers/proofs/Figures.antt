@@ -7,6 +7,7 @@ use native.Mathlib.Omega.{arith}
 use lib.ListN.{length, getD, replicate, length-append, length-set}
 use lib.Seq.{getD-set-other}
 use Rattle.refusal.specs.Refusal.{outcome}
+use Rattle.refusal.proofs.Laws.{all-fail, equal}
 use Rattle.refusal.proofs.Endings.{accepted}
 use Rattle.decimal.specs.Numeral.{sizeWithin, size}
 use Rattle.decimal.proofs.Sizes.{size-grows, size-le}
@@ -14,11 +15,11 @@ use Rattle.csv.specs.Fields.{field, fields, overwrite}
 use Rattle.csv.proofs.Overwriting.{length-field}
 use Rattle.csv.proofs.Laying.{length-written}
 use Rattle.dealers.specs.State.{stateLength, placeBytes, placeAt, newState, placed, served, chosen}
-use Rattle.dealers.specs.Calls.{placeRefusal, placeAfter, countRefusal, countedState, turnState}
+use Rattle.dealers.specs.Calls.{placeTests, placeRefusal, placeAfter, countRefusal, countedState, turnState}
 use Rattle.dealers.specs.Table.{byte}
 use Rattle.dealers.specs.Between.{Good, Dealer}
 use Rattle.dealers.specs.Figures.{NewBytes, PlacedBytes, PlacesBytes, LinesBytes, ServedBytes, TurnsBytes, SixteenBytes}
-use Rattle.dealers.proofs.Placing.{place-dealer, place-few, place-good}
+use Rattle.dealers.proofs.Placing.{place-dealer, place-few}
 use Rattle.dealers.proofs.Turns.{chosen-dealer, by-some, count-good}
 use Rattle.dealers.proofs.Kept.{length-over, over-before, over-at, over-behind, placed-length, line-long, line-bytes, served-long, served-last, served-own, untouched}
 use Rattle.dealers.proofs.Laws.{good-is}
@@ -70,12 +71,19 @@ module _ (state line : List ℕ) (d : ℕ) (g : Good state) (h : Dealer d) (k : 
         kept = bytes-kept;
       }
 
+-- a state that a line was placed in has all eight places in order
+place-good : (state : List ℕ) (d len : ℕ) → placeRefusal state d len ≡ 0 → Good state
+unfolding placeRefusal
+place-good state d len z =
+    let h = all-fail (placeTests state d len) tt z in
+    record { long = equal (length state) stateLength (h .0); fine = h .1 .0 }
+
 pub places-bytes : PlacesBytes
 places-bytes state d line z =
     let r = placeRefusal state d (length line) in
     let e : placeAfter state d line ≡ placed state d line =
     sym (accepted r r (placed state d line) (placed state d line) state refl z refl) in
-    rw e (placed-bytes state line d (place-good state d (length line) r refl z) (place-dealer state d (length line) r refl z)
+    rw e (placed-bytes state line d (place-good state d (length line) z) (place-dealer state d (length line) r refl z)
     (place-few state d (length line) r refl z))
 
 -- ---- a line that waits

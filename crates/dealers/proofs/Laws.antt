@@ -75,8 +75,8 @@ pub place-lawful : PlaceLawful
 unfolding placeRefusal
 place-lawful =
     record {
-      order = λ state d len. rw (bad-figures state);
-      table = λ state d len. rw (bad-figures state);
+      order = λ state d len. rw (← bad-figures state);
+      table = λ state d len. rw (← bad-figures state);
       untouched = λ state d line n. sym (refused (placeRefusal state d (length line)) (placeRefusal state d (length line)) (placed state d line) state refl n);
       done = λ state d line z.
           sym (accepted (placeRefusal state d (length line)) (placeRefusal state d (length line))

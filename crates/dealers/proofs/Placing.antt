@@ -16,9 +16,9 @@ use Rattle.refusal.specs.Conditions.{outside}
 use Rattle.refusal.proofs.Laws.{all-fail, inside, equal}
 use Rattle.refusal.proofs.Groups.{stopped, went-on}
 use Rattle.refusal.proofs.Endings.{refused, accepted}
-use Rattle.dealers.specs.State.{stateLength, dealerCount, placeBytes, placeAt, lengthIn, waits, newState, badState, placed}
+use Rattle.dealers.specs.State.{stateLength, dealerCount, placeBytes, placeAt, lengthIn, waits, newState, placed}
 use Rattle.dealers.specs.Calls.{newStateRefusal, newStateAfter, stateTests, placeTests, placeRefusal, placeAfter}
-use Rattle.dealers.specs.Between.{Good, Dealer}
+use Rattle.dealers.specs.Between.{Dealer}
 
 -- ---- a new state
 
@@ -82,9 +82,6 @@ module _ (state : List ℕ) (d len r : ℕ) (e : r ≡ placeRefusal state d len)
 
   pub place-state : length state ≡ stateLength
   place-state = equal (length state) stateLength (passed .0)
-
-  pub place-good : Good state
-  place-good = record { long = place-state; fine = passed .1 .0 }
 
   pub place-dealer : Dealer d
   place-dealer = let h = inside 1 dealerCount d (passed .1 .1 .0) in record { low = h .0; high = h .1 }
