@@ -48,7 +48,7 @@ module _ (s : Shape) (ws posts draw out : List ℕ) (g : Finding s ws posts draw
         → Seeing s ws posts (take f root) draw (take (length posts * s .points) known) (take v factor) (take f powers) out
     lent-seeing f v ef ev =
         record {
-          gathering = record { valid = g .valid; posts-in = g .posts-in; few = g .few; ws-length = g .ws-length; known-length = sym known-lent };
+          gathering = record { valid = g .valid; posts-in = g .posts-in; few = g .few; ws-length = g .ws-length; ws-nonzero = g .ws-nonzero; known-length = sym known-lent };
           root-length = sym (root-lent f ef) ∙ ef;
           factor-length = sym (factor-lent v ev) ∙ ev;
           powers-length = sym (powers-lent f ef) ∙ ef;
@@ -85,6 +85,7 @@ module _ (n t points : ℕ) (ws draw : List ℕ) (secret wanted : ℕ) (posts ou
         posts-in = there .0 .posts-in;
         few = elim (there .1) [ inl q ↦ absurd (ne q) | inr h ↦ h ];
         ws-length = there .0 .points-length;
+        ws-nonzero = there .0 .points-good;
         draw-length = there .0 .draw-length;
         draw-elements = there .0 .draw-elements;
         out-length = out-fits n t points ws draw secret wanted posts out (sym e ∙ z);

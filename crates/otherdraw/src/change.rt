@@ -9,6 +9,7 @@ ghost use lib.ListN.{length, take, drop};
 ghost use Rattle.poly.specs.Polynomial.{value};
 ghost use Rattle.shape.specs.Bounds.{mostPosts};
 ghost use Rattle.vanishing.specs.Vanishing.{vanishing, distinct};
+ghost use Rattle.vanishing.specs.Between.{Nonzero};
 ghost use Rattle.otherdraw.specs.Other.{pointsOf, moved};
 ghost use Rattle.poly.specs.Counting.{Elements};
 ghost use Rattle.otherdraw.specs.Between.{handed, changed, scaleOf, isNext, vsWith, Valued, Rooted, Gathering, Changing, Seeing};
@@ -166,7 +167,8 @@ fn change_seen(
 
 // f changed: by delta times the product of 1 - z/j over the listed posts, which `root` then holds.
 fn change_f(delta: u32, posts: &[u32], draw: &[u32], root: &mut [u32], out: &mut [u32])
-    requires { ⌜ (1 ≤ length (now root)) × (length (now root) ≤ length (now draw)) × (length (now draw) ≡ length (now out)) ⌝ }
+    requires { ⌜ (1 ≤ length (now root)) × Nonzero (now posts) × (length (now root) ≤ length (now draw))
+        × (length (now draw) ≡ length (now out)) ⌝ }
     ensures { λ r. ⌜ now (root .exit) ≡ vanishing (length (now (root .entry))) (now (posts .entry)) ⌝ }
     ensures { λ r. ⌜ now (out .exit)
         ≡ changed 0 delta (vanishing (length (now (root .entry))) (now (posts .entry))) (now (draw .entry)) (now (out .entry)) ⌝ }
