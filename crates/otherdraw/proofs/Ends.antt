@@ -1,6 +1,6 @@
 -- The call: the rooms, and its three ends.
 use Prim.Native.Nat.{ℕ, _+_, _*_, _≤_}
-use mathlib.Core.Path.{_≡_, sym, _∙_, ap}
+use mathlib.Core.Path.{_≡_, sym, _∙_, ap, subst}
 use mathlib.Core.Bool.{Bool, cond}
 use mathlib.Core.Logic.{_⊎_, inl, inr}
 use mathlib.Core.List.{List}
@@ -67,6 +67,15 @@ rooms s most h v root known factor powers er ek ef ep =
       factor-room = omega (arith, ef, h, v .t-in, v .n-in, v .reach-in);
       powers-room = omega (arith, ep, h, v .t-in, v .n-in);
     }
+
+-- a station whose posts have one check point
+module _ (s : Shape) (ws posts draw out : List ℕ) (e : s .points ≡ 1) where
+  pub one-finding : Finding s ws posts draw out → Finding (shape (s .n) (s .t) 1) ws posts draw out
+  one-finding g = subst (λ (k : ℕ). Finding (shape (s .n) (s .t) k) ws posts draw out) e g
+
+  pub one-moved : (δ : ℕ) (new : List ℕ) → new ≡ moved (shape (s .n) (s .t) 1) posts (pointsOf 1 ws posts) δ draw
+      → new ≡ moved s posts (pointsOf (s .points) ws posts) δ draw
+  one-moved δ new h = h ∙ ap (λ (k : ℕ). moved (shape (s .n) (s .t) k) posts (pointsOf k ws posts) δ draw) (sym e)
 
 -- ---- the call
 

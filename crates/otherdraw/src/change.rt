@@ -221,3 +221,40 @@ pub fn move_draw(
         out,
     );
 }
+
+// The same, for the largest rooms (`find_in_large`).
+pub fn move_large(
+    shape: Shape,
+    delta: u32,
+    ws: &[u32],
+    posts: &[u32],
+    draw: &[u32],
+    root: &mut [u32],
+    known: &mut [u32],
+    factor: &mut [u32],
+    powers: &mut [u32],
+    out: &mut [u32],
+)
+    requires { ⌜ Seeing shape (now ws) (now posts) (now root) (now draw) (now known) (now factor) (now powers) (now out) ⌝ }
+    ensures { λ r. ⌜ now (out .exit)
+        ≡ moved shape (now (posts .entry)) (pointsOf (shape .points) (now (ws .entry)) (now (posts .entry))) delta (now (draw .entry)) ⌝ }
+{
+    let first = root.len();
+    change_f(delta, posts, draw, root, out);
+    if posts.len() < 1 {
+        copy_rest(first, draw, out);
+        return;
+    }
+    change_seen(
+        shape,
+        delta,
+        ws,
+        posts,
+        root,
+        draw,
+        known,
+        factor,
+        powers,
+        out,
+    );
+}
