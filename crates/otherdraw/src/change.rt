@@ -241,7 +241,8 @@ pub fn move_large(
 {
     let first = root.len();
     change_f(delta, posts, draw, root, out);
-    if posts.len() < 1 {
+    let count = posts.len();
+    if count < 1 {
         copy_rest(first, draw, out);
         return;
     }
