@@ -4,7 +4,7 @@ use mathlib.Core.Path.{_≡_, refl, sym, _∙_, ap, ap₂, subst}
 use mathlib.Core.Logic.{_≢_}
 use mathlib.Core.List.{List, [], _∷_, _++_, map}
 use native.Mathlib.Omega.{arith}
-use lib.Dec.{lit<}
+use lib.Dec.{lit<, lit≤}
 use lib.ListN.{length, getD, take, drop, replicate}
 use Rattle.field.specs.Modulus.{p}
 use Rattle.field.specs.Arithmetic.{difference, product, inverse}
@@ -16,8 +16,8 @@ use Rattle.field.proofs.Solver.{solve}
 use Rattle.field.proofs.Elements.{elements, 𝓡, element-zero, element-one, element-product, element-difference, element-negative, element-inverse, element-injective, one-ne-zero}
 use Rattle.poly.specs.Counting.{All, Elements}
 use Rattle.vanishing.specs.Vanishing.{lessBefore, timesRoot, timesRoots, one, vanishing}
-use Rattle.vanishing.specs.Between.{Ends, Nonzero, lineAt, timesLine, timesFactor, timesFactors}
-use Rattle.vanishing.proofs.Folded.{element-line, line-nothing}
+use Rattle.vanishing.specs.Between.{Ends, Low, Nonzero, lineAt, timesLine, timesFactor, timesFactors}
+use Rattle.vanishing.proofs.Folded.{element-line, line-low, line-nothing}
 use Rattle.vanishing.proofs.Vanish.{length-roots, length-one}
 open CommutativeRing 𝓡 using (add as _⊕_, mul as _⊗_, neg, zero as 0ᴱ, one as 1ᴱ)
 
@@ -45,6 +45,25 @@ line-ends (suc m) k b (c ∷ cs) h = line-ends m k c cs h
 
 pub factor-ends : (m x : ℕ) (cs : List ℕ) → Ends (suc m) cs → Ends (suc (suc m)) (timesFactor x cs)
 factor-ends m x cs h = line-ends (suc m) (difference 0 x) 0 cs h
+
+-- ---- at most p
+
+line-low-all : (k b : ℕ) (cs : List ℕ) → k < p → b ≤ p → Low cs → Low (timesLine k b cs)
+unfolding timesLine
+line-low-all k b [] hk hb a = tt
+line-low-all k b (c ∷ cs) hk hb a = (line-low k c b hk (a .0) hb, line-low-all k c cs hk (a .0) (a .1))
+
+pub factor-low : (x : ℕ) (cs : List ℕ) → Low cs → Low (timesFactor x cs)
+factor-low x cs a = line-low-all (difference 0 x) 0 cs (difference-below 0 x) (lit≤ tt) a
+
+pub one-low : (m : ℕ) → Low (one m)
+unfolding one
+one-low zero = tt
+one-low (suc m) = (lit≤ tt, zeros m)
+  where
+    zeros : (m : ℕ) → Low (replicate m 0)
+    zeros zero = tt
+    zeros (suc m) = (lit≤ tt, zeros m)
 
 -- ---- one list is K times the other
 

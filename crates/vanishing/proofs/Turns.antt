@@ -1,22 +1,23 @@
 -- The turns of the loops: the search for a number, the product with z − x, the division, and the products of all.
 use Prim.Native.Nat.{ℕ, zero, suc, _+_, _-_, _≤_, _<_}
-use mathlib.Core.Path.{_≡_, refl, sym, _∙_, ap, ap₂}
+use mathlib.Core.Path.{_≡_, refl, sym, _∙_, ap, ap₂, subst}
 use mathlib.Core.Bool.{Bool, true, false, cond, _||_}
 use mathlib.Core.List.{List, [], _∷_, _++_, map}
 use native.Mathlib.Numerals.{add-one}
 use native.Mathlib.Omega.{arith}
 use borrow.Author.Tests.{eq-eqb, ne-eqb}
-use lib.Dec.{eqb}
+use lib.Dec.{eqb, lit≤}
 use lib.ListN.{length, getD, set, take, drop, replicate, drop-of-length-le, length-map}
 use lib.Seq.{drop-cons, length-take-le}
 use Rattle.field.specs.Modulus.{p}
 use Rattle.field.specs.Arithmetic.{difference, product, inverse}
+use Rattle.field.proofs.Modular.{difference-below}
 use Rattle.lists.proofs.Filled.{Filled, filled-more, filled-read, filled-end}
 use Rattle.vanishing.specs.Vanishing.{one, vanishing, occurs, distinct}
-use Rattle.vanishing.specs.Between.{Ends, Nonzero, lineAt, timesLine, timesFactor, timesFactors}
+use Rattle.vanishing.specs.Between.{Ends, Low, Nonzero, lineAt, timesLine, timesFactor, timesFactors}
 use Rattle.vanishing.proofs.Vanish.{length-one, ends-more, one-ends}
 use Rattle.vanishing.proofs.Distinct.{to-distinct}
-use Rattle.vanishing.proofs.Factors.{line-short, factor-ends, divided}
+use Rattle.vanishing.proofs.Factors.{line-short, factor-ends, factor-low, one-low, divided}
 
 -- ---- a number is searched for
 
@@ -84,7 +85,40 @@ module _ (k : ℕ) (list₀ list : List ℕ) (i : ℕ) where
   pub line-end : length list₀ ≤ i → list ≡ take i (timesLine k 0 list₀) ++ drop i list₀ → list ≡ timesLine k 0 list₀
   line-end h inv = let long = length-line k 0 list₀ in filled-end (timesLine k 0 list₀) list₀ list i (omega arith) long inv
 
+-- what is read in a turn is at most p
+low-at : (cs : List ℕ) (i : ℕ) → Low cs → getD cs i 0 ≤ p
+low-at [] i a = lit≤ tt
+low-at (c ∷ cs) zero a = a .0
+low-at (c ∷ cs) (suc i) a = low-at cs i (a .1)
+
+pub read-low : (k : ℕ) (list₀ list : List ℕ) (i c : ℕ) → Low list₀ → i < length list₀ → list ≡ take i (timesLine k 0 list₀) ++ drop i list₀ → c ≡ getD list i 0
+    → c ≤ p
+read-low k list₀ list i c a h inv e =
+    let long = length-line k 0 list₀ in
+    omega (arith, e ∙ filled-read (timesLine k 0 list₀) list₀ list i (omega arith) long inv, low-at list₀ i a)
+
+pub before-low : (list₀ : List ℕ) (i before : ℕ) → Low list₀ → before ≡ beforeAt list₀ i → before ≤ p
+before-low list₀ i before a e = omega (arith, e, low-at (0 ∷ list₀) i (lit≤ tt, a))
+
 -- ---- times z − x
+
+pub negative-low : (x k : ℕ) → k ≡ difference 0 x → k < p
+negative-low x k e = omega (arith, e, difference-below 0 x)
+
+pub part-low : (m : ℕ) (l : List ℕ) → Low l → Low (take m l)
+part-low zero l a = tt
+part-low (suc m) [] a = tt
+part-low (suc m) (x ∷ l) a = (a .0, part-low m l (a .1))
+
+pub turn-low : (x : ℕ) (list new : List ℕ) → Low list → new ≡ timesFactor x list → Low new
+turn-low x list new a e = subst Low (sym e) (factor-low x list a)
+
+pub once-low : (x : ℕ) (c : Bool) (list new : List ℕ) → Low list → new ≡ cond c list (timesFactor x list) → Low new
+once-low x true list new a e = subst Low (sym e) a
+once-low x false list new a e = turn-low x list new a e
+
+pub start-low : (list : List ℕ) (k : ℕ) → list ≡ one k → Low list
+start-low list k e = subst Low (sym e) (one-low k)
 
 length-factor : (x : ℕ) (cs : List ℕ) → length (timesFactor x cs) ≡ length cs
 length-factor x cs = length-line (difference 0 x) 0 cs

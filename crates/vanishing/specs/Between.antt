@@ -12,6 +12,10 @@ Ends zero cs = All (λ c. c ≡ 0) cs
 Ends (suc k) [] = Unit {0}
 Ends (suc k) (c ∷ cs) = Ends k cs
 
+-- coefficients on the way: p may stand for 0
+abbrev pub Low : List ℕ → Type 0
+Low cs = All (λ c. c ≤ p) cs
+
 -- numbers that have an inverse
 abbrev pub Nonzero : List ℕ → Type 0
 Nonzero xs = All (λ x. (1 ≤ x) × (x < p)) xs

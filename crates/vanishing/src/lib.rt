@@ -1,33 +1,38 @@
 // Products of 1 - z/x over numbers x: polynomials that are 1 at 0 and 0 at each x, with as many coefficients as the lent list has.
 //
 // The factors z - x are multiplied, and the product is divided by its constant: one inverse for all of them. On the way a coefficient
-// is no remainder: it is folded into 32 bits.
+// is no remainder, but folded to at most p.
 //
 // The time depends on the numbers, the inverse of whose product is taken: they are for public values only.
 ghost use mathlib.Core.Path.{_≡_};
 ghost use mathlib.Core.Bool.{cond, _||_};
 ghost use mathlib.Core.List.{map};
-ghost use Prim.Native.Nat.{_≤_};
+ghost use Prim.Native.Nat.{_≤_, _<_};
 ghost use lib.Dec.{eqb};
 ghost use lib.ListN.{length, getD, drop};
+ghost use Rattle.field.specs.Modulus.{p};
 ghost use Rattle.field.specs.Arithmetic.{product, inverse};
 ghost use Rattle.vanishing.specs.Vanishing.{one, vanishing, occurs, distinct};
-ghost use Rattle.vanishing.specs.Between.{Ends, Nonzero, lineAt, timesLine, timesFactor};
+ghost use Rattle.vanishing.specs.Between.{Ends, Low, Nonzero, lineAt, timesLine, timesFactor};
 
 // 2^31, which is 1 modulo p.
 const HALF: u64 = 2147483648;
 
-// k c + b modulo p, in 32 bits: what stands above the low 31 bits is added to them, twice.
+const SHORT_HALF: u32 = 2147483648;
+
+// k c + b modulo p, at most p: what stands above the low 31 bits is added to them, twice. The second time in 32 bits, which takes less.
 fn line_at(k: u32, c: u32, b: u32) -> u32
+    requires { ⌜ (k < p) × (c ≤ p) × (b ≤ p) ⌝ }
     ensures { λ r. ⌜ r ≡ lineAt k c b ⌝ }
 {
     let whole = field::whole_product(k, c) + b as u64;
-    let once = whole % HALF + whole / HALF;
-    (once % HALF + once / HALF) as u32
+    let once = (whole % HALF + whole / HALF) as u32;
+    once % SHORT_HALF + once / SHORT_HALF
 }
 
 // Times z + k, in place.
 fn times_line(k: u32, list: &mut [u32])
+    requires { ⌜ (k < p) × Low (now list) ⌝ }
     ensures { λ r. ⌜ now (list .exit) ≡ timesLine k 0 (now (list .entry)) ⌝ }
 {
     let mut before: u32 = 0;
@@ -40,7 +45,7 @@ fn times_line(k: u32, list: &mut [u32])
 
 // Times z - x, of a list that has nothing behind its first m coefficients: the product has nothing behind m + 1.
 fn times_factor(x: u32, m: usize, list: &mut [u32])
-    requires { ⌜ (1 ≤ m) × Ends m (now list) ⌝ }
+    requires { ⌜ (1 ≤ m) × Ends m (now list) × Low (now list) ⌝ }
     ensures { λ r. ⌜ now (list .exit) ≡ timesFactor x (now (list .entry)) ⌝ }
 {
     let k = field::sub(0, x);
@@ -107,7 +112,7 @@ fn occurs(x: u32, from: usize, list: &[u32]) -> bool
 
 // Times z - x, where x is not among the numbers from `from` on; the list has nothing behind so many coefficients.
 fn times_factor_once(x: u32, from: usize, numbers: &[u32], list: &mut [u32])
-    requires { ⌜ (1 ≤ from) × Ends from (now list) ⌝ }
+    requires { ⌜ (1 ≤ from) × Ends from (now list) × Low (now list) ⌝ }
     ensures { λ r. ⌜ now (list .exit)
         ≡ cond (occurs x (drop from (now (numbers .entry)))) (now (list .entry)) (timesFactor x (now (list .entry))) ⌝ }
 {

@@ -2,7 +2,7 @@
 use Prim.Native.Nat.{_-_}
 use lib.ListN.{length}
 use borrow.Author.Needs.{needs}
-use Rattle.vanishing.proofs.Turns.{Lining, line-more, line-next, line-end}
+use Rattle.vanishing.proofs.Turns.{Lining, read-low, before-low, line-more, line-next, line-end}
 use Rattle.vanishing.proofs.times_line.Statement.{statement}
 use Rattle.vanishing.proofs.times_line.Tie as tie
 
@@ -19,5 +19,5 @@ pub times-line-spec : {M : Type 1} → statement M
 times-line-spec =
     tie.close
     (tie.spec Inv-loop μ-loop (λ c. search needs) (λ c. search needs) (λ c. search needs)
-    (λ c κs. search needs) (λ c. search needs) (λ c. search needs) (λ c. search needs) (λ c. search needs) loop-again
+    (λ c κs. search (needs, read-low, before-low)) (λ c. search needs) (λ c. search needs) (λ c. search needs) (λ c. search needs) loop-again
     (λ c. search needs) (λ c. search (needs, line-end)))
