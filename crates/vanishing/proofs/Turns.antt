@@ -102,8 +102,8 @@ before-low list₀ i before a e = omega (arith, e, low-at (0 ∷ list₀) i (lit
 
 -- ---- times z − x
 
-pub negative-low : (x k : ℕ) → k ≡ difference 0 x → k < p
-negative-low x k e = omega (arith, e, difference-below 0 x)
+pub negative-low : (a x k : ℕ) → k ≡ difference a x → k < p
+negative-low a x k e = omega (arith, e, difference-below a x)
 
 pub part-low : (m : ℕ) (l : List ℕ) → Low l → Low (take m l)
 part-low zero l a = tt
