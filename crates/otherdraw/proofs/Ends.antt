@@ -1,6 +1,6 @@
 -- The call: the rooms, and its three ends.
 use Prim.Native.Nat.{ℕ, _+_, _*_, _≤_}
-use mathlib.Core.Path.{_≡_, sym, _∙_, ap}
+use mathlib.Core.Path.{_≡_, sym, _∙_, ap, subst}
 use mathlib.Core.Bool.{Bool, cond}
 use mathlib.Core.Logic.{_⊎_, inl, inr}
 use mathlib.Core.List.{List}
@@ -48,7 +48,7 @@ module _ (s : Shape) (ws posts draw out : List ℕ) (g : Finding s ws posts draw
         → Seeing s ws posts (take f root) draw (take (length posts * s .points) known) (take v factor) (take f powers) out
     lent-seeing f v ef ev =
         record {
-          gathering = record { valid = g .valid; posts-in = g .posts-in; few = g .few; ws-length = g .ws-length; known-length = sym known-lent };
+          gathering = record { valid = g .valid; posts-in = g .posts-in; few = g .few; ws-length = g .ws-length; ws-nonzero = g .ws-nonzero; known-length = sym known-lent };
           root-length = sym (root-lent f ef) ∙ ef;
           factor-length = sym (factor-lent v ev) ∙ ev;
           powers-length = sym (powers-lent f ef) ∙ ef;
@@ -68,6 +68,15 @@ rooms s most h v root known factor powers er ek ef ep =
       powers-room = omega (arith, ep, h, v .t-in, v .n-in);
     }
 
+-- a station whose posts have one check point
+module _ (s : Shape) (ws posts draw out : List ℕ) (e : s .points ≡ 1) where
+  pub one-finding : Finding s ws posts draw out → Finding (shape (s .n) (s .t) 1) ws posts draw out
+  one-finding g = subst (λ (k : ℕ). Finding (shape (s .n) (s .t) k) ws posts draw out) e g
+
+  pub one-moved : (δ : ℕ) (new : List ℕ) → new ≡ moved (shape (s .n) (s .t) 1) posts (pointsOf 1 ws posts) δ draw
+      → new ≡ moved s posts (pointsOf (s .points) ws posts) δ draw
+  one-moved δ new h = h ∙ ap (λ (k : ℕ). moved (shape (s .n) (s .t) k) posts (pointsOf k ws posts) δ draw) (sym e)
+
 -- ---- the call
 
 module _ (n t points : ℕ) (ws draw : List ℕ) (secret wanted : ℕ) (posts out : List ℕ) (r : ℕ) (e : r ≡ otherRefusal n t points ws draw secret wanted posts out)
@@ -85,6 +94,7 @@ module _ (n t points : ℕ) (ws draw : List ℕ) (secret wanted : ℕ) (posts ou
         posts-in = there .0 .posts-in;
         few = elim (there .1) [ inl q ↦ absurd (ne q) | inr h ↦ h ];
         ws-length = there .0 .points-length;
+        ws-nonzero = there .0 .points-good;
         draw-length = there .0 .draw-length;
         draw-elements = there .0 .draw-elements;
         out-length = out-fits n t points ws draw secret wanted posts out (sym e ∙ z);

@@ -1,6 +1,6 @@
 -- The whole draw moved: f's part, and then the rest as it is, or the v's changed.
 use Prim.Native.Nat.{ℕ, zero, suc, _+_, _*_, _-_, _≤_, _<_}
-use mathlib.Core.Path.{_≡_, refl, sym, _∙_, ap, ap₂}
+use mathlib.Core.Path.{_≡_, refl, sym, _∙_, ap, ap₂, subst}
 use mathlib.Core.Bool.{cond}
 use mathlib.Core.List.{List, [], _∷_, _++_}
 use native.Mathlib.Nat.{suc-mul, zero-mul}
@@ -8,18 +8,47 @@ use native.Mathlib.Numerals.{add-one}
 use native.Mathlib.Omega.{arith}
 use lib.ListN.{length, getD, take, drop, length-drop, length-append}
 use lib.Seq.{length-take-le, take-at}
+use Rattle.field.specs.Modulus.{p}
 use Rattle.field.specs.Arithmetic.{difference, product}
 use Rattle.poly.specs.Polynomial.{value}
-use Rattle.poly.proofs.Lists.{all-at}
+use Rattle.poly.proofs.Lists.{all-map, all-at, all-join}
 use Rattle.shape.specs.declared.Shape.{Shape}
 use Rattle.shape.specs.Lengths.{fLength, vLength}
 use Rattle.session.specs.Rows.{combined}
 use Rattle.sums.proofs.Writers.{length-combined}
 use Rattle.vanishing.specs.Vanishing.{vanishing, distinct}
+use Rattle.vanishing.specs.Between.{Nonzero}
 use Rattle.vanishing.proofs.Vanish.{length-vanishing}
 use Rattle.vanishing.proofs.Theorems.{vanishes}
 use Rattle.otherdraw.specs.Other.{noPosts, otherF, otherVs, pointsOf, moved}
 use Rattle.otherdraw.specs.Between.{changed, vsWith, Rooted, Changing, Seeing}
+
+-- the check points of the listed posts are not 0, as those of all posts
+points-nonzero : (k : ℕ) (ws posts : List ℕ) → Nonzero ws → Nonzero (pointsOf k ws posts)
+unfolding pointsOf
+points-nonzero k ws [] a = tt
+points-nonzero k ws (i ∷ is) a =
+    all-join (λ x. (1 ≤ x) × (x < p)) (take k (drop ((i - 1) * k) ws)) (pointsOf k ws is) (nonzero-take k (drop ((i - 1) * k) ws) (nonzero-drop ((i - 1) * k) ws a))
+    (points-nonzero k ws is a)
+  where
+    nonzero-take : (m : ℕ) (l : List ℕ) → Nonzero l → Nonzero (take m l)
+    nonzero-take zero l a = tt
+    nonzero-take (suc m) [] a = tt
+    nonzero-take (suc m) (x ∷ l) a = (a .0, nonzero-take m l (a .1))
+
+    nonzero-drop : (m : ℕ) (l : List ℕ) → Nonzero l → Nonzero (drop m l)
+    nonzero-drop zero l a = a
+    nonzero-drop (suc m) [] a = tt
+    nonzero-drop (suc m) (x ∷ l) a = nonzero-drop m l (a .1)
+
+pub known-nonzero : (s : Shape) (ws posts root draw known factor powers out k : List ℕ) → Seeing s ws posts root draw known factor powers out
+    → k ≡ pointsOf (s .points) ws posts → Nonzero k
+known-nonzero s ws posts root draw known factor powers out k r e = subst Nonzero (sym e) (points-nonzero (s .points) ws posts (r .gathering .ws-nonzero))
+
+-- nor are the posts
+pub posts-nonzero : (s : Shape) (ws posts root draw known factor powers out : List ℕ) → Seeing s ws posts root draw known factor powers out → Nonzero posts
+posts-nonzero s ws posts root draw known factor powers out r =
+    all-map (λ i h. (h .0, omega (arith, h .1, r .gathering .valid .n-in))) posts (r .gathering .posts-in)
 
 -- rooms written, and then read
 module _ (s : Shape) (δ : ℕ) (ws posts root draw known factor powers out k f new : List ℕ) (r : Seeing s ws posts root draw known factor powers out)

@@ -12,6 +12,7 @@ use Rattle.shape.specs.declared.Shape.{Shape}
 use Rattle.shape.specs.Bounds.{mostPosts}
 use Rattle.shape.specs.Lengths.{Valid, fLength, vLength, checksLength, drawLength}
 use Rattle.session.specs.Rows.{combined}
+use Rattle.vanishing.specs.Between.{Nonzero}
 
 -- posts of a station
 abbrev pub PostsIn : ℕ → List ℕ → Type 0
@@ -27,6 +28,7 @@ pub record Gathering (s : Shape) (ws posts known : List ℕ) : Type 0 where
   pub posts-in : PostsIn (s .n) posts
   pub few : length posts ≤ s .t
   pub ws-length : length ws ≡ checksLength s
+  pub ws-nonzero : Nonzero ws
   pub known-length : length known ≡ length posts * s .points
 
 -- the list `out` with the part of the draw from `at` on changed by a multiple of the factor, which is as long
@@ -81,6 +83,7 @@ pub record Finding (s : Shape) (ws posts draw out : List ℕ) : Type 0 where
   pub posts-in : PostsIn (s .n) posts
   pub few : length posts ≤ s .t
   pub ws-length : length ws ≡ checksLength s
+  pub ws-nonzero : Nonzero ws
   pub draw-length : length draw ≡ drawLength s
   pub draw-elements : Elements draw
   pub out-length : length out ≡ drawLength s

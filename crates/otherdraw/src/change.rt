@@ -9,6 +9,7 @@ ghost use lib.ListN.{length, take, drop};
 ghost use Rattle.poly.specs.Polynomial.{value};
 ghost use Rattle.shape.specs.Bounds.{mostPosts};
 ghost use Rattle.vanishing.specs.Vanishing.{vanishing, distinct};
+ghost use Rattle.vanishing.specs.Between.{Nonzero};
 ghost use Rattle.otherdraw.specs.Other.{pointsOf, moved};
 ghost use Rattle.poly.specs.Counting.{Elements};
 ghost use Rattle.otherdraw.specs.Between.{handed, changed, scaleOf, isNext, vsWith, Valued, Rooted, Gathering, Changing, Seeing};
@@ -166,7 +167,8 @@ fn change_seen(
 
 // f changed: by delta times the product of 1 - z/j over the listed posts, which `root` then holds.
 fn change_f(delta: u32, posts: &[u32], draw: &[u32], root: &mut [u32], out: &mut [u32])
-    requires { ⌜ (1 ≤ length (now root)) × (length (now root) ≤ length (now draw)) × (length (now draw) ≡ length (now out)) ⌝ }
+    requires { ⌜ (1 ≤ length (now root)) × Nonzero (now posts) × (length (now root) ≤ length (now draw))
+        × (length (now draw) ≡ length (now out)) ⌝ }
     ensures { λ r. ⌜ now (root .exit) ≡ vanishing (length (now (root .entry))) (now (posts .entry)) ⌝ }
     ensures { λ r. ⌜ now (out .exit)
         ≡ changed 0 delta (vanishing (length (now (root .entry))) (now (posts .entry))) (now (draw .entry)) (now (out .entry)) ⌝ }
@@ -203,6 +205,44 @@ pub fn move_draw(
     let first = root.len();
     change_f(delta, posts, draw, root, out);
     if posts.len() < 1 {
+        copy_rest(first, draw, out);
+        return;
+    }
+    change_seen(
+        shape,
+        delta,
+        ws,
+        posts,
+        root,
+        draw,
+        known,
+        factor,
+        powers,
+        out,
+    );
+}
+
+// The same, for the largest rooms (`find_in_large`).
+pub fn move_large(
+    shape: Shape,
+    delta: u32,
+    ws: &[u32],
+    posts: &[u32],
+    draw: &[u32],
+    root: &mut [u32],
+    known: &mut [u32],
+    factor: &mut [u32],
+    powers: &mut [u32],
+    out: &mut [u32],
+)
+    requires { ⌜ Seeing shape (now ws) (now posts) (now root) (now draw) (now known) (now factor) (now powers) (now out) ⌝ }
+    ensures { λ r. ⌜ now (out .exit)
+        ≡ moved shape (now (posts .entry)) (pointsOf (shape .points) (now (ws .entry)) (now (posts .entry))) delta (now (draw .entry)) ⌝ }
+{
+    let first = root.len();
+    change_f(delta, posts, draw, root, out);
+    let count = posts.len();
+    if count < 1 {
         copy_rest(first, draw, out);
         return;
     }

@@ -46,6 +46,42 @@ fn find_in(
     );
 }
 
+// The same in the rooms of the most posts, of which the stack of a smaller station shall have nothing. The language has no word against a
+// function that is put into its caller, its rooms with it. The compiler does that to one with one caller, and to a small one: so this way has
+// `find_in_large` and `move_large` to itself, which it then contains, and two calls.
+fn find_in_large(
+    shape: Shape,
+    delta: u32,
+    ws: &[u32],
+    posts: &[u32],
+    draw: &[u32],
+    root: &mut [u32],
+    known: &mut [u32],
+    factor: &mut [u32],
+    powers: &mut [u32],
+    out: &mut [u32],
+)
+    requires { ⌜ Finding shape (now ws) (now posts) (now draw) (now out) × Roomed shape (now root) (now known) (now factor) (now powers) ⌝ }
+    ensures { λ r. ⌜ now (out .exit)
+        ≡ moved shape (now (posts .entry)) (pointsOf (shape .points) (now (ws .entry)) (now (posts .entry))) delta (now (draw .entry)) ⌝ }
+{
+    let f = shape.f_len();
+    let v = shape.v_len();
+    let m = posts.len() * shape.points;
+    change::move_large(
+        shape,
+        delta,
+        ws,
+        posts,
+        draw,
+        &mut root[..f],
+        &mut known[..m],
+        &mut factor[..v],
+        &mut powers[..f],
+        out,
+    );
+}
+
 // In rooms for very few posts.
 pub fn find_least(
     shape: Shape,
@@ -125,7 +161,7 @@ pub fn find_large(
     let mut known = [0u32; shape::LONGEST_V];
     let mut factor = [0u32; shape::LONGEST_V];
     let mut powers = [0u32; shape::MOST_POSTS];
-    find_in(
+    find_in_large(
         shape,
         delta,
         ws,
@@ -139,7 +175,7 @@ pub fn find_large(
     );
 }
 
-// In rooms that fit the station: a small one clears short lists only.
+// In rooms that fit the station: a small one clears short lists only. The largest rooms have two calls, so that they are in a frame of their own.
 fn find_other(shape: Shape, delta: u32, ws: &[u32], posts: &[u32], draw: &[u32], out: &mut [u32])
     requires { ⌜ Finding shape (now ws) (now posts) (now draw) (now out) ⌝ }
     ensures { λ r. ⌜ now (out .exit)
@@ -151,6 +187,12 @@ fn find_other(shape: Shape, delta: u32, ws: &[u32], posts: &[u32], draw: &[u32],
     }
     if shape.n <= shape::FEW_POSTS {
         find_small(shape, delta, ws, posts, draw, out);
+        return;
+    }
+    if shape.points == 1 {
+        let n = shape.n;
+        let t = shape.t;
+        find_large(Shape { n, t, points: 1 }, delta, ws, posts, draw, out);
         return;
     }
     find_large(shape, delta, ws, posts, draw, out);

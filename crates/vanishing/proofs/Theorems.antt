@@ -4,12 +4,12 @@ use mathlib.Core.Path.{_≡_, refl, sym, _∙_, ap}
 use mathlib.Core.Logic.{_≢_}
 use mathlib.Core.List.{List, [], _∷_, map}
 use native.Mathlib.Omega.{arith}
-use lib.Dec.{lit<}
+use lib.Dec.{lit<, lit≤}
 use lib.ListN.{length, getD}
 use Rattle.field.specs.Element.{Element, element, 0ᴱ, 1ᴱ}
 use Rattle.field.proofs.Elements.{𝓡, element-zero, element-one, element-injective}
 use Rattle.poly.specs.Polynomial.{value}
-use Rattle.poly.specs.Counting.{All}
+use Rattle.poly.specs.Counting.{All, Elements}
 use Rattle.poly.proofs.Bounds.{value-below}
 use Rattle.poly.proofs.Coefficients.{ev}
 use Rattle.poly.proofs.Lists.{all-at}
@@ -17,6 +17,7 @@ use Rattle.poly.proofs.Numbers.{toElements, element-value}
 use Rattle.vanishing.specs.Vanishing.{vanishing, distinct}
 use Rattle.vanishing.specs.Claims.{Vanishes, EachOnce}
 use Rattle.vanishing.proofs.Vanish.{Ends, length-vanishing, vanishing-ends, vanishing-at-zero, vanishing-at-nodes}
+use Rattle.vanishing.proofs.Factors.{vanishing-elements}
 use Rattle.vanishing.proofs.Distinct.{of-distinct, to-distinct, apart}
 
 -- a list by places
@@ -31,6 +32,11 @@ ends-at zero (c ∷ cs) e (suc i) h = ends-at zero cs (e .1) i (omega arith)
 ends-at (suc k) [] e i h = refl
 ends-at (suc k) (c ∷ cs) e zero h = absurd (omega arith)
 ends-at (suc k) (c ∷ cs) e (suc i) h = ends-at k cs e i (omega arith)
+
+element-at : (cs : List ℕ) → Elements cs → (i : ℕ) → getD cs i 0 ≤ 2147483646
+element-at [] a i = lit≤ tt
+element-at (c ∷ cs) a zero = omega (arith, a .0)
+element-at (c ∷ cs) a (suc i) = element-at cs (a .1) i
 
 nonzero : (xs : List ℕ) → All (λ x. (1 ≤ x) × (x ≤ 2147483646)) xs → All (λ x. x ≢ 0ᴱ) (toElements xs)
 nonzero [] a = tt
@@ -60,6 +66,7 @@ pub vanishes : Vanishes
 vanishes = record {
   long = length-vanishing;
   ends = λ m xs i h. ends-at (suc (length xs)) (vanishing m xs) (vanishing-ends m xs) i (omega arith);
+  elements = λ m xs i. element-at (vanishing m xs) (vanishing-elements m xs) i;
   at-zero = at-zero;
   at-each = λ m xs few a. at-each m xs few (all-of (λ x. (1 ≤ x) × (x ≤ 2147483646)) xs a);
 }

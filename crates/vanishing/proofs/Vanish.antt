@@ -25,19 +25,6 @@ open CommutativeRing 𝓡 using (add as _⊕_, mul as _⊗_, neg, zero as 0ᴱ, 
 
 infixl 65 _⊕_
 infixl 70 _⊗_
--- a product with the negative of k is taken away
-pub plus-negative : (c k b : ℕ) → sum c (product (difference 0 k) b) ≡ difference c (product k b)
-unfolding Same
-plus-negative c k b =
-    element-injective (sum c (product (difference 0 k) b)) (difference c (product k b)) (sum-below c (product (difference 0 k) b))
-    (difference-below c (product k b))
-    (element-sum c (product (difference 0 k) b)
-    ∙ ap (λ (z : Element). element c ⊕ z)
-    (element-product (difference 0 k) b
-    ∙ ap (λ (z : Element). z ⊗ element b) (element-difference 0 k ∙ ap (λ (z : Element). z ⊕ neg (element k)) element-zero))
-    ∙ solve 𝓡 (element c ∷ element k ∷ element b ∷ []) (A :+ (𝟘 :- B) :* C) (A :- B :* C) refl
-    ∙ sym (element-difference c (product k b) ∙ ap (λ (z : Element). element c ⊕ neg z) (element-product k b)))
-
 -- ---- nothing behind the first k coefficients
 
 nothing-left : (c b k : ℕ) → c ≡ 0 → b ≡ 0 → difference c (product k b) ≡ 0
@@ -55,24 +42,6 @@ unfolding lessBefore
 less-ends m k b [] h = tt
 less-ends zero k b (c ∷ cs) h = zeros-stay k c cs (h .0) (h .1)
 less-ends (suc m) k b (c ∷ cs) h = less-ends m k c cs h
-
--- zeros stay where they are
-same-zeros : (k b : ℕ) (cs : List ℕ) → b ≡ 0 → All (λ c. c ≡ 0) cs → lessBefore k b cs ≡ cs
-unfolding lessBefore
-same-zeros k b [] e a = refl
-same-zeros k b (c ∷ cs) e a = ap₂ _∷_ (nothing-left c b k (a .0) e ∙ sym (a .0)) (same-zeros k c cs (a .0) (a .1))
-
-less-short : (m k b : ℕ) (cs : List ℕ) → Ends m cs → lessBefore k b (take (suc m) cs) ++ drop (suc m) cs ≡ lessBefore k b cs
-unfolding lessBefore
-less-short m k b [] h = refl
-less-short zero k b (c ∷ cs) h = ap (λ (l : List ℕ). difference c (product k b) ∷ l) (sym (same-zeros k c cs (h .0) (h .1)))
-less-short (suc m) k b (c ∷ cs) h = ap (λ (l : List ℕ). difference c (product k b) ∷ l) (less-short m k c cs h)
-
--- a coefficient more than there are is enough
-pub root-short : (m x : ℕ) (cs : List ℕ) → Ends (suc m) cs → timesRoot x (take (suc (suc m)) cs) ++ drop (suc (suc m)) cs ≡ timesRoot x cs
-unfolding timesRoot
-root-short m x [] h = refl
-root-short m x (c ∷ cs) h = ap (λ (l : List ℕ). c ∷ l) (less-short m (inverse x) c cs h)
 
 pub ends-more : (m : ℕ) (cs : List ℕ) → Ends m cs → Ends (suc m) cs
 ends-more m [] h = tt

@@ -12,6 +12,8 @@ use Rattle.vanishing.specs.Vanishing.{vanishing, distinct}
 pub record Vanishes : Type 0 where
   pub long : (m : ℕ) (xs : List ℕ) → length (vanishing m xs) ≡ m
   pub ends : (m : ℕ) (xs : List ℕ) (i : ℕ) → length xs < i → getD (vanishing m xs) i 0 ≡ 0
+  -- each is an element
+  pub elements : (m : ℕ) (xs : List ℕ) (i : ℕ) → getD (vanishing m xs) i 0 ≤ 2147483646
   -- 1 at 0, and 0 at each of fewer than m numbers from 1 to p - 1
   pub at-zero : (m : ℕ) (xs : List ℕ) → length xs < m → value (vanishing m xs) 0 ≡ 1
   pub at-each : (m : ℕ) (xs : List ℕ) → length xs < m

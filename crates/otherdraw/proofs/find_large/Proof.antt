@@ -6,10 +6,10 @@ use Rattle.otherdraw.proofs.Ends.{rooms}
 use Rattle.otherdraw.proofs.find_large.Statement.{statement}
 use Rattle.otherdraw.proofs.find_large.Tie as tie
 
-find-in-requires : tie.Need-find-in-requires
-find-in-requires c κs = (search needs, rooms _ mostPosts (search needs) (search needs) _ _ _ _ refl refl refl refl)
+find-in-large-requires : tie.Need-find-in-large-requires
+find-in-large-requires c κs = (search needs, rooms _ mostPosts (search needs) (search needs) _ _ _ _ refl refl refl refl)
 
 pub find-large-spec : {M : Type 1} → statement M
 find-large-spec =
     tie.close
-    (tie.spec (λ c. search needs) (λ c. search needs) (λ c. search needs) (λ c. search needs) find-in-requires (λ c. search needs) (λ c. search needs))
+    (tie.spec (λ c. search needs) (λ c. search needs) (λ c. search needs) (λ c. search needs) find-in-large-requires (λ c. search needs) (λ c. search needs))

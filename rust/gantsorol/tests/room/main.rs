@@ -23,12 +23,10 @@ const SPARED: usize = 8_000;
 
 /// No other call has so much on a small station's stack: less than one row of the most posts, 3,060 bytes. It was 2,000 before posts
 /// had two check points: an opening takes 2,072 where it took 1,848, since rooms go by the number of posts and not of points. Those
-/// that may have two sessions, their terms or the numbers of a pack file's line there. The draw behind another secret is run at the
-/// works and by no post: the compiler has the rooms of the most posts, 6,112 bytes, on the stack of every station.
+/// that may have two sessions, their terms or the numbers of a pack file's line there.
 const SMALL: usize = 2_100;
-const MORE: [&str; 5] = [
+const MORE: [&str; 4] = [
     "gantsorol_collect",
-    "gantsorol_other_draw",
     "gantsorol_relation_finish",
     "gantsorol_relation_masks",
     "gantsorol_write_pack",

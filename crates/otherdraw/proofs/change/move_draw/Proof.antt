@@ -1,10 +1,10 @@
 -- `change::move_draw` meets its contract.
 use borrow.Author.Needs.{needs}
-use Rattle.otherdraw.proofs.Moving.{o-long, moved-room, moved-seen, moved-none, moved-some}
+use Rattle.otherdraw.proofs.Moving.{posts-nonzero, o-long, moved-room, moved-seen, moved-none, moved-some}
 use Rattle.otherdraw.proofs.change.move_draw.Statement.{statement}
 use Rattle.otherdraw.proofs.change.move_draw.Tie as tie
 
-ruleset steps = (needs, o-long, moved-room, moved-none, moved-some)
+ruleset steps = (needs, posts-nonzero, o-long, moved-room, moved-none, moved-some)
 
 change-seen-requires : tie.Need-change-seen-requires
 change-seen-requires c κs =
