@@ -56,6 +56,19 @@ pub fn open(session: Session, rows: &[u32], row: usize, record: &[u32]) -> Answe
     Answer { refusal, value, session }
 }
 
+/// The opening as a caller of the library has it: C's rules put a session that comes by value onto the stack. Rust's own, above, pass a
+/// reference to it.
+#[allow(improper_ctypes_definitions)]
+#[inline(never)]
+pub extern "C" fn open_by_value(
+    session: Session,
+    rows: &[u32],
+    row: usize,
+    record: &[u32],
+) -> Answer {
+    open(session, rows, row, record)
+}
+
 /// Refusals 1 to 7.
 fn checked(session: &Session, rows: &[u32], row: usize, record: &[u32]) -> Result<(), u8> {
     let Session { n, t, post, points, first, second, .. } = *session;
