@@ -8,7 +8,7 @@ use native.Mathlib.Omega.{arith}
 use borrow.Author.Tests.{eq-eqb, ne-eqb, eqb-true, ltb-false, le-ltb}
 use lib.Dec.{eqb, ltb}
 use lib.ListN.{length, getD, drop, length-append, drop-of-length-le}
-use Rattle.decimal.specs.Numeral.{lastDigits, sizeWithin, size, numeral, leading}
+use Rattle.decimal.specs.Numeral.{size, numeral, leading}
 use Rattle.decimal.specs.Between.{Digits}
 use Rattle.decimal.proofs.Digits.{and-true, digits-are-digits}
 use Rattle.decimal.proofs.Sizes.{size-pos}
@@ -17,7 +17,7 @@ use Rattle.csv.specs.Fields.{field, fields, Small, Parsed, parsed, malformed, p
 use Rattle.csv.proofs.Overwriting.{length-field}
 use Rattle.csv.proofs.Reading.{fields-read, fields-spelled, ended-is}
 use Rattle.access.specs.Access.{commas, alone, severalAt, postsAt, behindRow, accessFields}
-use Rattle.access.specs.Claims.{lineEnd, accessText, AccessBytes, LongestAccess}
+use Rattle.access.specs.Claims.{lineEnd, accessText, AccessBytes}
 
 not-parsed : {A : Type 0} (xs : List ℕ) (n : ℕ) → malformed ≡ parsed xs n → A
 not-parsed xs n e = let z : _≡_ {A = ℕ} 0 1 = cc in absurd (omega arith)
@@ -219,7 +219,3 @@ posts-again row (c ∷ cs) small = several-read row c cs small
 
 pub access-bytes : AccessBytes
 access-bytes = record { read = posts-again; only = spelled }
-
-pub longest-access : LongestAccess
-unfolding fields lastDigits sizeWithin
-longest-access = (refl, refl)

@@ -1,6 +1,6 @@
 -- Demand 1 of the A line, with the flat table for its tests; proved in proofs/Theorems.antt. And what set it leaves, post by post; proved in
 -- proofs/Listed.antt; and its bytes, in proofs/Bytes.antt.
-use Prim.Native.Nat.{ℕ, zero, suc, _≤_, _<_}
+use Prim.Native.Nat.{ℕ, zero, suc, _+_, _*_, _-_, _≤_, _<_}
 use mathlib.Core.Path.{_≡_}
 use mathlib.Core.Logic.{_≢_}
 use mathlib.Core.Bool.{Bool, true, false, not, _||_}
@@ -68,10 +68,27 @@ pub record PostsMean : Type 0 where
   pub all-inside : (n : ℕ) (cs : List ℕ) → anyOutside n cs ≡ false → (i : ℕ) → i < length cs → (1 ≤ getD cs i 0) × (getD cs i 0 ≤ n)
   pub none-outside : (n : ℕ) (cs : List ℕ) → ((i : ℕ) → i < length cs → (1 ≤ getD cs i 0) × (getD cs i 0 ≤ n)) → anyOutside n cs ≡ false
 
--- The line that names the last row and all posts: 92 bytes at 32 posts, 917 at 255. (That none that is taken is longer is not stated.)
+-- ---- the longest A line of n posts: 92 bytes at 32, 917 at 255
+
+-- The letter, the last row behind its comma and the line feed; a comma and a digit for each post; a second digit from post 10 on, a third
+-- from post 100 on.
+abbrev pub longestAccess : ℕ → ℕ
+longestAccess n = 5 + 2 * n + (n - 9) + (n - 99)
+
+-- The posts from c on, k of them.
 abbrev pub allFrom : ℕ → ℕ → List ℕ
 allFrom c zero = []
 allFrom c (suc k) = c ∷ allFrom (suc c) k
 
-abbrev pub LongestAccess : Type 0
-LongestAccess = (length (accessText 95 (allFrom 1 32)) ≡ 92) × (length (accessText 95 (allFrom 1 255)) ≡ 917)
+-- The line that names the last row and all posts.
+abbrev pub allAdmitted : ℕ → List ℕ
+allAdmitted n = accessText 95 (allFrom 1 n)
+
+-- No line that the call takes is longer, and this one is as long; it is taken wherever a line for the last row is.
+pub record LongestAccess : Type 0 where
+  pub none-longer : (s : Session) (line : List ℕ) → first (accessTable s line) ≡ 0 → length line ≤ longestAccess (s .n)
+  pub one-as-long : (n : ℕ) → n ≤ 255 → 1 ≤ n → length (allAdmitted n) ≡ longestAccess n
+  pub taken : (s : Session) (line : List ℕ) → accessRow (accessFields line) ≡ 95 → first (accessTable s line) ≡ 0
+      → first (accessTable s (allAdmitted (s .n))) ≡ 0
+  pub at-32 : longestAccess 32 ≡ 92
+  pub at-255 : longestAccess 255 ≡ 917

@@ -1,4 +1,5 @@
 pub mod Passed
 pub mod Combining
+pub mod Sharing
 pub mod Theorems
 pub mod Tables

@@ -1,5 +1,7 @@
 // Linear: a plus scale times b, element by element over whole rows, into an empty row, which becomes held; the fee is added to
 // its public sums and to nothing else.
+pub mod sets;
+
 use session::Answer;
 use session::Session;
 ghost use mathlib.Core.Path.{_≡_};
@@ -91,5 +93,7 @@ pub fn linear(
 {
     let refusal = linear_refusal(session, rows, dest, a, b, scale, fee);
     linear_rows(session, rows, dest, a, b, scale, fee, refusal);
-    session.answer_summing(refusal, dest, a, b)
+    let mut barred = session.barred;
+    sets::share_unless(refusal, &mut barred, dest, a, b);
+    Session { barred, ..session }.answer_marking(refusal, dest, shape::HELD)
 }

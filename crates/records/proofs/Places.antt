@@ -1,7 +1,8 @@
 -- The refusals of the two calls from the checks that their code joins, and what holds where there is none.
-use Prim.Native.Nat.{ℕ}
+use Prim.Native.Nat.{ℕ, zero, suc}
 use mathlib.Core.Path.{_≡_, refl, sym, _∙_}
 use mathlib.Core.List.{List, [], _∷_}
+use native.Mathlib.Omega.{arith}
 use lib.ListN.{length}
 use Rattle.shape.specs.Lengths.{shape, Valid, vLength, recordLength, messageLength}
 use Rattle.refusal.specs.Refusal.{Test, _when_, first, orElse}
@@ -13,6 +14,14 @@ use Rattle.refusal.proofs.Ranges.{party-valid, party-in}
 use Rattle.blocks.specs.Between.{PostIn}
 use Rattle.blocks.proofs.Blocks.{post-in}
 use Rattle.records.specs.Records.{placeTests, placeRefusal, messageTests, putTests, putRefusal, withBlock, blockOf, noBlock, putRecord, removedRecord}
+
+halts : (a b : ℕ) → (a ≡ 0 → ⊥) → a ≡ orElse a b
+halts zero b ne = absurd (ne refl)
+halts (suc a) b ne = refl
+
+goes-on : (a b : ℕ) → a ≡ 0 → b ≡ orElse a b
+goes-on zero b z = refl
+goes-on (suc a) b z = absurd (omega (arith, z))
 
 module _ (n t points : ℕ) (blocks : List ℕ) (post : ℕ) where
   abbrev late : List Test
@@ -56,12 +65,20 @@ module _ (n t points : ℕ) (blocks : List ℕ) (post : ℕ) where
       unfolding placeRefusal putRefusal
       put-stopped h = stopped (placeTests n t points blocks post) (messageTests n t points message) tt f e h
 
-      pub put-joined : (w a b z : ℕ) → f ≡ 0 → w ≡ vLength (shape n t points) → a ≡ first (5 when wrongLength message w ∷ [])
+      joined : (w a b z : ℕ) → f ≡ 0 → w ≡ vLength (shape n t points) → a ≡ first (5 when wrongLength message w ∷ [])
           → b ≡ first (8 when anyBeyond message ∷ []) → z ≡ orElse a b → z ≡ putRefusal n t points blocks post message
       unfolding placeRefusal putRefusal
-      put-joined w a b z h ew ea eb ez =
+      joined w a b z h ew ea eb ez =
           let ea′ : a ≡ first (5 when wrongLength message (messageLength (shape n t points)) ∷ []) = rw ew at ea in
           went-on (placeTests n t points blocks post) (messageTests n t points message) tt f e z h (chained (messageTests n t points message) tt z (cc))
+
+      pub size-stopped : (w a : ℕ) → f ≡ 0 → w ≡ vLength (shape n t points) → a ≡ first (5 when wrongLength message w ∷ []) → (a ≡ 0 → ⊥)
+          → a ≡ putRefusal n t points blocks post message
+      size-stopped w a h ew ea ne = let b = first (8 when anyBeyond message ∷ []) in joined w a b a h ew ea refl (halts a b ne)
+
+      pub numbers-asked : (w a b : ℕ) → f ≡ 0 → w ≡ vLength (shape n t points) → a ≡ first (5 when wrongLength message w ∷ []) → a ≡ 0
+          → b ≡ first (8 when anyBeyond message ∷ []) → b ≡ putRefusal n t points blocks post message
+      numbers-asked w a b h ew ea z eb = joined w a b b h ew ea eb (goes-on a b z)
 
     module _ (f : ℕ) (e : f ≡ putRefusal n t points blocks post message) (h : f ≡ 0) where
       placed : 0 ≡ placeRefusal n t points blocks post

@@ -35,10 +35,11 @@ fn put_refusal(
         return place;
     }
     let shape = Shape { n, t, points };
-    refusal::or_else(
-        refusal::size(message, shape.v_len()),
-        refusal::numbers(message),
-    )
+    let size = refusal::size(message, shape.v_len());
+    if size != 0 {
+        return size;
+    }
+    refusal::numbers(message)
 }
 
 // A present block with a message.

@@ -23,10 +23,13 @@ fn openings() {
             if let Call::Open { row, record } = &step.call {
                 let copy = step.damaged(&state);
                 let session = crate::inputs::given(&copy.session);
+                let by_value = fastest::open_by_value(session.clone(), &copy.rows, *row, record);
                 let answer = fastest::open(session, &copy.rows, *row, record);
-                let (ours, expected) =
-                    ((answer.refusal, answer.value), (outcome.refusal, outcome.value));
-                assert_eq!(ours, expected, "seed {seed}: {step:?}");
+                for answer in [answer, by_value] {
+                    let (ours, expected) =
+                        ((answer.refusal, answer.value), (outcome.refusal, outcome.value));
+                    assert_eq!(ours, expected, "seed {seed}: {step:?}");
+                }
                 openings += 1;
             }
             if !step.trial {

@@ -8,11 +8,17 @@ use super::{contest, on_ours, on_second, repeated, Contest};
 use crate::fastest;
 use crate::inputs::Inputs;
 
-fn opening<'a>(name: &'static str, i: &'a Inputs, record: &'a [u32]) -> Contest<'a> {
-    let ours = on_ours(i, move |s, rows| s.open(rows, 1, record));
-    let second = on_second(i, move |s, rows| REFERENCE.open(s, rows, 1, record));
+/// An opening: against the fastest, and against the fastest that gets the session as the library does, by value under C's rules.
+fn opening<'a>(names: [&'static str; 2], i: &'a Inputs, record: &'a [u32]) -> [Contest<'a>; 2] {
+    let ours = || on_ours(i, move |s, rows| s.open(rows, 1, record));
+    let second = || on_second(i, move |s, rows| REFERENCE.open(s, rows, 1, record));
     let fastest = on_ours(i, move |s, rows| fastest::open(s, rows, 1, record));
-    Contest { name, runs: vec![ours, second, fastest] }
+    let by_value = on_ours(i, move |s, rows| fastest::open_by_value(s, rows, 1, record));
+    let [name, alike] = names;
+    [
+        Contest { name, runs: vec![ours(), second(), fastest] },
+        Contest { name: alike, runs: vec![ours(), second(), by_value] },
+    ]
 }
 
 fn loading_and_dealing(i: &Inputs) -> Vec<Contest<'_>> {
@@ -90,22 +96,23 @@ fn turns(i: &Inputs) -> Vec<Contest<'_>> {
 
 fn openings(i: &Inputs) -> Vec<Contest<'_>> {
     let message = || vec![0; gantsorol::message_len(i.t, i.points)];
-    vec![
-        contest(
-            "opening message",
-            {
-                let mut out = message();
-                on_ours(i, move |s, rows| s.opening_message(rows, 1, 1, &mut out))
-            },
-            {
-                let mut out = message();
-                on_second(i, move |s, rows| REFERENCE.opening_message(s, rows, 1, 1, &mut out))
-            },
-        ),
-        opening("open", i, &i.record),
-        opening("open, few there", i, &i.scattered),
-        opening("open, 2 missing", i, &i.one_missing),
-    ]
+    let sent = contest(
+        "opening message",
+        {
+            let mut out = message();
+            on_ours(i, move |s, rows| s.opening_message(rows, 1, 1, &mut out))
+        },
+        {
+            let mut out = message();
+            on_second(i, move |s, rows| REFERENCE.opening_message(s, rows, 1, 1, &mut out))
+        },
+    );
+    let opened = [
+        opening(["open", "open, by value"], i, &i.record),
+        opening(["open, few there", "few, by value"], i, &i.scattered),
+        opening(["open, 2 missing", "2 gone, by value"], i, &i.one_missing),
+    ];
+    std::iter::once(sent).chain(opened.into_iter().flatten()).collect()
 }
 
 fn sums_and_products(i: &Inputs) -> Vec<Contest<'_>> {

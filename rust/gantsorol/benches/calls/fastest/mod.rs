@@ -9,7 +9,7 @@ mod writing;
 use gantsorol::{masks_len, message_len, MAX_POINTS, MAX_POSTS, MODULUS};
 
 pub use factory::factory_row;
-pub use opening::open;
+pub use opening::{open, open_by_value};
 pub use other_draw::other_draw;
 pub use reading::read;
 pub use writing::{write_masks, write_opening};

@@ -42,17 +42,36 @@ static TABLE: Table = {
     table
 };
 
-/// The opening.
-pub fn open(session: Session, rows: &[u32], row: usize, record: &[u32]) -> Answer {
+/// The refusal and the number.
+fn outcome(session: &Session, rows: &[u32], row: usize, record: &[u32]) -> (u8, u32) {
     let number = match session.n {
         ..=VERY_FEW => number::<VERY_FEW, VERY_FEW_SENT>,
         ..=FEW => number::<FEW, FEW_SENT>,
         _ => number::<MAX_POSTS, MOST_SENT>,
     };
-    let (refusal, value) = match number(&session, rows, row, record) {
+    match number(session, rows, row, record) {
         Ok(value) => (0, value),
         Err(refusal) => (refusal, 0),
-    };
+    }
+}
+
+/// The opening.
+pub fn open(session: Session, rows: &[u32], row: usize, record: &[u32]) -> Answer {
+    let (refusal, value) = outcome(&session, rows, row, record);
+    Answer { refusal, value, session }
+}
+
+/// The opening as a caller of the library has it: C's rules put a session that comes by value onto the stack. Rust's own, above, pass a
+/// reference to it.
+#[allow(improper_ctypes_definitions)]
+#[inline(never)]
+pub extern "C" fn open_by_value(
+    session: Session,
+    rows: &[u32],
+    row: usize,
+    record: &[u32],
+) -> Answer {
+    let (refusal, value) = outcome(&session, rows, row, record);
     Answer { refusal, value, session }
 }
 
