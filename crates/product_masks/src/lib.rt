@@ -22,10 +22,19 @@ pub fn triple_marks(session: Session, a: usize, b: usize, row: usize, mark: u8) 
     ensures { λ r. ⌜ r ≡ first (tripleMarks session a b row mark) ⌝ }
 {
     let all_marks = session.marks;
-    let triple = session::checks::wrong_marks(&all_marks, row, mark, shape::FURTHER, shape::FURTHER);
+    let triple = session::checks::wrong_marks(
+        &all_marks,
+        row,
+        mark,
+        shape::FURTHER,
+        shape::FURTHER,
+    );
     refusal::or_else(
         session::checks::wrong_mark(&all_marks, a, shape::HELD),
-        refusal::or_else(session::checks::wrong_mark(&all_marks, b, shape::HELD), triple),
+        refusal::or_else(
+            session::checks::wrong_mark(&all_marks, b, shape::HELD),
+            triple,
+        ),
     )
 }
 

@@ -3,7 +3,7 @@ use Prim.Native.Nat.{ℕ, _≤_}
 use mathlib.Core.Path.{_≡_}
 use mathlib.Core.List.{List, []}
 use mathlib.Core.Bool.{Bool, true, false, cond}
-use lib.ListN.{length, getD, take}
+use lib.ListN.{getD, take}
 use lib.Dec.{eqb}
 use Rattle.shape.specs.Lengths.{masksLength}
 use Rattle.refusal.specs.Refusal.{outcome}
@@ -16,9 +16,10 @@ use Rattle.street_store.specs.Sizes.{InStreet, streetPosts, openingsAt}
 use Rattle.street_store.specs.Records.{recordFor}
 use Rattle.street_states.specs.declared.State.{State}
 use Rattle.street_states.specs.States.{After, rowsOf, settled}
-use Rattle.street_interpreter.specs.declared.orders.Order.{Order}
+use Rattle.street_orders.specs.declared.Order.{Order}
 use Rattle.street_interpreter.specs.declared.Outcome.{Outcome}
-use Rattle.street_interpreter.specs.Orders.{isChange, isKept, changing, looking}
+use Rattle.street_steps.specs.Letters.{isChange}
+use Rattle.street_orders.specs.Orders.{isKept, changing, looking}
 
 abbrev pub held : Session → Bool → ℕ → ℕ → State
 held s started kept triple = record { session = s; started = started; kept = kept; triple = triple }
