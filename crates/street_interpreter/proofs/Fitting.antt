@@ -82,8 +82,9 @@ module _ (g h : Shape) (i : InStreet h) (d : g ≡ h) (xs : List ℕ) (l : lengt
   pub triple-prefix : k ≡ tripleLength g → 1 + k ≡ length (take (1 + k) xs)
   triple-prefix e = sym (length-take-le (1 + k) xs (triple-in e))
 
+module _ (g : Shape) (i : InStreet g) (xs : List ℕ) (l : length xs ≡ numbersRoom) (k : ℕ) where
   pub message-in : k ≡ vLength g → k ≤ length xs
-  message-in e = let r : k ≡ vLength h = e ∙ ap vLength d in omega (arith, r, l, v-room h i, row-room h i)
+  message-in e = omega (arith, e, l, v-room g i)
 
   pub message-prefix : k ≡ vLength g → k ≡ length (take k xs)
   message-prefix e = sym (length-take-le k xs (message-in e))
@@ -92,7 +93,7 @@ module _ (g h : Shape) (i : InStreet h) (d : g ≡ h) (xs : List ℕ) (l : lengt
   message-length e = sym (message-prefix e) ∙ e
 
   pub both-in : k ≡ masksLength g → k ≤ length xs
-  both-in e = let r : k ≡ masksLength h = e ∙ ap masksLength d in omega (arith, r, l, v-room h i, row-room h i)
+  both-in e = omega (arith, e, l, v-room g i)
 
   pub both-prefix : k ≡ masksLength g → k ≡ length (take k xs)
   both-prefix e = sym (length-take-le k xs (both-in e))

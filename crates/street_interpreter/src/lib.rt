@@ -2,14 +2,16 @@
 // the session, with one call site for each of the library's calls, or a look.
 use session::Answer;
 use session::Session;
+use shape::Shape;
 use street_orders::Order;
 ghost use mathlib.Core.Path.{_≡_};
 ghost use mathlib.Core.Bool.{false};
+ghost use Prim.Native.Nat.{_≤_};
 ghost use lib.ListN.{length, replicate};
 ghost use Rattle.session.specs.Sessions.{shapeOf, holding};
 ghost use Rattle.street_store.specs.Sizes.{InStreet, storeRoom, numbersRoom, recordRoom, mostMasks};
 ghost use Rattle.street_steps.specs.Letters.{isChange};
-ghost use Rattle.street_interpreter.specs.Changes.{Able, Brief, Changed, Finished, Alone, Looked, Opened};
+ghost use Rattle.street_interpreter.specs.Changes.{Able, Brief, Changed, Finished, Alone, Looked, Opened, OpeningKept, HalvesKept};
 
 // What a look hands back: the answer, and what the records are kept for.
 pub struct Outcome {
@@ -115,6 +117,62 @@ fn open<'a>(
     }
 }
 
+// An `O`.
+fn keep_opening(
+    shape: Shape,
+    kept: usize,
+    triple: usize,
+    store: &mut [u32],
+    order: Order,
+    numbers: &[u32],
+) -> Outcome
+    requires { ⌜ InStreet shape × (1 ≤ order .post) × (order .post ≤ shape .n) × (length (now store) ≡ storeRoom) × (length (now numbers) ≡ numbersRoom) ⌝ }
+    ensures { λ r. ⌜ OpeningKept shape kept triple order (now (numbers .entry)) (now (store .entry)) r (now (store .exit)) ⌝ }
+{
+    let count = shape.v_len();
+    street_postlines::keep(
+        shape,
+        store,
+        kept == order.row,
+        order.post,
+        &numbers[..count],
+    );
+    Outcome {
+        refusal: 0,
+        value: 0,
+        kept: order.row,
+        triple,
+    }
+}
+
+// An `M`.
+fn keep_halves(
+    shape: Shape,
+    kept: usize,
+    triple: usize,
+    store: &mut [u32],
+    order: Order,
+    numbers: &[u32],
+) -> Outcome
+    requires { ⌜ InStreet shape × (1 ≤ order .post) × (order .post ≤ shape .n) × (length (now store) ≡ storeRoom) × (length (now numbers) ≡ numbersRoom) ⌝ }
+    ensures { λ r. ⌜ HalvesKept shape kept triple order (now (numbers .entry)) (now (store .entry)) r (now (store .exit)) ⌝ }
+{
+    let count = shape.masks_len();
+    street_postlines::keep_masks(
+        shape,
+        store,
+        triple == order.row,
+        order.post,
+        &numbers[..count],
+    );
+    Outcome {
+        refusal: 0,
+        value: 0,
+        kept,
+        triple: order.row,
+    }
+}
+
 // A line that leaves the session as it is.
 pub fn look(
     session: Session,
@@ -140,38 +198,8 @@ pub fn look(
             empty,
             street_states::place(numbers[0]),
         ),
-        b'O' => {
-            let count = shape.v_len();
-            street_postlines::keep(
-                shape,
-                store,
-                kept == order.row,
-                order.post,
-                &numbers[..count],
-            );
-            Outcome {
-                refusal: 0,
-                value: 0,
-                kept: order.row,
-                triple,
-            }
-        }
-        b'M' => {
-            let count = shape.masks_len();
-            street_postlines::keep_masks(
-                shape,
-                store,
-                triple == order.row,
-                order.post,
-                &numbers[..count],
-            );
-            Outcome {
-                refusal: 0,
-                value: 0,
-                kept,
-                triple: order.row,
-            }
-        }
+        b'O' => keep_opening(shape, kept, triple, store, order, numbers),
+        b'M' => keep_halves(shape, kept, triple, store, order, numbers),
         _ => Outcome {
             refusal: order.refusal,
             value: 0,
