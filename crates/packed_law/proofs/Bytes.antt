@@ -12,7 +12,7 @@ use Rattle.decimal.proofs.Digits.{Digits, digits-are-digits}
 use Rattle.csv.specs.Fields.{fields, written}
 use Rattle.street_states.specs.declared.State.{State}
 use Rattle.street_store.specs.Sizes.{longestLine}
-use Rattle.street_interpreter.specs.Stepping.{step}
+use Rattle.street_steps.specs.Stepping.{step}
 use Rattle.street_splitting.specs.Lines.{keptLength}
 use Rattle.street_feeds.specs.Program.{Running, leftBy, answered, grown, fed}
 

@@ -20,7 +20,7 @@ use Rattle.street_store.specs.Sizes.{streetPosts, longestLine, InStreet}
 use Rattle.street_store.proofs.Keeping as Street
 use Rattle.street_startlines.proofs.Longest.{load-short}
 use Rattle.street_states.specs.States.{firstState, begunWith, refusing, leaving}
-use Rattle.street_interpreter.specs.Stepping.{step}
+use Rattle.street_steps.specs.Stepping.{step}
 use Rattle.street_answers.specs.Text.{answerText}
 use Rattle.street_feeds.specs.Program.{Running, leftBy, fed}
 use Rattle.street_transcript.proofs.Chunks.{fed-append}

@@ -24,7 +24,7 @@ use Rattle.load.specs.Load.{loadRowRefusal, loadTripleRefusal, withTriple}
 use Rattle.street_store.specs.Sizes.{streetPosts, longestLine, InStreet}
 use Rattle.street_states.specs.declared.State.{State}
 use Rattle.street_states.specs.States.{After, firstState, begunWith, refusing, leaving, sessionRows, calling}
-use Rattle.street_interpreter.specs.Stepping.{step}
+use Rattle.street_steps.specs.Stepping.{step}
 use Rattle.performing_law.specs.Lines.{TenDigits}
 use Rattle.performing_law.specs.Claims.{Does}
 use Rattle.performing_law.specs.Starting.{OneOrTwo, startLetter, figured, anyNoPoint, settingsTable}

@@ -27,7 +27,7 @@ use Rattle.street_store.specs.Sizes.{longestLine}
 use Rattle.street_states.specs.declared.State.{State}
 use Rattle.street_states.specs.States.{After, sessionRows}
 use Rattle.street_states.proofs.Calling.{answer-refusal}
-use Rattle.street_interpreter.specs.Stepping.{accessStep, lettersStep, lateStep, step}
+use Rattle.street_steps.specs.Stepping.{accessStep, lettersStep, lateStep, step}
 use Rattle.performing_law.specs.Claims.{Does, AccessLine}
 use Rattle.performing_law.specs.Lines.{TenDigits, refusalOf, ownTable, accessTable, AccessLetter}
 use Rattle.performing_law.specs.Sets.{Admits, StreetAdmits}

@@ -30,7 +30,7 @@ use Rattle.street_store.proofs.Keeping.{v-room, row-room, record-room}
 use Rattle.street_states.specs.declared.State.{State}
 use Rattle.street_states.specs.States.{After, keepingRow, keepingTriple, refusing}
 use Rattle.street_postlines.specs.Steps.{heardRefusal, keepStep, keepMasksStep, keepHalvesStep, saying, hearStep}
-use Rattle.street_interpreter.specs.Stepping.{lettersStep, lateStep, step}
+use Rattle.street_steps.specs.Stepping.{lettersStep, lateStep, step}
 use Rattle.performing_law.specs.Records.{Stored, StreetKeeps}
 use Rattle.performing_law.proofs.Heard.{line-short}
 

@@ -17,7 +17,7 @@ use Rattle.street_store.specs.Sizes.{longestLine}
 use Rattle.street_reading.specs.Numbers.{numberForm, numbers, rowsBeyond, readRefusal}
 use Rattle.street_states.specs.declared.State.{State}
 use Rattle.street_states.specs.States.{After, refusing, leaving, unless}
-use Rattle.street_interpreter.specs.Stepping.{lateStep, step}
+use Rattle.street_steps.specs.Stepping.{lateStep, step}
 use Rattle.performing_law.specs.Lines.{TenDigits, Spelled, Range, _to_, anyOutside, lineTable, refusalOf, Letter}
 use Rattle.performing_law.proofs.Spelling.{small, short, form-spells, form-reads, form-other}
 

@@ -21,7 +21,7 @@ use Rattle.street_states.specs.declared.State.{State}
 use Rattle.street_states.specs.States.{After, sessionRows}
 use Rattle.street_rowlines.specs.Loads.{loading, loadStep, loadingTriple, loadTripleStep}
 use Rattle.street_startlines.proofs.Longest.{load-short}
-use Rattle.street_interpreter.specs.Stepping.{lettersStep, lateStep, step}
+use Rattle.street_steps.specs.Stepping.{lettersStep, lateStep, step}
 use Rattle.performing_law.specs.Claims.{Does, StreetLoads}
 use Rattle.performing_law.proofs.Heard.{says, passes}
 use Rattle.performing_law.proofs.Theorems.{does-call}

@@ -25,7 +25,7 @@ use Rattle.street_rowlines.specs.Steps.{adding, linearStep, openStep}
 use Rattle.street_postlines.specs.Steps.{heard, keepStep, keepMasksStep, keepHalvesStep, hearStep}
 use Rattle.street_finishlines.specs.Masks.{masking, maskingOf, maskStep}
 use Rattle.street_finishlines.specs.Steps.{between, pairRefusal, masksFor, finishing, finishStep}
-use Rattle.street_interpreter.specs.Stepping.{accessStep, lettersStep, lateStep, step}
+use Rattle.street_steps.specs.Stepping.{accessStep, lettersStep, lateStep, step}
 use Rattle.performing_law.specs.Starting.{OneOrTwo, settingsTable, anyNoPoint}
 use Rattle.performing_law.specs.Passing.{StreetPasses}
 use Rattle.performing_law.proofs.Starting.{street-starts}

@@ -16,7 +16,7 @@ use Rattle.street_answers.proofs.Texts.{answer-texts}
 use Rattle.street_store.specs.Sizes.{openingsAt, masksAAt, masksBAt, storeRoom, recordRoom, InStreet}
 use Rattle.street_store.specs.Records.{recordAt}
 use Rattle.street_store.proofs.Keeping.{record-room, take-zeros}
-use Rattle.street_interpreter.specs.Stepping.{step}
+use Rattle.street_steps.specs.Stepping.{step}
 use Rattle.street_feeds.specs.Program.{begun, answers, linesFrom, printed}
 use Rattle.performing_law.specs.Program.{NoFeed, ProgramPrints}
 

@@ -21,7 +21,7 @@ use Rattle.street_states.specs.States.{After, begunWith, refusing, leaving}
 use Rattle.street_startlines.specs.Steps.{startTests, beginStep, settingsStep, startStep, earlyStep}
 use Rattle.street_startlines.specs.Table.{startTable}
 use Rattle.street_startlines.proofs.Tables.{start-table}
-use Rattle.street_interpreter.specs.Stepping.{step}
+use Rattle.street_steps.specs.Stepping.{step}
 use Rattle.performing_law.specs.Lines.{TenDigits, startLetters, isOneOf, refusalOf}
 use Rattle.performing_law.specs.Starting.{OneOrTwo, startLetter, figured, dashed, DashMeans, DashIsHalf, settingsTable, Begins, StartText, LetterTable, StreetStarts}
 use Rattle.performing_law.proofs.Heard.{line-short}

@@ -25,7 +25,7 @@ use Rattle.street_rowlines.specs.Steps.{adding, linearStep, opening, openStep}
 use Rattle.street_postlines.specs.Steps.{heardRefusal, heard, keepStep, keepMasksStep, keepHalvesStep, saying, hearStep}
 use Rattle.street_finishlines.specs.Masks.{maskLine, noMasks, masking, maskingOf, maskStep}
 use Rattle.street_finishlines.specs.Steps.{masksFor, between, pairRefusal, finishing, finishStep}
-use Rattle.street_interpreter.specs.Stepping.{lettersStep, lateStep, step}
+use Rattle.street_steps.specs.Stepping.{lettersStep, lateStep, step}
 use Rattle.performing_law.specs.Lines.{letters, isOneOf, vNumbers, rowNumbers, Range, _to_, anyOutside, refusalOf, Letter, dealCall, loadCall, tripleCall, openCall, linearCall, masksCall, finishCall, noCall, StreetTable}
 use Rattle.performing_law.proofs.Lines.{elements-outside, letter-of, unless-refusal, over-step, over, numbers-letter}
 use Rattle.performing_law.proofs.Access.{access-letter}

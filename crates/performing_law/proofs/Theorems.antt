@@ -34,7 +34,7 @@ use Rattle.street_rowlines.specs.Steps.{adding, linearStep, openingsFor, openin
 use Rattle.street_postlines.specs.Steps.{heardRefusal, dealing, hearStep}
 use Rattle.street_finishlines.specs.Steps.{masksFor, finishing, finishStep}
 use Rattle.street_finishlines.specs.Masks.{maskLine, noMasks, masking, maskingOf, maskStep}
-use Rattle.street_interpreter.specs.Stepping.{lettersStep, lateStep, step}
+use Rattle.street_steps.specs.Stepping.{lettersStep, lateStep, step}
 use Rattle.performing_law.specs.Claims.{Acts, Quiet, Does, LinearLine, MasksLine, DealLine, OpenLine, Finishes, FinishLine, StreetPerforms}
 use Rattle.performing_law.proofs.Heard.{says, passes, line-short}
 use Rattle.performing_law.proofs.Access.{access-line}

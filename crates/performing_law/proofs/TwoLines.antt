@@ -2,7 +2,7 @@
 use Prim.Native.Nat.{ℕ, zero, suc, _+_, _*_, _≤_}
 use mathlib.Core.Path.{_≡_, refl, ap, sym, subst, _∙_}
 use mathlib.Core.Bool.{Bool, true, false}
-use mathlib.Core.List.{List, []}
+use mathlib.Core.List.{List}
 use native.Mathlib.Omega.{arith}
 use borrow.Author.Tests.{eqb-true, eqb-false}
 use lib.Dec.{eqb}
@@ -18,7 +18,7 @@ use Rattle.street_store.proofs.Keeping.{record-room}
 use Rattle.street_states.specs.declared.State.{State}
 use Rattle.street_states.specs.States.{After, keepingRow, keepingTriple, refusing, leaving, sessionRows}
 use Rattle.street_postlines.specs.Steps.{keepStep, keepMasksStep}
-use Rattle.street_interpreter.specs.Stepping.{Ready}
+use Rattle.street_steps.specs.Stepping.{Ready}
 use Rattle.performing_law.specs.Records.{Stored}
 use Rattle.performing_law.specs.TwoLines.{recordOf, noBlocks, putInto, KeptFor, FromPost, Finds, Opens, FinishesWith, openingLine, masksLine, openLine, finishLine, OneLine, BehindOpening, BehindMasks, StreetRecords}
 use Rattle.performing_law.proofs.Theorems.{street-performs}

@@ -29,7 +29,7 @@ use Rattle.street_store.specs.Sizes.{openingsAt, masksAAt, masksBAt, InStreet}
 use Rattle.street_store.specs.Records.{recordFor}
 use Rattle.street_states.specs.declared.State.{State}
 use Rattle.street_states.specs.States.{After, sessionRows}
-use Rattle.street_interpreter.specs.Stepping.{step}
+use Rattle.street_steps.specs.Stepping.{step}
 
 -- The line left the answer's session and these rows, and nothing else has changed: the rows and triples that records are kept for stay.
 -- It has the answer's refusal and value.

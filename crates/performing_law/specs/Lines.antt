@@ -26,7 +26,7 @@ use Rattle.session.specs.Sessions.{shapeOf}
 use Rattle.street_store.specs.Records.{recordFor}
 use Rattle.street_states.specs.declared.State.{State}
 use Rattle.street_states.specs.States.{sessionRows}
-use Rattle.street_interpreter.specs.Stepping.{step}
+use Rattle.street_steps.specs.Stepping.{step}
 
 -- "A number has 1 to 10 digits".
 abbrev pub TenDigits : List ℕ → Type 0

@@ -7,7 +7,7 @@ use mathlib.Core.List.{List, _∷_}
 use Rattle.refusal.specs.Refusal.{first}
 use Rattle.street_states.specs.declared.State.{State}
 use Rattle.street_states.specs.States.{After}
-use Rattle.street_interpreter.specs.Stepping.{step}
+use Rattle.street_steps.specs.Stepping.{step}
 use Rattle.performing_law.specs.Lines.{TenDigits, ownTable}
 use Rattle.performing_law.specs.Starting.{OneOrTwo, figured, settingsTable}
 

@@ -14,7 +14,7 @@ use Rattle.street_answers.specs.Claims.{threeDigits}
 use Rattle.street_store.specs.Sizes.{openingsAt, masksAAt, masksBAt, InStreet}
 use Rattle.street_store.specs.Records.{recordAt}
 use Rattle.street_states.specs.declared.State.{State}
-use Rattle.street_interpreter.specs.Stepping.{step}
+use Rattle.street_steps.specs.Stepping.{step}
 use Rattle.street_feeds.specs.Program.{begun, answers, linesFrom, printed}
 
 -- `line,refusal,value` and a line feed

@@ -17,7 +17,7 @@ use Rattle.street_store.specs.Sizes.{openingsAt, masksAAt, masksBAt}
 use Rattle.street_store.specs.Records.{recordAt, recordFor}
 use Rattle.street_states.specs.declared.State.{State}
 use Rattle.street_states.specs.States.{After, keepingRow, keepingTriple, refusing, sessionRows}
-use Rattle.street_interpreter.specs.Stepping.{step, Ready}
+use Rattle.street_steps.specs.Stepping.{step, Ready}
 
 module _ (st : State) (store : List ℕ) where
   abbrev own : Session

@@ -11,7 +11,7 @@ use Rattle.session.specs.declared.Session.{Session}
 use Rattle.session.specs.Sessions.{withBarred}
 use Rattle.access.specs.Claims.{accessText, listed}
 use Rattle.street_states.specs.declared.State.{State}
-use Rattle.street_interpreter.specs.Stepping.{step}
+use Rattle.street_steps.specs.Stepping.{step}
 use Rattle.performing_law.specs.Lines.{TenDigits}
 
 -- The row bars just the posts that are not listed, whoever it barred before; every other row bars whom it barred; the rest of the session is as it was.

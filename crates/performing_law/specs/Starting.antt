@@ -14,7 +14,7 @@ use Rattle.csv.specs.Fields.{fields, written}
 use Rattle.session.specs.Claims.{freshSession}
 use Rattle.street_states.specs.declared.State.{State}
 use Rattle.street_states.specs.States.{After}
-use Rattle.street_interpreter.specs.Stepping.{step}
+use Rattle.street_steps.specs.Stepping.{step}
 use Rattle.performing_law.specs.Claims.{Quiet}
 use Rattle.performing_law.specs.Lines.{TenDigits, startLetters, isOneOf, refusalOf}
 

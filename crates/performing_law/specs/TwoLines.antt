@@ -19,7 +19,7 @@ use Rattle.street_store.specs.Sizes.{openingsAt, masksAAt, masksBAt}
 use Rattle.street_store.specs.Records.{recordAt}
 use Rattle.street_states.specs.declared.State.{State}
 use Rattle.street_states.specs.States.{After, sessionRows}
-use Rattle.street_interpreter.specs.Stepping.{step, Ready}
+use Rattle.street_steps.specs.Stepping.{step, Ready}
 use Rattle.performing_law.specs.Claims.{Quiet, Finishes}
 use Rattle.performing_law.specs.Records.{Stored}
 

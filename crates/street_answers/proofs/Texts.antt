@@ -1,7 +1,7 @@
 -- The text of an answer: two by computing, and its order.
 use Prim.Native.Nat.{ℕ}
 use mathlib.Core.Path.{_≡_, refl, ap}
-use mathlib.Core.List.{List, [], _++_, append-assoc}
+use mathlib.Core.List.{List, _++_, append-assoc}
 use Rattle.decimal.specs.Numeral.{numeral, lastDigits, sizeWithin}
 use Rattle.csv.specs.Fields.{fields}
 use Rattle.street_answers.specs.Text.{longNumeral, answerText}

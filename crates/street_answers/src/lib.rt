@@ -2,7 +2,7 @@
 ghost use mathlib.Core.Path.{_≡_};
 ghost use mathlib.Core.List.{[]};
 ghost use Prim.Native.Nat.{_+_, _≤_};
-ghost use lib.ListN.{length, take};
+ghost use lib.ListN.{length};
 ghost use Rattle.forms.specs.Lines as Lines;
 ghost use Rattle.street_store.specs.Sizes.{streetPosts, mostMasks, toldRoom};
 ghost use Rattle.csv.specs.Fields.{overwrite};

@@ -1,16 +1,15 @@
 -- Bytes of a line kept, a line read where it has ended, and the answer to one printed.
-use Prim.Native.Nat.{ℕ, _+_, _-_, _≤_, _<_, _^_}
-use mathlib.Core.Path.{_≡_, refl, ap, ap₂, sym, _∙_}
+use Prim.Native.Nat.{ℕ, _+_, _-_, _≤_, _<_}
+use mathlib.Core.Path.{_≡_, refl, ap, sym, _∙_}
 use mathlib.Core.List.{List, [], _∷_, _++_}
 use mathlib.Core.Bool.{Bool, true, false, not, cond}
 use native.Mathlib.Omega.{arith}
-use borrow.Author.Tests.{eq-eqb, ne-eqb, eqb-true}
-use lib.ListN.{length, getD, take, drop, length-append}
+use borrow.Author.Tests.{ne-eqb}
+use lib.ListN.{length, getD, take, length-append}
 use lib.Seq.{length-take-le}
 use lib.Dec.{eqb}
 use Rattle.shape.specs.declared.Shape.{Shape}
 use Rattle.shape.specs.Lengths.{Valid, masksLength}
-use Rattle.refusal.specs.Refusal.{outcome}
 use Rattle.refusal.proofs.Endings.{refused, accepted}
 use Rattle.csv.specs.Fields.{overwrite}
 use Rattle.csv.proofs.Overwriting.{length-fields-le}
@@ -21,18 +20,17 @@ use Rattle.street_store.specs.Sizes.{mostMasks, streetPosts, toldRoom}
 use Rattle.street_store.proofs.Keeping.{street-valid, v-room}
 use Rattle.street_states.specs.declared.State.{State}
 use Rattle.street_states.specs.declared.Head.{Head}
-use Rattle.street_states.specs.States.{After, Stepped, firstState, stateOf}
-use Rattle.street_interpreter.specs.declared.orders.Order.{Order}
+use Rattle.street_states.specs.States.{Stepped, firstState, stateOf}
+use Rattle.street_orders.specs.declared.Order.{Order}
 use Rattle.street_interpreter.specs.declared.Outcome.{Outcome}
-use Rattle.street_interpreter.specs.Orders.{Accepted, Reads, looking}
-use Rattle.street_interpreter.specs.Changes.{Looked, held, looked}
+use Rattle.street_orders.specs.Orders.{Reads}
+use Rattle.street_interpreter.specs.Changes.{Looked, looked}
 use Rattle.street_answers.specs.Text.{answerText, printText, longestPrint}
 use Rattle.street_answers.proofs.Printing.{written-front, written-behind, answer-length}
 use Rattle.street_splitting.specs.Lines.{keptLength, cut, laid}
 use Rattle.street_feeds.specs.declared.Feed.{Feed}
-use Rattle.street_feeds.specs.declared.Part.{Part}
 use Rattle.street_feeds.specs.Program.{Running, leftBy, answered, grown, closed, firstFeed, running}
-use Rattle.street_feeds.specs.Between.{segmented, Added, feedOf, grownHead, answeredHead, unreadOrder, turned, PartRead, toldText, TellRoom, Answered, Seen}
+use Rattle.street_feeds.specs.Between.{Added, feedOf, grownHead, answeredHead, turned, PartRead, toldText, TellRoom, Answered, Seen}
 
 pub begin-is : (st : State) → st ≡ firstState → _≡_ {A = Feed} (record { state = st; number = 0; len = 0; at = 0 }) firstFeed
 begin-is st e = ap (λ (s : State). record { state = s; number = 0; len = 0; at = 0 }) e

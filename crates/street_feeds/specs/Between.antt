@@ -15,9 +15,9 @@ use Rattle.session.specs.declared.Session.{Session}
 use Rattle.street_store.specs.Sizes.{InStreet, mostMasks, streetPosts}
 use Rattle.street_states.specs.declared.Head.{Head}
 use Rattle.street_states.specs.States.{stateOf}
-use Rattle.street_interpreter.specs.declared.orders.Order.{Order}
-use Rattle.street_interpreter.specs.Orders.{looking, Reads}
-use Rattle.street_interpreter.specs.Stepping.{Ready}
+use Rattle.street_orders.specs.declared.Order.{Order}
+use Rattle.street_orders.specs.Orders.{looking, Reads}
+use Rattle.street_steps.specs.Stepping.{Ready}
 use Rattle.street_feeds.specs.declared.Feed.{Feed}
 use Rattle.street_feeds.specs.declared.Part.{Part}
 use Rattle.street_answers.specs.Text.{printText, longestPrint}

@@ -8,7 +8,7 @@ use lib.Dec.{eqb}
 use Rattle.street_store.specs.Sizes.{storeRoom}
 use Rattle.street_states.specs.declared.State.{State}
 use Rattle.street_states.specs.States.{After, firstState}
-use Rattle.street_interpreter.specs.Stepping.{step}
+use Rattle.street_steps.specs.Stepping.{step}
 use Rattle.street_feeds.specs.declared.Feed.{Feed}
 use Rattle.street_answers.specs.Text.{header, printText}
 use Rattle.street_splitting.specs.Lines.{cut}

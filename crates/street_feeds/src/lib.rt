@@ -2,7 +2,7 @@
 // read, and when it has been taken its answer is printed.
 use session::Session;
 use shape::Shape;
-use street_interpreter::orders::Order;
+use street_orders::Order;
 use street_states::Head;
 use street_states::State;
 ghost use mathlib.Core.Path.{_≡_};
@@ -12,7 +12,8 @@ ghost use Prim.Native.Nat.{_+_, _-_, _≤_, _<_, _^_};
 ghost use lib.ListN.{length, getD, take, replicate};
 ghost use lib.Dec.{eqb};
 ghost use Rattle.street_store.specs.Sizes.{storeRoom, numbersRoom, recordRoom};
-ghost use Rattle.street_interpreter.specs.Orders.{Accepted, isChange};
+ghost use Rattle.street_steps.specs.Letters.{isChange};
+ghost use Rattle.street_orders.specs.Orders.{Accepted};
 ghost use Rattle.street_interpreter.specs.Changes.{Able};
 ghost use Rattle.street_answers.specs.Text.{longestPrint};
 ghost use Rattle.street_splitting.specs.Lines.{keptLength, cut, laid};
@@ -127,7 +128,7 @@ pub fn read_part(
     let grown = grow(head, line, part, closing);
     let len = grown.len;
     if ends(part, closing, len) {
-        let order = street_interpreter::orders::read(head.started, shape, &line[..len], numbers);
+        let order = street_orders::read(head.started, shape, &line[..len], numbers);
         return Part {
             ended: true,
             order,

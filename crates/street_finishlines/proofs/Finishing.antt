@@ -5,7 +5,6 @@ use mathlib.Core.Bool.{Bool}
 use mathlib.Core.List.{List, _++_}
 use native.Mathlib.Omega.{arith}
 use lib.ListN.{length, take, drop, take-append-drop}
-use lib.Dec.{eqb}
 use Rattle.shape.specs.declared.Shape.{Shape}
 use Rattle.shape.specs.Lengths.{rowsLength}
 use Rattle.refusal.specs.Refusal.{orElse, outcome}
@@ -18,7 +17,7 @@ use Rattle.multiply.specs.Multiply.{multiplyRefusal, multiplyAnswer, multiplyRo
 use Rattle.street_store.specs.Sizes.{InStreet, recordRoom, storeRoom, masksAAt, masksBAt}
 use Rattle.street_store.specs.Records.{recordAt, recordIf}
 use Rattle.street_states.specs.States.{rowsOf, withRows, settled}
-use Rattle.street_finishlines.specs.Steps.{between, pairAnswer, pairRows}
+use Rattle.street_finishlines.specs.Steps.{pairAnswer, pairRows}
 use Rattle.street_finishlines.specs.Between.{afterAnswer, afterRows}
 
 -- ---- where the records stand

@@ -11,7 +11,7 @@ use Rattle.refusal.specs.Refusal.{outcome}
 use Rattle.refusal.proofs.Laws.{all-fail, inside}
 use Rattle.session.specs.declared.Session.{Session}
 use Rattle.session.specs.declared.Answer.{Answer}
-use Rattle.session.specs.Sessions.{shapeOf, answer, maskedTriple}
+use Rattle.session.specs.Sessions.{shapeOf}
 use Rattle.product_masks.specs.Masks.{masksTests, masksRefusal, masksAnswer, maskNumbersOf, masksOut}
 use Rattle.street_store.specs.Sizes.{InStreet, streetPosts, mostMasks}
 use Rattle.street_store.proofs.Keeping.{v-room}

@@ -7,7 +7,6 @@ ghost use mathlib.Core.Path.{_≡_};
 ghost use lib.ListN.{length, replicate};
 ghost use Rattle.session.specs.Sessions.{shapeOf};
 ghost use Rattle.collect.specs.Collect.{collectAnswer};
-ghost use Rattle.multiply.specs.Multiply.{multiplyAnswer, multiplyRows};
 ghost use Rattle.street_store.specs.Sizes.{InStreet, recordRoom, storeRoom, masksAAt, masksBAt};
 ghost use Rattle.street_store.specs.Records.{recordAt, recordIf, recordFor};
 ghost use Rattle.street_states.specs.States.{rowsOf, withRows, settled};

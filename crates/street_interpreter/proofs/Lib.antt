@@ -1,9 +1,3 @@
-pub mod Letters
-pub mod Hearing
-pub mod Heeding
-pub mod Ordering
+pub mod Fitting
 pub mod Changing
-pub mod Room
-pub mod Ranges
-pub mod Cutting
-pub mod Keeping
+pub mod Looking

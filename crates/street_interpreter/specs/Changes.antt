@@ -3,22 +3,24 @@ use Prim.Native.Nat.{ℕ, _≤_}
 use mathlib.Core.Path.{_≡_}
 use mathlib.Core.List.{List, []}
 use mathlib.Core.Bool.{Bool, true, false, cond}
-use lib.ListN.{length, getD, take}
+use lib.ListN.{getD, take, drop}
 use lib.Dec.{eqb}
-use Rattle.shape.specs.Lengths.{masksLength}
+use Rattle.shape.specs.declared.Shape.{Shape}
+use Rattle.shape.specs.Lengths.{vLength, masksLength}
 use Rattle.refusal.specs.Refusal.{outcome}
 use Rattle.forms.specs.Lines as Lines
 use Rattle.session.specs.declared.Session.{Session}
 use Rattle.session.specs.declared.Answer.{Answer}
 use Rattle.session.specs.Sessions.{shapeOf, holding}
 use Rattle.opening.specs.Opening.{openAnswer}
-use Rattle.street_store.specs.Sizes.{InStreet, streetPosts, openingsAt}
-use Rattle.street_store.specs.Records.{recordFor}
+use Rattle.street_store.specs.Sizes.{InStreet, streetPosts, openingsAt, masksAAt, masksBAt}
+use Rattle.street_store.specs.Records.{recordFor, kept}
 use Rattle.street_states.specs.declared.State.{State}
 use Rattle.street_states.specs.States.{After, rowsOf, settled}
-use Rattle.street_interpreter.specs.declared.orders.Order.{Order}
+use Rattle.street_orders.specs.declared.Order.{Order}
 use Rattle.street_interpreter.specs.declared.Outcome.{Outcome}
-use Rattle.street_interpreter.specs.Orders.{isChange, isKept, changing, looking}
+use Rattle.street_steps.specs.Letters.{isChange}
+use Rattle.street_orders.specs.Orders.{isKept, changing, looking}
 
 abbrev pub held : Session → Bool → ℕ → ℕ → State
 held s started kept triple = record { session = s; started = started; kept = kept; triple = triple }
@@ -88,3 +90,14 @@ pub record Opened (s : Session) (kept triple : ℕ) (store : List ℕ) (row : �
       ≡ openAnswer s (rowsOf s store) row (recordFor openingsAt (shapeOf s) kept row store)
   pub kept-same : v .kept ≡ kept
   pub triple-same : v .triple ≡ triple
+
+-- An `O` and an `M`: a post's numbers in the records, and the row, or the triple, that these are kept for.
+pub record OpeningKept (g : Shape) (keptRow triple : ℕ) (o : Order) (xs store : List ℕ) (v : Outcome) (store' : List ℕ) : Type 0 where
+  pub is : v ≡ record { refusal = 0; value = 0; kept = o .row; triple = triple }
+  pub stored : store' ≡ kept openingsAt g (eqb keptRow (o .row)) (o .post) (take (vLength g) xs) store
+
+pub record HalvesKept (g : Shape) (keptRow triple : ℕ) (o : Order) (xs store : List ℕ) (v : Outcome) (store' : List ℕ) : Type 0 where
+  pub is : v ≡ record { refusal = 0; value = 0; kept = keptRow; triple = o .row }
+  pub stored : store'
+      ≡ kept masksBAt g (eqb triple (o .row)) (o .post) (drop (vLength g) (take (masksLength g) xs))
+      (kept masksAAt g (eqb triple (o .row)) (o .post) (take (vLength g) (take (masksLength g) xs)) store)

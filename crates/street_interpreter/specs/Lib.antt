@@ -1,4 +1,1 @@
-pub mod Stepping
-pub mod Orders
 pub mod Changes
-pub mod Claims

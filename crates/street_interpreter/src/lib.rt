@@ -1,20 +1,17 @@
-// The station: what each line of the street program does. A line is read into its order (`orders`); then it is either a change of the
-// session, with one call site for each of the library's calls, or a look.
-pub mod orders;
-
-use orders::Order;
+// The station: what each line of the street program does. A line is read into its order (`street_orders`); then it is either a change of
+// the session, with one call site for each of the library's calls, or a look.
 use session::Answer;
 use session::Session;
-use street_states::State;
+use shape::Shape;
+use street_orders::Order;
 ghost use mathlib.Core.Path.{_≡_};
-ghost use mathlib.Core.Bool.{true, false};
+ghost use mathlib.Core.Bool.{false};
+ghost use Prim.Native.Nat.{_≤_};
 ghost use lib.ListN.{length, replicate};
 ghost use Rattle.session.specs.Sessions.{shapeOf, holding};
 ghost use Rattle.street_store.specs.Sizes.{InStreet, storeRoom, numbersRoom, recordRoom, mostMasks};
-ghost use Rattle.street_states.specs.States.{settled};
-ghost use Rattle.street_interpreter.specs.Stepping.{stationRefusal, roomRefusal};
-ghost use Rattle.street_interpreter.specs.Orders.{isChange};
-ghost use Rattle.street_interpreter.specs.Changes.{Able, Brief, Changed, Finished, Alone, Looked, Opened};
+ghost use Rattle.street_steps.specs.Letters.{isChange};
+ghost use Rattle.street_interpreter.specs.Changes.{Able, Brief, Changed, Finished, Alone, Looked, Opened, OpeningKept, HalvesKept};
 
 // What a look hands back: the answer, and what the records are kept for.
 pub struct Outcome {
@@ -29,23 +26,6 @@ pub fn unchanged(session: Session) -> Answer
     ensures { λ r. ⌜ r ≡ holding 0 0 session ⌝ }
 {
     session.done(0)
-}
-
-// Whether the line of a letter may change the session.
-pub fn changes(letter: u8) -> bool
-    ensures { λ r. ⌜ r ≡ isChange letter ⌝ }
-{
-    match letter {
-        b'R' => true,
-        b'T' => true,
-        b'F' => true,
-        b'L' => true,
-        b'X' => true,
-        b'D' => true,
-        b'A' => true,
-        b'S' => true,
-        _ => false,
-    }
 }
 
 // A line that changes the session by a call with no long work before its end: `D`, `R`, `T`, `L` and `X`. The others are functions of their own:
@@ -81,17 +61,6 @@ pub fn change(
     }
 }
 
-// What a change leaves of its answer: where it is refused, the session as it was.
-fn settle(session: Session, answer: Answer) -> Answer
-    ensures { λ r. ⌜ (settled session r ≡ settled session answer) × (r .session ≡ settled session answer .session) ⌝ }
-{
-    let refusal = answer.refusal;
-    if refusal != 0 {
-        return session.refuse(refusal);
-    }
-    answer
-}
-
 // An `F`.
 pub fn finish(
     session: Session,
@@ -107,7 +76,7 @@ pub fn finish(
 {
     let first = street_states::place(numbers[0]);
     let answer = street_finishlines::finish(session, store, empty, triple, first);
-    settle(session, answer)
+    street_steps::settle(session, answer)
 }
 
 // An `A`.
@@ -124,7 +93,7 @@ pub fn start(session: Session, line: &[u8], order: Order) -> Answer
     ensures { λ r. ⌜ Alone session order (now (line .entry)) r ⌝ }
 {
     let answer = street_startlines::start(line);
-    settle(session, answer)
+    street_steps::settle(session, answer)
 }
 
 // A `G`.
@@ -145,6 +114,62 @@ fn open<'a>(
         value: found.value,
         kept,
         triple,
+    }
+}
+
+// An `O`.
+fn keep_opening(
+    shape: Shape,
+    kept: usize,
+    triple: usize,
+    store: &mut [u32],
+    order: Order,
+    numbers: &[u32],
+) -> Outcome
+    requires { ⌜ InStreet shape × (1 ≤ order .post) × (order .post ≤ shape .n) × (length (now store) ≡ storeRoom) × (length (now numbers) ≡ numbersRoom) ⌝ }
+    ensures { λ r. ⌜ OpeningKept shape kept triple order (now (numbers .entry)) (now (store .entry)) r (now (store .exit)) ⌝ }
+{
+    let count = shape.v_len();
+    street_postlines::keep(
+        shape,
+        store,
+        kept == order.row,
+        order.post,
+        &numbers[..count],
+    );
+    Outcome {
+        refusal: 0,
+        value: 0,
+        kept: order.row,
+        triple,
+    }
+}
+
+// An `M`.
+fn keep_halves(
+    shape: Shape,
+    kept: usize,
+    triple: usize,
+    store: &mut [u32],
+    order: Order,
+    numbers: &[u32],
+) -> Outcome
+    requires { ⌜ InStreet shape × (1 ≤ order .post) × (order .post ≤ shape .n) × (length (now store) ≡ storeRoom) × (length (now numbers) ≡ numbersRoom) ⌝ }
+    ensures { λ r. ⌜ HalvesKept shape kept triple order (now (numbers .entry)) (now (store .entry)) r (now (store .exit)) ⌝ }
+{
+    let count = shape.masks_len();
+    street_postlines::keep_masks(
+        shape,
+        store,
+        triple == order.row,
+        order.post,
+        &numbers[..count],
+    );
+    Outcome {
+        refusal: 0,
+        value: 0,
+        kept,
+        triple: order.row,
     }
 }
 
@@ -173,38 +198,8 @@ pub fn look(
             empty,
             street_states::place(numbers[0]),
         ),
-        b'O' => {
-            let count = shape.v_len();
-            street_postlines::keep(
-                shape,
-                store,
-                kept == order.row,
-                order.post,
-                &numbers[..count],
-            );
-            Outcome {
-                refusal: 0,
-                value: 0,
-                kept: order.row,
-                triple,
-            }
-        }
-        b'M' => {
-            let count = shape.masks_len();
-            street_postlines::keep_masks(
-                shape,
-                store,
-                triple == order.row,
-                order.post,
-                &numbers[..count],
-            );
-            Outcome {
-                refusal: 0,
-                value: 0,
-                kept,
-                triple: order.row,
-            }
-        }
+        b'O' => keep_opening(shape, kept, triple, store, order, numbers),
+        b'M' => keep_halves(shape, kept, triple, store, order, numbers),
         _ => Outcome {
             refusal: order.refusal,
             value: 0,
@@ -212,28 +207,4 @@ pub fn look(
             triple,
         },
     }
-}
-
-// 1, 2 and 4 of a session that no start line can have made.
-fn station_refusal(state: State) -> u8
-    ensures { λ r. ⌜ r ≡ stationRefusal state ⌝ }
-{
-    if state.started {
-        let session = state.session;
-        if street_store::STREET_POSTS < session.n {
-            return 1;
-        }
-        return refusal::station(session.n, session.t, session.points);
-    }
-    0
-}
-
-// 1, 2, 4 and 5 of a step, before its line is looked at.
-pub fn room_refusal(state: State, store: &[u32]) -> u8
-    ensures { λ r. ⌜ r ≡ roomRefusal state (now (store .entry)) ⌝ }
-{
-    refusal::or_else(
-        station_refusal(state),
-        refusal::size(store, street_store::STORE_ROOM),
-    )
 }

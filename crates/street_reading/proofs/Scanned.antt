@@ -1,14 +1,13 @@
 -- The numbers of a line: each way in which reading them ends.
-use Prim.Native.Nat.{ℕ, zero, suc, _+_, _≤_, _<_}
+use Prim.Native.Nat.{ℕ, _+_, _≤_, _<_}
 use mathlib.Core.Path.{_≡_, refl, ap, sym, _∙_}
 use mathlib.Core.List.{List, [], _∷_}
-use mathlib.Core.Bool.{Bool, true, false, _||_}
+use mathlib.Core.Bool.{Bool, true, false}
 use native.Mathlib.Numerals.{add-one}
 use native.Mathlib.Omega.{arith}
 use borrow.Author.Tests.{lt-ltb, le-ltb}
 use lib.ListN.{length, getD, drop, drop-of-length-le}
-use lib.Seq.{drop-cons, drop-drop, getD-drop}
-use lib.Dec.{ltb}
+use lib.Seq.{drop-cons}
 use Rattle.field.specs.Modulus.{p}
 use Rattle.refusal.specs.Refusal.{_when_, first}
 use Rattle.refusal.specs.Conditions.{beyond, anyBeyond}

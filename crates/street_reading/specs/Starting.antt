@@ -1,5 +1,5 @@
 -- Document 01, "The street program": the form of `S,n,t,post,checkpoint`; document 02, (ix): `W,n,t,post,first,second`, "by all the rules of an `S`".
-use Prim.Native.Nat.{ℕ, suc, _+_, _-_, _/_}
+use Prim.Native.Nat.{ℕ, suc, _+_, _/_}
 use mathlib.Core.List.{List}
 use mathlib.Core.Bool.{Bool, _&&_, _||_, cond}
 use lib.ListN.{length, getD}

@@ -5,7 +5,7 @@ ghost use mathlib.Core.Path.{_≡_};
 ghost use Prim.Native.Nat.{suc, _≤_};
 ghost use Rattle.shape.specs.Bounds.{mostPoints};
 ghost use Rattle.csv.specs.Fields.{push, fieldsAt, ended};
-ghost use Rattle.street_reading.specs.Starting.{startsWith, isStart, pointsIn, dashAt, behindPosts, startForm, startOf, startSaid};
+ghost use Rattle.street_reading.specs.Starting.{startsWith, isStart, pointsIn, dashAt, behindPosts, startOf, startSaid};
 
 fn starts_with(letter: u8) -> bool
     ensures { λ r. ⌜ r ≡ startsWith letter ⌝ }

@@ -10,7 +10,7 @@ use lib.Dec.{eqb}
 use lib.ListN.{length, take, length-replicate, length-append}
 use Rattle.street_store.specs.Sizes.{storeRoom}
 use Rattle.street_states.specs.States.{firstState}
-use Rattle.street_interpreter.specs.Stepping.{Ready}
+use Rattle.street_steps.specs.Stepping.{Ready}
 use Rattle.street_chunks.proofs.Feeding.{neither, prefix-length}
 use Rattle.street_feeds.specs.declared.Feed.{Feed}
 use Rattle.street_answers.specs.Text.{header}

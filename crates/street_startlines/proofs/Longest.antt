@@ -3,7 +3,7 @@ use Prim.Native.Nat.{ℕ, zero, suc, _*_, _≤_}
 use mathlib.Core.Path.{_≡_, refl}
 use mathlib.Core.List.{List, [], _∷_}
 use native.Mathlib.Omega.{arith}
-use lib.ListN.{length, replicate, length-append, length-replicate}
+use lib.ListN.{length, replicate, length-append}
 use Rattle.shape.specs.Bounds.{lastRow, lastTriple}
 use Rattle.decimal.specs.Numeral.{sizeWithin, size}
 use Rattle.decimal.proofs.Sizes.{size-grows}

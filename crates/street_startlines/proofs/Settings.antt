@@ -11,7 +11,7 @@ use Rattle.field.specs.Modulus.{p}
 use Rattle.shape.specs.declared.Points.{Points}
 use Rattle.shape.specs.Bounds.{mostPoints}
 use Rattle.refusal.specs.Refusal.{_when_, first, outcome}
-use Rattle.refusal.specs.Conditions.{outside, beyond, badPoint, badPoints, badPointCount, badSecond, postsTests}
+use Rattle.refusal.specs.Conditions.{outside, beyond, badPoint, badPoints, badPointCount, postsTests}
 use Rattle.refusal.proofs.Laws.{or-false, all-fail}
 use Rattle.refusal.proofs.Elements.{below-p}
 use Rattle.refusal.proofs.Ranges.{points-good}

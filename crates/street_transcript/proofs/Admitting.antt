@@ -8,8 +8,8 @@ use borrow.Author.Tests.{lt-ltb, le-ltb, eq-eqb, ne-eqb, ltb-false}
 use lib.ListN.{length}
 use Rattle.refusal.specs.Refusal.{first, orElse}
 use Rattle.refusal.proofs.Laws.{orElse-zero, all-fail, equal}
-use Rattle.street_interpreter.specs.Stepping.{roomRefusal}
-use Rattle.street_interpreter.proofs.Room.{none-ready, ready-none}
+use Rattle.street_steps.specs.Stepping.{roomRefusal}
+use Rattle.street_steps.proofs.Room.{none-ready, ready-none}
 use Rattle.street_feeds.specs.declared.Feed.{Feed}
 use Rattle.street_answers.specs.Text.{longestPrint}
 use Rattle.street_splitting.specs.Lines.{keptLength}

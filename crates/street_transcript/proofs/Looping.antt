@@ -13,10 +13,10 @@ use Rattle.session.specs.declared.Session.{Session}
 use Rattle.session.specs.Sessions.{shapeOf}
 use Rattle.street_store.specs.Sizes.{numbersRoom, mostMasks, storeRoom}
 use Rattle.street_states.specs.declared.Head.{Head}
-use Rattle.street_interpreter.specs.Orders.{Accepted}
+use Rattle.street_orders.specs.Orders.{Accepted}
 use Rattle.street_feeds.specs.declared.Feed.{Feed}
 use Rattle.street_splitting.specs.Lines.{segment, keptLength, laid}
-use Rattle.street_feeds.specs.Program.{Running, fed, closed, running}
+use Rattle.street_feeds.specs.Program.{Running, fed, running}
 use Rattle.street_feeds.specs.Between.{Open, Added, Fed, headOf, feedOf, turned}
 use Rattle.street_transcript.specs.Between.{lineAfter, Closing, ran, lineRan}
 use Rattle.street_transcript.proofs.Chunks.{segment-some, segment-within, fed-segment}

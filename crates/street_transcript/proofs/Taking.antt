@@ -1,5 +1,5 @@
 -- A line that has ended is looked at or changes the session: either way it is answered as the step says.
-use Prim.Native.Nat.{ℕ, zero, suc, _+_, _≤_, _<_, _^_}
+use Prim.Native.Nat.{ℕ, _+_, _≤_, _<_, _^_}
 use mathlib.Core.Path.{_≡_, refl, ap, ap₂, sym, _∙_}
 use mathlib.Core.List.{List}
 use mathlib.Core.Bool.{Bool, true, false, cond}
@@ -7,26 +7,24 @@ use native.Mathlib.Omega.{arith}
 use lib.ListN.{length, take}
 use lib.Dec.{eqb}
 use Rattle.shape.specs.declared.Shape.{Shape}
-use Rattle.refusal.specs.Refusal.{outcome}
 use Rattle.csv.specs.Fields.{overwrite}
 use Rattle.session.specs.declared.Session.{Session}
 use Rattle.session.specs.declared.Answer.{Answer}
-use Rattle.session.specs.Sessions.{shapeOf, answer}
-use Rattle.street_store.specs.Sizes.{InStreet, numbersRoom, mostMasks, storeRoom}
+use Rattle.session.specs.Sessions.{shapeOf}
+use Rattle.street_store.specs.Sizes.{numbersRoom, mostMasks}
 use Rattle.street_states.specs.declared.Head.{Head}
 use Rattle.street_states.specs.States.{After, settled, stateOf}
 use Rattle.street_states.proofs.Calling.{answer-refusal}
-use Rattle.street_interpreter.specs.declared.orders.Order.{Order}
-use Rattle.street_interpreter.specs.Stepping.{step, Ready}
-use Rattle.street_interpreter.specs.Orders.{Reads, isChange, isKept, acting, changing, looking}
+use Rattle.street_orders.specs.declared.Order.{Order}
+use Rattle.street_steps.specs.Stepping.{step, Ready}
+use Rattle.street_steps.specs.Letters.{isChange}
+use Rattle.street_orders.specs.Orders.{Reads, acting, changing, looking}
 use Rattle.street_interpreter.specs.Changes.{held, toldBy, Able, Changed, changed}
-use Rattle.street_interpreter.proofs.Ranges.{step-ready}
+use Rattle.street_steps.proofs.Ranges.{step-ready}
 use Rattle.street_answers.specs.Text.{printText, longestPrint}
-use Rattle.street_splitting.specs.Lines.{keptLength}
-use Rattle.street_feeds.specs.declared.Feed.{Feed}
 use Rattle.street_feeds.specs.declared.Part.{Part}
 use Rattle.street_feeds.specs.Program.{Running, leftBy, answered, running}
-use Rattle.street_feeds.specs.Between.{Open, Added, Fed, feedOf, grownHead, answeredHead, turned, PartRead, toldText, TellRoom, Answered, Seen}
+use Rattle.street_feeds.specs.Between.{Open, Added, Fed, feedOf, answeredHead, turned, PartRead, toldText, TellRoom, Answered, Seen}
 use Rattle.street_feeds.proofs.Feeding.{answered-by, answered-added}
 
 module _ (s : Session) (h : Head) (g : Shape) (d : g ≡ shapeOf s) (store line part line' out xs : List ℕ) (closing : Bool) (r : Part)

@@ -12,11 +12,11 @@ use Rattle.session.specs.declared.Answer.{Answer}
 use Rattle.session.specs.Sessions.{shapeOf, holding}
 use Rattle.street_store.specs.Sizes.{numbersRoom, mostMasks}
 use Rattle.street_states.specs.declared.Head.{Head}
-use Rattle.street_interpreter.specs.declared.orders.Order.{Order}
-use Rattle.street_interpreter.specs.Orders.{isChange}
+use Rattle.street_orders.specs.declared.Order.{Order}
+use Rattle.street_steps.specs.Letters.{isChange}
 use Rattle.street_interpreter.specs.Changes.{Able, Brief, Changed, Finished, Alone}
 use Rattle.street_answers.specs.Text.{longestPrint}
-use Rattle.street_splitting.specs.Lines.{segment, keptLength}
+use Rattle.street_splitting.specs.Lines.{segment}
 use Rattle.street_feeds.specs.declared.Feed.{Feed}
 use Rattle.street_feeds.specs.declared.Part.{Part}
 use Rattle.street_feeds.specs.Between.{Open, headOf, feedOf, answeredHead, PartRead, toldText, TellRoom, Answered, Seen}

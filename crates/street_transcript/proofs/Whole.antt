@@ -9,9 +9,9 @@ use lib.ListN.{length, replicate}
 use lib.Dec.{eqb}
 use Rattle.street_states.specs.declared.State.{State}
 use Rattle.street_states.specs.States.{After, firstState}
-use Rattle.street_interpreter.specs.Stepping.{step}
+use Rattle.street_steps.specs.Stepping.{step}
 use Rattle.street_store.specs.Sizes.{storeRoom}
-use Rattle.street_interpreter.proofs.Cutting.{step-cut}
+use Rattle.street_steps.proofs.Cutting.{step-cut}
 use Rattle.street_answers.specs.Text.{header}
 use Rattle.street_splitting.specs.Lines.{keptLength, cut}
 use Rattle.street_feeds.specs.Program.{Running, leftBy, answered, grown, taken, fed, closed, drained, passed, printedFor, joined, ChunksPrint, begun, output, linesFrom, withAnswer, answers, printed, PrintsAnswers}

@@ -5,7 +5,7 @@ use lib.ListN.{length}
 use lib.Dec.{ltb}
 use Rattle.refusal.specs.Refusal.{Test, _when_, first, orElse}
 use Rattle.refusal.specs.Conditions.{wrongLength}
-use Rattle.street_interpreter.specs.Stepping.{roomRefusal}
+use Rattle.street_steps.specs.Stepping.{roomRefusal}
 use Rattle.street_feeds.specs.declared.Feed.{Feed}
 use Rattle.street_answers.specs.Text.{longestPrint}
 use Rattle.street_splitting.specs.Lines.{keptLength}

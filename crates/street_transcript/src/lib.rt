@@ -61,7 +61,7 @@ fn take_lines(
         if part.ended {
             let order = part.order;
             let letter = order.letter;
-            if street_interpreter::changes(letter) {
+            if street_steps::changes(letter) {
                 let len = head.len;
                 let post = session.post;
                 match letter {

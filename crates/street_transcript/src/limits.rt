@@ -43,7 +43,7 @@ pub fn open_refusal<'a>(
 {
     let state = feed.state;
     refusal::or_else(
-        street_interpreter::room_refusal(state, store),
+        street_steps::room_refusal(state, store),
         feed_refusal(feed, line, out, count),
     )
 }

@@ -1,6 +1,7 @@
 -- `finish` meets its contract.
 use borrow.Author.Needs.{needs}
-use Rattle.street_interpreter.proofs.Changing.{street-f, finish-ends}
+use Rattle.street_interpreter.proofs.Fitting.{street-f}
+use Rattle.street_interpreter.proofs.Changing.{finish-ends}
 use Rattle.street_interpreter.proofs.finish.Statement.{statement}
 use Rattle.street_interpreter.proofs.finish.Tie as tie
 

@@ -1,0 +1,3 @@
+pub mod Stepping
+pub mod Letters
+pub mod Claims
