@@ -30,6 +30,13 @@ module _ (r : ℕ) (new old : Session) where
   pub ends-refused : (r ≡ 0 → ⊥) → holding r 0 old ≡ answer r 0 new old
   ends-refused n = refused-answer r r 0 old new old refl n refl
 
+  -- of a session that was made in two steps, as where two ways meet
+  pub made-accepted : (s : Session) → r ≡ 0 → s ≡ new → holding r 0 s ≡ answer r 0 new old
+  made-accepted s z e = ap (holding r 0) e ∙ ends-accepted z
+
+  pub made-refused : (s : Session) → (r ≡ 0 → ⊥) → s ≡ old → holding r 0 s ≡ answer r 0 new old
+  made-refused s n e = ap (holding r 0) e ∙ ends-refused n
+
 -- a last method that is called with no refusal: what is so may be gone by, and the session is the new one
 pub allowed-anyhow : (what : Type 0) → what → Allows 0 what
 allowed-anyhow what h = record { allowed = λ n. h }
