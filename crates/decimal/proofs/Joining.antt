@@ -4,7 +4,6 @@ use mathlib.Core.Path.{_≡_, refl, ap, sym, _∙_}
 use mathlib.Core.List.{List, [], _∷_, _++_, append-assoc, append-nil}
 use native.Mathlib.Omega.{arith}
 use native.Mathlib.Nat.{div-add-mod', mod-lt, mul-left-comm, div-div-eq-div-mul}
-use lib.Dec.{T, ltb, lit<}
 use lib.ListN.{length, set, take, length-set}
 use lib.Seq.{take-suc-set, take-all}
 use Rattle.decimal.specs.Numeral.{tens, lastDigits}
@@ -79,11 +78,6 @@ stores-from (b ∷ bs) l i e =
 pub stores-all : (bs l : List ℕ) → length l ≡ length bs → stores 0 bs l ≡ bs
 stores-all bs l e = stores-from bs l 0 (omega arith)
 
--- they keep the length
-length-stores : (bs l : List ℕ) (i : ℕ) → length (stores i bs l) ≡ length l
-length-stores [] l i = refl
-length-stores (b ∷ bs) l i = length-stores bs (set l i b) (suc i) ∙ length-set l i b
-
 -- ---- bytes taken from one number, the lowest first
 abbrev bytes : ℕ → ℕ → List ℕ
 bytes zero v = []
@@ -128,13 +122,6 @@ module _ (l : List ℕ) (x v : ℕ) (n : length l ≡ 10) (h : x < 4294967296) w
 
   first-ones : high - 10 * (high * 13 / 128) ≡ high % 10
   first-ones = omega (arith, first-tens)
-
-  -- where each of them goes, and that the list is as long behind them
-  pub ten-kept : (k : ℕ) → length (stores 0 (take k ((48 + high * 13 / 128) ∷ (48 + (high - 10 * (high * 13 / 128))) ∷ eight-bytes v)) l) ≡ length l
-  ten-kept k = length-stores (take k ((48 + high * 13 / 128) ∷ (48 + (high - 10 * (high * 13 / 128))) ∷ eight-bytes v)) l 0
-
-  pub ten-place : (k : ℕ) → T (ltb k 10) → k < length (stores 0 (take k ((48 + high * 13 / 128) ∷ (48 + (high - 10 * (high * 13 / 128))) ∷ eight-bytes v)) l)
-  ten-place k t = rw (ten-kept k, n) (lit< t)
 
   pub ten-put : v ≡ packed (lastDigits 8 (x % 100000000))
       → stores 0 ((48 + high * 13 / 128) ∷ (48 + (high - 10 * (high * 13 / 128))) ∷ eight-bytes v) l ≡ lastDigits 10 x

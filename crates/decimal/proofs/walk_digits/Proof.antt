@@ -11,7 +11,9 @@ Inv-loop line at end sum₀ i₀ sum i = Walked line at end sum i
 abbrev μ-loop : tie.MeasureT-loop
 μ-loop line at end sum₀ i₀ sum i = end - i
 
+ruleset turns = (needs, walked-start, walked-within, walked-below, walked-above, walked-end, walked-mul, walked-add, walked-more)
+
 pub walk-digits-spec : {M : Type 1} → statement M
 walk-digits-spec =
     tie.close
-    (tie.spec Inv-loop μ-loop (λ c κs. search needs) (λ c. search walked-start) (λ c. search walked-within) (λ c. search walked-below) (λ c. search walked-within) (λ c. search walked-above) (λ c. search walked-mul) (λ c. search walked-within) (λ c. search needs) (λ c κs. search needs) (λ c. search walked-add) (λ c. search needs) (λ c. search needs) (λ c. search walked-more) (λ c. search walked-end))
+    (tie.spec Inv-loop μ-loop (λ c κs. search turns) (λ c. search turns) (λ c. search turns) (λ c. search turns) (λ c. search turns) (λ c. search turns) (λ c. search turns) (λ c. search turns) (λ c. search turns) (λ c κs. search turns) (λ c. search turns) (λ c. search turns) (λ c. search turns) (λ c. search turns) (λ c. search turns))
