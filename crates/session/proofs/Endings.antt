@@ -1,6 +1,7 @@
 -- The two ways in which a call on a session ends, as its answer shows them.
 use Prim.Native.Nat.{ℕ, zero, suc, _+_, _*_, _≤_, _<_}
 use mathlib.Core.Path.{_≡_, refl, _∙_, ap, ap₂}
+use mathlib.Core.List.{List}
 use native.Mathlib.Omega.{arith}
 use borrow.Author.Needs.{needs}
 use mir.Syntax.{w8, w64}
@@ -10,7 +11,7 @@ use Rattle.refusal.specs.Refusal.{outcome}
 use Rattle.refusal.proofs.Endings.{refused, accepted}
 use Rattle.session.specs.declared.Session.{Session}
 use Rattle.session.specs.declared.Answer.{Answer}
-use Rattle.session.specs.Sessions.{holding, answer}
+use Rattle.session.specs.Sessions.{withMarks, holding, answer}
 use Rattle.session.specs.Between.{Allows}
 
 pub refused-answer : (r x value : ℕ) (s new old : Session) → r ≡ x → (r ≡ 0 → ⊥) → s ≡ old → holding r 0 s ≡ answer x value new old
@@ -29,6 +30,21 @@ module _ (r : ℕ) (new old : Session) where
 
   pub ends-refused : (r ≡ 0 → ⊥) → holding r 0 old ≡ answer r 0 new old
   ends-refused n = refused-answer r r 0 old new old refl n refl
+
+  -- of a session that was made in two steps, as where two ways meet
+  pub made-accepted : (s : Session) → r ≡ 0 → s ≡ new → holding r 0 s ≡ answer r 0 new old
+  made-accepted s z e = ap (holding r 0) e ∙ ends-accepted z
+
+  pub made-refused : (s : Session) → (r ≡ 0 → ⊥) → s ≡ old → holding r 0 s ≡ answer r 0 new old
+  made-refused s n e = ap (holding r 0) e ∙ ends-refused n
+
+-- the same of a list of marks alone, where two ways meet: the one that was written, or the one that came
+module _ (r : ℕ) (s : Session) (l new : List ℕ) where
+  pub marks-written : r ≡ 0 → l ≡ new → holding r 0 (withMarks s l) ≡ answer r 0 (withMarks s new) s
+  marks-written z e = made-accepted r (withMarks s new) s (withMarks s l) z (ap (withMarks s) e)
+
+  pub marks-kept : (r ≡ 0 → ⊥) → l ≡ s .marks → holding r 0 (withMarks s l) ≡ answer r 0 (withMarks s new) s
+  marks-kept n e = made-refused r (withMarks s new) s (withMarks s l) n (ap (withMarks s) e)
 
 -- a last method that is called with no refusal: what is so may be gone by, and the session is the new one
 pub allowed-anyhow : (what : Type 0) → what → Allows 0 what

@@ -1,14 +1,14 @@
--- `Session::answer_marking` meets its contract. Where the two ways meet, the list is what the way left.
+-- `Session::answer_marking` meets its contract. Where the two ways meet, the list is what the way left. No path leads to where the method
+-- begins: a method with one step more is refused at what it gives back.
 use mathlib.Core.Logic.{⊎-elim}
-use borrow.Author.Needs.{needs}
-use Rattle.session.proofs.Endings.{row-allowed, ends-accepted, ends-refused}
+use Rattle.session.proofs.Endings.{row-allowed, marks-written, marks-kept}
 use Rattle.session.proofs.Session.answer_marking.Statement.{statement}
 use Rattle.session.proofs.Session.answer_marking.Tie as tie
 
-ruleset steps = (needs, row-allowed, ends-accepted, ends-refused)
+returns : tie.Need-returns
+returns c =
+    ⊎-elim (λ w. marks-written _ _ _ _ (w .0 .taken) (w .1)) (λ w. marks-kept _ _ _ _ (w .0 .left) (w .1))
+    (c .before .before .before .before .before .if1 .came)
 
 pub answer-marking-spec : {M : Type 1} → statement M
-answer-marking-spec =
-    tie.close
-    (tie.spec (λ c. search steps)
-    (λ c. ⊎-elim (λ w. rw (w .1) (search steps)) (λ w. rw (w .1) (search steps)) (c .before .before .before .before .before .if1 .came)))
+answer-marking-spec = tie.close (tie.spec (λ c. search row-allowed) returns)
