@@ -16,7 +16,7 @@ use Rattle.runs.specs.Calls.{Among}
 use Rattle.runs.specs.Orders.{call, place, turn, Desk, sentOn}
 use Rattle.secrecy.specs.Steps.{Secrets, Step, Item, dealtNumber, heardFrom}
 use Rattle.secrecy.specs.Seen.{allRows, posts, joined, member, dealSeen, polynomialSeen, rawSeen, tripleSeen, orderAt, doneAt, linesOf, entryOf, run, seen}
-use Rattle.secrecy.specs.Record.{Calls, Makes, EntriesHold, RecordHolds}
+use Rattle.secrecy.specs.Record.{CallsIn, Makes, PostsTold, EntriesHold, RecordHolds}
 use Rattle.secrecy.proofs.Selections.{among-numbers}
 use Rattle.secrecy.proofs.Enough.{among-member}
 
@@ -65,7 +65,7 @@ module _ {A : Type 0} (x : A) where
       go : false ≡ true → ⊥
       go q = absurd (subst (λ (b : Bool). cond b ⊥ (Unit {0})) q tt)
 
-heard-is : (c : Step) (i : ℕ) → Calls c i → heardFrom c i ≡ true
+heard-is : (c : Step) (i : ℕ) → CallsIn c i → heardFrom c i ≡ true
 heard-is (message x) i h = h
 heard-is (loadRow x) i h = refl
 heard-is (loadTriple x) i h = refl
@@ -118,4 +118,23 @@ record-holds plan group draw u rows os =
       deals = λ r dealer row e.
           row-of [] (dealSeen plan draw u) r row ∙ ap (λ (x : Raw). whenRaw x (text (Line.deal r (dealtNumber plan draw u r))) []) e;
       entries = refl;
+    }
+
+pub posts-told : PostsTold
+unfolding dealSeen
+posts-told plan draw u lines i =
+    record {
+      to-load = λ r k. refl;
+      to-load-triple = λ r k. refl;
+      to-deal = λ r k. refl;
+      to-deal-fixed = λ r c. refl;
+      to-send = λ r caller lent heard. refl;
+      to-open = λ r blocks. refl;
+      to-add = λ r a b scale fee. refl;
+      to-collect = λ r blocksA blocksB. refl;
+      to-admit = λ line. refl;
+      to-place = λ d line. refl;
+      to-place-theirs = λ d r dealer e.
+          ap (λ (x : Raw). place d (whenRaw x (text (Line.deal r (dealtNumber plan draw u r))) [])) e;
+      to-turn = refl;
     }

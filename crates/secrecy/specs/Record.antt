@@ -3,35 +3,36 @@
 -- say less and stay proved. (Check points: Points.antt.) Proved in proofs/Record.antt.
 use Prim.Native.Nat.{ℕ, _+_, _-_, _≤_, _<_}
 use mathlib.Core.Path.{_≡_}
-use mathlib.Core.Bool.{true}
-use mathlib.Core.List.{List, [], _∷_}
+use mathlib.Core.Bool.{Bool, true}
+use mathlib.Core.List.{List, [], _∷_, map}
 use lib.ListN.{length, take, getD}
 use Rattle.forms.specs.Lines as Line
 use Rattle.forms.specs.Lines.{text}
 use Rattle.runs.specs.Draws.{Plan, Draw, by, rawDraw, rawPack, triplePack}
-use Rattle.runs.specs.Outline.{loadRow, loadTriple, deal, message, opening, linear, masks, collect, multiply, relationMasks, relationFinish, access}
+use Rattle.runs.specs.Outline as Outline
+use Rattle.runs.specs.Calls as Calls
 use Rattle.runs.specs.Calls.{Among}
 use Rattle.runs.specs.Orders.{call, place, turn, Desk, Carried, carry, sentOn}
-use Rattle.secrecy.specs.Steps.{Secrets, Step, Item, dealtNumber}
+use Rattle.secrecy.specs.Steps.{Secrets, Following, Number, sent, own, Lent, Record, theirs, bytes, Step, Item, dealtNumber, loadRow, loadTriple, deal, message, opening, linear, collect, access}
 use Rattle.secrecy.specs.Seen.{Seen, orderAt, newDesk, entryOf, run, seen}
 
 -- Who makes an order: of an opening message those whom it names ("however few posts send one"), of any other order every post.
-abbrev pub Calls : Step → ℕ → Type 0
-Calls (message x) i = x .heard i ≡ true
-Calls (loadRow x) i = Unit {0}
-Calls (loadTriple x) i = Unit {0}
-Calls (deal x) i = Unit {0}
-Calls (opening x) i = Unit {0}
-Calls (linear x) i = Unit {0}
-Calls (masks x) i = Unit {0}
-Calls (collect x) i = Unit {0}
-Calls (multiply x) i = Unit {0}
-Calls (relationMasks x) i = Unit {0}
-Calls (relationFinish x) i = Unit {0}
-Calls (access x) i = Unit {0}
+abbrev pub CallsIn : Step → ℕ → Type 0
+CallsIn (Outline.message x) i = x .heard i ≡ true
+CallsIn (Outline.loadRow x) i = Unit {0}
+CallsIn (Outline.loadTriple x) i = Unit {0}
+CallsIn (Outline.deal x) i = Unit {0}
+CallsIn (Outline.opening x) i = Unit {0}
+CallsIn (Outline.linear x) i = Unit {0}
+CallsIn (Outline.masks x) i = Unit {0}
+CallsIn (Outline.collect x) i = Unit {0}
+CallsIn (Outline.multiply x) i = Unit {0}
+CallsIn (Outline.relationMasks x) i = Unit {0}
+CallsIn (Outline.relationFinish x) i = Unit {0}
+CallsIn (Outline.access x) i = Unit {0}
 
 abbrev pub Makes : Item → ℕ → Type 0
-Makes (call c) i = Calls c i
+Makes (call c) i = CallsIn c i
 Makes (place d l) i = Unit {0}
 Makes turn i = Unit {0}
 
@@ -63,6 +64,28 @@ module _ (plan : Plan) (group : List ℕ) (draw : Draw) (u : Secrets) where
           → getD (shown .polynomials) r [] ≡ take (plan .t + 1) (rawDraw draw r)
       pub deals : (r dealer : ℕ) → r ≤ 95 → plan .raw r ≡ by dealer → getD (shown .deals) r [] ≡ text (Line.deal r (dealtNumber plan draw u r))
       pub entries : shown .entries ≡ run plan group draw u os (shown .deals) (λ i. newDesk plan draw (rows i) i)
+
+-- What each post is told, whichever it is: "its own part" of what was drawn, the c that the row's dealer broadcast, its own record, who calls; of a
+-- line placed (02, (xii)) the dealer's D line or the bytes, the same at every post.
+pub record TellsPost (plan : Plan) (draw : Draw) (u : Secrets) (lines : List (List ℕ)) (i : ℕ) : Type 0 where
+  pub to-load : (r k : ℕ) → orderAt plan draw u lines i (call (loadRow r (own k))) ≡ call (loadRow r (rawPack plan draw i k))
+  pub to-load-triple : (r k : ℕ) → orderAt plan draw u lines i (call (loadTriple r (own k))) ≡ call (loadTriple r (triplePack plan draw i k))
+  pub to-deal : (r k : ℕ) → orderAt plan draw u lines i (call (deal r (sent k))) ≡ call (deal r (dealtNumber plan draw u k))
+  pub to-deal-fixed : (r c : ℕ) → orderAt plan draw u lines i (call (deal r (Number.fixed c))) ≡ call (deal r c)
+  pub to-send : (r caller : ℕ) (lent : Lent) (heard : ℕ → Bool)
+      → orderAt plan draw u lines i (call (message r caller lent heard)) ≡ call (Calls.message r caller (map (λ (x : Following). x draw u) (lent i)))
+  pub to-open : (r : ℕ) (blocks : Record) → orderAt plan draw u lines i (call (opening r blocks)) ≡ call (opening r (blocks i lines))
+  pub to-add : (r a b scale fee : ℕ) → orderAt plan draw u lines i (call (linear r a b scale fee)) ≡ call (linear r a b scale fee)
+  pub to-collect : (r : ℕ) (blocksA blocksB : Record)
+      → orderAt plan draw u lines i (call (collect r blocksA blocksB)) ≡ call (collect r (blocksA i lines) (blocksB i lines))
+  pub to-admit : (line : List ℕ) → orderAt plan draw u lines i (call (access line)) ≡ call (access line)
+  pub to-place : (d : ℕ) (line : List ℕ) → orderAt plan draw u lines i (place d (bytes line)) ≡ place d line
+  pub to-place-theirs : (d r dealer : ℕ) → plan .raw r ≡ by dealer
+      → orderAt plan draw u lines i (place d (theirs r)) ≡ place d (text (Line.deal r (dealtNumber plan draw u r)))
+  pub to-turn : orderAt plan draw u lines i turn ≡ turn
+
+abbrev pub PostsTold : Type 0
+PostsTold = (plan : Plan) (draw : Draw) (u : Secrets) (lines : List (List ℕ)) (i : ℕ) → TellsPost plan draw u lines i
 
 -- Entries of longer lists: `RunGoesOn` (Claim.antt).
 abbrev pub EntriesHold : Type 0
