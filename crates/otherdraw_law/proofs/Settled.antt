@@ -1,10 +1,12 @@
 -- The setting by rows and figures.
-use mathlib.Core.Path.{refl, ap}
-use mathlib.Core.Bool.{Bool, cond}
+use mathlib.Core.Path.{_≡_, refl, ap}
+use mathlib.Core.Bool.{Bool, true, false, cond}
 use borrow.Author.Tests.{eq-eqb, ne-eqb}
 use Rattle.runs.specs.Draws.{none, by}
+use Rattle.secrecy.specs.Seen.{member}
+use Rattle.secrecy.proofs.Enough.{member-among}
 use Rattle.otherdraw_law.specs.OneRow.{drawOf}
-use Rattle.otherdraw_law.specs.Laws.{OneRowIs, Orders, RecordIs}
+use Rattle.otherdraw_law.specs.Laws.{OneRowIs, Orders, RecordIs, DealtAsks}
 use Rattle.otherdraw_law.proofs.Told.{drawn-row, pack-is, number-is}
 use Rattle.otherdraw_law.proofs.Drawn.{no-draw}
 
@@ -27,3 +29,10 @@ orders = record { to-load = λ r. refl; to-deal = λ r. refl; to-place = λ r d.
 
 pub record-is : RecordIs
 record-is S draw u = refl
+
+pub dealt-asks : DealtAsks
+dealt-asks S row out = record { row = row; dealer = go (member (S .dealer) (S .posts)) refl }
+  where
+    go : (b : Bool) → member (S .dealer) (S .posts) ≡ b → b ≡ false
+    go true e = absurd (out (member-among (S .dealer) (S .posts) e))
+    go false e = refl

@@ -10,11 +10,12 @@ use Rattle.field.specs.Arithmetic.{difference}
 use Rattle.parts.specs.Draw.{part}
 use Rattle.packs.specs.Packs.{pointsAt}
 use Rattle.runs.specs.Draws.{none, by, rawDraw, rawPack}
+use Rattle.runs.specs.Calls.{Among}
 use Rattle.runs.specs.Orders.{call, place, turn}
 use Rattle.secrecy.specs.Steps.{its, sent, theirs, loadRow, deal, dealtNumber}
 use Rattle.secrecy.specs.Seen.{seen}
 use Rattle.otherdraw_law.specs.OneRow.{loads, deals, places, turns, order, Setting, planIn, drawIn, recordOf}
-use Rattle.otherdraw_law.specs.Claims.{shapeIn}
+use Rattle.otherdraw_law.specs.Claims.{Dealt, shapeIn}
 
 -- Row r alone is drawn, for its dealer; every post gets its part of this draw and of no other, and the dealer's number is u − f(0).
 pub record OneRowDrawn (S : Setting) (draw : List ℕ) : Type 0 where
@@ -44,3 +45,7 @@ abbrev pub RecordIs : Type 0
 RecordIs =
     (S : Setting) (draw : List ℕ) (u : ℕ)
     → recordOf S draw u ≡ seen (planIn S) (S .posts) (drawIn S draw) (λ q. u) (S .rows) (map (order (S .r)) (S .todo))
+
+-- "by none of the posts listed": of the row's number and its dealer no more is asked.
+abbrev pub DealtAsks : Type 0
+DealtAsks = (S : Setting) → S .r ≤ 95 → (Among (S .dealer) (S .posts) → ⊥) → Dealt S

@@ -1,6 +1,7 @@
 -- What the rules ask of a call is what specs/Asked.antt says, and no more.
 use Prim.Native.Nat.{ℕ, suc, _+_, _*_}
-use mathlib.Core.Path.{_≡_, refl}
+use mathlib.Core.Path.{_≡_, refl, sym, subst}
+use mathlib.Core.Logic.{inl, inr}
 use mathlib.Core.List.{List, [], _∷_, _++_}
 use lib.ListN.{length}
 use Rattle.poly.specs.Counting.{All}
@@ -10,10 +11,10 @@ use Rattle.runs.specs.Draws.{Plan}
 use Rattle.runs.specs.Outline.{Move, loadRow, loadTriple, deal, message, opening, linear, masks, collect, multiply, relationMasks, relationFinish, access, factoring, finishing, summing, takes}
 use Rattle.runs.specs.Orders.{Comes, noCall, aCall, Asked}
 use Rattle.runs.proofs.Outlines.{all-every}
-use Rattle.secrecy.specs.Steps.{Fixed, Record, Step}
+use Rattle.secrecy.specs.Steps.{Number, Fixed, Record, Step}
 use Rattle.secrecy.specs.Waiting.{comesOf}
-use Rattle.secrecy.specs.Rules.{RuleWith, Rule, refusalOf}
-use Rattle.secrecy.specs.Asked.{TermsSent, RuleAsked, RulesAsk, RulesOfLists}
+use Rattle.secrecy.specs.Rules.{FromDealer, RuleWith, Rule, refusalOf}
+use Rattle.secrecy.specs.Asked.{Broadcast, TermsSent, RuleAsked, RulesAsk, RulesOfLists}
 
 module _ (plan : Plan) (k : ℕ) (lines : List (List ℕ)) where
   abbrev Kept : Move Fixed → Type 0
@@ -35,10 +36,14 @@ module _ (plan : Plan) (k : ℕ) (lines : List (List ℕ)) where
   kept-sum r [] = tt
   kept-sum r (t ∷ ts) = (tt, tt)
 
+  from-dealer : (r : ℕ) (c : Number) → Broadcast lines r c → FromDealer lines r c
+  from-dealer r c (inl e) = subst (FromDealer lines r) (sym e) refl
+  from-dealer r c (inr (x, e, low, told)) = subst (FromDealer lines r) (sym e) (low, told)
+
   rule-asked : (c : Step) → RuleAsked plan k lines c → Rule plan c k lines
   rule-asked (loadRow x) h = h
   rule-asked (loadTriple x) h = h
-  rule-asked (deal x) h = h
+  rule-asked (deal x) h = λ z. from-dealer (x .r) (x .c) (h z)
   rule-asked (message x) h = tt
   rule-asked (opening x) h = h
   rule-asked (linear x) h = tt

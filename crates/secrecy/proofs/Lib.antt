@@ -42,6 +42,9 @@ pub mod Listed
 pub mod Counts
 -- What the rules ask, call by call.
 pub mod Asked
+-- What demand 3 asks, in figures, and what its record holds, place by place.
+pub mod Enough
+pub mod Record
 -- The theorems; that nobody gets 13; and that the record shows all check points of a group.
 pub mod Matched
 pub mod CallTheorems

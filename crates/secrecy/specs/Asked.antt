@@ -1,27 +1,37 @@
 -- Document 01, "To keep the rules", call by call: said beside the outline, in the document's words. A call that is so keeps them: nothing else
 -- is asked.
-use Prim.Native.Nat.{ℕ, suc, _+_, _*_, _≤_}
+use Prim.Native.Nat.{ℕ, suc, _+_, _*_, _-_, _≤_, _<_}
 use mathlib.Core.Path.{_≡_}
 use mathlib.Core.Bool.{true}
+use mathlib.Core.Logic.{_≢_, _⊎_}
 use mathlib.Core.List.{List, [], _∷_, _++_}
-use lib.ListN.{length, take, drop}
+use lib.ListN.{length, take, drop, getD}
 use Rattle.shape.specs.Lengths.{vLength}
+use Rattle.forms.specs.Lines as Line
+use Rattle.forms.specs.Lines.{text}
 use Rattle.terms.specs.declared.Term.{Term}
 use Rattle.terms.specs.Listed.{productsOf}
 use Rattle.runs.specs.Draws.{Plan, IsRaw, planShape}
 use Rattle.runs.specs.Outline.{loadRow, loadTriple, deal, message, opening, linear, masks, collect, multiply, relationMasks, relationFinish, access, cut}
-use Rattle.runs.specs.Calls.{Told, ToldHalf}
+use Rattle.runs.specs.Calls.{Among, Told, ToldHalf}
 use Rattle.runs.specs.Orders.{aCall}
-use Rattle.secrecy.specs.Steps.{its, Record, Step, Item}
+use Rattle.secrecy.specs.Steps.{its, Number, sent, Record, Step, Item}
 use Rattle.secrecy.specs.Seen.{Entry}
 use Rattle.secrecy.specs.Waiting.{Waiting, waitingAfter, comesOf}
-use Rattle.secrecy.specs.Rules.{FromDealer, OnlySent, Walks, Rule, refusalOf, heardOf, Rules}
+use Rattle.secrecy.specs.Rules.{Walks, Rule, refusalOf, heardOf, Rules}
+
+-- "to put in records only what its sender broadcast": each block with mark 1 but the post's own, by its place in the record.
+abbrev pub OthersSent : Plan → (ℕ → List ℕ → Type 0) → (ℕ → List ℕ) → Type 0
+OthersSent plan Shown blocks =
+    (i j : ℕ) → 1 ≤ i → i ≤ plan .n → 1 ≤ j → j ≤ plan .n → j ≢ i
+    → getD (blocks i) ((j - 1) * (plan .points * plan .t + 1 + 1)) 0 ≡ 1
+    → Shown j (take (plan .points * plan .t + 1) (drop ((j - 1) * (plan .points * plan .t + 1 + 1) + 1) (blocks i)))
 
 -- Records of the two masks of the triple at r show what their senders broadcast for that factor of that triple.
 abbrev pub BothSent : Plan → List (List ℕ) → ℕ → (ℕ → List ℕ) → (ℕ → List ℕ) → Type 0
 BothSent plan lines r blocksA blocksB =
-    OnlySent plan (ToldHalf (planShape plan) (take (vLength (planShape plan))) r lines) blocksA
-    × OnlySent plan (ToldHalf (planShape plan) (drop (vLength (planShape plan))) r lines) blocksB
+    OthersSent plan (ToldHalf (planShape plan) (take (vLength (planShape plan))) r lines) blocksA
+    × OthersSent plan (ToldHalf (planShape plan) (drop (vLength (planShape plan))) r lines) blocksB
 
 -- Of each product term, from place k on, its two of m records; asked where the call comes to the walk.
 abbrev pub TermsSent : Plan → ℕ → List (List ℕ) → (m : ℕ) → Record → (k : ℕ) → List Term → Type 0
@@ -30,13 +40,17 @@ TermsSent plan refusal lines m blocks k (t ∷ ts) =
     (Walks refusal → BothSent plan lines (t .first) (λ i. cut m (2 * k) (blocks i lines)) (λ i. cut m (2 * k + 1) (blocks i lines)))
     × TermsSent plan refusal lines m blocks (suc k) ts
 
+-- "to deal a row with the c its dealer broadcast": the one that follows the draw, or a fixed c whose line is among those broadcast.
+abbrev pub Broadcast : List (List ℕ) → ℕ → Number → Type 0
+Broadcast lines r number = (number ≡ sent r) ⊎ ((c : ℕ) × (number ≡ Number.fixed c) × (c < 2147483647) × Among (text (Line.deal r c)) lines)
+
 -- Of a call with the refusal k, after these lines.
 abbrev pub RuleAsked : Plan → ℕ → List (List ℕ) → Step → Type 0
 RuleAsked plan k lines (loadRow x) = k ≡ 0 → IsRaw (plan .raw (x .r)) × ((i : ℕ) → 1 ≤ i → i ≤ plan .n → x .pack i ≡ its (x .r))
 RuleAsked plan k lines (loadTriple x) = k ≡ 0 → (plan .triple (x .r) ≡ true) × ((i : ℕ) → 1 ≤ i → i ≤ plan .n → x .pack i ≡ its (x .r))
-RuleAsked plan k lines (deal x) = k ≡ 0 → FromDealer lines (x .r) (x .c)
+RuleAsked plan k lines (deal x) = k ≡ 0 → Broadcast lines (x .r) (x .c)
 RuleAsked plan k lines (message x) = Unit {0}
-RuleAsked plan k lines (opening x) = Walks k → OnlySent plan (Told lines (x .r)) (λ i. x .blocks i lines)
+RuleAsked plan k lines (opening x) = Walks k → OthersSent plan (Told lines (x .r)) (λ i. x .blocks i lines)
 RuleAsked plan k lines (linear x) = Unit {0}
 RuleAsked plan k lines (masks x) = Unit {0}
 RuleAsked plan k lines (collect x) = Walks k → BothSent plan lines (x .r) (λ i. x .blocksA i lines) (λ i. x .blocksB i lines)

@@ -9,6 +9,8 @@ pub mod Claim
 pub mod Barred
 pub mod Count
 pub mod Points
+pub mod Enough
+pub mod Record
 pub mod Known
 pub mod Lies
 pub mod LiesRead
