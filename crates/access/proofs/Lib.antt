@@ -7,3 +7,4 @@ pub mod Tables
 pub mod Theorems
 pub mod Bytes
 pub mod Rising
+pub mod Spelled
