@@ -8,3 +8,4 @@ pub mod Theorems
 pub mod Bytes
 pub mod Rising
 pub mod Longest
+pub mod Spelled

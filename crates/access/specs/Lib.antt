@@ -3,3 +3,4 @@ pub mod Between
 pub mod Figures
 pub mod Table
 pub mod Claims
+pub mod Spelled

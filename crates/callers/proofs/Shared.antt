@@ -12,7 +12,7 @@ use lib.Dec.{eqb}
 use lib.Bits.{bitOr, or-step, or-shr}
 use lib.ListN.{length, getD, set, length-set, List·getD-eq-default}
 use lib.Seq.{getD-set-same, getD-set-other}
-use Rattle.callers.specs.Sets.{setsLength, bitAt, bars, shared, SharesBoth, unbarred, joining, sharedAll, anyBars, Others, SharesAll}
+use Rattle.callers.specs.Sets.{setsLength, bitAt, bars, shared, SharesBoth, SharesWords, unbarred, joining, sharedAll, anyBars, Others, SharesAll}
 
 -- ---- one bit of two words joined
 
@@ -85,6 +85,9 @@ shares-both sets d a b c l ld lo hi =
           ∙ bit-or (getD sets (8 * a + j) 0) (getD sets (8 * b + j) 0) ((c - 1) % 32),
       λ r n. ap (λ (x : ℕ). bitAt x ((c - 1) % 32)) (other sets d a b 8 (omega arith) r j n lj),
     )
+
+pub shares-words : SharesWords
+shares-words sets d a b j l ld lj = (own sets d a b 8 (omega arith) l ld j lj, λ r n. other sets d a b 8 (omega arith) r j n lj)
 
 -- ---- over rows
 

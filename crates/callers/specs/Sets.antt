@@ -31,6 +31,14 @@ SharesBoth =
     → (bars (shared 8 sets d a b) d c ≡ bars sets a c || bars sets b c)
     × ((r : ℕ) → r ≢ d → bars (shared 8 sets d a b) r c ≡ bars sets r c)
 
+-- And number by number, the last bit too, which is no post's: the eight numbers of row d are those of the two rows joined bit by bit, and every other is
+-- as it was.
+abbrev pub SharesWords : Type 0
+SharesWords =
+    (sets : List ℕ) (d a b j : ℕ) → length sets ≡ 768 → d < 96 → j < 8
+    → (getD (shared 8 sets d a b) (8 * d + j) 0 ≡ bitOr (getD sets (8 * a + j) 0) (getD sets (8 * b + j) 0))
+    × ((r : ℕ) → r ≢ d → getD (shared 8 sets d a b) (8 * r + j) 0 ≡ getD sets (8 * r + j) 0)
+
 -- The same over rows: nobody is barred from row d (there is no row 96, which bars nobody), then whom each of these rows bars.
 abbrev pub unbarred : List ℕ → ℕ → List ℕ
 unbarred sets d = shared 8 sets d 96 96

@@ -3,3 +3,4 @@ pub mod Opens
 pub mod Theorems
 pub mod Tables
 pub mod Unread
+pub mod Long

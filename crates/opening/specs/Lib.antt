@@ -2,3 +2,4 @@ pub mod Walking
 pub mod Opening
 pub mod Table
 pub mod Claims
+pub mod Long

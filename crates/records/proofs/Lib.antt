@@ -3,3 +3,4 @@ pub mod Written
 pub mod Sent
 pub mod Tables
 pub mod Theorems
+pub mod Placed

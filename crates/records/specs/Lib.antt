@@ -1,3 +1,4 @@
 pub mod Records
 pub mod Table
 pub mod Claims
+pub mod Placed

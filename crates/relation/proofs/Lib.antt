@@ -9,3 +9,4 @@ pub mod Tables
 pub mod Theorems
 pub mod Passed
 pub mod Meant
+pub mod Placed

@@ -5,3 +5,4 @@ pub mod Order
 pub mod Table
 pub mod Claims
 pub mod Meaning
+pub mod Places

@@ -7,3 +7,4 @@ pub mod Tables
 pub mod Kept
 pub mod Placed
 pub mod Sharing
+pub mod Known

@@ -6,3 +6,4 @@ pub mod Law
 pub mod Table
 pub mod Claims
 pub mod Places
+pub mod Known

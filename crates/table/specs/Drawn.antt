@@ -6,12 +6,13 @@ use Prim.Native.Nat.{ℕ, suc, _+_, _*_, _-_, _/_, _%_}
 use mathlib.Core.Path.{_≡_}
 use mathlib.Core.List.{List, [], _∷_, _++_}
 use lib.ListN.{take, drop, getD}
-use Rattle.field.specs.Arithmetic.{sum}
+use Rattle.field.specs.Arithmetic.{sum, product}
 use Rattle.poly.specs.Polynomial.{value}
 use Rattle.shape.specs.declared.Points.{Points}
 use Rattle.shape.specs.Lengths.{shape}
 use Rattle.shape.specs.Row.{pointAt}
-use Rattle.parts.specs.Draw.{eachFrom, part}
+use Rattle.parts.specs.Draw.{eachFrom, part, firstDraw, secondDraw, thirdDraw}
+use Rattle.packs.specs.Packs.{packs, triplePacks}
 
 module _ (n t points : ℕ) (draw : List ℕ) where
   -- vj, j from 1 on
@@ -33,4 +34,15 @@ pub record DrawPlaced : Type 0 where
   pub no-more : (j : ℕ) (f : ℕ → ℕ) → eachFrom j 0 f ≡ []
   pub one-more : (j m : ℕ) (f : ℕ → ℕ) → eachFrom j (suc m) f ≡ f j ∷ eachFrom (suc j) m f
   -- a post's first point, and its second
+  -- "Three such draws for l, l' and l'', but the third lacks f's constant, which is f(0) of l × f(0) of l'", and "all posts' rows of l, then of l', then of
+  -- l''": without it l and l' exchanged from some n on were met by every statement
+  pub triple : (n t points : ℕ) (ws draw : List ℕ)
+      → (let d = t + 1 + n * (points * t + 1) in
+      triplePacks (shape n t points) ws draw
+      ≡ packs (shape n t points) ws (take d draw)
+      ++ (packs (shape n t points) ws (take d (drop d draw))
+      ++ packs (shape n t points) ws (product (getD draw 0 0) (getD draw d 0) ∷ drop (d + d) draw)))
+  pub draws : (d : ℕ) (draw : List ℕ)
+      → (firstDraw d draw ≡ take d draw) × (secondDraw d draw ≡ take d (drop d draw))
+      × (thirdDraw d draw ≡ product (getD draw 0 0) (getD draw d 0) ∷ drop (d + d) draw)
   pub points-in-order : (w : Points) → (pointAt w 0 ≡ w .first) × (pointAt w 1 ≡ w .second)
