@@ -7,3 +7,4 @@ pub mod Parts
 pub mod Relation
 pub mod Asked
 pub mod Callers
+pub mod Enough
