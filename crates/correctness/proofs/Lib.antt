@@ -19,3 +19,4 @@ pub mod Keeping
 pub mod Relation
 pub mod Callers
 pub mod Enough
+pub mod Given

@@ -8,3 +8,4 @@ pub mod Relation
 pub mod Asked
 pub mod Callers
 pub mod Enough
+pub mod Given

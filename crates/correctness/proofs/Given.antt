@@ -1,0 +1,96 @@
+-- Demand 2 from figures to answers: the theorems, with the premises that specs/Enough.antt has.
+use Prim.Native.Nat.{ℕ, _+_, _≤_}
+use mathlib.Core.Path.{_≡_, refl, sym, _∙_, ap, subst}
+use mathlib.Core.Bool.{Bool, true, false, false≢true}
+use mathlib.Core.Logic.{_⊎_, inl, inr}
+use mathlib.Core.List.{List, _∷_, _++_}
+use Rattle.runs.specs.Draws.{Plan, Draw, planShape}
+use Rattle.runs.specs.Calls.{Post, relationFinish}
+use Rattle.runs.specs.Orders.{call}
+use Rattle.runs.proofs.Inside.{among-all}
+use Rattle.session.specs.declared.Session.{Session}
+use Rattle.opening.specs.Walking.{accepted, disagree}
+use Rattle.collect.specs.Collect.{maskA, maskB}
+use Rattle.vectors.specs.Vector.{Vector}
+use Rattle.correctness.specs.History.{World, Event, history, begin}
+use Rattle.correctness.specs.Ledger.{Ledger}
+use Rattle.correctness.specs.Truth.{TruePolynomial, TrueMask, TrueOf}
+use Rattle.correctness.specs.Claim.{Premises, Right, Answered, rowIn}
+use Rattle.correctness.specs.Parts.{PartOf, pointsPassed}
+use Rattle.correctness.specs.Enough.{RecordAsked}
+use Rattle.correctness.specs.Given.{AllTheirs, OpeningGiven, CollectGiven, CaughtGiven, AtPost, DemandGiven, SetsGiven, RelationGiven}
+use Rattle.correctness.proofs.Theorems.{correct}
+use Rattle.correctness.proofs.Caught.{passed-in-figures}
+use Rattle.correctness.proofs.Parts.{held-parts}
+use Rattle.correctness.proofs.Relation.{relation-shown}
+use Rattle.correctness.proofs.Callers.{sets-follow}
+use Rattle.correctness.proofs.Enough.{draws-ask, premises-met, records-ask}
+
+theirs : (P : ℕ → List ℕ → Type 0) (s : Session) (row blocks : List ℕ) → AllTheirs P s row blocks → TrueOf P s row blocks
+theirs P s row blocks h = among-all (accepted s row blocks) h
+
+-- 0 or 13, and 13 only where a share is off
+stays : (b : Bool) (k : ℕ) → (k ≡ 0) ⊎ (k ≡ 13) → (k ≡ 13 → b ≡ true) → b ≡ false → k ≡ 0
+stays b k (inl e) h n = e
+stays b k (inr e) h n = absurd (false≢true (sym n ∙ h e))
+
+caught-of : (P : ℕ → List ℕ → Type 0) (s : Session) (row : List ℕ) (X : Vector) → PartOf P s row X → CaughtGiven P s row X
+caught-of P s row X part =
+    record {
+      one = λ e blocks j xs a lo hi other many low its untrue.
+          subst (λ (k : ℕ). pointsPassed s X blocks j ≤ k) (passed-in-figures s .0 e) (part .caught blocks j xs lo hi other (records-ask s blocks a) many low its untrue);
+      two = λ e blocks j xs a lo hi other many low its untrue.
+          subst (λ (k : ℕ). pointsPassed s X blocks j ≤ k) (passed-in-figures s .1 e) (part .caught blocks j xs lo hi other (records-ask s blocks a) many low its untrue);
+    }
+
+pub demand-given : DemandGiven
+demand-given plan draw L S rows states es s d run i lo hi among =
+    record {
+      opening = λ r blocks two a. let o = right .opens r blocks two (records-ask (q .session) blocks a) in
+          record {
+            few = o .few;
+            number = λ enough h. o .exact enough (theirs (TruePolynomial S w r) (q .session) (rowIn q r) blocks h);
+            off = λ enough e. o .thirteen enough .0 e;
+            on = λ enough e. stays (disagree (q .session) (rowIn q r) blocks) _ (o .otherwise enough) (o .thirteen enough .1) e;
+            accepted = λ j lj hj its. right .accepts-true r blocks j two (records-ask (q .session) blocks a) lj hj (λ other. its);
+          };
+      collect = λ r blocksA blocksB five a b. let o = right .collects r blocksA blocksB five (records-ask (q .session) blocksA a) (records-ask (q .session) blocksB b) in
+          record {
+            few = o .few;
+            numbers = λ ea eb ha hb. let z = o .exact ea eb (among-all (accepted (q .session) (maskA (q .session) (q .rows) r) blocksA) ha) (among-all (accepted (q .session) (maskB (q .session) (q .rows) r) blocksB) hb) in (z .0 .0, z .0 .1, z .1);
+          };
+      multiply = right .multiplies;
+      caught = λ r two. let x = held-parts plan draw L S rows states es h i r lo hi among two in
+          (x .0, x .1, caught-of (TruePolynomial S w r) (q .session) (rowIn q r) (x .0) (x .2 (draw .points) S rows states es h i lo hi among two));
+    }
+  where
+    h : Premises plan draw L S es rows states
+    h = premises-met plan draw L S es rows states s d run
+
+    w : World
+    w = history es (begin plan draw rows states)
+
+    q : Post
+    q = w .posts i
+
+    right : Right plan draw L (TruePolynomial S w) (TrueMask S w (planShape plan)) q
+    right = correct plan draw L S rows states es h i lo hi among
+
+pub sets-given : SetsGiven
+sets-given plan draw rows states es s d = let k = draws-ask plan draw s d in sets-follow plan draw rows states es (k .0) (k .1)
+
+pub relation-given : RelationGiven
+relation-given plan draw L S rows states before behind i r ts records s d run lo hi among z =
+    let o = relation-shown plan draw L S rows states before behind i r ts records (premises-met plan draw L S (before ++ (e ∷ behind)) rows states s d run) lo hi among z in (
+      o .0,
+      o .1,
+      λ value own j lj hj in-s blocks two a enough h.
+          let k = o .2 value (among-all ts own) j lj hj in-s blocks two (records-ask (q j .session) blocks a) enough (among-all (accepted (q j .session) (rowIn (q j) r) blocks) h) in
+          (k .done, k .value),
+    )
+  where
+    e : Event
+    e = record { post = i; order = call (relationFinish ts r records) }
+
+    q : ℕ → Post
+    q j = history (before ++ (e ∷ behind)) (begin plan draw rows states) .posts j

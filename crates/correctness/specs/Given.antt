@@ -1,0 +1,108 @@
+-- Demand 2 in one piece, from the figures of specs/Enough.antt to the answers: no premise stands between them that is not said here. With one more in a theorem
+-- itself, or in a part of its conclusion, the theorem would say less and stay proved. Proved in proofs/Given.antt.
+use Prim.Native.Nat.{ℕ, _+_, _*_, _%_, _≤_, _<_}
+use mathlib.Core.Path.{_≡_}
+use mathlib.Core.Bool.{Bool, true, false, not, _||_}
+use mathlib.Core.Logic.{_≢_, _⊎_}
+use mathlib.Core.List.{List, _∷_, _++_}
+use lib.ListN.{length, take, drop}
+use Rattle.poly.specs.Counting.{Elements}
+use Rattle.refusal.specs.Conditions.{outside}
+use Rattle.session.specs.declared.Session.{Session}
+use Rattle.session.specs.Sessions.{mark, openedA, openedB, barredFrom}
+use Rattle.opening.specs.Walking.{sent, accepts, accepted, disagree}
+use Rattle.opening.specs.Opening.{openAnswer}
+use Rattle.collect.specs.Collect.{maskA, maskB, collectAnswer}
+use Rattle.multiply.specs.Multiply.{multiplyAnswer}
+use Rattle.terms.specs.declared.Term.{Term}
+use Rattle.terms.specs.Listed.{plain}
+use Rattle.vectors.specs.Vector.{Vector, number}
+use Rattle.runs.specs.Draws.{Plan, Draw, planShape}
+use Rattle.runs.specs.Calls.{Post, Among, relationFinish}
+use Rattle.runs.specs.Orders.{call}
+use Rattle.correctness.specs.History.{World, Event, answerOf, history, begin}
+use Rattle.correctness.specs.Ledger.{Ledger, Plain, MaskNumbers}
+use Rattle.correctness.specs.Truth.{TruePolynomial, TrueMask}
+use Rattle.correctness.specs.Claim.{rowIn}
+use Rattle.correctness.specs.Parts.{pointsPassed}
+use Rattle.correctness.specs.Relation.{termSum, RelationIn}
+use Rattle.correctness.specs.Callers.{inSet}
+use Rattle.correctness.specs.Enough.{Station, Drawn, RunAsked, RecordAsked}
+
+-- Each polynomial that s accepts in a record is its sender's, but for the own one.
+abbrev pub AllTheirs : (ℕ → List ℕ → Type 0) → Session → List ℕ → List ℕ → Type 0
+AllTheirs P s row blocks = (j : ℕ) → Among j (accepted s row blocks) → j ≢ s .post → P j (sent s row blocks j)
+
+abbrev pub many : Session → List ℕ → List ℕ → ℕ
+many s row blocks = length (accepted s row blocks)
+
+-- "an opening that accepts t+1 or more gives exactly the plain number, and one that accepts fewer is refused with 9"; 13 exactly where a share is off; what is truly its
+-- sender's is accepted.
+pub record OpeningGiven (L : Ledger) (S : ℕ → Type 0) (w : World) (q : Post) (r : ℕ) (blocks : List ℕ) : Type 0 where
+  pub few : many (q .session) (rowIn q r) blocks < q .session .t + 1 → openAnswer (q .session) (q .rows) r blocks .refusal ≡ 9
+  pub number : q .session .t + 1 ≤ many (q .session) (rowIn q r) blocks → AllTheirs (TruePolynomial S w r) (q .session) (rowIn q r) blocks
+      → (openAnswer (q .session) (q .rows) r blocks .refusal ≡ 0) × Plain L r (openAnswer (q .session) (q .rows) r blocks .value)
+  pub off : q .session .t + 1 ≤ many (q .session) (rowIn q r) blocks → disagree (q .session) (rowIn q r) blocks ≡ true
+      → openAnswer (q .session) (q .rows) r blocks .refusal ≡ 13
+  pub on : q .session .t + 1 ≤ many (q .session) (rowIn q r) blocks → disagree (q .session) (rowIn q r) blocks ≡ false
+      → openAnswer (q .session) (q .rows) r blocks .refusal ≡ 0
+  pub accepted : (j : ℕ) → 1 ≤ j → j ≤ q .session .n → TruePolynomial S w r j (sent (q .session) (rowIn q r) blocks j)
+      → accepts (q .session) (rowIn q r) blocks j ≡ true
+
+-- "The first call opens y and y' and remembers them; the triple's first row then has mark 7."
+pub record CollectGiven (plan : Plan) (draw : Draw) (L : Ledger) (S : ℕ → Type 0) (w : World) (q : Post) (r : ℕ) (blocksA blocksB : List ℕ) : Type 0 where
+  pub few : (many (q .session) (maskA (q .session) (q .rows) r) blocksA < q .session .t + 1) ⊎ (many (q .session) (maskB (q .session) (q .rows) r) blocksB < q .session .t + 1)
+      → collectAnswer (q .session) (q .rows) r blocksA blocksB .refusal ≡ 9
+  pub numbers : q .session .t + 1 ≤ many (q .session) (maskA (q .session) (q .rows) r) blocksA
+      → q .session .t + 1 ≤ many (q .session) (maskB (q .session) (q .rows) r) blocksB
+      → AllTheirs (TrueMask S w (planShape plan) (take (q .session .points * q .session .t + 1)) r) (q .session) (maskA (q .session) (q .rows) r) blocksA
+      → AllTheirs (TrueMask S w (planShape plan) (drop (q .session .points * q .session .t + 1)) r) (q .session) (maskB (q .session) (q .rows) r) blocksB
+      → (let o = collectAnswer (q .session) (q .rows) r blocksA blocksB in
+      (o .refusal ≡ 0) × (mark (o .session) r ≡ 7) × MaskNumbers plan draw L r (openedA (o .session) r) (openedB (o .session) r))
+
+-- "False polynomials pass at no more than t of the p − 1 check points", with two points a post "for at most 4 × t × t of the pairs of points".
+pub record CaughtGiven (P : ℕ → List ℕ → Type 0) (s : Session) (row : List ℕ) (X : Vector) : Type 0 where
+  pub one : s .points ≡ 1 → (blocks : List ℕ) (j : ℕ) (xs : List ℕ) → RecordAsked s blocks → 1 ≤ j → j ≤ s .n → j ≢ s .post
+      → length xs ≡ s .points * s .t + 1 → Elements xs → P j xs → (sent s row blocks j ≡ xs → ⊥) → pointsPassed s X blocks j ≤ s .t
+  pub two : s .points ≡ 2 → (blocks : List ℕ) (j : ℕ) (xs : List ℕ) → RecordAsked s blocks → 1 ≤ j → j ≤ s .n → j ≢ s .post
+      → length xs ≡ s .points * s .t + 1 → Elements xs → P j xs → (sent s row blocks j ≡ xs → ⊥) → pointsPassed s X blocks j ≤ 4 * (s .t * s .t)
+
+-- At each post of S, after every run.
+pub record AtPost (plan : Plan) (draw : Draw) (L : Ledger) (S : ℕ → Type 0) (w : World) (q : Post) : Type 1 where
+  pub opening : (r : ℕ) (blocks : List ℕ) → mark (q .session) r ≡ 2 → RecordAsked (q .session) blocks → OpeningGiven L S w q r blocks
+  pub collect : (r : ℕ) (blocksA blocksB : List ℕ) → mark (q .session) r ≡ 5 → RecordAsked (q .session) blocksA → RecordAsked (q .session) blocksB
+      → CollectGiven plan draw L S w q r blocksA blocksB
+  pub multiply : (r : ℕ) → mark (q .session) r ≡ 7
+      → (multiplyAnswer (q .session) (q .rows) r .refusal ≡ 0) × (mark (multiplyAnswer (q .session) (q .rows) r .session) (r + 2) ≡ 2)
+  pub caught : (r : ℕ) → mark (q .session) r ≡ 2
+      → (X : Vector) × Plain L r (number X .0) × CaughtGiven (TruePolynomial S w r) (q .session) (rowIn q r) X
+
+abbrev pub DemandGiven : Type 1
+DemandGiven =
+    (plan : Plan) (draw : Draw) (L : Ledger) (S : ℕ → Type 0) (rows states : ℕ → List ℕ) (es : List Event) → Station plan → Drawn plan draw
+    → RunAsked plan draw L S es (begin plan draw rows states) → (i : ℕ) → 1 ≤ i → i ≤ plan .n → S i
+    → (let w = history es (begin plan draw rows states) in AtPost plan draw L S w (w .posts i))
+
+-- (xi): 15 meets the posts outside the set and no other, of every row 0 to 95, after every run, with nothing asked of it.
+abbrev pub SetsGiven : Type 0
+SetsGiven =
+    (plan : Plan) (draw : Draw) (rows states : ℕ → List ℕ) (es : List Event) → Station plan → Drawn plan draw
+    → (i r c : ℕ) → 1 ≤ i → i ≤ plan .n → r ≤ 95
+    → barredFrom (history es (begin plan draw rows states) .posts i .session) r c ≡ (outside 1 (plan .n) c || not (inSet plan draw rows states es i r c))
+
+-- (v): "That row is opened, and under demand 2's premises the relation holds modulo p exactly when the number is 0."
+abbrev pub RelationGiven : Type 1
+RelationGiven =
+    (plan : Plan) (draw : Draw) (L : Ledger) (S : ℕ → Type 0) (rows states : ℕ → List ℕ) (before behind : List Event) (i r : ℕ) (ts : List Term)
+    (records : List ℕ)
+    → (let e : Event = record { post = i; order = call (relationFinish ts r records) } in let start = begin plan draw rows states in
+    let w = history (before ++ (e ∷ behind)) start in
+    Station plan → Drawn plan draw → RunAsked plan draw L S (before ++ (e ∷ behind)) start → 1 ≤ i → i ≤ plan .n → S i
+    → answerOf e (history before start) .refusal ≡ 0 → RelationIn L r ts × (mark (w .posts i .session) r ≡ 2)
+    × ((value : ℕ → ℕ)
+    → ((t : Term) → Among t ts → Plain L (t .row) (value (t .row)) × (plain t ≡ false → Plain L (t .second) (value (t .second))))
+    → (j : ℕ) → 1 ≤ j → j ≤ plan .n → S j → (blocks : List ℕ) → mark (w .posts j .session) r ≡ 2 → RecordAsked (w .posts j .session) blocks
+    → w .posts j .session .t + 1 ≤ many (w .posts j .session) (rowIn (w .posts j) r) blocks
+    → AllTheirs (TruePolynomial S w r) (w .posts j .session) (rowIn (w .posts j) r) blocks
+    → (openAnswer (w .posts j .session) (w .posts j .rows) r blocks .refusal ≡ 0)
+    × (openAnswer (w .posts j .session) (w .posts j .rows) r blocks .value ≡ termSum value ts % 2147483647)))
