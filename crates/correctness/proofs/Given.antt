@@ -1,9 +1,13 @@
 -- Demand 2 from figures to answers: the theorems, with the premises that specs/Enough.antt has.
-use Prim.Native.Nat.{ℕ, _+_, _≤_}
+use Prim.Native.Nat.{ℕ, suc, _+_, _*_, _≤_, _<_}
 use mathlib.Core.Path.{_≡_, refl, sym, _∙_, ap, subst}
 use mathlib.Core.Bool.{Bool, true, false, false≢true}
 use mathlib.Core.Logic.{_⊎_, inl, inr}
-use mathlib.Core.List.{List, _∷_, _++_}
+use mathlib.Core.List.{List, [], _∷_, _++_}
+use native.Mathlib.Omega.{arith}
+use lib.ListN.{length, take, drop}
+use Rattle.terms.specs.declared.Term.{Term}
+use Rattle.terms.specs.Listed.{productsOf}
 use Rattle.runs.specs.Draws.{Plan, Draw, planShape}
 use Rattle.runs.specs.Calls.{Post, relationFinish}
 use Rattle.runs.specs.Orders.{call}
@@ -17,13 +21,14 @@ use Rattle.correctness.specs.Ledger.{Ledger}
 use Rattle.correctness.specs.Truth.{TruePolynomial, TrueMask, TrueOf}
 use Rattle.correctness.specs.Claim.{Premises, Right, Answered, rowIn}
 use Rattle.correctness.specs.Parts.{PartOf, pointsPassed}
+use Rattle.correctness.specs.Relation.{EachAt, LowRecords}
 use Rattle.correctness.specs.Enough.{RecordAsked}
-use Rattle.correctness.specs.Given.{AllTheirs, OpeningGiven, CollectGiven, CaughtGiven, AtPost, DemandGiven, SetsGiven, RelationGiven}
-use Rattle.correctness.proofs.Theorems.{correct}
+use Rattle.correctness.specs.Given.{AllTheirs, OpeningGiven, CollectGiven, CaughtGiven, AtPost, DemandGiven, SetsGiven, RelationGiven, AnswerGiven, CalledGiven, RelationsAsk}
+use Rattle.correctness.proofs.Theorems.{correct, openings-answered}
 use Rattle.correctness.proofs.Caught.{passed-in-figures}
-use Rattle.correctness.proofs.Parts.{held-parts}
+use Rattle.correctness.proofs.Parts.{held-parts, mask-parts}
 use Rattle.correctness.proofs.Relation.{relation-shown}
-use Rattle.correctness.proofs.Callers.{sets-follow}
+use Rattle.correctness.proofs.Callers.{sets-follow, only-called}
 use Rattle.correctness.proofs.Enough.{draws-ask, premises-met, records-ask}
 
 theirs : (P : ℕ → List ℕ → Type 0) (s : Session) (row blocks : List ℕ) → AllTheirs P s row blocks → TrueOf P s row blocks
@@ -58,10 +63,23 @@ demand-given plan draw L S rows states es s d run i lo hi among =
           record {
             few = o .few;
             numbers = λ ea eb ha hb. let z = o .exact ea eb (among-all (accepted (q .session) (maskA (q .session) (q .rows) r) blocksA) ha) (among-all (accepted (q .session) (maskB (q .session) (q .rows) r) blocksB) hb) in (z .0 .0, z .0 .1, z .1);
+            off = λ ea eb. o .thirteen ea eb .0;
+            accepted-a = λ j lj hj its. right .accepts-a r blocksA j five (records-ask (q .session) blocksA a) lj hj (λ other. its);
+            accepted-b = λ j lj hj its. right .accepts-b r blocksB j five (records-ask (q .session) blocksB b) lj hj (λ other. its);
           };
       multiply = right .multiplies;
+      remembered = right .remembers;
       caught = λ r two. let x = held-parts plan draw L S rows states es h i r lo hi among two in
           (x .0, x .1, caught-of (TruePolynomial S w r) (q .session) (rowIn q r) (x .0) (x .2 (draw .points) S rows states es h i lo hi among two));
+      caught-masks = λ r five. let x = mask-parts plan draw L S rows states es h i r lo hi among five in (
+        x .0,
+        x .1,
+        x .2,
+        caught-of (TrueMask S w (planShape plan) (take (plan .points * plan .t + 1)) r) (q .session) (maskA (q .session) (q .rows) r) (x .0)
+            (x .3 (draw .points) S rows states es h i lo hi among five),
+        caught-of (TrueMask S w (planShape plan) (drop (plan .points * plan .t + 1)) r) (q .session) (maskB (q .session) (q .rows) r) (x .1)
+            (x .4 (draw .points) S rows states es h i lo hi among five),
+      );
     }
   where
     h : Premises plan draw L S es rows states
@@ -94,3 +112,34 @@ relation-given plan draw L S rows states before behind i r ts records s d run lo
 
     q : ℕ → Post
     q j = history (before ++ (e ∷ behind)) (begin plan draw rows states) .posts j
+
+pub answer-given : AnswerGiven
+answer-given plan draw L S rows states before behind i r blocks none s d run lo hi among two a =
+    let o = openings-answered plan draw L S rows states before behind i r blocks none (premises-met plan draw L S before rows states s d run) lo hi among two (records-ask (q .session) blocks a) in
+    (o .few, λ enough h. o .exact enough (among-all (accepted (q .session) (rowIn q r) blocks) h))
+  where
+    q : Post
+    q = history before (begin plan draw rows states) .posts i
+
+pub called-given : CalledGiven
+called-given plan draw rows states es s d = let k = draws-ask plan draw s d in only-called plan draw rows states es (k .0) (k .1)
+
+-- P of every product term by its place
+each-at : (P : ℕ → Term → Type 0) (k : ℕ) (ts : List Term) → ((t : Term) (m : ℕ) → m < length ts → P (k + m) t) → EachAt P k ts
+each-at P k [] h = tt
+each-at P k (t ∷ ts) h = (
+  subst (λ (j : ℕ). P j t) (omega arith) (h t 0 (omega arith)),
+  each-at P (suc k) ts (λ u m l. subst (λ (j : ℕ). P j u) (omega arith) (h u (suc m) (omega (arith, l)))),
+)
+
+pub relations-ask : RelationsAsk
+relations-ask q ts r blocks a =
+    record {
+      count = a .count;
+      terms = among-all ts (a .terms);
+      products = among-all (productsOf ts) (a .waiting);
+      once = a .once;
+      empty = (omega (arith, a .empty .0), a .empty .1);
+      long = a .long;
+      low = each-at (LowRecords (q .session) blocks) 0 (productsOf ts) (λ t m l. subst (λ (j : ℕ). LowRecords (q .session) blocks j t) (omega arith) (a .low m l));
+    }

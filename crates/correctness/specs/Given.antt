@@ -5,27 +5,31 @@ use mathlib.Core.Path.{_≡_}
 use mathlib.Core.Bool.{Bool, true, false, not, _||_}
 use mathlib.Core.Logic.{_≢_, _⊎_}
 use mathlib.Core.List.{List, _∷_, _++_}
-use lib.ListN.{length, take, drop}
+use lib.ListN.{length, getD, take, drop}
 use Rattle.poly.specs.Counting.{Elements}
 use Rattle.refusal.specs.Conditions.{outside}
 use Rattle.session.specs.declared.Session.{Session}
-use Rattle.session.specs.Sessions.{mark, openedA, openedB, barredFrom}
-use Rattle.opening.specs.Walking.{sent, accepts, accepted, disagree}
+use Rattle.session.specs.declared.Answer.{Answer}
+use Rattle.session.specs.Sessions.{mark, factorA, factorB, openedA, openedB, barredFrom}
+use Rattle.message.specs.Message.{messageAnswer}
+use Rattle.opening.specs.Walking.{sent, accepts, accepted, disagree, badRecord}
 use Rattle.opening.specs.Opening.{openAnswer}
 use Rattle.collect.specs.Collect.{maskA, maskB, collectAnswer}
 use Rattle.multiply.specs.Multiply.{multiplyAnswer}
 use Rattle.terms.specs.declared.Term.{Term}
-use Rattle.terms.specs.Listed.{plain}
+use Rattle.terms.specs.Listed.{plain, productsOf}
+use Rattle.relation.specs.Tests.{namedTwice}
+use Rattle.relation.specs.Finish.{recordA, recordB}
 use Rattle.vectors.specs.Vector.{Vector, number}
 use Rattle.runs.specs.Draws.{Plan, Draw, planShape}
-use Rattle.runs.specs.Calls.{Post, Among, relationFinish}
+use Rattle.runs.specs.Calls.{Post, Among, opening, relationFinish}
 use Rattle.runs.specs.Orders.{call}
-use Rattle.correctness.specs.History.{World, Event, answerOf, history, begin}
+use Rattle.correctness.specs.History.{World, Event, answerOf, answers, history, begin}
 use Rattle.correctness.specs.Ledger.{Ledger, Plain, MaskNumbers}
 use Rattle.correctness.specs.Truth.{TruePolynomial, TrueMask}
 use Rattle.correctness.specs.Claim.{rowIn}
 use Rattle.correctness.specs.Parts.{pointsPassed}
-use Rattle.correctness.specs.Relation.{termSum, RelationIn}
+use Rattle.correctness.specs.Relation.{termSum, RelationIn, Ready}
 use Rattle.correctness.specs.Callers.{inSet}
 use Rattle.correctness.specs.Enough.{Station, Drawn, RunAsked, RecordAsked}
 
@@ -59,6 +63,16 @@ pub record CollectGiven (plan : Plan) (draw : Draw) (L : Ledger) (S : ℕ → Ty
       → AllTheirs (TrueMask S w (planShape plan) (drop (q .session .points * q .session .t + 1)) r) (q .session) (maskB (q .session) (q .rows) r) blocksB
       → (let o = collectAnswer (q .session) (q .rows) r blocksA blocksB in
       (o .refusal ≡ 0) × (mark (o .session) r ≡ 7) × MaskNumbers plan draw L r (openedA (o .session) r) (openedB (o .session) r))
+  pub off : q .session .t + 1 ≤ many (q .session) (maskA (q .session) (q .rows) r) blocksA
+      → q .session .t + 1 ≤ many (q .session) (maskB (q .session) (q .rows) r) blocksB
+      → (disagree (q .session) (maskA (q .session) (q .rows) r) blocksA ≡ true) ⊎ (disagree (q .session) (maskB (q .session) (q .rows) r) blocksB ≡ true)
+      → collectAnswer (q .session) (q .rows) r blocksA blocksB .refusal ≡ 13
+  pub accepted-a : (j : ℕ) → 1 ≤ j → j ≤ q .session .n
+      → TrueMask S w (planShape plan) (take (q .session .points * q .session .t + 1)) r j (sent (q .session) (maskA (q .session) (q .rows) r) blocksA j)
+      → accepts (q .session) (maskA (q .session) (q .rows) r) blocksA j ≡ true
+  pub accepted-b : (j : ℕ) → 1 ≤ j → j ≤ q .session .n
+      → TrueMask S w (planShape plan) (drop (q .session .points * q .session .t + 1)) r j (sent (q .session) (maskB (q .session) (q .rows) r) blocksB j)
+      → accepts (q .session) (maskB (q .session) (q .rows) r) blocksB j ≡ true
 
 -- "False polynomials pass at no more than t of the p − 1 check points", with two points a post "for at most 4 × t × t of the pairs of points".
 pub record CaughtGiven (P : ℕ → List ℕ → Type 0) (s : Session) (row : List ℕ) (X : Vector) : Type 0 where
@@ -74,8 +88,13 @@ pub record AtPost (plan : Plan) (draw : Draw) (L : Ledger) (S : ℕ → Type 0) 
       → CollectGiven plan draw L S w q r blocksA blocksB
   pub multiply : (r : ℕ) → mark (q .session) r ≡ 7
       → (multiplyAnswer (q .session) (q .rows) r .refusal ≡ 0) × (mark (multiplyAnswer (q .session) (q .rows) r .session) (r + 2) ≡ 2)
+  pub remembered : (r : ℕ) → mark (q .session) r ≡ 7 → MaskNumbers plan draw L r (openedA (q .session) r) (openedB (q .session) r)
   pub caught : (r : ℕ) → mark (q .session) r ≡ 2
       → (X : Vector) × Plain L r (number X .0) × CaughtGiven (TruePolynomial S w r) (q .session) (rowIn q r) X
+  pub caught-masks : (r : ℕ) → mark (q .session) r ≡ 5
+      → (X : Vector) × (Y : Vector) × MaskNumbers plan draw L r (number X .0) (number Y .0)
+      × CaughtGiven (TrueMask S w (planShape plan) (take (plan .points * plan .t + 1)) r) (q .session) (maskA (q .session) (q .rows) r) X
+      × CaughtGiven (TrueMask S w (planShape plan) (drop (plan .points * plan .t + 1)) r) (q .session) (maskB (q .session) (q .rows) r) Y
 
 abbrev pub DemandGiven : Type 1
 DemandGiven =
@@ -106,3 +125,40 @@ RelationGiven =
     → AllTheirs (TruePolynomial S w r) (w .posts j .session) (rowIn (w .posts j) r) blocks
     → (openAnswer (w .posts j .session) (w .posts j .rows) r blocks .refusal ≡ 0)
     × (openAnswer (w .posts j .session) (w .posts j .rows) r blocks .value ≡ termSum value ts % 2147483647)))
+
+-- "before it": the answer where it stands in a run, with nothing asked of what is behind.
+abbrev pub AnswerGiven : Type 1
+AnswerGiven =
+    (plan : Plan) (draw : Draw) (L : Ledger) (S : ℕ → Type 0) (rows states : ℕ → List ℕ) (before behind : List Event) (i r : ℕ) (blocks : List ℕ)
+    (none : Answer)
+    → (let start = begin plan draw rows states in let w = history before start in let q = w .posts i in
+    let o = getD (answers (before ++ (record { post = i; order = call (opening r blocks) } ∷ behind)) start) (length before) none in
+    Station plan → Drawn plan draw → RunAsked plan draw L S before start → 1 ≤ i → i ≤ plan .n → S i → mark (q .session) r ≡ 2
+    → RecordAsked (q .session) blocks
+    → (many (q .session) (rowIn q r) blocks < q .session .t + 1 → o .refusal ≡ 9)
+    × (q .session .t + 1 ≤ many (q .session) (rowIn q r) blocks → AllTheirs (TruePolynomial S w r) (q .session) (rowIn q r) blocks
+    → (o .refusal ≡ 0) × Plain L r (o .value)))
+
+-- (xi): an opening message that is made is one that a post of the row's set called for.
+abbrev pub CalledGiven : Type 0
+CalledGiven =
+    (plan : Plan) (draw : Draw) (rows states : ℕ → List ℕ) (es : List Event) → Station plan → Drawn plan draw
+    → (i r c : ℕ) → 1 ≤ i → i ≤ plan .n → (lent : List ℕ)
+    → (let q = history es (begin plan draw rows states) .posts i in messageAnswer (q .session) (q .rows) r c lent .refusal ≡ 0)
+    → (1 ≤ c) × (c ≤ plan .n) × (inSet plan draw rows states es i r c ≡ true)
+
+-- (v): a relation that its finish takes: 1 to 32 terms; their rows held, coefficients below p; each product term's triple with mark 5 and the term's rows, and named once; the
+-- sum's row empty; the records as long as the product terms need, and 8 lets them pass.
+pub record RelationAsked (q : Post) (ts : List Term) (r : ℕ) (blocks : List ℕ) : Type 0 where
+  pub count : (1 ≤ length ts) × (length ts ≤ 32)
+  pub terms : (t : Term) → Among t ts → (mark (q .session) (t .row) ≡ 2) × (t .coefficient < 2147483647)
+  pub waiting : (t : Term) → Among t (productsOf ts)
+      → (mark (q .session) (t .first) ≡ 5) × (factorA (q .session) (t .first) ≡ t .row) × (factorB (q .session) (t .first) ≡ t .second)
+  pub once : namedTwice (productsOf ts) ≡ false
+  pub empty : (r ≤ 95) × (mark (q .session) r ≡ 0)
+  pub long : length blocks ≡ length (productsOf ts) * (2 * (q .session .n * (q .session .points * q .session .t + 1 + 1)))
+  pub low : (k : ℕ) → k < length (productsOf ts)
+      → (badRecord (q .session) (recordA (q .session) blocks k) ≡ false) × (badRecord (q .session) (recordB (q .session) blocks k) ≡ false)
+
+abbrev pub RelationsAsk : Type 0
+RelationsAsk = (q : Post) (ts : List Term) (r : ℕ) (blocks : List ℕ) → RelationAsked q ts r blocks → Ready q ts r blocks
