@@ -8,6 +8,7 @@ use native.Mathlib.Omega.{arith}
 use lib.ListN.{length, take, drop}
 use Rattle.terms.specs.declared.Term.{Term}
 use Rattle.terms.specs.Listed.{productsOf}
+use Rattle.relation.specs.Finish.{recordA, recordB, termMaskA, termMaskB}
 use Rattle.runs.specs.Draws.{Plan, Draw, planShape}
 use Rattle.runs.specs.Calls.{Post, relationFinish}
 use Rattle.runs.specs.Orders.{call}
@@ -21,13 +22,13 @@ use Rattle.correctness.specs.Ledger.{Ledger}
 use Rattle.correctness.specs.Truth.{TruePolynomial, TrueMask, TrueOf}
 use Rattle.correctness.specs.Claim.{Premises, Right, Answered, rowIn}
 use Rattle.correctness.specs.Parts.{PartOf, pointsPassed}
-use Rattle.correctness.specs.Relation.{EachAt, LowRecords}
+use Rattle.correctness.specs.Relation.{EachAt, OneAt, LowRecords, Few, Enough, AllTrue}
 use Rattle.correctness.specs.Enough.{RecordAsked}
-use Rattle.correctness.specs.Given.{AllTheirs, OpeningGiven, CollectGiven, CaughtGiven, AtPost, DemandGiven, SetsGiven, RelationGiven, AnswerGiven, CalledGiven, RelationsAsk}
+use Rattle.correctness.specs.Given.{AllTheirs, OpeningGiven, CollectGiven, CaughtGiven, AtPost, DemandGiven, SetsGiven, RelationGiven, AnswerGiven, CalledGiven, RelationsAsk, FinishGiven}
 use Rattle.correctness.proofs.Theorems.{correct, openings-answered}
 use Rattle.correctness.proofs.Caught.{passed-in-figures}
 use Rattle.correctness.proofs.Parts.{held-parts, mask-parts}
-use Rattle.correctness.proofs.Relation.{relation-shown}
+use Rattle.correctness.proofs.Relation.{relation-shown, relations-finish}
 use Rattle.correctness.proofs.Callers.{sets-follow, only-called}
 use Rattle.correctness.proofs.Enough.{draws-ask, premises-met, records-ask}
 
@@ -143,3 +144,38 @@ relations-ask q ts r blocks a =
       long = a .long;
       low = each-at (LowRecords (q .session) blocks) 0 (productsOf ts) (λ t m l. subst (λ (j : ℕ). LowRecords (q .session) blocks j t) (omega arith) (a .low m l));
     }
+
+one-at : (P : ℕ → Term → Type 0) (k : ℕ) (xs ys : List Term) (t : Term) → P (k + length xs) t → OneAt P k (xs ++ (t ∷ ys))
+one-at P k [] ys t h = inl (subst (λ (j : ℕ). P j t) (omega arith) h)
+one-at P k (x ∷ xs) ys t h = inr (one-at P (suc k) xs ys t (subst (λ (j : ℕ). P j t) (omega arith) h))
+
+each-place : (P : ℕ → Term → Type 0) (k : ℕ) (ts : List Term) → ((xs ys : List Term) (t : Term) → ts ≡ xs ++ (t ∷ ys) → P (k + length xs) t) → EachAt P k ts
+each-place P k [] h = tt
+each-place P k (t ∷ ts) h = (
+  subst (λ (j : ℕ). P j t) (omega arith) (h [] ts t refl),
+  each-place P (suc k) ts (λ xs ys u e. subst (λ (j : ℕ). P j u) (omega arith) (h (t ∷ xs) ys u (ap (λ (l : List Term). t ∷ l) e))),
+)
+
+pub finish-given : FinishGiven
+finish-given plan draw L S rows states es s d run i lo hi among ts r blocks a =
+    let o = relations-finish plan draw L S rows states es (premises-met plan draw L S es rows states s d run) i lo hi among ts r blocks (relations-ask q ts r blocks a) in
+    (
+      (λ xs ys t e h. o .few (subst (OneAt (Few q blocks) 0) (sym e) (one-at (Few q blocks) 0 xs ys t (moved (Few q blocks) xs t h)))),
+      λ h. o .exact (each-place (Enough q blocks) 0 (productsOf ts) (λ xs ys t e. let x = h xs ys t e in moved (Enough q blocks) xs t (x .0, x .1)))
+      (each-place (AllTrue (TrueMask S w (planShape plan)) q blocks) 0 (productsOf ts)
+      (λ xs ys t e.
+      let x = h xs ys t e in
+      moved (AllTrue (TrueMask S w (planShape plan)) q blocks) xs t (
+        among-all (accepted (q .session) (termMaskA (q .session) (q .rows) t) (recordA (q .session) blocks (length xs))) (x .2),
+        among-all (accepted (q .session) (termMaskB (q .session) (q .rows) t) (recordB (q .session) blocks (length xs))) (x .3),
+      ))),
+    )
+  where
+    w : World
+    w = history es (begin plan draw rows states)
+
+    q : Post
+    q = w .posts i
+
+    moved : (P : ℕ → Term → Type 0) (xs : List Term) (t : Term) → P (length xs) t → P (0 + length xs) t
+    moved P xs t h = subst (λ (j : ℕ). P j t) (omega arith) h

@@ -17,9 +17,9 @@ use Rattle.opening.specs.Opening.{openAnswer}
 use Rattle.collect.specs.Collect.{maskA, maskB, collectAnswer}
 use Rattle.multiply.specs.Multiply.{multiplyAnswer}
 use Rattle.terms.specs.declared.Term.{Term}
-use Rattle.terms.specs.Listed.{plain, productsOf}
+use Rattle.terms.specs.Listed.{plain, productsOf, collected}
 use Rattle.relation.specs.Tests.{namedTwice}
-use Rattle.relation.specs.Finish.{recordA, recordB}
+use Rattle.relation.specs.Finish.{recordA, recordB, termMaskA, termMaskB, relationFinishAnswer}
 use Rattle.vectors.specs.Vector.{Vector, number}
 use Rattle.runs.specs.Draws.{Plan, Draw, planShape}
 use Rattle.runs.specs.Calls.{Post, Among, opening, relationFinish}
@@ -162,3 +162,20 @@ pub record RelationAsked (q : Post) (ts : List Term) (r : ℕ) (blocks : List �
 
 abbrev pub RelationsAsk : Type 0
 RelationsAsk = (q : Post) (ts : List Term) (r : ℕ) (blocks : List ℕ) → RelationAsked q ts r blocks → Ready q ts r blocks
+
+-- (v), of its finish: 9 where of one product term, wherever it stands, a record has too few; done where each record has enough, and each polynomial is its sender's.
+abbrev pub FinishGiven : Type 1
+FinishGiven =
+    (plan : Plan) (draw : Draw) (L : Ledger) (S : ℕ → Type 0) (rows states : ℕ → List ℕ) (es : List Event)
+    → (let w = history es (begin plan draw rows states) in
+    Station plan → Drawn plan draw → RunAsked plan draw L S es (begin plan draw rows states) → (i : ℕ) → 1 ≤ i → i ≤ plan .n → S i
+    → (ts : List Term) (r : ℕ) (blocks : List ℕ) → RelationAsked (w .posts i) ts r blocks
+    → (let s = w .posts i .session in let l = w .posts i .rows in let m = s .points * s .t + 1 in let o = relationFinishAnswer s l (collected ts) r blocks in
+    ((xs ys : List Term) (t : Term) → productsOf ts ≡ xs ++ (t ∷ ys)
+    → (many s (termMaskA s l t) (recordA s blocks (length xs)) < s .t + 1) ⊎ (many s (termMaskB s l t) (recordB s blocks (length xs)) < s .t + 1)
+    → o .refusal ≡ 9)
+    × (((xs ys : List Term) (t : Term) → productsOf ts ≡ xs ++ (t ∷ ys)
+    → (s .t + 1 ≤ many s (termMaskA s l t) (recordA s blocks (length xs))) × (s .t + 1 ≤ many s (termMaskB s l t) (recordB s blocks (length xs)))
+    × AllTheirs (TrueMask S w (planShape plan) (take m) (t .first)) s (termMaskA s l t) (recordA s blocks (length xs))
+    × AllTheirs (TrueMask S w (planShape plan) (drop m) (t .first)) s (termMaskB s l t) (recordB s blocks (length xs)))
+    → o .refusal ≡ 0)))
