@@ -24,7 +24,7 @@ use Rattle.correctness.specs.Claim.{Premises, Right, Answered, rowIn}
 use Rattle.correctness.specs.Parts.{PartOf, pointsPassed}
 use Rattle.correctness.specs.Relation.{EachAt, OneAt, LowRecords, Few, Enough, AllTrue}
 use Rattle.correctness.specs.Enough.{RecordAsked}
-use Rattle.correctness.specs.Given.{AllTheirs, OpeningGiven, CollectGiven, CaughtGiven, AtPost, DemandGiven, SetsGiven, RelationGiven, AnswerGiven, CalledGiven, RelationsAsk, FinishGiven}
+use Rattle.correctness.specs.Given.{AllTheirs, OpeningGiven, CollectGiven, CaughtGiven, AtPost, DemandGiven, VectorGiven, SetsGiven, RelationGiven, AnswerGiven, CalledGiven, RelationsAsk, FinishGiven}
 use Rattle.correctness.proofs.Theorems.{correct, openings-answered}
 use Rattle.correctness.proofs.Caught.{passed-in-figures}
 use Rattle.correctness.proofs.Parts.{held-parts, mask-parts}
@@ -95,6 +95,16 @@ demand-given plan draw L S rows states es s d run i lo hi among =
     right : Right plan draw L (TruePolynomial S w) (TrueMask S w (planShape plan)) q
     right = correct plan draw L S rows states es h i lo hi among
 
+pub vector-given : VectorGiven
+vector-given plan draw L S rows states es s d run i r lo hi among two =
+    let x = held-parts plan draw L S rows states es (premises-met plan draw L S es rows states s d run) i r lo hi among two in (
+      x .0,
+      x .1,
+      λ points S' rows' states' es' d' run' j lj hj in-s held.
+          let k = x .2 points S' rows' states' es' (premises-met plan _ L S' es' rows' states' s d' run') j lj hj in-s held in
+          (k .part, caught-of _ _ _ (x .0) k),
+    )
+
 pub sets-given : SetsGiven
 sets-given plan draw rows states es s d = let k = draws-ask plan draw s d in sets-follow plan draw rows states es (k .0) (k .1)
 
@@ -158,17 +168,16 @@ each-place P k (t ∷ ts) h = (
 
 pub finish-given : FinishGiven
 finish-given plan draw L S rows states es s d run i lo hi among ts r blocks a =
-    let o = relations-finish plan draw L S rows states es (premises-met plan draw L S es rows states s d run) i lo hi among ts r blocks (relations-ask q ts r blocks a) in
-    (
+    let o = relations-finish plan draw L S rows states es (premises-met plan draw L S es rows states s d run) i lo hi among ts r blocks (relations-ask q ts r blocks a) in (
       (λ xs ys t e h. o .few (subst (OneAt (Few q blocks) 0) (sym e) (one-at (Few q blocks) 0 xs ys t (moved (Few q blocks) xs t h)))),
       λ h. o .exact (each-place (Enough q blocks) 0 (productsOf ts) (λ xs ys t e. let x = h xs ys t e in moved (Enough q blocks) xs t (x .0, x .1)))
-      (each-place (AllTrue (TrueMask S w (planShape plan)) q blocks) 0 (productsOf ts)
-      (λ xs ys t e.
-      let x = h xs ys t e in
-      moved (AllTrue (TrueMask S w (planShape plan)) q blocks) xs t (
-        among-all (accepted (q .session) (termMaskA (q .session) (q .rows) t) (recordA (q .session) blocks (length xs))) (x .2),
-        among-all (accepted (q .session) (termMaskB (q .session) (q .rows) t) (recordB (q .session) blocks (length xs))) (x .3),
-      ))),
+          (each-place (AllTrue (TrueMask S w (planShape plan)) q blocks) 0 (productsOf ts)
+          (λ xs ys t e.
+          let x = h xs ys t e in
+          moved (AllTrue (TrueMask S w (planShape plan)) q blocks) xs t (
+            among-all (accepted (q .session) (termMaskA (q .session) (q .rows) t) (recordA (q .session) blocks (length xs))) (x .2),
+            among-all (accepted (q .session) (termMaskB (q .session) (q .rows) t) (recordB (q .session) blocks (length xs))) (x .3),
+          ))),
     )
   where
     w : World

@@ -21,6 +21,7 @@ use Rattle.terms.specs.Listed.{plain, productsOf, collected}
 use Rattle.relation.specs.Tests.{namedTwice}
 use Rattle.relation.specs.Finish.{recordA, recordB, termMaskA, termMaskB, relationFinishAnswer}
 use Rattle.vectors.specs.Vector.{Vector, number}
+use Rattle.vectors.specs.Claims.{heldRow}
 use Rattle.runs.specs.Draws.{Plan, Draw, planShape}
 use Rattle.runs.specs.Calls.{Post, Among, opening, relationFinish}
 use Rattle.runs.specs.Orders.{call}
@@ -101,6 +102,19 @@ DemandGiven =
     (plan : Plan) (draw : Draw) (L : Ledger) (S : ℕ → Type 0) (rows states : ℕ → List ℕ) (es : List Event) → Station plan → Drawn plan draw
     → RunAsked plan draw L S es (begin plan draw rows states) → (i : ℕ) → 1 ≤ i → i ≤ plan .n → S i
     → (let w = history es (begin plan draw rows states) in AtPost plan draw L S w (w .posts i))
+
+-- Of a held row one vector for all posts and for all points that they might have: the rows are its parts, and the bound is of it.
+abbrev pub VectorGiven : Type 1
+VectorGiven =
+    (plan : Plan) (draw : Draw) (L : Ledger) (S : ℕ → Type 0) (rows states : ℕ → List ℕ) (es : List Event) → Station plan → Drawn plan draw
+    → RunAsked plan draw L S es (begin plan draw rows states) → (i r : ℕ) → 1 ≤ i → i ≤ plan .n → S i
+    → mark (history es (begin plan draw rows states) .posts i .session) r ≡ 2
+    → (X : Vector) × Plain L r (number X .0)
+    × ((points : List ℕ) (S' : ℕ → Type 0) (rows' states' : ℕ → List ℕ) (es' : List Event)
+    → (let other : Draw = record { points = points; raws = draw .raws; triples = draw .triples } in
+    let w = history es' (begin plan other rows' states') in
+    Drawn plan other → RunAsked plan other L S' es' (begin plan other rows' states') → (j : ℕ) → 1 ≤ j → j ≤ plan .n → S' j → mark (w .posts j .session) r ≡ 2
+    → (rowIn (w .posts j) r ≡ heldRow (w .posts j .session) X) × CaughtGiven (TruePolynomial S' w r) (w .posts j .session) (rowIn (w .posts j) r) X))
 
 -- (xi): 15 meets the posts outside the set and no other, of every row 0 to 95, after every run, with nothing asked of it.
 abbrev pub SetsGiven : Type 0
