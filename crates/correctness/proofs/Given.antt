@@ -56,6 +56,7 @@ demand-given plan draw L S rows states es s d run i lo hi among =
           record {
             few = o .few;
             number = λ enough h. o .exact enough (theirs (TruePolynomial S w r) (q .session) (rowIn q r) blocks h);
+            agreed = o .agreed;
             off = λ enough e. o .thirteen enough .0 e;
             on = λ enough e. stays (disagree (q .session) (rowIn q r) blocks) _ (o .otherwise enough) (o .thirteen enough .1) e;
             accepted = λ j lj hj its. right .accepts-true r blocks j two (records-ask (q .session) blocks a) lj hj (λ other. its);
@@ -64,6 +65,7 @@ demand-given plan draw L S rows states es s d run i lo hi among =
           record {
             few = o .few;
             numbers = λ ea eb ha hb. let z = o .exact ea eb (among-all (accepted (q .session) (maskA (q .session) (q .rows) r) blocksA) ha) (among-all (accepted (q .session) (maskB (q .session) (q .rows) r) blocksB) hb) in (z .0 .0, z .0 .1, z .1);
+            agreed = o .agreed;
             off = λ ea eb. o .thirteen ea eb .0;
             accepted-a = λ j lj hj its. right .accepts-a r blocksA j five (records-ask (q .session) blocksA a) lj hj (λ other. its);
             accepted-b = λ j lj hj its. right .accepts-b r blocksB j five (records-ask (q .session) blocksB b) lj hj (λ other. its);

@@ -27,7 +27,7 @@ use Rattle.runs.specs.Calls.{Post, Among, opening, relationFinish}
 use Rattle.runs.specs.Orders.{call}
 use Rattle.correctness.specs.History.{World, Event, answerOf, answers, history, begin}
 use Rattle.correctness.specs.Ledger.{Ledger, Plain, MaskNumbers}
-use Rattle.correctness.specs.Truth.{TruePolynomial, TrueMask}
+use Rattle.correctness.specs.Truth.{TruePolynomial, TrueMask, EnoughTrue}
 use Rattle.correctness.specs.Claim.{rowIn}
 use Rattle.correctness.specs.Parts.{pointsPassed}
 use Rattle.correctness.specs.Relation.{termSum, RelationIn, Ready}
@@ -47,6 +47,10 @@ pub record OpeningGiven (L : Ledger) (S : ℕ → Type 0) (w : World) (q : Post)
   pub few : many (q .session) (rowIn q r) blocks < q .session .t + 1 → openAnswer (q .session) (q .rows) r blocks .refusal ≡ 9
   pub number : q .session .t + 1 ≤ many (q .session) (rowIn q r) blocks → AllTheirs (TruePolynomial S w r) (q .session) (rowIn q r) blocks
       → (openAnswer (q .session) (q .rows) r blocks .refusal ≡ 0) × Plain L r (openAnswer (q .session) (q .rows) r blocks .value)
+  -- (iv): at least t+1 of them true, whichever they are
+  pub agreed : EnoughTrue (TruePolynomial S w r) (q .session) (rowIn q r) blocks
+      → ((openAnswer (q .session) (q .rows) r blocks .refusal ≡ 0) × Plain L r (openAnswer (q .session) (q .rows) r blocks .value))
+      ⊎ (openAnswer (q .session) (q .rows) r blocks .refusal ≡ 13)
   pub off : q .session .t + 1 ≤ many (q .session) (rowIn q r) blocks → disagree (q .session) (rowIn q r) blocks ≡ true
       → openAnswer (q .session) (q .rows) r blocks .refusal ≡ 13
   pub on : q .session .t + 1 ≤ many (q .session) (rowIn q r) blocks → disagree (q .session) (rowIn q r) blocks ≡ false
@@ -68,6 +72,10 @@ pub record CollectGiven (plan : Plan) (draw : Draw) (L : Ledger) (S : ℕ → Ty
       → q .session .t + 1 ≤ many (q .session) (maskB (q .session) (q .rows) r) blocksB
       → (disagree (q .session) (maskA (q .session) (q .rows) r) blocksA ≡ true) ⊎ (disagree (q .session) (maskB (q .session) (q .rows) r) blocksB ≡ true)
       → collectAnswer (q .session) (q .rows) r blocksA blocksB .refusal ≡ 13
+  pub agreed : EnoughTrue (TrueMask S w (planShape plan) (take (q .session .points * q .session .t + 1)) r) (q .session) (maskA (q .session) (q .rows) r) blocksA
+      → EnoughTrue (TrueMask S w (planShape plan) (drop (q .session .points * q .session .t + 1)) r) (q .session) (maskB (q .session) (q .rows) r) blocksB
+      → (let o = collectAnswer (q .session) (q .rows) r blocksA blocksB in
+      (((o .refusal ≡ 0) × (mark (o .session) r ≡ 7)) × MaskNumbers plan draw L r (openedA (o .session) r) (openedB (o .session) r)) ⊎ (o .refusal ≡ 13))
   pub accepted-a : (j : ℕ) → 1 ≤ j → j ≤ q .session .n
       → TrueMask S w (planShape plan) (take (q .session .points * q .session .t + 1)) r j (sent (q .session) (maskA (q .session) (q .rows) r) blocksA j)
       → accepts (q .session) (maskA (q .session) (q .rows) r) blocksA j ≡ true
