@@ -18,3 +18,5 @@ pub mod Recalling
 pub mod Keeping
 pub mod Relation
 pub mod Callers
+pub mod Enough
+pub mod Given

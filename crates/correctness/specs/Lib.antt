@@ -7,3 +7,5 @@ pub mod Parts
 pub mod Relation
 pub mod Asked
 pub mod Callers
+pub mod Enough
+pub mod Given
