@@ -4,7 +4,7 @@ use mathlib.Core.Path.{_≡_, refl, sym, _∙_, ap, ap₂, subst}
 use mathlib.Core.Bool.{Bool, true}
 use mathlib.Core.List.{List, [], _∷_}
 use native.Mathlib.Omega.{arith}
-use lib.ListN.{length, take, drop, getD, length-drop}
+use lib.ListN.{length, replicate, take, drop, getD, length-drop, length-replicate}
 use lib.Seq.{take-all, length-take-le}
 use Rattle.agreement.specs.Agreement.{allPairs, allAgree, agrees}
 use Rattle.poly.specs.Counting.{All}
@@ -19,8 +19,8 @@ use Rattle.barycentric.proofs.Ascent.{rising-last, rising-count, last-of-take, 
 use Rattle.agreement.proofs.Fitting.{pairs-same}
 use Rattle.agreement.proofs.Dense.{fits-agrees}
 
-pub cleared-as : (k n : ℕ) (l : List ℕ) → k ≡ n → Cleared k l → Cleared n l
-cleared-as k n l q c = subst (λ (i : ℕ). Cleared i l) q c
+pub cleared-of : (k n : ℕ) (l : List ℕ) → k ≡ n → l ≡ replicate k 0 → Cleared n l
+cleared-of k n l q e = record { sized = ap length e ∙ length-replicate k 0 ∙ q; zeros = e ∙ ap (λ (i : ℕ). replicate i 0) q }
 
 module _ (xs ys : List ℕ) (v : ℕ) (ws zs ss t a₀ b₀ : List ℕ) (weighed : Weighed xs ys v ws) (further : Further (lastOf 0 xs) zs ss t a₀ b₀)
     (above below : List ℕ) where

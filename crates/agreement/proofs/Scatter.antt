@@ -6,7 +6,7 @@ use native.Mathlib.Nat.{le-of-suc-le-suc, not-suc-le-zero, zero-mul, mul-zero, m
 use native.Mathlib.Numerals.{add-one}
 use native.Mathlib.Decide.{decLt}
 use native.Mathlib.Omega.{arith}
-use lib.ListN.{length, take, getD, set, length-set}
+use lib.ListN.{length, take, getD, set, replicate, length-set, length-replicate, getD-replicate}
 use lib.Seq.{take-all, getD-take, getD-set-same, getD-set-other, ext-getD}
 use Rattle.field.specs.Modulus.{p}
 use Rattle.field.specs.Arithmetic.{difference, product}
@@ -76,20 +76,20 @@ module _ (c : ℕ → ℕ) (xs : List ℕ) where
     pub done : (x : ℕ) → x ≤ lastOf 0 (take i xs) → x ≤ lastOf 0 xs → getD l (lastOf 0 xs - x) 0 ≡ c x
     pub to-come : (x : ℕ) → lastOf 0 (take i xs) < x → x ≤ lastOf 0 xs → getD l (lastOf 0 xs - x) 0 ≡ 0
 
-  scattered-first : (l : List ℕ) (v : ℕ) → l ≡ firsts (λ j. 0) (suc (lastOf 0 xs)) → v ≡ c 0 → Scattered (set l (lastOf 0 xs) v) 0
+  scattered-first : (l : List ℕ) (v : ℕ) → l ≡ replicate (suc (lastOf 0 xs)) 0 → v ≡ c 0 → Scattered (set l (lastOf 0 xs) v) 0
   scattered-first l v e ev = record {
     passed = omega arith;
     sized = length-set l (lastOf 0 xs) v ∙ size;
     done = λ x a b. (let q : lastOf 0 xs - x ≡ lastOf 0 xs = omega arith in let z : 0 ≡ x = omega arith in
         ap (λ (k : ℕ). getD (set l (lastOf 0 xs) v) k 0) q ∙ getD-set-same l (lastOf 0 xs) v 0 (omega (arith, size)) ∙ ev ∙ ap c z);
     to-come = λ x a b. getD-set-other l (lastOf 0 xs) (lastOf 0 xs - x) v 0 (λ z. absurd (omega arith))
-        ∙ ap (λ (s : List ℕ). getD s (lastOf 0 xs - x) 0) e ∙ firsts-at (λ j. 0) (suc (lastOf 0 xs)) (lastOf 0 xs - x) (omega arith);
+        ∙ ap (λ (s : List ℕ). getD s (lastOf 0 xs - x) 0) e ∙ getD-replicate (suc (lastOf 0 xs)) (lastOf 0 xs - x) 0 0 (omega arith);
   }
     where
       size : length l ≡ suc (lastOf 0 xs)
-      size = ap length e ∙ length-firsts (λ j. 0) (suc (lastOf 0 xs))
+      size = ap length e ∙ length-replicate (suc (lastOf 0 xs)) 0
 
-  pub scattered-start : (l : List ℕ) (v last : ℕ) → last ≡ lastOf 0 xs → l ≡ firsts (λ j. 0) (suc (lastOf 0 xs)) → v ≡ c 0 → Scattered (set l last v) 0
+  pub scattered-start : (l : List ℕ) (v last : ℕ) → last ≡ lastOf 0 xs → l ≡ replicate (suc (lastOf 0 xs)) 0 → v ≡ c 0 → Scattered (set l last v) 0
   scattered-start l v last q e ev = subst (λ (k : ℕ). Scattered (set l k v) 0) (sym q) (scattered-first l v e ev)
 
   scattered-next : (l : List ℕ) (i v : ℕ) → Rising 0 xs → ((x : ℕ) → lastOf 0 (take i xs) < x → x < getD xs i 0 → c x ≡ 0) → Scattered l i → i < length xs

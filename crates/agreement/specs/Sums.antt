@@ -4,7 +4,7 @@ use mathlib.Core.Path.{_≡_}
 use mathlib.Core.Bool.{Bool, true, false}
 use mathlib.Core.List.{List}
 use lib.Dec.{eqb, ltb}
-use lib.ListN.{length, take, drop}
+use lib.ListN.{length, replicate, take, drop}
 use Rattle.field.specs.Modulus.{p}
 use Rattle.field.specs.Arithmetic.{product}
 use Rattle.poly.specs.Counting.{All}
@@ -47,7 +47,7 @@ pub record Weighed (nodes values : List ℕ) (value : ℕ) (weights : List ℕ) 
 
 pub record Cleared (n : ℕ) (list : List ℕ) : Type 0 where
   pub sized : length list ≡ n
-  pub zeros : list ≡ firsts (λ j. 0) n
+  pub zeros : list ≡ replicate n 0
 
 -- Further nodes above the last node m, each with a value, and room for the two lists.
 pub record Further (m : ℕ) (further shares inverses above below : List ℕ) : Type 0 where

@@ -38,14 +38,6 @@ fn all_fit(nodes: &[u32], values: &[u32], inverses: &[u32], above: &[u32], below
     true
 }
 
-fn clear(list: &mut [u32])
-    ensures { λ r. ⌜ Cleared (length (now (list .entry))) (now (list .exit)) ⌝ }
-{
-    for i in 0..list.len() {
-        list[i] = 0;
-    }
-}
-
 // The numbers of 0 and of the nodes, each at its place, in two cleared lists.
 fn spread(
     nodes: &[u32],
@@ -83,8 +75,8 @@ fn lay(
         × (length (now below) ≡ suc (lastOf 0 (now nodes))) ⌝ }
     ensures { λ r. ⌜ (now (above .exit) ≡ tops (now (nodes .entry)) (now (values .entry))) × (now (below .exit) ≡ bottoms (now (nodes .entry))) ⌝ }
 {
-    clear(above);
-    clear(below);
+    lists::clear(above);
+    lists::clear(below);
     spread(nodes, values, value, weights, above, below);
 }
 

@@ -32,7 +32,8 @@ pub struct Line {
     pub post: usize,
 }
 
-fn not_written(refusal: u8) -> Written
+// Nothing is written, by this refusal.
+pub fn not_written(refusal: u8) -> Written
     ensures { λ r. ⌜ r ≡ notWritten refusal ⌝ }
 {
     Written { refusal, len: 0 }

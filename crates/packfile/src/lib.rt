@@ -8,17 +8,11 @@ ghost use mathlib.Core.Path.{_≡_};
 ghost use Prim.Native.Nat.{_≤_};
 ghost use lib.ListN.{length};
 ghost use Rattle.shape.specs.Lengths.{tripleLength};
-ghost use Rattle.lines.specs.Writing.{notWritten, writtenAs, partAs};
+ghost use Rattle.lines.specs.Writing.{writtenAs, partAs};
 ghost use Rattle.packlines.specs.File.{file};
 ghost use Rattle.packfile.specs.Writing.{postAt, roomRefusal, packRefusal};
 ghost use Rattle.packfile.specs.Between.{Given, shortLine};
 ghost use Rattle.packlines.specs.Between.{FileRoom};
-
-fn not_written(refusal: u8) -> Written
-    ensures { λ r. ⌜ r ≡ notWritten refusal ⌝ }
-{
-    Written { refusal, len: 0 }
-}
 
 // 12, or the file at the start of the list; `room` is for the numbers of one line.
 fn write_in(party: Party, kinds: &[u8], draws: &[u32], room: &mut [u32], out: &mut [u8]) -> Written
@@ -30,7 +24,7 @@ fn write_in(party: Party, kinds: &[u8], draws: &[u32], room: &mut [u32], out: &m
 {
     let len = packlines::file_len(party, kinds, draws, room);
     if out.len() < len {
-        return not_written(12);
+        return lines::not_written(12);
     }
     packlines::put_file(party, kinds, draws, room, out);
     Written { refusal: 0, len }
@@ -102,7 +96,7 @@ pub fn write(
 {
     let refusal = checks::refusal(n, t, post, points, ws, kinds, draws);
     if refusal != 0 {
-        return not_written(refusal);
+        return lines::not_written(refusal);
     }
     let shape = Shape { n, t, points };
     let w = packs::points_at(shape, ws, post - 1, n);

@@ -2,7 +2,7 @@
 use Prim.Native.Nat.{ℕ, suc, _+_, _*_, _-_, _<_}
 use mathlib.Core.Path.{_≡_, refl, sym, _∙_, ap, ap₂}
 use mathlib.Core.Bool.{Bool, true, false}
-use mathlib.Core.List.{List, [], _∷_, map}
+use mathlib.Core.List.{List, [], _∷_}
 use native.Mathlib.Omega.{arith}
 use lib.ListN.{length, take, drop, getD, replicate}
 use borrow.Rule.Slice.PartMut.{putMid}
@@ -100,16 +100,12 @@ terms-walk s d k [] rows = refl
 terms-walk s d k (t ∷ ts) rows = terms-walk s d (suc k) ts (plusTerm s d t rows)
 
 -- a row of zeros
-zeros : (l : List ℕ) → map {B = ℕ} (λ m. 0) l ≡ replicate (length l) 0
-zeros [] = refl
-zeros (x ∷ l) = ap (λ (z : List ℕ). 0 ∷ z) (zeros l)
-
 pub clear-is : (g : Shape) (rows : List ℕ) (d from w : ℕ) → from ≡ d * rowLength g → w ≡ rowLength g → Sized g rows → RowIn g d
-    → (x : List ℕ) → x ≡ map {B = ℕ} (λ m. 0) (take (from + w - from) (drop from rows))
+    → (x : List ℕ) → x ≡ replicate (length (take (from + w - from) (drop from rows))) 0
     → putMid from (from + w - from) rows x ≡ withRow (rowLength g) d (replicate (rowLength g) 0) rows
 clear-is g rows d from w ef ew z i x e =
     let q : x ≡ replicate (rowLength g) 0 =
-    e ∙ zeros (take (from + w - from) (drop from rows)) ∙ ap (λ (k : ℕ). replicate k 0) (row-wide g rows d from w ef ew z i) in
+    e ∙ ap (λ (k : ℕ). replicate k 0) (row-wide g rows d from w ef ew z i) in
     row-put g rows d from w ef ew x (replicate (rowLength g) 0) q
 
 -- the three writes, one after the other

@@ -5,7 +5,6 @@ use shape::Shape;
 use terms::Term;
 use terms::Terms;
 ghost use mathlib.Core.Path.{_≡_};
-ghost use mathlib.Core.List.{map};
 ghost use Prim.Native.Nat.{_≤_, _<_};
 ghost use lib.ListN.{length, replicate};
 ghost use Rattle.callers.specs.Sets.{setsLength, shared, joining, sharedAll};
@@ -45,15 +44,6 @@ fn write_products(session: Session, rows: &mut [u32], all: Terms, opened: Opened
     }
 }
 
-// 0 in every place.
-fn clear(numbers: &mut [u32])
-    ensures { λ r. ⌜ now (numbers .exit) ≡ map (λ m. 0) (now (numbers .entry)) ⌝ }
-{
-    for i in 0..numbers.len() {
-        numbers[i] = 0;
-    }
-}
-
 // 0 in every place of a row.
 fn clear_row(shape: Shape, rows: &mut [u32], row: usize)
     requires { ⌜ Sized shape (now rows) × RowIn shape row ⌝ }
@@ -61,7 +51,7 @@ fn clear_row(shape: Shape, rows: &mut [u32], row: usize)
 {
     let from = session::rows::row_at(shape, row);
     let end = from + shape.row_len();
-    clear(&mut rows[from..end]);
+    lists::clear(&mut rows[from..end]);
 }
 
 // The row with a term's number.

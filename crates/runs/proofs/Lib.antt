@@ -1,3 +1,5 @@
+-- What one call makes of a post: acts, marks and lines, the vectors of which its rows are parts, what it remembers and bars; for theorems
+-- about whole runs.
 pub mod Sent
 pub mod Outlines
 pub mod Inside

@@ -1,4 +1,13 @@
--- Demand 3, from the bottom up.
+-- Demand 3. The steps, and the files that carry them; below they stand from the bottom up.
+-- 1. A vector that the group cannot see, with the number 1 (Kernel); vectors that differ by a multiple of it (Near); a draw moved by one (Shift).
+-- 2. The matched draw: every drawn vector is moved, by what the secrets differ (Moved) and, of triples (Triples), by what the factors of masks to
+--    come differ (Reckoned). It is near the draw (Link, Linked), shows the group the same packs and D lines (Unchanged), and is undone (Back).
+-- 3. In one run what marks, vectors, book and lines have to do with each other (State) holds from the start on (Dealings) and after a call (Advance).
+-- 4. Two runs side by side (Pair): one call gets the same refusals, answers and lines (Twins, Relations, Answers, Alike, OneCall), then they stand
+--    side by side again (Together, Sessions, Onward); so to the end of the list (Runs), and the matched draw shows the same record (Matched).
+-- 5. So draws are matched one to one: of calls (CallTheorems, ForCallers), and of orders by the calls that they come to (AsCalls, Along, Again,
+--    Theorems). As many draws show the record then: of the list of all draws (Listed) those that pass the test (Tests), counted (Counting, Counts).
+-- 6. The same two runs go on through a last opening at which the group lies (LyingLast, LyingTheorems).
 -- An inner step: lists of calls on a session alone.
 pub mod CallRuns
 pub mod CallClaims
