@@ -1,3 +1,4 @@
+-- The `A` line: its reading, the set that it leaves, its table, and that it is read as it is written.
 pub mod Walking
 pub mod Reading
 pub mod Listed

@@ -1,4 +1,4 @@
--- The turns of the loops in src/agreement.rt: a test of every further node with its value.
+-- The turns of the loops in src/lib.rt: a test of every further node with its value.
 use Prim.Native.Nat.{ℕ, suc, _+_, _-_, _≤_, _<_}
 use mathlib.Core.Path.{_≡_, refl, sym, _∙_, ap, ap₂}
 use mathlib.Core.Bool.{Bool, true, false}

@@ -1,4 +1,4 @@
--- What joins the functions of src/agreement.rt: from the two lists to the agreement of all further values.
+-- What joins the functions of src/lib.rt: from the two lists to the agreement of all further values.
 use Prim.Native.Nat.{ℕ, suc, _+_, _-_, _≤_, _<_}
 use mathlib.Core.Path.{_≡_, refl, sym, _∙_, ap, ap₂, subst}
 use mathlib.Core.Bool.{Bool, true}

@@ -1,3 +1,4 @@
+-- Further values that lie on the polynomial through the first ones: what that means, and the two sums that decide it.
 pub mod Agreeing
 pub mod Meaning
 pub mod Fitting

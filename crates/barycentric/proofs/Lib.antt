@@ -1,3 +1,4 @@
+-- Interpolation at 0 by weights of rising numbers: over any field, then as the code makes them.
 pub mod Sums
 pub mod Pascal
 pub mod Barycentric

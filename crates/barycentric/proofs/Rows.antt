@@ -33,10 +33,6 @@ module _ (f : ℕ → ℕ) where
   length-firsts ℕ.zero = refl
   length-firsts (suc n) = let ih = length-firsts n in let s = length-append (firsts f n) (f n ∷ []) in omega arith
 
-  pub firsts-none : (l : List ℕ) → take 0 l ≡ firsts f 0
-  unfolding firsts
-  firsts-none l = refl
-
   pub firsts-turn : (l : List ℕ) (i v : ℕ) → i < length l → take i l ≡ firsts f i → v ≡ f i → take (i + 1) (set l i v) ≡ firsts f (i + 1)
   unfolding firsts
   firsts-turn l i v h e ev = rw (add-one i) (take-suc-set l i v h ∙ ap₂ (λ (s : List ℕ) (w : ℕ). s ++ (w ∷ [])) e ev)

@@ -1,1 +1,2 @@
+-- Room for what a case prints.
 pub mod Room

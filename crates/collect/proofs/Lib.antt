@@ -1,3 +1,4 @@
+-- A finish's first call: its refusal and its numbers from its code, then its law, its table, and what it does not read.
 pub mod Passed
 pub mod Finishing
 pub mod Opens

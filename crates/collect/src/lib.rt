@@ -133,7 +133,7 @@ fn open_pair(
     if shape.n <= shape::FEW_POSTS {
         return mask_opening::open_few_pair(party, rows, a, b, first, record_a, record_b);
     }
-    mask_opening::open_large_pair(party, rows, a, b, first, record_a, record_b)
+    mask_opening::open_most_pair(party, rows, a, b, first, record_a, record_b)
 }
 
 // y and y', or 9, or 13.

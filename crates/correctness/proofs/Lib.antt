@@ -7,7 +7,7 @@
 -- 4. A false polynomial passes at few lists of check points: counted (Tuples), of one row (Caught), of the rows opened in a run (Parts).
 -- 5. Relations: what a finish gives (Relating, Recalling), that the sum's row stays held (Keeping), and its number (Relation).
 -- 6. The sets of callers that a session keeps (Callers).
--- 7. Of the statements' words: they leave no choice (Alone), and ask no more of a call than is said (Asked).
+-- 7. Of the statements' words: they leave no choice (Alone), and ask no more of a call, of a run and of figures than is said (Asked, Enough, Given).
 pub mod Tuples
 pub mod Meanings
 pub mod Alone

@@ -1,3 +1,4 @@
+-- Demand 2 at work: what the examples share, runs for which its premises hold, and runs that lack one.
 pub mod Computing
 pub mod Example
 pub mod Nested

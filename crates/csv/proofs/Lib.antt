@@ -1,3 +1,4 @@
+-- Fields of a line: written, then read by walks by hand; and that both ways fit.
 pub mod Overwriting
 pub mod Fronting
 pub mod Laying

@@ -1,3 +1,4 @@
+-- A deal: its refusal from its code, then its law and its table.
 pub mod Passed
 pub mod Dealing
 pub mod Theorems

@@ -1,3 +1,4 @@
+-- The dealers' state: lines placed, turns, that a waiting line is taken within eight counted turns, and demand 1.
 pub mod Positions
 pub mod Placing
 pub mod Choosing

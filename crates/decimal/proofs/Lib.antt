@@ -1,3 +1,4 @@
+-- Numerals, both ways; eight digits at once; and how the code reads and writes them.
 pub mod Digits
 pub mod Sizes
 pub mod Numerals

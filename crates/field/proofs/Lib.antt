@@ -1,3 +1,4 @@
+-- The p elements are a field: laws of rings and a solver for them, that p is prime, and arithmetic on numbers.
 pub mod Ring
 pub mod Expression
 pub mod Solver

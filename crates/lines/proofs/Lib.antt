@@ -1,3 +1,4 @@
+-- Broadcast lines, written and read: refusals, that both ways fit, demand 1 and the table.
 pub mod Measuring
 pub mod Refusing
 pub mod Answers

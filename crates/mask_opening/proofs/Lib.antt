@@ -1,1 +1,2 @@
+-- The two masks of a product, opened in a lent room.
 pub mod Opens

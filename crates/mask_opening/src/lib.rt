@@ -59,7 +59,7 @@ fn open_pair_in(
 }
 
 // In a room for very few posts.
-fn open_least_pair(
+fn open_pair_in_very_few(
     party: Party,
     rows: &[u32],
     a: usize,
@@ -73,7 +73,7 @@ fn open_least_pair(
 {
     let shape = party.shape;
     let width = shape.row_len();
-    let mut room = [0u32; shape::VERY_SHORT_ROW];
+    let mut room = [0u32; shape::ROW_OF_VERY_FEW];
     open_pair_in(
         party,
         rows,
@@ -87,7 +87,7 @@ fn open_least_pair(
 }
 
 // In a room for few posts.
-fn open_small_pair(
+fn open_pair_in_few(
     party: Party,
     rows: &[u32],
     a: usize,
@@ -101,7 +101,7 @@ fn open_small_pair(
 {
     let shape = party.shape;
     let width = shape.row_len();
-    let mut room = [0u32; shape::SHORT_ROW];
+    let mut room = [0u32; shape::ROW_OF_FEW];
     open_pair_in(
         party,
         rows,
@@ -129,13 +129,13 @@ pub fn open_few_pair(
 {
     let shape = party.shape;
     if shape.n <= shape::VERY_FEW_POSTS {
-        return open_least_pair(party, rows, a, b, first, record_a, record_b);
+        return open_pair_in_very_few(party, rows, a, b, first, record_a, record_b);
     }
-    open_small_pair(party, rows, a, b, first, record_a, record_b)
+    open_pair_in_few(party, rows, a, b, first, record_a, record_b)
 }
 
-// Not `open_pair_in` again: `rooms::open_large` had one caller then, and its rooms were on every stack (a collect of 3 posts: 20,552 bytes, not 7,496).
-fn open_large_pair_in(
+// Not `open_pair_in` again: `rooms::open_most` had one caller then, and its rooms were on every stack (a collect of 3 posts: 20,552 bytes, not 7,496).
+fn open_most_pair_in(
     party: Party,
     rows: &[u32],
     a: usize,
@@ -150,9 +150,9 @@ fn open_large_pair_in(
 {
     let shape = party.shape;
     make_mask(shape, rows, a, first, room);
-    let opened_a = rooms::open_large(party, room, record_a);
+    let opened_a = rooms::open_most(party, room, record_a);
     make_mask(shape, rows, b, first + 1, room);
-    let opened_b = rooms::open_large(party, room, record_b);
+    let opened_b = rooms::open_most(party, room, record_b);
     OpenedPair {
         a: opened_a,
         b: opened_b,
@@ -160,7 +160,7 @@ fn open_large_pair_in(
 }
 
 // Of a station of any size.
-pub fn open_large_pair(
+pub fn open_most_pair(
     party: Party,
     rows: &[u32],
     a: usize,
@@ -175,7 +175,7 @@ pub fn open_large_pair(
     let shape = party.shape;
     let width = shape.row_len();
     let mut room = [0u32; shape::LONGEST_ROW];
-    open_large_pair_in(
+    open_most_pair_in(
         party,
         rows,
         a,

@@ -1,3 +1,4 @@
+-- A finish's second call: its refusal and the product's row from its code, then its law and its table.
 pub mod Passed
 pub mod Sums
 pub mod Multiplying

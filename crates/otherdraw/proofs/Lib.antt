@@ -1,3 +1,4 @@
+-- The draw behind another secret: the call's tests and writers, then its table and its examples.
 pub mod Asking
 pub mod Passed
 pub mod Writing

@@ -83,7 +83,7 @@ fn find_in_large(
 }
 
 // In rooms for very few posts.
-pub fn find_least(
+pub fn find_very_few(
     shape: Shape,
     delta: u32,
     ws: &[u32],
@@ -96,8 +96,8 @@ pub fn find_least(
         ≡ moved shape (now (posts .entry)) (pointsOf (shape .points) (now (ws .entry)) (now (posts .entry))) delta (now (draw .entry)) ⌝ }
 {
     let mut root = [0u32; shape::VERY_FEW_POSTS];
-    let mut known = [0u32; shape::VERY_SHORT_V];
-    let mut factor = [0u32; shape::VERY_SHORT_V];
+    let mut known = [0u32; shape::V_OF_VERY_FEW];
+    let mut factor = [0u32; shape::V_OF_VERY_FEW];
     let mut powers = [0u32; shape::VERY_FEW_POSTS];
     find_in(
         shape,
@@ -114,21 +114,14 @@ pub fn find_least(
 }
 
 // In rooms for few posts.
-pub fn find_small(
-    shape: Shape,
-    delta: u32,
-    ws: &[u32],
-    posts: &[u32],
-    draw: &[u32],
-    out: &mut [u32],
-)
+pub fn find_few(shape: Shape, delta: u32, ws: &[u32], posts: &[u32], draw: &[u32], out: &mut [u32])
     requires { ⌜ Finding shape (now ws) (now posts) (now draw) (now out) × (shape .n ≤ fewPosts) ⌝ }
     ensures { λ r. ⌜ now (out .exit)
         ≡ moved shape (now (posts .entry)) (pointsOf (shape .points) (now (ws .entry)) (now (posts .entry))) delta (now (draw .entry)) ⌝ }
 {
     let mut root = [0u32; shape::FEW_POSTS];
-    let mut known = [0u32; shape::SHORT_V];
-    let mut factor = [0u32; shape::SHORT_V];
+    let mut known = [0u32; shape::V_OF_FEW];
+    let mut factor = [0u32; shape::V_OF_FEW];
     let mut powers = [0u32; shape::FEW_POSTS];
     find_in(
         shape,
@@ -145,14 +138,7 @@ pub fn find_small(
 }
 
 // In rooms for the most posts.
-pub fn find_large(
-    shape: Shape,
-    delta: u32,
-    ws: &[u32],
-    posts: &[u32],
-    draw: &[u32],
-    out: &mut [u32],
-)
+pub fn find_most(shape: Shape, delta: u32, ws: &[u32], posts: &[u32], draw: &[u32], out: &mut [u32])
     requires { ⌜ Finding shape (now ws) (now posts) (now draw) (now out) ⌝ }
     ensures { λ r. ⌜ now (out .exit)
         ≡ moved shape (now (posts .entry)) (pointsOf (shape .points) (now (ws .entry)) (now (posts .entry))) delta (now (draw .entry)) ⌝ }
@@ -182,20 +168,20 @@ fn find_other(shape: Shape, delta: u32, ws: &[u32], posts: &[u32], draw: &[u32],
         ≡ moved shape (now (posts .entry)) (pointsOf (shape .points) (now (ws .entry)) (now (posts .entry))) delta (now (draw .entry)) ⌝ }
 {
     if shape.n <= shape::VERY_FEW_POSTS {
-        find_least(shape, delta, ws, posts, draw, out);
+        find_very_few(shape, delta, ws, posts, draw, out);
         return;
     }
     if shape.n <= shape::FEW_POSTS {
-        find_small(shape, delta, ws, posts, draw, out);
+        find_few(shape, delta, ws, posts, draw, out);
         return;
     }
     if shape.points == 1 {
         let n = shape.n;
         let t = shape.t;
-        find_large(Shape { n, t, points: 1 }, delta, ws, posts, draw, out);
+        find_most(Shape { n, t, points: 1 }, delta, ws, posts, draw, out);
         return;
     }
-    find_large(shape, delta, ws, posts, draw, out);
+    find_most(shape, delta, ws, posts, draw, out);
 }
 
 // The draw behind another secret: the listed posts see the same of it, where the wanted secret is dealt.

@@ -1,3 +1,4 @@
+-- Document 02, (xiv): what a record tells of a draw, the kernel between two draws, 19, the least change, and examples.
 pub mod Points
 pub mod Dealing
 pub mod Entries

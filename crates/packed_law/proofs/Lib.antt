@@ -1,3 +1,4 @@
+-- A pack file fed to the street program against packs loaded straight: line by line, then the whole.
 pub mod Parts
 pub mod Loading
 pub mod Ahead

@@ -1,4 +1,4 @@
--- What the program does with a line of a file: the start line begins the post's session, a row's line loads its numbers. `performing` says what such lines do.
+-- What the program does with a line of a file: the start line begins the post's session, a row's line loads its numbers. `performing_law` says what such lines do.
 use Prim.Native.Nat.{ℕ, _+_, _-_, _≤_, _<_}
 use mathlib.Core.Path.{_≡_, refl, sym, _∙_, ap, ap₂}
 use mathlib.Core.Bool.{Bool, true, false, _||_, cond}

@@ -1,4 +1,4 @@
--- The rooms for the numbers of a line: a short one, and of the most posts.
+-- The rooms for the numbers of a line: of few posts, and of the most.
 use Prim.Native.Nat.{ℕ, _*_, _≤_}
 use mathlib.Core.Path.{_≡_, sym, _∙_}
 use mathlib.Core.List.{List}
@@ -9,7 +9,7 @@ use Rattle.shape.specs.Bounds.{longestRow}
 use Rattle.shape.specs.Lengths.{tripleLength}
 use Rattle.session.specs.declared.Party.{Party}
 use Rattle.packlines.specs.Between.{FileRoom}
-use Rattle.packfile.specs.Between.{Given, shortLine}
+use Rattle.packfile.specs.Between.{Given, lineOfFew}
 
 module _ (p : Party) (kinds draws : List ℕ) (given : Given p kinds draws) (end : ℕ) (e : end ≡ tripleLength (p .shape)) (room : List ℕ) where
   module _ (m : ℕ) (sized : length room ≡ m) (fits : end ≤ m) where
@@ -19,11 +19,11 @@ module _ (p : Party) (kinds draws : List ℕ) (given : Given p kinds draws) (end
     lent-room : FileRoom p kinds draws (take end room)
     lent-room = record { post = given .post; rows = given .rows; drawn = given .drawn; place = lent-length ∙ e }
 
-  pub few-length : tripleLength (p .shape) ≤ shortLine → length room ≡ shortLine → end ≡ length (take end room)
-  few-length h s = sym (lent-length shortLine s (omega (arith, e, h)))
+  pub few-length : tripleLength (p .shape) ≤ lineOfFew → length room ≡ lineOfFew → end ≡ length (take end room)
+  few-length h s = sym (lent-length lineOfFew s (omega (arith, e, h)))
 
-  pub few-room : tripleLength (p .shape) ≤ shortLine → length room ≡ shortLine → FileRoom p kinds draws (take end room)
-  few-room h s = lent-room shortLine s (omega (arith, e, h))
+  pub few-room : tripleLength (p .shape) ≤ lineOfFew → length room ≡ lineOfFew → FileRoom p kinds draws (take end room)
+  few-room h s = lent-room lineOfFew s (omega (arith, e, h))
 
   pub most-length : length room ≡ 3 * longestRow → end ≡ length (take end room)
   most-length s = sym (lent-length (3 * longestRow) s (omega (arith, given .post .valid .n-in, given .post .valid .t-in, given .post .valid .reach-in, given .post .valid .checks-in)))

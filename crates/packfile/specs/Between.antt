@@ -9,8 +9,8 @@ use Rattle.kinds.specs.Kinds.{drawsLength}
 use Rattle.packrow.specs.Between.{PostIn}
 
 -- Ours: a line of so few numbers gets a short room. No answer depends on it.
-abbrev pub shortLine : ℕ
-shortLine = 288
+abbrev pub lineOfFew : ℕ
+lineOfFew = 288
 
 -- the kinds and draws of all rows
 pub record Given (p : Party) (kinds draws : List ℕ) : Type 0 where

@@ -11,7 +11,7 @@ ghost use Rattle.shape.specs.Lengths.{tripleLength};
 ghost use Rattle.lines.specs.Writing.{writtenAs, partAs};
 ghost use Rattle.packlines.specs.File.{file};
 ghost use Rattle.packfile.specs.Writing.{postAt, roomRefusal, packRefusal};
-ghost use Rattle.packfile.specs.Between.{Given, shortLine};
+ghost use Rattle.packfile.specs.Between.{Given, lineOfFew};
 ghost use Rattle.packlines.specs.Between.{FileRoom};
 
 // 12, or the file at the start of the list; `room` is for the numbers of one line.
@@ -31,11 +31,11 @@ fn write_in(party: Party, kinds: &[u8], draws: &[u32], room: &mut [u32], out: &m
 }
 
 // The longest line of a few posts with one check point; two have it at fewer posts.
-const SHORT_LINE: usize = 9 * shape::FEW_POSTS;
+const LINE_OF_FEW: usize = 9 * shape::FEW_POSTS;
 
-// The same, with room for a short line.
+// The same, with room for a line of few posts.
 fn write_few(party: Party, kinds: &[u8], draws: &[u32], out: &mut [u8]) -> Written
-    requires { ⌜ Given party (now kinds) (now draws) × (tripleLength (party .shape) ≤ shortLine) ⌝ }
+    requires { ⌜ Given party (now kinds) (now draws) × (tripleLength (party .shape) ≤ lineOfFew) ⌝ }
     ensures { λ r. ⌜ r ≡ writtenAs (roomRefusal party (now (kinds .entry)) (now (draws .entry)) (length (now (out .entry))))
         (file party (now (kinds .entry)) (now (draws .entry))) ⌝ }
     ensures { λ r. ⌜ now (out .exit) ≡ partAs (roomRefusal party (now (kinds .entry)) (now (draws .entry)) (length (now (out .entry))))
@@ -43,7 +43,7 @@ fn write_few(party: Party, kinds: &[u8], draws: &[u32], out: &mut [u8]) -> Writt
 {
     let shape = party.shape;
     let end = shape.triple_len();
-    let mut room = [0u32; SHORT_LINE];
+    let mut room = [0u32; LINE_OF_FEW];
     write_in(party, kinds, draws, &mut room[..end], out)
 }
 
@@ -61,7 +61,7 @@ fn write_most(party: Party, kinds: &[u8], draws: &[u32], out: &mut [u8]) -> Writ
     write_in(party, kinds, draws, &mut room[..end], out)
 }
 
-// A room for the most posts is not cleared for a short line.
+// A room for the most posts is not cleared for a line of few.
 fn write_given(party: Party, kinds: &[u8], draws: &[u32], out: &mut [u8]) -> Written
     requires { ⌜ Given party (now kinds) (now draws) ⌝ }
     ensures { λ r. ⌜ r ≡ writtenAs (roomRefusal party (now (kinds .entry)) (now (draws .entry)) (length (now (out .entry))))
@@ -70,7 +70,7 @@ fn write_given(party: Party, kinds: &[u8], draws: &[u32], out: &mut [u8]) -> Wri
         (file party (now (kinds .entry)) (now (draws .entry))) (now (out .entry)) ⌝ }
 {
     let shape = party.shape;
-    if shape.triple_len() <= SHORT_LINE {
+    if shape.triple_len() <= LINE_OF_FEW {
         return write_few(party, kinds, draws, out);
     }
     write_most(party, kinds, draws, out)

@@ -1,1 +1,2 @@
+-- A post's part of a draw, at the start of a room.
 pub mod Shares

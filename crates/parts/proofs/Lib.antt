@@ -1,3 +1,4 @@
+-- One post's part of a draw: how the loops write it, and laws for the crates above.
 pub mod Turns
 pub mod Weaving
 pub mod Halves

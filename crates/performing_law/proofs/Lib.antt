@@ -1,3 +1,4 @@
+-- The street program's lines by the library's calls: letter by letter, the tables, start lines, and the whole program.
 pub mod Heard
 pub mod Loading
 pub mod Keeping

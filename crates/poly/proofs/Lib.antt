@@ -1,3 +1,4 @@
+-- Polynomials: the code's loops, then the laws over any field, and the claims.
 pub mod Bounds
 pub mod Turns
 pub mod Halves

@@ -1,3 +1,4 @@
+-- Masks: their refusal and the two polynomials from their code, then their law and their table.
 pub mod Passed
 pub mod Joining
 pub mod Masking

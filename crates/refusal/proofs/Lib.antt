@@ -1,3 +1,4 @@
+-- Refusals: the first of several in order, the conditions that calls share, and how a table decides.
 pub mod Laws
 pub mod Endings
 pub mod Elements

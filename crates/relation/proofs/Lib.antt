@@ -1,3 +1,4 @@
+-- Relations: loops over terms, one term's tests, the order of the refusals, and the law of both calls.
 pub mod Loops
 pub mod Sorts
 pub mod Sizes

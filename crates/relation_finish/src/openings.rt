@@ -36,7 +36,7 @@ fn open_pair(
     if shape.n <= shape::FEW_POSTS {
         return mask_opening::open_few_pair(party, rows, a, b, first, record_a, record_b);
     }
-    mask_opening::open_large_pair(party, rows, a, b, first, record_a, record_b)
+    mask_opening::open_most_pair(party, rows, a, b, first, record_a, record_b)
 }
 
 // 9, or else 13, of the product term at place k behind those before it, and its two numbers.

@@ -1,1 +1,2 @@
+-- What a relation's finish writes, step by step.
 pub mod Summing

@@ -1,1 +1,2 @@
+-- The rooms of an opening are long enough.
 pub mod Lent

@@ -50,12 +50,12 @@ fn open_in<'a>(
 }
 
 // In rooms for very few posts.
-pub fn open_least<'a>(party: Party, row: &'a [u32], blocks: &'a [u32]) -> Opened
+pub fn open_very_few<'a>(party: Party, row: &'a [u32], blocks: &'a [u32]) -> Opened
     requires { ⌜ Openable party (now row) (now blocks) × (party .shape .n ≤ veryFewPosts) ⌝ }
     ensures { λ r. ⌜ r ≡ openedRow party (now (row .entry)) (now (blocks .entry)) ⌝ }
 {
     let inverses = inverses::very_few::to_8();
-    let mut weights = [0u32; shape::VERY_SHORT_V];
+    let mut weights = [0u32; shape::V_OF_VERY_FEW];
     let mut posts = [0u32; shape::VERY_FEW_POSTS];
     let mut shares = [0u32; shape::VERY_FEW_POSTS];
     let mut gaps = [0u32; inverses::very_few::VERY_FEW];
@@ -78,12 +78,12 @@ pub fn open_least<'a>(party: Party, row: &'a [u32], blocks: &'a [u32]) -> Opened
 }
 
 // In rooms for few posts.
-pub fn open_small<'a>(party: Party, row: &'a [u32], blocks: &'a [u32]) -> Opened
+pub fn open_few<'a>(party: Party, row: &'a [u32], blocks: &'a [u32]) -> Opened
     requires { ⌜ Openable party (now row) (now blocks) × (party .shape .n ≤ fewPosts) ⌝ }
     ensures { λ r. ⌜ r ≡ openedRow party (now (row .entry)) (now (blocks .entry)) ⌝ }
 {
     let inverses = inverses::few::to_32();
-    let mut weights = [0u32; shape::SHORT_V];
+    let mut weights = [0u32; shape::V_OF_FEW];
     let mut posts = [0u32; shape::FEW_POSTS];
     let mut shares = [0u32; shape::FEW_POSTS];
     let mut gaps = [0u32; inverses::few::FEW];
@@ -106,7 +106,7 @@ pub fn open_small<'a>(party: Party, row: &'a [u32], blocks: &'a [u32]) -> Opened
 }
 
 // In rooms for the most posts.
-pub fn open_large<'a>(party: Party, row: &'a [u32], blocks: &'a [u32]) -> Opened
+pub fn open_most<'a>(party: Party, row: &'a [u32], blocks: &'a [u32]) -> Opened
     requires { ⌜ Openable party (now row) (now blocks) ⌝ }
     ensures { λ r. ⌜ r ≡ openedRow party (now (row .entry)) (now (blocks .entry)) ⌝ }
 {
@@ -140,10 +140,10 @@ pub fn open_row<'a>(party: Party, row: &'a [u32], blocks: &'a [u32]) -> Opened
 {
     let shape = party.shape;
     if shape.n <= shape::VERY_FEW_POSTS {
-        open_least(party, row, blocks)
+        open_very_few(party, row, blocks)
     } else if shape.n <= shape::FEW_POSTS {
-        open_small(party, row, blocks)
+        open_few(party, row, blocks)
     } else {
-        open_large(party, row, blocks)
+        open_most(party, row, blocks)
     }
 }

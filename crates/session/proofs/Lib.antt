@@ -1,3 +1,4 @@
+-- What every call on a session shares: its checks, how it ends, its rows, its law; and a new session.
 pub mod Passed
 pub mod Endings
 pub mod RowLaws

@@ -34,18 +34,18 @@ longestRow = 5 * mostPosts - 1
 abbrev pub fewPosts : ℕ
 fewPosts = 32
 
-abbrev pub shortRow : ℕ
-shortRow = 5 * fewPosts - 1
+abbrev pub rowOfFew : ℕ
+rowOfFew = 5 * fewPosts - 1
 
-abbrev pub shortV : ℕ
-shortV = 2 * fewPosts - 1
+abbrev pub vOfFew : ℕ
+vOfFew = 2 * fewPosts - 1
 
 -- and of so very few, rooms that are smaller still
 abbrev pub veryFewPosts : ℕ
 veryFewPosts = 8
 
-abbrev pub veryShortRow : ℕ
-veryShortRow = 5 * veryFewPosts - 1
+abbrev pub rowOfVeryFew : ℕ
+rowOfVeryFew = 5 * veryFewPosts - 1
 
-abbrev pub veryShortV : ℕ
-veryShortV = 2 * veryFewPosts - 1
+abbrev pub vOfVeryFew : ℕ
+vOfVeryFew = 2 * veryFewPosts - 1

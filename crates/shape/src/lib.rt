@@ -23,15 +23,15 @@ pub const LONGEST_ROW: usize = 5 * MOST_POSTS - 1;
 // Stations of so few posts get smaller rooms, for their rows and their v's.
 pub const FEW_POSTS: usize = 32;
 
-pub const SHORT_ROW: usize = 5 * FEW_POSTS - 1;
+pub const ROW_OF_FEW: usize = 5 * FEW_POSTS - 1;
 
-pub const SHORT_V: usize = 2 * FEW_POSTS - 1;
+pub const V_OF_FEW: usize = 2 * FEW_POSTS - 1;
 // And of so very few, rooms that are smaller still.
 pub const VERY_FEW_POSTS: usize = 8;
 
-pub const VERY_SHORT_ROW: usize = 5 * VERY_FEW_POSTS - 1;
+pub const ROW_OF_VERY_FEW: usize = 5 * VERY_FEW_POSTS - 1;
 
-pub const VERY_SHORT_V: usize = 2 * VERY_FEW_POSTS - 1;
+pub const V_OF_VERY_FEW: usize = 2 * VERY_FEW_POSTS - 1;
 
 // The marks of rows.
 pub const EMPTY: u8 = 0;

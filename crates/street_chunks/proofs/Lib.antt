@@ -1,1 +1,2 @@
+-- One chunk, and what it hands to standard output.
 pub mod Feeding

@@ -1,5 +1,5 @@
-// The street program: reads chunks, and prints the answers to their lines. What lines and answers are is said in `transcript`,
-// what is read and printed in `serving`.
+// The street program: reads chunks, and prints the answers to their lines. What lines and answers are is said in `street_transcript`,
+// what is read and printed in `street_serving`.
 mod notes;
 
 use street_port::Printed;

@@ -1,1 +1,2 @@
+-- Bytes of a line, kept and read, and its answer.
 pub mod Feeding

@@ -1,2 +1,3 @@
+-- The calls of `R`, `T`, `L` and `G`, in the store.
 pub mod Packing
 pub mod Lettering

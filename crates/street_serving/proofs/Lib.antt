@@ -1,2 +1,3 @@
+-- From chunk to chunk, and the end.
 pub mod Turns
 pub mod Closing

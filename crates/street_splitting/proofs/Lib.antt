@@ -1,1 +1,2 @@
+-- The walk to a line's end.
 pub mod Segments

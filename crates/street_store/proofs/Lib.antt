@@ -1,1 +1,2 @@
+-- A record of the store.
 pub mod Keeping

@@ -1,3 +1,4 @@
+-- The whole program, chunk by chunk: the loop over a chunk, the line kept, and the answers.
 pub mod Chunks
 pub mod Laying
 pub mod Looping

@@ -1,3 +1,4 @@
+-- Products of 1 − z/x: their values, and the loops that make them.
 pub mod Vanish
 pub mod Folded
 pub mod Factors

@@ -1,3 +1,4 @@
+-- Rows as linear images of vectors, one opening, and the claims.
 pub mod Linear
 pub mod Draws
 pub mod Passing

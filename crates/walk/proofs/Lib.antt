@@ -1,3 +1,4 @@
+-- Both walks over the posts, and what they bring out.
 pub mod Walks
 pub mod Behind
 pub mod Upward

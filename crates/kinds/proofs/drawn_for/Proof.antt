@@ -1,3 +1,4 @@
+-- `drawn_for` meets its contract.
 use Rattle.kinds.proofs.Kinded.{drawn-raw, drawn-triple, drawn-none}
 use borrow.Author.Needs.{needs}
 use Rattle.kinds.proofs.drawn_for.Statement.{statement}

@@ -1,3 +1,4 @@
+-- `draws_len` meets its contract.
 use Prim.Native.Nat.{_-_}
 use lib.ListN.{length}
 use Rattle.kinds.proofs.Kinded.{Tallied, tallied-start, tallied-fits, tallied-more, tallied-end}

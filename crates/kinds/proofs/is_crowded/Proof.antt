@@ -1,3 +1,4 @@
+-- `is_crowded` meets its contract.
 use Rattle.kinds.proofs.Kinded.{not-crowded, second-crowded, third-crowded}
 use borrow.Author.Needs.{needs}
 use Rattle.kinds.proofs.is_crowded.Statement.{statement}

@@ -1,3 +1,4 @@
+-- `is_late` meets its contract.
 use Rattle.kinds.proofs.Kinded.{not-late, late-triple}
 use borrow.Author.Needs.{needs}
 use Rattle.kinds.proofs.is_late.Statement.{statement}

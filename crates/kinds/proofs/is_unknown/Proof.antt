@@ -1,3 +1,4 @@
+-- `is_unknown` meets its contract.
 use Rattle.kinds.proofs.Kinded.{empty-known, raw-known, other-unknown}
 use borrow.Author.Needs.{needs}
 use Rattle.kinds.proofs.is_unknown.Statement.{statement}

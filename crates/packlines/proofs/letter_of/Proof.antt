@@ -1,3 +1,4 @@
+-- `letter_of` meets its contract.
 use Rattle.refusal.proofs.Endings.{tests}
 use borrow.Author.Needs.{needs}
 use Rattle.packlines.proofs.letter_of.Statement.{statement}

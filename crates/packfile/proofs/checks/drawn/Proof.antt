@@ -1,3 +1,4 @@
+-- `drawn` meets its contract.
 use Rattle.packfile.proofs.Asking.{drawn-joined}
 use borrow.Author.Needs.{needs}
 use Rattle.packfile.proofs.checks.drawn.Statement.{statement}

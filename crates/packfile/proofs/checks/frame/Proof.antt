@@ -1,3 +1,4 @@
+-- `frame` meets its contract.
 use Rattle.packfile.proofs.Asking.{party-stopped, frame-joined}
 use Rattle.refusal.proofs.Ranges.{party-passed}
 use borrow.Author.Needs.{needs}

@@ -1,3 +1,4 @@
+-- `kinds_size` meets its contract.
 use Rattle.refusal.proofs.Endings.{tests}
 use borrow.Author.Needs.{needs}
 use Rattle.packfile.proofs.checks.kinds_size.Statement.{statement}

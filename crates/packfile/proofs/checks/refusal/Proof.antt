@@ -1,3 +1,4 @@
+-- `refusal` meets its contract.
 use Rattle.packfile.proofs.Asking.{frame-stopped, frame-on, frame-valid, frame-kinds}
 use borrow.Author.Needs.{needs}
 use Rattle.packfile.proofs.checks.refusal.Statement.{statement}

@@ -1,15 +1,15 @@
--- `find_least` meets its contract: every room is long enough.
+-- `find_very_few` meets its contract: every room is long enough.
 use mathlib.Core.Path.{refl}
 use borrow.Author.Needs.{needs}
 use Rattle.shape.specs.Bounds.{veryFewPosts}
 use Rattle.otherdraw.proofs.Ends.{rooms}
-use Rattle.otherdraw.proofs.find_least.Statement.{statement}
-use Rattle.otherdraw.proofs.find_least.Tie as tie
+use Rattle.otherdraw.proofs.find_very_few.Statement.{statement}
+use Rattle.otherdraw.proofs.find_very_few.Tie as tie
 
 find-in-requires : tie.Need-find-in-requires
 find-in-requires c κs = (search needs, rooms _ veryFewPosts (search needs) (search needs) _ _ _ _ refl refl refl refl)
 
-pub find-least-spec : {M : Type 1} → statement M
-find-least-spec =
+pub find-very-few-spec : {M : Type 1} → statement M
+find-very-few-spec =
     tie.close
     (tie.spec (λ c. search needs) (λ c. search needs) (λ c. search needs) (λ c. search needs) find-in-requires (λ c. search needs) (λ c. search needs))

@@ -1,12 +1,12 @@
--- `open_least` meets its contract: every room is long enough.
+-- `open_very_few` meets its contract: every room is long enough.
 use Prim.Native.Nat.{_+_}
 use mathlib.Core.Path.{refl}
 use borrow.Author.Needs.{needs}
 use Rattle.inverses.specs.InverseTable.{veryFew}
 use Rattle.shape.specs.Bounds.{veryFewPosts}
 use Rattle.rooms.proofs.Lent.{rooms, unmarked}
-use Rattle.rooms.proofs.open_least.Statement.{statement}
-use Rattle.rooms.proofs.open_least.Tie as tie
+use Rattle.rooms.proofs.open_very_few.Statement.{statement}
+use Rattle.rooms.proofs.open_very_few.Tie as tie
 
 open-in-requires : tie.Need-open-in-requires
 open-in-requires c κs = (
@@ -16,8 +16,8 @@ open-in-requires c κs = (
   rooms _ veryFew veryFewPosts (search needs) _ _ _ _ _ _ _ (search needs) (search needs) (search needs) refl refl refl refl refl refl,
 )
 
-pub open-least-spec : {M : Type 1} → statement M
-open-least-spec =
+pub open-very-few-spec : {M : Type 1} → statement M
+open-very-few-spec =
     tie.close
     (tie.spec (λ c κs. search needs) (λ c. search needs) (λ c. search needs) (λ c. search needs) (λ c. search needs) (λ c. search needs)
     (λ c. search needs) (λ c. search needs) (λ c. search needs) open-in-requires (λ c. search needs))
