@@ -1,5 +1,5 @@
 //! What the tests share: the verified library as the second implementation's trait, seeds, programs.
-#![allow(dead_code)]
+#![allow(dead_code, unused_imports)]
 
 mod handed;
 pub mod programs;

@@ -6,12 +6,12 @@ mod common;
 mod station;
 
 use std::fs;
-use std::io::Write;
-use std::path::Path;
-use std::process::Command;
+use std::io::{self, Write};
+use std::process::{Command, Stdio};
+use std::sync::mpsc::channel;
 
-use common::programs::{compiled, ended, repository, C, CPP};
-use station::{in_rust, programs, Kind, Station};
+use common::programs::{compiled, repository, CPP};
+use station::{in_rust, programs, Event, Kind, Station};
 
 fn as_it_is(_: usize, line: &str) -> String {
     line.to_string()

@@ -12,7 +12,7 @@ use std::time::Duration;
 use super::common::programs::{compiled, ended, repository, C};
 
 #[allow(dead_code)]
-mod in_rust {
+pub mod in_rust {
     include!("../../examples/post.rs");
 
     /// The post, with its errors as text.
@@ -48,7 +48,7 @@ pub struct Station {
 }
 
 /// A post's line, or at its end what it opened.
-enum Event {
+pub enum Event {
     Line(usize, String),
     Ended(usize, String),
 }
@@ -108,7 +108,11 @@ impl Station {
     }
 
     /// Runs these posts; each gets the deals, then every line of another post as `carried` hands it on. What each opened.
-    pub fn run(&self, posts: &[(usize, Kind)], carried: impl Fn(usize, &str) -> String) -> Vec<String> {
+    pub fn run(
+        &self,
+        posts: &[(usize, Kind)],
+        carried: impl Fn(usize, &str) -> String,
+    ) -> Vec<String> {
         let (events, told) = channel();
         let start = |&(post, kind): &(usize, Kind)| (post, self.start(post, kind, &events));
         let mut inputs: Vec<_> = posts.iter().map(start).collect();
