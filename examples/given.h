@@ -1,4 +1,7 @@
 /* Numbers that a program is given, and files that only their owner may read. */
+#ifndef GIVEN_H
+#define GIVEN_H
+
 #include <fcntl.h>
 #include <stdint.h>
 #include <stdio.h>
@@ -22,12 +25,19 @@ static inline int given_number(const char *text, uint64_t bound, uint32_t *numbe
     return 1;
 }
 
+/* A file through no buffer of stdio's, which would keep what went through it and which nobody erases; NULL stays NULL. */
+static inline FILE *unbuffered(FILE *file) {
+    if (file != NULL)
+        setvbuf(file, NULL, _IONBF, 0);
+    return file;
+}
+
 /* A new file that nobody but its owner reads, whatever stood there; NULL where there can be none. */
 static inline FILE *own_file(const char *path) {
     if (unlink(path) != 0 && access(path, F_OK) == 0)
         return NULL;
     int opened = open(path, O_WRONLY | O_CREAT | O_EXCL, S_IRUSR | S_IWUSR);
-    return opened < 0 ? NULL : fdopen(opened, "wb");
+    return opened < 0 ? NULL : unbuffered(fdopen(opened, "wb"));
 }
 
 /* Writes the names of the files in a path's folder through to the disk: 1, or 0 where that fails. Without it a renamed file
@@ -44,3 +54,5 @@ static inline int synced_folder(const char *path) {
     int done = fsync(opened) == 0;
     return close(opened) == 0 && done;
 }
+
+#endif

@@ -20,8 +20,11 @@ enum {
 enum {
     MASKS = GANTSOROL_MASKS_LEN(T, POINTS),
     M_LINE = GANTSOROL_MASKS_LINE_LEN(N, T, POINTS),
-    O_LINE = GANTSOROL_OPENING_LINE_LEN(N, T, POINTS)
+    O_LINE = GANTSOROL_OPENING_LINE_LEN(N, T, POINTS),
+    A_LINE = GANTSOROL_ACCESS_LINE_LEN(N)
 };
+/* The longest line that a post hears. */
+enum { LINE = M_LINE > A_LINE ? M_LINE : A_LINE };
 
 /* Session and rows, and the post's own lines, to be sent again after a power loss. */
 static struct {
@@ -58,7 +61,7 @@ static void store(void) {
 
 /* The state from before a power loss, with its lines sent again; 0 where there is none. */
 static int restored(void) {
-    FILE *file = fopen(state_path, "rb");
+    FILE *file = unbuffered(fopen(state_path, "rb"));
     if (file == NULL)
         return 0;
     must(fread(&state, sizeof state, 1, file) == 1 && state.sent_len <= sizeof state.sent, "the state cannot be read");
@@ -174,14 +177,14 @@ int main(int count, char **arguments) {
     must(count == 3, "which pack file, and where to keep the state?");
     state_path = arguments[2];
     if (!restored()) {
-        FILE *pack = fopen(arguments[1], "r");
+        FILE *pack = unbuffered(fopen(arguments[1], "r"));
         must(pack != NULL, "there is no pack file");
         uint8_t refusal = load_pack(pack, &state.session, state.rows);
         must(refusal == GANTSOROL_OK, gantsorol_refusal_text(refusal));
         fclose(pack);
         store();
     }
-    char line[M_LINE + 1];
+    char line[LINE + 1];
     uint32_t charge, sum;
     while (fgets(line, sizeof line, stdin) != NULL) {
         if (line[0] == 'A')

@@ -5,7 +5,7 @@
 #include "gantsorol.h"
 
 enum { N = 3, T = 1, POINTS = 1, ROW = GANTSOROL_ROW_LEN(N, T, POINTS), ALL = GANTSOROL_ROWS_LEN(N, T, POINTS) };
-enum { RECORD = GANTSOROL_RECORD_LEN(N, T, POINTS) };
+enum { RECORD = GANTSOROL_RECORD_LEN(N, T, POINTS), MESSAGE = GANTSOROL_MESSAGE_LEN(T, POINTS) };
 
 static const uint32_t check_points[POINTS * N] = {2, 3, 5};
 static uint32_t rows[N][ALL];

@@ -13,7 +13,7 @@ int main(void) {
     /* Real draws are random: any numbers do here. */
     const uint32_t a[] = {7, 4, 1, 2, 3, 1, 5, 6}, b[] = {1, 9, 8, 2, 4, 4, 6, 3};
     const uint32_t triple[] = {2, 3, 7, 1, 8, 2, 8, 1, 5, 8, 2, 8, 4, 5, 9, 0, 4, 5, 2, 3, 5, 3, 6};
-    uint32_t masks[MASKS], record_a[RECORD] = {0}, record_b[RECORD] = {0}, opening[RECORD] = {0}, message[T + 1];
+    uint32_t masks[MASKS], record_a[RECORD] = {0}, record_b[RECORD] = {0}, opening[RECORD] = {0}, message[MESSAGE];
     start();
     share(A, 6, a);
     share(B, 7, b);
@@ -25,14 +25,14 @@ int main(void) {
         if (i == 0)
             keep(i, gantsorol_collect(posts[i], rows[i], ALL, TRIPLE, record_a, RECORD, record_b, RECORD));
         hear(record_a, i, masks);
-        hear(record_b, i, masks + T + 1);
+        hear(record_b, i, masks + MESSAGE);
     }
 
     /* Each post collects the masks and multiplies by itself, and has its part of the product, which is opened like any held number. */
     for (int i = 0; i < N; i++) {
         keep(i, gantsorol_collect(posts[i], rows[i], ALL, TRIPLE, record_a, RECORD, record_b, RECORD));
         keep(i, gantsorol_multiply(posts[i], rows[i], ALL, TRIPLE));
-        keep(i, gantsorol_opening_message(posts[i], rows[i], ALL, PRODUCT, CALLER, message, T + 1));
+        keep(i, gantsorol_opening_message(posts[i], rows[i], ALL, PRODUCT, CALLER, message, MESSAGE));
         hear(opening, i, message);
     }
     for (int i = 0; i < N; i++)

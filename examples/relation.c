@@ -12,15 +12,15 @@ enum { RIDES = 0, RATE = 1, FEE = 2, OTHER_FEE = 3, TRIPLE = 4, OTHER_TRIPLE = 7
 
 /* The sum of two terms, the first of them a product: masks, finish, and the sum's row opened. */
 static uint32_t relate(const gantsorol_term terms[2], size_t sum) {
-    uint32_t masks[MASKS], records[RECORDS] = {0}, opening[RECORD] = {0}, message[T + 1], value = 0;
+    uint32_t masks[MASKS], records[RECORDS] = {0}, opening[RECORD] = {0}, message[MESSAGE], value = 0;
     for (int i = 0; i < N; i++) {
         keep(i, gantsorol_relation_masks(posts[i], rows[i], ALL, terms, 2, masks, MASKS));
         hear(records, i, masks);
-        hear(records + RECORD, i, masks + T + 1);
+        hear(records + RECORD, i, masks + MESSAGE);
     }
     for (int i = 0; i < N; i++) {
         keep(i, gantsorol_relation_finish(posts[i], rows[i], ALL, terms, 2, sum, records, RECORDS));
-        keep(i, gantsorol_opening_message(posts[i], rows[i], ALL, sum, CALLER, message, T + 1));
+        keep(i, gantsorol_opening_message(posts[i], rows[i], ALL, sum, CALLER, message, MESSAGE));
         hear(opening, i, message);
     }
     for (int i = 0; i < N; i++)

@@ -42,5 +42,11 @@ int main(int count, char **arguments) {
             gantsorol_write_opening(N, T, POINTS, 0, i + 1, packs + i * ROW, GANTSOROL_MESSAGE_LEN(T, POINTS), text,
                                     sizeof text));
     must(fputs("G,0\n", lines) >= 0 && fclose(lines) == 0, "word: the lines");
+
+    gantsorol_erase(check_points, sizeof check_points);
+    gantsorol_erase(drawn, sizeof drawn);
+    gantsorol_erase(packs, sizeof packs);
+    gantsorol_erase(text, sizeof text);
+    gantsorol_erase(&word, sizeof word);
     return 0;
 }

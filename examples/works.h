@@ -21,9 +21,9 @@ static inline uint32_t draw_from(uint32_t low, FILE *random_numbers) {
     return number;
 }
 
-/* Check points, none of them 0, and a draw, from the operating system. */
+/* Check points, none of them 0 and each by itself, and a draw, from the operating system. */
 static inline void draw(uint32_t *check_points, size_t check_points_len, uint32_t *draws, size_t draws_len) {
-    FILE *random_numbers = fopen("/dev/urandom", "rb");
+    FILE *random_numbers = unbuffered(fopen("/dev/urandom", "rb"));
     must(random_numbers != NULL, "no random numbers");
     for (size_t i = 0; i < check_points_len; i++)
         check_points[i] = draw_from(1, random_numbers);

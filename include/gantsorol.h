@@ -1,9 +1,9 @@
 /*
  * Gantsorol: verifiable secret sharing for dock posts.
  *
- * For x86-64 only, by the rules of System V. The library is libgantsorol.a (`rt staticlib gantsorol`, or `./install`).
- * It needs no initialisation, allocates nothing, keeps nothing between calls and takes nothing but memcpy and memset.
- * docs/INTEGRATING.md goes from an empty folder to a post.
+ * For x86-64 only, by the rules of System V. The library is libgantsorol.a: `rt staticlib gantsorol` makes it, `./install`
+ * puts it in place. It needs no initialisation, allocates nothing, keeps nothing between calls and takes nothing but memcpy
+ * and memset. docs/INTEGRATING.md goes from an empty folder to a post.
  *
  * Any values are allowed. Every call, whatever it is given, does its one job or answers with a refusal, the number of
  * the first condition of gantsorol_refusal_text that applies; 0 means none. A refused call changes no list and no
@@ -45,8 +45,8 @@
  * the same order.
  *
  * Power loss. Store the session that a call hands back, and the rows and the dealers' state with it where they were written,
- * before the line that the call made is sent. With an older session a triple would be used twice, and two masks of one triple tell the
- * difference of two factors to whoever hears them.
+ * before the line that the call made is sent. With an older session a triple would be used twice, and two masks of one
+ * triple tell the difference of two factors to whoever hears them.
  *
  * Senders. A line names its post, and nobody checks that it comes from there: the carrier has to. A later
  * gantsorol_record_put of a post writes over the one before.
@@ -59,9 +59,10 @@
  * the call is done only without that one. Any t+1 shares agree: with posts removed down to t+1 a number has passed no
  * such check, and is not to be taken on its word.
  *
- * Erase, with gantsorol_erase, what is no longer needed: draws and packs once the pack files are written, and those once
- * they are loaded; the dealer's f once c is sent; messages, records, rows and the session with its last opening. Copies
- * of the session that calls had on the stack stay there until they are written over.
+ * Erase, with gantsorol_erase, what is no longer needed: check points, draws and packs once the pack files are written, and
+ * those once they are loaded; the dealer's f once c is sent; messages, records, rows and the session with its last opening.
+ * Copies of the session that calls had on the stack stay there until they are written over, and stdio's buffers keep what
+ * went through them.
  *
  * Bytes, for (n, t) with one check point a post, and with two; GANTSOROL_..._LEN below give numbers of 4 bytes, and bytes
  * for lines and files:
@@ -73,7 +74,8 @@
  *    record                     36       2,176      131,580
  *    draw of a row              32       2,112      131,072
  *    draw of a triple           92       6,332      393,212
- *    longest line               51         360        2,825
+ *    longest broadcast line     51         360        2,825
+ *    longest line of a pack file  269     2,645       21,059
  *
  *    two points             (3, 1)    (32, 15)   (255, 127)
  *    session                 4,168       4,168        4,168
@@ -82,15 +84,16 @@
  *    record                     48       4,096      261,120
  *    draw of a row              44       4,032      260,612
  *    draw of a triple          128      12,092      781,832
- *    longest line               73         690        5,619
+ *    longest broadcast line     73         690        5,619
+ *    longest line of a pack file  401     4,196       33,665
  *
  * No call takes more than GANTSOROL_MOST_STACK bytes of stack, beside its arguments and its answer; docs/INTEGRATING.md
  * has the figures of each call.
  *
  * What the calls read. A refusal 8 looks at every number of each row that the call reads from: an opening message gets
  * it for a bad check value or public sum too. Masks and collect leave the triple's third row unread; multiply reads
- * no number of a factor row, only its mark, the triple's rows and the two numbers remembered. The number of points and the check points are
- * looked at before lengths: a bad one behind the last gets 4, not 5.
+ * no number of a factor row, only its mark, the triple's rows and the two numbers remembered. The number of points and the
+ * check points are looked at before lengths: a bad one behind the last gets 4, not 5.
  */
 #ifndef GANTSOROL_H
 #define GANTSOROL_H

@@ -72,37 +72,58 @@ impl<W: Write> Post<W> {
         }
     }
 
-    // The library writes pack files and reads none.
+    // The library writes pack files and reads none. The file's text is erased, whatever it is.
     fn load(&mut self, pack: &Path) -> Result<(), Failed> {
-        for line in fs::read_to_string(pack)?.lines() {
-            let (letter, fields) =
-                line.split_once(',').ok_or("a line of the pack file has no numbers")?;
-            let fields = fields.split(',').map(str::parse).collect::<Result<Vec<u32>, _>>()?;
-            let (session, rows) = (self.session.take(), &mut self.rows);
-            let answer = match (letter, &fields[..]) {
-                // One check point, or two.
-                ("S" | "W", [n, t, post, own @ ..])
-                    if own.len() == 1 + usize::from(letter == "W") =>
-                {
-                    Session::new(*n as usize, *t as usize, *post as usize, own)
-                }
-                ("R", [row, pack @ ..]) => session.load_row(rows, *row as usize, pack),
-                ("T", [row, pack @ ..]) => session.load_triple(rows, *row as usize, pack),
-                _ => return Err("the pack file has another line".into()),
-            };
-            answer.keep(&mut self.session)?;
-        }
+        let mut text = fs::read(pack)?;
+        let loaded = self.load_text(&text);
+        erase(&mut text);
+        loaded?;
         let right = (self.session.n, self.session.t, self.session.points) == (N, T, POINTS);
         right.then_some(()).ok_or_else(|| "the pack file is of another station".into())
+    }
+
+    fn load_text(&mut self, text: &[u8]) -> Result<(), Failed> {
+        // Room for the longest line: a list that grows leaves its numbers where it stood.
+        let mut numbers = Vec::with_capacity(1 + triple_pack_len(N, T, POINTS));
+        let loaded = str::from_utf8(text)?.lines().try_for_each(|line| {
+            let (letter, fields) =
+                line.split_once(',').ok_or("a line of the pack file has no numbers")?;
+            numbers.clear();
+            for field in fields.split(',').take(numbers.capacity()) {
+                numbers.push(field.parse()?);
+            }
+            self.load_line(letter, &numbers)
+        });
+        erase(&mut numbers);
+        loaded
+    }
+
+    fn load_line(&mut self, letter: &str, numbers: &[u32]) -> Result<(), Failed> {
+        let (session, rows) = (self.session.take(), &mut self.rows);
+        let answer = match (letter, numbers) {
+            // One check point, or two.
+            ("S" | "W", [n, t, post, own @ ..]) if own.len() == 1 + usize::from(letter == "W") => {
+                Session::new(*n as usize, *t as usize, *post as usize, own)
+            }
+            ("R", [row, pack @ ..]) => session.load_row(rows, *row as usize, pack),
+            ("T", [row, pack @ ..]) => session.load_triple(rows, *row as usize, pack),
+            _ => return Err("the pack file has another line".into()),
+        };
+        answer.keep(&mut self.session)?;
+        Ok(())
     }
 
     // A new file, written through to the disk, takes the old one's place.
     fn store(&self) -> io::Result<()> {
         let Session { n, t, post, points, first, second, .. } = self.session;
         let Session { marks, factor_a, factor_b, y_a, y_b, barred, .. } = &self.session;
-        let numbers = [n as u32, t as u32, post as u32, points as u32, first, second];
-        let numbers = [&numbers[..], y_a, y_b, barred, &self.rows].concat();
-        let mut bytes: Vec<u8> = numbers.into_iter().flat_map(u32::to_le_bytes).collect();
+        let heads = [n as u32, t as u32, post as u32, points as u32, first, second];
+        let lists = [&heads[..], y_a, y_b, barred, &self.rows];
+        // Room for all: a list that grows leaves its bytes where it stood.
+        let len =
+            4 * lists.iter().map(|list| list.len()).sum::<usize>() + 3 * ROWS + self.sent.len();
+        let mut bytes = Vec::with_capacity(len);
+        bytes.extend(lists.into_iter().flatten().flat_map(|number| number.to_le_bytes()));
         bytes.extend([marks, factor_a, factor_b].into_iter().flatten().chain(&self.sent));
         let new = self.state.with_extension("new");
         let _ = fs::remove_file(&new);
@@ -118,13 +139,13 @@ impl<W: Write> Post<W> {
 
     // The state from before a power loss; its lines are sent again.
     fn restore(&mut self, mut file: File) -> Result<(), Failed> {
-        let mut bytes = vec![];
+        let mut bytes = Vec::with_capacity(file.metadata()?.len() as usize + 1);
         io::Read::read_to_end(&mut file, &mut bytes)?;
         let mut rest = &bytes[..];
         let mut part = |len: usize| rest.split_off(..len).ok_or("the state cannot be read");
-        let numbers = part(4 * (HEADS + 2 * ROWS + SETS_LEN + rows_len(N, T, POINTS)))?.chunks(4);
-        let numbers = numbers.map(|four| Ok(u32::from_le_bytes(four.try_into()?)));
-        let numbers: Vec<u32> = numbers.collect::<Result<_, Failed>>()?;
+        let stored = part(4 * (HEADS + 2 * ROWS + SETS_LEN + rows_len(N, T, POINTS)))?;
+        let mut numbers = Vec::with_capacity(stored.len() / 4);
+        numbers.extend(stored.chunks(4).map(|b| u32::from_le_bytes([b[0], b[1], b[2], b[3]])));
         let (heads, lists) = numbers.split_at(HEADS);
         let s = &mut self.session;
         (s.n, s.t, s.post) = (heads[0] as usize, heads[1] as usize, heads[2] as usize);
@@ -138,6 +159,8 @@ impl<W: Write> Post<W> {
             list.copy_from_slice(part(ROWS)?);
         }
         self.sent = rest.to_vec();
+        erase(&mut numbers);
+        erase(&mut bytes);
         self.output.write_all(&self.sent)?;
         Ok(self.output.flush()?)
     }

@@ -53,6 +53,7 @@ mod dealers;
 mod erase;
 mod lengths;
 mod posts;
+mod product;
 mod record;
 mod refusal;
 mod relation;

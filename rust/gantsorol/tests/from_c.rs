@@ -138,7 +138,7 @@ fn every_call_from_c() {
         Written, "written": refusal len;
         Line, "line": refusal letter row post;
     );
-    expected += include_str!("calls.expected");
-    let source = Path::new(env!("CARGO_MANIFEST_DIR")).join("tests/calls.c");
+    expected += include_str!("calls/calls.expected");
+    let source = Path::new(env!("CARGO_MANIFEST_DIR")).join("tests/calls/calls.c");
     assert_eq!(run("calls", &source, &C), expected);
 }

@@ -14,7 +14,8 @@ const STATING: [&str; 10] = [
     "Claims", "Counted.", "Figures.", "Law", "Meaning.", "Order.", "Places.", "Table", "Ten.",
     "Words.",
 ];
-const THEOREMS: [&str; 6] = ["correctness", "packed_law", "performing_law", "runs", "secrecy", "table"];
+const THEOREMS: [&str; 6] =
+    ["correctness", "packed_law", "performing_law", "runs", "secrecy", "table"];
 
 /// The page's common line: each has its table, which says the same list in figures.
 const TABLED: [&str; 4] = ["Tests", "Refusal", "Checks", "Table"];

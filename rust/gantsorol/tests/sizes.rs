@@ -13,14 +13,15 @@ const SIZES: [[usize; 2]; 3] = [[3, 1], [32, 15], [255, 127]];
 /// What each line of the table says, in bytes.
 type Bytes = (&'static str, fn(usize, usize, usize) -> usize);
 
-const BYTES: [Bytes; 7] = [
+const BYTES: [Bytes; 8] = [
     ("session", |_, _, _| size_of::<Session>()),
     ("answer", |_, _, _| size_of::<Answer>()),
     ("rows", |n, t, points| 4 * rows_len(n, t, points)),
     ("record", |n, t, points| 4 * record_len(n, t, points)),
     ("draw of a row", |n, t, points| 4 * row_draw_len(n, t, points)),
     ("draw of a triple", |n, t, points| 4 * triple_draw_len(n, t, points)),
-    ("longest line", masks_line_len),
+    ("longest broadcast line", masks_line_len),
+    ("longest line of a pack file", triple_line_len),
 ];
 
 /// A number with commas between thousands.

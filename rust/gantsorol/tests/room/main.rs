@@ -37,7 +37,7 @@ const MORE: [&str; 4] = [
 const SETS: [(&str, usize); 4] = [
     ("gantsorol_opening_message", 3_400),
     ("gantsorol_access", 4_500),
-    ("gantsorol_linear", 6_500),
+    ("gantsorol_linear", 3_400),
     ("gantsorol_multiply", 7_500),
 ];
 

@@ -64,21 +64,24 @@ fn inverse(x: u64) -> u64 {
     scale
 }
 
-/// The product of 1 - z/x: of x - z, then by the inverse of its constant.
+/// The product of 1 - z/x: of z - x, then by the inverse of its constant. On the way a coefficient is no remainder, but folded to at
+/// most p.
 fn vanishing<const N: usize>(numbers: &[u32]) -> [u32; N] {
     let mut list = [0; N];
     list[0] = 1;
     for (i, &x) in numbers.iter().enumerate() {
-        let mut before = 0;
+        let (negative, mut before) = (P - u64::from(x), 0);
         for c in &mut list[..i + 2] {
             let now = u64::from(*c);
-            *c = reduced(u64::from(x) * now + P - before) as u32;
+            let whole = negative * now + before;
+            let once = ((whole & P) + (whole >> 31)) as u32;
+            *c = (once & P as u32) + (once >> 31);
             before = now;
         }
     }
-    let scale = inverse(list[0].into());
+    let scale = inverse(u64::from(list[0]) % P);
     for c in &mut list[..=numbers.len()] {
-        *c = product(scale, (*c).into()) as u32;
+        *c = reduced(scale * u64::from(*c)) as u32;
     }
     list
 }
