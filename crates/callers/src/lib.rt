@@ -1,9 +1,8 @@
 // The posts that may not call for a row's opening: eight numbers a row, in one list.
 ghost use mathlib.Core.Path.{_≡_};
-ghost use mathlib.Core.List.{[], _∷_};
 ghost use Prim.Native.Nat.{_+_, _*_, _≤_, _<_};
 ghost use lib.ListN.{length, getD};
-ghost use Rattle.callers.specs.Sets.{setsLength, bitAt, bars, shared, unbarred, sharedAll};
+ghost use Rattle.callers.specs.Sets.{setsLength, bitAt, bars, shared};
 
 fn bit(word: u32, k: u32) -> bool
     requires { ⌜ k < 32 ⌝ }
@@ -39,22 +38,4 @@ pub fn share(sets: &mut [u32], d: usize, a: usize, b: usize)
         let two = word(sets, b, k);
         sets[8 * d + k] = one | two;
     }
-}
-
-// Row d bars whom row a bars.
-fn share_one(sets: &mut [u32], d: usize, a: usize)
-    requires { ⌜ (length (now sets) ≡ setsLength) × (d < 96) ⌝ }
-    ensures { λ r. ⌜ now (sets .exit) ≡ sharedAll (now (sets .entry)) d (a ∷ []) ⌝ }
-{
-    share(sets, d, 96, 96);
-    share(sets, d, d, a);
-}
-
-// Row d bars whom one of two rows bars, as a sum of them does.
-pub fn share_both(sets: &mut [u32], d: usize, a: usize, b: usize)
-    requires { ⌜ (length (now sets) ≡ setsLength) × (d < 96) ⌝ }
-    ensures { λ r. ⌜ now (sets .exit) ≡ sharedAll (now (sets .entry)) d (a ∷ b ∷ []) ⌝ }
-{
-    share_one(sets, d, a);
-    share(sets, d, d, b);
 }

@@ -8,9 +8,8 @@ use shape::Points;
 use shape::Shape;
 ghost use mathlib.Core.Path.{_≡_};
 ghost use Prim.Native.Nat.{_≤_, _<_};
-ghost use mathlib.Core.List.{[], _∷_};
 ghost use Rattle.shape.specs.Bounds.{lastRow, lastTriple};
-ghost use Rattle.session.specs.Sessions.{asMany, shapeOf, partyOf, marked, markedTriple, maskedTriple, collectedTriple, sessionOf, holding, answer, created, sharing, summedRow, finishedTriple};
+ghost use Rattle.session.specs.Sessions.{asMany, shapeOf, partyOf, marked, markedTriple, maskedTriple, collectedTriple, sessionOf, holding, answer, created, finishedTriple};
 ghost use Rattle.session.specs.Between.{Allows};
 
 // Who opens a number: the station's shape, the post's own number and its check points.
@@ -235,28 +234,6 @@ impl Session {
                 marks,
                 y_a: opened_a,
                 y_b: opened_b,
-                ..self
-            },
-        }
-    }
-
-    // How linear ends: row d holds the sum of two rows, and bars whom one of them bars.
-    pub fn answer_summing(self, refusal: u8, d: usize, a: usize, b: usize) -> Answer
-        requires { ⌜ Allows refusal (d ≤ lastRow) ⌝ }
-        ensures { λ r. ⌜ r ≡ answer refusal 0 (summedRow self d (a ∷ b ∷ [])) self ⌝ }
-    {
-        let mut marks = self.marks;
-        let mut barred = self.barred;
-        if refusal == 0 {
-            callers::share_both(&mut barred, d, a, b);
-            marks[d] = shape::HELD;
-        }
-        Answer {
-            refusal,
-            value: 0,
-            session: Session {
-                marks,
-                barred,
                 ..self
             },
         }
