@@ -1,4 +1,6 @@
 // What a post makes of another's part of a row: whether it accepts it, and the share in it.
+#![tactic(auto)]
+
 ghost use Rattle.std.specs.Prelude.{◌≡◌, true, length, get_or, ◌+◌, ◌≤◌, ◌<◌};
 ghost use Rattle.field.specs.Arithmetic.{difference};
 ghost use Rattle.poly.specs.Polynomial.{value};

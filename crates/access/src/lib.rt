@@ -1,4 +1,6 @@
 // Who may have a number opened: the A line, which sets the posts that may call for a raw row's opening.
+#![tactic(auto)]
+
 ghost use Rattle.refusal.specs.Refusal.{first, outcome};
 ghost use Rattle.session.specs.Between.{Allows};
 ghost use Rattle.std.specs.Prelude.{◌≡◌, not, ◌||◌, cond, ◌<◌, length, eqb, ltb};
@@ -14,7 +16,7 @@ use shape::Points;
 
 // A walk over the posts of a line: how far it has read, the post before, whether all were fields that rise, whether one is outside 1..n,
 // and the eight numbers of the set.
-#[derive(Drop)]
+#[derive(Clone, Copy)]
 struct Posts {
     at: usize,
     begun: bool,
@@ -25,7 +27,7 @@ struct Posts {
 }
 
 // What a line says: its row and the eight numbers of its set; or its refusal.
-#[derive(Drop)]
+#[derive(Clone, Copy)]
 struct Read {
     refusal: u8,
     row: usize,

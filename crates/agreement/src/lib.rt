@@ -1,4 +1,6 @@
 // Request (iv): whether further values lie on the polynomial through the first ones, by two sums of products a value.
+#![tactic(auto)]
+
 ghost use Rattle.std.specs.Prelude.{◌≡◌, suc, ◌≤◌, ◌<◌, length, take, drop};
 ghost use Rattle.agreement.specs.Agreement.{all_agree, Settles};
 ghost use Rattle.poly.specs.Counting.{All};
@@ -99,7 +101,7 @@ fn agree_rising(
 }
 
 // The value at 0 of the polynomial through the first values, and whether all further ones lie on it.
-#[derive(Drop)]
+#[derive(Clone, Copy)]
 pub struct Found {
     pub agree: bool,
     pub value: u32,

@@ -1,5 +1,7 @@
 // Interpolation at 0 through rising numbers from 1 to 255, as post numbers are: every inverse comes from a table that the caller
 // lends.
+#![tactic(auto)]
+
 ghost use Rattle.std.specs.Prelude.{◌≡◌, ◌∷◌, map, ◌+◌, ◌*◌, ◌-◌, ◌≤◌, ◌<◌, length, take};
 ghost use Rattle.field.specs.Modulus.{p};
 ghost use Rattle.field.specs.Arithmetic.{difference, product};

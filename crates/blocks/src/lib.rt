@@ -1,4 +1,6 @@
 // A record: a block for each post, its mark and its coefficients. Where a block begins, what counts for a post, and check 8.
+#![tactic(auto)]
+
 ghost use Rattle.std.specs.Prelude.{◌≡◌, [], ◌∷◌, ◌*◌, ◌-◌};
 ghost use Rattle.shape.specs.Lengths.{Valid, block_length};
 ghost use Rattle.refusal.specs.Refusal.{first, ◌when◌};

@@ -1,4 +1,6 @@
 // The posts that may not call for a row's opening: eight numbers a row, in one list.
+#![tactic(auto)]
+
 ghost use Rattle.std.specs.Prelude.{◌≡◌, ◌+◌, ◌*◌, ◌≤◌, ◌<◌, length, get_or};
 ghost use Rattle.callers.specs.Sets.{sets_length, bit_at, bars, shared};
 

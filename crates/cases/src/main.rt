@@ -1,5 +1,7 @@
 // Document 01, "Reckoned by hand": the cases that are not in the proved table, run by the library's calls; and a charge of
 // document 02, (i). Each prints what it is, the refusal and the value.
+#![tactic(auto)]
+
 ghost use Rattle.std.specs.Prelude.{◌≡◌, ◌≤◌, length};
 
 use libc::STDOUT_FILENO;

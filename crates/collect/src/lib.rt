@@ -1,6 +1,8 @@
 // The first call of a finish: y = a − l and y' = b − l' are opened and remembered.
 //
 // The records `record_a` and `record_b` are those of a − l and b − l'. No row is written.
+#![tactic(auto)]
+
 ghost use Rattle.std.specs.Prelude.{◌≡◌, [], ◌∷◌, ◌≤◌};
 ghost use Rattle.shape.specs.Bounds.{last_triple};
 ghost use Rattle.shape.specs.Lengths.{Valid};
@@ -18,7 +20,7 @@ use mask_opening::OpenedPair;
 use session::{Answer, Party, Session};
 
 // y = a − l and y' = b − l', opened, or the refusal.
-#[derive(Drop)]
+#[derive(Clone, Copy)]
 pub struct OpenedMasks {
     pub refusal: u8,
     pub y_a: u32,

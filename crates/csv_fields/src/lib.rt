@@ -1,4 +1,6 @@
 // Comma-parted number fields: written into a part of bytes, and read from a position of a line on.
+#![tactic(auto)]
+
 ghost use Rattle.std.specs.Prelude.{◌≡◌, cond, ◌++◌, ◌+◌, ◌≤◌, ◌<◌, length, ltb};
 ghost use Rattle.csv_fields.specs.Fields.{field, fields, written, overwrite, fields_at, ended, run_of, run_from, numbers_of_of, Fillable};
 ghost use Rattle.csv_fields.specs.Walk.{comma_field_of, read_at_of, step_from, counted, settled, end_of, low_in, Roomed};
@@ -8,7 +10,7 @@ use decimal::{Field, lanes};
 pub mod short;
 
 // What a first pass over fields tells of them: the largest number, and the position behind them.
-#[derive(Drop)]
+#[derive(Clone, Copy)]
 pub enum Run {
     Fields { largest: u64, next: usize },
     Broken,
@@ -114,7 +116,7 @@ fn comma_field(line: &[u8], at: usize) -> Field
 }
 
 // A field, and how far a line has been read then.
-#[derive(Drop)]
+#[derive(Clone, Copy)]
 struct Read {
     field: Field,
     at: usize,
@@ -132,14 +134,14 @@ fn read_at(line: &[u8], at: usize) -> Read
 }
 
 // The caller's line and how far it has been read: no copy.
-#[derive(Drop)]
+#[derive(Clone, Copy)]
 pub struct Reader<'a> {
     pub line: &'a [u8],
     pub at: usize,
 }
 
 // A field, and the reader moved on behind it.
-#[derive(Drop)]
+#[derive(Clone, Copy)]
 pub struct Step<'a> {
     pub field: Field,
     pub reader: Reader<'a>,
@@ -158,7 +160,7 @@ pub fn next_field<'a>(reader: Reader<'a>) -> Step<'a>
 }
 
 // A first pass so far: the fields left to read, none behind a wrong one; the largest number; whether all were fields.
-#[derive(Drop)]
+#[derive(Clone, Copy)]
 struct Tally {
     left: usize,
     largest: u64,

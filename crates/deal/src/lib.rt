@@ -1,4 +1,6 @@
 // Deal: c is added to m1..mn of a raw row, which becomes held.
+#![tactic(auto)]
+
 ghost use Rattle.std.specs.Prelude.{◌≡◌};
 ghost use Rattle.refusal.specs.Refusal.{first};
 ghost use Rattle.session.specs.Between.{Sized};

@@ -1,4 +1,6 @@
 // Several dealers at one station: a lent state with a place for each dealer's waiting line, and turns that take one line.
+#![tactic(auto)]
+
 pub mod places;
 
 ghost use Rattle.std.specs.Prelude.{◌≡◌, length};
@@ -17,7 +19,7 @@ use session::{Answer, Session};
 use shape::Shape;
 
 // What a line taken says: the row and the number of a `D`, or its refusal.
-#[derive(Drop)]
+#[derive(Clone, Copy)]
 pub struct Said {
     pub refusal: u8,
     pub row: usize,
@@ -25,7 +27,7 @@ pub struct Said {
 }
 
 // What a turn comes to: its refusal, and the row that is then held, 96 for none.
-#[derive(Drop)]
+#[derive(Clone, Copy)]
 pub struct Dealt {
     pub refusal: u8,
     pub row: usize,

@@ -1,4 +1,6 @@
 // Decimal numbers: written digit by digit into a part of bytes, and read at a position of a line.
+#![tactic(auto)]
+
 ghost use Rattle.std.specs.Prelude.{◌≡◌, [], ◌∷◌, ◌+◌, ◌≤◌, ◌<◌, length, take, drop};
 ghost use Rattle.decimal.specs.Numeral.{size, last_digits, value_after, field_at};
 ghost use Rattle.decimal.specs.Between.{reached, WalkEnd, DigitsAt, Digits, DigitsIf, bytes_of, BehindEight, BehindNine};
@@ -9,7 +11,7 @@ pub mod lanes;
 const MOST_DIGITS: usize = 10;
 
 // What stands at a position: a number and the position behind it, or none.
-#[derive(Drop)]
+#[derive(Clone, Copy)]
 pub enum Field {
     Number { value: u64, next: usize },
     Wrong,
@@ -54,7 +56,7 @@ fn wide(b: u8) -> u64
 }
 
 // Digits from a position on: what they say, and the position behind them.
-#[derive(Drop)]
+#[derive(Clone, Copy)]
 struct Span {
     value: u64,
     end: usize,

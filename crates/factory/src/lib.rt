@@ -1,4 +1,6 @@
 // The factory: the posts' parts of a drawn row, and of a drawn triple.
+#![tactic(auto)]
+
 ghost use Rattle.std.specs.Prelude.{◌≡◌};
 ghost use Rattle.factory.specs.Calls.{factory_row_refusal, factory_row_out, factory_triple_refusal, factory_triple_out, dealer_number_of};
 
@@ -7,7 +9,7 @@ pub mod checks;
 use shape::Shape;
 
 #[repr(C)]
-#[derive(Drop)]
+#[derive(Clone, Copy)]
 pub struct Number {
     pub refusal: u8,
     pub value: u32,

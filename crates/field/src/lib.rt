@@ -3,6 +3,8 @@
 // Every function but `reduce` is total: a number of p or more stands for its remainder modulo p. Every result but that of
 // `whole_product` is an element.
 // The time of `inverse` depends on its argument, so it is for public values only.
+#![tactic(auto)]
+
 ghost use Rattle.std.specs.Prelude.{◌≡◌, ◌+◌, ◌*◌, ◌%◌, ◌<◌};
 ghost use Rattle.field.specs.Modulus.{p};
 ghost use Rattle.field.specs.Arithmetic.{sum, difference, product, inverse, IsInverse};

@@ -1,4 +1,6 @@
 // The form of broadcast lines: what a line says, where its numbers stand, and how a list takes them.
+#![tactic(auto)]
+
 ghost use Rattle.std.specs.Prelude.{◌≡◌, cond, ◌++◌, ◌-◌, ◌≤◌, length, replicate};
 ghost use Rattle.refusal.specs.Conditions.{beyond};
 ghost use Rattle.csv_fields.specs.Fields.{fields_at, ended, run_of, run_from, numbers_of_of, padded};
@@ -10,7 +12,7 @@ ghost use Rattle.forms.specs.Between.{HeadOf, below_limit, PartOf};
 use csv_fields::{Run, short};
 
 // What the head of a line tells: where its numbers stand behind row and post, and how many they are.
-#[derive(Drop)]
+#[derive(Clone, Copy)]
 pub enum Head {
     Right {
         letter: u8,

@@ -2,6 +2,8 @@
 //
 // Each function is its call and nothing else, with the call's own contract. None has a `requires`: any values and any
 // lengths get an answer. Lists that overlap are the one thing that a caller must not lend.
+#![tactic(auto)]
+
 pub mod broadcast;
 pub mod calls;
 pub mod packs;

@@ -1,5 +1,7 @@
 // The inverses of 1 to 255 modulo p. No entry is trusted: the rule is a test over the whole table, which the proofs of `to_255`,
 // `few::to_32` and `very_few::to_8` compute (`inverts` in proofs/Entries.antt).
+#![tactic(auto)]
+
 ghost use Rattle.std.specs.Prelude.{◌≡◌, length};
 ghost use Rattle.inverses.specs.InverseTable.{Inverts, most};
 

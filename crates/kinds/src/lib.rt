@@ -1,4 +1,6 @@
 // The kinds of rows: what is drawn for them, and refusals 6, 7 and 8 of them.
+#![tactic(auto)]
+
 ghost use Rattle.std.specs.Prelude.{◌≡◌, [], ◌∷◌, ◌<◌, ◌+◌, length, drop, get_or};
 ghost use Rattle.shape.specs.Bounds.{row_count_of};
 ghost use Rattle.shape.specs.Lengths.{Valid};

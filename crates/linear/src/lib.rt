@@ -1,5 +1,7 @@
 // Linear: a plus scale times b, element by element over whole rows, into an empty row, which becomes held; the fee is added to
 // its public sums and to nothing else.
+#![tactic(auto)]
+
 pub mod sets;
 
 ghost use Rattle.std.specs.Prelude.{◌≡◌};

@@ -1,4 +1,6 @@
 // Broadcast lines: `D`, `O` and `M` written into a lent part of bytes and read from a lent line.
+#![tactic(auto)]
+
 ghost use Rattle.std.specs.Prelude.{◌≡◌, ◌*◌, ◌≤◌, ◌∷◌, length, ltb};
 ghost use Rattle.shape.specs.Bounds.{most_posts, last_row_at};
 ghost use Rattle.shape.specs.Lengths.{shape, v_length};
@@ -15,7 +17,7 @@ use shape::Shape;
 
 // The answer of a writer: the refusal, and the line's length.
 #[repr(C)]
-#[derive(Drop)]
+#[derive(Clone, Copy)]
 pub struct Written {
     pub refusal: u8,
     pub len: usize,
@@ -23,7 +25,7 @@ pub struct Written {
 
 // The answer of the reader: the refusal, or the letter, the row and the post; a `D` has post 0.
 #[repr(C)]
-#[derive(Drop)]
+#[derive(Clone, Copy)]
 pub struct Line {
     pub refusal: u8,
     pub letter: u8,

@@ -1,4 +1,6 @@
 // Parts of lent lists.
+#![tactic(auto)]
+
 ghost use Rattle.std.specs.Prelude.{◌≡◌, length, replicate};
 
 // The numbers of `from`, into `to`.

@@ -1,4 +1,6 @@
 // Loading: a raw row goes to an empty row, a triple to three empty rows one after the other.
+#![tactic(auto)]
+
 ghost use Rattle.std.specs.Prelude.{◌≡◌, ◌≤◌, ◌<◌, length, [], ◌∷◌};
 ghost use Rattle.refusal.specs.Refusal.{first, ◌when◌};
 ghost use Rattle.shape.specs.Bounds.{last_triple};

@@ -1,5 +1,7 @@
 // The two masks of a product, a − l and b − l', opened with their records; and the refusal of two openings. The first call of a finish and a
 // relation's finish use both, and each chooses the size of the rooms by itself (see rooms).
+#![tactic(auto)]
+
 ghost use Rattle.std.specs.Prelude.{◌≡◌, ◌≤◌, length};
 ghost use Rattle.shape.specs.Bounds.{very_few_posts, few_posts};
 ghost use Rattle.shape.specs.Lengths.{row_length};
@@ -14,7 +16,7 @@ use shape::Shape;
 use walk::Opened;
 
 // What the two masks of a product open to.
-#[derive(Drop)]
+#[derive(Clone, Copy)]
 pub struct OpenedPair {
     pub a: Opened,
     pub b: Opened,

@@ -1,4 +1,6 @@
 // Opening message: the coefficients of a held row's polynomial, into a lent list.
+#![tactic(auto)]
+
 ghost use Rattle.std.specs.Prelude.{◌≡◌, ◌≤◌, ◌<◌, length, [], ◌∷◌};
 ghost use Rattle.refusal.specs.Refusal.{first, ◌when◌};
 ghost use Rattle.shape.specs.Marks.{held};

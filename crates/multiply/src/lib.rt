@@ -1,4 +1,6 @@
 // The second call of a finish: l'' + y l' + y' l + y y' goes into the triple's third row, from the y and y' that the session remembers.
+#![tactic(auto)]
+
 ghost use Rattle.std.specs.Prelude.{◌≡◌, ◌+◌, ◌≤◌, get_or};
 ghost use Rattle.field.specs.Arithmetic.{product};
 ghost use Rattle.shape.specs.Bounds.{last_triple};

@@ -1,4 +1,6 @@
 // Opening: a post checks what the others sent of a row, and brings the number out.
+#![tactic(auto)]
+
 ghost use Rattle.std.specs.Prelude.{◌≡◌, [], ◌∷◌, length};
 ghost use Rattle.shape.specs.Marks.{held};
 ghost use Rattle.refusal.specs.Refusal.{first, ◌when◌};

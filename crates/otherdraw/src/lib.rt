@@ -2,6 +2,8 @@
 //
 // Its time depends on the listed posts and on their check points, whose inverses it takes; the works knows them. It is no call of a
 // post.
+#![tactic(auto)]
+
 ghost use Rattle.std.specs.Prelude.{◌≡◌, ◌≤◌};
 ghost use Rattle.shape.specs.Bounds.{very_few_posts, few_posts};
 ghost use Rattle.otherdraw.specs.Other.{points_of, moved, other_refusal_of, other_out};

@@ -1,4 +1,6 @@
 // The pack file of a post: what a works copies into it, its start line and the lines of its rows.
+#![tactic(auto)]
+
 mod checks;
 
 ghost use Rattle.std.specs.Prelude.{◌≡◌, ◌≤◌, length};

@@ -1,4 +1,6 @@
 // The lines of a pack file, measured and written.
+#![tactic(auto)]
+
 ghost use Rattle.std.specs.Prelude.{◌≡◌, ◌≤◌, ◌<◌, length};
 ghost use Rattle.shape.specs.Bounds.{row_count_of};
 ghost use Rattle.csv_fields.specs.Fields.{overwrite};

@@ -1,4 +1,6 @@
 // A post's part of a draw, and the numbers of a row's line.
+#![tactic(auto)]
+
 ghost use Rattle.std.specs.Prelude.{◌≡◌, ◌∷◌, ◌++◌};
 ghost use Rattle.shape.specs.Lengths.{draw_length};
 ghost use Rattle.parts.specs.Draw.{first_draw, second_draw};

@@ -1,4 +1,6 @@
 // All posts' parts of one drawn row, and of a drawn triple.
+#![tactic(auto)]
+
 ghost use Rattle.std.specs.Prelude.{◌≡◌, ◌∷◌, ◌++◌, ◌+◌, ◌*◌, ◌≤◌, ◌<◌, length};
 ghost use Rattle.shape.specs.Lengths.{Valid};
 ghost use Rattle.shape.specs.Lengths.{draw_length, triple_draw_length, packs_length};

@@ -1,6 +1,8 @@
 // One post's part of a drawn row. f is its constant and the `higher` coefficients behind it, and `vs` are v1 to vn, one
 // after the other: a triple's third draw, whose f has no drawn constant, is then written like any other. Values are sums of
 // products with the powers of the point. These stand where the post's own coefficients come last, so that no room is needed.
+#![tactic(auto)]
+
 ghost use Rattle.std.specs.Prelude.{◌≡◌, ◌∷◌, ◌*◌, ◌≤◌, ◌<◌, length, take, drop};
 ghost use Rattle.poly.specs.Polynomial.{value};
 ghost use Rattle.poly.specs.Counting.{Elements};

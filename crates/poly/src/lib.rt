@@ -3,6 +3,8 @@
 //
 // Every public function but `weigh_elements` is total: the lists have any length and hold any numbers, one of p or more standing for
 // its remainder.
+#![tactic(auto)]
+
 ghost use Rattle.std.specs.Prelude.{◌≡◌, ◌+◌, ◌-◌, ◌≤◌, ◌<◌, length, take, drop};
 ghost use Rattle.poly.specs.Polynomial.{value, powers, weighted};
 ghost use Rattle.poly.specs.Counting.{Elements};

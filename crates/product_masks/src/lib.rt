@@ -2,6 +2,8 @@
 //
 // The call has its checks, what it does where nothing is refused, and the call itself, which has no `requires`: any session, any
 // list of any length and any row number gets an answer.
+#![tactic(auto)]
+
 ghost use Rattle.std.specs.Prelude.{◌≡◌, ◌≤◌, length};
 ghost use Rattle.shape.specs.Bounds.{last_triple};
 ghost use Rattle.shape.specs.Lengths.{Valid, v_length, row_length, masks_length};

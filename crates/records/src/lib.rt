@@ -1,4 +1,6 @@
 // A record's blocks: a post's message is put into a record, and taken out of it again.
+#![tactic(auto)]
+
 ghost use Rattle.std.specs.Prelude.{◌≡◌, suc, length};
 ghost use Rattle.shape.specs.Lengths.{Valid, record_length, message_length};
 ghost use Rattle.blocks.specs.Between.{PostIn};

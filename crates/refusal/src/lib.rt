@@ -1,4 +1,6 @@
 // Refusals: the first of several in order, and the conditions that several calls share.
+#![tactic(auto)]
+
 ghost use Rattle.std.specs.Prelude.{◌≡◌, [], ◌∷◌};
 ghost use Rattle.refusal.specs.Refusal.{first, or_else, ◌when◌};
 ghost use Rattle.refusal.specs.Conditions.{posts_tests, outside, wrong_length, beyond, any_beyond, bad_point, bad_point_count, bad_points, station_tests, party_tests};

@@ -1,4 +1,6 @@
 // 1 to 8 of a relation's finish. Each loop asks one number's tests of all terms, or of all product terms.
+#![tactic(auto)]
+
 ghost use Rattle.std.specs.Prelude.{◌≡◌, [], ◌∷◌, ◌+◌, ◌*◌, ◌≤◌, length};
 ghost use Rattle.shape.specs.Bounds.{last_triple};
 ghost use Rattle.shape.specs.Lengths.{Valid, row_length, record_length};

@@ -1,5 +1,7 @@
 // The finish of a relation: all checks, every product term's two openings, then the products, the sum in its row, and the triples as
 // the pair of calls leaves them.
+#![tactic(auto)]
+
 pub mod openings;
 
 ghost use Rattle.std.specs.Prelude.{◌≡◌};

@@ -1,5 +1,7 @@
 // A relation's first call, the masks of all product terms: their checks, the masks one term after the other, and the triples that
 // remember their terms' rows.
+#![tactic(auto)]
+
 ghost use Rattle.std.specs.Prelude.{◌≡◌, ◌+◌, ◌*◌, ◌≤◌, length};
 ghost use Rattle.shape.specs.Bounds.{last_row_at, last_triple};
 ghost use Rattle.shape.specs.Lengths.{Valid, row_length, masks_length};

@@ -1,5 +1,7 @@
 // What a relation's finish writes: the products of all product terms, then the sum of the terms in its row; and the triples as the pair
 // of calls leaves them.
+#![tactic(auto)]
+
 ghost use Rattle.std.specs.Prelude.{◌≡◌, ◌≤◌, ◌<◌, length, replicate};
 ghost use Rattle.callers.specs.Sets.{sets_length, shared, joining, shared_all};
 ghost use Rattle.shape.specs.Bounds.{last_triple};
@@ -18,7 +20,7 @@ use shape::Shape;
 use terms::{Term, Terms};
 
 // The two numbers that each product term opens to, y and y', at its place; or the refusal.
-#[derive(Drop)]
+#[derive(Clone, Copy)]
 pub struct OpenedTerms {
     pub refusal: u8,
     pub y_a: [u32; terms::MOST_TERMS],

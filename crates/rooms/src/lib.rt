@@ -1,6 +1,8 @@
 // The opening of one row with one record, in rooms that fit the station: a small one clears short lists only. The three sizes are public: the
 // compiler puts a function that has one call into its caller, and its rooms with it; those of the most posts have more than one, and stay off
 // a small station's stack.
+#![tactic(auto)]
+
 ghost use Rattle.std.specs.Prelude.{◌≡◌, ◌≤◌, length};
 ghost use Rattle.shape.specs.Bounds.{very_few_posts, few_posts};
 ghost use Rattle.shape.specs.Lengths.{v_length};

@@ -1,6 +1,8 @@
 // A session: what a post remembers beside its rows, and the checks that every call on it makes.
 //
 // A session goes in by value and comes back by value; its rows stand in one list that the caller lends.
+#![tactic(auto)]
+
 pub mod checks;
 pub mod rows;
 
@@ -12,7 +14,7 @@ ghost use Rattle.session.specs.Between.{Allows};
 use shape::{Points, Shape};
 
 // Who opens a number: the station's shape, the post's own number and its check points.
-#[derive(Drop)]
+#[derive(Clone, Copy)]
 pub struct Party {
     pub shape: Shape,
     pub post: usize,
@@ -22,7 +24,7 @@ pub struct Party {
 pub const BARRED: usize = 768;
 
 #[repr(C)]
-#[derive(Drop)]
+#[derive(Clone, Copy)]
 pub struct Session {
     pub n: usize,
     pub t: usize,
@@ -45,7 +47,7 @@ pub struct Session {
 
 // What a call hands back.
 #[repr(C)]
-#[derive(Drop)]
+#[derive(Clone, Copy)]
 pub struct Answer {
     pub refusal: u8,
     pub value: u32,

@@ -1,5 +1,7 @@
 // The shape of a station: the numbers that bound it, and the lengths that follow from n and t. The calls on a session take them
 // from here alone.
+#![tactic(auto)]
+
 ghost use Rattle.std.specs.Prelude.{◌≡◌};
 ghost use Rattle.shape.specs.Lengths.{needed, f_length, v_length, checks_length, checks_at_of, sums_at_of, row_length, triple_length};
 ghost use Rattle.shape.specs.Lengths.{rows_length, block_length, record_length, draw_length, triple_draw_length, packs_length, masks_length, Valid};
@@ -56,7 +58,7 @@ pub const ABSENT: u32 = 0;
 pub const PRESENT: u32 = 1;
 
 // n posts, of which any t+1 bring a number out and t that keep the rules learn nothing, each with so many check points.
-#[derive(Drop)]
+#[derive(Clone, Copy)]
 pub struct Shape {
     pub n: usize,
     pub t: usize,
@@ -64,7 +66,7 @@ pub struct Shape {
 }
 
 // A post's check points. Where it has one, the second is 0 and not looked at.
-#[derive(Drop)]
+#[derive(Clone, Copy)]
 pub struct Points {
     pub first: u32,
     pub second: u32,

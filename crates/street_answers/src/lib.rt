@@ -1,4 +1,6 @@
 // The answers as text.
+#![tactic(auto)]
+
 ghost use Rattle.std.specs.Prelude.{◌≡◌, [], ◌+◌, ◌≤◌, length};
 ghost use Rattle.forms.specs.Lines as Lines;
 ghost use Rattle.street_store.specs.Sizes.{street_posts, most_masks, told_room};

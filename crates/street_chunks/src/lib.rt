@@ -1,4 +1,6 @@
 // One chunk: read, fed to the street program, its answers printed; and whether it is the last.
+#![tactic(auto)]
+
 ghost use Rattle.std.specs.Prelude.{◌≡◌, true, ◌+◌, ◌≤◌, length, take};
 ghost use Rattle.street_feeds.specs.Program.{running};
 ghost use Rattle.street_feeds.specs.Between.{Open};
@@ -13,14 +15,14 @@ use street_port::{Got, Printed};
 pub const CHUNK: usize = 2048;
 
 // The program after a chunk: what is kept, and what was printed.
-#[derive(Drop)]
+#[derive(Clone, Copy)]
 struct Answers {
     feed: Feed,
     printed: Printed,
 }
 
 // The same, with what the read answered.
-#[derive(Drop)]
+#[derive(Clone, Copy)]
 pub struct Served {
     pub feed: Feed,
     pub got: Got,

@@ -1,5 +1,7 @@
 // The street program: reads chunks, and prints the answers to their lines. What lines and answers are is said in `street_transcript`,
 // what is read and printed in `street_serving`.
+#![tactic(auto)]
+
 mod notes;
 
 ghost use Rattle.std.specs.Prelude.{◌≡◌, length};
@@ -14,7 +16,7 @@ use street_port::Printed;
 const ANSWER_BYTES: usize = street_answers::LONGEST_PRINT * street_chunks::CHUNK;
 
 // How a run ended.
-#[derive(Drop)]
+#[derive(Clone, Copy)]
 pub struct Ending {
     // how many lines were answered
     pub lines: u64,
@@ -29,7 +31,7 @@ pub struct Ending {
 }
 
 // The same, with the note on what failed.
-#[derive(Drop)]
+#[derive(Clone, Copy)]
 pub struct Outcome {
     pub ending: Ending,
     // how many bytes were handed to standard error

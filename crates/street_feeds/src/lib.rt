@@ -1,5 +1,7 @@
 // The program between two bytes: bytes are kept for the line begun, and a line feed, or the end of the input, ends it. A line that has ended is
 // read, and when it has been taken its answer is printed.
+#![tactic(auto)]
+
 ghost use Rattle.std.specs.Prelude.{◌≡◌, cond, not, false, ◌++◌, ◌+◌, ◌-◌, ◌≤◌, ◌<◌, ◌^◌, length, get_or, take, replicate, eqb};
 ghost use Rattle.street_store.specs.Sizes.{store_room, numbers_room, record_room};
 ghost use Rattle.street_steps.specs.Letters.{is_change};
@@ -16,7 +18,7 @@ use street_orders::Order;
 use street_states::{Head, State};
 
 // The program between two bytes, beside the store, the line begun and the answers.
-#[derive(Drop)]
+#[derive(Clone, Copy)]
 pub struct Feed {
     pub state: State,
     // how many lines were answered
@@ -28,7 +30,7 @@ pub struct Feed {
 }
 
 // A part of a line: whether it ends the line, what the line then asks for, and what is kept.
-#[derive(Drop)]
+#[derive(Clone, Copy)]
 pub struct Part {
     pub ended: bool,
     pub order: Order,

@@ -1,4 +1,6 @@
 // The calls of a product's lines: `F`, which finishes it, here, and `X`, which makes its masks, in `masks`.
+#![tactic(auto)]
+
 pub mod masks;
 
 ghost use Rattle.std.specs.Prelude.{◌≡◌, length, replicate};

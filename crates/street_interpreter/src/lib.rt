@@ -1,5 +1,7 @@
 // The station: what each line of the street program does. A line is read into its order (`street_orders`); then it is either a change of
 // the session, with one call site for each of the library's calls, or a look.
+#![tactic(auto)]
+
 ghost use Rattle.std.specs.Prelude.{◌≡◌, false, ◌≤◌, length, replicate};
 ghost use Rattle.session.specs.Sessions.{shape_of, holding};
 ghost use Rattle.street_store.specs.Sizes.{InStreet, store_room, numbers_room, record_room, most_masks};
@@ -11,7 +13,7 @@ use shape::Shape;
 use street_orders::Order;
 
 // What a look hands back: the answer, and what the records are kept for.
-#[derive(Drop)]
+#[derive(Clone, Copy)]
 pub struct Outcome {
     pub refusal: u8,
     pub value: u32,

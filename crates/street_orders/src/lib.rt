@@ -1,4 +1,6 @@
 // A line read into its order, without the session. What else a new letter needs is in CONTRIBUTING.md, step 13.
+#![tactic(auto)]
+
 ghost use Rattle.std.specs.Prelude.{◌≡◌, [], ◌∷◌, ◌≤◌, length};
 ghost use Rattle.shape.specs.Bounds.{last_row_at, last_triple};
 ghost use Rattle.street_store.specs.Sizes.{InStreet, numbers_room};
@@ -8,7 +10,7 @@ use shape::Shape;
 
 // What a line asks for: its letter, or 0 where it is refused when it is read; the row and the post of a `D`, `O` or `M`. Its numbers stand in
 // a lent list. The form of an `A` is looked at by the library's call.
-#[derive(Drop)]
+#[derive(Clone, Copy)]
 pub struct Order {
     pub letter: u8,
     pub refusal: u8,

@@ -1,4 +1,6 @@
 // Standard input, output and error: where the program meets the operating system. A `Got` or a `Printed` is made nowhere else.
+#![tactic(auto)]
+
 ghost use Rattle.std.specs.Prelude.{◌≡◌, ◌+◌, ◌≤◌, true, length};
 ghost use Rattle.street_answers.specs.Text.{header};
 ghost use Rattle.street_port.specs.Counts.{wrapped};
@@ -6,14 +8,14 @@ ghost use Rattle.street_port.specs.Counts.{wrapped};
 use libc::{STDERR_FILENO, STDIN_FILENO, STDOUT_FILENO};
 
 // What a read answered: how many bytes it put at the buffer's start, 0 at the end of the input, and whether it failed.
-#[derive(Drop)]
+#[derive(Clone, Copy)]
 pub struct Got {
     count: usize,
     failed: bool,
 }
 
 // How many bytes were handed to standard output so far, modulo 2^64, and whether the last of them were all taken.
-#[derive(Drop)]
+#[derive(Clone, Copy)]
 pub struct Printed {
     total: u64,
     whole: bool,

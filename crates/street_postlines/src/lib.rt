@@ -1,4 +1,6 @@
 // The call of a `D`, and what is kept of `O` and `M` lines.
+#![tactic(auto)]
+
 ghost use Rattle.std.specs.Prelude.{◌≡◌, ◌≤◌, length, take, drop};
 ghost use Rattle.shape.specs.Lengths.{v_length, masks_length};
 ghost use Rattle.session.specs.Sessions.{shape_of};

@@ -1,4 +1,6 @@
 // What a line of the street program says: the numbers behind its letter.
+#![tactic(auto)]
+
 pub mod start;
 
 ghost use Rattle.std.specs.Prelude.{◌≡◌, [], ◌∷◌, ◌≤◌, length};
@@ -11,7 +13,7 @@ ghost use Rattle.street_reading.specs.Between.{Taken};
 use csv_fields::Run;
 
 // The settings of a session, or a line of the wrong form.
-#[derive(Drop)]
+#[derive(Clone, Copy)]
 pub enum StartForm {
     Settings {
         n: u64,

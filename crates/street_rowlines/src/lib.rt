@@ -1,4 +1,6 @@
 // The calls of the lines that name rows: `L` and `G` here, `R` and `T` in `loads`.
+#![tactic(auto)]
+
 pub mod loads;
 
 ghost use Rattle.std.specs.Prelude.{◌≡◌, ◌≤◌, length, replicate};

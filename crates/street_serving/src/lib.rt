@@ -1,4 +1,6 @@
 // From the first chunk to the end of the input, or until reading or printing fails.
+#![tactic(auto)]
+
 ghost use Rattle.std.specs.Prelude.{not};
 ghost use Rattle.street_feeds.specs.Program.{running};
 ghost use Rattle.street_feeds.specs.Between.{Open};
@@ -9,7 +11,7 @@ use street_chunks::Served;
 use street_port::Printed;
 
 // How the reading ended: the program then, and whether the answers to every chunk were taken.
-#[derive(Drop)]
+#[derive(Clone, Copy)]
 pub struct Run {
     pub last: Served,
     pub taken: bool,

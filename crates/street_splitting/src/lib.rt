@@ -1,4 +1,6 @@
 // Input bytes split into lines.
+#![tactic(auto)]
+
 ghost use Rattle.std.specs.Prelude.{◌≡◌, cond, ◌++◌, ◌+◌, ◌≤◌, length, take, drop, ltb};
 ghost use Rattle.street_splitting.specs.Lines.{segment, kept_length, cut, laid};
 

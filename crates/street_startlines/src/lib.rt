@@ -1,4 +1,6 @@
 // Start lines: `S` and `W`.
+#![tactic(auto)]
+
 ghost use Rattle.std.specs.Prelude.{◌≡◌, cond, ltb};
 ghost use Rattle.field.specs.Modulus.{p};
 ghost use Rattle.session.specs.Sessions.{no_points, session_of, holding};

@@ -2,6 +2,8 @@
 //
 // The session goes in by value and comes back in a call's answer; all else that is kept is small, and goes beside it. The rows and the
 // records stand in one lent store.
+#![tactic(auto)]
+
 ghost use Rattle.std.specs.Prelude.{◌≡◌};
 ghost use Rattle.shape.specs.Lengths.{rows_length};
 ghost use Rattle.session.specs.Sessions.{shape_of};
@@ -12,7 +14,7 @@ use session::Session;
 use shape::Points;
 
 // What the program keeps from line to line, beside the store.
-#[derive(Drop)]
+#[derive(Clone, Copy)]
 pub struct State {
     pub session: Session,
     // a start line was accepted
@@ -24,7 +26,7 @@ pub struct State {
 }
 
 // The same without the session, and what the program keeps of its input and output: small, so that it may be handed on as it likes.
-#[derive(Drop)]
+#[derive(Clone, Copy)]
 pub struct Head {
     pub started: bool,
     pub kept: usize,

@@ -1,5 +1,7 @@
 // What one line does, before it is read and after: whether the state and the store will do, whether its letter may change the session, and
 // what a refused change leaves.
+#![tactic(auto)]
+
 ghost use Rattle.std.specs.Prelude.{◌≡◌};
 ghost use Rattle.street_states.specs.States.{settled};
 ghost use Rattle.street_steps.specs.Stepping.{station_refusal_of, room_refusal_of};

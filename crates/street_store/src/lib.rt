@@ -1,4 +1,6 @@
 // The street program's store: one lent list with the rows of its session, and behind them the records of the lines that it keeps.
+#![tactic(auto)]
+
 ghost use Rattle.std.specs.Prelude.{◌≡◌, ◌+◌, ◌≤◌, length, replicate};
 ghost use Rattle.shape.specs.Lengths.{v_length, record_length};
 ghost use Rattle.records.specs.Records.{with_block, block_of};

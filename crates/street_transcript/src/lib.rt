@@ -1,4 +1,6 @@
 // The transcript: input bytes, chunk by chunk, and the answers to their lines.
+#![tactic(auto)]
+
 mod limits;
 
 ghost use Rattle.std.specs.Prelude.{◌≡◌, length};
@@ -11,7 +13,7 @@ use street_feeds::Feed;
 use street_states::Head;
 
 // What a call on bytes hands back: the refusal, and the program afterwards.
-#[derive(Drop)]
+#[derive(Clone, Copy)]
 pub struct Progress {
     pub refusal: u8,
     pub feed: Feed,

@@ -1,4 +1,6 @@
 // Sums of rows: c added to the public sums of a row, and a row plus a multiple of another.
+#![tactic(auto)]
+
 ghost use Rattle.std.specs.Prelude.{◌≡◌, map, length};
 ghost use Rattle.field.specs.Arithmetic.{sum};
 ghost use Rattle.shape.specs.Lengths.{row_length, sums_at_of};

@@ -1,5 +1,7 @@
 // The terms of a relation, which come as a lent slice of structs. One thin function walks it and hands the terms on by value;
 // everything above it goes by these.
+#![tactic(auto)]
+
 ghost use Rattle.std.specs.Prelude.{◌≡◌, ◌+◌, ◌<◌, ◌^◌};
 ghost use Rattle.terms.specs.Listed.{plain, collected, none_of_of, listed_in, counted_in, placed};
 
@@ -10,7 +12,7 @@ pub const MOST_TERMS: usize = 32;
 pub const NO_ROW: u8 = 255;
 
 #[repr(C)]
-#[derive(Drop)]
+#[derive(Clone, Copy)]
 pub struct Term {
     pub coefficient: u32,
     pub row: u8,
@@ -20,7 +22,7 @@ pub struct Term {
 }
 
 // How many terms a list has, how many of them are products, and the first ones of either.
-#[derive(Drop)]
+#[derive(Clone, Copy)]
 pub struct Terms {
     pub count: usize,
     pub products: usize,

@@ -4,6 +4,8 @@
 // is no remainder, but folded to at most p.
 //
 // The time depends on the numbers, the inverse of whose product is taken: they are for public values only.
+#![tactic(auto)]
+
 ghost use Rattle.std.specs.Prelude.{◌≡◌, cond, ◌||◌, map, ◌≤◌, ◌<◌, eqb, length, get_or, drop};
 ghost use Rattle.field.specs.Modulus.{p};
 ghost use Rattle.field.specs.Arithmetic.{product, inverse};

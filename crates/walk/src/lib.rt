@@ -1,5 +1,7 @@
 // The walks over the posts: the accepted ones and their shares, and the number that they bring out. They work on one row and one
 // record of blocks, so that a product opens its masks by them too.
+#![tactic(auto)]
+
 ghost use Rattle.std.specs.Prelude.{◌≡◌, length, take, drop, ◌≤◌};
 ghost use Rattle.agreement.specs.Sums.{Reached, Rooms};
 ghost use Rattle.shape.specs.Lengths.{needed};
@@ -12,7 +14,7 @@ ghost use Rattle.walk.specs.Between.{WalkedAs, BehindIn, FurtherAs, agreed_on, R
 use session::Party;
 
 // How the walk over the posts ends.
-#[derive(Drop)]
+#[derive(Clone, Copy)]
 pub enum Walk {
     // t+1 accepted, the last of them at this post
     Enough(usize),
@@ -20,7 +22,7 @@ pub enum Walk {
 }
 
 // A number brought out, or the refusal.
-#[derive(Drop)]
+#[derive(Clone, Copy)]
 pub struct Opened {
     pub refusal: u8,
     pub value: u32,
