@@ -65,7 +65,7 @@ def turn(path, of):
 
     def need(m):
         x = next(by_place) if by_place else m.group(1)
-        now = needs.get(plain(x))
+        now = needs.get(plain(x)) or needs.get(plain(m.group(1)))
         if now:
             return "Need-" + now
         if m.group(1) not in now_all:

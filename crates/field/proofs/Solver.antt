@@ -39,12 +39,12 @@ module _ {R : Type 0} (𝓡 : CommutativeRing R) where
 
   cast_add : (a b : ℕ) → cast (N.◌+◌ a b) ≡ cast a ⊕ cast b
   unfolding cast
-  cast_add a zero = ap cast (NN.add_zero a) ∙ sym (add_zero (cast a))
+  cast_add a zero = ap cast (NN.add-zero a) ∙ sym (add_zero (cast a))
   cast_add a (suc b) = ap cast (NN.add-suc a b) ∙ ap (λ (z : R). z ⊕ 1ᴿ) (cast_add a b) ∙ add_assoc (cast a) (cast b) 1ᴿ
 
   cast_mul : (a b : ℕ) → cast (N.◌*◌ a b) ≡ cast a ⊗ cast b
   unfolding cast
-  cast_mul a zero = ap cast (NN.mul_zero a) ∙ sym (mul_zero 𝓡 (cast a))
+  cast_mul a zero = ap cast (NN.mul-zero a) ∙ sym (mul_zero 𝓡 (cast a))
   cast_mul a (suc b) =
       ap cast (NN.mul-suc a b) ∙ cast_add (N.◌*◌ a b) a ∙ ap₂ ◌⊕◌ (cast_mul a b) (sym (mul_one (cast a)))
       ∙ sym (mul_add (cast a) (cast b) 1ᴿ)

@@ -14,10 +14,10 @@ unfolding sum product
 one_remainder a b c x e = ap (λ (y : ℕ). y % p) (add_comm x c ∙ ap (λ (y : ℕ). c + y) e) ∙ sym (add-mod-mod c (a * b) p)
 
 -- the largest product leaves room for any number of 32 bits
-add_result : tie.Need-overflow-add-result
+add_result : tie.Need-overflow_add-result
 add_result c =
-    let f = c.before.ranges in record {
-      fits = omega (arith, c.whole-product.ensures, mul-le-mul (le-pred_of_lt f.a.fits) (le-pred_of_lt f.b.fits), f.c.fits);
+    let f = c.ranges in record {
+      fits = omega (arith, c.whole_product.ensures, mul-le-mul (le-pred_of_lt f.a.fits) (le-pred_of_lt f.b.fits), f.c.fits);
     }
 
 pub add_product_spec : {M : Type 1} → statement M

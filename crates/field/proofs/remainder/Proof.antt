@@ -8,5 +8,5 @@ pub remainder_spec : {M : Type 1} → statement M
 remainder_spec =
     tie.close
     (tie.spec (λ c. record { fits = once_fits c.args.x (search rules) }) (λ c. record { fits = twice_fits c.args.x (search rules) })
-    (λ c. record { fits = short c.before.args.x (search rules) }) (λ c. fold_below c.before.args.x (search rules) (search rules))
-    (λ c. record { fits = rest_short c.before.args.x (search rules) }) (λ c. fold_above c.before.args.x (search rules) (search rules)))
+    (λ c. record { fits = short c.args.x (search rules) }) (λ c. fold_below c.args.x (search rules) (search rules))
+    (λ c. record { fits = rest_short c.args.x (search rules) }) (λ c. fold_above c.args.x (search rules) (search rules)))

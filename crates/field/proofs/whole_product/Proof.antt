@@ -6,7 +6,7 @@ use Rattle.field.proofs.whole_product.Statement.{statement}
 use Rattle.field.proofs.whole_product.Tie as tie
 
 -- two factors below 2^32 have a product below 2^64
-mul_result : tie.Need-overflow-mul-result
+mul_result : tie.Need-overflow_mul-result
 mul_result c = record { fits = omega (arith, mul-le-mul (le-pred_of_lt c.ranges.a.fits) (le-pred_of_lt c.ranges.b.fits)) }
 
 pub whole_product_spec : {M : Type 1} → statement M

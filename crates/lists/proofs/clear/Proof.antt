@@ -6,16 +6,16 @@ use Rattle.lists.proofs.Cleared.{Clearing, clear_more, clear_end}
 use Rattle.lists.proofs.clear.Statement.{statement}
 use Rattle.lists.proofs.clear.Tie as tie
 
-abbrev invariant-loop : tie.invariant-loop
-invariant-loop list₀ i₀ i-end list i = Clearing list₀ i list
+abbrev invariant-loop-i : tie.invariant-loop-i
+invariant-loop-i list₀ i₀ i-end list i = Clearing list₀ i list
 
-abbrev decreases-loop : tie.decreases-loop
-decreases-loop list₀ i₀ i-end list i = length list₀ - i
+abbrev decreases-loop-i : tie.decreases-loop-i
+decreases-loop-i list₀ i₀ i-end list i = length list₀ - i
 
 ruleset turns = (rules, clear_more, clear_end)
 
 pub clear_spec : {M : Type 1} → statement M
 clear_spec =
     tie.close
-    (tie.spec invariant-loop decreases-loop (λ c. search turns) (λ c. search turns) (λ c. search turns) (λ c. search turns)
+    (tie.spec invariant-loop-i decreases-loop-i (λ c. search turns) (λ c. search turns) (λ c. search turns) (λ c. search turns)
     (λ c. search turns) (λ c. search turns) (λ c. search turns) (λ c. search turns))
