@@ -4,10 +4,10 @@ use Rattle.barycentric.proofs.Zero.{gaps_within, zero_found}
 use Rattle.barycentric.proofs.at_zero_rising.Statement.{statement}
 use Rattle.barycentric.proofs.at_zero_rising.Tie as tie
 
-inverse_product_requires : tie.Need-inverse-product-requires
+inverse_product_requires : tie.Need-inverse_product-requires
 inverse_product_requires c κs =
     let a = c.before.before.before.before.before.before.before.before.before.before.before.before.before.before.before.before.before in
-    let w = c.before.before.before.before.before.before.before.before.before.weigh-rising in
+    let w = c.weigh_rising in
     (search rules, gaps_within _ _ _ _ a.requires.0 w.new.1.1.0 w.ensures.0)
 
 returns : tie.Need-returns

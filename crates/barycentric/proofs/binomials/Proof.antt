@@ -4,7 +4,7 @@ use Rattle.barycentric.proofs.Rows.{row_sized, row_sized_half}
 use Rattle.barycentric.proofs.binomials.Statement.{statement}
 use Rattle.barycentric.proofs.binomials.Tie as tie
 
-upper_half_requires : tie.Need-upper-half-requires
+upper_half_requires : tie.Need-upper_half-requires
 upper_half_requires c κs = (search rules, search rules, search (rules, row_sized_half))
 
 returns : tie.Need-returns

@@ -6,18 +6,18 @@ use Rattle.barycentric.proofs.Pairs.{two_fit, four_fit}
 use Rattle.barycentric.proofs.four.Statement.{statement}
 use Rattle.barycentric.proofs.four.Tie as tie
 
-result : tie.Need-overflow-mul-result
+result : tie.Need-overflow_mul-result
 result c =
     let s = c.before.before.before.before in
     record {
       fits = four_fit s.args.x s.requires.0 _ _ _ _ _ _ _ _ s.requires.1 s.requires.2 s.requires.3 s.requires.4
-          c.before.before.before.away.ensures c.before.before.away2.ensures c.before.away3.ensures c.away4.ensures;
+          c.away.ensures c.away-2.ensures c.away-3.ensures c.away-4.ensures;
     }
 
 returns : tie.Need-returns
 returns c =
-    ap₂ ◌*◌ (ap₂ ◌*◌ c.before.before.before.away.ensures c.before.before.away2.ensures)
-    (ap₂ ◌*◌ c.before.away3.ensures c.away4.ensures)
+    ap₂ ◌*◌ (ap₂ ◌*◌ c.away.ensures c.away-2.ensures)
+    (ap₂ ◌*◌ c.away-3.ensures c.away-4.ensures)
 
 pub four_spec : {M : Type 1} → statement M
 four_spec =

@@ -12,69 +12,69 @@ use Rattle.barycentric.proofs.Moves.{Moved, moved_start, node_within, place_with
 use Rattle.barycentric.proofs.weigh_few.Statement.{statement}
 use Rattle.barycentric.proofs.weigh_few.Tie as tie
 
-abbrev invariant-loop : tie.invariant-loop
-invariant-loop nodes gaps few list₀ missed i₀ i-end list i = Moved nodes gaps few (length list₀) list i
+abbrev invariant-loop-i : tie.invariant-loop-i
+invariant-loop-i nodes gaps few list₀ missed i₀ i-end list i = Moved nodes gaps few (length list₀) list i
 
-abbrev decreases-loop : tie.decreases-loop
-decreases-loop nodes gaps few list₀ missed i₀ i-end list i = length nodes - i
+abbrev decreases-loop-i : tie.decreases-loop-i
+decreases-loop-i nodes gaps few list₀ missed i₀ i-end list i = length nodes - i
 
-distances_requires : tie.Need-distances-requires invariant-loop decreases-loop
+distances_requires : tie.Need-distances-requires invariant-loop-i decreases-loop-i
 distances_requires c κs =
     let a = c.before.before.before in
     (omega arith, missing_small _ _ a.requires.0 a.requires.1 a.requires.2, a.requires.3, a.requires.4, missing_few _ _ a.requires.0 a.requires.1 a.requires.2)
 
-loop_holds : tie.Need-loop-init invariant-loop decreases-loop
+loop_holds : tie.Need-loop-i-init invariant-loop-i decreases-loop-i
 loop_holds c =
     let a = c.before.before.before.before in
     moved_start _ _ _ a.args.list.now _ _ (search rules) (search rules) (above_zero _ _ a.requires.0 a.requires.2 _ refl) c.distances.ensures
 
 -- the numbers up to the node are at most the last
-add_above_2 : tie.Need-overflow-add-above-2 invariant-loop decreases-loop
+add_above_2 : tie.Need-overflow_add-above-in-loop-i invariant-loop-i decreases-loop-i
 add_above_2 c =
     let a = c.before.before.before.before.before.before.before.before in
-    let l = c.before.before.before.loop in
+    let l = c.loop-i in
     record { fits = omega (arith, gaps_fit _ _ a.requires.0 a.requires.2 l.i (search rules) a.requires.1) }
 
-sub_above : tie.Need-overflow-sub-above invariant-loop decreases-loop
+sub_above : tie.Need-overflow_sub-above invariant-loop-i decreases-loop-i
 sub_above c =
     let a = c.before.before.before.before.before.before.before.before in
-    let l = c.before.before.before.loop in
-    omega (arith, c.wide.ensures, node_under _ _ a.requires.0 a.requires.2 l.i (search rules))
+    let l = c.loop-i in
+    omega (arith, c.wide-x.ensures, node_under _ _ a.requires.0 a.requires.2 l.i (search rules))
 
 -- the node's weight is in the list, and so is its new place
-mul_mul : tie.Need-overflow-mul-mul invariant-loop decreases-loop
-mul_mul c = omega (arith, c.wide.ensures, c.before.shared-slice-known3.given c.before.before.before.loop.i)
+mul_mul : tie.Need-offset_bounds-list-x invariant-loop-i decreases-loop-i
+mul_mul c = omega (arith, c.wide-x.ensures, c.shared_slice_known-in-loop-i-1.given c.loop-i.i)
 
-slice_read_mul : tie.Need-slice-read-mul invariant-loop decreases-loop
+slice_read_mul : tie.Need-bounds-list-x invariant-loop-i decreases-loop-i
 slice_read_mul c =
-    let l = c.before.before.before.before.loop in
+    let l = c.loop-i in
     let a = c.before.before.before.before.before.before.before.before.before in
     let within = node_within _ _ _ a.args.list.now _ l.list l.i a.requires.0 a.requires.5 l.invariant (search rules) in
-    omega (arith, c.before.wide.ensures)
+    omega (arith, c.wide-x.ensures)
 
-slice_write_list_2 : tie.Need-slice-write-list-2 invariant-loop decreases-loop
+slice_write_list_2 : tie.Need-bounds-list-i invariant-loop-i decreases-loop-i
 slice_write_list_2 c =
-    let l = c.before.before.before.before.before.before.before.loop in
+    let l = c.loop-i in
     let a = c.before.before.before.before.before.before.before.before.before.before.before.before in
     place_within _ _ _ a.args.list.now _ l.list l.i a.requires.0 a.requires.5 l.invariant (search rules)
 
-loop_again : tie.Need-loop-preserved invariant-loop decreases-loop
+loop_again : tie.Need-loop-i-preserved invariant-loop-i decreases-loop-i
 loop_again c =
     let a = c.before.before.before.before.before.before.before.before.before.before.before.before in
-    let l = c.before.before.before.before.before.before.before.loop in
-    let n = c.before.distances2 in
-    let entry = c.before.before.before.before.wide.ensures in
+    let l = c.loop-i in
+    let n = c.distances-in-loop-i in
+    let entry = c.wide-x.ensures in
     moved_turn _ _ _ a.args.list.now _ l.list l.i a.requires.0 a.requires.5 l.invariant (search rules) _ n.result _
     (ap (λ (x : ℕ). length a.args.gaps.now + (l.i + 1) - x) entry ∙ above_at _ _ a.requires.0 a.requires.2 l.i (search rules)) n.ensures
     (c.mul.ensures ∙ ap (λ (k : ℕ). product (get_or l.list k 0) n.result) entry)
 
-same_length : tie.Need-same-length invariant-loop decreases-loop
-same_length c = c.before.loop.invariant.sized ∙ length-set c.before.before.before.before.before.before.args.list.now 0 _
+same_length : tie.Need-shape_of-list invariant-loop-i decreases-loop-i
+same_length c = c.loop-i.invariant.sized ∙ length-set c.args.list.now 0 _
 
-distances_requires_2 : tie.Need-distances-requires-2 invariant-loop decreases-loop
+distances_requires_2 : tie.Need-distances-requires-in-loop-i invariant-loop-i decreases-loop-i
 distances_requires_2 c κs =
     let a = c.before.before.before.before.before.before.before.before.before.before in
-    let l = c.before.before.before.before.before.loop in
+    let l = c.loop-i in
     let place : l.i < length a.args.nodes.now = search rules in (
       omega (arith, rising_last 0 a.args.nodes.now l.i a.requires.0 place, a.requires.1),
       missing_small _ _ a.requires.0 a.requires.1 a.requires.2,
@@ -83,14 +83,14 @@ distances_requires_2 c κs =
       omega (arith, gaps_fit _ _ a.requires.0 a.requires.2 l.i place a.requires.1),
     )
 
-returns : tie.Need-returns invariant-loop decreases-loop
+returns : tie.Need-returns invariant-loop-i decreases-loop-i
 returns c =
     let a = c.before.before.before.before.before.before in
-    moved_end _ _ _ a.args.list.now _ c.before.loop.list c.before.loop.i a.requires.0 a.requires.1 a.requires.2 a.requires.5 c.before.loop.invariant (search rules)
+    moved_end _ _ _ a.args.list.now _ c.loop-i.list c.loop-i.i a.requires.0 a.requires.1 a.requires.2 a.requires.5 c.loop-i.invariant (search rules)
 
 pub weigh_few_spec : {M : Type 1} → statement M
 weigh_few_spec =
     tie.close
-    (tie.spec invariant-loop decreases-loop distances_requires (λ c. search rules) loop_holds (λ c. search rules) (λ c. search rules) (λ c κs. search rules)
+    (tie.spec invariant-loop-i decreases-loop-i distances_requires (λ c. search rules) loop_holds (λ c. search rules) (λ c. search rules) (λ c κs. search rules)
     (λ c. search rules) add_above_2 sub_above mul_mul slice_read_mul (λ c. search rules) (λ c. search rules) distances_requires_2 (λ c κs. search rules)
     (λ c. search rules) (λ c. search rules) slice_write_list_2 (λ c. search rules) (λ c. search rules) loop_again same_length returns)

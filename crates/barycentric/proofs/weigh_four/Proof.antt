@@ -9,68 +9,68 @@ use Rattle.barycentric.proofs.Fours.{gap_small, few_nodes, Gaining, gaining_star
 use Rattle.barycentric.proofs.weigh_four.Statement.{statement}
 use Rattle.barycentric.proofs.weigh_four.Tie as tie
 
-abbrev invariant-loop : tie.invariant-loop
-invariant-loop nodes gaps k list₀ a b c d i₀ i-end list i = Gaining nodes gaps k (length list₀) list i
+abbrev invariant-loop-i : tie.invariant-loop-i
+invariant-loop-i nodes gaps k list₀ a b c d i₀ i-end list i = Gaining nodes gaps k (length list₀) list i
 
-abbrev decreases-loop : tie.decreases-loop
-decreases-loop nodes gaps k list₀ a b c d i₀ i-end list i = length nodes - i
+abbrev decreases-loop-i : tie.decreases-loop-i
+decreases-loop-i nodes gaps k list₀ a b c d i₀ i-end list i = length nodes - i
 
-mul_a : tie.Need-overflow-mul-a invariant-loop decreases-loop
+mul_a : tie.Need-offset_bounds-gaps-k invariant-loop-i decreases-loop-i
 mul_a c = let a = c.before.before.before in omega (arith, a.requires.1, a.well-formed)
 
-shared_slice_read_a : tie.Need-shared-slice-read-a invariant-loop decreases-loop
+shared_slice_read_a : tie.Need-bounds-gaps-k invariant-loop-i decreases-loop-i
 shared_slice_read_a c = let a = c.before.before.before.before in omega (arith, a.requires.1, a.well-formed)
 
-add_b : tie.Need-overflow-add-b invariant-loop decreases-loop
+add_b : tie.Need-overflow_add-b invariant-loop-i decreases-loop-i
 add_b c = let a = c.before.before.before.before in omega (arith, a.requires.1, a.well-formed)
 
-mul_b : tie.Need-overflow-mul-b invariant-loop decreases-loop
+mul_b : tie.Need-offset_bounds-gaps-k-2 invariant-loop-i decreases-loop-i
 mul_b c = let a = c.before.before.before.before in omega (arith, a.requires.1, a.well-formed)
 
-shared_slice_read_b : tie.Need-shared-slice-read-b invariant-loop decreases-loop
+shared_slice_read_b : tie.Need-bounds-gaps-k-2 invariant-loop-i decreases-loop-i
 shared_slice_read_b c = let a = c.before.before.before.before.before in omega (arith, a.requires.1, a.well-formed)
 
-add_c : tie.Need-overflow-add-c invariant-loop decreases-loop
+add_c : tie.Need-overflow_add-c invariant-loop-i decreases-loop-i
 add_c c = let a = c.before.before.before.before.before in omega (arith, a.requires.1, a.well-formed)
 
-mul_c : tie.Need-overflow-mul-c invariant-loop decreases-loop
+mul_c : tie.Need-offset_bounds-gaps-k-3 invariant-loop-i decreases-loop-i
 mul_c c = let a = c.before.before.before.before.before in omega (arith, a.requires.1, a.well-formed)
 
-shared_slice_read_c : tie.Need-shared-slice-read-c invariant-loop decreases-loop
+shared_slice_read_c : tie.Need-bounds-gaps-k-3 invariant-loop-i decreases-loop-i
 shared_slice_read_c c = let a = c.before.before.before.before.before.before in omega (arith, a.requires.1, a.well-formed)
 
-add_d : tie.Need-overflow-add-d invariant-loop decreases-loop
+add_d : tie.Need-overflow_add-d invariant-loop-i decreases-loop-i
 add_d c = let a = c.before.before.before.before.before.before in omega (arith, a.requires.1, a.well-formed)
 
-mul_d : tie.Need-overflow-mul-d invariant-loop decreases-loop
+mul_d : tie.Need-offset_bounds-gaps-k-4 invariant-loop-i decreases-loop-i
 mul_d c = let a = c.before.before.before.before.before.before in omega (arith, a.requires.1, a.well-formed)
 
-shared_slice_read_d : tie.Need-shared-slice-read-d invariant-loop decreases-loop
+shared_slice_read_d : tie.Need-bounds-gaps-k-4 invariant-loop-i decreases-loop-i
 shared_slice_read_d c = let a = c.before.before.before.before.before.before.before in omega (arith, a.requires.1, a.well-formed)
 
-four_requires : tie.Need-four-requires invariant-loop decreases-loop
+four_requires : tie.Need-four-requires invariant-loop-i decreases-loop-i
 four_requires c κs =
     let a = c.before.before.before.before.before.before.before.before in
     let at = gap_small a.args.nodes.now a.args.gaps.now a.args.k a.args.list.now a.requires.0 in
     let room = a.requires.1 in
     (zero≤, at _ (omega arith), at _ (omega arith), at _ (omega arith), at _ (omega arith))
 
-loop_holds : tie.Need-loop-init invariant-loop decreases-loop
+loop_holds : tie.Need-loop-i-init invariant-loop-i decreases-loop-i
 loop_holds c =
     let a = c.before.before.before.before.before.before.before.before.before.before in
     gaining_start _ _ _ a.args.list.now _ _ a.requires.0 a.requires.1 (search rules) c.mul.ensures
 
-slice_read_mul_2 : tie.Need-slice-read-mul-2 invariant-loop decreases-loop
+slice_read_mul_2 : tie.Need-bounds-list-at invariant-loop-i decreases-loop-i
 slice_read_mul_2 c =
     let a = c.before.before.before.before.before.before.before.before.before.before.before.before.before in
-    let l = c.before.before.loop in
+    let l = c.loop-i in
     omega (arith, gaining_room _ _ _ a.args.list.now _ a.requires.0 l.list l.i l.invariant)
 
-four_requires_2 : tie.Need-four-requires-2 invariant-loop decreases-loop
+four_requires_2 : tie.Need-four-requires-in-loop-i invariant-loop-i decreases-loop-i
 four_requires_2 c κs =
     let a = c.before.before.before.before.before.before.before.before.before.before.before.before.before.before in
-    let l = c.before.before.before.loop in
-    let place = c.before.before.loop-test.true in
+    let l = c.loop-i in
+    let place = c.loop-i-test.true in
     let at = gap_small a.args.nodes.now a.args.gaps.now a.args.k a.args.list.now a.requires.0 in
     let room = a.requires.1 in (
       omega (arith, rising_last 0 a.args.nodes.now l.i a.requires.0.rising place, a.requires.0.within),
@@ -80,50 +80,50 @@ four_requires_2 c κs =
       at _ (omega arith),
     )
 
-slice_write_list_2 : tie.Need-slice-write-list-2 invariant-loop decreases-loop
+slice_write_list_2 : tie.Need-bounds-list-at-in-loop-i invariant-loop-i decreases-loop-i
 slice_write_list_2 c =
     let a = c.before.before.before.before.before.before.before.before.before.before.before.before.before.before.before.before in
-    let l = c.before.before.before.before.before.loop in
+    let l = c.loop-i in
     omega (arith, gaining_room _ _ _ a.args.list.now _ a.requires.0 l.list l.i l.invariant)
 
-mul_list : tie.Need-overflow-mul-list invariant-loop decreases-loop
+mul_list : tie.Need-offset_bounds-list-at-in-loop-i invariant-loop-i decreases-loop-i
 mul_list c =
     let a = c.before.before.before.before.before.before.before.before.before.before.before.before.before.before.before.before in
-    let l = c.before.before.before.before.before.loop in
-    let place = c.before.before.before.before.loop-test.true in
+    let l = c.loop-i in
+    let place = c.loop-i-test.true in
     record { fits = omega (arith, few_nodes _ _ _ a.args.list.now a.requires.0) }
 
-add_i : tie.Need-overflow-add-i invariant-loop decreases-loop
+add_i : tie.Need-overflow_step-i invariant-loop-i decreases-loop-i
 add_i c =
     let a = c.before.before.before.before.before.before.before.before.before.before.before.before.before.before.before.before in
-    let l = c.before.before.before.before.before.loop in
-    let place = c.before.before.before.before.loop-test.true in
+    let l = c.loop-i in
+    let place = c.loop-i-test.true in
     record { fits = omega (arith, few_nodes _ _ _ a.args.list.now a.requires.0) }
 
-loop_less : tie.Need-loop-smaller invariant-loop decreases-loop
+loop_less : tie.Need-loop-i-smaller invariant-loop-i decreases-loop-i
 loop_less c =
     let a = c.before.before.before.before.before.before.before.before.before.before.before.before.before.before.before.before in
-    let l = c.before.before.before.before.before.loop in
-    let place = c.before.before.before.before.loop-test.true in
+    let l = c.loop-i in
+    let place = c.loop-i-test.true in
     omega arith
 
-loop_again : tie.Need-loop-preserved invariant-loop decreases-loop
+loop_again : tie.Need-loop-i-preserved invariant-loop-i decreases-loop-i
 loop_again c =
     let a = c.before.before.before.before.before.before.before.before.before.before.before.before.before.before.before.before in
-    let l = c.before.before.before.before.before.loop in
-    gaining_turn _ _ _ a.args.list.now _ a.requires.0 l.list l.i l.invariant _ _ (search rules) a.requires.1 (search rules) c.mul2.ensures
+    let l = c.loop-i in
+    gaining_turn _ _ _ a.args.list.now _ a.requires.0 l.list l.i l.invariant _ _ (search rules) a.requires.1 (search rules) c.mul-in-loop-i.ensures
 
-same_length : tie.Need-same-length invariant-loop decreases-loop
-same_length c = c.before.loop.invariant.sized ∙ length-set c.before.before.before.before.before.before.before.before.before.before.before.before.args.list.now 0 _
+same_length : tie.Need-shape_of-list invariant-loop-i decreases-loop-i
+same_length c = c.loop-i.invariant.sized ∙ length-set c.args.list.now 0 _
 
-returns : tie.Need-returns invariant-loop decreases-loop
+returns : tie.Need-returns invariant-loop-i decreases-loop-i
 returns c =
     let a = c.before.before.before.before.before.before.before.before.before.before.before.before in
-    gaining_end _ _ _ a.args.list.now _ a.requires.0 c.before.loop.list c.before.loop.i c.before.loop.invariant (search rules)
+    gaining_end _ _ _ a.args.list.now _ a.requires.0 c.loop-i.list c.loop-i.i c.loop-i.invariant (search rules)
 
 pub weigh_four_spec : {M : Type 1} → statement M
 weigh_four_spec =
     tie.close
-    (tie.spec invariant-loop decreases-loop mul_a shared_slice_read_a add_b mul_b shared_slice_read_b add_c mul_c shared_slice_read_c add_d mul_d shared_slice_read_d (λ c. search rules) four_requires (λ c κs. search rules)
+    (tie.spec invariant-loop-i decreases-loop-i mul_a shared_slice_read_a add_b mul_b shared_slice_read_b add_c mul_c shared_slice_read_c add_d mul_d shared_slice_read_d (λ c. search rules) four_requires (λ c κs. search rules)
     (λ c. search rules) loop_holds (λ c. search rules) (λ c. search rules) slice_read_mul_2 (λ c. search rules) (λ c. search rules) four_requires_2
     (λ c κs. search rules) mul_list slice_write_list_2 add_i loop_less loop_again same_length returns)

@@ -8,15 +8,15 @@ use Rattle.barycentric.proofs.Fours.{weighing_end}
 use Rattle.barycentric.proofs.weigh_nodes.Statement.{statement}
 use Rattle.barycentric.proofs.weigh_nodes.Tie as tie
 
-abbrev invariant-loop : tie.invariant-loop
-invariant-loop nodes gaps list₀ n k₀ list k =
+abbrev invariant-loop-k : tie.invariant-loop-k
+invariant-loop-k nodes gaps list₀ n k₀ list k =
     (k ≤ length gaps) × (k % 4 ≡ length gaps % 4) × (length list ≡ length list₀) × Weighing nodes gaps k list
 
-abbrev decreases-loop : tie.decreases-loop
-decreases-loop nodes gaps list₀ n k₀ list k = length gaps - k
+abbrev decreases-loop-k : tie.decreases-loop-k
+decreases-loop-k nodes gaps list₀ n k₀ list k = length gaps - k
 
 pub weigh_nodes_spec : {M : Type 1} → statement M
 weigh_nodes_spec =
     tie.close
-    (tie.spec invariant-loop decreases-loop (λ c κs. search rules) (λ c. search rules) (λ c κs. search rules) (λ c. search rules) (λ c. search rules) (λ c. search rules)
+    (tie.spec invariant-loop-k decreases-loop-k (λ c κs. search rules) (λ c. search rules) (λ c κs. search rules) (λ c. search rules) (λ c. search rules) (λ c. search rules)
     (λ c. search rules) (λ c. search (rules, weighing_end)))

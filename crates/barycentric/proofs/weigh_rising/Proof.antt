@@ -6,18 +6,18 @@ use Rattle.barycentric.proofs.Zero.{gaps_none, weights_all, gap_count, row_lengt
 use Rattle.barycentric.proofs.weigh_rising.Statement.{statement}
 use Rattle.barycentric.proofs.weigh_rising.Tie as tie
 
-returns : tie.Need-returns
+returns : tie.Need-returns-then-gaps-eq0
 returns c =
     let a = c.before.before.before.before.before.before.before.before.before in
-    let row = c.before.before.before.binomials.ensures in (
+    let row = c.binomials.ensures in (
       gaps_none a.args.nodes.now a.args.gaps.now a.requires.rising (search rules) a.requires.gap_room,
       weights_all a.args.nodes.now a.args.gaps.now a.requires.rising (search rules) a.requires.gap_room _ _ a.requires.room row,
     )
 
-weigh_gaps_requires : tie.Need-weigh-gaps-requires
+weigh_gaps_requires : tie.Need-weigh_gaps-requires
 weigh_gaps_requires c κs =
     let a = c.before.before.before.before.before.before.before.before.before.before.before in
-    let row = c.before.before.before.before.before.binomials.ensures in (
+    let row = c.binomials.ensures in (
       a.requires.rising,
       omega (arith, a.requires.within, a.requires.table.short),
       gap_count _ _ _ _ a.requires,

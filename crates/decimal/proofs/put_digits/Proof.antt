@@ -9,17 +9,17 @@ use Rattle.decimal.proofs.Spelling.{digits_start, digits_more, digits_end}
 use Rattle.decimal.proofs.put_digits.Statement.{statement}
 use Rattle.decimal.proofs.put_digits.Tie as tie
 
-abbrev invariant-loop : tie.invariant-loop
-invariant-loop part₀ x i₀ y₀ part i y =
+abbrev invariant-loop-i : tie.invariant-loop-i
+invariant-loop-i part₀ x i₀ y₀ part i y =
     (i ≤ length part₀) × (length part ≡ length part₀) × (last_digits i y ++ drop i part ≡ last_digits (length part₀) x)
 
-abbrev decreases-loop : tie.decreases-loop
-decreases-loop part₀ x i₀ y₀ part i y = i
+abbrev decreases-loop-i : tie.decreases-loop-i
+decreases-loop-i part₀ x i₀ y₀ part i y = i
 
 ruleset turns = (rules, digits_start, digits_more, digits_end)
 
 pub put_digits_spec : {M : Type 1} → statement M
 put_digits_spec =
     tie.close
-    (tie.spec invariant-loop decreases-loop (λ c. search turns) (λ c. search turns) (λ c. search turns) (λ c. search turns)
+    (tie.spec invariant-loop-i decreases-loop-i (λ c. search turns) (λ c. search turns) (λ c. search turns) (λ c. search turns)
     (λ c. search turns) (λ c. search turns) (λ c. search turns) (λ c. search turns) (λ c. search turns))

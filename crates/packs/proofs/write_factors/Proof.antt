@@ -7,10 +7,10 @@ use Rattle.packs.proofs.write_factors.Tie as tie
 
 ruleset halves = (rules, two_drawn, first_drawn, first_lent, first_fine, second_fine, factors_written)
 
-drawn : tie.Need-slice-aggregate-write-row
+drawn : tie.Need-slice_bounds-write_row-end
 drawn c = sym (search halves)
 
-lent : tie.Need-slice-aggregate-write-row-2
+lent : tie.Need-slice_bounds-write_row-end-3
 lent c = sym (search halves)
 
 pub write_factors_spec : {M : Type 1} → statement M

@@ -7,10 +7,10 @@ use Rattle.packs.proofs.write_posts.Tie as tie
 
 ruleset split = (rules, higher_length, higher_fits, vs_drawn, none_there, first_inside, first_lent, first_row, posts_written)
 
-higher : tie.Need-slice-aggregate-write-sums
+higher : tie.Need-slice_bounds-write_sums-end
 higher c = sym (search split)
 
-lent : tie.Need-slice-aggregate-write-sums-2
+lent : tie.Need-slice_bounds-write_sums-end-4
 lent c = sym (search split)
 
 pub write_posts_spec : {M : Type 1} → statement M

@@ -7,7 +7,7 @@ use Rattle.packs.proofs.write_triple.Tie as tie
 
 ruleset halves = (rules, factors_lent, third_drawn, factors_room, third_room, triple_written_is)
 
-lent : tie.Need-slice-aggregate-write-factors
+lent : tie.Need-slice_bounds-write_factors-end-2
 lent c = sym (search halves)
 
 pub write_triple_spec : {M : Type 1} → statement M

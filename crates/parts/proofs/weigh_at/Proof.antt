@@ -5,7 +5,7 @@ use Rattle.parts.proofs.Row.{checks_lent, filled_room, filled_elements, checks_w
 use Rattle.parts.proofs.weigh_at.Statement.{statement}
 use Rattle.parts.proofs.weigh_at.Tie as tie
 
-lent : tie.Need-slice-aggregate-powers
+lent : tie.Need-slice_bounds-powers-end-2
 lent c = sym (search (rules, checks_lent))
 
 pub weigh_at_spec : {M : Type 1} → statement M

@@ -7,10 +7,10 @@ use Rattle.parts.proofs.write_part.Tie as tie
 
 ruleset row = (rules, front_lent, front_room, own_lent, own_fits, part_written)
 
-front : tie.Need-slice-aggregate-write-check-values
+front : tie.Need-slice_bounds-write_check_values-end-2
 front c = sym (search row)
 
-own : tie.Need-slice-aggregate-copy
+own : tie.Need-slice_bounds-copy-end-2
 own c = sym (search row)
 
 pub write_part_spec : {M : Type 1} → statement M

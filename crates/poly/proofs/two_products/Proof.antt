@@ -4,10 +4,10 @@ use Rattle.poly.proofs.Halves.{two_fit}
 use Rattle.poly.proofs.two_products.Statement.{statement}
 use Rattle.poly.proofs.two_products.Tie as tie
 
-add_result : tie.Need-overflow-add-result
+add_result : tie.Need-overflow_add-result
 add_result c =
     let entry = c.before.before.before.before.before.before.before.before in
-    two_fit entry.args.list.now entry.args.elements.now entry.args.i _ _ c.before.before.shared-slice-known5.given
+    two_fit entry.args.list.now entry.args.elements.now entry.args.i _ _ c.shared_slice_known-5-1.given
     (search rules) (search rules) (search rules) (search rules)
 
 pub two_products_spec : {M : Type 1} → statement M

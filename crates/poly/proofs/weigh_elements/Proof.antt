@@ -6,24 +6,24 @@ use Rattle.poly.proofs.Halves.{Halves, halves_start, halves_two, halves_end, hal
 use Rattle.poly.proofs.weigh_elements.Statement.{statement}
 use Rattle.poly.proofs.weigh_elements.Tie as tie
 
-abbrev invariant-loop : tie.invariant-loop
-invariant-loop list elements m low₀ high₀ i₀ low high i = (i ≤ length list) × Halves list elements low high i
+abbrev invariant-loop-i : tie.invariant-loop-i
+invariant-loop-i list elements m low₀ high₀ i₀ low high i = (i ≤ length list) × Halves list elements low high i
 
-abbrev decreases-loop : tie.decreases-loop
-decreases-loop list elements m low₀ high₀ i₀ low high i = length list - i
+abbrev decreases-loop-i : tie.decreases-loop-i
+decreases-loop-i list elements m low₀ high₀ i₀ low high i = length list - i
 
 ruleset turns = (rules, halves_start, halves_two, halves_end, halves_last)
 
-add_high : tie.Need-overflow-add-high invariant-loop decreases-loop
+add_high : tie.Need-overflow_add-high invariant-loop-i decreases-loop-i
 add_high c = search (rules, high_fits)
 
-add_last : tie.Need-overflow-add-reduce-2 invariant-loop decreases-loop
+add_last : tie.Need-overflow_add-high-2 invariant-loop-i decreases-loop-i
 add_last c = search (rules, high_fits)
 
 pub weigh_elements_spec : {M : Type 1} → statement M
 weigh_elements_spec =
     tie.close
-    (tie.spec invariant-loop decreases-loop (λ c. search turns) (λ c. search rules) (λ c κs. search rules) (λ c. search rules) add_high
+    (tie.spec invariant-loop-i decreases-loop-i (λ c. search turns) (λ c. search rules) (λ c κs. search rules) (λ c. search rules) add_high
     (λ c. search rules) (λ c. search rules) (λ c. search turns) (λ c κs. search rules) (λ c. search turns) (λ c. search rules)
     (λ c. search rules) (λ c. search rules) (λ c. search rules) (λ c κs. search rules) (λ c. search rules) add_last
     (λ c κs. search (rules, last_fits)) (λ c. search turns))

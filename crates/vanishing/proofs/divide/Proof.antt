@@ -9,17 +9,17 @@ use Rattle.vanishing.proofs.Turns.{divided_more, divided_end}
 use Rattle.vanishing.proofs.divide.Statement.{statement}
 use Rattle.vanishing.proofs.divide.Tie as tie
 
-abbrev invariant-loop : tie.invariant-loop
-invariant-loop list₀ k i₀ i-end list i = Filled (map (product (inverse (get_or list₀ 0 0))) list₀) list₀ i list
+abbrev invariant-loop-i : tie.invariant-loop-i
+invariant-loop-i list₀ k i₀ i-end list i = Filled (map (product (inverse (get_or list₀ 0 0))) list₀) list₀ i list
 
-abbrev decreases-loop : tie.decreases-loop
-decreases-loop list₀ k i₀ i-end list i = length list₀ - i
+abbrev decreases-loop-i : tie.decreases-loop-i
+decreases-loop-i list₀ k i₀ i-end list i = length list₀ - i
 
 ruleset turns = (rules, divided_more, divided_end)
 
 pub divide_spec : {M : Type 1} → statement M
 divide_spec =
     tie.close
-    (tie.spec invariant-loop decreases-loop (λ c. search rules) (λ c κs. search rules) (λ c. search rules) (λ c. search rules) (λ c. search rules) (λ c κs. search rules)
+    (tie.spec invariant-loop-i decreases-loop-i (λ c. search rules) (λ c κs. search rules) (λ c. search rules) (λ c. search rules) (λ c. search rules) (λ c κs. search rules)
     (λ c. search rules) (λ c. search rules) (λ c. search rules) (λ c. search rules) (λ c. search turns) (λ c. search rules)
     (λ c. search turns))

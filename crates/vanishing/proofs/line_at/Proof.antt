@@ -22,19 +22,19 @@ all_line k c b y e = ap (λ (z : ℕ). z % 2147483648 + z / 2147483648) (line_is
 below : (x m n : ℕ) → x ≤ m → m < n → x < n
 below x m n h l = omega arith
 
-whole : tie.Need-overflow-add-whole
-whole c = let r = c.before.requires in record { fits = below _ _ _ (line_whole _ _ _ r.0 r.1 r.2 _ c.whole-product.ensures) (lit< tt) }
+whole : tie.Need-overflow_add-whole
+whole c = let r = c.requires in record { fits = below _ _ _ (line_whole _ _ _ r.0 r.1 r.2 _ c.whole_product.ensures) (lit< tt) }
 
-once : tie.Need-overflow-add-once
-once c = let r = c.before.requires in record { fits = below _ _ _ (fold_once _ (line_whole _ _ _ r.0 r.1 r.2 _ c.whole-product.ensures)) (lit< tt) }
+once : tie.Need-overflow_add-once
+once c = let r = c.requires in record { fits = below _ _ _ (fold_once _ (line_whole _ _ _ r.0 r.1 r.2 _ c.whole_product.ensures)) (lit< tt) }
 
-short : tie.Need-overflow-cast-once
-short c = let r = c.before.requires in record { fits = below _ _ _ (fold_once _ (line_whole _ _ _ r.0 r.1 r.2 _ c.whole-product.ensures)) (lit< tt) }
+short : tie.Need-overflow_cast-once
+short c = let r = c.requires in record { fits = below _ _ _ (fold_once _ (line_whole _ _ _ r.0 r.1 r.2 _ c.whole_product.ensures)) (lit< tt) }
 
-twice : tie.Need-overflow-add-result
+twice : tie.Need-overflow_add-result
 twice c =
-    let r = c.before.requires in
-    record { fits = below _ _ _ (fold_twice _ (fold_once _ (line_whole _ _ _ r.0 r.1 r.2 _ c.whole-product.ensures))) (lit< tt) }
+    let r = c.requires in
+    record { fits = below _ _ _ (fold_twice _ (fold_once _ (line_whole _ _ _ r.0 r.1 r.2 _ c.whole_product.ensures))) (lit< tt) }
 
 pub line_at_spec : {M : Type 1} → statement M
-line_at_spec = tie.close (tie.spec (λ c κs. search rules) whole once short twice (λ c. all_line _ _ _ _ c.whole-product.ensures))
+line_at_spec = tie.close (tie.spec (λ c κs. search rules) whole once short twice (λ c. all_line _ _ _ _ c.whole_product.ensures))

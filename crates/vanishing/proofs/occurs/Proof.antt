@@ -9,16 +9,16 @@ use Rattle.vanishing.proofs.Turns.{occurs_turn, occurs_ended}
 use Rattle.vanishing.proofs.occurs.Statement.{statement}
 use Rattle.vanishing.proofs.occurs.Tie as tie
 
-abbrev invariant-loop : tie.invariant-loop
-invariant-loop x from list found₀ i₀ i-end found i = (found || occurs x (drop i list)) ≡ occurs x (drop from list)
+abbrev invariant-loop-i : tie.invariant-loop-i
+invariant-loop-i x from list found₀ i₀ i-end found i = (found || occurs x (drop i list)) ≡ occurs x (drop from list)
 
-abbrev decreases-loop : tie.decreases-loop
-decreases-loop x from list found₀ i₀ i-end found i = length list - i
+abbrev decreases-loop-i : tie.decreases-loop-i
+decreases-loop-i x from list found₀ i₀ i-end found i = length list - i
 
 ruleset turns = (rules, occurs_turn, occurs_ended)
 
 pub occurs_spec : {M : Type 1} → statement M
 occurs_spec =
     tie.close
-    (tie.spec invariant-loop decreases-loop (λ c. search turns) (λ c. search turns) (λ c. search turns) (λ c κs. search turns)
+    (tie.spec invariant-loop-i decreases-loop-i (λ c. search turns) (λ c. search turns) (λ c. search turns) (λ c κs. search turns)
     (λ c. search turns) (λ c. search turns) (λ c. search turns) (λ c. search turns))
