@@ -47,10 +47,36 @@ def plain(name):
     return re.sub(r"[-_]", "", name)
 
 
-def turn(path, of):
+def news(path, text, of):
+    """`c.write.new.1.1.0` is `c.write.new.out`: what a `&mut` argument holds after a call goes by its name."""
+    callee = {pair[1]: whom for _, _, pair, whom, *_ in of["places"] if whom}
+    parts = re.split(r"(?m)(?=^\S)", text)
+    for i, part in enumerate(parts):
+        bound = dict(re.findall(r"\blet (" + W + r") = c\.(" + W + r") in", part))
+
+        def named(m):
+            step = bound.get(m.group(1), m.group(1))
+            params = of["params"].get(callee.get(step, ""))
+            k = m.group(2).count("1")
+            if not params or k >= len(params):
+                print(f"{path}: {m.group(0)} of {step} {callee.get(step)} {params}")
+                return m.group(0)
+            return f"{m.group(1)}.new.{params[k]}"
+
+        parts[i] = re.sub(r"(" + W + r")\.new((?:\.1)*)\.0(?![\w])", named, part)
+    return "".join(parts)
+
+
+def turn(path, of, whole=True):
     with open(path, encoding="utf-8") as f:
         text = f.read()
     begin = text
+    if not whole:
+        text = news(path, text, of)
+        if text != begin:
+            with open(path, "w", encoding="utf-8") as f:
+                f.write(text)
+        return text != begin
     old = landed(path)
     needs = {}
     for was, now in of["needs"]:
@@ -93,7 +119,7 @@ def turn(path, of):
         return m.group(0)
 
     text = re.sub(r"(?<![\w.])([cw])((?:\.before)*)\.(" + W + ")", lambda m: m.group(0) if m.group(3) == "before" else path_of(m), text)
-    # Also where the record of a place is bound to a name of its own.
+    text = news(path, text, of)
     if text != begin:
         with open(path, "w", encoding="utf-8") as f:
             f.write(text)
@@ -102,7 +128,8 @@ def turn(path, of):
 
 
 def main():
-    for crate in sys.argv[1:]:
+    whole = sys.argv[1] != "--news"
+    for crate in sys.argv[1 if whole else 2 :]:
         count = 0
         for module, of in names(crate).items():
             if ".Lts" not in module or not isinstance(of, dict):
@@ -110,7 +137,7 @@ def main():
             at = module.split(".", 1)[1].rsplit(".Lts", 1)[0].replace(".", "/")
             path = f"crates/{crate}/proofs/{at}/Proof.antt"
             if os.path.exists(path):
-                count += turn(path, of)
+                count += turn(path, of, whole)
         print(f"{crate}: {count} files")
 
 

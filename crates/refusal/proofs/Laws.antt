@@ -40,6 +40,7 @@ not_refused (k when false ∷ ts) h = not_refused ts h.1
 
 -- the first refusal in order: it applies, and no smaller one does
 at_least : (k j : ℕ) (ts : List Test) → Ordered k ts → Applies j ts → k ≤ j
+at_least k j [] o x = elim x [ ]
 at_least k j (_ when true ∷ ts) o here = o.0
 at_least k j (i when b ∷ ts) o (later a) = le_trans o.0 (at_least i j ts o.2 a)
 
@@ -49,6 +50,7 @@ first_applies k (j when true ∷ ts) o h = here
 first_applies k (j when false ∷ ts) o h = later (first_applies j ts o.2 h)
 
 pub first_least : (k : ℕ) (ts : List Test) → Ordered k ts → (j : ℕ) → Applies j ts → (0 < first ts) × (first ts ≤ j)
+first_least k [] o j x = elim x [ ]
 first_least k (_ when true ∷ ts) o j here = (o.1, le_refl j)
 first_least k (i when true ∷ ts) o j (later a) = (o.1, at_least i j ts o.2 a)
 first_least k (i when false ∷ ts) o j (later a) = first_least i ts o.2 j a

@@ -7,9 +7,8 @@ use Rattle.agreement.proofs.agree_rising.Tie as tie
 
 all_fit_requires : tie.Need-all-fit-requires
 all_fit_requires c κs =
-    let a = c.before.before.before.before.before.before.before.before.before.before.before.before.before.before.before.before.before in
     let l = c.before.before.before.before.before.before.lay in
-    (a.requires.1.table, search rules, search rules, reached_of _ _ _ _ _ _ _ _ _ a.requires.0 a.requires.1 [] _ l.ensures.1)
+    (c.requires.1.table, search rules, search rules, reached_of _ _ _ _ _ _ _ _ _ c.requires.0 c.requires.1 [] _ l.ensures.1)
 
 returns : tie.Need-returns
 returns c = search (rules, all_agreed)

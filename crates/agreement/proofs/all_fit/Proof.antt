@@ -18,32 +18,29 @@ decreases-loop nodes values inverses above below i₀ i-end i = length nodes - i
 
 fits_requires : tie.Need-fits-requires invariant-loop decreases-loop
 fits_requires c κs =
-    let a = c.before.before.before.before.before.before.before.before.before.before in
     let i = c.before.before.before.before.loop.i in
     let within =
-    all_at (λ z. (length a.args.below.now ≤ z) × (z ≤ length a.args.inverses.now)) a.args.nodes.now i 0 (search rules) a.requires.3 in
+    all_at (λ z. (length c.args.below.now ≤ z) × (z ≤ length c.args.inverses.now)) c.args.nodes.now i 0 (search rules) c.requires.3 in
     let z = c.before.wide.ensures in
-    (a.requires.0, a.requires.1, omega (arith, within.0), omega (arith, within.1))
+    (c.requires.0, c.requires.1, omega (arith, within.0), omega (arith, within.1))
 
 returns : tie.Need-returns invariant-loop decreases-loop
 returns c =
-    let a = c.before.before.before.before.before.before.before.before.before.before.before.before in
     let l = c.before.before.before.before.before.before.loop in
     let f = c.before.fits2 in
     let tested =
-    at_node (fits a.args.inverses.now a.args.above.now a.args.below.now) _ _ _ _ _ c.before.before.before.wide.ensures f.ensures
+    at_node (fits c.args.inverses.now c.args.above.now c.args.below.now) _ _ _ _ _ c.before.before.before.wide.ensures f.ensures
     (not-true f.result c.if1.true) in
-    tested_stop _ a.args.nodes.now a.args.values.now l.i (search rules) a.requires.2 l.invariant.1 tested
+    tested_stop _ c.args.nodes.now c.args.values.now l.i (search rules) c.requires.2 l.invariant.1 tested
 
 loop_again : tie.Need-loop-preserved invariant-loop decreases-loop
 loop_again c =
-    let a = c.before.before.before.before.before.before.before.before.before.before.before.before in
     let l = c.before.before.before.before.before.before.loop in
     let f = c.before.fits2 in
     let tested =
-    at_node (fits a.args.inverses.now a.args.above.now a.args.below.now) _ _ _ _ _ c.before.before.before.wide.ensures f.ensures
+    at_node (fits c.args.inverses.now c.args.above.now c.args.below.now) _ _ _ _ _ c.before.before.before.wide.ensures f.ensures
     (not-false f.result c.if1.false) in
-    (search rules, tested_turn _ a.args.nodes.now a.args.values.now l.i (search rules) a.requires.2 l.invariant.1 tested)
+    (search rules, tested_turn _ c.args.nodes.now c.args.values.now l.i (search rules) c.requires.2 l.invariant.1 tested)
 
 pub all_fit_spec : {M : Type 1} → statement M
 all_fit_spec =

@@ -23,70 +23,65 @@ decreases-loop nodes values value weights above₀ below₀ last i₀ i-end abov
 
 loop_holds : tie.Need-loop-init invariant-loop decreases-loop
 loop_holds c =
-    let a = c.before.before.before.before.before.before.before.before in (
-      omega (arith, a.requires.2.sized),
-      scattered_start _ _ a.args.above.now _ _ (omega (arith, a.requires.2.sized)) a.requires.1.zeros (top_first _ _ _ _ a.requires.0 _ c.mul.ensures),
-      scattered_start _ _ a.args.below.now _ _ (omega (arith, a.requires.2.sized)) a.requires.2.zeros (weight_first _ _ _ _ a.requires.0),
+    (
+      omega (arith, c.requires.2.sized),
+      scattered_start _ _ c.args.above.now _ _ (omega (arith, c.requires.2.sized)) c.requires.1.zeros (top_first _ _ _ _ c.requires.0 _ c.mul.ensures),
+      scattered_start _ _ c.args.below.now _ _ (omega (arith, c.requires.2.sized)) c.requires.2.zeros (weight_first _ _ _ _ c.requires.0),
     )
 
 sub_at : tie.Need-overflow-sub-at invariant-loop decreases-loop
 sub_at c =
-    let a = c.before.before.before.before.before.before.before.before.before.before.before.before in
     let l = c.before.before.before.loop in
-    omega (arith, c.wide.ensures, l.invariant.0, node_in _ _ _ _ a.requires.0 l.i (search rules))
+    omega (arith, c.wide.ensures, l.invariant.0, node_in _ _ _ _ c.requires.0 l.i (search rules))
 
 mul_weight : tie.Need-overflow-mul-weight invariant-loop decreases-loop
 mul_weight c =
-    let a = c.before.before.before.before.before.before.before.before.before.before.before.before in
     let l = c.before.before.before.loop in
-    let place = weight_in _ _ _ _ a.requires.0 l.i (search rules) in
+    let place = weight_in _ _ _ _ c.requires.0 l.i (search rules) in
     search rules
 
 shared_slice_read_weight : tie.Need-shared-slice-read-weight invariant-loop decreases-loop
 shared_slice_read_weight c =
-    let a = c.before.before.before.before.before.before.before.before.before.before.before.before.before in
     let l = c.before.before.before.before.loop in
-    weight_in _ _ _ _ a.requires.0 l.i (search rules)
+    weight_in _ _ _ _ c.requires.0 l.i (search rules)
 
 mul_below_2 : tie.Need-overflow-mul-below-2 invariant-loop decreases-loop
-mul_below_2 c = let a = c.before.before.before.before.before.before.before.before.before.before.before.before.before in omega (arith, a.requires.2.sized, a.requires.0.low)
+mul_below_2 c = omega (arith, c.requires.2.sized, c.requires.0.low)
 
 slice_write_below_2 : tie.Need-slice-write-below-2 invariant-loop decreases-loop
-slice_write_below_2 c = let a = c.before.before.before.before.before.before.before.before.before.before.before.before.before in let l = c.before.before.before.before.loop in omega (arith, a.requires.2.sized, l.invariant.2.sized)
+slice_write_below_2 c = let l = c.before.before.before.before.loop in omega (arith, c.requires.2.sized, l.invariant.2.sized)
 
 shared_slice_read_mul_2 : tie.Need-shared-slice-read-mul-2 invariant-loop decreases-loop
 shared_slice_read_mul_2 c = search rules
 
 mul_above_2 : tie.Need-overflow-mul-above-2 invariant-loop decreases-loop
-mul_above_2 c = let a = c.before.before.before.before.before.before.before.before.before.before.before.before.before.before.before in omega (arith, a.requires.2.sized, a.requires.0.low)
+mul_above_2 c = omega (arith, c.requires.2.sized, c.requires.0.low)
 
 slice_write_above_2 : tie.Need-slice-write-above-2 invariant-loop decreases-loop
-slice_write_above_2 c = let a = c.before.before.before.before.before.before.before.before.before.before.before.before.before.before.before in let l = c.before.before.before.before.before.before.loop in omega (arith, a.requires.2.sized, l.invariant.1.sized)
+slice_write_above_2 c = let l = c.before.before.before.before.before.before.loop in omega (arith, c.requires.2.sized, l.invariant.1.sized)
 
 loop_again : tie.Need-loop-preserved invariant-loop decreases-loop
 loop_again c =
-    let a = c.before.before.before.before.before.before.before.before.before.before.before.before.before.before.before in
     let l = c.before.before.before.before.before.before.loop in
     let node = c.before.before.before.wide.ensures in
-    let inside : l.i < length a.args.nodes.now = search rules in (
+    let inside : l.i < length c.args.nodes.now = search rules in (
       l.invariant.0,
-      scattered_turn _ _ l.above l.i _ _ _ a.requires.0.rising (λ x b d. top_gap _ _ _ _ a.requires.0 l.i x inside b d) l.invariant.0 node l.invariant.1 inside
-          (top_next _ _ _ _ a.requires.0 l.i _ inside c.mul2.ensures),
-      scattered_turn _ _ l.below l.i _ _ _ a.requires.0.rising (λ x b d. bottom_gap _ _ _ _ a.requires.0 l.i x inside b d) l.invariant.0 node l.invariant.2 inside
-          (weight_next _ _ _ _ a.requires.0 l.i inside),
+      scattered_turn _ _ l.above l.i _ _ _ c.requires.0.rising (λ x b d. top_gap _ _ _ _ c.requires.0 l.i x inside b d) l.invariant.0 node l.invariant.1 inside
+          (top_next _ _ _ _ c.requires.0 l.i _ inside c.mul2.ensures),
+      scattered_turn _ _ l.below l.i _ _ _ c.requires.0.rising (λ x b d. bottom_gap _ _ _ _ c.requires.0 l.i x inside b d) l.invariant.0 node l.invariant.2 inside
+          (weight_next _ _ _ _ c.requires.0 l.i inside),
     )
 
 same_length : tie.Need-same-length invariant-loop decreases-loop
-same_length c = let a = c.before.before.before.before.before.before.before.before.before.before in c.before.loop.invariant.1.sized ∙ sym a.requires.1.sized
+same_length c = c.before.loop.invariant.1.sized ∙ sym c.requires.1.sized
 
 same_length_2 : tie.Need-same-length-2 invariant-loop decreases-loop
-same_length_2 c = let a = c.before.before.before.before.before.before.before.before.before.before in c.before.loop.invariant.2.sized ∙ sym a.requires.2.sized
+same_length_2 c = c.before.loop.invariant.2.sized ∙ sym c.requires.2.sized
 
 returns : tie.Need-returns invariant-loop decreases-loop
 returns c =
-    let a = c.before.before.before.before.before.before.before.before.before.before in
     let l = c.before.loop in
-    let all : length a.args.nodes.now ≤ l.i = search rules in
+    let all : length c.args.nodes.now ≤ l.i = search rules in
     (scattered_end _ _ l.above l.i l.invariant.1 all, scattered_end _ _ l.below l.i l.invariant.2 all)
 
 pub spread_spec : {M : Type 1} → statement M

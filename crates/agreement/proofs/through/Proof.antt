@@ -12,21 +12,18 @@ ruleset steps = (rules, count_in_is, gaps_in, list_in_is, above_in, below_in)
 
 add_end : tie.Need-overflow-add-end
 add_end c =
-    let a = c.before.before.before.before.before.before.before.before.before in
-    omega (arith, end_in _ _ _ _ _ _ _ _ c.wide.result a.requires.0 (search rules) a.requires.1)
+    omega (arith, end_in _ _ _ _ _ _ _ _ c.wide.result c.requires.0 (search rules) c.requires.1)
 
 through_rising_requires : tie.Need-through-rising-requires
 through_rising_requires c κs =
-    let a = c.before.before.before.before.before.before.before.before.before.before.before.before.before.before.before.before.before in
-    (search (rules, parted_prepared), parted_same _ _ _ _ a.requires.0, search (rules, parted_further, rest_all))
+    (search (rules, parted_prepared), parted_same _ _ _ _ c.requires.0, search (rules, parted_further, rest_all))
 
 returns : tie.Need-returns
 returns c =
-    let a = c.before.before.before.before.before.before.before.before.before.before.before.before.before.before.before.before.before.before.before.before.before.before.before.before.before.before in
     let r = c.before.before.before.before.before.before.before.before.through-rising in
-    let posts = a.args.posts.now in
-    let shares = a.args.shares.now in
-    let k = a.args.k in
+    let posts = c.args.posts.now in
+    let shares = c.args.shares.now in
+    let k = c.args.k in
     (r.ensures.0, agreed_rest (take k posts) (take k shares) (drop k posts) (drop k shares) _ _ _ (rest_all posts _ k refl) (rest_all shares _ k refl) r.ensures.1)
 
 pub through_spec : {M : Type 1} → statement M

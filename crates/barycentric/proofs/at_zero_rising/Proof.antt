@@ -6,9 +6,8 @@ use Rattle.barycentric.proofs.at_zero_rising.Tie as tie
 
 inverse_product_requires : tie.Need-inverse_product-requires
 inverse_product_requires c κs =
-    let a = c.before.before.before.before.before.before.before.before.before.before.before.before.before.before.before.before.before in
     let w = c.weigh_rising in
-    (search rules, gaps_within _ _ _ _ a.requires.0 w.new.1.1.0 w.ensures.0)
+    (search rules, gaps_within _ _ _ _ c.requires.0 w.new.gaps w.ensures.0)
 
 returns : tie.Need-returns
 returns c = (search (rules, zero_found), search rules)

@@ -8,9 +8,8 @@ use Rattle.barycentric.proofs.four.Tie as tie
 
 result : tie.Need-overflow_mul-result
 result c =
-    let s = c.before.before.before.before in
     record {
-      fits = four_fit s.args.x s.requires.0 _ _ _ _ _ _ _ _ s.requires.1 s.requires.2 s.requires.3 s.requires.4
+      fits = four_fit c.args.x c.requires.0 _ _ _ _ _ _ _ _ c.requires.1 c.requires.2 c.requires.3 c.requires.4
           c.away.ensures c.away-2.ensures c.away-3.ensures c.away-4.ensures;
     }
 

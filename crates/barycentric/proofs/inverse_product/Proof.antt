@@ -20,16 +20,14 @@ ruleset turns = (rules, inverses_start, inverses_end)
 
 negative_inverse_requires : tie.Need-negative_inverse-requires invariant-loop-i decreases-loop-i
 negative_inverse_requires c κs =
-    let a = c.before.before.before.before.before.before.before.before in
     let l = c.loop-i in
-    let within = all_at (λ x. (0 < x) × (x ≤ length a.args.inverses.now)) a.args.list.now l.i 0 (search rules) a.requires.1 in
+    let within = all_at (λ x. (0 < x) × (x ≤ length c.args.inverses.now)) c.args.list.now l.i 0 (search rules) c.requires.1 in
     (search rules, search rules, search rules)
 
 negative_inverse_requires_2 : tie.Need-negative_inverse-requires-in-loop-i invariant-loop-i decreases-loop-i
 negative_inverse_requires_2 c κs =
-    let a = c.before.before.before.before.before.before.before.before.before in
     let l = c.loop-i in
-    let within = all_at (λ x. (0 < x) × (x ≤ length a.args.inverses.now)) a.args.list.now (l.i + 1) 0 (search rules) a.requires.1 in
+    let within = all_at (λ x. (0 < x) × (x ≤ length c.args.inverses.now)) c.args.list.now (l.i + 1) 0 (search rules) c.requires.1 in
     (search rules, search rules, search rules)
 
 loop_again : tie.Need-loop-i-preserved invariant-loop-i decreases-loop-i
@@ -38,15 +36,14 @@ loop_again c =
     let first = c.wide-x.ensures in
     let second = c.wide-y.ensures in (
       search rules,
-      inverses_turn_two _ l.i l.r _ _ _ _ (search rules) l.invariant.1 (rw first at c.before.before.before.negative_inverse_lem.ensures)
+      inverses_turn_two _ l.i l.r _ _ _ _ (search rules) l.invariant.1 (rw first at c.before.before.before.negative_inverse.ensures)
           (rw second at c.negative_inverse-in-loop-i.ensures) c.mul.ensures c.mul-r.ensures,
     )
 
 negative_inverse_requires_3 : tie.Need-negative_inverse-requires-2 invariant-loop-i decreases-loop-i
 negative_inverse_requires_3 c κs =
-    let a = c.before.before.before.before.before.before.before in
     let l = c.loop-i in
-    let within = all_at (λ x. (0 < x) × (x ≤ length a.args.inverses.now)) a.args.list.now l.i 0 (search rules) a.requires.1 in
+    let within = all_at (λ x. (0 < x) × (x ≤ length c.args.inverses.now)) c.args.list.now l.i 0 (search rules) c.requires.1 in
     (search rules, search rules, search rules)
 
 returns_2 : tie.Need-returns invariant-loop-i decreases-loop-i

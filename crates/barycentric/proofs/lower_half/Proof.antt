@@ -23,7 +23,7 @@ loop_again : tie.Need-loop-x-preserved invariant-loop-x decreases-loop-x
 loop_again c =
     let l = c.loop-x in
     let next =
-    row_next _ l.x l.b _ _ _ (search rules) (search rules) l.invariant.3 c.before.before.negative_inverse_lem.ensures c.mul.ensures
+    row_next _ l.x l.b _ _ _ (search rules) (search rules) l.invariant.3 c.before.before.negative_inverse.ensures c.mul.ensures
     c.mul-b.ensures in
     (search rules, search rules, search rules, row_at _ l.x _ next, firsts_turn _ l.list l.x _ (search rules) l.invariant.4 next)
 

@@ -20,26 +20,22 @@ decreases-loop-i nodes gaps few list₀ missed i₀ i-end list i = length nodes 
 
 distances_requires : tie.Need-distances-requires invariant-loop-i decreases-loop-i
 distances_requires c κs =
-    let a = c.before.before.before in
-    (omega arith, missing_small _ _ a.requires.0 a.requires.1 a.requires.2, a.requires.3, a.requires.4, missing_few _ _ a.requires.0 a.requires.1 a.requires.2)
+    (omega arith, missing_small _ _ c.requires.0 c.requires.1 c.requires.2, c.requires.3, c.requires.4, missing_few _ _ c.requires.0 c.requires.1 c.requires.2)
 
 loop_holds : tie.Need-loop-i-init invariant-loop-i decreases-loop-i
 loop_holds c =
-    let a = c.before.before.before.before in
-    moved_start _ _ _ a.args.list.now _ _ (search rules) (search rules) (above_zero _ _ a.requires.0 a.requires.2 _ refl) c.distances.ensures
+    moved_start _ _ _ c.args.list.now _ _ (search rules) (search rules) (above_zero _ _ c.requires.0 c.requires.2 _ refl) c.distances.ensures
 
 -- the numbers up to the node are at most the last
 add_above_2 : tie.Need-overflow_add-above-in-loop-i invariant-loop-i decreases-loop-i
 add_above_2 c =
-    let a = c.before.before.before.before.before.before.before.before in
     let l = c.loop-i in
-    record { fits = omega (arith, gaps_fit _ _ a.requires.0 a.requires.2 l.i (search rules) a.requires.1) }
+    record { fits = omega (arith, gaps_fit _ _ c.requires.0 c.requires.2 l.i (search rules) c.requires.1) }
 
 sub_above : tie.Need-overflow_sub-above invariant-loop-i decreases-loop-i
 sub_above c =
-    let a = c.before.before.before.before.before.before.before.before in
     let l = c.loop-i in
-    omega (arith, c.wide-x.ensures, node_under _ _ a.requires.0 a.requires.2 l.i (search rules))
+    omega (arith, c.wide-x.ensures, node_under _ _ c.requires.0 c.requires.2 l.i (search rules))
 
 -- the node's weight is in the list, and so is its new place
 mul_mul : tie.Need-offset_bounds-list-x invariant-loop-i decreases-loop-i
@@ -48,24 +44,21 @@ mul_mul c = omega (arith, c.wide-x.ensures, c.shared_slice_known-in-loop-i-1.giv
 slice_read_mul : tie.Need-bounds-list-x invariant-loop-i decreases-loop-i
 slice_read_mul c =
     let l = c.loop-i in
-    let a = c.before.before.before.before.before.before.before.before.before in
-    let within = node_within _ _ _ a.args.list.now _ l.list l.i a.requires.0 a.requires.5 l.invariant (search rules) in
+    let within = node_within _ _ _ c.args.list.now _ l.list l.i c.requires.0 c.requires.5 l.invariant (search rules) in
     omega (arith, c.wide-x.ensures)
 
 slice_write_list_2 : tie.Need-bounds-list-i invariant-loop-i decreases-loop-i
 slice_write_list_2 c =
     let l = c.loop-i in
-    let a = c.before.before.before.before.before.before.before.before.before.before.before.before in
-    place_within _ _ _ a.args.list.now _ l.list l.i a.requires.0 a.requires.5 l.invariant (search rules)
+    place_within _ _ _ c.args.list.now _ l.list l.i c.requires.0 c.requires.5 l.invariant (search rules)
 
 loop_again : tie.Need-loop-i-preserved invariant-loop-i decreases-loop-i
 loop_again c =
-    let a = c.before.before.before.before.before.before.before.before.before.before.before.before in
     let l = c.loop-i in
     let n = c.distances-in-loop-i in
     let entry = c.wide-x.ensures in
-    moved_turn _ _ _ a.args.list.now _ l.list l.i a.requires.0 a.requires.5 l.invariant (search rules) _ n.result _
-    (ap (λ (x : ℕ). length a.args.gaps.now + (l.i + 1) - x) entry ∙ above_at _ _ a.requires.0 a.requires.2 l.i (search rules)) n.ensures
+    moved_turn _ _ _ c.args.list.now _ l.list l.i c.requires.0 c.requires.5 l.invariant (search rules) _ n.result _
+    (ap (λ (x : ℕ). length c.args.gaps.now + (l.i + 1) - x) entry ∙ above_at _ _ c.requires.0 c.requires.2 l.i (search rules)) n.ensures
     (c.mul.ensures ∙ ap (λ (k : ℕ). product (get_or l.list k 0) n.result) entry)
 
 same_length : tie.Need-shape_of-list invariant-loop-i decreases-loop-i
@@ -73,20 +66,18 @@ same_length c = c.loop-i.invariant.sized ∙ length-set c.args.list.now 0 _
 
 distances_requires_2 : tie.Need-distances-requires-in-loop-i invariant-loop-i decreases-loop-i
 distances_requires_2 c κs =
-    let a = c.before.before.before.before.before.before.before.before.before.before in
     let l = c.loop-i in
-    let place : l.i < length a.args.nodes.now = search rules in (
-      omega (arith, rising_last 0 a.args.nodes.now l.i a.requires.0 place, a.requires.1),
-      missing_small _ _ a.requires.0 a.requires.1 a.requires.2,
-      a.requires.3,
-      a.requires.4,
-      omega (arith, gaps_fit _ _ a.requires.0 a.requires.2 l.i place a.requires.1),
+    let place : l.i < length c.args.nodes.now = search rules in (
+      omega (arith, rising_last 0 c.args.nodes.now l.i c.requires.0 place, c.requires.1),
+      missing_small _ _ c.requires.0 c.requires.1 c.requires.2,
+      c.requires.3,
+      c.requires.4,
+      omega (arith, gaps_fit _ _ c.requires.0 c.requires.2 l.i place c.requires.1),
     )
 
 returns : tie.Need-returns invariant-loop-i decreases-loop-i
 returns c =
-    let a = c.before.before.before.before.before.before in
-    moved_end _ _ _ a.args.list.now _ c.loop-i.list c.loop-i.i a.requires.0 a.requires.1 a.requires.2 a.requires.5 c.loop-i.invariant (search rules)
+    moved_end _ _ _ c.args.list.now _ c.loop-i.list c.loop-i.i c.requires.0 c.requires.1 c.requires.2 c.requires.5 c.loop-i.invariant (search rules)
 
 pub weigh_few_spec : {M : Type 1} → statement M
 weigh_few_spec =

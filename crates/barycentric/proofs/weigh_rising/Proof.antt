@@ -8,21 +8,19 @@ use Rattle.barycentric.proofs.weigh_rising.Tie as tie
 
 returns : tie.Need-returns-then-gaps-eq0
 returns c =
-    let a = c.before.before.before.before.before.before.before.before.before in
     let row = c.binomials.ensures in (
-      gaps_none a.args.nodes.now a.args.gaps.now a.requires.rising (search rules) a.requires.gap_room,
-      weights_all a.args.nodes.now a.args.gaps.now a.requires.rising (search rules) a.requires.gap_room _ _ a.requires.room row,
+      gaps_none c.args.nodes.now c.args.gaps.now c.requires.rising (search rules) c.requires.gap_room,
+      weights_all c.args.nodes.now c.args.gaps.now c.requires.rising (search rules) c.requires.gap_room _ _ c.requires.room row,
     )
 
 weigh_gaps_requires : tie.Need-weigh_gaps-requires
 weigh_gaps_requires c κs =
-    let a = c.before.before.before.before.before.before.before.before.before.before.before in
     let row = c.binomials.ensures in (
-      a.requires.rising,
-      omega (arith, a.requires.within, a.requires.table.short),
-      gap_count _ _ _ _ a.requires,
-      omega (arith, row_length_is _ _ _ _ a.requires _ _ refl row),
-      row_of_last _ _ _ _ a.requires _ _ refl row,
+      c.requires.rising,
+      omega (arith, c.requires.within, c.requires.table.short),
+      gap_count _ _ _ _ c.requires,
+      omega (arith, row_length_is _ _ _ _ c.requires _ _ refl row),
+      row_of_last _ _ _ _ c.requires _ _ refl row,
     )
 
 pub weigh_rising_spec : {M : Type 1} → statement M

@@ -6,9 +6,8 @@ use Rattle.collect.proofs.collect_checks.Tie as tie
 
 collect_own_requires : tie.Need-collect-own-requires
 collect_own_requires c κs =
-    let d = c.before.before in
-    let a = d.before.before.before.before.before.args in
-    collect_placed a.session a.rows.now a.row a.record-a.now a.record-b.now _ d.before.frame.ensures d.if1.false _
+    let a = c.before.before.before.before.before.args in
+    collect_placed a.session a.rows.now a.row a.record-a.now a.record-b.now _ c.before.frame.ensures c.if1.false _
     c.before.collect-place.ensures c.if2.false
 
 pub collect_checks_spec : {M : Type 1} → statement M

@@ -89,12 +89,11 @@ read_behind_same_length_2 t c = search rest
 
 read_behind_returns_2 : (t : ℕ) → read-behind-lts.Need-returns-2 (line-end-reads.Asked, line-end-reads.Learnt, below-reads.Asked, below-reads.Learnt, lay-reads.Asked, lay-reads.Learnt, read_fields_below t, read-fields.Post) (read_behind_at t) read_behind.Post
 read_behind_returns_2 t c =
-    let start = c.before.before.before.before.before.before.before.before.before.before.before.before.before in
     let rest = c.before.before.before.before.before.before.before.read-fields in
     let laid = c.before.before.lay2 in (
       search behind_run,
-      behind_list start.args.line.now start.args.out.now start.args.front.now start.args.at start.args.largest start.requires.1.2
-          rest.new.1.1.1.1.0 rest.auto.1.1.1.1.0 rest.result start.args.limit c.before.before.before.before.below2.result laid.new.1.1.0
+      behind_list c.args.line.now c.args.out.now c.args.front.now c.args.at c.args.largest c.requires.1.2
+          rest.new.1.1.1.1.0 rest.auto.1.1.1.1.0 rest.result c.args.limit c.before.before.before.before.below2.result laid.new.1.1.0
           rest.ensures.1 c.before.before.before.before.below2.ensures laid.ensures,
     )
 

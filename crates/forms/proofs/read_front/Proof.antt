@@ -8,12 +8,11 @@ ruleset ends = (rules, front_count, front_run, front_read)
 
 returns : tie.Need-returns
 returns c =
-    let start = c.before.before.before.before.before.before.before.before.before.before.before in
     let read = c.before.before.before.before.before.before.before.read-fields in
     let cleared = c.before.before.clear-if in (
       search front_run,
-      front_read start.args.line.now start.args.out.now start.args.at start.args.count start.requires.1
-          read.new.1.1.1.1.0 cleared.new.1.0 read.result start.args.limit c.before.before.before.before.below.result
+      front_read c.args.line.now c.args.out.now c.args.at c.args.count c.requires.1
+          read.new.1.1.1.1.0 cleared.new.1.0 read.result c.args.limit c.before.before.before.before.below.result
           read.ensures.1 read.auto.1.1.1.1.0 c.before.before.before.before.below.ensures cleared.ensures,
     )
 

@@ -6,11 +6,10 @@ use Rattle.multiply.proofs.multiply_refusal.Tie as tie
 
 multiply_own_requires : tie.Need-multiply-own-requires
 multiply_own_requires c κs =
-    let d = c.before.before in
-    let a = d.before.before.before.args in
-    let placed = multiply_placed a.session a.rows.now a.first _ d.before.frame.ensures d.if1.false _ c.before.triple.ensures
+    let a = c.before.before.before.args in
+    let placed = multiply_placed a.session a.rows.now a.first _ c.before.frame.ensures c.if1.false _ c.before.triple.ensures
     c.if2.false in
-    (placed.0, placed.1, d.before.before.before.requires.0, d.before.before.before.requires.1)
+    (placed.0, placed.1, c.before.before.before.requires.0, c.before.before.before.requires.1)
 
 pub multiply_refusal_spec : {M : Type 1} → statement M
 multiply_refusal_spec =

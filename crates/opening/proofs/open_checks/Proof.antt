@@ -7,10 +7,8 @@ use Rattle.opening.proofs.open_checks.Tie as tie
 
 row_checks_requires : tie.Need-row-checks-requires
 row_checks_requires c κs =
-    let size = c.before in
-    let shape = size.before.before in
     let a = c.before.before.before.before.before.before.before.before.args in
-    (search (rules, frame_passed), record_long a.session a.rows.now a.blocks.now _ shape.shape.ensures _ _ size.before.record-len.ensures size.size.ensures c.if2.false, search rules)
+    (search (rules, frame_passed), record_long a.session a.rows.now a.blocks.now _ c.shape.ensures _ _ c.before.record-len.ensures c.size.ensures c.if2.false, search rules)
 
 pub open_checks_spec : {M : Type 1} → statement M
 open_checks_spec =

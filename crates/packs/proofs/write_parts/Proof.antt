@@ -26,7 +26,7 @@ loop_again c =
       search rules,
       search (rules, next_place),
       search (rules, out_kept, next_sized),
-      standing_next a.shape a.vs.now (first_sums a.shape a.out.now) a.i a.count a.points.now a.out.now l.out c.pass_sums_on.new.1.1.0 c.write_part.new.1.1.1.1.0 l.j l.at
+      standing_next a.shape a.vs.now (first_sums a.shape a.out.now) a.i a.count a.points.now a.out.now l.out c.pass_sums_on.new.out c.write_part.new.out l.j l.at
           w.result (search rules) (search rules) (search rules) (search rules) (search rules) (search rules) (search rules) (search rules) (search rules)
           c.points_at-w.result (search rules) (search rules),
     )

@@ -6,8 +6,7 @@ use Rattle.poly.proofs.two_products.Tie as tie
 
 add_result : tie.Need-overflow_add-result
 add_result c =
-    let entry = c.before.before.before.before.before.before.before.before in
-    two_fit entry.args.list.now entry.args.elements.now entry.args.i _ _ c.shared_slice_known-5-1.given
+    two_fit c.args.list.now c.args.elements.now c.args.i _ _ c.shared_slice_known-5-1.given
     (search rules) (search rules) (search rules) (search rules)
 
 pub two_products_spec : {M : Type 1} → statement M

@@ -22,17 +22,15 @@ decreases-loop session all refusal₀ i₀ i-end refusal i = all.products - i
 
 remembers_requires : tie.Need-remembers-requires invariant-loop decreases-loop
 remembers_requires c κs =
-    let a = c.before.before.before in
-    let k : length a.args.t2.factors ≡ most_terms = simp length-map at a.well-formed.1.0.1.1.1.1.1.0.1.0.1 in
-    let m : a.args.t2.products ≤ length a.args.t2.factors = omega (arith, a.requires.0.products_in) in
-    (every_at (Factors (shape_of a.args.session)) a.args.t2.factors a.args.t2.products c.before.before.loop.i (search rules) m a.requires.1
+    let k : length c.args.t2.factors ≡ most_terms = simp length-map at c.well_formed.1.0.1.1.1.1.1.0.1.0.1 in
+    let m : c.args.t2.products ≤ length c.args.t2.factors = omega (arith, c.requires.0.products_in) in
+    (every_at (Factors (shape_of c.args.session)) c.args.t2.factors c.args.t2.products c.before.before.loop.i (search rules) m c.requires.1
     ).triple_in.triple_in
 
 loop_again : tie.Need-loop-preserved invariant-loop decreases-loop
 loop_again c =
-    let a = c.before.before.before.before.before in
-    let k : length a.args.t2.factors ≡ most_terms = simp length-map at a.well-formed.1.0.1.1.1.1.1.0.1.0.1 in
-    let m : a.args.t2.products ≤ length a.args.t2.factors = omega (arith, a.requires.0.products_in) in
+    let k : length c.args.t2.factors ≡ most_terms = simp length-map at c.well_formed.1.0.1.1.1.1.1.0.1.0.1 in
+    let m : c.args.t2.products ≤ length c.args.t2.factors = omega (arith, c.requires.0.products_in) in
     (omega arith, search (rules, asked, remember_numbered))
 
 pub all_remember_spec : {M : Type 1} → statement M

@@ -6,9 +6,8 @@ use Rattle.relation_checks.proofs.finish_checks.Tie as tie
 
 own_refusal_requires : tie.Need-own-refusal-requires
 own_refusal_requires c κs =
-    let a = c.before.before.before.before.before.before in
-    checks_framed a.args.session a.args.rows.now a.args.all a.args.dest a.args.blocks.now _ c.before.before.before.frame.ensures
-    c.before.before.if1.false _ c.before.sizes.ensures a.requires c.if2.false
+    checks_framed c.args.session c.args.rows.now c.args.all c.args.dest c.args.blocks.now _ c.before.before.before.frame.ensures
+    c.before.before.if1.false _ c.before.sizes.ensures c.requires c.if2.false
 
 pub finish_checks_spec : {M : Type 1} → statement M
 finish_checks_spec =

@@ -22,16 +22,14 @@ decreases-loop shape rows all refusal₀ i₀ i-end refusal i = all.count - i
 
 number_requires : tie.Need-number-requires invariant-loop decreases-loop
 number_requires c κs =
-    let a = c.before.before.before.before in
-    let k : length a.args.t3.list ≡ most_terms = simp length-map at a.well-formed.1.1.0.1.1.1.1.0.1.0.1 in
-    let m : a.args.t3.count ≤ length a.args.t3.list = omega (arith, a.requires.1.terms_in) in
-    (a.requires.0, every_at (Placed a.args.shape) a.args.t3.list a.args.t3.count c.before.before.loop.i (search rules) m a.requires.2)
+    let k : length c.args.t3.list ≡ most_terms = simp length-map at c.well_formed.1.1.0.1.1.1.1.0.1.0.1 in
+    let m : c.args.t3.count ≤ length c.args.t3.list = omega (arith, c.requires.1.terms_in) in
+    (c.requires.0, every_at (Placed c.args.shape) c.args.t3.list c.args.t3.count c.before.before.loop.i (search rules) m c.requires.2)
 
 loop_again : tie.Need-loop-preserved invariant-loop decreases-loop
 loop_again c =
-    let a = c.before.before.before.before.before.before in
-    let k : length a.args.t3.list ≡ most_terms = simp length-map at a.well-formed.1.1.0.1.1.1.1.0.1.0.1 in
-    let m : a.args.t3.count ≤ length a.args.t3.list = omega (arith, a.requires.1.terms_in) in
+    let k : length c.args.t3.list ≡ most_terms = simp length-map at c.well_formed.1.1.0.1.1.1.1.0.1.0.1 in
+    let m : c.args.t3.count ≤ length c.args.t3.list = omega (arith, c.requires.1.terms_in) in
     (omega arith, search (rules, asked, term_numbered))
 
 pub numbers_spec : {M : Type 1} → statement M

@@ -9,8 +9,7 @@ ruleset steps = (rules, from_fits, end_fits, end_in, part_is, part_long)
 
 mul_result : tie.Need-overflow-mul-result
 mul_result c =
-    let a = c.before.before in
-    let h = end_in (record_length a.args.shape) a.args.j _ a.args.blocks.now c.record-len.ensures a.requires.1 in
+    let h = end_in (record_length c.args.shape) c.args.j _ c.args.blocks.now c.record-len.ensures c.requires.1 in
     search rules
 
 pub record_spec : {M : Type 1} → statement M

@@ -14,8 +14,7 @@ decreases-loop session blocks refusal₀ k₀ k-end refusal k = k-end - k
 
 record_numbers_requires : tie.Need-record-numbers-requires invariant-loop decreases-loop
 record_numbers_requires c κs =
-    let a = c.before.before.before in
-    pair_in a.args.session a.args.blocks.now a.args.all.products c.before.loop.k a.requires.0 a.requires.1.products_in (search rules) a.requires.2
+    pair_in c.args.session c.args.blocks.now c.args.all.products c.before.loop.k c.requires.0 c.requires.1.products_in (search rules) c.requires.2
 
 pub records_spec : {M : Type 1} → statement M
 records_spec =

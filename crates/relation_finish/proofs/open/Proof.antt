@@ -7,8 +7,7 @@ use Rattle.relation_finish.proofs.open.Tie as tie
 
 open_terms_requires : tie.Need-open-terms-requires
 open_terms_requires c κs =
-    let a = c.before.before.before.before in
-    let h = checks_allowed a.args.session a.args.rows.now a.args.all a.args.dest a.args.blocks.now a.requires _
+    let h = checks_allowed c.args.session c.args.rows.now c.args.all c.args.dest c.args.blocks.now c.requires _
     c.before.finish-checks.ensures c.if1.false in
     (h.0, h.1, h.3, h.5)
 

@@ -9,8 +9,7 @@ ruleset steps = (endings, masks_few, masks_factors, masks_written)
 
 write_masks_requires : tie.Need-write-masks-requires
 write_masks_requires c κs =
-    let a = c.before.before.before.before.before.before.before in
-    masks_allowed a.args.session a.args.rows.now a.args.all a.args.out.now a.requires _ c.before.before.before.masks-refusal.ensures
+    masks_allowed c.args.session c.args.rows.now c.args.all c.args.out.now c.requires _ c.before.before.before.masks-refusal.ensures
     c.before.before.if1.false _ c.before.shape.ensures
 
 pub masks_spec : {M : Type 1} → statement M

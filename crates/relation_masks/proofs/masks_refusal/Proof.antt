@@ -6,8 +6,7 @@ use Rattle.relation_masks.proofs.masks_refusal.Tie as tie
 
 own_refusal_requires : tie.Need-own-refusal-requires
 own_refusal_requires c κs =
-    let a = c.before.before.before.before.before.before in
-    masks_framed a.args.session a.args.rows.now a.args.all a.args.out.now a.requires _ c.before.before.before.frame.ensures
+    masks_framed c.args.session c.args.rows.now c.args.all c.args.out.now c.requires _ c.before.before.before.frame.ensures
     c.before.before.if1.false _ c.before.sizes.ensures c.if2.false
 
 pub masks_refusal_spec : {M : Type 1} → statement M

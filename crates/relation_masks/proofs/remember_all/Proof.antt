@@ -22,24 +22,21 @@ decreases-loop all now₀ i₀ i-end now i = all.products - i
 
 remember_requires : tie.Need-remember-requires invariant-loop decreases-loop
 remember_requires c κs =
-    let a = c.before.before.before in
-    let k : length a.args.t2.factors ≡ most_terms = simp length-map at a.well-formed.1.0.1.1.1.1.1.0.1.0.1 in
-    let m : a.args.t2.products ≤ length a.args.t2.factors = omega (arith, a.requires.0.products_in) in
-    in_range (shape_of a.args.session) _
-    (every_at (Factors (shape_of a.args.session)) a.args.t2.factors a.args.t2.products c.before.before.loop.i (search rules) m a.requires.1)
+    let k : length c.args.t2.factors ≡ most_terms = simp length-map at c.well_formed.1.0.1.1.1.1.1.0.1.0.1 in
+    let m : c.args.t2.products ≤ length c.args.t2.factors = omega (arith, c.requires.0.products_in) in
+    in_range (shape_of c.args.session) _
+    (every_at (Factors (shape_of c.args.session)) c.args.t2.factors c.args.t2.products c.before.before.loop.i (search rules) m c.requires.1)
 
 loop_again : tie.Need-loop-preserved invariant-loop decreases-loop
 loop_again c =
-    let a = c.before.before.before.before in
-    let k : length a.args.t2.factors ≡ most_terms = simp length-map at a.well-formed.1.0.1.1.1.1.1.0.1.0.1 in
-    let m : a.args.t2.products ≤ length a.args.t2.factors = omega (arith, a.requires.0.products_in) in
-    (omega arith, goes remember_in a.args.t2.factors a.args.t2.products _ _ c.before.before.before.loop.i _ (search rules) m c.remember.ensures c.before.before.before.loop.invariant.1)
+    let k : length c.args.t2.factors ≡ most_terms = simp length-map at c.well_formed.1.0.1.1.1.1.1.0.1.0.1 in
+    let m : c.args.t2.products ≤ length c.args.t2.factors = omega (arith, c.requires.0.products_in) in
+    (omega arith, goes remember_in c.args.t2.factors c.args.t2.products _ _ c.before.before.before.loop.i _ (search rules) m c.remember.ensures c.before.before.before.loop.invariant.1)
 
 returns : tie.Need-returns invariant-loop decreases-loop
 returns c =
-    let a = c.before.before in
-    gone remember_in a.args.t2.factors a.args.t2.products _ c.before.loop.i _ (search rules) c.before.loop.invariant.1
-    ∙ masked_walk 0 a.args.session (factors_of a.args.t2)
+    gone remember_in c.args.t2.factors c.args.t2.products _ c.before.loop.i _ (search rules) c.before.loop.invariant.1
+    ∙ masked_walk 0 c.args.session (factors_of c.args.t2)
 
 pub remember_all_spec : {M : Type 1} → statement M
 remember_all_spec =

@@ -9,8 +9,7 @@ ruleset steps = (rules, from_fits, end_fits, end_in, part_put)
 
 mul_masks_accepted : tie.Need-overflow-mul-masks-accepted
 mul_masks_accepted c =
-    let a = c.before.before.before.before.before.before in
-    let h = end_in (masks_length a.args.shape) a.args.i _ a.args.out.now c.before.before.before.masks-len.ensures a.requires.2 in
+    let h = end_in (masks_length c.args.shape) c.args.i _ c.args.out.now c.before.before.before.masks-len.ensures c.requires.2 in
     search rules
 
 pub write_mask_spec : {M : Type 1} → statement M

@@ -25,37 +25,34 @@ decreases-loop shape rows out₀ all i₀ i-end out i = all.products - i
 
 write_mask_requires : tie.Need-write-mask-requires invariant-loop decreases-loop
 write_mask_requires c κs =
-    let a = c.before.before.before.before.before.before in
     let q = c.before.before.before.loop in
-    let k : length a.args.t3.factors ≡ most_terms = simp length-map at a.well-formed.1.1.0.1.1.1.1.1.0.1.0.1 in
-    let m : a.args.t3.products ≤ length a.args.t3.factors = omega (arith, a.requires.1.products_in) in (
-      a.requires.0,
-      every_at (Factors a.args.shape) a.args.t3.factors a.args.t3.products q.i (search rules) m a.requires.2,
-      part_room a.args.shape a.args.rows.now a.requires.0 a.args.t3.products q.i a.args.out.now q.out (search rules) q.invariant.1 a.requires.3,
+    let k : length c.args.t3.factors ≡ most_terms = simp length-map at c.well_formed.1.1.0.1.1.1.1.1.0.1.0.1 in
+    let m : c.args.t3.products ≤ length c.args.t3.factors = omega (arith, c.requires.1.products_in) in (
+      c.requires.0,
+      every_at (Factors c.args.shape) c.args.t3.factors c.args.t3.products q.i (search rules) m c.requires.2,
+      part_room c.args.shape c.args.rows.now c.requires.0 c.args.t3.products q.i c.args.out.now q.out (search rules) q.invariant.1 c.requires.3,
     )
 
 loop_again : tie.Need-loop-preserved invariant-loop decreases-loop
 loop_again c =
-    let a = c.before.before.before.before.before.before.before.before.before in
     let q = c.before.before.before.before.before.before.loop in
-    let n = a.args.t3.products in
-    let k : length a.args.t3.factors ≡ most_terms = simp length-map at a.well-formed.1.1.0.1.1.1.1.1.0.1.0.1 in
-    let m : a.args.t3.products ≤ length a.args.t3.factors = omega (arith, a.requires.1.products_in) in
-    let f = every_at (Factors a.args.shape) a.args.t3.factors n q.i (search rules) m a.requires.2 in (
+    let n = c.args.t3.products in
+    let k : length c.args.t3.factors ≡ most_terms = simp length-map at c.well_formed.1.1.0.1.1.1.1.1.0.1.0.1 in
+    let m : c.args.t3.products ≤ length c.args.t3.factors = omega (arith, c.requires.1.products_in) in
+    let f = every_at (Factors c.args.shape) c.args.t3.factors n q.i (search rules) m c.requires.2 in (
       omega arith,
-      part_kept a.args.shape a.args.rows.now a.requires.0 n q.i _ a.args.out.now q.out
-          c.before.before.write-mask.new.1.1.1.1.0 (search rules) f q.invariant.1 a.requires.3 c.before.before.write-mask.ensures,
-      goes (mask_in a.args.shape a.args.rows.now) a.args.t3.factors n _ _ q.i _ (search rules) m (search rules) q.invariant.2,
+      part_kept c.args.shape c.args.rows.now c.requires.0 n q.i _ c.args.out.now q.out
+          c.before.before.write-mask.new.1.1.1.1.0 (search rules) f q.invariant.1 c.requires.3 c.before.before.write-mask.ensures,
+      goes (mask_in c.args.shape c.args.rows.now) c.args.t3.factors n _ _ q.i _ (search rules) m (search rules) q.invariant.2,
     )
 
 returns : tie.Need-returns invariant-loop decreases-loop
 returns c =
-    let a = c.before.before.before.before in
-    let k : length a.args.t3.factors ≡ most_terms = simp length-map at a.well-formed.1.1.0.1.1.1.1.1.0.1.0.1 in
-    let m : a.args.t3.products ≤ length a.args.t3.factors = omega (arith, a.requires.1.products_in) in
-    gone (mask_in a.args.shape a.args.rows.now) a.args.t3.factors a.args.t3.products _ c.before.loop.i _ (search rules) c.before.loop.invariant.2
-    ∙ masks_walk a.args.shape a.args.rows.now a.requires.0 (factors_of a.args.t3) a.args.out.now a.requires.2
-    (a.requires.3 ∙ ap (λ (j : ℕ). j * masks_length a.args.shape) (sym (length-take-le a.args.t3.products a.args.t3.factors m)))
+    let k : length c.args.t3.factors ≡ most_terms = simp length-map at c.well_formed.1.1.0.1.1.1.1.1.0.1.0.1 in
+    let m : c.args.t3.products ≤ length c.args.t3.factors = omega (arith, c.requires.1.products_in) in
+    gone (mask_in c.args.shape c.args.rows.now) c.args.t3.factors c.args.t3.products _ c.before.loop.i _ (search rules) c.before.loop.invariant.2
+    ∙ masks_walk c.args.shape c.args.rows.now c.requires.0 (factors_of c.args.t3) c.args.out.now c.requires.2
+    (c.requires.3 ∙ ap (λ (j : ℕ). j * masks_length c.args.shape) (sym (length-take-le c.args.t3.products c.args.t3.factors m)))
 
 pub write_masks_spec : {M : Type 1} → statement M
 write_masks_spec =

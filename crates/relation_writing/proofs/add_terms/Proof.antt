@@ -24,32 +24,29 @@ decreases-loop session rows₀ dest all i₀ i-end rows i = all.count - i
 
 add_term_requires : tie.Need-add-term-requires invariant-loop decreases-loop
 add_term_requires c κs =
-    let a = c.before.before.before.before.before.before in
     let q = c.before.before.before.before.loop in
-    let k : length a.args.t4.list ≡ most_terms = simp length-map at a.well-formed.1.1.1.0.1.1.1.1.0.1.0.1 in
-    let m : a.args.t4.count ≤ length a.args.t4.list = omega (arith, a.requires.2.terms_in) in (
-      framed_kept a.args.session a.args.rows.now q.rows a.requires.0 q.invariant.1,
-      a.requires.1,
-      every_at (Placed (shape_of a.args.session)) a.args.t4.list a.args.t4.count q.i (search rules) m a.requires.3,
+    let k : length c.args.t4.list ≡ most_terms = simp length-map at c.well_formed.1.1.1.0.1.1.1.1.0.1.0.1 in
+    let m : c.args.t4.count ≤ length c.args.t4.list = omega (arith, c.requires.2.terms_in) in (
+      framed_kept c.args.session c.args.rows.now q.rows c.requires.0 q.invariant.1,
+      c.requires.1,
+      every_at (Placed (shape_of c.args.session)) c.args.t4.list c.args.t4.count q.i (search rules) m c.requires.3,
     )
 
 loop_again : tie.Need-loop-preserved invariant-loop decreases-loop
 loop_again c =
-    let a = c.before.before.before.before.before.before.before.before.before in
     let q = c.before.before.before.before.before.before.before.loop in
-    let k : length a.args.t4.list ≡ most_terms = simp length-map at a.well-formed.1.1.1.0.1.1.1.1.0.1.0.1 in
-    let m : a.args.t4.count ≤ length a.args.t4.list = omega (arith, a.requires.2.terms_in) in (
+    let k : length c.args.t4.list ≡ most_terms = simp length-map at c.well_formed.1.1.1.0.1.1.1.1.0.1.0.1 in
+    let m : c.args.t4.count ≤ length c.args.t4.list = omega (arith, c.requires.2.terms_in) in (
       omega arith,
       search rules,
-      goes (term_in a.args.session a.args.dest) a.args.t4.list a.args.t4.count _ _ q.i _ (search rules) m
+      goes (term_in c.args.session c.args.dest) c.args.t4.list c.args.t4.count _ _ q.i _ (search rules) m
           (search (rules, term_added)) q.invariant.2,
     )
 
 returns : tie.Need-returns invariant-loop decreases-loop
 returns c =
-    let a = c.before.before.before in
-    gone (term_in a.args.session a.args.dest) a.args.t4.list a.args.t4.count _ c.before.loop.i _ (search rules) c.before.loop.invariant.2
-    ∙ terms_walk a.args.session a.args.dest 0 (terms_of a.args.t4) a.args.rows.now
+    gone (term_in c.args.session c.args.dest) c.args.t4.list c.args.t4.count _ c.before.loop.i _ (search rules) c.before.loop.invariant.2
+    ∙ terms_walk c.args.session c.args.dest 0 (terms_of c.args.t4) c.args.rows.now
 
 pub add_terms_spec : {M : Type 1} → statement M
 add_terms_spec =

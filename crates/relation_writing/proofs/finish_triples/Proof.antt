@@ -24,29 +24,26 @@ decreases-loop all opened now₀ k₀ k-end now k = all.products - k
 
 finish_triple_requires : tie.Need-finish-triple-requires invariant-loop decreases-loop
 finish_triple_requires c κs =
-    let a = c.before.before.before.before.before in
-    let k : length a.args.t2.factors ≡ most_terms = simp length-map at a.well-formed.1.0.1.1.1.1.1.0.1.0.1 in
-    let m : a.args.t2.products ≤ length a.args.t2.factors = omega (arith, a.requires.0.products_in) in
-    (every_at (Factors (shape_of a.args.session)) a.args.t2.factors a.args.t2.products c.before.before.before.before.loop.k (search rules) m
-    a.requires.1).triple_in.triple_in
+    let k : length c.args.t2.factors ≡ most_terms = simp length-map at c.well_formed.1.0.1.1.1.1.1.0.1.0.1 in
+    let m : c.args.t2.products ≤ length c.args.t2.factors = omega (arith, c.requires.0.products_in) in
+    (every_at (Factors (shape_of c.args.session)) c.args.t2.factors c.args.t2.products c.before.before.before.before.loop.k (search rules) m
+    c.requires.1).triple_in.triple_in
 
 loop_again : tie.Need-loop-preserved invariant-loop decreases-loop
 loop_again c =
-    let a = c.before.before.before.before.before.before in
     let q = c.before.before.before.before.before.loop in
-    let k : length a.args.t2.factors ≡ most_terms = simp length-map at a.well-formed.1.0.1.1.1.1.1.0.1.0.1 in
-    let m : a.args.t2.products ≤ length a.args.t2.factors = omega (arith, a.requires.0.products_in) in (
+    let k : length c.args.t2.factors ≡ most_terms = simp length-map at c.well_formed.1.0.1.1.1.1.1.0.1.0.1 in
+    let m : c.args.t2.products ≤ length c.args.t2.factors = omega (arith, c.requires.0.products_in) in (
       omega arith,
-      goes (finish_in a.args.t3.y_a a.args.t3.y_b) a.args.t2.factors a.args.t2.products _ _ q.k _ (search rules) m
+      goes (finish_in c.args.t3.y_a c.args.t3.y_b) c.args.t2.factors c.args.t2.products _ _ q.k _ (search rules) m
           c.finish-triple.ensures q.invariant.1,
     )
 
 returns : tie.Need-returns invariant-loop decreases-loop
 returns c =
-    let a = c.before.before in
-    gone (finish_in a.args.t3.y_a a.args.t3.y_b) a.args.t2.factors a.args.t2.products _ c.before.loop.k _ (search rules)
+    gone (finish_in c.args.t3.y_a c.args.t3.y_b) c.args.t2.factors c.args.t2.products _ c.before.loop.k _ (search rules)
     c.before.loop.invariant.1
-    ∙ finished_walk a.args.t3.y_a a.args.t3.y_b 0 (factors_of a.args.t2) a.args.session
+    ∙ finished_walk c.args.t3.y_a c.args.t3.y_b 0 (factors_of c.args.t2) c.args.session
 
 pub finish_triples_spec : {M : Type 1} → statement M
 finish_triples_spec =

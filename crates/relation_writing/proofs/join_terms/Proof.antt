@@ -21,20 +21,18 @@ decreases-loop sets₀ dest all j₀ j-end sets j = all.count - j
 
 loop_again : tie.Need-loop-preserved invariant-loop decreases-loop
 loop_again c =
-    let a = c.before.before.before.before.before.before.before.before in
     let q = c.before.before.before.before.before.before.loop in
-    let k : length a.args.t2.list ≡ most_terms = simp length-map at a.well-formed.1.0.1.1.1.1.0.1.0.1 in
-    let m : a.args.t2.count ≤ length a.args.t2.list = omega (arith, a.requires.1.terms_in) in (
+    let k : length c.args.t2.list ≡ most_terms = simp length-map at c.well_formed.1.0.1.1.1.1.0.1.0.1 in
+    let m : c.args.t2.count ≤ length c.args.t2.list = omega (arith, c.requires.1.terms_in) in (
       omega arith,
       search rules,
-      goes (share_in a.args.dest) a.args.t2.list a.args.t2.count _ _ q.j _ (search rules) m (search rules) q.invariant.2,
+      goes (share_in c.args.dest) c.args.t2.list c.args.t2.count _ _ q.j _ (search rules) m (search rules) q.invariant.2,
     )
 
 returns : tie.Need-returns invariant-loop decreases-loop
 returns c =
-    let a = c.before.before.before in
-    gone (share_in a.args.dest) a.args.t2.list a.args.t2.count _ c.before.loop.j _ (search rules) c.before.loop.invariant.2
-    ∙ shares_walk a.args.dest 0 (terms_of a.args.t2) a.args.sets.now
+    gone (share_in c.args.dest) c.args.t2.list c.args.t2.count _ c.before.loop.j _ (search rules) c.before.loop.invariant.2
+    ∙ shares_walk c.args.dest 0 (terms_of c.args.t2) c.args.sets.now
 
 pub join_terms_spec : {M : Type 1} → statement M
 join_terms_spec =

@@ -25,32 +25,29 @@ decreases-loop session rows₀ all opened k₀ k-end rows k = all.products - k
 
 write_product_requires : tie.Need-write-product-requires invariant-loop decreases-loop
 write_product_requires c κs =
-    let a = c.before.before.before.before.before.before.before in
     let q = c.before.before.before.before.before.loop in
-    let k : length a.args.t3.factors ≡ most_terms = simp length-map at a.well-formed.1.1.0.1.1.1.1.1.0.1.0.1 in
-    let m : a.args.t3.products ≤ length a.args.t3.factors = omega (arith, a.requires.1.products_in) in (
-      framed_kept a.args.session a.args.rows.now q.rows a.requires.0 q.invariant.1,
-      every_at (Factors (shape_of a.args.session)) a.args.t3.factors a.args.t3.products q.k (search rules) m a.requires.2,
+    let k : length c.args.t3.factors ≡ most_terms = simp length-map at c.well_formed.1.1.0.1.1.1.1.1.0.1.0.1 in
+    let m : c.args.t3.products ≤ length c.args.t3.factors = omega (arith, c.requires.1.products_in) in (
+      framed_kept c.args.session c.args.rows.now q.rows c.requires.0 q.invariant.1,
+      every_at (Factors (shape_of c.args.session)) c.args.t3.factors c.args.t3.products q.k (search rules) m c.requires.2,
     )
 
 loop_again : tie.Need-loop-preserved invariant-loop decreases-loop
 loop_again c =
-    let a = c.before.before.before.before.before.before.before.before.before.before in
     let q = c.before.before.before.before.before.before.before.before.loop in
-    let k : length a.args.t3.factors ≡ most_terms = simp length-map at a.well-formed.1.1.0.1.1.1.1.1.0.1.0.1 in
-    let m : a.args.t3.products ≤ length a.args.t3.factors = omega (arith, a.requires.1.products_in) in (
+    let k : length c.args.t3.factors ≡ most_terms = simp length-map at c.well_formed.1.1.0.1.1.1.1.1.0.1.0.1 in
+    let m : c.args.t3.products ≤ length c.args.t3.factors = omega (arith, c.requires.1.products_in) in (
       omega arith,
       search rules,
-      goes (product_in a.args.session a.args.t4.y_a a.args.t4.y_b) a.args.t3.factors a.args.t3.products _ _ q.k _
+      goes (product_in c.args.session c.args.t4.y_a c.args.t4.y_b) c.args.t3.factors c.args.t3.products _ _ q.k _
           (search rules) m c.before.before.write-product.ensures q.invariant.2,
     )
 
 returns : tie.Need-returns invariant-loop decreases-loop
 returns c =
-    let a = c.before.before.before in
-    gone (product_in a.args.session a.args.t4.y_a a.args.t4.y_b) a.args.t3.factors a.args.t3.products _ c.before.loop.k _
+    gone (product_in c.args.session c.args.t4.y_a c.args.t4.y_b) c.args.t3.factors c.args.t3.products _ c.before.loop.k _
     (search rules) c.before.loop.invariant.2
-    ∙ products_walk a.args.session a.args.t4.y_a a.args.t4.y_b 0 (factors_of a.args.t3) a.args.rows.now
+    ∙ products_walk c.args.session c.args.t4.y_a c.args.t4.y_b 0 (factors_of c.args.t3) c.args.rows.now
 
 pub write_products_spec : {M : Type 1} → statement M
 write_products_spec =

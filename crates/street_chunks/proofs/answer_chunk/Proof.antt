@@ -9,12 +9,9 @@ ruleset ends = (rules, prefix_length, answers_in, chunk_open, chunk_printed, chu
 -- what the function requires lies too deep for `search` to find
 returns : tie.Need-returns
 returns c =
-    let read = c.before.before.before.before.before.before.before.before.before.before in
-    let start = read.before.before.before.before.before.before.before.before in
-    let out = c.before.before.before.before.before in
-    let moved = read.feed-chunk.ensures in (
-      chunk_answered _ _ _ _ _ _ _ _ _ _ moved start.requires.0 start.requires.1 _ c.drain.ensures _ _ out.out.given c.before.print.ensures,
-      search (ends, moved, start.requires),
+    let moved = c.feed-chunk.ensures in (
+      chunk_answered _ _ _ _ _ _ _ _ _ _ moved c.requires.0 c.requires.1 _ c.drain.ensures _ _ c.out.given c.before.print.ensures,
+      search (ends, moved, c.requires),
     )
 
 pub answer_chunk_spec : {M : Type 1} → statement M

@@ -14,19 +14,15 @@ lends c = search ends
 
 requires : tie.Need-answer-chunk-requires
 requires c κs =
-    let read = c.before.before.before.before.before.before.before in
-    let start = read.before.before.before.before.before.before in
-    let room : length read.read.new.1.0 ≡ chunk_size = search (rules, start.requires) in
-    (start.requires.0, search (ends, room), start.requires.2)
+    let room : length c.read.new.1.0 ≡ chunk_size = search (rules, c.requires) in
+    (c.requires.0, search (ends, room), c.requires.2)
 
 returns : tie.Need-returns
 returns c =
-    let called = c.before.before.before.before.before.before.before.before in
-    let counted = called.before.before.before.before.before in
-    let read = counted.before.before.before in (
-      answered_read _ _ counted.count.result read.read.result.count read.read.new.1.0 _ _ _ counted.count.ensures
-          called.answer-chunk.ensures.0,
-      search (ends, called.answer-chunk.ensures, read.read.ensures),
+    (
+      answered_read _ _ c.count.result c.read.result.count c.read.new.1.0 _ _ _ c.count.ensures
+          c.answer-chunk.ensures.0,
+      search (ends, c.answer-chunk.ensures, c.read.ensures),
     )
 
 pub serve_chunk_spec : {M : Type 1} → statement M

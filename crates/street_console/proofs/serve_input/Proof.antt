@@ -10,8 +10,7 @@ requires c κs =
 
 returns : tie.Need-returns
 returns c =
-    let served = c.before.before.before.before.before.before.before.before.before.before.before in
-    ended_told _ _ _ _ _ _ _ _ c.before.before.total.ensures c.before.failed.ensures c.whole.ensures served.serve.ensures
+    ended_told _ _ _ _ _ _ _ _ c.before.before.total.ensures c.before.failed.ensures c.whole.ensures c.serve.ensures
 
 pub serve_input_spec : {M : Type 1} → statement M
 serve_input_spec =

@@ -6,10 +6,7 @@ use Rattle.street_serving.proofs.serve.Tie as tie
 
 returns : tie.Need-returns
 returns c =
-    let last = c.before.before.before.before.before.before in
-    let printed = last.before.before.before.before in
-    let first = printed.before.before.before.before.before.before.before.before.before.before in
-    all_served _ _ _ _ _ _ first.serve-chunks.ensures.0 printed.whole.ensures last.finish.ensures
+    all_served _ _ _ _ _ _ c.serve-chunks.ensures.0 c.whole.ensures c.finish.ensures
 
 pub serve_spec : {M : Type 1} → statement M
 serve_spec =

@@ -19,19 +19,14 @@ ruleset turns = (rules, held_start, held_open, held_chunk, held_whole, stopped_l
 -- the four lengths, and `Held` one chunk later
 again : tie.Need-loop-preserved invariant-loop decreases-loop
 again c =
-    let left = c.before.before in
-    let on = left.before.before in
-    let out = on.before.before in
-    let chunk = out.before.before in
-    let call = chunk.before.before.before.before.before in
-    let held = call.before.before.before.before.before.loop.invariant in
-    let e = call.serve-chunk.ensures in (
+    let held = c.before.before.before.before.before.loop.invariant in
+    let e = c.serve-chunk.ensures in (
       search (rules, held),
       search (rules, held),
       search (rules, held),
       search (rules, held),
-      held_more _ _ _ _ _ _ _ held.4 call.serve-chunk.result _ _ _ _ e.0 e.1.0 e.1.1 e.1.2 e.1.3
-          chunk.chunk.given out.out.given on.if1.false _ left.before.stops.ensures left.if2.false,
+      held_more _ _ _ _ _ _ _ held.4 c.serve-chunk.result _ _ _ _ e.0 e.1.0 e.1.1 e.1.2 e.1.3
+          c.chunk.given c.out.given c.if1.false _ c.before.stops.ensures c.if2.false,
     )
 
 pub serve_chunks_spec : {M : Type 1} → statement M

@@ -9,15 +9,12 @@ ruleset ends = (rules, moved_nothing)
 -- what the calls ensured and the test lie too deep for `search` to find
 take_lines_requires : tie.Need-take-lines-requires
 take_lines_requires c κs =
-    let fine = c.before.before.before in
-    (none_open _ _ _ _ _ _ fine.before.open_refusal_is.ensures fine.if1.false, not_closing _)
+    (none_open _ _ _ _ _ _ c.before.open_refusal_is.ensures c.if1.false, not_closing _)
 
 returns_2 : tie.Need-returns-2
 returns_2 c =
-    let done = c.before.before.before.before.before.before in
-    let fine = done.before.before.before.before in
-    let e = done.take-lines.ensures in
-    moved _ _ _ _ _ _ _ _ fine.before.open_refusal_is.ensures _ _ _ _ fine.if1.false e.0 e.1.1 e.1.0.0 e.1.0.1
+    let e = c.take-lines.ensures in
+    moved _ _ _ _ _ _ _ _ c.before.open_refusal_is.ensures _ _ _ _ c.if1.false e.0 e.1.1 e.1.0.0 e.1.0.1
 
 pub feed_chunk_spec : {M : Type 1} → statement M
 feed_chunk_spec =

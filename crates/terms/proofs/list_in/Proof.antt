@@ -11,9 +11,8 @@ use Rattle.terms.proofs.list_in.Tie as tie
 
 returns_2 : tie.Need-returns-2
 returns_2 c =
-    let a = c.before in
-    let k : length a.args.t1.list ≡ most_terms = simp length-map at a.well-formed.0.1.1.1.1.0.1.0.1 in
-    list_out a.args.t1 a.args.at a.args.term (omega arith)
+    let k : length c.args.t1.list ≡ most_terms = simp length-map at c.well_formed.0.1.1.1.1.0.1.0.1 in
+    list_out c.args.t1 c.args.at c.args.term (omega arith)
 
 pub list_in_spec : {M : Type 1} → statement M
 list_in_spec = tie.close (tie.spec (λ c. search rules) (λ c. search rules) (λ c. search rules) returns_2)

@@ -14,11 +14,10 @@ agreed_requires c κs = (search (rules, reached_in), search rules)
 
 returns : tie.Need-returns
 returns c =
-    let given = c.before.before.before.before.before.before.before.before.before.before.before.before.before.before.before.before.before.before.before.before.before.before.before.before.before.before.before.before.before.before.before.before.before.before.before.before.before in
     let need = c.before.before.before.before.before.before.before.before.before.before.before.before.before.before.before.before.before.before.before.before.before.before.before.needed in
     let more = c.before.before.before.before.before.before.before.before.before.before.before.before.before.before.before.before.before.before.before.walk-further in
     let agreed = c.before.before.before.before.before.before.before.before.agreed in
-    opens_agreed _ _ _ _ _ c.before.before.before.before.before.before.before.before.before.before.before.before.before.before.before.before.before.before.before.before.before.before.before.before.before.before.outcome.given.1 _ _ given.requires.2 _ need.ensures _ _ _ more.ensures _ agreed.ensures
+    opens_agreed _ _ _ _ _ c.before.before.before.before.before.before.before.before.before.before.before.before.before.before.before.before.before.before.before.before.before.before.before.before.before.before.outcome.given.1 _ _ c.requires.2 _ need.ensures _ _ _ more.ensures _ agreed.ensures
 
 returns_2 : tie.Need-returns-2
 returns_2 c = search (rules, opens_few)

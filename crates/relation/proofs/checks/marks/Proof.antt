@@ -21,16 +21,14 @@ decreases-loop session need all refusal₀ i₀ i-end refusal i = all.count - i
 
 mark_requires : tie.Need-mark-requires invariant-loop decreases-loop
 mark_requires c κs =
-    let a = c.before.before.before in
-    let k : length a.args.t2.list ≡ most_terms = simp length-map at a.well-formed.1.0.1.1.1.1.0.1.0.1 in
-    let m : a.args.t2.count ≤ length a.args.t2.list = omega (arith, a.requires.0.terms_in) in
-    every_at (Placed (shape_of a.args.session)) a.args.t2.list a.args.t2.count c.before.before.loop.i (search rules) m a.requires.1
+    let k : length c.args.t2.list ≡ most_terms = simp length-map at c.well_formed.1.0.1.1.1.1.0.1.0.1 in
+    let m : c.args.t2.count ≤ length c.args.t2.list = omega (arith, c.requires.0.terms_in) in
+    every_at (Placed (shape_of c.args.session)) c.args.t2.list c.args.t2.count c.before.before.loop.i (search rules) m c.requires.1
 
 loop_again : tie.Need-loop-preserved invariant-loop decreases-loop
 loop_again c =
-    let a = c.before.before.before.before.before in
-    let k : length a.args.t2.list ≡ most_terms = simp length-map at a.well-formed.1.0.1.1.1.1.0.1.0.1 in
-    let m : a.args.t2.count ≤ length a.args.t2.list = omega (arith, a.requires.0.terms_in) in
+    let k : length c.args.t2.list ≡ most_terms = simp length-map at c.well_formed.1.0.1.1.1.1.0.1.0.1 in
+    let m : c.args.t2.count ≤ length c.args.t2.list = omega (arith, c.requires.0.terms_in) in
     (omega arith, search (rules, asked, mark_numbered))
 
 pub marks_spec : {M : Type 1} → statement M

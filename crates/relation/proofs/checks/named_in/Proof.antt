@@ -19,22 +19,19 @@ decreases-loop row from all i₀ i = all.products - i
 
 returns : tie.Need-returns invariant-loop decreases-loop
 returns c =
-    let a = c.before.before.before.before.before in
-    let k : length a.args.t1.factors ≡ most_terms = simp length-map at a.well-formed.0.1.1.1.1.1.0.1.0.1 in
-    let m : a.args.t1.products ≤ length a.args.t1.factors = omega (arith, a.requires.products_in) in
+    let k : length c.args.t1.factors ≡ most_terms = simp length-map at c.well_formed.0.1.1.1.1.1.0.1.0.1 in
+    let m : c.args.t1.products ≤ length c.args.t1.factors = omega (arith, c.requires.products_in) in
     search (rules, named_here)
 
 loop_again : tie.Need-loop-preserved invariant-loop decreases-loop
 loop_again c =
-    let a = c.before.before.before.before.before in
-    let k : length a.args.t1.factors ≡ most_terms = simp length-map at a.well-formed.0.1.1.1.1.1.0.1.0.1 in
-    let m : a.args.t1.products ≤ length a.args.t1.factors = omega (arith, a.requires.products_in) in
+    let k : length c.args.t1.factors ≡ most_terms = simp length-map at c.well_formed.0.1.1.1.1.1.0.1.0.1 in
+    let m : c.args.t1.products ≤ length c.args.t1.factors = omega (arith, c.requires.products_in) in
     search (rules, named_on)
 
 add_i : tie.Need-overflow-add-i invariant-loop decreases-loop
 add_i c =
-    let a = c.before.before.before.before.before in
-    record { fits = omega (arith, a.requires.products_in) }
+    record { fits = omega (arith, c.requires.products_in) }
 
 pub named_in_spec : {M : Type 1} → statement M
 named_in_spec =

@@ -19,9 +19,8 @@ decreases-loop all refusal₀ i₀ i-end refusal i = all.count - i
 
 loop_again : tie.Need-loop-preserved invariant-loop decreases-loop
 loop_again c =
-    let a = c.before.before.before.before.before in
-    let k : length a.args.t1.list ≡ most_terms = simp length-map at a.well-formed.0.1.1.1.1.0.1.0.1 in
-    let m : a.args.t1.count ≤ length a.args.t1.list = omega (arith, a.requires.terms_in) in
+    let k : length c.args.t1.list ≡ most_terms = simp length-map at c.well_formed.0.1.1.1.1.0.1.0.1 in
+    let m : c.args.t1.count ≤ length c.args.t1.list = omega (arith, c.requires.terms_in) in
     (omega arith, search (rules, asked, place_numbered))
 
 pub places_spec : {M : Type 1} → statement M

@@ -10,8 +10,7 @@ ruleset steps = (rules, same_valid, same_room)
 
 keep_requires : tie.Need-keep-requires
 keep_requires c κs =
-    let a = c.before.before.before.before.before.before.before.before.before.before in
-    a.requires.1.low
+    c.requires.1.low
 
 pub open_term_spec : {M : Type 1} → statement M
 open_term_spec =

@@ -25,37 +25,33 @@ decreases-loop session rows blocks all opened₀ k₀ k-end opened k = all.produ
 
 loop_holds : tie.Need-loop-init invariant-loop decreases-loop
 loop_holds c =
-    let a = c.before.before.before in
-    (omega arith, ap (walked (with_opened a.args.session a.args.rows.now a.args.blocks.now) 0 (factors_of a.args.t3)) c.unopened.ensures)
+    (omega arith, ap (walked (with_opened c.args.session c.args.rows.now c.args.blocks.now) 0 (factors_of c.args.t3)) c.unopened.ensures)
 
 open_term_requires : tie.Need-open-term-requires invariant-loop decreases-loop
 open_term_requires c κs =
-    let a = c.before.before.before.before.before.before in
     let q = c.before.before.loop in
-    let k : length a.args.t3.factors ≡ most_terms = simp length-map at a.well-formed.1.1.0.1.1.1.1.1.0.1.0.1 in
-    let m : a.args.t3.products ≤ length a.args.t3.factors = omega (arith, a.requires.1.products_in) in (
-      a.requires.0,
-      pair_in a.args.session a.args.blocks.now a.args.t3.products q.k a.requires.0.sized.valid a.requires.1.products_in (search rules) a.requires.3,
-      every_at (Factors (shape_of a.args.session)) a.args.t3.factors a.args.t3.products q.k (search rules) m a.requires.2,
+    let k : length c.args.t3.factors ≡ most_terms = simp length-map at c.well_formed.1.1.0.1.1.1.1.1.0.1.0.1 in
+    let m : c.args.t3.products ≤ length c.args.t3.factors = omega (arith, c.requires.1.products_in) in (
+      c.requires.0,
+      pair_in c.args.session c.args.blocks.now c.args.t3.products q.k c.requires.0.sized.valid c.requires.1.products_in (search rules) c.requires.3,
+      every_at (Factors (shape_of c.args.session)) c.args.t3.factors c.args.t3.products q.k (search rules) m c.requires.2,
     )
 
 loop_again : tie.Need-loop-preserved invariant-loop decreases-loop
 loop_again c =
-    let a = c.before.before.before.before.before.before.before in
     let q = c.before.before.before.loop in
-    let k : length a.args.t3.factors ≡ most_terms = simp length-map at a.well-formed.1.1.0.1.1.1.1.1.0.1.0.1 in
-    let m : a.args.t3.products ≤ length a.args.t3.factors = omega (arith, a.requires.1.products_in) in (
+    let k : length c.args.t3.factors ≡ most_terms = simp length-map at c.well_formed.1.1.0.1.1.1.1.1.0.1.0.1 in
+    let m : c.args.t3.products ≤ length c.args.t3.factors = omega (arith, c.requires.1.products_in) in (
       omega arith,
-      goes (with_opened a.args.session a.args.rows.now a.args.blocks.now) a.args.t3.factors a.args.t3.products _ _ q.k _
+      goes (with_opened c.args.session c.args.rows.now c.args.blocks.now) c.args.t3.factors c.args.t3.products _ _ q.k _
           (search rules) m c.open-term.ensures q.invariant.1,
     )
 
 returns : tie.Need-returns invariant-loop decreases-loop
 returns c =
-    let a = c.before.before.before.before.before in
-    gone (with_opened a.args.session a.args.rows.now a.args.blocks.now) a.args.t3.factors a.args.t3.products _ c.before.loop.k _
+    gone (with_opened c.args.session c.args.rows.now c.args.blocks.now) c.args.t3.factors c.args.t3.products _ c.before.loop.k _
     (search rules) c.before.loop.invariant.1
-    ∙ opened_walk a.args.session a.args.rows.now a.args.blocks.now 0 (factors_of a.args.t3) unopened
+    ∙ opened_walk c.args.session c.args.rows.now c.args.blocks.now 0 (factors_of c.args.t3) unopened
 
 pub open_terms_spec : {M : Type 1} → statement M
 open_terms_spec =
