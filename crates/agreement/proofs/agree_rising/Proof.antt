@@ -5,9 +5,9 @@ use Rattle.agreement.proofs.Joined.{reached_of, all_agreed}
 use Rattle.agreement.proofs.agree_rising.Statement.{statement}
 use Rattle.agreement.proofs.agree_rising.Tie as tie
 
-all_fit_requires : tie.Need-all-fit-requires
+all_fit_requires : tie.Need-all_fit-requires
 all_fit_requires c κs =
-    let l = c.before.before.before.before.before.before.lay in
+    let l = c.lay in
     (c.requires.1.table, search rules, search rules, reached_of _ _ _ _ _ _ _ _ _ c.requires.0 c.requires.1 [] _ l.ensures.1)
 
 returns : tie.Need-returns

@@ -12,16 +12,16 @@ use Rattle.agreement.proofs.Scatter.{Scattered, scattered_start, scattered_turn,
 use Rattle.agreement.proofs.spread.Statement.{statement}
 use Rattle.agreement.proofs.spread.Tie as tie
 
-abbrev invariant-loop : tie.invariant-loop
-invariant-loop nodes values value weights above₀ below₀ last i₀ i-end above below i =
+abbrev invariant-loop-i : tie.invariant-loop-i
+invariant-loop-i nodes values value weights above₀ below₀ last i₀ i-end above below i =
     (last ≡ last_of 0 nodes)
     × Scattered (λ x. product (node_weight (last_of 0 nodes) (missing 0 nodes) x) (interpolated nodes values x)) nodes above i
     × Scattered (node_weight (last_of 0 nodes) (missing 0 nodes)) nodes below i
 
-abbrev decreases-loop : tie.decreases-loop
-decreases-loop nodes values value weights above₀ below₀ last i₀ i-end above below i = length nodes - i
+abbrev decreases-loop-i : tie.decreases-loop-i
+decreases-loop-i nodes values value weights above₀ below₀ last i₀ i-end above below i = length nodes - i
 
-loop_holds : tie.Need-loop-init invariant-loop decreases-loop
+loop_holds : tie.Need-loop-i-init invariant-loop-i decreases-loop-i
 loop_holds c =
     (
       omega (arith, c.requires.2.sized),
@@ -29,65 +29,65 @@ loop_holds c =
       scattered_start _ _ c.args.below.now _ _ (omega (arith, c.requires.2.sized)) c.requires.2.zeros (weight_first _ _ _ _ c.requires.0),
     )
 
-sub_at : tie.Need-overflow-sub-at invariant-loop decreases-loop
+sub_at : tie.Need-overflow_sub-at invariant-loop-i decreases-loop-i
 sub_at c =
-    let l = c.before.before.before.loop in
+    let l = c.loop-i in
     omega (arith, c.wide.ensures, l.invariant.0, node_in _ _ _ _ c.requires.0 l.i (search rules))
 
-mul_weight : tie.Need-overflow-mul-weight invariant-loop decreases-loop
+mul_weight : tie.Need-offset_bounds-weights-i invariant-loop-i decreases-loop-i
 mul_weight c =
-    let l = c.before.before.before.loop in
+    let l = c.loop-i in
     let place = weight_in _ _ _ _ c.requires.0 l.i (search rules) in
     search rules
 
-shared_slice_read_weight : tie.Need-shared-slice-read-weight invariant-loop decreases-loop
+shared_slice_read_weight : tie.Need-bounds-weights-i invariant-loop-i decreases-loop-i
 shared_slice_read_weight c =
-    let l = c.before.before.before.before.loop in
+    let l = c.loop-i in
     weight_in _ _ _ _ c.requires.0 l.i (search rules)
 
-mul_below_2 : tie.Need-overflow-mul-below-2 invariant-loop decreases-loop
+mul_below_2 : tie.Need-offset_bounds-below-at invariant-loop-i decreases-loop-i
 mul_below_2 c = omega (arith, c.requires.2.sized, c.requires.0.low)
 
-slice_write_below_2 : tie.Need-slice-write-below-2 invariant-loop decreases-loop
-slice_write_below_2 c = let l = c.before.before.before.before.loop in omega (arith, c.requires.2.sized, l.invariant.2.sized)
+slice_write_below_2 : tie.Need-bounds-below-at invariant-loop-i decreases-loop-i
+slice_write_below_2 c = let l = c.loop-i in omega (arith, c.requires.2.sized, l.invariant.2.sized)
 
-shared_slice_read_mul_2 : tie.Need-shared-slice-read-mul-2 invariant-loop decreases-loop
+shared_slice_read_mul_2 : tie.Need-bounds-values-i invariant-loop-i decreases-loop-i
 shared_slice_read_mul_2 c = search rules
 
-mul_above_2 : tie.Need-overflow-mul-above-2 invariant-loop decreases-loop
+mul_above_2 : tie.Need-offset_bounds-above-at invariant-loop-i decreases-loop-i
 mul_above_2 c = omega (arith, c.requires.2.sized, c.requires.0.low)
 
-slice_write_above_2 : tie.Need-slice-write-above-2 invariant-loop decreases-loop
-slice_write_above_2 c = let l = c.before.before.before.before.before.before.loop in omega (arith, c.requires.2.sized, l.invariant.1.sized)
+slice_write_above_2 : tie.Need-bounds-above-at invariant-loop-i decreases-loop-i
+slice_write_above_2 c = let l = c.loop-i in omega (arith, c.requires.2.sized, l.invariant.1.sized)
 
-loop_again : tie.Need-loop-preserved invariant-loop decreases-loop
+loop_again : tie.Need-loop-i-preserved invariant-loop-i decreases-loop-i
 loop_again c =
-    let l = c.before.before.before.before.before.before.loop in
-    let node = c.before.before.before.wide.ensures in
+    let l = c.loop-i in
+    let node = c.wide.ensures in
     let inside : l.i < length c.args.nodes.now = search rules in (
       l.invariant.0,
       scattered_turn _ _ l.above l.i _ _ _ c.requires.0.rising (λ x b d. top_gap _ _ _ _ c.requires.0 l.i x inside b d) l.invariant.0 node l.invariant.1 inside
-          (top_next _ _ _ _ c.requires.0 l.i _ inside c.mul2.ensures),
+          (top_next _ _ _ _ c.requires.0 l.i _ inside c.mul-in-loop-i.ensures),
       scattered_turn _ _ l.below l.i _ _ _ c.requires.0.rising (λ x b d. bottom_gap _ _ _ _ c.requires.0 l.i x inside b d) l.invariant.0 node l.invariant.2 inside
           (weight_next _ _ _ _ c.requires.0 l.i inside),
     )
 
-same_length : tie.Need-same-length invariant-loop decreases-loop
-same_length c = c.before.loop.invariant.1.sized ∙ sym c.requires.1.sized
+same_length : tie.Need-shape_of-above invariant-loop-i decreases-loop-i
+same_length c = c.loop-i.invariant.1.sized ∙ sym c.requires.1.sized
 
-same_length_2 : tie.Need-same-length-2 invariant-loop decreases-loop
-same_length_2 c = c.before.loop.invariant.2.sized ∙ sym c.requires.2.sized
+same_length_2 : tie.Need-shape_of-below invariant-loop-i decreases-loop-i
+same_length_2 c = c.loop-i.invariant.2.sized ∙ sym c.requires.2.sized
 
-returns : tie.Need-returns invariant-loop decreases-loop
+returns : tie.Need-returns invariant-loop-i decreases-loop-i
 returns c =
-    let l = c.before.loop in
+    let l = c.loop-i in
     let all : length c.args.nodes.now ≤ l.i = search rules in
     (scattered_end _ _ l.above l.i l.invariant.1 all, scattered_end _ _ l.below l.i l.invariant.2 all)
 
 pub spread_spec : {M : Type 1} → statement M
 spread_spec =
     tie.close
-    (tie.spec invariant-loop decreases-loop (λ c. search rules) (λ c. search rules) (λ c. search rules) (λ c. search rules) (λ c. search rules)
+    (tie.spec invariant-loop-i decreases-loop-i (λ c. search rules) (λ c. search rules) (λ c. search rules) (λ c. search rules) (λ c. search rules)
     (λ c κs. search rules) (λ c. search rules) (λ c. search rules) loop_holds (λ c. search rules) (λ c. search rules)
     (λ c κs. search rules) sub_at (λ c. search rules) mul_weight shared_slice_read_weight mul_below_2 slice_write_below_2
     (λ c. search rules) shared_slice_read_mul_2 (λ c κs. search rules) mul_above_2 slice_write_above_2 (λ c. search rules)

@@ -10,17 +10,17 @@ use Rattle.agreement.proofs.through.Tie as tie
 
 ruleset steps = (rules, count_in_is, gaps_in, list_in_is, above_in, below_in)
 
-add_end : tie.Need-overflow-add-end
+add_end : tie.Need-overflow_add-end
 add_end c =
-    omega (arith, end_in _ _ _ _ _ _ _ _ c.wide.result c.requires.0 (search rules) c.requires.1)
+    omega (arith, end_in _ _ _ _ _ _ _ _ c.wide-last.result c.requires.0 (search rules) c.requires.1)
 
-through_rising_requires : tie.Need-through-rising-requires
+through_rising_requires : tie.Need-through_rising-requires
 through_rising_requires c κs =
     (search (rules, parted_prepared), parted_same _ _ _ _ c.requires.0, search (rules, parted_further, rest_all))
 
 returns : tie.Need-returns
 returns c =
-    let r = c.before.before.before.before.before.before.before.before.through-rising in
+    let r = c.through_rising in
     let posts = c.args.posts.now in
     let shares = c.args.shares.now in
     let k = c.args.k in

@@ -8,13 +8,13 @@ use borrow.Author.Rules.{rules}
 use Rattle.kinds.proofs.late_triples.Statement.{statement}
 use Rattle.kinds.proofs.late_triples.Tie as tie
 
-abbrev invariant-loop : tie.invariant-loop
-invariant-loop kinds row₀ row-end row = any_row late row (drop row kinds) ≡ any_row late 0 kinds
+abbrev invariant-loop-row : tie.invariant-loop-row
+invariant-loop-row kinds row₀ row-end row = any_row late row (drop row kinds) ≡ any_row late 0 kinds
 
-abbrev decreases-loop : tie.decreases-loop
-decreases-loop kinds row₀ row-end row = length kinds - row
+abbrev decreases-loop-row : tie.decreases-loop-row
+decreases-loop-row kinds row₀ row-end row = length kinds - row
 
 ruleset turns = (rules, row_found, row_passed, rows_ended)
 
 pub late_triples_spec : {M : Type 1} → statement M
-late_triples_spec = tie.close (tie.spec invariant-loop decreases-loop (λ c. search turns) (λ c κs. search turns) (λ c. search turns) (λ c. search turns) (λ c. search turns) (λ c. search turns) (λ c. search turns))
+late_triples_spec = tie.close (tie.spec invariant-loop-row decreases-loop-row (λ c. search turns) (λ c κs. search turns) (λ c. search turns) (λ c. search turns) (λ c. search turns) (λ c. search turns) (λ c. search turns))

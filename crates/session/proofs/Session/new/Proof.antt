@@ -13,11 +13,11 @@ made_of : (n t post points : ℕ) (w v : Points) (s : Session) → s ≡ session
     → s ≡ session_of n t post points (as_many_of points w)
 made_of n t post points w v s e h = e ∙ ap (session_of n t post points) h
 
-returns : tie.Need-returns
+returns : tie.Need-returns-then-refusal-ne0
 unfolding created
 returns c = search endings
 
-returns_2 : tie.Need-returns-2
+returns_2 : tie.Need-returns
 unfolding created
 returns_2 c = search (endings, made_of)
 

@@ -1,0 +1,11 @@
+-- `Session::answer_marking_triple` meets its contract. Where the two ways meet, the list is what the way left.
+use Rattle.session.proofs.Endings.{marks_written, marks_kept}
+use Rattle.session.proofs.Session.answer_marking_triple.Goals as goal
+use Rattle.session.proofs.Session.answer_marking_triple.Goals.{then-refusal-eq0, else-refusal-eq0}
+
+pub returns : goal.returns
+returns c =
+    elim c.if-refusal-eq0.branch [
+      | then-refusal-eq0 w ↦ marks_written _ _ _ _ w.if-refusal-eq0.true w.marks-is
+      | else-refusal-eq0 w ↦ marks_kept _ _ _ _ w.if-refusal-eq0.false w.marks-is
+    ]
