@@ -51,9 +51,23 @@ module _ (s : List ℕ) (at : ℕ) where
   unfolding fields_at
   passed_end t h = let e : t.left ≡ 0 = omega arith in rw e
 
-pub fewer_left : (t : Tally) (f : Field) → 0 < t.left → (counted t f).left < t.left
-fewer_left t (Number x next) h = omega arith
-fewer_left t Wrong h = h
+-- how far the reader has read, and what has been counted
+pub record Passed (s : List ℕ) (from_at k : ℕ) : Type 0 where
+  pub at : ℕ
+  pub tally : Tally
+  pub leads : rest_run tally s at ≡ run_of (fields_at k s from_at)
+
+module _ (s : List ℕ) (from_at k : ℕ) where
+  abbrev pub passed_further : (p : Passed s from_at k) → 0 < p.tally.left → Passed s from_at k
+  passed_further p h =
+      record {
+        at = place_behind (comma_field_of s p.at) p.at;
+        tally = counted p.tally (comma_field_of s p.at);
+        leads = passed_more s p.at p.tally h ∙ p.leads;
+      }
+
+  pub passed_all : (p : Passed s from_at k) → p.tally.left ≤ 0 → settled p.tally p.at ≡ run_of (fields_at k s from_at)
+  passed_all p h = passed_end s p.at p.tally h ∙ p.leads
 
 -- one turn: a reader over the line s has read its next field, which is counted
 module _ (s : List ℕ) (r : Reader) (u : Step) (same : r.line.now ≡ s) (e : u ≡ step_from r) where
