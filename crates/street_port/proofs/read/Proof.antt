@@ -6,7 +6,7 @@ use Rattle.street_port.proofs.read.Tie as tie
 
 returns : tie.Need-returns
 returns c =
-    let got = to_z w64 (of_z w64 c.before.before.before.before.read.result) in
+    let got = to_z w64 (of_z w64 c.read-got.result) in
     (search rules, none_failed got c.count.result _ c.count.ensures.1)
 
 pub read_spec : {M : Type 1} → statement M
