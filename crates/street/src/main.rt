@@ -1,6 +1,6 @@
 // The street program: reads lines from standard input, and prints an answer to each.
 #![tactic(auto)]
 
-fn main() {
-    street_console::run();
+fn main(rt: HostRuntime) {
+    street_console::run(rt.stdin(), rt.stdout(), rt.stderr());
 }

@@ -5,7 +5,7 @@ ghost use Rattle.std.specs.Prelude.{◌≡◌, ◌+◌, ◌≤◌, true, length}
 ghost use Rattle.street_answers.specs.Text.{header};
 ghost use Rattle.street_port.specs.Counts.{wrapped};
 
-use libc::{STDERR_FILENO, STDIN_FILENO, STDOUT_FILENO};
+use std::io::{Read, Stderr, Stdin, Stdout, Write};
 
 // What a read answered: how many bytes it put at the buffer's start, 0 at the end of the input, and whether it failed.
 #[derive(Clone, Copy)]
@@ -49,11 +49,25 @@ impl Printed {
     }
 }
 
+// Writes a text, and says whether all of it was taken. The first write that fails or takes nothing is the last: none is tried again.
+fn write_whole<W: Write>(writer: &mut W, text: &[u8]) -> bool {
+    let mut done = 0;
+    while done < text.len() {
+        let taken = writer.write(&text[done..]).unwrap_or(0);
+        if taken == 0 {
+            return false;
+        }
+        done += taken;
+    }
+    true
+}
+
 // Hands a text to standard output.
-fn hand(text: &[u8]) -> Printed
+fn hand(output: Stdout, text: &[u8]) -> Printed
     ensures { result.total ≡ length text.now }
 {
-    let whole = io::write_all(STDOUT_FILENO, text);
+    let mut output = output;
+    let whole = write_whole(&mut output, text);
     Printed {
         total: text.len() as u64,
         whole,
@@ -61,41 +75,49 @@ fn hand(text: &[u8]) -> Printed
 }
 
 // The header, before which nothing is printed.
-pub fn begin() -> Printed
+pub fn begin(output: Stdout) -> Printed
     ensures { result.total ≡ length header }
 {
     let header = street_answers::header();
-    hand(&header)
+    hand(output, &header)
 }
 
 // A text behind those before it, all of which were taken.
-pub fn print(before: Printed, text: &[u8]) -> Printed
+pub fn print(output: Stdout, before: Printed, text: &[u8]) -> Printed
     requires { before.whole ≡ true }
     ensures { result.total ≡ wrapped (before.total + length text.now) }
 {
-    let handed = hand(text);
+    let handed = hand(output, text);
     Printed {
-        total: std::num::wrapping_add_u64(before.total, handed.total),
+        total: before.total.wrapping_add(handed.total),
         whole: handed.whole,
     }
 }
 
 // Reads a chunk of the input, where all that was printed before was taken.
-pub fn read(before: Printed, chunk: &mut [u8]) -> Got
+pub fn read(input: Stdin, before: Printed, chunk: &mut [u8]) -> Got
     requires { before.whole ≡ true }
-    ensures { (result.count ≤ length chunk.new) × (result.failed ≡ true → result.count ≡ 0) }
+    ensures within { result.count ≤ length chunk.new }
+    ensures failed { result.failed ≡ true → result.count ≡ 0 }
 {
-    let got = libc::read(STDIN_FILENO, chunk);
-    Got {
-        count: io::count(got, chunk),
-        failed: got < 0,
+    let mut input = input;
+    match input.read(chunk) {
+        Ok(count) => Got {
+            count,
+            failed: false,
+        },
+        Err(_) => Got {
+            count: 0,
+            failed: true,
+        },
     }
 }
 
 // A note on standard error; how many bytes were handed to it.
-pub fn note(text: &[u8]) -> usize
+pub fn note(errors: Stderr, text: &[u8]) -> usize
     ensures { result ≡ length text.now }
 {
-    io::write_all(STDERR_FILENO, text);
+    let mut errors = errors;
+    write_whole(&mut errors, text);
     text.len()
 }
