@@ -2,5 +2,8 @@
 #![tactic(auto)]
 
 fn main(rt: HostRuntime) {
-    street_console::run(rt.stdin(), rt.stdout(), rt.stderr());
+    let mut input = rt.stdin();
+    let mut output = rt.stdout();
+    let mut errors = rt.stderr();
+    street_console::run(&mut input, &mut output, &mut errors);
 }

@@ -8,7 +8,7 @@ ghost use Rattle.street_chunks.specs.Sizes.{chunk_size};
 ghost use Rattle.street_chunks.specs.Stopping.{stops_at, broken_off_of};
 ghost use Rattle.street_chunks.specs.Between.{Answered};
 
-use std::io::{Stdin, Stdout};
+use std::io::{Read, Write};
 use street_feeds::Feed;
 use street_port::{Got, Printed};
 
@@ -31,8 +31,8 @@ pub struct Served {
 }
 
 // Takes a chunk and prints its answers.
-fn answer_chunk(
-    output: Stdout,
+fn answer_chunk<W: Write>(
+    output: &mut W,
     feed: Feed,
     before: Printed,
     store: &mut [u32],
@@ -59,9 +59,9 @@ fn answer_chunk(
 }
 
 // Reads a chunk and prints its answers. At the end of the input, and where reading fails, the chunk is empty.
-pub fn serve_chunk(
-    input: Stdin,
-    output: Stdout,
+pub fn serve_chunk<R: Read, W: Write>(
+    input: &mut R,
+    output: &mut W,
     feed: Feed,
     before: Printed,
     store: &mut [u32],

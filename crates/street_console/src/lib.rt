@@ -10,7 +10,7 @@ ghost use Rattle.street_serving.specs.Serving.{Ended};
 ghost use Rattle.street_serving.specs.Between.{Begun};
 ghost use Rattle.street_console.specs.Notes.{note_for};
 
-use std::io::{Stderr, Stdin, Stdout};
+use std::io::{Read, Write};
 use street_port::Printed;
 
 // Room for the answers to a chunk: at most one for each byte.
@@ -47,7 +47,7 @@ fn answers_room() -> [u8; ANSWER_BYTES]
 }
 
 // Reads and prints after the header.
-fn serve_input(input: Stdin, output: Stdout, header: Printed) -> Ending
+fn serve_input<R: Read, W: Write>(input: &mut R, output: &mut W, header: Printed) -> Ending
     requires { Begun header }
     ensures { Ended result.lines result.total result.unread result.unwritten result.taken }
 {
@@ -72,7 +72,7 @@ fn serve_input(input: Stdin, output: Stdout, header: Printed) -> Ending
 }
 
 // Prints the header, and reads where it was taken.
-fn start(input: Stdin, output: Stdout) -> Ending
+fn start<R: Read, W: Write>(input: &mut R, output: &mut W) -> Ending
     ensures { Ended result.lines result.total result.unread result.unwritten result.taken }
 {
     let header = street_port::begin(output);
@@ -89,7 +89,7 @@ fn start(input: Stdin, output: Stdout) -> Ending
 }
 
 // The whole program: how it ended, and how many bytes were handed to standard error.
-pub fn run(input: Stdin, output: Stdout, errors: Stderr) -> Outcome
+pub fn run<R: Read, W: Write, E: Write>(input: &mut R, output: &mut W, errors: &mut E) -> Outcome
     ensures { Ended result.ending.lines result.ending.total result.ending.unread result.ending.unwritten result.ending.taken
         × (result.noted ≡ length (note_for result.ending.unread result.ending.unwritten)) }
 {

@@ -2,7 +2,7 @@
 ghost use Rattle.std.specs.Prelude.{◌≡◌, length};
 ghost use Rattle.street_console.specs.Notes.{unread_note_of, unwritten_note_of, note_for};
 
-use std::io::Stderr;
+use std::io::Write;
 
 fn unread_note() -> [u8; 28]
     ensures { result ≡ unread_note_of }
@@ -17,7 +17,7 @@ fn unwritten_note() -> [u8; 33]
 }
 
 // Says what failed; how many bytes were handed to standard error.
-pub fn say(errors: Stderr, unread: bool, unwritten: bool) -> usize
+pub fn say<W: Write>(errors: &mut W, unread: bool, unwritten: bool) -> usize
     ensures { result ≡ length (note_for unread unwritten) }
 {
     if unread {

@@ -1,11 +1,13 @@
 // Standard input, output and error: where the program meets the operating system. A `Got` or a `Printed` is made nowhere else.
 #![tactic(auto)]
 
-ghost use Rattle.std.specs.Prelude.{◌≡◌, ◌+◌, ◌≤◌, true, length};
+ghost use Rattle.std.specs.Prelude.{◌≡◌, ◌+◌, ◌≤◌, ◌<◌, true, false, length, take};
 ghost use Rattle.street_answers.specs.Text.{header};
 ghost use Rattle.street_port.specs.Counts.{wrapped};
+ghost use Rattle.street_port.specs.Written.{AppendsFront, AppendsPart};
+ghost use Rattle.std.specs.Io.KnownBytes.{Appends, Consumes, IsAtEnd};
 
-use std::io::{Read, Stderr, Stdin, Stdout, Write};
+use std::io::{Read, Write};
 
 // What a read answered: how many bytes it put at the buffer's start, 0 at the end of the input, and whether it failed.
 #[derive(Clone, Copy)]
@@ -50,24 +52,28 @@ impl Printed {
 }
 
 // Writes a text, and says whether all of it was taken. The first write that fails or takes nothing is the last: none is tried again.
-fn write_whole<W: Write>(writer: &mut W, text: &[u8]) -> bool {
+fn write_whole<W: Write>(writer: &mut W, text: &[u8]) -> bool
+    ensures all { result ≡ true → Appends (W.contents writer.old) (W.contents writer.new) text.now }
+    ensures part { result ≡ false → AppendsPart (W.contents writer.old) (W.contents writer.new) text.now }
+{
     let mut done = 0;
     while done < text.len() {
-        let taken = writer.write(&text[done..]).unwrap_or(0);
-        if taken == 0 {
-            return false;
+        match writer.write(&text[done..]) {
+            Ok(0) => return false,
+            Ok(taken) => done += taken,
+            Err(_) => return false,
         }
-        done += taken;
     }
     true
 }
 
-// Hands a text to standard output.
-fn hand(output: Stdout, text: &[u8]) -> Printed
-    ensures { result.total ≡ length text.now }
+// Hands a text to the output.
+fn hand<W: Write>(output: &mut W, text: &[u8]) -> Printed
+    ensures total { result.total ≡ length text.now }
+    ensures all { result.whole ≡ true → Appends (W.contents output.old) (W.contents output.new) text.now }
+    ensures part { result.whole ≡ false → AppendsPart (W.contents output.old) (W.contents output.new) text.now }
 {
-    let mut output = output;
-    let whole = write_whole(&mut output, text);
+    let whole = write_whole(output, text);
     Printed {
         total: text.len() as u64,
         whole,
@@ -75,17 +81,21 @@ fn hand(output: Stdout, text: &[u8]) -> Printed
 }
 
 // The header, before which nothing is printed.
-pub fn begin(output: Stdout) -> Printed
-    ensures { result.total ≡ length header }
+pub fn begin<W: Write>(output: &mut W) -> Printed
+    ensures total { result.total ≡ length header }
+    ensures all { result.whole ≡ true → Appends (W.contents output.old) (W.contents output.new) header }
+    ensures part { result.whole ≡ false → AppendsPart (W.contents output.old) (W.contents output.new) header }
 {
     let header = street_answers::header();
     hand(output, &header)
 }
 
 // A text behind those before it, all of which were taken.
-pub fn print(output: Stdout, before: Printed, text: &[u8]) -> Printed
+pub fn print<W: Write>(output: &mut W, before: Printed, text: &[u8]) -> Printed
     requires { before.whole ≡ true }
-    ensures { result.total ≡ wrapped (before.total + length text.now) }
+    ensures total { result.total ≡ wrapped (before.total + length text.now) }
+    ensures all { result.whole ≡ true → Appends (W.contents output.old) (W.contents output.new) text.now }
+    ensures part { result.whole ≡ false → AppendsPart (W.contents output.old) (W.contents output.new) text.now }
 {
     let handed = hand(output, text);
     Printed {
@@ -95,12 +105,13 @@ pub fn print(output: Stdout, before: Printed, text: &[u8]) -> Printed
 }
 
 // Reads a chunk of the input, where all that was printed before was taken.
-pub fn read(input: Stdin, before: Printed, chunk: &mut [u8]) -> Got
+pub fn read<R: Read>(input: &mut R, before: Printed, chunk: &mut [u8]) -> Got
     requires { before.whole ≡ true }
     ensures within { result.count ≤ length chunk.new }
     ensures failed { result.failed ≡ true → result.count ≡ 0 }
+    ensures taken { Consumes (R.remaining input.old) (R.remaining input.new) (take result.count chunk.new) }
+    ensures end { result.failed ≡ false → result.count ≡ 0 → 0 < length chunk.new → IsAtEnd (R.remaining input.new) }
 {
-    let mut input = input;
     match input.read(chunk) {
         Ok(count) => Got {
             count,
@@ -114,10 +125,10 @@ pub fn read(input: Stdin, before: Printed, chunk: &mut [u8]) -> Got
 }
 
 // A note on standard error; how many bytes were handed to it.
-pub fn note(errors: Stderr, text: &[u8]) -> usize
-    ensures { result ≡ length text.now }
+pub fn note<W: Write>(errors: &mut W, text: &[u8]) -> usize
+    ensures count { result ≡ length text.now }
+    ensures front { AppendsFront (W.contents errors.old) (W.contents errors.new) text.now }
 {
-    let mut errors = errors;
-    write_whole(&mut errors, text);
+    write_whole(errors, text);
     text.len()
 }

@@ -7,7 +7,7 @@ ghost use Rattle.street_feeds.specs.Between.{Open};
 ghost use Rattle.street_serving.specs.Serving.{Ended};
 ghost use Rattle.street_serving.specs.Between.{Fresh, Begun, Stopped, Finished};
 
-use std::io::{Stdin, Stdout};
+use std::io::{Read, Write};
 use street_chunks::Served;
 use street_port::Printed;
 
@@ -22,9 +22,9 @@ pub struct Run {
 const TURNS: u64 = 1 << 51;
 
 // Reads to the end of the input, or until reading or printing fails.
-fn serve_chunks(
-    input: Stdin,
-    output: Stdout,
+fn serve_chunks<R: Read, W: Write>(
+    input: &mut R,
+    output: &mut W,
     header: Printed,
     store: &mut [u32],
     line: &mut [u8],
@@ -56,8 +56,8 @@ fn serve_chunks(
 
 // The end of the input ends a line that was begun. Where reading failed nothing is known of the line's end, and where printing
 // failed nothing more is printed.
-fn finish(
-    output: Stdout,
+fn finish<W: Write>(
+    output: &mut W,
     served: Served,
     store: &mut [u32],
     line: &mut [u8],
@@ -86,9 +86,9 @@ fn finish(
 }
 
 // Reads the input and prints the answers.
-pub fn serve(
-    input: Stdin,
-    output: Stdout,
+pub fn serve<R: Read, W: Write>(
+    input: &mut R,
+    output: &mut W,
     header: Printed,
     store: &mut [u32],
     line: &mut [u8],
