@@ -1,7 +1,7 @@
 /*
  * Gantsorol: verifiable secret sharing for dock posts.
  *
- * For x86-64 only, by the rules of System V. The library is libgantsorol.a: `rt staticlib gantsorol` makes it, `./install`
+ * For x86-64 only, by the rules of System V. The library is libgantsorol.a: `rt lib` makes it in crates/gantsorol, `./install`
  * puts it in place. It needs no initialisation, allocates nothing, keeps nothing between calls and takes nothing but memcpy
  * and memset. docs/INTEGRATING.md goes from an empty folder to a post.
  *
