@@ -57,13 +57,13 @@ def news(path, text, of):
         def named(m):
             step = bound.get(m.group(1), m.group(1))
             params = of["params"].get(callee.get(step, ""))
-            k = m.group(2).count("1")
+            k = m.group(3).count("1")
             if not params or k >= len(params):
                 print(f"{path}: {m.group(0)} of {step} {callee.get(step)} {params}")
                 return m.group(0)
-            return f"{m.group(1)}.new.{params[k]}"
+            return f"{m.group(1)}.{m.group(2)}.{params[k]}"
 
-        parts[i] = re.sub(r"(" + W + r")\.new((?:\.1)*)\.0(?![\w])", named, part)
+        parts[i] = re.sub(r"(" + W + r")\.(new|auto)((?:\.1)*)\.0(?![\w])", named, part)
     return "".join(parts)
 
 

@@ -14,7 +14,9 @@ use Rattle.csv_fields.specs.declared.Run.{Run}
 use Rattle.csv_fields.specs.declared.Run.TheVariants.{Fields, Broken}
 use Rattle.decimal.specs.Numeral.{field_at}
 use Rattle.csv_fields.specs.declared.Tally.{Tally}
-use Rattle.csv_fields.specs.Walk.{comma_field_of, place_behind, counted, settled, end_of}
+use Rattle.csv_fields.specs.declared.Reader.{Reader}
+use Rattle.csv_fields.specs.declared.Step.{Step}
+use Rattle.csv_fields.specs.Walk.{comma_field_of, place_behind, step_from, counted, settled, end_of}
 use Rattle.csv_fields.specs.Fields.{Parsed, parsed, malformed, push, behind, fields_at, ended, largest_from, run_from, run_of}
 
 -- ---- the first pass: what is known so far with what the rest says is what the whole says
@@ -49,10 +51,6 @@ module _ (s : List ℕ) (at : ℕ) where
   unfolding fields_at
   passed_end t h = let e : t.left ≡ 0 = omega arith in rw e
 
-pub fewer_left : (t : Tally) (f : Field) → 0 < t.left → (counted t f).left < t.left
-fewer_left t (Number x next) h = omega arith
-fewer_left t Wrong h = h
-
 -- how far the reader has read, and what has been counted
 pub record Passed (s : List ℕ) (from_at k : ℕ) : Type 0 where
   pub at : ℕ
@@ -60,9 +58,6 @@ pub record Passed (s : List ℕ) (from_at k : ℕ) : Type 0 where
   pub leads : rest_run tally s at ≡ run_of (fields_at k s from_at)
 
 module _ (s : List ℕ) (from_at k : ℕ) where
-  abbrev pub passed_start : Passed s from_at k
-  passed_start = record { at = from_at; tally = record { left = k; largest = 0; whole = true }; leads = refl }
-
   abbrev pub passed_further : (p : Passed s from_at k) → 0 < p.tally.left → Passed s from_at k
   passed_further p h =
       record {
@@ -73,6 +68,17 @@ module _ (s : List ℕ) (from_at k : ℕ) where
 
   pub passed_all : (p : Passed s from_at k) → p.tally.left ≤ 0 → settled p.tally p.at ≡ run_of (fields_at k s from_at)
   passed_all p h = passed_end s p.at p.tally h ∙ p.leads
+
+-- one turn: a reader over the line s has read its next field, which is counted
+module _ (s : List ℕ) (r : Reader) (u : Step) (same : r.line.now ≡ s) (e : u ≡ step_from r) where
+  pub step_line : u.reader.line.now ≡ s
+  step_line = rw e same
+
+  pub step_field : u.field ≡ comma_field_of s r.at
+  step_field = rw (e, same)
+
+  pub step_at : u.reader.at ≡ place_behind (comma_field_of s r.at) r.at
+  step_at = rw (e, same)
 
 -- ---- what stands behind the fields
 module _ (s : List ℕ) (o : Parsed) (r : Run) (e : r ≡ run_of o) where

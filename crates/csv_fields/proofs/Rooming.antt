@@ -82,24 +82,6 @@ module _ (s ys : List ℕ) (from_at m : ℕ) where
   abbrev k : ℕ
   k = length ys
 
-  abbrev pub room_start : Rooming s ys from_at m
-  room_start =
-      record {
-        at = from_at;
-        i = 0;
-        out = ys;
-        tally = record { left = k; largest = m; whole = true };
-        within = omega arith;
-        all = λ e. omega arith;
-        same = refl;
-        leads = refl;
-        says = nothing_yet (fields_at k s from_at);
-      }
-    where
-      nothing_yet : (o : Parsed) → ahead (take 0 ys) (lows_of o) ≡ lows_of o
-      nothing_yet (parsed xs next) = refl
-      nothing_yet malformed = refl
-
   module _ (t : Rooming s ys from_at m) where
     pub room_run : t.tally.left ≤ 0 → settled t.tally t.at ≡ run_from m (fields_at k s from_at)
     room_run h = passed_end s t.at t.tally h ∙ t.leads

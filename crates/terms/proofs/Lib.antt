@@ -1,4 +1,3 @@
--- The terms of a relation: placed one after another, and handed on by a walk by hand.
+-- The terms of a relation: placed one after another, and handed on.
 pub mod Placing
-pub mod Outcomes
 pub mod Ordered

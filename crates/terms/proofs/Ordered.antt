@@ -1,6 +1,5 @@
 -- The product terms stand in the order of the list.
 use mathlib.Core.Path.{refl}
-use mathlib.Core.Logic.{◌≢◌}
 use borrow.Author.Tests.{eq-eqb, ne_eqb}
 use Rattle.terms.specs.Listed.{products_of}
 use Rattle.terms.specs.Claims.{ProductsInOrder}

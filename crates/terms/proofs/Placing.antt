@@ -1,14 +1,13 @@
 -- Terms that are placed one after another make what `collected` says of their list, and a list that is not too long, with its
 -- product terms, is found again in what was collected of it.
-use Prim.Native.Nat.{ℕ, zero, suc, ◌+◌, ◌≤◌, ◌<◌}
-use mathlib.Core.Path.{◌≡◌, refl, sym, ◌∙◌, ap, ap₂}
+use Prim.Native.Nat.{ℕ, zero, suc, ◌+◌, ◌≤◌}
+use mathlib.Core.Path.{◌≡◌, refl, ◌∙◌, ap, ap₂}
 use mathlib.Core.Bool.{Bool, true, false, cond}
 use mathlib.Core.List.{List, [], ◌∷◌}
 use native.Mathlib.Nat.{le_of_suc-le-suc, not-suc-le-zero, le_trans}
 use native.Mathlib.Omega.{arith}
-use lib.Dec.{eqb}
 use lib.ListN.{length, take, replicate, set}
-use lib.Seq.{sets, set_out}
+use lib.Seq.{sets}
 use Rattle.terms.specs.declared.Term.{Term}
 use Rattle.terms.specs.declared.Terms.{Terms}
 use Rattle.terms.specs.Listed.{most_terms, plain, products_of, blank, padded, collected, terms_of, factors_of, none_of_of, listed_in, counted_in, placed}
@@ -104,33 +103,3 @@ terms_again ts h = take_padded most_terms ts h
 
 pub factors_again : (ts : List Term) → length ts ≤ most_terms → factors_of (collected ts) ≡ products_of ts
 factors_again ts h = take_padded most_terms (products_of ts) (le_trans (products_fewer ts) h)
-
--- past the last place a term is dropped, or counted alone
-pub list_out : (all : Terms) (i : ℕ) (t : Term) → length all.list ≤ i → all ≡ listed_in all i t
-list_out all i t h = rw (set_out all.list i t h) refl
-
-abbrev counted : Terms → Terms
-counted all = record { count = all.count; products = all.products + 1; list = all.list; factors = all.factors }
-
-pub count_out : (all : Terms) (t : Term) → length all.factors ≤ all.products → counted all ≡ counted_in all t
-count_out all t h = rw (set_out all.factors all.products t h) refl
-
--- a term is plain, or one of the product terms
-module _ (all listed : Terms) (i : ℕ) (t : Term) (b : Bool) (el : listed ≡ listed_in all i t) (eb : b ≡ plain t) where
-  pub put_room : (k : ℕ) → all.products + 1 < k → listed.products + 1 < k
-  put_room k h = rw el h
-
-  pub put_plain : b ≡ true → listed ≡ placed all i t
-  put_plain e = rw (← eb, e) el
-
-  pub put_product : b ≡ false → (r : Terms) → r ≡ counted_in listed t → r ≡ placed all i t
-  put_product e r er = rw (← eb, e) (rw el at er)
-
--- no more product terms than terms
-few_step : (b : Bool) (all : Terms) (i : ℕ) (t : Term) → all.products ≤ i
-    → (cond b (listed_in all i t) (counted_in (listed_in all i t) t)).products ≤ i + 1
-few_step true all i t h = omega arith
-few_step false all i t h = omega arith
-
-pub placed_few : (all : Terms) (i : ℕ) (t : Term) → all.products ≤ i → (placed all i t).products ≤ i + 1
-placed_few all i t h = few_step (plain t) all i t h

@@ -1,6 +1,6 @@
 -- Document 02, (v): "The terms come as a lent list of records: a coefficient, a row, a second row or 255 for none, and the first
 -- row of a triple, not looked at when there is none." Here such a list is handed on by value, as far as a relation may go.
-use Rattle.std.specs.Prelude.{ℕ, zero, suc, ◌+◌, ◌≤◌, Bool, true, false, cond, List, [], ◌∷◌, eqb, length, replicate, set, take}
+use Rattle.std.specs.Prelude.{ℕ, zero, suc, ◌+◌, Bool, true, false, cond, List, [], ◌∷◌, eqb, length, replicate, set, take}
 use Rattle.terms.specs.declared.Term.{Term}
 use Rattle.terms.specs.declared.Terms.{Terms}
 

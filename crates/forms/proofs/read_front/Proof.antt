@@ -8,12 +8,12 @@ ruleset ends = (rules, front_count, front_run, front_read)
 
 returns : tie.Need-returns
 returns c =
-    let read = c.before.before.before.before.before.before.before.read-fields in
-    let cleared = c.before.before.clear-if in (
+    let read = c.read_fields-run in
+    let cleared = c.clear_if in (
       search front_run,
       front_read c.args.line.now c.args.out.now c.args.at c.args.count c.requires.1
-          read.new.1.1.1.1.0 cleared.new.1.0 read.result c.args.limit c.before.before.before.before.below.result
-          read.ensures.1 read.auto.1.1.1.1.0 c.before.before.before.before.below.ensures cleared.ensures,
+          read.new.out cleared.new.list read.result c.args.limit c.below.result
+          read.ensures.1 read.auto.out c.below.ensures cleared.ensures,
     )
 
 pub read_front_spec : {M : Type 1} → statement M

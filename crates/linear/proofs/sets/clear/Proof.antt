@@ -9,15 +9,15 @@ use Rattle.linear.proofs.Sharing.{clear_more}
 use Rattle.linear.proofs.sets.clear.Statement.{statement}
 use Rattle.linear.proofs.sets.clear.Tie as tie
 
-abbrev invariant-loop : tie.invariant-loop
-invariant-loop sets₀ d k₀ sets k = (k ≤ 8) × (length sets ≡ length sets₀) × (sets ≡ shared k sets₀ d 96 96)
+abbrev invariant-loop-k : tie.invariant-loop-k
+invariant-loop-k sets₀ d k₀ sets k = (k ≤ 8) × (length sets ≡ length sets₀) × (sets ≡ shared k sets₀ d 96 96)
 
-abbrev decreases-loop : tie.decreases-loop
-decreases-loop sets₀ d k₀ sets k = 8 - k
+abbrev decreases-loop-k : tie.decreases-loop-k
+decreases-loop-k sets₀ d k₀ sets k = 8 - k
 
 ruleset steps = (rules, shared_start, clear_more, shared_end)
 
 pub clear_spec : {M : Type 1} → statement M
 clear_spec =
     tie.close
-    (tie.spec invariant-loop decreases-loop (λ c. search steps) (λ c. search steps) (λ c. search steps) (λ c. search steps) (λ c. search steps) (λ c. search steps) (λ c. search steps) (λ c. search steps) (λ c. search steps) (λ c. search steps))
+    (tie.spec invariant-loop-k decreases-loop-k (λ c. search steps) (λ c. search steps) (λ c. search steps) (λ c. search steps) (λ c. search steps) (λ c. search steps) (λ c. search steps) (λ c. search steps) (λ c. search steps) (λ c. search steps))

@@ -8,15 +8,15 @@ use Rattle.callers.proofs.Shared.{shared_start, shared_more, shared_end}
 use Rattle.linear.proofs.sets.join.Statement.{statement}
 use Rattle.linear.proofs.sets.join.Tie as tie
 
-abbrev invariant-loop : tie.invariant-loop
-invariant-loop sets₀ d a k₀ sets k = (k ≤ 8) × (length sets ≡ length sets₀) × (sets ≡ shared k sets₀ d d a)
+abbrev invariant-loop-k : tie.invariant-loop-k
+invariant-loop-k sets₀ d a k₀ sets k = (k ≤ 8) × (length sets ≡ length sets₀) × (sets ≡ shared k sets₀ d d a)
 
-abbrev decreases-loop : tie.decreases-loop
-decreases-loop sets₀ d a k₀ sets k = 8 - k
+abbrev decreases-loop-k : tie.decreases-loop-k
+decreases-loop-k sets₀ d a k₀ sets k = 8 - k
 
 ruleset steps = (rules, shared_start, shared_more, shared_end)
 
 pub join_spec : {M : Type 1} → statement M
 join_spec =
     tie.close
-    (tie.spec invariant-loop decreases-loop (λ c. search steps) (λ c. search steps) (λ c. search steps) (λ c. search steps) (λ c. search steps) (λ c. search steps) (λ c. search steps) (λ c. search steps) (λ c. search steps) (λ c. search steps) (λ c. search steps) (λ c. search steps) (λ c. search steps) (λ c. search steps) (λ c. search steps) (λ c. search steps) (λ c. search steps) (λ c. search steps))
+    (tie.spec invariant-loop-k decreases-loop-k (λ c. search steps) (λ c. search steps) (λ c. search steps) (λ c. search steps) (λ c. search steps) (λ c. search steps) (λ c. search steps) (λ c. search steps) (λ c. search steps) (λ c. search steps) (λ c. search steps) (λ c. search steps) (λ c. search steps) (λ c. search steps) (λ c. search steps) (λ c. search steps) (λ c. search steps) (λ c. search steps))
