@@ -109,7 +109,8 @@ def turn(path, of, whole=True):
 
     def path_of(m):
         head, hops, step = m.group(1), m.group(2), m.group(3)
-        now = sorted(set(steps.get(plain(step), [])))
+        # A step that had the name of a lemma was respelled with it.
+        now = sorted(set(steps.get(plain(step)) or steps.get(plain(re.sub(r"_(lem|of|is)$", "", step)), [])))
         if len(now) == 1:
             return f"{head}.{now[0]}"
         if len(now) > 1:

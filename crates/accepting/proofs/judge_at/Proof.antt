@@ -5,10 +5,10 @@ use Rattle.accepting.proofs.Weights.{front_lent, front_long, front_in, front_aga
 use Rattle.accepting.proofs.judge_at.Statement.{statement}
 use Rattle.accepting.proofs.judge_at.Tie as tie
 
-lent : tie.Need-slice-aggregate-fill-weights
+lent : tie.Need-slice_bounds-fill_weights-end-2
 lent c = sym (search (rules, front_lent))
 
-again : tie.Need-slice-aggregate-mark-all
+again : tie.Need-slice_bounds-mark_all-end-2
 again c = sym (search (rules, front_again))
 
 pub judge_at_spec : {M : Type 1} → statement M

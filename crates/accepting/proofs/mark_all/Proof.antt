@@ -7,16 +7,16 @@ use Rattle.accepting.proofs.Marks.{Marking, marking_start, marking_in, marking_m
 use Rattle.accepting.proofs.mark_all.Statement.{statement}
 use Rattle.accepting.proofs.mark_all.Tie as tie
 
-abbrev invariant-loop : tie.invariant-loop
-invariant-loop party h w row blocks weights marks₀ n i₀ marks i = (length marks ≡ length marks₀) × Marking party row blocks h i marks
+abbrev invariant-loop-i : tie.invariant-loop-i
+invariant-loop-i party h w row blocks weights marks₀ n i₀ marks i = (length marks ≡ length marks₀) × Marking party row blocks h i marks
 
-abbrev decreases-loop : tie.decreases-loop
-decreases-loop party h w row blocks weights marks₀ n i₀ marks i = party.shape.n - i
+abbrev decreases-loop-i : tie.decreases-loop-i
+decreases-loop-i party h w row blocks weights marks₀ n i₀ marks i = party.shape.n - i
 
 ruleset steps = (rules, marking_start, marking_in)
 
 pub mark_all_spec : {M : Type 1} → statement M
 mark_all_spec =
     tie.close
-    (tie.spec invariant-loop decreases-loop (λ c. search steps) (λ c. search steps) (λ c. search steps) (λ c. search steps) (λ c κs. (search rules, search (rules, next_post), search rules, search rules, search rules)) (λ c. search steps)
+    (tie.spec invariant-loop-i decreases-loop-i (λ c. search steps) (λ c. search steps) (λ c. search steps) (λ c. search steps) (λ c κs. (search rules, search (rules, next_post), search rules, search rules, search rules)) (λ c. search steps)
     (λ c. search steps) (λ c. search steps) (λ c. search steps) (λ c. search (rules, marking_more)) (λ c. search rules) (λ c. search (rules, marking_end)))

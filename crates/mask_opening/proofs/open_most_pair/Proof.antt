@@ -6,9 +6,9 @@ use Rattle.walk.proofs.Fronts.{front_length, front_size}
 use Rattle.mask_opening.proofs.open_most_pair.Statement.{statement}
 use Rattle.mask_opening.proofs.open_most_pair.Tie as tie
 
-open_most_pair_in_requires : tie.Need-open-most-pair-in-requires
+open_most_pair_in_requires : tie.Need-open_most_pair_in-requires
 open_most_pair_in_requires c κs =
-    let width = c.before.row_len in
+    let width = c.row_len-width in
     (search rules, front_size width.result longest_row _ _ width.ensures (search rules) refl)
 
 pub open_most_pair_spec : {M : Type 1} → statement M

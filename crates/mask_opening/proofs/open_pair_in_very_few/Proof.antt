@@ -6,9 +6,9 @@ use Rattle.walk.proofs.Fronts.{front_length, front_size}
 use Rattle.mask_opening.proofs.open_pair_in_very_few.Statement.{statement}
 use Rattle.mask_opening.proofs.open_pair_in_very_few.Tie as tie
 
-open_pair_in_requires : tie.Need-open-pair-in-requires
+open_pair_in_requires : tie.Need-open_pair_in-requires
 open_pair_in_requires c κs =
-    let width = c.before.row_len in
+    let width = c.row_len-width in
     (search rules, front_size width.result row_of_very_few _ _ width.ensures (search rules) refl)
 
 pub open_pair_in_very_few_spec : {M : Type 1} → statement M

@@ -5,10 +5,10 @@ use Rattle.opening.proofs.Opens.{record_long, open_stopped, open_sized, open_che
 use Rattle.opening.proofs.open_checks.Statement.{statement}
 use Rattle.opening.proofs.open_checks.Tie as tie
 
-row_checks_requires : tie.Need-row-checks-requires
+row_checks_requires : tie.Need-row_checks-requires
 row_checks_requires c κs =
-    let a = c.before.before.before.before.before.before.before.before.args in
-    (search (rules, frame_passed), record_long a.session a.rows.now a.blocks.now _ c.shape.ensures _ _ c.before.record-len.ensures c.size.ensures c.if2.false, search rules)
+    let a = c.args in
+    (search (rules, frame_passed), record_long a.session a.rows.now a.blocks.now _ c.shape-shape.ensures _ _ c.record_len.ensures c.size-size.ensures c.if-size-ne0.false, search rules)
 
 pub open_checks_spec : {M : Type 1} → statement M
 open_checks_spec =

@@ -6,7 +6,7 @@ use Rattle.otherdraw.proofs.Ends.{rooms}
 use Rattle.otherdraw.proofs.find_few.Statement.{statement}
 use Rattle.otherdraw.proofs.find_few.Tie as tie
 
-find_in_requires : tie.Need-find-in-requires
+find_in_requires : tie.Need-find_in-requires
 find_in_requires c κs = (search rules, rooms _ few_posts (search rules) (search rules) _ _ _ _ refl refl refl refl)
 
 pub find_few_spec : {M : Type 1} → statement M

@@ -7,7 +7,7 @@ use Rattle.packrow.proofs.write_numbers.Tie as tie
 
 ruleset turns = (rules, raw_lent, raw_room, raw_front, triple_room, triple_front, none_front)
 
-slice_aggregate_write_row : tie.Need-slice-aggregate-write-row
+slice_aggregate_write_row : tie.Need-slice_bounds-write_row-end-then-kind-eq-RAW
 slice_aggregate_write_row c = sym (search turns)
 
 pub write_numbers_spec : {M : Type 1} → statement M

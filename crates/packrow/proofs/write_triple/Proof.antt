@@ -7,7 +7,7 @@ use Rattle.packrow.proofs.write_triple.Tie as tie
 
 ruleset turns = (rules, factors_lent, third_drawn, factors_room, third_room, triple_written_is)
 
-slice_aggregate_write_factors : tie.Need-slice-aggregate-write-factors
+slice_aggregate_write_factors : tie.Need-slice_bounds-write_factors-end-2
 slice_aggregate_write_factors c = sym (search turns)
 
 pub write_triple_spec : {M : Type 1} → statement M

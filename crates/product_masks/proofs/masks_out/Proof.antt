@@ -6,8 +6,8 @@ use Rattle.product_masks.proofs.masks_out.Tie as tie
 
 ruleset steps = (rules, masks_untouched, masks_written)
 
-masks_accepted_requires : tie.Need-masks-accepted-requires
-masks_accepted_requires c κs = masks_allowed _ _ _ _ _ _ _ c.before.before.before.before.before.requires c.before.before.if1.false _ c.before.shape.ensures
+masks_accepted_requires : tie.Need-masks_accepted-requires
+masks_accepted_requires c κs = masks_allowed _ _ _ _ _ _ _ c.requires c.if-refusal-ne0.false _ c.shape.ensures
 
 pub masks_out_spec : {M : Type 1} → statement M
 masks_out_spec =

@@ -8,7 +8,7 @@ use Rattle.rooms.proofs.Lent.{rooms, unmarked}
 use Rattle.rooms.proofs.open_very_few.Statement.{statement}
 use Rattle.rooms.proofs.open_very_few.Tie as tie
 
-open_in_requires : tie.Need-open-in-requires
+open_in_requires : tie.Need-open_in-requires
 open_in_requires c κs = (
   search rules,
   search rules,

@@ -8,16 +8,16 @@ use Rattle.street_splitting.proofs.Segments.{segment_end, segment_more, segment_
 use Rattle.street_splitting.proofs.line_end.Statement.{statement}
 use Rattle.street_splitting.proofs.line_end.Tie as tie
 
-abbrev invariant-loop : tie.invariant-loop
-invariant-loop chunk from i₀ i = i + segment (drop i chunk) ≡ from + segment (drop from chunk)
+abbrev invariant-loop-i : tie.invariant-loop-i
+invariant-loop-i chunk from i₀ i = i + segment (drop i chunk) ≡ from + segment (drop from chunk)
 
-abbrev decreases-loop : tie.decreases-loop
-decreases-loop chunk from i₀ i = length chunk - i
+abbrev decreases-loop-i : tie.decreases-loop-i
+decreases-loop-i chunk from i₀ i = length chunk - i
 
 ruleset turns = (rules, segment_end, segment_more, segment_none)
 
 pub line_end_spec : {M : Type 1} → statement M
 line_end_spec =
     tie.close
-    (tie.spec invariant-loop decreases-loop (λ c. search turns) (λ c. search turns) (λ c. search turns) (λ c. search turns)
+    (tie.spec invariant-loop-i decreases-loop-i (λ c. search turns) (λ c. search turns) (λ c. search turns) (λ c. search turns)
     (λ c. search turns) (λ c. search turns) (λ c. search turns) (λ c. search turns))

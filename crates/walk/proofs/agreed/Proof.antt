@@ -4,10 +4,10 @@ use Rattle.walk.proofs.Settles.{agreed_number, agreed_off}
 use Rattle.walk.proofs.agreed.Statement.{statement}
 use Rattle.walk.proofs.agreed.Tie as tie
 
-returns : tie.Need-returns
+returns : tie.Need-returns-then-found
 returns c = search (rules, agreed_number)
 
-returns_2 : tie.Need-returns-2
+returns_2 : tie.Need-returns
 returns_2 c = search (rules, agreed_off)
 
 pub agreed_spec : {M : Type 1} → statement M

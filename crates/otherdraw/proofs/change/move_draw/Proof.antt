@@ -6,10 +6,10 @@ use Rattle.otherdraw.proofs.change.move_draw.Tie as tie
 
 ruleset steps = (rules, posts_nonzero, o_long, moved_room, moved_none, moved_some)
 
-change_seen_requires : tie.Need-change-seen-requires
+change_seen_requires : tie.Need-change_seen-requires
 change_seen_requires c κs =
-    let f = c.before.before.before.before.before.before.before.before.before.before.change_f_lem.ensures in
-    moved_seen _ _ _ _ _ _ _ _ _ _ _ c.before.before.before.before.before.before.before.before.before.before.before.before.before.before.before.before.before.before.before.before.before.requires f.1 _ f.0
+    let f = c.change_f.ensures in
+    moved_seen _ _ _ _ _ _ _ _ _ _ _ c.requires f.1 _ f.0
 
 pub move_draw_spec : {M : Type 1} → statement M
 move_draw_spec =
