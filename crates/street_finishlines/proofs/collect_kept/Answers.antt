@@ -4,7 +4,7 @@ use Rattle.street_finishlines.proofs.Finishing.{masks_a_within, masks_b_within, 
 use Rattle.street_finishlines.proofs.collect_kept.Goals as goal
 
 pub slice_bounds-collect-end : goal.slice_bounds-collect-end
-slice_bounds-collect-end c = rows_prefix _ _ _ c.rows_end-end.ensures c.requires.0 c.requires.1
+slice_bounds-collect-end c = rows_prefix _ (c.requires.0) _ (c.requires.1) _ (c.rows_end-end.ensures)
 
 pub returns : goal.returns
 returns c =
