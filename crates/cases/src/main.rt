@@ -4,9 +4,10 @@
 
 ghost use Rattle.std.specs.Prelude.{◌≡◌, ◌≤◌, length};
 
-use libc::STDOUT_FILENO;
 use session::{Answer, Session};
 use shape::Points;
+use std::io;
+use std::io::Stdout;
 
 // A comma and the refusal, a comma and the value, a line feed; how many bytes they take.
 fn lay(out: &mut [u8], refusal: u8, value: u32) -> usize
@@ -19,18 +20,18 @@ fn lay(out: &mut [u8], refusal: u8, value: u32) -> usize
     end + 1
 }
 
-fn show(case: &[u8], refusal: u8, value: u32) {
+fn show(output: Stdout, case: &[u8], refusal: u8, value: u32) -> io::Result<()> {
     let mut out = [0u8; 32];
     let end = lay(&mut out, refusal, value);
-    io::write_all(STDOUT_FILENO, case);
-    io::write_all(STDOUT_FILENO, &out[..end]);
+    output.write_all(case)?;
+    output.write_all(&out[..end])
 }
 
 // A line read for three posts, t = 1: its first number.
-fn read_line(case: &[u8], line: &[u8]) {
+fn read_line(output: Stdout, case: &[u8], line: &[u8]) -> io::Result<()> {
     let mut numbers = [0u32; 4];
     let read = lines::read(3, 1, 1, line, &mut numbers);
-    show(case, read.refusal, numbers[0]);
+    show(output, case, read.refusal, numbers[0])
 }
 
 // A new session with one check point.
@@ -48,17 +49,17 @@ fn one_point(n: usize, t: usize, post: usize, point: u32) -> Answer {
 }
 
 // A new session for n posts and this t.
-fn begin(case: &[u8], n: usize, t: usize) {
+fn begin(output: Stdout, case: &[u8], n: usize, t: usize) -> io::Result<()> {
     let answer = one_point(n, t, 1, 2);
-    show(case, answer.refusal, answer.value);
+    show(output, case, answer.refusal, answer.value)
 }
 
 // Post 1's row loaded into this row of a new session.
-fn load_into(case: &[u8], row: usize) {
+fn load_into(output: Stdout, case: &[u8], row: usize) -> io::Result<()> {
     let mut rows = [0u32; 768];
     let session = one_point(3, 1, 1, 2).session;
     let answer = load::load_row(session, &mut rows, row, &[1, 2, 5, 5, 17, 12, 18, 24]);
-    show(case, answer.refusal, answer.value);
+    show(output, case, answer.refusal, answer.value)
 }
 
 // A post of three that holds a = 100 in row 0 and a + (p − 1) a in row 1.
@@ -70,7 +71,7 @@ fn prepared(post: usize, point: u32, rows: &mut [u32], pack: &[u32]) -> Session 
 }
 
 // Post 1 opens this row with post 2's message.
-fn open_with_two(case: &[u8], row: usize) {
+fn open_with_two(output: Stdout, case: &[u8], row: usize) -> io::Result<()> {
     let mut rows = [0u32; 768];
     let mut other = [0u32; 768];
     let mut sent = [0u32; 2];
@@ -79,17 +80,17 @@ fn open_with_two(case: &[u8], row: usize) {
     message::opening_message(second, &other, row, 1, &mut sent);
     let blocks = [0, 0, 0, 1, sent[0], sent[1], 0, 0, 0];
     let answer = opening::open(first, &rows, row, &blocks);
-    show(case, answer.refusal, answer.value);
+    show(output, case, answer.refusal, answer.value)
 }
 
 // A new session of document 02, (ix), with so many points, 2 and this one.
-fn begin_with(case: &[u8], points: usize, second: u32) {
+fn begin_with(output: Stdout, case: &[u8], points: usize, second: u32) -> io::Result<()> {
     let answer = Session::new(3, 1, 1, points, Points { first: 2, second });
-    show(case, answer.refusal, answer.value);
+    show(output, case, answer.refusal, answer.value)
 }
 
 // Post 1 of three, with the check points 2 and 4, opens 100 with what is said to be post 2's polynomial.
-fn open_with_points(case: &[u8], a: u32, b: u32, c: u32) {
+fn open_with_points(output: Stdout, case: &[u8], a: u32, b: u32, c: u32) -> io::Result<()> {
     let mut rows = [0u32; 1152];
     let pair = Points {
         first: 2,
@@ -101,15 +102,15 @@ fn open_with_points(case: &[u8], a: u32, b: u32, c: u32) {
     let dealt = deal::deal(loaded, &mut rows, 0, 93).session;
     let blocks = [0, 0, 0, 0, 1, a, b, c, 0, 0, 0, 0];
     let answer = opening::open(dealt, &rows, 0, &blocks);
-    show(case, answer.refusal, answer.value);
+    show(output, case, answer.refusal, answer.value)
 }
 
 // Post 1 opens row 0 with an empty record.
-fn open_alone(case: &[u8]) {
+fn open_alone(output: Stdout, case: &[u8]) -> io::Result<()> {
     let mut rows = [0u32; 768];
     let session = prepared(1, 2, &mut rows, &[1, 2, 5, 5, 17, 12, 18, 24]);
     let answer = opening::open(session, &rows, 0, &[0; 9]);
-    show(case, answer.refusal, answer.value);
+    show(output, case, answer.refusal, answer.value)
 }
 
 // A post of three with two raw rows, 0 and 1, and a triple from row 2 on.
@@ -185,7 +186,7 @@ fn charged(session: Session, rows: &mut [u32], record_a: &[u32], record_b: &[u32
 }
 
 // Posts 1 and 2 work out a charge, 6 rides at 7 and a fee of 8, and post 1 opens it with post 2's message.
-fn open_charge(case: &[u8]) {
+fn open_charge(output: Stdout, case: &[u8]) -> io::Result<()> {
     let mut rows = [0u32; 768];
     let mut other = [0u32; 768];
     let mut mine = [0u32; 4];
@@ -208,11 +209,11 @@ fn open_charge(case: &[u8]) {
     message::opening_message(second, &other, 5, 1, &mut sent);
     let blocks = [0, 0, 0, 1, sent[0], sent[1], 0, 0, 0];
     let answer = opening::open(first, &rows, 5, &blocks);
-    show(case, answer.refusal, answer.value);
+    show(output, case, answer.refusal, answer.value)
 }
 
 // Post 1 of three, whose row 0 an A line leaves to posts 1 and 3, makes its message for a post that calls for it.
-fn called_by(case: &[u8], caller: usize) {
+fn called_by(output: Stdout, case: &[u8], caller: usize) -> io::Result<()> {
     let mut rows = [0u32; 768];
     let mut sent = [0u32; 2];
     let new = one_point(3, 1, 1, 2).session;
@@ -220,34 +221,35 @@ fn called_by(case: &[u8], caller: usize) {
     let admitted = access::access(loaded, b"A,0,1,3\n").session;
     let dealt = deal::deal(admitted, &mut rows, 0, 93).session;
     let answer = message::opening_message(dealt, &rows, 0, caller, &mut sent);
-    show(case, answer.refusal, answer.value);
+    show(output, case, answer.refusal, answer.value)
 }
 
-fn main() {
-    io::write_all(STDOUT_FILENO, b"case,refusal,value\n");
-    read_line(b"D with 2147483646", b"D,0,2147483646\n");
-    read_line(b"D with 2147483647", b"D,0,2147483647\n");
-    begin(b"n = 255", 255, 1);
-    begin(b"n = 256", 256, 1);
-    begin(b"t = n - 1", 3, 2);
-    begin(b"t = 0", 3, 0);
-    begin(b"t = n", 3, 3);
-    open_with_two(b"a", 0);
-    open_with_two(b"a + (p - 1) a", 1);
-    load_into(b"row 95", 95);
-    load_into(b"row 96", 96);
-    open_alone(b"record empty with t = 1");
-    open_charge(b"6 x 7 + 8");
-    begin_with(b"no points", 0, 4);
-    begin_with(b"three points", 3, 4);
-    begin_with(b"second point 2147483646", 2, 2147483646);
-    begin_with(b"second point 2147483647", 2, 2147483647);
-    begin_with(b"second point not looked at", 1, 2147483647);
-    open_with_points(b"a with two points", 3, 1, 2);
-    open_with_points(b"passes the first point only", 13, 0, 0);
-    open_with_points(b"passes the second point only", 39, 0, 0);
-    called_by(b"called for by post 3", 3);
-    called_by(b"called for by post 2", 2);
-    called_by(b"called for by nobody", 0);
-    called_by(b"called for by post 4", 4);
+fn main(rt: HostRuntime) -> io::Result<()> {
+    let output = rt.stdout();
+    output.write_all(b"case,refusal,value\n")?;
+    read_line(output, b"D with 2147483646", b"D,0,2147483646\n")?;
+    read_line(output, b"D with 2147483647", b"D,0,2147483647\n")?;
+    begin(output, b"n = 255", 255, 1)?;
+    begin(output, b"n = 256", 256, 1)?;
+    begin(output, b"t = n - 1", 3, 2)?;
+    begin(output, b"t = 0", 3, 0)?;
+    begin(output, b"t = n", 3, 3)?;
+    open_with_two(output, b"a", 0)?;
+    open_with_two(output, b"a + (p - 1) a", 1)?;
+    load_into(output, b"row 95", 95)?;
+    load_into(output, b"row 96", 96)?;
+    open_alone(output, b"record empty with t = 1")?;
+    open_charge(output, b"6 x 7 + 8")?;
+    begin_with(output, b"no points", 0, 4)?;
+    begin_with(output, b"three points", 3, 4)?;
+    begin_with(output, b"second point 2147483646", 2, 2147483646)?;
+    begin_with(output, b"second point 2147483647", 2, 2147483647)?;
+    begin_with(output, b"second point not looked at", 1, 2147483647)?;
+    open_with_points(output, b"a with two points", 3, 1, 2)?;
+    open_with_points(output, b"passes the first point only", 13, 0, 0)?;
+    open_with_points(output, b"passes the second point only", 39, 0, 0)?;
+    called_by(output, b"called for by post 3", 3)?;
+    called_by(output, b"called for by post 2", 2)?;
+    called_by(output, b"called for by nobody", 0)?;
+    called_by(output, b"called for by post 4", 4)
 }

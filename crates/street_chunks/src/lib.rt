@@ -8,6 +8,7 @@ ghost use Rattle.street_chunks.specs.Sizes.{chunk_size};
 ghost use Rattle.street_chunks.specs.Stopping.{stops_at, broken_off_of};
 ghost use Rattle.street_chunks.specs.Between.{Answered};
 
+use std::io::{Read, Write};
 use street_feeds::Feed;
 use street_port::{Got, Printed};
 
@@ -30,7 +31,8 @@ pub struct Served {
 }
 
 // Takes a chunk and prints its answers.
-fn answer_chunk(
+fn answer_chunk<W: Write>(
+    output: &mut W,
     feed: Feed,
     before: Printed,
     store: &mut [u32],
@@ -49,7 +51,7 @@ fn answer_chunk(
     let taken = street_transcript::feed_chunk(feed, store, line, chunk, out);
     let fed = taken.feed;
     let at = fed.at;
-    let printed = street_port::print(before, &out[..at]);
+    let printed = street_port::print(output, before, &out[..at]);
     Answers {
         feed: street_feeds::drain(fed),
         printed,
@@ -57,7 +59,9 @@ fn answer_chunk(
 }
 
 // Reads a chunk and prints its answers. At the end of the input, and where reading fails, the chunk is empty.
-pub fn serve_chunk(
+pub fn serve_chunk<R: Read, W: Write>(
+    input: &mut R,
+    output: &mut W,
     feed: Feed,
     before: Printed,
     store: &mut [u32],
@@ -73,9 +77,9 @@ pub fn serve_chunk(
     ensures fact { Open result.feed store.new line.new out.new 0
         × (result.feed.at ≡ 0) × (result.feed.number ≤ feed.number + chunk_size) × (result.got.count ≤ length chunk.new) }
 {
-    let got = street_port::read(before, chunk);
+    let got = street_port::read(input, before, chunk);
     let n = got.count();
-    let answers = answer_chunk(feed, before, store, line, &chunk[..n], out);
+    let answers = answer_chunk(output, feed, before, store, line, &chunk[..n], out);
     let next = answers.feed;
     let printed = answers.printed;
     Served {

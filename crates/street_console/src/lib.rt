@@ -10,6 +10,7 @@ ghost use Rattle.street_serving.specs.Serving.{Ended};
 ghost use Rattle.street_serving.specs.Between.{Begun};
 ghost use Rattle.street_console.specs.Notes.{note_for};
 
+use std::io::{Read, Write};
 use street_port::Printed;
 
 // Room for the answers to a chunk: at most one for each byte.
@@ -46,7 +47,7 @@ fn answers_room() -> [u8; ANSWER_BYTES]
 }
 
 // Reads and prints after the header.
-fn serve_input(header: Printed) -> Ending
+fn serve_input<R: Read, W: Write>(input: &mut R, output: &mut W, header: Printed) -> Ending
     requires { Begun header }
     ensures { Ended result.lines result.total result.unread result.unwritten result.taken }
 {
@@ -54,7 +55,9 @@ fn serve_input(header: Printed) -> Ending
     let mut line = [0u8; street_splitting::KEPT];
     let mut chunk = [0u8; street_chunks::CHUNK];
     let mut out = answers_room();
-    let run = street_serving::serve(header, &mut store, &mut line, &mut chunk, &mut out);
+    let run = street_serving::serve(
+        input, output, header, &mut store, &mut line, &mut chunk, &mut out,
+    );
     let served = run.last;
     let feed = served.feed;
     let got = served.got;
@@ -69,12 +72,12 @@ fn serve_input(header: Printed) -> Ending
 }
 
 // Prints the header, and reads where it was taken.
-fn start() -> Ending
+fn start<R: Read, W: Write>(input: &mut R, output: &mut W) -> Ending
     ensures { Ended result.lines result.total result.unread result.unwritten result.taken }
 {
-    let header = street_port::begin();
+    let header = street_port::begin(output);
     if header.whole() {
-        return serve_input(header);
+        return serve_input(input, output, header);
     }
     Ending {
         lines: 0,
@@ -86,13 +89,13 @@ fn start() -> Ending
 }
 
 // The whole program: how it ended, and how many bytes were handed to standard error.
-pub fn run() -> Outcome
+pub fn run<R: Read, W: Write, E: Write>(input: &mut R, output: &mut W, errors: &mut E) -> Outcome
     ensures { Ended result.ending.lines result.ending.total result.ending.unread result.ending.unwritten result.ending.taken
         × (result.noted ≡ length (note_for result.ending.unread result.ending.unwritten)) }
 {
-    let ending = start();
+    let ending = start(input, output);
     Outcome {
         ending,
-        noted: notes::say(ending.unread, ending.unwritten),
+        noted: notes::say(errors, ending.unread, ending.unwritten),
     }
 }

@@ -7,6 +7,7 @@ ghost use Rattle.street_feeds.specs.Between.{Open};
 ghost use Rattle.street_serving.specs.Serving.{Ended};
 ghost use Rattle.street_serving.specs.Between.{Fresh, Begun, Stopped, Finished};
 
+use std::io::{Read, Write};
 use street_chunks::Served;
 use street_port::Printed;
 
@@ -21,7 +22,9 @@ pub struct Run {
 const TURNS: u64 = 1 << 51;
 
 // Reads to the end of the input, or until reading or printing fails.
-fn serve_chunks(
+fn serve_chunks<R: Read, W: Write>(
+    input: &mut R,
+    output: &mut W,
     header: Printed,
     store: &mut [u32],
     line: &mut [u8],
@@ -36,7 +39,9 @@ fn serve_chunks(
     let mut printed = header;
     let mut turns = TURNS;
     loop {
-        let served = street_chunks::serve_chunk(feed, printed, store, line, chunk, out);
+        let served = street_chunks::serve_chunk(
+            input, output, feed, printed, store, line, chunk, out,
+        );
         turns -= 1;
         if turns == 0 {
             return served;
@@ -51,7 +56,13 @@ fn serve_chunks(
 
 // The end of the input ends a line that was begun. Where reading failed nothing is known of the line's end, and where printing
 // failed nothing more is printed.
-fn finish(served: Served, store: &mut [u32], line: &mut [u8], out: &mut [u8]) -> Served
+fn finish<W: Write>(
+    output: &mut W,
+    served: Served,
+    store: &mut [u32],
+    line: &mut [u8],
+    out: &mut [u8],
+) -> Served
     requires { Open served.feed store.old line.old out.old 1 }
     ensures { Finished
         (running served.feed store.old line.old out.old)
@@ -66,7 +77,7 @@ fn finish(served: Served, store: &mut [u32], line: &mut [u8], out: &mut [u8]) ->
     let taken = street_transcript::end_input(served.feed, store, line, out);
     let ended = taken.feed;
     let at = ended.at;
-    let last = street_port::print(printed, &out[..at]);
+    let last = street_port::print(output, printed, &out[..at]);
     Served {
         feed: ended,
         got,
@@ -75,7 +86,9 @@ fn finish(served: Served, store: &mut [u32], line: &mut [u8], out: &mut [u8]) ->
 }
 
 // Reads the input and prints the answers.
-pub fn serve(
+pub fn serve<R: Read, W: Write>(
+    input: &mut R,
+    output: &mut W,
     header: Printed,
     store: &mut [u32],
     line: &mut [u8],
@@ -86,9 +99,9 @@ pub fn serve(
     ensures { Ended result.last.feed.number result.last.printed.total result.last.got.failed
         (not result.last.printed.whole) result.taken }
 {
-    let served = serve_chunks(header, store, line, chunk, out);
+    let served = serve_chunks(input, output, header, store, line, chunk, out);
     let printed = served.printed;
     let taken = printed.whole();
-    let last = finish(served, store, line, out);
+    let last = finish(output, served, store, line, out);
     Run { last, taken }
 }

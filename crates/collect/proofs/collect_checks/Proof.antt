@@ -4,11 +4,11 @@ use Rattle.collect.proofs.Finishing.{checks_stopped, collect_valid, checks_mispl
 use Rattle.collect.proofs.collect_checks.Statement.{statement}
 use Rattle.collect.proofs.collect_checks.Tie as tie
 
-collect_own_requires : tie.Need-collect-own-requires
+collect_own_requires : tie.Need-collect_own-requires
 collect_own_requires c κs =
-    let a = c.before.before.before.before.before.args in
-    collect_placed a.session a.rows.now a.row a.record-a.now a.record-b.now _ c.before.frame.ensures c.if1.false _
-    c.before.collect-place.ensures c.if2.false
+    let a = c.args in
+    collect_placed a.session a.rows.now a.row a.record_a.now a.record_b.now _ c.frame-frame.ensures c.if-frame-ne0.false _
+    c.collect_place-place.ensures c.if-place-ne0.false
 
 pub collect_checks_spec : {M : Type 1} → statement M
 collect_checks_spec =

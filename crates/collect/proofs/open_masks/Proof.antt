@@ -5,10 +5,10 @@ use Rattle.collect.proofs.Opens.{masks_unopened, masks_opened_is}
 use Rattle.collect.proofs.open_masks.Statement.{statement}
 use Rattle.collect.proofs.open_masks.Tie as tie
 
-open_both_requires : tie.Need-open-both-requires
+open_both_requires : tie.Need-open_both-requires
 open_both_requires c κs =
-    let a = c.before.before.before.before.before.args in
-    checks_allowed a.session a.rows.now a.first a.record-a.now a.record-b.now _ c.before.collect-checks.ensures c.if1.false
+    let a = c.args in
+    checks_allowed a.session a.rows.now a.first a.record_a.now a.record_b.now _ c.collect_checks-refusal.ensures c.if-refusal-ne0.false
 
 pub open_masks_spec : {M : Type 1} → statement M
 open_masks_spec =

@@ -4,12 +4,12 @@ use Rattle.multiply.proofs.Multiplying.{multiply_stopped, multiply_misplaced, mu
 use Rattle.multiply.proofs.multiply_refusal.Statement.{statement}
 use Rattle.multiply.proofs.multiply_refusal.Tie as tie
 
-multiply_own_requires : tie.Need-multiply-own-requires
+multiply_own_requires : tie.Need-multiply_own-requires
 multiply_own_requires c κs =
-    let a = c.before.before.before.args in
-    let placed = multiply_placed a.session a.rows.now a.first _ c.before.frame.ensures c.if1.false _ c.before.triple.ensures
-    c.if2.false in
-    (placed.0, placed.1, c.before.before.before.requires.0, c.before.before.before.requires.1)
+    let a = c.args in
+    let placed = multiply_placed a.session a.rows.now a.first _ c.frame-frame.ensures c.if-frame-ne0.false _ c.triple-place.ensures
+    c.if-place-ne0.false in
+    (placed.0, placed.1, c.requires.0, c.requires.1)
 
 pub multiply_refusal_spec : {M : Type 1} → statement M
 multiply_refusal_spec =

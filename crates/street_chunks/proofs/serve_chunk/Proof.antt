@@ -18,12 +18,11 @@ requires c κs =
     (c.requires.0, search (ends, room), c.requires.2)
 
 returns : tie.Need-returns
-returns c =
-    (
-      answered_read _ _ c.count.result c.read.result.count c.read.new.1.0 _ _ _ c.count.ensures
-          c.answer-chunk.ensures.0,
-      search (ends, c.answer-chunk.ensures, c.read.ensures),
-    )
+returns c = (
+  answered_read _ _ c.count.result c.read.result.count c.read.new.1.0 _ _ _ c.count.ensures
+      c.answer-chunk.ensures.0,
+  search (ends, c.answer-chunk.ensures, c.read.ensures),
+)
 
 pub serve_chunk_spec : {M : Type 1} → statement M
 serve_chunk_spec =

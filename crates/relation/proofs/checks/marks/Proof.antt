@@ -12,20 +12,20 @@ use Rattle.relation.proofs.Sorts.{mark_numbered}
 use Rattle.relation.proofs.checks.marks.Statement.{statement}
 use Rattle.relation.proofs.checks.marks.Tie as tie
 
-abbrev invariant-loop : tie.invariant-loop
-invariant-loop session need all refusal₀ i₀ i-end refusal i =
+abbrev invariant-loop-i : tie.invariant-loop-i
+invariant-loop-i session need all refusal₀ i₀ i-end refusal i =
     (i ≤ all.count) × SoFar (λ k. mark_tests session need) all.list all.count refusal i
 
-abbrev decreases-loop : tie.decreases-loop
-decreases-loop session need all refusal₀ i₀ i-end refusal i = all.count - i
+abbrev decreases-loop-i : tie.decreases-loop-i
+decreases-loop-i session need all refusal₀ i₀ i-end refusal i = all.count - i
 
-mark_requires : tie.Need-mark-requires invariant-loop decreases-loop
+mark_requires : tie.Need-mark-requires invariant-loop-i decreases-loop-i
 mark_requires c κs =
     let k : length c.args.t2.list ≡ most_terms = simp length-map at c.well_formed.1.0.1.1.1.1.0.1.0.1 in
     let m : c.args.t2.count ≤ length c.args.t2.list = omega (arith, c.requires.0.terms_in) in
-    every_at (Placed (shape_of c.args.session)) c.args.t2.list c.args.t2.count c.before.before.loop.i (search rules) m c.requires.1
+    every_at (Placed (shape_of c.args.session)) c.args.t2.list c.args.t2.count c.loop-i.i (search rules) m c.requires.1
 
-loop_again : tie.Need-loop-preserved invariant-loop decreases-loop
+loop_again : tie.Need-loop-i-preserved invariant-loop-i decreases-loop-i
 loop_again c =
     let k : length c.args.t2.list ≡ most_terms = simp length-map at c.well_formed.1.0.1.1.1.1.0.1.0.1 in
     let m : c.args.t2.count ≤ length c.args.t2.list = omega (arith, c.requires.0.terms_in) in
@@ -34,5 +34,5 @@ loop_again c =
 pub marks_spec : {M : Type 1} → statement M
 marks_spec =
     tie.close
-    (tie.spec invariant-loop decreases-loop (λ c. (omega arith, refl)) (λ c. search rules) (λ c. omega (arith, c.before.before.requires.0.terms_in))
+    (tie.spec invariant-loop-i decreases-loop-i (λ c. (omega arith, refl)) (λ c. search rules) (λ c. omega (arith, c.requires.0.terms_in))
     mark_requires (λ c κs. search rules) (λ c. search rules) (λ c. search rules) loop_again (λ c. search (rules, all_asked)))

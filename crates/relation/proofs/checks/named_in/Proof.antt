@@ -11,30 +11,30 @@ use Rattle.relation.proofs.Naming.{named_here, named_on, named_out}
 use Rattle.relation.proofs.checks.named_in.Statement.{statement}
 use Rattle.relation.proofs.checks.named_in.Tie as tie
 
-abbrev invariant-loop : tie.invariant-loop
-invariant-loop row from all i₀ i = named_in row (drop i (factors_of all)) ≡ named_in row (drop from (factors_of all))
+abbrev invariant-loop-i : tie.invariant-loop-i
+invariant-loop-i row from all i₀ i = named_in row (drop i (factors_of all)) ≡ named_in row (drop from (factors_of all))
 
-abbrev decreases-loop : tie.decreases-loop
-decreases-loop row from all i₀ i = all.products - i
+abbrev decreases-loop-i : tie.decreases-loop-i
+decreases-loop-i row from all i₀ i = all.products - i
 
-returns : tie.Need-returns invariant-loop decreases-loop
+returns : tie.Need-returns-then-term-row invariant-loop-i decreases-loop-i
 returns c =
     let k : length c.args.t1.factors ≡ most_terms = simp length-map at c.well_formed.0.1.1.1.1.1.0.1.0.1 in
     let m : c.args.t1.products ≤ length c.args.t1.factors = omega (arith, c.requires.products_in) in
     search (rules, named_here)
 
-loop_again : tie.Need-loop-preserved invariant-loop decreases-loop
+loop_again : tie.Need-loop-i-preserved invariant-loop-i decreases-loop-i
 loop_again c =
     let k : length c.args.t1.factors ≡ most_terms = simp length-map at c.well_formed.0.1.1.1.1.1.0.1.0.1 in
     let m : c.args.t1.products ≤ length c.args.t1.factors = omega (arith, c.requires.products_in) in
     search (rules, named_on)
 
-add_i : tie.Need-overflow-add-i invariant-loop decreases-loop
+add_i : tie.Need-overflow_add-i invariant-loop-i decreases-loop-i
 add_i c =
     record { fits = omega (arith, c.requires.products_in) }
 
 pub named_in_spec : {M : Type 1} → statement M
 named_in_spec =
     tie.close
-    (tie.spec invariant-loop decreases-loop (λ c. search rules) (λ c. search rules) (λ c. omega (arith, c.before.before.requires.products_in)) returns
+    (tie.spec invariant-loop-i decreases-loop-i (λ c. search rules) (λ c. search rules) (λ c. omega (arith, c.requires.products_in)) returns
     add_i (λ c. search rules) loop_again (λ c. search (rules, named_out)))

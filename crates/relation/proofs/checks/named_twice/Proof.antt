@@ -11,19 +11,19 @@ use Rattle.relation.proofs.Naming.{twice_here, twice_on, twice_out}
 use Rattle.relation.proofs.checks.named_twice.Statement.{statement}
 use Rattle.relation.proofs.checks.named_twice.Tie as tie
 
-abbrev invariant-loop : tie.invariant-loop
-invariant-loop all i₀ i = named_twice_of (drop i (factors_of all)) ≡ named_twice_of (factors_of all)
+abbrev invariant-loop-i : tie.invariant-loop-i
+invariant-loop-i all i₀ i = named_twice_of (drop i (factors_of all)) ≡ named_twice_of (factors_of all)
 
-abbrev decreases-loop : tie.decreases-loop
-decreases-loop all i₀ i = all.products - i
+abbrev decreases-loop-i : tie.decreases-loop-i
+decreases-loop-i all i₀ i = all.products - i
 
-returns : tie.Need-returns invariant-loop decreases-loop
+returns : tie.Need-returns-then-named_in invariant-loop-i decreases-loop-i
 returns c =
     let k : length c.args.t1.factors ≡ most_terms = simp length-map at c.well_formed.0.1.1.1.1.1.0.1.0.1 in
     let m : c.args.t1.products ≤ length c.args.t1.factors = omega (arith, c.requires.products_in) in
     search (rules, twice_here)
 
-loop_again : tie.Need-loop-preserved invariant-loop decreases-loop
+loop_again : tie.Need-loop-i-preserved invariant-loop-i decreases-loop-i
 loop_again c =
     let k : length c.args.t1.factors ≡ most_terms = simp length-map at c.well_formed.0.1.1.1.1.1.0.1.0.1 in
     let m : c.args.t1.products ≤ length c.args.t1.factors = omega (arith, c.requires.products_in) in
@@ -32,5 +32,5 @@ loop_again c =
 pub named_twice_spec : {M : Type 1} → statement M
 named_twice_spec =
     tie.close
-    (tie.spec invariant-loop decreases-loop (λ c. refl) (λ c. search rules) (λ c. omega (arith, c.before.before.requires.products_in)) (λ c. search rules)
+    (tie.spec invariant-loop-i decreases-loop-i (λ c. refl) (λ c. search rules) (λ c. omega (arith, c.requires.products_in)) (λ c. search rules)
     (λ c κs. search rules) returns (λ c. search rules) loop_again (λ c. search (rules, twice_out)))

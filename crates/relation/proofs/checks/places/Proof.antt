@@ -11,13 +11,13 @@ use Rattle.relation.proofs.Sorts.{place_numbered}
 use Rattle.relation.proofs.checks.places.Statement.{statement}
 use Rattle.relation.proofs.checks.places.Tie as tie
 
-abbrev invariant-loop : tie.invariant-loop
-invariant-loop all refusal₀ i₀ i-end refusal i = (i ≤ all.count) × SoFar (λ k. place_tests) all.list all.count refusal i
+abbrev invariant-loop-i : tie.invariant-loop-i
+invariant-loop-i all refusal₀ i₀ i-end refusal i = (i ≤ all.count) × SoFar (λ k. place_tests) all.list all.count refusal i
 
-abbrev decreases-loop : tie.decreases-loop
-decreases-loop all refusal₀ i₀ i-end refusal i = all.count - i
+abbrev decreases-loop-i : tie.decreases-loop-i
+decreases-loop-i all refusal₀ i₀ i-end refusal i = all.count - i
 
-loop_again : tie.Need-loop-preserved invariant-loop decreases-loop
+loop_again : tie.Need-loop-i-preserved invariant-loop-i decreases-loop-i
 loop_again c =
     let k : length c.args.t1.list ≡ most_terms = simp length-map at c.well_formed.0.1.1.1.1.0.1.0.1 in
     let m : c.args.t1.count ≤ length c.args.t1.list = omega (arith, c.requires.terms_in) in
@@ -26,5 +26,5 @@ loop_again c =
 pub places_spec : {M : Type 1} → statement M
 places_spec =
     tie.close
-    (tie.spec invariant-loop decreases-loop (λ c. (omega arith, refl)) (λ c. search rules) (λ c. omega (arith, c.before.before.requires.terms_in))
+    (tie.spec invariant-loop-i decreases-loop-i (λ c. (omega arith, refl)) (λ c. search rules) (λ c. omega (arith, c.requires.terms_in))
     (λ c κs. search rules) (λ c κs. search rules) (λ c. search rules) (λ c. search rules) loop_again (λ c. search (rules, all_asked)))
