@@ -192,8 +192,13 @@ def fragment(text, old, new, line, piece):
 
 def joined(lines):
     """Lines of code as one."""
-    text = lines[0].rstrip() + "".join(" " + l.strip() for l in lines[1:])
+    text = lines[0].rstrip() + "".join(" " + l.strip() for l in lines[1:] if l.strip())
     return re.sub(r",(?= \})", "", re.sub(r",? \)", ")", re.sub(r"\( ", "(", text))) if len(lines) > 1 else text
+
+
+def squeezed(path, text):
+    """Code without what the layout adds; other files stay."""
+    return re.sub(r",([)}\]])", r"\1", re.sub(r"\s+", "", text)) if path.endswith(".rt") else text
 
 
 def balance(text):
@@ -234,29 +239,39 @@ def main():
                 mine[near[1:]].append((i1, i2, j1, j2))
             for k, name, j in stand:
                 file, old, new = parse(edits[name])[j]
-                if is_use(landed[k]) and is_use(new if new.strip() else old) or landed[k].startswith("--") and is_use(new):
-                    continue
                 got = mine.get((name, j))
+                if not got and (is_use(landed[k]) or landed[k].startswith("--") and is_use(new)):
+                    continue
                 if not got and any(i1 <= at[k] < i2 or i1 <= at[k] + 1 < i2 for m, hs in mine.items() if m[0] == name for i1, i2, _, _ in hs):
                     continue
                 if not got:
                     left[name].append(f"pair {j} left no trace: {new.strip()[:60]}")
                     continue
                 for i1, i2, j1, j2 in got:
+                    if i1 == i2 and there.endswith(".rt"):
+                        # Lines that are only put in go to the line where the edit stood.
+                        if at[k] < i1:
+                            i1, j1 = i1 - 1, j1 - 1
+                        else:
+                            i2, j2 = i2 + 1, j2 + 1
                     made.setdefault(name, []).append((j, file, there, a[i1:i2], c[j1:j2], (at[k] - i1, landed[k], old)))
             had, has, today_has = imports(a), imports(c), imports(now.split("\n"))
             for name in {n for _, n, _ in stand}:
                 words = set()
                 for _, _, p, _, c_lines, _ in made.get(name, []):
                     if p == there:
-                        words |= {w for l in c_lines for w in re.findall(r"[^\s(){}.;,@\"«»\[\]\\|`]+", l)}
+                        words |= {w for l in c_lines if not is_use(l) for w in re.findall(r"[^\s(){}.;,@\"«»\[\]\\|`]+", l)}
                 need = []
+                given = imports([l for _, _, p, _, c_lines, _ in made.get(name, []) if p == there for l in c_lines if is_use(l)])
                 for w, line in has.items():
+                    if w in given:
+                        continue
                     op = re.fullmatch(r"◌(.+)◌", w)
                     if w not in today_has and (w in words or op and op.group(1) in words):
                         need.append((w, line))
                 if need:
-                    made.setdefault(name, []).append((-1, path[len("/".join(path.split("/")[:2])) + 1 :], there, need, None, False))
+                    swaps = {c[j1]: a[i1] for i1, i2, j1, j2 in hunks if i2 - i1 == j2 - j1 == 1 and is_use(a[i1]) and is_use(c[j1])}
+                    made.setdefault(name, []).append((-1, path[len("/".join(path.split("/")[:2])) + 1 :], there, need, [], swaps))
     done = kept = 0
     for name in sorted(edits):
         base = "/".join(today(name).split("/")[:2])
@@ -266,8 +281,25 @@ def main():
         comment = stood.split("\n")[0]
         if left.get(name):
             continue
-        pairs, here = [], {}
-        for j, file, path, a, c, whole in sorted(made.get(name, []), key=lambda m: (m[0] != -1, m[0], str(m[3]))):
+        pairs, here, aim = [], {}, {}
+        order = [file for file, _, _ in parse(edits[name])]
+        for j, file, path, a, c, whole in made.get(name, []):
+            text = aim.setdefault(path, read(path))
+            if j != -1 and text.count("\n".join([""] + a + [""])) == 1:
+                aim[path] = text.replace("\n".join([""] + a + [""]), "\n".join([""] + c + [""]))
+            else:
+                aim = None
+                break
+        same = {}
+        for file, o, n in parse(stood):
+            path = base + "/" + file
+            text = same.setdefault(path, read(path))
+            same[path] = text.replace(o, n) if text is not None and text.count(o) == 1 else ""
+        if aim and {p: squeezed(p, t) for p, t in same.items()} == {p: squeezed(p, t) for p, t in aim.items()}:
+            write(today(name), stood)
+            kept += 1
+            continue
+        for j, file, path, a, c, whole in sorted(made.get(name, []), key=lambda m: (order.index(m[1]), m[0])):
             text = here.setdefault(path, read(path))
             if j == -1:
                 for w, line in a:
@@ -275,12 +307,15 @@ def main():
                     m = [l for l in text.split("\n") if is_use(l) and f"use {from_}{{" in l and l.rstrip().endswith(("}", "};"))]
                     if m:
                         o, n = m[0], m[0].replace("{", "{" + w + ", ", 1)
-                        same = next((p for p in pairs if p[0] == file and p[2] == o), None)
+                        line_before = next((p for p in pairs if p[0] == file and p[2] == o), None)
                         here[path] = text = text.replace(o, n)
-                        if same:
-                            same[2] = n
+                        if line_before:
+                            line_before[2] = n
                         else:
                             pairs.append([file, o, n])
+                    elif line in whole and whole[line] in text.split("\n"):
+                        pairs.append([file, whole[line], line])
+                        here[path] = text = text.replace(whole[line], line)
                     else:
                         left[name].append(f"no line to import {w} from {from_}")
                 continue
@@ -313,11 +348,6 @@ def main():
             left[name].append("nothing differs")
         if left.get(name):
             continue
-        same = {}
-        for file, o, n in parse(stood):
-            path = base + "/" + file
-            text = same.setdefault(path, read(path))
-            same[path] = text.replace(o, n) if text is not None and text.count(o) == 1 else ""
         if {p: t for p, t in same.items() if t != read(p)} == {p: t for p, t in here.items() if t != read(p)}:
             write(today(name), stood)
             kept += 1
