@@ -18,6 +18,7 @@ numbered k (zero when b ∷ ts) o = let h = o.1 in absurd (omega arith)
 numbered k (suc j when b ∷ ts) o = numbered (rank (suc j)) ts o.2
 
 at_least : (k j : ℕ) (ts : List Test) → Ranked k ts → Applies j ts → k ≤ rank j
+at_least k j [] o x = elim x [ ]
 at_least k j (_ when true ∷ ts) o here = o.0
 at_least k j (i when b ∷ ts) o (later a) = le_trans o.0 (at_least (rank i) j ts o.2 a)
 
@@ -27,6 +28,7 @@ applies k (j when true ∷ ts) o h = here
 applies k (j when false ∷ ts) o h = later (applies (rank j) ts o.2 h)
 
 least : (k : ℕ) (ts : List Test) → Ranked k ts → (j : ℕ) → Applies j ts → (0 < first ts) × (rank (first ts) ≤ rank j)
+least k [] o j x = elim x [ ]
 least k (_ when true ∷ ts) o j here = (o.1, le_refl (rank j))
 least k (i when true ∷ ts) o j (later a) = (o.1, at_least (rank i) j ts o.2 a)
 least k (i when false ∷ ts) o j (later a) = least (rank i) ts o.2 j a

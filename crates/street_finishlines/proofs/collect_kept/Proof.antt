@@ -10,7 +10,7 @@ ruleset ends = (rules, rows_in, rows_prefix, street_shape, masks_a_within, masks
 -- what the calls ensured lies too deep for `search` to find
 returns : tie.Need-returns
 returns c =
-    collected_kept _ _ _ _ _ _ _ c.before.before.before.args.same _ c.shape.ensures c.rows_end.ensures c.record.ensures c.record2.ensures c.collect.ensures
+    collected_kept _ _ _ _ _ _ _ c.args.same _ c.shape-shape.ensures c.rows_end-end.ensures c.record-record_a.ensures c.record-record_b.ensures c.collect.ensures
 
 pub collect_kept_spec : {M : Type 1} → statement M
 collect_kept_spec =

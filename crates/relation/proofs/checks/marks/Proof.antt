@@ -21,14 +21,14 @@ decreases-loop-i session need all refusal₀ i₀ i-end refusal i = all.count - 
 
 mark_requires : tie.Need-mark-requires invariant-loop-i decreases-loop-i
 mark_requires c κs =
-    let k : length c.args.t2.list ≡ most_terms = simp length-map at c.well_formed.1.0.1.1.1.1.0.1.0.1 in
-    let m : c.args.t2.count ≤ length c.args.t2.list = omega (arith, c.requires.0.terms_in) in
-    every_at (Placed (shape_of c.args.session)) c.args.t2.list c.args.t2.count c.loop-i.i (search rules) m c.requires.1
+    let k : length c.args.all.list ≡ most_terms = search rules in
+    let m : c.args.all.count ≤ length c.args.all.list = omega (arith, c.requires.0.terms_in) in
+    every_at (Placed (shape_of c.args.session)) c.args.all.list c.args.all.count c.loop-i.i (search rules) m c.requires.1
 
 loop_again : tie.Need-loop-i-preserved invariant-loop-i decreases-loop-i
 loop_again c =
-    let k : length c.args.t2.list ≡ most_terms = simp length-map at c.well_formed.1.0.1.1.1.1.0.1.0.1 in
-    let m : c.args.t2.count ≤ length c.args.t2.list = omega (arith, c.requires.0.terms_in) in
+    let k : length c.args.all.list ≡ most_terms = search rules in
+    let m : c.args.all.count ≤ length c.args.all.list = omega (arith, c.requires.0.terms_in) in
     (omega arith, search (rules, asked, mark_numbered))
 
 pub marks_spec : {M : Type 1} → statement M

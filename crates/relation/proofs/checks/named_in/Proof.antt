@@ -19,14 +19,14 @@ decreases-loop-i row from all i₀ i = all.products - i
 
 returns : tie.Need-returns-then-term-row invariant-loop-i decreases-loop-i
 returns c =
-    let k : length c.args.t1.factors ≡ most_terms = simp length-map at c.well_formed.0.1.1.1.1.1.0.1.0.1 in
-    let m : c.args.t1.products ≤ length c.args.t1.factors = omega (arith, c.requires.products_in) in
+    let k : length c.args.all.factors ≡ most_terms = search rules in
+    let m : c.args.all.products ≤ length c.args.all.factors = omega (arith, c.requires.products_in) in
     search (rules, named_here)
 
 loop_again : tie.Need-loop-i-preserved invariant-loop-i decreases-loop-i
 loop_again c =
-    let k : length c.args.t1.factors ≡ most_terms = simp length-map at c.well_formed.0.1.1.1.1.1.0.1.0.1 in
-    let m : c.args.t1.products ≤ length c.args.t1.factors = omega (arith, c.requires.products_in) in
+    let k : length c.args.all.factors ≡ most_terms = search rules in
+    let m : c.args.all.products ≤ length c.args.all.factors = omega (arith, c.requires.products_in) in
     search (rules, named_on)
 
 add_i : tie.Need-overflow_add-i invariant-loop-i decreases-loop-i

@@ -19,8 +19,8 @@ decreases-loop-i all refusal₀ i₀ i-end refusal i = all.count - i
 
 loop_again : tie.Need-loop-i-preserved invariant-loop-i decreases-loop-i
 loop_again c =
-    let k : length c.args.t1.list ≡ most_terms = simp length-map at c.well_formed.0.1.1.1.1.0.1.0.1 in
-    let m : c.args.t1.count ≤ length c.args.t1.list = omega (arith, c.requires.terms_in) in
+    let k : length c.args.all.list ≡ most_terms = search rules in
+    let m : c.args.all.count ≤ length c.args.all.list = omega (arith, c.requires.terms_in) in
     (omega arith, search (rules, asked, place_numbered))
 
 pub places_spec : {M : Type 1} → statement M
