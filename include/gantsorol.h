@@ -1,9 +1,9 @@
 /*
  * Gantsorol: verifiable secret sharing for dock posts.
  *
- * For x86-64 only, by the rules of System V. The library is libgantsorol.a: `rt staticlib gantsorol` makes it, `./install`
- * puts it in place. It needs no initialisation, allocates nothing, keeps nothing between calls and takes nothing but memcpy
- * and memset. docs/INTEGRATING.md goes from an empty folder to a post.
+ * For x86-64 only, of level v2 (SSE4.2), by the rules of System V. The library is libgantsorol.a: `rt lib` makes it in
+ * crates/gantsorol, `./install` puts it in place. It needs no initialisation, allocates nothing, keeps nothing between calls
+ * and takes nothing but memcpy and memset. docs/INTEGRATING.md goes from an empty folder to a post.
  *
  * Any values are allowed. Every call, whatever it is given, does its one job or answers with a refusal, the number of
  * the first condition of gantsorol_refusal_text that applies; 0 means none. A refused call changes no list and no

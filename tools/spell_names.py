@@ -24,7 +24,7 @@ USE = re.compile(r"^\s*(?:pub )?(?:ghost )?use\s+([^\s{;]+?)\.?(?:\{([^}]*)\}|\s
 OLD = "csv"
 NEW = "csv_fields"
 # Where two names would fall together, or a name would meet one that stands already.
-CHOSEN = {"lastRow": "last_row_at", "valueAt-zero": "value_at_zero_of", "value-at-zero": "value_at_zero"}
+CHOSEN = {"masksAAt": "masks_a_at", "masksBAt": "masks_b_at", "lastRow": "last_row_at", "valueAt-zero": "value_at_zero_of", "value-at-zero": "value_at_zero"}
 
 
 def files(ends):

@@ -1,12 +1,12 @@
-//! Links the static library that `rt staticlib gantsorol` writes.
+//! Links the static library that `rt lib` writes in `crates/gantsorol`.
 //!
-//! `GANTSOROL_LIB` names the archive; without it the one in the repository's `target/` is taken.
+//! `GANTSOROL_LIB` names the archive; without it the one that `rt lib` wrote in this repository is taken.
 
 use std::env;
 use std::path::{Path, PathBuf};
 use std::process::exit;
 
-const BUILT: &str = "../../target/staticlib/libgantsorol.a";
+const BUILT: &str = "../../crates/gantsorol/out/libgantsorol.a";
 
 fn main() {
     println!("cargo:rerun-if-env-changed=GANTSOROL_LIB");
@@ -29,7 +29,7 @@ fn main() {
 
 fn missing(archive: &Path, why: &str) -> ! {
     eprintln!("error: the library cannot be linked: {}: {why}", archive.display());
-    eprintln!("Build it with `rt staticlib gantsorol` in the repository's root,");
+    eprintln!("Build it with `rt lib` in the repository's folder crates/gantsorol,");
     eprintln!("or set GANTSOROL_LIB to the path of libgantsorol.a.");
     exit(1)
 }

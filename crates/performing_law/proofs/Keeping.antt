@@ -24,7 +24,7 @@ use Rattle.session.specs.Sessions.{shape_of}
 use Rattle.session.proofs.RowLaws.{length_with_row}
 use Rattle.records.specs.Records.{put_tests, put_refusal_of, put_record, with_block, block_of}
 use Rattle.factory.proofs.Laws.{elements_pass}
-use Rattle.street_store.specs.Sizes.{openings_at, masks_aat, masks_bat, store_room, record_room, InStreet, longest_line}
+use Rattle.street_store.specs.Sizes.{openings_at, masks_a_at, masks_b_at, store_room, record_room, InStreet, longest_line}
 use Rattle.street_store.specs.Records.{record_at, record_if, kept, record_for}
 use Rattle.street_store.proofs.Keeping.{v_room, row_room, record_room_is}
 use Rattle.street_states.specs.declared.State.{State}
@@ -151,7 +151,7 @@ module _ (st : State) (i : InStreet (shape_of st.session)) where
       OpeningDone a =
           (a.given ≡ refusing (keeping_row st row) 0)
           × Stored st store (put_record n st.session.t st.session.points (record_for openings_at (shape_of st.session) st.kept row store) post xs)
-          (record_at masks_aat (shape_of st.session) store) (record_at masks_bat (shape_of st.session) store) a
+          (record_at masks_a_at (shape_of st.session) store) (record_at masks_b_at (shape_of st.session) store) a
 
       opening_kept : OpeningDone (keep_step st store row post xs)
       unfolding keep_step
@@ -161,8 +161,8 @@ module _ (st : State) (i : InStreet (shape_of st.session)) where
             record {
               rows = kept_before store room openings_at (omega arith) same post low high xs long elements 0 (rows_length (shape_of st.session)) rows_in;
               openings_are = kept_here store room openings_at (omega arith) same post low high xs long elements;
-              masks_a_are = kept_after store room openings_at (omega arith) same post low high xs long elements masks_aat size (omega arith);
-              masks_b_are = kept_after store room openings_at (omega arith) same post low high xs long elements masks_bat size (omega arith);
+              masks_a_are = kept_after store room openings_at (omega arith) same post low high xs long elements masks_a_at size (omega arith);
+              masks_b_are = kept_after store room openings_at (omega arith) same post low high xs long elements masks_b_at size (omega arith);
             },
           )
 
@@ -205,18 +205,18 @@ module _ (st : State) (i : InStreet (shape_of st.session)) where
       MasksDone a =
           (a.given ≡ refusing (keeping_triple st first) 0)
           × Stored st store (record_at openings_at (shape_of st.session) store)
-          (put_record n st.session.t st.session.points (record_for masks_aat (shape_of st.session) st.triple first store) post xs)
-          (put_record n st.session.t st.session.points (record_for masks_bat (shape_of st.session) st.triple first store) post ys) a
+          (put_record n st.session.t st.session.points (record_for masks_a_at (shape_of st.session) st.triple first store) post xs)
+          (put_record n st.session.t st.session.points (record_for masks_b_at (shape_of st.session) st.triple first store) post ys) a
 
       abbrev same : Bool
       same = eqb st.triple first
 
       -- the store with the first half
       abbrev half : List ℕ
-      half = kept masks_aat (shape_of st.session) same post xs store
+      half = kept masks_a_at (shape_of st.session) same post xs store
 
       half_room : length half ≡ store_room
-      half_room = kept_length_is store room masks_aat (omega arith) same post low high xs long elements
+      half_room = kept_length_is store room masks_a_at (omega arith) same post low high xs long elements
 
       masks_kept : MasksDone (keep_masks_step st store first post xs ys)
       unfolding keep_masks_step
@@ -225,18 +225,18 @@ module _ (st : State) (i : InStreet (shape_of st.session)) where
             refl,
             record {
               rows =
-                  kept_before half half_room masks_bat (omega arith) same post low high ys long' elements' 0 all (omega (arith, rows_in))
-                  ∙ kept_before store room masks_aat (omega arith) same post low high xs long elements 0 all (omega (arith, rows_in));
+                  kept_before half half_room masks_b_at (omega arith) same post low high ys long' elements' 0 all (omega (arith, rows_in))
+                  ∙ kept_before store room masks_a_at (omega arith) same post low high xs long elements 0 all (omega (arith, rows_in));
               openings_are =
-                  kept_before half half_room masks_bat (omega arith) same post low high ys long' elements' openings_at size (omega (arith, fits))
-                  ∙ kept_before store room masks_aat (omega arith) same post low high xs long elements openings_at size (omega (arith, fits));
+                  kept_before half half_room masks_b_at (omega arith) same post low high ys long' elements' openings_at size (omega (arith, fits))
+                  ∙ kept_before store room masks_a_at (omega arith) same post low high xs long elements openings_at size (omega (arith, fits));
               masks_a_are =
-                  kept_before half half_room masks_bat (omega arith) same post low high ys long' elements' masks_aat size (omega (arith, fits))
-                  ∙ kept_here store room masks_aat (omega arith) same post low high xs long elements;
+                  kept_before half half_room masks_b_at (omega arith) same post low high ys long' elements' masks_a_at size (omega (arith, fits))
+                  ∙ kept_here store room masks_a_at (omega arith) same post low high xs long elements;
               masks_b_are =
-                  kept_here half half_room masks_bat (omega arith) same post low high ys long' elements'
+                  kept_here half half_room masks_b_at (omega arith) same post low high ys long' elements'
                   ∙ ap (λ (l : List ℕ). put_record n st.session.t st.session.points (record_if same l) post ys)
-                  (kept_after store room masks_aat (omega arith) same post low high xs long elements masks_bat size (omega arith));
+                  (kept_after store room masks_a_at (omega arith) same post low high xs long elements masks_b_at size (omega arith));
             },
           )
 
@@ -244,8 +244,8 @@ module _ (st : State) (i : InStreet (shape_of st.session)) where
       masks_is = masks_letter ∙ hears (masks first post (xs ++ ys)) sent_masks ∙ masks_halves
 
       -- the store keeps its length
-      pub masks_room : length (kept masks_bat (shape_of st.session) same post ys half) ≡ store_room
-      masks_room = kept_length_is half half_room masks_bat (omega arith) same post low high ys long' elements'
+      pub masks_room : length (kept masks_b_at (shape_of st.session) same post ys half) ≡ store_room
+      masks_room = kept_length_is half half_room masks_b_at (omega arith) same post low high ys long' elements'
 
       pub masks_done : MasksDone (step st store (written 77 (first ∷ post ∷ (xs ++ ys))))
       masks_done = subst MasksDone (sym masks_is) masks_kept

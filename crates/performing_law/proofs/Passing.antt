@@ -15,7 +15,7 @@ use Rattle.session.specs.declared.Session.{Session}
 use Rattle.session.specs.Sessions.{answer, collected_triple, finished_triple}
 use Rattle.collect.specs.Collect.{number_a, number_b, collect_refusal}
 use Rattle.multiply.specs.Multiply.{multiply_refusal_of, multiply_answer}
-use Rattle.street_store.specs.Sizes.{masks_aat, masks_bat, longest_line}
+use Rattle.street_store.specs.Sizes.{masks_a_at, masks_b_at, longest_line}
 use Rattle.street_reading.specs.Numbers.{numbers}
 use Rattle.street_states.specs.declared.State.{State}
 use Rattle.street_states.specs.States.{After, leaving, session_rows}
@@ -92,8 +92,8 @@ module _ (st : State) (store s : List ℕ) where
       let own = st.session in
       let rows = session_rows st store in
       let first = get_or (numbers 1 s) 0 0 in
-      let a = masks_for masks_aat st store first in
-      let b = masks_for masks_bat st store first in
+      let a = masks_for masks_a_at st store first in
+      let b = masks_for masks_b_at st store first in
       let half = between own rows first a b in
       let h : Same half = answer_same (collect_refusal own rows first a b) 0 (collected_triple own first (number_a own rows first a) (number_b own rows first b)) own (record { same = refl }) (record { same = refl }) in
       outcome_same _ _ _

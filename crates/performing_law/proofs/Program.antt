@@ -13,7 +13,7 @@ use Rattle.decimal.specs.Numeral.{tens, last_digits, size_within}
 use Rattle.decimal.proofs.Sizes.{size_one}
 use Rattle.street_answers.specs.Text.{long_size_of}
 use Rattle.street_answers.proofs.Texts.{answer_texts}
-use Rattle.street_store.specs.Sizes.{openings_at, masks_aat, masks_bat, store_room, record_room, InStreet}
+use Rattle.street_store.specs.Sizes.{openings_at, masks_a_at, masks_b_at, store_room, record_room, InStreet}
 use Rattle.street_store.specs.Records.{record_at}
 use Rattle.street_store.proofs.Keeping.{record_room_is, take_zeros}
 use Rattle.street_steps.specs.Stepping.{step}
@@ -64,8 +64,8 @@ program_prints =
     record {
       not_started = refl;
       no_openings = λ n t points i. empty openings_at n t points (omega arith) i;
-      no_masks_a = λ n t points i. empty masks_aat n t points (omega arith) i;
-      no_masks_b = λ n t points i. empty masks_bat n t points (omega arith) i;
+      no_masks_a = λ n t points i. empty masks_a_at n t points (omega arith) i;
+      no_masks_b = λ n t points i. empty masks_b_at n t points (omega arith) i;
       by_lines = λ input. refl;
       answer =
           λ st store number line lines.

@@ -15,7 +15,7 @@ use Rattle.forms.specs.Forms.{form_of, message_of, beyond_range}
 use Rattle.product_masks.specs.Masks.{masks_refusal_of, masks_answer, mask_numbers_of}
 use Rattle.collect.specs.Collect.{collect_refusal}
 use Rattle.multiply.specs.Multiply.{multiply_refusal_of}
-use Rattle.street_store.specs.Sizes.{masks_aat, masks_bat, longest_line}
+use Rattle.street_store.specs.Sizes.{masks_a_at, masks_b_at, longest_line}
 use Rattle.street_reading.specs.Numbers.{number_form}
 use Rattle.street_states.specs.declared.State.{State}
 use Rattle.street_states.proofs.Calling.{answer_refusal}
@@ -93,8 +93,8 @@ module _ (st : State) (store : List ℕ) (started : st.started ≡ true) where
       let own = st.session in
       let rows = session_rows st store in
       let first = get_or xs 0 0 in
-      let a = masks_for masks_aat st store first in
-      let b = masks_for masks_bat st store first in
+      let a = masks_for masks_a_at st store first in
+      let b = masks_for masks_b_at st store first in
       answer_refusal (pair_refusal own rows first a b) 0 _ _
       ∙ ap₂ or_else (sym (answer_refusal (collect_refusal own rows first a b) 0 _ _))
       (sym (answer_refusal (multiply_refusal_of (between own rows first a b) rows first) 0 _ _))

@@ -23,7 +23,7 @@ use Rattle.session.specs.Sessions.{shape_of, opened_a_of, opened_b_of, masked_tr
 use Rattle.deal.specs.Deal.{deal_answer, deal_rows_of}
 use Rattle.collect.specs.Collect.{number_a, number_b, collect_refusal, collect_answer}
 use Rattle.multiply.specs.Multiply.{multiply_refusal_of, with_product, multiply_answer, multiply_rows_of}
-use Rattle.street_store.specs.Sizes.{masks_aat, masks_bat, longest_line}
+use Rattle.street_store.specs.Sizes.{masks_a_at, masks_b_at, longest_line}
 use Rattle.opening.specs.Opening.{open_answer}
 use Rattle.product_masks.specs.Masks.{masks_refusal_of, masks_answer, masks_out_of, mask_numbers_of}
 use Rattle.linear.specs.Linear.{linear_answer, linear_rows_of}
@@ -256,7 +256,7 @@ module _ (st : State) (store : List ℕ) (started : st.started ≡ true) where
     FinishDone a =
         let own = st.session in
         let rows = session_rows st store in
-        let collected = collect_answer own rows first (masks_for masks_aat st store first) (masks_for masks_bat st store first) in
+        let collected = collect_answer own rows first (masks_for masks_a_at st store first) (masks_for masks_b_at st store first) in
         let between = collected.session in
         Finishes st store collected (multiply_answer between rows first) (multiply_rows_of between rows first) a
 
@@ -265,8 +265,8 @@ module _ (st : State) (store : List ℕ) (started : st.started ≡ true) where
     finish_called =
         let own = st.session in
         let rows = session_rows st store in
-        let a = masks_for masks_aat st store first in
-        let b = masks_for masks_bat st store first in
+        let a = masks_for masks_a_at st store first in
+        let b = masks_for masks_b_at st store first in
         let between = (collect_answer own rows first a b).session in
         finished (collect_refusal own rows first a b) (multiply_refusal_of between rows first)
         (collected_triple own first (number_a own rows first a) (number_b own rows first b)) between (finished_triple between first)

@@ -12,7 +12,7 @@ use Rattle.shape.specs.Lengths.{record_length, rows_length}
 use Rattle.refusal.specs.Refusal.{outcome}
 use Rattle.session.specs.declared.Session.{Session}
 use Rattle.session.specs.Sessions.{shape_of, answer}
-use Rattle.street_store.specs.Sizes.{openings_at, masks_aat, masks_bat, store_room, record_room, InStreet}
+use Rattle.street_store.specs.Sizes.{openings_at, masks_a_at, masks_b_at, store_room, record_room, InStreet}
 use Rattle.street_store.specs.Records.{record_if, kept, record_for}
 use Rattle.street_store.proofs.Keeping.{record_room_is}
 use Rattle.street_states.specs.declared.State.{State}
@@ -74,11 +74,11 @@ module _ (st : State) (store : List ℕ) (started : st.started ≡ true) (ready 
         quiet = d.quiet;
       })
 
-  finish : (first : ℕ) (blocks_a blocks_b : List ℕ) → first ≤ 93 → Finds st store masks_aat st.triple first blocks_a
-      → Finds st store masks_bat st.triple first blocks_b
+  finish : (first : ℕ) (blocks_a blocks_b : List ℕ) → first ≤ 93 → Finds st store masks_a_at st.triple first blocks_a
+      → Finds st store masks_b_at st.triple first blocks_b
       → FinishesWith own (session_rows st store) st store first blocks_a blocks_b (finish_line st store first)
   finish first blocks_a blocks_b low f g =
-      rw (found masks_aat st.triple first blocks_a (omega arith) f, found masks_bat st.triple first blocks_b (omega arith) g)
+      rw (found masks_a_at st.triple first blocks_a (omega arith) f, found masks_b_at st.triple first blocks_b (omega arith) g)
       ((street_performs st store started).finish first low)
 
   -- ---- `O`
@@ -105,7 +105,7 @@ module _ (st : State) (store : List ℕ) (started : st.started ≡ true) (ready 
         })
 
     abbrev OpeningStored : After → Type 0
-    OpeningStored a = Stored st store (put_into st blocks post xs) (record_of st masks_aat store) (record_of st masks_bat store) a
+    OpeningStored a = Stored st store (put_into st blocks post xs) (record_of st masks_a_at store) (record_of st masks_b_at store) a
 
     opening_stored : OpeningStored (opening_line st store row post xs)
     opening_stored =
@@ -123,10 +123,10 @@ module _ (st : State) (store : List ℕ) (started : st.started ≡ true) (ready 
 
   -- ---- `M`
   module _ (first post : ℕ) (xs ys blocks_a blocks_b : List ℕ) (low : first ≤ 93) (from : FromPost own post xs) (from' : FromPost own post ys)
-      (f : Finds st store masks_aat st.triple first blocks_a) (g : Finds st store masks_bat st.triple first blocks_b) where
+      (f : Finds st store masks_a_at st.triple first blocks_a) (g : Finds st store masks_b_at st.triple first blocks_b) where
     abbrev masks_store : List ℕ
     masks_store =
-        let same = eqb st.triple first in kept masks_bat (shape_of own) same post ys (kept masks_aat (shape_of own) same post xs store)
+        let same = eqb st.triple first in kept masks_b_at (shape_of own) same post ys (kept masks_a_at (shape_of own) same post xs store)
 
     masks_step : masks_line st store first post xs ys ≡ leaving (refusing (keeping_triple st first) 0) masks_store
     unfolding keep_masks_step
@@ -152,7 +152,7 @@ module _ (st : State) (store : List ℕ) (started : st.started ≡ true) (ready 
 
     masks_stored : MasksStored (masks_line st store first post xs ys)
     masks_stored =
-        rw (found masks_aat st.triple first blocks_a (omega arith) f, found masks_bat st.triple first blocks_b (omega arith) g)
+        rw (found masks_a_at st.triple first blocks_a (omega arith) f, found masks_b_at st.triple first blocks_b (omega arith) g)
         (masks_done st street store started ready.store_room_is post from.low from.high first xs ys low from.long from'.long from.elements
         from'.elements).1
 
@@ -197,7 +197,7 @@ module _ (st : State) (store : List ℕ) (started : st.started ≡ true) (ready 
     second : OneLine left behind
     second = one_line left behind started (opening_ready st store started ready row post xs blocks low from f)
 
-    stored : Stored st store (put_into st blocks post xs) (record_of st masks_aat store) (record_of st masks_bat store) (leaving (refusing left 0) behind)
+    stored : Stored st store (put_into st blocks post xs) (record_of st masks_a_at store) (record_of st masks_b_at store) (leaving (refusing left 0) behind)
     stored =
         subst (OpeningStored st store started ready row post xs blocks low from f) (opening_step st store started ready row post xs blocks low from f)
         (opening_stored st store started ready row post xs blocks low from f)
@@ -214,7 +214,7 @@ module _ (st : State) (store : List ℕ) (started : st.started ≡ true) (ready 
         })
 
   module _ (first post : ℕ) (xs ys blocks_a blocks_b : List ℕ) (low : first ≤ 93) (from : FromPost st.session post xs) (from' : FromPost st.session post ys)
-      (f : Finds st store masks_aat st.triple first blocks_a) (g : Finds st store masks_bat st.triple first blocks_b) where
+      (f : Finds st store masks_a_at st.triple first blocks_a) (g : Finds st store masks_b_at st.triple first blocks_b) where
     abbrev masked : State
     masked = keeping_triple st first
 
@@ -230,11 +230,11 @@ module _ (st : State) (store : List ℕ) (started : st.started ≡ true) (ready 
         (masks_step st store started ready first post xs ys blocks_a blocks_b low from from' f g)
         (masks_stored st store started ready first post xs ys blocks_a blocks_b low from from' f g)
 
-    found_a : Finds masked put masks_aat first first (put_into st blocks_a post xs)
-    found_a = finds_left masked put masks_aat first _ stored_masks.masks_a_are
+    found_a : Finds masked put masks_a_at first first (put_into st blocks_a post xs)
+    found_a = finds_left masked put masks_a_at first _ stored_masks.masks_a_are
 
-    found_b : Finds masked put masks_bat first first (put_into st blocks_b post ys)
-    found_b = finds_left masked put masks_bat first _ stored_masks.masks_b_are
+    found_b : Finds masked put masks_b_at first first (put_into st blocks_b post ys)
+    found_b = finds_left masked put masks_b_at first _ stored_masks.masks_b_are
 
     none : (at first' : ℕ) → (first ≡ first' → ⊥) → Finds masked put at first first' (no_blocks st)
     none at first' n = finds_none masked put at first first' n
@@ -244,14 +244,14 @@ module _ (st : State) (store : List ℕ) (started : st.started ≡ true) (ready 
         rw (masks_step st store started ready first post xs ys blocks_a blocks_b low from from' f g)
         (record {
           finish_same = rw (← stored_masks.rows) (next.finish first _ _ low found_a found_b);
-          finish_other = λ first' low' n. rw (← stored_masks.rows) (next.finish first' _ _ low' (none masks_aat first' n) (none masks_bat first' n));
+          finish_other = λ first' low' n. rw (← stored_masks.rows) (next.finish first' _ _ low' (none masks_a_at first' n) (none masks_b_at first' n));
           masks_same =
               λ post' xs' ys' fx fy.
               let r = (next.masks first post' xs' ys' _ _ low fx fy found_a found_b).1 in
               (r.masks_a_are, r.masks_b_are);
           masks_other =
               λ first' post' xs' ys' low' n fx fy.
-              let r = (next.masks first' post' xs' ys' _ _ low' fx fy (none masks_aat first' n) (none masks_bat first' n)).1 in
+              let r = (next.masks first' post' xs' ys' _ _ low' fx fy (none masks_a_at first' n) (none masks_b_at first' n)).1 in
               (r.masks_a_are, r.masks_b_are);
         })
 

@@ -21,7 +21,7 @@ use Rattle.opening.specs.Opening.{open_answer}
 use Rattle.product_masks.specs.Masks.{masks_answer, masks_out_of}
 use Rattle.collect.specs.Collect.{collect_answer}
 use Rattle.multiply.specs.Multiply.{multiply_answer, multiply_rows_of}
-use Rattle.street_store.specs.Sizes.{openings_at, masks_aat, masks_bat, InStreet}
+use Rattle.street_store.specs.Sizes.{openings_at, masks_a_at, masks_b_at, InStreet}
 use Rattle.street_store.specs.Records.{record_for}
 use Rattle.street_states.specs.declared.State.{State}
 use Rattle.street_states.specs.States.{After, session_rows}
@@ -93,8 +93,8 @@ module _ (st : State) (store : List ℕ) where
   abbrev pub FinishLine : Type 0
   FinishLine =
       (first : ℕ) → first ≤ last_triple
-      → (let masks_a = record_for masks_aat (shape_of own) st.triple first store in
-      let masks_b = record_for masks_bat (shape_of own) st.triple first store in
+      → (let masks_a = record_for masks_a_at (shape_of own) st.triple first store in
+      let masks_b = record_for masks_b_at (shape_of own) st.triple first store in
       let collected = collect_answer own rows first masks_a masks_b in
       let between = collected.session in
       Finishes collected (multiply_answer between rows first) (multiply_rows_of between rows first) (step st store (written 70 (first ∷ []))))

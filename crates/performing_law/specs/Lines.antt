@@ -16,7 +16,7 @@ use Rattle.opening.specs.Opening.{open_answer}
 use Rattle.product_masks.specs.Masks.{masks_answer}
 use Rattle.collect.specs.Collect.{collect_answer}
 use Rattle.multiply.specs.Multiply.{multiply_answer}
-use Rattle.street_store.specs.Sizes.{openings_at, masks_aat, masks_bat}
+use Rattle.street_store.specs.Sizes.{openings_at, masks_a_at, masks_b_at}
 use Rattle.session.specs.Sessions.{shape_of}
 use Rattle.street_store.specs.Records.{record_for}
 use Rattle.street_states.specs.declared.State.{State}
@@ -117,8 +117,8 @@ module _ (st : State) (store : List ℕ) where
   abbrev pub finish_call : List ℕ → ℕ
   finish_call xs =
       let first = get_or xs 0 0 in
-      let masks_a = record_for masks_aat (shape_of own) st.triple first store in
-      let masks_b = record_for masks_bat (shape_of own) st.triple first store in
+      let masks_a = record_for masks_a_at (shape_of own) st.triple first store in
+      let masks_b = record_for masks_b_at (shape_of own) st.triple first store in
       let collected = collect_answer own rows first masks_a masks_b in
       or_else collected.refusal (multiply_answer collected.session rows first).refusal
 

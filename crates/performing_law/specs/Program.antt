@@ -7,7 +7,7 @@ use Rattle.poly.specs.Counting.{All}
 use Rattle.decimal.specs.Numeral.{numeral}
 use Rattle.street_answers.specs.Text.{long_numeral}
 use Rattle.street_answers.specs.Claims.{three_digits}
-use Rattle.street_store.specs.Sizes.{openings_at, masks_aat, masks_bat, InStreet}
+use Rattle.street_store.specs.Sizes.{openings_at, masks_a_at, masks_b_at, InStreet}
 use Rattle.street_store.specs.Records.{record_at}
 use Rattle.street_states.specs.declared.State.{State}
 use Rattle.street_steps.specs.Stepping.{step}
@@ -26,9 +26,9 @@ pub record ProgramPrints : Type 0 where
   pub no_openings : (n t points : ℕ) → InStreet (shape n t points)
       → record_at openings_at (shape n t points) begun.store ≡ replicate (n * (points * t + 2)) 0
   pub no_masks_a : (n t points : ℕ) → InStreet (shape n t points)
-      → record_at masks_aat (shape n t points) begun.store ≡ replicate (n * (points * t + 2)) 0
+      → record_at masks_a_at (shape n t points) begun.store ≡ replicate (n * (points * t + 2)) 0
   pub no_masks_b : (n t points : ℕ) → InStreet (shape n t points)
-      → record_at masks_bat (shape n t points) begun.store ≡ replicate (n * (points * t + 2)) 0
+      → record_at masks_b_at (shape n t points) begun.store ≡ replicate (n * (points * t + 2)) 0
   -- `printed` is the program's output (`PrintsAnswers`)
   pub by_lines : (input : List ℕ) → printed input ≡ header_bytes ++ answers begun.state begun.store 1 (lines_from [] input)
   -- the line's number, the refusal, the value; behind them what an `X` prints; then the next line, on what this one left

@@ -9,7 +9,7 @@ use Rattle.csv_fields.specs.Fields.{written}
 use Rattle.session.specs.declared.Session.{Session}
 use Rattle.session.specs.Sessions.{shape_of}
 use Rattle.records.specs.Records.{put_record}
-use Rattle.street_store.specs.Sizes.{openings_at, masks_aat, masks_bat}
+use Rattle.street_store.specs.Sizes.{openings_at, masks_a_at, masks_b_at}
 use Rattle.street_store.specs.Records.{record_at, record_for}
 use Rattle.street_states.specs.declared.State.{State}
 use Rattle.street_states.specs.States.{After, keeping_row, keeping_triple, refusing, session_rows}
@@ -26,8 +26,8 @@ module _ (st : State) (store : List ℕ) where
   pub record Stored (openings masks_a masks_b : List ℕ) (a : After) : Type 0 where
     pub rows : session_rows st a.store ≡ session_rows st store
     pub openings_are : record_at openings_at (shape_of own) a.store ≡ openings
-    pub masks_a_are : record_at masks_aat (shape_of own) a.store ≡ masks_a
-    pub masks_b_are : record_at masks_bat (shape_of own) a.store ≡ masks_b
+    pub masks_a_are : record_at masks_a_at (shape_of own) a.store ≡ masks_a
+    pub masks_b_are : record_at masks_b_at (shape_of own) a.store ≡ masks_b
 
   abbrev was : ℕ → List ℕ
   was at = record_at at (shape_of own) store
@@ -42,7 +42,7 @@ module _ (st : State) (store : List ℕ) where
       (row post : ℕ) (xs : List ℕ) → row ≤ last_row_at → 1 ≤ post → post ≤ own.n → length xs ≡ coefficients → Elements xs
       → (let a = step st store (written 79 (row ∷ post ∷ xs)) in
       (a.given ≡ refusing (keeping_row st row) 0)
-      × Stored (put openings_at st.kept row post xs) (was masks_aat) (was masks_bat) a)
+      × Stored (put openings_at st.kept row post xs) (was masks_a_at) (was masks_b_at) a)
 
   -- "`M,first row of triple,post,` t+1 coefficients of a − l, then t+1 of b − l'": each half goes to its own record, which `F` opens with
   abbrev pub MasksKeptLine : Type 0
@@ -51,7 +51,7 @@ module _ (st : State) (store : List ℕ) where
       → Elements xs → Elements ys
       → (let a = step st store (written 77 (first ∷ post ∷ (xs ++ ys))) in
       (a.given ≡ refusing (keeping_triple st first) 0)
-      × Stored (was openings_at) (put masks_aat st.triple first post xs) (put masks_bat st.triple first post ys) a)
+      × Stored (was openings_at) (put masks_a_at st.triple first post xs) (put masks_b_at st.triple first post ys) a)
 
 -- Once a start line was accepted, between lines.
 pub record RecordsKept (st : State) (store : List ℕ) : Type 0 where

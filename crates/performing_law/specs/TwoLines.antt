@@ -11,7 +11,7 @@ use Rattle.records.specs.Records.{put_record}
 use Rattle.opening.specs.Opening.{open_answer}
 use Rattle.collect.specs.Collect.{collect_answer}
 use Rattle.multiply.specs.Multiply.{multiply_answer, multiply_rows_of}
-use Rattle.street_store.specs.Sizes.{openings_at, masks_aat, masks_bat}
+use Rattle.street_store.specs.Sizes.{openings_at, masks_a_at, masks_b_at}
 use Rattle.street_store.specs.Records.{record_at}
 use Rattle.street_states.specs.declared.State.{State}
 use Rattle.street_states.specs.States.{After, session_rows}
@@ -94,17 +94,17 @@ module _ (st : State) (store : List ℕ) where
     -- "one for another row empties the record first"
     pub opening : (row post : ℕ) (xs blocks : List ℕ) → row ≤ 95 → FromPost own post xs → Finds st store openings_at st.kept row blocks
         → (let a = opening_line st store row post xs in
-        KeptFor st row st.triple a × Stored st store (put_into st blocks post xs) (record_of st masks_aat store) (record_of st masks_bat store) a)
+        KeptFor st row st.triple a × Stored st store (put_into st blocks post xs) (record_of st masks_a_at store) (record_of st masks_b_at store) a)
     pub masks : (first post : ℕ) (xs ys blocks_a blocks_b : List ℕ) → first ≤ 93 → FromPost own post xs → FromPost own post ys
-        → Finds st store masks_aat st.triple first blocks_a → Finds st store masks_bat st.triple first blocks_b
+        → Finds st store masks_a_at st.triple first blocks_a → Finds st store masks_b_at st.triple first blocks_b
         → (let a = masks_line st store first post xs ys in
         KeptFor st st.kept first a
         × Stored st store (record_of st openings_at store) (put_into st blocks_a post xs) (put_into st blocks_b post ys) a)
     -- "G leaves the record as it is (a G for another row opens with an empty one)"
     pub opened : (row : ℕ) (blocks : List ℕ) → row ≤ 95 → Finds st store openings_at st.kept row blocks
         → Opens own rows st store row blocks (open_line st store row)
-    pub finish : (first : ℕ) (blocks_a blocks_b : List ℕ) → first ≤ 93 → Finds st store masks_aat st.triple first blocks_a
-        → Finds st store masks_bat st.triple first blocks_b → FinishesWith own rows st store first blocks_a blocks_b (finish_line st store first)
+    pub finish : (first : ℕ) (blocks_a blocks_b : List ℕ) → first ≤ 93 → Finds st store masks_a_at st.triple first blocks_a
+        → Finds st store masks_b_at st.triple first blocks_b → FinishesWith own rows st store first blocks_a blocks_b (finish_line st store first)
 
   -- ---- two lines: what follows an accepted `O` that found this record
   pub record BehindOpening (row post : ℕ) (xs blocks : List ℕ) (a : After) : Type 0 where
@@ -124,18 +124,18 @@ module _ (st : State) (store : List ℕ) where
         → FinishesWith own rows a.given.state a.store first' (no_blocks st) (no_blocks st) (finish_line a.given.state a.store first')
     pub masks_same : (post' : ℕ) (xs' ys' : List ℕ) → FromPost own post' xs' → FromPost own post' ys'
         → (let b = masks_line a.given.state a.store first post' xs' ys' in
-        (record_of st masks_aat b.store ≡ put_into st (put_into st blocks_a post xs) post' xs')
-        × (record_of st masks_bat b.store ≡ put_into st (put_into st blocks_b post ys) post' ys'))
+        (record_of st masks_a_at b.store ≡ put_into st (put_into st blocks_a post xs) post' xs')
+        × (record_of st masks_b_at b.store ≡ put_into st (put_into st blocks_b post ys) post' ys'))
     pub masks_other : (first' post' : ℕ) (xs' ys' : List ℕ) → first' ≤ 93 → (first ≡ first' → ⊥) → FromPost own post' xs' → FromPost own post' ys'
         → (let b = masks_line a.given.state a.store first' post' xs' ys' in
-        (record_of st masks_aat b.store ≡ put_into st (no_blocks st) post' xs')
-        × (record_of st masks_bat b.store ≡ put_into st (no_blocks st) post' ys'))
+        (record_of st masks_a_at b.store ≡ put_into st (no_blocks st) post' xs')
+        × (record_of st masks_b_at b.store ≡ put_into st (no_blocks st) post' ys'))
 
   pub record TwoLines : Type 0 where
     pub opening : (row post : ℕ) (xs blocks : List ℕ) → row ≤ 95 → FromPost own post xs → Finds st store openings_at st.kept row blocks
         → BehindOpening row post xs blocks (opening_line st store row post xs)
     pub masks : (first post : ℕ) (xs ys blocks_a blocks_b : List ℕ) → first ≤ 93 → FromPost own post xs → FromPost own post ys
-        → Finds st store masks_aat st.triple first blocks_a → Finds st store masks_bat st.triple first blocks_b
+        → Finds st store masks_a_at st.triple first blocks_a → Finds st store masks_b_at st.triple first blocks_b
         → BehindMasks first post xs ys blocks_a blocks_b (masks_line st store first post xs ys)
 
 -- Once a start line was accepted, between lines.

@@ -14,24 +14,24 @@ use Rattle.session.specs.declared.Answer.{Answer}
 use Rattle.session.specs.Sessions.{shape_of, answer, collected_triple, finished_triple}
 use Rattle.collect.specs.Collect.{number_a, number_b, collect_refusal, collect_answer}
 use Rattle.multiply.specs.Multiply.{multiply_refusal_of, multiply_answer, multiply_rows_of}
-use Rattle.street_store.specs.Sizes.{InStreet, record_room, store_room, masks_aat, masks_bat}
+use Rattle.street_store.specs.Sizes.{InStreet, record_room, store_room, masks_a_at, masks_b_at}
 use Rattle.street_store.specs.Records.{record_at, record_if}
 use Rattle.street_states.specs.States.{rows_of, with_rows, settled}
 use Rattle.street_finishlines.specs.Steps.{pair_answer, pair_rows}
 use Rattle.street_finishlines.specs.Between.{after_answer, after_rows}
 
 -- ---- where the records stand
-pub masks_a_within : (store : List ℕ) → length store ≡ store_room → masks_aat + record_room ≤ length store
+pub masks_a_within : (store : List ℕ) → length store ≡ store_room → masks_a_at + record_room ≤ length store
 masks_a_within store l = omega arith
 
-pub masks_b_within : (store : List ℕ) → length store ≡ store_room → masks_bat + record_room ≤ length store
+pub masks_b_within : (store : List ℕ) → length store ≡ store_room → masks_b_at + record_room ≤ length store
 masks_b_within store l = omega arith
 
 pub collected_kept : (s : Session) (store a b : List ℕ) (g : Shape) (end first : ℕ) (same : Bool) (ans : Answer) → g ≡ shape_of s
-    → end ≡ rows_length (shape_of s) → a ≡ record_if same (record_at masks_aat g store) → b ≡ record_if same (record_at masks_bat g store)
+    → end ≡ rows_length (shape_of s) → a ≡ record_if same (record_at masks_a_at g store) → b ≡ record_if same (record_at masks_b_at g store)
     → ans ≡ collect_answer s (take end store) first a b
     → ans
-    ≡ collect_answer s (rows_of s store) first (record_if same (record_at masks_aat (shape_of s) store)) (record_if same (record_at masks_bat (shape_of s) store))
+    ≡ collect_answer s (rows_of s store) first (record_if same (record_at masks_a_at (shape_of s) store)) (record_if same (record_at masks_b_at (shape_of s) store))
 collected_kept s store a b g end first same ans d e f h q = q ∙ rw (e, f, h, d)
 
 -- ---- the second call
@@ -61,10 +61,10 @@ module _ (s : Session) (store : List ℕ) (first : ℕ) (same : Bool) (c : Answe
   rows = rows_of s store
 
   abbrev blocks_a : List ℕ
-  blocks_a = record_if same (record_at masks_aat (shape_of s) store)
+  blocks_a = record_if same (record_at masks_a_at (shape_of s) store)
 
   abbrev blocks_b : List ℕ
-  blocks_b = record_if same (record_at masks_bat (shape_of s) store)
+  blocks_b = record_if same (record_at masks_b_at (shape_of s) store)
 
   module _ (e : c ≡ collect_answer s rows first blocks_a blocks_b) where
     c_shape : shape_of c.session ≡ shape_of s

@@ -7,7 +7,7 @@ use Rattle.session.specs.declared.Answer.{Answer}
 use Rattle.session.specs.Sessions.{shape_of, answer}
 use Rattle.collect.specs.Collect.{collect_refusal, collect_answer}
 use Rattle.multiply.specs.Multiply.{multiply_refusal_of, multiply_answer, multiply_rows_of}
-use Rattle.street_store.specs.Sizes.{masks_aat, masks_bat}
+use Rattle.street_store.specs.Sizes.{masks_a_at, masks_b_at}
 use Rattle.street_store.specs.Records.{record_for}
 use Rattle.street_reading.specs.Numbers.{numbers, read_refusal}
 use Rattle.street_states.specs.declared.State.{State}
@@ -34,8 +34,8 @@ masks_for at st store first = record_for at (shape_of st.session) st.triple firs
 
 unfoldable pub finishing : State → List ℕ → ℕ → After
 finishing st store first =
-    let blocks_a = masks_for masks_aat st store first in
-    let blocks_b = masks_for masks_bat st store first in
+    let blocks_a = masks_for masks_a_at st store first in
+    let blocks_b = masks_for masks_b_at st store first in
     calling st store (pair_answer st.session (session_rows st store) first blocks_a blocks_b)
     (pair_rows st.session (session_rows st store) first blocks_a blocks_b)
 

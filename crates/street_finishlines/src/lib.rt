@@ -6,7 +6,7 @@ pub mod masks;
 ghost use Rattle.std.specs.Prelude.{◌≡◌, length, replicate};
 ghost use Rattle.session.specs.Sessions.{shape_of};
 ghost use Rattle.collect.specs.Collect.{collect_answer};
-ghost use Rattle.street_store.specs.Sizes.{InStreet, record_room, store_room, masks_aat, masks_bat};
+ghost use Rattle.street_store.specs.Sizes.{InStreet, record_room, store_room, masks_a_at, masks_b_at};
 ghost use Rattle.street_store.specs.Records.{record_at, record_if, record_for};
 ghost use Rattle.street_states.specs.States.{rows_of, with_rows, settled};
 ghost use Rattle.street_finishlines.specs.Steps.{pair_answer, pair_rows};
@@ -24,8 +24,8 @@ fn collect_kept<'a>(
 ) -> Answer
     requires { InStreet (shape_of session) × (length store.now ≡ store_room) × (empty.now ≡ replicate record_room 0) }
     ensures { result ≡ collect_answer session (rows_of session store.now) first
-        (record_if same (record_at masks_aat (shape_of session) store.now))
-        (record_if same (record_at masks_bat (shape_of session) store.now)) }
+        (record_if same (record_at masks_a_at (shape_of session) store.now))
+        (record_if same (record_at masks_b_at (shape_of session) store.now)) }
 {
     let shape = session.shape();
     let end = street_states::rows_end(session);
@@ -58,11 +58,11 @@ pub fn finish(
 ) -> Answer
     requires { InStreet (shape_of session) × (length store.old ≡ store_room) × (empty.now ≡ replicate record_room 0) }
     ensures result_value { settled session result ≡ pair_answer session (rows_of session store.old) first
-        (record_for masks_aat (shape_of session) triple first store.old)
-        (record_for masks_bat (shape_of session) triple first store.old) }
+        (record_for masks_a_at (shape_of session) triple first store.old)
+        (record_for masks_b_at (shape_of session) triple first store.old) }
     ensures store_after { store.new ≡ with_rows session (pair_rows session (rows_of session store.old) first
-        (record_for masks_aat (shape_of session) triple first store.old)
-        (record_for masks_bat (shape_of session) triple first store.old)) store.old }
+        (record_for masks_a_at (shape_of session) triple first store.old)
+        (record_for masks_b_at (shape_of session) triple first store.old)) store.old }
 {
     let same = triple == first;
     let collected = collect_kept(session, store, empty, same, first);

@@ -17,7 +17,7 @@ use Rattle.load.specs.Load.{load_row_answer, load_row_rows_of, load_triple_answe
 use Rattle.deal.specs.Deal.{deal_answer, deal_rows_of}
 use Rattle.product_masks.specs.Masks.{masks_refusal_of}
 use Rattle.access.specs.Access.{access_answer}
-use Rattle.street_store.specs.Sizes.{masks_aat, masks_bat}
+use Rattle.street_store.specs.Sizes.{masks_a_at, masks_b_at}
 use Rattle.street_store.specs.Records.{record_for}
 use Rattle.street_states.specs.States.{After, answering, leaving, rows_of, with_rows, settled}
 use Rattle.street_states.proofs.Calling.{answer_refusal}
@@ -105,8 +105,8 @@ module _ (s : Session) (triple : ℕ) (o : Order) (xs line store : List ℕ) (a 
   change_sum e q r = plain 76 _ _ e refl refl q (λ b k. rw (e, r))
 
   pub change_finish : (first : ℕ) → first ≡ get_or xs 0 0 → o.letter ≡ 70
-      → settled s a ≡ pair_answer s (rows_of s store) first (record_for masks_aat (shape_of s) triple first store) (record_for masks_bat (shape_of s) triple first store)
-      → store' ≡ with_rows s (pair_rows s (rows_of s store) first (record_for masks_aat (shape_of s) triple first store) (record_for masks_bat (shape_of s) triple first store)) store
+      → settled s a ≡ pair_answer s (rows_of s store) first (record_for masks_a_at (shape_of s) triple first store) (record_for masks_b_at (shape_of s) triple first store)
+      → store' ≡ with_rows s (pair_rows s (rows_of s store) first (record_for masks_a_at (shape_of s) triple first store) (record_for masks_b_at (shape_of s) triple first store)) store
       → a.session ≡ (settled s a).session → Done
   unfolding changing finishing
   change_finish first w e q r z =
@@ -154,8 +154,8 @@ module _ (s : Session) (o : Order) (a r : Answer) (u : settled s r ≡ settled s
   stays_so = z ∙ sym (ap (λ (x : Answer). x.session) u)
 
   pub finish_ends : (triple : ℕ) (xs store store' : List ℕ) (first : ℕ) → first ≡ get_or xs 0 0 → o.letter ≡ 70
-      → settled s a ≡ pair_answer s (rows_of s store) first (record_for masks_aat (shape_of s) triple first store) (record_for masks_bat (shape_of s) triple first store)
-      → store' ≡ with_rows s (pair_rows s (rows_of s store) first (record_for masks_aat (shape_of s) triple first store) (record_for masks_bat (shape_of s) triple first store)) store
+      → settled s a ≡ pair_answer s (rows_of s store) first (record_for masks_a_at (shape_of s) triple first store) (record_for masks_b_at (shape_of s) triple first store)
+      → store' ≡ with_rows s (pair_rows s (rows_of s store) first (record_for masks_a_at (shape_of s) triple first store) (record_for masks_b_at (shape_of s) triple first store)) store
       → Finished s triple o xs store r store'
   finish_ends triple xs store store' first w e q v =
       record { says = λ line ms. change_finish s triple o xs line store r store' ms first w e (u ∙ q) v stays_so }

@@ -10,7 +10,7 @@ use Rattle.shape.specs.Lengths.{v_length, masks_length}
 use Rattle.session.specs.declared.Session.{Session}
 use Rattle.session.specs.declared.Answer.{Answer}
 use Rattle.session.specs.Sessions.{shape_of}
-use Rattle.street_store.specs.Sizes.{openings_at, masks_aat, masks_bat}
+use Rattle.street_store.specs.Sizes.{openings_at, masks_a_at, masks_b_at}
 use Rattle.street_store.specs.Records.{kept}
 use Rattle.street_states.specs.States.{answering, leaving}
 use Rattle.street_postlines.specs.Steps.{keep_step, keep_masks_step, keep_halves_step}
@@ -49,6 +49,6 @@ module _ (g : Shape) (keptRow triple : ℕ) (o : Order) (xs store store' : List 
   opening_kept w r = record { is = refl; stored = rw (r, w) }
 
   pub halves_kept : k ≡ masks_length g
-      → store' ≡ kept masks_bat g (eqb triple o.row) o.post (drop (v_length g) (take k xs)) (kept masks_aat g (eqb triple o.row) o.post (take (v_length g) (take k xs)) store)
+      → store' ≡ kept masks_b_at g (eqb triple o.row) o.post (drop (v_length g) (take k xs)) (kept masks_a_at g (eqb triple o.row) o.post (take (v_length g) (take k xs)) store)
       → HalvesKept g keptRow triple o xs store (record { refusal = 0; value = 0; kept = keptRow; triple = o.row }) store'
   halves_kept w r = record { is = refl; stored = rw (r, w) }

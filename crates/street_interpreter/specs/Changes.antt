@@ -8,7 +8,7 @@ use Rattle.session.specs.declared.Session.{Session}
 use Rattle.session.specs.declared.Answer.{Answer}
 use Rattle.session.specs.Sessions.{shape_of, holding}
 use Rattle.opening.specs.Opening.{open_answer}
-use Rattle.street_store.specs.Sizes.{InStreet, street_posts, openings_at, masks_aat, masks_bat}
+use Rattle.street_store.specs.Sizes.{InStreet, street_posts, openings_at, masks_a_at, masks_b_at}
 use Rattle.street_store.specs.Records.{record_for, kept}
 use Rattle.street_states.specs.declared.State.{State}
 use Rattle.street_states.specs.States.{After, rows_of, settled}
@@ -94,5 +94,5 @@ pub record OpeningKept (g : Shape) (keptRow triple : ℕ) (o : Order) (xs store 
 pub record HalvesKept (g : Shape) (keptRow triple : ℕ) (o : Order) (xs store : List ℕ) (v : Outcome) (store' : List ℕ) : Type 0 where
   pub is : v ≡ record { refusal = 0; value = 0; kept = keptRow; triple = o.row }
   pub stored : store'
-      ≡ kept masks_bat g (eqb triple o.row) o.post (drop (v_length g) (take (masks_length g) xs))
-      (kept masks_aat g (eqb triple o.row) o.post (take (v_length g) (take (masks_length g) xs)) store)
+      ≡ kept masks_b_at g (eqb triple o.row) o.post (drop (v_length g) (take (masks_length g) xs))
+      (kept masks_a_at g (eqb triple o.row) o.post (take (v_length g) (take (masks_length g) xs)) store)

@@ -14,7 +14,7 @@ use Rattle.session.specs.declared.Session.{Session}
 use Rattle.session.specs.declared.Answer.{Answer}
 use Rattle.session.specs.Sessions.{shape_of}
 use Rattle.deal.specs.Deal.{deal_answer, deal_rows_of}
-use Rattle.street_store.specs.Sizes.{InStreet, record_room, masks_aat, masks_bat, store_room}
+use Rattle.street_store.specs.Sizes.{InStreet, record_room, masks_a_at, masks_b_at, store_room}
 use Rattle.street_store.specs.Records.{kept}
 use Rattle.street_store.proofs.Keeping.{v_room}
 use Rattle.street_states.specs.States.{rows_of, with_rows}
@@ -28,10 +28,10 @@ module _ (s : Session) (store : List ℕ) (end : ℕ) (e : end ≡ rows_length (
   deal_rows_is part q = rw (q, e)
 
 -- ---- where the records stand
-pub store_within_a : (store : List ℕ) → length store ≡ store_room → masks_aat + record_room ≤ length store
+pub store_within_a : (store : List ℕ) → length store ≡ store_room → masks_a_at + record_room ≤ length store
 store_within_a store e = omega arith
 
-pub store_within_b : (store store' : List ℕ) → length store ≡ store_room → length store' ≡ length store → masks_bat + record_room ≤ length store'
+pub store_within_b : (store store' : List ℕ) → length store ≡ store_room → length store' ≡ length store → masks_b_at + record_room ≤ length store'
 store_within_b store store' e f = omega arith
 
 -- ---- the halves of an `M` line
@@ -54,7 +54,7 @@ module _ (g : Shape) (xs : List ℕ) (l : length xs ≡ masks_length g) (k : ℕ
   pub half_second : length (take (length xs - k) (drop k xs)) ≡ v_length g
   half_second = ap length second ∙ length-drop k xs ∙ omega arith
 
-  pub half_kept : (store new newer : List ℕ) (same : Bool) (post : ℕ) → new ≡ kept masks_aat g same post (take k xs) store
-      → newer ≡ kept masks_bat g same post (take (length xs - k) (drop k xs)) new
-      → newer ≡ kept masks_bat g same post (drop (v_length g) xs) (kept masks_aat g same post (take (v_length g) xs) store)
+  pub half_kept : (store new newer : List ℕ) (same : Bool) (post : ℕ) → new ≡ kept masks_a_at g same post (take k xs) store
+      → newer ≡ kept masks_b_at g same post (take (length xs - k) (drop k xs)) new
+      → newer ≡ kept masks_b_at g same post (drop (v_length g) xs) (kept masks_a_at g same post (take (v_length g) xs) store)
   half_kept store new newer same post p q = q ∙ rw (p, second, w)

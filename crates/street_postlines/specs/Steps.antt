@@ -9,7 +9,7 @@ use Rattle.forms.specs.Forms.{message, line_tests}
 use Rattle.session.specs.declared.Session.{Session}
 use Rattle.session.specs.Sessions.{shape_of}
 use Rattle.deal.specs.Deal.{deal_answer, deal_rows_of}
-use Rattle.street_store.specs.Sizes.{openings_at, masks_aat, masks_bat}
+use Rattle.street_store.specs.Sizes.{openings_at, masks_a_at, masks_b_at}
 use Rattle.street_store.specs.Records.{kept}
 use Rattle.street_states.specs.declared.State.{State}
 use Rattle.street_states.specs.States.{After, keeping_row, keeping_triple, refusing, leaving, unless, session_rows, calling}
@@ -36,7 +36,7 @@ unfoldable pub keep_masks_step : State → List ℕ → ℕ → ℕ → List ℕ
 keep_masks_step st store first post xs ys =
     let g = shape_of st.session in
     let same = eqb st.triple first in
-    leaving (refusing (keeping_triple st first) 0) (kept masks_bat g same post ys (kept masks_aat g same post xs store))
+    leaving (refusing (keeping_triple st first) 0) (kept masks_b_at g same post ys (kept masks_a_at g same post xs store))
 
 unfoldable pub keep_halves_step : State → List ℕ → ℕ → ℕ → List ℕ → After
 keep_halves_step st store first post xs =

@@ -5,7 +5,7 @@ ghost use Rattle.std.specs.Prelude.{◌≡◌, ◌≤◌, length, take, drop};
 ghost use Rattle.shape.specs.Lengths.{v_length, masks_length};
 ghost use Rattle.session.specs.Sessions.{shape_of};
 ghost use Rattle.deal.specs.Deal.{deal_answer, deal_rows_of};
-ghost use Rattle.street_store.specs.Sizes.{InStreet, store_room, openings_at, masks_aat, masks_bat};
+ghost use Rattle.street_store.specs.Sizes.{InStreet, store_room, openings_at, masks_a_at, masks_b_at};
 ghost use Rattle.street_store.specs.Records.{kept};
 ghost use Rattle.street_states.specs.States.{rows_of, with_rows};
 
@@ -40,8 +40,8 @@ pub fn keep(shape: Shape, store: &mut [u32], same: bool, post: usize, coefficien
 // A post's masks are kept for a triple: those of a − l in one record, those of b − l' in the other.
 pub fn keep_masks(shape: Shape, store: &mut [u32], same: bool, post: usize, masks: &[u32])
     requires { InStreet shape × (length store.old ≡ store_room) × (1 ≤ post) × (post ≤ shape.n) × (length masks.now ≡ masks_length shape) }
-    ensures { store.new ≡ kept masks_bat shape same post (drop (v_length shape) masks.now)
-        (kept masks_aat shape same post (take (v_length shape) masks.now) store.old) }
+    ensures { store.new ≡ kept masks_b_at shape same post (drop (v_length shape) masks.now)
+        (kept masks_a_at shape same post (take (v_length shape) masks.now) store.old) }
 {
     let count = shape.v_len();
     street_store::keep(

@@ -16,7 +16,7 @@ use Rattle.session.specs.declared.Session.{Session}
 use Rattle.session.specs.Sessions.{shape_of, answer, collected_triple, finished_triple}
 use Rattle.collect.specs.Collect.{number_a, number_b, collect_refusal}
 use Rattle.multiply.specs.Multiply.{multiply_refusal_of, multiply_answer}
-use Rattle.street_store.specs.Sizes.{street_posts, masks_aat, masks_bat, InStreet, longest_line}
+use Rattle.street_store.specs.Sizes.{street_posts, masks_a_at, masks_b_at, InStreet, longest_line}
 use Rattle.street_reading.specs.Numbers.{numbers}
 use Rattle.street_reading.specs.declared.StartForm.{StartForm}
 use Rattle.street_reading.specs.declared.StartForm.TheVariants.{Settings, Wrong}
@@ -106,8 +106,8 @@ module _ (st : State) (i : InStreet (shape_of st.session)) (store s : List ℕ) 
       let own = st.session in
       let rows = session_rows st store in
       let first = get_or (numbers 1 s) 0 0 in
-      let a = masks_for masks_aat st store first in
-      let b = masks_for masks_bat st store first in
+      let a = masks_for masks_a_at st store first in
+      let b = masks_for masks_b_at st store first in
       let half = between own rows first a b in
       let h : InStreet (shape_of half) =
       answer_in (collect_refusal own rows first a b) 0 (collected_triple own first (number_a own rows first a) (number_b own rows first b)) own i i in

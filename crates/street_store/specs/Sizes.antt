@@ -49,14 +49,14 @@ record_room = record_length largest
 abbrev pub openings_at : ℕ
 openings_at = rows_room
 
-abbrev pub masks_aat : ℕ
-masks_aat = openings_at + record_room
+abbrev pub masks_a_at : ℕ
+masks_a_at = openings_at + record_room
 
-abbrev pub masks_bat : ℕ
-masks_bat = masks_aat + record_room
+abbrev pub masks_b_at : ℕ
+masks_b_at = masks_a_at + record_room
 
 abbrev pub store_room : ℕ
-store_room = masks_bat + record_room
+store_room = masks_b_at + record_room
 
 -- A station that the street program serves: one of the library's, with so few posts.
 pub record InStreet (g : Shape) : Type 0 where

@@ -12,6 +12,11 @@ fn text(path: &str) -> String {
     fs::read_to_string(repository().join(path)).unwrap_or_else(|error| panic!("{path}: {error}"))
 }
 
+/// A crate's name, behind which `staticlib` may stand.
+fn crate_name(named: &str) -> &str {
+    named.split_whitespace().next().expect("a crate has a name")
+}
+
 /// Each crate with what it stands on, of this repository.
 fn listed() -> BTreeMap<String, Vec<String>> {
     let list = text("crates.txt");
@@ -19,6 +24,7 @@ fn listed() -> BTreeMap<String, Vec<String>> {
         .lines()
         .filter(|line| !line.starts_with('#'))
         .filter_map(|line| line.split_once(':'))
+        .map(|(named, names)| (crate_name(named), names))
         .collect();
     let ours = |name: &&str| lines.iter().any(|(listed, _)| listed == name);
     let below = |names: &str| names.split_whitespace().filter(ours).map(str::to_string).collect();
@@ -93,8 +99,9 @@ fn from_above() -> Vec<String> {
     for line in list.lines().skip(2) {
         match line.split_once(':') {
             None => layers.push(vec![line.to_string()]),
-            Some((name, _)) => {
-                layers.last_mut().expect("a layer's name comes first").insert(1, name.to_string())
+            Some((named, _)) => {
+                let layer = layers.last_mut().expect("a layer's name comes first");
+                layer.insert(1, crate_name(named).to_string())
             }
         }
     }

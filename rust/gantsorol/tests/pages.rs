@@ -10,13 +10,13 @@ use common::programs::repository;
 
 const LONGEST: usize = 160;
 
-/// The pages in a folder and below it, without what is hidden or made (`.git`, `target`).
+/// The pages in a folder and below it, without what is hidden or made (`.git`, `out`, `target`).
 fn pages(folder: &Path) -> Vec<PathBuf> {
     let mut found = vec![];
     for entry in fs::read_dir(folder).expect("a folder can be read") {
         let path = entry.expect("a folder can be read").path();
         let name = path.file_name().and_then(|name| name.to_str()).unwrap_or_default();
-        if path.is_dir() && !name.starts_with('.') && name != "target" {
+        if path.is_dir() && !name.starts_with('.') && !["out", "target"].contains(&name) {
             found.extend(pages(&path));
         } else if name.ends_with(".md") {
             found.push(path);

@@ -13,21 +13,21 @@ use Rattle.relation.proofs.Numbering.{remember_numbered}
 use Rattle.relation_checks.proofs.all_remember.Statement.{statement}
 use Rattle.relation_checks.proofs.all_remember.Tie as tie
 
-abbrev invariant-loop : tie.invariant-loop
-invariant-loop session all refusal₀ i₀ i-end refusal i =
+abbrev invariant-loop-i : tie.invariant-loop-i
+invariant-loop-i session all refusal₀ i₀ i-end refusal i =
     (i ≤ all.products) × SoFar (λ k. remember_tests session) all.factors all.products refusal i
 
-abbrev decreases-loop : tie.decreases-loop
-decreases-loop session all refusal₀ i₀ i-end refusal i = all.products - i
+abbrev decreases-loop-i : tie.decreases-loop-i
+decreases-loop-i session all refusal₀ i₀ i-end refusal i = all.products - i
 
-remembers_requires : tie.Need-remembers-requires invariant-loop decreases-loop
+remembers_requires : tie.Need-remembers-requires invariant-loop-i decreases-loop-i
 remembers_requires c κs =
     let k : length c.args.t2.factors ≡ most_terms = simp length-map at c.well_formed.1.0.1.1.1.1.1.0.1.0.1 in
     let m : c.args.t2.products ≤ length c.args.t2.factors = omega (arith, c.requires.0.products_in) in
-    (every_at (Factors (shape_of c.args.session)) c.args.t2.factors c.args.t2.products c.before.before.loop.i (search rules) m c.requires.1
+    (every_at (Factors (shape_of c.args.session)) c.args.t2.factors c.args.t2.products c.loop-i.i (search rules) m c.requires.1
     ).triple_in.triple_in
 
-loop_again : tie.Need-loop-preserved invariant-loop decreases-loop
+loop_again : tie.Need-loop-i-preserved invariant-loop-i decreases-loop-i
 loop_again c =
     let k : length c.args.t2.factors ≡ most_terms = simp length-map at c.well_formed.1.0.1.1.1.1.1.0.1.0.1 in
     let m : c.args.t2.products ≤ length c.args.t2.factors = omega (arith, c.requires.0.products_in) in
@@ -36,5 +36,5 @@ loop_again c =
 pub all_remember_spec : {M : Type 1} → statement M
 all_remember_spec =
     tie.close
-    (tie.spec invariant-loop decreases-loop (λ c. (omega arith, refl)) (λ c. search rules) (λ c. omega (arith, c.before.before.requires.0.products_in))
+    (tie.spec invariant-loop-i decreases-loop-i (λ c. (omega arith, refl)) (λ c. search rules) (λ c. omega (arith, c.requires.0.products_in))
     remembers_requires (λ c κs. search rules) (λ c. search rules) (λ c. search rules) loop_again (λ c. search (rules, all_asked)))

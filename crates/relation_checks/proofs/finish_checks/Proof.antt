@@ -4,10 +4,10 @@ use Rattle.relation_checks.proofs.Finishing.{checks_stopped, checks_valid, check
 use Rattle.relation_checks.proofs.finish_checks.Statement.{statement}
 use Rattle.relation_checks.proofs.finish_checks.Tie as tie
 
-own_refusal_requires : tie.Need-own-refusal-requires
+own_refusal_requires : tie.Need-own_refusal-requires
 own_refusal_requires c κs =
-    checks_framed c.args.session c.args.rows.now c.args.all c.args.dest c.args.blocks.now _ c.before.before.before.frame.ensures
-    c.before.before.if1.false _ c.before.sizes.ensures c.requires c.if2.false
+    checks_framed c.args.session c.args.rows.now c.args.all c.args.dest c.args.blocks.now _ c.frame-frame.ensures
+    c.if-frame-ne0.false _ c.sizes-size.ensures c.requires c.if-size-ne0.false
 
 pub finish_checks_spec : {M : Type 1} → statement M
 finish_checks_spec =

@@ -13,20 +13,20 @@ use Rattle.relation.proofs.Numbering.{term_numbered}
 use Rattle.relation_checks.proofs.numbers.Statement.{statement}
 use Rattle.relation_checks.proofs.numbers.Tie as tie
 
-abbrev invariant-loop : tie.invariant-loop
-invariant-loop shape rows all refusal₀ i₀ i-end refusal i =
+abbrev invariant-loop-i : tie.invariant-loop-i
+invariant-loop-i shape rows all refusal₀ i₀ i-end refusal i =
     (i ≤ all.count) × SoFar (λ k. term_number_tests (row_length shape) rows) all.list all.count refusal i
 
-abbrev decreases-loop : tie.decreases-loop
-decreases-loop shape rows all refusal₀ i₀ i-end refusal i = all.count - i
+abbrev decreases-loop-i : tie.decreases-loop-i
+decreases-loop-i shape rows all refusal₀ i₀ i-end refusal i = all.count - i
 
-number_requires : tie.Need-number-requires invariant-loop decreases-loop
+number_requires : tie.Need-number-requires invariant-loop-i decreases-loop-i
 number_requires c κs =
     let k : length c.args.t3.list ≡ most_terms = simp length-map at c.well_formed.1.1.0.1.1.1.1.0.1.0.1 in
     let m : c.args.t3.count ≤ length c.args.t3.list = omega (arith, c.requires.1.terms_in) in
-    (c.requires.0, every_at (Placed c.args.shape) c.args.t3.list c.args.t3.count c.before.before.loop.i (search rules) m c.requires.2)
+    (c.requires.0, every_at (Placed c.args.shape) c.args.t3.list c.args.t3.count c.loop-i.i (search rules) m c.requires.2)
 
-loop_again : tie.Need-loop-preserved invariant-loop decreases-loop
+loop_again : tie.Need-loop-i-preserved invariant-loop-i decreases-loop-i
 loop_again c =
     let k : length c.args.t3.list ≡ most_terms = simp length-map at c.well_formed.1.1.0.1.1.1.1.0.1.0.1 in
     let m : c.args.t3.count ≤ length c.args.t3.list = omega (arith, c.requires.1.terms_in) in
@@ -35,5 +35,5 @@ loop_again c =
 pub numbers_spec : {M : Type 1} → statement M
 numbers_spec =
     tie.close
-    (tie.spec invariant-loop decreases-loop (λ c. (omega arith, refl)) (λ c. search rules) (λ c. omega (arith, c.before.before.before.requires.1.terms_in))
+    (tie.spec invariant-loop-i decreases-loop-i (λ c. (omega arith, refl)) (λ c. search rules) (λ c. omega (arith, c.requires.1.terms_in))
     number_requires (λ c κs. search rules) (λ c. search rules) (λ c. search rules) loop_again (λ c. search (rules, all_asked)))

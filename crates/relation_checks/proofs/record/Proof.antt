@@ -7,9 +7,9 @@ use Rattle.relation_checks.proofs.record.Tie as tie
 
 ruleset steps = (rules, from_fits, end_fits, end_in, part_is, part_long)
 
-mul_result : tie.Need-overflow-mul-result
+mul_result : tie.Need-offset_bounds-blocks-from
 mul_result c =
-    let h = end_in (record_length c.args.shape) c.args.j _ c.args.blocks.now c.record-len.ensures c.requires.1 in
+    let h = end_in (record_length c.args.shape) c.args.j _ c.args.blocks.now c.record_len-size.ensures c.requires.1 in
     search rules
 
 pub record_spec : {M : Type 1} → statement M

@@ -5,10 +5,10 @@ use Rattle.relation_checks.proofs.Pairs.{pair_joined}
 use Rattle.relation_checks.proofs.record_numbers.Statement.{statement}
 use Rattle.relation_checks.proofs.record_numbers.Tie as tie
 
-mul_place : tie.Need-overflow-mul-place
-mul_place c = record { fits = omega (arith, c.before.requires.low) }
+mul_place : tie.Need-overflow_mul-place
+mul_place c = record { fits = omega (arith, c.requires.low) }
 
 pub record_numbers_spec : {M : Type 1} → statement M
 record_numbers_spec =
     tie.close
-    (tie.spec mul_place (λ c κs. search rules) (λ c. record { fits = omega (arith, c.before.before.requires.low) }) (λ c κs. search rules) (λ c κs. search rules) (λ c. search (rules, pair_joined)))
+    (tie.spec mul_place (λ c κs. search rules) (λ c. record { fits = omega (arith, c.requires.low) }) (λ c κs. search rules) (λ c κs. search rules) (λ c. search (rules, pair_joined)))

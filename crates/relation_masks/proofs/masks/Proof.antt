@@ -7,10 +7,10 @@ use Rattle.relation_masks.proofs.masks.Tie as tie
 
 ruleset steps = (endings, masks_few, masks_factors, masks_written)
 
-write_masks_requires : tie.Need-write-masks-requires
+write_masks_requires : tie.Need-write_masks-requires
 write_masks_requires c κs =
-    masks_allowed c.args.session c.args.rows.now c.args.all c.args.out.now c.requires _ c.before.before.before.masks-refusal.ensures
-    c.before.before.if1.false _ c.before.shape.ensures
+    masks_allowed c.args.session c.args.rows.now c.args.all c.args.out.now c.requires _ c.masks_refusal-refusal.ensures
+    c.if-refusal-ne0.false _ c.shape.ensures
 
 pub masks_spec : {M : Type 1} → statement M
 masks_spec =

@@ -4,10 +4,10 @@ use Rattle.relation_masks.proofs.Masking.{masks_stopped, masks_valid, masks_unsi
 use Rattle.relation_masks.proofs.masks_refusal.Statement.{statement}
 use Rattle.relation_masks.proofs.masks_refusal.Tie as tie
 
-own_refusal_requires : tie.Need-own-refusal-requires
+own_refusal_requires : tie.Need-own_refusal-requires
 own_refusal_requires c κs =
-    masks_framed c.args.session c.args.rows.now c.args.all c.args.out.now c.requires _ c.before.before.before.frame.ensures
-    c.before.before.if1.false _ c.before.sizes.ensures c.if2.false
+    masks_framed c.args.session c.args.rows.now c.args.all c.args.out.now c.requires _ c.frame-frame.ensures
+    c.if-frame-ne0.false _ c.sizes-size.ensures c.if-size-ne0.false
 
 pub masks_refusal_spec : {M : Type 1} → statement M
 masks_refusal_spec =

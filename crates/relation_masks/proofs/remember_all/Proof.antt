@@ -13,33 +13,33 @@ use Rattle.relation_masks.proofs.Remembering.{remember_in, masked_walk, in_range
 use Rattle.relation_masks.proofs.remember_all.Statement.{statement}
 use Rattle.relation_masks.proofs.remember_all.Tie as tie
 
-abbrev invariant-loop : tie.invariant-loop
-invariant-loop all now₀ i₀ i-end now i =
+abbrev invariant-loop-i : tie.invariant-loop-i
+invariant-loop-i all now₀ i₀ i-end now i =
     (i ≤ all.products) × Leads remember_in all.factors all.products now i (walked remember_in 0 (factors_of all) now₀)
 
-abbrev decreases-loop : tie.decreases-loop
-decreases-loop all now₀ i₀ i-end now i = all.products - i
+abbrev decreases-loop-i : tie.decreases-loop-i
+decreases-loop-i all now₀ i₀ i-end now i = all.products - i
 
-remember_requires : tie.Need-remember-requires invariant-loop decreases-loop
+remember_requires : tie.Need-remember-now-requires invariant-loop-i decreases-loop-i
 remember_requires c κs =
     let k : length c.args.t2.factors ≡ most_terms = simp length-map at c.well_formed.1.0.1.1.1.1.1.0.1.0.1 in
     let m : c.args.t2.products ≤ length c.args.t2.factors = omega (arith, c.requires.0.products_in) in
     in_range (shape_of c.args.session) _
-    (every_at (Factors (shape_of c.args.session)) c.args.t2.factors c.args.t2.products c.before.before.loop.i (search rules) m c.requires.1)
+    (every_at (Factors (shape_of c.args.session)) c.args.t2.factors c.args.t2.products c.loop-i.i (search rules) m c.requires.1)
 
-loop_again : tie.Need-loop-preserved invariant-loop decreases-loop
+loop_again : tie.Need-loop-i-preserved invariant-loop-i decreases-loop-i
 loop_again c =
     let k : length c.args.t2.factors ≡ most_terms = simp length-map at c.well_formed.1.0.1.1.1.1.1.0.1.0.1 in
     let m : c.args.t2.products ≤ length c.args.t2.factors = omega (arith, c.requires.0.products_in) in
-    (omega arith, goes remember_in c.args.t2.factors c.args.t2.products _ _ c.before.before.before.loop.i _ (search rules) m c.remember.ensures c.before.before.before.loop.invariant.1)
+    (omega arith, goes remember_in c.args.t2.factors c.args.t2.products _ _ c.loop-i.i _ (search rules) m c.remember-now.ensures c.loop-i.invariant.1)
 
-returns : tie.Need-returns invariant-loop decreases-loop
+returns : tie.Need-returns invariant-loop-i decreases-loop-i
 returns c =
-    gone remember_in c.args.t2.factors c.args.t2.products _ c.before.loop.i _ (search rules) c.before.loop.invariant.1
+    gone remember_in c.args.t2.factors c.args.t2.products _ c.loop-i.i _ (search rules) c.loop-i.invariant.1
     ∙ masked_walk 0 c.args.session (factors_of c.args.t2)
 
 pub remember_all_spec : {M : Type 1} → statement M
 remember_all_spec =
     tie.close
-    (tie.spec invariant-loop decreases-loop (λ c. (omega arith, refl)) (λ c. search rules) (λ c. omega (arith, c.before.before.requires.0.products_in))
+    (tie.spec invariant-loop-i decreases-loop-i (λ c. (omega arith, refl)) (λ c. search rules) (λ c. omega (arith, c.requires.0.products_in))
     remember_requires (λ c. search rules) (λ c. search rules) loop_again returns)

@@ -7,9 +7,9 @@ use Rattle.relation_masks.proofs.write_mask.Tie as tie
 
 ruleset steps = (rules, from_fits, end_fits, end_in, part_put)
 
-mul_masks_accepted : tie.Need-overflow-mul-masks-accepted
+mul_masks_accepted : tie.Need-offset_bounds-out-from
 mul_masks_accepted c =
-    let h = end_in (masks_length c.args.shape) c.args.i _ c.args.out.now c.before.before.before.masks-len.ensures c.requires.2 in
+    let h = end_in (masks_length c.args.shape) c.args.i _ c.args.out.now c.masks_len-size.ensures c.requires.2 in
     search rules
 
 pub write_mask_spec : {M : Type 1} → statement M

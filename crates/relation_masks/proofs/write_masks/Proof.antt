@@ -14,18 +14,18 @@ use Rattle.relation_masks.proofs.Parts.{mask_in, part_room, part_kept, masks_wal
 use Rattle.relation_masks.proofs.write_masks.Statement.{statement}
 use Rattle.relation_masks.proofs.write_masks.Tie as tie
 
-abbrev invariant-loop : tie.invariant-loop
-invariant-loop shape rows out₀ all i₀ i-end out i =
+abbrev invariant-loop-i : tie.invariant-loop-i
+invariant-loop-i shape rows out₀ all i₀ i-end out i =
     (i ≤ all.products)
     × (length out ≡ length out₀)
     × Leads (mask_in shape rows) all.factors all.products out i (walked (mask_in shape rows) 0 (factors_of all) out₀)
 
-abbrev decreases-loop : tie.decreases-loop
-decreases-loop shape rows out₀ all i₀ i-end out i = all.products - i
+abbrev decreases-loop-i : tie.decreases-loop-i
+decreases-loop-i shape rows out₀ all i₀ i-end out i = all.products - i
 
-write_mask_requires : tie.Need-write-mask-requires invariant-loop decreases-loop
+write_mask_requires : tie.Need-write_mask-requires invariant-loop-i decreases-loop-i
 write_mask_requires c κs =
-    let q = c.before.before.before.loop in
+    let q = c.loop-i in
     let k : length c.args.t3.factors ≡ most_terms = simp length-map at c.well_formed.1.1.0.1.1.1.1.1.0.1.0.1 in
     let m : c.args.t3.products ≤ length c.args.t3.factors = omega (arith, c.requires.1.products_in) in (
       c.requires.0,
@@ -33,29 +33,29 @@ write_mask_requires c κs =
       part_room c.args.shape c.args.rows.now c.requires.0 c.args.t3.products q.i c.args.out.now q.out (search rules) q.invariant.1 c.requires.3,
     )
 
-loop_again : tie.Need-loop-preserved invariant-loop decreases-loop
+loop_again : tie.Need-loop-i-preserved invariant-loop-i decreases-loop-i
 loop_again c =
-    let q = c.before.before.before.before.before.before.loop in
+    let q = c.loop-i in
     let n = c.args.t3.products in
     let k : length c.args.t3.factors ≡ most_terms = simp length-map at c.well_formed.1.1.0.1.1.1.1.1.0.1.0.1 in
     let m : c.args.t3.products ≤ length c.args.t3.factors = omega (arith, c.requires.1.products_in) in
     let f = every_at (Factors c.args.shape) c.args.t3.factors n q.i (search rules) m c.requires.2 in (
       omega arith,
       part_kept c.args.shape c.args.rows.now c.requires.0 n q.i _ c.args.out.now q.out
-          c.before.before.write-mask.new.1.1.1.1.0 (search rules) f q.invariant.1 c.requires.3 c.before.before.write-mask.ensures,
+          c.write_mask.new.out (search rules) f q.invariant.1 c.requires.3 c.write_mask.ensures,
       goes (mask_in c.args.shape c.args.rows.now) c.args.t3.factors n _ _ q.i _ (search rules) m (search rules) q.invariant.2,
     )
 
-returns : tie.Need-returns invariant-loop decreases-loop
+returns : tie.Need-returns invariant-loop-i decreases-loop-i
 returns c =
     let k : length c.args.t3.factors ≡ most_terms = simp length-map at c.well_formed.1.1.0.1.1.1.1.1.0.1.0.1 in
     let m : c.args.t3.products ≤ length c.args.t3.factors = omega (arith, c.requires.1.products_in) in
-    gone (mask_in c.args.shape c.args.rows.now) c.args.t3.factors c.args.t3.products _ c.before.loop.i _ (search rules) c.before.loop.invariant.2
+    gone (mask_in c.args.shape c.args.rows.now) c.args.t3.factors c.args.t3.products _ c.loop-i.i _ (search rules) c.loop-i.invariant.2
     ∙ masks_walk c.args.shape c.args.rows.now c.requires.0 (factors_of c.args.t3) c.args.out.now c.requires.2
     (c.requires.3 ∙ ap (λ (j : ℕ). j * masks_length c.args.shape) (sym (length-take-le c.args.t3.products c.args.t3.factors m)))
 
 pub write_masks_spec : {M : Type 1} → statement M
 write_masks_spec =
     tie.close
-    (tie.spec invariant-loop decreases-loop (λ c. (omega arith, refl, refl)) (λ c. search rules) (λ c. omega (arith, c.before.before.before.before.requires.1.products_in))
+    (tie.spec invariant-loop-i decreases-loop-i (λ c. (omega arith, refl, refl)) (λ c. search rules) (λ c. omega (arith, c.requires.1.products_in))
     write_mask_requires (λ c. search rules) (λ c. search rules) loop_again (λ c. search rules) returns)

@@ -13,18 +13,18 @@ use Rattle.relation_writing.proofs.Summing.{framed_kept, term_place, term_added,
 use Rattle.relation_writing.proofs.add_terms.Statement.{statement}
 use Rattle.relation_writing.proofs.add_terms.Tie as tie
 
-abbrev invariant-loop : tie.invariant-loop
-invariant-loop session rows₀ dest all i₀ i-end rows i =
+abbrev invariant-loop-i : tie.invariant-loop-i
+invariant-loop-i session rows₀ dest all i₀ i-end rows i =
     (i ≤ all.count)
     × (length rows ≡ length rows₀)
     × Leads (term_in session dest) all.list all.count rows i (walked (term_in session dest) 0 (terms_of all) rows₀)
 
-abbrev decreases-loop : tie.decreases-loop
-decreases-loop session rows₀ dest all i₀ i-end rows i = all.count - i
+abbrev decreases-loop-i : tie.decreases-loop-i
+decreases-loop-i session rows₀ dest all i₀ i-end rows i = all.count - i
 
-add_term_requires : tie.Need-add-term-requires invariant-loop decreases-loop
+add_term_requires : tie.Need-add_term-requires invariant-loop-i decreases-loop-i
 add_term_requires c κs =
-    let q = c.before.before.before.before.loop in
+    let q = c.loop-i in
     let k : length c.args.t4.list ≡ most_terms = simp length-map at c.well_formed.1.1.1.0.1.1.1.1.0.1.0.1 in
     let m : c.args.t4.count ≤ length c.args.t4.list = omega (arith, c.requires.2.terms_in) in (
       framed_kept c.args.session c.args.rows.now q.rows c.requires.0 q.invariant.1,
@@ -32,9 +32,9 @@ add_term_requires c κs =
       every_at (Placed (shape_of c.args.session)) c.args.t4.list c.args.t4.count q.i (search rules) m c.requires.3,
     )
 
-loop_again : tie.Need-loop-preserved invariant-loop decreases-loop
+loop_again : tie.Need-loop-i-preserved invariant-loop-i decreases-loop-i
 loop_again c =
-    let q = c.before.before.before.before.before.before.before.loop in
+    let q = c.loop-i in
     let k : length c.args.t4.list ≡ most_terms = simp length-map at c.well_formed.1.1.1.0.1.1.1.1.0.1.0.1 in
     let m : c.args.t4.count ≤ length c.args.t4.list = omega (arith, c.requires.2.terms_in) in (
       omega arith,
@@ -43,14 +43,14 @@ loop_again c =
           (search (rules, term_added)) q.invariant.2,
     )
 
-returns : tie.Need-returns invariant-loop decreases-loop
+returns : tie.Need-returns invariant-loop-i decreases-loop-i
 returns c =
-    gone (term_in c.args.session c.args.dest) c.args.t4.list c.args.t4.count _ c.before.loop.i _ (search rules) c.before.loop.invariant.2
+    gone (term_in c.args.session c.args.dest) c.args.t4.list c.args.t4.count _ c.loop-i.i _ (search rules) c.loop-i.invariant.2
     ∙ terms_walk c.args.session c.args.dest 0 (terms_of c.args.t4) c.args.rows.now
 
 pub add_terms_spec : {M : Type 1} → statement M
 add_terms_spec =
     tie.close
-    (tie.spec invariant-loop decreases-loop (λ c. (omega arith, refl, refl)) (λ c κs. search (rules, term_place)) (λ c. search rules)
+    (tie.spec invariant-loop-i decreases-loop-i (λ c. (omega arith, refl, refl)) (λ c κs. search (rules, term_place)) (λ c. search rules)
     (λ c. search (rules, term_place))
     add_term_requires (λ c. search rules) (λ c. search rules) loop_again (λ c. search rules) returns)

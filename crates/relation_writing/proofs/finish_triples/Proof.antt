@@ -13,41 +13,41 @@ use Rattle.relation_writing.proofs.Summing.{finish_in, finished_walk}
 use Rattle.relation_writing.proofs.finish_triples.Statement.{statement}
 use Rattle.relation_writing.proofs.finish_triples.Tie as tie
 
-abbrev invariant-loop : tie.invariant-loop
-invariant-loop all opened now₀ k₀ k-end now k =
+abbrev invariant-loop-k : tie.invariant-loop-k
+invariant-loop-k all opened now₀ k₀ k-end now k =
     (k ≤ all.products)
     × Leads (finish_in opened.y_a opened.y_b) all.factors all.products now k
     (walked (finish_in opened.y_a opened.y_b) 0 (factors_of all) now₀)
 
-abbrev decreases-loop : tie.decreases-loop
-decreases-loop all opened now₀ k₀ k-end now k = all.products - k
+abbrev decreases-loop-k : tie.decreases-loop-k
+decreases-loop-k all opened now₀ k₀ k-end now k = all.products - k
 
-finish_triple_requires : tie.Need-finish-triple-requires invariant-loop decreases-loop
+finish_triple_requires : tie.Need-finish_triple-now-requires invariant-loop-k decreases-loop-k
 finish_triple_requires c κs =
     let k : length c.args.t2.factors ≡ most_terms = simp length-map at c.well_formed.1.0.1.1.1.1.1.0.1.0.1 in
     let m : c.args.t2.products ≤ length c.args.t2.factors = omega (arith, c.requires.0.products_in) in
-    (every_at (Factors (shape_of c.args.session)) c.args.t2.factors c.args.t2.products c.before.before.before.before.loop.k (search rules) m
+    (every_at (Factors (shape_of c.args.session)) c.args.t2.factors c.args.t2.products c.loop-k.k (search rules) m
     c.requires.1).triple_in.triple_in
 
-loop_again : tie.Need-loop-preserved invariant-loop decreases-loop
+loop_again : tie.Need-loop-k-preserved invariant-loop-k decreases-loop-k
 loop_again c =
-    let q = c.before.before.before.before.before.loop in
+    let q = c.loop-k in
     let k : length c.args.t2.factors ≡ most_terms = simp length-map at c.well_formed.1.0.1.1.1.1.1.0.1.0.1 in
     let m : c.args.t2.products ≤ length c.args.t2.factors = omega (arith, c.requires.0.products_in) in (
       omega arith,
       goes (finish_in c.args.t3.y_a c.args.t3.y_b) c.args.t2.factors c.args.t2.products _ _ q.k _ (search rules) m
-          c.finish-triple.ensures q.invariant.1,
+          c.finish_triple-now.ensures q.invariant.1,
     )
 
-returns : tie.Need-returns invariant-loop decreases-loop
+returns : tie.Need-returns invariant-loop-k decreases-loop-k
 returns c =
-    gone (finish_in c.args.t3.y_a c.args.t3.y_b) c.args.t2.factors c.args.t2.products _ c.before.loop.k _ (search rules)
-    c.before.loop.invariant.1
+    gone (finish_in c.args.t3.y_a c.args.t3.y_b) c.args.t2.factors c.args.t2.products _ c.loop-k.k _ (search rules)
+    c.loop-k.invariant.1
     ∙ finished_walk c.args.t3.y_a c.args.t3.y_b 0 (factors_of c.args.t2) c.args.session
 
 pub finish_triples_spec : {M : Type 1} → statement M
 finish_triples_spec =
     tie.close
-    (tie.spec invariant-loop decreases-loop (λ c. (omega arith, refl)) (λ c. search rules) (λ c. omega (arith, c.before.before.requires.0.products_in)) (λ c. search rules)
-    (λ c. omega (arith, c.before.before.before.requires.0.products_in)) (λ c. search rules) (λ c. omega (arith, c.before.before.before.before.requires.0.products_in))
+    (tie.spec invariant-loop-k decreases-loop-k (λ c. (omega arith, refl)) (λ c. search rules) (λ c. omega (arith, c.requires.0.products_in)) (λ c. search rules)
+    (λ c. omega (arith, c.requires.0.products_in)) (λ c. search rules) (λ c. omega (arith, c.requires.0.products_in))
     finish_triple_requires (λ c. search rules) (λ c. search rules) loop_again returns)

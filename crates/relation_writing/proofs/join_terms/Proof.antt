@@ -10,18 +10,18 @@ use Rattle.relation_writing.proofs.Summing.{term_place, share_in, shares_walk}
 use Rattle.relation_writing.proofs.join_terms.Statement.{statement}
 use Rattle.relation_writing.proofs.join_terms.Tie as tie
 
-abbrev invariant-loop : tie.invariant-loop
-invariant-loop sets₀ dest all j₀ j-end sets j =
+abbrev invariant-loop-j : tie.invariant-loop-j
+invariant-loop-j sets₀ dest all j₀ j-end sets j =
     (j ≤ all.count)
     × (length sets ≡ length sets₀)
     × Leads (share_in dest) all.list all.count sets j (walked (share_in dest) 0 (terms_of all) sets₀)
 
-abbrev decreases-loop : tie.decreases-loop
-decreases-loop sets₀ dest all j₀ j-end sets j = all.count - j
+abbrev decreases-loop-j : tie.decreases-loop-j
+decreases-loop-j sets₀ dest all j₀ j-end sets j = all.count - j
 
-loop_again : tie.Need-loop-preserved invariant-loop decreases-loop
+loop_again : tie.Need-loop-j-preserved invariant-loop-j decreases-loop-j
 loop_again c =
-    let q = c.before.before.before.before.before.before.loop in
+    let q = c.loop-j in
     let k : length c.args.t2.list ≡ most_terms = simp length-map at c.well_formed.1.0.1.1.1.1.0.1.0.1 in
     let m : c.args.t2.count ≤ length c.args.t2.list = omega (arith, c.requires.1.terms_in) in (
       omega arith,
@@ -29,13 +29,13 @@ loop_again c =
       goes (share_in c.args.dest) c.args.t2.list c.args.t2.count _ _ q.j _ (search rules) m (search rules) q.invariant.2,
     )
 
-returns : tie.Need-returns invariant-loop decreases-loop
+returns : tie.Need-returns invariant-loop-j decreases-loop-j
 returns c =
-    gone (share_in c.args.dest) c.args.t2.list c.args.t2.count _ c.before.loop.j _ (search rules) c.before.loop.invariant.2
+    gone (share_in c.args.dest) c.args.t2.list c.args.t2.count _ c.loop-j.j _ (search rules) c.loop-j.invariant.2
     ∙ shares_walk c.args.dest 0 (terms_of c.args.t2) c.args.sets.now
 
 pub join_terms_spec : {M : Type 1} → statement M
 join_terms_spec =
     tie.close
-    (tie.spec invariant-loop decreases-loop (λ c. (omega arith, refl, refl)) (λ c. search rules) (λ c. search (rules, term_place)) (λ c κs. search rules)
+    (tie.spec invariant-loop-j decreases-loop-j (λ c. (omega arith, refl, refl)) (λ c. search rules) (λ c. search (rules, term_place)) (λ c κs. search rules)
     (λ c. search rules) (λ c. search rules) loop_again (λ c. search rules) returns)

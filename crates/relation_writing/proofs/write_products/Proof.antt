@@ -13,45 +13,45 @@ use Rattle.relation_writing.proofs.Summing.{framed_kept, product_in, products_wa
 use Rattle.relation_writing.proofs.write_products.Statement.{statement}
 use Rattle.relation_writing.proofs.write_products.Tie as tie
 
-abbrev invariant-loop : tie.invariant-loop
-invariant-loop session rows₀ all opened k₀ k-end rows k =
+abbrev invariant-loop-k : tie.invariant-loop-k
+invariant-loop-k session rows₀ all opened k₀ k-end rows k =
     (k ≤ all.products)
     × (length rows ≡ length rows₀)
     × Leads (product_in session opened.y_a opened.y_b) all.factors all.products rows k
     (walked (product_in session opened.y_a opened.y_b) 0 (factors_of all) rows₀)
 
-abbrev decreases-loop : tie.decreases-loop
-decreases-loop session rows₀ all opened k₀ k-end rows k = all.products - k
+abbrev decreases-loop-k : tie.decreases-loop-k
+decreases-loop-k session rows₀ all opened k₀ k-end rows k = all.products - k
 
-write_product_requires : tie.Need-write-product-requires invariant-loop decreases-loop
+write_product_requires : tie.Need-write_product-requires invariant-loop-k decreases-loop-k
 write_product_requires c κs =
-    let q = c.before.before.before.before.before.loop in
+    let q = c.loop-k in
     let k : length c.args.t3.factors ≡ most_terms = simp length-map at c.well_formed.1.1.0.1.1.1.1.1.0.1.0.1 in
     let m : c.args.t3.products ≤ length c.args.t3.factors = omega (arith, c.requires.1.products_in) in (
       framed_kept c.args.session c.args.rows.now q.rows c.requires.0 q.invariant.1,
       every_at (Factors (shape_of c.args.session)) c.args.t3.factors c.args.t3.products q.k (search rules) m c.requires.2,
     )
 
-loop_again : tie.Need-loop-preserved invariant-loop decreases-loop
+loop_again : tie.Need-loop-k-preserved invariant-loop-k decreases-loop-k
 loop_again c =
-    let q = c.before.before.before.before.before.before.before.before.loop in
+    let q = c.loop-k in
     let k : length c.args.t3.factors ≡ most_terms = simp length-map at c.well_formed.1.1.0.1.1.1.1.1.0.1.0.1 in
     let m : c.args.t3.products ≤ length c.args.t3.factors = omega (arith, c.requires.1.products_in) in (
       omega arith,
       search rules,
       goes (product_in c.args.session c.args.t4.y_a c.args.t4.y_b) c.args.t3.factors c.args.t3.products _ _ q.k _
-          (search rules) m c.before.before.write-product.ensures q.invariant.2,
+          (search rules) m c.write_product.ensures q.invariant.2,
     )
 
-returns : tie.Need-returns invariant-loop decreases-loop
+returns : tie.Need-returns invariant-loop-k decreases-loop-k
 returns c =
-    gone (product_in c.args.session c.args.t4.y_a c.args.t4.y_b) c.args.t3.factors c.args.t3.products _ c.before.loop.k _
-    (search rules) c.before.loop.invariant.2
+    gone (product_in c.args.session c.args.t4.y_a c.args.t4.y_b) c.args.t3.factors c.args.t3.products _ c.loop-k.k _
+    (search rules) c.loop-k.invariant.2
     ∙ products_walk c.args.session c.args.t4.y_a c.args.t4.y_b 0 (factors_of c.args.t3) c.args.rows.now
 
 pub write_products_spec : {M : Type 1} → statement M
 write_products_spec =
     tie.close
-    (tie.spec invariant-loop decreases-loop (λ c. (omega arith, refl, refl)) (λ c. search rules) (λ c. omega (arith, c.before.before.before.before.requires.1.products_in))
-    (λ c. search rules) (λ c. omega (arith, c.before.before.before.before.before.requires.1.products_in)) (λ c. search rules) (λ c. omega (arith, c.before.before.before.before.before.before.requires.1.products_in))
+    (tie.spec invariant-loop-k decreases-loop-k (λ c. (omega arith, refl, refl)) (λ c. search rules) (λ c. omega (arith, c.requires.1.products_in))
+    (λ c. search rules) (λ c. omega (arith, c.requires.1.products_in)) (λ c. search rules) (λ c. omega (arith, c.requires.1.products_in))
     write_product_requires (λ c. search rules) (λ c. search rules) loop_again (λ c. search rules) returns)
