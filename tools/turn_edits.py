@@ -360,7 +360,7 @@ def main():
             out += ["old: " + o, "new: " + n]
         write(today(name), "\n".join(out) + "\n")
         done += 1
-    print(done, "brought over,", kept, "as they stood,", len(hand), "by hand,", len(left), "left")
+    print(done, "brought over,", kept, "as they stood,", len(hand), "by hand,", sum(today(n) not in hand for n in left), "left")
     for name in sorted(left):
         if today(name) not in hand:
             print("left:", name, "|", " | ".join(left[name]))
