@@ -164,27 +164,41 @@ def is_use(line):
     return re.match(r"^\s*(?:pub )?(?:ghost )?use\s", line) is not None
 
 
-def fragment(text, old, new, whole):
-    """The smallest piece of the line old, of whole words, that stands once in text, and its turned form."""
-    if whole and text.count(old) == 1:
-        return old, new
+def fragment(text, old, new, line, piece):
+    """A piece of the line old, of whole words, that stands once in text, and its turned form: about what the piece of the landed line was."""
     p = len(os.path.commonprefix([old, new]))
     s = len(os.path.commonprefix([old[p:][::-1], new[p:][::-1]]))
-    cuts = sorted({0, len(old)} | {i for i in range(1, len(old)) if old[i] == " " or old[i - 1] == " "})
-    lo = max(c for c in cuts if c <= p)
-    hi = min(c for c in cuts if c >= len(old) - s)
-    if lo == hi:
-        lo = max([c for c in cuts if c < lo], default=0)
-    while text.count(old[lo:hi]) != 1 or old[lo:hi] != old[lo:hi].strip():
+    ends = [i for i in range(1, len(old)) if (old[i] == " ") != (old[i - 1] == " ")]
+    start = line.index(piece) if piece in line else 0
+    before = len(squash(line[:start]))
+    behind = len(squash(line[start + len(piece) :])) if piece in line else 0
+    if piece.startswith(" ") or not line[:start].strip():
+        before = -1
+    los = [0] + [i for i in ends if old[i] != " " and i <= p]
+    his = [len(old)] + [i for i in ends if old[i - 1] != " " and i >= len(old) - s]
+    lo = 0 if before < 0 else min(los, key=lambda i: (abs(len(squash(old[:i])) - before), -i))
+    hi = min(his, key=lambda i: (abs(len(squash(old[i:])) - behind), -i))
+    if lo == 0 and before >= 0 and len(old) > len(old.lstrip()):
+        lo = len(old) - len(old.lstrip())
+    while text.count(old[lo:hi]) != 1:
         if lo == 0 and hi == len(old):
             return None
-        # One word more, on the side where less stands yet.
-        right, left = [c for c in cuts if c > hi], [c for c in cuts if c < lo]
-        if right and (not left or hi - p - (len(old) - s - p) <= p - lo):
-            hi = right[0]
+        if hi < len(old):
+            hi = min((i for i in his if i > hi), default=len(old))
         else:
-            lo = left[-1]
+            lo = max((i for i in los if i < lo), default=0)
     return old[lo:hi], new[lo : len(new) - (len(old) - hi)]
+
+
+def joined(lines):
+    """Lines of code as one."""
+    text = lines[0].rstrip() + "".join(" " + l.strip() for l in lines[1:] if l.strip())
+    return re.sub(r",(?= \})", "", re.sub(r",? \)", ")", re.sub(r"\( ", "(", text))) if len(lines) > 1 else text
+
+
+def squeezed(path, text):
+    """Code without what the layout adds; other files stay."""
+    return re.sub(r",([)}\]])", r"\1", re.sub(r"\s+", "", text)) if path.endswith(".rt") else text
 
 
 def balance(text):
@@ -225,37 +239,67 @@ def main():
                 mine[near[1:]].append((i1, i2, j1, j2))
             for k, name, j in stand:
                 file, old, new = parse(edits[name])[j]
-                if is_use(landed[k]) and is_use(new if new.strip() else old) or landed[k].startswith("--") and is_use(new):
+                got = mine.get((name, j))
+                if not got and (is_use(landed[k]) or landed[k].startswith("--") and is_use(new)):
                     continue
-                got = mine.pop((name, j), None)
+                if not got and any(i1 <= at[k] < i2 or i1 <= at[k] + 1 < i2 for m, hs in mine.items() if m[0] == name for i1, i2, _, _ in hs):
+                    continue
                 if not got:
                     left[name].append(f"pair {j} left no trace: {new.strip()[:60]}")
                     continue
                 for i1, i2, j1, j2 in got:
-                    made.setdefault(name, []).append((j, file, there, a[i1:i2], c[j1:j2], old == landed[k] or old.strip() == landed[k].strip()))
+                    if i1 == i2 and there.endswith(".rt"):
+                        # Lines that are only put in go to the line where the edit stood.
+                        if at[k] < i1:
+                            i1, j1 = i1 - 1, j1 - 1
+                        else:
+                            i2, j2 = i2 + 1, j2 + 1
+                    made.setdefault(name, []).append((j, file, there, a[i1:i2], c[j1:j2], (at[k] - i1, landed[k], old)))
             had, has, today_has = imports(a), imports(c), imports(now.split("\n"))
             for name in {n for _, n, _ in stand}:
                 words = set()
                 for _, _, p, _, c_lines, _ in made.get(name, []):
                     if p == there:
-                        words |= {w for l in c_lines for w in re.findall(r"[^\s(){}.;,@\"«»\[\]\\|`]+", l)}
+                        words |= {w for l in c_lines if not is_use(l) for w in re.findall(r"[^\s(){}.;,@\"«»\[\]\\|`]+", l)}
                 need = []
+                given = imports([l for _, _, p, _, c_lines, _ in made.get(name, []) if p == there for l in c_lines if is_use(l)])
                 for w, line in has.items():
+                    if w in given:
+                        continue
                     op = re.fullmatch(r"◌(.+)◌", w)
                     if w not in today_has and (w in words or op and op.group(1) in words):
                         need.append((w, line))
                 if need:
-                    made.setdefault(name, []).append((-1, path[len("/".join(path.split("/")[:2])) + 1 :], there, need, None, False))
-    done = 0
+                    swaps = {c[j1]: a[i1] for i1, i2, j1, j2 in hunks if i2 - i1 == j2 - j1 == 1 and is_use(a[i1]) and is_use(c[j1])}
+                    made.setdefault(name, []).append((-1, path[len("/".join(path.split("/")[:2])) + 1 :], there, need, [], swaps))
+    done = kept = 0
     for name in sorted(edits):
         base = "/".join(today(name).split("/")[:2])
         if today(name) in hand or (want and os.path.basename(name) not in want and os.path.basename(name)[:-5] not in want):
             continue
-        comment = (git("show", f"{TURNED}:{today(name)}") or "").split("\n")[0]
+        stood = git("show", f"{TURNED}:{today(name)}")
+        comment = stood.split("\n")[0]
         if left.get(name):
             continue
-        pairs, here = [], {}
-        for j, file, path, a, c, whole in sorted(made.get(name, []), key=lambda m: (m[0] != -1, m[0], str(m[3]))):
+        pairs, here, aim = [], {}, {}
+        order = [file for file, _, _ in parse(edits[name])]
+        for j, file, path, a, c, whole in made.get(name, []):
+            text = aim.setdefault(path, read(path))
+            if j != -1 and text.count("\n".join([""] + a + [""])) == 1:
+                aim[path] = text.replace("\n".join([""] + a + [""]), "\n".join([""] + c + [""]))
+            else:
+                aim = None
+                break
+        same = {}
+        for file, o, n in parse(stood):
+            path = base + "/" + file
+            text = same.setdefault(path, read(path))
+            same[path] = text.replace(o, n) if text is not None and text.count(o) == 1 else ""
+        if aim and {p: squeezed(p, t) for p, t in same.items()} == {p: squeezed(p, t) for p, t in aim.items()}:
+            write(today(name), stood)
+            kept += 1
+            continue
+        for j, file, path, a, c, whole in sorted(made.get(name, []), key=lambda m: (order.index(m[1]), m[0])):
             text = here.setdefault(path, read(path))
             if j == -1:
                 for w, line in a:
@@ -263,33 +307,38 @@ def main():
                     m = [l for l in text.split("\n") if is_use(l) and f"use {from_}{{" in l and l.rstrip().endswith(("}", "};"))]
                     if m:
                         o, n = m[0], m[0].replace("{", "{" + w + ", ", 1)
-                        same = next((p for p in pairs if p[0] == file and p[2] == o), None)
+                        line_before = next((p for p in pairs if p[0] == file and p[2] == o), None)
                         here[path] = text = text.replace(o, n)
-                        if same:
-                            same[2] = n
+                        if line_before:
+                            line_before[2] = n
                         else:
                             pairs.append([file, o, n])
+                    elif line in whole and whole[line] in text.split("\n"):
+                        pairs.append([file, whole[line], line])
+                        here[path] = text = text.replace(whole[line], line)
                     else:
                         left[name].append(f"no line to import {w} from {from_}")
                 continue
             if len(a) != len(c):
                 if path.endswith(".rt") and len(a) >= 1 and len(c) >= 1 and not any("//" in l for l in c[:-1]):
-                    joined = c[0].rstrip() + "".join(" " + l.strip() for l in c[1:])
                     if len(a) == 1:
-                        c = [joined]
+                        c = [joined(c)]
                     else:
                         left[name].append(f"{len(a)} lines become {len(c)}: {a[0].strip()[:50]}")
                         continue
                 else:
                     left[name].append(f"{len(a)} lines become {len(c)}: {(a or c)[0].strip()[:50]}")
                     continue
-            for o, n in zip(a, c):
+            for i, (o, n) in enumerate(zip(a, c)):
                 if o == n:
                     continue
                 if o not in text.split("\n"):
                     left[name].append(f"{path} has no more: {o.strip()[:80]}")
                     continue
-                f = fragment(text, o, n, whole)
+                f = fragment(text, o, n, *(whole[1:] if i == whole[0] else (o, o)))
+                stands = parse(stood)[j]
+                if text.count(stands[1]) == 1 and o.replace(stands[1], stands[2]) == n:
+                    f = stands[1:]
                 if f is None:
                     left[name].append(f"{path} has it twice: {o.strip()[:80]}")
                     continue
@@ -299,6 +348,10 @@ def main():
             left[name].append("nothing differs")
         if left.get(name):
             continue
+        if {p: t for p, t in same.items() if t != read(p)} == {p: t for p, t in here.items() if t != read(p)}:
+            write(today(name), stood)
+            kept += 1
+            continue
         out, last = [comment], None
         for file, o, n in pairs:
             if file != last:
@@ -307,7 +360,7 @@ def main():
             out += ["old: " + o, "new: " + n]
         write(today(name), "\n".join(out) + "\n")
         done += 1
-    print(done, "brought over,", len(hand), "by hand,", len(left), "left")
+    print(done, "brought over,", kept, "as they stood,", len(hand), "by hand,", sum(today(n) not in hand for n in left), "left")
     for name in sorted(left):
         if today(name) not in hand:
             print("left:", name, "|", " | ".join(left[name]))
