@@ -22,12 +22,11 @@ abbrev decreases-loop-i : tie.decreases-loop-i
 decreases-loop-i nodes values value weights above₀ below₀ last i₀ i-end above below i = length nodes - i
 
 loop_holds : tie.Need-loop-i-init invariant-loop-i decreases-loop-i
-loop_holds c =
-    (
-      omega (arith, c.requires.2.sized),
-      scattered_start _ _ c.args.above.now _ _ (omega (arith, c.requires.2.sized)) c.requires.1.zeros (top_first _ _ _ _ c.requires.0 _ c.mul.ensures),
-      scattered_start _ _ c.args.below.now _ _ (omega (arith, c.requires.2.sized)) c.requires.2.zeros (weight_first _ _ _ _ c.requires.0),
-    )
+loop_holds c = (
+  omega (arith, c.requires.2.sized),
+  scattered_start _ _ c.args.above.now _ _ (omega (arith, c.requires.2.sized)) c.requires.1.zeros (top_first _ _ _ _ c.requires.0 _ c.mul.ensures),
+  scattered_start _ _ c.args.below.now _ _ (omega (arith, c.requires.2.sized)) c.requires.2.zeros (weight_first _ _ _ _ c.requires.0),
+)
 
 sub_at : tie.Need-overflow_sub-at invariant-loop-i decreases-loop-i
 sub_at c =
