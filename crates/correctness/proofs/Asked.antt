@@ -23,27 +23,27 @@ module _ (P : Move Actual → Type 0) where
   joined [] ys a b = b
   joined (x ∷ xs) ys a b = (a.0, joined xs ys a.1 b)
 
-  masks_every : (ts : List Term) → All P (factoring ts) → Every P (factoring ts)
-  masks_every ts a = all_every P (factoring ts) a
+  masks_every : (ts : List Term) → All P (factoring Actual ts) → Every P (factoring Actual ts)
+  masks_every ts a = all_every P (factoring Actual ts) a
 
-  finish_every : (m : ℕ) (blocks : List ℕ) (r : ℕ) (ts all : List Term) → All P (finishing m blocks 0 ts) → All P (summing r all)
-      → Every P (finishing m blocks 0 ts ++ summing r all)
+  finish_every : (m : ℕ) (blocks : List ℕ) (r : ℕ) (ts all : List Term) → All P (finishing Actual m blocks 0 ts) → All P (summing Actual r all)
+      → Every P (finishing Actual m blocks 0 ts ++ summing Actual r all)
   finish_every m blocks r ts all a b =
-      all_every P (finishing m blocks 0 ts ++ summing r all) (joined (finishing m blocks 0 ts) (summing r all) a b)
+      all_every P (finishing Actual m blocks 0 ts ++ summing Actual r all) (joined (finishing Actual m blocks 0 ts) (summing Actual r all) a b)
 
 module _ (plan : Plan) (draw : Draw) (i : ℕ) where
   abbrev Own : Move Actual → Type 0
   Own m = OwnWith plan draw i (takes m.0) m.1
 
-  own_factors : (ts : List Term) → All Own (factoring ts)
+  own_factors : (ts : List Term) → All Own (factoring Actual ts)
   own_factors [] = tt
   own_factors (t ∷ ts) = (tt, own_factors ts)
 
-  own_finishes : (m : ℕ) (blocks : List ℕ) (k : ℕ) (ts : List Term) → All Own (finishing m blocks k ts)
+  own_finishes : (m : ℕ) (blocks : List ℕ) (k : ℕ) (ts : List Term) → All Own (finishing Actual m blocks k ts)
   own_finishes m blocks k [] = tt
   own_finishes m blocks k (t ∷ ts) = (tt, (tt, own_finishes m blocks (suc k) ts))
 
-  own_sum : (r : ℕ) (ts : List Term) → All Own (summing r ts)
+  own_sum : (r : ℕ) (ts : List Term) → All Own (summing Actual r ts)
   own_sum r [] = tt
   own_sum r (t ∷ ts) = (tt, tt)
 
@@ -68,15 +68,15 @@ module _ (draw : Draw) (L : Ledger) where
   abbrev By : Move Actual → Type 0
   By m = WrittenBy draw L m.0 m.1
 
-  by_factors : (ts : List Term) → All (λ t. L (t.first + 2) ≡ product t.first t.row t.second) ts → All By (factoring ts)
+  by_factors : (ts : List Term) → All (λ t. L (t.first + 2) ≡ product t.first t.row t.second) ts → All By (factoring Actual ts)
   by_factors [] a = tt
   by_factors (t ∷ ts) a = (a.0, by_factors ts a.1)
 
-  by_finishes : (m : ℕ) (blocks : List ℕ) (k : ℕ) (ts : List Term) → All By (finishing m blocks k ts)
+  by_finishes : (m : ℕ) (blocks : List ℕ) (k : ℕ) (ts : List Term) → All By (finishing Actual m blocks k ts)
   by_finishes m blocks k [] = tt
   by_finishes m blocks k (t ∷ ts) = (tt, (tt, by_finishes m blocks (suc k) ts))
 
-  by_sum : (r : ℕ) (ts : List Term) → SumIn L r ts → All By (summing r ts)
+  by_sum : (r : ℕ) (ts : List Term) → SumIn L r ts → All By (summing Actual r ts)
   by_sum r [] h = tt
   by_sum r (t ∷ ts) h = (h, tt)
 
@@ -101,16 +101,16 @@ module _ (S : ℕ → Type 0) (w : World) (q : Post) where
   abbrev True : Move Actual → Type 0
   True m = TrueWith S w q (takes m.0) m.1
 
-  true_factors : (ts : List Term) → All True (factoring ts)
+  true_factors : (ts : List Term) → All True (factoring Actual ts)
   true_factors [] = tt
   true_factors (t ∷ ts) = (tt, true_factors ts)
 
   true_finishes : (m : ℕ) (blocks : List ℕ) (k : ℕ) (ts : List Term)
-      → EachAt (λ k t. BothTrue S w q t.first (cut m (2 * k) blocks) (cut m (2 * k + 1) blocks)) k ts → All True (finishing m blocks k ts)
+      → EachAt (λ k t. BothTrue S w q t.first (cut m (2 * k) blocks) (cut m (2 * k + 1) blocks)) k ts → All True (finishing Actual m blocks k ts)
   true_finishes m blocks k [] h = tt
   true_finishes m blocks k (t ∷ ts) h = (h.0, (tt, true_finishes m blocks (suc k) ts h.1))
 
-  true_sum : (r : ℕ) (ts : List Term) → All True (summing r ts)
+  true_sum : (r : ℕ) (ts : List Term) → All True (summing Actual r ts)
   true_sum r [] = tt
   true_sum r (t ∷ ts) = (tt, tt)
 

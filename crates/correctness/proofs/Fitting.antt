@@ -160,7 +160,7 @@ module _ (plan : Plan) (draw : Draw) (L : Ledger) (sound : Sound plan) (is : IsD
           ))
           y
 
-      fits_all : (ms : List (Move Actual)) → All (λ a. ReadyFor g.marks (takes a)) (acts_in ms)
+      fits_all : (ms : List (Move Actual)) → All (λ a. ReadyFor g.marks (takes a)) (acts_in Actual ms)
           → All (λ m. OwnWith plan draw i (takes m.0) m.1) ms → All (λ m. TrueWith S w q (takes m.0) m.1) ms
           → All (λ m. FitsWith plan draw i g.marks g.vec (takes m.0) m.1) ms
       fits_all [] ok own y = tt

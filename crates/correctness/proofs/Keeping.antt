@@ -49,12 +49,12 @@ module _ (plan : Plan) (draw : Draw) (L : Ledger) (is : IsDraw plan draw) (len i
   call_keeps : (c : Call) (k : ℕ) → refusal_of c q ≡ k → (k ≡ 0 → Fits plan draw i g.marks g.vec c) → (r : ℕ) → held_in q r → held_in (after (perform c q)) r
   call_keeps c zero z fit r two =
       after_marks c z (fit refl) r
-      (held_stays plan draw number_in (moves c) g.marks g.vec g.sized (allowed_at plan draw L len i q g c z).moving r
+      (held_stays plan draw Actual number_in (moves c) g.marks g.vec g.sized (allowed_at plan draw L len i q g c z).moving r
       (sym (ap (λ (x : Session). mark x r) g.stands.session) ∙ two)).0
   call_keeps c (suc k) z fit r two = ap (λ (x : Session). mark x r) (refused c q k z).0 ∙ two
 
   -- the finish of a relation
-  sum_held : (r : ℕ) (ts : List Term) (N : Marks) → Sized N → 1 ≤ length ts → r < row_count_of → mark_of (marks_all (acts_in (summing {K = Actual} r ts)) N) r ≡ held
+  sum_held : (r : ℕ) (ts : List Term) (N : Marks) → Sized N → 1 ≤ length ts → r < row_count_of → mark_of (marks_all (acts_in Actual (summing Actual r ts)) N) r ≡ held
   sum_held r [] N z some low = absurd (omega arith)
   sum_held r (t ∷ ts) N z some low = get_or-set_same N.marks r held 0 (omega (arith, z.marks))
 
@@ -64,7 +64,7 @@ module _ (plan : Plan) (draw : Draw) (L : Ledger) (is : IsDraw plan draw) (len i
       let f = (relation_finished (post_at plan draw i g.marks g.stands.opened q.rows).session ts r records q.rows (subst (λ (x : Post). refusal_of (relation_finish_of ts r records) x ≡ 0) (named plan draw len i g.marks g.vec q g.stands) z)).checked.placed in
       let fs = products_of ts in
       after_marks (relation_finish_of ts r records) z fit r
-      (ap (λ (N : Marks). mark_of N r) (marks_products plan draw (2 * length fs) records (summing r ts) 0 fs g.marks)
+      (ap (λ (N : Marks). mark_of N r) (marks_products plan draw (2 * length fs) records (summing Actual r ts) 0 fs g.marks)
       ∙ sum_held r ts (finished_all fs g.marks) (sized_finished fs g.marks g.sized) f.some (omega (arith, f.sum_in)))
 
 module _ (plan : Plan) (draw : Draw) (L : Ledger) (S : ℕ → Type 0) (sound : Sound plan) (is : IsDraw plan draw) (lens : ℕ → ℕ) (i : ℕ) (lo : 1 ≤ i) (hi : i ≤ plan.n) (among : S i) (r : ℕ) where

@@ -127,7 +127,7 @@ module _ (plan : Plan) (draw : Draw) (L : Ledger) (len i : ℕ) (q : Post) (g : 
   abbrev In : Post → Type 0
   In x = refusal_of (relation_finish_of ts r records) x ≡ 0 → RelationIn L r ts
 
-  sum_in : (l : List Term) → 1 ≤ length l → All (λ (m : Move Actual). WrittenBy draw L m.0 m.1) (summing r l) → SumIn L r l
+  sum_in : (l : List Term) → 1 ≤ length l → All (λ (m : Move Actual). WrittenBy draw L m.0 m.1) (summing Actual r l) → SumIn L r l
   sum_in [] some w = absurd (omega arith)
   sum_in (t ∷ l) some w = w.0
 
@@ -137,7 +137,7 @@ module _ (plan : Plan) (draw : Draw) (L : Ledger) (len i : ℕ) (q : Post) (g : 
       let f = (relation_finished (post_at plan draw i M g.stands.opened q.rows).session ts r records q.rows z).checked.placed in
       let fs = products_of ts in
       record {
-        sum = sum_in ts f.some (all_second _ (finishing {K = Actual} (2 * length fs) records 0 fs) (summing r ts) (every_all _ (moves c) w));
+        sum = sum_in ts f.some (all_second _ (finishing Actual (2 * length fs) records 0 fs) (summing Actual r ts) (every_all _ (moves c) w));
         products =
             all_zip (λ t k e. ((g.facts t.first (omega (arith, k.r_low))).waiting (inl k.first)).means ∙ ap₂ (product t.first) e.0 e.1) fs
             (waiting plan draw i M g.stands.opened q.rows ts r records f) f.remembered;

@@ -243,18 +243,18 @@ module _ (plan : Plan) (draw : Draw) (L : Ledger) (small : plan.n < tens 10) whe
     noted (multiplies r) x w = tt
     noted (admits line) x w = tt
 
-    all_noted : (ms : List (Move Actual)) → All Wrote ms → All Noted (map masking (acts_in ms))
+    all_noted : (ms : List (Move Actual)) → All Wrote ms → All Noted (map masking (acts_in Actual ms))
     all_noted [] w = tt
     all_noted (m ∷ ms) w = (noted m.0 m.1 w.0, all_noted ms w.1)
 
-    said_one : (ms : List (Move Actual)) (s : Sending) (xs : List ℕ) → Sendable (acts_in ms) g.marks s → Says plan draw i g.vec s xs
+    said_one : (ms : List (Move Actual)) (s : Sending) (xs : List ℕ) → Sendable (acts_in Actual ms) g.marks s → Says plan draw i g.vec s xs
         → All Wrote ms → Said (line_of i s xs)
     said_one ms (its_opening r) xs ok says w = inl (new_opening r xs ok says)
     said_one ms (its_masks a b r) xs ok says w =
-        inr (new_masks a b r xs ok.0 says (all_among Noted (map masking (acts_in ms)) (all_noted ms w) (of a b r) ok.1))
+        inr (new_masks a b r xs ok.0 says (all_among Noted (map masking (acts_in Actual ms)) (all_noted ms w) (of a b r) ok.1))
 
     said_by_lem : (ms : List (Move Actual)) (ss : List Sending) (k : ℕ) (parts : List (List ℕ))
-        → (k ≡ 0 → All (Sendable (acts_in ms) g.marks) ss × SaysAll plan draw i g.vec ss parts × All Wrote ms)
+        → (k ≡ 0 → All (Sendable (acts_in Actual ms) g.marks) ss × SaysAll plan draw i g.vec ss parts × All Wrote ms)
         → All Said (sent_by i k ss parts)
     said_by_lem ms [] k parts f = tt
     said_by_lem ms (s ∷ ss) k [] f = tt

@@ -120,9 +120,9 @@ module _ (plan : Plan) (draw : Draw) (L : Ledger) where
   abbrev Wrote : Move Actual → Type 0
   Wrote m = WrittenBy draw L m.0 m.1
 
-  known_after : (i : ℕ) (ms : List (Move Actual)) (M : Marks) (vec : ℕ → Vector) → Sized M → AllowedAll (acts_in ms) M
+  known_after : (i : ℕ) (ms : List (Move Actual)) (M : Marks) (vec : ℕ → Vector) → Sized M → AllowedAll (acts_in Actual ms) M
       → All (λ m. OwnWith plan draw i (takes m.0) m.1) ms → All Wrote ms → Known M vec
-      → Known (marks_all (acts_in ms) M) (vectors_all plan draw number_in ms M vec)
+      → Known (marks_all (acts_in Actual ms) M) (vectors_all plan draw Actual number_in ms M vec)
   known_after i [] M vec z ok own w f = f
   known_after i (m ∷ ms) M vec z ok own w f =
       let a = m.0 in

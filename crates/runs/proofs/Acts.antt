@@ -18,24 +18,24 @@ use Rattle.runs.proofs.Outcomes.{refusal_of, refusal_is, does, done}
 
 -- ---- of a relation's product terms
 
-masked_marks : (ts : List Term) (s : Session) → (masked_terms s ts).marks ≡ marks_after (acts_in (factoring {K = Actual} ts)) s.marks
+masked_marks : (ts : List Term) (s : Session) → (masked_terms s ts).marks ≡ marks_after (acts_in Actual (factoring Actual ts)) s.marks
 unfolding masked_terms
 masked_marks [] s = refl
 masked_marks (t ∷ ts) s = masked_marks ts _
 
 module _ (m : ℕ) (blocks : List ℕ) (rest : List (Move Actual)) where
   finished_marks : (s : Session) (rows : List ℕ) (k : ℕ) (ts : List Term) (now : Session)
-      → marks_after (acts_in rest) (finished_terms s rows blocks k ts now).marks ≡ marks_after (acts_in (finishing {K = Actual} m blocks k ts ++ rest)) now.marks
+      → marks_after (acts_in Actual rest) (finished_terms s rows blocks k ts now).marks ≡ marks_after (acts_in Actual (finishing Actual m blocks k ts ++ rest)) now.marks
   unfolding finished_terms
   finished_marks s rows k [] now = refl
   finished_marks s rows k (t ∷ ts) now =
       finished_marks s rows (suc k) ts (pair_done now t.first (term_number_a s rows blocks k t) (term_number_b s rows blocks k t))
 
-  finishing_many : (k : ℕ) (ts : List Term) → length (acts_in (finishing {K = Actual} m blocks k ts ++ rest)) ≡ 2 * length ts + length (acts_in rest)
+  finishing_many : (k : ℕ) (ts : List Term) → length (acts_in Actual (finishing Actual m blocks k ts ++ rest)) ≡ 2 * length ts + length (acts_in Actual rest)
   finishing_many k [] = omega arith
   finishing_many k (t ∷ ts) = let e = finishing_many (suc k) ts in omega (arith, e)
 
-factoring_many : (ts : List Term) → length (acts_in (factoring {K = Actual} ts)) ≡ length ts
+factoring_many : (ts : List Term) → length (acts_in Actual (factoring Actual ts)) ≡ length ts
 factoring_many [] = refl
 factoring_many (t ∷ ts) = ap suc (factoring_many ts)
 
@@ -44,12 +44,12 @@ with_sum_lem : (ts : List Term) (r : ℕ) (blocks : List ℕ) (q : Post) → 1 �
     → (relation_done q.session q.rows blocks (products_of ts) ts r).marks ≡ marks_after (acts {K = Actual} (relation_finish_of (record { terms = ts; r = r; blocks = blocks }))) q.session.marks
 with_sum_lem [] r blocks q h = absurd (omega arith)
 with_sum_lem (t ∷ ts) r blocks q h =
-    finished_marks (2 * length (products_of (t ∷ ts))) blocks (summing r (t ∷ ts)) q.session q.rows 0 (products_of (t ∷ ts)) q.session
+    finished_marks (2 * length (products_of (t ∷ ts))) blocks (summing Actual r (t ∷ ts)) q.session q.rows 0 (products_of (t ∷ ts)) q.session
 
 many_with_sum : (ts : List Term) (r : ℕ) (blocks : List ℕ) → 1 ≤ length ts
     → length (acts {K = Actual} (relation_finish_of (record { terms = ts; r = r; blocks = blocks }))) ≡ 2 * length (products_of ts) + 1
 many_with_sum [] r blocks h = absurd (omega arith)
-many_with_sum (t ∷ ts) r blocks h = finishing_many (2 * length (products_of (t ∷ ts))) blocks (summing r (t ∷ ts)) 0 (products_of (t ∷ ts))
+many_with_sum (t ∷ ts) r blocks h = finishing_many (2 * length (products_of (t ∷ ts))) blocks (summing Actual r (t ∷ ts)) 0 (products_of (t ∷ ts))
 
 -- ---- call by call
 

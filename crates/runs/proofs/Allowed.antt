@@ -72,7 +72,7 @@ module _ (plan : Plan) (draw : Draw) (i : ℕ) (M : Marks) (Y : Opened) (l : Lis
     abbrev fs : List Term
     fs = products_of ts
 
-    pub sum_allowed : AllowedAll (acts_in (summing {K = Actual} d ts)) (finished_all (products_of ts) M)
+    pub sum_allowed : AllowedAll (acts_in Actual (summing Actual d ts)) (finished_all (products_of ts) M)
     sum_allowed =
         let w = waiting ts d blocks f in
         let a = apart fs f.once in
@@ -82,11 +82,11 @@ module _ (plan : Plan) (draw : Draw) (i : ℕ) (M : Marks) (Y : Opened) (l : Lis
         (all_map (λ t h. (omega (arith, h.0), stays_all fs M w a t.row (λ e. omega (arith, h.1)) (λ e. omega (arith, h.1)) ∙ h.1)) ts f.terms_held)
         (products_held fs M w a))
 
-    finish_allowed : (m : ℕ) → AllowedAll (acts_in (finishing {K = Actual} m blocks 0 (products_of ts) ++ summing d ts)) M
-    finish_allowed m = allowed_products m blocks 0 fs (summing d ts) M (waiting ts d blocks f) (apart fs f.once) sum_allowed
+    finish_allowed : (m : ℕ) → AllowedAll (acts_in Actual (finishing Actual m blocks 0 (products_of ts) ++ summing Actual d ts)) M
+    finish_allowed m = allowed_products m blocks 0 fs (summing Actual d ts) M (waiting ts d blocks f) (apart fs f.once) sum_allowed
 
-    finish_ready : (m : ℕ) → All (λ a. ReadyFor M (takes a)) (acts_in (finishing {K = Actual} m blocks 0 (products_of ts) ++ summing d ts))
-    finish_ready m = ready_products m blocks 0 fs (summing d ts) M (waiting ts d blocks f) (ready_sum d ts M)
+    finish_ready : (m : ℕ) → All (λ a. ReadyFor M (takes a)) (acts_in Actual (finishing Actual m blocks 0 (products_of ts) ++ summing Actual d ts))
+    finish_ready m = ready_products m blocks 0 fs (summing Actual d ts) M (waiting ts d blocks f) (ready_sum d ts M)
 
   abbrev Passes : Call → Type 0
   Passes c = Allowed (acts c) (sends c) M × ((length l ≡ rows_length (plan_shape plan)) ⊎ ((r : ℕ) × (mark_of M r ≡ raw)))

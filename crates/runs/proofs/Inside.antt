@@ -11,6 +11,7 @@ use Rattle.runs.specs.Calls.{Among}
 module _ {A : Type 0} where
   -- what holds of all holds of each, and back
   pub all_among : (P : A → Type 0) (xs : List A) → All P xs → (a : A) → Among a xs → P a
+  all_among P [] h a m = elim m [ ]
   all_among P (x ∷ xs) h a (inl e) = subst P (sym e) h.0
   all_among P (x ∷ xs) h a (inr m) = all_among P xs h.1 a m
 
@@ -20,16 +21,19 @@ module _ {A : Type 0} where
 
   -- a list without one of its members
   without : (x : A) (ys : List A) → Among x ys → List A
+  without x [] m = elim m [ ]
   without x (y ∷ ys) (inl e) = ys
   without x (y ∷ ys) (inr m) = y ∷ without x ys m
 
   without_length : (x : A) (ys : List A) (m : Among x ys) → length ys ≡ suc (length (without x ys m))
   unfolding without
+  without_length x [] m = elim m [ ]
   without_length x (y ∷ ys) (inl e) = refl
   without_length x (y ∷ ys) (inr m) = ap suc (without_length x ys m)
 
   without_among : (x : A) (ys : List A) (m : Among x ys) (a : A) → a ≢ x → Among a ys → Among a (without x ys m)
   unfolding without
+  without_among x [] m a ne k = elim m [ ]
   without_among x (y ∷ ys) (inl e) a ne (inl q) = absurd (ne (q ∙ sym e))
   without_among x (y ∷ ys) (inl e) a ne (inr q) = q
   without_among x (y ∷ ys) (inr m) a ne (inl q) = inl q

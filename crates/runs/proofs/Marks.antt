@@ -244,12 +244,12 @@ number_in (a_record r) x = 0
 number_in (two_records r) x = 0
 
 -- `num` gives the number that a move takes
-abbrev pub vectors_all : Plan → Draw → {K : Kinds} → ((t : Taking) → Given K t → ℕ) → List (Move K) → Marks → (ℕ → Vector) → ℕ → Vector
-vectors_all plan draw num [] M vec = vec
-vectors_all plan draw num (m ∷ ms) M vec =
-    vectors_all plan draw num ms (marks_by m.0 M) (vectors_by plan draw m.0 (num (takes m.0) m.1) M vec)
+abbrev pub vectors_all : Plan → Draw → (K : Kinds) → ((t : Taking) → Given K t → ℕ) → List (Move K) → Marks → (ℕ → Vector) → ℕ → Vector
+vectors_all plan draw K num [] M vec = vec
+vectors_all plan draw K num (m ∷ ms) M vec =
+    vectors_all plan draw K num ms (marks_by m.0 M) (vectors_by plan draw m.0 (num (takes m.0) m.1) M vec)
 
-abbrev pub opened_all : Plan → Draw → {K : Kinds} → ((t : Taking) → Given K t → ℕ) → List (Move K) → Marks → (ℕ → Vector) → Opened → Opened
-opened_all plan draw num [] M vec Y = Y
-opened_all plan draw num (m ∷ ms) M vec Y =
-    opened_all plan draw num ms (marks_by m.0 M) (vectors_by plan draw m.0 (num (takes m.0) m.1) M vec) (opened_by m.0 M vec Y)
+abbrev pub opened_all : Plan → Draw → (K : Kinds) → ((t : Taking) → Given K t → ℕ) → List (Move K) → Marks → (ℕ → Vector) → Opened → Opened
+opened_all plan draw K num [] M vec Y = Y
+opened_all plan draw K num (m ∷ ms) M vec Y =
+    opened_all plan draw K num ms (marks_by m.0 M) (vectors_by plan draw m.0 (num (takes m.0) m.1) M vec) (opened_by m.0 M vec Y)

@@ -41,16 +41,16 @@ module _ {K K' : Kinds} (f : Filling K K') where
   filled_move m = (m.0, given_by (takes m.0) m.1)
 
   -- the acts of a relation's two calls
-  factoring_filled : (ts : List Term) → factoring ts ≡ map filled_move (factoring ts)
+  factoring_filled : (ts : List Term) → factoring K' ts ≡ map filled_move (factoring K ts)
   factoring_filled [] = refl
   factoring_filled (t ∷ ts) = ap (λ (ms : List (Move K')). (factors t.row t.second t.first, tt) ∷ ms) (factoring_filled ts)
 
-  summing_filled : (r : ℕ) (ts : List Term) → summing r ts ≡ map filled_move (summing r ts)
+  summing_filled : (r : ℕ) (ts : List Term) → summing K' r ts ≡ map filled_move (summing K r ts)
   summing_filled r [] = refl
   summing_filled r (t ∷ ts) = refl
 
   finishing_filled : (m : ℕ) (blocks : K.Record) (k : ℕ) (ts : List Term) (r : ℕ) (all : List Term)
-      → finishing m (f.blocks blocks) k ts ++ summing r all ≡ map filled_move (finishing m blocks k ts ++ summing r all)
+      → finishing K' m (f.blocks blocks) k ts ++ summing K' r all ≡ map filled_move (finishing K m blocks k ts ++ summing K r all)
   finishing_filled m blocks k [] r all = summing_filled r all
   finishing_filled m blocks k (t ∷ ts) r all =
       let ea = sym (f.parts m (2 * k) blocks) in
@@ -81,9 +81,9 @@ module _ {K K' : Kinds} (f : Filling K K') where
   pub sends_filled : (c : CallOf K) → sends (filled f c) ≡ sends c
   sends_filled c = ap (λ (o : Outline K'). o.sends) (outline_filled c)
 
-  acts_in_lem : (ms : List (Move K)) → acts_in (map filled_move ms) ≡ acts_in ms
+  acts_in_lem : (ms : List (Move K)) → acts_in K' (map filled_move ms) ≡ acts_in K ms
   acts_in_lem [] = refl
   acts_in_lem (m ∷ ms) = ap (λ (todo : List Act). m.0 ∷ todo) (acts_in_lem ms)
 
   pub acts_filled : (c : CallOf K) → acts (filled f c) ≡ acts c
-  acts_filled c = ap (λ (ms : List (Move K')). acts_in ms) (moves_filled c) ∙ acts_in_lem (moves c)
+  acts_filled c = ap (λ (ms : List (Move K')). acts_in K' ms) (moves_filled c) ∙ acts_in_lem (moves c)

@@ -104,10 +104,10 @@ module _ (plan : Plan) (draw : Draw) where
     ];
   }
 
-  pub recalls_all : {K : Kinds} (num : (t : Taking) → Given K t → ℕ) (ms : List (Move K)) (M : Marks) (vec : ℕ → Vector) (Y : Opened)
-      → Recalls M vec Y → AllowedAll (acts_in ms) M
-      → Recalls (marks_all (acts_in ms) M) (vectors_all plan draw num ms M vec) (opened_all plan draw num ms M vec Y)
-  recalls_all num [] M vec Y k ok = k
-  recalls_all num (m ∷ ms) M vec Y k ok =
-      recalls_all num ms (marks_by m.0 M) (vectors_by plan draw m.0 (num (takes m.0) m.1) M vec) (opened_by m.0 M vec Y)
+  pub recalls_all : (K : Kinds) (num : (t : Taking) → Given K t → ℕ) (ms : List (Move K)) (M : Marks) (vec : ℕ → Vector) (Y : Opened)
+      → Recalls M vec Y → AllowedAll (acts_in K ms) M
+      → Recalls (marks_all (acts_in K ms) M) (vectors_all plan draw K num ms M vec) (opened_all plan draw K num ms M vec Y)
+  recalls_all K num [] M vec Y k ok = k
+  recalls_all K num (m ∷ ms) M vec Y k ok =
+      recalls_all K num ms (marks_by m.0 M) (vectors_by plan draw m.0 (num (takes m.0) m.1) M vec) (opened_by m.0 M vec Y)
       (recalls_by m.0 (num (takes m.0) m.1) M vec Y k ok.0) ok.1

@@ -53,27 +53,27 @@ opened_terms (t ∷ ts) M vec Y =
 -- marks, vectors and numbers after the acts: the products', then the rest
 module _ (plan : Plan) (draw : Draw) (m : ℕ) (blocks : List ℕ) (rest : List (Move Actual)) where
   pub marks_products : (k : ℕ) (ts : List Term) (M : Marks)
-      → marks_all (acts_in (finishing {K = Actual} m blocks k ts ++ rest)) M ≡ marks_all (acts_in rest) (finished_all ts M)
+      → marks_all (acts_in Actual (finishing Actual m blocks k ts ++ rest)) M ≡ marks_all (acts_in Actual rest) (finished_all ts M)
   marks_products k [] M = refl
   marks_products k (t ∷ ts) M =
-      ap (marks_all (acts_in (finishing {K = Actual} m blocks (suc k) ts ++ rest))) (done_is M t.first)
+      ap (marks_all (acts_in Actual (finishing Actual m blocks (suc k) ts ++ rest))) (done_is M t.first)
       ∙ marks_products (suc k) ts (finished M t.first)
 
   pub vectors_products : (k : ℕ) (ts : List Term) (M : Marks) (vec : ℕ → Vector)
-      → vectors_all plan draw number_in (finishing {K = Actual} m blocks k ts ++ rest) M vec
-      ≡ vectors_all plan draw number_in rest (finished_all ts M) (multiplied_all ts M vec)
+      → vectors_all plan draw Actual number_in (finishing Actual m blocks k ts ++ rest) M vec
+      ≡ vectors_all plan draw Actual number_in rest (finished_all ts M) (multiplied_all ts M vec)
   vectors_products k [] M vec = refl
   vectors_products k (t ∷ ts) M vec =
-      ap (λ (N : Marks). vectors_all plan draw number_in (finishing {K = Actual} m blocks (suc k) ts ++ rest) N (at vec (t.first + 2) (written M vec t.first)))
+      ap (λ (N : Marks). vectors_all plan draw Actual number_in (finishing Actual m blocks (suc k) ts ++ rest) N (at vec (t.first + 2) (written M vec t.first)))
       (done_is M t.first)
       ∙ vectors_products (suc k) ts (finished M t.first) _
 
   pub opened_products : (k : ℕ) (ts : List Term) (M : Marks) (vec : ℕ → Vector) (Y : Opened)
-      → opened_all plan draw number_in (finishing {K = Actual} m blocks k ts ++ rest) M vec Y
-      ≡ opened_all plan draw number_in rest (finished_all ts M) (multiplied_all ts M vec) (opened_terms ts M vec Y)
+      → opened_all plan draw Actual number_in (finishing Actual m blocks k ts ++ rest) M vec Y
+      ≡ opened_all plan draw Actual number_in rest (finished_all ts M) (multiplied_all ts M vec) (opened_terms ts M vec Y)
   opened_products k [] M vec Y = refl
   opened_products k (t ∷ ts) M vec Y =
-      ap (λ (N : Marks). opened_all plan draw number_in (finishing {K = Actual} m blocks (suc k) ts ++ rest) N (at vec (t.first + 2) (written M vec t.first)) (opened_by (collects t.first) M vec Y))
+      ap (λ (N : Marks). opened_all plan draw Actual number_in (finishing Actual m blocks (suc k) ts ++ rest) N (at vec (t.first + 2) (written M vec t.first)) (opened_by (collects t.first) M vec Y))
       (done_is M t.first)
       ∙ opened_products (suc k) ts (finished M t.first) _ _
 
@@ -137,7 +137,7 @@ module _ (H : Holder) where
         → plus_terms s₀ d ts (with_row W d (row X) l) ≡ with_row W d (row (added_terms vec X ts)) l
     unfolding plus_terms
     all_added X [] a = refl
-    all_added X (t ∷ ts) a = ap (plus_terms s₀ d ts) (one_more X t a.0) ∙ all_added _ ts a.1
+    all_added X (t ∷ ts) a = ap (plus_terms s₀ d ts) (one_more X t a.0) ∙ all_added (plus_times (element t.coefficient) X (vec (number_row_of t))) ts a.1
 
     adds_of : mark_of M d ≡ empty → (ts : List Term) → All (HeldIn M) (map summand ts) → All Adds ts
     adds_of was [] a = tt
@@ -218,14 +218,14 @@ module _ (plan : Plan) (draw : Draw) (len i : ℕ) (M₀ : Marks) (Y₀ : Opened
 module _ (plan : Plan) (draw : Draw) (i : ℕ) where
   pub masked_session : (ts : List Term) (M : Marks) (vec : ℕ → Vector) (Y : Opened)
       → masked_terms (session_at plan draw i M Y) ts
-      ≡ session_at plan draw i (marks_all (acts_in (factoring {K = Actual} ts)) M) (opened_all plan draw number_in (factoring {K = Actual} ts) M vec Y)
+      ≡ session_at plan draw i (marks_all (acts_in Actual (factoring Actual ts)) M) (opened_all plan draw Actual number_in (factoring Actual ts) M vec Y)
   unfolding masked_terms
   masked_session [] M vec Y = refl
   masked_session (t ∷ ts) M vec Y = masked_session ts (marks_by (factors t.row t.second t.first) M) vec Y
 
   pub masks_hold : (len : ℕ) (ts : List Term) (M : Marks) (Y : Opened) (vec : ℕ → Vector) (l : List ℕ) → Holds plan draw len i M vec l
-      → AllowedAll (acts_in (factoring {K = Actual} ts)) M
-      → Holds plan draw len i (marks_all (acts_in (factoring {K = Actual} ts)) M) (vectors_all plan draw number_in (factoring {K = Actual} ts) M vec) l
+      → AllowedAll (acts_in Actual (factoring Actual ts)) M
+      → Holds plan draw len i (marks_all (acts_in Actual (factoring Actual ts)) M) (vectors_all plan draw Actual number_in (factoring Actual ts) M vec) l
   masks_hold len [] M Y vec l h al = h
   masks_hold len (t ∷ ts) M Y vec l h al =
       let H : Holder = record { plan = plan; draw = draw; len = len; post = i; marks = M; opened = Y; vec = vec; rows = l; holds = h } in

@@ -50,7 +50,7 @@ still_unused M a b r x y q ok ne h = record {
   third = past M r masked (q + 2) (λ e. omega (arith, ap (mark_of M) e, h.third, ok.first)) ∙ h.third;
 }
 
-pub allowed_masks : (ts : List Term) (M : Marks) → All (Termed unused M) ts → Apart ts → AllowedAll (acts_in (factoring {K = Actual} ts)) M
+pub allowed_masks : (ts : List Term) (M : Marks) → All (Termed unused M) ts → Apart ts → AllowedAll (acts_in Actual (factoring Actual ts)) M
 allowed_masks [] M h a = tt
 allowed_masks (t ∷ ts) M h a = (
   (tt, h.0),
@@ -58,12 +58,12 @@ allowed_masks (t ∷ ts) M h a = (
       (all_zip (λ t' ok ne. still_unused M t.row t.second t.first t'.row t'.second t'.first h.0 ne ok) ts h.1 a.0) a.1,
 )
 
-pub ready_masks : (ts : List Term) (M : Marks) → All (λ a. ReadyFor M (takes a)) (acts_in (factoring {K = Actual} ts))
+pub ready_masks : (ts : List Term) (M : Marks) → All (λ a. ReadyFor M (takes a)) (acts_in Actual (factoring Actual ts))
 ready_masks [] M = tt
 ready_masks (t ∷ ts) M = (tt, ready_masks ts M)
 
 pub sending_masks : (todo : List Act) (M : Marks) (ts : List Term) → All (Termed unused M) ts
-    → ((m : Masking) → Among m (map masking (acts_in (factoring {K = Actual} ts))) → Among m (map masking todo)) → All (Sendable todo M) (maskings ts)
+    → ((m : Masking) → Among m (map masking (acts_in Actual (factoring Actual ts))) → Among m (map masking todo)) → All (Sendable todo M) (maskings ts)
 sending_masks todo M [] h up = tt
 sending_masks todo M (t ∷ ts) h up =
     ((h.0, up (of t.row t.second t.first) (inl refl)), sending_masks todo M ts h.1 (λ m a. up m (inr a)))
@@ -158,20 +158,20 @@ products_held (t ∷ ts) M h a =
 
 module _ (m : ℕ) (blocks : List ℕ) where
   pub allowed_products : (k : ℕ) (ts : List Term) (rest : List (Move Actual)) (M : Marks) → All (Waits M) ts → Apart ts
-      → AllowedAll (acts_in rest) (finished_all ts M) → AllowedAll (acts_in (finishing {K = Actual} m blocks k ts ++ rest)) M
+      → AllowedAll (acts_in Actual rest) (finished_all ts M) → AllowedAll (acts_in Actual (finishing Actual m blocks k ts ++ rest)) M
   allowed_products k [] rest M h a last = last
   allowed_products k (t ∷ ts) rest M h a last =
       let r = t.first in (
         (h.0, tt),
         (
           (collected_triple_lem M r h.0, tt),
-          subst (AllowedAll (acts_in (finishing {K = Actual} m blocks (suc k) ts ++ rest))) (sym (done_is M r))
+          subst (AllowedAll (acts_in Actual (finishing Actual m blocks (suc k) ts ++ rest))) (sym (done_is M r))
               (allowed_products (suc k) ts rest (finished M r) (all_wait M t ts h.0 a.0 h.1) a.1 last),
         ),
       )
 
   pub ready_products : (k : ℕ) (ts : List Term) (rest : List (Move Actual)) (M : Marks) → All (Waits M) ts
-      → All (λ a. ReadyFor M (takes a)) (acts_in rest) → All (λ a. ReadyFor M (takes a)) (acts_in (finishing {K = Actual} m blocks k ts ++ rest))
+      → All (λ a. ReadyFor M (takes a)) (acts_in Actual rest) → All (λ a. ReadyFor M (takes a)) (acts_in Actual (finishing Actual m blocks k ts ++ rest))
   ready_products k [] rest M h last = last
   ready_products k (t ∷ ts) rest M h last = (h.0, (tt, ready_products (suc k) ts rest M h.1 last))
 
@@ -195,10 +195,10 @@ module _ (N : Marks) where
       go (t ∷ l) a b = (held_term t (plain t) refl a.0 b.0, go l a.1 b.1)
 
   pub allowed_sum : (r : ℕ) (ts : List Term) → 1 ≤ length ts → r < row_count_of → mark_of N r ≡ empty → All (HeldIn N) (map summand ts)
-      → AllowedAll (acts_in (summing {K = Actual} r ts)) N
+      → AllowedAll (acts_in Actual (summing Actual r ts)) N
   allowed_sum r [] some low is held = tt
   allowed_sum r (t ∷ ts) some low is held = ((record { r_low = low; r_empty = is; held = held }, tt), tt)
 
-pub ready_sum : (r : ℕ) (ts : List Term) (M : Marks) → All (λ a. ReadyFor M (takes a)) (acts_in (summing {K = Actual} r ts))
+pub ready_sum : (r : ℕ) (ts : List Term) (M : Marks) → All (λ a. ReadyFor M (takes a)) (acts_in Actual (summing Actual r ts))
 ready_sum r [] M = tt
 ready_sum r (t ∷ ts) M = (tt, tt)

@@ -49,7 +49,7 @@ module _ (plan : Plan) (draw : Draw) (i : ℕ) (M : Marks) (Y : Opened) (l : Lis
 
   -- then the sum
   done_with : (ts : List Term) (d : ℕ) (blocks : List ℕ) → 1 ≤ length ts
-      → With plan draw i (marks_all (acts_in (finishing {K = Actual} (2 * length (products_of ts)) blocks 0 (products_of ts) ++ summing d ts)) M)
+      → With plan draw i (marks_all (acts_in Actual (finishing Actual (2 * length (products_of ts)) blocks 0 (products_of ts) ++ summing Actual d ts)) M)
       (relation_done s l blocks (products_of ts) ts d)
   done_with [] d blocks some = absurd (omega arith)
   done_with (t ∷ ts) d blocks some =
@@ -57,7 +57,7 @@ module _ (plan : Plan) (draw : Draw) (i : ℕ) (M : Marks) (Y : Opened) (l : Lis
       let o = finished_with plan draw i s l blocks 0 fs M Y in (
         o.0,
         ap₂ (λ (x : Session) (rs : List ℕ). summed_row x d rs) o.1 (sym (rows_in (t ∷ ts)))
-            ∙ ap (λ (N : Marks). session_at plan draw i N o.0) (sym (marks_products plan draw (2 * length fs) blocks (summing d (t ∷ ts)) 0 fs M)),
+            ∙ ap (λ (N : Marks). session_at plan draw i N o.0) (sym (marks_products plan draw (2 * length fs) blocks (summing Actual d (t ∷ ts)) 0 fs M)),
       )
 
   pub remains : (c : Call) → refusal_of c p0 ≡ 0 → With plan draw i (marks_all (acts c) M) (does c p0).session

@@ -222,15 +222,15 @@ sized_after [] M z = z
 sized_after (a ∷ todo) M z = sized_after todo (marks_by a M) (sized_by a M z)
 
 module _ (plan : Plan) (draw : Draw) where
-  pub held_stays : {K : Kinds} (num : (t : Taking) → Given K t → ℕ) (ms : List (Move K)) (M : Marks) (vec : ℕ → Vector) → Sized M
-      → AllowedAll (acts_in ms) M → (q : ℕ) → mark_of M q ≡ held
-      → (mark_of (marks_all (acts_in ms) M) q ≡ held) × (vectors_all plan draw num ms M vec q ≡ vec q)
-  held_stays num [] M vec z ok q h = (h, refl)
-  held_stays num (m ∷ ms) M vec z ok q h =
+  pub held_stays : (K : Kinds) (num : (t : Taking) → Given K t → ℕ) (ms : List (Move K)) (M : Marks) (vec : ℕ → Vector) → Sized M
+      → AllowedAll (acts_in K ms) M → (q : ℕ) → mark_of M q ≡ held
+      → (mark_of (marks_all (acts_in K ms) M) q ≡ held) × (vectors_all plan draw K num ms M vec q ≡ vec q)
+  held_stays K num [] M vec z ok q h = (h, refl)
+  held_stays K num (m ∷ ms) M vec z ok q h =
       let a = m.0 in
       let c = num (takes a) m.1 in
       let k = held_by plan draw a c M vec z ok.0 q h in
-      let l = held_stays num ms (marks_by a M) (vectors_by plan draw a c M vec) (sized_by a M z) ok.1 q k.0 in
+      let l = held_stays K num ms (marks_by a M) (vectors_by plan draw a c M vec) (sized_by a M z) ok.1 q k.0 in
       (l.0, l.1 ∙ k.1)
 
   pub past_stays : (todo : List Act) (M : Marks) → Sized M → AllowedAll todo M → (q : ℕ) → Masked (mark_of M q) ⊎ (mark_of M q ≡ spentMark)
@@ -268,6 +268,7 @@ waiting_now m M x y r z low e =
 
 module _ (plan : Plan) (draw : Draw) where
   pub unmasked : (todo : List Act) (M : Marks) → Sized M → AllowedAll todo M → (r : ℕ) → MasksIn todo r → Masked (mark_of M r) ⊎ (mark_of M r ≡ spentMark) → ⊥
+  unmasked [] M z al r i past = elim i [ ]
   unmasked (a ∷ todo) M z al r (inl at) past = young (masking a) M al.0.1 r at past
   unmasked (a ∷ todo) M z al r (inr at) past =
       unmasked todo (marks_by a M) (sized_by a M z) al.1 r at (past_by plan draw a M z al.0 r past)
@@ -275,6 +276,7 @@ module _ (plan : Plan) (draw : Draw) where
   pub waits_after : (todo : List Act) (M : Marks) → Sized M → AllowedAll todo M → (x y r : ℕ) → r ≤ last_triple → Among (of x y r) (map masking todo)
       → (Masked (mark_of (marks_all todo M) r) ⊎ (mark_of (marks_all todo M) r ≡ spentMark))
       × (Masked (mark_of (marks_all todo M) r) → (remembered_a (marks_all todo M) r ≡ x) × (remembered_b (marks_all todo M) r ≡ y))
+  waits_after [] M z al x y r low i = elim i [ ]
   waits_after (a ∷ todo) M z al x y r low (inr there) = waits_after todo (marks_by a M) (sized_by a M z) al.1 x y r low there
   waits_after (a ∷ todo) M z al x y r low (inl e) =
       let h = waiting_now (masking a) (mark_all_of (marks_of a) M) x y r (sized_marks (marks_of a) M z) low e in (

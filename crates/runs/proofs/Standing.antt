@@ -59,10 +59,10 @@ module _ (plan : Plan) (draw : Draw) where
   marks_after c M = marks_all (acts c) M
 
   abbrev pub vectors_after : Call → Marks → (ℕ → Vector) → ℕ → Vector
-  vectors_after c M vec = vectors_all plan draw number_in (moves c) M vec
+  vectors_after c M vec = vectors_all plan draw Actual number_in (moves c) M vec
 
   abbrev pub opened_after_of : Call → Marks → (ℕ → Vector) → Opened → Opened
-  opened_after_of c M vec Y = opened_all plan draw number_in (moves c) M vec Y
+  opened_after_of c M vec Y = opened_all plan draw Actual number_in (moves c) M vec Y
 
   -- what a call that is not refused writes into the list it was lent, line by line
   abbrev pub Says : ℕ → (ℕ → Vector) → Sending → List ℕ → Type 0

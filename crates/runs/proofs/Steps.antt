@@ -26,7 +26,7 @@ use Rattle.relation.proofs.Passed.{relation_masks_made, relation_finished}
 use Rattle.vectors.specs.Vector.{Vector, numbers}
 use Rattle.runs.specs.Draws.{Plan, Draw, IsDraw, point_of, plan_shape}
 use Rattle.runs.specs.Outline.{load_row_of, load_triple_of, deal, message, opening, linear, masks, collect, multiply, relation_masks_of, relation_finish_of, access, maskings, moves, sends}
-use Rattle.runs.specs.Calls.{Post, Call, pieces, perform, after}
+use Rattle.runs.specs.Calls.{Actual, Post, Call, pieces, perform, after}
 use Rattle.runs.proofs.Marks.{Marks, no_numbers, session_at, mask_vector_a, mask_vector_b, number_in}
 use Rattle.runs.proofs.Outcomes.{refusal_of, does, own, done, written_is, refused}
 use Rattle.runs.proofs.Packs.{raw_pack_is, triple_pack_is}
@@ -110,7 +110,7 @@ module _ (H : Holder) where
         opened = opened_after_of plan draw c M vec Y;
         session = o.0;
         holds = o.1;
-        recalls = recalls_all plan draw number_in (moves c) M vec Y k (allowed plan draw i M Y l c z).moving;
+        recalls = recalls_all plan draw Actual number_in (moves c) M vec Y k (allowed plan draw i M Y l c z).moving;
       }
 
   message_at : (r : ℕ) (lent : List ℕ) → MessageMade s l r lent → coefficients s (row_at (width s) l r) ≡ numbers (v_length (plan_shape plan)) ((vec r).v i)

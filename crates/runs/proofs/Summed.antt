@@ -102,7 +102,7 @@ module _ (H : Holder) where
     opens_to : (k : ℕ) (us : List Term) (rest : List (Move Actual)) → length us ≤ length fs → All (Waits M) us
         → All (λ t. (remembered_a M t.first ≡ t.row) × (remembered_b M t.first ≡ t.second)) us
         → AllAt (Enough s l blocks) k us → AllAt (Agreed s l blocks) k us
-        → All (λ m. FitsWith plan draw i M vec (takes m.0) m.1) (finishing {K = Actual} parts blocks k us ++ rest)
+        → All (λ m. FitsWith plan draw i M vec (takes m.0) m.1) (finishing Actual parts blocks k us ++ rest)
         → AllAt (OpensTo plan draw len i M Y l blocks M vec) k us
     opens_to k [] rest some w r e a fit = tt
     opens_to k (t ∷ us) rest some w r e a fit =
@@ -123,13 +123,13 @@ module _ (H : Holder) where
 
     -- what the acts take
     abbrev Taken : Type 0
-    Taken = All (λ m. FitsWith plan draw i M vec (takes m.0) m.1) (finishing {K = Actual} (2 * length (products_of ts)) blocks 0 (products_of ts) ++ summing d ts)
+    Taken = All (λ m. FitsWith plan draw i M vec (takes m.0) m.1) (finishing Actual (2 * length (products_of ts)) blocks 0 (products_of ts) ++ summing Actual d ts)
 
     waits : All (Waits M) (products_of ts)
     waits = waiting plan draw i M Y l ts d blocks placed
 
     opens_all : Taken → AllAt (OpensTo plan draw len i M Y l blocks M vec) 0 (products_of ts)
-    opens_all fit = opens_to 0 fs (summing d ts) (omega arith) waits placed.remembered f.enough f.agreed fit
+    opens_all fit = opens_to 0 fs (summing Actual d ts) (omega arith) waits placed.remembered f.enough f.agreed fit
 
     products_now : Taken
         → Holds plan draw len i (finished_all (products_of ts) M) (multiplied_all (products_of ts) M vec) (with_products s l blocks 0 (products_of ts) l)
@@ -142,12 +142,12 @@ module _ (H : Holder) where
 
   -- then the sum
   pub summed_up : (ts : List Term) (d : ℕ) (blocks : List ℕ) (f : RelationFinished s l ts d blocks)
-      → All (λ m. FitsWith plan draw i M vec (takes m.0) m.1) (finishing {K = Actual} (2 * length (products_of ts)) blocks 0 (products_of ts) ++ summing d ts)
+      → All (λ m. FitsWith plan draw i M vec (takes m.0) m.1) (finishing Actual (2 * length (products_of ts)) blocks 0 (products_of ts) ++ summing Actual d ts)
       → (relation_done s l blocks (products_of ts) ts d
-      ≡ session_at plan draw i (marks_all (acts_in (finishing {K = Actual} (2 * length (products_of ts)) blocks 0 (products_of ts) ++ summing d ts)) M)
-      (opened_all plan draw number_in (finishing {K = Actual} (2 * length (products_of ts)) blocks 0 (products_of ts) ++ summing d ts) M vec Y))
-      × Holds plan draw len i (marks_all (acts_in (finishing {K = Actual} (2 * length (products_of ts)) blocks 0 (products_of ts) ++ summing d ts)) M)
-      (vectors_all plan draw number_in (finishing {K = Actual} (2 * length (products_of ts)) blocks 0 (products_of ts) ++ summing d ts) M vec)
+      ≡ session_at plan draw i (marks_all (acts_in Actual (finishing Actual (2 * length (products_of ts)) blocks 0 (products_of ts) ++ summing Actual d ts)) M)
+      (opened_all plan draw Actual number_in (finishing Actual (2 * length (products_of ts)) blocks 0 (products_of ts) ++ summing Actual d ts) M vec Y))
+      × Holds plan draw len i (marks_all (acts_in Actual (finishing Actual (2 * length (products_of ts)) blocks 0 (products_of ts) ++ summing Actual d ts)) M)
+      (vectors_all plan draw Actual number_in (finishing Actual (2 * length (products_of ts)) blocks 0 (products_of ts) ++ summing Actual d ts) M vec)
       (with_sum s d ts (with_products s l blocks 0 (products_of ts) l))
   summed_up [] d blocks f fit = absurd (omega (arith, f.checked.placed.some))
   summed_up (t ∷ ts) d blocks f fit =
@@ -157,11 +157,11 @@ module _ (H : Holder) where
       let sum = (sum_allowed plan draw i M Y l (t ∷ ts) d blocks f.checked.placed).0.0 in
       let rows = with_products s l blocks 0 fs l in
       let H' : Holder = record { plan = plan; draw = draw; len = len; post = i; marks = N; opened = Y; vec = multiplied_all fs M vec; rows = rows; holds = hp } in
-      let last = summing d (t ∷ ts) in
+      let last = summing Actual d (t ∷ ts) in
       let marks-are = marks_products plan draw (2 * length fs) blocks last 0 fs M in (
         ap₂ (λ (x : Session) (rs : List ℕ). summed_row x d rs) (session_now (t ∷ ts) d blocks f fit) (sym (rows_in (t ∷ ts)))
             ∙ sym (ap₂ (session_at plan draw i) marks-are (opened_products plan draw (2 * length fs) blocks last 0 fs M vec Y)),
-        subst (λ (Q : Marks). Holds plan draw len i Q (vectors_all plan draw number_in (finishing {K = Actual} (2 * length fs) blocks 0 fs ++ last) M vec) (with_sum s d (t ∷ ts) rows))
+        subst (λ (Q : Marks). Holds plan draw len i Q (vectors_all plan draw Actual number_in (finishing Actual (2 * length fs) blocks 0 fs ++ last) M vec) (with_sum s d (t ∷ ts) rows))
             (sym marks-are)
             (subst (λ (v : ℕ → Vector). Holds plan draw len i (with_sets (remarked N d held) (shared_all N.sets d (rows_in_of (map summand (t ∷ ts))))) v (with_sum s d (t ∷ ts) rows)) (sym (vectors_products plan draw (2 * length fs) blocks last 0 fs M vec))
             (holds_sets plan draw len i (remarked N d held) _ _ _ (sum_holds H' M Y d sum.r_low (hp.long ∙ sym h.long ∙ f.checked.framed.sized.length_is) sum.r_empty t ts sum.held))),

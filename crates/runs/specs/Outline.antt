@@ -169,30 +169,30 @@ abbrev acting : {K : Kinds} → List (Move K) → Outline K
 acting moves = record { moves = moves; sends = []; heard = [] }
 
 -- "One call makes the masks of all product terms": for each of them what a single product's masks do and send.
-abbrev pub factoring : {K : Kinds} → List Term → List (Move K)
-factoring [] = []
-factoring (t ∷ ts) = (factors t.row t.second t.first, tt) ∷ factoring ts
+abbrev pub factoring : (K : Kinds) → List Term → List (Move K)
+factoring K [] = []
+factoring K (t ∷ ts) = (factors t.row t.second t.first, tt) ∷ factoring K ts
 
 abbrev pub maskings : List Term → List Sending
 maskings [] = []
 maskings (t ∷ ts) = its_masks t.row t.second t.first ∷ maskings ts
 
 -- "another finishes them": the product terms from place k on, by both calls of a finish, each with its two of m records.
-abbrev pub finishing : {K : Kinds} → (m : ℕ) → K.Record → (k : ℕ) → List Term → List (Move K)
-finishing m blocks k [] = []
-finishing {K} m blocks k (t ∷ ts) =
+abbrev pub finishing : (K : Kinds) → (m : ℕ) → K.Record → (k : ℕ) → List Term → List (Move K)
+finishing K m blocks k [] = []
+finishing K m blocks k (t ∷ ts) =
     (collects t.first, (K.part m (2 * k) blocks, K.part m (2 * k + 1) blocks))
     ∷ (multiplies t.first, tt)
-    ∷ finishing m blocks (suc k) ts
+    ∷ finishing K m blocks (suc k) ts
 
 -- "and stores the sum in an empty row": of each term its coefficient times its row, or times its product in the third row of its
 -- triple. (A list of no terms is refused with 14.)
 abbrev pub summand : Term → Summand
 summand t = times t.coefficient (number_row_of t)
 
-abbrev pub summing : {K : Kinds} → (r : ℕ) → List Term → List (Move K)
-summing r [] = []
-summing r (t ∷ ts) = (sums r (summand t) (map summand ts), tt) ∷ []
+abbrev pub summing : (K : Kinds) → (r : ℕ) → List Term → List (Move K)
+summing K r [] = []
+summing K r (t ∷ ts) = (sums r (summand t) (map summand ts), tt) ∷ []
 
 abbrev pub outline : {K : Kinds} → CallOf K → Outline K
 outline (load_row_of x) = acting ((loads x.r, x.pack) ∷ [])
@@ -205,10 +205,10 @@ outline (masks x) =
     record { moves = (factors x.a x.b x.r, tt) ∷ []; sends = its_masks x.a x.b x.r ∷ []; heard = [] }
 outline (collect x) = acting ((collects x.r, (x.blocks_a, x.blocks_b)) ∷ [])
 outline (multiply x) = acting ((multiplies x.r, tt) ∷ [])
-outline (relation_masks_of x) =
-    record { moves = factoring (products_of x.terms); sends = maskings (products_of x.terms); heard = [] }
-outline (relation_finish_of x) =
-    acting (finishing (2 * length (products_of x.terms)) x.blocks 0 (products_of x.terms) ++ summing x.r x.terms)
+outline {K} (relation_masks_of x) =
+    record { moves = factoring K (products_of x.terms); sends = maskings (products_of x.terms); heard = [] }
+outline {K} (relation_finish_of x) =
+    acting (finishing K (2 * length (products_of x.terms)) x.blocks 0 (products_of x.terms) ++ summing K x.r x.terms)
 outline (access x) = acting ((admits x.line, tt) ∷ [])
 
 abbrev pub moves : {K : Kinds} → CallOf K → List (Move K)
@@ -217,11 +217,11 @@ moves c = (outline c).moves
 abbrev pub sends : {K : Kinds} → CallOf K → List Sending
 sends c = (outline c).sends
 
-abbrev pub acts_in : {K : Kinds} → List (Move K) → List Act
-acts_in ms = map (λ m. m.0) ms
+abbrev pub acts_in : (K : Kinds) → List (Move K) → List Act
+acts_in K ms = map (λ m. m.0) ms
 
 abbrev pub acts : {K : Kinds} → CallOf K → List Act
-acts c = acts_in (moves c)
+acts {K} c = acts_in K (moves c)
 
 -- P holds of each of a list; of a list of one, that is P of the one.
 abbrev pub EveryFrom : {A : Type 0} → (A → Type 0) → A → List A → Type 0

@@ -18,7 +18,7 @@ use Rattle.runs.proofs.Marks.{Marks, mark_of, remembered_a, remembered_b, less, 
 use Rattle.runs.proofs.Steps.{Stands, vectors_after, stands_after}
 use Rattle.runs.proofs.Facts.{Allowed, Facts, MasksIn}
 use Rattle.runs.proofs.Rows.{sized_after, held_stays, past_stays, five_before, unmasked}
-use Rattle.secrecy.specs.Steps.{Step, call_at, heard_from}
+use Rattle.secrecy.specs.Steps.{Fixed, Step, call_at, heard_from}
 use Rattle.secrecy.specs.Rules.{Rule}
 use Rattle.secrecy.specs.Book.{entered}
 use Rattle.secrecy.proofs.CallRuns.{lines_of}
@@ -68,7 +68,7 @@ module _ (C : Run) (m : Moment) (S : State C m) where
         → (mark_of M' r ≡ held) × (xs ≡ numbers (v_length (plan_shape plan)) ((vec' r).v j))
     old_opening r j xs o a =
         let old = S.openings r j xs o a in
-        let stays = held_stays plan draw (number_at plan draw u) (moves c) M vec S.sized al.moving r old.0 in
+        let stays = held_stays plan draw Fixed (number_at plan draw u) (moves c) M vec S.sized al.moving r old.0 in
         (stays.0, old.1 ∙ sym (ap (λ (X : Vector). numbers (v_length (plan_shape plan)) (X.v j)) stays.1))
 
     old_masks : (r j : ℕ) (xs : List ℕ) → AMask C r j xs → Among (masks_line r j xs) lines
@@ -87,8 +87,8 @@ module _ (C : Run) (m : Moment) (S : State C m) where
             let w = (S.facts r lr).waiting five in
             let t = (S.facts r lr).triple (inr five) in
             let t' = (facts' r lr).triple (inr five') in
-            let ea : vec (remembered_a M r) ≡ vec' (remembered_a M' r) = sym (ap vec' el ∙ (held_stays plan draw (number_at plan draw u) (moves c) M vec S.sized al.moving (remembered_a M r) w.a_held).1) in
-            let eb : vec (remembered_b M r) ≡ vec' (remembered_b M' r) = sym (ap vec' er ∙ (held_stays plan draw (number_at plan draw u) (moves c) M vec S.sized al.moving (remembered_b M r) w.b_held).1) in
+            let ea : vec (remembered_a M r) ≡ vec' (remembered_a M' r) = sym (ap vec' el ∙ (held_stays plan draw Fixed (number_at plan draw u) (moves c) M vec S.sized al.moving (remembered_a M r) w.a_held).1) in
+            let eb : vec (remembered_b M r) ≡ vec' (remembered_b M' r) = sym (ap vec' er ∙ (held_stays plan draw Fixed (number_at plan draw u) (moves c) M vec S.sized al.moving (remembered_b M r) w.b_held).1) in
             let e0 : vec r ≡ vec' r = t.is_a ∙ sym t'.is_a in
             let e1 : vec (r + 1) ≡ vec' (r + 1) = t.is_b ∙ sym t'.is_b in
             old.1 five

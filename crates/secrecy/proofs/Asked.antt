@@ -24,15 +24,15 @@ module _ (plan : Plan) (k : ℕ) (lines : List (List ℕ)) where
   joined [] ys a b = b
   joined (x ∷ xs) ys a b = (a.0, joined xs ys a.1 b)
 
-  kept_factors : (ts : List Term) → All Kept (factoring ts)
+  kept_factors : (ts : List Term) → All Kept (factoring Fixed ts)
   kept_factors [] = tt
   kept_factors (t ∷ ts) = (tt, kept_factors ts)
 
-  kept_finishes : (m : ℕ) (blocks : Record) (j : ℕ) (ts : List Term) → TermsSent plan k lines m blocks j ts → All Kept (finishing m blocks j ts)
+  kept_finishes : (m : ℕ) (blocks : Record) (j : ℕ) (ts : List Term) → TermsSent plan k lines m blocks j ts → All Kept (finishing Fixed m blocks j ts)
   kept_finishes m blocks j [] h = tt
   kept_finishes m blocks j (t ∷ ts) h = (h.0, (tt, kept_finishes m blocks (suc j) ts h.1))
 
-  kept_sum : (r : ℕ) (ts : List Term) → All Kept (summing r ts)
+  kept_sum : (r : ℕ) (ts : List Term) → All Kept (summing Fixed r ts)
   kept_sum r [] = tt
   kept_sum r (t ∷ ts) = (tt, tt)
 
@@ -51,11 +51,11 @@ module _ (plan : Plan) (k : ℕ) (lines : List (List ℕ)) where
   rule_asked (collect x) h = h
   rule_asked (multiply x) h = tt
   rule_asked (access x) h = tt
-  rule_asked (relation_masks_of x) h = all_every Kept (factoring (products_of x.terms)) (kept_factors (products_of x.terms))
+  rule_asked (relation_masks_of x) h = all_every Kept (factoring Fixed (products_of x.terms)) (kept_factors (products_of x.terms))
   rule_asked (relation_finish_of x) h =
       let m = 2 * length (products_of x.terms) in
-      let pairs = finishing m x.blocks 0 (products_of x.terms) in
-      let sum = summing x.r x.terms in
+      let pairs = finishing Fixed m x.blocks 0 (products_of x.terms) in
+      let sum = summing Fixed x.r x.terms in
       all_every Kept (pairs ++ sum) (joined pairs sum (kept_finishes m x.blocks 0 (products_of x.terms) h) (kept_sum x.r x.terms))
 
 pub rules_ask : RulesAsk

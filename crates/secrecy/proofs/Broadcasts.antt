@@ -24,7 +24,7 @@ use Rattle.runs.proofs.Lines.{same_opening, same_masks, not_both, numbers_elemen
 use Rattle.runs.proofs.Facts.{Multiplying, Sendable, Allowed}
 use Rattle.runs.proofs.Rows.{held_stays, waits_after}
 use Rattle.runs.proofs.Allowed.{allowed}
-use Rattle.secrecy.specs.Steps.{Step, call_at}
+use Rattle.secrecy.specs.Steps.{Fixed, Step, call_at}
 use Rattle.secrecy.specs.Seen.{posts, joined}
 use Rattle.secrecy.proofs.Entered.{Past}
 use Rattle.secrecy.proofs.State.{Run, Moment, AnOpening, AMask, mask_numbers, State, stand_at, facts_on}
@@ -179,7 +179,7 @@ module _ (C : Run) (m : Moment) (S : State C m) where
       w = vectors_then plan draw u c M vec
 
       stays : (x : ℕ) → mark_of M x ≡ held → (mark_of N x ≡ held) × (w x ≡ vec x)
-      stays x two = held_stays plan draw (number_at plan draw u) (moves c) M vec S.sized al.moving x two
+      stays x two = held_stays plan draw Fixed (number_at plan draw u) (moves c) M vec S.sized al.moving x two
 
       said : SaysAll plan draw i vec (sends c) (perform (call i c) (q i)).lent
       said =

@@ -23,10 +23,10 @@ module _ (plan : Plan) (draw : Draw) (u : Secrets) where
 
   -- the vectors after a call of the list, and the numbers that masks were opened to
   abbrev pub vectors_then : Step → Marks → (ℕ → Vector) → ℕ → Vector
-  vectors_then c M vec = vectors_all plan draw number_at (moves c) M vec
+  vectors_then c M vec = vectors_all plan draw Fixed number_at (moves c) M vec
 
   abbrev pub opened_then : Step → Marks → (ℕ → Vector) → Opened → Opened
-  opened_then c M vec Y = opened_all plan draw number_at (moves c) M vec Y
+  opened_then c M vec Y = opened_all plan draw Fixed number_at (moves c) M vec Y
 
   module _ (lines : List (List ℕ)) (i : ℕ) where
     pub acts_at : (c : Step) → acts (call_at plan draw u lines i c) ≡ acts c
@@ -44,26 +44,26 @@ module _ (plan : Plan) (draw : Draw) (u : Secrets) where
     number_same (two_records r) x = refl
 
     moves_same : (ms : List (Move Fixed)) (M : Marks) (vec : ℕ → Vector)
-        → (vectors_all plan draw number_in (map (filled_move (filling plan draw u lines i)) ms) M vec ≡ vectors_all plan draw number_at ms M vec)
-        × ((Y : Opened) → opened_all plan draw number_in (map (filled_move (filling plan draw u lines i)) ms) M vec Y ≡ opened_all plan draw number_at ms M vec Y)
+        → (vectors_all plan draw Actual number_in (map (filled_move (filling plan draw u lines i)) ms) M vec ≡ vectors_all plan draw Fixed number_at ms M vec)
+        × ((Y : Opened) → opened_all plan draw Actual number_in (map (filled_move (filling plan draw u lines i)) ms) M vec Y ≡ opened_all plan draw Fixed number_at ms M vec Y)
     moves_same [] M vec = (refl, λ Y. refl)
     moves_same (m ∷ ms) M vec =
         let e = number_same (takes m.0) m.1 in
         let rest = moves_same ms (marks_by m.0 M) (vectors_by plan draw m.0 (number_at (takes m.0) m.1) M vec) in
         let ms' = map (filled_move (filling plan draw u lines i)) ms in (
-          ap (λ (c : ℕ). vectors_all plan draw number_in ms' (marks_by m.0 M) (vectors_by plan draw m.0 c M vec)) e ∙ rest.0,
-          λ Y. ap (λ (c : ℕ). opened_all plan draw number_in ms' (marks_by m.0 M) (vectors_by plan draw m.0 c M vec) (opened_by m.0 M vec Y)) e
+          ap (λ (c : ℕ). vectors_all plan draw Actual number_in ms' (marks_by m.0 M) (vectors_by plan draw m.0 c M vec)) e ∙ rest.0,
+          λ Y. ap (λ (c : ℕ). opened_all plan draw Actual number_in ms' (marks_by m.0 M) (vectors_by plan draw m.0 c M vec) (opened_by m.0 M vec Y)) e
               ∙ rest.1 (opened_by m.0 M vec Y),
         )
 
     pub vectors_at : (c : Step) (M : Marks) (vec : ℕ → Vector)
         → vectors_after plan draw (call_at plan draw u lines i c) M vec ≡ vectors_then c M vec
     vectors_at c M vec =
-        ap (λ (ms : List (Move Actual)). vectors_all plan draw number_in ms M vec) (moves_filled (filling plan draw u lines i) c)
+        ap (λ (ms : List (Move Actual)). vectors_all plan draw Actual number_in ms M vec) (moves_filled (filling plan draw u lines i) c)
         ∙ (moves_same (moves c) M vec).0
 
     pub opened_at : (c : Step) (M : Marks) (vec : ℕ → Vector) (Y : Opened)
         → opened_after_of plan draw (call_at plan draw u lines i c) M vec Y ≡ opened_then c M vec Y
     opened_at c M vec Y =
-        ap (λ (ms : List (Move Actual)). opened_all plan draw number_in ms M vec Y) (moves_filled (filling plan draw u lines i) c)
+        ap (λ (ms : List (Move Actual)). opened_all plan draw Actual number_in ms M vec Y) (moves_filled (filling plan draw u lines i) c)
         ∙ (moves_same (moves c) M vec).1 Y

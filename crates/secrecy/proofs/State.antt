@@ -188,10 +188,10 @@ module _ (C : Run) where
     abbrev Ruled : Move Fixed → Type 0
     Ruled m = RuleWith plan 0 lines (takes m.0) m.1
 
-    pub facts_all : (ms : List (Move Fixed)) (M : Marks) (vec : ℕ → Vector) (b : Book) → Sized M → AllowedAll (acts_in ms) M
+    pub facts_all : (ms : List (Move Fixed)) (M : Marks) (vec : ℕ → Vector) (b : Book) → Sized M → AllowedAll (acts_in Fixed ms) M
         → All Ruled ms → Facts plan draw (Held b) (Waits b) M vec
-        → Facts plan draw (Held (entered_all u (acts_in ms) b)) (Waits (entered_all u (acts_in ms) b)) (marks_all (acts_in ms) M)
-        (vectors_all plan draw (number_at plan draw u) ms M vec)
+        → Facts plan draw (Held (entered_all u (acts_in Fixed ms) b)) (Waits (entered_all u (acts_in Fixed ms) b)) (marks_all (acts_in Fixed ms) M)
+        (vectors_all plan draw Fixed (number_at plan draw u) ms M vec)
     facts_all [] M vec b z al rule f = f
     facts_all (m ∷ ms) M vec b z al rule f =
         facts_all ms (marks_by m.0 M) (vectors_by plan draw m.0 (number_at plan draw u (takes m.0) m.1) M vec) (entered_by u m.0 b)
@@ -229,7 +229,7 @@ module _ (C : Run) where
           both_are j lj hj both many els st =
               (S.maskings r j both (record { row = omega (arith, al.r_low); post = (lj, hj); many = many; low = els }) st).1 (inl al.first)
 
-      fits_all : (ms : List (Move Fixed)) → All (λ a. ReadyFor M (takes a)) (acts_in ms) → All (λ m. RuleWith plan 0 lines (takes m.0) m.1) ms
+      fits_all : (ms : List (Move Fixed)) → All (λ a. ReadyFor M (takes a)) (acts_in Fixed ms) → All (λ m. RuleWith plan 0 lines (takes m.0) m.1) ms
           → All (λ m. FitsWith plan draw i M vec (takes m.0) m.1) (map (filled_move (filling plan draw u lines i)) ms)
       fits_all [] al rule = tt
       fits_all (m ∷ ms) al rule = (fits_with (takes m.0) m.1 al.0 rule.0, fits_all ms al.1 rule.1)

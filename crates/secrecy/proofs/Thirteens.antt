@@ -136,7 +136,7 @@ module _ (C : Run) (m : Moment) (S : State C m) (i : ℕ) (lo : 1 ≤ i) (hi : i
     all_agree_is : RelationFinishPlaced s ts d (blocks i lines) → (k : ℕ) (us : List Term) (rest : List (Move Fixed)) → length us ≤ length (products_of ts)
         → All (Waits M) us → All (λ t. (remembered_a M t.first ≡ t.row) × (remembered_b M t.first ≡ t.second)) us
         → AllAt (λ k t. AllFail (few_tests s l (blocks i lines) k t)) k us
-        → All (λ m. RuleWith plan 13 lines (takes m.0) m.1) (finishing {K = Fixed} (2 * length (products_of ts)) blocks k us ++ rest)
+        → All (λ m. RuleWith plan 13 lines (takes m.0) m.1) (finishing Fixed (2 * length (products_of ts)) blocks k us ++ rest)
         → AllFail (each_at_of (off_tests s l (blocks i lines)) k us)
     unfolding each_at_of
     all_agree_is f k [] rest some w r few rule = tt
@@ -161,7 +161,7 @@ module _ (C : Run) (m : Moment) (S : State C m) (i : ℕ) (lo : 1 ≤ i) (hi : i
         )
 
     pub relation_finish_never : relation_finish_refusal s l (collected ts) d (blocks i lines) ≡ 13
-        → All (λ m. RuleWith plan 13 lines (takes m.0) m.1) (finishing {K = Fixed} (2 * length (products_of ts)) blocks 0 (products_of ts) ++ summing d ts) → ⊥
+        → All (λ m. RuleWith plan 13 lines (takes m.0) m.1) (finishing Fixed (2 * length (products_of ts)) blocks 0 (products_of ts) ++ summing Fixed d ts) → ⊥
     unfolding relation_finish_refusal
     relation_finish_never e rule =
         let all = collected ts in
@@ -176,6 +176,6 @@ module _ (C : Run) (m : Moment) (S : State C m) (i : ℕ) (lo : 1 ≤ i) (hi : i
         let thirteen = each_at_of (off_tests s l bl) 0 fs in
         let numbered' = few_numbered s l bl 0 fs in
         let none = none_before nine thirteen numbered' (other_each (few_tests s l bl) (λ k t. omega arith) 0 fs) off in
-        let agree = not_refused thirteen (all_agree_is f 0 fs (summing d ts) (omega arith) (waiting plan draw i M (S.posts i lo hi).opened l ts d bl f) f.remembered (each_fail (few_tests s l bl) 0 fs (all_fail nine numbered' none)) rule) in
+        let agree = not_refused thirteen (all_agree_is f 0 fs (summing Fixed d ts) (omega arith) (waiting plan draw i M (S.posts i lo hi).opened l ts d bl f) f.remembered (each_fail (few_tests s l bl) 0 fs (all_fail nine numbered' none)) rule) in
         let wrong : ◌≡◌ {A = ℕ} 0 13 = sym (first_join nine thirteen numbered' ∙ ap₂ or_else none agree) ∙ off in
         omega arith

@@ -205,10 +205,10 @@ module _ (T : Two) (lines : List (List ℕ)) (ds : Dealt (run_one T) lines) (ds'
     }
 
   core_all : (ms : List (Move Fixed)) (M : Marks) (vec vec' : ℕ → Vector) (b b' : Book) → Core T M vec vec' b b'
-      → AllowedAll (acts_in ms) M → All (λ m. RuleWith T.plan 0 lines (takes m.0) m.1) ms → FitAll T (acts_in ms) b b'
-      → Core T (marks_all (acts_in ms) M) (vectors_all T.plan T.d (number_at T.plan T.d T.u) ms M vec)
-      (vectors_all T.plan T.d' (number_at T.plan T.d' T.u') ms M vec')
-      (entered_all T.u (acts_in ms) b) (entered_all T.u' (acts_in ms) b')
+      → AllowedAll (acts_in Fixed ms) M → All (λ m. RuleWith T.plan 0 lines (takes m.0) m.1) ms → FitAll T (acts_in Fixed ms) b b'
+      → Core T (marks_all (acts_in Fixed ms) M) (vectors_all T.plan T.d Fixed (number_at T.plan T.d T.u) ms M vec)
+      (vectors_all T.plan T.d' Fixed (number_at T.plan T.d' T.u') ms M vec')
+      (entered_all T.u (acts_in Fixed ms) b) (entered_all T.u' (acts_in Fixed ms) b')
   core_all [] M vec vec' b b' K al rule fit = K
   core_all (m ∷ ms) M vec vec' b b' K al rule fit =
       core_all ms (marks_by m.0 M) _ _ (entered_by T.u m.0 b) (entered_by T.u' m.0 b')
@@ -216,14 +216,14 @@ module _ (T : Two) (lines : List (List ℕ)) (ds : Dealt (run_one T) lines) (ds'
 
   -- masks are opened to the same numbers
   opened_all_lem : (ms : List (Move Fixed)) (M : Marks) (vec vec' : ℕ → Vector) (b b' : Book) → Core T M vec vec' b b'
-      → AllowedAll (acts_in ms) M → All (λ m. RuleWith T.plan 0 lines (takes m.0) m.1) ms → FitAll T (acts_in ms) b b' → (Y : Opened)
-      → opened_all T.plan T.d (number_at T.plan T.d T.u) ms M vec Y
-      ≡ opened_all T.plan T.d' (number_at T.plan T.d' T.u') ms M vec' Y
+      → AllowedAll (acts_in Fixed ms) M → All (λ m. RuleWith T.plan 0 lines (takes m.0) m.1) ms → FitAll T (acts_in Fixed ms) b b' → (Y : Opened)
+      → opened_all T.plan T.d Fixed (number_at T.plan T.d T.u) ms M vec Y
+      ≡ opened_all T.plan T.d' Fixed (number_at T.plan T.d' T.u') ms M vec' Y
   opened_all_lem [] M vec vec' b b' K al rule fit Y = refl
   opened_all_lem (m ∷ ms) M vec vec' b b' K al rule fit Y =
       opened_all_lem ms (marks_by m.0 M) _ _ (entered_by T.u m.0 b) (entered_by T.u' m.0 b')
       (core_by M vec vec' b b' K m.0 m.1 al.0 rule.0 fit.0) al.1 rule.1 fit.1 (opened_by m.0 M vec Y)
-      ∙ ap (opened_all T.plan T.d' (number_at T.plan T.d' T.u') ms (marks_by m.0 M) (v2 M vec vec' b b' K m.0 m.1))
+      ∙ ap (opened_all T.plan T.d' Fixed (number_at T.plan T.d' T.u') ms (marks_by m.0 M) (v2 M vec vec' b b' K m.0 m.1))
       (opened_by_lem M vec vec' b b' K m.0 al.0 Y)
 
 pub core_after : (T : Two) (m : Moments) (R : Pair T m) (c : Step) → Allowed (acts c) (sends c) m.marks → Rule T.plan c 0 m.lines
