@@ -2,7 +2,7 @@
 use Prim.Native.Nat.{◌≤◌, ◌-◌}
 use mathlib.Core.Path.{◌≡◌, refl}
 use native.Mathlib.Omega.{arith}
-use lib.ListN.{length, length-map}
+use lib.ListN.{length}
 use borrow.Author.Rules.{rules}
 use Rattle.terms.specs.Listed.{most_terms}
 use Rattle.session.specs.Sessions.{shape_of}
@@ -22,15 +22,15 @@ decreases-loop-i session all refusal₀ i₀ i-end refusal i = all.products - i
 
 remembers_requires : tie.Need-remembers-requires invariant-loop-i decreases-loop-i
 remembers_requires c κs =
-    let k : length c.args.t2.factors ≡ most_terms = simp length-map at c.well_formed.1.0.1.1.1.1.1.0.1.0.1 in
-    let m : c.args.t2.products ≤ length c.args.t2.factors = omega (arith, c.requires.0.products_in) in
-    (every_at (Factors (shape_of c.args.session)) c.args.t2.factors c.args.t2.products c.loop-i.i (search rules) m c.requires.1
+    let k : length c.args.all.factors ≡ most_terms = search rules in
+    let m : c.args.all.products ≤ length c.args.all.factors = omega (arith, c.requires.0.products_in) in
+    (every_at (Factors (shape_of c.args.session)) c.args.all.factors c.args.all.products c.loop-i.i (search rules) m c.requires.1
     ).triple_in.triple_in
 
 loop_again : tie.Need-loop-i-preserved invariant-loop-i decreases-loop-i
 loop_again c =
-    let k : length c.args.t2.factors ≡ most_terms = simp length-map at c.well_formed.1.0.1.1.1.1.1.0.1.0.1 in
-    let m : c.args.t2.products ≤ length c.args.t2.factors = omega (arith, c.requires.0.products_in) in
+    let k : length c.args.all.factors ≡ most_terms = search rules in
+    let m : c.args.all.products ≤ length c.args.all.factors = omega (arith, c.requires.0.products_in) in
     (omega arith, search (rules, asked, remember_numbered))
 
 pub all_remember_spec : {M : Type 1} → statement M

@@ -2,7 +2,7 @@
 use Prim.Native.Nat.{◌≤◌, ◌-◌}
 use mathlib.Core.Path.{◌≡◌, refl}
 use native.Mathlib.Omega.{arith}
-use lib.ListN.{length, length-map}
+use lib.ListN.{length}
 use borrow.Author.Rules.{rules}
 use Rattle.terms.specs.Listed.{most_terms}
 use Rattle.shape.specs.Lengths.{row_length}
@@ -22,14 +22,14 @@ decreases-loop-i shape rows all refusal₀ i₀ i-end refusal i = all.count - i
 
 number_requires : tie.Need-number-requires invariant-loop-i decreases-loop-i
 number_requires c κs =
-    let k : length c.args.t3.list ≡ most_terms = simp length-map at c.well_formed.1.1.0.1.1.1.1.0.1.0.1 in
-    let m : c.args.t3.count ≤ length c.args.t3.list = omega (arith, c.requires.1.terms_in) in
-    (c.requires.0, every_at (Placed c.args.shape) c.args.t3.list c.args.t3.count c.loop-i.i (search rules) m c.requires.2)
+    let k : length c.args.all.list ≡ most_terms = search rules in
+    let m : c.args.all.count ≤ length c.args.all.list = omega (arith, c.requires.1.terms_in) in
+    (c.requires.0, every_at (Placed c.args.shape) c.args.all.list c.args.all.count c.loop-i.i (search rules) m c.requires.2)
 
 loop_again : tie.Need-loop-i-preserved invariant-loop-i decreases-loop-i
 loop_again c =
-    let k : length c.args.t3.list ≡ most_terms = simp length-map at c.well_formed.1.1.0.1.1.1.1.0.1.0.1 in
-    let m : c.args.t3.count ≤ length c.args.t3.list = omega (arith, c.requires.1.terms_in) in
+    let k : length c.args.all.list ≡ most_terms = search rules in
+    let m : c.args.all.count ≤ length c.args.all.list = omega (arith, c.requires.1.terms_in) in
     (omega arith, search (rules, asked, term_numbered))
 
 pub numbers_spec : {M : Type 1} → statement M

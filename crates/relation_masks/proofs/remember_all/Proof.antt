@@ -2,7 +2,7 @@
 use Prim.Native.Nat.{◌≤◌, ◌-◌}
 use mathlib.Core.Path.{◌≡◌, refl, ◌∙◌}
 use native.Mathlib.Omega.{arith}
-use lib.ListN.{length, length-map}
+use lib.ListN.{length}
 use borrow.Author.Rules.{rules}
 use Rattle.terms.specs.Listed.{most_terms}
 use Rattle.session.specs.Sessions.{shape_of}
@@ -22,21 +22,21 @@ decreases-loop-i all now₀ i₀ i-end now i = all.products - i
 
 remember_requires : tie.Need-remember-now-requires invariant-loop-i decreases-loop-i
 remember_requires c κs =
-    let k : length c.args.t2.factors ≡ most_terms = simp length-map at c.well_formed.1.0.1.1.1.1.1.0.1.0.1 in
-    let m : c.args.t2.products ≤ length c.args.t2.factors = omega (arith, c.requires.0.products_in) in
+    let k : length c.args.all.factors ≡ most_terms = search rules in
+    let m : c.args.all.products ≤ length c.args.all.factors = omega (arith, c.requires.0.products_in) in
     in_range (shape_of c.args.session) _
-    (every_at (Factors (shape_of c.args.session)) c.args.t2.factors c.args.t2.products c.loop-i.i (search rules) m c.requires.1)
+    (every_at (Factors (shape_of c.args.session)) c.args.all.factors c.args.all.products c.loop-i.i (search rules) m c.requires.1)
 
 loop_again : tie.Need-loop-i-preserved invariant-loop-i decreases-loop-i
 loop_again c =
-    let k : length c.args.t2.factors ≡ most_terms = simp length-map at c.well_formed.1.0.1.1.1.1.1.0.1.0.1 in
-    let m : c.args.t2.products ≤ length c.args.t2.factors = omega (arith, c.requires.0.products_in) in
-    (omega arith, goes remember_in c.args.t2.factors c.args.t2.products _ _ c.loop-i.i _ (search rules) m c.remember-now.ensures c.loop-i.invariant.1)
+    let k : length c.args.all.factors ≡ most_terms = search rules in
+    let m : c.args.all.products ≤ length c.args.all.factors = omega (arith, c.requires.0.products_in) in
+    (omega arith, goes remember_in c.args.all.factors c.args.all.products _ _ c.loop-i.i _ (search rules) m c.remember-now.ensures c.loop-i.invariant.1)
 
 returns : tie.Need-returns invariant-loop-i decreases-loop-i
 returns c =
-    gone remember_in c.args.t2.factors c.args.t2.products _ c.loop-i.i _ (search rules) c.loop-i.invariant.1
-    ∙ masked_walk 0 c.args.session (factors_of c.args.t2)
+    gone remember_in c.args.all.factors c.args.all.products _ c.loop-i.i _ (search rules) c.loop-i.invariant.1
+    ∙ masked_walk 0 c.args.session (factors_of c.args.all)
 
 pub remember_all_spec : {M : Type 1} → statement M
 remember_all_spec =

@@ -2,7 +2,7 @@
 use Prim.Native.Nat.{◌≤◌, ◌-◌}
 use mathlib.Core.Path.{◌≡◌, refl, ◌∙◌}
 use native.Mathlib.Omega.{arith}
-use lib.ListN.{length, length-map}
+use lib.ListN.{length}
 use borrow.Author.Rules.{rules}
 use Rattle.terms.specs.Listed.{most_terms}
 use Rattle.session.specs.Sessions.{shape_of}
@@ -24,26 +24,26 @@ decreases-loop-k all opened now₀ k₀ k-end now k = all.products - k
 
 finish_triple_requires : tie.Need-finish_triple-now-requires invariant-loop-k decreases-loop-k
 finish_triple_requires c κs =
-    let k : length c.args.t2.factors ≡ most_terms = simp length-map at c.well_formed.1.0.1.1.1.1.1.0.1.0.1 in
-    let m : c.args.t2.products ≤ length c.args.t2.factors = omega (arith, c.requires.0.products_in) in
-    (every_at (Factors (shape_of c.args.session)) c.args.t2.factors c.args.t2.products c.loop-k.k (search rules) m
+    let k : length c.args.all.factors ≡ most_terms = search rules in
+    let m : c.args.all.products ≤ length c.args.all.factors = omega (arith, c.requires.0.products_in) in
+    (every_at (Factors (shape_of c.args.session)) c.args.all.factors c.args.all.products c.loop-k.k (search rules) m
     c.requires.1).triple_in.triple_in
 
 loop_again : tie.Need-loop-k-preserved invariant-loop-k decreases-loop-k
 loop_again c =
     let q = c.loop-k in
-    let k : length c.args.t2.factors ≡ most_terms = simp length-map at c.well_formed.1.0.1.1.1.1.1.0.1.0.1 in
-    let m : c.args.t2.products ≤ length c.args.t2.factors = omega (arith, c.requires.0.products_in) in (
+    let k : length c.args.all.factors ≡ most_terms = search rules in
+    let m : c.args.all.products ≤ length c.args.all.factors = omega (arith, c.requires.0.products_in) in (
       omega arith,
-      goes (finish_in c.args.t3.y_a c.args.t3.y_b) c.args.t2.factors c.args.t2.products _ _ q.k _ (search rules) m
+      goes (finish_in c.args.opened.y_a c.args.opened.y_b) c.args.all.factors c.args.all.products _ _ q.k _ (search rules) m
           c.finish_triple-now.ensures q.invariant.1,
     )
 
 returns : tie.Need-returns invariant-loop-k decreases-loop-k
 returns c =
-    gone (finish_in c.args.t3.y_a c.args.t3.y_b) c.args.t2.factors c.args.t2.products _ c.loop-k.k _ (search rules)
+    gone (finish_in c.args.opened.y_a c.args.opened.y_b) c.args.all.factors c.args.all.products _ c.loop-k.k _ (search rules)
     c.loop-k.invariant.1
-    ∙ finished_walk c.args.t3.y_a c.args.t3.y_b 0 (factors_of c.args.t2) c.args.session
+    ∙ finished_walk c.args.opened.y_a c.args.opened.y_b 0 (factors_of c.args.all) c.args.session
 
 pub finish_triples_spec : {M : Type 1} → statement M
 finish_triples_spec =

@@ -2,7 +2,7 @@
 use Prim.Native.Nat.{◌≤◌, ◌-◌}
 use mathlib.Core.Path.{◌≡◌, refl, ◌∙◌}
 use native.Mathlib.Omega.{arith}
-use lib.ListN.{length, length-map}
+use lib.ListN.{length}
 use borrow.Author.Rules.{rules}
 use Rattle.terms.specs.Listed.{most_terms, terms_of}
 use Rattle.relation.proofs.Loops.{walked, Leads, goes, gone}
@@ -22,17 +22,17 @@ decreases-loop-j sets₀ dest all j₀ j-end sets j = all.count - j
 loop_again : tie.Need-loop-j-preserved invariant-loop-j decreases-loop-j
 loop_again c =
     let q = c.loop-j in
-    let k : length c.args.t2.list ≡ most_terms = simp length-map at c.well_formed.1.0.1.1.1.1.0.1.0.1 in
-    let m : c.args.t2.count ≤ length c.args.t2.list = omega (arith, c.requires.1.terms_in) in (
+    let k : length c.args.all.list ≡ most_terms = search rules in
+    let m : c.args.all.count ≤ length c.args.all.list = omega (arith, c.requires.1.terms_in) in (
       omega arith,
       search rules,
-      goes (share_in c.args.dest) c.args.t2.list c.args.t2.count _ _ q.j _ (search rules) m (search rules) q.invariant.2,
+      goes (share_in c.args.dest) c.args.all.list c.args.all.count _ _ q.j _ (search rules) m (search rules) q.invariant.2,
     )
 
 returns : tie.Need-returns invariant-loop-j decreases-loop-j
 returns c =
-    gone (share_in c.args.dest) c.args.t2.list c.args.t2.count _ c.loop-j.j _ (search rules) c.loop-j.invariant.2
-    ∙ shares_walk c.args.dest 0 (terms_of c.args.t2) c.args.sets.now
+    gone (share_in c.args.dest) c.args.all.list c.args.all.count _ c.loop-j.j _ (search rules) c.loop-j.invariant.2
+    ∙ shares_walk c.args.dest 0 (terms_of c.args.all) c.args.sets.now
 
 pub join_terms_spec : {M : Type 1} → statement M
 join_terms_spec =

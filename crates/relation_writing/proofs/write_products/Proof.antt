@@ -2,7 +2,7 @@
 use Prim.Native.Nat.{◌≤◌, ◌-◌}
 use mathlib.Core.Path.{◌≡◌, refl, ◌∙◌}
 use native.Mathlib.Omega.{arith}
-use lib.ListN.{length, length-map}
+use lib.ListN.{length}
 use borrow.Author.Rules.{rules}
 use Rattle.terms.specs.Listed.{most_terms}
 use Rattle.session.specs.Sessions.{shape_of}
@@ -26,28 +26,28 @@ decreases-loop-k session rows₀ all opened k₀ k-end rows k = all.products - k
 write_product_requires : tie.Need-write_product-requires invariant-loop-k decreases-loop-k
 write_product_requires c κs =
     let q = c.loop-k in
-    let k : length c.args.t3.factors ≡ most_terms = simp length-map at c.well_formed.1.1.0.1.1.1.1.1.0.1.0.1 in
-    let m : c.args.t3.products ≤ length c.args.t3.factors = omega (arith, c.requires.1.products_in) in (
+    let k : length c.args.all.factors ≡ most_terms = search rules in
+    let m : c.args.all.products ≤ length c.args.all.factors = omega (arith, c.requires.1.products_in) in (
       framed_kept c.args.session c.args.rows.now q.rows c.requires.0 q.invariant.1,
-      every_at (Factors (shape_of c.args.session)) c.args.t3.factors c.args.t3.products q.k (search rules) m c.requires.2,
+      every_at (Factors (shape_of c.args.session)) c.args.all.factors c.args.all.products q.k (search rules) m c.requires.2,
     )
 
 loop_again : tie.Need-loop-k-preserved invariant-loop-k decreases-loop-k
 loop_again c =
     let q = c.loop-k in
-    let k : length c.args.t3.factors ≡ most_terms = simp length-map at c.well_formed.1.1.0.1.1.1.1.1.0.1.0.1 in
-    let m : c.args.t3.products ≤ length c.args.t3.factors = omega (arith, c.requires.1.products_in) in (
+    let k : length c.args.all.factors ≡ most_terms = search rules in
+    let m : c.args.all.products ≤ length c.args.all.factors = omega (arith, c.requires.1.products_in) in (
       omega arith,
       search rules,
-      goes (product_in c.args.session c.args.t4.y_a c.args.t4.y_b) c.args.t3.factors c.args.t3.products _ _ q.k _
+      goes (product_in c.args.session c.args.opened.y_a c.args.opened.y_b) c.args.all.factors c.args.all.products _ _ q.k _
           (search rules) m c.write_product.ensures q.invariant.2,
     )
 
 returns : tie.Need-returns invariant-loop-k decreases-loop-k
 returns c =
-    gone (product_in c.args.session c.args.t4.y_a c.args.t4.y_b) c.args.t3.factors c.args.t3.products _ c.loop-k.k _
+    gone (product_in c.args.session c.args.opened.y_a c.args.opened.y_b) c.args.all.factors c.args.all.products _ c.loop-k.k _
     (search rules) c.loop-k.invariant.2
-    ∙ products_walk c.args.session c.args.t4.y_a c.args.t4.y_b 0 (factors_of c.args.t3) c.args.rows.now
+    ∙ products_walk c.args.session c.args.opened.y_a c.args.opened.y_b 0 (factors_of c.args.all) c.args.rows.now
 
 pub write_products_spec : {M : Type 1} → statement M
 write_products_spec =
