@@ -28,7 +28,7 @@ use Rattle.otherdraw.specs.Other.{no_posts, other_v, moved, points_of, other_dra
 use Rattle.vanishing.proofs.Vanish.{length_vanishing, vanishing_ends}
 use Rattle.vanishing.proofs.Distinct.{to_distinct, apart}
 use Rattle.otherdraw_law.proofs.Points.{points_all}
-use Rattle.otherdraw_law.proofs.Hidden.{known_good, known_few}
+use Rattle.otherdraw_law.proofs.Concealed.{known_good, known_few}
 use Rattle.otherdraw.proofs.Passed.{Given, not_refused}
 use Rattle.otherdraw_law.specs.OneRow.{Setting, Behind}
 use Rattle.otherdraw_law.specs.Claims.{Dealt, returned, refusal_in, shape_in, Least, AnF, AV, ChangesLeast, OnlyF}

@@ -9,7 +9,7 @@ pub mod Shifted
 pub mod Determined
 pub mod Parts
 pub mod Drawn
-pub mod Hidden
+pub mod Concealed
 pub mod Shows
 pub mod Returned
 pub mod Changes

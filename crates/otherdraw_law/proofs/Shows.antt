@@ -44,7 +44,7 @@ use Rattle.otherdraw_law.proofs.Told.{drawn_row, raw_there, number_is}
 use Rattle.otherdraw_law.proofs.Drawn.{is_draw}
 use Rattle.otherdraw_law.proofs.Entries.{entries_same}
 use Rattle.otherdraw_law.proofs.Shifted.{unseen_kernel, other_is_shifted}
-use Rattle.otherdraw_law.proofs.Hidden.{hidden_c, hidden_unit, hidden}
+use Rattle.otherdraw_law.proofs.Concealed.{hidden_c, hidden_unit, hidden}
 open 𝓡 use {add as ◌⊕◌, neg}
 
 infixl 65 ◌⊕◌

@@ -36,6 +36,7 @@ use Rattle.secrecy.proofs.Answers.{is_p1, answers_same}
 -- masks among the acts are those that were reckoned with: the numbers of held rows stay
 fit_among : (T : Two) (todo : List Act) (M : Marks) (b b' : Book) → Sized M → AllowedAll todo M → FitAll T todo b b' → (x y r : ℕ)
     → Among (of x y r) (map masking todo) → mark_of M x ≡ heldMark → mark_of M y ≡ heldMark → FitBy T (of x y r) b b'
+fit_among T [] M b b' z al fit x y r k hx hy = elim k [ ]
 fit_among T (a ∷ todo) M b b' z al fit x y r (inl e) hx hy = subst (λ (m : Masking). FitBy T m b b') (sym e) fit.0
 fit_among T (a ∷ todo) M b b' z al fit x y r (inr there) hx hy =
     let k = fit_among T todo (marks_by a M) (entered_by T.u a b) (entered_by T.u' a b') (sized_by a M z) al.1 fit.1 x y r there (held x hx) (held y hy) in

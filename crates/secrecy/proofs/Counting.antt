@@ -51,6 +51,7 @@ module _ {A : Type 0} where
 
     of_passing : (xs : List A) (a : A) → Among a xs → f a ≡ true → Among a (passing f xs)
     unfolding passing
+    of_passing [] a k t = elim k [ ]
     of_passing (x ∷ xs) a (inl q) t = subst (Among a) (sym (passing_true x xs (ap f (sym q) ∙ t))) (inl q)
     of_passing (x ∷ xs) a (inr m) t = go (of_passing xs a m t) (f x)
       where
@@ -70,10 +71,12 @@ module _ {A : Type 0} where
 module _ {A B : Type 0} (h : A → B) where
   -- the images of a list's members are its image's members
   pub among_map : (xs : List A) (a : A) → Among a xs → Among (h a) (map h xs)
+  among_map [] a k = elim k [ ]
   among_map (x ∷ xs) a (inl e) = inl (ap h e)
   among_map (x ∷ xs) a (inr m) = inr (among_map xs a m)
 
   pub map_among : (xs : List A) (b : B) → Among b (map h xs) → (a : A) × Among a xs × (b ≡ h a)
+  map_among [] b k = elim k [ ]
   map_among (x ∷ xs) b (inl e) = (x, inl refl, e)
   map_among (x ∷ xs) b (inr m) = let (a, k, e) = map_among xs b m in (a, inr k, e)
 

@@ -28,6 +28,7 @@ member_among i (g ∷ group) e = go (eqb i g) refl e (member_among i group)
     go false q e h = inr (h e)
 
 pub among_member : (i : ℕ) (group : List ℕ) → Among i group → member i group ≡ true
+among_member i [] k = elim k [ ]
 among_member i (g ∷ group) (inl e) = rw (eq-eqb i g e) refl
 among_member i (g ∷ group) (inr m) = go (eqb i g) (among_member i group m)
   where

@@ -46,6 +46,7 @@ module _ {B : Type 0} (e : B) where
 
 module _ {A : Type 0} (x : A) where
   front : (xs ys : List A) → Among x xs → Among x (xs ++ ys)
+  front [] ys k = elim k [ ]
   front (y ∷ xs) ys (inl e) = inl e
   front (y ∷ xs) ys (inr m) = inr (front xs ys m)
 
@@ -55,6 +56,7 @@ module _ {A : Type 0} (x : A) where
 
   among_joined : (f : ℕ → List A) (is : List ℕ) (i : ℕ) → Among i is → Among x (f i) → Among x (joined (map f is))
   unfolding joined
+  among_joined f [] i k m = elim k [ ]
   among_joined f (j ∷ is) i (inl e) m = front (f j) _ (subst (λ (k : ℕ). Among x (f k)) e m)
   among_joined f (j ∷ is) i (inr k) m = behind (f j) _ (among_joined f is i k m)
 

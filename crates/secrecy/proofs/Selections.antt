@@ -17,6 +17,7 @@ use Rattle.secrecy.proofs.Counting.{among_map, map_among, map_distinct}
 -- members of two lists in one
 module _ {A : Type 0} where
   among_left : (xs ys : List A) (a : A) → Among a xs → Among a (xs ++ ys)
+  among_left [] ys a k = elim k [ ]
   among_left (x ∷ xs) ys a (inl e) = inl e
   among_left (x ∷ xs) ys a (inr m) = inr (among_left xs ys a m)
 
@@ -49,6 +50,7 @@ module _ {A : Type 0} where
 module _ {A B : Type 0} (f : A → List B) where
   pub among_each : (xs : List A) (a : A) (b : B) → Among a xs → Among b (f a) → Among b (for_each xs f)
   unfolding for_each
+  among_each [] a b k m = elim k [ ]
   among_each (x ∷ xs) a b (inl e) m = among_left (f x) (for_each xs f) b (subst (λ (z : A). Among b (f z)) e m)
   among_each (x ∷ xs) a b (inr k) m = among_right (f x) (for_each xs f) b (among_each xs a b k m)
 

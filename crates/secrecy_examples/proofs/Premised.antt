@@ -145,6 +145,7 @@ module _ (x : Example) where
 -- where one of a list passes a test, not none pass
 pub some_pass : {A : Type 0} (test : A → Bool) (xs : List A) (a : A) → Among a xs → test a ≡ true → 0 < count test xs
 unfolding count
+some_pass test [] a k q = elim k [ ]
 some_pass test (x ∷ xs) a (inl e) q = rw (← e, q) (omega arith)
 some_pass test (x ∷ xs) a (inr m) q = go (test x) (some_pass test xs a m q)
   where
