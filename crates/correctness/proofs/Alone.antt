@@ -1,14 +1,12 @@
 -- Words of the statements that leave no choice: a record has too few or enough, and a triple one y and one y'.
-use Prim.Native.Nat.{ℕ, ◌+◌}
-use mathlib.Core.Path.{◌≡◌, sym, ◌∙◌, ap, ap₂, subst}
+use Prim.Native.Nat.{ℕ}
+use mathlib.Core.Path.{◌≡◌, sym, ◌∙◌, ap, subst}
 use mathlib.Core.Bool.{Bool, true, false}
 use mathlib.Core.Logic.{◌⊎◌, inl, inr}
-use mathlib.Core.List.{List}
 use borrow.Author.Tests.{ltb-true, ltb-false}
 use lib.Dec.{ltb}
 use Rattle.shape.specs.Lengths.{needed}
 use Rattle.field.specs.Arithmetic as Arithmetic
-use Rattle.session.specs.declared.Session.{Session}
 use Rattle.session.specs.Sessions.{shape_of}
 use Rattle.correctness.specs.Ledger.{Meaning, nothing, dealt, summed, product, Plain}
 use Rattle.correctness.specs.Claim.{how_many, TooFew, Enough, FewOrEnough, OneRemembered}

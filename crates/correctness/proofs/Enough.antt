@@ -1,11 +1,11 @@
 -- The premises of demand 2 from the figures.
-use Prim.Native.Nat.{ℕ, ◌≤◌, ◌<◌}
+use Prim.Native.Nat.{ℕ, ◌≤◌}
 use mathlib.Core.Path.{◌≡◌, refl, ap}
 use mathlib.Core.Bool.{Bool, true, false, cond}
 use mathlib.Core.Logic.{◌⊎◌, inl, inr}
-use mathlib.Core.List.{List, [], ◌∷◌, ◌++◌}
+use mathlib.Core.List.{List, [], ◌∷◌}
 use native.Mathlib.Omega.{arith}
-use lib.ListN.{length, get_or}
+use lib.ListN.{get_or}
 use Rattle.shape.specs.Bounds.{fewest_posts, most_posts, most_points}
 use Rattle.refusal.specs.Conditions.{posts_tests}
 use Rattle.refusal.proofs.Laws.{not_refused as passes}
@@ -14,7 +14,7 @@ use Rattle.opening.specs.Walking.{accepted}
 use Rattle.session.specs.Sessions.{party_of}
 use Rattle.blocks.proofs.Reading.{record_read}
 use Rattle.runs.specs.Draws.{Plan, Draw, Sound, IsDraw, Raw, none, by, IsRaw, when_raw}
-use Rattle.runs.specs.Calls.{Call, Among}
+use Rattle.runs.specs.Calls.{Call}
 use Rattle.runs.proofs.Inside.{among_all}
 use Rattle.correctness.specs.History.{World, Event, step, history, begin, Each}
 use Rattle.correctness.specs.Asked.{AsksOnly}

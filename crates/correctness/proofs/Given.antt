@@ -9,7 +9,7 @@ use lib.ListN.{length, take, drop}
 use Rattle.terms.specs.declared.Term.{Term}
 use Rattle.terms.specs.Listed.{products_of}
 use Rattle.relation.specs.Finish.{record_a_of, record_b_of, term_mask_a, term_mask_b}
-use Rattle.runs.specs.Draws.{Plan, Draw, plan_shape}
+use Rattle.runs.specs.Draws.{plan_shape}
 use Rattle.runs.specs.Calls.{Post, relation_finish_of}
 use Rattle.runs.specs.Orders.{call}
 use Rattle.runs.proofs.Inside.{among_all}
@@ -18,13 +18,11 @@ use Rattle.opening.specs.Walking.{accepted, disagree}
 use Rattle.collect.specs.Collect.{mask_a, mask_b}
 use Rattle.vectors.specs.Vector.{Vector}
 use Rattle.correctness.specs.History.{World, Event, history, begin}
-use Rattle.correctness.specs.Ledger.{Ledger}
 use Rattle.correctness.specs.Truth.{TruePolynomial, TrueMask, TrueOf}
-use Rattle.correctness.specs.Claim.{Premises, Right, Answered, row_in}
+use Rattle.correctness.specs.Claim.{Premises, Right, row_in}
 use Rattle.correctness.specs.Parts.{PartOf, points_passed}
 use Rattle.correctness.specs.Relation.{EachAt, OneAt, LowRecords, Few, Enough, AllTrue}
-use Rattle.correctness.specs.Enough.{RecordAsked}
-use Rattle.correctness.specs.Given.{AllTheirs, OpeningGiven, CollectGiven, CaughtGiven, AtPost, DemandGiven, VectorGiven, SetsGiven, RelationGiven, AnswerGiven, CalledGiven, RelationsAsk, FinishGiven}
+use Rattle.correctness.specs.Given.{AllTheirs, CaughtGiven, DemandGiven, VectorGiven, SetsGiven, RelationGiven, AnswerGiven, CalledGiven, RelationsAsk, FinishGiven}
 use Rattle.correctness.proofs.Theorems.{correct, openings_answered}
 use Rattle.correctness.proofs.Caught.{passed_in_figures}
 use Rattle.correctness.proofs.Parts.{held_parts, mask_parts}

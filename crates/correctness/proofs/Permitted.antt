@@ -1,6 +1,6 @@
 -- One post that stands by the ledger: 1 to 8 refuse no opening of a held row and no call of a finish of masks that were made, with records
 -- that 5 and 8 let pass; and what its first call gives, by 9 and 13.
-use Prim.Native.Nat.{ℕ, suc, ◌+◌, ◌*◌, ◌-◌, ◌≤◌, ◌<◌}
+use Prim.Native.Nat.{ℕ, suc, ◌+◌, ◌*◌, ◌≤◌, ◌<◌}
 use mathlib.Core.Path.{◌≡◌, refl, sym, ◌∙◌, ap, ap₂}
 use mathlib.Core.Bool.{Bool, true, false, not}
 use mathlib.Core.Logic.{◌≢◌, ◌⊎◌, inl, inr}
@@ -30,7 +30,7 @@ use Rattle.multiply.specs.Multiply.{multiply_refusal_of}
 use Rattle.product_masks.proofs.Passed.{Factored}
 use Rattle.collect.proofs.Passed.{CollectChecked, collect_walks}
 use Rattle.multiply.proofs.Passed.{multiply_clear}
-use Rattle.vectors.specs.Vector.{Vector, number, numbers}
+use Rattle.vectors.specs.Vector.{Vector, number}
 use Rattle.runs.specs.Draws.{Plan, Draw, IsDraw, Sound, point_of}
 use Rattle.runs.specs.Calls.{Proper, Post}
 use Rattle.runs.proofs.Marks.{Marks, mark_of, remembered_a, remembered_b, Sized, mask_vector_a, mask_vector_b, Opened, session_at}

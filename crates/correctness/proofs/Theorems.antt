@@ -1,5 +1,5 @@
 -- Demand 2 over whole runs, as specs/Claim.antt has it; an opening's own answer; and a post's desk by its own orders alone.
-use Prim.Native.Nat.{ℕ, ◌+◌, ◌≤◌}
+use Prim.Native.Nat.{ℕ, ◌≤◌}
 use mathlib.Core.Path.{◌≡◌, refl, sym, ◌∙◌, ap, subst}
 use mathlib.Core.Bool.{Bool, cond}
 use mathlib.Core.Logic.{inl, inr}

@@ -2,14 +2,13 @@
 use Prim.Native.Nat.{ℕ, zero, suc, ◌+◌, ◌*◌, ◌-◌, ◌≤◌}
 use mathlib.Core.Path.{◌≡◌, refl, sym, ◌∙◌, ap}
 use mathlib.Core.Bool.{Bool, true, false, cond}
-use mathlib.Core.Logic.{◌≢◌}
 use mathlib.Core.List.{List, [], ◌∷◌}
 use native.Mathlib.Nat.{le_refl, le_trans, mul-le-mul, suc-mul, zero-mul, mul-one, mul_assoc, mul_comm}
 use native.Mathlib.Omega.{arith}
 use lib.Dec.{eqb}
 use lib.ListN.{length}
 use Rattle.field.specs.Modulus.{p}
-use Rattle.poly.specs.Counting.{All, Elements, count_from, agreements}
+use Rattle.poly.specs.Counting.{All, count_from, agreements}
 use Rattle.poly.specs.Polynomial.{value}
 use Rattle.poly.proofs.Theorems.{false_polynomials_pass}
 use Rattle.correctness.specs.Tuples.{sum_from, count_lists, power, FalseTuples, ListsCounted}

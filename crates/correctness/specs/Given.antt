@@ -1,6 +1,6 @@
 -- Demand 2 in one piece, from the figures of specs/Enough.antt to the answers: no premise stands between them that is not said here. With one more in a theorem
 -- itself, or in a part of its conclusion, the theorem would say less and stay proved. Proved in proofs/Given.antt.
-use Rattle.std.specs.Prelude.{ℕ, ◌+◌, ◌*◌, ◌%◌, ◌≤◌, ◌<◌, ◌≡◌, Bool, true, false, not, ◌||◌, ◌≢◌, ◌⊎◌, List, ◌∷◌, ◌++◌, length, get_or, take, drop}
+use Rattle.std.specs.Prelude.{ℕ, ◌+◌, ◌*◌, ◌%◌, ◌≤◌, ◌<◌, ◌≡◌, true, false, not, ◌||◌, ◌≢◌, ◌⊎◌, List, ◌∷◌, ◌++◌, length, get_or, take, drop}
 use Rattle.poly.specs.Counting.{Elements}
 use Rattle.refusal.specs.Conditions.{outside}
 use Rattle.session.specs.declared.Session.{Session}

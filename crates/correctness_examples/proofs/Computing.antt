@@ -50,7 +50,7 @@ use Rattle.runs.specs.Orders.{Order, place, turn, Desk, carry, no_call, a_call, 
 use Rattle.runs.proofs.Outlines.{all_every}
 use Rattle.factory.proofs.Laws.{passes_elements}
 use Rattle.correctness.specs.History.{Event, World, desk, step, history, Each}
-use Rattle.correctness.specs.Ledger.{sum, product, Written, Plain, of_deal, of_row, of_times, of_fee, of_more, of_product}
+use Rattle.correctness.specs.Ledger.{Written, Plain, of_deal, of_row, of_times, of_fee, of_more, of_product}
 use Rattle.correctness.specs.Truth.{OwnPart, EnoughTrue, TrueWith, TrueFinish}
 use Rattle.correctness_examples.specs.Station.{plan, draw_with, ledger, Everyone}
 
