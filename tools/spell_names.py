@@ -74,18 +74,30 @@ def foreign(text):
             mod = m.group(1)
             own = re.match(r"Rattle\.(\w+)\.", mod + ".")
             if not own or own.group(1) not in CRATES or ".contracts" in mod or ".declared" in mod:
-                out |= {w.strip().split(" as ")[-1] for w in m.group(2).split(",")}
+                out |= {part for w in m.group(2).split(",") for part in w.strip().split(" as ")}
     return out
+
+
+def aliases(text):
+    """The names under which a file has the library's modules: what follows one and a dot stays."""
+    out = []
+    for mod, name in re.findall(r"(?m)^\s*(?:ghost )?use ([\w.+']+) as ([^\s;]+)", text):
+        own = re.match(r"Rattle\.(\w+)\.", mod)
+        if not own or own.group(1) not in CRATES:
+            out.append(name + ".")
+    return tuple(out)
 
 
 CRATES = {c for c in os.listdir("crates") if os.path.isdir(os.path.join("crates", c, "src"))}
 
 
 def turn_tokens(text, names, keep, comments):
+    stay = ("tie.", "goal.", "Met.", "Statement.") + aliases(text)
+
     def word(m):
         t = m.group(0)
         before = text_here[: m.start()]
-        if t in keep or t not in names or before.endswith(("tie.", "goal.", "Met.", "Statement.")):
+        if t in keep or t not in names or before.endswith(stay):
             return t
         return names[t]
 

@@ -6,7 +6,7 @@
 
 pub mod broadcast;
 pub mod calls;
-pub mod packs;
+pub mod pack_files;
 pub mod record;
 pub mod relations;
 pub mod testers;
