@@ -53,7 +53,7 @@ module _ (s : Session) (h : Head) (g : Shape) (d : g ≡ shape_of s) (store line
     begun_turned = sym (pr.says s store out ∙ rw n)
 
     pub begun_fed : Fed (feed_of s h) (feed_of s h') store 1
-    begun_fed = rw pr.head_is (record { ready = o.ready; len_in = rw (← pr.head_is) pr.len_in; numbers = omega arith; room = omega arith })
+    begun_fed = rw pr.head_is (record { ready = o.ready; len_in = pr.len_in; numbers = omega arith; room = omega arith })
 
     pub begun_added : Added (feed_of s h) (feed_of s h') out out
     begun_added = rw pr.head_is (record { grows = omega arith; behind = refl })
