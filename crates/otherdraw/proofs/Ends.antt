@@ -16,7 +16,7 @@ use Rattle.shape.specs.declared.Shape.{Shape}
 use Rattle.shape.specs.Lengths.{shape, Valid, f_length, v_length}
 use Rattle.refusal.proofs.Endings.{accepted}
 use Rattle.otherdraw.specs.Other.{points_of, moved, other_draw, other_refusal_of, other_out}
-use Rattle.otherdraw.specs.Between.{Gathering, Seeing, Finding, Roomed}
+use Rattle.otherdraw.specs.Between.{Seeing, Finding, Roomed}
 use Rattle.otherdraw.proofs.Passed.{Given, not_refused, out_fits}
 
 -- ---- the rooms

@@ -1,11 +1,11 @@
 -- What the call's tests leave, by name: where it is not refused, and where it gives 19.
 use Prim.Native.Nat.{ℕ, zero, suc, ◌≤◌, ◌<◌}
-use mathlib.Core.Path.{◌≡◌, refl, sym, ◌∙◌, subst}
+use mathlib.Core.Path.{◌≡◌, refl, sym}
 use mathlib.Core.Bool.{Bool, true, false, not, ◌||◌, ◌&&◌, false≢true}
-use mathlib.Core.Logic.{◌≢◌, ◌⊎◌, inl, inr}
+use mathlib.Core.Logic.{◌≢◌, ◌⊎◌}
 use mathlib.Core.List.{List, [], ◌∷◌, ◌++◌}
 use native.Mathlib.Omega.{arith}
-use borrow.Author.Tests.{ltb-true, ltb-false, eqb-true, eqb-false}
+use borrow.Author.Tests.{ltb-true, ltb-false, eqb-false}
 use lib.Dec.{eqb, ltb}
 use lib.ListN.{length}
 use Rattle.field.specs.Modulus.{p}
@@ -20,7 +20,8 @@ use Rattle.refusal.proofs.Groups.{fail_parts}
 use Rattle.refusal.proofs.Ranges.{station_valid}
 use Rattle.factory.specs.Calls.{any_bad_point, lists_tests}
 use Rattle.factory.proofs.Laws.{passes_elements}
-use Rattle.otherdraw.specs.Other.{not_rising, too_many_of, own_tests, other_tests, other_refusal_of}
+use Rattle.otherdraw.proofs.Few.{few_or_equal}
+use Rattle.otherdraw.specs.Other.{not_rising, too_many_of, other_tests, other_refusal_of}
 
 -- ---- the parts
 
@@ -92,13 +93,6 @@ module _ (n t points : ℕ) (ws draw : List ℕ) (secret wanted : ℕ) (posts ou
         posts_apart = apart;
       }
 
-  few_or_equal : too_many_of t secret wanted posts ≡ false → (secret ≡ wanted) ⊎ (length posts ≤ t)
-  few_or_equal e = go (eqb secret wanted) refl e
-    where
-      go : (b : Bool) → eqb secret wanted ≡ b → (not b && ltb t (length posts)) ≡ false → (secret ≡ wanted) ⊎ (length posts ≤ t)
-      go true q f = inl (eqb-true secret wanted q)
-      go false q f = inr (ltb-false t (length posts) f)
-
   many_and_apart : too_many_of t secret wanted posts ≡ true → (secret ≢ wanted) × (t < length posts)
   many_and_apart e = go (eqb secret wanted) refl e
     where
@@ -111,7 +105,7 @@ module _ (n t points : ℕ) (ws draw : List ℕ) (secret wanted : ℕ) (posts ou
   unfolding other_refusal_of
   not_refused z =
       let (a, (b, _)) = fail_parts early (19 when too_many_of t secret wanted posts ∷ []) (all_fail (other_tests n t points ws draw secret wanted posts out) tt z) in
-      (given a, few_or_equal b)
+      (given a, few_or_equal t secret wanted posts b)
 
   pub out_fits : other_refusal_of n t points ws draw secret wanted posts out ≡ 0 → length out ≡ draw_length (shape n t points)
   unfolding other_refusal_of

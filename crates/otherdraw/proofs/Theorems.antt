@@ -7,7 +7,7 @@ use native.Mathlib.Omega.{arith}
 use borrow.Author.Tests.{lt-ltb, le-ltb, ltb-true, ltb-false}
 use lib.Dec.{ltb}
 use lib.ListN.{length, get_or}
-use Rattle.refusal.specs.Refusal.{Test, ◌when◌, first}
+use Rattle.refusal.specs.Refusal.{first}
 use Rattle.refusal.specs.Conditions.{outside}
 use Rattle.refusal.proofs.Laws.{or_false, inside}
 use Rattle.refusal.proofs.Figures.{beyond_figures}

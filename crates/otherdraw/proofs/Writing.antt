@@ -1,7 +1,7 @@
 -- The turns of the writers: check points gathered, and the v's changed one after the other.
-use Prim.Native.Nat.{ℕ, zero, suc, ◌+◌, ◌*◌, ◌-◌, ◌≤◌, ◌<◌}
-use mathlib.Core.Path.{◌≡◌, refl, sym, ◌∙◌, ap, ap₂}
-use mathlib.Core.List.{List, [], ◌∷◌, ◌++◌, append_assoc, append-nil}
+use Prim.Native.Nat.{ℕ, suc, ◌+◌, ◌*◌, ◌-◌, ◌≤◌, ◌<◌}
+use mathlib.Core.Path.{◌≡◌, sym, ◌∙◌, ap, ap₂}
+use mathlib.Core.List.{List, [], ◌++◌, append_assoc, append-nil}
 use native.Mathlib.Nat.{suc-mul, mul-le-mul_right, mul_comm}
 use native.Mathlib.Numerals.{add-one}
 use native.Mathlib.Omega.{arith}
@@ -12,7 +12,6 @@ use lib.Seq.{length-take-le, take_at, take_all, drop-cons}
 use borrow.Rule.Slice.PartMut.{put_mid}
 use Rattle.field.specs.Arithmetic.{difference, product}
 use Rattle.poly.specs.Polynomial.{value, weighted, powers as powersOf}
-use Rattle.poly.specs.Counting.{All}
 use Rattle.poly.proofs.Lists.{all_at}
 use Rattle.shape.specs.declared.Shape.{Shape}
 use Rattle.session.specs.Rows.{combined}
@@ -21,7 +20,7 @@ use Rattle.sums.proofs.Writers.{length_combined}
 use Rattle.lists.proofs.Parts.{length_put}
 use Rattle.vanishing.specs.Vanishing.{vanishing}
 use Rattle.otherdraw.specs.Other.{points_of}
-use Rattle.otherdraw.specs.Between.{PostsIn, handed, changed, scale_of, vs_with, Valued, Gathering}
+use Rattle.otherdraw.specs.Between.{handed, changed, scale_of, vs_with, Valued, Gathering}
 
 -- ---- check points gathered
 

@@ -2,6 +2,7 @@
 pub mod Loops
 pub mod Sorts
 pub mod Sizes
+pub mod Found
 pub mod Naming
 pub mod Passing
 pub mod Numbering

@@ -1,15 +1,14 @@
 -- The turns of loops over terms: over the first n of a list l, one term at a time. A loop asks tests of each term and keeps the first
 -- refusal, or it does something with each term, which leads to what is done with all of them.
 use Prim.Native.Nat.{ℕ, zero, suc, ◌+◌, ◌≤◌, ◌<◌}
-use mathlib.Core.Path.{◌≡◌, refl, sym, ◌∙◌, ap, ap₂}
-use mathlib.Core.Bool.{Bool, true, false}
-use mathlib.Core.List.{List, [], ◌∷◌, ◌++◌}
+use mathlib.Core.Path.{◌≡◌, refl, sym, ◌∙◌, ap}
+use mathlib.Core.List.{List, [], ◌∷◌}
 use native.Mathlib.Omega.{arith}
 use native.Mathlib.Numerals.{add-one}
 use native.Mathlib.Nat.{le_of_suc-le-suc, not-suc-le-zero}
 use lib.ListN.{length, take, drop, get_or, length-take, drop_of_length-le}
 use lib.Seq.{drop-cons, get_or-take, length-take-le}
-use Rattle.refusal.specs.Refusal.{Test, ◌when◌, first, or_else, AllFail}
+use Rattle.refusal.specs.Refusal.{Test, first, or_else}
 use Rattle.refusal.proofs.Laws.{Numbered, first_join}
 use Rattle.terms.specs.declared.Term.{Term}
 use Rattle.terms.specs.Listed.{blank}

@@ -1,10 +1,10 @@
--- The search for a triple that is named twice: its turns; and what holds where it finds none.
-use Prim.Native.Nat.{ℕ, suc, ◌+◌, ◌≤◌, ◌<◌}
-use mathlib.Core.Path.{◌≡◌, refl, sym, ◌∙◌, ap}
-use mathlib.Core.Bool.{Bool, true, false, ◌||◌}
+-- The search for a triple that is named twice: its turns (Found.antt has those for one triple); and what holds where it finds none.
+use Prim.Native.Nat.{ℕ, ◌+◌, ◌≤◌, ◌<◌}
+use mathlib.Core.Path.{◌≡◌, refl, sym, ◌∙◌}
+use mathlib.Core.Bool.{Bool, true, false}
 use mathlib.Core.Logic.{◌≢◌}
 use mathlib.Core.List.{List, [], ◌∷◌}
-use borrow.Author.Tests.{eq-eqb, ne_eqb, eqb-false}
+use borrow.Author.Tests.{eqb-false}
 use lib.Dec.{eqb}
 use lib.ListN.{length, take, drop, get_or}
 use Rattle.poly.specs.Counting.{All}
@@ -21,20 +21,6 @@ module _ (l : List Term) (n i : ℕ) where
 
   abbrev next : List Term
   next = drop (i + 1) (take n l)
-
-  module _ (row : ℕ) (all : Bool) (e : named_in row (drop i (take n l)) ≡ all) where
-    module _ (h : i < n) (m : n ≤ length l) where
-      pub named_here : (get_or l i blank).first ≡ row → true ≡ all
-      unfolding named_in
-      named_here q = rw (at_place l n i h m, eq-eqb (get_or l i blank).first row q) at e
-
-      pub named_on : ((get_or l i blank).first ≡ row → ⊥) → named_in row (drop (i + 1) (take n l)) ≡ all
-      unfolding named_in
-      named_on q = rw (at_place l n i h m, ne_eqb (get_or l i blank).first row q) at e
-
-    pub named_out : n ≤ i → false ≡ all
-    unfolding named_in
-    named_out h = rw (past_end l n i h) at e
 
   module _ (all : Bool) (e : named_twice_of (drop i (take n l)) ≡ all) where
     module _ (h : i < n) (m : n ≤ length l) (b : Bool) (eb : b ≡ named_in (get_or l i blank).first (drop (i + 1) (take n l))) where

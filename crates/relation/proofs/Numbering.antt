@@ -3,7 +3,7 @@ use Prim.Native.Nat.{ℕ, zero, suc, ◌+◌}
 use mathlib.Core.Bool.{Bool, true, false}
 use mathlib.Core.List.{List, [], ◌∷◌, ◌++◌}
 use Rattle.shape.specs.Marks.{empty, unused, masked}
-use Rattle.refusal.specs.Refusal.{Test, ◌when◌}
+use Rattle.refusal.specs.Refusal.{◌when◌}
 use Rattle.refusal.specs.Conditions.{any_beyond}
 use Rattle.refusal.proofs.Laws.{Numbered}
 use Rattle.session.specs.declared.Session.{Session}

@@ -1,12 +1,11 @@
 -- What holds of every term where its tests refuse nothing, and of the product terms of a list.
-use Prim.Native.Nat.{ℕ, zero, suc, ◌≤◌}
+use Prim.Native.Nat.{ℕ, zero, suc}
 use mathlib.Core.Path.{◌≡◌, refl, sym, ◌∙◌, ap}
 use mathlib.Core.Bool.{Bool, true, false}
 use mathlib.Core.List.{List, [], ◌∷◌, ◌++◌}
 use native.Mathlib.Omega.{arith}
-use lib.Dec.{eqb}
 use Rattle.shape.specs.declared.Shape.{Shape}
-use Rattle.refusal.specs.Refusal.{Test, ◌when◌, first, AllFail}
+use Rattle.refusal.specs.Refusal.{Test, ◌when◌, AllFail}
 use Rattle.refusal.proofs.Laws.{Numbered, inside}
 use Rattle.refusal.proofs.Groups.{fail_parts}
 use Rattle.session.specs.Checks.{no_row, no_triple}

@@ -1,7 +1,7 @@
 -- Tests whose numbers stand in the order of documents 01 and 02, 14 right behind 5, settle the refusal; and lists of terms' tests
 -- stand in that order where each term's tests have one number.
 use Prim.Native.Nat.{ℕ, zero, suc, ◌≤◌, ◌<◌}
-use mathlib.Core.Path.{◌≡◌, refl, sym}
+use mathlib.Core.Path.{◌≡◌, refl}
 use mathlib.Core.Bool.{true, false}
 use mathlib.Core.List.{List, [], ◌∷◌, ◌++◌}
 use native.Mathlib.Nat.{le_refl, le_trans}

@@ -1,6 +1,6 @@
 -- A list of parts that are equally long: the division that tells how many there are, and the part at a place.
 use Prim.Native.Nat.{ℕ, ◌+◌, ◌*◌, ◌-◌, ◌/◌, ◌%◌, ◌≤◌, ◌<◌}
-use mathlib.Core.Path.{◌≡◌, refl, sym, ◌∙◌, ap}
+use mathlib.Core.Path.{◌≡◌, sym, ◌∙◌, ap}
 use mathlib.Core.List.{List, [], ◌∷◌}
 use native.Mathlib.Nat.{div-add-mod', add-zero, add-sub_cancel_left}
 use native.Mathlib.Omega.{arith}

@@ -1,14 +1,14 @@
 -- One term's tests, as the code asks them: those of a plain term, or those of a product.
-use Prim.Native.Nat.{ℕ, ◌+◌, ◌≤◌}
-use mathlib.Core.Path.{◌≡◌, refl, sym, ◌∙◌, ap, ap₂}
+use Prim.Native.Nat.{ℕ, ◌≤◌}
+use mathlib.Core.Path.{◌≡◌, sym, ◌∙◌}
 use mathlib.Core.Bool.{Bool, true, false}
-use mathlib.Core.List.{List, [], ◌∷◌, ◌++◌}
+use mathlib.Core.List.{List, [], ◌∷◌}
 use Rattle.shape.specs.declared.Shape.{Shape}
 use Rattle.shape.specs.Bounds.{last_triple}
 use Rattle.shape.specs.Marks.{held}
 use Rattle.shape.specs.Lengths.{row_length}
-use Rattle.refusal.specs.Refusal.{Test, ◌when◌, first, or_else}
-use Rattle.refusal.specs.Conditions.{beyond, any_beyond}
+use Rattle.refusal.specs.Refusal.{◌when◌, first, or_else}
+use Rattle.refusal.specs.Conditions.{beyond}
 use Rattle.refusal.proofs.Laws.{Numbered}
 use Rattle.refusal.proofs.Groups.{three}
 use Rattle.session.specs.declared.Session.{Session}

@@ -1,5 +1,5 @@
 -- A relation's two calls keep to the law of every call, with 14 right behind 5.
-use Prim.Native.Nat.{ℕ, zero, suc, ◌+◌, ◌≤◌}
+use Prim.Native.Nat.{ℕ, ◌+◌, ◌≤◌}
 use mathlib.Core.Path.{◌≡◌, refl, sym, ap, ap₂}
 use mathlib.Core.Bool.{Bool, true, false, not}
 use mathlib.Core.List.{List, [], ◌∷◌, ◌++◌, append_assoc}
@@ -22,7 +22,7 @@ use Rattle.terms.proofs.Placing.{terms_again, factors_again}
 use Rattle.relation.specs.Tests.{each_at_of, each, by_kind}
 use Rattle.relation.specs.Masks.{masked_terms, term_masks, relation_masks_refusal}
 use Rattle.relation.specs.Finish.{record_a_of, record_b_of, record_pair, term_mask_a, term_mask_b, with_products, with_sum, relation_done, relation_finish_refusal}
-use Rattle.relation.specs.Order.{rank, Ranked, LawfulAfterFive}
+use Rattle.relation.specs.Order.{Ranked, LawfulAfterFive}
 use Rattle.relation.specs.Table.{sixes, sevens, relation_masks_table, relation_finish_table, repeats, triples_of}
 use Rattle.relation.specs.Claims.{RelationLawful}
 use Rattle.relation.proofs.Ranks.{settles, Only, only_append, each_only, ranked_group, ranked_last}

@@ -1,5 +1,5 @@
 -- Document 02, (v): the tests that a relation's two calls share. "6 is checked over all terms before 7, the sum's row last in each."
-use Rattle.std.specs.Prelude.{ℕ, suc, ◌+◌, ◌≤◌, ◌≡◌, Bool, true, false, not, ◌||◌, List, [], ◌∷◌, ◌++◌, eqb}
+use Rattle.std.specs.Prelude.{ℕ, suc, ◌≤◌, ◌≡◌, Bool, true, false, ◌||◌, List, [], ◌∷◌, ◌++◌, eqb}
 use Rattle.shape.specs.Marks.{held}
 use Rattle.refusal.specs.Refusal.{Test, ◌when◌}
 use Rattle.refusal.specs.Conditions.{outside}

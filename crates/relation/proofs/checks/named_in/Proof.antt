@@ -1,13 +1,13 @@
 -- `checks::named_in` meets its contract.
 use Prim.Native.Nat.{◌≤◌, ◌-◌}
-use mathlib.Core.Path.{◌≡◌, refl}
+use mathlib.Core.Path.{◌≡◌}
 use native.Mathlib.Omega.{arith}
-use lib.ListN.{length, drop, length-map}
+use lib.ListN.{length, drop}
 use borrow.Author.Rules.{rules}
 use Rattle.terms.specs.Listed.{most_terms}
 use Rattle.terms.specs.Listed.{factors_of}
 use Rattle.relation.specs.Tests.{named_in}
-use Rattle.relation.proofs.Naming.{named_here, named_on, named_out}
+use Rattle.relation.proofs.Found.{named_here, named_on, named_out}
 use Rattle.relation.proofs.checks.named_in.Statement.{statement}
 use Rattle.relation.proofs.checks.named_in.Tie as tie
 
