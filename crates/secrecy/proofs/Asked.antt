@@ -11,10 +11,11 @@ use Rattle.runs.specs.Draws.{Plan}
 use Rattle.runs.specs.Outline.{Move, load_row_of, load_triple_of, deal, message, opening, linear, masks, collect, multiply, relation_masks_of, relation_finish_of, access, factoring, finishing, summing, takes}
 use Rattle.runs.specs.Orders.{Comes, no_call, a_call, Asked}
 use Rattle.runs.proofs.Outlines.{all_every}
-use Rattle.secrecy.specs.Steps.{Number, Fixed, Record, Step}
+use Rattle.secrecy.specs.Steps.{Fixed, Record, Step}
 use Rattle.secrecy.specs.Waiting.{comes_of}
-use Rattle.secrecy.specs.Rules.{FromDealer, RuleWith, Rule, refusal_of}
-use Rattle.secrecy.specs.Asked.{Broadcast, TermsSent, RuleAsked, RulesAsk, RulesOfLists}
+use Rattle.secrecy.specs.Rules.{RuleWith, Rule, refusal_of}
+use Rattle.secrecy.specs.Asked.{TermsSent, RuleAsked, RulesAsk, RulesOfLists}
+use Rattle.secrecy.proofs.Dealt.{from_dealer}
 
 module _ (plan : Plan) (k : ℕ) (lines : List (List ℕ)) where
   abbrev Kept : Move Fixed → Type 0
@@ -36,14 +37,10 @@ module _ (plan : Plan) (k : ℕ) (lines : List (List ℕ)) where
   kept_sum r [] = tt
   kept_sum r (t ∷ ts) = (tt, tt)
 
-  from_dealer : (r : ℕ) (c : Number) → Broadcast lines r c → FromDealer lines r c
-  from_dealer r c (inl e) = subst (FromDealer lines r) (sym e) refl
-  from_dealer r c (inr (x, e, low, told)) = subst (FromDealer lines r) (sym e) (low, told)
-
   rule_asked : (c : Step) → RuleAsked plan k lines c → Rule plan c k lines
   rule_asked (load_row_of x) h = h
   rule_asked (load_triple_of x) h = h
-  rule_asked (deal x) h = λ z. from_dealer x.r x.c (h z)
+  rule_asked (deal x) h = λ z. from_dealer lines x.r x.c (h z)
   rule_asked (message x) h = tt
   rule_asked (opening x) h = h
   rule_asked (linear x) h = tt

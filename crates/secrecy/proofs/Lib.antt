@@ -50,9 +50,11 @@ pub mod Selections
 pub mod Listed
 pub mod Counts
 -- What the rules ask, call by call.
+pub mod Dealt
 pub mod Asked
 -- What demand 3 asks, in figures, and what its record holds, place by place.
 pub mod Enough
+pub mod Heard
 pub mod Record
 -- The theorems; that nobody gets 13; and that the record shows all check points of a group.
 pub mod Matched

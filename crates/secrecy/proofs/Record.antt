@@ -19,6 +19,7 @@ use Rattle.secrecy.specs.Seen.{all_rows, posts, joined, member, deal_seen, polyn
 use Rattle.secrecy.specs.Record.{CallsIn, Makes, PostsTold, EntriesHold, RecordHolds}
 use Rattle.secrecy.proofs.Selections.{among_numbers}
 use Rattle.secrecy.proofs.Enough.{among_member}
+use Rattle.secrecy.proofs.Heard.{heard_is}
 
 -- ---- places of lists
 
@@ -66,20 +67,6 @@ module _ {A : Type 0} (x : A) where
     where
       go : false ≡ true → ⊥
       go q = absurd (subst (λ (b : Bool). cond b ⊥ (Unit {0})) q tt)
-
-heard_is : (c : Step) (i : ℕ) → CallsIn c i → heard_from c i ≡ true
-heard_is (message x) i h = h
-heard_is (load_row_of x) i h = refl
-heard_is (load_triple_of x) i h = refl
-heard_is (deal x) i h = refl
-heard_is (opening x) i h = refl
-heard_is (linear x) i h = refl
-heard_is (masks x) i h = refl
-heard_is (collect x) i h = refl
-heard_is (multiply x) i h = refl
-heard_is (relation_masks_of x) i h = refl
-heard_is (relation_finish_of x) i h = refl
-heard_is (access x) i h = refl
 
 every_line : (plan : Plan) (draw : Draw) (u : Secrets) (lines : List (List ℕ)) (o : Item) (q : ℕ → Desk) (i : ℕ) → 1 ≤ i → i ≤ plan.n → Makes o i
     → (line : List ℕ) → Among line (sent_on i (order_at plan draw u lines i o) (done_at plan draw u lines o q i)) → Among line (lines_of plan draw u lines o q)
