@@ -193,7 +193,8 @@ impl Session {
         }
     }
 
-    // The same, of masks: the triple at `first` remembers the factor rows a and b.
+    // The same, of masks: the triple at `first` remembers the factor rows a and b. Part of its callers: else a session is copied there twice.
+    #[inline(always)]
     pub fn answer_masking(self, refusal: u8, first: usize, a: usize, b: usize) -> Answer
         requires { Allows refusal (first ≤ last_triple) × Allows refusal (a ≤ last_row_at) × Allows refusal (b ≤ last_row_at) }
         ensures { result ≡ answer refusal 0 (masked_triple self first a b) self }
