@@ -237,7 +237,8 @@ fn read_posts(line: &[u8], n: usize, row: u64, at: usize) -> Read
     read_several(line, n, row, at)
 }
 
-// A line's row and posts.
+// A line's row and posts. A function of its own, so that a session's lists need not be kept while it reads.
+#[inline(never)]
 fn read_line(line: &[u8], n: usize) -> Read
     ensures { result ≡ read_of n (access_fields line.now) }
 {
@@ -280,12 +281,12 @@ fn place_unless(refusal: u8, sets: &mut [u32], row: usize, words: [u32; 8])
 pub fn access(session: Session, line: &[u8]) -> Answer
     ensures { result ≡ access_answer session line.now }
 {
+    let mut barred = session.barred;
     let own = settings(session);
     let read = read_line(line, session.n);
     let all_marks = session.marks;
     let mark = session::checks::wrong_mark(&all_marks, read.row, shape::RAW);
     let refusal = refusal::or_else(own, refusal::or_else(read.refusal, mark));
-    let mut barred = session.barred;
     let words = read.words;
     place_unless(refusal, &mut barred, read.row, words);
     Answer {

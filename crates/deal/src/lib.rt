@@ -51,8 +51,7 @@ pub fn deal(session: Session, rows: &mut [u32], row: usize, c: u32) -> Answer
     ensures rows_after { rows.new ≡ deal_rows_of session rows.old row c }
 {
     let refusal = deal_refusal(session, rows, row, c);
-    // The answer first: what it has of the session is then out of the way of the loop over the sums.
-    let answer = session.answer_marking(refusal, row, shape::HELD);
+    // The answer last: made before the sums it would stand on the stack until they are added, since nothing says that it is none of them.
     deal_rows(session, rows, row, c, refusal);
-    answer
+    session.answer_marking(refusal, row, shape::HELD)
 }

@@ -93,9 +93,10 @@ pub fn linear(
     ensures value { result ≡ linear_answer session rows.old dest a b scale fee }
     ensures rows_after { rows.new ≡ linear_rows_of session rows.old dest a b scale fee }
 {
+    // The list that changes is copied first, for both ends: behind the rows it would be copied in two places.
+    let mut barred = session.barred;
     let refusal = linear_refusal(session, rows, dest, a, b, scale, fee);
     linear_rows(session, rows, dest, a, b, scale, fee, refusal);
-    let mut barred = session.barred;
     sets::share_unless(refusal, &mut barred, dest, a, b);
     Session { barred, ..session }.answer_marking(refusal, dest, shape::HELD)
 }

@@ -161,7 +161,8 @@ fn open_most_pair_in(
     }
 }
 
-// Of a station of any size.
+// Of a station of any size. In its callers its room would stand on a small station's stack too.
+#[inline(never)]
 pub fn open_most_pair(
     party: Party,
     rows: &[u32],

@@ -63,7 +63,8 @@ fn mark(session: Session, term: Term, mark: u8) -> u8
 {
     let row = term.row as usize;
     if term.plain() {
-        return session::checks::wrong_mark(&session.marks, row, shape::HELD);
+        let all_marks = session.marks;
+        return session::checks::wrong_mark(&all_marks, row, shape::HELD);
     }
     product_masks::triple_marks(
         session,

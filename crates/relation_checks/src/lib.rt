@@ -25,10 +25,13 @@ fn remembers(session: Session, term: Term) -> u8
     ensures { result ≡ first (remember_tests session term) }
 {
     let first = term.first as usize;
-    if session.factor_a[first] != term.row {
+    // Lists of their own: to look into the session's, the compiler copies all of it.
+    let factor_a = session.factor_a;
+    let factor_b = session.factor_b;
+    if factor_a[first] != term.row {
         return 7;
     }
-    if session.factor_b[first] != term.second {
+    if factor_b[first] != term.second {
         return 7;
     }
     0
@@ -143,7 +146,8 @@ fn marks(session: Session, all: Terms, dest: usize) -> u8
     requires { Few all × Every (Placed (shape_of session)) (terms_of all) × Every (Factors (shape_of session)) (factors_of all) }
     ensures { result ≡ first (finish_marks session all dest) }
 {
-    let sum = session::checks::wrong_mark(&session.marks, dest, shape::EMPTY);
+    let all_marks = session.marks;
+    let sum = session::checks::wrong_mark(&all_marks, dest, shape::EMPTY);
     let triples = refusal::or_else(
         relation::checks::named_twice(all),
         refusal::or_else(all_remember(session, all), sum),

@@ -8,7 +8,8 @@ pub mod rows;
 
 ghost use Rattle.std.specs.Prelude.{◌≡◌, ◌≤◌, ◌<◌};
 ghost use Rattle.shape.specs.Bounds.{last_row_at, last_triple};
-ghost use Rattle.session.specs.Sessions.{as_many_of, shape_of, party_of, marked, marked_triple, masked_triple, collected_triple, session_of, holding, answer, created, finished_triple};
+ghost use Rattle.refusal.specs.Refusal.{outcome};
+ghost use Rattle.session.specs.Sessions.{as_many_of, no_points, shape_of, party_of, marked, marked_triple, masked_triple, collected_triple, session_of, holding, answer, created, finished_triple};
 ghost use Rattle.session.specs.Between.{Allows};
 
 use shape::{Points, Shape};
@@ -67,6 +68,26 @@ pub fn as_many(points: usize, w: Points) -> Points
     }
 }
 
+// A number of a new session: 0 where the call is refused.
+fn unless(refusal: u8, number: usize) -> usize
+    ensures { result ≡ outcome refusal number 0 }
+{
+    if refusal != 0 { 0 } else { number }
+}
+
+// The same of the check points.
+fn points_unless(refusal: u8, w: Points) -> Points
+    ensures { result ≡ outcome refusal w no_points }
+{
+    if refusal != 0 {
+        return Points {
+            first: 0,
+            second: 0,
+        };
+    }
+    w
+}
+
 impl Session {
     // All rows are empty, and no factor rows and no numbers are remembered.
     fn empty(n: usize, t: usize, post: usize, points: usize, w: Points) -> Session
@@ -93,14 +114,15 @@ impl Session {
         ensures { result ≡ created n t post points w }
     {
         let refusal = checks::settings(n, t, post, points, w);
-        if refusal != 0 {
-            let none = Points {
-                first: 0,
-                second: 0,
-            };
-            return Session::empty(0, 0, 0, 0, none).refuse(refusal);
-        }
-        Session::empty(n, t, post, points, as_many(points, w)).done(0)
+        // One end, refused or not, so that the session is made in its place.
+        Session::empty(
+            unless(refusal, n),
+            unless(refusal, t),
+            unless(refusal, post),
+            unless(refusal, points),
+            points_unless(refusal, as_many(points, w)),
+        )
+        .refuse(refusal)
     }
 
     pub fn shape(self) -> Shape
@@ -193,7 +215,8 @@ impl Session {
         }
     }
 
-    // The same, of masks: the triple at `first` remembers the factor rows a and b.
+    // The same, of masks: the triple at `first` remembers the factor rows a and b. Part of its callers: else a session is copied there twice.
+    #[inline(always)]
     pub fn answer_masking(self, refusal: u8, first: usize, a: usize, b: usize) -> Answer
         requires { Allows refusal (first ≤ last_triple) × Allows refusal (a ≤ last_row_at) × Allows refusal (b ≤ last_row_at) }
         ensures { result ≡ answer refusal 0 (masked_triple self first a b) self }

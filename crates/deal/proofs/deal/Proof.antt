@@ -10,4 +10,4 @@ ruleset steps = (endings, deal_allows)
 pub deal_spec : {M : Type 1} → statement M
 deal_spec =
     tie.close
-    (tie.spec (λ c κs. search rules) (λ c κs. search steps) (λ c κs. search rules) (λ c. search rules) (λ c. search steps))
+    (tie.spec (λ c κs. search rules) (λ c κs. search rules) (λ c κs. search steps) (λ c. search rules) (λ c. search steps))

@@ -7,5 +7,5 @@ use Rattle.relation.proofs.checks.mark.Tie as tie
 pub mark_spec : {M : Type 1} → statement M
 mark_spec =
     tie.close
-    (tie.spec (λ c. search rules) (λ c κs. search rules) (λ c κs. search rules) (λ c. search (rules, mark_plain)) (λ c. search rules)
+    (tie.spec (λ c. search rules) (λ c κs. search rules) (λ c. search rules) (λ c κs. search rules) (λ c. search (rules, mark_plain)) (λ c. search rules)
     (λ c. search rules) (λ c κs. search (rules, mark_first)) (λ c. search (rules, mark_product)))
