@@ -1,6 +1,6 @@
 -- The loops that make a sum's set, and how the sum ends.
 use Prim.Native.Nat.{ℕ, zero, suc, ◌+◌, ◌*◌, ◌≤◌, ◌<◌}
-use mathlib.Core.Path.{◌≡◌, refl, sym, ◌∙◌, ap}
+use mathlib.Core.Path.{◌≡◌, refl, sym, ◌∙◌, ap, ap₂}
 use mathlib.Core.List.{List, [], ◌∷◌}
 use native.Mathlib.Omega.{arith}
 use lib.Bits.{bit_or}
@@ -12,8 +12,7 @@ use Rattle.refusal.proofs.Endings.{refused, accepted}
 use Rattle.callers.specs.Sets.{sets_length, shared, shared_all, unbarred}
 use Rattle.callers.proofs.Shared.{shared_more, length_kept, length_all, one_end, both_end}
 use Rattle.session.specs.declared.Session.{Session}
-use Rattle.session.specs.declared.Answer.{Answer}
-use Rattle.session.specs.Sessions.{answer, with_barred, marked, summed_row}
+use Rattle.session.specs.Sessions.{holding, answer, with_marks, with_barred, summed_row}
 use Rattle.session.specs.Between.{Allows}
 use Rattle.linear.specs.Linear.{linear_refusal_of, linear_answer}
 use Rattle.linear.proofs.Passed as Passed
@@ -58,12 +57,12 @@ module _ (s : Session) (rows : List ℕ) (r a b scale fee : ℕ) (f : ℕ) (e : 
   pub allows_b : Allows f (b ≤ last_row_at)
   allows_b = record { allowed = λ n. (Passed.summed s rows r a b scale fee (sym e ∙ n)).placed.b_in }
 
-  pub sum_done : (x : List ℕ) (w : Answer) → x ≡ outcome f (shared_all s.barred r (a ∷ b ∷ [])) s.barred
-      → w ≡ answer f 0 (marked (with_barred s x) r held) (with_barred s x) → w ≡ linear_answer s rows r a b scale fee
+  pub sum_done : (x l : List ℕ) → x ≡ outcome f (shared_all s.barred r (a ∷ b ∷ [])) s.barred → l ≡ outcome f (set s.marks r held) s.marks
+      → holding f 0 (with_marks (with_barred s x) l) ≡ linear_answer s rows r a b scale fee
   unfolding outcome
-  sum_done x w ex ew = rw (← e) (ew ∙ go f ex)
+  sum_done x l ex el = rw (← e) (go f ex el)
     where
-      go : (k : ℕ) → x ≡ outcome k (shared_all s.barred r (a ∷ b ∷ [])) s.barred
-          → answer k 0 (marked (with_barred s x) r held) (with_barred s x) ≡ answer k 0 (summed_row s r (a ∷ b ∷ [])) s
-      go zero q = ap (λ (y : List ℕ). answer 0 0 (marked (with_barred s y) r held) (with_barred s y)) q
-      go (suc k) q = ap (λ (y : List ℕ). answer (suc k) 0 (marked (with_barred s y) r held) (with_barred s y)) q
+      go : (k : ℕ) → x ≡ outcome k (shared_all s.barred r (a ∷ b ∷ [])) s.barred → l ≡ outcome k (set s.marks r held) s.marks
+          → holding k 0 (with_marks (with_barred s x) l) ≡ answer k 0 (summed_row s r (a ∷ b ∷ [])) s
+      go zero q h = ap₂ (λ (y m : List ℕ). holding 0 0 (with_marks (with_barred s y) m)) q h
+      go (suc k) q h = ap₂ (λ (y m : List ℕ). holding (suc k) 0 (with_marks (with_barred s y) m)) q h

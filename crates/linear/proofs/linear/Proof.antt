@@ -10,6 +10,6 @@ ruleset rows_in = (rules, linear_allows, allows_a, allows_b)
 pub linear_spec : {M : Type 1} → statement M
 linear_spec =
     tie.close
-    (tie.spec (λ c κs. search rules) (λ c κs. search rules) (λ c. search rules)
+    (tie.spec (λ c. search rules) (λ c κs. search rules) (λ c κs. search rules) (λ c. search rules)
     (λ c κs. (search rules, search rows_in, search rows_in, search rows_in))
-    (λ c κs. search (rules, linear_allows)) (λ c. search rules) (λ c. search (rules, sum_done)))
+    (λ c. search rules) (λ c κs. (search rules, search rows_in)) (λ c. search rules) (λ c. search (rules, sum_done)))

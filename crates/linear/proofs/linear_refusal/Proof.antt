@@ -10,7 +10,7 @@ ruleset steps = (rules, shape_sized, linear_stopped, linear_checked)
 pub linear_refusal_spec : {M : Type 1} → statement M
 linear_refusal_spec =
     tie.close
-    (tie.spec (λ c κs. search rules) (λ c. search steps) (λ c κs. search rules) (λ c. search rules) (λ c κs. search rules)
+    (tie.spec (λ c κs. search rules) (λ c. search steps) (λ c κs. search rules) (λ c κs. search rules)
     (λ c κs. search rules) (λ c κs. search rules) (λ c κs. search steps) (λ c κs. search steps) (λ c κs. search rules)
     (λ c κs. search rules) (λ c κs. search rules) (λ c κs. search rules) (λ c κs. search rules) (λ c κs. search rules)
     (λ c κs. search rules) (λ c κs. search rules) (λ c κs. search rules) (λ c κs. search rules) (λ c. search steps))
