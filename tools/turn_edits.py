@@ -260,7 +260,7 @@ def main():
                 words = set()
                 for _, _, p, _, c_lines, _ in made.get(name, []):
                     if p == there:
-                        words |= {w for l in c_lines if not is_use(l) for w in re.findall(r"[^\s(){}.;,@\"«»\[\]\\|`]+", l)}
+                        words |= {w for l in c_lines if not is_use(l) for w in re.findall(r"[^\s(){}.;,@\"«»\[\]\\`]+", l)}
                 need = []
                 given = imports([l for _, _, p, _, c_lines, _ in made.get(name, []) if p == there for l in c_lines if is_use(l)])
                 for w, line in has.items():
