@@ -3,21 +3,17 @@
 
 ghost use Rattle.std.specs.Prelude.{◌≡◌, length, replicate};
 
-// The numbers of `from`, into `to`.
-pub fn copy(from: &[u32], to: &mut [u32])
+// What stands in `from`, into `to`.
+pub fn copy<T: Copy>(from: &[T], to: &mut [T])
     requires { length from.now ≡ length to.old }
     ensures { to.new ≡ from.now }
 {
-    for i in 0..from.len() {
-        to[i] = from[i];
-    }
+    to.copy_from_slice(from);
 }
 
 // 0 in every place.
 pub fn clear(list: &mut [u32])
     ensures { list.new ≡ replicate (length list.old) 0 }
 {
-    for i in 0..list.len() {
-        list[i] = 0;
-    }
+    list.fill(0);
 }
