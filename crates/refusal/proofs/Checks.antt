@@ -1,14 +1,17 @@
 -- What checks found, one after the other.
 use Prim.Native.Nat.{ℕ, zero, suc}
-use mathlib.Core.Path.{◌≡◌, refl}
-use mathlib.Core.List.{List, ◌++◌}
+use mathlib.Core.Path.{◌≡◌, refl, sym, ◌∙◌, ap, ap₂}
+use mathlib.Core.Bool.{true, false}
+use mathlib.Core.List.{List, [], ◌∷◌, ◌++◌}
 use native.Mathlib.Omega.{arith}
 use Rattle.std.specs.Prelude.{Result, Ok, Err}
-use Rattle.std.specs.Result.{result_and}
+use Rattle.std.specs.Result.{result_and, is_ok}
 use Rattle.refusal.specs.declared.Refusal.{Refusal}
 use Rattle.refusal.specs.declared.Refusal.TheVariants.{BadPostCount, BadThreshold, BadPost, BadCheckPoint, BadLength, NoSuchRow, WrongMark, NotAnElement, TooFewAccepted, MalformedLine, LineOutOfRange, NoRoom, InconsistentShares, BadTermCount, CallerBarred, BadDealer, PlaceFilled, BadPostList, TooManyPosts}
 use Rattle.refusal.specs.Numbers.{number, refused}
-use Rattle.refusal.specs.Refusal.{or_else}
+use Rattle.refusal.specs.Refusal.{Test, ◌when◌, first, or_else, outcome}
+use Rattle.refusal.proofs.Endings as E
+use Rattle.refusal.proofs.Laws.{Numbered, first_join}
 
 -- no refusal has the number 0
 pub numbered : (r : Refusal) (A : Type 0) → number r ≡ 0 → A
@@ -56,3 +59,42 @@ numbered_first TooManyPosts b = refl
 pub refused_and : {A B : Type 0} (a : Result A Refusal) (b : Result B Refusal) → refused (result_and a b) ≡ or_else (refused a) (refused b)
 refused_and (Ok x) b = refl
 refused_and (Err r) b = numbered_first r (refused b)
+
+pub not_zero : (r : Refusal) → number r ≡ 0 → ⊥
+not_zero r e = numbered r ⊥ e
+
+-- a check that found nothing, and one that did
+pub ok_zero : {A : Type 0} (x : Result A Refusal) → is_ok x ≡ true → refused x ≡ 0
+ok_zero (Ok a) e = refl
+ok_zero (Err r) e = let z : ◌≡◌ false true = e in cc
+
+pub err_not_zero : {A : Type 0} (x : Result A Refusal) → is_ok x ≡ false → refused x ≡ 0 → ⊥
+err_not_zero (Ok a) e z = let y : ◌≡◌ true false = e in cc
+err_not_zero (Err r) e z = not_zero r z
+
+-- what is kept where a check found nothing, and else
+pub kept_ok : {A B : Type 0} (x : Result A Refusal) (a : A) (new old : B) → x ≡ Ok a → new ≡ outcome (refused x) new old
+unfolding outcome
+kept_ok x a new old e = rw e refl
+
+pub kept_err : {A B : Type 0} (x : Result A Refusal) (r : Refusal) (new old : B) → x ≡ Err r → old ≡ outcome (refused x) new old
+kept_err x r new old e = E.refused (number r) (refused x) new old (ap refused (sym e)) (not_zero r)
+
+-- checks that are all asked, joined by `and`
+pub both_asked :
+    {A B : Type 0} (xs ys : List Test) → Numbered xs → (a : Result A Refusal) (b r : Result B Refusal)
+    → refused a ≡ first xs → refused b ≡ first ys → r ≡ result_and a b → refused r ≡ first (xs ++ ys)
+both_asked xs ys n a b r ea eb er = ap refused er ∙ refused_and a b ∙ ap₂ or_else ea eb ∙ sym (first_join xs ys n)
+
+first_numbered : (t u : Test) → Numbered (t ∷ u ∷ []) → Numbered (t ∷ [])
+first_numbered (zero when b) u n = absurd n
+first_numbered (suc k when b) u n = tt
+
+module _ {A : Type 0} (t u : Test) (a b p : Result A Refusal)
+    (ea : refused a ≡ first (t ∷ [])) (eb : refused b ≡ first (u ∷ [])) (ep : p ≡ result_and a b) where
+  pub two_asked : Numbered (t ∷ u ∷ []) → refused p ≡ first (t ∷ u ∷ [])
+  two_asked n = both_asked (t ∷ []) (u ∷ []) (first_numbered t u n) a b p ea eb ep
+
+  module _ (v : Test) (c q : Result A Refusal) (ec : refused c ≡ first (v ∷ [])) (eq : q ≡ result_and p c) where
+    pub three_asked : Numbered (t ∷ u ∷ []) → refused q ≡ first (t ∷ u ∷ v ∷ [])
+    three_asked n = both_asked (t ∷ u ∷ []) (v ∷ []) n p c q (two_asked n) ec eq

@@ -1,4 +1,4 @@
-use Rattle.std.proofs.Common.{ℕ, ◌≤◌, length}
+use Rattle.std.proofs.Common.{◌≤◌, length}
 use Rattle.refusal.proofs.Elements.{SoFar}
 use Rattle.refusal.proofs.numbers.Given as goal
 
