@@ -12,9 +12,9 @@ use Rattle.shape.specs.declared.Shape.{Shape}
 use Rattle.shape.specs.Marks.{held}
 use Rattle.shape.specs.Lengths.{v_length, row_length, message_length}
 use Rattle.shape.specs.Row.{coefficients}
-use Rattle.refusal.specs.Refusal.{Test, ◌when◌, first, or_else}
+use Rattle.refusal.specs.Refusal.{Test, ◌when◌, first}
 use Rattle.refusal.specs.Conditions.{wrong_length, any_beyond}
-use Rattle.refusal.proofs.Groups.{chained, stopped, went_on}
+use Rattle.refusal.proofs.Groups.{stopped, went_on}
 use Rattle.refusal.proofs.Endings.{refused, accepted}
 use Rattle.callers.specs.Sets.{bars}
 use Rattle.session.specs.declared.Session.{Session}
@@ -43,13 +43,16 @@ module _ (s : Session) (rows : List ℕ) (r : ℕ) (out : List ℕ) where
   abbrev size : List Test
   size = 5 when wrong_length out (message_length (shape_of s)) ∷ []
 
-  abbrev place : List Test
-  place = 6 when no_row r ∷ 7 when wrong_mark_of s r held ∷ []
+  abbrev six : List Test
+  six = 6 when no_row r ∷ []
+
+  abbrev seven : List Test
+  seven = 7 when wrong_mark_of s r held ∷ []
 
   abbrev numbers : List Test
   numbers = 8 when any_beyond (row_at (width s) rows r) ∷ []
 
-  -- the length stops the call, or row and mark do, or it goes on
+  -- each check stops the call, or it goes on
   module _ (f : ℕ) (e : f ≡ first (frame_tests s rows)) (z : f ≡ 0) (g : Shape) (eg : g ≡ shape_of s) (w q5 : ℕ) (ew : w ≡ v_length g)
       (e5 : q5 ≡ first (5 when wrong_length out w ∷ [])) where
     sized : q5 ≡ first size
@@ -57,21 +60,25 @@ module _ (s : Session) (rows : List ℕ) (r : ℕ) (out : List ℕ) where
 
     pub size_stopped : (q5 ≡ 0 → ⊥) → q5 ≡ message_early s rows r out
     unfolding message_early
-    size_stopped n = past_frame s rows own f q5 e z (stopped size (place ++ numbers) tt q5 sized n)
+    size_stopped n = past_frame s rows own f q5 e z (stopped size (six ++ (seven ++ numbers)) tt q5 sized n)
 
-    module _ (z5 : q5 ≡ 0) (q6 q7 m : ℕ) (e6 : q6 ≡ first (6 when no_row r ∷ [])) (e7 : q7 ≡ first (7 when wrong_mark_of s r held ∷ [])) (em : m ≡ or_else q6 q7) where
-      placed : m ≡ first place
-      placed = chained place tt m (cc)
-
-      pub place_stopped : (m ≡ 0 → ⊥) → m ≡ message_early s rows r out
+    module _ (z5 : q5 ≡ 0) (q6 : ℕ) (e6 : q6 ≡ first (6 when no_row r ∷ [])) where
+      past_size : (q : ℕ) → q ≡ first (six ++ (seven ++ numbers)) → q ≡ message_early s rows r out
       unfolding message_early
-      place_stopped n = past_frame s rows own f m e z (went_on size (place ++ numbers) tt q5 sized m z5 (stopped place numbers tt m placed n))
+      past_size q h = past_frame s rows own f q e z (went_on size (six ++ (seven ++ numbers)) tt q5 sized q z5 h)
 
-      pub message_checked : (q8 : ℕ) → m ≡ 0 → q8 ≡ first (8 when any_beyond (row_at (row_length g) rows r) ∷ []) → q8 ≡ message_early s rows r out
-      unfolding message_early
-      message_checked q8 zm e8 =
-          past_frame s rows own f q8 e z
-          (went_on size (place ++ numbers) tt q5 sized q8 z5 (went_on place numbers tt m placed q8 zm (rw eg at e8)))
+      pub place_stopped : (q6 ≡ 0 → ⊥) → q6 ≡ message_early s rows r out
+      place_stopped n = past_size q6 (stopped six (seven ++ numbers) tt q6 e6 n)
+
+      module _ (z6 : q6 ≡ 0) (q7 : ℕ) (e7 : q7 ≡ first (7 when wrong_mark_of s r held ∷ [])) where
+        past_six : (q : ℕ) → q ≡ first (seven ++ numbers) → q ≡ message_early s rows r out
+        past_six q h = past_size q (went_on six (seven ++ numbers) tt q6 e6 q z6 h)
+
+        pub mark_stopped : (q7 ≡ 0 → ⊥) → q7 ≡ message_early s rows r out
+        mark_stopped n = past_six q7 (stopped seven numbers tt q7 e7 n)
+
+        pub message_checked : q7 ≡ 0 → (q8 : ℕ) → q8 ≡ first (8 when any_beyond (row_at (row_length g) rows r) ∷ []) → q8 ≡ message_early s rows r out
+        message_checked z7 q8 e8 = past_six q8 (went_on seven numbers tt q7 e7 q8 z7 (rw eg at e8))
 
 -- 15
 module _ (s : Session) (r caller : ℕ) where

@@ -1,0 +1,11 @@
+-- `message_out` meets its contract.
+use mathlib.Core.Path.{sym, ◌∙◌}
+use borrow.Author.Rules.{rules}
+use Rattle.refusal.proofs.Checks.{ok_zero}
+use Rattle.message.proofs.Messages.{message_sized, message_in, message_long}
+use Rattle.message.proofs.message_out.Goals as goal
+
+pub message_accepted-requires : goal.message_accepted-requires
+message_accepted-requires c =
+    let z = ok_zero c.args.checked (sym c.is_ok.ensures.value ∙ c.if-is_ok.true) in
+    search (rules, z, message_sized, message_in, message_long)
