@@ -1,0 +1,8 @@
+-- `join`: of the words so far.
+use mathlib.Core.Path.{◌≡◌}
+use lib.ListN.{length}
+use Rattle.callers.specs.Sets.{shared}
+use Rattle.linear.proofs.sets.join.Given as goal
+
+abbrev pub invariant-loop-k : goal.invariant-loop-k
+invariant-loop-k l = (length l.sets ≡ length l.fn.sets) × (l.sets ≡ shared l.k l.fn.sets l.d l.d l.a)
