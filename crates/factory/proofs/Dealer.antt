@@ -14,10 +14,9 @@ use Rattle.refusal.specs.Refusal.{◌when◌, first}
 use Rattle.refusal.specs.Conditions.{beyond}
 use Rattle.refusal.proofs.Laws.{all_fail}
 use Rattle.refusal.proofs.Elements.{below_p}
-use Rattle.refusal.proofs.Checks.{numbered}
+use Rattle.refusal.proofs.Checks.{numbered, both_asked}
 use Rattle.refusal.proofs.Endings.{refused as refusal_ends, accepted}
 use Rattle.factory.specs.Calls.{dealer_tests, dealer_refusal, dealer_number_of}
-use Rattle.factory.proofs.Refusals.{joined}
 use Rattle.factory.specs.declared.Number.{Number}
 
 abbrev number : ℕ → ℕ → Number
@@ -27,7 +26,7 @@ module _ {A : Type 0} (u constant : ℕ) (a b checked : Result A Refusal) (first
     (second-test : refused b ≡ first (8 when beyond constant ∷ [])) (both : checked ≡ result_and a b) where
   refusal_is : refused checked ≡ dealer_refusal u constant
   unfolding dealer_refusal
-  refusal_is = rw both (joined (8 when beyond u ∷ []) (8 when beyond constant ∷ []) tt a b first-test second-test)
+  refusal_is = both_asked (8 when beyond u ∷ []) (8 when beyond constant ∷ []) tt a b checked first-test second-test both
 
   abbrev given : Number
   given = number 0 (difference u constant)

@@ -1,8 +1,8 @@
 -- The refusals of the factory's calls: the search among the check points, and the tests joined in order.
 use Prim.Native.Nat.{ℕ, ◌+◌, ◌*◌, ◌≤◌, ◌<◌}
-use mathlib.Core.Path.{◌≡◌, refl, sym, ◌∙◌, ap₂}
+use mathlib.Core.Path.{◌≡◌, refl, sym, ◌∙◌}
 use mathlib.Core.Bool.{Bool, true, false}
-use mathlib.Core.List.{List, [], ◌∷◌, ◌++◌}
+use mathlib.Core.List.{List, [], ◌∷◌}
 use native.Mathlib.Numerals.{add-one}
 use native.Mathlib.Omega.{arith}
 use mir.Syntax.{w64}
@@ -15,11 +15,11 @@ use Rattle.std.specs.Prelude.{Result}
 use Rattle.std.specs.Result.{result_and}
 use Rattle.refusal.specs.declared.Refusal.{Refusal}
 use Rattle.refusal.specs.Numbers.{refused}
-use Rattle.refusal.specs.Refusal.{Test, ◌when◌, first, or_else}
+use Rattle.refusal.specs.Refusal.{◌when◌, first}
 use Rattle.refusal.specs.Conditions.{wrong_length, bad_point, any_beyond, station_tests}
-use Rattle.refusal.proofs.Laws.{Numbered, all_fail, equal, first_join}
+use Rattle.refusal.proofs.Laws.{all_fail, equal}
 use Rattle.refusal.proofs.Groups.{stopped, went_on, fail_parts}
-use Rattle.refusal.proofs.Checks.{refused_and}
+use Rattle.refusal.proofs.Checks.{both_asked}
 use Rattle.refusal.proofs.Ranges.{station_valid}
 use Rattle.factory.specs.Calls.{any_bad_point, factory_tests, factory_row_refusal, factory_triple_refusal, lists_tests}
 use Rattle.packs.specs.Between.{Fine}
@@ -46,11 +46,6 @@ module _ (l : List ℕ) (i : ℕ) (b : Bool) where
   unfolding any_bad_point
   points_ended h inv = rw (← inv, drop_of_length-le l h)
 
--- what two groups of checks found, one after the other
-pub joined : {A B : Type 0} (xs ys : List Test) → Numbered xs → (a : Result A Refusal) (b : Result B Refusal) → refused a ≡ first xs → refused b ≡ first ys
-    → refused (result_and a b) ≡ first (xs ++ ys)
-joined xs ys n a b ea eb = refused_and a b ∙ ap₂ or_else ea eb ∙ sym (first_join xs ys n)
-
 -- the tests of the lists, each asked by itself
 pub lists_joined : {A : Type 0} (n drawn written : ℕ) (ws draw out : List ℕ) (a b c d e w x y r : Result A Refusal)
     → refused a ≡ first (4 when any_bad_point ws ∷ []) → refused b ≡ first (5 when wrong_length ws n ∷ [])
@@ -62,9 +57,9 @@ lists_joined n drawn written ws draw out a b c d e w x y r f g h i j k l m o =
     let two = 5 when wrong_length ws n in
     let three = 5 when wrong_length draw drawn in
     let four = 5 when wrong_length out written in
-    rw (o, m, l, k)
-    (joined (one ∷ two ∷ three ∷ four ∷ []) (8 when any_beyond draw ∷ []) tt _ e
-    (joined (one ∷ two ∷ three ∷ []) (four ∷ []) tt _ d (joined (one ∷ two ∷ []) (three ∷ []) tt _ c (joined (one ∷ []) (two ∷ []) tt a b f g) h) i) j)
+    both_asked (one ∷ two ∷ three ∷ four ∷ []) (8 when any_beyond draw ∷ []) tt y e r
+    (both_asked (one ∷ two ∷ three ∷ []) (four ∷ []) tt x d y
+    (both_asked (one ∷ two ∷ []) (three ∷ []) tt w c x (both_asked (one ∷ []) (two ∷ []) tt a b w f g k) h l) i m) j o
 
 module _ (n t points : ℕ) (ws draw out : List ℕ) (r : ℕ) (posts : r ≡ first (station_tests n t points)) where
   pub row_stopped : (r ≡ 0 → ⊥) → r ≡ factory_row_refusal n t points ws draw out
