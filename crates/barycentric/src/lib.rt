@@ -148,10 +148,10 @@ fn weigh_few(nodes: &[u32], gaps: &[u32], few: usize, list: &mut [u32])
 {
     let missed = gaps.len();
     list[0] = distances(gaps, few, 0, missed);
-    for i in 0..nodes.len() {
-        let x = wide(nodes[i]);
+    for (i, node) in nodes.iter().enumerate() {
+        let x = wide(*node);
         let above = missed + (i + 1) - x;
-        list[i + 1] = field::mul(list[x], distances(gaps, few, nodes[i], above));
+        list[i + 1] = field::mul(list[x], distances(gaps, few, *node, above));
     }
 }
 
@@ -165,9 +165,9 @@ fn weigh_four(nodes: &[u32], gaps: &[u32], k: usize, list: &mut [u32])
     let c = gaps[k + 2];
     let d = gaps[k + 3];
     list[0] = field::mul(list[0], four(0, a, b, c, d));
-    for i in 0..nodes.len() {
+    for (i, node) in nodes.iter().enumerate() {
         let at = i + 1;
-        list[at] = field::mul(list[at], four(nodes[i], a, b, c, d));
+        list[at] = field::mul(list[at], four(*node, a, b, c, d));
     }
 }
 
@@ -227,10 +227,9 @@ fn weigh_rising(nodes: &[u32], inverses: &[u32], gaps: &mut [u32], list: &mut [u
     ensures { (gaps.new ≡ missing 0 nodes.now) × WeightsOf nodes.now list.new }
 {
     binomials(inverses, list);
-    if gaps.len() == 0 {
-        return;
+    if !gaps.is_empty() {
+        weigh_gaps(nodes, gaps, list);
     }
-    weigh_gaps(nodes, gaps, list);
 }
 
 // The interpolation at 0 through rising nodes; the nodes' weights stay at the front of the list.
