@@ -35,6 +35,6 @@ pub fn append(line: &mut [u8], len: usize, part: &[u8]) -> usize
 {
     let count = least(KEPT - len, part.len());
     let end = len + count;
-    street_store::copy_bytes(&part[..count], &mut line[len..end]);
+    lists::copy(&part[..count], &mut line[len..end]);
     end
 }
