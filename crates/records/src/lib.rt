@@ -32,13 +32,13 @@ fn put_checks(
     n: usize,
     t: usize,
     points: usize,
-    record: &[u32],
+    all_blocks: &[u32],
     post: usize,
     message: &[u32],
 ) -> Result<(), Refusal>
-    ensures { refused result ≡ put_refusal_of n t points record.now post message.now }
+    ensures { refused result ≡ put_refusal_of n t points all_blocks.now post message.now }
 {
-    place_checks(n, t, points, record, post)?;
+    place_checks(n, t, points, all_blocks, post)?;
     let shape = Shape { n, t, points };
     refusal::size(message, shape.v_len())?;
     refusal::numbers(message)
