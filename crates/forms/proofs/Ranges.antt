@@ -30,27 +30,10 @@ module _ (n letter row post largest : ℕ) where
   abbrev broken : Bool
   broken = out_of_range_of n letter row post (beyond largest)
 
-  pub largest_beyond : p ≤ largest → true ≡ broken
-  largest_beyond h = rw (le-ltb largest p h) (sym (or_true (ltb (last_row_of letter) row) (cond (eqb letter 68) false (outside 1 n post))))
-
   module _ (h : largest < p) (last : ℕ) (l : last ≡ last_row_of letter) where
-    pub row_beyond : last < row → true ≡ broken
-    row_beyond r = rw (← l, lt-ltb last row r)
-
     module _ (r : row ≤ last) where
-      pub deal_within : letter ≡ 68 → false ≡ broken
-      deal_within d = rw (lt-ltb largest p h, ← l, le-ltb last row r, eq-eqb letter 68 d)
-
       module _ (d : letter ≡ 68 → ⊥) where
-        pub post_zero : post < 1 → true ≡ broken
-        post_zero b = rw (← l, le-ltb last row r, ne_eqb letter 68 d, lt-ltb post 1 b)
-
         module _ (b : 1 ≤ post) where
-          pub post_beyond : n < post → true ≡ broken
-          post_beyond g = rw (← l, le-ltb last row r, ne_eqb letter 68 d, le-ltb post 1 b, lt-ltb n post g)
-
-          pub all_within : post ≤ n → false ≡ broken
-          all_within g = rw (lt-ltb largest p h, ← l, le-ltb last row r, ne_eqb letter 68 d, le-ltb post 1 b, le-ltb n post g)
 
 -- the largest number is an element where all are
 pub largest_any : (m : ℕ) (xs : List ℕ) → beyond m || any_beyond xs ≡ beyond (largest_from m xs)
