@@ -7,7 +7,6 @@ use native.Mathlib.Omega.{arith}
 use borrow.Rule.Slice.PartMut.{put_mid}
 use lib.ListN.{length, take, drop, replicate, length-append, length-drop, take-append-drop}
 use lib.Seq.{take_at, drop_at, take_all, drop-length, length-take-le}
-use lib.Dec.{ltb}
 use Rattle.csv_fields.specs.declared.Run.{Run}
 use Rattle.std.specs.Prelude.{Option}
 use Rattle.csv_fields.specs.Fields.{fields_at, ended, numbers_of_of, run_from, run_of, padded}
