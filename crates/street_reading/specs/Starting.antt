@@ -1,5 +1,5 @@
 -- Document 01, "The street program": the form of `S,n,t,post,checkpoint`; document 02, (ix): `W,n,t,post,first,second`, "by all the rules of an `S`".
-use Rattle.std.specs.Prelude.{ℕ, suc, Option, Some, None, ◌+◌, ◌/◌, List, Bool, ◌&&◌, ◌||◌, cond, length, get_or, eqb, ltb}
+use Rattle.std.specs.Prelude.{ℕ, suc, ◌+◌, ◌/◌, List, Bool, ◌&&◌, ◌||◌, cond, length, get_or, eqb, ltb, Option, Some, None}
 use Rattle.shape.specs.Bounds.{most_points}
 use Rattle.csv_fields.specs.Fields.{Parsed, parsed, malformed, push, fields_at, ended}
 use Rattle.street_reading.specs.declared.Settings.{Settings}

@@ -43,14 +43,7 @@ fn dash_at(line: &[u8], at: usize) -> bool
 }
 
 // The check points, the last fields, behind n, t and the post. Of at most one number the largest is the number, and of none it is 0.
-fn scan_points(
-    line: &[u8],
-    points: usize,
-    n: u64,
-    t: u64,
-    post: u64,
-    at: usize,
-) -> Option<Settings>
+fn scan_points(line: &[u8], points: usize, n: u64, t: u64, post: u64, at: usize) -> Option<Settings>
     requires { (1 ≤ points) × (points ≤ most_points) }
     ensures { result ≡ start_of points (push n (push t (push post (ended line.now (fields_at points line.now at))))) }
 {
