@@ -36,6 +36,7 @@ fn refused(refusal: Refusal) -> Answer
 }
 
 // 1 to 4 of a start line, or its session.
+#[tactic(auto, using(crate::proofs::Settings::begin_many, crate::proofs::Settings::begin_made))]
 fn begin(settings: Settings) -> Answer
     ensures { result ≡ begin_answer settings.n settings.t settings.post settings.points (record { first = settings.first; second = settings.second }) }
 {
@@ -58,6 +59,7 @@ fn begin(settings: Settings) -> Answer
 }
 
 // A start line before one is accepted.
+#[tactic(auto, using(crate::proofs::Settings::start_long, crate::proofs::Settings::start_wrong, crate::proofs::Settings::start_settings))]
 pub fn start(line: &[u8]) -> Answer
     ensures { result ≡ start_answer line.now }
 {
