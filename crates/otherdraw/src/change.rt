@@ -15,6 +15,7 @@ use shape::Shape;
 const FEW: usize = 3;
 
 // The k numbers of `from` that stand from a on, into `to` from b on.
+#[tactic(auto, using(crate::proofs::Writing::part_handed))]
 fn hand(k: usize, a: usize, b: usize, from: &[u32], to: &mut [u32])
     requires { (a + k ≤ length from.now) × (b + k ≤ length to.old) }
     ensures { to.new ≡ handed k a b from.now to.old }
@@ -39,6 +40,7 @@ fn gather(shape: Shape, ws: &[u32], posts: &[u32], known: &mut [u32])
 }
 
 // The part from `at` on, as long as the factor, changed by a multiple of it.
+#[tactic(auto, using(crate::proofs::Writing::part_changed))]
 fn change_part(at: usize, scale: u32, factor: &[u32], draw: &[u32], out: &mut [u32])
     requires { (at + length factor.now ≤ length draw.now) × (length draw.now ≡ length out.old) }
     ensures { out.new ≡ changed at scale factor.now draw.now out.old }
@@ -48,6 +50,7 @@ fn change_part(at: usize, scale: u32, factor: &[u32], draw: &[u32], out: &mut [u
 }
 
 // The value at x of what f changes by, but for delta.
+#[tactic(auto, using(parts::proofs::Turns::elements_filled, crate::proofs::Writing::value_weighed))]
 fn value_at(x: u32, root: &[u32], powers: &mut [u32]) -> u32
     requires { Valued root.now powers.old }
     ensures { result ≡ value root.now x }
@@ -60,6 +63,7 @@ fn value_at(x: u32, root: &[u32], powers: &mut [u32]) -> u32
 }
 
 // By how much the v of post i + 1 changes at 0, where f changes by delta times `root`.
+#[tactic(auto, using(crate::proofs::Writing::scale_is))]
 fn scale_at(i: usize, delta: u32, root: &[u32], powers: &mut [u32]) -> u32
     requires { Valued root.now powers.old × (i < most_posts) }
     ensures { result ≡ scale_of delta root.now i }
@@ -78,6 +82,7 @@ fn is_next(i: usize, next: usize, posts: &[u32]) -> bool
 }
 
 // The v of post i + 1, which stands from `at` on: a listed post's is kept, since f changes by 0 there. Gives the place of the next listed post.
+#[tactic(auto, using(crate::proofs::Writing::v_changed, crate::proofs::Keeping::next_fits, crate::proofs::Keeping::v_kept))]
 fn change_v(
     i: usize,
     at: usize,
@@ -130,6 +135,7 @@ fn change_vs(
 }
 
 // The v's changed, where some posts are listed.
+#[tactic(auto, using(crate::proofs::Moving::seen_changing, crate::proofs::Moving::seen_changed))]
 fn change_seen(
     shape: Shape,
     delta: u32,
@@ -158,6 +164,7 @@ fn change_seen(
 }
 
 // f changed: by delta times the product of 1 - z/j over the listed posts, which `root` then holds.
+#[tactic(auto, using(crate::proofs::Writing::f_changed))]
 fn change_f(delta: u32, posts: &[u32], draw: &[u32], root: &mut [u32], out: &mut [u32])
     requires { (1 ≤ length root.old) × Nonzero posts.now × (length root.old ≤ length draw.now)
         × (length draw.now ≡ length out.old) }
@@ -170,6 +177,7 @@ fn change_f(delta: u32, posts: &[u32], draw: &[u32], root: &mut [u32], out: &mut
 }
 
 // The rest of the draw as it is.
+#[tactic(auto, using(crate::proofs::Writing::rest_copied))]
 fn copy_rest(from: usize, draw: &[u32], out: &mut [u32])
     requires { (from ≤ length draw.now) × (length draw.now ≡ length out.old) }
     ensures { out.new ≡ take from out.old ++ drop from draw.now }
