@@ -25,7 +25,8 @@ fn negative_inverse(inverses: &[u32], k: usize) -> u32
     field::P - inverses[k - 1]
 }
 
-// The weights of 0 to m, up to the middle of a list of m + 1: each is the one before times (m + 1 - x) / -x.
+// The weights of 0 to m, up to the middle of a list of m + 1: each is the one before times (m + 1 - x) / -x. The place x
+// is reckoned with.
 fn lower_half(inverses: &[u32], list: &mut [u32], half: usize)
     requires { Inverts inverses.now × (length list.old ≤ length inverses.now + 1) × (0 < half) × (half ≤ length list.old) }
     ensures { (length list.new ≡ length list.old)
@@ -51,7 +52,7 @@ fn mirrored(b: u32, n: usize) -> u32
     if b == 0 { 0 } else { field::P - b }
 }
 
-// The weights from the middle on.
+// The weights from the middle on, each read from its place in the list that is written.
 fn upper_half(list: &mut [u32], half: usize)
     requires { (half ≤ length list.old) × (length list.old ≤ half + half) × (take half list.old ≡ firsts (alternating (length list.old - 1)) half) }
     ensures { list.new ≡ row (length list.old) }
@@ -73,7 +74,7 @@ fn binomials(inverses: &[u32], list: &mut [u32])
     upper_half(list, half);
 }
 
-// The numbers up to the last node that are no nodes fill the list.
+// The numbers up to the last node that are no nodes fill the list. A turn goes on in the one list or the other, so both places are counted.
 fn missing(nodes: &[u32], list: &mut [u32])
     requires { Rising 0 nodes.now × (length list.old ≡ length (missing 0 nodes.now)) }
     ensures { list.new ≡ missing 0 nodes.now }

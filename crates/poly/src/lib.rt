@@ -34,7 +34,8 @@ pub fn evaluate(coefficients: &[u32], x: u32) -> u32
 }
 
 // The powers of x from 1 on fill the list. With `weigh` they give the value of every polynomial at x
-// (`weighted_powers` in proofs/Numbers.antt). Even and odd powers are two chains of products, so that neither waits for the other.
+// (`weighted_powers` in proofs/Numbers.antt). Even and odd powers are two chains of products, so that neither waits for the other;
+// a proof knows nothing of what is written through `chunks_exact_mut`, so the two places are counted.
 #[tactic(auto, using(crate::proofs::Turns::powers_start, crate::proofs::Turns::powers_end, crate::proofs::Turns::powers_last))]
 pub fn powers(x: u32, list: &mut [u32])
     ensures { list.new ≡ powers x (length list.old) }

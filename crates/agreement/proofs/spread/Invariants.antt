@@ -15,5 +15,3 @@ invariant-loop-i l =
     × Scattered (λ x. product (node_weight (last_of 0 l.nodes) (missing 0 l.nodes) x) (interpolated l.nodes l.values x)) l.nodes l.above l.i
     × Scattered (node_weight (last_of 0 l.nodes) (missing 0 l.nodes)) l.nodes l.below l.i
 
-abbrev pub decreases-loop-i : goal.decreases-loop-i
-decreases-loop-i l = length l.nodes - l.i
