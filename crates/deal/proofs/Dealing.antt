@@ -1,16 +1,16 @@
 -- The refusal of a deal from the checks that its code joins, and what holds where there is none.
 use Prim.Native.Nat.{ℕ, ◌≤◌}
 use mathlib.Core.Path.{◌≡◌, sym, ◌∙◌}
-use mathlib.Core.List.{List, [], ◌∷◌, ◌++◌}
+use mathlib.Core.List.{List, [], ◌∷◌}
 use borrow.Author.Tests.{ltb-false}
 use Rattle.shape.specs.declared.Shape.{Shape}
 use Rattle.shape.specs.Bounds.{last_row_at}
 use Rattle.shape.specs.Marks.{raw}
 use Rattle.shape.specs.Lengths.{row_length, sums_at_of}
-use Rattle.refusal.specs.Refusal.{Test, ◌when◌, first}
+use Rattle.refusal.specs.Refusal.{Test, ◌when◌, first, or_else}
 use Rattle.refusal.specs.Conditions.{beyond, any_beyond}
 use Rattle.refusal.proofs.Laws.{all_fail}
-use Rattle.refusal.proofs.Groups.{stopped, went_on}
+use Rattle.refusal.proofs.Groups.{chained}
 use Rattle.refusal.proofs.Endings.{refused, accepted}
 use Rattle.session.specs.declared.Session.{Session}
 use Rattle.session.specs.Sessions.{shape_of}
@@ -22,41 +22,6 @@ use Rattle.session.proofs.Calls.{stopped_at_frame, past_frame}
 use Rattle.deal.specs.Between.{row_tests}
 use Rattle.deal.specs.Deal.{deal_refusal_of, deal_rows_of}
 use Rattle.deal.proofs.Passed.{Dealt, dealt}
-
--- each check of a row stops the deal, or it goes on
-module _ (g : Shape) (marks rows : List ℕ) (r c : ℕ) where
-  abbrev six : List Test
-  six = 6 when no_row r ∷ []
-
-  abbrev seven : List Test
-  seven = 7 when wrong_mark_in marks r raw ∷ []
-
-  abbrev number : List Test
-  number = 8 when beyond c ∷ []
-
-  abbrev numbers : List Test
-  numbers = 8 when any_beyond (row_at (row_length g) rows r) ∷ []
-
-  module _ (x : ℕ) (ex : x ≡ first (6 when no_row r ∷ [])) where
-    pub place_stopped : (x ≡ 0 → ⊥) → x ≡ first (row_tests g marks rows r c)
-    place_stopped n = stopped six (seven ++ (number ++ numbers)) tt x ex n
-
-    module _ (zx : x ≡ 0) (y : ℕ) (ey : y ≡ first (7 when wrong_mark_in marks r raw ∷ [])) where
-      past_six : (q : ℕ) → q ≡ first (seven ++ (number ++ numbers)) → q ≡ first (row_tests g marks rows r c)
-      past_six q h = went_on six (seven ++ (number ++ numbers)) tt x ex q zx h
-
-      pub mark_stopped : (y ≡ 0 → ⊥) → y ≡ first (row_tests g marks rows r c)
-      mark_stopped n = past_six y (stopped seven (number ++ numbers) tt y ey n)
-
-      module _ (zy : y ≡ 0) (z : ℕ) (ez : z ≡ first (8 when beyond c ∷ [])) where
-        past_seven : (q : ℕ) → q ≡ first (number ++ numbers) → q ≡ first (row_tests g marks rows r c)
-        past_seven q h = past_six q (went_on seven (number ++ numbers) tt y ey q zy h)
-
-        pub number_stopped : (z ≡ 0 → ⊥) → z ≡ first (row_tests g marks rows r c)
-        number_stopped n = past_seven z (stopped number numbers tt z ez n)
-
-        pub row_checked : z ≡ 0 → (q : ℕ) → q ≡ first (8 when any_beyond (row_at (row_length g) rows r) ∷ []) → q ≡ first (row_tests g marks rows r c)
-        row_checked zz q eq = past_seven q (went_on number numbers tt z ez q zz eq)
 
 pub row_passed : (g : Shape) (marks rows : List ℕ) (r c : ℕ) → first (row_tests g marks rows r c) ≡ 0 → r ≤ last_row_at
 row_passed g marks rows r c z = ltb-false last_row_at r (all_fail (row_tests g marks rows r c) tt z).0

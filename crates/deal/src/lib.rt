@@ -13,8 +13,7 @@ use session::{Answer, Session};
 use shape::{Mark, Shape};
 
 // 6 to 8, once 1 to 5 are checked. Marks are lent and the session is not handed over: a turn of `dealers` asks this too.
-#[tactic(auto, using(crate::proofs::Dealing::place_stopped, crate::proofs::Dealing::mark_stopped, crate::proofs::Dealing::number_stopped, crate::proofs::Dealing::row_checked, refusal::proofs::Checks::not_zero))]
-pub fn row_refusal(
+pub fn row_checks(
     shape: Shape,
     marks: &[u8],
     rows: &[u32],
@@ -31,12 +30,12 @@ pub fn row_refusal(
 }
 
 #[tactic(auto, using(session::proofs::Calls::shape_sized, crate::proofs::Dealing::deal_stopped, crate::proofs::Dealing::deal_checked, refusal::proofs::Checks::not_zero))]
-fn deal_refusal(session: Session, rows: &[u32], row: usize, c: u32) -> Result<(), Refusal>
+fn deal_checks(session: Session, rows: &[u32], row: usize, c: u32) -> Result<(), Refusal>
     ensures { refused result ≡ deal_refusal_of session rows.now row c }
 {
     session.frame(rows)?;
     let marks = session.marks;
-    row_refusal(session.shape(), &marks, rows, row, c)
+    row_checks(session.shape(), &marks, rows, row, c)
 }
 
 // The rows, after a call whose checks found this.
@@ -50,12 +49,12 @@ fn deal_rows(session: Session, rows: &mut [u32], row: usize, c: u32, checked: Re
     }
 }
 
-#[tactic(auto, using(crate::proofs::Dealing::deal_allows, session::proofs::Endings::answered_by))]
+#[tactic(auto, using(session::proofs::Endings::endings, crate::proofs::Dealing::deal_allows))]
 pub fn deal(session: Session, rows: &mut [u32], row: usize, c: u32) -> Answer
     ensures value { result ≡ deal_answer session rows.old row c }
     ensures rows_after { rows.new ≡ deal_rows_of session rows.old row c }
 {
-    let checked = deal_refusal(session, rows, row, c);
+    let checked = deal_checks(session, rows, row, c);
     // The answer last: made before the sums it would stand on the stack until they are added, since nothing says that it is none of them.
     deal_rows(session, rows, row, c, checked);
     session.answer_marking(checked, row, Mark::Held)

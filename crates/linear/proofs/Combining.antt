@@ -5,7 +5,8 @@ use mathlib.Core.List.{List, [], ◌∷◌, ◌++◌}
 use Rattle.shape.specs.declared.Shape.{Shape}
 use Rattle.shape.specs.Bounds.{last_row_at}
 use Rattle.shape.specs.Lengths.{row_length, sums_at_of}
-use Rattle.refusal.specs.Refusal.{Test, ◌when◌, first}
+use Rattle.refusal.specs.Refusal.{Test, ◌when◌, first, or_else}
+use Rattle.refusal.specs.Conditions.{beyond, any_beyond}
 use Rattle.refusal.proofs.Groups.{stopped, went_on}
 use Rattle.refusal.proofs.Endings.{refused, accepted}
 use Rattle.session.specs.declared.Session.{Session}
@@ -15,47 +16,43 @@ use Rattle.session.specs.Checks.{frame_tests, no_row}
 use Rattle.session.specs.Between.{Sized, RowIn, Allows}
 use Rattle.session.proofs.Passed.{row_below}
 use Rattle.session.proofs.Calls.{stopped_at_frame, past_frame}
-use Rattle.linear.specs.Between.{numbers_of}
+use Rattle.linear.specs.Between.{linear_places_of, linear_numbers_of}
 use Rattle.linear.specs.Linear.{linear_marks_of, linear_refusal_of, linear_rows_of}
 use Rattle.linear.proofs.Passed as Passed
 use Rattle.linear.proofs.Passed.{Summed}
 
 module _ (s : Session) (rows : List ℕ) (r a b scale fee : ℕ) where
+  abbrev places : List Test
+  places = linear_places_of r a b
+
   abbrev marks : List Test
   marks = linear_marks_of s.marks r a b
 
   abbrev numbers : List Test
-  numbers = numbers_of (shape_of s) rows a b scale fee
-
-  abbrev sixes : List Test
-  sixes = 6 when no_row r ∷ 6 when no_row a ∷ 6 when no_row b ∷ []
-
-  abbrev own : List Test
-  own = sixes ++ (marks ++ numbers)
+  numbers = linear_numbers_of (shape_of s) rows a b scale fee
 
   pub linear_stopped : (f : ℕ) → f ≡ first (frame_tests s rows) → (f ≡ 0 → ⊥) → f ≡ linear_refusal_of s rows r a b scale fee
   unfolding linear_refusal_of
-  linear_stopped f e n = stopped_at_frame s rows own f e n
+  linear_stopped f e n = stopped_at_frame s rows (places ++ (marks ++ numbers)) f e n
 
-  -- each group of checks stops the call, or it goes on
-  module _ (f : ℕ) (e : f ≡ first (frame_tests s rows)) (z : f ≡ 0) (x : ℕ) (ex : x ≡ first (6 when no_row r ∷ 6 when no_row a ∷ 6 when no_row b ∷ [])) where
-    pub places_stopped : (x ≡ 0 → ⊥) → x ≡ linear_refusal_of s rows r a b scale fee
+  -- behind the frame: places, then marks, then numbers
+  module _ (f : ℕ) (e : f ≡ first (frame_tests s rows)) (n : f ≡ 0) (p : ℕ) (ep : p ≡ first places) where
+    pub linear_misplaced : (p ≡ 0 → ⊥) → p ≡ linear_refusal_of s rows r a b scale fee
     unfolding linear_refusal_of
-    places_stopped n = past_frame s rows own f x e z (stopped sixes (marks ++ numbers) tt x ex n)
+    linear_misplaced h = past_frame s rows (places ++ (marks ++ numbers)) f p e n (stopped places (marks ++ numbers) tt p ep h)
 
-    module _ (zx : x ≡ 0) (m : List ℕ) (em : m ≡ s.marks) (y : ℕ) (ey : y ≡ first (linear_marks_of m r a b)) where
-      marked : y ≡ first marks
-      marked = rw em at ey
-
-      past_places : (q : ℕ) → q ≡ first (marks ++ numbers) → q ≡ linear_refusal_of s rows r a b scale fee
+    module _ (z : p ≡ 0) (q : ℕ) (eq : q ≡ first marks) where
+      pub linear_unmarked : (q ≡ 0 → ⊥) → q ≡ linear_refusal_of s rows r a b scale fee
       unfolding linear_refusal_of
-      past_places q h = past_frame s rows own f q e z (went_on sixes (marks ++ numbers) tt x ex q zx h)
+      linear_unmarked h =
+          past_frame s rows (places ++ (marks ++ numbers)) f q e n (went_on places (marks ++ numbers) tt p ep q z (stopped marks numbers tt q eq h))
 
-      pub marks_stopped : (y ≡ 0 → ⊥) → y ≡ linear_refusal_of s rows r a b scale fee
-      marks_stopped n = past_places y (stopped marks numbers tt y marked n)
-
-      pub linear_checked : y ≡ 0 → (g : Shape) (q : ℕ) → g ≡ shape_of s → q ≡ first (numbers_of g rows a b scale fee) → q ≡ linear_refusal_of s rows r a b scale fee
-      linear_checked zy g q eg eq = past_places q (went_on marks numbers tt y marked q zy (rw eg at eq))
+      pub linear_checked : q ≡ 0 → (g : Shape) (x : ℕ) → g ≡ shape_of s → x ≡ first (linear_numbers_of g rows a b scale fee)
+          → x ≡ linear_refusal_of s rows r a b scale fee
+      unfolding linear_refusal_of
+      linear_checked y g x eg ex =
+          past_frame s rows (places ++ (marks ++ numbers)) f x e n
+          (went_on places (marks ++ numbers) tt p ep x z (went_on marks numbers tt q eq x y (rw eg at ex)))
 
   pub linear_allows : (f : ℕ) → f ≡ linear_refusal_of s rows r a b scale fee → Allows f (r ≤ last_row_at)
   linear_allows f e = record { allowed = λ n. (Passed.summed s rows r a b scale fee (sym e ∙ n)).placed.row_in }

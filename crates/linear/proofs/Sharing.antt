@@ -3,6 +3,7 @@ use Prim.Native.Nat.{ℕ, zero, suc, ◌+◌, ◌*◌, ◌≤◌, ◌<◌}
 use mathlib.Core.Path.{◌≡◌, refl, sym, ◌∙◌, ap, ap₂}
 use mathlib.Core.List.{List, [], ◌∷◌}
 use native.Mathlib.Omega.{arith}
+use lib.Bits.{bit_or}
 use lib.ListN.{length, get_or, set, get_or-eq_default}
 use Rattle.shape.specs.Bounds.{last_row_at}
 use Rattle.shape.specs.Marks.{held}

@@ -4,14 +4,13 @@
 
 pub mod sets;
 
-ghost use Rattle.std.specs.Prelude.{◌≡◌, ◌≤◌, length, set, [], ◌∷◌};
+ghost use Rattle.std.specs.Prelude.{◌≡◌, ◌≤◌, length, set};
 ghost use Rattle.shape.specs.Bounds.{row_count_of, last_row_at};
 ghost use Rattle.shape.specs.Marks.{held};
-ghost use Rattle.refusal.specs.Refusal.{first, outcome, ◌when◌};
+ghost use Rattle.refusal.specs.Refusal.{first, outcome};
 ghost use Rattle.refusal.specs.Numbers.{refused};
-ghost use Rattle.session.specs.Checks.{no_row};
 ghost use Rattle.session.specs.Between.{Allows, Sized};
-ghost use Rattle.linear.specs.Between.{numbers_of};
+ghost use Rattle.linear.specs.Between.{linear_places_of, linear_numbers_of};
 ghost use Rattle.linear.specs.Linear.{linear_marks_of, linear_refusal_of, linear_answer, linear_rows_of};
 
 use refusal::Refusal;
@@ -19,8 +18,8 @@ use session::{Answer, Session};
 use shape::{Mark, Shape};
 
 // 6, of the three rows.
-fn places(dest: usize, a: usize, b: usize) -> Result<(), Refusal>
-    ensures { refused result ≡ first (6 when no_row dest ∷ 6 when no_row a ∷ 6 when no_row b ∷ []) }
+fn linear_places(dest: usize, a: usize, b: usize) -> Result<(), Refusal>
+    ensures { refused result ≡ first (linear_places_of dest a b) }
 {
     session::checks::row(dest)?;
     session::checks::row(a)?;
@@ -36,8 +35,8 @@ fn linear_marks(marks: &[u8], dest: usize, a: usize, b: usize) -> Result<(), Ref
     session::checks::wrong_mark(marks, b, Mark::Held)
 }
 
-// 8, of the two elements, and of the rows that are read.
-fn numbers(
+// 8, of scale and fee and of the two rows that are read.
+fn linear_numbers(
     shape: Shape,
     rows: &[u32],
     a: usize,
@@ -46,7 +45,7 @@ fn numbers(
     fee: u32,
 ) -> Result<(), Refusal>
     requires { Sized shape rows.now }
-    ensures { refused result ≡ first (numbers_of shape rows.now a b scale fee) }
+    ensures { refused result ≡ first (linear_numbers_of shape rows.now a b scale fee) }
 {
     refusal::number(scale)?;
     refusal::number(fee)?;
@@ -55,8 +54,8 @@ fn numbers(
 }
 
 // The marks are lent, since the call changes this copy of them too.
-#[tactic(auto, using(session::proofs::Calls::shape_sized, crate::proofs::Combining::linear_stopped, crate::proofs::Combining::places_stopped, crate::proofs::Combining::marks_stopped, crate::proofs::Combining::linear_checked, refusal::proofs::Checks::not_zero))]
-fn linear_refusal(
+#[tactic(auto, using(session::proofs::Calls::shape_sized, crate::proofs::Combining::linear_stopped, crate::proofs::Combining::linear_misplaced, crate::proofs::Combining::linear_unmarked, crate::proofs::Combining::linear_checked, refusal::proofs::Checks::not_zero))]
+fn linear_checks(
     session: Session,
     marks: &[u8],
     rows: &[u32],
@@ -70,9 +69,9 @@ fn linear_refusal(
     ensures { refused result ≡ linear_refusal_of session rows.now dest a b scale fee }
 {
     session.frame(rows)?;
-    places(dest, a, b)?;
+    linear_places(dest, a, b)?;
     linear_marks(marks, dest, a, b)?;
-    numbers(session.shape(), rows, a, b, scale, fee)
+    linear_numbers(session.shape(), rows, a, b, scale, fee)
 }
 
 // The rows, after a call whose checks found this.
@@ -96,7 +95,7 @@ fn linear_rows(
 }
 
 // The marks, after a call whose checks found this.
-#[tactic(auto, using(crate::proofs::Sharing::set_refused, crate::proofs::Sharing::set_done, refusal::proofs::Checks::ok_zero, refusal::proofs::Checks::err_not_zero))]
+#[tactic(auto, using(crate::proofs::Sharing::row_96, crate::proofs::Sharing::set_refused, crate::proofs::Sharing::set_done, refusal::proofs::Checks::ok_zero, refusal::proofs::Checks::err_not_zero))]
 fn hold_unless(checked: Result<(), Refusal>, marks: &mut [u8], dest: usize)
     requires { (length marks.old ≡ row_count_of) × Allows (refused checked) (dest ≤ last_row_at) }
     ensures { marks.new ≡ outcome (refused checked) (set marks.old dest held) marks.old }
@@ -122,7 +121,7 @@ pub fn linear(
     // The lists that change are copied first, for both ends: behind the rows they would be copied in two places.
     let mut marks = session.marks;
     let mut barred = session.barred;
-    let checked = linear_refusal(session, &marks, rows, dest, a, b, scale, fee);
+    let checked = linear_checks(session, &marks, rows, dest, a, b, scale, fee);
     linear_rows(session, rows, dest, a, b, scale, fee, checked);
     sets::share_unless(checked, &mut barred, dest, a, b);
     hold_unless(checked, &mut marks, dest);

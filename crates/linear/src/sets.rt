@@ -3,8 +3,8 @@
 ghost use Rattle.std.specs.Prelude.{◌≡◌, [], ◌∷◌, ◌≤◌, ◌<◌, length};
 ghost use Rattle.shape.specs.Bounds.{last_row_at};
 ghost use Rattle.refusal.specs.Refusal.{outcome};
-ghost use Rattle.refusal.specs.Numbers.{refused};
 ghost use Rattle.callers.specs.Sets.{sets_length, shared, shared_all, unbarred};
+ghost use Rattle.refusal.specs.Numbers.{refused};
 ghost use Rattle.session.specs.Between.{Allows};
 
 use refusal::Refusal;
@@ -20,7 +20,7 @@ fn clear(sets: &mut [u32], d: usize)
     }
 }
 
-// Row d bars whom row a bars too. Both are parts of one list, in either order: no slices of both at once.
+// Row d bars whom row a bars too.
 #[tactic(auto, using(callers::proofs::Shared::shared_start, callers::proofs::Shared::shared_more, callers::proofs::Shared::shared_end))]
 fn join(sets: &mut [u32], d: usize, a: usize)
     requires { (length sets.old ≡ sets_length) × (d < 96) × (a < 96) }
@@ -45,7 +45,7 @@ fn share(sets: &mut [u32], d: usize, a: usize, b: usize)
 }
 
 // The sets, after a call whose checks found this.
-#[tactic(auto, using(crate::proofs::Sharing::set_refused, crate::proofs::Sharing::set_done, crate::proofs::Sharing::length_shares, refusal::proofs::Checks::ok_zero, refusal::proofs::Checks::err_not_zero))]
+#[tactic(auto, using(crate::proofs::Sharing::row_96, crate::proofs::Sharing::set_refused, crate::proofs::Sharing::set_done, crate::proofs::Sharing::length_shares, refusal::proofs::Checks::ok_zero, refusal::proofs::Checks::err_not_zero))]
 pub fn share_unless(checked: Result<(), Refusal>, sets: &mut [u32], d: usize, a: usize, b: usize)
     requires { (length sets.old ≡ sets_length) × Allows (refused checked) (d ≤ last_row_at) × Allows (refused checked) (a ≤ last_row_at)
         × Allows (refused checked) (b ≤ last_row_at) }

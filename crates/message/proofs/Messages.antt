@@ -12,9 +12,9 @@ use Rattle.shape.specs.declared.Shape.{Shape}
 use Rattle.shape.specs.Marks.{held}
 use Rattle.shape.specs.Lengths.{v_length, row_length, message_length}
 use Rattle.shape.specs.Row.{coefficients}
-use Rattle.refusal.specs.Refusal.{Test, ◌when◌, first}
+use Rattle.refusal.specs.Refusal.{Test, ◌when◌, first, or_else}
 use Rattle.refusal.specs.Conditions.{wrong_length, any_beyond}
-use Rattle.refusal.proofs.Groups.{stopped, went_on}
+use Rattle.refusal.proofs.Groups.{chained, stopped, went_on}
 use Rattle.refusal.proofs.Endings.{refused, accepted}
 use Rattle.callers.specs.Sets.{bars}
 use Rattle.session.specs.declared.Session.{Session}
@@ -24,61 +24,18 @@ use Rattle.session.specs.Checks.{frame_tests, no_row, wrong_mark_of}
 use Rattle.session.specs.Between.{Sized, RowIn}
 use Rattle.session.proofs.Passed.{row_below}
 use Rattle.session.proofs.Calls.{stopped_at_frame, past_frame}
+use Rattle.message.specs.Between.{message_own_tests}
 use Rattle.message.specs.Message.{message_checks_of, message_early, message_refusal_of, message_out_of}
 use Rattle.message.proofs.Passed.{MessageMade, message_made, checks_passed}
 
-module _ (s : Session) (rows : List ℕ) (r : ℕ) (out : List ℕ) where
-  abbrev own : List Test
-  own =
-      5 when wrong_length out (message_length (shape_of s))
-      ∷ 6 when no_row r
-      ∷ 7 when wrong_mark_of s r held
-      ∷ 8 when any_beyond (row_at (width s) rows r)
-      ∷ []
-
-  pub message_stopped : (f : ℕ) → f ≡ first (frame_tests s rows) → (f ≡ 0 → ⊥) → f ≡ message_early s rows r out
+module _ (s : Session) (rows : List ℕ) (r : ℕ) (out : List ℕ) (f : ℕ) (e : f ≡ first (frame_tests s rows)) where
+  pub message_stopped : (f ≡ 0 → ⊥) → f ≡ message_early s rows r out
   unfolding message_early
-  message_stopped f e n = stopped_at_frame s rows own f e n
+  message_stopped n = stopped_at_frame s rows (message_own_tests s rows r out) f e n
 
-  abbrev size : List Test
-  size = 5 when wrong_length out (message_length (shape_of s)) ∷ []
-
-  abbrev six : List Test
-  six = 6 when no_row r ∷ []
-
-  abbrev seven : List Test
-  seven = 7 when wrong_mark_of s r held ∷ []
-
-  abbrev numbers : List Test
-  numbers = 8 when any_beyond (row_at (width s) rows r) ∷ []
-
-  -- each check stops the call, or it goes on
-  module _ (f : ℕ) (e : f ≡ first (frame_tests s rows)) (z : f ≡ 0) (g : Shape) (eg : g ≡ shape_of s) (w q5 : ℕ) (ew : w ≡ v_length g)
-      (e5 : q5 ≡ first (5 when wrong_length out w ∷ [])) where
-    sized : q5 ≡ first size
-    sized = rw (ew, eg) at e5
-
-    pub size_stopped : (q5 ≡ 0 → ⊥) → q5 ≡ message_early s rows r out
-    unfolding message_early
-    size_stopped n = past_frame s rows own f q5 e z (stopped size (six ++ (seven ++ numbers)) tt q5 sized n)
-
-    module _ (z5 : q5 ≡ 0) (q6 : ℕ) (e6 : q6 ≡ first (6 when no_row r ∷ [])) where
-      past_size : (q : ℕ) → q ≡ first (six ++ (seven ++ numbers)) → q ≡ message_early s rows r out
-      unfolding message_early
-      past_size q h = past_frame s rows own f q e z (went_on size (six ++ (seven ++ numbers)) tt q5 sized q z5 h)
-
-      pub place_stopped : (q6 ≡ 0 → ⊥) → q6 ≡ message_early s rows r out
-      place_stopped n = past_size q6 (stopped six (seven ++ numbers) tt q6 e6 n)
-
-      module _ (z6 : q6 ≡ 0) (q7 : ℕ) (e7 : q7 ≡ first (7 when wrong_mark_of s r held ∷ [])) where
-        past_six : (q : ℕ) → q ≡ first (seven ++ numbers) → q ≡ message_early s rows r out
-        past_six q h = past_size q (went_on six (seven ++ numbers) tt q6 e6 q z6 h)
-
-        pub mark_stopped : (q7 ≡ 0 → ⊥) → q7 ≡ message_early s rows r out
-        mark_stopped n = past_six q7 (stopped seven numbers tt q7 e7 n)
-
-        pub message_checked : q7 ≡ 0 → (q8 : ℕ) → q8 ≡ first (8 when any_beyond (row_at (row_length g) rows r) ∷ []) → q8 ≡ message_early s rows r out
-        message_checked z7 q8 e8 = past_six q8 (went_on seven numbers tt q7 e7 q8 z7 (rw eg at e8))
+  pub message_checked : (z : ℕ) → f ≡ 0 → z ≡ first (message_own_tests s rows r out) → z ≡ message_early s rows r out
+  unfolding message_early
+  message_checked z n h = past_frame s rows (message_own_tests s rows r out) f z e n h
 
 -- 15
 module _ (s : Session) (r caller : ℕ) where

@@ -10,31 +10,47 @@ ghost use Rattle.shape.specs.Row.{coefficients};
 ghost use Rattle.session.specs.Sessions.{barred_from};
 ghost use Rattle.session.specs.Rows.{row_at};
 ghost use Rattle.session.specs.Checks.{wrong_mark_of};
-ghost use Rattle.session.specs.Between.{Sized, RowIn};
+ghost use Rattle.session.specs.Between.{Framed, Sized, RowIn};
+ghost use Rattle.message.specs.Between.{message_own_tests};
 ghost use Rattle.message.specs.Message.{message_early, message_refusal_of, message_answer, message_out_of};
 
 use refusal::Refusal;
 use session::{Answer, Session};
 use shape::{Mark, Shape};
 
-// 1 to 8, where 7 has been looked up.
-#[tactic(auto, using(session::proofs::Calls::shape_sized, session::proofs::Calls::shape_valid, crate::proofs::Messages::message_stopped, crate::proofs::Messages::size_stopped, crate::proofs::Messages::place_stopped, crate::proofs::Messages::mark_stopped, crate::proofs::Messages::message_checked, refusal::proofs::Checks::not_zero))]
+// 5 to 8, once the session and its rows are checked; 7 has been looked up.
+#[tactic(auto, using(session::proofs::Calls::same_sized, session::proofs::Calls::same_valid))]
+fn message_own(
+    session: Session,
+    rows: &[u32],
+    row: usize,
+    out: &[u32],
+    marks: Result<(), Refusal>,
+) -> Result<(), Refusal>
+    requires { Framed session rows.now × (refused marks ≡ first (7 when wrong_mark_of session row held ∷ [])) }
+    ensures { refused result ≡ first (message_own_tests session rows.now row out.now) }
+{
+    let shape = session.shape();
+    refusal::size(out, shape.v_len())?;
+    session::checks::row(row)?;
+    marks?;
+    session::checks::numbers(shape, rows, row)
+}
+
+// 1 to 8.
+#[tactic(auto, using(session::proofs::Calls::frame_passed, crate::proofs::Messages::message_stopped, crate::proofs::Messages::message_checked, refusal::proofs::Checks::not_zero))]
 fn message_checks(
     session: Session,
     rows: &[u32],
     row: usize,
     out: &[u32],
-    mark: Result<(), Refusal>,
+    marks: Result<(), Refusal>,
 ) -> Result<(), Refusal>
-    requires { refused mark ≡ first (7 when wrong_mark_of session row held ∷ []) }
+    requires { refused marks ≡ first (7 when wrong_mark_of session row held ∷ []) }
     ensures { refused result ≡ message_early session rows.now row out.now }
 {
     session.frame(rows)?;
-    let shape = session.shape();
-    refusal::size(out, shape.v_len())?;
-    session::checks::row(row)?;
-    mark?;
-    session::checks::numbers(shape, rows, row)
+    message_own(session, rows, row, out, marks)
 }
 
 // 15, of the post that calls for the row's opening.
@@ -54,7 +70,7 @@ fn not_called(session: Session, row: usize, caller: usize) -> Result<(), Refusal
 }
 
 #[tactic(auto, using(crate::proofs::Messages::message_refused, crate::proofs::Messages::message_called, crate::proofs::Messages::checked_row, crate::proofs::Messages::checked_posts, refusal::proofs::Checks::not_zero))]
-fn message_refusal(
+fn all_checks(
     session: Session,
     rows: &[u32],
     row: usize,
@@ -63,9 +79,9 @@ fn message_refusal(
 ) -> Result<(), Refusal>
     ensures { refused result ≡ message_refusal_of session rows.now row caller out.now }
 {
-    let marks = session.marks;
-    let mark = session::checks::wrong_mark(&marks, row, Mark::Held);
-    message_checks(session, rows, row, out, mark)?;
+    let all_marks = session.marks;
+    let marks = session::checks::wrong_mark(&all_marks, row, Mark::Held);
+    message_checks(session, rows, row, out, marks)?;
     not_called(session, row, caller)
 }
 
@@ -109,7 +125,7 @@ pub fn opening_message(
     ensures value { result ≡ message_answer session rows.now row caller out.old }
     ensures out_after { out.new ≡ message_out_of session rows.now row caller out.old }
 {
-    let checked = message_refusal(session, rows, row, caller, out);
+    let checked = all_checks(session, rows, row, caller, out);
     message_out(session, rows, row, caller, out, checked);
     session.answer(checked)
 }

@@ -94,7 +94,7 @@ pub fn open(session: Session, rows: &[u32], row: usize, blocks: &[u32]) -> Answe
 {
     let found = open_number(session, rows, row, blocks);
     Answer {
-        refusal: refusal::number_of(found.and(Ok(()))),
+        refusal: refusal::number_of(found),
         value: found.unwrap_or(0),
         session,
     }

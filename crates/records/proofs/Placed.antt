@@ -1,11 +1,12 @@
 -- A record after a block was written, number by number: it is a row of the list, as long as a block.
-use Prim.Native.Nat.{ℕ, zero, suc, ◌+◌, ◌*◌, ◌-◌, ◌≤◌}
-use mathlib.Core.Path.{◌≡◌, refl, ◌∙◌, ap, subst}
+use Prim.Native.Nat.{ℕ, zero, suc, ◌+◌, ◌*◌, ◌-◌, ◌≤◌, ◌<◌}
+use mathlib.Core.Path.{◌≡◌, refl, sym, ◌∙◌, ap, subst}
 use mathlib.Core.List.{List, ◌∷◌}
 use native.Mathlib.Omega.{arith}
 use lib.ListN.{length, get_or, replicate, length-replicate}
 use Rattle.shape.specs.Lengths.{shape}
 use Rattle.refusal.proofs.Endings.{accepted}
+use Rattle.session.specs.Rows.{with_row}
 use Rattle.session.proofs.Placed.{places}
 use Rattle.blocks.specs.Between.{PostIn}
 use Rattle.records.specs.Records.{place_refusal_of, put_refusal_of, with_block, block_of, no_block, put_record, removed_record}

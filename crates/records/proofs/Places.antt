@@ -1,18 +1,27 @@
 -- The refusals of the two calls from the checks that their code joins, and what holds where there is none.
-use Prim.Native.Nat.{ℕ}
+use Prim.Native.Nat.{ℕ, zero, suc}
 use mathlib.Core.Path.{◌≡◌, refl, sym, ◌∙◌}
 use mathlib.Core.List.{List, [], ◌∷◌}
+use native.Mathlib.Omega.{arith}
 use lib.ListN.{length}
 use Rattle.shape.specs.Lengths.{shape, Valid, v_length, record_length, message_length}
-use Rattle.refusal.specs.Refusal.{Test, ◌when◌, first}
+use Rattle.refusal.specs.Refusal.{Test, ◌when◌, first, or_else}
 use Rattle.refusal.specs.Conditions.{party_tests, wrong_length, any_beyond}
 use Rattle.refusal.proofs.Laws.{equal, all_fail, not_refused}
-use Rattle.refusal.proofs.Groups.{stopped, went_on, fail_parts}
-use Rattle.refusal.proofs.Endings.{refused, accepted}
+use Rattle.refusal.proofs.Groups.{chained, stopped, went_on, fail_parts}
+use Rattle.refusal.proofs.Endings.{accepted}
 use Rattle.refusal.proofs.Ranges.{party_valid, party_in}
 use Rattle.blocks.specs.Between.{PostIn}
 use Rattle.blocks.proofs.Blocks.{post_in}
 use Rattle.records.specs.Records.{place_tests, place_refusal_of, message_tests, put_tests, put_refusal_of, with_block, block_of, no_block, put_record, removed_record}
+
+halts : (a b : ℕ) → (a ≡ 0 → ⊥) → a ≡ or_else a b
+halts zero b ne = absurd (ne refl)
+halts (suc a) b ne = refl
+
+goes_on : (a b : ℕ) → a ≡ 0 → b ≡ or_else a b
+goes_on zero b z = refl
+goes_on (suc a) b z = absurd (omega (arith, z))
 
 module _ (n t points : ℕ) (blocks : List ℕ) (post : ℕ) where
   abbrev late : List Test
@@ -27,10 +36,6 @@ module _ (n t points : ℕ) (blocks : List ℕ) (post : ℕ) where
         → z ≡ place_refusal_of n t points blocks post
     unfolding place_refusal_of
     place_sized w z h ew ez = went_on (party_tests n t post points) late tt f e z h (rw ew at ez)
-
-  pub remove_kept : (f : ℕ) → f ≡ place_refusal_of n t points blocks post → (f ≡ 0 → ⊥) → blocks ≡ removed_record n t points blocks post
-  remove_kept f e h =
-      refused f (place_refusal_of n t points blocks post) (with_block (shape n t points) post (no_block (shape n t points)) blocks) blocks e h
 
   module _ (f : ℕ) (e : f ≡ place_refusal_of n t points blocks post) (h : f ≡ 0) where
     passed : Valid (shape n t points) × PostIn (shape n t points) post × (length blocks ≡ record_length (shape n t points))
@@ -60,27 +65,20 @@ module _ (n t points : ℕ) (blocks : List ℕ) (post : ℕ) where
       unfolding place_refusal_of put_refusal_of
       put_stopped h = stopped (place_tests n t points blocks post) (message_tests n t points message) tt f e h
 
-      module _ (z : f ≡ 0) (w a : ℕ) (ew : w ≡ v_length (shape n t points)) (ea : a ≡ first (5 when wrong_length message w ∷ [])) where
-        sized : a ≡ first (5 when wrong_length message (message_length (shape n t points)) ∷ [])
-        sized = rw ew at ea
+      joined : (w a b z : ℕ) → f ≡ 0 → w ≡ v_length (shape n t points) → a ≡ first (5 when wrong_length message w ∷ [])
+          → b ≡ first (8 when any_beyond message ∷ []) → z ≡ or_else a b → z ≡ put_refusal_of n t points blocks post message
+      unfolding place_refusal_of put_refusal_of
+      joined w a b z h ew ea eb ez =
+          let ea' : a ≡ first (5 when wrong_length message (message_length (shape n t points)) ∷ []) = rw ew at ea in
+          went_on (place_tests n t points blocks post) (message_tests n t points message) tt f e z h (chained (message_tests n t points message) tt z (cc))
 
-        past_place : (q : ℕ) → q ≡ first (message_tests n t points message) → q ≡ put_refusal_of n t points blocks post message
-        unfolding place_refusal_of put_refusal_of
-        past_place q h = went_on (place_tests n t points blocks post) (message_tests n t points message) tt f e q z h
+      pub size_stopped : (w a : ℕ) → f ≡ 0 → w ≡ v_length (shape n t points) → a ≡ first (5 when wrong_length message w ∷ []) → (a ≡ 0 → ⊥)
+          → a ≡ put_refusal_of n t points blocks post message
+      size_stopped w a h ew ea ne = let b = first (8 when any_beyond message ∷ []) in joined w a b a h ew ea refl (halts a b ne)
 
-        pub size_stopped : (a ≡ 0 → ⊥) → a ≡ put_refusal_of n t points blocks post message
-        size_stopped ne =
-            past_place a
-            (stopped (5 when wrong_length message (message_length (shape n t points)) ∷ []) (8 when any_beyond message ∷ []) tt a sized ne)
-
-        pub numbers_asked : (b : ℕ) → a ≡ 0 → b ≡ first (8 when any_beyond message ∷ []) → b ≡ put_refusal_of n t points blocks post message
-        numbers_asked b za eb =
-            past_place b
-            (went_on (5 when wrong_length message (message_length (shape n t points)) ∷ []) (8 when any_beyond message ∷ []) tt a sized b za eb)
-
-    pub put_kept : (f : ℕ) → f ≡ put_refusal_of n t points blocks post message → (f ≡ 0 → ⊥) → blocks ≡ put_record n t points blocks post message
-    put_kept f e h =
-        refused f (put_refusal_of n t points blocks post message) (with_block (shape n t points) post (block_of message) blocks) blocks e h
+      pub numbers_asked : (w a b : ℕ) → f ≡ 0 → w ≡ v_length (shape n t points) → a ≡ first (5 when wrong_length message w ∷ []) → a ≡ 0
+          → b ≡ first (8 when any_beyond message ∷ []) → b ≡ put_refusal_of n t points blocks post message
+      numbers_asked w a b h ew ea z eb = joined w a b b h ew ea eb (goes_on a b z)
 
     module _ (f : ℕ) (e : f ≡ put_refusal_of n t points blocks post message) (h : f ≡ 0) where
       placed : 0 ≡ place_refusal_of n t points blocks post

@@ -12,7 +12,7 @@ use shape::Shape;
 
 // 1 to 4, and 5 of the record.
 #[tactic(auto, using(refusal::proofs::Ranges::party_passed, crate::proofs::Places::place_stopped, crate::proofs::Places::place_sized, refusal::proofs::Checks::not_zero))]
-fn place_refusal(
+fn place_checks(
     n: usize,
     t: usize,
     points: usize,
@@ -28,17 +28,17 @@ fn place_refusal(
 
 // And 5 and 8 of the message.
 #[tactic(auto, using(crate::proofs::Places::place_valid, crate::proofs::Places::put_stopped, crate::proofs::Places::size_stopped, crate::proofs::Places::numbers_asked, refusal::proofs::Checks::not_zero))]
-fn put_refusal(
+fn put_checks(
     n: usize,
     t: usize,
     points: usize,
-    list: &[u32],
+    all_blocks: &[u32],
     post: usize,
     message: &[u32],
 ) -> Result<(), Refusal>
-    ensures { refused result ≡ put_refusal_of n t points list.now post message.now }
+    ensures { refused result ≡ put_refusal_of n t points all_blocks.now post message.now }
 {
-    place_refusal(n, t, points, list, post)?;
+    place_checks(n, t, points, all_blocks, post)?;
     let shape = Shape { n, t, points };
     refusal::size(message, shape.v_len())?;
     refusal::numbers(message)
@@ -76,7 +76,7 @@ fn remove_block(shape: Shape, blocks: &mut [u32], post: usize)
 }
 
 // A post's message, into its block of the record.
-#[tactic(auto, using(crate::proofs::Places::put_valid, crate::proofs::Places::put_in, crate::proofs::Places::put_long_is, crate::proofs::Places::message_long, crate::proofs::Places::was_put, crate::proofs::Places::put_kept, refusal::proofs::Checks::not_zero))]
+#[tactic(auto, using(refusal::proofs::Endings::refused, crate::proofs::Places::put_valid, crate::proofs::Places::put_in, crate::proofs::Places::put_long_is, crate::proofs::Places::message_long, crate::proofs::Places::was_put, refusal::proofs::Checks::not_zero))]
 pub fn put(
     n: usize,
     t: usize,
@@ -88,13 +88,13 @@ pub fn put(
     ensures value { refused result ≡ put_refusal_of n t points blocks.old post message.now }
     ensures blocks_after { blocks.new ≡ put_record n t points blocks.old post message.now }
 {
-    put_refusal(n, t, points, blocks, post, message)?;
+    put_checks(n, t, points, blocks, post, message)?;
     put_block(Shape { n, t, points }, blocks, post, message);
     Ok(())
 }
 
 // A post's block is absent, with zeros for its coefficients.
-#[tactic(auto, using(crate::proofs::Places::place_valid, crate::proofs::Places::place_in, crate::proofs::Places::place_long, crate::proofs::Places::removed, crate::proofs::Places::remove_kept, refusal::proofs::Checks::not_zero))]
+#[tactic(auto, using(refusal::proofs::Endings::refused, crate::proofs::Places::place_valid, crate::proofs::Places::place_in, crate::proofs::Places::place_long, crate::proofs::Places::removed, refusal::proofs::Checks::not_zero))]
 pub fn remove(
     n: usize,
     t: usize,
@@ -105,7 +105,7 @@ pub fn remove(
     ensures value { refused result ≡ place_refusal_of n t points blocks.old post }
     ensures blocks_after { blocks.new ≡ removed_record n t points blocks.old post }
 {
-    place_refusal(n, t, points, blocks, post)?;
+    place_checks(n, t, points, blocks, post)?;
     remove_block(Shape { n, t, points }, blocks, post);
     Ok(())
 }

@@ -5,7 +5,7 @@ use mathlib.Core.Bool.{true, false}
 use mathlib.Core.List.{List, [], ◌∷◌, ◌++◌}
 use native.Mathlib.Omega.{arith}
 use Rattle.std.specs.Prelude.{Result, Ok, Err}
-use Rattle.std.specs.Result.{result_and, is_ok}
+use Rattle.std.specs.Result.{result_and, is_ok, is_err}
 use Rattle.refusal.specs.declared.Refusal.{Refusal}
 use Rattle.refusal.specs.declared.Refusal.TheVariants.{BadPostCount, BadThreshold, BadPost, BadCheckPoint, BadLength, NoSuchRow, WrongMark, NotAnElement, TooFewAccepted, MalformedLine, LineOutOfRange, NoRoom, InconsistentShares, BadTermCount, CallerBarred, BadDealer, PlaceFilled, BadPostList, TooManyPosts}
 use Rattle.refusal.specs.Numbers.{number, refused}
@@ -63,6 +63,9 @@ refused_and (Err r) b = numbered_first r (refused b)
 pub not_zero : (r : Refusal) → number r ≡ 0 → ⊥
 not_zero r e = numbered r ⊥ e
 
+pub and_else : {A B : Type 0} (a : Result A Refusal) (b r : Result B Refusal) → r ≡ result_and a b → refused r ≡ or_else (refused a) (refused b)
+and_else a b r e = ap refused e ∙ refused_and a b
+
 -- a check that found nothing, and one that did
 pub ok_zero : {A : Type 0} (x : Result A Refusal) → is_ok x ≡ true → refused x ≡ 0
 ok_zero (Ok a) e = refl
@@ -71,6 +74,14 @@ ok_zero (Err r) e = let z : ◌≡◌ false true = e in cc
 pub err_not_zero : {A : Type 0} (x : Result A Refusal) → is_ok x ≡ false → refused x ≡ 0 → ⊥
 err_not_zero (Ok a) e z = let y : ◌≡◌ true false = e in cc
 err_not_zero (Err r) e z = not_zero r z
+
+pub no_err_zero : {A : Type 0} (x : Result A Refusal) → is_err x ≡ false → refused x ≡ 0
+no_err_zero (Ok a) e = refl
+no_err_zero (Err r) e = let z : ◌≡◌ true false = e in cc
+
+pub is_err_not_zero : {A : Type 0} (x : Result A Refusal) → is_err x ≡ true → refused x ≡ 0 → ⊥
+is_err_not_zero (Ok a) e z = let y : ◌≡◌ false true = e in cc
+is_err_not_zero (Err r) e z = not_zero r z
 
 -- what is kept where a check found nothing, and else
 pub kept_ok : {A B : Type 0} (x : Result A Refusal) (a : A) (new old : B) → x ≡ Ok a → new ≡ outcome (refused x) new old

@@ -33,11 +33,11 @@ pub enum Refusal {
 }
 
 // The number of a refusal, or 0 for none.
-pub fn number_of(checked: Result<(), Refusal>) -> u8
+pub fn number_of<T: Copy>(checked: Result<T, Refusal>) -> u8
     ensures { result ≡ refused checked }
 {
     match checked {
-        Ok(()) => 0,
+        Ok(_) => 0,
         Err(refusal) => refusal as u8,
     }
 }

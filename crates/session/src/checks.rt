@@ -80,10 +80,11 @@ pub fn numbers(shape: Shape, rows: &[u32], row: usize) -> Result<(), Refusal>
     requires { Sized shape rows.now }
     ensures { refused result ≡ first (8 when any_beyond (row_at (row_length shape) rows.now row) ∷ []) }
 {
-    if shape::LAST_ROW < row {
-        return Ok(());
+    if row <= shape::LAST_ROW {
+        refusal::numbers(rows::row(shape, rows, row))
+    } else {
+        Ok(())
     }
-    refusal::numbers(rows::row(shape, rows, row))
 }
 
 impl Session {

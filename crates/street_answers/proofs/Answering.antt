@@ -1,7 +1,7 @@
 -- An answer laid into a part of bytes: the number, then the two fields and the line feed, by fields or five bytes at once.
 use Prim.Native.Nat.{ℕ, zero, suc, ◌+◌, ◌-◌, ◌≤◌, ◌<◌, ◌^◌}
 use mathlib.Core.Path.{◌≡◌, refl, ap, sym, ◌∙◌}
-use mathlib.Core.List.{List, [], ◌∷◌}
+use mathlib.Core.List.{List, [], ◌∷◌, append-nil}
 use native.Mathlib.Nat.{add-sub_cancel_left}
 use native.Mathlib.Omega.{arith}
 use borrow.Rule.Slice.PartMut.{put_mid}
@@ -15,7 +15,7 @@ use Rattle.decimal.proofs.Sizes.{size_le}
 use Rattle.csv_fields.specs.Fields.{fields, overwrite}
 use Rattle.csv_fields.proofs.Overwriting.{overwrite_part, overwrite_byte, overwrite_twice, length_fields_le}
 use Rattle.street_answers.specs.Between.{end_text, longest_end}
-use Rattle.street_answers.specs.Text.{long_size_of, long_numeral, answer_text, longest_answer}
+use Rattle.street_answers.specs.Text.{long_size_of, long_numeral, answer_text, print_text, longest_print}
 
 -- ---- a number
 module _ (l : List ℕ) (at k x : ℕ) (h : at + length (long_numeral x) ≤ length l) (e : k ≡ long_size_of x) where
@@ -111,7 +111,7 @@ module _ (refusal value at r : ℕ) (o o' : List ℕ) (z : value ≡ 0) where
   either_put q = rw z q
 
 -- ---- an answer
-module _ (number refusal value at : ℕ) (o : List ℕ) (h : at + longest_answer ≤ length o) where
+module _ (number refusal value at : ℕ) (o : List ℕ) (h : at + longest_print ≤ length o) where
   abbrev digits : List ℕ
   digits = long_numeral number
 
@@ -125,10 +125,16 @@ module _ (number refusal value at : ℕ) (o : List ℕ) (h : at + longest_answer
     pub answer_room : q + longest_end ≤ length o₁
     answer_room = omega (arith, digits_length)
 
+    alone : answer_text number refusal value ≡ print_text number refusal value []
+    alone = sym (append-nil (answer_text number refusal value))
+
     module _ (o₂ : List ℕ) (e : ℕ) where
-      pub answer_end : e ≡ q + length (end_text refusal value) → e ≡ at + length (answer_text number refusal value)
-      answer_end w = omega (arith, length-append digits (end_text refusal value))
+      pub answer_end : e ≡ q + length (end_text refusal value) → e ≡ at + length (print_text number refusal value [])
+      answer_end w =
+          let r : e ≡ at + length (answer_text number refusal value) = omega (arith, length-append digits (end_text refusal value)) in
+          r ∙ ap (λ (z : List ℕ). at + length z) alone
 
       pub answer_put : o₁ ≡ overwrite at digits o → o₂ ≡ overwrite q (end_text refusal value) o₁
-          → o₂ ≡ overwrite at (answer_text number refusal value) o
-      answer_put e₁ e₂ = e₂ ∙ rw (p, e₁) (overwrite_twice o digits (end_text refusal value) at (omega arith))
+          → o₂ ≡ overwrite at (print_text number refusal value []) o
+      answer_put e₁ e₂ =
+          e₂ ∙ rw (p, e₁) (overwrite_twice o digits (end_text refusal value) at (omega arith)) ∙ ap (λ (z : List ℕ). overwrite at z o) alone

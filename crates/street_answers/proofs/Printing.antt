@@ -33,17 +33,6 @@ answer_length number refusal value =
     let rest : List ℕ = fields (refusal ∷ value ∷ []) in
     omega (arith, length-append (long_numeral number) (rest ++ (10 ∷ [])), length-append rest (10 ∷ []), length_digits (long_size_of number) number, size_le 19 number, length_fields_le (refusal ∷ value ∷ []))
 
--- ---- nothing behind it
-module _ (at number refusal value r : ℕ) where
-  pub plain_room : (out : List ℕ) → at + longest_print ≤ length out → at + longest_answer ≤ length out
-  plain_room out h = omega arith
-
-  pub plain_end : r ≡ at + length (answer_text number refusal value) → r ≡ at + length (print_text number refusal value [])
-  plain_end q = q ∙ ap (λ (w : List ℕ). at + length w) (sym (append-nil (answer_text number refusal value)))
-
-  pub plain_put : (out out' : List ℕ) → out' ≡ overwrite at (answer_text number refusal value) out → out' ≡ overwrite at (print_text number refusal value []) out
-  plain_put out out' q = q ∙ ap (λ (w : List ℕ). overwrite at w out) (sym (append-nil (answer_text number refusal value)))
-
 -- ---- the M line of an `X`, written into a part of the list that has room for it
 part_laid : (l w ys : List ℕ) (at k : ℕ) → at + k ≤ length l → length w ≤ k → ys ≡ overwrite 0 w (take k (drop at l)) → put_mid at k l ys ≡ overwrite at w l
 part_laid l w ys at k h m e =
@@ -82,14 +71,22 @@ module _ (first post : ℕ) (out xs : List ℕ) (at : ℕ) (h : at + told_room �
   masks_end size q = ap (λ (k : ℕ). at + k) q
 
 -- behind its answer
-module _ (out : List ℕ) (at number : ℕ) (h : at + longest_print ≤ length out) where
-  pub print_room : (out₁ : List ℕ) (behind : ℕ) → behind ≡ at + length (answer_text number 0 0) → length out₁ ≡ length out → behind + told_room ≤ length out₁
-  print_room out₁ behind e k = omega (arith, answer_length number 0 0)
+module _ (out : List ℕ) (at number : ℕ) (h : at + longest_print ≤ length out) (behind : ℕ)
+    (e : behind ≡ at + length (print_text number 0 0 [])) where
+  alone : print_text number 0 0 [] ≡ answer_text number 0 0
+  alone = append-nil (answer_text number 0 0)
 
-  pub print_end : (line : List ℕ) (behind r : ℕ) → behind ≡ at + length (answer_text number 0 0) → r ≡ behind + length line
-      → r ≡ at + length (print_text number 0 0 line)
-  print_end line behind r e q = omega (arith, length-append (answer_text number 0 0) line)
+  behind_is : behind ≡ at + length (answer_text number 0 0)
+  behind_is = e ∙ ap (λ (w : List ℕ). at + length w) alone
 
-  pub print_put : (line out₁ out' : List ℕ) (behind : ℕ) → behind ≡ at + length (answer_text number 0 0) → out₁ ≡ overwrite at (answer_text number 0 0) out
+  pub print_room : (out₁ : List ℕ) → length out₁ ≡ length out → behind + told_room ≤ length out₁
+  print_room out₁ k = omega (arith, answer_length number 0 0, behind_is)
+
+  pub print_end : (line : List ℕ) (r : ℕ) → r ≡ behind + length line → r ≡ at + length (print_text number 0 0 line)
+  print_end line r q = omega (arith, length-append (answer_text number 0 0) line, behind_is)
+
+  pub print_put : (line out₁ out' : List ℕ) → out₁ ≡ overwrite at (print_text number 0 0 []) out
       → out' ≡ overwrite behind line out₁ → out' ≡ overwrite at (print_text number 0 0 line) out
-  print_put line out₁ out' behind e o q = q ∙ rw (e, o) (overwrite_twice out (answer_text number 0 0) line at (omega arith))
+  print_put line out₁ out' o q =
+      let o' : out₁ ≡ overwrite at (answer_text number 0 0) out = o ∙ ap (λ (w : List ℕ). overwrite at w out) alone in
+      q ∙ rw (behind_is, o') (overwrite_twice out (answer_text number 0 0) line at (omega arith))

@@ -2,14 +2,16 @@
 #![tactic(auto)]
 
 ghost use Rattle.std.specs.Prelude.{◌≡◌, [], ◌∷◌, ◌≤◌, length};
+ghost use Rattle.refusal.specs.Numbers.{refused};
 ghost use Rattle.shape.specs.Bounds.{last_row_at, last_triple};
 ghost use Rattle.street_store.specs.Sizes.{InStreet, numbers_room};
 ghost use Rattle.street_orders.specs.Orders.{order_of, refused_order, Numbered, Heard, Leads, Accepted, Reads, lettered, lated, early_order};
 
+use refusal::Refusal;
 use shape::Shape;
 
 // What a line asks for: its letter, or 0 where it is refused when it is read; the row and the post of a `D`, `O` or `M`. Its numbers stand in
-// a lent list. The form of an `A` is looked at by the library's call.
+// a lent list. The form of an `A` is looked at by the library's call. The refusal is a number, as it is printed and as `lines::Line` has it for C.
 #[derive(Clone, Copy)]
 pub struct Order {
     pub letter: u8,
@@ -18,7 +20,7 @@ pub struct Order {
     pub post: usize,
 }
 
-fn refused(refusal: u8) -> Order
+fn refused_by(refusal: u8) -> Order
     ensures { result ≡ refused_order refusal }
 {
     Order {
@@ -29,11 +31,11 @@ fn refused(refusal: u8) -> Order
     }
 }
 
-fn ordered(letter: u8, refusal: u8) -> Order
-    ensures { result ≡ order_of letter refusal }
+fn ordered(letter: u8, checked: Result<(), Refusal>) -> Order
+    ensures { result ≡ order_of letter (refused checked) }
 {
-    if refusal != 0 {
-        return refused(refusal);
+    if checked.is_err() {
+        return refused_by(refusal::number_of(checked));
     }
     Order {
         letter,
@@ -48,8 +50,7 @@ fn numbered(letter: u8, line: &[u8], lasts: &[u32], count: usize, numbers: &mut 
     requires { (length lasts.now ≤ count) × (count ≤ length numbers.old) }
     ensures { Numbered letter lasts.now count line.now result numbers.new }
 {
-    let refusal = street_reading::read(line, lasts, &mut numbers[..count]);
-    ordered(letter, refusal)
+    ordered(letter, street_reading::read(line, lasts, &mut numbers[..count]))
 }
 
 // `R,row,` and a raw row's numbers; `G,row`.
@@ -119,11 +120,9 @@ fn by_letter(shape: Shape, line: &[u8], numbers: &mut [u32]) -> Order
         b'L' => of_sum(line, numbers),
         b'F' => of_triple(b'F', line, 1, numbers),
         b'X' => of_masks(line, numbers),
-        b'A' => ordered(b'A', 0),
-        b'D' => heard(shape, line, numbers),
-        b'O' => heard(shape, line, numbers),
-        b'M' => heard(shape, line, numbers),
-        _ => refused(10),
+        b'A' => ordered(b'A', Ok(())),
+        b'D' | b'O' | b'M' => heard(shape, line, numbers),
+        _ => refused_by(Refusal::MalformedLine as u8),
     }
 }
 
@@ -132,11 +131,8 @@ fn late(shape: Shape, line: &[u8], numbers: &mut [u32]) -> Order
     requires { InStreet shape × (length numbers.old ≡ numbers_room) }
     ensures { Leads shape line.now result numbers.new (lated line.now) }
 {
-    if street_store::LONGEST_LINE < line.len() {
-        return refused(10);
-    }
-    if line.len() < 1 {
-        return refused(10);
+    if street_store::LONGEST_LINE < line.len() || line.is_empty() {
+        return refused_by(Refusal::MalformedLine as u8);
     }
     by_letter(shape, line, numbers)
 }
@@ -146,9 +142,9 @@ fn early(line: &[u8]) -> Order
     ensures { result ≡ early_order line.now }
 {
     if street_reading::start::is_start(line) {
-        return ordered(b'S', 0);
+        return ordered(b'S', Ok(()));
     }
-    refused(1)
+    refused_by(Refusal::BadPostCount as u8)
 }
 
 // What a line asks for.

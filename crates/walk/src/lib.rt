@@ -73,7 +73,6 @@ fn walk_further(
 }
 
 // The number through the first `need` shares, or 13 where a further one is off their polynomial.
-#[tactic(auto, using(crate::proofs::Settles::agreed_number, crate::proofs::Settles::agreed_off))]
 fn agreed(
     posts: &[u32],
     shares: &[u32],
@@ -90,11 +89,10 @@ fn agreed(
         ≡ agreed_on (take need posts.now) (take need shares.now) (drop need posts.now)
         (drop need shares.now) }
 {
-    let found = agreement::through(posts, shares, need, inverses, gaps, list, above, below);
-    if found.agree {
-        return Ok(found.value);
+    match agreement::through(posts, shares, need, inverses, gaps, list, above, below) {
+        Ok(value) => Ok(value),
+        Err(_) => Err(Refusal::InconsistentShares),
     }
-    Err(Refusal::InconsistentShares)
 }
 
 // What the walk's outcome answers: the number or 13, with the posts behind it, or 9. The list has the posts' marks, until the agreement needs it.
