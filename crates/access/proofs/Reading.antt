@@ -1,6 +1,6 @@
 -- What a line says, from the walk over its posts.
 use Prim.Native.Nat.{ℕ, zero, suc, ◌+◌, ◌-◌, ◌≤◌, ◌<◌}
-use mathlib.Core.Path.{◌≡◌, refl, sym, ◌∙◌, ap, ap₂, subst}
+use mathlib.Core.Path.{◌≡◌, refl, sym, ◌∙◌, ap, subst}
 use mathlib.Core.Bool.{Bool, true, false, not, ◌||◌, ◌&&◌, cond}
 use mathlib.Core.List.{List, [], ◌∷◌}
 use native.Mathlib.Omega.{arith}
@@ -16,7 +16,7 @@ use Rattle.csv_fields.specs.Walk.{end_of}
 use Rattle.csv_fields.proofs.Single.{first_found, first_broken}
 use Rattle.access.specs.declared.Posts.{Posts}
 use Rattle.access.specs.declared.Read.{Read}
-use Rattle.access.specs.Access.{commas, alone, several_at, posts_at, behind_row, access_fields, rising_from, rising, any_outside, every_post, admitted, admitted_all}
+use Rattle.access.specs.Access.{commas, alone, several_at, posts_at, behind_row, access_fields, rising_from, rising, any_outside, every_post, admitted_all}
 use Rattle.access.specs.Between.{further, walked, start, unread, beyond, told, ended_of, read_of}
 
 -- ---- the empty set

@@ -1,27 +1,22 @@
 -- The loops of the A line: commas counted, posts walked, a set placed.
-use Prim.Native.Nat.{ℕ, zero, suc, ◌+◌, ◌*◌, ◌-◌, ◌/◌, ◌%◌, ◌^◌, ◌≤◌, ◌<◌}
-use mathlib.Core.Path.{◌≡◌, refl, sym, ◌∙◌, ap, ap₂, subst}
-use mathlib.Core.Bool.{Bool, true, false, not, ◌||◌, ◌&&◌, cond}
-use mathlib.Core.List.{List, [], ◌∷◌}
+use Prim.Native.Nat.{ℕ, suc, ◌+◌, ◌*◌, ◌-◌, ◌/◌, ◌%◌, ◌^◌, ◌≤◌, ◌<◌}
+use mathlib.Core.Path.{◌≡◌, refl, sym, ◌∙◌, ap}
+use mathlib.Core.Bool.{cond}
+use mathlib.Core.List.{List}
 use native.Mathlib.Omega.{arith}
 use native.Mathlib.Numerals.{add-one}
-use mir.Syntax.{w64}
-use mir.Val.{Fits}
 use lib.Bits.{bit_and}
-use lib.Dec.{eqb, ltb}
-use lib.ListN.{length, get_or, set, drop}
-use lib.Seq.{drop-cons, drop-length}
-use borrow.Author.Tests.{lt-ltb, le-ltb, eq-eqb, ne_eqb}
+use lib.ListN.{get_or, set}
+use borrow.Author.Tests.{lt-ltb, le-ltb}
 use lib.Pow.{shl_exact}
-use native.Mathlib.Nat.{mod-lt, one-mul}
-use Rattle.refusal.specs.Conditions.{outside}
+use native.Mathlib.Nat.{one-mul}
 use Rattle.csv_fields.specs.declared.Run.{Run}
-use Rattle.std.specs.Prelude.{Option, Some, None, ◌==◌, count_by}
+use Rattle.std.specs.Prelude.{Option, ◌==◌, count_by}
 use Rattle.std.proofs.lemmas.List.Recursion.{is_count_by}
 use Rattle.csv_fields.specs.Fields.{fields_at, run_of}
 use Rattle.access.specs.declared.Posts.{Posts}
 use Rattle.access.specs.Access.{commas, admitted, placed}
-use Rattle.access.specs.Between.{further, walked, start}
+use Rattle.access.specs.Between.{further, walked}
 
 -- ---- the commas of a line
 pub commas_counted : (s : List ℕ) → commas s ≡ count_by (λ b. b == 44) s
@@ -31,24 +26,6 @@ commas_counted =
     (λ x xs. let e : suc (commas xs) ≡ 1 + commas xs = omega arith in ap (λ (k : ℕ). cond (x == 44) k (commas xs)) e)
 
 -- ---- a byte, a post, a bit
-pub comma_is : (b : ℕ) → b ≡ 44 → ◌≡◌ {A = ℕ} 1 (cond (eqb b 44) 1 0)
-comma_is b e = rw (eq-eqb b 44 e)
-
-pub comma_not : (b : ℕ) → (b ≡ 44 → ⊥) → ◌≡◌ {A = ℕ} 0 (cond (eqb b 44) 1 0)
-comma_not b h = rw (ne_eqb b 44 h)
-
-pub outside_low : (n c : ℕ) → c < 1 → true ≡ outside 1 n c
-outside_low n c h = rw (lt-ltb c 1 h)
-
-pub outside_high : (n c : ℕ) → 1 ≤ c → ltb n c ≡ outside 1 n c
-outside_high n c h = rw (le-ltb c 1 h)
-
-pub rises_from : (begun : Bool) (low c : ℕ) → begun ≡ true → ltb low c ≡ (not begun || ltb low c)
-rises_from begun low c e = rw e
-
-pub rises_first : (begun : Bool) (low c : ℕ) → begun ≡ false → true ≡ (not begun || ltb low c)
-rises_first begun low c e = rw e
-
 module _ (words : List ℕ) (c : ℕ) where
   pub admit_low : c < 1 → words ≡ admitted words c
   unfolding admitted

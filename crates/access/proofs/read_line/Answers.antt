@@ -1,5 +1,4 @@
 -- A row, and the posts behind it.
-use Rattle.std.proofs.Common.{sym, ◌∙◌}
 use Rattle.access.proofs.Reading.{line_right}
 use Rattle.access.proofs.read_line.Goals as goal
 
