@@ -74,7 +74,7 @@ pub fn reduce(low: u64, high: u64) -> u32
     ((low + high) % WIDE_P) as u32
 }
 
-// The inverse of x, and 0 for 0: with p = q u + r, 1/u is (p - q)/r, and r is smaller than u.
+// The inverse of x, and 0 for 0: with p = q u + r, 1/u is (p - q)/r, and r is smaller than u. Euclid's loop: it counts nothing.
 #[tactic(auto, using(crate::proofs::Euclid::turn, crate::proofs::Euclid::next_positive, crate::proofs::Euclid::none_for_zero, crate::proofs::Euclid::found, crate::proofs::Euclid::started, crate::proofs::Modular::product_below))]
 pub fn inverse(x: u32) -> u32
     ensures value { result ≡ inverse x }

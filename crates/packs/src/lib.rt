@@ -46,7 +46,7 @@ pub fn points_at(shape: Shape, points: &[u32], j: usize, count: usize) -> Points
 }
 
 // The middle part of `out` is lent for one post after the other; `i` posts stand before the first. The public sums stand in the first
-// row.
+// row, from which they are passed on: so the list is not cut into rows, and each part's place is counted.
 fn write_parts(shape: Shape, i: usize, count: usize, points: &[u32], vs: &[u32], out: &mut [u32])
     requires { Drawn shape vs.now × PartsRoom shape i count points.now out.old }
     ensures { out.new

@@ -110,7 +110,7 @@ fn open<'a>(
 {
     let found = street_rowlines::open(session, store, empty, kept, row);
     Outcome {
-        refusal: refusal::number_of(found.and(Ok(()))),
+        refusal: refusal::number_of(found),
         value: found.unwrap_or(0),
         kept,
         triple,

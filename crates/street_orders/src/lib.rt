@@ -50,7 +50,10 @@ fn numbered(letter: u8, line: &[u8], lasts: &[u32], count: usize, numbers: &mut 
     requires { (length lasts.now ≤ count) × (count ≤ length numbers.old) }
     ensures { Numbered letter lasts.now count line.now result numbers.new }
 {
-    ordered(letter, street_reading::read(line, lasts, &mut numbers[..count]))
+    ordered(
+        letter,
+        street_reading::read(line, lasts, &mut numbers[..count]),
+    )
 }
 
 // `R,row,` and a raw row's numbers; `G,row`.

@@ -127,7 +127,12 @@ pub fn feed_chunk(
 }
 
 // The end of the input ends a line that was begun.
-pub fn end_input(feed: Feed, store: &mut [u32], line: &mut [u8], out: &mut [u8]) -> Result<Feed, Refusal>
+pub fn end_input(
+    feed: Feed,
+    store: &mut [u32],
+    line: &mut [u8],
+    out: &mut [u8],
+) -> Result<Feed, Refusal>
     ensures { Moved (feed_refusal_of feed store.old line.old out.old 1) 1 feed store.old
         line.old out.old (closed (running feed store.old line.old out.old))
         line.old result store.new line.new out.new }

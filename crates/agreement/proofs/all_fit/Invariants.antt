@@ -7,4 +7,3 @@ use Rattle.agreement.proofs.all_fit.Given as goal
 
 abbrev pub invariant-loop-i : goal.invariant-loop-i
 invariant-loop-i l = (l.i ≤ length l.nodes) × Tested (fits l.inverses l.above l.below) l.nodes l.values l.i
-

@@ -14,4 +14,3 @@ invariant-loop-i l =
     (l.last ≡ last_of 0 l.nodes)
     × Scattered (λ x. product (node_weight (last_of 0 l.nodes) (missing 0 l.nodes) x) (interpolated l.nodes l.values x)) l.nodes l.above l.i
     × Scattered (node_weight (last_of 0 l.nodes) (missing 0 l.nodes)) l.nodes l.below l.i
-
