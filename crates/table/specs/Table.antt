@@ -10,8 +10,7 @@ use Rattle.session.specs.Sessions.{created}
 use Rattle.session.specs.Rows.{sums_at_of, coefficients, plus_sums}
 use Rattle.opening.specs.Walking.{accepts, share, accepted_posts, opened_row}
 use Rattle.product_masks.specs.Masks.{less}
-use Rattle.collect.specs.declared.OpenedMasks.{OpenedMasks}
-use Rattle.collect.specs.Collect.{opened_both}
+use Rattle.collect.specs.Collect.{OpenedMasks, opened_both}
 use Rattle.multiply.specs.Multiply.{product_row}
 use Rattle.forms.specs.Lines.{deal, text}
 use Rattle.forms.specs.Forms.{message}
