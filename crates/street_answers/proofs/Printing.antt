@@ -1,12 +1,10 @@
 -- What is printed for a line, behind what was printed before: it has room, and the rest stays.
-use Prim.Native.Nat.{ℕ, ◌+◌, ◌-◌, ◌≤◌, ◌<◌, ◌^◌}
+use Prim.Native.Nat.{ℕ, ◌+◌, ◌-◌, ◌≤◌}
 use mathlib.Core.Path.{◌≡◌, ap, sym, ◌∙◌}
 use mathlib.Core.List.{List, [], ◌∷◌, ◌++◌, append_assoc, append-nil}
 use native.Mathlib.Nat.{zero-add}
 use native.Mathlib.Omega.{arith}
 use borrow.Rule.Slice.PartMut.{put_mid}
-use mir.Syntax.{w64}
-use mir.Val.{Fits}
 use lib.ListN.{length, take, drop, length-append, length-drop, take-append-drop}
 use lib.Seq.{take_at, drop_at, drop-drop, drop-append-le, length-take-le}
 use Rattle.decimal.proofs.Digits.{length_digits}
@@ -55,17 +53,11 @@ module _ (first post : ℕ) (out xs : List ℕ) (at : ℕ) (h : at + told_room �
     width : end - at ≡ told_room
     width = omega arith
 
-    pub masks_in : end ≤ length out
-    masks_in = omega arith
-
     pub masks_room : length line ≤ length (take (end - at) (drop at out))
     masks_room = rw width (omega (arith, line_short, length-take-le told_room (drop at out) (omega (arith, length-drop at out))))
 
     pub masks_put : (ys : List ℕ) → ys ≡ overwrite 0 line (take (end - at) (drop at out)) → put_mid at (end - at) out ys ≡ overwrite at line out
     masks_put ys q = part_laid out line ys at (end - at) (omega (arith, width)) (omega (arith, width, line_short)) q
-
-  pub masks_fits : (size : ℕ) → size ≡ length line → length out < 2 ^ 64 → Fits w64 (at + size)
-  masks_fits size q b = omega (arith, line_short)
 
   pub masks_end : (size : ℕ) → size ≡ length line → at + size ≡ at + length line
   masks_end size q = ap (λ (k : ℕ). at + k) q

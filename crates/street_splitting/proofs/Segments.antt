@@ -72,9 +72,6 @@ module _ (l part : List ℕ) (len count : ℕ) (h : len ≤ kept_length) (r : le
   pub appended_within : len + count ≤ kept_length
   appended_within = omega arith
 
-  pub appended_prefix : count ≡ length (take count part)
-  appended_prefix = sym (length-take-le count part c₂)
-
   pub appended_size : length (take count part) ≡ length (take (len + count - len) (drop len l))
   appended_size =
       let d : len + count - len ≡ count = add-sub_cancel_left len count in
