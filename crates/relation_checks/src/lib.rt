@@ -113,7 +113,7 @@ fn record_numbers(session: Session, blocks: &[u32], k: usize) -> Result<(), Refu
     record_number(session, blocks, place + 1)
 }
 
-// 8, of every product term's records.
+// 8, of every product term's records. By their place: no list holds the pairs, each is a part of the lent one.
 #[tactic(auto, using(crate::proofs::Pairs::heard_start, crate::proofs::Pairs::heard_more, crate::proofs::Pairs::heard_all, refusal::proofs::Checks::not_zero))]
 fn records(session: Session, all: Terms, blocks: &[u32]) -> Result<(), Refusal>
     requires { Valid (shape_of session) × Few all × (length blocks.now ≡ all.products * (2 * record_length (shape_of session))) }
