@@ -104,7 +104,7 @@ impl<'a> Masks<'a> {
     }
 }
 
-// 9: too few were accepted.
+// 9: too few were accepted. By the number: the proof of a `match` with `_` doesn't learn that the rest is another refusal.
 fn too_few<T: Copy>(opened: Result<T, Refusal>) -> bool
     ensures { result ≡ eqb (refused opened) 9 }
 {
