@@ -31,6 +31,7 @@ fn refused_by(refusal: u8) -> Order
     }
 }
 
+#[tactic(auto, using(crate::proofs::Ordering::ordered_refused, crate::proofs::Ordering::ordered_fine))]
 fn ordered(letter: u8, checked: Result<(), Refusal>) -> Order
     ensures { result ≡ order_of letter (refused checked) }
 {
@@ -46,6 +47,7 @@ fn ordered(letter: u8, checked: Result<(), Refusal>) -> Order
 }
 
 // A letter and so many numbers, of which the first are rows, each with its last.
+#[tactic(auto, using(crate::proofs::Ordering::numbers_prefix, crate::proofs::Ordering::lasts_in, crate::proofs::Ordering::numbered_is))]
 fn numbered(letter: u8, line: &[u8], lasts: &[u32], count: usize, numbers: &mut [u32]) -> Order
     requires { (length lasts.now ≤ count) × (count ≤ length numbers.old) }
     ensures { Numbered letter lasts.now count line.now result numbers.new }
@@ -97,6 +99,7 @@ fn of_masks(line: &[u8], numbers: &mut [u32]) -> Order
 }
 
 // A broadcast line: `D`, `O` or `M`.
+#[tactic(auto, using(crate::proofs::Heeding::masks_count, crate::proofs::Heeding::masks_front, crate::proofs::Heeding::heard_is))]
 fn heard(shape: Shape, line: &[u8], numbers: &mut [u32]) -> Order
     requires { InStreet shape × (length numbers.old ≡ numbers_room) }
     ensures { Heard shape line.now result numbers.new }
@@ -112,6 +115,7 @@ fn heard(shape: Shape, line: &[u8], numbers: &mut [u32]) -> Order
 }
 
 // A line by its letter.
+#[tactic(auto, using(crate::proofs::Ordering::row_count, crate::proofs::Ordering::triple_count, crate::proofs::Ordering::leads_load, crate::proofs::Ordering::leads_triple, crate::proofs::Ordering::leads_open, crate::proofs::Ordering::leads_finish, crate::proofs::Ordering::leads_sum, crate::proofs::Ordering::leads_masks, crate::proofs::Ordering::leads_access, crate::proofs::Ordering::leads_other, crate::proofs::Heeding::leads_deal, crate::proofs::Heeding::leads_opening, crate::proofs::Heeding::leads_product))]
 fn by_letter(shape: Shape, line: &[u8], numbers: &mut [u32]) -> Order
     requires { InStreet shape × (length numbers.old ≡ numbers_room) × (1 ≤ length line.now) }
     ensures { Leads shape line.now result numbers.new (lettered line.now) }
@@ -124,12 +128,16 @@ fn by_letter(shape: Shape, line: &[u8], numbers: &mut [u32]) -> Order
         b'F' => of_triple(b'F', line, 1, numbers),
         b'X' => of_masks(line, numbers),
         b'A' => ordered(b'A', Ok(())),
-        b'D' | b'O' | b'M' => heard(shape, line, numbers),
+        // An arm each: at `D | O | M` the last arm knows of no letter that it is none of them, and its proof didn't close.
+        b'D' => heard(shape, line, numbers),
+        b'O' => heard(shape, line, numbers),
+        b'M' => heard(shape, line, numbers),
         _ => refused_by(Refusal::MalformedLine as u8),
     }
 }
 
 // A line once a start line was accepted.
+#[tactic(auto, using(crate::proofs::Ordering::leads_long, crate::proofs::Ordering::leads_empty, crate::proofs::Ordering::leads_late))]
 fn late(shape: Shape, line: &[u8], numbers: &mut [u32]) -> Order
     requires { InStreet shape × (length numbers.old ≡ numbers_room) }
     ensures { Leads shape line.now result numbers.new (lated line.now) }
@@ -141,6 +149,7 @@ fn late(shape: Shape, line: &[u8], numbers: &mut [u32]) -> Order
 }
 
 // A line before it: `S` stands for a start line of either letter.
+#[tactic(auto, using(crate::proofs::Ordering::early_start, crate::proofs::Ordering::early_other))]
 fn early(line: &[u8]) -> Order
     ensures { result ≡ early_order line.now }
 {
@@ -151,6 +160,7 @@ fn early(line: &[u8]) -> Order
 }
 
 // What a line asks for.
+#[tactic(auto, using(crate::proofs::Ordering::accepted_street, crate::proofs::Ordering::reads_late, crate::proofs::Ordering::reads_early))]
 pub fn read(started: bool, shape: Shape, line: &[u8], numbers: &mut [u32]) -> Order
     requires { Accepted started shape × (length numbers.old ≡ numbers_room) }
     ensures { Reads started shape line.now result numbers.new }

@@ -13,6 +13,7 @@ use session::{Answer, Session};
 use street_states::State;
 
 // 1, 2 and 4 of a session that no start line can have made.
+#[tactic(auto, using(crate::proofs::Room::station_many, crate::proofs::Room::station_asked, crate::proofs::Room::station_unasked))]
 fn station_refusal(state: State) -> Result<(), Refusal>
     ensures { refused result ≡ station_refusal_of state }
 {
@@ -44,6 +45,7 @@ pub fn changes(letter: u8) -> bool
 }
 
 // What a change leaves of its answer: where it is refused, the session as it was.
+#[tactic(auto, using(crate::proofs::Settling::settle_old, crate::proofs::Settling::settle_new))]
 pub fn settle(session: Session, answer: Answer) -> Answer
     ensures { (settled session result ≡ settled session answer) × (result.session ≡ (settled session answer).session) }
 {
