@@ -1,13 +1,13 @@
 -- The dealer that a turn chooses.
-use Prim.Native.Nat.{ℕ, suc, ◌+◌, ◌-◌, ◌≤◌, ◌<◌}
-use mathlib.Core.Path.{◌≡◌, refl, sym, ◌∙◌, ap}
-use mathlib.Core.Bool.{Bool, true, false, not, cond}
+use Prim.Native.Nat.{ℕ, suc, ◌-◌, ◌≤◌, ◌<◌}
+use mathlib.Core.Path.{◌≡◌, sym, ◌∙◌, ap}
+use mathlib.Core.Bool.{Bool, not, cond}
 use mathlib.Core.List.{List}
 use native.Mathlib.Omega.{arith}
 use borrow.Author.Tests.{eq-eqb, ne_eqb}
 use lib.Dec.{eqb}
-use lib.ListN.{length, get_or}
-use Rattle.dealers.specs.State.{dealer_count, state_length, last_served, length_in_of, waits, next, first_after, first_waiting, chosen}
+use lib.ListN.{get_or}
+use Rattle.dealers.specs.State.{dealer_count, length_in_of, waits, next, first_after, first_waiting, chosen}
 use Rattle.dealers.specs.Between.{Good, Dealer}
 use Rattle.dealers.proofs.Positions.{next_dealer_lem, last_in}
 

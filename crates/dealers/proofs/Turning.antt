@@ -8,10 +8,15 @@ use Rattle.shape.specs.declared.Shape.{Shape}
 use Rattle.shape.specs.Bounds.{row_count_of, last_row_at}
 use Rattle.shape.specs.Marks.{held}
 use Rattle.shape.specs.Lengths.{row_length, sums_at_of}
-use Rattle.refusal.specs.Refusal.{first, or_else, outcome}
+use Rattle.std.specs.Prelude.{Result}
+use Rattle.std.specs.Result.{result_and}
+use Rattle.refusal.specs.declared.Refusal.{Refusal}
+use Rattle.refusal.specs.Numbers.{refused}
+use Rattle.refusal.proofs.Checks.{and_else}
+use Rattle.refusal.specs.Refusal.{first, outcome}
 use Rattle.refusal.proofs.Laws.{all_fail, not_refused}
 use Rattle.refusal.proofs.Groups.{fail_parts}
-use Rattle.refusal.proofs.Endings.{refused, accepted}
+use Rattle.refusal.proofs.Endings as E
 use Rattle.session.specs.declared.Session.{Session}
 use Rattle.session.specs.declared.Answer.{Answer}
 use Rattle.session.specs.Sessions.{shape_of, marked, holding}
@@ -38,20 +43,20 @@ use Rattle.dealers.proofs.Turns.{by_some, count_good, count_is, as_answer, as_ro
 module _ (g : Shape) (marks rows : List ℕ) (m : Said) where
   module _ (n : m.refusal ≡ 0 → ⊥) where
     pub unsaid_dealt : (d : Dealt) → d ≡ none_dealt_of m.refusal → d ≡ said_dealt g marks rows m
-    unsaid_dealt d q = q ∙ refused m.refusal m.refusal _ _ refl n
+    unsaid_dealt d q = q ∙ E.refused m.refusal m.refusal _ _ refl n
 
     pub unsaid_rows : rows ≡ said_rows g marks rows m
-    unsaid_rows = refused m.refusal m.refusal _ rows refl n
+    unsaid_rows = E.refused m.refusal m.refusal _ rows refl n
 
   module _ (z : m.refusal ≡ 0) (f : ℕ) (e : f ≡ first (row_tests g marks rows m.row m.c)) where
     module _ (n : f ≡ 0 → ⊥) where
       pub undealt : (d : Dealt) → d ≡ none_dealt_of f → d ≡ said_dealt g marks rows m
       undealt d q =
-          accepted m.refusal m.refusal d _ _ refl z
-          (q ∙ ap none_dealt_of e ∙ refused f (first (row_tests g marks rows m.row m.c)) _ _ e n)
+          E.accepted m.refusal m.refusal d _ _ refl z
+          (q ∙ ap none_dealt_of e ∙ E.refused f (first (row_tests g marks rows m.row m.c)) _ _ e n)
 
       pub undealt_rows : rows ≡ said_rows g marks rows m
-      undealt_rows = accepted m.refusal m.refusal rows _ _ refl z (refused f (first (row_tests g marks rows m.row m.c)) _ rows e n)
+      undealt_rows = E.accepted m.refusal m.refusal rows _ _ refl z (E.refused f (first (row_tests g marks rows m.row m.c)) _ rows e n)
 
     module _ (w : f ≡ 0) where
       pub said_in : RowIn g m.row
@@ -59,27 +64,27 @@ module _ (g : Shape) (marks rows : List ℕ) (m : Said) where
 
       pub said_dealt_is : record { refusal = 0; row = m.row } ≡ said_dealt g marks rows m
       said_dealt_is =
-          accepted m.refusal m.refusal (record { refusal = 0; row = m.row }) _ _ refl z
-          (accepted f (first (row_tests g marks rows m.row m.c)) (record { refusal = 0; row = m.row }) _ _ e w refl)
+          E.accepted m.refusal m.refusal (record { refusal = 0; row = m.row }) _ _ refl z
+          (E.accepted f (first (row_tests g marks rows m.row m.c)) (record { refusal = 0; row = m.row }) _ _ e w refl)
 
       pub said_written : (out : List ℕ)
           → out ≡ with_row (row_length g) m.row (plus_sums (sums_at_of g) m.c (row_at (row_length g) rows m.row)) rows
           → out ≡ said_rows g marks rows m
       said_written out q =
-          accepted m.refusal m.refusal out _ _ refl z (accepted f (first (row_tests g marks rows m.row m.c)) out _ rows e w q)
+          E.accepted m.refusal m.refusal out _ _ refl z (E.accepted f (first (row_tests g marks rows m.row m.c)) out _ rows e w q)
 
 -- ---- the turn, with a refusal of session, rows and state
 
 module _ (g : Shape) (marks rows state : List ℕ) (f : ℕ) where
   module _ (n : f ≡ 0 → ⊥) where
     pub none_counted : (d : Dealt) → d ≡ none_dealt_of f → d ≡ turn_dealt g marks rows state f
-    none_counted d q = q ∙ refused f f _ _ refl n
+    none_counted d q = q ∙ E.refused f f _ _ refl n
 
     pub none_rows : rows ≡ turn_dealt_rows g marks rows state f
-    none_rows = refused f f _ rows refl n
+    none_rows = E.refused f f _ rows refl n
 
     pub none_state : state ≡ turn_dealt_state state f
-    none_state = refused f f _ state refl n
+    none_state = E.refused f f _ state refl n
 
   module _ (z : f ≡ 0) where
     pub allowed_sized : Allows f (Sized g rows) → Sized g rows
@@ -89,7 +94,7 @@ module _ (g : Shape) (marks rows state : List ℕ) (f : ℕ) where
     allowed_good a = a.allowed z
 
     go_on : {A : Type 0} (x y old : A) → x ≡ y → x ≡ outcome f y old
-    go_on x y old p = accepted f f x y old refl z p
+    go_on x y old p = E.accepted f f x y old refl z p
 
     module _ (d : ℕ) (c : d ≡ chosen state) where
       module _ (w : d ≡ 0) where
@@ -202,10 +207,11 @@ module _ (s : Session) (rows state : List ℕ) where
 
 -- ---- the call
 
-module _ (s : Session) (rows state : List ℕ) (a b f : ℕ) (ea : a ≡ first (frame_tests s rows)) (eb : b ≡ first (state_tests state)) (q : f ≡ or_else a b)
+module _ {A B : Type 0} (s : Session) (rows state : List ℕ) (a : Result A Refusal) (b c : Result B Refusal) (f : ℕ)
+    (ea : refused a ≡ first (frame_tests s rows)) (eb : refused b ≡ first (state_tests state)) (q : c ≡ result_and a b) (ef : f ≡ refused c)
     (g : Shape) (eg : g ≡ shape_of s) where
   refusal_is : f ≡ count_refusal s rows state
-  refusal_is = count_is s rows state a b f ea eb q
+  refusal_is = ef ∙ count_is s rows state (refused a) (refused b) (refused c) ea eb (and_else a b c q)
 
   pub turn_sized : Allows f (Sized g rows)
   turn_sized = record { allowed = λ z. shape_sized s rows (first (frame_tests s rows)) refl (framed_by s rows state (sym refusal_is ∙ z)) g eg }

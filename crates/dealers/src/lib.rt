@@ -4,6 +4,7 @@
 pub mod places;
 
 ghost use Rattle.std.specs.Prelude.{◌≡◌, length};
+ghost use Rattle.refusal.specs.Numbers.{refused};
 ghost use Rattle.refusal.specs.Conditions.{beyond};
 ghost use Rattle.session.specs.Between.{Sized, Allows};
 ghost use Rattle.forms.specs.Forms.{out_of_range_of};
@@ -14,9 +15,9 @@ ghost use Rattle.dealers.specs.Calls.{new_state_refusal, new_state_after, place_
 ghost use Rattle.dealers.specs.Between.{Good, Dealer, said_by_of};
 ghost use Rattle.dealers.specs.Turning.{none_dealt_of, said_dealt, said_rows, turn_dealt, turn_dealt_rows, turn_dealt_state, answer_by};
 
-use csv_fields::Run;
+use refusal::Refusal;
 use session::{Answer, Session};
-use shape::Shape;
+use shape::{Mark, Shape};
 
 // What a line taken says: the row and the number of a `D`, or its refusal.
 #[derive(Clone, Copy)]
@@ -34,50 +35,44 @@ pub struct Dealt {
 }
 
 // A new state: 8 as the last served, and no line waiting.
-pub fn new_state(state: &mut [u8]) -> u8
-    ensures value { result ≡ new_state_refusal state.old }
+#[tactic(auto, using(crate::proofs::Placing::new_five, crate::proofs::Placing::new_kept, crate::proofs::Placing::new_done, crate::proofs::Placing::new_made))]
+pub fn new_state(state: &mut [u8]) -> Result<(), Refusal>
+    ensures value { refused result ≡ new_state_refusal state.old }
     ensures state_after { state.new ≡ new_state_after state.old }
 {
     if state.len() != places::STATE_LEN {
-        return 5;
+        return Err(Refusal::BadLength);
     }
     places::begin(state);
-    0
+    Ok(())
 }
 
-fn place_refusal(state: &[u8], dealer: usize, len: usize) -> u8
-    ensures { result ≡ place_refusal_of state.now dealer len }
+#[tactic(auto, using(refusal::proofs::Checks::not_zero, crate::proofs::Positions::state_long, crate::proofs::Placing::place_stopped, crate::proofs::Placing::place_low, crate::proofs::Placing::place_high, crate::proofs::Placing::place_filled, crate::proofs::Placing::place_empty, crate::proofs::Placing::place_over, crate::proofs::Placing::place_fine))]
+fn place_checks(state: &[u8], dealer: usize, len: usize) -> Result<(), Refusal>
+    ensures { refused result ≡ place_refusal_of state.now dealer len }
 {
-    let wrong = places::refusal(state);
-    if wrong != 0 {
-        return wrong;
-    }
-    if dealer < 1 {
-        return 16;
-    }
-    if places::DEALERS < dealer {
-        return 16;
+    places::checks(state)?;
+    if dealer < 1 || places::DEALERS < dealer {
+        return Err(Refusal::BadDealer);
     }
     if places::length_in(state, dealer) != 0 {
-        return 17;
+        return Err(Refusal::PlaceFilled);
     }
-    if len < 1 {
-        return 10;
+    if len < 1 || places::PLACE_LEN < len {
+        return Err(Refusal::MalformedLine);
     }
-    if places::PLACE_LEN < len { 10 } else { 0 }
+    Ok(())
 }
 
 // A dealer's line is placed, to wait for its turn.
-pub fn place(state: &mut [u8], dealer: usize, line: &[u8]) -> u8
-    ensures value { result ≡ place_refusal_of state.old dealer (length line.now) }
+#[tactic(auto, using(refusal::proofs::Checks::not_zero, crate::proofs::Placing::place_state, crate::proofs::Placing::place_dealer, crate::proofs::Placing::place_some, crate::proofs::Placing::place_few, crate::proofs::Placing::place_refused, crate::proofs::Placing::place_none, crate::proofs::Placing::place_done))]
+pub fn place(state: &mut [u8], dealer: usize, line: &[u8]) -> Result<(), Refusal>
+    ensures value { refused result ≡ place_refusal_of state.old dealer (length line.now) }
     ensures state_after { state.new ≡ place_after_of state.old dealer line.now }
 {
-    let refusal = place_refusal(state, dealer, line.len());
-    if refusal != 0 {
-        return refusal;
-    }
+    place_checks(state, dealer, line.len())?;
     places::lay(state, dealer, line);
-    0
+    Ok(())
 }
 
 fn not_said(refusal: u8) -> Said
@@ -91,6 +86,7 @@ fn not_said(refusal: u8) -> Said
 }
 
 // What a deal's number stays below, if its row is in range: p. No number is below 0.
+#[tactic(auto, using(crate::proofs::Reading::misplaced, crate::proofs::Reading::in_place))]
 fn limit_for(row: u64) -> u64
     ensures { result ≡ limit_of_of (out_of_range_of 2 68 row 0 (beyond 0)) }
 {
@@ -102,46 +98,42 @@ fn limit_for(row: u64) -> u64
 }
 
 // The number of a deal, and the line's end behind it.
+#[tactic(auto, using(crate::proofs::Reading::limit_fits, crate::proofs::Reading::number_broken, crate::proofs::Reading::number_beyond, crate::proofs::Reading::number_read))]
 fn read_number(line: &[u8], at: usize, row: u64) -> Said
     requires { Headed 2 line.now 68 row 0 at 1 }
     ensures { result ≡ said_by_of line.now }
 {
     let mut number = [0u32; 1];
     let limit = limit_for(row);
-    let run = forms::read_fields(line, at, 0, limit, &mut number);
-    match run {
-        Run::Fields { largest, next: _ } => {
-            if limit <= largest {
-                return not_said(11);
-            }
-            Said {
-                refusal: 0,
-                row: row as usize,
-                c: number[0],
-            }
-        }
-        Run::Broken => not_said(10),
+    let Some(run) = forms::read_fields(line, at, 0, limit, &mut number) else {
+        return not_said(10);
+    };
+    if limit <= run.largest {
+        return not_said(11);
+    }
+    Said {
+        refusal: 0,
+        row: row as usize,
+        c: number[0],
     }
 }
 
 // A `D` line is the same at every station: its two fields are read, and `lines::read` keeps its one caller.
+#[tactic(auto, using(crate::proofs::Reading::not_deal, crate::proofs::Reading::no_line, crate::proofs::Reading::no_row, crate::proofs::Reading::row_read))]
 fn read_deal(line: &[u8]) -> Said
     ensures { result ≡ said_by_of line.now }
 {
-    if line.len() < 1 {
+    if line.len() < 1 || line[0] != b'D' {
         return not_said(10);
     }
-    if line[0] != b'D' {
+    let Some(row) = csv_fields::short::one_field(line, 1) else {
         return not_said(10);
-    }
-    let row = csv_fields::short::one_field(line, 1);
-    match row {
-        Run::Fields { largest, next } => read_number(line, next, largest),
-        Run::Broken => not_said(10),
-    }
+    };
+    read_number(line, row.next, row.largest)
 }
 
 // What a dealer's waiting line says.
+#[tactic(auto, using(crate::proofs::Turns::part_in, crate::proofs::Turns::part_fits, crate::proofs::Turns::part_is))]
 fn said_by(state: &[u8], dealer: usize) -> Said
     requires { Dealer dealer × Good state.now }
     ensures { result ≡ said_by_of (line_in state.now dealer) }
@@ -172,6 +164,7 @@ fn none_dealt(refusal: u8) -> Dealt
 }
 
 // What a line says, dealt where nothing refuses it.
+#[tactic(auto, using(crate::proofs::Turning::unsaid_dealt, crate::proofs::Turning::unsaid_rows, crate::proofs::Turning::undealt, crate::proofs::Turning::undealt_rows, crate::proofs::Turning::said_in, crate::proofs::Turning::said_dealt_is, crate::proofs::Turning::said_written))]
 fn deal_said(shape: Shape, marks: &[u8], rows: &mut [u32], said: Said) -> Dealt
     requires { Sized shape rows.old }
     ensures value { result ≡ said_dealt shape marks.now rows.old said }
@@ -180,7 +173,7 @@ fn deal_said(shape: Shape, marks: &[u8], rows: &mut [u32], said: Said) -> Dealt
     if said.refusal != 0 {
         return none_dealt(said.refusal);
     }
-    let refusal = deal::row_refusal(shape, marks, rows, said.row, said.c);
+    let refusal = refusal::number_of(deal::row_checks(shape, marks, rows, said.row, said.c));
     if refusal != 0 {
         return none_dealt(refusal);
     }
@@ -193,6 +186,7 @@ fn deal_said(shape: Shape, marks: &[u8], rows: &mut [u32], said: Said) -> Dealt
 
 // One line is taken, read and dealt, in a turn with this refusal of session, rows and state. The session is not handed over: a call that
 // writes would keep a copy of it.
+#[tactic(auto, using(crate::proofs::Turns::chosen_dealer, crate::proofs::Turning::none_counted, crate::proofs::Turning::none_rows, crate::proofs::Turning::none_state, crate::proofs::Turning::allowed_sized, crate::proofs::Turning::allowed_good, crate::proofs::Turning::idle_dealt, crate::proofs::Turning::idle_rows, crate::proofs::Turning::idle_state, crate::proofs::Turning::taken_state, crate::proofs::Turning::taken_dealt, crate::proofs::Turning::taken_rows_is))]
 fn take_turn(shape: Shape, marks: &[u8], rows: &mut [u32], state: &mut [u8], refusal: u8) -> Dealt
     requires { Allows refusal (Sized shape rows.old) × Allows refusal (Good state.old) }
     ensures value { result ≡ turn_dealt shape marks.now rows.old state.old refusal }
@@ -217,7 +211,7 @@ fn answer_turn(session: Session, dealt: Dealt) -> Answer
     let mut marks = session.marks;
     let row = dealt.row;
     if row < shape::ROWS {
-        marks[row] = shape::HELD;
+        marks[row] = Mark::Held as u8;
     }
     Answer {
         refusal: dealt.refusal,
@@ -227,13 +221,20 @@ fn answer_turn(session: Session, dealt: Dealt) -> Answer
 }
 
 // A turn: one line is taken, read and dealt.
+#[tactic(auto, using(crate::proofs::Turning::turn_sized, crate::proofs::Turning::turn_good))]
 pub fn turn(session: Session, rows: &mut [u32], state: &mut [u8]) -> Answer
     ensures value { result ≡ turn_answer session rows.old state.old }
     ensures rows_after { rows.new ≡ turn_rows session rows.old state.old }
     ensures state_after { state.new ≡ turn_state session rows.old state.old }
 {
-    let refusal = refusal::or_else(session.frame(rows), places::refusal(state));
+    let checked = session.frame(rows).and(places::checks(state));
     let marks = session.marks;
-    let dealt = take_turn(session.shape(), &marks, rows, state, refusal);
+    let dealt = take_turn(
+        session.shape(),
+        &marks,
+        rows,
+        state,
+        refusal::number_of(checked),
+    );
     answer_turn(session, dealt)
 }

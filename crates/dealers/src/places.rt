@@ -1,10 +1,13 @@
 // The lent state: the last dealer, then for each dealer's place a length, 0 when free, and the 16 bytes.
 ghost use Rattle.std.specs.Prelude.{◌≡◌, ◌+◌, ◌≤◌, length};
 ghost use Rattle.refusal.specs.Refusal.{first};
+ghost use Rattle.refusal.specs.Numbers.{refused};
 ghost use Rattle.csv_fields.specs.Fields.{overwrite};
 ghost use Rattle.dealers.specs.State.{state_length, new_state_of, place_at_of, length_in_of, next, bad_state, overlong, chosen, placed, served};
 ghost use Rattle.dealers.specs.Calls.{state_tests};
 ghost use Rattle.dealers.specs.Between.{Good, Dealer};
+
+use refusal::Refusal;
 
 pub const STATE_LEN: usize = 137;
 
@@ -66,13 +69,17 @@ fn is_bad(state: &[u8]) -> bool
 }
 
 // 5 and 16, of a state.
-pub fn refusal(state: &[u8]) -> u8
-    ensures { result ≡ first (state_tests state.now) }
+#[tactic(auto, using(crate::proofs::Positions::state_five, crate::proofs::Positions::state_bad, crate::proofs::Positions::state_fine))]
+pub fn checks(state: &[u8]) -> Result<(), Refusal>
+    ensures { refused result ≡ first (state_tests state.now) }
 {
     if state.len() != STATE_LEN {
-        return 5;
+        return Err(Refusal::BadLength);
     }
-    if is_bad(state) { 16 } else { 0 }
+    if is_bad(state) {
+        return Err(Refusal::BadDealer);
+    }
+    Ok(())
 }
 
 // 8 as the last served, then zeros.
