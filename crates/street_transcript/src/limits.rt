@@ -8,6 +8,7 @@ use refusal::Refusal;
 use street_feeds::Feed;
 
 // 5 of the lent line, of its bytes that count, and of the room for answers; 11 of the line numbers.
+#[tactic(auto, using(crate::proofs::Admitting::line_missized, crate::proofs::Admitting::len_beyond, crate::proofs::Admitting::at_beyond, crate::proofs::Admitting::room_small, crate::proofs::Admitting::number_beyond, crate::proofs::Admitting::feed_fine))]
 fn feed_refusal(feed: Feed, line: &[u8], out: &[u8], count: usize) -> Result<(), Refusal>
     ensures { refused result ≡ first (feed_tests feed line.now out.now count) }
 {
