@@ -30,12 +30,18 @@ pub fn row_checks(
 }
 
 #[tactic(auto, using(session::proofs::Calls::shape_sized, crate::proofs::Dealing::deal_stopped, crate::proofs::Dealing::deal_checked, refusal::proofs::Checks::not_zero))]
-fn deal_checks(session: Session, rows: &[u32], row: usize, c: u32) -> Result<(), Refusal>
+fn deal_checks(
+    session: Session,
+    marks: &[u8],
+    rows: &[u32],
+    row: usize,
+    c: u32,
+) -> Result<(), Refusal>
+    requires { marks.now ≡ session.marks }
     ensures { refused result ≡ deal_refusal_of session rows.now row c }
 {
     session.frame(rows)?;
-    let marks = session.marks;
-    row_checks(session.shape(), &marks, rows, row, c)
+    row_checks(session.shape(), marks, rows, row, c)
 }
 
 // The rows, after a call whose checks found this.
@@ -54,7 +60,9 @@ pub fn deal(session: Session, rows: &mut [u32], row: usize, c: u32) -> Answer
     ensures value { result ≡ deal_answer session rows.old row c }
     ensures rows_after { rows.new ≡ deal_rows_of session rows.old row c }
 {
-    let checked = deal_checks(session, rows, row, c);
+    // The marks are copied first: behind the checks the whole session would be copied with them.
+    let marks = session.marks;
+    let checked = deal_checks(session, &marks, rows, row, c);
     // The answer last: made before the sums it would stand on the stack until they are added, since nothing says that it is none of them.
     deal_rows(session, rows, row, c, checked);
     session.answer_marking(checked, row, Mark::Held)
