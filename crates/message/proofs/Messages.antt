@@ -24,7 +24,7 @@ use Rattle.session.specs.Checks.{frame_tests, no_row, wrong_mark_of}
 use Rattle.session.specs.Between.{Sized, RowIn}
 use Rattle.session.proofs.Passed.{row_below}
 use Rattle.session.proofs.Calls.{stopped_at_frame, past_frame}
-use Rattle.message.specs.Between.{message_own_tests, barred_by}
+use Rattle.message.specs.Between.{message_own_tests}
 use Rattle.message.specs.Message.{message_checks_of, message_early, message_refusal_of, message_out_of}
 use Rattle.message.proofs.Passed.{MessageMade, message_made, checks_passed}
 
@@ -38,26 +38,26 @@ module _ (s : Session) (rows : List ℕ) (r : ℕ) (out : List ℕ) (f : ℕ) (e
   message_checked z n h = past_frame s rows (message_own_tests s rows r out) f z e n h
 
 -- 15
-module _ (n : ℕ) (sets : List ℕ) (r caller : ℕ) where
-  pub caller_low : caller < 1 → 15 ≡ first (15 when barred_by n sets r caller ∷ [])
+module _ (s : Session) (r caller : ℕ) where
+  pub caller_low : caller < 1 → 15 ≡ first (15 when barred_from s r caller ∷ [])
   caller_low h = let k : ltb caller 1 ≡ true = lt-ltb caller 1 h in rw k refl
 
   module _ (lo : 1 ≤ caller) where
-    pub caller_high : n < caller → 15 ≡ first (15 when barred_by n sets r caller ∷ [])
-    caller_high h = let k : ltb n caller ≡ true = lt-ltb n caller h in let l : ltb caller 1 ≡ false = le-ltb caller 1 lo in rw (l, k) refl
+    pub caller_high : s.n < caller → 15 ≡ first (15 when barred_from s r caller ∷ [])
+    caller_high h = let k : ltb s.n caller ≡ true = lt-ltb s.n caller h in let l : ltb caller 1 ≡ false = le-ltb caller 1 lo in rw (l, k) refl
 
-    module _ (hi : caller ≤ n) (b : Bool) (e : b ≡ bars sets r caller) where
-      pub caller_barred : b ≡ true → 15 ≡ first (15 when barred_by n sets r caller ∷ [])
+    module _ (hi : caller ≤ s.n) (b : Bool) (e : b ≡ bars s.barred r caller) where
+      pub caller_barred : b ≡ true → 15 ≡ first (15 when barred_from s r caller ∷ [])
       caller_barred z =
-          let k : ltb n caller ≡ false = le-ltb n caller hi in
+          let k : ltb s.n caller ≡ false = le-ltb s.n caller hi in
           let l : ltb caller 1 ≡ false = le-ltb caller 1 lo in
-          let m : bars sets r caller ≡ true = sym e ∙ z in rw (l, k, m) refl
+          let m : bars s.barred r caller ≡ true = sym e ∙ z in rw (l, k, m) refl
 
-      pub caller_there : b ≡ false → 0 ≡ first (15 when barred_by n sets r caller ∷ [])
+      pub caller_there : b ≡ false → 0 ≡ first (15 when barred_from s r caller ∷ [])
       caller_there z =
-          let k : ltb n caller ≡ false = le-ltb n caller hi in
+          let k : ltb s.n caller ≡ false = le-ltb s.n caller hi in
           let l : ltb caller 1 ≡ false = le-ltb caller 1 lo in
-          let m : bars sets r caller ≡ false = sym e ∙ z in rw (l, k, m) refl
+          let m : bars s.barred r caller ≡ false = sym e ∙ z in rw (l, k, m) refl
 
 -- with 15 behind them
 module _ (s : Session) (rows : List ℕ) (r caller : ℕ) (out : List ℕ) where
@@ -65,10 +65,9 @@ module _ (s : Session) (rows : List ℕ) (r caller : ℕ) (out : List ℕ) where
   unfolding message_refusal_of message_early
   message_refused f e n = stopped (message_checks_of s rows r out) (15 when barred_from s r caller ∷ []) tt f e n
 
-  pub message_called : (sets : List ℕ) (f g : ℕ) → sets ≡ s.barred → f ≡ message_early s rows r out → f ≡ 0
-      → g ≡ first (15 when barred_by s.n sets r caller ∷ []) → g ≡ message_refusal_of s rows r caller out
+  pub message_called : (f g : ℕ) → f ≡ message_early s rows r out → f ≡ 0 → g ≡ first (15 when barred_from s r caller ∷ []) → g ≡ message_refusal_of s rows r caller out
   unfolding message_refusal_of message_early
-  message_called sets f g l e z h = went_on (message_checks_of s rows r out) (15 when barred_from s r caller ∷ []) tt f e g z (rw l at h)
+  message_called f g e z h = went_on (message_checks_of s rows r out) (15 when barred_from s r caller ∷ []) tt f e g z h
 
   module _ (f : ℕ) (e : f ≡ message_early s rows r out) (z : f ≡ 0) where
     made : MessageMade s rows r out

@@ -1,10 +1,9 @@
 -- Between the functions of the code: the tests of an opening message behind those of its frame. No theorem is stated with these.
-use Rattle.std.specs.Prelude.{ℕ, Bool, ◌||◌, List, [], ◌∷◌}
+use Rattle.std.specs.Prelude.{ℕ, List, [], ◌∷◌}
 use Rattle.shape.specs.Marks.{held}
 use Rattle.shape.specs.Lengths.{message_length}
 use Rattle.refusal.specs.Refusal.{Test, ◌when◌}
-use Rattle.refusal.specs.Conditions.{outside, wrong_length, any_beyond}
-use Rattle.callers.specs.Sets.{bars}
+use Rattle.refusal.specs.Conditions.{wrong_length, any_beyond}
 use Rattle.session.specs.declared.Session.{Session}
 use Rattle.session.specs.Sessions.{shape_of}
 use Rattle.session.specs.Rows.{width, row_at}
@@ -17,7 +16,3 @@ message_own_tests s rows r out =
     ∷ 7 when wrong_mark_of s r held
     ∷ 8 when any_beyond (row_at (width s) rows r)
     ∷ []
-
--- 15, by the sets of all rows.
-abbrev pub barred_by : ℕ → List ℕ → ℕ → ℕ → Bool
-barred_by n sets r caller = outside 1 n caller || bars sets r caller

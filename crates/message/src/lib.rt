@@ -7,11 +7,11 @@ ghost use Rattle.refusal.specs.Numbers.{refused};
 ghost use Rattle.shape.specs.Marks.{held};
 ghost use Rattle.shape.specs.Lengths.{row_length, v_length};
 ghost use Rattle.shape.specs.Row.{coefficients};
-ghost use Rattle.callers.specs.Sets.{sets_length};
+ghost use Rattle.session.specs.Sessions.{barred_from};
 ghost use Rattle.session.specs.Rows.{row_at};
 ghost use Rattle.session.specs.Checks.{wrong_mark_of};
 ghost use Rattle.session.specs.Between.{Framed, Sized, RowIn};
-ghost use Rattle.message.specs.Between.{message_own_tests, barred_by};
+ghost use Rattle.message.specs.Between.{message_own_tests};
 ghost use Rattle.message.specs.Message.{message_early, message_refusal_of, message_answer, message_out_of};
 
 use refusal::Refusal;
@@ -53,38 +53,36 @@ fn message_checks(
     message_own(session, rows, row, out, marks)
 }
 
-// 15, of the post that calls for the row's opening, by the station's sets.
+// 15, of the post that calls for the row's opening.
 #[tactic(auto, using(crate::proofs::Messages::caller_low, crate::proofs::Messages::caller_high, crate::proofs::Messages::caller_barred, crate::proofs::Messages::caller_there))]
-fn not_called(n: usize, sets: &[u32], row: usize, caller: usize) -> Result<(), Refusal>
-    requires { (row < 96) × (n ≤ 255) × (length sets.now ≡ sets_length) }
-    ensures { refused result ≡ first (15 when barred_by n sets.now row caller ∷ []) }
+fn not_called(session: Session, row: usize, caller: usize) -> Result<(), Refusal>
+    requires { (row < 96) × (session.n ≤ 255) }
+    ensures { refused result ≡ first (15 when barred_from session row caller ∷ []) }
 {
-    if caller < 1 || n < caller {
+    if caller < 1 || session.n < caller {
         return Err(Refusal::CallerBarred);
     }
-    if callers::bars(sets, row, caller) {
+    let sets = session.barred;
+    if callers::bars(&sets, row, caller) {
         return Err(Refusal::CallerBarred);
     }
     Ok(())
 }
 
-// Marks and sets are lent, and not the session handed over for them: it would be copied.
 #[tactic(auto, using(crate::proofs::Messages::message_refused, crate::proofs::Messages::message_called, crate::proofs::Messages::checked_row, crate::proofs::Messages::checked_posts, refusal::proofs::Checks::not_zero))]
 fn all_checks(
     session: Session,
-    marks: &[u8],
-    sets: &[u32],
     rows: &[u32],
     row: usize,
     caller: usize,
     out: &[u32],
 ) -> Result<(), Refusal>
-    requires { (marks.now ≡ session.marks) × (sets.now ≡ session.barred) }
     ensures { refused result ≡ message_refusal_of session rows.now row caller out.now }
 {
-    let mark = session::checks::wrong_mark(marks, row, Mark::Held);
-    message_checks(session, rows, row, out, mark)?;
-    not_called(session.n, sets, row, caller)
+    let all_marks = session.marks;
+    let marks = session::checks::wrong_mark(&all_marks, row, Mark::Held);
+    message_checks(session, rows, row, out, marks)?;
+    not_called(session, row, caller)
 }
 
 #[tactic(auto, using(crate::proofs::Messages::front_long, crate::proofs::Messages::front_size, crate::proofs::Messages::front_copied))]
@@ -127,9 +125,12 @@ pub fn opening_message(
     ensures value { result ≡ message_answer session rows.now row caller out.old }
     ensures out_after { out.new ≡ message_out_of session rows.now row caller out.old }
 {
-    let marks = session.marks;
-    let sets = session.barred;
-    let checked = all_checks(session, &marks, &sets, rows, row, caller, out);
+    let checked = all_checks(session, rows, row, caller, out);
     message_out(session, rows, row, caller, out, checked);
-    session.answer(checked)
+    // Written out: by a method of the session, the session would be copied once more.
+    Answer {
+        refusal: refusal::number_of(checked),
+        value: 0,
+        session,
+    }
 }
